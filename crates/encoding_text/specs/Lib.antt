@@ -1,0 +1,4 @@
+pub mod Sequence
+pub mod Pending
+pub mod Parts
+pub mod Fronts

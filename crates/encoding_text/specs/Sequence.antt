@@ -1,0 +1,48 @@
+-- Well-formed UTF-8 byte sequences: Unicode Standard, Table 3-7.
+use Rattle.std.specs.Prelude.{◌≡◌, ℕ, ◌<◌, ◌≤◌, Bool, true, false, ◌&&◌, ◌||◌, List, [], ◌∷◌, ◌++◌, length, ◌⊎◌, nat_le, IsTrue}
+use Rattle.std.specs.Str.Lossy.{second_byte_min, second_byte_max}
+
+-- the nine rows of the table: of each byte of a sequence, the least and the greatest value
+abbrev pub rows : List (List (ℕ × ℕ))
+rows = ((0x00, 0x7F) ∷ [])
+    ∷ ((0xC2, 0xDF) ∷ (0x80, 0xBF) ∷ [])
+    ∷ ((0xE0, 0xE0) ∷ (0xA0, 0xBF) ∷ (0x80, 0xBF) ∷ [])
+    ∷ ((0xE1, 0xEC) ∷ (0x80, 0xBF) ∷ (0x80, 0xBF) ∷ [])
+    ∷ ((0xED, 0xED) ∷ (0x80, 0x9F) ∷ (0x80, 0xBF) ∷ [])
+    ∷ ((0xEE, 0xEF) ∷ (0x80, 0xBF) ∷ (0x80, 0xBF) ∷ [])
+    ∷ ((0xF0, 0xF0) ∷ (0x90, 0xBF) ∷ (0x80, 0xBF) ∷ (0x80, 0xBF) ∷ [])
+    ∷ ((0xF1, 0xF3) ∷ (0x80, 0xBF) ∷ (0x80, 0xBF) ∷ (0x80, 0xBF) ∷ [])
+    ∷ ((0xF4, 0xF4) ∷ (0x80, 0x8F) ∷ (0x80, 0xBF) ∷ (0x80, 0xBF) ∷ [])
+    ∷ []
+
+-- the bytes are of these ranges, one for one
+abbrev pub in_row : List (ℕ × ℕ) → List ℕ → Bool
+in_row [] [] = true
+in_row [] (b ∷ bs) = false
+in_row (range ∷ row) [] = false
+in_row (range ∷ row) (b ∷ bs) = (nat_le range.0 b && nat_le b range.1) && in_row row bs
+
+-- the bytes are in one of the rows
+abbrev pub in_some_row : List (List (ℕ × ℕ)) → List ℕ → Bool
+in_some_row [] bs = false
+in_some_row (row ∷ more) bs = in_row row bs || in_some_row more bs
+
+-- a well-formed sequence: the bytes of one character
+abbrev pub IsSequence : List ℕ → Type 0
+IsSequence bs = IsTrue (in_some_row rows bs)
+
+-- the bytes that stand behind the first of a sequence
+abbrev pub IsContinuation : ℕ → Type 0
+IsContinuation b = (0x80 ≤ b) × (b ≤ 0xBF)
+
+-- b may stand second behind the first byte of a sequence of several
+abbrev pub IsSecond : ℕ → ℕ → Type 0
+IsSecond a b = (0xC2 ≤ a) × (a ≤ 0xF4) × (second_byte_min a ≤ b) × (b ≤ second_byte_max a)
+
+-- a front of a well-formed sequence, neither empty nor the whole of it
+abbrev pub IsBeginning : List ℕ → Type 0
+IsBeginning bs = (0 < length bs) × (rest : List ℕ) × (0 < length rest) × IsSequence (bs ++ rest)
+
+-- the byte begins neither a sequence of its own nor a longer one: a continuation byte, or one that UTF-8 never has
+abbrev pub BeginsNothing : ℕ → Type 0
+BeginsNothing b = (IsSequence (b ∷ []) ⊎ IsBeginning (b ∷ [])) → ⊥
