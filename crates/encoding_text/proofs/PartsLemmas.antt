@@ -1,7 +1,8 @@
 -- The first part of bytes: there is one, there is only one, and when it stays the first whatever follows.
 use Rattle.std.proofs.Common.{◌≡◌, ℕ, suc, ◌+◌, ◌<◌, ◌≤◌, ◌⊎◌, inl, inr, List, [], ◌∷◌, ◌++◌, length, encode_utf8, refl, sym, ap, ◌∙◌, arith, subst, drop, take}
 use Rattle.std.specs.Char.{IsScalar}
-use Rattle.std.proofs.lemmas.List.{length-append, append-nil, append_assoc, nil_from_length, take_at, drop_at}
+use Rattle.std.proofs.lemmas.Bool.{cases_lt}
+use Rattle.std.proofs.lemmas.List.{length-append, length-take, append-nil, append_assoc, take_at, drop_at, take-append-drop, take-append-le}
 use Rattle.std.proofs.lemmas.Str.{encode_same, length-encode, len_utf8_bounds}
 use Rattle.encoding_text.specs.Sequence.{IsSequence, IsBeginning, BeginsNothing}
 use Rattle.encoding_text.specs.Parts.{Part, Character, Broken, bytes_of, BeginsWithNoCharacter, IsLongestBeginning, IsLoneByte, IsFirstPart}
@@ -181,3 +182,45 @@ IsFirstPart-append bs (Broken x) rest more (n, inr l) closed =
     let whole : bs ++ more ≡ lone.0 ∷ (rest ++ more) = ap (λ xs. xs ++ more) l.whole ∙ ap (λ xs. (xs ++ rest) ++ more) lone.1 in
     subst (λ xs. IsFirstPart xs (Broken x) (rest ++ more)) (sym whole)
     (subst (λ xs. IsFirstPart (lone.0 ∷ (rest ++ more)) (Broken xs) (rest ++ more)) (sym lone.1) (first_lone lone.0 (rest ++ more) lone.2))
+
+-- ---- by its length
+-- where no character begins the bytes, so many of them are the first part: one, or a beginning, that doesn't go on
+pub first_broken : (bs : List ℕ) (n : ℕ) → BeginsWithNoCharacter bs → 0 < n → n ≤ length bs → (n ≡ 1) ⊎ IsBeginning (take n bs)
+    → (n < length bs → IsBeginning (take (n + 1) bs) → ⊥) → IsFirstPart bs (Broken (take n bs)) (drop n bs)
+first_broken bs n none some within kind ends = elim (decide_beginning (take n bs) (omega (arith, length-take n bs))) [
+  | inl b ↦ (none, inl (record { whole = sym (take-append-drop n bs); beginning = b; longest = longest }))
+  | inr lone ↦ (
+    none,
+    inr (record {
+      whole = sym (take-append-drop n bs);
+      one = elim kind [ inl e ↦ omega (arith, length-take n bs) | inr b ↦ absurd (lone b) ];
+      none = no_beginning lone;
+    }),
+  )
+]
+  where
+    -- a longer front of the bytes begins with each shorter one
+    shorter : (longer more : List ℕ) (k : ℕ) → bs ≡ longer ++ more → k ≤ length longer → longer ≡ take k bs ++ drop k longer
+    shorter longer more k e l = sym (take-append-drop k longer) ∙ ap (λ xs. xs ++ drop k longer) (sym (take-append-le k longer more l) ∙ ap (take k) (sym e))
+
+    longest : (longer more : List ℕ) → bs ≡ longer ++ more → IsBeginning longer → length longer ≤ length (take n bs)
+    longest longer more e b = elim (cases_lt n (length longer)) [
+      | inl h ↦ absurd (ends (omega (arith, ap length e, length-append longer more))
+          (IsBeginning-front (take (n + 1) bs) (drop (n + 1) longer) (omega (arith, length-take (n + 1) bs, ap length e, length-append longer more))
+          (subst IsBeginning (shorter longer more (n + 1) e (omega arith)) b)))
+      | inr h ↦ omega (arith, length-take n bs)
+    ]
+
+    no_beginning : (IsBeginning (take n bs) → ⊥) → (longer more : List ℕ) → bs ≡ longer ++ more → IsBeginning longer → ⊥
+    no_beginning lone longer more e b = elim kind [
+      | inl f ↦ lone (IsBeginning-front (take n bs) (drop n longer) (omega (arith, length-take n bs)) (subst IsBeginning (shorter longer more n e (omega (arith, b.0))) b))
+      | inr c ↦ lone c
+    ]
+
+-- a first part that is no character is broken
+pub has_broken_part : (bs : List ℕ) → BeginsWithNoCharacter bs → 0 < length bs → (x : List ℕ) × (rest : List ℕ) × IsFirstPart bs (Broken x) rest
+has_broken_part bs none some = found (has_first_part bs some)
+  where
+    found : HasFirstPart bs → (x : List ℕ) × (rest : List ℕ) × IsFirstPart bs (Broken x) rest
+    found (Character c, rest, (h, e)) = absurd (none (encode_utf8 c) rest e (IsSequence-encode c h))
+    found (Broken x, rest, f) = (x, rest, f)

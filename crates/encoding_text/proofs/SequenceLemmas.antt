@@ -1,5 +1,5 @@
 -- Which bytes are sequences and which are beginnings, and what follows from the rows of the table.
-use Rattle.std.proofs.Common.{◌≡◌, ℕ, suc, ◌+◌, ◌-◌, ◌*◌, ◌/◌, ◌%◌, ◌<◌, ◌≤◌, ◌⊎◌, inl, inr, Bool, true, false, ◌&&◌, ◌||◌, List, [], ◌∷◌, ◌++◌, length, encode_utf8, refl, sym, ap, ◌∙◌, arith, subst, nat_le, slice_index, take, drop, if◌then◌else◌, ◌==◌, ◌≢◌}
+use Rattle.std.proofs.Common.{◌≡◌, ℕ, suc, ◌+◌, ◌-◌, ◌*◌, ◌/◌, ◌%◌, ◌<◌, ◌≤◌, ◌⊎◌, inl, inr, Bool, true, false, ◌&&◌, ◌||◌, List, [], ◌∷◌, ◌++◌, length, encode_utf8, refl, sym, ap, ◌∙◌, arith, subst, nat_le, slice_index, take, drop, if◌then◌else◌, ◌==◌, ◌≢◌, ◌↔◌}
 use Rattle.std.proofs.lemmas.Bool.{and_parts, and_from, or_cases, or_left, or_right, true≢false, cases_Bool, false_from_ne_true, both_ways, leb-true, le-leb, eq-eqb, cond_both, cases_lt}
 use Rattle.std.proofs.lemmas.Bool.Decides.{nat_tests}
 use Rattle.std.proofs.lemmas.List.{length-append, append-nil, append_assoc}
@@ -344,3 +344,21 @@ reads_four (a ∷ []) h l s t u = absurd (omega arith)
 reads_four (a ∷ b ∷ []) h l s t u = absurd (omega arith)
 reads_four (a ∷ b ∷ c ∷ []) h l s t u = absurd (omega arith)
 reads_four (a ∷ b ∷ c ∷ d ∷ more) h l s t u = IsSequence-HasShape (a ∷ b ∷ c ∷ d ∷ []) (l, s.1, second_from a b s, t, u)
+
+-- ---- beginnings by the bytes of a longer list
+pub open_two_reads : (bs : List ℕ) → 1 < length bs → IsBeginning (take 2 bs) ↔ ((0xE0 ≤ slice_index bs 0) × IsSecond (slice_index bs 0) (slice_index bs 1))
+open_two_reads [] h = absurd (omega arith)
+open_two_reads (a ∷ []) h = absurd (omega arith)
+open_two_reads (a ∷ b ∷ more) h = (
+  λ o. let s = HasOpenShape-IsBeginning (a ∷ b ∷ []) o in (s.0, second_more a b s.0 s.1 s.2),
+  λ p. IsBeginning-HasOpenShape (a ∷ b ∷ []) (p.0, p.1.1, second_from a b p.1),
+)
+
+pub open_three_reads : (bs : List ℕ) → 2 < length bs → IsBeginning (take 3 bs) ↔ ((0xF0 ≤ slice_index bs 0) × IsSecond (slice_index bs 0) (slice_index bs 1) × IsContinuation (slice_index bs 2))
+open_three_reads [] h = absurd (omega arith)
+open_three_reads (a ∷ []) h = absurd (omega arith)
+open_three_reads (a ∷ b ∷ []) h = absurd (omega arith)
+open_three_reads (a ∷ b ∷ c ∷ more) h = (
+  λ o. let s = HasOpenShape-IsBeginning (a ∷ b ∷ c ∷ []) o in (s.0, second_more a b (omega arith) s.1 s.2, s.3),
+  λ p. IsBeginning-HasOpenShape (a ∷ b ∷ c ∷ []) (p.0, p.1.1, second_from a b p.1, p.2),
+)

@@ -3,7 +3,7 @@ use Rattle.std.proofs.Common.{◌≡◌, ℕ, ◌+◌, ◌-◌, ◌<◌, ◌≤�
 use Rattle.std.specs.Char.{IsScalar}
 use Rattle.std.specs.Str.{IsUtf8, StartsWithNoChar}
 use Rattle.std.proofs.lemmas.Bool.{cases_lt}
-use Rattle.std.proofs.lemmas.List.{take_rest, length-take, length-drop, take_all}
+use Rattle.std.proofs.lemmas.List.{take_at, length-append, length-drop}
 use Rattle.std.proofs.lemmas.Str.{IsUtf8-append, IsUtf8-encode, IsUtf8-nil}
 use Rattle.std.proofs.str.Faults.{valid_to}
 use Rattle.encoding_text.specs.Sequence.{IsSequence}
@@ -30,3 +30,16 @@ IsLongestFront-utf8 bs at l u n = record { within = l; kind = u; longest = longe
       | inl p ↦ absurd ((valid_to bs at (omega arith) u (starts_with_none _ n)).longest m p v)
       | inr p ↦ p
     ]
+
+-- no character begins what is behind the longest front
+pub no_character_after : (bs : List ℕ) (n : ℕ) → IsLongestFront IsUtf8 bs n → BeginsWithNoCharacter (drop n bs)
+no_character_after bs n l front rest e s =
+    let long : 0 < length front = omega (arith, IsSequence-some front s) in
+    let next : take (length front) (drop n bs) ≡ front = ap (take (length front)) e ∙ take_at front rest (length front) refl in
+    let total : n + length front ≤ length bs = omega (arith, l.within, ap length e, length-append front rest, length-drop n bs) in
+    let more = l.longest (n + length front) total (IsUtf8_more bs n (length front) l.kind (subst IsSequence (sym next) s)) in
+    omega arith
+  where
+    IsSequence-some : (front : List ℕ) → IsSequence front → 0 < length front
+    IsSequence-some [] h = cc
+    IsSequence-some (b ∷ bs) h = omega arith

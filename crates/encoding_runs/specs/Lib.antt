@@ -1,0 +1,2 @@
+pub mod Repairs
+pub mod Streams

@@ -1,0 +1,17 @@
+-- What a write to a sink does.
+use Rattle.std.specs.Prelude.{◌≡◌, ℕ, Bool, true, List, take, Option, MatchOption}
+use Rattle.std.specs.Io.KnownBytes.{Keeps, Appends}
+use Rattle.std.specs.Borrow.{MutBor}
+
+-- at `Some n` the first n bytes stand behind the known ones, and at `None` nothing does
+abbrev pub WriteMoves : Option (List ℕ) → Option (List ℕ) → Option ℕ → List ℕ → Type 0
+WriteMoves old new r bytes = MatchOption r (Keeps old new) (λ n. Appends old new (take n bytes))
+
+-- `None` is a failure, and `Some` leaves whether there was one as it was
+abbrev pub FailsOnNone : Option ℕ → Bool → Bool → Type 0
+FailsOnNone r old new = MatchOption r (new ≡ true) (λ _. new ≡ old)
+
+-- what is seen of a watched stream: the stream itself, and whether it failed
+pub record Watched (T : Type 0) : Type 0 where
+  pub stream : MutBor T
+  pub failed : Bool

@@ -1,0 +1,6 @@
+//! Repairs UTF-8: what comes out is the text of what goes in, with U+FFFD for each broken part.
+mod engine;
+mod streams;
+
+pub use engine::{RepairFault, repair_slice};
+pub use streams::{Sink, Watch};
