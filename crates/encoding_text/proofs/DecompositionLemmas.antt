@@ -6,6 +6,7 @@ use Rattle.std.proofs.lemmas.Bool.{and_parts}
 use Rattle.std.proofs.lemmas.List.{length-append, append-nil, append_assoc, nil_from_length}
 use Rattle.encoding_text.specs.Sequence.{IsBeginning}
 use Rattle.encoding_text.specs.Parts.{Part, Character, Broken, bytes_of, IsFirstPart, StartsWith, ArePartsOf, repaired_scalar, repaired_text, count_broken, characters_of, AreSettled}
+use Rattle.encoding_text.proofs.SequenceLemmas.{decide_beginning}
 use Rattle.encoding_text.proofs.PartsLemmas.{has_first_part, part_bytes, same_first_part, IsFirstPart-append, first_open}
 
 -- ---- runs of parts
@@ -125,3 +126,59 @@ count_broken-bytes bs (Character c ∷ ps) rest (after, f, s) =
 count_broken-bytes bs (Broken x ∷ ps) rest (after, f, s) =
     let bytes = part_bytes bs (Broken x) after f in
     omega (arith, count_broken-bytes after ps rest s, ap length bytes.0, length-append x after, bytes.1)
+
+-- ---- each list of bytes has settled parts
+abbrev HasSettled : List ℕ → Type 0
+HasSettled bs = (ps : List Part) × (rest : List ℕ) × AreSettled bs ps rest
+
+no_push : (front : List Part) (p : Part) → [] ≡ front ++ p ∷ [] → ⊥
+no_push front p e = omega (arith, ap length e, length-append front (p ∷ []))
+
+head_part : (p q : Part) (ps qs : List Part) → p ∷ ps ≡ q ∷ qs → p ≡ q
+head_part p q ps qs e = cc
+
+tail_parts : (p q : Part) (ps qs : List Part) → p ∷ ps ≡ q ∷ qs → ps ≡ qs
+tail_parts p q ps qs e = cc
+
+-- a part in front of settled ones is settled, unless it is a beginning that is all
+settled_more : (bs : List ℕ) (p : Part) (after : List ℕ) (ps : List Part) (rest : List ℕ) → IsFirstPart bs p after → AreSettled after ps rest
+    → (after ≡ [] → (x : List ℕ) → p ≡ Broken x → IsBeginning x → ⊥) → AreSettled bs (p ∷ ps) rest
+settled_more bs p after ps rest f s stays = record { starts = (after, f, s.starts); still_open = s.still_open; closed = closed }
+  where
+    closed : IsClosed (p ∷ ps) rest
+    closed e [] x same b =
+        let none : StartsWith after [] rest = subst (λ qs. StartsWith after qs rest) (tail_parts p (Broken x) ps [] same) s.starts in
+        stays (none ∙ e) x (head_part p (Broken x) ps [] same) b
+    closed e (q ∷ front) x same b = s.closed e front x (tail_parts p q ps (front ++ Broken x ∷ []) same) b
+
+-- nothing is settled of a beginning
+settled_none : (bs x : List ℕ) → bs ≡ x ++ [] → IsBeginning x → HasSettled bs
+settled_none bs x e b = (
+  [],
+  bs,
+  record {
+    starts = refl;
+    still_open = inr (subst IsBeginning (sym (e ∙ append-nil x)) b);
+    closed = λ _ front y same c. no_push front (Broken y) same;
+  },
+)
+
+settled_first : (bs : List ℕ) (p : Part) (after : List ℕ) → IsFirstPart bs p after → HasSettled after → HasSettled bs
+settled_first bs p (y ∷ ys) f s = (p ∷ s.0, s.1, settled_more bs p (y ∷ ys) s.0 s.1 f s.2 (λ e x same b. cc))
+settled_first bs (Character c) [] f s = (Character c ∷ s.0, s.1, settled_more bs (Character c) [] s.0 s.1 f s.2 (λ e x same b. cc))
+settled_first bs (Broken x) [] f s =
+    let bytes = part_bytes bs (Broken x) [] f in
+    elim (decide_beginning x bytes.1) [
+      | inl b ↦ settled_none bs x bytes.0 b
+      | inr n ↦ (Broken x ∷ s.0, s.1, settled_more bs (Broken x) [] s.0 s.1 f s.2 (λ e y same b. n (subst IsBeginning (sym (same_bytes x y same)) b)))
+    ]
+  where
+    same_bytes : (x y : List ℕ) → Broken x ≡ Broken y → x ≡ y
+    same_bytes x y e = cc
+
+settled_of : (bs : List ℕ) (ps : List Part) → ArePartsOf bs ps → HasSettled bs
+settled_of bs [] e = ([], [], record { starts = e; still_open = inl refl; closed = λ _ front x same b. no_push front (Broken x) same })
+settled_of bs (p ∷ ps) (after, f, s) = settled_first bs p after f (settled_of after ps s)
+
+pub has_settled : (bs : List ℕ) → HasSettled bs
+has_settled bs = let all = has_parts bs in settled_of bs all.0 all.1

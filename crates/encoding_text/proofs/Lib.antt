@@ -4,3 +4,4 @@ pub mod PartsLemmas
 pub mod FrontsLemmas
 pub mod Utf8Lemmas
 pub mod DecompositionLemmas
+pub mod LossyLemmas

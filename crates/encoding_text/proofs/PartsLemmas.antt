@@ -38,8 +38,8 @@ no_sequence_in_beginning front more b s =
     let none : length (more ++ b.1) ≡ 0 = ap length (sequence_ends front (more ++ b.1) s (subst IsSequence (append_assoc front more b.1) b.3)) in
     omega (arith, length-append more b.1, b.2)
 
--- a list that begins with x and ends in a sequence or a beginning does, one byte on, too
-abbrev IsStuck : List ℕ → ℕ → Type 0
+-- the byte y doesn't go on with the beginning x
+abbrev pub IsStuck : List ℕ → ℕ → Type 0
 IsStuck x y = (IsSequence (x ++ y ∷ []) ⊎ IsBeginning (x ++ y ∷ [])) → ⊥
 
 stuck_sequence : (x : List ℕ) (y : ℕ) (ys t more : List ℕ) → IsBeginning x → IsStuck x y → y ∷ ys ≡ t ++ more → IsSequence (x ++ t) → ⊥
@@ -161,12 +161,12 @@ begins_nothing : (b : ℕ) (ys : List ℕ) → BeginsWithNoCharacter (b ∷ ys) 
 begins_nothing b ys n m (inl s) = n (b ∷ []) ys refl s
 begins_nothing b ys n m (inr l) = m (b ∷ []) ys refl l
 
-lone_part : (bs a rest : List ℕ) → BeginsWithNoCharacter bs → IsLoneByte bs a rest → (b : ℕ) × (a ≡ b ∷ []) × BeginsNothing b
+pub lone_part : (bs a rest : List ℕ) → BeginsWithNoCharacter bs → IsLoneByte bs a rest → (b : ℕ) × (a ≡ b ∷ []) × BeginsNothing b
 lone_part bs [] rest n l = absurd (omega (arith, l.one))
 lone_part bs (b ∷ []) rest n l = (b, refl, begins_nothing b rest (subst BeginsWithNoCharacter l.whole n) (subst (λ xs. (longer more : List ℕ) → xs ≡ longer ++ more → IsBeginning longer → ⊥) l.whole l.none))
 lone_part bs (b ∷ d ∷ more) rest n l = absurd (omega (arith, l.one))
 
-stuck_part : (bs x : List ℕ) (y : ℕ) (ys : List ℕ) → BeginsWithNoCharacter bs → IsLongestBeginning bs x (y ∷ ys) → IsStuck x y
+pub stuck_part : (bs x : List ℕ) (y : ℕ) (ys : List ℕ) → BeginsWithNoCharacter bs → IsLongestBeginning bs x (y ∷ ys) → IsStuck x y
 stuck_part bs x y ys n l (inl s) = n (x ++ y ∷ []) ys (l.whole ∙ push_cons x y ys) s
 stuck_part bs x y ys n l (inr b) = omega (arith, l.longest (x ++ y ∷ []) ys (l.whole ∙ push_cons x y ys) b, length-append x (y ∷ []))
 

@@ -301,7 +301,7 @@ Reads bs = (0 < length bs)
 second_two : (a b : ℕ) → 0xC2 ≤ a → a ≤ 0xDF → IsContinuation b → IsSecond a b
 second_two a b l h c = grind (arith, nat_tests)
 
-second_more : (a b : ℕ) → 0xE0 ≤ a → a ≤ 0xF4 → IsTrue (is_second a b) → IsSecond a b
+pub second_more : (a b : ℕ) → 0xE0 ≤ a → a ≤ 0xF4 → IsTrue (is_second a b) → IsSecond a b
 second_more a b l h s = let parts = and_parts _ _ s in (omega arith, h, leb-true _ _ parts.0, leb-true _ _ parts.1)
 
 pub Reads-HasShape : (front rest : List ℕ) → HasShape front → Reads (front ++ rest)
@@ -362,3 +362,16 @@ open_three_reads (a ∷ b ∷ c ∷ more) h = (
   λ o. let s = HasOpenShape-IsBeginning (a ∷ b ∷ c ∷ []) o in (s.0, second_more a b (omega arith) s.1 s.2, s.3),
   λ p. IsBeginning-HasOpenShape (a ∷ b ∷ c ∷ []) (p.0, p.1.1, second_from a b p.1, p.2),
 )
+
+-- ---- a beginning that the next byte goes on with
+pub second_goes_on : (a b : ℕ) → IsSecond a b → IsSequence (a ∷ b ∷ []) ⊎ IsBeginning (a ∷ b ∷ [])
+second_goes_on a b s = elim (cases_lt a 0xE0) [
+  | inl l ↦ inl (IsSequence-HasShape (a ∷ b ∷ []) (s.0, omega arith, second_two_from a b s l))
+  | inr l ↦ inr (IsBeginning-HasOpenShape (a ∷ b ∷ []) (l, s.1, second_from a b s))
+]
+
+pub third_goes_on : (a b c : ℕ) → HasOpenShape (a ∷ b ∷ []) → IsContinuation c → IsSequence (a ∷ b ∷ c ∷ []) ⊎ IsBeginning (a ∷ b ∷ c ∷ [])
+third_goes_on a b c h t = elim (cases_lt a 0xF0) [
+  | inl l ↦ inl (IsSequence-HasShape (a ∷ b ∷ c ∷ []) (h.0, omega arith, h.2, t))
+  | inr l ↦ inr (IsBeginning-HasOpenShape (a ∷ b ∷ c ∷ []) (l, h.1, h.2, t))
+]

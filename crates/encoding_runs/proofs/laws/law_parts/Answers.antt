@@ -1,0 +1,21 @@
+use Rattle.encoding_text.proofs.DecompositionLemmas.{has_parts, same_parts, parts-bytes, has_settled, settled_front}
+use Rattle.encoding_text.proofs.LossyLemmas.{repaired-utf8_lossy}
+use Rattle.encoding_runs.proofs.laws.law_parts.Goals as goal
+
+pub returns-clause-exist : goal.returns-clause-exist
+returns-clause-exist c = has_parts
+
+pub returns-clause-one : goal.returns-clause-one
+returns-clause-one c = same_parts
+
+pub returns-clause-joined : goal.returns-clause-joined
+returns-clause-joined c = parts-bytes
+
+pub returns-clause-settled_exist : goal.returns-clause-settled_exist
+returns-clause-settled_exist c = has_settled
+
+pub returns-clause-settled_stay : goal.returns-clause-settled_stay
+returns-clause-settled_stay c = λ bs rest more parts all. settled_front bs parts rest more all
+
+pub returns-clause-lossy : goal.returns-clause-lossy
+returns-clause-lossy c = repaired-utf8_lossy
