@@ -15,8 +15,12 @@ use Rattle.encoding_text.proofs.SequenceLemmas.{HasShape, is_second, HasShape-Is
 high_scalar : (c : ℕ) → 57344 ≤ c → c < 1114112 → IsScalar c
 high_scalar c l h = grind (arith, nat_tests)
 
+-- the bytes are the UTF-8 of the scalar value c
+abbrev pub SpelledBy : List ℕ → ℕ → Type 0
+SpelledBy bs c = IsScalar c × (encode_utf8 c ≡ bs)
+
 abbrev Spells : List ℕ → Type 0
-Spells bs = (c : ℕ) × IsScalar c × (encode_utf8 c ≡ bs)
+Spells bs = (c : ℕ) × (SpelledBy bs c)
 
 same_two : (a b x y : ℕ) → a ≡ x → b ≡ y → ◌≡◌ {A = List ℕ} (a ∷ b ∷ []) (x ∷ y ∷ [])
 same_two a b x y e f = rw (e, f) refl
@@ -28,42 +32,42 @@ same_four : (a b c d x y z w : ℕ) → a ≡ x → b ≡ y → c ≡ z → d �
 same_four a b c d x y z w e f g h = rw (e, f, g, h) refl
 
 -- what is known of the second byte behind the first of three, and of four, as one number
-second_three : (a b : ℕ) → 0xE0 ≤ a → a ≤ 0xEF → IsTrue (is_second a b) → (128 ≤ b) × (b < 192) × (32 ≤ (a - 224) * 64 + (b - 128))
+pub second_three : (a b : ℕ) → 0xE0 ≤ a → a ≤ 0xEF → IsTrue (is_second a b) → (128 ≤ b) × (b < 192) × (32 ≤ (a - 224) * 64 + (b - 128))
     × (((a - 224) * 64 + (b - 128) < 864) ⊎ (896 ≤ (a - 224) * 64 + (b - 128)))
 second_three a b l h s = grind (arith, nat_tests)
 
-second_four : (a b : ℕ) → 0xF0 ≤ a → a ≤ 0xF4 → IsTrue (is_second a b) → (128 ≤ b) × (b < 192) × (16 ≤ (a - 240) * 64 + (b - 128)) × ((a - 240) * 64 + (b - 128) < 272)
+pub second_four : (a b : ℕ) → 0xF0 ≤ a → a ≤ 0xF4 → IsTrue (is_second a b) → (128 ≤ b) × (b < 192) × (16 ≤ (a - 240) * 64 + (b - 128)) × ((a - 240) * 64 + (b - 128) < 272)
 second_four a b l h s = grind (arith, nat_tests)
 
-spells_two : (a b : ℕ) → HasShape (a ∷ b ∷ []) → Spells (a ∷ b ∷ [])
+pub spells_two : (a b : ℕ) → HasShape (a ∷ b ∷ []) → SpelledBy (a ∷ b ∷ []) ((a - 192) * 64 + (b - 128))
 spells_two a b h =
     let c = (a - 192) * 64 + (b - 128) in
-    (c, low_scalar c (omega arith), two c (omega arith) (omega arith) ∙ same_two _ _ _ _ (omega arith) (omega arith))
+    (low_scalar c (omega arith), two c (omega arith) (omega arith) ∙ same_two _ _ _ _ (omega arith) (omega arith))
 
-spells_three : (a b d : ℕ) → HasShape (a ∷ b ∷ d ∷ []) → Spells (a ∷ b ∷ d ∷ [])
+pub spells_three : (a b d : ℕ) → HasShape (a ∷ b ∷ d ∷ []) → SpelledBy (a ∷ b ∷ d ∷ []) ((a - 224) * 4096 + (b - 128) * 64 + (d - 128))
 spells_three a b d h =
     let l = second_three a b h.0 h.1 h.2 in
     let c = (a - 224) * 4096 + (b - 128) * 64 + (d - 128) in
     let scalar_is : IsScalar c = elim l.3 [ inl p ↦ low_scalar c (omega arith) | inr p ↦ high_scalar c (omega arith) (omega arith) ] in
-    (c, scalar_is, three c (omega arith) (omega arith) ∙ same_three _ _ _ _ _ _ (omega arith) (omega arith) (omega arith))
+    (scalar_is, three c (omega arith) (omega arith) ∙ same_three _ _ _ _ _ _ (omega arith) (omega arith) (omega arith))
 
-spells_four : (a b d e : ℕ) → HasShape (a ∷ b ∷ d ∷ e ∷ []) → Spells (a ∷ b ∷ d ∷ e ∷ [])
+pub spells_four : (a b d e : ℕ) → HasShape (a ∷ b ∷ d ∷ e ∷ []) → SpelledBy (a ∷ b ∷ d ∷ e ∷ []) ((a - 240) * 262144 + (b - 128) * 4096 + (d - 128) * 64 + (e - 128))
 spells_four a b d e h =
     let l = second_four a b h.0 h.1 h.2 in
     let c = (a - 240) * 262144 + (b - 128) * 4096 + (d - 128) * 64 + (e - 128) in
     let third : c / 64 ≡ (a - 240) * 4096 + (b - 128) * 64 + (d - 128) = omega arith in
-    (c, high_scalar c (omega arith) (omega arith), four c (omega arith) ∙ same_four _ _ _ _ _ _ _ _ (omega arith) (omega arith) (omega arith) (omega arith))
+    (high_scalar c (omega arith) (omega arith), four c (omega arith) ∙ same_four _ _ _ _ _ _ _ _ (omega arith) (omega arith) (omega arith) (omega arith))
 
 spells_shape : (bs : List ℕ) → HasShape bs → Spells bs
 spells_shape [] h = absurd h
-spells_shape (a ∷ []) h = (a, low_scalar a (omega arith), one a (omega arith))
-spells_shape (a ∷ b ∷ []) h = spells_two a b h
-spells_shape (a ∷ b ∷ c ∷ []) h = spells_three a b c h
-spells_shape (a ∷ b ∷ c ∷ d ∷ []) h = spells_four a b c d h
+spells_shape (a ∷ []) h = (a, (low_scalar a (omega arith), one a (omega arith)))
+spells_shape (a ∷ b ∷ []) h = (_, spells_two a b h)
+spells_shape (a ∷ b ∷ c ∷ []) h = (_, spells_three a b c h)
+spells_shape (a ∷ b ∷ c ∷ d ∷ []) h = (_, spells_four a b c d h)
 spells_shape (a ∷ b ∷ c ∷ d ∷ e ∷ more) h = absurd h
 
 pub scalar_of_sequence : (bs : List ℕ) → IsSequence bs → (c : ℕ) × IsScalar c × (encode_utf8 c ≡ bs)
-scalar_of_sequence bs s = spells_shape bs (HasShape-IsSequence bs s)
+scalar_of_sequence bs s = let found = spells_shape bs (HasShape-IsSequence bs s) in (found.0, found.1.0, found.1.1)
 
 last_bits : (n : ℕ) → IsContinuation (128 + n % 64)
 last_bits n = (omega arith, omega arith)

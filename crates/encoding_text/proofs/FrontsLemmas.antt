@@ -1,7 +1,8 @@
 -- Writing at the end of what was written, and when a front of characters is the longest that fits.
 use Rattle.std.proofs.Common.{◌≡◌, ℕ, ◌+◌, ◌-◌, ◌<◌, ◌≤◌, List, [], ◌∷◌, ◌++◌, length, take, drop, get_or, set, refl, sym, ap, ◌∙◌, arith, append_assoc, subst}
 use Rattle.std.specs.List.{flat_map}
-use Rattle.std.proofs.lemmas.List.{append-nil, drop_more, set_at, length_push, length-set, drop_at, take_at, take_all, take_rest, drop_all, drop-drop, length-append, length-drop, take-append-le}
+use Rattle.std.proofs.lemmas.List.{append-nil, take-append-drop, drop_more, set_at, length_push, length-set, drop_at, take_at, take_all, take_rest, drop_all, drop-drop, length-append, length-drop, take-append-le}
+use Rattle.std.proofs.lemmas.Grind.{flat_map-append}
 use borrow.Rule.Slice.PartMut.{put_mid}
 use Rattle.encoding_text.specs.Fronts.{WritesFront, FitsLongest, IsLongestFront}
 
@@ -66,6 +67,10 @@ module _ {A : Type 0} where
         placed = rw (front, none, part, append-nil, drop-drop) (sym (append_assoc out more (drop (n + m) old)));
       }
 
+  -- a call left that part as it was
+  pub put_mid-same : (xs : List A) (n : ℕ) → put_mid n (length xs - n) xs (take (length xs - n) (drop n xs)) ≡ xs
+  put_mid-same xs n = ap (λ ys. take n xs ++ ys) (take-append-drop (length xs - n) (drop n xs)) ∙ take-append-drop n xs
+
 -- ---- fitting
 module _ {C A : Type 0} (source : C → List ℕ) (output : C → List A) where
   -- all of the characters fit
@@ -81,10 +86,6 @@ module _ {C A : Type 0} (source : C → List ℕ) (output : C → List A) where
         fits = h;
         longest = λ l. absurd (omega arith);
       }
-
-  flat_map-append : {B : Type 0} (f : C → List B) (xs ys : List C) → flat_map f (xs ++ ys) ≡ flat_map f xs ++ flat_map f ys
-  flat_map-append {B} f [] ys = refl
-  flat_map-append {B} f (x ∷ xs) ys = ap (λ r. f x ++ r) (flat_map-append f xs ys) ∙ sym (append_assoc (f x) (flat_map f xs) (flat_map f ys))
 
   -- those before one that doesn't fit any more
   pub FitsLongest-stop : (done : List C) (c : C) (more : List C) (room : ℕ) → length (flat_map output done) ≤ room

@@ -5,3 +5,6 @@ pub mod FrontsLemmas
 pub mod Utf8Lemmas
 pub mod DecompositionLemmas
 pub mod LossyLemmas
+pub mod PendingLemmas
+pub mod ScalarLemmas
+pub mod ConvertingLemmas

@@ -298,7 +298,7 @@ Reads bs = (0 < length bs)
     × (0xE0 ≤ slice_index bs 0 → (2 < length bs) × IsContinuation (slice_index bs 2))
     × (0xF0 ≤ slice_index bs 0 → (3 < length bs) × IsContinuation (slice_index bs 3))
 
-second_two : (a b : ℕ) → 0xC2 ≤ a → a ≤ 0xDF → IsContinuation b → IsSecond a b
+pub second_two : (a b : ℕ) → 0xC2 ≤ a → a ≤ 0xDF → IsContinuation b → IsSecond a b
 second_two a b l h c = grind (arith, nat_tests)
 
 pub second_more : (a b : ℕ) → 0xE0 ≤ a → a ≤ 0xF4 → IsTrue (is_second a b) → IsSecond a b
@@ -315,10 +315,10 @@ Reads-HasShape (a ∷ b ∷ c ∷ d ∷ e ∷ more) rest h = absurd h
 pub no_character_reads : (bs : List ℕ) → (Reads bs → ⊥) → BeginsWithNoCharacter bs
 no_character_reads bs n front rest e s = n (subst Reads (sym e) (Reads-HasShape front rest (HasShape-IsSequence front s)))
 
-second_from : (a b : ℕ) → IsSecond a b → IsTrue (is_second a b)
+pub second_from : (a b : ℕ) → IsSecond a b → IsTrue (is_second a b)
 second_from a b (l, h, m, n) = and_from _ _ (le-leb _ _ m) (le-leb _ _ n)
 
-second_two_from : (a b : ℕ) → IsSecond a b → a < 0xE0 → IsContinuation b
+pub second_two_from : (a b : ℕ) → IsSecond a b → a < 0xE0 → IsContinuation b
 second_two_from a b s l = grind (arith, nat_tests)
 
 pub reads_one : (bs : List ℕ) → 0 < length bs → slice_index bs 0 < 0x80 → IsSequence (take 1 bs)

@@ -2,4 +2,5 @@
 //! contract exactly what it reads, what it writes and what it answers.
 #![tactic(auto)]
 
+pub mod decoder;
 pub mod utf_8;

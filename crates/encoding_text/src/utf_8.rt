@@ -1,4 +1,6 @@
 //! UTF-8: Unicode Standard, section 3.9, and Encoding Standard, section 8.1.
+mod decoding;
 mod validation;
 
 pub use validation::utf8_valid_up_to;
+pub(crate) use validation::{is_continuation, is_second};

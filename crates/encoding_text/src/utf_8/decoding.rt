@@ -1,0 +1,108 @@
+// From UTF-8 to UTF-16.
+ghost use Rattle.std.specs.Prelude.{◌≡◌, ℕ, ◌-◌, ◌<◌, ◌≤◌, List, ◌++◌, length, take, drop, encode_utf8, IfSome, IfNone};
+ghost use Rattle.std.specs.Char.{IsScalar};
+ghost use Rattle.std.specs.Char.Escape.{encode_utf16};
+ghost use Rattle.encoding_text.specs.Sequence.{IsSequence};
+ghost use Rattle.encoding_text.specs.Fronts.{WritesFront};
+ghost use Rattle.encoding_text.specs.Converting.{ConvertsFront, ConvertsLongest};
+
+use super::validation::{character_length, utf8_valid_up_to};
+
+/// What text is converted to: bytes of UTF-8, or code units of UTF-16.
+pub(crate) trait CodeUnit: Copy {
+    // a scalar value in these code units
+    ghost encode: { ℕ → List Self };
+
+    /// The most code units that a character takes.
+    const NEED: usize;
+
+    /// Converts the characters that begin `src`, as many as fit: how many bytes were read, and how many code units
+    /// written.
+    fn convert_up_to_invalid(src: &[u8], dst: &mut [Self]) -> (usize, usize)
+        ensures { ConvertsFront encode src.now dst.old dst.new result.0 result.1 };
+}
+
+/// The scalar value that the bytes spell.
+fn scalar_of(bytes: &[u8]) -> u32
+    requires sequence { IsSequence bytes.now }
+    ensures scalar { IsScalar result }
+    ensures spelled { encode_utf8 result ≡ bytes.now }
+{
+    match *bytes {
+        [a] => u32::from(a),
+        [a, b] => u32::from(a & 0x1F) << 6 | u32::from(b & 0x3F),
+        [a, b, c] => u32::from(a & 0x0F) << 12 | u32::from(b & 0x3F) << 6 | u32::from(c & 0x3F),
+        [a, b, c, d] => {
+            u32::from(a & 0x07) << 18
+                | u32::from(b & 0x3F) << 12
+                | u32::from(c & 0x3F) << 6
+                | u32::from(d & 0x3F)
+        }
+        _ => unreachable!(),
+    }
+}
+
+/// Writes the scalar value at the front, if it fits, and answers how many code units it takes.
+fn put_utf16(scalar: u32, dst: &mut [u16]) -> Option<usize>
+    requires scalar { IsScalar scalar }
+    ensures some { IfSome result (λ n. WritesFront dst.old dst.new n (encode_utf16 scalar)) }
+    ensures none { IfNone result ((length dst.old < length (encode_utf16 scalar)) × (dst.new ≡ dst.old)) }
+{
+    if scalar < 0x10000 {
+        if dst.is_empty() {
+            return None;
+        }
+        dst[0] = scalar as u16;
+        return Some(1);
+    }
+    if dst.len() < 2 {
+        return None;
+    }
+    let above = scalar - 0x10000;
+    dst[0] = 0xD800 | (above >> 10) as u16;
+    dst[1] = 0xDC00 | (above & 0x3FF) as u16;
+    Some(2)
+}
+
+impl CodeUnit for u16 {
+    ghost encode = { encode_utf16 };
+
+    const NEED: usize = 2;
+
+    fn convert_up_to_invalid(src: &[u8], dst: &mut [u16]) -> (usize, usize) {
+        let mut read = 0;
+        let mut written = 0;
+        while let Some(length) = character_length(&src[read..]) {
+            let scalar = scalar_of(&src[read..read + length]);
+            let Some(units) = put_utf16(scalar, &mut dst[written..]) else {
+                break;
+            };
+            read += length;
+            written += units;
+        }
+        (read, written)
+    }
+}
+
+impl CodeUnit for u8 {
+    ghost encode = { encode_utf8 };
+
+    const NEED: usize = 4;
+
+    // The characters that fit are those of the front that is as long as the room.
+    fn convert_up_to_invalid(src: &[u8], dst: &mut [u8]) -> (usize, usize) {
+        let room = src.len().min(dst.len());
+        let length = utf8_valid_up_to(&src[..room]);
+        dst[..length].copy_from_slice(&src[..length]);
+        (length, length)
+    }
+}
+
+/// Converts UTF-8 to UTF-16 up to the first byte that no character takes, or as far as whole characters fit: how
+/// many bytes were read, and how many code units written. `dst` may have any length, and behind what is written it
+/// is as before.
+pub fn convert_utf8_to_utf16_up_to_invalid(src: &[u8], dst: &mut [u16]) -> (usize, usize)
+    ensures { ConvertsLongest encode_utf16 src.now dst.old dst.new result.0 result.1 }
+{
+    u16::convert_up_to_invalid(src, dst)
+}
