@@ -8,3 +8,6 @@ pub mod LossyLemmas
 pub mod PendingLemmas
 pub mod ScalarLemmas
 pub mod ConvertingLemmas
+pub mod CallLemmas
+pub mod DecodeLemmas
+pub mod RoomLemmas

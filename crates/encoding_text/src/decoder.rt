@@ -1,4 +1,5 @@
 //! The streaming UTF-8 decoder: Encoding Standard, section 8.1.1.
+mod call;
 mod pending;
 
 ghost use Rattle.std.specs.Prelude.{◌≡◌, ◌≢◌, ℕ, ◌+◌, ◌^◌, ◌<◌, ◌≤◌, ◌↔◌, ◌⊎◌, List, [], length, take, encode_utf8, IsTrue};
@@ -6,6 +7,7 @@ ghost use Rattle.std.specs.Option.{SomeIff};
 ghost use Rattle.std.specs.Char.Escape.{encode_utf16};
 ghost use Rattle.encoding_text.specs.Pending.{IsPending};
 
+use call::decode;
 use pending::Pending;
 use std::marker::Model;
 
@@ -35,6 +37,8 @@ impl Model for Utf8Decoder {
 }
 
 impl Utf8Decoder {
+    ghost use Rattle.encoding_text.specs.Decoding.{Decodes, IsReport, Suffices, SufficesReplacing, utf16_room, utf8_room, utf8_room_replacing};
+
     /// A decoder with nothing pending.
     pub fn new_inner() -> Utf8Decoder
         ensures { result ≡ [] }
@@ -50,5 +54,84 @@ impl Utf8Decoder {
         ensures pending { IsPending self.now }
     {
         self.pending.is_empty()
+    }
+
+    /// How many UTF-16 code units a destination has to hold so that the next `byte_length` bytes, in any pieces,
+    /// never meet its end, also where U+FFFD is written for each report: `None` where that number passes
+    /// `usize::MAX`.
+    pub fn max_utf16_buffer_length(&self, byte_length: usize) -> Option<usize>
+        ensures { SomeIff result (utf16_room byte_length (length self.now) < 2 ^ 64)
+            (utf16_room byte_length (length self.now)) }
+    {
+        byte_length.checked_add(1)?.checked_add(self.pending.len())
+    }
+
+    /// How many bytes a destination has to hold so that the next `byte_length` bytes, in any pieces, never meet its
+    /// end, where nothing is written for reports: `None` where that number passes `usize::MAX`.
+    pub fn max_utf8_buffer_length_without_replacement(&self, byte_length: usize) -> Option<usize>
+        ensures { SomeIff result (utf8_room byte_length (length self.now) < 2 ^ 64)
+            (utf8_room byte_length (length self.now)) }
+    {
+        byte_length.checked_add(3)?.checked_add(self.pending.len())
+    }
+
+    /// How many bytes a destination has to hold so that the next `byte_length` bytes, in any pieces, never meet its
+    /// end, where U+FFFD is written for each report: `None` where that number passes `usize::MAX`.
+    pub fn max_utf8_buffer_length(&self, byte_length: usize) -> Option<usize>
+        ensures { SomeIff result (utf8_room_replacing byte_length (length self.now) < 2 ^ 64)
+            (utf8_room_replacing byte_length (length self.now)) }
+    {
+        byte_length
+            .checked_add(self.pending.len())?
+            .checked_mul(3)?
+            .checked_add(3)
+    }
+
+    /// Decodes to UTF-16: the answer, how many bytes of `src` were read, and how many code units of `dst` written.
+    /// `last` says that no bytes will follow `src`.
+    ///
+    /// A broken part is reported and nothing is written for it: hand in the unread bytes again, and write U+FFFD
+    /// before that, or give up. After a report the decoder is as a new one. With at least two code units of room and
+    /// an unread byte a call reads a byte or reports. Behind what is written `dst` is as before.
+    pub fn decode_to_utf16_raw(
+        &mut self,
+        src: &[u8],
+        dst: &mut [u16],
+        last: bool,
+    ) -> (DecoderResult, usize, usize)
+        ensures call { Decodes encode_utf16 2 self.old src.now dst.old dst.new last result.0 result.1 result.2 self.new }
+        ensures progress { 0 < length src.now → 2 ≤ length dst.old → (0 < result.1) ⊎ IsReport result.0 }
+
+        // A destination of the queried length holds this piece, and what is left of it the others.
+        ensures suffices { Suffices utf16_room self.old src.now (length dst.old) result.0 result.1 result.2 self.new }
+        ensures suffices_replacing { SufficesReplacing utf16_room 1 self.old src.now (length dst.old)
+            result.0 result.1 result.2 self.new }
+    {
+        decode(&mut self.pending, src, dst, last)
+    }
+
+    /// Decodes to UTF-8: the answer, how many bytes of `src` were read, and how many bytes of `dst` written.
+    /// `last` says that no bytes will follow `src`.
+    ///
+    /// A broken part is reported and nothing is written for it: hand in the unread bytes again, and write U+FFFD
+    /// before that, or give up. After a report the decoder is as a new one. With at least four bytes of room and an
+    /// unread byte a call reads a byte or reports. Behind what is written `dst` is as before.
+    pub fn decode_to_utf8_raw(
+        &mut self,
+        src: &[u8],
+        dst: &mut [u8],
+        last: bool,
+    ) -> (DecoderResult, usize, usize)
+        ensures call { Decodes encode_utf8 4 self.old src.now dst.old dst.new last result.0 result.1 result.2 self.new }
+        ensures progress { 0 < length src.now → 4 ≤ length dst.old → (0 < result.1) ⊎ IsReport result.0 }
+
+        // A destination of the queried length holds this piece, and what is left of it the others.
+        ensures suffices { Suffices utf8_room self.old src.now (length dst.old) result.0 result.1 result.2 self.new }
+        ensures suffices_for_both { Suffices utf8_room_replacing self.old src.now (length dst.old)
+            result.0 result.1 result.2 self.new }
+        ensures suffices_replacing { SufficesReplacing utf8_room_replacing 3 self.old src.now (length dst.old)
+            result.0 result.1 result.2 self.new }
+    {
+        decode(&mut self.pending, src, dst, last)
     }
 }

@@ -2,5 +2,7 @@
 mod decoding;
 mod validation;
 
+pub(crate) use decoding::CodeUnit;
+pub use decoding::convert_utf8_to_utf16_up_to_invalid;
 pub use validation::utf8_valid_up_to;
 pub(crate) use validation::{is_continuation, is_second};

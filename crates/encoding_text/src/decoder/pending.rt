@@ -1,8 +1,10 @@
 // The bytes of an unfinished character.
 ghost use Rattle.std.specs.Prelude.{◌≡◌, ◌≢◌, ℕ, ◌<◌, ◌≤◌, ◌↔◌, List, [], length, take, IsTrue};
 ghost use Rattle.encoding_text.specs.Sequence.{IsBeginning};
+ghost use Rattle.encoding_text.specs.Parts.{BeginsWithNoCharacter};
 ghost use Rattle.encoding_text.specs.Pending.{IsPending, GoesOn};
 
+use super::DecoderResult;
 use crate::utf_8::{is_continuation, is_second};
 use std::marker::Model;
 
@@ -69,6 +71,7 @@ impl Model for Pending {
 
 impl Pending {
     ghost use Rattle.encoding_text.specs.Resuming.{Pushes, Resumes};
+    ghost use Rattle.encoding_text.specs.Decoding.{EndsSource, EndsCall};
 
     pub(crate) fn none() -> Pending
         ensures { result ≡ [] }
@@ -141,5 +144,37 @@ impl Pending {
             }
         }
         (Resumed::Ended, src.len())
+    }
+
+    /// Ends a call whose source was read to its end: where no more will come, pending bytes are a broken part.
+    pub(crate) fn end(&mut self, last: bool) -> DecoderResult
+        ensures { EndsSource self.old last result self.new }
+    {
+        if !last || self.count == 0 {
+            return DecoderResult::InputEmpty;
+        }
+        let count = self.count;
+        *self = Pending::none();
+        DecoderResult::Malformed(count as u8, 0)
+    }
+
+    /// Ends a call before the first byte of `rest` that no character takes: reads the broken part, or holds a
+    /// beginning that more bytes may go on with. Answers how many bytes were read.
+    #[inline(never)]
+    pub(crate) fn end_before(&mut self, rest: &[u8], last: bool) -> (DecoderResult, usize)
+        requires neutral { self.old ≡ [] }
+        requires not_empty { 0 < length rest.now }
+        requires no_character { BeginsWithNoCharacter rest.now }
+        ensures { EndsCall rest.now last result.0 result.1 self.new }
+    {
+        if rest[0] < 0xC2 || rest[0] > 0xF4 {
+            return (DecoderResult::Malformed(1, 0), 1);
+        }
+        *self = Pending::hold(&rest[..1]);
+        match self.resume(&rest[1..]) {
+            (Resumed::Ended, _) => (self.end(last), rest.len()),
+            (Resumed::Stuck(count), _) => (DecoderResult::Malformed(count as u8, 0), count),
+            (Resumed::Whole(..), _) => unreachable!(),
+        }
     }
 }

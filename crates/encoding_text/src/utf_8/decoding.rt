@@ -13,13 +13,18 @@ pub(crate) trait CodeUnit: Copy {
     // a scalar value in these code units
     ghost encode: { ℕ → List Self };
 
+    // the most code units that a character takes
+    ghost most: { ℕ };
+
     /// The most code units that a character takes.
-    const NEED: usize;
+    fn need() -> usize
+        ensures { result ≡ most };
 
     /// Converts the characters that begin `src`, as many as fit: how many bytes were read, and how many code units
     /// written.
     fn convert_up_to_invalid(src: &[u8], dst: &mut [Self]) -> (usize, usize)
-        ensures { ConvertsFront encode src.now dst.old dst.new result.0 result.1 };
+        ensures front { ConvertsFront encode src.now dst.old dst.new result.0 result.1 }
+        ensures need { (c : ℕ) → IsScalar c → length (encode c) ≤ most };
 }
 
 /// The scalar value that the bytes spell.
@@ -67,7 +72,12 @@ fn put_utf16(scalar: u32, dst: &mut [u16]) -> Option<usize>
 impl CodeUnit for u16 {
     ghost encode = { encode_utf16 };
 
-    const NEED: usize = 2;
+    ghost most = { 2 };
+
+    #[inline]
+    fn need() -> usize {
+        2
+    }
 
     fn convert_up_to_invalid(src: &[u8], dst: &mut [u16]) -> (usize, usize) {
         let mut read = 0;
@@ -87,7 +97,12 @@ impl CodeUnit for u16 {
 impl CodeUnit for u8 {
     ghost encode = { encode_utf8 };
 
-    const NEED: usize = 4;
+    ghost most = { 4 };
+
+    #[inline]
+    fn need() -> usize {
+        4
+    }
 
     // The characters that fit are those of the front that is as long as the room.
     fn convert_up_to_invalid(src: &[u8], dst: &mut [u8]) -> (usize, usize) {
