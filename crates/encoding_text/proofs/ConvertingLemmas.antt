@@ -1,5 +1,6 @@
 -- Converting character by character, and that whole characters up to one that doesn't fit are the longest front that fits.
 use Rattle.std.proofs.Common.{◌≡◌, ℕ, ◌+◌, ◌-◌, ◌<◌, ◌≤◌, ◌⊎◌, inl, inr, Bool, true, List, [], ◌∷◌, ◌++◌, length, map, take, drop, encode_utf8, encode_utf8_all, refl, sym, ap, ◌∙◌, arith, subst, take-add}
+use lib.Utf8.{scalar}
 use Rattle.std.specs.Char.{IsScalar}
 use Rattle.std.specs.Str.{all_scalars, IsUtf8}
 use Rattle.std.specs.List.{flat_map}
@@ -124,12 +125,12 @@ module _ {A : Type 0} (encode : ℕ → List A) where
       subst (λ k. FitsLongest encode_utf8 encode (cs ++ []) (length old) k (flat_map encode cs)) size
       (subst (λ xs. FitsLongest encode_utf8 encode xs (length old) (length (flat_map encode_utf8 cs)) (flat_map encode cs)) (sym (append-nil cs)) all)
   fits_longest src cs (c ∷ more) rest old read written e within w l h f n =
-      let scalar = and_parts _ _ h in
+      let parts = and_parts (scalar c) (all_scalars more) h in
       let next : drop read src ≡ encode_utf8 c ++ (encode_utf8_all more ++ rest) = f ∙ append_assoc (encode_utf8 c) (encode_utf8_all more) rest in
       let size : length (flat_map encode_utf8 cs) ≡ read = ap length (sym (encodes_flat cs) ∙ e) ∙ omega (arith, length-take read src) in
       let full : length old - written < length (encode c) = elim (cases_lt (length old - written) (length (encode c))) [
         | inl p ↦ p
-        | inr p ↦ absurd (n (c, encode_utf8_all more ++ rest, scalar.0, next, p))
+        | inr p ↦ absurd (n (c, encode_utf8_all more ++ rest, parts.0, next, p))
       ] in
       subst (λ k. FitsLongest encode_utf8 encode (cs ++ c ∷ more) (length old) k (flat_map encode cs)) size
       (FitsLongest-stop encode_utf8 encode cs c more (length old) (omega (arith, w, l)) (omega (arith, w, l, full)))

@@ -11,3 +11,9 @@ pub mod ConvertingLemmas
 pub mod CallLemmas
 pub mod DecodeLemmas
 pub mod RoomLemmas
+pub mod AsciiLemmas
+pub mod Latin1Lemmas
+pub mod Latin1ConversionLemmas
+pub mod ToUtf16Lemmas
+pub mod CallPartsLemmas
+pub mod RepairingLemmas

@@ -18,7 +18,7 @@ use Rattle.encoding_text.proofs.PartsLemmas.{no_sequence_in_beginning}
 use Rattle.encoding_text.proofs.DecodeLemmas.{broken_some}
 
 -- ---- what was written is no longer than what was read
-length-utf16 : (cs : List ℕ) → all_scalars cs ≡ true → length (flat_map encode_utf16 cs) ≤ length (encode_utf8_all cs)
+pub length-utf16 : (cs : List ℕ) → all_scalars cs ≡ true → length (flat_map encode_utf16 cs) ≤ length (encode_utf8_all cs)
 length-utf16 [] h = omega arith
 length-utf16 (c ∷ cs) h =
     let parts = and_parts (scalar c) (all_scalars cs) h in

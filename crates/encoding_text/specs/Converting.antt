@@ -2,6 +2,7 @@
 use Rattle.std.specs.Prelude.{◌≡◌, ℕ, ◌-◌, ◌≤◌, true, List, ◌++◌, length, take, drop, encode_utf8, encode_utf8_all}
 use Rattle.std.specs.Str.{all_scalars, IsUtf8}
 use Rattle.std.specs.Char.{IsScalar}
+use Rattle.std.specs.Char.Escape.{encode_utf16}
 use Rattle.std.specs.List.{flat_map}
 use Rattle.encoding_text.specs.Fronts.{IsLongestFront, FitsLongest, WritesFront}
 
@@ -32,3 +33,7 @@ pub record ConvertsFront {A : Type 0} (encode : ℕ → List A) (src : List ℕ)
   pub spelled : encode_utf8_all scalars ≡ take read src
   pub writes : WritesFront old new written (flat_map encode scalars)
   pub stops : FittingBegins encode (drop read src) (length old - written) → ⊥
+
+-- the characters of the longest well-formed front of src are written in UTF-16
+abbrev pub WritesText : List ℕ → List ℕ → List ℕ → ℕ → Type 0
+WritesText src old new written = (scalars : List ℕ) × IsText src scalars × WritesFront old new written (flat_map encode_utf16 scalars)

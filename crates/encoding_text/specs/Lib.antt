@@ -5,3 +5,6 @@ pub mod Fronts
 pub mod Converting
 pub mod Decoding
 pub mod Resuming
+pub mod Ascii
+pub mod Latin1
+pub mod Borrowed

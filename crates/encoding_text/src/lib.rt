@@ -2,5 +2,7 @@
 //! contract exactly what it reads, what it writes and what it answers.
 #![tactic(auto)]
 
+pub mod ascii;
 pub mod decoder;
+pub mod mem;
 pub mod utf_8;

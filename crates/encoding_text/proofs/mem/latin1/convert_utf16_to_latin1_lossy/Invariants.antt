@@ -1,0 +1,6 @@
+use Rattle.std.proofs.Common.{ℕ, ◌%◌, map, take}
+use Rattle.encoding_text.specs.Fronts.{WritesFront}
+use Rattle.encoding_text.proofs.mem.latin1.convert_utf16_to_latin1_lossy.Given as goal
+
+abbrev pub invariant-loop-i : goal.invariant-loop-i
+invariant-loop-i l = WritesFront l.initial.dst l.dst l.i (map (λ (unit : ℕ). unit % 0x100) (take l.i l.src))

@@ -1,0 +1,72 @@
+use Rattle.std.proofs.Common.{◌≡◌, ◌+◌, ◌<◌, arith, ap, sym, take, length, slice_index, drop, encode_utf8_all}
+use Rattle.std.specs.Str.{chars}
+use Rattle.std.proofs.lemmas.List.{take_all, length-drop}
+use Rattle.std.proofs.lemmas.Str.{length-le-encodes}
+use Rattle.encoding_text.proofs.AsciiLemmas.{WritesFront_copy}
+use Rattle.encoding_text.proofs.FrontsLemmas.{WritesFront-nil}
+use Rattle.encoding_text.proofs.Latin1Lemmas.{latin1_chars, next_of_one, next_of_two}
+use Rattle.encoding_text.proofs.Latin1ConversionLemmas.{character_of_two}
+use Rattle.encoding_text.proofs.mem.latin1.convert_utf8_to_latin1_lossy.Goals as goal
+use Rattle.encoding_text.proofs.mem.latin1.convert_utf8_to_latin1_lossy.Goals.{then-byte-lt128, else-byte-lt128}
+
+pub loop-read-init : goal.loop-read-init
+loop-read-init c = record {
+  within = omega arith;
+  rest = sym (latin1_chars c.args.src.now c.requires.latin1).1;
+  written = WritesFront-nil c.args.dst.now;
+}
+
+pub bounds-dst-written : goal.bounds-dst-written
+bounds-dst-written c =
+    let text = latin1_chars c.args.src.now c.requires.latin1 in
+    let next = next_of_one c.args.src.now (chars c.args.src.now) c.loop-read.read c.loop-read.written text.0 c.loop-read.invariant.rest c.loop-read-test.true c.if-byte-lt128.true in
+    omega (arith, next.0, ap length text.1, length-le-encodes (chars c.args.src.now))
+
+pub bounds-src-read-else-byte-lt128 : goal.bounds-src-read-else-byte-lt128
+bounds-src-read-else-byte-lt128 c =
+    let text = latin1_chars c.args.src.now c.requires.latin1 in
+    (next_of_two c.args.src.now (chars c.args.src.now) c.loop-read.read c.loop-read.written text.0 c.loop-read.invariant.rest c.loop-read-test.true c.if-byte-lt128.false).1
+
+pub bounds-dst-written-else-byte-lt128 : goal.bounds-dst-written-else-byte-lt128
+bounds-dst-written-else-byte-lt128 c =
+    let text = latin1_chars c.args.src.now c.requires.latin1 in
+    let next = next_of_two c.args.src.now (chars c.args.src.now) c.loop-read.read c.loop-read.written text.0 c.loop-read.invariant.rest c.loop-read-test.true c.if-byte-lt128.false in
+    omega (arith, next.0, ap length text.1, length-le-encodes (chars c.args.src.now))
+
+pub loop-read-preserved : goal.loop-read-preserved
+loop-read-preserved c =
+    let src = c.args.src.now in
+    let cs = chars src in
+    let i = c.loop-read.read in
+    let j = c.loop-read.written in
+    let text = latin1_chars src c.requires.latin1 in
+    let long = length-le-encodes cs in
+    let had = c.loop-read.invariant in
+    elim c.if-byte-lt128.branch [
+      | then-byte-lt128 w ↦
+          let next = next_of_one src cs i j text.0 had.rest c.loop-read-test.true w.if-byte-lt128.true in
+          let room : j < length c.loop-read.dst = omega (arith, next.0, ap length text.1) in
+          record {
+            within = omega arith;
+            rest = rw w.read-is next.2;
+            written = rw w.dst-is (WritesFront_copy _ _ cs j _ had.written next.0 room next.1);
+          }
+      | else-byte-lt128 w ↦
+          let next = next_of_two src cs i j text.0 had.rest c.loop-read-test.true w.if-byte-lt128.false in
+          let room : j < length c.loop-read.dst = omega (arith, next.0, ap length text.1) in
+          let byte = character_of_two (slice_index src i) (slice_index src (i + 1)) (slice_index cs j) next.2 (omega (arith, text.0 j)) next.3 next.4 in
+          record {
+            within = omega (arith, next.1);
+            rest = rw w.read-is next.5;
+            written = rw w.dst-is (WritesFront_copy _ _ cs j _ had.written next.0 room byte);
+          }
+    ]
+
+pub returns : goal.returns
+returns c =
+    let src = c.args.src.now in
+    let had = c.loop-read.invariant in
+    let none : length (encode_utf8_all (drop c.loop-read.written (chars src))) ≡ 0 = omega (arith, length-drop c.loop-read.read src, ap length had.rest) in
+    let all : take c.loop-read.written (chars src) ≡ chars src =
+    take_all c.loop-read.written (chars src) (omega (arith, length-le-encodes (drop c.loop-read.written (chars src)), length-drop c.loop-read.written (chars src))) in
+    record { written = rw all at had.written }

@@ -1,0 +1,21 @@
+//! Checks and conversions of text that lies in memory as a whole: ASCII, Latin1, UTF-8 and UTF-16.
+
+mod borrowed;
+mod checks;
+mod copies;
+mod latin1;
+mod to_utf16;
+
+pub use borrowed::{CowBytes, CowStr, decode_latin1, encode_latin1_lossy};
+pub use checks::{
+    is_ascii, is_basic_latin, is_str_latin1, is_utf8_latin1, is_utf16_latin1, str_latin1_up_to,
+    utf8_latin1_up_to,
+};
+pub use copies::{copy_ascii_to_ascii, copy_ascii_to_basic_latin, copy_basic_latin_to_ascii};
+pub use latin1::{
+    convert_latin1_to_utf8, convert_latin1_to_utf8_partial, convert_latin1_to_utf16,
+    convert_utf8_to_latin1_lossy, convert_utf16_to_latin1_lossy,
+};
+pub use to_utf16::{
+    convert_str_to_utf16, convert_utf8_to_utf16, convert_utf8_to_utf16_without_replacement,
+};

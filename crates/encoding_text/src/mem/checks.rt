@@ -1,0 +1,101 @@
+//! Whether text is ASCII or Latin1, and how far.
+
+ghost use Rattle.std.specs.Prelude.{◌↔◌, IsTrue};
+ghost use Rattle.std.specs.Str.{IsAscii};
+ghost use Rattle.encoding_text.specs.Fronts.{IsLongestFront};
+ghost use Rattle.encoding_text.specs.Latin1.{IsLatin1, IsUtf8Latin1};
+
+use crate::ascii;
+
+/// The least UTF-16 code unit that isn't ASCII.
+const BASIC_LATIN_END: u16 = 0x80;
+
+/// The greatest Latin1 code unit.
+const LATIN1_MAX: u16 = 0xFF;
+
+/// The first byte of U+0080 to U+00BF; that of U+00C0 to U+00FF is one more.
+const LATIN1_LEAD: u8 = 0xC2;
+
+/// The first byte of U+0100. All bytes of lesser characters are less, and greater characters begin with no lesser byte.
+const BEYOND_LATIN1: u8 = 0xC4;
+
+/// Whether each byte is ASCII.
+pub fn is_ascii(buffer: &[u8]) -> bool
+    ensures { IsTrue result ↔ IsAscii buffer.now }
+{
+    ascii::validate_ascii(buffer).is_none()
+}
+
+/// Whether each UTF-16 code unit is ASCII.
+pub fn is_basic_latin(buffer: &[u16]) -> bool
+    ensures { IsTrue result ↔ IsAscii buffer.now }
+{
+    for i in 0..buffer.len() {
+        if buffer[i] >= BASIC_LATIN_END {
+            return false;
+        }
+    }
+    true
+}
+
+/// Whether the bytes are well-formed UTF-8 whose scalar values are each up to U+00FF.
+pub fn is_utf8_latin1(buffer: &[u8]) -> bool
+    ensures { IsTrue result ↔ IsUtf8Latin1 buffer.now }
+{
+    utf8_latin1_up_to(buffer) == buffer.len()
+}
+
+/// Whether the scalar values of the text are each up to U+00FF.
+pub fn is_str_latin1(buffer: &str) -> bool
+    ensures { IsTrue result ↔ IsUtf8Latin1 buffer.now }
+{
+    str_latin1_up_to(buffer) == buffer.len()
+}
+
+/// Whether each UTF-16 code unit is up to 0x00FF.
+pub fn is_utf16_latin1(buffer: &[u16]) -> bool
+    ensures { IsTrue result ↔ IsLatin1 buffer.now }
+{
+    for i in 0..buffer.len() {
+        if buffer[i] > LATIN1_MAX {
+            return false;
+        }
+    }
+    true
+}
+
+/// The number of bytes in the longest front that is the UTF-8 of scalar values up to U+00FF.
+pub fn utf8_latin1_up_to(buffer: &[u8]) -> usize
+    ensures { IsLongestFront IsUtf8Latin1 buffer.now result }
+{
+    let mut read = 0;
+    while read < buffer.len() {
+        let byte = buffer[read];
+        if byte < 0x80 {
+            read += 1;
+            continue;
+        }
+        if byte < LATIN1_LEAD || byte >= BEYOND_LATIN1 || read + 1 == buffer.len() {
+            return read;
+        }
+        let next = buffer[read + 1];
+        if next < 0x80 || next > 0xBF {
+            return read;
+        }
+        read += 2;
+    }
+    read
+}
+
+/// The number of bytes in the longest front of the text whose scalar values are each up to U+00FF.
+pub fn str_latin1_up_to(buffer: &str) -> usize
+    ensures { IsLongestFront IsUtf8Latin1 buffer.now result }
+{
+    let bytes = buffer.as_bytes();
+    for i in 0..bytes.len() {
+        if bytes[i] >= BEYOND_LATIN1 {
+            return i;
+        }
+    }
+    bytes.len()
+}

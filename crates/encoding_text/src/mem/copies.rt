@@ -1,0 +1,45 @@
+//! Copies of the ASCII front.
+
+ghost use Rattle.std.specs.Prelude.{◌≤◌, take, length};
+ghost use Rattle.std.specs.Str.{IsAscii};
+ghost use Rattle.encoding_text.specs.Fronts.{IsLongestFront, WritesFront};
+
+use crate::ascii;
+
+/// Copies the longest ASCII front and answers its length; `dst` is unchanged behind it. `dst` is no shorter than `src`.
+pub fn copy_ascii_to_ascii(src: &[u8], dst: &mut [u8]) -> usize
+    requires room { length src.now ≤ length dst.old }
+    ensures front { IsLongestFront IsAscii src.now result }
+    ensures copied { WritesFront dst.old dst.new result (take result src.now) }
+{
+    match ascii::ascii_to_ascii(src, dst) {
+        Some((_, place)) => place,
+        None => src.len(),
+    }
+}
+
+/// Copies the longest ASCII front, each byte as a UTF-16 code unit, and answers its length; `dst` is unchanged behind
+/// it. `dst` is no shorter than `src`.
+pub fn copy_ascii_to_basic_latin(src: &[u8], dst: &mut [u16]) -> usize
+    requires room { length src.now ≤ length dst.old }
+    ensures front { IsLongestFront IsAscii src.now result }
+    ensures copied { WritesFront dst.old dst.new result (take result src.now) }
+{
+    match ascii::ascii_to_basic_latin(src, dst) {
+        Some((_, place)) => place,
+        None => src.len(),
+    }
+}
+
+/// Copies the longest ASCII front of UTF-16 code units, each as a byte, and answers its length; `dst` is unchanged
+/// behind it. `dst` is no shorter than `src`.
+pub fn copy_basic_latin_to_ascii(src: &[u16], dst: &mut [u8]) -> usize
+    requires room { length src.now ≤ length dst.old }
+    ensures front { IsLongestFront IsAscii src.now result }
+    ensures copied { WritesFront dst.old dst.new result (take result src.now) }
+{
+    match ascii::basic_latin_to_ascii(src, dst) {
+        Some((_, place)) => place,
+        None => src.len(),
+    }
+}

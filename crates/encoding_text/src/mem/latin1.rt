@@ -1,0 +1,94 @@
+//! Conversions from and to Latin1, in which each byte is the scalar value of its character. Infra Standard: isomorphic
+//! decode and encode.
+
+ghost use Rattle.std.specs.Prelude.{◌≡◌, ℕ, ◌*◌, ◌%◌, ◌≤◌, [], ◌∷◌, take, length, map, encode_utf8, encode_utf8_all};
+ghost use Rattle.std.specs.Str.{chars};
+ghost use Rattle.encoding_text.specs.Fronts.{FitsLongest, WritesFront};
+ghost use Rattle.encoding_text.specs.Latin1.{IsUtf8Latin1};
+
+/// The bytes that a character from U+0080 to U+00FF takes in UTF-8.
+const HIGH_LENGTH: usize = 2;
+
+/// Writes each byte as a UTF-16 code unit; `dst` is unchanged behind them. `dst` is no shorter than `src`.
+pub fn convert_latin1_to_utf16(src: &[u8], dst: &mut [u16])
+    requires room { length src.now ≤ length dst.old }
+    ensures written { WritesFront dst.old dst.new (length src.now) src.now }
+{
+    for i in 0..src.len() {
+        dst[i] = u16::from(src[i]);
+    }
+}
+
+/// Writes the UTF-8 of the longest front of `src` whose UTF-8 fits into `dst`. The answer is how many bytes were read
+/// and how many were written; `dst` is unchanged behind those. Encoding Standard, `encodeInto`.
+pub fn convert_latin1_to_utf8_partial(src: &[u8], dst: &mut [u8]) -> (usize, usize)
+    ensures front { FitsLongest (λ b. b ∷ []) encode_utf8 src.now (length dst.old) result.0
+        (encode_utf8_all (take result.0 src.now)) }
+    ensures written { WritesFront dst.old dst.new result.1 (encode_utf8_all (take result.0 src.now)) }
+{
+    let mut read = 0;
+    let mut written = 0;
+    while read < src.len() {
+        let byte = src[read];
+        if byte < 0x80 {
+            if written == dst.len() {
+                return (read, written);
+            }
+            dst[written] = byte;
+            written += 1;
+        } else {
+            if dst.len() - written < HIGH_LENGTH {
+                return (read, written);
+            }
+            dst[written] = 0xC0 | (byte >> 6);
+            dst[written + 1] = 0x80 | (byte & 0x3F);
+            written += 2;
+        }
+        read += 1;
+    }
+    (read, written)
+}
+
+/// Writes the UTF-8 of each byte as a character, and answers how many bytes were written; `dst` is unchanged behind
+/// those. `dst` is at least twice as long as `src`.
+pub fn convert_latin1_to_utf8(src: &[u8], dst: &mut [u8]) -> usize
+    requires room { 2 * length src.now ≤ length dst.old }
+    ensures written { WritesFront dst.old dst.new result (encode_utf8_all src.now) }
+{
+    let (_, written) = convert_latin1_to_utf8_partial(src, dst);
+    written
+}
+
+/// Writes the scalar value of each character of Latin1 text in UTF-8 as a byte, and answers how many bytes were
+/// written; `dst` is unchanged behind those. `dst` is no shorter than `src`.
+pub fn convert_utf8_to_latin1_lossy(src: &[u8], dst: &mut [u8]) -> usize
+    requires room { length src.now ≤ length dst.old }
+    requires latin1 { IsUtf8Latin1 src.now }
+    ensures written { WritesFront dst.old dst.new result (chars src.now) }
+{
+    let mut read = 0;
+    let mut written = 0;
+    while read < src.len() {
+        let byte = src[read];
+        if byte < 0x80 {
+            dst[written] = byte;
+            read += 1;
+        } else {
+            dst[written] = (byte << 6) | (src[read + 1] & 0x3F);
+            read += 2;
+        }
+        written += 1;
+    }
+    written
+}
+
+/// Writes the low eight bits of each UTF-16 code unit as a byte; `dst` is unchanged behind them. `dst` is no shorter
+/// than `src`.
+pub fn convert_utf16_to_latin1_lossy(src: &[u16], dst: &mut [u8])
+    requires room { length src.now ≤ length dst.old }
+    ensures written { WritesFront dst.old dst.new (length src.now) (map (λ unit. unit % 0x100) src.now) }
+{
+    for i in 0..src.len() {
+        dst[i] = (src[i] & 0xFF) as u8;
+    }
+}

@@ -1,0 +1,65 @@
+// From UTF-8 to UTF-16, whole buffers.
+ghost use Rattle.std.specs.Prelude.{◌≡◌, ℕ, ◌<◌, ◌≤◌, ◌↔◌, List, length, IfSome, IsSome};
+ghost use Rattle.std.specs.List.{flat_map};
+ghost use Rattle.std.specs.Char.Escape.{encode_utf16};
+ghost use Rattle.std.specs.Str.{IsUtf8, chars};
+ghost use Rattle.encoding_text.specs.Parts.{Part, ArePartsOf, repaired_utf16};
+ghost use Rattle.encoding_text.specs.Fronts.{WritesFront};
+ghost use Rattle.encoding_text.specs.Converting.{WritesText};
+
+use crate::decoder::{DecoderResult, Utf8Decoder};
+use crate::utf_8::convert_utf8_to_utf16_up_to_invalid;
+
+/// Converts bytes to UTF-16, with U+FFFD for each broken part, and answers how many code units were written.
+/// Encoding Standard, UTF-8 decode without BOM.
+///
+/// `dst` has to hold one code unit more than `src` has bytes. Behind what is written it is as before.
+pub fn convert_utf8_to_utf16(src: &[u8], dst: &mut [u16]) -> usize
+    requires room { length src.now < length dst.old }
+    ensures { (parts : List Part) × ArePartsOf src.now parts × WritesFront dst.old dst.new result (repaired_utf16 parts) }
+{
+    let mut decoder = Utf8Decoder::new_inner();
+    let mut read = 0;
+    let mut written = 0;
+    loop {
+        let (result, bytes, units) =
+            decoder.decode_to_utf16_raw(&src[read..], &mut dst[written..], true);
+        read += bytes;
+        written += units;
+        match result {
+            DecoderResult::InputEmpty => return written,
+            DecoderResult::OutputFull => unreachable!(),
+            DecoderResult::Malformed(..) => {
+                dst[written] = 0xFFFD;
+                written += 1;
+            }
+        }
+    }
+}
+
+/// Converts a text to UTF-16, and answers how many code units were written.
+///
+/// `dst` has to hold as many code units as `src` has bytes. Behind what is written it is as before.
+pub fn convert_str_to_utf16(src: &str, dst: &mut [u16]) -> usize
+    requires room { length src.now ≤ length dst.old }
+    ensures { WritesFront dst.old dst.new result (flat_map encode_utf16 (chars src.now)) }
+{
+    convert_utf8_to_utf16_up_to_invalid(src.as_bytes(), dst).1
+}
+
+/// Converts bytes to UTF-16 if they are well-formed, and answers how many code units were written.
+///
+/// Otherwise answers `None`, and just the characters of the longest well-formed front are written. `dst` has to hold
+/// as many code units as `src` has bytes. Behind what is written it is as before.
+pub fn convert_utf8_to_utf16_without_replacement(src: &[u8], dst: &mut [u16]) -> Option<usize>
+    requires room { length src.now ≤ length dst.old }
+    ensures whole { IsSome result ↔ IsUtf8 src.now }
+    ensures text { (written : ℕ) × WritesText src.now dst.old dst.new written × IfSome result (λ n. n ≡ written) }
+{
+    let (read, written) = convert_utf8_to_utf16_up_to_invalid(src, dst);
+    if read == src.len() {
+        Some(written)
+    } else {
+        None
+    }
+}
