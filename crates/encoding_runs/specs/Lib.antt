@@ -1,2 +1,3 @@
 pub mod Repairs
 pub mod Streams
+pub mod Repeats

@@ -1,10 +1,15 @@
 //! Laws of the definitions: each is the contract of a function that does nothing.
-ghost use Rattle.std.specs.Prelude.{◌≡◌, ℕ, ◌<◌, ◌≤◌, List, [], ◌++◌, encode_utf8};
+ghost use Rattle.std.specs.Prelude.{◌≡◌, ℕ, ◌<◌, ◌≤◌, List, [], ◌++◌, encode_utf8, length, map, encode_utf8_all, IsTrue, IsUtf8};
 ghost use Rattle.std.specs.Char.{IsScalar};
 ghost use Rattle.std.specs.List.{flat_map};
 ghost use Rattle.std.specs.Str.Lossy.{utf8_lossy};
 ghost use Rattle.encoding_text.specs.Sequence.{IsSequence};
 ghost use Rattle.encoding_text.specs.Parts.{Part, ArePartsOf, AreSettled, bytes_of, repaired_text};
+ghost use Rattle.std.specs.Char.Escape.{encode_utf16};
+ghost use Rattle.std.specs.Char.Utf16.{utf16_lossy_chars};
+ghost use Rattle.std.specs.Str.{all_scalars, chars};
+ghost use Rattle.encoding_text.specs.Utf16.{AreUnits, Part16, Character16, ArePartsOf16, IsUtf8OfLongestFront, scalar_of, utf8_of};
+ghost use Rattle.encoding_runs.specs.Repeats.{Step, AreRepeated};
 
 /// The well-formed sequences are exactly the UTF-8 of the scalar values, one for each, and none begins another.
 /// Unicode Standard, Table 3-7.
@@ -26,4 +31,28 @@ pub fn law_parts()
     ensures settled_stay { (bs rest more : List ℕ) (parts all : List Part) → AreSettled bs parts rest
         → ArePartsOf (bs ++ more) all → (others : List Part) × (all ≡ parts ++ others) }
     ensures lossy { (bs : List ℕ) (parts : List Part) → ArePartsOf bs parts → repaired_text parts ≡ utf8_lossy bs }
+{}
+
+/// UTF-16 code units have exactly one list of parts; counted as U+FFFD, the lone surrogates among them are those of
+/// std's lossy decoding. The parts of the UTF-16 of scalar values are these scalar values, so a text that goes to
+/// UTF-16 and from there to UTF-8 comes back byte for byte. Unicode Standard, section 3.9, UTF-16.
+pub fn law_utf16_round_trip()
+    ensures exist { (us : List ℕ) → AreUnits us → (parts : List Part16) × ArePartsOf16 us parts }
+    ensures one { (us : List ℕ) (parts others : List Part16) → ArePartsOf16 us parts → ArePartsOf16 us others → parts ≡ others }
+    ensures lossy { (us : List ℕ) (parts : List Part16) → ArePartsOf16 us parts → map scalar_of parts ≡ utf16_lossy_chars us }
+    ensures characters { (cs : List ℕ) → IsTrue (all_scalars cs) → ArePartsOf16 (flat_map encode_utf16 cs) (map Character16 cs) }
+    ensures scalars { (cs : List ℕ) (parts : List Part16) → IsTrue (all_scalars cs)
+        → ArePartsOf16 (flat_map encode_utf16 cs) parts → map scalar_of parts ≡ cs }
+    ensures text { (bs : List ℕ) (parts : List Part16) → IsUtf8 bs
+        → ArePartsOf16 (flat_map encode_utf16 (chars bs)) parts → flat_map utf8_of parts ≡ bs }
+{}
+
+/// The longest fitting front, taken again and again on the units that are left until all are read, gives in sequence
+/// the UTF-8 of all the units' scalar values, whatever the rooms; and with a unit unread and four bytes of room at
+/// least one unit is read. Encoding Standard, `encodeInto`.
+pub fn law_partial_repeats()
+    ensures joined { (us : List ℕ) (parts : List Part16) (steps : List Step) → ArePartsOf16 us parts
+        → AreRepeated us steps → flat_map (λ step. step.out) steps ≡ encode_utf8_all (map scalar_of parts) }
+    ensures progress { (us out : List ℕ) (room read : ℕ) → 0 < length us → 4 ≤ room
+        → IsUtf8OfLongestFront us room read out → 0 < read }
 {}

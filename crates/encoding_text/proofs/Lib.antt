@@ -17,3 +17,10 @@ pub mod Latin1ConversionLemmas
 pub mod ToUtf16Lemmas
 pub mod CallPartsLemmas
 pub mod RepairingLemmas
+pub mod FittingLemmas
+pub mod Utf16Lemmas
+pub mod Utf16FrontLemmas
+pub mod Utf8WriteLemmas
+pub mod EncoderLemmas
+pub mod EncoderTextLemmas
+pub mod Utf16LawLemmas

@@ -38,11 +38,12 @@ characters_behind : (src old new sub : List ℕ) (read written more units : ℕ)
     → out ≡ flat_map encode_utf16 cs → drop read src ≡ encode_utf8_all cs ++ rest → WritesFront (take (length new - written) (drop written new)) sub units out
     → (parts : List Part) × StartsWith src parts rest × WritesFront old (put_mid written (length new - written) new sub) (written + units) (repaired_utf16 parts)
 characters_behind src old new sub read written more units cs rest out r h o e w =
-    let ps = map Character cs in
-    (r.parts ++ ps,
-     StartsWith-append src r.parts (drop read src) ps rest r.starts (subst (λ xs. StartsWith xs ps rest) (sym e) (StartsWith-characters cs rest h)),
-     WritesFront-same _ _ _ _ _ _ (WritesFront_after old new written (repaired_utf16 r.parts) sub units out r.writes w) refl
-       (ap (λ xs. repaired_utf16 r.parts ++ xs) (o ∙ sym (utf16_characters cs)) ∙ sym (utf16-append r.parts ps)))
+    let ps = map Character cs in (
+      r.parts ++ ps,
+      StartsWith-append src r.parts (drop read src) ps rest r.starts (subst (λ xs. StartsWith xs ps rest) (sym e) (StartsWith-characters cs rest h)),
+      WritesFront-same _ _ _ _ _ _ (WritesFront_after old new written (repaired_utf16 r.parts) sub units out r.writes w) refl
+          (ap (λ xs. repaired_utf16 r.parts ++ xs) (o ∙ sym (utf16_characters cs)) ∙ sym (utf16-append r.parts ps)),
+    )
 
 -- the last call of all
 pub repaired_all : (src old new sub : List ℕ) (read written more units : ℕ) (q : List ℕ) → Repaired src old new read written
@@ -62,7 +63,7 @@ repaired_more src old new sub read written k second more units q r (out, w, call
     let x = a.0 in
     let behind = drop more (drop read src) in
     let whole : drop read src ≡ encode_utf8_all call.scalars ++ (x ++ behind) =
-      sym (take-append-drop more (drop read src)) ∙ ap (λ xs. xs ++ behind) a.3 ∙ append_assoc (encode_utf8_all call.scalars) x behind in
+    sym (take-append-drop more (drop read src)) ∙ ap (λ xs. xs ++ behind) a.3 ∙ append_assoc (encode_utf8_all call.scalars) x behind in
     let text = characters_behind src old new sub read written more units call.scalars (x ++ behind) out r call.are_scalars call.out_is whole w in
     let first : IsFirstPart (x ++ behind) (Broken x) behind = broken_first x behind true a.6 in
     let after : drop (read + more) src ≡ behind = sym (drop-drop more read src) in
@@ -87,5 +88,14 @@ pub repaired_length : (new sub : List ℕ) (written units : ℕ) (out : List ℕ
 repaired_length new sub written units out w l =
     let kept : length sub ≡ length (take (length new - written) (drop written new)) = WritesFront-length _ _ _ _ w in
     let size : length (take (length new - written) (drop written new)) ≡ length new - written = ap length (take_rest new written) ∙ length-drop written new in
-    omega (arith, kept, size, l, length-append (take written new) (sub ++ drop (length new - written) (drop written new)), length-append sub (drop (length new - written) (drop written new)),
-      length-take written new, length-drop (length new - written) (drop written new), length-drop written new)
+    omega (
+      arith,
+      kept,
+      size,
+      l,
+      length-append (take written new) (sub ++ drop (length new - written) (drop written new)),
+      length-append sub (drop (length new - written) (drop written new)),
+      length-take written new,
+      length-drop (length new - written) (drop written new),
+      length-drop written new,
+    )

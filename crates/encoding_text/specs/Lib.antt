@@ -8,3 +8,5 @@ pub mod Resuming
 pub mod Ascii
 pub mod Latin1
 pub mod Borrowed
+pub mod Utf16
+pub mod Encoding

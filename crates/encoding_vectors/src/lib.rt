@@ -1,4 +1,4 @@
-//! Tests alone: the vectors and the worked rows of the calls of `encoding_text`.
+//! Tests alone: published vectors and worked examples, through the public calls of the libraries.
 #![tactic(auto)]
 
 #[cfg(test)]
@@ -6,4 +6,16 @@ mod ascii_rows;
 #[cfg(test)]
 mod borrowed_rows;
 #[cfg(test)]
+mod decoder_vectors;
+#[cfg(test)]
+mod encoder_rows;
+#[cfg(test)]
+mod held_unit_rows;
+#[cfg(test)]
 mod latin1_rows;
+#[cfg(test)]
+mod repair_rows;
+#[cfg(test)]
+mod streams;
+#[cfg(test)]
+mod utf16_rows;

@@ -1,10 +1,9 @@
 // Streams that say whether they failed.
 ghost use Rattle.std.specs.Prelude.{◌≡◌, ℕ, ◌<◌, ◌≤◌, Bool, true, false, List, length, Option, IfSome};
 ghost use Rattle.std.specs.Borrow.{GName};
-ghost use Rattle.encoding_runs.specs.Streams.{WriteMoves, FailsOnNone, Watched};
+ghost use Rattle.encoding_runs.specs.Streams.{WriteMoves, FailsOnNone, watched_stream, watch_failed};
 
 use std::io::Write;
-use std::marker::Model;
 
 /// Where bytes go: a [`Write`] that keeps whether it failed.
 pub trait Sink {
@@ -37,18 +36,12 @@ pub struct Watch<'a, T> {
     failed: bool,
 }
 
-impl<'a, T> Model for Watch<'a, T> {
-    ghost Value = { Watched T };
-
-    ghost view = { λ w. record { stream = w.inner; failed = w.failed } };
-}
-
 impl<'a, T> Watch<'a, T> {
     /// Watches the stream, which has not failed so far.
     pub fn new(inner: &'a mut T) -> Watch<'a, T>
-        ensures same_stream { result.stream.ghost_name ≡ inner.entry.ghost_name }
-        ensures as_it_was { result.stream.now ≡ inner.old }
-        ensures not_failed { result.failed ≡ false }
+        ensures same_stream { (watched_stream result).ghost_name ≡ inner.entry.ghost_name }
+        ensures as_it_was { (watched_stream result).now ≡ inner.old }
+        ensures not_failed { watch_failed result ≡ false }
     {
         Watch {
             inner,
@@ -58,11 +51,11 @@ impl<'a, T> Watch<'a, T> {
 }
 
 impl<'a, T: Write> Sink for Watch<'a, T> {
-    ghost contents = { λ w. T.contents w.stream.now };
+    ghost contents = { λ w. T.contents (watched_stream w).now };
 
-    ghost has_failed = { λ w. w.failed };
+    ghost has_failed = { λ w. watch_failed w };
 
-    ghost stream = { λ w. w.stream.ghost_name };
+    ghost stream = { λ w. (watched_stream w).ghost_name };
 
     fn failed(&self) -> bool {
         self.failed

@@ -22,8 +22,11 @@ pub fn convert_utf8_to_utf16(src: &[u8], dst: &mut [u16]) -> usize
     let mut read = 0;
     let mut written = 0;
     loop {
-        let (result, bytes, units) =
-            decoder.decode_to_utf16_raw(&src[read..], &mut dst[written..], true);
+        let (result, bytes, units) = decoder.decode_to_utf16_raw(
+            &src[read..],
+            &mut dst[written..],
+            true,
+        );
         read += bytes;
         written += units;
         match result {

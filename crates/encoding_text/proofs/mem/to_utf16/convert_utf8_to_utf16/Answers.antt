@@ -53,6 +53,11 @@ loop-dst-preserved c =
     record {
       neutral = some.2;
       repaired = repaired_more _ _ _ _ _ _ _ _ _ _ _ repaired call (omega (arith, left_in, whole));
-      room = omega (arith, left_in, room, long,
-        length-set (put_mid c.loop-dst.written (length dst - c.loop-dst.written) dst c.decode_to_utf16_raw-result.new.dst) (c.loop-dst.written + units) 0xFFFD);
+      room = omega (
+        arith,
+        left_in,
+        room,
+        long,
+        length-set (put_mid c.loop-dst.written (length dst - c.loop-dst.written) dst c.decode_to_utf16_raw-result.new.dst) (c.loop-dst.written + units) 0xFFFD,
+      );
     }

@@ -1,0 +1,13 @@
+use Rattle.encoding_text.proofs.Utf16Lemmas.{parts_of, parts_exist, parts_unique}
+use Rattle.encoding_text.proofs.Utf16LawLemmas.{parts-encode, scalars-encode, scalars_lossy, text_back}
+use Rattle.encoding_runs.proofs.laws.law_utf16_round_trip.Goals as goal
+
+pub returns : goal.returns
+returns c = record {
+  exist = λ us a. (parts_of us, parts_exist us a);
+  one = parts_unique;
+  lossy = scalars_lossy;
+  characters = parts-encode;
+  scalars = scalars-encode;
+  text = text_back;
+}

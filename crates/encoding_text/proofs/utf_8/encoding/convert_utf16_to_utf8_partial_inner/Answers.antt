@@ -1,0 +1,30 @@
+use Rattle.std.proofs.Common.{◌++◌, ◌∷◌, [], arith, refl, sym, subst}
+use Rattle.encoding_text.proofs.FrontsLemmas.{WritesFront_after, WritesFront-same}
+use Rattle.encoding_text.proofs.FittingLemmas.{written_is}
+use Rattle.encoding_text.proofs.Utf16FrontLemmas.{step_walked, step_within, step_written, walked_front}
+use Rattle.encoding_text.specs.Utf16.{IsUtf8OfFront}
+use Rattle.encoding_text.proofs.utf_8.encoding.convert_utf16_to_utf8_partial_inner.Goals as goal
+
+pub loop-read-preserved : goal.loop-read-preserved
+loop-read-preserved c =
+    let here = c.loop-read.invariant in
+    let first = c.scalar_at-scalar.ensures in
+    record {
+      within = step_within c.args.src.now _ here.done _ _ here.walked first c.utf16_length-read.ensures here.within;
+      done = here.done ++ first.part ∷ [];
+      walked = step_walked c.args.src.now _ here.done _ _ here.walked first c.utf16_length-read.ensures;
+      written = WritesFront-same _ _ _ _ _ _ (WritesFront_after _ _ _ _ _ _ _ here.written c.write_scalar-written.ensures) refl
+          (sym (step_written c.args.src.now _ here.done _ c.utf16_length-read.result here.walked first));
+    }
+
+pub returns-else-dst-written-ge-LONGEST-clause-front : goal.returns-else-dst-written-ge-LONGEST-clause-front
+returns-else-dst-written-ge-LONGEST-clause-front c =
+    let here = c.loop-read.invariant in
+    subst (IsUtf8OfFront c.args.src.now c.loop-read.read) (written_is _ _ _ _ here.written)
+    (walked_front c.args.src.now c.loop-read.read here.done (λ k. omega (arith, c.type_inv.src k)) here.walked)
+
+pub returns-after-loop-read-clause-front : goal.returns-after-loop-read-clause-front
+returns-after-loop-read-clause-front c =
+    let here = c.loop-read.invariant in
+    subst (IsUtf8OfFront c.args.src.now c.loop-read.read) (written_is _ _ _ _ here.written)
+    (walked_front c.args.src.now c.loop-read.read here.done (λ k. omega (arith, c.type_inv.src k)) here.walked)

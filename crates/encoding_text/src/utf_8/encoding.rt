@@ -1,0 +1,167 @@
+// UTF-16 to UTF-8, into a destination of any size.
+ghost use Rattle.std.specs.Prelude.{◌≡◌, ◌+◌, ◌<◌, ◌≤◌, ◌↔◌, ◌⊎◌, [], length, take, drop, encode_utf8, IsTrue};
+ghost use Rattle.std.specs.Char.{len_utf8};
+ghost use Rattle.std.specs.Char.Escape.{encode_utf16};
+ghost use Rattle.std.specs.Char.Utf16.{surrogate_pair_char};
+ghost use Rattle.encoding_text.specs.Fronts.{WritesFront};
+ghost use Rattle.encoding_text.specs.Utf16.{IsHighSurrogate, IsLowSurrogate, IsFirstScalar, IsUtf8OfFront, IsUtf8OfLongestFront};
+
+/// What a lone surrogate counts as.
+pub(super) const REPLACEMENT: u32 = 0xFFFD;
+
+/// The most bytes that a character has in UTF-8.
+const LONGEST: usize = 4;
+
+fn is_surrogate(unit: u16) -> bool
+    ensures { IsTrue result ↔ ((0xD800 ≤ unit) × (unit ≤ 0xDFFF)) }
+{
+    unit & 0xF800 == 0xD800
+}
+
+pub(super) fn is_high_surrogate(unit: u16) -> bool
+    ensures { IsTrue result ↔ IsHighSurrogate unit }
+{
+    unit & 0xFC00 == 0xD800
+}
+
+pub(super) fn is_low_surrogate(unit: u16) -> bool
+    ensures { IsTrue result ↔ IsLowSurrogate unit }
+{
+    unit & 0xFC00 == 0xDC00
+}
+
+/// The scalar value of a pair of surrogates.
+pub(super) fn pair_scalar(high: u16, low: u16) -> u32
+    requires high { IsHighSurrogate high }
+    requires low { IsLowSurrogate low }
+    ensures { result ≡ surrogate_pair_char high low }
+{
+    0x10000 + ((u32::from(high) - 0xD800) << 10) + (u32::from(low) - 0xDC00)
+}
+
+/// What the first part of the units from this place on counts as.
+fn scalar_at(src: &[u16], at: usize) -> u32
+    requires { at < length src.now }
+    ensures { IsFirstScalar (drop at src.now) result }
+{
+    let unit = src[at];
+    if !is_surrogate(unit) {
+        return u32::from(unit);
+    }
+    if is_high_surrogate(unit) && at + 1 < src.len() {
+        let next = src[at + 1];
+        if is_low_surrogate(next) {
+            return pair_scalar(unit, next);
+        }
+    }
+    REPLACEMENT
+}
+
+/// How many units the UTF-16 of a scalar value has.
+fn utf16_length(scalar: u32) -> usize
+    ensures { result ≡ length (encode_utf16 scalar) }
+{
+    if scalar < 0x10000 { 1 } else { 2 }
+}
+
+/// How many bytes the UTF-8 of a scalar value has.
+pub(super) fn utf8_length(scalar: u32) -> usize
+    ensures { result ≡ len_utf8 scalar }
+{
+    match scalar {
+        0..0x80 => 1,
+        0x80..0x800 => 2,
+        0x800..0x10000 => 3,
+        _ => 4,
+    }
+}
+
+/// Writes the UTF-8 of a scalar value, and says how many bytes that are.
+pub(super) fn write_scalar(scalar: u32, dst: &mut [u8]) -> usize
+    requires scalar { scalar < 0x110000 }
+    requires room { len_utf8 scalar ≤ length dst.old }
+    ensures { WritesFront dst.old dst.new result (encode_utf8 scalar) }
+{
+    if scalar < 0x80 {
+        dst[0] = scalar as u8;
+        return 1;
+    }
+    let last = 0x80 | (scalar & 0x3F) as u8;
+    if scalar < 0x800 {
+        dst[0] = 0xC0 | (scalar >> 6) as u8;
+        dst[1] = last;
+        return 2;
+    }
+    let third = 0x80 | ((scalar >> 6) & 0x3F) as u8;
+    if scalar < 0x10000 {
+        dst[0] = 0xE0 | (scalar >> 12) as u8;
+        dst[1] = third;
+        dst[2] = last;
+        return 3;
+    }
+    dst[0] = 0xF0 | (scalar >> 18) as u8;
+    dst[1] = 0x80 | ((scalar >> 12) & 0x3F) as u8;
+    dst[2] = third;
+    dst[3] = last;
+    4
+}
+
+/// Converts the first characters of `src` from UTF-16 to UTF-8, while at least four bytes of `dst` are free, and
+/// returns how many units it read and how many bytes it wrote. A surrogate that is in no pair becomes U+FFFD
+/// (Unicode Standard, section 3.9, UTF-16).
+///
+/// Either all of `src` is read, or at most three bytes are free: `convert_utf16_to_utf8_partial_tail` then fills
+/// those. What lies behind the written bytes stays.
+pub fn convert_utf16_to_utf8_partial_inner(src: &[u16], dst: &mut [u8]) -> (usize, usize)
+    ensures front { IsUtf8OfFront src.now result.0 (take result.1 dst.new) }
+    ensures rest { WritesFront dst.old dst.new result.1 (take result.1 dst.new) }
+    ensures within { result.0 ≤ length src.now }
+    ensures filled { (result.0 ≡ length src.now) ⊎ (length dst.old < result.1 + 4) }
+{
+    let mut read = 0;
+    let mut written = 0;
+    while read < src.len() && dst.len() - written >= LONGEST {
+        let scalar = scalar_at(src, read);
+        written += write_scalar(scalar, &mut dst[written..]);
+        read += utf16_length(scalar);
+    }
+    (read, written)
+}
+
+/// Converts the first characters of `src` from UTF-16 to UTF-8, as many as fit into the at most three bytes of
+/// `dst`, and returns how many units it read and how many bytes it wrote. A surrogate that is in no pair becomes
+/// U+FFFD. `src` isn't empty. What lies behind the written bytes stays.
+pub fn convert_utf16_to_utf8_partial_tail(src: &[u16], dst: &mut [u8]) -> (usize, usize)
+    requires some { 0 < length src.now }
+    requires short { length dst.old < 4 }
+    ensures longest { IsUtf8OfLongestFront src.now (length dst.old) result.0 (take result.1 dst.new) }
+    ensures within { result.0 ≤ length src.now }
+    ensures rest { WritesFront dst.old dst.new result.1 (take result.1 dst.new) }
+{
+    let mut read = 0;
+    let mut written = 0;
+    while read < src.len() {
+        let scalar = scalar_at(src, read);
+        if utf8_length(scalar) > dst.len() - written {
+            break;
+        }
+        written += write_scalar(scalar, &mut dst[written..]);
+        read += utf16_length(scalar);
+    }
+    (read, written)
+}
+
+/// Converts the first characters of `src` from UTF-16 to UTF-8, as many as fit into `dst`, and returns how many
+/// units it read and how many bytes it wrote. What lies behind the written bytes stays.
+pub(super) fn convert_longest_front(src: &[u16], dst: &mut [u8]) -> (usize, usize)
+    ensures longest { IsUtf8OfLongestFront src.now (length dst.old) result.0 (take result.1 dst.new) }
+    ensures within { result.0 ≤ length src.now }
+    ensures rest { WritesFront dst.old dst.new result.1 (take result.1 dst.new) }
+{
+    let (read, written) = convert_utf16_to_utf8_partial_inner(src, dst);
+    if read == src.len() {
+        return (read, written);
+    }
+    let (more, extra) = convert_utf16_to_utf8_partial_tail(&src[read..], &mut dst[written..]);
+    (read + more, written + extra)
+}
