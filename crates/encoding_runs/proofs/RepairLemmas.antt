@@ -1,11 +1,11 @@
 -- What stands written when so many first parts of the source are, and when a write fails in the middle of one.
-use Rattle.std.proofs.Common.{◌≡◌, ◌≢◌, ℕ, ◌+◌, ◌<◌, ◌≤◌, List, [], ◌∷◌, ◌++◌, length, take, drop, map, Option, refl, sym, ap, ◌∙◌, arith, subst}
+use Rattle.std.proofs.Common.{◌≡◌, ℕ, ◌+◌, ◌<◌, ◌≤◌, List, [], ◌∷◌, ◌++◌, length, take, drop, map, Option, refl, sym, ap, ◌∙◌, arith, subst}
 use Rattle.std.specs.Io.KnownBytes.{Appends}
 use Rattle.std.specs.Str.{IsUtf8}
 use Rattle.std.proofs.KnownBytes.{Appends-trans}
-use Rattle.std.proofs.lemmas.List.{append-nil, append_assoc, length-append, length-drop, take-append-drop}
+use Rattle.std.proofs.lemmas.List.{append_assoc, length-append, length-drop, take-append-drop}
 use lib.Utf8.{encode}
-use Rattle.encoding_text.specs.Parts.{Part, Character, Broken, IsFirstPart, StartsWith, ArePartsOf, repaired_text, count_broken}
+use Rattle.encoding_text.specs.Parts.{Part, Character, Broken, IsFirstPart, StartsWith, repaired_text, count_broken}
 use Rattle.encoding_text.proofs.DecompositionLemmas.{StartsWith-append, StartsWith-one, StartsWith-characters, has_parts, repaired_text-append, repaired_text-characters, count_broken-append, count_broken-characters, count_broken-bytes}
 use Rattle.encoding_runs.specs.Repairs.{WritesParts, WritesRepaired, Stops}
 

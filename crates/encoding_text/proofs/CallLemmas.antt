@@ -1,22 +1,15 @@
 -- How a call ends: with the source, with a broken part, or for want of room.
-use Rattle.std.proofs.Common.{◌≡◌, ◌≢◌, ℕ, ◌+◌, ◌-◌, ◌<◌, ◌≤◌, ◌⊎◌, inl, inr, Bool, true, false, List, [], ◌∷◌, ◌++◌, length, take, drop, slice_index, encode_utf8, encode_utf8_all, refl, sym, ap, ◌∙◌, arith, subst, take-add}
-use Rattle.std.specs.Char.{IsScalar}
-use Rattle.std.specs.Str.{all_scalars}
-use Rattle.std.specs.List.{flat_map}
-use Rattle.std.proofs.lemmas.Bool.{and_from, both_ways, cases_Bool}
-use Rattle.std.proofs.lemmas.List.{append-nil, append_assoc, length-append, length-drop, length-take, take-append-drop, drop-drop, nil_from_length, take_all, drop_all, drop_more, take_more}
+use Rattle.std.proofs.Common.{◌≡◌, ◌≢◌, ℕ, ◌+◌, ◌<◌, ◌≤◌, inl, inr, Bool, true, List, [], ◌∷◌, ◌++◌, length, take, drop, slice_index, refl, sym, ap, ◌∙◌, arith, subst, take-add}
+use Rattle.std.proofs.lemmas.Bool.{cases_Bool}
+use Rattle.std.proofs.lemmas.List.{length-append, length-drop, length-take, take-append-drop, drop-drop, take_all, drop_all, drop_more, take_more}
 use Rattle.encoding_text.specs.Sequence.{IsSequence, IsBeginning, BeginsNothing}
 use Rattle.encoding_text.specs.Parts.{BeginsWithNoCharacter}
-use Rattle.encoding_text.specs.Pending.{IsPending}
 use Rattle.encoding_text.specs.Resuming.{IsStuck, Resumes}
-use Rattle.encoding_text.specs.Fronts.{WritesFront}
-use Rattle.encoding_text.specs.Converting.{FittingBegins, ConvertsFront}
-use Rattle.encoding_text.specs.Decoding.{IsBroken, IsCall, Answers, Decodes, EndsSource, EndsCall}
+use Rattle.encoding_text.specs.Decoding.{IsBroken, EndsSource, EndsCall}
 use Rattle.encoding_text.specs.declared.decoder.DecoderResult.{DecoderResult}
 use Rattle.encoding_text.specs.declared.decoder.DecoderResult.TheVariants.{InputEmpty, OutputFull, Malformed}
 use Rattle.encoding_text.specs.declared.decoder.pending.Resumed.TheVariants.{Ended, Whole, Stuck}
 use Rattle.encoding_text.proofs.SequenceLemmas.{HasOpenShape-IsBeginning, IsBeginning-HasOpenShape, length-IsBeginning}
-use Rattle.encoding_text.proofs.EncodingLemmas.{scalar_of_sequence, IsSequence-encode}
 use Rattle.encoding_text.proofs.PendingLemmas.{pending_beginning}
 
 -- ---- broken parts

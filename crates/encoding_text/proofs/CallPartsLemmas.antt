@@ -1,8 +1,8 @@
 -- A call's characters and its broken part are the first parts of what it reads.
-use Rattle.std.proofs.Common.{◌≡◌, ℕ, ◌⊎◌, inl, inr, Bool, List, [], ◌∷◌, ◌++◌, sym, ap, ◌∙◌, subst}
+use Rattle.std.proofs.Common.{◌≡◌, ℕ, inl, inr, Bool, List, [], ◌∷◌, ◌++◌, sym, subst}
 use Rattle.std.proofs.lemmas.List.{append-nil}
 use Rattle.encoding_text.specs.Sequence.{BeginsNothing}
-use Rattle.encoding_text.specs.Parts.{Part, Broken, IsFirstPart}
+use Rattle.encoding_text.specs.Parts.{Broken, IsFirstPart}
 use Rattle.encoding_text.specs.Decoding.{IsBroken}
 use Rattle.encoding_text.proofs.PartsLemmas.{first_lone, first_open, first_stuck}
 

@@ -1,21 +1,20 @@
 -- Converting character by character, and that whole characters up to one that doesn't fit are the longest front that fits.
-use Rattle.std.proofs.Common.{◌≡◌, ℕ, ◌+◌, ◌-◌, ◌<◌, ◌≤◌, ◌⊎◌, inl, inr, Bool, true, List, [], ◌∷◌, ◌++◌, length, map, take, drop, encode_utf8, encode_utf8_all, refl, sym, ap, ◌∙◌, arith, subst, take-add}
+use Rattle.std.proofs.Common.{◌≡◌, ℕ, ◌+◌, ◌-◌, ◌<◌, ◌≤◌, ◌⊎◌, inl, inr, true, List, [], ◌∷◌, ◌++◌, length, take, drop, encode_utf8, encode_utf8_all, refl, sym, ap, ◌∙◌, arith, subst, take-add}
 use lib.Utf8.{scalar}
 use Rattle.std.specs.Char.{IsScalar}
 use Rattle.std.specs.Str.{all_scalars, IsUtf8}
 use Rattle.std.specs.List.{flat_map}
 use Rattle.std.proofs.lemmas.Bool.{and_from, and_parts, cases_lt}
-use Rattle.std.proofs.lemmas.List.{append-nil, append_assoc, length-append, length-drop, length-take, take_at, drop_at, take_rest, take-append-drop, drop-drop, take-take, nil_from_length}
+use Rattle.std.proofs.lemmas.List.{append-nil, append_assoc, length-append, length-drop, length-take, take_at, drop_at, take_rest, take-append-drop, take-take}
 use Rattle.std.proofs.lemmas.Str.{encodes-append, encode_same, length-encode, len_utf8_bounds, IsUtf8-encode, IsUtf8-append}
 use Rattle.std.proofs.str.Laws.{scalars-append}
-use Rattle.std.proofs.lemmas.Grind.{flat_map-append}
 use borrow.Rule.Slice.PartMut.{put_mid}
-use Rattle.encoding_text.specs.Sequence.{IsSequence}
-use Rattle.encoding_text.specs.Parts.{Part, Character, Broken, BeginsWithNoCharacter, StartsWith, ArePartsOf}
+use Rattle.encoding_text.specs.Parts.{Part, Character, Broken, BeginsWithNoCharacter, ArePartsOf}
 use Rattle.encoding_text.specs.Fronts.{IsLongestFront, FitsLongest, WritesFront}
 use Rattle.encoding_text.specs.Converting.{IsText, ConvertsLongest, FittingBegins, ConvertsFront}
-use Rattle.encoding_text.proofs.EncodingLemmas.{IsSequence-encode}
+use Rattle.encoding_text.proofs.EncodingLemmas.{IsSequence-encode, flat_map-encode_utf8}
 use Rattle.encoding_text.proofs.FrontsLemmas.{WritesFront-nil, WritesFront_after, WritesFront-length, WritesFront-same, put_mid-same, FitsLongest-all, FitsLongest-stop}
+use Rattle.encoding_text.proofs.FittingLemmas.{flat_map_push}
 use Rattle.encoding_text.proofs.Utf8Lemmas.{IsLongestFront-utf8}
 use Rattle.encoding_text.proofs.DecompositionLemmas.{has_parts}
 
@@ -36,14 +35,7 @@ all_scalars_more cs c h s = scalars-append cs (c ∷ []) h (and_from _ _ s refl)
 pub encodes_more : (cs : List ℕ) (c : ℕ) → encode_utf8_all (cs ++ c ∷ []) ≡ encode_utf8_all cs ++ encode_utf8 c
 encodes_more cs c = encodes-append cs (c ∷ []) ∙ ap (λ xs. encode_utf8_all cs ++ xs) (encodes_one c)
 
-pub encodes_flat : (cs : List ℕ) → encode_utf8_all cs ≡ flat_map encode_utf8 cs
-encodes_flat [] = refl
-encodes_flat (c ∷ cs) = ap (λ xs. encode_utf8 c ++ xs) (encodes_flat cs)
-
 module _ {A : Type 0} (encode : ℕ → List A) where
-  flat_map_more : (cs : List ℕ) (c : ℕ) → flat_map encode (cs ++ c ∷ []) ≡ flat_map encode cs ++ encode c
-  flat_map_more cs c = flat_map-append encode cs (c ∷ []) ∙ ap (λ xs. flat_map encode cs ++ xs) (append-nil (encode c))
-
   pub Converted-nil : (src : List ℕ) (old : List A) → Converted encode src old old 0 0
   Converted-nil src old = record { scalars = []; are_scalars = refl; within = omega arith; spelled = refl; writes = WritesFront-nil old }
 
@@ -56,7 +48,7 @@ module _ {A : Type 0} (encode : ℕ → List A) where
     are_scalars = all_scalars_more d.scalars c d.are_scalars s;
     within = let before : read ≤ length src = d.within in omega (arith, l, length-drop read src);
     spelled = encodes_more d.scalars c ∙ (λ i. d.spelled i ++ e i) ∙ sym (take-add read n src);
-    writes = WritesFront-same _ _ _ _ _ _ (WritesFront_after old new written (flat_map encode d.scalars) sub m (encode c) d.writes w) refl (sym (flat_map_more d.scalars c));
+    writes = WritesFront-same _ _ _ _ _ _ (WritesFront_after old new written (flat_map encode d.scalars) sub m (encode c) d.writes w) refl (sym (flat_map_push encode d.scalars c));
   }
 
   -- where no character begins what is left
@@ -121,13 +113,13 @@ module _ {A : Type 0} (encode : ℕ → List A) where
       → FitsLongest encode_utf8 encode (cs ++ more) (length old) read (flat_map encode cs)
   fits_longest src cs [] rest old read written e within w l h f n =
       let all = FitsLongest-all encode_utf8 encode cs (length old) (omega (arith, w, l)) in
-      let size : length (flat_map encode_utf8 cs) ≡ read = ap length (sym (encodes_flat cs) ∙ e) ∙ omega (arith, length-take read src) in
+      let size : length (flat_map encode_utf8 cs) ≡ read = ap length (flat_map-encode_utf8 cs ∙ e) ∙ omega (arith, length-take read src) in
       subst (λ k. FitsLongest encode_utf8 encode (cs ++ []) (length old) k (flat_map encode cs)) size
       (subst (λ xs. FitsLongest encode_utf8 encode xs (length old) (length (flat_map encode_utf8 cs)) (flat_map encode cs)) (sym (append-nil cs)) all)
   fits_longest src cs (c ∷ more) rest old read written e within w l h f n =
       let parts = and_parts (scalar c) (all_scalars more) h in
       let next : drop read src ≡ encode_utf8 c ++ (encode_utf8_all more ++ rest) = f ∙ append_assoc (encode_utf8 c) (encode_utf8_all more) rest in
-      let size : length (flat_map encode_utf8 cs) ≡ read = ap length (sym (encodes_flat cs) ∙ e) ∙ omega (arith, length-take read src) in
+      let size : length (flat_map encode_utf8 cs) ≡ read = ap length (flat_map-encode_utf8 cs ∙ e) ∙ omega (arith, length-take read src) in
       let full : length old - written < length (encode c) = elim (cases_lt (length old - written) (length (encode c))) [
         | inl p ↦ p
         | inr p ↦ absurd (n (c, encode_utf8_all more ++ rest, parts.0, next, p))
@@ -154,7 +146,7 @@ copied_front src old new room n short within all l e =
     let front : take n (take room src) ≡ take n src = take-take n room src size in
     let text : IsUtf8 (take n src) = subst IsUtf8 front l.kind in
     let long : length (take n src) ≡ n = omega (arith, length-take n src) in
-    let out : take n src ≡ flat_map encode_utf8 text.0 = sym text.1.1 ∙ encodes_flat text.0 in
+    let out : take n src ≡ flat_map encode_utf8 text.0 = sym text.1.1 ∙ sym (flat_map-encode_utf8 text.0) in
     record {
       scalars = text.0;
       are_scalars = text.1.0;

@@ -1,7 +1,6 @@
 -- That a call answers as the definition has it: with nothing pending, with a beginning, and both in a row.
 use Rattle.std.proofs.Common.{◌≡◌, ◌≢◌, ℕ, ◌+◌, ◌-◌, ◌<◌, ◌≤◌, ◌⊎◌, inl, inr, Bool, true, false, List, [], ◌∷◌, ◌++◌, length, take, drop, encode_utf8, encode_utf8_all, refl, sym, ap, ◌∙◌, arith, subst, take-add}
 use Rattle.std.specs.Char.{IsScalar}
-use Rattle.std.specs.Str.{all_scalars}
 use Rattle.std.specs.List.{flat_map}
 use Rattle.std.proofs.lemmas.Bool.{and_from, cases_lt}
 use Rattle.std.proofs.lemmas.List.{append-nil, append_assoc, length-append, length-drop, length-take, take-append-drop, drop-drop, nil_from_length, take_all, take_rest}
@@ -13,11 +12,10 @@ use Rattle.encoding_text.specs.Pending.{IsPending}
 use Rattle.encoding_text.specs.Resuming.{Resumes}
 use Rattle.encoding_text.specs.Fronts.{WritesFront}
 use Rattle.encoding_text.specs.Converting.{FittingBegins, ConvertsFront}
-use Rattle.encoding_text.specs.Decoding.{IsBroken, IsCall, Answers, Decodes, EndsSource, EndsCall}
+use Rattle.encoding_text.specs.Decoding.{IsBroken, Answers, Decodes, EndsSource, EndsCall}
 use Rattle.encoding_text.specs.declared.decoder.DecoderResult.{DecoderResult}
 use Rattle.encoding_text.specs.declared.decoder.DecoderResult.TheVariants.{InputEmpty, OutputFull, Malformed}
-use Rattle.encoding_text.specs.declared.decoder.pending.Resumed.TheVariants.{Ended, Whole, Stuck}
-use Rattle.encoding_text.proofs.SequenceLemmas.{length-IsBeginning}
+use Rattle.encoding_text.specs.declared.decoder.pending.Resumed.TheVariants.{Stuck}
 use Rattle.encoding_text.proofs.EncodingLemmas.{scalar_of_sequence}
 use Rattle.encoding_text.proofs.FrontsLemmas.{WritesFront-nil, WritesFront-length, WritesFront_after}
 use Rattle.encoding_text.proofs.CallLemmas.{broken_stuck}

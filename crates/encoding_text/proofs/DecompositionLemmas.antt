@@ -1,13 +1,13 @@
 -- The one list of parts of bytes: it exists, it is one, and its settled parts stay whatever follows.
-use Rattle.std.proofs.Common.{◌≡◌, ℕ, zero, suc, ◌+◌, ◌<◌, ◌≤◌, ◌⊎◌, inl, inr, Bool, true, List, [], ◌∷◌, ◌++◌, length, map, encode_utf8, encode_utf8_all, refl, sym, ap, ◌∙◌, arith, subst}
+use Rattle.std.proofs.Common.{◌≡◌, ℕ, zero, suc, ◌+◌, ◌≤◌, inl, inr, true, List, [], ◌∷◌, ◌++◌, length, map, encode_utf8, encode_utf8_all, refl, sym, ap, ◌∙◌, arith, subst}
 use Rattle.std.specs.List.{flat_map}
 use Rattle.std.specs.Str.{all_scalars}
 use Rattle.std.proofs.lemmas.Bool.{and_parts}
-use Rattle.std.proofs.lemmas.List.{length-append, append-nil, append_assoc, nil_from_length}
+use Rattle.std.proofs.lemmas.List.{length-append, append-nil, append_assoc}
 use Rattle.encoding_text.specs.Sequence.{IsBeginning}
-use Rattle.encoding_text.specs.Parts.{Part, Character, Broken, bytes_of, IsFirstPart, StartsWith, ArePartsOf, repaired_scalar, repaired_text, count_broken, characters_of, AreSettled}
+use Rattle.encoding_text.specs.Parts.{Part, Character, Broken, bytes_of, IsFirstPart, StartsWith, ArePartsOf, repaired_scalar, repaired_text, count_broken, AreSettled}
 use Rattle.encoding_text.proofs.SequenceLemmas.{decide_beginning}
-use Rattle.encoding_text.proofs.PartsLemmas.{has_first_part, part_bytes, same_first_part, IsFirstPart-append, first_open}
+use Rattle.encoding_text.proofs.PartsLemmas.{has_first_part, part_bytes, same_first_part, IsFirstPart-append}
 
 -- ---- runs of parts
 pub StartsWith-append : (bs : List ℕ) (ps : List Part) (mid : List ℕ) (qs : List Part) (rest : List ℕ) → StartsWith bs ps mid → StartsWith mid qs rest → StartsWith bs (ps ++ qs) rest

@@ -7,6 +7,7 @@ use Rattle.std.specs.Str.{chars, IsUtf8, IsCharBoundary}
 use Rattle.std.proofs.lemmas.Bool.{cases_lt}
 use Rattle.std.proofs.lemmas.List.{append-nil, length-append, length-drop, length-take-le, take_all, take_rest, take-append-drop}
 use Rattle.std.proofs.lemmas.Str.{length-encode, len_utf8_bounds, IsUtf8-take, IsUtf8-drop, chars-append, encodes-chars, IsCharBoundary-past_char}
+use Rattle.encoding_text.proofs.EncodingLemmas.{flat_map-encode_utf8}
 use Rattle.encoding_text.specs.Fronts.{FitsLongest, WritesFront}
 use Rattle.encoding_text.specs.Utf16.{Part16, Character16, Lone, utf8_of}
 use Rattle.encoding_text.specs.Encoding.{due_with_text, text_of, TextAnswers, IsEncoderTextCall}
@@ -17,10 +18,6 @@ use Rattle.encoding_text.proofs.FittingLemmas.{FitsLongest-cons, FitsLongest-map
 use borrow.Rule.Slice.PartMut.{put_mid}
 
 -- ---- the front of a text up to the last place where it may be cut
-encoded : (cs : List ℕ) → flat_map encode_utf8 cs ≡ encode_utf8_all cs
-encoded [] = refl
-encoded (c ∷ cs) = ap (λ xs. encode_utf8 c ++ xs) (encoded cs)
-
 module _ (text : List ℕ) (room n : ℕ) (u : IsUtf8 text) (b : IsCharBoundary text n) (within : n ≤ room)
     (nearest : (i : ℕ) → n < i → i ≤ room → IsCharBoundary text i → ⊥) where
   -- the characters in front of that place
@@ -28,13 +25,13 @@ module _ (text : List ℕ) (room n : ℕ) (u : IsUtf8 text) (b : IsCharBoundary 
   front = chars (take n text)
 
   front_text : flat_map encode_utf8 front ≡ take n text
-  front_text = encoded front ∙ encodes-chars (take n text) (IsUtf8-take text n u b)
+  front_text = flat_map-encode_utf8 front ∙ encodes-chars (take n text) (IsUtf8-take text n u b)
 
   front_length : length (flat_map encode_utf8 front) ≡ n
   front_length = ap length front_text ∙ length-take-le n text b.0
 
   rest_text : flat_map encode_utf8 (chars (drop n text)) ≡ drop n text
-  rest_text = encoded (chars (drop n text)) ∙ encodes-chars (drop n text) (IsUtf8-drop text n u b)
+  rest_text = flat_map-encode_utf8 (chars (drop n text)) ∙ encodes-chars (drop n text) (IsUtf8-drop text n u b)
 
   whole_text : front ++ chars (drop n text) ≡ chars text
   whole_text = sym (chars-append (take n text) (drop n text) (IsUtf8-take text n u b)) ∙ ap chars (take-append-drop n text)

@@ -1,8 +1,8 @@
 -- The well-formed sequences are the UTF-8 of the scalar values, one for each.
-use Rattle.std.proofs.Common.{◌≡◌, ℕ, ◌+◌, ◌-◌, ◌*◌, ◌/◌, ◌%◌, ◌<◌, ◌≤◌, ◌⊎◌, inl, inr, List, [], ◌∷◌, ◌++◌, length, encode_utf8, encode_utf8_all, refl, sym, ap, ◌∙◌, arith, subst, true}
+use Rattle.std.proofs.Common.{◌≡◌, ℕ, ◌+◌, ◌-◌, ◌*◌, ◌/◌, ◌%◌, ◌<◌, ◌≤◌, ◌⊎◌, inl, inr, List, [], ◌∷◌, ◌++◌, length, encode_utf8, encode_utf8_all, refl, sym, ap, ◌∙◌, arith}
 use Rattle.std.specs.Prelude.{IsTrue}
 use Rattle.std.specs.Char.{IsScalar}
-use Rattle.std.specs.Str.{IsUtf8}
+use Rattle.std.specs.List.{flat_map}
 use Rattle.std.proofs.str.Laws.{one, two, three, four}
 use Rattle.std.proofs.lemmas.Bool.{cases_lt}
 use Rattle.std.proofs.lemmas.Bool.Decides.{nat_tests}
@@ -13,7 +13,7 @@ use lib.Utf8.{low_scalar, scalar_cases}
 use Rattle.encoding_text.specs.Sequence.{IsSequence, IsBeginning, IsContinuation}
 use Rattle.encoding_text.proofs.SequenceLemmas.{HasShape, is_second, HasShape-IsSequence, IsSequence-HasShape}
 
-high_scalar : (c : ℕ) → 57344 ≤ c → c < 1114112 → IsScalar c
+pub high_scalar : (c : ℕ) → 57344 ≤ c → c < 1114112 → IsScalar c
 high_scalar c l h = grind (arith, nat_tests)
 
 -- the bytes are the UTF-8 of the scalar value c
@@ -122,3 +122,8 @@ length-encode_utf16-some c = grind (arith, nat_tests)
 -- UTF-16 has no more code units than UTF-8 has bytes
 pub length-encode_utf16-utf8 : (c : ℕ) → IsScalar c → length (encode_utf16 c) ≤ length (encode_utf8 c)
 length-encode_utf16-utf8 c h = let long = length-encode c in grind (arith, nat_tests)
+
+-- ---- joined
+pub flat_map-encode_utf8 : (cs : List ℕ) → flat_map encode_utf8 cs ≡ encode_utf8_all cs
+flat_map-encode_utf8 [] = refl
+flat_map-encode_utf8 (c ∷ cs) = ap (λ xs. encode_utf8 c ++ xs) (flat_map-encode_utf8 cs)

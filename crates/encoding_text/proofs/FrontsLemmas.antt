@@ -1,10 +1,10 @@
 -- Writing at the end of what was written, and when a front of characters is the longest that fits.
 use Rattle.std.proofs.Common.{◌≡◌, ℕ, ◌+◌, ◌-◌, ◌<◌, ◌≤◌, List, [], ◌∷◌, ◌++◌, length, take, drop, get_or, set, refl, sym, ap, ◌∙◌, arith, append_assoc, subst}
 use Rattle.std.specs.List.{flat_map}
-use Rattle.std.proofs.lemmas.List.{append-nil, take-append-drop, drop_more, set_at, length_push, length-set, drop_at, take_at, take_all, take_rest, drop_all, drop-drop, length-append, length-drop, take-append-le}
+use Rattle.std.proofs.lemmas.List.{append-nil, take-append-drop, drop_more, set_at, length_push, length-set, drop_at, take_at, take_all, take_rest, drop_all, drop-drop, length-append, length-drop}
 use Rattle.std.proofs.lemmas.Grind.{flat_map-append}
 use borrow.Rule.Slice.PartMut.{put_mid}
-use Rattle.encoding_text.specs.Fronts.{WritesFront, FitsLongest, IsLongestFront}
+use Rattle.encoding_text.specs.Fronts.{WritesFront, FitsLongest}
 
 -- ---- writing
 module _ {A : Type 0} where

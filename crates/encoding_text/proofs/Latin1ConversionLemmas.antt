@@ -8,6 +8,7 @@ use Rattle.std.proofs.lemmas.Grind.{common_steps}
 use Rattle.std.proofs.lemmas.List.{append-nil, length-append, length-take-le, take_all, take_more, take_rest, drop_more, take-append-drop, map_more}
 use Rattle.std.proofs.lemmas.Str.{encodes-append, encode_ascii, encodes-IsAscii, chars-IsAscii, chars-append, IsUtf8-from_ascii}
 use borrow.Rule.Slice.PartMut.{put_mid}
+use Rattle.encoding_text.proofs.EncodingLemmas.{flat_map-encode_utf8}
 use Rattle.encoding_text.specs.Fronts.{FitsLongest, WritesFront}
 use Rattle.encoding_text.specs.Latin1.{IsLatin1, IsUtf8Latin1}
 use Rattle.encoding_text.proofs.AsciiLemmas.{Each-take}
@@ -15,10 +16,6 @@ use Rattle.encoding_text.proofs.FrontsLemmas.{FitsLongest-stop, FitsLongest-all,
 use Rattle.encoding_text.proofs.Latin1Lemmas.{IsLatin1-behind, split_front, scalars_of_latin1}
 
 -- ---- fitting
-joined : (cs : List ℕ) → flat_map encode_utf8 cs ≡ encode_utf8_all cs
-joined [] = refl
-joined (c ∷ cs) = ap (λ xs. encode_utf8 c ++ xs) (joined cs)
-
 singles : (xs : List ℕ) → length (flat_map (λ (b : ℕ). b ∷ []) xs) ≡ length xs
 singles [] = refl
 singles (x ∷ xs) = omega (arith, singles xs)
@@ -31,7 +28,7 @@ latin1_fits_stop xs i room l h s =
     let done = take i xs in
     let b = slice_index xs i in
     let whole : done ++ b ∷ drop (i + 1) xs ≡ xs = ap (λ ys. done ++ ys) (sym (drop_more xs i 0 l)) ∙ take-append-drop i xs in
-    let out = joined done in
+    let out = flat_map-encode_utf8 done in
     let read : length (flat_map (λ (x : ℕ). x ∷ []) done) ≡ i = singles done ∙ length-take-le i xs (omega arith) in
     let stop = FitsLongest-stop (λ (x : ℕ). x ∷ []) encode_utf8 done b (drop (i + 1) xs) room (rw out h) (rw out s) in
     rw (whole, read, out) at stop
@@ -42,8 +39,8 @@ pub latin1_fits_all : (xs : List ℕ) (i room : ℕ) → i ≤ length xs → len
 latin1_fits_all xs i room l m h =
     let all : take i xs ≡ xs = take_all i xs m in
     let n : i ≡ length xs = omega arith in
-    let fits = FitsLongest-all (λ (x : ℕ). x ∷ []) encode_utf8 xs room (rw (joined xs) (rw all at h)) in
-    rw (all, n) (rw (singles xs, joined xs) at fits)
+    let fits = FitsLongest-all (λ (x : ℕ). x ∷ []) encode_utf8 xs room (rw (flat_map-encode_utf8 xs) (rw all at h)) in
+    rw (all, n) (rw (singles xs, flat_map-encode_utf8 xs) at fits)
 
 length_two : (c : ℕ) → c < 256 → length (encode_utf8 c) ≤ 2
 length_two c h = elim (cases_lt c 128) [
@@ -74,10 +71,10 @@ pub latin1_fits_twice : (xs : List ℕ) (room read : ℕ) (out : List ℕ) → (
 latin1_fits_twice xs room read out h l f =
     let all : take (length xs) xs ≡ xs = take_all (length xs) xs (omega arith) in
     let whole : f.count ≡ length xs = elim (cases_lt f.count (length xs)) [
-      | inl p ↦ absurd (omega (arith, f.longest p, ap length (joined (take (f.count + 1) xs)), twice (take (f.count + 1) xs) (below_take xs (f.count + 1) h), length-take-le (f.count + 1) xs (omega arith)))
+      | inl p ↦ absurd (omega (arith, f.longest p, ap length (flat_map-encode_utf8 (take (f.count + 1) xs)), twice (take (f.count + 1) xs) (below_take xs (f.count + 1) h), length-take-le (f.count + 1) xs (omega arith)))
       | inr p ↦ omega (arith, f.within)
     ] in
-    f.written ∙ joined (take f.count xs) ∙ ap (λ n. encode_utf8_all (take n xs)) whole ∙ ap encode_utf8_all all
+    f.written ∙ flat_map-encode_utf8 (take f.count xs) ∙ ap (λ n. encode_utf8_all (take n xs)) whole ∙ ap encode_utf8_all all
 
 -- ---- one more character as a byte
 low_or : (c : ℕ) → 128 ≤ c → c < 192 → bit_or 128 (bit_and (128 + c % 64) 63) ≡ c

@@ -1,20 +1,18 @@
 -- The repaired text is std's `utf8_lossy`.
-use Rattle.std.proofs.Common.{◌≡◌, ℕ, suc, ◌+◌, ◌<◌, ◌≤◌, ◌⊎◌, inl, inr, Bool, true, false, List, [], ◌∷◌, ◌++◌, length, take, drop, encode_utf8, encode_utf8_all, refl, sym, ap, ◌∙◌, arith, subst}
-use Rattle.std.specs.Prelude.{IsTrue}
+use Rattle.std.proofs.Common.{◌≡◌, ℕ, ◌<◌, ◌≤◌, inl, inr, true, List, [], ◌∷◌, ◌++◌, length, take, drop, encode_utf8, encode_utf8_all, refl, sym, ap, ◌∙◌, arith, subst}
 use Rattle.std.specs.Str.{all_scalars, IsUtf8, StartsWithNoChar}
-use Rattle.std.specs.Str.Lossy.{utf8_lossy, utf8_valid_len, utf8_invalid_len, utf8_error_len, error_len_of_some, replacement_bytes, second_byte_min, second_byte_max}
-use Rattle.std.specs.Option.{unwrap_or}
+use Rattle.std.specs.Str.Lossy.{utf8_lossy, utf8_valid_len, utf8_invalid_len, replacement_bytes, second_byte_min, second_byte_max}
 use Rattle.std.specs.Int.{is_in_range}
 use Rattle.std.proofs.lemmas.Bool.Decides.{nat_tests}
-use Rattle.std.proofs.lemmas.Bool.{and_from, and_parts, true≢false}
+use Rattle.std.proofs.lemmas.Bool.{and_from}
 use Rattle.std.proofs.lemmas.List.{append-nil, append_assoc, length-append, take_at, drop_at}
 use Rattle.std.proofs.lemmas.Str.{utf8_lossy-IsUtf8, utf8_lossy_chunk, utf8_valid_len-IsValidUpTo, encodes-append}
 use Rattle.std.proofs.str.Faults.{valid_to}
 use Rattle.std.proofs.str.Lossy.{utf8_error_len_some}
 use Rattle.std.proofs.str.Laws.{scalars-append}
 use lib.Utf8.{encode}
-use Rattle.encoding_text.specs.Sequence.{IsSequence, IsBeginning, BeginsNothing, IsSecond, IsContinuation}
-use Rattle.encoding_text.specs.Parts.{Part, Character, Broken, BeginsWithNoCharacter, IsLongestBeginning, IsLoneByte, IsFirstPart, StartsWith, ArePartsOf, repaired_text}
+use Rattle.encoding_text.specs.Sequence.{IsBeginning, BeginsNothing, IsSecond, IsContinuation}
+use Rattle.encoding_text.specs.Parts.{Part, Character, Broken, BeginsWithNoCharacter, IsLongestBeginning, IsFirstPart, ArePartsOf, repaired_text}
 use Rattle.encoding_text.proofs.SequenceLemmas.{HasOpenShape, HasOpenShape-IsBeginning, IsBeginning-HasOpenShape, second_more, second_goes_on, third_goes_on}
 use Rattle.encoding_text.proofs.EncodingLemmas.{IsSequence-encode}
 use Rattle.encoding_text.proofs.PartsLemmas.{IsStuck, stuck_part, lone_part, part_bytes}

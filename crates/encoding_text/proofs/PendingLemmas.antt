@@ -2,7 +2,7 @@
 use Rattle.std.proofs.Common.{◌≡◌, ◌≢◌, ℕ, ◌+◌, ◌<◌, ◌≤◌, ◌⊎◌, inl, inr, List, [], ◌∷◌, ◌++◌, length, take, drop, set, slice_index, refl, sym, ap, ◌∙◌, arith, subst}
 use Rattle.std.proofs.lemmas.List.{take_more_set, drop_more, nil_from_length, take_at, length-take, length-set, length-append, get_or-take, get_or-set_other}
 use Rattle.std.proofs.lemmas.Bool.{cases_lt}
-use Rattle.encoding_text.specs.Sequence.{IsSequence, IsBeginning, IsSecond, IsContinuation}
+use Rattle.encoding_text.specs.Sequence.{IsSequence, IsBeginning}
 use Rattle.encoding_text.specs.Pending.{IsPending, GoesOn}
 use Rattle.encoding_text.specs.Resuming.{IsStuck}
 use Rattle.encoding_text.proofs.SequenceLemmas.{HasShape, HasOpenShape, HasShape-IsSequence, IsSequence-HasShape, HasOpenShape-IsBeginning, IsBeginning-HasOpenShape, length-IsBeginning, second_two, second_more, second_from, second_two_from}

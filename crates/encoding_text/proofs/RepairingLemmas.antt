@@ -1,16 +1,15 @@
 -- Calls and U+FFFD in turn: what is written is the text of the first parts of the source.
-use Rattle.std.proofs.Common.{◌≡◌, ℕ, ◌+◌, ◌-◌, ◌<◌, ◌≤◌, Bool, true, List, [], ◌∷◌, ◌++◌, length, map, take, drop, set, encode_utf8_all, refl, sym, ap, ◌∙◌, arith, subst, inl, inr}
+use Rattle.std.proofs.Common.{◌≡◌, ℕ, ◌+◌, ◌-◌, ◌<◌, ◌≤◌, true, List, [], ◌∷◌, ◌++◌, length, map, take, drop, set, encode_utf8_all, refl, sym, ap, ◌∙◌, arith, subst}
 use Rattle.std.specs.Char.Escape.{encode_utf16}
 use Rattle.std.specs.List.{flat_map}
 use Rattle.std.specs.Str.{all_scalars}
-use Rattle.std.proofs.lemmas.List.{append-nil, append_assoc, length-append, length-drop, length-take, take_rest, drop-drop, take-append-drop}
+use Rattle.std.proofs.lemmas.List.{append_assoc, length-append, length-drop, length-take, take_rest, drop-drop, take-append-drop}
 use Rattle.std.proofs.lemmas.Grind.{flat_map-append}
 use borrow.Rule.Slice.PartMut.{put_mid}
 use Rattle.encoding_text.specs.Parts.{Part, Character, Broken, IsFirstPart, StartsWith, ArePartsOf, repaired_scalar, repaired_utf16}
 use Rattle.encoding_text.specs.Fronts.{WritesFront}
-use Rattle.encoding_text.specs.Decoding.{IsBroken, IsCall, Answers, Decodes, Suffices, SufficesReplacing, IsReport, utf16_room}
-use Rattle.encoding_text.specs.declared.decoder.DecoderResult.{DecoderResult}
-use Rattle.encoding_text.specs.declared.decoder.DecoderResult.TheVariants.{InputEmpty, OutputFull, Malformed}
+use Rattle.encoding_text.specs.Decoding.{Decodes}
+use Rattle.encoding_text.specs.declared.decoder.DecoderResult.TheVariants.{InputEmpty, Malformed}
 use Rattle.encoding_text.proofs.CallPartsLemmas.{broken_first}
 use Rattle.encoding_text.proofs.DecompositionLemmas.{StartsWith-append, StartsWith-one, StartsWith-characters}
 use Rattle.encoding_text.proofs.FrontsLemmas.{WritesFront-nil, WritesFront-length, WritesFront-same, WritesFront_after, WritesFront_push}

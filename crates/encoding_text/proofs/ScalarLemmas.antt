@@ -1,10 +1,9 @@
 -- The scalar value of a sequence, from the bits of its bytes.
-use Rattle.std.proofs.Common.{◌≡◌, ℕ, ◌+◌, ◌-◌, ◌*◌, ◌/◌, ◌%◌, ◌<◌, ◌≤◌, ◌^◌, List, [], ◌∷◌, length, slice_index, encode_utf8, bit_and, bit_or, refl, sym, ap, ◌∙◌, arith, subst}
-use Rattle.std.specs.Char.{IsScalar}
+use Rattle.std.proofs.Common.{◌≡◌, ℕ, ◌+◌, ◌-◌, ◌*◌, ◌%◌, ◌<◌, ◌≤◌, ◌^◌, List, [], ◌∷◌, length, slice_index, bit_and, bit_or, sym, ap, ◌∙◌, arith, subst}
 use Rattle.std.proofs.lemmas.Grind.{common_steps}
 use Rattle.std.proofs.lemmas.Nat.{or_shifted}
 use Rattle.encoding_text.specs.Sequence.{IsSequence}
-use Rattle.encoding_text.proofs.SequenceLemmas.{HasShape, HasShape-IsSequence}
+use Rattle.encoding_text.proofs.SequenceLemmas.{HasShape-IsSequence}
 use Rattle.encoding_text.proofs.EncodingLemmas.{SpelledBy, second_three, second_four, spells_two, spells_three, spells_four}
 
 low_five : (a : ℕ) → 0xC2 ≤ a → a ≤ 0xDF → bit_and a 0x1F ≡ a - 192

@@ -1,12 +1,12 @@
 -- Which bytes are sequences and which are beginnings, and what follows from the rows of the table.
-use Rattle.std.proofs.Common.{◌≡◌, ℕ, suc, ◌+◌, ◌-◌, ◌*◌, ◌/◌, ◌%◌, ◌<◌, ◌≤◌, ◌⊎◌, inl, inr, Bool, true, false, ◌&&◌, ◌||◌, List, [], ◌∷◌, ◌++◌, length, encode_utf8, refl, sym, ap, ◌∙◌, arith, subst, nat_le, slice_index, take, drop, if◌then◌else◌, ◌==◌, ◌≢◌, ◌↔◌}
-use Rattle.std.proofs.lemmas.Bool.{and_parts, and_from, or_cases, or_left, or_right, true≢false, cases_Bool, false_from_ne_true, both_ways, leb-true, le-leb, eq-eqb, cond_both, cases_lt}
+use Rattle.std.proofs.Common.{◌≡◌, ℕ, suc, ◌<◌, ◌≤◌, ◌⊎◌, inl, inr, Bool, true, false, ◌&&◌, ◌||◌, List, [], ◌∷◌, ◌++◌, length, refl, sym, ap, arith, subst, nat_le, slice_index, take, if◌then◌else◌, ◌==◌, ◌≢◌, ◌↔◌}
+use Rattle.std.proofs.lemmas.Bool.{and_parts, and_from, or_cases, or_left, or_right, true≢false, cases_Bool, both_ways, leb-true, le-leb, eq-eqb, cond_both, cases_lt}
 use Rattle.std.proofs.lemmas.Bool.Decides.{nat_tests}
-use Rattle.std.proofs.lemmas.List.{length-append, append-nil, append_assoc}
+use Rattle.std.proofs.lemmas.List.{length-append, append_assoc}
 use Rattle.std.specs.Str.Lossy.{second_byte_min, second_byte_max}
 use Rattle.std.specs.Prelude.{IsTrue}
 use Rattle.encoding_text.specs.Parts.{BeginsWithNoCharacter}
-use Rattle.encoding_text.specs.Sequence.{rows, in_row, in_some_row, IsContinuation, IsSecond, IsSequence, IsBeginning, BeginsNothing}
+use Rattle.encoding_text.specs.Sequence.{rows, in_row, in_some_row, IsContinuation, IsSecond, IsSequence, IsBeginning}
 
 -- ---- beginnings, by a test on the rows
 -- the bytes are of the first ranges of the row, and a range is left

@@ -1,22 +1,16 @@
 -- Whole buffers in UTF-16: where the destination is as long as the source, all characters fit.
-use Rattle.std.proofs.Common.{◌≡◌, ℕ, ◌+◌, ◌<◌, ◌≤◌, Bool, true, List, [], ◌∷◌, ◌++◌, length, take, drop, encode_utf8, encode_utf8_all, refl, sym, ap, ◌∙◌, arith, subst, inl, inr}
+use Rattle.std.proofs.Common.{◌≡◌, ℕ, ◌+◌, ◌≤◌, List, length, take, encode_utf8, encode_utf8_all, sym, ap, ◌∙◌, arith, subst, inl, inr}
 use Rattle.std.specs.Char.Escape.{encode_utf16}
-use Rattle.std.specs.Str.{all_scalars, IsUtf8, chars}
+use Rattle.std.specs.Str.{IsUtf8, chars}
 use Rattle.std.specs.List.{flat_map}
 use Rattle.std.proofs.lemmas.Bool.{cases_lt}
-use Rattle.std.proofs.lemmas.Grind.{flat_map-append}
-use Rattle.std.proofs.lemmas.List.{length-append, length-take, take-append-drop, take_all}
+use Rattle.std.proofs.lemmas.List.{length-take, take_all}
 use Rattle.std.proofs.lemmas.Str.{chars_from_encodes}
 use Rattle.encoding_text.specs.Fronts.{WritesFront}
 use Rattle.encoding_text.specs.Converting.{IsText, ConvertsLongest, WritesText}
-use Rattle.encoding_text.proofs.ConvertingLemmas.{encodes_flat}
+use Rattle.encoding_text.proofs.EncodingLemmas.{flat_map-encode_utf8}
+use Rattle.encoding_text.proofs.FittingLemmas.{length-front}
 use Rattle.encoding_text.proofs.RoomLemmas.{length-utf16}
-
-length-flat_map-take : (n : ℕ) (cs : List ℕ) → length (flat_map encode_utf16 (take n cs)) ≤ length (flat_map encode_utf16 cs)
-length-flat_map-take n cs =
-    let split : flat_map encode_utf16 cs ≡ flat_map encode_utf16 (take n cs) ++ flat_map encode_utf16 (drop n cs) =
-    ap (flat_map encode_utf16) (sym (take-append-drop n cs)) ∙ flat_map-append encode_utf16 (take n cs) (drop n cs) in
-    omega (arith, ap length split, length-append (flat_map encode_utf16 (take n cs)) (flat_map encode_utf16 (drop n cs)))
 
 text_length : (src cs : List ℕ) → (t : IsText src cs) → length (encode_utf8_all cs) ≡ t.valid
 text_length src cs t = ap length t.spelled ∙ omega (arith, length-take t.valid src, t.front.within)
@@ -25,12 +19,12 @@ text_length src cs t = ap length t.spelled ∙ omega (arith, length-take t.valid
 pub whole_fits : (src old new : List ℕ) (read written : ℕ) → (d : ConvertsLongest encode_utf16 src old new read written) → length src ≤ length old
     → (read ≡ d.text.valid) × WritesFront old new written (flat_map encode_utf16 d.scalars)
 whole_fits src old new read written d l = elim (cases_lt d.longest.count (length d.scalars)) [
-  | inl h ↦ absurd (omega (arith, d.longest.longest h, length-flat_map-take (d.longest.count + 1) d.scalars, length-utf16 d.scalars d.text.are_scalars, text_length src d.scalars d.text, d.text.front.within, l))
+  | inl h ↦ absurd (omega (arith, d.longest.longest h, length-front encode_utf16 d.scalars (d.longest.count + 1), length-utf16 d.scalars d.text.are_scalars, text_length src d.scalars d.text, d.text.front.within, l))
   | inr h ↦
       let all : take d.longest.count d.scalars ≡ d.scalars = take_all d.longest.count d.scalars h in
       let taken : read ≡ length (flat_map encode_utf8 d.scalars) = d.longest.taken ∙ ap (λ xs. length (flat_map encode_utf8 xs)) all in
       let out : d.out ≡ flat_map encode_utf16 d.scalars = d.longest.written ∙ ap (flat_map encode_utf16) all in
-      (taken ∙ ap length (sym (encodes_flat d.scalars)) ∙ text_length src d.scalars d.text, subst (λ xs. WritesFront old new written xs) out d.writes)
+      (taken ∙ ap length (flat_map-encode_utf8 d.scalars) ∙ text_length src d.scalars d.text, subst (λ xs. WritesFront old new written xs) out d.writes)
 ]
 
 -- of a text

@@ -13,10 +13,8 @@ use Rattle.std.specs.Char.{len_utf8}
 use Rattle.std.proofs.lemmas.Str.{length-encode, len_utf8_bounds}
 use Rattle.std.proofs.str.Utf16.{one_unit, two_units, pair_units, IsPair}
 use lib.Utf8.{low_scalar, scalar_cases}
+use Rattle.encoding_text.proofs.EncodingLemmas.{high_scalar}
 use Rattle.encoding_text.specs.Utf16.{AreUnits, IsHighSurrogate, IsLowSurrogate, Part16, Character16, Lone, units_of, utf8_of, IsPart16, ArePaired, ArePartsOf16, BeginsLow, IsFirstPart16}
-
-high_scalar : (c : ℕ) → 57344 ≤ c → c < 1114112 → IsScalar c
-high_scalar c l h = grind (arith, nat_tests)
 
 -- ---- the parts, from the left
 -- the part that is a unit in no pair

@@ -1,10 +1,9 @@
 -- The longest well-formed front, character by character.
-use Rattle.std.proofs.Common.{◌≡◌, ℕ, ◌+◌, ◌-◌, ◌<◌, ◌≤◌, ◌≢◌, ◌⊎◌, inl, inr, List, [], ◌∷◌, ◌++◌, length, take, drop, encode_utf8, refl, sym, ap, ◌∙◌, arith, subst, take-add}
-use Rattle.std.specs.Char.{IsScalar}
+use Rattle.std.proofs.Common.{◌≡◌, ℕ, ◌+◌, ◌<◌, ◌≤◌, inl, inr, List, [], ◌∷◌, length, take, drop, encode_utf8, refl, sym, ap, ◌∙◌, arith, subst, take-add}
 use Rattle.std.specs.Str.{IsUtf8, StartsWithNoChar}
 use Rattle.std.proofs.lemmas.Bool.{cases_lt}
 use Rattle.std.proofs.lemmas.List.{take_at, length-append, length-drop}
-use Rattle.std.proofs.lemmas.Str.{IsUtf8-append, IsUtf8-encode, IsUtf8-nil}
+use Rattle.std.proofs.lemmas.Str.{IsUtf8-append, IsUtf8-encode}
 use Rattle.std.proofs.str.Faults.{valid_to}
 use Rattle.encoding_text.specs.Sequence.{IsSequence}
 use Rattle.encoding_text.specs.Parts.{BeginsWithNoCharacter}

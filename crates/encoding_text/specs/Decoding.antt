@@ -1,7 +1,6 @@
 -- What a conversion and a decode call may answer: Encoding Standard, UTF-8 decoder.
-use Rattle.std.specs.Prelude.{◌≡◌, ◌≢◌, ℕ, ◌+◌, ◌-◌, ◌*◌, ◌<◌, ◌≤◌, Bool, true, false, List, [], ◌∷◌, ◌++◌, length, take, drop, ◌⊎◌, encode_utf8, encode_utf8_all}
-use Rattle.std.specs.Str.{all_scalars, IsUtf8}
-use Rattle.std.specs.Char.{IsScalar}
+use Rattle.std.specs.Prelude.{◌≡◌, ◌≢◌, ℕ, ◌+◌, ◌-◌, ◌*◌, ◌<◌, ◌≤◌, Bool, true, false, List, [], ◌∷◌, ◌++◌, length, take, drop, ◌⊎◌, encode_utf8_all}
+use Rattle.std.specs.Str.{all_scalars}
 use Rattle.std.specs.List.{flat_map}
 use Rattle.encoding_text.specs.Sequence.{IsSequence, IsBeginning, BeginsNothing}
 use Rattle.encoding_text.specs.Pending.{IsPending}

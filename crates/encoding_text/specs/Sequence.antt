@@ -1,5 +1,5 @@
 -- Well-formed UTF-8 byte sequences: Unicode Standard, Table 3-7.
-use Rattle.std.specs.Prelude.{◌≡◌, ℕ, ◌<◌, ◌≤◌, Bool, true, false, ◌&&◌, ◌||◌, List, [], ◌∷◌, ◌++◌, length, ◌⊎◌, nat_le, IsTrue}
+use Rattle.std.specs.Prelude.{ℕ, ◌<◌, ◌≤◌, Bool, true, false, ◌&&◌, ◌||◌, List, [], ◌∷◌, ◌++◌, length, ◌⊎◌, nat_le, IsTrue}
 use Rattle.std.specs.Str.Lossy.{second_byte_min, second_byte_max}
 
 -- the nine rows of the table: of each byte of a sequence, the least and the greatest value

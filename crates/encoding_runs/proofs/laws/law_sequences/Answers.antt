@@ -1,4 +1,4 @@
-use Rattle.std.proofs.Common.{[], ap, ◌∙◌, sym}
+use Rattle.std.proofs.Common.{[], ◌∙◌, sym}
 use Rattle.std.proofs.lemmas.List.{append-nil}
 use Rattle.std.proofs.lemmas.Str.{encode_same}
 use Rattle.encoding_text.proofs.EncodingLemmas.{scalar_of_sequence, IsSequence-encode, sequence_ends}

@@ -1,4 +1,4 @@
-use Rattle.std.proofs.Common.{◌≡◌, ◌∙◌, ◌+◌, ℕ, arith, subst}
+use Rattle.std.proofs.Common.{◌≡◌, ◌∙◌, ◌+◌, arith}
 use Rattle.std.proofs.lemmas.Result.{err_from_is_err_and}
 use Rattle.encoding_runs.proofs.RepairLemmas.{WritesParts-trans, Stops-after, wrote_count}
 use Rattle.encoding_runs.proofs.repair.engine.repair_slice.Goals as goal

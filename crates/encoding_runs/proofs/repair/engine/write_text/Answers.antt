@@ -1,7 +1,5 @@
-use Rattle.std.proofs.Common.{refl, sym, subst, ◌≡◌, take, drop}
 use Rattle.std.proofs.lemmas.Result.{err_from_is_err_and}
 use Rattle.std.proofs.KnownBytes.{Appends-nil}
-use Rattle.encoding_text.specs.Parts.{BeginsWithNoCharacter}
 use Rattle.encoding_text.proofs.Utf8Lemmas.{no_character_after}
 use Rattle.encoding_runs.proofs.RepairLemmas.{WritesParts-nil, wrote_text, stopped_text}
 use Rattle.encoding_runs.proofs.repair.engine.write_text.Goals as goal

@@ -1,4 +1,4 @@
-use Rattle.std.proofs.Common.{◌≡◌, ◌+◌, ◌≤◌, ◌-◌, arith, length, take, drop, take-add, ap, ◌∙◌, sym}
+use Rattle.std.proofs.Common.{arith, length, take-add, ap, ◌∙◌}
 use Rattle.std.proofs.lemmas.List.{take_rest, length-drop}
 use Rattle.std.proofs.KnownBytes.{Appends-trans}
 use Rattle.encoding_runs.proofs.repair.engine.write_whole.Goals as goal

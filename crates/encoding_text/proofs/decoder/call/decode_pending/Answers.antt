@@ -1,4 +1,4 @@
-use Rattle.std.proofs.Common.{arith, refl, sym, ap, subst, inr, ◌∙◌, ◌≡◌, ◌≢◌, ◌<◌, ◌++◌, [], length, take}
+use Rattle.std.proofs.Common.{arith, sym, ap, inr, ◌∙◌, ◌≡◌, ◌≢◌, ◌<◌, ◌++◌, [], length, take}
 use Rattle.std.proofs.lemmas.Bool.{eqb-true, eqb-false}
 use Rattle.std.proofs.lemmas.List.{take_rest, append-nil, nil_from_length, length-append, length-take}
 use Rattle.encoding_text.proofs.SequenceLemmas.{length-IsBeginning}

@@ -1,4 +1,4 @@
-use Rattle.std.proofs.Common.{◌≡◌, ◌+◌, ◌-◌, ◌<◌, ◌≤◌, refl, sym, ap, arith, [], length, take, drop}
+use Rattle.std.proofs.Common.{◌+◌, ◌-◌, ◌<◌, ◌≤◌, arith, length}
 use Rattle.std.proofs.lemmas.List.{take_rest, length-drop, length-set}
 use borrow.Rule.Slice.PartMut.{put_mid}
 use Rattle.encoding_text.proofs.FrontsLemmas.{WritesFront-length}

@@ -1,4 +1,4 @@
-use Rattle.std.proofs.Common.{◌≡◌, ◌+◌, ◌-◌, ◌<◌, ◌≤◌, [], length}
+use Rattle.std.proofs.Common.{◌≡◌, ◌+◌, ◌-◌, ◌<◌, [], length}
 use Rattle.encoding_text.proofs.RepairingLemmas.{Repaired}
 use Rattle.encoding_text.proofs.mem.to_utf16.convert_utf8_to_utf16.Given as goal
 

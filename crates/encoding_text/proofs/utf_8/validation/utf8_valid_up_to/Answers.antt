@@ -1,4 +1,4 @@
-use Rattle.std.proofs.Common.{◌≡◌, ◌+◌, ◌-◌, ◌≤◌, arith, length, take, drop, ap, ◌∙◌}
+use Rattle.std.proofs.Common.{arith}
 use Rattle.std.proofs.lemmas.List.{take_rest, length-drop}
 use Rattle.encoding_text.proofs.Utf8Lemmas.{IsUtf8_more, IsLongestFront-utf8}
 use Rattle.encoding_text.proofs.utf_8.validation.utf8_valid_up_to.Goals as goal

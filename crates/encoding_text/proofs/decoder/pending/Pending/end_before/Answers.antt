@@ -1,4 +1,4 @@
-use Rattle.std.proofs.Common.{◌≤◌, arith, refl, sym}
+use Rattle.std.proofs.Common.{arith, refl}
 use Rattle.std.proofs.lemmas.List.{take_rest}
 use Rattle.encoding_text.proofs.CallLemmas.{lone_before, begins_before, ended_before, stuck_before, no_whole_before}
 use Rattle.encoding_text.proofs.decoder.pending.Pending.end_before.Goals as goal

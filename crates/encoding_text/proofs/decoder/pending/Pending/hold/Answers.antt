@@ -1,6 +1,5 @@
-use Rattle.std.proofs.Common.{ℕ, List, arith, inr, sym, subst, ap, length, take, drop, ◌≡◌, ◌++◌, [], ◌∷◌}
+use Rattle.std.proofs.Common.{ℕ, arith, inr, length, ◌≡◌, [], ◌∷◌}
 use Rattle.std.proofs.lemmas.List.{length-take}
-use Rattle.encoding_text.specs.Sequence.{IsBeginning}
 use Rattle.encoding_text.proofs.SequenceLemmas.{length-IsBeginning}
 use Rattle.encoding_text.proofs.PendingLemmas.{held}
 use Rattle.encoding_text.proofs.decoder.pending.Pending.hold.Goals as goal

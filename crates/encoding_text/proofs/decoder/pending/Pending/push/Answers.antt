@@ -1,4 +1,4 @@
-use Rattle.std.proofs.Common.{◌≡◌, ◌∙◌, refl, sym, subst}
+use Rattle.std.proofs.Common.{◌∙◌, refl, sym, subst}
 use Rattle.std.proofs.lemmas.Bool.{both_ways}
 use Rattle.encoding_text.specs.Pending.{IsPending}
 use Rattle.encoding_text.proofs.PendingLemmas.{pushed_stuck, pushed_whole, pushed_longer}
