@@ -215,7 +215,7 @@ module _ {A : Type 0} (encode : ℕ → List A) (need : ℕ) where
       ap (λ xs. p ++ xs) (take-add read more src) ∙ sym (append_assoc p (take read src) (take more (drop read src))) ∙ (λ i. e i ++ f i)
       ∙ sym (append_assoc (encode_utf8 c) (encode_utf8_all cs) rest)
 
-  answer_behind : (p src : List ℕ) (c read : ℕ) (cs : List ℕ) (last : Bool) (result : DecoderResult) (more left left' : ℕ) (q : List ℕ) → p ++ take read src ≡ encode_utf8 c → read ≤ length src → left ≡ left'
+  pub answer_behind : (p src : List ℕ) (c read : ℕ) (cs : List ℕ) (last : Bool) (result : DecoderResult) (more left left' : ℕ) (q : List ℕ) → p ++ take read src ≡ encode_utf8 c → read ≤ length src → left ≡ left'
       → Answers encode need [] (drop read src) last result more cs left q → Answers encode need p src last result (read + more) (c ∷ cs) left' q
   answer_behind p src c read cs last InputEmpty more left left' q e within same (all, whole, ended, room) = (
     omega (arith, all, length-drop read src, within),

@@ -24,3 +24,5 @@ pub mod Utf8WriteLemmas
 pub mod EncoderLemmas
 pub mod EncoderTextLemmas
 pub mod Utf16LawLemmas
+pub mod HasAnswerLemmas
+pub mod OneAnswerLemmas

@@ -133,6 +133,10 @@ in_some_row-length n (row ∷ more) bs s e =
       | inr q ↦ in_some_row-length n more bs parts.1 q
     ]
 
+pub IsSequence-some : (bs : List ℕ) → IsSequence bs → 0 < length bs
+IsSequence-some [] s = cc
+IsSequence-some (b ∷ bs) s = omega arith
+
 pub length-IsSequence : (bs : List ℕ) → IsSequence bs → length bs ≤ 4
 length-IsSequence bs s = in_some_row-length 4 rows bs refl s
 

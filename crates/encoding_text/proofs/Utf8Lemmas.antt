@@ -8,6 +8,7 @@ use Rattle.std.proofs.str.Faults.{valid_to}
 use Rattle.encoding_text.specs.Sequence.{IsSequence}
 use Rattle.encoding_text.specs.Parts.{BeginsWithNoCharacter}
 use Rattle.encoding_text.specs.Fronts.{IsLongestFront}
+use Rattle.encoding_text.proofs.SequenceLemmas.{IsSequence-some}
 use Rattle.encoding_text.proofs.EncodingLemmas.{scalar_of_sequence, IsSequence-encode}
 
 pub IsUtf8-sequence : (bs : List ℕ) → IsSequence bs → IsUtf8 bs
@@ -38,7 +39,3 @@ no_character_after bs n l front rest e s =
     let total : n + length front ≤ length bs = omega (arith, l.within, ap length e, length-append front rest, length-drop n bs) in
     let more = l.longest (n + length front) total (IsUtf8_more bs n (length front) l.kind (subst IsSequence (sym next) s)) in
     omega arith
-  where
-    IsSequence-some : (front : List ℕ) → IsSequence front → 0 < length front
-    IsSequence-some [] h = cc
-    IsSequence-some (b ∷ bs) h = omega arith
