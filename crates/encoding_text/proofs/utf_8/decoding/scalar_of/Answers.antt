@@ -1,8 +1,5 @@
-use Rattle.std.proofs.Common.{arith}
-use Rattle.encoding_text.proofs.SequenceLemmas.{IsSequence-some, length-IsSequence}
 use Rattle.encoding_text.proofs.ScalarLemmas.{scalar_one, scalar_two, scalar_three, scalar_four}
 use Rattle.encoding_text.proofs.utf_8.decoding.scalar_of.Goals as goal
-use Rattle.encoding_text.proofs.utf_8.decoding.scalar_of.Goals.{in_default-via-then-bytes-lt1, in_default-via-else-bytes-lt1+else-bytes-lt2+else-bytes-lt3+else-bytes-lt4+else-bytes-lt5}
 
 pub returns-in-len1-clause-scalar : goal.returns-in-len1-clause-scalar
 returns-in-len1-clause-scalar c = (scalar_one _ _ c.requires.sequence c.in-len1.len_at_least c.in-len1.len_below c.from.ensures).0
@@ -33,12 +30,3 @@ returns-in-len4-clause-scalar c =
 pub returns-in-len4-clause-spelled : goal.returns-in-len4-clause-spelled
 returns-in-len4-clause-spelled c =
     (scalar_four _ _ _ _ _ c.requires.sequence c.in-len4.len_at_least c.in-len4.len_below c.from-in-len4.ensures c.from-in-len4-2.ensures c.from-in-len4-3.ensures c.from-in-len4-4.ensures).1
-
-pub unreachable-requires : goal.unreachable-requires
-unreachable-requires c =
-    let some = IsSequence-some c.args.bytes.now c.requires.sequence in
-    let short = length-IsSequence c.args.bytes.now c.requires.sequence in
-    elim c.in_default.branch [
-      | in_default-via-then-bytes-lt1 w ↦ omega (arith, some)
-      | in_default-via-else-bytes-lt1+else-bytes-lt2+else-bytes-lt3+else-bytes-lt4+else-bytes-lt5 w ↦ omega (arith, short)
-    ]
