@@ -1,6 +1,6 @@
 //! ASCII fronts of bytes and of UTF-16 code units: where they end, and their copies.
 
-ghost use Rattle.std.specs.Prelude.{◌≡◌, take, length};
+ghost use Rattle.std.specs.Prelude.{take, length};
 ghost use Rattle.std.specs.Str.{IsAscii};
 ghost use Rattle.encoding_text.specs.Ascii.{IsFirstOther, front_length, IsIso2022JpAscii};
 ghost use Rattle.encoding_text.specs.Fronts.{IsLongestFront, WritesFront};

@@ -1,5 +1,5 @@
 // The engine: text goes out as it is, and U+FFFD for each broken part.
-ghost use Rattle.std.specs.Prelude.{◌≡◌, ℕ, ◌<◌, ◌≤◌, ◌↔◌, true, false, List, length, take, drop, IfOk, IfErr, IsTrue};
+ghost use Rattle.std.specs.Prelude.{◌≡◌, ℕ, ◌<◌, ◌≤◌, ◌↔◌, true, false, length, take, drop, IfOk, IfErr, IsTrue};
 ghost use Rattle.std.specs.Io.KnownBytes.{Appends};
 ghost use Rattle.encoding_text.specs.Sequence.{IsSecond, IsContinuation};
 ghost use Rattle.encoding_text.specs.Parts.{BeginsWithNoCharacter, IsFirstPart, Broken};

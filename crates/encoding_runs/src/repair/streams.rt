@@ -1,5 +1,5 @@
 // Streams that say whether they failed.
-ghost use Rattle.std.specs.Prelude.{◌≡◌, ℕ, ◌<◌, ◌≤◌, Bool, true, false, List, length, Option, IfSome};
+ghost use Rattle.std.specs.Prelude.{◌≡◌, ℕ, ◌<◌, ◌≤◌, Bool, false, List, length, Option, IfSome};
 ghost use Rattle.std.specs.Borrow.{GName};
 ghost use Rattle.encoding_runs.specs.Streams.{WriteMoves, FailsOnNone, watched_stream, watch_failed};
 

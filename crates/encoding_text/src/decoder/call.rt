@@ -1,5 +1,5 @@
 // One call of a decoder, to bytes or to code units.
-ghost use Rattle.std.specs.Prelude.{◌≡◌, ℕ, [], length};
+ghost use Rattle.std.specs.Prelude.{◌≡◌, []};
 ghost use Rattle.encoding_text.specs.Sequence.{IsBeginning};
 ghost use Rattle.encoding_text.specs.Pending.{IsPending};
 ghost use Rattle.encoding_text.specs.Decoding.{Decodes};

@@ -1,7 +1,7 @@
 //! Conversions from and to Latin1, in which each byte is the scalar value of its character. Infra Standard: isomorphic
 //! decode and encode.
 
-ghost use Rattle.std.specs.Prelude.{◌≡◌, ℕ, ◌*◌, ◌%◌, ◌≤◌, [], ◌∷◌, take, length, map, encode_utf8, encode_utf8_all};
+ghost use Rattle.std.specs.Prelude.{◌*◌, ◌%◌, ◌≤◌, [], ◌∷◌, take, length, map, encode_utf8, encode_utf8_all};
 ghost use Rattle.std.specs.Str.{chars};
 ghost use Rattle.encoding_text.specs.Fronts.{FitsLongest, WritesFront};
 ghost use Rattle.encoding_text.specs.Latin1.{IsUtf8Latin1};

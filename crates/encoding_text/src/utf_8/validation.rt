@@ -1,5 +1,5 @@
 // Where bytes stop being UTF-8.
-ghost use Rattle.std.specs.Prelude.{◌≡◌, ℕ, ◌<◌, ◌≤◌, ◌↔◌, length, take, drop, IfSome, IfNone, IsTrue};
+ghost use Rattle.std.specs.Prelude.{◌<◌, ◌≤◌, ◌↔◌, length, take, IfSome, IfNone, IsTrue};
 ghost use Rattle.std.specs.Str.{IsUtf8};
 ghost use Rattle.encoding_text.specs.Sequence.{IsSequence, IsSecond, IsContinuation};
 ghost use Rattle.encoding_text.specs.Parts.{BeginsWithNoCharacter};
