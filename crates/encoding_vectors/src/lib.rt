@@ -6,6 +6,10 @@ mod ascii_rows;
 #[cfg(test)]
 mod borrowed_rows;
 #[cfg(test)]
+mod decoder_parts;
+#[cfg(test)]
+mod decoder_rows;
+#[cfg(test)]
 mod decoder_vectors;
 #[cfg(test)]
 mod encoder_rows;
@@ -17,5 +21,7 @@ mod latin1_rows;
 mod repair_rows;
 #[cfg(test)]
 mod streams;
+#[cfg(test)]
+mod to_utf16_rows;
 #[cfg(test)]
 mod utf16_rows;
