@@ -107,7 +107,7 @@ impl Utf8Decoder {
         ensures suffices_replacing { SufficesReplacing utf16_room 1 self.old src.now (length dst.old)
             result.0 result.1 result.2 self.new }
     {
-        decode(&mut self.pending, src, dst, last)
+        decode::<u16>(&mut self.pending, src, dst, last)
     }
 
     /// Decodes to UTF-8: the answer, how many bytes of `src` were read, and how many bytes of `dst` written.
@@ -132,6 +132,6 @@ impl Utf8Decoder {
         ensures suffices_replacing { SufficesReplacing utf8_room_replacing 3 self.old src.now (length dst.old)
             result.0 result.1 result.2 self.new }
     {
-        decode(&mut self.pending, src, dst, last)
+        decode::<u8>(&mut self.pending, src, dst, last)
     }
 }
