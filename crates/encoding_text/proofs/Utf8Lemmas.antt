@@ -1,5 +1,5 @@
 -- The longest well-formed front, character by character.
-use Rattle.std.proofs.Common.{◌≡◌, ℕ, ◌+◌, ◌<◌, ◌≤◌, inl, inr, List, [], ◌∷◌, length, take, drop, encode_utf8, refl, sym, ap, ◌∙◌, arith, subst, take-add}
+use Rattle.std.proofs.Common.{◌≡◌, ℕ, ◌+◌, ◌<◌, ◌≤◌, inl, inr, List, length, take, drop, encode_utf8, refl, sym, ap, ◌∙◌, arith, subst, take-add}
 use Rattle.std.specs.Str.{IsUtf8, StartsWithNoChar}
 use Rattle.std.proofs.lemmas.Bool.{cases_lt}
 use Rattle.std.proofs.lemmas.List.{take_at, length-append, length-drop}
