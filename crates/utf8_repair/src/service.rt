@@ -166,8 +166,8 @@ pub(crate) fn report<E: Write>(status: u8, errors: &mut E)
 /// | 4 | a write failed or took no byte, or the flush failed | `utf8_repair: write fault` |
 /// | 5 | memory for the input was refused; nothing is written | `utf8_repair: no memory` |
 ///
-/// The whole input is held in memory before its first byte is written. The writer is flushed once it was written
-/// to, whatever came of that. Faults of `errors` change nothing.
+/// The whole input is held in memory before its first byte is written. After the writes the writer is flushed,
+/// whatever came of them. Faults of `errors` change nothing.
 pub fn serve<R: Read, W: Write, E: Write>(
     alloc: Global,
     arguments: usize,
