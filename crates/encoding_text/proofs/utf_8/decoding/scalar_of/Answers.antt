@@ -1,3 +1,5 @@
+use Rattle.std.proofs.Common.{rules}
+use Rattle.encoding_text.proofs.SequenceLemmas.{IsSequence-some, length-IsSequence}
 use Rattle.encoding_text.proofs.ScalarLemmas.{scalar_one, scalar_two, scalar_three, scalar_four}
 use Rattle.encoding_text.proofs.utf_8.decoding.scalar_of.Goals as goal
 
@@ -30,3 +32,7 @@ returns-in-len4-clause-scalar c =
 pub returns-in-len4-clause-spelled : goal.returns-in-len4-clause-spelled
 returns-in-len4-clause-spelled c =
     (scalar_four _ _ _ _ _ c.requires.sequence c.in-len4.len_at_least c.in-len4.len_below c.from-in-len4.ensures c.from-in-len4-2.ensures c.from-in-len4-3.ensures c.from-in-len4-4.ensures).1
+
+-- a sequence has one to four bytes
+pub unreachable-requires : goal.unreachable-requires
+unreachable-requires c = search (rules, IsSequence-some c.args.bytes.now c.requires.sequence, length-IsSequence c.args.bytes.now c.requires.sequence)
