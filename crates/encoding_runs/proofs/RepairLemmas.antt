@@ -7,7 +7,7 @@ use Rattle.std.proofs.lemmas.List.{append_assoc, length-append, length-drop, tak
 use lib.Utf8.{encode}
 use Rattle.encoding_text.specs.Parts.{Part, Character, Broken, IsFirstPart, StartsWith, repaired_text, count_broken}
 use Rattle.encoding_text.proofs.DecompositionLemmas.{StartsWith-append, StartsWith-one, StartsWith-characters, has_parts, repaired_text-append, repaired_text-characters, count_broken-append, count_broken-characters, count_broken-bytes}
-use Rattle.encoding_runs.specs.Repairs.{WritesParts, WritesRepaired, Stops}
+use Rattle.encoding_runs.specs.Repairs.{WritesParts, Stops}
 
 pub WritesParts-nil : (src : List ℕ) (old : Option (List ℕ)) → Appends old old [] → WritesParts src src old old 0
 WritesParts-nil src old a = record { parts = []; starts = refl; bytes = a; broken = refl }
@@ -81,10 +81,6 @@ pub stopped_replacement : (src rest x after : List ℕ) (old mid new : Option (L
     → k < 3 → Appends mid new (take k replacement) → Stops src old new
 unfolding encode
 stopped_replacement src rest x after old mid new n k w f short a = stopped_in src rest after old mid new n (Broken x ∷ []) k w (StartsWith-one rest (Broken x) after f) short a
-
--- all parts are written
-pub wrote_all : (src : List ℕ) (old new : Option (List ℕ)) (n : ℕ) → WritesParts src [] old new n → WritesRepaired src old new n
-wrote_all src old new n w = (repaired_text w.parts, (w.parts, w.starts, refl, w.broken), w.bytes)
 
 -- parts behind parts
 pub WritesParts-trans : (src rest after : List ℕ) (old mid new : Option (List ℕ)) (n m : ℕ) → WritesParts src rest old mid n → WritesParts rest after mid new m

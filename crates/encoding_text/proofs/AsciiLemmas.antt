@@ -3,7 +3,7 @@ use Rattle.std.proofs.Common.{◌≡◌, ℕ, ◌+◌, ◌<◌, ◌≤◌, inl, 
 use Rattle.std.specs.Str.{IsAscii}
 use Rattle.std.proofs.lemmas.Bool.{cases_lt}
 use Rattle.std.proofs.lemmas.List.{get_or-take, get_or_past, length-take, take_more}
-use Rattle.std.proofs.lemmas.Option.{slice_get-get_or, slice_get_within, get_or_from_slice_get}
+use Rattle.std.proofs.lemmas.Option.{slice_get-get_or}
 use Rattle.encoding_text.specs.Ascii.{IsFirstOther}
 use Rattle.encoding_text.specs.Fronts.{IsLongestFront, WritesFront}
 use Rattle.encoding_text.proofs.FrontsLemmas.{WritesFront_push}
@@ -43,13 +43,6 @@ module _ (P : ℕ → Type 0) (at_zero : P 0) where
 pub ascii_front_at : (xs : List ℕ) (n : ℕ) → n < length xs → ((k : ℕ) → k < n → slice_index xs k < 0x80) → 0x80 ≤ slice_index xs n → IsLongestFront IsAscii xs n
 ascii_front_at xs n l h s = front_before (λ b. b < 0x80) (omega arith) xs n (omega arith) h (λ _ low. omega arith)
 
--- the unit behind an ASCII front is from 0x80 on
-pub behind_ascii : (xs : List ℕ) (n : ℕ) → IsLongestFront IsAscii xs n → n < length xs → 0x80 ≤ slice_index xs n
-behind_ascii xs n f l = elim (cases_lt (slice_index xs n) 0x80) [
-  | inl p ↦ absurd (behind_front (λ b. b < 0x80) (omega arith) xs n f l p)
-  | inr p ↦ p
-]
-
 -- the first other unit, over so many places
 pub IsFirstOther-at : (xs : List ℕ) (room n : ℕ) → n < length xs → n < room → ((k : ℕ) → k < n → slice_index xs k < 0x80) → 0x80 ≤ slice_index xs n
     → IsFirstOther (take room xs) (Some (slice_index xs n, n))
@@ -59,13 +52,6 @@ IsFirstOther-at xs room n l m h s =
       slice_get-get_or (take room xs) n 0 short ∙ ap Some (same n m),
       ascii_front_at (take room xs) n short (λ k b. rw (same k (omega arith)) (h k b)) (rw (same n m) s),
     )
-
--- what a search found
-pub first_other_is : (xs : List ℕ) (unit place : ℕ) → IsFirstOther xs (Some (unit, place)) → (place < length xs) × (slice_index xs place ≡ unit) × (0x80 ≤ unit)
-first_other_is xs unit place f =
-    let inside = slice_get_within xs place unit f.0 in
-    let here : slice_index xs place ≡ unit = get_or_from_slice_get xs place unit 0 f.0 in
-    (inside, here, subst (λ u. 0x80 ≤ u) here (behind_ascii xs place f.1 inside))
 
 -- ---- a loop over the units
 -- one more unit is copied

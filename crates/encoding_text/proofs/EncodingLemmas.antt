@@ -10,7 +10,7 @@ use Rattle.std.proofs.lemmas.List.{append-nil}
 use Rattle.std.specs.Char.Escape.{encode_utf16}
 use Rattle.std.proofs.lemmas.Str.{encode_same, length-encode, len_utf8_bounds}
 use lib.Utf8.{low_scalar, scalar_cases}
-use Rattle.encoding_text.specs.Sequence.{IsSequence, IsBeginning, IsContinuation}
+use Rattle.encoding_text.specs.Sequence.{IsSequence, IsContinuation}
 use Rattle.encoding_text.proofs.SequenceLemmas.{HasShape, is_second, HasShape-IsSequence, IsSequence-HasShape}
 
 pub high_scalar : (c : ℕ) → 57344 ≤ c → c < 1114112 → IsScalar c
@@ -105,19 +105,12 @@ sequence_ends bs rest s t =
     let d = scalar_of_sequence (bs ++ rest) t in
     (encode_same c.0 d.0 rest [] (ap (λ xs. xs ++ rest) c.2 ∙ sym d.2 ∙ sym (append-nil (encode_utf8 d.0)))).1
 
--- a beginning is no sequence
-pub beginning_open : (bs : List ℕ) → IsBeginning bs → IsSequence bs → ⊥
-beginning_open bs b s = let none : length b.1 ≡ 0 = ap length (sequence_ends bs b.1 s b.3) in omega (arith, b.2)
-
 -- ---- lengths
 pub length-encode_utf8-le : (c : ℕ) → IsScalar c → length (encode_utf8 c) ≤ 4
 length-encode_utf8-le c h = omega (arith, length-encode c, len_utf8_bounds c)
 
 pub length-encode_utf16-le : (c : ℕ) → IsScalar c → length (encode_utf16 c) ≤ 2
 length-encode_utf16-le c h = grind (arith, nat_tests)
-
-pub length-encode_utf16-some : (c : ℕ) → 0 < length (encode_utf16 c)
-length-encode_utf16-some c = grind (arith, nat_tests)
 
 -- UTF-16 has no more code units than UTF-8 has bytes
 pub length-encode_utf16-utf8 : (c : ℕ) → IsScalar c → length (encode_utf16 c) ≤ length (encode_utf8 c)

@@ -132,9 +132,6 @@ latin1_stop bs i l h stop = latin1_front bs i l h (λ b.
     let more = known.2 (omega (arith, found.0)) in
     found.1 (omega (arith, more.0)) (omega (arith, known.1)) (omega (arith, length-drop i bs, more.1)) (omega (arith, more.2)) (omega (arith, more.3)))
 
-pub latin1_end : (bs : List ℕ) (i : ℕ) → i ≤ length bs → length bs ≤ i → IsUtf8Latin1 (take i bs) → IsLongestFront IsUtf8Latin1 bs i
-latin1_end bs i l m h = latin1_stop bs i l h (λ p. absurd (omega arith))
-
 -- ---- well-formed text, of which each byte before a place is below 0xC4, and the one there isn't
 record Stops (n : ℕ) (bs : List ℕ) : Type 0 where
   pub within : n ≤ length bs

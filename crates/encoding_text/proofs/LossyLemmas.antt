@@ -14,7 +14,7 @@ use lib.Utf8.{encode}
 use Rattle.encoding_text.specs.Sequence.{IsBeginning, BeginsNothing, IsSecond, IsContinuation}
 use Rattle.encoding_text.specs.Parts.{Part, Character, Broken, BeginsWithNoCharacter, IsLongestBeginning, IsFirstPart, ArePartsOf, repaired_text}
 use Rattle.encoding_text.proofs.SequenceLemmas.{HasOpenShape, HasOpenShape-IsBeginning, IsBeginning-HasOpenShape, second_more, second_goes_on, third_goes_on}
-use Rattle.encoding_text.proofs.EncodingLemmas.{IsSequence-encode}
+use Rattle.encoding_text.proofs.Utf8Lemmas.{starts_with_none}
 use Rattle.encoding_text.proofs.PartsLemmas.{IsStuck, stuck_part, lone_part, part_bytes}
 
 -- the same range as a test
@@ -67,8 +67,6 @@ invalid_len bs x rest (n, inr l) =
     ap utf8_invalid_len (l.whole ∙ ap (λ xs. xs ++ rest) one.1) ∙ lone one.0 rest (lone_range one.0 one.2) ∙ sym (ap length one.1)
 
 -- ---- the whole text
-no_char : (bs : List ℕ) → BeginsWithNoCharacter bs → StartsWithNoChar bs
-no_char bs n = λ c rest s e. n (encode_utf8 c) rest e (IsSequence-encode c s)
 
 -- characters, and behind them a broken part
 lossy_broken : (cs bs x rest : List ℕ) → all_scalars cs ≡ true → IsFirstPart bs (Broken x) rest
@@ -80,7 +78,7 @@ lossy_broken cs bs x rest h f =
     let short : n < length (text ++ bs) = omega (arith, length-append text bs, ap length bytes.0, length-append x rest, bytes.1) in
     let front : take n (text ++ bs) ≡ text = take_at text bs n refl in
     let back : drop n (text ++ bs) ≡ bs = drop_at text bs n refl in
-    let none : StartsWithNoChar (drop n (text ++ bs)) = subst StartsWithNoChar (sym back) (no_char bs f.0) in
+    let none : StartsWithNoChar (drop n (text ++ bs)) = subst StartsWithNoChar (sym back) (starts_with_none bs f.0) in
     let utf8 : IsUtf8 (take n (text ++ bs)) = subst IsUtf8 (sym front) (cs, (h, refl)) in
     let valid : utf8_valid_len (text ++ bs) ≡ n = utf8_valid_len-IsValidUpTo (text ++ bs) n (valid_to (text ++ bs) n short utf8 none) in
     let invalid : length x ≡ utf8_invalid_len (drop (utf8_valid_len (text ++ bs)) (text ++ bs)) =

@@ -1,6 +1,5 @@
 -- The first part of bytes: there is one, there is only one, and when it stays the first whatever follows.
 use Rattle.std.proofs.Common.{◌≡◌, ℕ, ◌+◌, ◌<◌, ◌≤◌, ◌⊎◌, inl, inr, List, [], ◌∷◌, ◌++◌, length, encode_utf8, refl, sym, ap, ◌∙◌, arith, subst, drop, take}
-use Rattle.std.specs.Char.{IsScalar}
 use Rattle.std.proofs.lemmas.Bool.{cases_lt}
 use Rattle.std.proofs.lemmas.List.{length-append, length-take, append-nil, append_assoc, take_at, drop_at, take-append-drop, take-append-le}
 use Rattle.std.proofs.lemmas.Str.{encode_same, length-encode, len_utf8_bounds}
@@ -56,8 +55,6 @@ stuck_beginning x y ys (z ∷ t) more n e s =
     absurd (n (inr (IsBeginning-front (x ++ y ∷ []) t (omega (arith, length-append x (y ∷ []))) there)))
 
 -- ---- what the first part is
-pub first_character : (c : ℕ) (rest : List ℕ) → IsScalar c → IsFirstPart (encode_utf8 c ++ rest) (Character c) rest
-first_character c rest h = (h, refl)
 
 -- a beginning that the next byte doesn't go on
 pub first_stuck : (x : List ℕ) (y : ℕ) (ys : List ℕ) → IsBeginning x → IsStuck x y → IsFirstPart (x ++ (y ∷ ys)) (Broken x) (y ∷ ys)

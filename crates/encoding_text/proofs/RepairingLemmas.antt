@@ -12,7 +12,7 @@ use Rattle.encoding_text.specs.Decoding.{Decodes}
 use Rattle.encoding_text.specs.declared.decoder.DecoderResult.TheVariants.{InputEmpty, Malformed}
 use Rattle.encoding_text.proofs.CallPartsLemmas.{broken_first}
 use Rattle.encoding_text.proofs.DecompositionLemmas.{StartsWith-append, StartsWith-one, StartsWith-characters}
-use Rattle.encoding_text.proofs.FrontsLemmas.{WritesFront-nil, WritesFront-length, WritesFront-same, WritesFront_after, WritesFront_push}
+use Rattle.encoding_text.proofs.FrontsLemmas.{WritesFront-length, WritesFront-same, WritesFront_after, WritesFront_push}
 use Rattle.encoding_text.proofs.DecodeLemmas.{broken_some}
 
 -- the text of the first parts is written, up to the bytes from read on
@@ -21,9 +21,6 @@ pub record Repaired (src old new : List ℕ) (read written : ℕ) : Type 0 where
   pub parts : List Part
   pub starts : StartsWith src parts (drop read src)
   pub writes : WritesFront old new written (repaired_utf16 parts)
-
-pub Repaired-nil : (src old : List ℕ) → Repaired src old old 0 0
-Repaired-nil src old = record { within = omega arith; parts = []; starts = refl; writes = WritesFront-nil old }
 
 utf16_characters : (cs : List ℕ) → repaired_utf16 (map Character cs) ≡ flat_map encode_utf16 cs
 utf16_characters [] = refl

@@ -325,30 +325,6 @@ second_from a b (l, h, m, n) = and_from _ _ (le-leb _ _ m) (le-leb _ _ n)
 pub second_two_from : (a b : ℕ) → IsSecond a b → a < 0xE0 → IsContinuation b
 second_two_from a b s l = grind (arith, nat_tests)
 
-pub reads_one : (bs : List ℕ) → 0 < length bs → slice_index bs 0 < 0x80 → IsSequence (take 1 bs)
-reads_one [] h l = absurd (omega arith)
-reads_one (a ∷ more) h l = IsSequence-HasShape (a ∷ []) (omega arith)
-
-pub reads_two : (bs : List ℕ) → 1 < length bs → slice_index bs 0 < 0xE0 → IsSecond (slice_index bs 0) (slice_index bs 1) → IsSequence (take 2 bs)
-reads_two [] h l s = absurd (omega arith)
-reads_two (a ∷ []) h l s = absurd (omega arith)
-reads_two (a ∷ b ∷ more) h l s = IsSequence-HasShape (a ∷ b ∷ []) (s.0, omega arith, second_two_from a b s l)
-
-pub reads_three : (bs : List ℕ) → 2 < length bs → 0xE0 ≤ slice_index bs 0 → slice_index bs 0 < 0xF0 → IsSecond (slice_index bs 0) (slice_index bs 1)
-    → IsContinuation (slice_index bs 2) → IsSequence (take 3 bs)
-reads_three [] h l u s t = absurd (omega arith)
-reads_three (a ∷ []) h l u s t = absurd (omega arith)
-reads_three (a ∷ b ∷ []) h l u s t = absurd (omega arith)
-reads_three (a ∷ b ∷ c ∷ more) h l u s t = IsSequence-HasShape (a ∷ b ∷ c ∷ []) (l, omega arith, second_from a b s, t)
-
-pub reads_four : (bs : List ℕ) → 3 < length bs → 0xF0 ≤ slice_index bs 0 → IsSecond (slice_index bs 0) (slice_index bs 1)
-    → IsContinuation (slice_index bs 2) → IsContinuation (slice_index bs 3) → IsSequence (take 4 bs)
-reads_four [] h l s t u = absurd (omega arith)
-reads_four (a ∷ []) h l s t u = absurd (omega arith)
-reads_four (a ∷ b ∷ []) h l s t u = absurd (omega arith)
-reads_four (a ∷ b ∷ c ∷ []) h l s t u = absurd (omega arith)
-reads_four (a ∷ b ∷ c ∷ d ∷ more) h l s t u = IsSequence-HasShape (a ∷ b ∷ c ∷ d ∷ []) (l, s.1, second_from a b s, t, u)
-
 -- ---- beginnings by the bytes of a longer list
 pub open_two_reads : (bs : List ℕ) → 1 < length bs → IsBeginning (take 2 bs) ↔ ((0xE0 ≤ slice_index bs 0) × IsSecond (slice_index bs 0) (slice_index bs 1))
 open_two_reads [] h = absurd (omega arith)

@@ -21,9 +21,6 @@ pub record Walked (us : List ℕ) (read : ℕ) (done : List Part16) : Type 0 whe
   pub whole : parts_of us ≡ done ++ parts_of (drop read us)
   pub taken : length (flat_map units_of done) ≡ read
 
-pub Walked-nil : (us : List ℕ) → Walked us 0 []
-Walked-nil us = record { whole = refl; taken = refl }
-
 pub Walked_push : (us : List ℕ) (read : ℕ) (done : List Part16) (p : Part16) (n : ℕ) → Walked us read done → n ≡ length (units_of p)
     → IsFirstPart16 (drop read us) p (drop (read + n) us) → Walked us (read + n) (done ++ p ∷ [])
 Walked_push us read done p n w e f = record {

@@ -18,7 +18,7 @@ IsUtf8-sequence bs s = let c = scalar_of_sequence bs s in subst IsUtf8 c.2 (IsUt
 pub IsUtf8_more : (bs : List ℕ) (at n : ℕ) → IsUtf8 (take at bs) → IsSequence (take n (drop at bs)) → IsUtf8 (take (at + n) bs)
 IsUtf8_more bs at n u s = subst IsUtf8 (sym (take-add at n bs)) (IsUtf8-append _ _ u (IsUtf8-sequence _ s))
 
-starts_with_none : (bs : List ℕ) → BeginsWithNoCharacter bs → StartsWithNoChar bs
+pub starts_with_none : (bs : List ℕ) → BeginsWithNoCharacter bs → StartsWithNoChar bs
 starts_with_none bs n = λ c rest s e. n (encode_utf8 c) rest e (IsSequence-encode c s)
 
 -- the front ends where no character begins what is left
