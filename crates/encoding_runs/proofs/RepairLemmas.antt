@@ -6,7 +6,7 @@ use Rattle.std.proofs.KnownBytes.{Appends-trans}
 use Rattle.std.proofs.lemmas.List.{append_assoc, length-append, length-drop, take-append-drop}
 use lib.Utf8.{encode}
 use Rattle.encoding_text.specs.Parts.{Part, Character, Broken, IsFirstPart, StartsWith, repaired_text, count_broken}
-use Rattle.encoding_text.proofs.DecompositionLemmas.{StartsWith-append, StartsWith-one, StartsWith-characters, has_parts, repaired_text-append, repaired_text-characters, count_broken-append, count_broken-characters, count_broken-bytes}
+use Rattle.encoding_text.proofs.Decomposition.DecompositionLemmas.{StartsWith-append, StartsWith-one, StartsWith-characters, has_parts, repaired_text-append, repaired_text-characters, count_broken-append, count_broken-characters, count_broken-bytes}
 use Rattle.encoding_runs.specs.Repairs.{WritesParts, Stops}
 
 pub WritesParts-nil : (src : List ℕ) (old : Option (List ℕ)) → Appends old old [] → WritesParts src src old old 0

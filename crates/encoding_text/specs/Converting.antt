@@ -1,5 +1,5 @@
 -- What a conversion from UTF-8 reads and writes.
-use Rattle.std.specs.Prelude.{◌≡◌, ℕ, ◌-◌, ◌≤◌, true, List, ◌++◌, length, take, drop, encode_utf8, encode_utf8_all}
+use Rattle.std.specs.Prelude.{◌≡◌, ℕ, ◌≤◌, true, List, ◌++◌, length, take, encode_utf8, encode_utf8_all}
 use Rattle.std.specs.Str.{all_scalars, IsUtf8}
 use Rattle.std.specs.Char.{IsScalar}
 use Rattle.std.specs.Char.Escape.{encode_utf16}
@@ -24,15 +24,6 @@ pub record ConvertsLongest {A : Type 0} (encode : ℕ → List A) (src : List �
 -- a character whose output is no longer than the room begins the bytes
 abbrev pub FittingBegins : {A : Type 0} → (ℕ → List A) → List ℕ → ℕ → Type 0
 FittingBegins encode bs room = (c : ℕ) × (rest : List ℕ) × IsScalar c × (bs ≡ encode_utf8 c ++ rest) × (length (encode c) ≤ room)
-
--- the same, by the step: whole characters are read and written, and none begins what is left that would fit
-pub record ConvertsFront {A : Type 0} (encode : ℕ → List A) (src : List ℕ) (old new : List A) (read written : ℕ) : Type 0 where
-  pub scalars : List ℕ
-  pub are_scalars : all_scalars scalars ≡ true
-  pub within : read ≤ length src
-  pub spelled : encode_utf8_all scalars ≡ take read src
-  pub writes : WritesFront old new written (flat_map encode scalars)
-  pub stops : FittingBegins encode (drop read src) (length old - written) → ⊥
 
 -- the characters of the longest well-formed front of src are written in UTF-16
 abbrev pub WritesText : List ℕ → List ℕ → List ℕ → ℕ → Type 0

@@ -1,5 +1,5 @@
 -- What a conversion and a decode call may answer: Encoding Standard, UTF-8 decoder.
-use Rattle.std.specs.Prelude.{◌≡◌, ◌≢◌, ℕ, ◌+◌, ◌-◌, ◌*◌, ◌<◌, ◌≤◌, Bool, true, false, List, [], ◌∷◌, ◌++◌, length, take, drop, ◌⊎◌, encode_utf8_all}
+use Rattle.std.specs.Prelude.{◌≡◌, ◌≢◌, ℕ, ◌+◌, ◌-◌, ◌*◌, ◌<◌, ◌≤◌, Bool, true, List, [], ◌∷◌, ◌++◌, length, take, drop, ◌⊎◌, encode_utf8_all}
 use Rattle.std.specs.Str.{all_scalars}
 use Rattle.std.specs.List.{flat_map}
 use Rattle.encoding_text.specs.Sequence.{IsSequence, IsBeginning, BeginsNothing}
@@ -36,7 +36,7 @@ pub record IsCall {A : Type 0} (encode : ℕ → List A) (need : ℕ) (p src : L
   pub fits : length out ≤ room
   pub pending : IsPending q
   pub answer : Answers encode need p src last result read scalars (room - length out) q
-  pub completed : p ≢ [] → 0 < read → need ≤ room
+  pub pending_needs_room : p ≢ [] → 0 < read → need ≤ room
 
 -- The numbers of the queries: how long a destination holds all that n bytes, behind so many pending ones, may become.
 abbrev pub utf16_room : ℕ → ℕ → ℕ
@@ -68,15 +68,3 @@ SufficesReplacing query replacement p src room result read written q =
 abbrev pub Decodes : {A : Type 0} → (ℕ → List A) → ℕ → List ℕ → List ℕ → List A → List A → Bool → DecoderResult → ℕ → ℕ → List ℕ → Type 0
 Decodes {A} encode need p src old new last result read written q =
     (out : List A) × WritesFront old new written out × IsCall encode need p src (length old) last result read out q
-
--- what a call answers where all of its source is read, with p pending
-abbrev pub EndsSource : List ℕ → Bool → DecoderResult → List ℕ → Type 0
-EndsSource p last InputEmpty q = (q ≡ p) × (last ≡ true → p ≡ []) × IsPending p
-EndsSource p last OutputFull q = ⊥
-EndsSource p last (Malformed k second) q = (second ≡ 0) × (k ≡ length p) × (q ≡ []) × IsBeginning p × (last ≡ true)
-
--- what a call answers where no character begins the bytes that are left: the broken part, or a beginning that stays pending
-abbrev pub EndsCall : List ℕ → Bool → DecoderResult → ℕ → List ℕ → Type 0
-EndsCall rest last InputEmpty read q = (read ≡ length rest) × (q ≡ rest) × IsBeginning rest × (last ≡ false)
-EndsCall rest last OutputFull read q = ⊥
-EndsCall rest last (Malformed k second) read q = (second ≡ 0) × (read ≡ k) × (k ≤ length rest) × (q ≡ []) × IsBroken (take k rest) (drop k rest) last

@@ -55,9 +55,9 @@ abbrev pub due_with_text : List ℕ → List ℕ → List Part16
 due_with_text held text = map Lone held ++ map Character16 (chars text)
 
 -- the bytes of the text that a part takes
-abbrev pub text_of : Part16 → List ℕ
-text_of (Character16 c) = encode_utf8 c
-text_of (Lone u) = []
+abbrev pub text_bytes_of : Part16 → List ℕ
+text_bytes_of (Character16 c) = encode_utf8 c
+text_bytes_of (Lone u) = []
 
 -- what a call from a text answers and holds afterwards
 abbrev pub TextAnswers : List ℕ → List ℕ → List Part16 → List ℕ → EncoderResult → ℕ → List ℕ → Type 0
@@ -68,5 +68,5 @@ TextAnswers held text due out OutputFull read after =
 -- One call from a text: of the characters due the most that fit into the room are written, and read are their bytes
 -- of the text.
 pub record IsEncoderTextCall (held text : List ℕ) (room : ℕ) (result : EncoderResult) (read : ℕ) (out after : List ℕ) : Type 0 where
-  pub longest : FitsLongest text_of utf8_of (due_with_text held text) room read out
+  pub longest : FitsLongest text_bytes_of utf8_of (due_with_text held text) room read out
   pub answer : TextAnswers held text (due_with_text held text) out result read after

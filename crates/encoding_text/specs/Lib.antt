@@ -4,9 +4,9 @@ pub mod Parts
 pub mod Fronts
 pub mod Converting
 pub mod Decoding
-pub mod Resuming
 pub mod Ascii
 pub mod Latin1
 pub mod Borrowed
 pub mod Utf16
 pub mod Encoding
+pub mod Steps

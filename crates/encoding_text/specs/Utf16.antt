@@ -1,5 +1,5 @@
 -- The one decomposition of UTF-16 code units into characters and lone surrogates: Unicode Standard, section 3.9, UTF-16.
-use Rattle.std.specs.Prelude.{◌≡◌, ℕ, ◌<◌, ◌≤◌, List, [], ◌∷◌, ◌++◌, length, take, drop, ◌⊎◌, slice_index, encode_utf8}
+use Rattle.std.specs.Prelude.{◌≡◌, ℕ, ◌<◌, ◌≤◌, List, [], ◌∷◌, length, take, ◌⊎◌, slice_index, encode_utf8}
 use Rattle.std.specs.Char.{IsScalar}
 use Rattle.std.specs.Char.Escape.{encode_utf16}
 use Rattle.std.specs.List.{flat_map}
@@ -54,22 +54,6 @@ ArePaired (p ∷ q ∷ ps) = IsPart16 p × MayPrecede p q × ArePaired (q ∷ ps
 -- the parts are all of the units
 abbrev pub ArePartsOf16 : List ℕ → List Part16 → Type 0
 ArePartsOf16 us ps = ArePaired ps × (flat_map units_of ps ≡ us)
-
--- the first unit is a low surrogate
-abbrev pub BeginsLow : List ℕ → Type 0
-BeginsLow [] = ⊥
-BeginsLow (u ∷ us) = IsLowSurrogate u
-
--- the part is the first of the units, and rest follows it
-abbrev pub IsFirstPart16 : List ℕ → Part16 → List ℕ → Type 0
-IsFirstPart16 us (Character16 c) rest = IsScalar c × (us ≡ encode_utf16 c ++ rest)
-IsFirstPart16 us (Lone u) rest = (IsHighSurrogate u ⊎ IsLowSurrogate u) × (us ≡ u ∷ rest) × (IsHighSurrogate u → BeginsLow rest → ⊥)
-
--- the first part of the units counts as the scalar value, and takes as many units as the UTF-16 of that has
-pub record IsFirstScalar (us : List ℕ) (scalar : ℕ) : Type 0 where
-  pub part : Part16
-  pub counts : scalar_of part ≡ scalar
-  pub first : IsFirstPart16 us part (drop (length (encode_utf16 scalar)) us)
 
 -- out is the UTF-8 of the first parts of the units, which take the first read units
 pub record IsUtf8OfFront (us : List ℕ) (read : ℕ) (out : List ℕ) : Type 0 where

@@ -28,8 +28,8 @@ abbrev pub WritesFrontOf : List ℕ → Option (List ℕ) → Option (List ℕ) 
 WritesFrontOf text old new = (n : ℕ) × Appends old new (take n text)
 
 -- what goes with a status, in ASCII
-abbrev pub text_of : ℕ → List ℕ
-text_of status =
+abbrev pub line_of : ℕ → List ℕ
+line_of status =
     if nat_eq status 2 then codes "usage: utf8_repair\n"
     else if nat_eq status 3 then codes "utf8_repair: read fault\n"
     else if nat_eq status 4 then codes "utf8_repair: write fault\n"

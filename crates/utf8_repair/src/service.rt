@@ -2,7 +2,7 @@
 ghost use Rattle.std.specs.Prelude.{◌≡◌, ℕ, ◌+◌, ◌<◌, ◌≤◌, ◌↔◌, ◌⊎◌, List, ◌++◌, length, take, IfOk, IfErr, OnOk, OnErr, vec_len};
 ghost use Rattle.std.specs.Io.KnownBytes.{Consumes, IsAtEnd, Keeps};
 ghost use Rattle.encoding_runs.specs.Repairs.{WritesRepaired, Stops};
-ghost use Rattle.utf8_repair.specs.Service.{ReadsSome, ReadsAll, WritesFrontOf, WritesFrontOfRepaired, RepairsAll, RepairsFront, text_of};
+ghost use Rattle.utf8_repair.specs.Service.{ReadsSome, ReadsAll, WritesFrontOf, WritesFrontOfRepaired, RepairsAll, RepairsFront, line_of};
 
 use encoding_runs::repair::{RepairFault, Watch, repair_slice};
 use std::alloc::{AllocError, Global};
@@ -118,7 +118,7 @@ fn write_repaired<W: Write>(input: &[u8], writer: &mut W) -> u8
 
 /// The line that goes with a status: empty where nothing is said.
 fn line_of(status: u8) -> &'static [u8]
-    ensures { result.now ≡ text_of status }
+    ensures { result.now ≡ line_of status }
 {
     match status {
         USAGE => b"usage: utf8_repair\n",
@@ -131,7 +131,7 @@ fn line_of(status: u8) -> &'static [u8]
 }
 
 /// Writes the text up to the first write that fails or takes no byte.
-fn write_front<E: Write>(text: &[u8], errors: &mut E)
+fn write_line<E: Write>(text: &[u8], errors: &mut E)
     ensures { WritesFrontOf text.now (E.contents errors.old) (E.contents errors.new) }
 {
     let mut at = 0;
@@ -145,12 +145,12 @@ fn write_front<E: Write>(text: &[u8], errors: &mut E)
 
 /// Writes the line of the status, where it has one.
 pub(crate) fn report<E: Write>(status: u8, errors: &mut E)
-    ensures line { WritesFrontOf (text_of status) (E.contents errors.old) (E.contents errors.new) }
+    ensures line { WritesFrontOf (line_of status) (E.contents errors.old) (E.contents errors.new) }
     ensures silent { status ≤ 1 → errors.new ≡ errors.old }
 {
     let line = line_of(status);
     if !line.is_empty() {
-        write_front(line, errors);
+        write_line(line, errors);
     }
 }
 
@@ -188,7 +188,7 @@ pub fn serve<R: Read, W: Write, E: Write>(
         (W.contents writer.old) (W.contents writer.new) }
     ensures no_memory { result ≡ 5 → ReadsSome (R.remaining reader.old) (R.remaining reader.new)
         × (writer.new ≡ writer.old) }
-    ensures line { WritesFrontOf (text_of result) (E.contents errors.old) (E.contents errors.new) }
+    ensures line { WritesFrontOf (line_of result) (E.contents errors.old) (E.contents errors.new) }
     ensures silent { result ≤ 1 → errors.new ≡ errors.old }
 {
     if arguments > 0 {

@@ -17,7 +17,7 @@ pub(crate) fn decode<U: CodeUnit>(
     last: bool,
 ) -> (DecoderResult, usize, usize)
     ensures pending { IsPending pending.old }
-    ensures call { Decodes U.encode U.most pending.old src.now dst.old dst.new last result.0 result.1 result.2 pending.new }
+    ensures call { Decodes U.encode U.need pending.old src.now dst.old dst.new last result.0 result.1 result.2 pending.new }
 {
     if pending.is_empty() {
         decode_neutral(pending, src, dst, last)
@@ -35,13 +35,13 @@ fn decode_neutral<U: CodeUnit>(
     last: bool,
 ) -> (DecoderResult, usize, usize)
     requires neutral { pending.old ≡ [] }
-    ensures { Decodes U.encode U.most [] src.now dst.old dst.new last result.0 result.1 result.2 pending.new }
+    ensures { Decodes U.encode U.need [] src.now dst.old dst.new last result.0 result.1 result.2 pending.new }
 {
     let (read, written) = U::convert_up_to_invalid(src, dst);
     if read == src.len() {
         return (DecoderResult::InputEmpty, read, written);
     }
-    if dst.len() - written < U::need() {
+    if dst.len() - written < U::needed_room() {
         return (DecoderResult::OutputFull, read, written);
     }
     let (result, more) = pending.end_before(&src[read..], last);
@@ -57,12 +57,12 @@ fn decode_pending<U: CodeUnit>(
     last: bool,
 ) -> (DecoderResult, usize, usize)
     requires unfinished { IsBeginning pending.old }
-    ensures { Decodes U.encode U.most pending.old src.now dst.old dst.new last result.0 result.1 result.2 pending.new }
+    ensures { Decodes U.encode U.need pending.old src.now dst.old dst.new last result.0 result.1 result.2 pending.new }
 {
     if src.is_empty() {
         return (pending.end(last), 0, 0);
     }
-    if dst.len() < U::need() {
+    if dst.len() < U::needed_room() {
         return (DecoderResult::OutputFull, 0, 0);
     }
     match pending.resume(src) {

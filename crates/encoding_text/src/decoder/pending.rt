@@ -2,7 +2,8 @@
 ghost use Rattle.std.specs.Prelude.{◌≡◌, ◌≢◌, ℕ, ◌<◌, ◌≤◌, ◌↔◌, List, [], length, take, IsTrue};
 ghost use Rattle.encoding_text.specs.Sequence.{IsBeginning};
 ghost use Rattle.encoding_text.specs.Parts.{BeginsWithNoCharacter};
-ghost use Rattle.encoding_text.specs.Pending.{IsPending, GoesOn};
+ghost use Rattle.encoding_text.specs.Pending.{IsPending};
+ghost use Rattle.encoding_text.specs.Steps.Resuming.{GoesOn};
 
 use super::DecoderResult;
 use crate::utf_8::{is_continuation, is_second};
@@ -70,8 +71,8 @@ impl Model for Pending {
 }
 
 impl Pending {
-    ghost use Rattle.encoding_text.specs.Resuming.{Pushes, Resumes};
-    ghost use Rattle.encoding_text.specs.Decoding.{EndsSource, EndsCall};
+    ghost use Rattle.encoding_text.specs.Steps.Resuming.{Pushes, Resumes};
+    ghost use Rattle.encoding_text.specs.Steps.Ending.{AnswersAllRead, AnswersNoCharacter};
 
     pub(crate) fn none() -> Pending
         ensures { result ≡ [] }
@@ -148,7 +149,7 @@ impl Pending {
 
     /// Ends a call whose source was read to its end: where no more will come, pending bytes are a broken part.
     pub(crate) fn end(&mut self, last: bool) -> DecoderResult
-        ensures { EndsSource self.old last result self.new }
+        ensures { AnswersAllRead self.old last result self.new }
     {
         if !last || self.count == 0 {
             return DecoderResult::InputEmpty;
@@ -165,7 +166,7 @@ impl Pending {
         requires neutral { self.old ≡ [] }
         requires not_empty { 0 < length rest.now }
         requires no_character { BeginsWithNoCharacter rest.now }
-        ensures { EndsCall rest.now last result.0 result.1 self.new }
+        ensures { AnswersNoCharacter rest.now last result.0 result.1 self.new }
     {
         if rest[0] < 0xC2 || rest[0] > 0xF4 {
             return (DecoderResult::Malformed(1, 0), 1);

@@ -4,7 +4,8 @@ ghost use Rattle.std.specs.Char.{IsScalar};
 ghost use Rattle.std.specs.Char.Escape.{encode_utf16};
 ghost use Rattle.encoding_text.specs.Sequence.{IsSequence};
 ghost use Rattle.encoding_text.specs.Fronts.{WritesFront};
-ghost use Rattle.encoding_text.specs.Converting.{ConvertsFront, ConvertsLongest};
+ghost use Rattle.encoding_text.specs.Converting.{ConvertsLongest};
+ghost use Rattle.encoding_text.specs.Steps.Converting.{ConvertsFront};
 
 use super::validation::{character_length, utf8_valid_up_to};
 
@@ -13,22 +14,22 @@ pub(crate) trait CodeUnit: Copy {
     // a scalar value in these code units
     ghost encode: { ℕ → List Self };
 
-    // the most code units that a character takes
-    ghost most: { ℕ };
+    // the most code units that a character takes: the room that a call needs to get on
+    ghost need: { ℕ };
 
     /// The most code units that a character takes.
-    fn need() -> usize
-        ensures { result ≡ most };
+    fn needed_room() -> usize
+        ensures { result ≡ need };
 
     /// Converts the characters that begin `src`, as many as fit: how many bytes were read, and how many code units
     /// written.
     fn convert_up_to_invalid(src: &[u8], dst: &mut [Self]) -> (usize, usize)
         ensures front { ConvertsFront encode src.now dst.old dst.new result.0 result.1 }
-        ensures need { (c : ℕ) → IsScalar c → length (encode c) ≤ most };
+        ensures fits_the_need { (c : ℕ) → IsScalar c → length (encode c) ≤ need };
 }
 
 /// The scalar value that the bytes spell.
-fn scalar_of(bytes: &[u8]) -> u32
+fn scalar_of_sequence(bytes: &[u8]) -> u32
     requires sequence { IsSequence bytes.now }
     ensures scalar { IsScalar result }
     ensures spelled { encode_utf8 result ≡ bytes.now }
@@ -72,10 +73,10 @@ fn put_utf16(scalar: u32, dst: &mut [u16]) -> Option<usize>
 impl CodeUnit for u16 {
     ghost encode = { encode_utf16 };
 
-    ghost most = { 2 };
+    ghost need = { 2 };
 
     #[inline]
-    fn need() -> usize {
+    fn needed_room() -> usize {
         2
     }
 
@@ -83,7 +84,7 @@ impl CodeUnit for u16 {
         let mut read = 0;
         let mut written = 0;
         while let Some(length) = character_length(&src[read..]) {
-            let scalar = scalar_of(&src[read..read + length]);
+            let scalar = scalar_of_sequence(&src[read..read + length]);
             let Some(units) = put_utf16(scalar, &mut dst[written..]) else {
                 break;
             };
@@ -97,10 +98,10 @@ impl CodeUnit for u16 {
 impl CodeUnit for u8 {
     ghost encode = { encode_utf8 };
 
-    ghost most = { 4 };
+    ghost need = { 4 };
 
     #[inline]
-    fn need() -> usize {
+    fn needed_room() -> usize {
         4
     }
 

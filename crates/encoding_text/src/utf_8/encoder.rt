@@ -4,7 +4,8 @@ ghost use Rattle.std.specs.Option.{SomeIff};
 ghost use Rattle.std.specs.Str.{chars};
 ghost use Rattle.std.specs.Char.Escape.{encode_utf16};
 ghost use Rattle.encoding_text.specs.Fronts.{FitsLongest, WritesFront};
-ghost use Rattle.encoding_text.specs.Utf16.{IsHighSurrogate, IsFirstScalar};
+ghost use Rattle.encoding_text.specs.Utf16.{IsHighSurrogate};
+ghost use Rattle.encoding_text.specs.Steps.FirstScalar.{IsFirstScalar};
 ghost use Rattle.encoding_text.specs.Encoding.{IsHeld, EndsHigh, IsEncoderCall, IsEncoderTextCall};
 
 use crate::utf_8::encoding::{
@@ -101,7 +102,7 @@ impl Utf8Encoder {
         if src.is_empty() && !last {
             return (EncoderResult::InputEmpty, 0, 0);
         }
-        let (scalar, taken) = completed(high, src);
+        let (scalar, taken) = first_with_held(high, src);
         if utf8_length(scalar) > dst.len() {
             return (EncoderResult::OutputFull, 0, 0);
         }
@@ -187,7 +188,7 @@ fn due_length(src: &[u16], last: bool) -> usize
 
 /// What the first part of the units counts as, where a high surrogate stands in front of `src`, and how many units
 /// of `src` that part takes.
-fn completed(high: u16, src: &[u16]) -> (u32, usize)
+fn first_with_held(high: u16, src: &[u16]) -> (u32, usize)
     requires { IsHighSurrogate high }
     ensures first { IsFirstScalar (high ∷ src.now) result.0 }
     ensures taken { result.1 + 1 ≡ length (encode_utf16 result.0) }

@@ -4,7 +4,8 @@ ghost use Rattle.std.specs.Char.{len_utf8};
 ghost use Rattle.std.specs.Char.Escape.{encode_utf16};
 ghost use Rattle.std.specs.Char.Utf16.{surrogate_pair_char};
 ghost use Rattle.encoding_text.specs.Fronts.{WritesFront};
-ghost use Rattle.encoding_text.specs.Utf16.{IsHighSurrogate, IsLowSurrogate, IsFirstScalar, IsUtf8OfFront, IsUtf8OfLongestFront};
+ghost use Rattle.encoding_text.specs.Utf16.{IsHighSurrogate, IsLowSurrogate, IsUtf8OfFront, IsUtf8OfLongestFront};
+ghost use Rattle.encoding_text.specs.Steps.FirstScalar.{IsFirstScalar};
 
 /// What a lone surrogate counts as.
 pub(super) const REPLACEMENT: u32 = 0xFFFD;

@@ -1,5 +1,5 @@
 use Rattle.std.proofs.Common.{arith, length}
-use Rattle.encoding_text.proofs.AsciiLemmas.{IsFirstOther-at, WritesFront_copy, below_more}
+use Rattle.encoding_text.proofs.Latin.AsciiLemmas.{IsFirstOther-at, WritesFront_copy, below_more}
 use Rattle.encoding_text.proofs.ascii.ascii_to_basic_latin.Goals as goal
 
 pub returns-then-byte-ge-ASCII_END-clause-found : goal.returns-then-byte-ge-ASCII_END-clause-found

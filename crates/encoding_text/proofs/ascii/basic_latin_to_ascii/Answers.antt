@@ -1,5 +1,5 @@
 use Rattle.std.proofs.Common.{arith, length, refl}
-use Rattle.encoding_text.proofs.AsciiLemmas.{IsFirstOther-at, WritesFront_copy, below_more}
+use Rattle.encoding_text.proofs.Latin.AsciiLemmas.{IsFirstOther-at, WritesFront_copy, below_more}
 use Rattle.encoding_text.proofs.ascii.basic_latin_to_ascii.Goals as goal
 
 pub returns-then-unit-ge-BASIC_LATIN_END-clause-found : goal.returns-then-unit-ge-BASIC_LATIN_END-clause-found

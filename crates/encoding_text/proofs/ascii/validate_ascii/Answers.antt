@@ -1,5 +1,5 @@
 use Rattle.std.proofs.lemmas.Option.{slice_get-get_or}
-use Rattle.encoding_text.proofs.AsciiLemmas.{ascii_front_at}
+use Rattle.encoding_text.proofs.Latin.AsciiLemmas.{ascii_front_at}
 use Rattle.encoding_text.proofs.ascii.validate_ascii.Goals as goal
 
 pub returns-then-byte-ge-ASCII_END : goal.returns-then-byte-ge-ASCII_END

@@ -1,8 +1,8 @@
 use Rattle.std.proofs.Common.{inl, inr, arith, refl}
 use Rattle.std.proofs.lemmas.Bool.{both_ways}
 use Rattle.std.proofs.lemmas.List.{length-take}
-use Rattle.encoding_text.proofs.PartsLemmas.{first_broken}
-use Rattle.encoding_text.proofs.SequenceLemmas.{open_two_reads, open_three_reads, length-IsBeginning}
+use Rattle.encoding_text.proofs.Decomposition.PartsLemmas.{first_broken}
+use Rattle.encoding_text.proofs.Sequences.SequenceLemmas.{open_two_reads, open_three_reads, length-IsBeginning}
 use Rattle.encoding_runs.proofs.repair.engine.broken_length.Goals as goal
 use Rattle.encoding_runs.proofs.repair.engine.broken_length.Goals.{then-bytes-lt2-via-then-bytes-lt2, then-bytes-lt2-via-else-bytes-lt2+then-not-opens_three_or_four, then-bytes-lt3-via-then-bytes-lt3, then-bytes-lt3-via-else-bytes-lt3+then-lead-lt240, then-bytes-lt3-via-else-bytes-lt3+else-lead-lt240+then-not-is_continuation}
 

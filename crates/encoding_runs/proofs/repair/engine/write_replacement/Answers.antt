@@ -2,7 +2,7 @@ use Rattle.std.proofs.Common.{arith}
 use Rattle.std.proofs.lemmas.Result.{err_from_is_err_and}
 use Rattle.std.proofs.lemmas.List.{take_rest, length-drop}
 use Rattle.std.proofs.KnownBytes.{Appends-nil}
-use Rattle.encoding_text.proofs.PartsLemmas.{has_broken_part}
+use Rattle.encoding_text.proofs.Decomposition.PartsLemmas.{has_broken_part}
 use Rattle.encoding_runs.proofs.RepairLemmas.{WritesParts-nil, wrote_replacement, stopped_replacement}
 use Rattle.encoding_runs.proofs.repair.engine.write_replacement.Goals as goal
 

@@ -1,6 +1,6 @@
 use Rattle.std.proofs.lemmas.Result.{err_from_is_err_and}
 use Rattle.std.proofs.KnownBytes.{Appends-nil}
-use Rattle.encoding_text.proofs.Utf8Lemmas.{no_character_after}
+use Rattle.encoding_text.proofs.LongestFronts.Utf8Lemmas.{no_character_after}
 use Rattle.encoding_runs.proofs.RepairLemmas.{WritesParts-nil, wrote_text, stopped_text}
 use Rattle.encoding_runs.proofs.repair.engine.write_text.Goals as goal
 

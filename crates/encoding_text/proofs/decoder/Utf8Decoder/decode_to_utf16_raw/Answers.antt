@@ -1,5 +1,5 @@
 use Rattle.std.specs.Char.Escape.{encode_utf16}
-use Rattle.encoding_text.proofs.RoomLemmas.{progress, utf16_suffices, utf16_suffices_replacing}
+use Rattle.encoding_text.proofs.Calls.RoomLemmas.{progress, utf16_suffices, utf16_suffices_replacing}
 use Rattle.encoding_text.proofs.decoder.Utf8Decoder.decode_to_utf16_raw.Goals as goal
 
 pub returns-clause-progress : goal.returns-clause-progress

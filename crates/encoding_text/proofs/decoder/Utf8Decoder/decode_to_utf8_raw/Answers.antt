@@ -1,5 +1,5 @@
 use Rattle.std.proofs.Common.{encode_utf8}
-use Rattle.encoding_text.proofs.RoomLemmas.{progress, utf8_suffices, utf8_suffices_for_both, utf8_suffices_replacing}
+use Rattle.encoding_text.proofs.Calls.RoomLemmas.{progress, utf8_suffices, utf8_suffices_for_both, utf8_suffices_replacing}
 use Rattle.encoding_text.proofs.decoder.Utf8Decoder.decode_to_utf8_raw.Goals as goal
 
 pub returns-clause-progress : goal.returns-clause-progress

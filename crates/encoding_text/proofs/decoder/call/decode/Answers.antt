@@ -1,5 +1,5 @@
 use Rattle.std.proofs.lemmas.Bool.{both_ways}
-use Rattle.encoding_text.proofs.PendingLemmas.{pending_beginning}
+use Rattle.encoding_text.proofs.Calls.PendingLemmas.{pending_beginning}
 use Rattle.encoding_text.proofs.decoder.call.decode.Goals as goal
 
 pub decode_pending-requires : goal.decode_pending-requires

@@ -1,5 +1,5 @@
 use Rattle.std.proofs.Common.{arith}
-use Rattle.encoding_text.proofs.Latin1ConversionLemmas.{utf8_written_behind}
+use Rattle.encoding_text.proofs.Latin.Latin1ConversionLemmas.{utf8_written_behind}
 use Rattle.encoding_text.proofs.mem.borrowed.write_utf8_of_latin1.Goals as goal
 
 pub returns : goal.returns

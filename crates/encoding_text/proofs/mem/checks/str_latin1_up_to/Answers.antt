@@ -1,5 +1,5 @@
 use Rattle.std.proofs.Common.{arith, ap, length}
-use Rattle.encoding_text.proofs.Latin1Lemmas.{latin1_text_front}
+use Rattle.encoding_text.proofs.Latin.Latin1Lemmas.{latin1_text_front}
 use Rattle.encoding_text.proofs.mem.checks.str_latin1_up_to.Goals as goal
 
 pub returns-then-bytes-i-ge-BEYOND_LATIN1 : goal.returns-then-bytes-i-ge-BEYOND_LATIN1

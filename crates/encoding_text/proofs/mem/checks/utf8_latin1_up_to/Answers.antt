@@ -1,5 +1,5 @@
 use Rattle.std.proofs.Common.{arith}
-use Rattle.encoding_text.proofs.Latin1Lemmas.{latin1_more_one, latin1_more_two, latin1_stop}
+use Rattle.encoding_text.proofs.Latin.Latin1Lemmas.{latin1_more_one, latin1_more_two, latin1_stop}
 use Rattle.encoding_text.proofs.mem.checks.utf8_latin1_up_to.Goals as goal
 use Rattle.encoding_text.proofs.mem.checks.utf8_latin1_up_to.Goals.{then-byte-lt-LATIN1_LEAD-via-then-byte-lt-LATIN1_LEAD, then-byte-lt-LATIN1_LEAD-via-else-byte-lt-LATIN1_LEAD+then-byte-ge-BEYOND_LATIN1, then-byte-lt-LATIN1_LEAD-via-else-byte-lt-LATIN1_LEAD+else-byte-ge-BEYOND_LATIN1+then-read-buffer}
 

@@ -1,6 +1,6 @@
 use Rattle.std.proofs.Common.{◌≡◌, ◌%◌, arith, bit_and, slice_index}
 use Rattle.std.proofs.lemmas.Grind.{common_steps}
-use Rattle.encoding_text.proofs.Latin1ConversionLemmas.{WritesFront_low}
+use Rattle.encoding_text.proofs.Latin.Latin1ConversionLemmas.{WritesFront_low}
 use Rattle.encoding_text.proofs.mem.latin1.convert_utf16_to_latin1_lossy.Goals as goal
 
 pub loop-i-preserved : goal.loop-i-preserved

@@ -2,10 +2,10 @@ use Rattle.std.proofs.Common.{◌≡◌, ◌+◌, ◌<◌, arith, ap, sym, take,
 use Rattle.std.specs.Str.{chars}
 use Rattle.std.proofs.lemmas.List.{take_all, length-drop}
 use Rattle.std.proofs.lemmas.Str.{length-le-encodes}
-use Rattle.encoding_text.proofs.AsciiLemmas.{WritesFront_copy}
-use Rattle.encoding_text.proofs.FrontsLemmas.{WritesFront-nil}
-use Rattle.encoding_text.proofs.Latin1Lemmas.{latin1_chars, next_of_one, next_of_two}
-use Rattle.encoding_text.proofs.Latin1ConversionLemmas.{character_of_two}
+use Rattle.encoding_text.proofs.Latin.AsciiLemmas.{WritesFront_copy}
+use Rattle.encoding_text.proofs.LongestFronts.FrontsLemmas.{WritesFront-nil}
+use Rattle.encoding_text.proofs.Latin.Latin1Lemmas.{latin1_chars, next_of_one, next_of_two}
+use Rattle.encoding_text.proofs.Latin.Latin1ConversionLemmas.{character_of_two}
 use Rattle.encoding_text.proofs.mem.latin1.convert_utf8_to_latin1_lossy.Goals as goal
 use Rattle.encoding_text.proofs.mem.latin1.convert_utf8_to_latin1_lossy.Goals.{then-byte-lt128, else-byte-lt128}
 

@@ -1,4 +1,4 @@
-use Rattle.encoding_text.proofs.ToUtf16Lemmas.{text_written}
+use Rattle.encoding_text.proofs.LongestFronts.ToUtf16Lemmas.{text_written}
 use Rattle.encoding_text.proofs.mem.to_utf16.convert_str_to_utf16.Goals as goal
 
 pub returns : goal.returns

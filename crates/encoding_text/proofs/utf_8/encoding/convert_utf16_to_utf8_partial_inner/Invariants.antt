@@ -2,7 +2,7 @@ use Rattle.std.proofs.Common.{◌-◌, ◌≤◌, List, length}
 use Rattle.std.specs.List.{flat_map}
 use Rattle.encoding_text.specs.Fronts.{WritesFront}
 use Rattle.encoding_text.specs.Utf16.{Part16, utf8_of}
-use Rattle.encoding_text.proofs.Utf16FrontLemmas.{Walked}
+use Rattle.encoding_text.proofs.CodeUnits.Utf16FrontLemmas.{Walked}
 use Rattle.encoding_text.proofs.utf_8.encoding.convert_utf16_to_utf8_partial_inner.Given as goal
 
 abbrev pub invariant-loop-read : goal.invariant-loop-read

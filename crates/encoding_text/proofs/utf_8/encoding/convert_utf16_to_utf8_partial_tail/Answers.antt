@@ -1,7 +1,7 @@
 use Rattle.std.proofs.Common.{◌++◌, ◌∷◌, [], length, arith, refl, sym, subst}
-use Rattle.encoding_text.proofs.FrontsLemmas.{WritesFront_after, WritesFront-same, WritesFront-length}
-use Rattle.encoding_text.proofs.FittingLemmas.{written_is}
-use Rattle.encoding_text.proofs.Utf16FrontLemmas.{step_walked, step_within, step_written, step_stops, walked_all}
+use Rattle.encoding_text.proofs.LongestFronts.FrontsLemmas.{WritesFront_after, WritesFront-same, WritesFront-length}
+use Rattle.encoding_text.proofs.LongestFronts.FittingLemmas.{written_is}
+use Rattle.encoding_text.proofs.CodeUnits.Utf16FrontLemmas.{step_walked, step_within, step_written, step_stops, walked_all}
 use Rattle.encoding_text.specs.Utf16.{IsUtf8OfLongestFront}
 use Rattle.encoding_text.proofs.utf_8.encoding.convert_utf16_to_utf8_partial_tail.Goals as goal
 

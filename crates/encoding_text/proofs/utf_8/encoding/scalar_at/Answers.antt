@@ -1,5 +1,5 @@
 use Rattle.std.proofs.Common.{arith, refl}
-use Rattle.encoding_text.proofs.Utf16FrontLemmas.{scalar_of_unit, scalar_of_two, scalar_of_lone}
+use Rattle.encoding_text.proofs.CodeUnits.Utf16FrontLemmas.{scalar_of_unit, scalar_of_two, scalar_of_lone}
 use Rattle.encoding_text.proofs.utf_8.encoding.scalar_at.Goals as goal
 use Rattle.encoding_text.proofs.utf_8.encoding.scalar_at.Goals.{else-is_high_surrogate-via-then-is_high_surrogate+else-at-src, else-is_high_surrogate-via-else-is_high_surrogate}
 

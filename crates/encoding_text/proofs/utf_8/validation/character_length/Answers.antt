@@ -1,6 +1,6 @@
 use Rattle.std.proofs.Common.{arith}
 use Rattle.std.proofs.lemmas.Bool.{both_ways}
-use Rattle.encoding_text.proofs.SequenceLemmas.{no_character_reads}
+use Rattle.encoding_text.proofs.Sequences.SequenceLemmas.{no_character_reads}
 use Rattle.encoding_text.proofs.utf_8.validation.character_length.Goals as goal
 use Rattle.encoding_text.proofs.utf_8.validation.character_length.Goals.{then-bytes-lt2-via-then-bytes-lt2, then-bytes-lt2-via-else-bytes-lt2+then-not-is_second, then-bytes-lt3-via-then-bytes-lt3, then-bytes-lt3-via-else-bytes-lt3+then-not-is_continuation, then-bytes-lt4-via-then-bytes-lt4, then-bytes-lt4-via-else-bytes-lt4+then-not-is_continuation-2}
 

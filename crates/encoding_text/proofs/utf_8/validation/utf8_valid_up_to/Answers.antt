@@ -1,6 +1,6 @@
 use Rattle.std.proofs.Common.{arith}
 use Rattle.std.proofs.lemmas.List.{take_rest, length-drop}
-use Rattle.encoding_text.proofs.Utf8Lemmas.{IsUtf8_more, IsLongestFront-utf8}
+use Rattle.encoding_text.proofs.LongestFronts.Utf8Lemmas.{IsUtf8_more, IsLongestFront-utf8}
 use Rattle.encoding_text.proofs.utf_8.validation.utf8_valid_up_to.Goals as goal
 
 pub loop-length-preserved : goal.loop-length-preserved

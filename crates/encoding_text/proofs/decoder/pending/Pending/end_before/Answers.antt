@@ -1,6 +1,6 @@
 use Rattle.std.proofs.Common.{arith, refl}
 use Rattle.std.proofs.lemmas.List.{take_rest}
-use Rattle.encoding_text.proofs.CallLemmas.{lone_before, begins_before, ended_before, stuck_before, no_whole_before}
+use Rattle.encoding_text.proofs.Calls.CallLemmas.{lone_before, begins_before, ended_before, stuck_before, no_whole_before}
 use Rattle.encoding_text.proofs.decoder.pending.Pending.end_before.Goals as goal
 use Rattle.encoding_text.proofs.decoder.pending.Pending.end_before.Goals.{then-rest-lt194-via-then-rest-lt194, then-rest-lt194-via-else-rest-lt194+then-rest-gt244}
 

@@ -1,6 +1,6 @@
 use Rattle.std.proofs.Common.{◌-◌, length}
 use Rattle.std.specs.Char.Escape.{encode_utf16}
-use Rattle.encoding_text.proofs.ConvertingLemmas.{Converted}
+use Rattle.encoding_text.proofs.LongestFronts.ConvertingLemmas.{Converted}
 use Rattle.encoding_text.proofs.utf_8.decoding.U16CodeUnit.convert_up_to_invalid.Given as goal
 
 abbrev pub invariant-loop-length : goal.invariant-loop-length

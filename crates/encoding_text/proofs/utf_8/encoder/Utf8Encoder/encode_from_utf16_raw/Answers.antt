@@ -1,6 +1,6 @@
 use Rattle.std.proofs.Common.{◌≡◌, ◌∷◌, ◌∙◌, [], length, arith, rules, sym, ap, subst}
 use Rattle.encoding_text.specs.Encoding.{IsHeld, held_units}
-use Rattle.encoding_text.proofs.EncoderLemmas.{none_there, some_there, call_waits, call_full, call_then, call_then_rest, enough_room}
+use Rattle.encoding_text.proofs.CodeUnits.EncoderLemmas.{none_there, some_there, call_waits, call_full, call_then, call_then_rest, enough_room}
 use Rattle.encoding_text.proofs.utf_8.encoder.Utf8Encoder.encode_from_utf16_raw.Goals as goal
 
 pub returns-in_default-clause-enough : goal.returns-in_default-clause-enough
@@ -18,7 +18,7 @@ pub returns-then-utf8_length-dst-clause-call : goal.returns-then-utf8_length-dst
 returns-then-utf8_length-dst-clause-call c =
     let held : c.args.self.now ≡ c.in-Some.high ∷ [] = sym c.self.view_is ∙ ap held_units c.in-Some.is in
     let some = some_there c.is_empty.result c.args.last (length c.args.src.now) c.is_empty.ensures c.else-is_empty.either in
-    let first = c.completed-scalar.ensures in
+    let first = c.first_with_held-scalar.ensures in
     call_full c.args.self.now c.args.src.now c.in-Some.high (length c.args.dst.now) c.args.last held _ _ first.first first.taken some
     (λ k. omega (arith, c.type_inv.src k)) (omega (arith, c.if-utf8_length-dst.true, c.utf8_length.ensures))
 
@@ -26,7 +26,7 @@ pub returns : goal.returns
 returns c =
     let held : c.args.self.now ≡ c.in-Some.high ∷ [] = sym c.self.view_is ∙ ap held_units c.in-Some.is in
     let some = some_there c.is_empty.result c.args.last (length c.args.src.now) c.is_empty.ensures c.else-is_empty.either in
-    let first = c.completed-scalar.ensures in
+    let first = c.first_with_held-scalar.ensures in
     let then = c.encode_fresh-result.ensures in
     let whole = call_then c.args.self.now c.args.src.now _ _ _ c.in-Some.high _ _ _ _ _ c.args.last _ _ held first.first first.taken some c.write_scalar-first.ensures then.call then.rest in
     record {

@@ -1,0 +1,3 @@
+pub mod AsciiLemmas
+pub mod Latin1Lemmas
+pub mod Latin1ConversionLemmas

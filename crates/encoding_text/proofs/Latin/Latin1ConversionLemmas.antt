@@ -1,0 +1,146 @@
+-- Conversions from and to Latin1: the longest fitting front of bytes, and the bits of characters.
+use Rattle.std.proofs.Common.{◌≡◌, ℕ, suc, ◌+◌, ◌-◌, ◌*◌, ◌/◌, ◌%◌, ◌<◌, ◌≤◌, inl, inr, List, [], ◌∷◌, ◌++◌, length, take, drop, set, slice_index, map, bit_and, bit_or, encode_utf8, encode_utf8_all, IsUtf8, refl, sym, ap, ◌∙◌, arith, subst}
+use Rattle.std.specs.List.{flat_map}
+use Rattle.std.specs.Str.{chars, IsAscii}
+use Rattle.std.proofs.str.Laws.{two}
+use Rattle.std.proofs.lemmas.Bool.{cases_lt}
+use Rattle.std.proofs.lemmas.Grind.{common_steps}
+use Rattle.std.proofs.lemmas.List.{append-nil, length-append, length-take-le, take_all, take_more, take_rest, drop_more, take-append-drop, map_more}
+use Rattle.std.proofs.lemmas.Str.{encodes-append, encode_ascii, encodes-IsAscii, chars-IsAscii, chars-append, IsUtf8-from_ascii}
+use borrow.Rule.Slice.PartMut.{put_mid}
+use Rattle.encoding_text.proofs.Sequences.EncodingLemmas.{flat_map-encode_utf8}
+use Rattle.encoding_text.specs.Fronts.{FitsLongest, WritesFront}
+use Rattle.encoding_text.specs.Latin1.{IsLatin1, IsUtf8Latin1}
+use Rattle.encoding_text.proofs.Latin.AsciiLemmas.{Each-take}
+use Rattle.encoding_text.proofs.LongestFronts.FrontsLemmas.{FitsLongest-stop, FitsLongest-all, WritesFront_push, WritesFront_after}
+use Rattle.encoding_text.proofs.Latin.Latin1Lemmas.{IsLatin1-behind, split_front, scalars_of_latin1}
+
+-- ---- fitting
+singles : (xs : List ℕ) → length (flat_map (λ (b : ℕ). b ∷ []) xs) ≡ length xs
+singles [] = refl
+singles (x ∷ xs) = omega (arith, singles xs)
+
+-- the bytes from i on don't fit any more
+pub latin1_fits_stop : (xs : List ℕ) (i room : ℕ) → i < length xs → length (encode_utf8_all (take i xs)) ≤ room
+    → room < length (encode_utf8_all (take i xs)) + length (encode_utf8 (slice_index xs i))
+    → FitsLongest (λ b. b ∷ []) encode_utf8 xs room i (encode_utf8_all (take i xs))
+latin1_fits_stop xs i room l h s =
+    let done = take i xs in
+    let b = slice_index xs i in
+    let whole : done ++ b ∷ drop (i + 1) xs ≡ xs = ap (λ ys. done ++ ys) (sym (drop_more xs i 0 l)) ∙ take-append-drop i xs in
+    let out = flat_map-encode_utf8 done in
+    let read : length (flat_map (λ (x : ℕ). x ∷ []) done) ≡ i = singles done ∙ length-take-le i xs (omega arith) in
+    let stop = FitsLongest-stop (λ (x : ℕ). x ∷ []) encode_utf8 done b (drop (i + 1) xs) room (rw out h) (rw out s) in
+    rw (whole, read, out) at stop
+
+-- they all fit
+pub latin1_fits_all : (xs : List ℕ) (i room : ℕ) → i ≤ length xs → length xs ≤ i → length (encode_utf8_all (take i xs)) ≤ room
+    → FitsLongest (λ b. b ∷ []) encode_utf8 xs room i (encode_utf8_all (take i xs))
+latin1_fits_all xs i room l m h =
+    let all : take i xs ≡ xs = take_all i xs m in
+    let n : i ≡ length xs = omega arith in
+    let fits = FitsLongest-all (λ (x : ℕ). x ∷ []) encode_utf8 xs room (rw (flat_map-encode_utf8 xs) (rw all at h)) in
+    rw (all, n) (rw (singles xs, flat_map-encode_utf8 xs) at fits)
+
+length_two : (c : ℕ) → c < 256 → length (encode_utf8 c) ≤ 2
+length_two c h = elim (cases_lt c 128) [
+  | inl p ↦ rw (encode_ascii c p) (omega arith)
+  | inr p ↦ rw (two c p (omega arith)) (omega arith)
+]
+
+twice : (xs : List ℕ) → ((i : ℕ) → slice_index xs i < 256) → length (encode_utf8_all xs) ≤ 2 * length xs
+twice [] h = omega arith
+twice (x ∷ xs) h = omega (arith, length-append (encode_utf8 x) (encode_utf8_all xs), length_two x (h 0), twice xs (λ i. h (suc i)))
+
+below_take : (xs : List ℕ) (n : ℕ) → ((i : ℕ) → slice_index xs i < 256) → (i : ℕ) → slice_index (take n xs) i < 256
+below_take xs n h i = Each-take (λ b. b < 256) (omega arith) xs n (λ k _. h k) i
+
+-- ---- one more byte as a character
+pub latin1_more : (xs : List ℕ) (i : ℕ) → i < length xs → encode_utf8_all (take (i + 1) xs) ≡ encode_utf8_all (take i xs) ++ encode_utf8 (slice_index xs i)
+latin1_more xs i h = rw (take_more xs i 0 h, encodes-append, append-nil) refl
+
+pub latin1_bytes_two : (c : ℕ) → 128 ≤ c → c < 256 → encode_utf8 c ≡ bit_or 0xC0 (c / 64) ∷ bit_or 0x80 (bit_and c 0x3F) ∷ []
+latin1_bytes_two c l h =
+    let lead : bit_or 0xC0 (c / 64) ≡ 192 + c / 64 = grind (arith, common_steps) in
+    let last : bit_or 0x80 (bit_and c 0x3F) ≡ 128 + c % 64 = grind (arith, common_steps) in
+    two c l (omega arith) ∙ rw (lead, last) refl
+
+-- with two bytes of room for each byte the longest front that fits is all
+pub latin1_fits_twice : (xs : List ℕ) (room read : ℕ) (out : List ℕ) → ((i : ℕ) → slice_index xs i < 256) → 2 * length xs ≤ room
+    → FitsLongest (λ b. b ∷ []) encode_utf8 xs room read out → out ≡ encode_utf8_all xs
+latin1_fits_twice xs room read out h l f =
+    let all : take (length xs) xs ≡ xs = take_all (length xs) xs (omega arith) in
+    let whole : f.count ≡ length xs = elim (cases_lt f.count (length xs)) [
+      | inl p ↦ absurd (omega (arith, f.longest p, ap length (flat_map-encode_utf8 (take (f.count + 1) xs)), twice (take (f.count + 1) xs) (below_take xs (f.count + 1) h), length-take-le (f.count + 1) xs (omega arith)))
+      | inr p ↦ omega (arith, f.within)
+    ] in
+    f.written ∙ flat_map-encode_utf8 (take f.count xs) ∙ ap (λ n. encode_utf8_all (take n xs)) whole ∙ ap encode_utf8_all all
+
+-- ---- one more character as a byte
+low_or : (c : ℕ) → 128 ≤ c → c < 192 → bit_or 128 (bit_and (128 + c % 64) 63) ≡ c
+low_or c l h =
+    let last : bit_and (128 + c % 64) 63 ≡ (128 + c % 64) % 64 = grind (arith, common_steps) in
+    let both : bit_or 128 (c % 64) ≡ 128 + c % 64 = grind (arith, common_steps) in
+    ap (λ n. bit_or 128 n) (last ∙ (let e : (128 + c % 64) % 64 ≡ c % 64 = omega arith in e)) ∙ both ∙ (let e : 128 + c % 64 ≡ c = omega arith in e)
+
+high_or : (c : ℕ) → 192 ≤ c → c < 256 → bit_or 192 (bit_and (128 + c % 64) 63) ≡ c
+high_or c l h =
+    let last : bit_and (128 + c % 64) 63 ≡ (128 + c % 64) % 64 = grind (arith, common_steps) in
+    let both : bit_or 192 (c % 64) ≡ 192 + c % 64 = grind (arith, common_steps) in
+    ap (λ n. bit_or 192 n) (last ∙ (let e : (128 + c % 64) % 64 ≡ c % 64 = omega arith in e)) ∙ both ∙ (let e : 192 + c % 64 ≡ c = omega arith in e)
+
+-- the two bits that the first byte has for the scalar value, and the six of the second
+pub character_of_two : (a b c : ℕ) → 128 ≤ c → c < 256 → a ≡ 192 + c / 64 → b ≡ 128 + c % 64 → bit_or (a * 64 % 256) (bit_and b 63) ≡ c
+character_of_two a b c l h e f = elim (cases_lt c 192) [
+  | inl p ↦ let first : a * 64 % 256 ≡ 128 = omega arith in rw (first, f) (low_or c l p)
+  | inr p ↦ let first : a * 64 % 256 ≡ 192 = omega arith in rw (first, f) (high_or c p h)
+]
+
+pub WritesFront_low : (old new xs : List ℕ) (n b : ℕ) → WritesFront old new n (map (λ (unit : ℕ). unit % 0x100) (take n xs)) → n < length xs → n < length new → b ≡ slice_index xs n % 0x100
+    → WritesFront old (set new n b) (n + 1) (map (λ (unit : ℕ). unit % 0x100) (take (n + 1) xs))
+WritesFront_low old new xs n b w l m e = rw (map_more (λ (unit : ℕ). unit % 0x100) xs n 0 l, sym e) (WritesFront_push old new n _ b w m)
+
+-- ---- behind an ASCII front, which is its own text
+ascii_utf8_front : (bs : List ℕ) (n : ℕ) → IsAscii (take n bs) → take n bs ++ encode_utf8_all (take (length bs - n) (drop n bs)) ≡ encode_utf8_all bs
+ascii_utf8_front bs n h =
+    let rest : encode_utf8_all (take (length bs - n) (drop n bs)) ≡ encode_utf8_all (drop n bs) = ap encode_utf8_all (take_rest bs n) in
+    let front : encode_utf8_all (take n bs) ≡ take n bs = encodes-IsAscii (take n bs) h in
+    let whole = encodes-append (take n bs) (drop n bs) in
+    rw rest (ap (λ xs. xs ++ encode_utf8_all (drop n bs)) (sym front) ∙ sym whole ∙ ap encode_utf8_all (take-append-drop n bs))
+
+pub ascii_latin1_rest : (bs : List ℕ) (n : ℕ) → IsAscii (take n bs) → IsUtf8Latin1 bs → IsUtf8Latin1 (take (length bs - n) (drop n bs))
+ascii_latin1_rest bs n h u =
+    let front : encode_utf8_all (take n bs) ≡ take n bs = encodes-IsAscii (take n bs) h in
+    let parts = split_front (take n bs) u.0 (drop n bs) (u.2 ∙ sym (take-append-drop n bs) ∙ ap (λ xs. xs ++ drop n bs) (sym front)) in
+    let low : IsLatin1 (take n bs ++ parts.0) = subst IsLatin1 parts.1 u.1 in
+    rw (take_rest bs n) (parts.0, IsLatin1-behind (take n bs) parts.0 low, parts.2)
+
+ascii_chars_front : (bs : List ℕ) (n : ℕ) → IsAscii (take n bs) → take n bs ++ chars (take (length bs - n) (drop n bs)) ≡ chars bs
+ascii_chars_front bs n h =
+    let rest : chars (take (length bs - n) (drop n bs)) ≡ chars (drop n bs) = ap chars (take_rest bs n) in
+    let front : chars (take n bs) ≡ take n bs = chars-IsAscii (take n bs) h in
+    let whole = chars-append (take n bs) (drop n bs) (IsUtf8-from_ascii (take n bs) h) in
+    rw rest (ap (λ xs. xs ++ chars (drop n bs)) (sym front) ∙ sym whole ∙ ap chars (take-append-drop n bs))
+
+-- a front was copied, and a call wrote behind it
+written_behind : (bs old front sub : List ℕ) (n m : ℕ) (more : List ℕ) → n ≤ length bs → n ≤ length old → front ≡ take n bs
+    → WritesFront (take (length (front ++ drop n old) - n) (drop n (front ++ drop n old))) sub m more
+    → WritesFront old (put_mid n (length (front ++ drop n old) - n) (front ++ drop n old) sub) (n + m) (take n bs ++ more)
+written_behind bs old front sub n m more l k e w =
+    let copied : WritesFront old (front ++ drop n old) n (take n bs) =
+    record { count = sym (length-take-le n bs l); fits = k; placed = ap (λ xs. xs ++ drop n old) e } in
+    WritesFront_after old (front ++ drop n old) n (take n bs) sub m more copied w
+
+pub utf8_written_behind : (bs old front sub : List ℕ) (n m : ℕ) → n ≤ length bs → n ≤ length old → IsAscii (take n bs) → front ≡ take n bs
+    → WritesFront (take (length (front ++ drop n old) - n) (drop n (front ++ drop n old))) sub m (encode_utf8_all (take (length bs - n) (drop n bs)))
+    → WritesFront old (put_mid n (length (front ++ drop n old) - n) (front ++ drop n old) sub) (n + m) (encode_utf8_all bs)
+utf8_written_behind bs old front sub n m l k h e w = rw (ascii_utf8_front bs n h) at (written_behind bs old front sub n m _ l k e w)
+
+pub latin1_written_behind : (bs old front sub : List ℕ) (n m : ℕ) → n ≤ length bs → n ≤ length old → IsAscii (take n bs) → front ≡ take n bs
+    → WritesFront (take (length (front ++ drop n old) - n) (drop n (front ++ drop n old))) sub m (chars (take (length bs - n) (drop n bs)))
+    → WritesFront old (put_mid n (length (front ++ drop n old) - n) (front ++ drop n old) sub) (n + m) (chars bs)
+latin1_written_behind bs old front sub n m l k h e w = rw (ascii_chars_front bs n h) at (written_behind bs old front sub n m _ l k e w)
+
+-- bytes as characters are well-formed
+pub IsUtf8-bytes : (xs : List ℕ) → ((i : ℕ) → slice_index xs i < 256) → IsUtf8 (encode_utf8_all xs)
+IsUtf8-bytes xs h = (xs, (scalars_of_latin1 xs (λ i. omega (arith, h i)), refl))

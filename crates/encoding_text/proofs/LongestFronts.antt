@@ -1,0 +1,5 @@
+pub mod FrontsLemmas
+pub mod FittingLemmas
+pub mod Utf8Lemmas
+pub mod ConvertingLemmas
+pub mod ToUtf16Lemmas

@@ -1,0 +1,3 @@
+pub mod SequenceLemmas
+pub mod EncodingLemmas
+pub mod ScalarLemmas

@@ -1,0 +1,5 @@
+-- What private functions say of their steps. Public contracts cite none of these.
+pub mod Resuming
+pub mod Ending
+pub mod Converting
+pub mod FirstScalar
