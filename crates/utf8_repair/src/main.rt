@@ -2,6 +2,7 @@
 #![tactic(auto)]
 
 pub mod service;
+pub mod streams;
 #[cfg(test)]
 mod tests;
 
