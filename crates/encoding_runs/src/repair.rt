@@ -3,4 +3,4 @@ mod engine;
 mod streams;
 
 pub use engine::{RepairFault, repair_slice};
-pub use streams::{Sink, Watch};
+pub use streams::{Sink, Source, Watch};
