@@ -1,2 +1,4 @@
+pub mod SettledLemmas
 pub mod RepairLemmas
+pub mod RoundLemmas
 pub mod RepeatLemmas
