@@ -37,7 +37,7 @@ wrote_more last bs mid rest old new now n more w f a = record {
 }
 
 -- a front of the text of more parts
-front_behind : (ps qs : List Part) (out : List ℕ) → IsProperFront out (repaired_text qs) → IsProperFront (repaired_text ps ++ out) (repaired_text (ps ++ qs))
+pub front_behind : (ps qs : List Part) (out : List ℕ) → IsProperFront out (repaired_text qs) → IsProperFront (repaired_text ps ++ out) (repaired_text (ps ++ qs))
 front_behind ps qs out (left, some, whole) =
     (left, some, repaired_text-append ps qs ∙ ap (λ xs. repaired_text ps ++ xs) whole ∙ sym (append_assoc (repaired_text ps) out left))
 
@@ -73,7 +73,8 @@ wrote_count last bs rest old new n w = omega (arith, w.broken, count_broken-byte
 pub wrote_all : (last : Bool) (bs : List ℕ) (old new : Option (List ℕ)) (n : ℕ) → WritesParts last bs [] old new n → WritesRepaired bs old new n
 wrote_all last bs old new n w = (repaired_text w.parts, (w.parts, w.first.starts, refl, w.broken), w.bytes)
 
-longer_front : (out text more : List ℕ) → IsProperFront out text → IsProperFront out (text ++ more)
+-- a front of a text is one of what begins with the text
+pub longer_front : (out text more : List ℕ) → IsProperFront out text → IsProperFront out (text ++ more)
 longer_front out text more (left, some, whole) = (
   left ++ more,
   (λ none. some (no_items left more none)),

@@ -3,7 +3,7 @@ use Rattle.std.proofs.Common.{◌≡◌, ℕ, Bool, true, false, List, [], ◌�
 use Rattle.std.proofs.lemmas.List.{append-nil, append_assoc}
 use Rattle.encoding_text.specs.Sequence.{IsBeginning}
 use Rattle.encoding_text.specs.Pending.{IsPending}
-use Rattle.encoding_text.specs.Parts.{Part, Broken, StartsWith, AreSettled}
+use Rattle.encoding_text.specs.Parts.{Part, Broken, BeginsWithNoCharacter, StartsWith, AreSettled}
 use Rattle.encoding_text.proofs.Decomposition.PartsLemmas.{part_bytes}
 use Rattle.encoding_text.proofs.Decomposition.DecompositionLemmas.{StartsWith-append, settled_stay, has_settled}
 use Rattle.encoding_runs.specs.Steps.Writing.{AreFirst}
@@ -31,12 +31,23 @@ AreFirst-more last bs ps mid more qs rest f g = record {
 }
 
 -- ---- the settled parts
--- a last part behind which nothing stands, whatever follows, is no beginning
-last_part : (bs more : List ℕ) (front : List Part) (x : List ℕ) → StartsWith bs (front ++ Broken x ∷ []) more → (rest : List ℕ) × (rest ≡ x ++ more) × ((c : List ℕ) (r : List ℕ) → rest ≡ c ++ r → ⊥)
-last_part bs more front x s = ?
+-- behind the parts in front of a last broken one stand its bytes and what follows, and no character begins these
+last_part : (bs more : List ℕ) (front : List Part) (x : List ℕ) → StartsWith bs (front ++ Broken x ∷ []) more
+    → (mid : List ℕ) × (mid ≡ x ++ more) × BeginsWithNoCharacter mid
+last_part bs more [] x (after, f, e) = (bs, (part_bytes bs (Broken x) after f).0 ∙ ap (λ xs. x ++ xs) e, f.0)
+last_part bs more (p ∷ front) x (after, f, s) = last_part after more front x s
 
+-- parts that stay whatever follows are the settled ones: a last beginning would not stay before the bytes that end it
 pub settled_first : (bs : List ℕ) (ps : List Part) (rest : List ℕ) → AreFirst false bs ps rest → IsPending rest → AreSettled bs ps rest
-settled_first bs ps rest f p = ?
+settled_first bs ps rest f p = record { starts = f.starts; still_open = p; closed = closed }
+  where
+    closed : rest ≡ [] → (front : List Part) (x : List ℕ) → ps ≡ front ++ Broken x ∷ [] → IsBeginning x → ⊥
+    closed none front x same begins =
+        let more : List ℕ = begins.1 in
+        let there : StartsWith (bs ++ more) (front ++ Broken x ∷ []) more =
+            subst (λ qs. StartsWith (bs ++ more) qs more) same (subst (λ xs. StartsWith (bs ++ more) ps (xs ++ more)) none (f.whatever_follows refl more)) in
+        let l = last_part (bs ++ more) more front x there in
+        l.2 (x ++ more) [] (l.1 ∙ sym (append-nil (x ++ more))) begins.3
 
 pub first_settled : (bs : List ℕ) (ps : List Part) (rest : List ℕ) → AreSettled bs ps rest → AreFirst false bs ps rest
 first_settled bs ps rest s = record { starts = s.starts; whatever_follows = λ _ more. settled_stay bs ps rest more s.starts s.closed }

@@ -6,11 +6,11 @@ use Rattle.encoding_text.specs.declared.decoder.Piece.{Piece}
 use Rattle.encoding_text.specs.declared.decoder.Piece.TheVariants.{Text, Char, Malformed, InputEmpty}
 use Rattle.encoding_runs.specs.Repairs.{IsProperFront}
 
--- what is written for a piece
+-- what is written for a piece: U+FFFD for a broken part
 abbrev pub text_of : Piece → List ℕ
 text_of (Text t) = t.now
 text_of (Char c) = encode_utf8 c
-text_of (Malformed k) = encode_utf8 0xFFFD
+text_of (Malformed k) = 0xEF ∷ 0xBF ∷ 0xBD ∷ []
 text_of InputEmpty = []
 
 -- how many broken parts a piece is
