@@ -1,12 +1,18 @@
 -- What stands written when the text of so many first parts is, and when a write fails in the middle of one.
-use Rattle.std.proofs.Common.{◌≡◌, ℕ, ◌+◌, ◌<◌, ◌≤◌, Bool, true, false, List, [], ◌∷◌, ◌++◌, length, take, drop, map, Option, encode_utf8, refl, sym, ap, ◌∙◌, arith, subst}
+use Rattle.std.proofs.Common.{◌≡◌, ℕ, ◌+◌, ◌<◌, ◌≤◌, Bool, true, false, List, [], ◌∷◌, ◌++◌, length, take, drop, map, Option, encode_utf8, encode_utf8_all, refl, sym, ap, ◌∙◌, arith, subst}
 use Rattle.std.specs.Io.KnownBytes.{Appends}
 use Rattle.std.proofs.KnownBytes.{Appends-nil, Appends-trans}
-use Rattle.std.proofs.lemmas.List.{append_assoc, length-append, length-drop, take-append-drop}
+use Rattle.std.proofs.lemmas.List.{append-nil, append_assoc, length-append, length-drop, take-append-drop}
+use Rattle.std.specs.Str.{IsUtf8, chars}
+use Rattle.std.proofs.lemmas.Str.{encodes-chars}
+use lib.Utf8.{encode}
 use Rattle.encoding_text.specs.Parts.{Part, Character, Broken, StartsWith, repaired_text, count_broken}
 use Rattle.encoding_text.specs.Decoding.{IsBorrowedCall}
 use Rattle.encoding_text.specs.declared.decoder.Piece.{Piece}
-use Rattle.encoding_text.proofs.Decomposition.DecompositionLemmas.{StartsWith-append, has_parts, repaired_text-append, count_broken-append, count_broken-bytes}
+use Rattle.encoding_text.specs.declared.decoder.Piece.TheVariants.{Text, Char, Malformed, InputEmpty}
+use Rattle.encoding_text.specs.Giving.{Gives}
+use Rattle.encoding_text.proofs.Calls.BorrowedLemmas.{borrowed_gives}
+use Rattle.encoding_text.proofs.Decomposition.DecompositionLemmas.{StartsWith-append, has_parts, repaired_text-append, repaired_text-characters, count_broken-append, count_broken-characters, count_broken-bytes}
 use Rattle.encoding_runs.specs.Repairs.{IsProperFront, WritesRepaired, Stops}
 use Rattle.encoding_runs.specs.Steps.Writing.{text_of, broken_of, AreFirst, WritesParts, StopsInParts}
 use Rattle.encoding_runs.proofs.SettledLemmas.{AreFirst-nil, AreFirst-trans, AreFirst-more}
@@ -19,8 +25,33 @@ pub record GivesPiece (p src : List ℕ) (last : Bool) (piece : Piece) (read : �
   pub text : repaired_text parts ≡ text_of piece
   pub broken : count_broken parts ≡ broken_of piece
 
+-- by its parts
+gives_of : (p src : List ℕ) (last : Bool) (piece : Piece) (read : ℕ) (q : List ℕ) (parts : List Part) → Gives p src last parts read q → repaired_text parts ≡ text_of piece
+    → count_broken parts ≡ broken_of piece → GivesPiece p src last piece read q
+gives_of p src last piece read q parts g text broken = record {
+  parts = parts;
+  within = g.within;
+  first = record { starts = g.first; whatever_follows = g.whatever_follows };
+  text = text;
+  broken = broken;
+}
+
 pub piece_gives : (p src : List ℕ) (last : Bool) (piece : Piece) (read : ℕ) (q : List ℕ) → IsBorrowedCall p src last piece read q → GivesPiece p src last piece read q
-piece_gives p src last piece read q call = ?
+unfolding encode
+piece_gives p src last (Text t) read q call =
+    let (parts, are, g) = borrowed_gives p src last (Text t) read q call in
+    let (neutral, none, some, bytes, front) = call.answer in
+    let spelled : encode_utf8_all (chars t.now) ≡ t.now = encodes-chars t.now (subst IsUtf8 (sym bytes) front.kind) in
+    gives_of p src last (Text t) read q parts g (ap repaired_text are ∙ repaired_text-characters (chars t.now) ∙ spelled) (ap count_broken are ∙ count_broken-characters (chars t.now))
+piece_gives p src last (Char c) read q call =
+    let (parts, are, g) = borrowed_gives p src last (Char c) read q call in
+    gives_of p src last (Char c) read q parts g (ap repaired_text are ∙ append-nil (encode_utf8 c)) (ap count_broken are)
+piece_gives p src last (Malformed k) read q call =
+    let (parts, (x, are, size), g) = borrowed_gives p src last (Malformed k) read q call in
+    gives_of p src last (Malformed k) read q parts g (ap repaired_text are) (ap count_broken are)
+piece_gives p src last InputEmpty read q call =
+    let (parts, are, g) = borrowed_gives p src last InputEmpty read q call in
+    gives_of p src last InputEmpty read q parts g (ap repaired_text are) (ap count_broken are)
 
 -- ---- what is written
 pub WritesParts-nil : (last : Bool) (bs : List ℕ) (old : Option (List ℕ)) → WritesParts last bs bs old old 0

@@ -1,4 +1,7 @@
 pub mod Repairs
 pub mod Streams
 pub mod Repeats
+pub mod Chains
+pub mod Turns
+pub mod Runs
 pub mod Steps

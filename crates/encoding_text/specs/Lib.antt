@@ -5,6 +5,8 @@ pub mod Giving
 pub mod Fronts
 pub mod Converting
 pub mod Decoding
+pub mod OneAnswer
+pub mod GivenParts
 pub mod Ascii
 pub mod Latin1
 pub mod Borrowed

@@ -84,6 +84,7 @@ fn write_parts<W: Sink>(
     last: bool,
     writer: &mut W,
 ) -> Result<u64, RepairFault>
+    requires unfinished { IsPending decoder.old }
     ensures ok { IfOk result (λ replaced. WritesParts last (decoder.old ++ src.now) decoder.new
             (W.contents writer.old) (W.contents writer.new) replaced
         × IsPending decoder.new × (last ≡ true → decoder.new ≡ [])
@@ -131,6 +132,7 @@ fn repair_round<R: Source, W: Sink>(
     buffer: &mut [u8],
     writer: &mut W,
 ) -> Result<Repaired, RepairFault>
+    requires unfinished { IsPending decoder.old }
     requires some_room { 0 < length buffer.old }
     ensures ok { IfOk result (λ round. (bytes : List ℕ) × (last : Bool) × (round.read ≡ length bytes)
         × ReadsRound (length buffer.old) bytes last (R.remaining reader.old) (R.remaining reader.new)
