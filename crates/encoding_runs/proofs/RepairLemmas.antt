@@ -1,11 +1,13 @@
 -- What stands written when the text of so many first parts is, and when a write fails in the middle of one.
-use Rattle.std.proofs.Common.{◌≡◌, ℕ, ◌+◌, ◌<◌, ◌≤◌, Bool, true, false, List, [], ◌∷◌, ◌++◌, length, take, drop, map, Option, encode_utf8, encode_utf8_all, refl, sym, ap, ◌∙◌, arith, subst}
+use Rattle.std.proofs.Common.{◌≡◌, ℕ, ◌+◌, ◌<◌, ◌≤◌, Bool, true, false, List, [], ◌∷◌, ◌++◌, length, take, drop, map, Option, inl, inr, encode_utf8, encode_utf8_all, refl, sym, ap, ◌∙◌, arith, subst}
 use Rattle.std.specs.Io.KnownBytes.{Appends}
 use Rattle.std.proofs.KnownBytes.{Appends-nil, Appends-trans}
 use Rattle.std.proofs.lemmas.List.{append-nil, append_assoc, length-append, length-drop, take-append-drop}
 use Rattle.std.specs.Str.{IsUtf8, chars}
 use Rattle.std.proofs.lemmas.Str.{encodes-chars}
 use lib.Utf8.{encode}
+use Rattle.encoding_text.specs.Pending.{IsPending}
+use Rattle.encoding_text.proofs.Sequences.SequenceLemmas.{length-IsBeginning}
 use Rattle.encoding_text.specs.Parts.{Part, Character, Broken, StartsWith, repaired_text, count_broken}
 use Rattle.encoding_text.specs.Decoding.{IsBorrowedCall}
 use Rattle.encoding_text.specs.declared.decoder.Piece.{Piece}
@@ -132,3 +134,8 @@ wrote_behind last bs mid more rest old new now n m w v = record {
   bytes = subst (Appends old now) (sym (repaired_text-append w.parts v.parts)) (Appends-trans _ _ _ _ _ w.bytes v.bytes);
   broken = omega (arith, w.broken, v.broken, count_broken-append w.parts v.parts);
 }
+
+-- at most three bytes are pending
+pub pending_length : (p : List ℕ) → IsPending p → length p ≤ 3
+pending_length p (inl e) = omega (arith, ap length e)
+pending_length p (inr b) = length-IsBeginning p b

@@ -1,8 +1,8 @@
 -- The rounds of the engine, one behind the other, up to the end or a fault.
-use Rattle.std.proofs.Common.{◌≡◌, ℕ, ◌+◌, ◌≤◌, Bool, true, false, List, [], ◌++◌, length, take, Option, inl, refl, sym, ap, ◌∙◌, arith, subst}
-use Rattle.std.specs.Io.KnownBytes.{Appends, Consumes, Keeps}
+use Rattle.std.proofs.Common.{◌≡◌, ℕ, zero, suc, ◌+◌, ◌<◌, ◌≤◌, Bool, true, false, List, [], ◌++◌, length, take, Option, nat_eq, inl, refl, sym, ap, ◌∙◌, arith, subst}
+use Rattle.std.specs.Io.KnownBytes.{Appends, Consumes, IsAtEnd, Keeps}
 use Rattle.std.proofs.KnownBytes.{Appends-nil, Appends-trans, Consumes-nil, Consumes-trans, Consumes-kept}
-use Rattle.std.proofs.lemmas.List.{append-nil, length-append, take_at}
+use Rattle.std.proofs.lemmas.List.{append-nil, length-append, length-take, take_at}
 use Rattle.encoding_text.specs.Pending.{IsPending}
 use Rattle.encoding_text.specs.Parts.{Part, repaired_text}
 use Rattle.encoding_text.proofs.Decomposition.DecompositionLemmas.{StartsWith-append, has_parts, repaired_text-append}
@@ -34,12 +34,12 @@ reaches_count unread left old new read n p r = omega (arith, r.count, wrote_coun
 is_settled : (bs p : List ℕ) (old new : Option (List ℕ)) (n : ℕ) → (w : WritesParts false bs p old new n) → IsPending p → IsSettledText bs (repaired_text w.parts)
 is_settled bs p old new n w still = (w.parts, p, settled_first bs w.parts p w.first still, refl)
 
-pub stopped_reading : (unread mid left old new now : Option (List ℕ)) (read n : ℕ) (p : List ℕ) → Reaches unread mid old new read n p → Keeps mid left → Appends new now []
-    → (bytes : List ℕ) × (length bytes ≡ read) × RepairsSettled bytes unread left old now
-stopped_reading unread mid left old new now read n p r k a = (
+pub stopped_reading : (unread mid left old new : Option (List ℕ)) (read n : ℕ) (p : List ℕ) → Reaches unread mid old new read n p → Keeps mid left
+    → (bytes : List ℕ) × (length bytes ≡ read) × RepairsSettled bytes unread left old new
+stopped_reading unread mid left old new read n p r k = (
   r.input,
   sym r.count,
-  (Consumes-kept _ _ _ _ r.consumed k, (repaired_text r.wrote.parts, is_settled _ _ _ _ _ r.wrote r.still_open, subst (Appends old now) (append-nil (repaired_text r.wrote.parts)) (Appends-trans _ _ _ _ _ r.wrote.bytes a))),
+  (Consumes-kept _ _ _ _ r.consumed k, (repaired_text r.wrote.parts, is_settled _ _ _ _ _ r.wrote r.still_open, r.wrote.bytes)),
 )
 
 -- ---- at the end
@@ -103,3 +103,19 @@ stopped_writing unread mid left old new now read n p room bytes last before afte
     at_end : (b' : Bool) → last ≡ b' → after ≡ true → length r.input ≡ length all
     at_end true e t = omega (arith, length-append r.input bytes, ap length (b.at_end e).0)
     at_end false e t = absurd (let no : false ≡ true = sym going ∙ sym (b.going_on e).1 ∙ t in cc)
+
+-- ---- a round that gave bytes, and one that gave none
+pub reaches_next : (unread mid left old new now : Option (List ℕ)) (read n : ℕ) (p : List ℕ) (room : ℕ) (bytes : List ℕ) (last before after : Bool) (m : ℕ) (q : List ℕ)
+    → Reaches unread mid old new read n p → ReadsRound room bytes last mid left before after → WritesParts last (p ++ bytes) q new now m → IsPending q → 0 < length bytes
+    → Reaches unread left old now (read + length bytes) (n + m) q × (after ≡ before)
+reaches_next unread mid left old new now read n p room bytes true before after m q r b w still some = absurd (omega (arith, ap length (b.at_end refl).0, some))
+reaches_next unread mid left old new now read n p room bytes false before after m q r b w still some =
+    (reaches_more unread mid left old new now read n p room bytes before after m q r b w still, (b.going_on refl).1)
+
+pub reaches_end : (unread mid left old new now : Option (List ℕ)) (read n : ℕ) (p : List ℕ) (room : ℕ) (bytes : List ℕ) (last before after : Bool) (m : ℕ) (q : List ℕ)
+    → Reaches unread mid old new read n p → ReadsRound room bytes last mid left before after → WritesParts last (p ++ bytes) q new now m → (last ≡ true → q ≡ []) → length bytes ≡ 0
+    → (all : List ℕ) × (read + length bytes ≡ length all) × RepairsAll all unread left old now (n + m) × (after ≡ true)
+reaches_end unread mid left old new now read n p room bytes false before after m q r b w none empty = absurd (omega (arith, (b.going_on refl).0, empty))
+reaches_end unread mid left old new now read n p room bytes true before after m q r b w none empty =
+    let all = reached_end unread mid left old new now read n p room bytes before after m r b (subst (λ xs. WritesParts true (p ++ bytes) xs new now m) (none refl) w) in
+    (all.0, all.1, all.2, (b.at_end refl).1)

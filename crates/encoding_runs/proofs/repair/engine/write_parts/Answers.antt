@@ -1,9 +1,7 @@
-use Rattle.std.proofs.Common.{◌≡◌, ◌∙◌, inl, inr, arith, ap, length, subst}
+use Rattle.std.proofs.Common.{◌≡◌, ◌∙◌, arith}
 use Rattle.std.proofs.lemmas.Result.{err_from_is_err_and}
-use Rattle.std.proofs.lemmas.List.{take_rest, length-append, length-drop}
-use Rattle.encoding_text.specs.Pending.{IsPending}
-use Rattle.encoding_text.proofs.Calls.CallLemmas.{pending_bound}
-use Rattle.encoding_runs.proofs.RepairLemmas.{wrote_piece, stopped_piece, wrote_count, piece_gives}
+use Rattle.std.proofs.lemmas.List.{take_rest, length-append}
+use Rattle.encoding_runs.proofs.RepairLemmas.{wrote_piece, stopped_piece, wrote_count, pending_length}
 use Rattle.encoding_runs.proofs.repair.engine.write_parts.Goals as goal
 
 pub returns-in_err-replaced-clause-err : goal.returns-in_err-replaced-clause-err
@@ -16,7 +14,7 @@ pub overflow_add-replaced : goal.overflow_add-replaced
 overflow_add-replaced g c =
     let e = c.in_ok-replaced.ensures.ok in
     let wrote = wrote_piece _ _ _ _ _ _ _ _ _ _ _ c.loop-writer.invariant.wrote c.decode_borrowed_raw-read.ensures e.1 in
-    omega (arith, wrote_count _ _ _ _ _ _ wrote, e.0, length-append c.args.decoder.now c.args.src.now, ?, ?)
+    omega (arith, wrote_count _ _ _ _ _ _ wrote, e.0, length-append c.args.decoder.now c.args.src.now, pending_length c.args.decoder.now c.requires.unfinished, c.well_formed.1.0.0)
 
 pub loop-writer-preserved : goal.loop-writer-preserved
 loop-writer-preserved g c =
