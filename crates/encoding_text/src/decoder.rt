@@ -11,15 +11,15 @@ use call::decode;
 use pending::Pending;
 use std::marker::Model;
 
-/// What a call of a decoder answers.
+/// What ended a call of a decoder.
 #[derive(Debug, PartialEq, Eq, Drop)]
 pub enum DecoderResult {
-    /// All of the source was read.
+    /// All of the source was read. After a last call nothing is pending: a beginning at its end is reported before.
     InputEmpty,
     /// The room that is left may not hold the next character: hand in more.
     OutputFull,
-    /// A broken part of so many bytes, one to three, ends what was read. The second number, of bytes read behind
-    /// it, is always 0.
+    /// A broken part of so many bytes, one to three, ends what was read, and nothing is pending. The second number,
+    /// of bytes read behind it, is always 0.
     Malformed(u8, u8),
 }
 
@@ -87,8 +87,8 @@ impl Utf8Decoder {
             .checked_add(3)
     }
 
-    /// Decodes to UTF-16: the answer, how many bytes of `src` were read, and how many code units of `dst` written.
-    /// `last` says that no bytes will follow `src`.
+    /// Decodes to UTF-16, and returns what ended the call, how many bytes of `src` it read and how many code units it
+    /// wrote. `last` says that no bytes will follow `src`.
     ///
     /// A broken part is reported and nothing is written for it: hand in the unread bytes again, and write U+FFFD
     /// before that, or give up. After a report the decoder is as a new one. With at least two code units of room and
@@ -110,8 +110,8 @@ impl Utf8Decoder {
         decode::<u16>(&mut self.pending, src, dst, last)
     }
 
-    /// Decodes to UTF-8: the answer, how many bytes of `src` were read, and how many bytes of `dst` written.
-    /// `last` says that no bytes will follow `src`.
+    /// Decodes to UTF-8, and returns what ended the call, how many bytes of `src` it read and how many bytes it
+    /// wrote. `last` says that no bytes will follow `src`.
     ///
     /// A broken part is reported and nothing is written for it: hand in the unread bytes again, and write U+FFFD
     /// before that, or give up. After a report the decoder is as a new one. With at least four bytes of room and an
