@@ -5,4 +5,5 @@
 pub mod ascii;
 pub mod decoder;
 pub mod mem;
+mod sequence;
 pub mod utf_8;

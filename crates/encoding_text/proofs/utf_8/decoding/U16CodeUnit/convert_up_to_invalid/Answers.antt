@@ -7,13 +7,13 @@ use Rattle.encoding_text.proofs.utf_8.decoding.U16CodeUnit.convert_up_to_invalid
 
 pub scalar_of_sequence-scalar-requires : goal.scalar_of_sequence-scalar-requires
 scalar_of_sequence-scalar-requires c =
-    let found = rw take_rest at c.in-Some.ensures.some in
+    let found = rw take_rest at c.in-Some.ensures.length in
     let size : c.loop-length.read + c.in-Some.length - c.loop-length.read ≡ c.in-Some.length = omega arith in
     record { sequence = rw size found.2 }
 
 pub loop-length-preserved : goal.loop-length-preserved
 loop-length-preserved c =
-    let found = rw take_rest at c.in-Some.ensures.some in
+    let found = rw take_rest at c.in-Some.ensures.length in
     let size : c.loop-length.read + c.in-Some.length - c.loop-length.read ≡ c.in-Some.length = omega arith in
     let s = c.scalar_of_sequence-scalar.ensures in
     converted_more encode_utf16 _ _ _ _ _ _ _ c.in-Some.length _ c.loop-length.invariant s.scalar (rw size at s.spelled) found.1 c.in-Some-put_utf16.ensures.some
@@ -26,7 +26,7 @@ returns-in_default-put_utf16-clause-front c =
     converted_unfit encode_utf16 _ _ _ _ _ _ _ c.in-Some.length c.loop-length.invariant s.scalar (rw size at s.spelled) unfit.1 unfit.0
 
 pub returns-in_default-clause-front : goal.returns-in_default-clause-front
-returns-in_default-clause-front c = converted_stuck encode_utf16 _ _ _ _ _ c.loop-length.invariant (rw take_rest at c.in_default.ensures.none)
+returns-in_default-clause-front c = converted_stuck encode_utf16 _ _ _ _ _ c.loop-length.invariant (rw take_rest at c.in_default.ensures.no_character)
 
 pub returns-in_default-put_utf16-clause-fits_the_need : goal.returns-in_default-put_utf16-clause-fits_the_need
 returns-in_default-put_utf16-clause-fits_the_need c = length-encode_utf16-le
