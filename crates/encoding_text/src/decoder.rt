@@ -2,7 +2,7 @@
 mod call;
 mod pending;
 
-ghost use Rattle.std.specs.Prelude.{◌≡◌, ℕ, ◌^◌, ◌<◌, ◌≤◌, ◌↔◌, ◌⊎◌, List, [], length, encode_utf8, IsTrue};
+ghost use Rattle.std.specs.Prelude.{◌≡◌, ℕ, ◌<◌, ◌≤◌, ◌↔◌, ◌⊎◌, List, [], length, encode_utf8, IsTrue};
 ghost use Rattle.std.specs.Option.{SomeIff};
 ghost use Rattle.std.specs.Char.Escape.{encode_utf16};
 ghost use Rattle.encoding_text.specs.Pending.{IsPending};
@@ -60,7 +60,7 @@ impl Utf8Decoder {
     /// never meet its end, also where U+FFFD is written for each report: `None` where that number passes
     /// `usize::MAX`.
     pub fn max_utf16_buffer_length(&self, byte_length: usize) -> Option<usize>
-        ensures { SomeIff result (utf16_room byte_length (length self.now) < 2 ^ 64)
+        ensures { SomeIff result (utf16_room byte_length (length self.now) ≤ usize.MAX)
             (utf16_room byte_length (length self.now)) }
     {
         byte_length.checked_add(1)?.checked_add(self.pending.len())
@@ -69,7 +69,7 @@ impl Utf8Decoder {
     /// How many bytes a destination has to hold so that the next `byte_length` bytes, in any pieces, never meet its
     /// end, where nothing is written for reports: `None` where that number passes `usize::MAX`.
     pub fn max_utf8_buffer_length_without_replacement(&self, byte_length: usize) -> Option<usize>
-        ensures { SomeIff result (utf8_room byte_length (length self.now) < 2 ^ 64)
+        ensures { SomeIff result (utf8_room byte_length (length self.now) ≤ usize.MAX)
             (utf8_room byte_length (length self.now)) }
     {
         byte_length.checked_add(3)?.checked_add(self.pending.len())
@@ -78,7 +78,7 @@ impl Utf8Decoder {
     /// How many bytes a destination has to hold so that the next `byte_length` bytes, in any pieces, never meet its
     /// end, where U+FFFD is written for each report: `None` where that number passes `usize::MAX`.
     pub fn max_utf8_buffer_length(&self, byte_length: usize) -> Option<usize>
-        ensures { SomeIff result (utf8_room_replacing byte_length (length self.now) < 2 ^ 64)
+        ensures { SomeIff result (utf8_room_replacing byte_length (length self.now) ≤ usize.MAX)
             (utf8_room_replacing byte_length (length self.now)) }
     {
         byte_length
@@ -127,7 +127,7 @@ impl Utf8Decoder {
 
         // A destination of the queried length holds this piece, and what is left of it the others.
         ensures suffices { Suffices utf8_room self.old src.now (length dst.old) result.0 result.1 result.2 self.new }
-        ensures suffices_for_both { Suffices utf8_room_replacing self.old src.now (length dst.old)
+        ensures suffices_between_reports { Suffices utf8_room_replacing self.old src.now (length dst.old)
             result.0 result.1 result.2 self.new }
         ensures suffices_replacing { SufficesReplacing utf8_room_replacing 3 self.old src.now (length dst.old)
             result.0 result.1 result.2 self.new }

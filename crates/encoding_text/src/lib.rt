@@ -1,5 +1,5 @@
 //! The text encodings of the Unicode and Encoding Standards, kernel by kernel: each public call says by its
-//! contract exactly what it reads, what it writes and what it answers.
+//! contract exactly what it reads, what it writes and what it returns.
 #![tactic(auto)]
 
 pub mod ascii;

@@ -1,4 +1,4 @@
--- Converting character by character, and that whole characters up to one that doesn't fit are the longest front that fits.
+-- Converting character by character, and that whole characters up to one that doesn't fit are the longest front that fits, both ways.
 use Rattle.std.proofs.Common.{◌≡◌, ℕ, zero, suc, ◌+◌, ◌-◌, ◌<◌, ◌≤◌, ◌⊎◌, inl, inr, true, List, [], ◌∷◌, ◌++◌, length, take, drop, encode_utf8, encode_utf8_all, refl, sym, ap, ◌∙◌, arith, subst, take-add}
 use lib.Utf8.{scalar}
 use Rattle.std.specs.Char.{IsScalar}
@@ -14,7 +14,7 @@ use Rattle.encoding_text.specs.Fronts.{IsLongestFront, FitsLongest, WritesFront}
 use Rattle.encoding_text.specs.Converting.{IsText, ConvertsLongest, FittingBegins}
 use Rattle.encoding_text.specs.Steps.Converting.{ConvertsFront}
 use Rattle.encoding_text.proofs.Sequences.EncodingLemmas.{IsSequence-encode, flat_map-encode_utf8}
-use Rattle.encoding_text.proofs.LongestFronts.FrontsLemmas.{WritesFront-nil, WritesFront_after, WritesFront-length, WritesFront-same, put_mid-same, FitsLongest-all, FitsLongest-stop}
+use Rattle.encoding_text.proofs.LongestFronts.FrontsLemmas.{WritesFront_after, WritesFront-length, WritesFront-same, put_mid-same, FitsLongest-all, FitsLongest-stop}
 use Rattle.encoding_text.proofs.LongestFronts.FittingLemmas.{flat_map_push}
 use Rattle.encoding_text.proofs.LongestFronts.Utf8Lemmas.{IsLongestFront-utf8, no_character_after}
 use Rattle.encoding_text.proofs.Decomposition.DecompositionLemmas.{has_parts}
@@ -37,9 +37,6 @@ pub encodes_more : (cs : List ℕ) (c : ℕ) → encode_utf8_all (cs ++ c ∷ []
 encodes_more cs c = encodes-append cs (c ∷ []) ∙ ap (λ xs. encode_utf8_all cs ++ xs) (encodes_one c)
 
 module _ {A : Type 0} (encode : ℕ → List A) where
-  pub Converted-nil : (src : List ℕ) (old : List A) → Converted encode src old old 0 0
-  Converted-nil src old = record { scalars = []; are_scalars = refl; within = omega arith; spelled = refl; writes = WritesFront-nil old }
-
   -- one more character
   pub converted_more : (src : List ℕ) (old new sub : List A) (read written c n m : ℕ) → Converted encode src old new read written → IsScalar c
       → encode_utf8 c ≡ take n (drop read src) → n ≤ length (drop read src) → WritesFront (take (length new - written) (drop written new)) sub m (encode c)
