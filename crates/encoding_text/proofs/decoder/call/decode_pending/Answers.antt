@@ -2,6 +2,7 @@ use Rattle.std.proofs.Common.{arith, sym, ap, inr, ◌∙◌, ◌≡◌, ◌≢�
 use Rattle.std.proofs.lemmas.Bool.{eqb-true, eqb-false}
 use Rattle.std.proofs.lemmas.List.{take_rest, append-nil, nil_from_length, length-append, length-take}
 use Rattle.encoding_text.proofs.Sequences.SequenceLemmas.{length-IsBeginning}
+use Rattle.encoding_text.proofs.LongestFronts.ConvertingLemmas.{converts_front}
 use Rattle.encoding_text.proofs.Calls.DecodeLemmas.{source_ended, pending_full, pending_stuck, whole_then}
 use Rattle.encoding_text.proofs.decoder.call.decode_pending.Goals as goal
 
@@ -40,5 +41,5 @@ returns-in-Whole-default g c =
     let r = rw c.in-Whole-default.is-0 at c.resume.ensures in
     let e = c.convert_up_to_invalid-written.ensures in
     let some_pending : c.args.pending.now ≢ [] = λ f. omega (arith, ap length f, c.requires.unfinished.0) in
-    whole_then g.U.CodeUnit.encode g.U.CodeUnit.need e.fits_the_need _ _ c.in-Whole-default.bytes _ _ _ _ _ _ c.in-Whole-default.count _ _ _ _ _ some_pending (omega (arith, c.if-dst-needed_room.false, c.needed_room.ensures)) r.1 r.4 r.5 e.front
+    whole_then g.U.CodeUnit.encode g.U.CodeUnit.need e.fits_the_need _ _ c.in-Whole-default.bytes _ _ _ _ _ _ c.in-Whole-default.count _ _ _ _ _ some_pending (omega (arith, c.if-dst-needed_room.false, c.needed_room.ensures)) r.1 r.4 r.5 (converts_front g.U.CodeUnit.encode _ _ _ _ _ e.longest)
     (rw (take_rest c.args.src.now c.resume.result.1) at c.decode_neutral-result.ensures)
