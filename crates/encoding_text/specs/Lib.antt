@@ -6,6 +6,7 @@ pub mod Converting
 pub mod Decoding
 pub mod Ascii
 pub mod Latin1
+pub mod Clearing
 pub mod Borrowed
 pub mod Utf16
 pub mod Encoding
