@@ -1,9 +1,12 @@
 pub mod Sequence
 pub mod Pending
 pub mod Parts
+pub mod Giving
 pub mod Fronts
 pub mod Converting
 pub mod Decoding
+pub mod OneAnswer
+pub mod GivenParts
 pub mod Ascii
 pub mod Latin1
 pub mod Clearing
