@@ -8,7 +8,7 @@ ghost use Rattle.encoding_text.specs.Utf16.{IsUtf8OfLongestFront, IsUtf8OfUnits}
 
 use crate::mem::from_utf16::{convert_utf16_to_utf8, convert_utf16_to_utf8_partial};
 use crate::mem::latin1::{convert_latin1_to_utf8, convert_latin1_to_utf8_partial};
-use crate::utf_8::is_continuation;
+use crate::sequence::is_continuation;
 
 /// How many bytes behind what is written the conversions from Latin1 set to zero, whatever they were.
 const LATIN1_ZEROS: usize = 16;
