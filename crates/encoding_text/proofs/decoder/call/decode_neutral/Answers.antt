@@ -1,4 +1,4 @@
-use Rattle.std.proofs.Common.{arith, rules, length, ◌≤◌, ◌≡◌, ◌<◌, ◌-◌}
+use Rattle.std.proofs.Common.{arith, rules, length, ◌≤◌}
 use Rattle.std.proofs.lemmas.List.{take_rest, length-drop}
 use Rattle.encoding_text.proofs.LongestFronts.FrontsLemmas.{WritesFront-length}
 use Rattle.encoding_text.proofs.LongestFronts.ConvertingLemmas.{converts_front}
