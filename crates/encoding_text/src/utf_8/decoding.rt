@@ -18,13 +18,13 @@ pub(crate) trait CodeUnit: Copy {
 
     /// The most code units that a character takes.
     fn needed_room() -> usize
-        ensures { result ≡ need };
+        ensures room { result ≡ need }
+        ensures holds_any { (c : ℕ) → IsScalar c → length (encode c) ≤ need };
 
     /// Converts UTF-8 up to the first byte that no character takes, or as far as whole characters fit, and returns
     /// how many bytes it read and how many code units it wrote. Behind what is written `dst` is as before.
     fn convert_up_to_invalid(src: &[u8], dst: &mut [Self]) -> (usize, usize)
-        ensures longest { ConvertsLongest encode src.now dst.old dst.new result.0 result.1 }
-        ensures fits_the_need { (c : ℕ) → IsScalar c → length (encode c) ≤ need };
+        ensures { ConvertsLongest encode src.now dst.old dst.new result.0 result.1 };
 }
 
 impl CodeUnit for u16 {

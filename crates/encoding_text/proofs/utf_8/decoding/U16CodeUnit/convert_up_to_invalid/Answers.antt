@@ -1,5 +1,0 @@
-use Rattle.encoding_text.proofs.Sequences.EncodingLemmas.{length-encode_utf16-le}
-use Rattle.encoding_text.proofs.utf_8.decoding.U16CodeUnit.convert_up_to_invalid.Goals as goal
-
-pub returns-clause-fits_the_need : goal.returns-clause-fits_the_need
-returns-clause-fits_the_need c = length-encode_utf16-le
