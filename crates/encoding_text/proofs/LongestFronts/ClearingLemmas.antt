@@ -1,5 +1,5 @@
 -- A text whose front is overwritten and that is cleared behind it is well-formed.
-use Rattle.std.proofs.Common.{◌≡◌, ℕ, suc, ◌+◌, ◌-◌, ◌<◌, ◌≤◌, inl, inr, ◌&&◌, List, [], ◌∷◌, ◌++◌, length, take, drop, get_or, refl, sym, ap, ◌∙◌, arith, nat_le, IsUtf8, append_assoc, subst}
+use Rattle.std.proofs.Common.{◌≡◌, ℕ, suc, ◌+◌, ◌-◌, ◌<◌, inl, inr, ◌&&◌, List, [], ◌∷◌, ◌++◌, length, take, drop, get_or, refl, sym, ap, ◌∙◌, arith, nat_le, IsUtf8, append_assoc, subst}
 use Rattle.std.specs.Prelude.{replicate, min}
 use Rattle.std.proofs.lemmas.Bool.{and_from, and_parts, le-leb, leb-true, cond-true, cond-false, cases_Bool, cases_lt, both_ways, false_from_ne_true}
 use Rattle.std.proofs.lemmas.List.{append-nil, length-drop, length-take-le, take_at, take_rest, drop_at, drop-drop, drop_all, drop_min, drop_more, get_or-append_right, get_or-drop, get_or-replicate, get_or_past, length-replicate, replicate_more}
@@ -52,12 +52,12 @@ IsCleared-from : (bs : List ℕ) → IsCleared bs
 IsCleared-from [] = record { count = 0; cleared = refl; stops = λ h c. absurd (omega arith) }
 IsCleared-from (b ∷ bs) = elim (cases_Bool (nat_le 0x80 b && nat_le b 0xBF)) [
   | inl e ↦
-    let rest = IsCleared-from bs in
-    record {
-      count = suc rest.count;
-      cleared = cond-true (nat_le 0x80 b && nat_le b 0xBF) _ _ e ∙ ap (λ xs. 0 ∷ xs) rest.cleared;
-      stops = λ h c. rest.stops (omega arith) c;
-    }
+      let rest = IsCleared-from bs in
+      record {
+        count = suc rest.count;
+        cleared = cond-true (nat_le 0x80 b && nat_le b 0xBF) _ _ e ∙ ap (λ xs. 0 ∷ xs) rest.cleared;
+        stops = λ h c. rest.stops (omega arith) c;
+      }
   | inr e ↦ record {
     count = 0;
     cleared = cond-false (nat_le 0x80 b && nat_le b 0xBF) _ _ e;
@@ -78,10 +78,13 @@ IsUtf8-continuation bs n u =
     let c = IsCleared-from (drop n bs) in
     let at : ℕ = n + c.count in
     let behind : IsUtf8 (drop at bs) = elim (cases_lt at (length bs)) [
-      | inl h ↦ IsUtf8-drop bs at u (omega arith, λ _ high. elim (cases_lt (get_or bs at 0) 192) [
+      | inl h ↦ IsUtf8-drop bs at u (
+        omega arith,
+        λ _ high. elim (cases_lt (get_or bs at 0) 192) [
           | inl l ↦ absurd (c.stops (omega (arith, length-drop n bs)) (rw (get_or-drop n bs c.count 0) (high, omega arith)))
           | inr l ↦ l
-        ])
+        ],
+      )
       | inr h ↦ rw (drop_all at bs h) IsUtf8-nil
     ] in
     rw (c.cleared, drop-drop) (IsUtf8-append _ _ (IsUtf8-zeros c.count) behind)
