@@ -36,9 +36,15 @@ pub fn units_of(alloc: Global, field: &str) -> Result<Vec<u16>, Fail> {
     Ok(units)
 }
 
-/// Returns the decimal number that a field is.
+/// Returns the number that a field is, in decimal digits. The greatest one is `MAX`, and one below it `MAX - 1`.
 pub fn number_of(field: &str) -> Result<usize, Fail> {
-    Ok(field.parse::<usize>()?)
+    if field == "MAX" {
+        return Ok(usize::MAX);
+    }
+    match field.strip_prefix("MAX - ") {
+        Some(less) => Ok(usize::MAX.saturating_sub(less.parse::<usize>()?)),
+        None => Ok(field.parse::<usize>()?),
+    }
 }
 
 /// Whether these bytes begin a destination that was filled with `71`, and `71` stands behind so many.
