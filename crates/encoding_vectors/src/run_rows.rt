@@ -35,13 +35,11 @@ fn turns_of(alloc: Global, field: &str) -> Result<Vec<Turn>, Fail> {
             continue;
         };
         for _ in 0..number_of(count)? {
-            turns.push(
-                Turn {
-                    take: number_of(take)?,
-                    room: number_of(room)?,
-                    last: mark == "last",
-                },
-            )?;
+            turns.push(Turn {
+                take: number_of(take)?,
+                room: number_of(room)?,
+                last: mark == "last",
+            })?;
         }
     }
     Ok(turns)
@@ -65,7 +63,10 @@ fn are_reported(field: &str, reports: &[Report], count: usize) -> Result<bool, F
     let mut words = field.split_whitespace();
     for (i, report) in reports.iter().enumerate() {
         let (place, length) = if i < count {
-            (words.next().ok_or("no place")?, words.next().ok_or("no length")?)
+            (
+                words.next().ok_or("no place")?,
+                words.next().ok_or("no length")?,
+            )
         } else {
             ("113", "113")
         };
@@ -89,15 +90,13 @@ struct Run {
 
 /// Returns the run that begins a row, and leaves its output and its reports.
 fn run_of(alloc: Global, row: &mut &str) -> Result<Run, Fail> {
-    Ok(
-        Run {
-            src: bytes_of(alloc, field(row))?,
-            turns: turns_of(alloc, field(row))?,
-            room: number_of(field(row))?,
-            read: number_of(field(row))?,
-            result: result_of(field(row))?,
-        },
-    )
+    Ok(Run {
+        src: bytes_of(alloc, field(row))?,
+        turns: turns_of(alloc, field(row))?,
+        room: number_of(field(row))?,
+        read: number_of(field(row))?,
+        result: result_of(field(row))?,
+    })
 }
 
 /// Whether the run of a row comes so far, writes the code units and the reports that end the row, and leaves what is
