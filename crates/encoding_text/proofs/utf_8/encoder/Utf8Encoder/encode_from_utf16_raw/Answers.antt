@@ -3,8 +3,8 @@ use Rattle.encoding_text.specs.Encoding.{IsHeld, held_units}
 use Rattle.encoding_text.proofs.CodeUnits.EncoderLemmas.{none_there, some_there, call_waits, call_full, call_then, call_then_rest, enough_room}
 use Rattle.encoding_text.proofs.utf_8.encoder.Utf8Encoder.encode_from_utf16_raw.Goals as goal
 
-pub returns-in_default-clause-enough : goal.returns-in_default-clause-enough
-returns-in_default-clause-enough c = λ h.
+pub returns-in_default-clause-suffices : goal.returns-in_default-clause-suffices
+returns-in_default-clause-suffices c = λ h.
     enough_room _ c.args.src.now (length c.args.dst.now) c.args.last _ _ _ _ (omega (arith, h)) c.encode_fresh.ensures.call
 
 pub returns-then-not-last-clause-call : goal.returns-then-not-last-clause-call
@@ -35,5 +35,5 @@ returns c =
       call = whole;
       within = search rules;
       rest = call_then_rest c.args.self.now c.args.src.now _ _ _ c.in-Some.high _ _ _ _ _ c.args.last _ _ held high first.first first.taken some c.write_scalar-first.ensures then.call then.rest;
-      enough = λ h. enough_room c.args.self.now c.args.src.now (length c.args.dst.now) c.args.last _ _ _ _ h whole;
+      suffices = λ h. enough_room c.args.self.now c.args.src.now (length c.args.dst.now) c.args.last _ _ _ _ h whole;
     }

@@ -3,8 +3,8 @@ use Rattle.encoding_text.specs.Encoding.{IsHeld, held_units}
 use Rattle.encoding_text.proofs.CodeUnits.EncoderTextLemmas.{text_waits, text_call, text_call_rest, enough_for_text}
 use Rattle.encoding_text.proofs.utf_8.encoder.Utf8Encoder.encode_from_utf8_raw.Goals as goal
 
-pub returns-in_default-clause-enough : goal.returns-in_default-clause-enough
-returns-in_default-clause-enough c = λ h.
+pub returns-in_default-clause-suffices : goal.returns-in_default-clause-suffices
+returns-in_default-clause-suffices c = λ h.
     enough_for_text _ c.args.src.now (length c.args.dst.now) _ _ _ _ c.utf8.src (omega (arith, h)) c.encode_text-result.ensures.call
 
 pub returns-then-utf8_length-dst-clause-call : goal.returns-then-utf8_length-dst-clause-call
@@ -23,5 +23,5 @@ returns c =
       call = whole;
       within = search rules;
       rest = text_call_rest c.args.self.now c.args.src.now _ _ _ c.in-Some.field-0 _ _ _ _ held high c.write_scalar-first.ensures then.call then.rest;
-      enough = λ h. enough_for_text c.args.self.now c.args.src.now (length c.args.dst.now) _ _ _ _ c.utf8.src h whole;
+      suffices = λ h. enough_for_text c.args.self.now c.args.src.now (length c.args.dst.now) _ _ _ _ c.utf8.src h whole;
     }
