@@ -1,3 +1,4 @@
 pub mod Repairs
 pub mod Streams
 pub mod Repeats
+pub mod EncoderChains

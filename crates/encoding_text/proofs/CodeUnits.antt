@@ -4,3 +4,5 @@ pub mod Utf16LawLemmas
 pub mod Utf8WriteLemmas
 pub mod EncoderLemmas
 pub mod EncoderTextLemmas
+pub mod FirstPartsLemmas
+pub mod EncoderPartsLemmas
