@@ -34,6 +34,7 @@ pub record IsCall {A : Type 0} (encode : ℕ → List A) (need : ℕ) (p src : L
   pub are_scalars : all_scalars scalars ≡ true
   pub out_is : out ≡ flat_map encode scalars
   pub fits : length out ≤ room
+  pub pending_before : IsPending p
   pub pending : IsPending q
   pub answer : Answers encode need p src last result read scalars (room - length out) q
   pub pending_needs_room : p ≢ [] → 0 < read → need ≤ room

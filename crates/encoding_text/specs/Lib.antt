@@ -1,6 +1,7 @@
 pub mod Sequence
 pub mod Pending
 pub mod Parts
+pub mod Giving
 pub mod Fronts
 pub mod Converting
 pub mod Decoding

@@ -56,7 +56,7 @@ head_scalar (b ∷ cs) c more h = head_scalar cs c more (and_parts _ _ h).1
 record Ended {A : Type 0} (encode : ℕ → List A) (need : ℕ) (p src : List ℕ) (last : Bool) (result : DecoderResult) (read : ℕ) (cs : List ℕ) (left : ℕ) (q y : List ℕ) : Type 0 where
   pub pending : IsPending q
   pub answer : Answers encode need p src last result read cs left q
-  pub follows : FollowsOutput src last result read q y
+  pub follows : FollowsOutput (drop read src) last result q y
   pub whole : p ++ take read src ≡ encode_utf8_all cs ++ y
 
 -- it read something, if it wrote a character
