@@ -1,3 +1,4 @@
 pub mod RepairLemmas
 pub mod RepeatLemmas
 pub mod EncoderChainLemmas
+pub mod EncoderRunLemmas
