@@ -59,7 +59,12 @@ module _ (call : EncoderStep) where
   turns_push : (turns : List Turn) (calls : List EncoderStep) (unread left : ℕ) (turn : Turn) → AreOfTurns unread left turns calls
       → call.piece ≡ turn.take → call.room ≡ room_of turn (left - length (output_of calls)) → call.last ≡ is_marked_last turn (unread - units_read calls)
       → AreOfTurns unread left (turns ++ turn ∷ []) (calls ++ call ∷ [])
-  turns_push [] [] unread left turn t p r l = (p, r, l, tt)
+  turns_push [] [] unread left turn t p r l = (
+    p,
+    r ∙ ap (room_of turn) {x = left - length (output_of [])} {y = left} (omega arith),
+    l ∙ ap (is_marked_last turn) {x = unread - units_read []} {y = unread} (omega arith),
+    tt,
+  )
   turns_push [] (c ∷ calls) unread left turn t p r l = absurd t
   turns_push (first ∷ turns) [] unread left turn t p r l = absurd t
   turns_push (first ∷ turns) (c ∷ calls) unread left turn (u, v, w, t) p r l = (
