@@ -1,16 +1,19 @@
 -- A run of an encoder: one more turn, and turns enough for all of the source.
-use Rattle.std.proofs.Common.{◌≡◌, ℕ, ◌+◌, ◌-◌, ◌*◌, ◌<◌, ◌≤◌, ◌⊎◌, inl, inr, Bool, true, false, List, [], ◌∷◌, ◌++◌, length, take, drop, Option, Some, None, refl, sym, ap, ◌∙◌, arith, subst}
-use Rattle.std.specs.Prelude.{min, ◌&&◌, nat_le}
+use Rattle.std.proofs.Common.{◌≡◌, ℕ, ◌+◌, ◌-◌, ◌*◌, ◌<◌, ◌≤◌, ◌⊎◌, inl, inr, Bool, true, List, [], ◌∷◌, ◌++◌, length, take, drop, Option, Some, None, refl, sym, ap, ◌∙◌, arith, subst}
+use Rattle.std.specs.Prelude.{min}
 use Rattle.std.specs.List.{flat_map}
 use Rattle.std.proofs.lemmas.Bool.{cases_lt}
 use Rattle.std.proofs.lemmas.Bool.Decides.{nat_tests}
-use Rattle.std.proofs.lemmas.List.{append-nil, length-append, length-drop, length-take, drop-drop, drop_all, take_all}
+use Rattle.std.proofs.lemmas.List.{append-nil, length-append, length-drop, length-take, take_rest, take_min, take-append-le, drop-drop}
 use Rattle.std.proofs.lemmas.List.Concat.{flat_map-append}
+use borrow.Rule.Slice.PartMut.{put_mid}
 use Rattle.encoding_text.specs.Fronts.{WritesFront}
 use Rattle.encoding_text.specs.Utf16.{AreUnits}
 use Rattle.encoding_text.specs.Encoding.{IsHeld, IsEncoderCall}
 use Rattle.encoding_text.specs.declared.utf_8.encoder.EncoderResult.{EncoderResult}
-use Rattle.encoding_text.specs.declared.utf_8.encoder.EncoderResult.TheVariants.{InputEmpty, OutputFull}
+use Rattle.encoding_text.specs.declared.utf_8.encoder.EncoderResult.TheVariants.{InputEmpty}
+use Rattle.encoding_text.proofs.LongestFronts.FrontsLemmas.{WritesFront-length, WritesFront-same, WritesFront_after}
+use Rattle.encoding_text.proofs.LongestFronts.FittingLemmas.{written_front}
 use Rattle.encoding_text.proofs.CodeUnits.EncoderLemmas.{enough_room}
 use Rattle.encoding_text.proofs.CodeUnits.EncoderPartsLemmas.{at_most_one_held, read_within, room_left, gets_on}
 use Rattle.encoding_runs.specs.declared.run.turns.Turn.{Turn}
@@ -19,6 +22,7 @@ use Rattle.encoding_runs.specs.Turns.{room_of, is_marked_last}
 use Rattle.encoding_runs.specs.Runs.{EachGetsOn}
 use Rattle.encoding_runs.specs.EncoderChains.{EncoderStep, IsEncoderChain, EncodesFirstParts, units_read, output_of, held_after}
 use Rattle.encoding_runs.specs.EncoderRuns.{AreOfTurns, last_result, IsEncoderRun, EncodesByTurns, CompletesEncoding}
+use Rattle.encoding_runs.proofs.TurnLemmas.{WritesFront_within}
 use Rattle.encoding_runs.proofs.EncoderChainLemmas.{chain_encodes}
 
 -- ---- one more call
@@ -83,12 +87,26 @@ run_nil held src old = record { calls = []; chain = tt; of_turns = tt; read = re
 marked : (turn : Turn) (unread : ℕ) → is_marked_last turn unread ≡ true → unread ≤ turn.take
 marked turn unread e = grind (arith, nat_tests)
 
-pub run_push : (held src : List ℕ) (turns : List Turn) (turn : Turn) (old mid new : List ℕ) (outcome : EncodeOutcome) (after : List ℕ) (r : EncoderResult) (read written : ℕ) (out then' : List ℕ)
+pub IsEncoderCall-same : (held held' src src' : List ℕ) (room room' : ℕ) (last last' : Bool) (r : EncoderResult) (read : ℕ) (out out' after : List ℕ) → IsEncoderCall held src room last r read out after
+    → held ≡ held' → src ≡ src' → room ≡ room' → last ≡ last' → out ≡ out' → IsEncoderCall held' src' room' last' r read out' after
+IsEncoderCall-same held held' src src' room room' last last' r read out out' after c e f g h k =
+    subst (λ xs. IsEncoderCall xs src' room' last' r read out' after) e
+    (subst (λ xs. IsEncoderCall held xs room' last' r read out' after) f
+    (subst (λ n. IsEncoderCall held src n last' r read out' after) g
+    (subst (λ b. IsEncoderCall held src room b r read out' after) h (subst (λ xs. IsEncoderCall held src room last r read xs after) k c))))
+
+pub run_push : (held src : List ℕ) (turns : List Turn) (turn : Turn) (old mid : List ℕ) (outcome : EncodeOutcome) (after : List ℕ) (r : EncoderResult) (read written : ℕ) (sub then' : List ℕ)
     → IsEncoderRun held src turns old mid outcome after
-    → IsEncoderCall after (take turn.take (drop outcome.read src)) (room_of turn (length old - outcome.written)) (is_marked_last turn (length src - outcome.read)) r read out then'
-    → ((before : List ℕ) → WritesFront old mid outcome.written before → WritesFront old new (outcome.written + written) (before ++ out))
-    → IsEncoderRun held src (turns ++ turn ∷ []) old new (record { read = outcome.read + read; written = outcome.written + written; result = Some r }) then'
-run_push held src turns turn old mid new outcome after r read written out then' run c w =
+    → IsEncoderCall after (take turn.take (take (length src - outcome.read) (drop outcome.read src))) (room_of turn (length (take (length mid - outcome.written) (drop outcome.written mid))))
+        (is_marked_last turn (length (take (length src - outcome.read) (drop outcome.read src)))) r read (take written sub) then'
+    → WritesFront (take (length mid - outcome.written) (drop outcome.written mid)) sub written (take written sub)
+    → IsEncoderRun held src (turns ++ turn ∷ []) old (put_mid outcome.written (length mid - outcome.written) mid sub)
+        (record { read = outcome.read + read; written = outcome.written + written; result = Some r }) then'
+run_push held src turns turn old mid outcome after r read written sub then' run c w =
+    let out : List ℕ = take written sub in
+    let unread : take (length src - outcome.read) (drop outcome.read src) ≡ drop (units_read run.calls) src = take_rest src outcome.read ∙ ap (λ n. drop n src) run.read in
+    let left : length (take (length mid - outcome.written) (drop outcome.written mid)) ≡ length old - outcome.written =
+    ap length (take_rest mid outcome.written) ∙ length-drop outcome.written mid ∙ omega (arith, WritesFront-length _ _ _ _ run.written) in
     let call : EncoderStep = record {
       piece = turn.take;
       room = room_of turn (length old - outcome.written);
@@ -99,8 +117,8 @@ run_push held src turns turn old mid new outcome after r read written out then' 
       held = then';
     } in
     let next : IsEncoderCall (held_after held run.calls) (take turn.take (drop (units_read run.calls) src)) call.room call.last r read out then' =
-    subst (λ n. IsEncoderCall (held_after held run.calls) (take turn.take (drop n src)) call.room call.last r read out then') run.read
-    (subst (λ xs. IsEncoderCall xs (take turn.take (drop outcome.read src)) call.room call.last r read out then') run.held_then c) in
+    IsEncoderCall-same _ _ _ _ _ _ _ _ r read _ _ then' c run.held_then (ap (take turn.take) unread) (ap (room_of turn) left)
+    (ap (is_marked_last turn) (ap length unread ∙ length-drop (units_read run.calls) src ∙ omega (arith, run.read))) refl in
     let reaches : call.last ≡ true → length (drop (units_read run.calls) src) ≤ turn.take = λ e. omega (arith, marked turn (length src - outcome.read) e, length-drop (units_read run.calls) src, run.read) in
     record {
       calls = run.calls ++ call ∷ [];
@@ -109,7 +127,7 @@ run_push held src turns turn old mid new outcome after r read written out then' 
           (ap (λ n. room_of turn (length old - n)) run.written.count)
           (ap (λ n. is_marked_last turn (length src - n)) run.read);
       read = omega (arith, run.read, read_push call run.calls);
-      written = subst (WritesFront old new (outcome.written + written)) (sym (output_push call run.calls)) (w (output_of run.calls) run.written);
+      written = WritesFront-same _ _ _ _ _ _ (WritesFront_after old mid outcome.written (output_of run.calls) sub written out run.written w) refl (sym (output_push call run.calls));
       result = sym (result_push call run.calls None);
       held_then = sym (held_push call run.calls held);
     }
@@ -121,6 +139,21 @@ run_encodes held src turns old new outcome after h a run = record {
   encodes = subst (λ n. EncodesFirstParts held src run.calls n (output_of run.calls) after) (sym run.read)
       (subst (EncodesFirstParts held src run.calls (units_read run.calls) (output_of run.calls)) (sym run.held_then) (chain_encodes held src run.calls h a run.chain));
 }
+
+-- ---- the call of a turn
+module _ (held unread left sub : List ℕ) (turn : Turn) (piece room : ℕ) (last : Bool) (r : EncoderResult) (read written : ℕ) (after : List ℕ) (p : piece ≡ min turn.take (length unread))
+    (q : room ≡ room_of turn (length left)) (l : last ≡ is_marked_last turn (length unread))
+    (c : IsEncoderCall held (take piece unread) (length (take room left)) last r read (take written sub) after) (w : WritesFront (take room left) sub written (take written sub)) where
+  same_output : take written sub ≡ take written (sub ++ drop room left)
+  same_output = sym (take-append-le written sub (drop room left) (omega (arith, w.fits, WritesFront-length _ _ _ _ w)))
+
+  pub turn_call : IsEncoderCall held (take turn.take unread) (room_of turn (length left)) (is_marked_last turn (length unread)) r read (take written (sub ++ drop room left)) after
+  turn_call =
+      IsEncoderCall-same held held _ _ _ _ _ _ r read _ _ after c refl (ap (λ n. take n unread) p ∙ take_min turn.take unread)
+      (length-take room left ∙ omega (arith, q)) l same_output
+
+  pub turn_rest : WritesFront left (sub ++ drop room left) written (take written (sub ++ drop room left))
+  turn_rest = written_front _ _ _ _ (WritesFront_within left sub room written (take written sub) w)
 
 -- ---- turns enough
 -- a turn that gets on is marked last where nothing is unread
