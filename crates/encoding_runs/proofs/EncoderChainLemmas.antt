@@ -1,12 +1,11 @@
 -- A chain of encoder calls writes the first parts of what was held and its source.
-use Rattle.std.proofs.Common.{◌≡◌, ℕ, ◌+◌, ◌≤◌, ◌⊎◌, inl, inr, Bool, true, false, ◌||◌, List, [], ◌∷◌, ◌++◌, length, take, drop, refl, sym, ap, ◌∙◌, arith, subst}
+use Rattle.std.proofs.Common.{◌≡◌, ℕ, ◌≤◌, ◌⊎◌, inl, inr, Bool, true, false, ◌||◌, List, [], ◌∷◌, ◌++◌, length, take, drop, refl, sym, ap, ◌∙◌, arith, subst}
 use Rattle.std.specs.List.{flat_map}
-use Rattle.std.proofs.lemmas.Bool.{cases_lt}
-use Rattle.std.proofs.lemmas.List.{append_assoc, append-nil, length-append, length-drop, length-take, take_all, drop_all, drop-drop, drop-append-le, take-append-drop, nil_from_length}
+use Rattle.std.proofs.lemmas.List.{append_assoc, append-nil, length-append, length-drop, length-take, drop_all, drop-drop, drop-append-le, take-append-drop, nil_from_length}
 use Rattle.std.proofs.lemmas.List.Concat.{flat_map-append}
-use Rattle.encoding_text.specs.Utf16.{AreUnits, Part16, units_of, utf8_of, ArePartsOf16, StartsWith16}
+use Rattle.encoding_text.specs.Utf16.{AreUnits, Part16, units_of, utf8_of, StartsWith16}
 use Rattle.encoding_text.specs.Encoding.{IsHeld, IsEncoderCall}
-use Rattle.encoding_text.proofs.CodeUnits.Utf16Lemmas.{parts_of, parts_exist}
+use Rattle.encoding_text.proofs.CodeUnits.Utf16Lemmas.{parts_exist}
 use Rattle.encoding_text.proofs.CodeUnits.EncoderLemmas.{AreUnits-behind}
 use Rattle.encoding_text.proofs.CodeUnits.FirstPartsLemmas.{StartsWith16-nil, StartsWith16-append, StartsWith16-units, StartsWith16-all, StartsWith16-read}
 use Rattle.encoding_text.proofs.CodeUnits.EncoderPartsLemmas.{AreUnits-append, AreUnits-held, parts_written, read_within, written_first, all_encoded}

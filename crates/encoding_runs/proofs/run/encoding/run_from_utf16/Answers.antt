@@ -1,4 +1,4 @@
-use Rattle.std.proofs.Common.{◌<◌, ◌-◌, false, length, take, drop, get_or, arith}
+use Rattle.std.proofs.Common.{◌<◌, ◌-◌, false, length, drop, get_or, arith}
 use Rattle.std.proofs.lemmas.List.{length-drop, length-take, take_more, take_all}
 use Rattle.encoding_text.proofs.LongestFronts.FrontsLemmas.{WritesFront-length}
 use Rattle.encoding_runs.specs.declared.run.turns.Turn.{Turn}
