@@ -26,6 +26,8 @@ mod mixed_text;
 #[cfg(test)]
 mod repair_rows;
 #[cfg(test)]
+mod run_rows;
+#[cfg(test)]
 mod streams;
 #[cfg(test)]
 mod texts;
