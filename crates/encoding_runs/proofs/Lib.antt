@@ -1,5 +1,7 @@
 pub mod RepairLemmas
 pub mod RepeatLemmas
+pub mod EncoderChainLemmas
+pub mod EncoderRunLemmas
 pub mod ChainLemmas
 pub mod RunLemmas
 pub mod TurnLemmas

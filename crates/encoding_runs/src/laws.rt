@@ -9,7 +9,9 @@ ghost use Rattle.std.specs.Char.Escape.{encode_utf16};
 ghost use Rattle.std.specs.Char.Utf16.{utf16_lossy_chars};
 ghost use Rattle.std.specs.Str.{all_scalars, chars};
 ghost use Rattle.encoding_text.specs.Utf16.{AreUnits, Part16, Character16, ArePartsOf16, IsUtf8OfLongestFront, scalar_of, utf8_of};
+ghost use Rattle.encoding_text.specs.Encoding.{IsHeld};
 ghost use Rattle.encoding_runs.specs.Repeats.{Step, AreRepeated};
+ghost use Rattle.encoding_runs.specs.EncoderChains.{EncoderStep, IsEncoderChain, EncodesFirstParts, units_read, output_of, held_after};
 
 /// The well-formed sequences are exactly the UTF-8 of the scalar values, one for each, and none begins another.
 /// Unicode Standard, Table 3-7.
@@ -55,4 +57,12 @@ pub fn law_partial_repeats()
         → AreRepeated us steps → flat_map (λ step. step.out) steps ≡ encode_utf8_all (map scalar_of parts) }
     ensures progress { (us out : List ℕ) (room read : ℕ) → 0 < length us → 4 ≤ room
         → IsUtf8OfLongestFront us room read out → 0 < read }
+{}
+
+/// Calls of an encoder over one source, each on the unread code units from the first on and from what the one before
+/// left held, write the UTF-8 of the first parts of what was held and of the source, however it is cut and whatever
+/// the rooms. Unicode Standard, section 3.9, UTF-16.
+pub fn law_encoder_cuts()
+    ensures { (held src : List ℕ) (calls : List EncoderStep) → IsHeld held → AreUnits src → IsEncoderChain held src calls
+        → EncodesFirstParts held src calls (units_read calls) (output_of calls) (held_after held calls) }
 {}

@@ -5,3 +5,5 @@ pub mod Utf8WriteLemmas
 pub mod EncoderLemmas
 pub mod EncoderTextLemmas
 pub mod Utf16TextLemmas
+pub mod FirstPartsLemmas
+pub mod EncoderPartsLemmas

@@ -14,6 +14,8 @@ mod decoder_vectors;
 #[cfg(test)]
 mod encoder_rows;
 #[cfg(test)]
+mod encoder_run_rows;
+#[cfg(test)]
 mod encoder_vectors;
 #[cfg(test)]
 mod held_unit_rows;

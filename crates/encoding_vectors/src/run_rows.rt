@@ -22,7 +22,7 @@ fn result_of(field: &str) -> Result<Option<DecoderResult>, Fail> {
 
 /// Returns the turns that a field names: between commas how many there are of a kind, and then their take, their room
 /// and their mark.
-fn turns_of(alloc: Global, field: &str) -> Result<Vec<Turn>, Fail> {
+pub fn turns_of(alloc: Global, field: &str) -> Result<Vec<Turn>, Fail> {
     let mut turns = Vec::new(alloc);
     for kind in field.split(',') {
         let mut words = kind.split_whitespace();
@@ -202,13 +202,18 @@ fn rows_hold(rt: HostRuntime) -> Result<(), Fail> {
     Ok(())
 }
 
-/// Returns turns that suffice for so many bytes, each with so many of them.
-fn turns_for(alloc: Global, length: usize, take: usize) -> Result<Vec<Turn>, AllocError> {
+/// Returns turns that suffice for a source of this length, each with so much of it and so much room.
+pub fn turns_for(
+    alloc: Global,
+    length: usize,
+    take: usize,
+    room: usize,
+) -> Result<Vec<Turn>, AllocError> {
     let mut turns = Vec::new(alloc);
     for _ in 0..length.saturating_mul(2).saturating_add(2) {
         turns.push(Turn {
             take,
-            room: 16,
+            room,
             last: true,
         })?;
     }
@@ -238,7 +243,7 @@ fn reported(
 /// Decodes to UTF-16 by turns of so many bytes: what that delivers, if it comes to the end.
 fn run_utf16(alloc: Global, src: &[u8], take: usize) -> Result<Option<Delivered<u16>>, AllocError> {
     let mut decoder = Utf8Decoder::new_inner();
-    let turns = turns_for(alloc, src.len(), take)?;
+    let turns = turns_for(alloc, src.len(), take, 16)?;
     let mut reports = places(alloc, turns.len())?;
     if reports.len() < turns.len() {
         return Ok(None);
@@ -256,7 +261,7 @@ fn run_utf16(alloc: Global, src: &[u8], take: usize) -> Result<Option<Delivered<
 /// Decodes to UTF-8 by turns of so many bytes: what that delivers, if it comes to the end.
 fn run_utf8(alloc: Global, src: &[u8], take: usize) -> Result<Option<Delivered<u8>>, AllocError> {
     let mut decoder = Utf8Decoder::new_inner();
-    let turns = turns_for(alloc, src.len(), take)?;
+    let turns = turns_for(alloc, src.len(), take, 16)?;
     let mut reports = places(alloc, turns.len())?;
     if reports.len() < turns.len() {
         return Ok(None);

@@ -49,22 +49,30 @@ impl Utf8Encoder {
         Utf8Encoder { held: None }
     }
 
-    /// How many bytes of room are enough to encode `n` UTF-16 code units and what is held, or `None` where that
-    /// passes `usize`.
-    pub fn max_buffer_length_from_utf16_without_replacement(&self, n: usize) -> Option<usize>
-        ensures room { SomeIff result (3 * (n + length self.now) ≤ usize.MAX) (3 * (n + length self.now)) }
+    /// How many bytes a destination has to hold so that a call from `u16_length` UTF-16 code units doesn't meet its end:
+    /// `None` where that number passes `usize::MAX`.
+    pub fn max_buffer_length_from_utf16_without_replacement(
+        &self,
+        u16_length: usize,
+    ) -> Option<usize>
+        ensures room { SomeIff result (3 * (u16_length + length self.now) ≤ usize.MAX)
+            (3 * (u16_length + length self.now)) }
         ensures held { IsHeld self.now }
     {
-        n.checked_add(self.held_count())?.checked_mul(3)
+        u16_length.checked_add(self.held_count())?.checked_mul(3)
     }
 
-    /// How many bytes of room are enough to encode a text of `n` bytes and what is held, or `None` where that
-    /// passes `usize`.
-    pub fn max_buffer_length_from_utf8_without_replacement(&self, n: usize) -> Option<usize>
-        ensures room { SomeIff result (n + 3 * length self.now ≤ usize.MAX) (n + 3 * length self.now) }
+    /// How many bytes a destination has to hold so that a call from a text of `byte_length` bytes doesn't meet its end:
+    /// `None` where that number passes `usize::MAX`.
+    pub fn max_buffer_length_from_utf8_without_replacement(
+        &self,
+        byte_length: usize,
+    ) -> Option<usize>
+        ensures room { SomeIff result (byte_length + 3 * length self.now ≤ usize.MAX)
+            (byte_length + 3 * length self.now) }
         ensures held { IsHeld self.now }
     {
-        n.checked_add(3 * self.held_count())
+        byte_length.checked_add(3 * self.held_count())
     }
 
     /// How many code units are held.
@@ -95,7 +103,7 @@ impl Utf8Encoder {
             result.0 result.1 (take result.2 dst.new) self.new }
         ensures within { result.1 ≤ length src.now }
         ensures rest { WritesFront dst.old dst.new result.2 (take result.2 dst.new) }
-        ensures enough { 3 * (length src.now + length self.old) ≤ length dst.old → result.0 ≡ EncoderResult.InputEmpty }
+        ensures suffices { 3 * (length src.now + length self.old) ≤ length dst.old → result.0 ≡ EncoderResult.InputEmpty }
     {
         let Some(high) = self.held else {
             return self.encode_fresh(src, dst, last);
@@ -153,7 +161,7 @@ impl Utf8Encoder {
             result.0 result.1 (take result.2 dst.new) self.new }
         ensures within { result.1 ≤ length src.now }
         ensures rest { WritesFront dst.old dst.new result.2 (take result.2 dst.new) }
-        ensures enough { length src.now + 3 * length self.old ≤ length dst.old → result.0 ≡ EncoderResult.InputEmpty }
+        ensures suffices { length src.now + 3 * length self.old ≤ length dst.old → result.0 ≡ EncoderResult.InputEmpty }
     {
         let Some(_) = self.held else {
             let (result, read) = encode_text(src, dst);
