@@ -8,5 +8,7 @@ pub mod Ascii
 pub mod Latin1
 pub mod Borrowed
 pub mod Utf16
+pub mod Surrogates
+pub mod Bidi
 pub mod Encoding
 pub mod Steps

@@ -29,7 +29,7 @@ pub(crate) trait CodeUnit: Copy {
 }
 
 /// The scalar value that the bytes spell.
-fn scalar_of_sequence(bytes: &[u8]) -> u32
+pub(crate) fn scalar_of_sequence(bytes: &[u8]) -> u32
     requires sequence { IsSequence bytes.now }
     ensures scalar { IsScalar result }
     ensures spelled { encode_utf8 result ≡ bytes.now }

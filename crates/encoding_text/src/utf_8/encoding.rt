@@ -13,19 +13,19 @@ pub(super) const REPLACEMENT: u32 = 0xFFFD;
 /// The most bytes that a character has in UTF-8.
 const LONGEST: usize = 4;
 
-fn is_surrogate(unit: u16) -> bool
+pub(crate) fn is_surrogate(unit: u16) -> bool
     ensures { IsTrue result ↔ ((0xD800 ≤ unit) × (unit ≤ 0xDFFF)) }
 {
     unit & 0xF800 == 0xD800
 }
 
-pub(super) fn is_high_surrogate(unit: u16) -> bool
+pub(crate) fn is_high_surrogate(unit: u16) -> bool
     ensures { IsTrue result ↔ IsHighSurrogate unit }
 {
     unit & 0xFC00 == 0xD800
 }
 
-pub(super) fn is_low_surrogate(unit: u16) -> bool
+pub(crate) fn is_low_surrogate(unit: u16) -> bool
     ensures { IsTrue result ↔ IsLowSurrogate unit }
 {
     unit & 0xFC00 == 0xDC00
