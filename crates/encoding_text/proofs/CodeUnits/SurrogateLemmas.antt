@@ -166,7 +166,7 @@ pub record Repaired (us buffer : List ℕ) (at : ℕ) (done : List Part16) : Typ
   pub rest : drop at buffer ≡ drop at us
   pub stops : at < length us → IsFirstPart16 (drop at us) (Lone (get_or us at 0)) (drop (at + 1) us)
 
-repaired_characters : (cs : List ℕ) → flat_map repaired_units (map Character16 cs) ≡ flat_map encode_utf16 cs
+pub repaired_characters : (cs : List ℕ) → flat_map repaired_units (map Character16 cs) ≡ flat_map encode_utf16 cs
 repaired_characters [] = refl
 repaired_characters (c ∷ cs) = ap (λ us. encode_utf16 c ++ us) (repaired_characters cs)
 
@@ -201,15 +201,19 @@ module _ (us buffer : List ℕ) (at n : ℕ) (done : List Part16) (a : AreUnits 
         (subst (λ xs. IsFirstPart16 xs (Lone (get_or (drop at us) n 0)) (drop (n + 1) (drop at us))) (drop-drop n at us) there));
       }
 
-pub repair_starts : (us : List ℕ) (n : ℕ) → AreUnits us → (f : IsLongestFront IsValidUtf16 us n) → Repaired us us n (map Character16 f.kind.0)
-repair_starts us n a f = subst (λ k. Repaired us us k (map Character16 f.kind.0)) {x = 0 + n} {y = n} (omega arith)
-    (walk_on us us 0 n [] a (omega arith) refl (record { whole = refl; taken = refl }) refl refl f)
+pub repair_starts : (us : List ℕ) (at : ℕ) → AreUnits us → IsLongestFront IsValidUtf16 (drop 0 us) (at - 0) → (done : List Part16) × Repaired us us at done
+repair_starts us at a f = (
+  _,
+  subst (λ k. Repaired us us k (map Character16 f.kind.0)) {x = 0 + (at - 0)} {y = at} (omega arith)
+      (walk_on us us 0 (at - 0) [] a (omega arith) refl (record { whole = refl; taken = refl }) refl refl f),
+)
 
 -- one lone surrogate is replaced, and then comes a valid front
-pub repair_goes_on : (us buffer : List ℕ) (at n : ℕ) (done : List Part16) → AreUnits us → Repaired us buffer at done → at < length us
-    → (f : IsLongestFront IsValidUtf16 (drop (at + 1) (set buffer at 0xFFFD)) n)
-    → (all : List Part16) × Repaired us (set buffer at 0xFFFD) (at + 1 + n) all
-repair_goes_on us buffer at n done a r l f =
+pub repair_goes_on : (us buffer : List ℕ) (at next : ℕ) (done : List Part16) → AreUnits us → Repaired us buffer at done → at < length us → at + 1 ≤ next
+    → IsLongestFront IsValidUtf16 (drop (at + 1) (set buffer at 0xFFFD)) (next - (at + 1))
+    → (all : List Part16) × Repaired us (set buffer at 0xFFFD) next all
+repair_goes_on us buffer at next done a r l h f =
+    let n = next - (at + 1) in
     let u = get_or us at 0 in
     let new = set buffer at 0xFFFD in
     let lone = r.stops l in
@@ -224,7 +228,11 @@ repair_goes_on us buffer at n done a r l f =
     ∙ ap (λ xs. xs ++ 0xFFFD ∷ []) r.front ∙ sym (flat_map-append repaired_units done (Lone u ∷ [])) in
     let walked : Walked us (at + 1) (done ++ Lone u ∷ []) = Walked_push us at done (Lone u) 1 r.walked refl lone in
     let g : IsLongestFront IsValidUtf16 (drop (at + 1) us) n = subst (λ xs. IsLongestFront IsValidUtf16 xs n) behind f in
-    (_, walk_on us new (at + 1) n (done ++ Lone u ∷ []) a (omega arith) (length-set buffer at 0xFFFD ∙ r.same_length) walked before behind g)
+    (
+      _,
+      subst (λ k. Repaired us new k ((done ++ Lone u ∷ []) ++ map Character16 g.kind.0)) {x = at + 1 + n} {y = next} (omega arith)
+          (walk_on us new (at + 1) n (done ++ Lone u ∷ []) a (omega arith) (length-set buffer at 0xFFFD ∙ r.same_length) walked before behind g),
+    )
 
 pub repair_ends : (us buffer : List ℕ) (at : ℕ) (done : List Part16) → AreUnits us → Repaired us buffer at done → length us ≤ at → AreRepairedUnits us buffer
 repair_ends us buffer at done a r l =
@@ -234,44 +242,3 @@ repair_ends us buffer at done a r l =
       are_parts = parts_exist us a;
       placed = sym (take_all at buffer (omega (arith, r.same_length))) ∙ r.front ∙ ap (flat_map repaired_units) (sym all);
     }
-
--- ---- the repaired units
-repaired-encode : (ps : List Part16) → flat_map repaired_units ps ≡ flat_map encode_utf16 (map scalar_of ps)
-repaired-encode [] = refl
-repaired-encode (Character16 c ∷ ps) = ap (λ us. encode_utf16 c ++ us) (repaired-encode ps)
-repaired-encode (Lone u ∷ ps) = ap (λ us. 0xFFFD ∷ us) (repaired-encode ps)
-
-scalars_paired : (ps : List Part16) → ArePaired ps → all_scalars (map scalar_of ps) ≡ true
-scalars_paired [] a = refl
-scalars_paired (Character16 c ∷ ps) a = and_from (scalar c) (all_scalars (map scalar_of ps)) (head_part (Character16 c) ps a) (scalars_paired ps (tail_paired (Character16 c) ps a))
-scalars_paired (Lone u ∷ ps) a = and_from (scalar 0xFFFD) (all_scalars (map scalar_of ps)) refl (scalars_paired ps (tail_paired (Lone u) ps a))
-
--- they are the UTF-16 of the scalar values that the parts count as
-pub repaired_is : (old new : List ℕ) (r : AreRepairedUnits old new) → (all_scalars (map scalar_of r.parts) ≡ true) × (flat_map encode_utf16 (map scalar_of r.parts) ≡ new)
-repaired_is old new r = (scalars_paired r.parts r.are_parts.0, sym (repaired-encode r.parts) ∙ sym r.placed)
-
-pub repaired_valid : (old new : List ℕ) → AreRepairedUnits old new → IsValidUtf16 new
-repaired_valid old new r = let all = repaired_is old new r in valid-encode (map scalar_of r.parts) new all.0 all.1
-
--- valid units stay
-pub valid_stays : (old new : List ℕ) → IsValidUtf16 old → AreRepairedUnits old new → new ≡ old
-valid_stays old new v r =
-    let same : r.parts ≡ map Character16 v.0 = parts_unique old r.parts (map Character16 v.0) r.are_parts v.1 in
-    r.placed ∙ ap (flat_map repaired_units) same ∙ repaired_characters v.0 ∙ (scalars_of_valid old v).1
-
--- what the repaired units count as is what the old ones do
-pub repaired_counts : (old new : List ℕ) (parts others : List Part16) → AreRepairedUnits old new → ArePartsOf16 old parts → ArePartsOf16 new others
-    → map scalar_of others ≡ map scalar_of parts
-repaired_counts old new parts others r a b =
-    let all = repaired_is old new r in
-    let same : r.parts ≡ parts = parts_unique old r.parts parts r.are_parts a in
-    scalars-encode (map scalar_of r.parts) others all.0 (subst (λ xs. ArePartsOf16 xs others) (sym all.1) b) ∙ ap (map scalar_of) same
-
-pub repaired_lossy : (old new : List ℕ) (parts : List Part16) → AreRepairedUnits old new → ArePartsOf16 new parts → map scalar_of parts ≡ utf16_lossy_chars old
-repaired_lossy old new parts r b = repaired_counts old new r.parts parts r r.are_parts b ∙ scalars_lossy old r.parts r.are_parts
-
-pub repaired_one : (old new other : List ℕ) → AreRepairedUnits old new → AreRepairedUnits old other → new ≡ other
-repaired_one old new other r s = r.placed ∙ ap (flat_map repaired_units) (parts_unique old r.parts s.parts r.are_parts s.are_parts) ∙ sym s.placed
-
-pub repaired_exist : (us : List ℕ) → AreUnits us → (new : List ℕ) × AreRepairedUnits us new
-repaired_exist us a = (flat_map repaired_units (parts_of us), record { parts = parts_of us; are_parts = parts_exist us a; placed = refl })

@@ -1,7 +1,9 @@
 //! Lone surrogates in UTF-16: how far code units are valid, and their repair in place.
 
+ghost use Rattle.std.specs.Prelude.{◌-◌, ◌≤◌, length, drop};
 ghost use Rattle.encoding_text.specs.Fronts.{IsLongestFront};
 ghost use Rattle.encoding_text.specs.Surrogates.{IsValidUtf16, AreRepairedUnits};
+ghost use Rattle.encoding_text.specs.Utf16.{AreUnits};
 
 use crate::utf_8::{is_high_surrogate, is_low_surrogate, is_surrogate};
 
@@ -28,14 +30,23 @@ pub fn utf16_valid_up_to(buffer: &[u16]) -> usize
     at
 }
 
+/// The place of the first lone surrogate among the code units from this place on, or the length of `units`.
+fn next_lone(units: &[u16], from: usize) -> usize
+    requires { from ≤ length units.now }
+    ensures behind { from ≤ result }
+    ensures front { IsLongestFront IsValidUtf16 (drop from units.now) (result - from) }
+    ensures are_units { AreUnits units.now }
+{
+    from + utf16_valid_up_to(&units[from..])
+}
+
 /// Writes U+FFFD in place of each lone surrogate. All other code units stay as before.
 pub fn ensure_utf16_validity(buffer: &mut [u16])
     ensures { AreRepairedUnits buffer.old buffer.new }
 {
-    let mut at = utf16_valid_up_to(buffer);
+    let mut at = next_lone(buffer, 0);
     while at < buffer.len() {
         buffer[at] = REPLACEMENT_UNIT;
-        at += 1;
-        at += utf16_valid_up_to(&buffer[at..]);
+        at = next_lone(buffer, at + 1);
     }
 }
