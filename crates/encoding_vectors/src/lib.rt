@@ -4,6 +4,10 @@
 #[cfg(test)]
 mod ascii_rows;
 #[cfg(test)]
+mod bidi_rows;
+#[cfg(test)]
+mod bidi_walks;
+#[cfg(test)]
 mod borrowed_rows;
 #[cfg(test)]
 mod decoder_parts;
@@ -21,6 +25,8 @@ mod latin1_rows;
 mod repair_rows;
 #[cfg(test)]
 mod streams;
+#[cfg(test)]
+mod surrogate_rows;
 #[cfg(test)]
 mod to_utf16_rows;
 #[cfg(test)]
