@@ -6,3 +6,4 @@ pub mod ChainLemmas
 pub mod RunLemmas
 pub mod TurnLemmas
 pub mod CompletionLemmas
+pub mod BidiLawLemmas

@@ -1,5 +1,5 @@
 //! Laws of the definitions: each is the contract of a function that does nothing.
-ghost use Rattle.std.specs.Prelude.{◌≡◌, ℕ, ◌<◌, ◌≤◌, List, [], ◌++◌, encode_utf8, length, map, encode_utf8_all, IsTrue, IsUtf8};
+ghost use Rattle.std.specs.Prelude.{◌≡◌, ◌↔◌, ℕ, ◌<◌, ◌≤◌, List, [], ◌++◌, Any, encode_utf8, length, map, encode_utf8_all, IsTrue, IsUtf8};
 ghost use Rattle.std.specs.Char.{IsScalar};
 ghost use Rattle.std.specs.List.{flat_map};
 ghost use Rattle.std.specs.Str.Lossy.{utf8_lossy};
@@ -10,6 +10,8 @@ ghost use Rattle.std.specs.Char.Utf16.{utf16_lossy_chars};
 ghost use Rattle.std.specs.Str.{all_scalars, chars};
 ghost use Rattle.encoding_text.specs.Utf16.{AreUnits, Part16, Character16, ArePartsOf16, IsUtf8OfLongestFront, scalar_of, utf8_of};
 ghost use Rattle.encoding_text.specs.Encoding.{IsHeld};
+ghost use Rattle.encoding_text.specs.Bidi.{IsRightToLeft, IsBidiBytes, IsBidiUnits};
+ghost use Rattle.encoding_text.specs.Surrogates.{IsValidUtf16, AreRepairedUnits, ChangesLone};
 ghost use Rattle.encoding_runs.specs.Repeats.{Step, AreRepeated};
 ghost use Rattle.encoding_runs.specs.EncoderChains.{EncoderStep, IsEncoderChain, EncodesFirstParts, units_read, output_of, held_after};
 
@@ -65,4 +67,27 @@ pub fn law_partial_repeats()
 pub fn law_encoder_cuts()
     ensures { (held src : List ℕ) (calls : List EncoderStep) → IsHeld held → AreUnits src → IsEncoderChain held src calls
         → EncodesFirstParts held src calls (units_read calls) (output_of calls) (held_after held calls) }
+{}
+
+/// Scalar values, their UTF-8 and their UTF-16 agree on whether one of them is right-to-left.
+pub fn law_bidi_agrees()
+    ensures utf8 { (cs : List ℕ) → IsTrue (all_scalars cs) → Any IsRightToLeft cs ↔ IsBidiBytes (encode_utf8_all cs) }
+    ensures utf16 { (cs : List ℕ) → IsTrue (all_scalars cs) → Any IsRightToLeft cs ↔ IsBidiUnits (flat_map encode_utf16 cs) }
+{}
+
+/// UTF-16 code units have exactly one list of repaired units. It has U+FFFD at the place of each lone surrogate, and at
+/// all other places, which are as many, what was there. It has no lone surrogate, repaired again it is the same, and
+/// its parts count as the scalar values that the old parts count as: those of std's lossy decoding. Valid code units
+/// stay as they are. Unicode Standard, section 3.9, UTF-16.
+pub fn law_surrogate_repair()
+    ensures exist { (us : List ℕ) → AreUnits us → (new : List ℕ) × AreRepairedUnits us new }
+    ensures one { (old new other : List ℕ) → AreRepairedUnits old new → AreRepairedUnits old other → new ≡ other }
+    ensures places { (old new : List ℕ) → AreRepairedUnits old new → ChangesLone old new }
+    ensures valid { (old new : List ℕ) → AreRepairedUnits old new → IsValidUtf16 new }
+    ensures twice { (old new again : List ℕ) → AreRepairedUnits old new → AreRepairedUnits new again → again ≡ new }
+    ensures counts { (old new : List ℕ) (parts others : List Part16) → AreRepairedUnits old new → ArePartsOf16 old parts
+        → ArePartsOf16 new others → map scalar_of others ≡ map scalar_of parts }
+    ensures lossy { (old new : List ℕ) (parts : List Part16) → AreRepairedUnits old new → ArePartsOf16 new parts
+        → map scalar_of parts ≡ utf16_lossy_chars old }
+    ensures stays { (old new : List ℕ) → IsValidUtf16 old → AreRepairedUnits old new → new ≡ old }
 {}

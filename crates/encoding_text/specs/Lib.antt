@@ -12,5 +12,7 @@ pub mod Latin1
 pub mod Clearing
 pub mod Borrowed
 pub mod Utf16
+pub mod Surrogates
+pub mod Bidi
 pub mod Encoding
 pub mod Steps

@@ -4,6 +4,10 @@
 #[cfg(test)]
 mod ascii_rows;
 #[cfg(test)]
+mod bidi_rows;
+#[cfg(test)]
+mod bidi_walks;
+#[cfg(test)]
 mod borrowed_rows;
 #[cfg(test)]
 mod decoder_parts;
@@ -29,6 +33,8 @@ mod repair_rows;
 mod run_rows;
 #[cfg(test)]
 mod streams;
+#[cfg(test)]
+mod surrogate_rows;
 #[cfg(test)]
 mod text_destination_rows;
 #[cfg(test)]

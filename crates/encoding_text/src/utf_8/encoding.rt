@@ -14,21 +14,21 @@ pub(super) const REPLACEMENT: u32 = 0xFFFD;
 const LONGEST: usize = 4;
 
 /// Whether the code unit is a surrogate.
-fn is_surrogate(unit: u16) -> bool
+pub(crate) fn is_surrogate(unit: u16) -> bool
     ensures { IsTrue result ↔ ((0xD800 ≤ unit) × (unit ≤ 0xDFFF)) }
 {
     unit & 0xF800 == 0xD800
 }
 
 /// Whether the code unit is a high surrogate, the first of a pair.
-pub(super) fn is_high_surrogate(unit: u16) -> bool
+pub(crate) fn is_high_surrogate(unit: u16) -> bool
     ensures { IsTrue result ↔ IsHighSurrogate unit }
 {
     unit & 0xFC00 == 0xD800
 }
 
 /// Whether the code unit is a low surrogate, the second of a pair.
-pub(super) fn is_low_surrogate(unit: u16) -> bool
+pub(crate) fn is_low_surrogate(unit: u16) -> bool
     ensures { IsTrue result ↔ IsLowSurrogate unit }
 {
     unit & 0xFC00 == 0xDC00
