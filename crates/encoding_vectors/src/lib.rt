@@ -24,8 +24,6 @@ mod mixed_text;
 #[cfg(test)]
 mod repair_rows;
 #[cfg(test)]
-mod streams;
-#[cfg(test)]
 mod texts;
 #[cfg(test)]
 mod to_utf16_rows;
