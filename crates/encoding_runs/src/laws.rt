@@ -47,9 +47,9 @@ pub fn law_utf16_round_trip()
         → ArePartsOf16 (flat_map encode_utf16 (chars bs)) parts → flat_map utf8_of parts ≡ bs }
 {}
 
-/// The longest fitting front, taken again and again on the units that are left until all are read, gives in sequence
-/// the UTF-8 of all the units' scalar values, whatever the rooms; and with a unit unread and four bytes of room at
-/// least one unit is read. Encoding Standard, `encodeInto`.
+/// The longest fitting front, taken again and again on the code units that are left until all are read, gives in
+/// sequence the UTF-8 of all their scalar values, whatever the rooms; and with a code unit unread and four bytes of
+/// room at least one is read. Encoding Standard, `encodeInto`.
 pub fn law_partial_repeats()
     ensures joined { (us : List ℕ) (parts : List Part16) (steps : List Step) → ArePartsOf16 us parts
         → AreRepeated us steps → flat_map (λ step. step.out) steps ≡ encode_utf8_all (map scalar_of parts) }

@@ -9,4 +9,3 @@ pub use decoding::convert_utf8_to_utf16_up_to_invalid;
 pub use encoder::{EncoderResult, Utf8Encoder};
 pub use encoding::{convert_utf16_to_utf8_partial_inner, convert_utf16_to_utf8_partial_tail};
 pub use validation::utf8_valid_up_to;
-pub(crate) use validation::{is_continuation, is_second};

@@ -1,4 +1,4 @@
-// The encoder: it holds a high surrogate from one call to the next.
+//! The encoder: it holds a high surrogate from one call to the next.
 ghost use Rattle.std.specs.Prelude.{◌≡◌, ◌+◌, ◌*◌, ◌≤◌, false, [], ◌∷◌, length, take, drop, encode_utf8, IsTrue};
 ghost use Rattle.std.specs.Option.{SomeIff};
 ghost use Rattle.std.specs.Str.{chars};
@@ -17,14 +17,14 @@ use std::marker::Model;
 /// What ended a call of an encoder.
 #[derive(Debug, PartialEq, Eq, Drop)]
 pub enum EncoderResult {
-    /// All of the source is read, and all that was due is written.
+    /// All of the source is read, and all that was due is written. After a last call nothing is held.
     InputEmpty,
     /// The next character doesn't fit into what is left of the destination.
     OutputFull,
 }
 
-/// An encoder to UTF-8: Encoding Standard, section 8.1. Contracts see it as the list of the units that it holds:
-/// none, or the high surrogate that ended an earlier call and waits for its low half.
+/// An encoder to UTF-8: Encoding Standard, section 8.1. Contracts see it as the list of the code units that it
+/// holds: none, or the high surrogate that ended an earlier call and waits for its low half.
 #[derive(Drop)]
 pub struct Utf8Encoder {
     held: Option<u16>,
@@ -67,6 +67,7 @@ impl Utf8Encoder {
         n.checked_add(3 * self.held_count())
     }
 
+    /// How many code units are held.
     fn held_count(&self) -> usize
         ensures count { result ≡ length self.now }
         ensures held { IsHeld self.now }
@@ -77,13 +78,13 @@ impl Utf8Encoder {
         }
     }
 
-    /// Encodes `src`, with the unit that is held in front of it, into `dst`, and returns what ended the call, how
-    /// many units of `src` it read and how many bytes it wrote. `last` marks the last call.
+    /// Encodes `src`, with the code unit that is held in front of it, into `dst`, and returns what ended the call,
+    /// how many code units of `src` it read and how many bytes it wrote. `last` marks the last call.
     ///
     /// A high surrogate that ends a call not marked last is held, for the low one may follow in the next call. Any
     /// other surrogate that is in no pair becomes U+FFFD (Unicode Standard, section 3.9, UTF-16). No character is
     /// written in part. At `OutputFull` with nothing written nothing is read, and what was held stays; with something
-    /// written nothing is held. What lies behind the written bytes stays.
+    /// written nothing is held. Behind what is written `dst` is as before.
     pub fn encode_from_utf16_raw(
         &mut self,
         src: &[u16],
@@ -136,12 +137,12 @@ impl Utf8Encoder {
         (EncoderResult::InputEmpty, src.len(), written)
     }
 
-    /// Encodes U+FFFD for the unit that is held, if there is one, and then `src` into `dst`, and returns what ended
-    /// the call, how many bytes of `src` it read and how many bytes it wrote. Whether the call is the last has no
-    /// effect.
+    /// Encodes U+FFFD for the code unit that is held, if there is one, and then `src` into `dst`, and returns what
+    /// ended the call, how many bytes of `src` it read and how many bytes it wrote. Whether the call is the last has
+    /// no effect.
     ///
-    /// The held unit is written also where `src` is empty, and stays held only where it didn't fit. No character is
-    /// written in part. What lies behind the written bytes stays.
+    /// U+FFFD is written for it also where `src` is empty, and it stays held only where that didn't fit. No character
+    /// is written in part. Behind what is written `dst` is as before.
     pub fn encode_from_utf8_raw(
         &mut self,
         src: &str,
@@ -168,7 +169,7 @@ impl Utf8Encoder {
     }
 }
 
-/// How many of the units are due: all but a high surrogate that ends a call not marked last.
+/// How many of the code units are due: all but a high surrogate that ends a call not marked last.
 fn due_length(src: &[u16], last: bool) -> usize
     ensures within { result ≤ length src.now }
     ensures held { IsHeld (drop result src.now) }
@@ -186,8 +187,8 @@ fn due_length(src: &[u16], last: bool) -> usize
     }
 }
 
-/// What the first part of the units counts as, where a high surrogate stands in front of `src`, and how many units
-/// of `src` that part takes.
+/// What the first part of the code units counts as, where a high surrogate stands in front of `src`, and how many
+/// code units of `src` that part takes.
 fn first_with_held(high: u16, src: &[u16]) -> (u32, usize)
     requires { IsHighSurrogate high }
     ensures first { IsFirstScalar (high ∷ src.now) result.0 }
