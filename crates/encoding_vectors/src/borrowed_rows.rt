@@ -1,8 +1,9 @@
 //! Results that borrow where they can, and memory that is refused.
 
 use encoding_text::mem::{CowBytes, CowStr, decode_latin1, encode_latin1_lossy, is_str_latin1};
-use std::alloc::{AllocError, Global};
+use std::alloc::AllocError;
 use std::test::Fail;
+use test_support::memory::exhaust;
 
 #[test]
 fn borrows_ascii(rt: HostRuntime) -> Result<(), Fail> {
@@ -21,20 +22,6 @@ fn owns_the_rest(rt: HostRuntime) -> Result<(), Fail> {
     let bytes = encode_latin1_lossy(rt.alloc(), "aä")?;
     assert!(rt; bytes == CowBytes::Owned([0x61, 0xE4].to_vec(rt.alloc())?));
     Ok(())
-}
-
-/// Takes memory until none is left, in ever smaller blocks.
-fn exhaust(alloc: Global) -> Result<Vec<Vec<u8>>, AllocError> {
-    let mut held = Vec::with_capacity(alloc, 1_000_000)?;
-    let mut size: usize = 1 << 46;
-    for _ in 0..1_000_000 {
-        match Vec::with_capacity(alloc, size) {
-            Ok(block) => held.push(block)?,
-            Err(_) if size == 1 => break,
-            Err(_) => size /= 2,
-        }
-    }
-    Ok(held)
 }
 
 #[test]

@@ -130,6 +130,8 @@ fn three_bytes_a_unit(rt: HostRuntime) {
 
 #[test]
 fn empty_text(rt: HostRuntime) {
-    let answer = Utf8Encoder::new_inner().encode_from_utf8_raw("", &mut [], true);
-    assert!(rt; answer == (EncoderResult::InputEmpty, 0, 0));
+    for last in [false, true] {
+        let answer = Utf8Encoder::new_inner().encode_from_utf8_raw("", &mut [], last);
+        assert!(rt; answer == (EncoderResult::InputEmpty, 0, 0), "{last}");
+    }
 }

@@ -32,8 +32,6 @@ mod repair_rows;
 #[cfg(test)]
 mod run_rows;
 #[cfg(test)]
-mod streams;
-#[cfg(test)]
 mod surrogate_rows;
 #[cfg(test)]
 mod text_destination_rows;
