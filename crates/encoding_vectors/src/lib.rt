@@ -22,6 +22,8 @@ mod repair_rows;
 #[cfg(test)]
 mod streams;
 #[cfg(test)]
+mod text_destination_rows;
+#[cfg(test)]
 mod to_utf16_rows;
 #[cfg(test)]
 mod utf16_rows;
