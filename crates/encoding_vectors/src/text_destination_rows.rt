@@ -1,6 +1,6 @@
 //! Conversions into the front of a text: what they write, what they clear, and that a text is left.
 
-ghost use Rattle.std.specs.Prelude.{◌↔◌, IsTrue};
+ghost use Rattle.std.specs.Prelude.{◌*◌, ◌≤◌, ◌↔◌, length, IsTrue};
 ghost use Rattle.std.specs.Str.{IsUtf8};
 
 use encoding_text::mem::{
@@ -27,9 +27,21 @@ fn latin1_leaves(src: &[u8], dst: &mut [u8], told: (usize, usize), want: &[u8]) 
 
 #[test]
 fn rows_of_units(rt: HostRuntime) {
-    assert!(rt; units_leave(&[0x61], &mut [0xC3, 0xA4, 0x62], (1, 1), &[0x61, 0x00, 0x62]));
     assert!(rt;
-        units_leave(&[0x2603], &mut [0xF0, 0x9F, 0x92, 0xA9, 0x62], (1, 3), &[0xE2, 0x98, 0x83, 0x00, 0x62])
+        units_leave(
+            &[0x61],
+            &mut [0xC3, 0xA4, 0x62],
+            (1, 1),
+            &[0x61, 0x00, 0x62]
+        )
+    );
+    assert!(rt;
+        units_leave(
+            &[0x2603],
+            &mut [0xF0, 0x9F, 0x92, 0xA9, 0x62],
+            (1, 3),
+            &[0xE2, 0x98, 0x83, 0x00, 0x62]
+        )
     );
     assert!(rt; units_leave(&[], &mut [0xC3, 0xA4], (0, 0), &[0xC3, 0xA4]));
     let mut dst = [0xE2, 0x98, 0x83];
@@ -56,7 +68,7 @@ fn rows_of_latin1(rt: HostRuntime) {
 }
 
 /// What fills a destination before a call, again and again.
-const FILLS: [&'static str; 4] = ["q", "\u{E4}", "\u{2603}", "\u{1F4A9}"];
+const FILLINGS: [&'static str; 4] = ["q", "\u{E4}", "\u{2603}", "\u{1F4A9}"];
 
 /// Units, and the characters that they count as.
 const UNITS: [(u16, &'static str); 5] = [
@@ -76,165 +88,188 @@ const BYTES: [(u8, &'static str); 5] = [
     (0xFF, "\u{FF}"),
 ];
 
-/// How many letters `b` stand behind a character.
+/// The most letters `a` that stand before a unit or a byte of these.
+const BEFORE: usize = 69;
+
+/// How many letters `b` stand behind it.
 const BEHIND: usize = 40;
 
 /// How many bytes a conversion from Latin1 sets to zero.
 const ZEROS: usize = 16;
 
-fn is_continuation(byte: u8) -> bool {
-    0x80 <= byte && byte <= 0xBF
-}
-
-/// Fills a destination with a character as often as it fits, and behind that with letters `q`.
+/// Fills a destination with a character.
 fn fill(dst: &mut [u8], character: &[u8]) {
     let length = character.len().max(1);
-    let whole = dst.len() - dst.len() % length;
     for (place, byte) in dst.iter_mut().enumerate() {
-        *byte = match character.get(place % length) {
-            Some(part) if place < whole => *part,
-            _ => b'q',
-        };
+        *byte = character.get(place % length).copied().unwrap_or(b'q');
     }
 }
 
-/// Writes so many letters `a`, the character, and letters `b`.
-fn put_text(text: &mut [u8], letters: usize, character: &[u8]) {
-    for (place, byte) in text.iter_mut().enumerate() {
-        *byte = match place.checked_sub(letters) {
-            None => b'a',
-            Some(behind) => character.get(behind).copied().unwrap_or(b'b'),
-        };
-    }
-}
-
-/// How many bytes the longest front of whole characters has that is no longer than the room.
-fn front_length(text: &[u8], room: usize) -> usize {
-    let mut front = 0;
-    for (place, byte) in text.iter().enumerate() {
-        if place <= room && !is_continuation(*byte) {
-            front = place;
+/// Returns how much is read and how many bytes are written of letters, a character of this size and letters.
+fn front(letters: usize, size: usize, room: usize) -> (usize, usize) {
+    match room.saturating_sub(letters).checked_sub(size) {
+        _ if room < letters => (room, room),
+        None => (letters, letters),
+        Some(left) => {
+            let behind = left.min(BEHIND);
+            let read = letters.saturating_add(1).saturating_add(behind);
+            (read, letters.saturating_add(size).saturating_add(behind))
         }
     }
-    if text.len() <= room { text.len() } else { front }
 }
 
-/// How many characters the first bytes of a text have.
-fn count(text: &[u8], bytes: usize) -> usize {
-    text.iter().take(bytes).filter(|byte| !is_continuation(**byte)).count()
-}
-
-/// Whether a destination holds the front of the text, and behind it what was there, cleared: byte by byte.
-fn is_cleared(text: &[u8], front: usize, zeros: usize, old: &[u8], new: &[u8]) -> bool {
+/// Whether a destination holds what was written, and behind it what was there, cleared: byte by byte.
+fn is_cleared(written: &[u8], zeros: usize, old: &[u8], new: &[u8]) -> bool {
     let mut clearing = true;
-    for (place, byte) in new.iter().enumerate() {
-        let (Some(was), written) = (old.get(place), text.get(place)) else {
-            return false;
-        };
-        let want = match place.checked_sub(front) {
-            None => written.copied(),
-            Some(behind) => {
-                clearing = clearing && (behind < zeros || is_continuation(*was));
-                if clearing { Some(0) } else { Some(*was) }
-            }
-        };
-        if want != Some(*byte) {
+    for (place, was) in old.iter().enumerate().skip(written.len()) {
+        let behind = place.saturating_sub(written.len());
+        clearing = clearing && (behind < zeros || (0x80 <= *was && *was <= 0xBF));
+        let want = if clearing { 0 } else { *was };
+        if new.get(place) != Some(&want) {
             return false;
         }
     }
-    new.len() == old.len()
+    new.len() == old.len() && new.get(..written.len()) == Some(written)
 }
 
-/// Whether both conversions of letters, a unit and letters into a room leave a text by the rule.
-fn unit_leaves_a_text(unit: u16, character: &str, letters: usize, room: usize, filling: &str) -> bool {
-    let (mut units, mut bytes, mut before, mut after) = ([0x62; 110], [0; 113], [0; 330], [0; 330]);
-    let (Some(src), Some(text), Some(old), Some(dst)) = (
-        units.get_mut(..letters.saturating_add(1).saturating_add(BEHIND)),
-        bytes.get_mut(..letters.saturating_add(character.len()).saturating_add(BEHIND)),
-        before.get_mut(..room),
-        after.get_mut(..room),
-    ) else {
+/// Whether letters, a character and letters are converted so into a destination that holds this text.
+fn units_hold(src: &[u16], text: &[u8], told: (usize, usize), old: &[u8]) -> bool
+    requires { IsUtf8 old.now }
+{
+    let mut buffer = [0; 330];
+    let (Some(dst), Some(written)) = (buffer.get_mut(..old.len()), text.get(..told.1)) else {
         return false;
     };
-    for (place, put) in src.iter_mut().enumerate() {
-        if place <= letters {
-            *put = if place < letters { 0x61 } else { unit };
+    dst.copy_from_slice(old);
+    convert_utf16_to_str_partial(src, dst) == told
+        && is_cleared(written, 0, old, dst)
+        && is_text(dst)
+}
+
+/// The same where there is room for all.
+fn all_units_hold(src: &[u16], text: &[u8], old: &[u8]) -> bool
+    requires text { IsUtf8 old.now }
+    requires room { 3 * length src.now ≤ length old.now }
+{
+    let mut buffer = [0; 330];
+    let Some(dst) = buffer.get_mut(..old.len()) else {
+        return false;
+    };
+    dst.copy_from_slice(old);
+    convert_utf16_to_str(src, dst) == text.len() && is_cleared(text, 0, old, dst) && is_text(dst)
+}
+
+/// Whether this unit behind each number of letters is converted so, where the room is at most three times the source.
+fn unit_holds(unit: u16, character: &[u8], old: &[u8]) -> bool
+    requires { IsUtf8 old.now }
+{
+    let mut units = [0x62; BEFORE + 1 + BEHIND];
+    units[..BEFORE].fill(0x61);
+    units[BEFORE] = unit;
+    let mut bytes = [b'b'; 113];
+    bytes[..BEFORE].fill(b'a');
+    let end = BEFORE + character.len().min(4);
+    bytes[BEFORE..end].copy_from_slice(&character[..end - BEFORE]);
+    let mut holds = true;
+    for letters in 0..=BEFORE {
+        let src = &units[BEFORE - letters..];
+        let text = &bytes[BEFORE - letters..end + BEHIND];
+        if old.len() <= 3 * src.len() {
+            let told = front(letters, character.len(), old.len());
+            holds = holds && units_hold(src, text, told, old);
+        }
+        if old.len() == 3 * src.len() {
+            holds = holds && all_units_hold(src, text, old);
         }
     }
-    put_text(text, letters, character.as_bytes());
-    fill(old, filling.as_bytes());
-    dst.copy_from_slice(old);
-    let front = front_length(text, room);
-    let bounded = is_text(dst)
-        && convert_utf16_to_str_partial(src, dst) == (count(text, front), front)
-        && is_cleared(text, front, 0, old, dst)
-        && is_text(dst);
-    if !bounded || src.len() > room / 3 {
-        return bounded;
-    }
-    dst.copy_from_slice(old);
-    is_text(dst)
-        && convert_utf16_to_str(src, dst) == text.len()
-        && is_cleared(text, text.len(), 0, old, dst)
-        && is_text(dst)
+    holds
 }
 
 #[test]
 fn units_leave_a_text(rt: HostRuntime) {
-    for filling in &FILLS {
-        for (unit, character) in &UNITS {
-            for letters in 0..70usize {
-                for room in 0..=3 * (letters + 1 + BEHIND) {
-                    assert!(rt;
-                        unit_leaves_a_text(*unit, character, letters, room, filling),
-                        "{unit:04X} behind {letters} letters into {room} bytes of {filling}"
-                    );
+    for filling in &FILLINGS {
+        let mut buffer = [0; 330];
+        fill(&mut buffer, filling.as_bytes());
+        for room in 0..=330usize {
+            let old = &buffer[..room];
+            if room % filling.len().max(1) == 0 {
+                assert!(rt; is_text(old));
+                for (unit, character) in &UNITS {
+                    let holds = unit_holds(*unit, character.as_bytes(), old);
+                    assert!(rt; holds, "{unit} into {room} bytes of {filling}");
                 }
             }
         }
     }
 }
 
-/// Whether both conversions of letters, a byte and letters into a room leave a text by the rule.
-fn byte_leaves_a_text(byte: u8, character: &str, letters: usize, room: usize, filling: &str) -> bool {
-    let (mut latin1, mut bytes, mut before, mut after) = ([0; 110], [0; 111], [0; 220], [0; 220]);
-    let (Some(src), Some(text), Some(old), Some(dst)) = (
-        latin1.get_mut(..letters.saturating_add(1).saturating_add(BEHIND)),
-        bytes.get_mut(..letters.saturating_add(character.len()).saturating_add(BEHIND)),
-        before.get_mut(..room),
-        after.get_mut(..room),
-    ) else {
+/// Whether letters, a character and letters are converted so into a destination that holds this text.
+fn bytes_hold(src: &[u8], text: &[u8], told: (usize, usize), old: &[u8]) -> bool
+    requires { IsUtf8 old.now }
+{
+    let mut buffer = [0; 220];
+    let (Some(dst), Some(written)) = (buffer.get_mut(..old.len()), text.get(..told.1)) else {
         return false;
     };
-    put_text(src, letters, &[byte]);
-    put_text(text, letters, character.as_bytes());
-    fill(old, filling.as_bytes());
     dst.copy_from_slice(old);
-    let front = front_length(text, room);
-    let bounded = is_text(dst)
-        && convert_latin1_to_str_partial(src, dst) == (count(text, front), front)
-        && is_cleared(text, front, ZEROS, old, dst)
-        && is_text(dst);
-    if !bounded || src.len() > room / 2 {
-        return bounded;
-    }
-    dst.copy_from_slice(old);
-    is_text(dst)
-        && convert_latin1_to_str(src, dst) == text.len()
-        && is_cleared(text, text.len(), ZEROS, old, dst)
+    convert_latin1_to_str_partial(src, dst) == told
+        && is_cleared(written, ZEROS, old, dst)
         && is_text(dst)
+}
+
+/// The same where there is room for all.
+fn all_bytes_hold(src: &[u8], text: &[u8], old: &[u8]) -> bool
+    requires text { IsUtf8 old.now }
+    requires room { 2 * length src.now ≤ length old.now }
+{
+    let mut buffer = [0; 220];
+    let Some(dst) = buffer.get_mut(..old.len()) else {
+        return false;
+    };
+    dst.copy_from_slice(old);
+    convert_latin1_to_str(src, dst) == text.len()
+        && is_cleared(text, ZEROS, old, dst)
+        && is_text(dst)
+}
+
+/// Whether this byte behind each number of letters is converted so, where the room is at most twice the source.
+fn byte_holds(byte: u8, character: &[u8], old: &[u8]) -> bool
+    requires { IsUtf8 old.now }
+{
+    let mut latin1 = [b'b'; BEFORE + 1 + BEHIND];
+    latin1[..BEFORE].fill(b'a');
+    latin1[BEFORE] = byte;
+    let mut bytes = [b'b'; 113];
+    bytes[..BEFORE].fill(b'a');
+    let end = BEFORE + character.len().min(4);
+    bytes[BEFORE..end].copy_from_slice(&character[..end - BEFORE]);
+    let mut holds = true;
+    for letters in 0..=BEFORE {
+        let src = &latin1[BEFORE - letters..];
+        let text = &bytes[BEFORE - letters..end + BEHIND];
+        if old.len() <= 2 * src.len() {
+            let told = front(letters, character.len(), old.len());
+            holds = holds && bytes_hold(src, text, told, old);
+        }
+        if old.len() == 2 * src.len() {
+            holds = holds && all_bytes_hold(src, text, old);
+        }
+    }
+    holds
 }
 
 #[test]
 fn bytes_leave_a_text(rt: HostRuntime) {
-    for filling in &FILLS {
-        for (byte, character) in &BYTES {
-            for letters in 0..70usize {
-                for room in 0..=2 * (letters + 1 + BEHIND) {
-                    assert!(rt;
-                        byte_leaves_a_text(*byte, character, letters, room, filling),
-                        "{byte:02X} behind {letters} letters into {room} bytes of {filling}"
-                    );
+    for filling in &FILLINGS {
+        let mut buffer = [0; 220];
+        fill(&mut buffer, filling.as_bytes());
+        for room in 0..=220usize {
+            let old = &buffer[..room];
+            if room % filling.len().max(1) == 0 {
+                assert!(rt; is_text(old));
+                for (byte, character) in &BYTES {
+                    let holds = byte_holds(*byte, character.as_bytes(), old);
+                    assert!(rt; holds, "{byte} into {room} bytes of {filling}");
                 }
             }
         }

@@ -1,5 +1,5 @@
 -- The UTF-8 of parts of units is well-formed.
-use Rattle.std.proofs.Common.{◌≡◌, ℕ, zero, suc, List, [], ◌∷◌, length, take, encode_utf8, sym, ap, ◌∙◌, arith, subst, IsUtf8}
+use Rattle.std.proofs.Common.{ℕ, zero, suc, List, [], ◌∷◌, length, take, sym, ap, ◌∙◌, arith, subst, IsUtf8}
 use Rattle.std.specs.List.{flat_map}
 use Rattle.std.proofs.lemmas.List.{take_all}
 use Rattle.std.proofs.lemmas.Str.{IsUtf8-nil, IsUtf8-append, IsUtf8-encode}

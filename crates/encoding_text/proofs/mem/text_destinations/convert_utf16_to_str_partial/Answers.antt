@@ -1,4 +1,3 @@
-use Rattle.std.proofs.Common.{length}
 use Rattle.encoding_text.proofs.CodeUnits.Utf16TextLemmas.{IsUtf8-longest}
 use Rattle.encoding_text.proofs.LongestFronts.ClearingLemmas.{clears_behind, written_stays, text_stays}
 use Rattle.encoding_text.proofs.mem.text_destinations.convert_utf16_to_str_partial.Goals as goal
