@@ -4,3 +4,5 @@ pub mod ChainLemmas
 pub mod RunLemmas
 pub mod TurnLemmas
 pub mod CompletionLemmas
+pub mod CutLemmas
+pub mod MixedLemmas

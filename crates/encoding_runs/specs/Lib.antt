@@ -4,3 +4,4 @@ pub mod Repeats
 pub mod Chains
 pub mod Turns
 pub mod Runs
+pub mod MixedCalls
