@@ -14,14 +14,22 @@ mod decoder_vectors;
 #[cfg(test)]
 mod encoder_rows;
 #[cfg(test)]
+mod encoder_vectors;
+#[cfg(test)]
 mod held_unit_rows;
 #[cfg(test)]
 mod latin1_rows;
+#[cfg(test)]
+mod mixed_text;
 #[cfg(test)]
 mod repair_rows;
 #[cfg(test)]
 mod streams;
 #[cfg(test)]
+mod texts;
+#[cfg(test)]
 mod to_utf16_rows;
+#[cfg(test)]
+mod unchanged_tails;
 #[cfg(test)]
 mod utf16_rows;

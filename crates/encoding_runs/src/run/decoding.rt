@@ -126,6 +126,7 @@ fn run<U: Decoded>(
     reports: &mut [Report],
 ) -> Outcome
     requires places { length turns.now ≤ length reports.old }
+    requires some { 0 < U.need }
     requires short { (c : ℕ) → IsScalar c → length (U.encode c) ≤ length (encode_utf8 c) }
     ensures delivers { Delivers U.encode U.need decoder.old src.now turns.now dst.old dst.new reports.old reports.new result decoder.new }
     ensures completes { Completes (λ n pending. n + (U.need - 1) + pending) U.need decoder.old src.now turns.now (length dst.old) result.result }
