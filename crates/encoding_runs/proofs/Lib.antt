@@ -7,3 +7,5 @@ pub mod RunLemmas
 pub mod TurnLemmas
 pub mod CompletionLemmas
 pub mod BidiLawLemmas
+pub mod CutLemmas
+pub mod MixedLemmas

@@ -1,10 +1,12 @@
 //! Laws of the definitions: each is the contract of a function that does nothing.
-ghost use Rattle.std.specs.Prelude.{◌≡◌, ◌↔◌, ℕ, ◌<◌, ◌≤◌, List, [], ◌++◌, Any, encode_utf8, length, map, encode_utf8_all, IsTrue, IsUtf8};
+ghost use Rattle.std.specs.Prelude.{◌≡◌, ◌↔◌, ℕ, ◌+◌, ◌<◌, ◌≤◌, Bool, List, [], ◌∷◌, ◌++◌, Any, encode_utf8, length, map, encode_utf8_all, IsTrue, IsUtf8};
 ghost use Rattle.std.specs.Char.{IsScalar};
 ghost use Rattle.std.specs.List.{flat_map};
 ghost use Rattle.std.specs.Str.Lossy.{utf8_lossy};
 ghost use Rattle.encoding_text.specs.Sequence.{IsSequence};
-ghost use Rattle.encoding_text.specs.Parts.{Part, ArePartsOf, AreSettled, bytes_of, repaired_text};
+ghost use Rattle.encoding_text.specs.Parts.{Part, ArePartsOf, AreSettled, bytes_of, count_broken, repaired_text};
+ghost use Rattle.encoding_text.specs.Pending.{IsPending};
+ghost use Rattle.encoding_text.specs.OneAnswer.{HasOneAnswer, HasOnePiece};
 ghost use Rattle.std.specs.Char.Escape.{encode_utf16};
 ghost use Rattle.std.specs.Char.Utf16.{utf16_lossy_chars};
 ghost use Rattle.std.specs.Str.{all_scalars, chars};
@@ -14,6 +16,7 @@ ghost use Rattle.encoding_text.specs.Bidi.{IsRightToLeft, IsBidiBytes, IsBidiUni
 ghost use Rattle.encoding_text.specs.Surrogates.{IsValidUtf16, AreRepairedUnits, ChangesLone};
 ghost use Rattle.encoding_runs.specs.Repeats.{Step, AreRepeated};
 ghost use Rattle.encoding_runs.specs.EncoderChains.{EncoderStep, IsEncoderChain, EncodesFirstParts, units_read, output_of, held_after};
+ghost use Rattle.encoding_runs.specs.MixedCalls.{MixedCall, AreMixedCalls, GiveTheParts, AreAskedTheSame, AnswerTheSame};
 
 /// The well-formed sequences are exactly the UTF-8 of the scalar values, one for each, and none begins another.
 /// Unicode Standard, Table 3-7.
@@ -25,7 +28,7 @@ pub fn law_sequences()
 {}
 
 /// Bytes have exactly one list of parts, whose bytes joined are these bytes. Their settled parts are the first
-/// ones of the bytes with anything behind them. With U+FFFD for each broken part they are the text that
+/// ones of the bytes with anything behind them, and so the settled text begins the repaired text of these. With U+FFFD for each broken part they are the text that
 /// `String::from_utf8_lossy` makes. Encoding Standard, UTF-8 decoder.
 pub fn law_parts()
     ensures exist { (bs : List ℕ) → (parts : List Part) × ArePartsOf bs parts }
@@ -34,7 +37,39 @@ pub fn law_parts()
     ensures settled_exist { (bs : List ℕ) → (parts : List Part) × (rest : List ℕ) × AreSettled bs parts rest }
     ensures settled_stay { (bs rest more : List ℕ) (parts all : List Part) → AreSettled bs parts rest
         → ArePartsOf (bs ++ more) all → (others : List Part) × (all ≡ parts ++ others) }
+    ensures settled_text { (bs rest more : List ℕ) (parts all : List Part) → AreSettled bs parts rest
+        → ArePartsOf (bs ++ more) all → (text : List ℕ) × (repaired_text all ≡ repaired_text parts ++ text) }
     ensures lossy { (bs : List ℕ) (parts : List Part) → ArePartsOf bs parts → repaired_text parts ≡ utf8_lossy bs }
+{}
+
+/// Bytes may be cut where the settled parts of the first piece leave no rest: the parts of all of them are those of
+/// the first piece, and then those of the other. So the pieces can be repaired apart: their repaired texts join, and
+/// their broken parts add up. Bytes that end with an ASCII byte leave no rest.
+pub fn law_cuts()
+    ensures parts { (bs more : List ℕ) (parts others all : List Part) → AreSettled bs parts []
+        → ArePartsOf more others → ArePartsOf (bs ++ more) all → all ≡ parts ++ others }
+    ensures texts { (bs more : List ℕ) (parts others all : List Part) → AreSettled bs parts []
+        → ArePartsOf more others → ArePartsOf (bs ++ more) all
+        → repaired_text all ≡ repaired_text parts ++ repaired_text others }
+    ensures counts { (bs more : List ℕ) (parts others all : List Part) → AreSettled bs parts []
+        → ArePartsOf more others → ArePartsOf (bs ++ more) all
+        → count_broken all ≡ count_broken parts + count_broken others }
+    ensures behind_ascii { (bs rest : List ℕ) (b : ℕ) (parts : List Part) → b < 128
+        → AreSettled (bs ++ b ∷ []) parts rest → rest ≡ [] }
+{}
+
+/// For pending bytes, source, mark and, with a destination, its room, each call of a decoder has exactly one answer.
+/// Calls of its three forms may be mixed: over one list of bytes, each handed the unread ones from the first on, they
+/// give in sequence the first parts of what was pending and these bytes, whatever follows them, and all of the parts
+/// once a call marked last returns `InputEmpty`. What a decoder answers depends on its pending bytes alone, so a
+/// neutral one answers every list of calls as a new one does. Encoding Standard, UTF-8 decoder.
+pub fn law_mixed_calls()
+    ensures one_utf16 { (p src : List ℕ) (room : ℕ) (last : Bool) → IsPending p → HasOneAnswer encode_utf16 2 p src room last }
+    ensures one_utf8 { (p src : List ℕ) (room : ℕ) (last : Bool) → IsPending p → HasOneAnswer encode_utf8 4 p src room last }
+    ensures one_piece { (p src : List ℕ) (last : Bool) → IsPending p → HasOnePiece p src last }
+    ensures mixed { (p b : List ℕ) (calls : List MixedCall) → IsPending p → AreMixedCalls p b calls → GiveTheParts p b calls }
+    ensures same { (p b : List ℕ) (calls others : List MixedCall) → AreMixedCalls p b calls → AreMixedCalls p b others
+        → AreAskedTheSame calls others → AnswerTheSame calls others }
 {}
 
 /// UTF-16 code units have exactly one list of parts; counted as U+FFFD, the lone surrogates among them are those of
