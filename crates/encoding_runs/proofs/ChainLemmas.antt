@@ -49,10 +49,10 @@ chain_gives p b (call ∷ calls) h (g, whole, c) =
           (first_of_all p b call.piece call.last call.parts call.read call.pending g whole) rest.first);
       pending = rest.pending;
       whatever_follows = λ e more.
-      let none = or_parts call.last (some_last calls) e in
-      subst (λ xs. StartsWith (p ++ b ++ more) (call.parts ++ parts_given calls) (q ++ xs ++ more)) (drop-drop all call.read b)
-      (StartsWith-append (p ++ b ++ more) call.parts (call.pending ++ after ++ more) (parts_given calls) (q ++ drop all after ++ more)
-      (first_whatever_follows p b call.piece call.last call.parts call.read call.pending g none.0 more) (rest.whatever_follows none.1 more));
+          let none = or_parts call.last (some_last calls) e in
+          subst (λ xs. StartsWith (p ++ b ++ more) (call.parts ++ parts_given calls) (q ++ xs ++ more)) (drop-drop all call.read b)
+          (StartsWith-append (p ++ b ++ more) call.parts (call.pending ++ after ++ more) (parts_given calls) (q ++ drop all after ++ more)
+          (first_whatever_follows p b call.piece call.last call.parts call.read call.pending g none.0 more) (rest.whatever_follows none.1 more));
     }
 
 -- the bytes of what is given, and those that are pending then, are those that were pending and those read

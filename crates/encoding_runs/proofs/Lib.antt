@@ -2,7 +2,12 @@ pub mod SettledLemmas
 pub mod RepairLemmas
 pub mod RoundLemmas
 pub mod RepeatLemmas
+pub mod EncoderChainLemmas
+pub mod EncoderRunLemmas
 pub mod ChainLemmas
 pub mod RunLemmas
 pub mod TurnLemmas
 pub mod CompletionLemmas
+pub mod BidiLawLemmas
+pub mod CutLemmas
+pub mod MixedLemmas

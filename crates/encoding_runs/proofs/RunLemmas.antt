@@ -1,14 +1,12 @@
 -- What the calls of a run give, one after another: the first parts of the bytes, written and reported.
-use Rattle.std.proofs.Common.{◌≡◌, ℕ, ◌+◌, ◌-◌, ◌≤◌, inl, inr, Bool, true, false, ◌||◌, List, [], ◌∷◌, ◌++◌, length, map, take, drop, Option, None, refl, sym, ap, ◌∙◌, arith, subst}
+use Rattle.std.proofs.Common.{◌≡◌, ℕ, ◌+◌, ◌-◌, ◌≤◌, inl, inr, true, ◌||◌, List, [], ◌∷◌, ◌++◌, length, map, take, drop, refl, sym, ap, ◌∙◌, arith, subst}
 use Rattle.std.specs.List.{flat_map}
 use Rattle.std.proofs.lemmas.Bool.{and_parts, leb-true}
 use Rattle.std.proofs.lemmas.Grind.{flat_map-append}
-use Rattle.std.proofs.lemmas.List.{append-nil, append_assoc, length-append}
+use Rattle.std.proofs.lemmas.List.{append-nil, length-append}
 use Rattle.encoding_text.specs.Pending.{IsPending}
-use Rattle.encoding_text.specs.Parts.{Part, Character, Broken, bytes_of, StartsWith, ArePartsOf, characters_of}
-use Rattle.encoding_text.specs.Giving.{Gives}
-use Rattle.encoding_text.specs.Fronts.{WritesFront}
-use Rattle.encoding_text.specs.Decoding.{IsCall, Answers}
+use Rattle.encoding_text.specs.Parts.{Part, Character, Broken, StartsWith, characters_of}
+use Rattle.encoding_text.specs.Decoding.{Answers}
 use Rattle.encoding_text.specs.declared.decoder.DecoderResult.{DecoderResult}
 use Rattle.encoding_text.specs.declared.decoder.DecoderResult.TheVariants.{InputEmpty, OutputFull, Malformed}
 use Rattle.encoding_text.proofs.Calls.CallPartsLemmas.{IsReported, call_gives}
@@ -120,10 +118,10 @@ module _ {A : Type 0} (encode : ℕ → List A) where
           output = (λ i. out i ++ rest.output i) ∙ sym (flat_map-append encode (characters_of parts) (characters_of more))
               ∙ ap (flat_map encode) (sym (characters_of-append parts more));
           reports = λ place.
-          let there = place + length call.out in
-          (λ i. (ap (λ xs. report_of call.answer (place + length xs)) g.2 ∙ sym (given_reports place cs call.answer g.1 g.3)) i ++ rest.reports there i)
-          ∙ ap (λ xs. reports_of encode place parts ++ reports_of encode (place + length xs) more) out
-          ∙ sym (reports_of-append place parts more);
+              let there = place + length call.out in
+              (λ i. (ap (λ xs. report_of call.answer (place + length xs)) g.2 ∙ sym (given_reports place cs call.answer g.1 g.3)) i ++ rest.reports there i)
+              ∙ ap (λ xs. reports_of encode place parts ++ reports_of encode (place + length xs) more) out
+              ∙ sym (reports_of-append place parts more);
           read = ap (λ n. call.read + n) rest.read;
           pending = rest.pending;
           last = ap (λ b. marked || b) rest.last;
@@ -164,5 +162,5 @@ module _ {A : Type 0} (encode : ℕ → List A) where
           at_most_three = few_pending q still;
           all = λ e. all_given p src all.given h all.chain (all.ends e);
           whatever_follows = λ e more.
-          subst (λ xs. StartsWith (p ++ src ++ more) parts (xs ++ more)) unread (g.whatever_follows (sym all.last ∙ e) more);
+              subst (λ xs. StartsWith (p ++ src ++ more) parts (xs ++ more)) unread (g.whatever_follows (sym all.last ∙ e) more);
         }

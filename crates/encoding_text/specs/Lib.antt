@@ -9,7 +9,10 @@ pub mod OneAnswer
 pub mod GivenParts
 pub mod Ascii
 pub mod Latin1
+pub mod Clearing
 pub mod Borrowed
 pub mod Utf16
+pub mod Surrogates
+pub mod Bidi
 pub mod Encoding
 pub mod Steps

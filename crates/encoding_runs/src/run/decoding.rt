@@ -1,5 +1,5 @@
 // Runs of a decoder.
-ghost use Rattle.std.specs.Prelude.{◌≡◌, ℕ, ◌+◌, ◌-◌, ◌<◌, ◌≤◌, List, length, take, encode_utf8};
+ghost use Rattle.std.specs.Prelude.{ℕ, ◌+◌, ◌-◌, ◌<◌, ◌≤◌, List, length, take, encode_utf8};
 ghost use Rattle.std.specs.Char.{IsScalar};
 ghost use Rattle.std.specs.Char.Escape.{encode_utf16};
 ghost use Rattle.encoding_text.specs.Fronts.{WritesFront};
@@ -47,7 +47,8 @@ trait Decoded: Copy {
         dst: &mut [Self],
         last: bool,
     ) -> (DecoderResult, usize, usize)
-        ensures call { Decodes encode need decoder.old src.now dst.old dst.new last result.0 result.1 result.2 decoder.new };
+        ensures call { Decodes encode need decoder.old src.now dst.old dst.new last result.0 result.1 result.2
+            decoder.new };
 }
 
 impl Decoded for u16 {
@@ -90,8 +91,9 @@ fn make_call<U: Decoded>(
     unread: &[u8],
     left: &mut [U],
 ) -> (DecoderResult, usize, usize)
-    ensures call { (out : List U) × WritesFront left.old left.new result.2 out × IsCall U.encode U.need decoder.old (take turn.now.take unread.now)
-        (room_of turn.now (length left.old)) (is_marked_last turn.now (length unread.now)) result.0 result.1 out decoder.new }
+    ensures call { (out : List U) × WritesFront left.old left.new result.2 out
+        × IsCall U.encode U.need decoder.old (take turn.now.take unread.now) (room_of turn.now (length left.old))
+        (is_marked_last turn.now (length unread.now)) result.0 result.1 out decoder.new }
 {
     let piece = turn.piece_length(unread.len());
     let room = turn.room_of(left.len());
@@ -117,7 +119,8 @@ fn write_report(answer: &DecoderResult, place: usize, reports: &mut [Report]) ->
     }
 }
 
-/// Makes the calls of the turns, one for each.
+/// Makes the calls of the turns, one for each, and returns how far they came. A character takes a code unit at least,
+/// and no more of them than bytes of UTF-8.
 fn run<U: Decoded>(
     decoder: &mut Utf8Decoder,
     src: &[u8],
@@ -126,10 +129,14 @@ fn run<U: Decoded>(
     reports: &mut [Report],
 ) -> Outcome
     requires places { length turns.now ≤ length reports.old }
+    requires some { 0 < U.need }
     requires short { (c : ℕ) → IsScalar c → length (U.encode c) ≤ length (encode_utf8 c) }
-    ensures delivers { Delivers U.encode U.need decoder.old src.now turns.now dst.old dst.new reports.old reports.new result decoder.new }
-    ensures completes { Completes (λ n pending. n + (U.need - 1) + pending) U.need decoder.old src.now turns.now (length dst.old) result.result }
+    ensures delivers { Delivers U.encode U.need decoder.old src.now turns.now dst.old dst.new reports.old reports.new
+        result decoder.new }
+    ensures completes { Completes (λ n pending. n + (U.need - 1) + pending) U.need decoder.old src.now turns.now
+        (length dst.old) result.result }
 {
+    // Without turns nothing else says that what is pending is nothing or a beginning.
     let _neutral = decoder.in_neutral_state();
     let mut outcome = Outcome {
         read: 0,
@@ -146,26 +153,22 @@ fn run<U: Decoded>(
         );
         outcome.read += read;
         outcome.written += written;
-        outcome.reports += write_report(
-            &answer,
-            outcome.written,
-            &mut reports[outcome.reports..],
-        );
+        outcome.reports += write_report(&answer, outcome.written, &mut reports[outcome.reports..]);
         outcome.result = Some(answer);
     }
     outcome
 }
 
-/// Decodes a source to UTF-16 by one call for each turn, whatever they return, and returns how far the calls came.
+/// Decodes a source to UTF-16 by one call for each turn, whatever they return, and returns how far they came.
 ///
-/// A call is handed the next unread bytes, as many as its turn takes, and the rest of `dst`, or as much of it as its
-/// turn gives. It is marked last where its turn says so and its piece reaches the end of `src`. Each broken part that a
-/// call reports is written to the next place of `reports`, which has to have at least as many places as there are
-/// turns. So the first parts of the pending bytes and of `src` are delivered: their characters in `dst`, their broken
-/// parts in `reports`. Behind what is written `dst` and `reports` are as before.
+/// A call is handed the next unread bytes, as many as its turn takes, and of what is left of `dst` as much as its turn
+/// gives. It is marked last where its turn says so and its piece reaches the end of `src`. Each broken part that a call
+/// reports is written to the next place of `reports`, which has to have a place for each turn. So the first parts of
+/// the pending bytes and of `src` are delivered: their characters in `dst`, their broken parts in `reports`. Behind
+/// what is written `dst` is as before, and so is `reports`.
 ///
-/// With turns that each take a byte, have two code units of room and are to be marked last, as many as twice the length of `src` and two more, and a
-/// `dst` of the length that `max_utf16_buffer_length` returns, all of `src` is decoded.
+/// Twice as many turns as `src` has bytes, and two, come to its end, where each takes at least one byte, has room for
+/// two code units and is to be marked last, and `dst` is as long as `max_utf16_buffer_length` returns.
 pub fn run_to_utf16(
     decoder: &mut Utf8Decoder,
     src: &[u8],
@@ -174,7 +177,8 @@ pub fn run_to_utf16(
     reports: &mut [Report],
 ) -> Outcome
     requires places { length turns.now ≤ length reports.old }
-    ensures delivers { Delivers encode_utf16 2 decoder.old src.now turns.now dst.old dst.new reports.old reports.new result decoder.new }
+    ensures delivers { Delivers encode_utf16 2 decoder.old src.now turns.now dst.old dst.new reports.old reports.new
+        result decoder.new }
     ensures completes { Completes utf16_room 2 decoder.old src.now turns.now (length dst.old) result.result }
 {
     run::<u16>(decoder, src, turns, dst, reports)
@@ -182,8 +186,8 @@ pub fn run_to_utf16(
 
 /// Decodes a source to UTF-8 by one call for each turn, as [`run_to_utf16`] does to UTF-16.
 ///
-/// With turns that each take a byte, have four bytes of room and are to be marked last, as many as twice the length of `src` and two more, and a
-/// `dst` of the length that `max_utf8_buffer_length_without_replacement` returns, all of `src` is decoded.
+/// Twice as many turns as `src` has bytes, and two, come to its end, where each takes at least one byte, has room for
+/// four and is to be marked last, and `dst` is as long as `max_utf8_buffer_length_without_replacement` returns.
 pub fn run_to_utf8(
     decoder: &mut Utf8Decoder,
     src: &[u8],
@@ -192,7 +196,8 @@ pub fn run_to_utf8(
     reports: &mut [Report],
 ) -> Outcome
     requires places { length turns.now ≤ length reports.old }
-    ensures delivers { Delivers encode_utf8 4 decoder.old src.now turns.now dst.old dst.new reports.old reports.new result decoder.new }
+    ensures delivers { Delivers encode_utf8 4 decoder.old src.now turns.now dst.old dst.new reports.old reports.new
+        result decoder.new }
     ensures completes { Completes utf8_room 4 decoder.old src.now turns.now (length dst.old) result.result }
 {
     run::<u8>(decoder, src, turns, dst, reports)

@@ -8,6 +8,7 @@ use Rattle.encoding_text.specs.Parts.{Part, Character, Broken, IsFirstPart, Star
 use Rattle.encoding_text.specs.Pending.{IsPending}
 use Rattle.encoding_text.specs.Giving.{Gives}
 pub use Rattle.encoding_text.specs.GivenParts.{IsReported}
+use Rattle.encoding_text.specs.GivenParts.{AreDecoded}
 use Rattle.encoding_text.specs.Decoding.{IsBroken, IsCall, Answers}
 use Rattle.encoding_text.specs.declared.decoder.DecoderResult.{DecoderResult}
 use Rattle.encoding_text.specs.declared.decoder.DecoderResult.TheVariants.{InputEmpty, OutputFull, Malformed}
@@ -117,16 +118,20 @@ gives_from p src last result read cs q y within pending scalars follows e = reco
         (follows_stays unread more result q y (subst (λ b. FollowsOutput unread b result q y) f follows)))
 
 -- a call gives the characters that it wrote, and then the broken part that it reports
+pub decoded_gives : {A : Type 0} (encode : ℕ → List A) (need : ℕ) (p src : List ℕ) (room : ℕ) (last : Bool) (result : DecoderResult) (read : ℕ) (out : List A) (q : List ℕ)
+    → IsCall encode need p src room last result read out q → (parts : List Part) × AreDecoded encode result out parts × Gives p src last parts read q
+decoded_gives encode need p src room last result read out q call =
+    let cs = call.scalars in
+    let left = room - length out in
+    let (y, follows, e) = call_read encode need p src last result read cs left q call.answer in (
+      map Character cs ++ reported_parts result y,
+      (cs, reported_parts result y, call.are_scalars, call.out_is, are_reported (drop read src) last result q y follows, refl),
+      gives_from p src last result read cs q y (call_within encode need p src last result read cs left q call.answer) call.pending call.are_scalars follows e,
+    )
+
 pub call_gives : {A : Type 0} (encode : ℕ → List A) (need : ℕ) (p src : List ℕ) (room : ℕ) (last : Bool) (result : DecoderResult) (read : ℕ) (out : List A) (q : List ℕ)
     → IsCall encode need p src room last result read out q
     → (cs : List ℕ) × (reported : List Part) × (out ≡ flat_map encode cs) × IsReported result reported × Gives p src last (map Character cs ++ reported) read q
 call_gives encode need p src room last result read out q call =
-    let cs = call.scalars in
-    let left = room - length out in
-    let (y, follows, e) = call_read encode need p src last result read cs left q call.answer in (
-      cs,
-      reported_parts result y,
-      call.out_is,
-      are_reported (drop read src) last result q y follows,
-      gives_from p src last result read cs q y (call_within encode need p src last result read cs left q call.answer) call.pending call.are_scalars follows e,
-    )
+    let (parts, (cs, reported, scalars, is, are, e), gives) = decoded_gives encode need p src room last result read out q call in
+    (cs, reported, is, are, subst (λ xs. Gives p src last xs read q) e gives)

@@ -195,7 +195,7 @@ module _ (p src : List ℕ) (last : Bool) where
   abbrev Same : Piece → ℕ → List ℕ → Piece → ℕ → List ℕ → Type 0
   Same returned read q returned' read' q' = SayTheSame returned returned' × (read ≡ read') × (q ≡ q')
 
-  same_piece : (returned returned' : Piece) (read read' : ℕ) (q q' : List ℕ) → Call returned read q → Call returned' read' q' → Same returned read q returned' read' q'
+  pub same_piece : (returned returned' : Piece) (read read' : ℕ) (q q' : List ℕ) → Call returned read q → Call returned' read' q' → Same returned read q returned' read' q'
   same_piece (Text t) (Text u) read read' q q' call call' =
       let l = call.answer.4 in
       let l' = call'.answer.4 in

@@ -43,4 +43,4 @@ pub returns-clause-completes : goal.returns-clause-completes
 returns-clause-completes g c =
     let all = take_all c.loop-turn.turn-index c.args.turns.now (omega arith) in
     let run = rw all at c.loop-turn.invariant.run in
-    λ l each m. run.result ∙ completes _ _ (omega arith) c.requires.short _ _ _ _ _ _ l each m run.chain
+    λ l each m. run.result ∙ completes _ _ c.requires.some c.requires.short _ _ _ _ _ _ l each m run.chain
