@@ -121,9 +121,13 @@ longer_front out text more (left, some, whole) = (
 pub stopped_all : (last : Bool) (bs : List ℕ) (old new : Option (List ℕ)) → StopsInParts last bs old new → Stops bs old new
 stopped_all last bs old new s =
     let others = has_parts s.rest in
-    let text = repaired_text (s.parts ++ others.0) in
-    (text, s.out, (s.parts ++ others.0, StartsWith-append bs s.parts s.rest others.0 [] s.first.starts others.1, refl),
-     subst (IsProperFront s.out) (sym (repaired_text-append s.parts others.0)) (longer_front s.out (repaired_text s.parts) (repaired_text others.0) s.less), s.bytes)
+    let text = repaired_text (s.parts ++ others.0) in (
+      text,
+      s.out,
+      (s.parts ++ others.0, StartsWith-append bs s.parts s.rest others.0 [] s.first.starts others.1, refl),
+      subst (IsProperFront s.out) (sym (repaired_text-append s.parts others.0)) (longer_front s.out (repaired_text s.parts) (repaired_text others.0) s.less),
+      s.bytes,
+    )
 
 -- ---- more bytes behind those that stay
 pub wrote_behind : (last : Bool) (bs mid more rest : List ℕ) (old new now : Option (List ℕ)) (n m : ℕ) → WritesParts false bs mid old new n

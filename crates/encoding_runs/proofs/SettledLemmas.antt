@@ -45,7 +45,7 @@ settled_first bs ps rest f p = record { starts = f.starts; still_open = p; close
     closed none front x same begins =
         let more : List ℕ = begins.1 in
         let there : StartsWith (bs ++ more) (front ++ Broken x ∷ []) more =
-            subst (λ qs. StartsWith (bs ++ more) qs more) same (subst (λ xs. StartsWith (bs ++ more) ps (xs ++ more)) none (f.whatever_follows refl more)) in
+        subst (λ qs. StartsWith (bs ++ more) qs more) same (subst (λ xs. StartsWith (bs ++ more) ps (xs ++ more)) none (f.whatever_follows refl more)) in
         let l = last_part (bs ++ more) more front x there in
         l.2 (x ++ more) [] (l.1 ∙ sym (append-nil (x ++ more))) begins.3
 

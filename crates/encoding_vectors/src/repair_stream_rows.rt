@@ -89,7 +89,10 @@ fn rows_hold(rt: HostRuntime) -> Result<(), Fail> {
     for row in ROWS.lines() {
         for step in [1, 2, ROOM] {
             for taken in [1, 2, ROOM] {
-                assert!(rt; row_holds(rt.alloc(), row, step, taken)?, "{row}; {step}, {taken}");
+                assert!(rt;
+                    row_holds(rt.alloc(), row, step, taken)?,
+                    "{row}; {step}, {taken}"
+                );
             }
         }
         count = count.saturating_add(1);
@@ -136,14 +139,27 @@ fn long_repairs_to(before: usize, behind: &[u8], text_behind: &[u8], replaced: u
         read: length as u64,
         replaced,
     });
-    repairs_to(&mut reader, &mut writer, 2000, outcome, &text[..text_length])
+    repairs_to(
+        &mut reader,
+        &mut writer,
+        2000,
+        outcome,
+        &text[..text_length],
+    )
 }
 
 #[test]
 fn repairs_over_the_end_of_a_round(rt: HostRuntime) {
     assert!(rt; long_repairs_to(1023, &[0xE2, 0x98, 0x83], &[0xE2, 0x98, 0x83], 0));
     assert!(rt; long_repairs_to(1022, &[0xF0, 0x9F], &[0xEF, 0xBF, 0xBD], 1));
-    assert!(rt; long_repairs_to(1022, &[0xF0, 0x9F, 0x92, 0xA9, 0x5A], &[0xF0, 0x9F, 0x92, 0xA9, 0x5A], 0));
+    assert!(rt;
+        long_repairs_to(
+            1022,
+            &[0xF0, 0x9F, 0x92, 0xA9, 0x5A],
+            &[0xF0, 0x9F, 0x92, 0xA9, 0x5A],
+            0
+        )
+    );
     assert!(rt; long_repairs_to(1022, &[0xF0, 0x9F, 0x5A], &[0xEF, 0xBF, 0xBD, 0x5A], 1));
     assert!(rt; long_repairs_to(1024, &[0xFF], &[0xEF, 0xBF, 0xBD], 1));
 }
@@ -153,7 +169,13 @@ fn stops_at(input: &[u8], text: &[u8], taken: usize, fault: Option<ErrorKind>) -
     let mut reader = Input::of(input, ROOM);
     let mut writer = Output::that_takes(taken, fault);
     match text.get(..taken) {
-        Some(front) => repairs_to(&mut reader, &mut writer, 100, Err(RepairFault::Write), front),
+        Some(front) => repairs_to(
+            &mut reader,
+            &mut writer,
+            100,
+            Err(RepairFault::Write),
+            front,
+        ),
         None => false,
     }
 }
@@ -166,7 +188,12 @@ fn stops_where_the_writer_does(rt: HostRuntime) {
         }
         for taken in 0..7 {
             assert!(rt;
-                stops_at(&[0x61, 0xE2, 0x98, 0xFF], &[0x61, 0xEF, 0xBF, 0xBD, 0xEF, 0xBF, 0xBD], taken, fault),
+                stops_at(
+                    &[0x61, 0xE2, 0x98, 0xFF],
+                    &[0x61, 0xEF, 0xBF, 0xBD, 0xEF, 0xBF, 0xBD],
+                    taken,
+                    fault
+                ),
                 "{taken}"
             );
         }
@@ -179,14 +206,26 @@ fn asks_within_the_limit(rt: HostRuntime) {
     for (limit, asked) in [(0, 0), (1, 1), (1024, 1), (1025, 2), (2000, 2)] {
         let mut reader = Endless { asked: 0 };
         let mut writer = Output::that_takes_all();
-        let returned = repair(&mut Watch::new(&mut reader), &mut Watch::new(&mut writer), limit);
+        let returned = repair(
+            &mut Watch::new(&mut reader),
+            &mut Watch::new(&mut writer),
+            limit,
+        );
         assert!(rt; returned == Err(RepairFault::Limit), "{limit}");
-        assert!(rt; reader.asked == asked && writer.written().len() as u64 == limit, "{limit}");
+        assert!(rt;
+            reader.asked == asked && writer.written().len() as u64 == limit,
+            "{limit}"
+        );
     }
 }
 
 /// Whether a read into so much room gives so many bytes, and the end is seen then or not.
-fn reads(source: &mut Watch<'_, Input<'_>>, room: usize, given: Option<usize>, ended: bool) -> bool {
+fn reads(
+    source: &mut Watch<'_, Input<'_>>,
+    room: usize,
+    given: Option<usize>,
+    ended: bool,
+) -> bool {
     let mut buffer = [0; 8];
     let room = room.min(8);
     source.read(&mut buffer[..room]) == given

@@ -21,21 +21,18 @@ const LIMIT: u8 = 5;
 pub(crate) const NO_ARGUMENTS: u8 = 6;
 
 /// Writes what the reader gives, repaired, up to its end or a fault.
-fn repair_stream<R: Read, W: Write>(
-    reader: &mut R,
-    writer: &mut W,
-) -> Result<Repaired, RepairFault>
+fn repair_stream<R: Read, W: Write>(reader: &mut R, writer: &mut W) -> Result<Repaired, RepairFault>
     ensures ok { IfOk result (λ repaired. (bytes : List ℕ) × RepairsAll bytes (R.remaining reader.old) (R.remaining reader.new)
         (W.contents writer.old) (W.contents writer.new) repaired.replaced) }
     ensures read_fault { result ≡ Err RepairFault.Read → (bytes : List ℕ)
         × RepairsSettled bytes (R.remaining reader.old) (R.remaining reader.new)
-            (W.contents writer.old) (W.contents writer.new) }
+        (W.contents writer.old) (W.contents writer.new) }
     ensures write_fault { result ≡ Err RepairFault.Write → (bytes : List ℕ) × (ended : Bool)
         × RepairsFront bytes ended (R.remaining reader.old) (R.remaining reader.new)
-            (W.contents writer.old) (W.contents writer.new) }
+        (W.contents writer.old) (W.contents writer.new) }
     ensures limit { result ≡ Err RepairFault.Limit → (bytes : List ℕ) × (length bytes ≡ u64.MAX)
         × RepairsSettled bytes (R.remaining reader.old) (R.remaining reader.new)
-            (W.contents writer.old) (W.contents writer.new) }
+        (W.contents writer.old) (W.contents writer.new) }
 {
     let mut source = Watch::new(reader);
     let mut sink = Watch::new(writer);
@@ -49,16 +46,16 @@ fn repair_and_flush<R: Read, W: Write>(reader: &mut R, writer: &mut W) -> u8
         (W.contents writer.old) (W.contents writer.new) 0 }
     ensures replaced { result ≡ 1 → (bytes : List ℕ) × (n : ℕ) × (0 < n)
         × RepairsAll bytes (R.remaining reader.old) (R.remaining reader.new)
-            (W.contents writer.old) (W.contents writer.new) n }
+        (W.contents writer.old) (W.contents writer.new) n }
     ensures read_fault { result ≡ 3 → (bytes : List ℕ)
         × RepairsSettled bytes (R.remaining reader.old) (R.remaining reader.new)
-            (W.contents writer.old) (W.contents writer.new) }
+        (W.contents writer.old) (W.contents writer.new) }
     ensures write_fault { result ≡ 4 → (bytes : List ℕ)
         × RepairsSome bytes (R.remaining reader.old) (R.remaining reader.new)
-            (W.contents writer.old) (W.contents writer.new) }
+        (W.contents writer.old) (W.contents writer.new) }
     ensures limit { result ≡ 5 → (bytes : List ℕ) × (length bytes ≡ u64.MAX)
         × RepairsSettled bytes (R.remaining reader.old) (R.remaining reader.new)
-            (W.contents writer.old) (W.contents writer.new) }
+        (W.contents writer.old) (W.contents writer.new) }
 {
     let outcome = repair_stream(reader, writer);
     if writer.flush().is_err() {
@@ -138,16 +135,16 @@ pub fn serve<R: Read, W: Write, E: Write>(
         (W.contents writer.old) (W.contents writer.new) 0 }
     ensures replaced { result ≡ 1 → (bytes : List ℕ) × (n : ℕ) × (0 < n)
         × RepairsAll bytes (R.remaining reader.old) (R.remaining reader.new)
-            (W.contents writer.old) (W.contents writer.new) n }
+        (W.contents writer.old) (W.contents writer.new) n }
     ensures read_fault { result ≡ 3 → (bytes : List ℕ)
         × RepairsSettled bytes (R.remaining reader.old) (R.remaining reader.new)
-            (W.contents writer.old) (W.contents writer.new) }
+        (W.contents writer.old) (W.contents writer.new) }
     ensures write_fault { result ≡ 4 → (bytes : List ℕ)
         × RepairsSome bytes (R.remaining reader.old) (R.remaining reader.new)
-            (W.contents writer.old) (W.contents writer.new) }
+        (W.contents writer.old) (W.contents writer.new) }
     ensures limit { result ≡ 5 → (bytes : List ℕ) × (length bytes ≡ u64.MAX)
         × RepairsSettled bytes (R.remaining reader.old) (R.remaining reader.new)
-            (W.contents writer.old) (W.contents writer.new) }
+        (W.contents writer.old) (W.contents writer.new) }
     ensures line { WritesFrontOf (line_of result) (E.contents errors.old) (E.contents errors.new) }
     ensures silent { result ≤ 1 → errors.new ≡ errors.old }
 {

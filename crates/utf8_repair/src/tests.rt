@@ -60,7 +60,13 @@ const NO_ARGUMENTS: &[u8] = b"utf8_repair: no arguments\n";
 const FAULTS: [Option<ErrorKind>; 3] = [None, Some(ErrorKind::Other), Some(ErrorKind::Interrupted)];
 
 /// Whether a run ends with the status and its line, and flushes its writer once, behind all that it wrote.
-fn run_is<R: Read>(reader: &mut R, writer: &mut Output, text: &[u8], status: u8, line: &[u8]) -> bool {
+fn run_is<R: Read>(
+    reader: &mut R,
+    writer: &mut Output,
+    text: &[u8],
+    status: u8,
+    line: &[u8],
+) -> bool {
     let mut errors = Output::that_takes_all();
     serve(0, reader, writer, &mut errors) == status
         && writer.written() == text
@@ -77,7 +83,11 @@ fn repairs(rt: HostRuntime) {
             for taken in [1, 2, ROOM] {
                 let mut reader = Input::of(row.input, step);
                 let mut writer = Output::by_steps_of(taken);
-                assert!(rt; run_is(&mut reader, &mut writer, row.output, row.status, b""), "{:?}", row.input);
+                assert!(rt;
+                    run_is(&mut reader, &mut writer, row.output, row.status, b""),
+                    "{:?}",
+                    row.input
+                );
             }
         }
     }
@@ -134,7 +144,11 @@ fn reports_read_faults(rt: HostRuntime) {
         for cut in &CUTS {
             let mut reader = Input::that_fails(cut.input, kind);
             let mut writer = Output::that_takes_all();
-            assert!(rt; run_is(&mut reader, &mut writer, cut.settled, 3, READ_FAULT), "{:?}", cut.input);
+            assert!(rt;
+                run_is(&mut reader, &mut writer, cut.settled, 3, READ_FAULT),
+                "{:?}",
+                cut.input
+            );
             assert!(rt; reader.asked == cut.input.len().saturating_add(1));
         }
     }
@@ -155,7 +169,10 @@ fn reports_write_faults(rt: HostRuntime) {
                 } else {
                     (1, b"".as_slice())
                 };
-                assert!(rt; run_is(&mut reader, &mut writer, &text[..taken], status, line), "{taken}, {step}");
+                assert!(rt;
+                    run_is(&mut reader, &mut writer, &text[..taken], status, line),
+                    "{taken}, {step}"
+                );
             }
         }
     }
@@ -167,12 +184,20 @@ fn reports_flush_faults(rt: HostRuntime) {
     for row in &ROWS {
         let mut reader = Input::of(row.input, 2);
         let mut writer = Output::that_cannot_flush();
-        assert!(rt; run_is(&mut reader, &mut writer, row.output, 4, WRITE_FAULT), "{:?}", row.input);
+        assert!(rt;
+            run_is(&mut reader, &mut writer, row.output, 4, WRITE_FAULT),
+            "{:?}",
+            row.input
+        );
     }
     for cut in &CUTS {
         let mut reader = Input::that_fails(cut.input, ErrorKind::Other);
         let mut writer = Output::that_cannot_flush();
-        assert!(rt; run_is(&mut reader, &mut writer, cut.settled, 4, WRITE_FAULT), "{:?}", cut.input);
+        assert!(rt;
+            run_is(&mut reader, &mut writer, cut.settled, 4, WRITE_FAULT),
+            "{:?}",
+            cut.input
+        );
     }
 }
 
@@ -191,7 +216,13 @@ fn says_each_line(rt: HostRuntime) {
 }
 
 /// Whether a run returns the status, and its line stops where the error stream does.
-fn stops_at(arguments: usize, taken: usize, fault: Option<ErrorKind>, status: u8, line: &[u8]) -> bool {
+fn stops_at(
+    arguments: usize,
+    taken: usize,
+    fault: Option<ErrorKind>,
+    status: u8,
+    line: &[u8],
+) -> bool {
     let mut reader = Input::that_fails(b"a", ErrorKind::Other);
     let mut writer = Output::that_takes_all();
     let mut errors = Output::that_takes(taken, fault);

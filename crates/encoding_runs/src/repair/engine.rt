@@ -86,7 +86,7 @@ fn write_parts<W: Sink>(
 ) -> Result<u64, RepairFault>
     requires unfinished { IsPending decoder.old }
     ensures ok { IfOk result (λ replaced. WritesParts last (decoder.old ++ src.now) decoder.new
-            (W.contents writer.old) (W.contents writer.new) replaced
+        (W.contents writer.old) (W.contents writer.new) replaced
         × IsPending decoder.new × (last ≡ true → decoder.new ≡ [])
         × (W.has_failed writer.new ≡ W.has_failed writer.old)) }
     ensures err { IfErr result (λ fault. (fault ≡ RepairFault.Write) × (W.has_failed writer.new ≡ true)
@@ -136,7 +136,7 @@ fn repair_round<R: Source, W: Sink>(
     requires some_room { 0 < length buffer.old }
     ensures ok { IfOk result (λ round. (bytes : List ℕ) × (last : Bool) × (round.read ≡ length bytes)
         × ReadsRound (length buffer.old) bytes last (R.remaining reader.old) (R.remaining reader.new)
-            (R.has_ended reader.old) (R.has_ended reader.new)
+        (R.has_ended reader.old) (R.has_ended reader.new)
         × WritesParts last (decoder.old ++ bytes) decoder.new (W.contents writer.old) (W.contents writer.new) round.replaced
         × IsPending decoder.new × (last ≡ true → decoder.new ≡ [])
         × (R.has_failed reader.new ≡ R.has_failed reader.old) × (W.has_failed writer.new ≡ W.has_failed writer.old)) }
@@ -144,7 +144,7 @@ fn repair_round<R: Source, W: Sink>(
         × (writer.new ≡ writer.old) × (R.has_failed reader.new ≡ true) }
     ensures write_fault { result ≡ Err RepairFault.Write → (bytes : List ℕ) × (last : Bool)
         × ReadsRound (length buffer.old) bytes last (R.remaining reader.old) (R.remaining reader.new)
-            (R.has_ended reader.old) (R.has_ended reader.new)
+        (R.has_ended reader.old) (R.has_ended reader.new)
         × StopsInParts last (decoder.old ++ bytes) (W.contents writer.old) (W.contents writer.new)
         × (R.has_failed reader.new ≡ R.has_failed reader.old) × (W.has_failed writer.new ≡ true) }
     ensures no_limit { result ≢ Err RepairFault.Limit }
@@ -175,18 +175,18 @@ pub fn repair<R: Source, W: Sink>(
 ) -> Result<Repaired, RepairFault>
     ensures ok { IfOk result (λ repaired. (bytes : List ℕ) × (repaired.read ≡ length bytes) × (length bytes < limit)
         × RepairsAll bytes (R.remaining reader.old) (R.remaining reader.new)
-            (W.contents writer.old) (W.contents writer.new) repaired.replaced
+        (W.contents writer.old) (W.contents writer.new) repaired.replaced
         × (R.has_ended reader.new ≡ true)) }
     ensures read_fault { result ≡ Err RepairFault.Read → (bytes : List ℕ) × (length bytes < limit)
         × RepairsSettled bytes (R.remaining reader.old) (R.remaining reader.new)
-            (W.contents writer.old) (W.contents writer.new) }
+        (W.contents writer.old) (W.contents writer.new) }
     ensures limit { result ≡ Err RepairFault.Limit → (bytes : List ℕ) × (length bytes ≡ limit)
         × RepairsSettled bytes (R.remaining reader.old) (R.remaining reader.new)
-            (W.contents writer.old) (W.contents writer.new) }
+        (W.contents writer.old) (W.contents writer.new) }
     ensures write_fault { result ≡ Err RepairFault.Write → R.has_ended reader.old ≡ false
         → (bytes : List ℕ) × (length bytes ≤ limit)
         × RepairsFront bytes (R.has_ended reader.new) (R.remaining reader.old) (R.remaining reader.new)
-            (W.contents writer.old) (W.contents writer.new) }
+        (W.contents writer.old) (W.contents writer.new) }
     ensures reader_failed { R.has_failed reader.old ≡ false → W.has_failed writer.old ≡ false
         → (IsTrue (R.has_failed reader.new) ↔ (result ≡ Err RepairFault.Read)) }
     ensures writer_failed { R.has_failed reader.old ≡ false → W.has_failed writer.old ≡ false

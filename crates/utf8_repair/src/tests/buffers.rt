@@ -96,19 +96,28 @@ fn serves(reader: Input<'_>, writer: &mut Output, text: &[u8], status: u8) -> bo
 
 #[test]
 fn serves_over_both(rt: HostRuntime) {
-    let input = [0x61, 0xE2, 0x98, 0x83, 0xFF, 0x62, 0xF0, 0x9F, 0x92, 0xA9, 0x63, 0x64, 0xE2, 0x98];
+    let input = [
+        0x61, 0xE2, 0x98, 0x83, 0xFF, 0x62, 0xF0, 0x9F, 0x92, 0xA9, 0x63, 0x64, 0xE2, 0x98,
+    ];
     let text = [
-        0x61, 0xE2, 0x98, 0x83, 0xEF, 0xBF, 0xBD, 0x62, 0xF0, 0x9F, 0x92, 0xA9, 0x63, 0x64, 0xEF, 0xBF, 0xBD,
+        0x61, 0xE2, 0x98, 0x83, 0xEF, 0xBF, 0xBD, 0x62, 0xF0, 0x9F, 0x92, 0xA9, 0x63, 0x64, 0xEF,
+        0xBF, 0xBD,
     ];
     for step in 1..15 {
         for taken in 1..5 {
             let mut writer = Output::by_steps_of(taken);
-            assert!(rt; serves(Input::of(&input, step), &mut writer, &text, 1), "{step}, {taken}");
+            assert!(rt;
+                serves(Input::of(&input, step), &mut writer, &text, 1),
+                "{step}, {taken}"
+            );
         }
         for fault in FAULTS {
             for taken in 0..text.len() {
                 let mut writer = Output::that_takes(taken, fault);
-                assert!(rt; serves(Input::of(&input, step), &mut writer, &text[..taken], 4), "{step}, {taken}");
+                assert!(rt;
+                    serves(Input::of(&input, step), &mut writer, &text[..taken], 4),
+                    "{step}, {taken}"
+                );
             }
         }
     }
