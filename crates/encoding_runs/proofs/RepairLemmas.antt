@@ -1,14 +1,14 @@
 -- What stands written when the text of so many first parts is, and when a write fails in the middle of one.
-use Rattle.std.proofs.Common.{◌≡◌, ℕ, ◌+◌, ◌<◌, ◌≤◌, Bool, true, false, List, [], ◌∷◌, ◌++◌, length, take, drop, map, Option, inl, inr, encode_utf8, encode_utf8_all, refl, sym, ap, ◌∙◌, arith, subst}
+use Rattle.std.proofs.Common.{◌≡◌, ℕ, ◌+◌, ◌<◌, ◌≤◌, Bool, true, false, List, [], ◌∷◌, ◌++◌, length, take, drop, Option, inl, inr, encode_utf8, encode_utf8_all, refl, sym, ap, ◌∙◌, arith, subst}
 use Rattle.std.specs.Io.KnownBytes.{Appends}
 use Rattle.std.proofs.KnownBytes.{Appends-nil, Appends-trans}
-use Rattle.std.proofs.lemmas.List.{append-nil, append_assoc, length-append, length-drop, take-append-drop}
+use Rattle.std.proofs.lemmas.List.{append-nil, append_assoc, length-drop, take-append-drop}
 use Rattle.std.specs.Str.{IsUtf8, chars}
 use Rattle.std.proofs.lemmas.Str.{encodes-chars}
 use lib.Utf8.{encode}
 use Rattle.encoding_text.specs.Pending.{IsPending}
 use Rattle.encoding_text.proofs.Sequences.SequenceLemmas.{length-IsBeginning}
-use Rattle.encoding_text.specs.Parts.{Part, Character, Broken, StartsWith, repaired_text, count_broken}
+use Rattle.encoding_text.specs.Parts.{Part, repaired_text, count_broken}
 use Rattle.encoding_text.specs.Decoding.{IsBorrowedCall}
 use Rattle.encoding_text.specs.declared.decoder.Piece.{Piece}
 use Rattle.encoding_text.specs.declared.decoder.Piece.TheVariants.{Text, Char, Malformed, InputEmpty}
@@ -22,7 +22,6 @@ use Rattle.encoding_runs.proofs.SettledLemmas.{AreFirst-nil, AreFirst-trans, Are
 -- what a call that hands out parts of its source gives
 pub record GivesPiece (p src : List ℕ) (last : Bool) (piece : Piece) (read : ℕ) (q : List ℕ) : Type 0 where
   pub parts : List Part
-  pub within : read ≤ length src
   pub first : AreFirst last (p ++ src) parts (q ++ drop read src)
   pub text : repaired_text parts ≡ text_of piece
   pub broken : count_broken parts ≡ broken_of piece
@@ -32,7 +31,6 @@ gives_of : (p src : List ℕ) (last : Bool) (piece : Piece) (read : ℕ) (q : Li
     → count_broken parts ≡ broken_of piece → GivesPiece p src last piece read q
 gives_of p src last piece read q parts g text broken = record {
   parts = parts;
-  within = g.within;
   first = record { starts = g.first; whatever_follows = g.whatever_follows };
   text = text;
   broken = broken;

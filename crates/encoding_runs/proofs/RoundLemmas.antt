@@ -1,12 +1,12 @@
 -- The rounds of the engine, one behind the other, up to the end or a fault.
-use Rattle.std.proofs.Common.{◌≡◌, ℕ, zero, suc, ◌+◌, ◌<◌, ◌≤◌, Bool, true, false, List, [], ◌++◌, length, take, Option, nat_eq, inl, refl, sym, ap, ◌∙◌, arith, subst}
-use Rattle.std.specs.Io.KnownBytes.{Appends, Consumes, IsAtEnd, Keeps}
-use Rattle.std.proofs.KnownBytes.{Appends-nil, Appends-trans, Consumes-nil, Consumes-trans, Consumes-kept}
-use Rattle.std.proofs.lemmas.List.{append-nil, length-append, length-take, take_at}
+use Rattle.std.proofs.Common.{◌≡◌, ℕ, ◌+◌, ◌<◌, ◌≤◌, Bool, true, false, List, [], ◌++◌, length, Option, inl, refl, sym, ap, ◌∙◌, arith, subst}
+use Rattle.std.specs.Io.KnownBytes.{Keeps}
+use Rattle.std.proofs.KnownBytes.{Appends-trans, Consumes-nil, Consumes-trans, Consumes-kept}
+use Rattle.std.proofs.lemmas.List.{length-append, take_at}
 use Rattle.encoding_text.specs.Pending.{IsPending}
 use Rattle.encoding_text.specs.Parts.{Part, repaired_text}
 use Rattle.encoding_text.proofs.Decomposition.DecompositionLemmas.{StartsWith-append, has_parts, repaired_text-append}
-use Rattle.encoding_runs.specs.Repairs.{IsSettledText, IsDue, IsProperFront, StopsReading, RepairsAll, RepairsSettled, RepairsFront, WritesSettled}
+use Rattle.encoding_runs.specs.Repairs.{IsSettledText, IsDue, IsProperFront, RepairsAll, RepairsSettled, RepairsFront}
 use Rattle.encoding_runs.specs.Steps.Writing.{AreFirst, WritesParts, StopsInParts}
 use Rattle.encoding_runs.specs.Steps.Rounds.{ReadsRound, Reaches}
 use Rattle.encoding_runs.proofs.SettledLemmas.{settled_first, settled_behind, AreFirst-more}

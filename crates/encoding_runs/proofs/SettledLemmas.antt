@@ -1,5 +1,5 @@
 -- First parts that stay whatever follows, one behind the other, and the settled parts.
-use Rattle.std.proofs.Common.{◌≡◌, ℕ, Bool, true, false, List, [], ◌∷◌, ◌++◌, refl, sym, ap, ◌∙◌, subst}
+use Rattle.std.proofs.Common.{◌≡◌, ℕ, Bool, false, List, [], ◌∷◌, ◌++◌, refl, sym, ap, ◌∙◌, subst}
 use Rattle.std.proofs.lemmas.List.{append-nil, append_assoc}
 use Rattle.encoding_text.specs.Sequence.{IsBeginning}
 use Rattle.encoding_text.specs.Pending.{IsPending}
