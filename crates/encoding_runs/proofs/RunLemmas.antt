@@ -1,14 +1,12 @@
 -- What the calls of a run give, one after another: the first parts of the bytes, written and reported.
-use Rattle.std.proofs.Common.{◌≡◌, ℕ, ◌+◌, ◌-◌, ◌≤◌, inl, inr, Bool, true, false, ◌||◌, List, [], ◌∷◌, ◌++◌, length, map, take, drop, Option, None, refl, sym, ap, ◌∙◌, arith, subst}
+use Rattle.std.proofs.Common.{◌≡◌, ℕ, ◌+◌, ◌-◌, ◌≤◌, inl, inr, true, ◌||◌, List, [], ◌∷◌, ◌++◌, length, map, take, drop, refl, sym, ap, ◌∙◌, arith, subst}
 use Rattle.std.specs.List.{flat_map}
 use Rattle.std.proofs.lemmas.Bool.{and_parts, leb-true}
 use Rattle.std.proofs.lemmas.Grind.{flat_map-append}
-use Rattle.std.proofs.lemmas.List.{append-nil, append_assoc, length-append}
+use Rattle.std.proofs.lemmas.List.{append-nil, length-append}
 use Rattle.encoding_text.specs.Pending.{IsPending}
-use Rattle.encoding_text.specs.Parts.{Part, Character, Broken, bytes_of, StartsWith, ArePartsOf, characters_of}
-use Rattle.encoding_text.specs.Giving.{Gives}
-use Rattle.encoding_text.specs.Fronts.{WritesFront}
-use Rattle.encoding_text.specs.Decoding.{IsCall, Answers}
+use Rattle.encoding_text.specs.Parts.{Part, Character, Broken, StartsWith, characters_of}
+use Rattle.encoding_text.specs.Decoding.{Answers}
 use Rattle.encoding_text.specs.declared.decoder.DecoderResult.{DecoderResult}
 use Rattle.encoding_text.specs.declared.decoder.DecoderResult.TheVariants.{InputEmpty, OutputFull, Malformed}
 use Rattle.encoding_text.proofs.Calls.CallPartsLemmas.{IsReported, call_gives}

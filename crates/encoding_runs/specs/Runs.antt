@@ -1,5 +1,5 @@
 -- A run of a decoder: one call for each turn, each from what the one before left pending.
-use Rattle.std.specs.Prelude.{◌≡◌, ℕ, ◌+◌, ◌-◌, ◌*◌, ◌≤◌, min, Bool, true, false, ◌&&◌, ◌||◌, nat_le, List, [], ◌∷◌, ◌++◌, length, take, drop, Option, None, Some, ◌⊎◌}
+use Rattle.std.specs.Prelude.{◌≡◌, ℕ, ◌+◌, ◌-◌, ◌*◌, ◌≤◌, Bool, true, false, ◌||◌, List, [], ◌∷◌, ◌++◌, length, take, drop, Option, None, Some, ◌⊎◌}
 use Rattle.std.specs.List.{flat_map}
 use Rattle.encoding_text.specs.Pending.{IsPending}
 use Rattle.encoding_text.specs.Parts.{Part, Character, Broken, bytes_of, StartsWith, ArePartsOf, characters_of}
