@@ -177,8 +177,7 @@ next_of bs (c ∷ cs) at s e l =
     ap (λ j. slice_index bs j) (let z : at ≡ at + 0 = omega arith in z) ∙ sym (get_or-drop at bs 0 0) ∙ ap (λ xs. slice_index xs 0) (sym e) in
     let long : continuation_len (slice_index bs at) + 1 ≡ length (encode_utf8 c) = ap (λ b. continuation_len b + 1) lead ∙ lead_length c rest in
     let front : encode_utf8 c ≡ take (continuation_len (slice_index bs at) + 1) (drop at bs) =
-    sym (take_at (encode_utf8 c) rest (continuation_len (slice_index bs at) + 1) (sym long)) ∙ ap (take (continuation_len (slice_index bs at) + 1)) e in
-    (
+    sym (take_at (encode_utf8 c) rest (continuation_len (slice_index bs at) + 1) (sym long)) ∙ ap (take (continuation_len (slice_index bs at) + 1)) e in (
       omega (arith, long, ap length e, length-append (encode_utf8 c) rest, length-drop at bs),
       subst IsSequence front (IsSequence-encode c (both (scalar c) (all_scalars cs) s).0),
     )

@@ -193,12 +193,12 @@ module _ (us buffer : List ℕ) (at n : ℕ) (done : List Part16) (a : AreUnits 
             ∙ ap (λ xs. flat_map repaired_units done ++ xs) (sym had.1 ∙ sym (repaired_characters cs)) ∙ sym (flat_map-append repaired_units done (map Character16 cs));
         rest = sym (drop-drop n at buffer) ∙ ap (drop n) rest ∙ drop-drop n at us;
         stops = λ i.
-        let there = lone_behind (drop at us) n (λ k. subst (λ u. u < 0x10000) (sym (get_or-drop at us k 0)) (a (at + k))) f (omega (arith, i, length-drop at us)) in
-        let unit : get_or (drop at us) n 0 ≡ get_or us (at + n) 0 = get_or-drop at us n 0 in
-        let behind : drop (n + 1) (drop at us) ≡ drop (at + n + 1) us = drop-drop (n + 1) at us ∙ ap (λ k. drop k us) {x = at + (n + 1)} {y = at + n + 1} (omega arith) in
-        subst (λ xs. IsFirstPart16 (drop (at + n) us) (Lone (get_or us (at + n) 0)) xs) behind
-        (subst (λ u. IsFirstPart16 (drop (at + n) us) (Lone u) (drop (n + 1) (drop at us))) unit
-        (subst (λ xs. IsFirstPart16 xs (Lone (get_or (drop at us) n 0)) (drop (n + 1) (drop at us))) (drop-drop n at us) there));
+            let there = lone_behind (drop at us) n (λ k. subst (λ u. u < 0x10000) (sym (get_or-drop at us k 0)) (a (at + k))) f (omega (arith, i, length-drop at us)) in
+            let unit : get_or (drop at us) n 0 ≡ get_or us (at + n) 0 = get_or-drop at us n 0 in
+            let behind : drop (n + 1) (drop at us) ≡ drop (at + n + 1) us = drop-drop (n + 1) at us ∙ ap (λ k. drop k us) {x = at + (n + 1)} {y = at + n + 1} (omega arith) in
+            subst (λ xs. IsFirstPart16 (drop (at + n) us) (Lone (get_or us (at + n) 0)) xs) behind
+            (subst (λ u. IsFirstPart16 (drop (at + n) us) (Lone u) (drop (n + 1) (drop at us))) unit
+            (subst (λ xs. IsFirstPart16 xs (Lone (get_or (drop at us) n 0)) (drop (n + 1) (drop at us))) (drop-drop n at us) there));
       }
 
 pub repair_starts : (us : List ℕ) (at : ℕ) → AreUnits us → IsLongestFront IsValidUtf16 (drop 0 us) (at - 0) → (done : List Part16) × Repaired us us at done
@@ -227,8 +227,7 @@ repair_goes_on us buffer at next done a r l h f =
     ap (take (at + 1)) apart ∙ take_at (take at buffer ++ 0xFFFD ∷ []) (drop (at + 1) us) (at + 1) longer
     ∙ ap (λ xs. xs ++ 0xFFFD ∷ []) r.front ∙ sym (flat_map-append repaired_units done (Lone u ∷ [])) in
     let walked : Walked us (at + 1) (done ++ Lone u ∷ []) = Walked_push us at done (Lone u) 1 r.walked refl lone in
-    let g : IsLongestFront IsValidUtf16 (drop (at + 1) us) n = subst (λ xs. IsLongestFront IsValidUtf16 xs n) behind f in
-    (
+    let g : IsLongestFront IsValidUtf16 (drop (at + 1) us) n = subst (λ xs. IsLongestFront IsValidUtf16 xs n) behind f in (
       _,
       subst (λ k. Repaired us new k ((done ++ Lone u ∷ []) ++ map Character16 g.kind.0)) {x = at + 1 + n} {y = next} (omega arith)
           (walk_on us new (at + 1) n (done ++ Lone u ∷ []) a (omega arith) (length-set buffer at 0xFFFD ∙ r.same_length) walked before behind g),
