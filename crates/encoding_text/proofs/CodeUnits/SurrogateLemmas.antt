@@ -1,13 +1,13 @@
 -- Lone surrogates: the longest front without one, and the units that are left once each is replaced at its place.
-use Rattle.std.proofs.Common.{◌≡◌, ℕ, suc, ◌+◌, ◌-◌, ◌*◌, ◌/◌, ◌%◌, ◌<◌, ◌≤◌, ◌⊎◌, inl, inr, List, [], ◌∷◌, ◌++◌, length, take, drop, get_or, set, slice_index, refl, sym, ap, ◌∙◌, arith, subst, append_assoc, take-add, true}
-use Rattle.std.specs.Prelude.{map, IsTrue}
+use Rattle.std.proofs.Common.{◌≡◌, ℕ, suc, ◌+◌, ◌-◌, ◌<◌, ◌≤◌, ◌⊎◌, inl, inr, List, [], ◌∷◌, ◌++◌, length, take, drop, get_or, set, refl, sym, ap, ◌∙◌, arith, subst, append_assoc, take-add, true}
+use Rattle.std.specs.Prelude.{map}
 use Rattle.std.specs.Char.{IsScalar}
 use Rattle.std.specs.Char.Escape.{encode_utf16}
-use Rattle.std.specs.Char.Utf16.{surrogate_pair_char, utf16_lossy_chars}
+use Rattle.std.specs.Char.Utf16.{surrogate_pair_char}
 use Rattle.std.specs.List.{flat_map}
 use Rattle.std.specs.Str.{all_scalars}
 use Rattle.std.proofs.lemmas.Bool.{cases_lt, and_from}
-use Rattle.std.proofs.lemmas.List.{append-nil, length-append, length-drop, length-take-le, length-set, take_all, take_at, take_more, take_rest, drop_all, drop_more, drop-drop, drop_at, get_or-drop, get_or-take, get_or_past, take-append-drop, set_at}
+use Rattle.std.proofs.lemmas.List.{append-nil, length-append, length-drop, length-take-le, length-set, take_all, take_at, drop_all, drop_more, drop-drop, drop_at, get_or-drop, get_or-take, get_or_past, take-append-drop, set_at}
 use Rattle.std.proofs.lemmas.List.Concat.{flat_map-append}
 use Rattle.std.proofs.str.Laws.{both}
 use Rattle.std.proofs.str.Utf16.{one_unit, two_units, IsPair}
@@ -15,10 +15,10 @@ use lib.Utf8.{scalar}
 use Rattle.encoding_text.specs.Fronts.{IsLongestFront}
 use Rattle.encoding_text.specs.Surrogates.{IsValidUtf16, AreRepairedUnits, repaired_units}
 use Rattle.encoding_text.specs.Steps.FirstScalar.{IsFirstPart16}
-use Rattle.encoding_text.specs.Utf16.{AreUnits, Part16, Character16, Lone, units_of, scalar_of, ArePaired, ArePartsOf16}
+use Rattle.encoding_text.specs.Utf16.{AreUnits, Part16, Character16, Lone, units_of, ArePaired, ArePartsOf16}
 use Rattle.encoding_text.proofs.CodeUnits.Utf16FrontLemmas.{Walked, Walked_push}
-use Rattle.encoding_text.proofs.CodeUnits.Utf16LawLemmas.{parts-encode, scalars-encode, scalars_lossy}
-use Rattle.encoding_text.proofs.CodeUnits.Utf16Lemmas.{parts_of, parts_of-nil, parts_of-first, parts_are, parts_exist, parts_unique, first_pair, first_unit, first_single, head_part, tail_paired}
+use Rattle.encoding_text.proofs.CodeUnits.Utf16LawLemmas.{parts-encode}
+use Rattle.encoding_text.proofs.CodeUnits.Utf16Lemmas.{parts_of, parts_of-nil, parts_of-first, parts_are, parts_exist, first_pair, first_unit, first_single, head_part, tail_paired}
 
 -- ---- valid units are the UTF-16 of scalar values
 valid_scalars : (cs : List ℕ) → ArePaired (map Character16 cs) → all_scalars cs ≡ true

@@ -1,5 +1,5 @@
 use Rattle.std.proofs.Common.{refl, sym, subst, arith}
-use Rattle.std.proofs.lemmas.List.{take_rest, get_or-drop}
+use Rattle.std.proofs.lemmas.List.{take_rest}
 use Rattle.encoding_text.specs.Bidi.{IsBidiUnits}
 use Rattle.encoding_text.specs.Latin1.{IsLatin1}
 use Rattle.encoding_text.proofs.Bidi.BidiUnitsLemmas.{bidi_whole, bidi_rest}

@@ -1,4 +1,4 @@
-use Rattle.std.proofs.Common.{◌≡◌, ◌+◌, ◌-◌, IsUtf8, take, drop, slice_index, arith, refl, sym, subst}
+use Rattle.std.proofs.Common.{◌+◌, ◌-◌, IsUtf8, take, drop, slice_index, arith, refl, sym, subst}
 use Rattle.std.specs.Str.{continuation_len}
 use Rattle.std.proofs.lemmas.Str.{IsUtf8-nil}
 use Rattle.encoding_text.specs.Bidi.{IsBidiText}
