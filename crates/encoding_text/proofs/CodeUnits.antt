@@ -4,3 +4,4 @@ pub mod Utf16LawLemmas
 pub mod Utf8WriteLemmas
 pub mod EncoderLemmas
 pub mod EncoderTextLemmas
+pub mod Utf16TextLemmas

@@ -1,4 +1,5 @@
 //! The streaming UTF-8 decoder: Encoding Standard, section 8.1.1.
+mod borrowed;
 mod call;
 mod pending;
 
@@ -7,6 +8,7 @@ ghost use Rattle.std.specs.Option.{SomeIff};
 ghost use Rattle.std.specs.Char.Escape.{encode_utf16};
 ghost use Rattle.encoding_text.specs.Pending.{IsPending};
 
+use borrowed::decode_borrowed;
 use call::decode;
 use pending::Pending;
 use std::marker::Model;
@@ -23,6 +25,19 @@ pub enum DecoderResult {
     Malformed(u8, u8),
 }
 
+/// What a borrowed call of a decoder returns.
+#[derive(Debug, PartialEq, Eq, Drop)]
+pub enum Piece<'a> {
+    /// The longest well-formed front of the source, as a part of the source itself.
+    Text(&'a str),
+    /// The character that the pending bytes begin and the read ones end.
+    Char(char),
+    /// A broken part of so many bytes, one to three: the pending bytes, and then the read ones.
+    Malformed(u8),
+    /// All of the source was read.
+    InputEmpty,
+}
+
 /// A decoder of UTF-8 that comes in pieces. Between calls it holds the bytes that begin a character whose other
 /// bytes have not come yet, at most three: the pending bytes.
 #[derive(Drop)]
@@ -37,7 +52,7 @@ impl Model for Utf8Decoder {
 }
 
 impl Utf8Decoder {
-    ghost use Rattle.encoding_text.specs.Decoding.{Decodes, IsReport, Suffices, SufficesReplacing, utf16_room, utf8_room, utf8_room_replacing};
+    ghost use Rattle.encoding_text.specs.Decoding.{Decodes, IsBorrowedCall, IsReport, Suffices, SufficesReplacing, utf16_room, utf8_room, utf8_room_replacing};
 
     /// A decoder with nothing pending.
     pub fn new_inner() -> Utf8Decoder
@@ -133,5 +148,18 @@ impl Utf8Decoder {
             result.0 result.1 result.2 self.new }
     {
         decode::<u8>(&mut self.pending, src, dst, last)
+    }
+
+    /// Decodes without a destination: the next piece, and how many bytes of `src` were read. `last` says that no
+    /// bytes will follow `src`.
+    ///
+    /// With nothing pending, and a character at the front, the piece is the longest well-formed front, which borrows
+    /// from `src`. Else it is the character or the broken part that the pending bytes and those of `src` begin with,
+    /// or `InputEmpty` where all is read first: then the pending bytes and the read ones are pending now, and none
+    /// are in a call marked last. Hand in the unread bytes again. It takes no memory.
+    pub fn decode_borrowed_raw<'a>(&mut self, src: &'a [u8], last: bool) -> (Piece<'a>, usize)
+        ensures { IsBorrowedCall self.old src.now last result.0 result.1 self.new }
+    {
+        decode_borrowed(&mut self.pending, src, last)
     }
 }

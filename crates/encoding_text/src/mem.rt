@@ -5,6 +5,7 @@ mod checks;
 mod copies;
 mod from_utf16;
 mod latin1;
+mod text_destinations;
 mod to_utf16;
 
 pub use borrowed::{CowBytes, CowStr, decode_latin1, encode_latin1_lossy};
@@ -17,6 +18,10 @@ pub use from_utf16::{convert_utf16_to_utf8, convert_utf16_to_utf8_partial};
 pub use latin1::{
     convert_latin1_to_utf8, convert_latin1_to_utf8_partial, convert_latin1_to_utf16,
     convert_utf8_to_latin1_lossy, convert_utf16_to_latin1_lossy,
+};
+pub use text_destinations::{
+    convert_latin1_to_str, convert_latin1_to_str_partial, convert_utf16_to_str,
+    convert_utf16_to_str_partial,
 };
 pub use to_utf16::{
     convert_str_to_utf16, convert_utf8_to_utf16, convert_utf8_to_utf16_without_replacement,

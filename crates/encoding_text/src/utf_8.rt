@@ -4,8 +4,8 @@ mod encoder;
 mod encoding;
 mod validation;
 
-pub(crate) use decoding::CodeUnit;
 pub use decoding::convert_utf8_to_utf16_up_to_invalid;
+pub(crate) use decoding::{CodeUnit, scalar_of_sequence};
 pub use encoder::{EncoderResult, Utf8Encoder};
 pub use encoding::{convert_utf16_to_utf8_partial_inner, convert_utf16_to_utf8_partial_tail};
 pub use validation::utf8_valid_up_to;

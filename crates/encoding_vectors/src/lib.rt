@@ -26,6 +26,8 @@ mod repair_rows;
 #[cfg(test)]
 mod texts;
 #[cfg(test)]
+mod text_destination_rows;
+#[cfg(test)]
 mod to_utf16_rows;
 #[cfg(test)]
 mod unchanged_tails;

@@ -28,12 +28,12 @@ length-utf8 [] = refl
 length-utf8 (c ∷ cs) = omega (arith, length-utf8 cs, length-append (encode_utf8 c) (flat_map encode_utf8 cs), length-append (encode_utf8 c) (encode_utf8_all cs))
 
 -- the bytes of a call: what was pending and what was read, against its characters, its broken part and what is pending then
-record Counts (p src : List ℕ) (result : DecoderResult) (read text : ℕ) (q : List ℕ) : Type 0 where
+pub record Counts (p src : List ℕ) (result : DecoderResult) (read text : ℕ) (q : List ℕ) : Type 0 where
   pub within : read ≤ length src
   pub split : text + length q ≤ length p + read
   pub reported : IsReport result → (text + 1 ≤ length p + read) × (length q ≡ 0)
 
-counts : {A : Type 0} (encode : ℕ → List A) (need : ℕ) (p src : List ℕ) (last : Bool) (result : DecoderResult) (read : ℕ) (cs : List ℕ) (left : ℕ) (q : List ℕ)
+pub counts : {A : Type 0} (encode : ℕ → List A) (need : ℕ) (p src : List ℕ) (last : Bool) (result : DecoderResult) (read : ℕ) (cs : List ℕ) (left : ℕ) (q : List ℕ)
     → Answers encode need p src last result read cs left q → Counts p src result read (length (encode_utf8_all cs)) q
 counts encode need p src last InputEmpty read cs left q (all, whole, ended, room) = record {
   within = omega (arith, all);
@@ -59,7 +59,7 @@ text_of_pending p (c ∷ cs) (inr b) s q e =
     let scalar = and_parts _ _ s in
     absurd (no_sequence_in_beginning (encode_utf8 c) (encode_utf8_all cs ++ q) (subst IsBeginning (e ∙ append_assoc (encode_utf8 c) (encode_utf8_all cs) q) b) (IsSequence-encode c scalar.0))
 
-progress_of : {A : Type 0} (encode : ℕ → List A) (need : ℕ) (p src : List ℕ) (room : ℕ) (last : Bool) (result : DecoderResult) (read : ℕ) (cs : List ℕ) (out : List A) (q : List ℕ)
+pub progress_of : {A : Type 0} (encode : ℕ → List A) (need : ℕ) (p src : List ℕ) (room : ℕ) (last : Bool) (result : DecoderResult) (read : ℕ) (cs : List ℕ) (out : List A) (q : List ℕ)
     → IsPending p → all_scalars cs ≡ true → out ≡ flat_map encode cs → Answers encode need p src last result read cs (room - length out) q
     → 0 < length src → need ≤ room → (0 < read) ⊎ IsReport result
 progress_of encode need p src room last InputEmpty read cs out q pending scalars e (all, whole, ended, left) some l = inl (omega (arith, all, some))

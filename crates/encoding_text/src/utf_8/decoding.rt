@@ -92,7 +92,7 @@ fn copy_utf8_up_to_invalid(src: &[u8], dst: &mut [u8]) -> (usize, usize)
 }
 
 /// The scalar value that the bytes spell.
-fn scalar_of_sequence(bytes: &[u8]) -> u32
+pub(crate) fn scalar_of_sequence(bytes: &[u8]) -> u32
     requires sequence { IsSequence bytes.now }
     ensures scalar { IsScalar result }
     ensures spelled { encode_utf8 result ≡ bytes.now }

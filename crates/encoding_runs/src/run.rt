@@ -1,0 +1,6 @@
+//! Runs: a source that goes through a decoder in pieces of any length, into rooms of any length.
+mod decoding;
+mod turns;
+
+pub use decoding::{Outcome, Report, run_to_utf8, run_to_utf16};
+pub use turns::Turn;
