@@ -4,6 +4,8 @@
 #[cfg(test)]
 mod ascii_rows;
 #[cfg(test)]
+mod borrowed_call_rows;
+#[cfg(test)]
 mod borrowed_rows;
 #[cfg(test)]
 mod decoder_parts;
