@@ -82,7 +82,7 @@ fn length_of(field: &str) -> Result<Option<usize>, Fail> {
 }
 
 /// Makes the calls of a table one after another. A row `new` begins a new decoder.
-fn row_holds(alloc: Global, decoder: &mut Utf8Decoder, row: &str) -> Result<bool, Fail> {
+pub fn row_holds(alloc: Global, decoder: &mut Utf8Decoder, row: &str) -> Result<bool, Fail> {
     let mut rest = row;
     match field(&mut rest) {
         "new" => {
