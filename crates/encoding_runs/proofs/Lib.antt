@@ -1,6 +1,7 @@
 pub mod SettledLemmas
 pub mod RepairLemmas
 pub mod RoundLemmas
+pub mod FrontLemmas
 pub mod RepeatLemmas
 pub mod EncoderChainLemmas
 pub mod EncoderRunLemmas

@@ -56,6 +56,21 @@ pub record StopsReading (bs : List ℕ) (ended : Bool) (old new : Option (List �
   pub was_settled : IsSettledText (take before bs) settled
   pub whole_rounds : IsFront settled out
 
+-- Of the repaired text of the bytes a front was written: nothing, some, or all of it, and at least the settled text of
+-- the first bytes, all but the last 1,024 at most.
+pub record WritesFrontOfRepaired (bs : List ℕ) (old new : Option (List ℕ)) : Type 0 where
+  pub text : List ℕ
+  pub out : List ℕ
+  pub repaired : IsRepaired bs text
+  pub front : IsFront out text
+  pub bytes : Appends old new out
+  pub before : ℕ
+  pub within : before ≤ length bs
+  pub one_round : length bs ≤ before + 1024
+  pub settled : List ℕ
+  pub was_settled : IsSettledText (take before bs) settled
+  pub whole_rounds : IsFront settled out
+
 -- all that there was to read was read, and written repaired; n parts were broken
 abbrev pub RepairsAll : List ℕ → Option (List ℕ) → Option (List ℕ) → Option (List ℕ) → Option (List ℕ) → ℕ → Type 0
 RepairsAll bs unread left old new n = Consumes unread left bs × IsAtEnd left × WritesRepaired bs old new n

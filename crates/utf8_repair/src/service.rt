@@ -1,5 +1,6 @@
 //! One run of the program, over any three streams.
 ghost use Rattle.std.specs.Prelude.{◌≡◌, ℕ, ◌<◌, ◌≤◌, ◌↔◌, Bool, List, length, IfOk};
+ghost use Rattle.std.specs.Result.{IsOkAnd};
 ghost use Rattle.encoding_runs.specs.Repairs.{RepairsAll, RepairsFront, RepairsSettled};
 ghost use Rattle.utf8_repair.specs.Service.{RepairsSome, WritesFrontOf, line_of};
 
@@ -39,6 +40,29 @@ fn repair_stream<R: Read, W: Write>(reader: &mut R, writer: &mut W) -> Result<Re
     repair(&mut source, &mut sink, u64::MAX)
 }
 
+/// Returns the status of what the engine returned.
+fn status_of(outcome: Result<Repaired, RepairFault>) -> u8
+    ensures status { (result ≤ 5) × (result ≡ 2 → ⊥) }
+    ensures unchanged { result ≡ 0 → IsOkAnd outcome (λ repaired. repaired.replaced ≡ 0) }
+    ensures replaced { result ≡ 1 → IsOkAnd outcome (λ repaired. 0 < repaired.replaced) }
+    ensures read_fault { result ≡ 3 → outcome ≡ Err RepairFault.Read }
+    ensures write_fault { result ≡ 4 → outcome ≡ Err RepairFault.Write }
+    ensures limit { result ≡ 5 → outcome ≡ Err RepairFault.Limit }
+{
+    match outcome {
+        Ok(repaired) => {
+            if repaired.replaced == 0 {
+                UNCHANGED
+            } else {
+                REPLACED
+            }
+        }
+        Err(RepairFault::Read) => READ_FAULT,
+        Err(RepairFault::Write) => WRITE_FAULT,
+        Err(RepairFault::Limit) => LIMIT,
+    }
+}
+
 /// Writes what the reader gives, repaired, then flushes whatever came of it. Returns the status.
 fn repair_and_flush<R: Read, W: Write>(reader: &mut R, writer: &mut W) -> u8
     ensures status { (result ≤ 5) × (result ≡ 2 → ⊥) }
@@ -61,13 +85,7 @@ fn repair_and_flush<R: Read, W: Write>(reader: &mut R, writer: &mut W) -> u8
     if writer.flush().is_err() {
         return WRITE_FAULT;
     }
-    match outcome {
-        Ok(Repaired { replaced: 0, .. }) => UNCHANGED,
-        Ok(_) => REPLACED,
-        Err(RepairFault::Read) => READ_FAULT,
-        Err(RepairFault::Write) => WRITE_FAULT,
-        Err(RepairFault::Limit) => LIMIT,
-    }
+    status_of(outcome)
 }
 
 /// The line that goes with a status: empty where nothing is said.
