@@ -32,6 +32,8 @@ mod mixed_text;
 #[cfg(test)]
 mod repair_rows;
 #[cfg(test)]
+mod repair_stream_rows;
+#[cfg(test)]
 mod run_rows;
 #[cfg(test)]
 mod surrogate_rows;

@@ -14,7 +14,7 @@ fn is_broken(part: &Expected) -> bool {
 }
 
 /// Returns how many parts are broken.
-fn broken_count(vector: &Vector) -> u64 {
+pub fn broken_count(vector: &Vector) -> u64 {
     let mut count = 0u64;
     for part in &vector.parts {
         if is_broken(part) {
