@@ -6,3 +6,6 @@ pub mod ChainLemmas
 pub mod RunLemmas
 pub mod TurnLemmas
 pub mod CompletionLemmas
+pub mod BidiLawLemmas
+pub mod CutLemmas
+pub mod MixedLemmas

@@ -6,3 +6,4 @@ pub mod Chains
 pub mod Turns
 pub mod Runs
 pub mod EncoderRuns
+pub mod MixedCalls

@@ -5,9 +5,14 @@ pub mod Giving
 pub mod Fronts
 pub mod Converting
 pub mod Decoding
+pub mod OneAnswer
+pub mod GivenParts
 pub mod Ascii
 pub mod Latin1
+pub mod Clearing
 pub mod Borrowed
 pub mod Utf16
+pub mod Surrogates
+pub mod Bidi
 pub mod Encoding
 pub mod Steps

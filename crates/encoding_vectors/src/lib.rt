@@ -4,6 +4,12 @@
 #[cfg(test)]
 mod ascii_rows;
 #[cfg(test)]
+mod bidi_rows;
+#[cfg(test)]
+mod bidi_walks;
+#[cfg(test)]
+mod borrowed_call_rows;
+#[cfg(test)]
 mod borrowed_rows;
 #[cfg(test)]
 mod decoder_parts;
@@ -28,7 +34,9 @@ mod repair_rows;
 #[cfg(test)]
 mod run_rows;
 #[cfg(test)]
-mod streams;
+mod surrogate_rows;
+#[cfg(test)]
+mod text_destination_rows;
 #[cfg(test)]
 mod texts;
 #[cfg(test)]

@@ -5,7 +5,10 @@ use Rattle.std.specs.List.{flat_map}
 use Rattle.std.proofs.lemmas.List.{append-nil, append_assoc, take-append-drop, take_all}
 use Rattle.encoding_text.specs.Sequence.{BeginsNothing}
 use Rattle.encoding_text.specs.Parts.{Part, Character, Broken, IsFirstPart, StartsWith}
+use Rattle.encoding_text.specs.Pending.{IsPending}
 use Rattle.encoding_text.specs.Giving.{Gives}
+pub use Rattle.encoding_text.specs.GivenParts.{IsReported}
+use Rattle.encoding_text.specs.GivenParts.{AreDecoded}
 use Rattle.encoding_text.specs.Decoding.{IsBroken, IsCall, Answers}
 use Rattle.encoding_text.specs.declared.decoder.DecoderResult.{DecoderResult}
 use Rattle.encoding_text.specs.declared.decoder.DecoderResult.TheVariants.{InputEmpty, OutputFull, Malformed}
@@ -63,12 +66,7 @@ call_within encode need p src last OutputFull read cs left q a = omega (arith, a
 call_within encode need p src last (Malformed k second) read cs left q a = a.2
 
 -- ---- the first parts of those bytes
--- the parts that the call reports: a broken one of so many bytes, or none
-abbrev pub IsReported : DecoderResult → List Part → Type 0
-IsReported InputEmpty parts = parts ≡ []
-IsReported OutputFull parts = parts ≡ []
-IsReported (Malformed k second) parts = (x : List ℕ) × (parts ≡ Broken x ∷ []) × (length x ≡ k)
-
+-- the parts that the call reports
 abbrev reported_parts : DecoderResult → List ℕ → List Part
 reported_parts InputEmpty y = []
 reported_parts OutputFull y = []
@@ -95,45 +93,45 @@ given_first bs cs y unread q last result h e f =
     (StartsWith-append (encode_utf8_all cs ++ behind) (map Character cs) behind (reported_parts result y) (q ++ unread) (StartsWith-characters cs behind h)
     (reported_first unread last result q y f))
 
--- a call gives the characters that it wrote, and then the broken part that it reports
-pub call_gives : {A : Type 0} (encode : ℕ → List A) (need : ℕ) (p src : List ℕ) (room : ℕ) (last : Bool) (result : DecoderResult) (read : ℕ) (out : List A) (q : List ℕ)
-    → IsCall encode need p src room last result read out q
-    → (cs : List ℕ) × (reported : List Part) × (out ≡ flat_map encode cs) × IsReported result reported × Gives p src last (map Character cs ++ reported) read q
-call_gives encode need p src room last result read out q call = (
-  cs,
-  reported_parts result y,
-  call.out_is,
-  are_reported unread last result q y r.1,
-  record {
-    within = call_within encode need p src last result read cs left q call.answer;
-    first = given_first (p ++ src) cs y unread q last result call.are_scalars whole r.1;
-    pending = call.pending;
-    whatever_follows = stays;
-  },
-)
+-- the characters of what was read, and what follows them, are given
+pub gives_from : (p src : List ℕ) (last : Bool) (result : DecoderResult) (read : ℕ) (cs q y : List ℕ) → read ≤ length src → IsPending q → all_scalars cs ≡ true
+    → FollowsOutput (drop read src) last result q y → p ++ take read src ≡ encode_utf8_all cs ++ y → Gives p src last (map Character cs ++ reported_parts result y) read q
+gives_from p src last result read cs q y within pending scalars follows e = record {
+  within = within;
+  first = given_first (p ++ src) cs y unread q last result scalars whole follows;
+  pending = pending;
+  whatever_follows = stays;
+}
   where
-    cs : List ℕ
-    cs = call.scalars
-
-    left : ℕ
-    left = room - length out
-
     unread : List ℕ
     unread = drop read src
 
-    r : (y : List ℕ) × FollowsOutput unread last result q y × (p ++ take read src ≡ encode_utf8_all cs ++ y)
-    r = call_read encode need p src last result read cs left q call.answer
-
-    y : List ℕ
-    y = r.0
-
     whole : p ++ src ≡ encode_utf8_all cs ++ (y ++ unread)
-    whole = call_bytes p src cs y read r.2
+    whole = call_bytes p src cs y read e
 
     stays : last ≡ false → (more : List ℕ) → StartsWith (p ++ src ++ more) (map Character cs ++ reported_parts result y) (q ++ unread ++ more)
-    stays e more =
+    stays f more =
         let longer : p ++ src ++ more ≡ encode_utf8_all cs ++ (y ++ (unread ++ more)) =
         ap (λ xs. xs ++ more) whole ∙ append_assoc (encode_utf8_all cs) (y ++ unread) more ∙ ap (λ xs. encode_utf8_all cs ++ xs) (append_assoc y unread more) in
         subst (λ xs. StartsWith (p ++ src ++ more) (map Character cs ++ reported_parts result y) xs) (sym (append_assoc q unread more))
-        (given_first (p ++ src ++ more) cs y (unread ++ more) q false result call.are_scalars longer
-        (follows_stays unread more result q y (subst (λ b. FollowsOutput unread b result q y) e r.1)))
+        (given_first (p ++ src ++ more) cs y (unread ++ more) q false result scalars longer
+        (follows_stays unread more result q y (subst (λ b. FollowsOutput unread b result q y) f follows)))
+
+-- a call gives the characters that it wrote, and then the broken part that it reports
+pub decoded_gives : {A : Type 0} (encode : ℕ → List A) (need : ℕ) (p src : List ℕ) (room : ℕ) (last : Bool) (result : DecoderResult) (read : ℕ) (out : List A) (q : List ℕ)
+    → IsCall encode need p src room last result read out q → (parts : List Part) × AreDecoded encode result out parts × Gives p src last parts read q
+decoded_gives encode need p src room last result read out q call =
+    let cs = call.scalars in
+    let left = room - length out in
+    let (y, follows, e) = call_read encode need p src last result read cs left q call.answer in (
+      map Character cs ++ reported_parts result y,
+      (cs, reported_parts result y, call.are_scalars, call.out_is, are_reported (drop read src) last result q y follows, refl),
+      gives_from p src last result read cs q y (call_within encode need p src last result read cs left q call.answer) call.pending call.are_scalars follows e,
+    )
+
+pub call_gives : {A : Type 0} (encode : ℕ → List A) (need : ℕ) (p src : List ℕ) (room : ℕ) (last : Bool) (result : DecoderResult) (read : ℕ) (out : List A) (q : List ℕ)
+    → IsCall encode need p src room last result read out q
+    → (cs : List ℕ) × (reported : List Part) × (out ≡ flat_map encode cs) × IsReported result reported × Gives p src last (map Character cs ++ reported) read q
+call_gives encode need p src room last result read out q call =
+    let (parts, (cs, reported, scalars, is, are, e), gives) = decoded_gives encode need p src room last result read out q call in
+    (cs, reported, is, are, subst (λ xs. Gives p src last xs read q) e gives)

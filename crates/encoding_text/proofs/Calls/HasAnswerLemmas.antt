@@ -25,7 +25,7 @@ no_character_pending c rest q h (inl n) e = omega (arith, ap length (sym n ∙ e
 no_character_pending c rest q h (inr b) e = no_sequence_in_beginning (encode_utf8 c) rest (subst IsBeginning e b) (IsSequence-encode c h)
 
 -- ---- there is an answer
-broken_or_open : (x after : List ℕ) (last : Bool) → IsFirstPart (x ++ after) (Broken x) after → IsBroken x after last ⊎ ((after ≡ []) × IsBeginning x × (last ≡ false))
+pub broken_or_open : (x after : List ℕ) (last : Bool) → IsFirstPart (x ++ after) (Broken x) after → IsBroken x after last ⊎ ((after ≡ []) × IsBeginning x × (last ≡ false))
 broken_or_open x [] last (n, inl l) = elim (cases_Bool last) [ inl t ↦ inl (inr (l.beginning, t)) | inr f ↦ inr (refl, l.beginning, f) ]
 broken_or_open x (y ∷ ys) last (n, inl l) = inl (inr (l.beginning, stuck_part (x ++ (y ∷ ys)) x y ys n l))
 broken_or_open x [] last (n, inr l) = inl (inl (lone_part (x ++ []) x [] n l))

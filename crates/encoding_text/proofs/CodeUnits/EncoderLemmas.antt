@@ -109,18 +109,6 @@ module _ (src : List ℕ) (room : ℕ) (last : Bool) (n read : ℕ) (out : List 
     answer = (omega (arith, h, fresh_length), (λ e. (e, refl)), (λ p. (omega arith, refl)));
   }
 
-  pub fresh_empty : n ≤ read → read ≤ length (take n src) → IsEncoderCall [] src room last InputEmpty (length src) out (drop n src)
-  fresh_empty h k = record {
-    held_before = tt;
-    held_after = l.held;
-    due = f.parts;
-    left_open = drop n src;
-    taken = read;
-    are_due = open_due src last n f.parts l f.are_parts;
-    longest = f.longest;
-    answer = (omega (arith, h, k, fresh_length, length-take-le n src l.within), refl, refl);
-  }
-
 -- ---- a unit held
 first_units : (us : List ℕ) (p : Part16) (rest : List ℕ) → IsFirstPart16 us p rest → us ≡ units_of p ++ rest
 first_units us (Character16 c) rest h = h.1

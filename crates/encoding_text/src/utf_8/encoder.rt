@@ -17,7 +17,7 @@ use std::marker::Model;
 /// What ended a call of an encoder.
 #[derive(Debug, PartialEq, Eq, Drop)]
 pub enum EncoderResult {
-    /// All of the source is read, and all that was due is written.
+    /// All of the source is read, and all that was due is written. After a last call nothing is held.
     InputEmpty,
     /// The next character doesn't fit into what is left of the destination.
     OutputFull,
@@ -86,8 +86,8 @@ impl Utf8Encoder {
         }
     }
 
-    /// Encodes `src`, with the unit that is held in front of it, into `dst`, and returns what ended the call, how
-    /// many code units of `src` it read and how many bytes it wrote. `last` marks the last call.
+    /// Encodes `src`, with the code unit that is held in front of it, into `dst`, and returns what ended the call,
+    /// how many code units of `src` it read and how many bytes it wrote. `last` marks the last call.
     ///
     /// A high surrogate that ends a call not marked last is held, for the low one may follow in the next call. Any
     /// other surrogate that is in no pair becomes U+FFFD (Unicode Standard, section 3.9, UTF-16). No character is
@@ -145,12 +145,12 @@ impl Utf8Encoder {
         (EncoderResult::InputEmpty, src.len(), written)
     }
 
-    /// Encodes U+FFFD for the unit that is held, if there is one, and then `src` into `dst`, and returns what ended
-    /// the call, how many bytes of `src` it read and how many bytes it wrote. Whether the call is the last has no
-    /// effect.
+    /// Encodes U+FFFD for the code unit that is held, if there is one, and then `src` into `dst`, and returns what
+    /// ended the call, how many bytes of `src` it read and how many bytes it wrote. Whether the call is the last has
+    /// no effect.
     ///
-    /// The held unit is written also where `src` is empty, and stays held only where it didn't fit. No character is
-    /// written in part. Behind what is written `dst` is as before.
+    /// U+FFFD is written for it also where `src` is empty, and it stays held only where that didn't fit. No character
+    /// is written in part. Behind what is written `dst` is as before.
     pub fn encode_from_utf8_raw(
         &mut self,
         src: &str,
@@ -195,8 +195,8 @@ fn due_length(src: &[u16], last: bool) -> usize
     }
 }
 
-/// What the first part of the code units counts as, where a high surrogate stands in front of `src`, and how many units
-/// of `src` that part takes.
+/// What the first part of the code units counts as, where a high surrogate stands in front of `src`, and how many
+/// code units of `src` that part takes.
 fn first_with_held(high: u16, src: &[u16]) -> (u32, usize)
     requires { IsHighSurrogate high }
     ensures first { IsFirstScalar (high ∷ src.now) result.0 }
