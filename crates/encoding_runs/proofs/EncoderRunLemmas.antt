@@ -97,10 +97,10 @@ IsEncoderCall-same held held' src src' room room' last last' r read out out' aft
 pub run_push : (held src : List ℕ) (turns : List Turn) (turn : Turn) (old mid : List ℕ) (outcome : EncodeOutcome) (after : List ℕ) (r : EncoderResult) (read written : ℕ) (sub then' : List ℕ)
     → IsEncoderRun held src turns old mid outcome after
     → IsEncoderCall after (take turn.take (take (length src - outcome.read) (drop outcome.read src))) (room_of turn (length (take (length mid - outcome.written) (drop outcome.written mid))))
-        (is_marked_last turn (length (take (length src - outcome.read) (drop outcome.read src)))) r read (take written sub) then'
+    (is_marked_last turn (length (take (length src - outcome.read) (drop outcome.read src)))) r read (take written sub) then'
     → WritesFront (take (length mid - outcome.written) (drop outcome.written mid)) sub written (take written sub)
     → IsEncoderRun held src (turns ++ turn ∷ []) old (put_mid outcome.written (length mid - outcome.written) mid sub)
-        (record { read = outcome.read + read; written = outcome.written + written; result = Some r }) then'
+    (record { read = outcome.read + read; written = outcome.written + written; result = Some r }) then'
 run_push held src turns turn old mid outcome after r read written sub then' run c w =
     let out : List ℕ = take written sub in
     let unread : take (length src - outcome.read) (drop outcome.read src) ≡ drop (units_read run.calls) src = take_rest src outcome.read ∙ ap (λ n. drop n src) run.read in

@@ -9,7 +9,8 @@ use Rattle.encoding_text.specs.Parts.{Part, Character, Broken, StartsWith, chara
 use Rattle.encoding_text.specs.Decoding.{Answers}
 use Rattle.encoding_text.specs.declared.decoder.DecoderResult.{DecoderResult}
 use Rattle.encoding_text.specs.declared.decoder.DecoderResult.TheVariants.{InputEmpty, OutputFull, Malformed}
-use Rattle.encoding_text.proofs.Calls.CallPartsLemmas.{IsReported, call_gives}
+use Rattle.encoding_text.specs.GivenParts.{IsReported}
+use Rattle.encoding_text.proofs.Calls.CallPartsLemmas.{call_gives}
 use Rattle.encoding_text.proofs.LongestFronts.FrontsLemmas.{WritesFront-same}
 use Rattle.encoding_text.proofs.Sequences.SequenceLemmas.{length-IsBeginning}
 use Rattle.encoding_runs.specs.Chains.{Given, IsChain, parts_given, read_in_all, left_pending, some_last, SomeEnds}

@@ -6,8 +6,8 @@ use Rattle.encoding_text.specs.Encoding.{IsHeld, IsEncoderCall}
 use Rattle.encoding_text.specs.declared.utf_8.encoder.EncoderResult.{EncoderResult}
 use Rattle.encoding_text.specs.declared.utf_8.encoder.EncoderResult.TheVariants.{InputEmpty}
 
--- one call of a chain: at most how many of the unread units it is handed, its room, whether it is marked last, what it
--- returns, how many units it reads, what it writes, and what is held after it
+-- one call of a chain: at most how many of the unread code units it is handed, its room, whether it is marked last, what
+-- it returns, how many code units it reads, the bytes that it writes, and what is held after it
 pub record EncoderStep : Type 0 where
   pub piece : ℕ
   pub room : ℕ
@@ -17,14 +17,14 @@ pub record EncoderStep : Type 0 where
   pub out : List ℕ
   pub held : List ℕ
 
--- each call is one of an encoder, and one that is marked last is handed all the units that are left
+-- each call is one of an encoder, and one that is marked last is handed all the code units that are left
 abbrev pub IsEncoderChain : List ℕ → List ℕ → List EncoderStep → Type 0
 IsEncoderChain held unread [] = Unit {0}
 IsEncoderChain held unread (call ∷ calls) =
     IsEncoderCall held (take call.piece unread) call.room call.last call.result call.read call.out call.held
     × (call.last ≡ true → length unread ≤ call.piece) × IsEncoderChain call.held (drop call.read unread) calls
 
--- how many units they read
+-- how many code units they read
 abbrev pub units_read : List EncoderStep → ℕ
 units_read [] = 0
 units_read (call ∷ calls) = call.read + units_read calls
@@ -48,7 +48,7 @@ abbrev pub SomeLastIsEmpty : List EncoderStep → Type 0
 SomeLastIsEmpty [] = ⊥
 SomeLastIsEmpty (call ∷ calls) = ((call.last ≡ true) × (call.result ≡ InputEmpty)) ⊎ SomeLastIsEmpty calls
 
--- What was written is the UTF-8 of the first parts of what was held and of the source. The units of these parts, and
+-- What was written is the UTF-8 of the first parts of what was held and of the source. The code units of these parts, and
 -- those that are held then, are those that were held and those read. They are all the parts once a call that is marked
 -- last returns `InputEmpty`, and the first ones whatever follows where none is marked last.
 pub record EncodesFirstParts (held src : List ℕ) (calls : List EncoderStep) (read : ℕ) (out after : List ℕ) : Type 0 where

@@ -9,7 +9,7 @@ use Rattle.encoding_runs.specs.Turns.{room_of, is_marked_last}
 use Rattle.encoding_runs.specs.Runs.{EachGetsOn}
 use Rattle.encoding_runs.specs.EncoderChains.{EncoderStep, IsEncoderChain, EncodesFirstParts, units_read, output_of, held_after}
 
--- the calls are those of the turns, one for each, where so many units are unread and so much room is left
+-- the calls are those of the turns, one for each, where so many code units are unread and so much room is left
 abbrev pub AreOfTurns : ℕ → ℕ → List Turn → List EncoderStep → Type 0
 AreOfTurns unread left [] [] = Unit {0}
 AreOfTurns unread left [] (call ∷ calls) = ⊥
@@ -39,7 +39,8 @@ pub record EncodesByTurns (held src : List ℕ) (turns : List Turn) (old new : L
   pub run : IsEncoderRun held src turns old new outcome after
   pub encodes : EncodesFirstParts held src run.calls outcome.read (output_of run.calls) after
 
--- so many turns that get on come to the end of the source, where the destination has three bytes of room for each unit
+-- so many turns that get on come to the end of the source, where the destination has three bytes of room for each code
+-- unit
 abbrev pub CompletesEncoding : List ℕ → List ℕ → List Turn → ℕ → Option EncoderResult → Type 0
 CompletesEncoding held src turns room result =
     2 * length src + 2 ≤ length turns → EachGetsOn 4 turns → 3 * (length src + length held) ≤ room → result ≡ Some InputEmpty

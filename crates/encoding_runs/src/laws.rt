@@ -61,8 +61,8 @@ pub fn law_cuts()
 /// For pending bytes, source, mark and, with a destination, its room, each call of a decoder has exactly one answer.
 /// Calls of its three forms may be mixed: over one list of bytes, each handed the unread ones from the first on, they
 /// give in sequence the first parts of what was pending and these bytes, whatever follows them, and all of the parts
-/// once a call marked last returns `InputEmpty`. What a decoder answers depends on its pending bytes alone, so a
-/// neutral one answers every list of calls as a new one does. Encoding Standard, UTF-8 decoder.
+/// once a call marked last returns `InputEmpty`. What a decoder returns depends on its pending bytes alone, so a
+/// neutral one returns from every list of calls what a new one does. Encoding Standard, UTF-8 decoder.
 pub fn law_mixed_calls()
     ensures one_utf16 { (p src : List ℕ) (room : ℕ) (last : Bool) → IsPending p → HasOneAnswer encode_utf16 2 p src room last }
     ensures one_utf8 { (p src : List ℕ) (room : ℕ) (last : Bool) → IsPending p → HasOneAnswer encode_utf8 4 p src room last }

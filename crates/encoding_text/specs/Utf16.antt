@@ -55,7 +55,7 @@ ArePaired (p ∷ q ∷ ps) = IsPart16 p × MayPrecede p q × ArePaired (q ∷ ps
 abbrev pub ArePartsOf16 : List ℕ → List Part16 → Type 0
 ArePartsOf16 us ps = ArePaired ps × (flat_map units_of ps ≡ us)
 
--- the first parts of the units, one after another, and the rest, whose parts are the others
+-- the first parts of the code units, and the rest behind them, whose parts are the others
 pub record StartsWith16 (us : List ℕ) (first : List Part16) (rest : List ℕ) : Type 0 where
   pub others : List Part16
   pub whole : ArePartsOf16 us (first ++ others)

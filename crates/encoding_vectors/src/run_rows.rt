@@ -198,7 +198,7 @@ fn rows_hold(rt: HostRuntime) -> Result<(), Fail> {
         assert!(rt; holds(rt.alloc(), &mut decoder, row)?, "{row}");
         count = count.saturating_add(1);
     }
-    assert!(rt; count == 24);
+    assert!(rt; count == 25);
     Ok(())
 }
 

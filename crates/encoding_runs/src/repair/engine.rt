@@ -1,4 +1,4 @@
-// The engine: text goes out as it is, and U+FFFD for each broken part.
+//! The engine: text goes out as it is, and U+FFFD for each broken part.
 ghost use Rattle.std.specs.Prelude.{◌≡◌, ◌≢◌, ℕ, ◌<◌, ◌≤◌, ◌↔◌, Bool, true, false, List, [], ◌++◌, length, take, IfOk, IfErr, IsTrue};
 ghost use Rattle.std.specs.Io.KnownBytes.{Appends, Keeps};
 ghost use Rattle.encoding_text.specs.Pending.{IsPending};

@@ -1,4 +1,4 @@
-// Streams that say whether they failed, and whether their end was seen.
+//! Streams that say whether they failed, and whether their end was seen.
 ghost use Rattle.std.specs.Prelude.{◌≡◌, ℕ, ◌<◌, ◌≤◌, Bool, false, List, length, Option, IfSome};
 ghost use Rattle.std.specs.Borrow.{GName};
 ghost use Rattle.encoding_runs.specs.Streams.{ReadMoves, WriteMoves, FailsOnNone, EndsOnZero, watched_stream, watch_failed, watch_ended};

@@ -1,4 +1,4 @@
-// What a turn of a run hands to its call.
+//! What a turn of a run hands to its call.
 ghost use Rattle.std.specs.Prelude.{◌≡◌, min};
 ghost use Rattle.encoding_runs.specs.Turns.{room_of, is_marked_last};
 

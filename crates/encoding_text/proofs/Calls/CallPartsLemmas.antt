@@ -7,8 +7,7 @@ use Rattle.encoding_text.specs.Sequence.{BeginsNothing}
 use Rattle.encoding_text.specs.Parts.{Part, Character, Broken, IsFirstPart, StartsWith}
 use Rattle.encoding_text.specs.Pending.{IsPending}
 use Rattle.encoding_text.specs.Giving.{Gives}
-pub use Rattle.encoding_text.specs.GivenParts.{IsReported}
-use Rattle.encoding_text.specs.GivenParts.{AreDecoded}
+use Rattle.encoding_text.specs.GivenParts.{IsReported, AreDecoded}
 use Rattle.encoding_text.specs.Decoding.{IsBroken, IsCall, Answers}
 use Rattle.encoding_text.specs.declared.decoder.DecoderResult.{DecoderResult}
 use Rattle.encoding_text.specs.declared.decoder.DecoderResult.TheVariants.{InputEmpty, OutputFull, Malformed}

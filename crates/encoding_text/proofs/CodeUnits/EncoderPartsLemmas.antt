@@ -2,10 +2,9 @@
 use Rattle.std.proofs.Common.{◌≡◌, ℕ, zero, suc, ◌+◌, ◌*◌, ◌<◌, ◌≤◌, inl, inr, Bool, true, false, List, [], ◌∷◌, ◌++◌, length, take, drop, refl, sym, ap, ◌∙◌, arith, subst}
 use Rattle.std.specs.List.{flat_map}
 use Rattle.std.proofs.lemmas.Bool.{cases_lt}
-use Rattle.std.proofs.lemmas.List.{append_assoc, append-nil, length-append, length-drop, length-take-le, drop_all, drop_at, drop-drop, drop-append-le, take-append-le, take-append-drop, nil_from_length}
+use Rattle.std.proofs.lemmas.List.{append_assoc, append-nil, length-append, length-drop, length-take-le, drop_all, drop_at, drop-drop, drop-append-le, take-append-le, take-append-drop}
 use Rattle.std.proofs.lemmas.List.Concat.{flat_map-append}
-use Rattle.encoding_text.specs.Fronts.{FitsLongest}
-use Rattle.encoding_text.specs.Utf16.{AreUnits, Part16, Lone, units_of, utf8_of, ArePartsOf16, StartsWith16, IsHighSurrogate}
+use Rattle.encoding_text.specs.Utf16.{AreUnits, Part16, Lone, units_of, ArePartsOf16, StartsWith16, IsHighSurrogate}
 use Rattle.encoding_text.specs.Steps.FirstScalar.{BeginsLow}
 use Rattle.encoding_text.specs.Encoding.{IsHeld, EndsHigh, AreDue, EncoderAnswers, IsEncoderCall}
 use Rattle.encoding_text.specs.declared.utf_8.encoder.EncoderResult.{EncoderResult}

@@ -7,5 +7,5 @@ abbrev pub invariant-loop-turn : goal.invariant-loop-turn
 invariant-loop-turn l = record {
   run : IsEncoderRun l.initial.encoder l.src (take l.turn-index l.turns) l.initial.dst l.dst l.outcome l.encoder;
   read : l.outcome.read ≤ length l.src;
-  written : l.outcome.written ≤ length l.dst
+  written : l.outcome.written ≤ length l.dst;
 }

@@ -1,4 +1,4 @@
-use Rattle.std.proofs.Common.{◌≡◌, ◌+◌, ◌-◌, take, drop, inl, arith, refl, sym, subst}
+use Rattle.std.proofs.Common.{◌+◌, ◌-◌, take, drop, inl, arith, refl, subst}
 use Rattle.std.proofs.lemmas.List.{take_rest, length-drop}
 use Rattle.std.proofs.lemmas.Str.{IsUtf8-nil}
 use Rattle.encoding_text.specs.Bidi.{IsBidiText}
