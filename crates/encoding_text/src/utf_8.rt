@@ -1,4 +1,5 @@
 //! UTF-8: Unicode Standard, section 3.9, and Encoding Standard, section 8.1.
+mod blocks;
 mod decoding;
 mod encoder;
 mod encoding;

@@ -6,6 +6,7 @@ ghost use Rattle.encoding_text.specs.Parts.{BeginsWithNoCharacter};
 ghost use Rattle.encoding_text.specs.Fronts.{IsLongestFront};
 
 use crate::sequence::{is_continuation, is_second};
+use crate::utf_8::blocks::well_formed_blocks;
 
 /// The length of the character that begins the bytes, where one does.
 pub(crate) fn character_length(bytes: &[u8]) -> Option<usize>
@@ -46,8 +47,11 @@ pub(crate) fn character_length(bytes: &[u8]) -> Option<usize>
 pub fn utf8_valid_up_to(src: &[u8]) -> usize
     ensures { IsLongestFront IsUtf8 src.now result }
 {
-    let mut at = 0;
-    while let Some(length) = character_length(&src[at..]) {
+    let mut at = well_formed_blocks(src);
+    while at < src.len() {
+        let Some(length) = character_length(&src[at..]) else {
+            break;
+        };
         at += length;
     }
     at

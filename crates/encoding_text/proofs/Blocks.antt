@@ -1,0 +1,4 @@
+pub mod FollowingLemmas
+pub mod MaskLemmas
+pub mod PairLemmas
+pub mod LaneLemmas
