@@ -5,3 +5,4 @@ pub mod Calls
 pub mod CodeUnits
 pub mod Latin
 pub mod Bidi
+pub mod Lanes

@@ -3,3 +3,4 @@ pub mod Resuming
 pub mod Ending
 pub mod Converting
 pub mod FirstScalar
+pub mod Strides
