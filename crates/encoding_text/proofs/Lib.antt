@@ -6,3 +6,4 @@ pub mod CodeUnits
 pub mod Latin
 pub mod Bidi
 pub mod Blocks
+pub mod Lanes

@@ -4,3 +4,4 @@ pub mod Ending
 pub mod Converting
 pub mod FirstScalar
 pub mod Following
+pub mod Strides

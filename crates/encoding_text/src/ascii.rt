@@ -5,14 +5,13 @@ ghost use Rattle.std.specs.Str.{IsAscii};
 ghost use Rattle.encoding_text.specs.Ascii.{IsFirstOther, front_length, IsIso2022JpAscii};
 ghost use Rattle.encoding_text.specs.Fronts.{IsLongestFront, WritesFront};
 
+use crate::strides::{copy_ascii, front_below, narrow_ascii, widen_ascii};
+
 /// The bits that no ASCII byte has: each of the eight bytes is 0x80.
 pub const ASCII_MASK: usize = 0x8080_8080_8080_8080;
 
 /// The least byte that isn't ASCII.
 const ASCII_END: u8 = 0x80;
-
-/// The least UTF-16 code unit that isn't ASCII.
-const BASIC_LATIN_END: u16 = 0x80;
 
 /// The byte that begins an escape sequence.
 const ESCAPE: u8 = 0x1B;
@@ -27,13 +26,12 @@ const SHIFT_IN: u8 = 0x0F;
 pub fn validate_ascii(bytes: &[u8]) -> Option<(u8, usize)>
     ensures { IsFirstOther bytes.now result }
 {
-    for place in 0..bytes.len() {
-        let byte = bytes[place];
-        if byte >= ASCII_END {
-            return Some((byte, place));
-        }
+    let front = front_below(bytes, ASCII_END);
+    if front < bytes.len() {
+        Some((bytes[front], front))
+    } else {
+        None
     }
-    None
 }
 
 /// The number of bytes in the longest ASCII front.
@@ -67,15 +65,14 @@ pub fn ascii_to_ascii(src: &[u8], dst: &mut [u8]) -> Option<(u8, usize)>
     ensures copied { let n = front_length (take (length dst.old) src.now) result in
         WritesFront dst.old dst.new n (take n src.now) }
 {
-    let room = src.len().min(dst.len());
-    for i in 0..room {
-        let byte = src[i];
-        if byte >= ASCII_END {
-            return Some((byte, i));
-        }
-        dst[i] = byte;
+    let by_blocks = copy_ascii::<64>(src, dst, 0);
+    let by_strides = copy_ascii::<16>(src, dst, by_blocks);
+    let front = copy_ascii::<1>(src, dst, by_strides);
+    if front < src.len() && front < dst.len() {
+        Some((src[front], front))
+    } else {
+        None
     }
-    None
 }
 
 /// Copies the longest ASCII front, each byte as a UTF-16 code unit, over the shorter length of the two, and returns the
@@ -85,15 +82,14 @@ pub fn ascii_to_basic_latin(src: &[u8], dst: &mut [u16]) -> Option<(u8, usize)>
     ensures copied { let n = front_length (take (length dst.old) src.now) result in
         WritesFront dst.old dst.new n (take n src.now) }
 {
-    let room = src.len().min(dst.len());
-    for i in 0..room {
-        let byte = src[i];
-        if byte >= ASCII_END {
-            return Some((byte, i));
-        }
-        dst[i] = u16::from(byte);
+    let by_blocks = widen_ascii::<64>(src, dst, 0);
+    let by_strides = widen_ascii::<16>(src, dst, by_blocks);
+    let front = widen_ascii::<1>(src, dst, by_strides);
+    if front < src.len() && front < dst.len() {
+        Some((src[front], front))
+    } else {
+        None
     }
-    None
 }
 
 /// Copies the longest ASCII front of UTF-16 code units, each as a byte, over the shorter length of the two, and returns
@@ -103,13 +99,12 @@ pub fn basic_latin_to_ascii(src: &[u16], dst: &mut [u8]) -> Option<(u16, usize)>
     ensures copied { let n = front_length (take (length dst.old) src.now) result in
         WritesFront dst.old dst.new n (take n src.now) }
 {
-    let room = src.len().min(dst.len());
-    for i in 0..room {
-        let unit = src[i];
-        if unit >= BASIC_LATIN_END {
-            return Some((unit, i));
-        }
-        dst[i] = unit as u8;
+    let by_blocks = narrow_ascii::<32>(src, dst, 0);
+    let by_strides = narrow_ascii::<16>(src, dst, by_blocks);
+    let front = narrow_ascii::<1>(src, dst, by_strides);
+    if front < src.len() && front < dst.len() {
+        Some((src[front], front))
+    } else {
+        None
     }
-    None
 }

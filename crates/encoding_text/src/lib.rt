@@ -6,4 +6,5 @@ pub mod ascii;
 pub mod decoder;
 pub mod mem;
 mod sequence;
+mod strides;
 pub mod utf_8;

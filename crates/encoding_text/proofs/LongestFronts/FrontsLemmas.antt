@@ -51,6 +51,20 @@ module _ {A : Type 0} where
       let second = WritesFront_push _ _ _ _ d first (omega (arith, length-set (set (set new n a) (n + 1) b) (n + 2) c, length-set (set new n a) (n + 1) b, length-set new n a)) in
       WritesFront-same _ _ _ _ _ _ second (omega arith) (append_assoc out (a ∷ b ∷ c ∷ []) (d ∷ []))
 
+  -- so many more items at once
+  pub WritesFront_put : (old new after : List A) (n m : ℕ) (out more : List A) → WritesFront old new n out → m ≡ length more → n + m ≤ length new
+      → after ≡ take n new ++ (more ++ drop (n + m) new) → WritesFront old after (n + m) (out ++ more)
+  WritesFront_put old new after n m out more w e l put =
+      let long : length new ≡ length old = WritesFront-length old new n out w in
+      let front : take n new ≡ out = ap (take n) w.placed ∙ take_at out (drop n old) n (sym w.count) in
+      let behind : drop n new ≡ drop n old = ap (drop n) w.placed ∙ drop_at out (drop n old) n (sym w.count) in
+      let rest : drop (n + m) new ≡ drop (n + m) old = sym (drop-drop m n new) ∙ ap (drop m) behind ∙ drop-drop m n old in
+      record {
+        count = omega (arith, w.count, length-append out more);
+        fits = omega arith;
+        placed = put ∙ (λ i. front i ++ (more ++ rest i)) ∙ sym (append_assoc out more (drop (n + m) old));
+      }
+
   -- a call wrote into the part behind what was written
   pub WritesFront_after : (old new : List A) (n : ℕ) (out sub : List A) (m : ℕ) (more : List A) → WritesFront old new n out
       → WritesFront (take (length new - n) (drop n new)) sub m more → WritesFront old (put_mid n (length new - n) new sub) (n + m) (out ++ more)

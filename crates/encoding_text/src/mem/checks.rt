@@ -7,12 +7,13 @@ ghost use Rattle.encoding_text.specs.Latin1.{IsLatin1, IsUtf8Latin1};
 
 use crate::ascii;
 use crate::sequence::is_continuation;
+use crate::strides::{are_all_below, front_below};
 
 /// The least UTF-16 code unit that isn't ASCII.
 const BASIC_LATIN_END: u16 = 0x80;
 
-/// The greatest Latin1 code unit.
-const LATIN1_MAX: u16 = 0xFF;
+/// The least UTF-16 code unit that isn't Latin1.
+const LATIN1_END: u16 = 0x100;
 
 /// The first byte of U+0080 to U+00BF; that of U+00C0 to U+00FF is one more.
 const LATIN1_LEAD: u8 = 0xC2;
@@ -31,12 +32,7 @@ pub fn is_ascii(buffer: &[u8]) -> bool
 pub fn is_basic_latin(buffer: &[u16]) -> bool
     ensures { IsTrue result ↔ IsAscii buffer.now }
 {
-    for i in 0..buffer.len() {
-        if buffer[i] >= BASIC_LATIN_END {
-            return false;
-        }
-    }
-    true
+    are_all_below(buffer, BASIC_LATIN_END)
 }
 
 /// Whether the bytes are well-formed UTF-8 whose scalar values are each up to U+00FF.
@@ -57,12 +53,7 @@ pub fn is_str_latin1(buffer: &str) -> bool
 pub fn is_utf16_latin1(buffer: &[u16]) -> bool
     ensures { IsTrue result ↔ IsLatin1 buffer.now }
 {
-    for i in 0..buffer.len() {
-        if buffer[i] > LATIN1_MAX {
-            return false;
-        }
-    }
-    true
+    are_all_below(buffer, LATIN1_END)
 }
 
 /// The number of bytes in the longest front that is the UTF-8 of scalar values up to U+00FF.
@@ -93,10 +84,5 @@ pub fn str_latin1_up_to(buffer: &str) -> usize
     ensures { IsLongestFront IsUtf8Latin1 buffer.now result }
 {
     let bytes = buffer.as_bytes();
-    for i in 0..bytes.len() {
-        if bytes[i] >= BEYOND_LATIN1 {
-            return i;
-        }
-    }
-    bytes.len()
+    front_below(bytes, BEYOND_LATIN1)
 }

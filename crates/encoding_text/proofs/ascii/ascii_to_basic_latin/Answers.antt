@@ -1,13 +1,13 @@
-use Rattle.std.proofs.Common.{arith, length}
-use Rattle.encoding_text.proofs.Latin.AsciiLemmas.{IsFirstOther-at, WritesFront_copy, below_more}
+use Rattle.std.proofs.Common.{arith, length, length-take}
+use Rattle.encoding_text.proofs.Latin.AsciiLemmas.{IsFirstOther-stopped, IsAscii-through}
 use Rattle.encoding_text.proofs.ascii.ascii_to_basic_latin.Goals as goal
 
-pub returns-then-byte-ge-ASCII_END-clause-found : goal.returns-then-byte-ge-ASCII_END-clause-found
-returns-then-byte-ge-ASCII_END-clause-found c =
-    IsFirstOther-at c.args.src.now (length c.args.dst.now) c.loop-i.i (omega arith) (omega arith) c.loop-i.invariant.ascii c.if-byte-ge-ASCII_END.true
+pub returns-then-front-dst-clause-found : goal.returns-then-front-dst-clause-found
+returns-then-front-dst-clause-found c =
+    let ascii = c.widen_ascii-front.ensures.ascii (c.widen_ascii-by_strides.ensures.ascii (c.widen_ascii-by_blocks.ensures.ascii (λ k l. absurd (omega arith)))) in
+    IsFirstOther-stopped c.args.src.now (length c.args.dst.now) c.widen_ascii-front.result (omega arith) (omega arith) ascii (λ l m. c.widen_ascii-front.ensures.stops l (omega arith))
 
-pub loop-i-preserved : goal.loop-i-preserved
-loop-i-preserved c = record {
-  ascii = below_more c.args.src.now c.loop-i.i c.loop-i.invariant.ascii c.if-byte-ge-ASCII_END.false;
-  copied = WritesFront_copy c.args.dst.now c.loop-i.dst c.args.src.now c.loop-i.i _ c.loop-i.invariant.copied (omega arith) (omega arith) c.from.ensures;
-}
+pub returns-else-front-src-clause-found : goal.returns-else-front-src-clause-found
+returns-else-front-src-clause-found c =
+    let ascii = c.widen_ascii-front.ensures.ascii (c.widen_ascii-by_strides.ensures.ascii (c.widen_ascii-by_blocks.ensures.ascii (λ k l. absurd (omega arith)))) in
+    IsAscii-through c.args.src.now (length c.args.dst.now) c.widen_ascii-front.result ascii (omega (arith, length-take (length c.args.dst.now) c.args.src.now, c.else-front-src.either))
