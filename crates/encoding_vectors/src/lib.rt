@@ -28,6 +28,8 @@ mod held_unit_rows;
 #[cfg(test)]
 mod latin1_rows;
 #[cfg(test)]
+mod long_streams;
+#[cfg(test)]
 mod mixed_text;
 #[cfg(test)]
 mod repair_rows;

@@ -2,4 +2,5 @@
 #![tactic(auto)]
 
 pub mod memory;
+pub mod patterns;
 pub mod streams;

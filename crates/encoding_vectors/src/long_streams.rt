@@ -1,0 +1,102 @@
+//! Long input, past each round and each power of two: streams of a pattern, large pieces, and long results.
+
+use encoding_runs::repair::{RepairFault, Repaired, Sink, Source, Watch, repair, repair_slice};
+use std::alloc::{AllocError, Global};
+use std::io::ErrorKind;
+use std::test::Fail;
+use test_support::patterns::{PATTERN, PatternInput, PatternOutput, REPAIRED};
+
+/// How many bytes the streams give: their end stands behind a broken part.
+const LENGTH: usize = 200_000;
+
+/// How many of their parts are broken.
+const BROKEN: u64 = 15_385;
+
+/// Whether a repair of the whole pattern returns so, with so much of it written and all of it, or less, read.
+fn repairs_to(
+    reader: &mut PatternInput,
+    writer: &mut PatternOutput,
+    outcome: Result<Repaired, RepairFault>,
+    written: usize,
+) -> bool {
+    let returned = repair(
+        &mut Watch::new(&mut *reader),
+        &mut Watch::new(&mut *writer),
+        u64::MAX,
+    );
+    returned == outcome && writer.same && writer.taken == written && writer.asked_behind == 0
+}
+
+#[test]
+fn repairs_a_long_stream(rt: HostRuntime) {
+    let mut reader = PatternInput::of(LENGTH, None);
+    let mut writer = PatternOutput::that_takes(usize::MAX);
+    let outcome = Ok(Repaired {
+        read: LENGTH as u64,
+        replaced: BROKEN,
+    });
+    assert!(rt; repairs_to(&mut reader, &mut writer, outcome, LENGTH));
+    assert!(rt; reader.asked_behind == 1);
+}
+
+/// The beginning of a character at the end is not written.
+#[test]
+fn stops_at_a_late_read_fault(rt: HostRuntime) {
+    for kind in [ErrorKind::Other, ErrorKind::Interrupted] {
+        let mut reader = PatternInput::of(LENGTH, Some(kind));
+        let mut writer = PatternOutput::that_takes(usize::MAX);
+        let stops = repairs_to(&mut reader, &mut writer, Err(RepairFault::Read), LENGTH - 3);
+        assert!(rt; stops && reader.asked_behind == 1);
+    }
+}
+
+/// The writer isn't asked again, and no more than a round was read ahead of it.
+#[test]
+fn stops_at_a_late_write_fault(rt: HostRuntime) {
+    for taken in [
+        0, 1, 1023, 1024, 1025, 65_535, 65_536, 65_537, 131_073, 199_996,
+    ] {
+        let mut reader = PatternInput::of(LENGTH, None);
+        let mut writer = PatternOutput::that_takes(taken);
+        let stops = repairs_to(&mut reader, &mut writer, Err(RepairFault::Write), taken);
+        let ahead = reader.given.saturating_sub(taken);
+        assert!(rt;
+            stops && ahead <= 1027 && reader.asked_behind == 0,
+            "{taken}"
+        );
+    }
+}
+
+/// Returns so many bytes of a pattern.
+fn bytes_of(alloc: Global, pattern: &[u8; 13], length: usize) -> Result<Vec<u8>, AllocError> {
+    let mut bytes = Vec::with_capacity(alloc, length)?;
+    for i in 0..length {
+        bytes.push(pattern[i % 13])?;
+    }
+    Ok(bytes)
+}
+
+#[test]
+fn repairs_a_long_slice(rt: HostRuntime) -> Result<(), Fail> {
+    let bytes = bytes_of(rt.alloc(), &PATTERN, LENGTH)?;
+    let mut writer = PatternOutput::that_takes(usize::MAX);
+    let returned = repair_slice(&bytes, &mut Watch::new(&mut writer));
+    assert!(rt; returned == Ok(BROKEN) && writer.same && writer.taken == LENGTH);
+    Ok(())
+}
+
+/// A piece of 100,000 bytes goes through a watched stream in one call.
+#[test]
+fn watches_a_large_piece(rt: HostRuntime) -> Result<(), Fail> {
+    let bytes = bytes_of(rt.alloc(), &REPAIRED, 100_000)?;
+    let mut writer = PatternOutput::that_takes(usize::MAX);
+    let mut sink = Watch::new(&mut writer);
+    assert!(rt; !bytes.is_empty() && sink.write(&bytes) == Some(100_000) && !sink.failed());
+    assert!(rt; writer.same && writer.taken == 100_000);
+    let mut reader = PatternInput::of(LENGTH, None);
+    let mut source = Watch::new(&mut reader);
+    let mut buffer = bytes_of(rt.alloc(), &REPAIRED, 100_000)?;
+    assert!(rt; source.read(&mut buffer) == Some(100_000) && !source.failed() && !source.ended());
+    assert!(rt; buffer == bytes_of(rt.alloc(), &PATTERN, 100_000)?);
+    Ok(())
+}
