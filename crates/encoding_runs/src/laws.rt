@@ -27,9 +27,9 @@ pub fn law_sequences()
     ensures none_begins_another { (bs rest : List ℕ) → IsSequence bs → IsSequence (bs ++ rest) → rest ≡ [] }
 {}
 
-/// Bytes have exactly one list of parts, whose bytes joined are these bytes. Their settled parts are the first
-/// ones of the bytes with anything behind them, and so the settled text begins the repaired text of these. With U+FFFD for each broken part they are the text that
-/// `String::from_utf8_lossy` makes. Encoding Standard, UTF-8 decoder.
+/// Bytes have exactly one list of parts, whose bytes joined are these bytes. Their settled parts are the first ones of
+/// the bytes with anything behind them, and so the settled text begins the repaired text of these. With U+FFFD for each
+/// broken part they are the text that `String::from_utf8_lossy` makes. Encoding Standard, UTF-8 decoder.
 pub fn law_parts()
     ensures exist { (bs : List ℕ) → (parts : List Part) × ArePartsOf bs parts }
     ensures one { (bs : List ℕ) (parts others : List Part) → ArePartsOf bs parts → ArePartsOf bs others → parts ≡ others }
