@@ -1,2 +1,11 @@
 pub mod RepairLemmas
 pub mod RepeatLemmas
+pub mod EncoderChainLemmas
+pub mod EncoderRunLemmas
+pub mod ChainLemmas
+pub mod RunLemmas
+pub mod TurnLemmas
+pub mod CompletionLemmas
+pub mod BidiLawLemmas
+pub mod CutLemmas
+pub mod MixedLemmas

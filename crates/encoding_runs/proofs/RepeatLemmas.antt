@@ -6,8 +6,9 @@ use Rattle.std.proofs.lemmas.List.{length-append, take-append-drop}
 use Rattle.std.proofs.lemmas.List.Concat.{flat_map-append}
 use Rattle.encoding_text.specs.Fronts.{FitsLongest}
 use Rattle.encoding_text.specs.Utf16.{Part16, units_of, utf8_of, scalar_of, ArePartsOf16, IsUtf8OfLongestFront}
-use Rattle.encoding_text.proofs.CodeUnits.Utf16Lemmas.{parts_unique, rest_parts, none_left, length-units_of, length-utf8_of}
+use Rattle.encoding_text.proofs.CodeUnits.Utf16Lemmas.{parts_unique, rest_parts, none_left}
 use Rattle.encoding_text.proofs.CodeUnits.Utf16LawLemmas.{utf8_of_all}
+use Rattle.encoding_text.proofs.CodeUnits.FirstPartsLemmas.{first_fits}
 use Rattle.encoding_runs.specs.Repeats.{Step, AreRepeated}
 
 repeated : (steps : List Step) (us : List ℕ) (parts : List Part16) → ArePartsOf16 us parts → AreRepeated us steps → flat_map (λ (step : Step). step.out) steps ≡ flat_map utf8_of parts
@@ -24,16 +25,5 @@ repeated (step ∷ steps) us parts a (f, r) =
 pub joined : (us : List ℕ) (parts : List Part16) (steps : List Step) → ArePartsOf16 us parts → AreRepeated us steps → flat_map (λ (step : Step). step.out) steps ≡ encode_utf8_all (map scalar_of parts)
 joined us parts steps a r = repeated steps us parts a r ∙ utf8_of_all parts
 
-first_part : (parts : List Part16) (room read : ℕ) (out : List ℕ) → 0 < length (flat_map units_of parts) → 4 ≤ room → FitsLongest units_of utf8_of parts room read out → 0 < read
-first_part [] room read out s l f = absurd (omega arith)
-first_part (p ∷ parts) room read out s l f = by_count f.count refl
-  where
-    by_count : (n : ℕ) → f.count ≡ n → 0 < read
-    by_count zero e =
-        let one : room < length (flat_map utf8_of (take 1 (p ∷ parts))) = subst (λ n. room < length (flat_map utf8_of (take n (p ∷ parts)))) {x = f.count + 1} {y = 1} (omega (arith, e)) (f.longest (omega (arith, e))) in
-        absurd (omega (arith, one, length-append (utf8_of p) [], (length-utf8_of p).2))
-    by_count (suc n) e =
-        omega (arith, f.taken ∙ ap (λ k. length (flat_map units_of (take k (p ∷ parts)))) e, length-append (units_of p) (flat_map units_of (take n parts)), length-units_of p)
-
 pub progress : (us out : List ℕ) (room read : ℕ) → 0 < length us → 4 ≤ room → IsUtf8OfLongestFront us room read out → 0 < read
-progress us out room read s l f = first_part f.parts room read out (omega (arith, s, ap length f.are_parts.1)) l f.longest
+progress us out room read s l f = first_fits f.parts room read out (omega (arith, s, ap length f.are_parts.1)) l f.longest

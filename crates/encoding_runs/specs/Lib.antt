@@ -1,3 +1,9 @@
 pub mod Repairs
 pub mod Streams
 pub mod Repeats
+pub mod EncoderChains
+pub mod Chains
+pub mod Turns
+pub mod Runs
+pub mod EncoderRuns
+pub mod MixedCalls

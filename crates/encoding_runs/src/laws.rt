@@ -1,15 +1,22 @@
 //! Laws of the definitions: each is the contract of a function that does nothing.
-ghost use Rattle.std.specs.Prelude.{◌≡◌, ℕ, ◌<◌, ◌≤◌, List, [], ◌++◌, encode_utf8, length, map, encode_utf8_all, IsTrue, IsUtf8};
+ghost use Rattle.std.specs.Prelude.{◌≡◌, ◌↔◌, ℕ, ◌+◌, ◌<◌, ◌≤◌, Bool, List, [], ◌∷◌, ◌++◌, Any, encode_utf8, length, map, encode_utf8_all, IsTrue, IsUtf8};
 ghost use Rattle.std.specs.Char.{IsScalar};
 ghost use Rattle.std.specs.List.{flat_map};
 ghost use Rattle.std.specs.Str.Lossy.{utf8_lossy};
 ghost use Rattle.encoding_text.specs.Sequence.{IsSequence};
-ghost use Rattle.encoding_text.specs.Parts.{Part, ArePartsOf, AreSettled, bytes_of, repaired_text};
+ghost use Rattle.encoding_text.specs.Parts.{Part, ArePartsOf, AreSettled, bytes_of, count_broken, repaired_text};
+ghost use Rattle.encoding_text.specs.Pending.{IsPending};
+ghost use Rattle.encoding_text.specs.OneAnswer.{HasOneAnswer, HasOnePiece};
 ghost use Rattle.std.specs.Char.Escape.{encode_utf16};
 ghost use Rattle.std.specs.Char.Utf16.{utf16_lossy_chars};
 ghost use Rattle.std.specs.Str.{all_scalars, chars};
 ghost use Rattle.encoding_text.specs.Utf16.{AreUnits, Part16, Character16, ArePartsOf16, IsUtf8OfLongestFront, scalar_of, utf8_of};
+ghost use Rattle.encoding_text.specs.Encoding.{IsHeld};
+ghost use Rattle.encoding_text.specs.Bidi.{IsRightToLeft, IsBidiBytes, IsBidiUnits};
+ghost use Rattle.encoding_text.specs.Surrogates.{IsValidUtf16, AreRepairedUnits, ChangesLone};
 ghost use Rattle.encoding_runs.specs.Repeats.{Step, AreRepeated};
+ghost use Rattle.encoding_runs.specs.EncoderChains.{EncoderStep, IsEncoderChain, EncodesFirstParts, units_read, output_of, held_after};
+ghost use Rattle.encoding_runs.specs.MixedCalls.{MixedCall, AreMixedCalls, GiveTheParts, AreAskedTheSame, AnswerTheSame};
 
 /// The well-formed sequences are exactly the UTF-8 of the scalar values, one for each, and none begins another.
 /// Unicode Standard, Table 3-7.
@@ -21,7 +28,7 @@ pub fn law_sequences()
 {}
 
 /// Bytes have exactly one list of parts, whose bytes joined are these bytes. Their settled parts are the first
-/// ones of the bytes with anything behind them. With U+FFFD for each broken part they are the text that
+/// ones of the bytes with anything behind them, and so the settled text begins the repaired text of these. With U+FFFD for each broken part they are the text that
 /// `String::from_utf8_lossy` makes. Encoding Standard, UTF-8 decoder.
 pub fn law_parts()
     ensures exist { (bs : List ℕ) → (parts : List Part) × ArePartsOf bs parts }
@@ -30,7 +37,39 @@ pub fn law_parts()
     ensures settled_exist { (bs : List ℕ) → (parts : List Part) × (rest : List ℕ) × AreSettled bs parts rest }
     ensures settled_stay { (bs rest more : List ℕ) (parts all : List Part) → AreSettled bs parts rest
         → ArePartsOf (bs ++ more) all → (others : List Part) × (all ≡ parts ++ others) }
+    ensures settled_text { (bs rest more : List ℕ) (parts all : List Part) → AreSettled bs parts rest
+        → ArePartsOf (bs ++ more) all → (text : List ℕ) × (repaired_text all ≡ repaired_text parts ++ text) }
     ensures lossy { (bs : List ℕ) (parts : List Part) → ArePartsOf bs parts → repaired_text parts ≡ utf8_lossy bs }
+{}
+
+/// Bytes may be cut where the settled parts of the first piece leave no rest: the parts of all of them are those of
+/// the first piece, and then those of the other. So the pieces can be repaired apart: their repaired texts join, and
+/// their broken parts add up. Bytes that end with an ASCII byte leave no rest.
+pub fn law_cuts()
+    ensures parts { (bs more : List ℕ) (parts others all : List Part) → AreSettled bs parts []
+        → ArePartsOf more others → ArePartsOf (bs ++ more) all → all ≡ parts ++ others }
+    ensures texts { (bs more : List ℕ) (parts others all : List Part) → AreSettled bs parts []
+        → ArePartsOf more others → ArePartsOf (bs ++ more) all
+        → repaired_text all ≡ repaired_text parts ++ repaired_text others }
+    ensures counts { (bs more : List ℕ) (parts others all : List Part) → AreSettled bs parts []
+        → ArePartsOf more others → ArePartsOf (bs ++ more) all
+        → count_broken all ≡ count_broken parts + count_broken others }
+    ensures behind_ascii { (bs rest : List ℕ) (b : ℕ) (parts : List Part) → b < 128
+        → AreSettled (bs ++ b ∷ []) parts rest → rest ≡ [] }
+{}
+
+/// For pending bytes, source, mark and, with a destination, its room, each call of a decoder has exactly one answer.
+/// Calls of its three forms may be mixed: over one list of bytes, each handed the unread ones from the first on, they
+/// give in sequence the first parts of what was pending and these bytes, whatever follows them, and all of the parts
+/// once a call marked last returns `InputEmpty`. What a decoder answers depends on its pending bytes alone, so a
+/// neutral one answers every list of calls as a new one does. Encoding Standard, UTF-8 decoder.
+pub fn law_mixed_calls()
+    ensures one_utf16 { (p src : List ℕ) (room : ℕ) (last : Bool) → IsPending p → HasOneAnswer encode_utf16 2 p src room last }
+    ensures one_utf8 { (p src : List ℕ) (room : ℕ) (last : Bool) → IsPending p → HasOneAnswer encode_utf8 4 p src room last }
+    ensures one_piece { (p src : List ℕ) (last : Bool) → IsPending p → HasOnePiece p src last }
+    ensures mixed { (p b : List ℕ) (calls : List MixedCall) → IsPending p → AreMixedCalls p b calls → GiveTheParts p b calls }
+    ensures same { (p b : List ℕ) (calls others : List MixedCall) → AreMixedCalls p b calls → AreMixedCalls p b others
+        → AreAskedTheSame calls others → AnswerTheSame calls others }
 {}
 
 /// UTF-16 code units have exactly one list of parts; counted as U+FFFD, the lone surrogates among them are those of
@@ -47,12 +86,43 @@ pub fn law_utf16_round_trip()
         → ArePartsOf16 (flat_map encode_utf16 (chars bs)) parts → flat_map utf8_of parts ≡ bs }
 {}
 
-/// The longest fitting front, taken again and again on the units that are left until all are read, gives in sequence
-/// the UTF-8 of all the units' scalar values, whatever the rooms; and with a unit unread and four bytes of room at
-/// least one unit is read. Encoding Standard, `encodeInto`.
+/// The longest fitting front, taken again and again on the code units that are left until all are read, gives in
+/// sequence the UTF-8 of all their scalar values, whatever the rooms; and with a code unit unread and four bytes of
+/// room at least one is read. Encoding Standard, `encodeInto`.
 pub fn law_partial_repeats()
     ensures joined { (us : List ℕ) (parts : List Part16) (steps : List Step) → ArePartsOf16 us parts
         → AreRepeated us steps → flat_map (λ step. step.out) steps ≡ encode_utf8_all (map scalar_of parts) }
     ensures progress { (us out : List ℕ) (room read : ℕ) → 0 < length us → 4 ≤ room
         → IsUtf8OfLongestFront us room read out → 0 < read }
+{}
+
+/// Calls of an encoder over one source, each on the unread code units from the first on and from what the one before
+/// left held, write the UTF-8 of the first parts of what was held and of the source, however it is cut and whatever
+/// the rooms. Unicode Standard, section 3.9, UTF-16.
+pub fn law_encoder_cuts()
+    ensures { (held src : List ℕ) (calls : List EncoderStep) → IsHeld held → AreUnits src → IsEncoderChain held src calls
+        → EncodesFirstParts held src calls (units_read calls) (output_of calls) (held_after held calls) }
+{}
+
+/// Scalar values, their UTF-8 and their UTF-16 agree on whether one of them is right-to-left.
+pub fn law_bidi_agrees()
+    ensures utf8 { (cs : List ℕ) → IsTrue (all_scalars cs) → Any IsRightToLeft cs ↔ IsBidiBytes (encode_utf8_all cs) }
+    ensures utf16 { (cs : List ℕ) → IsTrue (all_scalars cs) → Any IsRightToLeft cs ↔ IsBidiUnits (flat_map encode_utf16 cs) }
+{}
+
+/// UTF-16 code units have exactly one list of repaired units. It has U+FFFD at the place of each lone surrogate, and at
+/// all other places, which are as many, what was there. It has no lone surrogate, repaired again it is the same, and
+/// its parts count as the scalar values that the old parts count as: those of std's lossy decoding. Valid code units
+/// stay as they are. Unicode Standard, section 3.9, UTF-16.
+pub fn law_surrogate_repair()
+    ensures exist { (us : List ℕ) → AreUnits us → (new : List ℕ) × AreRepairedUnits us new }
+    ensures one { (old new other : List ℕ) → AreRepairedUnits old new → AreRepairedUnits old other → new ≡ other }
+    ensures places { (old new : List ℕ) → AreRepairedUnits old new → ChangesLone old new }
+    ensures valid { (old new : List ℕ) → AreRepairedUnits old new → IsValidUtf16 new }
+    ensures twice { (old new again : List ℕ) → AreRepairedUnits old new → AreRepairedUnits new again → again ≡ new }
+    ensures counts { (old new : List ℕ) (parts others : List Part16) → AreRepairedUnits old new → ArePartsOf16 old parts
+        → ArePartsOf16 new others → map scalar_of others ≡ map scalar_of parts }
+    ensures lossy { (old new : List ℕ) (parts : List Part16) → AreRepairedUnits old new → ArePartsOf16 new parts
+        → map scalar_of parts ≡ utf16_lossy_chars old }
+    ensures stays { (old new : List ℕ) → IsValidUtf16 old → AreRepairedUnits old new → new ≡ old }
 {}

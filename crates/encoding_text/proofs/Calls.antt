@@ -3,6 +3,8 @@ pub mod CallLemmas
 pub mod DecodeLemmas
 pub mod RoomLemmas
 pub mod CallPartsLemmas
+pub mod BorrowedLemmas
 pub mod RepairingLemmas
 pub mod HasAnswerLemmas
 pub mod OneAnswerLemmas
+pub mod OnePieceLemmas

@@ -4,3 +4,4 @@ pub mod LongestFronts
 pub mod Calls
 pub mod CodeUnits
 pub mod Latin
+pub mod Bidi

@@ -3,3 +3,4 @@ pub mod FittingLemmas
 pub mod Utf8Lemmas
 pub mod ConvertingLemmas
 pub mod ToUtf16Lemmas
+pub mod ClearingLemmas

@@ -1,13 +1,16 @@
 -- What a conversion and a decode call may answer: Encoding Standard, UTF-8 decoder.
-use Rattle.std.specs.Prelude.{◌≡◌, ◌≢◌, ℕ, ◌+◌, ◌-◌, ◌*◌, ◌<◌, ◌≤◌, Bool, true, List, [], ◌∷◌, ◌++◌, length, take, drop, ◌⊎◌, encode_utf8_all}
-use Rattle.std.specs.Str.{all_scalars}
+use Rattle.std.specs.Prelude.{◌≡◌, ◌≢◌, ℕ, ◌+◌, ◌-◌, ◌*◌, ◌<◌, ◌≤◌, Bool, true, List, [], ◌∷◌, ◌++◌, length, take, drop, ◌⊎◌, encode_utf8, encode_utf8_all}
+use Rattle.std.specs.Str.{all_scalars, IsUtf8}
+use Rattle.std.specs.Char.{IsScalar}
 use Rattle.std.specs.List.{flat_map}
 use Rattle.encoding_text.specs.Sequence.{IsSequence, IsBeginning, BeginsNothing}
 use Rattle.encoding_text.specs.Pending.{IsPending}
-use Rattle.encoding_text.specs.Fronts.{WritesFront}
+use Rattle.encoding_text.specs.Fronts.{IsLongestFront, WritesFront}
 use Rattle.encoding_text.specs.Converting.{FittingBegins}
 use Rattle.encoding_text.specs.declared.decoder.DecoderResult.{DecoderResult}
 use Rattle.encoding_text.specs.declared.decoder.DecoderResult.TheVariants.{InputEmpty, OutputFull, Malformed}
+use Rattle.encoding_text.specs.declared.decoder.Piece.{Piece}
+use Rattle.encoding_text.specs.declared.decoder.Piece.TheVariants as piece
 
 -- x is a broken part, with these bytes unread behind it
 abbrev pub IsBroken : List ℕ → List ℕ → Bool → Type 0
@@ -34,9 +37,26 @@ pub record IsCall {A : Type 0} (encode : ℕ → List A) (need : ℕ) (p src : L
   pub are_scalars : all_scalars scalars ≡ true
   pub out_is : out ≡ flat_map encode scalars
   pub fits : length out ≤ room
+  pub pending_before : IsPending p
   pub pending : IsPending q
   pub answer : Answers encode need p src last result read scalars (room - length out) q
   pub pending_needs_room : p ≢ [] → 0 < read → need ≤ room
+
+-- What a call that hands out parts of its source returns: p is pending before it, and q after it.
+abbrev pub AnswersBorrowed : List ℕ → List ℕ → Bool → Piece → ℕ → List ℕ → Type 0
+AnswersBorrowed p src last (piece.Text t) read q =
+    (p ≡ []) × (q ≡ []) × (0 < read) × (t.now ≡ take read src) × IsLongestFront IsUtf8 src read
+AnswersBorrowed p src last (piece.Char c) read q =
+    (p ≢ []) × (q ≡ []) × (read ≤ length src) × IsScalar c × (p ++ take read src ≡ encode_utf8 c)
+AnswersBorrowed p src last (piece.Malformed k) read q =
+    (read ≤ length src) × (length (p ++ take read src) ≡ k) × (q ≡ []) × IsBroken (p ++ take read src) (drop read src) last
+AnswersBorrowed p src last piece.InputEmpty read q = (read ≡ length src) × (q ≡ p ++ src) × (last ≡ true → q ≡ [])
+
+-- one such call
+pub record IsBorrowedCall (p src : List ℕ) (last : Bool) (returned : Piece) (read : ℕ) (q : List ℕ) : Type 0 where
+  pub pending_before : IsPending p
+  pub pending : IsPending q
+  pub answer : AnswersBorrowed p src last returned read q
 
 -- The numbers of the queries: how long a destination holds all that n bytes, behind so many pending ones, may become.
 abbrev pub utf16_room : ℕ → ℕ → ℕ

@@ -43,6 +43,8 @@ EncoderAnswers held src due left_open taken OutputFull read after =
 
 -- One call from UTF-16: of the parts due of the held unit and the source, the most that fit into the room are written.
 pub record IsEncoderCall (held src : List ℕ) (room : ℕ) (last : Bool) (result : EncoderResult) (read : ℕ) (out after : List ℕ) : Type 0 where
+  pub held_before : IsHeld held
+  pub held_after : IsHeld after
   pub due : List Part16
   pub left_open : List ℕ
   pub taken : ℕ
@@ -68,5 +70,7 @@ TextAnswers held text due out OutputFull read after =
 -- One call from a text: of the characters due the most that fit into the room are written, and read are their bytes
 -- of the text.
 pub record IsEncoderTextCall (held text : List ℕ) (room : ℕ) (result : EncoderResult) (read : ℕ) (out after : List ℕ) : Type 0 where
+  pub held_before : IsHeld held
+  pub held_after : IsHeld after
   pub longest : FitsLongest text_bytes_of utf8_of (due_with_text held text) room read out
   pub answer : TextAnswers held text (due_with_text held text) out result read after

@@ -1,5 +1,5 @@
 -- The one decomposition of UTF-16 code units into characters and lone surrogates: Unicode Standard, section 3.9, UTF-16.
-use Rattle.std.specs.Prelude.{◌≡◌, ℕ, ◌<◌, ◌≤◌, List, [], ◌∷◌, length, take, ◌⊎◌, slice_index, encode_utf8}
+use Rattle.std.specs.Prelude.{◌≡◌, ℕ, ◌<◌, ◌≤◌, List, [], ◌∷◌, ◌++◌, length, take, ◌⊎◌, slice_index, encode_utf8}
 use Rattle.std.specs.Char.{IsScalar}
 use Rattle.std.specs.Char.Escape.{encode_utf16}
 use Rattle.std.specs.List.{flat_map}
@@ -54,6 +54,12 @@ ArePaired (p ∷ q ∷ ps) = IsPart16 p × MayPrecede p q × ArePaired (q ∷ ps
 -- the parts are all of the units
 abbrev pub ArePartsOf16 : List ℕ → List Part16 → Type 0
 ArePartsOf16 us ps = ArePaired ps × (flat_map units_of ps ≡ us)
+
+-- the first parts of the code units, and the rest behind them, whose parts are the others
+pub record StartsWith16 (us : List ℕ) (first : List Part16) (rest : List ℕ) : Type 0 where
+  pub others : List Part16
+  pub whole : ArePartsOf16 us (first ++ others)
+  pub behind : ArePartsOf16 rest others
 
 -- out is the UTF-8 of the first parts of the units, which take the first read units
 pub record IsUtf8OfFront (us : List ℕ) (read : ℕ) (out : List ℕ) : Type 0 where

@@ -60,8 +60,8 @@ pub fn iso_2022_jp_ascii_valid_up_to(bytes: &[u8]) -> usize
     bytes.len()
 }
 
-/// Copies the longest ASCII front, over the shorter length of the two. The answer is the first byte there that isn't
-/// ASCII and its place, or `None`. `dst` is unchanged behind the front.
+/// Copies the longest ASCII front, over the shorter length of the two, and returns the first byte there that isn't
+/// ASCII with its place, or `None`. Behind what is written `dst` is as before.
 pub fn ascii_to_ascii(src: &[u8], dst: &mut [u8]) -> Option<(u8, usize)>
     ensures found { IsFirstOther (take (length dst.old) src.now) result }
     ensures copied { let n = front_length (take (length dst.old) src.now) result in
@@ -78,8 +78,8 @@ pub fn ascii_to_ascii(src: &[u8], dst: &mut [u8]) -> Option<(u8, usize)>
     None
 }
 
-/// Copies the longest ASCII front, each byte as a UTF-16 code unit, over the shorter length of the two. The answer is
-/// the first byte there that isn't ASCII and its place, or `None`. `dst` is unchanged behind the front.
+/// Copies the longest ASCII front, each byte as a UTF-16 code unit, over the shorter length of the two, and returns the
+/// first byte there that isn't ASCII with its place, or `None`. Behind what is written `dst` is as before.
 pub fn ascii_to_basic_latin(src: &[u8], dst: &mut [u16]) -> Option<(u8, usize)>
     ensures found { IsFirstOther (take (length dst.old) src.now) result }
     ensures copied { let n = front_length (take (length dst.old) src.now) result in
@@ -96,8 +96,8 @@ pub fn ascii_to_basic_latin(src: &[u8], dst: &mut [u16]) -> Option<(u8, usize)>
     None
 }
 
-/// Copies the longest ASCII front of UTF-16 code units, each as a byte, over the shorter length of the two. The answer
-/// is the first code unit there that isn't ASCII and its place, or `None`. `dst` is unchanged behind the front.
+/// Copies the longest ASCII front of UTF-16 code units, each as a byte, over the shorter length of the two, and returns
+/// the first code unit there that isn't ASCII with its place, or `None`. Behind what is written `dst` is as before.
 pub fn basic_latin_to_ascii(src: &[u16], dst: &mut [u8]) -> Option<(u16, usize)>
     ensures found { IsFirstOther (take (length dst.old) src.now) result }
     ensures copied { let n = front_length (take (length dst.old) src.now) result in

@@ -1,8 +1,9 @@
 //! The text encodings of the Unicode and Encoding Standards, kernel by kernel: each public call says by its
-//! contract exactly what it reads, what it writes and what it answers.
+//! contract exactly what it reads, what it writes and what it returns.
 #![tactic(auto)]
 
 pub mod ascii;
 pub mod decoder;
 pub mod mem;
+mod sequence;
 pub mod utf_8;

@@ -1,12 +1,20 @@
 //! Checks and conversions of text that lies in memory as a whole: ASCII, Latin1, UTF-8 and UTF-16.
 
+mod bidi;
 mod borrowed;
 mod checks;
 mod copies;
 mod from_utf16;
 mod latin1;
+mod surrogates;
+mod text_destinations;
 mod to_utf16;
 
+pub use bidi::{
+    Latin1Bidi, check_str_for_latin1_and_bidi, check_utf8_for_latin1_and_bidi,
+    check_utf16_for_latin1_and_bidi, is_char_bidi, is_str_bidi, is_utf8_bidi, is_utf16_bidi,
+    is_utf16_code_unit_bidi,
+};
 pub use borrowed::{CowBytes, CowStr, decode_latin1, encode_latin1_lossy};
 pub use checks::{
     is_ascii, is_basic_latin, is_str_latin1, is_utf8_latin1, is_utf16_latin1, str_latin1_up_to,
@@ -17,6 +25,11 @@ pub use from_utf16::{convert_utf16_to_utf8, convert_utf16_to_utf8_partial};
 pub use latin1::{
     convert_latin1_to_utf8, convert_latin1_to_utf8_partial, convert_latin1_to_utf16,
     convert_utf8_to_latin1_lossy, convert_utf16_to_latin1_lossy,
+};
+pub use surrogates::{ensure_utf16_validity, utf16_valid_up_to};
+pub use text_destinations::{
+    convert_latin1_to_str, convert_latin1_to_str_partial, convert_utf16_to_str,
+    convert_utf16_to_str_partial,
 };
 pub use to_utf16::{
     convert_str_to_utf16, convert_utf8_to_utf16, convert_utf8_to_utf16_without_replacement,

@@ -1,43 +1,27 @@
 //! Results that borrow where they can, and memory that is refused.
 
 use encoding_text::mem::{CowBytes, CowStr, decode_latin1, encode_latin1_lossy, is_str_latin1};
-use std::alloc::{AllocError, Global};
+use std::alloc::AllocError;
 use std::test::Fail;
+use test_support::memory::exhaust;
 
 #[test]
 fn borrows_ascii(rt: HostRuntime) -> Result<(), Fail> {
-    assert_eq!(rt; decode_latin1(rt.alloc(), b"ab")?, CowStr::Borrowed("ab"));
-    assert_eq!(rt; decode_latin1(rt.alloc(), b"")?, CowStr::Borrowed(""));
+    assert!(rt; decode_latin1(rt.alloc(), b"ab")? == CowStr::Borrowed("ab"));
+    assert!(rt; decode_latin1(rt.alloc(), b"")? == CowStr::Borrowed(""));
     assert!(rt; is_str_latin1("ab"));
-    assert_eq!(rt;
-        encode_latin1_lossy(rt.alloc(), "ab")?,
-        CowBytes::Borrowed(b"ab")
-    );
+    assert!(rt; encode_latin1_lossy(rt.alloc(), "ab")? == CowBytes::Borrowed(b"ab"));
     Ok(())
 }
 
 #[test]
 fn owns_the_rest(rt: HostRuntime) -> Result<(), Fail> {
     let text = decode_latin1(rt.alloc(), &[0x61, 0xE4])?;
-    assert_eq!(rt; text, CowStr::Owned(String::from_str(rt.alloc(), "aä")?));
+    assert!(rt; text == CowStr::Owned(String::from_str(rt.alloc(), "aä")?));
     assert!(rt; is_str_latin1("aä"));
     let bytes = encode_latin1_lossy(rt.alloc(), "aä")?;
-    assert_eq!(rt; bytes, CowBytes::Owned([0x61, 0xE4].to_vec(rt.alloc())?));
+    assert!(rt; bytes == CowBytes::Owned([0x61, 0xE4].to_vec(rt.alloc())?));
     Ok(())
-}
-
-/// Takes memory until none is left, in ever smaller blocks.
-fn exhaust(alloc: Global) -> Result<Vec<Vec<u8>>, AllocError> {
-    let mut held = Vec::with_capacity(alloc, 1_000_000)?;
-    let mut size: usize = 1 << 46;
-    for _ in 0..1_000_000 {
-        match Vec::with_capacity(alloc, size) {
-            Ok(block) => held.push(block)?,
-            Err(_) if size == 1 => break,
-            Err(_) => size /= 2,
-        }
-    }
-    Ok(held)
 }
 
 #[test]
@@ -49,8 +33,8 @@ fn ascii_takes_no_memory(rt: HostRuntime) -> Result<(), Fail> {
     let refused = Vec::<u8>::with_capacity(rt.alloc(), 1).is_err();
     drop(held);
     assert!(rt; refused);
-    assert_eq!(rt; text, Ok(CowStr::Borrowed("ab")));
-    assert_eq!(rt; bytes, Ok(CowBytes::Borrowed(b"ab")));
+    assert!(rt; text == Ok(CowStr::Borrowed("ab")));
+    assert!(rt; bytes == Ok(CowBytes::Borrowed(b"ab")));
     Ok(())
 }
 
@@ -61,14 +45,14 @@ fn the_first_request_is_refused(rt: HostRuntime) -> Result<(), Fail> {
     let text = decode_latin1(rt.alloc(), &[0x61, 0xE4]);
     let bytes = encode_latin1_lossy(rt.alloc(), "aä");
     drop(held);
-    assert_eq!(rt; text, Err(AllocError));
-    assert_eq!(rt; bytes, Err(AllocError));
+    assert!(rt; text == Err(AllocError));
+    assert!(rt; bytes == Err(AllocError));
     Ok(())
 }
 
 /// One block is free, which the one growth takes: a second request is refused.
 #[test]
-fn one_growth_is_made(rt: HostRuntime) -> Result<(), Fail> {
+fn a_text_is_one_growth(rt: HostRuntime) -> Result<(), Fail> {
     let spare = Vec::<u8>::with_capacity(rt.alloc(), 4)?;
     let held = exhaust(rt.alloc())?;
     drop(spare);
@@ -76,11 +60,13 @@ fn one_growth_is_made(rt: HostRuntime) -> Result<(), Fail> {
     let refused = Vec::<u8>::with_capacity(rt.alloc(), 1).is_err();
     drop(held);
     assert!(rt; refused);
-    assert_eq!(rt;
-        text,
-        Ok(CowStr::Owned(String::from_str(rt.alloc(), "aä")?))
-    );
+    assert!(rt; text == Ok(CowStr::Owned(String::from_str(rt.alloc(), "aä")?)));
+    Ok(())
+}
 
+/// The same of bytes.
+#[test]
+fn bytes_are_one_growth(rt: HostRuntime) -> Result<(), Fail> {
     assert!(rt; is_str_latin1("aä"));
     let spare = Vec::<u8>::with_capacity(rt.alloc(), 4)?;
     let held = exhaust(rt.alloc())?;
@@ -89,9 +75,6 @@ fn one_growth_is_made(rt: HostRuntime) -> Result<(), Fail> {
     let refused = Vec::<u8>::with_capacity(rt.alloc(), 1).is_err();
     drop(held);
     assert!(rt; refused);
-    assert_eq!(rt;
-        bytes,
-        Ok(CowBytes::Owned([0x61, 0xE4].to_vec(rt.alloc())?))
-    );
+    assert!(rt; bytes == Ok(CowBytes::Owned([0x61, 0xE4].to_vec(rt.alloc())?)));
     Ok(())
 }

@@ -1,265 +1,256 @@
-//! Single calls of the decoder and their answers, and the queries of buffer lengths.
+//! Single calls of the decoder, and the queries of buffer lengths.
 
-use DecoderResult::{InputEmpty, Malformed, OutputFull};
+use crate::texts::{are_units_written, are_written, bytes_of, field, number_of, units_of};
 use encoding_text::decoder::{DecoderResult, Utf8Decoder};
-use std::process::Abort;
+use std::alloc::Global;
+use std::test::Fail;
 
-/// A call: the source, the room and the mark, then the answer, what is read, and the code units that are written.
-type Call<'a, U> = (&'a [u8], usize, bool, DecoderResult, usize, &'a [U]);
+/// A call of a row: the source, the room and whether it is marked last, then the result and how much is read.
+#[derive(Drop)]
+struct Call {
+    src: Vec<u8>,
+    room: usize,
+    last: bool,
+    result: DecoderResult,
+    read: usize,
+}
 
-/// Makes the calls one after another. Behind what is written each destination is as before.
-fn calls_to_utf16(rt: &impl Abort, decoder: &mut Utf8Decoder, calls: &[Call<'_, u16>]) {
-    for (src, room, last, result, read, out) in calls {
-        let mut dst = [0x71; 8];
-        assert!(rt; *room <= dst.len());
-        let answer = decoder.decode_to_utf16_raw(src, &mut dst[..*room], *last);
-        assert_eq!(rt; answer.0, *result, "{src:?}");
-        assert_eq!(rt; (answer.1, answer.2), (*read, out.len()), "{src:?}");
-        let written = answer.2;
-        assert!(rt; written <= dst.len());
-        assert_eq!(rt; &dst[..written], *out, "{src:?}");
-        assert!(rt; dst[written..].iter().all(|unit| *unit == 0x71));
+fn result_of(field: &str) -> Result<DecoderResult, Fail> {
+    match field {
+        "InputEmpty" => Ok(DecoderResult::InputEmpty),
+        "OutputFull" => Ok(DecoderResult::OutputFull),
+        "Malformed 1" => Ok(DecoderResult::Malformed(1, 0)),
+        "Malformed 2" => Ok(DecoderResult::Malformed(2, 0)),
+        "Malformed 3" => Ok(DecoderResult::Malformed(3, 0)),
+        _ => Err(Fail::from("no result")),
     }
+}
+
+fn call_of(alloc: Global, row: &mut &str) -> Result<Call, Fail> {
+    Ok(Call {
+        src: bytes_of(alloc, field(row))?,
+        room: number_of(field(row))?,
+        last: field(row) == "last",
+        result: result_of(field(row))?,
+        read: number_of(field(row))?,
+    })
+}
+
+/// Whether the call of a row returns so, writes the code units that end the row, and leaves what is behind them.
+fn to_utf16_is(alloc: Global, decoder: &mut Utf8Decoder, row: &str) -> Result<bool, Fail> {
+    let mut row = row;
+    let call = call_of(alloc, &mut row)?;
+    let out = units_of(alloc, row)?;
+    let mut dst = [0x71; 8];
+    let Some(room) = dst.get_mut(..call.room) else {
+        return Ok(false);
+    };
+    let (result, read, written) = decoder.decode_to_utf16_raw(&call.src, room, call.last);
+    Ok(result == call.result && read == call.read && are_units_written(&out, &dst, written))
 }
 
 /// The same to UTF-8.
-fn calls_to_utf8(rt: &impl Abort, decoder: &mut Utf8Decoder, calls: &[Call<'_, u8>]) {
-    for (src, room, last, result, read, out) in calls {
-        let mut dst = [0x71; 16];
-        assert!(rt; *room <= dst.len());
-        let answer = decoder.decode_to_utf8_raw(src, &mut dst[..*room], *last);
-        assert_eq!(rt; answer.0, *result, "{src:?}");
-        assert_eq!(rt; (answer.1, answer.2), (*read, out.len()), "{src:?}");
-        let written = answer.2;
-        assert!(rt; written <= dst.len());
-        assert_eq!(rt; &dst[..written], *out, "{src:?}");
-        assert!(rt; dst[written..].iter().all(|byte| *byte == 0x71));
+fn to_utf8_is(alloc: Global, decoder: &mut Utf8Decoder, row: &str) -> Result<bool, Fail> {
+    let mut row = row;
+    let call = call_of(alloc, &mut row)?;
+    let out = bytes_of(alloc, row)?;
+    let mut dst = [0x71; 16];
+    let Some(room) = dst.get_mut(..call.room) else {
+        return Ok(false);
+    };
+    let (result, read, written) = decoder.decode_to_utf8_raw(&call.src, room, call.last);
+    Ok(result == call.result && read == call.read && are_written(&out, &dst, written))
+}
+
+/// Whether the queries return so: of the length, the most code units, bytes, and bytes with replacements.
+fn queries_are(decoder: &Utf8Decoder, row: &str) -> Result<bool, Fail> {
+    let mut row = row;
+    let length = number_of(field(&mut row))?;
+    Ok(
+        decoder.max_utf16_buffer_length(length) == length_of(field(&mut row))?
+            && decoder.max_utf8_buffer_length_without_replacement(length)
+                == length_of(field(&mut row))?
+            && decoder.max_utf8_buffer_length(length) == length_of(field(&mut row))?,
+    )
+}
+
+fn length_of(field: &str) -> Result<Option<usize>, Fail> {
+    if field == "None" {
+        return Ok(None);
+    }
+    Ok(Some(number_of(field)?))
+}
+
+/// Makes the calls of a table one after another. A row `new` begins a new decoder.
+fn row_holds(alloc: Global, decoder: &mut Utf8Decoder, row: &str) -> Result<bool, Fail> {
+    let mut rest = row;
+    match field(&mut rest) {
+        "new" => {
+            *decoder = Utf8Decoder::new_inner();
+            Ok(true)
+        }
+        "neutral" => Ok(decoder.in_neutral_state()),
+        "pending" => Ok(!decoder.in_neutral_state()),
+        "utf16" => to_utf16_is(alloc, decoder, rest),
+        "utf8" => to_utf8_is(alloc, decoder, rest),
+        "lengths" => queries_are(decoder, rest),
+        _ => Ok(false),
     }
 }
 
+/// Calls: source, room, mark, result, bytes read, code units written. Where bytes stay pending, the next calls show
+/// which. Bytes that begin like a byte order mark are decoded as any others. 6148914691236517205 is a third of `MAX`.
+const ROWS: &str = "\
+new
+utf16 | C3 A4 61 | 1 | more | OutputFull | 2 | 00E4
+neutral
+utf8 | 61 C3 A4 | 2 | more | OutputFull | 1 | 61
+neutral
+utf8 | 61 C3 A4 | 3 | more | InputEmpty | 3 | 61 C3 A4
+neutral
+new
+utf16 | C3 | 1 | more | OutputFull | 0 |
+neutral
+utf16 | C3 | 2 | more | InputEmpty | 1 |
+pending
+utf16 | A4 | 1 | more | OutputFull | 0 |
+pending
+utf16 | A4 | 2 | more | InputEmpty | 1 | 00E4
+neutral
+utf16 | 61 C3 | 2 | more | OutputFull | 1 | 61
+neutral
+utf16 | 61 C3 | 3 | more | InputEmpty | 2 | 61
+pending
+utf16 | A4 | 2 | more | InputEmpty | 1 | 00E4
+neutral
+new
+utf8 | 61 C3 | 4 | more | OutputFull | 1 | 61
+neutral
+utf8 | 61 C3 | 5 | more | InputEmpty | 2 | 61
+pending
+utf8 | A4 | 3 | more | OutputFull | 0 |
+pending
+utf8 | A4 | 4 | more | InputEmpty | 1 | C3 A4
+neutral
+new
+utf16 | 61 C3 | 2 | more | OutputFull | 1 | 61
+neutral
+new
+utf16 | 61 C3 | 3 | more | InputEmpty | 2 | 61
+utf16 | A4 | 2 | more | InputEmpty | 1 | 00E4
+new
+utf16 | 80 | 1 | last | OutputFull | 0 |
+neutral
+utf16 | 80 | 2 | last | Malformed 1 | 1 |
+neutral
+new
+utf16 | F4 8F BF | 4 | more | InputEmpty | 3 |
+pending
+utf16 | FF | 4 | last | Malformed 3 | 0 |
+neutral
+utf16 | FF | 4 | last | Malformed 1 | 1 |
+utf16 |  | 4 | last | InputEmpty | 0 |
+neutral
+new
+utf16 | E0 | 4 | last | Malformed 1 | 1 |
+neutral
+utf16 | E1 | 4 | more | InputEmpty | 1 |
+utf16 | 80 80 | 4 | more | InputEmpty | 2 | 1000
+new
+utf16 | C3 | 4 | last | Malformed 1 | 1 |
+neutral
+utf16 | A4 | 4 | last | Malformed 1 | 1 |
+new
+utf16 | E2 | 2 | more | InputEmpty | 1 |
+utf16 |  | 0 | last | Malformed 1 | 0 |
+neutral
+utf16 | 80 | 1 | last | OutputFull | 0 |
+utf16 | 80 | 2 | last | Malformed 1 | 1 |
+new
+utf16 | EF | 4 | more | InputEmpty | 1 |
+utf16 | BF | 4 | more | InputEmpty | 1 |
+utf16 | BE | 4 | last | InputEmpty | 1 | FFFE
+new
+utf16 | EF | 4 | more | InputEmpty | 1 |
+utf16 | BC | 4 | last | Malformed 2 | 1 |
+new
+utf16 | EF | 4 | last | Malformed 1 | 1 |
+new
+utf16 | E2 98 | 2 | more | InputEmpty | 2 |
+lengths | 10 | 13 | 15 | 39
+utf16 | 83 | 2 | more | InputEmpty | 1 | 2603
+new
+lengths | MAX - 1 | MAX | None | None
+lengths | MAX | None | None | None
+lengths | MAX - 3 | MAX - 2 | MAX | None
+lengths | MAX - 2 | MAX - 1 | None | None
+lengths | 6148914691236517204 | 6148914691236517205 | 6148914691236517207 | MAX
+lengths | 6148914691236517205 | 6148914691236517206 | 6148914691236517208 | None";
+
 #[test]
-fn writes_what_fits(rt: HostRuntime) {
+fn rows_hold(rt: HostRuntime) -> Result<(), Fail> {
     let mut decoder = Utf8Decoder::new_inner();
-    calls_to_utf16(
-        &rt,
-        &mut decoder,
-        &[(&[0xC3, 0xA4, 0x61], 1, false, OutputFull, 2, &[0x00E4])],
-    );
-    assert!(rt; decoder.in_neutral_state());
-    calls_to_utf8(
-        &rt,
-        &mut decoder,
-        &[
-            (&[0x61, 0xC3, 0xA4], 2, false, OutputFull, 1, &[0x61]),
-            (
-                &[0x61, 0xC3, 0xA4],
-                3,
-                false,
-                InputEmpty,
-                3,
-                &[0x61, 0xC3, 0xA4],
-            ),
-        ],
-    );
-    assert!(rt; decoder.in_neutral_state());
+    let mut count = 0u32;
+    for row in ROWS.lines() {
+        assert!(rt; row_holds(rt.alloc(), &mut decoder, row)?, "{row}");
+        count = count.saturating_add(1);
+    }
+    assert!(rt; count == 85);
+    Ok(())
 }
 
-/// A byte that begins a character is read with room for any character alone, and so is the one that completes it.
-#[test]
-fn pending_bytes_wait_for_room(rt: HostRuntime) {
-    let mut decoder = Utf8Decoder::new_inner();
-    calls_to_utf16(
-        &rt,
-        &mut decoder,
-        &[
-            (&[0xC3], 1, false, OutputFull, 0, &[]),
-            (&[0xC3], 2, false, InputEmpty, 1, &[]),
-        ],
-    );
-    assert!(rt; !decoder.in_neutral_state());
-    calls_to_utf16(
-        &rt,
-        &mut decoder,
-        &[
-            (&[0xA4], 1, false, OutputFull, 0, &[]),
-            (&[0xA4], 2, false, InputEmpty, 1, &[0x00E4]),
-            (&[0x61, 0xC3], 2, false, OutputFull, 1, &[0x61]),
-            (&[0x61, 0xC3], 3, false, InputEmpty, 2, &[0x61]),
-        ],
-    );
-    assert!(rt; !decoder.in_neutral_state());
-
-    let mut decoder = Utf8Decoder::new_inner();
-    calls_to_utf8(
-        &rt,
-        &mut decoder,
-        &[
-            (&[0x61, 0xC3], 4, false, OutputFull, 1, &[0x61]),
-            (&[0x61, 0xC3], 5, false, InputEmpty, 2, &[0x61]),
-            (&[0xA4], 3, false, OutputFull, 0, &[]),
-        ],
-    );
-    assert!(rt; !decoder.in_neutral_state());
-}
-
-#[test]
-fn a_byte_that_breaks_is_handed_in_again(rt: HostRuntime) {
-    calls_to_utf16(
-        &rt,
-        &mut Utf8Decoder::new_inner(),
-        &[
-            (&[0xF4, 0x8F, 0xBF], 4, false, InputEmpty, 3, &[]),
-            (&[0xFF], 4, true, Malformed(3, 0), 0, &[]),
-            (&[0xFF], 4, true, Malformed(1, 0), 1, &[]),
-            (&[], 4, true, InputEmpty, 0, &[]),
-        ],
-    );
-}
-
-#[test]
-fn a_report_leaves_a_new_decoder(rt: HostRuntime) {
-    calls_to_utf16(
-        &rt,
-        &mut Utf8Decoder::new_inner(),
-        &[
-            (&[0xE0], 4, true, Malformed(1, 0), 1, &[]),
-            (&[0xE1], 4, false, InputEmpty, 1, &[]),
-            (&[0x80, 0x80], 4, false, InputEmpty, 2, &[0x1000]),
-        ],
-    );
-    calls_to_utf16(
-        &rt,
-        &mut Utf8Decoder::new_inner(),
-        &[
-            (&[0xC3], 4, true, Malformed(1, 0), 1, &[]),
-            (&[0xA4], 4, true, Malformed(1, 0), 1, &[]),
-        ],
-    );
-}
-
-#[test]
-fn the_end_is_reported_without_room(rt: HostRuntime) {
-    calls_to_utf16(
-        &rt,
-        &mut Utf8Decoder::new_inner(),
-        &[
-            (&[0xE2], 2, false, InputEmpty, 1, &[]),
-            (&[], 0, true, Malformed(1, 0), 0, &[]),
-            (&[0x80], 1, true, OutputFull, 0, &[]),
-            (&[0x80], 2, true, Malformed(1, 0), 1, &[]),
-        ],
-    );
-}
-
-/// Bytes that end or begin like a byte order mark are decoded as any others.
-#[test]
-fn byte_order_marks_mean_nothing(rt: HostRuntime) {
-    calls_to_utf16(
-        &rt,
-        &mut Utf8Decoder::new_inner(),
-        &[
-            (&[0xEF], 4, false, InputEmpty, 1, &[]),
-            (&[0xBF], 4, false, InputEmpty, 1, &[]),
-            (&[0xBE], 4, true, InputEmpty, 1, &[0xFFFE]),
-        ],
-    );
-    calls_to_utf16(
-        &rt,
-        &mut Utf8Decoder::new_inner(),
-        &[
-            (&[0xEF], 4, false, InputEmpty, 1, &[]),
-            (&[0xBC], 4, true, Malformed(2, 0), 1, &[]),
-        ],
-    );
-    calls_to_utf16(
-        &rt,
-        &mut Utf8Decoder::new_inner(),
-        &[(&[0xEF], 4, true, Malformed(1, 0), 1, &[])],
-    );
-}
-
-#[test]
-fn queries_count_pending_bytes(rt: HostRuntime) {
-    let mut decoder = Utf8Decoder::new_inner();
-    calls_to_utf16(
-        &rt,
-        &mut decoder,
-        &[(&[0xE2, 0x98], 2, false, InputEmpty, 2, &[])],
-    );
-    assert_eq!(rt; decoder.max_utf16_buffer_length(10), Some(13));
-    assert_eq!(rt;
-        decoder.max_utf8_buffer_length_without_replacement(10),
-        Some(15)
-    );
-    assert_eq!(rt; decoder.max_utf8_buffer_length(10), Some(39));
-}
-
-#[test]
-fn queries_end_at_the_greatest_length(rt: HostRuntime) {
-    let decoder = Utf8Decoder::new_inner();
-    let max = usize::MAX;
-    assert_eq!(rt; decoder.max_utf16_buffer_length(max - 1), Some(max));
-    assert_eq!(rt; decoder.max_utf16_buffer_length(max), None);
-    assert_eq!(rt;
-        decoder.max_utf8_buffer_length_without_replacement(max - 3),
-        Some(max)
-    );
-    assert_eq!(rt;
-        decoder.max_utf8_buffer_length_without_replacement(max - 2),
-        None
-    );
-    assert_eq!(rt;
-        decoder.max_utf8_buffer_length(0x5555_5555_5555_5554),
-        Some(max)
-    );
-    assert_eq!(rt; decoder.max_utf8_buffer_length(0x5555_5555_5555_5555), None);
-}
-
-/// What is left of a queried length is the query's number for the bytes that are left, or more.
+/// Of a queried length three bytes take no code unit, and what is left is the query's number for the last byte.
 #[test]
 fn what_is_left_suffices(rt: HostRuntime) {
     let mut decoder = Utf8Decoder::new_inner();
-    assert_eq!(rt; decoder.max_utf16_buffer_length(4), Some(5));
-    calls_to_utf16(
-        &rt,
-        &mut decoder,
-        &[(&[0xF0, 0x9F, 0x92], 5, false, InputEmpty, 3, &[])],
-    );
-    assert_eq!(rt; decoder.max_utf16_buffer_length(1), Some(5));
-
-    let mut decoder = Utf8Decoder::new_inner();
-    assert_eq!(rt;
-        decoder.max_utf8_buffer_length_without_replacement(2),
-        Some(5)
-    );
-    calls_to_utf8(
-        &rt,
-        &mut decoder,
-        &[(&[0x61, 0xC3], 5, false, InputEmpty, 2, &[0x61])],
-    );
-    assert_eq!(rt;
-        decoder.max_utf8_buffer_length_without_replacement(0),
-        Some(4)
-    );
+    assert!(rt; decoder.max_utf16_buffer_length(4) == Some(5));
+    let mut units = [0x71; 5];
+    let answer = decoder.decode_to_utf16_raw(&[0xF0, 0x9F, 0x92], &mut units, false);
+    assert!(rt; answer == (DecoderResult::InputEmpty, 3, 0) && units == [0x71; 5]);
+    let needed = decoder.max_utf16_buffer_length(1);
+    assert!(rt; needed == Some(5) && needed <= Some(units.len()));
+    let answer = decoder.decode_to_utf16_raw(&[0xA9], &mut units, true);
+    assert!(rt; answer == (DecoderResult::InputEmpty, 1, 2));
+    assert!(rt; units == [0xD83D, 0xDCA9, 0x71, 0x71, 0x71]);
 }
 
-/// Nor does U+FFFD, written behind a report, take too much of it.
+/// Of a queried length `61` takes a byte, and the four that are left are the query's number for no byte more.
+#[test]
+fn what_is_left_of_bytes_suffices(rt: HostRuntime) {
+    let mut decoder = Utf8Decoder::new_inner();
+    assert!(rt; decoder.max_utf8_buffer_length_without_replacement(2) == Some(5));
+    let mut bytes = [0x71; 5];
+    let answer = decoder.decode_to_utf8_raw(&[0x61, 0xC3], &mut bytes, false);
+    assert!(rt; answer == (DecoderResult::InputEmpty, 2, 1));
+    assert!(rt; bytes == [0x61, 0x71, 0x71, 0x71, 0x71]);
+    let needed = decoder.max_utf8_buffer_length_without_replacement(0);
+    assert!(rt; needed == Some(4) && needed <= Some(bytes[1..].len()));
+}
+
+/// U+FFFD, written behind a report, takes three bytes of a queried length, and five are left where three are enough.
 #[test]
 fn a_replacement_leaves_enough_room(rt: HostRuntime) {
     let mut decoder = Utf8Decoder::new_inner();
-    assert_eq!(rt; decoder.max_utf8_buffer_length(2), Some(9));
-    calls_to_utf8(
-        &rt,
-        &mut decoder,
-        &[(&[0x61, 0xFF], 9, true, Malformed(1, 0), 2, &[0x61])],
-    );
-    assert_eq!(rt; decoder.max_utf8_buffer_length(0), Some(3));
+    assert!(rt; decoder.max_utf8_buffer_length(2) == Some(9));
+    let mut bytes = [0x71; 9];
+    let answer = decoder.decode_to_utf8_raw(&[0x61, 0xFF], &mut bytes, true);
+    assert!(rt; answer == (DecoderResult::Malformed(1, 0), 2, 1));
+    bytes[1..4].copy_from_slice(&[0xEF, 0xBF, 0xBD]);
+    assert!(rt; bytes == [0x61, 0xEF, 0xBF, 0xBD, 0x71, 0x71, 0x71, 0x71, 0x71]);
+    let needed = decoder.max_utf8_buffer_length(0);
+    assert!(rt; bytes[4..].len() == 5 && needed == Some(3) && needed <= Some(bytes[4..].len()));
+}
 
-    assert_eq!(rt; decoder.max_utf16_buffer_length(2), Some(3));
-    calls_to_utf16(
-        &rt,
-        &mut decoder,
-        &[(&[0x61, 0xFF], 3, true, Malformed(1, 0), 2, &[0x61])],
-    );
-    assert_eq!(rt; decoder.max_utf16_buffer_length(0), Some(1));
+/// The same in code units, of which U+FFFD takes one, and one is left where one is enough.
+#[test]
+fn a_replacement_unit_leaves_enough_room(rt: HostRuntime) {
+    let mut decoder = Utf8Decoder::new_inner();
+    assert!(rt; decoder.max_utf16_buffer_length(2) == Some(3));
+    let mut units = [0x71; 3];
+    let answer = decoder.decode_to_utf16_raw(&[0x61, 0xFF], &mut units, true);
+    assert!(rt; answer == (DecoderResult::Malformed(1, 0), 2, 1));
+    units[1] = 0xFFFD;
+    assert!(rt; units == [0x61, 0xFFFD, 0x71]);
+    let needed = decoder.max_utf16_buffer_length(0);
+    assert!(rt; needed == Some(1) && needed <= Some(units[2..].len()));
 }

@@ -1,224 +1,190 @@
-// The decoder's vectors: bytes, and the parts that they are. UTF-8 decoder of the Encoding Standard.
-use Part::{Broken, Character};
+//! The decoder's vectors: bytes, and the parts that they are. UTF-8 decoder of the Encoding Standard.
 
-/// A part of bytes: a character, or so many bytes that are none.
-pub enum Part {
+use crate::texts::{bytes_of, field};
+use Expected::{Broken, Character};
+use std::alloc::{AllocError, Global};
+use std::test::Fail;
+
+/// A part that is expected: a character, or so many bytes that are none.
+#[derive(Drop)]
+pub enum Expected {
     Character(char),
     Broken(usize),
 }
 
+/// Bytes and the parts that are expected of them, with the row that they stand in.
+#[derive(Drop)]
 pub struct Vector {
-    pub bytes: &'static [u8],
-    pub parts: &'static [Part],
+    pub row: &'static str,
+    pub bytes: Vec<u8>,
+    pub parts: Vec<Expected>,
 }
 
-pub const VECTORS: [Vector; 52] = [
-    Vector {
-        bytes: &[],
-        parts: &[],
-    },
-    Vector {
-        bytes: &[0xC3, 0xA4],
-        parts: &[Character('\u{E4}')],
-    },
-    Vector {
-        bytes: &[0xE2, 0x98, 0x83],
-        parts: &[Character('\u{2603}')],
-    },
-    Vector {
-        bytes: &[0xF0, 0x9F, 0x92, 0xA9],
-        parts: &[Character('\u{1F4A9}')],
-    },
-    Vector {
-        bytes: &[0xC3],
-        parts: &[Broken(1)],
-    },
-    Vector {
-        bytes: &[0xE2, 0x98],
-        parts: &[Broken(2)],
-    },
-    Vector {
-        bytes: &[0xF0, 0x9F, 0x92],
-        parts: &[Broken(3)],
-    },
-    Vector {
-        bytes: &[0xBF],
-        parts: &[Broken(1)],
-    },
-    Vector {
-        bytes: &[0xBF, 0xBF],
-        parts: &[Broken(1), Broken(1)],
-    },
-    Vector {
-        bytes: &[0xC3, 0xA4, 0x80],
-        parts: &[Character('\u{E4}'), Broken(1)],
-    },
-    Vector {
-        bytes: &[0xC3, 0xA4, 0xBF],
-        parts: &[Character('\u{E4}'), Broken(1)],
-    },
-    Vector {
-        bytes: &[0xE2, 0x98, 0x83, 0x80],
-        parts: &[Character('\u{2603}'), Broken(1)],
-    },
-    Vector {
-        bytes: &[0xE2, 0x98, 0x83, 0xBF],
-        parts: &[Character('\u{2603}'), Broken(1)],
-    },
-    Vector {
-        bytes: &[0xF0, 0x9F, 0x92, 0xA9, 0x80],
-        parts: &[Character('\u{1F4A9}'), Broken(1)],
-    },
-    Vector {
-        bytes: &[0xF0, 0x9F, 0x92, 0xA9, 0xBF],
-        parts: &[Character('\u{1F4A9}'), Broken(1)],
-    },
-    Vector {
-        bytes: &[0x00],
-        parts: &[Character('\u{0}')],
-    },
-    Vector {
-        bytes: &[0xC0, 0x80],
-        parts: &[Broken(1), Broken(1)],
-    },
-    Vector {
-        bytes: &[0xE0, 0x80, 0x80],
-        parts: &[Broken(1), Broken(1), Broken(1)],
-    },
-    Vector {
-        bytes: &[0xF0, 0x80, 0x80, 0x80],
-        parts: &[Broken(1), Broken(1), Broken(1), Broken(1)],
-    },
-    Vector {
-        bytes: &[0xFF],
-        parts: &[Broken(1)],
-    },
-    Vector {
-        bytes: &[0x7F],
-        parts: &[Character('\u{7F}')],
-    },
-    Vector {
-        bytes: &[0xC1, 0xBF],
-        parts: &[Broken(1), Broken(1)],
-    },
-    Vector {
-        bytes: &[0xE0, 0x81, 0xBF],
-        parts: &[Broken(1), Broken(1), Broken(1)],
-    },
-    Vector {
-        bytes: &[0xF0, 0x80, 0x81, 0xBF],
-        parts: &[Broken(1), Broken(1), Broken(1), Broken(1)],
-    },
-    Vector {
-        bytes: &[0x80],
-        parts: &[Broken(1)],
-    },
-    Vector {
-        bytes: &[0x80, 0x80],
-        parts: &[Broken(1), Broken(1)],
-    },
-    Vector {
-        bytes: &[0x80, 0x80, 0x80],
-        parts: &[Broken(1), Broken(1), Broken(1)],
-    },
-    Vector {
-        bytes: &[0x80, 0x80, 0x80, 0x80],
-        parts: &[Broken(1), Broken(1), Broken(1), Broken(1)],
-    },
-    Vector {
-        bytes: &[0xC2, 0x80],
-        parts: &[Character('\u{80}')],
-    },
-    Vector {
-        bytes: &[0xE0, 0x82, 0x80],
-        parts: &[Broken(1), Broken(1), Broken(1)],
-    },
-    Vector {
-        bytes: &[0xF0, 0x80, 0x82, 0x80],
-        parts: &[Broken(1), Broken(1), Broken(1), Broken(1)],
-    },
-    Vector {
-        bytes: &[0xC1, 0x80],
-        parts: &[Broken(1), Broken(1)],
-    },
-    Vector {
-        bytes: &[0xC2, 0x7F],
-        parts: &[Broken(1), Character('\u{7F}')],
-    },
-    Vector {
-        bytes: &[0xDF, 0xBF],
-        parts: &[Character('\u{7FF}')],
-    },
-    Vector {
-        bytes: &[0xE0, 0x9F, 0xBF],
-        parts: &[Broken(1), Broken(1), Broken(1)],
-    },
-    Vector {
-        bytes: &[0xF0, 0x80, 0x9F, 0xBF],
-        parts: &[Broken(1), Broken(1), Broken(1), Broken(1)],
-    },
-    Vector {
-        bytes: &[0xE0, 0xA0, 0x80],
-        parts: &[Character('\u{800}')],
-    },
-    Vector {
-        bytes: &[0xF0, 0x80, 0xA0, 0x80],
-        parts: &[Broken(1), Broken(1), Broken(1), Broken(1)],
-    },
-    Vector {
-        bytes: &[0xED, 0x9F, 0xBF],
-        parts: &[Character('\u{D7FF}')],
-    },
-    Vector {
-        bytes: &[0xF0, 0x8D, 0x9F, 0xBF],
-        parts: &[Broken(1), Broken(1), Broken(1), Broken(1)],
-    },
-    Vector {
-        bytes: &[0xED, 0xA0, 0x80],
-        parts: &[Broken(1), Broken(1), Broken(1)],
-    },
-    Vector {
-        bytes: &[0xF0, 0x8D, 0xA0, 0x80],
-        parts: &[Broken(1), Broken(1), Broken(1), Broken(1)],
-    },
-    Vector {
-        bytes: &[0xED, 0xBF, 0xBF],
-        parts: &[Broken(1), Broken(1), Broken(1)],
-    },
-    Vector {
-        bytes: &[0xF0, 0x8D, 0xBF, 0xBF],
-        parts: &[Broken(1), Broken(1), Broken(1), Broken(1)],
-    },
-    Vector {
-        bytes: &[0xEE, 0x80, 0x80],
-        parts: &[Character('\u{E000}')],
-    },
-    Vector {
-        bytes: &[0xF0, 0x8E, 0x80, 0x80],
-        parts: &[Broken(1), Broken(1), Broken(1), Broken(1)],
-    },
-    Vector {
-        bytes: &[0xEF, 0xBF, 0xBF],
-        parts: &[Character('\u{FFFF}')],
-    },
-    Vector {
-        bytes: &[0xF0, 0x8F, 0xBF, 0xBF],
-        parts: &[Broken(1), Broken(1), Broken(1), Broken(1)],
-    },
-    Vector {
-        bytes: &[0xF0, 0x90, 0x80, 0x80],
-        parts: &[Character('\u{10000}')],
-    },
-    Vector {
-        bytes: &[0xF4, 0x8F, 0xBF, 0xBF],
-        parts: &[Character('\u{10FFFF}')],
-    },
-    Vector {
-        bytes: &[0xF4, 0x90, 0x80, 0x80],
-        parts: &[Broken(1), Broken(1), Broken(1), Broken(1)],
-    },
-    Vector {
-        bytes: &[0xF4, 0x8F, 0xBF, 0xFF],
-        parts: &[Broken(3), Broken(1)],
-    },
-];
+/// What decoding delivers: the code units, and for each report how many of them stood before it, and its length.
+pub type Delivered<U> = (Vec<U>, Vec<(usize, usize)>);
+
+/// Bytes and their parts: characters by their scalar values, and `?` with the length of what is none.
+const ROWS: &str = "\
+|
+C3 A4 | U+00E4
+E2 98 83 | U+2603
+F0 9F 92 A9 | U+1F4A9
+C3 | ?1
+E2 98 | ?2
+F0 9F 92 | ?3
+BF | ?1
+BF BF | ?1 ?1
+C3 A4 80 | U+00E4 ?1
+C3 A4 BF | U+00E4 ?1
+E2 98 83 80 | U+2603 ?1
+E2 98 83 BF | U+2603 ?1
+F0 9F 92 A9 80 | U+1F4A9 ?1
+F0 9F 92 A9 BF | U+1F4A9 ?1
+00 | U+0000
+C0 80 | ?1 ?1
+E0 80 80 | ?1 ?1 ?1
+F0 80 80 80 | ?1 ?1 ?1 ?1
+FF | ?1
+7F | U+007F
+C1 BF | ?1 ?1
+E0 81 BF | ?1 ?1 ?1
+F0 80 81 BF | ?1 ?1 ?1 ?1
+80 | ?1
+80 80 | ?1 ?1
+80 80 80 | ?1 ?1 ?1
+80 80 80 80 | ?1 ?1 ?1 ?1
+C2 80 | U+0080
+E0 82 80 | ?1 ?1 ?1
+F0 80 82 80 | ?1 ?1 ?1 ?1
+C1 80 | ?1 ?1
+C2 7F | ?1 U+007F
+DF BF | U+07FF
+E0 9F BF | ?1 ?1 ?1
+F0 80 9F BF | ?1 ?1 ?1 ?1
+E0 A0 80 | U+0800
+F0 80 A0 80 | ?1 ?1 ?1 ?1
+ED 9F BF | U+D7FF
+F0 8D 9F BF | ?1 ?1 ?1 ?1
+ED A0 80 | ?1 ?1 ?1
+F0 8D A0 80 | ?1 ?1 ?1 ?1
+ED BF BF | ?1 ?1 ?1
+F0 8D BF BF | ?1 ?1 ?1 ?1
+EE 80 80 | U+E000
+F0 8E 80 80 | ?1 ?1 ?1 ?1
+EF BF BF | U+FFFF
+F0 8F BF BF | ?1 ?1 ?1 ?1
+F0 90 80 80 | U+10000
+F4 8F BF BF | U+10FFFF
+F4 90 80 80 | ?1 ?1 ?1 ?1
+F4 8F BF FF | ?3 ?1";
+
+/// Returns the vectors: each row with `61` in front, once alone and once with `5A` behind.
+pub fn vectors(alloc: Global) -> Result<Vec<Vector>, Fail> {
+    let mut vectors = Vec::new(alloc);
+    for row in ROWS.lines() {
+        vectors.push(vector_of(alloc, row, b"")?)?;
+        vectors.push(vector_of(alloc, row, b"Z")?)?;
+    }
+    Ok(vectors)
+}
+
+/// Returns the vector of a row, with letters behind it.
+fn vector_of(alloc: Global, row: &'static str, behind: &[u8]) -> Result<Vector, Fail> {
+    let mut rest = row;
+    let mut bytes = Vec::new(alloc);
+    let mut parts = Vec::new(alloc);
+    bytes.push(b'a')?;
+    parts.push(Character('a'))?;
+    bytes.extend_from_slice(&bytes_of(alloc, field(&mut rest))?)?;
+    for word in rest.split_whitespace() {
+        parts.push(part_of(word)?)?;
+    }
+    for letter in behind {
+        bytes.push(*letter)?;
+        parts.push(Character(char::from(*letter)))?;
+    }
+    Ok(Vector { row, bytes, parts })
+}
+
+/// Returns the part that a word names.
+fn part_of(word: &str) -> Result<Expected, Fail> {
+    match word {
+        "?1" => Ok(Broken(1)),
+        "?2" => Ok(Broken(2)),
+        "?3" => Ok(Broken(3)),
+        _ => Ok(Character(scalar_of(word)?)),
+    }
+}
+
+/// Returns the scalar value that a word such as `U+00E4` names.
+pub fn scalar_of(word: &str) -> Result<char, Fail> {
+    let digits = word.strip_prefix("U+").ok_or("no scalar value")?;
+    Ok(char::from_u32(u32::from_str_radix(digits, 16)?).ok_or("no scalar value")?)
+}
+
+/// Returns the repaired text: the characters, and U+FFFD for each broken part.
+pub fn repaired_text(alloc: Global, vector: &Vector) -> Result<Vec<u8>, AllocError> {
+    let mut text = Vec::new(alloc);
+    for part in &vector.parts {
+        match part {
+            Character(scalar) => {
+                text.extend_from_slice(scalar.encode_utf8(&mut [0; 4]).as_bytes())?;
+            }
+            Broken(_) => text.extend_from_slice(&[0xEF, 0xBF, 0xBD])?,
+        }
+    }
+    Ok(text)
+}
+
+/// Returns what decoding to UTF-16 is to deliver.
+pub fn delivered_utf16(alloc: Global, vector: &Vector) -> Result<Delivered<u16>, AllocError> {
+    let mut units = Vec::new(alloc);
+    let mut reports = Vec::new(alloc);
+    for part in &vector.parts {
+        match part {
+            Character(scalar) => {
+                units.extend_from_slice(scalar.encode_utf16(&mut [0; 2]))?;
+            }
+            Broken(length) => reports.push((units.len(), *length))?,
+        }
+    }
+    Ok((units, reports))
+}
+
+/// Returns what decoding to UTF-8 is to deliver.
+pub fn delivered_utf8(alloc: Global, vector: &Vector) -> Result<Delivered<u8>, AllocError> {
+    let mut bytes = Vec::new(alloc);
+    let mut reports = Vec::new(alloc);
+    for part in &vector.parts {
+        match part {
+            Character(scalar) => {
+                bytes.extend_from_slice(scalar.encode_utf8(&mut [0; 4]).as_bytes())?;
+            }
+            Broken(length) => reports.push((bytes.len(), *length))?,
+        }
+    }
+    Ok((bytes, reports))
+}
+
+/// Returns how many bytes a part takes.
+pub fn length_of(part: &Expected) -> usize {
+    match part {
+        Character(scalar) => scalar.len_utf8(),
+        Broken(length) => *length,
+    }
+}
+
+/// The parts of a vector take its bytes, each once.
+#[test]
+fn parts_take_all_bytes(rt: HostRuntime) -> Result<(), Fail> {
+    let vectors = vectors(rt.alloc())?;
+    for vector in &vectors {
+        let mut length = 0usize;
+        for part in &vector.parts {
+            length = length.saturating_add(length_of(part));
+        }
+        assert!(rt; length == vector.bytes.len(), "{}", vector.row);
+    }
+    assert!(rt; vectors.len() == 104);
+    Ok(())
+}

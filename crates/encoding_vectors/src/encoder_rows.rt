@@ -1,269 +1,137 @@
-// The encoder while it holds nothing: vectors and limits.
+//! The encoder while it holds nothing: vectors and limits.
+
+use crate::encoder_vectors::{Source, holds, limits, vectors};
+use crate::texts::are_written;
 use encoding_text::utf_8::{EncoderResult, Utf8Encoder};
+use std::test::Fail;
 
-// UTF-16 and its UTF-8
-const VECTORS: [(&'static [u16], &'static [u8]); 16] = [
-    (&[], &[]),
-    (&[0x0000], &[0x00]),
-    (&[0x007F], &[0x7F]),
-    (&[0x0080], &[0xC2, 0x80]),
-    (&[0x07FF], &[0xDF, 0xBF]),
-    (&[0x0800], &[0xE0, 0xA0, 0x80]),
-    (&[0xD7FF], &[0xED, 0x9F, 0xBF]),
-    (&[0xD800], &[0xEF, 0xBF, 0xBD]),
-    (&[0xD800, 0x0062], &[0xEF, 0xBF, 0xBD, 0x62]),
-    (&[0xDFFF], &[0xEF, 0xBF, 0xBD]),
-    (&[0xDFFF, 0x0062], &[0xEF, 0xBF, 0xBD, 0x62]),
-    (&[0xE000], &[0xEE, 0x80, 0x80]),
-    (&[0xFFFF], &[0xEF, 0xBF, 0xBF]),
-    (&[0xD800, 0xDC00], &[0xF0, 0x90, 0x80, 0x80]),
-    (&[0xDBFF, 0xDFFF], &[0xF4, 0x8F, 0xBF, 0xBF]),
-    (&[0xDC00, 0xDEDE], &[0xEF, 0xBF, 0xBD, 0xEF, 0xBF, 0xBD]),
-];
-
-// UTF-16, its UTF-8, and how many units and bytes all characters but the last have
-const LIMITS: [(&'static [u16], &'static [u8], usize, usize); 34] = [
-    (&[0x0062], &[0x62], 0, 0),
-    (&[0x00A7], &[0xC2, 0xA7], 0, 0),
-    (&[0x2603], &[0xE2, 0x98, 0x83], 0, 0),
-    (&[0xD83D, 0xDCA9], &[0xF0, 0x9F, 0x92, 0xA9], 0, 0),
-    (&[0x0063, 0x0062], &[0x63, 0x62], 1, 1),
-    (&[0x0063, 0x00A7], &[0x63, 0xC2, 0xA7], 1, 1),
-    (&[0x0063, 0x2603], &[0x63, 0xE2, 0x98, 0x83], 1, 1),
-    (
-        &[0x0063, 0xD83D, 0xDCA9],
-        &[0x63, 0xF0, 0x9F, 0x92, 0xA9],
-        1,
-        1,
-    ),
-    (&[0x00B6, 0x0062], &[0xC2, 0xB6, 0x62], 1, 2),
-    (&[0x00B6, 0x00A7], &[0xC2, 0xB6, 0xC2, 0xA7], 1, 2),
-    (&[0x00B6, 0x2603], &[0xC2, 0xB6, 0xE2, 0x98, 0x83], 1, 2),
-    (
-        &[0x00B6, 0xD83D, 0xDCA9],
-        &[0xC2, 0xB6, 0xF0, 0x9F, 0x92, 0xA9],
-        1,
-        2,
-    ),
-    (&[0x263A, 0x0062], &[0xE2, 0x98, 0xBA, 0x62], 1, 3),
-    (&[0x263A, 0x00A7], &[0xE2, 0x98, 0xBA, 0xC2, 0xA7], 1, 3),
-    (
-        &[0x263A, 0x2603],
-        &[0xE2, 0x98, 0xBA, 0xE2, 0x98, 0x83],
-        1,
-        3,
-    ),
-    (
-        &[0x263A, 0xD83D, 0xDCA9],
-        &[0xE2, 0x98, 0xBA, 0xF0, 0x9F, 0x92, 0xA9],
-        1,
-        3,
-    ),
-    (
-        &[0xD83D, 0xDE0E, 0x0062],
-        &[0xF0, 0x9F, 0x98, 0x8E, 0x62],
-        2,
-        4,
-    ),
-    (
-        &[0xD83D, 0xDE0E, 0x00A7],
-        &[0xF0, 0x9F, 0x98, 0x8E, 0xC2, 0xA7],
-        2,
-        4,
-    ),
-    (
-        &[0xD83D, 0xDE0E, 0x2603],
-        &[0xF0, 0x9F, 0x98, 0x8E, 0xE2, 0x98, 0x83],
-        2,
-        4,
-    ),
-    (
-        &[0xD83D, 0xDE0E, 0xD83D, 0xDCA9],
-        &[0xF0, 0x9F, 0x98, 0x8E, 0xF0, 0x9F, 0x92, 0xA9],
-        2,
-        4,
-    ),
-    (
-        &[0x0063, 0x00B6, 0x0062, 0x0062],
-        &[0x63, 0xC2, 0xB6, 0x62, 0x62],
-        3,
-        4,
-    ),
-    (
-        &[0x0063, 0x00B6, 0x0062, 0x0062, 0x0062],
-        &[0x63, 0xC2, 0xB6, 0x62, 0x62, 0x62],
-        4,
-        5,
-    ),
-    (
-        &[0x263A, 0x0062, 0x0062],
-        &[0xE2, 0x98, 0xBA, 0x62, 0x62],
-        2,
-        4,
-    ),
-    (
-        &[0x263A, 0x0062, 0x0062, 0x0062],
-        &[0xE2, 0x98, 0xBA, 0x62, 0x62, 0x62],
-        3,
-        5,
-    ),
-    (
-        &[0x0063, 0x00B6, 0x00A7],
-        &[0x63, 0xC2, 0xB6, 0xC2, 0xA7],
-        2,
-        3,
-    ),
-    (
-        &[0x0063, 0x00B6, 0x00A7, 0x0062],
-        &[0x63, 0xC2, 0xB6, 0xC2, 0xA7, 0x62],
-        3,
-        5,
-    ),
-    (
-        &[0x263A, 0x00A7, 0x0062],
-        &[0xE2, 0x98, 0xBA, 0xC2, 0xA7, 0x62],
-        2,
-        5,
-    ),
-    (
-        &[0x0063, 0x00B6, 0x0062, 0x00A7],
-        &[0x63, 0xC2, 0xB6, 0x62, 0xC2, 0xA7],
-        3,
-        4,
-    ),
-    (
-        &[0x263A, 0x0062, 0x00A7],
-        &[0xE2, 0x98, 0xBA, 0x62, 0xC2, 0xA7],
-        2,
-        4,
-    ),
-    (
-        &[0x0063, 0x00B6, 0x2603],
-        &[0x63, 0xC2, 0xB6, 0xE2, 0x98, 0x83],
-        2,
-        3,
-    ),
-    (
-        &[0x0063, 0x00B6, 0xD83D],
-        &[0x63, 0xC2, 0xB6, 0xEF, 0xBF, 0xBD],
-        2,
-        3,
-    ),
-    (
-        &[0x263A, 0xD83D],
-        &[0xE2, 0x98, 0xBA, 0xEF, 0xBF, 0xBD],
-        1,
-        3,
-    ),
-    (
-        &[0x0063, 0x00B6, 0xDCA9],
-        &[0x63, 0xC2, 0xB6, 0xEF, 0xBF, 0xBD],
-        2,
-        3,
-    ),
-    (
-        &[0x263A, 0xDCA9],
-        &[0xE2, 0x98, 0xBA, 0xEF, 0xBF, 0xBD],
-        1,
-        3,
-    ),
-];
-
-#[test]
-fn vectors(rt: HostRuntime) {
-    for row in &VECTORS {
-        let (units, bytes) = row;
-        let mut dst = [0; 64];
-        let mut encoder = Utf8Encoder::new_inner();
-        let (result, read, written) = encoder.encode_from_utf16_raw(units, &mut dst, true);
-        assert_eq!(rt; result, EncoderResult::InputEmpty);
-        assert_eq!(rt; read, units.len());
-        assert_eq!(rt; dst[..written], **bytes);
-    }
+/// Whether a new encoder reads all units of a source, writes these bytes with ample room, and holds this then.
+fn encodes(source: &Source, last: bool, bytes: &[u8], held: &str) -> bool {
+    let mut encoder = Utf8Encoder::new_inner();
+    let mut dst = [0x71; 64];
+    let (result, read, written) = encoder.encode_from_utf16_raw(&source.units, &mut dst, last);
+    result == EncoderResult::InputEmpty
+        && read == source.units.len()
+        && are_written(bytes, &dst, written)
+        && holds(encoder, held)
 }
 
-// each source into exactly its size
+/// Marked last or not the same is written, but for a high surrogate that ends a call not marked last.
 #[test]
-fn limits_exact(rt: HostRuntime) {
-    for row in &LIMITS {
-        let (units, bytes, ..) = row;
-        let mut dst = [0; 64];
-        assert!(rt; bytes.len() <= 64);
-        let mut encoder = Utf8Encoder::new_inner();
-        let (result, read, written) = encoder.encode_from_utf16_raw(
-            units,
-            &mut dst[..bytes.len()],
-            true,
+fn encodes_vectors(rt: HostRuntime) -> Result<(), Fail> {
+    let vectors = vectors(rt.alloc())?;
+    for source in &vectors {
+        assert!(rt;
+            encodes(source, true, &source.bytes, "none"),
+            "{}",
+            source.row
         );
-        assert_eq!(rt; result, EncoderResult::InputEmpty);
-        assert_eq!(rt; read, units.len());
-        assert_eq!(rt; dst[..written], **bytes);
-    }
-}
-
-// each source into one byte less
-#[test]
-fn limits_one_less(rt: HostRuntime) {
-    for row in &LIMITS {
-        let (units, bytes, front_units, front_bytes) = row;
-        let mut dst = [0; 64];
-        assert!(rt; bytes.len() <= 64 && 0 < bytes.len() && *front_bytes <= bytes.len());
-        let mut encoder = Utf8Encoder::new_inner();
-        let (result, read, written) = encoder.encode_from_utf16_raw(
-            units,
-            &mut dst[..bytes.len() - 1],
-            true,
-        );
-        assert_eq!(rt; result, EncoderResult::OutputFull);
-        assert_eq!(rt; read, *front_units);
-        assert_eq!(rt; written, *front_bytes);
-        assert_eq!(rt; dst[..*front_bytes], bytes[..*front_bytes]);
-    }
-}
-
-// each source into 64 bytes that hold 0, 1, 2 and so on
-#[test]
-fn limits_ample(rt: HostRuntime) {
-    for row in &LIMITS {
-        let (units, bytes, ..) = row;
-        let mut dst = [0; 64];
-        for (i, place) in dst.iter_mut().enumerate() {
-            *place = (i & 0xFF) as u8;
-        }
-        let mut encoder = Utf8Encoder::new_inner();
-        let (result, read, written) = encoder.encode_from_utf16_raw(units, &mut dst, true);
-        assert_eq!(rt; result, EncoderResult::InputEmpty);
-        assert_eq!(rt; read, units.len());
-        assert_eq!(rt; dst[..written], **bytes);
-        for (i, place) in dst.iter().enumerate() {
-            if i >= written {
-                assert_eq!(rt; usize::from(*place), i);
-            }
+        if source.units.as_slice() == [0xD800].as_slice() {
+            assert!(rt; encodes(source, false, &[], "D800"), "{}", source.row);
+        } else {
+            assert!(rt;
+                encodes(source, false, &source.bytes, "none"),
+                "{}",
+                source.row
+            );
         }
     }
+    assert!(rt; vectors.len() == 16);
+    Ok(())
 }
 
-// a query's room is enough for its units
+/// Whether a new encoder writes these bytes of a source into so much room, reads so many units, and holds nothing then.
+fn encodes_into(
+    source: &Source,
+    room: usize,
+    wanted: EncoderResult,
+    units: usize,
+    bytes: usize,
+) -> bool {
+    let mut encoder = Utf8Encoder::new_inner();
+    let mut dst = [0x71; 64];
+    let (Some(room), Some(front)) = (dst.get_mut(..room), source.bytes.get(..bytes)) else {
+        return false;
+    };
+    let (result, read, written) = encoder.encode_from_utf16_raw(&source.units, room, true);
+    result == wanted && read == units && are_written(front, &dst, written) && holds(encoder, "none")
+}
+
+/// Into exactly its size.
+fn fits_exactly(source: &Source) -> bool {
+    let size = source.bytes.len();
+    encodes_into(
+        source,
+        size,
+        EncoderResult::InputEmpty,
+        source.units.len(),
+        size,
+    )
+}
+
+/// Into one byte less all characters but the last are written.
+fn leaves_the_last(source: &Source) -> bool {
+    let room = source.bytes.len().saturating_sub(1);
+    encodes_into(
+        source,
+        room,
+        EncoderResult::OutputFull,
+        source.front_units,
+        source.front_bytes,
+    )
+}
+
+/// Into 64 bytes that hold 0, 1, 2 and so on, which those behind keep.
+fn keeps_what_is_behind(source: &Source) -> bool {
+    let mut dst = [0; 64];
+    for (i, place) in dst.iter_mut().enumerate() {
+        *place = (i & 0xFF) as u8;
+    }
+    let (result, read, written) = Utf8Encoder::new_inner().encode_from_utf16_raw(
+        &source.units,
+        &mut dst,
+        true,
+    );
+    result == EncoderResult::InputEmpty
+        && read == source.units.len()
+        && dst.get(..written) == Some(source.bytes.as_slice())
+        && dst
+            .iter()
+            .enumerate()
+            .skip(written)
+            .all(|(i, place)| usize::from(*place) == i)
+}
+
+#[test]
+fn writes_what_fits(rt: HostRuntime) -> Result<(), Fail> {
+    let limits = limits(rt.alloc())?;
+    for source in &limits {
+        assert!(rt; fits_exactly(source), "{}", source.row);
+        assert!(rt; leaves_the_last(source), "{}", source.row);
+        assert!(rt; keeps_what_is_behind(source), "{}", source.row);
+    }
+    assert!(rt; limits.len() == 34);
+    Ok(())
+}
+
+/// A query's room is enough for its units.
 #[test]
 fn three_bytes_a_unit(rt: HostRuntime) {
     let mut encoder = Utf8Encoder::new_inner();
-    assert_eq!(rt;
-        encoder.max_buffer_length_from_utf16_without_replacement(4),
-        Some(12)
-    );
+    assert!(rt; encoder.max_buffer_length_from_utf16_without_replacement(4) == Some(12));
     let mut dst = [0; 12];
     let answer = encoder.encode_from_utf16_raw(&[0x2C9F, 0x2CA9, 0x2CA3, 0x2C9F], &mut dst, true);
-    assert_eq!(rt; answer, (EncoderResult::InputEmpty, 4, 12));
-    assert_eq!(rt;
-        dst,
-        [
-            0xE2, 0xB2, 0x9F, 0xE2, 0xB2, 0xA9, 0xE2, 0xB2, 0xA3, 0xE2, 0xB2, 0x9F
-        ]
-    );
+    assert!(rt; answer == (EncoderResult::InputEmpty, 4, 12));
+    let bytes = [
+        0xE2, 0xB2, 0x9F, 0xE2, 0xB2, 0xA9, 0xE2, 0xB2, 0xA3, 0xE2, 0xB2, 0x9F,
+    ];
+    assert!(rt; dst == bytes);
 }
 
 #[test]
 fn empty_text(rt: HostRuntime) {
-    let answer = Utf8Encoder::new_inner().encode_from_utf8_raw("", &mut [], true);
-    assert_eq!(rt; answer, (EncoderResult::InputEmpty, 0, 0));
+    for last in [false, true] {
+        let answer = Utf8Encoder::new_inner().encode_from_utf8_raw("", &mut [], last);
+        assert!(rt; answer == (EncoderResult::InputEmpty, 0, 0), "{last}");
+    }
 }

@@ -1,332 +1,144 @@
-// The encoder with and without a held unit: worked rows, and the queries.
-use encoding_text::utf_8::{EncoderResult, Utf8Encoder};
+//! The encoder with and without a held unit: worked rows, and the queries.
 
-// a new encoder, or one that holds D83D
-fn encoder_at(holds: bool) -> Utf8Encoder {
+use crate::encoder_vectors::holds;
+use crate::texts::{are_written, bytes_of, field, number_of, units_of};
+use encoding_text::utf_8::{EncoderResult, Utf8Encoder};
+use std::alloc::Global;
+use std::test::Fail;
+
+/// Returns an encoder that holds what a field says: none, or D83D.
+fn encoder_at(held: &str) -> Utf8Encoder {
     let mut encoder = Utf8Encoder::new_inner();
-    if holds {
+    if held == "D83D" {
         let _ = encoder.encode_from_utf16_raw(&[0xD83D], &mut [], false);
     }
     encoder
 }
 
-// whether what the encoder holds is D83D: its low half then makes a character with it
-fn holds_d83d(mut encoder: Utf8Encoder) -> bool {
-    let mut dst = [0; 4];
-    let (_, _, written) = encoder.encode_from_utf16_raw(&[0xDCA9], &mut dst, true);
-    written == 4 && dst == [0xF0, 0x9F, 0x92, 0xA9]
-}
-
-struct UnitsRow {
-    holds: bool,
-    units: &'static [u16],
-    room: usize,
-    last: bool,
-    full: bool,
-    read: usize,
-    bytes: &'static [u8],
-    holds_after: bool,
-}
-
-const UNITS: [UnitsRow; 15] = [
-    UnitsRow {
-        holds: false,
-        units: &[0x0063, 0xD83D, 0xDCA9],
-        room: 4,
-        last: false,
-        full: true,
-        read: 1,
-        bytes: &[0x63],
-        holds_after: false,
-    },
-    UnitsRow {
-        holds: false,
-        units: &[0x263A, 0xD83D],
-        room: 6,
-        last: true,
-        full: false,
-        read: 2,
-        bytes: &[0xE2, 0x98, 0xBA, 0xEF, 0xBF, 0xBD],
-        holds_after: false,
-    },
-    UnitsRow {
-        holds: false,
-        units: &[0xD83D, 0xDCA9],
-        room: 3,
-        last: false,
-        full: true,
-        read: 0,
-        bytes: &[],
-        holds_after: false,
-    },
-    UnitsRow {
-        holds: false,
-        units: &[0xD83D],
-        room: 0,
-        last: false,
-        full: false,
-        read: 1,
-        bytes: &[],
-        holds_after: true,
-    },
-    UnitsRow {
-        holds: false,
-        units: &[0x0063, 0xD83D],
-        room: 1,
-        last: false,
-        full: false,
-        read: 2,
-        bytes: &[0x63],
-        holds_after: true,
-    },
-    UnitsRow {
-        holds: false,
-        units: &[0x0063, 0xD83D],
-        room: 0,
-        last: false,
-        full: true,
-        read: 0,
-        bytes: &[],
-        holds_after: false,
-    },
-    UnitsRow {
-        holds: false,
-        units: &[0xD83D, 0xDCA9, 0xD83D],
-        room: 3,
-        last: false,
-        full: true,
-        read: 0,
-        bytes: &[],
-        holds_after: false,
-    },
-    UnitsRow {
-        holds: true,
-        units: &[0xDCA9],
-        room: 3,
-        last: true,
-        full: true,
-        read: 0,
-        bytes: &[],
-        holds_after: true,
-    },
-    UnitsRow {
-        holds: true,
-        units: &[0x0062],
-        room: 4,
-        last: false,
-        full: false,
-        read: 1,
-        bytes: &[0xEF, 0xBF, 0xBD, 0x62],
-        holds_after: false,
-    },
-    UnitsRow {
-        holds: true,
-        units: &[0x0062],
-        room: 3,
-        last: false,
-        full: true,
-        read: 0,
-        bytes: &[0xEF, 0xBF, 0xBD],
-        holds_after: false,
-    },
-    UnitsRow {
-        holds: true,
-        units: &[0xD83D],
-        room: 3,
-        last: false,
-        full: false,
-        read: 1,
-        bytes: &[0xEF, 0xBF, 0xBD],
-        holds_after: true,
-    },
-    UnitsRow {
-        holds: true,
-        units: &[],
-        room: 0,
-        last: false,
-        full: false,
-        read: 0,
-        bytes: &[],
-        holds_after: true,
-    },
-    UnitsRow {
-        holds: true,
-        units: &[],
-        room: 2,
-        last: true,
-        full: true,
-        read: 0,
-        bytes: &[],
-        holds_after: true,
-    },
-    UnitsRow {
-        holds: true,
-        units: &[],
-        room: 3,
-        last: true,
-        full: false,
-        read: 0,
-        bytes: &[0xEF, 0xBF, 0xBD],
-        holds_after: false,
-    },
-    UnitsRow {
-        holds: true,
-        units: &[0xDCA9],
-        room: 4,
-        last: true,
-        full: false,
-        read: 1,
-        bytes: &[0xF0, 0x9F, 0x92, 0xA9],
-        holds_after: false,
-    },
-];
-
-#[test]
-fn units_with_and_without_a_held_one(rt: HostRuntime) {
-    for row in &UNITS {
-        let mut dst = [0x71; 64];
-        assert!(rt; row.room <= 64);
-        let mut encoder = encoder_at(row.holds);
-        let (result, read, written) = encoder.encode_from_utf16_raw(
-            row.units,
-            &mut dst[..row.room],
-            row.last,
-        );
-        assert_eq!(rt; result == EncoderResult::OutputFull, row.full);
-        assert_eq!(rt; read, row.read);
-        assert_eq!(rt; dst[..written], *row.bytes);
-        assert!(rt; dst[written..].iter().all(|byte| *byte == 0x71));
-        assert_eq!(rt; holds_d83d(encoder), row.holds_after);
+fn result_of(field: &str) -> Result<EncoderResult, Fail> {
+    match field {
+        "InputEmpty" => Ok(EncoderResult::InputEmpty),
+        "OutputFull" => Ok(EncoderResult::OutputFull),
+        _ => Err(Fail::from("no result")),
     }
 }
 
-struct TextRow {
-    holds: bool,
-    text: &'static str,
-    room: usize,
-    full: bool,
-    read: usize,
-    bytes: &'static [u8],
-    holds_after: bool,
+/// Code units: held before, source, room, mark, result, units read, bytes written, held after.
+const UNITS: &str = "\
+none | 0063 D83D DCA9 | 4 | more | OutputFull | 1 | 63 | none
+none | 0063 D83D DCA9 | 4 | last | OutputFull | 1 | 63 | none
+none | 263A D83D | 6 | last | InputEmpty | 2 | E2 98 BA EF BF BD | none
+none | D83D DCA9 | 3 | more | OutputFull | 0 | | none
+none | D83D DCA9 | 3 | last | OutputFull | 0 | | none
+none | D83D | 0 | more | InputEmpty | 1 | | D83D
+none | 0063 D83D | 1 | more | InputEmpty | 2 | 63 | D83D
+none | 0063 D83D | 0 | more | OutputFull | 0 | | none
+none | D83D DCA9 D83D | 3 | more | OutputFull | 0 | | none
+D83D | DCA9 | 3 | last | OutputFull | 0 | | D83D
+D83D | 0062 | 4 | more | InputEmpty | 1 | EF BF BD 62 | none
+D83D | 0062 | 3 | more | OutputFull | 0 | EF BF BD | none
+D83D | D83D | 3 | more | InputEmpty | 1 | EF BF BD | D83D
+D83D | | 0 | more | InputEmpty | 0 | | D83D
+D83D | | 2 | last | OutputFull | 0 | | D83D
+D83D | | 3 | last | InputEmpty | 0 | EF BF BD | none
+D83D | DCA9 | 4 | last | InputEmpty | 1 | F0 9F 92 A9 | none";
+
+fn units_row_holds(alloc: Global, row: &str) -> Result<bool, Fail> {
+    let mut row = row;
+    let mut encoder = encoder_at(field(&mut row));
+    let units = units_of(alloc, field(&mut row))?;
+    let mut dst = [0x71; 8];
+    let Some(room) = dst.get_mut(..number_of(field(&mut row))?) else {
+        return Ok(false);
+    };
+    let last = field(&mut row) == "last";
+    let (result, read, written) = encoder.encode_from_utf16_raw(&units, room, last);
+    Ok(
+        result == result_of(field(&mut row))?
+            && read == number_of(field(&mut row))?
+            && are_written(&bytes_of(alloc, field(&mut row))?, &dst, written)
+            && holds(encoder, field(&mut row)),
+    )
 }
 
-const TEXTS: [TextRow; 6] = [
-    TextRow {
-        holds: false,
-        text: "aä",
-        room: 2,
-        full: true,
-        read: 1,
-        bytes: &[0x61],
-        holds_after: false,
-    },
-    TextRow {
-        holds: false,
-        text: "aä",
-        room: 3,
-        full: false,
-        read: 3,
-        bytes: &[0x61, 0xC3, 0xA4],
-        holds_after: false,
-    },
-    TextRow {
-        holds: false,
-        text: "aä",
-        room: 0,
-        full: true,
-        read: 0,
-        bytes: &[],
-        holds_after: false,
-    },
-    TextRow {
-        holds: true,
-        text: "a",
-        room: 4,
-        full: false,
-        read: 1,
-        bytes: &[0xEF, 0xBF, 0xBD, 0x61],
-        holds_after: false,
-    },
-    TextRow {
-        holds: true,
-        text: "a",
-        room: 3,
-        full: true,
-        read: 0,
-        bytes: &[0xEF, 0xBF, 0xBD],
-        holds_after: false,
-    },
-    TextRow {
-        holds: true,
-        text: "",
-        room: 2,
-        full: true,
-        read: 0,
-        bytes: &[],
-        holds_after: true,
-    },
-];
-
-// each row marked last and not
 #[test]
-fn texts_with_and_without_a_held_unit(rt: HostRuntime) {
-    for row in &TEXTS {
-        for last in [false, true] {
-            let mut dst = [0x71; 64];
-            assert!(rt; row.room <= 64);
-            let mut encoder = encoder_at(row.holds);
-            let (result, read, written) = encoder.encode_from_utf8_raw(
-                row.text,
-                &mut dst[..row.room],
-                last,
-            );
-            assert_eq!(rt; result == EncoderResult::OutputFull, row.full);
-            assert_eq!(rt; read, row.read);
-            assert_eq!(rt; dst[..written], *row.bytes);
-            assert!(rt; dst[written..].iter().all(|byte| *byte == 0x71));
-            assert_eq!(rt; holds_d83d(encoder), row.holds_after);
-        }
+fn units_with_and_without_a_held_one(rt: HostRuntime) -> Result<(), Fail> {
+    let mut count = 0u32;
+    for row in UNITS.lines() {
+        assert!(rt; units_row_holds(rt.alloc(), row)?, "{row}");
+        count = count.saturating_add(1);
     }
+    assert!(rt; count == 17);
+    Ok(())
 }
 
-// the two halves of a pair in two calls
+/// Texts, each marked last and not: held before, text, room, result, bytes read, bytes written, held after.
+const TEXTS: &str = "\
+none | aä | 2 | OutputFull | 1 | 61 | none
+none | aä | 3 | InputEmpty | 3 | 61 C3 A4 | none
+none | aä | 0 | OutputFull | 0 | | none
+D83D | a | 4 | InputEmpty | 1 | EF BF BD 61 | none
+D83D | a | 3 | OutputFull | 0 | EF BF BD | none
+D83D | | 2 | OutputFull | 0 | | D83D";
+
+fn text_row_holds(alloc: Global, row: &str, last: bool) -> Result<bool, Fail> {
+    let mut row = row;
+    let mut encoder = encoder_at(field(&mut row));
+    let text = field(&mut row);
+    let mut dst = [0x71; 8];
+    let Some(room) = dst.get_mut(..number_of(field(&mut row))?) else {
+        return Ok(false);
+    };
+    let (result, read, written) = encoder.encode_from_utf8_raw(text, room, last);
+    Ok(
+        result == result_of(field(&mut row))?
+            && read == number_of(field(&mut row))?
+            && are_written(&bytes_of(alloc, field(&mut row))?, &dst, written)
+            && holds(encoder, field(&mut row)),
+    )
+}
+
+#[test]
+fn texts_with_and_without_a_held_unit(rt: HostRuntime) -> Result<(), Fail> {
+    let mut count = 0u32;
+    for row in TEXTS.lines() {
+        assert!(rt; text_row_holds(rt.alloc(), row, false)?, "{row}");
+        assert!(rt; text_row_holds(rt.alloc(), row, true)?, "{row}, last");
+        count = count.saturating_add(1);
+    }
+    assert!(rt; count == 6);
+    Ok(())
+}
+
+/// The two halves of a pair in two calls.
 #[test]
 fn a_pair_cut_between_calls(rt: HostRuntime) {
     let mut encoder = Utf8Encoder::new_inner();
     let first = encoder.encode_from_utf16_raw(&[0xD83D], &mut [], false);
-    assert_eq!(rt; first, (EncoderResult::InputEmpty, 1, 0));
+    assert!(rt; first == (EncoderResult::InputEmpty, 1, 0));
     let mut dst = [0; 4];
     let second = encoder.encode_from_utf16_raw(&[0xDCA9], &mut dst, true);
-    assert_eq!(rt; second, (EncoderResult::InputEmpty, 1, 4));
-    assert_eq!(rt; dst, [0xF0, 0x9F, 0x92, 0xA9]);
+    assert!(rt; second == (EncoderResult::InputEmpty, 1, 4));
+    assert!(rt; dst == [0xF0, 0x9F, 0x92, 0xA9]);
+}
+
+/// Whether the queries return so: of the length, the most bytes for so many code units, and for a text of so many bytes.
+fn queries_are(
+    encoder: &Utf8Encoder,
+    length: usize,
+    from_utf16: Option<usize>,
+    from_utf8: Option<usize>,
+) -> bool {
+    encoder.max_buffer_length_from_utf16_without_replacement(length) == from_utf16
+        && encoder.max_buffer_length_from_utf8_without_replacement(length) == from_utf8
 }
 
 #[test]
 fn queries(rt: HostRuntime) {
-    let new = encoder_at(false);
-    assert_eq!(rt;
-        new.max_buffer_length_from_utf16_without_replacement(4),
-        Some(12)
-    );
-    assert_eq!(rt;
-        new.max_buffer_length_from_utf8_without_replacement(4),
-        Some(4)
-    );
-    let holding = encoder_at(true);
-    assert_eq!(rt;
-        holding.max_buffer_length_from_utf16_without_replacement(4),
-        Some(15)
-    );
-    assert_eq!(rt;
-        holding.max_buffer_length_from_utf8_without_replacement(4),
-        Some(7)
-    );
-    assert_eq!(rt;
-        holding.max_buffer_length_from_utf8_without_replacement(usize::MAX - 3),
-        Some(usize::MAX)
-    );
-    assert_eq!(rt;
-        holding.max_buffer_length_from_utf8_without_replacement(usize::MAX - 2),
-        None
-    );
+    let new = encoder_at("none");
+    assert!(rt; queries_are(&new, 4, Some(12), Some(4)));
+    let holding = encoder_at("D83D");
+    assert!(rt; queries_are(&holding, 4, Some(15), Some(7)));
+    assert!(rt; queries_are(&holding, usize::MAX - 3, None, Some(usize::MAX)));
+    assert!(rt; queries_are(&holding, usize::MAX - 2, None, None));
 }

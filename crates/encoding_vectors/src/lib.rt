@@ -4,6 +4,10 @@
 #[cfg(test)]
 mod ascii_rows;
 #[cfg(test)]
+mod bidi_rows;
+#[cfg(test)]
+mod bidi_walks;
+#[cfg(test)]
 mod borrowed_rows;
 #[cfg(test)]
 mod decoder_parts;
@@ -14,14 +18,28 @@ mod decoder_vectors;
 #[cfg(test)]
 mod encoder_rows;
 #[cfg(test)]
+mod encoder_run_rows;
+#[cfg(test)]
+mod encoder_vectors;
+#[cfg(test)]
 mod held_unit_rows;
 #[cfg(test)]
 mod latin1_rows;
 #[cfg(test)]
+mod mixed_text;
+#[cfg(test)]
 mod repair_rows;
 #[cfg(test)]
-mod streams;
+mod run_rows;
+#[cfg(test)]
+mod surrogate_rows;
+#[cfg(test)]
+mod text_destination_rows;
+#[cfg(test)]
+mod texts;
 #[cfg(test)]
 mod to_utf16_rows;
+#[cfg(test)]
+mod unchanged_tails;
 #[cfg(test)]
 mod utf16_rows;

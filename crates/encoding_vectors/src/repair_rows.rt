@@ -1,89 +1,57 @@
-// What `repair_slice`, `utf8_valid_up_to` and `Watch` answer.
-use crate::decoder_vectors::{Part, VECTORS, Vector};
-use crate::streams::{Output, ROOM};
+//! What `repair_slice`, `utf8_valid_up_to` and `Watch` return.
+
+use crate::decoder_vectors::{Expected, Vector, length_of, repaired_text, vectors};
+use crate::texts::{bytes_of, field};
 use encoding_runs::repair::{RepairFault, Sink, Watch, repair_slice};
 use encoding_text::utf_8::utf8_valid_up_to;
-use std::alloc::{AllocError, Global};
+use std::alloc::Global;
 use std::io::ErrorKind;
 use std::test::Fail;
+use test_support::streams::{Output, ROOM};
 
-const REPLACEMENT: [u8; 3] = [0xEF, 0xBF, 0xBD];
-
-/// `61`, the vector's bytes, and what stands behind them.
-fn bytes_of(alloc: Global, vector: &Vector, behind: &[u8]) -> Result<Vec<u8>, AllocError> {
-    let mut bytes = Vec::new(alloc);
-    bytes.push(0x61)?;
-    bytes.extend_from_slice(vector.bytes)?;
-    bytes.extend_from_slice(behind)?;
-    Ok(bytes)
+fn is_broken(part: &Expected) -> bool {
+    matches!(part, Expected::Broken(_))
 }
 
-/// The repaired text of these bytes, by the vector's parts.
-fn text_of(alloc: Global, vector: &Vector, behind: &[u8]) -> Result<Vec<u8>, AllocError> {
-    let mut text = Vec::new(alloc);
-    text.push(0x61)?;
-    for part in vector.parts {
-        match part {
-            Part::Character(scalar) => {
-                let mut sequence = [0; 4];
-                text.extend_from_slice(scalar.encode_utf8(&mut sequence).as_bytes())?;
-            }
-            Part::Broken(_) => text.extend_from_slice(&REPLACEMENT)?,
-        }
-    }
-    text.extend_from_slice(behind)?;
-    Ok(text)
-}
-
-fn count_broken(vector: &Vector) -> u64 {
+/// Returns how many parts are broken.
+fn broken_count(vector: &Vector) -> u64 {
     let mut count = 0u64;
-    for part in vector.parts {
-        if matches!(part, Part::Broken(_)) {
+    for part in &vector.parts {
+        if is_broken(part) {
             count = count.saturating_add(1);
         }
     }
     count
 }
 
-/// The length of the characters before the first broken part, `61` and what stands behind included.
-fn valid_length(vector: &Vector, behind: &[u8]) -> usize {
-    let mut length = 1usize;
-    for part in vector.parts {
-        match part {
-            Part::Character(scalar) => length = length.saturating_add(scalar.len_utf8()),
-            Part::Broken(_) => return length,
+/// Returns the length of the characters before the first broken part.
+fn valid_length(vector: &Vector) -> usize {
+    let mut length = 0usize;
+    for part in &vector.parts {
+        if is_broken(part) {
+            return length;
         }
+        length = length.saturating_add(length_of(part));
     }
-    length.saturating_add(behind.len())
+    length
 }
 
-/// The parts of a vector take its bytes, each once.
-#[test]
-fn parts_take_all_bytes(rt: HostRuntime) {
-    for vector in &VECTORS {
-        let mut length = 0usize;
-        for part in vector.parts {
-            length = length.saturating_add(match part {
-                Part::Character(scalar) => scalar.len_utf8(),
-                Part::Broken(count) => *count,
-            });
-        }
-        assert_eq!(rt; length, vector.bytes.len(), "{:?}", vector.bytes);
-    }
+/// Whether the bytes are repaired to the text, with so many parts replaced, by a writer that takes so many bytes a call.
+fn repairs_to(bytes: &[u8], text: &[u8], replaced: u64, step: usize) -> bool {
+    let mut output = Output::by_steps_of(step);
+    repair_slice(bytes, &mut Watch::new(&mut output)) == Ok(replaced) && output.written() == text
 }
 
 #[test]
 fn repairs_vectors(rt: HostRuntime) -> Result<(), Fail> {
-    for vector in &VECTORS {
-        for behind in [b"".as_slice(), b"Z".as_slice()] {
-            let bytes = bytes_of(rt.alloc(), vector, behind)?;
-            let text = text_of(rt.alloc(), vector, behind)?;
-            for step in [1, 2, ROOM] {
-                let mut output = Output::by_steps_of(step);
-                let answer = repair_slice(&bytes, &mut Watch::new(&mut output));
-                assert_eq!(rt; answer, Ok(count_broken(vector)), "{:?}", vector.bytes);
-                assert_eq!(rt; output.written(), text.as_slice(), "{:?}", vector.bytes);
-            }
+    for vector in &vectors(rt.alloc())? {
+        let text = repaired_text(rt.alloc(), vector)?;
+        for step in [1, 2, ROOM] {
+            assert!(rt;
+                repairs_to(&vector.bytes, &text, broken_count(vector), step),
+                "{}, {step}",
+                vector.row
+            );
         }
     }
     Ok(())
@@ -91,85 +59,102 @@ fn repairs_vectors(rt: HostRuntime) -> Result<(), Fail> {
 
 #[test]
 fn finds_the_end_of_text(rt: HostRuntime) -> Result<(), Fail> {
-    for vector in &VECTORS {
-        for behind in [b"".as_slice(), b"Z".as_slice()] {
-            let bytes = bytes_of(rt.alloc(), vector, behind)?;
-            let length = valid_length(vector, behind);
-            assert_eq!(rt; utf8_valid_up_to(&bytes), length, "{:?}", vector.bytes);
-        }
+    for vector in &vectors(rt.alloc())? {
+        assert!(rt;
+            utf8_valid_up_to(&vector.bytes) == valid_length(vector),
+            "{}",
+            vector.row
+        );
     }
-    assert_eq!(rt; utf8_valid_up_to(&[0x61, 0xE2, 0x98]), 1);
-    assert_eq!(rt; utf8_valid_up_to(&[]), 0);
+    assert!(rt; utf8_valid_up_to(&[0x61, 0xE2, 0x98]) == 1);
+    assert!(rt; utf8_valid_up_to(&[]) == 0);
     Ok(())
 }
 
+/// Bytes, what they are repaired to, and how many parts are replaced.
+const ROWS: &str = "\
+E2 98 83 | E2 98 83 | 0
+61 F0 9F 92 | 61 EF BF BD | 1
+61 E2 98 5A | 61 EF BF BD 5A | 1
+61 E0 80 80 | 61 EF BF BD EF BF BD EF BF BD | 3
+61 C2 7F | 61 EF BF BD 7F | 1
+| | 0";
+
+fn row_holds(alloc: Global, row: &str) -> Result<bool, Fail> {
+    let mut rest = row;
+    let bytes = bytes_of(alloc, field(&mut rest))?;
+    let text = bytes_of(alloc, field(&mut rest))?;
+    let replaced = field(&mut rest).parse::<u64>()?;
+    Ok(repairs_to(&bytes, &text, replaced, ROOM))
+}
+
 #[test]
-fn repairs_rows(rt: HostRuntime) {
-    let rows: [(&[u8], &[u8], u64); 6] = [
-        (&[0xE2, 0x98, 0x83], &[0xE2, 0x98, 0x83], 0),
-        (&[0x61, 0xF0, 0x9F, 0x92], &[0x61, 0xEF, 0xBF, 0xBD], 1),
-        (
-            &[0x61, 0xE2, 0x98, 0x5A],
-            &[0x61, 0xEF, 0xBF, 0xBD, 0x5A],
-            1,
-        ),
-        (
-            &[0x61, 0xE0, 0x80, 0x80],
-            &[0x61, 0xEF, 0xBF, 0xBD, 0xEF, 0xBF, 0xBD, 0xEF, 0xBF, 0xBD],
-            3,
-        ),
-        (&[0x61, 0xC2, 0x7F], &[0x61, 0xEF, 0xBF, 0xBD, 0x7F], 1),
-        (b"", b"", 0),
-    ];
-    for (bytes, text, replaced) in rows {
-        let mut output = Output::by_steps_of(ROOM);
-        let answer = repair_slice(bytes, &mut Watch::new(&mut output));
-        assert_eq!(rt; answer, Ok(replaced), "{bytes:?}");
-        assert_eq!(rt; output.written(), text, "{bytes:?}");
+fn repairs_rows(rt: HostRuntime) -> Result<(), Fail> {
+    let mut count = 0u32;
+    for row in ROWS.lines() {
+        assert!(rt; row_holds(rt.alloc(), row)?, "{row}");
+        count = count.saturating_add(1);
     }
+    assert!(rt; count == 6);
+    Ok(())
+}
+
+/// Bytes, and what they are repaired to.
+const STOPPED: &str = "\
+61 FF | 61 EF BF BD
+61 62 63 | 61 62 63
+E2 98 83 FF | E2 98 83 EF BF BD";
+
+/// Whether the repair stops with a writer that takes so many bytes of the text in all, which has these then.
+fn stops_at(bytes: &[u8], text: &[u8], taken: usize, fault: Option<ErrorKind>) -> bool {
+    let mut output = Output::that_takes(taken, fault);
+    let mut sink = Watch::new(&mut output);
+    let result = repair_slice(bytes, &mut sink);
+    sink.failed()
+        && result == Err(RepairFault::Write)
+        && text.get(..taken) == Some(output.written())
 }
 
 /// A writer that takes so many bytes in all has these, and the repair stops.
 #[test]
-fn stops_where_the_writer_does(rt: HostRuntime) {
-    let rows: [(&[u8], &[u8]); 3] = [
-        (&[0x61, 0xFF], &[0x61, 0xEF, 0xBF, 0xBD]),
-        (b"abc", b"abc"),
-        (
-            &[0xE2, 0x98, 0x83, 0xFF],
-            &[0xE2, 0x98, 0x83, 0xEF, 0xBF, 0xBD],
-        ),
-    ];
-    for (bytes, text) in rows {
+fn stops_where_the_writer_does(rt: HostRuntime) -> Result<(), Fail> {
+    let mut count = 0u32;
+    for row in STOPPED.lines() {
+        let mut rest = row;
+        let bytes = bytes_of(rt.alloc(), field(&mut rest))?;
+        let text = bytes_of(rt.alloc(), field(&mut rest))?;
         for fault in [None, Some(ErrorKind::Other), Some(ErrorKind::Interrupted)] {
             for taken in 0..text.len() {
-                let mut output = Output::that_takes(taken, fault);
-                let mut sink = Watch::new(&mut output);
-                let answer = repair_slice(bytes, &mut sink);
-                assert!(rt; sink.failed());
-                assert_eq!(rt; answer, Err(RepairFault::Write), "{bytes:?}, {taken}");
-                assert_eq!(rt; output.written(), &text[..taken], "{bytes:?}, {taken}");
+                assert!(rt; stops_at(&bytes, &text, taken, fault), "{row}, {taken}");
+                count = count.saturating_add(1);
             }
         }
     }
+    assert!(rt; count == 39);
+    Ok(())
+}
+
+/// Whether a write takes so many bytes, and the sink has failed then exactly where it took none.
+fn writes(sink: &mut Watch<'_, Output>, bytes: &[u8], taken: Option<usize>) -> bool {
+    !bytes.is_empty() && sink.write(bytes) == taken && sink.failed() == taken.is_none()
 }
 
 /// A watched stream is asked at each call, and has failed once it took no byte.
+fn watches_a_fault(fault: Option<ErrorKind>) -> bool {
+    let mut output = Output::that_takes(3, fault);
+    let mut sink = Watch::new(&mut output);
+    !sink.failed()
+        && writes(&mut sink, b"ab", Some(2))
+        && writes(&mut sink, b"cd", Some(1))
+        && writes(&mut sink, b"d", None)
+        && writes(&mut sink, b"d", None)
+        && output.written() == b"abc".as_slice()
+        && output.asked == 4
+}
+
 #[test]
 fn watches(rt: HostRuntime) {
-    for fault in [None, Some(ErrorKind::Other), Some(ErrorKind::Interrupted)] {
-        let mut output = Output::that_takes(3, fault);
-        let mut sink = Watch::new(&mut output);
-        assert!(rt; !sink.failed());
-        assert_eq!(rt; sink.write(b"ab"), Some(2));
-        assert!(rt; !sink.failed());
-        assert_eq!(rt; sink.write(b"cd"), Some(1));
-        assert!(rt; !sink.failed());
-        assert_eq!(rt; sink.write(b"d"), None);
-        assert!(rt; sink.failed());
-        assert_eq!(rt; sink.write(b"d"), None);
-        assert!(rt; sink.failed());
-        assert_eq!(rt; output.written(), b"abc".as_slice());
-        assert_eq!(rt; output.asked, 4);
-    }
+    assert!(rt; watches_a_fault(None));
+    assert!(rt; watches_a_fault(Some(ErrorKind::Other)));
+    assert!(rt; watches_a_fault(Some(ErrorKind::Interrupted)));
 }

@@ -1,90 +1,134 @@
-// UTF-16 to UTF-8 without an encoder: whole, bounded, and the two halves of the bounded conversion.
+//! UTF-16 to UTF-8 without an encoder: whole, bounded, and the two halves of the bounded conversion.
+
+use crate::mixed_text::{BYTES, UNITS};
+use crate::texts::{are_written, bytes_of, field, number_of, units_of};
 use encoding_text::mem::{convert_utf16_to_utf8, convert_utf16_to_utf8_partial};
 use encoding_text::utf_8::{
     convert_utf16_to_utf8_partial_inner, convert_utf16_to_utf8_partial_tail,
 };
-
-// a to u, U+1F4A9, v, U+2603, w, U+00B6, xyzz
-/// A text of characters of one to four bytes.
-pub(crate) const MIXED: [u16; 31] = [
-    0x0061, 0x0062, 0x0063, 0x0064, 0x0065, 0x0066, 0x0067, 0x0068, 0x0069, 0x006A, 0x006B, 0x006C,
-    0x006D, 0x006E, 0x006F, 0x0070, 0x0071, 0x0072, 0x0073, 0x0074, 0x0075, 0xD83D, 0xDCA9, 0x0076,
-    0x2603, 0x0077, 0x00B6, 0x0078, 0x0079, 0x007A, 0x007A,
-];
-
-const MIXED_UTF8: [u8; 36] = [
-    0x61, 0x62, 0x63, 0x64, 0x65, 0x66, 0x67, 0x68, 0x69, 0x6A, 0x6B, 0x6C, 0x6D, 0x6E, 0x6F, 0x70,
-    0x71, 0x72, 0x73, 0x74, 0x75, 0xF0, 0x9F, 0x92, 0xA9, 0x76, 0xE2, 0x98, 0x83, 0x77, 0xC2, 0xB6,
-    0x78, 0x79, 0x7A, 0x7A,
-];
+use std::alloc::Global;
+use std::test::Fail;
 
 #[test]
-fn mixed_whole(rt: HostRuntime) {
-    let mut dst = [0; 94];
-    assert_eq!(rt; convert_utf16_to_utf8(&MIXED, &mut dst), 36);
-    assert_eq!(rt; dst[..36], MIXED_UTF8[..]);
+fn converts_a_text(rt: HostRuntime) {
+    let mut dst = [0x71; 94];
+    let written = convert_utf16_to_utf8(&UNITS, &mut dst);
+    assert!(rt; written == 36 && are_written(&BYTES, &dst, written));
 }
 
 #[test]
-fn mixed_in_two(rt: HostRuntime) {
-    let mut first = [0; 24];
-    assert_eq!(rt; convert_utf16_to_utf8_partial(&MIXED, &mut first), (21, 21));
-    let mut second = [0; 73];
-    assert_eq!(rt; convert_utf16_to_utf8(&MIXED[21..], &mut second), 15);
-    assert_eq!(rt; first[..21], MIXED_UTF8[..21]);
-    assert_eq!(rt; second[..15], MIXED_UTF8[21..]);
+fn converts_a_text_in_two(rt: HostRuntime) {
+    let mut first = [0x71; 24];
+    let answer = convert_utf16_to_utf8_partial(&UNITS, &mut first);
+    assert!(rt; answer == (21, 21) && are_written(&BYTES[..21], &first, 21));
+    let mut second = [0x71; 73];
+    let written = convert_utf16_to_utf8(&UNITS[21..], &mut second);
+    assert!(rt; written == 15 && are_written(&BYTES[21..], &second, written));
 }
 
-// units, room, units read, bytes written
-const TAILS: [(&'static [u16], usize, usize, &'static [u8]); 4] = [
-    (&[0xD83D, 0xDCA9], 3, 0, &[]),
-    (&[0xD83D, 0x0062], 3, 1, &[0xEF, 0xBF, 0xBD]),
-    (&[0x0061, 0x00E4], 2, 1, &[0x61]),
-    (&[0x2603], 2, 0, &[]),
-];
+/// Units, room, units read, bytes written.
+const TAILS: &str = "\
+D83D DCA9 | 3 | 0 |
+D83D 0062 | 3 | 1 | EF BF BD
+0061 00E4 | 2 | 1 | 61
+2603 | 2 | 0 |";
 
-#[test]
-fn tails(rt: HostRuntime) {
-    for row in &TAILS {
-        let (units, room, front, bytes) = row;
-        let mut dst = [0x71; 3];
-        assert!(rt; *room <= 3 && 0 < units.len());
-        let (read, written) = convert_utf16_to_utf8_partial_tail(units, &mut dst[..*room]);
-        assert_eq!(rt; read, *front);
-        assert_eq!(rt; dst[..written], **bytes);
-        assert!(rt; dst[written..].iter().all(|byte| *byte == 0x71));
+fn tail_is(units: &[u16], room: usize, front: usize, bytes: &[u8]) -> bool {
+    if room > 3 || units.is_empty() {
+        return false;
     }
+    let mut dst = [0x71; 3];
+    let (read, written) = convert_utf16_to_utf8_partial_tail(units, &mut dst[..room]);
+    read == front && are_written(bytes, &dst, written)
 }
 
-// sources with characters of each length, cut pairs and pairs at the end
-const SOURCES: [&'static [u16]; 8] = [
-    &[],
-    &[0x0062],
-    &[0x00E4, 0x2603, 0xD83D, 0xDCA9, 0x0062],
-    &[0xD83D, 0xDCA9],
-    &[0xD83D, 0xD83D, 0xDCA9, 0xDCA9],
-    &[0x2603, 0x2603, 0x2603, 0xD83D],
-    &[0xDCA9, 0x0061, 0x0061, 0x0061, 0x0061],
-    &MIXED,
-];
+fn tail_row_holds(alloc: Global, row: &str) -> Result<bool, Fail> {
+    let mut row = row;
+    let units = units_of(alloc, field(&mut row))?;
+    let room = number_of(field(&mut row))?;
+    let front = number_of(field(&mut row))?;
+    Ok(tail_is(&units, room, front, &bytes_of(alloc, row)?))
+}
 
-// Which characters the inner half leaves is open: it writes the bytes of a front of whole characters, and either
-// all is read or at most three bytes are free.
 #[test]
-fn inner_fills_all_but_three_bytes(rt: HostRuntime) {
-    for units in &SOURCES {
-        let mut whole = [0; 128];
-        assert!(rt; 3 * units.len() <= 128);
-        let total = convert_utf16_to_utf8(units, &mut whole);
-        for room in 0..=40 {
-            let mut dst = [0x71; 40];
-            let (read, written) = convert_utf16_to_utf8_partial_inner(units, &mut dst[..room]);
-            assert!(rt; read == units.len() || room <= written + 3);
-            assert_eq!(rt; read == units.len(), written == total);
-            assert_eq!(rt; dst[..written], whole[..written]);
-            assert!(rt; dst[written..].iter().all(|byte| *byte == 0x71));
-            let mut front = [0; 128];
-            assert_eq!(rt; convert_utf16_to_utf8(&units[..read], &mut front), written);
+fn tails(rt: HostRuntime) -> Result<(), Fail> {
+    let mut count = 0u32;
+    for row in TAILS.lines() {
+        assert!(rt; tail_row_holds(rt.alloc(), row)?, "{row}");
+        count = count.saturating_add(1);
+    }
+    assert!(rt; count == 4);
+    Ok(())
+}
+
+/// Sources by their characters: the units of one, and its UTF-8. There are characters of each length, cut pairs, and
+/// pairs at the end.
+const SOURCES: &str = "\
+|
+0062: 62
+00E4: C3 A4 | 2603: E2 98 83 | D83D DCA9: F0 9F 92 A9 | 0062: 62
+D83D DCA9: F0 9F 92 A9
+D83D: EF BF BD | D83D DCA9: F0 9F 92 A9 | DCA9: EF BF BD
+2603: E2 98 83 | 2603: E2 98 83 | 2603: E2 98 83 | D83D: EF BF BD
+DCA9: EF BF BD | 0061: 61 | 0061: 61 | 0061: 61 | 0061: 61
+0061: 61 | 0062: 62 | 0063: 63 | 0064: 64 | 0065: 65 | 0066: 66 | 0067: 67 | 0068: 68 | 0069: 69 | 006A: 6A | \
+006B: 6B | 006C: 6C | 006D: 6D | 006E: 6E | 006F: 6F | 0070: 70 | 0071: 71 | 0072: 72 | 0073: 73 | 0074: 74 | \
+0075: 75 | D83D DCA9: F0 9F 92 A9 | 0076: 76 | 2603: E2 98 83 | 0077: 77 | 00B6: C2 B6 | 0078: 78 | 0079: 79 | \
+007A: 7A | 007A: 7A";
+
+/// A source, its UTF-8, and how many units and bytes each of its fronts of whole characters has.
+#[derive(Drop)]
+struct Source {
+    units: Vec<u16>,
+    bytes: Vec<u8>,
+    fronts: Vec<(usize, usize)>,
+}
+
+fn source_of(alloc: Global, row: &str) -> Result<Source, Fail> {
+    let mut source = Source {
+        units: Vec::new(alloc),
+        bytes: Vec::new(alloc),
+        fronts: Vec::new(alloc),
+    };
+    source.fronts.push((0, 0))?;
+    for character in row.split('|') {
+        if let Some((units, bytes)) = character.split_once(':') {
+            source.units.extend_from_slice(&units_of(alloc, units)?)?;
+            source.bytes.extend_from_slice(&bytes_of(alloc, bytes)?)?;
+            source
+                .fronts
+                .push((source.units.len(), source.bytes.len()))?;
         }
     }
+    Ok(source)
+}
+
+/// Whether the inner half writes a front of whole characters, and reads all or leaves at most three bytes free. Which
+/// characters it leaves is open.
+fn inner_is_right(source: &Source, room: usize) -> bool {
+    let mut dst = [0x71; 40];
+    let Some(part) = dst.get_mut(..room) else {
+        return false;
+    };
+    let (read, written) = convert_utf16_to_utf8_partial_inner(&source.units, part);
+    let Some(front) = source.bytes.get(..written) else {
+        return false;
+    };
+    (read == source.units.len() || room <= written.saturating_add(3))
+        && source.fronts.iter().any(|front| *front == (read, written))
+        && are_written(front, &dst, written)
+}
+
+#[test]
+fn inner_fills_all_but_three_bytes(rt: HostRuntime) -> Result<(), Fail> {
+    let mut count = 0u32;
+    for row in SOURCES.lines() {
+        let source = source_of(rt.alloc(), row)?;
+        for room in 0..=40 {
+            assert!(rt; inner_is_right(&source, room), "{row}, {room}");
+        }
+        count = count.saturating_add(1);
+    }
+    assert!(rt; count == 8);
+    Ok(())
 }

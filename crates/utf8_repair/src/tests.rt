@@ -1,11 +1,10 @@
-// Runs over streams in memory.
-mod streams;
+//! Runs over streams in memory.
 
 use crate::service::serve;
-use std::alloc::{AllocError, Global};
 use std::io::ErrorKind;
 use std::test::Fail;
-use streams::{Endless, Input, Output};
+use test_support::memory::exhaust;
+use test_support::streams::{Endless, Input, Output};
 
 /// What a run reads, what it is to write, and its status.
 struct Row {
@@ -141,20 +140,6 @@ fn reports_flush_faults(rt: HostRuntime) {
         assert_eq!(rt; writer.flushes, 1);
         assert_eq!(rt; errors.written(), WRITE_FAULT);
     }
-}
-
-/// Takes memory until none is left, in ever smaller blocks. The last ones are the smallest.
-fn exhaust(alloc: Global) -> Result<Vec<Vec<u8>>, AllocError> {
-    let mut held = Vec::with_capacity(alloc, 1_000_000)?;
-    let mut size: usize = 1 << 46;
-    for _ in 0..1_000_000 {
-        match Vec::with_capacity(alloc, size) {
-            Ok(block) => held.push(block)?,
-            Err(_) if size == 1 => break,
-            Err(_) => size /= 2,
-        }
-    }
-    Ok(held)
 }
 
 #[test]

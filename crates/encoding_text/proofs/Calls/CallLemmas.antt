@@ -10,7 +10,7 @@ use Rattle.encoding_text.specs.Steps.Ending.{AnswersAllRead, AnswersNoCharacter}
 use Rattle.encoding_text.specs.declared.decoder.DecoderResult.{DecoderResult}
 use Rattle.encoding_text.specs.declared.decoder.DecoderResult.TheVariants.{InputEmpty, OutputFull, Malformed}
 use Rattle.encoding_text.specs.declared.decoder.pending.Resumed.TheVariants.{Ended, Whole, Stuck}
-use Rattle.encoding_text.proofs.Sequences.SequenceLemmas.{HasOpenShape-IsBeginning, IsBeginning-HasOpenShape, length-IsBeginning}
+use Rattle.encoding_text.proofs.Sequences.SequenceLemmas.{length-IsBeginning}
 use Rattle.encoding_text.proofs.Calls.PendingLemmas.{pending_beginning}
 
 -- ---- broken parts
@@ -28,17 +28,17 @@ broken_open x rest last e o l = subst (λ xs. IsBroken x xs last) (sym e) (inr (
 take_one : (r : List ℕ) → 0 < length r → take 1 r ≡ slice_index r 0 ∷ []
 take_one r h = take_more r 0 0 h
 
-out_of_range : (b : ℕ) (rest : List ℕ) → BeginsWithNoCharacter (b ∷ rest) → ((0xC2 ≤ b) × (b ≤ 0xF4) → ⊥) → BeginsNothing b
-out_of_range b rest none n (inl s) = none (b ∷ []) rest refl s
-out_of_range b rest none n (inr o) = n (HasOpenShape-IsBeginning (b ∷ []) o)
+begins_nothing : (b : ℕ) (rest : List ℕ) → BeginsWithNoCharacter (b ∷ rest) → (IsBeginning (b ∷ []) → ⊥) → BeginsNothing b
+begins_nothing b rest none n (inl s) = none (b ∷ []) rest refl s
+begins_nothing b rest none n (inr o) = n o
 
-pub lone_before : (r : List ℕ) (last : Bool) → 0 < length r → BeginsWithNoCharacter r → ((0xC2 ≤ slice_index r 0) × (slice_index r 0 ≤ 0xF4) → ⊥) → IsBroken (take 1 r) (drop 1 r) last
+pub lone_before : (r : List ℕ) (last : Bool) → 0 < length r → BeginsWithNoCharacter r → (IsBeginning (slice_index r 0 ∷ []) → ⊥) → IsBroken (take 1 r) (drop 1 r) last
 lone_before r last h none n =
     let whole : r ≡ slice_index r 0 ∷ drop 1 r = drop_more r 0 0 h in
-    subst (λ xs. IsBroken xs (drop 1 r) last) (sym (take_one r h)) (broken_lone (slice_index r 0) (drop 1 r) last (out_of_range (slice_index r 0) (drop 1 r) (subst BeginsWithNoCharacter whole none) n))
+    subst (λ xs. IsBroken xs (drop 1 r) last) (sym (take_one r h)) (broken_lone (slice_index r 0) (drop 1 r) last (begins_nothing (slice_index r 0) (drop 1 r) (subst BeginsWithNoCharacter whole none) n))
 
-pub begins_before : (r : List ℕ) → 0 < length r → 0xC2 ≤ slice_index r 0 → slice_index r 0 ≤ 0xF4 → IsBeginning (take 1 r)
-begins_before r h l u = subst IsBeginning (sym (take_one r h)) (IsBeginning-HasOpenShape (slice_index r 0 ∷ []) (l, u))
+pub begins_before : (r : List ℕ) → 0 < length r → IsBeginning (slice_index r 0 ∷ []) → IsBeginning (take 1 r)
+begins_before r h o = subst IsBeginning (sym (take_one r h)) o
 
 pub ended_before : (r p q after : List ℕ) (last : Bool) (result : DecoderResult) (read : ℕ) → 0 < length r → p ≡ take 1 r → Resumes p (drop 1 r) Ended read q → AnswersAllRead q last result after
     → AnswersNoCharacter r last result (length r) after

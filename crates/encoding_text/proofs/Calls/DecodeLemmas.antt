@@ -45,6 +45,7 @@ module _ {A : Type 0} (encode : ℕ → List A) (need : ℕ) where
           are_scalars = d.are_scalars;
           out_is = refl;
           fits = omega (arith, d.writes.count, d.writes.fits);
+          pending_before = inl refl;
           pending = inl refl;
           answer = (e, sym (append-nil (encode_utf8_all d.scalars) ∙ d.spelled ∙ whole), λ _. refl, λ n _. absurd (n refl));
           pending_needs_room = λ n _. absurd (n refl);
@@ -61,6 +62,7 @@ module _ {A : Type 0} (encode : ℕ → List A) (need : ℕ) where
       are_scalars = d.are_scalars;
       out_is = refl;
       fits = omega (arith, d.writes.count, d.writes.fits);
+      pending_before = inl refl;
       pending = inl refl;
       answer = (
         let within : read ≤ length src = d.within in omega (arith, n),
@@ -84,6 +86,7 @@ module _ {A : Type 0} (encode : ℕ → List A) (need : ℕ) where
           are_scalars = d.are_scalars;
           out_is = refl;
           fits = omega (arith, d.writes.count, d.writes.fits);
+          pending_before = inl refl;
           pending = inr (subst IsBeginning (sym rest) o);
           answer = (
             omega (arith, all, length-drop read src, within),
@@ -107,6 +110,7 @@ module _ {A : Type 0} (encode : ℕ → List A) (need : ℕ) where
           are_scalars = d.are_scalars;
           out_is = refl;
           fits = omega (arith, d.writes.count, d.writes.fits);
+          pending_before = inl refl;
           pending = inl none;
           answer = (
             take k (drop read src),
@@ -126,9 +130,9 @@ module _ {A : Type 0} (encode : ℕ → List A) (need : ℕ) where
   no_output : (old : List A) → WritesFront old old 0 []
   no_output old = WritesFront-nil old
 
-  pub source_ended : (p src old-src after : List ℕ) (old : List A) (last : Bool) (result : DecoderResult) (read : ℕ) → old-src ≡ p ++ src → read ≡ length src → (0 < length src → need ≤ length old)
+  pub source_ended : (p src old-src after : List ℕ) (old : List A) (last : Bool) (result : DecoderResult) (read : ℕ) → IsBeginning p → old-src ≡ p ++ src → read ≡ length src → (0 < length src → need ≤ length old)
       → AnswersAllRead old-src last result after → Decodes encode need p src old old last result read 0 after
-  source_ended p src held after old last InputEmpty read e all room (same, whole, pending) = (
+  source_ended p src held after old last InputEmpty read b e all room (same, whole, pending) = (
     [],
     no_output old,
     record {
@@ -136,13 +140,14 @@ module _ {A : Type 0} (encode : ℕ → List A) (need : ℕ) where
       are_scalars = refl;
       out_is = refl;
       fits = omega arith;
+      pending_before = inr b;
       pending = subst IsPending (sym same) pending;
       answer = (all, sym (same ∙ e), (λ t. same ∙ whole t), λ _ some. omega (arith, room (omega (arith, all, some))));
       pending_needs_room = λ _ some. room (omega (arith, all));
     },
   )
-  source_ended p src held after old last OutputFull read e all room none = absurd none
-  source_ended p src held after old last (Malformed k second) read e all room (zero, count, none, o, l) =
+  source_ended p src held after old last OutputFull read b e all room none = absurd none
+  source_ended p src held after old last (Malformed k second) read b e all room (zero, count, none, o, l) =
       let taken : p ++ take read src ≡ held = ap (λ xs. p ++ xs) (take_all read src (omega (arith, all))) ∙ sym e in (
         [],
         no_output old,
@@ -151,6 +156,7 @@ module _ {A : Type 0} (encode : ℕ → List A) (need : ℕ) where
           are_scalars = refl;
           out_is = refl;
           fits = omega arith;
+          pending_before = inr b;
           pending = inl none;
           answer = (
             held,
@@ -175,14 +181,15 @@ module _ {A : Type 0} (encode : ℕ → List A) (need : ℕ) where
       are_scalars = refl;
       out_is = refl;
       fits = omega arith;
+      pending_before = pending;
       pending = pending;
       answer = (some, append-nil p, omega (arith, l), (λ e. absurd (n e)), λ _. (refl, refl));
       pending_needs_room = λ _ h. absurd (omega arith);
     },
   )
 
-  pub pending_stuck : (p src q : List ℕ) (old : List A) (last : Bool) (k read : ℕ) → need ≤ length old → Resumes p src (Stuck k) read q → Decodes encode need p src old old last (Malformed k 0) read 0 q
-  pending_stuck p src q old last k read l (short, count, o, b, more, next, stuck, none) = (
+  pub pending_stuck : (p src q : List ℕ) (old : List A) (last : Bool) (k read : ℕ) → IsBeginning p → need ≤ length old → Resumes p src (Stuck k) read q → Decodes encode need p src old old last (Malformed k 0) read 0 q
+  pending_stuck p src q old last k read begins l (short, count, o, b, more, next, stuck, none) = (
     [],
     no_output old,
     record {
@@ -190,6 +197,7 @@ module _ {A : Type 0} (encode : ℕ → List A) (need : ℕ) where
       are_scalars = refl;
       out_is = refl;
       fits = omega arith;
+      pending_before = inr begins;
       pending = inl none;
       answer = (
         p ++ take read src,
@@ -285,10 +293,10 @@ module _ {A : Type 0} (encode : ℕ → List A) (need : ℕ) (fits : (c : ℕ) �
               ∙ ap (λ xs. encode_utf8 b ++ xs) (append_assoc (encode_utf8 a) (encode_utf8_all more) (drop read s)))
 
   pub whole_then : (p src bytes : List ℕ) (old new sub : List A) (last : Bool) (result : DecoderResult) (read n read' written more written' : ℕ) (q : List ℕ)
-      → p ≢ [] → need ≤ length old → read ≤ length src → take n bytes ≡ p ++ take read src → IsSequence (p ++ take read src) → ConvertsFront encode (take n bytes) old new read' written
+      → IsBeginning p → need ≤ length old → read ≤ length src → take n bytes ≡ p ++ take read src → IsSequence (p ++ take read src) → ConvertsFront encode (take n bytes) old new read' written
       → Decodes encode need [] (drop read src) (take (length new - written) (drop written new)) sub last result more written' q
       → Decodes encode need p src old (put_mid written (length new - written) new sub) last result (read + more) (written + written') q
-  whole_then p src bytes old new sub last result read n read' written more written' q some room within e s d (out, writes, call) =
+  whole_then p src bytes old new sub last result read n read' written more written' q begins room within e s d (out, writes, call) =
       let c = scalar_of_sequence (p ++ take read src) s in
       let first : WritesFront old new written (encode c.0) = one_character (take n bytes) c.0 old new read' written c.1 (c.2 ∙ sym e) room d in
       let long : length (take (length new - written) (drop written new)) ≡ length old - written =
@@ -303,6 +311,7 @@ module _ {A : Type 0} (encode : ℕ → List A) (need : ℕ) (fits : (c : ℕ) �
           are_scalars = and_from _ _ c.1 call.are_scalars;
           out_is = ap (λ xs. encode c.0 ++ xs) call.out_is;
           fits = let inside : length out ≤ length (take (length new - written) (drop written new)) = call.fits in omega (arith, inside, long, length-append (encode c.0) out, size, first.fits);
+          pending_before = inr begins;
           pending = call.pending;
           answer = answer_behind encode need p src c.0 read call.scalars last result more _ _ q (sym c.2) within left call.answer;
           pending_needs_room = λ _ _. room;

@@ -12,6 +12,7 @@ use Rattle.encoding_text.specs.Sequence.{IsBeginning}
 use Rattle.encoding_text.specs.Parts.{Broken, IsFirstPart}
 use Rattle.encoding_text.specs.Pending.{IsPending}
 use Rattle.encoding_text.specs.Decoding.{IsBroken, IsCall, Answers}
+use Rattle.encoding_text.specs.OneAnswer.{HasOneAnswer}
 use Rattle.encoding_text.specs.declared.decoder.DecoderResult.{DecoderResult}
 use Rattle.encoding_text.specs.declared.decoder.DecoderResult.TheVariants.{InputEmpty, OutputFull, Malformed}
 use Rattle.encoding_text.proofs.Sequences.EncodingLemmas.{IsSequence-encode, length-encode_utf8-le, length-encode_utf16-le}
@@ -56,7 +57,7 @@ head_scalar (b ∷ cs) c more h = head_scalar cs c more (and_parts _ _ h).1
 record Ended {A : Type 0} (encode : ℕ → List A) (need : ℕ) (p src : List ℕ) (last : Bool) (result : DecoderResult) (read : ℕ) (cs : List ℕ) (left : ℕ) (q y : List ℕ) : Type 0 where
   pub pending : IsPending q
   pub answer : Answers encode need p src last result read cs left q
-  pub follows : FollowsOutput src last result read q y
+  pub follows : FollowsOutput (drop read src) last result q y
   pub whole : p ++ take read src ≡ encode_utf8_all cs ++ y
 
 -- it read something, if it wrote a character
@@ -74,11 +75,11 @@ wrote_some p src [] more y read c pending h e =
 wrote_some p src (b ∷ cs) more y read c pending h e =
     has_read p src (encode_utf8_all (cs ++ c ∷ more) ++ y) read b pending (and_parts _ _ h).0 (e ∙ append_assoc (encode_utf8 b) (encode_utf8_all (cs ++ c ∷ more)) y)
 
-open_not_broken : (x : List ℕ) (last : Bool) → IsBeginning x → (last ≡ true → x ≡ []) → IsBroken x [] last → ⊥
+pub open_not_broken : (x : List ℕ) (last : Bool) → IsBeginning x → (last ≡ true → x ≡ []) → IsBroken x [] last → ⊥
 open_not_broken x last o ended (inl (b, e, n)) = n (inr (subst IsBeginning e o))
 open_not_broken x last o ended (inr (b, l)) = omega (arith, o.0, ap length (ended l))
 
-same_bytes : (x y : List ℕ) → Broken x ≡ Broken y → x ≡ y
+pub same_bytes : (x y : List ℕ) → Broken x ≡ Broken y → x ≡ y
 same_bytes x y e = cc
 
 all_dropped : (src : List ℕ) (read : ℕ) → read ≡ length src → drop read src ≡ []
@@ -272,12 +273,6 @@ pub one_answer : {A : Type 0} (encode : ℕ → List A) (need : ℕ) (p src : Li
 one_answer encode need p src room last = same_call encode need p src last room
 
 -- ---- to bytes and to UTF-16
--- an answer, and any answer is that one
-abbrev pub HasOneAnswer : {A : Type 0} → (ℕ → List A) → ℕ → List ℕ → List ℕ → ℕ → Bool → Type 0
-HasOneAnswer {A} encode need p src room last = (result : DecoderResult) × (read : ℕ) × (out : List A) × (q : List ℕ) × IsCall encode need p src room last result read out q
-    × ((result' : DecoderResult) (read' : ℕ) (out' : List A) (q' : List ℕ) → IsCall encode need p src room last result' read' out' q'
-    → (result ≡ result') × (read ≡ read') × (out ≡ out') × (q ≡ q'))
-
 has_one_answer : {A : Type 0} (encode : ℕ → List A) (need : ℕ) (p src : List ℕ) (room : ℕ) (last : Bool) → ((c : ℕ) → IsScalar c → length (encode c) ≤ need) → IsPending p
     → HasOneAnswer encode need p src room last
 has_one_answer encode need p src room last fits pending =

@@ -6,11 +6,11 @@ use Rattle.encoding_text.specs.Sequence.{IsSequence, IsBeginning}
 use Rattle.encoding_text.specs.Pending.{IsPending}
 use Rattle.encoding_text.specs.Steps.Resuming.{GoesOn}
 use Rattle.encoding_text.specs.Steps.Resuming.{IsStuck}
-use Rattle.encoding_text.proofs.Sequences.SequenceLemmas.{HasShape, HasOpenShape, HasShape-IsSequence, IsSequence-HasShape, HasOpenShape-IsBeginning, IsBeginning-HasOpenShape, length-IsBeginning, second_two, second_more, second_from, second_two_from}
+use Rattle.encoding_text.proofs.Sequences.SequenceLemmas.{HasShape, HasOpenShape, HasShape-IsSequence, IsSequence-HasShape, HasOpenShape-IsBeginning, IsBeginning-HasOpenShape, length-IsBeginning, second_two, second_more, second_from, second_two_from, length_by_first}
 
 -- how long the sequences are that begin with this byte
 abbrev pub SequenceLength : ℕ → ℕ → Type 0
-SequenceLength lead n = (lead < 0xE0 → n ≡ 2) × (0xE0 ≤ lead → lead < 0xF0 → n ≡ 3) × (0xF0 ≤ lead → n ≡ 4)
+SequenceLength lead n = (rest : List ℕ) → IsSequence (lead ∷ rest) → n ≡ 1 + length rest
 
 pub pending_beginning : (p : List ℕ) → p ≢ [] → IsPending p → IsBeginning p
 pending_beginning p n (inl e) = absurd (n e)
@@ -39,14 +39,17 @@ whole_shape : (p : List ℕ) (b n : ℕ) → HasOpenShape p → GoesOn (slice_in
 whole_shape [] b n h g l e = absurd h
 whole_shape (a ∷ []) b n h g l e =
     let s = g.0 refl in
+    let size = length_by_first a n h.0 h.1 l in
     elim (cases_lt a 0xE0) [
       | inl q ↦ (s.0, omega arith, second_two_from a b s q)
-      | inr q ↦ elim (cases_lt a 0xF0) [ inl r ↦ absurd (omega (arith, l.1 q r)) | inr r ↦ absurd (omega (arith, l.2 r)) ]
+      | inr q ↦ elim (cases_lt a 0xF0) [ inl r ↦ absurd (omega (arith, size.1 q r)) | inr r ↦ absurd (omega (arith, size.2 r)) ]
     ]
-whole_shape (a ∷ c ∷ []) b n h g l e = elim (cases_lt a 0xF0) [
-  | inl r ↦ (h.0, omega arith, h.2, g.1 (omega arith))
-  | inr r ↦ absurd (omega (arith, l.2 r))
-]
+whole_shape (a ∷ c ∷ []) b n h g l e =
+    let size = length_by_first a n (omega arith) h.1 l in
+    elim (cases_lt a 0xF0) [
+      | inl r ↦ (h.0, omega arith, h.2, g.1 (omega arith))
+      | inr r ↦ absurd (omega (arith, size.2 r))
+    ]
 whole_shape (a ∷ c ∷ d ∷ []) b n h g l e = (h.0, h.1, h.2, h.3, g.1 (omega arith))
 whole_shape (a ∷ c ∷ d ∷ f ∷ more) b n h g l e = absurd h
 
@@ -54,15 +57,20 @@ longer_shape : (p : List ℕ) (b n : ℕ) → HasOpenShape p → GoesOn (slice_i
 longer_shape [] b n h g l e = absurd h
 longer_shape (a ∷ []) b n h g l e =
     let s = g.0 refl in
+    let size = length_by_first a n h.0 h.1 l in
     elim (cases_lt a 0xE0) [
-      | inl q ↦ absurd (e (omega (arith, l.0 q)))
+      | inl q ↦ absurd (e (omega (arith, size.0 q)))
       | inr q ↦ (q, s.1, second_from a b s)
     ]
-longer_shape (a ∷ c ∷ []) b n h g l e = elim (cases_lt a 0xF0) [
-  | inl r ↦ absurd (e (omega (arith, l.1 h.0 r)))
-  | inr r ↦ (r, h.1, h.2, g.1 (omega arith))
-]
-longer_shape (a ∷ c ∷ d ∷ []) b n h g l e = absurd (e (omega (arith, l.2 h.0)))
+longer_shape (a ∷ c ∷ []) b n h g l e =
+    let size = length_by_first a n (omega arith) h.1 l in
+    elim (cases_lt a 0xF0) [
+      | inl r ↦ absurd (e (omega (arith, size.1 h.0 r)))
+      | inr r ↦ (r, h.1, h.2, g.1 (omega arith))
+    ]
+longer_shape (a ∷ c ∷ d ∷ []) b n h g l e =
+    let size = length_by_first a n (omega arith) h.1 l in
+    absurd (e (omega (arith, size.2 h.0)))
 longer_shape (a ∷ c ∷ d ∷ f ∷ more) b n h g l e = absurd h
 
 pub whole_sequence : (p : List ℕ) (b n : ℕ) → IsBeginning p → GoesOn (slice_index p 0) (length p) b → SequenceLength (slice_index p 0) n → length p + 1 ≡ n → IsSequence (p ++ b ∷ [])

@@ -1,5 +1,5 @@
 -- What follows from one call: it gets on, and the queried room suffices.
-use Rattle.std.proofs.Common.{◌≡◌, ℕ, zero, suc, ◌+◌, ◌-◌, ◌<◌, ◌≤◌, ◌⊎◌, inl, inr, Bool, true, List, [], ◌∷◌, ◌++◌, length, take, encode_utf8, encode_utf8_all, refl, sym, ap, ◌∙◌, arith, subst}
+use Rattle.std.proofs.Common.{◌≡◌, ◌≢◌, ℕ, zero, suc, ◌+◌, ◌-◌, ◌<◌, ◌≤◌, ◌⊎◌, inl, inr, Bool, true, List, [], ◌∷◌, ◌++◌, length, take, encode_utf8, encode_utf8_all, refl, sym, ap, ◌∙◌, arith, subst}
 use lib.Utf8.{scalar}
 use Rattle.std.specs.Char.Escape.{encode_utf16}
 use Rattle.std.specs.Str.{all_scalars}
@@ -28,12 +28,12 @@ length-utf8 [] = refl
 length-utf8 (c ∷ cs) = omega (arith, length-utf8 cs, length-append (encode_utf8 c) (flat_map encode_utf8 cs), length-append (encode_utf8 c) (encode_utf8_all cs))
 
 -- the bytes of a call: what was pending and what was read, against its characters, its broken part and what is pending then
-record Counts (p src : List ℕ) (result : DecoderResult) (read text : ℕ) (q : List ℕ) : Type 0 where
+pub record Counts (p src : List ℕ) (result : DecoderResult) (read text : ℕ) (q : List ℕ) : Type 0 where
   pub within : read ≤ length src
   pub split : text + length q ≤ length p + read
   pub reported : IsReport result → (text + 1 ≤ length p + read) × (length q ≡ 0)
 
-counts : {A : Type 0} (encode : ℕ → List A) (need : ℕ) (p src : List ℕ) (last : Bool) (result : DecoderResult) (read : ℕ) (cs : List ℕ) (left : ℕ) (q : List ℕ)
+pub counts : {A : Type 0} (encode : ℕ → List A) (need : ℕ) (p src : List ℕ) (last : Bool) (result : DecoderResult) (read : ℕ) (cs : List ℕ) (left : ℕ) (q : List ℕ)
     → Answers encode need p src last result read cs left q → Counts p src result read (length (encode_utf8_all cs)) q
 counts encode need p src last InputEmpty read cs left q (all, whole, ended, room) = record {
   within = omega (arith, all);
@@ -59,7 +59,7 @@ text_of_pending p (c ∷ cs) (inr b) s q e =
     let scalar = and_parts _ _ s in
     absurd (no_sequence_in_beginning (encode_utf8 c) (encode_utf8_all cs ++ q) (subst IsBeginning (e ∙ append_assoc (encode_utf8 c) (encode_utf8_all cs) q) b) (IsSequence-encode c scalar.0))
 
-progress_of : {A : Type 0} (encode : ℕ → List A) (need : ℕ) (p src : List ℕ) (room : ℕ) (last : Bool) (result : DecoderResult) (read : ℕ) (cs : List ℕ) (out : List A) (q : List ℕ)
+pub progress_of : {A : Type 0} (encode : ℕ → List A) (need : ℕ) (p src : List ℕ) (room : ℕ) (last : Bool) (result : DecoderResult) (read : ℕ) (cs : List ℕ) (out : List A) (q : List ℕ)
     → IsPending p → all_scalars cs ≡ true → out ≡ flat_map encode cs → Answers encode need p src last result read cs (room - length out) q
     → 0 < length src → need ≤ room → (0 < read) ⊎ IsReport result
 progress_of encode need p src room last InputEmpty read cs out q pending scalars e (all, whole, ended, left) some l = inl (omega (arith, all, some))
@@ -78,10 +78,6 @@ module _ {A : Type 0} (encode : ℕ → List A) (need : ℕ) (p src : List ℕ) 
   bytes : Counts p src result read (length (encode_utf8_all d.2.scalars)) q
   bytes = counts encode need p src last result read d.2.scalars (length old - length d.0) q d.2.answer
 
-  -- what a call writes is no longer than what it takes
-  IsShort : Type 0
-  IsShort = length (flat_map encode d.2.scalars) ≤ length (encode_utf8_all d.2.scalars)
-
   written_is : written ≡ length (flat_map encode d.2.scalars)
   written_is = d.1.count ∙ ap length d.2.out_is
 
@@ -93,6 +89,17 @@ module _ {A : Type 0} (encode : ℕ → List A) (need : ℕ) (p src : List ℕ) 
       elim_answer InputEmpty f a = cc
       elim_answer OutputFull f a = (a.0, omega (arith, a.2, d.1.count))
       elim_answer (Malformed k second) f a = cc
+
+-- ---- with room for one code unit more than there are bytes, and nothing pending
+-- the call doesn't end for want of room, and at a report there is room for U+FFFD, the bytes left and one more
+pub keeps_room : (src old new : List ℕ) (last : Bool) (result : DecoderResult) (read written : ℕ) (q : List ℕ) → Decodes encode_utf16 2 [] src old new last result read written q
+    → length src < length old → (result ≢ OutputFull) × (IsReport result → written + 1 + (length src - read) < length old)
+keeps_room src old new last result read written q d l =
+    let b = bytes encode_utf16 2 [] src old new last result read written q (inl refl) d in
+    let w = written_is encode_utf16 2 [] src old new last result read written q (inl refl) d in
+    let short = length-utf16 d.2.scalars d.2.are_scalars in
+    let f = full_left encode_utf16 2 [] src old new last result read written q (inl refl) d in
+    (λ e. let g = f e in omega (arith, g.0, g.1, l, w, short, b.split, b.within), λ r. omega (arith, l, w, short, (b.reported r).0, b.within))
 
 -- ---- the queried room suffices
 module _ (p src old new : List ℕ) (last : Bool) (result : DecoderResult) (read written : ℕ) (q : List ℕ) (pending : IsPending p) where
@@ -120,8 +127,8 @@ module _ (p src old new : List ℕ) (last : Bool) (result : DecoderResult) (read
       let f = full_left encode_utf8 4 p src old new last result read written q pending d in
       (λ e. let g = f e in omega (arith, g.0, g.1, h, l, w, short, b.split, b.within), omega (arith, h, l, w, short, b.split, b.within))
 
-  pub utf8_suffices_for_both : Decodes encode_utf8 4 p src old new last result read written q → Suffices utf8_room_replacing p src (length old) result read written q
-  utf8_suffices_for_both d m h l =
+  pub utf8_suffices_between_reports : Decodes encode_utf8 4 p src old new last result read written q → Suffices utf8_room_replacing p src (length old) result read written q
+  utf8_suffices_between_reports d m h l =
       let b = bytes encode_utf8 4 p src old new last result read written q pending d in
       let w = written_is encode_utf8 4 p src old new last result read written q pending d in
       let short = length-utf8 d.2.scalars in

@@ -99,22 +99,14 @@ module _ (src : List ℕ) (room : ℕ) (last : Bool) (n read : ℕ) (out : List 
 
   pub fresh_full : read < n → IsEncoderCall [] src room last OutputFull read out []
   fresh_full h = record {
+    held_before = tt;
+    held_after = tt;
     due = f.parts;
     left_open = drop n src;
     taken = read;
     are_due = open_due src last n f.parts l f.are_parts;
     longest = f.longest;
     answer = (omega (arith, h, fresh_length), (λ e. (e, refl)), (λ p. (omega arith, refl)));
-  }
-
-  pub fresh_empty : n ≤ read → read ≤ length (take n src) → IsEncoderCall [] src room last InputEmpty (length src) out (drop n src)
-  fresh_empty h k = record {
-    due = f.parts;
-    left_open = drop n src;
-    taken = read;
-    are_due = open_due src last n f.parts l f.are_parts;
-    longest = f.longest;
-    answer = (omega (arith, h, k, fresh_length, length-take-le n src l.within), refl, refl);
   }
 
 -- ---- a unit held
@@ -172,7 +164,7 @@ held_first u src scalar t f e =
     let behind : drop (length (encode_utf16 scalar)) (u ∷ src) ≡ drop t src = ap (λ n. drop n (u ∷ src)) {x = length (encode_utf16 scalar)} {y = suc t} (omega arith) in
     subst (IsFirstPart16 (u ∷ src) f.part) behind f.first
 
-module _ (u : ℕ) (src : List ℕ) (room : ℕ) (last : Bool) (p : Part16) (t : ℕ) (f : IsFirstPart16 (u ∷ src) p (drop t src)) (e : t + 1 ≡ length (units_of p)) (n : last ≡ false → 0 < length src) where
+module _ (u : ℕ) (src : List ℕ) (room : ℕ) (last : Bool) (p : Part16) (t : ℕ) (f : IsFirstPart16 (u ∷ src) p (drop t src)) (e : t + 1 ≡ length (units_of p)) (n : last ≡ false → 0 < length src) (high : IsHighSurrogate u) where
   due_behind : last ≡ false → EndsHigh (u ∷ src) → EndsHigh (drop t src)
   due_behind x = ends_behind (u ∷ src) p (drop t src) f (λ one. omega (arith, n x, length-drop t src))
 
@@ -183,6 +175,8 @@ module _ (u : ℕ) (src : List ℕ) (room : ℕ) (last : Bool) (p : Part16) (t :
       let rest : AreDue (drop t src) last (parts_of (take open_at.0 (drop t src))) (drop open_at.0 (drop t src)) =
       open_due (drop t src) last open_at.0 _ open_at.1 (parts_exist _ (AreUnits-front (drop t src) open_at.0 (AreUnits-behind src t a))) in
       record {
+        held_before = high;
+        held_after = high;
         due = p ∷ parts_of (take open_at.0 (drop t src));
         left_open = drop open_at.0 (drop t src);
         taken = 0;
@@ -207,6 +201,8 @@ module _ (u : ℕ) (src : List ℕ) (room : ℕ) (last : Bool) (p : Part16) (t :
   pub held_then : (r : EncoderResult) (read : ℕ) (out after : List ℕ) → length (utf8_of p) ≤ room → IsEncoderCall [] (drop t src) (room - length (utf8_of p)) last r read out after
       → IsEncoderCall (u ∷ []) src room last r (t + read) (utf8_of p ++ out) after
   held_then r read out after l c = record {
+    held_before = high;
+    held_after = c.held_after;
     due = p ∷ c.due;
     left_open = c.left_open;
     taken = length (units_of p) + c.taken;
@@ -218,6 +214,8 @@ module _ (u : ℕ) (src : List ℕ) (room : ℕ) (last : Bool) (p : Part16) (t :
 -- a held unit waits on
 pub held_waits : (u room : ℕ) → IsHighSurrogate u → IsEncoderCall (u ∷ []) [] room false InputEmpty 0 [] (u ∷ [])
 held_waits u room h = record {
+  held_before = h;
+  held_after = h;
   due = [];
   left_open = u ∷ [];
   taken = 0;
@@ -247,18 +245,18 @@ some_there is_empty last n e (inr h) f = some_when n (sym e ∙ h)
     some_when : (n : ℕ) → (n == 0) ≡ false → 0 < n
     some_when n e = grind (arith, nat_tests)
 
-module _ (held src : List ℕ) (u room : ℕ) (last : Bool) (e : held ≡ u ∷ []) where
-  pub call_waits : length src ≡ 0 → last ≡ false → IsHighSurrogate u → IsEncoderCall held src room last InputEmpty 0 [] held
-  call_waits none f h = rw (e, nil_from_length src none, f) (held_waits u room h)
+module _ (held src : List ℕ) (u room : ℕ) (last : Bool) (e : held ≡ u ∷ []) (high : IsHighSurrogate u) where
+  pub call_waits : length src ≡ 0 → last ≡ false → IsEncoderCall held src room last InputEmpty 0 [] held
+  call_waits none f = rw (e, nil_from_length src none, f) (held_waits u room high)
 
   -- of an empty source or of more, the first part begins with the held unit
   pub call_full : (scalar t : ℕ) (f : IsFirstScalar (u ∷ src) scalar) → t + 1 ≡ length (encode_utf16 scalar) → (last ≡ false → 0 < length src) → AreUnits src → room < len_utf8 scalar
       → IsEncoderCall held src room last OutputFull 0 [] held
   call_full scalar t f g n a l =
       let long : length (utf8_of f.part) ≡ len_utf8 scalar = ap (λ c. length (encode_utf8 c)) f.counts ∙ length-encode scalar in
-      rw e (held_full u src room last f.part t (held_first u src scalar t f g) (g ∙ units_counted (u ∷ src) scalar f) n a (omega (arith, l, long)))
+      rw e (held_full u src room last f.part t (held_first u src scalar t f g) (g ∙ units_counted (u ∷ src) scalar f) n high a (omega (arith, l, long)))
 
-module _ (held src old mid sub : List ℕ) (u scalar t first read written : ℕ) (last : Bool) (r : EncoderResult) (after : List ℕ) (e : held ≡ u ∷ [])
+module _ (held src old mid sub : List ℕ) (u scalar t first read written : ℕ) (last : Bool) (r : EncoderResult) (after : List ℕ) (e : held ≡ u ∷ []) (high : IsHighSurrogate u)
     (f : IsFirstScalar (u ∷ src) scalar) (g : t + 1 ≡ length (encode_utf16 scalar)) (n : last ≡ false → 0 < length src)
     (w : WritesFront old mid first (encode_utf8 scalar))
     (c : IsEncoderCall [] (take (length src - t) (drop t src)) (length (take (length mid - first) (drop first mid))) last r read (take written sub) after)
@@ -279,7 +277,7 @@ module _ (held src old mid sub : List ℕ) (u scalar t first read written : ℕ)
       subst (λ xs. IsEncoderCall [] xs (length old - length (utf8_of p)) last r read (take written sub) after) (take_rest src t)
       (subst (λ k. IsEncoderCall [] (take (length src - t) (drop t src)) k last r read (take written sub) after) room c) in
       let whole : IsEncoderCall (u ∷ []) src (length old) last r (t + read) (utf8_of p ++ take written sub) after =
-      held_then u src (length old) last p t (held_first u src scalar t f g) (g ∙ units_counted (u ∷ src) scalar f) n r read (take written sub) after
+      held_then u src (length old) last p t (held_first u src scalar t f g) (g ∙ units_counted (u ∷ src) scalar f) n high r read (take written sub) after
       (omega (arith, w.count, w.fits, ap length bytes)) rest in
       subst (λ xs. IsEncoderCall xs src (length old) last r (t + read) (take (first + written) (put_mid first (length mid - first) mid sub)) after) (sym e)
       (subst (λ xs. IsEncoderCall (u ∷ []) src (length old) last r (t + read) xs after) (ap (λ xs. xs ++ take written sub) bytes ∙ written_is _ _ _ _ first_and_rest) whole)

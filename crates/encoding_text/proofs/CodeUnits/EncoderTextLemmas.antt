@@ -9,7 +9,7 @@ use Rattle.std.proofs.lemmas.List.{append-nil, length-append, length-drop, lengt
 use Rattle.std.proofs.lemmas.Str.{length-encode, len_utf8_bounds, IsUtf8-take, IsUtf8-drop, chars-append, encodes-chars, IsCharBoundary-past_char}
 use Rattle.encoding_text.proofs.Sequences.EncodingLemmas.{flat_map-encode_utf8}
 use Rattle.encoding_text.specs.Fronts.{FitsLongest, WritesFront}
-use Rattle.encoding_text.specs.Utf16.{Part16, Character16, Lone, utf8_of}
+use Rattle.encoding_text.specs.Utf16.{Part16, Character16, Lone, utf8_of, IsHighSurrogate}
 use Rattle.encoding_text.specs.Encoding.{due_with_text, text_bytes_of, TextAnswers, IsEncoderTextCall}
 use Rattle.encoding_text.specs.declared.utf_8.encoder.EncoderResult.{EncoderResult}
 use Rattle.encoding_text.specs.declared.utf_8.encoder.EncoderResult.TheVariants.{InputEmpty, OutputFull}
@@ -71,6 +71,8 @@ module _ (text : List ℕ) (room n : ℕ) (out : List ℕ) (u : IsUtf8 text) (f 
 
   pub text_empty : length text ≤ n → n ≤ length text → IsEncoderTextCall [] text room InputEmpty n out []
   text_empty h k = record {
+    held_before = tt;
+    held_after = tt;
     longest = fits_text;
     answer = (sym e ∙ take_all n text h ∙ sym (due_bytes text u), omega arith, refl);
   }
@@ -79,14 +81,18 @@ module _ (text : List ℕ) (room n : ℕ) (out : List ℕ) (u : IsUtf8 text) (f 
   text_full h =
       let long : length out ≡ n = ap length (sym e) ∙ length-take-le n text (omega arith) in
       record {
+        held_before = tt;
+        held_after = tt;
         longest = fits_text;
         answer = (omega (arith, long, ap length (due_bytes text u)), (λ x. (omega (arith, long, ap length x), refl)), (λ x. refl));
       }
 
 -- ---- a unit held
-module _ (held text : List ℕ) (h room : ℕ) (e : held ≡ h ∷ []) where
+module _ (held text : List ℕ) (h room : ℕ) (e : held ≡ h ∷ []) (high : IsHighSurrogate h) where
   pub text_waits : room < len_utf8 0xFFFD → IsEncoderTextCall held text room OutputFull 0 [] held
   text_waits l = subst (λ xs. IsEncoderTextCall xs text room OutputFull 0 [] xs) (sym e) (record {
+    held_before = high;
+    held_after = high;
     longest = FitsLongest-stop text_bytes_of utf8_of [] (Lone h) (map Character16 (chars text)) room (omega arith) (omega (arith, l, length-encode 0xFFFD));
     answer = (omega (arith, length-append (encode_utf8 0xFFFD) (flat_map utf8_of (map Character16 (chars text))), length-encode 0xFFFD), (λ x. (refl, refl)), (λ x. absurd (omega arith)));
   })
@@ -94,6 +100,8 @@ module _ (held text : List ℕ) (h room : ℕ) (e : held ≡ h ∷ []) where
   pub text_then : (r : EncoderResult) (read : ℕ) (out : List ℕ) → length (encode_utf8 0xFFFD) ≤ room → IsEncoderTextCall [] text (room - length (encode_utf8 0xFFFD)) r read out []
       → IsEncoderTextCall held text room r read (encode_utf8 0xFFFD ++ out) []
   text_then r read out l c = subst (λ xs. IsEncoderTextCall xs text room r read (encode_utf8 0xFFFD ++ out) []) (sym e) (record {
+    held_before = high;
+    held_after = tt;
     longest = subst (λ k. FitsLongest text_bytes_of utf8_of (due_with_text (h ∷ []) text) room k (encode_utf8 0xFFFD ++ out)) {x = 0 + read} {y = read} (omega arith)
         (FitsLongest-cons text_bytes_of utf8_of (Lone h) (due_with_text [] text) room read out l c.longest);
     answer = answers r read c.answer;
@@ -124,7 +132,7 @@ enough_for_text held text room OutputFull read out after u h c =
     ])
 
 -- ---- the call as the encoder makes it
-module _ (held text old mid sub : List ℕ) (h first read written : ℕ) (r : EncoderResult) (e : held ≡ h ∷ [])
+module _ (held text old mid sub : List ℕ) (h first read written : ℕ) (r : EncoderResult) (e : held ≡ h ∷ []) (high : IsHighSurrogate h)
     (w : WritesFront old mid first (encode_utf8 0xFFFD))
     (c : IsEncoderTextCall [] text (length (take (length mid - first) (drop first mid))) r read (take written sub) [])
     (v : WritesFront (take (length mid - first) (drop first mid)) sub written (take written sub)) where
@@ -139,5 +147,5 @@ module _ (held text old mid sub : List ℕ) (h first read written : ℕ) (r : En
       let room : length (take (length mid - first) (drop first mid)) ≡ length old - length (encode_utf8 0xFFFD) =
       ap length (take_rest mid first) ∙ length-drop first mid ∙ omega (arith, WritesFront-length old mid first _ w, w.count) in
       subst (λ xs. IsEncoderTextCall held text (length old) r read xs []) (written_is _ _ _ _ unit_and_text)
-      (text_then held text h (length old) e r read (take written sub) (omega (arith, w.count, w.fits))
+      (text_then held text h (length old) e high r read (take written sub) (omega (arith, w.count, w.fits))
       (subst (λ k. IsEncoderTextCall [] text k r read (take written sub) []) room c))

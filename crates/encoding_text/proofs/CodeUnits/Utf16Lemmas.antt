@@ -91,7 +91,7 @@ pub tail_paired : (p : Part16) (ps : List Part16) → ArePaired (p ∷ ps) → A
 tail_paired p [] a = tt
 tail_paired p (q ∷ ps) a = a.2
 
-head_part : (p : Part16) (ps : List Part16) → ArePaired (p ∷ ps) → IsPart16 p
+pub head_part : (p : Part16) (ps : List Part16) → ArePaired (p ∷ ps) → IsPart16 p
 head_part p [] a = a
 head_part p (q ∷ ps) a = a.0
 

@@ -1,5 +1,5 @@
--- Converting character by character, and that whole characters up to one that doesn't fit are the longest front that fits.
-use Rattle.std.proofs.Common.{◌≡◌, ℕ, ◌+◌, ◌-◌, ◌<◌, ◌≤◌, ◌⊎◌, inl, inr, true, List, [], ◌∷◌, ◌++◌, length, take, drop, encode_utf8, encode_utf8_all, refl, sym, ap, ◌∙◌, arith, subst, take-add}
+-- Converting character by character, and that whole characters up to one that doesn't fit are the longest front that fits, both ways.
+use Rattle.std.proofs.Common.{◌≡◌, ℕ, zero, suc, ◌+◌, ◌-◌, ◌<◌, ◌≤◌, ◌⊎◌, inl, inr, true, List, [], ◌∷◌, ◌++◌, length, take, drop, encode_utf8, encode_utf8_all, refl, sym, ap, ◌∙◌, arith, subst, take-add}
 use lib.Utf8.{scalar}
 use Rattle.std.specs.Char.{IsScalar}
 use Rattle.std.specs.Str.{all_scalars, IsUtf8}
@@ -14,9 +14,9 @@ use Rattle.encoding_text.specs.Fronts.{IsLongestFront, FitsLongest, WritesFront}
 use Rattle.encoding_text.specs.Converting.{IsText, ConvertsLongest, FittingBegins}
 use Rattle.encoding_text.specs.Steps.Converting.{ConvertsFront}
 use Rattle.encoding_text.proofs.Sequences.EncodingLemmas.{IsSequence-encode, flat_map-encode_utf8}
-use Rattle.encoding_text.proofs.LongestFronts.FrontsLemmas.{WritesFront-nil, WritesFront_after, WritesFront-length, WritesFront-same, put_mid-same, FitsLongest-all, FitsLongest-stop}
+use Rattle.encoding_text.proofs.LongestFronts.FrontsLemmas.{WritesFront_after, WritesFront-length, WritesFront-same, put_mid-same, FitsLongest-all, FitsLongest-stop}
 use Rattle.encoding_text.proofs.LongestFronts.FittingLemmas.{flat_map_push}
-use Rattle.encoding_text.proofs.LongestFronts.Utf8Lemmas.{IsLongestFront-utf8}
+use Rattle.encoding_text.proofs.LongestFronts.Utf8Lemmas.{IsLongestFront-utf8, no_character_after}
 use Rattle.encoding_text.proofs.Decomposition.DecompositionLemmas.{has_parts}
 
 -- ---- as far as a loop has come
@@ -37,9 +37,6 @@ pub encodes_more : (cs : List ℕ) (c : ℕ) → encode_utf8_all (cs ++ c ∷ []
 encodes_more cs c = encodes-append cs (c ∷ []) ∙ ap (λ xs. encode_utf8_all cs ++ xs) (encodes_one c)
 
 module _ {A : Type 0} (encode : ℕ → List A) where
-  pub Converted-nil : (src : List ℕ) (old : List A) → Converted encode src old old 0 0
-  Converted-nil src old = record { scalars = []; are_scalars = refl; within = omega arith; spelled = refl; writes = WritesFront-nil old }
-
   -- one more character
   pub converted_more : (src : List ℕ) (old new sub : List A) (read written c n m : ℕ) → Converted encode src old new read written → IsScalar c
       → encode_utf8 c ≡ take n (drop read src) → n ≤ length (drop read src) → WritesFront (take (length new - written) (drop written new)) sub m (encode c)
@@ -137,6 +134,49 @@ module _ {A : Type 0} (encode : ℕ → List A) where
         out = flat_map encode d.scalars;
         longest = fits_longest src d.scalars t.0 t.2 old read written d.spelled d.within (sym d.writes.count) d.writes.fits t.3 t.4 d.stops;
         writes = d.writes;
+      }
+
+  -- ---- and back: where the longest front that fits ends, no character that fits begins what is left
+  scalars_split : (n : ℕ) (cs : List ℕ) → all_scalars cs ≡ true → (all_scalars (take n cs) ≡ true) × (all_scalars (drop n cs) ≡ true)
+  scalars_split zero cs h = (refl, h)
+  scalars_split (suc n) [] h = (refl, refl)
+  scalars_split (suc n) (c ∷ cs) h =
+      let parts = and_parts (scalar c) (all_scalars cs) h in
+      let r = scalars_split n cs parts.1 in
+      (and_from _ _ parts.0 r.0, r.1)
+
+  -- the next character doesn't fit, or there is none
+  none_fits : (src cs more : List ℕ) (n room written : ℕ) (t : IsText src cs) → more ≡ drop n cs → written ≡ length (flat_map encode (take n cs)) → written ≤ room
+      → (n < length cs → room < length (flat_map encode (take (n + 1) cs))) → FittingBegins encode (encode_utf8_all more ++ drop t.valid src) (room - written) → ⊥
+  none_fits src cs [] n room written t e w l full (c, rest, s, f, g) = no_character_after src t.valid t.front (encode_utf8 c) rest f (IsSequence-encode c s)
+  none_fits src cs (b ∷ more) n room written t e w l full (c, rest, s, f, g) =
+      let same = encode_same b c (encode_utf8_all more ++ drop t.valid src) rest (sym (append_assoc (encode_utf8 b) (encode_utf8_all more) (drop t.valid src)) ∙ f) in
+      let next : take (n + 1) cs ≡ take n cs ++ b ∷ [] = take-add n 1 cs ∙ ap (λ xs. take n cs ++ take 1 xs) (sym e) in
+      let long : length (flat_map encode (take (n + 1) cs)) ≡ written + length (encode b) =
+      ap (λ xs. length (flat_map encode xs)) next ∙ ap length (flat_map_push encode (take n cs) b) ∙ omega (arith, w, length-append (flat_map encode (take n cs)) (encode b)) in
+      omega (arith, full (omega (arith, ap length e, length-drop n cs)), long, ap (λ k. length (encode k)) same.0, g, l)
+
+  pub converts_front : (src : List ℕ) (old new : List A) (read written : ℕ) → ConvertsLongest encode src old new read written → ConvertsFront encode src old new read written
+  converts_front src old new read written d =
+      let n = d.longest.count in
+      let done = take n d.scalars in
+      let more = drop n d.scalars in
+      let tail = drop d.text.valid src in
+      let text = encode_utf8_all done in
+      let whole : src ≡ text ++ (encode_utf8_all more ++ tail) =
+      sym (take-append-drop d.text.valid src) ∙ ap (λ xs. xs ++ tail) (sym d.text.spelled ∙ ap encode_utf8_all (sym (take-append-drop n d.scalars)) ∙ encodes-append done more)
+      ∙ append_assoc text (encode_utf8_all more) tail in
+      let size : length text ≡ read = sym (d.longest.taken ∙ ap length (flat_map-encode_utf8 done)) in
+      let back : drop read src ≡ encode_utf8_all more ++ tail = ap (drop read) whole ∙ drop_at text (encode_utf8_all more ++ tail) read size in
+      let count : written ≡ length (flat_map encode done) = d.writes.count ∙ ap length d.longest.written in
+      record {
+        scalars = done;
+        are_scalars = (scalars_split n d.scalars d.text.are_scalars).0;
+        within = omega (arith, ap length whole, length-append text (encode_utf8_all more ++ tail), size);
+        spelled = sym (ap (take read) whole ∙ take_at text (encode_utf8_all more ++ tail) read size);
+        writes = subst (λ xs. WritesFront old new written xs) d.longest.written d.writes;
+        stops = λ f. none_fits src d.scalars more n (length old) written d.text refl count d.writes.fits d.longest.longest
+            (subst (λ xs. FittingBegins encode xs (length old - written)) back f);
       }
 
 -- ---- to UTF-8 itself: the front that is as long as the room

@@ -4,7 +4,7 @@ use Rattle.std.specs.List.{flat_map}
 use Rattle.std.proofs.lemmas.List.{append-nil, take-append-drop, drop_more, set_at, length_push, length-set, drop_at, take_at, take_all, take_rest, drop_all, drop-drop, length-append, length-drop}
 use Rattle.std.proofs.lemmas.Grind.{flat_map-append}
 use borrow.Rule.Slice.PartMut.{put_mid}
-use Rattle.encoding_text.specs.Fronts.{WritesFront, FitsLongest}
+use Rattle.encoding_text.specs.Fronts.{IsLongestFront, WritesFront, FitsLongest}
 
 -- ---- writing
 module _ {A : Type 0} where
@@ -70,6 +70,11 @@ module _ {A : Type 0} where
   -- a call left that part as it was
   pub put_mid-same : (xs : List A) (n : ℕ) → put_mid n (length xs - n) xs (take (length xs - n) (drop n xs)) ≡ xs
   put_mid-same xs n = ap (λ ys. take n xs ++ ys) (take-append-drop (length xs - n) (drop n xs)) ∙ take-append-drop n xs
+
+-- ---- of a kind
+-- where the longest front is not the whole list, the whole is not of the kind
+pub front_not_whole : {A : Type 0} (K : List A → Type 0) (xs : List A) (n : ℕ) → IsLongestFront K xs n → (n ≡ length xs → ⊥) → K xs → ⊥
+front_not_whole K xs n f ne k = ne (omega (arith, f.within, f.longest (length xs) (omega arith) (subst K (sym (take_all (length xs) xs (omega arith))) k)))
 
 -- ---- fitting
 module _ {C A : Type 0} (source : C → List ℕ) (output : C → List A) where

@@ -1,5 +1,5 @@
 -- Which bytes are sequences and which are beginnings, and what follows from the rows of the table.
-use Rattle.std.proofs.Common.{◌≡◌, ℕ, suc, ◌<◌, ◌≤◌, ◌⊎◌, inl, inr, Bool, true, false, ◌&&◌, ◌||◌, List, [], ◌∷◌, ◌++◌, length, refl, sym, ap, arith, subst, nat_le, slice_index, take, if◌then◌else◌, ◌==◌, ◌≢◌, ◌↔◌}
+use Rattle.std.proofs.Common.{◌≡◌, ◌≢◌, ℕ, suc, ◌+◌, ◌<◌, ◌≤◌, ◌⊎◌, inl, inr, Bool, true, false, ◌&&◌, ◌||◌, List, [], ◌∷◌, ◌++◌, length, refl, sym, ap, arith, subst, nat_le, slice_index, take, if◌then◌else◌, ◌==◌, ◌↔◌}
 use Rattle.std.proofs.lemmas.Bool.{and_parts, and_from, or_cases, or_left, or_right, true≢false, cases_Bool, both_ways, leb-true, le-leb, eq-eqb, cond_both, cases_lt}
 use Rattle.std.proofs.lemmas.Bool.Decides.{nat_tests}
 use Rattle.std.proofs.lemmas.List.{length-append, append_assoc}
@@ -355,3 +355,16 @@ third_goes_on a b c h t = elim (cases_lt a 0xF0) [
   | inl l ↦ inl (IsSequence-HasShape (a ∷ b ∷ c ∷ []) (h.0, omega arith, h.2, t))
   | inr l ↦ inr (IsBeginning-HasOpenShape (a ∷ b ∷ c ∷ []) (l, h.1, h.2, t))
 ]
+
+-- ---- sequences by their first byte
+pub begins_by_range : (a : ℕ) → IsBeginning (a ∷ []) ↔ ((0xC2 ≤ a) × (a ≤ 0xF4))
+begins_by_range a = (HasOpenShape-IsBeginning (a ∷ []), IsBeginning-HasOpenShape (a ∷ []))
+
+-- the length of those that begin with a byte that several bytes begin with
+pub length_by_first : (a n : ℕ) → 0xC2 ≤ a → a ≤ 0xF4 → ((rest : List ℕ) → IsSequence (a ∷ rest) → n ≡ 1 + length rest)
+    → (a < 0xE0 → n ≡ 2) × (0xE0 ≤ a → a < 0xF0 → n ≡ 3) × (0xF0 ≤ a → n ≡ 4)
+length_by_first a n l h all = (
+  λ q. omega (arith, all (0x80 ∷ []) (IsSequence-HasShape (a ∷ 0x80 ∷ []) (l, omega arith, (omega arith, omega arith)))),
+  λ p q. omega (arith, all (second_byte_min a ∷ 0x80 ∷ []) (IsSequence-HasShape (a ∷ second_byte_min a ∷ 0x80 ∷ []) (p, omega arith, is_second-least a, (omega arith, omega arith)))),
+  λ q. omega (arith, all (second_byte_min a ∷ 0x80 ∷ 0x80 ∷ []) (IsSequence-HasShape (a ∷ second_byte_min a ∷ 0x80 ∷ 0x80 ∷ []) (q, h, is_second-least a, (omega arith, omega arith), (omega arith, omega arith)))),
+)

@@ -1,4 +1,4 @@
-// One call of a decoder, to bytes or to code units.
+//! One call of a decoder, to bytes or to code units.
 ghost use Rattle.std.specs.Prelude.{◌≡◌, []};
 ghost use Rattle.encoding_text.specs.Sequence.{IsBeginning};
 ghost use Rattle.encoding_text.specs.Pending.{IsPending};
@@ -8,7 +8,8 @@ use super::DecoderResult;
 use super::pending::{Pending, Resumed};
 use crate::utf_8::CodeUnit;
 
-/// Decodes `src` behind the pending bytes: the answer, how many bytes were read, and how many code units written.
+/// Decodes `src` behind the pending bytes, and returns what ended the call, how many bytes it read and how many code
+/// units it wrote. Behind what is written `dst` is as before.
 #[inline]
 pub(crate) fn decode<U: CodeUnit>(
     pending: &mut Pending,

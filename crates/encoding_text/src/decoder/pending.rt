@@ -1,4 +1,4 @@
-// The bytes of an unfinished character.
+//! The bytes of an unfinished character.
 ghost use Rattle.std.specs.Prelude.{◌≡◌, ◌≢◌, ℕ, ◌<◌, ◌≤◌, ◌↔◌, List, [], length, take, IsTrue};
 ghost use Rattle.encoding_text.specs.Sequence.{IsBeginning};
 ghost use Rattle.encoding_text.specs.Parts.{BeginsWithNoCharacter};
@@ -6,7 +6,7 @@ ghost use Rattle.encoding_text.specs.Pending.{IsPending};
 ghost use Rattle.encoding_text.specs.Steps.Resuming.{GoesOn};
 
 use super::DecoderResult;
-use crate::utf_8::{is_continuation, is_second};
+use crate::sequence::{begins_several, is_continuation, is_second, sequence_length};
 use std::marker::Model;
 
 /// Nothing, or the beginning of a sequence.
@@ -49,19 +49,6 @@ fn goes_on(lead: u8, count: usize, byte: u8) -> bool
     }
 }
 
-/// The length of the sequences of several bytes that begin with `lead`.
-fn sequence_length(lead: u8) -> usize
-    ensures two { lead < 0xE0 → result ≡ 2 }
-    ensures three { 0xE0 ≤ lead → lead < 0xF0 → result ≡ 3 }
-    ensures four { 0xF0 ≤ lead → result ≡ 4 }
-{
-    match lead {
-        ..=0xDF => 2,
-        0xE0..=0xEF => 3,
-        _ => 4,
-    }
-}
-
 impl Model for Pending {
     ghost Value = { List ℕ };
 
@@ -74,6 +61,7 @@ impl Pending {
     ghost use Rattle.encoding_text.specs.Steps.Resuming.{Pushes, Resumes};
     ghost use Rattle.encoding_text.specs.Steps.Ending.{AnswersAllRead, AnswersNoCharacter};
 
+    /// Nothing.
     pub(crate) fn none() -> Pending
         ensures { result ≡ [] }
     {
@@ -83,6 +71,7 @@ impl Pending {
         }
     }
 
+    /// The beginning, which is then pending.
     pub(crate) fn hold(beginning: &[u8]) -> Pending
         requires beginning { IsBeginning beginning.now }
         ensures { result ≡ beginning.now }
@@ -93,6 +82,7 @@ impl Pending {
         Pending { bytes, count }
     }
 
+    /// Whether nothing is pending.
     pub(crate) fn is_empty(&self) -> bool
         ensures empty { IsTrue result ↔ (self.now ≡ []) }
         ensures pending { IsPending self.now }
@@ -100,6 +90,7 @@ impl Pending {
         self.count == 0
     }
 
+    /// How many bytes are pending.
     pub(crate) fn len(&self) -> usize
         ensures length { result ≡ length self.now }
         ensures within { result ≤ 3 }
@@ -108,7 +99,7 @@ impl Pending {
         self.count
     }
 
-    /// Takes one more byte, if it goes on with the beginning.
+    /// Takes one more byte if it goes on with the beginning, and returns what it makes of it.
     fn push(&mut self, byte: u8) -> Pushed
         requires unfinished { self.old ≢ [] }
         ensures { Pushes self.old byte result self.new }
@@ -127,7 +118,8 @@ impl Pending {
         Pushed::Longer
     }
 
-    /// Takes bytes of the source as long as they go on with the beginning, and answers how many.
+    /// Takes bytes of the source as long as they go on with the beginning, and returns what they make of it and how
+    /// many they are.
     #[inline(never)]
     pub(crate) fn resume(&mut self, src: &[u8]) -> (Resumed, usize)
         requires unfinished { self.old ≢ [] }
@@ -147,7 +139,8 @@ impl Pending {
         (Resumed::Ended, src.len())
     }
 
-    /// Ends a call whose source was read to its end: where no more will come, pending bytes are a broken part.
+    /// Ends a call whose source was read to its end, and returns what ended it: where no more will come, pending
+    /// bytes are a broken part.
     pub(crate) fn end(&mut self, last: bool) -> DecoderResult
         ensures { AnswersAllRead self.old last result self.new }
     {
@@ -160,7 +153,7 @@ impl Pending {
     }
 
     /// Ends a call before the first byte of `rest` that no character takes: reads the broken part, or holds a
-    /// beginning that more bytes may go on with. Answers how many bytes were read.
+    /// beginning that more bytes may go on with. Returns what ended the call and how many bytes were read.
     #[inline(never)]
     pub(crate) fn end_before(&mut self, rest: &[u8], last: bool) -> (DecoderResult, usize)
         requires neutral { self.old ≡ [] }
@@ -168,7 +161,7 @@ impl Pending {
         requires no_character { BeginsWithNoCharacter rest.now }
         ensures { AnswersNoCharacter rest.now last result.0 result.1 self.new }
     {
-        if rest[0] < 0xC2 || rest[0] > 0xF4 {
+        if !begins_several(rest[0]) {
             return (DecoderResult::Malformed(1, 0), 1);
         }
         *self = Pending::hold(&rest[..1]);

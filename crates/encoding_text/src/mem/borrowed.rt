@@ -14,14 +14,18 @@ use std::alloc::{AllocError, Global};
 /// A text that is borrowed or owned.
 #[derive(Debug, PartialEq, Eq, Drop)]
 pub enum CowStr<'a> {
+    /// The text of the input, which takes no memory.
     Borrowed(&'a str),
+    /// A text of its own.
     Owned(String),
 }
 
 /// Bytes that are borrowed or owned.
 #[derive(Debug, PartialEq, Eq, Drop)]
 pub enum CowBytes<'a> {
+    /// The bytes of the input, which take no memory.
     Borrowed(&'a [u8]),
+    /// Bytes of their own.
     Owned(Vec<u8>),
 }
 
@@ -51,6 +55,7 @@ pub fn encode_latin1_lossy<'a>(alloc: Global, string: &'a str) -> Result<CowByte
     Ok(CowBytes::Owned(latin1_of_utf8(alloc, text, front)?))
 }
 
+/// ASCII bytes as a text.
 fn ascii_text<'a>(bytes: &'a [u8]) -> &'a str
     requires { IsAscii bytes.now }
     ensures { result.now ≡ bytes.now }
@@ -58,7 +63,7 @@ fn ascii_text<'a>(bytes: &'a [u8]) -> &'a str
     unsafe { std::str::from_utf8_unchecked(bytes) }
 }
 
-// The text whose characters are the bytes, of which those before `front` are ASCII.
+/// The text whose characters are the bytes, of which those before `front` are ASCII.
 fn utf8_of_latin1(alloc: Global, bytes: &[u8], front: usize) -> Result<String, AllocError>
     requires within { front ≤ length bytes.now }
     requires ascii { IsAscii (take front bytes.now) }
@@ -77,7 +82,8 @@ fn utf8_of_latin1(alloc: Global, bytes: &[u8], front: usize) -> Result<String, A
     Ok(unsafe { String::from_utf8_unchecked(text) })
 }
 
-// Writes the UTF-8 of bytes as characters, of which it copies those before `front`: they are ASCII.
+/// Writes the UTF-8 of bytes as characters, of which it copies those before `front`, which are ASCII, and returns how
+/// many bytes it wrote. Behind what is written `dst` is as before.
 fn write_utf8_of_latin1(bytes: &[u8], front: usize, dst: &mut [u8]) -> usize
     requires within { front ≤ length bytes.now }
     requires ascii { IsAscii (take front bytes.now) }
@@ -88,7 +94,7 @@ fn write_utf8_of_latin1(bytes: &[u8], front: usize, dst: &mut [u8]) -> usize
     front + latin1::convert_latin1_to_utf8(&bytes[front..], &mut dst[front..])
 }
 
-// The scalar values of Latin1 text in UTF-8, of which the bytes before `front` are ASCII.
+/// The scalar values of Latin1 text in UTF-8, of which the bytes before `front` are ASCII.
 fn latin1_of_utf8(alloc: Global, text: &[u8], front: usize) -> Result<Vec<u8>, AllocError>
     requires latin1 { IsUtf8Latin1 text.now }
     requires within { front ≤ length text.now }
@@ -102,7 +108,8 @@ fn latin1_of_utf8(alloc: Global, text: &[u8], front: usize) -> Result<Vec<u8>, A
     Ok(bytes)
 }
 
-// Writes the scalar values of Latin1 text, of which it copies the bytes before `front`: they are ASCII.
+/// Writes the scalar values of Latin1 text, of which it copies the bytes before `front`, which are ASCII, and returns
+/// how many bytes it wrote. Behind what is written `dst` is as before.
 fn write_latin1_of_utf8(text: &[u8], front: usize, dst: &mut [u8]) -> usize
     requires latin1 { IsUtf8Latin1 text.now }
     requires within { front ≤ length text.now }

@@ -6,6 +6,7 @@ ghost use Rattle.encoding_text.specs.Fronts.{IsLongestFront};
 ghost use Rattle.encoding_text.specs.Latin1.{IsLatin1, IsUtf8Latin1};
 
 use crate::ascii;
+use crate::sequence::is_continuation;
 
 /// The least UTF-16 code unit that isn't ASCII.
 const BASIC_LATIN_END: u16 = 0x80;
@@ -79,7 +80,7 @@ pub fn utf8_latin1_up_to(buffer: &[u8]) -> usize
             return read;
         }
         let next = buffer[read + 1];
-        if next < 0x80 || next > 0xBF {
+        if !is_continuation(next) {
             return read;
         }
         read += 2;

@@ -6,7 +6,8 @@ ghost use Rattle.encoding_text.specs.Fronts.{IsLongestFront, WritesFront};
 
 use crate::ascii;
 
-/// Copies the longest ASCII front and answers its length; `dst` is unchanged behind it. `dst` is no shorter than `src`.
+/// Copies the longest ASCII front and returns its length. `dst` is no shorter than `src`. Behind what is written `dst`
+/// is as before.
 pub fn copy_ascii_to_ascii(src: &[u8], dst: &mut [u8]) -> usize
     requires room { length src.now ≤ length dst.old }
     ensures front { IsLongestFront IsAscii src.now result }
@@ -18,8 +19,8 @@ pub fn copy_ascii_to_ascii(src: &[u8], dst: &mut [u8]) -> usize
     }
 }
 
-/// Copies the longest ASCII front, each byte as a UTF-16 code unit, and answers its length; `dst` is unchanged behind
-/// it. `dst` is no shorter than `src`.
+/// Copies the longest ASCII front, each byte as a UTF-16 code unit, and returns its length. `dst` is no shorter than
+/// `src`. Behind what is written `dst` is as before.
 pub fn copy_ascii_to_basic_latin(src: &[u8], dst: &mut [u16]) -> usize
     requires room { length src.now ≤ length dst.old }
     ensures front { IsLongestFront IsAscii src.now result }
@@ -31,8 +32,8 @@ pub fn copy_ascii_to_basic_latin(src: &[u8], dst: &mut [u16]) -> usize
     }
 }
 
-/// Copies the longest ASCII front of UTF-16 code units, each as a byte, and answers its length; `dst` is unchanged
-/// behind it. `dst` is no shorter than `src`.
+/// Copies the longest ASCII front of UTF-16 code units, each as a byte, and returns its length. `dst` is no shorter than
+/// `src`. Behind what is written `dst` is as before.
 pub fn copy_basic_latin_to_ascii(src: &[u16], dst: &mut [u8]) -> usize
     requires room { length src.now ≤ length dst.old }
     ensures front { IsLongestFront IsAscii src.now result }

@@ -9,7 +9,7 @@ ghost use Rattle.encoding_text.specs.Latin1.{IsUtf8Latin1};
 /// The bytes that a character from U+0080 to U+00FF takes in UTF-8.
 const HIGH_LENGTH: usize = 2;
 
-/// Writes each byte as a UTF-16 code unit; `dst` is unchanged behind them. `dst` is no shorter than `src`.
+/// Writes each byte as a UTF-16 code unit. `dst` is no shorter than `src`. Behind what is written `dst` is as before.
 pub fn convert_latin1_to_utf16(src: &[u8], dst: &mut [u16])
     requires room { length src.now ≤ length dst.old }
     ensures written { WritesFront dst.old dst.new (length src.now) src.now }
@@ -19,8 +19,8 @@ pub fn convert_latin1_to_utf16(src: &[u8], dst: &mut [u16])
     }
 }
 
-/// Writes the UTF-8 of the longest front of `src` whose UTF-8 fits into `dst`. The answer is how many bytes were read
-/// and how many were written; `dst` is unchanged behind those. Encoding Standard, `encodeInto`.
+/// Writes the UTF-8 of the longest front of `src` whose UTF-8 fits into `dst`, and returns how many bytes it read and
+/// how many it wrote: Encoding Standard, `encodeInto`. Behind what is written `dst` is as before.
 pub fn convert_latin1_to_utf8_partial(src: &[u8], dst: &mut [u8]) -> (usize, usize)
     ensures front { FitsLongest (λ b. b ∷ []) encode_utf8 src.now (length dst.old) result.0
         (encode_utf8_all (take result.0 src.now)) }
@@ -49,8 +49,8 @@ pub fn convert_latin1_to_utf8_partial(src: &[u8], dst: &mut [u8]) -> (usize, usi
     (read, written)
 }
 
-/// Writes the UTF-8 of each byte as a character, and answers how many bytes were written; `dst` is unchanged behind
-/// those. `dst` is at least twice as long as `src`.
+/// Writes the UTF-8 of each byte as a character, and returns how many bytes it wrote. `dst` is at least twice as long
+/// as `src`. Behind what is written `dst` is as before.
 pub fn convert_latin1_to_utf8(src: &[u8], dst: &mut [u8]) -> usize
     requires room { 2 * length src.now ≤ length dst.old }
     ensures written { WritesFront dst.old dst.new result (encode_utf8_all src.now) }
@@ -59,8 +59,8 @@ pub fn convert_latin1_to_utf8(src: &[u8], dst: &mut [u8]) -> usize
     written
 }
 
-/// Writes the scalar value of each character of Latin1 text in UTF-8 as a byte, and answers how many bytes were
-/// written; `dst` is unchanged behind those. `dst` is no shorter than `src`.
+/// Writes the scalar value of each character of Latin1 text in UTF-8 as a byte, and returns how many bytes it wrote.
+/// `dst` is no shorter than `src`. Behind what is written `dst` is as before.
 pub fn convert_utf8_to_latin1_lossy(src: &[u8], dst: &mut [u8]) -> usize
     requires room { length src.now ≤ length dst.old }
     requires latin1 { IsUtf8Latin1 src.now }
@@ -82,8 +82,8 @@ pub fn convert_utf8_to_latin1_lossy(src: &[u8], dst: &mut [u8]) -> usize
     written
 }
 
-/// Writes the low eight bits of each UTF-16 code unit as a byte; `dst` is unchanged behind them. `dst` is no shorter
-/// than `src`.
+/// Writes the low eight bits of each UTF-16 code unit as a byte. `dst` is no shorter than `src`. Behind what is written
+/// `dst` is as before.
 pub fn convert_utf16_to_latin1_lossy(src: &[u16], dst: &mut [u8])
     requires room { length src.now ≤ length dst.old }
     ensures written { WritesFront dst.old dst.new (length src.now) (map (λ unit. unit % 0x100) src.now) }

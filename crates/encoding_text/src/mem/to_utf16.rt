@@ -1,4 +1,5 @@
-// From UTF-8 to UTF-16, whole buffers.
+//! From UTF-8 to UTF-16, whole buffers.
+
 ghost use Rattle.std.specs.Prelude.{◌≡◌, ℕ, ◌<◌, ◌≤◌, ◌↔◌, List, length, IfSome, IsSome};
 ghost use Rattle.std.specs.List.{flat_map};
 ghost use Rattle.std.specs.Char.Escape.{encode_utf16};
@@ -10,10 +11,10 @@ ghost use Rattle.encoding_text.specs.Converting.{WritesText};
 use crate::decoder::{DecoderResult, Utf8Decoder};
 use crate::utf_8::convert_utf8_to_utf16_up_to_invalid;
 
-/// Converts bytes to UTF-16, with U+FFFD for each broken part, and answers how many code units were written.
-/// Encoding Standard, UTF-8 decode without BOM.
+/// Converts bytes to UTF-16, with U+FFFD for each broken part, and returns how many code units it wrote: Encoding
+/// Standard, UTF-8 decode without BOM.
 ///
-/// `dst` has to hold one code unit more than `src` has bytes. Behind what is written it is as before.
+/// `dst` holds at least one code unit more than `src` has bytes. Behind what is written `dst` is as before.
 pub fn convert_utf8_to_utf16(src: &[u8], dst: &mut [u16]) -> usize
     requires room { length src.now < length dst.old }
     ensures { (parts : List Part) × ArePartsOf src.now parts × WritesFront dst.old dst.new result (repaired_utf16 parts) }
@@ -40,9 +41,9 @@ pub fn convert_utf8_to_utf16(src: &[u8], dst: &mut [u16]) -> usize
     }
 }
 
-/// Converts a text to UTF-16, and answers how many code units were written.
+/// Converts a text to UTF-16, and returns how many code units it wrote.
 ///
-/// `dst` has to hold as many code units as `src` has bytes. Behind what is written it is as before.
+/// `dst` holds at least as many code units as `src` has bytes. Behind what is written `dst` is as before.
 pub fn convert_str_to_utf16(src: &str, dst: &mut [u16]) -> usize
     requires room { length src.now ≤ length dst.old }
     ensures { WritesFront dst.old dst.new result (flat_map encode_utf16 (chars src.now)) }
@@ -50,10 +51,10 @@ pub fn convert_str_to_utf16(src: &str, dst: &mut [u16]) -> usize
     convert_utf8_to_utf16_up_to_invalid(src.as_bytes(), dst).1
 }
 
-/// Converts bytes to UTF-16 if they are well-formed, and answers how many code units were written.
+/// Converts bytes to UTF-16, and returns how many code units it wrote where they are well-formed, else `None`.
 ///
-/// Otherwise answers `None`, and just the characters of the longest well-formed front are written. `dst` has to hold
-/// as many code units as `src` has bytes. Behind what is written it is as before.
+/// Just the characters of the longest well-formed front are written. `dst` holds at least as many code units as `src`
+/// has bytes. Behind what is written `dst` is as before.
 pub fn convert_utf8_to_utf16_without_replacement(src: &[u8], dst: &mut [u16]) -> Option<usize>
     requires room { length src.now ≤ length dst.old }
     ensures whole { IsSome result ↔ IsUtf8 src.now }

@@ -1,11 +1,10 @@
-// From UTF-8 to UTF-16.
+//! From UTF-8 to UTF-16, and its twin from UTF-8 to UTF-8.
 ghost use Rattle.std.specs.Prelude.{◌≡◌, ℕ, ◌<◌, ◌≤◌, List, length, encode_utf8, IfSome, IfNone};
 ghost use Rattle.std.specs.Char.{IsScalar};
 ghost use Rattle.std.specs.Char.Escape.{encode_utf16};
 ghost use Rattle.encoding_text.specs.Sequence.{IsSequence};
 ghost use Rattle.encoding_text.specs.Fronts.{WritesFront};
 ghost use Rattle.encoding_text.specs.Converting.{ConvertsLongest};
-ghost use Rattle.encoding_text.specs.Steps.Converting.{ConvertsFront};
 
 use super::validation::{character_length, utf8_valid_up_to};
 
@@ -19,17 +18,81 @@ pub(crate) trait CodeUnit: Copy {
 
     /// The most code units that a character takes.
     fn needed_room() -> usize
-        ensures { result ≡ need };
+        ensures room { result ≡ need }
+        ensures holds_any { (c : ℕ) → IsScalar c → length (encode c) ≤ need };
 
-    /// Converts the characters that begin `src`, as many as fit: how many bytes were read, and how many code units
-    /// written.
+    /// Converts UTF-8 up to the first byte that no character takes, or as far as whole characters fit, and returns
+    /// how many bytes it read and how many code units it wrote. Behind what is written `dst` is as before.
     fn convert_up_to_invalid(src: &[u8], dst: &mut [Self]) -> (usize, usize)
-        ensures front { ConvertsFront encode src.now dst.old dst.new result.0 result.1 }
-        ensures fits_the_need { (c : ℕ) → IsScalar c → length (encode c) ≤ need };
+        ensures { ConvertsLongest encode src.now dst.old dst.new result.0 result.1 };
+}
+
+impl CodeUnit for u16 {
+    ghost encode = { encode_utf16 };
+
+    ghost need = { 2 };
+
+    #[inline]
+    fn needed_room() -> usize {
+        2
+    }
+
+    #[inline]
+    fn convert_up_to_invalid(src: &[u8], dst: &mut [u16]) -> (usize, usize) {
+        convert_utf8_to_utf16_up_to_invalid(src, dst)
+    }
+}
+
+impl CodeUnit for u8 {
+    ghost encode = { encode_utf8 };
+
+    ghost need = { 4 };
+
+    #[inline]
+    fn needed_room() -> usize {
+        4
+    }
+
+    #[inline]
+    fn convert_up_to_invalid(src: &[u8], dst: &mut [u8]) -> (usize, usize) {
+        copy_utf8_up_to_invalid(src, dst)
+    }
+}
+
+/// Converts UTF-8 to UTF-16 up to the first byte that no character takes, or as far as whole characters fit, and
+/// returns how many bytes it read and how many code units it wrote. `dst` may have any length. Behind what is written
+/// `dst` is as before.
+pub fn convert_utf8_to_utf16_up_to_invalid(src: &[u8], dst: &mut [u16]) -> (usize, usize)
+    ensures { ConvertsLongest encode_utf16 src.now dst.old dst.new result.0 result.1 }
+{
+    let mut read = 0;
+    let mut written = 0;
+    while let Some(length) = character_length(&src[read..]) {
+        let scalar = scalar_of_sequence(&src[read..read + length]);
+        let Some(units) = put_utf16(scalar, &mut dst[written..]) else {
+            break;
+        };
+        read += length;
+        written += units;
+    }
+    (read, written)
+}
+
+/// Copies UTF-8 up to the first byte that no character takes, or as far as whole characters fit, and returns how many
+/// bytes it read and how many it wrote, which is the same. Behind what is written `dst` is as before.
+///
+/// The characters that fit are those of the front that is as long as the room.
+fn copy_utf8_up_to_invalid(src: &[u8], dst: &mut [u8]) -> (usize, usize)
+    ensures { ConvertsLongest encode_utf8 src.now dst.old dst.new result.0 result.1 }
+{
+    let room = src.len().min(dst.len());
+    let length = utf8_valid_up_to(&src[..room]);
+    dst[..length].copy_from_slice(&src[..length]);
+    (length, length)
 }
 
 /// The scalar value that the bytes spell.
-fn scalar_of_sequence(bytes: &[u8]) -> u32
+pub(crate) fn scalar_of_sequence(bytes: &[u8]) -> u32
     requires sequence { IsSequence bytes.now }
     ensures scalar { IsScalar result }
     ensures spelled { encode_utf8 result ≡ bytes.now }
@@ -48,11 +111,11 @@ fn scalar_of_sequence(bytes: &[u8]) -> u32
     }
 }
 
-/// Writes the scalar value at the front, if it fits, and answers how many code units it takes.
+/// Writes the UTF-16 of the scalar value at the front, if it fits, and returns how many code units that are.
 fn put_utf16(scalar: u32, dst: &mut [u16]) -> Option<usize>
     requires scalar { IsScalar scalar }
-    ensures some { IfSome result (λ n. WritesFront dst.old dst.new n (encode_utf16 scalar)) }
-    ensures none { IfNone result ((length dst.old < length (encode_utf16 scalar)) × (dst.new ≡ dst.old)) }
+    ensures written { IfSome result (λ n. WritesFront dst.old dst.new n (encode_utf16 scalar)) }
+    ensures unfit { IfNone result ((length dst.old < length (encode_utf16 scalar)) × (dst.new ≡ dst.old)) }
 {
     if scalar < 0x10000 {
         if dst.is_empty() {
@@ -68,57 +131,4 @@ fn put_utf16(scalar: u32, dst: &mut [u16]) -> Option<usize>
     dst[0] = 0xD800 | (above >> 10) as u16;
     dst[1] = 0xDC00 | (above & 0x3FF) as u16;
     Some(2)
-}
-
-impl CodeUnit for u16 {
-    ghost encode = { encode_utf16 };
-
-    ghost need = { 2 };
-
-    #[inline]
-    fn needed_room() -> usize {
-        2
-    }
-
-    fn convert_up_to_invalid(src: &[u8], dst: &mut [u16]) -> (usize, usize) {
-        let mut read = 0;
-        let mut written = 0;
-        while let Some(length) = character_length(&src[read..]) {
-            let scalar = scalar_of_sequence(&src[read..read + length]);
-            let Some(units) = put_utf16(scalar, &mut dst[written..]) else {
-                break;
-            };
-            read += length;
-            written += units;
-        }
-        (read, written)
-    }
-}
-
-impl CodeUnit for u8 {
-    ghost encode = { encode_utf8 };
-
-    ghost need = { 4 };
-
-    #[inline]
-    fn needed_room() -> usize {
-        4
-    }
-
-    // The characters that fit are those of the front that is as long as the room.
-    fn convert_up_to_invalid(src: &[u8], dst: &mut [u8]) -> (usize, usize) {
-        let room = src.len().min(dst.len());
-        let length = utf8_valid_up_to(&src[..room]);
-        dst[..length].copy_from_slice(&src[..length]);
-        (length, length)
-    }
-}
-
-/// Converts UTF-8 to UTF-16 up to the first byte that no character takes, or as far as whole characters fit: how
-/// many bytes were read, and how many code units written. `dst` may have any length, and behind what is written it
-/// is as before.
-pub fn convert_utf8_to_utf16_up_to_invalid(src: &[u8], dst: &mut [u16]) -> (usize, usize)
-    ensures { ConvertsLongest encode_utf16 src.now dst.old dst.new result.0 result.1 }
-{
-    u16::convert_up_to_invalid(src, dst)
 }

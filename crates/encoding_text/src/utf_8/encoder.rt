@@ -1,4 +1,4 @@
-// The encoder: it holds a high surrogate from one call to the next.
+//! The encoder: it holds a high surrogate from one call to the next.
 ghost use Rattle.std.specs.Prelude.{◌≡◌, ◌+◌, ◌*◌, ◌≤◌, false, [], ◌∷◌, length, take, drop, encode_utf8, IsTrue};
 ghost use Rattle.std.specs.Option.{SomeIff};
 ghost use Rattle.std.specs.Str.{chars};
@@ -17,14 +17,14 @@ use std::marker::Model;
 /// What ended a call of an encoder.
 #[derive(Debug, PartialEq, Eq, Drop)]
 pub enum EncoderResult {
-    /// All of the source is read, and all that was due is written.
+    /// All of the source is read, and all that was due is written. After a last call nothing is held.
     InputEmpty,
     /// The next character doesn't fit into what is left of the destination.
     OutputFull,
 }
 
-/// An encoder to UTF-8: Encoding Standard, section 8.1. Contracts see it as the list of the units that it holds:
-/// none, or the high surrogate that ended an earlier call and waits for its low half.
+/// An encoder to UTF-8: Encoding Standard, section 8.1. Contracts see it as the list of the code units that it
+/// holds: none, or the high surrogate that ended an earlier call and waits for its low half.
 #[derive(Drop)]
 pub struct Utf8Encoder {
     held: Option<u16>,
@@ -49,24 +49,33 @@ impl Utf8Encoder {
         Utf8Encoder { held: None }
     }
 
-    /// How many bytes of room are enough to encode `n` UTF-16 code units and what is held, or `None` where that
-    /// passes `usize`.
-    pub fn max_buffer_length_from_utf16_without_replacement(&self, n: usize) -> Option<usize>
-        ensures room { SomeIff result (3 * (n + length self.now) ≤ usize.MAX) (3 * (n + length self.now)) }
+    /// How many bytes a destination has to hold so that a call from `u16_length` UTF-16 code units doesn't meet its end:
+    /// `None` where that number passes `usize::MAX`.
+    pub fn max_buffer_length_from_utf16_without_replacement(
+        &self,
+        u16_length: usize,
+    ) -> Option<usize>
+        ensures room { SomeIff result (3 * (u16_length + length self.now) ≤ usize.MAX)
+            (3 * (u16_length + length self.now)) }
         ensures held { IsHeld self.now }
     {
-        n.checked_add(self.held_count())?.checked_mul(3)
+        u16_length.checked_add(self.held_count())?.checked_mul(3)
     }
 
-    /// How many bytes of room are enough to encode a text of `n` bytes and what is held, or `None` where that
-    /// passes `usize`.
-    pub fn max_buffer_length_from_utf8_without_replacement(&self, n: usize) -> Option<usize>
-        ensures room { SomeIff result (n + 3 * length self.now ≤ usize.MAX) (n + 3 * length self.now) }
+    /// How many bytes a destination has to hold so that a call from a text of `byte_length` bytes doesn't meet its end:
+    /// `None` where that number passes `usize::MAX`.
+    pub fn max_buffer_length_from_utf8_without_replacement(
+        &self,
+        byte_length: usize,
+    ) -> Option<usize>
+        ensures room { SomeIff result (byte_length + 3 * length self.now ≤ usize.MAX)
+            (byte_length + 3 * length self.now) }
         ensures held { IsHeld self.now }
     {
-        n.checked_add(3 * self.held_count())
+        byte_length.checked_add(3 * self.held_count())
     }
 
+    /// How many code units are held.
     fn held_count(&self) -> usize
         ensures count { result ≡ length self.now }
         ensures held { IsHeld self.now }
@@ -77,13 +86,13 @@ impl Utf8Encoder {
         }
     }
 
-    /// Encodes `src`, with the unit that is held in front of it, into `dst`, and returns what ended the call, how
-    /// many units of `src` it read and how many bytes it wrote. `last` marks the last call.
+    /// Encodes `src`, with the code unit that is held in front of it, into `dst`, and returns what ended the call,
+    /// how many code units of `src` it read and how many bytes it wrote. `last` marks the last call.
     ///
     /// A high surrogate that ends a call not marked last is held, for the low one may follow in the next call. Any
     /// other surrogate that is in no pair becomes U+FFFD (Unicode Standard, section 3.9, UTF-16). No character is
     /// written in part. At `OutputFull` with nothing written nothing is read, and what was held stays; with something
-    /// written nothing is held. What lies behind the written bytes stays.
+    /// written nothing is held. Behind what is written `dst` is as before.
     pub fn encode_from_utf16_raw(
         &mut self,
         src: &[u16],
@@ -94,7 +103,7 @@ impl Utf8Encoder {
             result.0 result.1 (take result.2 dst.new) self.new }
         ensures within { result.1 ≤ length src.now }
         ensures rest { WritesFront dst.old dst.new result.2 (take result.2 dst.new) }
-        ensures enough { 3 * (length src.now + length self.old) ≤ length dst.old → result.0 ≡ EncoderResult.InputEmpty }
+        ensures suffices { 3 * (length src.now + length self.old) ≤ length dst.old → result.0 ≡ EncoderResult.InputEmpty }
     {
         let Some(high) = self.held else {
             return self.encode_fresh(src, dst, last);
@@ -136,12 +145,12 @@ impl Utf8Encoder {
         (EncoderResult::InputEmpty, src.len(), written)
     }
 
-    /// Encodes U+FFFD for the unit that is held, if there is one, and then `src` into `dst`, and returns what ended
-    /// the call, how many bytes of `src` it read and how many bytes it wrote. Whether the call is the last has no
-    /// effect.
+    /// Encodes U+FFFD for the code unit that is held, if there is one, and then `src` into `dst`, and returns what
+    /// ended the call, how many bytes of `src` it read and how many bytes it wrote. Whether the call is the last has
+    /// no effect.
     ///
-    /// The held unit is written also where `src` is empty, and stays held only where it didn't fit. No character is
-    /// written in part. What lies behind the written bytes stays.
+    /// U+FFFD is written for it also where `src` is empty, and it stays held only where that didn't fit. No character
+    /// is written in part. Behind what is written `dst` is as before.
     pub fn encode_from_utf8_raw(
         &mut self,
         src: &str,
@@ -152,7 +161,7 @@ impl Utf8Encoder {
             result.0 result.1 (take result.2 dst.new) self.new }
         ensures within { result.1 ≤ length src.now }
         ensures rest { WritesFront dst.old dst.new result.2 (take result.2 dst.new) }
-        ensures enough { length src.now + 3 * length self.old ≤ length dst.old → result.0 ≡ EncoderResult.InputEmpty }
+        ensures suffices { length src.now + 3 * length self.old ≤ length dst.old → result.0 ≡ EncoderResult.InputEmpty }
     {
         let Some(_) = self.held else {
             let (result, read) = encode_text(src, dst);
@@ -168,7 +177,7 @@ impl Utf8Encoder {
     }
 }
 
-/// How many of the units are due: all but a high surrogate that ends a call not marked last.
+/// How many of the code units are due: all but a high surrogate that ends a call not marked last.
 fn due_length(src: &[u16], last: bool) -> usize
     ensures within { result ≤ length src.now }
     ensures held { IsHeld (drop result src.now) }
@@ -186,8 +195,8 @@ fn due_length(src: &[u16], last: bool) -> usize
     }
 }
 
-/// What the first part of the units counts as, where a high surrogate stands in front of `src`, and how many units
-/// of `src` that part takes.
+/// What the first part of the code units counts as, where a high surrogate stands in front of `src`, and how many
+/// code units of `src` that part takes.
 fn first_with_held(high: u16, src: &[u16]) -> (u32, usize)
     requires { IsHighSurrogate high }
     ensures first { IsFirstScalar (high ∷ src.now) result.0 }

@@ -1,4 +1,4 @@
-// UTF-16 to UTF-8, into a destination of any size.
+//! UTF-16 to UTF-8, into a destination of any size.
 ghost use Rattle.std.specs.Prelude.{◌≡◌, ◌+◌, ◌<◌, ◌≤◌, ◌↔◌, ◌⊎◌, length, take, drop, encode_utf8, IsTrue};
 ghost use Rattle.std.specs.Char.{len_utf8};
 ghost use Rattle.std.specs.Char.Escape.{encode_utf16};
@@ -13,19 +13,22 @@ pub(super) const REPLACEMENT: u32 = 0xFFFD;
 /// The most bytes that a character has in UTF-8.
 const LONGEST: usize = 4;
 
-fn is_surrogate(unit: u16) -> bool
+/// Whether the code unit is a surrogate.
+pub(crate) fn is_surrogate(unit: u16) -> bool
     ensures { IsTrue result ↔ ((0xD800 ≤ unit) × (unit ≤ 0xDFFF)) }
 {
     unit & 0xF800 == 0xD800
 }
 
-pub(super) fn is_high_surrogate(unit: u16) -> bool
+/// Whether the code unit is a high surrogate, the first of a pair.
+pub(crate) fn is_high_surrogate(unit: u16) -> bool
     ensures { IsTrue result ↔ IsHighSurrogate unit }
 {
     unit & 0xFC00 == 0xD800
 }
 
-pub(super) fn is_low_surrogate(unit: u16) -> bool
+/// Whether the code unit is a low surrogate, the second of a pair.
+pub(crate) fn is_low_surrogate(unit: u16) -> bool
     ensures { IsTrue result ↔ IsLowSurrogate unit }
 {
     unit & 0xFC00 == 0xDC00
@@ -40,7 +43,7 @@ pub(super) fn pair_scalar(high: u16, low: u16) -> u32
     0x10000 + ((u32::from(high) - 0xD800) << 10) + (u32::from(low) - 0xDC00)
 }
 
-/// What the first part of the units from this place on counts as.
+/// What the first part of the code units from this place on counts as.
 fn scalar_at(src: &[u16], at: usize) -> u32
     requires { at < length src.now }
     ensures { IsFirstScalar (drop at src.now) result }
@@ -58,7 +61,7 @@ fn scalar_at(src: &[u16], at: usize) -> u32
     REPLACEMENT
 }
 
-/// How many units the UTF-16 of a scalar value has.
+/// How many code units the UTF-16 of a scalar value has.
 fn utf16_length(scalar: u32) -> usize
     ensures { result ≡ length (encode_utf16 scalar) }
 {
@@ -77,7 +80,7 @@ pub(super) fn utf8_length(scalar: u32) -> usize
     }
 }
 
-/// Writes the UTF-8 of a scalar value, and says how many bytes that are.
+/// Writes the UTF-8 of a scalar value, and returns how many bytes that are. Behind what is written `dst` is as before.
 pub(super) fn write_scalar(scalar: u32, dst: &mut [u8]) -> usize
     requires scalar { scalar < 0x110000 }
     requires room { len_utf8 scalar ≤ length dst.old }
@@ -108,11 +111,11 @@ pub(super) fn write_scalar(scalar: u32, dst: &mut [u8]) -> usize
 }
 
 /// Converts the first characters of `src` from UTF-16 to UTF-8, while at least four bytes of `dst` are free, and
-/// returns how many units it read and how many bytes it wrote. A surrogate that is in no pair becomes U+FFFD
+/// returns how many code units it read and how many bytes it wrote. A surrogate that is in no pair becomes U+FFFD
 /// (Unicode Standard, section 3.9, UTF-16).
 ///
 /// Either all of `src` is read, or at most three bytes are free: `convert_utf16_to_utf8_partial_tail` then fills
-/// those. What lies behind the written bytes stays.
+/// those. Behind what is written `dst` is as before.
 pub fn convert_utf16_to_utf8_partial_inner(src: &[u16], dst: &mut [u8]) -> (usize, usize)
     ensures front { IsUtf8OfFront src.now result.0 (take result.1 dst.new) }
     ensures rest { WritesFront dst.old dst.new result.1 (take result.1 dst.new) }
@@ -130,11 +133,11 @@ pub fn convert_utf16_to_utf8_partial_inner(src: &[u16], dst: &mut [u8]) -> (usiz
 }
 
 /// Converts the first characters of `src` from UTF-16 to UTF-8, as many as fit into the at most three bytes of
-/// `dst`, and returns how many units it read and how many bytes it wrote. A surrogate that is in no pair becomes
-/// U+FFFD. `src` isn't empty. What lies behind the written bytes stays.
+/// `dst`, and returns how many code units it read and how many bytes it wrote. A surrogate that is in no pair becomes
+/// U+FFFD. `src` isn't empty. Behind what is written `dst` is as before.
 pub fn convert_utf16_to_utf8_partial_tail(src: &[u16], dst: &mut [u8]) -> (usize, usize)
-    requires some { 0 < length src.now }
-    requires short { length dst.old < 4 }
+    requires not_empty { 0 < length src.now }
+    requires at_most_three { length dst.old ≤ 3 }
     ensures longest { IsUtf8OfLongestFront src.now (length dst.old) result.0 (take result.1 dst.new) }
     ensures within { result.0 ≤ length src.now }
     ensures rest { WritesFront dst.old dst.new result.1 (take result.1 dst.new) }
@@ -152,8 +155,8 @@ pub fn convert_utf16_to_utf8_partial_tail(src: &[u16], dst: &mut [u8]) -> (usize
     (read, written)
 }
 
-/// Converts the first characters of `src` from UTF-16 to UTF-8, as many as fit into `dst`, and returns how many
-/// units it read and how many bytes it wrote. What lies behind the written bytes stays.
+/// Converts the first characters of `src` from UTF-16 to UTF-8, as many as fit into `dst`, and returns how many code
+/// units it read and how many bytes it wrote. Behind what is written `dst` is as before.
 pub(super) fn convert_longest_front(src: &[u16], dst: &mut [u8]) -> (usize, usize)
     ensures longest { IsUtf8OfLongestFront src.now (length dst.old) result.0 (take result.1 dst.new) }
     ensures within { result.0 ≤ length src.now }

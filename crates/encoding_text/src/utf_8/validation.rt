@@ -1,34 +1,16 @@
-// Where bytes stop being UTF-8.
-ghost use Rattle.std.specs.Prelude.{◌<◌, ◌≤◌, ◌↔◌, length, take, IfSome, IfNone, IsTrue};
+//! Where bytes stop being UTF-8.
+ghost use Rattle.std.specs.Prelude.{◌<◌, ◌≤◌, length, take, IfSome, IfNone};
 ghost use Rattle.std.specs.Str.{IsUtf8};
-ghost use Rattle.encoding_text.specs.Sequence.{IsSequence, IsSecond, IsContinuation};
+ghost use Rattle.encoding_text.specs.Sequence.{IsSequence};
 ghost use Rattle.encoding_text.specs.Parts.{BeginsWithNoCharacter};
 ghost use Rattle.encoding_text.specs.Fronts.{IsLongestFront};
 
-pub(crate) fn is_continuation(byte: u8) -> bool
-    ensures { IsTrue result ↔ IsContinuation byte }
-{
-    byte & 0xC0 == 0x80
-}
-
-/// Whether the byte may stand second behind this first one of several.
-pub(crate) fn is_second(lead: u8, byte: u8) -> bool
-    ensures { IsTrue result ↔ IsSecond lead byte }
-{
-    match lead {
-        0xE0 => 0xA0 <= byte && byte <= 0xBF,
-        0xED => 0x80 <= byte && byte <= 0x9F,
-        0xF0 => 0x90 <= byte && byte <= 0xBF,
-        0xF4 => 0x80 <= byte && byte <= 0x8F,
-        0xC2..=0xF3 => is_continuation(byte),
-        _ => false,
-    }
-}
+use crate::sequence::{is_continuation, is_second};
 
 /// The length of the character that begins the bytes, where one does.
 pub(crate) fn character_length(bytes: &[u8]) -> Option<usize>
-    ensures some { IfSome result (λ n. (0 < n) × (n ≤ length bytes.now) × IsSequence (take n bytes.now)) }
-    ensures none { IfNone result (BeginsWithNoCharacter bytes.now) }
+    ensures length { IfSome result (λ n. (0 < n) × (n ≤ length bytes.now) × IsSequence (take n bytes.now)) }
+    ensures no_character { IfNone result (BeginsWithNoCharacter bytes.now) }
 {
     if bytes.is_empty() {
         return None;
@@ -57,6 +39,10 @@ pub(crate) fn character_length(bytes: &[u8]) -> Option<usize>
 
 /// The length in bytes of the longest front of `src` that is well-formed UTF-8: the place of the first byte
 /// that no character takes, or the length of `src`.
+///
+/// Unicode Standard, section 3.9, UTF-8: the bytes of a character are in one of the nine rows of Table 3-7, Well-Formed
+/// UTF-8 Byte Sequences. The first byte tells how many there are and which may stand second; so no byte of an
+/// overlong form, of an encoded surrogate or above U+10FFFF is in the front.
 pub fn utf8_valid_up_to(src: &[u8]) -> usize
     ensures { IsLongestFront IsUtf8 src.now result }
 {

@@ -1,5 +1,6 @@
 use Rattle.encoding_text.proofs.Decomposition.DecompositionLemmas.{has_parts, same_parts, parts-bytes, has_settled, settled_front}
 use Rattle.encoding_text.proofs.Decomposition.LossyLemmas.{repaired-utf8_lossy}
+use Rattle.encoding_runs.proofs.CutLemmas.{settled_text}
 use Rattle.encoding_runs.proofs.laws.law_parts.Goals as goal
 
 pub returns-clause-exist : goal.returns-clause-exist
@@ -16,6 +17,9 @@ returns-clause-settled_exist c = has_settled
 
 pub returns-clause-settled_stay : goal.returns-clause-settled_stay
 returns-clause-settled_stay c = λ bs rest more parts all. settled_front bs parts rest more all
+
+pub returns-clause-settled_text : goal.returns-clause-settled_text
+returns-clause-settled_text c = settled_text
 
 pub returns-clause-lossy : goal.returns-clause-lossy
 returns-clause-lossy c = repaired-utf8_lossy

@@ -1,7 +1,8 @@
-use Rattle.std.proofs.Common.{◌+◌, ◌-◌, ◌<◌, ◌≤◌, arith, length}
+use Rattle.std.proofs.Common.{◌≡◌, ◌+◌, ◌-◌, ◌<◌, ◌∙◌, ap, arith, refl, length, take, drop}
 use Rattle.std.proofs.lemmas.List.{take_rest, length-drop, length-set}
 use borrow.Rule.Slice.PartMut.{put_mid}
 use Rattle.encoding_text.proofs.LongestFronts.FrontsLemmas.{WritesFront-length}
+use Rattle.encoding_text.proofs.Calls.RoomLemmas.{keeps_room}
 use Rattle.encoding_text.proofs.Calls.RepairingLemmas.{repaired_all, repaired_more, repaired_length, reads_some}
 use Rattle.encoding_text.proofs.mem.to_utf16.convert_utf8_to_utf16.Goals as goal
 
@@ -13,20 +14,21 @@ returns-in-InputEmpty c =
 pub unreachable-requires : goal.unreachable-requires
 unreachable-requires c =
     let read = c.loop-dst.read in
+    let written = c.loop-dst.written in
+    let call = rw (take_rest c.args.src.now read, take_rest c.loop-dst.dst written, c.loop-dst.invariant.neutral) at c.decode_to_utf16_raw-result.ensures.call in
     let room = c.loop-dst.invariant.room in
-    let s = rw (take_rest c.args.src.now read, take_rest c.loop-dst.dst c.loop-dst.written, c.loop-dst.invariant.neutral) at c.decode_to_utf16_raw-result.ensures.suffices in
-    (s (length c.args.src.now - read) (omega (arith, length-drop read c.args.src.now)) (omega (arith, room, length-drop c.loop-dst.written c.loop-dst.dst))).0 c.in-OutputFull.is
+    (keeps_room _ _ _ _ _ _ _ _ call (omega (arith, room, length-drop read c.args.src.now, length-drop written c.loop-dst.dst))).0 c.in-OutputFull.is
 
 pub bounds-dst-written : goal.bounds-dst-written
 bounds-dst-written c =
     let read = c.loop-dst.read in
     let dst = c.loop-dst.dst in
+    let written = c.loop-dst.written in
     let room = c.loop-dst.invariant.room in
-    let s = rw (take_rest c.args.src.now read, take_rest dst c.loop-dst.written, c.loop-dst.invariant.neutral) at c.decode_to_utf16_raw-result.ensures.suffices_replacing in
-    let left = s (length c.args.src.now - read) (omega (arith, length-drop read c.args.src.now)) (omega (arith, room, length-drop c.loop-dst.written dst)) (_, _, c.in-Malformed.is) in
-    let inside : c.loop-dst.written ≤ length dst = omega (arith, room) in
-    let long = repaired_length dst c.decode_to_utf16_raw-result.new.dst c.loop-dst.written _ _ c.decode_to_utf16_raw-result.ensures.call.1 inside in
-    omega (arith, left, long, length-drop c.loop-dst.written dst)
+    let call = rw (take_rest c.args.src.now read, take_rest dst written, c.loop-dst.invariant.neutral) at c.decode_to_utf16_raw-result.ensures.call in
+    let left = (keeps_room _ _ _ _ _ _ _ _ call (omega (arith, room, length-drop read c.args.src.now, length-drop written dst))).1 (_, _, c.in-Malformed.is) in
+    let long = repaired_length dst c.decode_to_utf16_raw-result.new.dst written _ _ c.decode_to_utf16_raw-result.ensures.call.1 (omega (arith, room)) in
+    omega (arith, left, long, length-drop written dst)
 
 pub loop-dst-smaller : goal.loop-dst-smaller
 loop-dst-smaller c =
@@ -38,18 +40,18 @@ pub loop-dst-preserved : goal.loop-dst-preserved
 loop-dst-preserved c =
     let read = c.loop-dst.read in
     let dst = c.loop-dst.dst in
+    let written = c.loop-dst.written in
     let more = c.decode_to_utf16_raw-result.result.1 in
     let units = c.decode_to_utf16_raw-result.result.2 in
     let room = c.loop-dst.invariant.room in
     let repaired = c.loop-dst.invariant.repaired in
     let call = rw (take_rest c.args.src.now read, c.loop-dst.invariant.neutral, c.in-Malformed.is) at c.decode_to_utf16_raw-result.ensures.call in
     let some = reads_some _ _ _ _ _ _ _ _ call in
-    let s = rw (take_rest c.args.src.now read, take_rest dst c.loop-dst.written, c.loop-dst.invariant.neutral) at c.decode_to_utf16_raw-result.ensures.suffices_replacing in
-    let left = s (length c.args.src.now - read) (omega (arith, length-drop read c.args.src.now)) (omega (arith, room, length-drop c.loop-dst.written dst)) (_, _, c.in-Malformed.is) in
     let whole = WritesFront-length _ _ _ _ repaired.writes in
-    let inside : c.loop-dst.written ≤ length dst = omega (arith, room) in
-    let long = repaired_length dst c.decode_to_utf16_raw-result.new.dst c.loop-dst.written _ _ c.decode_to_utf16_raw-result.ensures.call.1 inside in
-    let left_in : units + 1 + (length c.args.src.now - read - more) < length dst - c.loop-dst.written = omega (arith, left, length-drop c.loop-dst.written dst) in
+    let long = repaired_length dst c.decode_to_utf16_raw-result.new.dst written _ _ c.decode_to_utf16_raw-result.ensures.call.1 (omega (arith, room)) in
+    let size : length (take (length dst - written) (drop written dst)) ≡ length dst - written = ap length (take_rest dst written) ∙ length-drop written dst in
+    let left = (keeps_room _ _ _ _ _ _ _ _ call (omega (arith, room, size, length-drop read c.args.src.now))).1 (_, _, refl) in
+    let left_in : units + 1 + (length c.args.src.now - read - more) < length dst - written = omega (arith, left, size, length-drop read c.args.src.now) in
     record {
       neutral = some.2;
       repaired = repaired_more _ _ _ _ _ _ _ _ _ _ _ repaired call (omega (arith, left_in, whole));
@@ -58,6 +60,6 @@ loop-dst-preserved c =
         left_in,
         room,
         long,
-        length-set (put_mid c.loop-dst.written (length dst - c.loop-dst.written) dst c.decode_to_utf16_raw-result.new.dst) (c.loop-dst.written + units) 0xFFFD,
+        length-set (put_mid written (length dst - written) dst c.decode_to_utf16_raw-result.new.dst) (written + units) 0xFFFD,
       );
     }

@@ -4,24 +4,24 @@ use Rattle.encoding_text.proofs.Sequences.SequenceLemmas.{no_character_reads}
 use Rattle.encoding_text.proofs.utf_8.validation.character_length.Goals as goal
 use Rattle.encoding_text.proofs.utf_8.validation.character_length.Goals.{then-bytes-lt2-via-then-bytes-lt2, then-bytes-lt2-via-else-bytes-lt2+then-not-is_second, then-bytes-lt3-via-then-bytes-lt3, then-bytes-lt3-via-else-bytes-lt3+then-not-is_continuation, then-bytes-lt4-via-then-bytes-lt4, then-bytes-lt4-via-else-bytes-lt4+then-not-is_continuation-2}
 
-pub returns-then-bytes-lt2-clause-none : goal.returns-then-bytes-lt2-clause-none
-returns-then-bytes-lt2-clause-none c = no_character_reads _ (λ r.
+pub returns-then-bytes-lt2-clause-no_character : goal.returns-then-bytes-lt2-clause-no_character
+returns-then-bytes-lt2-clause-no_character c = no_character_reads _ (λ r.
     let second = r.1 c.if-lead-lt128.false in
     elim c.then-bytes-lt2.branch [
       | then-bytes-lt2-via-then-bytes-lt2 w ↦ omega (arith, second.0)
       | then-bytes-lt2-via-else-bytes-lt2+then-not-is_second w ↦ both_ways _ w.if-not-is_second.true (w.is_second.ensures.1 second.1)
     ])
 
-pub returns-then-bytes-lt3-clause-none : goal.returns-then-bytes-lt3-clause-none
-returns-then-bytes-lt3-clause-none c = no_character_reads _ (λ r.
+pub returns-then-bytes-lt3-clause-no_character : goal.returns-then-bytes-lt3-clause-no_character
+returns-then-bytes-lt3-clause-no_character c = no_character_reads _ (λ r.
     let third = r.2 c.if-lead-lt224.false in
     elim c.then-bytes-lt3.branch [
       | then-bytes-lt3-via-then-bytes-lt3 w ↦ omega (arith, third.0)
       | then-bytes-lt3-via-else-bytes-lt3+then-not-is_continuation w ↦ both_ways _ w.if-not-is_continuation.true (w.is_continuation.ensures.1 third.1)
     ])
 
-pub returns-then-bytes-lt4-clause-none : goal.returns-then-bytes-lt4-clause-none
-returns-then-bytes-lt4-clause-none c = no_character_reads _ (λ r.
+pub returns-then-bytes-lt4-clause-no_character : goal.returns-then-bytes-lt4-clause-no_character
+returns-then-bytes-lt4-clause-no_character c = no_character_reads _ (λ r.
     let fourth = r.3 c.if-lead-lt240.false in
     elim c.then-bytes-lt4.branch [
       | then-bytes-lt4-via-then-bytes-lt4 w ↦ omega (arith, fourth.0)

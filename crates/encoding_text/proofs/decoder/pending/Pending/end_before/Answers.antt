@@ -1,24 +1,20 @@
 use Rattle.std.proofs.Common.{arith, refl}
+use Rattle.std.proofs.lemmas.Bool.{both_ways}
 use Rattle.std.proofs.lemmas.List.{take_rest}
 use Rattle.encoding_text.proofs.Calls.CallLemmas.{lone_before, begins_before, ended_before, stuck_before, no_whole_before}
 use Rattle.encoding_text.proofs.decoder.pending.Pending.end_before.Goals as goal
-use Rattle.encoding_text.proofs.decoder.pending.Pending.end_before.Goals.{then-rest-lt194-via-then-rest-lt194, then-rest-lt194-via-else-rest-lt194+then-rest-gt244}
 
-pub returns-then-rest-lt194 : goal.returns-then-rest-lt194
-returns-then-rest-lt194 c = (
+pub returns-then-not-begins_several : goal.returns-then-not-begins_several
+returns-then-not-begins_several c = (
   refl,
   refl,
   omega (arith, c.requires.not_empty),
   c.requires.neutral,
-  lone_before _ _ c.requires.not_empty c.requires.no_character (λ r.
-      elim c.then-rest-lt194.branch [
-        | then-rest-lt194-via-then-rest-lt194 w ↦ omega (arith, r.0)
-        | then-rest-lt194-via-else-rest-lt194+then-rest-gt244 w ↦ omega (arith, r.1)
-      ]),
+  lone_before _ _ c.requires.not_empty c.requires.no_character (λ o. both_ways _ c.if-not-begins_several.true (c.begins_several.ensures.1 o)),
 )
 
 pub hold-requires : goal.hold-requires
-hold-requires c = record { beginning = begins_before _ c.requires.not_empty c.if-rest-lt194.false c.if-rest-gt244.false }
+hold-requires c = record { beginning = begins_before _ c.requires.not_empty (c.begins_several.ensures.0 c.if-not-begins_several.false) }
 
 pub overflow_cast-result : goal.overflow_cast-result
 overflow_cast-result c =

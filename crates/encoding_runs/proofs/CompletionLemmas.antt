@@ -1,0 +1,99 @@
+-- With turns enough that each get on, and room enough, a run comes to the end of its source.
+use Rattle.std.proofs.Common.{◌≡◌, ℕ, ◌+◌, ◌-◌, ◌*◌, ◌<◌, ◌≤◌, ◌⊎◌, inl, inr, Bool, true, ◌&&◌, List, [], ◌∷◌, length, take, drop, encode_utf8, encode_utf8_all, Option, Some, refl, sym, ap, arith, subst}
+use lib.Utf8.{scalar}
+use Rattle.std.specs.Char.{IsScalar}
+use Rattle.std.specs.Str.{all_scalars}
+use Rattle.std.specs.List.{flat_map}
+use Rattle.std.proofs.lemmas.Bool.{and_parts, cases_lt, le-leb}
+use Rattle.std.proofs.lemmas.List.{length-append, length-drop, length-take}
+use Rattle.encoding_text.specs.Decoding.{IsCall, Answers, IsReport}
+use Rattle.encoding_text.specs.declared.decoder.DecoderResult.{DecoderResult}
+use Rattle.encoding_text.specs.declared.decoder.DecoderResult.TheVariants.{InputEmpty, OutputFull, Malformed}
+use Rattle.encoding_text.proofs.Calls.RoomLemmas.{counts, progress_of}
+use Rattle.encoding_runs.specs.declared.run.turns.Turn.{Turn}
+use Rattle.encoding_runs.specs.Turns.{room_of, is_marked_last}
+use Rattle.encoding_runs.specs.Runs.{Called, AreCalls, last_answer, EachGetsOn}
+
+module _ {A : Type 0} (encode : ℕ → List A) (need : ℕ) (some : 0 < need) (short : (c : ℕ) → IsScalar c → length (encode c) ≤ length (encode_utf8 c)) where
+  short_output : (cs : List ℕ) → all_scalars cs ≡ true → length (flat_map encode cs) ≤ length (encode_utf8_all cs)
+  short_output [] h = omega arith
+  short_output (c ∷ cs) h =
+      let both = and_parts (scalar c) (all_scalars cs) h in
+      omega (arith, short_output cs both.1, short c both.0, length-append (encode c) (flat_map encode cs), length-append (encode_utf8 c) (encode_utf8_all cs))
+
+  -- ---- one call
+  -- it reads a byte, or reports what was pending, or all was read before and it comes to the end
+  abbrev GetsOn : List ℕ → List ℕ → DecoderResult → ℕ → List ℕ → Type 0
+  GetsOn p unread result read q = (0 < read) ⊎ (((q ≡ []) × (0 < length p)) ⊎ ((result ≡ InputEmpty) × (q ≡ []) × (length unread ≡ 0)))
+
+  marked : (turn : Turn) (n : ℕ) → turn.last ≡ true → n ≤ turn.take → is_marked_last turn n ≡ true
+  marked turn n e l = λ i. e i && le-leb n turn.take l i
+
+  gets_on : (p unread : List ℕ) (room : ℕ) (turn : Turn) (result : DecoderResult) (read : ℕ) (out : List A) (q : List ℕ)
+      → 1 ≤ turn.take → need ≤ turn.room → turn.last ≡ true → length unread + (need - 1) + length p ≤ room
+      → IsCall encode need p (take turn.take unread) (room_of turn room) (is_marked_last turn (length unread)) result read out q → GetsOn p unread result read q
+  gets_on p unread room turn result read out q one wide last l call = by_answer result call.answer
+    where
+      piece : List ℕ
+      piece = take turn.take unread
+
+      on : (r : DecoderResult) → Answers encode need p piece (is_marked_last turn (length unread)) r read call.scalars (room_of turn room - length out) q
+          → 0 < length piece → (0 < read) ⊎ IsReport r
+      on r a h = progress_of encode need p piece (room_of turn room) (is_marked_last turn (length unread)) r read call.scalars out q call.pending_before call.are_scalars call.out_is a h
+          (omega (arith, length-take turn.take unread))
+
+      by_answer : (r : DecoderResult) → Answers encode need p piece (is_marked_last turn (length unread)) r read call.scalars (room_of turn room - length out) q → GetsOn p unread r read q
+      by_answer InputEmpty a = elim (cases_lt 0 (length unread)) [
+        | inl h ↦ inl (omega (arith, a.0, length-take turn.take unread))
+        | inr h ↦ inr (inr (refl, a.2 (marked turn (length unread) last (omega arith)), omega arith))
+      ]
+      by_answer OutputFull a = elim (on OutputFull a (omega (arith, a.0))) [
+        | inl h ↦ inl h
+        | inr (k, second, e) ↦ let no : OutputFull ≡ Malformed k second = e in cc
+      ]
+      by_answer (Malformed k second) a = elim (cases_lt 0 read) [
+        | inl h ↦ inl h
+        | inr h ↦
+            let c = counts encode need p piece (is_marked_last turn (length unread)) (Malformed k second) read call.scalars (room_of turn room - length out) q a in
+            inr (inl (a.5, omega (arith, (c.reported (k, second, refl)).0)))
+      ]
+
+  -- what is left of the room suffices for what is left of the bytes
+  room_after : (p unread : List ℕ) (room : ℕ) (turn : Turn) (last : Bool) (result : DecoderResult) (read : ℕ) (out : List A) (q : List ℕ)
+      → length unread + (need - 1) + length p ≤ room → IsCall encode need p (take turn.take unread) (room_of turn room) last result read out q
+      → (read ≤ length unread) × (length (drop read unread) + (need - 1) + length q ≤ room - length out)
+  room_after p unread room turn last result read out q l call =
+      let c = counts encode need p (take turn.take unread) last result read call.scalars (room_of turn room - length out) q call.answer in
+      let inside : read ≤ length unread = omega (arith, c.within, length-take turn.take unread) in
+      (inside, omega (arith, l, inside, c.split, short_output call.scalars call.are_scalars, ap length call.out_is, length-drop read unread))
+
+  -- ---- all calls
+  -- turns enough are left, where one more is counted for pending bytes; or the end is reached
+  abbrev Reaches : List ℕ → ℕ → ℕ → Option DecoderResult → Type 0
+  Reaches p unread turns before = ((w : ℕ) × (0 < length p → 1 ≤ w) × (2 * unread + w + 1 ≤ turns)) ⊎ ((unread ≡ 0) × (length p ≡ 0) × (before ≡ Some InputEmpty))
+
+  reaches_on : (p unread q : List ℕ) (turns : ℕ) (before : Option DecoderResult) (result : DecoderResult) (read : ℕ) → read ≤ length unread → GetsOn p unread result read q
+      → Reaches p (length unread) (turns + 1) before → Reaches q (length unread - read) turns (Some result)
+  reaches_on p unread q turns before result read inside (inl h) (inl (w, some, l)) = inl (1, (λ _. omega arith), omega (arith, h, inside, l))
+  reaches_on p unread q turns before result read inside (inr (inl (none, h))) (inl (w, some, l)) = inl (0, (λ n. omega (arith, n, ap length none)), omega (arith, some h, l))
+  reaches_on p unread q turns before result read inside (inr (inr (e, none, h))) (inl r) = inr (omega (arith, h), ap length none, ap (λ x. Some x) e)
+  reaches_on p unread q turns before result read inside (inl h) (inr (all, nil, e)) = absurd (omega (arith, h, inside, all))
+  reaches_on p unread q turns before result read inside (inr (inl (none, h))) (inr (all, nil, e)) = absurd (omega (arith, h, nil))
+  reaches_on p unread q turns before result read inside (inr (inr (e, none, h))) (inr r) = inr (omega (arith, h), ap length none, ap (λ x. Some x) e)
+
+  reaches : (p unread : List ℕ) (room : ℕ) (turns : List Turn) (calls : List (Called A)) (before : Option DecoderResult) → Reaches p (length unread) (length turns) before
+      → EachGetsOn need turns → length unread + (need - 1) + length p ≤ room → AreCalls encode need p unread room turns calls → last_answer before calls ≡ Some InputEmpty
+  reaches p unread room [] [] before (inl (w, h, l)) each m c = absurd (omega (arith, l))
+  reaches p unread room [] [] before (inr (all, nil, e)) each m c = e
+  reaches p unread room [] (call ∷ calls) before r each m c = absurd c
+  reaches p unread room (turn ∷ turns) [] before r each m c = absurd c
+  reaches p unread room (turn ∷ turns) (call ∷ calls) before r (one, wide, last, each) m (is_call, c) =
+      let on = gets_on p unread room turn call.answer call.read call.out call.pending one wide last m is_call in
+      let left = room_after p unread room turn (is_marked_last turn (length unread)) call.answer call.read call.out call.pending m is_call in
+      let next = reaches_on p unread call.pending (length turns) before call.answer call.read left.0 on (subst (λ n. Reaches p (length unread) n before) (omega arith) r) in
+      reaches call.pending (drop call.read unread) (room - length call.out) turns calls (Some call.answer)
+      (subst (λ n. Reaches call.pending n (length turns) (Some call.answer)) (sym (length-drop call.read unread)) next) each left.1 c
+
+  pub completes : (p src : List ℕ) (room : ℕ) (turns : List Turn) (calls : List (Called A)) (before : Option DecoderResult) → 2 * length src + 2 ≤ length turns → EachGetsOn need turns
+      → length src + (need - 1) + length p ≤ room → AreCalls encode need p src room turns calls → last_answer before calls ≡ Some InputEmpty
+  completes p src room turns calls before l each m c = reaches p src room turns calls before (inl (1, (λ _. omega arith), omega (arith, l))) each m c

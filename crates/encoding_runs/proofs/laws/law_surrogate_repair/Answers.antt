@@ -1,0 +1,14 @@
+use Rattle.encoding_text.proofs.CodeUnits.SurrogateLawLemmas.{repaired_exist, repaired_one, repaired_places, repaired_valid, repaired_twice, repaired_counts, repaired_lossy, valid_stays}
+use Rattle.encoding_runs.proofs.laws.law_surrogate_repair.Goals as goal
+
+pub returns : goal.returns
+returns c = record {
+  exist = repaired_exist;
+  one = repaired_one;
+  places = repaired_places;
+  valid = repaired_valid;
+  twice = repaired_twice;
+  counts = repaired_counts;
+  lossy = repaired_lossy;
+  stays = valid_stays;
+}

@@ -1,0 +1,20 @@
+use Rattle.std.proofs.Common.{◌≡◌, length, take, ap, ◌∙◌, refl, arith}
+use Rattle.std.proofs.lemmas.List.{length-take, take_min}
+use Rattle.encoding_runs.specs.Turns.{room_of}
+use Rattle.encoding_runs.proofs.TurnLemmas.{WritesFront_within, IsCall-same}
+use Rattle.encoding_runs.proofs.run.decoding.make_call.Goals as goal
+
+pub returns : goal.returns
+returns g c =
+    let turn = c.args.turn.now in
+    let unread = c.args.unread.now in
+    let left = c.args.left.now in
+    let d = c.decode.ensures.call in
+    let room : length (take c.room_of-room.result left) ≡ room_of turn (length left) = omega (arith, c.room_of-room.ensures, length-take c.room_of-room.result left) in
+    record {
+      call = (
+        d.0,
+        WritesFront_within left c.decode.new.dst c.room_of-room.result c.decode.result.2 d.0 d.1,
+        IsCall-same _ _ _ _ _ _ _ _ _ _ _ _ _ _ d.2 refl (ap (λ n. take n unread) c.piece_length-piece.ensures ∙ take_min turn.take unread) room c.is_marked_last.ensures,
+      );
+    }

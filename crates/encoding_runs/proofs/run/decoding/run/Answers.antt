@@ -1,0 +1,46 @@
+use Rattle.std.proofs.Common.{◌∙◌, ◌<◌, ◌+◌, ◌-◌, false, length, take, drop, get_or, arith}
+use Rattle.std.proofs.lemmas.List.{length-drop, length-take, take_more, take_all}
+use Rattle.encoding_text.proofs.Calls.CallPartsLemmas.{call_within}
+use Rattle.encoding_text.proofs.LongestFronts.FrontsLemmas.{WritesFront-length}
+use Rattle.encoding_runs.specs.declared.run.turns.Turn.{Turn}
+use Rattle.encoding_runs.proofs.RunLemmas.{delivers}
+use Rattle.encoding_runs.proofs.TurnLemmas.{run_push, one_report}
+use Rattle.encoding_runs.proofs.CompletionLemmas.{completes}
+use Rattle.encoding_runs.proofs.run.decoding.run.Goals as goal
+
+pub loop-turn-preserved : goal.loop-turn-preserved
+loop-turn-preserved g c =
+    let at = c.loop-turn.turn-index in
+    let turns = c.args.turns.now in
+    let unread = take (length c.args.src.now - c.loop-turn.outcome.read) (drop c.loop-turn.outcome.read c.args.src.now) in
+    let none : Turn = record { take = 0; room = 0; last = false } in
+    let turn = get_or turns at none in
+    let call = c.make_call-answer.ensures.call in
+    let before = c.loop-turn.invariant in
+    let inside : at < length turns = omega arith in
+    let run = run_push g.U.Decoded.encode g.U.Decoded.need _ _ _ _ _ _ _ _ _ turn _ _ _ _ _ _ _ _ before.run call.1 call.2 c.write_report.ensures in
+    let within = call_within g.U.Decoded.encode g.U.Decoded.need _ (take turn.take unread) _ _ _ _ _ _ call.2.answer in
+    record {
+      run = rw (take_more turns at none inside) run;
+      read = omega (
+        arith,
+        within,
+        before.read,
+        length-take turn.take unread,
+        length-take (length c.args.src.now - c.loop-turn.outcome.read) (drop c.loop-turn.outcome.read c.args.src.now),
+        length-drop c.loop-turn.outcome.read c.args.src.now,
+      );
+      written = omega (arith, run.written.fits, WritesFront-length _ _ _ _ run.written);
+      reports = omega (arith, before.reports, c.write_report.ensures.count, one_report c.make_call-answer.result.0 (c.loop-turn.outcome.written + c.make_call-answer.result.2));
+    }
+
+pub returns-clause-delivers : goal.returns-clause-delivers
+returns-clause-delivers g c =
+    let all = take_all c.loop-turn.turn-index c.args.turns.now (omega arith) in
+    delivers _ _ _ _ _ _ _ _ _ _ _ c.in_neutral_state-neutral.ensures.pending (rw all at c.loop-turn.invariant.run)
+
+pub returns-clause-completes : goal.returns-clause-completes
+returns-clause-completes g c =
+    let all = take_all c.loop-turn.turn-index c.args.turns.now (omega arith) in
+    let run = rw all at c.loop-turn.invariant.run in
+    λ l each m. run.result ∙ completes _ _ c.requires.some c.requires.short _ _ _ _ _ _ l each m run.chain

@@ -1,0 +1,14 @@
+use Rattle.std.proofs.Common.{◌-◌, List, length}
+use Rattle.encoding_text.specs.Utf16.{AreUnits, Part16}
+use Rattle.encoding_text.proofs.CodeUnits.SurrogateLemmas.{Repaired}
+use Rattle.encoding_text.proofs.mem.surrogates.ensure_utf16_validity.Given as goal
+
+abbrev pub invariant-loop-at : goal.invariant-loop-at
+invariant-loop-at l = record {
+  units : AreUnits l.fn.buffer;
+  done : List Part16;
+  so_far : Repaired l.fn.buffer l.buffer l.at done;
+}
+
+abbrev pub decreases-loop-at : goal.decreases-loop-at
+decreases-loop-at l = length l.buffer - l.at

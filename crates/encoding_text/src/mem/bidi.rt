@@ -1,0 +1,201 @@
+//! Whether text has characters that are written from right to left, and whether it is Latin1.
+
+ghost use Rattle.std.specs.Prelude.{◌≡◌, ◌+◌, ◌↔◌, ◌⊎◌, IsTrue};
+ghost use Rattle.std.specs.Int.{IsInRange};
+ghost use Rattle.std.specs.Str.{continuation_len};
+ghost use Rattle.encoding_text.specs.Fronts.{IsLongestFront};
+ghost use Rattle.encoding_text.specs.Latin1.{IsLatin1, IsUtf8Latin1};
+ghost use Rattle.encoding_text.specs.Sequence.{IsSequence};
+ghost use Rattle.encoding_text.specs.Bidi.{IsRightToLeft, IsRightToLeftUnit, IsBidiUnits, IsBidiText, IsBidiBytes, Classifies};
+
+use super::checks::{str_latin1_up_to, utf8_latin1_up_to};
+use crate::utf_8::{character_length, scalar_of_sequence};
+
+/// The first right-to-left scalar value.
+const FIRST: u32 = 0x0590;
+
+/// The first byte of U+0580 to U+05BF. Lesser characters begin with lesser bytes.
+const FIRST_LEAD: u8 = 0xD6;
+
+/// The greatest Latin1 code unit.
+const LATIN1_MAX: u16 = 0xFF;
+
+/// What is known of a text at a glance: whether it is Latin1, and else whether right-to-left characters are in it.
+#[derive(Debug, PartialEq, Eq, Drop)]
+pub enum Latin1Bidi {
+    Latin1 = 0,
+    LeftToRight = 1,
+    Bidi = 2,
+}
+
+/// Whether the scalar value is right-to-left.
+fn is_right_to_left(scalar: u32) -> bool
+    ensures { IsTrue result ↔ IsRightToLeft scalar }
+{
+    if scalar < FIRST {
+        return false;
+    }
+    match scalar {
+        0..=0x08FF => true,
+        0x200F | 0x202B | 0x202E | 0x2067 => true,
+        0xFB1D..=0xFDFF | 0xFE70..=0xFEFE => true,
+        0x1_0800..=0x1_0FFF | 0x1_E800..=0x1_EFFF => true,
+        _ => false,
+    }
+}
+
+/// Whether the character is right-to-left.
+pub fn is_char_bidi(c: char) -> bool
+    ensures { IsTrue result ↔ IsRightToLeft c }
+{
+    is_right_to_left(u32::from(c))
+}
+
+/// Whether the UTF-16 code unit is the high surrogate of right-to-left characters.
+fn is_high_half(u: u16) -> bool
+    ensures { IsTrue result ↔ (IsInRange 0xD802 0xD803 u ⊎ IsInRange 0xD83A 0xD83B u) }
+{
+    match u {
+        0xD802 | 0xD803 | 0xD83A | 0xD83B => true,
+        _ => false,
+    }
+}
+
+/// Whether the UTF-16 code unit is a right-to-left character, or the high surrogate of one.
+pub fn is_utf16_code_unit_bidi(u: u16) -> bool
+    ensures { IsTrue result ↔ IsRightToLeftUnit u }
+{
+    let unit = u32::from(u);
+    if unit < FIRST {
+        return false;
+    }
+    if is_high_half(u) {
+        return true;
+    }
+    is_right_to_left(unit)
+}
+
+/// Whether the one character that these bytes spell is right-to-left.
+fn is_sequence_bidi(bytes: &[u8]) -> bool
+    requires { IsSequence bytes.now }
+    ensures { IsTrue result ↔ IsBidiText bytes.now }
+{
+    if bytes[0] < FIRST_LEAD {
+        return false;
+    }
+    is_right_to_left(scalar_of_sequence(bytes))
+}
+
+/// How many bytes a character takes whose first byte is this one.
+fn length_by_lead(lead: u8) -> usize
+    ensures { result ≡ continuation_len lead + 1 }
+{
+    match lead {
+        0..0x80 => 1,
+        0x80..0xE0 => 2,
+        0xE0..0xF0 => 3,
+        _ => 4,
+    }
+}
+
+/// Whether a character of the text is right-to-left.
+pub fn is_str_bidi(buffer: &str) -> bool
+    ensures { IsTrue result ↔ IsBidiText buffer.now }
+{
+    let bytes = buffer.as_bytes();
+    let mut at = 0;
+    while at < bytes.len() {
+        let length = length_by_lead(bytes[at]);
+        if is_sequence_bidi(&bytes[at..at + length]) {
+            return true;
+        }
+        at += length;
+    }
+    false
+}
+
+/// Whether the bytes are not well-formed UTF-8, or one of their characters is right-to-left.
+pub fn is_utf8_bidi(buffer: &[u8]) -> bool
+    ensures { IsTrue result ↔ IsBidiBytes buffer.now }
+{
+    let mut at = 0;
+    while at < buffer.len() {
+        let Some(length) = character_length(&buffer[at..]) else {
+            return true;
+        };
+        if is_sequence_bidi(&buffer[at..at + length]) {
+            return true;
+        }
+        at += length;
+    }
+    false
+}
+
+/// Whether a character of the UTF-16 code units is right-to-left, or a lone high surrogate may be half of one.
+pub fn is_utf16_bidi(buffer: &[u16]) -> bool
+    ensures { IsTrue result ↔ IsBidiUnits buffer.now }
+{
+    for i in 0..buffer.len() {
+        if is_utf16_code_unit_bidi(buffer[i]) {
+            return true;
+        }
+    }
+    false
+}
+
+/// The number of code units in the longest front that is Latin1.
+fn utf16_latin1_up_to(buffer: &[u16]) -> usize
+    ensures { IsLongestFront IsLatin1 buffer.now result }
+{
+    for i in 0..buffer.len() {
+        if buffer[i] > LATIN1_MAX {
+            return i;
+        }
+    }
+    buffer.len()
+}
+
+/// Whether the bytes are Latin1 in UTF-8, and else whether `is_utf8_bidi` says so.
+pub fn check_utf8_for_latin1_and_bidi(buffer: &[u8]) -> Latin1Bidi
+    ensures { Classifies (IsUtf8Latin1 buffer.now) (IsBidiBytes buffer.now) result }
+{
+    let front = utf8_latin1_up_to(buffer);
+    if front == buffer.len() {
+        return Latin1Bidi::Latin1;
+    }
+    if is_utf8_bidi(&buffer[front..]) {
+        Latin1Bidi::Bidi
+    } else {
+        Latin1Bidi::LeftToRight
+    }
+}
+
+/// Whether the text is Latin1, and else whether `is_str_bidi` says so.
+pub fn check_str_for_latin1_and_bidi(buffer: &str) -> Latin1Bidi
+    ensures { Classifies (IsUtf8Latin1 buffer.now) (IsBidiText buffer.now) result }
+{
+    let front = str_latin1_up_to(buffer);
+    if front == buffer.len() {
+        return Latin1Bidi::Latin1;
+    }
+    if is_str_bidi(&buffer[front..]) {
+        Latin1Bidi::Bidi
+    } else {
+        Latin1Bidi::LeftToRight
+    }
+}
+
+/// Whether the UTF-16 code units are Latin1, and else whether `is_utf16_bidi` says so.
+pub fn check_utf16_for_latin1_and_bidi(buffer: &[u16]) -> Latin1Bidi
+    ensures { Classifies (IsLatin1 buffer.now) (IsBidiUnits buffer.now) result }
+{
+    let front = utf16_latin1_up_to(buffer);
+    if front == buffer.len() {
+        return Latin1Bidi::Latin1;
+    }
+    if is_utf16_bidi(&buffer[front..]) {
+        Latin1Bidi::Bidi
+    } else {
+        Latin1Bidi::LeftToRight
+    }
+}

@@ -1,0 +1,52 @@
+//! Lone surrogates in UTF-16: how far code units are valid, and their repair in place.
+
+ghost use Rattle.std.specs.Prelude.{◌-◌, ◌≤◌, length, drop};
+ghost use Rattle.encoding_text.specs.Fronts.{IsLongestFront};
+ghost use Rattle.encoding_text.specs.Surrogates.{IsValidUtf16, AreRepairedUnits};
+ghost use Rattle.encoding_text.specs.Utf16.{AreUnits};
+
+use crate::utf_8::{is_high_surrogate, is_low_surrogate, is_surrogate};
+
+/// What stands in place of a lone surrogate.
+const REPLACEMENT_UNIT: u16 = 0xFFFD;
+
+/// The number of code units in the longest front that has no lone surrogate among its parts: the place of the first
+/// lone surrogate, or the length of `buffer`.
+pub fn utf16_valid_up_to(buffer: &[u16]) -> usize
+    ensures { IsLongestFront IsValidUtf16 buffer.now result }
+{
+    let mut at = 0;
+    while at < buffer.len() {
+        let unit = buffer[at];
+        if !is_surrogate(unit) {
+            at += 1;
+            continue;
+        }
+        if !is_high_surrogate(unit) || at + 1 == buffer.len() || !is_low_surrogate(buffer[at + 1]) {
+            return at;
+        }
+        at += 2;
+    }
+    at
+}
+
+/// The place of the first lone surrogate among the code units from this place on, or the length of `units`.
+fn next_lone(units: &[u16], from: usize) -> usize
+    requires { from ≤ length units.now }
+    ensures behind { from ≤ result }
+    ensures front { IsLongestFront IsValidUtf16 (drop from units.now) (result - from) }
+    ensures are_units { AreUnits units.now }
+{
+    from + utf16_valid_up_to(&units[from..])
+}
+
+/// Writes U+FFFD in place of each lone surrogate. All other code units stay as before.
+pub fn ensure_utf16_validity(buffer: &mut [u16])
+    ensures { AreRepairedUnits buffer.old buffer.new }
+{
+    let mut at = next_lone(buffer, 0);
+    while at < buffer.len() {
+        buffer[at] = REPLACEMENT_UNIT;
+        at = next_lone(buffer, at + 1);
+    }
+}

@@ -1,0 +1,95 @@
+//! Conversions into the front of a text, which is well-formed before the call and after it.
+
+ghost use Rattle.std.specs.Prelude.{◌≡◌, ◌*◌, ◌≤◌, [], ◌∷◌, length, take, encode_utf8, encode_utf8_all};
+ghost use Rattle.std.specs.Str.{IsUtf8};
+ghost use Rattle.encoding_text.specs.Clearing.{clear_front, WritesAndClears};
+ghost use Rattle.encoding_text.specs.Fronts.{FitsLongest};
+ghost use Rattle.encoding_text.specs.Utf16.{IsUtf8OfLongestFront, IsUtf8OfUnits};
+
+use crate::mem::from_utf16::{convert_utf16_to_utf8, convert_utf16_to_utf8_partial};
+use crate::mem::latin1::{convert_latin1_to_utf8, convert_latin1_to_utf8_partial};
+use crate::sequence::is_continuation;
+
+/// How many bytes behind what is written the conversions from Latin1 set to zero, whatever they were.
+const LATIN1_ZEROS: usize = 16;
+
+/// Converts the first characters of `src` from UTF-16 to UTF-8, as many as fit into `dst`, and returns how many
+/// units it read and how many bytes it wrote: `convert_utf16_to_utf8_partial`, into a text.
+///
+/// `dst` is well-formed before and after. The continuation bytes directly behind what is written become zero, and
+/// behind those `dst` is as before.
+pub fn convert_utf16_to_str_partial(src: &[u16], dst: &mut [u8]) -> (usize, usize)
+    requires text { IsUtf8 dst.old }
+    ensures longest { IsUtf8OfLongestFront src.now (length dst.old) result.0 (take result.1 dst.new) }
+    ensures within { result.0 ≤ length src.now }
+    ensures rest { WritesAndClears 0 dst.old dst.new result.1 (take result.1 dst.new) }
+    ensures text { IsUtf8 dst.new }
+{
+    let (read, written) = convert_utf16_to_utf8_partial(src, dst);
+    clear(&mut dst[written..], 0);
+    (read, written)
+}
+
+/// Converts all of `src` from UTF-16 to UTF-8, and returns how many bytes it wrote: `convert_utf16_to_utf8`, into a
+/// text. `dst` has at least three bytes for each unit of `src`.
+///
+/// `dst` is well-formed before and after. The continuation bytes directly behind what is written become zero, and
+/// behind those `dst` is as before.
+pub fn convert_utf16_to_str(src: &[u16], dst: &mut [u8]) -> usize
+    requires room { 3 * length src.now ≤ length dst.old }
+    requires text { IsUtf8 dst.old }
+    ensures all { IsUtf8OfUnits src.now (take result dst.new) }
+    ensures rest { WritesAndClears 0 dst.old dst.new result (take result dst.new) }
+    ensures text { IsUtf8 dst.new }
+{
+    let end = convert_utf16_to_utf8(src, dst);
+    clear(&mut dst[end..], 0);
+    end
+}
+
+/// Writes the UTF-8 of the longest front of `src` whose UTF-8 fits into `dst`, and returns how many bytes were read
+/// and how many were written: `convert_latin1_to_utf8_partial`, into a text.
+///
+/// `dst` is well-formed before and after. The sixteen bytes behind what is written, or all where there are fewer, and
+/// then the continuation bytes directly behind those become zero. Behind all these `dst` is as before.
+pub fn convert_latin1_to_str_partial(src: &[u8], dst: &mut [u8]) -> (usize, usize)
+    requires text { IsUtf8 dst.old }
+    ensures front { FitsLongest (λ b. b ∷ []) encode_utf8 src.now (length dst.old) result.0
+        (encode_utf8_all (take result.0 src.now)) }
+    ensures written { WritesAndClears 16 dst.old dst.new result.1 (encode_utf8_all (take result.0 src.now)) }
+    ensures text { IsUtf8 dst.new }
+{
+    let (read, written) = convert_latin1_to_utf8_partial(src, dst);
+    clear(&mut dst[written..], LATIN1_ZEROS);
+    (read, written)
+}
+
+/// Writes the UTF-8 of each byte as a character, and returns how many bytes were written: `convert_latin1_to_utf8`,
+/// into a text. `dst` is at least twice as long as `src`.
+///
+/// `dst` is well-formed before and after. The sixteen bytes behind what is written, or all where there are fewer, and
+/// then the continuation bytes directly behind those become zero. Behind all these `dst` is as before.
+pub fn convert_latin1_to_str(src: &[u8], dst: &mut [u8]) -> usize
+    requires room { 2 * length src.now ≤ length dst.old }
+    requires text { IsUtf8 dst.old }
+    ensures written { WritesAndClears 16 dst.old dst.new result (encode_utf8_all src.now) }
+    ensures text { IsUtf8 dst.new }
+{
+    let end = convert_latin1_to_utf8(src, dst);
+    clear(&mut dst[end..], LATIN1_ZEROS);
+    end
+}
+
+/// Sets the first `zeros` bytes to zero, or all where there are fewer, and then the continuation bytes directly
+/// behind those. It reads no byte behind the first that is no continuation byte.
+#[inline(never)]
+fn clear(bytes: &mut [u8], zeros: usize)
+    ensures { bytes.new ≡ clear_front zeros bytes.old }
+{
+    let mut at = zeros.min(bytes.len());
+    bytes[..at].fill(0);
+    while at < bytes.len() && is_continuation(bytes[at]) {
+        bytes[at] = 0;
+        at += 1;
+    }
+}

@@ -1,0 +1,58 @@
+//! Rows as text: fields between bars, of words between spaces, which are mostly hexadecimal.
+
+use std::alloc::Global;
+use std::test::Fail;
+
+/// Returns the next field of a row, and leaves the fields behind it.
+pub fn field<'a>(row: &mut &'a str) -> &'a str {
+    match row.split_once('|') {
+        Some((first, rest)) => {
+            *row = rest;
+            first.trim()
+        }
+        None => {
+            let last = *row;
+            *row = "";
+            last.trim()
+        }
+    }
+}
+
+/// Returns the bytes that a field names.
+pub fn bytes_of(alloc: Global, field: &str) -> Result<Vec<u8>, Fail> {
+    let mut bytes = Vec::new(alloc);
+    for word in field.split_whitespace() {
+        bytes.push(u8::from_str_radix(word, 16)?)?;
+    }
+    Ok(bytes)
+}
+
+/// Returns the code units that a field names.
+pub fn units_of(alloc: Global, field: &str) -> Result<Vec<u16>, Fail> {
+    let mut units = Vec::new(alloc);
+    for word in field.split_whitespace() {
+        units.push(u16::from_str_radix(word, 16)?)?;
+    }
+    Ok(units)
+}
+
+/// Returns the number that a field is, in decimal digits. The greatest one is `MAX`, and one below it `MAX - 1`.
+pub fn number_of(field: &str) -> Result<usize, Fail> {
+    if field == "MAX" {
+        return Ok(usize::MAX);
+    }
+    match field.strip_prefix("MAX - ") {
+        Some(less) => Ok(usize::MAX.saturating_sub(less.parse::<usize>()?)),
+        None => Ok(field.parse::<usize>()?),
+    }
+}
+
+/// Whether these bytes begin a destination that was filled with `71`, and `71` stands behind so many.
+pub fn are_written(bytes: &[u8], dst: &[u8], written: usize) -> bool {
+    dst.get(..written) == Some(bytes) && dst.iter().skip(written).all(|byte| *byte == 0x71)
+}
+
+/// The same of code units.
+pub fn are_units_written(units: &[u16], dst: &[u16], written: usize) -> bool {
+    dst.get(..written) == Some(units) && dst.iter().skip(written).all(|unit| *unit == 0x71)
+}
