@@ -13,6 +13,7 @@ ghost use Rattle.encoding_text.specs.Utf16.{IsUtf8OfLongestFront, IsUtf8OfUnits}
 use crate::checks::as_text;
 use crate::door::{EncodingCounts, REFUSED};
 use encoding_text::mem;
+use encoding_text::utf_8::convert_utf8_to_utf16_up_to_invalid;
 
 /// Copies the longest ASCII front. Behind what is written `dst` is as before. `REFUSED` where `dst` is shorter than `src`.
 #[unsafe(no_mangle)]
@@ -153,6 +154,25 @@ pub extern "C" fn encoding_mem_convert_str_to_utf16(src: &[u8], dst: &mut [u16])
         Some(text) => mem::convert_str_to_utf16(text, dst),
         None => REFUSED,
     }
+}
+
+/// Converts the longest well-formed front to UTF-16. `read` is its length, and so the length of `src` exactly where all of
+/// it is well-formed. Behind what is written `dst` is as before. `REFUSED` twice where `dst` is shorter than `src`.
+#[unsafe(no_mangle)]
+pub extern "C" fn encoding_mem_convert_utf8_to_utf16_without_replacement(src: &[u8], dst: &mut [u16]) -> EncodingCounts
+    ensures front { length src.now ≤ length dst.old → IsLongestFront IsUtf8 src.now result.read }
+    ensures written { length src.now ≤ length dst.old → WritesText src.now dst.old dst.new result.written }
+    ensures refused { length dst.old < length src.now
+        → (result.read ≡ usize.MAX) × (result.written ≡ usize.MAX) × (dst.new ≡ dst.old) }
+{
+    if dst.len() < src.len() {
+        return EncodingCounts {
+            read: REFUSED,
+            written: REFUSED,
+        };
+    }
+    let (read, written) = convert_utf8_to_utf16_up_to_invalid(src, dst);
+    EncodingCounts { read, written }
 }
 
 /// Converts the first characters of `src` from UTF-16 to UTF-8, as many as fit, with U+FFFD for each surrogate that is in

@@ -12,6 +12,18 @@ pub const YES: u8 = 1;
 /// A condition was not met.
 pub const NEITHER: u8 = 2;
 
+/// The buffer is Latin1.
+pub const LATIN1: u8 = 0;
+
+/// It is neither Latin1 nor right-to-left.
+pub const LEFT_TO_RIGHT: u8 = 1;
+
+/// It is right-to-left, and no Latin1.
+pub const BIDI: u8 = 2;
+
+/// The bytes are no text.
+pub const NO_TEXT: u8 = 3;
+
 /// How many code units or bytes of the source were read, and how many of the destination written.
 #[repr(C)]
 #[derive(Clone, Copy)]

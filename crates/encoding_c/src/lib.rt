@@ -6,7 +6,10 @@
 #![tactic(auto)]
 
 pub mod ascii;
+pub mod bidi;
 pub mod checks;
 pub mod conversions;
 pub mod door;
+pub mod surrogates;
+pub mod text_destinations;
 pub mod utf_8;
