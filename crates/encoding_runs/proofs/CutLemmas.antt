@@ -1,12 +1,12 @@
 -- Bytes cut where the settled parts of the first piece leave no rest.
-use Rattle.std.proofs.Common.{◌≡◌, ℕ, ◌+◌, ◌<◌, ◌≤◌, inl, inr, List, [], ◌∷◌, ◌++◌, length, refl, sym, ap, ◌∙◌, arith, subst}
-use Rattle.std.proofs.lemmas.List.{append_assoc, length-append, nil_from_length}
+use Rattle.std.proofs.Common.{◌≡◌, ℕ, ◌+◌, ◌<◌, ◌≤◌, inl, inr, List, [], ◌∷◌, ◌++◌, length, sym, ap, ◌∙◌, arith, subst}
+use Rattle.std.proofs.lemmas.List.{length-append}
 use Rattle.std.specs.List.{flat_map}
 use Rattle.std.specs.Str.Lossy.{second_byte_min}
 use Rattle.std.proofs.lemmas.Bool.Decides.{nat_tests}
 use Rattle.encoding_text.specs.Sequence.{IsBeginning}
 use Rattle.encoding_text.specs.Pending.{IsPending}
-use Rattle.encoding_text.specs.Parts.{Part, bytes_of, StartsWith, ArePartsOf, repaired_text, count_broken, AreSettled}
+use Rattle.encoding_text.specs.Parts.{Part, bytes_of, ArePartsOf, repaired_text, count_broken, AreSettled}
 use Rattle.encoding_text.proofs.Sequences.SequenceLemmas.{HasOpenShape, HasOpenShape-IsBeginning, second_more}
 use Rattle.encoding_text.proofs.Decomposition.PartsLemmas.{fronts_nest}
 use Rattle.encoding_text.proofs.Decomposition.DecompositionLemmas.{StartsWith-append, StartsWith-bytes, same_parts, settled_stay, settled_front, repaired_text-append, count_broken-append}

@@ -1,4 +1,6 @@
+pub mod SettledLemmas
 pub mod RepairLemmas
+pub mod RoundLemmas
 pub mod RepeatLemmas
 pub mod EncoderChainLemmas
 pub mod EncoderRunLemmas

@@ -1,16 +1,12 @@
 -- Calls of any form in a row are a chain, and calls that are asked the same answer the same.
-use Rattle.std.proofs.Common.{◌≡◌, ℕ, ◌+◌, ◌≤◌, inl, inr, Bool, true, false, ◌||◌, List, [], ◌∷◌, ◌++◌, length, map, take, drop, encode_utf8, refl, sym, ap, ◌∙◌, arith, subst}
-use Rattle.std.specs.List.{flat_map}
+use Rattle.std.proofs.Common.{◌≡◌, ℕ, ◌+◌, inl, inr, Bool, true, ◌||◌, List, [], ◌∷◌, length, take, drop, encode_utf8, refl, sym, ap, subst}
 use Rattle.std.specs.Char.Escape.{encode_utf16}
 use Rattle.encoding_text.specs.Pending.{IsPending}
 use Rattle.encoding_text.specs.Parts.{Part}
 use Rattle.encoding_text.specs.Giving.{Gives}
 use Rattle.encoding_text.specs.Decoding.{IsCall, IsBorrowedCall}
-use Rattle.encoding_text.specs.OneAnswer.{SayTheSame}
 use Rattle.encoding_text.specs.declared.decoder.DecoderResult.{DecoderResult}
 use Rattle.encoding_text.specs.declared.decoder.DecoderResult.TheVariants as result
-use Rattle.encoding_text.specs.declared.decoder.Piece.{Piece}
-use Rattle.encoding_text.specs.declared.decoder.Piece.TheVariants as piece
 use Rattle.encoding_text.proofs.Calls.CallPartsLemmas.{decoded_gives}
 use Rattle.encoding_text.proofs.Calls.BorrowedLemmas.{borrowed_gives}
 use Rattle.encoding_text.proofs.Calls.OneAnswerLemmas.{one_answer}

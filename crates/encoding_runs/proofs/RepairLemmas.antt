@@ -1,104 +1,145 @@
--- What stands written when so many first parts of the source are, and when a write fails in the middle of one.
-use Rattle.std.proofs.Common.{◌≡◌, ℕ, ◌+◌, ◌<◌, ◌≤◌, List, [], ◌∷◌, ◌++◌, length, take, drop, map, Option, refl, sym, ap, ◌∙◌, arith, subst}
+-- What stands written when the text of so many first parts is, and when a write fails in the middle of one.
+use Rattle.std.proofs.Common.{◌≡◌, ℕ, ◌+◌, ◌<◌, ◌≤◌, Bool, true, false, List, [], ◌∷◌, ◌++◌, length, take, drop, map, Option, inl, inr, encode_utf8, encode_utf8_all, refl, sym, ap, ◌∙◌, arith, subst}
 use Rattle.std.specs.Io.KnownBytes.{Appends}
-use Rattle.std.specs.Str.{IsUtf8}
-use Rattle.std.proofs.KnownBytes.{Appends-trans}
-use Rattle.std.proofs.lemmas.List.{append_assoc, length-append, length-drop, take-append-drop}
+use Rattle.std.proofs.KnownBytes.{Appends-nil, Appends-trans}
+use Rattle.std.proofs.lemmas.List.{append-nil, append_assoc, length-append, length-drop, take-append-drop}
+use Rattle.std.specs.Str.{IsUtf8, chars}
+use Rattle.std.proofs.lemmas.Str.{encodes-chars}
 use lib.Utf8.{encode}
-use Rattle.encoding_text.specs.Parts.{Part, Character, Broken, IsFirstPart, StartsWith, repaired_text, count_broken}
-use Rattle.encoding_text.proofs.Decomposition.DecompositionLemmas.{StartsWith-append, StartsWith-one, StartsWith-characters, has_parts, repaired_text-append, repaired_text-characters, count_broken-append, count_broken-characters, count_broken-bytes}
-use Rattle.encoding_runs.specs.Repairs.{WritesParts, Stops}
+use Rattle.encoding_text.specs.Pending.{IsPending}
+use Rattle.encoding_text.proofs.Sequences.SequenceLemmas.{length-IsBeginning}
+use Rattle.encoding_text.specs.Parts.{Part, Character, Broken, StartsWith, repaired_text, count_broken}
+use Rattle.encoding_text.specs.Decoding.{IsBorrowedCall}
+use Rattle.encoding_text.specs.declared.decoder.Piece.{Piece}
+use Rattle.encoding_text.specs.declared.decoder.Piece.TheVariants.{Text, Char, Malformed, InputEmpty}
+use Rattle.encoding_text.specs.Giving.{Gives}
+use Rattle.encoding_text.proofs.Calls.BorrowedLemmas.{borrowed_gives}
+use Rattle.encoding_text.proofs.Decomposition.DecompositionLemmas.{StartsWith-append, has_parts, repaired_text-append, repaired_text-characters, count_broken-append, count_broken-characters, count_broken-bytes}
+use Rattle.encoding_runs.specs.Repairs.{IsProperFront, WritesRepaired, Stops}
+use Rattle.encoding_runs.specs.Steps.Writing.{text_of, broken_of, AreFirst, WritesParts, StopsInParts}
+use Rattle.encoding_runs.proofs.SettledLemmas.{AreFirst-nil, AreFirst-trans, AreFirst-more}
 
-pub WritesParts-nil : (src : List ℕ) (old : Option (List ℕ)) → Appends old old [] → WritesParts src src old old 0
-WritesParts-nil src old a = record { parts = []; starts = refl; bytes = a; broken = refl }
+-- what a call that hands out parts of its source gives
+pub record GivesPiece (p src : List ℕ) (last : Bool) (piece : Piece) (read : ℕ) (q : List ℕ) : Type 0 where
+  pub parts : List Part
+  pub within : read ≤ length src
+  pub first : AreFirst last (p ++ src) parts (q ++ drop read src)
+  pub text : repaired_text parts ≡ text_of piece
+  pub broken : count_broken parts ≡ broken_of piece
+
+-- by its parts
+gives_of : (p src : List ℕ) (last : Bool) (piece : Piece) (read : ℕ) (q : List ℕ) (parts : List Part) → Gives p src last parts read q → repaired_text parts ≡ text_of piece
+    → count_broken parts ≡ broken_of piece → GivesPiece p src last piece read q
+gives_of p src last piece read q parts g text broken = record {
+  parts = parts;
+  within = g.within;
+  first = record { starts = g.first; whatever_follows = g.whatever_follows };
+  text = text;
+  broken = broken;
+}
+
+pub piece_gives : (p src : List ℕ) (last : Bool) (piece : Piece) (read : ℕ) (q : List ℕ) → IsBorrowedCall p src last piece read q → GivesPiece p src last piece read q
+unfolding encode
+piece_gives p src last (Text t) read q call =
+    let (parts, are, g) = borrowed_gives p src last (Text t) read q call in
+    let (neutral, none, some, bytes, front) = call.answer in
+    let spelled : encode_utf8_all (chars t.now) ≡ t.now = encodes-chars t.now (subst IsUtf8 (sym bytes) front.kind) in
+    gives_of p src last (Text t) read q parts g (ap repaired_text are ∙ repaired_text-characters (chars t.now) ∙ spelled) (ap count_broken are ∙ count_broken-characters (chars t.now))
+piece_gives p src last (Char c) read q call =
+    let (parts, are, g) = borrowed_gives p src last (Char c) read q call in
+    gives_of p src last (Char c) read q parts g (ap repaired_text are ∙ append-nil (encode_utf8 c)) (ap count_broken are)
+piece_gives p src last (Malformed k) read q call =
+    let (parts, (x, are, size), g) = borrowed_gives p src last (Malformed k) read q call in
+    gives_of p src last (Malformed k) read q parts g (ap repaired_text are) (ap count_broken are)
+piece_gives p src last InputEmpty read q call =
+    let (parts, are, g) = borrowed_gives p src last InputEmpty read q call in
+    gives_of p src last InputEmpty read q parts g (ap repaired_text are) (ap count_broken are)
+
+-- ---- what is written
+pub WritesParts-nil : (last : Bool) (bs : List ℕ) (old : Option (List ℕ)) → WritesParts last bs bs old old 0
+WritesParts-nil last bs old = record { parts = []; first = AreFirst-nil last bs; bytes = Appends-nil old; broken = refl }
 
 -- more parts are written
-wrote_more : (src rest after : List ℕ) (old mid new : Option (List ℕ)) (n : ℕ) (more : List Part) → WritesParts src rest old mid n → StartsWith rest more after
-    → Appends mid new (repaired_text more) → WritesParts src after old new (n + count_broken more)
-wrote_more src rest after old mid new n more w s a = record {
+wrote_more : (last : Bool) (bs mid rest : List ℕ) (old new now : Option (List ℕ)) (n : ℕ) (more : List Part) → WritesParts last bs mid old new n → AreFirst last mid more rest
+    → Appends new now (repaired_text more) → WritesParts last bs rest old now (n + count_broken more)
+wrote_more last bs mid rest old new now n more w f a = record {
   parts = w.parts ++ more;
-  starts = StartsWith-append src w.parts rest more after w.starts s;
-  bytes = subst (Appends old new) (sym (repaired_text-append w.parts more)) (Appends-trans _ _ _ _ _ w.bytes a);
+  first = AreFirst-trans last bs w.parts mid more rest w.first f;
+  bytes = subst (Appends old now) (sym (repaired_text-append w.parts more)) (Appends-trans _ _ _ _ _ w.bytes a);
   broken = omega (arith, w.broken, count_broken-append w.parts more);
 }
 
--- some of their text is, and not all of it
-stopped_in : (src rest after : List ℕ) (old mid new : Option (List ℕ)) (n : ℕ) (more : List Part) (k : ℕ) → WritesParts src rest old mid n → StartsWith rest more after
-    → k < length (repaired_text more) → Appends mid new (take k (repaired_text more)) → Stops src old new
-stopped_in src rest after old mid new n more k w s short a =
-    let others = has_parts after in
-    let text = repaired_text more in
-    let left = drop k text ++ repaired_text others.0 in (
-      repaired_text (w.parts ++ (more ++ others.0)),
-      repaired_text w.parts ++ take k text,
-      (w.parts ++ (more ++ others.0), StartsWith-append src w.parts rest (more ++ others.0) [] w.starts (StartsWith-append rest more after others.0 [] s others.1), refl),
-      (
-        left,
-        (λ none. omega (arith, ap length none, length-append (drop k text) (repaired_text others.0), length-drop k text)),
-        repaired_text-append w.parts (more ++ others.0)
-            ∙ ap (λ xs. repaired_text w.parts ++ xs) (repaired_text-append more others.0
-            ∙ ap (λ xs. xs ++ repaired_text others.0) (sym (take-append-drop k text))
-            ∙ append_assoc (take k text) (drop k text) (repaired_text others.0))
-            ∙ sym (append_assoc (repaired_text w.parts) (take k text) left),
-      ),
-      Appends-trans _ _ _ _ _ w.bytes a,
-    )
+-- a front of the text of more parts
+pub front_behind : (ps qs : List Part) (out : List ℕ) → IsProperFront out (repaired_text qs) → IsProperFront (repaired_text ps ++ out) (repaired_text (ps ++ qs))
+front_behind ps qs out (left, some, whole) =
+    (left, some, repaired_text-append ps qs ∙ ap (λ xs. repaired_text ps ++ xs) whole ∙ sym (append_assoc (repaired_text ps) out left))
 
--- the characters of a well-formed front
-front_parts : (rest : List ℕ) (v : ℕ) → IsUtf8 (take v rest)
-    → (parts : List Part) × StartsWith rest parts (drop v rest) × (repaired_text parts ≡ take v rest) × (count_broken parts ≡ 0)
-front_parts rest v u =
-    let whole : rest ≡ take v rest ++ drop v rest = sym (take-append-drop v rest) in (
-      map Character u.0,
-      subst (λ xs. StartsWith xs (map Character u.0) (drop v rest)) (ap (λ xs. xs ++ drop v rest) u.1.1 ∙ sym whole) (StartsWith-characters u.0 (drop v rest) u.1.0),
-      repaired_text-characters u.0 ∙ u.1.1,
-      count_broken-characters u.0,
-    )
+proper_front : (k : ℕ) (text : List ℕ) → k < length text → IsProperFront (take k text) text
+proper_front k text short = (drop k text, (λ none. omega (arith, ap length none, length-drop k text)), sym (take-append-drop k text))
 
-pub wrote_text : (src rest : List ℕ) (old mid new : Option (List ℕ)) (n v : ℕ) → WritesParts src rest old mid n → IsUtf8 (take v rest) → Appends mid new (take v rest)
-    → WritesParts src (drop v rest) old new n
-wrote_text src rest old mid new n v w u a =
-    let front = front_parts rest v u in
-    let more = wrote_more src rest (drop v rest) old mid new n front.0 w front.1 (subst (Appends mid new) (sym front.2) a) in
-    record { parts = more.parts; starts = more.starts; bytes = more.bytes; broken = omega (arith, more.broken, front.3) }
+-- one more piece is
+pub wrote_piece : (last : Bool) (bs p src : List ℕ) (old new now : Option (List ℕ)) (n : ℕ) (piece : Piece) (read : ℕ) (q : List ℕ) → WritesParts last bs (p ++ src) old new n
+    → IsBorrowedCall p src last piece read q → Appends new now (text_of piece) → WritesParts last bs (q ++ drop read src) old now (n + broken_of piece)
+wrote_piece last bs p src old new now n piece read q w call a =
+    let g = piece_gives p src last piece read q call in
+    let more = wrote_more last bs (p ++ src) (q ++ drop read src) old new now n g.parts w g.first (subst (Appends new now) (sym g.text) a) in
+    record { parts = more.parts; first = more.first; bytes = more.bytes; broken = omega (arith, more.broken, g.broken) }
 
-pub stopped_text : (src rest : List ℕ) (old mid new : Option (List ℕ)) (n v k : ℕ) → WritesParts src rest old mid n → IsUtf8 (take v rest)
-    → k < length (take v rest) → Appends mid new (take k (take v rest)) → Stops src old new
-stopped_text src rest old mid new n v k w u short a =
-    let front = front_parts rest v u in
-    stopped_in src rest (drop v rest) old mid new n front.0 k w front.1 (subst (λ xs. k < length xs) (sym front.2) short) (subst (λ xs. Appends mid new (take k xs)) (sym front.2) a)
-
--- U+FFFD for a broken part
-abbrev pub replacement : List ℕ
-replacement = 0xEF ∷ 0xBF ∷ 0xBD ∷ []
-
-pub wrote_replacement : (src rest x after : List ℕ) (old mid new : Option (List ℕ)) (n : ℕ) → WritesParts src rest old mid n → IsFirstPart rest (Broken x) after
-    → Appends mid new replacement → WritesParts src after old new (n + 1)
-unfolding encode
-wrote_replacement src rest x after old mid new n w f a = wrote_more src rest after old mid new n (Broken x ∷ []) w (StartsWith-one rest (Broken x) after f) a
-
-pub stopped_replacement : (src rest x after : List ℕ) (old mid new : Option (List ℕ)) (n k : ℕ) → WritesParts src rest old mid n → IsFirstPart rest (Broken x) after
-    → k < 3 → Appends mid new (take k replacement) → Stops src old new
-unfolding encode
-stopped_replacement src rest x after old mid new n k w f short a = stopped_in src rest after old mid new n (Broken x ∷ []) k w (StartsWith-one rest (Broken x) after f) short a
-
--- parts behind parts
-pub WritesParts-trans : (src rest after : List ℕ) (old mid new : Option (List ℕ)) (n m : ℕ) → WritesParts src rest old mid n → WritesParts rest after mid new m
-    → WritesParts src after old new (n + m)
-WritesParts-trans src rest after old mid new n m w v =
-    let more = wrote_more src rest after old mid new n v.parts w v.starts v.bytes in
-    record { parts = more.parts; starts = more.starts; bytes = more.bytes; broken = omega (arith, more.broken, v.broken) }
-
--- parts behind which the writing stops
-pub Stops-after : (src rest : List ℕ) (old mid new : Option (List ℕ)) (n : ℕ) → WritesParts src rest old mid n → Stops rest mid new → Stops src old new
-Stops-after src rest old mid new n w (text, out, (parts, are, is), (left, some, whole), a) = (
-  repaired_text (w.parts ++ parts),
-  repaired_text w.parts ++ out,
-  (w.parts ++ parts, StartsWith-append src w.parts rest parts [] w.starts are, refl),
-  (left, some, repaired_text-append w.parts parts ∙ ap (λ xs. repaired_text w.parts ++ xs) (sym is ∙ whole) ∙ sym (append_assoc (repaired_text w.parts) out left)),
-  Appends-trans _ _ _ _ _ w.bytes a,
-)
+-- some of its text is, and not all of it
+pub stopped_piece : (last : Bool) (bs p src : List ℕ) (old new now : Option (List ℕ)) (n : ℕ) (piece : Piece) (read : ℕ) (q : List ℕ) (k : ℕ) → WritesParts last bs (p ++ src) old new n
+    → IsBorrowedCall p src last piece read q → k < length (text_of piece) → Appends new now (take k (text_of piece)) → StopsInParts last bs old now
+stopped_piece last bs p src old new now n piece read q k w call short a =
+    let g = piece_gives p src last piece read q call in record {
+      parts = w.parts ++ g.parts;
+      rest = q ++ drop read src;
+      first = AreFirst-trans last bs w.parts (p ++ src) g.parts (q ++ drop read src) w.first g.first;
+      out = repaired_text w.parts ++ take k (text_of piece);
+      less = front_behind w.parts g.parts (take k (text_of piece)) (subst (IsProperFront (take k (text_of piece))) (sym g.text) (proper_front k (text_of piece) short));
+      bytes = Appends-trans _ _ _ _ _ w.bytes a;
+    }
 
 -- the count stays below the number of bytes
-pub wrote_count : (src rest : List ℕ) (old new : Option (List ℕ)) (n : ℕ) → WritesParts src rest old new n → n + length rest ≤ length src
-wrote_count src rest old new n w = omega (arith, w.broken, count_broken-bytes src w.parts rest w.starts)
+pub wrote_count : (last : Bool) (bs rest : List ℕ) (old new : Option (List ℕ)) (n : ℕ) → WritesParts last bs rest old new n → n + length rest ≤ length bs
+wrote_count last bs rest old new n w = omega (arith, w.broken, count_broken-bytes bs w.parts rest w.first.starts)
+
+-- ---- all of the bytes
+pub wrote_all : (last : Bool) (bs : List ℕ) (old new : Option (List ℕ)) (n : ℕ) → WritesParts last bs [] old new n → WritesRepaired bs old new n
+wrote_all last bs old new n w = (repaired_text w.parts, (w.parts, w.first.starts, refl, w.broken), w.bytes)
+
+-- a front of a text is one of what begins with the text
+pub longer_front : (out text more : List ℕ) → IsProperFront out text → IsProperFront out (text ++ more)
+longer_front out text more (left, some, whole) = (
+  left ++ more,
+  (λ none. some (no_items left more none)),
+  ap (λ xs. xs ++ more) whole ∙ append_assoc out left more,
+)
+  where
+    no_items : (xs ys : List ℕ) → xs ++ ys ≡ [] → xs ≡ []
+    no_items [] ys e = refl
+    no_items (x ∷ xs) ys e = absurd (omega (arith, ap length e))
+
+pub stopped_all : (last : Bool) (bs : List ℕ) (old new : Option (List ℕ)) → StopsInParts last bs old new → Stops bs old new
+stopped_all last bs old new s =
+    let others = has_parts s.rest in
+    let text = repaired_text (s.parts ++ others.0) in (
+      text,
+      s.out,
+      (s.parts ++ others.0, StartsWith-append bs s.parts s.rest others.0 [] s.first.starts others.1, refl),
+      subst (IsProperFront s.out) (sym (repaired_text-append s.parts others.0)) (longer_front s.out (repaired_text s.parts) (repaired_text others.0) s.less),
+      s.bytes,
+    )
+
+-- ---- more bytes behind those that stay
+pub wrote_behind : (last : Bool) (bs mid more rest : List ℕ) (old new now : Option (List ℕ)) (n m : ℕ) → WritesParts false bs mid old new n
+    → WritesParts last (mid ++ more) rest new now m → WritesParts last (bs ++ more) rest old now (n + m)
+wrote_behind last bs mid more rest old new now n m w v = record {
+  parts = w.parts ++ v.parts;
+  first = AreFirst-more last bs w.parts mid more v.parts rest w.first v.first;
+  bytes = subst (Appends old now) (sym (repaired_text-append w.parts v.parts)) (Appends-trans _ _ _ _ _ w.bytes v.bytes);
+  broken = omega (arith, w.broken, v.broken, count_broken-append w.parts v.parts);
+}
+
+-- at most three bytes are pending
+pub pending_length : (p : List ℕ) → IsPending p → length p ≤ 3
+pending_length p (inl e) = omega (arith, ap length e)
+pending_length p (inr b) = length-IsBeginning p b

@@ -1,10 +1,9 @@
 -- Longest fitting fronts, one behind the other.
-use Rattle.std.proofs.Common.{◌≡◌, ℕ, zero, suc, ◌+◌, ◌<◌, ◌≤◌, List, [], ◌∷◌, ◌++◌, length, take, drop, encode_utf8_all, refl, sym, ap, ◌∙◌, arith, subst}
+use Rattle.std.proofs.Common.{◌≡◌, ℕ, ◌<◌, ◌≤◌, List, [], ◌∷◌, ◌++◌, length, take, drop, encode_utf8_all, sym, ap, ◌∙◌, arith, subst}
 use Rattle.std.specs.Prelude.{map}
 use Rattle.std.specs.List.{flat_map}
-use Rattle.std.proofs.lemmas.List.{length-append, take-append-drop}
+use Rattle.std.proofs.lemmas.List.{take-append-drop}
 use Rattle.std.proofs.lemmas.List.Concat.{flat_map-append}
-use Rattle.encoding_text.specs.Fronts.{FitsLongest}
 use Rattle.encoding_text.specs.Utf16.{Part16, units_of, utf8_of, scalar_of, ArePartsOf16, IsUtf8OfLongestFront}
 use Rattle.encoding_text.proofs.CodeUnits.Utf16Lemmas.{parts_unique, rest_parts, none_left}
 use Rattle.encoding_text.proofs.CodeUnits.Utf16LawLemmas.{utf8_of_all}

@@ -7,3 +7,4 @@ pub mod Turns
 pub mod Runs
 pub mod EncoderRuns
 pub mod MixedCalls
+pub mod Steps

@@ -1,7 +1,7 @@
 -- What the repair engine writes of the bytes that it read.
-use Rattle.std.specs.Prelude.{◌≡◌, ◌≢◌, ℕ, List, [], ◌++◌, Option}
-use Rattle.std.specs.Io.KnownBytes.{Appends}
-use Rattle.encoding_text.specs.Parts.{Part, StartsWith, ArePartsOf, repaired_text, count_broken}
+use Rattle.std.specs.Prelude.{◌≡◌, ◌≢◌, ℕ, ◌+◌, ◌≤◌, Bool, true, false, List, [], ◌++◌, length, take, Option}
+use Rattle.std.specs.Io.KnownBytes.{Appends, Consumes, IsAtEnd}
+use Rattle.encoding_text.specs.Parts.{Part, ArePartsOf, AreSettled, repaired_text, count_broken}
 
 -- text is the bytes with U+FFFD for each broken part
 abbrev pub IsRepaired : List ℕ → List ℕ → Type 0
@@ -11,6 +11,14 @@ IsRepaired bs text = (parts : List Part) × ArePartsOf bs parts × (text ≡ rep
 abbrev pub IsRepairedWith : List ℕ → List ℕ → ℕ → Type 0
 IsRepairedWith bs text n = (parts : List Part) × ArePartsOf bs parts × (text ≡ repaired_text parts) × (n ≡ count_broken parts)
 
+-- text is that of the settled parts of the bytes, which stay whatever follows
+abbrev pub IsSettledText : List ℕ → List ℕ → Type 0
+IsSettledText bs text = (parts : List Part) × (rest : List ℕ) × AreSettled bs parts rest × (text ≡ repaired_text parts)
+
+-- out is a front of the text
+abbrev pub IsFront : List ℕ → List ℕ → Type 0
+IsFront out text = (rest : List ℕ) × (text ≡ out ++ rest)
+
 -- out is a front of the text, and not all of it
 abbrev pub IsProperFront : List ℕ → List ℕ → Type 0
 IsProperFront out text = (rest : List ℕ) × (rest ≢ []) × (text ≡ out ++ rest)
@@ -19,13 +27,43 @@ IsProperFront out text = (rest : List ℕ) × (rest ≢ []) × (text ≡ out ++ 
 abbrev pub WritesRepaired : List ℕ → Option (List ℕ) → Option (List ℕ) → ℕ → Type 0
 WritesRepaired bs old new n = (text : List ℕ) × IsRepairedWith bs text n × Appends old new text
 
--- less than all of it does, from its front on
+-- exactly the settled text does
+abbrev pub WritesSettled : List ℕ → Option (List ℕ) → Option (List ℕ) → Type 0
+WritesSettled bs old new = (text : List ℕ) × IsSettledText bs text × Appends old new text
+
+-- of the repaired text, less than all does, from its front on
 abbrev pub Stops : List ℕ → Option (List ℕ) → Option (List ℕ) → Type 0
 Stops bs old new = (text : List ℕ) × (out : List ℕ) × IsRepaired bs text × IsProperFront out text × Appends old new out
 
--- the text of the first parts does, up to the rest, and n of these parts were broken
-pub record WritesParts (bs rest : List ℕ) (old new : Option (List ℕ)) (n : ℕ) : Type 0 where
-  pub parts : List Part
-  pub starts : StartsWith bs parts rest
-  pub bytes : Appends old new (repaired_text parts)
-  pub broken : n ≡ count_broken parts
+-- the text that was to be written of the bytes: once the end was seen all of it, and before that the settled text
+abbrev pub IsDue : List ℕ → Bool → List ℕ → Type 0
+IsDue bs ended text = (ended ≡ true → IsRepaired bs text) × (ended ≡ false → IsSettledText bs text)
+
+-- A write failed while the bytes were read. Of the text that was due, less than all stands behind what was written
+-- before, and at least the settled text of the first bytes: of all but the last 1,024 at most, and of all of them
+-- once the end was seen.
+pub record StopsReading (bs : List ℕ) (ended : Bool) (old new : Option (List ℕ)) : Type 0 where
+  pub text : List ℕ
+  pub out : List ℕ
+  pub due : IsDue bs ended text
+  pub less : IsProperFront out text
+  pub bytes : Appends old new out
+  pub before : ℕ
+  pub within : before ≤ length bs
+  pub one_round : length bs ≤ before + 1024
+  pub all_at_end : ended ≡ true → before ≡ length bs
+  pub settled : List ℕ
+  pub was_settled : IsSettledText (take before bs) settled
+  pub whole_rounds : IsFront settled out
+
+-- all that there was to read was read, and written repaired; n parts were broken
+abbrev pub RepairsAll : List ℕ → Option (List ℕ) → Option (List ℕ) → Option (List ℕ) → Option (List ℕ) → ℕ → Type 0
+RepairsAll bs unread left old new n = Consumes unread left bs × IsAtEnd left × WritesRepaired bs old new n
+
+-- these bytes were read, and exactly their settled text was written
+abbrev pub RepairsSettled : List ℕ → Option (List ℕ) → Option (List ℕ) → Option (List ℕ) → Option (List ℕ) → Type 0
+RepairsSettled bs unread left old new = Consumes unread left bs × WritesSettled bs old new
+
+-- these bytes were read, and a write failed before all was written that was due
+abbrev pub RepairsFront : List ℕ → Bool → Option (List ℕ) → Option (List ℕ) → Option (List ℕ) → Option (List ℕ) → Type 0
+RepairsFront bs ended unread left old new = Consumes unread left bs × StopsReading bs ended old new

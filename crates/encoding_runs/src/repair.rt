@@ -2,5 +2,5 @@
 mod engine;
 mod streams;
 
-pub use engine::{RepairFault, repair_slice};
-pub use streams::{Sink, Watch};
+pub use engine::{RepairFault, Repaired, repair, repair_slice};
+pub use streams::{Sink, Source, Watch};

@@ -36,25 +36,33 @@ fn finds_the_front_of_iso_2022_jp(rt: HostRuntime) {
 #[test]
 fn copies_the_front(rt: HostRuntime) {
     let mut bytes = [0; 3];
-    assert!(rt; copy_ascii_to_ascii(&[0x61, 0x62, 0xE4], &mut bytes) == 2);
-    assert!(rt; bytes == [0x61, 0x62, 0]);
+    let length = copy_ascii_to_ascii(&[0x61, 0x62, 0xE4], &mut bytes);
+    assert!(rt; length == 2 && bytes == [0x61, 0x62, 0]);
+}
+
+#[test]
+fn copies_the_front_to_units(rt: HostRuntime) {
     let mut units = [0; 3];
-    assert!(rt; copy_ascii_to_basic_latin(&[0x61, 0x62, 0xE4], &mut units) == 2);
-    assert!(rt; units == [0x61, 0x62, 0]);
-    let mut back = [0; 3];
-    assert!(rt; copy_basic_latin_to_ascii(&[0x61, 0x0162, 0x63], &mut back) == 1);
-    assert!(rt; back == [0x61, 0, 0]);
+    let length = copy_ascii_to_basic_latin(&[0x61, 0x62, 0xE4], &mut units);
+    assert!(rt; length == 2 && units == [0x61, 0x62, 0]);
+}
+
+#[test]
+fn copies_the_front_of_units(rt: HostRuntime) {
+    let mut bytes = [0; 3];
+    let length = copy_basic_latin_to_ascii(&[0x61, 0x0162, 0x63], &mut bytes);
+    assert!(rt; length == 1 && bytes == [0x61, 0, 0]);
 }
 
 /// Over the shorter length of the two.
 #[test]
 fn copies_what_there_is_room_for(rt: HostRuntime) {
     let mut bytes = [0; 2];
-    assert!(rt; ascii_to_ascii(&[0x61, 0x62, 0xE4], &mut bytes) == None);
-    assert!(rt; bytes == [0x61, 0x62]);
+    let other = ascii_to_ascii(&[0x61, 0x62, 0xE4], &mut bytes);
+    assert!(rt; other == None && bytes == [0x61, 0x62]);
     let mut units = [0; 4];
-    assert!(rt; ascii_to_basic_latin(&[0x61, 0x62], &mut units) == None);
-    assert!(rt; units == [0x61, 0x62, 0, 0]);
+    let other = ascii_to_basic_latin(&[0x61, 0x62], &mut units);
+    assert!(rt; other == None && units == [0x61, 0x62, 0, 0]);
 }
 
 /// 0x40, 0x41 and so on, with 0xAA at a place.

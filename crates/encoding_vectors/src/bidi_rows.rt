@@ -9,12 +9,31 @@ use std::alloc::Global;
 use std::test::Fail;
 
 const RIGHT_TO_LEFT: [char; 15] = [
-    '\u{590}', '\u{61C}', '\u{8FF}', '\u{200F}', '\u{202B}', '\u{202E}', '\u{2067}', '\u{FB50}',
-    '\u{FDFF}', '\u{FE70}', '\u{FEFE}', '\u{10800}', '\u{10FFF}', '\u{1E800}', '\u{1EFFF}',
+    '\u{590}',
+    '\u{61C}',
+    '\u{8FF}',
+    '\u{200F}',
+    '\u{202B}',
+    '\u{202E}',
+    '\u{2067}',
+    '\u{FB50}',
+    '\u{FDFF}',
+    '\u{FE70}',
+    '\u{FEFE}',
+    '\u{10800}',
+    '\u{10FFF}',
+    '\u{1E800}',
+    '\u{1EFFF}',
 ];
 
 const LEFT_TO_RIGHT: [char; 7] = [
-    '\u{61}', '\u{3B1}', '\u{3041}', '\u{1F4A9}', '\u{FE00}', '\u{202C}', '\u{FEFF}',
+    '\u{61}',
+    '\u{3B1}',
+    '\u{3041}',
+    '\u{1F4A9}',
+    '\u{FE00}',
+    '\u{202C}',
+    '\u{FEFF}',
 ];
 
 /// The text of the characters between so many letters on either side.
@@ -42,12 +61,14 @@ fn units_of(alloc: Global, text: &str) -> Result<Vec<u16>, Fail> {
 /// Whether all checks of the text say so.
 fn text_is(alloc: Global, text: &str, bidi: bool, class: Latin1Bidi) -> Result<bool, Fail> {
     let units = units_of(alloc, text)?;
-    Ok(is_str_bidi(text) == bidi
-        && is_utf8_bidi(text.as_bytes()) == bidi
-        && is_utf16_bidi(&units) == bidi
-        && check_str_for_latin1_and_bidi(text) == class
-        && check_utf8_for_latin1_and_bidi(text.as_bytes()) == class
-        && check_utf16_for_latin1_and_bidi(&units) == class)
+    Ok(
+        is_str_bidi(text) == bidi
+            && is_utf8_bidi(text.as_bytes()) == bidi
+            && is_utf16_bidi(&units) == bidi
+            && check_str_for_latin1_and_bidi(text) == class
+            && check_utf8_for_latin1_and_bidi(text.as_bytes()) == class
+            && check_utf16_for_latin1_and_bidi(&units) == class,
+    )
 }
 
 /// Whether the checks of the character, and of texts in which it stands between letters, say so.
@@ -113,7 +134,10 @@ fn units_between_letters(rt: HostRuntime) {
 fn one_of_several(rt: HostRuntime) -> Result<(), Fail> {
     for letters in 0..40 {
         let text = between_letters(rt.alloc(), letters, "\u{590}\u{3041}")?;
-        assert!(rt; text_is(rt.alloc(), &text, true, Latin1Bidi::Bidi)?, "{letters}");
+        assert!(rt;
+            text_is(rt.alloc(), &text, true, Latin1Bidi::Bidi)?,
+            "{letters}"
+        );
     }
     Ok(())
 }
@@ -128,9 +152,18 @@ fn halves_of_pairs(rt: HostRuntime) {
 
 #[test]
 fn ill_formed_bytes_are_right_to_left(rt: HostRuntime) {
-    for bytes in [[0xC3, 0x61], [0x61, 0xC3], [0xED, 0xA0], [0x80, 0x61], [0x61, 0xFF]] {
+    for bytes in [
+        [0xC3, 0x61],
+        [0x61, 0xC3],
+        [0xED, 0xA0],
+        [0x80, 0x61],
+        [0x61, 0xFF],
+    ] {
         assert!(rt; is_utf8_bidi(&bytes), "{bytes:?}");
-        assert!(rt; check_utf8_for_latin1_and_bidi(&bytes) == Latin1Bidi::Bidi, "{bytes:?}");
+        assert!(rt;
+            check_utf8_for_latin1_and_bidi(&bytes) == Latin1Bidi::Bidi,
+            "{bytes:?}"
+        );
     }
     assert!(rt; !is_utf8_bidi(&[]));
 }
@@ -154,9 +187,11 @@ fn units_are(alloc: Global, units: &[u16], class: Latin1Bidi) -> Result<bool, Fa
     for unit in units {
         text.push(char::from_u32(u32::from(*unit)).ok_or("a surrogate")?)?;
     }
-    Ok(check_utf16_for_latin1_and_bidi(units) == class
-        && check_str_for_latin1_and_bidi(&text) == class
-        && check_utf8_for_latin1_and_bidi(text.as_bytes()) == class)
+    Ok(
+        check_utf16_for_latin1_and_bidi(units) == class
+            && check_str_for_latin1_and_bidi(&text) == class
+            && check_utf8_for_latin1_and_bidi(text.as_bytes()) == class,
+    )
 }
 
 /// The units from i to 0xFF, of which then the first one, two and so on become 0x100, 0x101 and so on.
@@ -167,10 +202,16 @@ fn classes_at_all_lengths(rt: HostRuntime) -> Result<(), Fail> {
         for j in 0..256 {
             units[j] = j as u16;
         }
-        assert!(rt; units_are(rt.alloc(), &units[i..], Latin1Bidi::Latin1)?, "{i}");
+        assert!(rt;
+            units_are(rt.alloc(), &units[i..], Latin1Bidi::Latin1)?,
+            "{i}"
+        );
         for j in i..256 {
             units[j] = 0x100 + (j - i) as u16;
-            assert!(rt; units_are(rt.alloc(), &units[i..], Latin1Bidi::LeftToRight)?, "{i} {j}");
+            assert!(rt;
+                units_are(rt.alloc(), &units[i..], Latin1Bidi::LeftToRight)?,
+                "{i} {j}"
+            );
         }
     }
     Ok(())

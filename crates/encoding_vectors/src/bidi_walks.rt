@@ -20,7 +20,9 @@ const RANGES: [(u32, u32); 9] = [
 
 /// Whether the scalar value is in a range.
 fn is_in_a_range(scalar: u32) -> bool {
-    RANGES.iter().any(|range| range.0 <= scalar && scalar <= range.1)
+    RANGES
+        .iter()
+        .any(|range| range.0 <= scalar && scalar <= range.1)
 }
 
 /// Whether all checks of the character and of its code units say so.
@@ -29,8 +31,12 @@ fn character_is(c: char, bidi: bool) -> bool {
     let text = c.encode_utf8(&mut bytes);
     let mut pair = [0; 2];
     let units = c.encode_utf16(&mut pair);
-    let first = units.first().is_some_and(|unit| is_utf16_code_unit_bidi(*unit));
-    let second = units.get(1).is_some_and(|unit| is_utf16_code_unit_bidi(*unit));
+    let first = units
+        .first()
+        .is_some_and(|unit| is_utf16_code_unit_bidi(*unit));
+    let second = units
+        .get(1)
+        .is_some_and(|unit| is_utf16_code_unit_bidi(*unit));
     is_char_bidi(c) == bidi
         && is_str_bidi(text) == bidi
         && is_utf8_bidi(text.as_bytes()) == bidi
@@ -74,7 +80,11 @@ fn is_bidi_alone(unit: u16) -> bool {
 
 /// What stands at the place of a code unit that is in no pair.
 fn repaired(unit: u16) -> u16 {
-    if is_high(unit) || is_low(unit) { 0xFFFD } else { unit }
+    if is_high(unit) || is_low(unit) {
+        0xFFFD
+    } else {
+        unit
+    }
 }
 
 /// Whether the calls treat the two code units as this says.

@@ -1,80 +1,93 @@
 //! Results that borrow where they can, and memory that is refused.
 
 use encoding_text::mem::{CowBytes, CowStr, decode_latin1, encode_latin1_lossy, is_str_latin1};
-use std::alloc::AllocError;
+use std::alloc::{AllocError, Global};
 use std::test::Fail;
 use test_support::memory::exhaust;
 
+/// Whether the bytes are decoded to this.
+fn decodes_to(alloc: Global, bytes: &[u8], text: &CowStr<'_>) -> Result<bool, AllocError> {
+    Ok(decode_latin1(alloc, bytes)? == *text)
+}
+
+/// Whether the text is encoded to this.
+fn encodes_to(alloc: Global, text: &str, bytes: &CowBytes<'_>) -> Result<bool, AllocError> {
+    Ok(is_str_latin1(text) && encode_latin1_lossy(alloc, text)? == *bytes)
+}
+
 #[test]
 fn borrows_ascii(rt: HostRuntime) -> Result<(), Fail> {
-    assert!(rt; decode_latin1(rt.alloc(), b"ab")? == CowStr::Borrowed("ab"));
-    assert!(rt; decode_latin1(rt.alloc(), b"")? == CowStr::Borrowed(""));
-    assert!(rt; is_str_latin1("ab"));
-    assert!(rt; encode_latin1_lossy(rt.alloc(), "ab")? == CowBytes::Borrowed(b"ab"));
+    assert!(rt; decodes_to(rt.alloc(), b"ab", &CowStr::Borrowed("ab"))?);
+    assert!(rt; decodes_to(rt.alloc(), b"", &CowStr::Borrowed(""))?);
+    assert!(rt; encodes_to(rt.alloc(), "ab", &CowBytes::Borrowed(b"ab"))?);
     Ok(())
 }
 
 #[test]
 fn owns_the_rest(rt: HostRuntime) -> Result<(), Fail> {
-    let text = decode_latin1(rt.alloc(), &[0x61, 0xE4])?;
-    assert!(rt; text == CowStr::Owned(String::from_str(rt.alloc(), "aä")?));
-    assert!(rt; is_str_latin1("aä"));
-    let bytes = encode_latin1_lossy(rt.alloc(), "aä")?;
-    assert!(rt; bytes == CowBytes::Owned([0x61, 0xE4].to_vec(rt.alloc())?));
+    let text = String::from_str(rt.alloc(), "aä")?;
+    assert!(rt; decodes_to(rt.alloc(), &[0x61, 0xE4], &CowStr::Owned(text))?);
+    let bytes = [0x61, 0xE4].to_vec(rt.alloc())?;
+    assert!(rt; encodes_to(rt.alloc(), "aä", &CowBytes::Owned(bytes))?);
     Ok(())
+}
+
+/// Whether the bytes are decoded to this, or refused, where a block of so many bytes is all that is left, and none is
+/// left then.
+fn decodes_with_spare(
+    alloc: Global,
+    bytes: &[u8],
+    spare: usize,
+    wanted: &Result<CowStr<'_>, AllocError>,
+) -> Result<bool, AllocError> {
+    let block = Vec::<u8>::with_capacity(alloc, spare)?;
+    let held = exhaust(alloc)?;
+    drop(block);
+    let text = decode_latin1(alloc, bytes);
+    let refused = Vec::<u8>::with_capacity(alloc, 1).is_err();
+    drop(held);
+    Ok(refused && text == *wanted)
+}
+
+/// The same of a text that is encoded.
+fn encodes_with_spare(
+    alloc: Global,
+    text: &str,
+    spare: usize,
+    wanted: &Result<CowBytes<'_>, AllocError>,
+) -> Result<bool, AllocError> {
+    if !is_str_latin1(text) {
+        return Ok(false);
+    }
+    let block = Vec::<u8>::with_capacity(alloc, spare)?;
+    let held = exhaust(alloc)?;
+    drop(block);
+    let bytes = encode_latin1_lossy(alloc, text);
+    let refused = Vec::<u8>::with_capacity(alloc, 1).is_err();
+    drop(held);
+    Ok(refused && bytes == *wanted)
 }
 
 #[test]
 fn ascii_takes_no_memory(rt: HostRuntime) -> Result<(), Fail> {
-    assert!(rt; is_str_latin1("ab"));
-    let held = exhaust(rt.alloc())?;
-    let text = decode_latin1(rt.alloc(), b"ab");
-    let bytes = encode_latin1_lossy(rt.alloc(), "ab");
-    let refused = Vec::<u8>::with_capacity(rt.alloc(), 1).is_err();
-    drop(held);
-    assert!(rt; refused);
-    assert!(rt; text == Ok(CowStr::Borrowed("ab")));
-    assert!(rt; bytes == Ok(CowBytes::Borrowed(b"ab")));
+    assert!(rt; decodes_with_spare(rt.alloc(), b"ab", 0, &Ok(CowStr::Borrowed("ab")))?);
+    assert!(rt; encodes_with_spare(rt.alloc(), "ab", 0, &Ok(CowBytes::Borrowed(b"ab")))?);
     Ok(())
 }
 
 #[test]
 fn the_first_request_is_refused(rt: HostRuntime) -> Result<(), Fail> {
-    assert!(rt; is_str_latin1("aä"));
-    let held = exhaust(rt.alloc())?;
-    let text = decode_latin1(rt.alloc(), &[0x61, 0xE4]);
-    let bytes = encode_latin1_lossy(rt.alloc(), "aä");
-    drop(held);
-    assert!(rt; text == Err(AllocError));
-    assert!(rt; bytes == Err(AllocError));
+    assert!(rt; decodes_with_spare(rt.alloc(), &[0x61, 0xE4], 0, &Err(AllocError))?);
+    assert!(rt; encodes_with_spare(rt.alloc(), "aä", 0, &Err(AllocError))?);
     Ok(())
 }
 
-/// One block is free, which the one growth takes: a second request is refused.
+/// One block is left, which the one growth takes: a second request is refused.
 #[test]
-fn a_text_is_one_growth(rt: HostRuntime) -> Result<(), Fail> {
-    let spare = Vec::<u8>::with_capacity(rt.alloc(), 4)?;
-    let held = exhaust(rt.alloc())?;
-    drop(spare);
-    let text = decode_latin1(rt.alloc(), &[0x61, 0xE4]);
-    let refused = Vec::<u8>::with_capacity(rt.alloc(), 1).is_err();
-    drop(held);
-    assert!(rt; refused);
-    assert!(rt; text == Ok(CowStr::Owned(String::from_str(rt.alloc(), "aä")?)));
-    Ok(())
-}
-
-/// The same of bytes.
-#[test]
-fn bytes_are_one_growth(rt: HostRuntime) -> Result<(), Fail> {
-    assert!(rt; is_str_latin1("aä"));
-    let spare = Vec::<u8>::with_capacity(rt.alloc(), 4)?;
-    let held = exhaust(rt.alloc())?;
-    drop(spare);
-    let bytes = encode_latin1_lossy(rt.alloc(), "aä");
-    let refused = Vec::<u8>::with_capacity(rt.alloc(), 1).is_err();
-    drop(held);
-    assert!(rt; refused);
-    assert!(rt; bytes == Ok(CowBytes::Owned([0x61, 0xE4].to_vec(rt.alloc())?)));
+fn one_growth_is_made(rt: HostRuntime) -> Result<(), Fail> {
+    let text = String::from_str(rt.alloc(), "aä")?;
+    assert!(rt; decodes_with_spare(rt.alloc(), &[0x61, 0xE4], 4, &Ok(CowStr::Owned(text)))?);
+    let bytes = [0x61, 0xE4].to_vec(rt.alloc())?;
+    assert!(rt; encodes_with_spare(rt.alloc(), "aä", 4, &Ok(CowBytes::Owned(bytes)))?);
     Ok(())
 }

@@ -1,6 +1,6 @@
 //! The vectors through both calls of the decoder, marked last.
 
-use crate::decoder_vectors::{Delivered, delivered_utf8, delivered_utf16, vectors};
+use crate::decoder_vectors::{Delivered, Vector, delivered_utf8, delivered_utf16, vectors};
 use encoding_text::decoder::{DecoderResult, Utf8Decoder};
 use std::alloc::{AllocError, Global};
 use std::test::Fail;
@@ -59,22 +59,18 @@ fn decode_to_utf8(alloc: Global, src: &[u8]) -> Result<Option<Delivered<u8>>, Al
     Ok(None)
 }
 
-#[test]
-fn decodes_to_utf16(rt: HostRuntime) -> Result<(), Fail> {
-    for vector in &vectors(rt.alloc())? {
-        let want = delivered_utf16(rt.alloc(), vector)?;
-        let got = decode_to_utf16(rt.alloc(), &vector.bytes)?;
-        assert!(rt; got == Some(want), "{}", vector.row);
-    }
-    Ok(())
+/// Whether decoding to both delivers what a vector expects.
+fn is_delivered(alloc: Global, vector: &Vector) -> Result<bool, AllocError> {
+    Ok(
+        decode_to_utf16(alloc, &vector.bytes)? == Some(delivered_utf16(alloc, vector)?)
+            && decode_to_utf8(alloc, &vector.bytes)? == Some(delivered_utf8(alloc, vector)?),
+    )
 }
 
 #[test]
-fn decodes_to_utf8(rt: HostRuntime) -> Result<(), Fail> {
+fn delivers_the_parts(rt: HostRuntime) -> Result<(), Fail> {
     for vector in &vectors(rt.alloc())? {
-        let want = delivered_utf8(rt.alloc(), vector)?;
-        let got = decode_to_utf8(rt.alloc(), &vector.bytes)?;
-        assert!(rt; got == Some(want), "{}", vector.row);
+        assert!(rt; is_delivered(rt.alloc(), vector)?, "{}", vector.row);
     }
     Ok(())
 }

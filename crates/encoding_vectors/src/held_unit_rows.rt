@@ -23,90 +23,104 @@ fn result_of(field: &str) -> Result<EncoderResult, Fail> {
     }
 }
 
-/// Code units: held before, source, room, mark, result, units read, bytes written, held after.
-const UNITS: &str = "\
-none | 0063 D83D DCA9 | 4 | more | OutputFull | 1 | 63 | none
-none | 0063 D83D DCA9 | 4 | last | OutputFull | 1 | 63 | none
-none | 263A D83D | 6 | last | InputEmpty | 2 | E2 98 BA EF BF BD | none
-none | D83D DCA9 | 3 | more | OutputFull | 0 | | none
-none | D83D DCA9 | 3 | last | OutputFull | 0 | | none
-none | D83D | 0 | more | InputEmpty | 1 | | D83D
-none | 0063 D83D | 1 | more | InputEmpty | 2 | 63 | D83D
-none | 0063 D83D | 0 | more | OutputFull | 0 | | none
-none | D83D DCA9 D83D | 3 | more | OutputFull | 0 | | none
-D83D | DCA9 | 3 | last | OutputFull | 0 | | D83D
-D83D | 0062 | 4 | more | InputEmpty | 1 | EF BF BD 62 | none
-D83D | 0062 | 3 | more | OutputFull | 0 | EF BF BD | none
-D83D | D83D | 3 | more | InputEmpty | 1 | EF BF BD | D83D
-D83D | | 0 | more | InputEmpty | 0 | | D83D
-D83D | | 2 | last | OutputFull | 0 | | D83D
-D83D | | 3 | last | InputEmpty | 0 | EF BF BD | none
-D83D | DCA9 | 4 | last | InputEmpty | 1 | F0 9F 92 A9 | none";
+/// What a call of a row is to return and to write.
+#[derive(Drop)]
+struct Wanted {
+    result: EncoderResult,
+    read: usize,
+    bytes: Vec<u8>,
+}
+
+fn wanted_of(alloc: Global, row: &mut &str) -> Result<Wanted, Fail> {
+    let result = result_of(field(row))?;
+    let read = number_of(field(row))?;
+    Ok(Wanted {
+        result,
+        read,
+        bytes: bytes_of(alloc, field(row))?,
+    })
+}
+
+/// Whether a call returned this, wrote these bytes, and left what is behind them.
+fn is_wanted(wanted: &Wanted, answer: (EncoderResult, usize, usize), dst: &[u8]) -> bool {
+    answer.0 == wanted.result
+        && answer.1 == wanted.read
+        && are_written(&wanted.bytes, dst, answer.2)
+}
+
+/// Code units: held before, source, room, mark, result, units read, bytes written, held after. Texts, with either mark:
+/// held before, text, room, result, bytes read, bytes written, held after.
+const ROWS: &str = "\
+units | none | 0063 D83D DCA9 | 4 | more | OutputFull | 1 | 63 | none
+units | none | 0063 D83D DCA9 | 4 | last | OutputFull | 1 | 63 | none
+units | none | 263A D83D | 6 | last | InputEmpty | 2 | E2 98 BA EF BF BD | none
+units | none | D83D DCA9 | 3 | more | OutputFull | 0 | | none
+units | none | D83D DCA9 | 3 | last | OutputFull | 0 | | none
+units | none | D83D | 0 | more | InputEmpty | 1 | | D83D
+units | none | 0063 D83D | 1 | more | InputEmpty | 2 | 63 | D83D
+units | none | 0063 D83D | 0 | more | OutputFull | 0 | | none
+units | none | D83D DCA9 D83D | 3 | more | OutputFull | 0 | | none
+units | D83D | DCA9 | 3 | last | OutputFull | 0 | | D83D
+units | D83D | 0062 | 4 | more | InputEmpty | 1 | EF BF BD 62 | none
+units | D83D | 0062 | 3 | more | OutputFull | 0 | EF BF BD | none
+units | D83D | D83D | 3 | more | InputEmpty | 1 | EF BF BD | D83D
+units | D83D | | 0 | more | InputEmpty | 0 | | D83D
+units | D83D | | 2 | last | OutputFull | 0 | | D83D
+units | D83D | | 3 | last | InputEmpty | 0 | EF BF BD | none
+units | D83D | DCA9 | 4 | last | InputEmpty | 1 | F0 9F 92 A9 | none
+text | none | aä | 2 | OutputFull | 1 | 61 | none
+text | none | aä | 3 | InputEmpty | 3 | 61 C3 A4 | none
+text | none | aä | 0 | OutputFull | 0 | | none
+text | D83D | a | 4 | InputEmpty | 1 | EF BF BD 61 | none
+text | D83D | a | 3 | OutputFull | 0 | EF BF BD | none
+text | D83D | | 2 | OutputFull | 0 | | D83D";
 
 fn units_row_holds(alloc: Global, row: &str) -> Result<bool, Fail> {
     let mut row = row;
     let mut encoder = encoder_at(field(&mut row));
     let units = units_of(alloc, field(&mut row))?;
+    let room = number_of(field(&mut row))?;
+    let last = field(&mut row) == "last";
+    let wanted = wanted_of(alloc, &mut row)?;
     let mut dst = [0x71; 8];
-    let Some(room) = dst.get_mut(..number_of(field(&mut row))?) else {
+    let Some(part) = dst.get_mut(..room) else {
         return Ok(false);
     };
-    let last = field(&mut row) == "last";
-    let (result, read, written) = encoder.encode_from_utf16_raw(&units, room, last);
-    Ok(
-        result == result_of(field(&mut row))?
-            && read == number_of(field(&mut row))?
-            && are_written(&bytes_of(alloc, field(&mut row))?, &dst, written)
-            && holds(encoder, field(&mut row)),
-    )
+    let answer = encoder.encode_from_utf16_raw(&units, part, last);
+    Ok(is_wanted(&wanted, answer, &dst) && holds(encoder, field(&mut row)))
 }
-
-#[test]
-fn units_with_and_without_a_held_one(rt: HostRuntime) -> Result<(), Fail> {
-    let mut count = 0u32;
-    for row in UNITS.lines() {
-        assert!(rt; units_row_holds(rt.alloc(), row)?, "{row}");
-        count = count.saturating_add(1);
-    }
-    assert!(rt; count == 17);
-    Ok(())
-}
-
-/// Texts, each marked last and not: held before, text, room, result, bytes read, bytes written, held after.
-const TEXTS: &str = "\
-none | aä | 2 | OutputFull | 1 | 61 | none
-none | aä | 3 | InputEmpty | 3 | 61 C3 A4 | none
-none | aä | 0 | OutputFull | 0 | | none
-D83D | a | 4 | InputEmpty | 1 | EF BF BD 61 | none
-D83D | a | 3 | OutputFull | 0 | EF BF BD | none
-D83D | | 2 | OutputFull | 0 | | D83D";
 
 fn text_row_holds(alloc: Global, row: &str, last: bool) -> Result<bool, Fail> {
     let mut row = row;
     let mut encoder = encoder_at(field(&mut row));
     let text = field(&mut row);
+    let room = number_of(field(&mut row))?;
+    let wanted = wanted_of(alloc, &mut row)?;
     let mut dst = [0x71; 8];
-    let Some(room) = dst.get_mut(..number_of(field(&mut row))?) else {
+    let Some(part) = dst.get_mut(..room) else {
         return Ok(false);
     };
-    let (result, read, written) = encoder.encode_from_utf8_raw(text, room, last);
-    Ok(
-        result == result_of(field(&mut row))?
-            && read == number_of(field(&mut row))?
-            && are_written(&bytes_of(alloc, field(&mut row))?, &dst, written)
-            && holds(encoder, field(&mut row)),
-    )
+    let answer = encoder.encode_from_utf8_raw(text, part, last);
+    Ok(is_wanted(&wanted, answer, &dst) && holds(encoder, field(&mut row)))
+}
+
+fn row_holds(alloc: Global, row: &str) -> Result<bool, Fail> {
+    let mut rest = row;
+    match field(&mut rest) {
+        "units" => units_row_holds(alloc, rest),
+        "text" => Ok(text_row_holds(alloc, rest, false)? && text_row_holds(alloc, rest, true)?),
+        _ => Ok(false),
+    }
 }
 
 #[test]
-fn texts_with_and_without_a_held_unit(rt: HostRuntime) -> Result<(), Fail> {
+fn rows_with_and_without_a_held_unit(rt: HostRuntime) -> Result<(), Fail> {
     let mut count = 0u32;
-    for row in TEXTS.lines() {
-        assert!(rt; text_row_holds(rt.alloc(), row, false)?, "{row}");
-        assert!(rt; text_row_holds(rt.alloc(), row, true)?, "{row}, last");
+    for row in ROWS.lines() {
+        assert!(rt; row_holds(rt.alloc(), row)?, "{row}");
         count = count.saturating_add(1);
     }
-    assert!(rt; count == 6);
+    assert!(rt; count == 23);
     Ok(())
 }
 

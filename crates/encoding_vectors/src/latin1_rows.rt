@@ -9,17 +9,26 @@ use encoding_text::mem::{
 use std::alloc::Global;
 use std::test::Fail;
 
-/// Bytes, and the length of their front that is the UTF-8 of Latin1 text.
+/// Bytes, and the length of their front that is the UTF-8 of Latin1 text; or bytes that are no text, so not Latin1.
 const FRONTS: &str = "\
 | 0
 61 C3 FF | 1
 C3 A4 C4 80 | 2
-61 C3 BF | 3";
+61 C3 BF | 3
+C3 | ill-formed
+61 C3 | ill-formed
+FF | ill-formed
+61 FF | ill-formed
+C3 FF | ill-formed
+61 C3 FF | ill-formed";
 
 fn front_is(alloc: Global, row: &str) -> Result<bool, Fail> {
     let mut row = row;
     let bytes = bytes_of(alloc, field(&mut row))?;
-    Ok(utf8_latin1_up_to(&bytes) == number_of(field(&mut row))?)
+    match field(&mut row) {
+        "ill-formed" => Ok(!is_utf8_latin1(&bytes)),
+        length => Ok(utf8_latin1_up_to(&bytes) == number_of(length)?),
+    }
 }
 
 #[test]
@@ -29,28 +38,8 @@ fn finds_the_front(rt: HostRuntime) -> Result<(), Fail> {
         assert!(rt; front_is(rt.alloc(), row)?, "{row}");
         count = count.saturating_add(1);
     }
-    assert!(rt; count == 4);
+    assert!(rt; count == 10);
     assert!(rt; str_latin1_up_to("aäĀ") == 3 && str_latin1_up_to("aÿ") == 3);
-    Ok(())
-}
-
-/// Bytes that are no Latin1 text, for they are no text.
-const ILL_FORMED: &str = "\
-C3
-61 C3
-FF
-61 FF
-C3 FF
-61 C3 FF";
-
-#[test]
-fn ill_formed_bytes_are_not_latin1(rt: HostRuntime) -> Result<(), Fail> {
-    let mut count = 0u32;
-    for row in ILL_FORMED.lines() {
-        assert!(rt; !is_utf8_latin1(&bytes_of(rt.alloc(), row)?), "{row}");
-        count = count.saturating_add(1);
-    }
-    assert!(rt; count == 6);
     Ok(())
 }
 

@@ -8,6 +8,8 @@ mod bidi_rows;
 #[cfg(test)]
 mod bidi_walks;
 #[cfg(test)]
+mod borrowed_call_rows;
+#[cfg(test)]
 mod borrowed_rows;
 #[cfg(test)]
 mod decoder_parts;
@@ -29,6 +31,8 @@ mod latin1_rows;
 mod mixed_text;
 #[cfg(test)]
 mod repair_rows;
+#[cfg(test)]
+mod repair_stream_rows;
 #[cfg(test)]
 mod run_rows;
 #[cfg(test)]

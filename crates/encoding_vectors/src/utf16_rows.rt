@@ -92,15 +92,24 @@ fn source_of(alloc: Global, row: &str) -> Result<Source, Fail> {
     };
     source.fronts.push((0, 0))?;
     for character in row.split('|') {
-        if let Some((units, bytes)) = character.split_once(':') {
-            source.units.extend_from_slice(&units_of(alloc, units)?)?;
-            source.bytes.extend_from_slice(&bytes_of(alloc, bytes)?)?;
-            source
-                .fronts
-                .push((source.units.len(), source.bytes.len()))?;
-        }
+        push_character(alloc, &mut source, character)?;
     }
     Ok(source)
+}
+
+/// Puts the character that a field names behind a source.
+fn push_character(alloc: Global, source: &mut Source, character: &str) -> Result<(), Fail> {
+    let Some((units, bytes)) = character.split_once(':') else {
+        return Ok(());
+    };
+    let units = units_of(alloc, units)?;
+    let bytes = bytes_of(alloc, bytes)?;
+    source.units.extend_from_slice(&units)?;
+    source.bytes.extend_from_slice(&bytes)?;
+    source
+        .fronts
+        .push((source.units.len(), source.bytes.len()))?;
+    Ok(())
 }
 
 /// Whether the inner half writes a front of whole characters, and reads all or leaves at most three bytes free. Which

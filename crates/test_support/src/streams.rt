@@ -84,6 +84,8 @@ pub struct Output {
     pub asked: usize,
     /// How often it was flushed.
     pub flushes: usize,
+    /// How many bytes it had taken when it was last flushed.
+    pub flushed_at: usize,
     ghost within: { count ≤ 2048 },
 }
 
@@ -99,6 +101,7 @@ impl Output {
             flushable: true,
             asked: 0,
             flushes: 0,
+            flushed_at: 0,
         }
     }
 
@@ -145,6 +148,7 @@ impl Write for Output {
 
     fn flush(&mut self) -> Result<()> {
         self.flushes = self.flushes.saturating_add(1);
+        self.flushed_at = self.count;
         if self.flushable {
             Ok(())
         } else {

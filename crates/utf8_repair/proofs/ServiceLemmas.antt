@@ -1,38 +1,105 @@
--- The clauses of a run: what is written after a fault, and what is written behind a flush.
-use Rattle.std.proofs.Common.{◌≡◌, ℕ, Result, Ok, Err, ◌+◌, ◌≤◌, length, take, ap, List, [], ◌++◌, Option, subst, ◌∙◌, sym, IfOk, IfErr}
+-- The clauses of a run: what is written behind the flush, whatever the engine returned.
+use Rattle.std.proofs.Common.{◌≡◌, ℕ, Bool, true, false, List, [], ◌++◌, length, take, Option, Result, Ok, Err, IfOk, refl, sym, ap, ◌∙◌, arith, subst}
 use Rattle.std.specs.Io.KnownBytes.{Keeps}
 use Rattle.std.proofs.KnownBytes.{Appends-kept}
-use Rattle.std.proofs.lemmas.List.{append-nil, length-take-le, take-append-le}
-use Rattle.std.proofs.Math.Seq.{take-append-add}
-use Rattle.encoding_runs.specs.Repairs.{IsRepaired, WritesRepaired, Stops}
-use Rattle.utf8_repair.specs.Service.{WritesFrontOfRepaired}
+use Rattle.std.proofs.lemmas.List.{append-nil, append_assoc, take_all}
+use Rattle.encoding_text.specs.Parts.{Part, StartsWith, ArePartsOf, AreSettled, repaired_text}
+use Rattle.encoding_text.proofs.Decomposition.DecompositionLemmas.{has_parts, has_settled, parts_split, repaired_text-append}
+use Rattle.encoding_runs.specs.declared.repair.engine.Repaired.{Repaired}
+use Rattle.encoding_runs.specs.declared.repair.engine.RepairFault.{RepairFault}
+use Rattle.encoding_runs.specs.declared.repair.engine.RepairFault.TheVariants.{Read, Write, Limit}
+use Rattle.encoding_runs.specs.Repairs.{IsRepaired, IsSettledText, IsFront, WritesRepaired, WritesSettled, StopsReading, RepairsAll, RepairsSettled, RepairsFront}
+use Rattle.utf8_repair.specs.Service.{WritesFrontOfRepaired, RepairsSome}
 
--- all of the text is a front of it
-wrote_front : (bs : List ℕ) (old new : Option (List ℕ)) (n : ℕ) → WritesRepaired bs old new n → WritesFrontOfRepaired bs old new
-wrote_front bs old new n (text, (parts, are, is, broken), a) = (text, [], (parts, are, append-nil text ∙ is), a)
+-- ---- behind a flush
+pub all_kept : (bs : List ℕ) (unread left old new now : Option (List ℕ)) (n : ℕ) → RepairsAll bs unread left old new n → Keeps new now → RepairsAll bs unread left old now n
+all_kept bs unread left old new now n (consumed, end, (text, is, a)) k = (consumed, end, (text, is, Appends-kept _ _ _ _ a k))
 
-stopped_front : (bs : List ℕ) (old new : Option (List ℕ)) → Stops bs old new → WritesFrontOfRepaired bs old new
-stopped_front bs old new (text, out, is, (rest, some, whole), a) = (out, rest, subst (IsRepaired bs) whole is, a)
+pub settled_kept : (bs : List ℕ) (unread left old new now : Option (List ℕ)) → RepairsSettled bs unread left old new → Keeps new now → RepairsSettled bs unread left old now
+settled_kept bs unread left old new now (consumed, (text, is, a)) k = (consumed, (text, is, Appends-kept _ _ _ _ a k))
 
-pub flushed_all : (bs : List ℕ) (old mid new : Option (List ℕ)) (n : ℕ) → WritesRepaired bs old mid n → Keeps mid new → WritesRepaired bs old new n
-flushed_all bs old mid new n (text, is, a) k = (text, is, Appends-kept _ _ _ _ a k)
+-- ---- a front of the repaired text
+whole_settled : (bs text : List ℕ) → IsSettledText bs text → IsSettledText (take (length bs) bs) text
+whole_settled bs text s = subst (λ xs. IsSettledText xs text) (sym (take_all (length bs) bs (omega arith))) s
 
-flushed_front : (bs : List ℕ) (old mid new : Option (List ℕ)) → WritesFrontOfRepaired bs old mid → Keeps mid new → WritesFrontOfRepaired bs old new
-flushed_front bs old mid new (out, rest, is, a) k = (out, rest, is, Appends-kept _ _ _ _ a k)
+-- the settled text begins it
+begins_with_settled : (bs : List ℕ) (ps : List Part) (rest : List ℕ) (all : List Part) → StartsWith bs ps rest → ArePartsOf bs all → IsFront (repaired_text ps) (repaired_text all)
+begins_with_settled bs ps rest all s are =
+    let (others, same, more) = parts_split bs ps rest all s are in
+    (repaired_text others, ap repaired_text same ∙ repaired_text-append ps others)
 
-pub flushed_stop : (bs : List ℕ) (old mid new : Option (List ℕ)) → Stops bs old mid → Keeps mid new → WritesFrontOfRepaired bs old new
-flushed_stop bs old mid new s k = flushed_front _ _ _ _ (stopped_front _ _ _ s) k
+repaired_front : (bs : List ℕ) (old new now : Option (List ℕ)) (n : ℕ) → WritesRepaired bs old new n → Keeps new now → WritesFrontOfRepaired bs old now
+repaired_front bs old new now n (text, (parts, are, is, broken), a) k =
+    let (ps, rest, settled) = has_settled bs in record {
+      text = text;
+      out = text;
+      repaired = (parts, are, is);
+      front = ([], sym (append-nil text));
+      bytes = Appends-kept _ _ _ _ a k;
+      before = length bs;
+      within = omega arith;
+      one_round = omega arith;
+      settled = repaired_text ps;
+      was_settled = whole_settled bs (repaired_text ps) (ps, rest, settled, refl);
+      whole_rounds = subst (IsFront (repaired_text ps)) (sym is) (begins_with_settled bs ps rest parts settled.starts are);
+    }
 
--- whatever the outcome
-pub flushed : {E : Type 0} (F : E → Type 0) (bs : List ℕ) (old mid new : Option (List ℕ)) (outcome : Result ℕ E)
-    → IfOk outcome (WritesRepaired bs old mid) → IfErr outcome (λ fault. F fault × Stops bs old mid) → Keeps mid new → WritesFrontOfRepaired bs old new
-flushed F bs old mid new (Ok n) all none k = flushed_front _ _ _ _ (wrote_front _ _ _ n all) k
-flushed F bs old mid new (Err e) none stop k = flushed_stop _ _ _ _ stop.1 k
+settled_front : (bs : List ℕ) (old new now : Option (List ℕ)) → WritesSettled bs old new → Keeps new now → WritesFrontOfRepaired bs old now
+settled_front bs old new now (text, (ps, rest, settled, is), a) k =
+    let (parts, are) = has_parts bs in record {
+      text = repaired_text parts;
+      out = text;
+      repaired = (parts, are, refl);
+      front = subst (λ xs. IsFront xs (repaired_text parts)) (sym is) (begins_with_settled bs ps rest parts settled.starts are);
+      bytes = Appends-kept _ _ _ _ a k;
+      before = length bs;
+      within = omega arith;
+      one_round = omega arith;
+      settled = text;
+      was_settled = whole_settled bs text (ps, rest, settled, is);
+      whole_rounds = ([], sym (append-nil text));
+    }
 
--- so many bytes of a list of which those behind the first a are written over
-pub take_behind : (a n : ℕ) (xs ys rest : List ℕ) → a ≤ length xs → n ≤ length ys → take (a + n) (take a xs ++ (ys ++ rest)) ≡ take a xs ++ take n ys
-take_behind a n xs ys rest p q = ap (λ k. take (k + n) (take a xs ++ (ys ++ rest))) (sym (length-take-le a xs p)) ∙ take-append-add (take a xs) (ys ++ rest) n ∙ ap (λ zs. take a xs ++ zs) (take-append-le n ys rest q)
+-- the text that was due begins the repaired text
+due_front : (bs out text : List ℕ) (ended : Bool) → (ended ≡ true → IsRepaired bs text) → (ended ≡ false → IsSettledText bs text) → IsFront out text
+    → (all : List ℕ) × IsRepaired bs all × IsFront out all
+due_front bs out text true r s front = (text, r refl, front)
+due_front bs out text false r s (left, whole) =
+    let (ps, rest, settled, is) = s refl in
+    let (parts, are) = has_parts bs in
+    let (more, e) = begins_with_settled bs ps rest parts settled.starts are in (
+      repaired_text parts,
+      (parts, are, refl),
+      (left ++ more, e ∙ ap (λ xs. xs ++ more) (sym is ∙ whole) ∙ append_assoc out left more),
+    )
 
-pub flushed_ok : {E : Type 0} (bs : List ℕ) (old mid new : Option (List ℕ)) (outcome : Result ℕ E) (n m : ℕ) → outcome ≡ Ok n → n ≡ m
-    → IfOk outcome (WritesRepaired bs old mid) → Keeps mid new → WritesRepaired bs old new m
-flushed_ok bs old mid new outcome n m is e all k = flushed_all _ _ _ _ _ (subst (WritesRepaired bs old mid) e (rw is at all)) k
+stopped_front : (bs : List ℕ) (ended : Bool) (old new now : Option (List ℕ)) → StopsReading bs ended old new → Keeps new now → WritesFrontOfRepaired bs old now
+stopped_front bs ended old new now s k =
+    let (all, repaired, front) = due_front bs s.out s.text ended s.due.0 s.due.1 (s.less.0, s.less.2) in record {
+      text = all;
+      out = s.out;
+      repaired = repaired;
+      front = front;
+      bytes = Appends-kept _ _ _ _ s.bytes k;
+      before = s.before;
+      within = s.within;
+      one_round = s.one_round;
+      settled = s.settled;
+      was_settled = s.was_settled;
+      whole_rounds = s.whole_rounds;
+    }
+
+pub stopped_some : (bs : List ℕ) (ended : Bool) (unread left old new now : Option (List ℕ)) → RepairsFront bs ended unread left old new → Keeps new now → RepairsSome bs unread left old now
+stopped_some bs ended unread left old new now (consumed, s) k = (consumed, stopped_front bs ended old new now s k)
+
+-- whatever the engine returned
+pub flushed : (outcome : Result Repaired RepairFault) (most : ℕ) (unread left old new now : Option (List ℕ))
+    → IfOk outcome (λ (repaired : Repaired). (bs : List ℕ) × RepairsAll bs unread left old new repaired.replaced)
+    → (outcome ≡ Err Read → (bs : List ℕ) × RepairsSettled bs unread left old new)
+    → (outcome ≡ Err Write → (bs : List ℕ) × (ended : Bool) × RepairsFront bs ended unread left old new)
+    → (outcome ≡ Err Limit → (bs : List ℕ) × (length bs ≡ most) × RepairsSettled bs unread left old new)
+    → Keeps new now → (bs : List ℕ) × RepairsSome bs unread left old now
+flushed (Ok repaired) most unread left old new now (bs, (consumed, end, w)) read write limit k = (bs, (consumed, repaired_front bs old new now repaired.replaced w k))
+flushed (Err Read) most unread left old new now all read write limit k = let (bs, (consumed, w)) = read refl in (bs, (consumed, settled_front bs old new now w k))
+flushed (Err Write) most unread left old new now all read write limit k = let (bs, ended, s) = write refl in (bs, stopped_some bs ended unread left old new now s k)
+flushed (Err Limit) most unread left old new now all read write limit k = let (bs, size, (consumed, w)) = limit refl in (bs, (consumed, settled_front bs old new now w k))

@@ -2,13 +2,21 @@
 #![tactic(auto)]
 
 pub mod service;
+pub mod streams;
 #[cfg(test)]
 mod tests;
 
 use service::{NO_ARGUMENTS, report, serve};
+use std::cell::Cell;
 use std::env;
 use std::process::ExitCode;
+use streams::{ReadAhead, WriteBehind};
 
+/// The length of the arrays between the engine and the standard streams: as many bytes as a pipe holds.
+const ROOM: usize = 0x10000;
+
+/// Serves the standard streams, each behind an array: they are not buffered, and each of their calls is one of the
+/// system.
 fn main(rt: HostRuntime) -> ExitCode {
     let mut errors = rt.stderr();
     let Ok(arguments) = env::args(&rt) else {
@@ -16,7 +24,8 @@ fn main(rt: HostRuntime) -> ExitCode {
         return ExitCode::from(NO_ARGUMENTS);
     };
     let count = arguments.count().saturating_sub(1);
-    let mut reader = rt.stdin();
-    let mut writer = rt.stdout();
-    ExitCode::from(serve(rt.alloc(), count, &mut reader, &mut writer, &mut errors))
+    let last = Cell::new(true);
+    let mut reader: ReadAhead<'_, _, ROOM> = ReadAhead::new(rt.stdin(), &last);
+    let mut writer: WriteBehind<'_, _, ROOM> = WriteBehind::new(rt.stdout(), &last);
+    ExitCode::from(serve(count, &mut reader, &mut writer, &mut errors))
 }

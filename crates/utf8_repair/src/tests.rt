@@ -1,10 +1,10 @@
 //! Runs over streams in memory.
+mod buffers;
+mod peers;
 
-use crate::service::serve;
-use std::io::ErrorKind;
-use std::test::Fail;
-use test_support::memory::exhaust;
-use test_support::streams::{Endless, Input, Output};
+use crate::service::{report, serve};
+use std::io::{ErrorKind, Read};
+use test_support::streams::{Input, Output, ROOM};
 
 /// What a run reads, what it is to write, and its status.
 struct Row {
@@ -52,54 +52,104 @@ const READ_FAULT: &[u8] = b"utf8_repair: read fault\n";
 
 const WRITE_FAULT: &[u8] = b"utf8_repair: write fault\n";
 
-const NO_MEMORY: &[u8] = b"utf8_repair: no memory\n";
+const LIMIT: &[u8] = b"utf8_repair: limit\n";
+
+const NO_ARGUMENTS: &[u8] = b"utf8_repair: no arguments\n";
+
+/// A writer that takes no byte, one that fails, and one that is interrupted.
+const FAULTS: [Option<ErrorKind>; 3] = [None, Some(ErrorKind::Other), Some(ErrorKind::Interrupted)];
+
+/// Whether a run ends with the status and its line, and flushes its writer once, behind all that it wrote.
+fn run_is<R: Read>(
+    reader: &mut R,
+    writer: &mut Output,
+    text: &[u8],
+    status: u8,
+    line: &[u8],
+) -> bool {
+    let mut errors = Output::that_takes_all();
+    serve(0, reader, writer, &mut errors) == status
+        && writer.written() == text
+        && writer.flushes == 1
+        && writer.flushed_at == text.len()
+        && errors.written() == line
+        && errors.flushes == 0
+}
 
 #[test]
 fn repairs(rt: HostRuntime) {
     for row in &ROWS {
-        for step in 1..5 {
-            let mut reader = Input::of(row.input, step);
-            let mut writer = Output::that_takes_all();
-            let mut errors = Output::that_takes_all();
-            let status = serve(rt.alloc(), 0, &mut reader, &mut writer, &mut errors);
-            assert_eq!(rt; status, row.status, "{:?}", row.input);
-            assert_eq!(rt; writer.written(), row.output, "{:?}", row.input);
-            assert_eq!(rt; writer.flushes, 1);
-            assert_eq!(rt; errors.asked, 0);
+        for step in [1, 2, 3, 4, ROOM] {
+            for taken in [1, 2, ROOM] {
+                let mut reader = Input::of(row.input, step);
+                let mut writer = Output::by_steps_of(taken);
+                assert!(rt;
+                    run_is(&mut reader, &mut writer, row.output, row.status, b""),
+                    "{:?}",
+                    row.input
+                );
+            }
         }
     }
+}
+
+/// Whether a run with so many arguments asks neither stream, and says how it is used.
+fn is_refused(arguments: usize) -> bool {
+    let mut reader = Input::of(b"a", 1);
+    let mut writer = Output::that_takes_all();
+    let mut errors = Output::that_takes_all();
+    serve(arguments, &mut reader, &mut writer, &mut errors) == 2
+        && errors.written() == USAGE
+        && reader.asked == 0
+        && writer.asked == 0
+        && writer.flushes == 0
 }
 
 #[test]
 fn refuses_arguments(rt: HostRuntime) {
     for arguments in [1, 2, usize::MAX] {
-        let mut reader = Input::of(b"a", 1);
-        let mut writer = Output::that_takes_all();
-        let mut errors = Output::that_takes_all();
-        let status = serve(rt.alloc(), arguments, &mut reader, &mut writer, &mut errors);
-        assert_eq!(rt; status, 2);
-        assert_eq!(rt; errors.written(), USAGE);
-        assert_eq!(rt; reader.asked, 0);
-        assert_eq!(rt; writer.asked, 0);
-        assert_eq!(rt; writer.flushes, 0);
+        assert!(rt; is_refused(arguments), "{arguments}");
     }
 }
+
+/// What a reader gives before it fails, and the settled text of that.
+struct Cut {
+    input: &'static [u8],
+    settled: &'static [u8],
+}
+
+const CUTS: [Cut; 4] = [
+    Cut {
+        input: b"",
+        settled: b"",
+    },
+    Cut {
+        input: b"a",
+        settled: b"a",
+    },
+    Cut {
+        input: &[0x61, 0xE2, 0x98],
+        settled: b"a",
+    },
+    Cut {
+        input: &[0x61, 0xFF],
+        settled: &[0x61, 0xEF, 0xBF, 0xBD],
+    },
+];
 
 /// The read behind the bytes fails, and is the last one.
 #[test]
 fn reports_read_faults(rt: HostRuntime) {
-    let inputs: [&[u8]; 3] = [b"", b"a", &[0x61, 0xFF]];
     for kind in [ErrorKind::Other, ErrorKind::Interrupted] {
-        for input in inputs {
-            let mut reader = Input::that_fails(input, kind);
+        for cut in &CUTS {
+            let mut reader = Input::that_fails(cut.input, kind);
             let mut writer = Output::that_takes_all();
-            let mut errors = Output::that_takes_all();
-            let status = serve(rt.alloc(), 0, &mut reader, &mut writer, &mut errors);
-            assert_eq!(rt; status, 3);
-            assert_eq!(rt; errors.written(), READ_FAULT);
-            assert_eq!(rt; reader.asked, input.len().saturating_add(1));
-            assert_eq!(rt; writer.asked, 0);
-            assert_eq!(rt; writer.flushes, 0);
+            assert!(rt;
+                run_is(&mut reader, &mut writer, cut.settled, 3, READ_FAULT),
+                "{:?}",
+                cut.input
+            );
+            assert!(rt; reader.asked == cut.input.len().saturating_add(1));
         }
     }
 }
@@ -109,97 +159,83 @@ fn reports_read_faults(rt: HostRuntime) {
 fn reports_write_faults(rt: HostRuntime) {
     let input = [0xE2, 0x98, 0x83, 0xFF];
     let text = [0xE2, 0x98, 0x83, 0xEF, 0xBF, 0xBD];
-    for fault in [None, Some(ErrorKind::Other), Some(ErrorKind::Interrupted)] {
+    for fault in FAULTS {
         for taken in 0..7 {
-            let mut reader = Input::of(&input, 4);
-            let mut writer = Output::that_takes(taken, fault);
-            let mut errors = Output::that_takes_all();
-            let status = serve(rt.alloc(), 0, &mut reader, &mut writer, &mut errors);
-            assert_eq!(rt; writer.written(), &text[..taken]);
-            assert_eq!(rt; writer.flushes, 1);
-            if taken < text.len() {
-                assert_eq!(rt; status, 4, "took {taken}");
-                assert_eq!(rt; errors.written(), WRITE_FAULT);
-            } else {
-                assert_eq!(rt; status, 1);
-                assert_eq!(rt; errors.asked, 0);
+            for step in [1, 4] {
+                let mut reader = Input::of(&input, step);
+                let mut writer = Output::that_takes(taken, fault);
+                let (status, line) = if taken < text.len() {
+                    (4, WRITE_FAULT)
+                } else {
+                    (1, b"".as_slice())
+                };
+                assert!(rt;
+                    run_is(&mut reader, &mut writer, &text[..taken], status, line),
+                    "{taken}, {step}"
+                );
             }
         }
     }
 }
 
+/// A flush that fails is a write fault in place of what the engine returned.
 #[test]
 fn reports_flush_faults(rt: HostRuntime) {
     for row in &ROWS {
         let mut reader = Input::of(row.input, 2);
         let mut writer = Output::that_cannot_flush();
-        let mut errors = Output::that_takes_all();
-        let status = serve(rt.alloc(), 0, &mut reader, &mut writer, &mut errors);
-        assert_eq!(rt; status, 4, "{:?}", row.input);
-        assert_eq!(rt; writer.written(), row.output);
-        assert_eq!(rt; writer.flushes, 1);
-        assert_eq!(rt; errors.written(), WRITE_FAULT);
+        assert!(rt;
+            run_is(&mut reader, &mut writer, row.output, 4, WRITE_FAULT),
+            "{:?}",
+            row.input
+        );
+    }
+    for cut in &CUTS {
+        let mut reader = Input::that_fails(cut.input, ErrorKind::Other);
+        let mut writer = Output::that_cannot_flush();
+        assert!(rt;
+            run_is(&mut reader, &mut writer, cut.settled, 4, WRITE_FAULT),
+            "{:?}",
+            cut.input
+        );
     }
 }
 
-#[test]
-fn reports_refused_memory(rt: HostRuntime) -> Result<(), Fail> {
-    let mut reader = Input::of(b"a", 1);
-    let mut writer = Output::that_takes_all();
+/// Whether the line of the status is this one.
+fn line_is(status: u8, line: &[u8]) -> bool {
     let mut errors = Output::that_takes_all();
-    let held = exhaust(rt.alloc())?;
-    let status = serve(rt.alloc(), 0, &mut reader, &mut writer, &mut errors);
-    drop(held);
-    assert_eq!(rt; status, 5);
-    assert_eq!(rt; errors.written(), NO_MEMORY);
-    assert_eq!(rt; reader.asked, 0);
-    assert_eq!(rt; writer.asked, 0);
-    assert_eq!(rt; writer.flushes, 0);
-    Ok(())
+    report(status, &mut errors);
+    errors.written() == line
 }
 
-/// Some requests are met, and a later one is refused.
+/// No run over memory reads as many bytes as the limit allows, so the lines stand here.
 #[test]
-fn reports_refused_growth(rt: HostRuntime) -> Result<(), Fail> {
-    let spare = Vec::<u8>::with_capacity(rt.alloc(), 0x100000)?;
-    let mut reader = Endless { asked: 0 };
-    let mut writer = Output::that_takes_all();
-    let mut errors = Output::that_takes_all();
-    let held = exhaust(rt.alloc())?;
-    drop(spare);
-    let status = serve(rt.alloc(), 0, &mut reader, &mut writer, &mut errors);
-    drop(held);
-    assert_eq!(rt; status, 5);
-    assert_eq!(rt; errors.written(), NO_MEMORY);
-    assert!(rt; reader.asked > 0);
-    assert_eq!(rt; writer.asked, 0);
-    assert_eq!(rt; writer.flushes, 0);
-    Ok(())
+fn says_each_line(rt: HostRuntime) {
+    assert!(rt; line_is(0, b"") && line_is(1, b"") && line_is(2, USAGE) && line_is(3, READ_FAULT));
+    assert!(rt; line_is(4, WRITE_FAULT) && line_is(5, LIMIT) && line_is(6, NO_ARGUMENTS));
 }
 
-/// The line stops where the error stream does, and the status stays.
+/// Whether a run returns the status, and its line stops where the error stream does.
+fn stops_at(
+    arguments: usize,
+    taken: usize,
+    fault: Option<ErrorKind>,
+    status: u8,
+    line: &[u8],
+) -> bool {
+    let mut reader = Input::that_fails(b"a", ErrorKind::Other);
+    let mut writer = Output::that_takes_all();
+    let mut errors = Output::that_takes(taken, fault);
+    serve(arguments, &mut reader, &mut writer, &mut errors) == status
+        && line.get(..taken) == Some(errors.written())
+}
+
 #[test]
 fn ignores_faults_of_the_error_stream(rt: HostRuntime) {
-    for fault in [None, Some(ErrorKind::Other), Some(ErrorKind::Interrupted)] {
+    for fault in FAULTS {
         for taken in 0..3 {
-            let mut reader = Input::of(b"a", 1);
-            let mut writer = Output::that_takes_all();
-            let mut errors = Output::that_takes(taken, fault);
-            let status = serve(rt.alloc(), 1, &mut reader, &mut writer, &mut errors);
-            assert_eq!(rt; status, 2);
-            assert_eq!(rt; errors.written(), &USAGE[..taken]);
-
-            let mut failing = Input::that_fails(b"a", ErrorKind::Other);
-            let mut errors = Output::that_takes(taken, fault);
-            let status = serve(rt.alloc(), 0, &mut failing, &mut writer, &mut errors);
-            assert_eq!(rt; status, 3);
-            assert_eq!(rt; errors.written(), &READ_FAULT[..taken]);
-
-            let mut full = Output::that_takes(0, fault);
-            let mut errors = Output::that_takes(taken, fault);
-            let status = serve(rt.alloc(), 0, &mut reader, &mut full, &mut errors);
-            assert_eq!(rt; status, 4);
-            assert_eq!(rt; errors.written(), &WRITE_FAULT[..taken]);
+            assert!(rt; stops_at(1, taken, fault, 2, USAGE), "{taken}");
+            assert!(rt; stops_at(0, taken, fault, 3, READ_FAULT), "{taken}");
         }
     }
 }

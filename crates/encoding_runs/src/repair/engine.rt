@@ -1,12 +1,13 @@
 // The engine: text goes out as it is, and U+FFFD for each broken part.
-ghost use Rattle.std.specs.Prelude.{◌≡◌, ℕ, ◌<◌, ◌≤◌, ◌↔◌, true, false, length, take, drop, IfOk, IfErr, IsTrue};
-ghost use Rattle.std.specs.Io.KnownBytes.{Appends};
-ghost use Rattle.encoding_text.specs.Sequence.{IsSecond, IsContinuation};
-ghost use Rattle.encoding_text.specs.Parts.{BeginsWithNoCharacter, IsFirstPart, Broken};
-ghost use Rattle.encoding_runs.specs.Repairs.{WritesParts, WritesRepaired, Stops};
+ghost use Rattle.std.specs.Prelude.{◌≡◌, ◌≢◌, ℕ, ◌<◌, ◌≤◌, ◌↔◌, Bool, true, false, List, [], ◌++◌, length, take, IfOk, IfErr, IsTrue};
+ghost use Rattle.std.specs.Io.KnownBytes.{Appends, Consumes, Keeps};
+ghost use Rattle.encoding_text.specs.Pending.{IsPending};
+ghost use Rattle.encoding_runs.specs.Repairs.{RepairsAll, RepairsFront, RepairsSettled, Stops, WritesRepaired};
+ghost use Rattle.encoding_runs.specs.Steps.Rounds.{ReadsRound};
+ghost use Rattle.encoding_runs.specs.Steps.Writing.{StopsInParts, WritesParts, broken_of, text_of};
 
-use super::streams::Sink;
-use encoding_text::utf_8::utf8_valid_up_to;
+use super::streams::{Sink, Source};
+use encoding_text::decoder::{Piece, Utf8Decoder};
 
 /// Why a repair stopped.
 #[derive(Debug, PartialEq, Eq, Drop)]
@@ -19,46 +20,18 @@ pub enum RepairFault {
     Limit = 3,
 }
 
+/// What a repair did: how many bytes it read, and for how many broken parts it wrote U+FFFD.
+#[derive(Debug, PartialEq, Eq, Drop)]
+pub struct Repaired {
+    pub read: u64,
+    pub replaced: u64,
+}
+
+/// How many bytes are read at a time at most.
+const ROUND: usize = 1024;
+
 /// U+FFFD in UTF-8.
 const REPLACEMENT: [u8; 3] = [0xEF, 0xBF, 0xBD];
-
-fn is_continuation(byte: u8) -> bool
-    ensures { IsTrue result ↔ IsContinuation byte }
-{
-    byte & 0xC0 == 0x80
-}
-
-/// Whether the two bytes begin a sequence of three or four.
-fn opens_three_or_four(lead: u8, second: u8) -> bool
-    ensures { IsTrue result ↔ ((0xE0 ≤ lead) × IsSecond lead second) }
-{
-    match lead {
-        0xE0 => 0xA0 <= second && second <= 0xBF,
-        0xED => 0x80 <= second && second <= 0x9F,
-        0xF0 => 0x90 <= second && second <= 0xBF,
-        0xF4 => 0x80 <= second && second <= 0x8F,
-        0xE1..=0xF3 => 0x80 <= second && second <= 0xBF,
-        _ => false,
-    }
-}
-
-/// The length of the broken part that begins the bytes.
-fn broken_length(bytes: &[u8]) -> usize
-    requires no_character { BeginsWithNoCharacter bytes.now }
-    requires not_empty { 0 < length bytes.now }
-    ensures some { 0 < result }
-    ensures within { result ≤ length bytes.now }
-    ensures first { IsFirstPart bytes.now (Broken (take result bytes.now)) (drop result bytes.now) }
-{
-    let lead = bytes[0];
-    if bytes.len() < 2 || !opens_three_or_four(lead, bytes[1]) {
-        return 1;
-    }
-    if bytes.len() < 3 || lead < 0xF0 || !is_continuation(bytes[2]) {
-        return 2;
-    }
-    3
-}
 
 /// Writes all of the bytes, each once, by as many writes as that takes.
 fn write_whole<W: Sink>(writer: &mut W, bytes: &[u8]) -> Result<(), RepairFault>
@@ -78,34 +51,61 @@ fn write_whole<W: Sink>(writer: &mut W, bytes: &[u8]) -> Result<(), RepairFault>
     Ok(())
 }
 
-/// Writes the characters that begin the bytes, and answers what is behind them.
-fn write_text<'a, W: Sink>(bytes: &'a [u8], writer: &mut W) -> Result<&'a [u8], RepairFault>
-    ensures ok { IfOk result (λ rest. WritesParts bytes.now rest.now (W.contents writer.old) (W.contents writer.new) 0
-        × BeginsWithNoCharacter rest.now × (W.has_failed writer.new ≡ W.has_failed writer.old)) }
+/// Writes a text as it is, a character, or U+FFFD for a broken part, and returns how many parts were broken.
+fn write_piece<W: Sink>(writer: &mut W, piece: Piece<'_>) -> Result<u64, RepairFault>
+    ensures ok { IfOk result (λ replaced. (replaced ≡ broken_of piece.entry)
+        × Appends (W.contents writer.old) (W.contents writer.new) (text_of piece.entry)
+        × (W.has_failed writer.new ≡ W.has_failed writer.old)) }
     ensures err { IfErr result (λ fault. (fault ≡ RepairFault.Write) × (W.has_failed writer.new ≡ true)
-        × Stops bytes.now (W.contents writer.old) (W.contents writer.new)) }
+        × (n : ℕ) × (n < length (text_of piece.entry))
+        × Appends (W.contents writer.old) (W.contents writer.new) (take n (text_of piece.entry))) }
     ensures stream { W.stream writer.new ≡ W.stream writer.old }
 {
-    let (text, rest) = bytes.split_at(utf8_valid_up_to(bytes));
-    write_whole(writer, text)?;
-    Ok(rest)
+    match piece {
+        Piece::Text(text) => write_whole(writer, text.as_bytes())?,
+        Piece::Char(character) => {
+            let mut sequence = [0; 4];
+            write_whole(writer, character.encode_utf8(&mut sequence).as_bytes())?;
+        }
+        Piece::Malformed(_) => {
+            write_whole(writer, &REPLACEMENT)?;
+            return Ok(1);
+        }
+        Piece::InputEmpty => {}
+    }
+    Ok(0)
 }
 
-/// Writes U+FFFD for the broken part that begins the bytes, and answers what is behind it.
-fn write_replacement<'a, W: Sink>(bytes: &'a [u8], writer: &mut W) -> Result<&'a [u8], RepairFault>
-    requires no_character { BeginsWithNoCharacter bytes.now }
-    requires not_empty { 0 < length bytes.now }
-    ensures ok { IfOk result (λ rest. WritesParts bytes.now rest.now (W.contents writer.old) (W.contents writer.new) 1
-        × (length rest.now < length bytes.now) × (W.has_failed writer.new ≡ W.has_failed writer.old)) }
+/// Decodes all of `src`, which `last` marks as the last bytes, behind what is pending, and writes what that gives.
+/// Returns how many parts were broken.
+fn write_parts<W: Sink>(
+    decoder: &mut Utf8Decoder,
+    src: &[u8],
+    last: bool,
+    writer: &mut W,
+) -> Result<u64, RepairFault>
+    requires unfinished { IsPending decoder.old }
+    ensures ok { IfOk result (λ replaced. WritesParts last (decoder.old ++ src.now) decoder.new
+        (W.contents writer.old) (W.contents writer.new) replaced
+        × IsPending decoder.new × (last ≡ true → decoder.new ≡ [])
+        × (W.has_failed writer.new ≡ W.has_failed writer.old)) }
     ensures err { IfErr result (λ fault. (fault ≡ RepairFault.Write) × (W.has_failed writer.new ≡ true)
-        × Stops bytes.now (W.contents writer.old) (W.contents writer.new)) }
+        × StopsInParts last (decoder.old ++ src.now) (W.contents writer.old) (W.contents writer.new)) }
     ensures stream { W.stream writer.new ≡ W.stream writer.old }
 {
-    write_whole(writer, &REPLACEMENT)?;
-    Ok(&bytes[broken_length(bytes)..])
+    let mut rest = src;
+    let mut replaced = 0;
+    loop {
+        let (piece, read) = decoder.decode_borrowed_raw(rest, last);
+        if matches!(piece, Piece::InputEmpty) {
+            return Ok(replaced);
+        }
+        replaced += write_piece(writer, piece)?;
+        rest = &rest[read..];
+    }
 }
 
-/// Writes `src` repaired: its characters as they are, and U+FFFD for each broken part. Answers how many parts
+/// Writes `src` repaired: its characters as they are, and U+FFFD for each broken part. Returns how many parts
 /// were broken.
 ///
 /// The only fault is [`RepairFault::Write`], at the first write that fails or takes no byte; then less than all of
@@ -120,12 +120,91 @@ pub fn repair_slice<W: Sink>(src: &[u8], writer: &mut W) -> Result<u64, RepairFa
         → (IsTrue (W.has_failed writer.new) ↔ (result ≡ Err RepairFault.Write)) }
     ensures stream { W.stream writer.new ≡ W.stream writer.old }
 {
-    let mut rest = write_text(src, writer)?;
-    let mut replaced = 0;
-    while !rest.is_empty() {
-        rest = write_replacement(rest, writer)?;
-        replaced += 1;
-        rest = write_text(rest, writer)?;
+    let mut decoder = Utf8Decoder::new_inner();
+    write_parts(&mut decoder, src, true, writer)
+}
+
+/// One round: reads once into the buffer, and writes all that this gave, behind what is pending; at the end the
+/// pending part. Returns what the round read, and how many parts were broken.
+fn repair_round<R: Source, W: Sink>(
+    decoder: &mut Utf8Decoder,
+    reader: &mut R,
+    buffer: &mut [u8],
+    writer: &mut W,
+) -> Result<Repaired, RepairFault>
+    requires unfinished { IsPending decoder.old }
+    requires some_room { 0 < length buffer.old }
+    ensures ok { IfOk result (λ round. (bytes : List ℕ) × (last : Bool) × (round.read ≡ length bytes)
+        × ReadsRound (length buffer.old) bytes last (R.remaining reader.old) (R.remaining reader.new)
+        (R.has_ended reader.old) (R.has_ended reader.new)
+        × WritesParts last (decoder.old ++ bytes) decoder.new (W.contents writer.old) (W.contents writer.new) round.replaced
+        × IsPending decoder.new × (last ≡ true → decoder.new ≡ [])
+        × (R.has_failed reader.new ≡ R.has_failed reader.old) × (W.has_failed writer.new ≡ W.has_failed writer.old)) }
+    ensures read_fault { result ≡ Err RepairFault.Read → Keeps (R.remaining reader.old) (R.remaining reader.new)
+        × (writer.new ≡ writer.old) × (R.has_failed reader.new ≡ true) }
+    ensures write_fault { result ≡ Err RepairFault.Write → (bytes : List ℕ) × (last : Bool)
+        × ReadsRound (length buffer.old) bytes last (R.remaining reader.old) (R.remaining reader.new)
+        (R.has_ended reader.old) (R.has_ended reader.new)
+        × StopsInParts last (decoder.old ++ bytes) (W.contents writer.old) (W.contents writer.new)
+        × (R.has_failed reader.new ≡ R.has_failed reader.old) × (W.has_failed writer.new ≡ true) }
+    ensures no_limit { result ≢ Err RepairFault.Limit }
+    ensures reader_stream { R.stream reader.new ≡ R.stream reader.old }
+    ensures writer_stream { W.stream writer.new ≡ W.stream writer.old }
+{
+    let Some(count) = reader.read(buffer) else {
+        return Err(RepairFault::Read);
+    };
+    let replaced = write_parts(decoder, &buffer[..count], count == 0, writer)?;
+    Ok(Repaired {
+        read: count as u64,
+        replaced,
+    })
+}
+
+/// Reads to the end, and writes what it reads repaired: characters as they are, and U+FFFD for each broken part.
+/// Encoding Standard, UTF-8 decoder, with replacement.
+///
+/// At most 1,024 bytes are read at a time, and all that they settle is written before the next read. So after a
+/// read that fails, and once `limit` bytes were read and the end was not seen, exactly the text of the settled
+/// parts was written: all but the beginning of a character at the end. At the first write that fails or takes no
+/// byte less than the text was written, from its front on. Nothing is flushed, and no memory is taken.
+pub fn repair<R: Source, W: Sink>(
+    reader: &mut R,
+    writer: &mut W,
+    limit: u64,
+) -> Result<Repaired, RepairFault>
+    ensures ok { IfOk result (λ repaired. (bytes : List ℕ) × (repaired.read ≡ length bytes) × (length bytes < limit)
+        × RepairsAll bytes (R.remaining reader.old) (R.remaining reader.new)
+        (W.contents writer.old) (W.contents writer.new) repaired.replaced
+        × (R.has_ended reader.new ≡ true)) }
+    ensures read_fault { result ≡ Err RepairFault.Read → (bytes : List ℕ) × (length bytes < limit)
+        × RepairsSettled bytes (R.remaining reader.old) (R.remaining reader.new)
+        (W.contents writer.old) (W.contents writer.new) }
+    ensures limit { result ≡ Err RepairFault.Limit → (bytes : List ℕ) × (length bytes ≡ limit)
+        × RepairsSettled bytes (R.remaining reader.old) (R.remaining reader.new)
+        (W.contents writer.old) (W.contents writer.new) }
+    ensures write_fault { result ≡ Err RepairFault.Write → R.has_ended reader.old ≡ false
+        → (bytes : List ℕ) × (length bytes ≤ limit)
+        × RepairsFront bytes (R.has_ended reader.new) (R.remaining reader.old) (R.remaining reader.new)
+        (W.contents writer.old) (W.contents writer.new) }
+    ensures reader_failed { R.has_failed reader.old ≡ false → W.has_failed writer.old ≡ false
+        → (IsTrue (R.has_failed reader.new) ↔ (result ≡ Err RepairFault.Read)) }
+    ensures writer_failed { R.has_failed reader.old ≡ false → W.has_failed writer.old ≡ false
+        → (IsTrue (W.has_failed writer.new) ↔ (result ≡ Err RepairFault.Write)) }
+    ensures reader_stream { R.stream reader.new ≡ R.stream reader.old }
+    ensures writer_stream { W.stream writer.new ≡ W.stream writer.old }
+{
+    let mut decoder = Utf8Decoder::new_inner();
+    let mut buffer = [0; ROUND];
+    let (mut read, mut replaced) = (0, 0);
+    while read < limit {
+        let room = (limit - read).min(ROUND as u64) as usize;
+        let round = repair_round(&mut decoder, reader, &mut buffer[..room], writer)?;
+        read += round.read;
+        replaced += round.replaced;
+        if round.read == 0 {
+            return Ok(Repaired { read, replaced });
+        }
     }
-    Ok(replaced)
+    Err(RepairFault::Limit)
 }

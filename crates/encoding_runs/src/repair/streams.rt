@@ -1,9 +1,39 @@
-// Streams that say whether they failed.
+// Streams that say whether they failed, and whether their end was seen.
 ghost use Rattle.std.specs.Prelude.{◌≡◌, ℕ, ◌<◌, ◌≤◌, Bool, false, List, length, Option, IfSome};
 ghost use Rattle.std.specs.Borrow.{GName};
-ghost use Rattle.encoding_runs.specs.Streams.{WriteMoves, FailsOnNone, watched_stream, watch_failed};
+ghost use Rattle.encoding_runs.specs.Streams.{ReadMoves, WriteMoves, FailsOnNone, EndsOnZero, watched_stream, watch_failed, watch_ended};
 
-use std::io::Write;
+use std::io::{Read, Write};
+
+/// Where bytes come from: a [`Read`] that keeps whether it failed, and whether its end was seen.
+pub trait Source {
+    // The bytes that reads will give from here on, where they are known.
+    ghost remaining: { Self → Option (List ℕ) };
+
+    ghost has_failed: { Self → Bool };
+
+    ghost has_ended: { Self → Bool };
+
+    // Which stream gives the bytes: a source over a borrowed one reads the same one all along.
+    ghost stream: { Self → GName } = { λ _. 0 };
+
+    /// Whether a read failed.
+    fn failed(&self) -> bool
+        ensures { result ≡ has_failed self.now };
+
+    /// Whether the end was seen.
+    fn ended(&self) -> bool
+        ensures { result ≡ has_ended self.now };
+
+    /// Gives the next bytes, at the front of the buffer, and returns how many: none in some room is the end, and
+    /// `ended` is true from then on. `None` is a failure: no byte is given, and `failed` is true from then on.
+    fn read(&mut self, buffer: &mut [u8]) -> Option<usize>
+        ensures bound { IfSome result (λ n. n ≤ length buffer.new) }
+        ensures bytes { ReadMoves (remaining self.old) (remaining self.new) result buffer.new }
+        ensures failed { FailsOnNone result (has_failed self.old) (has_failed self.new) }
+        ensures ended { EndsOnZero result (length buffer.old) (has_ended self.old) (has_ended self.new) }
+        ensures stream { stream self.new ≡ stream self.old };
+}
 
 /// Where bytes go: a [`Write`] that keeps whether it failed.
 pub trait Sink {
@@ -15,10 +45,11 @@ pub trait Sink {
     // Which stream takes the bytes: a sink over a borrowed one writes to the same one all along.
     ghost stream: { Self → GName } = { λ _. 0 };
 
+    /// Whether a write failed.
     fn failed(&self) -> bool
         ensures { result ≡ has_failed self.now };
 
-    /// Takes some of the bytes from the first on, and answers how many, at least one. `None` is a failure:
+    /// Takes some of the bytes from the first on, and returns how many, at least one. `None` is a failure:
     /// no byte was taken, and `failed` is true from then on.
     fn write(&mut self, bytes: &[u8]) -> Option<usize>
         requires not_empty { 0 < length bytes.now }
@@ -28,24 +59,63 @@ pub trait Sink {
         ensures stream { stream self.new ≡ stream self.old };
 }
 
-/// A stream with whether it failed. A call that its stream answers with an error is a failure, and so is a
-/// write that takes no byte.
+/// A stream with whether it failed, and whether its end was seen. A call that its stream returns an error from is a
+/// failure, and so is a write that takes no byte. A read that gives none into some room sees the end.
 #[derive(Drop)]
 pub struct Watch<'a, T> {
     inner: &'a mut T,
     failed: bool,
+    ended: bool,
 }
 
 impl<'a, T> Watch<'a, T> {
-    /// Watches the stream, which has not failed so far.
+    /// Watches the stream, which has not failed so far, and whose end was not seen.
     pub fn new(inner: &'a mut T) -> Watch<'a, T>
         ensures same_stream { (watched_stream result).ghost_name ≡ inner.entry.ghost_name }
         ensures as_it_was { (watched_stream result).now ≡ inner.old }
         ensures not_failed { watch_failed result ≡ false }
+        ensures not_ended { watch_ended result ≡ false }
     {
         Watch {
             inner,
             failed: false,
+            ended: false,
+        }
+    }
+}
+
+impl<'a, T: Read> Source for Watch<'a, T> {
+    ghost remaining = { λ w. T.remaining (watched_stream w).now };
+
+    ghost has_failed = { λ w. watch_failed w };
+
+    ghost has_ended = { λ w. watch_ended w };
+
+    ghost stream = { λ w. (watched_stream w).ghost_name };
+
+    /// Whether a call failed.
+    fn failed(&self) -> bool {
+        self.failed
+    }
+
+    /// Whether the end was seen.
+    fn ended(&self) -> bool {
+        self.ended
+    }
+
+    /// Reads from the stream.
+    fn read(&mut self, buffer: &mut [u8]) -> Option<usize> {
+        match self.inner.read(buffer) {
+            Ok(count) => {
+                if count == 0 && !buffer.is_empty() {
+                    self.ended = true;
+                }
+                Some(count)
+            }
+            Err(_) => {
+                self.failed = true;
+                None
+            }
         }
     }
 }
@@ -57,10 +127,12 @@ impl<'a, T: Write> Sink for Watch<'a, T> {
 
     ghost stream = { λ w. (watched_stream w).ghost_name };
 
+    /// Whether a call failed.
     fn failed(&self) -> bool {
         self.failed
     }
 
+    /// Writes to the stream.
     fn write(&mut self, bytes: &[u8]) -> Option<usize> {
         match self.inner.write(bytes) {
             Ok(count) if count > 0 => Some(count),

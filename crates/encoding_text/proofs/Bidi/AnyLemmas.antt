@@ -1,5 +1,5 @@
 -- An item of a kind in a list: at its place, and in a list that is joined from two.
-use Rattle.std.proofs.Common.{◌≡◌, ℕ, zero, suc, ◌+◌, ◌<◌, ◌≤◌, ◌⊎◌, inl, inr, List, [], ◌∷◌, ◌++◌, length, slice_index, refl, sym, arith, subst}
+use Rattle.std.proofs.Common.{ℕ, zero, suc, ◌<◌, ◌⊎◌, inl, inr, List, [], ◌∷◌, ◌++◌, length, slice_index, refl, sym, arith, subst}
 use Rattle.std.specs.Prelude.{Any}
 
 module _ {X : Type 0} (P : X → Type 0) where

@@ -1,5 +1,5 @@
 -- Right-to-left characters of a text in UTF-8: of one character, of a text joined from two, and none in Latin1.
-use Rattle.std.proofs.Common.{◌≡◌, ℕ, ◌+◌, ◌-◌, ◌/◌, ◌%◌, ◌<◌, ◌≤◌, ◌⊎◌, inl, inr, List, [], ◌∷◌, ◌++◌, length, take, drop, slice_index, encode_utf8, encode_utf8_all, IsUtf8, refl, sym, ap, ◌∙◌, arith, subst, take-add, Bool, true, false}
+use Rattle.std.proofs.Common.{◌≡◌, ℕ, ◌+◌, ◌<◌, ◌≤◌, ◌⊎◌, inl, inr, List, [], ◌∷◌, ◌++◌, length, take, drop, slice_index, encode_utf8, encode_utf8_all, IsUtf8, refl, sym, ap, ◌∙◌, arith, subst, take-add, Bool, true, false}
 use Rattle.std.specs.Prelude.{Any}
 use Rattle.std.specs.Char.{IsScalar}
 use Rattle.std.specs.Str.{all_scalars, continuation_len, is_utf8}
@@ -7,7 +7,7 @@ use Rattle.std.proofs.str.Laws.{two, three, four, both}
 use Rattle.std.proofs.lemmas.Bool.{cases_lt, and_from}
 use Rattle.std.proofs.lemmas.Bool.Decides.{nat_tests}
 use Rattle.std.proofs.lemmas.List.{append-nil, length-append, length-drop, take_at, get_or-drop, drop_all, take-append-drop}
-use Rattle.std.proofs.lemmas.Str.{encode_ascii, encodes-append, encodes_same, length-le-encodes, IsUtf8-append, IsUtf8-drop, IsUtf8-nil, IsUtf8-from_is_utf8, is_utf8-from_IsUtf8, IsCharBoundary-from_take}
+use Rattle.std.proofs.lemmas.Str.{encode_ascii, encodes-append, encodes_same, IsUtf8-append, IsUtf8-drop, IsUtf8-nil, IsUtf8-from_is_utf8, is_utf8-from_IsUtf8, IsCharBoundary-from_take}
 use lib.Utf8.{scalar}
 use Rattle.encoding_text.specs.Bidi.{IsRightToLeft, IsBidiText, IsBidiBytes}
 use Rattle.encoding_text.specs.Latin1.{IsUtf8Latin1}
@@ -177,8 +177,7 @@ next_of bs (c ∷ cs) at s e l =
     ap (λ j. slice_index bs j) (let z : at ≡ at + 0 = omega arith in z) ∙ sym (get_or-drop at bs 0 0) ∙ ap (λ xs. slice_index xs 0) (sym e) in
     let long : continuation_len (slice_index bs at) + 1 ≡ length (encode_utf8 c) = ap (λ b. continuation_len b + 1) lead ∙ lead_length c rest in
     let front : encode_utf8 c ≡ take (continuation_len (slice_index bs at) + 1) (drop at bs) =
-    sym (take_at (encode_utf8 c) rest (continuation_len (slice_index bs at) + 1) (sym long)) ∙ ap (take (continuation_len (slice_index bs at) + 1)) e in
-    (
+    sym (take_at (encode_utf8 c) rest (continuation_len (slice_index bs at) + 1) (sym long)) ∙ ap (take (continuation_len (slice_index bs at) + 1)) e in (
       omega (arith, long, ap length e, length-append (encode_utf8 c) rest, length-drop at bs),
       subst IsSequence front (IsSequence-encode c (both (scalar c) (all_scalars cs) s).0),
     )

@@ -1,8 +1,7 @@
 -- Right-to-left parts of UTF-16 code units, unit by unit.
-use Rattle.std.proofs.Common.{◌≡◌, ℕ, ◌+◌, ◌-◌, ◌*◌, ◌/◌, ◌%◌, ◌<◌, ◌≤◌, ◌⊎◌, inl, inr, List, [], ◌∷◌, ◌++◌, length, take, drop, slice_index, refl, sym, ap, ◌∙◌, arith, subst}
+use Rattle.std.proofs.Common.{◌≡◌, ℕ, ◌+◌, ◌-◌, ◌*◌, ◌/◌, ◌%◌, ◌<◌, ◌≤◌, ◌⊎◌, inl, inr, List, [], ◌∷◌, length, take, drop, slice_index, sym, ap, ◌∙◌, arith, subst}
 use Rattle.std.specs.Prelude.{Any, map}
 use Rattle.std.specs.Char.{IsScalar}
-use Rattle.std.specs.Char.Escape.{encode_utf16}
 use Rattle.std.specs.Int.{IsInRange}
 use Rattle.std.specs.List.{flat_map}
 use Rattle.std.proofs.lemmas.Bool.{cases_lt}
@@ -11,10 +10,10 @@ use Rattle.std.proofs.str.Utf16.{one_unit, two_units}
 use lib.Utf8.{scalar_cases}
 use Rattle.encoding_text.specs.Bidi.{IsRightToLeft, IsRightToLeftUnit, IsRightToLeftPart, IsBidiUnits}
 use Rattle.encoding_text.specs.Latin1.{IsLatin1}
-use Rattle.encoding_text.specs.Utf16.{AreUnits, IsHighSurrogate, IsLowSurrogate, Part16, Character16, Lone, units_of, IsPart16, ArePaired, ArePartsOf16}
+use Rattle.encoding_text.specs.Utf16.{AreUnits, Part16, Character16, Lone, units_of, IsPart16, ArePaired}
 use Rattle.encoding_text.proofs.Bidi.AnyLemmas.{Any-here, Any-there, Any-none, Any-cons, Any-left, Any-right, Any-append, Any-at, Any-place}
 use Rattle.encoding_text.proofs.Bidi.BidiTextLemmas.{right_to_left_from}
-use Rattle.encoding_text.proofs.CodeUnits.Utf16Lemmas.{parts_of, parts_exist, parts_unique, tail_paired, head_part}
+use Rattle.encoding_text.proofs.CodeUnits.Utf16Lemmas.{parts_of, parts_exist, tail_paired, head_part}
 
 -- ---- a unit by its number
 abbrev pub UnitForm : ℕ → Type 0

@@ -1,16 +1,15 @@
 -- For given pending bytes, source and mark a call without a destination has exactly one answer.
-use Rattle.std.proofs.Common.{◌≡◌, ◌≢◌, ℕ, ◌+◌, ◌<◌, ◌≤◌, ◌⊎◌, inl, inr, Bool, true, false, List, [], ◌∷◌, ◌++◌, length, take, drop, encode_utf8, encode_utf8_all, refl, sym, ap, ◌∙◌, arith, subst}
+use Rattle.std.proofs.Common.{◌≡◌, ℕ, ◌<◌, ◌≤◌, inl, inr, Bool, true, false, List, [], ◌∷◌, ◌++◌, length, take, drop, encode_utf8, encode_utf8_all, refl, sym, ap, ◌∙◌, arith, subst}
 use Rattle.std.specs.Borrow.{Bor}
 use Rattle.std.specs.Char.{IsScalar}
 use Rattle.std.specs.Str.{all_scalars, IsUtf8}
 use Rattle.std.proofs.lemmas.Bool.{and_parts, and_from}
 use Rattle.std.proofs.lemmas.List.{append-nil, append_assoc, length-append, length-drop, length-take, nil_from_length, take_at, drop_at, take-append-drop}
 use Rattle.std.proofs.lemmas.Str.{encode_same}
-use Rattle.encoding_text.specs.Sequence.{IsSequence, IsBeginning}
+use Rattle.encoding_text.specs.Sequence.{IsBeginning}
 use Rattle.encoding_text.specs.Parts.{Part, Character, Broken, BeginsWithNoCharacter, IsFirstPart, ArePartsOf}
 use Rattle.encoding_text.specs.Pending.{IsPending}
-use Rattle.encoding_text.specs.Fronts.{IsLongestFront}
-use Rattle.encoding_text.specs.Decoding.{IsBroken, AnswersBorrowed, IsBorrowedCall}
+use Rattle.encoding_text.specs.Decoding.{IsBroken, IsBorrowedCall}
 use Rattle.encoding_text.specs.OneAnswer.{SayTheSame, HasOnePiece}
 use Rattle.encoding_text.specs.declared.decoder.Piece.{Piece}
 use Rattle.encoding_text.specs.declared.decoder.Piece.TheVariants.{Text, Char, Malformed, InputEmpty}

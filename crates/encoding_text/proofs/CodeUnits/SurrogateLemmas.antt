@@ -1,13 +1,13 @@
 -- Lone surrogates: the longest front without one, and the units that are left once each is replaced at its place.
-use Rattle.std.proofs.Common.{◌≡◌, ℕ, suc, ◌+◌, ◌-◌, ◌*◌, ◌/◌, ◌%◌, ◌<◌, ◌≤◌, ◌⊎◌, inl, inr, List, [], ◌∷◌, ◌++◌, length, take, drop, get_or, set, slice_index, refl, sym, ap, ◌∙◌, arith, subst, append_assoc, take-add, true}
-use Rattle.std.specs.Prelude.{map, IsTrue}
+use Rattle.std.proofs.Common.{◌≡◌, ℕ, suc, ◌+◌, ◌-◌, ◌<◌, ◌≤◌, ◌⊎◌, inl, inr, List, [], ◌∷◌, ◌++◌, length, take, drop, get_or, set, refl, sym, ap, ◌∙◌, arith, subst, append_assoc, take-add, true}
+use Rattle.std.specs.Prelude.{map}
 use Rattle.std.specs.Char.{IsScalar}
 use Rattle.std.specs.Char.Escape.{encode_utf16}
-use Rattle.std.specs.Char.Utf16.{surrogate_pair_char, utf16_lossy_chars}
+use Rattle.std.specs.Char.Utf16.{surrogate_pair_char}
 use Rattle.std.specs.List.{flat_map}
 use Rattle.std.specs.Str.{all_scalars}
 use Rattle.std.proofs.lemmas.Bool.{cases_lt, and_from}
-use Rattle.std.proofs.lemmas.List.{append-nil, length-append, length-drop, length-take-le, length-set, take_all, take_at, take_more, take_rest, drop_all, drop_more, drop-drop, drop_at, get_or-drop, get_or-take, get_or_past, take-append-drop, set_at}
+use Rattle.std.proofs.lemmas.List.{append-nil, length-append, length-drop, length-take-le, length-set, take_all, take_at, drop_all, drop_more, drop-drop, drop_at, get_or-drop, get_or-take, get_or_past, take-append-drop, set_at}
 use Rattle.std.proofs.lemmas.List.Concat.{flat_map-append}
 use Rattle.std.proofs.str.Laws.{both}
 use Rattle.std.proofs.str.Utf16.{one_unit, two_units, IsPair}
@@ -15,10 +15,10 @@ use lib.Utf8.{scalar}
 use Rattle.encoding_text.specs.Fronts.{IsLongestFront}
 use Rattle.encoding_text.specs.Surrogates.{IsValidUtf16, AreRepairedUnits, repaired_units}
 use Rattle.encoding_text.specs.Steps.FirstScalar.{IsFirstPart16}
-use Rattle.encoding_text.specs.Utf16.{AreUnits, Part16, Character16, Lone, units_of, scalar_of, ArePaired, ArePartsOf16}
+use Rattle.encoding_text.specs.Utf16.{AreUnits, Part16, Character16, Lone, units_of, ArePaired, ArePartsOf16}
 use Rattle.encoding_text.proofs.CodeUnits.Utf16FrontLemmas.{Walked, Walked_push}
-use Rattle.encoding_text.proofs.CodeUnits.Utf16LawLemmas.{parts-encode, scalars-encode, scalars_lossy}
-use Rattle.encoding_text.proofs.CodeUnits.Utf16Lemmas.{parts_of, parts_of-nil, parts_of-first, parts_are, parts_exist, parts_unique, first_pair, first_unit, first_single, head_part, tail_paired}
+use Rattle.encoding_text.proofs.CodeUnits.Utf16LawLemmas.{parts-encode}
+use Rattle.encoding_text.proofs.CodeUnits.Utf16Lemmas.{parts_of, parts_of-nil, parts_of-first, parts_are, parts_exist, first_pair, first_unit, first_single, head_part, tail_paired}
 
 -- ---- valid units are the UTF-16 of scalar values
 valid_scalars : (cs : List ℕ) → ArePaired (map Character16 cs) → all_scalars cs ≡ true
@@ -193,12 +193,12 @@ module _ (us buffer : List ℕ) (at n : ℕ) (done : List Part16) (a : AreUnits 
             ∙ ap (λ xs. flat_map repaired_units done ++ xs) (sym had.1 ∙ sym (repaired_characters cs)) ∙ sym (flat_map-append repaired_units done (map Character16 cs));
         rest = sym (drop-drop n at buffer) ∙ ap (drop n) rest ∙ drop-drop n at us;
         stops = λ i.
-        let there = lone_behind (drop at us) n (λ k. subst (λ u. u < 0x10000) (sym (get_or-drop at us k 0)) (a (at + k))) f (omega (arith, i, length-drop at us)) in
-        let unit : get_or (drop at us) n 0 ≡ get_or us (at + n) 0 = get_or-drop at us n 0 in
-        let behind : drop (n + 1) (drop at us) ≡ drop (at + n + 1) us = drop-drop (n + 1) at us ∙ ap (λ k. drop k us) {x = at + (n + 1)} {y = at + n + 1} (omega arith) in
-        subst (λ xs. IsFirstPart16 (drop (at + n) us) (Lone (get_or us (at + n) 0)) xs) behind
-        (subst (λ u. IsFirstPart16 (drop (at + n) us) (Lone u) (drop (n + 1) (drop at us))) unit
-        (subst (λ xs. IsFirstPart16 xs (Lone (get_or (drop at us) n 0)) (drop (n + 1) (drop at us))) (drop-drop n at us) there));
+            let there = lone_behind (drop at us) n (λ k. subst (λ u. u < 0x10000) (sym (get_or-drop at us k 0)) (a (at + k))) f (omega (arith, i, length-drop at us)) in
+            let unit : get_or (drop at us) n 0 ≡ get_or us (at + n) 0 = get_or-drop at us n 0 in
+            let behind : drop (n + 1) (drop at us) ≡ drop (at + n + 1) us = drop-drop (n + 1) at us ∙ ap (λ k. drop k us) {x = at + (n + 1)} {y = at + n + 1} (omega arith) in
+            subst (λ xs. IsFirstPart16 (drop (at + n) us) (Lone (get_or us (at + n) 0)) xs) behind
+            (subst (λ u. IsFirstPart16 (drop (at + n) us) (Lone u) (drop (n + 1) (drop at us))) unit
+            (subst (λ xs. IsFirstPart16 xs (Lone (get_or (drop at us) n 0)) (drop (n + 1) (drop at us))) (drop-drop n at us) there));
       }
 
 pub repair_starts : (us : List ℕ) (at : ℕ) → AreUnits us → IsLongestFront IsValidUtf16 (drop 0 us) (at - 0) → (done : List Part16) × Repaired us us at done
@@ -227,8 +227,7 @@ repair_goes_on us buffer at next done a r l h f =
     ap (take (at + 1)) apart ∙ take_at (take at buffer ++ 0xFFFD ∷ []) (drop (at + 1) us) (at + 1) longer
     ∙ ap (λ xs. xs ++ 0xFFFD ∷ []) r.front ∙ sym (flat_map-append repaired_units done (Lone u ∷ [])) in
     let walked : Walked us (at + 1) (done ++ Lone u ∷ []) = Walked_push us at done (Lone u) 1 r.walked refl lone in
-    let g : IsLongestFront IsValidUtf16 (drop (at + 1) us) n = subst (λ xs. IsLongestFront IsValidUtf16 xs n) behind f in
-    (
+    let g : IsLongestFront IsValidUtf16 (drop (at + 1) us) n = subst (λ xs. IsLongestFront IsValidUtf16 xs n) behind f in (
       _,
       subst (λ k. Repaired us new k ((done ++ Lone u ∷ []) ++ map Character16 g.kind.0)) {x = at + 1 + n} {y = next} (omega arith)
           (walk_on us new (at + 1) n (done ++ Lone u ∷ []) a (omega arith) (length-set buffer at 0xFFFD ∙ r.same_length) walked before behind g),

@@ -155,7 +155,8 @@ fn utf16_latin1_up_to(buffer: &[u16]) -> usize
     buffer.len()
 }
 
-/// Whether the bytes are Latin1 in UTF-8, and else whether `is_utf8_bidi` says so.
+/// Returns `Latin1` where the bytes are the UTF-8 of scalar values up to U+00FF, else `Bidi` where `is_utf8_bidi` holds,
+/// and else `LeftToRight`.
 pub fn check_utf8_for_latin1_and_bidi(buffer: &[u8]) -> Latin1Bidi
     ensures { Classifies (IsUtf8Latin1 buffer.now) (IsBidiBytes buffer.now) result }
 {
@@ -170,7 +171,8 @@ pub fn check_utf8_for_latin1_and_bidi(buffer: &[u8]) -> Latin1Bidi
     }
 }
 
-/// Whether the text is Latin1, and else whether `is_str_bidi` says so.
+/// Returns `Latin1` where the scalar values of the text are each up to U+00FF, else `Bidi` where `is_str_bidi` holds,
+/// and else `LeftToRight`.
 pub fn check_str_for_latin1_and_bidi(buffer: &str) -> Latin1Bidi
     ensures { Classifies (IsUtf8Latin1 buffer.now) (IsBidiText buffer.now) result }
 {
@@ -185,7 +187,8 @@ pub fn check_str_for_latin1_and_bidi(buffer: &str) -> Latin1Bidi
     }
 }
 
-/// Whether the UTF-16 code units are Latin1, and else whether `is_utf16_bidi` says so.
+/// Returns `Latin1` where each UTF-16 code unit is up to 0x00FF, else `Bidi` where `is_utf16_bidi` holds, and else
+/// `LeftToRight`.
 pub fn check_utf16_for_latin1_and_bidi(buffer: &[u16]) -> Latin1Bidi
     ensures { Classifies (IsLatin1 buffer.now) (IsBidiUnits buffer.now) result }
 {

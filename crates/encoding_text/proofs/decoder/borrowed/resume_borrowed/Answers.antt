@@ -1,4 +1,4 @@
-use Rattle.std.proofs.Common.{arith, length, take, ◌++◌}
+use Rattle.std.proofs.Common.{arith, take}
 use Rattle.std.proofs.lemmas.List.{length-append, length-take}
 use Rattle.encoding_text.proofs.Sequences.SequenceLemmas.{length-IsBeginning}
 use Rattle.encoding_text.proofs.Calls.BorrowedLemmas.{borrowed_stuck}

@@ -17,8 +17,7 @@ returns-then-is_str_bidi c =
 
 pub returns-else-is_str_bidi : goal.returns-else-is_str_bidi
 returns-else-is_str_bidi c =
-    let f = c.str_latin1_up_to-front.ensures in
-    (
+    let f = c.str_latin1_up_to-front.ensures in (
       front_not_whole IsUtf8Latin1 _ _ f c.if-front-buffer.false,
       λ b. let none = (c.if-is_str_bidi.ensures {u = tt}).1 (subst IsBidiText (sym c.range_from.ensures.value) (text_rest _ _ f.within f.kind b)) in cc,
     )

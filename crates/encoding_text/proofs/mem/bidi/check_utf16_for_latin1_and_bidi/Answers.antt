@@ -1,5 +1,5 @@
 use Rattle.std.proofs.Common.{refl, sym, subst, arith}
-use Rattle.std.proofs.lemmas.List.{take_rest, get_or-drop}
+use Rattle.std.proofs.lemmas.List.{take_rest}
 use Rattle.encoding_text.specs.Bidi.{IsBidiUnits}
 use Rattle.encoding_text.specs.Latin1.{IsLatin1}
 use Rattle.encoding_text.proofs.Bidi.BidiUnitsLemmas.{bidi_whole, bidi_rest}
@@ -14,8 +14,7 @@ returns-then-is_utf16_bidi c =
 
 pub returns-else-is_utf16_bidi : goal.returns-else-is_utf16_bidi
 returns-else-is_utf16_bidi c =
-    let f = c.utf16_latin1_up_to-front.ensures in
-    (
+    let f = c.utf16_latin1_up_to-front.ensures in (
       front_not_whole IsLatin1 _ _ f c.if-front-buffer.false,
       λ b. let none = (c.if-is_utf16_bidi.ensures {u = tt}).1 (subst IsBidiUnits (sym (take_rest c.args.buffer.now _))
           (bidi_rest _ _ (λ k. omega (arith, c.type_inv.buffer k)) f.kind b)) in cc,

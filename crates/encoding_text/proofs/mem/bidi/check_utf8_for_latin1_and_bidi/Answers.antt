@@ -14,8 +14,7 @@ returns-then-is_utf8_bidi c =
 
 pub returns-else-is_utf8_bidi : goal.returns-else-is_utf8_bidi
 returns-else-is_utf8_bidi c =
-    let f = c.utf8_latin1_up_to-front.ensures in
-    (
+    let f = c.utf8_latin1_up_to-front.ensures in (
       front_not_whole IsUtf8Latin1 _ _ f c.if-front-buffer.false,
       λ b. let none = (c.if-is_utf8_bidi.ensures {u = tt}).1 (subst IsBidiBytes (sym (take_rest c.args.buffer.now _)) (bytes_rest _ _ f.within f.kind b)) in cc,
     )

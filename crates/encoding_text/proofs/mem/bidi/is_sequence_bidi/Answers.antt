@@ -6,8 +6,7 @@ returns-then-bytes-lt-FIRST_LEAD c = (λ e. absurd (cc), λ b. absurd (low_seque
 
 pub returns : goal.returns
 returns c =
-    let spelled = c.scalar_of_sequence.ensures.spelled in
-    (
+    let spelled = c.scalar_of_sequence.ensures.spelled in (
       λ e. character_bidi _ _ c.scalar_of_sequence.ensures.scalar spelled (c.is_right_to_left.ensures.0 e),
       λ b. c.is_right_to_left.ensures.1 (bidi_character _ _ spelled b),
     )

@@ -1,4 +1,4 @@
-use Rattle.std.proofs.Common.{◌≡◌, ◌+◌, ◌-◌, IsUtf8, take, drop, slice_index, arith, refl, sym, subst}
+use Rattle.std.proofs.Common.{◌+◌, ◌-◌, IsUtf8, take, drop, slice_index, arith, refl, sym, subst}
 use Rattle.std.specs.Str.{continuation_len}
 use Rattle.std.proofs.lemmas.Str.{IsUtf8-nil}
 use Rattle.encoding_text.specs.Bidi.{IsBidiText}
@@ -27,8 +27,7 @@ is_sequence_bidi-requires c =
 pub returns-then-is_sequence_bidi : goal.returns-then-is_sequence_bidi
 returns-then-is_sequence_bidi c =
     let value = c.as_bytes-bytes.ensures.value in
-    let here = (c.if-is_sequence_bidi.ensures {u = tt}).0 refl in
-    (
+    let here = (c.if-is_sequence_bidi.ensures {u = tt}).0 refl in (
       λ e. subst IsBidiText value (found_in_text c.as_bytes-bytes.result.now c.loop-at.at _ (subst IsUtf8 (sym value) c.utf8.buffer) c.loop-at.invariant.within c.loop-at.invariant.text here),
       λ b. refl,
     )

@@ -11,8 +11,7 @@ returns-then-is_high_half c = (λ e. unit_high c.args.u ((c.if-is_high_half.ensu
 
 pub returns : goal.returns
 returns c =
-    let same = c.from-unit.ensures in
-    (
+    let same = c.from-unit.ensures in (
       λ e. unit_scalar c.args.u (omega (arith, c.ranges.u)) (subst IsRightToLeft same (c.is_right_to_left.ensures.0 e)),
       λ r. c.is_right_to_left.ensures.1 (subst IsRightToLeft (sym same) (elim (unit_form c.args.u r) [
         | inl h ↦ h

@@ -1,4 +1,4 @@
-use Rattle.std.proofs.Common.{◌≡◌, ◌+◌, ◌-◌, take, drop, inl, arith, refl, sym, subst}
+use Rattle.std.proofs.Common.{◌+◌, ◌-◌, take, drop, inl, arith, refl, subst}
 use Rattle.std.proofs.lemmas.List.{take_rest, length-drop}
 use Rattle.std.proofs.lemmas.Str.{IsUtf8-nil}
 use Rattle.encoding_text.specs.Bidi.{IsBidiText}
@@ -12,7 +12,7 @@ loop-at-init c = record { within = omega arith; text = IsUtf8-nil; none = nothin
 
 pub returns-in_default : goal.returns-in_default
 returns-in_default c = (
-  λ e. inl (stuck_no_text c.args.buffer.now c.loop-at.at c.loop-at-test.true c.loop-at.invariant.text (rw take_rest at c.in_default.ensures.none)),
+  λ e. inl (stuck_no_text c.args.buffer.now c.loop-at.at c.loop-at-test.true c.loop-at.invariant.text (rw take_rest at c.in_default.ensures.no_character)),
   λ b. refl,
 )
 
@@ -20,7 +20,7 @@ pub is_sequence_bidi-requires : goal.is_sequence_bidi-requires
 is_sequence_bidi-requires c =
     let at = c.loop-at.at in
     let n = c.in-Some.length in
-    let found = rw take_rest at c.in-Some.ensures.some in
+    let found = rw take_rest at c.in-Some.ensures.length in
     subst (λ k. IsSequence (take k (drop at c.args.buffer.now))) {x = n} {y = at + n - at} (omega arith) found.2
 
 pub returns-then-is_sequence_bidi : goal.returns-then-is_sequence_bidi
@@ -33,7 +33,7 @@ loop-at-preserved c =
     let bytes = c.args.buffer.now in
     let at = c.loop-at.at in
     let n = c.in-Some.length in
-    let found = rw take_rest at c.in-Some.ensures.some in
+    let found = rw take_rest at c.in-Some.ensures.length in
     record {
       within = omega (arith, found.1, length-drop at bytes);
       text = IsUtf8_more bytes at n c.loop-at.invariant.text found.2;

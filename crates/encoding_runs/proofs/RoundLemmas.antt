@@ -1,0 +1,124 @@
+-- The rounds of the engine, one behind the other, up to the end or a fault.
+use Rattle.std.proofs.Common.{◌≡◌, ℕ, zero, suc, ◌+◌, ◌<◌, ◌≤◌, Bool, true, false, List, [], ◌++◌, length, take, Option, nat_eq, inl, refl, sym, ap, ◌∙◌, arith, subst}
+use Rattle.std.specs.Io.KnownBytes.{Appends, Consumes, IsAtEnd, Keeps}
+use Rattle.std.proofs.KnownBytes.{Appends-nil, Appends-trans, Consumes-nil, Consumes-trans, Consumes-kept}
+use Rattle.std.proofs.lemmas.List.{append-nil, length-append, length-take, take_at}
+use Rattle.encoding_text.specs.Pending.{IsPending}
+use Rattle.encoding_text.specs.Parts.{Part, repaired_text}
+use Rattle.encoding_text.proofs.Decomposition.DecompositionLemmas.{StartsWith-append, has_parts, repaired_text-append}
+use Rattle.encoding_runs.specs.Repairs.{IsSettledText, IsDue, IsProperFront, StopsReading, RepairsAll, RepairsSettled, RepairsFront, WritesSettled}
+use Rattle.encoding_runs.specs.Steps.Writing.{AreFirst, WritesParts, StopsInParts}
+use Rattle.encoding_runs.specs.Steps.Rounds.{ReadsRound, Reaches}
+use Rattle.encoding_runs.proofs.SettledLemmas.{settled_first, settled_behind, AreFirst-more}
+use Rattle.encoding_runs.proofs.RepairLemmas.{WritesParts-nil, wrote_all, wrote_behind, wrote_count, front_behind, longer_front}
+
+pub reaches_nothing : (unread old : Option (List ℕ)) → Reaches unread unread old old 0 0 []
+reaches_nothing unread old = record { input = []; consumed = Consumes-nil unread; count = refl; wrote = WritesParts-nil false [] old; still_open = inl refl }
+
+pub reaches_more : (unread mid left old new now : Option (List ℕ)) (read n : ℕ) (p : List ℕ) (room : ℕ) (bytes : List ℕ) (before after : Bool) (m : ℕ) (q : List ℕ)
+    → Reaches unread mid old new read n p → ReadsRound room bytes false mid left before after → WritesParts false (p ++ bytes) q new now m → IsPending q
+    → Reaches unread left old now (read + length bytes) (n + m) q
+reaches_more unread mid left old new now read n p room bytes before after m q r b w still = record {
+  input = r.input ++ bytes;
+  consumed = Consumes-trans _ _ _ _ _ r.consumed b.consumed;
+  count = omega (arith, r.count, length-append r.input bytes);
+  wrote = wrote_behind false r.input p bytes q old new now n m r.wrote w;
+  still_open = still;
+}
+
+-- no more parts were broken than bytes were read
+pub reaches_count : (unread left old new : Option (List ℕ)) (read n : ℕ) (p : List ℕ) → Reaches unread left old new read n p → n ≤ read
+reaches_count unread left old new read n p r = omega (arith, r.count, wrote_count _ _ _ _ _ _ r.wrote)
+
+-- ---- before a read, or where it fails
+is_settled : (bs p : List ℕ) (old new : Option (List ℕ)) (n : ℕ) → (w : WritesParts false bs p old new n) → IsPending p → IsSettledText bs (repaired_text w.parts)
+is_settled bs p old new n w still = (w.parts, p, settled_first bs w.parts p w.first still, refl)
+
+pub stopped_reading : (unread mid left old new : Option (List ℕ)) (read n : ℕ) (p : List ℕ) → Reaches unread mid old new read n p → Keeps mid left
+    → (bytes : List ℕ) × (length bytes ≡ read) × RepairsSettled bytes unread left old new
+stopped_reading unread mid left old new read n p r k = (
+  r.input,
+  sym r.count,
+  (Consumes-kept _ _ _ _ r.consumed k, (repaired_text r.wrote.parts, is_settled _ _ _ _ _ r.wrote r.still_open, r.wrote.bytes)),
+)
+
+-- ---- at the end
+pub reached_end : (unread mid left old new now : Option (List ℕ)) (read n : ℕ) (p : List ℕ) (room : ℕ) (bytes : List ℕ) (before after : Bool) (m : ℕ)
+    → Reaches unread mid old new read n p → ReadsRound room bytes true mid left before after → WritesParts true (p ++ bytes) [] new now m
+    → (all : List ℕ) × (read + length bytes ≡ length all) × RepairsAll all unread left old now (n + m)
+reached_end unread mid left old new now read n p room bytes before after m r b w = (
+  r.input ++ bytes,
+  omega (arith, r.count, length-append r.input bytes),
+  (Consumes-trans _ _ _ _ _ r.consumed b.consumed, (b.at_end refl).2, wrote_all true _ _ _ _ (wrote_behind true r.input p bytes [] old new now n m r.wrote w)),
+)
+
+-- ---- where a write fails
+-- what was to be written of the bytes, as first parts of them and more
+due : (last : Bool) (bs : List ℕ) (ps : List Part) (rest : List ℕ) → AreFirst last bs ps rest → (qs : List Part) × IsDue bs last (repaired_text (ps ++ qs))
+due true bs ps rest f =
+    let others = has_parts rest in
+    (others.0, (λ _. (ps ++ others.0, StartsWith-append bs ps rest others.0 [] f.starts others.1, refl), λ e. absurd (let no : true ≡ false = e in cc)))
+due false bs ps rest f =
+    let others = settled_behind bs ps rest f in
+    (others.0, (λ e. absurd (let no : false ≡ true = e in cc), λ _. (ps ++ others.0, others.1, others.2, refl)))
+
+pub stopped_writing : (unread mid left old new now : Option (List ℕ)) (read n : ℕ) (p : List ℕ) (room : ℕ) (bytes : List ℕ) (last before after : Bool)
+    → Reaches unread mid old new read n p → ReadsRound room bytes last mid left before after → StopsInParts last (p ++ bytes) new now → room ≤ 1024 → before ≡ false
+    → (all : List ℕ) × (length all ≤ read + room) × RepairsFront all after unread left old now
+stopped_writing unread mid left old new now read n p room bytes last before after r b s short going = (
+  all,
+  omega (arith, r.count, length-append r.input bytes, b.within),
+  (
+    Consumes-trans _ _ _ _ _ r.consumed b.consumed,
+    record {
+      text = repaired_text (ps ++ others.0);
+      out = out;
+      due = subst (λ e. IsDue all e (repaired_text (ps ++ others.0))) (sym (seen last refl)) others.1;
+      less = subst (IsProperFront out) (sym (repaired_text-append ps others.0)) (longer_front out (repaired_text ps) (repaired_text others.0) (front_behind r.wrote.parts s.parts s.out s.less));
+      bytes = Appends-trans _ _ _ _ _ r.wrote.bytes s.bytes;
+      before = length r.input;
+      within = omega (arith, length-append r.input bytes);
+      one_round = omega (arith, length-append r.input bytes, b.within, short);
+      all_at_end = λ e. at_end last refl e;
+      settled = repaired_text r.wrote.parts;
+      was_settled = subst (λ xs. IsSettledText xs (repaired_text r.wrote.parts)) (sym (take_at r.input bytes (length r.input) refl)) (is_settled _ _ _ _ _ r.wrote r.still_open);
+      whole_rounds = (s.out, refl);
+    },
+  ),
+)
+  where
+    all : List ℕ
+    all = r.input ++ bytes
+
+    ps : List Part
+    ps = r.wrote.parts ++ s.parts
+
+    out : List ℕ
+    out = repaired_text r.wrote.parts ++ s.out
+
+    others : (qs : List Part) × IsDue all last (repaired_text (ps ++ qs))
+    others = due last all ps s.rest (AreFirst-more last r.input r.wrote.parts p bytes s.parts s.rest r.wrote.first s.first)
+
+    seen : (b' : Bool) → last ≡ b' → after ≡ last
+    seen true e = (b.at_end e).1 ∙ sym e
+    seen false e = (b.going_on e).1 ∙ going ∙ sym e
+
+    at_end : (b' : Bool) → last ≡ b' → after ≡ true → length r.input ≡ length all
+    at_end true e t = omega (arith, length-append r.input bytes, ap length (b.at_end e).0)
+    at_end false e t = absurd (let no : false ≡ true = sym going ∙ sym (b.going_on e).1 ∙ t in cc)
+
+-- ---- a round that gave bytes, and one that gave none
+pub reaches_next : (unread mid left old new now : Option (List ℕ)) (read n : ℕ) (p : List ℕ) (room : ℕ) (bytes : List ℕ) (last before after : Bool) (m : ℕ) (q : List ℕ)
+    → Reaches unread mid old new read n p → ReadsRound room bytes last mid left before after → WritesParts last (p ++ bytes) q new now m → IsPending q → 0 < length bytes
+    → Reaches unread left old now (read + length bytes) (n + m) q × (after ≡ before)
+reaches_next unread mid left old new now read n p room bytes true before after m q r b w still some = absurd (omega (arith, ap length (b.at_end refl).0, some))
+reaches_next unread mid left old new now read n p room bytes false before after m q r b w still some =
+    (reaches_more unread mid left old new now read n p room bytes before after m q r b w still, (b.going_on refl).1)
+
+pub reaches_end : (unread mid left old new now : Option (List ℕ)) (read n : ℕ) (p : List ℕ) (room : ℕ) (bytes : List ℕ) (last before after : Bool) (m : ℕ) (q : List ℕ)
+    → Reaches unread mid old new read n p → ReadsRound room bytes last mid left before after → WritesParts last (p ++ bytes) q new now m → (last ≡ true → q ≡ []) → length bytes ≡ 0
+    → (all : List ℕ) × (read + length bytes ≡ length all) × RepairsAll all unread left old now (n + m) × (after ≡ true)
+reaches_end unread mid left old new now read n p room bytes false before after m q r b w none empty = absurd (omega (arith, (b.going_on refl).0, empty))
+reaches_end unread mid left old new now read n p room bytes true before after m q r b w none empty =
+    let all = reached_end unread mid left old new now read n p room bytes before after m r b (subst (λ xs. WritesParts true (p ++ bytes) xs new now m) (none refl) w) in
+    (all.0, all.1, all.2, (b.at_end refl).1)

@@ -1,0 +1,60 @@
+-- First parts that stay whatever follows, one behind the other, and the settled parts.
+use Rattle.std.proofs.Common.{◌≡◌, ℕ, Bool, true, false, List, [], ◌∷◌, ◌++◌, refl, sym, ap, ◌∙◌, subst}
+use Rattle.std.proofs.lemmas.List.{append-nil, append_assoc}
+use Rattle.encoding_text.specs.Sequence.{IsBeginning}
+use Rattle.encoding_text.specs.Pending.{IsPending}
+use Rattle.encoding_text.specs.Parts.{Part, Broken, BeginsWithNoCharacter, StartsWith, AreSettled}
+use Rattle.encoding_text.proofs.Decomposition.PartsLemmas.{part_bytes}
+use Rattle.encoding_text.proofs.Decomposition.DecompositionLemmas.{StartsWith-append, settled_stay, has_settled}
+use Rattle.encoding_runs.specs.Steps.Writing.{AreFirst}
+
+-- no parts
+pub AreFirst-nil : (last : Bool) (bs : List ℕ) → AreFirst last bs [] bs
+AreFirst-nil last bs = record { starts = refl; whatever_follows = λ _ more. refl }
+
+-- parts behind parts
+pub AreFirst-trans : (last : Bool) (bs : List ℕ) (ps : List Part) (mid : List ℕ) (qs : List Part) (rest : List ℕ) → AreFirst last bs ps mid → AreFirst last mid qs rest
+    → AreFirst last bs (ps ++ qs) rest
+AreFirst-trans last bs ps mid qs rest f g = record {
+  starts = StartsWith-append bs ps mid qs rest f.starts g.starts;
+  whatever_follows = λ e more. StartsWith-append (bs ++ more) ps (mid ++ more) qs (rest ++ more) (f.whatever_follows e more) (g.whatever_follows e more);
+}
+
+-- behind those that stay, more bytes with their parts
+pub AreFirst-more : (last : Bool) (bs : List ℕ) (ps : List Part) (mid more : List ℕ) (qs : List Part) (rest : List ℕ) → AreFirst false bs ps mid
+    → AreFirst last (mid ++ more) qs rest → AreFirst last (bs ++ more) (ps ++ qs) rest
+AreFirst-more last bs ps mid more qs rest f g = record {
+  starts = StartsWith-append (bs ++ more) ps (mid ++ more) qs rest (f.whatever_follows refl more) g.starts;
+  whatever_follows = λ e others.
+      let there : StartsWith ((bs ++ more) ++ others) ps ((mid ++ more) ++ others) = rw (append_assoc bs more others, append_assoc mid more others) (f.whatever_follows refl (more ++ others)) in
+      StartsWith-append ((bs ++ more) ++ others) ps ((mid ++ more) ++ others) qs (rest ++ others) there (g.whatever_follows e others);
+}
+
+-- ---- the settled parts
+-- behind the parts in front of a last broken one stand its bytes and what follows, and no character begins these
+last_part : (bs more : List ℕ) (front : List Part) (x : List ℕ) → StartsWith bs (front ++ Broken x ∷ []) more
+    → (mid : List ℕ) × (mid ≡ x ++ more) × BeginsWithNoCharacter mid
+last_part bs more [] x (after, f, e) = (bs, (part_bytes bs (Broken x) after f).0 ∙ ap (λ xs. x ++ xs) e, f.0)
+last_part bs more (p ∷ front) x (after, f, s) = last_part after more front x s
+
+-- parts that stay whatever follows are the settled ones: a last beginning would not stay before the bytes that end it
+pub settled_first : (bs : List ℕ) (ps : List Part) (rest : List ℕ) → AreFirst false bs ps rest → IsPending rest → AreSettled bs ps rest
+settled_first bs ps rest f p = record { starts = f.starts; still_open = p; closed = closed }
+  where
+    closed : rest ≡ [] → (front : List Part) (x : List ℕ) → ps ≡ front ++ Broken x ∷ [] → IsBeginning x → ⊥
+    closed none front x same begins =
+        let more : List ℕ = begins.1 in
+        let there : StartsWith (bs ++ more) (front ++ Broken x ∷ []) more =
+        subst (λ qs. StartsWith (bs ++ more) qs more) same (subst (λ xs. StartsWith (bs ++ more) ps (xs ++ more)) none (f.whatever_follows refl more)) in
+        let l = last_part (bs ++ more) more front x there in
+        l.2 (x ++ more) [] (l.1 ∙ sym (append-nil (x ++ more))) begins.3
+
+pub first_settled : (bs : List ℕ) (ps : List Part) (rest : List ℕ) → AreSettled bs ps rest → AreFirst false bs ps rest
+first_settled bs ps rest s = record { starts = s.starts; whatever_follows = λ _ more. settled_stay bs ps rest more s.starts s.closed }
+
+-- parts that stay begin the settled parts
+pub settled_behind : (bs : List ℕ) (ps : List Part) (mid : List ℕ) → AreFirst false bs ps mid
+    → (qs : List Part) × (rest : List ℕ) × AreSettled bs (ps ++ qs) rest
+settled_behind bs ps mid f =
+    let more = has_settled mid in
+    (more.0, more.1, settled_first bs (ps ++ more.0) more.1 (AreFirst-trans false bs ps mid more.0 more.1 f (first_settled mid more.0 more.1 more.2)) more.2.still_open)

@@ -1,0 +1,3 @@
+-- What private functions say of their steps. Public contracts cite none of these.
+pub mod Writing
+pub mod Rounds

@@ -1,0 +1,176 @@
+//! The decoder's call without a destination: single calls, the three forms mixed, and the vectors, whole and cut.
+
+use crate::decoder_rows;
+use crate::decoder_vectors::{Delivered, delivered_utf8, scalar_of, vectors};
+use crate::texts::{bytes_of, field, number_of};
+use encoding_text::decoder::{Piece, Utf8Decoder};
+use std::alloc::{AllocError, Global};
+use std::test::Fail;
+
+/// Returns the piece that a field names; a text has these bytes.
+fn piece_of<'a>(field: &str, text: &'a [u8]) -> Result<Piece<'a>, Fail> {
+    if field.starts_with("Text") {
+        return Ok(Piece::Text(std::str::from_utf8(text)?));
+    }
+    match field {
+        "InputEmpty" => Ok(Piece::InputEmpty),
+        "Malformed 1" => Ok(Piece::Malformed(1)),
+        "Malformed 2" => Ok(Piece::Malformed(2)),
+        "Malformed 3" => Ok(Piece::Malformed(3)),
+        _ => Ok(Piece::Char(scalar_of(field)?)),
+    }
+}
+
+/// Whether the call of a row returns so.
+fn piece_is(alloc: Global, decoder: &mut Utf8Decoder, row: &str) -> Result<bool, Fail> {
+    let mut row = row;
+    let src = bytes_of(alloc, field(&mut row))?;
+    let last = field(&mut row) == "last";
+    let want = field(&mut row);
+    let text = bytes_of(alloc, want.strip_prefix("Text").unwrap_or(""))?;
+    let (piece, read) = decoder.decode_borrowed_raw(&src, last);
+    Ok(piece == piece_of(want, &text)? && read == number_of(field(&mut row))?)
+}
+
+/// Makes the calls of a table one after another; those of other forms are as in the decoder's rows.
+fn row_holds(alloc: Global, decoder: &mut Utf8Decoder, row: &str) -> Result<bool, Fail> {
+    match row.strip_prefix("piece |") {
+        Some(rest) => piece_is(alloc, decoder, rest),
+        None => decoder_rows::row_holds(alloc, decoder, row),
+    }
+}
+
+/// Calls: source, mark, piece, bytes read; and of the other forms, as there.
+const ROWS: &str = "\
+new
+piece | 61 C3 A4 E2 | more | Text 61 C3 A4 | 3
+neutral
+piece | E2 | more | InputEmpty | 1
+pending
+piece | 82 AC 5A | more | U+20AC | 2
+neutral
+piece | 5A | last | Text 5A | 1
+piece |  | last | InputEmpty | 0
+neutral
+new
+piece | E2 82 | last | Malformed 2 | 2
+neutral
+new
+piece | FF 61 | more | Malformed 1 | 1
+neutral
+new
+piece | E2 82 | more | InputEmpty | 2
+pending
+piece | 61 | more | Malformed 2 | 0
+neutral
+piece | 61 | more | Text 61 | 1
+neutral
+new
+utf16 | C3 | 2 | more | InputEmpty | 1 |
+pending
+piece | A4 61 | last | U+00E4 | 1
+neutral
+utf8 | 61 | 4 | last | InputEmpty | 1 | 61
+neutral
+new
+piece | F0 9F | more | InputEmpty | 2
+utf8 | 92 | 4 | more | InputEmpty | 1 |
+pending
+piece |  | more | InputEmpty | 0
+pending
+piece | A9 | last | U+1F4A9 | 1
+neutral
+piece | E2 | more | InputEmpty | 1
+utf16 | 28 | 2 | more | Malformed 1 | 0 |
+neutral
+piece | 28 | last | Text 28 | 1
+utf8 | E2 98 | 8 | more | InputEmpty | 2 |
+utf16 | 83 | 1 | more | OutputFull | 0 |
+pending
+piece |  | last | Malformed 2 | 0
+neutral
+new
+piece | F4 8F BF | more | InputEmpty | 3
+piece | FF | last | Malformed 3 | 0
+piece | FF | last | Malformed 1 | 1
+piece |  | last | InputEmpty | 0
+neutral
+new
+piece | E0 | last | Malformed 1 | 1
+piece | E1 | more | InputEmpty | 1
+piece | 80 80 | more | U+1000 | 2
+neutral
+new
+piece | C3 | last | Malformed 1 | 1
+neutral
+piece | A4 | last | Malformed 1 | 1
+new
+piece | EF | more | InputEmpty | 1
+piece | BF | more | InputEmpty | 1
+piece | BE | last | U+FFFE | 1
+new
+piece | EF | more | InputEmpty | 1
+piece | BC | last | Malformed 2 | 1
+neutral
+new
+piece | EF BB BF 61 | more | Text EF BB BF 61 | 4
+new
+piece | 61 ED A0 80 | more | Text 61 | 1
+piece | ED A0 80 | more | Malformed 1 | 1
+piece | A0 80 | more | Malformed 1 | 1
+piece | 80 | more | Malformed 1 | 1
+neutral";
+
+#[test]
+fn rows_hold(rt: HostRuntime) -> Result<(), Fail> {
+    let mut decoder = Utf8Decoder::new_inner();
+    let mut count = 0u32;
+    for row in ROWS.lines() {
+        assert!(rt; row_holds(rt.alloc(), &mut decoder, row)?, "{row}");
+        count = count.saturating_add(1);
+    }
+    assert!(rt; count == 78);
+    Ok(())
+}
+
+/// Hands in the unread bytes, at most so many a call and the last of them marked so: what the pieces are, if all is
+/// read.
+fn pieces_of(alloc: Global, src: &[u8], most: usize) -> Result<Option<Delivered<u8>>, AllocError> {
+    let mut decoder = Utf8Decoder::new_inner();
+    let mut unread = src;
+    let mut bytes = Vec::new(alloc);
+    let mut reports = Vec::new(alloc);
+    for _ in 0..24 {
+        let handed = unread.get(..most).unwrap_or(unread);
+        let last = handed.len() == unread.len();
+        let (piece, read) = decoder.decode_borrowed_raw(handed, last);
+        let (Some(rest), Some(front)) = (unread.get(read..), handed.get(..read)) else {
+            return Ok(None);
+        };
+        unread = rest;
+        match piece {
+            Piece::Text(text) if text.as_bytes() == front => bytes.extend_from_slice(front)?,
+            Piece::Text(_) => return Ok(None),
+            Piece::Char(scalar) => {
+                bytes.extend_from_slice(scalar.encode_utf8(&mut [0; 4]).as_bytes())?;
+            }
+            Piece::Malformed(length) => reports.push((bytes.len(), usize::from(length)))?,
+            Piece::InputEmpty if last => return Ok(Some((bytes, reports))),
+            Piece::InputEmpty => {}
+        }
+    }
+    Ok(None)
+}
+
+/// The pieces of each vector are its parts, whole and cut after each byte, each two and each three.
+#[test]
+fn vectors_come_in_pieces(rt: HostRuntime) -> Result<(), Fail> {
+    for vector in &vectors(rt.alloc())? {
+        let want = Some(delivered_utf8(rt.alloc(), vector)?);
+        for most in [1, 2, 3, 16] {
+            let got = pieces_of(rt.alloc(), &vector.bytes, most)?;
+            assert!(rt; got == want, "{}", vector.row);
+        }
+    }
+    Ok(())
+}

@@ -1,0 +1,7 @@
+//! Streams of the program's own: an array between the filter and each slow stream, so that the calls below are few.
+mod held;
+mod read_ahead;
+mod write_behind;
+
+pub use read_ahead::ReadAhead;
+pub use write_behind::WriteBehind;

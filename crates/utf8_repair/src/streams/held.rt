@@ -1,0 +1,120 @@
+//! Bytes that wait in an array.
+ghost use Rattle.std.specs.Prelude.{◌≡◌, ℕ, ◌<◌, ◌≤◌, min, List, [], ◌++◌, length, drop, take, IsTrue, OnOk, OnErr};
+ghost use Rattle.std.specs.Bool.{IsFalse};
+ghost use Rattle.std.specs.Io.KnownBytes.{Keeps, IsAtEnd, append_known, prepend_known};
+
+use std::io::{self, Error, ErrorKind, Read, Write};
+use std::marker::Model;
+
+/// At most `N` bytes. What goes in first comes out first.
+#[derive(Drop)]
+pub(crate) struct Held<const N: usize> {
+    bytes: [u8; N],
+    start: usize,
+    end: usize,
+}
+
+// Clauses see the bytes that wait.
+impl<const N: usize> Model for Held<N> {
+    ghost Value = { List ℕ };
+
+    ghost view = { λ h. drop h.start (take h.end h.bytes) };
+
+    ghost invariant = { λ h. (h.start ≤ h.end) × (h.end ≤ N) × (0 < N) × (h.start ≡ h.end → h.end ≡ 0) };
+}
+
+impl<const N: usize> Held<N> {
+    /// An array in which nothing waits.
+    pub(crate) fn new() -> Held<N>
+        requires { 0 < N }
+        ensures { result ≡ [] }
+    {
+        Held {
+            bytes: [0; N],
+            start: 0,
+            end: 0,
+        }
+    }
+
+    /// The bytes that wait.
+    pub(crate) fn as_slice(&self) -> &[u8]
+        ensures { result.now ≡ self.now }
+    {
+        let bytes = &self.bytes[..];
+        &bytes[self.start..self.end]
+    }
+
+    /// How many bytes wait.
+    pub(crate) fn len(&self) -> usize
+        ensures { result ≡ length self.now }
+    {
+        self.end - self.start
+    }
+
+    /// Lets the first bytes go.
+    fn advance(&mut self, count: usize)
+        requires { count ≤ length self.old }
+        ensures { self.new ≡ drop count self.old }
+    {
+        self.start += count;
+        if self.start == self.end {
+            self.start = 0;
+            self.end = 0;
+        }
+    }
+
+    /// Takes the piece where it fits behind what waits, and returns whether it did.
+    pub(crate) fn push(&mut self, piece: &[u8]) -> bool
+        ensures taken { IsTrue result → self.new ≡ self.old ++ piece.now }
+        ensures refused { IsFalse result → self.new ≡ self.old }
+        ensures room { self.old ≡ [] → length piece.now ≤ N → IsTrue result }
+    {
+        if piece.len() > N - self.end {
+            return false;
+        }
+        let (at, end) = (self.end, self.end + piece.len());
+        let bytes = &mut self.bytes[..];
+        bytes[at..end].copy_from_slice(piece);
+        self.end = end;
+        true
+    }
+
+    /// Moves the first bytes into the buffer, as many as it takes and at most so many, and returns how many.
+    pub(crate) fn pop_into(&mut self, buffer: &mut [u8], most: usize) -> usize
+        ensures count { result ≡ min most (min (length self.old) (length buffer.old)) }
+        ensures bytes { self.old ≡ take result buffer.new ++ self.new }
+    {
+        let count = most.min(self.len().min(buffer.len()));
+        let front = &self.as_slice()[..count];
+        buffer[..count].copy_from_slice(front);
+        self.advance(count);
+        count
+    }
+
+    /// Reads once, where no byte waits.
+    pub(crate) fn fill<R: Read>(&mut self, reader: &mut R) -> io::Result<()>
+        ensures bytes { Keeps (prepend_known self.old (R.remaining reader.old)) (prepend_known self.new (R.remaining reader.new)) }
+        ensures end { OnOk result (self.new ≡ [] → IsAtEnd (R.remaining reader.new)) }
+        ensures err { OnErr result (self.new ≡ self.old) }
+    {
+        if self.len() == 0 {
+            self.end = reader.read(&mut self.bytes)?;
+        }
+        Ok(())
+    }
+
+    /// Writes out the bytes that wait. What a failure leaves unwritten waits on.
+    pub(crate) fn write_to<W: Write>(&mut self, writer: &mut W) -> io::Result<()>
+        ensures bytes { Keeps (append_known (W.contents writer.old) self.old) (append_known (W.contents writer.new) self.new) }
+        ensures ok { OnOk result (self.new ≡ []) }
+    {
+        while self.len() > 0 {
+            let taken = writer.write(self.as_slice())?;
+            if taken == 0 {
+                return Err(Error::from(ErrorKind::WriteZero));
+            }
+            self.advance(taken);
+        }
+        Ok(())
+    }
+}
