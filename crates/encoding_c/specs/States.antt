@@ -60,13 +60,13 @@ pub record DecoderCall (before after : EncodingUtf8Decoder) (result malformed : 
   pub says : Says p ended q
 
 -- The same of a borrowed call.
-pub record PieceCall (before after : EncodingUtf8Decoder) (told : EncodingPiece) (Says : List ℕ → Piece → List ℕ → Type 0) : Type 0 where
+pub record PieceCall (before after : EncodingUtf8Decoder) (numbers : EncodingPiece) (Says : List ℕ → Piece → List ℕ → Type 0) : Type 0 where
   pub p : List ℕ
   pub returned : Piece
   pub q : List ℕ
   pub stood : StandsFor before p
   pub stands : StandsFor after q
-  pub told : IsToldPiece returned told
+  pub told : IsToldPiece returned numbers
   pub says : Says p returned q
 
 -- The same of an encoder and the units that it holds.

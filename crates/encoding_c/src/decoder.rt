@@ -40,19 +40,28 @@ pub struct EncodingPiece {
 /// The most bytes that may be pending.
 const MOST: u8 = 3;
 
+/// Whether all of the source was read.
+fn is_all_read(piece: &Piece) -> bool
+    ensures { IsTrue result ↔ (piece.now ≡ Piece.InputEmpty) }
+{
+    matches!(piece, Piece::InputEmpty)
+}
+
 /// The decoder that the storage stands for.
+#[tactic(auto, using(crate::proofs::DecoderLemmas::held_again))]
 fn restored(state: EncodingUtf8Decoder) -> Utf8Decoder
     ensures stands { StandsFor state result }
     ensures front { result ≡ take (length result) state.pending }
     ensures few { length result ≤ 3 }
 {
-    if state.count <= MOST {
-        let mut decoder = Utf8Decoder::new_inner();
-        let count = usize::from(state.count);
-        let (piece, _) = decoder.decode_borrowed_raw(&state.pending[..count], false);
-        if let Piece::InputEmpty = piece {
-            return decoder;
-        }
+    if state.count > MOST {
+        return Utf8Decoder::new_inner();
+    }
+    let mut decoder = Utf8Decoder::new_inner();
+    let count = usize::from(state.count);
+    let (piece, _) = decoder.decode_borrowed_raw(&state.pending[..count], false);
+    if is_all_read(&piece) {
+        return decoder;
     }
     Utf8Decoder::new_inner()
 }

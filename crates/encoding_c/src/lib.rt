@@ -12,6 +12,7 @@ pub mod conversions;
 pub mod decoder;
 pub mod door;
 pub mod encoder;
+pub mod repair;
 pub mod surrogates;
 pub mod text_destinations;
 pub mod utf_8;

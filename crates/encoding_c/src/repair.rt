@@ -1,6 +1,6 @@
 //! The repair of UTF-8 into a buffer.
 
-ghost use Rattle.std.specs.Prelude.{◌≡◌, ◌*◌, ◌<◌, ◌≤◌, length, take};
+ghost use Rattle.std.specs.Prelude.{◌≡◌, ◌*◌, ◌<◌, ◌≤◌, true, length, take};
 ghost use Rattle.encoding_runs.specs.Repairs.{IsRepairedWith};
 
 use crate::door::REFUSED;
@@ -20,6 +20,8 @@ struct Buffer<'a> {
     room: &'a mut [u8],
     written: usize,
     failed: bool,
+    ghost within: { written ≤ length room.now },
+    ghost full: { failed ≡ true → written ≡ length room.now },
 }
 
 impl<'a> Sink for Buffer<'a> {
@@ -38,7 +40,7 @@ impl<'a> Sink for Buffer<'a> {
 
     /// Takes as many of the bytes as there is room for.
     fn write(&mut self, bytes: &[u8]) -> Option<usize> {
-        let free = self.room.len().saturating_sub(self.written);
+        let free = self.room.len() - self.written;
         let count = free.min(bytes.len());
         if count == 0 {
             self.failed = true;
