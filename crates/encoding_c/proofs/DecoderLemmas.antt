@@ -24,7 +24,7 @@ module _ {A : Type 0} (encode : ℕ → List A) (need : ℕ) (p src : List ℕ) 
   answer_ends InputEmpty read cs left q a =
       (omega (arith, a.0), (encode_utf8_all cs, ap (λ n. p ++ take n src) a.0 ∙ ap (λ xs. p ++ xs) (take_all (length src) src (omega arith)) ∙ a.1))
   answer_ends OutputFull read cs left q a = (omega (arith, a.0), (encode_utf8_all cs, a.1))
-  answer_ends (Malformed k second) read cs left q (x, s, w, e, n, none, b) =
+  answer_ends (Malformed k second) read cs left q (x, s, w, e, n, none, b, room) =
       (w, (p ++ take read src, sym (append-nil (p ++ take read src)) ∙ ap (λ xs. (p ++ take read src) ++ xs) (sym none)))
 
   pub call_ends : (old new : List A) (result : DecoderResult) (read written : ℕ) (q : List ℕ) → Decodes encode need p src old new last result read written q
@@ -58,8 +58,11 @@ held_again src pending returned read q call = said returned (same_piece [] src f
 -- the last bytes, one after another
 pub last_bytes : (xs front q : List ℕ) (a b c n : ℕ) → xs ≡ front ++ q → length q ≤ 3 → n ≡ length front → a ≡ slice_index xs n → b ≡ slice_index xs (n + 1) → c ≡ slice_index xs (n + 2)
     → take (length q) (a ∷ b ∷ c ∷ []) ≡ q
-last_bytes xs front q a b c n e few at f g h = three q few (f ∙ here 0 ∙ refl) (g ∙ here 1) (h ∙ here 2)
+last_bytes xs front q a b c n e few at f g h = three q few (f ∙ ap (slice_index xs) (zero n) ∙ here 0) (g ∙ here 1) (h ∙ here 2)
   where
+    zero : (m : ℕ) → m ≡ m + 0
+    zero m = omega arith
+
     here : (k : ℕ) → slice_index xs (n + k) ≡ slice_index q k
     here k = ap (λ ys. slice_index ys (n + k)) e ∙ ap (λ m. slice_index (front ++ q) (m + k)) at ∙ get_or-append-add front q k 0
 

@@ -3,13 +3,9 @@ use Rattle.std.proofs.Common.{◌≡◌, ℕ, ◌+◌, ◌-◌, ◌<◌, ◌≤�
 use Rattle.std.proofs.lemmas.Bool.{cases_lt}
 use Rattle.std.proofs.lemmas.List.{length-append, append-nil, get_or-append-add}
 use Rattle.encoding_text.specs.Encoding.{IsHeld, IsEncoderCall}
+use Rattle.encoding_c.specs.States.{IsKept}
 use Rattle.encoding_text.specs.declared.utf_8.encoder.EncoderResult.{EncoderResult}
 use Rattle.encoding_text.specs.declared.utf_8.encoder.EncoderResult.TheVariants.{InputEmpty, OutputFull}
-
--- the unit to keep: after InputEmpty the last one of the source, if there is one, and else the one from before
-abbrev pub IsKept : EncoderResult → List ℕ → ℕ → ℕ → Type 0
-IsKept InputEmpty src before unit = (0 < length src → unit ≡ slice_index src (length src - 1)) × (length src ≡ 0 → unit ≡ before)
-IsKept OutputFull src before unit = unit ≡ before
 
 -- the unit that is left open is the last one of the held one and the source
 last_unit : (held src front left_open : List ℕ) (before unit : ℕ) → held ++ src ≡ front ++ left_open → IsHeld left_open → (0 < length held → held ≡ before ∷ [])

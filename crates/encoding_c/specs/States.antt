@@ -1,5 +1,5 @@
 -- What the storage of a decoder and of an encoder stands for between two calls, and how a call in it is told.
-use Rattle.std.specs.Prelude.{◌≡◌, ℕ, ◌≤◌, List, [], ◌∷◌, ◌++◌, take}
+use Rattle.std.specs.Prelude.{◌≡◌, ℕ, ◌-◌, ◌<◌, ◌≤◌, List, [], ◌∷◌, ◌++◌, length, take, slice_index}
 use Rattle.encoding_text.specs.Pending.{IsPending}
 use Rattle.encoding_text.specs.Utf16.{IsHighSurrogate}
 use Rattle.encoding_text.specs.declared.decoder.DecoderResult.{DecoderResult}
@@ -25,6 +25,11 @@ pub record StandsFor (state : EncodingUtf8Decoder) (p : List ℕ) : Type 0 where
 pub record Holds (state : EncodingUtf8Encoder) (held : List ℕ) : Type 0 where
   pub high : IsHighSurrogate state.held → held ≡ state.held ∷ []
   pub other : ¬ (IsHighSurrogate state.held) → held ≡ []
+
+-- the unit to keep if one is held: after InputEmpty the last one of the source, if there is one, and else the one from before
+abbrev pub IsKept : EncoderResult → List ℕ → ℕ → ℕ → Type 0
+IsKept encoder.InputEmpty src before unit = (0 < length src → unit ≡ slice_index src (length src - 1)) × (length src ≡ 0 → unit ≡ before)
+IsKept encoder.OutputFull src before unit = unit ≡ before
 
 -- xs end with q
 abbrev pub EndsWith : List ℕ → List ℕ → Type 0

@@ -4,7 +4,7 @@ ghost use Rattle.std.specs.Prelude.{◌≡◌, ℕ, ◌+◌, ◌*◌, ◌<◌, �
 ghost use Rattle.encoding_text.specs.Fronts.{WritesFront};
 ghost use Rattle.encoding_text.specs.Utf16.{IsHighSurrogate};
 ghost use Rattle.encoding_text.specs.Encoding.{IsHeld, IsEncoderCall, IsEncoderTextCall};
-ghost use Rattle.encoding_c.specs.States.{Holds, IsToldEncoded, EncoderCall};
+ghost use Rattle.encoding_c.specs.States.{Holds, IsKept, IsToldEncoded, EncoderCall};
 
 use crate::checks::as_text;
 use crate::door::NO_TEXT;
@@ -64,6 +64,22 @@ fn stored(encoder: &Utf8Encoder, unit: u16) -> EncodingUtf8Encoder
 {
     let held = if is_holding(encoder) { unit } else { 0 };
     EncodingUtf8Encoder { held }
+}
+
+/// The code unit that is held after a call, if one is.
+fn unit_to_keep(ended: &EncoderResult, src: &[u16], before: u16) -> u16
+    ensures { IsKept ended.now src.now before result }
+{
+    match ended {
+        EncoderResult::OutputFull => before,
+        EncoderResult::InputEmpty => {
+            if src.is_empty() {
+                before
+            } else {
+                src[src.len() - 1]
+            }
+        }
+    }
 }
 
 /// What ended the call as a number.
@@ -134,10 +150,7 @@ pub extern "C" fn encoding_utf8_encoder_encode_from_utf16(
     let before = *encoder;
     let mut inner = restored(before);
     let (ended, read, written) = inner.encode_from_utf16_raw(src, dst, last);
-    let unit = match ended {
-        EncoderResult::InputEmpty if !src.is_empty() => src[src.len() - 1],
-        _ => before.held,
-    };
+    let unit = unit_to_keep(&ended, src, before.held);
     *encoder = stored(&inner, unit);
     EncodingEncoded {
         read,
