@@ -6,6 +6,7 @@ use Rattle.encoding_text.proofs.Decomposition.PartsLemmas.{part_bytes}
 use Rattle.encoding_runs.specs.Repairs.{IsRepaired, IsProperFront}
 
 pub length-repaired : (bs : List ℕ) (parts : List Part) → ArePartsOf bs parts → length (repaired_text parts) ≤ 3 * length bs
+unfolding lib.Utf8.encode
 length-repaired bs [] e = omega arith
 length-repaired bs (Character c ∷ parts) (after, f, more) =
     let h = part_bytes bs (Character c) after f in
