@@ -1,6 +1,6 @@
 -- What is kept of a decoder between two calls: its pending bytes end those that it had and those that it read.
-use Rattle.std.proofs.Common.{◌≡◌, ◌≢◌, ℕ, ◌+◌, ◌-◌, ◌<◌, ◌≤◌, ◌⊎◌, inl, inr, Bool, true, false, true≢false, List, [], ◌∷◌, ◌++◌, length, take, drop, slice_index, refl, sym, ap, ◌∙◌, arith, subst, encode_utf8_all}
-use Rattle.std.proofs.lemmas.List.{length-append, append-nil, take_all, get_or-append-add}
+use Rattle.std.proofs.Common.{◌≡◌, ℕ, ◌+◌, ◌-◌, ◌≤◌, inl, inr, Bool, false, true≢false, List, [], ◌∷◌, ◌++◌, length, take, slice_index, refl, sym, ap, ◌∙◌, arith, encode_utf8_all}
+use Rattle.std.proofs.lemmas.List.{append-nil, take_all, get_or-append-add}
 use Rattle.encoding_text.specs.Pending.{IsPending}
 use Rattle.encoding_text.specs.OneAnswer.{SayTheSame}
 use Rattle.encoding_text.specs.Decoding.{Answers, Decodes, AnswersBorrowed, IsBorrowedCall}

@@ -1,5 +1,5 @@
 -- What is kept of an encoder between two calls: the unit that it holds is the last one of the source, or the one from before.
-use Rattle.std.proofs.Common.{◌≡◌, ℕ, ◌+◌, ◌-◌, ◌<◌, ◌≤◌, inl, inr, Bool, List, [], ◌∷◌, ◌++◌, length, slice_index, refl, sym, ap, ◌∙◌, arith, subst}
+use Rattle.std.proofs.Common.{◌≡◌, ℕ, ◌+◌, ◌-◌, ◌<◌, ◌≤◌, inl, inr, Bool, List, [], ◌∷◌, ◌++◌, length, slice_index, refl, sym, ap, ◌∙◌, arith}
 use Rattle.std.proofs.lemmas.Bool.{cases_lt}
 use Rattle.std.proofs.lemmas.List.{length-append, append-nil, get_or-append-add}
 use Rattle.encoding_text.specs.Encoding.{IsHeld, IsEncoderCall}
@@ -16,7 +16,7 @@ last_unit held src front (u ∷ []) before unit e h one kept some = ap (λ k. k 
   | inl more ↦
       let place : length front + 0 ≡ length held + (length src - 1) = omega (arith, sizes, more) in
       sym (get_or-append-add front (u ∷ []) 0 0) ∙ ap (λ xs. slice_index xs (length front + 0)) (sym e) ∙ ap (λ k. slice_index (held ++ src) k) place
-          ∙ get_or-append-add held src (length src - 1) 0 ∙ sym (kept.0 more)
+      ∙ get_or-append-add held src (length src - 1) 0 ∙ sym (kept.0 more)
   | inr none ↦
       let is : held ≡ before ∷ [] = one (omega (arith, sizes, none)) in
       let place : length front + 0 ≡ 0 = omega (arith, sizes, none, ap length is) in

@@ -1,7 +1,7 @@
 -- How long a repaired text is: at most three times as long as its bytes.
-use Rattle.std.proofs.Common.{◌≡◌, ◌≢◌, ℕ, ◌+◌, ◌*◌, ◌<◌, ◌≤◌, List, [], ◌∷◌, ◌++◌, length, refl, sym, ap, ◌∙◌, arith, encode_utf8}
+use Rattle.std.proofs.Common.{◌≡◌, ◌≢◌, ℕ, ◌*◌, ◌<◌, ◌≤◌, List, [], ◌∷◌, length, refl, ap, arith, encode_utf8}
 use Rattle.std.proofs.lemmas.List.{length-append}
-use Rattle.encoding_text.specs.Parts.{Part, Character, Broken, bytes_of, IsFirstPart, StartsWith, ArePartsOf, repaired_text}
+use Rattle.encoding_text.specs.Parts.{Part, Character, Broken, ArePartsOf, repaired_text}
 use Rattle.encoding_text.proofs.Decomposition.PartsLemmas.{part_bytes}
 use Rattle.encoding_runs.specs.Repairs.{IsRepaired, IsProperFront}
 

@@ -63,7 +63,10 @@ pub extern "C" fn encoding_ascii_to_basic_latin(src: &[u8], dst: &mut [u16]) -> 
     ensures found { IsFrontOf (take (length dst.old) src.now) result }
     ensures copied { WritesFront dst.old dst.new result.length (take result.length src.now) }
 {
-    front_of_bytes(ascii::ascii_to_basic_latin(src, dst), src.len().min(dst.len()))
+    front_of_bytes(
+        ascii::ascii_to_basic_latin(src, dst),
+        src.len().min(dst.len()),
+    )
 }
 
 /// Copies the longest ASCII front of code units, each as a byte, over the shorter length of the two. Behind what is

@@ -73,7 +73,10 @@ pub extern "C" fn encoding_mem_convert_latin1_to_utf16(src: &[u8], dst: &mut [u1
 
 /// Writes the UTF-8 of the longest front of Latin1 whose UTF-8 fits. Behind what is written `dst` is as before.
 #[unsafe(no_mangle)]
-pub extern "C" fn encoding_mem_convert_latin1_to_utf8_partial(src: &[u8], dst: &mut [u8]) -> EncodingCounts
+pub extern "C" fn encoding_mem_convert_latin1_to_utf8_partial(
+    src: &[u8],
+    dst: &mut [u8],
+) -> EncodingCounts
     ensures front { FitsLongest (λ b. b ∷ []) encode_utf8 src.now (length dst.old) result.read
         (encode_utf8_all (take result.read src.now)) }
     ensures written { WritesFront dst.old dst.new result.written (encode_utf8_all (take result.read src.now)) }
@@ -159,7 +162,10 @@ pub extern "C" fn encoding_mem_convert_str_to_utf16(src: &[u8], dst: &mut [u16])
 /// Converts the longest well-formed front to UTF-16. `read` is its length, and so the length of `src` exactly where all of
 /// it is well-formed. Behind what is written `dst` is as before. `REFUSED` twice where `dst` is shorter than `src`.
 #[unsafe(no_mangle)]
-pub extern "C" fn encoding_mem_convert_utf8_to_utf16_without_replacement(src: &[u8], dst: &mut [u16]) -> EncodingCounts
+pub extern "C" fn encoding_mem_convert_utf8_to_utf16_without_replacement(
+    src: &[u8],
+    dst: &mut [u16],
+) -> EncodingCounts
     ensures front { length src.now ≤ length dst.old → IsLongestFront IsUtf8 src.now result.read }
     ensures written { length src.now ≤ length dst.old → WritesText src.now dst.old dst.new result.written }
     ensures refused { length dst.old < length src.now
@@ -178,7 +184,10 @@ pub extern "C" fn encoding_mem_convert_utf8_to_utf16_without_replacement(src: &[
 /// Converts the first characters of `src` from UTF-16 to UTF-8, as many as fit, with U+FFFD for each surrogate that is in
 /// no pair. Behind what is written `dst` is as before.
 #[unsafe(no_mangle)]
-pub extern "C" fn encoding_mem_convert_utf16_to_utf8_partial(src: &[u16], dst: &mut [u8]) -> EncodingCounts
+pub extern "C" fn encoding_mem_convert_utf16_to_utf8_partial(
+    src: &[u16],
+    dst: &mut [u8],
+) -> EncodingCounts
     ensures longest { IsUtf8OfLongestFront src.now (length dst.old) result.read (take result.written dst.new) }
     ensures rest { WritesFront dst.old dst.new result.written (take result.written dst.new) }
 {

@@ -20,7 +20,10 @@ fn is_text(bytes: &[u8]) -> bool
 /// Converts the first characters of `src` from UTF-16 to UTF-8, as many as fit. Then the continuation bytes directly
 /// behind what is written become zero, and behind those `dst` is as before. `REFUSED` twice where `dst` is no text.
 #[unsafe(no_mangle)]
-pub extern "C" fn encoding_mem_convert_utf16_to_str_partial(src: &[u16], dst: &mut [u8]) -> EncodingCounts
+pub extern "C" fn encoding_mem_convert_utf16_to_str_partial(
+    src: &[u16],
+    dst: &mut [u8],
+) -> EncodingCounts
     ensures longest { IsUtf8 dst.old
         → IsUtf8OfLongestFront src.now (length dst.old) result.read (take result.written dst.new) }
     ensures rest { IsUtf8 dst.old → WritesAndClears 0 dst.old dst.new result.written (take result.written dst.new) }
@@ -60,7 +63,10 @@ pub extern "C" fn encoding_mem_convert_utf16_to_str(src: &[u16], dst: &mut [u8])
 /// all where there are fewer, and the continuation bytes directly behind those become zero. Behind all these `dst` is as
 /// before. `REFUSED` twice where `dst` is no text.
 #[unsafe(no_mangle)]
-pub extern "C" fn encoding_mem_convert_latin1_to_str_partial(src: &[u8], dst: &mut [u8]) -> EncodingCounts
+pub extern "C" fn encoding_mem_convert_latin1_to_str_partial(
+    src: &[u8],
+    dst: &mut [u8],
+) -> EncodingCounts
     ensures front { IsUtf8 dst.old → FitsLongest (λ b. b ∷ []) encode_utf8 src.now (length dst.old) result.read
         (encode_utf8_all (take result.read src.now)) }
     ensures written { IsUtf8 dst.old

@@ -20,7 +20,10 @@ pub extern "C" fn encoding_utf8_valid_up_to(src: &[u8]) -> usize
 /// Of the characters of the longest well-formed front, reads and writes as UTF-16 the most that fit. Behind what is
 /// written `dst` is as before.
 #[unsafe(no_mangle)]
-pub extern "C" fn encoding_convert_utf8_to_utf16_up_to_invalid(src: &[u8], dst: &mut [u16]) -> EncodingCounts
+pub extern "C" fn encoding_convert_utf8_to_utf16_up_to_invalid(
+    src: &[u8],
+    dst: &mut [u16],
+) -> EncodingCounts
     ensures { ConvertsLongest encode_utf16 src.now dst.old dst.new result.read result.written }
 {
     let (read, written) = utf_8::convert_utf8_to_utf16_up_to_invalid(src, dst);
@@ -30,7 +33,10 @@ pub extern "C" fn encoding_convert_utf8_to_utf16_up_to_invalid(src: &[u8], dst: 
 /// The UTF-8 of a front of whole characters: all is read, or at most three bytes are free. Behind what is written `dst`
 /// is as before.
 #[unsafe(no_mangle)]
-pub extern "C" fn encoding_convert_utf16_to_utf8_partial_inner(src: &[u16], dst: &mut [u8]) -> EncodingCounts
+pub extern "C" fn encoding_convert_utf16_to_utf8_partial_inner(
+    src: &[u16],
+    dst: &mut [u8],
+) -> EncodingCounts
     ensures front { IsUtf8OfFront src.now result.read (take result.written dst.new) }
     ensures rest { WritesFront dst.old dst.new result.written (take result.written dst.new) }
     ensures filled { (result.read ≡ length src.now) ⊎ (length dst.old < result.written + 4) }
@@ -42,7 +48,10 @@ pub extern "C" fn encoding_convert_utf16_to_utf8_partial_inner(src: &[u16], dst:
 /// The most first characters that fit into at most three bytes. Behind what is written `dst` is as before. `REFUSED`
 /// twice where `src` is empty or `dst` longer than three bytes.
 #[unsafe(no_mangle)]
-pub extern "C" fn encoding_convert_utf16_to_utf8_partial_tail(src: &[u16], dst: &mut [u8]) -> EncodingCounts
+pub extern "C" fn encoding_convert_utf16_to_utf8_partial_tail(
+    src: &[u16],
+    dst: &mut [u8],
+) -> EncodingCounts
     ensures longest { 0 < length src.now → length dst.old < 4
         → IsUtf8OfLongestFront src.now (length dst.old) result.read (take result.written dst.new) }
     ensures rest { 0 < length src.now → length dst.old < 4

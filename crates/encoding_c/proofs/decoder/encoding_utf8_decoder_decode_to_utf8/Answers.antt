@@ -8,7 +8,7 @@ pub stored-requires-clause-ends : goal.stored-requires-clause-ends
 stored-requires-clause-ends c =
     let s = c.decode_to_utf8_raw-ended.ensures in
     let front : take c.pending_count-held.result c.args.decoder.now.pending ≡ c.restored-inner.result =
-        ap (λ n. take n c.args.decoder.now.pending) c.pending_count-held.ensures.count ∙ sym c.restored-inner.ensures.front in
+    ap (λ n. take n c.args.decoder.now.pending) c.pending_count-held.ensures.count ∙ sym c.restored-inner.ensures.front in
     let ends = (call_ends encode_utf8 4 c.restored-inner.result c.args.src.now c.args.last _ _ _ _ _ _ s.call).1 in
     subst (λ xs. EndsWith (xs ++ take c.decode_to_utf8_raw-ended.result.1 c.args.src.now) c.decode_to_utf8_raw-ended.new.self) (sym front) ends
 
