@@ -1,0 +1,46 @@
+# Builds, checks and installs the static library for C, its header, and the program utf8_repair.
+#
+#   make                        build/libencoding_text.a and build/utf8_repair (proved as they are built)
+#   make check                  a C and a C++ program call each function, also with sanitizers and under valgrind
+#   make install PREFIX=/usr    library, header, pkg-config file, program and manual page
+PREFIX ?= /usr/local
+DESTDIR ?=
+VERSION = 0.1.0
+CC ?= cc
+CXX ?= c++
+STRICT = -Wall -Wextra -Werror -pedantic -Iinclude
+SANITIZE = -g -fsanitize=address,undefined -fno-sanitize-recover=all
+
+SOURCES = $(wildcard crates/encoding_text/src/*.rt crates/encoding_text/src/*/*.rt crates/encoding_runs/src/*.rt \
+    crates/encoding_runs/src/*/*.rt crates/encoding_c/src/*.rt crates/utf8_repair/src/*.rt crates/utf8_repair/src/*/*.rt)
+
+all: build/libencoding_text.a build/utf8_repair build/encoding_text.pc
+
+build:
+	mkdir -p build
+
+build/libencoding_text.a: $(SOURCES) | build
+	cd crates/encoding_c && rt lib
+	cp crates/encoding_c/out/libencoding_c.a $@
+
+build/utf8_repair: $(SOURCES) | build
+	cd crates/utf8_repair && rt run < /dev/null
+	cp crates/utf8_repair/out/utf8_repair $@
+
+build/encoding_text.pc: checks/encoding_text.pc.in Makefile | build
+	sed -e 's|@PREFIX@|$(PREFIX)|' -e 's|@VERSION@|$(VERSION)|' $< > $@
+
+check: all
+	CC='$(CC)' CXX='$(CXX)' STRICT='$(STRICT)' SANITIZE='$(SANITIZE)' checks/run
+
+install: all
+	install -Dm644 build/libencoding_text.a $(DESTDIR)$(PREFIX)/lib/libencoding_text.a
+	install -Dm644 include/encoding_text.h $(DESTDIR)$(PREFIX)/include/encoding_text.h
+	install -Dm644 build/encoding_text.pc $(DESTDIR)$(PREFIX)/lib/pkgconfig/encoding_text.pc
+	install -Dm755 build/utf8_repair $(DESTDIR)$(PREFIX)/bin/utf8_repair
+	install -Dm644 checks/utf8_repair.1 $(DESTDIR)$(PREFIX)/share/man/man1/utf8_repair.1
+
+clean:
+	rm -rf build
+
+.PHONY: all check install clean

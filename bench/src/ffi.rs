@@ -1,0 +1,162 @@
+//! The functions of `encoding_text.h`, and each of them over slices.
+
+#[repr(C)]
+#[derive(Clone, Copy)]
+pub struct Counts {
+    pub read: usize,
+    pub written: usize,
+}
+
+#[repr(C)]
+pub struct Front {
+    pub length: usize,
+    pub other: u16,
+}
+
+#[repr(C)]
+#[derive(Default)]
+pub struct Decoder {
+    pending: [u8; 3],
+    count: u8,
+}
+
+#[repr(C)]
+pub struct Decoded {
+    pub read: usize,
+    pub written: usize,
+    pub result: u8,
+    pub malformed: u8,
+}
+
+#[repr(C)]
+#[derive(Default)]
+pub struct Encoder {
+    held: u16,
+}
+
+#[repr(C)]
+pub struct Encoded {
+    pub read: usize,
+    pub written: usize,
+    pub result: u8,
+}
+
+#[repr(C)]
+pub struct Repaired {
+    pub written: usize,
+    pub replaced: u64,
+}
+
+pub const MALFORMED: u8 = 2;
+
+/// Declares functions of the library that take one slice, or a source and a destination, and wraps each over slices.
+macro_rules! calls {
+    (one { $($one:ident($kind:ty) -> $result:ty;)* } two { $($two:ident($from:ty, $to:ty) -> $counts:ty;)* }) => {
+        mod raw {
+            use super::*;
+            extern "C" {
+                $(pub fn $one(buffer: *const $kind, length: usize) -> $result;)*
+                $(pub fn $two(src: *const $from, src_length: usize, dst: *mut $to, dst_length: usize) -> $counts;)*
+            }
+        }
+        $(pub fn $one(buffer: &[$kind]) -> $result {
+            unsafe { raw::$one(buffer.as_ptr(), buffer.len()) }
+        })*
+        $(pub fn $two(src: &[$from], dst: &mut [$to]) -> $counts {
+            unsafe { raw::$two(src.as_ptr(), src.len(), dst.as_mut_ptr(), dst.len()) }
+        })*
+    };
+}
+
+calls! {
+    one {
+    encoding_validate_ascii(u8) -> Front;
+    encoding_ascii_valid_up_to(u8) -> usize;
+    encoding_iso_2022_jp_ascii_valid_up_to(u8) -> usize;
+    encoding_mem_is_ascii(u8) -> bool;
+    encoding_mem_is_basic_latin(u16) -> bool;
+    encoding_mem_is_utf8_latin1(u8) -> bool;
+    encoding_mem_is_utf16_latin1(u16) -> bool;
+    encoding_mem_is_str_latin1(u8) -> u8;
+    encoding_mem_utf8_latin1_up_to(u8) -> usize;
+    encoding_mem_str_latin1_up_to(u8) -> usize;
+    encoding_mem_utf16_valid_up_to(u16) -> usize;
+    encoding_mem_is_utf8_bidi(u8) -> bool;
+    encoding_mem_is_str_bidi(u8) -> u8;
+    encoding_mem_is_utf16_bidi(u16) -> bool;
+    encoding_mem_check_utf8_for_latin1_and_bidi(u8) -> u8;
+    encoding_mem_check_str_for_latin1_and_bidi(u8) -> u8;
+    encoding_mem_check_utf16_for_latin1_and_bidi(u16) -> u8;
+    encoding_utf8_valid_up_to(u8) -> usize;
+    }
+    two {
+    encoding_ascii_to_ascii(u8, u8) -> Front;
+    encoding_ascii_to_basic_latin(u8, u16) -> Front;
+    encoding_basic_latin_to_ascii(u16, u8) -> Front;
+    encoding_mem_copy_ascii_to_ascii(u8, u8) -> usize;
+    encoding_mem_copy_ascii_to_basic_latin(u8, u16) -> usize;
+    encoding_mem_copy_basic_latin_to_ascii(u16, u8) -> usize;
+    encoding_mem_convert_latin1_to_utf16(u8, u16) -> usize;
+    encoding_mem_convert_latin1_to_utf8_partial(u8, u8) -> Counts;
+    encoding_mem_convert_latin1_to_utf8(u8, u8) -> usize;
+    encoding_mem_convert_utf8_to_latin1_lossy(u8, u8) -> usize;
+    encoding_mem_convert_utf16_to_latin1_lossy(u16, u8) -> usize;
+    encoding_mem_convert_utf8_to_utf16(u8, u16) -> usize;
+    encoding_mem_convert_str_to_utf16(u8, u16) -> usize;
+    encoding_mem_convert_utf8_to_utf16_without_replacement(u8, u16) -> Counts;
+    encoding_mem_convert_utf16_to_utf8_partial(u16, u8) -> Counts;
+    encoding_mem_convert_utf16_to_utf8(u16, u8) -> usize;
+    encoding_mem_convert_utf16_to_str_partial(u16, u8) -> Counts;
+    encoding_mem_convert_latin1_to_str_partial(u8, u8) -> Counts;
+    encoding_convert_utf8_to_utf16_up_to_invalid(u8, u16) -> Counts;
+    encoding_repair_slice(u8, u8) -> Repaired;
+    }
+}
+
+extern "C" {
+    fn encoding_mem_ensure_utf16_validity(buffer: *mut u16, length: usize);
+    fn encoding_utf8_decoder_decode_to_utf16(
+        decoder: &mut Decoder, src: *const u8, src_length: usize, dst: *mut u16, dst_length: usize, last: bool,
+    ) -> Decoded;
+    fn encoding_utf8_decoder_decode_to_utf8(
+        decoder: &mut Decoder, src: *const u8, src_length: usize, dst: *mut u8, dst_length: usize, last: bool,
+    ) -> Decoded;
+    fn encoding_utf8_encoder_encode_from_utf16(
+        encoder: &mut Encoder, src: *const u16, src_length: usize, dst: *mut u8, dst_length: usize, last: bool,
+    ) -> Encoded;
+    fn encoding_utf8_encoder_encode_from_utf8(
+        encoder: &mut Encoder, src: *const u8, src_length: usize, dst: *mut u8, dst_length: usize, last: bool,
+    ) -> Encoded;
+}
+
+pub fn ensure_utf16_validity(buffer: &mut [u16]) {
+    unsafe { encoding_mem_ensure_utf16_validity(buffer.as_mut_ptr(), buffer.len()) }
+}
+
+impl Decoder {
+    pub fn to_utf16(&mut self, src: &[u8], dst: &mut [u16], last: bool) -> Decoded {
+        unsafe {
+            encoding_utf8_decoder_decode_to_utf16(self, src.as_ptr(), src.len(), dst.as_mut_ptr(), dst.len(), last)
+        }
+    }
+
+    pub fn to_utf8(&mut self, src: &[u8], dst: &mut [u8], last: bool) -> Decoded {
+        unsafe {
+            encoding_utf8_decoder_decode_to_utf8(self, src.as_ptr(), src.len(), dst.as_mut_ptr(), dst.len(), last)
+        }
+    }
+}
+
+impl Encoder {
+    pub fn from_utf16(&mut self, src: &[u16], dst: &mut [u8], last: bool) -> Encoded {
+        unsafe {
+            encoding_utf8_encoder_encode_from_utf16(self, src.as_ptr(), src.len(), dst.as_mut_ptr(), dst.len(), last)
+        }
+    }
+
+    pub fn from_utf8(&mut self, src: &[u8], dst: &mut [u8], last: bool) -> Encoded {
+        unsafe {
+            encoding_utf8_encoder_encode_from_utf8(self, src.as_ptr(), src.len(), dst.as_mut_ptr(), dst.len(), last)
+        }
+    }
+}

@@ -1,0 +1,2 @@
+// The same calls from C++.
+#include "calls.c"

@@ -1,0 +1,3 @@
+pub mod DecoderLemmas
+pub mod EncoderLemmas
+pub mod RepairLemmas

@@ -1,0 +1,27 @@
+use Rattle.std.proofs.Common.{◌≡◌, ◌++◌, take, ap, sym, ◌∙◌, subst}
+use Rattle.encoding_c.specs.States.{EndsWith}
+use Rattle.std.specs.Char.Escape.{encode_utf16}
+use Rattle.encoding_c.proofs.DecoderLemmas.{call_ends}
+use Rattle.encoding_c.proofs.decoder.encoding_utf8_decoder_decode_to_utf16.Goals as goal
+
+pub stored-requires-clause-ends : goal.stored-requires-clause-ends
+stored-requires-clause-ends c =
+    let s = c.decode_to_utf16_raw-ended.ensures in
+    let front : take c.pending_count-held.result c.args.decoder.now.pending ≡ c.restored-inner.result =
+    ap (λ n. take n c.args.decoder.now.pending) c.pending_count-held.ensures.count ∙ sym c.restored-inner.ensures.front in
+    let ends = (call_ends encode_utf16 2 c.restored-inner.result c.args.src.now c.args.last _ _ _ _ _ _ s.call).1 in
+    subst (λ xs. EndsWith (xs ++ take c.decode_to_utf16_raw-ended.result.1 c.args.src.now) c.decode_to_utf16_raw-ended.new.self) (sym front) ends
+
+pub returns-clause-call : goal.returns-clause-call
+returns-clause-call c =
+    let s = c.decode_to_utf16_raw-ended.ensures in
+    let d = c.decoded.ensures in
+    record {
+      p = c.restored-inner.result;
+      ended = c.decode_to_utf16_raw-ended.result.0;
+      q = c.decode_to_utf16_raw-ended.new.self;
+      stood = c.restored-inner.ensures.stands;
+      stands = c.stored.ensures;
+      told = d.told;
+      says = rw (d.counts.0, d.counts.1) (s.call, s.suffices, s.suffices_replacing);
+    }

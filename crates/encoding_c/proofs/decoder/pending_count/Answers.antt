@@ -1,0 +1,14 @@
+use Rattle.std.proofs.Common.{arith}
+use Rattle.encoding_c.proofs.DecoderLemmas.{few_pending}
+use Rattle.encoding_c.proofs.decoder.pending_count.Goals as goal
+
+pub returns-in-Some-clause-few : goal.returns-in-Some-clause-few
+returns-in-Some-clause-few c =
+    let few = few_pending _ c.in_neutral_state.ensures.pending in
+    let room = (c.in-Some.ensures {u = tt}).1 in
+    omega (arith, few, room)
+
+pub returns-in-None-clause-count : goal.returns-in-None-clause-count
+returns-in-None-clause-count c =
+    let few = few_pending _ c.in_neutral_state.ensures.pending in
+    absurd (c.in-None.ensures {u = tt} (omega (arith, few)))

@@ -1,0 +1,4 @@
+pub mod Fronts
+pub mod Doors
+pub mod States
+pub mod Buffers

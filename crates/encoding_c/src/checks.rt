@@ -1,0 +1,87 @@
+//! Checks of whole buffers.
+
+ghost use Rattle.std.specs.Prelude.{◌≡◌, ◌≢◌, ◌↔◌, IsTrue, IfSome, IfNone, IsUtf8};
+ghost use Rattle.std.specs.Str.{IsAscii};
+ghost use Rattle.encoding_text.specs.Fronts.{IsLongestFront};
+ghost use Rattle.encoding_text.specs.Latin1.{IsLatin1, IsUtf8Latin1};
+ghost use Rattle.encoding_c.specs.Doors.{Tells};
+
+use crate::door::{NEITHER, NO, REFUSED, YES};
+use encoding_text::mem;
+use encoding_text::utf_8::utf8_valid_up_to;
+
+/// The bytes as a text, if they are well-formed.
+pub(crate) fn as_text<'a>(bytes: &'a [u8]) -> Option<&'a str>
+    ensures some { IfSome result (λ text. IsUtf8 bytes.now × (text.now ≡ bytes.now)) }
+    ensures none { IfNone result (¬ (IsUtf8 bytes.now)) }
+{
+    if utf8_valid_up_to(bytes) == bytes.len() {
+        Some(unsafe { std::str::from_utf8_unchecked(bytes) })
+    } else {
+        None
+    }
+}
+
+/// Whether each byte is ASCII.
+#[unsafe(no_mangle)]
+pub extern "C" fn encoding_mem_is_ascii(buffer: &[u8]) -> bool
+    ensures { IsTrue result ↔ IsAscii buffer.now }
+{
+    mem::is_ascii(buffer)
+}
+
+/// Whether each code unit is ASCII.
+#[unsafe(no_mangle)]
+pub extern "C" fn encoding_mem_is_basic_latin(buffer: &[u16]) -> bool
+    ensures { IsTrue result ↔ IsAscii buffer.now }
+{
+    mem::is_basic_latin(buffer)
+}
+
+/// Whether the bytes are well-formed UTF-8 whose scalar values are each up to U+00FF.
+#[unsafe(no_mangle)]
+pub extern "C" fn encoding_mem_is_utf8_latin1(buffer: &[u8]) -> bool
+    ensures { IsTrue result ↔ IsUtf8Latin1 buffer.now }
+{
+    mem::is_utf8_latin1(buffer)
+}
+
+/// Whether the scalar values of the text are each up to U+00FF: `NEITHER` where the bytes are no text.
+#[unsafe(no_mangle)]
+pub extern "C" fn encoding_mem_is_str_latin1(buffer: &[u8]) -> u8
+    ensures { Tells (IsUtf8 buffer.now) (IsUtf8Latin1 buffer.now) result }
+{
+    match as_text(buffer) {
+        Some(text) if mem::is_str_latin1(text) => YES,
+        Some(_) => NO,
+        None => NEITHER,
+    }
+}
+
+/// Whether each code unit is up to 0x00FF.
+#[unsafe(no_mangle)]
+pub extern "C" fn encoding_mem_is_utf16_latin1(buffer: &[u16]) -> bool
+    ensures { IsTrue result ↔ IsLatin1 buffer.now }
+{
+    mem::is_utf16_latin1(buffer)
+}
+
+/// The length in bytes of the longest front that is the UTF-8 of scalar values up to U+00FF.
+#[unsafe(no_mangle)]
+pub extern "C" fn encoding_mem_utf8_latin1_up_to(buffer: &[u8]) -> usize
+    ensures { IsLongestFront IsUtf8Latin1 buffer.now result }
+{
+    mem::utf8_latin1_up_to(buffer)
+}
+
+/// The same of a text: `REFUSED` where the bytes are no text.
+#[unsafe(no_mangle)]
+pub extern "C" fn encoding_mem_str_latin1_up_to(buffer: &[u8]) -> usize
+    ensures text { IsUtf8 buffer.now → IsLongestFront IsUtf8Latin1 buffer.now result }
+    ensures refused { ¬ (IsUtf8 buffer.now) → result ≡ usize.MAX }
+{
+    match as_text(buffer) {
+        Some(text) => mem::str_latin1_up_to(text),
+        None => REFUSED,
+    }
+}

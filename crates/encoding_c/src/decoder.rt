@@ -1,0 +1,270 @@
+//! The streaming decoder: Encoding Standard, section 8.1.1. Between two calls it lies in the caller's storage.
+
+ghost use Rattle.std.specs.Prelude.{◌≡◌, ℕ, ◌<◌, ◌≤◌, ◌↔◌, ◌⊎◌, List, [], ◌++◌, length, take, slice_index, min, encode_utf8, IsTrue};
+ghost use Rattle.std.specs.Char.Escape.{encode_utf16};
+ghost use Rattle.encoding_text.specs.Pending.{IsPending};
+ghost use Rattle.encoding_text.specs.Decoding.{Decodes, IsBorrowedCall, Suffices, SufficesReplacing, utf16_room, utf8_room, utf8_room_replacing};
+ghost use Rattle.encoding_c.specs.States.{StandsFor, EndsWith, IsTold, DecoderCall, PieceCall};
+
+use encoding_text::decoder::{DecoderResult, Piece, Utf8Decoder};
+
+/// A decoder between two calls: the pending bytes, and how many they are. What no call left there is taken for a decoder
+/// with nothing pending.
+#[repr(C)]
+#[derive(Clone, Copy)]
+pub struct EncodingUtf8Decoder {
+    pub pending: [u8; 3],
+    pub count: u8,
+}
+
+/// What a decode call returns: how much it read and wrote, what ended it, and how many bytes a broken part has.
+#[repr(C)]
+#[derive(Clone, Copy)]
+pub struct EncodingDecoded {
+    pub read: usize,
+    pub written: usize,
+    pub result: u8,
+    pub malformed: u8,
+}
+
+/// What a borrowed call returns: how much it read, the character, what it found, and how many bytes a broken part has.
+#[repr(C)]
+#[derive(Clone, Copy)]
+pub struct EncodingPiece {
+    pub read: usize,
+    pub character: u32,
+    pub kind: u8,
+    pub malformed: u8,
+}
+
+/// The most bytes that may be pending.
+const MOST: u8 = 3;
+
+/// Whether all of the source was read.
+fn is_all_read(piece: &Piece) -> bool
+    ensures { IsTrue result ↔ (piece.now ≡ Piece.InputEmpty) }
+{
+    matches!(piece, Piece::InputEmpty)
+}
+
+/// The decoder that the storage stands for.
+#[tactic(auto, using(crate::proofs::DecoderLemmas::held_again))]
+fn restored(state: EncodingUtf8Decoder) -> Utf8Decoder
+    ensures stands { StandsFor state result }
+    ensures front { result ≡ take (length result) state.pending }
+    ensures few { length result ≤ 3 }
+{
+    if state.count > MOST {
+        return Utf8Decoder::new_inner();
+    }
+    let mut decoder = Utf8Decoder::new_inner();
+    let count = usize::from(state.count);
+    let (piece, _) = decoder.decode_borrowed_raw(&state.pending[..count], false);
+    if is_all_read(&piece) {
+        return decoder;
+    }
+    Utf8Decoder::new_inner()
+}
+
+/// How many bytes are pending.
+fn pending_count(decoder: &Utf8Decoder) -> usize
+    ensures count { result ≡ length decoder.now }
+    ensures few { result ≤ 3 }
+    ensures pending { IsPending decoder.now }
+{
+    if decoder.in_neutral_state() {
+        return 0;
+    }
+    match decoder.max_utf16_buffer_length(0) {
+        Some(room) => room - 1,
+        None => 0,
+    }
+}
+
+/// The byte at this place of the pending bytes and then the read ones, or 0 behind them.
+fn byte_at(pending: &[u8], read: &[u8], place: usize) -> u8
+    ensures { result ≡ slice_index (pending.now ++ read.now) place }
+{
+    if place < pending.len() {
+        return pending[place];
+    }
+    let behind = place - pending.len();
+    if behind < read.len() { read[behind] } else { 0 }
+}
+
+/// The storage of a decoder whose pending bytes end these: those that were pending before its call, and the read ones.
+fn stored(decoder: &Utf8Decoder, pending: &[u8], read: &[u8]) -> EncodingUtf8Decoder
+    requires ends { EndsWith (pending.now ++ read.now) decoder.now }
+    requires few { length pending.now ≤ 3 }
+    ensures { StandsFor result decoder.now }
+{
+    let count = pending_count(decoder);
+    let start = pending.len() + read.len() - count;
+    EncodingUtf8Decoder {
+        pending: [
+            byte_at(pending, read, start),
+            byte_at(pending, read, start + 1),
+            byte_at(pending, read, start + 2),
+        ],
+        count: count as u8,
+    }
+}
+
+/// What the call returns in numbers.
+fn decoded(ended: DecoderResult, read: usize, written: usize) -> EncodingDecoded
+    ensures told { IsTold ended result.result result.malformed }
+    ensures counts { (result.read ≡ read) × (result.written ≡ written) }
+{
+    let (result, malformed) = match ended {
+        DecoderResult::InputEmpty => (0, 0),
+        DecoderResult::OutputFull => (1, 0),
+        DecoderResult::Malformed(count, _) => (2, count),
+    };
+    EncodingDecoded {
+        read,
+        written,
+        result,
+        malformed,
+    }
+}
+
+/// Makes a decoder with nothing pending.
+#[unsafe(no_mangle)]
+pub extern "C" fn encoding_utf8_decoder_new(decoder: &mut EncodingUtf8Decoder)
+    ensures { StandsFor decoder.new [] }
+{
+    *decoder = EncodingUtf8Decoder {
+        pending: [0; 3],
+        count: 0,
+    };
+}
+
+/// Whether nothing is pending.
+#[unsafe(no_mangle)]
+pub extern "C" fn encoding_utf8_decoder_in_neutral_state(decoder: &EncodingUtf8Decoder) -> bool
+    ensures { (p : List ℕ) × StandsFor decoder.now p × (IsTrue result ↔ (p ≡ [])) }
+{
+    restored(*decoder).in_neutral_state()
+}
+
+/// How many UTF-16 code units hold all that the next `byte_length` bytes may become, also with U+FFFD for each report:
+/// `usize::MAX` where that number is no less.
+#[unsafe(no_mangle)]
+pub extern "C" fn encoding_utf8_decoder_max_utf16_buffer_length(
+    decoder: &EncodingUtf8Decoder,
+    byte_length: usize,
+) -> usize
+    ensures { (p : List ℕ) × StandsFor decoder.now p × (result ≡ min (utf16_room byte_length (length p)) usize.MAX) }
+{
+    let inner = restored(*decoder);
+    match inner.max_utf16_buffer_length(byte_length) {
+        Some(room) => room,
+        None => usize::MAX,
+    }
+}
+
+/// How many bytes hold all that the next `byte_length` bytes may become, where nothing is written for reports:
+/// `usize::MAX` where that number is no less.
+#[unsafe(no_mangle)]
+pub extern "C" fn encoding_utf8_decoder_max_utf8_buffer_length_without_replacement(
+    decoder: &EncodingUtf8Decoder,
+    byte_length: usize,
+) -> usize
+    ensures { (p : List ℕ) × StandsFor decoder.now p × (result ≡ min (utf8_room byte_length (length p)) usize.MAX) }
+{
+    let inner = restored(*decoder);
+    match inner.max_utf8_buffer_length_without_replacement(byte_length) {
+        Some(room) => room,
+        None => usize::MAX,
+    }
+}
+
+/// How many bytes hold all that the next `byte_length` bytes may become, with U+FFFD for each report: `usize::MAX` where
+/// that number is no less.
+#[unsafe(no_mangle)]
+pub extern "C" fn encoding_utf8_decoder_max_utf8_buffer_length(
+    decoder: &EncodingUtf8Decoder,
+    byte_length: usize,
+) -> usize
+    ensures { (p : List ℕ) × StandsFor decoder.now p
+        × (result ≡ min (utf8_room_replacing byte_length (length p)) usize.MAX) }
+{
+    let inner = restored(*decoder);
+    match inner.max_utf8_buffer_length(byte_length) {
+        Some(room) => room,
+        None => usize::MAX,
+    }
+}
+
+/// Decodes the next bytes to UTF-16. `last` says that none will follow `src`. Behind what is written `dst` is as before.
+#[unsafe(no_mangle)]
+pub extern "C" fn encoding_utf8_decoder_decode_to_utf16(
+    decoder: &mut EncodingUtf8Decoder,
+    src: &[u8],
+    dst: &mut [u16],
+    last: bool,
+) -> EncodingDecoded
+    ensures call { DecoderCall decoder.old decoder.new result.result result.malformed (λ p ended q.
+        Decodes encode_utf16 2 p src.now dst.old dst.new last ended result.read result.written q
+        × Suffices utf16_room p src.now (length dst.old) ended result.read result.written q
+        × SufficesReplacing utf16_room 1 p src.now (length dst.old) ended result.read result.written q) }
+    ensures progress { 0 < length src.now → 2 ≤ length dst.old → (0 < result.read) ⊎ (result.result ≡ 2) }
+{
+    let before = *decoder;
+    let mut inner = restored(before);
+    let held = pending_count(&inner);
+    let (ended, read, written) = inner.decode_to_utf16_raw(src, dst, last);
+    *decoder = stored(&inner, &before.pending[..held], &src[..read]);
+    decoded(ended, read, written)
+}
+
+/// Decodes the next bytes to UTF-8. `last` says that none will follow `src`. Behind what is written `dst` is as before.
+#[unsafe(no_mangle)]
+pub extern "C" fn encoding_utf8_decoder_decode_to_utf8(
+    decoder: &mut EncodingUtf8Decoder,
+    src: &[u8],
+    dst: &mut [u8],
+    last: bool,
+) -> EncodingDecoded
+    ensures call { DecoderCall decoder.old decoder.new result.result result.malformed (λ p ended q.
+        Decodes encode_utf8 4 p src.now dst.old dst.new last ended result.read result.written q
+        × Suffices utf8_room p src.now (length dst.old) ended result.read result.written q
+        × Suffices utf8_room_replacing p src.now (length dst.old) ended result.read result.written q
+        × SufficesReplacing utf8_room_replacing 3 p src.now (length dst.old) ended result.read result.written q) }
+    ensures progress { 0 < length src.now → 4 ≤ length dst.old → (0 < result.read) ⊎ (result.result ≡ 2) }
+{
+    let before = *decoder;
+    let mut inner = restored(before);
+    let held = pending_count(&inner);
+    let (ended, read, written) = inner.decode_to_utf8_raw(src, dst, last);
+    *decoder = stored(&inner, &before.pending[..held], &src[..read]);
+    decoded(ended, read, written)
+}
+
+/// Decodes the next bytes without a destination: what they begin with, and how many of them were read.
+#[unsafe(no_mangle)]
+pub extern "C" fn encoding_utf8_decoder_decode_borrowed(
+    decoder: &mut EncodingUtf8Decoder,
+    src: &[u8],
+    last: bool,
+) -> EncodingPiece
+    ensures { PieceCall decoder.old decoder.new result (λ p returned q. IsBorrowedCall p src.now last returned result.read q) }
+{
+    let before = *decoder;
+    let mut inner = restored(before);
+    let held = pending_count(&inner);
+    let (piece, read) = inner.decode_borrowed_raw(src, last);
+    *decoder = stored(&inner, &before.pending[..held], &src[..read]);
+    let (kind, character, malformed) = match piece {
+        Piece::Text(_) => (0, 0, 0),
+        Piece::Char(character) => (1, u32::from(character), 0),
+        Piece::Malformed(count) => (2, 0, count),
+        Piece::InputEmpty => (3, 0, 0),
+    };
+    EncodingPiece {
+        read,
+        character,
+        kind,
+        malformed,
+    }
+}

@@ -1,0 +1,195 @@
+//! The streaming encoder: Encoding Standard, section 8.1.2. Between two calls it lies in the caller's storage.
+
+ghost use Rattle.std.specs.Prelude.{◌≡◌, ℕ, ◌+◌, ◌*◌, ◌<◌, ◌≤◌, ◌↔◌, List, [], ◌∷◌, length, take, min, IsTrue, IsUtf8};
+ghost use Rattle.encoding_text.specs.Fronts.{WritesFront};
+ghost use Rattle.encoding_text.specs.Utf16.{IsHighSurrogate};
+ghost use Rattle.encoding_text.specs.Encoding.{IsHeld, IsEncoderCall, IsEncoderTextCall};
+ghost use Rattle.encoding_c.specs.States.{Holds, IsKept, IsToldEncoded, EncoderCall};
+
+use crate::checks::as_text;
+use crate::door::NO_TEXT;
+use encoding_text::utf_8::{EncoderResult, Utf8Encoder};
+
+/// An encoder between two calls: the high surrogate that it holds. What is no high surrogate is taken for an encoder that
+/// holds nothing.
+#[repr(C)]
+#[derive(Clone, Copy)]
+pub struct EncodingUtf8Encoder {
+    pub held: u16,
+}
+
+/// What an encode call returns: how much it read and wrote, and what ended it.
+#[repr(C)]
+#[derive(Clone, Copy)]
+pub struct EncodingEncoded {
+    pub read: usize,
+    pub written: usize,
+    pub result: u8,
+}
+
+/// Whether the code unit is a high surrogate.
+fn is_high_surrogate(unit: u16) -> bool
+    ensures { IsTrue result ↔ IsHighSurrogate unit }
+{
+    0xD800 <= unit && unit <= 0xDBFF
+}
+
+/// The encoder that the storage stands for.
+fn restored(state: EncodingUtf8Encoder) -> Utf8Encoder
+    ensures holds { Holds state result }
+    ensures unit { 0 < length result → result ≡ state.held ∷ [] }
+{
+    let mut encoder = Utf8Encoder::new_inner();
+    if is_high_surrogate(state.held) {
+        encoder.encode_from_utf16_raw(&[state.held], &mut [], false);
+    }
+    encoder
+}
+
+/// Whether a code unit is held.
+fn is_holding(encoder: &Utf8Encoder) -> bool
+    ensures holding { IsTrue result ↔ (0 < length encoder.now) }
+    ensures held { IsHeld encoder.now }
+{
+    match encoder.max_buffer_length_from_utf16_without_replacement(0) {
+        Some(room) => room > 0,
+        None => false,
+    }
+}
+
+/// The storage of an encoder that holds this unit, if it holds one.
+fn stored(encoder: &Utf8Encoder, unit: u16) -> EncodingUtf8Encoder
+    requires { 0 < length encoder.now → encoder.now ≡ unit ∷ [] }
+    ensures { Holds result encoder.now }
+{
+    let held = if is_holding(encoder) { unit } else { 0 };
+    EncodingUtf8Encoder { held }
+}
+
+/// The code unit that is held after a call, if one is.
+fn unit_to_keep(ended: &EncoderResult, src: &[u16], before: u16) -> u16
+    ensures { IsKept ended.now src.now before result }
+{
+    match ended {
+        EncoderResult::OutputFull => before,
+        EncoderResult::InputEmpty => {
+            if src.is_empty() {
+                before
+            } else {
+                src[src.len() - 1]
+            }
+        }
+    }
+}
+
+/// What ended the call as a number.
+fn number(ended: &EncoderResult) -> u8
+    ensures { IsToldEncoded ended.now result }
+{
+    match ended {
+        EncoderResult::InputEmpty => 0,
+        EncoderResult::OutputFull => 1,
+    }
+}
+
+/// Makes an encoder that holds nothing.
+#[unsafe(no_mangle)]
+pub extern "C" fn encoding_utf8_encoder_new(encoder: &mut EncodingUtf8Encoder)
+    ensures { Holds encoder.new [] }
+{
+    *encoder = EncodingUtf8Encoder { held: 0 };
+}
+
+/// How many bytes hold all that `u16_length` code units and what is held may become: `usize::MAX` where that number is no
+/// less.
+#[unsafe(no_mangle)]
+pub extern "C" fn encoding_utf8_encoder_max_buffer_length_from_utf16_without_replacement(
+    encoder: &EncodingUtf8Encoder,
+    u16_length: usize,
+) -> usize
+    ensures { (held : List ℕ) × Holds encoder.now held × (result ≡ min (3 * (u16_length + length held)) usize.MAX) }
+{
+    let inner = restored(*encoder);
+    match inner.max_buffer_length_from_utf16_without_replacement(u16_length) {
+        Some(room) => room,
+        None => usize::MAX,
+    }
+}
+
+/// How many bytes hold all that a text of `byte_length` bytes and what is held may become: `usize::MAX` where that number
+/// is no less.
+#[unsafe(no_mangle)]
+pub extern "C" fn encoding_utf8_encoder_max_buffer_length_from_utf8_without_replacement(
+    encoder: &EncodingUtf8Encoder,
+    byte_length: usize,
+) -> usize
+    ensures { (held : List ℕ) × Holds encoder.now held × (result ≡ min (byte_length + 3 * length held) usize.MAX) }
+{
+    let inner = restored(*encoder);
+    match inner.max_buffer_length_from_utf8_without_replacement(byte_length) {
+        Some(room) => room,
+        None => usize::MAX,
+    }
+}
+
+/// Encodes the held code unit and then those of `src`. `last` marks the last call. Behind what is written `dst` is as
+/// before.
+#[unsafe(no_mangle)]
+pub extern "C" fn encoding_utf8_encoder_encode_from_utf16(
+    encoder: &mut EncodingUtf8Encoder,
+    src: &[u16],
+    dst: &mut [u8],
+    last: bool,
+) -> EncodingEncoded
+    ensures call { EncoderCall encoder.old encoder.new result.result (λ held ended later.
+        IsEncoderCall held src.now (length dst.old) last ended result.read (take result.written dst.new) later
+        × (3 * (length src.now + length held) ≤ length dst.old → ended ≡ EncoderResult.InputEmpty)) }
+    ensures within { result.read ≤ length src.now }
+    ensures rest { WritesFront dst.old dst.new result.written (take result.written dst.new) }
+{
+    let before = *encoder;
+    let mut inner = restored(before);
+    let (ended, read, written) = inner.encode_from_utf16_raw(src, dst, last);
+    let unit = unit_to_keep(&ended, src, before.held);
+    *encoder = stored(&inner, unit);
+    EncodingEncoded {
+        read,
+        written,
+        result: number(&ended),
+    }
+}
+
+/// Encodes U+FFFD for a held code unit and then the text. Behind what is written `dst` is as before. `NO_TEXT` where the
+/// bytes are no text: then nothing is read or written.
+#[unsafe(no_mangle)]
+pub extern "C" fn encoding_utf8_encoder_encode_from_utf8(
+    encoder: &mut EncodingUtf8Encoder,
+    src: &[u8],
+    dst: &mut [u8],
+    last: bool,
+) -> EncodingEncoded
+    ensures call { IsUtf8 src.now → EncoderCall encoder.old encoder.new result.result (λ held ended later.
+        IsEncoderTextCall held src.now (length dst.old) ended result.read (take result.written dst.new) later
+        × (length src.now + 3 * length held ≤ length dst.old → ended ≡ EncoderResult.InputEmpty)) }
+    ensures within { result.read ≤ length src.now }
+    ensures rest { WritesFront dst.old dst.new result.written (take result.written dst.new) }
+    ensures refused { ¬ (IsUtf8 src.now) → (result.result ≡ 3) × (result.read ≡ 0) × (result.written ≡ 0)
+        × (encoder.new ≡ encoder.old) }
+{
+    let Some(text) = as_text(src) else {
+        return EncodingEncoded {
+            read: 0,
+            written: 0,
+            result: NO_TEXT,
+        };
+    };
+    let before = *encoder;
+    let mut inner = restored(before);
+    let (ended, read, written) = inner.encode_from_utf8_raw(text, dst, last);
+    *encoder = stored(&inner, before.held);
+    EncodingEncoded {
+        read,
+        written,
+        result: number(&ended),
+    }
+}

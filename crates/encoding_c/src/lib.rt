@@ -1,0 +1,18 @@
+//! The kernels of `encoding_text` and the repair of a slice for C and C++, as a static library. `include/encoding_text.h`
+//! says each function once more in C's words.
+//!
+//! A slice is a pointer and then its length. What a contract of `encoding_text` asks of its caller, and a caller in C can
+//! break, is tested here: then nothing is read or written, and the result is one that no honest call has.
+#![tactic(auto)]
+
+pub mod ascii;
+pub mod bidi;
+pub mod checks;
+pub mod conversions;
+pub mod decoder;
+pub mod door;
+pub mod encoder;
+pub mod repair;
+pub mod surrogates;
+pub mod text_destinations;
+pub mod utf_8;

@@ -1,0 +1,83 @@
+//! The repair of UTF-8 into a buffer.
+
+ghost use Rattle.std.specs.Prelude.{◌≡◌, ◌*◌, ◌<◌, ◌≤◌, true, length, take};
+ghost use Rattle.encoding_runs.specs.Repairs.{IsRepairedWith};
+
+use crate::door::REFUSED;
+use encoding_runs::repair::{Sink, repair_slice};
+
+/// How many bytes were written, and how many broken parts became U+FFFD.
+#[repr(C)]
+#[derive(Clone, Copy)]
+pub struct EncodingRepaired {
+    pub written: usize,
+    pub replaced: u64,
+}
+
+/// A buffer that is filled from its front on.
+#[derive(Drop)]
+struct Buffer<'a> {
+    room: &'a mut [u8],
+    written: usize,
+    failed: bool,
+    ghost within: { written ≤ length room.now },
+    ghost full: { failed ≡ true → written ≡ length room.now },
+}
+
+impl<'a> Sink for Buffer<'a> {
+    ghost use Rattle.encoding_c.specs.Buffers.{buffer_contents, buffer_failed, buffer_stream};
+
+    ghost contents = { λ b. buffer_contents b };
+
+    ghost has_failed = { λ b. buffer_failed b };
+
+    ghost stream = { λ b. buffer_stream b };
+
+    /// Whether a write found no room.
+    fn failed(&self) -> bool {
+        self.failed
+    }
+
+    /// Takes as many of the bytes as there is room for.
+    fn write(&mut self, bytes: &[u8]) -> Option<usize> {
+        let free = self.room.len() - self.written;
+        let count = free.min(bytes.len());
+        if count == 0 {
+            self.failed = true;
+            return None;
+        }
+        let end = self.written + count;
+        self.room[self.written..end].copy_from_slice(&bytes[..count]);
+        self.written = end;
+        Some(count)
+    }
+}
+
+/// Writes `src` with U+FFFD for each broken part, and returns how many bytes that are and how many parts were broken.
+/// `REFUSED` bytes where `dst` is less than three times as long as `src`.
+#[unsafe(no_mangle)]
+pub extern "C" fn encoding_repair_slice(src: &[u8], dst: &mut [u8]) -> EncodingRepaired
+    ensures text { 3 * length src.now ≤ length dst.old → IsRepairedWith src.now (take result.written dst.new) result.replaced }
+    ensures within { 3 * length src.now ≤ length dst.old → result.written ≤ length dst.new }
+    ensures refused { length dst.old < 3 * length src.now
+        → (result.written ≡ usize.MAX) × (result.replaced ≡ 0) × (dst.new ≡ dst.old) }
+{
+    if dst.len() / 3 < src.len() {
+        return EncodingRepaired {
+            written: REFUSED,
+            replaced: 0,
+        };
+    }
+    let mut buffer = Buffer {
+        room: dst,
+        written: 0,
+        failed: false,
+    };
+    match repair_slice(src, &mut buffer) {
+        Ok(replaced) => EncodingRepaired {
+            written: buffer.written,
+            replaced,
+        },
+        Err(_) => unreachable!(),
+    }
+}

@@ -1,0 +1,103 @@
+//! Conversions into the front of a text, which is well-formed before the call and after it. `REFUSED` where it isn't
+//! before, or where it is too short.
+
+ghost use Rattle.std.specs.Prelude.{◌≡◌, ◌*◌, ◌<◌, ◌≤◌, ◌↔◌, [], ◌∷◌, length, take, encode_utf8, encode_utf8_all, IsTrue, IsUtf8};
+ghost use Rattle.encoding_text.specs.Clearing.{WritesAndClears};
+ghost use Rattle.encoding_text.specs.Fronts.{FitsLongest};
+ghost use Rattle.encoding_text.specs.Utf16.{IsUtf8OfLongestFront, IsUtf8OfUnits};
+
+use crate::door::{EncodingCounts, REFUSED};
+use encoding_text::mem;
+use encoding_text::utf_8::utf8_valid_up_to;
+
+/// Whether the bytes are well-formed.
+fn is_text(bytes: &[u8]) -> bool
+    ensures { IsTrue result ↔ IsUtf8 bytes.now }
+{
+    utf8_valid_up_to(bytes) == bytes.len()
+}
+
+/// Converts the first characters of `src` from UTF-16 to UTF-8, as many as fit. Then the continuation bytes directly
+/// behind what is written become zero, and behind those `dst` is as before. `REFUSED` twice where `dst` is no text.
+#[unsafe(no_mangle)]
+pub extern "C" fn encoding_mem_convert_utf16_to_str_partial(
+    src: &[u16],
+    dst: &mut [u8],
+) -> EncodingCounts
+    ensures longest { IsUtf8 dst.old
+        → IsUtf8OfLongestFront src.now (length dst.old) result.read (take result.written dst.new) }
+    ensures rest { IsUtf8 dst.old → WritesAndClears 0 dst.old dst.new result.written (take result.written dst.new) }
+    ensures text { IsUtf8 dst.old → IsUtf8 dst.new }
+    ensures refused { ¬ (IsUtf8 dst.old)
+        → (result.read ≡ usize.MAX) × (result.written ≡ usize.MAX) × (dst.new ≡ dst.old) }
+{
+    if !is_text(dst) {
+        return EncodingCounts {
+            read: REFUSED,
+            written: REFUSED,
+        };
+    }
+    let (read, written) = mem::convert_utf16_to_str_partial(src, dst);
+    EncodingCounts { read, written }
+}
+
+/// Converts all of `src` from UTF-16 to UTF-8, and returns how many bytes were written. Then the continuation bytes
+/// directly behind become zero, and behind those `dst` is as before. `REFUSED` where `dst` is no text, or less than three
+/// times as long as `src`.
+#[unsafe(no_mangle)]
+pub extern "C" fn encoding_mem_convert_utf16_to_str(src: &[u16], dst: &mut [u8]) -> usize
+    ensures all { IsUtf8 dst.old → 3 * length src.now ≤ length dst.old → IsUtf8OfUnits src.now (take result dst.new) }
+    ensures rest { IsUtf8 dst.old → 3 * length src.now ≤ length dst.old
+        → WritesAndClears 0 dst.old dst.new result (take result dst.new) }
+    ensures text { IsUtf8 dst.old → IsUtf8 dst.new }
+    ensures too_short { length dst.old < 3 * length src.now → (result ≡ usize.MAX) × (dst.new ≡ dst.old) }
+    ensures other { ¬ (IsUtf8 dst.old) → (result ≡ usize.MAX) × (dst.new ≡ dst.old) }
+{
+    if dst.len() / 3 < src.len() || !is_text(dst) {
+        return REFUSED;
+    }
+    mem::convert_utf16_to_str(src, dst)
+}
+
+/// Writes the UTF-8 of the longest front of Latin1 whose UTF-8 fits. Then the sixteen bytes behind what is written, or
+/// all where there are fewer, and the continuation bytes directly behind those become zero. Behind all these `dst` is as
+/// before. `REFUSED` twice where `dst` is no text.
+#[unsafe(no_mangle)]
+pub extern "C" fn encoding_mem_convert_latin1_to_str_partial(
+    src: &[u8],
+    dst: &mut [u8],
+) -> EncodingCounts
+    ensures front { IsUtf8 dst.old → FitsLongest (λ b. b ∷ []) encode_utf8 src.now (length dst.old) result.read
+        (encode_utf8_all (take result.read src.now)) }
+    ensures written { IsUtf8 dst.old
+        → WritesAndClears 16 dst.old dst.new result.written (encode_utf8_all (take result.read src.now)) }
+    ensures text { IsUtf8 dst.old → IsUtf8 dst.new }
+    ensures refused { ¬ (IsUtf8 dst.old)
+        → (result.read ≡ usize.MAX) × (result.written ≡ usize.MAX) × (dst.new ≡ dst.old) }
+{
+    if !is_text(dst) {
+        return EncodingCounts {
+            read: REFUSED,
+            written: REFUSED,
+        };
+    }
+    let (read, written) = mem::convert_latin1_to_str_partial(src, dst);
+    EncodingCounts { read, written }
+}
+
+/// Writes the UTF-8 of each byte as a character, and returns its length. Then the sixteen bytes behind it, or all where
+/// there are fewer, and the continuation bytes directly behind those become zero. Behind all these `dst` is as before.
+/// `REFUSED` where `dst` is no text, or less than twice as long as `src`.
+#[unsafe(no_mangle)]
+pub extern "C" fn encoding_mem_convert_latin1_to_str(src: &[u8], dst: &mut [u8]) -> usize
+    ensures written { IsUtf8 dst.old → 2 * length src.now ≤ length dst.old
+        → WritesAndClears 16 dst.old dst.new result (encode_utf8_all src.now) }
+    ensures text { IsUtf8 dst.old → IsUtf8 dst.new }
+    ensures too_short { length dst.old < 2 * length src.now → (result ≡ usize.MAX) × (dst.new ≡ dst.old) }
+    ensures other { ¬ (IsUtf8 dst.old) → (result ≡ usize.MAX) × (dst.new ≡ dst.old) }
+{
+    if dst.len() / 2 < src.len() || !is_text(dst) {
+        return REFUSED;
+    }
+    mem::convert_latin1_to_str(src, dst)
+}

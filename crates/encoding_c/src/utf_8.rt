@@ -1,0 +1,70 @@
+//! UTF-8: where it ends, its conversion to UTF-16, and the two halves of the conversion from UTF-16.
+
+ghost use Rattle.std.specs.Prelude.{◌≡◌, ◌+◌, ◌<◌, ◌≤◌, ◌⊎◌, take, length, IsUtf8};
+ghost use Rattle.std.specs.Char.Escape.{encode_utf16};
+ghost use Rattle.encoding_text.specs.Fronts.{IsLongestFront, WritesFront};
+ghost use Rattle.encoding_text.specs.Converting.{ConvertsLongest};
+ghost use Rattle.encoding_text.specs.Utf16.{IsUtf8OfFront, IsUtf8OfLongestFront};
+
+use crate::door::{EncodingCounts, REFUSED};
+use encoding_text::utf_8;
+
+/// The length in bytes of the longest front that is well-formed UTF-8.
+#[unsafe(no_mangle)]
+pub extern "C" fn encoding_utf8_valid_up_to(src: &[u8]) -> usize
+    ensures { IsLongestFront IsUtf8 src.now result }
+{
+    utf_8::utf8_valid_up_to(src)
+}
+
+/// Of the characters of the longest well-formed front, reads and writes as UTF-16 the most that fit. Behind what is
+/// written `dst` is as before.
+#[unsafe(no_mangle)]
+pub extern "C" fn encoding_convert_utf8_to_utf16_up_to_invalid(
+    src: &[u8],
+    dst: &mut [u16],
+) -> EncodingCounts
+    ensures { ConvertsLongest encode_utf16 src.now dst.old dst.new result.read result.written }
+{
+    let (read, written) = utf_8::convert_utf8_to_utf16_up_to_invalid(src, dst);
+    EncodingCounts { read, written }
+}
+
+/// The UTF-8 of a front of whole characters: all is read, or at most three bytes are free. Behind what is written `dst`
+/// is as before.
+#[unsafe(no_mangle)]
+pub extern "C" fn encoding_convert_utf16_to_utf8_partial_inner(
+    src: &[u16],
+    dst: &mut [u8],
+) -> EncodingCounts
+    ensures front { IsUtf8OfFront src.now result.read (take result.written dst.new) }
+    ensures rest { WritesFront dst.old dst.new result.written (take result.written dst.new) }
+    ensures filled { (result.read ≡ length src.now) ⊎ (length dst.old < result.written + 4) }
+{
+    let (read, written) = utf_8::convert_utf16_to_utf8_partial_inner(src, dst);
+    EncodingCounts { read, written }
+}
+
+/// The most first characters that fit into at most three bytes. Behind what is written `dst` is as before. `REFUSED`
+/// twice where `src` is empty or `dst` longer than three bytes.
+#[unsafe(no_mangle)]
+pub extern "C" fn encoding_convert_utf16_to_utf8_partial_tail(
+    src: &[u16],
+    dst: &mut [u8],
+) -> EncodingCounts
+    ensures longest { 0 < length src.now → length dst.old < 4
+        → IsUtf8OfLongestFront src.now (length dst.old) result.read (take result.written dst.new) }
+    ensures rest { 0 < length src.now → length dst.old < 4
+        → WritesFront dst.old dst.new result.written (take result.written dst.new) }
+    ensures refused { (length src.now ≡ 0) ⊎ (4 ≤ length dst.old)
+        → (result.read ≡ usize.MAX) × (result.written ≡ usize.MAX) × (dst.new ≡ dst.old) }
+{
+    if src.is_empty() || dst.len() > 3 {
+        return EncodingCounts {
+            read: REFUSED,
+            written: REFUSED,
+        };
+    }
+    let (read, written) = utf_8::convert_utf16_to_utf8_partial_tail(src, dst);
+    EncodingCounts { read, written }
+}
