@@ -14,7 +14,7 @@ SANITIZE = -g -fsanitize=address,undefined -fno-sanitize-recover=all
 SOURCES = $(wildcard crates/encoding_text/src/*.rt crates/encoding_text/src/*/*.rt crates/encoding_runs/src/*.rt \
     crates/encoding_runs/src/*/*.rt crates/encoding_c/src/*.rt crates/utf8_repair/src/*.rt crates/utf8_repair/src/*/*.rt)
 
-all: build/libencoding_text.a build/utf8_repair build/encoding_text.pc
+all: build/libencoding_text.a build/utf8_repair
 
 build:
 	mkdir -p build
@@ -27,16 +27,14 @@ build/utf8_repair: $(SOURCES) | build
 	cd crates/utf8_repair && rt run < /dev/null
 	cp crates/utf8_repair/out/utf8_repair $@
 
-build/encoding_text.pc: checks/encoding_text.pc.in Makefile | build
-	sed -e 's|@PREFIX@|$(PREFIX)|' -e 's|@VERSION@|$(VERSION)|' $< > $@
-
 check: all
 	CC='$(CC)' CXX='$(CXX)' STRICT='$(STRICT)' SANITIZE='$(SANITIZE)' checks/run
 
 install: all
 	install -Dm644 build/libencoding_text.a $(DESTDIR)$(PREFIX)/lib/libencoding_text.a
 	install -Dm644 include/encoding_text.h $(DESTDIR)$(PREFIX)/include/encoding_text.h
-	install -Dm644 build/encoding_text.pc $(DESTDIR)$(PREFIX)/lib/pkgconfig/encoding_text.pc
+	install -d $(DESTDIR)$(PREFIX)/lib/pkgconfig
+	sed -e 's|@PREFIX@|$(PREFIX)|' -e 's|@VERSION@|$(VERSION)|' checks/encoding_text.pc.in > $(DESTDIR)$(PREFIX)/lib/pkgconfig/encoding_text.pc
 	install -Dm755 build/utf8_repair $(DESTDIR)$(PREFIX)/bin/utf8_repair
 	install -Dm644 checks/utf8_repair.1 $(DESTDIR)$(PREFIX)/share/man/man1/utf8_repair.1
 
