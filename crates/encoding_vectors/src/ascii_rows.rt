@@ -14,62 +14,73 @@ fn masks_each_byte(rt: HostRuntime) {
     assert!(rt; ASCII_MASK == 0x8080_8080_8080_8080);
 }
 
+/// Whether fronts end before the first byte from 0x80 on.
+fn fronts_end() -> bool {
+    ascii_valid_up_to(b"") == 0
+        && ascii_valid_up_to(b"ab") == 2
+        && ascii_valid_up_to(&[0x61, 0x80]) == 1
+        && ascii_valid_up_to(&[0xFF, 0x61]) == 0
+        && validate_ascii(b"ab") == None
+        && validate_ascii(&[0x61, 0x80, 0xFF]) == Some((0x80, 1))
+}
+
 #[test]
 fn finds_the_front(rt: HostRuntime) {
-    assert!(rt; ascii_valid_up_to(b"") == 0);
-    assert!(rt; ascii_valid_up_to(b"ab") == 2);
-    assert!(rt; ascii_valid_up_to(&[0x61, 0x80]) == 1);
-    assert!(rt; ascii_valid_up_to(&[0xFF, 0x61]) == 0);
-    assert!(rt; validate_ascii(b"ab") == None);
-    assert!(rt; validate_ascii(&[0x61, 0x80, 0xFF]) == Some((0x80, 1)));
+    assert!(rt; fronts_end());
+}
+
+/// Whether fronts of ISO-2022-JP end also before an escape byte and the two shift bytes.
+fn iso_2022_jp_fronts_end() -> bool {
+    iso_2022_jp_ascii_valid_up_to(&[0x61, 0x1B, 0x62]) == 1
+        && iso_2022_jp_ascii_valid_up_to(&[0x61, 0x62]) == 2
+        && iso_2022_jp_ascii_valid_up_to(&[0x0E]) == 0
+        && iso_2022_jp_ascii_valid_up_to(&[0x61, 0x0F]) == 1
+        && iso_2022_jp_ascii_valid_up_to(&[0x80]) == 0
 }
 
 #[test]
 fn finds_the_front_of_iso_2022_jp(rt: HostRuntime) {
-    assert!(rt; iso_2022_jp_ascii_valid_up_to(&[0x61, 0x1B, 0x62]) == 1);
-    assert!(rt; iso_2022_jp_ascii_valid_up_to(&[0x61, 0x62]) == 2);
-    assert!(rt; iso_2022_jp_ascii_valid_up_to(&[0x0E]) == 0);
-    assert!(rt; iso_2022_jp_ascii_valid_up_to(&[0x61, 0x0F]) == 1);
-    assert!(rt; iso_2022_jp_ascii_valid_up_to(&[0x80]) == 0);
+    assert!(rt; iso_2022_jp_fronts_end());
+}
+
+/// Whether each copy stops at the first unit that isn't ASCII and leaves what is behind.
+fn fronts_are_copied() -> bool {
+    let mut bytes = [0; 3];
+    let mut units = [0; 3];
+    let mut narrow = [0; 3];
+    copy_ascii_to_ascii(&[0x61, 0x62, 0xE4], &mut bytes) == 2
+        && bytes == [0x61, 0x62, 0]
+        && copy_ascii_to_basic_latin(&[0x61, 0x62, 0xE4], &mut units) == 2
+        && units == [0x61, 0x62, 0]
+        && copy_basic_latin_to_ascii(&[0x61, 0x0162, 0x63], &mut narrow) == 1
+        && narrow == [0x61, 0, 0]
 }
 
 #[test]
 fn copies_the_front(rt: HostRuntime) {
-    let mut bytes = [0; 3];
-    let length = copy_ascii_to_ascii(&[0x61, 0x62, 0xE4], &mut bytes);
-    assert!(rt; length == 2 && bytes == [0x61, 0x62, 0]);
+    assert!(rt; fronts_are_copied());
 }
 
-#[test]
-fn copies_the_front_to_units(rt: HostRuntime) {
-    let mut units = [0; 3];
-    let length = copy_ascii_to_basic_latin(&[0x61, 0x62, 0xE4], &mut units);
-    assert!(rt; length == 2 && units == [0x61, 0x62, 0]);
+/// Whether the copies go over the shorter length of the two.
+fn shorter_lengths_are_copied() -> bool {
+    let mut bytes = [0; 2];
+    let mut units = [0; 4];
+    ascii_to_ascii(&[0x61, 0x62, 0xE4], &mut bytes) == None
+        && bytes == [0x61, 0x62]
+        && ascii_to_basic_latin(&[0x61, 0x62], &mut units) == None
+        && units == [0x61, 0x62, 0, 0]
 }
 
-#[test]
-fn copies_the_front_of_units(rt: HostRuntime) {
-    let mut bytes = [0; 3];
-    let length = copy_basic_latin_to_ascii(&[0x61, 0x0162, 0x63], &mut bytes);
-    assert!(rt; length == 1 && bytes == [0x61, 0, 0]);
-}
-
-/// Over the shorter length of the two.
 #[test]
 fn copies_what_there_is_room_for(rt: HostRuntime) {
-    let mut bytes = [0; 2];
-    let other = ascii_to_ascii(&[0x61, 0x62, 0xE4], &mut bytes);
-    assert!(rt; other == None && bytes == [0x61, 0x62]);
-    let mut units = [0; 4];
-    let other = ascii_to_basic_latin(&[0x61, 0x62], &mut units);
-    assert!(rt; other == None && units == [0x61, 0x62, 0, 0]);
+    assert!(rt; shorter_lengths_are_copied());
 }
 
 /// 0x40, 0x41 and so on, with 0xAA at a place.
 fn letters_with_other_at(i: usize) -> [u8; 32] {
     let mut src = [0u8; 32];
-    for (j, byte) in src.iter_mut().enumerate() {
-        *byte = if i == j { 0xAA } else { 0x40 + (j & 31) as u8 };
+    for j in 0..32 {
+        src[j] = if i == j { 0xAA } else { 0x40 + j as u8 };
     }
     src
 }
@@ -112,22 +123,17 @@ fn stops_narrowing_at(i: usize) -> bool {
 #[test]
 fn scans_stop_at_each_place(rt: HostRuntime) {
     for i in 0..32 {
-        assert!(rt; stops_at(i), "{i}");
-        assert!(rt; stops_widening_at(i), "{i}");
-        assert!(rt; stops_narrowing_at(i), "{i}");
+        let stop = stops_at(i) && stops_widening_at(i) && stops_narrowing_at(i);
+        assert!(rt; stop, "{i}");
     }
 }
 
-/// The units from i to 0x7F, of which those before j become 0xA0.
+/// Whether the checks tell the units from i to 0x7F, of which those before j become 0xA0, from ASCII.
 fn are_told_apart(i: usize, j: usize) -> bool {
     let mut bytes = [0u8; 128];
     let mut units = [0u16; 128];
     for at in 0..128 {
-        let byte = if i <= at && at < j {
-            0xA0
-        } else {
-            (at & 127) as u8
-        };
+        let byte = if i <= at && at < j { 0xA0 } else { at as u8 };
         bytes[at] = byte;
         units[at] = u16::from(byte);
     }
@@ -138,8 +144,7 @@ fn are_told_apart(i: usize, j: usize) -> bool {
 #[test]
 fn checks_at_all_lengths(rt: HostRuntime) {
     for i in 0..128 {
-        for j in i..129 {
-            assert!(rt; are_told_apart(i, j), "{i}, {j}");
-        }
+        let apart = (i..129usize).all(|j| are_told_apart(i, j));
+        assert!(rt; apart, "{i}");
     }
 }

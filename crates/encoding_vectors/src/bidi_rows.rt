@@ -71,24 +71,27 @@ fn text_is(alloc: Global, text: &str, bidi: bool, class: Latin1Bidi) -> Result<b
     )
 }
 
+/// Returns the class of a text of ASCII and the character.
+fn class_of(c: char, bidi: bool) -> Latin1Bidi {
+    if bidi {
+        Latin1Bidi::Bidi
+    } else if u32::from(c) <= 0xFF {
+        Latin1Bidi::Latin1
+    } else {
+        Latin1Bidi::LeftToRight
+    }
+}
+
 /// Whether the checks of the character, and of texts in which it stands between letters, say so.
 fn character_is(alloc: Global, c: char, bidi: bool) -> Result<bool, Fail> {
     let mut bytes = [0; 4];
     let character = c.encode_utf8(&mut bytes);
+    let mut holds = is_char_bidi(c) == bidi;
     for letters in [0, 1, 7, 8, 15, 16, 17, 33] {
         let text = between_letters(alloc, letters, character)?;
-        let class = if bidi {
-            Latin1Bidi::Bidi
-        } else if u32::from(c) <= 0xFF {
-            Latin1Bidi::Latin1
-        } else {
-            Latin1Bidi::LeftToRight
-        };
-        if !text_is(alloc, &text, bidi, class)? {
-            return Ok(false);
-        }
+        holds = holds && text_is(alloc, &text, bidi, class_of(c, bidi))?;
     }
-    Ok(is_char_bidi(c) == bidi)
+    Ok(holds)
 }
 
 #[test]
@@ -134,51 +137,64 @@ fn units_between_letters(rt: HostRuntime) {
 fn one_of_several(rt: HostRuntime) -> Result<(), Fail> {
     for letters in 0..40 {
         let text = between_letters(rt.alloc(), letters, "\u{590}\u{3041}")?;
-        assert!(rt;
-            text_is(rt.alloc(), &text, true, Latin1Bidi::Bidi)?,
-            "{letters}"
-        );
+        let holds = text_is(rt.alloc(), &text, true, Latin1Bidi::Bidi)?;
+        assert!(rt; holds, "{letters}");
     }
     Ok(())
 }
 
+/// Whether a high surrogate decides for its pair, and alone.
+fn high_surrogates_decide() -> bool {
+    is_utf16_bidi(&[0xD802, 0xDC00])
+        && !is_utf16_bidi(&[0xD801, 0xDC00])
+        && is_utf16_bidi(&[0xD802])
+        && !is_utf16_bidi(&[0xD801])
+}
+
 #[test]
 fn halves_of_pairs(rt: HostRuntime) {
-    assert!(rt; is_utf16_bidi(&[0xD802, 0xDC00]));
-    assert!(rt; !is_utf16_bidi(&[0xD801, 0xDC00]));
-    assert!(rt; is_utf16_bidi(&[0xD802]));
-    assert!(rt; !is_utf16_bidi(&[0xD801]));
+    assert!(rt; high_surrogates_decide());
+}
+
+/// Whether the bytes are right-to-left and so not Latin1.
+fn is_ill_formed(bytes: &[u8]) -> bool {
+    is_utf8_bidi(bytes) && check_utf8_for_latin1_and_bidi(bytes) == Latin1Bidi::Bidi
 }
 
 #[test]
 fn ill_formed_bytes_are_right_to_left(rt: HostRuntime) {
-    for bytes in [
+    let bytes = [
         [0xC3, 0x61],
         [0x61, 0xC3],
         [0xED, 0xA0],
         [0x80, 0x61],
         [0x61, 0xFF],
-    ] {
-        assert!(rt; is_utf8_bidi(&bytes), "{bytes:?}");
-        assert!(rt;
-            check_utf8_for_latin1_and_bidi(&bytes) == Latin1Bidi::Bidi,
-            "{bytes:?}"
-        );
-    }
-    assert!(rt; !is_utf8_bidi(&[]));
+    ];
+    let holds = bytes.iter().all(|two| is_ill_formed(two)) && !is_utf8_bidi(&[]);
+    assert!(rt; holds);
+}
+
+/// Whether bytes are of their classes.
+fn bytes_are_told_apart() -> bool {
+    check_utf8_for_latin1_and_bidi(&[0xC3]) == Latin1Bidi::Bidi
+        && check_utf8_for_latin1_and_bidi(&[0xC4, 0x80]) == Latin1Bidi::LeftToRight
+        && check_utf8_for_latin1_and_bidi(&[0xC3, 0xBF]) == Latin1Bidi::Latin1
+        && check_utf8_for_latin1_and_bidi(&[0xE2, 0x80, 0x8F]) == Latin1Bidi::Bidi
+        && check_utf8_for_latin1_and_bidi(&[]) == Latin1Bidi::Latin1
+}
+
+/// Whether code units are of their classes.
+fn units_are_told_apart() -> bool {
+    check_utf16_for_latin1_and_bidi(&[0x00FF]) == Latin1Bidi::Latin1
+        && check_utf16_for_latin1_and_bidi(&[0x0100]) == Latin1Bidi::LeftToRight
+        && check_utf16_for_latin1_and_bidi(&[0x05D0]) == Latin1Bidi::Bidi
+        && check_utf16_for_latin1_and_bidi(&[0xD800]) == Latin1Bidi::LeftToRight
 }
 
 #[test]
 fn classes(rt: HostRuntime) {
-    assert!(rt; check_utf8_for_latin1_and_bidi(&[0xC3]) == Latin1Bidi::Bidi);
-    assert!(rt; check_utf8_for_latin1_and_bidi(&[0xC4, 0x80]) == Latin1Bidi::LeftToRight);
-    assert!(rt; check_utf8_for_latin1_and_bidi(&[0xC3, 0xBF]) == Latin1Bidi::Latin1);
-    assert!(rt; check_utf8_for_latin1_and_bidi(&[0xE2, 0x80, 0x8F]) == Latin1Bidi::Bidi);
-    assert!(rt; check_utf8_for_latin1_and_bidi(&[]) == Latin1Bidi::Latin1);
-    assert!(rt; check_utf16_for_latin1_and_bidi(&[0x00FF]) == Latin1Bidi::Latin1);
-    assert!(rt; check_utf16_for_latin1_and_bidi(&[0x0100]) == Latin1Bidi::LeftToRight);
-    assert!(rt; check_utf16_for_latin1_and_bidi(&[0x05D0]) == Latin1Bidi::Bidi);
-    assert!(rt; check_utf16_for_latin1_and_bidi(&[0xD800]) == Latin1Bidi::LeftToRight);
+    assert!(rt; bytes_are_told_apart());
+    assert!(rt; units_are_told_apart());
 }
 
 /// Whether the three checks of the units, and of their text, say so.
@@ -194,25 +210,28 @@ fn units_are(alloc: Global, units: &[u16], class: Latin1Bidi) -> Result<bool, Fa
     )
 }
 
-/// The units from i to 0xFF, of which then the first one, two and so on become 0x100, 0x101 and so on.
+/// Whether the units from i to 0xFF are Latin1, and no more once the first one, two and so on are 0x100, 0x101 and so
+/// on.
+fn classes_change(alloc: Global, i: usize) -> Result<bool, Fail> {
+    let mut units = [0u16; 256];
+    for j in 0..256 {
+        units[j] = j as u16;
+    }
+    let Some(some) = units.get_mut(i..) else {
+        return Ok(false);
+    };
+    let mut holds = units_are(alloc, some, Latin1Bidi::Latin1)?;
+    for j in 0..some.len() {
+        some[j] = 0x100 + (j & 0xFF) as u16;
+        holds = holds && units_are(alloc, some, Latin1Bidi::LeftToRight)?;
+    }
+    Ok(holds)
+}
+
 #[test]
 fn classes_at_all_lengths(rt: HostRuntime) -> Result<(), Fail> {
     for i in 0..256 {
-        let mut units = [0u16; 256];
-        for j in 0..256 {
-            units[j] = j as u16;
-        }
-        assert!(rt;
-            units_are(rt.alloc(), &units[i..], Latin1Bidi::Latin1)?,
-            "{i}"
-        );
-        for j in i..256 {
-            units[j] = 0x100 + (j - i) as u16;
-            assert!(rt;
-                units_are(rt.alloc(), &units[i..], Latin1Bidi::LeftToRight)?,
-                "{i} {j}"
-            );
-        }
+        assert!(rt; classes_change(rt.alloc(), i)?, "{i}");
     }
     Ok(())
 }

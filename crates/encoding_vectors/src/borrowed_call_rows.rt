@@ -1,7 +1,7 @@
 //! The decoder's call without a destination: single calls, the three forms mixed, and the vectors, whole and cut.
 
 use crate::decoder_rows;
-use crate::decoder_vectors::{Delivered, delivered_utf8, scalar_of, vectors};
+use crate::decoder_vectors::{Delivered, Vector, delivered_utf8, scalar_of, vectors};
 use crate::texts::{bytes_of, field, number_of};
 use encoding_text::decoder::{Piece, Utf8Decoder};
 use std::alloc::{AllocError, Global};
@@ -162,15 +162,20 @@ fn pieces_of(alloc: Global, src: &[u8], most: usize) -> Result<Option<Delivered<
     Ok(None)
 }
 
-/// The pieces of each vector are its parts, whole and cut after each byte, each two and each three.
+/// Whether the pieces of a vector are its parts, whole and cut after each byte, each two and each three.
+fn comes_in_pieces(alloc: Global, vector: &Vector) -> Result<bool, AllocError> {
+    let want = Some(delivered_utf8(alloc, vector)?);
+    let mut holds = true;
+    for most in [1, 2, 3, 16] {
+        holds = holds && pieces_of(alloc, &vector.bytes, most)? == want;
+    }
+    Ok(holds)
+}
+
 #[test]
 fn vectors_come_in_pieces(rt: HostRuntime) -> Result<(), Fail> {
     for vector in &vectors(rt.alloc())? {
-        let want = Some(delivered_utf8(rt.alloc(), vector)?);
-        for most in [1, 2, 3, 16] {
-            let got = pieces_of(rt.alloc(), &vector.bytes, most)?;
-            assert!(rt; got == want, "{}", vector.row);
-        }
+        assert!(rt; comes_in_pieces(rt.alloc(), vector)?, "{}", vector.row);
     }
     Ok(())
 }

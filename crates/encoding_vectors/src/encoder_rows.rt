@@ -81,8 +81,8 @@ fn leaves_the_last(source: &Source) -> bool {
 /// Into 64 bytes that hold 0, 1, 2 and so on, which those behind keep.
 fn keeps_what_is_behind(source: &Source) -> bool {
     let mut dst = [0; 64];
-    for (i, place) in dst.iter_mut().enumerate() {
-        *place = (i & 0xFF) as u8;
+    for i in 0..64 {
+        dst[i] = i as u8;
     }
     let (result, read, written) = Utf8Encoder::new_inner().encode_from_utf16_raw(
         &source.units,
@@ -92,11 +92,7 @@ fn keeps_what_is_behind(source: &Source) -> bool {
     result == EncoderResult::InputEmpty
         && read == source.units.len()
         && dst.get(..written) == Some(source.bytes.as_slice())
-        && dst
-            .iter()
-            .enumerate()
-            .skip(written)
-            .all(|(i, place)| usize::from(*place) == i)
+        && (written..64).all(|i| dst.get(i) == Some(&((i & 63) as u8)))
 }
 
 #[test]
@@ -110,24 +106,32 @@ fn writes_what_fits(rt: HostRuntime) -> Result<(), Fail> {
     Ok(())
 }
 
-/// A query's room is enough for its units.
+/// Whether a query's room is enough for its units.
+fn three_bytes_are_enough() -> bool {
+    let mut encoder = Utf8Encoder::new_inner();
+    let mut dst = [0; 12];
+    let units = [0x2C9F, 0x2CA9, 0x2CA3, 0x2C9F];
+    encoder.max_buffer_length_from_utf16_without_replacement(4) == Some(12)
+        && encoder.encode_from_utf16_raw(&units, &mut dst, true)
+            == (EncoderResult::InputEmpty, 4, 12)
+        && dst
+            == [
+                0xE2, 0xB2, 0x9F, 0xE2, 0xB2, 0xA9, 0xE2, 0xB2, 0xA3, 0xE2, 0xB2, 0x9F,
+            ]
+}
+
 #[test]
 fn three_bytes_a_unit(rt: HostRuntime) {
-    let mut encoder = Utf8Encoder::new_inner();
-    assert!(rt; encoder.max_buffer_length_from_utf16_without_replacement(4) == Some(12));
-    let mut dst = [0; 12];
-    let answer = encoder.encode_from_utf16_raw(&[0x2C9F, 0x2CA9, 0x2CA3, 0x2C9F], &mut dst, true);
-    assert!(rt; answer == (EncoderResult::InputEmpty, 4, 12));
-    let bytes = [
-        0xE2, 0xB2, 0x9F, 0xE2, 0xB2, 0xA9, 0xE2, 0xB2, 0xA3, 0xE2, 0xB2, 0x9F,
-    ];
-    assert!(rt; dst == bytes);
+    assert!(rt; three_bytes_are_enough());
+}
+
+/// Whether an empty text is read whatever the mark.
+fn reads_no_text(last: bool) -> bool {
+    let answer = Utf8Encoder::new_inner().encode_from_utf8_raw("", &mut [], last);
+    answer == (EncoderResult::InputEmpty, 0, 0)
 }
 
 #[test]
 fn empty_text(rt: HostRuntime) {
-    for last in [false, true] {
-        let answer = Utf8Encoder::new_inner().encode_from_utf8_raw("", &mut [], last);
-        assert!(rt; answer == (EncoderResult::InputEmpty, 0, 0), "{last}");
-    }
+    assert!(rt; reads_no_text(false) && reads_no_text(true));
 }

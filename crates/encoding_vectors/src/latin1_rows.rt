@@ -43,31 +43,40 @@ fn finds_the_front(rt: HostRuntime) -> Result<(), Fail> {
     Ok(())
 }
 
+/// Whether only whole characters are written.
+fn what_fits_is_converted() -> bool {
+    let mut two = [0x00, 0x02];
+    let mut one = [0x71];
+    convert_latin1_to_utf8_partial(&[0x61, 0xFF], &mut two) == (1, 1)
+        && two == [0x61, 0x02]
+        && convert_latin1_to_utf8_partial(&[0xE4], &mut one) == (0, 0)
+        && one == [0x71]
+}
+
 #[test]
 fn converts_what_fits(rt: HostRuntime) {
-    let mut two = [0x00, 0x02];
-    let answer = convert_latin1_to_utf8_partial(&[0x61, 0xFF], &mut two);
-    assert!(rt; answer == (1, 1) && two == [0x61, 0x02]);
-    let mut one = [0x71];
-    let answer = convert_latin1_to_utf8_partial(&[0xE4], &mut one);
-    assert!(rt; answer == (0, 0) && one == [0x71]);
+    assert!(rt; what_fits_is_converted());
+}
+
+/// Whether the low eight bits of each code unit are written, and nothing behind them.
+fn low_bits_are_kept() -> bool {
+    let mut three = [0x71; 3];
+    convert_utf16_to_latin1_lossy(&[0x0100, 0x01E4], &mut three);
+    let mut sixteen = [0x71; 16];
+    convert_utf16_to_latin1_lossy(&[0x0100], &mut sixteen);
+    three == [0x00, 0xE4, 0x71] && are_written(&[0x00], &sixteen, 1)
 }
 
 #[test]
 fn keeps_the_low_bits_of_units(rt: HostRuntime) {
-    let mut three = [0x71; 3];
-    convert_utf16_to_latin1_lossy(&[0x0100, 0x01E4], &mut three);
-    assert!(rt; three == [0x00, 0xE4, 0x71]);
-    let mut sixteen = [0x71; 16];
-    convert_utf16_to_latin1_lossy(&[0x0100], &mut sixteen);
-    assert!(rt; are_written(&[0x00], &sixteen, 1));
+    assert!(rt; low_bits_are_kept());
 }
 
 /// Returns the bytes from 0x00 to 0xFF.
 fn latin1() -> [u8; 256] {
     let mut bytes = [0; 256];
-    for (c, byte) in bytes.iter_mut().enumerate() {
-        *byte = (c & 0xFF) as u8;
+    for c in 0..256 {
+        bytes[c] = c as u8;
     }
     bytes
 }

@@ -85,18 +85,31 @@ fn repairs_a_long_slice(rt: HostRuntime) -> Result<(), Fail> {
     Ok(())
 }
 
+/// Whether a watched stream takes a piece in one call.
+fn takes_at_once(piece: &[u8]) -> bool {
+    let mut writer = PatternOutput::that_takes(usize::MAX);
+    let mut sink = Watch::new(&mut writer);
+    let taken = if piece.is_empty() {
+        None
+    } else {
+        sink.write(piece)
+    };
+    taken == Some(piece.len()) && !sink.failed() && writer.same && writer.taken == piece.len()
+}
+
+/// Whether a watched stream gives a piece in one call.
+fn gives_at_once(buffer: &mut [u8]) -> bool {
+    let mut reader = PatternInput::of(LENGTH, None);
+    let mut source = Watch::new(&mut reader);
+    source.read(buffer) == Some(buffer.len()) && !source.failed() && !source.ended()
+}
+
 /// A piece of 100,000 bytes goes through a watched stream in one call.
 #[test]
 fn watches_a_large_piece(rt: HostRuntime) -> Result<(), Fail> {
-    let bytes = bytes_of(rt.alloc(), &REPAIRED, 100_000)?;
-    let mut writer = PatternOutput::that_takes(usize::MAX);
-    let mut sink = Watch::new(&mut writer);
-    assert!(rt; !bytes.is_empty() && sink.write(&bytes) == Some(100_000) && !sink.failed());
-    assert!(rt; writer.same && writer.taken == 100_000);
-    let mut reader = PatternInput::of(LENGTH, None);
-    let mut source = Watch::new(&mut reader);
-    let mut buffer = bytes_of(rt.alloc(), &REPAIRED, 100_000)?;
-    assert!(rt; source.read(&mut buffer) == Some(100_000) && !source.failed() && !source.ended());
-    assert!(rt; buffer == bytes_of(rt.alloc(), &PATTERN, 100_000)?);
+    let mut bytes = bytes_of(rt.alloc(), &REPAIRED, 100_000)?;
+    assert!(rt; takes_at_once(&bytes));
+    let same = gives_at_once(&mut bytes) && bytes == bytes_of(rt.alloc(), &PATTERN, 100_000)?;
+    assert!(rt; same);
     Ok(())
 }

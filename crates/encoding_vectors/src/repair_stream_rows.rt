@@ -1,6 +1,6 @@
 //! What `repair` reads, writes and returns, and a watched stream as a source.
 
-use crate::decoder_vectors::{repaired_text, vectors};
+use crate::decoder_vectors::{Vector, repaired_text, vectors};
 use crate::repair_rows::broken_count;
 use crate::texts::{bytes_of, field, number_of};
 use encoding_runs::repair::{RepairFault, Repaired, Sink, Source, Watch, repair};
@@ -83,41 +83,52 @@ fn row_holds(alloc: Global, row: &str, step: usize, taken: usize) -> Result<bool
     Ok(repairs_to(&mut reader, &mut writer, limit, outcome, &text))
 }
 
+/// Whether it holds whatever the steps.
+fn row_holds_by_steps(alloc: Global, row: &str) -> Result<bool, Fail> {
+    let mut holds = true;
+    for step in [1, 2, ROOM] {
+        for taken in [1, 2, ROOM] {
+            holds = holds && row_holds(alloc, row, step, taken)?;
+        }
+    }
+    Ok(holds)
+}
+
 #[test]
 fn rows_hold(rt: HostRuntime) -> Result<(), Fail> {
     let mut count = 0u32;
     for row in ROWS.lines() {
-        for step in [1, 2, ROOM] {
-            for taken in [1, 2, ROOM] {
-                assert!(rt;
-                    row_holds(rt.alloc(), row, step, taken)?,
-                    "{row}; {step}, {taken}"
-                );
-            }
-        }
+        assert!(rt; row_holds_by_steps(rt.alloc(), row)?, "{row}");
         count = count.saturating_add(1);
     }
     assert!(rt; count == 21);
     Ok(())
 }
 
+/// Whether a vector's bytes are repaired to its text, over a reader that gives so many bytes a call.
+fn is_repaired(vector: &Vector, text: &[u8], step: usize) -> bool {
+    let mut reader = Input::of(&vector.bytes, step);
+    let outcome = Ok(Repaired {
+        read: vector.bytes.len() as u64,
+        replaced: broken_count(vector),
+    });
+    repairs_to(
+        &mut reader,
+        &mut Output::that_takes_all(),
+        2000,
+        outcome,
+        text,
+    )
+}
+
 #[test]
 fn repairs_vectors(rt: HostRuntime) -> Result<(), Fail> {
     for vector in &vectors(rt.alloc())? {
         let text = repaired_text(rt.alloc(), vector)?;
-        for step in [1, 2, ROOM] {
-            let mut reader = Input::of(&vector.bytes, step);
-            let mut writer = Output::that_takes_all();
-            let outcome = Ok(Repaired {
-                read: vector.bytes.len() as u64,
-                replaced: broken_count(vector),
-            });
-            assert!(rt;
-                repairs_to(&mut reader, &mut writer, 2000, outcome, &text),
-                "{}, {step}",
-                vector.row
-            );
-        }
+        let holds = [1, 2, ROOM]
+            .iter()
+            .all(|step| is_repaired(vector, &text, *step));
+        assert!(rt; holds, "{}", vector.row);
     }
     Ok(())
 }
@@ -148,20 +159,23 @@ fn long_repairs_to(before: usize, behind: &[u8], text_behind: &[u8], replaced: u
     )
 }
 
-#[test]
-fn repairs_over_the_end_of_a_round(rt: HostRuntime) {
-    assert!(rt; long_repairs_to(1023, &[0xE2, 0x98, 0x83], &[0xE2, 0x98, 0x83], 0));
-    assert!(rt; long_repairs_to(1022, &[0xF0, 0x9F], &[0xEF, 0xBF, 0xBD], 1));
-    assert!(rt;
-        long_repairs_to(
+/// Whether characters and broken parts at the end of a round come whole.
+fn ends_of_rounds_hold() -> bool {
+    long_repairs_to(1023, &[0xE2, 0x98, 0x83], &[0xE2, 0x98, 0x83], 0)
+        && long_repairs_to(1022, &[0xF0, 0x9F], &[0xEF, 0xBF, 0xBD], 1)
+        && long_repairs_to(
             1022,
             &[0xF0, 0x9F, 0x92, 0xA9, 0x5A],
             &[0xF0, 0x9F, 0x92, 0xA9, 0x5A],
-            0
+            0,
         )
-    );
-    assert!(rt; long_repairs_to(1022, &[0xF0, 0x9F, 0x5A], &[0xEF, 0xBF, 0xBD, 0x5A], 1));
-    assert!(rt; long_repairs_to(1024, &[0xFF], &[0xEF, 0xBF, 0xBD], 1));
+        && long_repairs_to(1022, &[0xF0, 0x9F, 0x5A], &[0xEF, 0xBF, 0xBD, 0x5A], 1)
+        && long_repairs_to(1024, &[0xFF], &[0xEF, 0xBF, 0xBD], 1)
+}
+
+#[test]
+fn repairs_over_the_end_of_a_round(rt: HostRuntime) {
+    assert!(rt; ends_of_rounds_hold());
 }
 
 /// Whether a repair whose writer takes so many bytes in all stops there.
@@ -180,43 +194,38 @@ fn stops_at(input: &[u8], text: &[u8], taken: usize, fault: Option<ErrorKind>) -
     }
 }
 
+/// Whether it stops so wherever the writer does.
+fn stops(input: &[u8], text: &[u8], fault: Option<ErrorKind>) -> bool {
+    (0..text.len()).all(|taken| stops_at(input, text, taken, fault))
+}
+
 #[test]
 fn stops_where_the_writer_does(rt: HostRuntime) {
+    let text = [0x61, 0xEF, 0xBF, 0xBD, 0xEF, 0xBF, 0xBD];
     for fault in [None, Some(ErrorKind::Other), Some(ErrorKind::Interrupted)] {
-        for taken in 0..3 {
-            assert!(rt; stops_at(b"abc", b"abc", taken, fault), "{taken}");
-        }
-        for taken in 0..7 {
-            assert!(rt;
-                stops_at(
-                    &[0x61, 0xE2, 0x98, 0xFF],
-                    &[0x61, 0xEF, 0xBF, 0xBD, 0xEF, 0xBF, 0xBD],
-                    taken,
-                    fault
-                ),
-                "{taken}"
-            );
-        }
+        let holds = stops(b"abc", b"abc", fault) && stops(&[0x61, 0xE2, 0x98, 0xFF], &text, fault);
+        assert!(rt; holds);
     }
+}
+
+/// Whether a repair with this limit of an endless stream asks so often, and writes as much as the limit.
+fn asks(limit: u64, asked: usize) -> bool {
+    let mut reader = Endless { asked: 0 };
+    let mut writer = Output::that_takes_all();
+    let returned = repair(
+        &mut Watch::new(&mut reader),
+        &mut Watch::new(&mut writer),
+        limit,
+    );
+    returned == Err(RepairFault::Limit)
+        && reader.asked == asked
+        && writer.written().len() as u64 == limit
 }
 
 /// The reader is asked for at most 1,024 bytes and what the limit leaves, and not at all once that is nothing.
 #[test]
 fn asks_within_the_limit(rt: HostRuntime) {
-    for (limit, asked) in [(0, 0), (1, 1), (1024, 1), (1025, 2), (2000, 2)] {
-        let mut reader = Endless { asked: 0 };
-        let mut writer = Output::that_takes_all();
-        let returned = repair(
-            &mut Watch::new(&mut reader),
-            &mut Watch::new(&mut writer),
-            limit,
-        );
-        assert!(rt; returned == Err(RepairFault::Limit), "{limit}");
-        assert!(rt;
-            reader.asked == asked && writer.written().len() as u64 == limit,
-            "{limit}"
-        );
-    }
+    assert!(rt; asks(0, 0) && asks(1, 1) && asks(1024, 1) && asks(1025, 2) && asks(2000, 2));
 }
 
 /// Whether a read into so much room gives so many bytes, and the end is seen then or not.
@@ -234,25 +243,36 @@ fn reads(
 }
 
 /// A read of no byte into some room sees the end, and a read into no room doesn't.
-#[test]
-fn watches_the_end(rt: HostRuntime) {
+fn the_end_is_seen() -> bool {
     let mut input = Input::of(b"abc", ROOM);
     let mut source = Watch::new(&mut input);
-    assert!(rt; !source.failed() && !source.ended());
-    assert!(rt; reads(&mut source, 0, Some(0), false) && reads(&mut source, 2, Some(2), false));
-    assert!(rt; reads(&mut source, 2, Some(1), false) && reads(&mut source, 0, Some(0), false));
-    assert!(rt; reads(&mut source, 1, Some(0), true) && reads(&mut source, 0, Some(0), true));
-    assert!(rt; input.asked == 6);
+    !source.failed()
+        && !source.ended()
+        && reads(&mut source, 0, Some(0), false)
+        && reads(&mut source, 2, Some(2), false)
+        && reads(&mut source, 2, Some(1), false)
+        && reads(&mut source, 0, Some(0), false)
+        && reads(&mut source, 1, Some(0), true)
+        && reads(&mut source, 0, Some(0), true)
+        && input.asked == 6
+}
+
+#[test]
+fn watches_the_end(rt: HostRuntime) {
+    assert!(rt; the_end_is_seen());
 }
 
 /// A read that fails gives nothing, and is a failure from then on.
+fn a_fault_is_seen(kind: ErrorKind) -> bool {
+    let mut input = Input::that_fails(b"a", kind);
+    let mut source = Watch::new(&mut input);
+    reads(&mut source, 2, Some(1), false)
+        && reads(&mut source, 2, None, false)
+        && reads(&mut source, 2, None, false)
+        && source.failed()
+}
+
 #[test]
 fn watches_a_fault(rt: HostRuntime) {
-    for kind in [ErrorKind::Other, ErrorKind::Interrupted] {
-        let mut input = Input::that_fails(b"a", kind);
-        let mut source = Watch::new(&mut input);
-        assert!(rt; reads(&mut source, 2, Some(1), false));
-        assert!(rt; reads(&mut source, 2, None, false) && reads(&mut source, 2, None, false));
-        assert!(rt; source.failed());
-    }
+    assert!(rt; a_fault_is_seen(ErrorKind::Other) && a_fault_is_seen(ErrorKind::Interrupted));
 }

@@ -1,6 +1,6 @@
 //! Runs of the decoder: rows, and the vectors whole and one byte a turn.
 
-use crate::decoder_vectors::{Delivered, delivered_utf8, delivered_utf16, vectors};
+use crate::decoder_vectors::{Delivered, Vector, delivered_utf8, delivered_utf16, vectors};
 use crate::texts::{are_units_written, are_written, bytes_of, field, number_of, units_of};
 use encoding_runs::run::{Outcome, Report, Turn, run_to_utf8, run_to_utf16};
 use encoding_text::decoder::{DecoderResult, Utf8Decoder};
@@ -99,28 +99,62 @@ fn run_of(alloc: Global, row: &mut &str) -> Result<Run, Fail> {
     })
 }
 
+/// Whether a run came so far and returned so.
+fn came_to(run: &Run, outcome: &Outcome, written: usize) -> bool {
+    outcome.read == run.read && outcome.written == written && outcome.result == run.result
+}
+
+/// Makes a run: how many reports there are, if it comes so far, writes these code units and leaves what is behind them.
+fn reports_of_utf16(
+    decoder: &mut Utf8Decoder,
+    run: &Run,
+    out: &[u16],
+    reports: &mut [Report],
+) -> Option<usize> {
+    let mut dst = [0x71; 8];
+    let room = dst.get_mut(..run.room)?;
+    if reports.len() < run.turns.len() {
+        return None;
+    }
+    let outcome = run_to_utf16(decoder, &run.src, &run.turns, room, reports);
+    if came_to(run, &outcome, out.len()) && are_units_written(out, &dst, outcome.written) {
+        Some(outcome.reports)
+    } else {
+        None
+    }
+}
+
+/// The same to UTF-8.
+fn reports_of_utf8(
+    decoder: &mut Utf8Decoder,
+    run: &Run,
+    out: &[u8],
+    reports: &mut [Report],
+) -> Option<usize> {
+    let mut dst = [0x71; 8];
+    let room = dst.get_mut(..run.room)?;
+    if reports.len() < run.turns.len() {
+        return None;
+    }
+    let outcome = run_to_utf8(decoder, &run.src, &run.turns, room, reports);
+    if came_to(run, &outcome, out.len()) && are_written(out, &dst, outcome.written) {
+        Some(outcome.reports)
+    } else {
+        None
+    }
+}
+
 /// Whether the run of a row comes so far, writes the code units and the reports that end the row, and leaves what is
 /// behind them.
 fn to_utf16_is(alloc: Global, decoder: &mut Utf8Decoder, row: &str) -> Result<bool, Fail> {
     let mut row = row;
     let run = run_of(alloc, &mut row)?;
     let out = units_of(alloc, field(&mut row))?;
-    let mut dst = [0x71; 8];
     let mut reports = places(alloc, run.turns.len().saturating_add(1))?;
-    let Some(room) = dst.get_mut(..run.room) else {
-        return Ok(false);
-    };
-    if reports.len() < run.turns.len() {
-        return Ok(false);
+    match reports_of_utf16(decoder, &run, &out, &mut reports) {
+        Some(count) => are_reported(row, &reports, count),
+        None => Ok(false),
     }
-    let outcome = run_to_utf16(decoder, &run.src, &run.turns, room, &mut reports);
-    Ok(
-        outcome.read == run.read
-            && outcome.written == out.len()
-            && outcome.result == run.result
-            && are_units_written(&out, &dst, outcome.written)
-            && are_reported(row, &reports, outcome.reports)?,
-    )
 }
 
 /// The same to UTF-8.
@@ -128,22 +162,11 @@ fn to_utf8_is(alloc: Global, decoder: &mut Utf8Decoder, row: &str) -> Result<boo
     let mut row = row;
     let run = run_of(alloc, &mut row)?;
     let out = bytes_of(alloc, field(&mut row))?;
-    let mut dst = [0x71; 8];
     let mut reports = places(alloc, run.turns.len().saturating_add(1))?;
-    let Some(room) = dst.get_mut(..run.room) else {
-        return Ok(false);
-    };
-    if reports.len() < run.turns.len() {
-        return Ok(false);
+    match reports_of_utf8(decoder, &run, &out, &mut reports) {
+        Some(count) => are_reported(row, &reports, count),
+        None => Ok(false),
     }
-    let outcome = run_to_utf8(decoder, &run.src, &run.turns, room, &mut reports);
-    Ok(
-        outcome.read == run.read
-            && outcome.written == out.len()
-            && outcome.result == run.result
-            && are_written(&out, &dst, outcome.written)
-            && are_reported(row, &reports, outcome.reports)?,
-    )
 }
 
 /// Whether a row holds. A row `new` begins a new decoder.
@@ -276,26 +299,30 @@ fn run_utf8(alloc: Global, src: &[u8], take: usize) -> Result<Option<Delivered<u
     }
 }
 
+/// Whether a vector decodes to UTF-16 by turns of one byte and of all.
+fn runs_to_utf16(alloc: Global, vector: &Vector) -> Result<bool, AllocError> {
+    let want = Some(delivered_utf16(alloc, vector)?);
+    Ok(run_utf16(alloc, &vector.bytes, 1)? == want && run_utf16(alloc, &vector.bytes, 16)? == want)
+}
+
 #[test]
 fn vectors_run_to_utf16(rt: HostRuntime) -> Result<(), Fail> {
     for vector in &vectors(rt.alloc())? {
-        for take in [1, 16] {
-            let want = delivered_utf16(rt.alloc(), vector)?;
-            let got = run_utf16(rt.alloc(), &vector.bytes, take)?;
-            assert!(rt; got == Some(want), "{}, {take}", vector.row);
-        }
+        assert!(rt; runs_to_utf16(rt.alloc(), vector)?, "{}", vector.row);
     }
     Ok(())
+}
+
+/// The same to UTF-8.
+fn runs_to_utf8(alloc: Global, vector: &Vector) -> Result<bool, AllocError> {
+    let want = Some(delivered_utf8(alloc, vector)?);
+    Ok(run_utf8(alloc, &vector.bytes, 1)? == want && run_utf8(alloc, &vector.bytes, 16)? == want)
 }
 
 #[test]
 fn vectors_run_to_utf8(rt: HostRuntime) -> Result<(), Fail> {
     for vector in &vectors(rt.alloc())? {
-        for take in [1, 16] {
-            let want = delivered_utf8(rt.alloc(), vector)?;
-            let got = run_utf8(rt.alloc(), &vector.bytes, take)?;
-            assert!(rt; got == Some(want), "{}, {take}", vector.row);
-        }
+        assert!(rt; runs_to_utf8(rt.alloc(), vector)?, "{}", vector.row);
     }
     Ok(())
 }

@@ -25,46 +25,47 @@ fn latin1_leaves(src: &[u8], dst: &mut [u8], told: (usize, usize), want: &[u8]) 
     is_text(dst) && convert_latin1_to_str_partial(src, dst) == told && *dst == *want
 }
 
+/// Whether the rows of units hold.
+fn units_rows_hold() -> bool {
+    let mut dst = [0xE2, 0x98, 0x83];
+    units_leave(
+        &[0x61],
+        &mut [0xC3, 0xA4, 0x62],
+        (1, 1),
+        &[0x61, 0x00, 0x62],
+    ) && units_leave(
+        &[0x2603],
+        &mut [0xF0, 0x9F, 0x92, 0xA9, 0x62],
+        (1, 3),
+        &[0xE2, 0x98, 0x83, 0x00, 0x62],
+    ) && units_leave(&[], &mut [0xC3, 0xA4], (0, 0), &[0xC3, 0xA4])
+        && is_text(&dst)
+        && convert_utf16_to_str(&[0x61], &mut dst) == 1
+        && dst == [0x61, 0x00, 0x00]
+}
+
 #[test]
 fn rows_of_units(rt: HostRuntime) {
-    assert!(rt;
-        units_leave(
-            &[0x61],
-            &mut [0xC3, 0xA4, 0x62],
-            (1, 1),
-            &[0x61, 0x00, 0x62]
-        )
-    );
-    assert!(rt;
-        units_leave(
-            &[0x2603],
-            &mut [0xF0, 0x9F, 0x92, 0xA9, 0x62],
-            (1, 3),
-            &[0xE2, 0x98, 0x83, 0x00, 0x62]
-        )
-    );
-    assert!(rt; units_leave(&[], &mut [0xC3, 0xA4], (0, 0), &[0xC3, 0xA4]));
-    let mut dst = [0xE2, 0x98, 0x83];
-    assert!(rt; is_text(&dst) && convert_utf16_to_str(&[0x61], &mut dst) == 1);
-    assert!(rt; dst == [0x61, 0x00, 0x00]);
+    assert!(rt; units_rows_hold());
+}
+
+/// Whether the rows of Latin1 hold.
+fn latin1_rows_hold() -> bool {
+    let mut behind_two = [0x00; 20];
+    behind_two[..2].copy_from_slice(&[0xC3, 0xA4]);
+    behind_two[18..].fill(0x71);
+    let mut dst = [0x71; 19];
+    dst[15..18].copy_from_slice(&[0xE2, 0x98, 0x83]);
+    let mut behind_none = [0x00; 19];
+    behind_none[18] = 0x71;
+    latin1_leaves(&[0xE4], &mut [0x71; 20], (1, 2), &behind_two)
+        && latin1_leaves(&[], &mut [0x71; 4], (0, 0), &[0x00; 4])
+        && latin1_leaves(&[], &mut dst, (0, 0), &behind_none)
 }
 
 #[test]
 fn rows_of_latin1(rt: HostRuntime) {
-    let mut want = [0x00; 20];
-    want[0] = 0xC3;
-    want[1] = 0xA4;
-    want[18] = 0x71;
-    want[19] = 0x71;
-    assert!(rt; latin1_leaves(&[0xE4], &mut [0x71; 20], (1, 2), &want));
-    assert!(rt; latin1_leaves(&[], &mut [0x71; 4], (0, 0), &[0x00; 4]));
-    let mut dst = [0x71; 19];
-    dst[15] = 0xE2;
-    dst[16] = 0x98;
-    dst[17] = 0x83;
-    let mut want = [0x00; 19];
-    want[18] = 0x71;
-    assert!(rt; latin1_leaves(&[], &mut dst, (0, 0), &want));
+    assert!(rt; latin1_rows_hold());
 }
 
 /// What fills a destination before a call, again and again.
@@ -185,20 +186,20 @@ fn unit_holds(unit: u16, character: &[u8], old: &[u8]) -> bool
     holds
 }
 
+/// Whether each unit is converted so into this text.
+fn units_leave_it(old: &[u8]) -> bool {
+    is_text(old)
+        && UNITS.iter().all(|(unit, character)| unit_holds(*unit, character.as_bytes(), old))
+}
+
 #[test]
 fn units_leave_a_text(rt: HostRuntime) {
     for filling in &FILLINGS {
         let mut buffer = [0; 330];
         fill(&mut buffer, filling.as_bytes());
-        for room in 0..=330usize {
-            let old = &buffer[..room];
-            if room % filling.len().max(1) == 0 {
-                assert!(rt; is_text(old));
-                for (unit, character) in &UNITS {
-                    let holds = unit_holds(*unit, character.as_bytes(), old);
-                    assert!(rt; holds, "{unit} into {room} bytes of {filling}");
-                }
-            }
+        for room in (0..=330usize).step_by(filling.len().max(1)) {
+            let holds = units_leave_it(&buffer[..room]);
+            assert!(rt; holds, "into {room} bytes of {filling}");
         }
     }
 }
@@ -258,20 +259,20 @@ fn byte_holds(byte: u8, character: &[u8], old: &[u8]) -> bool
     holds
 }
 
+/// Whether each byte is converted so into this text.
+fn bytes_leave_it(old: &[u8]) -> bool {
+    is_text(old)
+        && BYTES.iter().all(|(byte, character)| byte_holds(*byte, character.as_bytes(), old))
+}
+
 #[test]
 fn bytes_leave_a_text(rt: HostRuntime) {
     for filling in &FILLINGS {
         let mut buffer = [0; 220];
         fill(&mut buffer, filling.as_bytes());
-        for room in 0..=220usize {
-            let old = &buffer[..room];
-            if room % filling.len().max(1) == 0 {
-                assert!(rt; is_text(old));
-                for (byte, character) in &BYTES {
-                    let holds = byte_holds(*byte, character.as_bytes(), old);
-                    assert!(rt; holds, "{byte} into {room} bytes of {filling}");
-                }
-            }
+        for room in (0..=220usize).step_by(filling.len().max(1)) {
+            let holds = bytes_leave_it(&buffer[..room]);
+            assert!(rt; holds, "into {room} bytes of {filling}");
         }
     }
 }
