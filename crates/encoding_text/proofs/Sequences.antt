@@ -1,3 +1,5 @@
 pub mod SequenceLemmas
 pub mod EncodingLemmas
 pub mod ScalarLemmas
+pub mod TableLemmas
+pub mod FirstBytesLemmas

@@ -1,4 +1,5 @@
 pub mod Sequence
+pub mod Table
 pub mod Pending
 pub mod Parts
 pub mod Giving

@@ -40,6 +40,8 @@ mod run_rows;
 #[cfg(test)]
 mod surrogate_rows;
 #[cfg(test)]
+mod table_rows;
+#[cfg(test)]
 mod text_destination_rows;
 #[cfg(test)]
 mod texts;

@@ -1,5 +1,5 @@
 //! Where bytes stop being UTF-8.
-ghost use Rattle.std.specs.Prelude.{◌<◌, ◌≤◌, length, take, IfSome, IfNone};
+ghost use Rattle.std.specs.Prelude.{◌<◌, ◌≤◌, ◌↔◌, ◌⊎◌, [], ◌∷◌, length, take, IfSome, IfNone, IsTrue};
 ghost use Rattle.std.specs.Str.{IsUtf8};
 ghost use Rattle.encoding_text.specs.Sequence.{IsSequence};
 ghost use Rattle.encoding_text.specs.Parts.{BeginsWithNoCharacter};
@@ -7,9 +7,32 @@ ghost use Rattle.encoding_text.specs.Fronts.{IsLongestFront};
 
 use crate::sequence::{is_continuation, is_second};
 use crate::utf_8::blocks::well_formed_blocks;
+use crate::utf_8::table::{UTF8_DATA, law_table};
 
-/// The length of the character that begins the bytes, where one does.
-pub(crate) fn character_length(bytes: &[u8]) -> Option<usize>
+/// Whether three bytes are one character, for a first byte that begins neither one, two nor four.
+#[inline(always)]
+fn is_three(lead: u8, second: u8, third: u8) -> bool
+    requires leads { ((0x80 ≤ lead) × (lead ≤ 0xC1)) ⊎ ((0xE0 ≤ lead) × (lead ≤ 0xEF)) }
+    ensures { IsTrue result ↔ IsSequence (lead ∷ second ∷ third ∷ []) }
+{
+    law_table(lead, second, third, 0);
+    (UTF8_DATA.table[second as usize] & UTF8_DATA.table[lead as usize + 0x80]) | (third >> 6) == 2
+}
+
+/// Whether four bytes are one character, for a first byte that begins no fewer.
+#[inline(always)]
+fn is_four(lead: u8, second: u8, third: u8, fourth: u8) -> bool
+    requires leads { 0xF0 ≤ lead }
+    ensures { IsTrue result ↔ IsSequence (lead ∷ second ∷ third ∷ fourth ∷ []) }
+{
+    law_table(lead, second, third, fourth);
+    let common = UTF8_DATA.table[second as usize] & UTF8_DATA.table[lead as usize + 0x80];
+    u16::from(common) | u16::from(third >> 6) | (u16::from(fourth & 0xC0) << 2) == 0x202
+}
+
+/// The length of the character that begins three bytes or fewer, where one does.
+fn tail_length(bytes: &[u8]) -> Option<usize>
+    requires short { length bytes.now < 4 }
     ensures length { IfSome result (λ n. (0 < n) × (n ≤ length bytes.now) × IsSequence (take n bytes.now)) }
     ensures no_character { IfNone result (BeginsWithNoCharacter bytes.now) }
 {
@@ -32,7 +55,32 @@ pub(crate) fn character_length(bytes: &[u8]) -> Option<usize>
     if lead < 0xF0 {
         return Some(3);
     }
-    if bytes.len() < 4 || !is_continuation(bytes[3]) {
+    None
+}
+
+/// The length of the character that begins the bytes, where one does.
+#[inline(always)]
+pub(crate) fn character_length(bytes: &[u8]) -> Option<usize>
+    ensures length { IfSome result (λ n. (0 < n) × (n ≤ length bytes.now) × IsSequence (take n bytes.now)) }
+    ensures no_character { IfNone result (BeginsWithNoCharacter bytes.now) }
+{
+    if bytes.len() < 4 {
+        return tail_length(bytes);
+    }
+    let lead = bytes[0];
+    if lead < 0x80 {
+        return Some(1);
+    }
+    if 0xC2 <= lead && lead < 0xE0 {
+        return is_continuation(bytes[1]).then_some(2);
+    }
+    if lead < 0xF0 {
+        if !is_three(lead, bytes[1], bytes[2]) {
+            return None;
+        }
+        return Some(3);
+    }
+    if !is_four(lead, bytes[1], bytes[2], bytes[3]) {
         return None;
     }
     Some(4)

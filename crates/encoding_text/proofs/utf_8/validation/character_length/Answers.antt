@@ -1,29 +1,11 @@
-use Rattle.std.proofs.Common.{arith}
 use Rattle.std.proofs.lemmas.Bool.{both_ways}
-use Rattle.encoding_text.proofs.Sequences.SequenceLemmas.{no_character_reads}
+use Rattle.encoding_text.proofs.Sequences.FirstBytesLemmas.{no_character_three, no_character_four}
 use Rattle.encoding_text.proofs.utf_8.validation.character_length.Goals as goal
-use Rattle.encoding_text.proofs.utf_8.validation.character_length.Goals.{then-bytes-lt2-via-then-bytes-lt2, then-bytes-lt2-via-else-bytes-lt2+then-not-is_second, then-bytes-lt3-via-then-bytes-lt3, then-bytes-lt3-via-else-bytes-lt3+then-not-is_continuation, then-bytes-lt4-via-then-bytes-lt4, then-bytes-lt4-via-else-bytes-lt4+then-not-is_continuation-2}
 
-pub returns-then-bytes-lt2-clause-no_character : goal.returns-then-bytes-lt2-clause-no_character
-returns-then-bytes-lt2-clause-no_character c = no_character_reads _ (λ r.
-    let second = r.1 c.if-lead-lt128.false in
-    elim c.then-bytes-lt2.branch [
-      | then-bytes-lt2-via-then-bytes-lt2 w ↦ omega (arith, second.0)
-      | then-bytes-lt2-via-else-bytes-lt2+then-not-is_second w ↦ both_ways _ w.if-not-is_second.true (w.is_second.ensures.1 second.1)
-    ])
+pub returns-then-not-is_three-clause-no_character : goal.returns-then-not-is_three-clause-no_character
+returns-then-not-is_three-clause-no_character c =
+    no_character_three c.args.bytes.now c.if-lead-lt128.false c.else-lead-ge194.either c.if-lead-lt240.true (λ s. both_ways _ c.if-not-is_three.true (c.is_three.ensures.1 s))
 
-pub returns-then-bytes-lt3-clause-no_character : goal.returns-then-bytes-lt3-clause-no_character
-returns-then-bytes-lt3-clause-no_character c = no_character_reads _ (λ r.
-    let third = r.2 c.if-lead-lt224.false in
-    elim c.then-bytes-lt3.branch [
-      | then-bytes-lt3-via-then-bytes-lt3 w ↦ omega (arith, third.0)
-      | then-bytes-lt3-via-else-bytes-lt3+then-not-is_continuation w ↦ both_ways _ w.if-not-is_continuation.true (w.is_continuation.ensures.1 third.1)
-    ])
-
-pub returns-then-bytes-lt4-clause-no_character : goal.returns-then-bytes-lt4-clause-no_character
-returns-then-bytes-lt4-clause-no_character c = no_character_reads _ (λ r.
-    let fourth = r.3 c.if-lead-lt240.false in
-    elim c.then-bytes-lt4.branch [
-      | then-bytes-lt4-via-then-bytes-lt4 w ↦ omega (arith, fourth.0)
-      | then-bytes-lt4-via-else-bytes-lt4+then-not-is_continuation-2 w ↦ both_ways _ w.if-not-is_continuation-2.true (w.is_continuation-else-bytes-lt4.ensures.1 fourth.1)
-    ])
+pub returns-then-not-is_four-clause-no_character : goal.returns-then-not-is_four-clause-no_character
+returns-then-not-is_four-clause-no_character c =
+    no_character_four c.args.bytes.now c.if-lead-lt240.false (λ s. both_ways _ c.if-not-is_four.true (c.is_four.ensures.1 s))
