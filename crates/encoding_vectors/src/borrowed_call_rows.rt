@@ -1,8 +1,8 @@
 //! The decoder's call without a destination: single calls, the three forms mixed, and the vectors, whole and cut.
 
 use crate::decoder_rows;
-use crate::decoder_vectors::{Delivered, delivered_utf8, scalar_of, vectors};
-use crate::texts::{bytes_of, field, number_of};
+use test_support::decoder_vectors::{Delivered, delivered_utf8, scalar_of, vectors};
+use test_support::texts::{bytes_of, field, number_of};
 use encoding_text::decoder::{Piece, Utf8Decoder};
 use std::alloc::{AllocError, Global};
 use std::test::Fail;

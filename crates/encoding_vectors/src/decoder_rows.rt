@@ -1,6 +1,6 @@
 //! Single calls of the decoder, and the queries of buffer lengths.
 
-use crate::texts::{are_units_written, are_written, bytes_of, field, number_of, units_of};
+use test_support::texts::{are_units_written, are_written, bytes_of, field, number_of, units_of};
 use encoding_text::decoder::{DecoderResult, Utf8Decoder};
 use std::alloc::Global;
 use std::test::Fail;

@@ -1,7 +1,8 @@
 //! The encoder while it holds nothing: vectors and limits.
 
-use crate::encoder_vectors::{Source, holds, limits, vectors};
-use crate::texts::are_written;
+use crate::held_unit_rows::holds;
+use test_support::encoder_vectors::{Source, limits, vectors};
+use test_support::texts::are_written;
 use encoding_text::utf_8::{EncoderResult, Utf8Encoder};
 use std::test::Fail;
 

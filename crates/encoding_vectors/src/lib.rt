@@ -16,13 +16,9 @@ mod decoder_parts;
 #[cfg(test)]
 mod decoder_rows;
 #[cfg(test)]
-mod decoder_vectors;
-#[cfg(test)]
 mod encoder_rows;
 #[cfg(test)]
 mod encoder_run_rows;
-#[cfg(test)]
-mod encoder_vectors;
 #[cfg(test)]
 mod held_unit_rows;
 #[cfg(test)]
@@ -41,8 +37,6 @@ mod run_rows;
 mod surrogate_rows;
 #[cfg(test)]
 mod text_destination_rows;
-#[cfg(test)]
-mod texts;
 #[cfg(test)]
 mod to_utf16_rows;
 #[cfg(test)]

@@ -1,8 +1,8 @@
 //! What `repair` reads, writes and returns, and a watched stream as a source.
 
-use crate::decoder_vectors::{repaired_text, vectors};
+use test_support::decoder_vectors::{repaired_text, vectors};
 use crate::repair_rows::broken_count;
-use crate::texts::{bytes_of, field, number_of};
+use test_support::texts::{bytes_of, field, number_of};
 use encoding_runs::repair::{RepairFault, Repaired, Sink, Source, Watch, repair};
 use std::alloc::Global;
 use std::io::{ErrorKind, Read};

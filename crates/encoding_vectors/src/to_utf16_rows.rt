@@ -1,7 +1,7 @@
 //! Conversions from UTF-8 to UTF-16.
 
 use crate::mixed_text::{BYTES, TEXT, UNITS};
-use crate::texts::are_units_written;
+use test_support::texts::are_units_written;
 use encoding_text::mem::{
     convert_str_to_utf16, convert_utf8_to_utf16, convert_utf8_to_utf16_without_replacement,
 };
