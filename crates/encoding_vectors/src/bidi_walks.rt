@@ -1,29 +1,10 @@
-//! Every scalar value, and every two of the code units at the edges, against what this module says itself.
+//! Every scalar value, and every two of the code units at the edges, against ranges that stand here and in `test_support`.
 
 use encoding_text::mem::{
     ensure_utf16_validity, is_char_bidi, is_str_bidi, is_utf8_bidi, is_utf16_bidi,
     is_utf16_code_unit_bidi, utf16_valid_up_to,
 };
-
-// the right-to-left scalar values: the first and the last of each range
-const RANGES: [(u32, u32); 9] = [
-    (0x0590, 0x08FF),
-    (0x200F, 0x200F),
-    (0x202B, 0x202B),
-    (0x202E, 0x202E),
-    (0x2067, 0x2067),
-    (0xFB1D, 0xFDFF),
-    (0xFE70, 0xFEFE),
-    (0x1_0800, 0x1_0FFF),
-    (0x1_E800, 0x1_EFFF),
-];
-
-/// Whether the scalar value is in a range.
-fn is_in_a_range(scalar: u32) -> bool {
-    RANGES
-        .iter()
-        .any(|range| range.0 <= scalar && scalar <= range.1)
-}
+use test_support::right_to_left::is_in_a_range;
 
 /// Whether all checks of the character and of its code units say so.
 fn character_is(c: char, bidi: bool) -> bool {

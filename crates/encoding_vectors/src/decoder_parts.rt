@@ -1,9 +1,11 @@
 //! The vectors through both calls of the decoder, marked last.
 
-use crate::decoder_vectors::{Delivered, Vector, delivered_utf8, delivered_utf16, vectors};
 use encoding_text::decoder::{DecoderResult, Utf8Decoder};
 use std::alloc::{AllocError, Global};
 use std::test::Fail;
+use test_support::decoder_vectors::{
+    Delivered, Vector, delivered_utf8, delivered_utf16, length_of, vectors,
+};
 
 /// Decodes to UTF-16, and hands in the unread bytes again after each report: what that delivers, if all is read.
 fn decode_to_utf16(alloc: Global, src: &[u8]) -> Result<Option<Delivered<u16>>, AllocError> {
@@ -72,5 +74,20 @@ fn delivers_the_parts(rt: HostRuntime) -> Result<(), Fail> {
     for vector in &vectors(rt.alloc())? {
         assert!(rt; is_delivered(rt.alloc(), vector)?, "{}", vector.row);
     }
+    Ok(())
+}
+
+/// The parts of a vector take its bytes, each once.
+#[test]
+fn parts_take_all_bytes(rt: HostRuntime) -> Result<(), Fail> {
+    let vectors = vectors(rt.alloc())?;
+    for vector in &vectors {
+        let mut length = 0usize;
+        for part in &vector.parts {
+            length = length.saturating_add(length_of(part));
+        }
+        assert!(rt; length == vector.bytes.len(), "{}", vector.row);
+    }
+    assert!(rt; vectors.len() == 104);
     Ok(())
 }

@@ -1,4 +1,4 @@
-//! Tests alone: published vectors and worked examples, through the public calls of the libraries.
+//! Tests alone: published vectors and worked examples, through the public calls of `encoding_text`.
 #![tactic(auto)]
 
 #[cfg(test)]
@@ -16,35 +16,19 @@ mod decoder_parts;
 #[cfg(test)]
 mod decoder_rows;
 #[cfg(test)]
-mod decoder_vectors;
-#[cfg(test)]
 mod encoder_rows;
-#[cfg(test)]
-mod encoder_run_rows;
-#[cfg(test)]
-mod encoder_vectors;
 #[cfg(test)]
 mod held_unit_rows;
 #[cfg(test)]
 mod latin1_rows;
 #[cfg(test)]
-mod long_streams;
-#[cfg(test)]
 mod mixed_text;
-#[cfg(test)]
-mod repair_rows;
-#[cfg(test)]
-mod repair_stream_rows;
-#[cfg(test)]
-mod run_rows;
 #[cfg(test)]
 mod surrogate_rows;
 #[cfg(test)]
 mod table_rows;
 #[cfg(test)]
 mod text_destination_rows;
-#[cfg(test)]
-mod texts;
 #[cfg(test)]
 mod to_utf16_rows;
 #[cfg(test)]

@@ -11,6 +11,8 @@ pub struct Input<'a> {
     fault: Option<ErrorKind>,
     /// How often it was read.
     pub asked: usize,
+    /// How often it was read after its last byte.
+    pub asked_behind: usize,
 }
 
 impl<'a> Input<'a> {
@@ -21,6 +23,7 @@ impl<'a> Input<'a> {
             step,
             fault: None,
             asked: 0,
+            asked_behind: 0,
         }
     }
 
@@ -31,7 +34,15 @@ impl<'a> Input<'a> {
             step: 1,
             fault: Some(fault),
             asked: 0,
+            asked_behind: 0,
         }
+    }
+
+    /// Returns the input, which now gives so many bytes a read.
+    pub fn by_steps_of(self, step: usize) -> Input<'a> {
+        let mut input = self;
+        input.step = step;
+        input
     }
 }
 
@@ -39,6 +50,7 @@ impl Read for Input<'_> {
     fn read(&mut self, buffer: &mut [u8]) -> Result<usize> {
         self.asked = self.asked.saturating_add(1);
         if self.rest.is_empty() {
+            self.asked_behind = self.asked_behind.saturating_add(1);
             if let Some(kind) = self.fault {
                 return Err(Error::from(kind));
             }
@@ -154,5 +166,71 @@ impl Write for Output {
         } else {
             Err(Error::from(ErrorKind::Other))
         }
+    }
+}
+
+/// Compares what it takes with a text, and keeps none of it. Takes so many bytes a call and so many in all, and then
+/// fails, or takes none where it has no fault.
+#[derive(Drop)]
+pub struct Compared<'a> {
+    rest: &'a [u8],
+    step: usize,
+    left: usize,
+    fault: Option<ErrorKind>,
+    stopped: bool,
+    /// How many bytes it took.
+    pub taken: usize,
+    /// Whether they were those of the text.
+    pub same: bool,
+    /// How often it was written to once it had stopped.
+    pub asked_behind: usize,
+}
+
+impl<'a> Compared<'a> {
+    /// Returns an output that takes all bytes, at most so many a call, and compares them with the text.
+    pub fn with(text: &'a [u8], step: usize) -> Compared<'a> {
+        Compared {
+            rest: text,
+            step,
+            left: usize::MAX,
+            fault: None,
+            stopped: false,
+            taken: 0,
+            same: true,
+            asked_behind: 0,
+        }
+    }
+
+    /// Returns the output, which now takes so many bytes in all, and then fails, or takes none where there is no fault.
+    pub fn that_takes(self, takes: usize, fault: Option<ErrorKind>) -> Compared<'a> {
+        let mut output = self;
+        output.left = takes;
+        output.fault = fault;
+        output
+    }
+}
+
+impl Write for Compared<'_> {
+    fn write(&mut self, bytes: &[u8]) -> Result<usize> {
+        if self.stopped {
+            self.asked_behind = self.asked_behind.saturating_add(1);
+        }
+        let count = bytes.len().min(self.step).min(self.left);
+        if count == 0 {
+            self.stopped = true;
+            return match self.fault {
+                Some(kind) => Err(Error::from(kind)),
+                None => Ok(0),
+            };
+        }
+        self.same = self.same && self.rest.get(..count) == bytes.get(..count);
+        self.rest = self.rest.get(count..).unwrap_or(&[]);
+        self.left = self.left.saturating_sub(count);
+        self.taken = self.taken.saturating_add(count);
+        Ok(count)
+    }
+
+    fn flush(&mut self) -> Result<()> {
+        Ok(())
     }
 }

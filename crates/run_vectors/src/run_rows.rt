@@ -1,11 +1,11 @@
 //! Runs of the decoder: rows, and the vectors whole and one byte a turn.
 
-use crate::decoder_vectors::{Delivered, Vector, delivered_utf8, delivered_utf16, vectors};
-use crate::texts::{are_units_written, are_written, bytes_of, field, number_of, units_of};
 use encoding_runs::run::{Outcome, Report, Turn, run_to_utf8, run_to_utf16};
 use encoding_text::decoder::{DecoderResult, Utf8Decoder};
 use std::alloc::{AllocError, Global};
 use std::test::Fail;
+use test_support::decoder_vectors::{Delivered, Vector, delivered_utf8, delivered_utf16, vectors};
+use test_support::texts::{are_units_written, are_written, bytes_of, field, number_of, units_of};
 
 /// Returns the last answer that a field names.
 fn result_of(field: &str) -> Result<Option<DecoderResult>, Fail> {

@@ -185,18 +185,3 @@ pub fn length_of(part: &Expected) -> usize {
         Broken(length) => *length,
     }
 }
-
-/// The parts of a vector take its bytes, each once.
-#[test]
-fn parts_take_all_bytes(rt: HostRuntime) -> Result<(), Fail> {
-    let vectors = vectors(rt.alloc())?;
-    for vector in &vectors {
-        let mut length = 0usize;
-        for part in &vector.parts {
-            length = length.saturating_add(length_of(part));
-        }
-        assert!(rt; length == vector.bytes.len(), "{}", vector.row);
-    }
-    assert!(rt; vectors.len() == 104);
-    Ok(())
-}

@@ -1,0 +1,13 @@
+//! Tests alone: worked examples and vectors through runs and the repair engine, and long input.
+#![tactic(auto)]
+
+#[cfg(test)]
+mod encoder_run_rows;
+#[cfg(test)]
+mod long_streams;
+#[cfg(test)]
+mod repair_rows;
+#[cfg(test)]
+mod repair_stream_rows;
+#[cfg(test)]
+mod run_rows;
