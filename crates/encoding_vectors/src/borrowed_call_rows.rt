@@ -1,11 +1,11 @@
 //! The decoder's call without a destination: single calls, the three forms mixed, and the vectors, whole and cut.
 
 use crate::decoder_rows;
-use test_support::decoder_vectors::{Delivered, delivered_utf8, scalar_of, vectors};
-use test_support::texts::{bytes_of, field, number_of};
 use encoding_text::decoder::{Piece, Utf8Decoder};
 use std::alloc::{AllocError, Global};
 use std::test::Fail;
+use test_support::decoder_vectors::{Delivered, delivered_utf8, scalar_of, vectors};
+use test_support::texts::{bytes_of, field, number_of};
 
 /// Returns the piece that a field names; a text has these bytes.
 fn piece_of<'a>(field: &str, text: &'a [u8]) -> Result<Piece<'a>, Fail> {

@@ -1,11 +1,11 @@
 //! The vectors through both calls of the decoder, marked last.
 
-use test_support::decoder_vectors::{
-    Delivered, Vector, delivered_utf8, delivered_utf16, length_of, vectors,
-};
 use encoding_text::decoder::{DecoderResult, Utf8Decoder};
 use std::alloc::{AllocError, Global};
 use std::test::Fail;
+use test_support::decoder_vectors::{
+    Delivered, Vector, delivered_utf8, delivered_utf16, length_of, vectors,
+};
 
 /// Decodes to UTF-16, and hands in the unread bytes again after each report: what that delivers, if all is read.
 fn decode_to_utf16(alloc: Global, src: &[u8]) -> Result<Option<Delivered<u16>>, AllocError> {

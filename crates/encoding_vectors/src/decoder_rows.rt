@@ -1,9 +1,9 @@
 //! Single calls of the decoder, and the queries of buffer lengths.
 
-use test_support::texts::{are_units_written, are_written, bytes_of, field, number_of, units_of};
 use encoding_text::decoder::{DecoderResult, Utf8Decoder};
 use std::alloc::Global;
 use std::test::Fail;
+use test_support::texts::{are_units_written, are_written, bytes_of, field, number_of, units_of};
 
 /// A call of a row: the source, the room and whether it is marked last, then the result and how much is read.
 #[derive(Drop)]

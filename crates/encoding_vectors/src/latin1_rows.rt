@@ -1,6 +1,5 @@
 //! Latin1: checks, fronts and conversions.
 
-use test_support::texts::{are_written, bytes_of, field, number_of};
 use encoding_text::mem::{
     convert_latin1_to_utf8, convert_latin1_to_utf8_partial, convert_latin1_to_utf16,
     convert_utf8_to_latin1_lossy, convert_utf16_to_latin1_lossy, is_str_latin1, is_utf8_latin1,
@@ -8,6 +7,7 @@ use encoding_text::mem::{
 };
 use std::alloc::Global;
 use std::test::Fail;
+use test_support::texts::{are_written, bytes_of, field, number_of};
 
 /// Bytes, and the length of their front that is the UTF-8 of Latin1 text; or bytes that are no text, so not Latin1.
 const FRONTS: &str = "\

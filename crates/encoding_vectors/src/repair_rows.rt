@@ -1,13 +1,13 @@
 //! What `repair_slice`, `utf8_valid_up_to` and `Watch` return.
 
-use test_support::decoder_vectors::{Expected, Vector, length_of, repaired_text, vectors};
-use test_support::texts::{bytes_of, field};
 use encoding_runs::repair::{RepairFault, Sink, Watch, repair_slice};
 use encoding_text::utf_8::utf8_valid_up_to;
 use std::alloc::{AllocError, Global};
 use std::io::ErrorKind;
 use std::test::Fail;
+use test_support::decoder_vectors::{Expected, Vector, length_of, repaired_text, vectors};
 use test_support::streams::{Output, ROOM};
+use test_support::texts::{bytes_of, field};
 
 fn is_broken(part: &Expected) -> bool {
     matches!(part, Expected::Broken(_))

@@ -1,13 +1,13 @@
 //! What `repair` reads, writes and returns, and a watched stream as a source.
 
-use test_support::decoder_vectors::{repaired_text, vectors};
 use crate::repair_rows::broken_count;
-use test_support::texts::{bytes_of, field, number_of};
 use encoding_runs::repair::{RepairFault, Repaired, Sink, Source, Watch, repair};
 use std::alloc::Global;
 use std::io::{ErrorKind, Read};
 use std::test::Fail;
+use test_support::decoder_vectors::{repaired_text, vectors};
 use test_support::streams::{Endless, Input, Output, ROOM};
+use test_support::texts::{bytes_of, field, number_of};
 
 /// The bytes that the reader gives; whether it ends behind them or fails; the limit; what is returned: a fault, or how
 /// many bytes were read and how many parts replaced; and what was written.

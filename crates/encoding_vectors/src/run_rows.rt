@@ -1,11 +1,11 @@
 //! Runs of the decoder: rows, and the vectors whole and one byte a turn.
 
-use test_support::decoder_vectors::{Delivered, delivered_utf8, delivered_utf16, vectors};
-use test_support::texts::{are_units_written, are_written, bytes_of, field, number_of, units_of};
 use encoding_runs::run::{Outcome, Report, Turn, run_to_utf8, run_to_utf16};
 use encoding_text::decoder::{DecoderResult, Utf8Decoder};
 use std::alloc::{AllocError, Global};
 use std::test::Fail;
+use test_support::decoder_vectors::{Delivered, delivered_utf8, delivered_utf16, vectors};
+use test_support::texts::{are_units_written, are_written, bytes_of, field, number_of, units_of};
 
 /// Returns the last answer that a field names.
 fn result_of(field: &str) -> Result<Option<DecoderResult>, Fail> {
@@ -188,7 +188,8 @@ utf8 | 61 E2 98 | 2 9 8 more | 8 | 3 | empty | 61 |
 pending
 utf8 | 83 62 | 1 2 8 more | 8 | 2 | empty | E2 98 83 62 |
 neutral
-utf16 | FF 61 FF 62 | 3 4 4 last | 5 | 4 | empty | 0061 0062 | 0 1 1 1";
+utf16 | FF 61 FF 62 | 3 4 4 last | 5 | 4 | empty | 0061 0062 | 0 1 1 1
+utf16 | F4 8F BF FF | 10 1 2 last | 5 | 4 | empty |  | 0 3 0 1";
 
 #[test]
 fn rows_hold(rt: HostRuntime) -> Result<(), Fail> {
@@ -198,7 +199,7 @@ fn rows_hold(rt: HostRuntime) -> Result<(), Fail> {
         assert!(rt; holds(rt.alloc(), &mut decoder, row)?, "{row}");
         count = count.saturating_add(1);
     }
-    assert!(rt; count == 25);
+    assert!(rt; count == 26);
     Ok(())
 }
 

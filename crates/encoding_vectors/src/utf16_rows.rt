@@ -1,13 +1,13 @@
 //! UTF-16 to UTF-8 without an encoder: whole, bounded, and the two halves of the bounded conversion.
 
 use crate::mixed_text::{BYTES, UNITS};
-use test_support::texts::{are_written, bytes_of, field, number_of, units_of};
 use encoding_text::mem::{convert_utf16_to_utf8, convert_utf16_to_utf8_partial};
 use encoding_text::utf_8::{
     convert_utf16_to_utf8_partial_inner, convert_utf16_to_utf8_partial_tail,
 };
 use std::alloc::Global;
 use std::test::Fail;
+use test_support::texts::{are_written, bytes_of, field, number_of, units_of};
 
 #[test]
 fn converts_a_text(rt: HostRuntime) {
