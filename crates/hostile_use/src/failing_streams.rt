@@ -203,10 +203,3 @@ fn rounds_at_each_place(rt: HostRuntime) -> Result<(), Fail> {
     assert!(rt; count == 7);
     Ok(())
 }
-
-#[test]
-fn faults_have_numbers(rt: HostRuntime) {
-    assert!(rt; RepairFault::Read as u8 == 1);
-    assert!(rt; RepairFault::Write as u8 == 2);
-    assert!(rt; RepairFault::Limit as u8 == 3);
-}

@@ -17,3 +17,5 @@ mod long_results;
 mod parts;
 #[cfg(test)]
 mod surrogate_places;
+#[cfg(test)]
+mod variant_numbers;

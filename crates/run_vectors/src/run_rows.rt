@@ -211,7 +211,8 @@ utf8 | 61 E2 98 | 2 9 8 more | 8 | 3 | empty | 61 |
 pending
 utf8 | 83 62 | 1 2 8 more | 8 | 2 | empty | E2 98 83 62 |
 neutral
-utf16 | FF 61 FF 62 | 3 4 4 last | 5 | 4 | empty | 0061 0062 | 0 1 1 1";
+utf16 | FF 61 FF 62 | 3 4 4 last | 5 | 4 | empty | 0061 0062 | 0 1 1 1
+utf16 | F4 8F BF FF | 10 1 2 last | 5 | 4 | empty |  | 0 3 0 1";
 
 #[test]
 fn rows_hold(rt: HostRuntime) -> Result<(), Fail> {
@@ -221,7 +222,7 @@ fn rows_hold(rt: HostRuntime) -> Result<(), Fail> {
         assert!(rt; holds(rt.alloc(), &mut decoder, row)?, "{row}");
         count = count.saturating_add(1);
     }
-    assert!(rt; count == 25);
+    assert!(rt; count == 26);
     Ok(())
 }
 

@@ -4,6 +4,8 @@ mod peers;
 
 use crate::service::{report, serve};
 use std::io::{ErrorKind, Read};
+use std::test::Fail;
+use test_support::memory::exhaust;
 use test_support::streams::{Input, Output, ROOM};
 
 /// What a run reads, what it is to write, and its status.
@@ -233,9 +235,41 @@ fn stops_at(
 #[test]
 fn ignores_faults_of_the_error_stream(rt: HostRuntime) {
     for fault in FAULTS {
-        for taken in 0..3 {
+        for taken in 0..USAGE.len().saturating_add(1) {
             assert!(rt; stops_at(1, taken, fault, 2, USAGE), "{taken}");
+        }
+        for taken in 0..READ_FAULT.len().saturating_add(1) {
             assert!(rt; stops_at(0, taken, fault, 3, READ_FAULT), "{taken}");
         }
     }
+}
+
+/// Whether the runs of all rows, of all cuts and with an argument are as they are to be.
+fn all_runs_are() -> bool {
+    let mut all = is_refused(1);
+    for row in &ROWS {
+        let mut reader = Input::of(row.input, 2);
+        let mut writer = Output::that_takes_all();
+        all = all && run_is(&mut reader, &mut writer, row.output, row.status, b"");
+    }
+    for cut in &CUTS {
+        let mut reader = Input::that_fails(cut.input, ErrorKind::Other);
+        let mut writer = Output::that_takes_all();
+        all = all && run_is(&mut reader, &mut writer, cut.settled, 3, READ_FAULT);
+        let mut reader = Input::of(cut.input, 2);
+        let mut writer = Output::that_cannot_flush();
+        all = all && serve(0, &mut reader, &mut writer, &mut Output::that_takes_all()) == 4;
+    }
+    all
+}
+
+/// Every request for memory is refused while they run.
+#[test]
+fn takes_no_memory(rt: HostRuntime) -> Result<(), Fail> {
+    let held = exhaust(rt.alloc())?;
+    let all = all_runs_are();
+    let refused = Vec::<u8>::with_capacity(rt.alloc(), 1).is_err();
+    drop(held);
+    assert!(rt; refused && all);
+    Ok(())
 }
