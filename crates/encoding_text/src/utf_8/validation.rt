@@ -1,5 +1,5 @@
 //! Where bytes stop being UTF-8.
-ghost use Rattle.std.specs.Prelude.{◌<◌, ◌≤◌, ◌↔◌, ◌⊎◌, [], ◌∷◌, length, take, IfSome, IfNone, IsTrue};
+ghost use Rattle.std.specs.Prelude.{◌<◌, ◌≤◌, ◌↔◌, ◌⊎◌, [], ◌∷◌, length, take, slice_index, IfSome, IfNone, IsTrue};
 ghost use Rattle.std.specs.Str.{IsUtf8};
 ghost use Rattle.encoding_text.specs.Sequence.{IsSequence};
 ghost use Rattle.encoding_text.specs.Parts.{BeginsWithNoCharacter};
@@ -30,20 +30,19 @@ fn is_four(lead: u8, second: u8, third: u8, fourth: u8) -> bool
     u16::from(common) | u16::from(third >> 6) | (u16::from(fourth & 0xC0) << 2) == 0x202
 }
 
-/// The length of the character that begins three bytes or fewer, where one does.
+/// The length of the character that begins three bytes or fewer, where one does and the first byte isn't ASCII.
+#[inline(never)]
 fn tail_length(bytes: &[u8]) -> Option<usize>
     requires short { length bytes.now < 4 }
+    requires lead { 0x80 ≤ slice_index bytes.now 0 }
     ensures length { IfSome result (λ n. (0 < n) × (n ≤ length bytes.now) × IsSequence (take n bytes.now)) }
     ensures no_character { IfNone result (BeginsWithNoCharacter bytes.now) }
 {
-    if bytes.is_empty() {
+    if bytes.len() < 2 {
         return None;
     }
     let lead = bytes[0];
-    if lead < 0x80 {
-        return Some(1);
-    }
-    if bytes.len() < 2 || !is_second(lead, bytes[1]) {
+    if !is_second(lead, bytes[1]) {
         return None;
     }
     if lead < 0xE0 {
@@ -64,12 +63,15 @@ pub(crate) fn character_length(bytes: &[u8]) -> Option<usize>
     ensures length { IfSome result (λ n. (0 < n) × (n ≤ length bytes.now) × IsSequence (take n bytes.now)) }
     ensures no_character { IfNone result (BeginsWithNoCharacter bytes.now) }
 {
-    if bytes.len() < 4 {
-        return tail_length(bytes);
+    if bytes.is_empty() {
+        return None;
     }
     let lead = bytes[0];
     if lead < 0x80 {
         return Some(1);
+    }
+    if bytes.len() < 4 {
+        return tail_length(bytes);
     }
     if 0xC2 <= lead && lead < 0xE0 {
         return is_continuation(bytes[1]).then_some(2);

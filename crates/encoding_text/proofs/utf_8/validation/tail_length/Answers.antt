@@ -2,15 +2,15 @@ use Rattle.std.proofs.Common.{arith}
 use Rattle.std.proofs.lemmas.Bool.{both_ways}
 use Rattle.encoding_text.proofs.Sequences.SequenceLemmas.{no_character_reads}
 use Rattle.encoding_text.proofs.utf_8.validation.tail_length.Goals as goal
-use Rattle.encoding_text.proofs.utf_8.validation.tail_length.Goals.{then-bytes-lt2-via-then-bytes-lt2, then-bytes-lt2-via-else-bytes-lt2+then-not-is_second, then-bytes-lt3-via-then-bytes-lt3, then-bytes-lt3-via-else-bytes-lt3+then-not-is_continuation}
+use Rattle.encoding_text.proofs.utf_8.validation.tail_length.Goals.{then-bytes-lt3-via-then-bytes-lt3, then-bytes-lt3-via-else-bytes-lt3+then-not-is_continuation}
 
 pub returns-then-bytes-lt2-clause-no_character : goal.returns-then-bytes-lt2-clause-no_character
-returns-then-bytes-lt2-clause-no_character c = no_character_reads _ (λ r.
-    let second = r.1 c.if-lead-lt128.false in
-    elim c.then-bytes-lt2.branch [
-      | then-bytes-lt2-via-then-bytes-lt2 w ↦ omega (arith, second.0)
-      | then-bytes-lt2-via-else-bytes-lt2+then-not-is_second w ↦ both_ways _ w.if-not-is_second.true (w.is_second.ensures.1 second.1)
-    ])
+returns-then-bytes-lt2-clause-no_character c = no_character_reads _ (λ r. let second = r.1 c.requires.lead in omega (arith, second.0))
+
+pub returns-then-not-is_second-clause-no_character : goal.returns-then-not-is_second-clause-no_character
+returns-then-not-is_second-clause-no_character c = no_character_reads _ (λ r.
+    let second = r.1 c.requires.lead in
+    both_ways _ c.if-not-is_second.true (c.is_second.ensures.1 second.1))
 
 pub returns-then-bytes-lt3-clause-no_character : goal.returns-then-bytes-lt3-clause-no_character
 returns-then-bytes-lt3-clause-no_character c = no_character_reads _ (λ r.
