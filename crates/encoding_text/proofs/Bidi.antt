@@ -1,3 +1,4 @@
 pub mod AnyLemmas
 pub mod BidiTextLemmas
 pub mod BidiUnitsLemmas
+pub mod BidiBlocksLemmas

@@ -1,1 +1,3 @@
 pub mod StridesLemmas
+pub mod LaneLemmas
+pub mod TestLemmas

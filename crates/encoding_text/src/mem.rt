@@ -1,6 +1,7 @@
 //! Checks and conversions of text that lies in memory as a whole: ASCII, Latin1, UTF-8 and UTF-16.
 
 mod bidi;
+mod bidi_blocks;
 mod borrowed;
 mod checks;
 mod copies;

@@ -1,21 +1,21 @@
 //! Whether text has characters that are written from right to left, and whether it is Latin1.
 
-ghost use Rattle.std.specs.Prelude.{◌≡◌, ◌+◌, ◌↔◌, ◌⊎◌, IsTrue};
+ghost use Rattle.std.specs.Prelude.{◌↔◌, ◌⊎◌, IsTrue};
 ghost use Rattle.std.specs.Int.{IsInRange};
-ghost use Rattle.std.specs.Str.{continuation_len};
 ghost use Rattle.encoding_text.specs.Fronts.{IsLongestFront};
 ghost use Rattle.encoding_text.specs.Latin1.{IsLatin1, IsUtf8Latin1};
 ghost use Rattle.encoding_text.specs.Sequence.{IsSequence};
 ghost use Rattle.encoding_text.specs.Bidi.{IsRightToLeft, IsRightToLeftUnit, IsBidiUnits, IsBidiText, IsBidiBytes, Classifies};
 
+use super::bidi_blocks::is_text_bidi;
 use super::checks::{str_latin1_up_to, utf8_latin1_up_to};
-use crate::utf_8::{character_length, scalar_of_sequence};
+use crate::utf_8::{scalar_of_sequence, utf8_valid_up_to};
 
 /// The first right-to-left scalar value.
 const FIRST: u32 = 0x0590;
 
-/// The first byte of U+0580 to U+05BF. Lesser characters begin with lesser bytes.
-const FIRST_LEAD: u8 = 0xD6;
+/// How many bytes are validated before they are looked at.
+const PIECE: usize = 4096;
 
 /// The greatest Latin1 code unit.
 const LATIN1_MAX: u16 = 0xFF;
@@ -76,42 +76,18 @@ pub fn is_utf16_code_unit_bidi(u: u16) -> bool
 }
 
 /// Whether the one character that these bytes spell is right-to-left.
-fn is_sequence_bidi(bytes: &[u8]) -> bool
+pub(super) fn is_sequence_bidi(bytes: &[u8]) -> bool
     requires { IsSequence bytes.now }
     ensures { IsTrue result ↔ IsBidiText bytes.now }
 {
-    if bytes[0] < FIRST_LEAD {
-        return false;
-    }
     is_right_to_left(scalar_of_sequence(bytes))
-}
-
-/// How many bytes a character takes whose first byte is this one.
-fn length_by_lead(lead: u8) -> usize
-    ensures { result ≡ continuation_len lead + 1 }
-{
-    match lead {
-        0..0x80 => 1,
-        0x80..0xE0 => 2,
-        0xE0..0xF0 => 3,
-        _ => 4,
-    }
 }
 
 /// Whether a character of the text is right-to-left.
 pub fn is_str_bidi(buffer: &str) -> bool
     ensures { IsTrue result ↔ IsBidiText buffer.now }
 {
-    let bytes = buffer.as_bytes();
-    let mut at = 0;
-    while at < bytes.len() {
-        let length = length_by_lead(bytes[at]);
-        if is_sequence_bidi(&bytes[at..at + length]) {
-            return true;
-        }
-        at += length;
-    }
-    false
+    is_text_bidi(buffer.as_bytes())
 }
 
 /// Whether the bytes are not well-formed UTF-8, or one of their characters is right-to-left.
@@ -120,13 +96,15 @@ pub fn is_utf8_bidi(buffer: &[u8]) -> bool
 {
     let mut at = 0;
     while at < buffer.len() {
-        let Some(length) = character_length(&buffer[at..]) else {
-            return true;
-        };
-        if is_sequence_bidi(&buffer[at..at + length]) {
+        let piece = &buffer[at..at + PIECE.min(buffer.len() - at)];
+        let front = utf8_valid_up_to(piece);
+        if front == 0 {
             return true;
         }
-        at += length;
+        if is_text_bidi(&piece[..front]) {
+            return true;
+        }
+        at += front;
     }
     false
 }

@@ -1,0 +1,145 @@
+//! Right-to-left characters by blocks: that none begins in a block is seen by one test of vectors.
+ghost use Rattle.std.specs.Prelude.{◌≡◌, ◌+◌, ◌<◌, ◌≤◌, ◌↔◌, ℕ, length, slice_index, IsTrue, IsFalse};
+ghost use Rattle.std.specs.Str.{IsUtf8};
+ghost use Rattle.encoding_text.specs.Bidi.{IsBidiText};
+ghost use Rattle.encoding_text.specs.Steps.BidiBlocks.{second_end, StandsRightToLeft, NoneStands, NoneRightToLeft};
+ghost use Rattle.encoding_text.specs.Steps.Lanes.{HasLanes};
+
+use super::bidi::is_sequence_bidi;
+use crate::strides::front_below;
+use crate::utf_8::character_length;
+use std::simd::Simd;
+use std::simd::prelude::*;
+
+/// The places that one test covers.
+const BLOCK: usize = 64;
+
+/// The places of a lesser test, and those that are looked at one by one where it doesn't clear them.
+const STRIDE: usize = 16;
+
+/// The first byte of U+0580 to U+05BF. Lesser characters begin with lesser bytes.
+const FIRST_LEAD: u8 = 0xD6;
+
+/// Below this number is the second byte of a right-to-left character that begins with the lane; 0 where there is none.
+#[inline(always)]
+fn second_ends<const N: usize>(first: Simd<u8, N>) -> Simd<u8, N>
+    ensures { HasLanes N result (λ k. second_end (slice_index first.entry k)) }
+{
+    let none = Simd::splat(0);
+    let hebrew = first.simd_ge(Simd::splat(FIRST_LEAD)) & first.simd_lt(Simd::splat(0xE0));
+    hebrew.select(Simd::splat(0xFF), none)
+        | first
+            .simd_eq(Simd::splat(0xE0))
+            .select(Simd::splat(0xA4), none)
+        | first
+            .simd_eq(Simd::splat(0xE2))
+            .select(Simd::splat(0x82), none)
+        | first
+            .simd_eq(Simd::splat(0xEF))
+            .select(Simd::splat(0xBC), none)
+        | first
+            .simd_eq(Simd::splat(0xF0))
+            .select(Simd::splat(0x9F), none)
+}
+
+/// Whether no right-to-left character can stand at one of the N places from `at` on.
+#[inline(always)]
+fn is_clear<const N: usize>(bytes: &[u8], at: usize) -> bool
+    requires { (at + N < length bytes.now) × (N ≤ 64) }
+    ensures { IsTrue result → NoneStands bytes.now at (at + N) }
+{
+    let ends = second_ends(Simd::<u8, N>::from_slice(&bytes[at..]));
+    !Simd::<u8, N>::from_slice(&bytes[at + 1..])
+        .simd_lt(ends)
+        .any()
+}
+
+/// Goes on from a place up to the first byte that isn't below those of right-to-left characters.
+#[inline(always)]
+fn skip_low(bytes: &[u8], from: usize) -> usize
+    requires { from ≤ length bytes.now }
+    ensures within { (from ≤ result) × (result ≤ length bytes.now) }
+    ensures none { NoneStands bytes.now from result }
+{
+    from + front_below(&bytes[from..], FIRST_LEAD)
+}
+
+/// Goes on from a place by blocks at which no right-to-left character can stand, and returns where that ends.
+fn skip_clear(bytes: &[u8], from: usize) -> usize
+    requires { from ≤ length bytes.now }
+    ensures within { (from ≤ result) × (result ≤ length bytes.now) }
+    ensures none { NoneStands bytes.now from result }
+{
+    let mut at = skip_low(bytes, from);
+    while bytes.len() - at > BLOCK && is_clear::<BLOCK>(bytes, at) {
+        at = skip_low(bytes, at + BLOCK);
+    }
+    while bytes.len() - at > STRIDE {
+        if !is_clear::<STRIDE>(bytes, at) {
+            return at;
+        }
+        at += STRIDE;
+    }
+    // the last stride overlaps the one before
+    if at < bytes.len()
+        && bytes.len() > STRIDE
+        && is_clear::<STRIDE>(bytes, bytes.len() - 1 - STRIDE)
+    {
+        return bytes.len();
+    }
+    at
+}
+
+/// Whether right-to-left characters may begin with the byte.
+fn may_begin(lead: u8) -> bool
+    ensures { IsFalse result → second_end lead ≡ 0 }
+{
+    match lead {
+        0xD6..=0xE0 | 0xE2 | 0xEF | 0xF0 => true,
+        _ => false,
+    }
+}
+
+/// Whether a right-to-left character stands at the place.
+fn stands_at(bytes: &[u8], at: usize) -> bool
+    requires { at < length bytes.now }
+    ensures { IsTrue result ↔ StandsRightToLeft bytes.now at }
+{
+    if !may_begin(bytes[at]) {
+        return false;
+    }
+    let Some(length) = character_length(&bytes[at..]) else {
+        return false;
+    };
+    is_sequence_bidi(&bytes[at..at + length])
+}
+
+/// Whether a right-to-left character stands at one of the places.
+fn stands_between(bytes: &[u8], from: usize, to: usize) -> bool
+    requires { (from ≤ to) × (to ≤ length bytes.now) }
+    ensures found { IsTrue result → (k : ℕ) × (k < length bytes.now) × StandsRightToLeft bytes.now k }
+    ensures none { IsFalse result → NoneStands bytes.now from to }
+{
+    for at in from..to {
+        if stands_at(bytes, at) {
+            return true;
+        }
+    }
+    false
+}
+
+/// Whether a character of the well-formed text is right-to-left.
+pub(super) fn is_text_bidi(bytes: &[u8]) -> bool
+    requires { IsUtf8 bytes.now }
+    ensures { IsTrue result ↔ IsBidiText bytes.now }
+{
+    let mut at = 0;
+    while at < bytes.len() {
+        let open = skip_clear(bytes, at);
+        at = open + STRIDE.min(bytes.len() - open);
+        if stands_between(bytes, open, at) {
+            return true;
+        }
+    }
+    false
+}
