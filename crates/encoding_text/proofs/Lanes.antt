@@ -1,1 +1,5 @@
 pub mod StridesLemmas
+pub mod LaneLemmas
+pub mod PlacesLemmas
+pub mod SpellingLemmas
+pub mod StoresLemmas

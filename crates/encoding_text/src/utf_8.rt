@@ -3,6 +3,7 @@ mod blocks;
 mod decoding;
 mod encoder;
 mod encoding;
+mod spelling;
 mod validation;
 
 pub use decoding::convert_utf8_to_utf16_up_to_invalid;
