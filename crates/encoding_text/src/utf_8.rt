@@ -4,6 +4,7 @@ mod decoding;
 mod encoder;
 mod encoding;
 mod table;
+mod spelling;
 mod validation;
 
 pub use decoding::convert_utf8_to_utf16_up_to_invalid;

@@ -1,0 +1,179 @@
+//! The UTF-8 of vectors of code units: which of their bytes it keeps is looked up by a mask.
+
+ghost use Rattle.std.specs.Prelude.{◌≡◌, ℕ, ◌+◌, ◌*◌, ◌<◌, ◌≤◌, ◌++◌, Bool, nat_le, List, length, map, take, drop, slice_index, encode_utf8_all};
+ghost use Rattle.std.specs.Simd.Lanes.{mask_l};
+ghost use Rattle.encoding_text.specs.Steps.Spelling.{kept_places, Spells};
+
+use std::simd::Simd;
+use std::simd::prelude::*;
+
+/// The most code units' bytes that one vector has room for.
+const LANES: [u8; 16] = [0, 1, 2, 3, 4, 5, 6, 7, 8, 9, 10, 11, 12, 13, 14, 15];
+
+/// Eight code units in two bytes each: the UTF-8 of each, and no matter what behind that of one byte.
+#[inline(always)]
+fn both_bytes(units: u16x8) -> u8x16
+    requires { (k : ℕ) → slice_index units k < 0x800 }
+    ensures long { length result ≡ 16 }
+    ensures bytes { (k : ℕ) → k < 8 → Spells (slice_index units k) (slice_index result (2 * k)) (slice_index result (2 * k + 1)) }
+{
+    let last = (units & u16x8::splat(0x3F)) << u16x8::splat(8);
+    let both = (units >> u16x8::splat(6)) + last + u16x8::splat(0x80C0);
+    let takes_two = units.simd_ge(u16x8::splat(0x80));
+    takes_two.select(both, units).to_le_bytes()
+}
+
+/// The mask of the code units that aren't ASCII.
+#[inline(always)]
+fn mask_of_others(units: u16x8) -> usize
+    ensures small { result < 256 }
+    ensures mask { result ≡ mask_l (map (nat_le 0x80) units) }
+{
+    units.simd_ge(u16x8::splat(0x80)).to_bitmask() as usize
+}
+
+/// A word of the table.
+#[inline(always)]
+fn places_word(at: usize) -> u64
+    requires { at < 512 }
+    ensures { result ≡ slice_index PLACES at }
+{
+    PLACES[at]
+}
+
+/// The places in `both_bytes` of the bytes that are kept, with zeros behind them.
+#[inline(always)]
+fn places_by(mask: usize) -> u8x16
+    requires { mask < 256 }
+    ensures long { length result ≡ 16 }
+    ensures within { (k : ℕ) → k < 16 → slice_index result k < 16 }
+    ensures kept { (tests : List Bool) → length tests ≡ 8 → mask ≡ mask_l tests
+        → take (length (kept_places 0 tests)) result ≡ kept_places 0 tests }
+{
+    Simd::<u64, 2>::from_array([places_word(2 * mask), places_word(2 * mask + 1)]).to_le_bytes()
+}
+
+/// The UTF-8 of eight code units below U+0800, in the first bytes of the vector, and how many these are.
+#[inline(always)]
+fn spell_short(units: u16x8) -> (u8x16, usize)
+    requires { (k : ℕ) → slice_index units k < 0x800 }
+    ensures long { length result.0 ≡ 16 }
+    ensures count { (8 ≤ result.1) × (result.1 ≤ 16) }
+    ensures spelled { take result.1 result.0 ≡ encode_utf8_all units }
+{
+    let mask = mask_of_others(units);
+    let bytes = both_bytes(units).swizzle_dyn(places_by(mask));
+    (bytes, 8 + mask.count_ones() as usize)
+}
+
+/// Writes first bytes of two vectors, so many of each, one behind the other. Behind them `dst` is as before, though 32
+/// bytes are stored.
+#[inline(always)]
+fn put_both(dst: &mut [u8], at: usize, first: u8x16, count: usize, second: u8x16, more: usize)
+    requires room { at + 32 ≤ length dst.old }
+    requires first { (8 ≤ count) × (count ≤ 16) × (length first ≡ 16) }
+    requires second { (8 ≤ more) × (more ≤ 16) × (length second ≡ 16) }
+    ensures { dst.new ≡ take at dst.old ++ ((take count first ++ take more second) ++ drop (at + (count + more)) dst.old) }
+{
+    let next = at + count;
+    let behind = u8x16::from_slice(&dst[next..]);
+    first.copy_to_slice(&mut dst[at..]);
+    let is_kept = u8x16::from_array(LANES).simd_lt(u8x16::splat(more as u8));
+    is_kept
+        .select(second, behind)
+        .copy_to_slice(&mut dst[next..]);
+}
+
+/// Writes the UTF-8 of twice eight code units below U+0800, and returns how many bytes that is. Behind them `dst` is as
+/// before.
+#[inline(always)]
+pub(crate) fn write_short(first: u16x8, second: u16x8, dst: &mut [u8], at: usize) -> usize
+    requires room { at + 32 ≤ length dst.old }
+    requires short { (k : ℕ) → (slice_index first k < 0x800) × (slice_index second k < 0x800) }
+    ensures count { result ≡ length (encode_utf8_all first ++ encode_utf8_all second) }
+    ensures written { dst.new ≡ take at dst.old
+        ++ ((encode_utf8_all first ++ encode_utf8_all second) ++ drop (at + result) dst.old) }
+{
+    let (bytes, count) = spell_short(first);
+    let (other, more) = spell_short(second);
+    put_both(dst, at, bytes, count, other, more);
+    count + more
+}
+
+/// For each mask of eight code units, in two words, the places of the bytes that are kept of two for each unit: the
+/// first, and the second of those whose bit is set. Behind them are zeros.
+const PLACES: [u64; 512] = [
+    0xe0c0a0806040200, 0x0, 0xc0a080604020100, 0xe, 0xc0a080604030200, 0xe, 0xa08060403020100, 0xe0c,
+    0xc0a080605040200, 0xe, 0xa08060504020100, 0xe0c, 0xa08060504030200, 0xe0c, 0x806050403020100, 0xe0c0a,
+    0xc0a080706040200, 0xe, 0xa08070604020100, 0xe0c, 0xa08070604030200, 0xe0c, 0x807060403020100, 0xe0c0a,
+    0xa08070605040200, 0xe0c, 0x807060504020100, 0xe0c0a, 0x807060504030200, 0xe0c0a, 0x706050403020100, 0xe0c0a08,
+    0xc0a090806040200, 0xe, 0xa09080604020100, 0xe0c, 0xa09080604030200, 0xe0c, 0x908060403020100, 0xe0c0a,
+    0xa09080605040200, 0xe0c, 0x908060504020100, 0xe0c0a, 0x908060504030200, 0xe0c0a, 0x806050403020100, 0xe0c0a09,
+    0xa09080706040200, 0xe0c, 0x908070604020100, 0xe0c0a, 0x908070604030200, 0xe0c0a, 0x807060403020100, 0xe0c0a09,
+    0x908070605040200, 0xe0c0a, 0x807060504020100, 0xe0c0a09, 0x807060504030200, 0xe0c0a09, 0x706050403020100,
+    0xe0c0a0908, 0xc0b0a0806040200, 0xe, 0xb0a080604020100, 0xe0c, 0xb0a080604030200, 0xe0c, 0xa08060403020100,
+    0xe0c0b, 0xb0a080605040200, 0xe0c, 0xa08060504020100, 0xe0c0b, 0xa08060504030200, 0xe0c0b, 0x806050403020100,
+    0xe0c0b0a, 0xb0a080706040200, 0xe0c, 0xa08070604020100, 0xe0c0b, 0xa08070604030200, 0xe0c0b, 0x807060403020100,
+    0xe0c0b0a, 0xa08070605040200, 0xe0c0b, 0x807060504020100, 0xe0c0b0a, 0x807060504030200, 0xe0c0b0a,
+    0x706050403020100, 0xe0c0b0a08, 0xb0a090806040200, 0xe0c, 0xa09080604020100, 0xe0c0b, 0xa09080604030200,
+    0xe0c0b, 0x908060403020100, 0xe0c0b0a, 0xa09080605040200, 0xe0c0b, 0x908060504020100, 0xe0c0b0a,
+    0x908060504030200, 0xe0c0b0a, 0x806050403020100, 0xe0c0b0a09, 0xa09080706040200, 0xe0c0b, 0x908070604020100,
+    0xe0c0b0a, 0x908070604030200, 0xe0c0b0a, 0x807060403020100, 0xe0c0b0a09, 0x908070605040200, 0xe0c0b0a,
+    0x807060504020100, 0xe0c0b0a09, 0x807060504030200, 0xe0c0b0a09, 0x706050403020100, 0xe0c0b0a0908,
+    0xd0c0a0806040200, 0xe, 0xc0a080604020100, 0xe0d, 0xc0a080604030200, 0xe0d, 0xa08060403020100, 0xe0d0c,
+    0xc0a080605040200, 0xe0d, 0xa08060504020100, 0xe0d0c, 0xa08060504030200, 0xe0d0c, 0x806050403020100, 0xe0d0c0a,
+    0xc0a080706040200, 0xe0d, 0xa08070604020100, 0xe0d0c, 0xa08070604030200, 0xe0d0c, 0x807060403020100, 0xe0d0c0a,
+    0xa08070605040200, 0xe0d0c, 0x807060504020100, 0xe0d0c0a, 0x807060504030200, 0xe0d0c0a, 0x706050403020100,
+    0xe0d0c0a08, 0xc0a090806040200, 0xe0d, 0xa09080604020100, 0xe0d0c, 0xa09080604030200, 0xe0d0c,
+    0x908060403020100, 0xe0d0c0a, 0xa09080605040200, 0xe0d0c, 0x908060504020100, 0xe0d0c0a, 0x908060504030200,
+    0xe0d0c0a, 0x806050403020100, 0xe0d0c0a09, 0xa09080706040200, 0xe0d0c, 0x908070604020100, 0xe0d0c0a,
+    0x908070604030200, 0xe0d0c0a, 0x807060403020100, 0xe0d0c0a09, 0x908070605040200, 0xe0d0c0a, 0x807060504020100,
+    0xe0d0c0a09, 0x807060504030200, 0xe0d0c0a09, 0x706050403020100, 0xe0d0c0a0908, 0xc0b0a0806040200, 0xe0d,
+    0xb0a080604020100, 0xe0d0c, 0xb0a080604030200, 0xe0d0c, 0xa08060403020100, 0xe0d0c0b, 0xb0a080605040200,
+    0xe0d0c, 0xa08060504020100, 0xe0d0c0b, 0xa08060504030200, 0xe0d0c0b, 0x806050403020100, 0xe0d0c0b0a,
+    0xb0a080706040200, 0xe0d0c, 0xa08070604020100, 0xe0d0c0b, 0xa08070604030200, 0xe0d0c0b, 0x807060403020100,
+    0xe0d0c0b0a, 0xa08070605040200, 0xe0d0c0b, 0x807060504020100, 0xe0d0c0b0a, 0x807060504030200, 0xe0d0c0b0a,
+    0x706050403020100, 0xe0d0c0b0a08, 0xb0a090806040200, 0xe0d0c, 0xa09080604020100, 0xe0d0c0b, 0xa09080604030200,
+    0xe0d0c0b, 0x908060403020100, 0xe0d0c0b0a, 0xa09080605040200, 0xe0d0c0b, 0x908060504020100, 0xe0d0c0b0a,
+    0x908060504030200, 0xe0d0c0b0a, 0x806050403020100, 0xe0d0c0b0a09, 0xa09080706040200, 0xe0d0c0b,
+    0x908070604020100, 0xe0d0c0b0a, 0x908070604030200, 0xe0d0c0b0a, 0x807060403020100, 0xe0d0c0b0a09,
+    0x908070605040200, 0xe0d0c0b0a, 0x807060504020100, 0xe0d0c0b0a09, 0x807060504030200, 0xe0d0c0b0a09,
+    0x706050403020100, 0xe0d0c0b0a0908, 0xe0c0a0806040200, 0xf, 0xc0a080604020100, 0xf0e, 0xc0a080604030200, 0xf0e,
+    0xa08060403020100, 0xf0e0c, 0xc0a080605040200, 0xf0e, 0xa08060504020100, 0xf0e0c, 0xa08060504030200, 0xf0e0c,
+    0x806050403020100, 0xf0e0c0a, 0xc0a080706040200, 0xf0e, 0xa08070604020100, 0xf0e0c, 0xa08070604030200, 0xf0e0c,
+    0x807060403020100, 0xf0e0c0a, 0xa08070605040200, 0xf0e0c, 0x807060504020100, 0xf0e0c0a, 0x807060504030200,
+    0xf0e0c0a, 0x706050403020100, 0xf0e0c0a08, 0xc0a090806040200, 0xf0e, 0xa09080604020100, 0xf0e0c,
+    0xa09080604030200, 0xf0e0c, 0x908060403020100, 0xf0e0c0a, 0xa09080605040200, 0xf0e0c, 0x908060504020100,
+    0xf0e0c0a, 0x908060504030200, 0xf0e0c0a, 0x806050403020100, 0xf0e0c0a09, 0xa09080706040200, 0xf0e0c,
+    0x908070604020100, 0xf0e0c0a, 0x908070604030200, 0xf0e0c0a, 0x807060403020100, 0xf0e0c0a09, 0x908070605040200,
+    0xf0e0c0a, 0x807060504020100, 0xf0e0c0a09, 0x807060504030200, 0xf0e0c0a09, 0x706050403020100, 0xf0e0c0a0908,
+    0xc0b0a0806040200, 0xf0e, 0xb0a080604020100, 0xf0e0c, 0xb0a080604030200, 0xf0e0c, 0xa08060403020100, 0xf0e0c0b,
+    0xb0a080605040200, 0xf0e0c, 0xa08060504020100, 0xf0e0c0b, 0xa08060504030200, 0xf0e0c0b, 0x806050403020100,
+    0xf0e0c0b0a, 0xb0a080706040200, 0xf0e0c, 0xa08070604020100, 0xf0e0c0b, 0xa08070604030200, 0xf0e0c0b,
+    0x807060403020100, 0xf0e0c0b0a, 0xa08070605040200, 0xf0e0c0b, 0x807060504020100, 0xf0e0c0b0a, 0x807060504030200,
+    0xf0e0c0b0a, 0x706050403020100, 0xf0e0c0b0a08, 0xb0a090806040200, 0xf0e0c, 0xa09080604020100, 0xf0e0c0b,
+    0xa09080604030200, 0xf0e0c0b, 0x908060403020100, 0xf0e0c0b0a, 0xa09080605040200, 0xf0e0c0b, 0x908060504020100,
+    0xf0e0c0b0a, 0x908060504030200, 0xf0e0c0b0a, 0x806050403020100, 0xf0e0c0b0a09, 0xa09080706040200, 0xf0e0c0b,
+    0x908070604020100, 0xf0e0c0b0a, 0x908070604030200, 0xf0e0c0b0a, 0x807060403020100, 0xf0e0c0b0a09,
+    0x908070605040200, 0xf0e0c0b0a, 0x807060504020100, 0xf0e0c0b0a09, 0x807060504030200, 0xf0e0c0b0a09,
+    0x706050403020100, 0xf0e0c0b0a0908, 0xd0c0a0806040200, 0xf0e, 0xc0a080604020100, 0xf0e0d, 0xc0a080604030200,
+    0xf0e0d, 0xa08060403020100, 0xf0e0d0c, 0xc0a080605040200, 0xf0e0d, 0xa08060504020100, 0xf0e0d0c,
+    0xa08060504030200, 0xf0e0d0c, 0x806050403020100, 0xf0e0d0c0a, 0xc0a080706040200, 0xf0e0d, 0xa08070604020100,
+    0xf0e0d0c, 0xa08070604030200, 0xf0e0d0c, 0x807060403020100, 0xf0e0d0c0a, 0xa08070605040200, 0xf0e0d0c,
+    0x807060504020100, 0xf0e0d0c0a, 0x807060504030200, 0xf0e0d0c0a, 0x706050403020100, 0xf0e0d0c0a08,
+    0xc0a090806040200, 0xf0e0d, 0xa09080604020100, 0xf0e0d0c, 0xa09080604030200, 0xf0e0d0c, 0x908060403020100,
+    0xf0e0d0c0a, 0xa09080605040200, 0xf0e0d0c, 0x908060504020100, 0xf0e0d0c0a, 0x908060504030200, 0xf0e0d0c0a,
+    0x806050403020100, 0xf0e0d0c0a09, 0xa09080706040200, 0xf0e0d0c, 0x908070604020100, 0xf0e0d0c0a,
+    0x908070604030200, 0xf0e0d0c0a, 0x807060403020100, 0xf0e0d0c0a09, 0x908070605040200, 0xf0e0d0c0a,
+    0x807060504020100, 0xf0e0d0c0a09, 0x807060504030200, 0xf0e0d0c0a09, 0x706050403020100, 0xf0e0d0c0a0908,
+    0xc0b0a0806040200, 0xf0e0d, 0xb0a080604020100, 0xf0e0d0c, 0xb0a080604030200, 0xf0e0d0c, 0xa08060403020100,
+    0xf0e0d0c0b, 0xb0a080605040200, 0xf0e0d0c, 0xa08060504020100, 0xf0e0d0c0b, 0xa08060504030200, 0xf0e0d0c0b,
+    0x806050403020100, 0xf0e0d0c0b0a, 0xb0a080706040200, 0xf0e0d0c, 0xa08070604020100, 0xf0e0d0c0b,
+    0xa08070604030200, 0xf0e0d0c0b, 0x807060403020100, 0xf0e0d0c0b0a, 0xa08070605040200, 0xf0e0d0c0b,
+    0x807060504020100, 0xf0e0d0c0b0a, 0x807060504030200, 0xf0e0d0c0b0a, 0x706050403020100, 0xf0e0d0c0b0a08,
+    0xb0a090806040200, 0xf0e0d0c, 0xa09080604020100, 0xf0e0d0c0b, 0xa09080604030200, 0xf0e0d0c0b, 0x908060403020100,
+    0xf0e0d0c0b0a, 0xa09080605040200, 0xf0e0d0c0b, 0x908060504020100, 0xf0e0d0c0b0a, 0x908060504030200,
+    0xf0e0d0c0b0a, 0x806050403020100, 0xf0e0d0c0b0a09, 0xa09080706040200, 0xf0e0d0c0b, 0x908070604020100,
+    0xf0e0d0c0b0a, 0x908070604030200, 0xf0e0d0c0b0a, 0x807060403020100, 0xf0e0d0c0b0a09, 0x908070605040200,
+    0xf0e0d0c0b0a, 0x807060504020100, 0xf0e0d0c0b0a09, 0x807060504030200, 0xf0e0d0c0b0a09, 0x706050403020100,
+    0xf0e0d0c0b0a0908,];
