@@ -3,8 +3,8 @@ mod blocks;
 mod decoding;
 mod encoder;
 mod encoding;
-mod table;
 mod spelling;
+mod table;
 mod validation;
 
 pub use decoding::convert_utf8_to_utf16_up_to_invalid;

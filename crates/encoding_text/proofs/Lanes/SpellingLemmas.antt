@@ -105,7 +105,7 @@ pick false x y l m = m
 -- the words of eight code units, as bytes
 both_lanes : (us : List ℕ) → length us ≡ 8
     → HasLanes 8 (zip2 (λ a b. (a + b) % 2 ^ 16) (zip2 (λ a b. (a + b) % 2 ^ 16) (zip2 (λ a b. a / 2 ^ b) us (replicate 8 6)) (zip2 (λ a b. a * 2 ^ b % 2 ^ 16) (zip2 bit_and us (replicate 8 0x3F)) (replicate 8 8))) (replicate 8 0x80C0))
-        (λ k. both (get_or us k 0))
+    (λ k. both (get_or us k 0))
 both_lanes us long =
     let lanes = HasLanes-itself 8 us long in
     let lead = HasLanes-zip2 (λ a b. a / 2 ^ b) lanes (HasLanes-splat 8 6) in
