@@ -7,3 +7,4 @@ pub mod Following
 pub mod Strides
 pub mod Lanes
 pub mod BidiBlocks
+pub mod Pairs
