@@ -8,3 +8,4 @@ pub mod Strides
 pub mod Lanes
 pub mod BidiBlocks
 pub mod Spelling
+pub mod Pairs

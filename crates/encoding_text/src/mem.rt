@@ -7,6 +7,7 @@ mod checks;
 mod copies;
 mod from_utf16;
 mod latin1;
+mod pair_blocks;
 mod surrogates;
 mod text_destinations;
 mod to_utf16;

@@ -81,7 +81,7 @@ pub(crate) fn front_below(bytes: &[u8], bound: u8) -> usize
 
 /// Goes from a place on by N UTF-16 code units at a time while they are below the bound, and returns where that ends.
 #[inline(always)]
-fn skip_units_below<const N: usize>(units: &[u16], from: usize, bound: u16) -> usize
+pub(crate) fn skip_units_below<const N: usize>(units: &[u16], from: usize, bound: u16) -> usize
     requires { (from ≤ length units.now) × (0 < N) × (N ≤ 64) }
     ensures within { result ≤ length units.now }
     ensures below { BelowUpTo bound units.now from → BelowUpTo bound units.now result }

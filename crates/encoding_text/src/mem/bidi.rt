@@ -7,7 +7,7 @@ ghost use Rattle.encoding_text.specs.Latin1.{IsLatin1, IsUtf8Latin1};
 ghost use Rattle.encoding_text.specs.Sequence.{IsSequence};
 ghost use Rattle.encoding_text.specs.Bidi.{IsRightToLeft, IsRightToLeftUnit, IsBidiUnits, IsBidiText, IsBidiBytes, Classifies};
 
-use super::bidi_blocks::is_text_bidi;
+use super::bidi_blocks::{UNIT_STRIDE, is_text_bidi, skip_clear_units, units_below};
 use super::checks::{str_latin1_up_to, utf8_latin1_up_to};
 use crate::utf_8::{scalar_of_sequence, utf8_valid_up_to};
 
@@ -17,8 +17,8 @@ const FIRST: u32 = 0x0590;
 /// How many bytes are validated before they are looked at.
 const PIECE: usize = 4096;
 
-/// The greatest Latin1 code unit.
-const LATIN1_MAX: u16 = 0xFF;
+/// The least UTF-16 code unit that isn't Latin1.
+const LATIN1_END: u16 = 0x100;
 
 /// What is known of a text at a glance: whether it is Latin1, and else whether right-to-left characters are in it.
 #[derive(Debug, PartialEq, Eq, Drop)]
@@ -113,9 +113,14 @@ pub fn is_utf8_bidi(buffer: &[u8]) -> bool
 pub fn is_utf16_bidi(buffer: &[u16]) -> bool
     ensures { IsTrue result ↔ IsBidiUnits buffer.now }
 {
-    for i in 0..buffer.len() {
-        if is_utf16_code_unit_bidi(buffer[i]) {
-            return true;
+    let mut at = 0;
+    while at < buffer.len() {
+        let from = skip_clear_units(buffer, at);
+        at = from + UNIT_STRIDE.min(buffer.len() - from);
+        for i in from..at {
+            if is_utf16_code_unit_bidi(buffer[i]) {
+                return true;
+            }
         }
     }
     false
@@ -125,12 +130,7 @@ pub fn is_utf16_bidi(buffer: &[u16]) -> bool
 fn utf16_latin1_up_to(buffer: &[u16]) -> usize
     ensures { IsLongestFront IsLatin1 buffer.now result }
 {
-    for i in 0..buffer.len() {
-        if buffer[i] > LATIN1_MAX {
-            return i;
-        }
-    }
-    buffer.len()
+    units_below(buffer, LATIN1_END)
 }
 
 /// Returns `Latin1` where the bytes are the UTF-8 of scalar values up to U+00FF, else `Bidi` where `is_utf8_bidi` holds,

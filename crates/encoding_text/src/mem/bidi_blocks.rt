@@ -4,9 +4,10 @@ ghost use Rattle.std.specs.Str.{IsUtf8};
 ghost use Rattle.encoding_text.specs.Bidi.{IsBidiText};
 ghost use Rattle.encoding_text.specs.Steps.BidiBlocks.{second_end, StandsRightToLeft, NoneStands, NoneRightToLeft};
 ghost use Rattle.encoding_text.specs.Steps.Lanes.{HasLanes};
+ghost use Rattle.encoding_text.specs.Steps.Strides.{BelowUpTo};
 
 use super::bidi::is_sequence_bidi;
-use crate::strides::front_below;
+use crate::strides::{front_below, skip_units_below};
 use crate::utf_8::character_length;
 use std::simd::Simd;
 use std::simd::prelude::*;
@@ -16,6 +17,15 @@ const BLOCK: usize = 64;
 
 /// The places of a lesser test, and those that are looked at one by one where it doesn't clear them.
 const STRIDE: usize = 16;
+
+/// The code units that one test covers.
+const UNIT_BLOCK: usize = 32;
+
+/// The code units of a lesser test, and those that are looked at one by one where it doesn't clear them.
+pub(super) const UNIT_STRIDE: usize = 8;
+
+/// The first right-to-left code unit.
+const FIRST_UNIT: u16 = 0x0590;
 
 /// The first byte of U+0580 to U+05BF. Lesser characters begin with lesser bytes.
 const FIRST_LEAD: u8 = 0xD6;
@@ -142,4 +152,64 @@ pub(super) fn is_text_bidi(bytes: &[u8]) -> bool
         }
     }
     false
+}
+
+/// How many code units come before the first that isn't below the bound.
+#[inline(always)]
+pub(super) fn units_below(units: &[u16], bound: u16) -> usize
+    ensures within { result ≤ length units.now }
+    ensures below { BelowUpTo bound units.now result }
+    ensures stops { result < length units.now → bound ≤ slice_index units.now result }
+{
+    let by_blocks = skip_units_below::<UNIT_BLOCK>(units, 0, bound);
+    let by_strides = skip_units_below::<UNIT_STRIDE>(units, by_blocks, bound);
+    skip_units_below::<1>(units, by_strides, bound)
+}
+
+/// Whether none of the N code units from `at` on is right-to-left. It isn't, either, where one is between two of them.
+#[inline(always)]
+fn are_units_clear<const N: usize>(units: &[u16], at: usize) -> bool
+    requires { (at + N ≤ length units.now) × (N ≤ 64) }
+    ensures { IsTrue result → NoneRightToLeft units.now at (at + N) }
+{
+    let block = Simd::<u16, N>::from_slice(&units[at..]);
+    let scripts = (block - Simd::splat(0x0590)).simd_lt(Simd::splat(0x0370));
+    let controls = (block - Simd::splat(0x200F)).simd_lt(Simd::splat(0x0059));
+    let halves = (block - Simd::splat(0xD802)).simd_lt(Simd::splat(0x003A));
+    let forms = (block - Simd::splat(0xFB1D)).simd_lt(Simd::splat(0x03E2));
+    !((scripts | controls) | (halves | forms)).any()
+}
+
+/// Goes on from a place up to the first code unit that isn't below the right-to-left ones.
+#[inline(always)]
+fn skip_low_units(units: &[u16], from: usize) -> usize
+    requires { from ≤ length units.now }
+    ensures within { (from ≤ result) × (result ≤ length units.now) }
+    ensures none { NoneRightToLeft units.now from result }
+{
+    from + units_below(&units[from..], FIRST_UNIT)
+}
+
+/// Goes on from a place by blocks of code units that aren't right-to-left, and returns where that ends.
+pub(super) fn skip_clear_units(units: &[u16], from: usize) -> usize
+    requires { from ≤ length units.now }
+    ensures within { (from ≤ result) × (result ≤ length units.now) }
+    ensures none { NoneRightToLeft units.now from result }
+{
+    let mut at = skip_low_units(units, from);
+    while units.len() - at >= UNIT_BLOCK && are_units_clear::<UNIT_BLOCK>(units, at) {
+        at = skip_low_units(units, at + UNIT_BLOCK);
+    }
+    while units.len() - at >= UNIT_STRIDE {
+        if !are_units_clear::<UNIT_STRIDE>(units, at) {
+            return at;
+        }
+        at += UNIT_STRIDE;
+    }
+    // the last stride overlaps the one before
+    let last = units.len() - UNIT_STRIDE.min(units.len());
+    if 0 < last && are_units_clear::<UNIT_STRIDE>(units, last) {
+        return units.len();
+    }
+    at
 }

@@ -5,6 +5,7 @@ ghost use Rattle.std.specs.Str.{IsAscii};
 ghost use Rattle.encoding_text.specs.Fronts.{IsLongestFront};
 ghost use Rattle.encoding_text.specs.Latin1.{IsLatin1, IsUtf8Latin1};
 
+use super::pair_blocks::latin1_front;
 use crate::ascii;
 use crate::sequence::is_continuation;
 use crate::strides::{are_all_below, front_below};
@@ -60,7 +61,7 @@ pub fn is_utf16_latin1(buffer: &[u16]) -> bool
 pub fn utf8_latin1_up_to(buffer: &[u8]) -> usize
     ensures { IsLongestFront IsUtf8Latin1 buffer.now result }
 {
-    let mut read = 0;
+    let mut read = latin1_front(buffer);
     while read < buffer.len() {
         let byte = buffer[read];
         if byte < 0x80 {

@@ -5,6 +5,7 @@ ghost use Rattle.encoding_text.specs.Fronts.{IsLongestFront};
 ghost use Rattle.encoding_text.specs.Surrogates.{IsValidUtf16, AreRepairedUnits};
 ghost use Rattle.encoding_text.specs.Utf16.{AreUnits};
 
+use super::pair_blocks::paired_front;
 use crate::utf_8::{is_high_surrogate, is_low_surrogate, is_surrogate};
 
 /// What stands in place of a lone surrogate.
@@ -15,7 +16,7 @@ const REPLACEMENT_UNIT: u16 = 0xFFFD;
 pub fn utf16_valid_up_to(buffer: &[u16]) -> usize
     ensures { IsLongestFront IsValidUtf16 buffer.now result }
 {
-    let mut at = 0;
+    let mut at = paired_front(buffer);
     while at < buffer.len() {
         let unit = buffer[at];
         if !is_surrogate(unit) {

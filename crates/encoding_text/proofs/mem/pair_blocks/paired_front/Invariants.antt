@@ -1,0 +1,23 @@
+use Rattle.std.proofs.Common.{◌-◌, ◌<◌, ◌≤◌, length}
+use Rattle.encoding_text.specs.Steps.Pairs.{ArePaired}
+use Rattle.encoding_text.proofs.mem.pair_blocks.paired_front.Given as goal
+
+abbrev pub invariant-loop-at : goal.invariant-loop-at
+invariant-loop-at l = record {
+  started : 0 < l.at;
+  within : l.at ≤ length l.units;
+  paired : ArePaired l.units 0 l.at;
+}
+
+abbrev pub decreases-loop-at : goal.decreases-loop-at
+decreases-loop-at l = length l.units - l.at
+
+abbrev pub invariant-loop-at-2 : goal.invariant-loop-at-2
+invariant-loop-at-2 l = record {
+  started : 0 < l.at;
+  within : l.at ≤ length l.units;
+  paired : ArePaired l.units 0 l.at;
+}
+
+abbrev pub decreases-loop-at-2 : goal.decreases-loop-at-2
+decreases-loop-at-2 l = length l.units - l.at

@@ -1,0 +1,141 @@
+//! Pairs by blocks: code units without a lone surrogate, and Latin1 in UTF-8. Each unit is judged by itself and the one
+//! before it, which is read by a load of its own, so that a block carries no state and the last one may overlap.
+ghost use Rattle.std.specs.Prelude.{◌+◌, ◌<◌, ◌≤◌, length, take, IsTrue};
+ghost use Rattle.encoding_text.specs.Latin1.{IsUtf8Latin1};
+ghost use Rattle.encoding_text.specs.Steps.Pairs.{ArePaired, FitLatin1};
+ghost use Rattle.encoding_text.specs.Surrogates.{IsValidUtf16};
+
+use crate::strides::front_below;
+use crate::utf_8::{is_high_surrogate, is_low_surrogate};
+use std::simd::Simd;
+use std::simd::prelude::*;
+
+/// The code units that one test covers.
+const UNIT_BLOCK: usize = 32;
+
+/// The code units of a lesser test.
+const UNIT_STRIDE: usize = 8;
+
+/// The bytes that one test covers.
+const BLOCK: usize = 64;
+
+/// The bytes of a lesser test.
+const STRIDE: usize = 16;
+
+/// The least byte that isn't ASCII.
+const ASCII_END: u8 = 0x80;
+
+/// The least byte that stands before a continuation byte.
+const LEADS: u8 = 0xC0;
+
+/// The first byte of U+0100. Latin1 has none from here on.
+const BEYOND_LATIN1: u8 = 0xC4;
+
+/// Whether each of the N code units from `at` on is a low surrogate exactly where the one before it is a high one.
+#[inline(always)]
+fn are_paired<const N: usize>(units: &[u16], at: usize) -> bool
+    requires { (0 < at) × (at + N ≤ length units.now) × (N ≤ 64) }
+    ensures { IsTrue result → ArePaired units.now at (at + N) }
+{
+    let tops = Simd::<u16, N>::from_slice(&units[at..]) & Simd::splat(0xFC00);
+    let tops_before = Simd::<u16, N>::from_slice(&units[at - 1..]) & Simd::splat(0xFC00);
+    let low = tops.simd_eq(Simd::splat(0xDC00));
+    let high = tops_before.simd_eq(Simd::splat(0xD800));
+    !(low ^ high).any()
+}
+
+/// `at`, or the place before it where a pair is cut there.
+fn before_cut_pair(units: &[u16], at: usize) -> usize
+    requires { (0 < at) × (at ≤ length units.now) × ArePaired units.now 0 at }
+    ensures { (result ≤ at) × IsValidUtf16 (take result units.now) }
+{
+    if is_high_surrogate(units[at - 1]) {
+        at - 1
+    } else {
+        at
+    }
+}
+
+/// How far the code units have no lone surrogate, by whole blocks.
+pub(super) fn paired_front(units: &[u16]) -> usize
+    ensures { (result ≤ length units.now) × IsValidUtf16 (take result units.now) }
+{
+    if units.is_empty() || is_low_surrogate(units[0]) {
+        return 0;
+    }
+    let mut at = 1;
+    while units.len() - at >= UNIT_BLOCK && are_paired::<UNIT_BLOCK>(units, at) {
+        at += UNIT_BLOCK;
+    }
+    while units.len() - at >= UNIT_STRIDE {
+        if !are_paired::<UNIT_STRIDE>(units, at) {
+            return before_cut_pair(units, at);
+        }
+        at += UNIT_STRIDE;
+    }
+    // the last stride overlaps the one before
+    let last = units.len() - UNIT_STRIDE.min(units.len());
+    if 0 < last && are_paired::<UNIT_STRIDE>(units, last) {
+        return before_cut_pair(units, units.len());
+    }
+    before_cut_pair(units, at)
+}
+
+/// Whether each of the N bytes from `at` on may stand in Latin1 behind the one before it.
+#[inline(always)]
+fn fit_latin1<const N: usize>(bytes: &[u8], at: usize) -> bool
+    requires { (0 < at) × (at + N ≤ length bytes.now) × (N ≤ 64) }
+    ensures { IsTrue result → FitLatin1 bytes.now at (at + N) }
+{
+    let block = Simd::<u8, N>::from_slice(&bytes[at..]);
+    let before = Simd::<u8, N>::from_slice(&bytes[at - 1..]);
+    let follows = (block & Simd::splat(0xC0)).simd_eq(Simd::splat(0x80));
+    let overlong = (block & Simd::splat(0xFE)).simd_eq(Simd::splat(0xC0));
+    let faults = (follows ^ before.simd_ge(Simd::splat(LEADS)))
+        | (overlong | block.simd_ge(Simd::splat(BEYOND_LATIN1)));
+    !faults.any()
+}
+
+/// `at`, or the beginning of the character that is cut there.
+fn before_cut_character(bytes: &[u8], at: usize) -> usize
+    requires { (0 < at) × (at ≤ length bytes.now) × FitLatin1 bytes.now 0 at }
+    ensures { (result ≤ at) × IsUtf8Latin1 (take result bytes.now) }
+{
+    if bytes[at - 1] >= LEADS { at - 1 } else { at }
+}
+
+/// How far the bytes are Latin1 in UTF-8, by whole blocks behind an ASCII front.
+pub(super) fn latin1_front(bytes: &[u8]) -> usize
+    ensures { (result ≤ length bytes.now) × IsUtf8Latin1 (take result bytes.now) }
+{
+    let front = front_below(bytes, ASCII_END);
+    if front == bytes.len() {
+        return front;
+    }
+    if !is_latin1_lead(bytes[front]) {
+        return front;
+    }
+    let mut at = front + 1;
+    while bytes.len() - at >= BLOCK && fit_latin1::<BLOCK>(bytes, at) {
+        at += BLOCK;
+    }
+    while bytes.len() - at >= STRIDE {
+        if !fit_latin1::<STRIDE>(bytes, at) {
+            return before_cut_character(bytes, at);
+        }
+        at += STRIDE;
+    }
+    // the last stride overlaps the one before
+    let last = bytes.len() - STRIDE.min(bytes.len());
+    if 0 < last && fit_latin1::<STRIDE>(bytes, last) {
+        return before_cut_character(bytes, bytes.len());
+    }
+    before_cut_character(bytes, at)
+}
+
+/// Whether a Latin1 character of two bytes begins with the byte.
+fn is_latin1_lead(byte: u8) -> bool
+    ensures { IsTrue result → (0xC2 ≤ byte) × (byte < 0xC4) }
+{
+    byte == 0xC2 || byte == 0xC3
+}
