@@ -2,7 +2,7 @@
 
 ghost use Rattle.std.specs.Prelude.{◌≡◌, ◌↔◌, ◌+◌, ◌<◌, ◌≤◌, ◌++◌, ℕ, List, length, take, drop, slice_index, EachIndex, IsTrue};
 ghost use Rattle.encoding_text.specs.Fronts.{WritesFront};
-ghost use Rattle.encoding_text.specs.Steps.Strides.{AllBelow, BelowUpTo, IsRunBelow};
+ghost use Rattle.encoding_text.specs.Steps.Strides.{AllBelow, BelowBetween, BelowUpTo, IsRunBelow};
 
 use std::simd::Simd;
 use std::simd::prelude::*;
@@ -13,15 +13,18 @@ const BLOCK: usize = 64;
 /// The bytes among which one test finds a place.
 const STRIDE: usize = 16;
 
+/// The bytes of a text shorter than a stride that one test covers.
+const HALF_STRIDE: usize = 8;
+
 /// The least byte that isn't ASCII.
-const ASCII_END: u8 = 0x80;
+pub(crate) const ASCII_END: u8 = 0x80;
 
 /// The least UTF-16 code unit that isn't ASCII.
 const BASIC_LATIN_END: u16 = 0x80;
 
 /// Whether each of the N bytes from a place on is below the bound.
 #[inline(always)]
-fn are_bytes_below<const N: usize>(bytes: &[u8], at: usize, bound: u8) -> bool
+pub(crate) fn are_bytes_below<const N: usize>(bytes: &[u8], at: usize, bound: u8) -> bool
     requires { (at + N ≤ length bytes.now) × (N ≤ 64) }
     ensures { IsTrue result ↔ AllBelow bound bytes.now at N }
 {
@@ -39,20 +42,60 @@ fn are_units_below<const N: usize>(units: &[u16], at: usize, bound: u16) -> bool
     !others.any()
 }
 
-/// How many bytes of the stride at a place come before the first that isn't below the bound.
+/// How many of the N bytes from a place on come before the first that isn't below the bound.
 #[inline(always)]
-fn run_below(bytes: &[u8], at: usize, bound: u8) -> usize
-    requires { at + STRIDE ≤ length bytes.now }
-    ensures { IsRunBelow bound bytes.now at STRIDE result }
+fn run_below<const N: usize>(bytes: &[u8], at: usize, bound: u8) -> usize
+    requires { (at + N ≤ length bytes.now) × (N ≤ 64) }
+    ensures { IsRunBelow bound bytes.now at N result }
 {
-    let others = u8x16::from_slice(&bytes[at..])
-        .simd_ge(u8x16::splat(bound))
+    let others = Simd::<u8, N>::from_slice(&bytes[at..])
+        .simd_ge(Simd::splat(bound))
         .to_bitmask();
     if others == 0 {
-        STRIDE
+        N
     } else {
         others.trailing_zeros() as usize
     }
+}
+
+/// Goes from a place on by N bytes at a time while they are below the bound, and returns where that ends.
+#[inline(always)]
+pub(crate) fn skip_bytes_below<const N: usize>(bytes: &[u8], from: usize, bound: u8) -> usize
+    requires { (from ≤ length bytes.now) × (0 < N) × (N ≤ 64) }
+    ensures within { (from ≤ result) × (result ≤ length bytes.now) }
+    ensures below { BelowBetween bound bytes.now from result }
+    ensures stops { result + N ≤ length bytes.now → AllBelow bound bytes.now result N → ⊥ }
+{
+    let mut at = from;
+    while bytes.len() - at >= N && are_bytes_below::<N>(bytes, at, bound) {
+        at += N;
+    }
+    at
+}
+
+/// Where the bytes that are below the bound end, from a place on before which they are, by strides of N bytes. The last
+/// stride may begin before the place.
+#[inline(always)]
+fn front_by_strides<const N: usize>(bytes: &[u8], from: usize, bound: u8) -> usize
+    requires room { (N ≤ length bytes.now) × (0 < N) × (N ≤ 64) }
+    requires from { (from ≤ length bytes.now) × BelowUpTo bound bytes.now from }
+    ensures within { result ≤ length bytes.now }
+    ensures below { BelowUpTo bound bytes.now result }
+    ensures stops { result < length bytes.now → bound ≤ slice_index bytes.now result }
+{
+    let mut at = from;
+    while bytes.len() - at >= N {
+        let run = run_below::<N>(bytes, at, bound);
+        if run < N {
+            return at + run;
+        }
+        at += N;
+    }
+    if at == bytes.len() {
+        return at;
+    }
+    let last = bytes.len() - N;
+    last + run_below::<N>(bytes, last, bound)
 }
 
 /// How many bytes come before the first that isn't below the bound.
@@ -62,21 +105,14 @@ pub(crate) fn front_below(bytes: &[u8], bound: u8) -> usize
     ensures below { BelowUpTo bound bytes.now result }
     ensures stops { result < length bytes.now → bound ≤ slice_index bytes.now result }
 {
-    let mut at = 0;
-    while bytes.len() - at >= BLOCK && are_bytes_below::<BLOCK>(bytes, at, bound) {
-        at += BLOCK;
+    if bytes.len() >= STRIDE {
+        let by_blocks = skip_bytes_below::<BLOCK>(bytes, 0, bound);
+        return front_by_strides::<STRIDE>(bytes, by_blocks, bound);
     }
-    while bytes.len() - at >= STRIDE {
-        let run = run_below(bytes, at, bound);
-        if run < STRIDE {
-            return at + run;
-        }
-        at += STRIDE;
+    if bytes.len() >= HALF_STRIDE {
+        return front_by_strides::<HALF_STRIDE>(bytes, 0, bound);
     }
-    while at < bytes.len() && bytes[at] < bound {
-        at += 1;
-    }
-    at
+    skip_bytes_below::<1>(bytes, 0, bound)
 }
 
 /// Goes from a place on by N UTF-16 code units at a time while they are below the bound, and returns where that ends.

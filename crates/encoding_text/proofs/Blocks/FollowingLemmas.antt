@@ -230,6 +230,10 @@ FollowTo-ascii bs at to front c ascii = record {
   ];
 }
 
+-- a front of the whole
+pub FollowTo-ascii_front : (bs : List ℕ) (n : ℕ) → ((i : ℕ) → i < n → get_or bs i 0 < 0x80) → FollowTo bs n
+FollowTo-ascii_front bs n ascii = FollowTo-ascii bs 0 n (FollowTo-none bs) (IsClosedAt-start bs) (record { each = λ i _ l. ascii i l })
+
 -- ---- where no character is cut
 -- before a byte that goes on with none
 closed_before : (bs : List ℕ) (i : ℕ) → FollowsAt bs i → 0xC0 ≤ get_or bs i 0 → IsClosedAt bs i

@@ -1,9 +1,10 @@
 -- Fronts whose units are each of a kind, of which the ASCII front is one, and copies of a front.
 use Rattle.std.proofs.Common.{◌≡◌, ℕ, ◌+◌, ◌<◌, ◌≤◌, inl, inr, List, length, ◌++◌, take, drop, take-add, length-take-le, length-drop, set, slice_index, sym, ap, ◌∙◌, arith, subst, Some}
-use Rattle.std.specs.Str.{IsAscii}
+use Rattle.std.specs.Str.{IsAscii, IsUtf8}
 use Rattle.std.proofs.lemmas.Bool.{cases_lt}
 use Rattle.std.proofs.lemmas.List.{get_or-take, get_or_past, length-take, take_more}
 use Rattle.std.proofs.lemmas.Option.{slice_get-get_or}
+use Rattle.std.proofs.lemmas.Str.{IsUtf8-from_ascii}
 use Rattle.encoding_text.specs.Ascii.{IsFirstOther}
 use Rattle.encoding_text.specs.Fronts.{IsLongestFront, WritesFront}
 use Rattle.encoding_text.specs.Steps.Strides.{AllBelow, BelowUpTo}
@@ -43,6 +44,9 @@ module _ (P : ℕ → Type 0) (at_zero : P 0) where
 -- the ASCII front ends at the first unit from 0x80 on
 pub ascii_front_at : (xs : List ℕ) (n : ℕ) → n < length xs → ((k : ℕ) → k < n → slice_index xs k < 0x80) → 0x80 ≤ slice_index xs n → IsLongestFront IsAscii xs n
 ascii_front_at xs n l h s = front_before (λ b. b < 0x80) (omega arith) xs n (omega arith) h (λ _ low. omega arith)
+
+pub IsUtf8-ascii_front : (bytes : List ℕ) (n : ℕ) → BelowUpTo 0x80 bytes n → IsUtf8 (take n bytes)
+IsUtf8-ascii_front bytes n below = IsUtf8-from_ascii (take n bytes) (Each-take (λ b. b < 0x80) (omega arith) bytes n below)
 
 -- the first other unit, over so many places
 pub IsFirstOther-at : (xs : List ℕ) (room n : ℕ) → n < length xs → n < room → ((k : ℕ) → k < n → slice_index xs k < 0x80) → 0x80 ≤ slice_index xs n

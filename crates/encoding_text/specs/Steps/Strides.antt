@@ -9,6 +9,10 @@ AllBelow bound xs at n = (k : ℕ) → at ≤ k → k < at + n → slice_index x
 abbrev pub BelowUpTo : ℕ → List ℕ → ℕ → Type 0
 BelowUpTo bound xs place = (k : ℕ) → k < place → slice_index xs k < bound
 
+-- each unit from one place up to another is below the bound
+abbrev pub BelowBetween : ℕ → List ℕ → ℕ → ℕ → Type 0
+BelowBetween bound xs from to = (k : ℕ) → from ≤ k → k < to → slice_index xs k < bound
+
 -- of the n units from a place on, so many first ones are below the bound, and the next, if there is one, isn't
 pub record IsRunBelow (bound : ℕ) (xs : List ℕ) (at n run : ℕ) : Type 0 where
   pub within : run ≤ n

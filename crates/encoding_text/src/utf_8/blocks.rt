@@ -2,8 +2,10 @@
 //! Per Byte", with the bytes before by loads of their own, so that a block carries no state.
 ghost use Rattle.std.specs.Prelude.{◌≡◌, ℕ, ◌+◌, ◌<◌, ◌≤◌, ◌↔◌, length, take, slice_index, IsTrue};
 ghost use Rattle.std.specs.Str.{IsUtf8};
-ghost use Rattle.encoding_text.specs.Steps.Following.{IsZeroTo, AsciiBetween, FollowTo, Follows, FollowsAt};
+ghost use Rattle.encoding_text.specs.Steps.Following.{IsZeroTo, FollowTo, Follows, FollowsAt};
+ghost use Rattle.encoding_text.specs.Steps.Strides.{BelowUpTo};
 
+use crate::strides::{ASCII_END, are_bytes_below, skip_bytes_below};
 use std::simd::prelude::*;
 
 /// The faults that the upper half of the byte before leaves open, a bit each.
@@ -102,31 +104,6 @@ fn zeros(lanes: u8x16) -> usize
     }
 }
 
-/// Whether the sixteen bytes from `at` on are ASCII.
-#[inline(always)]
-fn is_ascii_16(src: &[u8], at: usize) -> bool
-    requires { at + 16 ≤ length src.now }
-    ensures { IsTrue result → AsciiBetween src.now at (at + 16) }
-{
-    u8x16::from_slice(&src[at..])
-        .simd_ge(u8x16::splat(0x80))
-        .to_bitmask()
-        == 0
-}
-
-/// Whether the 64 bytes from `at` on are ASCII.
-#[inline(always)]
-fn is_ascii_64(src: &[u8], at: usize) -> bool
-    requires { at + 64 ≤ length src.now }
-    ensures { IsTrue result → AsciiBetween src.now at (at + 64) }
-{
-    let a = u8x16::from_slice(&src[at..]);
-    let b = u8x16::from_slice(&src[at + 16..]);
-    let c = u8x16::from_slice(&src[at + 32..]);
-    let d = u8x16::from_slice(&src[at + 48..]);
-    (a | b | (c | d)).simd_ge(u8x16::splat(0x80)).to_bitmask() == 0
-}
-
 /// Whether each of 64 bytes may stand behind the three before it.
 #[inline(always)]
 fn is_clean_64(src: &[u8], at: usize) -> bool
@@ -135,37 +112,6 @@ fn is_clean_64(src: &[u8], at: usize) -> bool
 {
     let front = faults(src, at) | faults(src, at + 16);
     is_zero(front | (faults(src, at + 32) | faults(src, at + 48)))
-}
-
-/// How far whole blocks of 64 bytes are ASCII, from a place on.
-#[inline(always)]
-fn ascii_blocks(src: &[u8], from: usize) -> usize
-    requires { from ≤ length src.now }
-    ensures { (from ≤ result) × (result ≤ length src.now) × AsciiBetween src.now from result }
-{
-    let mut at = from;
-    while src.len() - at >= 64 {
-        if !is_ascii_64(src, at) {
-            break;
-        }
-        at += 64;
-    }
-    at
-}
-
-/// How far whole blocks are ASCII, from the beginning on.
-#[inline(always)]
-fn ascii_front(src: &[u8]) -> usize
-    ensures { (result ≤ length src.now) × AsciiBetween src.now 0 result }
-{
-    let mut at = ascii_blocks(src, 0);
-    while src.len() - at >= 16 {
-        if !is_ascii_16(src, at) {
-            break;
-        }
-        at += 16;
-    }
-    at
 }
 
 /// `at`, or the beginning of the character that is cut before it.
@@ -191,7 +137,7 @@ fn back(src: &[u8], at: usize) -> usize
 /// How many bytes from the beginning on may each stand behind those before it, where the first ones do.
 #[inline(never)]
 fn finish(src: &[u8], from: usize) -> usize
-    requires { (3 ≤ from) × (from ≤ length src.now) × (19 ≤ length src.now) × FollowTo src.now from }
+    requires { (16 ≤ from) × (from ≤ length src.now) × FollowTo src.now from }
     ensures { (result ≤ length src.now) × FollowTo src.now result }
 {
     let mut at = from;
@@ -202,22 +148,20 @@ fn finish(src: &[u8], from: usize) -> usize
         }
         at += 16;
     }
-    if at == src.len() {
+    if at == src.len() || src.len() < 19 {
         return at;
     }
     let last = src.len() - 16;
     last + zeros(faults(src, last))
 }
 
-/// The same from nothing on.
-fn following(src: &[u8]) -> usize
-    requires { 19 ≤ length src.now }
+/// The same from an ASCII front on.
+fn following(src: &[u8], front: usize) -> usize
+    requires long { 16 ≤ length src.now }
+    requires ascii { (front ≤ length src.now) × BelowUpTo 0x80 src.now front }
     ensures { (result ≤ length src.now) × FollowTo src.now result }
 {
-    let mut at = ascii_front(src);
-    if at == src.len() {
-        return at;
-    }
+    let mut at = front;
     if at < 16 {
         let clean = zeros(first_faults(src));
         if clean < 16 {
@@ -236,21 +180,21 @@ fn following(src: &[u8]) -> usize
             break;
         }
         // tested last: a branch that is seldom taken at the loop's head can cost a third of its speed, by where it lies
-        let is_ascii = is_ascii_64(src, at);
+        let is_ascii = are_bytes_below::<64>(src, at, ASCII_END);
         at += 64;
         if is_ascii {
-            at = ascii_blocks(src, at);
+            at = skip_bytes_below::<64>(src, at, ASCII_END);
         }
     }
     finish(src, at)
 }
 
-/// The length of a well-formed front, by whole blocks.
-pub(crate) fn well_formed_blocks(src: &[u8]) -> usize
+/// The length of a well-formed front, by whole blocks, where the first bytes are ASCII.
+#[inline(always)]
+pub(crate) fn well_formed_blocks(src: &[u8], front: usize) -> usize
+    requires long { 16 ≤ length src.now }
+    requires ascii { (front ≤ length src.now) × BelowUpTo 0x80 src.now front }
     ensures { (result ≤ length src.now) × IsUtf8 (take result src.now) }
 {
-    if src.len() < 32 {
-        return 0;
-    }
-    back(src, following(src))
+    back(src, following(src, front))
 }

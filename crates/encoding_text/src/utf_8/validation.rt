@@ -6,6 +6,7 @@ ghost use Rattle.encoding_text.specs.Parts.{BeginsWithNoCharacter};
 ghost use Rattle.encoding_text.specs.Fronts.{IsLongestFront};
 
 use crate::sequence::{is_continuation, is_second};
+use crate::strides::{ASCII_END, front_below};
 use crate::utf_8::blocks::well_formed_blocks;
 use crate::utf_8::table::{UTF8_DATA, law_table};
 
@@ -97,7 +98,20 @@ pub(crate) fn character_length(bytes: &[u8]) -> Option<usize>
 pub fn utf8_valid_up_to(src: &[u8]) -> usize
     ensures { IsLongestFront IsUtf8 src.now result }
 {
-    let mut at = well_formed_blocks(src);
+    let mut at = 0;
+    if src.len() >= 16 {
+        at = front_below(src, ASCII_END);
+        if at == src.len() {
+            return at;
+        }
+        // broken bytes often stand together, so one character is tried before whole blocks
+        let Some(_) = character_length(&src[at..]) else {
+            return at;
+        };
+        at = well_formed_blocks(src, at);
+    } else if src.len() >= 8 && src[0] < ASCII_END {
+        at = front_below(src, ASCII_END);
+    }
     while at < src.len() {
         let Some(length) = character_length(&src[at..]) else {
             break;

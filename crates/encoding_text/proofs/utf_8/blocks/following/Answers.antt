@@ -1,6 +1,6 @@
 use Rattle.std.proofs.Common.{◌+◌, arith, sym, subst}
 use Rattle.encoding_text.specs.Steps.Following.{FollowTo}
-use Rattle.encoding_text.proofs.Blocks.FollowingLemmas.{FollowTo-ascii, FollowTo-more, FollowTo-none, IsClosedAt-start, IsClosedAt-behind_ascii}
+use Rattle.encoding_text.proofs.Blocks.FollowingLemmas.{FollowTo-ascii, FollowTo-ascii_front, FollowTo-more, IsClosedAt-behind_ascii}
 use Rattle.encoding_text.proofs.utf_8.blocks.following.Goals as goal
 use Rattle.encoding_text.proofs.utf_8.blocks.following.Goals.{then-at-lt16+else-clean-lt16, else-at-lt16+then-src-at-ge16+else-clean-lt16-2, else-at-lt16+else-src-at-ge16}
 
@@ -13,7 +13,7 @@ returns-then-clean-lt16 c = (
 pub returns-then-clean-lt16-2 : goal.returns-then-clean-lt16-2
 returns-then-clean-lt16-2 c =
     let bs = c.args.src.now in
-    let front = FollowTo-ascii bs 0 _ (FollowTo-none bs) (IsClosedAt-start bs) c.ascii_front-at.ensures.1 in (
+    let front = FollowTo-ascii_front bs c.args.front c.requires.ascii.1 in (
       omega arith,
       FollowTo-more bs _ _ front (λ i l. c.faults.ensures.lanes i (omega (arith, c.if-clean-lt16-2.true)) (c.zeros-clean-then-src-at-ge16.ensures.zeros.each i l)),
     )
@@ -21,7 +21,7 @@ returns-then-clean-lt16-2 c =
 pub loop-at-init : goal.loop-at-init
 loop-at-init c =
     let bs = c.args.src.now in
-    let front = FollowTo-ascii bs 0 _ (FollowTo-none bs) (IsClosedAt-start bs) c.ascii_front-at.ensures.1 in
+    let front = FollowTo-ascii_front bs c.args.front c.requires.ascii.1 in
     elim c.if-at-lt16.branch [
       | then-at-lt16+else-clean-lt16 w ↦
           record {
@@ -39,20 +39,17 @@ loop-at-init c =
       | else-at-lt16+else-src-at-ge16 w ↦
           record {
             started = omega (arith, w.at-is, w.if-at-lt16.false);
-            within = omega (arith, w.at-is, c.ascii_front-at.ensures.0);
+            within = omega (arith, w.at-is, c.requires.ascii.0);
             front = subst (FollowTo bs) (sym w.at-is) front;
           }
     ]
 
-pub returns-then-at-src : goal.returns-then-at-src
-returns-then-at-src c = (c.ascii_front-at.ensures.0, FollowTo-ascii c.args.src.now 0 _ (FollowTo-none c.args.src.now) (IsClosedAt-start c.args.src.now) c.ascii_front-at.ensures.1)
-
 pub loop-at-preserved-then-is_ascii : goal.loop-at-preserved-then-is_ascii
 loop-at-preserved-then-is_ascii c =
+    let bs = c.args.src.now in
     let front = c.is_clean_64.ensures c.if-not-is_clean_64.false c.loop-at.invariant.front in
-    let ascii = c.is_ascii_64-is_ascii.ensures c.if-is_ascii.true in
     record {
-      started = omega (arith, c.ascii_blocks-at.ensures.0);
-      within = c.ascii_blocks-at.ensures.1;
-      front = FollowTo-ascii c.args.src.now (c.loop-at.at + 64) _ front (IsClosedAt-behind_ascii c.args.src.now c.loop-at.at _ (omega arith) ascii) c.ascii_blocks-at.ensures.2;
+      started = omega (arith, c.skip_bytes_below-at.ensures.within);
+      within = c.skip_bytes_below-at.ensures.within.1;
+      front = FollowTo-ascii bs (c.loop-at.at + 64) _ front (IsClosedAt-behind_ascii bs c.loop-at.at _ (omega arith) (record { each = c.are_bytes_below-is_ascii.ensures.0 c.if-is_ascii.true })) (record { each = c.skip_bytes_below-at.ensures.below });
     }

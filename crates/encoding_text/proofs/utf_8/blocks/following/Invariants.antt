@@ -4,7 +4,7 @@ use Rattle.encoding_text.proofs.utf_8.blocks.following.Given as goal
 
 abbrev pub invariant-loop-at : goal.invariant-loop-at
 invariant-loop-at l = record {
-  started : 3 ≤ l.at;
+  started : 16 ≤ l.at;
   within : l.at ≤ length l.src;
   front : FollowTo l.src l.at;
 }

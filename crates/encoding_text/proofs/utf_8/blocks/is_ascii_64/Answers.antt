@@ -1,6 +1,0 @@
-use Rattle.std.proofs.Common.{eqb-true}
-use Rattle.encoding_text.proofs.Blocks.MaskLemmas.{ascii_from_masks}
-use Rattle.encoding_text.proofs.utf_8.blocks.is_ascii_64.Goals as goal
-
-pub returns : goal.returns
-returns c t = ascii_from_masks c.args.src.now c.args.at c.requires (eqb-true _ _ t)
