@@ -1,1 +1,4 @@
 pub mod StridesLemmas
+pub mod LaneLemmas
+pub mod KeptLemmas
+pub mod UnitLanesLemmas

@@ -5,3 +5,5 @@ pub mod Converting
 pub mod FirstScalar
 pub mod Following
 pub mod Strides
+pub mod Units
+pub mod Lanes

@@ -3,6 +3,8 @@ mod blocks;
 mod decoding;
 mod encoder;
 mod encoding;
+mod kept_lanes;
+mod text_units;
 mod validation;
 
 pub use decoding::convert_utf8_to_utf16_up_to_invalid;
@@ -10,5 +12,6 @@ pub(crate) use decoding::{CodeUnit, scalar_of_sequence};
 pub use encoder::{EncoderResult, Utf8Encoder};
 pub use encoding::{convert_utf16_to_utf8_partial_inner, convert_utf16_to_utf8_partial_tail};
 pub(crate) use encoding::{is_high_surrogate, is_low_surrogate, is_surrogate};
+pub(crate) use text_units::write_text;
 pub(crate) use validation::character_length;
 pub use validation::utf8_valid_up_to;
