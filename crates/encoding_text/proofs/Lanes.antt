@@ -5,3 +5,5 @@ pub mod PlacesLemmas
 pub mod SpellingLemmas
 pub mod StoresLemmas
 pub mod PairsLemmas
+pub mod KeptLemmas
+pub mod UnitLanesLemmas

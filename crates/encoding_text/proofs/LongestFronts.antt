@@ -3,4 +3,5 @@ pub mod FittingLemmas
 pub mod Utf8Lemmas
 pub mod ConvertingLemmas
 pub mod ToUtf16Lemmas
+pub mod TextUnitsLemmas
 pub mod ClearingLemmas

@@ -9,3 +9,4 @@ pub mod Lanes
 pub mod BidiBlocks
 pub mod Spelling
 pub mod Pairs
+pub mod Units

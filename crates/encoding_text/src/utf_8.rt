@@ -3,8 +3,10 @@ mod blocks;
 mod decoding;
 mod encoder;
 mod encoding;
+mod kept_lanes;
 mod spelling;
 mod table;
+mod text_units;
 mod validation;
 
 pub use decoding::convert_utf8_to_utf16_up_to_invalid;
@@ -13,5 +15,6 @@ pub use encoder::{EncoderResult, Utf8Encoder};
 pub use encoding::{convert_utf16_to_utf8_partial_inner, convert_utf16_to_utf8_partial_tail};
 pub(crate) use encoding::{is_high_surrogate, is_low_surrogate, is_surrogate};
 pub use table::{UTF8_DATA, Utf8Data, law_table};
+pub(crate) use text_units::write_text;
 pub(crate) use validation::character_length;
 pub use validation::utf8_valid_up_to;

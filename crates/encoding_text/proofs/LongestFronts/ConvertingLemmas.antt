@@ -2,31 +2,25 @@
 use Rattle.std.proofs.Common.{◌≡◌, ℕ, zero, suc, ◌+◌, ◌-◌, ◌<◌, ◌≤◌, ◌⊎◌, inl, inr, true, List, [], ◌∷◌, ◌++◌, length, take, drop, encode_utf8, encode_utf8_all, refl, sym, ap, ◌∙◌, arith, subst, take-add}
 use lib.Utf8.{scalar}
 use Rattle.std.specs.Char.{IsScalar}
-use Rattle.std.specs.Str.{all_scalars, IsUtf8}
+use Rattle.std.specs.Str.{all_scalars, IsUtf8, chars}
 use Rattle.std.specs.List.{flat_map}
 use Rattle.std.proofs.lemmas.Bool.{and_from, and_parts, cases_lt}
+use Rattle.std.proofs.lemmas.Grind.{flat_map-append}
 use Rattle.std.proofs.lemmas.List.{append-nil, append_assoc, length-append, length-drop, length-take, take_at, drop_at, take_rest, take-append-drop, take-take}
-use Rattle.std.proofs.lemmas.Str.{encodes-append, encode_same, length-encode, len_utf8_bounds, IsUtf8-encode, IsUtf8-append}
+use Rattle.std.proofs.lemmas.Str.{encodes-append, encode_same, length-encode, len_utf8_bounds, IsUtf8-encode, IsUtf8-append, chars_from_encodes}
 use Rattle.std.proofs.str.Laws.{scalars-append}
 use borrow.Rule.Slice.PartMut.{put_mid}
 use Rattle.encoding_text.specs.Parts.{Part, Character, Broken, BeginsWithNoCharacter, ArePartsOf}
 use Rattle.encoding_text.specs.Fronts.{IsLongestFront, FitsLongest, WritesFront}
 use Rattle.encoding_text.specs.Converting.{IsText, ConvertsLongest, FittingBegins}
-use Rattle.encoding_text.specs.Steps.Converting.{ConvertsFront}
+use Rattle.encoding_text.specs.Steps.Converting.{Converted, ConvertsFront}
 use Rattle.encoding_text.proofs.Sequences.EncodingLemmas.{IsSequence-encode, flat_map-encode_utf8}
-use Rattle.encoding_text.proofs.LongestFronts.FrontsLemmas.{WritesFront_after, WritesFront-length, WritesFront-same, put_mid-same, FitsLongest-all, FitsLongest-stop}
+use Rattle.encoding_text.proofs.LongestFronts.FrontsLemmas.{WritesFront-nil, WritesFront_after, WritesFront-length, WritesFront-same, put_mid-same, FitsLongest-all, FitsLongest-stop}
 use Rattle.encoding_text.proofs.LongestFronts.FittingLemmas.{flat_map_push}
 use Rattle.encoding_text.proofs.LongestFronts.Utf8Lemmas.{IsLongestFront-utf8, no_character_after}
 use Rattle.encoding_text.proofs.Decomposition.DecompositionLemmas.{has_parts}
 
--- ---- as far as a loop has come
-pub record Converted {A : Type 0} (encode : ℕ → List A) (src : List ℕ) (old new : List A) (read written : ℕ) : Type 0 where
-  pub scalars : List ℕ
-  pub are_scalars : all_scalars scalars ≡ true
-  pub within : read ≤ length src
-  pub spelled : encode_utf8_all scalars ≡ take read src
-  pub writes : WritesFront old new written (flat_map encode scalars)
-
+-- ---- one more character
 pub encodes_one : (c : ℕ) → encode_utf8_all (c ∷ []) ≡ encode_utf8 c
 encodes_one c = append-nil (encode_utf8 c)
 
@@ -48,6 +42,24 @@ module _ {A : Type 0} (encode : ℕ → List A) where
     spelled = encodes_more d.scalars c ∙ (λ i. d.spelled i ++ e i) ∙ sym (take-add read n src);
     writes = WritesFront-same _ _ _ _ _ _ (WritesFront_after old new written (flat_map encode d.scalars) sub m (encode c) d.writes w) refl (sym (flat_map_push encode d.scalars c));
   }
+
+  -- a whole text more
+  pub converted_text : (src : List ℕ) (old new sub : List A) (read written n m : ℕ) → Converted encode src old new read written → (u : IsUtf8 (take n (drop read src))) → n ≤ length (drop read src)
+      → WritesFront (take (length new - written) (drop written new)) sub m (flat_map encode (chars (take n (drop read src)))) → Converted encode src old (put_mid written (length new - written) new sub) (read + n) (written + m)
+  converted_text src old new sub read written n m d u l w =
+      let text = take n (drop read src) in
+      let same : u.0 ≡ chars text = chars_from_encodes u.0 text u u.1.1 in
+      record {
+        scalars = d.scalars ++ u.0;
+        are_scalars = scalars-append d.scalars u.0 d.are_scalars u.1.0;
+        within = let before : read ≤ length src = d.within in omega (arith, l, length-drop read src);
+        spelled = encodes-append d.scalars u.0 ∙ (λ i. d.spelled i ++ u.1.1 i) ∙ sym (take-add read n src);
+        writes = WritesFront-same _ _ _ _ _ _ (WritesFront_after old new written (flat_map encode d.scalars) sub m _ d.writes w) refl
+            (ap (λ cs. flat_map encode d.scalars ++ flat_map encode cs) (sym same) ∙ sym (flat_map-append encode d.scalars u.0));
+      }
+
+  pub converted_none : (src : List ℕ) (old : List A) → Converted encode src old old 0 0
+  converted_none src old = record { scalars = []; are_scalars = refl; within = omega arith; spelled = refl; writes = WritesFront-nil old }
 
   -- where no character begins what is left
   pub converted_stuck : (src : List ℕ) (old new : List A) (read written : ℕ) → Converted encode src old new read written → BeginsWithNoCharacter (drop read src)

@@ -1,11 +1,10 @@
 -- Whole buffers in UTF-16: where the destination is as long as the source, all characters fit.
 use Rattle.std.proofs.Common.{◌≡◌, ℕ, ◌+◌, ◌≤◌, List, length, take, encode_utf8, encode_utf8_all, sym, ap, ◌∙◌, arith, subst, inl, inr}
 use Rattle.std.specs.Char.Escape.{encode_utf16}
-use Rattle.std.specs.Str.{IsUtf8, chars}
+use Rattle.std.specs.Str.{IsUtf8}
 use Rattle.std.specs.List.{flat_map}
 use Rattle.std.proofs.lemmas.Bool.{cases_lt}
 use Rattle.std.proofs.lemmas.List.{length-take, take_all}
-use Rattle.std.proofs.lemmas.Str.{chars_from_encodes}
 use Rattle.encoding_text.specs.Fronts.{WritesFront}
 use Rattle.encoding_text.specs.Converting.{IsText, ConvertsLongest, WritesText}
 use Rattle.encoding_text.proofs.Sequences.EncodingLemmas.{flat_map-encode_utf8}
@@ -26,15 +25,6 @@ whole_fits src old new read written d l = elim (cases_lt d.longest.count (length
       let out : d.out ≡ flat_map encode_utf16 d.scalars = d.longest.written ∙ ap (flat_map encode_utf16) all in
       (taken ∙ ap length (flat_map-encode_utf8 d.scalars) ∙ text_length src d.scalars d.text, subst (λ xs. WritesFront old new written xs) out d.writes)
 ]
-
--- of a text
-pub text_written : (src old new : List ℕ) (read written : ℕ) → IsUtf8 src → ConvertsLongest encode_utf16 src old new read written → length src ≤ length old
-    → WritesFront old new written (flat_map encode_utf16 (chars src))
-text_written src old new read written u d l =
-    let w = whole_fits src old new read written d l in
-    let all : length src ≤ d.text.valid = d.text.front.longest (length src) (omega arith) (subst IsUtf8 (sym (take_all (length src) src (omega arith))) u) in
-    let spelled : encode_utf8_all d.scalars ≡ src = d.text.spelled ∙ take_all d.text.valid src all in
-    subst (λ cs. WritesFront old new written (flat_map encode_utf16 cs)) (chars_from_encodes d.scalars src u spelled) w.1
 
 -- of bytes, which are a text exactly if all of them are read
 pub text_front : (src old new : List ℕ) (read written : ℕ) → ConvertsLongest encode_utf16 src old new read written → length src ≤ length old → WritesText src old new written

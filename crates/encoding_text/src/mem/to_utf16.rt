@@ -9,7 +9,7 @@ ghost use Rattle.encoding_text.specs.Fronts.{WritesFront};
 ghost use Rattle.encoding_text.specs.Converting.{WritesText};
 
 use crate::decoder::{DecoderResult, Utf8Decoder};
-use crate::utf_8::convert_utf8_to_utf16_up_to_invalid;
+use crate::utf_8::{convert_utf8_to_utf16_up_to_invalid, write_text};
 
 /// Converts bytes to UTF-16, with U+FFFD for each broken part, and returns how many code units it wrote: Encoding
 /// Standard, UTF-8 decode without BOM.
@@ -48,7 +48,7 @@ pub fn convert_str_to_utf16(src: &str, dst: &mut [u16]) -> usize
     requires room { length src.now ≤ length dst.old }
     ensures { WritesFront dst.old dst.new result (flat_map encode_utf16 (chars src.now)) }
 {
-    convert_utf8_to_utf16_up_to_invalid(src.as_bytes(), dst).1
+    write_text(src.as_bytes(), dst)
 }
 
 /// Converts bytes to UTF-16, and returns how many code units it wrote where they are well-formed, else `None`.

@@ -5,8 +5,14 @@ ghost use Rattle.std.specs.Char.Escape.{encode_utf16};
 ghost use Rattle.encoding_text.specs.Sequence.{IsSequence};
 ghost use Rattle.encoding_text.specs.Fronts.{WritesFront};
 ghost use Rattle.encoding_text.specs.Converting.{ConvertsLongest};
+ghost use Rattle.encoding_text.specs.Steps.Converting.{Converted};
 
+use super::blocks::well_formed_blocks;
+use super::text_units::write_text;
 use super::validation::{character_length, utf8_valid_up_to};
+
+/// The most bytes that are validated before they are converted: so many stay in the nearest cache.
+const PIECE: usize = 4096;
 
 /// What text is converted to: bytes of UTF-8, or code units of UTF-16.
 pub(crate) trait CodeUnit: Copy {
@@ -65,8 +71,7 @@ impl CodeUnit for u8 {
 pub fn convert_utf8_to_utf16_up_to_invalid(src: &[u8], dst: &mut [u16]) -> (usize, usize)
     ensures { ConvertsLongest encode_utf16 src.now dst.old dst.new result.0 result.1 }
 {
-    let mut read = 0;
-    let mut written = 0;
+    let (mut read, mut written) = convert_texts(src, dst);
     while let Some(length) = character_length(&src[read..]) {
         let scalar = scalar_of_sequence(&src[read..read + length]);
         let Some(units) = put_utf16(scalar, &mut dst[written..]) else {
@@ -76,6 +81,27 @@ pub fn convert_utf8_to_utf16_up_to_invalid(src: &[u8], dst: &mut [u16]) -> (usiz
         written += units;
     }
     (read, written)
+}
+
+/// Converts UTF-8 by texts whose UTF-16 fits whatever it is, while whole blocks are well-formed, and returns how many
+/// bytes it read and how many code units it wrote. Behind what is written `dst` is as before.
+fn convert_texts(src: &[u8], dst: &mut [u16]) -> (usize, usize)
+    ensures { Converted encode_utf16 src.now dst.old dst.new result.0 result.1 }
+{
+    let mut read = 0;
+    let mut written = 0;
+    loop {
+        let room = (src.len() - read).min(dst.len() - written).min(PIECE);
+        let valid = well_formed_blocks(&src[read..read + room]);
+        if valid == 0 {
+            return (read, written);
+        }
+        written += write_text(&src[read..read + valid], &mut dst[written..]);
+        read += valid;
+        if valid + 3 < room {
+            return (read, written);
+        }
+    }
 }
 
 /// Copies UTF-8 up to the first byte that no character takes, or as far as whole characters fit, and returns how many
@@ -92,6 +118,7 @@ fn copy_utf8_up_to_invalid(src: &[u8], dst: &mut [u8]) -> (usize, usize)
 }
 
 /// The scalar value that the bytes spell.
+#[inline(always)]
 pub(crate) fn scalar_of_sequence(bytes: &[u8]) -> u32
     requires sequence { IsSequence bytes.now }
     ensures scalar { IsScalar result }
@@ -112,7 +139,8 @@ pub(crate) fn scalar_of_sequence(bytes: &[u8]) -> u32
 }
 
 /// Writes the UTF-16 of the scalar value at the front, if it fits, and returns how many code units that are.
-fn put_utf16(scalar: u32, dst: &mut [u16]) -> Option<usize>
+#[inline(always)]
+pub(crate) fn put_utf16(scalar: u32, dst: &mut [u16]) -> Option<usize>
     requires scalar { IsScalar scalar }
     ensures written { IfSome result (λ n. WritesFront dst.old dst.new n (encode_utf16 scalar)) }
     ensures unfit { IfNone result ((length dst.old < length (encode_utf16 scalar)) × (dst.new ≡ dst.old)) }

@@ -1,0 +1,361 @@
+-- UTF-16 of a text by its bytes, and writing it front by front.
+use Rattle.std.proofs.Common.{◌≡◌, ℕ, zero, suc, ◌+◌, ◌-◌, ◌*◌, ◌/◌, ◌%◌, ◌<◌, ◌≤◌, ◌≢◌, inl, inr, Bool, true, false, ◌&&◌, cond, if◌then◌else◌, leb, ltb, nat_lt, nat_le, List, [], ◌∷◌, ◌++◌, map, length, take, drop, get_or, replicate, encode_utf8, encode_utf8_all, refl, sym, ap, ◌∙◌, arith, subst, append_assoc, take-add}
+use lib.Utf8.{scalar, scalar_cases}
+use Rattle.std.specs.Char.{IsScalar}
+use Rattle.std.specs.Char.Escape.{encode_utf16}
+use Rattle.std.specs.Str.{all_scalars, IsUtf8, IsCharBoundary, IsAscii, chars}
+use Rattle.std.specs.List.{flat_map}
+use Rattle.std.specs.Simd.Lanes.{put_chunk}
+use Rattle.std.proofs.str.Laws.{one, two, three, four, scalars-append}
+use Rattle.std.proofs.Math.Seq.{drop-cons, take-append-add}
+use Rattle.std.proofs.lemmas.Bool.{cond-true, cond-false, cases_lt, lt-leb, le-leb, lt-ltb, le-ltb, and_parts, and_from}
+use Rattle.std.proofs.lemmas.Grind.{flat_map-append}
+use Rattle.std.proofs.lemmas.List.{append-nil, length-append, length-drop, length-take, length-take-le, take-append-drop, take_at, take_all, take_rest, take-take, drop_at, drop_all, drop-drop, get_or_append_left}
+use Rattle.std.proofs.lemmas.Simd.{put_chunk_is}
+use Rattle.std.proofs.lemmas.Str.{IsUtf8-take, IsUtf8-drop, IsUtf8-nil, IsUtf8-from_ascii, IsCharBoundary-after_ascii, encodes-IsAscii, encodes_same, encodes-append, chars_from_encodes, length-encode, len_utf8_bounds}
+use borrow.Rule.Slice.PartMut.{put_mid}
+use Rattle.encoding_text.specs.Sequence.{IsSequence}
+use Rattle.encoding_text.specs.Fronts.{WritesFront}
+use Rattle.encoding_text.specs.Steps.Units.{keep, ends_unit, low_bits, unit_at, units_behind, ends_behind, units_in, PutsKept, PutsText}
+use Rattle.encoding_text.proofs.Sequences.EncodingLemmas.{IsSequence-encode, length-encode_utf16-utf8}
+use Rattle.encoding_text.proofs.Lanes.KeptLemmas.{keep_pad}
+use Rattle.encoding_text.proofs.LongestFronts.FittingLemmas.{written_is}
+use Rattle.encoding_text.proofs.LongestFronts.ConvertingLemmas.{encodes_one}
+use Rattle.encoding_text.proofs.Calls.RoomLemmas.{length-utf16}
+use Rattle.encoding_text.proofs.Latin.AsciiLemmas.{Each-take}
+
+-- ---- one byte: no code unit ends with it, or one does
+mark_off : (a b : ℕ) → (0xC0 ≤ b) → ends_unit a b ≡ false
+mark_off a b h = ap (λ t. t && ltb a 0xE0) (le-ltb _ _ h)
+
+mark_off_second : (a b : ℕ) → b < 0xC0 → 0xE0 ≤ a → ends_unit a b ≡ false
+mark_off_second a b l h = λ i. lt-ltb b 0xC0 l i && le-ltb a 0xE0 h i
+
+mark_on : (a b : ℕ) → b < 0xC0 → a < 0xE0 → ends_unit a b ≡ true
+mark_on a b l h = λ i. lt-ltb b 0xC0 l i && lt-ltb a 0xE0 h i
+
+module _ (x y a b : ℕ) where
+  unit_one : b < 0x80 → unit_at x y a b ≡ b
+  unit_one h = cond-true (ltb b 0x80) _ _ (lt-ltb _ _ h)
+
+  unit_low : 0x80 ≤ b → 0xF0 ≤ x → unit_at x y a b ≡ 0xDC00 + low_bits a b % 0x400
+  unit_low h p = cond-false (ltb b 0x80) _ _ (le-ltb _ _ h) ∙ cond-true (leb 0xF0 x) _ _ (le-leb _ _ p)
+
+  unit_high : 0x80 ≤ b → x < 0xF0 → 0xF0 ≤ y → unit_at x y a b ≡ 0xD7C0 + (y % 8 * 256 + low_bits a b / 16)
+  unit_high h p q = cond-false (ltb b 0x80) _ _ (le-ltb _ _ h) ∙ cond-false (leb 0xF0 x) _ _ (lt-leb _ _ p) ∙ cond-true (leb 0xF0 y) _ _ (le-leb _ _ q)
+
+  unit_three : 0x80 ≤ b → x < 0xF0 → y < 0xF0 → 0xE0 ≤ y → unit_at x y a b ≡ y % 16 * 4096 + low_bits a b
+  unit_three h p q r = cond-false (ltb b 0x80) _ _ (le-ltb _ _ h) ∙ cond-false (leb 0xF0 x) _ _ (lt-leb _ _ p) ∙ cond-false (leb 0xF0 y) _ _ (lt-leb _ _ q) ∙ cond-true (leb 0xE0 y) _ _ (le-leb _ _ r)
+
+  unit_two : 0x80 ≤ b → x < 0xF0 → y < 0xE0 → unit_at x y a b ≡ low_bits a b
+  unit_two h p q =
+      let r : y < 0xF0 = omega arith in
+      cond-false (ltb b 0x80) _ _ (le-ltb _ _ h) ∙ cond-false (leb 0xF0 x) _ _ (lt-leb _ _ p) ∙ cond-false (leb 0xF0 y) _ _ (lt-leb _ _ r) ∙ cond-false (leb 0xE0 y) _ _ (lt-leb _ _ q)
+
+  abbrev emits : List ℕ → List ℕ
+  emits rest = (if ends_unit a b then unit_at x y a b ∷ [] else []) ++ rest
+
+  none_ends : (rest : List ℕ) → ends_unit a b ≡ false → emits rest ≡ rest
+  none_ends rest e = λ i. (if e i then unit_at x y a b ∷ [] else []) ++ rest
+
+  one_ends : (rest : List ℕ) (u : ℕ) → ends_unit a b ≡ true → unit_at x y a b ≡ u → emits rest ≡ u ∷ rest
+  one_ends rest u e f = λ i. (if e i then f i ∷ [] else []) ++ rest
+
+-- ---- the code units of characters
+abbrev pub units_from : ℕ → ℕ → ℕ → List ℕ → List ℕ
+units_from x y a bs = keep (ends_behind a bs) (units_behind x y a bs)
+
+from_one : (x y a b : ℕ) (bs : List ℕ) → units_from x y a (b ∷ bs) ≡ emits x y a b (units_from y a b bs)
+unfolding keep ends_behind units_behind
+from_one x y a b bs = refl
+
+from_none : (x y a : ℕ) → units_from x y a [] ≡ []
+unfolding keep ends_behind units_behind
+from_none x y a = refl
+
+one_unit : (c : ℕ) → c < 65536 → encode_utf16 c ≡ c ∷ []
+one_unit c h = cond-true (ltb c 65536) _ _ (lt-ltb _ _ h)
+
+two_units : (c : ℕ) → 65536 ≤ c → encode_utf16 c ≡ (0xD800 + (c - 0x1_0000) / 0x400) ∷ (0xDC00 + (c - 0x1_0000) % 0x400) ∷ []
+two_units c h = cond-false (ltb c 65536) _ _ (le-ltb _ _ h)
+
+module _ (x y a : ℕ) (X : x < 0xF0) (Y : y < 0xE0) (A : a < 0xC0) (c : ℕ) (bs : List ℕ) where
+  from_ascii : c < 128 → units_from x y a (encode_utf8 c ++ bs) ≡ c ∷ units_from y a c bs
+  from_ascii h = ap (λ e. units_from x y a (e ++ bs)) (one c h) ∙ from_one x y a c bs
+      ∙ one_ends x y a c (units_from y a c bs) c (mark_on a c (omega arith) (omega arith)) (unit_one x y a c h)
+
+  from_two : 128 ≤ c → c < 2048 → units_from x y a (encode_utf8 c ++ bs) ≡ c ∷ units_from a (192 + c / 64) (128 + c % 64) bs
+  from_two l h =
+      let p = 192 + c / 64 in
+      let q = 128 + c % 64 in
+      ap (λ e. units_from x y a (e ++ bs)) (two c l h) ∙ from_one x y a p (q ∷ bs) ∙ none_ends x y a p (units_from y a p (q ∷ bs)) (mark_off a p (omega arith))
+      ∙ from_one y a p q bs ∙ one_ends y a p q (units_from a p q bs) c (mark_on p q (omega arith) (omega arith)) (unit_two y a p q (omega arith) (omega arith) (omega arith) ∙ omega arith)
+
+  from_three : 2048 ≤ c → c < 65536 → units_from x y a (encode_utf8 c ++ bs) ≡ c ∷ units_from (224 + c / 4096) (128 + c / 64 % 64) (128 + c % 64) bs
+  from_three l h =
+      let p = 224 + c / 4096 in
+      let q = 128 + c / 64 % 64 in
+      let r = 128 + c % 64 in
+      ap (λ e. units_from x y a (e ++ bs)) (three c l h) ∙ from_one x y a p (q ∷ r ∷ bs) ∙ none_ends x y a p (units_from y a p (q ∷ r ∷ bs)) (mark_off a p (omega arith))
+      ∙ from_one y a p q (r ∷ bs) ∙ none_ends y a p q (units_from a p q (r ∷ bs)) (mark_off_second p q (omega arith) (omega arith))
+      ∙ from_one a p q r bs ∙ one_ends a p q r (units_from p q r bs) c (mark_on q r (omega arith) (omega arith)) (unit_three a p q r (omega arith) (omega arith) (omega arith) (omega arith) ∙ omega arith)
+
+  from_four : 65536 ≤ c → c < 1114112 → units_from x y a (encode_utf8 c ++ bs)
+      ≡ (0xD800 + (c - 0x1_0000) / 0x400) ∷ (0xDC00 + (c - 0x1_0000) % 0x400) ∷ units_from (128 + c / 4096 % 64) (128 + c / 64 % 64) (128 + c % 64) bs
+  from_four l h =
+      let p = 240 + c / 262144 in
+      let q = 128 + c / 4096 % 64 in
+      let r = 128 + c / 64 % 64 in
+      let s = 128 + c % 64 in
+      let u = 0xD800 + (c - 0x1_0000) / 0x400 in
+      let v = 0xDC00 + (c - 0x1_0000) % 0x400 in
+      ap (λ e. units_from x y a (e ++ bs)) (four c l) ∙ from_one x y a p (q ∷ r ∷ s ∷ bs) ∙ none_ends x y a p (units_from y a p (q ∷ r ∷ s ∷ bs)) (mark_off a p (omega arith))
+      ∙ from_one y a p q (r ∷ s ∷ bs) ∙ none_ends y a p q (units_from a p q (r ∷ s ∷ bs)) (mark_off_second p q (omega arith) (omega arith))
+      ∙ from_one a p q r (s ∷ bs) ∙ one_ends a p q r (units_from p q r (s ∷ bs)) u (mark_on q r (omega arith) (omega arith)) (unit_high a p q r (omega arith) (omega arith) (omega arith) ∙ high_is c l h)
+      ∙ ap (λ xs. u ∷ xs) (from_one p q r s bs ∙ one_ends p q r s (units_from q r s bs) v (mark_on r s (omega arith) (omega arith)) (unit_low p q r s (omega arith) (omega arith) ∙ low_is c l))
+    where
+      high_is : (c : ℕ) → 65536 ≤ c → c < 1114112 → 0xD7C0 + ((240 + c / 262144) % 8 * 256 + low_bits (128 + c / 4096 % 64) (128 + c / 64 % 64) / 16) ≡ 0xD800 + (c - 0x1_0000) / 0x400
+      high_is c l h = omega arith
+
+      low_is : (c : ℕ) → 65536 ≤ c → 0xDC00 + low_bits (128 + c / 64 % 64) (128 + c % 64) % 0x400 ≡ 0xDC00 + (c - 0x1_0000) % 0x400
+      low_is c l = omega arith
+
+pub units_of_characters : (cs : List ℕ) → all_scalars cs ≡ true → (x y a : ℕ) → x < 0xF0 → y < 0xE0 → a < 0xC0 → units_from x y a (encode_utf8_all cs) ≡ flat_map encode_utf16 cs
+units_of_characters [] h x y a X Y A = from_none x y a
+units_of_characters (c ∷ cs) h x y a X Y A =
+    let parts = and_parts (scalar c) (all_scalars cs) h in
+    let text = encode_utf8_all cs in
+    let is = scalar_cases c parts.0 in
+    let one_more = λ (e : encode_utf16 c ≡ c ∷ []). ap (λ us. us ++ flat_map encode_utf16 cs) (sym e) in
+    elim (cases_lt c 128) [
+      | inl p ↦ from_ascii x y a X Y A c text p ∙ ap (λ us. c ∷ us) (units_of_characters cs parts.1 y a c (omega arith) (omega arith) (omega arith)) ∙ one_more (one_unit c (omega arith))
+      | inr p ↦ elim (cases_lt c 2048) [
+        | inl q ↦ from_two x y a X Y A c text p q ∙ ap (λ us. c ∷ us) (units_of_characters cs parts.1 a (192 + c / 64) (128 + c % 64) (omega arith) (omega arith) (omega arith)) ∙ one_more (one_unit c (omega arith))
+        | inr q ↦ elim (cases_lt c 65536) [
+          | inl r ↦ from_three x y a X Y A c text q r ∙ ap (λ us. c ∷ us) (units_of_characters cs parts.1 (224 + c / 4096) (128 + c / 64 % 64) (128 + c % 64) (omega arith) (omega arith) (omega arith)) ∙ one_more (one_unit c r)
+          | inr r ↦
+              let top : c < 1114112 = elim is [ inl z ↦ omega arith | inr z ↦ z.1 ] in
+              from_four x y a X Y A c text r top
+              ∙ ap (λ us. (0xD800 + (c - 0x1_0000) / 0x400) ∷ (0xDC00 + (c - 0x1_0000) % 0x400) ∷ us) (units_of_characters cs parts.1 (128 + c / 4096 % 64) (128 + c / 64 % 64) (128 + c % 64) (omega arith) (omega arith) (omega arith))
+              ∙ ap (λ us. us ++ flat_map encode_utf16 cs) (sym (two_units c r))
+        ]
+      ]
+    ]
+
+-- ---- a block
+front_units : (n x y a : ℕ) (bs : List ℕ) → keep (take n (ends_behind a bs)) (units_behind x y a bs) ≡ units_from x y a (take n bs)
+unfolding keep ends_behind units_behind
+front_units zero x y a bs = refl
+front_units (suc n) x y a [] = refl
+front_units (suc n) x y a (b ∷ bs) = ap (λ us. (if ends_unit a b then unit_at x y a b ∷ [] else []) ++ us) (front_units n y a b bs)
+
+pub puts_block : (src old new us : List ℕ) (end count : ℕ) → IsUtf8 src → 0 < end → end ≤ 16 → IsCharBoundary src end → us ≡ units_behind 0 0 0 (take 16 src)
+    → PutsKept (take end (ends_behind 0 (take 16 src)) ++ replicate (16 - end) false) us old new count → PutsText src old new end count 16
+puts_block src old new us end count u some few boundary e kept =
+    let text = IsUtf8-take src end u boundary in
+    let cs = text.0 in
+    let marks = take end (ends_behind 0 (take 16 src)) in
+    let units : keep (marks ++ replicate (16 - end) false) us ≡ flat_map encode_utf16 cs =
+    keep_pad marks us (16 - end) ∙ ap (keep marks) e ∙ front_units end 0 0 0 (take 16 src) ∙ ap (units_from 0 0 0) (take-take end 16 src few ∙ sym text.1.1)
+    ∙ units_of_characters cs text.1.0 0 0 0 (omega arith) (omega arith) (omega arith) in
+    record {
+      taken = cs;
+      are_scalars = text.1.0;
+      some = some;
+      within = boundary.0;
+      spelled = text.1.1;
+      rest = IsUtf8-drop src end u boundary;
+      counted = kept.counted ∙ ap length units;
+      placed = kept.placed ∙ units;
+      behind = kept.behind;
+    }
+
+-- ---- ASCII
+ascii_units : (bs : List ℕ) → ((i : ℕ) → get_or bs i 0 < 128) → flat_map encode_utf16 bs ≡ bs
+ascii_units [] h = refl
+ascii_units (b ∷ bs) h = (λ i. one_unit b (omega (arith, h 0)) i ++ ascii_units bs (λ k. h (suc k)) i)
+
+pub puts_ascii : (src old : List ℕ) → IsUtf8 src → 16 ≤ length src → 16 ≤ length old → ((k : ℕ) → k < 16 → get_or src k 0 < 128)
+    → PutsText src old (put_chunk 0 old (take 16 src)) 16 16 16
+puts_ascii src old u long room h =
+    let bs = take 16 src in
+    let size : length bs ≡ 16 = length-take-le 16 src long in
+    let ascii : IsAscii bs = Each-take (λ b. b < 128) (omega arith) src 16 h in
+    let text = IsUtf8-from_ascii bs ascii in
+    let same : text.0 ≡ bs = encodes_same text.0 bs (text.1.1 ∙ sym (encodes-IsAscii bs ascii)) in
+    let units : flat_map encode_utf16 text.0 ≡ bs = ap (flat_map encode_utf16) same ∙ ascii_units bs ascii in
+    let put : put_chunk 0 old bs ≡ bs ++ drop 16 old = put_chunk_is 0 old bs (omega (arith, size, room)) ∙ ap (λ n. bs ++ drop n old) size in
+    record {
+      taken = text.0;
+      are_scalars = text.1.0;
+      some = omega arith;
+      within = long;
+      spelled = text.1.1;
+      rest = IsUtf8-drop src 16 u (IsCharBoundary-after_ascii src 15 u (omega arith) (h 15 (omega arith)));
+      counted = sym (ap length units ∙ size);
+      placed = ap (take 16) put ∙ take_at bs (drop 16 old) 16 size ∙ sym units;
+      behind = ap (drop 16) put ∙ drop_at bs (drop 16 old) 16 size;
+    }
+
+-- ---- a character
+pub record Begins (src : List ℕ) (n : ℕ) : Type 0 where
+  pub some : 0 < n
+  pub within : n ≤ length src
+  pub sequence : IsSequence (take n src)
+  pub rest : IsUtf8 (drop n src)
+
+pub first_character : (src : List ℕ) (n : ℕ) → IsUtf8 src → 0 < length src → ((rest : List ℕ) → IsSequence (get_or src 0 0 ∷ rest) → n ≡ 1 + length rest) → Begins src n
+first_character src n ([], (h, e)) some all = absurd (omega (arith, ap length e))
+first_character src n (c ∷ cs, (h, e)) some all =
+    let parts = and_parts (scalar c) (all_scalars cs) h in
+    let bytes = encode_utf8 c in
+    let rest = encode_utf8_all cs in
+    let long : 0 < length bytes = omega (arith, length-encode c, len_utf8_bounds c) in
+    let whole : bytes ≡ get_or bytes 0 0 ∷ drop 1 bytes = drop-cons bytes 0 0 long in
+    let first : get_or bytes 0 0 ≡ get_or src 0 0 = sym (get_or_append_left bytes rest 0 0 long) ∙ ap (λ xs. get_or xs 0 0) e in
+    let sequence : IsSequence (get_or src 0 0 ∷ drop 1 bytes) = subst IsSequence (whole ∙ ap (λ b. b ∷ drop 1 bytes) first) (IsSequence-encode c parts.0) in
+    let size : length bytes ≡ n = omega (arith, all (drop 1 bytes) sequence, length-drop 1 bytes) in
+    let front : take n src ≡ bytes = ap (take n) (sym e) ∙ take_at bytes rest n size in
+    let back : drop n src ≡ rest = ap (drop n) (sym e) ∙ drop_at bytes rest n size in
+    record {
+      some = omega (arith, size);
+      within = omega (arith, ap length e, length-append bytes rest, size);
+      sequence = subst IsSequence (sym front) (IsSequence-encode c parts.0);
+      rest = subst IsUtf8 (sym back) (cs, (parts.1, refl));
+    }
+
+pub puts_character : (src old new : List ℕ) (n k c : ℕ) → Begins src n → IsScalar c → encode_utf8 c ≡ take n src → WritesFront old new k (encode_utf16 c) → PutsText src old new n k k
+puts_character src old new n k c b s e w =
+    let units : flat_map encode_utf16 (c ∷ []) ≡ encode_utf16 c = append-nil (encode_utf16 c) in
+    record {
+      taken = c ∷ [];
+      are_scalars = and_from _ _ s refl;
+      some = b.some;
+      within = b.within;
+      spelled = encodes_one c ∙ e;
+      rest = b.rest;
+      counted = w.count ∙ ap length (sym units);
+      placed = sym (written_is old new k (encode_utf16 c) w) ∙ sym units;
+      behind = ap (drop k) w.placed ∙ drop_at (encode_utf16 c) (drop k old) k (sym w.count);
+    }
+
+-- it fits
+pub character_fits : (src : List ℕ) (n c room : ℕ) → Begins src n → IsScalar c → encode_utf8 c ≡ take n src → length src ≤ room → room < length (encode_utf16 c) → ⊥
+character_fits src n c room b s e l full = omega (arith, length-encode_utf16-utf8 c s, ap length e, length-take n src, b.within)
+
+-- ---- what is due
+units_of : (cs src : List ℕ) → IsUtf8 src → encode_utf8_all cs ≡ src → units_in src ≡ length (flat_map encode_utf16 cs)
+unfolding units_in
+units_of cs src u e = ap (λ ds. length (flat_map encode_utf16 ds)) (sym (chars_from_encodes cs src u e))
+
+-- a character has at most three bytes for each of its code units
+units_third : (cs : List ℕ) → all_scalars cs ≡ true → length (encode_utf8_all cs) ≤ 3 * length (flat_map encode_utf16 cs)
+units_third [] h = omega arith
+units_third (c ∷ cs) h =
+    let parts = and_parts (scalar c) (all_scalars cs) h in
+    omega (arith, units_third cs parts.1, unit_third c parts.0, length-append (encode_utf8 c) (encode_utf8_all cs), length-append (encode_utf16 c) (flat_map encode_utf16 cs))
+  where
+    unit_third : (c : ℕ) → IsScalar c → length (encode_utf8 c) ≤ 3 * length (encode_utf16 c)
+    unit_third c s = elim (cases_lt c 65536) [
+      | inl p ↦ elim (cases_lt c 128) [
+        | inl q ↦ omega (arith, ap length (one_unit c p), ap length (one c q))
+        | inr q ↦ elim (cases_lt c 2048) [
+          | inl r ↦ omega (arith, ap length (one_unit c p), ap length (two c q r))
+          | inr r ↦ omega (arith, ap length (one_unit c p), ap length (three c r p))
+        ]
+      ]
+      | inr p ↦ omega (arith, ap length (two_units c p), ap length (four c p))
+    ]
+
+units_enough : (src : List ℕ) → IsUtf8 src → 48 ≤ length src → 16 ≤ units_in src
+units_enough src u h = omega (arith, units_of u.0 src u u.1.1, units_third u.0 u.1.0, ap length u.1.1)
+
+-- what is due then
+units_split : (src old new : List ℕ) (n k reach : ℕ) → IsUtf8 src → PutsText src old new n k reach → units_in src ≡ k + units_in (drop n src)
+units_split src old new n k reach u p =
+    let more = p.rest.0 in
+    let all : encode_utf8_all (p.taken ++ more) ≡ src = encodes-append p.taken more ∙ (λ i. p.spelled i ++ p.rest.1.1 i) ∙ take-append-drop n src in
+    let total : length (flat_map encode_utf16 (p.taken ++ more)) ≡ length (flat_map encode_utf16 p.taken) + length (flat_map encode_utf16 more) =
+    ap length (flat_map-append encode_utf16 p.taken more) ∙ length-append (flat_map encode_utf16 p.taken) (flat_map encode_utf16 more) in
+    omega (arith, units_of (p.taken ++ more) src u all, total, p.counted, units_of more (drop n src) p.rest p.rest.1.1)
+
+reaches : (src old new : List ℕ) (n k reach most : ℕ) → reach ≤ most → PutsText src old new n k reach → PutsText src old new n k most
+reaches src old new n k reach most l p =
+    let e : reach + (most - reach) ≡ most = omega arith in
+    let past = λ (xs : List ℕ). ap (λ m. drop m xs) (sym e) ∙ sym (drop-drop (most - reach) reach xs) in
+    record {
+      taken = p.taken;
+      are_scalars = p.are_scalars;
+      some = p.some;
+      within = p.within;
+      spelled = p.spelled;
+      rest = p.rest;
+      counted = p.counted;
+      placed = p.placed;
+      behind = past new ∙ ap (drop (most - reach)) p.behind ∙ sym (past old);
+    }
+
+pub due_block : (src old new : List ℕ) (n k : ℕ) → IsUtf8 src → 48 ≤ length src → PutsText src old new n k 16 → PutsText src old new n k (units_in src)
+due_block src old new n k u l p = reaches src old new n k 16 (units_in src) (units_enough src u l) p
+
+pub due_exact : (src old new : List ℕ) (n k : ℕ) → IsUtf8 src → PutsText src old new n k k → PutsText src old new n k (units_in src)
+due_exact src old new n k u p = reaches src old new n k k (units_in src) (omega (arith, units_split src old new n k k u p)) p
+
+-- ---- as far as a loop has come
+pub record Putting (src old new : List ℕ) (read written : ℕ) : Type 0 where
+  pub done : List ℕ
+  pub are_scalars : all_scalars done ≡ true
+  pub within : read ≤ length src
+  pub spelled : encode_utf8_all done ≡ take read src
+  pub rest : IsUtf8 (drop read src)
+  pub due : units_in src ≡ written + units_in (drop read src)
+  pub shorter : written ≤ read
+  pub counted : written ≡ length (flat_map encode_utf16 done)
+  pub placed : take written new ≡ flat_map encode_utf16 done
+  pub behind : drop (units_in src) new ≡ drop (units_in src) old
+
+pub putting_none : (src old : List ℕ) → IsUtf8 src → Putting src old old 0 0
+putting_none src old u = record { done = []; are_scalars = refl; within = omega arith; spelled = refl; rest = u; due = omega arith; shorter = omega arith; counted = refl; placed = refl; behind = refl }
+
+pub putting_more : (src old new sub : List ℕ) (read written n k : ℕ) → written ≤ length new → Putting src old new read written
+    → PutsText (drop read src) (take (length new - written) (drop written new)) sub n k (units_in (drop read src)) → Putting src old (put_mid written (length new - written) new sub) (read + n) (written + k)
+putting_more src old new sub read written n k room d p =
+    let units = flat_map encode_utf16 d.done in
+    let after = put_mid written (length new - written) new sub in
+    let whole : take (length new - written) (drop written new) ≡ drop written new = take_rest new written in
+    let none : drop (length new - written) (drop written new) ≡ [] = drop_all (length new - written) (drop written new) (omega (arith, length-drop written new)) in
+    let is : after ≡ take written new ++ sub = ap (λ xs. take written new ++ (sub ++ xs)) none ∙ ap (λ xs. take written new ++ xs) (append-nil sub) in
+    let size : length (take written new) ≡ written = length-take-le written new room in
+    let added : flat_map encode_utf16 (d.done ++ p.taken) ≡ units ++ flat_map encode_utf16 p.taken = flat_map-append encode_utf16 d.done p.taken in
+    let few : length (flat_map encode_utf16 p.taken) ≤ length (encode_utf8_all p.taken) = length-utf16 p.taken p.are_scalars in
+    let due = units_in (drop read src) in
+    let past = λ (m : ℕ). ap (λ j. drop (j + m) (take written new ++ sub)) (sym size) ∙ drop_past (take written new) sub m in
+    record {
+      done = d.done ++ p.taken;
+      are_scalars = scalars-append d.done p.taken d.are_scalars p.are_scalars;
+      within = let inside : read ≤ length src = d.within in omega (arith, inside, p.within, length-drop read src);
+      spelled = encodes-append d.done p.taken ∙ (λ i. d.spelled i ++ p.spelled i) ∙ sym (take-add read n src);
+      rest = subst IsUtf8 (drop-drop n read src) p.rest;
+      due = omega (arith, d.due, units_split (drop read src) _ sub n k due d.rest p, ap units_in (drop-drop n read src));
+      shorter = omega (arith, d.shorter, p.counted, few, ap length p.spelled, length-take n (drop read src));
+      counted = omega (arith, d.counted, p.counted, ap length added, length-append units (flat_map encode_utf16 p.taken));
+      placed = (λ i. take (written + k) (is i)) ∙ ap (λ j. take (j + k) (take written new ++ sub)) (sym size) ∙ take-append-add (take written new) sub k ∙ (λ i. d.placed i ++ p.placed i) ∙ sym added;
+      behind = (λ i. drop (d.due i) (is i)) ∙ past due ∙ p.behind ∙ ap (drop due) whole ∙ drop-drop due written new ∙ (λ i. drop (sym d.due i) new) ∙ d.behind;
+    }
+  where
+    drop_past : (xs ys : List ℕ) (j : ℕ) → drop (length xs + j) (xs ++ ys) ≡ drop j ys
+    drop_past xs ys j = sym (drop-drop j (length xs) (xs ++ ys)) ∙ ap (drop j) (drop_at xs ys (length xs) refl)
+
+pub putting_all : (src old new : List ℕ) (read written : ℕ) → IsUtf8 src → length src ≤ length old → length src ≤ read → Putting src old new read written → WritesFront old new written (flat_map encode_utf16 (chars src))
+putting_all src old new read written u room end d =
+    let done : d.done ≡ chars src = chars_from_encodes d.done src u (d.spelled ∙ take_all read src end) in
+    let units = flat_map encode_utf16 (chars src) in
+    let same : flat_map encode_utf16 d.done ≡ units = ap (flat_map encode_utf16) done in
+    let count : written ≡ length units = d.counted ∙ ap length same in
+    let total : units_in src ≡ written = units_of d.done src u (d.spelled ∙ take_all read src end) ∙ sym d.counted in
+    let inside : read ≤ length src = d.within in
+    record {
+      count = count;
+      fits = omega (arith, d.shorter, inside, room);
+      placed = sym (take-append-drop written new) ∙ (λ i. (d.placed ∙ same) i ++ (ap (λ n. drop n new) (sym total) ∙ d.behind ∙ ap (λ n. drop n old) total) i);
+    }

@@ -1,0 +1,82 @@
+-- The code units of well-formed UTF-8 by its bytes: which bytes a code unit ends with, and which unit that is.
+use Rattle.std.specs.Prelude.{◌≡◌, ℕ, zero, suc, ◌+◌, ◌*◌, ◌/◌, ◌%◌, ◌<◌, ◌≤◌, Bool, true, false, ◌&&◌, if◌then◌else◌, nat_lt, nat_le, ◌==◌, List, [], ◌∷◌, ◌++◌, length, take, drop, replicate, slice_index, encode_utf8_all}
+use Rattle.std.specs.Str.{all_scalars, IsUtf8, chars}
+use Rattle.std.specs.Char.Escape.{encode_utf16}
+use Rattle.std.specs.List.{flat_map}
+
+-- ---- lanes of a vector that are kept
+-- the elements whose mark is set
+unfoldable pub keep : List Bool → List ℕ → List ℕ
+keep [] us = []
+keep (m ∷ ms) [] = []
+keep (m ∷ ms) (u ∷ us) = (if m then u ∷ [] else []) ++ keep ms us
+
+-- of so many places from one on, those whose bit is set in the mask
+unfoldable pub places_from : ℕ → ℕ → ℕ → List ℕ
+places_from zero at mask = []
+places_from (suc n) at mask = (if mask % 2 == 1 then at ∷ [] else []) ++ places_from n (at + 1) (mask / 2)
+
+-- the places of eight lanes whose bit is set, and zeros behind them
+unfoldable pub gathered_places : ℕ → List ℕ
+gathered_places mask = take 8 (places_from 8 0 mask ++ replicate 8 0)
+
+-- the two bytes of each of these lanes
+unfoldable pub bytes_at : List ℕ → List ℕ
+bytes_at [] = []
+bytes_at (k ∷ ks) = (2 * k) ∷ (2 * k + 1) ∷ bytes_at ks
+
+unfoldable pub byte_places : ℕ → List ℕ
+byte_places mask = bytes_at (gathered_places mask)
+
+-- the elements whose mark is set stand in front, so many; the first sixteen places may have changed, and no other
+pub record PutsKept (marks : List Bool) (us old new : List ℕ) (count : ℕ) : Type 0 where
+  pub counted : count ≡ length (keep marks us)
+  pub placed : take count new ≡ keep marks us
+  pub behind : drop 16 new ≡ drop 16 old
+
+-- ---- the code unit that ends with a byte
+-- whether one ends with the byte b behind a
+abbrev pub ends_unit : ℕ → ℕ → Bool
+ends_unit a b = nat_lt b 0xC0 && nat_lt a 0xE0
+
+-- the last six bits of each
+abbrev pub low_bits : ℕ → ℕ → ℕ
+low_bits a b = a % 64 * 64 + b % 64
+
+-- the unit that ends with the byte b behind x, y and a: a sequence of four ends its two units with its last two bytes
+abbrev pub unit_at : ℕ → ℕ → ℕ → ℕ → ℕ
+unit_at x y a b = if nat_lt b 0x80 then b
+    else (if nat_le 0xF0 x then 0xDC00 + low_bits a b % 0x400
+    else (if nat_le 0xF0 y then 0xD7C0 + (y % 8 * 256 + low_bits a b / 16)
+    else (if nat_le 0xE0 y then y % 16 * 4096 + low_bits a b else low_bits a b)))
+
+-- the same of the byte at a place, with zeros before the first
+abbrev pub unit_lane : List ℕ → ℕ → ℕ
+unit_lane bs k = unit_at (slice_index (0 ∷ 0 ∷ 0 ∷ bs) k) (slice_index (0 ∷ 0 ∷ bs) k) (slice_index (0 ∷ bs) k) (slice_index bs k)
+
+-- of each byte, behind x, y and a
+unfoldable pub units_behind : ℕ → ℕ → ℕ → List ℕ → List ℕ
+units_behind x y a [] = []
+units_behind x y a (b ∷ bs) = unit_at x y a b ∷ units_behind y a b bs
+
+unfoldable pub ends_behind : ℕ → List ℕ → List Bool
+ends_behind a [] = []
+ends_behind a (b ∷ bs) = ends_unit a b ∷ ends_behind b bs
+
+-- ---- text
+-- how many code units the text has
+unfoldable pub units_in : List ℕ → ℕ
+units_in text = length (flat_map encode_utf16 (chars text))
+
+-- Of the text some first characters are read, n bytes, and their code units written in front, so many; of the
+-- destination the first `reach` places may have changed, and no other.
+pub record PutsText (src old new : List ℕ) (read written reach : ℕ) : Type 0 where
+  pub taken : List ℕ
+  pub are_scalars : all_scalars taken ≡ true
+  pub some : 0 < read
+  pub within : read ≤ length src
+  pub spelled : encode_utf8_all taken ≡ take read src
+  pub rest : IsUtf8 (drop read src)
+  pub counted : written ≡ length (flat_map encode_utf16 taken)
+  pub placed : take written new ≡ flat_map encode_utf16 taken
+  pub behind : drop reach new ≡ drop reach old

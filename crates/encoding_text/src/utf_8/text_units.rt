@@ -1,0 +1,262 @@
+//! UTF-16 of well-formed UTF-8, sixteen bytes at a time: each byte computes the code unit that ends with it from the
+//! three bytes before it, and the lanes that end one are moved together.
+//!
+//! What a block stores behind its own code units is overwritten by those of the bytes that follow: three bytes have
+//! at least one code unit, so with 48 bytes left sixteen places are still due.
+ghost use Rattle.std.specs.Prelude.{◌≡◌, ℕ, ◌+◌, ◌-◌, ◌<◌, ◌≤◌, ◌∷◌, ◌^◌, Bool, false, List, ◌++◌, length, take, drop, replicate, slice_index, IsTrue};
+ghost use Rattle.std.specs.List.{flat_map};
+ghost use Rattle.std.specs.Str.{IsUtf8, IsCharBoundary, chars};
+ghost use Rattle.std.specs.Char.Escape.{encode_utf16};
+ghost use Rattle.std.specs.Simd.Lanes.{mask_l};
+ghost use Rattle.encoding_text.specs.Fronts.{WritesFront};
+ghost use Rattle.encoding_text.specs.Steps.Lanes.{HasLanes};
+ghost use Rattle.encoding_text.specs.Steps.Units.{PutsKept, PutsText, ends_behind, low_bits, unit_lane, units_behind, units_in};
+
+use crate::sequence::{is_continuation, sequence_length};
+use crate::utf_8::decoding::{put_utf16, scalar_of_sequence};
+use crate::utf_8::kept_lanes::gather;
+use std::simd::Simd;
+use std::simd::prelude::*;
+
+/// The greatest byte at each place that leaves no character cut at the end of sixteen.
+const LAST: [u8; 16] = [
+    255, 255, 255, 255, 255, 255, 255, 255, 255, 255, 255, 255, 255, 0xEF, 0xDF, 0xBF,
+];
+
+/// The bytes one place before, with a zero before the first.
+#[inline(always)]
+fn one_before(block: u8x16) -> u8x16
+    ensures { HasLanes 16 result (λ k. slice_index (0 ∷ block) k) }
+{
+    u8x16::splat(0).shuffle(
+        block,
+        [
+            15, 16, 17, 18, 19, 20, 21, 22, 23, 24, 25, 26, 27, 28, 29, 30,
+        ],
+    )
+}
+
+/// The bytes two places before.
+#[inline(always)]
+fn two_before(block: u8x16) -> u8x16
+    ensures { HasLanes 16 result (λ k. slice_index (0 ∷ 0 ∷ block) k) }
+{
+    u8x16::splat(0).shuffle(
+        block,
+        [
+            14, 15, 16, 17, 18, 19, 20, 21, 22, 23, 24, 25, 26, 27, 28, 29,
+        ],
+    )
+}
+
+/// The bytes three places before.
+#[inline(always)]
+fn three_before(block: u8x16) -> u8x16
+    ensures { HasLanes 16 result (λ k. slice_index (0 ∷ 0 ∷ 0 ∷ block) k) }
+{
+    u8x16::splat(0).shuffle(
+        block,
+        [
+            13, 14, 15, 16, 17, 18, 19, 20, 21, 22, 23, 24, 25, 26, 27, 28,
+        ],
+    )
+}
+
+/// Whether each byte is below the bound.
+#[inline(always)]
+fn is_below(block: u8x16, bound: u8) -> bool
+    ensures { IsTrue result → (k : ℕ) → k < 16 → slice_index block k < bound }
+{
+    block.simd_ge(u8x16::splat(bound)).to_bitmask() == 0
+}
+
+/// The last six bits of each byte and of the one before it.
+#[inline(always)]
+fn join_low_bits(before: u16x16, bytes: u16x16) -> u16x16
+    ensures { HasLanes 16 result (λ k. low_bits (slice_index before k) (slice_index bytes k)) }
+{
+    let six = u16x16::splat(0x3F);
+    (before & six) * u16x16::splat(64) + (bytes & six)
+}
+
+/// The code unit that ends with each byte, where no character has four bytes.
+#[inline(always)]
+fn short_units(block: u8x16) -> u16x16
+    requires { (k : ℕ) → k < 16 → slice_index block k < 0xF0 }
+    ensures { HasLanes 16 result (unit_lane block) }
+{
+    let bytes = block.cast::<u16>();
+    let two = two_before(block).cast::<u16>();
+    let low = join_low_bits(one_before(block).cast::<u16>(), bytes);
+    let longer = two
+        .simd_ge(u16x16::splat(0xE0))
+        .select(two * u16x16::splat(0x1000) + low, low);
+    bytes.simd_lt(u16x16::splat(0x80)).select(bytes, longer)
+}
+
+/// The code unit that ends with each byte.
+#[inline(always)]
+fn long_units(block: u8x16) -> u16x16
+    ensures { HasLanes 16 result (unit_lane block) }
+{
+    let bytes = block.cast::<u16>();
+    let two = two_before(block).cast::<u16>();
+    let three = three_before(block).cast::<u16>();
+    let low = join_low_bits(one_before(block).cast::<u16>(), bytes);
+    let short = two
+        .simd_ge(u16x16::splat(0xE0))
+        .select(two * u16x16::splat(0x1000) + low, low);
+    let high = u16x16::splat(0xD7C0)
+        + ((two & u16x16::splat(7)) * u16x16::splat(0x100) + (low >> u16x16::splat(4)));
+    let upper = two.simd_ge(u16x16::splat(0xF0)).select(high, short);
+    let longer = three.simd_ge(u16x16::splat(0xF0)).select(
+        u16x16::splat(0xDC00) + (low & u16x16::splat(0x3FF)),
+        upper,
+    );
+    bytes.simd_lt(u16x16::splat(0x80)).select(bytes, longer)
+}
+
+/// The code unit that ends with each byte.
+#[inline(always)]
+fn code_units(block: u8x16) -> u16x16
+    ensures { result ≡ units_behind 0 0 0 block }
+{
+    if is_below(block, 0xF0) {
+        return short_units(block);
+    }
+    long_units(block)
+}
+
+/// Of the first bytes, up to the end, a bit for each that ends a code unit.
+#[inline(always)]
+fn unit_ends(block: u8x16, end: usize) -> usize
+    requires { end ≤ 16 }
+    ensures { result ≡ mask_l (take end (ends_behind 0 block) ++ replicate (16 - end) false) }
+{
+    let ends = block.simd_lt(u8x16::splat(0xC0)) & one_before(block).simd_lt(u8x16::splat(0xE0));
+    ends.to_bitmask() as usize & ((1 << end) - 1)
+}
+
+/// The lower half of the lanes.
+#[inline(always)]
+fn first_eight(units: u16x16) -> u16x8
+    ensures { result ≡ take 8 units }
+{
+    units.extract::<0, 8>()
+}
+
+/// The upper half.
+#[inline(always)]
+fn last_eight(units: u16x16) -> u16x8
+    ensures { result ≡ drop 8 units }
+{
+    units.extract::<8, 8>()
+}
+
+/// Writes the units whose bit is set, in order, and returns how many these are.
+#[inline(always)]
+fn put_kept(units: u16x16, kept: usize, dst: &mut [u16]) -> usize
+    requires { (kept < 2 ^ 16) × (16 ≤ length dst.old) }
+    ensures { (marks : List Bool) → length marks ≡ 16 → kept ≡ mask_l marks → PutsKept marks units dst.old dst.new result }
+{
+    let first = kept & 0xFF;
+    let second = kept >> 8;
+    gather(first_eight(units), first).copy_to_slice(dst);
+    let count = first.count_ones() as usize;
+    gather(last_eight(units), second).copy_to_slice(&mut dst[count..]);
+    count + second.count_ones() as usize
+}
+
+/// Where the last whole character of the first sixteen bytes ends, or 0.
+#[inline(always)]
+fn whole_end(src: &[u8]) -> usize
+    requires { (16 < length src.now) × IsUtf8 src.now }
+    ensures { (result ≤ 16) × IsCharBoundary src.now result }
+{
+    let cut = u8x16::from_slice(src)
+        .saturating_sub(u8x16::from_array(LAST))
+        .simd_ne(u8x16::splat(0))
+        .to_bitmask();
+    let end = (cut | 0x10000).trailing_zeros() as usize;
+    if end > 16 || is_continuation(src[end]) {
+        return 0;
+    }
+    end
+}
+
+/// Writes the UTF-16 of the first bytes, up to the end of a character, and returns how many code units these are.
+#[inline(always)]
+fn put_block(src: &[u8], end: usize, dst: &mut [u16]) -> usize
+    requires room { (16 ≤ length src.now) × (16 ≤ length dst.old) }
+    requires text { IsUtf8 src.now }
+    requires end { (0 < end) × (end ≤ 16) × IsCharBoundary src.now end }
+    ensures { PutsText src.now dst.old dst.new end result 16 }
+{
+    let block = u8x16::from_slice(src);
+    put_kept(code_units(block), unit_ends(block, end), dst)
+}
+
+/// Writes the first sixteen bytes, which are ASCII.
+#[inline(always)]
+fn put_ascii(src: &[u8], dst: &mut [u16])
+    requires room { (16 ≤ length src.now) × (16 ≤ length dst.old) }
+    requires text { IsUtf8 src.now }
+    requires ascii { (k : ℕ) → k < 16 → slice_index src.now k < 0x80 }
+    ensures { PutsText src.now dst.old dst.new 16 16 16 }
+{
+    u8x16::from_slice(src).cast::<u16>().copy_to_slice(dst);
+}
+
+/// Writes the UTF-16 of the first character, and returns how many bytes and code units these are.
+#[inline(always)]
+fn put_character(src: &[u8], dst: &mut [u16]) -> (usize, usize)
+    requires room { (0 < length src.now) × (length src.now ≤ length dst.old) }
+    requires text { IsUtf8 src.now }
+    ensures { PutsText src.now dst.old dst.new result.0 result.1 result.1 }
+{
+    let length = sequence_length(src[0]);
+    let scalar = scalar_of_sequence(&src[..length]);
+    let Some(units) = put_utf16(scalar, dst) else {
+        unreachable!();
+    };
+    (length, units)
+}
+
+/// Writes the UTF-16 of some first characters, and returns how many bytes and code units these are. What is due behind
+/// them may have changed too.
+#[inline(always)]
+fn put_some(src: &[u8], dst: &mut [u16]) -> (usize, usize)
+    requires room { (0 < length src.now) × (length src.now ≤ length dst.old) }
+    requires text { IsUtf8 src.now }
+    ensures { PutsText src.now dst.old dst.new result.0 result.1 (units_in src.now) }
+{
+    if src.len() >= 16 {
+        if is_below(u8x16::from_slice(src), 0x80) {
+            put_ascii(src, dst);
+            return (16, 16);
+        }
+        if src.len() >= 48 {
+            let end = whole_end(src);
+            if end > 0 {
+                return (end, put_block(src, end, dst));
+            }
+        }
+    }
+    put_character(src, dst)
+}
+
+/// Writes the UTF-16 of a text, and returns how many code units these are. Behind what is written `dst` is as before.
+pub(crate) fn write_text(src: &[u8], dst: &mut [u16]) -> usize
+    requires room { length src.now ≤ length dst.old }
+    requires text { IsUtf8 src.now }
+    ensures { WritesFront dst.old dst.new result (flat_map encode_utf16 (chars src.now)) }
+{
+    let mut read = 0;
+    let mut written = 0;
+    while read < src.len() {
+        let (bytes, units) = put_some(&src[read..], &mut dst[written..]);
+        read += bytes;
+        written += units;
+    }
+    written
+}
