@@ -7,7 +7,6 @@ ghost use Rattle.encoding_text.specs.Fronts.{WritesFront};
 ghost use Rattle.encoding_text.specs.Converting.{ConvertsLongest};
 ghost use Rattle.encoding_text.specs.Steps.Converting.{Converted};
 
-use super::blocks::well_formed_blocks;
 use super::text_units::write_text;
 use super::validation::{character_length, utf8_valid_up_to};
 
@@ -92,7 +91,7 @@ fn convert_texts(src: &[u8], dst: &mut [u16]) -> (usize, usize)
     let mut written = 0;
     loop {
         let room = (src.len() - read).min(dst.len() - written).min(PIECE);
-        let valid = well_formed_blocks(&src[read..read + room]);
+        let valid = utf8_valid_up_to(&src[read..read + room]);
         if valid == 0 {
             return (read, written);
         }
