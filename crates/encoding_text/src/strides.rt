@@ -115,6 +115,22 @@ pub(crate) fn front_below(bytes: &[u8], bound: u8) -> usize
     skip_bytes_below::<1>(bytes, 0, bound)
 }
 
+/// The same, quick where that is within the first stride.
+#[inline(always)]
+pub(crate) fn short_front_below(bytes: &[u8], bound: u8) -> usize
+    ensures within { result ≤ length bytes.now }
+    ensures below { BelowUpTo bound bytes.now result }
+    ensures stops { result < length bytes.now → bound ≤ slice_index bytes.now result }
+{
+    if bytes.len() >= STRIDE {
+        let run = run_below::<STRIDE>(bytes, 0, bound);
+        if run < STRIDE {
+            return run;
+        }
+    }
+    front_below(bytes, bound)
+}
+
 /// Goes from a place on by N UTF-16 code units at a time while they are below the bound, and returns where that ends.
 #[inline(always)]
 pub(crate) fn skip_units_below<const N: usize>(units: &[u16], from: usize, bound: u16) -> usize

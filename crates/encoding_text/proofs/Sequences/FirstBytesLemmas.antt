@@ -1,8 +1,12 @@
 -- Characters of three and of four bytes that begin a longer list, by its first bytes.
 use Rattle.std.proofs.Common.{ℕ, ◌<◌, ◌≤◌, ◌⊎◌, inl, inr, [], ◌∷◌, List, slice_index, arith}
-use Rattle.encoding_text.specs.Sequence.{IsSequence}
+use Rattle.std.proofs.lemmas.Bool.Decides.{nat_tests}
+use Rattle.encoding_text.specs.Sequence.{IsSequence, IsContinuation, IsSecond}
 use Rattle.encoding_text.specs.Parts.{BeginsWithNoCharacter}
 use Rattle.encoding_text.proofs.Sequences.SequenceLemmas.{Reads, no_character_reads, second_from, IsSequence-HasShape}
+
+second_continues : (a b : ℕ) → IsSecond a b → IsContinuation b
+second_continues a b s = grind (arith, nat_tests)
 
 module _ (bs : List ℕ) where
   abbrev first_three : List ℕ
@@ -26,3 +30,7 @@ module _ (bs : List ℕ) where
   -- the first byte begins none of fewer than four
   pub no_character_four : 0xF0 ≤ slice_index bs 0 → (IsSequence first_four → ⊥) → BeginsWithNoCharacter bs
   no_character_four l n = no_character_reads bs (λ r. n (four_reads r l))
+
+  -- no continuation byte behind a first byte that isn't ASCII
+  pub no_character_second : 0x80 ≤ slice_index bs 0 → (IsContinuation (slice_index bs 1) → ⊥) → BeginsWithNoCharacter bs
+  no_character_second l n = no_character_reads bs (λ r. n (second_continues _ _ (r.1 l).1))

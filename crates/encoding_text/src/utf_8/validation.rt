@@ -5,8 +5,8 @@ ghost use Rattle.encoding_text.specs.Sequence.{IsSequence};
 ghost use Rattle.encoding_text.specs.Parts.{BeginsWithNoCharacter};
 ghost use Rattle.encoding_text.specs.Fronts.{IsLongestFront};
 
-use crate::sequence::{is_continuation, is_second};
-use crate::strides::{ASCII_END, front_below};
+use crate::sequence::{begins_several, is_continuation, is_second};
+use crate::strides::{ASCII_END, front_below, short_front_below};
 use crate::utf_8::blocks::well_formed_blocks;
 use crate::utf_8::table::{UTF8_DATA, law_table};
 
@@ -89,6 +89,16 @@ pub(crate) fn character_length(bytes: &[u8]) -> Option<usize>
     Some(4)
 }
 
+/// Whether two bytes show that no character begins there, where the first isn't ASCII.
+#[inline(always)]
+fn is_broken(bytes: &[u8]) -> bool
+    requires some { 0 < length bytes.now }
+    requires lead { 0x80 ≤ slice_index bytes.now 0 }
+    ensures { IsTrue result → BeginsWithNoCharacter bytes.now }
+{
+    bytes.len() < 2 || !begins_several(bytes[0]) || !is_continuation(bytes[1])
+}
+
 /// The length in bytes of the longest front of `src` that is well-formed UTF-8: the place of the first byte
 /// that no character takes, or the length of `src`.
 ///
@@ -100,14 +110,14 @@ pub fn utf8_valid_up_to(src: &[u8]) -> usize
 {
     let mut at = 0;
     if src.len() >= 16 {
-        at = front_below(src, ASCII_END);
+        at = short_front_below(src, ASCII_END);
         if at == src.len() {
             return at;
         }
-        // broken bytes often stand together, so one character is tried before whole blocks
-        let Some(_) = character_length(&src[at..]) else {
+        // broken bytes often stand together, and a block costs more than two bytes
+        if is_broken(&src[at..]) {
             return at;
-        };
+        }
         at = well_formed_blocks(src, at);
     } else if src.len() >= 8 && src[0] < ASCII_END {
         at = front_below(src, ASCII_END);
