@@ -3,3 +3,4 @@ pub mod LaneLemmas
 pub mod PlacesLemmas
 pub mod SpellingLemmas
 pub mod StoresLemmas
+pub mod LongLemmas

@@ -11,5 +11,6 @@ pub(crate) use decoding::{CodeUnit, scalar_of_sequence};
 pub use encoder::{EncoderResult, Utf8Encoder};
 pub use encoding::{convert_utf16_to_utf8_partial_inner, convert_utf16_to_utf8_partial_tail};
 pub(crate) use encoding::{is_high_surrogate, is_low_surrogate, is_surrogate};
+pub(crate) use spelling::write_short;
 pub(crate) use validation::character_length;
 pub use validation::utf8_valid_up_to;

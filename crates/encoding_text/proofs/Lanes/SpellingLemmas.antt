@@ -1,11 +1,11 @@
 -- The UTF-8 of code units below U+0800, from both bytes of each and the places that are kept.
-use Rattle.std.proofs.Common.{◌≡◌, ℕ, zero, suc, ◌+◌, ◌-◌, ◌*◌, ◌/◌, ◌%◌, ◌^◌, ◌<◌, ◌≤◌, Bool, true, false, cond, inl, inr, List, [], ◌∷◌, ◌++◌, map, length, take, get_or, encode_utf8, encode_utf8_all, bit_and, replicate, refl, sym, ap, ◌∙◌, arith, subst, w16}
+use Rattle.std.proofs.Common.{◌≡◌, ℕ, suc, ◌+◌, ◌*◌, ◌/◌, ◌%◌, ◌^◌, ◌<◌, ◌≤◌, Bool, true, false, cond, inl, inr, List, [], ◌∷◌, ◌++◌, map, length, take, get_or, encode_utf8_all, bit_and, replicate, refl, sym, ap, ◌∙◌, arith, subst, w16}
 use Rattle.std.specs.Prelude.{nat_le}
 use Rattle.std.proofs.lemmas.Bool.{cases_lt}
 use Rattle.std.proofs.lemmas.Bool.Decides.{nat_tests}
 use Rattle.std.proofs.lemmas.Grind.{same_number_lists}
-use Rattle.std.proofs.lemmas.List.{length-map, get_or-map, take-map, take_all}
-use Rattle.std.proofs.lemmas.Simd.{ones-mask_l_cons, get_or_narrower, Each1-from_get_or, Each1-get_or, swz_l, length-swz_l, tops_compared, zip2_splat_left, mask_l-mod, mask_l-lt}
+use Rattle.std.proofs.lemmas.List.{length-map, get_or-map, take-map}
+use Rattle.std.proofs.lemmas.Simd.{ones-mask_l_cons, get_or_narrower, Each1-from_get_or, swz_l, tops_compared, zip2_splat_left, mask_l-mod, mask_l-lt}
 use Rattle.std.proofs.lemmas.Nat.{and_mask}
 use Rattle.std.proofs.lemmas.Str.{encode_ascii}
 use Rattle.std.proofs.str.Laws.{two}
@@ -105,7 +105,7 @@ pick false x y l m = m
 -- the words of eight code units, as bytes
 both_lanes : (us : List ℕ) → length us ≡ 8
     → HasLanes 8 (zip2 (λ a b. (a + b) % 2 ^ 16) (zip2 (λ a b. (a + b) % 2 ^ 16) (zip2 (λ a b. a / 2 ^ b) us (replicate 8 6)) (zip2 (λ a b. a * 2 ^ b % 2 ^ 16) (zip2 bit_and us (replicate 8 0x3F)) (replicate 8 8))) (replicate 8 0x80C0))
-        (λ k. both (get_or us k 0))
+    (λ k. both (get_or us k 0))
 both_lanes us long =
     let lanes = HasLanes-itself 8 us long in
     let lead = HasLanes-zip2 (λ a b. a / 2 ^ b) lanes (HasLanes-splat 8 6) in
