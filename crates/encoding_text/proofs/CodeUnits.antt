@@ -9,3 +9,4 @@ pub mod EncoderTextLemmas
 pub mod Utf16TextLemmas
 pub mod FirstPartsLemmas
 pub mod EncoderPartsLemmas
+pub mod UnitBlocksLemmas

@@ -7,3 +7,4 @@ pub mod StoresLemmas
 pub mod PairsLemmas
 pub mod KeptLemmas
 pub mod UnitLanesLemmas
+pub mod LongLemmas

@@ -34,7 +34,7 @@ pub(crate) fn are_bytes_below<const N: usize>(bytes: &[u8], at: usize, bound: u8
 
 /// Whether each of the N UTF-16 code units from a place on is below the bound.
 #[inline(always)]
-fn are_units_below<const N: usize>(units: &[u16], at: usize, bound: u16) -> bool
+pub(crate) fn are_units_below<const N: usize>(units: &[u16], at: usize, bound: u16) -> bool
     requires { (at + N ≤ length units.now) × (N ≤ 64) }
     ensures { IsTrue result ↔ AllBelow bound units.now at N }
 {

@@ -16,5 +16,6 @@ pub use encoding::{convert_utf16_to_utf8_partial_inner, convert_utf16_to_utf8_pa
 pub(crate) use encoding::{is_high_surrogate, is_low_surrogate, is_surrogate};
 pub use table::{UTF8_DATA, Utf8Data, law_table};
 pub(crate) use text_units::write_text;
+pub(crate) use spelling::write_short;
 pub(crate) use validation::character_length;
 pub use validation::utf8_valid_up_to;

@@ -1,6 +1,6 @@
 -- Two stores of which only the first bytes count: the second covers what the first writes too much.
-use Rattle.std.proofs.Common.{◌≡◌, ℕ, ◌+◌, ◌≤◌, List, ◌++◌, length, take, drop, take-add, length-take-le, length-append, length-drop, get_or, cond, ltb, sym, ap, ◌∙◌, arith, append_assoc, refl, w8}
-use Rattle.std.proofs.lemmas.List.{take_at, drop_at, drop-drop, take-append-le, drop-append-le}
+use Rattle.std.proofs.Common.{◌≡◌, ℕ, ◌+◌, ◌≤◌, List, ◌++◌, length, take, drop, take-add, length-take-le, length-append, get_or, cond, ltb, sym, ap, ◌∙◌, arith, append_assoc, refl, w8}
+use Rattle.std.proofs.lemmas.List.{take_at, drop_at, drop-drop, take-append-le}
 use Rattle.std.proofs.lemmas.List.FromFn.{get_or-range_with_len}
 use Rattle.std.proofs.lemmas.Simd.{length-put_chunk, length-chunk}
 use Rattle.std.specs.List.{range_with_len}

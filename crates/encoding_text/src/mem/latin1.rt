@@ -6,6 +6,10 @@ ghost use Rattle.std.specs.Str.{chars};
 ghost use Rattle.encoding_text.specs.Fronts.{FitsLongest, WritesFront};
 ghost use Rattle.encoding_text.specs.Latin1.{IsUtf8Latin1};
 
+use crate::strides::copy_ascii;
+use crate::utf_8::write_short;
+use std::simd::prelude::*;
+
 /// The bytes that a character from U+0080 to U+00FF takes in UTF-8.
 const HIGH_LENGTH: usize = 2;
 
@@ -19,6 +23,29 @@ pub fn convert_latin1_to_utf16(src: &[u8], dst: &mut [u16])
     }
 }
 
+/// Writes the UTF-8 of blocks of sixteen bytes from the beginning of `src` on, and returns how many bytes these are and
+/// how many it wrote. Behind what is written `dst` is as before.
+fn convert_latin1_blocks(src: &[u8], dst: &mut [u8]) -> (usize, usize)
+    ensures within { result.0 ≤ length src.now }
+    ensures written { WritesFront dst.old dst.new result.1 (encode_utf8_all (take result.0 src.now)) }
+{
+    let mut read = 0;
+    let mut written = 0;
+    while src.len() - read >= 16 && dst.len() - written >= 32 {
+        let front = copy_ascii::<16>(&src[read..], &mut dst[written..], 0);
+        if front > 0 {
+            read += front;
+            written += front;
+        } else {
+            let first = u8x8::from_slice(&src[read..]).cast::<u16>();
+            let second = u8x8::from_slice(&src[read + 8..]).cast::<u16>();
+            written += write_short(first, second, dst, written);
+            read += 16;
+        }
+    }
+    (read, written)
+}
+
 /// Writes the UTF-8 of the longest front of `src` whose UTF-8 fits into `dst`, and returns how many bytes it read and
 /// how many it wrote: Encoding Standard, `encodeInto`. Behind what is written `dst` is as before.
 pub fn convert_latin1_to_utf8_partial(src: &[u8], dst: &mut [u8]) -> (usize, usize)
@@ -26,8 +53,7 @@ pub fn convert_latin1_to_utf8_partial(src: &[u8], dst: &mut [u8]) -> (usize, usi
         (encode_utf8_all (take result.0 src.now)) }
     ensures written { WritesFront dst.old dst.new result.1 (encode_utf8_all (take result.0 src.now)) }
 {
-    let mut read = 0;
-    let mut written = 0;
+    let (mut read, mut written) = convert_latin1_blocks(src, dst);
     while read < src.len() {
         let byte = src[read];
         if byte < 0x80 {

@@ -1,11 +1,16 @@
 //! UTF-16 to UTF-8, into a destination of any size.
-ghost use Rattle.std.specs.Prelude.{◌≡◌, ◌+◌, ◌<◌, ◌≤◌, ◌↔◌, ◌⊎◌, length, take, drop, encode_utf8, IsTrue};
+ghost use Rattle.std.specs.Prelude.{◌≡◌, ◌+◌, ◌<◌, ◌≤◌, ◌↔◌, ◌⊎◌, length, take, drop, encode_utf8, encode_utf8_all, IsTrue};
 ghost use Rattle.std.specs.Char.{len_utf8};
 ghost use Rattle.std.specs.Char.Escape.{encode_utf16};
 ghost use Rattle.std.specs.Char.Utf16.{surrogate_pair_char};
 ghost use Rattle.encoding_text.specs.Fronts.{WritesFront};
 ghost use Rattle.encoding_text.specs.Utf16.{IsHighSurrogate, IsLowSurrogate, IsUtf8OfFront, IsUtf8OfLongestFront};
 ghost use Rattle.encoding_text.specs.Steps.FirstScalar.{IsFirstScalar};
+ghost use Rattle.encoding_text.specs.Steps.Spelling.{ArePlain};
+
+use crate::strides::{are_units_below, narrow_ascii};
+use crate::utf_8::spelling::{are_long, write_long, write_short};
+use std::simd::prelude::*;
 
 /// What a lone surrogate counts as.
 pub(super) const REPLACEMENT: u32 = 0xFFFD;
@@ -13,7 +18,11 @@ pub(super) const REPLACEMENT: u32 = 0xFFFD;
 /// The most bytes that a character has in UTF-8.
 const LONGEST: usize = 4;
 
+/// How many characters go one by one before blocks are tried again.
+const SINGLES: usize = 8;
+
 /// Whether the code unit is a surrogate.
+#[inline(always)]
 pub(crate) fn is_surrogate(unit: u16) -> bool
     ensures { IsTrue result ↔ ((0xD800 ≤ unit) × (unit ≤ 0xDFFF)) }
 {
@@ -21,6 +30,7 @@ pub(crate) fn is_surrogate(unit: u16) -> bool
 }
 
 /// Whether the code unit is a high surrogate, the first of a pair.
+#[inline(always)]
 pub(crate) fn is_high_surrogate(unit: u16) -> bool
     ensures { IsTrue result ↔ IsHighSurrogate unit }
 {
@@ -28,6 +38,7 @@ pub(crate) fn is_high_surrogate(unit: u16) -> bool
 }
 
 /// Whether the code unit is a low surrogate, the second of a pair.
+#[inline(always)]
 pub(crate) fn is_low_surrogate(unit: u16) -> bool
     ensures { IsTrue result ↔ IsLowSurrogate unit }
 {
@@ -35,6 +46,7 @@ pub(crate) fn is_low_surrogate(unit: u16) -> bool
 }
 
 /// The scalar value of a pair of surrogates.
+#[inline(always)]
 pub(super) fn pair_scalar(high: u16, low: u16) -> u32
     requires high { IsHighSurrogate high }
     requires low { IsLowSurrogate low }
@@ -44,6 +56,7 @@ pub(super) fn pair_scalar(high: u16, low: u16) -> u32
 }
 
 /// What the first part of the code units from this place on counts as.
+#[inline(always)]
 fn scalar_at(src: &[u16], at: usize) -> u32
     requires { at < length src.now }
     ensures { IsFirstScalar (drop at src.now) result }
@@ -62,6 +75,7 @@ fn scalar_at(src: &[u16], at: usize) -> u32
 }
 
 /// How many code units the UTF-16 of a scalar value has.
+#[inline(always)]
 fn utf16_length(scalar: u32) -> usize
     ensures { result ≡ length (encode_utf16 scalar) }
 {
@@ -69,6 +83,7 @@ fn utf16_length(scalar: u32) -> usize
 }
 
 /// How many bytes the UTF-8 of a scalar value has.
+#[inline(always)]
 pub(super) fn utf8_length(scalar: u32) -> usize
     ensures { result ≡ len_utf8 scalar }
 {
@@ -81,6 +96,7 @@ pub(super) fn utf8_length(scalar: u32) -> usize
 }
 
 /// Writes the UTF-8 of a scalar value, and returns how many bytes that are. Behind what is written `dst` is as before.
+#[inline(always)]
 pub(super) fn write_scalar(scalar: u32, dst: &mut [u8]) -> usize
     requires scalar { scalar < 0x110000 }
     requires room { len_utf8 scalar ≤ length dst.old }
@@ -110,6 +126,39 @@ pub(super) fn write_scalar(scalar: u32, dst: &mut [u8]) -> usize
     4
 }
 
+/// Converts blocks of code units from the beginning of `src` on, and returns how many code units these are and how many
+/// bytes it wrote: sixteen below U+0080 or below U+0800, or eight from U+0800 on without a surrogate. Behind what is
+/// written `dst` is as before.
+fn convert_blocks(src: &[u16], dst: &mut [u8]) -> (usize, usize)
+    ensures within { result.0 ≤ length src.now }
+    ensures plain { ArePlain (take result.0 src.now) }
+    ensures written { WritesFront dst.old dst.new result.1 (encode_utf8_all (take result.0 src.now)) }
+{
+    let mut read = 0;
+    let mut written = 0;
+    while src.len() - read >= 16 && dst.len() - written >= 32 {
+        let front = narrow_ascii::<16>(&src[read..], &mut dst[written..], 0);
+        if front > 0 {
+            read += front;
+            written += front;
+        } else if are_units_below::<16>(src, read, 0x800) {
+            let first = u16x8::from_slice(&src[read..]);
+            let second = u16x8::from_slice(&src[read + 8..]);
+            written += write_short(first, second, dst, written);
+            read += 16;
+        } else {
+            let units = u16x8::from_slice(&src[read..]);
+            if !are_long(units) {
+                break;
+            }
+            write_long(units, dst, written);
+            read += 8;
+            written += 24;
+        }
+    }
+    (read, written)
+}
+
 /// Converts the first characters of `src` from UTF-16 to UTF-8, while at least four bytes of `dst` are free, and
 /// returns how many code units it read and how many bytes it wrote. A surrogate that is in no pair becomes U+FFFD
 /// (Unicode Standard, section 3.9, UTF-16).
@@ -124,10 +173,19 @@ pub fn convert_utf16_to_utf8_partial_inner(src: &[u16], dst: &mut [u8]) -> (usiz
 {
     let mut read = 0;
     let mut written = 0;
+    let mut singles = 0;
     while read < src.len() && dst.len() - written >= LONGEST {
-        let scalar = scalar_at(src, read);
-        written += write_scalar(scalar, &mut dst[written..]);
-        read += utf16_length(scalar);
+        if singles == 0 {
+            let (units, bytes) = convert_blocks(&src[read..], &mut dst[written..]);
+            read += units;
+            written += bytes;
+            singles = SINGLES;
+        } else {
+            let scalar = scalar_at(src, read);
+            written += write_scalar(scalar, &mut dst[written..]);
+            read += utf16_length(scalar);
+            singles -= 1;
+        }
     }
     (read, written)
 }

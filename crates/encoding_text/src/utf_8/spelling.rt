@@ -1,6 +1,6 @@
 //! The UTF-8 of vectors of code units: which of their bytes it keeps is looked up by a mask.
 
-ghost use Rattle.std.specs.Prelude.{◌≡◌, ℕ, ◌+◌, ◌*◌, ◌<◌, ◌≤◌, ◌++◌, Bool, nat_le, List, length, map, take, drop, slice_index, encode_utf8_all};
+ghost use Rattle.std.specs.Prelude.{◌≡◌, ℕ, ◌+◌, ◌*◌, ◌<◌, ◌≤◌, ◌++◌, Bool, nat_le, List, length, map, take, drop, slice_index, encode_utf8_all, IsTrue};
 ghost use Rattle.std.specs.Simd.Lanes.{mask_l};
 ghost use Rattle.encoding_text.specs.Steps.Spelling.{kept_places, Spells};
 
@@ -90,6 +90,7 @@ fn put_both(dst: &mut [u8], at: usize, first: u8x16, count: usize, second: u8x16
 pub(crate) fn write_short(first: u16x8, second: u16x8, dst: &mut [u8], at: usize) -> usize
     requires room { at + 32 ≤ length dst.old }
     requires short { (k : ℕ) → (slice_index first k < 0x800) × (slice_index second k < 0x800) }
+    ensures most { result ≤ 32 }
     ensures count { result ≡ length (encode_utf8_all first ++ encode_utf8_all second) }
     ensures written { dst.new ≡ take at dst.old
         ++ ((encode_utf8_all first ++ encode_utf8_all second) ++ drop (at + result) dst.old) }
@@ -98,6 +99,46 @@ pub(crate) fn write_short(first: u16x8, second: u16x8, dst: &mut [u8], at: usize
     let (other, more) = spell_short(second);
     put_both(dst, at, bytes, count, other, more);
     count + more
+}
+
+/// Whether each of the eight code units is from U+0800 on, and no surrogate.
+#[inline(always)]
+pub(crate) fn are_long(units: u16x8) -> bool
+    ensures { IsTrue result → (k : ℕ) → k < 8 → (0x800 ≤ slice_index units k)
+        × ((0xD800 ≤ slice_index units k) × (slice_index units k ≤ 0xDFFF) → ⊥) }
+{
+    let tops = units & u16x8::splat(0xF800);
+    let others = tops.simd_eq(u16x8::splat(0)) | tops.simd_eq(u16x8::splat(0xD800));
+    !others.any()
+}
+
+/// The UTF-8 of eight code units from U+0800 on, which is three bytes for each, in two vectors.
+#[inline(always)]
+fn spell_long(units: u16x8) -> (u8x16, u8x8)
+    requires { (k : ℕ) → k < 8 → 0x800 ≤ slice_index units k }
+    ensures long { (length result.0 ≡ 16) × (length result.1 ≡ 8) }
+    ensures spelled { result.0 ++ result.1 ≡ encode_utf8_all units }
+{
+    let words = units.cast::<u32>();
+    let middle = ((words >> u32x8::splat(6)) & u32x8::splat(0x3F)) << u32x8::splat(8);
+    let last = (words & u32x8::splat(0x3F)) << u32x8::splat(16);
+    let all = (words >> u32x8::splat(12)) + middle + last + u32x8::splat(0x80_80E0);
+    let bytes = all.to_le_bytes();
+    let first = bytes.swizzle([0, 1, 2, 4, 5, 6, 8, 9, 10, 12, 13, 14, 16, 17, 18, 20]);
+    (first, bytes.swizzle([21, 22, 24, 25, 26, 28, 29, 30]))
+}
+
+/// Writes the UTF-8 of eight code units from U+0800 on, which is 24 bytes. Behind them `dst` is as before.
+#[inline(always)]
+pub(crate) fn write_long(units: u16x8, dst: &mut [u8], at: usize)
+    requires room { at + 24 ≤ length dst.old }
+    requires long { (k : ℕ) → k < 8 → 0x800 ≤ slice_index units k }
+    ensures count { length (encode_utf8_all units) ≡ 24 }
+    ensures written { dst.new ≡ take at dst.old ++ (encode_utf8_all units ++ drop (at + 24) dst.old) }
+{
+    let (first, second) = spell_long(units);
+    first.copy_to_slice(&mut dst[at..]);
+    second.copy_to_slice(&mut dst[at + 16..]);
 }
 
 /// For each mask of eight code units, in two words, the places of the bytes that are kept of two for each unit: the

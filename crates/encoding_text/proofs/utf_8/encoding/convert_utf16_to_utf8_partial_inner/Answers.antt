@@ -1,9 +1,24 @@
-use Rattle.std.proofs.Common.{◌++◌, ◌∷◌, [], arith, refl, sym, subst}
+use Rattle.std.proofs.Common.{◌++◌, ◌∷◌, ◌-◌, [], map, take, drop, length, arith, refl, sym, subst}
 use Rattle.encoding_text.proofs.LongestFronts.FrontsLemmas.{WritesFront_after, WritesFront-same}
 use Rattle.encoding_text.proofs.LongestFronts.FittingLemmas.{written_is}
 use Rattle.encoding_text.proofs.CodeUnits.Utf16FrontLemmas.{step_walked, step_within, step_written, walked_front}
-use Rattle.encoding_text.specs.Utf16.{IsUtf8OfFront}
+use Rattle.encoding_text.proofs.CodeUnits.UnitBlocksLemmas.{blocks_walked, blocks_written}
+use Rattle.encoding_text.specs.Utf16.{IsUtf8OfFront, Character16}
 use Rattle.encoding_text.proofs.utf_8.encoding.convert_utf16_to_utf8_partial_inner.Goals as goal
+
+pub loop-read-preserved-then-singles-eq0 : goal.loop-read-preserved-then-singles-eq0
+loop-read-preserved-then-singles-eq0 c =
+    let us = c.args.src.now in
+    let read = c.loop-read.read in
+    let here = c.loop-read.invariant in
+    let units = c.convert_blocks-units.result.0 in
+    let call = c.convert_blocks-units.ensures in
+    record {
+      within = omega (arith, call.within);
+      done = here.done ++ map Character16 (take units (take (length us - read) (drop read us)));
+      walked = blocks_walked us read units here.done (λ k. omega (arith, c.type_inv.src k)) here.walked call.within call.plain;
+      written = WritesFront-same _ _ _ _ _ _ (WritesFront_after _ _ _ _ _ _ _ here.written call.written) refl (blocks_written us read units here.done (λ k. omega (arith, c.type_inv.src k)));
+    }
 
 pub loop-read-preserved : goal.loop-read-preserved
 loop-read-preserved c =

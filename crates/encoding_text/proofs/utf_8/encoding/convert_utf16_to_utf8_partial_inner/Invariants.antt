@@ -1,4 +1,5 @@
-use Rattle.std.proofs.Common.{◌-◌, ◌≤◌, List, length}
+use Rattle.std.proofs.Common.{◌+◌, ◌-◌, ◌*◌, ◌≤◌, List, length}
+use Rattle.std.specs.Prelude.{if◌then◌else◌, ◌==◌}
 use Rattle.std.specs.List.{flat_map}
 use Rattle.encoding_text.specs.Fronts.{WritesFront}
 use Rattle.encoding_text.specs.Utf16.{Part16, utf8_of}
@@ -13,5 +14,6 @@ invariant-loop-read l = record {
   written : WritesFront l.initial.dst l.dst l.written (flat_map utf8_of done);
 }
 
+-- characters one by one, or blocks and then one
 abbrev pub decreases-loop-read : goal.decreases-loop-read
-decreases-loop-read l = length l.src - l.read
+decreases-loop-read l = 2 * (length l.src - l.read) + (if l.singles == 0 then 1 else 0)

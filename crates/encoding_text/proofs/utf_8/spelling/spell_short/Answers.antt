@@ -1,4 +1,4 @@
-use Rattle.std.proofs.Common.{map, arith, ◌∙◌}
+use Rattle.std.proofs.Common.{map, ◌∙◌}
 use Rattle.std.specs.Prelude.{nat_le}
 use Rattle.std.proofs.lemmas.List.{length-map}
 use Rattle.encoding_text.proofs.Lanes.LaneLemmas.{HasLanes-itself, HasLanes-swizzle, swizzle_ok}
