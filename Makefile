@@ -1,10 +1,12 @@
 # Builds, checks and installs the static library for C, its header, and the program utf8_repair.
 #
 #   make                        build/libencoding_text.a and build/utf8_repair (proved as they are built)
+#   make CPU=x86-64-v3          the same for processors with AVX2 (without CPU: x86-64-v2)
 #   make check                  a C and a C++ program call each function, also with sanitizers and under valgrind
 #   make install PREFIX=/usr    library, header, pkg-config file, program and manual page
 PREFIX ?= /usr/local
 DESTDIR ?=
+CPU ?= x86-64-v2
 VERSION = 0.1.0
 CC ?= cc
 CXX ?= c++
@@ -19,12 +21,15 @@ all: build/libencoding_text.a build/utf8_repair
 build:
 	mkdir -p build
 
-build/libencoding_text.a: $(SOURCES) | build
-	cd crates/encoding_c && rt lib
+build/cpu: FORCE | build
+	@echo '$(CPU)' | cmp -s - $@ || echo '$(CPU)' > $@
+
+build/libencoding_text.a: $(SOURCES) build/cpu
+	cd crates/encoding_c && rt lib --cpu=$(CPU)
 	cp crates/encoding_c/out/libencoding_c.a $@
 
-build/utf8_repair: $(SOURCES) | build
-	cd crates/utf8_repair && rt run < /dev/null
+build/utf8_repair: $(SOURCES) build/cpu
+	cd crates/utf8_repair && rt run --cpu=$(CPU) < /dev/null
 	cp crates/utf8_repair/out/utf8_repair $@
 
 check: all
@@ -41,4 +46,6 @@ install: all
 clean:
 	rm -rf build
 
-.PHONY: all check install clean
+FORCE:
+
+.PHONY: all check install clean FORCE
