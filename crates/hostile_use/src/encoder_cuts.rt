@@ -83,7 +83,8 @@ fn is_encoded(source: &Source, room: usize) -> bool {
 
 /// Whether an encoder that holds D83D writes what std makes of D83D and the source.
 fn is_encoded_behind_a_unit(alloc: Global, source: &Source, room: usize) -> Result<bool, Fail> {
-    let mut units = vec![in alloc; 0xD83D]?;
+    let mut units = Vec::new(alloc);
+    units.push(0xD83D)?;
     units.extend_from_slice(&source.units)?;
     let text = String::from_utf16_lossy(alloc, &units)?;
     Ok((0..64).all(|cuts| {

@@ -170,7 +170,10 @@ F0 9F 92 A9";
 
 /// Returns 5,000 letters with a part at a place and 1,024 bytes behind it.
 fn long_input(alloc: Global, part: &[u8], place: usize) -> Result<Vec<u8>, AllocError> {
-    let mut input = vec![in alloc; 0x61; 5000]?;
+    let mut input = Vec::new(alloc);
+    for _ in 0..5000 {
+        input.push(0x61)?;
+    }
     for (at, byte) in part.iter().enumerate() {
         let first = place.saturating_add(at);
         for second in [first, first.saturating_add(ROUND)] {

@@ -42,8 +42,8 @@ impl Parts {
 
     /// Adds a part. Those above sixteen are only counted.
     pub fn push(&mut self, number: u32) {
-        if let Some(place) = self.numbers.get_mut(self.count) {
-            *place = number;
+        if self.count < 16 {
+            self.numbers[self.count] = number;
         }
         self.count = self.count.saturating_add(1);
     }
@@ -133,10 +133,13 @@ fn length_of(ranges: &[(u8, u8); 4]) -> usize {
 
 /// Returns the scalar value of a sequence, as std reads it.
 fn scalar_of(sequence: &[u8]) -> u32 {
-    match std::str::from_utf8(sequence) {
-        Ok(text) => text.chars().next().map_or(0, u32::from),
-        Err(_) => 0,
+    let mut scalar = 0;
+    if let Ok(text) = std::str::from_utf8(sequence) {
+        for character in text.chars() {
+            scalar = u32::from(character);
+        }
     }
+    scalar
 }
 
 /// Returns the part that the bytes begin with: a sequence of the table, or as many bytes as begin one, or a byte.

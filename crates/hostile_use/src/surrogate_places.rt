@@ -1,7 +1,7 @@
 //! Surrogates behind letters of any number, so that they stand at each place of a block.
 
 use encoding_text::mem::{ensure_utf16_validity, utf16_valid_up_to};
-use std::alloc::{AllocError, Global};
+use std::alloc::Global;
 use std::test::Fail;
 use test_support::texts::{field, units_of};
 
@@ -13,26 +13,35 @@ D83D D83D | end | FFFD FFFD
 DCA9 D83D | end | FFFD FFFD
 D83D DCA9 | valid | D83D DCA9";
 
-/// Returns so many letters, the code units, and forty other letters.
-fn framed(alloc: Global, before: usize, units: &[u16]) -> Result<Vec<u16>, AllocError> {
-    let mut framed = vec![in alloc; 0x61; before]?;
-    framed.extend_from_slice(units)?;
-    framed.extend_from_slice(&[0x62; 40])?;
-    Ok(framed)
+/// Returns so many letters, the code units, and other letters behind.
+fn framed(before: usize, units: &[u16]) -> [u16; 112] {
+    let mut framed = [0x62; 112];
+    for at in 0..before.min(112) {
+        framed[at] = 0x61;
+    }
+    for (at, unit) in units.iter().enumerate() {
+        let place = before.saturating_add(at);
+        if place < 112 {
+            framed[place] = *unit;
+        }
+    }
+    framed
 }
 
-/// Whether a row holds behind so many letters.
+/// Whether a row holds behind so many letters, with forty others behind.
 fn row_holds(alloc: Global, row: &str, before: usize) -> Result<bool, Fail> {
     let mut row = row;
-    let mut units = framed(alloc, before, &units_of(alloc, field(&mut row))?)?;
-    let valid = match field(&mut row) {
-        "valid" => units.len(),
-        _ => before,
+    let units = units_of(alloc, field(&mut row))?;
+    let ends = field(&mut row) == "end";
+    let length = before.saturating_add(units.len()).saturating_add(40);
+    let mut all = framed(before, &units);
+    let repaired = framed(before, &units_of(alloc, row)?);
+    let Some(buffer) = all.get_mut(..length) else {
+        return Ok(false);
     };
-    let repaired = framed(alloc, before, &units_of(alloc, row)?)?;
-    let found = utf16_valid_up_to(&units);
-    ensure_utf16_validity(&mut units);
-    Ok(found == valid && units == repaired)
+    let found = utf16_valid_up_to(buffer);
+    ensure_utf16_validity(buffer);
+    Ok(found == (if ends { before } else { length }) && all == repaired)
 }
 
 #[test]
