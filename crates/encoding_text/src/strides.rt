@@ -21,7 +21,7 @@ const BASIC_LATIN_END: u16 = 0x80;
 
 /// Whether each of the N bytes from a place on is below the bound.
 #[inline(always)]
-fn are_bytes_below<const N: usize>(bytes: &[u8], at: usize, bound: u8) -> bool
+pub(crate) fn are_bytes_below<const N: usize>(bytes: &[u8], at: usize, bound: u8) -> bool
     requires { (at + N ≤ length bytes.now) × (N ≤ 64) }
     ensures { IsTrue result ↔ AllBelow bound bytes.now at N }
 {
