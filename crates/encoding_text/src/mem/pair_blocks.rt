@@ -58,6 +58,7 @@ fn before_cut_pair(units: &[u16], at: usize) -> usize
 }
 
 /// How far the code units have no lone surrogate, by whole blocks.
+#[inline(always)]
 pub(super) fn paired_front(units: &[u16]) -> usize
     ensures { (result ≤ length units.now) × IsValidUtf16 (take result units.now) }
 {
@@ -107,6 +108,7 @@ fn before_cut_character(bytes: &[u8], at: usize) -> usize
 }
 
 /// How far the bytes are Latin1 in UTF-8, by whole blocks behind an ASCII front.
+#[inline(always)]
 pub(super) fn latin1_front(bytes: &[u8]) -> usize
     ensures { (result ≤ length bytes.now) × IsUtf8Latin1 (take result bytes.now) }
 {
