@@ -12,10 +12,11 @@ use Rattle.encoding_text.specs.Bidi.{IsRightToLeft, IsBidiText, IsBidiBytes}
 use Rattle.encoding_text.specs.Fronts.{IsLongestFront}
 use Rattle.encoding_text.specs.Parts.{BeginsWithNoCharacter}
 use Rattle.encoding_text.specs.Sequence.{IsSequence}
-use Rattle.encoding_text.specs.Steps.Strides.{BelowUpTo}
+use Rattle.encoding_text.specs.Steps.Strides.{AllBelow, BelowUpTo}
 use Rattle.encoding_text.specs.Steps.BidiBlocks.{second_end, StandsRightToLeft, NoneStands}
 use Rattle.encoding_text.proofs.Bidi.AnyLemmas.{Any-none, Any-cons}
-use Rattle.encoding_text.proofs.Bidi.BidiTextLemmas.{right_to_left_from, character_bidi, bidi_character, found_in_text, found_in_bytes, bidi_either, stuck_no_text}
+use Rattle.encoding_text.proofs.Bidi.BidiTextLemmas.{right_to_left_from, character_bidi, bidi_character, found_in_text, found_in_bytes, bidi_either, stuck_no_text, text_of_latin1, latin1_not_bidi}
+use Rattle.encoding_text.proofs.Lanes.PairsLemmas.{ascii_latin1}
 use Rattle.encoding_text.proofs.LongestFronts.Utf8Lemmas.{IsUtf8-sequence}
 use Rattle.encoding_text.proofs.Sequences.SequenceLemmas.{IsSequence-some}
 use Rattle.encoding_text.proofs.Sequences.EncodingLemmas.{scalar_of_sequence, IsSequence-encode, length-encode_utf8-le}
@@ -93,13 +94,11 @@ low_end a l = grind (arith, nat_tests)
 pub none_from_zero : (bs : List ℕ) (at : ℕ) → second_end (slice_index bs at) ≡ 0 → StandsRightToLeft bs at → ⊥
 none_from_zero bs at e s = omega (arith, second_below bs at s)
 
-pub none_low : (bs : List ℕ) (at n : ℕ) → BelowUpTo 0xD6 (drop at bs) n → NoneStands bs at (at + n)
-none_low bs at n low = record {
-  each = λ k from to s.
-      let here : slice_index bs (at + (k - at)) < 0xD6 = subst (λ b. b < 0xD6) (get_or-drop at bs (k - at) 0) (low (k - at) (omega arith)) in
-      let same : at + (k - at) ≡ k = omega arith in
-      none_from_zero bs k (low_end (slice_index bs k) (rw same at here)) s;
-}
+pub none_low : (bs : List ℕ) (at n : ℕ) → AllBelow 0xD6 bs at n → NoneStands bs at (at + n)
+none_low bs at n low = record { each = λ k from to s. none_from_zero bs k (low_end (slice_index bs k) (low k from to)) s }
+
+pub none_before : (bs : List ℕ) (n : ℕ) → BelowUpTo 0xD6 bs n → NoneStands bs 0 n
+none_before bs n low = record { each = λ k from to s. none_from_zero bs k (low_end (slice_index bs k) (low k to)) s }
 
 pub none_yet : (bs : List ℕ) (at : ℕ) → NoneStands bs at at
 none_yet bs at = record { each = λ k from to s. omega arith }
@@ -182,20 +181,21 @@ module _ (bs piece : List ℕ) (at m : ℕ) (is : piece ≡ take m (drop at bs))
   front_of : (n : ℕ) → n ≤ m → take n piece ≡ take n (drop at bs)
   front_of n l = ap (take n) is ∙ take-take n m (drop at bs) l
 
-  -- where no character begins the piece, none begins what is left
-  nothing_begins : (4 ≤ m) ⊎ (length (drop at bs) ≤ m) → IsLongestFront IsUtf8 piece 0 → BeginsWithNoCharacter (drop at bs)
-  nothing_begins long f front rest e q =
-      let n = length front in
+  -- where no character begins behind a longest front of the piece, none begins what is left
+  nothing_begins : (n : ℕ) → (4 ≤ m - n) ⊎ (length (drop at bs) ≤ m) → IsLongestFront IsUtf8 piece n → n ≤ m → BeginsWithNoCharacter (drop (at + n) bs)
+  nothing_begins n long f le front rest e q =
+      let k = length front in
       let c = scalar_of_sequence front q in
-      let few : n ≤ 4 = omega (arith, length-encode_utf8-le c.0 c.1, ap length c.2) in
-      let inside : n ≤ length (drop at bs) = omega (arith, ap length e, length-append front rest) in
-      let within : n ≤ m = elim long [ inl l ↦ omega arith | inr l ↦ omega arith ] in
-      let same : take n piece ≡ front = front_of n within ∙ ap (take n) e ∙ take_at front rest n refl in
-      let room : n ≤ length piece = omega (arith, ap length is, length-take m (drop at bs)) in
-      omega (arith, f.longest n room (subst IsUtf8 (sym same) (IsUtf8-sequence front q)), IsSequence-some front q)
-
-  pub not_text : (4 ≤ m) ⊎ (length (drop at bs) ≤ m) → IsLongestFront IsUtf8 piece 0 → at < length bs → IsUtf8 (take at bs) → IsUtf8 bs → ⊥
-  not_text long f l v u = stuck_no_text bs at l v (nothing_begins long f) u
+      let few : k ≤ 4 = omega (arith, length-encode_utf8-le c.0 c.1, ap length c.2) in
+      let inside : n + k ≤ length (drop at bs) = omega (arith, ap length e, length-append front rest, length-drop (at + n) bs, length-drop at bs, f.within, ap length is, length-take m (drop at bs)) in
+      let within : n + k ≤ m = elim long [ inl l ↦ omega arith | inr l ↦ omega arith ] in
+      let behind : drop n (drop at bs) ≡ front ++ rest = drop-drop n at bs ∙ e in
+      let next : take k (drop n (drop at bs)) ≡ front = ap (take k) behind ∙ take_at front rest k refl in
+      let more : take (n + k) piece ≡ take n piece ++ front =
+      front_of (n + k) within ∙ take-add n k (drop at bs) ∙ ap (λ xs. xs ++ take k (drop n (drop at bs))) (sym (front_of n le)) ∙ ap (λ xs. take n piece ++ xs) next in
+      let room : n + k ≤ length piece = omega (arith, ap length is, length-take m (drop at bs)) in
+      let text = subst IsUtf8 (sym more) (IsUtf8-append (take n piece) front f.kind (IsUtf8-sequence front q)) in
+      omega (arith, f.longest (n + k) room text, IsSequence-some front q)
 
   module _ (n : ℕ) (within : n ≤ m) (v : IsUtf8 (take at bs)) where
     pub piece_text : IsUtf8 (take n piece) → IsUtf8 (take (at + n) bs)
@@ -209,5 +209,12 @@ module _ (bs piece : List ℕ) (at m : ℕ) (is : piece ≡ take m (drop at bs))
           | inr a ↦ not (subst IsBidiText (sym (front_of n within)) a)
         ]
 
+    pub not_text : (4 ≤ m - n) ⊎ (length (drop at bs) ≤ m) → IsLongestFront IsUtf8 piece n → at + n < length bs → IsUtf8 bs → ⊥
+    not_text long f l u = stuck_no_text bs (at + n) l (piece_text f.kind) (nothing_begins n long f within) u
+
     pub piece_found : at ≤ length bs → IsBidiText (take n piece) → IsBidiBytes bs
     piece_found l b = found_in_bytes bs at n l v (subst IsBidiText (front_of n within) b)
+
+-- ---- an ASCII front
+pub ascii_text : (bs : List ℕ) (n : ℕ) → n ≤ length bs → BelowUpTo 0x80 bs n → IsUtf8 (take n bs) × (IsBidiText (take n bs) → ⊥)
+ascii_text bs n l low = let latin1 = ascii_latin1 bs n l low in (text_of_latin1 (take n bs) latin1, latin1_not_bidi (take n bs) latin1)

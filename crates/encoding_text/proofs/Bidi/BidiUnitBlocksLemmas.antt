@@ -63,6 +63,9 @@ units_low us at n low = record {
 pub units_joined : (us : List ℕ) (a b from to : ℕ) → NoneRightToLeft us a b → NoneRightToLeft us from to → from ≤ b → NoneRightToLeft us a to
 units_joined us a b from to p q l = record { each = λ k h m r. elim (cases_lt k b) [ inl i ↦ p.each k h i r | inr i ↦ q.each k (omega arith) m r ] }
 
+pub units_before : (us : List ℕ) (n : ℕ) → BelowUpTo 0x590 us n → NoneRightToLeft us 0 n
+units_before us n low = record { each = λ k from to r. unit_low_none (slice_index us k) (low k to) r }
+
 -- with one more unit it isn't all below
 pub not_below : (bound : ℕ) (us : List ℕ) (n : ℕ) → (AllBelow bound us n 1 → ⊥) → bound ≤ slice_index us n
 not_below bound us n h = elim (cases_lt (slice_index us n) bound) [

@@ -7,8 +7,9 @@ ghost use Rattle.encoding_text.specs.Latin1.{IsLatin1, IsUtf8Latin1};
 ghost use Rattle.encoding_text.specs.Sequence.{IsSequence};
 ghost use Rattle.encoding_text.specs.Bidi.{IsRightToLeft, IsRightToLeftUnit, IsBidiUnits, IsBidiText, IsBidiBytes, Classifies};
 
-use super::bidi_blocks::{UNIT_STRIDE, is_text_bidi, skip_clear_units, units_below};
+use super::bidi_blocks::{FIRST_UNIT, UNIT_STRIDE, is_text_bidi, skip_clear_units, units_below};
 use super::checks::{str_latin1_up_to, utf8_latin1_up_to};
+use crate::strides::front_below;
 use crate::utf_8::{scalar_of_sequence, utf8_valid_up_to};
 
 /// The first right-to-left scalar value.
@@ -16,6 +17,9 @@ const FIRST: u32 = 0x0590;
 
 /// How many bytes are validated before they are looked at.
 const PIECE: usize = 4096;
+
+/// The least byte that isn't ASCII.
+const ASCII_END: u8 = 0x80;
 
 /// The least UTF-16 code unit that isn't Latin1.
 const LATIN1_END: u16 = 0x100;
@@ -94,11 +98,14 @@ pub fn is_str_bidi(buffer: &str) -> bool
 pub fn is_utf8_bidi(buffer: &[u8]) -> bool
     ensures { IsTrue result ↔ IsBidiBytes buffer.now }
 {
-    let mut at = 0;
+    let mut at = front_below(buffer, ASCII_END);
     while at < buffer.len() {
-        let piece = &buffer[at..at + PIECE.min(buffer.len() - at)];
+        let length = PIECE.min(buffer.len() - at);
+        let piece = &buffer[at..at + length];
         let front = utf8_valid_up_to(piece);
-        if front == 0 {
+        // in front of the next piece a character may be cut, of which up to three bytes are here
+        let cut = if length == PIECE { 3 } else { 0 };
+        if length - front > cut {
             return true;
         }
         if is_text_bidi(&piece[..front]) {
@@ -113,7 +120,7 @@ pub fn is_utf8_bidi(buffer: &[u8]) -> bool
 pub fn is_utf16_bidi(buffer: &[u16]) -> bool
     ensures { IsTrue result ↔ IsBidiUnits buffer.now }
 {
-    let mut at = 0;
+    let mut at = units_below(buffer, FIRST_UNIT);
     while at < buffer.len() {
         let from = skip_clear_units(buffer, at);
         at = from + UNIT_STRIDE.min(buffer.len() - from);

@@ -7,7 +7,7 @@ ghost use Rattle.encoding_text.specs.Steps.Lanes.{HasLanes};
 ghost use Rattle.encoding_text.specs.Steps.Strides.{BelowUpTo};
 
 use super::bidi::is_sequence_bidi;
-use crate::strides::{front_below, skip_units_below};
+use crate::strides::{are_bytes_below, front_below, skip_units_below};
 use crate::utf_8::character_length;
 use std::simd::Simd;
 use std::simd::prelude::*;
@@ -25,7 +25,7 @@ const UNIT_BLOCK: usize = 32;
 pub(super) const UNIT_STRIDE: usize = 8;
 
 /// The first right-to-left code unit.
-const FIRST_UNIT: u16 = 0x0590;
+pub(super) const FIRST_UNIT: u16 = 0x0590;
 
 /// The first byte of U+0580 to U+05BF. Lesser characters begin with lesser bytes.
 const FIRST_LEAD: u8 = 0xD6;
@@ -64,14 +64,18 @@ fn is_clear<const N: usize>(bytes: &[u8], at: usize) -> bool
         .any()
 }
 
-/// Goes on from a place up to the first byte that isn't below those of right-to-left characters.
+/// Goes on from a place by blocks of bytes below those that right-to-left characters begin with.
 #[inline(always)]
 fn skip_low(bytes: &[u8], from: usize) -> usize
     requires { from ≤ length bytes.now }
     ensures within { (from ≤ result) × (result ≤ length bytes.now) }
     ensures none { NoneStands bytes.now from result }
 {
-    from + front_below(&bytes[from..], FIRST_LEAD)
+    let mut at = from;
+    while bytes.len() - at >= BLOCK && are_bytes_below::<BLOCK>(bytes, at, FIRST_LEAD) {
+        at += BLOCK;
+    }
+    at
 }
 
 /// Goes on from a place by blocks at which no right-to-left character can stand, and returns where that ends.
@@ -80,7 +84,7 @@ fn skip_clear(bytes: &[u8], from: usize) -> usize
     ensures within { (from ≤ result) × (result ≤ length bytes.now) }
     ensures none { NoneStands bytes.now from result }
 {
-    let mut at = skip_low(bytes, from);
+    let mut at = from;
     while bytes.len() - at > BLOCK && is_clear::<BLOCK>(bytes, at) {
         at = skip_low(bytes, at + BLOCK);
     }
@@ -143,11 +147,11 @@ pub(super) fn is_text_bidi(bytes: &[u8]) -> bool
     requires { IsUtf8 bytes.now }
     ensures { IsTrue result ↔ IsBidiText bytes.now }
 {
-    let mut at = 0;
+    let mut at = front_below(bytes, FIRST_LEAD);
     while at < bytes.len() {
-        let open = skip_clear(bytes, at);
-        at = open + STRIDE.min(bytes.len() - open);
-        if stands_between(bytes, open, at) {
+        let from = skip_clear(bytes, at);
+        at = from + STRIDE.min(bytes.len() - from);
+        if stands_between(bytes, from, at) {
             return true;
         }
     }
@@ -180,14 +184,14 @@ fn are_units_clear<const N: usize>(units: &[u16], at: usize) -> bool
     !((scripts | controls) | (halves | forms)).any()
 }
 
-/// Goes on from a place up to the first code unit that isn't below the right-to-left ones.
+/// Goes on from a place by blocks of code units below the right-to-left ones.
 #[inline(always)]
 fn skip_low_units(units: &[u16], from: usize) -> usize
     requires { from ≤ length units.now }
     ensures within { (from ≤ result) × (result ≤ length units.now) }
     ensures none { NoneRightToLeft units.now from result }
 {
-    from + units_below(&units[from..], FIRST_UNIT)
+    from + skip_units_below::<UNIT_BLOCK>(&units[from..], 0, FIRST_UNIT)
 }
 
 /// Goes on from a place by blocks of code units that aren't right-to-left, and returns where that ends.
@@ -196,7 +200,7 @@ pub(super) fn skip_clear_units(units: &[u16], from: usize) -> usize
     ensures within { (from ≤ result) × (result ≤ length units.now) }
     ensures none { NoneRightToLeft units.now from result }
 {
-    let mut at = skip_low_units(units, from);
+    let mut at = from;
     while units.len() - at >= UNIT_BLOCK && are_units_clear::<UNIT_BLOCK>(units, at) {
         at = skip_low_units(units, at + UNIT_BLOCK);
     }

@@ -45,6 +45,7 @@ fn are_paired<const N: usize>(units: &[u16], at: usize) -> bool
 }
 
 /// `at`, or the place before it where a pair is cut there.
+#[inline(always)]
 fn before_cut_pair(units: &[u16], at: usize) -> usize
     requires { (0 < at) × (at ≤ length units.now) × ArePaired units.now 0 at }
     ensures { (result ≤ at) × IsValidUtf16 (take result units.now) }
@@ -57,6 +58,7 @@ fn before_cut_pair(units: &[u16], at: usize) -> usize
 }
 
 /// How far the code units have no lone surrogate, by whole blocks.
+#[inline(always)]
 pub(super) fn paired_front(units: &[u16]) -> usize
     ensures { (result ≤ length units.now) × IsValidUtf16 (take result units.now) }
 {
@@ -97,6 +99,7 @@ fn fit_latin1<const N: usize>(bytes: &[u8], at: usize) -> bool
 }
 
 /// `at`, or the beginning of the character that is cut there.
+#[inline(always)]
 fn before_cut_character(bytes: &[u8], at: usize) -> usize
     requires { (0 < at) × (at ≤ length bytes.now) × FitLatin1 bytes.now 0 at }
     ensures { (result ≤ at) × IsUtf8Latin1 (take result bytes.now) }
@@ -105,9 +108,13 @@ fn before_cut_character(bytes: &[u8], at: usize) -> usize
 }
 
 /// How far the bytes are Latin1 in UTF-8, by whole blocks behind an ASCII front.
+#[inline(always)]
 pub(super) fn latin1_front(bytes: &[u8]) -> usize
     ensures { (result ≤ length bytes.now) × IsUtf8Latin1 (take result bytes.now) }
 {
+    if bytes.is_empty() || bytes[0] >= BEYOND_LATIN1 {
+        return 0;
+    }
     let front = front_below(bytes, ASCII_END);
     if front == bytes.len() {
         return front;

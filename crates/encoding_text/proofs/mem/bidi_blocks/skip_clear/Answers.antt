@@ -9,9 +9,9 @@ loop-at-preserved c =
     let at = c.loop-at.at in
     let block = none_joined bs c.args.from at (at + 64) c.loop-at.invariant.none (c.if-is_clear.ensures refl) in
     record {
-      behind = omega (arith, c.skip_low-at-in-loop-at.ensures.within);
-      within = omega (arith, c.skip_low-at-in-loop-at.ensures.within);
-      none = none_joined bs c.args.from (at + 64) _ block c.skip_low-at-in-loop-at.ensures.none;
+      behind = omega (arith, c.skip_low-at.ensures.within);
+      within = omega (arith, c.skip_low-at.ensures.within);
+      none = none_joined bs c.args.from (at + 64) _ block c.skip_low-at.ensures.none;
     }
 
 pub loop-at-2-preserved : goal.loop-at-2-preserved

@@ -9,9 +9,9 @@ loop-at-preserved c =
     let at = c.loop-at.at in
     let block = units_joined us c.args.from at at (at + 32) c.loop-at.invariant.none (c.if-are_units_clear.ensures refl) (omega arith) in
     record {
-      behind = omega (arith, c.skip_low_units-at-in-loop-at.ensures.within);
-      within = omega (arith, c.skip_low_units-at-in-loop-at.ensures.within);
-      none = units_joined us c.args.from (at + 32) (at + 32) _ block c.skip_low_units-at-in-loop-at.ensures.none (omega arith);
+      behind = omega (arith, c.skip_low_units-at.ensures.within);
+      within = omega (arith, c.skip_low_units-at.ensures.within);
+      none = units_joined us c.args.from (at + 32) (at + 32) _ block c.skip_low_units-at.ensures.none (omega arith);
     }
 
 pub loop-at-2-preserved : goal.loop-at-2-preserved

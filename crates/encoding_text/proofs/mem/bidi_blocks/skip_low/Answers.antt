@@ -1,10 +1,13 @@
-use Rattle.std.proofs.lemmas.List.{take_rest}
-use Rattle.encoding_text.proofs.Bidi.BidiBlocksLemmas.{none_low}
+use Rattle.std.proofs.Common.{◌+◌, arith, refl}
+use Rattle.encoding_text.proofs.Bidi.BidiBlocksLemmas.{none_joined, none_low}
 use Rattle.encoding_text.proofs.mem.bidi_blocks.skip_low.Goals as goal
 
-pub returns-clause-none : goal.returns-clause-none
-returns-clause-none c =
+pub loop-at-preserved : goal.loop-at-preserved
+loop-at-preserved c =
     let bs = c.args.bytes.now in
-    let from = c.args.from in
-    let below = rw take_rest at c.front_below.ensures.below in
-    none_low bs from c.front_below.result below
+    let at = c.loop-at.at in
+    record {
+      behind = omega arith;
+      within = omega arith;
+      none = none_joined bs c.args.from at (at + 64) c.loop-at.invariant.none (none_low bs at 64 (c.if-are_bytes_below.ensures.0 refl));
+    }
