@@ -3,6 +3,7 @@ mod blocks;
 mod decoding;
 mod encoder;
 mod encoding;
+mod kept_bytes;
 mod kept_lanes;
 mod spelling;
 mod table;

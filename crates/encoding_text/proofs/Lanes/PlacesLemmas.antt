@@ -4,11 +4,11 @@ use Rattle.std.proofs.lemmas.Bool.{and_parts, cases_lt, ltb-true, false≢true}
 use Rattle.std.specs.Simd.Lanes.{mask_l, number_l, digits_l}
 use lib.Dec.{ltb}
 use Rattle.encoding_text.specs.Steps.Spelling.{kept_places}
-use Rattle.encoding_text.specs.declared.utf_8.spelling.TheConstants.{PLACES}
+use Rattle.encoding_text.specs.declared.utf_8.kept_bytes.TheConstants.{PLACES}
 
 -- the sixteen places of a mask
 abbrev pub row : ℕ → List ℕ
-row mask = digits_l 256 16 (number_l (2 ^ 64) (get_or PLACES (2 * mask) 0 ∷ get_or PLACES (2 * mask + 1) 0 ∷ []))
+row mask = digits_l 256 16 (number_l (2 ^ 32) (get_or PLACES (4 * mask) 0 ∷ get_or PLACES (4 * mask + 1) 0 ∷ get_or PLACES (4 * mask + 2) 0 ∷ get_or PLACES (4 * mask + 3) 0 ∷ []))
 
 -- ---- all lists of tests
 abbrev all_tests : ℕ → (List Bool → Bool) → Bool
@@ -71,14 +71,14 @@ small_at (suc n) mask e l = elim (cases_lt mask n) [
 row_small : (mask : ℕ) → mask < 256 → (k : ℕ) → get_or (row mask) k 0 < 16
 row_small mask l = below_16_at (row mask) (small_at 256 mask all_small l)
 
--- ---- two words of the table
-module _ (mask low high : ℕ) (first : low ≡ get_or PLACES (2 * mask) 0) (second : high ≡ get_or PLACES (2 * mask + 1) 0) where
-  is_row : digits_l 256 16 (number_l (2 ^ 64) (low ∷ high ∷ [])) ≡ row mask
-  is_row = λ i. digits_l 256 16 (number_l (2 ^ 64) (first i ∷ second i ∷ []))
+-- ---- four words of the table
+module _ (mask x y z w : ℕ) (first : x ≡ get_or PLACES (4 * mask) 0) (second : y ≡ get_or PLACES (4 * mask + 1) 0) (third : z ≡ get_or PLACES (4 * mask + 2) 0) (fourth : w ≡ get_or PLACES (4 * mask + 3) 0) where
+  is_row : digits_l 256 16 (number_l (2 ^ 32) (x ∷ y ∷ z ∷ w ∷ [])) ≡ row mask
+  is_row = λ i. digits_l 256 16 (number_l (2 ^ 32) (first i ∷ second i ∷ third i ∷ fourth i ∷ []))
 
-  pub places_small : mask < 256 → (k : ℕ) → get_or (digits_l 256 16 (number_l (2 ^ 64) (low ∷ high ∷ []))) k 0 < 16
+  pub places_small : mask < 256 → (k : ℕ) → get_or (digits_l 256 16 (number_l (2 ^ 32) (x ∷ y ∷ z ∷ w ∷ []))) k 0 < 16
   places_small l = subst (λ xs. (k : ℕ) → get_or xs k 0 < 16) (sym is_row) (row_small mask l)
 
   pub places_keep : (bs : List Bool) → length bs ≡ 8 → mask ≡ mask_l bs
-      → take (length (kept_places 0 bs)) (digits_l 256 16 (number_l (2 ^ 64) (low ∷ high ∷ []))) ≡ kept_places 0 bs
+      → take (length (kept_places 0 bs)) (digits_l 256 16 (number_l (2 ^ 32) (x ∷ y ∷ z ∷ w ∷ []))) ≡ kept_places 0 bs
   places_keep bs l m = ap (take (length (kept_places 0 bs))) (is_row ∙ ap row m) ∙ row_keeps bs l

@@ -1,19 +1,20 @@
 -- Conversions from and to Latin1: the longest fitting front of bytes, and the bits of characters.
-use Rattle.std.proofs.Common.{◌≡◌, ℕ, suc, ◌+◌, ◌-◌, ◌*◌, ◌/◌, ◌%◌, ◌<◌, ◌≤◌, inl, inr, List, [], ◌∷◌, ◌++◌, length, take, drop, set, slice_index, map, bit_and, bit_or, encode_utf8, encode_utf8_all, IsUtf8, refl, sym, ap, ◌∙◌, arith, subst}
+use Rattle.std.proofs.Common.{◌≡◌, ℕ, zero, suc, ◌+◌, ◌-◌, ◌*◌, ◌/◌, ◌%◌, ◌<◌, ◌≤◌, inl, inr, List, [], ◌∷◌, ◌++◌, length, take, drop, take-add, set, slice_index, map, bit_and, bit_or, encode_utf8, encode_utf8_all, IsUtf8, refl, sym, ap, ◌∙◌, arith, subst}
 use Rattle.std.specs.List.{flat_map}
 use Rattle.std.specs.Str.{chars, IsAscii}
 use Rattle.std.proofs.str.Laws.{two}
 use Rattle.std.proofs.lemmas.Bool.{cases_lt}
 use Rattle.std.proofs.lemmas.Grind.{common_steps}
-use Rattle.std.proofs.lemmas.List.{append-nil, length-append, length-take-le, take_all, take_more, take_rest, drop_more, take-append-drop, map_more}
+use Rattle.std.proofs.lemmas.List.{append-nil, length-append, length-drop, length-take, length-take-le, get_or-drop, take_all, take_more, take_rest, drop_more, take-append-drop, map_more}
 use Rattle.std.proofs.lemmas.Str.{encodes-append, encode_ascii, encodes-IsAscii, chars-IsAscii, chars-append, IsUtf8-from_ascii}
 use borrow.Rule.Slice.PartMut.{put_mid}
 use Rattle.encoding_text.proofs.Sequences.EncodingLemmas.{flat_map-encode_utf8}
 use Rattle.encoding_text.specs.Fronts.{FitsLongest, WritesFront}
 use Rattle.encoding_text.specs.Latin1.{IsLatin1, IsUtf8Latin1}
+use Rattle.encoding_text.specs.Steps.Strides.{BelowUpTo}
 use Rattle.encoding_text.proofs.Latin.AsciiLemmas.{Each-take}
-use Rattle.encoding_text.proofs.LongestFronts.FrontsLemmas.{FitsLongest-stop, FitsLongest-all, WritesFront_push, WritesFront_after}
-use Rattle.encoding_text.proofs.Latin.Latin1Lemmas.{IsLatin1-behind, split_front, scalars_of_latin1}
+use Rattle.encoding_text.proofs.LongestFronts.FrontsLemmas.{FitsLongest-stop, FitsLongest-all, WritesFront_push, WritesFront_after, WritesFront-same}
+use Rattle.encoding_text.proofs.Latin.Latin1Lemmas.{IsLatin1-behind, next_of_one, split_front, scalars_of_latin1}
 
 -- ---- fitting
 singles : (xs : List ℕ) → length (flat_map (λ (b : ℕ). b ∷ []) xs) ≡ length xs
@@ -144,3 +145,40 @@ latin1_written_behind bs old front sub n m l k h e w = rw (ascii_chars_front bs 
 -- bytes as characters are well-formed
 pub IsUtf8-bytes : (xs : List ℕ) → ((i : ℕ) → slice_index xs i < 256) → IsUtf8 (encode_utf8_all xs)
 IsUtf8-bytes xs h = (xs, (scalars_of_latin1 xs (λ i. omega (arith, h i)), refl))
+
+-- ---- ASCII within Latin1 text
+-- each of so many next bytes is ASCII, and a character
+pub ascii_run : (src cs : List ℕ) (i j n : ℕ) → IsLatin1 cs → drop i src ≡ encode_utf8_all (drop j cs) → j ≤ length cs → i + n ≤ length src → ((k : ℕ) → k < n → slice_index src (i + k) < 0x80)
+    → (j + n ≤ length cs) × (take n (drop i src) ≡ take n (drop j cs)) × (drop (i + n) src ≡ encode_utf8_all (drop (j + n) cs))
+ascii_run src cs i j zero low rest within room ascii =
+    let at : i + 0 ≡ i = omega arith in
+    let to : j + 0 ≡ j = omega arith in
+    (omega arith, refl, ap (λ k. drop k src) at ∙ rest ∙ ap (λ k. encode_utf8_all (drop k cs)) (sym to))
+ascii_run src cs i j (suc n) low rest within room ascii =
+    let before = ascii_run src cs i j n low rest within (omega arith) (λ k l. ascii k (omega arith)) in
+    let next = next_of_one src cs (i + n) (j + n) low before.2 (omega arith) (ascii n (omega arith)) in
+    let at : i + n + 1 ≡ i + suc n = omega arith in
+    let to : j + n + 1 ≡ j + suc n = omega arith in
+    let one : n + 1 ≡ suc n = omega arith in
+    let bytes : take (n + 1) (drop i src) ≡ take (n + 1) (drop j cs) =
+    take_more (drop i src) n 0 (omega (arith, length-drop i src)) ∙ (λ k. before.1 k ++ (get_or-drop i src n 0 ∙ next.1 ∙ sym (get_or-drop j cs n 0)) k ∷ [])
+    ∙ sym (take_more (drop j cs) n 0 (omega (arith, next.0, length-drop j cs))) in
+    (omega (arith, next.0), subst (λ m. take m (drop i src) ≡ take m (drop j cs)) one bytes, ap (λ k. drop k src) (sym at) ∙ next.2 ∙ ap (λ k. encode_utf8_all (drop k cs)) to)
+
+-- and was copied behind the characters before it
+module _ (src cs old new sub : List ℕ) (i j n : ℕ) (low : IsLatin1 cs) (rest : drop i src ≡ encode_utf8_all (drop j cs)) (w : WritesFront old new j (take j cs))
+    (within : n ≤ length (take (length src - i) (drop i src))) (ascii : BelowUpTo 0x80 (take (length src - i) (drop i src)) n)
+    (v : WritesFront (take (length new - j) (drop j new)) sub n (take n (take (length src - i) (drop i src)))) where
+  ascii_part : (i ≤ length src) → (j + n ≤ length cs) × (take n (drop i src) ≡ take n (drop j cs)) × (drop (i + n) src ≡ encode_utf8_all (drop (j + n) cs))
+  ascii_part h =
+      let counted : j ≤ length cs = omega (arith, w.count, length-take j cs) in
+      ascii_run src cs i j n low rest counted (omega (arith, within, ap length (take_rest src i), length-drop i src)) (λ k l.
+      omega (arith, get_or-drop i src k 0, ap (λ xs. slice_index xs k) (take_rest src i), ascii k l))
+
+  pub run_rest : i ≤ length src → drop (i + n) src ≡ encode_utf8_all (drop (j + n) cs)
+  run_rest h = (ascii_part h).2
+
+  pub run_written : i ≤ length src → WritesFront old (put_mid j (length new - j) new sub) (j + n) (take (j + n) cs)
+  run_written h =
+      WritesFront-same _ _ _ _ _ _ (WritesFront_after old new j (take j cs) sub n _ w v) refl
+      (ap (λ xs. take j cs ++ take n xs) (take_rest src i) ∙ ap (λ xs. take j cs ++ xs) (ascii_part h).1 ∙ sym (take-add j n cs))

@@ -13,6 +13,9 @@ use std::simd::prelude::*;
 /// The bytes that a character from U+0080 to U+00FF takes in UTF-8.
 const HIGH_LENGTH: usize = 2;
 
+/// How many characters go one by one before sixteen ASCII bytes are looked for again.
+const SINGLES: usize = 8;
+
 /// Writes each byte as a UTF-16 code unit. `dst` is no shorter than `src`. Behind what is written `dst` is as before.
 pub fn convert_latin1_to_utf16(src: &[u8], dst: &mut [u16])
     requires room { length src.now ≤ length dst.old }
@@ -94,16 +97,25 @@ pub fn convert_utf8_to_latin1_lossy(src: &[u8], dst: &mut [u8]) -> usize
 {
     let mut read = 0;
     let mut written = 0;
+    let mut singles = 0;
     while read < src.len() {
-        let byte = src[read];
-        if byte < 0x80 {
-            dst[written] = byte;
-            read += 1;
+        if singles == 0 {
+            let front = copy_ascii::<16>(&src[read..], &mut dst[written..], 0);
+            read += front;
+            written += front;
+            singles = SINGLES;
         } else {
-            dst[written] = (byte << 6) | (src[read + 1] & 0x3F);
-            read += 2;
+            let byte = src[read];
+            if byte < 0x80 {
+                dst[written] = byte;
+                read += 1;
+            } else {
+                dst[written] = (byte << 6) | (src[read + 1] & 0x3F);
+                read += 2;
+            }
+            written += 1;
+            singles -= 1;
         }
-        written += 1;
     }
     written
 }

@@ -18,8 +18,8 @@ pub(super) const REPLACEMENT: u32 = 0xFFFD;
 /// The most bytes that a character has in UTF-8.
 const LONGEST: usize = 4;
 
-/// How many characters go one by one before blocks are tried again.
-const SINGLES: usize = 8;
+/// The code units of a block.
+const BLOCK: usize = 16;
 
 /// Whether the code unit is a surrogate.
 #[inline(always)]
@@ -136,7 +136,7 @@ fn convert_blocks(src: &[u16], dst: &mut [u8]) -> (usize, usize)
 {
     let mut read = 0;
     let mut written = 0;
-    while src.len() - read >= 16 && dst.len() - written >= 32 {
+    while src.len() - read >= BLOCK && dst.len() - written >= 32 {
         let front = narrow_ascii::<16>(&src[read..], &mut dst[written..], 0);
         if front > 0 {
             read += front;
@@ -159,6 +159,15 @@ fn convert_blocks(src: &[u16], dst: &mut [u8]) -> (usize, usize)
     (read, written)
 }
 
+/// How many characters go one by one behind so many code units in blocks: few where there were some, and many where
+/// there were none, so that text without blocks isn't looked through twice.
+#[inline(always)]
+fn singles_behind(units: usize) -> usize
+    ensures { 0 < result }
+{
+    if units > 0 { 8 } else { 32 }
+}
+
 /// Converts the first characters of `src` from UTF-16 to UTF-8, while at least four bytes of `dst` are free, and
 /// returns how many code units it read and how many bytes it wrote. A surrogate that is in no pair becomes U+FFFD
 /// (Unicode Standard, section 3.9, UTF-16).
@@ -173,13 +182,13 @@ pub fn convert_utf16_to_utf8_partial_inner(src: &[u16], dst: &mut [u8]) -> (usiz
 {
     let mut read = 0;
     let mut written = 0;
-    let mut singles = 0;
+    let mut singles = if src.len() < BLOCK { BLOCK } else { 0 };
     while read < src.len() && dst.len() - written >= LONGEST {
         if singles == 0 {
             let (units, bytes) = convert_blocks(&src[read..], &mut dst[written..]);
             read += units;
             written += bytes;
-            singles = SINGLES;
+            singles = singles_behind(units);
         } else {
             let scalar = scalar_at(src, read);
             written += write_scalar(scalar, &mut dst[written..]);

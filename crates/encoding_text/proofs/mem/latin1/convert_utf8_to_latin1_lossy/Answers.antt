@@ -1,11 +1,11 @@
-use Rattle.std.proofs.Common.{◌≡◌, ◌+◌, ◌<◌, arith, ap, sym, take, length, slice_index, drop, encode_utf8_all}
+use Rattle.std.proofs.Common.{◌≡◌, ◌+◌, ◌-◌, ◌<◌, arith, ap, sym, take, length, slice_index, drop, encode_utf8_all}
 use Rattle.std.specs.Str.{chars}
 use Rattle.std.proofs.lemmas.List.{take_all, length-drop}
 use Rattle.std.proofs.lemmas.Str.{length-le-encodes}
 use Rattle.encoding_text.proofs.Latin.AsciiLemmas.{WritesFront_copy}
 use Rattle.encoding_text.proofs.LongestFronts.FrontsLemmas.{WritesFront-nil}
 use Rattle.encoding_text.proofs.Latin.Latin1Lemmas.{latin1_chars, next_of_one, next_of_two}
-use Rattle.encoding_text.proofs.Latin.Latin1ConversionLemmas.{character_of_two}
+use Rattle.encoding_text.proofs.Latin.Latin1ConversionLemmas.{character_of_two, run_rest, run_written}
 use Rattle.encoding_text.proofs.mem.latin1.convert_utf8_to_latin1_lossy.Goals as goal
 use Rattle.encoding_text.proofs.mem.latin1.convert_utf8_to_latin1_lossy.Goals.{then-byte-lt128, else-byte-lt128}
 
@@ -15,6 +15,22 @@ loop-read-init c = record {
   rest = sym (latin1_chars c.args.src.now c.requires.latin1).1;
   written = WritesFront-nil c.args.dst.now;
 }
+
+pub loop-read-preserved-then-singles-eq0 : goal.loop-read-preserved-then-singles-eq0
+loop-read-preserved-then-singles-eq0 c =
+    let src = c.args.src.now in
+    let cs = chars src in
+    let text = latin1_chars src c.requires.latin1 in
+    let had = c.loop-read.invariant in
+    let dst = c.loop-read.dst in
+    let call = c.copy_ascii-front.ensures in
+    let below = call.ascii (λ k l. absurd (omega arith)) in
+    let copied = call.copied _ (WritesFront-nil (take (length dst - c.loop-read.written) (drop c.loop-read.written dst))) in
+    record {
+      within = omega (arith, call.within.0);
+      rest = run_rest src cs c.args.dst.now dst c.copy_ascii-front.new.dst c.loop-read.read c.loop-read.written c.copy_ascii-front.result text.0 had.rest had.written call.within.0 below copied had.within;
+      written = run_written src cs c.args.dst.now dst c.copy_ascii-front.new.dst c.loop-read.read c.loop-read.written c.copy_ascii-front.result text.0 had.rest had.written call.within.0 below copied had.within;
+    }
 
 pub bounds-dst-written : goal.bounds-dst-written
 bounds-dst-written c =

@@ -1,4 +1,5 @@
-use Rattle.std.proofs.Common.{◌≡◌, ◌-◌, ◌≤◌, length, take, drop, encode_utf8_all}
+use Rattle.std.specs.Prelude.{if◌then◌else◌, ◌==◌}
+use Rattle.std.proofs.Common.{◌≡◌, ◌+◌, ◌*◌, ◌-◌, ◌≤◌, length, take, drop, encode_utf8_all}
 use Rattle.std.specs.Str.{chars}
 use Rattle.encoding_text.specs.Fronts.{WritesFront}
 use Rattle.encoding_text.proofs.mem.latin1.convert_utf8_to_latin1_lossy.Given as goal
@@ -11,4 +12,4 @@ invariant-loop-read l = record {
 }
 
 abbrev pub decreases-loop-read : goal.decreases-loop-read
-decreases-loop-read l = length l.src - l.read
+decreases-loop-read l = 2 * (length l.src - l.read) + (if l.singles == 0 then 1 else 0)
