@@ -58,6 +58,9 @@ module _ {A : Type 0} (encode : ℕ → List A) where
             (ap (λ cs. flat_map encode d.scalars ++ flat_map encode cs) (sym same) ∙ sym (flat_map-append encode d.scalars u.0));
       }
 
+  pub converted_room : {src : List ℕ} {old new : List A} {read written : ℕ} → Converted encode src old new read written → written ≤ length new
+  converted_room {src} {old} {new} {read} {written} d = omega (arith, d.writes.fits, WritesFront-length old new written (flat_map encode d.scalars) d.writes)
+
   pub converted_none : (src : List ℕ) (old : List A) → Converted encode src old old 0 0
   converted_none src old = record { scalars = []; are_scalars = refl; within = omega arith; spelled = refl; writes = WritesFront-nil old }
 
