@@ -336,23 +336,21 @@ module _ (ms : List Bool) (us old low_us high_us first second : List ℕ) (kept 
       both_is ∙ ap (λ xs. low_kept ++ (xs ++ rest)) high_gathered.1 ∙ ap (λ xs. low_kept ++ xs) (append_assoc high_kept high_gathered.0 rest) ∙ sym (append_assoc low_kept high_kept (high_gathered.0 ++ rest)) in
       ap (take (count + length high_kept)) split ∙ take_at (low_kept ++ high_kept) (high_gathered.0 ++ rest) (count + length high_kept) (length-append low_kept high_kept) ∙ whole
 
-  kept_behind : drop 16 both_put ≡ drop 16 old
+  kept_behind : drop (count + 8) both_put ≡ drop (count + 8) old
   kept_behind =
       let rest = drop 8 (drop count half_put) in
       let split : both_put ≡ (low_kept ++ second) ++ rest = both_is ∙ sym (append_assoc low_kept second rest) in
-      let size : length (low_kept ++ second) + (8 - count) ≡ 16 = omega (arith, length-append low_kept second, second_long, low_few) in
-      let over : drop 16 both_put ≡ drop (8 - count) rest = ap (drop 16) split ∙ ap (λ n. drop n ((low_kept ++ second) ++ rest)) (sym size) ∙ drop_past (low_kept ++ second) rest (8 - count) in
-      let places : count + 8 + (8 - count) ≡ 16 = omega (arith, low_few) in
-      let back : drop (8 - count) rest ≡ drop 16 half_put = ap (drop (8 - count)) (drop-drop 8 count half_put) ∙ drop-drop (8 - count) (count + 8) half_put ∙ ap (λ n. drop n half_put) places in
-      let eight : length first + 8 ≡ 16 = omega (arith, first_long) in
-      over ∙ back ∙ ap (drop 16) half_is ∙ ap (λ n. drop n (first ++ drop 8 old)) (sym eight) ∙ drop_past first (drop 8 old) 8 ∙ drop-drop 8 8 old
+      let size : length (low_kept ++ second) ≡ count + 8 = length-append low_kept second ∙ ap (λ n. count + n) second_long in
+      let places : length first + count ≡ count + 8 = omega (arith, first_long) in
+      ap (drop (count + 8)) split ∙ drop_at (low_kept ++ second) rest (count + 8) size ∙ drop-drop 8 count half_put
+      ∙ ap (drop (count + 8)) half_is ∙ ap (λ n. drop n (first ++ drop 8 old)) (sym places) ∙ drop_past first (drop 8 old) count ∙ drop-drop count 8 old ∙ ap (λ n. drop n old) {x = 8 + count} {y = count + 8} (omega arith)
 
-  pub puts_kept : PutsKept ms us old (put_chunk (count_ones (bit_and kept 255)) (put_chunk 0 old first) second) (count_ones (bit_and kept 255) + count_ones (kept / 256))
+  pub puts_kept : PutsKept ms us old (put_chunk (count_ones (bit_and kept 255)) (put_chunk 0 old first) second) (count_ones (bit_and kept 255) + count_ones (kept / 256)) (count_ones (bit_and kept 255) + count_ones (kept / 256) + 8 - count_ones (kept / 256))
   puts_kept =
       let same : put_chunk (count_ones (bit_and kept 255)) half_put second ≡ both_put = ap (λ n. put_chunk n half_put second) low_count in
       let size : count_ones (bit_and kept 255) + count_ones (kept / 256) ≡ count + length high_kept = (λ i. low_count i + high_count i) in
       record {
         counted = size ∙ sym (length-append low_kept high_kept) ∙ ap length whole;
         placed = (λ i. take (size i) (same i)) ∙ kept_front;
-        behind = ap (drop 16) same ∙ kept_behind;
+        behind = subst (λ n. drop n (put_chunk (count_ones (bit_and kept 255)) half_put second) ≡ drop n old) {x = count + 8} (omega (arith, low_count)) (ap (drop (count + 8)) same ∙ kept_behind);
       }

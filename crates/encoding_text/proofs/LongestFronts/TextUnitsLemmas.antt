@@ -149,9 +149,9 @@ front_units zero x y a bs = refl
 front_units (suc n) x y a [] = refl
 front_units (suc n) x y a (b ∷ bs) = ap (λ us. (if ends_unit a b then unit_at x y a b ∷ [] else []) ++ us) (front_units n y a b bs)
 
-pub puts_block : (src old new us : List ℕ) (end count : ℕ) → IsUtf8 src → 0 < end → end ≤ 16 → IsCharBoundary src end → us ≡ units_behind 0 0 0 (take 16 src)
-    → PutsKept (take end (ends_behind 0 (take 16 src)) ++ replicate (16 - end) false) us old new count → PutsText src old new end count 16
-puts_block src old new us end count u some few boundary e kept =
+pub puts_block : (src old new us : List ℕ) (end count reach : ℕ) → IsUtf8 src → 0 < end → end ≤ 16 → IsCharBoundary src end → us ≡ units_behind 0 0 0 (take 16 src)
+    → PutsKept (take end (ends_behind 0 (take 16 src)) ++ replicate (16 - end) false) us old new count reach → PutsText src old new end count reach
+puts_block src old new us end count reach u some few boundary e kept =
     let text = IsUtf8-take src end u boundary in
     let cs = text.0 in
     let marks = take end (ends_behind 0 (take 16 src)) in
@@ -267,9 +267,6 @@ units_third (c ∷ cs) h =
       | inr p ↦ omega (arith, ap length (two_units c p), ap length (four c p))
     ]
 
-units_enough : (src : List ℕ) → IsUtf8 src → 48 ≤ length src → 16 ≤ units_in src
-units_enough src u h = omega (arith, units_of u.0 src u u.1.1, units_third u.0 u.1.0, ap length u.1.1)
-
 -- what is due then
 units_split : (src old new : List ℕ) (n k reach : ℕ) → IsUtf8 src → PutsText src old new n k reach → units_in src ≡ k + units_in (drop n src)
 units_split src old new n k reach u p =
@@ -295,8 +292,12 @@ reaches src old new n k reach most l p =
       behind = past new ∙ ap (drop (most - reach)) p.behind ∙ sym (past old);
     }
 
-pub due_block : (src old new : List ℕ) (n k : ℕ) → IsUtf8 src → 48 ≤ length src → PutsText src old new n k 16 → PutsText src old new n k (units_in src)
-due_block src old new n k u l p = reaches src old new n k 16 (units_in src) (units_enough src u l) p
+-- eight places are due behind all but the later code units
+pub due_block : (src old new : List ℕ) (n k later : ℕ) → IsUtf8 src → 8 ≤ later + (length src - n) / 3 → PutsText src old new n k (k + 8 - later) → PutsText src old new n k (units_in src)
+due_block src old new n k later u l p =
+    let more = p.rest in
+    let left : length src - n ≤ 3 * units_in (drop n src) = omega (arith, units_of more.0 (drop n src) more more.1.1, units_third more.0 more.1.0, ap length more.1.1, length-drop n src) in
+    reaches src old new n k (k + 8 - later) (units_in src) (omega (arith, left, l, units_split src old new n k (k + 8 - later) u p)) p
 
 pub due_exact : (src old new : List ℕ) (n k : ℕ) → IsUtf8 src → PutsText src old new n k k → PutsText src old new n k (units_in src)
 due_exact src old new n k u p = reaches src old new n k k (units_in src) (omega (arith, units_split src old new n k k u p)) p

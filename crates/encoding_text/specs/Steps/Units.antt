@@ -28,11 +28,11 @@ bytes_at (k ∷ ks) = (2 * k) ∷ (2 * k + 1) ∷ bytes_at ks
 unfoldable pub byte_places : ℕ → List ℕ
 byte_places mask = bytes_at (gathered_places mask)
 
--- the elements whose mark is set stand in front, so many; the first sixteen places may have changed, and no other
-pub record PutsKept (marks : List Bool) (us old new : List ℕ) (count : ℕ) : Type 0 where
+-- the elements whose mark is set stand in front, so many; of the rest the first `reach` places may have changed
+pub record PutsKept (marks : List Bool) (us old new : List ℕ) (count reach : ℕ) : Type 0 where
   pub counted : count ≡ length (keep marks us)
   pub placed : take count new ≡ keep marks us
-  pub behind : drop 16 new ≡ drop 16 old
+  pub behind : drop reach new ≡ drop reach old
 
 -- ---- the code unit that ends with a byte
 -- whether one ends with the byte b behind a

@@ -1,12 +1,13 @@
 //! UTF-16 of well-formed UTF-8, sixteen bytes at a time: each byte computes the code unit that ends with it from the
 //! three bytes before it, and the lanes that end one are moved together.
 //!
-//! What a block stores behind its own code units is overwritten by those of the bytes that follow: three bytes have
-//! at least one code unit, so with 48 bytes left sixteen places are still due.
-ghost use Rattle.std.specs.Prelude.{◌≡◌, ℕ, ◌+◌, ◌-◌, ◌<◌, ◌≤◌, ◌∷◌, ◌^◌, Bool, false, List, ◌++◌, length, take, drop, replicate, slice_index, IsTrue};
+//! What a block stores behind its own code units is overwritten by those of the bytes that follow, since these have at
+//! least a third as many: a block is stored only where so many places are still due.
+ghost use Rattle.std.specs.Prelude.{◌≡◌, ℕ, ◌+◌, ◌-◌, ◌/◌, ◌<◌, ◌≤◌, ◌∷◌, ◌^◌, Bool, false, List, ◌++◌, length, take, drop, replicate, slice_index, IsTrue};
 ghost use Rattle.std.specs.List.{flat_map};
 ghost use Rattle.std.specs.Str.{IsUtf8, IsCharBoundary, chars};
 ghost use Rattle.std.specs.Char.Escape.{encode_utf16};
+ghost use Rattle.std.specs.Int.RustNames.{count_ones};
 ghost use Rattle.std.specs.Simd.Lanes.{mask_l};
 ghost use Rattle.encoding_text.specs.Fronts.{WritesFront};
 ghost use Rattle.encoding_text.specs.Steps.Lanes.{HasLanes};
@@ -22,6 +23,9 @@ use std::simd::prelude::*;
 const LAST: [u8; 16] = [
     255, 255, 255, 255, 255, 255, 255, 255, 255, 255, 255, 255, 255, 0xEF, 0xDF, 0xBF,
 ];
+
+/// Where five characters of three bytes end.
+const TRIPLES: usize = 0x4924;
 
 /// The bytes one place before, with a zero before the first.
 #[inline(always)]
@@ -157,7 +161,7 @@ fn last_eight(units: u16x16) -> u16x8
 #[inline(always)]
 fn put_kept(units: u16x16, kept: usize, dst: &mut [u16]) -> usize
     requires { (kept < 2 ^ 16) × (16 ≤ length dst.old) }
-    ensures { (marks : List Bool) → length marks ≡ 16 → kept ≡ mask_l marks → PutsKept marks units dst.old dst.new result }
+    ensures { (marks : List Bool) → length marks ≡ 16 → kept ≡ mask_l marks → PutsKept marks units dst.old dst.new result (result + 8 - count_ones (kept / 2 ^ 8)) }
 {
     let first = kept & 0xFF;
     let second = kept >> 8;
@@ -186,14 +190,14 @@ fn whole_end(src: &[u8]) -> usize
 
 /// Writes the UTF-16 of the first bytes, up to the end of a character, and returns how many code units these are.
 #[inline(always)]
-fn put_block(src: &[u8], end: usize, dst: &mut [u16]) -> usize
+fn put_block(src: &[u8], end: usize, kept: usize, dst: &mut [u16]) -> usize
     requires room { (16 ≤ length src.now) × (16 ≤ length dst.old) }
     requires text { IsUtf8 src.now }
     requires end { (0 < end) × (end ≤ 16) × IsCharBoundary src.now end }
-    ensures { PutsText src.now dst.old dst.new end result 16 }
+    requires kept { kept ≡ mask_l (take end (ends_behind 0 (take 16 src.now)) ++ replicate (16 - end) false) }
+    ensures { PutsText src.now dst.old dst.new end result (result + 8 - count_ones (kept / 2 ^ 8)) }
 {
-    let block = u8x16::from_slice(src);
-    put_kept(code_units(block), unit_ends(block, end), dst)
+    put_kept(code_units(u8x16::from_slice(src)), kept, dst)
 }
 
 /// Writes the first sixteen bytes, which are ASCII.
@@ -205,6 +209,14 @@ fn put_ascii(src: &[u8], dst: &mut [u16])
     ensures { PutsText src.now dst.old dst.new 16 16 16 }
 {
     u8x16::from_slice(src).cast::<u16>().copy_to_slice(dst);
+}
+
+/// Whether eight places are due behind the first half of a block: for the second half, and a third of the bytes left.
+#[inline(always)]
+fn is_due(kept: usize, left: usize) -> bool
+    ensures { IsTrue result → 8 ≤ count_ones (kept / 2 ^ 8) + left / 3 }
+{
+    (kept >> 8).count_ones() as usize + left / 3 >= 8
 }
 
 /// Writes the UTF-16 of the first character, and returns how many bytes and code units these are.
@@ -230,15 +242,21 @@ fn put_some(src: &[u8], dst: &mut [u16]) -> (usize, usize)
     requires text { IsUtf8 src.now }
     ensures { PutsText src.now dst.old dst.new result.0 result.1 (units_in src.now) }
 {
-    if src.len() >= 16 {
-        if is_below(u8x16::from_slice(src), 0x80) {
+    if src.len() > 16 {
+        let block = u8x16::from_slice(src);
+        if is_below(block, 0x80) {
             put_ascii(src, dst);
             return (16, 16);
         }
-        if src.len() >= 48 {
-            let end = whole_end(src);
-            if end > 0 {
-                return (end, put_block(src, end, dst));
+        let triples = unit_ends(block, 15);
+        if triples == TRIPLES && !is_continuation(src[15]) && is_due(triples, src.len() - 15) {
+            return (15, put_block(src, 15, triples, dst));
+        }
+        let end = whole_end(src);
+        if end > 0 {
+            let kept = unit_ends(block, end);
+            if is_due(kept, src.len() - end) {
+                return (end, put_block(src, end, kept, dst));
             }
         }
     }

@@ -1,7 +1,7 @@
 use Rattle.std.proofs.Common.{◌≡◌, ◌∙◌, ◌++◌, ◌-◌, ◌^◌, ◌<◌, Bool, false, arith, length, subst, take, replicate}
 use Rattle.std.specs.Simd.Lanes.{mask_l}
-use Rattle.std.proofs.lemmas.Simd.{mask_l-lt}
 use Rattle.std.proofs.lemmas.List.{length-append, length-take-le, length-replicate}
+use Rattle.std.proofs.lemmas.Simd.{mask_l-lt}
 use Rattle.encoding_text.specs.Steps.Units.{ends_behind}
 use Rattle.encoding_text.proofs.Lanes.UnitLanesLemmas.{length-ends}
 use Rattle.encoding_text.proofs.LongestFronts.TextUnitsLemmas.{puts_block}
@@ -15,7 +15,7 @@ put_kept-requires c =
     let marks = take end ends ++ replicate {A = Bool} (16 - end) false in
     let long : length marks ≡ 16 = omega (arith, length-append (take end ends) (replicate {A = Bool} (16 - end) false), length-take-le end ends (omega (arith, size, c.requires.end)), length-replicate {A = Bool} (16 - end) false, c.requires.end) in
     let small : mask_l marks < 2 ^ 16 = subst (λ n. mask_l marks < 2 ^ n) long (mask_l-lt marks) in
-    (omega (arith, c.unit_ends.ensures, small), c.requires.room.1)
+    (omega (arith, c.requires.kept, small), c.requires.room.1)
 
 pub returns : goal.returns
 returns c =
@@ -25,5 +25,5 @@ returns c =
     let size = length-ends 0 (take 16 src) ∙ length-take-le 16 src c.requires.room.0 in
     let long = length-append (take end ends) (replicate {A = Bool} (16 - end) false) in
     let front = length-take-le end ends (omega (arith, size, c.requires.end)) in
-    puts_block src c.args.dst.now c.put_kept.new.dst c.code_units.result end c.put_kept.result c.requires.text c.requires.end.0 c.requires.end.1 c.requires.end.2 c.code_units.ensures
-    (c.put_kept.ensures (take end ends ++ replicate (16 - end) false) (omega (arith, long, front, length-replicate {A = Bool} (16 - end) false, c.requires.end)) c.unit_ends.ensures)
+    puts_block src c.args.dst.now c.put_kept.new.dst c.code_units.result end c.put_kept.result _ c.requires.text c.requires.end.0 c.requires.end.1 c.requires.end.2 c.code_units.ensures
+    (c.put_kept.ensures (take end ends ++ replicate (16 - end) false) (omega (arith, long, front, length-replicate {A = Bool} (16 - end) false, c.requires.end)) c.requires.kept)
