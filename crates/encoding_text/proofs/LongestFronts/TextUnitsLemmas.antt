@@ -5,17 +5,16 @@ use Rattle.std.specs.Char.{IsScalar}
 use Rattle.std.specs.Char.Escape.{encode_utf16}
 use Rattle.std.specs.Str.{all_scalars, IsUtf8, IsCharBoundary, IsAscii, chars}
 use Rattle.std.specs.List.{flat_map}
-use Rattle.std.specs.Simd.Lanes.{put_chunk}
 use Rattle.std.proofs.str.Laws.{one, two, three, four, scalars-append}
 use Rattle.std.proofs.Math.Seq.{drop-cons, take-append-add}
 use Rattle.std.proofs.lemmas.Bool.{cond-true, cond-false, cases_lt, lt-leb, le-leb, lt-ltb, le-ltb, and_parts, and_from}
 use Rattle.std.proofs.lemmas.Grind.{flat_map-append}
 use Rattle.std.proofs.lemmas.List.{append-nil, length-append, length-drop, length-take, length-take-le, take-append-drop, take_at, take_all, take_rest, take-take, drop_at, drop_all, drop-drop, get_or_append_left}
-use Rattle.std.proofs.lemmas.Simd.{put_chunk_is}
 use Rattle.std.proofs.lemmas.Str.{IsUtf8-take, IsUtf8-drop, IsUtf8-nil, IsUtf8-from_ascii, IsCharBoundary-after_ascii, encodes-IsAscii, encodes_same, encodes-append, chars_from_encodes, length-encode, len_utf8_bounds}
 use borrow.Rule.Slice.PartMut.{put_mid}
 use Rattle.encoding_text.specs.Sequence.{IsSequence}
 use Rattle.encoding_text.specs.Fronts.{WritesFront}
+use Rattle.encoding_text.specs.Steps.Strides.{AllBelow, BelowUpTo}
 use Rattle.encoding_text.specs.Steps.Units.{keep, ends_unit, low_bits, unit_at, units_behind, ends_behind, units_in, PutsKept, PutsText}
 use Rattle.encoding_text.proofs.Sequences.EncodingLemmas.{IsSequence-encode, length-encode_utf16-utf8}
 use Rattle.encoding_text.proofs.Lanes.KeptLemmas.{keep_pad}
@@ -175,27 +174,30 @@ ascii_units : (bs : List ℕ) → ((i : ℕ) → get_or bs i 0 < 128) → flat_m
 ascii_units [] h = refl
 ascii_units (b ∷ bs) h = (λ i. one_unit b (omega (arith, h 0)) i ++ ascii_units bs (λ k. h (suc k)) i)
 
-pub puts_ascii : (src old : List ℕ) → IsUtf8 src → 16 ≤ length src → 16 ≤ length old → ((k : ℕ) → k < 16 → get_or src k 0 < 128)
-    → PutsText src old (put_chunk 0 old (take 16 src)) 16 16 16
-puts_ascii src old u long room h =
-    let bs = take 16 src in
-    let size : length bs ≡ 16 = length-take-le 16 src long in
-    let ascii : IsAscii bs = Each-take (λ b. b < 128) (omega arith) src 16 h in
+pub puts_ascii : (src old new : List ℕ) (n : ℕ) → IsUtf8 src → 0 < n → n ≤ length src → BelowUpTo 0x80 src n → WritesFront old new n (take n src) → PutsText src old new n n n
+puts_ascii src old new n u some within h w =
+    let bs = take n src in
+    let ascii : IsAscii bs = Each-take (λ b. b < 0x80) (omega arith) src n h in
     let text = IsUtf8-from_ascii bs ascii in
     let same : text.0 ≡ bs = encodes_same text.0 bs (text.1.1 ∙ sym (encodes-IsAscii bs ascii)) in
     let units : flat_map encode_utf16 text.0 ≡ bs = ap (flat_map encode_utf16) same ∙ ascii_units bs ascii in
-    let put : put_chunk 0 old bs ≡ bs ++ drop 16 old = put_chunk_is 0 old bs (omega (arith, size, room)) ∙ ap (λ n. bs ++ drop n old) size in
+    let last : n - 1 + 1 ≡ n = omega arith in
     record {
       taken = text.0;
       are_scalars = text.1.0;
-      some = omega arith;
-      within = long;
+      some = some;
+      within = within;
       spelled = text.1.1;
-      rest = IsUtf8-drop src 16 u (IsCharBoundary-after_ascii src 15 u (omega arith) (h 15 (omega arith)));
-      counted = sym (ap length units ∙ size);
-      placed = ap (take 16) put ∙ take_at bs (drop 16 old) 16 size ∙ sym units;
-      behind = ap (drop 16) put ∙ drop_at bs (drop 16 old) 16 size;
+      rest = IsUtf8-drop src n u (subst (IsCharBoundary src) last (IsCharBoundary-after_ascii src (n - 1) u (omega arith) (h (n - 1) (omega arith))));
+      counted = w.count ∙ ap length (sym units);
+      placed = sym (written_is old new n bs w) ∙ sym units;
+      behind = ap (drop n) w.placed ∙ drop_at bs (drop n old) n (sym w.count);
     }
+
+-- sixteen ASCII bytes begin a front that isn't empty
+pub front_some : (src : List ℕ) (n : ℕ) → ((k : ℕ) → k < 16 → get_or src k 0 < 0x80) → (AllBelow 0x80 src n 16 → ⊥) → 0 < n
+front_some src zero h stops = absurd (stops (λ k l m. h k (omega arith)))
+front_some src (suc n) h stops = omega arith
 
 -- ---- a character
 pub record Begins (src : List ℕ) (n : ℕ) : Type 0 where

@@ -14,6 +14,7 @@ ghost use Rattle.encoding_text.specs.Steps.Lanes.{HasLanes};
 ghost use Rattle.encoding_text.specs.Steps.Units.{PutsKept, PutsText, ends_behind, low_bits, unit_lane, units_behind, units_in};
 
 use crate::sequence::{is_continuation, sequence_length};
+use crate::strides::widen_ascii;
 use crate::utf_8::decoding::{put_utf16, scalar_of_sequence};
 use crate::utf_8::kept_lanes::gather;
 use std::simd::Simd;
@@ -200,17 +201,6 @@ fn put_block(src: &[u8], end: usize, kept: usize, dst: &mut [u16]) -> usize
     put_kept(code_units(u8x16::from_slice(src)), kept, dst)
 }
 
-/// Writes the first sixteen bytes, which are ASCII.
-#[inline(always)]
-fn put_ascii(src: &[u8], dst: &mut [u16])
-    requires room { (16 ≤ length src.now) × (16 ≤ length dst.old) }
-    requires text { IsUtf8 src.now }
-    requires ascii { (k : ℕ) → k < 16 → slice_index src.now k < 0x80 }
-    ensures { PutsText src.now dst.old dst.new 16 16 16 }
-{
-    u8x16::from_slice(src).cast::<u16>().copy_to_slice(dst);
-}
-
 /// Whether eight places are due behind the first half of a block: for the second half, and a third of the bytes left.
 #[inline(always)]
 fn is_due(kept: usize, left: usize) -> bool
@@ -242,12 +232,12 @@ fn put_some(src: &[u8], dst: &mut [u16]) -> (usize, usize)
     requires text { IsUtf8 src.now }
     ensures { PutsText src.now dst.old dst.new result.0 result.1 (units_in src.now) }
 {
+    if src.len() >= 16 && is_below(u8x16::from_slice(src), 0x80) {
+        let front = widen_ascii::<16>(src, dst, 0);
+        return (front, front);
+    }
     if src.len() > 16 {
         let block = u8x16::from_slice(src);
-        if is_below(block, 0x80) {
-            put_ascii(src, dst);
-            return (16, 16);
-        }
         let triples = unit_ends(block, 15);
         if triples == TRIPLES && !is_continuation(src[15]) && is_due(triples, src.len() - 15) {
             return (15, put_block(src, 15, triples, dst));
