@@ -1,5 +1,5 @@
 -- Blocks of code units that are no surrogates: each is a character, and their UTF-8 is joined from what the blocks write.
-use Rattle.std.proofs.Common.{◌≡◌, ℕ, suc, ◌+◌, ◌-◌, ◌<◌, ◌≤◌, ◌⊎◌, inl, inr, List, [], ◌∷◌, ◌++◌, map, length, take, drop, take-add, drop-drop, length-take-le, length-append, get_or, encode_utf8_all, refl, sym, ap, ◌∙◌, arith, subst, append_assoc}
+use Rattle.std.proofs.Common.{◌≡◌, ℕ, suc, ◌+◌, ◌-◌, ◌<◌, ◌≤◌, ◌⊎◌, inl, inr, List, [], ◌∷◌, ◌++◌, map, length, take, drop, take-add, drop-drop, length-take, length-take-le, length-append, get_or, encode_utf8_all, refl, sym, ap, ◌∙◌, arith, subst, append_assoc}
 use Rattle.std.specs.List.{flat_map}
 use Rattle.std.specs.Str.{IsAscii}
 use Rattle.std.specs.Simd.Lanes.{chunk}
@@ -83,6 +83,19 @@ module _ (us : List ℕ) (n : ℕ) (plain : ArePlain (take n us)) where
   pub plain_short : (m : ℕ) → AllBelow 0x800 us n m → ArePlain (take (n + m) us)
   plain_short m h = plain_more m (λ k l r. omega (arith, h (n + k) (omega arith) (omega arith), r.0))
 
+-- eight in a vector
+pub eight_short : (us : List ℕ) (at : ℕ) → ((k : ℕ) → get_or (chunk at 8 us) k 0 < 0x800) → ArePlain (chunk at 8 us)
+eight_short us at h k r = omega (arith, h k, r.0)
+
+pub eight_long : (us : List ℕ) (at : ℕ) → ((k : ℕ) → k < 8 → (0x800 ≤ get_or (chunk at 8 us) k 0) × IsPlain (get_or (chunk at 8 us) k 0)) → ArePlain (chunk at 8 us)
+eight_long us at h k r = elim (cases_lt k 8) [
+  | inl l ↦ (h k l).1 r
+  | inr l ↦ omega (arith, r.0, get_or_past (chunk at 8 us) k 0 (omega (arith, length-take 8 (drop at us))))
+]
+
+pub plain_then : (us : List ℕ) (n m : ℕ) → ArePlain (take n us) → ArePlain (take m (drop n us)) → ArePlain (take (n + m) us)
+plain_then us n m p q = plain_more us n p m (λ k l. let same = get_or-drop n us k 0 in let front = get_or-take m (drop n us) k 0 l in λ r. q k (omega (arith, same, front, r.0), omega (arith, same, front, r.1)))
+
 -- what sixteen below U+0800 are in two vectors of eight
 pub short_lanes : (us : List ℕ) (n : ℕ) → n + 16 ≤ length us → AllBelow 0x800 us n 16 → (k : ℕ) → (get_or (chunk n 8 us) k 0 < 0x800) × (get_or (chunk (n + 8) 8 us) k 0 < 0x800)
 short_lanes us n room h k = (lane n (omega arith) (omega arith), lane (n + 8) (omega arith) (omega arith))
@@ -105,10 +118,10 @@ module _ (us old new after : List ℕ) (n written : ℕ) (w : WritesFront old ne
   written_short first second m e f count room put =
       WritesFront-same _ _ _ _ _ _ (WritesFront_put old new after written m _ _ w count room put) refl (ap (λ xs. encode_utf8_all (take n us) ++ xs) (short_joined us first second n e f) ∙ encodes_more us n 16)
 
-  pub written_long : length (encode_utf8_all (chunk n 8 us)) ≡ 24 → written + 24 ≤ length new
-      → after ≡ take written new ++ (encode_utf8_all (chunk n 8 us) ++ drop (written + 24) new)
-      → WritesFront old after (written + 24) (encode_utf8_all (take (n + 8) us))
-  written_long count room put = WritesFront-same _ _ _ _ _ _ (WritesFront_put old new after written 24 _ _ w (sym count) room put) refl (encodes_more us n 8)
+  pub written_eight : (k m : ℕ) → m ≡ length (encode_utf8_all (take k (drop n us))) → written + m ≤ length new
+      → after ≡ take written new ++ (encode_utf8_all (take k (drop n us)) ++ drop (written + m) new)
+      → WritesFront old after (written + m) (encode_utf8_all (take (n + k) us))
+  written_eight k m count room put = WritesFront-same _ _ _ _ _ _ (WritesFront_put old new after written m _ _ w count room put) refl (encodes_more us n k)
 
 -- a call that wrote nothing
 pub written_none : (old new sub out more : List ℕ) (written m : ℕ) → WritesFront old new written out → WritesFront (take (length new - written) (drop written new)) sub m (take m more) → m ≡ 0

@@ -1,5 +1,5 @@
 //! UTF-16 to UTF-8, into a destination of any size.
-ghost use Rattle.std.specs.Prelude.{◌≡◌, ◌+◌, ◌<◌, ◌≤◌, ◌↔◌, ◌⊎◌, length, take, drop, encode_utf8, encode_utf8_all, IsTrue};
+ghost use Rattle.std.specs.Prelude.{◌≡◌, ◌+◌, ◌<◌, ◌≤◌, ◌↔◌, ◌⊎◌, ◌++◌, length, take, drop, encode_utf8, encode_utf8_all, IsTrue};
 ghost use Rattle.std.specs.Char.{len_utf8};
 ghost use Rattle.std.specs.Char.Escape.{encode_utf16};
 ghost use Rattle.std.specs.Char.Utf16.{surrogate_pair_char};
@@ -9,7 +9,7 @@ ghost use Rattle.encoding_text.specs.Steps.FirstScalar.{IsFirstScalar};
 ghost use Rattle.encoding_text.specs.Steps.Spelling.{ArePlain};
 
 use crate::strides::{are_units_below, narrow_ascii};
-use crate::utf_8::spelling::{are_long, write_long, write_short};
+use crate::utf_8::spelling::{are_long, are_short, write_long, write_short, write_short_eight};
 use std::simd::prelude::*;
 
 /// What a lone surrogate counts as.
@@ -126,9 +126,32 @@ pub(super) fn write_scalar(scalar: u32, dst: &mut [u8]) -> usize
     4
 }
 
+/// Converts eight code units from a place on, which are all below U+0800, or all from there on without a surrogate, and
+/// returns how many code units it read, eight or none, and how many bytes it wrote. Behind these `dst` is as before.
+#[inline(always)]
+fn convert_eight(src: &[u16], at: usize, dst: &mut [u8], to: usize) -> (usize, usize)
+    requires room { (at + 8 ≤ length src.now) × (to + 24 ≤ length dst.old) }
+    ensures eight { (result.0 ≡ 8) ⊎ ((result.0 ≡ 0) × (result.1 ≡ 0)) }
+    ensures plain { ArePlain (take result.0 (drop at src.now)) }
+    ensures count { result.1 ≡ length (encode_utf8_all (take result.0 (drop at src.now))) }
+    ensures most { result.1 ≤ 24 }
+    ensures written { dst.new ≡ take to dst.old
+        ++ (encode_utf8_all (take result.0 (drop at src.now)) ++ drop (to + result.1) dst.old) }
+{
+    let units = u16x8::from_slice(&src[at..]);
+    if are_short(units) {
+        return (8, write_short_eight(units, dst, to));
+    }
+    if are_long(units) {
+        write_long(units, dst, to);
+        return (8, 24);
+    }
+    (0, 0)
+}
+
 /// Converts blocks of code units from the beginning of `src` on, and returns how many code units these are and how many
-/// bytes it wrote: sixteen below U+0080 or below U+0800, or eight from U+0800 on without a surrogate. Behind what is
-/// written `dst` is as before.
+/// bytes it wrote: sixteen below U+0080 or below U+0800, or eight below U+0800 or from there on without a surrogate.
+/// Behind what is written `dst` is as before.
 fn convert_blocks(src: &[u16], dst: &mut [u8]) -> (usize, usize)
     ensures within { result.0 ≤ length src.now }
     ensures plain { ArePlain (take result.0 src.now) }
@@ -136,24 +159,23 @@ fn convert_blocks(src: &[u16], dst: &mut [u8]) -> (usize, usize)
 {
     let mut read = 0;
     let mut written = 0;
-    while src.len() - read >= BLOCK && dst.len() - written >= 32 {
+    while src.len() - read >= 8 && dst.len() - written >= 32 {
         let front = narrow_ascii::<16>(&src[read..], &mut dst[written..], 0);
         if front > 0 {
             read += front;
             written += front;
-        } else if are_units_below::<16>(src, read, 0x800) {
+        } else if src.len() - read >= BLOCK && are_units_below::<16>(src, read, 0x800) {
             let first = u16x8::from_slice(&src[read..]);
             let second = u16x8::from_slice(&src[read + 8..]);
             written += write_short(first, second, dst, written);
-            read += 16;
+            read += BLOCK;
         } else {
-            let units = u16x8::from_slice(&src[read..]);
-            if !are_long(units) {
+            let (units, bytes) = convert_eight(src, read, dst, written);
+            if units == 0 {
                 break;
             }
-            write_long(units, dst, written);
-            read += 8;
-            written += 24;
+            read += units;
+            written += bytes;
         }
     }
     (read, written)
@@ -182,7 +204,7 @@ pub fn convert_utf16_to_utf8_partial_inner(src: &[u16], dst: &mut [u8]) -> (usiz
 {
     let mut read = 0;
     let mut written = 0;
-    let mut singles = if src.len() < BLOCK { BLOCK } else { 0 };
+    let mut singles = if src.len() < 8 { 8 } else { 0 };
     while read < src.len() && dst.len() - written >= LONGEST {
         if singles == 0 {
             let (units, bytes) = convert_blocks(&src[read..], &mut dst[written..]);

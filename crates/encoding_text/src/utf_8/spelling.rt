@@ -63,6 +63,40 @@ fn put_both(dst: &mut [u8], at: usize, first: u8x16, count: usize, second: u8x16
         .copy_to_slice(&mut dst[next..]);
 }
 
+/// Writes the first bytes of a vector, so many. Behind them `dst` is as before, though sixteen bytes are stored.
+#[inline(always)]
+fn put_first(dst: &mut [u8], at: usize, bytes: u8x16, count: usize)
+    requires room { at + 16 ≤ length dst.old }
+    requires bytes { (count ≤ 16) × (length bytes ≡ 16) }
+    ensures { dst.new ≡ take at dst.old ++ (take count bytes ++ drop (at + count) dst.old) }
+{
+    let behind = u8x16::from_slice(&dst[at..]);
+    let is_kept = u8x16::from_array(LANES).simd_lt(u8x16::splat(count as u8));
+    is_kept.select(bytes, behind).copy_to_slice(&mut dst[at..]);
+}
+
+/// Whether each of the eight code units is below U+0800.
+#[inline(always)]
+pub(super) fn are_short(units: u16x8) -> bool
+    ensures { IsTrue result → (k : ℕ) → slice_index units k < 0x800 }
+{
+    !units.simd_ge(u16x8::splat(0x800)).any()
+}
+
+/// Writes the UTF-8 of eight code units below U+0800, and returns how many bytes that is. Behind them `dst` is as before.
+#[inline(always)]
+pub(super) fn write_short_eight(units: u16x8, dst: &mut [u8], at: usize) -> usize
+    requires room { at + 16 ≤ length dst.old }
+    requires short { (k : ℕ) → slice_index units k < 0x800 }
+    ensures most { result ≤ 16 }
+    ensures count { result ≡ length (encode_utf8_all units) }
+    ensures written { dst.new ≡ take at dst.old ++ (encode_utf8_all units ++ drop (at + result) dst.old) }
+{
+    let (bytes, count) = spell_short(units);
+    put_first(dst, at, bytes, count);
+    count
+}
+
 /// Writes the UTF-8 of twice eight code units below U+0800, and returns how many bytes that is. Behind them `dst` is as
 /// before.
 #[inline(always)]

@@ -1,7 +1,6 @@
 use Rattle.std.proofs.Common.{arith, refl, length, take, drop, ◌-◌}
-use Rattle.std.proofs.lemmas.Simd.{get_or-chunk}
 use Rattle.encoding_text.proofs.LongestFronts.FrontsLemmas.{WritesFront-nil}
-use Rattle.encoding_text.proofs.CodeUnits.UnitBlocksLemmas.{plain_more, plain_short, plain_ascii, short_lanes, written_short, written_long, written_none, written_ascii}
+use Rattle.encoding_text.proofs.CodeUnits.UnitBlocksLemmas.{plain_then, plain_short, plain_ascii, short_lanes, written_short, written_eight, written_none, written_ascii}
 use Rattle.encoding_text.proofs.utf_8.encoding.convert_blocks.Goals as goal
 
 pub loop-read-preserved-then-front-gt0 : goal.loop-read-preserved-then-front-gt0
@@ -35,9 +34,6 @@ loop-read-preserved-then-are_units_below c =
       written = written_short us c.args.dst.now _ c.write_short-written.new.dst c.loop-read.read c.loop-read.written same _ _ c.write_short-written.result refl refl call.count (omega (arith, call.most)) call.written;
     }
 
-pub write_long-requires-clause-long : goal.write_long-requires-clause-long
-write_long-requires-clause-long c k l = ((c.if-not-are_long.ensures {u = tt}) refl k l).0
-
 pub loop-read-preserved : goal.loop-read-preserved
 loop-read-preserved c =
     let us = c.args.src.now in
@@ -46,10 +42,9 @@ loop-read-preserved c =
     let front = c.narrow_ascii-front.ensures in
     let same = written_none c.args.dst.now dst c.narrow_ascii-front.new.dst _ _ c.loop-read.written c.narrow_ascii-front.result here.written
     (front.copied _ (WritesFront-nil (take (length dst - c.loop-read.written) (drop c.loop-read.written dst)))) (omega arith) in
-    let call = c.write_long.ensures in
+    let call = c.convert_eight-units.ensures in
     record {
-      within = omega arith;
-      plain = plain_more us c.loop-read.read here.plain 8 (λ k l r. let lane = get_or-chunk c.loop-read.read 8 us k 0 l in
-          ((c.if-not-are_long.ensures {u = tt}) refl k l).1 (omega (arith, lane, r.0), omega (arith, lane, r.1)));
-      written = written_long us c.args.dst.now _ c.write_long.new.dst c.loop-read.read c.loop-read.written same call.count (omega arith) call.written;
+      within = omega (arith, call.eight);
+      plain = plain_then us c.loop-read.read c.convert_eight-units.result.0 here.plain call.plain;
+      written = written_eight us c.args.dst.now _ c.convert_eight-units.new.dst c.loop-read.read c.loop-read.written same c.convert_eight-units.result.0 c.convert_eight-units.result.1 call.count (omega (arith, call.most)) call.written;
     }
