@@ -112,7 +112,11 @@ pub(crate) fn front_below(bytes: &[u8], bound: u8) -> usize
     if bytes.len() >= HALF_STRIDE {
         return front_by_strides::<HALF_STRIDE>(bytes, 0, bound);
     }
-    skip_bytes_below::<1>(bytes, 0, bound)
+    let mut at = 0;
+    while at < bytes.len() && bytes[at] < bound {
+        at += 1;
+    }
+    at
 }
 
 /// The same, quick where that is within the first stride.

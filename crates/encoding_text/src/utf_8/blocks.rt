@@ -155,7 +155,8 @@ fn finish(src: &[u8], from: usize) -> usize
     last + zeros(faults(src, last))
 }
 
-/// The same from an ASCII front on.
+/// The same from an ASCII front on. Out of line: where the loop lies, and so its speed, depends on no caller's code.
+#[inline(never)]
 fn following(src: &[u8], front: usize) -> usize
     requires long { 16 ≤ length src.now }
     requires ascii { (front ≤ length src.now) × BelowUpTo 0x80 src.now front }
