@@ -8,6 +8,8 @@ mod bidi_rows;
 #[cfg(test)]
 mod bidi_walks;
 #[cfg(test)]
+mod block_seams;
+#[cfg(test)]
 mod borrowed_call_rows;
 #[cfg(test)]
 mod borrowed_rows;
