@@ -111,13 +111,11 @@ fn long_units(block: u8x16) -> u16x16
     let short = two
         .simd_ge(u16x16::splat(0xE0))
         .select(two * u16x16::splat(0x1000) + low, low);
-    let high = u16x16::splat(0xD7C0)
+    let upper = u16x16::splat(0xD7C0)
         + ((two & u16x16::splat(7)) * u16x16::splat(0x100) + (low >> u16x16::splat(4)));
-    let upper = two.simd_ge(u16x16::splat(0xF0)).select(high, short);
-    let longer = three.simd_ge(u16x16::splat(0xF0)).select(
-        u16x16::splat(0xDC00) + (low & u16x16::splat(0x3FF)),
-        upper,
-    );
+    let lower = u16x16::splat(0xDC00) + (low & u16x16::splat(0x3FF));
+    let third = two.simd_ge(u16x16::splat(0xF0)).select(upper, short);
+    let longer = three.simd_ge(u16x16::splat(0xF0)).select(lower, third);
     bytes.simd_lt(u16x16::splat(0x80)).select(bytes, longer)
 }
 
