@@ -1,22 +1,19 @@
 -- Right-to-left characters of a text in UTF-8: of one character, of a text joined from two, and none in Latin1.
-use Rattle.std.proofs.Common.{◌≡◌, ℕ, ◌+◌, ◌<◌, ◌≤◌, ◌⊎◌, inl, inr, List, [], ◌∷◌, ◌++◌, length, take, drop, slice_index, encode_utf8, encode_utf8_all, IsUtf8, refl, sym, ap, ◌∙◌, arith, subst, take-add, Bool, true, false}
+use Rattle.std.proofs.Common.{◌≡◌, ℕ, ◌<◌, ◌≤◌, ◌⊎◌, inl, inr, List, [], ◌∷◌, ◌++◌, length, take, drop, slice_index, encode_utf8, encode_utf8_all, IsUtf8, refl, sym, ap, ◌∙◌, arith, subst, Bool, true, false}
 use Rattle.std.specs.Prelude.{Any}
 use Rattle.std.specs.Char.{IsScalar}
-use Rattle.std.specs.Str.{all_scalars, continuation_len, is_utf8}
-use Rattle.std.proofs.str.Laws.{two, three, four, both}
+use Rattle.std.specs.Str.{all_scalars, is_utf8}
+use Rattle.std.proofs.str.Laws.{both}
 use Rattle.std.proofs.lemmas.Bool.{cases_lt, and_from}
-use Rattle.std.proofs.lemmas.Bool.Decides.{nat_tests}
-use Rattle.std.proofs.lemmas.List.{append-nil, length-append, length-drop, take_at, get_or-drop, drop_all, take-append-drop}
-use Rattle.std.proofs.lemmas.Str.{encode_ascii, encodes-append, encodes_same, IsUtf8-append, IsUtf8-drop, IsUtf8-nil, IsUtf8-from_is_utf8, is_utf8-from_IsUtf8, IsCharBoundary-from_take}
+use Rattle.std.proofs.lemmas.List.{append-nil, length-drop, drop_all, take-append-drop}
+use Rattle.std.proofs.lemmas.Str.{encodes-append, encodes_same, IsUtf8-append, IsUtf8-drop, IsUtf8-nil, IsUtf8-from_is_utf8, is_utf8-from_IsUtf8, IsCharBoundary-from_take}
 use lib.Utf8.{scalar}
 use Rattle.encoding_text.specs.Bidi.{IsRightToLeft, IsBidiText, IsBidiBytes}
 use Rattle.encoding_text.specs.Latin1.{IsUtf8Latin1}
 use Rattle.encoding_text.specs.Parts.{BeginsWithNoCharacter}
-use Rattle.encoding_text.specs.Sequence.{IsSequence}
 use Rattle.encoding_text.proofs.Bidi.AnyLemmas.{Any-here, Any-none, Any-cons, Any-left, Any-right, Any-append, Any-place}
 use Rattle.encoding_text.proofs.Latin.Latin1Lemmas.{scalars_of_latin1}
-use Rattle.encoding_text.proofs.LongestFronts.Utf8Lemmas.{IsUtf8-sequence}
-use Rattle.encoding_text.proofs.Sequences.EncodingLemmas.{scalar_of_sequence, IsSequence-encode}
+use Rattle.encoding_text.proofs.Sequences.EncodingLemmas.{IsSequence-encode}
 
 -- ---- the scalar values of a text
 abbrev HasOne : List ℕ → Type 0
@@ -28,9 +25,6 @@ text_of_bidi bs b = (b.0, (b.1, b.2))
 -- any scalar values that spell the text have one that is right-to-left
 pub bidi_scalars : (bs cs : List ℕ) → encode_utf8_all cs ≡ bs → IsBidiText bs → Any IsRightToLeft cs
 bidi_scalars bs cs e b = subst HasOne (encodes_same b.0 cs (b.2 ∙ sym e)) b.3
-
-pub nothing_bidi : IsBidiText [] → ⊥
-nothing_bidi b = Any-none IsRightToLeft (bidi_scalars [] [] refl b)
 
 -- ---- a text joined from two
 joined_scalars : (xs ys : List ℕ) (u : IsUtf8 xs) (v : IsUtf8 ys) → encode_utf8_all (u.0 ++ v.0) ≡ xs ++ ys
@@ -68,25 +62,6 @@ bidi_character c bs e b = elim (Any-cons IsRightToLeft c [] (bidi_scalars bs (c 
 pub right_to_left_from : (c : ℕ) → IsRightToLeft c → 0x590 ≤ c
 right_to_left_from c r = omega arith
 
--- a character whose first byte is below that of U+0580 is none of them
-lead_low : (c : ℕ) → slice_index (encode_utf8 c) 0 < 0xD6 → c < 0x590
-lead_low c l = elim (cases_lt c 128) [
-  | inl p ↦ omega arith
-  | inr p ↦ elim (cases_lt c 2048) [
-    | inl q ↦ omega (arith, l, ap (λ xs. slice_index xs 0) (two c p q))
-    | inr q ↦ elim (cases_lt c 65536) [
-      | inl r ↦ absurd (omega (arith, l, ap (λ xs. slice_index xs 0) (three c q r)))
-      | inr r ↦ absurd (omega (arith, l, ap (λ xs. slice_index xs 0) (four c r)))
-    ]
-  ]
-]
-
-pub low_sequence : (bs : List ℕ) → IsSequence bs → slice_index bs 0 < 0xD6 → IsBidiText bs → ⊥
-low_sequence bs s l b =
-    let c = scalar_of_sequence bs s in
-    let low : c.0 < 0x590 = lead_low c.0 (subst (λ xs. slice_index xs 0 < 0xD6) (sym c.2) l) in
-    omega (arith, low, right_to_left_from c.0 (bidi_character c.0 bs c.2 b))
-
 -- ---- Latin1
 pub latin1_not_bidi : (bs : List ℕ) → IsUtf8Latin1 bs → IsBidiText bs → ⊥
 latin1_not_bidi bs (cs, l, e) b =
@@ -102,12 +77,6 @@ rest_text bs at u l v = IsUtf8-drop bs at u (IsCharBoundary-from_take bs at u l 
 
 whole_text : (bs : List ℕ) (at : ℕ) → IsUtf8 (take at bs) → IsUtf8 (drop at bs) → IsUtf8 bs
 whole_text bs at u v = subst IsUtf8 (take-append-drop at bs) (IsUtf8-append (take at bs) (drop at bs) u v)
-
--- no character before a place is right-to-left: nor one more that isn't
-pub none_more : (bs : List ℕ) (at n : ℕ) → IsUtf8 (take at bs) → IsSequence (take n (drop at bs)) → (IsBidiText (take at bs) → ⊥)
-    → (IsBidiText (take n (drop at bs)) → ⊥) → IsBidiText (take (at + n) bs) → ⊥
-none_more bs at n u s none not b =
-    elim (bidi_either (take at bs) (take n (drop at bs)) u (IsUtf8-sequence _ s) (subst IsBidiText (take-add at n bs) b)) [ inl a ↦ none a | inr a ↦ not a ]
 
 -- a right-to-left character at a place of a text
 pub found_in_text : (bs : List ℕ) (at n : ℕ) → IsUtf8 bs → at ≤ length bs → IsUtf8 (take at bs) → IsBidiText (take n (drop at bs)) → IsBidiText bs
@@ -155,37 +124,6 @@ bytes_rest bs n l h (inl ill) = inl (λ u. ill (whole_text bs n (text_of_latin1 
 bytes_rest bs n l h (inr b) = inr (text_rest bs n l h b)
 
 -- ---- the next character
-lead_length : (c : ℕ) (rest : List ℕ) → continuation_len (slice_index (encode_utf8 c ++ rest) 0) + 1 ≡ length (encode_utf8 c)
-lead_length c rest = elim (cases_lt c 128) [
-  | inl p ↦ rw (encode_ascii c p) (grind (arith, nat_tests))
-  | inr p ↦ elim (cases_lt c 2048) [
-    | inl q ↦ rw (two c p q) (grind (arith, nat_tests))
-    | inr q ↦ elim (cases_lt c 65536) [
-      | inl r ↦ rw (three c q r) (grind (arith, nat_tests))
-      | inr r ↦ rw (four c r) (grind (arith, nat_tests))
-    ]
-  ]
-]
-
--- in what is left of a text, the first byte says how long the next character is
-next_of : (bs cs : List ℕ) (at : ℕ) → all_scalars cs ≡ true → encode_utf8_all cs ≡ drop at bs → at < length bs
-    → (at + (continuation_len (slice_index bs at) + 1) ≤ length bs) × IsSequence (take (continuation_len (slice_index bs at) + 1) (drop at bs))
-next_of bs [] at s e l = absurd (omega (arith, length-drop at bs, ap length e))
-next_of bs (c ∷ cs) at s e l =
-    let rest = encode_utf8_all cs in
-    let lead : slice_index bs at ≡ slice_index (encode_utf8 c ++ rest) 0 =
-    ap (λ j. slice_index bs j) (let z : at ≡ at + 0 = omega arith in z) ∙ sym (get_or-drop at bs 0 0) ∙ ap (λ xs. slice_index xs 0) (sym e) in
-    let long : continuation_len (slice_index bs at) + 1 ≡ length (encode_utf8 c) = ap (λ b. continuation_len b + 1) lead ∙ lead_length c rest in
-    let front : encode_utf8 c ≡ take (continuation_len (slice_index bs at) + 1) (drop at bs) =
-    sym (take_at (encode_utf8 c) rest (continuation_len (slice_index bs at) + 1) (sym long)) ∙ ap (take (continuation_len (slice_index bs at) + 1)) e in (
-      omega (arith, long, ap length e, length-append (encode_utf8 c) rest, length-drop at bs),
-      subst IsSequence front (IsSequence-encode c (both (scalar c) (all_scalars cs) s).0),
-    )
-
-pub next_sequence : (bs : List ℕ) (at : ℕ) → IsUtf8 bs → IsUtf8 (take at bs) → at < length bs
-    → (at + (continuation_len (slice_index bs at) + 1) ≤ length bs) × IsSequence (take (continuation_len (slice_index bs at) + 1) (drop at bs))
-next_sequence bs at u v l = let rest = rest_text bs at u (omega arith) v in next_of bs rest.0 at rest.1.0 rest.1.1 l
-
 begins_some : (xs cs : List ℕ) → all_scalars cs ≡ true → encode_utf8_all cs ≡ xs → 0 < length xs → BeginsWithNoCharacter xs → ⊥
 begins_some xs [] s e l n = omega (arith, ap length e)
 begins_some xs (c ∷ cs) s e l n = n (encode_utf8 c) (encode_utf8_all cs) (sym e) (IsSequence-encode c (both (scalar c) (all_scalars cs) s).0)

@@ -1,17 +1,16 @@
 -- What the operations on vectors hold at each lane, and what the masks of vectors tell of it.
-use Rattle.std.proofs.Common.{◌≡◌, ℕ, suc, ◌+◌, ◌-◌, ◌*◌, ◌/◌, ◌^◌, ◌%◌, ◌<◌, ◌≤◌, ◌↔◌, IsTrue, Bool, true, false, not, cond, ltb, eqb, inl, inr, List, [], ◌∷◌, map, length, get_or, replicate, refl, sym, ap, ◌∙◌, arith, subst, map-id, ◌++◌, take, drop, length-take-le, length-append, length-drop, get_or-take, get_or-drop, append_assoc, drop-drop}
+use Rattle.std.proofs.Common.{◌≡◌, ℕ, ◌+◌, ◌-◌, ◌*◌, ◌/◌, ◌^◌, ◌%◌, ◌<◌, ◌≤◌, ◌↔◌, IsTrue, Bool, true, false, not, cond, ltb, eqb, inl, inr, List, map, length, get_or, replicate, refl, sym, ap, ◌∙◌, arith, subst, map-id, ◌++◌, take, drop, length-take-le, length-append, length-drop, get_or-take, get_or-drop, append_assoc, drop-drop}
 use Rattle.std.proofs.lemmas.Bool.{cond-true, cond-false, cases_lt, lt-ltb, le-ltb, eqb-true, eq-eqb, not-true, not-false, not_from_false, not_from_true}
 use Rattle.std.proofs.lemmas.Grind.{same_number_lists}
 use Rattle.std.proofs.lemmas.List.{length-map, get_or-map, drop-append-le, get_or_append_left, get_or-append_right}
 use Rattle.std.proofs.lemmas.List.Sums.{prefix_len-le-length, prefix_len_passes, prefix_len_stops}
-use Rattle.std.proofs.lemmas.Simd.{chunk-drop, length-chunk, get_or-chunk, length-replicate, get_or-replicate, length-zip2, get_or-zip2, length-sel_l, get_or-sel_l, swz_l, SwzOk, length-swz_l, get_or-swz_l_below, SwzOk-from_below, Each1-from_get_or, mask_l-mod, leading_from_mask_l, trailing_mask_l}
-use Rattle.std.specs.Simd.Lanes.{zip2, chunk, put_chunk, mask_l, top, sel_l, Each1}
+use Rattle.std.proofs.lemmas.Simd.{chunk-drop, length-chunk, get_or-chunk, length-replicate, get_or-replicate, length-zip2, get_or-zip2, length-sel_l, get_or-sel_l, swz_l, SwzOk, length-swz_l, get_or-swz_l_below, SwzOk-from_below, Each1-from_get_or, mask_l-mod, leading_from_mask_l}
+use Rattle.std.specs.Simd.Lanes.{zip2, chunk, put_chunk, mask_l, top, sel_l}
 use Rattle.std.specs.List.{prefix_len}
-use lib.Count.{count_trailing_zeros}
 use mir.Syntax.{Width, w8, w16, w32, w64, w128}
-use mir.Val.{bits, hbits, Fits}
+use mir.Val.{bits, hbits}
 use Rattle.encoding_text.specs.Steps.Lanes.{HasLanes}
-use Rattle.encoding_text.proofs.Lanes.StridesLemmas.{put_is}
+use Rattle.encoding_text.proofs.Lanes.StridesLemmas.{empty_mask, put_is}
 
 -- ---- lanes
 pub HasLanes-load : (at n : ℕ) (xs : List ℕ) → at + n ≤ length xs → HasLanes n (chunk at n xs) (λ k. get_or xs (at + k) 0)
@@ -65,11 +64,6 @@ swizzle_ok {js} {f} p small =
     SwzOk-from_below w8 16 1 16 0 js (omega arith) (omega (arith, p.long))
     (Each1-from_get_or (λ j. j < 16) js 0 (λ k l. let in_js : k < 16 = omega (arith, p.long) in omega (arith, p.each k in_js, small k in_js)))
 
--- the lanes fit, as a cast asks
-pub lanes_fit : (w : Width) {n : ℕ} {a : List ℕ} {f : ℕ → ℕ} → HasLanes n a f → ((k : ℕ) → k < n → f k < 2 ^ bits w) → Each1 (Fits w) a
-lanes_fit w {n} {a} {f} p small =
-    Each1-from_get_or (Fits w) a 0 (λ k l. let within : k < n = omega (arith, p.long) in record { fits = rw (p.each k within) (small k within) })
-
 -- a comparison: all bits of the lane are set where it holds
 abbrev pub compared : Width → (ℕ → ℕ → Bool) → ℕ → ℕ → ℕ
 compared w t a b = cond (t a b) (2 ^ bits w - 1) 0
@@ -92,13 +86,6 @@ mask_of h lanes = mask_l (map (top h) lanes) % 2 ^ 64
 
 mask_is : (h n : ℕ) (a : List ℕ) → length a ≡ n → n ≤ 64 → mask_of h a ≡ mask_l (map (top h) a)
 mask_is h n a long few = mask_l-mod (map (top h) a) 64 (omega (arith, length-map a (top h), long))
-
--- where no lane passes p, no bit is set
-empty_mask : {X : Type 0} (p : X → Bool) (xs : List X) (d : X) → ((k : ℕ) → k < length xs → p (get_or xs k d) ≡ false) → mask_l (map p xs) ≡ 0
-empty_mask p [] d h = refl
-empty_mask p (x ∷ xs) d h =
-    let first : cond {A = ℕ} (p x) 1 0 ≡ 0 = ap (λ b. cond b 1 0) (h 0 (omega arith)) in
-    omega (arith, first, empty_mask p xs d (λ k l. h (suc k) (omega arith)))
 
 -- of n lanes, the first at which t holds is r, or there is none and r is n
 pub record IsFirstSet (n r : ℕ) (t : ℕ → Bool) : Type 0 where
@@ -123,12 +110,6 @@ module _ (h : ℕ) {n : ℕ} {a : List ℕ} {f : ℕ → ℕ} (lanes : HasLanes 
   pub first_none : mask_of h a ≡ 0 → IsFirstSet n n (λ k. top h (f k))
   first_none none = first_set n (sym (leading_from_mask_l (top h) a (sym (mask_is h n a lanes.long few) ∙ none) ∙ lanes.long))
 
-  -- and where it isn't, its `trailing_zeros()`
-  pub first_lowest : 0 < mask_of h a → IsFirstSet n (count_trailing_zeros 64 (mask_of h a)) (λ k. top h (f k))
-  first_lowest some =
-      let is = mask_is h n a lanes.long few in
-      first_set _ (ap (count_trailing_zeros 64) is ∙ trailing_mask_l (top h) 64 a (omega (arith, lanes.long)) (omega (arith, is)))
-
   -- no bit is set
   pub no_bit : mask_of h a ≡ 0 → (k : ℕ) → k < n → top h (f k) ≡ false
   no_bit none = (first_none none).before
@@ -143,18 +124,6 @@ module _ (h : ℕ) {n : ℕ} {a : List ℕ} {f : ℕ → ℕ} (lanes : HasLanes 
   -- the same, where what is asked of a lane says P
   pub not_any_is : (P : ℕ → Type 0) → ((k : ℕ) → k < n → (top h (f k) ≡ false) ↔ P k) → IsTrue (not (not (eqb (mask_of h a) 0))) ↔ ((k : ℕ) → k < n → P k)
   not_any_is P t = (λ e k l. (t k l).0 (not_any.0 e k l), λ p. not_any.1 (λ k l. (t k l).1 (p k l)))
-
--- ---- one lane
--- `v != 0`
-pub zero_lane : (x : ℕ) → (top 7 (compared w8 (λ a b. not (eqb a b)) x 0) ≡ false) ↔ (x ≡ 0)
-zero_lane x = (λ h. eqb-true x 0 (not-false _ (sym (top_compared w8 _) ∙ h)), λ e. top_compared w8 _ ∙ not_from_true _ (eq-eqb x 0 e))
-
--- `a.saturating_sub(b)`: the greater of the two, less b
-pub above_lane : (x floor : ℕ) → x < 2 ^ 8 → floor < 2 ^ 8 → (cond (top 7 (compared w8 ltb x floor)) floor x + (2 ^ 8 - floor)) % 2 ^ 8 ≡ x - floor
-above_lane x floor l m = rw (top_compared w8 (ltb x floor)) (elim (cases_lt x floor) [
-  | inl p ↦ rw (lt-ltb x floor p) (omega arith)
-  | inr p ↦ rw (le-ltb x floor p) (omega arith)
-])
 
 -- ---- a store of which only the first lanes count
 -- the first so many lanes of one vector, and behind them those of another

@@ -21,7 +21,7 @@ bitmask_is : (w : Width) (n bound : ℕ) (lanes : List ℕ) → length lanes ≡
 bitmask_is w n bound lanes long few = ap (λ m. m % 2 ^ 64) (others_is w n bound lanes long) ∙ mask_l-mod (map (leb bound) lanes) 64 (omega (arith, length-map lanes (leb bound)))
 
 -- where no lane passes p, no bit is set
-empty_mask : {X : Type 0} (p : X → Bool) (xs : List X) (d : X) → ((k : ℕ) → k < length xs → p (get_or xs k d) ≡ false) → mask_l (map p xs) ≡ 0
+pub empty_mask : {X : Type 0} (p : X → Bool) (xs : List X) (d : X) → ((k : ℕ) → k < length xs → p (get_or xs k d) ≡ false) → mask_l (map p xs) ≡ 0
 empty_mask p [] d h = refl
 empty_mask p (x ∷ xs) d h =
     let first : cond {A = ℕ} (p x) 1 0 ≡ 0 = ap (λ b. cond b 1 0) (h 0 (omega arith)) in

@@ -1,5 +1,5 @@
 -- UTF-16 of a text by its bytes, and writing it front by front.
-use Rattle.std.proofs.Common.{◌≡◌, ℕ, zero, suc, ◌+◌, ◌-◌, ◌*◌, ◌/◌, ◌%◌, ◌<◌, ◌≤◌, ◌≢◌, inl, inr, Bool, true, false, ◌&&◌, cond, if◌then◌else◌, leb, ltb, nat_lt, nat_le, List, [], ◌∷◌, ◌++◌, map, length, take, drop, get_or, replicate, encode_utf8, encode_utf8_all, refl, sym, ap, ◌∙◌, arith, subst, append_assoc, take-add}
+use Rattle.std.proofs.Common.{◌≡◌, ℕ, zero, suc, ◌+◌, ◌-◌, ◌*◌, ◌/◌, ◌%◌, ◌<◌, ◌≤◌, inl, inr, true, false, ◌&&◌, if◌then◌else◌, leb, ltb, List, [], ◌∷◌, ◌++◌, length, take, drop, get_or, replicate, encode_utf8, encode_utf8_all, refl, sym, ap, ◌∙◌, arith, subst, take-add}
 use lib.Utf8.{scalar, scalar_cases}
 use Rattle.std.specs.Char.{IsScalar}
 use Rattle.std.specs.Char.Escape.{encode_utf16}
@@ -10,7 +10,7 @@ use Rattle.std.proofs.Math.Seq.{drop-cons, take-append-add}
 use Rattle.std.proofs.lemmas.Bool.{cond-true, cond-false, cases_lt, lt-leb, le-leb, lt-ltb, le-ltb, and_parts, and_from}
 use Rattle.std.proofs.lemmas.Grind.{flat_map-append}
 use Rattle.std.proofs.lemmas.List.{append-nil, length-append, length-drop, length-take, length-take-le, take-append-drop, take_at, take_all, take_rest, take-take, drop_at, drop_all, drop-drop, get_or_append_left}
-use Rattle.std.proofs.lemmas.Str.{IsUtf8-take, IsUtf8-drop, IsUtf8-nil, IsUtf8-from_ascii, IsCharBoundary-after_ascii, encodes-IsAscii, encodes_same, encodes-append, chars_from_encodes, length-encode, len_utf8_bounds}
+use Rattle.std.proofs.lemmas.Str.{IsUtf8-take, IsUtf8-drop, IsUtf8-from_ascii, IsCharBoundary-after_ascii, encodes-IsAscii, encodes_same, encodes-append, chars_from_encodes, length-encode, len_utf8_bounds}
 use borrow.Rule.Slice.PartMut.{put_mid}
 use Rattle.encoding_text.specs.Sequence.{IsSequence}
 use Rattle.encoding_text.specs.Fronts.{WritesFront}
@@ -316,9 +316,6 @@ pub record Putting (src old new : List ℕ) (read written : ℕ) : Type 0 where
   pub counted : written ≡ length (flat_map encode_utf16 done)
   pub placed : take written new ≡ flat_map encode_utf16 done
   pub behind : drop (units_in src) new ≡ drop (units_in src) old
-
-pub putting_none : (src old : List ℕ) → IsUtf8 src → Putting src old old 0 0
-putting_none src old u = record { done = []; are_scalars = refl; within = omega arith; spelled = refl; rest = u; due = omega arith; shorter = omega arith; counted = refl; placed = refl; behind = refl }
 
 pub putting_more : (src old new sub : List ℕ) (read written n k : ℕ) → written ≤ length new → Putting src old new read written
     → PutsText (drop read src) (take (length new - written) (drop written new)) sub n k (units_in (drop read src)) → Putting src old (put_mid written (length new - written) new sub) (read + n) (written + k)
