@@ -26,6 +26,8 @@ mod latin1_rows;
 #[cfg(test)]
 mod mixed_text;
 #[cfg(test)]
+mod stride_walks;
+#[cfg(test)]
 mod surrogate_rows;
 #[cfg(test)]
 mod table_rows;
