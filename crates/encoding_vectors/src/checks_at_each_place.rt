@@ -1,10 +1,9 @@
 //! Checks of bytes and texts beside plain loops: one sequence among others of one kind at each place, over
 //! each length, seen from each of sixteen places on.
 
-use encoding_text::ascii::{ascii_valid_up_to, validate_ascii};
 use encoding_text::mem::{
-    Latin1Bidi, check_str_for_latin1_and_bidi, check_utf8_for_latin1_and_bidi, is_ascii,
-    is_str_bidi, is_str_latin1, is_utf8_bidi, is_utf8_latin1, str_latin1_up_to, utf8_latin1_up_to,
+    Latin1Bidi, check_str_for_latin1_and_bidi, check_utf8_for_latin1_and_bidi, is_str_bidi,
+    is_str_latin1, is_utf8_bidi, is_utf8_latin1, str_latin1_up_to, utf8_latin1_up_to,
 };
 use encoding_text::utf_8::utf8_valid_up_to;
 use test_support::right_to_left::is_in_a_range;
@@ -44,15 +43,10 @@ fn class_of(is_latin1: bool, is_bidi: bool) -> Latin1Bidi {
     }
 }
 
-/// Whether the calls on fronts of bytes agree with plain loops.
+/// Whether the calls on Latin1 fronts of bytes agree with a plain loop.
 fn fronts_agree(src: &[u8]) -> bool {
-    let ascii = src.iter().take_while(|byte| **byte < 0x80).count();
     let latin1 = latin1_front(src);
-    ascii_valid_up_to(src) == ascii
-        && validate_ascii(src) == src.get(ascii).map(|byte| (*byte, ascii))
-        && is_ascii(src) == (ascii == src.len())
-        && utf8_latin1_up_to(src) == latin1
-        && is_utf8_latin1(src) == (latin1 == src.len())
+    utf8_latin1_up_to(src) == latin1 && is_utf8_latin1(src) == (latin1 == src.len())
 }
 
 /// Whether the calls on UTF-8 agree with std and a loop over its characters.

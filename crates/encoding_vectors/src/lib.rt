@@ -16,8 +16,6 @@ mod borrowed_rows;
 #[cfg(test)]
 mod checks_at_each_place;
 #[cfg(test)]
-mod copies_at_each_place;
-#[cfg(test)]
 mod decoder_parts;
 #[cfg(test)]
 mod decoder_rows;
