@@ -14,6 +14,8 @@ mod borrowed_call_rows;
 #[cfg(test)]
 mod borrowed_rows;
 #[cfg(test)]
+mod checks_at_each_place;
+#[cfg(test)]
 mod decoder_parts;
 #[cfg(test)]
 mod decoder_rows;
@@ -37,5 +39,7 @@ mod text_destination_rows;
 mod to_utf16_rows;
 #[cfg(test)]
 mod unchanged_tails;
+#[cfg(test)]
+mod units_at_each_place;
 #[cfg(test)]
 mod utf16_rows;
