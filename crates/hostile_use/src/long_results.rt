@@ -37,26 +37,37 @@ fn is_encoded(alloc: Global, bytes: &[u8]) -> Result<bool, AllocError> {
     }
 }
 
-/// Returns so many letters, and so many bytes of all kinds, from 00 to FF over and over.
-fn mixed(alloc: Global, letters: usize, others: usize) -> Result<Vec<u8>, AllocError> {
+/// Returns so many letters, and so many other bytes, from the first one up to FF and from 00 again.
+fn mixed(
+    alloc: Global,
+    letters: usize,
+    first: usize,
+    others: usize,
+) -> Result<Vec<u8>, AllocError> {
     let mut bytes = Vec::new(alloc);
     for _ in 0..letters {
         bytes.push(0x61)?;
     }
     for other in 0..others {
-        bytes.push((other & 0xFF) as u8)?;
+        bytes.push((first.wrapping_add(other) & 0xFF) as u8)?;
     }
     Ok(bytes)
 }
 
-/// The room is a byte for each in the ASCII front, and two for each behind it.
+/// Letters, others and the first of them, and the capacity: a byte for each in the ASCII front, two for each behind it.
 #[test]
 fn one_growth_for_long_results(rt: HostRuntime) -> Result<(), Fail> {
-    let mut bytes = mixed(rt.alloc(), 100, 0)?;
-    bytes.push(0xE4)?;
-    assert!(rt; is_decoded(rt.alloc(), &bytes, 102)? && is_encoded(rt.alloc(), &bytes)?);
-    let bytes = mixed(rt.alloc(), 0, 5000)?;
-    assert!(rt; is_decoded(rt.alloc(), &bytes, 128 + 2 * 4872)? && is_encoded(rt.alloc(), &bytes)?);
+    for (letters, others, first, capacity) in [
+        (100, 1, 0xE4, 102),
+        (1500, 100, 0x80, 1700),
+        (0, 5000, 0, 128 + 2 * 4872),
+    ] {
+        let bytes = mixed(rt.alloc(), letters, first, others)?;
+        assert!(rt;
+            is_decoded(rt.alloc(), &bytes, capacity)? && is_encoded(rt.alloc(), &bytes)?,
+            "{letters}, {others}"
+        );
+    }
     Ok(())
 }
 
@@ -78,19 +89,17 @@ fn leaves_a_block(alloc: Global, bytes: &[u8], length: usize) -> Result<bool, Al
     Ok(decoded == Err(AllocError) && encoded == Err(AllocError) && again.is_ok() && other.is_err())
 }
 
-/// The block is shorter than what the calls ask for, and longer than the ASCII front. With memory again the same call
-/// succeeds.
+/// The block is shorter than what the calls ask for, and longer than the ASCII front. With memory again they succeed.
 #[test]
 fn a_refusal_leaves_the_memory(rt: HostRuntime) -> Result<(), Fail> {
-    let bytes = mixed(rt.alloc(), 0, 5000)?;
-    for _ in 0..3 {
-        assert!(rt; leaves_a_block(rt.alloc(), &bytes, 2000)?);
-        assert!(rt;
-            is_decoded(rt.alloc(), &bytes, 128 + 2 * 4872)? && is_encoded(rt.alloc(), &bytes)?
-        );
+    for (letters, others, first, length) in [(0, 5000, 0, 2000), (1500, 100, 0x80, 1600)] {
+        let bytes = mixed(rt.alloc(), letters, first, others)?;
+        for _ in 0..3 {
+            assert!(rt;
+                leaves_a_block(rt.alloc(), &bytes, length)? && is_encoded(rt.alloc(), &bytes)?,
+                "{letters}, {others}"
+            );
+        }
     }
-    let mut bytes = mixed(rt.alloc(), 1500, 0)?;
-    bytes.extend_from_slice(&[0xE4; 100])?;
-    assert!(rt; leaves_a_block(rt.alloc(), &bytes, 1600)?);
     Ok(())
 }
