@@ -147,3 +147,10 @@ ends_mask v one end long h few =
     let size : length (ends_behind 0 v) ≡ 16 = length-ends 0 v ∙ long in
     let mask : mask_l (map (top 7) (end_lanes v one)) % 2 ^ 64 ≡ mask_l (ends_behind 0 v) = ap (λ ms. mask_l ms % 2 ^ 64) marks ∙ mask_l-mod (ends_behind 0 v) 64 (omega (arith, size)) in
     (λ i. bit_and (mask i) (one_shl end 64 (omega arith) i - 1)) ∙ mask_front (ends_behind 0 v) (16 - end) end (omega (arith, size))
+
+-- ---- every third byte
+pub picked_lanes : (v ks : List ℕ) → length ks ≡ 8 → HasLanes 8 (pick_l 0 v ks) (λ k. get_or v (get_or ks k 0) 0)
+picked_lanes v ks long = record { long = length-map ks (λ j. get_or v j 0) ∙ long; each = λ k l. get_or-map (λ j. get_or v j 0) ks k 0 0 (omega (arith, long)) }
+
+pub triple_lane : (a b d : ℕ) → (a * 0x1000 % 2 ^ 16 + (bit_and b 63 * 64 % 2 ^ 16 + bit_and d 63) % 2 ^ 16) % 2 ^ 16 ≡ a % 16 * 4096 + low_bits b d
+triple_lane a b d = let e : a * 4096 % 65536 ≡ a % 16 * 4096 = omega arith in ap (λ n. (a * 0x1000 % 2 ^ 16 + n) % 2 ^ 16) (low_lane b d) ∙ omega arith

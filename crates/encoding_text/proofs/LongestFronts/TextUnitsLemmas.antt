@@ -5,19 +5,23 @@ use Rattle.std.specs.Char.{IsScalar}
 use Rattle.std.specs.Char.Escape.{encode_utf16}
 use Rattle.std.specs.Str.{all_scalars, IsUtf8, IsCharBoundary, IsAscii, chars}
 use Rattle.std.specs.List.{flat_map}
+use Rattle.std.specs.Simd.Lanes.{put_chunk}
 use Rattle.std.proofs.str.Laws.{one, two, three, four, scalars-append}
 use Rattle.std.proofs.Math.Seq.{drop-cons, take-append-add}
 use Rattle.std.proofs.lemmas.Bool.{cond-true, cond-false, cases_lt, lt-leb, le-leb, lt-ltb, le-ltb, and_parts, and_from}
-use Rattle.std.proofs.lemmas.Grind.{flat_map-append}
-use Rattle.std.proofs.lemmas.List.{append-nil, length-append, length-drop, length-take, length-take-le, take-append-drop, take_at, take_all, take_rest, take-take, drop_at, drop_all, drop-drop, get_or_append_left}
+use Rattle.std.proofs.lemmas.Grind.{flat_map-append, same_number_lists}
+use Rattle.std.proofs.lemmas.Simd.{put_chunk_is}
+use Rattle.std.proofs.lemmas.List.{append-nil, length-append, length-drop, length-take, length-take-le, take-append-drop, take_at, take_all, take_rest, take-take, drop_at, drop_all, drop-drop, get_or-drop, get_or-take, get_or_append_left, take-append-le}
 use Rattle.std.proofs.lemmas.Str.{IsUtf8-take, IsUtf8-drop, IsUtf8-nil, IsUtf8-from_ascii, IsCharBoundary-after_ascii, encodes-IsAscii, encodes_same, encodes-append, chars_from_encodes, length-encode, len_utf8_bounds}
 use borrow.Rule.Slice.PartMut.{put_mid}
 use Rattle.encoding_text.specs.Sequence.{IsSequence}
 use Rattle.encoding_text.specs.Fronts.{WritesFront}
 use Rattle.encoding_text.specs.Steps.Strides.{AllBelow, BelowUpTo}
-use Rattle.encoding_text.specs.Steps.Units.{keep, ends_unit, low_bits, unit_at, units_behind, ends_behind, units_in, PutsKept, PutsText}
+use Rattle.encoding_text.specs.Steps.Lanes.{HasLanes}
+use Rattle.encoding_text.specs.Steps.Units.{BeginsThree, keep, ends_unit, low_bits, triple_unit, unit_at, units_behind, ends_behind, units_in, PutsKept, PutsText}
 use Rattle.encoding_text.proofs.Sequences.EncodingLemmas.{IsSequence-encode, length-encode_utf16-utf8}
 use Rattle.encoding_text.proofs.Lanes.KeptLemmas.{keep_pad}
+use Rattle.encoding_text.proofs.LongestFronts.FrontsLemmas.{WritesFront-nil}
 use Rattle.encoding_text.proofs.LongestFronts.FittingLemmas.{written_is}
 use Rattle.encoding_text.proofs.LongestFronts.ConvertingLemmas.{encodes_one}
 use Rattle.encoding_text.proofs.Calls.RoomLemmas.{length-utf16}
@@ -194,10 +198,127 @@ puts_ascii src old new n u some within h w =
       behind = ap (drop n) w.placed ∙ drop_at bs (drop n old) n (sym w.count);
     }
 
--- sixteen ASCII bytes begin a front that isn't empty
-pub front_some : (src : List ℕ) (n : ℕ) → ((k : ℕ) → k < 16 → get_or src k 0 < 0x80) → (AllBelow 0x80 src n 16 → ⊥) → 0 < n
-front_some src zero h stops = absurd (stops (λ k l m. h k (omega arith)))
-front_some src (suc n) h stops = omega arith
+-- ---- characters of three bytes
+record Triple (src : List ℕ) : Type 0 where
+  scalar_value : ℕ
+  is_scalar : IsScalar scalar_value
+  small : scalar_value < 65536
+  spelled : encode_utf8 scalar_value ≡ take 3 src
+  within : 3 ≤ length src
+  rest : IsUtf8 (drop 3 src)
+  value : scalar_value ≡ triple_unit (get_or src 0 0) (get_or src 1 0) (get_or src 2 0)
+
+one_triple : (src : List ℕ) → IsUtf8 src → BeginsThree (get_or src 0 0) → Triple src
+one_triple src ([], (h, e)) b = absurd (omega (arith, ap (λ xs. get_or xs 0 0) e, b))
+one_triple src (c ∷ cs, (h, e)) b =
+    let parts = and_parts (scalar c) (all_scalars cs) h in
+    let rest = encode_utf8_all cs in
+    elim (cases_lt c 128) [
+      | inl p ↦ absurd (omega (arith, ap (λ xs. get_or xs 0 0) (ap (λ x. x ++ rest) (sym (one c p)) ∙ e), b))
+      | inr p ↦ elim (cases_lt c 2048) [
+        | inl q ↦ absurd (omega (arith, ap (λ xs. get_or xs 0 0) (ap (λ x. x ++ rest) (sym (two c p q)) ∙ e), b))
+        | inr q ↦ elim (cases_lt c 65536) [
+          | inl r ↦
+              let whole = ap (λ x. x ++ rest) (sym (three c q r)) ∙ e in
+              let size : length (encode_utf8 c) ≡ 3 = ap length (three c q r) in
+              let first : 224 + c / 4096 ≡ get_or src 0 0 = ap (λ xs. get_or xs 0 0) whole in
+              let second : 128 + c / 64 % 64 ≡ get_or src 1 0 = ap (λ xs. get_or xs 1 0) whole in
+              let third : 128 + c % 64 ≡ get_or src 2 0 = ap (λ xs. get_or xs 2 0) whole in
+              record {
+                scalar_value = c;
+                is_scalar = parts.0;
+                small = r;
+                spelled = sym (ap (take 3) (sym e) ∙ take_at (encode_utf8 c) rest 3 size);
+                within = omega (arith, ap length e, length-append (encode_utf8 c) rest, size);
+                rest = subst IsUtf8 (sym (ap (drop 3) (sym e) ∙ drop_at (encode_utf8 c) rest 3 size)) (cs, (parts.1, refl));
+                value = value_is c q r ∙ (λ i. triple_unit (first i) (second i) (third i));
+              }
+          | inr r ↦ absurd (omega (arith, ap (λ xs. get_or xs 0 0) (ap (λ x. x ++ rest) (sym (four c r)) ∙ e), b))
+        ]
+      ]
+    ]
+  where
+    value_is : (c : ℕ) → 2048 ≤ c → c < 65536 → c ≡ triple_unit (224 + c / 4096) (128 + c / 64 % 64) (128 + c % 64)
+    value_is c q r = omega arith
+
+record Triples (n : ℕ) (src : List ℕ) : Type 0 where
+  scalars_of : List ℕ
+  are_scalars : all_scalars scalars_of ≡ true
+  long : length scalars_of ≡ n
+  within : 3 * n ≤ length src
+  spelled : encode_utf8_all scalars_of ≡ take (3 * n) src
+  rest : IsUtf8 (drop (3 * n) src)
+  units : flat_map encode_utf16 scalars_of ≡ scalars_of
+  values : (k : ℕ) → k < n → get_or scalars_of k 0 ≡ triple_unit (get_or src (3 * k) 0) (get_or src (3 * k + 1) 0) (get_or src (3 * k + 2) 0)
+
+triples : (n : ℕ) (src : List ℕ) → IsUtf8 src → ((k : ℕ) → k < n → BeginsThree (get_or src (3 * k) 0)) → Triples n src
+triples zero src u b = record { scalars_of = []; are_scalars = refl; long = refl; within = omega arith; spelled = refl; rest = u; units = refl; values = λ k l. absurd (omega arith) }
+triples (suc n) src u b =
+    let t = one_triple src u (b 0 (omega arith)) in
+    let at = λ (m k : ℕ) (e : 3 + k ≡ m). get_or-drop 3 src k 0 ∙ ap (λ j. get_or src j 0) e in
+    let r = triples n (drop 3 src) t.rest (λ k l. subst BeginsThree (sym (at (3 * suc k) (3 * k) (omega arith))) (b (suc k) (omega arith))) in
+    let step : 3 + 3 * n ≡ 3 * suc n = omega arith in
+    let c = t.scalar_value in
+    let cs = r.scalars_of in
+    record {
+      scalars_of = c ∷ cs;
+      are_scalars = and_from _ _ t.is_scalar r.are_scalars;
+      long = ap suc r.long;
+      within = omega (arith, t.within, r.within, length-drop 3 src);
+      spelled = (λ i. t.spelled i ++ r.spelled i) ∙ sym (take-add 3 (3 * n) src) ∙ ap (λ m. take m src) step;
+      rest = subst IsUtf8 (drop-drop (3 * n) 3 src ∙ ap (λ m. drop m src) step) r.rest;
+      units = λ i. one_unit c t.small i ++ r.units i;
+      values = values c cs t.value (λ k l. r.values k l ∙ (λ i. triple_unit (at (3 * suc k) (3 * k) (omega arith) i) (at (3 * suc k + 1) (3 * k + 1) (omega arith) i) (at (3 * suc k + 2) (3 * k + 2) (omega arith) i)));
+    }
+  where
+    values : (c : ℕ) (cs : List ℕ) → c ≡ triple_unit (get_or src 0 0) (get_or src 1 0) (get_or src 2 0)
+        → ((k : ℕ) → k < n → get_or cs k 0 ≡ triple_unit (get_or src (3 * suc k) 0) (get_or src (3 * suc k + 1) 0) (get_or src (3 * suc k + 2) 0))
+        → (k : ℕ) → k < suc n → get_or (c ∷ cs) k 0 ≡ triple_unit (get_or src (3 * k) 0) (get_or src (3 * k + 1) 0) (get_or src (3 * k + 2) 0)
+    values c cs first more zero l = first
+    values c cs first more (suc k) l = more k (omega arith)
+
+abbrev pub triple_lanes : List ℕ → ℕ → ℕ
+triple_lanes v k = triple_unit (get_or v (get_or (0 ∷ 3 ∷ 6 ∷ 9 ∷ 12 ∷ 12 ∷ 12 ∷ 12 ∷ []) k 0) 0) (get_or v (get_or (1 ∷ 4 ∷ 7 ∷ 10 ∷ 13 ∷ 13 ∷ 13 ∷ 13 ∷ []) k 0) 0) (get_or v (get_or (2 ∷ 5 ∷ 8 ∷ 11 ∷ 14 ∷ 14 ∷ 14 ∷ 14 ∷ []) k 0) 0)
+
+-- of five in a block
+lanes_in : (v : List ℕ) (k : ℕ) → k < 5 → triple_lanes v k ≡ triple_unit (get_or v (3 * k) 0) (get_or v (3 * k + 1) 0) (get_or v (3 * k + 2) 0)
+lanes_in v zero l = refl
+lanes_in v (suc zero) l = refl
+lanes_in v (suc (suc zero)) l = refl
+lanes_in v (suc (suc (suc zero))) l = refl
+lanes_in v (suc (suc (suc (suc zero)))) l = refl
+lanes_in v (suc (suc (suc (suc (suc k))))) l = absurd (omega arith)
+
+pub five_begin : (src : List ℕ) → BeginsThree (get_or src 0 0) → BeginsThree (get_or src 3 0) → BeginsThree (get_or src 6 0) → BeginsThree (get_or src 9 0) → BeginsThree (get_or src 12 0)
+    → (k : ℕ) → k < 5 → BeginsThree (get_or src (3 * k) 0)
+five_begin src a b c d e zero l = a
+five_begin src a b c d e (suc zero) l = b
+five_begin src a b c d e (suc (suc zero)) l = c
+five_begin src a b c d e (suc (suc (suc zero))) l = d
+five_begin src a b c d e (suc (suc (suc (suc zero)))) l = e
+five_begin src a b c d e (suc (suc (suc (suc (suc k))))) l = absurd (omega arith)
+
+pub puts_triples : (src old r : List ℕ) → IsUtf8 src → 16 ≤ length src → 8 ≤ length old → ((k : ℕ) → k < 5 → BeginsThree (get_or src (3 * k) 0)) → HasLanes 8 r (triple_lanes (take 16 src))
+    → PutsText src old (put_chunk 0 old r) 15 5 8
+puts_triples src old r u long room b h =
+    let t = triples 5 src u b in
+    let put : put_chunk 0 old r ≡ r ++ drop 8 old = put_chunk_is 0 old r (omega (arith, h.long, room)) ∙ ap (λ n. r ++ drop n old) h.long in
+    let in_block = λ (k : ℕ) (l : k < 16). get_or-take 16 src k 0 l in
+    let front : take 5 r ≡ t.scalars_of = same_number_lists (take 5 r) t.scalars_of (omega (arith, length-take 5 r, h.long, t.long)) (λ k l.
+    let in_five : k < 5 = omega (arith, length-take 5 r) in
+    get_or-take 5 r k 0 in_five ∙ h.each k (omega arith) ∙ lanes_in (take 16 src) k in_five
+    ∙ (λ i. triple_unit (in_block (3 * k) (omega arith) i) (in_block (3 * k + 1) (omega arith) i) (in_block (3 * k + 2) (omega arith) i)) ∙ sym (t.values k in_five)) in
+    record {
+      taken = t.scalars_of;
+      are_scalars = t.are_scalars;
+      some = omega arith;
+      within = t.within;
+      spelled = t.spelled;
+      rest = t.rest;
+      counted = sym (ap length t.units ∙ t.long);
+      placed = ap (take 5) put ∙ take-append-le 5 r (drop 8 old) (omega (arith, h.long)) ∙ front ∙ sym t.units;
+      behind = ap (drop 8) put ∙ drop_at r (drop 8 old) 8 h.long;
+    }
 
 -- ---- a character
 pub record Begins (src : List ℕ) (n : ℕ) : Type 0 where
@@ -303,6 +424,21 @@ due_block src old new n k later u l p =
 
 pub due_exact : (src old new : List ℕ) (n k : ℕ) → IsUtf8 src → PutsText src old new n k k → PutsText src old new n k (units_in src)
 due_exact src old new n k u p = reaches src old new n k k (units_in src) (omega (arith, units_split src old new n k k u p)) p
+
+-- the front of the strides, where the first bytes are ASCII
+pub due_ascii : (src old new : List ℕ) (n m : ℕ) → IsUtf8 src → m ≤ length src → length src ≤ length old → AllBelow 0x80 src 0 m → n ≤ length src
+    → (BelowUpTo 0x80 src 0 → BelowUpTo 0x80 src n) → ((first : List ℕ) → WritesFront first old 0 [] → WritesFront first new n (take n src))
+    → (n + m ≤ length src → n + m ≤ length old → AllBelow 0x80 src n m → ⊥) → PutsText src old new n n (units_in src)
+due_ascii src old new n m u long room first within ascii copied stops =
+    let some : 0 < n = elim (cases_lt 0 n) [
+      | inl p ↦ p
+      | inr p ↦ let e : 0 ≡ n = omega arith in absurd (stops (omega arith) (omega arith) (subst (λ k. AllBelow 0x80 src k m) e first))
+    ] in
+    due_exact src old new n n u (puts_ascii src old new n u some within (ascii (λ k l. absurd (omega arith))) (copied old (WritesFront-nil old)))
+
+-- of five characters of three bytes eight places are due where three bytes more follow each of three
+pub due_triples : (src old new : List ℕ) → IsUtf8 src → 24 ≤ length src → PutsText src old new 15 5 8 → PutsText src old new 15 5 (units_in src)
+due_triples src old new u l p = due_block src old new 15 5 5 u (omega arith) p
 
 -- ---- as far as a loop has come
 pub record Putting (src old new : List ℕ) (read written : ℕ) : Type 0 where

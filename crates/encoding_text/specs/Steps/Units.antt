@@ -63,6 +63,14 @@ unfoldable pub ends_behind : ℕ → List ℕ → List Bool
 ends_behind a [] = []
 ends_behind a (b ∷ bs) = ends_unit a b ∷ ends_behind b bs
 
+-- a character of three bytes begins with the byte, where one begins
+abbrev pub BeginsThree : ℕ → Type 0
+BeginsThree b = (0xE0 ≤ b) × (b < 0xF0)
+
+-- the unit of three bytes
+abbrev pub triple_unit : ℕ → ℕ → ℕ → ℕ
+triple_unit a b c = a % 16 * 4096 + low_bits b c
+
 -- ---- text
 -- how many code units the text has
 unfoldable pub units_in : List ℕ → ℕ

@@ -3,7 +3,7 @@
 //!
 //! What a block stores behind its own code units is overwritten by those of the bytes that follow, since these have at
 //! least a third as many: a block is stored only where so many places are still due.
-ghost use Rattle.std.specs.Prelude.{◌≡◌, ℕ, ◌+◌, ◌-◌, ◌/◌, ◌<◌, ◌≤◌, ◌∷◌, ◌^◌, Bool, false, List, ◌++◌, length, take, drop, replicate, slice_index, IsTrue};
+ghost use Rattle.std.specs.Prelude.{◌≡◌, ℕ, ◌+◌, ◌-◌, ◌/◌, ◌<◌, ◌≤◌, [], ◌∷◌, ◌*◌, ◌^◌, Bool, false, List, ◌++◌, length, take, drop, replicate, slice_index, IsTrue};
 ghost use Rattle.std.specs.List.{flat_map};
 ghost use Rattle.std.specs.Str.{IsUtf8, IsCharBoundary, chars};
 ghost use Rattle.std.specs.Char.Escape.{encode_utf16};
@@ -11,7 +11,8 @@ ghost use Rattle.std.specs.Int.RustNames.{count_ones};
 ghost use Rattle.std.specs.Simd.Lanes.{mask_l};
 ghost use Rattle.encoding_text.specs.Fronts.{WritesFront};
 ghost use Rattle.encoding_text.specs.Steps.Lanes.{HasLanes};
-ghost use Rattle.encoding_text.specs.Steps.Units.{PutsKept, PutsText, ends_behind, low_bits, unit_lane, units_behind, units_in};
+ghost use Rattle.encoding_text.specs.Steps.Strides.{AllBelow};
+ghost use Rattle.encoding_text.specs.Steps.Units.{BeginsThree, PutsKept, PutsText, ends_behind, low_bits, triple_unit, unit_lane, units_behind, units_in};
 
 use crate::sequence::{is_continuation, sequence_length};
 use crate::strides::widen_ascii;
@@ -24,9 +25,6 @@ use std::simd::prelude::*;
 const LAST: [u8; 16] = [
     255, 255, 255, 255, 255, 255, 255, 255, 255, 255, 255, 255, 255, 0xEF, 0xDF, 0xBF,
 ];
-
-/// Where five characters of three bytes end.
-const TRIPLES: usize = 0x4924;
 
 /// The bytes one place before, with a zero before the first.
 #[inline(always)]
@@ -199,12 +197,94 @@ fn put_block(src: &[u8], end: usize, kept: usize, dst: &mut [u16]) -> usize
     put_kept(code_units(u8x16::from_slice(src)), kept, dst)
 }
 
+/// Whether the first bytes, so many, are ASCII.
+#[inline(always)]
+fn begins_ascii<const N: usize>(src: &[u8]) -> bool
+    requires { (N ≤ length src.now) × (N ≤ 64) }
+    ensures { IsTrue result → AllBelow 0x80 src.now 0 N }
+{
+    !Simd::<u8, N>::from_slice(src)
+        .simd_ge(Simd::splat(0x80))
+        .any()
+}
+
+/// Whether a character of three bytes begins with the byte.
+#[inline(always)]
+fn begins_three(byte: u8) -> bool
+    ensures { IsTrue result → BeginsThree byte }
+{
+    byte >= 0xE0 && byte < 0xF0
+}
+
+/// Whether the text begins with five characters of three bytes.
+#[inline(always)]
+fn begins_triples(src: &[u8]) -> bool
+    requires { 16 ≤ length src.now }
+    ensures { IsTrue result → (k : ℕ) → k < 5 → BeginsThree (slice_index src.now (3 * k)) }
+{
+    begins_three(src[0])
+        && begins_three(src[3])
+        && begins_three(src[6])
+        && begins_three(src[9])
+        && begins_three(src[12])
+}
+
+/// Every third byte from the first on.
+#[inline(always)]
+fn first_bytes(block: u8x16) -> u8x8
+    ensures { HasLanes 8 result (λ k. slice_index block (slice_index (0 ∷ 3 ∷ 6 ∷ 9 ∷ 12 ∷ 12 ∷ 12 ∷ 12 ∷ []) k)) }
+{
+    block.swizzle::<8>([0, 3, 6, 9, 12, 12, 12, 12])
+}
+
+/// Every third byte from the second on.
+#[inline(always)]
+fn second_bytes(block: u8x16) -> u8x8
+    ensures { HasLanes 8 result (λ k. slice_index block (slice_index (1 ∷ 4 ∷ 7 ∷ 10 ∷ 13 ∷ 13 ∷ 13 ∷ 13 ∷ []) k)) }
+{
+    block.swizzle::<8>([1, 4, 7, 10, 13, 13, 13, 13])
+}
+
+/// Every third byte from the third on.
+#[inline(always)]
+fn third_bytes(block: u8x16) -> u8x8
+    ensures { HasLanes 8 result (λ k. slice_index block (slice_index (2 ∷ 5 ∷ 8 ∷ 11 ∷ 14 ∷ 14 ∷ 14 ∷ 14 ∷ []) k)) }
+{
+    block.swizzle::<8>([2, 5, 8, 11, 14, 14, 14, 14])
+}
+
+/// The code units of five characters of three bytes, and three more lanes.
+#[inline(always)]
+fn triple_units(block: u8x16) -> u16x8
+    ensures { HasLanes 8 result (λ k. triple_unit
+        (slice_index block (slice_index (0 ∷ 3 ∷ 6 ∷ 9 ∷ 12 ∷ 12 ∷ 12 ∷ 12 ∷ []) k))
+        (slice_index block (slice_index (1 ∷ 4 ∷ 7 ∷ 10 ∷ 13 ∷ 13 ∷ 13 ∷ 13 ∷ []) k))
+        (slice_index block (slice_index (2 ∷ 5 ∷ 8 ∷ 11 ∷ 14 ∷ 14 ∷ 14 ∷ 14 ∷ []) k))) }
+{
+    let six = u16x8::splat(0x3F);
+    let first = first_bytes(block).cast::<u16>();
+    let second = second_bytes(block).cast::<u16>();
+    let third = third_bytes(block).cast::<u16>();
+    first * u16x8::splat(0x1000) + ((second & six) * u16x8::splat(64) + (third & six))
+}
+
+/// Writes the UTF-16 of the first five characters, of three bytes each.
+#[inline(always)]
+fn put_triples(src: &[u8], dst: &mut [u16])
+    requires room { (16 ≤ length src.now) × (8 ≤ length dst.old) }
+    requires text { IsUtf8 src.now }
+    requires triples { (k : ℕ) → k < 5 → BeginsThree (slice_index src.now (3 * k)) }
+    ensures { PutsText src.now dst.old dst.new 15 5 8 }
+{
+    triple_units(u8x16::from_slice(src)).copy_to_slice(dst);
+}
+
 /// Whether eight places are due behind the first half of a block: for the second half, and a third of the bytes left.
 #[inline(always)]
 fn is_due(kept: usize, left: usize) -> bool
     ensures { IsTrue result → 8 ≤ count_ones (kept / 2 ^ 8) + left / 3 }
 {
-    (kept >> 8).count_ones() as usize + left / 3 >= 8
+    left >= 24 || (kept >> 8).count_ones() as usize + left / 3 >= 8
 }
 
 /// Writes the UTF-16 of the first character, and returns how many bytes and code units these are.
@@ -230,23 +310,26 @@ fn put_some(src: &[u8], dst: &mut [u16]) -> (usize, usize)
     requires text { IsUtf8 src.now }
     ensures { PutsText src.now dst.old dst.new result.0 result.1 (units_in src.now) }
 {
-    if src.len() >= 16 && is_below(u8x16::from_slice(src), 0x80) {
+    if src.len() >= 16 && begins_ascii::<16>(src) {
         let front = widen_ascii::<16>(src, dst, 0);
         return (front, front);
     }
+    if src.len() >= 24 && begins_triples(src) {
+        put_triples(src, dst);
+        return (15, 5);
+    }
     if src.len() > 16 {
-        let block = u8x16::from_slice(src);
-        let triples = unit_ends(block, 15);
-        if triples == TRIPLES && !is_continuation(src[15]) && is_due(triples, src.len() - 15) {
-            return (15, put_block(src, 15, triples, dst));
-        }
         let end = whole_end(src);
         if end > 0 {
-            let kept = unit_ends(block, end);
+            let kept = unit_ends(u8x16::from_slice(src), end);
             if is_due(kept, src.len() - end) {
                 return (end, put_block(src, end, kept, dst));
             }
         }
+    }
+    if src.len() >= 8 && begins_ascii::<8>(src) {
+        let front = widen_ascii::<8>(src, dst, 0);
+        return (front, front);
     }
     put_character(src, dst)
 }
