@@ -107,22 +107,13 @@ fn before_cut_character(bytes: &[u8], at: usize) -> usize
     if bytes[at - 1] >= LEADS { at - 1 } else { at }
 }
 
-/// How far the bytes are Latin1 in UTF-8, by whole blocks behind an ASCII front.
-#[inline(always)]
-pub(super) fn latin1_front(bytes: &[u8]) -> usize
+/// How far the bytes are Latin1 in UTF-8, by whole blocks behind a front. Out of line: most other text ends before it.
+#[inline(never)]
+fn latin1_blocks(bytes: &[u8], from: usize) -> usize
+    requires { (0 < from) × (from ≤ length bytes.now) × FitLatin1 bytes.now 0 from }
     ensures { (result ≤ length bytes.now) × IsUtf8Latin1 (take result bytes.now) }
 {
-    if bytes.is_empty() || bytes[0] >= BEYOND_LATIN1 {
-        return 0;
-    }
-    let front = front_below(bytes, ASCII_END);
-    if front == bytes.len() {
-        return front;
-    }
-    if !is_latin1_lead(bytes[front]) {
-        return front;
-    }
-    let mut at = front + 1;
+    let mut at = from;
     while bytes.len() - at >= BLOCK && fit_latin1::<BLOCK>(bytes, at) {
         at += BLOCK;
     }
@@ -138,6 +129,24 @@ pub(super) fn latin1_front(bytes: &[u8]) -> usize
         return before_cut_character(bytes, bytes.len());
     }
     before_cut_character(bytes, at)
+}
+
+/// How far the bytes are Latin1 in UTF-8, by an ASCII front and whole blocks.
+#[inline(always)]
+pub(super) fn latin1_front(bytes: &[u8]) -> usize
+    ensures { (result ≤ length bytes.now) × IsUtf8Latin1 (take result bytes.now) }
+{
+    if bytes.is_empty() || bytes[0] >= BEYOND_LATIN1 {
+        return 0;
+    }
+    let front = front_below(bytes, ASCII_END);
+    if front == bytes.len() {
+        return front;
+    }
+    if !is_latin1_lead(bytes[front]) {
+        return front;
+    }
+    latin1_blocks(bytes, front + 1)
 }
 
 /// Whether a Latin1 character of two bytes begins with the byte.

@@ -1,6 +1,5 @@
-use Rattle.std.proofs.Common.{◌+◌, ◌-◌, length, arith, refl, subst}
-use Rattle.encoding_text.specs.Steps.Pairs.{FitLatin1}
-use Rattle.encoding_text.proofs.Lanes.PairsLemmas.{ascii_latin1, latin1_joined}
+use Rattle.std.proofs.Common.{arith, refl}
+use Rattle.encoding_text.proofs.Lanes.PairsLemmas.{ascii_latin1, lead_fits}
 use Rattle.encoding_text.proofs.mem.pair_blocks.latin1_front.Goals as goal
 
 pub returns-then-front-bytes : goal.returns-then-front-bytes
@@ -13,9 +12,7 @@ returns-then-not-is_latin1_lead c =
     let run = c.front_below-front.ensures in
     (run.within, ascii_latin1 c.args.bytes.now c.front_below-front.result run.within run.below)
 
-pub before_cut_character-requires-then-fit_latin1-2 : goal.before_cut_character-requires-then-fit_latin1-2
-before_cut_character-requires-then-fit_latin1-2 c =
-    let bs = c.args.bytes.now in
-    let last = length bs - c.min.result in
-    let block = subst (FitLatin1 bs last) {x = last + 16} {y = length bs} (omega (arith, c.min.ensures)) (c.if-fit_latin1-2.ensures refl) in
-    (omega arith, omega arith, latin1_joined bs 0 c.loop-at-2.at last (length bs) c.loop-at-2.invariant.fit block (omega arith))
+pub latin1_blocks-requires : goal.latin1_blocks-requires
+latin1_blocks-requires c =
+    let lead = c.if-not-is_latin1_lead.ensures refl in
+    (omega arith, omega (arith, c.front_below-front.ensures.within), lead_fits c.args.bytes.now c.front_below-front.result c.front_below-front.ensures.below lead.0 lead.1)

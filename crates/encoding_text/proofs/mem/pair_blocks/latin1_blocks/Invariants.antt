@@ -1,6 +1,6 @@
 use Rattle.std.proofs.Common.{◌-◌, ◌<◌, ◌≤◌, length}
 use Rattle.encoding_text.specs.Steps.Pairs.{FitLatin1}
-use Rattle.encoding_text.proofs.mem.pair_blocks.latin1_front.Given as goal
+use Rattle.encoding_text.proofs.mem.pair_blocks.latin1_blocks.Given as goal
 
 abbrev pub invariant-loop-at : goal.invariant-loop-at
 invariant-loop-at l = record {

@@ -1,0 +1,11 @@
+use Rattle.std.proofs.Common.{◌+◌, ◌-◌, length, arith, refl, subst}
+use Rattle.encoding_text.specs.Steps.Pairs.{FitLatin1}
+use Rattle.encoding_text.proofs.Lanes.PairsLemmas.{latin1_joined}
+use Rattle.encoding_text.proofs.mem.pair_blocks.latin1_blocks.Goals as goal
+
+pub before_cut_character-requires-then-fit_latin1-2 : goal.before_cut_character-requires-then-fit_latin1-2
+before_cut_character-requires-then-fit_latin1-2 c =
+    let bs = c.args.bytes.now in
+    let last = length bs - c.min.result in
+    let block = subst (FitLatin1 bs last) {x = last + 16} {y = length bs} (omega (arith, c.min.ensures)) (c.if-fit_latin1-2.ensures refl) in
+    (omega arith, omega arith, latin1_joined bs 0 c.loop-at-2.at last (length bs) c.loop-at-2.invariant.fit block (omega arith))
