@@ -4,4 +4,5 @@ pub mod Utf8Lemmas
 pub mod ConvertingLemmas
 pub mod ToUtf16Lemmas
 pub mod TextUnitsLemmas
+pub mod TextLoopLemmas
 pub mod ClearingLemmas

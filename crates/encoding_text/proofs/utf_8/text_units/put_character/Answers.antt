@@ -1,5 +1,5 @@
 use Rattle.std.proofs.Common.{length, length-take-le, sym}
-use Rattle.encoding_text.proofs.LongestFronts.TextUnitsLemmas.{first_character, puts_character, character_fits}
+use Rattle.encoding_text.proofs.LongestFronts.TextLoopLemmas.{first_character, puts_character, character_fits}
 use Rattle.encoding_text.proofs.utf_8.text_units.put_character.Goals as goal
 
 pub slice_bounds-scalar_of_sequence-end : goal.slice_bounds-scalar_of_sequence-end

@@ -1,6 +1,6 @@
 use Rattle.std.proofs.Common.{◌/◌, ◌^◌, refl}
 use Rattle.std.specs.Int.RustNames.{count_ones}
-use Rattle.encoding_text.proofs.LongestFronts.TextUnitsLemmas.{due_ascii, due_block, due_exact, due_triples}
+use Rattle.encoding_text.proofs.LongestFronts.TextLoopLemmas.{due_ascii, due_block, due_exact, due_triples}
 use Rattle.encoding_text.proofs.utf_8.text_units.put_some.Goals as goal
 
 pub returns-then-begins_ascii : goal.returns-then-begins_ascii

@@ -1,6 +1,6 @@
 use Rattle.std.proofs.Common.{arith}
 use Rattle.std.proofs.lemmas.List.{take_rest}
-use Rattle.encoding_text.proofs.LongestFronts.TextUnitsLemmas.{putting_more, putting_all}
+use Rattle.encoding_text.proofs.LongestFronts.TextLoopLemmas.{putting_more, putting_all}
 use Rattle.encoding_text.proofs.utf_8.text_units.write_text.Goals as goal
 
 pub loop-read-preserved : goal.loop-read-preserved

@@ -1,5 +1,5 @@
 use Rattle.std.proofs.Common.{◌-◌, length}
-use Rattle.encoding_text.proofs.LongestFronts.TextUnitsLemmas.{Putting}
+use Rattle.encoding_text.proofs.LongestFronts.TextLoopLemmas.{Putting}
 use Rattle.encoding_text.proofs.utf_8.text_units.write_text.Given as goal
 
 abbrev pub invariant-loop-read : goal.invariant-loop-read
