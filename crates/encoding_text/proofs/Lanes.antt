@@ -8,3 +8,4 @@ pub mod PairsLemmas
 pub mod KeptLemmas
 pub mod UnitLanesLemmas
 pub mod LongLemmas
+pub mod EndsLemmas

@@ -29,7 +29,7 @@ kept_long at (false ∷ bs) = omega (arith, kept_long (at + 2) bs, ones-mask_l_c
 kept_long at (true ∷ bs) = omega (arith, kept_long (at + 2) bs, ones-mask_l_cons true bs)
 
 -- ---- what stands at them
-kept_step : (get : ℕ → ℕ) (at : ℕ) (b : Bool) (ks spelled rest : List ℕ) → cond b (get at ∷ get (at + 1) ∷ []) (get at ∷ []) ≡ spelled → map get ks ≡ rest
+pub kept_step : (get : ℕ → ℕ) (at : ℕ) (b : Bool) (ks spelled rest : List ℕ) → cond b (get at ∷ get (at + 1) ∷ []) (get at ∷ []) ≡ spelled → map get ks ≡ rest
     → map get (cond b (at ∷ (at + 1) ∷ []) (at ∷ []) ++ ks) ≡ spelled ++ rest
 kept_step get at false ks spelled rest e r = ap (λ xs. get at ∷ xs) r ∙ ap (λ xs. xs ++ rest) e
 kept_step get at true ks spelled rest e r = ap (λ xs. get at ∷ get (at + 1) ∷ xs) r ∙ ap (λ xs. xs ++ rest) e
@@ -46,7 +46,7 @@ kept_spell get (u ∷ us) at h =
     kept_step get at (nat_le 0x80 u) _ _ _ here (kept_spell get us (at + 2) more)
 
 -- places looked up in a vector
-looked_up : (bytes places : List ℕ) → length places ≡ 16 → ((k : ℕ) → k < 16 → get_or places k 0 < 16) → swz_l w8 16 bytes 0 places ≡ map (λ j. get_or bytes j 0) places
+pub looked_up : (bytes places : List ℕ) → length places ≡ 16 → ((k : ℕ) → k < 16 → get_or places k 0 < 16) → swz_l w8 16 bytes 0 places ≡ map (λ j. get_or bytes j 0) places
 looked_up bytes places long small =
     let lanes = HasLanes-swizzle bytes (HasLanes-itself 16 places long) small in
     same_number_lists (swz_l w8 16 bytes 0 places) (map (λ j. get_or bytes j 0) places) (omega (arith, lanes.long, length-map places (λ j. get_or bytes j 0))) (λ k l.

@@ -1,19 +1,23 @@
 -- Conversions from and to Latin1: the longest fitting front of bytes, and the bits of characters.
-use Rattle.std.proofs.Common.{◌≡◌, ℕ, zero, suc, ◌+◌, ◌-◌, ◌*◌, ◌/◌, ◌%◌, ◌<◌, ◌≤◌, inl, inr, List, [], ◌∷◌, ◌++◌, length, take, drop, take-add, set, slice_index, map, bit_and, bit_or, encode_utf8, encode_utf8_all, IsUtf8, refl, sym, ap, ◌∙◌, arith, subst}
+use Rattle.std.proofs.Common.{◌≡◌, ℕ, zero, suc, ◌+◌, ◌-◌, ◌*◌, ◌/◌, ◌%◌, ◌<◌, ◌≤◌, ◌⊎◌, inl, inr, List, [], ◌∷◌, ◌++◌, length, take, drop, take-add, set, slice_index, map, bit_and, bit_or, encode_utf8, encode_utf8_all, IsUtf8, refl, sym, ap, ◌∙◌, arith, subst}
 use Rattle.std.specs.List.{flat_map}
 use Rattle.std.specs.Str.{chars, IsAscii}
 use Rattle.std.proofs.str.Laws.{two}
 use Rattle.std.proofs.lemmas.Bool.{cases_lt}
 use Rattle.std.proofs.lemmas.Grind.{common_steps}
-use Rattle.std.proofs.lemmas.List.{append-nil, length-append, length-drop, length-take, length-take-le, get_or-drop, take_all, take_more, take_rest, drop_more, take-append-drop, map_more}
+use Rattle.std.proofs.lemmas.List.{append-nil, length-append, length-drop, length-take, length-take-le, get_or-drop, get_or-take, get_or_past, drop-drop, take_all, take_more, take_rest, drop_more, take-append-drop, map_more}
 use Rattle.std.proofs.lemmas.Str.{encodes-append, encode_ascii, encodes-IsAscii, chars-IsAscii, chars-append, IsUtf8-from_ascii}
 use borrow.Rule.Slice.PartMut.{put_mid}
 use Rattle.encoding_text.proofs.Sequences.EncodingLemmas.{flat_map-encode_utf8}
 use Rattle.encoding_text.specs.Fronts.{FitsLongest, WritesFront}
 use Rattle.encoding_text.specs.Latin1.{IsLatin1, IsUtf8Latin1}
 use Rattle.encoding_text.specs.Steps.Strides.{BelowUpTo}
+use Rattle.encoding_text.specs.Steps.Spelling.{all_ended}
+use Rattle.std.specs.Simd.Lanes.{chunk}
+use Rattle.std.proofs.lemmas.Simd.{length-chunk}
+use Rattle.encoding_text.proofs.Latin.EndedLemmas.{GoesOnWith, NextIs, Splits, nexts, splits, ended_without}
 use Rattle.encoding_text.proofs.Latin.AsciiLemmas.{Each-take}
-use Rattle.encoding_text.proofs.LongestFronts.FrontsLemmas.{FitsLongest-stop, FitsLongest-all, WritesFront_push, WritesFront_after, WritesFront-same}
+use Rattle.encoding_text.proofs.LongestFronts.FrontsLemmas.{FitsLongest-stop, FitsLongest-all, WritesFront_push, WritesFront_after, WritesFront_put, WritesFront-same}
 use Rattle.encoding_text.proofs.Latin.Latin1Lemmas.{IsLatin1-behind, next_of_one, split_front, scalars_of_latin1}
 
 -- ---- fitting
@@ -182,3 +186,59 @@ module _ (src cs old new sub : List ℕ) (i j n : ℕ) (low : IsLatin1 cs) (rest
   run_written h =
       WritesFront-same _ _ _ _ _ _ (WritesFront_after old new j (take j cs) sub n _ w v) refl
       (ap (λ xs. take j cs ++ take n xs) (take_rest src i) ∙ ap (λ xs. take j cs ++ xs) (ascii_part h).1 ∙ sym (take-add j n cs))
+
+-- ---- blocks of sixteen bytes of Latin1 text
+-- no two bytes that begin two stand side by side
+pub begins_apart : (src cs : List ℕ) (i j : ℕ) → IsLatin1 cs → drop i src ≡ encode_utf8_all (drop j cs) → i + 16 ≤ length src
+    → (k : ℕ) → (slice_index (chunk i 16 src) k < 0xC0) ⊎ (slice_index (chunk i 16 src) (k + 1) < 0xC0)
+begins_apart src cs i j low rest room k = elim (cases_lt k 15) [
+  | inr h ↦ inr (omega (arith, get_or_past (chunk i 16 src) (k + 1) 0 (omega (arith, length-chunk i 16 src room))))
+  | inl h ↦
+      let behind : IsLatin1 (drop j cs) = λ n. let same = get_or-drop j cs n 0 in omega (arith, same, low (j + n)) in
+      let next : NextIs (slice_index (drop i src) k) (slice_index (drop i src) (suc k)) = subst (λ bs. NextIs (slice_index bs k) (slice_index bs (suc k))) (sym rest) (nexts (drop j cs) behind k) in
+      let here : slice_index (chunk i 16 src) k ≡ slice_index (drop i src) k = get_or-take 16 (drop i src) k 0 (omega arith) in
+      let one : k + 1 ≡ suc k = omega arith in
+      let there : slice_index (chunk i 16 src) (k + 1) ≡ slice_index (drop i src) (suc k) = get_or-take 16 (drop i src) (k + 1) 0 (omega arith) ∙ ap (λ n. slice_index (drop i src) n) one in
+      elim (cases_lt (slice_index (chunk i 16 src) k) 0xC0) [
+        | inl l ↦ inl l
+        | inr l ↦ let last = next.behind_first (omega arith) in inr (omega (arith, there, last.1))
+      ]
+]
+
+module _ (src cs old new after : List ℕ) (i j m k : ℕ) (low : IsLatin1 cs) (rest : drop i src ≡ encode_utf8_all (drop j cs)) (w : WritesFront old new j (take j cs)) (bytes : List ℕ)
+    (ends : take m bytes ≡ all_ended 0 (chunk i 16 src)) (many : m ≤ length bytes) (room : j + m ≤ length new) (put : after ≡ take j new ++ (take m bytes ++ drop (j + m) new)) (inside : i + 16 ≤ length src)
+    (whole : ((k ≡ 15) × (0xC0 ≤ slice_index src (i + 15))) ⊎ ((k ≡ 16) × (slice_index src (i + 15) < 0xC0))) where
+  behind_low : IsLatin1 (drop j cs)
+  behind_low n = let same = get_or-drop j cs n 0 in omega (arith, same, low (j + n))
+
+  last_is : slice_index (encode_utf8_all (drop j cs)) 15 ≡ slice_index src (i + 15)
+  last_is = ap (λ bs. slice_index bs 15) (sym rest) ∙ get_or-drop i src 15 0
+
+  between : GoesOnWith (slice_index (encode_utf8_all (drop j cs)) k) → ⊥
+  between g = elim whole [
+    | inl h ↦ let g15 : GoesOnWith (slice_index (encode_utf8_all (drop j cs)) 15) = subst (λ n. GoesOnWith (slice_index (encode_utf8_all (drop j cs)) n)) h.0 g in omega (arith, last_is, g15.1, h.1)
+    | inr h ↦ let g16 : GoesOnWith (slice_index (encode_utf8_all (drop j cs)) 16) = subst (λ n. GoesOnWith (slice_index (encode_utf8_all (drop j cs)) n)) h.0 g in (nexts (drop j cs) behind_low 15).behind_last (omega (arith, last_is, h.1)) g16
+  ]
+
+  ended_whole : all_ended 0 (take 16 (drop i src)) ≡ all_ended 0 (take k (drop i src))
+  ended_whole = elim whole [
+    | inl h ↦
+        let cut : take 16 (drop i src) ≡ take 15 (drop i src) ++ slice_index (drop i src) 15 ∷ [] = take_more (drop i src) 15 0 (omega (arith, length-drop i src)) in
+        ap (all_ended 0) cut ∙ ended_without (take 15 (drop i src)) 0 (slice_index (drop i src) 15) (omega (arith, get_or-drop i src 15 0, h.1)) ∙ ap (λ n. all_ended 0 (take n (drop i src))) (sym h.0)
+    | inr h ↦ ap (λ n. all_ended 0 (take n (drop i src))) (sym h.0)
+  ]
+
+  parts : (drop k (drop i src) ≡ encode_utf8_all (drop (length (all_ended 0 (take k (drop i src)))) (drop j cs))) × (take (length (all_ended 0 (take k (drop i src)))) (drop j cs) ≡ all_ended 0 (take k (drop i src)))
+  parts = subst (Splits (drop j cs) 0 k) (sym rest) (splits (drop j cs) behind_low 0 k between)
+
+  counted : length (all_ended 0 (take k (drop i src))) ≡ m
+  counted = ap length (sym ended_whole ∙ sym ends) ∙ length-take-le m bytes many
+
+  pub block_rest : drop (i + k) src ≡ encode_utf8_all (drop (j + m) cs)
+  block_rest = sym (drop-drop k i src) ∙ parts.0 ∙ ap (λ n. encode_utf8_all (drop n (drop j cs))) counted ∙ ap encode_utf8_all (drop-drop m j cs)
+
+  pub block_written : WritesFront old after (j + m) (take (j + m) cs)
+  block_written =
+      let part : take m bytes ≡ take m (drop j cs) = ends ∙ ended_whole ∙ sym parts.1 ∙ ap (λ n. take n (drop j cs)) counted in
+      WritesFront-same _ _ _ _ _ _ (WritesFront_put old new after j m (take j cs) (take m bytes) w (sym (length-take-le m bytes many)) room put) refl
+      (ap (λ xs. take j cs ++ xs) part ∙ sym (take-add j m cs))

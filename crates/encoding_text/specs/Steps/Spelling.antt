@@ -1,5 +1,5 @@
 -- Steps of a conversion to UTF-8 by vectors: code units in two bytes each, and which of these are kept.
-use Rattle.std.specs.Prelude.{◌≡◌, ℕ, ◌+◌, ◌≤◌, Bool, nat_le, List, [], ◌∷◌, ◌++◌, if◌then◌else◌, encode_utf8, slice_index}
+use Rattle.std.specs.Prelude.{◌≡◌, ℕ, ◌+◌, ◌*◌, ◌%◌, ◌<◌, ◌⊎◌, ◌&&◌, nat_lt, ◌≤◌, Bool, nat_le, List, [], ◌∷◌, ◌++◌, if◌then◌else◌, encode_utf8, slice_index}
 
 -- of two bytes for each test, from a place on, the first, and the second where the test holds
 abbrev pub kept_places : ℕ → List Bool → List ℕ
@@ -13,3 +13,22 @@ Spells unit x y = (if nat_le 0x80 unit then x ∷ y ∷ [] else x ∷ []) ≡ en
 -- none of the code units is a surrogate
 abbrev pub ArePlain : List ℕ → Type 0
 ArePlain us = (k : ℕ) → (0xD800 ≤ slice_index us k) × (slice_index us k ≤ 0xDFFF) → ⊥
+
+-- the Latin1 byte that the byte x ends as UTF-8 behind p, if it ends one
+abbrev pub ended : ℕ → ℕ → List ℕ
+ended p x = if nat_lt x 0x80 then x ∷ [] else (if nat_lt x 0xC0 then ((p * 64 + x % 64) % 256) ∷ [] else [])
+
+-- the Latin1 bytes that bytes behind p end
+abbrev pub all_ended : ℕ → List ℕ → List ℕ
+all_ended p [] = []
+all_ended p (x ∷ xs) = ended p x ++ all_ended x xs
+
+-- of each pair of bytes, whether both end a byte
+abbrev pub both_end : List ℕ → List Bool
+both_end [] = []
+both_end (a ∷ []) = []
+both_end (a ∷ b ∷ xs) = (nat_lt a 0xC0 && nat_lt b 0xC0) ∷ both_end xs
+
+-- a and b behind p end the bytes x and y, or x alone
+abbrev pub EndsPair : ℕ → ℕ → ℕ → ℕ → ℕ → Type 0
+EndsPair p a b x y = (a < 0xC0) ⊎ (b < 0xC0) → (if nat_lt a 0xC0 && nat_lt b 0xC0 then x ∷ y ∷ [] else x ∷ []) ≡ ended p a ++ ended a b

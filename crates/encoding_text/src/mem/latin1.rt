@@ -1,20 +1,17 @@
 //! Conversions from and to Latin1, in which each byte is the scalar value of its character. Infra Standard: isomorphic
 //! decode and encode.
 
-ghost use Rattle.std.specs.Prelude.{◌*◌, ◌%◌, ◌≤◌, [], ◌∷◌, take, length, map, encode_utf8, encode_utf8_all};
+ghost use Rattle.std.specs.Prelude.{◌≡◌, ◌*◌, ◌%◌, ◌<◌, ◌≤◌, ◌⊎◌, [], ◌∷◌, take, length, map, encode_utf8, encode_utf8_all};
 ghost use Rattle.std.specs.Str.{chars};
 ghost use Rattle.encoding_text.specs.Fronts.{FitsLongest, WritesFront};
 ghost use Rattle.encoding_text.specs.Latin1.{IsUtf8Latin1};
 
 use crate::strides::copy_ascii;
-use crate::utf_8::write_short;
+use crate::utf_8::{latin1_of, put_first, write_short};
 use std::simd::prelude::*;
 
 /// The bytes that a character from U+0080 to U+00FF takes in UTF-8.
 const HIGH_LENGTH: usize = 2;
-
-/// How many characters go one by one before sixteen ASCII bytes are looked for again.
-const SINGLES: usize = 8;
 
 /// Writes each byte as a UTF-16 code unit. `dst` is no shorter than `src`. Behind what is written `dst` is as before.
 pub fn convert_latin1_to_utf16(src: &[u8], dst: &mut [u16])
@@ -88,6 +85,14 @@ pub fn convert_latin1_to_utf8(src: &[u8], dst: &mut [u8]) -> usize
     written
 }
 
+/// How many of sixteen bytes stand before a character that is cut at their end, by the last of them.
+#[inline(always)]
+fn whole_length(last: u8) -> usize
+    ensures { ((result ≡ 15) × (0xC0 ≤ last)) ⊎ ((result ≡ 16) × (last < 0xC0)) }
+{
+    if last < 0xC0 { 16 } else { 15 }
+}
+
 /// Writes the scalar value of each character of Latin1 text in UTF-8 as a byte, and returns how many bytes it wrote.
 /// `dst` is no shorter than `src`. Behind what is written `dst` is as before.
 pub fn convert_utf8_to_latin1_lossy(src: &[u8], dst: &mut [u8]) -> usize
@@ -97,25 +102,28 @@ pub fn convert_utf8_to_latin1_lossy(src: &[u8], dst: &mut [u8]) -> usize
 {
     let mut read = 0;
     let mut written = 0;
-    let mut singles = 0;
-    while read < src.len() {
-        if singles == 0 {
-            let front = copy_ascii::<16>(&src[read..], &mut dst[written..], 0);
+    while src.len() - read >= 16 && dst.len() - written >= 16 {
+        let front = copy_ascii::<16>(&src[read..], &mut dst[written..], 0);
+        if front > 0 {
             read += front;
             written += front;
-            singles = SINGLES;
         } else {
-            let byte = src[read];
-            if byte < 0x80 {
-                dst[written] = byte;
-                read += 1;
-            } else {
-                dst[written] = (byte << 6) | (src[read + 1] & 0x3F);
-                read += 2;
-            }
-            written += 1;
-            singles -= 1;
+            let (bytes, count) = latin1_of(u8x16::from_slice(&src[read..]));
+            put_first(dst, written, bytes, count);
+            written += count;
+            read += whole_length(src[read + 15]);
         }
+    }
+    while read < src.len() {
+        let byte = src[read];
+        if byte < 0x80 {
+            dst[written] = byte;
+            read += 1;
+        } else {
+            dst[written] = (byte << 6) | (src[read + 1] & 0x3F);
+            read += 2;
+        }
+        written += 1;
     }
     written
 }

@@ -65,7 +65,7 @@ fn put_both(dst: &mut [u8], at: usize, first: u8x16, count: usize, second: u8x16
 
 /// Writes the first bytes of a vector, so many. Behind them `dst` is as before, though sixteen bytes are stored.
 #[inline(always)]
-fn put_first(dst: &mut [u8], at: usize, bytes: u8x16, count: usize)
+pub(crate) fn put_first(dst: &mut [u8], at: usize, bytes: u8x16, count: usize)
     requires room { at + 16 ≤ length dst.old }
     requires bytes { (count ≤ 16) × (length bytes ≡ 16) }
     ensures { dst.new ≡ take at dst.old ++ (take count bytes ++ drop (at + count) dst.old) }
