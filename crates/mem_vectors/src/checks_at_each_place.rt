@@ -153,3 +153,29 @@ fn among_longer_characters(rt: HostRuntime) {
         );
     }
 }
+
+/// Whether the calls on UTF-8 agree, with the sequence at a place of a long text that begins with U+00E4.
+fn agree_in_long_text(place: usize, sequence: &[u8]) -> bool {
+    let mut text = [b'a'; 8300];
+    text[0] = 0xC3;
+    text[1] = 0xA4;
+    if let Some(part) = text.get_mut(place..place.saturating_add(sequence.len())) {
+        part.copy_from_slice(sequence);
+    }
+    texts_agree(&text)
+}
+
+/// Where a text is validated piece by piece.
+#[test]
+fn over_the_seam_of_pieces(rt: HostRuntime) {
+    for place in 4088..4100 {
+        for text in "\u{5D0} \u{6F22} \u{202B} \u{1F600} \u{10800}".split(' ') {
+            assert!(rt;
+                agree_in_long_text(place, text.as_bytes()),
+                "{text}, {place}"
+            );
+        }
+        assert!(rt; agree_in_long_text(place, &[0xE6, 0xBC]), "{place}");
+        assert!(rt; agree_in_long_text(place, &[0xFF]), "{place}");
+    }
+}

@@ -170,7 +170,7 @@ pub(super) fn units_below(units: &[u16], bound: u16) -> usize
     skip_units_below::<1>(units, by_strides, bound)
 }
 
-/// Whether none of the N code units from `at` on is right-to-left. It isn't, either, where one is between two of them.
+/// Whether none of the N code units from `at` on is right-to-left, by four ranges that hold those and some more.
 #[inline(always)]
 fn are_units_clear<const N: usize>(units: &[u16], at: usize) -> bool
     requires { (at + N ≤ length units.now) × (N ≤ 64) }
