@@ -1,4 +1,4 @@
-use Rattle.std.proofs.Common.{inl, inr, refl}
+use Rattle.std.proofs.Common.{inr, refl}
 use Rattle.encoding_text.proofs.Blocks.LaneLemmas.{high_places, low_places, lanes_follow, lanes_long}
 use Rattle.encoding_text.proofs.utf_8.blocks.faults_of_32.Goals as goal
 
