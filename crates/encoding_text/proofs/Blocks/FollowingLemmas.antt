@@ -121,13 +121,13 @@ moved {x} {y} {a} {b} {x2} {y2} {a2} {b2} p q r s f =
     subst (λ k. Follows k y2 a2 b2) p (subst (λ k. Follows x k a2 b2) q (subst (λ k. Follows x y k b2) r (subst (Follows x y a) s f)))
 
 -- lanes of four loads
-pub FollowsAt-loads : (bs : List ℕ) (at i : ℕ) → 3 ≤ at → i < 16 → Follows (get_or (chunk (at - 3) 16 bs) i 0) (get_or (chunk (at - 2) 16 bs) i 0) (get_or (chunk (at - 1) 16 bs) i 0) (get_or (chunk at 16 bs) i 0)
+pub FollowsAt-loads : (n : ℕ) (bs : List ℕ) (at i : ℕ) → 3 ≤ at → i < n → Follows (get_or (chunk (at - 3) n bs) i 0) (get_or (chunk (at - 2) n bs) i 0) (get_or (chunk (at - 1) n bs) i 0) (get_or (chunk at n bs) i 0)
     → FollowsAt bs (at + i)
-FollowsAt-loads bs at i h l f =
-    let x : get_or (chunk (at - 3) 16 bs) i 0 ≡ get_or (0 ∷ 0 ∷ 0 ∷ bs) (at + i) 0 = get_or-chunk (at - 3) 16 bs i 0 l ∙ ap (λ k. get_or bs k 0) (omega arith) ∙ sym (three_before bs (at + i) (omega arith)) in
-    let y : get_or (chunk (at - 2) 16 bs) i 0 ≡ get_or (0 ∷ 0 ∷ bs) (at + i) 0 = get_or-chunk (at - 2) 16 bs i 0 l ∙ ap (λ k. get_or bs k 0) (omega arith) ∙ sym (two_before bs (at + i) (omega arith)) in
-    let a : get_or (chunk (at - 1) 16 bs) i 0 ≡ get_or (0 ∷ bs) (at + i) 0 = get_or-chunk (at - 1) 16 bs i 0 l ∙ ap (λ k. get_or bs k 0) (omega arith) ∙ sym (one_before bs (at + i) (omega arith)) in
-    let b : get_or (chunk at 16 bs) i 0 ≡ get_or bs (at + i) 0 = get_or-chunk at 16 bs i 0 l in
+FollowsAt-loads n bs at i h l f =
+    let x : get_or (chunk (at - 3) n bs) i 0 ≡ get_or (0 ∷ 0 ∷ 0 ∷ bs) (at + i) 0 = get_or-chunk (at - 3) n bs i 0 l ∙ ap (λ k. get_or bs k 0) (omega arith) ∙ sym (three_before bs (at + i) (omega arith)) in
+    let y : get_or (chunk (at - 2) n bs) i 0 ≡ get_or (0 ∷ 0 ∷ bs) (at + i) 0 = get_or-chunk (at - 2) n bs i 0 l ∙ ap (λ k. get_or bs k 0) (omega arith) ∙ sym (two_before bs (at + i) (omega arith)) in
+    let a : get_or (chunk (at - 1) n bs) i 0 ≡ get_or (0 ∷ bs) (at + i) 0 = get_or-chunk (at - 1) n bs i 0 l ∙ ap (λ k. get_or bs k 0) (omega arith) ∙ sym (one_before bs (at + i) (omega arith)) in
+    let b : get_or (chunk at n bs) i 0 ≡ get_or bs (at + i) 0 = get_or-chunk at n bs i 0 l in
     moved x y a b f
 
 -- lanes of a first load, with zeros before it
@@ -176,17 +176,11 @@ FollowTo-more bs at n front more = record {
 pub FollowTo-over : (bs : List ℕ) (at from n : ℕ) → from ≤ at → FollowTo bs at → ((i : ℕ) → i < n → FollowsAt bs (from + i)) → FollowTo bs (from + n)
 FollowTo-over bs at from n h front more = FollowTo-more bs from n (record { each = λ i l. front.each i (omega arith) }) more
 
--- four blocks
-pub follows_four : (bs : List ℕ) (at : ℕ) → ((i : ℕ) → i < 16 → FollowsAt bs (at + i)) → ((i : ℕ) → i < 16 → FollowsAt bs (at + 16 + i))
-    → ((i : ℕ) → i < 16 → FollowsAt bs (at + 32 + i)) → ((i : ℕ) → i < 16 → FollowsAt bs (at + 48 + i)) → FollowTo bs at → FollowTo bs (at + 64)
-follows_four bs at a b c d front =
-    let e : at + 16 + 16 ≡ at + 32 = omega arith in
-    let f : at + 32 + 16 ≡ at + 48 = omega arith in
-    let g : at + 48 + 16 ≡ at + 64 = omega arith in
-    let one = FollowTo-more bs at 16 front a in
-    let two = subst (FollowTo bs) e (FollowTo-more bs (at + 16) 16 one b) in
-    let three = subst (FollowTo bs) f (FollowTo-more bs (at + 32) 16 two c) in
-    subst (FollowTo bs) g (FollowTo-more bs (at + 48) 16 three d)
+-- two blocks
+pub follows_two : (bs : List ℕ) (at : ℕ) → ((i : ℕ) → i < 32 → FollowsAt bs (at + i)) → ((i : ℕ) → i < 32 → FollowsAt bs (at + 32 + i)) → FollowTo bs at → FollowTo bs (at + 64)
+follows_two bs at a b front =
+    let e : at + 32 + 32 ≡ at + 64 = omega arith in
+    subst (FollowTo bs) e (FollowTo-more bs (at + 32) 32 (FollowTo-more bs at 32 front a) b)
 
 pub FollowTo-none : (bs : List ℕ) → FollowTo bs 0
 FollowTo-none bs = record { each = λ i l. absurd (omega arith) }

@@ -8,16 +8,23 @@ ghost use Rattle.encoding_text.specs.Steps.Strides.{BelowUpTo};
 use crate::strides::{ASCII_END, are_bytes_below, skip_bytes_below};
 use std::simd::prelude::*;
 
-/// The faults that the upper half of the byte before leaves open, a bit each.
-const FIRST_HIGH: [u8; 16] = [2, 2, 2, 2, 2, 2, 2, 2, 128, 128, 128, 128, 33, 1, 21, 73];
+/// The faults that the upper half of the byte before leaves open, a bit each; twice, once for each sixteen lanes.
+const FIRST_HIGH: [u8; 32] = [
+    2, 2, 2, 2, 2, 2, 2, 2, 128, 128, 128, 128, 33, 1, 21, 73, 2, 2, 2, 2, 2, 2, 2, 2, 128, 128,
+    128, 128, 33, 1, 21, 73,
+];
 
 /// The faults that its lower half leaves open.
-const FIRST_LOW: [u8; 16] = [
-    231, 163, 131, 131, 139, 203, 203, 203, 203, 203, 203, 203, 203, 219, 203, 203,
+const FIRST_LOW: [u8; 32] = [
+    231, 163, 131, 131, 139, 203, 203, 203, 203, 203, 203, 203, 203, 219, 203, 203, 231, 163, 131,
+    131, 139, 203, 203, 203, 203, 203, 203, 203, 203, 219, 203, 203,
 ];
 
 /// The faults that the upper half of the byte itself leaves open.
-const SECOND_HIGH: [u8; 16] = [1, 1, 1, 1, 1, 1, 1, 1, 230, 174, 186, 186, 1, 1, 1, 1];
+const SECOND_HIGH: [u8; 32] = [
+    1, 1, 1, 1, 1, 1, 1, 1, 230, 174, 186, 186, 1, 1, 1, 1, 1, 1, 1, 1, 1, 1, 1, 1, 230, 174, 186,
+    186, 1, 1, 1, 1,
+];
 
 /// Zero in each lane whose byte may stand behind the three before it.
 #[inline(always)]
@@ -27,12 +34,28 @@ fn faults_of(fourth: u8x16, third: u8x16, second: u8x16, block: u8x16) -> u8x16
         → Follows (slice_index fourth i) (slice_index third i) (slice_index second i) (slice_index block i) }
 {
     let four = u8x16::splat(4);
-    let pairs = u8x16::from_array(FIRST_HIGH).swizzle_dyn(second >> four)
-        & u8x16::from_array(FIRST_LOW).swizzle_dyn(second & u8x16::splat(15))
-        & u8x16::from_array(SECOND_HIGH).swizzle_dyn(block >> four);
+    let pairs = u8x16::from_slice(&FIRST_HIGH).swizzle_dyn(second >> four)
+        & u8x16::from_slice(&FIRST_LOW).swizzle_dyn(second & u8x16::splat(15))
+        & u8x16::from_slice(&SECOND_HIGH).swizzle_dyn(block >> four);
     let goes_on = third.saturating_sub(u8x16::splat(0x60))
         | fourth.saturating_sub(u8x16::splat(0x70));
     (goes_on & u8x16::splat(0x80)) ^ pairs
+}
+
+/// The same in twice as many lanes.
+#[inline(always)]
+fn faults_of_32(fourth: u8x32, third: u8x32, second: u8x32, block: u8x32) -> u8x32
+    ensures length { length result ≡ 32 }
+    ensures lanes { (i : ℕ) → i < 32 → slice_index result i ≡ 0
+        → Follows (slice_index fourth i) (slice_index third i) (slice_index second i) (slice_index block i) }
+{
+    let four = u8x32::splat(4);
+    let pairs = u8x32::from_slice(&FIRST_HIGH).swizzle_dyn_within::<16>(second >> four)
+        & u8x32::from_slice(&FIRST_LOW).swizzle_dyn_within::<16>(second & u8x32::splat(15))
+        & u8x32::from_slice(&SECOND_HIGH).swizzle_dyn_within::<16>(block >> four);
+    let goes_on = third.saturating_sub(u8x32::splat(0x60))
+        | fourth.saturating_sub(u8x32::splat(0x70));
+    (goes_on & u8x32::splat(0x80)) ^ pairs
 }
 
 /// Zero in each lane whose byte, of the sixteen from `at` on, may stand behind the three before it.
@@ -47,6 +70,21 @@ fn faults(src: &[u8], at: usize) -> u8x16
         u8x16::from_slice(&src[at - 2..]),
         u8x16::from_slice(&src[at - 1..]),
         u8x16::from_slice(&src[at..]),
+    )
+}
+
+/// The same of the 32 bytes from `at` on.
+#[inline(always)]
+fn faults_32(src: &[u8], at: usize) -> u8x32
+    requires { (3 ≤ at) × (at + 32 ≤ length src.now) }
+    ensures length { length result ≡ 32 }
+    ensures lanes { (i : ℕ) → i < 32 → slice_index result i ≡ 0 → FollowsAt src.now (at + i) }
+{
+    faults_of_32(
+        u8x32::from_slice(&src[at - 3..]),
+        u8x32::from_slice(&src[at - 2..]),
+        u8x32::from_slice(&src[at - 1..]),
+        u8x32::from_slice(&src[at..]),
     )
 }
 
@@ -84,10 +122,10 @@ fn first_faults(src: &[u8]) -> u8x16
 
 /// Whether each lane is zero.
 #[inline(always)]
-fn is_zero(lanes: u8x16) -> bool
-    ensures { IsTrue result → IsZeroTo lanes 16 }
+fn is_zero(lanes: u8x32) -> bool
+    ensures { IsTrue result → IsZeroTo lanes 32 }
 {
-    lanes.simd_ne(u8x16::splat(0)).to_bitmask() == 0
+    lanes.simd_ne(u8x32::splat(0)).to_bitmask() == 0
 }
 
 /// How many lanes stand before the first that isn't zero.
@@ -110,8 +148,7 @@ fn is_clean_64(src: &[u8], at: usize) -> bool
     requires { (3 ≤ at) × (at + 64 ≤ length src.now) }
     ensures { IsTrue result → FollowTo src.now at → FollowTo src.now (at + 64) }
 {
-    let front = faults(src, at) | faults(src, at + 16);
-    is_zero(front | (faults(src, at + 32) | faults(src, at + 48)))
+    is_zero(faults_32(src, at) | faults_32(src, at + 32))
 }
 
 /// `at`, or the beginning of the character that is cut before it.
