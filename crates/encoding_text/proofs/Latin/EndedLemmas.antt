@@ -1,10 +1,9 @@
 -- Latin1 text in UTF-8 byte by byte: where characters begin, and which byte of Latin1 each byte ends.
-use Rattle.std.proofs.Common.{◌≡◌, ℕ, zero, suc, ◌+◌, ◌*◌, ◌/◌, ◌%◌, ◌<◌, ◌≤◌, ◌⊎◌, inl, inr, Bool, cond, ◌&&◌, List, [], ◌∷◌, ◌++◌, map, length, take, drop, get_or, encode_utf8, encode_utf8_all, refl, sym, ap, ◌∙◌, arith, subst, append_assoc}
+use Rattle.std.proofs.Common.{◌≡◌, ℕ, zero, suc, ◌+◌, ◌*◌, ◌/◌, ◌%◌, ◌<◌, ◌≤◌, inl, inr, cond, ◌&&◌, List, [], ◌∷◌, ◌++◌, map, length, take, drop, get_or, encode_utf8_all, refl, sym, ap, ◌∙◌, arith, subst, append_assoc}
 use Rattle.std.specs.Prelude.{nat_lt}
 use Rattle.std.proofs.str.Laws.{two}
 use Rattle.std.proofs.lemmas.Bool.{cases_lt}
 use Rattle.std.proofs.lemmas.Bool.Decides.{nat_tests}
-use Rattle.std.proofs.lemmas.List.{append-nil}
 use Rattle.std.proofs.lemmas.Str.{encode_ascii}
 use Rattle.encoding_text.specs.Latin1.{IsLatin1}
 use Rattle.encoding_text.specs.Steps.Spelling.{ended, all_ended, both_end, kept_places}

@@ -1,4 +1,3 @@
-use Rattle.std.proofs.Common.{arith}
 use Rattle.encoding_text.proofs.Lanes.EndsLemmas.{mask_ends, mask_small}
 use Rattle.encoding_text.proofs.utf_8.latin1_ends.mask_of_ends.Goals as goal
 
