@@ -86,11 +86,12 @@ fn leaves_a_block(alloc: Global, bytes: &[u8], length: usize) -> Result<bool, Al
     let again = Vec::<u8>::with_capacity(alloc, length);
     let other = Vec::<u8>::with_capacity(alloc, 1);
     drop(held);
-    Ok(decoded == Err(AllocError) && encoded == Err(AllocError) && again.is_ok() && other.is_err())
+    let refused = decoded == Err(AllocError) && encoded == Err(AllocError);
+    Ok(refused && again.is_ok() && other.is_err())
 }
 
-/// Letters, others and the first of them, the block, and the capacity. The block is shorter than what the calls ask for,
-/// and longer than the ASCII front. With memory again both succeed.
+/// Letters, others and the first of them, the block, and the capacity. The block is shorter than what the calls ask
+/// for, and longer than the ASCII front. With memory again both succeed.
 #[test]
 fn a_refusal_leaves_the_memory(rt: HostRuntime) -> Result<(), Fail> {
     for (letters, others, first, length, capacity) in [
