@@ -86,19 +86,24 @@ fn leaves_a_block(alloc: Global, bytes: &[u8], length: usize) -> Result<bool, Al
     let again = Vec::<u8>::with_capacity(alloc, length);
     let other = Vec::<u8>::with_capacity(alloc, 1);
     drop(held);
-    Ok(decoded == Err(AllocError) && encoded == Err(AllocError) && again.is_ok() && other.is_err())
+    let refused = decoded == Err(AllocError) && encoded == Err(AllocError);
+    Ok(refused && again.is_ok() && other.is_err())
 }
 
-/// The block is shorter than what the calls ask for, and longer than the ASCII front. With memory again they succeed.
+/// Letters, others and the first of them, the block, and the capacity. The block is shorter than what the calls ask
+/// for, and longer than the ASCII front. With memory again both succeed.
 #[test]
 fn a_refusal_leaves_the_memory(rt: HostRuntime) -> Result<(), Fail> {
-    for (letters, others, first, length) in [(0, 5000, 0, 2000), (1500, 100, 0x80, 1600)] {
+    for (letters, others, first, length, capacity) in [
+        (0, 5000, 0, 2000, 128 + 2 * 4872),
+        (1500, 100, 0x80, 1600, 1700),
+    ] {
         let bytes = mixed(rt.alloc(), letters, first, others)?;
         for _ in 0..3 {
-            assert!(rt;
-                leaves_a_block(rt.alloc(), &bytes, length)? && is_encoded(rt.alloc(), &bytes)?,
-                "{letters}, {others}"
-            );
+            let holds = leaves_a_block(rt.alloc(), &bytes, length)?
+                && is_decoded(rt.alloc(), &bytes, capacity)?
+                && is_encoded(rt.alloc(), &bytes)?;
+            assert!(rt; holds, "{letters}, {others}");
         }
     }
     Ok(())
