@@ -100,9 +100,6 @@ none_low bs at n low = record { each = λ k from to s. none_from_zero bs k (low_
 pub none_before : (bs : List ℕ) (n : ℕ) → BelowUpTo 0xD6 bs n → NoneStands bs 0 n
 none_before bs n low = record { each = λ k from to s. none_from_zero bs k (low_end (slice_index bs k) (low k to)) s }
 
-pub none_yet : (bs : List ℕ) (at : ℕ) → NoneStands bs at at
-none_yet bs at = record { each = λ k from to s. omega arith }
-
 pub none_joined : (bs : List ℕ) (a b d : ℕ) → NoneStands bs a b → NoneStands bs b d → NoneStands bs a d
 none_joined bs a b d p q = record { each = λ k from to s. elim (cases_lt k b) [ inl l ↦ p.each k from l s | inr l ↦ q.each k l to s ] }
 

@@ -88,14 +88,6 @@ module _ (us : List ℕ) (n : ℕ) (within : n ≤ length us) (some : 0 < n) (un
   valid_cut = cut_front IsHighSurrogate IsLowSurrogate IsValidTo us n (λ k l. p.each k (omega arith) l) high_decided (λ h. omega (arith, h.0)) (λ u h l. omega (arith, h.1, l.0))
       valid_none one_unit_more one_pair_more some
 
--- the first unit alone
-pub paired_first : (us : List ℕ) → (IsLowSurrogate (slice_index us 0) → ⊥) → ArePaired us 0 1
-paired_first us none = record {
-  each = λ k from to.
-      let e : k ≡ 0 = omega arith in
-      subst (λ i. IsLowSurrogate (slice_index us i) ↔ IsHighSurrogate (slice_index (0 ∷ us) i)) (sym e) (λ l. absurd (none l), λ h. absurd (omega (arith, h.0)));
-}
-
 pub paired_joined : (us : List ℕ) (a b from to : ℕ) → ArePaired us a b → ArePaired us from to → from ≤ b → ArePaired us a to
 paired_joined us a b from to p q l = record { each = λ k h m. elim (cases_lt k b) [ inl i ↦ p.each k h i | inr i ↦ q.each k (omega arith) m ] }
 
