@@ -1,5 +1,5 @@
 -- Blocks of code units that are no surrogates: each is a character, and their UTF-8 is joined from what the blocks write.
-use Rattle.std.proofs.Common.{◌≡◌, ℕ, suc, ◌+◌, ◌-◌, ◌<◌, ◌≤◌, ◌⊎◌, inl, inr, List, [], ◌∷◌, ◌++◌, map, length, take, drop, take-add, drop-drop, length-take, length-take-le, length-append, get_or, encode_utf8_all, refl, sym, ap, ◌∙◌, arith, subst, append_assoc}
+use Rattle.std.proofs.Common.{◌≡◌, ℕ, suc, ◌+◌, ◌-◌, ◌<◌, ◌≤◌, ◌⊎◌, inl, inr, List, [], ◌∷◌, ◌++◌, map, length, set, take, drop, take-add, drop-drop, length-take, length-take-le, length-append, get_or, encode_utf8_all, refl, sym, ap, ◌∙◌, arith, subst, append_assoc}
 use Rattle.std.specs.List.{flat_map}
 use Rattle.std.specs.Str.{IsAscii}
 use Rattle.std.specs.Simd.Lanes.{chunk}
@@ -7,17 +7,18 @@ use Rattle.std.proofs.lemmas.Bool.{cases_lt}
 use Rattle.std.proofs.lemmas.List.{append-nil, take-append-drop, take_rest, get_or-drop, get_or-take, get_or_past}
 use Rattle.std.proofs.lemmas.List.Concat.{flat_map-append}
 use Rattle.std.proofs.lemmas.Simd.{get_or-chunk, length-chunk}
-use Rattle.std.proofs.lemmas.Str.{encodes-append, encodes-IsAscii}
+use Rattle.std.proofs.lemmas.Str.{encode_ascii, encodes-append, encodes-IsAscii}
 use Rattle.std.proofs.str.Utf16.{one_unit}
 use borrow.Rule.Slice.PartMut.{put_mid}
 use Rattle.encoding_text.specs.Fronts.{WritesFront}
 use Rattle.encoding_text.specs.Utf16.{AreUnits, Part16, Character16, units_of, utf8_of}
+use Rattle.encoding_text.specs.Steps.FirstScalar.{IsFirstScalar}
 use Rattle.encoding_text.specs.Steps.Spelling.{ArePlain}
 use Rattle.encoding_text.specs.Steps.Strides.{AllBelow, BelowUpTo}
 use Rattle.encoding_text.proofs.Latin.AsciiLemmas.{Each-take}
-use Rattle.encoding_text.proofs.LongestFronts.FrontsLemmas.{WritesFront-same, WritesFront_put, WritesFront_after}
+use Rattle.encoding_text.proofs.LongestFronts.FrontsLemmas.{WritesFront_push, WritesFront-same, WritesFront_put, WritesFront_after}
 use Rattle.encoding_text.proofs.CodeUnits.Utf16Lemmas.{parts_of, parts_of-first, first_unit}
-use Rattle.encoding_text.proofs.CodeUnits.Utf16FrontLemmas.{Walked}
+use Rattle.encoding_text.proofs.CodeUnits.Utf16FrontLemmas.{Walked, scalar_of_unit, step_walked, step_written}
 
 -- ---- each is a character
 abbrev IsPlain : ℕ → Type 0
@@ -67,6 +68,25 @@ module _ (us : List ℕ) (read n : ℕ) (done : List Part16) (a : AreUnits us) w
   blocks_written =
       let xs : List ℕ = take n (take (length us - read) (drop read us)) in
       ap (λ ys. flat_map utf8_of done ++ ys) (sym (utf8_plain xs)) ∙ sym (flat_map-append utf8_of done (map Character16 xs))
+
+-- an ASCII code unit
+module _ (us old new : List ℕ) (read written : ℕ) (done : List Part16) (w : Walked us read done) (v : WritesFront old new written (flat_map utf8_of done))
+    (inside : read < length us) (ascii : get_or us read 0 < 0x80) (room : written < length new) where
+  counts_as : IsFirstScalar (drop read us) (get_or us read 0)
+  counts_as = scalar_of_unit us read inside (omega arith) (λ l _. absurd (omega arith))
+
+  pub ascii_parts : List Part16
+  ascii_parts = done ++ counts_as.part ∷ []
+
+  pub ascii_walked : Walked us (read + 1) ascii_parts
+  unfolding ascii_parts
+  ascii_walked = step_walked us read done (get_or us read 0) 1 w counts_as (sym (ap length (one_unit (get_or us read 0) (omega arith))))
+
+  pub ascii_written : WritesFront old (set new written (get_or us read 0)) (written + 1) (flat_map utf8_of ascii_parts)
+  unfolding ascii_parts
+  ascii_written =
+      WritesFront-same _ _ _ _ _ _ (WritesFront_push old new written (flat_map utf8_of done) (get_or us read 0) v room) refl
+      (ap (λ xs. flat_map utf8_of done ++ xs) (sym (encode_ascii (get_or us read 0) ascii)) ∙ sym (step_written us read done (get_or us read 0) 1 w counts_as))
 
 -- ---- one block more
 encodes_more : (us : List ℕ) (n m : ℕ) → encode_utf8_all (take n us) ++ encode_utf8_all (take m (drop n us)) ≡ encode_utf8_all (take (n + m) us)

@@ -169,6 +169,14 @@ ascii_run src cs i j (suc n) low rest within room ascii =
     ∙ sym (take_more (drop j cs) n 0 (omega (arith, next.0, length-drop j cs))) in
     (omega (arith, next.0), subst (λ m. take m (drop i src) ≡ take m (drop j cs)) one bytes, ap (λ k. drop k src) (sym at) ∙ next.2 ∙ ap (λ k. encode_utf8_all (drop k cs)) to)
 
+-- from the beginning on
+pub ascii_front : (src cs : List ℕ) (n : ℕ) → IsLatin1 cs → src ≡ encode_utf8_all cs → n ≤ length src → BelowUpTo 0x80 src n
+    → (take n src ≡ take n cs) × (drop n src ≡ encode_utf8_all (drop n cs))
+ascii_front src cs n low text within ascii =
+    let zero_more : 0 + n ≡ n = omega arith in
+    let run = ascii_run src cs 0 0 n low text (omega arith) (omega arith) (λ k l. let same : 0 + k ≡ k = omega arith in rw same (ascii k l)) in
+    (run.1, ap (λ k. drop k src) (sym zero_more) ∙ run.2 ∙ ap (λ k. encode_utf8_all (drop k cs)) zero_more)
+
 -- and was copied behind the characters before it
 module _ (src cs old new sub : List ℕ) (i j n : ℕ) (low : IsLatin1 cs) (rest : drop i src ≡ encode_utf8_all (drop j cs)) (w : WritesFront old new j (take j cs))
     (within : n ≤ length (take (length src - i) (drop i src))) (ascii : BelowUpTo 0x80 (take (length src - i) (drop i src)) n)

@@ -100,8 +100,8 @@ pub fn convert_utf8_to_latin1_lossy(src: &[u8], dst: &mut [u8]) -> usize
     requires latin1 { IsUtf8Latin1 src.now }
     ensures written { WritesFront dst.old dst.new result (chars src.now) }
 {
-    let mut read = 0;
-    let mut written = 0;
+    let mut read = copy_ascii::<64>(src, dst, 0);
+    let mut written = read;
     while src.len() - read >= 16 && dst.len() - written >= 16 {
         let front = copy_ascii::<16>(&src[read..], &mut dst[written..], 0);
         if front > 0 {

@@ -205,12 +205,18 @@ pub fn convert_utf16_to_utf8_partial_inner(src: &[u16], dst: &mut [u8]) -> (usiz
     let mut read = 0;
     let mut written = 0;
     let mut singles = if src.len() < 8 { 8 } else { 0 };
-    while read < src.len() && dst.len() - written >= LONGEST {
+    let end = dst.len().saturating_sub(LONGEST - 1);
+    while read < src.len() && written < end {
         if singles == 0 {
             let (units, bytes) = convert_blocks(&src[read..], &mut dst[written..]);
             read += units;
             written += bytes;
             singles = singles_behind(units);
+        } else if src[read] < 0x80 {
+            dst[written] = src[read] as u8;
+            written += 1;
+            read += 1;
+            singles -= 1;
         } else {
             let scalar = scalar_at(src, read);
             written += write_scalar(scalar, &mut dst[written..]);

@@ -5,17 +5,23 @@ use Rattle.std.proofs.lemmas.Str.{length-le-encodes}
 use Rattle.encoding_text.proofs.Latin.AsciiLemmas.{WritesFront_copy}
 use Rattle.encoding_text.proofs.LongestFronts.FrontsLemmas.{WritesFront-nil}
 use Rattle.encoding_text.proofs.Latin.Latin1Lemmas.{latin1_chars, next_of_one, next_of_two}
-use Rattle.encoding_text.proofs.Latin.Latin1ConversionLemmas.{character_of_two, run_rest, run_written, begins_apart, block_rest, block_written}
+use Rattle.encoding_text.proofs.Latin.Latin1ConversionLemmas.{character_of_two, run_rest, run_written, ascii_front, begins_apart, block_rest, block_written}
 use Rattle.encoding_text.proofs.CodeUnits.UnitBlocksLemmas.{written_none}
 use Rattle.encoding_text.proofs.mem.latin1.convert_utf8_to_latin1_lossy.Goals as goal
 use Rattle.encoding_text.proofs.mem.latin1.convert_utf8_to_latin1_lossy.Goals.{then-byte-lt128, else-byte-lt128}
 
 pub loop-read-init : goal.loop-read-init
-loop-read-init c = record {
-  within = omega arith;
-  rest = sym (latin1_chars c.args.src.now c.requires.latin1).1;
-  written = WritesFront-nil c.args.dst.now;
-}
+loop-read-init c =
+    let src = c.args.src.now in
+    let text = latin1_chars src c.requires.latin1 in
+    let front = c.copy_ascii-read.result in
+    let call = c.copy_ascii-read.ensures in
+    let run = ascii_front src (chars src) front text.0 (sym text.1) call.within.0 (call.ascii (λ k l. absurd (omega arith))) in
+    record {
+      within = call.within.0;
+      rest = run.1;
+      written = rw run.0 at (call.copied c.args.dst.now (WritesFront-nil c.args.dst.now));
+    }
 
 pub loop-read-preserved-then-front-gt0 : goal.loop-read-preserved-then-front-gt0
 loop-read-preserved-then-front-gt0 c =

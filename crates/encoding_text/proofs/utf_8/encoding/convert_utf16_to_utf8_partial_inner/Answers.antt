@@ -1,8 +1,8 @@
-use Rattle.std.proofs.Common.{◌++◌, ◌∷◌, ◌-◌, [], map, take, drop, length, arith, refl, sym, subst}
+use Rattle.std.proofs.Common.{◌<◌, ◌++◌, ◌∷◌, ◌-◌, [], map, take, drop, length, arith, refl, sym, subst}
 use Rattle.encoding_text.proofs.LongestFronts.FrontsLemmas.{WritesFront_after, WritesFront-same}
 use Rattle.encoding_text.proofs.LongestFronts.FittingLemmas.{written_is}
 use Rattle.encoding_text.proofs.CodeUnits.Utf16FrontLemmas.{step_walked, step_within, step_written, walked_front}
-use Rattle.encoding_text.proofs.CodeUnits.UnitBlocksLemmas.{blocks_walked, blocks_written}
+use Rattle.encoding_text.proofs.CodeUnits.UnitBlocksLemmas.{ascii_parts, ascii_walked, ascii_written, blocks_walked, blocks_written}
 use Rattle.encoding_text.specs.Utf16.{IsUtf8OfFront, Character16}
 use Rattle.encoding_text.proofs.utf_8.encoding.convert_utf16_to_utf8_partial_inner.Goals as goal
 
@@ -20,6 +20,18 @@ loop-read-preserved-then-singles-eq0 c =
       written = WritesFront-same _ _ _ _ _ _ (WritesFront_after _ _ _ _ _ _ _ here.written call.written) refl (blocks_written us read units here.done (λ k. omega (arith, c.type_inv.src k)));
     }
 
+pub loop-read-preserved-then-src-read-lt128 : goal.loop-read-preserved-then-src-read-lt128
+loop-read-preserved-then-src-read-lt128 c =
+    let us = c.args.src.now in
+    let here = c.loop-read.invariant in
+    let room : c.loop-read.written < length c.loop-read.dst = omega arith in
+    record {
+      within = omega arith;
+      done = ascii_parts us c.args.dst.now c.loop-read.dst c.loop-read.read c.loop-read.written here.done here.walked here.written c.loop-read-test.true c.if-src-read-lt128.true room;
+      walked = ascii_walked us c.args.dst.now c.loop-read.dst c.loop-read.read c.loop-read.written here.done here.walked here.written c.loop-read-test.true c.if-src-read-lt128.true room;
+      written = ascii_written us c.args.dst.now c.loop-read.dst c.loop-read.read c.loop-read.written here.done here.walked here.written c.loop-read-test.true c.if-src-read-lt128.true room;
+    }
+
 pub loop-read-preserved : goal.loop-read-preserved
 loop-read-preserved c =
     let here = c.loop-read.invariant in
@@ -32,8 +44,8 @@ loop-read-preserved c =
           (sym (step_written c.args.src.now _ here.done _ c.utf16_length-read.result here.walked first));
     }
 
-pub returns-else-dst-written-ge-LONGEST-clause-front : goal.returns-else-dst-written-ge-LONGEST-clause-front
-returns-else-dst-written-ge-LONGEST-clause-front c =
+pub returns-else-written-end-clause-front : goal.returns-else-written-end-clause-front
+returns-else-written-end-clause-front c =
     let here = c.loop-read.invariant in
     subst (IsUtf8OfFront c.args.src.now c.loop-read.read) (written_is _ _ _ _ here.written)
     (walked_front c.args.src.now c.loop-read.read here.done (λ k. omega (arith, c.type_inv.src k)) here.walked)
