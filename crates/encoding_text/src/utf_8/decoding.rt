@@ -97,7 +97,7 @@ fn convert_texts(src: &[u8], dst: &mut [u16]) -> (usize, usize)
         }
         written += write_text(&src[read..read + valid], &mut dst[written..]);
         read += valid;
-        if valid + 3 < room {
+        if read == src.len() || valid + 3 < room {
             return (read, written);
         }
     }
