@@ -158,7 +158,8 @@ fn last_eight(units: u16x16) -> u16x8
 #[inline(always)]
 fn put_kept(units: u16x16, kept: usize, dst: &mut [u16]) -> usize
     requires { (kept < 2 ^ 16) × (16 ≤ length dst.old) }
-    ensures { (marks : List Bool) → length marks ≡ 16 → kept ≡ mask_l marks → PutsKept marks units dst.old dst.new result (result + 8 - count_ones (kept / 2 ^ 8)) }
+    ensures { (marks : List Bool) → length marks ≡ 16 → kept ≡ mask_l marks
+        → PutsKept marks units dst.old dst.new result (result + 8 - count_ones (kept / 2 ^ 8)) }
 {
     let first = kept & 0xFF;
     let second = kept >> 8;

@@ -1,4 +1,4 @@
-use Rattle.std.proofs.Common.{arith, length, length-take-le, slice_index, sym}
+use Rattle.std.proofs.Common.{length, length-take-le, sym}
 use Rattle.encoding_text.proofs.LongestFronts.TextLoopLemmas.{first_character, puts_character, character_fits}
 use Rattle.encoding_text.proofs.utf_8.text_units.put_character.Goals as goal
 

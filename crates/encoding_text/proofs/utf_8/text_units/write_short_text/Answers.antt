@@ -1,4 +1,4 @@
-use Rattle.std.proofs.Common.{arith, length}
+use Rattle.std.proofs.Common.{arith}
 use Rattle.std.proofs.lemmas.List.{take_rest}
 use Rattle.encoding_text.proofs.LongestFronts.TextLoopLemmas.{putting_more, putting_all}
 use Rattle.encoding_text.proofs.utf_8.text_units.write_short_text.Goals as goal
