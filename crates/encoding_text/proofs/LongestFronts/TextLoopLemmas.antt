@@ -1,5 +1,5 @@
 -- Writing the UTF-16 of a text character by character and block by block: what is due behind, and how far a loop has come.
-use Rattle.std.proofs.Common.{◌≡◌, ℕ, ◌+◌, ◌-◌, ◌*◌, ◌/◌, ◌<◌, ◌≤◌, inl, inr, true, List, [], ◌∷◌, ◌++◌, length, take, drop, get_or, encode_utf8, encode_utf8_all, refl, sym, ap, ◌∙◌, arith, subst, take-add}
+use Rattle.std.proofs.Common.{◌≡◌, append_assoc, ℕ, ◌+◌, ◌-◌, ◌*◌, ◌/◌, ◌<◌, ◌≤◌, inl, inr, true, List, [], ◌∷◌, ◌++◌, length, take, drop, get_or, encode_utf8, encode_utf8_all, refl, sym, ap, ◌∙◌, arith, subst, take-add}
 use lib.Utf8.{scalar}
 use Rattle.std.specs.Char.{IsScalar}
 use Rattle.std.specs.Char.Escape.{encode_utf16}
@@ -56,7 +56,6 @@ puts_character src old new n k c b s e w =
     record {
       taken = c ∷ [];
       are_scalars = and_from _ _ s refl;
-      some = b.some;
       within = b.within;
       spelled = encodes_one c ∙ e;
       rest = b.rest;
@@ -109,7 +108,6 @@ reaches src old new n k reach most l p =
     record {
       taken = p.taken;
       are_scalars = p.are_scalars;
-      some = p.some;
       within = p.within;
       spelled = p.spelled;
       rest = p.rest;
@@ -117,6 +115,10 @@ reaches src old new n k reach most l p =
       placed = p.placed;
       behind = past new ∙ ap (drop (most - reach)) p.behind ∙ sym (past old);
     }
+
+-- nothing is read
+pub puts_none : (src old : List ℕ) (reach : ℕ) → IsUtf8 src → PutsText src old old 0 0 reach
+puts_none src old reach u = record { taken = []; are_scalars = refl; within = omega arith; spelled = refl; rest = u; counted = refl; placed = refl; behind = refl }
 
 -- eight places are due behind all but the later code units
 pub due_block : (src old new : List ℕ) (n k later : ℕ) → IsUtf8 src → 8 ≤ later + (length src - n) / 3 → PutsText src old new n k (k + 8 - later) → PutsText src old new n k (units_in src)
@@ -184,6 +186,29 @@ putting_more src old new sub read written n k room d p =
   where
     drop_past : (xs ys : List ℕ) (j : ℕ) → drop (length xs + j) (xs ++ ys) ≡ drop j ys
     drop_past xs ys j = sym (drop-drop j (length xs) (xs ++ ys)) ∙ ap (drop j) (drop_at xs ys (length xs) refl)
+
+-- the rest of the text is written behind it
+pub putting_rest : (src old new sub : List ℕ) (read written k : ℕ) → IsUtf8 src → length src ≤ length old → length new ≡ length old → Putting src old new read written
+    → WritesFront (take (length new - written) (drop written new)) sub k (flat_map encode_utf16 (chars (drop read src)))
+    → WritesFront old (put_mid written (length new - written) new sub) (written + k) (flat_map encode_utf16 (chars src))
+putting_rest src old new sub read written k u room same d w =
+    let left = d.rest.0 in
+    let inside : read ≤ length src = d.within in
+    let done : d.done ++ left ≡ chars src = chars_from_encodes (d.done ++ left) src u (encodes-append d.done left ∙ (λ i. d.spelled i ++ d.rest.1.1 i) ∙ take-append-drop read src) in
+    let rest : left ≡ chars (drop read src) = chars_from_encodes left (drop read src) d.rest d.rest.1.1 in
+    let units : flat_map encode_utf16 (chars src) ≡ flat_map encode_utf16 d.done ++ flat_map encode_utf16 (chars (drop read src)) =
+    ap (flat_map encode_utf16) (sym done) ∙ flat_map-append encode_utf16 d.done left ∙ ap (λ cs. flat_map encode_utf16 d.done ++ flat_map encode_utf16 cs) rest in
+    let total : units_in src ≡ written + k = omega (arith, d.due, w.count, units_of left (drop read src) d.rest d.rest.1.1, ap (λ cs. length (flat_map encode_utf16 cs)) rest) in
+    let whole : take (length new - written) (drop written new) ≡ drop written new = take_rest new written in
+    let none : drop (length new - written) (drop written new) ≡ [] = drop_all (length new - written) (drop written new) (omega (arith, length-drop written new)) in
+    let is : put_mid written (length new - written) new sub ≡ take written new ++ sub = ap (λ xs. take written new ++ (sub ++ xs)) none ∙ ap (λ xs. take written new ++ xs) (append-nil sub) in
+    let behind : drop (written + k) new ≡ drop (written + k) old = ap (λ n. drop n new) (sym total) ∙ d.behind ∙ ap (λ n. drop n old) total in
+    let part : sub ≡ flat_map encode_utf16 (chars (drop read src)) ++ drop (written + k) old = w.placed ∙ ap (λ xs. flat_map encode_utf16 (chars (drop read src)) ++ drop k xs) whole ∙ ap (λ xs. flat_map encode_utf16 (chars (drop read src)) ++ xs) (drop-drop k written new ∙ behind) in
+    record {
+      count = omega (arith, d.counted, w.count, ap length units, length-append (flat_map encode_utf16 d.done) (flat_map encode_utf16 (chars (drop read src))));
+      fits = omega (arith, w.fits, ap length whole, length-drop written new, same, d.shorter, inside, room);
+      placed = is ∙ (λ i. d.placed i ++ part i) ∙ sym (append_assoc (flat_map encode_utf16 d.done) (flat_map encode_utf16 (chars (drop read src))) (drop (written + k) old)) ∙ ap (λ us. us ++ drop (written + k) old) (sym units);
+    }
 
 pub putting_all : (src old new : List ℕ) (read written : ℕ) → IsUtf8 src → length src ≤ length old → length src ≤ read → Putting src old new read written → WritesFront old new written (flat_map encode_utf16 (chars src))
 putting_all src old new read written u room end d =

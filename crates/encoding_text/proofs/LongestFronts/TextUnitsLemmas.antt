@@ -145,9 +145,9 @@ front_units zero x y a bs = refl
 front_units (suc n) x y a [] = refl
 front_units (suc n) x y a (b ∷ bs) = ap (λ us. (if ends_unit a b then unit_at x y a b ∷ [] else []) ++ us) (front_units n y a b bs)
 
-pub puts_block : (src old new us : List ℕ) (end count reach : ℕ) → IsUtf8 src → 0 < end → end ≤ 16 → IsCharBoundary src end → us ≡ units_behind 0 0 0 (take 16 src)
+pub puts_block : (src old new us : List ℕ) (end count reach : ℕ) → IsUtf8 src → end ≤ 16 → IsCharBoundary src end → us ≡ units_behind 0 0 0 (take 16 src)
     → PutsKept (take end (ends_behind 0 (take 16 src)) ++ replicate (16 - end) false) us old new count reach → PutsText src old new end count reach
-puts_block src old new us end count reach u some few boundary e kept =
+puts_block src old new us end count reach u few boundary e kept =
     let text = IsUtf8-take src end u boundary in
     let cs = text.0 in
     let marks = take end (ends_behind 0 (take 16 src)) in
@@ -157,7 +157,6 @@ puts_block src old new us end count reach u some few boundary e kept =
     record {
       taken = cs;
       are_scalars = text.1.0;
-      some = some;
       within = boundary.0;
       spelled = text.1.1;
       rest = IsUtf8-drop src end u boundary;
@@ -182,7 +181,6 @@ puts_ascii src old new n u some within h w =
     record {
       taken = text.0;
       are_scalars = text.1.0;
-      some = some;
       within = within;
       spelled = text.1.1;
       rest = IsUtf8-drop src n u (subst (IsCharBoundary src) last (IsCharBoundary-after_ascii src (n - 1) u (omega arith) (h (n - 1) (omega arith))));
@@ -304,7 +302,6 @@ puts_triples src old r u long room b h =
     record {
       taken = t.scalars_of;
       are_scalars = t.are_scalars;
-      some = omega arith;
       within = t.within;
       spelled = t.spelled;
       rest = t.rest;

@@ -81,7 +81,6 @@ units_in text = length (flat_map encode_utf16 (chars text))
 pub record PutsText (src old new : List ℕ) (read written reach : ℕ) : Type 0 where
   pub taken : List ℕ
   pub are_scalars : all_scalars taken ≡ true
-  pub some : 0 < read
   pub within : read ≤ length src
   pub spelled : encode_utf8_all taken ≡ take read src
   pub rest : IsUtf8 (drop read src)

@@ -82,8 +82,8 @@ pub fn convert_utf8_to_utf16_up_to_invalid(src: &[u8], dst: &mut [u16]) -> (usiz
     (read, written)
 }
 
-/// Converts UTF-8 by texts whose UTF-16 fits whatever it is, while whole blocks are well-formed, and returns how many
-/// bytes it read and how many code units it wrote. Behind what is written `dst` is as before.
+/// Converts UTF-8 by well-formed pieces whose UTF-16 fits whatever it is, and returns how many bytes it read and how
+/// many code units it wrote. Behind what is written `dst` is as before.
 fn convert_texts(src: &[u8], dst: &mut [u16]) -> (usize, usize)
     ensures { Converted encode_utf16 src.now dst.old dst.new result.0 result.1 }
 {
@@ -97,7 +97,7 @@ fn convert_texts(src: &[u8], dst: &mut [u16]) -> (usize, usize)
         }
         written += write_text(&src[read..read + valid], &mut dst[written..]);
         read += valid;
-        if valid + 3 < room {
+        if read == src.len() || valid + 3 < room {
             return (read, written);
         }
     }

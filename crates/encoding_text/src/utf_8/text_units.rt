@@ -158,7 +158,8 @@ fn last_eight(units: u16x16) -> u16x8
 #[inline(always)]
 fn put_kept(units: u16x16, kept: usize, dst: &mut [u16]) -> usize
     requires { (kept < 2 ^ 16) × (16 ≤ length dst.old) }
-    ensures { (marks : List Bool) → length marks ≡ 16 → kept ≡ mask_l marks → PutsKept marks units dst.old dst.new result (result + 8 - count_ones (kept / 2 ^ 8)) }
+    ensures { (marks : List Bool) → length marks ≡ 16 → kept ≡ mask_l marks
+        → PutsKept marks units dst.old dst.new result (result + 8 - count_ones (kept / 2 ^ 8)) }
 {
     let first = kept & 0xFF;
     let second = kept >> 8;
@@ -190,7 +191,7 @@ fn whole_end(src: &[u8]) -> usize
 fn put_block(src: &[u8], end: usize, kept: usize, dst: &mut [u16]) -> usize
     requires room { (16 ≤ length src.now) × (16 ≤ length dst.old) }
     requires text { IsUtf8 src.now }
-    requires end { (0 < end) × (end ≤ 16) × IsCharBoundary src.now end }
+    requires end { (end ≤ 16) × IsCharBoundary src.now end }
     requires kept { kept ≡ mask_l (take end (ends_behind 0 (take 16 src.now)) ++ replicate (16 - end) false) }
     ensures { PutsText src.now dst.old dst.new end result (result + 8 - count_ones (kept / 2 ^ 8)) }
 {
@@ -292,7 +293,8 @@ fn is_due(kept: usize, left: usize) -> bool
 fn put_character(src: &[u8], dst: &mut [u16]) -> (usize, usize)
     requires room { (0 < length src.now) × (length src.now ≤ length dst.old) }
     requires text { IsUtf8 src.now }
-    ensures { PutsText src.now dst.old dst.new result.0 result.1 result.1 }
+    ensures some { 0 < result.0 }
+    ensures written { PutsText src.now dst.old dst.new result.0 result.1 result.1 }
 {
     let length = sequence_length(src[0]);
     let scalar = scalar_of_sequence(&src[..length]);
@@ -302,15 +304,15 @@ fn put_character(src: &[u8], dst: &mut [u16]) -> (usize, usize)
     (length, units)
 }
 
-/// Writes the UTF-16 of some first characters, and returns how many bytes and code units these are. What is due behind
-/// them may have changed too.
+/// Writes the UTF-16 of some first characters by a vector, and returns how many bytes and code units these are: none
+/// where what is stored behind them may not be due. What is due behind them may have changed too.
 #[inline(always)]
 fn put_some(src: &[u8], dst: &mut [u16]) -> (usize, usize)
-    requires room { (0 < length src.now) × (length src.now ≤ length dst.old) }
+    requires room { (16 < length src.now) × (length src.now ≤ length dst.old) }
     requires text { IsUtf8 src.now }
     ensures { PutsText src.now dst.old dst.new result.0 result.1 (units_in src.now) }
 {
-    if src.len() >= 16 && begins_ascii::<16>(src) {
+    if begins_ascii::<16>(src) {
         let front = widen_ascii::<16>(src, dst, 0);
         return (front, front);
     }
@@ -318,20 +320,46 @@ fn put_some(src: &[u8], dst: &mut [u16]) -> (usize, usize)
         put_triples(src, dst);
         return (15, 5);
     }
-    if src.len() > 16 {
-        let end = whole_end(src);
-        if end > 0 {
-            let kept = unit_ends(u8x16::from_slice(src), end);
-            if is_due(kept, src.len() - end) {
-                return (end, put_block(src, end, kept, dst));
-            }
-        }
+    let end = whole_end(src);
+    let kept = unit_ends(u8x16::from_slice(src), end);
+    if is_due(kept, src.len() - end) {
+        return (end, put_block(src, end, kept, dst));
     }
-    if src.len() >= 8 && begins_ascii::<8>(src) {
-        let front = widen_ascii::<8>(src, dst, 0);
+    (0, 0)
+}
+
+/// Writes the UTF-16 of a first character, or of all the ASCII ones there, and returns how many bytes and code units
+/// these are.
+#[inline(always)]
+fn put_short(src: &[u8], dst: &mut [u16]) -> (usize, usize)
+    requires room { (0 < length src.now) × (length src.now ≤ length dst.old) }
+    requires text { IsUtf8 src.now }
+    ensures some { 0 < result.0 }
+    ensures written { PutsText src.now dst.old dst.new result.0 result.1 (units_in src.now) }
+{
+    if begins_ascii::<1>(src) {
+        let front = widen_ascii::<1>(src, dst, 0);
         return (front, front);
     }
     put_character(src, dst)
+}
+
+/// Writes the UTF-16 of a short text, and returns how many code units these are. Behind what is written `dst` is as
+/// before.
+#[inline(never)]
+fn write_short_text(src: &[u8], dst: &mut [u16]) -> usize
+    requires room { length src.now ≤ length dst.old }
+    requires text { IsUtf8 src.now }
+    ensures { WritesFront dst.old dst.new result (flat_map encode_utf16 (chars src.now)) }
+{
+    let mut read = 0;
+    let mut written = 0;
+    while read < src.len() {
+        let (bytes, units) = put_short(&src[read..], &mut dst[written..]);
+        read += bytes;
+        written += units;
+    }
+    written
 }
 
 /// Writes the UTF-16 of a text, and returns how many code units these are. Behind what is written `dst` is as before.
@@ -342,10 +370,12 @@ pub(crate) fn write_text(src: &[u8], dst: &mut [u16]) -> usize
 {
     let mut read = 0;
     let mut written = 0;
-    while read < src.len() {
+    let mut last = 1;
+    while last > 0 && src.len() - read > 16 {
         let (bytes, units) = put_some(&src[read..], &mut dst[written..]);
         read += bytes;
         written += units;
+        last = bytes;
     }
-    written
+    written + write_short_text(&src[read..], &mut dst[written..])
 }

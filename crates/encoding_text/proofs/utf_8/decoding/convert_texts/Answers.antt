@@ -12,8 +12,8 @@ text_of_piece left room piece n size found =
     let short : n ≤ piece = omega (arith, found.within, length-take piece left) in
     (omega (arith, found.within, length-take piece left), subst IsUtf8 (take-take n piece left short) found.kind)
 
-pub returns-then-valid-room : goal.returns-then-valid-room
-returns-then-valid-room c =
+pub returns-then-read-src : goal.returns-then-read-src
+returns-then-read-src c =
     let read = c.loop-read.read in
     let valid = c.utf8_valid_up_to-valid.result in
     let size : read + valid - read ≡ valid = omega arith in

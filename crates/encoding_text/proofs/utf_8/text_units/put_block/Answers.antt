@@ -25,5 +25,5 @@ returns c =
     let size = length-ends 0 (take 16 src) ∙ length-take-le 16 src c.requires.room.0 in
     let long = length-append (take end ends) (replicate {A = Bool} (16 - end) false) in
     let front = length-take-le end ends (omega (arith, size, c.requires.end)) in
-    puts_block src c.args.dst.now c.put_kept.new.dst c.code_units.result end c.put_kept.result _ c.requires.text c.requires.end.0 c.requires.end.1 c.requires.end.2 c.code_units.ensures
+    puts_block src c.args.dst.now c.put_kept.new.dst c.code_units.result end c.put_kept.result _ c.requires.text c.requires.end.0 c.requires.end.1 c.code_units.ensures
     (c.put_kept.ensures (take end ends ++ replicate (16 - end) false) (omega (arith, long, front, length-replicate {A = Bool} (16 - end) false, c.requires.end)) c.requires.kept)

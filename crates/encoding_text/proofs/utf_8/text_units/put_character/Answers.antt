@@ -22,4 +22,7 @@ pub returns : goal.returns
 returns c =
     let begins = first_character c.args.src.now c.sequence_length-length.result c.requires.text c.requires.room.0 c.sequence_length-length.ensures in
     let s = c.scalar_of_sequence-scalar.ensures in
-    puts_character c.args.src.now c.args.dst.now c.put_utf16.new.dst c.sequence_length-length.result c.in-Some.units _ begins s.scalar s.spelled c.in-Some.ensures.written
+    record {
+      some = begins.some;
+      written = puts_character c.args.src.now c.args.dst.now c.put_utf16.new.dst c.sequence_length-length.result c.in-Some.units _ begins s.scalar s.spelled c.in-Some.ensures.written;
+    }

@@ -1,12 +1,12 @@
-use Rattle.std.proofs.Common.{◌/◌, ◌^◌, refl}
+use Rattle.std.proofs.Common.{◌/◌, ◌^◌, arith, refl}
 use Rattle.std.specs.Int.RustNames.{count_ones}
-use Rattle.encoding_text.proofs.LongestFronts.TextLoopLemmas.{due_ascii, due_block, due_exact, due_triples}
+use Rattle.encoding_text.proofs.LongestFronts.TextLoopLemmas.{due_ascii, due_block, due_triples, puts_none}
 use Rattle.encoding_text.proofs.utf_8.text_units.put_some.Goals as goal
 
 pub returns-then-begins_ascii : goal.returns-then-begins_ascii
 returns-then-begins_ascii c =
     let run = c.widen_ascii-front.ensures in
-    due_ascii c.args.src.now c.args.dst.now c.widen_ascii-front.new.dst c.widen_ascii-front.result 16 c.requires.text c.if-src-ge16.true c.requires.room.1
+    due_ascii c.args.src.now c.args.dst.now c.widen_ascii-front.new.dst c.widen_ascii-front.result 16 c.requires.text (omega arith) c.requires.room.1
     (c.if-begins_ascii.ensures {u = tt} refl) run.within.0 run.ascii run.copied run.stops
 
 pub returns-then-begins_triples : goal.returns-then-begins_triples
@@ -17,11 +17,5 @@ returns-then-is_due c =
     due_block c.args.src.now c.args.dst.now c.put_block.new.dst c.whole_end-end.result c.put_block.result (count_ones (c.unit_ends-kept.result / 2 ^ 8)) c.requires.text
     (c.if-is_due.ensures {u = tt} refl) c.put_block.ensures
 
-pub returns-then-begins_ascii-2 : goal.returns-then-begins_ascii-2
-returns-then-begins_ascii-2 c =
-    let run = c.widen_ascii-front-then-begins_ascii-2.ensures in
-    due_ascii c.args.src.now c.args.dst.now c.widen_ascii-front-then-begins_ascii-2.new.dst c.widen_ascii-front-then-begins_ascii-2.result 8 c.requires.text c.if-src-ge8.true c.requires.room.1
-    (c.if-begins_ascii-2.ensures {u = tt} refl) run.within.0 run.ascii run.copied run.stops
-
 pub returns : goal.returns
-returns c = due_exact c.args.src.now c.args.dst.now c.put_character.new.dst _ _ c.requires.text c.put_character.ensures
+returns c = puts_none c.args.src.now c.args.dst.now _ c.requires.text
