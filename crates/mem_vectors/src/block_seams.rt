@@ -44,10 +44,15 @@ C0 | C3 80
 FF | C3 BF";
 
 /// How often the filler stands in a text.
-const FILLERS_IN_TEXT: usize = 38;
+pub(crate) const FILLERS_IN_TEXT: usize = 38;
 
 /// Returns the text with so many fillers before the edge, and the others behind it.
-fn around<T: Copy>(alloc: Global, filler: &[T], before: usize, edge: &[T]) -> Result<Vec<T>, Fail> {
+pub(crate) fn around<T: Copy>(
+    alloc: Global,
+    filler: &[T],
+    before: usize,
+    edge: &[T],
+) -> Result<Vec<T>, Fail> {
     let mut text = Vec::new(alloc);
     for i in 0..FILLERS_IN_TEXT + 1 {
         for item in if i == before { edge } else { filler } {

@@ -17,4 +17,6 @@ mod surrogate_rows;
 #[cfg(test)]
 mod text_destination_rows;
 #[cfg(test)]
+mod text_seams;
+#[cfg(test)]
 mod units_at_each_place;
