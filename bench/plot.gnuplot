@@ -1,9 +1,9 @@
 # Ratios of our throughput to that of the best peer at 64 KiB, a row of the table each, a point a kind of text.
-set terminal svg size 1000,1100 font 'sans,11' background 'white'
+set terminal svg noenhanced size 1000,1100 font 'sans,11' background 'white'
 set output picture
 set datafile separator '\t'
 set logscale x 2
-set xlabel 'throughput of ours to the best of std, encoding_rs and simdutf8 (64 KiB; right of 1 is faster)'
+set xlabel 'ours to the best of std, encoding_rs and simdutf8, 64 KiB'
 set xrange [0.05:32]
 set grid x
 set arrow from 1, graph 0 to 1, graph 1 nohead lw 2 lc rgb 'gray'
