@@ -13,8 +13,8 @@ CXX ?= c++
 STRICT = -Wall -Wextra -Werror -pedantic -Iinclude
 SANITIZE = -g -fsanitize=address,undefined -fno-sanitize-recover=all
 
-SOURCES = $(wildcard crates/encoding_text/src/*.rt crates/encoding_text/src/*/*.rt crates/encoding_runs/src/*.rt \
-    crates/encoding_runs/src/*/*.rt crates/encoding_c/src/*.rt crates/utf8_repair/src/*.rt crates/utf8_repair/src/*/*.rt)
+LIBRARIES = encoding_base encoding_text encoding_runs encoding_c utf8_repair
+SOURCES = $(foreach name,$(LIBRARIES),$(wildcard crates/$(name)/src/*.rt crates/$(name)/src/*/*.rt))
 
 all: build/libencoding_text.a build/utf8_repair
 

@@ -2,8 +2,8 @@
 
 ghost use Rattle.std.specs.Prelude.{◌≡◌, ◌≢◌, ◌↔◌, IsTrue, IfSome, IfNone, IsUtf8};
 ghost use Rattle.std.specs.Str.{IsAscii};
-ghost use Rattle.encoding_text.specs.Fronts.{IsLongestFront};
-ghost use Rattle.encoding_text.specs.Latin1.{IsLatin1, IsUtf8Latin1};
+ghost use Rattle.encoding_base.specs.Fronts.{IsLongestFront};
+ghost use Rattle.encoding_base.specs.Latin1.{IsLatin1, IsUtf8Latin1};
 ghost use Rattle.encoding_c.specs.Doors.{Tells};
 
 use crate::door::{NEITHER, NO, REFUSED, YES};

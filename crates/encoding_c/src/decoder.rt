@@ -2,8 +2,8 @@
 
 ghost use Rattle.std.specs.Prelude.{◌≡◌, ℕ, ◌<◌, ◌≤◌, ◌↔◌, ◌⊎◌, List, [], ◌++◌, length, take, slice_index, min, encode_utf8, IsTrue};
 ghost use Rattle.std.specs.Char.Escape.{encode_utf16};
-ghost use Rattle.encoding_text.specs.Pending.{IsPending};
-ghost use Rattle.encoding_text.specs.Decoding.{Decodes, IsBorrowedCall, Suffices, SufficesReplacing, utf16_room, utf8_room, utf8_room_replacing};
+ghost use Rattle.encoding_base.specs.Pending.{IsPending};
+ghost use Rattle.encoding_base.specs.Decoding.{Decodes, IsBorrowedCall, Suffices, SufficesReplacing, utf16_room, utf8_room, utf8_room_replacing};
 ghost use Rattle.encoding_c.specs.States.{StandsFor, EndsWith, IsTold, DecoderCall, PieceCall};
 
 use encoding_text::decoder::{DecoderResult, Piece, Utf8Decoder};

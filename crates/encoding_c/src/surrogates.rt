@@ -1,6 +1,6 @@
 //! Lone surrogates in UTF-16.
 
-ghost use Rattle.encoding_text.specs.Fronts.{IsLongestFront};
+ghost use Rattle.encoding_base.specs.Fronts.{IsLongestFront};
 ghost use Rattle.encoding_text.specs.Surrogates.{IsValidUtf16, AreRepairedUnits};
 
 use encoding_text::mem;

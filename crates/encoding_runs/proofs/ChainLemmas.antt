@@ -3,10 +3,10 @@ use Rattle.std.proofs.Common.{◌≡◌, ℕ, ◌≤◌, inl, inr, Bool, true, f
 use Rattle.std.specs.List.{flat_map}
 use Rattle.std.proofs.lemmas.Bool.{or_parts}
 use Rattle.std.proofs.lemmas.List.{append_assoc, append_cancel_right, length-append, length-drop, length-take, take-append-drop, take_all, drop-append-le, drop-drop, nil_from_length}
-use Rattle.encoding_text.specs.Pending.{IsPending}
-use Rattle.encoding_text.specs.Parts.{Part, bytes_of, StartsWith, ArePartsOf}
-use Rattle.encoding_text.specs.Giving.{Gives}
-use Rattle.encoding_text.proofs.Decomposition.DecompositionLemmas.{StartsWith-append, StartsWith-bytes}
+use Rattle.encoding_base.specs.Pending.{IsPending}
+use Rattle.encoding_base.specs.Parts.{Part, bytes_of, StartsWith, ArePartsOf}
+use Rattle.encoding_base.specs.Giving.{Gives}
+use Rattle.encoding_base.proofs.Decomposition.DecompositionLemmas.{StartsWith-append, StartsWith-bytes}
 use Rattle.encoding_runs.specs.Chains.{Given, IsChain, parts_given, read_in_all, left_pending, some_last, SomeEnds}
 
 -- ---- one call, among all the bytes that are unread

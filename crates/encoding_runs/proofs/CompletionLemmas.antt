@@ -6,10 +6,10 @@ use Rattle.std.specs.Str.{all_scalars}
 use Rattle.std.specs.List.{flat_map}
 use Rattle.std.proofs.lemmas.Bool.{and_parts, cases_lt, le-leb}
 use Rattle.std.proofs.lemmas.List.{length-append, length-drop, length-take}
-use Rattle.encoding_text.specs.Decoding.{IsCall, Answers, IsReport}
-use Rattle.encoding_text.specs.declared.decoder.DecoderResult.{DecoderResult}
-use Rattle.encoding_text.specs.declared.decoder.DecoderResult.TheVariants.{InputEmpty, OutputFull, Malformed}
-use Rattle.encoding_text.proofs.Calls.RoomLemmas.{counts, progress_of}
+use Rattle.encoding_base.specs.Decoding.{IsCall, Answers, IsReport}
+use Rattle.encoding_base.specs.declared.decoder.DecoderResult.{DecoderResult}
+use Rattle.encoding_base.specs.declared.decoder.DecoderResult.TheVariants.{InputEmpty, OutputFull, Malformed}
+use Rattle.encoding_base.proofs.Calls.RoomLemmas.{counts, progress_of}
 use Rattle.encoding_runs.specs.declared.run.turns.Turn.{Turn}
 use Rattle.encoding_runs.specs.Turns.{room_of, is_marked_last}
 use Rattle.encoding_runs.specs.Runs.{Called, AreCalls, last_answer, EachGetsOn}

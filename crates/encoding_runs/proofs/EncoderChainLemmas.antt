@@ -3,12 +3,12 @@ use Rattle.std.proofs.Common.{◌≡◌, ℕ, ◌≤◌, ◌⊎◌, inl, inr, Bo
 use Rattle.std.specs.List.{flat_map}
 use Rattle.std.proofs.lemmas.List.{append_assoc, append-nil, length-append, length-drop, length-take, drop_all, drop-drop, drop-append-le, take-append-drop, nil_from_length}
 use Rattle.std.proofs.lemmas.List.Concat.{flat_map-append}
-use Rattle.encoding_text.specs.Utf16.{AreUnits, Part16, units_of, utf8_of, StartsWith16}
-use Rattle.encoding_text.specs.Encoding.{IsHeld, IsEncoderCall}
-use Rattle.encoding_text.proofs.CodeUnits.Utf16Lemmas.{parts_exist}
-use Rattle.encoding_text.proofs.CodeUnits.EncoderLemmas.{AreUnits-behind}
-use Rattle.encoding_text.proofs.CodeUnits.FirstPartsLemmas.{StartsWith16-nil, StartsWith16-append, StartsWith16-units, StartsWith16-all, StartsWith16-read}
-use Rattle.encoding_text.proofs.CodeUnits.EncoderPartsLemmas.{AreUnits-append, AreUnits-held, parts_written, read_within, written_first, all_encoded}
+use Rattle.encoding_base.specs.Utf16.{AreUnits, Part16, units_of, utf8_of, StartsWith16}
+use Rattle.encoding_base.specs.Encoding.{IsHeld, IsEncoderCall}
+use Rattle.encoding_base.proofs.CodeUnits.Utf16Lemmas.{parts_exist}
+use Rattle.encoding_base.proofs.CodeUnits.EncoderLemmas.{AreUnits-behind}
+use Rattle.encoding_base.proofs.CodeUnits.FirstPartsLemmas.{StartsWith16-nil, StartsWith16-append, StartsWith16-units, StartsWith16-all, StartsWith16-read}
+use Rattle.encoding_base.proofs.CodeUnits.EncoderPartsLemmas.{AreUnits-append, AreUnits-held, parts_written, read_within, written_first, all_encoded}
 use Rattle.encoding_runs.specs.EncoderChains.{EncoderStep, IsEncoderChain, units_read, output_of, held_after, some_last, SomeLastIsEmpty, EncodesFirstParts}
 
 -- ---- one call on the first unread units

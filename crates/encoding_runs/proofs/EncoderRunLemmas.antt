@@ -6,15 +6,15 @@ use Rattle.std.proofs.lemmas.Bool.Decides.{nat_tests}
 use Rattle.std.proofs.lemmas.List.{append-nil, length-append, length-drop, length-take, take_rest, take_min, take-append-le, drop-drop}
 use Rattle.std.proofs.lemmas.List.Concat.{flat_map-append}
 use borrow.Rule.Slice.PartMut.{put_mid}
-use Rattle.encoding_text.specs.Fronts.{WritesFront}
-use Rattle.encoding_text.specs.Utf16.{AreUnits}
-use Rattle.encoding_text.specs.Encoding.{IsHeld, IsEncoderCall}
-use Rattle.encoding_text.specs.declared.utf_8.encoder.EncoderResult.{EncoderResult}
-use Rattle.encoding_text.specs.declared.utf_8.encoder.EncoderResult.TheVariants.{InputEmpty}
-use Rattle.encoding_text.proofs.LongestFronts.FrontsLemmas.{WritesFront-length, WritesFront-same, WritesFront_after}
-use Rattle.encoding_text.proofs.LongestFronts.FittingLemmas.{written_front}
-use Rattle.encoding_text.proofs.CodeUnits.EncoderLemmas.{enough_room}
-use Rattle.encoding_text.proofs.CodeUnits.EncoderPartsLemmas.{at_most_one_held, read_within, room_left, gets_on}
+use Rattle.encoding_base.specs.Fronts.{WritesFront}
+use Rattle.encoding_base.specs.Utf16.{AreUnits}
+use Rattle.encoding_base.specs.Encoding.{IsHeld, IsEncoderCall}
+use Rattle.encoding_base.specs.declared.utf_8.encoder.EncoderResult.{EncoderResult}
+use Rattle.encoding_base.specs.declared.utf_8.encoder.EncoderResult.TheVariants.{InputEmpty}
+use Rattle.encoding_base.proofs.LongestFronts.FrontsLemmas.{WritesFront-length, WritesFront-same, WritesFront_after}
+use Rattle.encoding_base.proofs.LongestFronts.FittingLemmas.{written_front}
+use Rattle.encoding_base.proofs.CodeUnits.EncoderLemmas.{enough_room}
+use Rattle.encoding_base.proofs.CodeUnits.EncoderPartsLemmas.{at_most_one_held, read_within, room_left, gets_on}
 use Rattle.encoding_runs.specs.declared.run.turns.Turn.{Turn}
 use Rattle.encoding_runs.specs.declared.run.encoding.EncodeOutcome.{EncodeOutcome}
 use Rattle.encoding_runs.specs.Turns.{room_of, is_marked_last}

@@ -1,16 +1,16 @@
 -- Calls of any form in a row are a chain, and calls that are asked the same answer the same.
 use Rattle.std.proofs.Common.{◌≡◌, ℕ, ◌+◌, inl, inr, Bool, true, ◌||◌, List, [], ◌∷◌, length, take, drop, encode_utf8, refl, sym, ap, subst}
 use Rattle.std.specs.Char.Escape.{encode_utf16}
-use Rattle.encoding_text.specs.Pending.{IsPending}
-use Rattle.encoding_text.specs.Parts.{Part}
-use Rattle.encoding_text.specs.Giving.{Gives}
-use Rattle.encoding_text.specs.Decoding.{IsCall, IsBorrowedCall}
-use Rattle.encoding_text.specs.declared.decoder.DecoderResult.{DecoderResult}
-use Rattle.encoding_text.specs.declared.decoder.DecoderResult.TheVariants as result
-use Rattle.encoding_text.proofs.Calls.CallPartsLemmas.{decoded_gives}
-use Rattle.encoding_text.proofs.Calls.BorrowedLemmas.{borrowed_gives}
-use Rattle.encoding_text.proofs.Calls.OneAnswerLemmas.{one_answer}
-use Rattle.encoding_text.proofs.Calls.OnePieceLemmas.{same_piece}
+use Rattle.encoding_base.specs.Pending.{IsPending}
+use Rattle.encoding_base.specs.Parts.{Part}
+use Rattle.encoding_base.specs.Giving.{Gives}
+use Rattle.encoding_base.specs.Decoding.{IsCall, IsBorrowedCall}
+use Rattle.encoding_base.specs.declared.decoder.DecoderResult.{DecoderResult}
+use Rattle.encoding_base.specs.declared.decoder.DecoderResult.TheVariants as result
+use Rattle.encoding_base.proofs.Calls.CallPartsLemmas.{decoded_gives}
+use Rattle.encoding_base.proofs.Calls.BorrowedLemmas.{borrowed_gives}
+use Rattle.encoding_base.proofs.Calls.OneAnswerLemmas.{one_answer}
+use Rattle.encoding_base.proofs.Calls.OnePieceLemmas.{same_piece}
 use Rattle.encoding_runs.specs.Chains.{Given, IsChain, parts_given, read_in_all, left_pending, some_last, SomeEnds}
 use Rattle.encoding_runs.specs.MixedCalls.{Form, ToUtf16, ToUtf8, Borrowed, Answer, Decoded, Handed, Asked, MixedCall, IsMixedCall, AreMixedCalls, AreGiven, AreGivenInSequence, bytes_read_by, pending_behind, some_marked_last, IsInputEmpty, SomeLastIsEmpty, GiveTheParts, AnswersAgree, AreAskedTheSame, AnswerTheSame}
 use Rattle.encoding_runs.proofs.ChainLemmas.{chain_gives, given_bytes, all_given}

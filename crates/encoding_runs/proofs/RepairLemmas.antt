@@ -6,15 +6,15 @@ use Rattle.std.proofs.lemmas.List.{append-nil, append_assoc, length-drop, take-a
 use Rattle.std.specs.Str.{IsUtf8, chars}
 use Rattle.std.proofs.lemmas.Str.{encodes-chars}
 use lib.Utf8.{encode}
-use Rattle.encoding_text.specs.Pending.{IsPending}
-use Rattle.encoding_text.proofs.Sequences.SequenceLemmas.{length-IsBeginning}
-use Rattle.encoding_text.specs.Parts.{Part, repaired_text, count_broken}
-use Rattle.encoding_text.specs.Decoding.{IsBorrowedCall}
-use Rattle.encoding_text.specs.declared.decoder.Piece.{Piece}
-use Rattle.encoding_text.specs.declared.decoder.Piece.TheVariants.{Text, Char, Malformed, InputEmpty}
-use Rattle.encoding_text.specs.Giving.{Gives}
-use Rattle.encoding_text.proofs.Calls.BorrowedLemmas.{borrowed_gives}
-use Rattle.encoding_text.proofs.Decomposition.DecompositionLemmas.{StartsWith-append, has_parts, repaired_text-append, repaired_text-characters, count_broken-append, count_broken-characters, count_broken-bytes}
+use Rattle.encoding_base.specs.Pending.{IsPending}
+use Rattle.encoding_base.proofs.Sequences.SequenceLemmas.{length-IsBeginning}
+use Rattle.encoding_base.specs.Parts.{Part, repaired_text, count_broken}
+use Rattle.encoding_base.specs.Decoding.{IsBorrowedCall}
+use Rattle.encoding_base.specs.declared.decoder.Piece.{Piece}
+use Rattle.encoding_base.specs.declared.decoder.Piece.TheVariants.{Text, Char, Malformed, InputEmpty}
+use Rattle.encoding_base.specs.Giving.{Gives}
+use Rattle.encoding_base.proofs.Calls.BorrowedLemmas.{borrowed_gives}
+use Rattle.encoding_base.proofs.Decomposition.DecompositionLemmas.{StartsWith-append, has_parts, repaired_text-append, repaired_text-characters, count_broken-append, count_broken-characters, count_broken-bytes}
 use Rattle.encoding_runs.specs.Repairs.{IsProperFront, WritesRepaired, Stops}
 use Rattle.encoding_runs.specs.Steps.Writing.{text_of, broken_of, AreFirst, WritesParts, StopsInParts}
 use Rattle.encoding_runs.proofs.SettledLemmas.{AreFirst-nil, AreFirst-trans, AreFirst-more}

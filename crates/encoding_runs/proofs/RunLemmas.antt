@@ -4,15 +4,15 @@ use Rattle.std.specs.List.{flat_map}
 use Rattle.std.proofs.lemmas.Bool.{and_parts, leb-true}
 use Rattle.std.proofs.lemmas.Grind.{flat_map-append}
 use Rattle.std.proofs.lemmas.List.{append-nil, length-append}
-use Rattle.encoding_text.specs.Pending.{IsPending}
-use Rattle.encoding_text.specs.Parts.{Part, Character, Broken, StartsWith, characters_of}
-use Rattle.encoding_text.specs.Decoding.{Answers}
-use Rattle.encoding_text.specs.declared.decoder.DecoderResult.{DecoderResult}
-use Rattle.encoding_text.specs.declared.decoder.DecoderResult.TheVariants.{InputEmpty, OutputFull, Malformed}
-use Rattle.encoding_text.specs.GivenParts.{IsReported}
-use Rattle.encoding_text.proofs.Calls.CallPartsLemmas.{call_gives}
-use Rattle.encoding_text.proofs.LongestFronts.FrontsLemmas.{WritesFront-same}
-use Rattle.encoding_text.proofs.Sequences.SequenceLemmas.{length-IsBeginning}
+use Rattle.encoding_base.specs.Pending.{IsPending}
+use Rattle.encoding_base.specs.Parts.{Part, Character, Broken, StartsWith, characters_of}
+use Rattle.encoding_base.specs.Decoding.{Answers}
+use Rattle.encoding_base.specs.declared.decoder.DecoderResult.{DecoderResult}
+use Rattle.encoding_base.specs.declared.decoder.DecoderResult.TheVariants.{InputEmpty, OutputFull, Malformed}
+use Rattle.encoding_base.specs.GivenParts.{IsReported}
+use Rattle.encoding_base.proofs.Calls.CallPartsLemmas.{call_gives}
+use Rattle.encoding_base.proofs.LongestFronts.FrontsLemmas.{WritesFront-same}
+use Rattle.encoding_base.proofs.Sequences.SequenceLemmas.{length-IsBeginning}
 use Rattle.encoding_runs.specs.Chains.{Given, IsChain, parts_given, read_in_all, left_pending, some_last, SomeEnds}
 use Rattle.encoding_runs.specs.declared.run.turns.Turn.{Turn}
 use Rattle.encoding_runs.specs.Turns.{room_of, is_marked_last}

@@ -3,11 +3,11 @@ use Rattle.std.proofs.Common.{◌≡◌, ℕ, ◌+◌, ◌-◌, ◌≤◌, Bool,
 use Rattle.std.proofs.lemmas.Grind.{flat_map-append}
 use Rattle.std.proofs.lemmas.List.{append-nil, append_assoc, length-append, length-drop, length-take, take-append-drop, take_rest, drop-append-le, drop-drop}
 use borrow.Rule.Slice.PartMut.{put_mid}
-use Rattle.encoding_text.specs.Fronts.{WritesFront}
-use Rattle.encoding_text.specs.Decoding.{IsCall}
-use Rattle.encoding_text.specs.declared.decoder.DecoderResult.{DecoderResult}
-use Rattle.encoding_text.specs.declared.decoder.DecoderResult.TheVariants.{InputEmpty, OutputFull, Malformed}
-use Rattle.encoding_text.proofs.LongestFronts.FrontsLemmas.{WritesFront-length, WritesFront-same, WritesFront_after}
+use Rattle.encoding_base.specs.Fronts.{WritesFront}
+use Rattle.encoding_base.specs.Decoding.{IsCall}
+use Rattle.encoding_base.specs.declared.decoder.DecoderResult.{DecoderResult}
+use Rattle.encoding_base.specs.declared.decoder.DecoderResult.TheVariants.{InputEmpty, OutputFull, Malformed}
+use Rattle.encoding_base.proofs.LongestFronts.FrontsLemmas.{WritesFront-length, WritesFront-same, WritesFront_after}
 use Rattle.encoding_runs.specs.declared.run.turns.Turn.{Turn}
 use Rattle.encoding_runs.specs.Turns.{room_of, is_marked_last}
 use Rattle.encoding_runs.specs.declared.run.decoding.Report.{Report}

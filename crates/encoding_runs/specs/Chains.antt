@@ -1,8 +1,8 @@
 -- Calls in a row over one source, each on unread bytes and from what the one before left pending.
 use Rattle.std.specs.Prelude.{◌≡◌, ℕ, ◌+◌, ◌≤◌, Bool, true, false, ◌||◌, List, [], ◌∷◌, length, take, drop, ◌⊎◌}
 use Rattle.std.specs.List.{flat_map}
-use Rattle.encoding_text.specs.Parts.{Part}
-use Rattle.encoding_text.specs.Giving.{Gives}
+use Rattle.encoding_base.specs.Parts.{Part}
+use Rattle.encoding_base.specs.Giving.{Gives}
 
 -- one call of a chain: at most how many of the unread bytes it is handed, whether it is marked last, the parts that it
 -- gives, how many bytes it reads, and what is pending after it

@@ -1,10 +1,10 @@
 -- Calls of an encoder in a row over one source, each on unread code units and from what the one before left held.
 use Rattle.std.specs.Prelude.{◌≡◌, ℕ, ◌+◌, ◌≤◌, Bool, true, false, ◌||◌, List, [], ◌∷◌, ◌++◌, length, take, drop, ◌⊎◌}
 use Rattle.std.specs.List.{flat_map}
-use Rattle.encoding_text.specs.Utf16.{AreUnits, Part16, units_of, utf8_of, ArePartsOf16, StartsWith16}
-use Rattle.encoding_text.specs.Encoding.{IsHeld, IsEncoderCall}
-use Rattle.encoding_text.specs.declared.utf_8.encoder.EncoderResult.{EncoderResult}
-use Rattle.encoding_text.specs.declared.utf_8.encoder.EncoderResult.TheVariants.{InputEmpty}
+use Rattle.encoding_base.specs.Utf16.{AreUnits, Part16, units_of, utf8_of, ArePartsOf16, StartsWith16}
+use Rattle.encoding_base.specs.Encoding.{IsHeld, IsEncoderCall}
+use Rattle.encoding_base.specs.declared.utf_8.encoder.EncoderResult.{EncoderResult}
+use Rattle.encoding_base.specs.declared.utf_8.encoder.EncoderResult.TheVariants.{InputEmpty}
 
 -- one call of a chain: at most how many of the unread code units it is handed, its room, whether it is marked last, what
 -- it returns, how many code units it reads, the bytes that it writes, and what is held after it

@@ -1,8 +1,8 @@
 -- A run of an encoder: one call for each turn, each from what the one before left held.
 use Rattle.std.specs.Prelude.{◌≡◌, ℕ, ◌+◌, ◌-◌, ◌*◌, ◌≤◌, List, [], ◌∷◌, length, Option, None, Some}
-use Rattle.encoding_text.specs.Fronts.{WritesFront}
-use Rattle.encoding_text.specs.declared.utf_8.encoder.EncoderResult.{EncoderResult}
-use Rattle.encoding_text.specs.declared.utf_8.encoder.EncoderResult.TheVariants.{InputEmpty}
+use Rattle.encoding_base.specs.Fronts.{WritesFront}
+use Rattle.encoding_base.specs.declared.utf_8.encoder.EncoderResult.{EncoderResult}
+use Rattle.encoding_base.specs.declared.utf_8.encoder.EncoderResult.TheVariants.{InputEmpty}
 use Rattle.encoding_runs.specs.declared.run.turns.Turn.{Turn}
 use Rattle.encoding_runs.specs.declared.run.encoding.EncodeOutcome.{EncodeOutcome}
 use Rattle.encoding_runs.specs.Turns.{room_of, is_marked_last}

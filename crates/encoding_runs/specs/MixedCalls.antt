@@ -2,15 +2,15 @@
 use Rattle.std.specs.Prelude.{◌≡◌, ℕ, ◌+◌, ◌≤◌, Bool, true, false, ◌||◌, List, [], ◌∷◌, ◌++◌, length, take, drop, ◌⊎◌, encode_utf8}
 use Rattle.std.specs.Char.Escape.{encode_utf16}
 use Rattle.std.specs.List.{flat_map}
-use Rattle.encoding_text.specs.Parts.{Part, bytes_of, ArePartsOf}
-use Rattle.encoding_text.specs.Giving.{Gives}
-use Rattle.encoding_text.specs.GivenParts.{AreDecoded, AreBorrowed}
-use Rattle.encoding_text.specs.Decoding.{IsCall, IsBorrowedCall}
-use Rattle.encoding_text.specs.OneAnswer.{SayTheSame}
-use Rattle.encoding_text.specs.declared.decoder.DecoderResult.{DecoderResult}
-use Rattle.encoding_text.specs.declared.decoder.DecoderResult.TheVariants as result
-use Rattle.encoding_text.specs.declared.decoder.Piece.{Piece}
-use Rattle.encoding_text.specs.declared.decoder.Piece.TheVariants as piece
+use Rattle.encoding_base.specs.Parts.{Part, bytes_of, ArePartsOf}
+use Rattle.encoding_base.specs.Giving.{Gives}
+use Rattle.encoding_base.specs.GivenParts.{AreDecoded, AreBorrowed}
+use Rattle.encoding_base.specs.Decoding.{IsCall, IsBorrowedCall}
+use Rattle.encoding_base.specs.OneAnswer.{SayTheSame}
+use Rattle.encoding_base.specs.declared.decoder.DecoderResult.{DecoderResult}
+use Rattle.encoding_base.specs.declared.decoder.DecoderResult.TheVariants as result
+use Rattle.encoding_base.specs.declared.decoder.Piece.{Piece}
+use Rattle.encoding_base.specs.declared.decoder.Piece.TheVariants as piece
 
 -- the form of a call: to UTF-16 or to UTF-8, with so much room, or without a destination
 pub data Form : Type 0 where

@@ -1,12 +1,12 @@
 -- A run of a decoder: one call for each turn, each from what the one before left pending.
 use Rattle.std.specs.Prelude.{◌≡◌, ℕ, ◌+◌, ◌-◌, ◌*◌, ◌≤◌, Bool, true, false, ◌||◌, List, [], ◌∷◌, ◌++◌, length, take, drop, Option, None, Some, ◌⊎◌}
 use Rattle.std.specs.List.{flat_map}
-use Rattle.encoding_text.specs.Pending.{IsPending}
-use Rattle.encoding_text.specs.Parts.{Part, Character, Broken, bytes_of, StartsWith, ArePartsOf, characters_of}
-use Rattle.encoding_text.specs.Fronts.{WritesFront}
-use Rattle.encoding_text.specs.Decoding.{IsCall}
-use Rattle.encoding_text.specs.declared.decoder.DecoderResult.{DecoderResult}
-use Rattle.encoding_text.specs.declared.decoder.DecoderResult.TheVariants.{InputEmpty, OutputFull, Malformed}
+use Rattle.encoding_base.specs.Pending.{IsPending}
+use Rattle.encoding_base.specs.Parts.{Part, Character, Broken, bytes_of, StartsWith, ArePartsOf, characters_of}
+use Rattle.encoding_base.specs.Fronts.{WritesFront}
+use Rattle.encoding_base.specs.Decoding.{IsCall}
+use Rattle.encoding_base.specs.declared.decoder.DecoderResult.{DecoderResult}
+use Rattle.encoding_base.specs.declared.decoder.DecoderResult.TheVariants.{InputEmpty, OutputFull, Malformed}
 use Rattle.encoding_runs.specs.declared.run.turns.Turn.{Turn}
 use Rattle.encoding_runs.specs.Turns.{room_of, is_marked_last}
 use Rattle.encoding_runs.specs.declared.run.decoding.Report.{Report}

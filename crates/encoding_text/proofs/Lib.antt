@@ -1,9 +1,4 @@
-pub mod Sequences
-pub mod Decomposition
-pub mod LongestFronts
-pub mod Calls
-pub mod CodeUnits
 pub mod Latin
+pub mod Conversions
+pub mod Surrogates
 pub mod Bidi
-pub mod Blocks
-pub mod Lanes

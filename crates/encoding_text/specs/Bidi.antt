@@ -3,7 +3,7 @@ use Rattle.std.specs.Prelude.{◌≡◌, ℕ, List, [], ◌∷◌, ◌⊎◌, An
 use Rattle.std.specs.Str.{all_scalars, IsUtf8}
 use Rattle.std.specs.Char.Escape.{encode_utf16}
 use Rattle.std.specs.Int.{IsInRange}
-use Rattle.encoding_text.specs.Utf16.{Part16, Character16, Lone, IsHighSurrogate, ArePartsOf16}
+use Rattle.encoding_base.specs.Utf16.{Part16, Character16, Lone, IsHighSurrogate, ArePartsOf16}
 use Rattle.encoding_text.specs.declared.mem.bidi.Latin1Bidi.{Latin1Bidi}
 use Rattle.encoding_text.specs.declared.mem.bidi.Latin1Bidi.TheVariants.{Latin1, LeftToRight, Bidi}
 

@@ -1,12 +1,3 @@
 -- What private functions say of their steps. Public contracts cite none of these.
-pub mod Resuming
-pub mod Ending
-pub mod Converting
-pub mod FirstScalar
-pub mod Following
-pub mod Strides
-pub mod Lanes
 pub mod BidiBlocks
-pub mod Spelling
 pub mod Pairs
-pub mod Units

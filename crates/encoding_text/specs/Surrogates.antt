@@ -2,7 +2,7 @@
 use Rattle.std.specs.Prelude.{◌≡◌, ℕ, List, [], ◌∷◌, ◌++◌, length, map, slice_index}
 use Rattle.std.specs.Char.Escape.{encode_utf16}
 use Rattle.std.specs.List.{flat_map}
-use Rattle.encoding_text.specs.Utf16.{Part16, Character16, Lone, units_of, ArePartsOf16}
+use Rattle.encoding_base.specs.Utf16.{Part16, Character16, Lone, units_of, ArePartsOf16}
 
 -- no lone surrogate is among the parts of the units: each is a character
 abbrev pub IsValidUtf16 : List ℕ → Type 0

@@ -2,9 +2,7 @@
 //! contract exactly what it reads, what it writes and what it returns.
 #![tactic(auto)]
 
-pub mod ascii;
-pub mod decoder;
 pub mod mem;
-mod sequence;
-mod strides;
 pub mod utf_8;
+
+pub use encoding_base::{ascii, decoder};

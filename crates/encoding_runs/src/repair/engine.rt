@@ -1,7 +1,7 @@
 //! The engine: text goes out as it is, and U+FFFD for each broken part.
 ghost use Rattle.std.specs.Prelude.{◌≡◌, ◌≢◌, ℕ, ◌<◌, ◌≤◌, ◌↔◌, Bool, true, false, List, [], ◌++◌, length, take, IfOk, IfErr, IsTrue};
 ghost use Rattle.std.specs.Io.KnownBytes.{Appends, Keeps};
-ghost use Rattle.encoding_text.specs.Pending.{IsPending};
+ghost use Rattle.encoding_base.specs.Pending.{IsPending};
 ghost use Rattle.encoding_runs.specs.Repairs.{RepairsAll, RepairsFront, RepairsSettled, Stops, WritesRepaired};
 ghost use Rattle.encoding_runs.specs.Steps.Rounds.{ReadsRound};
 ghost use Rattle.encoding_runs.specs.Steps.Writing.{StopsInParts, WritesParts, broken_of, text_of};

@@ -2,8 +2,8 @@
 ghost use Rattle.std.specs.Prelude.{ℕ, ◌+◌, ◌-◌, ◌<◌, ◌≤◌, List, length, take, encode_utf8};
 ghost use Rattle.std.specs.Char.{IsScalar};
 ghost use Rattle.std.specs.Char.Escape.{encode_utf16};
-ghost use Rattle.encoding_text.specs.Fronts.{WritesFront};
-ghost use Rattle.encoding_text.specs.Decoding.{Decodes, IsCall, utf16_room, utf8_room};
+ghost use Rattle.encoding_base.specs.Fronts.{WritesFront};
+ghost use Rattle.encoding_base.specs.Decoding.{Decodes, IsCall, utf16_room, utf8_room};
 ghost use Rattle.encoding_runs.specs.Turns.{room_of, is_marked_last};
 ghost use Rattle.encoding_runs.specs.Runs.{Delivers, Completes, report_of};
 

@@ -1,7 +1,7 @@
 //! Runs of an encoder.
 ghost use Rattle.std.specs.Prelude.{◌≤◌, length, take};
-ghost use Rattle.encoding_text.specs.Fronts.{WritesFront};
-ghost use Rattle.encoding_text.specs.Encoding.{IsEncoderCall};
+ghost use Rattle.encoding_base.specs.Fronts.{WritesFront};
+ghost use Rattle.encoding_base.specs.Encoding.{IsEncoderCall};
 ghost use Rattle.encoding_runs.specs.Turns.{room_of, is_marked_last};
 ghost use Rattle.encoding_runs.specs.EncoderRuns.{EncodesByTurns, CompletesEncoding};
 

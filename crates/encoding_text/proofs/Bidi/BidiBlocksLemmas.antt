@@ -9,17 +9,17 @@ use Rattle.std.proofs.lemmas.Bool.Decides.{nat_tests}
 use Rattle.std.proofs.lemmas.List.{length-append, length-drop, drop_at, drop-drop, get_or-drop, take_at, take-append-drop, length-take, take-take}
 use lib.Utf8.{scalar}
 use Rattle.encoding_text.specs.Bidi.{IsRightToLeft, IsBidiText, IsBidiBytes}
-use Rattle.encoding_text.specs.Fronts.{IsLongestFront}
-use Rattle.encoding_text.specs.Parts.{BeginsWithNoCharacter}
-use Rattle.encoding_text.specs.Sequence.{IsSequence}
-use Rattle.encoding_text.specs.Steps.Strides.{AllBelow, BelowUpTo}
+use Rattle.encoding_base.specs.Fronts.{IsLongestFront}
+use Rattle.encoding_base.specs.Parts.{BeginsWithNoCharacter}
+use Rattle.encoding_base.specs.Sequence.{IsSequence}
+use Rattle.encoding_base.specs.Steps.Strides.{AllBelow, BelowUpTo}
 use Rattle.encoding_text.specs.Steps.BidiBlocks.{second_end, StandsRightToLeft, NoneStands}
 use Rattle.encoding_text.proofs.Bidi.AnyLemmas.{Any-none, Any-cons}
 use Rattle.encoding_text.proofs.Bidi.BidiTextLemmas.{right_to_left_from, character_bidi, bidi_character, found_in_text, found_in_bytes, bidi_either, stuck_no_text, text_of_latin1, latin1_not_bidi}
-use Rattle.encoding_text.proofs.Lanes.PairsLemmas.{ascii_latin1}
-use Rattle.encoding_text.proofs.LongestFronts.Utf8Lemmas.{IsUtf8-sequence}
-use Rattle.encoding_text.proofs.Sequences.SequenceLemmas.{IsSequence-some}
-use Rattle.encoding_text.proofs.Sequences.EncodingLemmas.{scalar_of_sequence, IsSequence-encode, length-encode_utf8-le}
+use Rattle.encoding_text.proofs.Surrogates.PairsLemmas.{ascii_latin1}
+use Rattle.encoding_base.proofs.LongestFronts.Utf8Lemmas.{IsUtf8-sequence}
+use Rattle.encoding_base.proofs.Sequences.SequenceLemmas.{IsSequence-some}
+use Rattle.encoding_base.proofs.Sequences.EncodingLemmas.{scalar_of_sequence, IsSequence-encode, length-encode_utf8-le}
 
 -- ---- the first two bytes
 end_hebrew : (a : ℕ) → 0xD6 ≤ a → a ≤ 0xDF → second_end a ≡ 0xFF

@@ -9,11 +9,11 @@ use Rattle.std.proofs.lemmas.List.{append-nil, length-drop, drop_all, take-appen
 use Rattle.std.proofs.lemmas.Str.{encodes-append, encodes_same, IsUtf8-append, IsUtf8-drop, IsUtf8-nil, IsUtf8-from_is_utf8, is_utf8-from_IsUtf8, IsCharBoundary-from_take}
 use lib.Utf8.{scalar}
 use Rattle.encoding_text.specs.Bidi.{IsRightToLeft, IsBidiText, IsBidiBytes}
-use Rattle.encoding_text.specs.Latin1.{IsUtf8Latin1}
-use Rattle.encoding_text.specs.Parts.{BeginsWithNoCharacter}
+use Rattle.encoding_base.specs.Latin1.{IsUtf8Latin1}
+use Rattle.encoding_base.specs.Parts.{BeginsWithNoCharacter}
 use Rattle.encoding_text.proofs.Bidi.AnyLemmas.{Any-here, Any-none, Any-cons, Any-left, Any-right, Any-append, Any-place}
 use Rattle.encoding_text.proofs.Latin.Latin1Lemmas.{scalars_of_latin1}
-use Rattle.encoding_text.proofs.Sequences.EncodingLemmas.{IsSequence-encode}
+use Rattle.encoding_base.proofs.Sequences.EncodingLemmas.{IsSequence-encode}
 
 -- ---- the scalar values of a text
 abbrev HasOne : List ℕ → Type 0

@@ -4,7 +4,7 @@ use Rattle.std.proofs.lemmas.Bool.{cases_lt, ltb-false}
 use Rattle.std.proofs.lemmas.List.{get_or-drop}
 use Rattle.encoding_text.specs.Bidi.{IsRightToLeftUnit}
 use Rattle.encoding_text.specs.Steps.BidiBlocks.{NoneRightToLeft}
-use Rattle.encoding_text.specs.Steps.Strides.{AllBelow, BelowUpTo}
+use Rattle.encoding_base.specs.Steps.Strides.{AllBelow, BelowUpTo}
 use Rattle.encoding_text.proofs.Bidi.BidiUnitsLemmas.{UnitForm, unit_form, unit_low_none}
 
 -- ---- ranges by one comparison

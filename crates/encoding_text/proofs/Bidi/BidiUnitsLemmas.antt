@@ -9,11 +9,11 @@ use Rattle.std.proofs.lemmas.List.{length-drop, get_or-drop, get_or-take}
 use Rattle.std.proofs.str.Utf16.{one_unit, two_units}
 use lib.Utf8.{scalar_cases}
 use Rattle.encoding_text.specs.Bidi.{IsRightToLeft, IsRightToLeftUnit, IsRightToLeftPart, IsBidiUnits}
-use Rattle.encoding_text.specs.Latin1.{IsLatin1}
-use Rattle.encoding_text.specs.Utf16.{AreUnits, Part16, Character16, Lone, units_of, IsPart16, ArePaired}
+use Rattle.encoding_base.specs.Latin1.{IsLatin1}
+use Rattle.encoding_base.specs.Utf16.{AreUnits, Part16, Character16, Lone, units_of, IsPart16, ArePaired}
 use Rattle.encoding_text.proofs.Bidi.AnyLemmas.{Any-here, Any-there, Any-none, Any-cons, Any-left, Any-right, Any-append, Any-at, Any-place}
 use Rattle.encoding_text.proofs.Bidi.BidiTextLemmas.{right_to_left_from}
-use Rattle.encoding_text.proofs.CodeUnits.Utf16Lemmas.{parts_of, parts_exist, tail_paired, head_part}
+use Rattle.encoding_base.proofs.CodeUnits.Utf16Lemmas.{parts_of, parts_exist, tail_paired, head_part}
 
 -- ---- a unit by its number
 abbrev pub UnitForm : ℕ → Type 0

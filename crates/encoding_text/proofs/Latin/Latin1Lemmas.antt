@@ -6,8 +6,8 @@ use Rattle.std.proofs.lemmas.Bool.{cases_lt, and_from, and_parts}
 use Rattle.std.proofs.lemmas.List.{append-nil, length-drop, length-take-le, take_more, drop_all, get_or-drop, take-append-drop, drop_more}
 use Rattle.std.proofs.lemmas.Str.{cons_from_encodes, encodes-append, encode_ascii, chars-encodes}
 use lib.Utf8.{scalar, low_scalar}
-use Rattle.encoding_text.specs.Fronts.{IsLongestFront}
-use Rattle.encoding_text.specs.Latin1.{IsLatin1, IsUtf8Latin1}
+use Rattle.encoding_base.specs.Fronts.{IsLongestFront}
+use Rattle.encoding_base.specs.Latin1.{IsLatin1, IsUtf8Latin1}
 
 -- a Latin1 character begins the bytes
 abbrev pub BeginsLatin1 : List ℕ → Type 0

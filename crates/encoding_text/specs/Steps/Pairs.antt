@@ -1,7 +1,7 @@
 -- Units of which some come in pairs, as a rule on each and the one before it, with zero before the first.
 use Rattle.std.specs.Prelude.{ℕ, ◌<◌, ◌≤◌, ◌↔◌, List, ◌∷◌, slice_index}
-use Rattle.encoding_text.specs.Sequence.{IsContinuation}
-use Rattle.encoding_text.specs.Utf16.{IsHighSurrogate, IsLowSurrogate}
+use Rattle.encoding_base.specs.Sequence.{IsContinuation}
+use Rattle.encoding_base.specs.Utf16.{IsHighSurrogate, IsLowSurrogate}
 
 -- of the places from one up to another, a low surrogate stands exactly at those behind a high one
 pub record ArePaired (us : List ℕ) (from to : ℕ) : Type 0 where

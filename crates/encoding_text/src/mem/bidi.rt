@@ -2,15 +2,15 @@
 
 ghost use Rattle.std.specs.Prelude.{◌↔◌, ◌⊎◌, IsTrue};
 ghost use Rattle.std.specs.Int.{IsInRange};
-ghost use Rattle.encoding_text.specs.Fronts.{IsLongestFront};
-ghost use Rattle.encoding_text.specs.Latin1.{IsLatin1, IsUtf8Latin1};
-ghost use Rattle.encoding_text.specs.Sequence.{IsSequence};
+ghost use Rattle.encoding_base.specs.Fronts.{IsLongestFront};
+ghost use Rattle.encoding_base.specs.Latin1.{IsLatin1, IsUtf8Latin1};
+ghost use Rattle.encoding_base.specs.Sequence.{IsSequence};
 ghost use Rattle.encoding_text.specs.Bidi.{IsRightToLeft, IsRightToLeftUnit, IsBidiUnits, IsBidiText, IsBidiBytes, Classifies};
 
 use super::bidi_blocks::{FIRST_UNIT, UNIT_STRIDE, is_text_bidi, skip_clear_units, units_below};
 use super::checks::{str_latin1_up_to, utf8_latin1_up_to};
-use crate::strides::front_below;
-use crate::utf_8::{scalar_of_sequence, utf8_valid_up_to};
+use encoding_base::strides::front_below;
+use encoding_base::utf_8::{scalar_of_sequence, utf8_valid_up_to};
 
 /// The first right-to-left scalar value.
 const FIRST: u32 = 0x0590;

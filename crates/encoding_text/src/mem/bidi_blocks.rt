@@ -3,12 +3,12 @@ ghost use Rattle.std.specs.Prelude.{◌≡◌, ◌+◌, ◌<◌, ◌≤◌, ◌�
 ghost use Rattle.std.specs.Str.{IsUtf8};
 ghost use Rattle.encoding_text.specs.Bidi.{IsBidiText};
 ghost use Rattle.encoding_text.specs.Steps.BidiBlocks.{second_end, StandsRightToLeft, NoneStands, NoneRightToLeft};
-ghost use Rattle.encoding_text.specs.Steps.Lanes.{HasLanes};
-ghost use Rattle.encoding_text.specs.Steps.Strides.{BelowUpTo};
+ghost use Rattle.encoding_base.specs.Steps.Lanes.{HasLanes};
+ghost use Rattle.encoding_base.specs.Steps.Strides.{BelowUpTo};
 
 use super::bidi::is_sequence_bidi;
-use crate::strides::{are_bytes_below, front_below, skip_units_below};
-use crate::utf_8::character_length;
+use encoding_base::strides::{are_bytes_below, front_below, skip_units_below};
+use encoding_base::utf_8::character_length;
 use std::simd::Simd;
 use std::simd::prelude::*;
 

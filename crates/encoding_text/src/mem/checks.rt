@@ -2,13 +2,13 @@
 
 ghost use Rattle.std.specs.Prelude.{◌↔◌, IsTrue};
 ghost use Rattle.std.specs.Str.{IsAscii};
-ghost use Rattle.encoding_text.specs.Fronts.{IsLongestFront};
-ghost use Rattle.encoding_text.specs.Latin1.{IsLatin1, IsUtf8Latin1};
+ghost use Rattle.encoding_base.specs.Fronts.{IsLongestFront};
+ghost use Rattle.encoding_base.specs.Latin1.{IsLatin1, IsUtf8Latin1};
 
 use super::pair_blocks::latin1_front;
-use crate::ascii;
-use crate::sequence::is_continuation;
-use crate::strides::{are_all_below, front_below};
+use encoding_base::ascii;
+use encoding_base::sequence::is_continuation;
+use encoding_base::strides::{are_all_below, front_below};
 
 /// The least UTF-16 code unit that isn't ASCII.
 const BASIC_LATIN_END: u16 = 0x80;

@@ -1,10 +1,12 @@
 //! From UTF-16 to UTF-8, into a destination of any size and of one that surely suffices.
 
 ghost use Rattle.std.specs.Prelude.{◌*◌, ◌≤◌, length, take};
-ghost use Rattle.encoding_text.specs.Fronts.{WritesFront};
-ghost use Rattle.encoding_text.specs.Utf16.{IsUtf8OfLongestFront, IsUtf8OfUnits};
+ghost use Rattle.encoding_base.specs.Fronts.{WritesFront};
+ghost use Rattle.encoding_base.specs.Utf16.{IsUtf8OfLongestFront, IsUtf8OfUnits};
 
-use crate::utf_8::{convert_utf16_to_utf8_partial_inner, convert_utf16_to_utf8_partial_tail};
+use encoding_base::utf_8::{
+    convert_utf16_to_utf8_partial_inner, convert_utf16_to_utf8_partial_tail,
+};
 
 /// Converts the first characters of `src` from UTF-16 to UTF-8, as many as fit into `dst`, and returns how many code
 /// units it read and how many bytes it wrote: Encoding Standard, `encodeInto`.

@@ -1,12 +1,12 @@
 //! Pairs by blocks: code units without a lone surrogate, and Latin1 in UTF-8. Each unit is judged by itself and the one
 //! before it, which is read by a load of its own, so that a block carries no state and the last one may overlap.
 ghost use Rattle.std.specs.Prelude.{◌+◌, ◌<◌, ◌≤◌, length, take, IsTrue};
-ghost use Rattle.encoding_text.specs.Latin1.{IsUtf8Latin1};
+ghost use Rattle.encoding_base.specs.Latin1.{IsUtf8Latin1};
 ghost use Rattle.encoding_text.specs.Steps.Pairs.{ArePaired, FitLatin1};
 ghost use Rattle.encoding_text.specs.Surrogates.{IsValidUtf16};
 
-use crate::strides::front_below;
-use crate::utf_8::{is_high_surrogate, is_low_surrogate};
+use encoding_base::strides::front_below;
+use encoding_base::utf_8::{is_high_surrogate, is_low_surrogate};
 use std::simd::Simd;
 use std::simd::prelude::*;
 

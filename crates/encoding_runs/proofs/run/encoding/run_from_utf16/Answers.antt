@@ -1,6 +1,6 @@
 use Rattle.std.proofs.Common.{◌<◌, ◌-◌, false, length, drop, get_or, arith}
 use Rattle.std.proofs.lemmas.List.{length-drop, length-take, take_more, take_all}
-use Rattle.encoding_text.proofs.LongestFronts.FrontsLemmas.{WritesFront-length}
+use Rattle.encoding_base.proofs.LongestFronts.FrontsLemmas.{WritesFront-length}
 use Rattle.encoding_runs.specs.declared.run.turns.Turn.{Turn}
 use Rattle.encoding_runs.proofs.EncoderRunLemmas.{run_push, run_encodes, run_completes}
 use Rattle.encoding_runs.proofs.run.encoding.run_from_utf16.Goals as goal

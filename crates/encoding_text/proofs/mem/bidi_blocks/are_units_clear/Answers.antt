@@ -1,7 +1,7 @@
 use Rattle.std.proofs.Common.{ℕ, ◌+◌, ◌-◌, ◌%◌, ◌^◌, w16, ltb}
 use Rattle.encoding_text.proofs.Bidi.BidiUnitBlocksLemmas.{units_clear}
-use Rattle.encoding_text.proofs.Lanes.LaneLemmas.{HasLanes-load, HasLanes-splat, HasLanes-zip2}
-use Rattle.encoding_text.proofs.Lanes.TestLemmas.{tests_of, tests_or, none_passes}
+use Rattle.encoding_base.proofs.Lanes.LaneLemmas.{HasLanes-load, HasLanes-splat, HasLanes-zip2}
+use Rattle.encoding_base.proofs.Lanes.TestLemmas.{tests_of, tests_or, none_passes}
 use Rattle.encoding_text.proofs.mem.bidi_blocks.are_units_clear.Goals as goal
 
 pub returns : goal.returns

@@ -2,8 +2,8 @@ use Rattle.std.proofs.Common.{◌+◌, w8, ltb, ap, arith}
 use Rattle.std.proofs.lemmas.Simd.{get_or-chunk}
 use Rattle.encoding_text.specs.Steps.BidiBlocks.{second_end}
 use Rattle.encoding_text.proofs.Bidi.BidiBlocksLemmas.{none_stands}
-use Rattle.encoding_text.proofs.Lanes.LaneLemmas.{HasLanes-load, HasLanes-same}
-use Rattle.encoding_text.proofs.Lanes.TestLemmas.{tests_of, none_passes}
+use Rattle.encoding_base.proofs.Lanes.LaneLemmas.{HasLanes-load, HasLanes-same}
+use Rattle.encoding_base.proofs.Lanes.TestLemmas.{tests_of, none_passes}
 use Rattle.encoding_text.proofs.mem.bidi_blocks.is_clear.Goals as goal
 
 pub returns : goal.returns

@@ -1,6 +1,6 @@
 use Rattle.std.proofs.Common.{◌+◌, ◌-◌, take, drop, arith, refl, subst}
 use Rattle.std.proofs.lemmas.List.{take_rest}
-use Rattle.encoding_text.specs.Sequence.{IsSequence}
+use Rattle.encoding_base.specs.Sequence.{IsSequence}
 use Rattle.encoding_text.proofs.Bidi.BidiBlocksLemmas.{none_from_zero, no_character_stands, stands_spelled, spelled_stands}
 use Rattle.encoding_text.proofs.mem.bidi_blocks.stands_at.Goals as goal
 

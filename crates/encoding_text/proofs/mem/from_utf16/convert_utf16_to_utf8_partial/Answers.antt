@@ -1,5 +1,5 @@
 use Rattle.std.proofs.Common.{length, arith}
-use Rattle.encoding_text.proofs.CodeUnits.Utf16FrontLemmas.{front_all, join_longest, join_rest}
+use Rattle.encoding_base.proofs.CodeUnits.Utf16FrontLemmas.{front_all, join_longest, join_rest}
 use Rattle.encoding_text.proofs.mem.from_utf16.convert_utf16_to_utf8_partial.Goals as goal
 
 pub returns-then-read-src-clause-longest : goal.returns-then-read-src-clause-longest

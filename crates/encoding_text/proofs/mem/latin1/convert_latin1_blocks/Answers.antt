@@ -1,7 +1,7 @@
 use Rattle.std.proofs.Common.{arith, length, take, drop, ◌+◌, ◌-◌, map-id}
 use Rattle.std.specs.Simd.Lanes.{chunk}
-use Rattle.encoding_text.proofs.LongestFronts.FrontsLemmas.{WritesFront-nil}
-use Rattle.encoding_text.proofs.CodeUnits.UnitBlocksLemmas.{short_lanes, written_short, written_none, written_ascii}
+use Rattle.encoding_base.proofs.LongestFronts.FrontsLemmas.{WritesFront-nil}
+use Rattle.encoding_base.proofs.CodeUnits.UnitBlocksLemmas.{short_lanes, written_short, written_none, written_ascii}
 use Rattle.encoding_text.proofs.mem.latin1.convert_latin1_blocks.Goals as goal
 
 pub loop-read-preserved-then-front-gt0 : goal.loop-read-preserved-then-front-gt0

@@ -1,5 +1,5 @@
 use Rattle.std.proofs.Common.{arith}
-use Rattle.encoding_text.proofs.Latin.AsciiLemmas.{WritesFront_copy}
+use Rattle.encoding_base.proofs.Latin.AsciiLemmas.{WritesFront_copy}
 use Rattle.encoding_text.proofs.mem.latin1.convert_latin1_to_utf16.Goals as goal
 
 pub loop-i-preserved : goal.loop-i-preserved

@@ -1,5 +1,5 @@
 use Rattle.std.proofs.Common.{arith}
-use Rattle.encoding_text.proofs.Lanes.PairsLemmas.{latin1_whole, latin1_cut}
+use Rattle.encoding_text.proofs.Surrogates.PairsLemmas.{latin1_whole, latin1_cut}
 use Rattle.encoding_text.proofs.mem.pair_blocks.before_cut_character.Goals as goal
 
 pub returns-then-bytes-at-ge-LEADS : goal.returns-then-bytes-at-ge-LEADS

@@ -1,5 +1,5 @@
 use Rattle.std.proofs.Common.{arith, refl}
-use Rattle.encoding_text.proofs.Lanes.PairsLemmas.{valid_whole, valid_cut}
+use Rattle.encoding_text.proofs.Surrogates.PairsLemmas.{valid_whole, valid_cut}
 use Rattle.encoding_text.proofs.mem.pair_blocks.before_cut_pair.Goals as goal
 
 pub returns-then-is_high_surrogate : goal.returns-then-is_high_surrogate

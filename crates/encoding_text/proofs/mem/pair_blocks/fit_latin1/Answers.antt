@@ -1,7 +1,7 @@
 use Rattle.std.proofs.Common.{◌-◌, w8, arith, eqb, leb, bit_and}
-use Rattle.encoding_text.proofs.Lanes.LaneLemmas.{HasLanes-load, HasLanes-splat, HasLanes-zip2}
-use Rattle.encoding_text.proofs.Lanes.PairsLemmas.{latin1_lanes}
-use Rattle.encoding_text.proofs.Lanes.TestLemmas.{tests_of, tests_or, tests_xor, none_passes}
+use Rattle.encoding_base.proofs.Lanes.LaneLemmas.{HasLanes-load, HasLanes-splat, HasLanes-zip2}
+use Rattle.encoding_text.proofs.Surrogates.PairsLemmas.{latin1_lanes}
+use Rattle.encoding_base.proofs.Lanes.TestLemmas.{tests_of, tests_or, tests_xor, none_passes}
 use Rattle.encoding_text.proofs.mem.pair_blocks.fit_latin1.Goals as goal
 
 pub returns : goal.returns

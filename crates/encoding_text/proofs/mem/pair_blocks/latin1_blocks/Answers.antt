@@ -1,6 +1,6 @@
 use Rattle.std.proofs.Common.{◌+◌, ◌-◌, length, arith, refl, subst}
 use Rattle.encoding_text.specs.Steps.Pairs.{FitLatin1}
-use Rattle.encoding_text.proofs.Lanes.PairsLemmas.{latin1_joined}
+use Rattle.encoding_text.proofs.Surrogates.PairsLemmas.{latin1_joined}
 use Rattle.encoding_text.proofs.mem.pair_blocks.latin1_blocks.Goals as goal
 
 pub before_cut_character-requires-then-fit_latin1-2 : goal.before_cut_character-requires-then-fit_latin1-2

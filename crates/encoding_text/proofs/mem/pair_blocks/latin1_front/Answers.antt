@@ -1,5 +1,5 @@
 use Rattle.std.proofs.Common.{arith, refl}
-use Rattle.encoding_text.proofs.Lanes.PairsLemmas.{ascii_latin1, lead_fits}
+use Rattle.encoding_text.proofs.Surrogates.PairsLemmas.{ascii_latin1, lead_fits}
 use Rattle.encoding_text.proofs.mem.pair_blocks.latin1_front.Goals as goal
 
 pub returns-then-front-bytes : goal.returns-then-front-bytes

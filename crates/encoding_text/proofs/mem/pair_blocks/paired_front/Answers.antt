@@ -1,6 +1,6 @@
 use Rattle.std.proofs.Common.{◌+◌, ◌-◌, length, arith, refl, subst}
 use Rattle.encoding_text.specs.Steps.Pairs.{ArePaired}
-use Rattle.encoding_text.proofs.Lanes.PairsLemmas.{paired_joined}
+use Rattle.encoding_text.proofs.Surrogates.PairsLemmas.{paired_joined}
 use Rattle.encoding_text.proofs.mem.pair_blocks.paired_front.Goals as goal
 
 pub loop-at-preserved : goal.loop-at-preserved

@@ -1,6 +1,6 @@
 use Rattle.std.proofs.Common.{◌+◌, ◌-◌, drop, arith, subst}
 use Rattle.std.proofs.lemmas.List.{take_rest}
-use Rattle.encoding_text.specs.Fronts.{IsLongestFront}
+use Rattle.encoding_base.specs.Fronts.{IsLongestFront}
 use Rattle.encoding_text.specs.Surrogates.{IsValidUtf16}
 use Rattle.encoding_text.proofs.mem.surrogates.next_lone.Goals as goal
 

@@ -1,0 +1,9 @@
+pub mod PendingLemmas
+pub mod CallLemmas
+pub mod DecodeLemmas
+pub mod RoomLemmas
+pub mod CallPartsLemmas
+pub mod BorrowedLemmas
+pub mod HasAnswerLemmas
+pub mod OneAnswerLemmas
+pub mod OnePieceLemmas

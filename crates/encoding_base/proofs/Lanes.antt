@@ -1,0 +1,10 @@
+pub mod StridesLemmas
+pub mod LaneLemmas
+pub mod TestLemmas
+pub mod PlacesLemmas
+pub mod SpellingLemmas
+pub mod StoresLemmas
+pub mod KeptLemmas
+pub mod UnitLanesLemmas
+pub mod LongLemmas
+pub mod EndsLemmas

@@ -1,0 +1,6 @@
+pub mod FrontsLemmas
+pub mod FittingLemmas
+pub mod Utf8Lemmas
+pub mod ConvertingLemmas
+pub mod TextUnitsLemmas
+pub mod TextLoopLemmas

@@ -1,0 +1,13 @@
+use Rattle.std.proofs.Common.{arith}
+use Rattle.std.proofs.lemmas.List.{take_rest}
+use Rattle.encoding_base.proofs.LongestFronts.TextLoopLemmas.{putting_more, putting_all}
+use Rattle.encoding_base.proofs.utf_8.text_units.write_short_text.Goals as goal
+
+pub loop-read-preserved : goal.loop-read-preserved
+loop-read-preserved c =
+    let done = c.loop-read.invariant in
+    let puts = rw (take_rest c.args.src.now c.loop-read.read) at c.put_short-bytes.ensures.written in
+    putting_more c.args.src.now c.args.dst.now c.loop-read.dst c.put_short-bytes.new.dst c.loop-read.read c.loop-read.written _ _ (omega arith) done puts
+
+pub returns : goal.returns
+returns c = putting_all c.args.src.now c.args.dst.now c.loop-read.dst c.loop-read.read c.loop-read.written c.requires.text c.requires.room (omega arith) c.loop-read.invariant

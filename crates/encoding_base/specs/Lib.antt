@@ -1,0 +1,15 @@
+pub mod Sequence
+pub mod Table
+pub mod Pending
+pub mod Parts
+pub mod Giving
+pub mod Fronts
+pub mod Converting
+pub mod Decoding
+pub mod OneAnswer
+pub mod GivenParts
+pub mod Ascii
+pub mod Latin1
+pub mod Utf16
+pub mod Encoding
+pub mod Steps

@@ -1,0 +1,110 @@
+//! ASCII fronts of bytes and of UTF-16 code units: where they end, and their copies.
+
+ghost use Rattle.std.specs.Prelude.{take, length};
+ghost use Rattle.std.specs.Str.{IsAscii};
+ghost use Rattle.encoding_base.specs.Ascii.{IsFirstOther, front_length, IsIso2022JpAscii};
+ghost use Rattle.encoding_base.specs.Fronts.{IsLongestFront, WritesFront};
+
+use crate::strides::{copy_ascii, front_below, narrow_ascii, widen_ascii};
+
+/// The bits that no ASCII byte has: each of the eight bytes is 0x80.
+pub const ASCII_MASK: usize = 0x8080_8080_8080_8080;
+
+/// The least byte that isn't ASCII.
+const ASCII_END: u8 = 0x80;
+
+/// The byte that begins an escape sequence.
+const ESCAPE: u8 = 0x1B;
+
+/// A byte that switches to another character set.
+const SHIFT_OUT: u8 = 0x0E;
+
+/// The byte that switches back.
+const SHIFT_IN: u8 = 0x0F;
+
+/// The first byte that isn't ASCII, and its place. `None` if all bytes are ASCII.
+pub fn validate_ascii(bytes: &[u8]) -> Option<(u8, usize)>
+    ensures { IsFirstOther bytes.now result }
+{
+    let front = front_below(bytes, ASCII_END);
+    if front < bytes.len() {
+        Some((bytes[front], front))
+    } else {
+        None
+    }
+}
+
+/// The number of bytes in the longest ASCII front.
+pub fn ascii_valid_up_to(bytes: &[u8]) -> usize
+    ensures { IsLongestFront IsAscii bytes.now result }
+{
+    match validate_ascii(bytes) {
+        Some((_, place)) => place,
+        None => bytes.len(),
+    }
+}
+
+/// The number of bytes in the longest ASCII front without an escape byte, 0x1B, or a shift byte, 0x0E or 0x0F. Encoding
+/// Standard, section 12.2.1: the bytes that the ISO-2022-JP decoder gives back as they are.
+pub fn iso_2022_jp_ascii_valid_up_to(bytes: &[u8]) -> usize
+    ensures { IsLongestFront IsIso2022JpAscii bytes.now result }
+{
+    for i in 0..bytes.len() {
+        let byte = bytes[i];
+        if byte >= ASCII_END || byte == ESCAPE || byte == SHIFT_OUT || byte == SHIFT_IN {
+            return i;
+        }
+    }
+    bytes.len()
+}
+
+/// Copies the longest ASCII front, over the shorter length of the two, and returns the first byte there that isn't
+/// ASCII with its place, or `None`. Behind what is written `dst` is as before.
+pub fn ascii_to_ascii(src: &[u8], dst: &mut [u8]) -> Option<(u8, usize)>
+    ensures found { IsFirstOther (take (length dst.old) src.now) result }
+    ensures copied { let n = front_length (take (length dst.old) src.now) result in
+        WritesFront dst.old dst.new n (take n src.now) }
+{
+    let by_blocks = copy_ascii::<64>(src, dst, 0);
+    let by_strides = copy_ascii::<16>(src, dst, by_blocks);
+    let front = copy_ascii::<1>(src, dst, by_strides);
+    if front < src.len() && front < dst.len() {
+        Some((src[front], front))
+    } else {
+        None
+    }
+}
+
+/// Copies the longest ASCII front, each byte as a UTF-16 code unit, over the shorter length of the two, and returns the
+/// first byte there that isn't ASCII with its place, or `None`. Behind what is written `dst` is as before.
+pub fn ascii_to_basic_latin(src: &[u8], dst: &mut [u16]) -> Option<(u8, usize)>
+    ensures found { IsFirstOther (take (length dst.old) src.now) result }
+    ensures copied { let n = front_length (take (length dst.old) src.now) result in
+        WritesFront dst.old dst.new n (take n src.now) }
+{
+    let by_blocks = widen_ascii::<64>(src, dst, 0);
+    let by_strides = widen_ascii::<16>(src, dst, by_blocks);
+    let front = widen_ascii::<1>(src, dst, by_strides);
+    if front < src.len() && front < dst.len() {
+        Some((src[front], front))
+    } else {
+        None
+    }
+}
+
+/// Copies the longest ASCII front of UTF-16 code units, each as a byte, over the shorter length of the two, and returns
+/// the first code unit there that isn't ASCII with its place, or `None`. Behind what is written `dst` is as before.
+pub fn basic_latin_to_ascii(src: &[u16], dst: &mut [u8]) -> Option<(u16, usize)>
+    ensures found { IsFirstOther (take (length dst.old) src.now) result }
+    ensures copied { let n = front_length (take (length dst.old) src.now) result in
+        WritesFront dst.old dst.new n (take n src.now) }
+{
+    let by_blocks = narrow_ascii::<32>(src, dst, 0);
+    let by_strides = narrow_ascii::<16>(src, dst, by_blocks);
+    let front = narrow_ascii::<1>(src, dst, by_strides);
+    if front < src.len() && front < dst.len() {
+        Some((src[front], front))
+    } else {
+        None
+    }
+}

@@ -1,0 +1,9 @@
+//! ASCII and UTF-8, and the definitions that all contracts cite: the kernels, the streaming decoder and the streaming
+//! encoder. `encoding_text` hands on `ascii`, `decoder` and `utf_8`; `sequence` and `strides` are its own tools.
+#![tactic(auto)]
+
+pub mod ascii;
+pub mod decoder;
+pub mod sequence;
+pub mod strides;
+pub mod utf_8;

@@ -1,8 +1,0 @@
-pub mod FrontsLemmas
-pub mod FittingLemmas
-pub mod Utf8Lemmas
-pub mod ConvertingLemmas
-pub mod ToUtf16Lemmas
-pub mod TextUnitsLemmas
-pub mod TextLoopLemmas
-pub mod ClearingLemmas

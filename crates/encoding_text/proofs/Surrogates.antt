@@ -1,0 +1,3 @@
+pub mod SurrogateLemmas
+pub mod SurrogateLawLemmas
+pub mod PairsLemmas
