@@ -1,5 +1,5 @@
-//! UTF-8: Unicode Standard, section 3.9, and Encoding Standard, section 8.1. The second list of names is for the
-//! conversions of `encoding_text::mem`, which hands on the first alone.
+//! UTF-8: Unicode Standard, section 3.9, and Encoding Standard, section 8.1. What `encoding_text::utf_8` doesn't hand on is
+//! for the conversions of `encoding_text::mem`.
 mod blocks;
 mod decoding;
 mod encoder;
@@ -16,8 +16,8 @@ pub(crate) use decoding::CodeUnit;
 pub use decoding::{convert_utf8_to_utf16_up_to_invalid, scalar_of_sequence};
 pub use encoder::{EncoderResult, Utf8Encoder};
 pub use encoding::{
-    convert_utf16_to_utf8_partial_inner, convert_utf16_to_utf8_partial_tail, is_high_surrogate,
-    is_low_surrogate, is_surrogate,
+    convert_utf16_to_utf8_partial, convert_utf16_to_utf8_partial_inner,
+    convert_utf16_to_utf8_partial_tail, is_high_surrogate, is_low_surrogate, is_surrogate,
 };
 pub use latin1_ends::latin1_of;
 pub use spelling::{put_first, write_short};

@@ -9,7 +9,7 @@ ghost use Rattle.encoding_base.specs.Steps.FirstScalar.{IsFirstScalar};
 ghost use Rattle.encoding_base.specs.Encoding.{IsHeld, EndsHigh, IsEncoderCall, IsEncoderTextCall};
 
 use crate::utf_8::encoding::{
-    REPLACEMENT, convert_longest_front, is_high_surrogate, is_low_surrogate, pair_scalar,
+    REPLACEMENT, convert_utf16_to_utf8_partial, is_high_surrogate, is_low_surrogate, pair_scalar,
     utf8_length, write_scalar,
 };
 use std::marker::Model;
@@ -135,7 +135,7 @@ impl Utf8Encoder {
         ensures rest { WritesFront dst.old dst.new result.2 (take result.2 dst.new) }
     {
         let due = due_length(src, last);
-        let (read, written) = convert_longest_front(&src[..due], dst);
+        let (read, written) = convert_utf16_to_utf8_partial(&src[..due], dst);
         if read < due {
             return (EncoderResult::OutputFull, read, written);
         }

@@ -251,8 +251,11 @@ pub fn convert_utf16_to_utf8_partial_tail(src: &[u16], dst: &mut [u8]) -> (usize
 }
 
 /// Converts the first characters of `src` from UTF-16 to UTF-8, as many as fit into `dst`, and returns how many code
-/// units it read and how many bytes it wrote. Behind what is written `dst` is as before.
-pub(super) fn convert_longest_front(src: &[u16], dst: &mut [u8]) -> (usize, usize)
+/// units it read and how many bytes it wrote: Encoding Standard, `encodeInto`.
+///
+/// A surrogate that is in no pair counts as U+FFFD, also where it ends `src`: nothing is held from one call to the
+/// next. No character is written in part. Behind what is written `dst` is as before.
+pub fn convert_utf16_to_utf8_partial(src: &[u16], dst: &mut [u8]) -> (usize, usize)
     ensures longest { IsUtf8OfLongestFront src.now (length dst.old) result.0 (take result.1 dst.new) }
     ensures within { result.0 ≤ length src.now }
     ensures rest { WritesFront dst.old dst.new result.1 (take result.1 dst.new) }

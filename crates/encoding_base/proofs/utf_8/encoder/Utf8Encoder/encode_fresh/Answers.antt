@@ -9,4 +9,4 @@ returns-then-read-due-clause-call c =
     let d = c.due_length-due.ensures in
     let l : LeavesOpen c.args.src.now c.args.last c.due_length-due.result = record { within = d.within; held = d.held; last_opens_none = d.last; waits = d.waits } in
     subst (IsEncoderCall _ c.args.src.now (length c.args.dst.now) c.args.last OutputFull _ _) (sym c.requires.fresh)
-    (fresh_full c.args.src.now (length c.args.dst.now) c.args.last _ _ _ l c.convert_longest_front-read.ensures.longest c.if-read-due.true)
+    (fresh_full c.args.src.now (length c.args.dst.now) c.args.last _ _ _ l c.convert_utf16_to_utf8_partial-read.ensures.longest c.if-read-due.true)

@@ -1,6 +1,6 @@
 use Rattle.std.proofs.Common.{length, arith}
 use Rattle.encoding_base.proofs.CodeUnits.Utf16FrontLemmas.{front_all, join_longest, join_rest}
-use Rattle.encoding_base.proofs.utf_8.encoding.convert_longest_front.Goals as goal
+use Rattle.encoding_base.proofs.utf_8.encoding.convert_utf16_to_utf8_partial.Goals as goal
 
 pub returns-then-read-src-clause-longest : goal.returns-then-read-src-clause-longest
 returns-then-read-src-clause-longest c =
