@@ -6,3 +6,4 @@ pub mod EncoderTextLemmas
 pub mod FirstPartsLemmas
 pub mod EncoderPartsLemmas
 pub mod UnitBlocksLemmas
+pub mod PairedUnitsLemmas

@@ -8,3 +8,4 @@ pub mod Strides
 pub mod Lanes
 pub mod Spelling
 pub mod Units
+pub mod Halves

@@ -4,6 +4,7 @@ mod blocks;
 mod decoding;
 mod encoder;
 mod encoding;
+mod halves;
 mod kept_bytes;
 mod kept_lanes;
 mod latin1_ends;

@@ -52,16 +52,24 @@ looked_up bytes places long small =
     same_number_lists (swz_l w8 16 bytes 0 places) (map (λ j. get_or bytes j 0) places) (omega (arith, lanes.long, length-map places (λ j. get_or bytes j 0))) (λ k l.
     lanes.each k (omega (arith, lanes.long)) ∙ sym (get_or-map (λ j. get_or bytes j 0) places k 0 0 (omega (arith, lanes.long))))
 
+-- the bytes at the places that the mask keeps
+pub gathered : (us bytes places : List ℕ) (mask : ℕ) → length us ≡ 8 → length places ≡ 16 → ((k : ℕ) → k < 16 → get_or places k 0 < 16) → mask ≡ mask_l (map (nat_le 0x80) us)
+    → take (length (kept_places 0 (map (nat_le 0x80) us))) places ≡ kept_places 0 (map (nat_le 0x80) us)
+    → take (8 + count_ones mask) (swz_l w8 16 bytes 0 places) ≡ map (λ j. get_or bytes j 0) (kept_places 0 (map (nat_le 0x80) us))
+gathered us bytes places mask l long small m kept =
+    let tests = map (nat_le 0x80) us in
+    let count : 8 + count_ones mask ≡ length (kept_places 0 tests) = omega (arith, kept_long 0 tests, ap count_ones m, length-map us (nat_le 0x80)) in
+    let get : ℕ → ℕ = λ j. get_or bytes j 0 in
+    ap (λ n. take n (swz_l w8 16 bytes 0 places)) count ∙ ap (take (length (kept_places 0 tests))) (looked_up bytes places long small)
+    ∙ take-map get (length (kept_places 0 tests)) places ∙ ap (map get) kept
+
 pub spelled_short : (us bytes places : List ℕ) (mask : ℕ) → length us ≡ 8 → length places ≡ 16 → ((k : ℕ) → k < 16 → get_or places k 0 < 16) → mask ≡ mask_l (map (nat_le 0x80) us)
     → take (length (kept_places 0 (map (nat_le 0x80) us))) places ≡ kept_places 0 (map (nat_le 0x80) us)
     → ((k : ℕ) → k < 8 → Spells (get_or us k 0) (get_or bytes (2 * k) 0) (get_or bytes (2 * k + 1) 0))
     → take (8 + count_ones mask) (swz_l w8 16 bytes 0 places) ≡ encode_utf8_all us
 spelled_short us bytes places mask l long small m kept spells =
-    let tests = map (nat_le 0x80) us in
-    let count : 8 + count_ones mask ≡ length (kept_places 0 tests) = omega (arith, kept_long 0 tests, ap count_ones m, length-map us (nat_le 0x80)) in
-    let get : ℕ → ℕ = λ j. get_or bytes j 0 in
-    ap (λ n. take n (swz_l w8 16 bytes 0 places)) count ∙ ap (take (length (kept_places 0 tests))) (looked_up bytes places long small)
-    ∙ take-map get (length (kept_places 0 tests)) places ∙ ap (map get) kept ∙ kept_spell get us 0 (λ k i. let e : 2 * k ≡ 0 + 2 * k = omega arith in subst (λ j. Spells (get_or us k 0) (get_or bytes j 0) (get_or bytes (j + 1) 0)) e (spells k (omega arith)))
+    gathered us bytes places mask l long small m kept
+    ∙ kept_spell (λ j. get_or bytes j 0) us 0 (λ k i. let e : 2 * k ≡ 0 + 2 * k = omega arith in subst (λ j. Spells (get_or us k 0) (get_or bytes j 0) (get_or bytes (j + 1) 0)) e (spells k (omega arith)))
 
 -- ---- both bytes
 -- of a code unit from 0x80 on, in one number
@@ -71,7 +79,7 @@ both u = ((u / 2 ^ 6 + bit_and u 0x3F * 2 ^ 8 % 2 ^ 16) % 2 ^ 16 + 0x80C0) % 2 ^
 both_is : (u : ℕ) → u < 0x800 → (both u % 256 ≡ 192 + u / 64) × (both u / 256 % 256 ≡ 128 + u % 64)
 both_is u l = let low : bit_and u 0x3F ≡ u % 2 ^ 6 = and_mask u 6 in (omega arith, omega arith)
 
-Spells-word : (u : ℕ) → u < 0x800 → Spells u (cond (nat_le 0x80 u) (both u) u % 256) (cond (nat_le 0x80 u) (both u) u / 256 % 256)
+pub Spells-word : (u : ℕ) → u < 0x800 → Spells u (cond (nat_le 0x80 u) (both u) u % 256) (cond (nat_le 0x80 u) (both u) u / 256 % 256)
 Spells-word u l = elim (cases_lt u 0x80) [
   | inl low ↦
       let test : nat_le 0x80 u ≡ false = grind (arith, nat_tests) in
@@ -98,7 +106,7 @@ small_mask us long =
 respell : (u : ℕ) {x y x2 y2 : ℕ} → x ≡ x2 → y ≡ y2 → Spells u x2 y2 → Spells u x y
 respell u {x} {y} {x2} {y2} p q s = subst (λ k. Spells u k y) (sym p) (subst (Spells u x2) (sym q) s)
 
-pick : (b : Bool) (x y : ℕ) → x < 65536 → y < 65536 → cond b x y < 65536
+pub pick : (b : Bool) (x y : ℕ) → x < 65536 → y < 65536 → cond b x y < 65536
 pick true x y l m = l
 pick false x y l m = m
 

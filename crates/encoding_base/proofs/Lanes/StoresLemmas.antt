@@ -20,7 +20,7 @@ firsts_over at count xs lanes room long =
     HasLanes-same chosen (λ k l. ap (λ b. cond b (get_or lanes k 0) (get_or (chunk at 16 xs) k 0)) (top_compared w8 (ltb k count)))
 
 module _ (at count more : ℕ) (xs first second z : List ℕ) (room : at + 32 ≤ length xs) (few : count ≤ 16) (long : length first ≡ 16) (many : 8 ≤ count)
-    (some : 8 ≤ more) (less : more ≤ 16) (also : length second ≡ 16)
+    (less : more ≤ 16) (also : length second ≡ 16)
     (lanes : HasLanes 16 z (λ k. cond (ltb k more) (get_or second k 0) (get_or (chunk (at + count) 16 xs) k 0))) where
   stored : List ℕ
   stored = put_chunk at xs first

@@ -47,6 +47,10 @@ module _ {w : Width} {n : ℕ} {a : List ℕ} {t : ℕ → Bool} where
   pub chosen : (x y : ℕ) → HasTests w n a t → HasLanes n (sel_l (map (top (hbits w)) a) (replicate n x) (replicate n y)) (λ k. cond (t k) x y)
   chosen x y p = HasLanes-same (HasLanes-select (hbits w) p.lanes (HasLanes-splat n x) (HasLanes-splat n y)) (λ k l. ap (λ b. cond b x y) (top_compared w (t k)))
 
+  -- `mask.select(b, c)`
+  pub chosen_by : {b c : List ℕ} {f g : ℕ → ℕ} → HasTests w n a t → HasLanes n b f → HasLanes n c g → HasLanes n (sel_l (map (top (hbits w)) a) b c) (λ k. cond (t k) (f k) (g k))
+  chosen_by {b} {c} {f} {g} p q r = HasLanes-same (HasLanes-select (hbits w) p.lanes q r) (λ k l. ap (λ x. cond x (f k) (g k)) (top_compared w (t k)))
+
   -- `!mask.any()`
   pub none_passes : HasTests w n a t → n ≤ 64 → IsTrue (not (not (eqb (mask_of (hbits w) a) 0))) ↔ ((k : ℕ) → k < n → t k ≡ false)
   none_passes p few = not_any_is (hbits w) p.lanes few (λ k. t k ≡ false) (λ k l. (λ e. sym (top_compared w (t k)) ∙ e, λ e. top_compared w (t k) ∙ e))

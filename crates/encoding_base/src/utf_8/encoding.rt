@@ -9,6 +9,7 @@ ghost use Rattle.encoding_base.specs.Steps.FirstScalar.{IsFirstScalar};
 ghost use Rattle.encoding_base.specs.Steps.Spelling.{ArePlain};
 
 use crate::strides::{are_units_below, narrow_ascii};
+use crate::utf_8::halves::{are_short_or_paired, write_short_or_paired};
 use crate::utf_8::spelling::{are_long, are_short, write_long, write_short, write_short_eight};
 use std::simd::prelude::*;
 
@@ -181,13 +182,41 @@ fn convert_blocks(src: &[u16], dst: &mut [u8]) -> (usize, usize)
     (read, written)
 }
 
-/// How many characters go one by one behind so many code units in blocks: few where there were some, and many where
-/// there were none, so that text without blocks isn't looked through twice.
-#[inline(always)]
-fn singles_behind(units: usize) -> usize
-    ensures { 0 < result }
+/// Converts blocks of code units from the beginning of `src` on while they have pairs of surrogates and are below U+0800
+/// beside these, and returns how many code units these are and how many bytes it wrote. Behind these `dst` is as before.
+fn convert_paired_blocks(src: &[u16], dst: &mut [u8]) -> (usize, usize)
+    ensures front { IsUtf8OfFront src.now result.0 (take result.1 dst.new) }
+    ensures rest { WritesFront dst.old dst.new result.1 (take result.1 dst.new) }
+    ensures within { result.0 ≤ length src.now }
 {
-    if units > 0 { 8 } else { 32 }
+    let mut read = 0;
+    let mut written = 0;
+    while src.len() - read > BLOCK
+        && dst.len() - written >= 32
+        && !are_units_below::<16>(src, read, 0x800)
+        && are_short_or_paired(src, read)
+    {
+        let (units, bytes) = write_short_or_paired(src, read, dst, written);
+        read += units;
+        written += bytes;
+    }
+    (read, written)
+}
+
+/// How many characters go one by one behind so many code units in blocks and in blocks with pairs: none behind the
+/// latter, else few where there were some, and many where there were none, so that text without blocks isn't looked
+/// through twice.
+#[inline(always)]
+fn singles_behind(units: usize, paired: usize) -> usize
+    ensures { paired ≡ 0 → 0 < result }
+{
+    if paired > 0 {
+        0
+    } else if units > 0 {
+        8
+    } else {
+        32
+    }
 }
 
 /// Converts the first characters of `src` from UTF-16 to UTF-8, while at least four bytes of `dst` are free, and
@@ -211,7 +240,10 @@ pub fn convert_utf16_to_utf8_partial_inner(src: &[u16], dst: &mut [u8]) -> (usiz
             let (units, bytes) = convert_blocks(&src[read..], &mut dst[written..]);
             read += units;
             written += bytes;
-            singles = singles_behind(units);
+            let (paired, extra) = convert_paired_blocks(&src[read..], &mut dst[written..]);
+            read += paired;
+            written += extra;
+            singles = singles_behind(units, paired);
         } else if src[read] < 0x80 {
             dst[written] = src[read] as u8;
             written += 1;

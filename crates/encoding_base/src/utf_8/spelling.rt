@@ -25,7 +25,7 @@ fn both_bytes(units: u16x8) -> u8x16
 
 /// The mask of the code units that aren't ASCII.
 #[inline(always)]
-fn mask_of_others(units: u16x8) -> usize
+pub(super) fn mask_of_others(units: u16x8) -> usize
     ensures small { result < 256 }
     ensures mask { result ≡ mask_l (map (nat_le 0x80) units) }
 {
@@ -48,10 +48,17 @@ fn spell_short(units: u16x8) -> (u8x16, usize)
 /// Writes first bytes of two vectors, so many of each, one behind the other. Behind them `dst` is as before, though 32
 /// bytes are stored.
 #[inline(always)]
-fn put_both(dst: &mut [u8], at: usize, first: u8x16, count: usize, second: u8x16, more: usize)
+pub(super) fn put_both(
+    dst: &mut [u8],
+    at: usize,
+    first: u8x16,
+    count: usize,
+    second: u8x16,
+    more: usize,
+)
     requires room { at + 32 ≤ length dst.old }
     requires first { (8 ≤ count) × (count ≤ 16) × (length first ≡ 16) }
-    requires second { (8 ≤ more) × (more ≤ 16) × (length second ≡ 16) }
+    requires second { (more ≤ 16) × (length second ≡ 16) }
     ensures { dst.new ≡ take at dst.old ++ ((take count first ++ take more second) ++ drop (at + (count + more)) dst.old) }
 {
     let next = at + count;

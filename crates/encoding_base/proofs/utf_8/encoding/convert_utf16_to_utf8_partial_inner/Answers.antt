@@ -1,9 +1,10 @@
-use Rattle.std.proofs.Common.{◌<◌, ◌++◌, ◌∷◌, ◌-◌, [], map, take, drop, length, arith, refl, sym, subst}
+use Rattle.std.proofs.Common.{◌+◌, ◌<◌, ◌++◌, ◌∷◌, ◌-◌, [], map, take, drop, length, arith, refl, sym, subst}
 use Rattle.encoding_base.proofs.LongestFronts.FrontsLemmas.{WritesFront_after, WritesFront-same}
 use Rattle.encoding_base.proofs.LongestFronts.FittingLemmas.{written_is}
 use Rattle.encoding_base.proofs.CodeUnits.Utf16FrontLemmas.{step_walked, step_within, step_written, walked_front}
 use Rattle.encoding_base.proofs.CodeUnits.UnitBlocksLemmas.{ascii_parts, ascii_walked, ascii_written, blocks_walked, blocks_written}
-use Rattle.encoding_base.specs.Utf16.{IsUtf8OfFront, Character16}
+use Rattle.encoding_base.proofs.CodeUnits.PairedUnitsLemmas.{goes_on}
+use Rattle.encoding_base.specs.Utf16.{AreUnits, IsUtf8OfFront, Character16}
 use Rattle.encoding_base.proofs.utf_8.encoding.convert_utf16_to_utf8_partial_inner.Goals as goal
 
 pub loop-read-preserved-then-singles-eq0 : goal.loop-read-preserved-then-singles-eq0
@@ -13,11 +14,17 @@ loop-read-preserved-then-singles-eq0 c =
     let here = c.loop-read.invariant in
     let units = c.convert_blocks-units.result.0 in
     let call = c.convert_blocks-units.ensures in
+    let fit : AreUnits us = λ k. omega (arith, c.type_inv.src k) in
+    let blocks = here.done ++ map Character16 (take units (take (length us - read) (drop read us))) in
+    let walked = blocks_walked us read units here.done fit here.walked call.within call.plain in
+    let written = WritesFront-same _ _ _ _ _ _ (WritesFront_after _ _ _ _ _ _ _ here.written call.written) refl (blocks_written us read units here.done fit) in
+    let next = c.convert_paired_blocks-paired.ensures in
+    let more = goes_on us fit (read + units) c.convert_paired_blocks-paired.result.0 blocks _ walked next.front in
     record {
-      within = omega (arith, call.within);
-      done = here.done ++ map Character16 (take units (take (length us - read) (drop read us)));
-      walked = blocks_walked us read units here.done (λ k. omega (arith, c.type_inv.src k)) here.walked call.within call.plain;
-      written = WritesFront-same _ _ _ _ _ _ (WritesFront_after _ _ _ _ _ _ _ here.written call.written) refl (blocks_written us read units here.done (λ k. omega (arith, c.type_inv.src k)));
+      within = omega (arith, call.within, next.within);
+      done = more.all;
+      walked = more.walked;
+      written = WritesFront-same _ _ _ _ _ _ (WritesFront_after _ _ _ _ _ _ _ written next.rest) refl more.written;
     }
 
 pub loop-read-preserved-then-src-read-lt128 : goal.loop-read-preserved-then-src-read-lt128
