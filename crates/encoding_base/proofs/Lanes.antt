@@ -8,3 +8,4 @@ pub mod KeptLemmas
 pub mod UnitLanesLemmas
 pub mod LongLemmas
 pub mod EndsLemmas
+pub mod UnitBytesLemmas
