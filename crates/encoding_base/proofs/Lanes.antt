@@ -9,3 +9,4 @@ pub mod UnitLanesLemmas
 pub mod LongLemmas
 pub mod EndsLemmas
 pub mod HalvesLemmas
+pub mod UnitBytesLemmas

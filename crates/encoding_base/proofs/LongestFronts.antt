@@ -3,4 +3,5 @@ pub mod FittingLemmas
 pub mod Utf8Lemmas
 pub mod ConvertingLemmas
 pub mod TextUnitsLemmas
+pub mod TextTailLemmas
 pub mod TextLoopLemmas

@@ -28,7 +28,7 @@ joined x y = omega arith
 abbrev pub wide_l : List ℕ → List ℕ
 wide_l bs = digits_l 65536 8 (number_l 256 bs)
 
-wide : (bs : List ℕ) → length bs ≡ 16 → Each1 (λ x. x < 256) bs → HasLanes 8 (wide_l bs) (λ j. get_or bs (2 * j) 0 + 256 * get_or bs (2 * j + 1) 0)
+pub wide : (bs : List ℕ) → length bs ≡ 16 → Each1 (λ x. x < 256) bs → HasLanes 8 (wide_l bs) (λ j. get_or bs (2 * j) 0 + 256 * get_or bs (2 * j + 1) 0)
 wide bs long fit = record {
   long = refl;
   each = λ j l. get_or_wider 256 2 65536 8 bs j refl fit l ∙ ap (number_l 256) (two_at bs (2 * j) (omega arith)) ∙ joined (get_or bs (2 * j) 0) (get_or bs (2 * j + 1) 0);

@@ -1,16 +1,14 @@
 -- The vectors that hold the code unit that ends with each byte, and a mark where one does.
-use Rattle.std.proofs.Common.{◌≡◌, ℕ, zero, suc, ◌+◌, ◌-◌, ◌*◌, ◌/◌, ◌%◌, ◌^◌, ◌<◌, ◌≤◌, Bool, true, false, ◌&&◌, cond, leb, ltb, List, [], ◌∷◌, ◌++◌, map, length, take, get_or, replicate, bit_and, refl, sym, ap, ◌∙◌, arith, w8, w16, Fits}
+use Rattle.std.proofs.Common.{◌≡◌, ℕ, zero, suc, ◌+◌, ◌-◌, ◌*◌, ◌%◌, ◌^◌, ◌<◌, ◌≤◌, Bool, true, false, ◌&&◌, cond, ltb, List, [], ◌∷◌, ◌++◌, map, length, take, get_or, replicate, bit_and, refl, sym, ap, ◌∙◌, arith, w8, Fits}
 use Rattle.std.specs.List.{range_with_len}
 use Rattle.std.specs.Simd.Lanes.{zip2, pick_l, mask_l, top, Each1}
-use Rattle.std.proofs.lemmas.Bool.{cond-false, lt-leb}
-use Rattle.std.proofs.lemmas.Grind.{same_number_lists}
 use Rattle.std.proofs.lemmas.Nat.{and_mask, one_shl}
 use Rattle.std.proofs.lemmas.List.{length-map, get_or-map, same_lists}
 use Rattle.std.proofs.lemmas.List.FromFn.{get_or-map-range_with_len}
 use Rattle.std.proofs.lemmas.Simd.{Each1-get_or, mask_l-mod}
 use Rattle.encoding_base.specs.Steps.Lanes.{HasLanes}
-use Rattle.encoding_base.specs.Steps.Units.{ends_unit, low_bits, unit_at, unit_lane, units_behind, ends_behind}
-use Rattle.encoding_base.proofs.Lanes.LaneLemmas.{HasLanes-splat, HasLanes-zip2, compared, top_compared}
+use Rattle.encoding_base.specs.Steps.Units.{ends_unit, low_bits, unit_at, units_behind, ends_behind}
+use Rattle.encoding_base.proofs.Lanes.LaneLemmas.{HasLanes-splat, HasLanes-zip2, compared}
 use Rattle.encoding_base.proofs.Lanes.KeptLemmas.{mask_front}
 
 -- ---- the bytes before
@@ -59,56 +57,18 @@ low_lane a b =
     let q : bit_and b 63 ≡ b % 64 = and_mask b 6 in
     (λ i. (p i * 64 % 2 ^ 16 + q i) % 2 ^ 16) ∙ omega arith
 
-three_lane : (y low : ℕ) → y < 256 → low < 4096 → (y * 4096 % 2 ^ 16 + low) % 2 ^ 16 ≡ y % 16 * 4096 + low
-three_lane y low h l = let e : y * 4096 % 65536 ≡ y % 16 * 4096 = omega arith in omega arith
-
-upper_lane : (y low : ℕ) → y < 256 → low < 4096 → (0xD7C0 + (bit_and y 7 * 256 % 2 ^ 16 + low / 2 ^ 4) % 2 ^ 16) % 2 ^ 16 ≡ 0xD7C0 + (y % 8 * 256 + low / 16)
-upper_lane y low h l = let e : bit_and y 7 ≡ y % 8 = and_mask y 3 in ap (λ n. (0xD7C0 + (n * 256 % 2 ^ 16 + low / 2 ^ 4) % 2 ^ 16) % 2 ^ 16) e ∙ omega arith
-
-lower_lane : (low : ℕ) → (0xDC00 + bit_and low 0x3FF) % 2 ^ 16 ≡ 0xDC00 + low % 0x400
-lower_lane low = let e : bit_and low 0x3FF ≡ low % 1024 = and_mask low 10 in ap (λ n. (0xDC00 + n) % 2 ^ 16) e ∙ omega arith
-
-low_small : (a b : ℕ) → low_bits a b < 4096
-low_small a b = omega arith
-
--- what each of the selections has at a lane
-pub short_lane : (x y a b low : ℕ) → x < 0xF0 → y < 0xF0 → low ≡ low_bits a b
-    → cond (top 15 (compared w16 ltb b 0x80)) b (cond (top 15 (compared w16 leb 0xE0 y)) ((y * 0x1000 % 2 ^ 16 + low) % 2 ^ 16) low) ≡ unit_at x y a b
-short_lane x y a b low X Y e =
-    let three : (y * 0x1000 % 2 ^ 16 + low) % 2 ^ 16 ≡ y % 16 * 4096 + low_bits a b = ap (λ n. (y * 0x1000 % 2 ^ 16 + n) % 2 ^ 16) e ∙ three_lane y (low_bits a b) (omega arith) (low_small a b) in
-    let longer : cond (top 15 (compared w16 leb 0xE0 y)) ((y * 0x1000 % 2 ^ 16 + low) % 2 ^ 16) low ≡ cond (leb 0xE0 y) (y % 16 * 4096 + low_bits a b) (low_bits a b) =
-    (λ i. cond (top_compared w16 (leb 0xE0 y) i) (three i) (e i)) in
-    (λ i. cond (top_compared w16 (ltb b 0x80) i) b (longer i))
-    ∙ ap (cond (ltb b 0x80) b) (sym (cond-false (leb 0xF0 x) _ _ (lt-leb _ _ X) ∙ cond-false (leb 0xF0 y) _ _ (lt-leb _ _ Y)))
-
-pub long_lane : (x y a b low : ℕ) → y < 256 → low ≡ low_bits a b
-    → cond (top 15 (compared w16 ltb b 0x80)) b (cond (top 15 (compared w16 leb 0xF0 x)) ((0xDC00 + bit_and low 0x3FF) % 2 ^ 16)
-    (cond (top 15 (compared w16 leb 0xF0 y)) ((0xD7C0 + (bit_and y 7 * 256 % 2 ^ 16 + low / 2 ^ 4) % 2 ^ 16) % 2 ^ 16)
-    (cond (top 15 (compared w16 leb 0xE0 y)) ((y * 0x1000 % 2 ^ 16 + low) % 2 ^ 16) low))) ≡ unit_at x y a b
-long_lane x y a b low Y e =
-    let three : (y * 0x1000 % 2 ^ 16 + low) % 2 ^ 16 ≡ y % 16 * 4096 + low_bits a b = ap (λ n. (y * 0x1000 % 2 ^ 16 + n) % 2 ^ 16) e ∙ three_lane y (low_bits a b) Y (low_small a b) in
-    let upper : (0xD7C0 + (bit_and y 7 * 256 % 2 ^ 16 + low / 2 ^ 4) % 2 ^ 16) % 2 ^ 16 ≡ 0xD7C0 + (y % 8 * 256 + low_bits a b / 16) =
-    ap (λ n. (0xD7C0 + (bit_and y 7 * 256 % 2 ^ 16 + n / 2 ^ 4) % 2 ^ 16) % 2 ^ 16) e ∙ upper_lane y (low_bits a b) Y (low_small a b) in
-    let lower : (0xDC00 + bit_and low 0x3FF) % 2 ^ 16 ≡ 0xDC00 + low_bits a b % 0x400 = ap (λ n. (0xDC00 + bit_and n 0x3FF) % 2 ^ 16) e ∙ lower_lane (low_bits a b) in
-    λ i. cond (top_compared w16 (ltb b 0x80) i) b
-    (cond (top_compared w16 (leb 0xF0 x) i) (lower i) (cond (top_compared w16 (leb 0xF0 y) i) (upper i) (cond (top_compared w16 (leb 0xE0 y) i) (three i) (e i))))
-
 -- ---- all lanes
-units_at : (x y a : ℕ) (bs : List ℕ) (k : ℕ) → k < length bs
+pub units_at : (x y a : ℕ) (bs : List ℕ) (k : ℕ) → k < length bs
     → get_or (units_behind x y a bs) k 0 ≡ unit_at (get_or (x ∷ y ∷ a ∷ bs) k 0) (get_or (y ∷ a ∷ bs) k 0) (get_or (a ∷ bs) k 0) (get_or bs k 0)
 unfolding units_behind
 units_at x y a [] k l = absurd (omega arith)
 units_at x y a (b ∷ bs) zero l = refl
 units_at x y a (b ∷ bs) (suc k) l = units_at y a b bs k (omega arith)
 
-length-units : (x y a : ℕ) (bs : List ℕ) → length (units_behind x y a bs) ≡ length bs
+pub length-units : (x y a : ℕ) (bs : List ℕ) → length (units_behind x y a bs) ≡ length bs
 unfolding units_behind
 length-units x y a [] = refl
 length-units x y a (b ∷ bs) = ap suc (length-units y a b bs)
-
-pub units_from_lanes : (v r : List ℕ) → length v ≡ 16 → HasLanes 16 r (unit_lane v) → r ≡ units_behind 0 0 0 v
-units_from_lanes v r long h = same_number_lists r (units_behind 0 0 0 v) (h.long ∙ sym (length-units 0 0 0 v ∙ long)) (λ k l.
-    let in_16 : k < 16 = omega (arith, h.long) in h.each k in_16 ∙ sym (units_at 0 0 0 v k (omega (arith, long))))
 
 -- ---- marks
 both_tops : (p q : Bool) → top 7 (bit_and (cond p 255 0) (cond q 255 0)) ≡ p && q

@@ -1,21 +1,22 @@
 -- UTF-16 of a text by its bytes, and writing it front by front.
-use Rattle.std.proofs.Common.{◌≡◌, ℕ, zero, suc, ◌+◌, ◌-◌, ◌*◌, ◌/◌, ◌%◌, ◌<◌, ◌≤◌, inl, inr, true, false, ◌&&◌, if◌then◌else◌, leb, ltb, List, [], ◌∷◌, ◌++◌, length, take, drop, get_or, replicate, encode_utf8, encode_utf8_all, refl, sym, ap, ◌∙◌, arith, subst, take-add}
+use Rattle.std.proofs.Common.{◌≡◌, ℕ, zero, suc, ◌+◌, ◌-◌, ◌*◌, ◌/◌, ◌%◌, ◌<◌, ◌≤◌, inl, inr, true, false, ◌&&◌, if◌then◌else◌, leb, ltb, List, [], ◌∷◌, ◌++◌, length, take, drop, get_or, replicate, map, bit_or, encode_utf8, encode_utf8_all, refl, sym, ap, ◌∙◌, arith, subst, take-add}
 use lib.Utf8.{scalar, scalar_cases}
 use Rattle.std.specs.Char.{IsScalar}
 use Rattle.std.specs.Char.Escape.{encode_utf16}
 use Rattle.std.specs.Str.{all_scalars, IsUtf8, IsCharBoundary, IsAscii}
-use Rattle.std.specs.List.{flat_map}
+use Rattle.std.specs.List.{flat_map, range_with_len}
 use Rattle.std.specs.Simd.Lanes.{put_chunk}
 use Rattle.std.proofs.str.Laws.{one, two, three, four}
 use Rattle.std.proofs.lemmas.Bool.{cond-true, cond-false, cases_lt, lt-leb, le-leb, lt-ltb, le-ltb, and_parts, and_from}
 use Rattle.std.proofs.lemmas.Grind.{same_number_lists}
 use Rattle.std.proofs.lemmas.Simd.{put_chunk_is}
 use Rattle.std.proofs.lemmas.List.{length-append, length-drop, length-take, take_at, take-take, drop_at, drop-drop, get_or-drop, get_or-take, take-append-le}
+use Rattle.std.proofs.lemmas.List.FromFn.{get_or-map-range_with_len}
 use Rattle.std.proofs.lemmas.Str.{IsUtf8-take, IsUtf8-drop, IsUtf8-from_ascii, IsCharBoundary-after_ascii, encodes-IsAscii, encodes_same}
 use Rattle.encoding_base.specs.Fronts.{WritesFront}
 use Rattle.encoding_base.specs.Steps.Strides.{BelowUpTo}
 use Rattle.encoding_base.specs.Steps.Lanes.{HasLanes}
-use Rattle.encoding_base.specs.Steps.Units.{BeginsThree, keep, ends_unit, low_bits, triple_unit, unit_at, units_behind, ends_behind, PutsKept, PutsText}
+use Rattle.encoding_base.specs.Steps.Units.{BeginsThree, keep, ends_unit, low_bits, triple_unit, unit_at, units_behind, upper_of, ends_behind, PutsKept, PutsText}
 use Rattle.encoding_base.proofs.Lanes.KeptLemmas.{keep_pad}
 use Rattle.encoding_base.proofs.LongestFronts.FittingLemmas.{written_is}
 use Rattle.encoding_base.proofs.Latin.AsciiLemmas.{Each-take}
@@ -30,23 +31,37 @@ mark_off_second a b l h = λ i. lt-ltb b 0xC0 l i && le-ltb a 0xE0 h i
 mark_on : (a b : ℕ) → b < 0xC0 → a < 0xE0 → ends_unit a b ≡ true
 mark_on a b l h = λ i. lt-ltb b 0xC0 l i && lt-ltb a 0xE0 h i
 
+-- the upper byte of a low surrogate
+marked : map (λ n. bit_or n 0xDC) (range_with_len 0 16) ≡ map (λ n. 0xDC + n % 4) (range_with_len 0 16)
+marked = refl
+
+low_mark : (n : ℕ) → n < 16 → bit_or n 0xDC ≡ 0xDC + n % 4
+low_mark n l =
+    sym (get_or-map-range_with_len (λ k. bit_or k 0xDC) 0 16 n n 0 l (omega arith)) ∙ ap (λ xs. get_or xs n 0) marked
+    ∙ get_or-map-range_with_len (λ k. 0xDC + k % 4) 0 16 n n 0 l (omega arith)
+
 module _ (x y a b : ℕ) where
   unit_one : b < 0x80 → unit_at x y a b ≡ b
   unit_one h = cond-true (ltb b 0x80) _ _ (lt-ltb _ _ h)
 
-  unit_low : 0x80 ≤ b → 0xF0 ≤ x → unit_at x y a b ≡ 0xDC00 + low_bits a b % 0x400
-  unit_low h p = cond-false (ltb b 0x80) _ _ (le-ltb _ _ h) ∙ cond-true (leb 0xF0 x) _ _ (le-leb _ _ p)
+  unit_low : 0x80 ≤ b → 0xF0 ≤ x → y < 0xE0 → unit_at x y a b ≡ 0xDC00 + low_bits a b % 0x400
+  unit_low h p q =
+      let r : y < 0xF0 = omega arith in
+      let upper : upper_of y a ≡ a % 64 / 4 = ap (λ n. n + a % 64 / 4) (cond-false (leb 0xE0 y) _ _ (lt-leb _ _ q)) ∙ omega arith in
+      let mark : bit_or (upper_of y a) 0xDC ≡ 0xDC + a % 64 / 4 % 4 = ap (λ n. bit_or n 0xDC) upper ∙ low_mark (a % 64 / 4) (omega arith) in
+      cond-false (ltb b 0x80) _ _ (le-ltb _ _ h) ∙ cond-false (leb 0xF0 y) _ _ (lt-leb _ _ r) ∙ cond-true (leb 0xF0 x) _ _ (le-leb _ _ p)
+      ∙ ap (λ n. n * 0x100 + low_bits a b % 0x100) mark ∙ omega arith
 
-  unit_high : 0x80 ≤ b → x < 0xF0 → 0xF0 ≤ y → unit_at x y a b ≡ 0xD7C0 + (y % 8 * 256 + low_bits a b / 16)
-  unit_high h p q = cond-false (ltb b 0x80) _ _ (le-ltb _ _ h) ∙ cond-false (leb 0xF0 x) _ _ (lt-leb _ _ p) ∙ cond-true (leb 0xF0 y) _ _ (le-leb _ _ q)
+  unit_high : 0x80 ≤ b → 0xF0 ≤ y → unit_at x y a b ≡ 0xD7C0 + (y % 8 * 256 + low_bits a b / 16)
+  unit_high h q = cond-false (ltb b 0x80) _ _ (le-ltb _ _ h) ∙ cond-true (leb 0xF0 y) _ _ (le-leb _ _ q)
 
   unit_three : 0x80 ≤ b → x < 0xF0 → y < 0xF0 → 0xE0 ≤ y → unit_at x y a b ≡ y % 16 * 4096 + low_bits a b
-  unit_three h p q r = cond-false (ltb b 0x80) _ _ (le-ltb _ _ h) ∙ cond-false (leb 0xF0 x) _ _ (lt-leb _ _ p) ∙ cond-false (leb 0xF0 y) _ _ (lt-leb _ _ q) ∙ cond-true (leb 0xE0 y) _ _ (le-leb _ _ r)
+  unit_three h p q r = cond-false (ltb b 0x80) _ _ (le-ltb _ _ h) ∙ cond-false (leb 0xF0 y) _ _ (lt-leb _ _ q) ∙ cond-false (leb 0xF0 x) _ _ (lt-leb _ _ p) ∙ cond-true (leb 0xE0 y) _ _ (le-leb _ _ r)
 
   unit_two : 0x80 ≤ b → x < 0xF0 → y < 0xE0 → unit_at x y a b ≡ low_bits a b
   unit_two h p q =
       let r : y < 0xF0 = omega arith in
-      cond-false (ltb b 0x80) _ _ (le-ltb _ _ h) ∙ cond-false (leb 0xF0 x) _ _ (lt-leb _ _ p) ∙ cond-false (leb 0xF0 y) _ _ (lt-leb _ _ r) ∙ cond-false (leb 0xE0 y) _ _ (lt-leb _ _ q)
+      cond-false (ltb b 0x80) _ _ (le-ltb _ _ h) ∙ cond-false (leb 0xF0 y) _ _ (lt-leb _ _ r) ∙ cond-false (leb 0xF0 x) _ _ (lt-leb _ _ p) ∙ cond-false (leb 0xE0 y) _ _ (lt-leb _ _ q)
 
   abbrev emits : List ℕ → List ℕ
   emits rest = (if ends_unit a b then unit_at x y a b ∷ [] else []) ++ rest
@@ -107,8 +122,8 @@ module _ (x y a : ℕ) (X : x < 0xF0) (Y : y < 0xE0) (A : a < 0xC0) (c : ℕ) (b
       let v = 0xDC00 + (c - 0x1_0000) % 0x400 in
       ap (λ e. units_from x y a (e ++ bs)) (four c l) ∙ from_one x y a p (q ∷ r ∷ s ∷ bs) ∙ none_ends x y a p (units_from y a p (q ∷ r ∷ s ∷ bs)) (mark_off a p (omega arith))
       ∙ from_one y a p q (r ∷ s ∷ bs) ∙ none_ends y a p q (units_from a p q (r ∷ s ∷ bs)) (mark_off_second p q (omega arith) (omega arith))
-      ∙ from_one a p q r (s ∷ bs) ∙ one_ends a p q r (units_from p q r (s ∷ bs)) u (mark_on q r (omega arith) (omega arith)) (unit_high a p q r (omega arith) (omega arith) (omega arith) ∙ high_is c l h)
-      ∙ ap (λ xs. u ∷ xs) (from_one p q r s bs ∙ one_ends p q r s (units_from q r s bs) v (mark_on r s (omega arith) (omega arith)) (unit_low p q r s (omega arith) (omega arith) ∙ low_is c l))
+      ∙ from_one a p q r (s ∷ bs) ∙ one_ends a p q r (units_from p q r (s ∷ bs)) u (mark_on q r (omega arith) (omega arith)) (unit_high a p q r (omega arith) (omega arith) ∙ high_is c l h)
+      ∙ ap (λ xs. u ∷ xs) (from_one p q r s bs ∙ one_ends p q r s (units_from q r s bs) v (mark_on r s (omega arith) (omega arith)) (unit_low p q r s (omega arith) (omega arith) (omega arith) ∙ low_is c l))
     where
       high_is : (c : ℕ) → 65536 ≤ c → c < 1114112 → 0xD7C0 + ((240 + c / 262144) % 8 * 256 + low_bits (128 + c / 4096 % 64) (128 + c / 64 % 64) / 16) ≡ 0xD800 + (c - 0x1_0000) / 0x400
       high_is c l h = omega arith

@@ -1,5 +1,5 @@
 -- The code units of well-formed UTF-8 by its bytes: which bytes a code unit ends with, and which unit that is.
-use Rattle.std.specs.Prelude.{◌≡◌, ℕ, zero, suc, ◌+◌, ◌*◌, ◌/◌, ◌%◌, ◌<◌, ◌≤◌, Bool, true, ◌&&◌, if◌then◌else◌, nat_lt, nat_le, ◌==◌, List, [], ◌∷◌, ◌++◌, length, take, drop, replicate, slice_index, encode_utf8_all}
+use Rattle.std.specs.Prelude.{◌≡◌, ℕ, zero, suc, ◌+◌, ◌*◌, ◌/◌, ◌%◌, ◌<◌, ◌≤◌, Bool, true, ◌&&◌, if◌then◌else◌, nat_lt, nat_le, ◌==◌, List, [], ◌∷◌, ◌++◌, length, take, drop, replicate, slice_index, bit_or, encode_utf8_all}
 use Rattle.std.specs.Str.{all_scalars, IsUtf8, chars}
 use Rattle.std.specs.Char.Escape.{encode_utf16}
 use Rattle.std.specs.List.{flat_map}
@@ -43,11 +43,15 @@ ends_unit a b = nat_lt b 0xC0 && nat_lt a 0xE0
 abbrev pub low_bits : ℕ → ℕ → ℕ
 low_bits a b = a % 64 * 64 + b % 64
 
+-- the upper byte of the unit that ends behind y and a, where it is no surrogate
+abbrev pub upper_of : ℕ → ℕ → ℕ
+upper_of y a = (if nat_le 0xE0 y then y % 16 * 16 else 0) + a % 64 / 4
+
 -- the unit that ends with the byte b behind x, y and a: a sequence of four ends its two units with its last two bytes
 abbrev pub unit_at : ℕ → ℕ → ℕ → ℕ → ℕ
 unit_at x y a b = if nat_lt b 0x80 then b
-    else (if nat_le 0xF0 x then 0xDC00 + low_bits a b % 0x400
     else (if nat_le 0xF0 y then 0xD7C0 + (y % 8 * 256 + low_bits a b / 16)
+    else (if nat_le 0xF0 x then bit_or (upper_of y a) 0xDC * 0x100 + low_bits a b % 0x100
     else (if nat_le 0xE0 y then y % 16 * 4096 + low_bits a b else low_bits a b)))
 
 -- the same of the byte at a place, with zeros before the first

@@ -3,7 +3,7 @@
 //!
 //! What a block stores behind its own code units is overwritten by those of the bytes that follow, since these have at
 //! least a third as many: a block is stored only where so many places are still due.
-ghost use Rattle.std.specs.Prelude.{◌≡◌, ℕ, ◌+◌, ◌-◌, ◌/◌, ◌<◌, ◌≤◌, [], ◌∷◌, ◌*◌, ◌^◌, Bool, false, List, ◌++◌, length, take, drop, replicate, slice_index, IsTrue};
+ghost use Rattle.std.specs.Prelude.{◌≡◌, ℕ, ◌+◌, ◌-◌, ◌/◌, ◌%◌, ◌<◌, ◌≤◌, [], ◌∷◌, ◌*◌, ◌^◌, Bool, false, List, ◌++◌, length, take, drop, replicate, slice_index, IsTrue};
 ghost use Rattle.std.specs.List.{flat_map};
 ghost use Rattle.std.specs.Str.{IsUtf8, IsCharBoundary, chars};
 ghost use Rattle.std.specs.Char.Escape.{encode_utf16};
@@ -12,7 +12,7 @@ ghost use Rattle.std.specs.Simd.Lanes.{mask_l};
 ghost use Rattle.encoding_base.specs.Fronts.{WritesFront};
 ghost use Rattle.encoding_base.specs.Steps.Lanes.{HasLanes};
 ghost use Rattle.encoding_base.specs.Steps.Strides.{AllBelow};
-ghost use Rattle.encoding_base.specs.Steps.Units.{BeginsThree, PutsKept, PutsText, ends_behind, low_bits, triple_unit, unit_lane, units_behind, units_in};
+ghost use Rattle.encoding_base.specs.Steps.Units.{BeginsThree, PutsKept, PutsText, ends_behind, low_bits, triple_unit, unit_lane, units_behind, units_in, upper_of};
 
 use crate::sequence::{is_continuation, sequence_length};
 use crate::strides::widen_ascii;
@@ -73,59 +73,105 @@ fn is_below(block: u8x16, bound: u8) -> bool
     block.simd_ge(u8x16::splat(bound)).to_bitmask() == 0
 }
 
-/// The last six bits of each byte and of the one before it.
+/// The last eight bits of those that each byte and the one before it hold, six each.
 #[inline(always)]
-fn join_low_bits(before: u16x16, bytes: u16x16) -> u16x16
-    ensures { HasLanes 16 result (λ k. low_bits (slice_index before k) (slice_index bytes k)) }
+fn lower_bits(block: u8x16) -> u8x16
+    ensures { HasLanes 16 result (λ k. low_bits (slice_index (0 ∷ block) k) (slice_index block k) % 0x100) }
 {
-    let six = u16x16::splat(0x3F);
-    (before & six) * u16x16::splat(64) + (bytes & six)
+    (one_before(block) << u8x16::splat(6)) + (block & u8x16::splat(0x3F))
+}
+
+/// The four bits above them, and above these the four of a byte that begins three and stands two places before.
+#[inline(always)]
+fn upper_bits(block: u8x16) -> u8x16
+    ensures { HasLanes 16 result (λ k. upper_of (slice_index (0 ∷ 0 ∷ block) k) (slice_index (0 ∷ block) k)) }
+{
+    let two = two_before(block);
+    let above = two
+        .simd_ge(u8x16::splat(0xE0))
+        .select(two << u8x16::splat(4), u8x16::splat(0));
+    above + ((one_before(block) >> u8x16::splat(2)) & u8x16::splat(0x0F))
+}
+
+/// The first eight lanes, and the last, each of a lower and an upper byte.
+#[inline(always)]
+fn join_bytes(lower: u8x16, upper: u8x16) -> (u16x8, u16x8)
+    ensures first { HasLanes 8 result.0 (λ k. slice_index lower k + 0x100 * slice_index upper k) }
+    ensures last { HasLanes 8 result.1 (λ k. slice_index lower (8 + k) + 0x100 * slice_index upper (8 + k)) }
+{
+    let first = lower.shuffle(
+        upper,
+        [0, 16, 1, 17, 2, 18, 3, 19, 4, 20, 5, 21, 6, 22, 7, 23],
+    );
+    let last = lower.shuffle(
+        upper,
+        [8, 24, 9, 25, 10, 26, 11, 27, 12, 28, 13, 29, 14, 30, 15, 31],
+    );
+    (u16x8::from_le_bytes(first), u16x8::from_le_bytes(last))
 }
 
 /// The code unit that ends with each byte, where no character has four bytes.
 #[inline(always)]
-fn short_units(block: u8x16) -> u16x16
+fn short_units(block: u8x16) -> (u16x8, u16x8)
     requires { (k : ℕ) → k < 16 → slice_index block k < 0xF0 }
-    ensures { HasLanes 16 result (unit_lane block) }
+    ensures { (result.0 ≡ take 8 (units_behind 0 0 0 block)) × (result.1 ≡ drop 8 (units_behind 0 0 0 block)) }
 {
-    let bytes = block.cast::<u16>();
-    let two = two_before(block).cast::<u16>();
-    let low = join_low_bits(one_before(block).cast::<u16>(), bytes);
+    let is_ascii = block.simd_lt(u8x16::splat(0x80));
+    let lower = is_ascii.select(block, lower_bits(block));
+    let upper = is_ascii.select(u8x16::splat(0), upper_bits(block));
+    join_bytes(lower, upper)
+}
+
+/// The last eight bits of the ten of a high surrogate that each byte ends, without what is added to them.
+#[inline(always)]
+fn high_bits(block: u8x16) -> u8x16
+    ensures { HasLanes 16 result (λ k. low_bits (slice_index (0 ∷ block) k) (slice_index block k) / 0x10) }
+{
+    (one_before(block) << u8x16::splat(2)) + ((block >> u8x16::splat(4)) & u8x16::splat(3))
+}
+
+/// The lower byte of the code unit that ends with each byte.
+#[inline(always)]
+fn lower_bytes(block: u8x16) -> u8x16
+    ensures { HasLanes 16 result (λ k. unit_lane block k % 0x100) }
+{
+    let high = high_bits(block) + u8x16::splat(0xC0);
+    let longer = two_before(block)
+        .simd_ge(u8x16::splat(0xF0))
+        .select(high, lower_bits(block));
+    block.simd_lt(u8x16::splat(0x80)).select(block, longer)
+}
+
+/// The upper byte of it.
+#[inline(always)]
+fn upper_bytes(block: u8x16) -> u8x16
+    ensures { HasLanes 16 result (λ k. unit_lane block k / 0x100) }
+{
+    let two = two_before(block);
+    let high = high_bits(block)
+        .simd_ge(u8x16::splat(0x40))
+        .select(u8x16::splat(0xD8), u8x16::splat(0xD7))
+        + (two & u8x16::splat(7));
+    let low = three_before(block)
+        .simd_ge(u8x16::splat(0xF0))
+        .select(u8x16::splat(0xDC), u8x16::splat(0));
     let longer = two
-        .simd_ge(u16x16::splat(0xE0))
-        .select(two * u16x16::splat(0x1000) + low, low);
-    bytes.simd_lt(u16x16::splat(0x80)).select(bytes, longer)
+        .simd_ge(u8x16::splat(0xF0))
+        .select(high, upper_bits(block) | low);
+    block
+        .simd_lt(u8x16::splat(0x80))
+        .select(u8x16::splat(0), longer)
 }
 
-/// The code unit that ends with each byte.
+/// The code unit that ends with each byte: the first eight, and the last.
 #[inline(always)]
-fn long_units(block: u8x16) -> u16x16
-    ensures { HasLanes 16 result (unit_lane block) }
-{
-    let bytes = block.cast::<u16>();
-    let two = two_before(block).cast::<u16>();
-    let three = three_before(block).cast::<u16>();
-    let low = join_low_bits(one_before(block).cast::<u16>(), bytes);
-    let short = two
-        .simd_ge(u16x16::splat(0xE0))
-        .select(two * u16x16::splat(0x1000) + low, low);
-    let upper = u16x16::splat(0xD7C0)
-        + ((two & u16x16::splat(7)) * u16x16::splat(0x100) + (low >> u16x16::splat(4)));
-    let lower = u16x16::splat(0xDC00) + (low & u16x16::splat(0x3FF));
-    let third = two.simd_ge(u16x16::splat(0xF0)).select(upper, short);
-    let longer = three.simd_ge(u16x16::splat(0xF0)).select(lower, third);
-    bytes.simd_lt(u16x16::splat(0x80)).select(bytes, longer)
-}
-
-/// The code unit that ends with each byte.
-#[inline(always)]
-fn code_units(block: u8x16) -> u16x16
-    ensures { result ≡ units_behind 0 0 0 block }
+fn code_units(block: u8x16) -> (u16x8, u16x8)
+    ensures { (result.0 ≡ take 8 (units_behind 0 0 0 block)) × (result.1 ≡ drop 8 (units_behind 0 0 0 block)) }
 {
     if is_below(block, 0xF0) {
         return short_units(block);
     }
-    long_units(block)
+    join_bytes(lower_bytes(block), upper_bytes(block))
 }
 
 /// Of the first bytes, up to the end, a bit for each that ends a code unit.
@@ -138,35 +184,19 @@ fn unit_ends(block: u8x16, end: usize) -> usize
     ends.to_bitmask() as usize & ((1 << end) - 1)
 }
 
-/// The lower half of the lanes.
-#[inline(always)]
-fn first_eight(units: u16x16) -> u16x8
-    ensures { result ≡ take 8 units }
-{
-    units.extract::<0, 8>()
-}
-
-/// The upper half.
-#[inline(always)]
-fn last_eight(units: u16x16) -> u16x8
-    ensures { result ≡ drop 8 units }
-{
-    units.extract::<8, 8>()
-}
-
 /// Writes the units whose bit is set, in order, and returns how many these are.
 #[inline(always)]
-fn put_kept(units: u16x16, kept: usize, dst: &mut [u16]) -> usize
+fn put_kept(first: u16x8, last: u16x8, kept: usize, dst: &mut [u16]) -> usize
     requires { (kept < 2 ^ 16) × (16 ≤ length dst.old) }
     ensures { (marks : List Bool) → length marks ≡ 16 → kept ≡ mask_l marks
-        → PutsKept marks units dst.old dst.new result (result + 8 - count_ones (kept / 2 ^ 8)) }
+        → PutsKept marks (first ++ last) dst.old dst.new result (result + 8 - count_ones (kept / 2 ^ 8)) }
 {
-    let first = kept & 0xFF;
-    let second = kept >> 8;
-    gather(first_eight(units), first).copy_to_slice(dst);
-    let count = first.count_ones() as usize;
-    gather(last_eight(units), second).copy_to_slice(&mut dst[count..]);
-    count + second.count_ones() as usize
+    let first_kept = kept & 0xFF;
+    let last_kept = kept >> 8;
+    gather(first, first_kept).copy_to_slice(dst);
+    let count = first_kept.count_ones() as usize;
+    gather(last, last_kept).copy_to_slice(&mut dst[count..]);
+    count + last_kept.count_ones() as usize
 }
 
 /// Where the last whole character of the first sixteen bytes ends, or 0.
@@ -195,7 +225,23 @@ fn put_block(src: &[u8], end: usize, kept: usize, dst: &mut [u16]) -> usize
     requires kept { kept ≡ mask_l (take end (ends_behind 0 (take 16 src.now)) ++ replicate (16 - end) false) }
     ensures { PutsText src.now dst.old dst.new end result (result + 8 - count_ones (kept / 2 ^ 8)) }
 {
-    put_kept(code_units(u8x16::from_slice(src)), kept, dst)
+    let (first, last) = code_units(u8x16::from_slice(src));
+    put_kept(first, last, kept, dst)
+}
+
+/// The same, and behind them `dst` is as before.
+#[inline(always)]
+fn put_block_alone(src: &[u8], end: usize, kept: usize, dst: &mut [u16]) -> usize
+    requires room { (16 ≤ length src.now) × (end ≤ length dst.old) }
+    requires text { IsUtf8 src.now }
+    requires end { (end ≤ 16) × IsCharBoundary src.now end }
+    requires kept { kept ≡ mask_l (take end (ends_behind 0 (take 16 src.now)) ++ replicate (16 - end) false) }
+    ensures { PutsText src.now dst.old dst.new end result result }
+{
+    let mut units = [0; 16];
+    let count = put_block(src, end, kept, &mut units);
+    dst[..count].copy_from_slice(&units[..count]);
+    count
 }
 
 /// Whether the first bytes, so many, are ASCII.
@@ -280,6 +326,19 @@ fn put_triples(src: &[u8], dst: &mut [u16])
     triple_units(u8x16::from_slice(src)).copy_to_slice(dst);
 }
 
+/// The same, and behind them `dst` is as before.
+#[inline(always)]
+fn put_triples_alone(src: &[u8], dst: &mut [u16])
+    requires room { (16 ≤ length src.now) × (5 ≤ length dst.old) }
+    requires text { IsUtf8 src.now }
+    requires triples { (k : ℕ) → k < 5 → BeginsThree (slice_index src.now (3 * k)) }
+    ensures { PutsText src.now dst.old dst.new 15 5 5 }
+{
+    let mut units = [0; 8];
+    put_triples(src, &mut units);
+    dst[..5].copy_from_slice(&units[..5]);
+}
+
 /// Whether eight places are due behind the first half of a block: for the second half, and a third of the bytes left.
 #[inline(always)]
 fn is_due(kept: usize, left: usize) -> bool
@@ -304,50 +363,42 @@ fn put_character(src: &[u8], dst: &mut [u16]) -> (usize, usize)
     (length, units)
 }
 
-/// Writes the UTF-16 of some first characters by a vector, and returns how many bytes and code units these are: none
-/// where what is stored behind them may not be due. What is due behind them may have changed too.
+/// Writes the UTF-16 of some first characters, and returns how many bytes and code units these are. What is due behind
+/// them may have changed too.
 #[inline(always)]
 fn put_some(src: &[u8], dst: &mut [u16]) -> (usize, usize)
     requires room { (16 < length src.now) × (length src.now ≤ length dst.old) }
     requires text { IsUtf8 src.now }
-    ensures { PutsText src.now dst.old dst.new result.0 result.1 (units_in src.now) }
+    ensures some { 0 < result.0 }
+    ensures written { PutsText src.now dst.old dst.new result.0 result.1 (units_in src.now) }
 {
     if begins_ascii::<16>(src) {
         let front = widen_ascii::<16>(src, dst, 0);
         return (front, front);
     }
-    if src.len() >= 24 && begins_triples(src) {
-        put_triples(src, dst);
+    if begins_triples(src) {
+        if src.len() >= 24 {
+            put_triples(src, dst);
+            return (15, 5);
+        }
+        put_triples_alone(src, dst);
         return (15, 5);
     }
     let end = whole_end(src);
+    if end == 0 {
+        return put_character(src, dst);
+    }
     let kept = unit_ends(u8x16::from_slice(src), end);
     if is_due(kept, src.len() - end) {
         return (end, put_block(src, end, kept, dst));
     }
-    (0, 0)
+    (end, put_block_alone(src, end, kept, dst))
 }
 
-/// Writes the UTF-16 of a first character, or of all the ASCII ones there, and returns how many bytes and code units
-/// these are.
+/// Writes the UTF-16 of a text of a few bytes, and returns how many code units these are. Behind what is written `dst` is
+/// as before.
 #[inline(always)]
-fn put_short(src: &[u8], dst: &mut [u16]) -> (usize, usize)
-    requires room { (0 < length src.now) × (length src.now ≤ length dst.old) }
-    requires text { IsUtf8 src.now }
-    ensures some { 0 < result.0 }
-    ensures written { PutsText src.now dst.old dst.new result.0 result.1 (units_in src.now) }
-{
-    if begins_ascii::<1>(src) {
-        let front = widen_ascii::<1>(src, dst, 0);
-        return (front, front);
-    }
-    put_character(src, dst)
-}
-
-/// Writes the UTF-16 of a short text, and returns how many code units these are. Behind what is written `dst` is as
-/// before.
-#[inline(never)]
-fn write_short_text(src: &[u8], dst: &mut [u16]) -> usize
+fn write_few(src: &[u8], dst: &mut [u16]) -> usize
     requires room { length src.now ≤ length dst.old }
     requires text { IsUtf8 src.now }
     ensures { WritesFront dst.old dst.new result (flat_map encode_utf16 (chars src.now)) }
@@ -355,11 +406,25 @@ fn write_short_text(src: &[u8], dst: &mut [u16]) -> usize
     let mut read = 0;
     let mut written = 0;
     while read < src.len() {
-        let (bytes, units) = put_short(&src[read..], &mut dst[written..]);
+        let (bytes, units) = put_character(&src[read..], &mut dst[written..]);
         read += bytes;
         written += units;
     }
     written
+}
+
+/// Writes the UTF-16 of a text of at most sixteen bytes, and returns how many code units these are. Behind what is
+/// written `dst` is as before.
+#[inline(never)]
+fn write_tail(src: &[u8], dst: &mut [u16]) -> usize
+    requires room { (length src.now ≤ 16) × (length src.now ≤ length dst.old) }
+    requires text { IsUtf8 src.now }
+    ensures { WritesFront dst.old dst.new result (flat_map encode_utf16 (chars src.now)) }
+{
+    let mut block = [0; 16];
+    block[..src.len()].copy_from_slice(src);
+    let kept = unit_ends(u8x16::from_slice(&block), src.len());
+    put_block_alone(&block, src.len(), kept, dst)
 }
 
 /// Writes the UTF-16 of a text, and returns how many code units these are. Behind what is written `dst` is as before.
@@ -370,12 +435,13 @@ pub fn write_text(src: &[u8], dst: &mut [u16]) -> usize
 {
     let mut read = 0;
     let mut written = 0;
-    let mut last = 1;
-    while last > 0 && src.len() - read > 16 {
+    while src.len() - read > 16 {
         let (bytes, units) = put_some(&src[read..], &mut dst[written..]);
         read += bytes;
         written += units;
-        last = bytes;
     }
-    written + write_short_text(&src[read..], &mut dst[written..])
+    if src.len() - read < 4 {
+        return written + write_few(&src[read..], &mut dst[written..]);
+    }
+    written + write_tail(&src[read..], &mut dst[written..])
 }

@@ -1,8 +1,8 @@
 use Rattle.std.proofs.Common.{◌≡◌, ◌∙◌, ◌++◌, ◌-◌, ◌^◌, ◌<◌, Bool, false, arith, length, subst, take, replicate}
 use Rattle.std.specs.Simd.Lanes.{mask_l}
-use Rattle.std.proofs.lemmas.List.{length-append, length-take-le, length-replicate}
+use Rattle.std.proofs.lemmas.List.{length-append, length-take-le, length-replicate, take-append-drop}
 use Rattle.std.proofs.lemmas.Simd.{mask_l-lt}
-use Rattle.encoding_base.specs.Steps.Units.{ends_behind}
+use Rattle.encoding_base.specs.Steps.Units.{ends_behind, units_behind}
 use Rattle.encoding_base.proofs.Lanes.UnitLanesLemmas.{length-ends}
 use Rattle.encoding_base.proofs.LongestFronts.TextUnitsLemmas.{puts_block}
 use Rattle.encoding_base.proofs.utf_8.text_units.put_block.Goals as goal
@@ -25,5 +25,6 @@ returns c =
     let size = length-ends 0 (take 16 src) ∙ length-take-le 16 src c.requires.room.0 in
     let long = length-append (take end ends) (replicate {A = Bool} (16 - end) false) in
     let front = length-take-le end ends (omega (arith, size, c.requires.end)) in
-    puts_block src c.args.dst.now c.put_kept.new.dst c.code_units.result end c.put_kept.result _ c.requires.text c.requires.end.0 c.requires.end.1 c.code_units.ensures
+    let units = (λ i. c.code_units.ensures.0 i ++ c.code_units.ensures.1 i) ∙ take-append-drop 8 (units_behind 0 0 0 (take 16 src)) in
+    puts_block src c.args.dst.now c.put_kept.new.dst _ end c.put_kept.result _ c.requires.text c.requires.end.0 c.requires.end.1 units
     (c.put_kept.ensures (take end ends ++ replicate (16 - end) false) (omega (arith, long, front, length-replicate {A = Bool} (16 - end) false, c.requires.end)) c.requires.kept)

@@ -3,13 +3,18 @@ use Rattle.std.proofs.lemmas.List.{take_rest}
 use Rattle.encoding_base.proofs.LongestFronts.TextLoopLemmas.{putting_more, putting_rest}
 use Rattle.encoding_base.proofs.utf_8.text_units.write_text.Goals as goal
 
-pub loop-last-preserved : goal.loop-last-preserved
-loop-last-preserved c =
-    let done = c.loop-last.invariant in
-    let puts = rw (take_rest c.args.src.now c.loop-last.read) at c.put_some-bytes.ensures in
-    putting_more c.args.src.now c.args.dst.now c.loop-last.dst c.put_some-bytes.new.dst c.loop-last.read c.loop-last.written _ _ (omega arith) done puts
+pub loop-read-preserved : goal.loop-read-preserved
+loop-read-preserved c =
+    let done = c.loop-read.invariant in
+    let puts = rw (take_rest c.args.src.now c.loop-read.read) at c.put_some-bytes.ensures.written in
+    putting_more c.args.src.now c.args.dst.now c.loop-read.dst c.put_some-bytes.new.dst c.loop-read.read c.loop-read.written _ _ (omega arith) done puts
+
+pub returns-then-src-read-lt4 : goal.returns-then-src-read-lt4
+returns-then-src-read-lt4 c =
+    let rest = rw (take_rest c.args.src.now c.loop-read.read) at c.write_few.ensures in
+    putting_rest c.args.src.now c.args.dst.now c.loop-read.dst c.write_few.new.dst c.loop-read.read c.loop-read.written _ c.requires.text c.requires.room (omega arith) c.loop-read.invariant rest
 
 pub returns : goal.returns
 returns c =
-    let rest = rw (take_rest c.args.src.now c.loop-last.read) at c.write_short_text.ensures in
-    putting_rest c.args.src.now c.args.dst.now c.loop-last.dst c.write_short_text.new.dst c.loop-last.read c.loop-last.written _ c.requires.text c.requires.room (omega arith) c.loop-last.invariant rest
+    let rest = rw (take_rest c.args.src.now c.loop-read.read) at c.write_tail.ensures in
+    putting_rest c.args.src.now c.args.dst.now c.loop-read.dst c.write_tail.new.dst c.loop-read.read c.loop-read.written _ c.requires.text c.requires.room (omega arith) c.loop-read.invariant rest

@@ -1,10 +1,9 @@
-use Rattle.std.proofs.Common.{◌+◌, ◌-◌, ◌*◌, length}
-use Rattle.std.specs.Prelude.{min}
+use Rattle.std.proofs.Common.{◌-◌, length}
 use Rattle.encoding_base.proofs.LongestFronts.TextLoopLemmas.{Putting}
 use Rattle.encoding_base.proofs.utf_8.text_units.write_text.Given as goal
 
-abbrev pub invariant-loop-last : goal.invariant-loop-last
-invariant-loop-last l = Putting l.src l.initial.dst l.dst l.read l.written
+abbrev pub invariant-loop-read : goal.invariant-loop-read
+invariant-loop-read l = Putting l.src l.initial.dst l.dst l.read l.written
 
-abbrev pub decreases-loop-last : goal.decreases-loop-last
-decreases-loop-last l = 2 * (length l.initial.src - l.read) + min 1 l.last
+abbrev pub decreases-loop-read : goal.decreases-loop-read
+decreases-loop-read l = length l.initial.src - l.read

@@ -1,6 +1,6 @@
 use Rattle.std.proofs.Common.{◌-◌, length}
 use Rattle.encoding_base.proofs.LongestFronts.TextLoopLemmas.{Putting}
-use Rattle.encoding_base.proofs.utf_8.text_units.write_short_text.Given as goal
+use Rattle.encoding_base.proofs.utf_8.text_units.write_few.Given as goal
 
 abbrev pub invariant-loop-read : goal.invariant-loop-read
 invariant-loop-read l = Putting l.src l.initial.dst l.dst l.read l.written
