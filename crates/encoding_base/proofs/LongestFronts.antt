@@ -4,3 +4,4 @@ pub mod Utf8Lemmas
 pub mod ConvertingLemmas
 pub mod TextUnitsLemmas
 pub mod TextLoopLemmas
+pub mod OverlapLemmas
