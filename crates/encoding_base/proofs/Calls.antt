@@ -1,5 +1,6 @@
 pub mod PendingLemmas
 pub mod CallLemmas
+pub mod LoneByteLemmas
 pub mod DecodeLemmas
 pub mod RoomLemmas
 pub mod CallPartsLemmas

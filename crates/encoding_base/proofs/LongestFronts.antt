@@ -5,3 +5,4 @@ pub mod ConvertingLemmas
 pub mod TextUnitsLemmas
 pub mod TextTailLemmas
 pub mod TextLoopLemmas
+pub mod OverlapLemmas

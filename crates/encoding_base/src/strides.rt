@@ -16,6 +16,9 @@ const STRIDE: usize = 16;
 /// The bytes of a text shorter than a stride that one test covers.
 const HALF_STRIDE: usize = 8;
 
+/// The most bytes that are copied by strides.
+const MOST_STRIDES: usize = 256;
+
 /// The least byte that isn't ASCII.
 pub(crate) const ASCII_END: u8 = 0x80;
 
@@ -167,6 +170,41 @@ fn copy<const N: usize>(src: &[u8], dst: &mut [u8], at: usize)
     ensures { dst.new ≡ take at dst.old ++ (take N (drop at src.now) ++ drop (at + N) dst.old) }
 {
     Simd::<u8, N>::from_slice(&src[at..]).copy_to_slice(&mut dst[at..]);
+}
+
+/// Writes the bytes at the front, N at a time. The last stride may begin before the one before it ends.
+#[inline(always)]
+fn copy_by_strides<const N: usize>(src: &[u8], dst: &mut [u8])
+    requires { (0 < N) × (N ≤ 64) × (N ≤ length src.now) × (length src.now ≤ length dst.old) }
+    ensures { WritesFront dst.old dst.new (length src.now) src.now }
+{
+    let mut front = 0;
+    while src.len() - front > N {
+        copy::<N>(src, dst, front);
+        front += N;
+    }
+    copy::<N>(src, dst, src.len() - N);
+}
+
+/// Writes the bytes at the front. Few are not worth a call of the C library.
+#[inline]
+pub(crate) fn copy_front(src: &[u8], dst: &mut [u8])
+    requires { length src.now ≤ length dst.old }
+    ensures { WritesFront dst.old dst.new (length src.now) src.now }
+{
+    if src.len() > MOST_STRIDES {
+        dst[..src.len()].copy_from_slice(src);
+    } else if src.len() >= STRIDE {
+        copy_by_strides::<STRIDE>(src, dst);
+    } else if src.len() >= HALF_STRIDE {
+        copy_by_strides::<HALF_STRIDE>(src, dst);
+    } else if src.len() >= 4 {
+        copy_by_strides::<4>(src, dst);
+    } else if src.len() >= 2 {
+        copy_by_strides::<2>(src, dst);
+    } else if !src.is_empty() {
+        dst[0] = src[0];
+    }
 }
 
 /// Writes the N bytes from a place on to the same place, each as a UTF-16 code unit.

@@ -54,7 +54,8 @@ fn restored(state: EncodingUtf8Decoder) -> Utf8Decoder
     ensures front { result ≡ take (length result) state.pending }
     ensures few { length result ≤ 3 }
 {
-    if state.count > MOST {
+    // mostly nothing is pending, and then no call is needed
+    if state.count == 0 || state.count > MOST {
         return Utf8Decoder::new_inner();
     }
     let mut decoder = Utf8Decoder::new_inner();
@@ -99,6 +100,12 @@ fn stored(decoder: &Utf8Decoder, pending: &[u8], read: &[u8]) -> EncodingUtf8Dec
     ensures { StandsFor result decoder.now }
 {
     let count = pending_count(decoder);
+    if count == 0 {
+        return EncodingUtf8Decoder {
+            pending: [0; 3],
+            count: 0,
+        };
+    }
     let start = pending.len() + read.len() - count;
     EncodingUtf8Decoder {
         pending: [

@@ -14,7 +14,7 @@ use Rattle.encoding_base.proofs.Sequences.SequenceLemmas.{length-IsBeginning}
 use Rattle.encoding_base.proofs.Calls.PendingLemmas.{pending_beginning}
 
 -- ---- broken parts
-broken_lone : (b : ℕ) (rest : List ℕ) (last : Bool) → BeginsNothing b → IsBroken (b ∷ []) rest last
+pub broken_lone : (b : ℕ) (rest : List ℕ) (last : Bool) → BeginsNothing b → IsBroken (b ∷ []) rest last
 broken_lone b [] last n = inl (b, refl, n)
 broken_lone b (y ∷ ys) last n = inl (b, refl, n)
 
@@ -25,7 +25,7 @@ broken_open : (x rest : List ℕ) (last : Bool) → rest ≡ [] → IsBeginning 
 broken_open x rest last e o l = subst (λ xs. IsBroken x xs last) (sym e) (inr (o, l))
 
 -- ---- before the first byte that no character takes
-take_one : (r : List ℕ) → 0 < length r → take 1 r ≡ slice_index r 0 ∷ []
+pub take_one : (r : List ℕ) → 0 < length r → take 1 r ≡ slice_index r 0 ∷ []
 take_one r h = take_more r 0 0 h
 
 begins_nothing : (b : ℕ) (rest : List ℕ) → BeginsWithNoCharacter (b ∷ rest) → (IsBeginning (b ∷ []) → ⊥) → BeginsNothing b

@@ -5,7 +5,7 @@ use Rattle.encoding_base.specs.Sequence.{IsSequence, IsContinuation, IsSecond}
 use Rattle.encoding_base.specs.Parts.{BeginsWithNoCharacter}
 use Rattle.encoding_base.proofs.Sequences.SequenceLemmas.{Reads, no_character_reads, second_from, IsSequence-HasShape}
 
-second_continues : (a b : ℕ) → IsSecond a b → IsContinuation b
+pub second_continues : (a b : ℕ) → IsSecond a b → IsContinuation b
 second_continues a b s = grind (arith, nat_tests)
 
 module _ (bs : List ℕ) where

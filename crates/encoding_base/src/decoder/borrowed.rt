@@ -3,7 +3,7 @@ ghost use Rattle.std.specs.Prelude.{◌≡◌, ◌≢◌, ℕ, []};
 ghost use Rattle.encoding_base.specs.Sequence.{IsBeginning};
 ghost use Rattle.encoding_base.specs.Decoding.{IsBorrowedCall};
 
-use super::pending::{Pending, Resumed};
+use super::pending::{Pending, Resumed, is_lone};
 use super::{DecoderResult, Piece};
 use crate::utf_8::{scalar_of_sequence, utf8_valid_up_to};
 
@@ -42,6 +42,10 @@ fn borrow_front<'a>(pending: &mut Pending, src: &'a [u8], last: bool) -> (Piece<
     requires neutral { pending.old ≡ [] }
     ensures { IsBorrowedCall [] src.now last result.0 result.1 pending.new }
 {
+    // broken parts often follow at once, and one byte shows that
+    if !src.is_empty() && is_lone(src) {
+        return (Piece::Malformed(1), 1);
+    }
     let length = utf8_valid_up_to(src);
     if length > 0 {
         return (

@@ -1,8 +1,9 @@
 //! The bytes of an unfinished character.
-ghost use Rattle.std.specs.Prelude.{◌≡◌, ◌≢◌, ℕ, ◌<◌, ◌≤◌, ◌↔◌, List, [], length, take, IsTrue};
+ghost use Rattle.std.specs.Prelude.{◌≡◌, ◌≢◌, ℕ, ◌<◌, ◌≤◌, ◌↔◌, Bool, false, List, [], length, take, drop, IsTrue};
 ghost use Rattle.encoding_base.specs.Sequence.{IsBeginning};
 ghost use Rattle.encoding_base.specs.Parts.{BeginsWithNoCharacter};
 ghost use Rattle.encoding_base.specs.Pending.{IsPending};
+ghost use Rattle.encoding_base.specs.Decoding.{IsBroken};
 ghost use Rattle.encoding_base.specs.Steps.Resuming.{GoesOn};
 
 use super::DecoderResult;
@@ -47,6 +48,21 @@ fn goes_on(lead: u8, count: usize, byte: u8) -> bool
     } else {
         is_continuation(byte)
     }
+}
+
+/// Whether the first byte alone is a broken part, whatever follows the bytes: it begins nothing, or the next byte goes
+/// on with nothing.
+#[inline]
+pub(crate) fn is_lone(bytes: &[u8]) -> bool
+    requires some { 0 < length bytes.now }
+    ensures broken { (last : Bool) → IsTrue result → IsBroken (take 1 bytes.now) (drop 1 bytes.now) last }
+    ensures begins { BeginsWithNoCharacter bytes.now → result ≡ false → IsBeginning (take 1 bytes.now) }
+{
+    let lead = bytes[0];
+    if begins_several(lead) {
+        return bytes.len() > 1 && !is_continuation(bytes[1]);
+    }
+    lead >= 0x80
 }
 
 impl Model for Pending {
@@ -154,16 +170,27 @@ impl Pending {
 
     /// Ends a call before the first byte of `rest` that no character takes: reads the broken part, or holds a
     /// beginning that more bytes may go on with. Returns what ended the call and how many bytes were read.
-    #[inline(never)]
+    #[inline]
     pub(crate) fn end_before(&mut self, rest: &[u8], last: bool) -> (DecoderResult, usize)
         requires neutral { self.old ≡ [] }
         requires not_empty { 0 < length rest.now }
         requires no_character { BeginsWithNoCharacter rest.now }
         ensures { AnswersNoCharacter rest.now last result.0 result.1 self.new }
     {
-        if !begins_several(rest[0]) {
+        if is_lone(rest) {
             return (DecoderResult::Malformed(1, 0), 1);
         }
+        self.end_in_beginning(rest, last)
+    }
+
+    /// The same where the first byte begins several. Out of line: most broken parts are one byte.
+    #[inline(never)]
+    fn end_in_beginning(&mut self, rest: &[u8], last: bool) -> (DecoderResult, usize)
+        requires not_empty { 0 < length rest.now }
+        requires no_character { BeginsWithNoCharacter rest.now }
+        requires begins { IsBeginning (take 1 rest.now) }
+        ensures { AnswersNoCharacter rest.now last result.0 result.1 self.new }
+    {
         *self = Pending::hold(&rest[..1]);
         match self.resume(&rest[1..]) {
             (Resumed::Ended, _) => (self.end(last), rest.len()),

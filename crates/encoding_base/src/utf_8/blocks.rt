@@ -142,13 +142,37 @@ fn zeros(lanes: u8x16) -> usize
     }
 }
 
-/// Whether each of 64 bytes may stand behind the three before it.
+/// The same of 32 lanes.
 #[inline(always)]
-fn is_clean_64(src: &[u8], at: usize) -> bool
-    requires { (3 ≤ at) × (at + 64 ≤ length src.now) }
-    ensures { IsTrue result → FollowTo src.now at → FollowTo src.now (at + 64) }
+fn zeros_32(lanes: u8x32) -> usize
+    ensures within { result ≤ 32 }
+    ensures zeros { IsZeroTo lanes result }
 {
-    is_zero(faults_32(src, at) | faults_32(src, at + 32))
+    let bits = lanes.simd_ne(u8x32::splat(0)).to_bitmask();
+    if bits == 0 {
+        32
+    } else {
+        bits.trailing_zeros() as usize
+    }
+}
+
+/// How many of the 64 bytes from `at` on come before the first that may not stand behind the three before it.
+#[inline(always)]
+fn clean_of_64(src: &[u8], at: usize) -> usize
+    requires { (3 ≤ at) × (at + 64 ≤ length src.now) }
+    ensures within { result ≤ 64 }
+    ensures follow { FollowTo src.now at → FollowTo src.now (at + result) }
+{
+    let first = faults_32(src, at);
+    let second = faults_32(src, at + 32);
+    if is_zero(first | second) {
+        return 64;
+    }
+    let clean = zeros_32(first);
+    if clean < 32 {
+        return clean;
+    }
+    32 + zeros_32(second)
 }
 
 /// `at`, or the beginning of the character that is cut before it.
@@ -214,8 +238,9 @@ fn following(src: &[u8], front: usize) -> usize
         at += 16;
     }
     while src.len() - at >= 64 {
-        if !is_clean_64(src, at) {
-            break;
+        let clean = clean_of_64(src, at);
+        if clean < 64 {
+            return at + clean;
         }
         // tested last: a branch that is seldom taken at the loop's head can cost a third of its speed, by where it lies
         let is_ascii = are_bytes_below::<64>(src, at, ASCII_END);

@@ -1,4 +1,4 @@
-use Rattle.std.proofs.Common.{◌+◌, arith, sym, subst}
+use Rattle.std.proofs.Common.{◌≡◌, ◌+◌, arith, sym, subst}
 use Rattle.encoding_base.specs.Steps.Following.{FollowTo}
 use Rattle.encoding_base.proofs.Blocks.FollowingLemmas.{FollowTo-ascii, FollowTo-ascii_front, FollowTo-more, IsClosedAt-behind_ascii}
 use Rattle.encoding_base.proofs.utf_8.blocks.following.Goals as goal
@@ -47,7 +47,8 @@ loop-at-init c =
 pub loop-at-preserved-then-is_ascii : goal.loop-at-preserved-then-is_ascii
 loop-at-preserved-then-is_ascii c =
     let bs = c.args.src.now in
-    let front = c.is_clean_64.ensures c.if-not-is_clean_64.false c.loop-at.invariant.front in
+    let whole : c.loop-at.at + c.clean_of_64-clean.result ≡ c.loop-at.at + 64 = omega (arith, c.clean_of_64-clean.ensures.within, c.if-clean-lt64.false) in
+    let front = subst (FollowTo bs) whole (c.clean_of_64-clean.ensures.follow c.loop-at.invariant.front) in
     record {
       started = omega (arith, c.skip_bytes_below-at.ensures.within);
       within = c.skip_bytes_below-at.ensures.within.1;

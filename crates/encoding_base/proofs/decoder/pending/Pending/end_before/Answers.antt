@@ -1,39 +1,5 @@
 use Rattle.std.proofs.Common.{arith, refl}
-use Rattle.std.proofs.lemmas.Bool.{both_ways}
-use Rattle.std.proofs.lemmas.List.{take_rest}
-use Rattle.encoding_base.proofs.Calls.CallLemmas.{lone_before, begins_before, ended_before, stuck_before, no_whole_before}
 use Rattle.encoding_base.proofs.decoder.pending.Pending.end_before.Goals as goal
 
-pub returns-then-not-begins_several : goal.returns-then-not-begins_several
-returns-then-not-begins_several c = (
-  refl,
-  refl,
-  omega (arith, c.requires.not_empty),
-  c.requires.neutral,
-  lone_before _ _ c.requires.not_empty c.requires.no_character (λ o. both_ways _ c.if-not-begins_several.true (c.begins_several.ensures.1 o)),
-)
-
-pub hold-requires : goal.hold-requires
-hold-requires c = record { beginning = begins_before _ c.requires.not_empty (c.begins_several.ensures.0 c.if-not-begins_several.false) }
-
-pub overflow_cast-result : goal.overflow_cast-result
-overflow_cast-result c =
-    let r = rw (take_rest, c.in-Stuck-default.is-0) at c.resume.ensures in
-    let s = stuck_before _ _ _ c.args.last _ _ c.requires.not_empty c.hold.ensures r in
-    omega (arith, s.0)
-
-pub unreachable-requires : goal.unreachable-requires
-unreachable-requires c =
-    let r = rw (take_rest, c.in-Whole-default.is-0) at c.resume.ensures in
-    no_whole_before _ _ _ _ _ _ c.hold.ensures c.requires.no_character r
-
-pub returns-in-Ended-default : goal.returns-in-Ended-default
-returns-in-Ended-default c =
-    let r = rw (take_rest, c.in-Ended-default.is-0) at c.resume.ensures in
-    ended_before _ _ _ _ _ _ _ c.requires.not_empty c.hold.ensures r c.end.ensures
-
-pub returns-in-Stuck-default : goal.returns-in-Stuck-default
-returns-in-Stuck-default c =
-    let r = rw (take_rest, c.in-Stuck-default.is-0) at c.resume.ensures in
-    let s = stuck_before _ _ _ c.args.last _ _ c.requires.not_empty c.hold.ensures r in
-    (refl, refl, s.1, s.2, s.3)
+pub returns-then-is_lone : goal.returns-then-is_lone
+returns-then-is_lone c = (refl, refl, omega (arith, c.requires.not_empty), c.requires.neutral, c.is_lone.ensures.broken c.args.last c.if-is_lone.true)
