@@ -48,8 +48,8 @@ fn took(writer: &PatternOutput, count: usize) -> bool {
         && writer.flushed_at == count
 }
 
-/// Whether a run over both streams, and one behind the arrays, writes so much of the text, and asks once behind the last
-/// byte.
+/// Whether a run over both streams, and one behind the arrays, writes so much of the text, and asks once behind the
+/// last byte.
 fn serves(letters: usize, fault: Option<ErrorKind>, count: usize, status: u8, line: &[u8]) -> bool {
     let length = LENGTH.saturating_add(letters);
     let mut reader = PatternInput::of(length, fault).behind_letters(letters);
