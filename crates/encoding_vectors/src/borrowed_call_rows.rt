@@ -21,15 +21,28 @@ fn piece_of<'a>(field: &str, text: &'a [u8]) -> Result<Piece<'a>, Fail> {
     }
 }
 
+/// Whether a call returns this piece and reads so many bytes.
+fn call_is(
+    decoder: &mut Utf8Decoder,
+    src: &[u8],
+    last: bool,
+    wanted: Piece<'_>,
+    read: usize,
+) -> bool {
+    let call = decoder.decode_borrowed_raw(src, last);
+    call.0 == wanted && call.1 == read
+}
+
 /// Whether the call of a row returns so.
 fn piece_is(alloc: Global, decoder: &mut Utf8Decoder, row: &str) -> Result<bool, Fail> {
     let mut row = row;
-    let src = bytes_of(alloc, field(&mut row))?;
+    let source = field(&mut row);
     let last = field(&mut row) == "last";
     let want = field(&mut row);
+    let read = number_of(field(&mut row))?;
+    let src = bytes_of(alloc, source)?;
     let text = bytes_of(alloc, want.strip_prefix("Text").unwrap_or(""))?;
-    let (piece, read) = decoder.decode_borrowed_raw(&src, last);
-    Ok(piece == piece_of(want, &text)? && read == number_of(field(&mut row))?)
+    Ok(call_is(decoder, &src, last, piece_of(want, &text)?, read))
 }
 
 /// Makes the calls of a table one after another; those of other forms are as in the decoder's rows.
@@ -133,43 +146,68 @@ fn rows_hold(rt: HostRuntime) -> Result<(), Fail> {
     Ok(())
 }
 
-/// Hands in the unread bytes, at most so many a call and the last of them marked so: what the pieces are, if all is
-/// read.
-fn pieces_of(alloc: Global, src: &[u8], most: usize) -> Result<Option<Delivered<u8>>, AllocError> {
+/// Whether the bytes stand next among those that are wanted, of which `came.0` came. They count then.
+fn come_next(wanted: &[u8], came: &mut (usize, usize), bytes: &[u8]) -> bool {
+    let end = came.0.saturating_add(bytes.len());
+    let next = wanted.get(came.0..end) == Some(bytes);
+    came.0 = end;
+    next
+}
+
+/// Whether a piece, made of these bytes, comes next: its bytes, or its report, of which `came.1` came.
+fn piece_comes_next(
+    wanted: &Delivered<u8>,
+    came: &mut (usize, usize),
+    piece: &Piece<'_>,
+    front: &[u8],
+) -> bool {
+    match piece {
+        Piece::Text(text) => text.as_bytes() == front && come_next(&wanted.0, came, front),
+        Piece::Char(scalar) => {
+            come_next(&wanted.0, came, scalar.encode_utf8(&mut [0; 4]).as_bytes())
+        }
+        Piece::Malformed(length) => {
+            let report = wanted.1.get(came.1) == Some(&(came.0, usize::from(*length)));
+            came.1 = came.1.saturating_add(1);
+            report
+        }
+        Piece::InputEmpty => true,
+    }
+}
+
+/// Hands in the unread bytes, at most so many a call and the last of them marked so: whether all is read, and the
+/// pieces are those that are wanted.
+fn pieces_are(src: &[u8], most: usize, wanted: &Delivered<u8>) -> bool {
     let mut decoder = Utf8Decoder::new_inner();
     let mut unread = src;
-    let mut bytes = Vec::new(alloc);
-    let mut reports = Vec::new(alloc);
+    let mut came = (0, 0);
     for _ in 0..24 {
         let handed = unread.get(..most).unwrap_or(unread);
         let last = handed.len() == unread.len();
         let (piece, read) = decoder.decode_borrowed_raw(handed, last);
         let (Some(rest), Some(front)) = (unread.get(read..), handed.get(..read)) else {
-            return Ok(None);
+            return false;
         };
         unread = rest;
-        match piece {
-            Piece::Text(text) if text.as_bytes() == front => bytes.extend_from_slice(front)?,
-            Piece::Text(_) => return Ok(None),
-            Piece::Char(scalar) => {
-                bytes.extend_from_slice(scalar.encode_utf8(&mut [0; 4]).as_bytes())?;
-            }
-            Piece::Malformed(length) => reports.push((bytes.len(), usize::from(length)))?,
-            Piece::InputEmpty if last => return Ok(Some((bytes, reports))),
-            Piece::InputEmpty => {}
+        if !piece_comes_next(wanted, &mut came, &piece, front) {
+            return false;
+        }
+        if last && matches!(piece, Piece::InputEmpty) {
+            return came == (wanted.0.len(), wanted.1.len());
         }
     }
-    Ok(None)
+    false
 }
 
 /// Whether the pieces of a vector are its parts, whole and cut after each byte, each two and each three.
 fn comes_in_pieces(alloc: Global, vector: &Vector) -> Result<bool, AllocError> {
-    let want = Some(delivered_utf8(alloc, vector)?);
-    let mut holds = true;
-    for most in [1, 2, 3, 16] {
-        holds = holds && pieces_of(alloc, &vector.bytes, most)? == want;
-    }
-    Ok(holds)
+    let want = delivered_utf8(alloc, vector)?;
+    Ok(
+        pieces_are(&vector.bytes, 1, &want)
+            && pieces_are(&vector.bytes, 2, &want)
+            && pieces_are(&vector.bytes, 3, &want)
+            && pieces_are(&vector.bytes, 16, &want),
+    )
 }
 
 #[test]

@@ -7,66 +7,82 @@ use test_support::decoder_vectors::{
     Delivered, Vector, delivered_utf8, delivered_utf16, length_of, vectors,
 };
 
-/// Decodes to UTF-16, and hands in the unread bytes again after each report: what that delivers, if all is read.
-fn decode_to_utf16(alloc: Global, src: &[u8]) -> Result<Option<Delivered<u16>>, AllocError> {
+/// Whether the report that follows those that came has this length, behind the code units that came.
+fn report_is(wanted: &[(usize, usize)], came: (usize, usize), length: u8) -> bool {
+    wanted.get(came.1) == Some(&(came.0, usize::from(length)))
+}
+
+/// Decodes to UTF-16, and hands in the unread bytes again after each report: whether all is read, and that delivers
+/// what is wanted.
+fn decodes_to_utf16(src: &[u8], wanted: &Delivered<u16>) -> bool {
     let mut decoder = Utf8Decoder::new_inner();
     let mut unread = src;
-    let mut units = Vec::new(alloc);
-    let mut reports = Vec::new(alloc);
+    let mut came = (0, 0);
     for _ in 0..8 {
         let mut dst = [0; 16];
         let (result, read, written) = decoder.decode_to_utf16_raw(unread, &mut dst, true);
+        let end = written.saturating_add(came.0);
         let (Some(rest), Some(front)) = (unread.get(read..), dst.get(..written)) else {
-            return Ok(None);
+            return false;
         };
+        if wanted.0.get(came.0..end) != Some(front) {
+            return false;
+        }
         unread = rest;
-        units.extend_from_slice(front)?;
+        came.0 = end;
         match result {
-            DecoderResult::Malformed(length, 0) => {
-                reports.push((units.len(), usize::from(length)))?;
+            DecoderResult::Malformed(length, 0) if report_is(&wanted.1, came, length) => {
+                came.1 = came.1.saturating_add(1);
             }
-            DecoderResult::InputEmpty if unread.is_empty() && decoder.in_neutral_state() => {
-                return Ok(Some((units, reports)));
+            DecoderResult::InputEmpty => {
+                return unread.is_empty()
+                    && decoder.in_neutral_state()
+                    && came == (wanted.0.len(), wanted.1.len());
             }
-            _ => return Ok(None),
+            _ => return false,
         }
     }
-    Ok(None)
+    false
 }
 
-/// Decodes to UTF-8, and hands in the unread bytes again after each report: what that delivers, if all is read.
-fn decode_to_utf8(alloc: Global, src: &[u8]) -> Result<Option<Delivered<u8>>, AllocError> {
+/// Decodes to UTF-8, and hands in the unread bytes again after each report: whether all is read, and that delivers what
+/// is wanted.
+fn decodes_to_utf8(src: &[u8], wanted: &Delivered<u8>) -> bool {
     let mut decoder = Utf8Decoder::new_inner();
     let mut unread = src;
-    let mut bytes = Vec::new(alloc);
-    let mut reports = Vec::new(alloc);
+    let mut came = (0, 0);
     for _ in 0..8 {
         let mut dst = [0; 16];
         let (result, read, written) = decoder.decode_to_utf8_raw(unread, &mut dst, true);
+        let end = written.saturating_add(came.0);
         let (Some(rest), Some(front)) = (unread.get(read..), dst.get(..written)) else {
-            return Ok(None);
+            return false;
         };
+        if wanted.0.get(came.0..end) != Some(front) {
+            return false;
+        }
         unread = rest;
-        bytes.extend_from_slice(front)?;
+        came.0 = end;
         match result {
-            DecoderResult::Malformed(length, 0) => {
-                reports.push((bytes.len(), usize::from(length)))?;
+            DecoderResult::Malformed(length, 0) if report_is(&wanted.1, came, length) => {
+                came.1 = came.1.saturating_add(1);
             }
-            DecoderResult::InputEmpty if unread.is_empty() && decoder.in_neutral_state() => {
-                return Ok(Some((bytes, reports)));
+            DecoderResult::InputEmpty => {
+                return unread.is_empty()
+                    && decoder.in_neutral_state()
+                    && came == (wanted.0.len(), wanted.1.len());
             }
-            _ => return Ok(None),
+            _ => return false,
         }
     }
-    Ok(None)
+    false
 }
 
 /// Whether decoding to both delivers what a vector expects.
 fn is_delivered(alloc: Global, vector: &Vector) -> Result<bool, AllocError> {
-    Ok(
-        decode_to_utf16(alloc, &vector.bytes)? == Some(delivered_utf16(alloc, vector)?)
-            && decode_to_utf8(alloc, &vector.bytes)? == Some(delivered_utf8(alloc, vector)?),
-    )
+    let units = delivered_utf16(alloc, vector)?;
+    let bytes = delivered_utf8(alloc, vector)?;
+    Ok(decodes_to_utf16(&vector.bytes, &units) && decodes_to_utf8(&vector.bytes, &bytes))
 }
 
 #[test]

@@ -66,11 +66,13 @@ fn to_utf8_is(alloc: Global, decoder: &mut Utf8Decoder, row: &str) -> Result<boo
 fn queries_are(decoder: &Utf8Decoder, row: &str) -> Result<bool, Fail> {
     let mut row = row;
     let length = number_of(field(&mut row))?;
+    let units = length_of(field(&mut row))?;
+    let bytes = length_of(field(&mut row))?;
+    let replacing = length_of(field(&mut row))?;
     Ok(
-        decoder.max_utf16_buffer_length(length) == length_of(field(&mut row))?
-            && decoder.max_utf8_buffer_length_without_replacement(length)
-                == length_of(field(&mut row))?
-            && decoder.max_utf8_buffer_length(length) == length_of(field(&mut row))?,
+        decoder.max_utf16_buffer_length(length) == units
+            && decoder.max_utf8_buffer_length_without_replacement(length) == bytes
+            && decoder.max_utf8_buffer_length(length) == replacing,
     )
 }
 

@@ -78,10 +78,11 @@ text | D83D | | 2 | OutputFull | 0 | | D83D";
 fn units_row_holds(alloc: Global, row: &str) -> Result<bool, Fail> {
     let mut row = row;
     let mut encoder = encoder_at(field(&mut row));
-    let units = units_of(alloc, field(&mut row))?;
+    let source = field(&mut row);
     let room = number_of(field(&mut row))?;
     let last = field(&mut row) == "last";
     let wanted = wanted_of(alloc, &mut row)?;
+    let units = units_of(alloc, source)?;
     let mut dst = [0x71; 8];
     let Some(part) = dst.get_mut(..room) else {
         return Ok(false);

@@ -44,9 +44,10 @@ fn tail_is(units: &[u16], room: usize, front: usize, bytes: &[u8]) -> bool {
 
 fn tail_row_holds(alloc: Global, row: &str) -> Result<bool, Fail> {
     let mut row = row;
-    let units = units_of(alloc, field(&mut row))?;
+    let source = field(&mut row);
     let room = number_of(field(&mut row))?;
     let front = number_of(field(&mut row))?;
+    let units = units_of(alloc, source)?;
     Ok(tail_is(&units, room, front, &bytes_of(alloc, row)?))
 }
 
@@ -92,24 +93,27 @@ fn source_of(alloc: Global, row: &str) -> Result<Source, Fail> {
     };
     source.fronts.push((0, 0))?;
     for character in row.split('|') {
-        push_character(alloc, &mut source, character)?;
+        push_character(&mut source, character)?;
     }
     Ok(source)
 }
 
 /// Puts the character that a field names behind a source.
-fn push_character(alloc: Global, source: &mut Source, character: &str) -> Result<(), Fail> {
+fn push_character(source: &mut Source, character: &str) -> Result<(), Fail> {
     let Some((units, bytes)) = character.split_once(':') else {
         return Ok(());
     };
-    let units = units_of(alloc, units)?;
-    let bytes = bytes_of(alloc, bytes)?;
-    source.units.extend_from_slice(&units)?;
-    source.bytes.extend_from_slice(&bytes)?;
-    source
-        .fronts
-        .push((source.units.len(), source.bytes.len()))?;
-    Ok(())
+    for word in units.split_whitespace() {
+        source.units.push(u16::from_str_radix(word, 16)?)?;
+    }
+    for word in bytes.split_whitespace() {
+        source.bytes.push(u8::from_str_radix(word, 16)?)?;
+    }
+    Ok(
+        source
+            .fronts
+            .push((source.units.len(), source.bytes.len()))?,
+    )
 }
 
 /// Whether the inner half writes a front of whole characters, and reads all or leaves at most three bytes free. Which

@@ -12,9 +12,19 @@ pub const REPAIRED: [u8; 13] = [
     0x61, 0xE2, 0x98, 0x83, 0x62, 0xEF, 0xBF, 0xBD, 0x63, 0xF0, 0x9F, 0x92, 0xA9,
 ];
 
+/// Returns the byte at a place of so many letters and a pattern, over and over, behind them.
+fn byte_at(letters: usize, pattern: &[u8; 13], at: usize) -> u8 {
+    match at.checked_sub(letters) {
+        Some(place) => pattern[place % 13],
+        None => b'a',
+    }
+}
+
 /// Gives the pattern over and over, as many bytes as are asked for, up to a length, and then ends or fails.
 #[derive(Drop)]
 pub struct PatternInput {
+    letters: usize,
+    pattern: [u8; 13],
     length: usize,
     fault: Option<ErrorKind>,
     /// How many bytes it gave.
@@ -27,11 +37,27 @@ impl PatternInput {
     /// Returns an input that gives so many bytes, and then fails where there is a fault.
     pub fn of(length: usize, fault: Option<ErrorKind>) -> PatternInput {
         PatternInput {
+            letters: 0,
+            pattern: PATTERN,
             length,
             fault,
             given: 0,
             asked_behind: 0,
         }
+    }
+
+    /// Returns the input, which now gives so many letters first.
+    pub fn behind_letters(self, letters: usize) -> PatternInput {
+        let mut input = self;
+        input.letters = letters;
+        input
+    }
+
+    /// Returns the input, which now gives the repaired pattern.
+    pub fn repaired(self) -> PatternInput {
+        let mut input = self;
+        input.pattern = REPAIRED;
+        input
     }
 }
 
@@ -46,7 +72,7 @@ impl Read for PatternInput {
         }
         let mut at = self.given;
         for byte in buffer.iter_mut() {
-            *byte = PATTERN[at % 13];
+            *byte = byte_at(self.letters, &self.pattern, at);
             at = at.saturating_add(1);
         }
         self.given = self.given.saturating_add(count);
@@ -57,6 +83,7 @@ impl Read for PatternInput {
 /// Takes so many bytes and fails then once, and compares what it takes with the repaired pattern.
 #[derive(Drop)]
 pub struct PatternOutput {
+    letters: usize,
     takes: usize,
     failed: bool,
     /// How many bytes it took.
@@ -75,6 +102,7 @@ impl PatternOutput {
     /// Returns an output that takes so many bytes, fails once, and takes all from then on.
     pub fn that_takes(takes: usize) -> PatternOutput {
         PatternOutput {
+            letters: 0,
             takes,
             failed: false,
             taken: 0,
@@ -83,6 +111,13 @@ impl PatternOutput {
             flushes: 0,
             flushed_at: 0,
         }
+    }
+
+    /// Returns the output, which now compares the first bytes with so many letters.
+    pub fn behind_letters(self, letters: usize) -> PatternOutput {
+        let mut output = self;
+        output.letters = letters;
+        output
     }
 }
 
@@ -100,7 +135,7 @@ impl Write for PatternOutput {
         }
         let mut at = self.taken;
         for byte in bytes.iter().take(count) {
-            self.same = self.same && *byte == REPAIRED[at % 13];
+            self.same = self.same && *byte == byte_at(self.letters, &REPAIRED, at);
             at = at.saturating_add(1);
         }
         self.taken = self.taken.saturating_add(count);

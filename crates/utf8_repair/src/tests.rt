@@ -1,5 +1,6 @@
 //! Runs over streams in memory.
 mod buffers;
+mod long_streams;
 mod peers;
 
 use crate::service::{report, serve};
