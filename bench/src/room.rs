@@ -34,11 +34,13 @@ impl Room {
         self.written = fresh.written;
     }
 
+    /// The destination of a bounded call that writes bytes.
     pub fn bounded_bytes(&mut self) -> &mut [u8] {
         let length = self.limit.min(self.bytes.len());
         &mut self.bytes[..length]
     }
 
+    /// The destination of a bounded call that writes code units.
     pub fn bounded_units(&mut self) -> &mut [u16] {
         let length = self.limit.min(self.units.len());
         &mut self.units[..length]
@@ -50,21 +52,25 @@ impl Room {
         &mut self.bytes[..length]
     }
 
+    /// Keeps what a call says of a front.
     pub fn tell_front(&mut self, front: Front) {
         self.told = [front.length, front.other.into()];
     }
 
+    /// Keeps what a call says of a front that it copied.
     pub fn tell_copied(&mut self, front: Front) {
         self.written = front.length;
         self.tell_front(front);
     }
 
+    /// Keeps how much a call read and wrote.
     pub fn tell_counts(&mut self, counts: impl Into<Counts>) {
         let counts = counts.into();
         self.told[0] = counts.read;
         self.written = counts.written;
     }
 
+    /// Where what was written ends.
     fn end(&self) -> usize {
         if self.written == REFUSED { 0 } else { self.written }
     }

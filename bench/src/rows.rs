@@ -22,6 +22,7 @@ pub enum Reads {
     Latin1Units,
 }
 
+/// An engine's name, and how it runs the row.
 pub type Engine = (&'static str, fn(&Source, &mut Room));
 
 pub struct Row {
@@ -36,8 +37,13 @@ const CRATE: &str = "encoding_rs";
 const SIMD: &str = "simdutf8";
 
 /// Where the longest well-formed front ends.
-fn valid_up_to(result: Result<&str, str::Utf8Error>, length: usize) -> usize {
-    result.map_or_else(|error| error.valid_up_to(), |_| length)
+fn std_valid_up_to(src: &[u8]) -> usize {
+    str::from_utf8(src).map_or_else(|error| error.valid_up_to(), str::len)
+}
+
+/// The same.
+fn simd_valid_up_to(src: &[u8]) -> usize {
+    simdutf8::compat::from_utf8(src).map_or_else(|error| error.valid_up_to(), str::len)
 }
 
 /// Writes a text to a destination, and returns its length.
@@ -49,9 +55,9 @@ fn put(text: &str, dst: &mut [u8]) -> usize {
 /// Writes the most characters of the longest well-formed front that fit as UTF-16, and returns how much was read and
 /// written.
 fn std_front_to_utf16(src: &[u8], dst: &mut [u16]) -> (usize, usize) {
-    let front = valid_up_to(str::from_utf8(src), src.len());
+    let front = str::from_utf8(&src[..std_valid_up_to(src)]).unwrap();
     let (mut read, mut written) = (0, 0);
-    for character in str::from_utf8(&src[..front]).unwrap_or_default().chars() {
+    for character in front.chars() {
         if dst.len() - written < character.len_utf16() {
             break;
         }
@@ -300,12 +306,9 @@ pub const ROWS: &[Row] = rows! {
         };
     "utf8_valid_up_to", Bytes:
         OURS => |s, r| r.told[0] = ffi::encoding_utf8_valid_up_to(&s.bytes),
-        STD => |s, r| r.told[0] = one(|src| valid_up_to(str::from_utf8(src), src.len()), &s.bytes),
+        STD => |s, r| r.told[0] = one(std_valid_up_to, &s.bytes),
         CRATE => |s, r| r.told[0] = one(Encoding::utf8_valid_up_to, &s.bytes),
-        SIMD => |s, r| r.told[0] = one(|src| match simdutf8::compat::from_utf8(src) {
-            Ok(_) => src.len(),
-            Err(error) => error.valid_up_to(),
-        }, &s.bytes);
+        SIMD => |s, r| r.told[0] = one(simd_valid_up_to, &s.bytes);
     "convert_utf8_to_utf16_up_to_invalid", Text:
         OURS => |s, r| {
             let counts = ffi::encoding_convert_utf8_to_utf16_up_to_invalid(&s.bytes, r.bounded_units());
