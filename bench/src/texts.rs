@@ -42,16 +42,10 @@ fn changes(random: &mut Random) -> usize {
     [0, 1, 1, 1, 2, 3, 8][random.below(7) as usize]
 }
 
-/// A source with its forms damaged each by itself.
+/// A source: a text, its code units damaged by themselves, and its bytes as Latin1.
 pub fn source(random: &mut Random) -> Source {
     let length = length(random);
-    let mut bytes = plain(length, random);
-    if random.below(4) == 0 {
-        join(&mut bytes, length, random);
-    }
-    for _ in 0..changes(random) {
-        damage(&mut bytes, random);
-    }
+    let bytes = if random.below(3) == 0 { whole(length, random) } else { damaged(length, random) };
     let mut units: Vec<u16> = String::from_utf8_lossy(&bytes).encode_utf16().collect();
     if random.below(8) == 0 {
         units.iter_mut().for_each(|unit| *unit = one_of(&UNITS, random));
@@ -63,6 +57,30 @@ pub fn source(random: &mut Random) -> Source {
     let most = one_of(&[16, 400], random);
     source.piece = 1 + place(most, random);
     source
+}
+
+/// A well-formed text: one of a kind, or characters at random, with some more put in anywhere.
+fn whole(length: usize, random: &mut Random) -> Vec<u8> {
+    let mut characters: Vec<char> = match random.below(2) {
+        0 => text(one_of(&KINDS, random), length, random).chars().collect(),
+        _ => (0..length / 3).map(|_| character(random)).collect(),
+    };
+    for _ in 0..changes(random) {
+        characters.insert(place(characters.len(), random), character(random));
+    }
+    characters.iter().collect::<String>().into_bytes()
+}
+
+/// A text joined from others and changed anywhere.
+fn damaged(length: usize, random: &mut Random) -> Vec<u8> {
+    let mut bytes = plain(length, random);
+    if random.below(4) == 0 {
+        join(&mut bytes, length, random);
+    }
+    for _ in 0..changes(random) {
+        damage(&mut bytes, random);
+    }
+    bytes
 }
 
 /// A text of a kind, or bytes or sequences at random.
