@@ -1,9 +1,11 @@
 //! Links the static library that `make` leaves in `build/`.
+use std::env;
 use std::path::Path;
 
 fn main() {
-    let top = Path::new(env!("CARGO_MANIFEST_DIR")).join("../build");
-    println!("cargo:rustc-link-search=native={}", top.display());
+    let here = env::var("CARGO_MANIFEST_DIR").expect("cargo says where the crate is");
+    let build = Path::new(&here).join("../build");
+    println!("cargo:rustc-link-search=native={}", build.display());
     println!("cargo:rustc-link-lib=static=encoding_text");
-    println!("cargo:rerun-if-changed={}", top.join("libencoding_text.a").display());
+    println!("cargo:rerun-if-changed={}", build.join("libencoding_text.a").display());
 }

@@ -1,16 +1,28 @@
 //! The functions of `encoding_text.h`, and each of them over slices.
 
 #[repr(C)]
-#[derive(Clone, Copy)]
 pub struct Counts {
     pub read: usize,
     pub written: usize,
+}
+
+impl From<(usize, usize)> for Counts {
+    fn from((read, written): (usize, usize)) -> Counts {
+        Counts { read, written }
+    }
 }
 
 #[repr(C)]
 pub struct Front {
     pub length: usize,
     pub other: u16,
+}
+
+impl Front {
+    /// The front of so many elements of the slice.
+    pub fn of<T: Copy + Into<u16>>(slice: &[T], length: usize) -> Front {
+        Front { length, other: slice.get(length).map_or(0, |it| (*it).into()) }
+    }
 }
 
 #[repr(C)]
@@ -47,6 +59,10 @@ pub struct Repaired {
     pub replaced: u64,
 }
 
+pub const REFUSED: usize = usize::MAX;
+pub const NEITHER: u8 = 2;
+pub const NO_TEXT: u8 = 3;
+pub const INPUT_EMPTY: u8 = 0;
 pub const MALFORMED: u8 = 2;
 
 /// Declares functions of the library that take one slice, or a source and a destination, and wraps each over slices.

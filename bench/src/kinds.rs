@@ -1,5 +1,7 @@
 //! The kinds of text that are measured, made by a fixed rule.
 
+use std::str;
+
 /// One text in the forms that the rows read.
 pub struct Source {
     pub bytes: Vec<u8>,
@@ -8,6 +10,22 @@ pub struct Source {
     pub latin1_text: Vec<u8>,
     pub latin1_units: Vec<u16>,
     pub well_formed: bool,
+    /// How many bytes the calls on a stream get at once.
+    pub piece: usize,
+}
+
+impl Source {
+    pub fn of(bytes: Vec<u8>, units: Vec<u16>, latin1: Vec<u8>) -> Source {
+        Source {
+            well_formed: str::from_utf8(&bytes).is_ok(),
+            bytes,
+            units,
+            latin1_text: latin1.iter().map(|b| char::from(*b)).collect::<String>().into_bytes(),
+            latin1_units: latin1.iter().map(|b| u16::from(*b)).collect(),
+            latin1,
+            piece: 4 << 10,
+        }
+    }
 }
 
 #[derive(Clone, Copy, PartialEq, Eq)]
@@ -52,10 +70,16 @@ impl Kind {
 }
 
 /// A small generator of numbers, the same on each run.
-struct Random(u64);
+pub struct Random(u64);
 
 impl Random {
-    fn below(&mut self, bound: u32) -> u32 {
+    /// A generator for each seed: neighbours give other numbers.
+    pub fn seeded(seed: u64) -> Random {
+        let mixed = (seed ^ (seed >> 30)).wrapping_add(0x9E37_79B9_7F4A_7C15).wrapping_mul(0xBF58_476D_1CE4_E5B9);
+        Random((mixed ^ (mixed >> 31)) | 1)
+    }
+
+    pub fn below(&mut self, bound: u32) -> u32 {
         self.0 ^= self.0 << 13;
         self.0 ^= self.0 >> 7;
         self.0 ^= self.0 << 17;
@@ -63,17 +87,22 @@ impl Random {
     }
 }
 
-/// A text of the kind, of about so many bytes: no character is cut at its end.
-pub fn source(kind: Kind, size: usize) -> Source {
-    let mut random = Random(0x9E37_79B9_7F4A_7C15);
+/// A well-formed text of the kind, of about so many bytes: no character is cut at its end.
+pub fn text(kind: Kind, size: usize, random: &mut Random) -> String {
     let mut text = String::new();
     loop {
-        let next = kind.character(&mut random);
+        let next = kind.character(random);
         if text.len() + next.len_utf8() > size {
-            break;
+            return text;
         }
         text.push(next);
     }
+}
+
+/// What is measured: a text of the kind, of about so many bytes.
+pub fn source(kind: Kind, size: usize) -> Source {
+    let mut random = Random(0x9E37_79B9_7F4A_7C15);
+    let text = text(kind, size, &mut random);
     let mut units: Vec<u16> = text.encode_utf16().collect();
     let latin1: Vec<u8> = text.chars().map(|c| if (c as u32) < 0x100 { c as u8 } else { 0xE4 }).collect();
     let mut bytes = text.into_bytes();
@@ -85,12 +114,5 @@ pub fn source(kind: Kind, size: usize) -> Source {
             units[place] = 0xDC00;
         }
     }
-    Source {
-        bytes,
-        units,
-        latin1_text: latin1.iter().map(|b| char::from(*b)).collect::<String>().into_bytes(),
-        latin1_units: latin1.iter().map(|b| u16::from(*b)).collect(),
-        latin1,
-        well_formed: kind != Kind::Broken,
-    }
+    Source::of(bytes, units, latin1)
 }

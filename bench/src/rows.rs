@@ -1,18 +1,15 @@
 //! The rows of the public surface, each with the engines that have it: ours first.
+//!
+//! Rows on texts begin with bytes for each engine: C has no type for a text, so our functions validate what they get,
+//! and peers validate it by `std::str::from_utf8` before their own call. So do the rows that write into a text.
 
-use crate::ffi;
+use crate::call::{in_place, one, two};
+use crate::ffi::{self, Front, NEITHER, NO_TEXT, REFUSED};
 use crate::kinds::Source;
+use crate::room::Room;
 use crate::streams;
-use encoding_rs::{mem, Encoding};
+use encoding_rs::{mem, Encoding, UTF_8};
 use std::str;
-
-/// Where an engine leaves what it gives: all of it is compared.
-#[derive(Default, PartialEq, Eq)]
-pub struct Room {
-    pub bytes: Vec<u8>,
-    pub units: Vec<u16>,
-    pub numbers: [usize; 2],
-}
 
 /// What a row reads, which is what its throughput counts.
 #[derive(Clone, Copy, PartialEq, Eq)]
@@ -25,6 +22,7 @@ pub enum Reads {
     Latin1Units,
 }
 
+/// An engine's name, and how it runs the row.
 pub type Engine = (&'static str, fn(&Source, &mut Room));
 
 pub struct Row {
@@ -38,15 +36,49 @@ const STD: &str = "std";
 const CRATE: &str = "encoding_rs";
 const SIMD: &str = "simdutf8";
 
-fn text(source: &Source) -> &str {
-    // The kinds that rows on texts are run on are well-formed.
-    unsafe { str::from_utf8_unchecked(&source.bytes) }
+/// Where the longest well-formed front ends.
+fn std_valid_up_to(src: &[u8]) -> usize {
+    str::from_utf8(src).map_or_else(|error| error.valid_up_to(), str::len)
 }
 
+/// The same.
+fn simd_valid_up_to(src: &[u8]) -> usize {
+    simdutf8::compat::from_utf8(src).map_or_else(|error| error.valid_up_to(), str::len)
+}
 
-fn as_text(bytes: &mut [u8]) -> &mut str {
-    // A destination holds letters at first, and after that what a run left: a text.
-    unsafe { str::from_utf8_unchecked_mut(bytes) }
+/// Writes a text to a destination, and returns its length.
+fn put(text: &str, dst: &mut [u8]) -> usize {
+    dst[..text.len()].copy_from_slice(text.as_bytes());
+    text.len()
+}
+
+/// Writes the most characters of the longest well-formed front that fit as UTF-16, and returns how much was read and
+/// written.
+fn std_front_to_utf16(src: &[u8], dst: &mut [u16]) -> (usize, usize) {
+    let front = str::from_utf8(&src[..std_valid_up_to(src)]).unwrap();
+    let (mut read, mut written) = (0, 0);
+    for character in front.chars() {
+        if dst.len() - written < character.len_utf16() {
+            break;
+        }
+        written += character.encode_utf16(&mut dst[written..]).len();
+        read += character.len_utf8();
+    }
+    (read, written)
+}
+
+/// The same. The crate's call asks for room and tells no place: without room it is std's.
+fn crate_front_to_utf16(src: &[u8], dst: &mut [u16]) -> (usize, usize) {
+    if dst.len() < src.len() {
+        return std_front_to_utf16(src, dst);
+    }
+    match mem::convert_utf8_to_utf16_without_replacement(src, dst) {
+        Some(written) => (src.len(), written),
+        None => {
+            let read = Encoding::utf8_valid_up_to(src);
+            (read, mem::convert_utf8_to_utf16(&src[..read], &mut dst[..=read]))
+        }
+    }
 }
 
 macro_rules! rows {
@@ -57,192 +89,268 @@ macro_rules! rows {
 
 pub const ROWS: &[Row] = rows! {
     "validate_ascii", Bytes:
-        OURS => |s, r| r.numbers[0] = ffi::encoding_validate_ascii(&s.bytes).length,
-        STD => |s, r| r.numbers[0] = s.bytes.iter().position(|b| *b >= 0x80).unwrap_or(s.bytes.len()),
-        CRATE => |s, r| r.numbers[0] = Encoding::ascii_valid_up_to(&s.bytes);
+        OURS => |s, r| r.tell_front(ffi::encoding_validate_ascii(&s.bytes)),
+        STD => |s, r| r.tell_front(one(|src| {
+            Front::of(src, src.iter().position(|b| *b >= 0x80).unwrap_or(src.len()))
+        }, &s.bytes)),
+        CRATE => |s, r| r.tell_front(one(|src| Front::of(src, Encoding::ascii_valid_up_to(src)), &s.bytes));
     "ascii_valid_up_to", Bytes:
-        OURS => |s, r| r.numbers[0] = ffi::encoding_ascii_valid_up_to(&s.bytes),
-        CRATE => |s, r| r.numbers[0] = Encoding::ascii_valid_up_to(&s.bytes);
+        OURS => |s, r| r.told[0] = ffi::encoding_ascii_valid_up_to(&s.bytes),
+        CRATE => |s, r| r.told[0] = one(Encoding::ascii_valid_up_to, &s.bytes);
     "iso_2022_jp_ascii_valid_up_to", Bytes:
-        OURS => |s, r| r.numbers[0] = ffi::encoding_iso_2022_jp_ascii_valid_up_to(&s.bytes),
-        CRATE => |s, r| r.numbers[0] = Encoding::iso_2022_jp_ascii_valid_up_to(&s.bytes);
+        OURS => |s, r| r.told[0] = ffi::encoding_iso_2022_jp_ascii_valid_up_to(&s.bytes),
+        CRATE => |s, r| r.told[0] = one(Encoding::iso_2022_jp_ascii_valid_up_to, &s.bytes);
     "ascii_to_ascii", Bytes:
-        OURS => |s, r| r.numbers[0] = ffi::encoding_ascii_to_ascii(&s.bytes, &mut r.bytes).length,
-        CRATE => |s, r| r.numbers[0] = mem::copy_ascii_to_ascii(&s.bytes, &mut r.bytes);
+        OURS => |s, r| {
+            let front = ffi::encoding_ascii_to_ascii(&s.bytes, r.bounded_bytes());
+            r.tell_copied(front)
+        },
+        CRATE => |s, r| {
+            let front = two(|src, dst| {
+                let src = &src[..src.len().min(dst.len())];
+                Front::of(src, mem::copy_ascii_to_ascii(src, dst))
+            }, &s.bytes, r.bounded_bytes());
+            r.tell_copied(front)
+        };
     "ascii_to_basic_latin", Bytes:
-        OURS => |s, r| r.numbers[0] = ffi::encoding_ascii_to_basic_latin(&s.bytes, &mut r.units).length,
-        CRATE => |s, r| r.numbers[0] = mem::copy_ascii_to_basic_latin(&s.bytes, &mut r.units);
+        OURS => |s, r| {
+            let front = ffi::encoding_ascii_to_basic_latin(&s.bytes, r.bounded_units());
+            r.tell_copied(front)
+        },
+        CRATE => |s, r| {
+            let front = two(|src, dst| {
+                let src = &src[..src.len().min(dst.len())];
+                Front::of(src, mem::copy_ascii_to_basic_latin(src, dst))
+            }, &s.bytes, r.bounded_units());
+            r.tell_copied(front)
+        };
     "basic_latin_to_ascii", Units:
-        OURS => |s, r| r.numbers[0] = ffi::encoding_basic_latin_to_ascii(&s.units, &mut r.bytes).length,
-        CRATE => |s, r| r.numbers[0] = mem::copy_basic_latin_to_ascii(&s.units, &mut r.bytes);
+        OURS => |s, r| {
+            let front = ffi::encoding_basic_latin_to_ascii(&s.units, r.bounded_bytes());
+            r.tell_copied(front)
+        },
+        CRATE => |s, r| {
+            let front = two(|src, dst| {
+                let src = &src[..src.len().min(dst.len())];
+                Front::of(src, mem::copy_basic_latin_to_ascii(src, dst))
+            }, &s.units, r.bounded_bytes());
+            r.tell_copied(front)
+        };
     "copy_ascii_to_ascii", Bytes:
-        OURS => |s, r| r.numbers[0] = ffi::encoding_mem_copy_ascii_to_ascii(&s.bytes, &mut r.bytes),
-        CRATE => |s, r| r.numbers[0] = mem::copy_ascii_to_ascii(&s.bytes, &mut r.bytes);
+        OURS => |s, r| r.written = ffi::encoding_mem_copy_ascii_to_ascii(&s.bytes, &mut r.bytes),
+        CRATE => |s, r| r.written = two(mem::copy_ascii_to_ascii, &s.bytes, &mut r.bytes);
     "copy_ascii_to_basic_latin", Bytes:
-        OURS => |s, r| r.numbers[0] = ffi::encoding_mem_copy_ascii_to_basic_latin(&s.bytes, &mut r.units),
-        CRATE => |s, r| r.numbers[0] = mem::copy_ascii_to_basic_latin(&s.bytes, &mut r.units);
+        OURS => |s, r| r.written = ffi::encoding_mem_copy_ascii_to_basic_latin(&s.bytes, &mut r.units),
+        CRATE => |s, r| r.written = two(mem::copy_ascii_to_basic_latin, &s.bytes, &mut r.units);
     "copy_basic_latin_to_ascii", Units:
-        OURS => |s, r| r.numbers[0] = ffi::encoding_mem_copy_basic_latin_to_ascii(&s.units, &mut r.bytes),
-        CRATE => |s, r| r.numbers[0] = mem::copy_basic_latin_to_ascii(&s.units, &mut r.bytes);
+        OURS => |s, r| r.written = ffi::encoding_mem_copy_basic_latin_to_ascii(&s.units, &mut r.bytes),
+        CRATE => |s, r| r.written = two(mem::copy_basic_latin_to_ascii, &s.units, &mut r.bytes);
     "is_ascii", Bytes:
-        OURS => |s, r| r.numbers[0] = ffi::encoding_mem_is_ascii(&s.bytes).into(),
-        STD => |s, r| r.numbers[0] = s.bytes.is_ascii().into(),
-        CRATE => |s, r| r.numbers[0] = mem::is_ascii(&s.bytes).into();
+        OURS => |s, r| r.told[0] = ffi::encoding_mem_is_ascii(&s.bytes).into(),
+        STD => |s, r| r.told[0] = one(<[u8]>::is_ascii, &s.bytes).into(),
+        CRATE => |s, r| r.told[0] = one(mem::is_ascii, &s.bytes).into();
     "is_basic_latin", Units:
-        OURS => |s, r| r.numbers[0] = ffi::encoding_mem_is_basic_latin(&s.units).into(),
-        CRATE => |s, r| r.numbers[0] = mem::is_basic_latin(&s.units).into();
+        OURS => |s, r| r.told[0] = ffi::encoding_mem_is_basic_latin(&s.units).into(),
+        CRATE => |s, r| r.told[0] = one(mem::is_basic_latin, &s.units).into();
     "is_utf8_latin1", Bytes:
-        OURS => |s, r| r.numbers[0] = ffi::encoding_mem_is_utf8_latin1(&s.bytes).into(),
-        CRATE => |s, r| r.numbers[0] = mem::is_utf8_latin1(&s.bytes).into();
+        OURS => |s, r| r.told[0] = ffi::encoding_mem_is_utf8_latin1(&s.bytes).into(),
+        CRATE => |s, r| r.told[0] = one(mem::is_utf8_latin1, &s.bytes).into();
     "is_str_latin1", Text:
-        OURS => |s, r| r.numbers[0] = ffi::encoding_mem_is_str_latin1(&s.bytes).into(),
-        CRATE => |s, r| r.numbers[0] = mem::is_str_latin1(text(s)).into();
+        OURS => |s, r| r.told[0] = ffi::encoding_mem_is_str_latin1(&s.bytes).into(),
+        CRATE => |s, r| r.told[0] = one(|src| match str::from_utf8(src) {
+            Ok(text) => mem::is_str_latin1(text).into(),
+            Err(_) => NEITHER,
+        }, &s.bytes).into();
     "is_utf16_latin1", Units:
-        OURS => |s, r| r.numbers[0] = ffi::encoding_mem_is_utf16_latin1(&s.units).into(),
-        CRATE => |s, r| r.numbers[0] = mem::is_utf16_latin1(&s.units).into();
+        OURS => |s, r| r.told[0] = ffi::encoding_mem_is_utf16_latin1(&s.units).into(),
+        CRATE => |s, r| r.told[0] = one(mem::is_utf16_latin1, &s.units).into();
     "utf8_latin1_up_to", Bytes:
-        OURS => |s, r| r.numbers[0] = ffi::encoding_mem_utf8_latin1_up_to(&s.bytes),
-        CRATE => |s, r| r.numbers[0] = mem::utf8_latin1_up_to(&s.bytes);
+        OURS => |s, r| r.told[0] = ffi::encoding_mem_utf8_latin1_up_to(&s.bytes),
+        CRATE => |s, r| r.told[0] = one(mem::utf8_latin1_up_to, &s.bytes);
     "str_latin1_up_to", Text:
-        OURS => |s, r| r.numbers[0] = ffi::encoding_mem_str_latin1_up_to(&s.bytes),
-        CRATE => |s, r| r.numbers[0] = mem::str_latin1_up_to(text(s));
+        OURS => |s, r| r.told[0] = ffi::encoding_mem_str_latin1_up_to(&s.bytes),
+        CRATE => |s, r| r.told[0] = one(|src| match str::from_utf8(src) {
+            Ok(text) => mem::str_latin1_up_to(text),
+            Err(_) => REFUSED,
+        }, &s.bytes);
     "utf16_valid_up_to", Units:
-        OURS => |s, r| r.numbers[0] = ffi::encoding_mem_utf16_valid_up_to(&s.units),
-        CRATE => |s, r| r.numbers[0] = mem::utf16_valid_up_to(&s.units);
+        OURS => |s, r| r.told[0] = ffi::encoding_mem_utf16_valid_up_to(&s.units),
+        CRATE => |s, r| r.told[0] = one(mem::utf16_valid_up_to, &s.units);
     "ensure_utf16_validity", Units:
         OURS => |s, r| {
+            r.written = s.units.len();
             r.units[..s.units.len()].copy_from_slice(&s.units);
             ffi::ensure_utf16_validity(&mut r.units[..s.units.len()]);
         },
         CRATE => |s, r| {
+            r.written = s.units.len();
             r.units[..s.units.len()].copy_from_slice(&s.units);
-            mem::ensure_utf16_validity(&mut r.units[..s.units.len()]);
+            in_place(mem::ensure_utf16_validity, &mut r.units[..s.units.len()]);
         };
     "is_utf8_bidi", Bytes:
-        OURS => |s, r| r.numbers[0] = ffi::encoding_mem_is_utf8_bidi(&s.bytes).into(),
-        CRATE => |s, r| r.numbers[0] = mem::is_utf8_bidi(&s.bytes).into();
+        OURS => |s, r| r.told[0] = ffi::encoding_mem_is_utf8_bidi(&s.bytes).into(),
+        CRATE => |s, r| r.told[0] = one(mem::is_utf8_bidi, &s.bytes).into();
     "is_str_bidi", Text:
-        OURS => |s, r| r.numbers[0] = ffi::encoding_mem_is_str_bidi(&s.bytes).into(),
-        CRATE => |s, r| r.numbers[0] = mem::is_str_bidi(text(s)).into();
+        OURS => |s, r| r.told[0] = ffi::encoding_mem_is_str_bidi(&s.bytes).into(),
+        CRATE => |s, r| r.told[0] = one(|src| match str::from_utf8(src) {
+            Ok(text) => mem::is_str_bidi(text).into(),
+            Err(_) => NEITHER,
+        }, &s.bytes).into();
     "is_utf16_bidi", Units:
-        OURS => |s, r| r.numbers[0] = ffi::encoding_mem_is_utf16_bidi(&s.units).into(),
-        CRATE => |s, r| r.numbers[0] = mem::is_utf16_bidi(&s.units).into();
+        OURS => |s, r| r.told[0] = ffi::encoding_mem_is_utf16_bidi(&s.units).into(),
+        CRATE => |s, r| r.told[0] = one(mem::is_utf16_bidi, &s.units).into();
     "check_utf8_for_latin1_and_bidi", Bytes:
-        OURS => |s, r| r.numbers[0] = ffi::encoding_mem_check_utf8_for_latin1_and_bidi(&s.bytes).into(),
-        CRATE => |s, r| r.numbers[0] = mem::check_utf8_for_latin1_and_bidi(&s.bytes) as usize;
+        OURS => |s, r| r.told[0] = ffi::encoding_mem_check_utf8_for_latin1_and_bidi(&s.bytes).into(),
+        CRATE => |s, r| r.told[0] = one(mem::check_utf8_for_latin1_and_bidi, &s.bytes) as usize;
     "check_str_for_latin1_and_bidi", Text:
-        OURS => |s, r| r.numbers[0] = ffi::encoding_mem_check_str_for_latin1_and_bidi(&s.bytes).into(),
-        CRATE => |s, r| r.numbers[0] = mem::check_str_for_latin1_and_bidi(text(s)) as usize;
+        OURS => |s, r| r.told[0] = ffi::encoding_mem_check_str_for_latin1_and_bidi(&s.bytes).into(),
+        CRATE => |s, r| r.told[0] = one(|src| match str::from_utf8(src) {
+            Ok(text) => mem::check_str_for_latin1_and_bidi(text) as u8,
+            Err(_) => NO_TEXT,
+        }, &s.bytes).into();
     "check_utf16_for_latin1_and_bidi", Units:
-        OURS => |s, r| r.numbers[0] = ffi::encoding_mem_check_utf16_for_latin1_and_bidi(&s.units).into(),
-        CRATE => |s, r| r.numbers[0] = mem::check_utf16_for_latin1_and_bidi(&s.units) as usize;
+        OURS => |s, r| r.told[0] = ffi::encoding_mem_check_utf16_for_latin1_and_bidi(&s.units).into(),
+        CRATE => |s, r| r.told[0] = one(mem::check_utf16_for_latin1_and_bidi, &s.units) as usize;
     "convert_latin1_to_utf16", Latin1:
-        OURS => |s, r| { ffi::encoding_mem_convert_latin1_to_utf16(&s.latin1, &mut r.units); },
-        CRATE => |s, r| mem::convert_latin1_to_utf16(&s.latin1, &mut r.units);
+        OURS => |s, r| r.written = ffi::encoding_mem_convert_latin1_to_utf16(&s.latin1, &mut r.units),
+        CRATE => |s, r| {
+            two(mem::convert_latin1_to_utf16, &s.latin1, &mut r.units);
+            r.written = s.latin1.len();
+        };
     "convert_latin1_to_utf8_partial", Latin1:
         OURS => |s, r| {
-            let counts = ffi::encoding_mem_convert_latin1_to_utf8_partial(&s.latin1, &mut r.bytes);
-            r.numbers = [counts.read, counts.written];
-        },
-        CRATE => |s, r| r.numbers = mem::convert_latin1_to_utf8_partial(&s.latin1, &mut r.bytes).into();
-    "convert_latin1_to_utf8", Latin1:
-        OURS => |s, r| r.numbers[0] = ffi::encoding_mem_convert_latin1_to_utf8(&s.latin1, &mut r.bytes),
-        CRATE => |s, r| r.numbers[0] = mem::convert_latin1_to_utf8(&s.latin1, &mut r.bytes);
-    "convert_utf8_to_latin1_lossy", Latin1Text:
-        OURS => |s, r| r.numbers[0] = ffi::encoding_mem_convert_utf8_to_latin1_lossy(&s.latin1_text, &mut r.bytes),
-        CRATE => |s, r| r.numbers[0] = mem::convert_utf8_to_latin1_lossy(&s.latin1_text, &mut r.bytes);
-    "convert_utf16_to_latin1_lossy", Latin1Units:
-        OURS => |s, r| { ffi::encoding_mem_convert_utf16_to_latin1_lossy(&s.latin1_units, &mut r.bytes); },
-        CRATE => |s, r| mem::convert_utf16_to_latin1_lossy(&s.latin1_units, &mut r.bytes);
-    "convert_utf8_to_utf16", Bytes:
-        OURS => |s, r| r.numbers[0] = ffi::encoding_mem_convert_utf8_to_utf16(&s.bytes, &mut r.units),
-        CRATE => |s, r| r.numbers[0] = mem::convert_utf8_to_utf16(&s.bytes, &mut r.units);
-    "convert_str_to_utf16", Text:
-        OURS => |s, r| r.numbers[0] = ffi::encoding_mem_convert_str_to_utf16(&s.bytes, &mut r.units),
-        STD => |s, r| {
-            let mut written = 0;
-            for unit in text(s).encode_utf16() {
-                r.units[written] = unit;
-                written += 1;
-            }
-            r.numbers[0] = written;
-        },
-        CRATE => |s, r| r.numbers[0] = mem::convert_str_to_utf16(text(s), &mut r.units);
-    "convert_utf8_to_utf16_without_replacement", Text:
-        OURS => |s, r| r.numbers[0] = ffi::encoding_mem_convert_utf8_to_utf16_without_replacement(&s.bytes, &mut r.units).written,
-        CRATE => |s, r| r.numbers[0] = mem::convert_utf8_to_utf16_without_replacement(&s.bytes, &mut r.units).unwrap();
-    "convert_utf16_to_utf8_partial", Units:
-        OURS => |s, r| {
-            let counts = ffi::encoding_mem_convert_utf16_to_utf8_partial(&s.units, &mut r.bytes);
-            r.numbers = [counts.read, counts.written];
-        },
-        CRATE => |s, r| r.numbers = mem::convert_utf16_to_utf8_partial(&s.units, &mut r.bytes).into();
-    "convert_utf16_to_utf8", Units:
-        OURS => |s, r| r.numbers[0] = ffi::encoding_mem_convert_utf16_to_utf8(&s.units, &mut r.bytes),
-        STD => |s, r| {
-            let text = String::from_utf16_lossy(&s.units);
-            r.bytes[..text.len()].copy_from_slice(text.as_bytes());
-            r.numbers[0] = text.len();
-        },
-        CRATE => |s, r| r.numbers[0] = mem::convert_utf16_to_utf8(&s.units, &mut r.bytes);
-    "convert_utf16_to_str_partial", Units:
-        OURS => |s, r| {
-            let room = &mut r.bytes[..3 * s.units.len()];
-            let counts = ffi::encoding_mem_convert_utf16_to_str_partial(&s.units, room);
-            r.numbers = [counts.read, counts.written];
-        },
-        CRATE => |s, r| r.numbers = mem::convert_utf16_to_str_partial(&s.units, as_text(&mut r.bytes[..3 * s.units.len()])).into();
-    "convert_latin1_to_str_partial", Latin1:
-        OURS => |s, r| {
-            let room = &mut r.bytes[..2 * s.latin1.len()];
-            let counts = ffi::encoding_mem_convert_latin1_to_str_partial(&s.latin1, room);
-            r.numbers = [counts.read, counts.written];
-        },
-        CRATE => |s, r| r.numbers = mem::convert_latin1_to_str_partial(&s.latin1, as_text(&mut r.bytes[..2 * s.latin1.len()])).into();
-    "utf8_valid_up_to", Bytes:
-        OURS => |s, r| r.numbers[0] = ffi::encoding_utf8_valid_up_to(&s.bytes),
-        STD => |s, r| r.numbers[0] = match str::from_utf8(&s.bytes) {
-            Ok(_) => s.bytes.len(),
-            Err(error) => error.valid_up_to(),
-        },
-        CRATE => |s, r| r.numbers[0] = Encoding::utf8_valid_up_to(&s.bytes),
-        SIMD => |s, r| r.numbers[0] = match simdutf8::compat::from_utf8(&s.bytes) {
-            Ok(_) => s.bytes.len(),
-            Err(error) => error.valid_up_to(),
-        };
-    "convert_utf8_to_utf16_up_to_invalid", Text:
-        OURS => |s, r| r.numbers[0] = ffi::encoding_convert_utf8_to_utf16_up_to_invalid(&s.bytes, &mut r.units).written,
-        CRATE => |s, r| r.numbers[0] = mem::convert_utf8_to_utf16_without_replacement(&s.bytes, &mut r.units).unwrap();
-    "decode_to_utf16, 4 KiB a call", Bytes:
-        OURS => |s, r| streams::decode_to_utf16(s, r),
-        CRATE => |s, r| streams::crate_decode_to_utf16(s, r);
-    "decode_to_utf8, 4 KiB a call", Bytes:
-        OURS => |s, r| streams::decode_to_utf8(s, r),
-        CRATE => |s, r| streams::crate_decode_to_utf8(s, r);
-    "encode_from_utf16, 4 KiB a call", Units:
-        OURS => |s, r| streams::encode_from_utf16(s, r),
-        CRATE => |s, r| streams::crate_encode_from_utf16(s, r);
-    "encode_from_utf8, 4 KiB a call", Text:
-        OURS => |s, r| streams::encode_from_utf8(s, r),
-        CRATE => |s, r| streams::crate_encode_from_utf8(s, r);
-    "repair_slice", Bytes:
-        OURS => |s, r| r.numbers[0] = ffi::encoding_repair_slice(&s.bytes, &mut r.bytes).written,
-        STD => |s, r| {
-            let text = String::from_utf8_lossy(&s.bytes);
-            r.bytes[..text.len()].copy_from_slice(text.as_bytes());
-            r.numbers[0] = text.len();
+            let counts = ffi::encoding_mem_convert_latin1_to_utf8_partial(&s.latin1, r.bounded_bytes());
+            r.tell_counts(counts)
         },
         CRATE => |s, r| {
-            let (text, _) = encoding_rs::UTF_8.decode_without_bom_handling(&s.bytes);
-            r.bytes[..text.len()].copy_from_slice(text.as_bytes());
-            r.numbers[0] = text.len();
+            let counts = two(mem::convert_latin1_to_utf8_partial, &s.latin1, r.bounded_bytes());
+            r.tell_counts(counts)
         };
+    "convert_latin1_to_utf8", Latin1:
+        OURS => |s, r| r.written = ffi::encoding_mem_convert_latin1_to_utf8(&s.latin1, &mut r.bytes),
+        CRATE => |s, r| r.written = two(mem::convert_latin1_to_utf8, &s.latin1, &mut r.bytes);
+    "convert_utf8_to_latin1_lossy", Latin1Text:
+        OURS => |s, r| r.written = ffi::encoding_mem_convert_utf8_to_latin1_lossy(&s.latin1_text, &mut r.bytes),
+        CRATE => |s, r| r.written = two(mem::convert_utf8_to_latin1_lossy, &s.latin1_text, &mut r.bytes);
+    "convert_utf16_to_latin1_lossy", Latin1Units:
+        OURS => |s, r| r.written = ffi::encoding_mem_convert_utf16_to_latin1_lossy(&s.latin1_units, &mut r.bytes),
+        CRATE => |s, r| {
+            two(mem::convert_utf16_to_latin1_lossy, &s.latin1_units, &mut r.bytes);
+            r.written = s.latin1_units.len();
+        };
+    "convert_utf8_to_utf16", Bytes:
+        OURS => |s, r| r.written = ffi::encoding_mem_convert_utf8_to_utf16(&s.bytes, &mut r.units),
+        CRATE => |s, r| r.written = two(mem::convert_utf8_to_utf16, &s.bytes, &mut r.units);
+    "convert_str_to_utf16", Text:
+        OURS => |s, r| r.written = ffi::encoding_mem_convert_str_to_utf16(&s.bytes, &mut r.units),
+        STD => |s, r| r.written = two(|src, dst: &mut [u16]| {
+            let Ok(text) = str::from_utf8(src) else {
+                return REFUSED;
+            };
+            let mut written = 0;
+            for unit in text.encode_utf16() {
+                dst[written] = unit;
+                written += 1;
+            }
+            written
+        }, &s.bytes, &mut r.units),
+        CRATE => |s, r| r.written = two(|src, dst| match str::from_utf8(src) {
+            Ok(text) => mem::convert_str_to_utf16(text, dst),
+            Err(_) => REFUSED,
+        }, &s.bytes, &mut r.units);
+    "convert_utf8_to_utf16_without_replacement", Text:
+        OURS => |s, r| {
+            let counts = ffi::encoding_mem_convert_utf8_to_utf16_without_replacement(&s.bytes, &mut r.units);
+            r.tell_counts(counts)
+        },
+        CRATE => |s, r| {
+            let counts = two(crate_front_to_utf16, &s.bytes, &mut r.units);
+            r.tell_counts(counts)
+        };
+    "convert_utf16_to_utf8_partial", Units:
+        OURS => |s, r| {
+            let counts = ffi::encoding_mem_convert_utf16_to_utf8_partial(&s.units, r.bounded_bytes());
+            r.tell_counts(counts)
+        },
+        CRATE => |s, r| {
+            let counts = two(mem::convert_utf16_to_utf8_partial, &s.units, r.bounded_bytes());
+            r.tell_counts(counts)
+        };
+    "convert_utf16_to_utf8", Units:
+        OURS => |s, r| r.written = ffi::encoding_mem_convert_utf16_to_utf8(&s.units, &mut r.bytes),
+        STD => |s, r| r.written = two(|src, dst| put(&String::from_utf16_lossy(src), dst), &s.units, &mut r.bytes),
+        CRATE => |s, r| r.written = two(mem::convert_utf16_to_utf8, &s.units, &mut r.bytes);
+    "convert_utf16_to_str_partial", Units:
+        OURS => |s, r| {
+            let counts = ffi::encoding_mem_convert_utf16_to_str_partial(&s.units, r.text(3 * s.units.len()));
+            r.tell_counts(counts)
+        },
+        CRATE => |s, r| {
+            let counts = two(|src, dst| match str::from_utf8_mut(dst) {
+                Ok(text) => mem::convert_utf16_to_str_partial(src, text),
+                Err(_) => (REFUSED, REFUSED),
+            }, &s.units, r.text(3 * s.units.len()));
+            r.tell_counts(counts)
+        };
+    "convert_latin1_to_str_partial", Latin1:
+        OURS => |s, r| {
+            let counts = ffi::encoding_mem_convert_latin1_to_str_partial(&s.latin1, r.text(2 * s.latin1.len()));
+            r.tell_counts(counts)
+        },
+        CRATE => |s, r| {
+            let counts = two(|src, dst| match str::from_utf8_mut(dst) {
+                Ok(text) => mem::convert_latin1_to_str_partial(src, text),
+                Err(_) => (REFUSED, REFUSED),
+            }, &s.latin1, r.text(2 * s.latin1.len()));
+            r.tell_counts(counts)
+        };
+    "utf8_valid_up_to", Bytes:
+        OURS => |s, r| r.told[0] = ffi::encoding_utf8_valid_up_to(&s.bytes),
+        STD => |s, r| r.told[0] = one(std_valid_up_to, &s.bytes),
+        CRATE => |s, r| r.told[0] = one(Encoding::utf8_valid_up_to, &s.bytes),
+        SIMD => |s, r| r.told[0] = one(simd_valid_up_to, &s.bytes);
+    "convert_utf8_to_utf16_up_to_invalid", Text:
+        OURS => |s, r| {
+            let counts = ffi::encoding_convert_utf8_to_utf16_up_to_invalid(&s.bytes, r.bounded_units());
+            r.tell_counts(counts)
+        },
+        STD => |s, r| {
+            let counts = two(std_front_to_utf16, &s.bytes, r.bounded_units());
+            r.tell_counts(counts)
+        },
+        CRATE => |s, r| {
+            let counts = two(crate_front_to_utf16, &s.bytes, r.bounded_units());
+            r.tell_counts(counts)
+        };
+    "decode_to_utf16, 4 KiB a call", Bytes:
+        OURS => streams::decode_to_utf16,
+        CRATE => streams::crate_decode_to_utf16;
+    "decode_to_utf8, 4 KiB a call", Bytes:
+        OURS => streams::decode_to_utf8,
+        CRATE => streams::crate_decode_to_utf8;
+    "encode_from_utf16, 4 KiB a call", Units:
+        OURS => streams::encode_from_utf16,
+        CRATE => streams::crate_encode_from_utf16;
+    "encode_from_utf8, 4 KiB a call", Text:
+        OURS => streams::encode_from_utf8,
+        CRATE => streams::crate_encode_from_utf8;
+    "repair_slice", Bytes:
+        OURS => |s, r| r.written = ffi::encoding_repair_slice(&s.bytes, &mut r.bytes).written,
+        STD => |s, r| r.written = two(|src, dst| put(&String::from_utf8_lossy(src), dst), &s.bytes, &mut r.bytes),
+        CRATE => |s, r| r.written = two(|src, dst| {
+            put(&UTF_8.decode_without_bom_handling(src).0, dst)
+        }, &s.bytes, &mut r.bytes);
 };
 
 impl Row {
-    /// Whether the row can be run on the source.
-    pub fn takes(&self, source: &Source) -> bool {
+    /// Whether the row is measured on the source: rows on texts aren't on broken ones, which they refuse.
+    pub fn is_measured(&self, source: &Source) -> bool {
         source.well_formed || self.reads != Reads::Text
+    }
+
+    /// Whether the call clears behind what it writes, so that its destination stays a text.
+    pub fn clears(&self) -> bool {
+        self.name.ends_with("to_str_partial")
     }
 
     /// How many bytes of source a run of the row reads.

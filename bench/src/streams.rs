@@ -1,146 +1,196 @@
-//! The streaming calls in pieces, with U+FFFD written for each report as a caller does.
+//! The streaming calls in pieces, with U+FFFD written for each report as a caller does. Peers are called directly:
+//! these functions of `encoding_rs` aren't inlined.
 
 use crate::ffi::{self, Decoder, Encoder};
 use crate::kinds::Source;
-use crate::rows::Room;
+use crate::room::Room;
 use encoding_rs::{CoderResult, UTF_8};
 use std::str;
 
-const PIECE: usize = 4 << 10;
+/// The shortest destination that each call gets: every character fits.
+const LEAST: usize = 4;
+
+impl Room {
+    fn free_bytes(&mut self) -> &mut [u8] {
+        let end = (self.written + self.limit.max(LEAST)).min(self.bytes.len());
+        &mut self.bytes[self.written..end]
+    }
+
+    fn free_units(&mut self) -> &mut [u16] {
+        let end = (self.written + self.limit.max(LEAST)).min(self.units.len());
+        &mut self.units[self.written..end]
+    }
+}
+
+/// The pieces of a source, the last one marked.
+fn pieces(source: &Source) -> impl Iterator<Item = (&[u8], bool)> {
+    let mut pieces = source.bytes.chunks(source.piece).peekable();
+    std::iter::from_fn(move || {
+        let piece = pieces.next()?;
+        Some((piece, pieces.peek().is_none()))
+    })
+}
 
 pub fn decode_to_utf16(source: &Source, room: &mut Room) {
     let mut decoder = Decoder::default();
-    let mut written = 0;
-    let mut pieces = source.bytes.chunks(PIECE).peekable();
-    while let Some(mut piece) = pieces.next() {
-        let last = pieces.peek().is_none();
+    room.written = 0;
+    for (mut piece, last) in pieces(source) {
         loop {
-            let call = decoder.to_utf16(piece, &mut room.units[written..], last);
-            written += call.written;
-            if call.result != ffi::MALFORMED {
-                break;
-            }
+            let call = decoder.to_utf16(piece, room.free_units(), last);
+            room.written += call.written;
             piece = &piece[call.read..];
-            room.units[written] = 0xFFFD;
-            written += 1;
+            match call.result {
+                ffi::INPUT_EMPTY => break,
+                ffi::MALFORMED => {
+                    room.units[room.written] = 0xFFFD;
+                    room.written += 1;
+                }
+                _ => {}
+            }
         }
     }
-    room.numbers[0] = written;
 }
 
 pub fn crate_decode_to_utf16(source: &Source, room: &mut Room) {
     let mut decoder = UTF_8.new_decoder_without_bom_handling();
-    let mut written = 0;
-    let mut pieces = source.bytes.chunks(PIECE).peekable();
-    while let Some(piece) = pieces.next() {
-        let last = pieces.peek().is_none();
-        let (result, _, units, _) = decoder.decode_to_utf16(piece, &mut room.units[written..], last);
-        assert!(result == CoderResult::InputEmpty);
-        written += units;
+    room.written = 0;
+    for (mut piece, last) in pieces(source) {
+        loop {
+            let (result, read, written, _) = decoder.decode_to_utf16(piece, room.free_units(), last);
+            room.written += written;
+            piece = &piece[read..];
+            if result == CoderResult::InputEmpty {
+                break;
+            }
+        }
     }
-    room.numbers[0] = written;
 }
 
 pub fn decode_to_utf8(source: &Source, room: &mut Room) {
     let mut decoder = Decoder::default();
-    let mut written = 0;
-    let mut pieces = source.bytes.chunks(PIECE).peekable();
-    while let Some(mut piece) = pieces.next() {
-        let last = pieces.peek().is_none();
+    room.written = 0;
+    for (mut piece, last) in pieces(source) {
         loop {
-            let call = decoder.to_utf8(piece, &mut room.bytes[written..], last);
-            written += call.written;
-            if call.result != ffi::MALFORMED {
-                break;
-            }
+            let call = decoder.to_utf8(piece, room.free_bytes(), last);
+            room.written += call.written;
             piece = &piece[call.read..];
-            room.bytes[written..written + 3].copy_from_slice("\u{FFFD}".as_bytes());
-            written += 3;
+            match call.result {
+                ffi::INPUT_EMPTY => break,
+                ffi::MALFORMED => {
+                    room.bytes[room.written..room.written + 3].copy_from_slice("\u{FFFD}".as_bytes());
+                    room.written += 3;
+                }
+                _ => {}
+            }
         }
     }
-    room.numbers[0] = written;
 }
 
 pub fn crate_decode_to_utf8(source: &Source, room: &mut Room) {
     let mut decoder = UTF_8.new_decoder_without_bom_handling();
-    let mut written = 0;
-    let mut pieces = source.bytes.chunks(PIECE).peekable();
-    while let Some(piece) = pieces.next() {
-        let last = pieces.peek().is_none();
-        let (result, _, bytes, _) = decoder.decode_to_utf8(piece, &mut room.bytes[written..], last);
-        assert!(result == CoderResult::InputEmpty);
-        written += bytes;
+    room.written = 0;
+    for (mut piece, last) in pieces(source) {
+        loop {
+            let (result, read, written, _) = decoder.decode_to_utf8(piece, room.free_bytes(), last);
+            room.written += written;
+            piece = &piece[read..];
+            if result == CoderResult::InputEmpty {
+                break;
+            }
+        }
     }
-    room.numbers[0] = written;
 }
 
-// The crate holds no surrogate between calls: both get pieces that don't cut a pair.
-fn pieces_of_units(units: &[u16]) -> impl Iterator<Item = &[u16]> {
-    let mut rest = units;
+/// Cuts a slice into pieces of at most so many elements, none where `is_whole` says no of the elements on both sides.
+fn whole_pieces<T: Copy>(all: &[T], length: usize, is_whole: fn(T, T) -> bool) -> impl Iterator<Item = &[T]> {
+    let mut rest = all;
     std::iter::from_fn(move || {
         if rest.is_empty() {
             return None;
         }
-        let mut end = rest.len().min(PIECE / 2);
-        if end < rest.len() && (0xD800..0xDC00).contains(&rest[end - 1]) {
-            end -= 1;
-        }
-        let (piece, behind) = rest.split_at(end);
+        let most = rest.len().min(length);
+        let end = (1..=most).rev().find(|end| *end == rest.len() || is_whole(rest[end - 1], rest[*end]));
+        let (piece, behind) = rest.split_at(end.unwrap_or(most));
         rest = behind;
         Some(piece)
     })
+}
+
+// The crate holds no surrogate between calls: both get pieces that don't cut a pair.
+fn pieces_of_units(source: &Source) -> impl Iterator<Item = &[u16]> {
+    whole_pieces(&source.units, (source.piece / 2).max(2), |before, _| !(0xD800..0xDC00).contains(&before))
+}
+
+fn pieces_of_text(source: &Source) -> impl Iterator<Item = &[u8]> {
+    whole_pieces(&source.bytes, source.piece.max(4), |_, next| next & 0xC0 != 0x80)
 }
 
 pub fn encode_from_utf16(source: &Source, room: &mut Room) {
     let mut encoder = Encoder::default();
-    let mut written = 0;
-    for piece in pieces_of_units(&source.units) {
-        written += encoder.from_utf16(piece, &mut room.bytes[written..], true).written;
+    room.written = 0;
+    for mut piece in pieces_of_units(source) {
+        loop {
+            let call = encoder.from_utf16(piece, room.free_bytes(), true);
+            room.written += call.written;
+            piece = &piece[call.read..];
+            if call.result == ffi::INPUT_EMPTY {
+                break;
+            }
+        }
     }
-    room.numbers[0] = written;
 }
 
 pub fn crate_encode_from_utf16(source: &Source, room: &mut Room) {
     let mut encoder = UTF_8.new_encoder();
-    let mut written = 0;
-    for piece in pieces_of_units(&source.units) {
-        let (_, _, bytes, _) = encoder.encode_from_utf16(piece, &mut room.bytes[written..], true);
-        written += bytes;
+    room.written = 0;
+    for mut piece in pieces_of_units(source) {
+        loop {
+            let (result, read, written, _) = encoder.encode_from_utf16(piece, room.free_bytes(), true);
+            room.written += written;
+            piece = &piece[read..];
+            if result == CoderResult::InputEmpty {
+                break;
+            }
+        }
     }
-    room.numbers[0] = written;
 }
 
-fn pieces_of_text(bytes: &[u8]) -> impl Iterator<Item = &str> {
-    let mut rest = unsafe { str::from_utf8_unchecked(bytes) };
-    std::iter::from_fn(move || {
-        if rest.is_empty() {
-            return None;
-        }
-        let mut end = rest.len().min(PIECE);
-        while !rest.is_char_boundary(end) {
-            end -= 1;
-        }
-        let (piece, behind) = rest.split_at(end);
-        rest = behind;
-        Some(piece)
-    })
-}
-
+/// Stops at a piece that is no text.
 pub fn encode_from_utf8(source: &Source, room: &mut Room) {
     let mut encoder = Encoder::default();
-    let mut written = 0;
-    for piece in pieces_of_text(&source.bytes) {
-        written += encoder.from_utf8(piece.as_bytes(), &mut room.bytes[written..], true).written;
+    room.written = 0;
+    for mut piece in pieces_of_text(source) {
+        loop {
+            let call = encoder.from_utf8(piece, room.free_bytes(), true);
+            room.written += call.written;
+            piece = &piece[call.read..];
+            if call.result == ffi::NO_TEXT {
+                room.told[0] = ffi::NO_TEXT.into();
+                return;
+            }
+            if call.result == ffi::INPUT_EMPTY {
+                break;
+            }
+        }
     }
-    room.numbers[0] = written;
 }
 
+/// Validates each piece, as ours does.
 pub fn crate_encode_from_utf8(source: &Source, room: &mut Room) {
     let mut encoder = UTF_8.new_encoder();
-    let mut written = 0;
-    for piece in pieces_of_text(&source.bytes) {
-        let (_, _, bytes, _) = encoder.encode_from_utf8(piece, &mut room.bytes[written..], true);
-        written += bytes;
+    room.written = 0;
+    for piece in pieces_of_text(source) {
+        let Ok(mut text) = str::from_utf8(piece) else {
+            room.told[0] = ffi::NO_TEXT.into();
+            return;
+        };
+        loop {
+            let (result, read, written, _) = encoder.encode_from_utf8(text, room.free_bytes(), true);
+            room.written += written;
+            text = &text[read..];
+            if result == CoderResult::InputEmpty {
+                break;
+            }
+        }
     }
-    room.numbers[0] = written;
 }

@@ -1,0 +1,100 @@
+//! Where an engine leaves what it gives, and how that is compared with what another gives.
+
+use crate::ffi::{Counts, Front, REFUSED};
+use crate::kinds::Source;
+
+/// Destinations with what was there before, and what a call says.
+#[derive(Clone)]
+pub struct Room {
+    pub bytes: Vec<u8>,
+    pub units: Vec<u16>,
+    /// How long a destination the bounded calls get.
+    pub limit: usize,
+    /// What a call says beside how much it wrote: a front and the element behind it, how much it read, yes or no.
+    pub told: [usize; 2],
+    /// How much it wrote.
+    pub written: usize,
+}
+
+impl Room {
+    /// A room that no row fills. It holds a text, which the rows that write into texts ask for.
+    pub fn of(source: &Source, text: &str) -> Room {
+        let length = source.bytes.len().max(source.units.len()).max(source.latin1.len()) + 16;
+        let mut bytes = text.as_bytes().repeat(3 * length / text.len());
+        bytes.resize(3 * length, b'q');
+        Room { limit: bytes.len(), bytes, units: vec![0x7171; length], told: [0, 0], written: 0 }
+    }
+
+    /// Makes it as another room is.
+    pub fn refill(&mut self, fresh: &Room) {
+        self.bytes.clone_from(&fresh.bytes);
+        self.units.clone_from(&fresh.units);
+        self.limit = fresh.limit;
+        self.told = fresh.told;
+        self.written = fresh.written;
+    }
+
+    /// The destination of a bounded call that writes bytes.
+    pub fn bounded_bytes(&mut self) -> &mut [u8] {
+        let length = self.limit.min(self.bytes.len());
+        &mut self.bytes[..length]
+    }
+
+    /// The destination of a bounded call that writes code units.
+    pub fn bounded_units(&mut self) -> &mut [u16] {
+        let length = self.limit.min(self.units.len());
+        &mut self.units[..length]
+    }
+
+    /// The destination of a call into a text: so short, since all of it is validated before.
+    pub fn text(&mut self, length: usize) -> &mut [u8] {
+        let length = length.min(self.limit).min(self.bytes.len());
+        &mut self.bytes[..length]
+    }
+
+    /// Keeps what a call says of a front.
+    pub fn tell_front(&mut self, front: Front) {
+        self.told = [front.length, front.other.into()];
+    }
+
+    /// Keeps what a call says of a front that it copied.
+    pub fn tell_copied(&mut self, front: Front) {
+        self.written = front.length;
+        self.tell_front(front);
+    }
+
+    /// Keeps how much a call read and wrote.
+    pub fn tell_counts(&mut self, counts: impl Into<Counts>) {
+        let counts = counts.into();
+        self.told[0] = counts.read;
+        self.written = counts.written;
+    }
+
+    /// Where what was written ends.
+    fn end(&self) -> usize {
+        if self.written == REFUSED { 0 } else { self.written }
+    }
+
+    /// Whether both say the same and wrote the same. What lies behind that is free in some peers.
+    pub fn agrees(&self, theirs: &Room) -> bool {
+        self.told == theirs.told
+            && self.written == theirs.written
+            && same_front(&self.bytes, &theirs.bytes, self.end())
+            && same_front(&self.units, &theirs.units, self.end())
+    }
+
+    /// Whether all is as before behind what was written.
+    pub fn keeps(&self, before: &Room) -> bool {
+        same_rest(&self.bytes, &before.bytes, self.end()) && same_rest(&self.units, &before.units, self.end())
+    }
+}
+
+fn same_front<T: PartialEq>(ours: &[T], theirs: &[T], length: usize) -> bool {
+    let length = length.min(ours.len());
+    ours[..length] == theirs[..length]
+}
+
+fn same_rest<T: PartialEq>(ours: &[T], before: &[T], from: usize) -> bool {
+    let from = from.min(ours.len());
+    ours[from..] == before[from..]
+}
