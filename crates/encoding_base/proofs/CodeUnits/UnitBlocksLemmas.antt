@@ -103,6 +103,9 @@ module _ (us : List ℕ) (n : ℕ) (plain : ArePlain (take n us)) where
   pub plain_short : (m : ℕ) → AllBelow 0x800 us n m → ArePlain (take (n + m) us)
   plain_short m h = plain_more m (λ k l r. omega (arith, h (n + k) (omega arith) (omega arith), r.0))
 
+pub plain_sixteen : (us : List ℕ) (at : ℕ) → AllBelow 0x800 us at 16 → ArePlain (take 16 (drop at us))
+plain_sixteen us at h = Each-take IsPlain (λ r. omega (arith, r.0)) (drop at us) 16 (λ k l r. let same = get_or-drop at us k 0 in omega (arith, same, h (at + k) (omega arith) (omega arith), r.0))
+
 -- eight in a vector
 pub eight_short : (us : List ℕ) (at : ℕ) → ((k : ℕ) → get_or (chunk at 8 us) k 0 < 0x800) → ArePlain (chunk at 8 us)
 eight_short us at h k r = omega (arith, h k, r.0)
@@ -126,7 +129,7 @@ short_lanes us n room h k = (lane n (omega arith) (omega arith), lane (n + 8) (o
       | inr l ↦ omega (arith, get_or_past (chunk at 8 us) k 0 (omega (arith, length-chunk at 8 us (omega arith))))
     ]
 
-short_joined : (us first second : List ℕ) (n : ℕ) → first ≡ chunk n 8 us → second ≡ chunk (n + 8) 8 us → encode_utf8_all first ++ encode_utf8_all second ≡ encode_utf8_all (take 16 (drop n us))
+pub short_joined : (us first second : List ℕ) (n : ℕ) → first ≡ chunk n 8 us → second ≡ chunk (n + 8) 8 us → encode_utf8_all first ++ encode_utf8_all second ≡ encode_utf8_all (take 16 (drop n us))
 short_joined us first second n e f =
     (λ i. encode_utf8_all (e i) ++ encode_utf8_all (f i)) ∙ sym (encodes-append (chunk n 8 us) (chunk (n + 8) 8 us))
     ∙ ap (λ xs. encode_utf8_all (chunk n 8 us ++ take 8 xs)) (sym (drop-drop 8 n us)) ∙ ap encode_utf8_all (sym (take-add 8 8 (drop n us)))

@@ -7,6 +7,7 @@ ghost use Rattle.encoding_base.specs.Fronts.{WritesFront};
 ghost use Rattle.encoding_base.specs.Utf16.{IsHighSurrogate, IsLowSurrogate, IsUtf8OfFront, IsUtf8OfLongestFront};
 ghost use Rattle.encoding_base.specs.Steps.FirstScalar.{IsFirstScalar};
 ghost use Rattle.encoding_base.specs.Steps.Spelling.{ArePlain};
+ghost use Rattle.encoding_base.specs.Steps.Strides.{AllBelow};
 
 use crate::strides::{are_units_below, narrow_ascii};
 use crate::utf_8::halves::{are_short_or_paired, write_short_or_paired};
@@ -21,6 +22,10 @@ const LONGEST: usize = 4;
 
 /// The code units of a block.
 const BLOCK: usize = 16;
+
+/// The blocks behind one that isn't ASCII that go without a test for ASCII: text seldom changes to long ASCII there, and
+/// a test that comes out now one way and now the other costs more than it saves.
+const BLOCKS_BEHIND: usize = 7;
 
 /// Whether the code unit is a surrogate.
 #[inline(always)]
@@ -150,6 +155,23 @@ fn convert_eight(src: &[u16], at: usize, dst: &mut [u8], to: usize) -> (usize, u
     (0, 0)
 }
 
+/// Converts sixteen code units below U+0800 from a place on, and returns how many bytes it wrote. Behind these `dst` is as
+/// before.
+#[inline(always)]
+fn convert_sixteen(src: &[u16], at: usize, dst: &mut [u8], to: usize) -> usize
+    requires room { (at + 16 ≤ length src.now) × (to + 32 ≤ length dst.old) }
+    requires short { AllBelow 0x800 src.now at 16 }
+    ensures plain { ArePlain (take 16 (drop at src.now)) }
+    ensures count { result ≡ length (encode_utf8_all (take 16 (drop at src.now))) }
+    ensures most { result ≤ 32 }
+    ensures written { dst.new ≡ take to dst.old
+        ++ (encode_utf8_all (take 16 (drop at src.now)) ++ drop (to + result) dst.old) }
+{
+    let first = u16x8::from_slice(&src[at..]);
+    let second = u16x8::from_slice(&src[at + 8..]);
+    write_short(first, second, dst, to)
+}
+
 /// Converts blocks of code units from the beginning of `src` on, and returns how many code units these are and how many
 /// bytes it wrote: sixteen below U+0080 or below U+0800, or eight below U+0800 or from there on without a surrogate.
 /// Behind what is written `dst` is as before.
@@ -160,16 +182,23 @@ fn convert_blocks(src: &[u16], dst: &mut [u8]) -> (usize, usize)
 {
     let mut read = 0;
     let mut written = 0;
+    let mut behind = 0;
     while src.len() - read >= 8 && dst.len() - written >= 32 {
+        let is_short = src.len() - read >= BLOCK && are_units_below::<16>(src, read, 0x800);
+        if is_short && behind > 0 {
+            written += convert_sixteen(src, read, dst, written);
+            read += BLOCK;
+            behind -= 1;
+            continue;
+        }
         let front = narrow_ascii::<16>(&src[read..], &mut dst[written..], 0);
         if front > 0 {
             read += front;
             written += front;
-        } else if src.len() - read >= BLOCK && are_units_below::<16>(src, read, 0x800) {
-            let first = u16x8::from_slice(&src[read..]);
-            let second = u16x8::from_slice(&src[read + 8..]);
-            written += write_short(first, second, dst, written);
+        } else if is_short {
+            written += convert_sixteen(src, read, dst, written);
             read += BLOCK;
+            behind = BLOCKS_BEHIND;
         } else {
             let (units, bytes) = convert_eight(src, read, dst, written);
             if units == 0 {
@@ -203,6 +232,12 @@ fn convert_paired_blocks(src: &[u16], dst: &mut [u8]) -> (usize, usize)
     (read, written)
 }
 
+/// The characters that go one by one behind blocks: the first that isn't ASCII among them may be what ended these.
+const FEW_SINGLES: usize = 8;
+
+/// The characters that go one by one where there were no blocks.
+const MANY_SINGLES: usize = 32;
+
 /// How many characters go one by one behind so many code units in blocks and in blocks with pairs: none behind the
 /// latter, else few where there were some, and many where there were none, so that text without blocks isn't looked
 /// through twice.
@@ -213,9 +248,19 @@ fn singles_behind(units: usize, paired: usize) -> usize
     if paired > 0 {
         0
     } else if units > 0 {
-        8
+        FEW_SINGLES
     } else {
-        32
+        MANY_SINGLES
+    }
+}
+
+/// How many characters more go one by one behind one that isn't ASCII: of few none.
+#[inline(always)]
+fn singles_left(singles: usize) -> usize {
+    if singles > FEW_SINGLES {
+        singles - 1
+    } else {
+        0
     }
 }
 
@@ -233,7 +278,7 @@ pub fn convert_utf16_to_utf8_partial_inner(src: &[u16], dst: &mut [u8]) -> (usiz
 {
     let mut read = 0;
     let mut written = 0;
-    let mut singles = if src.len() < 8 { 8 } else { 0 };
+    let mut singles = if src.len() < 8 { MANY_SINGLES } else { 0 };
     let end = dst.len().saturating_sub(LONGEST - 1);
     while read < src.len() && written < end {
         if singles == 0 {
@@ -253,7 +298,7 @@ pub fn convert_utf16_to_utf8_partial_inner(src: &[u16], dst: &mut [u8]) -> (usiz
             let scalar = scalar_at(src, read);
             written += write_scalar(scalar, &mut dst[written..]);
             read += utf16_length(scalar);
-            singles -= 1;
+            singles = singles_left(singles);
         }
     }
     (read, written)

@@ -1,6 +1,6 @@
-use Rattle.std.proofs.Common.{arith, refl, length, take, drop, ◌-◌}
+use Rattle.std.proofs.Common.{arith, length, take, drop, ◌-◌}
 use Rattle.encoding_base.proofs.LongestFronts.FrontsLemmas.{WritesFront-nil}
-use Rattle.encoding_base.proofs.CodeUnits.UnitBlocksLemmas.{plain_then, plain_short, plain_ascii, short_lanes, written_short, written_eight, written_none, written_ascii}
+use Rattle.encoding_base.proofs.CodeUnits.UnitBlocksLemmas.{plain_then, plain_ascii, written_eight, written_none, written_ascii}
 use Rattle.encoding_base.proofs.utf_8.encoding.convert_blocks.Goals as goal
 
 pub loop-read-preserved-then-front-gt0 : goal.loop-read-preserved-then-front-gt0
@@ -16,22 +16,30 @@ loop-read-preserved-then-front-gt0 c =
           (call.copied _ (WritesFront-nil (take (length c.loop-read.dst - c.loop-read.written) (drop c.loop-read.written c.loop-read.dst))));
     }
 
-pub write_short-written-requires-clause-short : goal.write_short-written-requires-clause-short
-write_short-written-requires-clause-short c = short_lanes c.args.src.now c.loop-read.read (omega arith) ((c.if-are_units_below.ensures {u = tt}).0 refl)
+pub loop-read-preserved-then-behind-gt0 : goal.loop-read-preserved-then-behind-gt0
+loop-read-preserved-then-behind-gt0 c =
+    let us = c.args.src.now in
+    let here = c.loop-read.invariant in
+    let call = c.convert_sixteen-written.ensures in
+    record {
+      within = omega arith;
+      plain = plain_then us c.loop-read.read 16 here.plain call.plain;
+      written = written_eight us c.args.dst.now c.loop-read.dst c.convert_sixteen-written.new.dst c.loop-read.read c.loop-read.written here.written 16 c.convert_sixteen-written.result call.count (omega (arith, call.most)) call.written;
+    }
 
-pub loop-read-preserved-then-are_units_below : goal.loop-read-preserved-then-are_units_below
-loop-read-preserved-then-are_units_below c =
+pub loop-read-preserved-then-is_short-2 : goal.loop-read-preserved-then-is_short-2
+loop-read-preserved-then-is_short-2 c =
     let us = c.args.src.now in
     let here = c.loop-read.invariant in
     let dst = c.loop-read.dst in
     let front = c.narrow_ascii-front.ensures in
     let same = written_none c.args.dst.now dst c.narrow_ascii-front.new.dst _ _ c.loop-read.written c.narrow_ascii-front.result here.written
     (front.copied _ (WritesFront-nil (take (length dst - c.loop-read.written) (drop c.loop-read.written dst)))) (omega arith) in
-    let call = c.write_short-written.ensures in
+    let call = c.convert_sixteen-written-then-is_short-2.ensures in
     record {
       within = omega arith;
-      plain = plain_short us c.loop-read.read here.plain 16 ((c.if-are_units_below.ensures {u = tt}).0 refl);
-      written = written_short us c.args.dst.now _ c.write_short-written.new.dst c.loop-read.read c.loop-read.written same _ _ c.write_short-written.result refl refl call.count (omega (arith, call.most)) call.written;
+      plain = plain_then us c.loop-read.read 16 here.plain call.plain;
+      written = written_eight us c.args.dst.now _ c.convert_sixteen-written-then-is_short-2.new.dst c.loop-read.read c.loop-read.written same 16 c.convert_sixteen-written-then-is_short-2.result call.count (omega (arith, call.most)) call.written;
     }
 
 pub loop-read-preserved : goal.loop-read-preserved
