@@ -295,15 +295,6 @@ lanes_in v (suc (suc (suc zero))) l = refl
 lanes_in v (suc (suc (suc (suc zero)))) l = refl
 lanes_in v (suc (suc (suc (suc (suc k))))) l = absurd (omega arith)
 
-pub five_begin : (src : List ℕ) → BeginsThree (get_or src 0 0) → BeginsThree (get_or src 3 0) → BeginsThree (get_or src 6 0) → BeginsThree (get_or src 9 0) → BeginsThree (get_or src 12 0)
-    → (k : ℕ) → k < 5 → BeginsThree (get_or src (3 * k) 0)
-five_begin src a b c d e zero l = a
-five_begin src a b c d e (suc zero) l = b
-five_begin src a b c d e (suc (suc zero)) l = c
-five_begin src a b c d e (suc (suc (suc zero))) l = d
-five_begin src a b c d e (suc (suc (suc (suc zero)))) l = e
-five_begin src a b c d e (suc (suc (suc (suc (suc k))))) l = absurd (omega arith)
-
 pub puts_triples : (src old r : List ℕ) → IsUtf8 src → 16 ≤ length src → 8 ≤ length old → ((k : ℕ) → k < 5 → BeginsThree (get_or src (3 * k) 0)) → HasLanes 8 r (triple_lanes (take 16 src))
     → PutsText src old (put_chunk 0 old r) 15 5 8
 puts_triples src old r u long room b h =

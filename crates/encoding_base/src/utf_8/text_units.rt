@@ -26,6 +26,16 @@ const LAST: [u8; 16] = [
     255, 255, 255, 255, 255, 255, 255, 255, 255, 255, 255, 255, 255, 0xEF, 0xDF, 0xBF,
 ];
 
+/// The bits that tell whether a byte begins three, at every third place.
+const LEAD_BITS: [u8; 16] = [
+    0xF0, 0, 0, 0xF0, 0, 0, 0xF0, 0, 0, 0xF0, 0, 0, 0xF0, 0, 0, 0,
+];
+
+/// What they are where it does.
+const LEADS: [u8; 16] = [
+    0xE0, 0, 0, 0xE0, 0, 0, 0xE0, 0, 0, 0xE0, 0, 0, 0xE0, 0, 0, 0,
+];
+
 /// The bytes one place before, with a zero before the first.
 #[inline(always)]
 fn one_before(block: u8x16) -> u8x16
@@ -255,25 +265,14 @@ fn begins_ascii<const N: usize>(src: &[u8]) -> bool
         .any()
 }
 
-/// Whether a character of three bytes begins with the byte.
-#[inline(always)]
-fn begins_three(byte: u8) -> bool
-    ensures { IsTrue result → BeginsThree byte }
-{
-    byte >= 0xE0 && byte < 0xF0
-}
-
 /// Whether the text begins with five characters of three bytes.
 #[inline(always)]
 fn begins_triples(src: &[u8]) -> bool
     requires { 16 ≤ length src.now }
     ensures { IsTrue result → (k : ℕ) → k < 5 → BeginsThree (slice_index src.now (3 * k)) }
 {
-    begins_three(src[0])
-        && begins_three(src[3])
-        && begins_three(src[6])
-        && begins_three(src[9])
-        && begins_three(src[12])
+    let leads = u8x16::from_slice(src) & u8x16::from_array(LEAD_BITS);
+    !leads.simd_ne(u8x16::from_array(LEADS)).any()
 }
 
 /// Every third byte from the first on.
