@@ -28,7 +28,7 @@ pub(crate) fn decode<U: CodeUnit>(
 }
 
 /// The same with nothing pending.
-#[inline]
+#[inline(always)]
 fn decode_neutral<U: CodeUnit>(
     pending: &mut Pending,
     src: &[u8],
