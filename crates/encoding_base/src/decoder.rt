@@ -108,6 +108,7 @@ impl Utf8Decoder {
     /// A broken part is reported and nothing is written for it: hand in the unread bytes again, and write U+FFFD
     /// before that, or give up. After a report the decoder is as a new one. With at least two code units of room and
     /// an unread byte a call reads a byte or reports. Behind what is written `dst` is as before.
+    #[inline(always)]
     pub fn decode_to_utf16_raw(
         &mut self,
         src: &[u8],
@@ -131,6 +132,7 @@ impl Utf8Decoder {
     /// A broken part is reported and nothing is written for it: hand in the unread bytes again, and write U+FFFD
     /// before that, or give up. After a report the decoder is as a new one. With at least four bytes of room and an
     /// unread byte a call reads a byte or reports. Behind what is written `dst` is as before.
+    #[inline(always)]
     pub fn decode_to_utf8_raw(
         &mut self,
         src: &[u8],
@@ -157,6 +159,7 @@ impl Utf8Decoder {
     /// from `src`. Else it is the character or the broken part that the pending bytes and those of `src` begin with,
     /// or `InputEmpty` where all is read first: then the pending bytes and the read ones are pending now, and none
     /// are in a call marked last. Hand in the unread bytes again. It takes no memory.
+    #[inline(always)]
     pub fn decode_borrowed_raw<'a>(&mut self, src: &'a [u8], last: bool) -> (Piece<'a>, usize)
         ensures { IsBorrowedCall self.old src.now last result.0 result.1 self.new }
     {

@@ -47,15 +47,15 @@ fn is_all_read(piece: &Piece) -> bool
     matches!(piece, Piece::InputEmpty)
 }
 
-/// The decoder that the storage stands for.
+/// The decoder that the storage stands for, where it stands for pending bytes.
+#[inline(never)]
 #[tactic(auto, using(crate::proofs::DecoderLemmas::held_again))]
-fn restored(state: EncodingUtf8Decoder) -> Utf8Decoder
+fn restored_pending(state: EncodingUtf8Decoder) -> Utf8Decoder
     ensures stands { StandsFor state result }
     ensures front { result ≡ take (length result) state.pending }
     ensures few { length result ≤ 3 }
 {
-    // mostly nothing is pending, and then no call is needed
-    if state.count == 0 || state.count > MOST {
+    if state.count > MOST {
         return Utf8Decoder::new_inner();
     }
     let mut decoder = Utf8Decoder::new_inner();
@@ -65,6 +65,19 @@ fn restored(state: EncodingUtf8Decoder) -> Utf8Decoder
         return decoder;
     }
     Utf8Decoder::new_inner()
+}
+
+/// The decoder that the storage stands for: mostly nothing is pending, and then no call is needed.
+#[inline(always)]
+fn restored(state: EncodingUtf8Decoder) -> Utf8Decoder
+    ensures stands { StandsFor state result }
+    ensures front { result ≡ take (length result) state.pending }
+    ensures few { length result ≤ 3 }
+{
+    if state.count == 0 {
+        return Utf8Decoder::new_inner();
+    }
+    restored_pending(state)
 }
 
 /// How many bytes are pending.

@@ -2,7 +2,7 @@
 use Rattle.std.proofs.Common.{◌≡◌, ℕ, ◌+◌, ◌<◌, ◌≤◌, Bool, true, false, List, [], ◌∷◌, ◌++◌, length, take, drop, Option, inl, inr, encode_utf8, encode_utf8_all, refl, sym, ap, ◌∙◌, arith, subst}
 use Rattle.std.specs.Io.KnownBytes.{Appends}
 use Rattle.std.proofs.KnownBytes.{Appends-nil, Appends-trans}
-use Rattle.std.proofs.lemmas.List.{append-nil, append_assoc, length-drop, take-append-drop}
+use Rattle.std.proofs.lemmas.List.{append-nil, append_assoc, drop_all, length-drop, take-append-drop}
 use Rattle.std.specs.Str.{IsUtf8, chars}
 use Rattle.std.proofs.lemmas.Str.{encodes-chars}
 use lib.Utf8.{encode}
@@ -82,6 +82,23 @@ wrote_piece last bs p src old new now n piece read q w call a =
     let g = piece_gives p src last piece read q call in
     let more = wrote_more last bs (p ++ src) (q ++ drop read src) old new now n g.parts w g.first (subst (Appends new now) (sym g.text) a) in
     record { parts = more.parts; first = more.first; bytes = more.bytes; broken = omega (arith, more.broken, g.broken) }
+
+-- behind a piece nothing is pending
+nothing_pending : (p src : List ℕ) (last : Bool) (piece : Piece) (read : ℕ) (q : List ℕ) → IsBorrowedCall p src last piece read q → (piece ≡ InputEmpty → ⊥) → q ≡ []
+nothing_pending p src last (Text t) read q call n = call.answer.1
+nothing_pending p src last (Char c) read q call n = call.answer.1
+nothing_pending p src last (Malformed k) read q call n = call.answer.2
+nothing_pending p src last InputEmpty read q call n = absurd (n refl)
+
+-- one more piece is, and no byte follows it
+pub wrote_last : (last : Bool) (bs p src : List ℕ) (old new now : Option (List ℕ)) (n : ℕ) (piece : Piece) (read : ℕ) (q : List ℕ) → WritesParts last bs (p ++ src) old new n
+    → IsBorrowedCall p src last piece read q → (piece ≡ InputEmpty → ⊥) → Appends new now (text_of piece) → length src ≤ read
+    → WritesParts last bs q old now (n + broken_of piece) × (q ≡ [])
+wrote_last last bs p src old new now n piece read q w call some a all =
+    let rest : q ++ drop read src ≡ q = ap (λ xs. q ++ xs) (drop_all read src all) ∙ append-nil q in (
+      subst (λ xs. WritesParts last bs xs old now (n + broken_of piece)) rest (wrote_piece last bs p src old new now n piece read q w call a),
+      nothing_pending p src last piece read q call some,
+    )
 
 -- some of its text is, and not all of it
 pub stopped_piece : (last : Bool) (bs p src : List ℕ) (old new now : Option (List ℕ)) (n : ℕ) (piece : Piece) (read : ℕ) (q : List ℕ) (k : ℕ) → WritesParts last bs (p ++ src) old new n

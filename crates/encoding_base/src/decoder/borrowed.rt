@@ -21,7 +21,7 @@ fn piece_at_end<'a>(end: DecoderResult) -> Piece<'a>
 }
 
 /// Decodes the front of `src` behind the pending bytes: the piece, and how many bytes were read.
-#[inline]
+#[inline(always)]
 pub(crate) fn decode_borrowed<'a>(
     pending: &mut Pending,
     src: &'a [u8],
@@ -37,7 +37,7 @@ pub(crate) fn decode_borrowed<'a>(
 }
 
 /// The same with nothing pending.
-#[inline]
+#[inline(always)]
 fn borrow_front<'a>(pending: &mut Pending, src: &'a [u8], last: bool) -> (Piece<'a>, usize)
     requires neutral { pending.old ≡ [] }
     ensures { IsBorrowedCall [] src.now last result.0 result.1 pending.new }

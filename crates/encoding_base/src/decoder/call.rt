@@ -10,7 +10,7 @@ use crate::utf_8::CodeUnit;
 
 /// Decodes `src` behind the pending bytes, and returns what ended the call, how many bytes it read and how many code
 /// units it wrote. Behind what is written `dst` is as before.
-#[inline]
+#[inline(always)]
 pub(crate) fn decode<U: CodeUnit>(
     pending: &mut Pending,
     src: &[u8],
@@ -28,7 +28,7 @@ pub(crate) fn decode<U: CodeUnit>(
 }
 
 /// The same with nothing pending.
-#[inline]
+#[inline(always)]
 fn decode_neutral<U: CodeUnit>(
     pending: &mut Pending,
     src: &[u8],

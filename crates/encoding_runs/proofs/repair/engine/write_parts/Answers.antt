@@ -1,8 +1,10 @@
-use Rattle.std.proofs.Common.{◌∙◌, arith}
+use Rattle.std.proofs.Common.{◌≡◌, ◌++◌, ◌∙◌, inl, sym, true≢false, arith}
 use Rattle.std.proofs.lemmas.Result.{err_from_is_err_and}
 use Rattle.std.proofs.lemmas.List.{take_rest, length-append}
-use Rattle.encoding_runs.proofs.RepairLemmas.{wrote_piece, stopped_piece, wrote_count, pending_length}
+use Rattle.encoding_base.specs.declared.decoder.Piece.TheVariants as Piece
+use Rattle.encoding_runs.proofs.RepairLemmas.{wrote_piece, wrote_last, stopped_piece, wrote_count, pending_length}
 use Rattle.encoding_runs.proofs.repair.engine.write_parts.Goals as goal
+use Rattle.encoding_runs.proofs.repair.engine.write_parts.Goals.{in-InputEmpty, in_default}
 
 pub returns-in_err-replaced-clause-err : goal.returns-in_err-replaced-clause-err
 returns-in_err-replaced-clause-err g c =
@@ -24,3 +26,15 @@ loop-writer-preserved g c =
       failed = e.2 ∙ c.loop-writer.invariant.failed;
       stream = c.in_ok-replaced.ensures.stream ∙ c.loop-writer.invariant.stream;
     })
+
+pub returns-then-read-rest-clause-ok : goal.returns-then-read-rest-clause-ok
+returns-then-read-rest-clause-ok g c =
+    let e = c.in_ok-replaced.ensures.ok in
+    let call = c.decode_borrowed_raw-read.ensures in
+    let some : c.decode_borrowed_raw-read.result.0 ≡ Piece.InputEmpty → ⊥ = λ is. elim c.match-matches.branch [
+      | in-InputEmpty w ↦ true≢false (sym w.matches-is ∙ c.if-matches.false)
+      | in_default w ↦ w.in_default.not-InputEmpty is
+    ] in
+    let wrote = wrote_last c.args.last (c.args.decoder.now ++ c.args.src.now) c.loop-writer.decoder c.loop-writer.rest.now (g.W.Sink.contents c.args.writer.now) (g.W.Sink.contents c.loop-writer.writer) (g.W.Sink.contents c.write_piece.new.writer)
+    c.loop-writer.replaced c.decode_borrowed_raw-read.result.0 c.decode_borrowed_raw-read.result.1 c.decode_borrowed_raw-read.new.self c.loop-writer.invariant.wrote call some e.1 (omega arith) in
+    rw e.0 (wrote.0, inl wrote.1, λ l. wrote.1, e.2 ∙ c.loop-writer.invariant.failed)
