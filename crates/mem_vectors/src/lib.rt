@@ -11,6 +11,10 @@ mod block_seams;
 #[cfg(test)]
 mod checks_at_each_place;
 #[cfg(test)]
+mod seam_rooms;
+#[cfg(test)]
+mod seam_rooms_to_utf8;
+#[cfg(test)]
 mod stride_walks;
 #[cfg(test)]
 mod surrogate_rows;
