@@ -44,15 +44,17 @@ fn seconds(engine: &Engine, source: &Source, room: &mut Room, times: u64) -> f64
 /// The best throughput of each engine, in GB/s of source.
 fn measure(row: &Row, source: &Source) -> Vec<f64> {
     let length = row.length(source);
-    let times = (VOLUME / length.max(1)).max(1);
+    let times = (VOLUME / length.max(1)).max(1) as u64;
     let mut room = room(source);
     let mut best = vec![f64::INFINITY; row.engines.len()];
     for _ in 0..PASSES {
         for (engine, best) in row.engines.iter().zip(&mut best) {
-            *best = best.min(seconds(engine, source, &mut room, times as u64));
+            // A shorter run first: what the engine before left in caches and vector units doesn't count.
+            seconds(engine, source, &mut room, times / 4 + 1);
+            *best = best.min(seconds(engine, source, &mut room, times));
         }
     }
-    best.iter().map(|seconds| (length * times) as f64 / seconds / 1e9).collect()
+    best.iter().map(|seconds| length as f64 * times as f64 / seconds / 1e9).collect()
 }
 
 /// Compares and measures one place of the table: returns what is printed there.
