@@ -101,6 +101,34 @@ fn front_by_strides<const N: usize>(bytes: &[u8], from: usize, bound: u8) -> usi
     last + run_below::<N>(bytes, last, bound)
 }
 
+/// Whether each of the bytes of two blocks from a place on is below the bound, by one test.
+#[inline(always)]
+fn are_two_blocks_below(bytes: &[u8], at: usize, bound: u8) -> bool
+    requires { at + 128 ≤ length bytes.now }
+    ensures { IsTrue result → AllBelow bound bytes.now at 128 }
+{
+    let first = Simd::<u8, BLOCK>::from_slice(&bytes[at..]).simd_ge(Simd::splat(bound));
+    let second = Simd::<u8, BLOCK>::from_slice(&bytes[at + BLOCK..]).simd_ge(Simd::splat(bound));
+    !(first | second).any()
+}
+
+/// Goes by blocks from the beginning on while their bytes are below the bound, and returns where that ends: behind the
+/// first by two at a time, since it is the first that most often has another byte.
+#[inline(always)]
+fn skip_blocks_below(bytes: &[u8], bound: u8) -> usize
+    ensures within { result ≤ length bytes.now }
+    ensures below { BelowUpTo bound bytes.now result }
+{
+    if bytes.len() < BLOCK || !are_bytes_below::<BLOCK>(bytes, 0, bound) {
+        return 0;
+    }
+    let mut at = BLOCK;
+    while bytes.len() - at >= 2 * BLOCK && are_two_blocks_below(bytes, at, bound) {
+        at += 2 * BLOCK;
+    }
+    skip_bytes_below::<BLOCK>(bytes, at, bound)
+}
+
 /// How many bytes come before the first that isn't below the bound.
 #[inline(always)]
 pub fn front_below(bytes: &[u8], bound: u8) -> usize
@@ -109,7 +137,7 @@ pub fn front_below(bytes: &[u8], bound: u8) -> usize
     ensures stops { result < length bytes.now → bound ≤ slice_index bytes.now result }
 {
     if bytes.len() >= STRIDE {
-        let by_blocks = skip_bytes_below::<BLOCK>(bytes, 0, bound);
+        let by_blocks = skip_blocks_below(bytes, bound);
         return front_by_strides::<STRIDE>(bytes, by_blocks, bound);
     }
     if bytes.len() >= HALF_STRIDE {

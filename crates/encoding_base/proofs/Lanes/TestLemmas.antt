@@ -1,11 +1,13 @@
 -- Masks as tests of lanes: joined, chosen by, and what holds where no lane passes.
-use Rattle.std.proofs.Common.{◌≡◌, ℕ, ◌-◌, ◌^◌, ◌<◌, ◌≤◌, ◌↔◌, IsTrue, Bool, true, false, not, cond, ◌&&◌, ◌||◌, eqb, List, map, replicate, bit_and, bit_or, bit_xor, sym, ap, ◌∙◌}
+use Rattle.std.proofs.Common.{◌≡◌, ℕ, ◌+◌, ◌-◌, ◌*◌, ◌^◌, ◌<◌, ◌≤◌, ◌↔◌, IsTrue, Bool, true, false, not, cond, ◌&&◌, ◌||◌, eqb, leb, inl, inr, List, length, map, replicate, get_or, bit_and, bit_or, bit_xor, sym, ap, ◌∙◌, arith}
+use Rattle.std.proofs.lemmas.Bool.{cases_lt, leb-false, or_parts}
 use Rattle.std.specs.Int.Bits.{and_self, and_zero_l, and_zero_r, or_self, or_zero_l, or_zero_r, xor_self, xor_zero_l, xor_zero_r}
-use Rattle.std.specs.Simd.Lanes.{zip2, top, sel_l}
+use Rattle.std.specs.Simd.Lanes.{chunk, zip2, top, sel_l}
 use mir.Syntax.{Width}
 use mir.Val.{bits, hbits}
 use Rattle.encoding_base.specs.Steps.Lanes.{HasLanes}
-use Rattle.encoding_base.proofs.Lanes.LaneLemmas.{HasLanes-zip2, HasLanes-splat, HasLanes-select, HasLanes-same, compared, top_compared, mask_of, not_any_is}
+use Rattle.encoding_base.specs.Steps.Strides.{AllBelow}
+use Rattle.encoding_base.proofs.Lanes.LaneLemmas.{HasLanes-load, HasLanes-zip2, HasLanes-splat, HasLanes-select, HasLanes-same, compared, top_compared, mask_of, not_any_is}
 
 -- lane k of the mask says whether t holds of k: all its bits are set, or none
 pub record HasTests (w : Width) (n : ℕ) (mask : List ℕ) (t : ℕ → Bool) : Type 0 where
@@ -54,3 +56,19 @@ module _ {w : Width} {n : ℕ} {a : List ℕ} {t : ℕ → Bool} where
   -- `!mask.any()`
   pub none_passes : HasTests w n a t → n ≤ 64 → IsTrue (not (not (eqb (mask_of (hbits w) a) 0))) ↔ ((k : ℕ) → k < n → t k ≡ false)
   none_passes p few = not_any_is (hbits w) p.lanes few (λ k. t k ≡ false) (λ k l. (λ e. sym (top_compared w (t k)) ∙ e, λ e. top_compared w (t k) ∙ e))
+
+-- two vectors that stand one behind the other, compared with a bound and joined by `|`: no lane is from the bound on only where each unit is below it
+pub no_others_in_two : (w : Width) (n bound at : ℕ) (xs : List ℕ) → at + 2 * n ≤ length xs → n ≤ 64
+    → IsTrue (not (not (eqb (mask_of (hbits w) (zip2 bit_or (zip2 (compared w leb) (replicate n bound) (chunk at n xs)) (zip2 (compared w leb) (replicate n bound) (chunk (at + n) n xs)))) 0)))
+    → AllBelow bound xs at (2 * n)
+no_others_in_two w n bound at xs room few none k from to =
+    let tests = λ (place : ℕ) (p : place + n ≤ length xs). tests_of w leb (HasLanes-splat n bound) (HasLanes-load place n xs p) in
+    let clear = (none_passes (tests_or (tests at (omega arith)) (tests (at + n) (omega arith))) few).0 none in
+    elim (cases_lt k (at + n)) [
+      | inl l ↦
+          let is : at + (k - at) ≡ k = omega arith in
+          leb-false bound _ (ap (λ j. leb bound (get_or xs j 0)) (sym is) ∙ (or_parts _ _ (clear (k - at) (omega arith))).0)
+      | inr l ↦
+          let is : (at + n) + (k - (at + n)) ≡ k = omega arith in
+          leb-false bound _ (ap (λ j. leb bound (get_or xs j 0)) (sym is) ∙ (or_parts _ _ (clear (k - (at + n)) (omega arith))).1)
+    ]
