@@ -99,10 +99,7 @@ module _ (us : List ℕ) (n : ℕ) (plain : ArePlain (take n us)) where
     | inr p ↦ let place : n + (k - n) ≡ k = omega arith in subst (λ j. IsPlain (get_or us j 0)) place (more (k - n) (omega arith))
   ])
 
-  -- below U+0800
-  pub plain_short : (m : ℕ) → AllBelow 0x800 us n m → ArePlain (take (n + m) us)
-  plain_short m h = plain_more m (λ k l r. omega (arith, h (n + k) (omega arith) (omega arith), r.0))
-
+-- sixteen below U+0800
 pub plain_sixteen : (us : List ℕ) (at : ℕ) → AllBelow 0x800 us at 16 → ArePlain (take 16 (drop at us))
 plain_sixteen us at h = Each-take IsPlain (λ r. omega (arith, r.0)) (drop at us) 16 (λ k l r. let same = get_or-drop at us k 0 in omega (arith, same, h (at + k) (omega arith) (omega arith), r.0))
 

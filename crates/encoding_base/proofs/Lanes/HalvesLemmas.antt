@@ -1,7 +1,7 @@
 -- Code units below U+0800 and pairs, in lanes: each half of a pair has two bytes.
 use Rattle.std.proofs.Common.{◌≡◌, ℕ, zero, suc, ◌+◌, ◌-◌, ◌*◌, ◌/◌, ◌%◌, ◌^◌, ◌<◌, ◌≤◌, ◌↔◌, ◌⊎◌, inl, inr, Bool, true, false, not, cond, eqb, leb, ◌||◌, List, [], ◌∷◌, ◌++◌, map, length, take, drop, get_or, bit_and, refl, sym, ap, ◌∙◌, arith, subst, append_assoc, length-append, length-take-le, w8}
 use Rattle.std.specs.Prelude.{nat_le, nat_lt}
-use Rattle.std.proofs.lemmas.Bool.{cases_lt, leb-false, leb-true, eqb-true, eq-eqb, true≢false}
+use Rattle.std.proofs.lemmas.Bool.{cases_lt, leb-false, eqb-true, eq-eqb, true≢false}
 use Rattle.std.proofs.lemmas.Bool.Decides.{nat_tests}
 use Rattle.std.proofs.lemmas.List.{append-nil, take-append-drop, take_at, get_or-map}
 use Rattle.std.proofs.lemmas.List.FromFn.{get_or-range_with_len}
@@ -245,12 +245,12 @@ same_tests true false e = absurd (true≢false e)
 same_tests false true e = absurd (true≢false e)
 same_tests false false e = refl
 
-low_test : (x : ℕ) → x < 2 ^ 16 → (eqb (bit_and x 0xFC00) 0xDC00 ≡ true) ↔ IsLowSurrogate x
+pub low_test : (x : ℕ) → x < 2 ^ 16 → (eqb (bit_and x 0xFC00) 0xDC00 ≡ true) ↔ IsLowSurrogate x
 low_test x l =
     let e : bit_and x 0xFC00 ≡ x / 1024 * 1024 = and_high_mask 16 10 (omega arith) x l in
     (λ h. let q = eqb-true _ _ h in (omega arith, omega arith), λ r. eq-eqb _ _ (omega (arith, e, r.0, r.1)))
 
-high_test : (x : ℕ) → x < 2 ^ 16 → (eqb (bit_and x 0xFC00) 0xD800 ≡ true) ↔ IsHighSurrogate x
+pub high_test : (x : ℕ) → x < 2 ^ 16 → (eqb (bit_and x 0xFC00) 0xD800 ≡ true) ↔ IsHighSurrogate x
 high_test x l =
     let e : bit_and x 0xFC00 ≡ x / 1024 * 1024 = and_high_mask 16 10 (omega arith) x l in
     (λ h. let q = eqb-true _ _ h in (omega arith, omega arith), λ r. eq-eqb _ _ (omega (arith, e, r.0, r.1)))

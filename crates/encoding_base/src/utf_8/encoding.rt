@@ -23,8 +23,8 @@ const LONGEST: usize = 4;
 /// The code units of a block.
 const BLOCK: usize = 16;
 
-/// The blocks behind one that isn't ASCII that go without a test for ASCII: text seldom changes to long ASCII there, and
-/// a test that comes out now one way and now the other costs more than it saves.
+/// The blocks behind one that isn't ASCII that go without a test for ASCII: text seldom changes to long ASCII there,
+/// and a test that comes out now one way and now the other costs more than it saves.
 const BLOCKS_BEHIND: usize = 7;
 
 /// Whether the code unit is a surrogate.
@@ -155,8 +155,8 @@ fn convert_eight(src: &[u16], at: usize, dst: &mut [u8], to: usize) -> (usize, u
     (0, 0)
 }
 
-/// Converts sixteen code units below U+0800 from a place on, and returns how many bytes it wrote. Behind these `dst` is as
-/// before.
+/// Converts sixteen code units below U+0800 from a place on, and returns how many bytes it wrote. Behind these `dst` is
+/// as before.
 #[inline(always)]
 fn convert_sixteen(src: &[u16], at: usize, dst: &mut [u8], to: usize) -> usize
     requires room { (at + 16 ≤ length src.now) × (to + 32 ≤ length dst.old) }
@@ -211,8 +211,9 @@ fn convert_blocks(src: &[u16], dst: &mut [u8]) -> (usize, usize)
     (read, written)
 }
 
-/// Converts blocks of code units from the beginning of `src` on while they have pairs of surrogates and are below U+0800
-/// beside these, and returns how many code units these are and how many bytes it wrote. Behind these `dst` is as before.
+/// Converts blocks of code units from the beginning of `src` on while they have pairs of surrogates and are below
+/// U+0800 beside these, and returns how many code units these are and how many bytes it wrote. Behind these `dst` is as
+/// before.
 fn convert_paired_blocks(src: &[u16], dst: &mut [u8]) -> (usize, usize)
     ensures front { IsUtf8OfFront src.now result.0 (take result.1 dst.new) }
     ensures rest { WritesFront dst.old dst.new result.1 (take result.1 dst.new) }
@@ -232,36 +233,47 @@ fn convert_paired_blocks(src: &[u16], dst: &mut [u8]) -> (usize, usize)
     (read, written)
 }
 
-/// The characters that go one by one behind blocks: the first that isn't ASCII among them may be what ended these.
+/// The characters that go one by one behind blocks: the first from U+0800 on among them is what ended these.
 const FEW_SINGLES: usize = 8;
 
-/// The characters that go one by one where there were no blocks.
+/// The characters that go one by one where blocks were sought in vain twice.
 const MANY_SINGLES: usize = 32;
 
-/// How many characters go one by one behind so many code units in blocks and in blocks with pairs: none behind the
-/// latter, else few where there were some, and many where there were none, so that text without blocks isn't looked
-/// through twice.
+/// How many characters go one by one behind so many code units in blocks, and so many in blocks with pairs, where so
+/// many are left: none behind the latter, else few, and many where there were no blocks again, so that text without
+/// blocks isn't looked through twice.
 #[inline(always)]
-fn singles_behind(units: usize, paired: usize) -> usize
+fn singles_behind(units: usize, paired: usize, left: usize, in_vain: bool) -> usize
     ensures { paired ≡ 0 → 0 < result }
 {
-    if paired > 0 {
-        0
-    } else if units > 0 {
-        FEW_SINGLES
-    } else {
-        MANY_SINGLES
+    if left <= BLOCK {
+        return MANY_SINGLES;
     }
+    if paired > 0 {
+        return 0;
+    }
+    if units == 0 && in_vain {
+        return MANY_SINGLES;
+    }
+    FEW_SINGLES
 }
 
-/// How many characters more go one by one behind one that isn't ASCII: of few none.
+/// How many characters more go one by one behind this one, which isn't ASCII: of few none where it is what ended
+/// blocks.
 #[inline(always)]
-fn singles_left(singles: usize) -> usize {
-    if singles > FEW_SINGLES {
-        singles - 1
-    } else {
-        0
+fn singles_left(singles: usize, scalar: u32) -> usize
+    requires { 0 < singles }
+{
+    if singles <= FEW_SINGLES && scalar >= 0x800 {
+        return 0;
     }
+    singles - 1
+}
+
+/// Whether neither blocks nor blocks with pairs had a code unit.
+#[inline(always)]
+fn are_none(units: usize, paired: usize) -> bool {
+    units == 0 && paired == 0
 }
 
 /// Converts the first characters of `src` from UTF-16 to UTF-8, while at least four bytes of `dst` are free, and
@@ -279,6 +291,7 @@ pub fn convert_utf16_to_utf8_partial_inner(src: &[u16], dst: &mut [u8]) -> (usiz
     let mut read = 0;
     let mut written = 0;
     let mut singles = if src.len() < 8 { MANY_SINGLES } else { 0 };
+    let mut in_vain = false;
     let end = dst.len().saturating_sub(LONGEST - 1);
     while read < src.len() && written < end {
         if singles == 0 {
@@ -288,7 +301,8 @@ pub fn convert_utf16_to_utf8_partial_inner(src: &[u16], dst: &mut [u8]) -> (usiz
             let (paired, extra) = convert_paired_blocks(&src[read..], &mut dst[written..]);
             read += paired;
             written += extra;
-            singles = singles_behind(units, paired);
+            singles = singles_behind(units, paired, src.len() - read, in_vain);
+            in_vain = are_none(units, paired);
         } else if src[read] < 0x80 {
             dst[written] = src[read] as u8;
             written += 1;
@@ -298,7 +312,7 @@ pub fn convert_utf16_to_utf8_partial_inner(src: &[u16], dst: &mut [u8]) -> (usiz
             let scalar = scalar_at(src, read);
             written += write_scalar(scalar, &mut dst[written..]);
             read += utf16_length(scalar);
-            singles = singles_left(singles);
+            singles = singles_left(singles, scalar);
         }
     }
     (read, written)

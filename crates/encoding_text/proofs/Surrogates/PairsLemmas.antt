@@ -1,8 +1,7 @@
 -- Units of which some come in pairs: a front in which each second stands behind a first, and each first before a second, is whole but for a last first.
-use Rattle.std.proofs.Common.{◌≡◌, ℕ, zero, suc, ◌+◌, ◌-◌, ◌*◌, ◌/◌, ◌^◌, ◌<◌, ◌≤◌, ◌↔◌, ◌⊎◌, inl, inr, Bool, true, false, not, cond, ◌||◌, ◌&&◌, eqb, leb, ltb, List, [], ◌∷◌, length, take, slice_index, bit_and, refl, sym, ap, ◌∙◌, arith, subst}
-use Rattle.std.proofs.lemmas.Bool.{cases_lt, agree_below_at, eqb-true, eq-eqb}
+use Rattle.std.proofs.Common.{◌≡◌, ℕ, zero, suc, ◌+◌, ◌-◌, ◌^◌, ◌<◌, ◌≤◌, ◌↔◌, ◌⊎◌, inl, inr, Bool, true, false, not, cond, ◌||◌, ◌&&◌, eqb, leb, ltb, List, [], ◌∷◌, length, take, slice_index, bit_and, refl, sym, ap, ◌∙◌, arith, subst}
+use Rattle.std.proofs.lemmas.Bool.{cases_lt, agree_below_at}
 use Rattle.std.proofs.lemmas.Bool.Decides.{nat_tests}
-use Rattle.std.proofs.lemmas.Nat.Bits.{and_high_mask}
 use Rattle.encoding_base.specs.Latin1.{IsUtf8Latin1}
 use Rattle.encoding_base.specs.Sequence.{IsContinuation}
 use Rattle.encoding_text.specs.Steps.Pairs.{ArePaired, FitsLatin1, FitLatin1}
@@ -11,6 +10,7 @@ use Rattle.encoding_text.specs.Surrogates.{IsValidUtf16}
 use Rattle.encoding_base.specs.Utf16.{IsHighSurrogate, IsLowSurrogate}
 use Rattle.encoding_text.proofs.Surrogates.SurrogateLemmas.{valid-encode, valid_more_one, valid_more_two}
 use Rattle.encoding_text.proofs.Latin.Latin1Lemmas.{latin1_more_one, latin1_more_two, IsUtf8Latin1-nil}
+use Rattle.encoding_base.proofs.Lanes.HalvesLemmas.{low_test, high_test}
 
 before_next : (us : List ℕ) (k : ℕ) → slice_index (0 ∷ us) (k + 1) ≡ slice_index us k
 before_next us k = ap (λ j. slice_index (0 ∷ us) j) {x = k + 1} {y = suc k} (omega arith)
@@ -100,16 +100,6 @@ same_tests false false e = (λ p. p, λ p. p)
 
 same_lane : (a b : Bool) (P Q : Type 0) → (a ≡ true) ↔ P → (b ≡ true) ↔ Q → cond a (not b) b ≡ false → P ↔ Q
 same_lane a b P Q p q e = let same = same_tests a b e in (λ x. q.0 (same.0 (p.1 x)), λ y. p.0 (same.1 (q.1 y)))
-
-low_test : (x : ℕ) → x < 2 ^ 16 → (eqb (bit_and x 0xFC00) 0xDC00 ≡ true) ↔ IsLowSurrogate x
-low_test x l =
-    let e : bit_and x 0xFC00 ≡ x / 1024 * 1024 = and_high_mask 16 10 (omega arith) x l in
-    (λ h. let q = eqb-true _ _ h in (omega arith, omega arith), λ r. eq-eqb _ _ (omega (arith, e, r.0, r.1)))
-
-high_test : (x : ℕ) → x < 2 ^ 16 → (eqb (bit_and x 0xFC00) 0xD800 ≡ true) ↔ IsHighSurrogate x
-high_test x l =
-    let e : bit_and x 0xFC00 ≡ x / 1024 * 1024 = and_high_mask 16 10 (omega arith) x l in
-    (λ h. let q = eqb-true _ _ h in (omega arith, omega arith), λ r. eq-eqb _ _ (omega (arith, e, r.0, r.1)))
 
 abbrev pub pair_fault : ℕ → ℕ → Bool
 pair_fault x y = cond (eqb (bit_and x 0xFC00) 0xDC00) (not (eqb (bit_and y 0xFC00) 0xD800)) (eqb (bit_and y 0xFC00) 0xD800)

@@ -1,4 +1,4 @@
-use Rattle.std.proofs.Common.{length, arith, refl, sym, subst}
+use Rattle.std.proofs.Common.{arith, refl, sym, subst}
 use Rattle.encoding_base.proofs.LongestFronts.FrontsLemmas.{WritesFront-same, WritesFront_put}
 use Rattle.encoding_base.proofs.LongestFronts.FittingLemmas.{written_is}
 use Rattle.encoding_base.proofs.CodeUnits.Utf16FrontLemmas.{walked_front}
