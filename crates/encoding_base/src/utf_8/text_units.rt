@@ -26,6 +26,9 @@ const LAST: [u8; 16] = [
     255, 255, 255, 255, 255, 255, 255, 255, 255, 255, 255, 255, 255, 0xEF, 0xDF, 0xBF,
 ];
 
+/// The places of the lanes of a vector.
+const LANES: [u16; 8] = [0, 1, 2, 3, 4, 5, 6, 7];
+
 /// The bits that tell whether a byte begins three, at every third place.
 const LEAD_BITS: [u8; 16] = [
     0xF0, 0, 0, 0xF0, 0, 0, 0xF0, 0, 0, 0xF0, 0, 0, 0xF0, 0, 0, 0,
@@ -209,6 +212,26 @@ fn put_kept(first: u16x8, last: u16x8, kept: usize, dst: &mut [u16]) -> usize
     count + last_kept.count_ones() as usize
 }
 
+/// The same, and behind them `dst` is as before.
+#[inline(always)]
+fn put_kept_alone(first: u16x8, last: u16x8, kept: usize, dst: &mut [u16]) -> usize
+    requires { (kept < 2 ^ 16) × (16 ≤ length dst.old) }
+    ensures { (marks : List Bool) → length marks ≡ 16 → kept ≡ mask_l marks
+        → PutsKept marks (first ++ last) dst.old dst.new result result }
+{
+    let first_kept = kept & 0xFF;
+    let last_kept = kept >> 8;
+    let count = first_kept.count_ones() as usize;
+    let more = last_kept.count_ones() as usize;
+    let behind = u16x8::from_slice(&dst[count..]);
+    gather(first, first_kept).copy_to_slice(dst);
+    let is_kept = u16x8::from_array(LANES).simd_lt(u16x8::splat(more as u16));
+    is_kept
+        .select(gather(last, last_kept), behind)
+        .copy_to_slice(&mut dst[count..]);
+    count + more
+}
+
 /// Where the last whole character of the first sixteen bytes ends, or 0.
 #[inline(always)]
 fn whole_end(src: &[u8]) -> usize
@@ -241,6 +264,19 @@ fn put_block(src: &[u8], end: usize, kept: usize, dst: &mut [u16]) -> usize
 
 /// The same, and behind them `dst` is as before.
 #[inline(always)]
+fn put_block_within(src: &[u8], end: usize, kept: usize, dst: &mut [u16]) -> usize
+    requires room { (16 ≤ length src.now) × (16 ≤ length dst.old) }
+    requires text { IsUtf8 src.now }
+    requires end { (end ≤ 16) × IsCharBoundary src.now end }
+    requires kept { kept ≡ mask_l (take end (ends_behind 0 (take 16 src.now)) ++ replicate (16 - end) false) }
+    ensures { PutsText src.now dst.old dst.new end result result }
+{
+    let (first, last) = code_units(u8x16::from_slice(src));
+    put_kept_alone(first, last, kept, dst)
+}
+
+/// The same, where fewer places may be left.
+#[inline(always)]
 fn put_block_alone(src: &[u8], end: usize, kept: usize, dst: &mut [u16]) -> usize
     requires room { (16 ≤ length src.now) × (end ≤ length dst.old) }
     requires text { IsUtf8 src.now }
@@ -248,6 +284,9 @@ fn put_block_alone(src: &[u8], end: usize, kept: usize, dst: &mut [u16]) -> usiz
     requires kept { kept ≡ mask_l (take end (ends_behind 0 (take 16 src.now)) ++ replicate (16 - end) false) }
     ensures { PutsText src.now dst.old dst.new end result result }
 {
+    if dst.len() >= 16 {
+        return put_block_within(src, end, kept, dst);
+    }
     let mut units = [0; 16];
     let count = put_block(src, end, kept, &mut units);
     dst[..count].copy_from_slice(&units[..count]);
