@@ -1,5 +1,5 @@
-//! The code unit that ends with each of sixteen bytes of UTF-8, by the three bytes before it: the lower byte of each in one
-//! vector and the upper in another, which are then joined.
+//! The code unit that ends with each of sixteen bytes of UTF-8, by the three bytes before it: the lower byte of each in
+//! one vector and the upper in another, which are then joined.
 ghost use Rattle.std.specs.Prelude.{◌≡◌, ℕ, ◌+◌, ◌-◌, ◌*◌, ◌/◌, ◌%◌, ◌<◌, ◌≤◌, [], ◌∷◌, Bool, false, List, ◌++◌, take, drop, replicate, slice_index, IsTrue};
 ghost use Rattle.std.specs.Simd.Lanes.{mask_l};
 ghost use Rattle.encoding_base.specs.Steps.Lanes.{HasLanes};
