@@ -11,6 +11,7 @@ mod latin1_ends;
 mod spelling;
 mod table;
 mod text_units;
+mod unit_lanes;
 mod validation;
 
 pub(crate) use decoding::CodeUnit;

@@ -1,17 +1,19 @@
 -- The kept lanes of a vector, moved to its front by a table of their places.
-use Rattle.std.proofs.Common.{◌≡◌, ℕ, zero, suc, ◌+◌, ◌-◌, ◌*◌, ◌/◌, ◌%◌, ◌^◌, ◌<◌, ◌≤◌, ◌==◌, Bool, true, false, ◌&&◌, cond, if◌then◌else◌, leb, eqb, List, [], ◌∷◌, ◌++◌, map, length, take, drop, get_or, replicate, bit_and, refl, sym, ap, ◌∙◌, arith, subst, w8, append_assoc}
+use Rattle.std.proofs.Common.{◌≡◌, ℕ, zero, suc, ◌+◌, ◌-◌, ◌*◌, ◌/◌, ◌%◌, ◌^◌, ◌<◌, ◌≤◌, ◌==◌, Bool, true, false, ◌&&◌, cond, if◌then◌else◌, leb, ltb, eqb, List, [], ◌∷◌, ◌++◌, map, length, take, drop, get_or, replicate, bit_and, refl, sym, ap, ◌∙◌, arith, subst, w8, w16, append_assoc}
 use Rattle.std.specs.List.{range_with_len}
 use Rattle.std.specs.Int.RustNames.{count_ones}
-use Rattle.std.specs.Simd.Lanes.{zip2, put_chunk, mask_l, Each1, number_l, digits_l}
+use Rattle.std.specs.Simd.Lanes.{zip2, sel_l, top, put_chunk, mask_l, Each1, number_l, digits_l}
 use Rattle.std.proofs.Math.Nat.{pow-suc, mul_assoc}
 use Rattle.std.proofs.Math.Seq.{drop-cons, take-append-add}
 use Rattle.std.proofs.lemmas.Bool.{and_parts, eqb-true, leb-true}
 use Rattle.std.proofs.lemmas.Grind.{same_number_lists}
 use Rattle.std.proofs.lemmas.Nat.{and_mask, mod_low, ones_le_self}
-use Rattle.std.proofs.lemmas.List.{length-map, length-append, length-take-le, length-drop, get_or-map, get_or-replicate, take-map, map-append, take-append-drop, take_at, drop_at, drop-drop}
-use Rattle.std.proofs.lemmas.List.FromFn.{get_or-map-range_with_len}
+use Rattle.std.proofs.lemmas.List.{length-map, length-append, length-take-le, length-drop, get_or-map, get_or-replicate, take-map, map-append, take-append-drop, take_at, drop_at, drop-drop, drop-append-le}
+use Rattle.std.proofs.lemmas.List.FromFn.{get_or-map-range_with_len, get_or-range_with_len}
 use Rattle.std.proofs.lemmas.Simd.{SwzOk, SwzOk-from_below, swz_l, length-swz_l, get_or-swz_l_below, Each1-from_get_or, Each1-get_or, get_or_wider, get_or_narrower, mask_l-lt, ones-mask_l_cons, put_chunk_is}
 use Rattle.encoding_base.specs.declared.utf_8.kept_lanes.TheConstants.{KEPT}
+use Rattle.encoding_base.specs.Steps.Lanes.{HasLanes}
+use Rattle.encoding_base.proofs.Lanes.LaneLemmas.{HasLanes-itself, HasLanes-splat, HasLanes-zip2, HasLanes-select, HasLanes-same, compared, top_compared, firsts_are}
 use Rattle.encoding_base.specs.Steps.Units.{keep, places_from, gathered_places, bytes_at, byte_places, PutsKept}
 
 -- ---- the table
@@ -353,4 +355,61 @@ module _ (ms : List Bool) (us old low_us high_us first second : List ℕ) (kept 
         counted = size ∙ sym (length-append low_kept high_kept) ∙ ap length whole;
         placed = (λ i. take (size i) (same i)) ∙ kept_front;
         behind = subst (λ n. drop n (put_chunk (count_ones (bit_and kept 255)) half_put second) ≡ drop n old) {x = count + 8} (omega (arith, low_count)) (ap (drop (count + 8)) same ∙ kept_behind);
+      }
+
+  -- the same, where the second store keeps what stood behind its own
+  abbrev alone : List ℕ
+  alone = sel_l (map (top 15) (zip2 (compared w16 ltb) (range_with_len 0 8) (replicate 8 (count_ones (kept / 256))))) second (take 8 (drop (count_ones (bit_and kept 255)) old))
+
+  abbrev more : ℕ
+  more = length high_kept
+
+  more_few : more ≤ 8
+  more_few = omega (arith, length-keep-le high_marks (drop 8 us), high_long)
+
+  abbrev behind : List ℕ
+  behind = take 8 (drop count old)
+
+  behind_long : length behind ≡ 8
+  behind_long = length-take-le 8 (drop count old) (omega (arith, length-drop count old, room, low_few))
+
+  alone_is : alone ≡ high_kept ++ drop more behind
+  alone_is =
+      let places : HasLanes 8 (range_with_len 0 8) (λ k. k) = HasLanes-same (HasLanes-itself 8 (range_with_len 0 8) refl) (λ k l. let e : 0 + k ≡ k = omega arith in get_or-range_with_len 0 8 k 0 l ∙ e) in
+      let tests = HasLanes-zip2 (compared w16 ltb) places (HasLanes-splat 8 more) in
+      let chosen = HasLanes-same (HasLanes-select 15 tests (HasLanes-itself 8 second second_long) (HasLanes-itself 8 behind behind_long))
+      (λ k l. ap (λ b. cond b (get_or second k 0) (get_or behind k 0)) (top_compared w16 (ltb k more))) in
+      (λ i. sel_l (map (top 15) (zip2 (compared w16 ltb) (range_with_len 0 8) (replicate 8 (high_count i)))) second (take 8 (drop (low_count i) old)))
+      ∙ firsts_are 8 more second behind _ second_long behind_long more_few chosen
+      ∙ ap (λ xs. xs ++ drop more behind) (ap (take more) high_gathered.1 ∙ take_at high_kept high_gathered.0 more refl)
+
+  alone_long : length alone ≡ 8
+  alone_long = ap length alone_is ∙ omega (arith, length-append high_kept (drop more behind), length-drop more behind, behind_long, more_few)
+
+  rest_as_before : drop 8 (drop count half_put) ≡ drop 8 (drop count old)
+  rest_as_before =
+      let places : length first + count ≡ count + 8 = omega (arith, first_long) in
+      drop-drop 8 count half_put ∙ ap (drop (count + 8)) half_is ∙ ap (λ n. drop n (first ++ drop 8 old)) (sym places) ∙ drop_past first (drop 8 old) count
+      ∙ drop-drop count 8 old ∙ ap (λ n. drop n old) {x = 8 + count} {y = count + 8} (omega arith) ∙ sym (drop-drop 8 count old)
+
+  behind_kept : drop more behind ++ drop 8 (drop count old) ≡ drop (count + more) old
+  behind_kept = sym (drop-append-le more behind (drop 8 (drop count old)) (omega (arith, behind_long, more_few))) ∙ ap (drop more) (take-append-drop 8 (drop count old)) ∙ drop-drop more count old
+
+  alone_put : put_chunk count half_put alone ≡ (low_kept ++ high_kept) ++ drop (count + more) old
+  alone_put =
+      put_chunk_is count half_put alone (omega (arith, half_long, alone_long, low_few, room)) ∙ (λ i. front i ++ (alone_is i ++ drop (alone_long i) (drop count half_put)))
+      ∙ ap (λ xs. low_kept ++ ((high_kept ++ drop more behind) ++ xs)) rest_as_before
+      ∙ ap (λ xs. low_kept ++ xs) (append_assoc high_kept (drop more behind) (drop 8 (drop count old)) ∙ ap (λ xs. high_kept ++ xs) behind_kept)
+      ∙ sym (append_assoc low_kept high_kept (drop (count + more) old))
+
+  pub puts_kept_alone : PutsKept ms us old (put_chunk (count_ones (bit_and kept 255)) (put_chunk 0 old first) alone) (count_ones (bit_and kept 255) + count_ones (kept / 256)) (count_ones (bit_and kept 255) + count_ones (kept / 256))
+  puts_kept_alone =
+      let after = put_chunk (count_ones (bit_and kept 255)) half_put alone in
+      let is : after ≡ (low_kept ++ high_kept) ++ drop (count + more) old = ap (λ n. put_chunk n half_put alone) low_count ∙ alone_put in
+      let size : count_ones (bit_and kept 255) + count_ones (kept / 256) ≡ count + more = (λ i. low_count i + high_count i) in
+      let both = low_kept ++ high_kept in
+      record {
+        counted = size ∙ sym (length-append low_kept high_kept) ∙ ap length whole;
+        placed = (λ i. take (size i) (is i)) ∙ take_at both (drop (count + more) old) (count + more) (length-append low_kept high_kept) ∙ whole;
+        behind = (λ i. drop (size i) (is i)) ∙ drop_at both (drop (count + more) old) (count + more) (length-append low_kept high_kept) ∙ ap (λ n. drop n old) (sym size);
       }

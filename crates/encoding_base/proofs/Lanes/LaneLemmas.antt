@@ -127,7 +127,7 @@ module _ (h : ℕ) {n : ℕ} {a : List ℕ} {f : ℕ → ℕ} (lanes : HasLanes 
 
 -- ---- a store of which only the first lanes count
 -- the first so many lanes of one vector, and behind them those of another
-firsts_are : (n count : ℕ) (lanes behind z : List ℕ) → length lanes ≡ n → length behind ≡ n → count ≤ n
+pub firsts_are : (n count : ℕ) (lanes behind z : List ℕ) → length lanes ≡ n → length behind ≡ n → count ≤ n
     → HasLanes n z (λ k. cond (ltb k count) (get_or lanes k 0) (get_or behind k 0)) → z ≡ take count lanes ++ drop count behind
 firsts_are n count lanes behind z p q few h =
     let front : length (take count lanes) ≡ count = length-take-le count lanes (omega arith) in

@@ -1,5 +1,5 @@
-//! UTF-16 of well-formed UTF-8, sixteen bytes at a time: each byte computes the code unit that ends with it from the
-//! three bytes before it, and the lanes that end one are moved together.
+//! UTF-16 of well-formed UTF-8, sixteen bytes at a time: of the code units that end with each byte those that are one
+//! are moved together.
 //!
 //! What a block stores behind its own code units is overwritten by those of the bytes that follow, since these have at
 //! least a third as many: a block is stored only where so many places are still due.
@@ -10,14 +10,14 @@ ghost use Rattle.std.specs.Char.Escape.{encode_utf16};
 ghost use Rattle.std.specs.Int.RustNames.{count_ones};
 ghost use Rattle.std.specs.Simd.Lanes.{mask_l};
 ghost use Rattle.encoding_base.specs.Fronts.{WritesFront};
-ghost use Rattle.encoding_base.specs.Steps.Lanes.{HasLanes};
 ghost use Rattle.encoding_base.specs.Steps.Strides.{AllBelow};
-ghost use Rattle.encoding_base.specs.Steps.Units.{BeginsThree, PutsKept, PutsText, ends_behind, low_bits, triple_unit, unit_lane, units_behind, units_in, upper_of};
+ghost use Rattle.encoding_base.specs.Steps.Units.{BeginsThree, PutsKept, PutsText, ends_behind, units_in};
 
 use crate::sequence::{is_continuation, sequence_length};
 use crate::strides::widen_ascii;
 use crate::utf_8::decoding::{put_utf16, scalar_of_sequence};
 use crate::utf_8::kept_lanes::gather;
+use crate::utf_8::unit_lanes::{code_units, triple_units, unit_ends};
 use std::simd::Simd;
 use std::simd::prelude::*;
 
@@ -25,6 +25,9 @@ use std::simd::prelude::*;
 const LAST: [u8; 16] = [
     255, 255, 255, 255, 255, 255, 255, 255, 255, 255, 255, 255, 255, 0xEF, 0xDF, 0xBF,
 ];
+
+/// The places of the lanes of a vector.
+const LANES: [u16; 8] = [0, 1, 2, 3, 4, 5, 6, 7];
 
 /// The bits that tell whether a byte begins three, at every third place.
 const LEAD_BITS: [u8; 16] = [
@@ -35,164 +38,6 @@ const LEAD_BITS: [u8; 16] = [
 const LEADS: [u8; 16] = [
     0xE0, 0, 0, 0xE0, 0, 0, 0xE0, 0, 0, 0xE0, 0, 0, 0xE0, 0, 0, 0,
 ];
-
-/// The bytes one place before, with a zero before the first.
-#[inline(always)]
-fn one_before(block: u8x16) -> u8x16
-    ensures { HasLanes 16 result (λ k. slice_index (0 ∷ block) k) }
-{
-    u8x16::splat(0).shuffle(
-        block,
-        [
-            15, 16, 17, 18, 19, 20, 21, 22, 23, 24, 25, 26, 27, 28, 29, 30,
-        ],
-    )
-}
-
-/// The bytes two places before.
-#[inline(always)]
-fn two_before(block: u8x16) -> u8x16
-    ensures { HasLanes 16 result (λ k. slice_index (0 ∷ 0 ∷ block) k) }
-{
-    u8x16::splat(0).shuffle(
-        block,
-        [
-            14, 15, 16, 17, 18, 19, 20, 21, 22, 23, 24, 25, 26, 27, 28, 29,
-        ],
-    )
-}
-
-/// The bytes three places before.
-#[inline(always)]
-fn three_before(block: u8x16) -> u8x16
-    ensures { HasLanes 16 result (λ k. slice_index (0 ∷ 0 ∷ 0 ∷ block) k) }
-{
-    u8x16::splat(0).shuffle(
-        block,
-        [
-            13, 14, 15, 16, 17, 18, 19, 20, 21, 22, 23, 24, 25, 26, 27, 28,
-        ],
-    )
-}
-
-/// Whether each byte is below the bound.
-#[inline(always)]
-fn is_below(block: u8x16, bound: u8) -> bool
-    ensures { IsTrue result → (k : ℕ) → k < 16 → slice_index block k < bound }
-{
-    block.simd_ge(u8x16::splat(bound)).to_bitmask() == 0
-}
-
-/// The last eight bits of those that each byte and the one before it hold, six each.
-#[inline(always)]
-fn lower_bits(block: u8x16) -> u8x16
-    ensures { HasLanes 16 result (λ k. low_bits (slice_index (0 ∷ block) k) (slice_index block k) % 0x100) }
-{
-    (one_before(block) << u8x16::splat(6)) + (block & u8x16::splat(0x3F))
-}
-
-/// The four bits above them, and above these the four of a byte that begins three and stands two places before.
-#[inline(always)]
-fn upper_bits(block: u8x16) -> u8x16
-    ensures { HasLanes 16 result (λ k. upper_of (slice_index (0 ∷ 0 ∷ block) k) (slice_index (0 ∷ block) k)) }
-{
-    let two = two_before(block);
-    let above = two
-        .simd_ge(u8x16::splat(0xE0))
-        .select(two << u8x16::splat(4), u8x16::splat(0));
-    above + ((one_before(block) >> u8x16::splat(2)) & u8x16::splat(0x0F))
-}
-
-/// The first eight lanes, and the last, each of a lower and an upper byte.
-#[inline(always)]
-fn join_bytes(lower: u8x16, upper: u8x16) -> (u16x8, u16x8)
-    ensures first { HasLanes 8 result.0 (λ k. slice_index lower k + 0x100 * slice_index upper k) }
-    ensures last { HasLanes 8 result.1 (λ k. slice_index lower (8 + k) + 0x100 * slice_index upper (8 + k)) }
-{
-    let first = lower.shuffle(
-        upper,
-        [0, 16, 1, 17, 2, 18, 3, 19, 4, 20, 5, 21, 6, 22, 7, 23],
-    );
-    let last = lower.shuffle(
-        upper,
-        [8, 24, 9, 25, 10, 26, 11, 27, 12, 28, 13, 29, 14, 30, 15, 31],
-    );
-    (u16x8::from_le_bytes(first), u16x8::from_le_bytes(last))
-}
-
-/// The code unit that ends with each byte, where no character has four bytes.
-#[inline(always)]
-fn short_units(block: u8x16) -> (u16x8, u16x8)
-    requires { (k : ℕ) → k < 16 → slice_index block k < 0xF0 }
-    ensures { (result.0 ≡ take 8 (units_behind 0 0 0 block)) × (result.1 ≡ drop 8 (units_behind 0 0 0 block)) }
-{
-    let is_ascii = block.simd_lt(u8x16::splat(0x80));
-    let lower = is_ascii.select(block, lower_bits(block));
-    let upper = is_ascii.select(u8x16::splat(0), upper_bits(block));
-    join_bytes(lower, upper)
-}
-
-/// The last eight bits of the ten of a high surrogate that each byte ends, without what is added to them.
-#[inline(always)]
-fn high_bits(block: u8x16) -> u8x16
-    ensures { HasLanes 16 result (λ k. low_bits (slice_index (0 ∷ block) k) (slice_index block k) / 0x10) }
-{
-    (one_before(block) << u8x16::splat(2)) + ((block >> u8x16::splat(4)) & u8x16::splat(3))
-}
-
-/// The lower byte of the code unit that ends with each byte.
-#[inline(always)]
-fn lower_bytes(block: u8x16) -> u8x16
-    ensures { HasLanes 16 result (λ k. unit_lane block k % 0x100) }
-{
-    let high = high_bits(block) + u8x16::splat(0xC0);
-    let longer = two_before(block)
-        .simd_ge(u8x16::splat(0xF0))
-        .select(high, lower_bits(block));
-    block.simd_lt(u8x16::splat(0x80)).select(block, longer)
-}
-
-/// The upper byte of it.
-#[inline(always)]
-fn upper_bytes(block: u8x16) -> u8x16
-    ensures { HasLanes 16 result (λ k. unit_lane block k / 0x100) }
-{
-    let two = two_before(block);
-    let high = high_bits(block)
-        .simd_ge(u8x16::splat(0x40))
-        .select(u8x16::splat(0xD8), u8x16::splat(0xD7))
-        + (two & u8x16::splat(7));
-    let low = three_before(block)
-        .simd_ge(u8x16::splat(0xF0))
-        .select(u8x16::splat(0xDC), u8x16::splat(0));
-    let longer = two
-        .simd_ge(u8x16::splat(0xF0))
-        .select(high, upper_bits(block) | low);
-    block
-        .simd_lt(u8x16::splat(0x80))
-        .select(u8x16::splat(0), longer)
-}
-
-/// The code unit that ends with each byte: the first eight, and the last.
-#[inline(always)]
-fn code_units(block: u8x16) -> (u16x8, u16x8)
-    ensures { (result.0 ≡ take 8 (units_behind 0 0 0 block)) × (result.1 ≡ drop 8 (units_behind 0 0 0 block)) }
-{
-    if is_below(block, 0xF0) {
-        return short_units(block);
-    }
-    join_bytes(lower_bytes(block), upper_bytes(block))
-}
-
-/// Of the first bytes, up to the end, a bit for each that ends a code unit.
-#[inline(always)]
-fn unit_ends(block: u8x16, end: usize) -> usize
-    requires { end ≤ 16 }
-    ensures { result ≡ mask_l (take end (ends_behind 0 block) ++ replicate (16 - end) false) }
-{
-    let ends = block.simd_lt(u8x16::splat(0xC0)) & one_before(block).simd_lt(u8x16::splat(0xE0));
-    ends.to_bitmask() as usize & ((1 << end) - 1)
-}
 
 /// Writes the units whose bit is set, in order, and returns how many these are.
 #[inline(always)]
@@ -207,6 +52,26 @@ fn put_kept(first: u16x8, last: u16x8, kept: usize, dst: &mut [u16]) -> usize
     let count = first_kept.count_ones() as usize;
     gather(last, last_kept).copy_to_slice(&mut dst[count..]);
     count + last_kept.count_ones() as usize
+}
+
+/// The same, and behind them `dst` is as before.
+#[inline(always)]
+fn put_kept_alone(first: u16x8, last: u16x8, kept: usize, dst: &mut [u16]) -> usize
+    requires { (kept < 2 ^ 16) × (16 ≤ length dst.old) }
+    ensures { (marks : List Bool) → length marks ≡ 16 → kept ≡ mask_l marks
+        → PutsKept marks (first ++ last) dst.old dst.new result result }
+{
+    let first_kept = kept & 0xFF;
+    let last_kept = kept >> 8;
+    let count = first_kept.count_ones() as usize;
+    let more = last_kept.count_ones() as usize;
+    let behind = u16x8::from_slice(&dst[count..]);
+    gather(first, first_kept).copy_to_slice(dst);
+    let is_kept = u16x8::from_array(LANES).simd_lt(u16x8::splat(more as u16));
+    is_kept
+        .select(gather(last, last_kept), behind)
+        .copy_to_slice(&mut dst[count..]);
+    count + more
 }
 
 /// Where the last whole character of the first sixteen bytes ends, or 0.
@@ -241,6 +106,19 @@ fn put_block(src: &[u8], end: usize, kept: usize, dst: &mut [u16]) -> usize
 
 /// The same, and behind them `dst` is as before.
 #[inline(always)]
+fn put_block_within(src: &[u8], end: usize, kept: usize, dst: &mut [u16]) -> usize
+    requires room { (16 ≤ length src.now) × (16 ≤ length dst.old) }
+    requires text { IsUtf8 src.now }
+    requires end { (end ≤ 16) × IsCharBoundary src.now end }
+    requires kept { kept ≡ mask_l (take end (ends_behind 0 (take 16 src.now)) ++ replicate (16 - end) false) }
+    ensures { PutsText src.now dst.old dst.new end result result }
+{
+    let (first, last) = code_units(u8x16::from_slice(src));
+    put_kept_alone(first, last, kept, dst)
+}
+
+/// The same, where fewer places may be left.
+#[inline(always)]
 fn put_block_alone(src: &[u8], end: usize, kept: usize, dst: &mut [u16]) -> usize
     requires room { (16 ≤ length src.now) × (end ≤ length dst.old) }
     requires text { IsUtf8 src.now }
@@ -248,6 +126,9 @@ fn put_block_alone(src: &[u8], end: usize, kept: usize, dst: &mut [u16]) -> usiz
     requires kept { kept ≡ mask_l (take end (ends_behind 0 (take 16 src.now)) ++ replicate (16 - end) false) }
     ensures { PutsText src.now dst.old dst.new end result result }
 {
+    if dst.len() >= 16 {
+        return put_block_within(src, end, kept, dst);
+    }
     let mut units = [0; 16];
     let count = put_block(src, end, kept, &mut units);
     dst[..count].copy_from_slice(&units[..count]);
@@ -273,45 +154,6 @@ fn begins_triples(src: &[u8]) -> bool
 {
     let leads = u8x16::from_slice(src) & u8x16::from_array(LEAD_BITS);
     !leads.simd_ne(u8x16::from_array(LEADS)).any()
-}
-
-/// Every third byte from the first on.
-#[inline(always)]
-fn first_bytes(block: u8x16) -> u8x8
-    ensures { HasLanes 8 result (λ k. slice_index block (slice_index (0 ∷ 3 ∷ 6 ∷ 9 ∷ 12 ∷ 12 ∷ 12 ∷ 12 ∷ []) k)) }
-{
-    block.swizzle::<8>([0, 3, 6, 9, 12, 12, 12, 12])
-}
-
-/// Every third byte from the second on.
-#[inline(always)]
-fn second_bytes(block: u8x16) -> u8x8
-    ensures { HasLanes 8 result (λ k. slice_index block (slice_index (1 ∷ 4 ∷ 7 ∷ 10 ∷ 13 ∷ 13 ∷ 13 ∷ 13 ∷ []) k)) }
-{
-    block.swizzle::<8>([1, 4, 7, 10, 13, 13, 13, 13])
-}
-
-/// Every third byte from the third on.
-#[inline(always)]
-fn third_bytes(block: u8x16) -> u8x8
-    ensures { HasLanes 8 result (λ k. slice_index block (slice_index (2 ∷ 5 ∷ 8 ∷ 11 ∷ 14 ∷ 14 ∷ 14 ∷ 14 ∷ []) k)) }
-{
-    block.swizzle::<8>([2, 5, 8, 11, 14, 14, 14, 14])
-}
-
-/// The code units of five characters of three bytes, and three more lanes.
-#[inline(always)]
-fn triple_units(block: u8x16) -> u16x8
-    ensures { HasLanes 8 result (λ k. triple_unit
-        (slice_index block (slice_index (0 ∷ 3 ∷ 6 ∷ 9 ∷ 12 ∷ 12 ∷ 12 ∷ 12 ∷ []) k))
-        (slice_index block (slice_index (1 ∷ 4 ∷ 7 ∷ 10 ∷ 13 ∷ 13 ∷ 13 ∷ 13 ∷ []) k))
-        (slice_index block (slice_index (2 ∷ 5 ∷ 8 ∷ 11 ∷ 14 ∷ 14 ∷ 14 ∷ 14 ∷ []) k))) }
-{
-    let six = u16x8::splat(0x3F);
-    let first = first_bytes(block).cast::<u16>();
-    let second = second_bytes(block).cast::<u16>();
-    let third = third_bytes(block).cast::<u16>();
-    first * u16x8::splat(0x1000) + ((second & six) * u16x8::splat(64) + (third & six))
 }
 
 /// Writes the UTF-16 of the first five characters, of three bytes each.
@@ -394,8 +236,8 @@ fn put_some(src: &[u8], dst: &mut [u16]) -> (usize, usize)
     (end, put_block_alone(src, end, kept, dst))
 }
 
-/// Writes the UTF-16 of a text of a few bytes, and returns how many code units these are. Behind what is written `dst` is
-/// as before.
+/// Writes the UTF-16 of a text of a few bytes, and returns how many code units these are. Behind what is written
+/// `dst` is as before.
 #[inline(always)]
 fn write_few(src: &[u8], dst: &mut [u16]) -> usize
     requires room { length src.now ≤ length dst.old }

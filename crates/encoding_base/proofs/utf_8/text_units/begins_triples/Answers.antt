@@ -1,4 +1,4 @@
-use Rattle.std.proofs.Common.{◌≡◌, ℕ, zero, suc, ◌*◌, ◌<◌, ◌&&◌, arith, bit_and, eqb, false, get_or, get_or-take, leb, length-take-le, ltb, map, not, refl, subst, sym, take, ap, ◌∙◌, w8}
+use Rattle.std.proofs.Common.{◌≡◌, ℕ, zero, suc, ◌*◌, ◌<◌, ◌&&◌, arith, bit_and, eqb, false, get_or, get_or-take, leb, length-take-le, ltb, map, not, refl, sym, take, ap, ◌∙◌, w8}
 use Rattle.std.specs.List.{range_with_len}
 use Rattle.std.proofs.lemmas.Bool.{and_parts, leb-true, ltb-true, not-false}
 use Rattle.std.proofs.lemmas.List.FromFn.{get_or-map-range_with_len}
