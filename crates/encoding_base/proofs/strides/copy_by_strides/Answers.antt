@@ -1,4 +1,4 @@
-use Rattle.std.proofs.Common.{length, arith}
+use Rattle.std.proofs.Common.{arith}
 use Rattle.encoding_base.proofs.LongestFronts.FrontsLemmas.{WritesFront-nil, WritesFront-length}
 use Rattle.encoding_base.proofs.LongestFronts.OverlapLemmas.{WritesFront_last}
 use Rattle.encoding_base.proofs.Latin.AsciiLemmas.{WritesFront_block}
