@@ -75,34 +75,72 @@ text | D83D | a | 4 | InputEmpty | 1 | EF BF BD 61 | none
 text | D83D | a | 3 | OutputFull | 0 | EF BF BD | none
 text | D83D | | 2 | OutputFull | 0 | | D83D";
 
+/// Whether a call over units into so much room does what is wanted, and the encoder holds this then.
+fn units_are(
+    mut encoder: Utf8Encoder,
+    units: &[u16],
+    last: bool,
+    room: usize,
+    wanted: &Wanted,
+    held: &str,
+) -> bool {
+    let mut dst = [0x71; 8];
+    let Some(part) = dst.get_mut(..room) else {
+        return false;
+    };
+    let answer = encoder.encode_from_utf16_raw(units, part, last);
+    is_wanted(wanted, answer, &dst) && holds(encoder, held)
+}
+
 fn units_row_holds(alloc: Global, row: &str) -> Result<bool, Fail> {
     let mut row = row;
-    let mut encoder = encoder_at(field(&mut row));
+    let before = field(&mut row);
     let source = field(&mut row);
     let room = number_of(field(&mut row))?;
     let last = field(&mut row) == "last";
     let wanted = wanted_of(alloc, &mut row)?;
     let units = units_of(alloc, source)?;
+    Ok(units_are(
+        encoder_at(before),
+        &units,
+        last,
+        room,
+        &wanted,
+        field(&mut row),
+    ))
+}
+
+/// Whether a call over a text does.
+fn text_is(
+    mut encoder: Utf8Encoder,
+    text: &str,
+    last: bool,
+    room: usize,
+    wanted: &Wanted,
+    held: &str,
+) -> bool {
     let mut dst = [0x71; 8];
     let Some(part) = dst.get_mut(..room) else {
-        return Ok(false);
+        return false;
     };
-    let answer = encoder.encode_from_utf16_raw(&units, part, last);
-    Ok(is_wanted(&wanted, answer, &dst) && holds(encoder, field(&mut row)))
+    let answer = encoder.encode_from_utf8_raw(text, part, last);
+    is_wanted(wanted, answer, &dst) && holds(encoder, held)
 }
 
 fn text_row_holds(alloc: Global, row: &str, last: bool) -> Result<bool, Fail> {
     let mut row = row;
-    let mut encoder = encoder_at(field(&mut row));
+    let before = field(&mut row);
     let text = field(&mut row);
     let room = number_of(field(&mut row))?;
     let wanted = wanted_of(alloc, &mut row)?;
-    let mut dst = [0x71; 8];
-    let Some(part) = dst.get_mut(..room) else {
-        return Ok(false);
-    };
-    let answer = encoder.encode_from_utf8_raw(text, part, last);
-    Ok(is_wanted(&wanted, answer, &dst) && holds(encoder, field(&mut row)))
+    Ok(text_is(
+        encoder_at(before),
+        text,
+        last,
+        room,
+        &wanted,
+        field(&mut row),
+    ))
 }
 
 fn row_holds(alloc: Global, row: &str) -> Result<bool, Fail> {

@@ -62,84 +62,75 @@ fn tails(rt: HostRuntime) -> Result<(), Fail> {
     Ok(())
 }
 
-/// Sources by their characters: the units of one, and its UTF-8. There are characters of each length, cut pairs, and
-/// pairs at the end.
+/// Sources and their UTF-8. There are characters of each length, cut pairs, and pairs at the end.
 const SOURCES: &str = "\
 |
-0062: 62
-00E4: C3 A4 | 2603: E2 98 83 | D83D DCA9: F0 9F 92 A9 | 0062: 62
-D83D DCA9: F0 9F 92 A9
-D83D: EF BF BD | D83D DCA9: F0 9F 92 A9 | DCA9: EF BF BD
-2603: E2 98 83 | 2603: E2 98 83 | 2603: E2 98 83 | D83D: EF BF BD
-DCA9: EF BF BD | 0061: 61 | 0061: 61 | 0061: 61 | 0061: 61
-0061: 61 | 0062: 62 | 0063: 63 | 0064: 64 | 0065: 65 | 0066: 66 | 0067: 67 | 0068: 68 | 0069: 69 | 006A: 6A | \
-006B: 6B | 006C: 6C | 006D: 6D | 006E: 6E | 006F: 6F | 0070: 70 | 0071: 71 | 0072: 72 | 0073: 73 | 0074: 74 | \
-0075: 75 | D83D DCA9: F0 9F 92 A9 | 0076: 76 | 2603: E2 98 83 | 0077: 77 | 00B6: C2 B6 | 0078: 78 | 0079: 79 | \
-007A: 7A | 007A: 7A";
+0062 | 62
+00E4 2603 D83D DCA9 0062 | C3 A4 E2 98 83 F0 9F 92 A9 62
+D83D DCA9 | F0 9F 92 A9
+D83D D83D DCA9 DCA9 | EF BF BD F0 9F 92 A9 EF BF BD
+2603 2603 2603 D83D | E2 98 83 E2 98 83 E2 98 83 EF BF BD
+DCA9 0061 0061 0061 0061 | EF BF BD 61 61 61 61
+0061 0062 0063 0064 0065 0066 0067 0068 0069 006A 006B 006C 006D 006E 006F 0070 0071 0072 0073 0074 0075 \
+D83D DCA9 0076 2603 0077 00B6 0078 0079 007A 007A | \
+61 62 63 64 65 66 67 68 69 6A 6B 6C 6D 6E 6F 70 71 72 73 74 75 F0 9F 92 A9 76 E2 98 83 77 C2 B6 78 79 7A 7A";
 
-/// A source, its UTF-8, and how many units and bytes each of its fronts of whole characters has.
-#[derive(Drop)]
-struct Source {
-    units: Vec<u16>,
-    bytes: Vec<u8>,
-    fronts: Vec<(usize, usize)>,
+/// Returns how many units the character takes that begins with the first of two, and how many bytes in UTF-8.
+fn lengths_of(unit: u16, next: Option<&u16>) -> (usize, usize) {
+    match (unit, next) {
+        (0..=0x7F, _) => (1, 1),
+        (0x80..=0x7FF, _) => (1, 2),
+        (0xD800..=0xDBFF, Some(0xDC00..=0xDFFF)) => (2, 4),
+        _ => (1, 3),
+    }
 }
 
-fn source_of(alloc: Global, row: &str) -> Result<Source, Fail> {
-    let mut source = Source {
-        units: Vec::new(alloc),
-        bytes: Vec::new(alloc),
-        fronts: Vec::new(alloc),
-    };
-    source.fronts.push((0, 0))?;
-    for character in row.split('|') {
-        push_character(&mut source, character)?;
+/// Whether so many units are a front of whole characters, and so many bytes its UTF-8.
+fn is_front(units: &[u16], read: usize, written: usize) -> bool {
+    let (mut end, mut length) = (0usize, 0usize);
+    for at in 0..read.min(units.len()) {
+        if at == end {
+            let (more, bytes) = lengths_of(units[at], units.get(at + 1));
+            end = end.saturating_add(more);
+            length = length.saturating_add(bytes);
+        }
     }
-    Ok(source)
-}
-
-/// Puts the character that a field names behind a source.
-fn push_character(source: &mut Source, character: &str) -> Result<(), Fail> {
-    let Some((units, bytes)) = character.split_once(':') else {
-        return Ok(());
-    };
-    for word in units.split_whitespace() {
-        source.units.push(u16::from_str_radix(word, 16)?)?;
-    }
-    for word in bytes.split_whitespace() {
-        source.bytes.push(u8::from_str_radix(word, 16)?)?;
-    }
-    Ok(
-        source
-            .fronts
-            .push((source.units.len(), source.bytes.len()))?,
-    )
+    end == read && length == written
 }
 
 /// Whether the inner half writes a front of whole characters, and reads all or leaves at most three bytes free. Which
 /// characters it leaves is open.
-fn inner_is_right(source: &Source, room: usize) -> bool {
+fn inner_is_right(units: &[u16], bytes: &[u8], room: usize) -> bool {
     let mut dst = [0x71; 40];
     let Some(part) = dst.get_mut(..room) else {
         return false;
     };
-    let (read, written) = convert_utf16_to_utf8_partial_inner(&source.units, part);
-    let Some(front) = source.bytes.get(..written) else {
+    let (read, written) = convert_utf16_to_utf8_partial_inner(units, part);
+    let Some(front) = bytes.get(..written) else {
         return false;
     };
-    (read == source.units.len() || room <= written.saturating_add(3))
-        && source.fronts.iter().any(|front| *front == (read, written))
+    (read == units.len() || room <= written.saturating_add(3))
+        && is_front(units, read, written)
         && are_written(front, &dst, written)
+}
+
+/// Whether the inner half is right into each room.
+fn inner_row_holds(alloc: Global, row: &str) -> Result<bool, Fail> {
+    let mut row = row;
+    let units = units_of(alloc, field(&mut row))?;
+    let bytes = bytes_of(alloc, field(&mut row))?;
+    let mut holds = is_front(&units, units.len(), bytes.len());
+    for room in 0..=40 {
+        holds = holds && inner_is_right(&units, &bytes, room);
+    }
+    Ok(holds)
 }
 
 #[test]
 fn inner_fills_all_but_three_bytes(rt: HostRuntime) -> Result<(), Fail> {
     let mut count = 0u32;
     for row in SOURCES.lines() {
-        let source = source_of(rt.alloc(), row)?;
-        for room in 0..=40 {
-            assert!(rt; inner_is_right(&source, room), "{row}, {room}");
-        }
+        assert!(rt; inner_row_holds(rt.alloc(), row)?, "{row}");
         count = count.saturating_add(1);
     }
     assert!(rt; count == 8);
