@@ -1,59 +1,11 @@
 //! The decoder's call without a destination: single calls, the three forms mixed, and the vectors, whole and cut.
 
-use crate::decoder_rows;
+use crate::decoder_rows::row_holds;
 use encoding_text::decoder::{Piece, Utf8Decoder};
-use std::alloc::{AllocError, Global};
 use std::test::Fail;
-use test_support::decoder_vectors::{Delivered, Vector, delivered_utf8, scalar_of, vectors};
-use test_support::texts::{bytes_of, field, number_of};
+use test_support::decoder_vectors::{Delivered, delivered_utf8, vectors};
 
-/// Returns the piece that a field names; a text has these bytes.
-fn piece_of<'a>(field: &str, text: &'a [u8]) -> Result<Piece<'a>, Fail> {
-    if field.starts_with("Text") {
-        return Ok(Piece::Text(std::str::from_utf8(text)?));
-    }
-    match field {
-        "InputEmpty" => Ok(Piece::InputEmpty),
-        "Malformed 1" => Ok(Piece::Malformed(1)),
-        "Malformed 2" => Ok(Piece::Malformed(2)),
-        "Malformed 3" => Ok(Piece::Malformed(3)),
-        _ => Ok(Piece::Char(scalar_of(field)?)),
-    }
-}
-
-/// Whether a call returns this piece and reads so many bytes.
-fn call_is(
-    decoder: &mut Utf8Decoder,
-    src: &[u8],
-    last: bool,
-    wanted: Piece<'_>,
-    read: usize,
-) -> bool {
-    let call = decoder.decode_borrowed_raw(src, last);
-    call.0 == wanted && call.1 == read
-}
-
-/// Whether the call of a row returns so.
-fn piece_is(alloc: Global, decoder: &mut Utf8Decoder, row: &str) -> Result<bool, Fail> {
-    let mut row = row;
-    let source = field(&mut row);
-    let last = field(&mut row) == "last";
-    let want = field(&mut row);
-    let read = number_of(field(&mut row))?;
-    let src = bytes_of(alloc, source)?;
-    let text = bytes_of(alloc, want.strip_prefix("Text").unwrap_or(""))?;
-    Ok(call_is(decoder, &src, last, piece_of(want, &text)?, read))
-}
-
-/// Makes the calls of a table one after another; those of other forms are as in the decoder's rows.
-fn row_holds(alloc: Global, decoder: &mut Utf8Decoder, row: &str) -> Result<bool, Fail> {
-    match row.strip_prefix("piece |") {
-        Some(rest) => piece_is(alloc, decoder, rest),
-        None => decoder_rows::row_holds(alloc, decoder, row),
-    }
-}
-
-/// Calls: source, mark, piece, bytes read; and of the other forms, as there.
+/// Calls: source, mark, piece, bytes read; those of the other forms are as in the rows of the decoder.
 const ROWS: &str = "\
 new
 piece | 61 C3 A4 E2 | more | Text 61 C3 A4 | 3
@@ -199,21 +151,16 @@ fn pieces_are(src: &[u8], most: usize, wanted: &Delivered<u8>) -> bool {
     false
 }
 
-/// Whether the pieces of a vector are its parts, whole and cut after each byte, each two and each three.
-fn comes_in_pieces(alloc: Global, vector: &Vector) -> Result<bool, AllocError> {
-    let want = delivered_utf8(alloc, vector)?;
-    Ok(
-        pieces_are(&vector.bytes, 1, &want)
-            && pieces_are(&vector.bytes, 2, &want)
-            && pieces_are(&vector.bytes, 3, &want)
-            && pieces_are(&vector.bytes, 16, &want),
-    )
-}
-
+/// The pieces of a vector are its parts, whole and cut after each byte, each two and each three.
 #[test]
 fn vectors_come_in_pieces(rt: HostRuntime) -> Result<(), Fail> {
     for vector in &vectors(rt.alloc())? {
-        assert!(rt; comes_in_pieces(rt.alloc(), vector)?, "{}", vector.row);
+        let want = delivered_utf8(rt.alloc(), vector)?;
+        let come = pieces_are(&vector.bytes, 1, &want)
+            && pieces_are(&vector.bytes, 2, &want)
+            && pieces_are(&vector.bytes, 3, &want)
+            && pieces_are(&vector.bytes, 16, &want);
+        assert!(rt; come, "{}", vector.row);
     }
     Ok(())
 }

@@ -1,38 +1,46 @@
 //! Single calls of the decoder, and the queries of buffer lengths.
 
-use encoding_text::decoder::{DecoderResult, Utf8Decoder};
+use encoding_text::decoder::{DecoderResult, Piece, Utf8Decoder};
 use std::alloc::Global;
 use std::test::Fail;
+use test_support::decoder_vectors::scalar_of;
 use test_support::texts::{are_units_written, are_written, bytes_of, field, number_of, units_of};
 
-/// A call of a row: the source, the room and whether it is marked last, then the result and how much is read.
+/// A call of a row: the source, the room and whether it is marked last, then the name of the result and how much is
+/// read.
 #[derive(Drop)]
-struct Call {
+struct Call<'a> {
     src: Vec<u8>,
     room: usize,
     last: bool,
-    result: DecoderResult,
+    result: &'a str,
     read: usize,
 }
 
-fn result_of(field: &str) -> Result<DecoderResult, Fail> {
-    match field {
-        "InputEmpty" => Ok(DecoderResult::InputEmpty),
-        "OutputFull" => Ok(DecoderResult::OutputFull),
-        "Malformed 1" => Ok(DecoderResult::Malformed(1, 0)),
-        "Malformed 2" => Ok(DecoderResult::Malformed(2, 0)),
-        "Malformed 3" => Ok(DecoderResult::Malformed(3, 0)),
-        _ => Err(Fail::from("no result")),
+/// Whether a field names this result.
+fn is_result(outcome: &DecoderResult, field: &str) -> bool {
+    match outcome {
+        DecoderResult::InputEmpty => field == "InputEmpty",
+        DecoderResult::OutputFull => field == "OutputFull",
+        DecoderResult::Malformed(1, 0) => field == "Malformed 1",
+        DecoderResult::Malformed(2, 0) => field == "Malformed 2",
+        DecoderResult::Malformed(3, 0) => field == "Malformed 3",
+        DecoderResult::Malformed(..) => false,
     }
 }
 
-fn call_of(alloc: Global, row: &mut &str) -> Result<Call, Fail> {
+fn call_of<'a>(alloc: Global, row: &mut &'a str) -> Result<Call<'a>, Fail> {
+    let source = field(row);
+    let room = number_of(field(row))?;
+    let last = field(row) == "last";
+    let result = field(row);
+    let read = number_of(field(row))?;
     Ok(Call {
-        src: bytes_of(alloc, field(row))?,
-        room: number_of(field(row))?,
-        last: field(row) == "last",
-        result: result_of(field(row))?,
-        read: number_of(field(row))?,
+        src: bytes_of(alloc, source)?,
+        room,
+        last,
+        result,
+        read,
     })
 }
 
@@ -46,7 +54,11 @@ fn to_utf16_is(alloc: Global, decoder: &mut Utf8Decoder, row: &str) -> Result<bo
         return Ok(false);
     };
     let (result, read, written) = decoder.decode_to_utf16_raw(&call.src, room, call.last);
-    Ok(result == call.result && read == call.read && are_units_written(&out, &dst, written))
+    Ok(
+        is_result(&result, call.result)
+            && read == call.read
+            && are_units_written(&out, &dst, written),
+    )
 }
 
 /// The same to UTF-8.
@@ -59,7 +71,7 @@ fn to_utf8_is(alloc: Global, decoder: &mut Utf8Decoder, row: &str) -> Result<boo
         return Ok(false);
     };
     let (result, read, written) = decoder.decode_to_utf8_raw(&call.src, room, call.last);
-    Ok(result == call.result && read == call.read && are_written(&out, &dst, written))
+    Ok(is_result(&result, call.result) && read == call.read && are_written(&out, &dst, written))
 }
 
 /// Whether the queries return so: of the length, the most code units, bytes, and bytes with replacements.
@@ -83,6 +95,34 @@ fn length_of(field: &str) -> Result<Option<usize>, Fail> {
     Ok(Some(number_of(field)?))
 }
 
+/// Returns the piece that a field names; a text has these bytes.
+fn piece_of<'a>(field: &str, text: &'a [u8]) -> Result<Piece<'a>, Fail> {
+    if field.starts_with("Text") {
+        return Ok(Piece::Text(std::str::from_utf8(text)?));
+    }
+    match field {
+        "InputEmpty" => Ok(Piece::InputEmpty),
+        "Malformed 1" => Ok(Piece::Malformed(1)),
+        "Malformed 2" => Ok(Piece::Malformed(2)),
+        "Malformed 3" => Ok(Piece::Malformed(3)),
+        _ => Ok(Piece::Char(scalar_of(field)?)),
+    }
+}
+
+/// Whether the call without a destination returns the piece of a row, and reads so much.
+fn piece_is(alloc: Global, decoder: &mut Utf8Decoder, row: &str) -> Result<bool, Fail> {
+    let mut row = row;
+    let source = field(&mut row);
+    let last = field(&mut row) == "last";
+    let want = field(&mut row);
+    let read = number_of(field(&mut row))?;
+    let src = bytes_of(alloc, source)?;
+    let text = bytes_of(alloc, want.strip_prefix("Text").unwrap_or(""))?;
+    let wanted = piece_of(want, &text)?;
+    let call = decoder.decode_borrowed_raw(&src, last);
+    Ok(call.0 == wanted && call.1 == read)
+}
+
 /// Makes the calls of a table one after another. A row `new` begins a new decoder.
 pub fn row_holds(alloc: Global, decoder: &mut Utf8Decoder, row: &str) -> Result<bool, Fail> {
     let mut rest = row;
@@ -95,6 +135,7 @@ pub fn row_holds(alloc: Global, decoder: &mut Utf8Decoder, row: &str) -> Result<
         "pending" => Ok(!decoder.in_neutral_state()),
         "utf16" => to_utf16_is(alloc, decoder, rest),
         "utf8" => to_utf8_is(alloc, decoder, rest),
+        "piece" => piece_is(alloc, decoder, rest),
         "lengths" => queries_are(decoder, rest),
         _ => Ok(false),
     }

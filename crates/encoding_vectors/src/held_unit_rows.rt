@@ -175,7 +175,7 @@ fn a_pair_cut_between_calls(rt: HostRuntime) {
     assert!(rt; dst == [0xF0, 0x9F, 0x92, 0xA9]);
 }
 
-/// Whether the queries return so: of the length, the most bytes for so many code units, and for a text of so many bytes.
+/// Whether the queries return so: of the length, the most bytes for so many units, and for a text of so many bytes.
 fn queries_are(
     encoder: &Utf8Encoder,
     length: usize,
