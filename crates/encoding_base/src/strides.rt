@@ -118,6 +118,7 @@ fn are_two_blocks_below(bytes: &[u8], at: usize, bound: u8) -> bool
 fn skip_blocks_below(bytes: &[u8], bound: u8) -> usize
     ensures within { result ≤ length bytes.now }
     ensures below { BelowUpTo bound bytes.now result }
+    ensures stops { result + 64 ≤ length bytes.now → AllBelow bound bytes.now result 64 → ⊥ }
 {
     if bytes.len() < BLOCK || !are_bytes_below::<BLOCK>(bytes, 0, bound) {
         return 0;
@@ -150,7 +151,19 @@ pub fn front_below(bytes: &[u8], bound: u8) -> usize
     at
 }
 
-/// The same, quick where that is within the first stride.
+/// Whether each byte is below the bound. The last block may begin before the place to which the others came.
+#[inline(always)]
+pub fn are_all_bytes_below(bytes: &[u8], bound: u8) -> bool
+    ensures { IsTrue result ↔ EachIndex bytes.now (λ k. slice_index bytes.now k < bound) }
+{
+    if bytes.len() < BLOCK {
+        return front_below(bytes, bound) == bytes.len();
+    }
+    let by_blocks = skip_blocks_below(bytes, bound);
+    bytes.len() - by_blocks < BLOCK && are_bytes_below::<BLOCK>(bytes, bytes.len() - BLOCK, bound)
+}
+
+/// How many bytes come before the first that isn't below the bound, quick where that is within the first stride.
 #[inline(always)]
 pub(crate) fn short_front_below(bytes: &[u8], bound: u8) -> usize
     ensures within { result ≤ length bytes.now }

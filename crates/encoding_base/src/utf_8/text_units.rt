@@ -14,7 +14,7 @@ ghost use Rattle.encoding_base.specs.Steps.Strides.{AllBelow};
 ghost use Rattle.encoding_base.specs.Steps.Units.{BeginsThree, PutsKept, PutsText, ends_behind, units_in};
 
 use crate::sequence::{is_continuation, sequence_length};
-use crate::strides::widen_ascii;
+use crate::strides::{copy_front, widen_ascii};
 use crate::utf_8::decoding::{put_utf16, scalar_of_sequence};
 use crate::utf_8::kept_lanes::gather;
 use crate::utf_8::unit_lanes::{code_units, triple_units, unit_ends};
@@ -263,7 +263,7 @@ fn write_tail(src: &[u8], dst: &mut [u16]) -> usize
     ensures { WritesFront dst.old dst.new result (flat_map encode_utf16 (chars src.now)) }
 {
     let mut block = [0; 16];
-    block[..src.len()].copy_from_slice(src);
+    copy_front(src, &mut block);
     let kept = unit_ends(u8x16::from_slice(&block), src.len());
     put_block_alone(&block, src.len(), kept, dst)
 }
@@ -281,7 +281,7 @@ pub fn write_text(src: &[u8], dst: &mut [u16]) -> usize
         read += bytes;
         written += units;
     }
-    if src.len() - read < 4 {
+    if src.len() - read < 8 {
         return written + write_few(&src[read..], &mut dst[written..]);
     }
     written + write_tail(&src[read..], &mut dst[written..])

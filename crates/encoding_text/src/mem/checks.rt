@@ -6,9 +6,11 @@ ghost use Rattle.encoding_base.specs.Fronts.{IsLongestFront};
 ghost use Rattle.encoding_base.specs.Latin1.{IsLatin1, IsUtf8Latin1};
 
 use super::pair_blocks::latin1_front;
-use encoding_base::ascii;
 use encoding_base::sequence::is_continuation;
-use encoding_base::strides::{are_all_below, front_below};
+use encoding_base::strides::{are_all_below, are_all_bytes_below, front_below};
+
+/// The least byte that isn't ASCII.
+const ASCII_END: u8 = 0x80;
 
 /// The least UTF-16 code unit that isn't ASCII.
 const BASIC_LATIN_END: u16 = 0x80;
@@ -26,7 +28,7 @@ const BEYOND_LATIN1: u8 = 0xC4;
 pub fn is_ascii(buffer: &[u8]) -> bool
     ensures { IsTrue result ↔ IsAscii buffer.now }
 {
-    ascii::validate_ascii(buffer).is_none()
+    are_all_bytes_below(buffer, ASCII_END)
 }
 
 /// Whether each UTF-16 code unit is ASCII.

@@ -5,25 +5,19 @@ use Rattle.std.proofs.lemmas.Str.{IsUtf8-append, IsCharBoundary-at_seam}
 use Rattle.encoding_base.proofs.LongestFronts.TextTailLemmas.{puts_whole, zeros_text}
 use Rattle.encoding_base.proofs.utf_8.text_units.write_tail.Goals as goal
 
--- the text, and zeros behind it
-abbrev block_of : List ℕ → ℕ → List ℕ
-block_of text n = text ++ drop n (replicate 16 0)
-
 pub put_block_alone-requires-clause-text : goal.put_block_alone-requires-clause-text
 put_block_alone-requires-clause-text c =
-    let n = length c.args.src.now in
-    subst (λ bs. IsUtf8 (block_of bs n)) (sym c.copy_from_slice.ensures.after) (IsUtf8-append _ _ c.requires.text (zeros_text n 16))
+    subst IsUtf8 (sym c.copy_front.ensures.placed) (IsUtf8-append _ _ c.requires.text (zeros_text (length c.args.src.now) 16))
 
 pub put_block_alone-requires-clause-end : goal.put_block_alone-requires-clause-end
 put_block_alone-requires-clause-end c =
     let n = length c.args.src.now in (
       c.requires.room.0,
-      subst (λ bs. IsCharBoundary (block_of bs n) n) (sym c.copy_from_slice.ensures.after) (IsCharBoundary-at_seam _ c.args.src.now _ refl (zeros_text n 16)),
+      subst (λ block. IsCharBoundary block n) (sym c.copy_front.ensures.placed) (IsCharBoundary-at_seam _ c.args.src.now _ refl (zeros_text n 16)),
     )
 
 pub returns : goal.returns
 returns c =
     let n = length c.args.src.now in
-    let front : take n (block_of c.copy_from_slice.new.self n) ≡ c.args.src.now =
-    subst (λ bs. take n (block_of bs n) ≡ c.args.src.now) (sym c.copy_from_slice.ensures.after) (take_at c.args.src.now (drop n (replicate 16 0)) n refl) in
+    let front = subst (λ block. take n block ≡ c.args.src.now) (sym c.copy_front.ensures.placed) (take_at c.args.src.now (drop n (replicate 16 0)) n refl) in
     puts_whole c.args.src.now _ c.args.dst.now _ n _ c.requires.text front c.requires.room.1 c.put_block_alone.ensures

@@ -9,8 +9,8 @@ loop-read-preserved c =
     let puts = rw (take_rest c.args.src.now c.loop-read.read) at c.put_some-bytes.ensures.written in
     putting_more c.args.src.now c.args.dst.now c.loop-read.dst c.put_some-bytes.new.dst c.loop-read.read c.loop-read.written _ _ (omega arith) done puts
 
-pub returns-then-src-read-lt4 : goal.returns-then-src-read-lt4
-returns-then-src-read-lt4 c =
+pub returns-then-src-read-lt8 : goal.returns-then-src-read-lt8
+returns-then-src-read-lt8 c =
     let rest = rw (take_rest c.args.src.now c.loop-read.read) at c.write_few.ensures in
     putting_rest c.args.src.now c.args.dst.now c.loop-read.dst c.write_few.new.dst c.loop-read.read c.loop-read.written _ c.requires.text c.requires.room (omega arith) c.loop-read.invariant rest
 
