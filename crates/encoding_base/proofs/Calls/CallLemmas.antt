@@ -32,11 +32,6 @@ begins_nothing : (b : ℕ) (rest : List ℕ) → BeginsWithNoCharacter (b ∷ re
 begins_nothing b rest none n (inl s) = none (b ∷ []) rest refl s
 begins_nothing b rest none n (inr o) = n o
 
-pub lone_before : (r : List ℕ) (last : Bool) → 0 < length r → BeginsWithNoCharacter r → (IsBeginning (slice_index r 0 ∷ []) → ⊥) → IsBroken (take 1 r) (drop 1 r) last
-lone_before r last h none n =
-    let whole : r ≡ slice_index r 0 ∷ drop 1 r = drop_more r 0 0 h in
-    subst (λ xs. IsBroken xs (drop 1 r) last) (sym (take_one r h)) (broken_lone (slice_index r 0) (drop 1 r) last (begins_nothing (slice_index r 0) (drop 1 r) (subst BeginsWithNoCharacter whole none) n))
-
 pub begins_before : (r : List ℕ) → 0 < length r → IsBeginning (slice_index r 0 ∷ []) → IsBeginning (take 1 r)
 begins_before r h o = subst IsBeginning (sym (take_one r h)) o
 

@@ -92,7 +92,3 @@ WritesFront_block old new after xs n m w l k put =
 -- so many more units are below 0x80
 pub below_block : (xs : List ℕ) (n m : ℕ) → BelowUpTo 0x80 xs n → AllBelow 0x80 xs n m → BelowUpTo 0x80 xs (n + m)
 below_block xs n m h p k l = elim (cases_lt k n) [ inl q ↦ h k q | inr q ↦ p k q l ]
-
--- one more unit is below 0x80
-pub below_more : (xs : List ℕ) (n : ℕ) → ((k : ℕ) → k < n → slice_index xs k < 0x80) → slice_index xs n < 0x80 → (k : ℕ) → k < n + 1 → slice_index xs k < 0x80
-below_more xs n h p k l = elim (cases_lt k n) [ inl q ↦ h k q | inr q ↦ let e : k ≡ n = omega arith in rw e p ]

@@ -116,10 +116,6 @@ reaches src old new n k reach most l p =
       behind = past new ∙ ap (drop (most - reach)) p.behind ∙ sym (past old);
     }
 
--- nothing is read
-pub puts_none : (src old : List ℕ) (reach : ℕ) → IsUtf8 src → PutsText src old old 0 0 reach
-puts_none src old reach u = record { taken = []; are_scalars = refl; within = omega arith; spelled = refl; rest = u; counted = refl; placed = refl; behind = refl }
-
 -- eight places are due behind all but the later code units
 pub due_block : (src old new : List ℕ) (n k later : ℕ) → IsUtf8 src → 8 ≤ later + (length src - n) / 3 → PutsText src old new n k (k + 8 - later) → PutsText src old new n k (units_in src)
 due_block src old new n k later u l p =
