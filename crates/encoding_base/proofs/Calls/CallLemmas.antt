@@ -1,7 +1,7 @@
 -- How a call ends: with the source, with a broken part, or for want of room.
 use Rattle.std.proofs.Common.{◌≡◌, ◌≢◌, ℕ, ◌+◌, ◌<◌, ◌≤◌, inl, inr, Bool, true, List, [], ◌∷◌, ◌++◌, length, take, drop, slice_index, refl, sym, ap, ◌∙◌, arith, subst, take-add}
 use Rattle.std.proofs.lemmas.Bool.{cases_Bool}
-use Rattle.std.proofs.lemmas.List.{length-append, length-drop, length-take, take-append-drop, drop-drop, take_all, drop_all, drop_more, take_more}
+use Rattle.std.proofs.lemmas.List.{length-append, length-drop, length-take, take-append-drop, drop-drop, take_all, drop_all, take_more}
 use Rattle.encoding_base.specs.Sequence.{IsSequence, IsBeginning, BeginsNothing}
 use Rattle.encoding_base.specs.Parts.{BeginsWithNoCharacter}
 use Rattle.encoding_base.specs.Steps.Resuming.{IsStuck, Resumes}
@@ -27,10 +27,6 @@ broken_open x rest last e o l = subst (λ xs. IsBroken x xs last) (sym e) (inr (
 -- ---- before the first byte that no character takes
 pub take_one : (r : List ℕ) → 0 < length r → take 1 r ≡ slice_index r 0 ∷ []
 take_one r h = take_more r 0 0 h
-
-begins_nothing : (b : ℕ) (rest : List ℕ) → BeginsWithNoCharacter (b ∷ rest) → (IsBeginning (b ∷ []) → ⊥) → BeginsNothing b
-begins_nothing b rest none n (inl s) = none (b ∷ []) rest refl s
-begins_nothing b rest none n (inr o) = n o
 
 pub begins_before : (r : List ℕ) → 0 < length r → IsBeginning (slice_index r 0 ∷ []) → IsBeginning (take 1 r)
 begins_before r h o = subst IsBeginning (sym (take_one r h)) o
