@@ -1,5 +1,5 @@
-//! Well-formed UTF-8, sixteen bytes at a time: Keiser and Lemire, "Validating UTF-8 In Less Than One Instruction
-//! Per Byte", with the bytes before by loads of their own, so that a block carries no state.
+//! Well-formed UTF-8, by blocks of 64 and of sixteen bytes: Keiser and Lemire, "Validating UTF-8 In Less Than One
+//! Instruction Per Byte", with the bytes before by loads of their own, so that a block carries no state.
 ghost use Rattle.std.specs.Prelude.{◌≡◌, ℕ, ◌+◌, ◌<◌, ◌≤◌, ◌↔◌, length, take, slice_index, IsTrue};
 ghost use Rattle.std.specs.Str.{IsUtf8};
 ghost use Rattle.encoding_base.specs.Steps.Following.{IsZeroTo, FollowTo, Follows, FollowsAt};
