@@ -10,3 +10,4 @@ pub mod LongLemmas
 pub mod EndsLemmas
 pub mod HalvesLemmas
 pub mod UnitBytesLemmas
+pub mod ZerosLemmas

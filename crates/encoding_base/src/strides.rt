@@ -160,6 +160,9 @@ pub fn are_all_bytes_below(bytes: &[u8], bound: u8) -> bool
         return front_below(bytes, bound) == bytes.len();
     }
     let by_blocks = skip_blocks_below(bytes, bound);
+    if by_blocks == bytes.len() {
+        return true;
+    }
     bytes.len() - by_blocks < BLOCK && are_bytes_below::<BLOCK>(bytes, bytes.len() - BLOCK, bound)
 }
 

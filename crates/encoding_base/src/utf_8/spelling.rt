@@ -8,7 +8,7 @@ use crate::utf_8::kept_bytes::places_by;
 use std::simd::prelude::*;
 
 /// The places of the bytes of a vector.
-const LANES: [u8; 16] = [0, 1, 2, 3, 4, 5, 6, 7, 8, 9, 10, 11, 12, 13, 14, 15];
+pub(super) const LANES: [u8; 16] = [0, 1, 2, 3, 4, 5, 6, 7, 8, 9, 10, 11, 12, 13, 14, 15];
 
 /// Eight code units in two bytes each: the UTF-8 of each, and no matter what behind that of one byte.
 #[inline(always)]

@@ -14,9 +14,10 @@ ghost use Rattle.encoding_base.specs.Steps.Strides.{AllBelow};
 ghost use Rattle.encoding_base.specs.Steps.Units.{BeginsThree, PutsKept, PutsText, ends_behind, units_in};
 
 use crate::sequence::{is_continuation, sequence_length};
-use crate::strides::{copy_front, widen_ascii};
+use crate::strides::widen_ascii;
 use crate::utf_8::decoding::{put_utf16, scalar_of_sequence};
 use crate::utf_8::kept_lanes::gather;
+use crate::utf_8::spelling::LANES as BYTE_LANES;
 use crate::utf_8::unit_lanes::{code_units, triple_units, unit_ends};
 use std::simd::Simd;
 use std::simd::prelude::*;
@@ -254,16 +255,33 @@ fn write_few(src: &[u8], dst: &mut [u16]) -> usize
     written
 }
 
-/// Writes the UTF-16 of a text of at most sixteen bytes, and returns how many code units these are. Behind what is
+/// The bytes of a text of eight to sixteen, and zeros behind them: its first eight, and of its last eight those behind
+/// these. By loads alone, since a load of what two stores left would wait for both.
+#[inline(always)]
+fn with_zeros(src: &[u8]) -> u8x16
+    requires { (8 ≤ length src.now) × (length src.now ≤ 16) }
+    ensures { result ≡ src.now ++ drop (length src.now) (replicate 16 0) }
+{
+    let lanes = u8x16::from_array(BYTE_LANES);
+    let count = u8x16::splat(src.len() as u8);
+    let first = u8x8::from_slice(src);
+    let last = u8x8::from_slice(&src[src.len() - 8..]);
+    let both = first.shuffle(last, [0, 1, 2, 3, 4, 5, 6, 7, 8, 9, 10, 11, 12, 13, 14, 15]);
+    let behind = (lanes + (u8x16::splat(16) - count)) & u8x16::splat(15);
+    let places = lanes.simd_lt(u8x16::splat(8)).select(lanes, behind);
+    let bytes = both.swizzle_dyn(places);
+    lanes.simd_lt(count).select(bytes, u8x16::splat(0))
+}
+
+/// Writes the UTF-16 of a text of eight to sixteen bytes, and returns how many code units these are. Behind what is
 /// written `dst` is as before.
 #[inline(never)]
 fn write_tail(src: &[u8], dst: &mut [u16]) -> usize
-    requires room { (length src.now ≤ 16) × (length src.now ≤ length dst.old) }
+    requires room { (8 ≤ length src.now) × (length src.now ≤ 16) × (length src.now ≤ length dst.old) }
     requires text { IsUtf8 src.now }
     ensures { WritesFront dst.old dst.new result (flat_map encode_utf16 (chars src.now)) }
 {
-    let mut block = [0; 16];
-    copy_front(src, &mut block);
+    let block = with_zeros(src).to_array();
     let kept = unit_ends(u8x16::from_slice(&block), src.len());
     put_block_alone(&block, src.len(), kept, dst)
 }

@@ -7,17 +7,17 @@ use Rattle.encoding_base.proofs.utf_8.text_units.write_tail.Goals as goal
 
 pub put_block_alone-requires-clause-text : goal.put_block_alone-requires-clause-text
 put_block_alone-requires-clause-text c =
-    subst IsUtf8 (sym c.copy_front.ensures.placed) (IsUtf8-append _ _ c.requires.text (zeros_text (length c.args.src.now) 16))
+    subst IsUtf8 (sym c.with_zeros.ensures) (IsUtf8-append _ _ c.requires.text (zeros_text (length c.args.src.now) 16))
 
 pub put_block_alone-requires-clause-end : goal.put_block_alone-requires-clause-end
 put_block_alone-requires-clause-end c =
     let n = length c.args.src.now in (
-      c.requires.room.0,
-      subst (λ block. IsCharBoundary block n) (sym c.copy_front.ensures.placed) (IsCharBoundary-at_seam _ c.args.src.now _ refl (zeros_text n 16)),
+      c.requires.room.1,
+      subst (λ block. IsCharBoundary block n) (sym c.with_zeros.ensures) (IsCharBoundary-at_seam _ c.args.src.now _ refl (zeros_text n 16)),
     )
 
 pub returns : goal.returns
 returns c =
     let n = length c.args.src.now in
-    let front = subst (λ block. take n block ≡ c.args.src.now) (sym c.copy_front.ensures.placed) (take_at c.args.src.now (drop n (replicate 16 0)) n refl) in
-    puts_whole c.args.src.now _ c.args.dst.now _ n _ c.requires.text front c.requires.room.1 c.put_block_alone.ensures
+    let front = subst (λ block. take n block ≡ c.args.src.now) (sym c.with_zeros.ensures) (take_at c.args.src.now (drop n (replicate 16 0)) n refl) in
+    puts_whole c.args.src.now _ c.args.dst.now _ n _ c.requires.text front c.requires.room.2 c.put_block_alone.ensures
