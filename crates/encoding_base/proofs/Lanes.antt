@@ -1,3 +1,4 @@
+pub mod ChunksLemmas
 pub mod StridesLemmas
 pub mod LaneLemmas
 pub mod TestLemmas

@@ -5,4 +5,3 @@ pub mod ConvertingLemmas
 pub mod TextUnitsLemmas
 pub mod TextTailLemmas
 pub mod TextLoopLemmas
-pub mod OverlapLemmas

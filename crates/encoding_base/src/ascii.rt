@@ -67,8 +67,7 @@ pub fn ascii_to_ascii(src: &[u8], dst: &mut [u8]) -> Option<(u8, usize)>
 {
     let by_blocks = copy_ascii::<64>(src, dst, 0);
     let by_strides = copy_ascii::<16>(src, dst, by_blocks);
-    let by_fours = copy_ascii::<4>(src, dst, by_strides);
-    let front = copy_ascii::<1>(src, dst, by_fours);
+    let front = copy_ascii::<1>(src, dst, by_strides);
     if front < src.len() && front < dst.len() {
         Some((src[front], front))
     } else {
@@ -85,8 +84,7 @@ pub fn ascii_to_basic_latin(src: &[u8], dst: &mut [u16]) -> Option<(u8, usize)>
 {
     let by_blocks = widen_ascii::<64>(src, dst, 0);
     let by_strides = widen_ascii::<16>(src, dst, by_blocks);
-    let by_fours = widen_ascii::<4>(src, dst, by_strides);
-    let front = widen_ascii::<1>(src, dst, by_fours);
+    let front = widen_ascii::<1>(src, dst, by_strides);
     if front < src.len() && front < dst.len() {
         Some((src[front], front))
     } else {
@@ -103,8 +101,7 @@ pub fn basic_latin_to_ascii(src: &[u16], dst: &mut [u8]) -> Option<(u16, usize)>
 {
     let by_blocks = narrow_ascii::<32>(src, dst, 0);
     let by_strides = narrow_ascii::<16>(src, dst, by_blocks);
-    let by_fours = narrow_ascii::<4>(src, dst, by_strides);
-    let front = narrow_ascii::<1>(src, dst, by_fours);
+    let front = narrow_ascii::<1>(src, dst, by_strides);
     if front < src.len() && front < dst.len() {
         Some((src[front], front))
     } else {

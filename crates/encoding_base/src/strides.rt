@@ -10,14 +10,20 @@ use std::simd::prelude::*;
 /// The bytes that one test covers.
 const BLOCK: usize = 64;
 
+/// The bytes of two blocks.
+const TWO_BLOCKS: usize = 128;
+
 /// The bytes among which one test finds a place.
 const STRIDE: usize = 16;
 
 /// The bytes of a text shorter than a stride that one test covers.
 const HALF_STRIDE: usize = 8;
 
-/// The most bytes that are copied by strides.
-const MOST_STRIDES: usize = 256;
+/// The UTF-16 code units that one test covers.
+const UNIT_BLOCK: usize = 32;
+
+/// The UTF-16 code units of a text shorter than a block that one test covers.
+const UNIT_STRIDE: usize = 8;
 
 /// The least byte that isn't ASCII.
 pub(crate) const ASCII_END: u8 = 0x80;
@@ -69,8 +75,12 @@ pub(crate) fn skip_bytes_below<const N: usize>(bytes: &[u8], from: usize, bound:
     ensures below { BelowBetween bound bytes.now from result }
     ensures stops { result + N ≤ length bytes.now → AllBelow bound bytes.now result N → ⊥ }
 {
+    let (strides, _) = bytes[from..].as_chunks::<N>();
     let mut at = from;
-    while bytes.len() - at >= N && are_bytes_below::<N>(bytes, at, bound) {
+    for stride in strides {
+        if !are_bytes_below::<N>(stride, 0, bound) {
+            return at;
+        }
         at += N;
     }
     at
@@ -86,9 +96,10 @@ fn front_by_strides<const N: usize>(bytes: &[u8], from: usize, bound: u8) -> usi
     ensures below { BelowUpTo bound bytes.now result }
     ensures stops { result < length bytes.now → bound ≤ slice_index bytes.now result }
 {
+    let (strides, _) = bytes[from..].as_chunks::<N>();
     let mut at = from;
-    while bytes.len() - at >= N {
-        let run = run_below::<N>(bytes, at, bound);
+    for stride in strides {
+        let run = run_below::<N>(stride, 0, bound);
         if run < N {
             return at + run;
         }
@@ -112,35 +123,53 @@ fn are_two_blocks_below(bytes: &[u8], at: usize, bound: u8) -> bool
     !(first | second).any()
 }
 
-/// Goes by blocks from the beginning on while their bytes are below the bound, and returns where that ends: behind the
-/// first by two at a time, since it is the first that most often has another byte.
+/// Goes by blocks from the beginning on while their bytes are below the bound, and returns where that ends: by two at
+/// a time as long as both are.
 #[inline(always)]
 fn skip_blocks_below(bytes: &[u8], bound: u8) -> usize
     ensures within { result ≤ length bytes.now }
     ensures below { BelowUpTo bound bytes.now result }
     ensures stops { result + 64 ≤ length bytes.now → AllBelow bound bytes.now result 64 → ⊥ }
 {
-    if bytes.len() < BLOCK || !are_bytes_below::<BLOCK>(bytes, 0, bound) {
-        return 0;
-    }
-    let mut at = BLOCK;
-    while bytes.len() - at >= 2 * BLOCK && are_two_blocks_below(bytes, at, bound) {
-        at += 2 * BLOCK;
+    let (pairs, _) = bytes.as_chunks::<TWO_BLOCKS>();
+    let mut at = 0;
+    for pair in pairs {
+        if !are_two_blocks_below(pair, 0, bound) {
+            break;
+        }
+        at += TWO_BLOCKS;
     }
     skip_bytes_below::<BLOCK>(bytes, at, bound)
 }
 
-/// How many bytes come before the first that isn't below the bound.
+/// How many bytes come before the first that isn't below the bound. That this is among the first ones is seen first.
 #[inline(always)]
 pub fn front_below(bytes: &[u8], bound: u8) -> usize
     ensures within { result ≤ length bytes.now }
     ensures below { BelowUpTo bound bytes.now result }
     ensures stops { result < length bytes.now → bound ≤ slice_index bytes.now result }
 {
-    if bytes.len() >= STRIDE {
-        let by_blocks = skip_blocks_below(bytes, bound);
-        return front_by_strides::<STRIDE>(bytes, by_blocks, bound);
+    if bytes.len() < STRIDE {
+        return short_front_below(bytes, bound);
     }
+    let run = run_below::<STRIDE>(bytes, 0, bound);
+    if run < STRIDE {
+        return run;
+    }
+    if bytes.len() < BLOCK {
+        return front_by_strides::<STRIDE>(bytes, STRIDE, bound);
+    }
+    let by_blocks = skip_blocks_below(bytes, bound);
+    front_by_strides::<BLOCK>(bytes, by_blocks, bound)
+}
+
+/// How many bytes of a short text come before the first that isn't below the bound.
+#[inline(always)]
+fn short_front_below(bytes: &[u8], bound: u8) -> usize
+    ensures within { result ≤ length bytes.now }
+    ensures below { BelowUpTo bound bytes.now result }
+    ensures stops { result < length bytes.now → bound ≤ slice_index bytes.now result }
+{
     if bytes.len() >= HALF_STRIDE {
         return front_by_strides::<HALF_STRIDE>(bytes, 0, bound);
     }
@@ -151,35 +180,35 @@ pub fn front_below(bytes: &[u8], bound: u8) -> usize
     at
 }
 
-/// Whether each byte is below the bound. The last block may begin before the place to which the others came.
+/// Whether each byte is below the bound, where the first ones are gone over already. The last N may begin before these
+/// end.
+#[inline(always)]
+fn are_last_bytes_below<const N: usize>(bytes: &[u8], from: usize, bound: u8) -> bool
+    requires room { (N ≤ length bytes.now) × (0 < N) × (N ≤ 64) }
+    requires from { (from ≤ length bytes.now) × BelowUpTo bound bytes.now from }
+    requires stops { from + N ≤ length bytes.now → AllBelow bound bytes.now from N → ⊥ }
+    ensures { IsTrue result ↔ EachIndex bytes.now (λ k. slice_index bytes.now k < bound) }
+{
+    if from == bytes.len() {
+        return true;
+    }
+    bytes.len() - from < N && are_bytes_below::<N>(bytes, bytes.len() - N, bound)
+}
+
+/// Whether each byte is below the bound.
 #[inline(always)]
 pub fn are_all_bytes_below(bytes: &[u8], bound: u8) -> bool
     ensures { IsTrue result ↔ EachIndex bytes.now (λ k. slice_index bytes.now k < bound) }
 {
+    if bytes.len() < STRIDE {
+        return short_front_below(bytes, bound) == bytes.len();
+    }
     if bytes.len() < BLOCK {
-        return front_below(bytes, bound) == bytes.len();
+        let by_strides = skip_bytes_below::<STRIDE>(bytes, 0, bound);
+        return are_last_bytes_below::<STRIDE>(bytes, by_strides, bound);
     }
     let by_blocks = skip_blocks_below(bytes, bound);
-    if by_blocks == bytes.len() {
-        return true;
-    }
-    bytes.len() - by_blocks < BLOCK && are_bytes_below::<BLOCK>(bytes, bytes.len() - BLOCK, bound)
-}
-
-/// How many bytes come before the first that isn't below the bound, quick where that is within the first stride.
-#[inline(always)]
-pub(crate) fn short_front_below(bytes: &[u8], bound: u8) -> usize
-    ensures within { result ≤ length bytes.now }
-    ensures below { BelowUpTo bound bytes.now result }
-    ensures stops { result < length bytes.now → bound ≤ slice_index bytes.now result }
-{
-    if bytes.len() >= STRIDE {
-        let run = run_below::<STRIDE>(bytes, 0, bound);
-        if run < STRIDE {
-            return run;
-        }
-    }
-    front_below(bytes, bound)
+    are_last_bytes_below::<BLOCK>(bytes, by_blocks, bound)
 }
 
 /// Goes from a place on by N UTF-16 code units at a time while they are below the bound, and returns where that ends.
@@ -190,11 +219,28 @@ pub fn skip_units_below<const N: usize>(units: &[u16], from: usize, bound: u16) 
     ensures below { BelowUpTo bound units.now from → BelowUpTo bound units.now result }
     ensures stops { result + N ≤ length units.now → AllBelow bound units.now result N → ⊥ }
 {
+    let (strides, _) = units[from..].as_chunks::<N>();
     let mut at = from;
-    while units.len() - at >= N && are_units_below::<N>(units, at, bound) {
+    for stride in strides {
+        if !are_units_below::<N>(stride, 0, bound) {
+            return at;
+        }
         at += N;
     }
     at
+}
+
+/// Whether each UTF-16 code unit is below the bound, by N of them at a time. The last N may begin before the others end.
+#[inline(always)]
+fn are_all_below_by<const N: usize>(units: &[u16], bound: u16) -> bool
+    requires { (N ≤ length units.now) × (0 < N) × (N ≤ 64) }
+    ensures { IsTrue result ↔ EachIndex units.now (λ k. slice_index units.now k < bound) }
+{
+    let at = skip_units_below::<N>(units, 0, bound);
+    if at == units.len() {
+        return true;
+    }
+    units.len() - at < N && are_units_below::<N>(units, units.len() - N, bound)
 }
 
 /// Whether each UTF-16 code unit is below the bound.
@@ -202,74 +248,43 @@ pub fn skip_units_below<const N: usize>(units: &[u16], from: usize, bound: u16) 
 pub fn are_all_below(units: &[u16], bound: u16) -> bool
     ensures { IsTrue result ↔ EachIndex units.now (λ k. slice_index units.now k < bound) }
 {
-    let by_blocks = skip_units_below::<32>(units, 0, bound);
-    let by_strides = skip_units_below::<8>(units, by_blocks, bound);
-    skip_units_below::<1>(units, by_strides, bound) == units.len()
-}
-
-/// Writes the N bytes from a place on to the same place.
-#[inline(always)]
-fn copy<const N: usize>(src: &[u8], dst: &mut [u8], at: usize)
-    requires { (at + N ≤ length src.now) × (at + N ≤ length dst.old) }
-    ensures { dst.new ≡ take at dst.old ++ (take N (drop at src.now) ++ drop (at + N) dst.old) }
-{
-    Simd::<u8, N>::from_slice(&src[at..]).copy_to_slice(&mut dst[at..]);
-}
-
-/// Writes the bytes at the front, N at a time. The last stride may begin before the one before it ends.
-#[inline(always)]
-fn copy_by_strides<const N: usize>(src: &[u8], dst: &mut [u8])
-    requires { (0 < N) × (N ≤ 64) × (N ≤ length src.now) × (length src.now ≤ length dst.old) }
-    ensures { WritesFront dst.old dst.new (length src.now) src.now }
-{
-    let mut front = 0;
-    while src.len() - front > N {
-        copy::<N>(src, dst, front);
-        front += N;
-    }
-    copy::<N>(src, dst, src.len() - N);
-}
-
-/// Writes the bytes at the front. Few are not worth a call of the C library.
-#[inline]
-pub(crate) fn copy_front(src: &[u8], dst: &mut [u8])
-    requires { length src.now ≤ length dst.old }
-    ensures { WritesFront dst.old dst.new (length src.now) src.now }
-{
-    if src.len() > MOST_STRIDES {
-        dst[..src.len()].copy_from_slice(src);
-    } else if src.len() >= STRIDE {
-        copy_by_strides::<STRIDE>(src, dst);
-    } else if src.len() >= HALF_STRIDE {
-        copy_by_strides::<HALF_STRIDE>(src, dst);
-    } else if src.len() >= 4 {
-        copy_by_strides::<4>(src, dst);
-    } else if src.len() >= 2 {
-        copy_by_strides::<2>(src, dst);
-    } else if !src.is_empty() {
-        dst[0] = src[0];
+    if units.len() >= UNIT_BLOCK {
+        are_all_below_by::<UNIT_BLOCK>(units, bound)
+    } else if units.len() >= UNIT_STRIDE {
+        are_all_below_by::<UNIT_STRIDE>(units, bound)
+    } else {
+        skip_units_below::<1>(units, 0, bound) == units.len()
     }
 }
 
-/// Writes the N bytes from a place on to the same place, each as a UTF-16 code unit.
+/// Writes a stride of bytes to a place.
 #[inline(always)]
-fn widen<const N: usize>(src: &[u8], dst: &mut [u16], at: usize)
-    requires { (at + N ≤ length src.now) × (at + N ≤ length dst.old) }
-    ensures { dst.new ≡ take at dst.old ++ (take N (drop at src.now) ++ drop (at + N) dst.old) }
+fn copy<const N: usize>(stride: &[u8; N], dst: &mut [u8], at: usize)
+    requires { at + N ≤ length dst.old }
+    ensures { dst.new ≡ take at dst.old ++ (stride.now ++ drop (at + N) dst.old) }
 {
-    let block = Simd::<u8, N>::from_slice(&src[at..]);
-    block.cast::<u16>().copy_to_slice(&mut dst[at..]);
+    Simd::from_array(*stride).copy_to_slice(&mut dst[at..]);
 }
 
-/// Writes the N UTF-16 code units from a place on to the same place, each as a byte.
+/// Writes a stride of bytes to a place, each as a UTF-16 code unit.
 #[inline(always)]
-fn narrow<const N: usize>(src: &[u16], dst: &mut [u8], at: usize)
-    requires room { (at + N ≤ length src.now) × (at + N ≤ length dst.old) }
-    requires narrow { AllBelow 0x100 src.now at N }
-    ensures { dst.new ≡ take at dst.old ++ (take N (drop at src.now) ++ drop (at + N) dst.old) }
+fn widen<const N: usize>(stride: &[u8; N], dst: &mut [u16], at: usize)
+    requires { at + N ≤ length dst.old }
+    ensures { dst.new ≡ take at dst.old ++ (stride.now ++ drop (at + N) dst.old) }
 {
-    let block = Simd::<u16, N>::from_slice(&src[at..]);
-    block.cast::<u8>().copy_to_slice(&mut dst[at..]);
+    let units = Simd::from_array(*stride).cast::<u16>();
+    units.copy_to_slice(&mut dst[at..]);
+}
+
+/// Writes a stride of UTF-16 code units to a place, each as a byte.
+#[inline(always)]
+fn narrow<const N: usize>(stride: &[u16; N], dst: &mut [u8], at: usize)
+    requires room { at + N ≤ length dst.old }
+    requires narrow { AllBelow 0x100 stride.now 0 N }
+    ensures { dst.new ≡ take at dst.old ++ (stride.now ++ drop (at + N) dst.old) }
+{
+    let bytes = Simd::from_array(*stride).cast::<u8>();
+    bytes.copy_to_slice(&mut dst[at..]);
 }
 
 /// Copies bytes, N at a time, from a place on while they are ASCII, and returns where that ends.
@@ -284,9 +299,13 @@ pub fn copy_ascii<const N: usize>(src: &[u8], dst: &mut [u8], from: usize) -> us
         → AllBelow 0x80 src.now result N → ⊥ }
 {
     let room = src.len().min(dst.len());
+    let (strides, _) = src[from..room].as_chunks::<N>();
     let mut at = from;
-    while room - at >= N && are_bytes_below::<N>(src, at, ASCII_END) {
-        copy::<N>(src, dst, at);
+    for stride in strides {
+        if !are_bytes_below::<N>(stride, 0, ASCII_END) {
+            return at;
+        }
+        copy::<N>(stride, dst, at);
         at += N;
     }
     at
@@ -304,9 +323,13 @@ pub(crate) fn widen_ascii<const N: usize>(src: &[u8], dst: &mut [u16], from: usi
         → AllBelow 0x80 src.now result N → ⊥ }
 {
     let room = src.len().min(dst.len());
+    let (strides, _) = src[from..room].as_chunks::<N>();
     let mut at = from;
-    while room - at >= N && are_bytes_below::<N>(src, at, ASCII_END) {
-        widen::<N>(src, dst, at);
+    for stride in strides {
+        if !are_bytes_below::<N>(stride, 0, ASCII_END) {
+            return at;
+        }
+        widen::<N>(stride, dst, at);
         at += N;
     }
     at
@@ -324,9 +347,13 @@ pub(crate) fn narrow_ascii<const N: usize>(src: &[u16], dst: &mut [u8], from: us
         → AllBelow 0x80 src.now result N → ⊥ }
 {
     let room = src.len().min(dst.len());
+    let (strides, _) = src[from..room].as_chunks::<N>();
     let mut at = from;
-    while room - at >= N && are_units_below::<N>(src, at, BASIC_LATIN_END) {
-        narrow::<N>(src, dst, at);
+    for stride in strides {
+        if !are_units_below::<N>(stride, 0, BASIC_LATIN_END) {
+            return at;
+        }
+        narrow::<N>(stride, dst, at);
         at += N;
     }
     at

@@ -80,9 +80,6 @@ module _ (call : EncoderStep) where
   )
 
 -- ---- a run, and the call of one more turn
-pub run_nil : (held src old : List ℕ) → IsEncoderRun held src [] old old (record { read = 0; written = 0; result = None }) held
-run_nil held src old = record { calls = []; chain = tt; of_turns = tt; read = refl; written = record { count = refl; fits = omega arith; placed = refl }; result = refl; held_then = refl }
-
 marked : (turn : Turn) (unread : ℕ) → is_marked_last turn unread ≡ true → unread ≤ turn.take
 marked turn unread e = grind (arith, nat_tests)
 
@@ -155,10 +152,6 @@ module _ (held unread left sub : List ℕ) (turn : Turn) (piece room : ℕ) (las
   turn_rest = written_front _ _ _ _ (WritesFront_within left sub room written (take written sub) w)
 
 -- ---- turns enough
--- a turn that gets on is marked last where nothing is unread
-marked_at_end : (turn : Turn) → turn.last ≡ true → is_marked_last turn 0 ≡ true
-marked_at_end turn e = grind (arith, nat_tests)
-
 -- nothing is unread and the last call returned `InputEmpty`, or as many turns are to come as the units need
 abbrev ComesToEnd : List ℕ → List ℕ → ℕ → Option EncoderResult → Type 0
 ComesToEnd held unread turns before = ((length unread ≡ 0) × (before ≡ Some InputEmpty)) ⊎ (2 * length unread + length held < turns)

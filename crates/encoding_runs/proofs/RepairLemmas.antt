@@ -17,7 +17,7 @@ use Rattle.encoding_base.proofs.Calls.BorrowedLemmas.{borrowed_gives}
 use Rattle.encoding_base.proofs.Decomposition.DecompositionLemmas.{StartsWith-append, has_parts, repaired_text-append, repaired_text-characters, count_broken-append, count_broken-characters, count_broken-bytes}
 use Rattle.encoding_runs.specs.Repairs.{IsProperFront, WritesRepaired, Stops}
 use Rattle.encoding_runs.specs.Steps.Writing.{text_of, broken_of, AreFirst, WritesParts, StopsInParts}
-use Rattle.encoding_runs.proofs.SettledLemmas.{AreFirst-nil, AreFirst-trans, AreFirst-more}
+use Rattle.encoding_runs.proofs.SettledLemmas.{AreFirst-trans, AreFirst-more}
 
 -- what a call that hands out parts of its source gives
 pub record GivesPiece (p src : List ℕ) (last : Bool) (piece : Piece) (read : ℕ) (q : List ℕ) : Type 0 where
@@ -54,9 +54,6 @@ piece_gives p src last InputEmpty read q call =
     gives_of p src last InputEmpty read q parts g (ap repaired_text are) (ap count_broken are)
 
 -- ---- what is written
-pub WritesParts-nil : (last : Bool) (bs : List ℕ) (old : Option (List ℕ)) → WritesParts last bs bs old old 0
-WritesParts-nil last bs old = record { parts = []; first = AreFirst-nil last bs; bytes = Appends-nil old; broken = refl }
-
 -- more parts are written
 wrote_more : (last : Bool) (bs mid rest : List ℕ) (old new now : Option (List ℕ)) (n : ℕ) (more : List Part) → WritesParts last bs mid old new n → AreFirst last mid more rest
     → Appends new now (repaired_text more) → WritesParts last bs rest old now (n + count_broken more)

@@ -10,10 +10,7 @@ use Rattle.encoding_runs.specs.Repairs.{IsSettledText, IsDue, IsProperFront, Rep
 use Rattle.encoding_runs.specs.Steps.Writing.{AreFirst, WritesParts, StopsInParts}
 use Rattle.encoding_runs.specs.Steps.Rounds.{ReadsRound, Reaches}
 use Rattle.encoding_runs.proofs.SettledLemmas.{settled_first, settled_behind, AreFirst-more}
-use Rattle.encoding_runs.proofs.RepairLemmas.{WritesParts-nil, wrote_all, wrote_behind, wrote_count, front_behind, longer_front}
-
-pub reaches_nothing : (unread old : Option (List ℕ)) → Reaches unread unread old old 0 0 []
-reaches_nothing unread old = record { input = []; consumed = Consumes-nil unread; count = refl; wrote = WritesParts-nil false [] old; still_open = inl refl }
+use Rattle.encoding_runs.proofs.RepairLemmas.{wrote_all, wrote_behind, wrote_count, front_behind, longer_front}
 
 pub reaches_more : (unread mid left old new now : Option (List ℕ)) (read n : ℕ) (p : List ℕ) (room : ℕ) (bytes : List ℕ) (before after : Bool) (m : ℕ) (q : List ℕ)
     → Reaches unread mid old new read n p → ReadsRound room bytes false mid left before after → WritesParts false (p ++ bytes) q new now m → IsPending q
@@ -25,10 +22,6 @@ reaches_more unread mid left old new now read n p room bytes before after m q r 
   wrote = wrote_behind false r.input p bytes q old new now n m r.wrote w;
   still_open = still;
 }
-
--- no more parts were broken than bytes were read
-pub reaches_count : (unread left old new : Option (List ℕ)) (read n : ℕ) (p : List ℕ) → Reaches unread left old new read n p → n ≤ read
-reaches_count unread left old new read n p r = omega (arith, r.count, wrote_count _ _ _ _ _ _ r.wrote)
 
 -- ---- before a read, or where it fails
 is_settled : (bs p : List ℕ) (old new : Option (List ℕ)) (n : ℕ) → (w : WritesParts false bs p old new n) → IsPending p → IsSettledText bs (repaired_text w.parts)

@@ -8,10 +8,6 @@ use Rattle.encoding_base.proofs.Decomposition.PartsLemmas.{part_bytes}
 use Rattle.encoding_base.proofs.Decomposition.DecompositionLemmas.{StartsWith-append, settled_stay, has_settled}
 use Rattle.encoding_runs.specs.Steps.Writing.{AreFirst}
 
--- no parts
-pub AreFirst-nil : (last : Bool) (bs : List ℕ) → AreFirst last bs [] bs
-AreFirst-nil last bs = record { starts = refl; whatever_follows = λ _ more. refl }
-
 -- parts behind parts
 pub AreFirst-trans : (last : Bool) (bs : List ℕ) (ps : List Part) (mid : List ℕ) (qs : List Part) (rest : List ℕ) → AreFirst last bs ps mid → AreFirst last mid qs rest
     → AreFirst last bs (ps ++ qs) rest

@@ -270,12 +270,6 @@ fn singles_left(singles: usize, scalar: u32) -> usize
     singles - 1
 }
 
-/// Whether neither blocks nor blocks with pairs had a code unit.
-#[inline(always)]
-fn are_none(units: usize, paired: usize) -> bool {
-    units == 0 && paired == 0
-}
-
 /// Converts the first characters of `src` from UTF-16 to UTF-8, while at least four bytes of `dst` are free, and
 /// returns how many code units it read and how many bytes it wrote. A surrogate that is in no pair becomes U+FFFD
 /// (Unicode Standard, section 3.9, UTF-16).
@@ -302,7 +296,7 @@ pub fn convert_utf16_to_utf8_partial_inner(src: &[u16], dst: &mut [u8]) -> (usiz
             read += paired;
             written += extra;
             singles = singles_behind(units, paired, src.len() - read, in_vain);
-            in_vain = are_none(units, paired);
+            in_vain = units | paired == 0;
         } else if src[read] < 0x80 {
             dst[written] = src[read] as u8;
             written += 1;

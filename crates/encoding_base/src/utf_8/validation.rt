@@ -6,7 +6,7 @@ ghost use Rattle.encoding_base.specs.Parts.{BeginsWithNoCharacter};
 ghost use Rattle.encoding_base.specs.Fronts.{IsLongestFront};
 
 use crate::sequence::{begins_several, is_continuation, is_second};
-use crate::strides::{ASCII_END, front_below, short_front_below};
+use crate::strides::{ASCII_END, front_below};
 use crate::utf_8::blocks::well_formed_blocks;
 use crate::utf_8::table::{UTF8_DATA, law_table};
 
@@ -110,7 +110,7 @@ pub fn utf8_valid_up_to(src: &[u8]) -> usize
 {
     let mut at = 0;
     if src.len() >= 16 {
-        at = short_front_below(src, ASCII_END);
+        at = front_below(src, ASCII_END);
         if at == src.len() {
             return at;
         }

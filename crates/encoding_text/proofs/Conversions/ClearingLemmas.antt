@@ -20,9 +20,6 @@ clear_stop b bs n = cond-false (nat_le 0x80 b && nat_le b 0xBF) _ _
     (false_from_ne_true _ (λ e. let parts = and_parts (nat_le 0x80 b) (nat_le b 0xBF) e in n (leb-true _ _ parts.0, leb-true _ _ parts.1)))
 
 -- ---- the loop, at a place behind bytes that are zero
-pub clear_begin : (bs : List ℕ) (n at : ℕ) → at ≡ min n (length bs) → clear_front n bs ≡ replicate at 0 ++ clear_continuation (drop at bs)
-clear_begin bs n at e = rw (e, drop_min) refl
-
 pub clear_next : (bs : List ℕ) (at : ℕ) → at < length bs → IsContinuation (get_or bs at 0)
     → replicate at 0 ++ clear_continuation (drop at bs) ≡ replicate (at + 1) 0 ++ clear_continuation (drop (at + 1) bs)
 clear_next bs at h c =

@@ -1,9 +1,6 @@
-use Rattle.std.proofs.Common.{◌-◌, ◌≤◌, length}
+use Rattle.std.proofs.Common.{◌≡◌, ◌*◌}
 use Rattle.encoding_base.specs.Steps.Strides.{BelowUpTo}
 use Rattle.encoding_base.proofs.strides.skip_blocks_below.Given as goal
 
-abbrev pub invariant-loop-at : goal.invariant-loop-at
-invariant-loop-at l = record { within : l.at ≤ length l.bytes; below : BelowUpTo l.bound l.bytes l.at }
-
-abbrev pub decreases-loop-at : goal.decreases-loop-at
-decreases-loop-at l = length l.bytes - l.at
+abbrev pub invariant-loop-pair : goal.invariant-loop-pair
+invariant-loop-pair l = record { place : l.at ≡ l.pair-index * 128; below : BelowUpTo l.bound l.bytes l.at }

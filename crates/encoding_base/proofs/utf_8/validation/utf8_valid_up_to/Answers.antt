@@ -9,20 +9,20 @@ use Rattle.encoding_base.proofs.utf_8.validation.utf8_valid_up_to.Goals.{then-sr
 pub returns-then-at-src : goal.returns-then-at-src
 returns-then-at-src c = record {
   within = omega arith;
-  kind = IsUtf8-ascii_front c.args.src.now c.short_front_below-at.result c.short_front_below-at.ensures.below;
+  kind = IsUtf8-ascii_front c.args.src.now c.front_below-at.result c.front_below-at.ensures.below;
   longest = λ m h _. omega arith;
 }
 
 pub returns-then-is_broken : goal.returns-then-is_broken
 returns-then-is_broken c =
-    let front = c.short_front_below-at.ensures in
-    IsLongestFront-utf8 _ _ front.within (IsUtf8-ascii_front c.args.src.now c.short_front_below-at.result front.below) (rw take_rest at (c.is_broken.ensures c.if-is_broken.true))
+    let front = c.front_below-at.ensures in
+    IsLongestFront-utf8 _ _ front.within (IsUtf8-ascii_front c.args.src.now c.front_below-at.result front.below) (rw take_rest at (c.is_broken.ensures c.if-is_broken.true))
 
 pub loop-at-init : goal.loop-at-init
 loop-at-init c = elim c.if-src-ge16.branch [
   | then-src-ge16+else-at-src+else-is_broken w ↦ rw w.at-is (record { within = w.well_formed_blocks-at.ensures.0; text = w.well_formed_blocks-at.ensures.1 })
   | else-src-ge16+then-src-ge8+then-src-lt-ASCII_END w ↦
-      let front = w.front_below-at in
+      let front = w.front_below-at-then-src-lt-ASCII_END in
       rw w.at-is (record { within = front.ensures.within; text = IsUtf8-ascii_front c.args.src.now front.result front.ensures.below })
   | else-src-ge16+else-src-ge8 w ↦ rw w.at-is (record { within = omega arith; text = IsUtf8-nil })
 ]

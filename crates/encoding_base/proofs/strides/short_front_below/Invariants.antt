@@ -1,6 +1,6 @@
 use Rattle.std.proofs.Common.{◌-◌, ◌≤◌, length}
 use Rattle.encoding_base.specs.Steps.Strides.{BelowUpTo}
-use Rattle.encoding_base.proofs.strides.front_below.Given as goal
+use Rattle.encoding_base.proofs.strides.short_front_below.Given as goal
 
 abbrev pub invariant-loop-at : goal.invariant-loop-at
 invariant-loop-at l = record { within : l.at ≤ length l.bytes; below : BelowUpTo l.bound l.bytes l.at }
