@@ -23,6 +23,7 @@ const SHIFT_OUT: u8 = 0x0E;
 const SHIFT_IN: u8 = 0x0F;
 
 /// The first byte that isn't ASCII, and its place. `None` if all bytes are ASCII.
+#[inline(always)]
 pub fn validate_ascii(bytes: &[u8]) -> Option<(u8, usize)>
     ensures { IsFirstOther bytes.now result }
 {
@@ -60,6 +61,7 @@ pub fn iso_2022_jp_ascii_valid_up_to(bytes: &[u8]) -> usize
 
 /// Copies the longest ASCII front, over the shorter length of the two, and returns the first byte there that isn't
 /// ASCII with its place, or `None`. Behind what is written `dst` is as before.
+#[inline(always)]
 pub fn ascii_to_ascii(src: &[u8], dst: &mut [u8]) -> Option<(u8, usize)>
     ensures found { IsFirstOther (take (length dst.old) src.now) result }
     ensures copied { let n = front_length (take (length dst.old) src.now) result in
@@ -77,6 +79,7 @@ pub fn ascii_to_ascii(src: &[u8], dst: &mut [u8]) -> Option<(u8, usize)>
 
 /// Copies the longest ASCII front, each byte as a UTF-16 code unit, over the shorter length of the two, and returns the
 /// first byte there that isn't ASCII with its place, or `None`. Behind what is written `dst` is as before.
+#[inline(always)]
 pub fn ascii_to_basic_latin(src: &[u8], dst: &mut [u16]) -> Option<(u8, usize)>
     ensures found { IsFirstOther (take (length dst.old) src.now) result }
     ensures copied { let n = front_length (take (length dst.old) src.now) result in
@@ -94,6 +97,7 @@ pub fn ascii_to_basic_latin(src: &[u8], dst: &mut [u16]) -> Option<(u8, usize)>
 
 /// Copies the longest ASCII front of UTF-16 code units, each as a byte, over the shorter length of the two, and returns
 /// the first code unit there that isn't ASCII with its place, or `None`. Behind what is written `dst` is as before.
+#[inline(always)]
 pub fn basic_latin_to_ascii(src: &[u16], dst: &mut [u8]) -> Option<(u16, usize)>
     ensures found { IsFirstOther (take (length dst.old) src.now) result }
     ensures copied { let n = front_length (take (length dst.old) src.now) result in

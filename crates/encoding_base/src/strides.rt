@@ -123,16 +123,20 @@ fn are_two_blocks_below(bytes: &[u8], at: usize, bound: u8) -> bool
     !(first | second).any()
 }
 
-/// Goes by blocks from the beginning on while their bytes are below the bound, and returns where that ends: by two at
-/// a time as long as both are.
+/// Goes by blocks from the beginning on while their bytes are below the bound, and returns where that ends: behind the
+/// first by two at a time, since it is the first that most often has another byte.
 #[inline(always)]
 fn skip_blocks_below(bytes: &[u8], bound: u8) -> usize
+    requires { 64 ≤ length bytes.now }
     ensures within { result ≤ length bytes.now }
     ensures below { BelowUpTo bound bytes.now result }
     ensures stops { result + 64 ≤ length bytes.now → AllBelow bound bytes.now result 64 → ⊥ }
 {
-    let (pairs, _) = bytes.as_chunks::<TWO_BLOCKS>();
-    let mut at = 0;
+    if !are_bytes_below::<BLOCK>(bytes, 0, bound) {
+        return 0;
+    }
+    let (pairs, _) = bytes[BLOCK..].as_chunks::<TWO_BLOCKS>();
+    let mut at = BLOCK;
     for pair in pairs {
         if !are_two_blocks_below(pair, 0, bound) {
             break;
@@ -263,7 +267,7 @@ fn copy<const N: usize>(stride: &[u8; N], dst: &mut [u8], at: usize)
     requires { at + N ≤ length dst.old }
     ensures { dst.new ≡ take at dst.old ++ (stride.now ++ drop (at + N) dst.old) }
 {
-    Simd::from_array(*stride).copy_to_slice(&mut dst[at..]);
+    Simd::<u8, N>::from_slice(stride).copy_to_slice(&mut dst[at..]);
 }
 
 /// Writes a stride of bytes to a place, each as a UTF-16 code unit.
@@ -272,7 +276,7 @@ fn widen<const N: usize>(stride: &[u8; N], dst: &mut [u16], at: usize)
     requires { at + N ≤ length dst.old }
     ensures { dst.new ≡ take at dst.old ++ (stride.now ++ drop (at + N) dst.old) }
 {
-    let units = Simd::from_array(*stride).cast::<u16>();
+    let units = Simd::<u8, N>::from_slice(stride).cast::<u16>();
     units.copy_to_slice(&mut dst[at..]);
 }
 
@@ -283,7 +287,7 @@ fn narrow<const N: usize>(stride: &[u16; N], dst: &mut [u8], at: usize)
     requires narrow { AllBelow 0x100 stride.now 0 N }
     ensures { dst.new ≡ take at dst.old ++ (stride.now ++ drop (at + N) dst.old) }
 {
-    let bytes = Simd::from_array(*stride).cast::<u8>();
+    let bytes = Simd::<u16, N>::from_slice(stride).cast::<u8>();
     bytes.copy_to_slice(&mut dst[at..]);
 }
 

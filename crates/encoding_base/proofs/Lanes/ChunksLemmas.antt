@@ -6,7 +6,7 @@ use Rattle.std.specs.Simd.{first_chunks}
 use Rattle.encoding_base.specs.Steps.Strides.{AllBelow, IsRunBelow}
 
 -- the stride of a number
-pub numbered : (n k : ℕ) (xs : List ℕ) (i : ℕ) (d : List ℕ) → i < k → get_or (first_chunks n k xs) i d ≡ take n (drop (i * n) xs)
+numbered : (n k : ℕ) (xs : List ℕ) (i : ℕ) (d : List ℕ) → i < k → get_or (first_chunks n k xs) i d ≡ take n (drop (i * n) xs)
 numbered n zero xs i d h = absurd (omega arith)
 numbered n (suc k) xs zero d h = let e : 0 * n ≡ 0 = omega arith in rw e refl
 numbered n (suc k) xs (suc i) d h =
@@ -18,16 +18,16 @@ many : (n k i long : ℕ) → k ≡ long / n → i < k → i * n + n ≤ long
 many n k i long e l = omega (arith, e, div-mul-le_self long n, mul-le-mul_right {m = i + 1} {n = long / n} n (omega (arith, e)))
 
 -- the stride of a number of a part from one place on up to another, where the strides before it end at a place
-pub stride_is : (n from to at i : ℕ) (xs stride : List ℕ) (strides : List (List ℕ)) → at ≡ from + i * n
+pub stride_at : (n from to at i : ℕ) (xs d : List ℕ) (strides : List (List ℕ)) → at ≡ from + i * n
     → strides ≡ first_chunks n (length (take (to - from) (drop from xs)) / n) (take (to - from) (drop from xs))
-    → length strides ≡ length (take (to - from) (drop from xs)) / n → i < length strides → stride ≡ get_or strides i stride → stride ≡ take n (drop at xs)
-stride_is n from to at i xs stride strides place are count l is =
+    → length strides ≡ length (take (to - from) (drop from xs)) / n → i < length strides → get_or strides i d ≡ take n (drop at xs)
+stride_at n from to at i xs d strides place are count l =
     let part : List ℕ = take (to - from) (drop from xs) in
     let within : i * n + n ≤ length part = many n (length strides) i (length part) count l in
     let short : i * n + (to - from - i * n) ≡ to - from = omega (arith, within, length-take (to - from) (drop from xs)) in
     let behind : drop (i * n) part ≡ take (to - from - i * n) (drop (i * n) (drop from xs)) =
     ap (λ m. drop (i * n) (take m (drop from xs))) (sym short) ∙ drop-take (i * n) (to - from - i * n) (drop from xs) in
-    is ∙ ap (λ ys. get_or ys i stride) are ∙ numbered n (length part / n) part i stride (omega (arith, count))
+    ap (λ ys. get_or ys i d) are ∙ numbered n (length part / n) part i d (omega (arith, count))
     ∙ ap (take n) behind ∙ take-take n (to - from - i * n) (drop (i * n) (drop from xs)) (omega (arith, within, length-take (to - from) (drop from xs)))
     ∙ ap (take n) (drop-drop (i * n) from xs ∙ ap (λ m. drop m xs) (sym place))
 

@@ -1,7 +1,7 @@
 -- From the lanes of a vector that was read at a place to the units there.
 use Rattle.std.proofs.Common.{◌≡◌, ℕ, suc, ◌+◌, ◌-◌, ◌^◌, ◌%◌, ◌<◌, ◌≤◌, ◌↔◌, inl, inr, IsTrue, EachIndex, slice_index, Bool, false, not, cond, leb, eqb, List, [], ◌∷◌, ◌++◌, map, length, take, drop, drop-drop, get_or, replicate, refl, sym, ap, ◌∙◌, arith}
 use Rattle.std.proofs.lemmas.Bool.{cases_lt, leb-true, leb-false, lt-leb, eqb-true, eq-eqb, not-true, not-false, not_from_false, not_from_true}
-use Rattle.std.proofs.lemmas.List.{length-map}
+use Rattle.std.proofs.lemmas.List.{length-map, take_all}
 use Rattle.std.proofs.lemmas.Simd.{tops_compared, zip2_splat_left, length-chunk, get_or-chunk, mask_l-mod, none_from_empty_mask, leading_from_mask_l, put_chunk_is, trailing_mask_l, run_in_chunk_le, run_in_chunk_fails, run_in_chunk_stops}
 use Rattle.std.specs.Simd.Lanes.{zip2, chunk, put_chunk, mask_l, top}
 use Rattle.std.specs.List.{prefix_len}
@@ -80,3 +80,9 @@ pub put_is : {X : Type 0} (at n : ℕ) (xs ys : List X) → length ys ≡ n → 
 put_is at n xs ys long room =
     let rest : drop (length ys) (drop at xs) ≡ drop (at + n) xs = drop-drop (length ys) at xs ∙ ap (λ m. drop (at + m) xs) long in
     put_chunk_is at xs ys (omega arith) ∙ ap (λ zs. take at xs ++ (ys ++ zs)) rest
+
+-- of a vector read from a stride
+pub put_stride : {X : Type 0} (at n : ℕ) (xs stride : List X) → length stride ≡ n → at + n ≤ length xs → put_chunk at xs (chunk 0 n stride) ≡ take at xs ++ (stride ++ drop (at + n) xs)
+put_stride at n xs stride long room =
+    let whole : chunk 0 n stride ≡ stride = take_all n stride (omega (arith, long)) in
+    ap (put_chunk at xs) whole ∙ put_is at n xs stride long room
