@@ -1,4 +1,5 @@
 pub mod ChunksLemmas
+pub mod NarrowLemmas
 pub mod StridesLemmas
 pub mod LaneLemmas
 pub mod TestLemmas

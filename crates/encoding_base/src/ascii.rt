@@ -5,7 +5,10 @@ ghost use Rattle.std.specs.Str.{IsAscii};
 ghost use Rattle.encoding_base.specs.Ascii.{IsFirstOther, front_length, IsIso2022JpAscii};
 ghost use Rattle.encoding_base.specs.Fronts.{IsLongestFront, WritesFront};
 
-use crate::strides::{copy_ascii, front_below, narrow_ascii, widen_ascii};
+use crate::strides::{
+    copy_ascii, copy_last_ascii, front_below, narrow_ascii, narrow_last_ascii, widen_ascii,
+    widen_last_ascii,
+};
 
 /// The bits that no ASCII byte has: each of the eight bytes is 0x80.
 pub const ASCII_MASK: usize = 0x8080_8080_8080_8080;
@@ -69,7 +72,7 @@ pub fn ascii_to_ascii(src: &[u8], dst: &mut [u8]) -> Option<(u8, usize)>
 {
     let by_blocks = copy_ascii::<64>(src, dst, 0);
     let by_strides = copy_ascii::<16>(src, dst, by_blocks);
-    let front = copy_ascii::<1>(src, dst, by_strides);
+    let front = copy_last_ascii(src, dst, by_strides);
     if front < src.len() && front < dst.len() {
         Some((src[front], front))
     } else {
@@ -87,7 +90,7 @@ pub fn ascii_to_basic_latin(src: &[u8], dst: &mut [u16]) -> Option<(u8, usize)>
 {
     let by_blocks = widen_ascii::<64>(src, dst, 0);
     let by_strides = widen_ascii::<16>(src, dst, by_blocks);
-    let front = widen_ascii::<1>(src, dst, by_strides);
+    let front = widen_last_ascii(src, dst, by_strides);
     if front < src.len() && front < dst.len() {
         Some((src[front], front))
     } else {
@@ -105,7 +108,7 @@ pub fn basic_latin_to_ascii(src: &[u16], dst: &mut [u8]) -> Option<(u16, usize)>
 {
     let by_blocks = narrow_ascii::<32>(src, dst, 0);
     let by_strides = narrow_ascii::<16>(src, dst, by_blocks);
-    let front = narrow_ascii::<1>(src, dst, by_strides);
+    let front = narrow_last_ascii(src, dst, by_strides);
     if front < src.len() && front < dst.len() {
         Some((src[front], front))
     } else {

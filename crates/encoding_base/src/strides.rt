@@ -1,9 +1,15 @@
-//! Slices by vectors: how many first units are below a bound, and copies of so many units at once.
+//! Slices by vectors: how many first units are below a bound.
 
 ghost use Rattle.std.specs.Prelude.{◌≡◌, ◌↔◌, ◌+◌, ◌<◌, ◌≤◌, ◌++◌, ℕ, List, length, take, drop, slice_index, EachIndex, IsTrue};
 ghost use Rattle.encoding_base.specs.Fronts.{WritesFront};
 ghost use Rattle.encoding_base.specs.Steps.Strides.{AllBelow, BelowBetween, BelowUpTo, IsRunBelow};
 
+mod copies;
+
+pub use copies::{copy_ascii, put_first};
+pub(crate) use copies::{
+    LANES, copy_last_ascii, narrow_ascii, narrow_last_ascii, widen_ascii, widen_last_ascii,
+};
 use std::simd::Simd;
 use std::simd::prelude::*;
 
@@ -58,6 +64,22 @@ fn run_below<const N: usize>(bytes: &[u8], at: usize, bound: u8) -> usize
     ensures { IsRunBelow bound bytes.now at N result }
 {
     let others = Simd::<u8, N>::from_slice(&bytes[at..])
+        .simd_ge(Simd::splat(bound))
+        .to_bitmask();
+    if others == 0 {
+        N
+    } else {
+        others.trailing_zeros() as usize
+    }
+}
+
+/// How many of the N UTF-16 code units from a place on come before the first that isn't below the bound.
+#[inline(always)]
+fn run_of_units_below<const N: usize>(units: &[u16], at: usize, bound: u16) -> usize
+    requires { (at + N ≤ length units.now) × (N ≤ 64) }
+    ensures { IsRunBelow bound units.now at N result }
+{
+    let others = Simd::<u16, N>::from_slice(&units[at..])
         .simd_ge(Simd::splat(bound))
         .to_bitmask();
     if others == 0 {
@@ -259,106 +281,4 @@ pub fn are_all_below(units: &[u16], bound: u16) -> bool
     } else {
         skip_units_below::<1>(units, 0, bound) == units.len()
     }
-}
-
-/// Writes a stride of bytes to a place.
-#[inline(always)]
-fn copy<const N: usize>(stride: &[u8; N], dst: &mut [u8], at: usize)
-    requires { at + N ≤ length dst.old }
-    ensures { dst.new ≡ take at dst.old ++ (stride.now ++ drop (at + N) dst.old) }
-{
-    Simd::<u8, N>::from_slice(stride).copy_to_slice(&mut dst[at..]);
-}
-
-/// Writes a stride of bytes to a place, each as a UTF-16 code unit.
-#[inline(always)]
-fn widen<const N: usize>(stride: &[u8; N], dst: &mut [u16], at: usize)
-    requires { at + N ≤ length dst.old }
-    ensures { dst.new ≡ take at dst.old ++ (stride.now ++ drop (at + N) dst.old) }
-{
-    let units = Simd::<u8, N>::from_slice(stride).cast::<u16>();
-    units.copy_to_slice(&mut dst[at..]);
-}
-
-/// Writes a stride of UTF-16 code units to a place, each as a byte.
-#[inline(always)]
-fn narrow<const N: usize>(stride: &[u16; N], dst: &mut [u8], at: usize)
-    requires room { at + N ≤ length dst.old }
-    requires narrow { AllBelow 0x100 stride.now 0 N }
-    ensures { dst.new ≡ take at dst.old ++ (stride.now ++ drop (at + N) dst.old) }
-{
-    let bytes = Simd::<u16, N>::from_slice(stride).cast::<u8>();
-    bytes.copy_to_slice(&mut dst[at..]);
-}
-
-/// Copies bytes, N at a time, from a place on while they are ASCII, and returns where that ends.
-#[inline(always)]
-pub fn copy_ascii<const N: usize>(src: &[u8], dst: &mut [u8], from: usize) -> usize
-    requires { (from ≤ length src.now) × (from ≤ length dst.old) × (0 < N) × (N ≤ 64) }
-    ensures within { (result ≤ length src.now) × (result ≤ length dst.old) }
-    ensures ascii { BelowUpTo 0x80 src.now from → BelowUpTo 0x80 src.now result }
-    ensures copied { (first : List ℕ) → WritesFront first dst.old from (take from src.now)
-        → WritesFront first dst.new result (take result src.now) }
-    ensures stops { result + N ≤ length src.now → result + N ≤ length dst.old
-        → AllBelow 0x80 src.now result N → ⊥ }
-{
-    let room = src.len().min(dst.len());
-    let (strides, _) = src[from..room].as_chunks::<N>();
-    let mut at = from;
-    for stride in strides {
-        if !are_bytes_below::<N>(stride, 0, ASCII_END) {
-            return at;
-        }
-        copy::<N>(stride, dst, at);
-        at += N;
-    }
-    at
-}
-
-/// Copies bytes, N at a time, from a place on as UTF-16 code units while they are ASCII, and returns where that ends.
-#[inline(always)]
-pub(crate) fn widen_ascii<const N: usize>(src: &[u8], dst: &mut [u16], from: usize) -> usize
-    requires { (from ≤ length src.now) × (from ≤ length dst.old) × (0 < N) × (N ≤ 64) }
-    ensures within { (result ≤ length src.now) × (result ≤ length dst.old) }
-    ensures ascii { BelowUpTo 0x80 src.now from → BelowUpTo 0x80 src.now result }
-    ensures copied { (first : List ℕ) → WritesFront first dst.old from (take from src.now)
-        → WritesFront first dst.new result (take result src.now) }
-    ensures stops { result + N ≤ length src.now → result + N ≤ length dst.old
-        → AllBelow 0x80 src.now result N → ⊥ }
-{
-    let room = src.len().min(dst.len());
-    let (strides, _) = src[from..room].as_chunks::<N>();
-    let mut at = from;
-    for stride in strides {
-        if !are_bytes_below::<N>(stride, 0, ASCII_END) {
-            return at;
-        }
-        widen::<N>(stride, dst, at);
-        at += N;
-    }
-    at
-}
-
-/// Copies UTF-16 code units, N at a time, from a place on as bytes while they are ASCII, and returns where that ends.
-#[inline(always)]
-pub(crate) fn narrow_ascii<const N: usize>(src: &[u16], dst: &mut [u8], from: usize) -> usize
-    requires { (from ≤ length src.now) × (from ≤ length dst.old) × (0 < N) × (N ≤ 64) }
-    ensures within { (result ≤ length src.now) × (result ≤ length dst.old) }
-    ensures ascii { BelowUpTo 0x80 src.now from → BelowUpTo 0x80 src.now result }
-    ensures copied { (first : List ℕ) → WritesFront first dst.old from (take from src.now)
-        → WritesFront first dst.new result (take result src.now) }
-    ensures stops { result + N ≤ length src.now → result + N ≤ length dst.old
-        → AllBelow 0x80 src.now result N → ⊥ }
-{
-    let room = src.len().min(dst.len());
-    let (strides, _) = src[from..room].as_chunks::<N>();
-    let mut at = from;
-    for stride in strides {
-        if !are_units_below::<N>(stride, 0, BASIC_LATIN_END) {
-            return at;
-        }
-        narrow::<N>(stride, dst, at);
-        at += N;
-    }
-    at
 }

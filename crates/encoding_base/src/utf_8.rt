@@ -22,7 +22,7 @@ pub use encoding::{
     convert_utf16_to_utf8_partial_tail, is_high_surrogate, is_low_surrogate, is_surrogate,
 };
 pub use latin1_ends::latin1_of;
-pub use spelling::{put_first, write_short};
+pub use spelling::write_short;
 pub use table::{UTF8_DATA, Utf8Data, law_table};
 pub use text_units::write_text;
 pub use validation::{character_length, utf8_valid_up_to};

@@ -1,7 +1,8 @@
 -- Writing at the end of what was written, and when a front of characters is the longest that fits.
-use Rattle.std.proofs.Common.{◌≡◌, ℕ, ◌+◌, ◌-◌, ◌<◌, ◌≤◌, List, [], ◌∷◌, ◌++◌, length, take, drop, get_or, set, refl, sym, ap, ◌∙◌, arith, append_assoc, subst}
+use Rattle.std.proofs.Common.{◌≡◌, ℕ, ◌+◌, ◌-◌, ◌<◌, ◌≤◌, List, [], ◌∷◌, ◌++◌, length, take, drop, get_or, set, refl, sym, ap, ◌∙◌, arith, append_assoc, subst, take-add}
 use Rattle.std.specs.List.{flat_map}
-use Rattle.std.proofs.lemmas.List.{append-nil, take-append-drop, drop_more, set_at, length_push, length-set, drop_at, take_at, take_all, take_rest, drop_all, drop-drop, length-append, length-drop}
+use Rattle.std.proofs.lemmas.List.{append-nil, take-append-drop, drop_more, set_at, length_push, length-set, drop_at, take_at, take_all, take_rest, drop_all, drop-drop, length-append, length-drop, length-take-le, take-append-le, take-take}
+use Rattle.std.proofs.lemmas.Slice.{drop-append-drop}
 use Rattle.std.proofs.lemmas.Grind.{flat_map-append}
 use borrow.Rule.Slice.PartMut.{put_mid}
 use Rattle.encoding_base.specs.Fronts.{IsLongestFront, WritesFront, FitsLongest}
@@ -63,6 +64,21 @@ module _ {A : Type 0} where
         count = omega (arith, w.count, length-append out more);
         fits = omega arith;
         placed = put ∙ (λ i. front i ++ (more ++ rest i)) ∙ sym (append_assoc out more (drop (n + m) old));
+      }
+
+  -- of a list, so many items from a place on that may be before the end of those that were written
+  pub WritesFront_again : (old new after xs : List A) (n at m : ℕ) → WritesFront old new n (take n xs) → at ≤ n → n ≤ at + m → at + m ≤ length xs → at + m ≤ length new
+      → after ≡ take at new ++ (take m (drop at xs) ++ drop (at + m) new) → WritesFront old after (at + m) (take (at + m) xs)
+  WritesFront_again old new after xs n at m w l more within room put =
+      let long : length new ≡ length old = WritesFront-length old new n (take n xs) w in
+      let short : length (take n xs) ≡ n = sym w.count in
+      let front : take at new ≡ take at xs = ap (take at) w.placed ∙ take-append-le at (take n xs) (drop n old) (omega (arith, short)) ∙ take-take at n xs l in
+      let behind : drop (at + m) new ≡ drop (at + m) old = ap (drop (at + m)) w.placed ∙ drop-append-drop n old (take n xs) (at + m) more short in
+      record {
+        count = sym (length-take-le (at + m) xs within);
+        fits = omega arith;
+        placed = put ∙ (λ i. front i ++ (take m (drop at xs) ++ behind i)) ∙ sym (append_assoc (take at xs) (take m (drop at xs)) (drop (at + m) old))
+            ∙ ap (λ ys. ys ++ drop (at + m) old) (sym (take-add at m xs));
       }
 
   -- a call wrote into the part behind what was written

@@ -4,11 +4,9 @@ ghost use Rattle.std.specs.Prelude.{◌≡◌, ℕ, ◌+◌, ◌*◌, ◌<◌, �
 ghost use Rattle.std.specs.Simd.Lanes.{mask_l};
 ghost use Rattle.encoding_base.specs.Steps.Spelling.{Spells};
 
+use crate::strides::{LANES, put_first};
 use crate::utf_8::kept_bytes::places_by;
 use std::simd::prelude::*;
-
-/// The places of the bytes of a vector.
-pub(super) const LANES: [u8; 16] = [0, 1, 2, 3, 4, 5, 6, 7, 8, 9, 10, 11, 12, 13, 14, 15];
 
 /// Eight code units in two bytes each: the UTF-8 of each, and no matter what behind that of one byte.
 #[inline(always)]
@@ -68,18 +66,6 @@ pub(super) fn put_both(
     is_kept
         .select(second, behind)
         .copy_to_slice(&mut dst[next..]);
-}
-
-/// Writes the first bytes of a vector, so many. Behind them `dst` is as before, though sixteen bytes are stored.
-#[inline(always)]
-pub fn put_first(dst: &mut [u8], at: usize, bytes: u8x16, count: usize)
-    requires room { at + 16 ≤ length dst.old }
-    requires bytes { (count ≤ 16) × (length bytes ≡ 16) }
-    ensures { dst.new ≡ take at dst.old ++ (take count bytes ++ drop (at + count) dst.old) }
-{
-    let behind = u8x16::from_slice(&dst[at..]);
-    let is_kept = u8x16::from_array(LANES).simd_lt(u8x16::splat(count as u8));
-    is_kept.select(bytes, behind).copy_to_slice(&mut dst[at..]);
 }
 
 /// Whether each of the eight code units is below U+0800.

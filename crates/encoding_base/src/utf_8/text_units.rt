@@ -14,10 +14,9 @@ ghost use Rattle.encoding_base.specs.Steps.Strides.{AllBelow};
 ghost use Rattle.encoding_base.specs.Steps.Units.{BeginsThree, PutsKept, PutsText, ends_behind, units_in};
 
 use crate::sequence::{is_continuation, sequence_length};
-use crate::strides::widen_ascii;
+use crate::strides::{LANES as BYTE_LANES, widen_ascii};
 use crate::utf_8::decoding::{put_utf16, scalar_of_sequence};
 use crate::utf_8::kept_lanes::gather;
-use crate::utf_8::spelling::LANES as BYTE_LANES;
 use crate::utf_8::unit_lanes::{code_units, triple_units, unit_ends};
 use std::simd::Simd;
 use std::simd::prelude::*;

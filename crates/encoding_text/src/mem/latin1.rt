@@ -6,8 +6,8 @@ ghost use Rattle.std.specs.Str.{chars};
 ghost use Rattle.encoding_base.specs.Fronts.{FitsLongest, WritesFront};
 ghost use Rattle.encoding_base.specs.Latin1.{IsUtf8Latin1};
 
-use encoding_base::strides::copy_ascii;
-use encoding_base::utf_8::{latin1_of, put_first, write_short};
+use encoding_base::strides::{copy_ascii, put_first};
+use encoding_base::utf_8::{latin1_of, write_short};
 use std::simd::prelude::*;
 
 /// The bytes that a character from U+0080 to U+00FF takes in UTF-8.

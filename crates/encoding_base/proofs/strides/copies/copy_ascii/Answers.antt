@@ -2,7 +2,7 @@ use Rattle.std.proofs.Common.{◌++◌, ◌+◌, drop, take, length, ap, ◌∙�
 use Rattle.std.proofs.lemmas.Bool.{false≢true}
 use Rattle.encoding_base.proofs.Lanes.ChunksLemmas.{stride_at, stride_ends, below_stride}
 use Rattle.encoding_base.proofs.Latin.AsciiLemmas.{WritesFront_block, below_block}
-use Rattle.encoding_base.proofs.strides.copy_ascii.Goals as goal
+use Rattle.encoding_base.proofs.strides.copies.copy_ascii.Goals as goal
 
 pub returns-then-not-are_bytes_below-clause-stops : goal.returns-then-not-are_bytes_below-clause-stops
 returns-then-not-are_bytes_below-clause-stops g c =

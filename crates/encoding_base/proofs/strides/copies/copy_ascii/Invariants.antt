@@ -1,7 +1,7 @@
 use Rattle.std.proofs.Common.{◌≡◌, ℕ, ◌+◌, ◌*◌, List, take}
 use Rattle.encoding_base.specs.Fronts.{WritesFront}
 use Rattle.encoding_base.specs.Steps.Strides.{BelowUpTo}
-use Rattle.encoding_base.proofs.strides.widen_ascii.Given as goal
+use Rattle.encoding_base.proofs.strides.copies.copy_ascii.Given as goal
 
 abbrev pub invariant-loop-stride : goal.invariant-loop-stride
 invariant-loop-stride g l = record {
