@@ -79,13 +79,13 @@ fn run_of_units_below<const N: usize>(units: &[u16], at: usize, bound: u16) -> u
     requires { (at + N ≤ length units.now) × (N ≤ 64) }
     ensures { IsRunBelow bound units.now at N result }
 {
-    let others = Simd::<u16, N>::from_slice(&units[at..])
+    let high = Simd::<u16, N>::from_slice(&units[at..])
         .simd_ge(Simd::splat(bound))
         .to_bitmask();
-    if others == 0 {
+    if high == 0 {
         N
     } else {
-        others.trailing_zeros() as usize
+        high.trailing_zeros() as usize
     }
 }
 

@@ -1,13 +1,13 @@
 use Rattle.std.proofs.Common.{arith, length, length-take}
-use Rattle.encoding_base.proofs.Latin.AsciiLemmas.{IsFirstOther-stopped, IsAscii-through}
+use Rattle.encoding_base.proofs.Latin.AsciiLemmas.{IsFirstOther-at, IsAscii-through}
 use Rattle.encoding_base.proofs.ascii.ascii_to_basic_latin.Goals as goal
 
 pub returns-then-front-dst-clause-found : goal.returns-then-front-dst-clause-found
 returns-then-front-dst-clause-found c =
-    let ascii = c.widen_ascii-front.ensures.ascii (c.widen_ascii-by_strides.ensures.ascii (c.widen_ascii-by_blocks.ensures.ascii (λ k l. absurd (omega arith)))) in
-    IsFirstOther-stopped c.args.src.now (length c.args.dst.now) c.widen_ascii-front.result (omega arith) (omega arith) ascii (λ l m. c.widen_ascii-front.ensures.stops l (omega arith))
+    let front = c.widen_last_ascii-front in
+    IsFirstOther-at c.args.src.now (length c.args.dst.now) front.result (omega arith) (omega arith) front.ensures.ascii (front.ensures.stops (omega arith) (omega arith))
 
 pub returns-else-front-src-clause-found : goal.returns-else-front-src-clause-found
 returns-else-front-src-clause-found c =
-    let ascii = c.widen_ascii-front.ensures.ascii (c.widen_ascii-by_strides.ensures.ascii (c.widen_ascii-by_blocks.ensures.ascii (λ k l. absurd (omega arith)))) in
-    IsAscii-through c.args.src.now (length c.args.dst.now) c.widen_ascii-front.result ascii (omega (arith, length-take (length c.args.dst.now) c.args.src.now, c.else-front-src.either))
+    let front = c.widen_last_ascii-front in
+    IsAscii-through c.args.src.now (length c.args.dst.now) front.result front.ensures.ascii (omega (arith, length-take (length c.args.dst.now) c.args.src.now, c.else-front-src.either))
