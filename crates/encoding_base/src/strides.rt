@@ -221,7 +221,7 @@ fn are_last_bytes_below<const N: usize>(bytes: &[u8], from: usize, bound: u8) ->
     bytes.len() - from < N && are_bytes_below::<N>(bytes, bytes.len() - N, bound)
 }
 
-/// Whether each byte is below the bound.
+/// Whether each byte is below the bound. The first ones, which most often decide it, are looked at alone.
 #[inline(always)]
 pub fn are_all_bytes_below(bytes: &[u8], bound: u8) -> bool
     ensures { IsTrue result ↔ EachIndex bytes.now (λ k. slice_index bytes.now k < bound) }
@@ -229,8 +229,11 @@ pub fn are_all_bytes_below(bytes: &[u8], bound: u8) -> bool
     if bytes.len() < STRIDE {
         return short_front_below(bytes, bound) == bytes.len();
     }
+    if !are_bytes_below::<STRIDE>(bytes, 0, bound) {
+        return false;
+    }
     if bytes.len() < BLOCK {
-        let by_strides = skip_bytes_below::<STRIDE>(bytes, 0, bound);
+        let by_strides = skip_bytes_below::<STRIDE>(bytes, STRIDE, bound);
         return are_last_bytes_below::<STRIDE>(bytes, by_strides, bound);
     }
     let by_blocks = skip_blocks_below(bytes, bound);
@@ -269,16 +272,19 @@ fn are_all_below_by<const N: usize>(units: &[u16], bound: u16) -> bool
     units.len() - at < N && are_units_below::<N>(units, units.len() - N, bound)
 }
 
-/// Whether each UTF-16 code unit is below the bound.
+/// Whether each UTF-16 code unit is below the bound. The first ones, which most often decide it, are looked at alone.
 #[inline(always)]
 pub fn are_all_below(units: &[u16], bound: u16) -> bool
     ensures { IsTrue result ↔ EachIndex units.now (λ k. slice_index units.now k < bound) }
 {
-    if units.len() >= UNIT_BLOCK {
-        are_all_below_by::<UNIT_BLOCK>(units, bound)
-    } else if units.len() >= UNIT_STRIDE {
-        are_all_below_by::<UNIT_STRIDE>(units, bound)
-    } else {
-        skip_units_below::<1>(units, 0, bound) == units.len()
+    if units.len() < UNIT_STRIDE {
+        return skip_units_below::<1>(units, 0, bound) == units.len();
     }
+    if !are_units_below::<UNIT_STRIDE>(units, 0, bound) {
+        return false;
+    }
+    if units.len() < UNIT_BLOCK {
+        return are_all_below_by::<UNIT_STRIDE>(units, bound);
+    }
+    are_all_below_by::<UNIT_BLOCK>(units, bound)
 }

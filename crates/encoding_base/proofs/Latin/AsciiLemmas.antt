@@ -58,17 +58,6 @@ IsFirstOther-at xs room n l m h s =
       ascii_front_at (take room xs) n short (λ k b. rw (same k (omega arith)) (h k b)) (rw (same n m) s),
     )
 
--- with one more unit it isn't ASCII
-other_at : (xs : List ℕ) (n : ℕ) → (AllBelow 0x80 xs n 1 → ⊥) → 0x80 ≤ slice_index xs n
-other_at xs n h = elim (cases_lt (slice_index xs n) 0x80) [
-  | inl p ↦ absurd (h (λ k from to. let e : k ≡ n = omega arith in rw e p))
-  | inr p ↦ p
-]
-
-pub IsFirstOther-stopped : (xs : List ℕ) (room n : ℕ) → n < length xs → n < room → BelowUpTo 0x80 xs n → (n + 1 ≤ length xs → n + 1 ≤ room → AllBelow 0x80 xs n 1 → ⊥)
-    → IsFirstOther (take room xs) (Some (slice_index xs n, n))
-IsFirstOther-stopped xs room n l m h s = IsFirstOther-at xs room n l m h (other_at xs n (s (omega arith) (omega arith)))
-
 -- nothing is left
 pub IsAscii-through : (xs : List ℕ) (room n : ℕ) → BelowUpTo 0x80 xs n → length (take room xs) ≤ n → IsAscii (take room xs)
 IsAscii-through xs room n h e i = elim (cases_lt i (length (take room xs))) [
