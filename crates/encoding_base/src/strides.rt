@@ -26,9 +26,12 @@ const STRIDE: usize = 16;
 const HALF_STRIDE: usize = 8;
 
 /// The UTF-16 code units that one test covers.
-const UNIT_BLOCK: usize = 32;
+const UNIT_BLOCK: usize = 64;
 
 /// The UTF-16 code units of a text shorter than a block that one test covers.
+const HALF_UNIT_BLOCK: usize = 32;
+
+/// The UTF-16 code units of a text shorter than that which one test covers.
 const UNIT_STRIDE: usize = 8;
 
 /// The least byte that isn't ASCII.
@@ -283,8 +286,9 @@ pub fn are_all_below(units: &[u16], bound: u16) -> bool
     if !are_units_below::<UNIT_STRIDE>(units, 0, bound) {
         return false;
     }
-    if units.len() < UNIT_BLOCK {
-        return are_all_below_by::<UNIT_STRIDE>(units, bound);
+    match units.len() {
+        ..HALF_UNIT_BLOCK => are_all_below_by::<UNIT_STRIDE>(units, bound),
+        HALF_UNIT_BLOCK..UNIT_BLOCK => are_all_below_by::<HALF_UNIT_BLOCK>(units, bound),
+        _ => are_all_below_by::<UNIT_BLOCK>(units, bound),
     }
-    are_all_below_by::<UNIT_BLOCK>(units, bound)
 }
