@@ -60,7 +60,20 @@ pub fn is_utf16_latin1(buffer: &[u16]) -> bool
 }
 
 /// The number of bytes in the longest front that is the UTF-8 of scalar values up to U+00FF.
+#[inline]
 pub fn utf8_latin1_up_to(buffer: &[u8]) -> usize
+    ensures { IsLongestFront IsUtf8Latin1 buffer.now result }
+{
+    // most other text ends here
+    if !buffer.is_empty() && buffer[0] >= BEYOND_LATIN1 {
+        return 0;
+    }
+    longest_latin1(buffer)
+}
+
+/// The same, out of line.
+#[inline(never)]
+fn longest_latin1(buffer: &[u8]) -> usize
     ensures { IsLongestFront IsUtf8Latin1 buffer.now result }
 {
     let mut read = latin1_front(buffer);

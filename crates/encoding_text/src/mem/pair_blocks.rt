@@ -136,9 +136,6 @@ fn latin1_blocks(bytes: &[u8], from: usize) -> usize
 pub(super) fn latin1_front(bytes: &[u8]) -> usize
     ensures { (result ≤ length bytes.now) × IsUtf8Latin1 (take result bytes.now) }
 {
-    if bytes.is_empty() || bytes[0] >= BEYOND_LATIN1 {
-        return 0;
-    }
     let front = front_below(bytes, ASCII_END);
     if front == bytes.len() {
         return front;

@@ -1,6 +1,6 @@
 use Rattle.std.proofs.Common.{◌-◌, ◌≤◌, length, take}
 use Rattle.encoding_base.specs.Latin1.{IsUtf8Latin1}
-use Rattle.encoding_text.proofs.mem.checks.utf8_latin1_up_to.Given as goal
+use Rattle.encoding_text.proofs.mem.checks.longest_latin1.Given as goal
 
 abbrev pub invariant-loop-read : goal.invariant-loop-read
 invariant-loop-read l = record {
