@@ -8,7 +8,8 @@ mod copies;
 
 pub use copies::{copy_ascii, put_first};
 pub(crate) use copies::{
-    LANES, copy_last_ascii, narrow_ascii, narrow_last_ascii, widen_ascii, widen_last_ascii,
+    LANES, copy_front, copy_last_ascii, narrow_ascii, narrow_last_ascii, widen_ascii,
+    widen_last_ascii,
 };
 use std::simd::Simd;
 use std::simd::prelude::*;

@@ -6,7 +6,7 @@ use Rattle.std.specs.Simd.{first_chunks}
 use Rattle.encoding_base.specs.Steps.Strides.{AllBelow, IsRunBelow}
 
 -- the stride of a number
-numbered : (n k : ℕ) (xs : List ℕ) (i : ℕ) (d : List ℕ) → i < k → get_or (first_chunks n k xs) i d ≡ take n (drop (i * n) xs)
+pub numbered : (n k : ℕ) (xs : List ℕ) (i : ℕ) (d : List ℕ) → i < k → get_or (first_chunks n k xs) i d ≡ take n (drop (i * n) xs)
 numbered n zero xs i d h = absurd (omega arith)
 numbered n (suc k) xs zero d h = let e : 0 * n ≡ 0 = omega arith in rw e refl
 numbered n (suc k) xs (suc i) d h =
@@ -14,7 +14,7 @@ numbered n (suc k) xs (suc i) d h =
     numbered n k (drop n xs) i d (omega arith) ∙ ap (take n) (drop-drop (i * n) n xs ∙ ap (λ m. drop m xs) e)
 
 -- so many strides are no longer than the list
-many : (n k i long : ℕ) → k ≡ long / n → i < k → i * n + n ≤ long
+pub many : (n k i long : ℕ) → k ≡ long / n → i < k → i * n + n ≤ long
 many n k i long e l = omega (arith, e, div-mul-le_self long n, mul-le-mul_right {m = i + 1} {n = long / n} n (omega (arith, e)))
 
 -- the stride of a number of a part from one place on up to another, where the strides before it end at a place

@@ -1,15 +1,18 @@
-//! Copies of ASCII by vectors, as far as it goes.
+//! Copies by vectors, of ASCII as far as it goes.
 
 ghost use Rattle.std.specs.Prelude.{◌≡◌, ◌+◌, ◌<◌, ◌≤◌, ◌++◌, ℕ, List, length, take, drop, slice_index};
 ghost use Rattle.encoding_base.specs.Fronts.{WritesFront};
 ghost use Rattle.encoding_base.specs.Steps.Strides.{AllBelow, BelowUpTo};
 
 use super::{
-    ASCII_END, BASIC_LATIN_END, STRIDE, are_bytes_below, are_units_below, run_below,
+    ASCII_END, BASIC_LATIN_END, HALF_STRIDE, STRIDE, are_bytes_below, are_units_below, run_below,
     run_of_units_below,
 };
 use std::simd::Simd;
 use std::simd::prelude::*;
+
+/// The most bytes that are copied by strides.
+const MOST_STRIDES: usize = 256;
 
 /// The places of the lanes of a stride.
 pub(crate) const LANES: [u8; STRIDE] = [0, 1, 2, 3, 4, 5, 6, 7, 8, 9, 10, 11, 12, 13, 14, 15];
@@ -21,6 +24,41 @@ fn copy<const N: usize>(stride: &[u8; N], dst: &mut [u8], at: usize)
     ensures { dst.new ≡ take at dst.old ++ (stride.now ++ drop (at + N) dst.old) }
 {
     Simd::<u8, N>::from_slice(stride).copy_to_slice(&mut dst[at..]);
+}
+
+/// Writes the bytes at the front, N at a time. The last stride may begin before the one before it ends.
+#[inline(always)]
+fn copy_by_strides<const N: usize>(src: &[u8], dst: &mut [u8])
+    requires { (0 < N) × (N ≤ 64) × (N ≤ length src.now) × (length src.now ≤ length dst.old) }
+    ensures { WritesFront dst.old dst.new (length src.now) src.now }
+{
+    let (strides, _) = src.as_chunks::<N>();
+    let mut front = 0;
+    for stride in strides {
+        copy::<N>(stride, dst, front);
+        front += N;
+    }
+    if front < src.len() {
+        let last = src.len() - N;
+        Simd::<u8, N>::from_slice(&src[last..]).copy_to_slice(&mut dst[last..]);
+    }
+}
+
+/// Writes the bytes at the front. Few are not worth a call of the C library, which goes through a table of addresses.
+#[inline]
+pub(crate) fn copy_front(src: &[u8], dst: &mut [u8])
+    requires { length src.now ≤ length dst.old }
+    ensures { WritesFront dst.old dst.new (length src.now) src.now }
+{
+    match src.len() {
+        0 => {}
+        1 => dst[0] = src[0],
+        2..4 => copy_by_strides::<2>(src, dst),
+        4..HALF_STRIDE => copy_by_strides::<4>(src, dst),
+        HALF_STRIDE..STRIDE => copy_by_strides::<HALF_STRIDE>(src, dst),
+        STRIDE..=MOST_STRIDES => copy_by_strides::<STRIDE>(src, dst),
+        _ => dst[..src.len()].copy_from_slice(src),
+    }
 }
 
 /// Writes a stride of bytes to a place, each as a UTF-16 code unit.

@@ -9,6 +9,7 @@ ghost use Rattle.encoding_base.specs.Steps.Converting.{Converted};
 
 use super::text_units::write_text;
 use super::validation::{character_length, utf8_valid_up_to};
+use crate::strides::copy_front;
 
 /// The most bytes that are validated before they are converted: so many stay in the nearest cache.
 const PIECE: usize = 4096;
@@ -112,7 +113,7 @@ fn copy_utf8_up_to_invalid(src: &[u8], dst: &mut [u8]) -> (usize, usize)
 {
     let room = src.len().min(dst.len());
     let length = utf8_valid_up_to(&src[..room]);
-    dst[..length].copy_from_slice(&src[..length]);
+    copy_front(&src[..length], dst);
     (length, length)
 }
 
