@@ -1,7 +1,7 @@
 -- The rounds of the engine, one behind the other, up to the end or a fault.
-use Rattle.std.proofs.Common.{◌≡◌, ℕ, ◌+◌, ◌<◌, ◌≤◌, Bool, true, false, List, [], ◌++◌, length, Option, inl, refl, sym, ap, ◌∙◌, arith, subst}
+use Rattle.std.proofs.Common.{◌≡◌, ℕ, ◌+◌, ◌<◌, ◌≤◌, Bool, true, false, List, [], ◌++◌, length, Option, refl, sym, ap, ◌∙◌, arith, subst}
 use Rattle.std.specs.Io.KnownBytes.{Keeps}
-use Rattle.std.proofs.KnownBytes.{Appends-trans, Consumes-nil, Consumes-trans, Consumes-kept}
+use Rattle.std.proofs.KnownBytes.{Appends-trans, Consumes-trans, Consumes-kept}
 use Rattle.std.proofs.lemmas.List.{length-append, take_at}
 use Rattle.encoding_base.specs.Pending.{IsPending}
 use Rattle.encoding_base.specs.Parts.{Part, repaired_text}
@@ -10,7 +10,7 @@ use Rattle.encoding_runs.specs.Repairs.{IsSettledText, IsDue, IsProperFront, Rep
 use Rattle.encoding_runs.specs.Steps.Writing.{AreFirst, WritesParts, StopsInParts}
 use Rattle.encoding_runs.specs.Steps.Rounds.{ReadsRound, Reaches}
 use Rattle.encoding_runs.proofs.SettledLemmas.{settled_first, settled_behind, AreFirst-more}
-use Rattle.encoding_runs.proofs.RepairLemmas.{wrote_all, wrote_behind, wrote_count, front_behind, longer_front}
+use Rattle.encoding_runs.proofs.RepairLemmas.{wrote_all, wrote_behind, front_behind, longer_front}
 
 pub reaches_more : (unread mid left old new now : Option (List ℕ)) (read n : ℕ) (p : List ℕ) (room : ℕ) (bytes : List ℕ) (before after : Bool) (m : ℕ) (q : List ℕ)
     → Reaches unread mid old new read n p → ReadsRound room bytes false mid left before after → WritesParts false (p ++ bytes) q new now m → IsPending q

@@ -4,7 +4,7 @@ use Rattle.std.specs.List.{flat_map}
 use Rattle.std.specs.Str.{IsAscii}
 use Rattle.std.specs.Simd.Lanes.{chunk}
 use Rattle.std.proofs.lemmas.Bool.{cases_lt}
-use Rattle.std.proofs.lemmas.List.{append-nil, take-append-drop, take_rest, get_or-drop, get_or-take, get_or_past}
+use Rattle.std.proofs.lemmas.List.{take-append-drop, take_rest, get_or-drop, get_or-take, get_or_past}
 use Rattle.std.proofs.lemmas.List.Concat.{flat_map-append}
 use Rattle.std.proofs.lemmas.Simd.{get_or-chunk, length-chunk}
 use Rattle.std.proofs.lemmas.Str.{encode_ascii, encodes-append, encodes-IsAscii}
@@ -142,12 +142,6 @@ module _ (us old new after : List ℕ) (n written : ℕ) (w : WritesFront old ne
       → after ≡ take written new ++ (encode_utf8_all (take k (drop n us)) ++ drop (written + m) new)
       → WritesFront old after (written + m) (encode_utf8_all (take (n + k) us))
   written_eight k m count room put = WritesFront-same _ _ _ _ _ _ (WritesFront_put old new after written m _ _ w count room put) refl (encodes_more us n k)
-
--- a call that wrote nothing
-pub written_none : (old new sub out more : List ℕ) (written m : ℕ) → WritesFront old new written out → WritesFront (take (length new - written) (drop written new)) sub m (take m more) → m ≡ 0
-    → WritesFront old (put_mid written (length new - written) new sub) written out
-written_none old new sub out more written m w v e =
-    WritesFront-same _ _ _ _ _ _ (WritesFront_after old new written out sub m (take m more) w v) (omega (arith, e)) (ap (λ k. out ++ take k more) e ∙ append-nil out)
 
 -- an ASCII front of what is left
 module _ (us : List ℕ) (n m : ℕ) (below : BelowUpTo 0x80 (take (length us - n) (drop n us)) m) where

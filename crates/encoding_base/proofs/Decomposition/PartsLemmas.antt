@@ -1,7 +1,6 @@
 -- The first part of bytes: there is one, there is only one, and when it stays the first whatever follows.
-use Rattle.std.proofs.Common.{◌≡◌, ℕ, ◌+◌, ◌<◌, ◌≤◌, ◌⊎◌, inl, inr, List, [], ◌∷◌, ◌++◌, length, encode_utf8, refl, sym, ap, ◌∙◌, arith, subst, drop, take}
-use Rattle.std.proofs.lemmas.Bool.{cases_lt}
-use Rattle.std.proofs.lemmas.List.{length-append, length-take, append-nil, append_assoc, take_at, drop_at, take-append-drop, take-append-le}
+use Rattle.std.proofs.Common.{◌≡◌, ℕ, ◌<◌, ◌≤◌, ◌⊎◌, inl, inr, List, [], ◌∷◌, ◌++◌, length, encode_utf8, refl, sym, ap, ◌∙◌, arith, subst, drop, take}
+use Rattle.std.proofs.lemmas.List.{length-append, append-nil, append_assoc, take_at, drop_at}
 use Rattle.std.proofs.lemmas.Str.{encode_same, length-encode, len_utf8_bounds}
 use Rattle.encoding_base.specs.Sequence.{IsSequence, IsBeginning, BeginsNothing}
 use Rattle.encoding_base.specs.Parts.{Part, Character, Broken, bytes_of, BeginsWithNoCharacter, IsLongestBeginning, IsLoneByte, IsFirstPart}

@@ -191,8 +191,8 @@ fn convert_blocks(src: &[u16], dst: &mut [u8]) -> (usize, usize)
             behind -= 1;
             continue;
         }
-        let front = narrow_ascii::<16>(&src[read..], &mut dst[written..], 0);
-        if front > 0 {
+        if is_short && are_units_below::<16>(src, read, 0x80) {
+            let front = narrow_ascii::<16>(&src[read..], &mut dst[written..], 0);
             read += front;
             written += front;
         } else if is_short {

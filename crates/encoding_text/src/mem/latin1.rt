@@ -6,9 +6,12 @@ ghost use Rattle.std.specs.Str.{chars};
 ghost use Rattle.encoding_base.specs.Fronts.{FitsLongest, WritesFront};
 ghost use Rattle.encoding_base.specs.Latin1.{IsUtf8Latin1};
 
-use encoding_base::strides::{copy_ascii, put_first};
+use encoding_base::strides::{are_bytes_below, copy_ascii, put_first};
 use encoding_base::utf_8::{latin1_of, write_short};
 use std::simd::prelude::*;
+
+/// The least byte that isn't ASCII.
+const ASCII_END: u8 = 0x80;
 
 /// The bytes that a character from U+0080 to U+00FF takes in UTF-8.
 const HIGH_LENGTH: usize = 2;
@@ -32,8 +35,8 @@ fn convert_latin1_blocks(src: &[u8], dst: &mut [u8]) -> (usize, usize)
     let mut read = 0;
     let mut written = 0;
     while src.len() - read >= 16 && dst.len() - written >= 32 {
-        let front = copy_ascii::<16>(&src[read..], &mut dst[written..], 0);
-        if front > 0 {
+        if are_bytes_below::<16>(src, read, ASCII_END) {
+            let front = copy_ascii::<16>(&src[read..], &mut dst[written..], 0);
             read += front;
             written += front;
         } else {
@@ -103,8 +106,8 @@ pub fn convert_utf8_to_latin1_lossy(src: &[u8], dst: &mut [u8]) -> usize
     let mut read = copy_ascii::<64>(src, dst, 0);
     let mut written = read;
     while src.len() - read >= 16 && dst.len() - written >= 16 {
-        let front = copy_ascii::<16>(&src[read..], &mut dst[written..], 0);
-        if front > 0 {
+        if are_bytes_below::<16>(src, read, ASCII_END) {
+            let front = copy_ascii::<16>(&src[read..], &mut dst[written..], 0);
             read += front;
             written += front;
         } else {

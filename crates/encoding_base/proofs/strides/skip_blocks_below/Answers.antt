@@ -1,4 +1,4 @@
-use Rattle.std.proofs.Common.{[], drop, take, length, get_or, inl, inr, arith, refl}
+use Rattle.std.proofs.Common.{[], length, get_or, inl, inr, arith, refl}
 use Rattle.std.proofs.lemmas.Bool.{cases_lt}
 use Rattle.encoding_base.proofs.Lanes.ChunksLemmas.{stride_at, below_stride}
 use Rattle.encoding_base.proofs.strides.skip_blocks_below.Goals as goal

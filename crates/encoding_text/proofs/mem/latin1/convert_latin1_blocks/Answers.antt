@@ -1,11 +1,11 @@
 use Rattle.std.proofs.Common.{arith, length, take, drop, ◌+◌, ◌-◌, map-id}
 use Rattle.std.specs.Simd.Lanes.{chunk}
 use Rattle.encoding_base.proofs.LongestFronts.FrontsLemmas.{WritesFront-nil}
-use Rattle.encoding_base.proofs.CodeUnits.UnitBlocksLemmas.{short_lanes, written_short, written_none, written_ascii}
+use Rattle.encoding_base.proofs.CodeUnits.UnitBlocksLemmas.{short_lanes, written_short, written_ascii}
 use Rattle.encoding_text.proofs.mem.latin1.convert_latin1_blocks.Goals as goal
 
-pub loop-read-preserved-then-front-gt0 : goal.loop-read-preserved-then-front-gt0
-loop-read-preserved-then-front-gt0 c =
+pub loop-read-preserved-then-are_bytes_below : goal.loop-read-preserved-then-are_bytes_below
+loop-read-preserved-then-are_bytes_below c =
     let us = c.args.src.now in
     let here = c.loop-read.invariant in
     let call = c.copy_ascii-front.ensures in
@@ -27,13 +27,9 @@ loop-read-preserved c =
     let us = c.args.src.now in
     let read = c.loop-read.read in
     let here = c.loop-read.invariant in
-    let dst = c.loop-read.dst in
-    let front = c.copy_ascii-front.ensures in
-    let same = written_none c.args.dst.now dst c.copy_ascii-front.new.dst _ _ c.loop-read.written c.copy_ascii-front.result here.written
-    (front.copied _ (WritesFront-nil (take (length dst - c.loop-read.written) (drop c.loop-read.written dst)))) (omega arith) in
     let call = c.write_short-written.ensures in
     record {
       within = omega arith;
-      written = written_short us c.args.dst.now _ c.write_short-written.new.dst read c.loop-read.written same _ _ c.write_short-written.result
+      written = written_short us c.args.dst.now _ c.write_short-written.new.dst read c.loop-read.written here.written _ _ c.write_short-written.result
           (map-id (chunk read 8 us)) (map-id (chunk (read + 8) 8 us)) call.count (omega (arith, call.most)) call.written;
     }

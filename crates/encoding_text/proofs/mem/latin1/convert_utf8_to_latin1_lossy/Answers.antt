@@ -6,7 +6,6 @@ use Rattle.encoding_base.proofs.Latin.AsciiLemmas.{WritesFront_copy}
 use Rattle.encoding_base.proofs.LongestFronts.FrontsLemmas.{WritesFront-nil}
 use Rattle.encoding_text.proofs.Latin.Latin1Lemmas.{latin1_chars, next_of_one, next_of_two}
 use Rattle.encoding_text.proofs.Latin.Latin1ConversionLemmas.{character_of_two, run_rest, run_written, ascii_front, begins_apart, block_rest, block_written}
-use Rattle.encoding_base.proofs.CodeUnits.UnitBlocksLemmas.{written_none}
 use Rattle.encoding_text.proofs.mem.latin1.convert_utf8_to_latin1_lossy.Goals as goal
 use Rattle.encoding_text.proofs.mem.latin1.convert_utf8_to_latin1_lossy.Goals.{then-byte-lt128, else-byte-lt128}
 
@@ -23,8 +22,8 @@ loop-read-init c =
       written = rw run.0 at (call.copied c.args.dst.now (WritesFront-nil c.args.dst.now));
     }
 
-pub loop-read-preserved-then-front-gt0 : goal.loop-read-preserved-then-front-gt0
-loop-read-preserved-then-front-gt0 c =
+pub loop-read-preserved-then-are_bytes_below : goal.loop-read-preserved-then-are_bytes_below
+loop-read-preserved-then-are_bytes_below c =
     let src = c.args.src.now in
     let cs = chars src in
     let text = latin1_chars src c.requires.latin1 in
@@ -51,17 +50,13 @@ loop-read-preserved c =
     let cs = chars src in
     let text = latin1_chars src c.requires.latin1 in
     let had = c.loop-read.invariant in
-    let dst = c.loop-read.dst in
-    let front = c.copy_ascii-front.ensures in
-    let same = written_none c.args.dst.now dst c.copy_ascii-front.new.dst _ _ c.loop-read.written c.copy_ascii-front.result had.written
-    (front.copied _ (WritesFront-nil (take (length dst - c.loop-read.written) (drop c.loop-read.written dst)))) (omega arith) in
     let call = c.latin1_of-count.ensures in
     let whole = c.whole_length-read.ensures in
     record {
       within = omega (arith, whole);
-      rest = block_rest src cs c.args.dst.now _ c.put_first.new.dst c.loop-read.read c.loop-read.written c.latin1_of-count.result.1 c.whole_length-read.result text.0 had.rest same c.latin1_of-count.result.0 call.ended
+      rest = block_rest src cs c.args.dst.now _ c.put_first.new.dst c.loop-read.read c.loop-read.written c.latin1_of-count.result.1 c.whole_length-read.result text.0 had.rest had.written c.latin1_of-count.result.0 call.ended
           (omega (arith, call.long, call.count)) (omega (arith, call.count)) c.put_first.ensures (omega arith) whole;
-      written = block_written src cs c.args.dst.now _ c.put_first.new.dst c.loop-read.read c.loop-read.written c.latin1_of-count.result.1 c.whole_length-read.result text.0 had.rest same c.latin1_of-count.result.0 call.ended
+      written = block_written src cs c.args.dst.now _ c.put_first.new.dst c.loop-read.read c.loop-read.written c.latin1_of-count.result.1 c.whole_length-read.result text.0 had.rest had.written c.latin1_of-count.result.0 call.ended
           (omega (arith, call.long, call.count)) (omega (arith, call.count)) c.put_first.ensures (omega arith) whole;
     }
 
