@@ -1,10 +1,8 @@
 //! Slices by vectors: how many first units are below a bound.
-
-ghost use Rattle.std.specs.Prelude.{◌≡◌, ◌↔◌, ◌+◌, ◌<◌, ◌≤◌, ◌++◌, ℕ, List, length, take, drop, slice_index, EachIndex, IsTrue};
-ghost use Rattle.encoding_base.specs.Fronts.{WritesFront};
-ghost use Rattle.encoding_base.specs.Steps.Strides.{AllBelow, BelowBetween, BelowUpTo, IsRunBelow};
-
 mod copies;
+
+ghost use Rattle.std.specs.Prelude.{◌↔◌, ◌+◌, ◌<◌, ◌≤◌, length, slice_index, EachIndex, IsTrue};
+ghost use Rattle.encoding_base.specs.Steps.Strides.{AllBelow, BelowBetween, BelowUpTo, IsRunBelow};
 
 pub use copies::{copy_ascii, put_first};
 pub(crate) use copies::{

@@ -1,6 +1,6 @@
 -- From the lanes of a vector that was read at a place to the units there.
-use Rattle.std.proofs.Common.{◌≡◌, ℕ, suc, ◌+◌, ◌-◌, ◌^◌, ◌%◌, ◌<◌, ◌≤◌, ◌↔◌, inl, inr, IsTrue, EachIndex, slice_index, Bool, false, not, cond, leb, eqb, List, [], ◌∷◌, ◌++◌, map, length, take, drop, drop-drop, get_or, replicate, refl, sym, ap, ◌∙◌, arith}
-use Rattle.std.proofs.lemmas.Bool.{cases_lt, leb-true, leb-false, lt-leb, eqb-true, eq-eqb, not-true, not-false, not_from_false, not_from_true}
+use Rattle.std.proofs.Common.{◌≡◌, ℕ, suc, ◌+◌, ◌-◌, ◌^◌, ◌%◌, ◌<◌, ◌≤◌, ◌↔◌, IsTrue, Bool, false, not, cond, leb, eqb, List, [], ◌∷◌, ◌++◌, map, length, take, drop, drop-drop, get_or, replicate, refl, sym, ap, ◌∙◌, arith}
+use Rattle.std.proofs.lemmas.Bool.{leb-true, leb-false, lt-leb, eqb-true, eq-eqb, not-true, not-false, not_from_false, not_from_true}
 use Rattle.std.proofs.lemmas.List.{length-map, take_all}
 use Rattle.std.proofs.lemmas.Simd.{tops_compared, zip2_splat_left, length-chunk, get_or-chunk, mask_l-mod, none_from_empty_mask, leading_from_mask_l, put_chunk_is, trailing_mask_l, run_in_chunk_le, run_in_chunk_fails, run_in_chunk_stops}
 use Rattle.std.specs.Simd.Lanes.{zip2, chunk, put_chunk, mask_l, top}
@@ -8,7 +8,7 @@ use Rattle.std.specs.List.{prefix_len}
 use lib.Count.{count_trailing_zeros}
 use mir.Syntax.{Width}
 use mir.Val.{bits, hbits}
-use Rattle.encoding_base.specs.Steps.Strides.{AllBelow, BelowUpTo, IsRunBelow}
+use Rattle.encoding_base.specs.Steps.Strides.{AllBelow, IsRunBelow}
 
 -- the mask of `simd_ge` with a splat, as `any` and `to_bitmask` read it
 abbrev pub others : Width → ℕ → ℕ → List ℕ → ℕ
@@ -63,17 +63,6 @@ run_to_lowest w n bound at xs room few some =
     let long = length-chunk at n xs room in
     let is = bitmask_is w n bound (chunk at n xs) long few in
     run_is bound at n _ xs room (ap (count_trailing_zeros 64) is ∙ trailing_mask_l (leb bound) 64 (chunk at n xs) (omega arith) (omega (arith, is)))
-
--- all units were passed just where each is below the bound
-pub passed_all : (bound n : ℕ) (xs : List ℕ) → n ≤ length xs → BelowUpTo bound xs n → (n + 1 ≤ length xs → AllBelow bound xs n 1 → ⊥)
-    → IsTrue (eqb n (length xs)) ↔ EachIndex xs (λ k. slice_index xs k < bound)
-passed_all bound n xs within below stops = (
-  λ e k l. below k (omega (arith, eqb-true n (length xs) e)),
-  λ h. elim (cases_lt n (length xs)) [
-    | inl short ↦ absurd (stops (omega arith) (λ k from to. h k (omega arith)))
-    | inr whole ↦ eq-eqb n (length xs) (omega arith)
-  ],
-)
 
 -- ---- a store
 pub put_is : {X : Type 0} (at n : ℕ) (xs ys : List X) → length ys ≡ n → at + n ≤ length xs → put_chunk at xs ys ≡ take at xs ++ (ys ++ drop (at + n) xs)
