@@ -15,8 +15,8 @@ use std::simd::prelude::*;
 /// The bytes that one test covers.
 const BLOCK: usize = 64;
 
-/// The bytes of two blocks.
-const TWO_BLOCKS: usize = 128;
+/// The bytes of four blocks.
+const FOUR_BLOCKS: usize = 256;
 
 /// The bytes among which one test finds a place.
 const STRIDE: usize = 16;
@@ -136,19 +136,22 @@ fn front_by_strides<const N: usize>(bytes: &[u8], from: usize, bound: u8) -> usi
     last + run_below::<N>(bytes, last, bound)
 }
 
-/// Whether each of the bytes of two blocks from a place on is below the bound, by one test.
+/// Whether each of the bytes of four blocks from a place on is below the bound, by one test.
 #[inline(always)]
-fn are_two_blocks_below(bytes: &[u8], at: usize, bound: u8) -> bool
-    requires { at + 128 ≤ length bytes.now }
-    ensures { IsTrue result → AllBelow bound bytes.now at 128 }
+fn are_four_blocks_below(bytes: &[u8], at: usize, bound: u8) -> bool
+    requires { at + 256 ≤ length bytes.now }
+    ensures { IsTrue result → AllBelow bound bytes.now at 256 }
 {
-    let first = Simd::<u8, BLOCK>::from_slice(&bytes[at..]).simd_ge(Simd::splat(bound));
-    let second = Simd::<u8, BLOCK>::from_slice(&bytes[at + BLOCK..]).simd_ge(Simd::splat(bound));
-    !(first | second).any()
+    let bounds = Simd::<u8, BLOCK>::splat(bound);
+    let first = Simd::<u8, BLOCK>::from_slice(&bytes[at..]).simd_ge(bounds);
+    let second = Simd::<u8, BLOCK>::from_slice(&bytes[at + BLOCK..]).simd_ge(bounds);
+    let third = Simd::<u8, BLOCK>::from_slice(&bytes[at + 2 * BLOCK..]).simd_ge(bounds);
+    let fourth = Simd::<u8, BLOCK>::from_slice(&bytes[at + 3 * BLOCK..]).simd_ge(bounds);
+    !((first | second) | (third | fourth)).any()
 }
 
 /// Goes by blocks from the beginning on while their bytes are below the bound, and returns where that ends: behind the
-/// first by two at a time, since it is the first that most often has another byte.
+/// first by four at a time, since it is the first that most often has another byte.
 #[inline(always)]
 fn skip_blocks_below(bytes: &[u8], bound: u8) -> usize
     requires { 64 ≤ length bytes.now }
@@ -159,13 +162,13 @@ fn skip_blocks_below(bytes: &[u8], bound: u8) -> usize
     if !are_bytes_below::<BLOCK>(bytes, 0, bound) {
         return 0;
     }
-    let (pairs, _) = bytes[BLOCK..].as_chunks::<TWO_BLOCKS>();
+    let (fours, _) = bytes[BLOCK..].as_chunks::<FOUR_BLOCKS>();
     let mut at = BLOCK;
-    for pair in pairs {
-        if !are_two_blocks_below(pair, 0, bound) {
+    for four in fours {
+        if !are_four_blocks_below(four, 0, bound) {
             break;
         }
-        at += TWO_BLOCKS;
+        at += FOUR_BLOCKS;
     }
     skip_bytes_below::<BLOCK>(bytes, at, bound)
 }

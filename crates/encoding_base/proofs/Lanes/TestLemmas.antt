@@ -57,18 +57,29 @@ module _ {w : Width} {n : ℕ} {a : List ℕ} {t : ℕ → Bool} where
   pub none_passes : HasTests w n a t → n ≤ 64 → IsTrue (not (not (eqb (mask_of (hbits w) a) 0))) ↔ ((k : ℕ) → k < n → t k ≡ false)
   none_passes p few = not_any_is (hbits w) p.lanes few (λ k. t k ≡ false) (λ k l. (λ e. sym (top_compared w (t k)) ∙ e, λ e. top_compared w (t k) ∙ e))
 
--- two vectors that stand one behind the other, compared with a bound and joined by `|`: no lane is from the bound on only where each unit is below it
-pub no_others_in_two : (w : Width) (n bound at : ℕ) (xs : List ℕ) → at + 2 * n ≤ length xs → n ≤ 64
-    → IsTrue (not (not (eqb (mask_of (hbits w) (zip2 bit_or (zip2 (compared w leb) (replicate n bound) (chunk at n xs)) (zip2 (compared w leb) (replicate n bound) (chunk (at + n) n xs)))) 0)))
-    → AllBelow bound xs at (2 * n)
-no_others_in_two w n bound at xs room few none k from to =
-    let tests = λ (place : ℕ) (p : place + n ≤ length xs). tests_of w leb (HasLanes-splat n bound) (HasLanes-load place n xs p) in
-    let clear = (none_passes (tests_or (tests at (omega arith)) (tests (at + n) (omega arith))) few).0 none in
-    elim (cases_lt k (at + n)) [
-      | inl l ↦
-          let is : at + (k - at) ≡ k = omega arith in
-          leb-false bound _ (ap (λ j. leb bound (get_or xs j 0)) (sym is) ∙ (or_parts _ _ (clear (k - at) (omega arith))).0)
-      | inr l ↦
-          let is : (at + n) + (k - (at + n)) ≡ k = omega arith in
-          leb-false bound _ (ap (λ j. leb bound (get_or xs j 0)) (sym is) ∙ (or_parts _ _ (clear (k - (at + n)) (omega arith))).1)
-    ]
+-- four vectors that stand one behind the other, compared with a bound and joined by `|`: no lane is from the bound on only where each unit is below it
+module _ (w : Width) (n bound at : ℕ) (xs : List ℕ) where
+  below_at : (place k : ℕ) → place ≤ k → ((j : ℕ) → j < n → leb bound (get_or xs (place + j) 0) ≡ false) → k < place + n → get_or xs k 0 < bound
+  below_at place k from clear to =
+      let is : place + (k - place) ≡ k = omega arith in
+      leb-false bound _ (ap (λ j. leb bound (get_or xs j 0)) (sym is) ∙ clear (k - place) (omega arith))
+
+  pub no_others_in_four : at + 4 * n ≤ length xs → n ≤ 64
+      → IsTrue (not (not (eqb (mask_of (hbits w) (zip2 bit_or (zip2 bit_or (zip2 (compared w leb) (replicate n bound) (chunk at n xs)) (zip2 (compared w leb) (replicate n bound) (chunk (at + n) n xs)))
+      (zip2 bit_or (zip2 (compared w leb) (replicate n bound) (chunk (at + 2 * n) n xs)) (zip2 (compared w leb) (replicate n bound) (chunk (at + 3 * n) n xs))))) 0)))
+      → AllBelow bound xs at (4 * n)
+  no_others_in_four room few none k from to =
+      let tests = λ (place : ℕ) (p : place + n ≤ length xs). tests_of w leb (HasLanes-splat n bound) (HasLanes-load place n xs p) in
+      let first = tests_or (tests at (omega arith)) (tests (at + n) (omega arith)) in
+      let second = tests_or (tests (at + 2 * n) (omega arith)) (tests (at + 3 * n) (omega arith)) in
+      let clear = (none_passes (tests_or first second) few).0 none in
+      elim (cases_lt k (at + 2 * n)) [
+        | inl l ↦ elim (cases_lt k (at + n)) [
+          | inl m ↦ below_at at k from (λ j o. (or_parts _ _ (or_parts _ _ (clear j o)).0).0) m
+          | inr m ↦ below_at (at + n) k m (λ j o. (or_parts _ _ (or_parts _ _ (clear j o)).0).1) (omega arith)
+        ]
+        | inr l ↦ elim (cases_lt k (at + 3 * n)) [
+          | inl m ↦ below_at (at + 2 * n) k l (λ j o. (or_parts _ _ (or_parts _ _ (clear j o)).1).0) (omega arith)
+          | inr m ↦ below_at (at + 3 * n) k m (λ j o. (or_parts _ _ (or_parts _ _ (clear j o)).1).1) (omega arith)
+        ]
+      ]

@@ -1,6 +1,0 @@
-use Rattle.std.proofs.Common.{w8, arith}
-use Rattle.encoding_base.proofs.Lanes.TestLemmas.{no_others_in_two}
-use Rattle.encoding_base.proofs.strides.are_two_blocks_below.Goals as goal
-
-pub returns : goal.returns
-returns c = no_others_in_two w8 64 c.args.bound c.args.at c.args.bytes.now (omega (arith, c.requires)) (omega arith)
