@@ -140,7 +140,7 @@ fn front_by_strides<const N: usize>(bytes: &[u8], from: usize, bound: u8) -> usi
 #[inline(always)]
 fn are_four_blocks_below(bytes: &[u8], at: usize, bound: u8) -> bool
     requires { at + 256 ≤ length bytes.now }
-    ensures { IsTrue result → AllBelow bound bytes.now at 256 }
+    ensures { IsTrue result ↔ AllBelow bound bytes.now at 256 }
 {
     let bounds = Simd::<u8, BLOCK>::splat(bound);
     let first = Simd::<u8, BLOCK>::from_slice(&bytes[at..]).simd_ge(bounds);
@@ -150,14 +150,14 @@ fn are_four_blocks_below(bytes: &[u8], at: usize, bound: u8) -> bool
     !((first | second) | (third | fourth)).any()
 }
 
-/// Goes by blocks from the beginning on while their bytes are below the bound, and returns where that ends: behind the
-/// first by four at a time, since it is the first that most often has another byte.
+/// Goes by four blocks at a time behind the first, which most often has another byte, while their bytes are below the
+/// bound, and returns where that ends.
 #[inline(always)]
-fn skip_blocks_below(bytes: &[u8], bound: u8) -> usize
+fn skip_four_blocks_below(bytes: &[u8], bound: u8) -> usize
     requires { 64 ≤ length bytes.now }
     ensures within { result ≤ length bytes.now }
     ensures below { BelowUpTo bound bytes.now result }
-    ensures stops { result + 64 ≤ length bytes.now → AllBelow bound bytes.now result 64 → ⊥ }
+    ensures stops { result + 256 ≤ length bytes.now → AllBelow bound bytes.now result 256 → ⊥ }
 {
     if !are_bytes_below::<BLOCK>(bytes, 0, bound) {
         return 0;
@@ -170,7 +170,7 @@ fn skip_blocks_below(bytes: &[u8], bound: u8) -> usize
         }
         at += FOUR_BLOCKS;
     }
-    skip_bytes_below::<BLOCK>(bytes, at, bound)
+    at
 }
 
 /// How many bytes come before the first that isn't below the bound. That this is among the first ones is seen first.
@@ -190,7 +190,7 @@ pub fn front_below(bytes: &[u8], bound: u8) -> usize
     if bytes.len() < BLOCK {
         return front_by_strides::<STRIDE>(bytes, STRIDE, bound);
     }
-    let by_blocks = skip_blocks_below(bytes, bound);
+    let by_blocks = skip_four_blocks_below(bytes, bound);
     front_by_strides::<BLOCK>(bytes, by_blocks, bound)
 }
 
@@ -241,8 +241,16 @@ pub fn are_all_bytes_below(bytes: &[u8], bound: u8) -> bool
         let by_strides = skip_bytes_below::<STRIDE>(bytes, STRIDE, bound);
         return are_last_bytes_below::<STRIDE>(bytes, by_strides, bound);
     }
-    let by_blocks = skip_blocks_below(bytes, bound);
-    are_last_bytes_below::<BLOCK>(bytes, by_blocks, bound)
+    if bytes.len() < FOUR_BLOCKS {
+        let by_blocks = skip_bytes_below::<BLOCK>(bytes, STRIDE, bound);
+        return are_last_bytes_below::<BLOCK>(bytes, by_blocks, bound);
+    }
+    let by_fours = skip_four_blocks_below(bytes, bound);
+    if by_fours == bytes.len() {
+        return true;
+    }
+    let last = bytes.len() - FOUR_BLOCKS;
+    last < by_fours && are_four_blocks_below(bytes, last, bound)
 }
 
 /// Goes from a place on by N UTF-16 code units at a time while they are below the bound, and returns where that ends.
