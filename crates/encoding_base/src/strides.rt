@@ -150,23 +150,19 @@ fn are_four_blocks_below(bytes: &[u8], at: usize, bound: u8) -> bool
     !((first | second) | (third | fourth)).any()
 }
 
-/// Goes by four blocks at a time behind the first, which most often has another byte, while their bytes are below the
-/// bound, and returns where that ends.
+/// Goes by four blocks at a time from the beginning on while their bytes are below the bound, and returns where that
+/// ends.
 #[inline(always)]
 fn skip_four_blocks_below(bytes: &[u8], bound: u8) -> usize
-    requires { 64 ≤ length bytes.now }
     ensures within { result ≤ length bytes.now }
     ensures below { BelowUpTo bound bytes.now result }
     ensures stops { result + 256 ≤ length bytes.now → AllBelow bound bytes.now result 256 → ⊥ }
 {
-    if !are_bytes_below::<BLOCK>(bytes, 0, bound) {
-        return 0;
-    }
-    let (fours, _) = bytes[BLOCK..].as_chunks::<FOUR_BLOCKS>();
-    let mut at = BLOCK;
+    let (fours, _) = bytes.as_chunks::<FOUR_BLOCKS>();
+    let mut at = 0;
     for four in fours {
         if !are_four_blocks_below(four, 0, bound) {
-            break;
+            return at;
         }
         at += FOUR_BLOCKS;
     }
