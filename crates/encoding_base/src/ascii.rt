@@ -6,8 +6,7 @@ ghost use Rattle.encoding_base.specs.Ascii.{IsFirstOther, front_length, IsIso202
 ghost use Rattle.encoding_base.specs.Fronts.{IsLongestFront, WritesFront};
 
 use crate::strides::{
-    copy_ascii, copy_last_ascii, front_below, narrow_ascii, narrow_last_ascii, widen_ascii,
-    widen_last_ascii,
+    copy_ascii_front, front_below, narrow_ascii_front, widen_ascii_front,
 };
 
 /// The bits that no ASCII byte has: each of the eight bytes is 0x80.
@@ -70,9 +69,7 @@ pub fn ascii_to_ascii(src: &[u8], dst: &mut [u8]) -> Option<(u8, usize)>
     ensures copied { let n = front_length (take (length dst.old) src.now) result in
         WritesFront dst.old dst.new n (take n src.now) }
 {
-    let by_blocks = copy_ascii::<64>(src, dst, 0);
-    let by_strides = copy_ascii::<16>(src, dst, by_blocks);
-    let front = copy_last_ascii(src, dst, by_strides);
+    let front = copy_ascii_front(src, dst);
     if front < src.len() && front < dst.len() {
         Some((src[front], front))
     } else {
@@ -88,9 +85,7 @@ pub fn ascii_to_basic_latin(src: &[u8], dst: &mut [u16]) -> Option<(u8, usize)>
     ensures copied { let n = front_length (take (length dst.old) src.now) result in
         WritesFront dst.old dst.new n (take n src.now) }
 {
-    let by_blocks = widen_ascii::<64>(src, dst, 0);
-    let by_strides = widen_ascii::<16>(src, dst, by_blocks);
-    let front = widen_last_ascii(src, dst, by_strides);
+    let front = widen_ascii_front(src, dst);
     if front < src.len() && front < dst.len() {
         Some((src[front], front))
     } else {
@@ -106,9 +101,7 @@ pub fn basic_latin_to_ascii(src: &[u16], dst: &mut [u8]) -> Option<(u16, usize)>
     ensures copied { let n = front_length (take (length dst.old) src.now) result in
         WritesFront dst.old dst.new n (take n src.now) }
 {
-    let by_blocks = narrow_ascii::<32>(src, dst, 0);
-    let by_strides = narrow_ascii::<16>(src, dst, by_blocks);
-    let front = narrow_last_ascii(src, dst, by_strides);
+    let front = narrow_ascii_front(src, dst);
     if front < src.len() && front < dst.len() {
         Some((src[front], front))
     } else {

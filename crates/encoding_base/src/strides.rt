@@ -6,8 +6,8 @@ ghost use Rattle.encoding_base.specs.Steps.Strides.{AllBelow, BelowBetween, Belo
 
 pub use copies::{copy_ascii, put_first};
 pub(crate) use copies::{
-    LANES, copy_front, copy_last_ascii, narrow_ascii, narrow_last_ascii, widen_ascii,
-    widen_last_ascii,
+    LANES, copy_ascii_front, copy_front, narrow_ascii, narrow_ascii_front, widen_ascii,
+    widen_ascii_front,
 };
 use std::simd::Simd;
 use std::simd::prelude::*;
@@ -61,7 +61,7 @@ pub(crate) fn are_units_below<const N: usize>(units: &[u16], at: usize, bound: u
 
 /// How many of the N bytes from a place on come before the first that isn't below the bound.
 #[inline(always)]
-fn run_below<const N: usize>(bytes: &[u8], at: usize, bound: u8) -> usize
+pub fn run_below<const N: usize>(bytes: &[u8], at: usize, bound: u8) -> usize
     requires { (at + N ≤ length bytes.now) × (N ≤ 64) }
     ensures { IsRunBelow bound bytes.now at N result }
 {

@@ -183,7 +183,7 @@ fn put_first_units(dst: &mut [u16], at: usize, units: u16x16, count: usize)
 /// Copies the bytes from a place on up to the first that isn't ASCII, where that is among the next sixteen or fewer are
 /// left, and returns where that ends. The last sixteen may begin before the place.
 #[inline(always)]
-pub(crate) fn copy_last_ascii(src: &[u8], dst: &mut [u8], from: usize) -> usize
+fn copy_last_ascii(src: &[u8], dst: &mut [u8], from: usize) -> usize
     requires within { (from ≤ length src.now) × (from ≤ length dst.old) }
     requires ascii { BelowUpTo 0x80 src.now from }
     requires last { from + 16 ≤ length src.now → from + 16 ≤ length dst.old → AllBelow 0x80 src.now from 16 → ⊥ }
@@ -206,7 +206,7 @@ pub(crate) fn copy_last_ascii(src: &[u8], dst: &mut [u8], from: usize) -> usize
 /// Copies the bytes from a place on as UTF-16 code units up to the first that isn't ASCII, where that is among the next
 /// sixteen or fewer are left, and returns where that ends. The last sixteen may begin before the place.
 #[inline(always)]
-pub(crate) fn widen_last_ascii(src: &[u8], dst: &mut [u16], from: usize) -> usize
+fn widen_last_ascii(src: &[u8], dst: &mut [u16], from: usize) -> usize
     requires within { (from ≤ length src.now) × (from ≤ length dst.old) }
     requires ascii { BelowUpTo 0x80 src.now from }
     requires last { from + 16 ≤ length src.now → from + 16 ≤ length dst.old → AllBelow 0x80 src.now from 16 → ⊥ }
@@ -229,7 +229,7 @@ pub(crate) fn widen_last_ascii(src: &[u8], dst: &mut [u16], from: usize) -> usiz
 /// Copies the UTF-16 code units from a place on as bytes up to the first that isn't ASCII, where that is among the next
 /// sixteen or fewer are left, and returns where that ends. The last sixteen may begin before the place.
 #[inline(always)]
-pub(crate) fn narrow_last_ascii(src: &[u16], dst: &mut [u8], from: usize) -> usize
+fn narrow_last_ascii(src: &[u16], dst: &mut [u8], from: usize) -> usize
     requires within { (from ≤ length src.now) × (from ≤ length dst.old) }
     requires ascii { BelowUpTo 0x80 src.now from }
     requires last { from + 16 ≤ length src.now → from + 16 ≤ length dst.old → AllBelow 0x80 src.now from 16 → ⊥ }
@@ -248,4 +248,55 @@ pub(crate) fn narrow_last_ascii(src: &[u16], dst: &mut [u8], from: usize) -> usi
     let lower = u16x16::from_slice(&src[at..]) & u16x16::splat(0xFF);
     put_first(dst, at, lower.cast::<u8>(), run);
     at + run
+}
+
+/// Copies the bytes before the first that isn't ASCII, over the shorter length of the two, and returns how many. That it is
+/// among the first ones is seen first.
+#[inline(always)]
+pub(crate) fn copy_ascii_front(src: &[u8], dst: &mut [u8]) -> usize
+    ensures within { (result ≤ length src.now) × (result ≤ length dst.old) }
+    ensures ascii { BelowUpTo 0x80 src.now result }
+    ensures copied { WritesFront dst.old dst.new result (take result src.now) }
+    ensures stops { result < length src.now → result < length dst.old → 0x80 ≤ slice_index src.now result }
+{
+    if src.len() >= STRIDE && dst.len() >= STRIDE && !are_bytes_below::<STRIDE>(src, 0, ASCII_END) {
+        return copy_last_ascii(src, dst, 0);
+    }
+    let by_blocks = copy_ascii::<64>(src, dst, 0);
+    let by_strides = copy_ascii::<STRIDE>(src, dst, by_blocks);
+    copy_last_ascii(src, dst, by_strides)
+}
+
+/// Copies the bytes before the first that isn't ASCII as UTF-16 code units, over the shorter length of the two, and returns
+/// how many. That it is among the first ones is seen first.
+#[inline(always)]
+pub(crate) fn widen_ascii_front(src: &[u8], dst: &mut [u16]) -> usize
+    ensures within { (result ≤ length src.now) × (result ≤ length dst.old) }
+    ensures ascii { BelowUpTo 0x80 src.now result }
+    ensures copied { WritesFront dst.old dst.new result (take result src.now) }
+    ensures stops { result < length src.now → result < length dst.old → 0x80 ≤ slice_index src.now result }
+{
+    if src.len() >= STRIDE && dst.len() >= STRIDE && !are_bytes_below::<STRIDE>(src, 0, ASCII_END) {
+        return widen_last_ascii(src, dst, 0);
+    }
+    let by_blocks = widen_ascii::<64>(src, dst, 0);
+    let by_strides = widen_ascii::<STRIDE>(src, dst, by_blocks);
+    widen_last_ascii(src, dst, by_strides)
+}
+
+/// Copies the UTF-16 code units before the first that isn't ASCII as bytes, over the shorter length of the two, and returns
+/// how many. That it is among the first ones is seen first.
+#[inline(always)]
+pub(crate) fn narrow_ascii_front(src: &[u16], dst: &mut [u8]) -> usize
+    ensures within { (result ≤ length src.now) × (result ≤ length dst.old) }
+    ensures ascii { BelowUpTo 0x80 src.now result }
+    ensures copied { WritesFront dst.old dst.new result (take result src.now) }
+    ensures stops { result < length src.now → result < length dst.old → 0x80 ≤ slice_index src.now result }
+{
+    if src.len() >= STRIDE && dst.len() >= STRIDE && !are_units_below::<STRIDE>(src, 0, BASIC_LATIN_END) {
+        return narrow_last_ascii(src, dst, 0);
+    }
+    let by_blocks = narrow_ascii::<32>(src, dst, 0);
+    let by_strides = narrow_ascii::<STRIDE>(src, dst, by_blocks);
+    narrow_last_ascii(src, dst, by_strides)
 }

@@ -7,7 +7,10 @@ ghost use Rattle.encoding_base.specs.Latin1.{IsLatin1, IsUtf8Latin1};
 
 use super::pair_blocks::latin1_front;
 use encoding_base::sequence::is_continuation;
-use encoding_base::strides::{are_all_below, are_all_bytes_below, front_below};
+use encoding_base::strides::{are_all_below, are_all_bytes_below, front_below, run_below};
+
+/// The bytes that the first test covers.
+const STRIDE: usize = 16;
 
 /// The least byte that isn't ASCII.
 const ASCII_END: u8 = 0x80;
@@ -64,9 +67,12 @@ pub fn is_utf16_latin1(buffer: &[u16]) -> bool
 pub fn utf8_latin1_up_to(buffer: &[u8]) -> usize
     ensures { IsLongestFront IsUtf8Latin1 buffer.now result }
 {
-    // most other text ends here
-    if !buffer.is_empty() && buffer[0] >= BEYOND_LATIN1 {
-        return 0;
+    if buffer.len() >= STRIDE {
+        // most other text ends here
+        let run = run_below::<STRIDE>(buffer, 0, ASCII_END);
+        if run < STRIDE && buffer[run] >= BEYOND_LATIN1 {
+            return run;
+        }
     }
     longest_latin1(buffer)
 }

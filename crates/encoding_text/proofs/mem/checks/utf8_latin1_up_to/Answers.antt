@@ -1,8 +1,13 @@
 use Rattle.std.proofs.Common.{arith}
-use Rattle.encoding_text.proofs.Latin.Latin1Lemmas.{IsUtf8Latin1-nil, latin1_stop}
+use Rattle.encoding_base.specs.Steps.Strides.{BelowUpTo}
+use Rattle.encoding_text.proofs.Latin.Latin1Lemmas.{latin1_stop}
+use Rattle.encoding_text.proofs.Surrogates.PairsLemmas.{ascii_latin1}
 use Rattle.encoding_text.proofs.mem.checks.utf8_latin1_up_to.Goals as goal
 
-pub returns-then-buffer-ge-BEYOND_LATIN1 : goal.returns-then-buffer-ge-BEYOND_LATIN1
-returns-then-buffer-ge-BEYOND_LATIN1 c =
-    let low = c.if-buffer-ge-BEYOND_LATIN1.true in
-    latin1_stop c.args.buffer.now 0 (omega arith) IsUtf8Latin1-nil (λ l. (omega (arith, low), λ p q r s t. omega (arith, low, q)))
+pub returns-then-buffer-run-ge-BEYOND_LATIN1 : goal.returns-then-buffer-run-ge-BEYOND_LATIN1
+returns-then-buffer-run-ge-BEYOND_LATIN1 c =
+    let bytes = c.args.buffer.now in
+    let run = c.run_below-run.result in
+    let high = c.if-buffer-run-ge-BEYOND_LATIN1.true in
+    let below : BelowUpTo 0x80 bytes run = λ k l. c.run_below-run.ensures.below k (omega arith) (omega (arith, l)) in
+    latin1_stop bytes run (omega arith) (ascii_latin1 bytes run (omega arith) below) (λ l. (omega (arith, high), λ p q r s t. omega (arith, high, q)))
