@@ -4,7 +4,7 @@ mod copies;
 ghost use Rattle.std.specs.Prelude.{◌↔◌, ◌+◌, ◌<◌, ◌≤◌, length, slice_index, EachIndex, IsTrue};
 ghost use Rattle.encoding_base.specs.Steps.Strides.{AllBelow, BelowBetween, BelowUpTo, IsRunBelow};
 
-pub use copies::{copy_ascii, put_first};
+pub use copies::{copy_ascii, narrow_lower, put_first, widen};
 pub(crate) use copies::{
     LANES, copy_ascii_front, copy_front, narrow_ascii, narrow_ascii_front, widen_ascii,
     widen_ascii_front,

@@ -17,17 +17,23 @@ numbered n (suc k) xs (suc i) d h =
 pub many : (n k i long : ℕ) → k ≡ long / n → i < k → i * n + n ≤ long
 many n k i long e l = omega (arith, e, div-mul-le_self long n, mul-le-mul_right {m = i + 1} {n = long / n} n (omega (arith, e)))
 
--- the stride of a number of a part from one place on up to another, where the strides before it end at a place
-pub stride_at : (n from to at i : ℕ) (xs d : List ℕ) (strides : List (List ℕ)) → at ≡ from + i * n
+-- the stride of a number of a list, where the strides before it end at a place
+pub whole_stride : (n : ℕ) (xs d : List ℕ) {i at : ℕ} {stride : List ℕ} {strides : List (List ℕ)} → stride ≡ get_or strides i d → strides ≡ first_chunks n (length xs / n) xs
+    → length strides ≡ length xs / n → at ≡ i * n → i < length strides → stride ≡ take n (drop at xs)
+whole_stride n xs d {i} is are count place l =
+    is ∙ ap (λ ys. get_or ys i d) are ∙ numbered n (length xs / n) xs i d (omega (arith, count, l)) ∙ ap (λ m. take n (drop m xs)) (sym place)
+
+-- the same of a part from one place on up to another
+pub stride_is : (n from to : ℕ) (xs d : List ℕ) {i at : ℕ} {stride : List ℕ} {strides : List (List ℕ)} → stride ≡ get_or strides i d
     → strides ≡ first_chunks n (length (take (to - from) (drop from xs)) / n) (take (to - from) (drop from xs))
-    → length strides ≡ length (take (to - from) (drop from xs)) / n → i < length strides → get_or strides i d ≡ take n (drop at xs)
-stride_at n from to at i xs d strides place are count l =
+    → length strides ≡ length (take (to - from) (drop from xs)) / n → at ≡ from + i * n → i < length strides → stride ≡ take n (drop at xs)
+stride_is n from to xs d {i} {strides = strides} is are count place l =
     let part : List ℕ = take (to - from) (drop from xs) in
     let within : i * n + n ≤ length part = many n (length strides) i (length part) count l in
     let short : i * n + (to - from - i * n) ≡ to - from = omega (arith, within, length-take (to - from) (drop from xs)) in
     let behind : drop (i * n) part ≡ take (to - from - i * n) (drop (i * n) (drop from xs)) =
     ap (λ m. drop (i * n) (take m (drop from xs))) (sym short) ∙ drop-take (i * n) (to - from - i * n) (drop from xs) in
-    ap (λ ys. get_or ys i d) are ∙ numbered n (length part / n) part i d (omega (arith, count))
+    whole_stride n part d is are count refl l
     ∙ ap (take n) behind ∙ take-take n (to - from - i * n) (drop (i * n) (drop from xs)) (omega (arith, within, length-take (to - from) (drop from xs)))
     ∙ ap (take n) (drop-drop (i * n) from xs ∙ ap (λ m. drop m xs) (sym place))
 

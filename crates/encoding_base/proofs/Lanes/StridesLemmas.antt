@@ -70,8 +70,10 @@ put_is at n xs ys long room =
     let rest : drop (length ys) (drop at xs) ≡ drop (at + n) xs = drop-drop (length ys) at xs ∙ ap (λ m. drop (at + m) xs) long in
     put_chunk_is at xs ys (omega arith) ∙ ap (λ zs. take at xs ++ (ys ++ zs)) rest
 
+-- a stride read whole
+pub whole_chunk : {X : Type 0} (n : ℕ) (stride : List X) → length stride ≡ n → chunk 0 n stride ≡ stride
+whole_chunk n stride long = take_all n stride (omega (arith, long))
+
 -- of a vector read from a stride
 pub put_stride : {X : Type 0} (at n : ℕ) (xs stride : List X) → length stride ≡ n → at + n ≤ length xs → put_chunk at xs (chunk 0 n stride) ≡ take at xs ++ (stride ++ drop (at + n) xs)
-put_stride at n xs stride long room =
-    let whole : chunk 0 n stride ≡ stride = take_all n stride (omega (arith, long)) in
-    ap (put_chunk at xs) whole ∙ put_is at n xs stride long room
+put_stride at n xs stride long room = ap (put_chunk at xs) (whole_chunk n stride long) ∙ put_is at n xs stride long room

@@ -7,7 +7,7 @@ use Rattle.std.proofs.lemmas.Option.{slice_get-get_or}
 use Rattle.std.proofs.lemmas.Str.{IsUtf8-from_ascii}
 use Rattle.encoding_base.specs.Ascii.{IsFirstOther}
 use Rattle.encoding_base.specs.Fronts.{IsLongestFront, WritesFront}
-use Rattle.encoding_base.specs.Steps.Strides.{AllBelow, BelowUpTo}
+use Rattle.encoding_base.specs.Steps.Strides.{AllBelow, BelowUpTo, IsRunBelow}
 use Rattle.encoding_base.proofs.LongestFronts.FrontsLemmas.{WritesFront_push, WritesFront_put}
 
 -- ---- fronts of units that are each of a kind, which holds of the 0 past the end too
@@ -81,3 +81,7 @@ WritesFront_block old new after xs n m w l k put =
 -- so many more units are below 0x80
 pub below_block : (xs : List ℕ) (n m : ℕ) → BelowUpTo 0x80 xs n → AllBelow 0x80 xs n m → BelowUpTo 0x80 xs (n + m)
 below_block xs n m h p k l = elim (cases_lt k n) [ inl q ↦ h k q | inr q ↦ p k q l ]
+
+-- a run from no later place on passes the places below the bound
+pub run_passes : (bound from at n run : ℕ) (xs : List ℕ) → BelowUpTo bound xs from → from ≤ at + n → IsRunBelow bound xs at n run → from ≤ at + run
+run_passes bound from at n run xs below l r = elim (cases_lt (at + run) from) [ inl p ↦ absurd (omega (arith, below (at + run) p, r.stops (omega arith))) | inr p ↦ p ]

@@ -1,6 +1,6 @@
 //! Copies by vectors, of ASCII as far as it goes.
 
-ghost use Rattle.std.specs.Prelude.{◌≡◌, ◌+◌, ◌<◌, ◌≤◌, ◌++◌, ℕ, List, length, take, drop, slice_index};
+ghost use Rattle.std.specs.Prelude.{◌≡◌, ◌+◌, ◌%◌, ◌<◌, ◌≤◌, ◌++◌, ℕ, List, length, map, take, drop, slice_index};
 ghost use Rattle.encoding_base.specs.Fronts.{WritesFront};
 ghost use Rattle.encoding_base.specs.Steps.Strides.{AllBelow, BelowUpTo};
 
@@ -63,7 +63,7 @@ pub(crate) fn copy_front(src: &[u8], dst: &mut [u8])
 
 /// Writes a stride of bytes to a place, each as a UTF-16 code unit.
 #[inline(always)]
-fn widen<const N: usize>(stride: &[u8; N], dst: &mut [u16], at: usize)
+pub fn widen<const N: usize>(stride: &[u8; N], dst: &mut [u16], at: usize)
     requires { at + N ≤ length dst.old }
     ensures { dst.new ≡ take at dst.old ++ (stride.now ++ drop (at + N) dst.old) }
 {
@@ -80,6 +80,16 @@ fn narrow<const N: usize>(stride: &[u16; N], dst: &mut [u8], at: usize)
 {
     let bytes = Simd::<u16, N>::from_slice(stride).cast::<u8>();
     bytes.copy_to_slice(&mut dst[at..]);
+}
+
+/// Writes the lower byte of each of a stride of UTF-16 code units to a place.
+#[inline(always)]
+pub fn narrow_lower<const N: usize>(stride: &[u16; N], dst: &mut [u8], at: usize)
+    requires { at + N ≤ length dst.old }
+    ensures { dst.new ≡ take at dst.old ++ (map (λ unit. unit % 0x100) stride.now ++ drop (at + N) dst.old) }
+{
+    let lower = Simd::<u16, N>::from_slice(stride) & Simd::splat(0xFF);
+    lower.cast::<u8>().copy_to_slice(&mut dst[at..]);
 }
 
 /// Copies bytes, N at a time, from a place on while they are ASCII, and returns where that ends.

@@ -5,7 +5,7 @@ use Rattle.std.specs.Str.{chars, IsAscii}
 use Rattle.std.proofs.str.Laws.{two}
 use Rattle.std.proofs.lemmas.Bool.{cases_lt}
 use Rattle.std.proofs.lemmas.Grind.{common_steps}
-use Rattle.std.proofs.lemmas.List.{append-nil, length-append, length-drop, length-take, length-take-le, get_or-drop, get_or-take, get_or_past, drop-drop, take_all, take_more, take_rest, drop_more, take-append-drop, map_more}
+use Rattle.std.proofs.lemmas.List.{append-nil, length-append, length-map, length-drop, length-take, length-take-le, get_or-drop, get_or-take, get_or_past, drop-drop, take_all, take_more, take_rest, drop_more, take-append-drop, map_more, map-append}
 use Rattle.std.proofs.lemmas.Str.{encodes-append, encode_ascii, encodes-IsAscii, chars-IsAscii, chars-append, IsUtf8-from_ascii}
 use borrow.Rule.Slice.PartMut.{put_mid}
 use Rattle.encoding_base.proofs.Sequences.EncodingLemmas.{flat_map-encode_utf8}
@@ -104,6 +104,14 @@ character_of_two a b c l h e f = elim (cases_lt c 192) [
 pub WritesFront_low : (old new xs : List ℕ) (n b : ℕ) → WritesFront old new n (map (λ (unit : ℕ). unit % 0x100) (take n xs)) → n < length xs → n < length new → b ≡ slice_index xs n % 0x100
     → WritesFront old (set new n b) (n + 1) (map (λ (unit : ℕ). unit % 0x100) (take (n + 1) xs))
 WritesFront_low old new xs n b w l m e = rw (map_more (λ (unit : ℕ). unit % 0x100) xs n 0 l, sym e) (WritesFront_push old new n _ b w m)
+
+-- so many more units at once
+pub WritesFront_low_block : (old new after xs : List ℕ) (n m : ℕ) → WritesFront old new n (map (λ (unit : ℕ). unit % 0x100) (take n xs)) → n + m ≤ length xs → n + m ≤ length new
+    → after ≡ take n new ++ (map (λ (unit : ℕ). unit % 0x100) (take m (drop n xs)) ++ drop (n + m) new) → WritesFront old after (n + m) (map (λ (unit : ℕ). unit % 0x100) (take (n + m) xs))
+WritesFront_low_block old new after xs n m w l k put =
+    let low : ℕ → ℕ = λ unit. unit % 0x100 in
+    let short : length (map low (take m (drop n xs))) ≡ m = length-map (take m (drop n xs)) low ∙ length-take-le m (drop n xs) (omega (arith, length-drop n xs)) in
+    rw (take-add n m xs, map-append low (take n xs) (take m (drop n xs))) (WritesFront_put old new after n m (map low (take n xs)) (map low (take m (drop n xs))) w (sym short) k put)
 
 -- ---- behind an ASCII front, which is its own text
 ascii_utf8_front : (bs : List ℕ) (n : ℕ) → IsAscii (take n bs) → take n bs ++ encode_utf8_all (take (length bs - n) (drop n bs)) ≡ encode_utf8_all bs

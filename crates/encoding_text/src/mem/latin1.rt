@@ -6,12 +6,15 @@ ghost use Rattle.std.specs.Str.{chars};
 ghost use Rattle.encoding_base.specs.Fronts.{FitsLongest, WritesFront};
 ghost use Rattle.encoding_base.specs.Latin1.{IsUtf8Latin1};
 
-use encoding_base::strides::{are_bytes_below, copy_ascii, put_first};
+use encoding_base::strides::{are_bytes_below, copy_ascii, narrow_lower, put_first, widen};
 use encoding_base::utf_8::{latin1_of, write_short};
 use std::simd::prelude::*;
 
 /// The least byte that isn't ASCII.
 const ASCII_END: u8 = 0x80;
+
+/// The bytes, or UTF-16 code units, that are converted at once.
+const STRIDE: usize = 16;
 
 /// The bytes that a character from U+0080 to U+00FF takes in UTF-8.
 const HIGH_LENGTH: usize = 2;
@@ -21,7 +24,13 @@ pub fn convert_latin1_to_utf16(src: &[u8], dst: &mut [u16])
     requires room { length src.now ≤ length dst.old }
     ensures written { WritesFront dst.old dst.new (length src.now) src.now }
 {
-    for i in 0..src.len() {
+    let (strides, _) = src.as_chunks::<STRIDE>();
+    let mut at = 0;
+    for stride in strides {
+        widen::<STRIDE>(stride, dst, at);
+        at += STRIDE;
+    }
+    for i in at..src.len() {
         dst[i] = u16::from(src[i]);
     }
 }
@@ -137,7 +146,13 @@ pub fn convert_utf16_to_latin1_lossy(src: &[u16], dst: &mut [u8])
     requires room { length src.now ≤ length dst.old }
     ensures written { WritesFront dst.old dst.new (length src.now) (map (λ unit. unit % 0x100) src.now) }
 {
-    for i in 0..src.len() {
+    let (strides, _) = src.as_chunks::<STRIDE>();
+    let mut at = 0;
+    for stride in strides {
+        narrow_lower::<STRIDE>(stride, dst, at);
+        at += STRIDE;
+    }
+    for i in at..src.len() {
         dst[i] = (src[i] & 0xFF) as u8;
     }
 }

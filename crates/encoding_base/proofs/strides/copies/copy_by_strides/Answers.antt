@@ -3,7 +3,7 @@ use Rattle.std.proofs.Math.Nat.{lt-div-mul-add, mul-le-mul_right}
 use Rattle.std.proofs.lemmas.List.{take_all}
 use Rattle.std.proofs.lemmas.Simd.{length-chunk}
 use Rattle.std.specs.Simd.Lanes.{chunk}
-use Rattle.encoding_base.proofs.Lanes.ChunksLemmas.{numbered, many}
+use Rattle.encoding_base.proofs.Lanes.ChunksLemmas.{many, whole_stride}
 use Rattle.encoding_base.proofs.Lanes.StridesLemmas.{put_is}
 use Rattle.encoding_base.proofs.LongestFronts.FrontsLemmas.{WritesFront-nil, WritesFront-length, WritesFront-same, WritesFront_again}
 use Rattle.encoding_base.proofs.Latin.AsciiLemmas.{WritesFront_block}
@@ -21,9 +21,7 @@ loop-stride-preserved g c =
     let place = c.loop-stride.invariant.place in
     let copied = c.loop-stride.invariant.copied in
     let within = many n (length c.as_chunks.result.0.now) i (length src) c.as_chunks.ensures.front_len c.loop-stride-test.true in
-    let is : c.stride-item.result ≡ take n (drop at src) =
-    c.stride-item.is ∙ ap (λ ys. get_or ys i c.stride-item.result) c.as_chunks.ensures.front
-    ∙ numbered n (length src / n) src i c.stride-item.result (omega (arith, c.as_chunks.ensures.front_len, c.loop-stride-test.true)) ∙ ap (λ m. take n (drop m src)) (sym place) in
+    let is = whole_stride n src _ c.stride-item.is c.as_chunks.ensures.front c.as_chunks.ensures.front_len place c.loop-stride-test.true in
     let put = c.copy.ensures ∙ ap (λ xs. take at c.loop-stride.dst ++ (xs ++ drop (at + n) c.loop-stride.dst)) is in
     record {
       place = omega (arith, place);

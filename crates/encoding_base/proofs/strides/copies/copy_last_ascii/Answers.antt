@@ -1,6 +1,6 @@
-use Rattle.std.proofs.Common.{◌+◌, ◌≤◌, ◌++◌, drop, take, ap, ◌∙◌, inl, inr, arith}
-use Rattle.std.proofs.lemmas.Bool.{cases_lt}
+use Rattle.std.proofs.Common.{◌+◌, ◌++◌, drop, take, ap, ◌∙◌, arith}
 use Rattle.std.proofs.lemmas.List.{take-take}
+use Rattle.encoding_base.proofs.Latin.AsciiLemmas.{run_passes}
 use Rattle.encoding_base.proofs.LongestFronts.FrontsLemmas.{WritesFront_again}
 use Rattle.encoding_base.proofs.strides.copies.copy_last_ascii.Goals as goal
 
@@ -13,6 +13,6 @@ returns-clause-copied c =
     let run = c.run_below-run.result in
     let r = c.run_below-run.ensures in
     let place = c.min-at.ensures in
-    let more : from ≤ at + run = elim (cases_lt (at + run) from) [ inl p ↦ absurd (omega (arith, c.requires.ascii (at + run) p, r.stops (omega arith))) | inr p ↦ p ] in
+    let more = run_passes 0x80 from at 16 run src c.requires.ascii (omega (arith, place)) r in
     let put = c.put_first.ensures ∙ ap (λ ys. take at dst ++ (ys ++ drop (at + run) dst)) (take-take run 16 (drop at src) (omega (arith, r.within))) in
     λ first w. WritesFront_again first dst c.put_first.new.dst src from at run w (omega arith) more (omega (arith, r.within)) (omega (arith, r.within)) put
