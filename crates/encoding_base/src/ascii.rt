@@ -5,9 +5,7 @@ ghost use Rattle.std.specs.Str.{IsAscii};
 ghost use Rattle.encoding_base.specs.Ascii.{IsFirstOther, front_length, IsIso2022JpAscii};
 ghost use Rattle.encoding_base.specs.Fronts.{IsLongestFront, WritesFront};
 
-use crate::strides::{
-    copy_ascii_front, front_below, narrow_ascii_front, widen_ascii_front,
-};
+use crate::strides::{copy_ascii_front, front_below, narrow_ascii_front, widen_ascii_front};
 
 /// The bits that no ASCII byte has: each of the eight bytes is 0x80.
 pub const ASCII_MASK: usize = 0x8080_8080_8080_8080;

@@ -207,19 +207,30 @@ fn short_front_below(bytes: &[u8], bound: u8) -> usize
     at
 }
 
-/// Whether each byte is below the bound, where the first ones are gone over already. The last N may begin before these
-/// end.
+/// Whether each byte is below the bound, by N of them at a time. The last N may begin before the others end.
 #[inline(always)]
-fn are_last_bytes_below<const N: usize>(bytes: &[u8], from: usize, bound: u8) -> bool
-    requires room { (N ≤ length bytes.now) × (0 < N) × (N ≤ 64) }
-    requires from { (from ≤ length bytes.now) × BelowUpTo bound bytes.now from }
-    requires stops { from + N ≤ length bytes.now → AllBelow bound bytes.now from N → ⊥ }
+fn are_all_bytes_below_by<const N: usize>(bytes: &[u8], bound: u8) -> bool
+    requires { (N ≤ length bytes.now) × (0 < N) × (N ≤ 64) }
     ensures { IsTrue result ↔ EachIndex bytes.now (λ k. slice_index bytes.now k < bound) }
 {
-    if from == bytes.len() {
+    let at = skip_bytes_below::<N>(bytes, 0, bound);
+    if at == bytes.len() {
         return true;
     }
-    bytes.len() - from < N && are_bytes_below::<N>(bytes, bytes.len() - N, bound)
+    bytes.len() - at < N && are_bytes_below::<N>(bytes, bytes.len() - N, bound)
+}
+
+/// Whether each byte is below the bound, by four blocks at a time. The last four may begin before the others end.
+#[inline(always)]
+fn are_all_bytes_below_by_fours(bytes: &[u8], bound: u8) -> bool
+    requires { 256 ≤ length bytes.now }
+    ensures { IsTrue result ↔ EachIndex bytes.now (λ k. slice_index bytes.now k < bound) }
+{
+    let at = skip_four_blocks_below(bytes, bound);
+    if at == bytes.len() {
+        return true;
+    }
+    bytes.len() - at < FOUR_BLOCKS && are_four_blocks_below(bytes, bytes.len() - FOUR_BLOCKS, bound)
 }
 
 /// Whether each byte is below the bound. The first ones, which most often decide it, are looked at alone.
@@ -233,20 +244,11 @@ pub fn are_all_bytes_below(bytes: &[u8], bound: u8) -> bool
     if !are_bytes_below::<STRIDE>(bytes, 0, bound) {
         return false;
     }
-    if bytes.len() < BLOCK {
-        let by_strides = skip_bytes_below::<STRIDE>(bytes, STRIDE, bound);
-        return are_last_bytes_below::<STRIDE>(bytes, by_strides, bound);
+    match bytes.len() {
+        ..BLOCK => are_all_bytes_below_by::<STRIDE>(bytes, bound),
+        BLOCK..FOUR_BLOCKS => are_all_bytes_below_by::<BLOCK>(bytes, bound),
+        _ => are_all_bytes_below_by_fours(bytes, bound),
     }
-    if bytes.len() < FOUR_BLOCKS {
-        let by_blocks = skip_bytes_below::<BLOCK>(bytes, STRIDE, bound);
-        return are_last_bytes_below::<BLOCK>(bytes, by_blocks, bound);
-    }
-    let by_fours = skip_four_blocks_below(bytes, bound);
-    if by_fours == bytes.len() {
-        return true;
-    }
-    let last = bytes.len() - FOUR_BLOCKS;
-    last < by_fours && are_four_blocks_below(bytes, last, bound)
 }
 
 /// Goes from a place on by N UTF-16 code units at a time while they are below the bound, and returns where that ends.

@@ -303,7 +303,10 @@ pub(crate) fn narrow_ascii_front(src: &[u16], dst: &mut [u8]) -> usize
     ensures copied { WritesFront dst.old dst.new result (take result src.now) }
     ensures stops { result < length src.now → result < length dst.old → 0x80 ≤ slice_index src.now result }
 {
-    if src.len() >= STRIDE && dst.len() >= STRIDE && !are_units_below::<STRIDE>(src, 0, BASIC_LATIN_END) {
+    if src.len() >= STRIDE
+        && dst.len() >= STRIDE
+        && !are_units_below::<STRIDE>(src, 0, BASIC_LATIN_END)
+    {
         return narrow_last_ascii(src, dst, 0);
     }
     let by_blocks = narrow_ascii::<32>(src, dst, 0);
