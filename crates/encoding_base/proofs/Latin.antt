@@ -1,2 +1,3 @@
 pub mod AsciiLemmas
 pub mod EndedLemmas
+pub mod Iso2022JpLemmas

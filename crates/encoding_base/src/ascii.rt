@@ -6,6 +6,10 @@ ghost use Rattle.encoding_base.specs.Ascii.{IsFirstOther, front_length, IsIso202
 ghost use Rattle.encoding_base.specs.Fronts.{IsLongestFront, WritesFront};
 
 use crate::strides::{copy_ascii_front, front_below, narrow_ascii_front, widen_ascii_front};
+use std::simd::prelude::*;
+
+/// The bytes that one test covers.
+const STRIDE: usize = 16;
 
 /// The bits that no ASCII byte has: each of the eight bytes is 0x80.
 pub const ASCII_MASK: usize = 0x8080_8080_8080_8080;
@@ -45,12 +49,37 @@ pub fn ascii_valid_up_to(bytes: &[u8]) -> usize
     }
 }
 
+/// How many of the bytes of a stride come before the first that isn't ASCII, or is an escape or shift byte.
+#[inline(always)]
+fn iso_2022_jp_ascii_run(stride: &[u8; STRIDE]) -> usize
+    ensures { IsLongestFront IsIso2022JpAscii stride.now result }
+{
+    let bytes = u8x16::from_slice(stride);
+    let shifts = bytes.simd_eq(u8x16::splat(SHIFT_OUT)) | bytes.simd_eq(u8x16::splat(SHIFT_IN));
+    let beyond = bytes.simd_ge(u8x16::splat(ASCII_END));
+    let others = (beyond | bytes.simd_eq(u8x16::splat(ESCAPE)) | shifts).to_bitmask();
+    if others == 0 {
+        STRIDE
+    } else {
+        others.trailing_zeros() as usize
+    }
+}
+
 /// The number of bytes in the longest ASCII front without an escape byte, 0x1B, or a shift byte, 0x0E or 0x0F. Encoding
 /// Standard, section 12.2.1: the bytes that the ISO-2022-JP decoder gives back as they are.
 pub fn iso_2022_jp_ascii_valid_up_to(bytes: &[u8]) -> usize
     ensures { IsLongestFront IsIso2022JpAscii bytes.now result }
 {
-    for i in 0..bytes.len() {
+    let (strides, _) = bytes.as_chunks::<STRIDE>();
+    let mut at = 0;
+    for stride in strides {
+        let run = iso_2022_jp_ascii_run(stride);
+        if run < STRIDE {
+            return at + run;
+        }
+        at += STRIDE;
+    }
+    for i in at..bytes.len() {
         let byte = bytes[i];
         if byte >= ASCII_END || byte == ESCAPE || byte == SHIFT_OUT || byte == SHIFT_IN {
             return i;

@@ -48,7 +48,7 @@ stride_ends n from to at i k xs place count l m o =
 
 -- what a stride has, the list has from its place on
 module _ (bound at n : ℕ) (xs stride : List ℕ) (is : stride ≡ take n (drop at xs)) where
-  unit_is : (k : ℕ) → k < n → slice_index stride k ≡ slice_index xs (at + k)
+  pub unit_is : (k : ℕ) → k < n → slice_index stride k ≡ slice_index xs (at + k)
   unit_is k l = ap (λ ys. slice_index ys k) is ∙ get_or-take n (drop at xs) k 0 l ∙ get_or-drop at xs k 0
 
   pub below_stride : AllBelow bound stride 0 n ↔ AllBelow bound xs at n

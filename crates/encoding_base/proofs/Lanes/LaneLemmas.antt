@@ -10,7 +10,7 @@ use Rattle.std.specs.List.{prefix_len}
 use mir.Syntax.{Width, w8, w16, w32, w64, w128}
 use mir.Val.{bits, hbits}
 use Rattle.encoding_base.specs.Steps.Lanes.{HasLanes}
-use Rattle.encoding_base.proofs.Lanes.StridesLemmas.{empty_mask, put_is}
+use Rattle.encoding_base.proofs.Lanes.StridesLemmas.{empty_mask, put_is, whole_chunk}
 
 -- ---- lanes
 pub HasLanes-load : (at n : ℕ) (xs : List ℕ) → at + n ≤ length xs → HasLanes n (chunk at n xs) (λ k. get_or xs (at + k) 0)
@@ -32,6 +32,10 @@ HasLanes-cast {n} {a} {f} p = subst (λ xs. HasLanes n xs f) (sym (map-id a)) p
 
 pub HasLanes-itself : (n : ℕ) (a : List ℕ) → length a ≡ n → HasLanes n a (λ k. get_or a k 0)
 HasLanes-itself n a long = record { long = long; each = λ k l. refl }
+
+-- a stride read whole
+pub HasLanes-whole : (n : ℕ) (xs : List ℕ) → length xs ≡ n → HasLanes n (chunk 0 n xs) (λ k. get_or xs k 0)
+HasLanes-whole n xs long = subst (λ ys. HasLanes n ys (λ k. get_or xs k 0)) (sym (whole_chunk n xs long)) (HasLanes-itself n xs long)
 
 pub HasLanes-same : {n : ℕ} {a : List ℕ} {f g : ℕ → ℕ} → HasLanes n a f → ((k : ℕ) → k < n → f k ≡ g k) → HasLanes n a g
 HasLanes-same p e = record { long = p.long; each = λ k l. p.each k l ∙ e k l }
@@ -84,7 +88,7 @@ top_compared w128 false = refl
 abbrev pub mask_of : ℕ → List ℕ → ℕ
 mask_of h lanes = mask_l (map (top h) lanes) % 2 ^ 64
 
-mask_is : (h n : ℕ) (a : List ℕ) → length a ≡ n → n ≤ 64 → mask_of h a ≡ mask_l (map (top h) a)
+pub mask_is : (h n : ℕ) (a : List ℕ) → length a ≡ n → n ≤ 64 → mask_of h a ≡ mask_l (map (top h) a)
 mask_is h n a long few = mask_l-mod (map (top h) a) 64 (omega (arith, length-map a (top h), long))
 
 -- of n lanes, the first at which t holds is r, or there is none and r is n
@@ -97,7 +101,7 @@ module _ (h : ℕ) {n : ℕ} {a : List ℕ} {f : ℕ → ℕ} (lanes : HasLanes 
   at_lane : (k : ℕ) → k < n → top h (get_or a k 0) ≡ top h (f k)
   at_lane k l = ap (top h) (lanes.each k l)
 
-  first_set : (r : ℕ) → r ≡ prefix_len (λ x. not (top h x)) a → IsFirstSet n r (λ k. top h (f k))
+  pub first_set : (r : ℕ) → r ≡ prefix_len (λ x. not (top h x)) a → IsFirstSet n r (λ k. top h (f k))
   first_set r e =
       let bound : r ≤ n = omega (arith, e, lanes.long, prefix_len-le-length (λ x. not (top h x)) a) in
       record {

@@ -3,11 +3,13 @@ use Rattle.std.proofs.Common.{◌≡◌, ℕ, ◌+◌, ◌-◌, ◌*◌, ◌^◌
 use Rattle.std.proofs.lemmas.Bool.{cases_lt, leb-false, lt-leb, or_parts}
 use Rattle.std.specs.Int.Bits.{and_self, and_zero_l, and_zero_r, or_self, or_zero_l, or_zero_r, xor_self, xor_zero_l, xor_zero_r}
 use Rattle.std.specs.Simd.Lanes.{chunk, zip2, top, sel_l}
+use Rattle.std.proofs.lemmas.Simd.{trailing_mask_l}
+use lib.Count.{count_trailing_zeros}
 use mir.Syntax.{Width}
 use mir.Val.{bits, hbits}
 use Rattle.encoding_base.specs.Steps.Lanes.{HasLanes}
 use Rattle.encoding_base.specs.Steps.Strides.{AllBelow}
-use Rattle.encoding_base.proofs.Lanes.LaneLemmas.{HasLanes-load, HasLanes-zip2, HasLanes-splat, HasLanes-select, HasLanes-same, compared, top_compared, mask_of, not_any_is}
+use Rattle.encoding_base.proofs.Lanes.LaneLemmas.{HasLanes-load, HasLanes-zip2, HasLanes-splat, HasLanes-select, HasLanes-same, compared, top_compared, mask_of, mask_is, not_any_is, IsFirstSet, first_set, first_none}
 
 -- lane k of the mask says whether t holds of k: all its bits are set, or none
 pub record HasTests (w : Width) (n : ℕ) (mask : List ℕ) (t : ℕ → Bool) : Type 0 where
@@ -44,6 +46,13 @@ module _ {w : Width} {n : ℕ} {a b : List ℕ} {t s : ℕ → Bool} where
   pub tests_xor : HasTests w n a t → HasTests w n b s → HasTests w n (zip2 bit_xor a b) (λ k. cond (t k) (not (s k)) (s k))
   tests_xor p q = record { lanes = HasLanes-same (HasLanes-zip2 bit_xor p.lanes q.lanes) (λ k l. xor_set (t k) (s k) (2 ^ bits w - 1)) }
 
+of_tests : (w : Width) {n r : ℕ} {t : ℕ → Bool} → IsFirstSet n r (λ k. top (hbits w) (cond (t k) (2 ^ bits w - 1) 0)) → IsFirstSet n r t
+of_tests w {n} {r} {t} first = record {
+  within = first.within;
+  before = λ k l. sym (top_compared w (t k)) ∙ first.before k l;
+  found = λ l. sym (top_compared w (t r)) ∙ first.found l;
+}
+
 module _ {w : Width} {n : ℕ} {a : List ℕ} {t : ℕ → Bool} where
   -- `mask.select(Simd::splat(x), Simd::splat(y))`
   pub chosen : (x y : ℕ) → HasTests w n a t → HasLanes n (sel_l (map (top (hbits w)) a) (replicate n x) (replicate n y)) (λ k. cond (t k) x y)
@@ -56,6 +65,15 @@ module _ {w : Width} {n : ℕ} {a : List ℕ} {t : ℕ → Bool} where
   -- `!mask.any()`
   pub none_passes : HasTests w n a t → n ≤ 64 → IsTrue (not (not (eqb (mask_of (hbits w) a) 0))) ↔ ((k : ℕ) → k < n → t k ≡ false)
   none_passes p few = not_any_is (hbits w) p.lanes few (λ k. t k ≡ false) (λ k l. (λ e. sym (top_compared w (t k)) ∙ e, λ e. top_compared w (t k) ∙ e))
+
+  -- `mask.to_bitmask()`: where it is 0, no lane passes, and else its lowest bit is the first that does
+  pub none_is_first : HasTests w n a t → n ≤ 64 → mask_of (hbits w) a ≡ 0 → IsFirstSet n n t
+  none_is_first p few none = of_tests w (first_none (hbits w) p.lanes few none)
+
+  pub lowest_is_first : HasTests w n a t → n ≤ 64 → 0 < mask_of (hbits w) a → IsFirstSet n (count_trailing_zeros 64 (mask_of (hbits w) a)) t
+  lowest_is_first p few some =
+      let is = mask_is (hbits w) n a p.lanes.long few in
+      of_tests w (first_set (hbits w) p.lanes few _ (ap (count_trailing_zeros 64) is ∙ trailing_mask_l (top (hbits w)) 64 a (omega (arith, p.lanes.long)) (omega (arith, is))))
 
 or_none : (p q : Bool) → p ≡ false → q ≡ false → (p || q) ≡ false
 or_none p q e f = λ i. e i || f i

@@ -18,7 +18,7 @@ module _ (P : ℕ → Type 0) (at_zero : P 0) where
     | inr l ↦ rw (get_or_past (take n xs) i 0 (omega (arith, length-take n xs))) at_zero
   ]
 
-  Each-at : (xs : List ℕ) (n k : ℕ) → k < n → ((i : ℕ) → P (slice_index (take n xs) i)) → P (slice_index xs k)
+  pub Each-at : (xs : List ℕ) (n k : ℕ) → k < n → ((i : ℕ) → P (slice_index (take n xs) i)) → P (slice_index xs k)
   Each-at xs n k l h = rw (get_or-take n xs k 0 l) at (h k)
 
   -- the front ends at the first unit that isn't of the kind

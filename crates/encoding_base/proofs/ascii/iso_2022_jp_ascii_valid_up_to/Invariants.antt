@@ -1,5 +1,9 @@
-use Rattle.std.proofs.Common.{ℕ, ◌<◌, ◌≢◌, slice_index}
+use Rattle.std.proofs.Common.{◌≡◌, ◌*◌}
+use Rattle.encoding_base.proofs.Latin.Iso2022JpLemmas.{AreOwn}
 use Rattle.encoding_base.proofs.ascii.iso_2022_jp_ascii_valid_up_to.Given as goal
 
+abbrev pub invariant-loop-stride : goal.invariant-loop-stride
+invariant-loop-stride l = record { place : l.at ≡ l.stride-index * 16; own : AreOwn l.bytes l.at }
+
 abbrev pub invariant-loop-i : goal.invariant-loop-i
-invariant-loop-i l = (k : ℕ) → k < l.i → (slice_index l.bytes k < 0x80) × (slice_index l.bytes k ≢ 0x1B) × (slice_index l.bytes k ≢ 0x0E) × (slice_index l.bytes k ≢ 0x0F)
+invariant-loop-i l = AreOwn l.bytes l.i

@@ -1,4 +1,4 @@
-use Rattle.std.proofs.Common.{◌∙◌, length, inl, inr, arith}
+use Rattle.std.proofs.Common.{inl, inr, arith}
 use Rattle.std.proofs.lemmas.Bool.{cases_lt}
 use Rattle.encoding_base.proofs.Lanes.ChunksLemmas.{stride_is, run_in_stride}
 use Rattle.encoding_base.proofs.strides.front_by_strides.Goals as goal

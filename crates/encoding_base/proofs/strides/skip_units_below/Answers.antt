@@ -1,4 +1,4 @@
-use Rattle.std.proofs.Common.{◌∙◌, length, inl, inr, arith, refl}
+use Rattle.std.proofs.Common.{inl, inr, arith, refl}
 use Rattle.std.proofs.lemmas.Bool.{false≢true, cases_lt}
 use Rattle.encoding_base.proofs.Lanes.ChunksLemmas.{stride_is, below_stride}
 use Rattle.encoding_base.proofs.strides.skip_units_below.Goals as goal

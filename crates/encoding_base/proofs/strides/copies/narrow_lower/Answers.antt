@@ -1,4 +1,4 @@
-use Rattle.std.proofs.Common.{◌%◌, ap, ◌∙◌, map, length, arith}
+use Rattle.std.proofs.Common.{◌%◌, ap, ◌∙◌, map, arith}
 use Rattle.std.proofs.lemmas.List.{length-map}
 use Rattle.std.proofs.lemmas.Simd.{length-chunk}
 use Rattle.std.specs.Simd.Lanes.{chunk, put_chunk}
