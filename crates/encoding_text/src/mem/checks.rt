@@ -1,9 +1,10 @@
 //! Whether text is ASCII or Latin1, and how far.
 
-ghost use Rattle.std.specs.Prelude.{◌↔◌, IsTrue};
+ghost use Rattle.std.specs.Prelude.{◌↔◌, ◌≤◌, length, IsTrue};
 ghost use Rattle.std.specs.Str.{IsAscii};
 ghost use Rattle.encoding_base.specs.Fronts.{IsLongestFront};
 ghost use Rattle.encoding_base.specs.Latin1.{IsLatin1, IsUtf8Latin1};
+ghost use Rattle.encoding_base.specs.Steps.Strides.{BelowUpTo};
 
 use super::pair_blocks::latin1_front;
 use encoding_base::sequence::is_continuation;
@@ -67,22 +68,24 @@ pub fn is_utf16_latin1(buffer: &[u16]) -> bool
 pub fn utf8_latin1_up_to(buffer: &[u8]) -> usize
     ensures { IsLongestFront IsUtf8Latin1 buffer.now result }
 {
-    if buffer.len() >= STRIDE {
-        // most other text ends here
-        let run = run_below::<STRIDE>(buffer, 0, ASCII_END);
-        if run < STRIDE && buffer[run] >= BEYOND_LATIN1 {
-            return run;
-        }
+    if buffer.len() < STRIDE {
+        return longest_latin1(buffer, 0);
     }
-    longest_latin1(buffer)
+    let run = run_below::<STRIDE>(buffer, 0, ASCII_END);
+    // most other text ends here
+    if run < STRIDE && buffer[run] >= BEYOND_LATIN1 {
+        return run;
+    }
+    longest_latin1(buffer, run)
 }
 
-/// The same, out of line.
+/// The same, out of line, behind ASCII.
 #[inline(never)]
-fn longest_latin1(buffer: &[u8]) -> usize
+fn longest_latin1(buffer: &[u8], from: usize) -> usize
+    requires { (from ≤ length buffer.now) × BelowUpTo 0x80 buffer.now from }
     ensures { IsLongestFront IsUtf8Latin1 buffer.now result }
 {
-    let mut read = latin1_front(buffer);
+    let mut read = latin1_front(buffer, from);
     while read < buffer.len() {
         let byte = buffer[read];
         if byte < 0x80 {

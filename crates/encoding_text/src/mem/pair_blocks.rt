@@ -2,6 +2,7 @@
 //! before it, which is read by a load of its own, so that a block carries no state and the last one may overlap.
 ghost use Rattle.std.specs.Prelude.{◌+◌, ◌<◌, ◌≤◌, length, take, IsTrue};
 ghost use Rattle.encoding_base.specs.Latin1.{IsUtf8Latin1};
+ghost use Rattle.encoding_base.specs.Steps.Strides.{BelowUpTo};
 ghost use Rattle.encoding_text.specs.Steps.Pairs.{ArePaired, FitLatin1};
 ghost use Rattle.encoding_text.specs.Surrogates.{IsValidUtf16};
 
@@ -131,12 +132,13 @@ fn latin1_blocks(bytes: &[u8], from: usize) -> usize
     before_cut_character(bytes, at)
 }
 
-/// How far the bytes are Latin1 in UTF-8, by an ASCII front and whole blocks.
+/// How far the bytes are Latin1 in UTF-8, by an ASCII front that goes on from a place and whole blocks.
 #[inline(always)]
-pub(super) fn latin1_front(bytes: &[u8]) -> usize
+pub(super) fn latin1_front(bytes: &[u8], from: usize) -> usize
+    requires { (from ≤ length bytes.now) × BelowUpTo 0x80 bytes.now from }
     ensures { (result ≤ length bytes.now) × IsUtf8Latin1 (take result bytes.now) }
 {
-    let front = front_below(bytes, ASCII_END);
+    let front = from + front_below(&bytes[from..], ASCII_END);
     if front == bytes.len() {
         return front;
     }
