@@ -183,6 +183,17 @@ pub fn front_below(bytes: &[u8], bound: u8) -> usize
     if run < STRIDE {
         return run;
     }
+    front_behind_stride(bytes, bound)
+}
+
+/// How many bytes come before the first that isn't below the bound, where those of the first stride are.
+#[inline(always)]
+pub fn front_behind_stride(bytes: &[u8], bound: u8) -> usize
+    requires { (16 ≤ length bytes.now) × BelowUpTo bound bytes.now 16 }
+    ensures within { result ≤ length bytes.now }
+    ensures below { BelowUpTo bound bytes.now result }
+    ensures stops { result < length bytes.now → bound ≤ slice_index bytes.now result }
+{
     if bytes.len() < BLOCK {
         return front_by_strides::<STRIDE>(bytes, STRIDE, bound);
     }

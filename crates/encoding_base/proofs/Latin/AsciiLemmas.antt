@@ -94,6 +94,6 @@ below_rest bound from n xs start below within rest = (
   λ k l. elim (cases_lt k from) [
     | inl p ↦ below k p
     | inr p ↦ let e : from + (k - from) ≡ k = omega arith in
-      rw (get_or-take (length xs - from) (drop from xs) (k - from) 0 (omega (arith, within, length-take (length xs - from) (drop from xs), length-drop from xs)), get_or-drop from xs (k - from) 0, e) at (rest (k - from) (omega arith))
+        rw (get_or-take (length xs - from) (drop from xs) (k - from) 0 (omega (arith, within, length-take (length xs - from) (drop from xs), length-drop from xs)), get_or-drop from xs (k - from) 0, e) at (rest (k - from) (omega arith))
   ],
 )

@@ -6,7 +6,7 @@ ghost use Rattle.encoding_base.specs.Steps.Strides.{BelowUpTo};
 ghost use Rattle.encoding_text.specs.Steps.Pairs.{ArePaired, FitLatin1};
 ghost use Rattle.encoding_text.specs.Surrogates.{IsValidUtf16};
 
-use encoding_base::strides::front_below;
+use encoding_base::strides::{front_behind_stride, front_below};
 use encoding_base::utf_8::{is_high_surrogate, is_low_surrogate};
 use std::simd::Simd;
 use std::simd::prelude::*;
@@ -132,13 +132,26 @@ fn latin1_blocks(bytes: &[u8], from: usize) -> usize
     before_cut_character(bytes, at)
 }
 
+/// Where an ASCII front ends that goes on from a place. No byte of a first stride is looked at again.
+#[inline(always)]
+fn ascii_front(bytes: &[u8], from: usize) -> usize
+    requires { (from ≤ length bytes.now) × BelowUpTo 0x80 bytes.now from }
+    ensures within { result ≤ length bytes.now }
+    ensures below { BelowUpTo 0x80 bytes.now result }
+{
+    if from == STRIDE {
+        return front_behind_stride(bytes, ASCII_END);
+    }
+    from + front_below(&bytes[from..], ASCII_END)
+}
+
 /// How far the bytes are Latin1 in UTF-8, by an ASCII front that goes on from a place and whole blocks.
 #[inline(always)]
 pub(super) fn latin1_front(bytes: &[u8], from: usize) -> usize
     requires { (from ≤ length bytes.now) × BelowUpTo 0x80 bytes.now from }
     ensures { (result ≤ length bytes.now) × IsUtf8Latin1 (take result bytes.now) }
 {
-    let front = from + front_below(&bytes[from..], ASCII_END);
+    let front = ascii_front(bytes, from);
     if front == bytes.len() {
         return front;
     }
