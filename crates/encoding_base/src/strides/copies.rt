@@ -260,8 +260,8 @@ fn narrow_last_ascii(src: &[u16], dst: &mut [u8], from: usize) -> usize
     at + run
 }
 
-/// Copies the bytes before the first that isn't ASCII, over the shorter length of the two, and returns how many. That it is
-/// among the first ones is seen first.
+/// Copies the bytes before the first that isn't ASCII, over the shorter length of the two, and returns how many. That
+/// this is among the first ones is seen first.
 #[inline(always)]
 pub(crate) fn copy_ascii_front(src: &[u8], dst: &mut [u8]) -> usize
     ensures within { (result ≤ length src.now) × (result ≤ length dst.old) }
@@ -277,8 +277,8 @@ pub(crate) fn copy_ascii_front(src: &[u8], dst: &mut [u8]) -> usize
     copy_last_ascii(src, dst, by_strides)
 }
 
-/// Copies the bytes before the first that isn't ASCII as UTF-16 code units, over the shorter length of the two, and returns
-/// how many. That it is among the first ones is seen first.
+/// Copies the bytes before the first that isn't ASCII as UTF-16 code units, over the shorter length of the two, and
+/// returns how many. That this is among the first ones is seen first.
 #[inline(always)]
 pub(crate) fn widen_ascii_front(src: &[u8], dst: &mut [u16]) -> usize
     ensures within { (result ≤ length src.now) × (result ≤ length dst.old) }
@@ -294,8 +294,8 @@ pub(crate) fn widen_ascii_front(src: &[u8], dst: &mut [u16]) -> usize
     widen_last_ascii(src, dst, by_strides)
 }
 
-/// Copies the UTF-16 code units before the first that isn't ASCII as bytes, over the shorter length of the two, and returns
-/// how many. That it is among the first ones is seen first.
+/// Copies the UTF-16 code units before the first that isn't ASCII as bytes, over the shorter length of the two, and
+/// returns how many. That this is among the first ones is seen first.
 #[inline(always)]
 pub(crate) fn narrow_ascii_front(src: &[u16], dst: &mut [u8]) -> usize
     ensures within { (result ≤ length src.now) × (result ≤ length dst.old) }
