@@ -1,7 +1,8 @@
 //! Slices of every length at every alignment, with another unit at every place: scans, copies and validation by strides.
 
 use encoding_text::ascii::{
-    ascii_to_ascii, ascii_to_basic_latin, ascii_valid_up_to, basic_latin_to_ascii, validate_ascii,
+    ascii_to_ascii, ascii_to_basic_latin, ascii_valid_up_to, basic_latin_to_ascii,
+    iso_2022_jp_ascii_valid_up_to, validate_ascii,
 };
 use encoding_text::mem::{
     convert_latin1_to_utf16, convert_utf16_to_latin1_lossy, is_ascii, is_basic_latin,
@@ -98,6 +99,24 @@ fn bytes_stop(start: usize, length: usize, other: usize) -> bool {
         && are_letter_units(&wide, start, front)
 }
 
+/// Bytes that end a front of ISO-2022-JP.
+const ENDS: [u8; 4] = [0x0E, 0x0F, 0x1B, 0x80];
+
+/// Whether a front of ISO-2022-JP stops at such a byte, of which each comes to stand at each place.
+fn iso_2022_jp_stops(start: usize, length: usize, other: usize) -> bool {
+    let end = start.saturating_add(length);
+    let mut bytes = bytes_with_other(start, length, other);
+    if other < length {
+        if let Some(byte) = bytes.get_mut(start.saturating_add(other)) {
+            *byte = ENDS[start & 3];
+        }
+    }
+    let Some(src) = bytes.get(start..end) else {
+        return false;
+    };
+    iso_2022_jp_ascii_valid_up_to(src) == other.min(length)
+}
+
 /// Whether the scans and the copy of code units stop at the other one.
 fn units_stop(start: usize, length: usize, other: usize) -> bool {
     let end = start.saturating_add(length);
@@ -161,6 +180,7 @@ fn each_length_alignment_and_place(rt: HostRuntime) {
         for start in 0..16 {
             for other in 0..length + 1 {
                 let holds = bytes_stop(start, length, other)
+                    && iso_2022_jp_stops(start, length, other)
                     && units_stop(start, length, other)
                     && latin1_comes_back(start, length, other);
                 assert!(rt; holds, "{start}, {length}, {other}");
