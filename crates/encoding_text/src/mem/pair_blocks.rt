@@ -132,7 +132,7 @@ fn latin1_blocks(bytes: &[u8], from: usize) -> usize
     before_cut_character(bytes, at)
 }
 
-/// Where an ASCII front ends that goes on from a place. No byte of a first stride is looked at again.
+/// How far an ASCII front goes on from a place. Behind a whole first stride no byte of it is looked at again.
 #[inline(always)]
 fn ascii_front(bytes: &[u8], from: usize) -> usize
     requires { (from ≤ length bytes.now) × BelowUpTo 0x80 bytes.now from }
