@@ -325,24 +325,6 @@ second_from a b (l, h, m, n) = and_from _ _ (le-leb _ _ m) (le-leb _ _ n)
 pub second_two_from : (a b : ℕ) → IsSecond a b → a < 0xE0 → IsContinuation b
 second_two_from a b s l = grind (arith, nat_tests)
 
--- ---- beginnings by the bytes of a longer list
-pub open_two_reads : (bs : List ℕ) → 1 < length bs → IsBeginning (take 2 bs) ↔ ((0xE0 ≤ slice_index bs 0) × IsSecond (slice_index bs 0) (slice_index bs 1))
-open_two_reads [] h = absurd (omega arith)
-open_two_reads (a ∷ []) h = absurd (omega arith)
-open_two_reads (a ∷ b ∷ more) h = (
-  λ o. let s = HasOpenShape-IsBeginning (a ∷ b ∷ []) o in (s.0, second_more a b s.0 s.1 s.2),
-  λ p. IsBeginning-HasOpenShape (a ∷ b ∷ []) (p.0, p.1.1, second_from a b p.1),
-)
-
-pub open_three_reads : (bs : List ℕ) → 2 < length bs → IsBeginning (take 3 bs) ↔ ((0xF0 ≤ slice_index bs 0) × IsSecond (slice_index bs 0) (slice_index bs 1) × IsContinuation (slice_index bs 2))
-open_three_reads [] h = absurd (omega arith)
-open_three_reads (a ∷ []) h = absurd (omega arith)
-open_three_reads (a ∷ b ∷ []) h = absurd (omega arith)
-open_three_reads (a ∷ b ∷ c ∷ more) h = (
-  λ o. let s = HasOpenShape-IsBeginning (a ∷ b ∷ c ∷ []) o in (s.0, second_more a b (omega arith) s.1 s.2, s.3),
-  λ p. IsBeginning-HasOpenShape (a ∷ b ∷ c ∷ []) (p.0, p.1.1, second_from a b p.1, p.2),
-)
-
 -- ---- a beginning that the next byte goes on with
 pub second_goes_on : (a b : ℕ) → IsSecond a b → IsSequence (a ∷ b ∷ []) ⊎ IsBeginning (a ∷ b ∷ [])
 second_goes_on a b s = elim (cases_lt a 0xE0) [
