@@ -11,8 +11,11 @@ use std::{fs, process};
 /// How many interleaved passes there are: the best of each engine counts.
 const PASSES: usize = 7;
 
-/// How much source an engine reads in one pass, in bytes.
+/// How much source an engine is given in one pass, in bytes.
 const VOLUME: usize = 4 << 20;
+
+/// How long a pass takes at least, in seconds: some calls are decided by their first bytes.
+const LEAST: f64 = 50e-6;
 
 /// A destination full of letters.
 fn room(source: &Source) -> Room {
@@ -41,11 +44,20 @@ fn seconds(engine: &Engine, source: &Source, room: &mut Room, times: u64) -> f64
     start.elapsed().as_secs_f64()
 }
 
+/// How often an engine is called in one pass.
+fn times(row: &Row, source: &Source, room: &mut Room) -> u64 {
+    let mut times = (VOLUME / row.length(source).max(1)).max(1) as u64;
+    while row.engines.iter().any(|engine| seconds(engine, source, room, times) < LEAST) {
+        times *= 4;
+    }
+    times
+}
+
 /// The best throughput of each engine, in GB/s of source.
 fn measure(row: &Row, source: &Source) -> Vec<f64> {
     let length = row.length(source);
-    let times = (VOLUME / length.max(1)).max(1) as u64;
     let mut room = room(source);
+    let times = times(row, source, &mut room);
     let mut best = vec![f64::INFINITY; row.engines.len()];
     for _ in 0..PASSES {
         for (engine, best) in row.engines.iter().zip(&mut best) {

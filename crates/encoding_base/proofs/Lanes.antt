@@ -1,8 +1,9 @@
 pub mod ChunksLemmas
 pub mod NarrowLemmas
-pub mod StridesLemmas
+pub mod PutLemmas
 pub mod LaneLemmas
 pub mod TestLemmas
+pub mod StridesLemmas
 pub mod PlacesLemmas
 pub mod SpellingLemmas
 pub mod StoresLemmas

@@ -5,17 +5,13 @@ ghost use Rattle.std.specs.Str.{IsAscii};
 ghost use Rattle.encoding_base.specs.Ascii.{IsFirstOther, front_length, IsIso2022JpAscii};
 ghost use Rattle.encoding_base.specs.Fronts.{IsLongestFront, WritesFront};
 
-use crate::strides::{copy_ascii_front, front_below, narrow_ascii_front, widen_ascii_front};
+use crate::strides::{
+    ASCII_END, STRIDE, copy_ascii_front, front_below, narrow_ascii_front, widen_ascii_front,
+};
 use std::simd::prelude::*;
-
-/// The bytes that one test covers.
-const STRIDE: usize = 16;
 
 /// The bits that no ASCII byte has: each of the eight bytes is 0x80.
 pub const ASCII_MASK: usize = 0x8080_8080_8080_8080;
-
-/// The least byte that isn't ASCII.
-const ASCII_END: u8 = 0x80;
 
 /// The byte that begins an escape sequence.
 const ESCAPE: u8 = 0x1B;

@@ -19,7 +19,7 @@ const BLOCK: usize = 64;
 const FOUR_BLOCKS: usize = 256;
 
 /// The bytes among which one test finds a place.
-const STRIDE: usize = 16;
+pub const STRIDE: usize = 16;
 
 /// The bytes of a text shorter than a stride that one test covers.
 const HALF_STRIDE: usize = 8;
@@ -34,10 +34,10 @@ const HALF_UNIT_BLOCK: usize = 32;
 const UNIT_STRIDE: usize = 8;
 
 /// The least byte that isn't ASCII.
-pub(crate) const ASCII_END: u8 = 0x80;
+pub const ASCII_END: u8 = 0x80;
 
 /// The least UTF-16 code unit that isn't ASCII.
-const BASIC_LATIN_END: u16 = 0x80;
+pub const BASIC_LATIN_END: u16 = 0x80;
 
 /// Whether each of the N bytes from a place on is below the bound.
 #[inline(always)]
@@ -224,11 +224,13 @@ fn are_all_bytes_below_by<const N: usize>(bytes: &[u8], bound: u8) -> bool
     requires { (N ≤ length bytes.now) × (0 < N) × (N ≤ 64) }
     ensures { IsTrue result ↔ EachIndex bytes.now (λ k. slice_index bytes.now k < bound) }
 {
-    let at = skip_bytes_below::<N>(bytes, 0, bound);
-    if at == bytes.len() {
-        return true;
+    let (strides, rest) = bytes.as_chunks::<N>();
+    for stride in strides {
+        if !are_bytes_below::<N>(stride, 0, bound) {
+            return false;
+        }
     }
-    bytes.len() - at < N && are_bytes_below::<N>(bytes, bytes.len() - N, bound)
+    rest.is_empty() || are_bytes_below::<N>(bytes, bytes.len() - N, bound)
 }
 
 /// Whether each byte is below the bound, by four blocks at a time. The last four may begin before the others end.
@@ -237,11 +239,13 @@ fn are_all_bytes_below_by_fours(bytes: &[u8], bound: u8) -> bool
     requires { 256 ≤ length bytes.now }
     ensures { IsTrue result ↔ EachIndex bytes.now (λ k. slice_index bytes.now k < bound) }
 {
-    let at = skip_four_blocks_below(bytes, bound);
-    if at == bytes.len() {
-        return true;
+    let (fours, rest) = bytes.as_chunks::<FOUR_BLOCKS>();
+    for four in fours {
+        if !are_four_blocks_below(four, 0, bound) {
+            return false;
+        }
     }
-    bytes.len() - at < FOUR_BLOCKS && are_four_blocks_below(bytes, bytes.len() - FOUR_BLOCKS, bound)
+    rest.is_empty() || are_four_blocks_below(bytes, bytes.len() - FOUR_BLOCKS, bound)
 }
 
 /// Whether each byte is below the bound. The first ones, which most often decide it, are looked at alone.
@@ -256,9 +260,9 @@ pub fn are_all_bytes_below(bytes: &[u8], bound: u8) -> bool
         return false;
     }
     match bytes.len() {
-        ..BLOCK => are_all_bytes_below_by::<STRIDE>(bytes, bound),
-        BLOCK..FOUR_BLOCKS => are_all_bytes_below_by::<BLOCK>(bytes, bound),
-        _ => are_all_bytes_below_by_fours(bytes, bound),
+        FOUR_BLOCKS.. => are_all_bytes_below_by_fours(bytes, bound),
+        BLOCK.. => are_all_bytes_below_by::<BLOCK>(bytes, bound),
+        _ => are_all_bytes_below_by::<STRIDE>(bytes, bound),
     }
 }
 
@@ -287,11 +291,13 @@ fn are_all_below_by<const N: usize>(units: &[u16], bound: u16) -> bool
     requires { (N ≤ length units.now) × (0 < N) × (N ≤ 64) }
     ensures { IsTrue result ↔ EachIndex units.now (λ k. slice_index units.now k < bound) }
 {
-    let at = skip_units_below::<N>(units, 0, bound);
-    if at == units.len() {
-        return true;
+    let (strides, rest) = units.as_chunks::<N>();
+    for stride in strides {
+        if !are_units_below::<N>(stride, 0, bound) {
+            return false;
+        }
     }
-    units.len() - at < N && are_units_below::<N>(units, units.len() - N, bound)
+    rest.is_empty() || are_units_below::<N>(units, units.len() - N, bound)
 }
 
 /// Whether each UTF-16 code unit is below the bound. The first ones, which most often decide it, are looked at alone.
@@ -306,8 +312,8 @@ pub fn are_all_below(units: &[u16], bound: u16) -> bool
         return false;
     }
     match units.len() {
-        ..HALF_UNIT_BLOCK => are_all_below_by::<UNIT_STRIDE>(units, bound),
-        HALF_UNIT_BLOCK..UNIT_BLOCK => are_all_below_by::<HALF_UNIT_BLOCK>(units, bound),
-        _ => are_all_below_by::<UNIT_BLOCK>(units, bound),
+        UNIT_BLOCK.. => are_all_below_by::<UNIT_BLOCK>(units, bound),
+        HALF_UNIT_BLOCK.. => are_all_below_by::<HALF_UNIT_BLOCK>(units, bound),
+        _ => are_all_below_by::<UNIT_STRIDE>(units, bound),
     }
 }

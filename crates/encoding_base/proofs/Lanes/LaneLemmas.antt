@@ -1,5 +1,5 @@
 -- What the operations on vectors hold at each lane, and what the masks of vectors tell of it.
-use Rattle.std.proofs.Common.{◌≡◌, ℕ, ◌+◌, ◌-◌, ◌*◌, ◌/◌, ◌^◌, ◌%◌, ◌<◌, ◌≤◌, ◌↔◌, IsTrue, Bool, true, false, not, cond, ltb, eqb, inl, inr, List, map, length, get_or, replicate, refl, sym, ap, ◌∙◌, arith, subst, map-id, ◌++◌, take, drop, length-take-le, length-append, length-drop, get_or-take, get_or-drop, append_assoc, drop-drop}
+use Rattle.std.proofs.Common.{◌≡◌, ℕ, suc, ◌+◌, ◌-◌, ◌*◌, ◌/◌, ◌^◌, ◌%◌, ◌<◌, ◌≤◌, ◌↔◌, IsTrue, Bool, true, false, not, cond, ltb, eqb, inl, inr, List, [], ◌∷◌, map, length, get_or, replicate, refl, sym, ap, ◌∙◌, arith, subst, map-id, ◌++◌, take, drop, length-take-le, length-append, length-drop, get_or-take, get_or-drop, append_assoc, drop-drop}
 use Rattle.std.proofs.lemmas.Bool.{cond-true, cond-false, cases_lt, lt-ltb, le-ltb, eqb-true, eq-eqb, not-true, not-false, not_from_false, not_from_true}
 use Rattle.std.proofs.lemmas.Grind.{same_number_lists}
 use Rattle.std.proofs.lemmas.List.{length-map, get_or-map, drop-append-le, get_or_append_left, get_or-append_right}
@@ -10,7 +10,7 @@ use Rattle.std.specs.List.{prefix_len}
 use mir.Syntax.{Width, w8, w16, w32, w64, w128}
 use mir.Val.{bits, hbits}
 use Rattle.encoding_base.specs.Steps.Lanes.{HasLanes}
-use Rattle.encoding_base.proofs.Lanes.StridesLemmas.{empty_mask, put_is, whole_chunk}
+use Rattle.encoding_base.proofs.Lanes.PutLemmas.{put_is, whole_chunk}
 
 -- ---- lanes
 pub HasLanes-load : (at n : ℕ) (xs : List ℕ) → at + n ≤ length xs → HasLanes n (chunk at n xs) (λ k. get_or xs (at + k) 0)
@@ -90,6 +90,13 @@ mask_of h lanes = mask_l (map (top h) lanes) % 2 ^ 64
 
 pub mask_is : (h n : ℕ) (a : List ℕ) → length a ≡ n → n ≤ 64 → mask_of h a ≡ mask_l (map (top h) a)
 mask_is h n a long few = mask_l-mod (map (top h) a) 64 (omega (arith, length-map a (top h), long))
+
+-- where no lane passes p, no bit is set
+empty_mask : {X : Type 0} (p : X → Bool) (xs : List X) (d : X) → ((k : ℕ) → k < length xs → p (get_or xs k d) ≡ false) → mask_l (map p xs) ≡ 0
+empty_mask p [] d h = refl
+empty_mask p (x ∷ xs) d h =
+    let first : cond {A = ℕ} (p x) 1 0 ≡ 0 = ap (λ b. cond b 1 0) (h 0 (omega arith)) in
+    omega (arith, first, empty_mask p xs d (λ k l. h (suc k) (omega arith)))
 
 -- of n lanes, the first at which t holds is r, or there is none and r is n
 pub record IsFirstSet (n r : ℕ) (t : ℕ → Bool) : Type 0 where

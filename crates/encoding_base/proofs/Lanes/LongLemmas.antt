@@ -8,7 +8,7 @@ use Rattle.std.proofs.str.Laws.{three}
 use Rattle.std.specs.Simd.Lanes.{number_l, digits_l, top, zip2, Each1, pick_l, put_chunk}
 use Rattle.std.proofs.lemmas.List.{take_at, drop_at, drop-drop}
 use Rattle.encoding_base.specs.Steps.Lanes.{HasLanes}
-use Rattle.encoding_base.proofs.Lanes.StridesLemmas.{put_is}
+use Rattle.encoding_base.proofs.Lanes.PutLemmas.{put_is}
 use Rattle.encoding_base.proofs.Lanes.LaneLemmas.{HasLanes-itself, HasLanes-splat, HasLanes-zip2, HasLanes-cast, compared, mask_of, not_any}
 
 -- ---- the test

@@ -9,7 +9,7 @@ use Rattle.std.proofs.Common.{map, replicate}
 use mir.Syntax.{Width}
 use mir.Val.{hbits}
 use Rattle.encoding_base.specs.Steps.Lanes.{HasLanes}
-use Rattle.encoding_base.proofs.Lanes.StridesLemmas.{put_is}
+use Rattle.encoding_base.proofs.Lanes.PutLemmas.{put_is}
 use Rattle.encoding_base.proofs.Lanes.LaneLemmas.{HasLanes-itself, HasLanes-splat, HasLanes-zip2, HasLanes-select, HasLanes-same, compared, top_compared, put_firsts}
 
 -- the first so many lanes of one vector, and behind them what stands at a place

@@ -1,79 +1,73 @@
--- From the lanes of a vector that was read at a place to the units there.
-use Rattle.std.proofs.Common.{◌≡◌, ℕ, suc, ◌+◌, ◌-◌, ◌^◌, ◌%◌, ◌<◌, ◌≤◌, ◌↔◌, IsTrue, Bool, false, not, cond, leb, eqb, List, [], ◌∷◌, ◌++◌, map, length, take, drop, drop-drop, get_or, replicate, refl, sym, ap, ◌∙◌, arith}
-use Rattle.std.proofs.lemmas.Bool.{leb-true, leb-false, lt-leb, eqb-true, eq-eqb, not-true, not-false, not_from_false, not_from_true}
-use Rattle.std.proofs.lemmas.List.{length-map, take_all}
-use Rattle.std.proofs.lemmas.Simd.{tops_compared, zip2_splat_left, length-chunk, get_or-chunk, mask_l-mod, none_from_empty_mask, leading_from_mask_l, put_chunk_is, trailing_mask_l, run_in_chunk_le, run_in_chunk_fails, run_in_chunk_stops}
-use Rattle.std.specs.Simd.Lanes.{zip2, chunk, put_chunk, mask_l, top}
-use Rattle.std.specs.List.{prefix_len}
+-- From the lanes of vectors that were read at a place to the units there that are below a bound.
+use Rattle.std.proofs.Common.{◌≡◌, ℕ, ◌+◌, ◌-◌, ◌*◌, ◌<◌, ◌≤◌, ◌↔◌, IsTrue, Bool, false, not, ◌||◌, eqb, leb, inl, inr, List, length, replicate, get_or, bit_or, sym, ap, ◌∙◌, arith}
+use Rattle.std.proofs.lemmas.Bool.{cases_lt, leb-false, leb-true, lt-leb, or_parts}
+use Rattle.std.specs.Simd.Lanes.{chunk, zip2}
 use lib.Count.{count_trailing_zeros}
 use mir.Syntax.{Width}
-use mir.Val.{bits, hbits}
+use mir.Val.{hbits}
 use Rattle.encoding_base.specs.Steps.Strides.{AllBelow, IsRunBelow}
+use Rattle.encoding_base.proofs.Lanes.LaneLemmas.{HasLanes-load, HasLanes-splat, compared, mask_of, IsFirstSet}
+use Rattle.encoding_base.proofs.Lanes.TestLemmas.{HasTests, tests_of, tests_or, none_passes, none_is_first, lowest_is_first}
 
--- the mask of `simd_ge` with a splat, as `any` and `to_bitmask` read it
-abbrev pub others : Width → ℕ → ℕ → List ℕ → ℕ
-others w n bound lanes = mask_l (map (top (hbits w)) (zip2 (λ a b. cond (leb a b) (2 ^ bits w - 1) 0) (replicate n bound) lanes))
+-- where no unit from a place on is from the bound on, each is below it
+below_at : (bound place n k : ℕ) (xs : List ℕ) → place ≤ k → ((j : ℕ) → j < n → leb bound (get_or xs (place + j) 0) ≡ false) → k < place + n → get_or xs k 0 < bound
+below_at bound place n k xs from clear to =
+    let is : place + (k - place) ≡ k = omega arith in
+    leb-false bound _ (ap (λ j. leb bound (get_or xs j 0)) (sym is) ∙ clear (k - place) (omega arith))
 
-others_is : (w : Width) (n bound : ℕ) (lanes : List ℕ) → length lanes ≡ n → others w n bound lanes ≡ mask_l (map (leb bound) lanes)
-others_is w n bound lanes long = ap mask_l (tops_compared w leb (replicate n bound) lanes ∙ zip2_splat_left leb bound n lanes long)
+or_none : (p q : Bool) → p ≡ false → q ≡ false → (p || q) ≡ false
+or_none p q e f = λ i. e i || f i
 
-bitmask_is : (w : Width) (n bound : ℕ) (lanes : List ℕ) → length lanes ≡ n → n ≤ 64 → others w n bound lanes % 2 ^ 64 ≡ mask_l (map (leb bound) lanes)
-bitmask_is w n bound lanes long few = ap (λ m. m % 2 ^ 64) (others_is w n bound lanes long) ∙ mask_l-mod (map (leb bound) lanes) 64 (omega (arith, length-map lanes (leb bound)))
+module _ (w : Width) (n bound at : ℕ) (xs : List ℕ) where
+  -- `simd_ge` with a splat, of a vector that was read at a place
+  abbrev others : ℕ → List ℕ
+  others place = zip2 (compared w leb) (replicate n bound) (chunk place n xs)
 
--- where no lane passes p, no bit is set
-pub empty_mask : {X : Type 0} (p : X → Bool) (xs : List X) (d : X) → ((k : ℕ) → k < length xs → p (get_or xs k d) ≡ false) → mask_l (map p xs) ≡ 0
-empty_mask p [] d h = refl
-empty_mask p (x ∷ xs) d h =
-    let first : cond {A = ℕ} (p x) 1 0 ≡ 0 = ap (λ b. cond b 1 0) (h 0 (omega arith)) in
-    omega (arith, first, empty_mask p xs d (λ k l. h (suc k) (omega arith)))
+  tests : (place : ℕ) → place + n ≤ length xs → HasTests w n (others place) (λ k. leb bound (get_or xs (place + k) 0))
+  tests place room = tests_of w leb (HasLanes-splat n bound) (HasLanes-load place n xs room)
 
--- no lane is from the bound on just where each unit is below it
-pub no_others : (w : Width) (n bound at : ℕ) (xs : List ℕ) → at + n ≤ length xs → n ≤ 64 → IsTrue (not (not (eqb (others w n bound (chunk at n xs) % 2 ^ 64) 0))) ↔ AllBelow bound xs at n
-no_others w n bound at xs room few =
-    let long = length-chunk at n xs room in
-    let is = bitmask_is w n bound (chunk at n xs) long few in (
-      λ h k from to.
-          let none = sym is ∙ eqb-true _ 0 (not-false _ (not-true _ h)) in
-          leb-false _ _ (none_from_empty_mask (leb bound) xs at n 0 room none k from to),
-      λ h.
-          let none = is ∙ empty_mask (leb bound) (chunk at n xs) 0 (λ k l.
-          let in_chunk : k < n = omega (arith, long) in
-          ap (leb bound) (get_or-chunk at n xs k 0 in_chunk) ∙ lt-leb _ _ (h (at + k) (omega arith) (omega arith))) in
-          not_from_false _ (not_from_true _ (eq-eqb _ 0 none)),
-    )
+  -- no lane is from the bound on just where each unit is below it
+  pub no_others : at + n ≤ length xs → n ≤ 64 → IsTrue (not (not (eqb (mask_of (hbits w) (others at)) 0))) ↔ AllBelow bound xs at n
+  no_others room few =
+      let clear = none_passes (tests at room) few in (
+        λ none k from to. below_at bound at n k xs from (clear.0 none) to,
+        λ h. clear.1 (λ j l. lt-leb bound _ (h (at + j) (omega arith) (omega arith))),
+      )
 
-run_is : (bound at n run : ℕ) (xs : List ℕ) → at + n ≤ length xs → run ≡ prefix_len (λ x. not (leb bound x)) (chunk at n xs) → IsRunBelow bound xs at n run
-run_is bound at n run xs room counted = record {
-  within = run_in_chunk_le (leb bound) xs at n run 0 room counted;
-  below = λ k from to. leb-false _ _ (run_in_chunk_fails (leb bound) xs at n run 0 room counted k from to);
-  stops = λ short. leb-true _ _ (run_in_chunk_stops (leb bound) xs at n run 0 room counted short);
-}
+  run_is : (run : ℕ) → IsFirstSet n run (λ k. leb bound (get_or xs (at + k) 0)) → IsRunBelow bound xs at n run
+  run_is run first = record {
+    within = first.within;
+    below = λ k from to. below_at bound at run k xs from first.before to;
+    stops = λ short. leb-true _ _ (first.found short);
+  }
 
--- no bit: all lanes are below the bound
-pub whole_run : (w : Width) (n bound at : ℕ) (xs : List ℕ) → at + n ≤ length xs → n ≤ 64 → others w n bound (chunk at n xs) % 2 ^ 64 ≡ 0 → IsRunBelow bound xs at n n
-whole_run w n bound at xs room few none =
-    let long = length-chunk at n xs room in
-    let is = bitmask_is w n bound (chunk at n xs) long few in
-    run_is bound at n n xs room (sym (leading_from_mask_l (leb bound) (chunk at n xs) (sym is ∙ none) ∙ long))
+  -- no bit: all lanes are below the bound
+  pub whole_run : at + n ≤ length xs → n ≤ 64 → mask_of (hbits w) (others at) ≡ 0 → IsRunBelow bound xs at n n
+  whole_run room few none = run_is n (none_is_first (tests at room) few none)
 
--- the lowest bit: the first lane that isn't
-pub run_to_lowest : (w : Width) (n bound at : ℕ) (xs : List ℕ) → at + n ≤ length xs → n ≤ 64 → 0 < others w n bound (chunk at n xs) % 2 ^ 64
-    → IsRunBelow bound xs at n (count_trailing_zeros 64 (others w n bound (chunk at n xs) % 2 ^ 64))
-run_to_lowest w n bound at xs room few some =
-    let long = length-chunk at n xs room in
-    let is = bitmask_is w n bound (chunk at n xs) long few in
-    run_is bound at n _ xs room (ap (count_trailing_zeros 64) is ∙ trailing_mask_l (leb bound) 64 (chunk at n xs) (omega arith) (omega (arith, is)))
+  -- the lowest bit: the first lane that isn't
+  pub run_to_lowest : at + n ≤ length xs → n ≤ 64 → 0 < mask_of (hbits w) (others at) → IsRunBelow bound xs at n (count_trailing_zeros 64 (mask_of (hbits w) (others at)))
+  run_to_lowest room few some = run_is _ (lowest_is_first (tests at room) few some)
 
--- ---- a store
-pub put_is : {X : Type 0} (at n : ℕ) (xs ys : List X) → length ys ≡ n → at + n ≤ length xs → put_chunk at xs ys ≡ take at xs ++ (ys ++ drop (at + n) xs)
-put_is at n xs ys long room =
-    let rest : drop (length ys) (drop at xs) ≡ drop (at + n) xs = drop-drop (length ys) at xs ∙ ap (λ m. drop (at + m) xs) long in
-    put_chunk_is at xs ys (omega arith) ∙ ap (λ zs. take at xs ++ (ys ++ zs)) rest
-
--- a stride read whole
-pub whole_chunk : {X : Type 0} (n : ℕ) (stride : List X) → length stride ≡ n → chunk 0 n stride ≡ stride
-whole_chunk n stride long = take_all n stride (omega (arith, long))
-
--- of a vector read from a stride
-pub put_stride : {X : Type 0} (at n : ℕ) (xs stride : List X) → length stride ≡ n → at + n ≤ length xs → put_chunk at xs (chunk 0 n stride) ≡ take at xs ++ (stride ++ drop (at + n) xs)
-put_stride at n xs stride long room = ap (put_chunk at xs) (whole_chunk n stride long) ∙ put_is at n xs stride long room
+  -- of four vectors that stand one behind the other, joined by `|`
+  pub no_others_in_four : at + 4 * n ≤ length xs → n ≤ 64
+      → IsTrue (not (not (eqb (mask_of (hbits w) (zip2 bit_or (zip2 bit_or (others at) (others (at + n))) (zip2 bit_or (others (at + 2 * n)) (others (at + 3 * n))))) 0))) ↔ AllBelow bound xs at (4 * n)
+  no_others_in_four room few =
+      let first = tests_or (tests at (omega arith)) (tests (at + n) (omega arith)) in
+      let second = tests_or (tests (at + 2 * n) (omega arith)) (tests (at + 3 * n) (omega arith)) in
+      let clear = none_passes (tests_or first second) few in (
+        λ none k from to. elim (cases_lt k (at + 2 * n)) [
+          | inl l ↦ elim (cases_lt k (at + n)) [
+            | inl m ↦ below_at bound at n k xs from (λ j o. (or_parts _ _ (or_parts _ _ (clear.0 none j o)).0).0) m
+            | inr m ↦ below_at bound (at + n) n k xs m (λ j o. (or_parts _ _ (or_parts _ _ (clear.0 none j o)).0).1) (omega arith)
+          ]
+          | inr l ↦ elim (cases_lt k (at + 3 * n)) [
+            | inl m ↦ below_at bound (at + 2 * n) n k xs l (λ j o. (or_parts _ _ (or_parts _ _ (clear.0 none j o)).1).0) (omega arith)
+            | inr m ↦ below_at bound (at + 3 * n) n k xs m (λ j o. (or_parts _ _ (or_parts _ _ (clear.0 none j o)).1).1) (omega arith)
+          ]
+        ],
+        λ h. clear.1 (λ j o.
+            let none = λ (place : ℕ) (from : at ≤ place + j) (to : place + j < at + 4 * n). lt-leb bound _ (h (place + j) from to) in
+            or_none _ _ (or_none _ _ (none at (omega arith) (omega arith)) (none (at + n) (omega arith) (omega arith)))
+            (or_none _ _ (none (at + 2 * n) (omega arith) (omega arith)) (none (at + 3 * n) (omega arith) (omega arith)))),
+      )

@@ -1,15 +1,13 @@
 -- Masks as tests of lanes: joined, chosen by, and what holds where no lane passes.
-use Rattle.std.proofs.Common.{◌≡◌, ℕ, ◌+◌, ◌-◌, ◌*◌, ◌^◌, ◌<◌, ◌≤◌, ◌↔◌, IsTrue, Bool, true, false, not, cond, ◌&&◌, ◌||◌, eqb, leb, inl, inr, List, length, map, replicate, get_or, bit_and, bit_or, bit_xor, sym, ap, ◌∙◌, arith}
-use Rattle.std.proofs.lemmas.Bool.{cases_lt, leb-false, lt-leb, or_parts}
+use Rattle.std.proofs.Common.{◌≡◌, ℕ, ◌-◌, ◌^◌, ◌<◌, ◌≤◌, ◌↔◌, IsTrue, Bool, true, false, not, cond, ◌&&◌, ◌||◌, eqb, List, map, replicate, bit_and, bit_or, bit_xor, sym, ap, ◌∙◌, arith}
 use Rattle.std.specs.Int.Bits.{and_self, and_zero_l, and_zero_r, or_self, or_zero_l, or_zero_r, xor_self, xor_zero_l, xor_zero_r}
-use Rattle.std.specs.Simd.Lanes.{chunk, zip2, top, sel_l}
+use Rattle.std.specs.Simd.Lanes.{zip2, top, sel_l}
 use Rattle.std.proofs.lemmas.Simd.{trailing_mask_l}
 use lib.Count.{count_trailing_zeros}
 use mir.Syntax.{Width}
 use mir.Val.{bits, hbits}
 use Rattle.encoding_base.specs.Steps.Lanes.{HasLanes}
-use Rattle.encoding_base.specs.Steps.Strides.{AllBelow}
-use Rattle.encoding_base.proofs.Lanes.LaneLemmas.{HasLanes-load, HasLanes-zip2, HasLanes-splat, HasLanes-select, HasLanes-same, compared, top_compared, mask_of, mask_is, not_any_is, IsFirstSet, first_set, first_none}
+use Rattle.encoding_base.proofs.Lanes.LaneLemmas.{HasLanes-zip2, HasLanes-splat, HasLanes-select, HasLanes-same, compared, top_compared, mask_of, mask_is, not_any_is, IsFirstSet, first_set, first_none}
 
 -- lane k of the mask says whether t holds of k: all its bits are set, or none
 pub record HasTests (w : Width) (n : ℕ) (mask : List ℕ) (t : ℕ → Bool) : Type 0 where
@@ -74,38 +72,3 @@ module _ {w : Width} {n : ℕ} {a : List ℕ} {t : ℕ → Bool} where
   lowest_is_first p few some =
       let is = mask_is (hbits w) n a p.lanes.long few in
       of_tests w (first_set (hbits w) p.lanes few _ (ap (count_trailing_zeros 64) is ∙ trailing_mask_l (top (hbits w)) 64 a (omega (arith, p.lanes.long)) (omega (arith, is))))
-
-or_none : (p q : Bool) → p ≡ false → q ≡ false → (p || q) ≡ false
-or_none p q e f = λ i. e i || f i
-
--- four vectors that stand one behind the other, compared with a bound and joined by `|`: no lane is from the bound on just where each unit is below it
-module _ (w : Width) (n bound at : ℕ) (xs : List ℕ) where
-  below_at : (place k : ℕ) → place ≤ k → ((j : ℕ) → j < n → leb bound (get_or xs (place + j) 0) ≡ false) → k < place + n → get_or xs k 0 < bound
-  below_at place k from clear to =
-      let is : place + (k - place) ≡ k = omega arith in
-      leb-false bound _ (ap (λ j. leb bound (get_or xs j 0)) (sym is) ∙ clear (k - place) (omega arith))
-
-  pub no_others_in_four : at + 4 * n ≤ length xs → n ≤ 64
-      → IsTrue (not (not (eqb (mask_of (hbits w) (zip2 bit_or (zip2 bit_or (zip2 (compared w leb) (replicate n bound) (chunk at n xs)) (zip2 (compared w leb) (replicate n bound) (chunk (at + n) n xs)))
-      (zip2 bit_or (zip2 (compared w leb) (replicate n bound) (chunk (at + 2 * n) n xs)) (zip2 (compared w leb) (replicate n bound) (chunk (at + 3 * n) n xs))))) 0)))
-      ↔ AllBelow bound xs at (4 * n)
-  no_others_in_four room few =
-      let tests = λ (place : ℕ) (p : place + n ≤ length xs). tests_of w leb (HasLanes-splat n bound) (HasLanes-load place n xs p) in
-      let first = tests_or (tests at (omega arith)) (tests (at + n) (omega arith)) in
-      let second = tests_or (tests (at + 2 * n) (omega arith)) (tests (at + 3 * n) (omega arith)) in
-      let clear = none_passes (tests_or first second) few in (
-        λ none k from to. elim (cases_lt k (at + 2 * n)) [
-          | inl l ↦ elim (cases_lt k (at + n)) [
-            | inl m ↦ below_at at k from (λ j o. (or_parts _ _ (or_parts _ _ (clear.0 none j o)).0).0) m
-            | inr m ↦ below_at (at + n) k m (λ j o. (or_parts _ _ (or_parts _ _ (clear.0 none j o)).0).1) (omega arith)
-          ]
-          | inr l ↦ elim (cases_lt k (at + 3 * n)) [
-            | inl m ↦ below_at (at + 2 * n) k l (λ j o. (or_parts _ _ (or_parts _ _ (clear.0 none j o)).1).0) (omega arith)
-            | inr m ↦ below_at (at + 3 * n) k m (λ j o. (or_parts _ _ (or_parts _ _ (clear.0 none j o)).1).1) (omega arith)
-          ]
-        ],
-        λ h. clear.1 (λ j o.
-            let none = λ (place : ℕ) (from : at ≤ place + j) (to : place + j < at + 4 * n). lt-leb bound _ (h (place + j) from to) in
-            or_none _ _ (or_none _ _ (none at (omega arith) (omega arith)) (none (at + n) (omega arith) (omega arith)))
-            (or_none _ _ (none (at + 2 * n) (omega arith) (omega arith)) (none (at + 3 * n) (omega arith) (omega arith)))),
-      )

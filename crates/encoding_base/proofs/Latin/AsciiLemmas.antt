@@ -1,8 +1,8 @@
 -- Fronts whose units are each of a kind, of which the ASCII front is one, and copies of a front.
-use Rattle.std.proofs.Common.{◌≡◌, ℕ, ◌+◌, ◌-◌, ◌<◌, ◌≤◌, inl, inr, List, length, ◌++◌, take, drop, take-add, length-take-le, length-drop, set, slice_index, sym, ap, ◌∙◌, arith, subst, Some}
+use Rattle.std.proofs.Common.{◌≡◌, ℕ, ◌+◌, ◌<◌, ◌≤◌, inl, inr, List, length, ◌++◌, take, drop, take-add, length-take-le, length-drop, set, slice_index, sym, ap, ◌∙◌, arith, subst, Some}
 use Rattle.std.specs.Str.{IsAscii, IsUtf8}
 use Rattle.std.proofs.lemmas.Bool.{cases_lt}
-use Rattle.std.proofs.lemmas.List.{get_or-drop, get_or-take, get_or_past, length-take, take_more}
+use Rattle.std.proofs.lemmas.List.{get_or-take, get_or_past, length-take, take_more}
 use Rattle.std.proofs.lemmas.Option.{slice_get-get_or}
 use Rattle.std.proofs.lemmas.Str.{IsUtf8-from_ascii}
 use Rattle.encoding_base.specs.Ascii.{IsFirstOther}
@@ -85,15 +85,3 @@ below_block xs n m h p k l = elim (cases_lt k n) [ inl q ↦ h k q | inr q ↦ p
 -- a run from no later place on passes the places below the bound
 pub run_passes : (bound from at n run : ℕ) (xs : List ℕ) → BelowUpTo bound xs from → from ≤ at + n → IsRunBelow bound xs at n run → from ≤ at + run
 run_passes bound from at n run xs below l r = elim (cases_lt (at + run) from) [ inl p ↦ absurd (omega (arith, below (at + run) p, r.stops (omega arith))) | inr p ↦ p ]
-
--- so many units of the rest are below the bound too
-pub below_rest : (bound from n : ℕ) (xs : List ℕ) → from ≤ length xs → BelowUpTo bound xs from → n ≤ length (take (length xs - from) (drop from xs)) → BelowUpTo bound (take (length xs - from) (drop from xs)) n
-    → (from + n ≤ length xs) × BelowUpTo bound xs (from + n)
-below_rest bound from n xs start below within rest = (
-  omega (arith, length-take (length xs - from) (drop from xs), length-drop from xs),
-  λ k l. elim (cases_lt k from) [
-    | inl p ↦ below k p
-    | inr p ↦ let e : from + (k - from) ≡ k = omega arith in
-        rw (get_or-take (length xs - from) (drop from xs) (k - from) 0 (omega (arith, within, length-take (length xs - from) (drop from xs), length-drop from xs)), get_or-drop from xs (k - from) 0, e) at (rest (k - from) (omega arith))
-  ],
-)

@@ -8,8 +8,8 @@ ghost use Rattle.encoding_base.specs.Sequence.{IsSequence};
 ghost use Rattle.encoding_text.specs.Bidi.{IsRightToLeft, IsRightToLeftUnit, IsBidiUnits, IsBidiText, IsBidiBytes, Classifies};
 
 use super::bidi_blocks::{FIRST_UNIT, UNIT_STRIDE, is_text_bidi, skip_clear_units, units_below};
-use super::checks::{str_latin1_up_to, utf8_latin1_up_to};
-use encoding_base::strides::front_below;
+use super::checks::{LATIN1_END, str_latin1_up_to, utf8_latin1_up_to};
+use encoding_base::strides::{ASCII_END, front_below};
 use encoding_base::utf_8::{scalar_of_sequence, utf8_valid_up_to};
 
 /// The first right-to-left scalar value.
@@ -17,12 +17,6 @@ const FIRST: u32 = 0x0590;
 
 /// How many bytes are validated before they are looked at.
 const PIECE: usize = 4096;
-
-/// The least byte that isn't ASCII.
-const ASCII_END: u8 = 0x80;
-
-/// The least UTF-16 code unit that isn't Latin1.
-const LATIN1_END: u16 = 0x100;
 
 /// What is known of a text at a glance: whether it is Latin1, and else whether right-to-left characters are in it.
 #[derive(Debug, PartialEq, Eq, Drop)]

@@ -6,27 +6,17 @@ ghost use Rattle.encoding_base.specs.Fronts.{IsLongestFront};
 ghost use Rattle.encoding_base.specs.Latin1.{IsLatin1, IsUtf8Latin1};
 ghost use Rattle.encoding_base.specs.Steps.Strides.{BelowUpTo};
 
-use super::pair_blocks::latin1_front;
+use super::pair_blocks::{BEYOND_LATIN1, latin1_front};
 use encoding_base::sequence::is_continuation;
-use encoding_base::strides::{are_all_below, are_all_bytes_below, front_below, run_below};
-
-/// The bytes that the first test covers.
-const STRIDE: usize = 16;
-
-/// The least byte that isn't ASCII.
-const ASCII_END: u8 = 0x80;
-
-/// The least UTF-16 code unit that isn't ASCII.
-const BASIC_LATIN_END: u16 = 0x80;
+use encoding_base::strides::{
+    ASCII_END, BASIC_LATIN_END, STRIDE, are_all_below, are_all_bytes_below, front_below, run_below,
+};
 
 /// The least UTF-16 code unit that isn't Latin1.
-const LATIN1_END: u16 = 0x100;
+pub(super) const LATIN1_END: u16 = 0x100;
 
 /// The first byte of U+0080 to U+00BF; that of U+00C0 to U+00FF is one more.
 const LATIN1_LEAD: u8 = 0xC2;
-
-/// The first byte of U+0100. All bytes of lesser characters are less, and greater characters begin with no lesser byte.
-const BEYOND_LATIN1: u8 = 0xC4;
 
 /// Whether each byte is ASCII.
 pub fn is_ascii(buffer: &[u8]) -> bool

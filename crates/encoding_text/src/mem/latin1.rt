@@ -6,15 +6,11 @@ ghost use Rattle.std.specs.Str.{chars};
 ghost use Rattle.encoding_base.specs.Fronts.{FitsLongest, WritesFront};
 ghost use Rattle.encoding_base.specs.Latin1.{IsUtf8Latin1};
 
-use encoding_base::strides::{are_bytes_below, copy_ascii, narrow_lower, put_first, widen};
+use encoding_base::strides::{
+    ASCII_END, STRIDE, are_bytes_below, copy_ascii, narrow_lower, put_first, widen,
+};
 use encoding_base::utf_8::{latin1_of, write_short};
 use std::simd::prelude::*;
-
-/// The least byte that isn't ASCII.
-const ASCII_END: u8 = 0x80;
-
-/// The bytes, or UTF-16 code units, that are converted at once.
-const STRIDE: usize = 16;
 
 /// The bytes that a character from U+0080 to U+00FF takes in UTF-8.
 const HIGH_LENGTH: usize = 2;

@@ -6,7 +6,7 @@ ghost use Rattle.encoding_base.specs.Steps.Strides.{BelowUpTo};
 ghost use Rattle.encoding_text.specs.Steps.Pairs.{ArePaired, FitLatin1};
 ghost use Rattle.encoding_text.specs.Surrogates.{IsValidUtf16};
 
-use encoding_base::strides::{front_behind_stride, front_below};
+use encoding_base::strides::{ASCII_END, STRIDE, front_behind_stride, front_below};
 use encoding_base::utf_8::{is_high_surrogate, is_low_surrogate};
 use std::simd::Simd;
 use std::simd::prelude::*;
@@ -20,17 +20,11 @@ const UNIT_STRIDE: usize = 8;
 /// The bytes that one test covers.
 const BLOCK: usize = 64;
 
-/// The bytes of a lesser test.
-const STRIDE: usize = 16;
-
-/// The least byte that isn't ASCII.
-const ASCII_END: u8 = 0x80;
-
 /// The least byte that stands before a continuation byte.
 const LEADS: u8 = 0xC0;
 
-/// The first byte of U+0100. Latin1 has none from here on.
-const BEYOND_LATIN1: u8 = 0xC4;
+/// The first byte of U+0100. All bytes of lesser characters are less, and greater characters begin with no lesser byte.
+pub(super) const BEYOND_LATIN1: u8 = 0xC4;
 
 /// Whether each of the N code units from `at` on is a low surrogate exactly where the one before it is a high one.
 #[inline(always)]
@@ -132,17 +126,19 @@ fn latin1_blocks(bytes: &[u8], from: usize) -> usize
     before_cut_character(bytes, at)
 }
 
-/// How far an ASCII front goes on from a place. Behind a whole first stride no byte of it is looked at again.
+/// How far an ASCII front goes on from where its first stride has it: behind a whole stride, or from the beginning.
+/// Elsewhere it ends at once.
 #[inline(always)]
 fn ascii_front(bytes: &[u8], from: usize) -> usize
     requires { (from ≤ length bytes.now) × BelowUpTo 0x80 bytes.now from }
     ensures within { result ≤ length bytes.now }
     ensures below { BelowUpTo 0x80 bytes.now result }
 {
-    if from == STRIDE {
-        return front_behind_stride(bytes, ASCII_END);
+    match from {
+        0 => front_below(bytes, ASCII_END),
+        STRIDE => front_behind_stride(bytes, ASCII_END),
+        _ => from,
     }
-    from + front_below(&bytes[from..], ASCII_END)
 }
 
 /// How far the bytes are Latin1 in UTF-8, by an ASCII front that goes on from a place and whole blocks.

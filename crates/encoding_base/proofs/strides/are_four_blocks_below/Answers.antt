@@ -1,5 +1,5 @@
 use Rattle.std.proofs.Common.{w8, arith}
-use Rattle.encoding_base.proofs.Lanes.TestLemmas.{no_others_in_four}
+use Rattle.encoding_base.proofs.Lanes.StridesLemmas.{no_others_in_four}
 use Rattle.encoding_base.proofs.strides.are_four_blocks_below.Goals as goal
 
 pub returns : goal.returns

@@ -1,16 +1,14 @@
-use Rattle.std.proofs.Common.{[], inl, inr, arith, refl}
-use Rattle.std.proofs.lemmas.Bool.{false≢true, cases_lt}
-use Rattle.encoding_base.proofs.Lanes.ChunksLemmas.{whole_stride, below_stride}
+use Rattle.std.proofs.Common.{[], arith, refl}
+use Rattle.std.proofs.lemmas.Bool.{false≢true}
+use Rattle.encoding_base.proofs.Lanes.ChunksLemmas.{whole_stride, below_stride, below_on}
 use Rattle.encoding_base.proofs.strides.skip_four_blocks_below.Goals as goal
 
 pub loop-four-preserved : goal.loop-four-preserved
 loop-four-preserved c =
-    let at = c.loop-four.at in
     let is = whole_stride 256 c.args.bytes.now [] refl c.as_chunks.ensures.front c.as_chunks.ensures.front_len c.loop-four.invariant.place c.loop-four-test.true in
-    let more = (below_stride c.args.bound at 256 c.args.bytes.now _ is).0 (c.if-not-are_four_blocks_below.ensures.0 refl) in
     record {
       place = omega (arith, c.loop-four.invariant.place);
-      below = λ k l. elim (cases_lt k at) [ inl p ↦ c.loop-four.invariant.below k p | inr p ↦ more k p l ];
+      below = below_on c.args.bound c.loop-four.at 256 c.args.bytes.now _ is c.loop-four.invariant.below (c.if-not-are_four_blocks_below.ensures.0 refl);
     }
 
 pub returns-then-not-are_four_blocks_below-clause-stops : goal.returns-then-not-are_four_blocks_below-clause-stops

@@ -1,4 +1,4 @@
-use Rattle.encoding_base.proofs.Lanes.StridesLemmas.{put_stride}
+use Rattle.encoding_base.proofs.Lanes.PutLemmas.{put_stride}
 use Rattle.encoding_base.proofs.strides.copies.copy.Goals as goal
 
 pub returns : goal.returns

@@ -4,7 +4,7 @@ use Rattle.std.proofs.lemmas.List.{take_all}
 use Rattle.std.proofs.lemmas.Simd.{length-chunk}
 use Rattle.std.specs.Simd.Lanes.{chunk}
 use Rattle.encoding_base.proofs.Lanes.ChunksLemmas.{many, whole_stride}
-use Rattle.encoding_base.proofs.Lanes.StridesLemmas.{put_is}
+use Rattle.encoding_base.proofs.Lanes.PutLemmas.{put_is}
 use Rattle.encoding_base.proofs.LongestFronts.FrontsLemmas.{WritesFront-nil, WritesFront-length, WritesFront-same, WritesFront_again}
 use Rattle.encoding_base.proofs.Latin.AsciiLemmas.{WritesFront_block}
 use Rattle.encoding_base.proofs.strides.copies.copy_by_strides.Goals as goal

@@ -1,6 +1,6 @@
 use Rattle.std.proofs.Common.{ap, ◌∙◌, map-id}
 use Rattle.std.specs.Simd.Lanes.{chunk, put_chunk}
-use Rattle.encoding_base.proofs.Lanes.StridesLemmas.{put_stride}
+use Rattle.encoding_base.proofs.Lanes.PutLemmas.{put_stride}
 use Rattle.encoding_base.proofs.strides.copies.narrow.Goals as goal
 
 pub returns : goal.returns

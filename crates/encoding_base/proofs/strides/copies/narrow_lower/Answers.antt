@@ -3,7 +3,7 @@ use Rattle.std.proofs.lemmas.List.{length-map}
 use Rattle.std.proofs.lemmas.Simd.{length-chunk}
 use Rattle.std.specs.Simd.Lanes.{chunk, put_chunk}
 use Rattle.encoding_base.proofs.Lanes.NarrowLemmas.{lower_are, lower_fit}
-use Rattle.encoding_base.proofs.Lanes.StridesLemmas.{put_is, whole_chunk}
+use Rattle.encoding_base.proofs.Lanes.PutLemmas.{put_is, whole_chunk}
 use Rattle.encoding_base.proofs.strides.copies.narrow_lower.Goals as goal
 
 pub overflow_cast-dst : goal.overflow_cast-dst

@@ -1,0 +1,18 @@
+-- A vector that is put in a list at a place, and one that is read from a whole stride.
+use Rattle.std.proofs.Common.{◌≡◌, ℕ, ◌+◌, ◌≤◌, List, ◌++◌, length, take, drop, drop-drop, ap, ◌∙◌, arith}
+use Rattle.std.proofs.lemmas.List.{take_all}
+use Rattle.std.proofs.lemmas.Simd.{put_chunk_is}
+use Rattle.std.specs.Simd.Lanes.{chunk, put_chunk}
+
+pub put_is : {X : Type 0} (at n : ℕ) (xs ys : List X) → length ys ≡ n → at + n ≤ length xs → put_chunk at xs ys ≡ take at xs ++ (ys ++ drop (at + n) xs)
+put_is at n xs ys long room =
+    let rest : drop (length ys) (drop at xs) ≡ drop (at + n) xs = drop-drop (length ys) at xs ∙ ap (λ m. drop (at + m) xs) long in
+    put_chunk_is at xs ys (omega arith) ∙ ap (λ zs. take at xs ++ (ys ++ zs)) rest
+
+-- a stride read whole
+pub whole_chunk : {X : Type 0} (n : ℕ) (stride : List X) → length stride ≡ n → chunk 0 n stride ≡ stride
+whole_chunk n stride long = take_all n stride (omega (arith, long))
+
+-- of a vector read from a stride
+pub put_stride : {X : Type 0} (at n : ℕ) (xs stride : List X) → length stride ≡ n → at + n ≤ length xs → put_chunk at xs (chunk 0 n stride) ≡ take at xs ++ (stride ++ drop (at + n) xs)
+put_stride at n xs stride long room = ap (put_chunk at xs) (whole_chunk n stride long) ∙ put_is at n xs stride long room
