@@ -15,7 +15,7 @@ const PASSES: usize = 7;
 const VOLUME: usize = 4 << 20;
 
 /// How long a pass takes at least, in seconds: some calls are decided by their first bytes.
-const LEAST: f64 = 50e-6;
+const LEAST: f64 = 1e-3;
 
 /// A destination full of letters.
 fn room(source: &Source) -> Room {

@@ -18,6 +18,9 @@ const BLOCK: usize = 64;
 /// The bytes of four blocks.
 const FOUR_BLOCKS: usize = 256;
 
+/// The bytes of eight blocks.
+const EIGHT_BLOCKS: usize = 512;
+
 /// The bytes among which one test finds a place.
 pub const STRIDE: usize = 16;
 
@@ -150,6 +153,26 @@ fn are_four_blocks_below(bytes: &[u8], at: usize, bound: u8) -> bool
     !((first | second) | (third | fourth)).any()
 }
 
+/// The same of eight blocks.
+#[inline(always)]
+fn are_eight_blocks_below(bytes: &[u8], at: usize, bound: u8) -> bool
+    requires { at + 512 ≤ length bytes.now }
+    ensures { IsTrue result ↔ AllBelow bound bytes.now at 512 }
+{
+    let bounds = Simd::<u8, BLOCK>::splat(bound);
+    let first = Simd::<u8, BLOCK>::from_slice(&bytes[at..]).simd_ge(bounds);
+    let second = Simd::<u8, BLOCK>::from_slice(&bytes[at + BLOCK..]).simd_ge(bounds);
+    let third = Simd::<u8, BLOCK>::from_slice(&bytes[at + 2 * BLOCK..]).simd_ge(bounds);
+    let fourth = Simd::<u8, BLOCK>::from_slice(&bytes[at + 3 * BLOCK..]).simd_ge(bounds);
+    let fifth = Simd::<u8, BLOCK>::from_slice(&bytes[at + 4 * BLOCK..]).simd_ge(bounds);
+    let sixth = Simd::<u8, BLOCK>::from_slice(&bytes[at + 5 * BLOCK..]).simd_ge(bounds);
+    let seventh = Simd::<u8, BLOCK>::from_slice(&bytes[at + 6 * BLOCK..]).simd_ge(bounds);
+    let eighth = Simd::<u8, BLOCK>::from_slice(&bytes[at + 7 * BLOCK..]).simd_ge(bounds);
+    let front = (first | second) | (third | fourth);
+    let back = (fifth | sixth) | (seventh | eighth);
+    !(front | back).any()
+}
+
 /// Goes by four blocks at a time from the beginning on while their bytes are below the bound, and returns where that
 /// ends.
 #[inline(always)]
@@ -233,19 +256,19 @@ fn are_all_bytes_below_by<const N: usize>(bytes: &[u8], bound: u8) -> bool
     rest.is_empty() || are_bytes_below::<N>(bytes, bytes.len() - N, bound)
 }
 
-/// Whether each byte is below the bound, by four blocks at a time. The last four may begin before the others end.
+/// Whether each byte is below the bound, by eight blocks at a time. The last eight may begin before the others end.
 #[inline(always)]
-fn are_all_bytes_below_by_fours(bytes: &[u8], bound: u8) -> bool
-    requires { 256 ≤ length bytes.now }
+fn are_all_bytes_below_by_eights(bytes: &[u8], bound: u8) -> bool
+    requires { 512 ≤ length bytes.now }
     ensures { IsTrue result ↔ EachIndex bytes.now (λ k. slice_index bytes.now k < bound) }
 {
-    let (fours, rest) = bytes.as_chunks::<FOUR_BLOCKS>();
-    for four in fours {
-        if !are_four_blocks_below(four, 0, bound) {
+    let (eights, rest) = bytes.as_chunks::<EIGHT_BLOCKS>();
+    for eight in eights {
+        if !are_eight_blocks_below(eight, 0, bound) {
             return false;
         }
     }
-    rest.is_empty() || are_four_blocks_below(bytes, bytes.len() - FOUR_BLOCKS, bound)
+    rest.is_empty() || are_eight_blocks_below(bytes, bytes.len() - EIGHT_BLOCKS, bound)
 }
 
 /// Whether each byte is below the bound. The first ones, which most often decide it, are looked at alone.
@@ -260,7 +283,11 @@ pub fn are_all_bytes_below(bytes: &[u8], bound: u8) -> bool
         return false;
     }
     match bytes.len() {
-        FOUR_BLOCKS.. => are_all_bytes_below_by_fours(bytes, bound),
+        EIGHT_BLOCKS.. => are_all_bytes_below_by_eights(bytes, bound),
+        FOUR_BLOCKS.. => {
+            are_four_blocks_below(bytes, 0, bound)
+                && are_four_blocks_below(bytes, bytes.len() - FOUR_BLOCKS, bound)
+        }
         BLOCK.. => are_all_bytes_below_by::<BLOCK>(bytes, bound),
         _ => are_all_bytes_below_by::<STRIDE>(bytes, bound),
     }

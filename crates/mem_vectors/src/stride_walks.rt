@@ -189,6 +189,33 @@ fn each_length_alignment_and_place(rt: HostRuntime) {
     }
 }
 
+/// Lengths round those that checks and scans cover by one test.
+const LONG: [usize; 9] = [255, 256, 257, 511, 512, 513, 1023, 1024, 1025];
+
+/// Whether the check and the scan of so many letters, between bytes that are no ASCII, stop at the other byte.
+fn long_letters_stop(length: usize, other: usize) -> bool {
+    let end = length.saturating_add(1);
+    let mut bytes = [0xC3; 1040];
+    for i in 1..1040usize {
+        if i < end {
+            bytes[i] = if i - 1 == other { 0xAA } else { letter(i) };
+        }
+    }
+    let Some(src) = bytes.get(1..end) else {
+        return false;
+    };
+    is_ascii(src) == (other >= length) && ascii_valid_up_to(src) == other.min(length)
+}
+
+#[test]
+fn each_place_of_long_letters(rt: HostRuntime) {
+    for length in LONG {
+        for other in 0..length + 1 {
+            assert!(rt; long_letters_stop(length, other), "{length}, {other}");
+        }
+    }
+}
+
 // a character of each length
 const CHARACTERS: [[u8; 4]; 4] = [
     [0x61, 0, 0, 0],

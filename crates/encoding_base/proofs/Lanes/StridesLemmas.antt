@@ -1,5 +1,5 @@
 -- From the lanes of vectors that were read at a place to the units there that are below a bound.
-use Rattle.std.proofs.Common.{◌≡◌, ℕ, ◌+◌, ◌-◌, ◌*◌, ◌<◌, ◌≤◌, ◌↔◌, IsTrue, Bool, false, not, ◌||◌, eqb, leb, inl, inr, List, length, replicate, get_or, bit_or, sym, ap, ◌∙◌, arith}
+use Rattle.std.proofs.Common.{◌≡◌, ℕ, ◌+◌, ◌-◌, ◌*◌, ◌<◌, ◌≤◌, ◌↔◌, IsTrue, Bool, false, not, ◌||◌, eqb, leb, inl, inr, List, length, replicate, get_or, bit_or, refl, sym, ap, ◌∙◌, arith}
 use Rattle.std.proofs.lemmas.Bool.{cases_lt, leb-false, leb-true, lt-leb, or_parts}
 use Rattle.std.specs.Simd.Lanes.{chunk, zip2}
 use lib.Count.{count_trailing_zeros}
@@ -18,7 +18,7 @@ below_at bound place n k xs from clear to =
 or_none : (p q : Bool) → p ≡ false → q ≡ false → (p || q) ≡ false
 or_none p q e f = λ i. e i || f i
 
-module _ (w : Width) (n bound at : ℕ) (xs : List ℕ) where
+module _ (w : Width) (n bound : ℕ) (xs : List ℕ) where
   -- `simd_ge` with a splat, of a vector that was read at a place
   abbrev others : ℕ → List ℕ
   others place = zip2 (compared w leb) (replicate n bound) (chunk place n xs)
@@ -26,48 +26,76 @@ module _ (w : Width) (n bound at : ℕ) (xs : List ℕ) where
   tests : (place : ℕ) → place + n ≤ length xs → HasTests w n (others place) (λ k. leb bound (get_or xs (place + k) 0))
   tests place room = tests_of w leb (HasLanes-splat n bound) (HasLanes-load place n xs room)
 
-  -- no lane is from the bound on just where each unit is below it
-  pub no_others : at + n ≤ length xs → n ≤ 64 → IsTrue (not (not (eqb (mask_of (hbits w) (others at)) 0))) ↔ AllBelow bound xs at n
-  no_others room few =
-      let clear = none_passes (tests at room) few in (
-        λ none k from to. below_at bound at n k xs from (clear.0 none) to,
-        λ h. clear.1 (λ j l. lt-leb bound _ (h (at + j) (omega arith) (omega arith))),
-      )
+  -- a mask, of which no lane is set just where each unit from one place up to another is below the bound
+  record Tells (from to : ℕ) (mask : List ℕ) : Type 0 where
+    test : ℕ → Bool
+    lanes : HasTests w n mask test
+    clear : ((k : ℕ) → k < n → test k ≡ false) ↔ ((k : ℕ) → from ≤ k → k < to → get_or xs k 0 < bound)
 
-  run_is : (run : ℕ) → IsFirstSet n run (λ k. leb bound (get_or xs (at + k) 0)) → IsRunBelow bound xs at n run
-  run_is run first = record {
-    within = first.within;
-    below = λ k from to. below_at bound at run k xs from first.before to;
-    stops = λ short. leb-true _ _ (first.found short);
+  told : {from to : ℕ} {mask : List ℕ} → Tells from to mask → n ≤ 64
+      → IsTrue (not (not (eqb (mask_of (hbits w) mask) 0))) ↔ ((k : ℕ) → from ≤ k → k < to → get_or xs k 0 < bound)
+  told m few =
+      let none = none_passes m.lanes few in
+      (λ e. m.clear.0 (none.0 e), λ h. none.1 (m.clear.1 h))
+
+  vector : (place to : ℕ) → to ≡ place + n → to ≤ length xs → Tells place to (others place)
+  vector place to end room = record {
+    test = λ k. leb bound (get_or xs (place + k) 0);
+    lanes = tests place (omega (arith, end));
+    clear = (
+      λ none k from l. below_at bound place n k xs from none (omega (arith, end)),
+      λ h k l. lt-leb bound _ (h (place + k) (omega arith) (omega (arith, end))),
+    );
   }
 
-  -- no bit: all lanes are below the bound
-  pub whole_run : at + n ≤ length xs → n ≤ 64 → mask_of (hbits w) (others at) ≡ 0 → IsRunBelow bound xs at n n
-  whole_run room few none = run_is n (none_is_first (tests at room) few none)
+  -- two that stand one behind the other, by `|`
+  joined : {from middle to : ℕ} {a b : List ℕ} → from ≤ middle → middle ≤ to → Tells from middle a → Tells middle to b → Tells from to (zip2 bit_or a b)
+  joined {from} {middle} {to} o q a b = record {
+    test = λ k. a.test k || b.test k;
+    lanes = tests_or a.lanes b.lanes;
+    clear = (
+      λ none k l m. elim (cases_lt k middle) [
+        | inl p ↦ a.clear.0 (λ j i. (or_parts _ _ (none j i)).0) k l p
+        | inr p ↦ b.clear.0 (λ j i. (or_parts _ _ (none j i)).1) k p m
+      ],
+      λ h j i. or_none _ _ (a.clear.1 (λ k l m. h k l (omega arith)) j i) (b.clear.1 (λ k l m. h k (omega arith) m) j i),
+    );
+  }
 
-  -- the lowest bit: the first lane that isn't
-  pub run_to_lowest : at + n ≤ length xs → n ≤ 64 → 0 < mask_of (hbits w) (others at) → IsRunBelow bound xs at n (count_trailing_zeros 64 (mask_of (hbits w) (others at)))
-  run_to_lowest room few some = run_is _ (lowest_is_first (tests at room) few some)
+  module _ (at : ℕ) where
+    -- no lane is from the bound on just where each unit is below it
+    pub no_others : at + n ≤ length xs → n ≤ 64 → IsTrue (not (not (eqb (mask_of (hbits w) (others at)) 0))) ↔ AllBelow bound xs at n
+    no_others room few = told (vector at (at + n) refl room) few
 
-  -- of four vectors that stand one behind the other, joined by `|`
-  pub no_others_in_four : at + 4 * n ≤ length xs → n ≤ 64
-      → IsTrue (not (not (eqb (mask_of (hbits w) (zip2 bit_or (zip2 bit_or (others at) (others (at + n))) (zip2 bit_or (others (at + 2 * n)) (others (at + 3 * n))))) 0))) ↔ AllBelow bound xs at (4 * n)
-  no_others_in_four room few =
-      let first = tests_or (tests at (omega arith)) (tests (at + n) (omega arith)) in
-      let second = tests_or (tests (at + 2 * n) (omega arith)) (tests (at + 3 * n) (omega arith)) in
-      let clear = none_passes (tests_or first second) few in (
-        λ none k from to. elim (cases_lt k (at + 2 * n)) [
-          | inl l ↦ elim (cases_lt k (at + n)) [
-            | inl m ↦ below_at bound at n k xs from (λ j o. (or_parts _ _ (or_parts _ _ (clear.0 none j o)).0).0) m
-            | inr m ↦ below_at bound (at + n) n k xs m (λ j o. (or_parts _ _ (or_parts _ _ (clear.0 none j o)).0).1) (omega arith)
-          ]
-          | inr l ↦ elim (cases_lt k (at + 3 * n)) [
-            | inl m ↦ below_at bound (at + 2 * n) n k xs l (λ j o. (or_parts _ _ (or_parts _ _ (clear.0 none j o)).1).0) (omega arith)
-            | inr m ↦ below_at bound (at + 3 * n) n k xs m (λ j o. (or_parts _ _ (or_parts _ _ (clear.0 none j o)).1).1) (omega arith)
-          ]
-        ],
-        λ h. clear.1 (λ j o.
-            let none = λ (place : ℕ) (from : at ≤ place + j) (to : place + j < at + 4 * n). lt-leb bound _ (h (place + j) from to) in
-            or_none _ _ (or_none _ _ (none at (omega arith) (omega arith)) (none (at + n) (omega arith) (omega arith)))
-            (or_none _ _ (none (at + 2 * n) (omega arith) (omega arith)) (none (at + 3 * n) (omega arith) (omega arith)))),
-      )
+    run_is : (run : ℕ) → IsFirstSet n run (λ k. leb bound (get_or xs (at + k) 0)) → IsRunBelow bound xs at n run
+    run_is run first = record {
+      within = first.within;
+      below = λ k from to. below_at bound at run k xs from first.before to;
+      stops = λ short. leb-true _ _ (first.found short);
+    }
+
+    -- no bit: all lanes are below the bound
+    pub whole_run : at + n ≤ length xs → n ≤ 64 → mask_of (hbits w) (others at) ≡ 0 → IsRunBelow bound xs at n n
+    whole_run room few none = run_is n (none_is_first (tests at room) few none)
+
+    -- the lowest bit: the first lane that isn't
+    pub run_to_lowest : at + n ≤ length xs → n ≤ 64 → 0 < mask_of (hbits w) (others at) → IsRunBelow bound xs at n (count_trailing_zeros 64 (mask_of (hbits w) (others at)))
+    run_to_lowest room few some = run_is _ (lowest_is_first (tests at room) few some)
+
+    four : at + 4 * n ≤ length xs → Tells at (at + 4 * n) (zip2 bit_or (zip2 bit_or (others at) (others (at + n))) (zip2 bit_or (others (at + 2 * n)) (others (at + 3 * n))))
+    four room =
+        let first = joined (omega arith) (omega arith) (vector at (at + n) refl (omega arith)) (vector (at + n) (at + 2 * n) (omega arith) (omega arith)) in
+        let second = joined (omega arith) (omega arith) (vector (at + 2 * n) (at + 3 * n) (omega arith) (omega arith)) (vector (at + 3 * n) (at + 4 * n) (omega arith) room) in
+        joined (omega arith) (omega arith) first second
+
+    pub no_others_in_four : at + 4 * n ≤ length xs → n ≤ 64
+        → IsTrue (not (not (eqb (mask_of (hbits w) (zip2 bit_or (zip2 bit_or (others at) (others (at + n))) (zip2 bit_or (others (at + 2 * n)) (others (at + 3 * n))))) 0))) ↔ AllBelow bound xs at (4 * n)
+    no_others_in_four room few = told (four room) few
+
+    pub no_others_in_eight : at + 8 * n ≤ length xs → n ≤ 64
+        → IsTrue (not (not (eqb (mask_of (hbits w) (zip2 bit_or (zip2 bit_or (zip2 bit_or (others at) (others (at + n))) (zip2 bit_or (others (at + 2 * n)) (others (at + 3 * n))))
+        (zip2 bit_or (zip2 bit_or (others (at + 4 * n)) (others (at + 5 * n))) (zip2 bit_or (others (at + 6 * n)) (others (at + 7 * n)))))) 0))) ↔ AllBelow bound xs at (8 * n)
+    no_others_in_eight room few =
+        let third = joined (omega arith) (omega arith) (vector (at + 4 * n) (at + 5 * n) (omega arith) (omega arith)) (vector (at + 5 * n) (at + 6 * n) (omega arith) (omega arith)) in
+        let fourth = joined (omega arith) (omega arith) (vector (at + 6 * n) (at + 7 * n) (omega arith) (omega arith)) (vector (at + 7 * n) (at + 8 * n) (omega arith) room) in
+        told (joined (omega arith) (omega arith) (four (omega arith)) (joined (omega arith) (omega arith) third fourth)) few

@@ -37,8 +37,8 @@ fn convert_latin1_blocks(src: &[u8], dst: &mut [u8]) -> (usize, usize)
     ensures within { result.0 ≤ length src.now }
     ensures written { WritesFront dst.old dst.new result.1 (encode_utf8_all (take result.0 src.now)) }
 {
-    let mut read = 0;
-    let mut written = 0;
+    let mut read = copy_ascii::<64>(src, dst, 0);
+    let mut written = read;
     while src.len() - read >= 16 && dst.len() - written >= 32 {
         if are_bytes_below::<16>(src, read, ASCII_END) {
             let front = copy_ascii::<16>(&src[read..], &mut dst[written..], 0);

@@ -3,4 +3,4 @@ use Rattle.encoding_base.proofs.Lanes.StridesLemmas.{no_others}
 use Rattle.encoding_base.proofs.strides.are_bytes_below.Goals as goal
 
 pub returns : goal.returns
-returns g c = no_others w8 g.row.N c.args.bound c.args.at c.args.bytes.now c.requires.0 c.requires.1
+returns g c = no_others w8 g.row.N c.args.bound c.args.bytes.now c.args.at c.requires.0 c.requires.1

@@ -3,4 +3,4 @@ use Rattle.encoding_base.proofs.Lanes.StridesLemmas.{no_others_in_four}
 use Rattle.encoding_base.proofs.strides.are_four_blocks_below.Goals as goal
 
 pub returns : goal.returns
-returns c = no_others_in_four w8 64 c.args.bound c.args.at c.args.bytes.now (omega (arith, c.requires)) (omega arith)
+returns c = no_others_in_four w8 64 c.args.bound c.args.bytes.now c.args.at (omega (arith, c.requires)) (omega arith)

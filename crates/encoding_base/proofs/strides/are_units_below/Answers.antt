@@ -3,4 +3,4 @@ use Rattle.encoding_base.proofs.Lanes.StridesLemmas.{no_others}
 use Rattle.encoding_base.proofs.strides.are_units_below.Goals as goal
 
 pub returns : goal.returns
-returns g c = no_others w16 g.row.N c.args.bound c.args.at c.args.units.now c.requires.0 c.requires.1
+returns g c = no_others w16 g.row.N c.args.bound c.args.units.now c.args.at c.requires.0 c.requires.1

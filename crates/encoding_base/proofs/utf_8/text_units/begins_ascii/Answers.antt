@@ -3,4 +3,4 @@ use Rattle.encoding_base.proofs.Lanes.StridesLemmas.{no_others}
 use Rattle.encoding_base.proofs.utf_8.text_units.begins_ascii.Goals as goal
 
 pub returns : goal.returns
-returns g c = (no_others w8 g.row.N 0x80 0 c.args.src.now (omega arith) c.requires.1).0
+returns g c = (no_others w8 g.row.N 0x80 c.args.src.now 0 (omega arith) c.requires.1).0

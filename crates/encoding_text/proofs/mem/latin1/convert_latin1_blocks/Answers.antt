@@ -1,8 +1,19 @@
-use Rattle.std.proofs.Common.{arith, length, take, drop, ◌+◌, ◌-◌, map-id}
+use Rattle.std.proofs.Common.{arith, length, take, drop, ◌+◌, ◌-◌, ◌<◌, map-id, sym}
 use Rattle.std.specs.Simd.Lanes.{chunk}
+use Rattle.std.proofs.lemmas.Str.{encodes-IsAscii}
+use Rattle.encoding_base.proofs.Latin.AsciiLemmas.{Each-take}
 use Rattle.encoding_base.proofs.LongestFronts.FrontsLemmas.{WritesFront-nil}
 use Rattle.encoding_base.proofs.CodeUnits.UnitBlocksLemmas.{short_lanes, written_short, written_ascii}
 use Rattle.encoding_text.proofs.mem.latin1.convert_latin1_blocks.Goals as goal
+
+pub loop-read-init : goal.loop-read-init
+loop-read-init c =
+    let call = c.copy_ascii-read.ensures in
+    let ascii = Each-take (λ u. u < 0x80) (omega arith) c.args.src.now c.copy_ascii-read.result (call.ascii (λ k l. absurd (omega arith))) in
+    record {
+      within = call.within.0;
+      written = rw (sym (encodes-IsAscii (take c.copy_ascii-read.result c.args.src.now) ascii)) at (call.copied c.args.dst.now (WritesFront-nil c.args.dst.now));
+    }
 
 pub loop-read-preserved-then-are_bytes_below : goal.loop-read-preserved-then-are_bytes_below
 loop-read-preserved-then-are_bytes_below c =

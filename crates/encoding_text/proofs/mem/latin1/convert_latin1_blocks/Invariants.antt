@@ -5,7 +5,7 @@ use Rattle.encoding_text.proofs.mem.latin1.convert_latin1_blocks.Given as goal
 abbrev pub invariant-loop-read : goal.invariant-loop-read
 invariant-loop-read l = record {
   within : l.read ≤ length l.src;
-  written : WritesFront l.initial.dst l.dst l.written (encode_utf8_all (take l.read l.src));
+  written : WritesFront l.fn.dst l.dst l.written (encode_utf8_all (take l.read l.src));
 }
 
 abbrev pub decreases-loop-read : goal.decreases-loop-read
