@@ -31,8 +31,8 @@ pub fn convert_latin1_to_utf16(src: &[u8], dst: &mut [u16])
     }
 }
 
-/// Writes the UTF-8 of blocks of sixteen bytes from the beginning of `src` on, and returns how many bytes these are and
-/// how many it wrote. Behind what is written `dst` is as before.
+/// Writes the UTF-8 of an ASCII front of `src` and of blocks of sixteen bytes behind it, and returns how many bytes
+/// these are and how many it wrote. Behind what is written `dst` is as before.
 fn convert_latin1_blocks(src: &[u8], dst: &mut [u8]) -> (usize, usize)
     ensures within { result.0 ≤ length src.now }
     ensures written { WritesFront dst.old dst.new result.1 (encode_utf8_all (take result.0 src.now)) }
