@@ -13,7 +13,7 @@ CXX ?= c++
 STRICT = -Wall -Wextra -Werror -pedantic -Iinclude
 SANITIZE = -g -fsanitize=address,undefined -fno-sanitize-recover=all
 
-LIBRARIES = encoding_base encoding_text encoding_runs encoding_c utf8_repair
+LIBRARIES = encoding_definitions encoding_kernels encoding_text encoding_runs encoding_c utf8_repair
 SOURCES = $(foreach name,$(LIBRARIES),$(wildcard crates/$(name)/src/*.rt crates/$(name)/src/*/*.rt))
 
 all: build/libencoding_text.a build/utf8_repair

@@ -5,10 +5,20 @@
  * In all functions
  * - a source is `src` and its length, a destination `dst` and its length; lengths are in elements: bytes for uint8_t,
  *   UTF-16 code units for uint16_t;
- * - no pointer is NULL, also where the length is 0, and a destination overlaps no other argument;
+ * - a pointer that a length belongs to may be NULL where that length is 0 (a std::vector without elements may hand that
+ *   over); no other pointer is NULL;
+ * - a pointer is aligned as its type asks, and a destination, a decoder and an encoder overlap no other argument;
  * - behind what is reported as written a destination is as before, save in the `_str` functions, which say what they clear;
  * - no memory is taken, and nothing is kept but what a decoder or an encoder holds in the caller's storage;
  * - a condition that isn't met is told by a result that no other call has: nothing is read or written then.
+ *
+ * Which processors the library serves is decided when it is built, and no processor is asked at run time. Built for
+ * x86-64-v3 (`make CPU=x86-64-v3`; without a word it is x86-64-v2), it ends the program by an illegal instruction on a
+ * processor that is older than that.
+ *
+ * What C doesn't have of the library in Rattle: `decode_latin1` and `encode_latin1_lossy`, which may take memory; the
+ * constants `UTF8_DATA` and `ASCII_MASK`; the runs over pieces and rooms (`run_to_utf16`, `run_to_utf8`,
+ * `run_from_utf16`); the repair of a reader into a writer (`repair`, `Watch`); and the laws, which are theorems.
  *
  * "Well-formed" is well-formed UTF-8 (Unicode Standard, section 3.9, Table 3-7). A "broken part" is what the UTF-8
  * decoder of the Encoding Standard reports as one error. A "lone surrogate" is a surrogate that is in no pair.
@@ -55,7 +65,7 @@ typedef struct {
 /* The longest front of bytes below 0x80, and the first byte behind it. */
 encoding_front encoding_validate_ascii(const uint8_t *bytes, size_t bytes_length);
 
-/* The length of that front. */
+/* The length of the longest front of bytes below 0x80. */
 size_t encoding_ascii_valid_up_to(const uint8_t *bytes, size_t bytes_length);
 
 /* The length of the longest front of bytes below 0x80 without 0x1B, 0x0E and 0x0F: the bytes that the ISO-2022-JP
@@ -65,10 +75,10 @@ size_t encoding_iso_2022_jp_ascii_valid_up_to(const uint8_t *bytes, size_t bytes
 /* Copies the longest ASCII front of the first min(src_length, dst_length) elements, and returns it. */
 encoding_front encoding_ascii_to_ascii(const uint8_t *src, size_t src_length, uint8_t *dst, size_t dst_length);
 
-/* The same, each byte as a code unit. */
+/* Copies the longest ASCII front of the first min(src_length, dst_length) bytes, each as a code unit, and returns it. */
 encoding_front encoding_ascii_to_basic_latin(const uint8_t *src, size_t src_length, uint16_t *dst, size_t dst_length);
 
-/* The same, each code unit as a byte. */
+/* Copies the longest ASCII front of the first min(src_length, dst_length) code units, each as a byte, and returns it. */
 encoding_front encoding_basic_latin_to_ascii(const uint16_t *src, size_t src_length, uint8_t *dst, size_t dst_length);
 
 /* ---- Whole buffers: checks ---------------------------------------------------------------------------------------- */
@@ -81,13 +91,15 @@ bool encoding_mem_is_basic_latin(const uint16_t *buffer, size_t buffer_length);
 bool encoding_mem_is_utf8_latin1(const uint8_t *buffer, size_t buffer_length);
 bool encoding_mem_is_utf16_latin1(const uint16_t *buffer, size_t buffer_length);
 
-/* The same of a text: ENCODING_NO or ENCODING_YES, ENCODING_NEITHER where the bytes aren't well-formed. */
+/* Whether each scalar value of a text is up to U+00FF: ENCODING_NO or ENCODING_YES, ENCODING_NEITHER where the bytes aren't
+ * well-formed. */
 uint8_t encoding_mem_is_str_latin1(const uint8_t *buffer, size_t buffer_length);
 
 /* The length in bytes of the longest front that is the UTF-8 of scalar values up to U+00FF. */
 size_t encoding_mem_utf8_latin1_up_to(const uint8_t *buffer, size_t buffer_length);
 
-/* The same of a text: ENCODING_REFUSED where the bytes aren't well-formed. */
+/* The length in bytes of the longest front of a text with scalar values up to U+00FF: ENCODING_REFUSED where the bytes
+ * aren't well-formed. */
 size_t encoding_mem_str_latin1_up_to(const uint8_t *buffer, size_t buffer_length);
 
 /* The place of the first lone surrogate, or the length. */
@@ -199,8 +211,9 @@ encoding_counts encoding_convert_utf16_to_utf8_partial_tail(const uint16_t *src,
 
 /* ---- The streaming decoder (Encoding Standard, section 8.1.1) ------------------------------------------------------ */
 
-/* A decoder between two calls, in the caller's storage: the bytes that begin a character whose other bytes have not come
- * yet. All zero is a new one; whatever no call left there is taken for a new one too. */
+/* A decoder between two calls, in the caller's storage. The first `count` bytes of `pending`, up to three, are the
+ * beginning of a character whose other bytes have not come yet; what is behind them doesn't matter. Where `count` and those
+ * bytes are anything else (as in storage that is all zero), nothing is pending, as in a new decoder. */
 #define ENCODING_DECODER_SIZE 4
 #define ENCODING_DECODER_ALIGNMENT 1
 typedef struct {
@@ -226,7 +239,7 @@ void encoding_utf8_decoder_new(encoding_utf8_decoder *decoder);
 /* Whether nothing is pending. */
 bool encoding_utf8_decoder_in_neutral_state(const encoding_utf8_decoder *decoder);
 
-/* How long a destination holds all that the next byte_length bytes may become, in any pieces: in UTF-16 also with U+FFFD
+/* The length of a destination that holds all that the next byte_length bytes may become, in any pieces: in UTF-16 also with U+FFFD
  * written for each report, in UTF-8 without that, and in UTF-8 with it. SIZE_MAX where that number is no less. */
 size_t encoding_utf8_decoder_max_utf16_buffer_length(const encoding_utf8_decoder *decoder, size_t byte_length);
 size_t encoding_utf8_decoder_max_utf8_buffer_length_without_replacement(const encoding_utf8_decoder *decoder,
@@ -259,8 +272,8 @@ encoding_piece encoding_utf8_decoder_decode_borrowed(encoding_utf8_decoder *deco
 
 /* ---- The streaming encoder (Encoding Standard, section 8.1.2) ------------------------------------------------------ */
 
-/* An encoder between two calls, in the caller's storage: the high surrogate that ended a call, or 0. Whatever no call left
- * there is taken for a new one. */
+/* An encoder between two calls, in the caller's storage: the high surrogate that ended a call and waits for its low half.
+ * Where it is any other number (as in storage that is all zero) nothing is held, as in a new encoder. */
 #define ENCODING_ENCODER_SIZE 2
 #define ENCODING_ENCODER_ALIGNMENT 2
 typedef struct {
@@ -290,7 +303,9 @@ size_t encoding_utf8_encoder_max_buffer_length_from_utf8_without_replacement(con
 encoding_encoded encoding_utf8_encoder_encode_from_utf16(encoding_utf8_encoder *encoder, const uint16_t *src,
                                                          size_t src_length, uint8_t *dst, size_t dst_length, bool last);
 
-/* Encodes U+FFFD for a held unit, then the text. */
+/* Encodes U+FFFD for a held unit, then the text; `read` counts bytes of the text alone. Whether the call is the last has no
+ * effect: U+FFFD is written in any call, also where the text is empty, and the unit stays held only where that doesn't fit.
+ * Where the bytes aren't well-formed, what is held stays. */
 encoding_encoded encoding_utf8_encoder_encode_from_utf8(encoding_utf8_encoder *encoder, const uint8_t *src,
                                                         size_t src_length, uint8_t *dst, size_t dst_length, bool last);
 

@@ -1,15 +1,15 @@
 -- What is kept of a decoder between two calls: its pending bytes end those that it had and those that it read.
 use Rattle.std.proofs.Common.{◌≡◌, ℕ, ◌+◌, ◌-◌, ◌≤◌, inl, inr, Bool, false, true≢false, List, [], ◌∷◌, ◌++◌, length, take, slice_index, refl, sym, ap, ◌∙◌, arith, encode_utf8_all}
 use Rattle.std.proofs.lemmas.List.{append-nil, take_all, get_or-append-add}
-use Rattle.encoding_base.specs.Pending.{IsPending}
-use Rattle.encoding_base.specs.OneAnswer.{SayTheSame}
-use Rattle.encoding_base.specs.Decoding.{Answers, Decodes, AnswersBorrowed, IsBorrowedCall}
-use Rattle.encoding_base.specs.declared.decoder.DecoderResult.{DecoderResult}
-use Rattle.encoding_base.specs.declared.decoder.DecoderResult.TheVariants.{InputEmpty, OutputFull, Malformed}
-use Rattle.encoding_base.specs.declared.decoder.Piece.{Piece}
-use Rattle.encoding_base.specs.declared.decoder.Piece.TheVariants as piece
-use Rattle.encoding_base.proofs.Sequences.SequenceLemmas.{length-IsBeginning}
-use Rattle.encoding_base.proofs.Calls.OnePieceLemmas.{same_piece}
+use Rattle.encoding_definitions.specs.Pending.{IsPending}
+use Rattle.encoding_text.specs.OneAnswer.{SayTheSame}
+use Rattle.encoding_text.specs.Decoding.{Answers, Decodes, AnswersBorrowed, IsBorrowedCall}
+use Rattle.encoding_text.specs.declared.decoder.DecoderResult.{DecoderResult}
+use Rattle.encoding_text.specs.declared.decoder.DecoderResult.TheVariants.{InputEmpty, OutputFull, Malformed}
+use Rattle.encoding_text.specs.declared.decoder.Piece.{Piece}
+use Rattle.encoding_text.specs.declared.decoder.Piece.TheVariants as piece
+use Rattle.encoding_definitions.proofs.Sequences.SequenceLemmas.{length-IsBeginning}
+use Rattle.encoding_text.proofs.Calls.OnePieceLemmas.{same_piece}
 use Rattle.encoding_c.specs.States.{EndsWith}
 
 -- at most three bytes are pending

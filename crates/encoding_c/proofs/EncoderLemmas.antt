@@ -2,10 +2,10 @@
 use Rattle.std.proofs.Common.{◌≡◌, ℕ, ◌+◌, ◌-◌, ◌<◌, ◌≤◌, inl, inr, Bool, List, [], ◌∷◌, ◌++◌, length, slice_index, refl, sym, ap, ◌∙◌, arith}
 use Rattle.std.proofs.lemmas.Bool.{cases_lt}
 use Rattle.std.proofs.lemmas.List.{length-append, append-nil, get_or-append-add}
-use Rattle.encoding_base.specs.Encoding.{IsHeld, IsEncoderCall}
+use Rattle.encoding_text.specs.Encoding.{IsHeld, IsEncoderCall}
 use Rattle.encoding_c.specs.States.{IsKept}
-use Rattle.encoding_base.specs.declared.utf_8.encoder.EncoderResult.{EncoderResult}
-use Rattle.encoding_base.specs.declared.utf_8.encoder.EncoderResult.TheVariants.{InputEmpty, OutputFull}
+use Rattle.encoding_text.specs.declared.utf_8.encoder.EncoderResult.{EncoderResult}
+use Rattle.encoding_text.specs.declared.utf_8.encoder.EncoderResult.TheVariants.{InputEmpty, OutputFull}
 
 -- the unit that is left open is the last one of the held one and the source
 last_unit : (held src front left_open : List ℕ) (before unit : ℕ) → held ++ src ≡ front ++ left_open → IsHeld left_open → (0 < length held → held ≡ before ∷ [])

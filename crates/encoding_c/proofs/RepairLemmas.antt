@@ -1,8 +1,8 @@
 -- How long a repaired text is: at most three times as long as its bytes.
 use Rattle.std.proofs.Common.{◌≡◌, ◌≢◌, ℕ, ◌*◌, ◌<◌, ◌≤◌, List, [], ◌∷◌, length, refl, ap, arith, encode_utf8}
 use Rattle.std.proofs.lemmas.List.{length-append}
-use Rattle.encoding_base.specs.Parts.{Part, Character, Broken, ArePartsOf, repaired_text}
-use Rattle.encoding_base.proofs.Decomposition.PartsLemmas.{part_bytes}
+use Rattle.encoding_definitions.specs.Parts.{Part, Character, Broken, ArePartsOf, repaired_text}
+use Rattle.encoding_definitions.proofs.Decomposition.PartsLemmas.{part_bytes}
 use Rattle.encoding_runs.specs.Repairs.{IsRepaired, IsProperFront}
 
 pub length-repaired : (bs : List ℕ) (parts : List Part) → ArePartsOf bs parts → length (repaired_text parts) ≤ 3 * length bs

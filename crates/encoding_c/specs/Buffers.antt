@@ -1,6 +1,5 @@
 -- The buffer that a repair fills.
-use Rattle.std.specs.Prelude.{ℕ, Bool, List, Option, Some, take}
-use Rattle.std.specs.Borrow.{GName}
+use Rattle.std.specs.Prelude.{◌≡◌, ◌≤◌, Bool, List, ℕ, Option, Some, take, drop}
 use Rattle.encoding_c.specs.declared.repair.Buffer.{Buffer}
 
 -- the bytes that were written
@@ -11,6 +10,8 @@ buffer_contents b = Some (take b.written b.room.now)
 abbrev pub buffer_failed : Buffer → Bool
 buffer_failed b = b.failed
 
--- which memory is filled
-abbrev pub buffer_stream : Buffer → GName
-buffer_stream b = b.room.ghost_name
+-- the same memory is filled, further, and what is behind it is as it was
+pub record BufferKeeps (old new : Buffer) : Type 0 where
+  pub memory : new.room.ghost_name ≡ old.room.ghost_name
+  pub further : old.written ≤ new.written
+  pub behind : (n : ℕ) → new.written ≤ n → drop n new.room.now ≡ drop n old.room.now

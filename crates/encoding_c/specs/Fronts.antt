@@ -1,7 +1,7 @@
 -- What a function for C returns of the longest ASCII front.
 use Rattle.std.specs.Prelude.{◌≡◌, ℕ, ◌<◌, List, length, slice_get, Some}
 use Rattle.std.specs.Str.{IsAscii}
-use Rattle.encoding_base.specs.Fronts.{IsLongestFront}
+use Rattle.encoding_definitions.specs.Fronts.{IsLongestFront}
 use Rattle.encoding_c.specs.declared.door.EncodingFront.{EncodingFront}
 
 -- so long is the longest ASCII front; other is the first number behind it, or 0, which is ASCII, where there is none

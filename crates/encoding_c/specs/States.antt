@@ -1,13 +1,13 @@
 -- What the storage of a decoder and of an encoder stands for between two calls, and how a call in it is told.
 use Rattle.std.specs.Prelude.{◌≡◌, ℕ, ◌-◌, ◌<◌, ◌≤◌, List, [], ◌∷◌, ◌++◌, length, take, slice_index}
-use Rattle.encoding_base.specs.Pending.{IsPending}
-use Rattle.encoding_base.specs.Utf16.{IsHighSurrogate}
-use Rattle.encoding_base.specs.declared.decoder.DecoderResult.{DecoderResult}
-use Rattle.encoding_base.specs.declared.decoder.DecoderResult.TheVariants as decoder
-use Rattle.encoding_base.specs.declared.decoder.Piece.{Piece}
-use Rattle.encoding_base.specs.declared.decoder.Piece.TheVariants as piece
-use Rattle.encoding_base.specs.declared.utf_8.encoder.EncoderResult.{EncoderResult}
-use Rattle.encoding_base.specs.declared.utf_8.encoder.EncoderResult.TheVariants as encoder
+use Rattle.encoding_definitions.specs.Pending.{IsPending}
+use Rattle.encoding_definitions.specs.Utf16.{IsHighSurrogate}
+use Rattle.encoding_text.specs.declared.decoder.DecoderResult.{DecoderResult}
+use Rattle.encoding_text.specs.declared.decoder.DecoderResult.TheVariants as decoder
+use Rattle.encoding_text.specs.declared.decoder.Piece.{Piece}
+use Rattle.encoding_text.specs.declared.decoder.Piece.TheVariants as piece
+use Rattle.encoding_text.specs.declared.utf_8.encoder.EncoderResult.{EncoderResult}
+use Rattle.encoding_text.specs.declared.utf_8.encoder.EncoderResult.TheVariants as encoder
 use Rattle.encoding_c.specs.declared.decoder.EncodingUtf8Decoder.{EncodingUtf8Decoder}
 use Rattle.encoding_c.specs.declared.decoder.EncodingPiece.{EncodingPiece}
 use Rattle.encoding_c.specs.declared.encoder.EncodingUtf8Encoder.{EncodingUtf8Encoder}

@@ -2,8 +2,8 @@
 
 ghost use Rattle.std.specs.Prelude.{◌≡◌, take, length, IfSome, IfNone};
 ghost use Rattle.std.specs.Str.{IsAscii};
-ghost use Rattle.encoding_base.specs.Ascii.{IsIso2022JpAscii};
-ghost use Rattle.encoding_base.specs.Fronts.{IsLongestFront, WritesFront};
+ghost use Rattle.encoding_definitions.specs.Ascii.{IsIso2022JpAscii};
+ghost use Rattle.encoding_definitions.specs.Fronts.{IsLongestFront, WritesFront};
 ghost use Rattle.encoding_c.specs.Fronts.{IsFrontOf};
 
 use crate::door::EncodingFront;

@@ -2,8 +2,8 @@
 
 ghost use Rattle.std.specs.Prelude.{◌≡◌, ◌≢◌, ◌↔◌, IsTrue, IfSome, IfNone, IsUtf8};
 ghost use Rattle.std.specs.Str.{IsAscii};
-ghost use Rattle.encoding_base.specs.Fronts.{IsLongestFront};
-ghost use Rattle.encoding_base.specs.Latin1.{IsLatin1, IsUtf8Latin1};
+ghost use Rattle.encoding_definitions.specs.Fronts.{IsLongestFront};
+ghost use Rattle.encoding_definitions.specs.Latin1.{IsLatin1, IsUtf8Latin1};
 ghost use Rattle.encoding_c.specs.Doors.{Tells};
 
 use crate::door::{NEITHER, NO, REFUSED, YES};
@@ -74,7 +74,8 @@ pub extern "C" fn encoding_mem_utf8_latin1_up_to(buffer: &[u8]) -> usize
     mem::utf8_latin1_up_to(buffer)
 }
 
-/// The same of a text: `REFUSED` where the bytes are no text.
+/// The length in bytes of the longest front of a text that is the UTF-8 of scalar values up to U+00FF: `REFUSED` where the
+/// bytes are no text.
 #[unsafe(no_mangle)]
 pub extern "C" fn encoding_mem_str_latin1_up_to(buffer: &[u8]) -> usize
     ensures text { IsUtf8 buffer.now → IsLongestFront IsUtf8Latin1 buffer.now result }

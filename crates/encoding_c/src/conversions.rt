@@ -4,11 +4,11 @@ ghost use Rattle.std.specs.Prelude.{◌≡◌, ◌*◌, ◌%◌, ◌<◌, ◌≤
 ghost use Rattle.std.specs.List.{flat_map};
 ghost use Rattle.std.specs.Str.{IsAscii, chars};
 ghost use Rattle.std.specs.Char.Escape.{encode_utf16};
-ghost use Rattle.encoding_base.specs.Fronts.{FitsLongest, IsLongestFront, WritesFront};
-ghost use Rattle.encoding_base.specs.Converting.{WritesText};
-ghost use Rattle.encoding_base.specs.Latin1.{IsUtf8Latin1};
-ghost use Rattle.encoding_base.specs.Parts.{Part, ArePartsOf, repaired_utf16};
-ghost use Rattle.encoding_base.specs.Utf16.{IsUtf8OfLongestFront, IsUtf8OfUnits};
+ghost use Rattle.encoding_definitions.specs.Fronts.{FitsLongest, IsLongestFront, WritesFront};
+ghost use Rattle.encoding_definitions.specs.Converting.{WritesText};
+ghost use Rattle.encoding_definitions.specs.Latin1.{IsUtf8Latin1};
+ghost use Rattle.encoding_definitions.specs.Parts.{Part, ArePartsOf, repaired_utf16};
+ghost use Rattle.encoding_definitions.specs.Utf16.{IsUtf8OfLongestFront, IsUtf8OfUnits};
 
 use crate::checks::as_text;
 use crate::door::{EncodingCounts, REFUSED};

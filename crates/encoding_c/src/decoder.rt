@@ -2,14 +2,14 @@
 
 ghost use Rattle.std.specs.Prelude.{◌≡◌, ℕ, ◌<◌, ◌≤◌, ◌↔◌, ◌⊎◌, List, [], ◌++◌, length, take, slice_index, min, encode_utf8, IsTrue};
 ghost use Rattle.std.specs.Char.Escape.{encode_utf16};
-ghost use Rattle.encoding_base.specs.Pending.{IsPending};
-ghost use Rattle.encoding_base.specs.Decoding.{Decodes, IsBorrowedCall, Suffices, SufficesReplacing, utf16_room, utf8_room, utf8_room_replacing};
+ghost use Rattle.encoding_definitions.specs.Pending.{IsPending};
+ghost use Rattle.encoding_text.specs.Decoding.{Decodes, IsBorrowedCall, Suffices, SufficesReplacing, utf16_room, utf8_room, utf8_room_replacing};
 ghost use Rattle.encoding_c.specs.States.{StandsFor, EndsWith, IsTold, DecoderCall, PieceCall};
 
 use encoding_text::decoder::{DecoderResult, Piece, Utf8Decoder};
 
-/// A decoder between two calls: the pending bytes, and how many they are. What no call left there is taken for a decoder
-/// with nothing pending.
+/// A decoder between two calls: the pending bytes, and how many they are. What is behind them has no meaning. A count and
+/// first bytes that are no beginning of a character are taken for a decoder with nothing pending.
 #[repr(C)]
 #[derive(Clone, Copy)]
 pub struct EncodingUtf8Decoder {

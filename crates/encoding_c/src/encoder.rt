@@ -1,9 +1,9 @@
 //! The streaming encoder: Encoding Standard, section 8.1.2. Between two calls it lies in the caller's storage.
 
 ghost use Rattle.std.specs.Prelude.{◌≡◌, ℕ, ◌+◌, ◌*◌, ◌<◌, ◌≤◌, ◌↔◌, List, [], ◌∷◌, length, take, min, IsTrue, IsUtf8};
-ghost use Rattle.encoding_base.specs.Fronts.{WritesFront};
-ghost use Rattle.encoding_base.specs.Utf16.{IsHighSurrogate};
-ghost use Rattle.encoding_base.specs.Encoding.{IsHeld, IsEncoderCall, IsEncoderTextCall};
+ghost use Rattle.encoding_definitions.specs.Fronts.{WritesFront};
+ghost use Rattle.encoding_definitions.specs.Utf16.{IsHighSurrogate};
+ghost use Rattle.encoding_text.specs.Encoding.{IsHeld, IsEncoderCall, IsEncoderTextCall};
 ghost use Rattle.encoding_c.specs.States.{Holds, IsKept, IsToldEncoded, EncoderCall};
 
 use crate::checks::as_text;

@@ -1,8 +1,11 @@
-//! The kernels of `encoding_text` and the repair of a slice for C and C++, as a static library. `include/encoding_text.h`
+//! The calls of `encoding_text` and the repair of a slice for C and C++, as a static library. `include/encoding_text.h`
 //! says each function once more in C's words.
 //!
-//! A slice is a pointer and then its length. What a contract of `encoding_text` asks of its caller, and a caller in C can
-//! break, is tested here: then nothing is read or written, and the result is one that no honest call has.
+//! A slice is a pointer and then its length. Where the length is 0 C may hand over `NULL`: the compiler puts an address in
+//! its place before the body begins, so that no slice here is `NULL`.
+//!
+//! What a contract of `encoding_text` asks of its caller, and a caller in C can break, is tested here: then nothing is read
+//! or written, and the result is one that no honest call has.
 #![tactic(auto)]
 
 pub mod ascii;

@@ -1,6 +1,8 @@
 //! The repair of UTF-8 into a buffer.
 
-ghost use Rattle.std.specs.Prelude.{◌≡◌, ◌*◌, ◌<◌, ◌≤◌, true, length, take};
+ghost use Rattle.std.specs.Prelude.{◌≡◌, ◌*◌, ◌<◌, ◌≤◌, ℕ, List, true, length, refl};
+ghost use Rattle.std.proofs.Common.{◌∙◌, arith};
+ghost use Rattle.encoding_definitions.specs.Fronts.{WritesFront};
 ghost use Rattle.encoding_runs.specs.Repairs.{IsRepairedWith};
 
 use crate::door::REFUSED;
@@ -25,13 +27,21 @@ struct Buffer<'a> {
 }
 
 impl<'a> Sink for Buffer<'a> {
-    ghost use Rattle.encoding_c.specs.Buffers.{buffer_contents, buffer_failed, buffer_stream};
+    ghost use Rattle.encoding_c.specs.Buffers.{buffer_contents, buffer_failed, BufferKeeps};
 
     ghost contents = { λ b. buffer_contents b };
 
     ghost has_failed = { λ b. buffer_failed b };
 
-    ghost stream = { λ b. buffer_stream b };
+    ghost keeps = { λ old new. BufferKeeps old new };
+
+    ghost keeps_itself = { λ b. record { memory = refl; further = Prim.omega arith; behind = λ _ _. refl } };
+
+    ghost keeps_on = { λ first second third before after. record {
+      memory = after.memory ∙ before.memory;
+      further = Prim.omega arith;
+      behind = λ n within. after.behind n within ∙ before.behind n (Prim.omega arith);
+    } };
 
     /// Whether a write found no room.
     fn failed(&self) -> bool {
@@ -54,11 +64,11 @@ impl<'a> Sink for Buffer<'a> {
 }
 
 /// Writes `src` with U+FFFD for each broken part, and returns how many bytes that are and how many parts were broken.
-/// `REFUSED` bytes where `dst` is less than three times as long as `src`.
+/// Behind what is written `dst` is as before. `REFUSED` bytes where `dst` is less than three times as long as `src`.
 #[unsafe(no_mangle)]
 pub extern "C" fn encoding_repair_slice(src: &[u8], dst: &mut [u8]) -> EncodingRepaired
-    ensures text { 3 * length src.now ≤ length dst.old → IsRepairedWith src.now (take result.written dst.new) result.replaced }
-    ensures within { 3 * length src.now ≤ length dst.old → result.written ≤ length dst.new }
+    ensures written { 3 * length src.now ≤ length dst.old
+        → (text : List ℕ) × IsRepairedWith src.now text result.replaced × WritesFront dst.old dst.new result.written text }
     ensures refused { length dst.old < 3 * length src.now
         → (result.written ≡ usize.MAX) × (result.replaced ≡ 0) × (dst.new ≡ dst.old) }
 {

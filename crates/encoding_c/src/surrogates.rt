@@ -1,7 +1,7 @@
 //! Lone surrogates in UTF-16.
 
-ghost use Rattle.encoding_base.specs.Fronts.{IsLongestFront};
-ghost use Rattle.encoding_text.specs.Surrogates.{IsValidUtf16, AreRepairedUnits};
+ghost use Rattle.encoding_definitions.specs.Fronts.{IsLongestFront};
+ghost use Rattle.encoding_definitions.specs.Surrogates.{IsValidUtf16, AreRepairedUnits};
 
 use encoding_text::mem;
 

@@ -2,9 +2,9 @@
 //! before, or where it is too short.
 
 ghost use Rattle.std.specs.Prelude.{◌≡◌, ◌*◌, ◌<◌, ◌≤◌, ◌↔◌, [], ◌∷◌, length, take, encode_utf8, encode_utf8_all, IsTrue, IsUtf8};
-ghost use Rattle.encoding_text.specs.Clearing.{WritesAndClears};
-ghost use Rattle.encoding_base.specs.Fronts.{FitsLongest};
-ghost use Rattle.encoding_base.specs.Utf16.{IsUtf8OfLongestFront, IsUtf8OfUnits};
+ghost use Rattle.encoding_definitions.specs.Clearing.{WritesAndClears};
+ghost use Rattle.encoding_definitions.specs.Fronts.{FitsLongest};
+ghost use Rattle.encoding_definitions.specs.Utf16.{IsUtf8OfLongestFront, IsUtf8OfUnits};
 
 use crate::door::{EncodingCounts, REFUSED};
 use encoding_text::mem;

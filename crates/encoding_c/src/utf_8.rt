@@ -2,9 +2,9 @@
 
 ghost use Rattle.std.specs.Prelude.{◌≡◌, ◌+◌, ◌<◌, ◌≤◌, ◌⊎◌, take, length, IsUtf8};
 ghost use Rattle.std.specs.Char.Escape.{encode_utf16};
-ghost use Rattle.encoding_base.specs.Fronts.{IsLongestFront, WritesFront};
-ghost use Rattle.encoding_base.specs.Converting.{ConvertsLongest};
-ghost use Rattle.encoding_base.specs.Utf16.{IsUtf8OfFront, IsUtf8OfLongestFront};
+ghost use Rattle.encoding_definitions.specs.Fronts.{IsLongestFront, WritesFront};
+ghost use Rattle.encoding_definitions.specs.Converting.{ConvertsLongest};
+ghost use Rattle.encoding_definitions.specs.Utf16.{IsUtf8OfFront, IsUtf8OfLongestFront};
 
 use crate::door::{EncodingCounts, REFUSED};
 use encoding_text::utf_8;

@@ -4,12 +4,12 @@ use Rattle.std.specs.Prelude.{Any, IsTrue, map, ◌↔◌}
 use Rattle.std.specs.Char.Escape.{encode_utf16}
 use Rattle.std.specs.List.{flat_map}
 use Rattle.std.specs.Str.{all_scalars}
-use Rattle.encoding_text.specs.Bidi.{IsRightToLeft, IsRightToLeftPart, IsBidiBytes, IsBidiUnits}
-use Rattle.encoding_base.specs.Utf16.{Character16}
-use Rattle.encoding_text.proofs.Bidi.BidiTextLemmas.{bidi_scalars}
-use Rattle.encoding_text.proofs.Bidi.BidiUnitsLemmas.{characters_bidi, bidi_characters}
-use Rattle.encoding_text.proofs.Conversions.Utf16LawLemmas.{parts-encode}
-use Rattle.encoding_base.proofs.CodeUnits.Utf16Lemmas.{parts_unique}
+use Rattle.encoding_definitions.specs.Bidi.{IsRightToLeft, IsRightToLeftPart, IsBidiBytes, IsBidiUnits}
+use Rattle.encoding_definitions.specs.Utf16.{Character16}
+use Rattle.encoding_definitions.proofs.Bidi.BidiTextLemmas.{bidi_scalars}
+use Rattle.encoding_definitions.proofs.Bidi.BidiUnitsLemmas.{characters_bidi, bidi_characters}
+use Rattle.encoding_definitions.proofs.Conversions.Utf16LawLemmas.{parts-encode}
+use Rattle.encoding_definitions.proofs.CodeUnits.Utf16Lemmas.{parts_unique}
 
 pub in_utf8 : (cs : List ℕ) → IsTrue (all_scalars cs) → Any IsRightToLeft cs ↔ IsBidiBytes (encode_utf8_all cs)
 in_utf8 cs s = (λ a. inr (cs, s, refl, a), back)

@@ -1,13 +1,18 @@
--- A chain of calls gives what one call gives: the first parts of what was pending and of the bytes.
-use Rattle.std.proofs.Common.{◌≡◌, ℕ, ◌≤◌, inl, inr, Bool, true, false, List, [], ◌∷◌, ◌++◌, length, take, drop, refl, sym, ap, ◌∙◌, arith, subst}
+-- A chain of a decoder's calls gives what one call gives: the first parts of what was pending and of the bytes.
+use Rattle.std.proofs.Common.{◌≡◌, ℕ, zero, suc, ◌≤◌, ◌⊎◌, inl, inr, Bool, true, false, List, [], ◌∷◌, ◌++◌, length, take, drop, refl, sym, ap, ◌∙◌, arith, subst}
+use Rattle.std.specs.Prelude.{Any}
 use Rattle.std.specs.List.{flat_map}
 use Rattle.std.proofs.lemmas.Bool.{or_parts}
 use Rattle.std.proofs.lemmas.List.{append_assoc, append_cancel_right, length-append, length-drop, length-take, take-append-drop, take_all, drop-append-le, drop-drop, nil_from_length}
-use Rattle.encoding_base.specs.Pending.{IsPending}
-use Rattle.encoding_base.specs.Parts.{Part, bytes_of, StartsWith, ArePartsOf}
-use Rattle.encoding_base.specs.Giving.{Gives}
-use Rattle.encoding_base.proofs.Decomposition.DecompositionLemmas.{StartsWith-append, StartsWith-bytes}
-use Rattle.encoding_runs.specs.Chains.{Given, IsChain, parts_given, read_in_all, left_pending, some_last, SomeEnds}
+use Rattle.encoding_definitions.specs.Pending.{IsPending}
+use Rattle.encoding_definitions.specs.Parts.{Part, bytes_of, StartsWith}
+use Rattle.encoding_definitions.specs.Giving.{Gives}
+use Rattle.encoding_text.specs.Decoding.{IsCall}
+use Rattle.encoding_text.specs.declared.decoder.DecoderResult.{DecoderResult}
+use Rattle.encoding_text.specs.declared.decoder.DecoderResult.TheVariants.{InputEmpty}
+use Rattle.encoding_definitions.proofs.Decomposition.DecompositionLemmas.{StartsWith-append, StartsWith-bytes}
+use Rattle.encoding_runs.specs.Calls.{CallRelation, Call, IsChain, read_in_all, pending_after, some_last}
+use Rattle.encoding_runs.specs.DecoderCalls.{AreGivenInSequence, GiveTheParts}
 
 -- ---- one call, among all the bytes that are unread
 -- what is behind a piece follows it
@@ -33,70 +38,117 @@ first_whatever_follows p b n last parts read q g e more =
     (subst (λ xs. StartsWith (front ++ (drop n b ++ more)) parts xs) (sym (append_assoc back (drop n b) more) ∙ ap (λ xs. xs ++ more) (unread_bytes q b n read g.within))
     (g.whatever_follows e (drop n b ++ more)))
 
--- ---- the chain
-pub chain_gives : (p b : List ℕ) (calls : List Given) → IsPending p → IsChain p b calls
-    → Gives p b (some_last calls) (parts_given calls) (read_in_all calls) (left_pending p calls)
-chain_gives p b [] h c = record { within = omega arith; first = refl; pending = h; whatever_follows = λ e more. refl }
-chain_gives p b (call ∷ calls) h (g, whole, c) =
-    let after = drop call.read b in
-    let q = left_pending call.pending calls in
-    let all = read_in_all calls in
-    let rest = chain_gives call.pending after calls g.pending c in
-    record {
-      within = omega (arith, rest.within, length-drop call.read b, g.within, length-take call.piece b);
-      first = subst (λ xs. StartsWith (p ++ b) (call.parts ++ parts_given calls) (q ++ xs)) (drop-drop all call.read b)
-          (StartsWith-append (p ++ b) call.parts (call.pending ++ after) (parts_given calls) (q ++ drop all after)
-          (first_of_all p b call.piece call.last call.parts call.read call.pending g whole) rest.first);
-      pending = rest.pending;
-      whatever_follows = λ e more.
-          let none = or_parts call.last (some_last calls) e in
-          subst (λ xs. StartsWith (p ++ b ++ more) (call.parts ++ parts_given calls) (q ++ xs ++ more)) (drop-drop all call.read b)
-          (StartsWith-append (p ++ b ++ more) call.parts (call.pending ++ after ++ more) (parts_given calls) (q ++ drop all after ++ more)
-          (first_whatever_follows p b call.piece call.last call.parts call.read call.pending g none.0 more) (rest.whatever_follows none.1 more));
-    }
-
 -- the bytes of what is given, and those that are pending then, are those that were pending and those read
-pub given_bytes : (p src : List ℕ) (parts : List Part) (read : ℕ) (q : List ℕ) → StartsWith (p ++ src) parts (q ++ drop read src)
-    → p ++ take read src ≡ flat_map bytes_of parts ++ q
+given_bytes : (p src : List ℕ) (parts : List Part) (read : ℕ) (q : List ℕ) → StartsWith (p ++ src) parts (q ++ drop read src)
+    → flat_map bytes_of parts ++ q ≡ p ++ take read src
 given_bytes p src parts read q s =
-    append_cancel_right (p ++ take read src) (flat_map bytes_of parts ++ q) (drop read src)
-    (piece_bytes p src read ∙ StartsWith-bytes (p ++ src) parts (q ++ drop read src) s ∙ sym (append_assoc (flat_map bytes_of parts) q (drop read src)))
+    sym (append_cancel_right (p ++ take read src) (flat_map bytes_of parts ++ q) (drop read src)
+    (piece_bytes p src read ∙ StartsWith-bytes (p ++ src) parts (q ++ drop read src) s ∙ sym (append_assoc (flat_map bytes_of parts) q (drop read src))))
 
--- ---- to the end of the bytes
--- with nothing pending and nothing unread calls give nothing
-nothing_left : (p b : List ℕ) (calls : List Given) → p ≡ [] → length b ≡ 0 → IsChain p b calls → (read_in_all calls ≡ 0) × (left_pending p calls ≡ [])
-nothing_left p b [] e n c = (refl, e)
-nothing_left p b (call ∷ calls) e n (g, whole, c) =
-    let piece = take call.piece b in
-    let behind = call.pending ++ drop call.read piece in
-    let bytes = StartsWith-bytes (p ++ piece) call.parts behind g.first in
-    let size : length call.pending ≡ 0 = omega (
-      arith,
-      ap length bytes,
-      length-append p piece,
-      ap length e,
-      n,
-      length-take call.piece b,
-      length-append (flat_map bytes_of call.parts) behind,
-      length-append call.pending (drop call.read piece),
-    ) in
-    let rest = nothing_left call.pending (drop call.read b) calls (nil_from_length call.pending size) (omega (arith, n, length-drop call.read b)) c in
-    (omega (arith, rest.0, g.within, n, length-take call.piece b), rest.1)
+-- a decode call that is marked last and returns `InputEmpty` reads all and leaves nothing pending
+pub decoded_empty : {A : Type 0} (encode : ℕ → List A) (need : ℕ) (p src : List ℕ) (room : ℕ) (last : Bool) (result : DecoderResult) (read : ℕ) (out : List A) (q : List ℕ)
+    → IsCall encode need p src room last result read out q → last ≡ true → result ≡ InputEmpty → (read ≡ length src) × (q ≡ [])
+decoded_empty encode need p src room last result read out q call marked e =
+    let empty = subst (λ x. IsCall encode need p src room last x read out q) e call in
+    (empty.answer.0, empty.answer.2 marked)
 
-pub chain_ends : (p b : List ℕ) (calls : List Given) → IsChain p b calls → SomeEnds b calls → (read_in_all calls ≡ length b) × (left_pending p calls ≡ [])
-chain_ends p b [] c e = absurd e
-chain_ends p b (call ∷ calls) (g, whole, c) (inl (last, all, none)) =
-    let rest = nothing_left call.pending (drop call.read b) calls none (omega (arith, all, whole last, length-take call.piece b, length-drop call.read b)) c in
-    (omega (arith, rest.0, all, whole last, length-take call.piece b), rest.1)
-chain_ends p b (call ∷ calls) (g, whole, c) (inr e) =
-    let rest = chain_ends call.pending (drop call.read b) calls c e in
-    (omega (arith, rest.0, g.within, length-take call.piece b, length-drop call.read b), rest.1)
+-- ---- some of several
+pub any_parts : {X : Type 0} (P : X → Type 0) (x : X) (xs : List X) → Any P (x ∷ xs) → P x ⊎ Any P xs
+any_parts P x xs (zero, y, l, e, h) = inl (subst P (sym e) h)
+any_parts P x xs (suc k, y, l, e, h) = inr (k, y, omega (arith, l), e, h)
 
--- once a call that is marked last reads all and leaves nothing pending, all parts are given
-pub all_given : (p b : List ℕ) (calls : List Given) → IsPending p → IsChain p b calls → SomeEnds b calls → ArePartsOf (p ++ b) (parts_given calls)
-all_given p b calls h c e =
-    let ends = chain_ends p b calls c e in
-    let q = left_pending p calls in
-    let none : q ++ drop (read_in_all calls) b ≡ [] =
-    nil_from_length _ (omega (arith, length-append q (drop (read_in_all calls) b), ap length ends.1, ends.0, length-drop (read_in_all calls) b)) in
-    subst (λ xs. StartsWith (p ++ b) (parts_given calls) xs) none (chain_gives p b calls h c).first
+pub none_of_nil : {X : Type 0} (P : X → Type 0) → Any P [] → ⊥
+none_of_nil P (k, y, l, e, h) = omega (arith, l)
+
+-- ---- the chain, of calls that each give first parts
+module _ {Form Result A : Type 0} (Does : CallRelation Form Result A) (AreGiven : Form → Result → List A → List Part → Type 0)
+    (gives : (p src : List ℕ) (form : Form) (last : Bool) (result : Result) (read : ℕ) (out : List A) (q : List ℕ) → Does p src form last result read out q
+    → (parts : List Part) × AreGiven form result out parts × Gives p src last parts read q) where
+  record Given (p b : List ℕ) (calls : List (Call Form Result A)) : Type 0 where
+    pub parts : List Part
+    pub in_sequence : AreGivenInSequence AreGiven calls parts
+    pub front : Gives p b (some_last calls) parts (read_in_all calls) (pending_after p calls)
+
+  chain_given : (p b : List ℕ) (calls : List (Call Form Result A)) → IsPending p → IsChain Does p b calls → Given p b calls
+  chain_given p b [] h c = record { parts = []; in_sequence = refl; front = record { within = omega arith; first = refl; pending = h; whatever_follows = λ e more. refl } }
+  chain_given p b (call ∷ calls) h (does, whole, c) =
+      let after = drop call.read b in
+      let q = pending_after call.pending calls in
+      let all = read_in_all calls in
+      let (first, are, g) = gives p (take call.piece b) call.form call.last call.result call.read call.out call.pending does in
+      let rest = chain_given call.pending after calls g.pending c in
+      let others = rest.parts in
+      record {
+        parts = first ++ others;
+        in_sequence = (first, others, are, rest.in_sequence, refl);
+        front = record {
+          within = omega (arith, rest.front.within, length-drop call.read b, g.within, length-take call.piece b);
+          first = subst (λ xs. StartsWith (p ++ b) (first ++ others) (q ++ xs)) (drop-drop all call.read b)
+              (StartsWith-append (p ++ b) first (call.pending ++ after) others (q ++ drop all after)
+              (first_of_all p b call.piece call.last first call.read call.pending g whole) rest.front.first);
+          pending = rest.front.pending;
+          whatever_follows = λ e more.
+              let none = or_parts call.last (some_last calls) e in
+              subst (λ xs. StartsWith (p ++ b ++ more) (first ++ others) (q ++ xs ++ more)) (drop-drop all call.read b)
+              (StartsWith-append (p ++ b ++ more) first (call.pending ++ after ++ more) others (q ++ drop all after ++ more)
+              (first_whatever_follows p b call.piece call.last first call.read call.pending g none.0 more) (rest.front.whatever_follows none.1 more));
+        };
+      }
+
+  -- with nothing pending and nothing unread calls give nothing
+  nothing_left : (p b : List ℕ) (calls : List (Call Form Result A)) → p ≡ [] → length b ≡ 0 → IsChain Does p b calls → (read_in_all calls ≡ 0) × (pending_after p calls ≡ [])
+  nothing_left p b [] e n c = (refl, e)
+  nothing_left p b (call ∷ calls) e n (does, whole, c) =
+      let piece = take call.piece b in
+      let (first, are, g) = gives p piece call.form call.last call.result call.read call.out call.pending does in
+      let behind = call.pending ++ drop call.read piece in
+      let bytes = StartsWith-bytes (p ++ piece) first behind g.first in
+      let size : length call.pending ≡ 0 = omega (
+        arith,
+        ap length bytes,
+        length-append p piece,
+        ap length e,
+        n,
+        length-take call.piece b,
+        length-append (flat_map bytes_of first) behind,
+        length-append call.pending (drop call.read piece),
+      ) in
+      let rest = nothing_left call.pending (drop call.read b) calls (nil_from_length call.pending size) (omega (arith, n, length-drop call.read b)) c in
+      (omega (arith, rest.0, g.within, n, length-take call.piece b), rest.1)
+
+  -- ---- to the end of the bytes, by a call that is marked last and reads all, leaving nothing pending
+  module _ (IsInputEmpty : Result → Type 0)
+      (ends : (p src : List ℕ) (form : Form) (last : Bool) (result : Result) (read : ℕ) (out : List A) (q : List ℕ) → Does p src form last result read out q
+      → last ≡ true → IsInputEmpty result → (read ≡ length src) × (q ≡ [])) where
+    abbrev Ends : Call Form Result A → Type 0
+    Ends call = (call.last ≡ true) × IsInputEmpty call.result
+
+    chain_ends : (p b : List ℕ) (calls : List (Call Form Result A)) → IsChain Does p b calls → Any Ends calls → (read_in_all calls ≡ length b) × (pending_after p calls ≡ [])
+    chain_ends p b [] c some = absurd (none_of_nil Ends some)
+    chain_ends p b (call ∷ calls) (does, whole, c) some =
+        let (first, are, g) = gives p (take call.piece b) call.form call.last call.result call.read call.out call.pending does in
+        elim (any_parts Ends call calls some) [
+          | inl (last, empty) ↦
+              let all = ends p (take call.piece b) call.form call.last call.result call.read call.out call.pending does last empty in
+              let rest = nothing_left call.pending (drop call.read b) calls all.1 (omega (arith, all.0, whole last, length-take call.piece b, length-drop call.read b)) c in
+              (omega (arith, rest.0, all.0, whole last, length-take call.piece b), rest.1)
+          | inr more ↦
+              let rest = chain_ends call.pending (drop call.read b) calls c more in
+              (omega (arith, rest.0, g.within, length-take call.piece b, length-drop call.read b), rest.1)
+        ]
+
+    pub chain_gives : (p b : List ℕ) (calls : List (Call Form Result A)) → IsPending p → IsChain Does p b calls → GiveTheParts AreGiven IsInputEmpty p b calls
+    chain_gives p b calls h c =
+        let given = chain_given p b calls h c in
+        let q = pending_after p calls in
+        record {
+          parts = given.parts;
+          in_sequence = given.in_sequence;
+          front = given.front;
+          bytes = given_bytes p b given.parts (read_in_all calls) q given.front.first;
+          all = λ some.
+              let end = chain_ends p b calls c some in
+              let none : q ++ drop (read_in_all calls) b ≡ [] =
+              nil_from_length _ (omega (arith, length-append q (drop (read_in_all calls) b), ap length end.1, end.0, length-drop (read_in_all calls) b)) in
+              subst (λ xs. StartsWith (p ++ b) given.parts xs) none given.front.first;
+        }

@@ -1,18 +1,25 @@
 -- With turns enough that each get on, and room enough, a run comes to the end of its source.
-use Rattle.std.proofs.Common.{◌≡◌, ℕ, ◌+◌, ◌-◌, ◌*◌, ◌<◌, ◌≤◌, ◌⊎◌, inl, inr, Bool, true, ◌&&◌, List, [], ◌∷◌, length, take, drop, encode_utf8, encode_utf8_all, Option, Some, refl, sym, ap, arith, subst}
+use Rattle.std.proofs.Common.{◌≡◌, ℕ, ◌+◌, ◌-◌, ◌*◌, ◌<◌, ◌≤◌, ◌⊎◌, inl, inr, Bool, true, ◌&&◌, List, [], ◌∷◌, length, map, take, drop, encode_utf8, encode_utf8_all, Option, Some, refl, sym, ap, arith, subst}
 use lib.Utf8.{scalar}
 use Rattle.std.specs.Char.{IsScalar}
 use Rattle.std.specs.Str.{all_scalars}
-use Rattle.std.specs.List.{flat_map}
+use Rattle.std.specs.List.{AllByRecursion, flat_map, last_or}
 use Rattle.std.proofs.lemmas.Bool.{and_parts, cases_lt, le-leb}
 use Rattle.std.proofs.lemmas.List.{length-append, length-drop, length-take}
-use Rattle.encoding_base.specs.Decoding.{IsCall, Answers, IsReport}
-use Rattle.encoding_base.specs.declared.decoder.DecoderResult.{DecoderResult}
-use Rattle.encoding_base.specs.declared.decoder.DecoderResult.TheVariants.{InputEmpty, OutputFull, Malformed}
-use Rattle.encoding_base.proofs.Calls.RoomLemmas.{counts, progress_of}
+use Rattle.std.proofs.lemmas.List.Elements.{recursion_from_All}
+use Rattle.encoding_text.specs.Decoding.{IsCall, Answers, IsReport}
+use Rattle.encoding_text.specs.declared.decoder.DecoderResult.{DecoderResult}
+use Rattle.encoding_text.specs.declared.decoder.DecoderResult.TheVariants.{InputEmpty, OutputFull, Malformed}
+use Rattle.encoding_text.proofs.Calls.RoomLemmas.{counts, progress_of}
 use Rattle.encoding_runs.specs.declared.run.turns.Turn.{Turn}
 use Rattle.encoding_runs.specs.Turns.{room_of, is_marked_last}
-use Rattle.encoding_runs.specs.Runs.{Called, AreCalls, last_answer, EachGetsOn}
+use Rattle.encoding_runs.specs.Calls.{Call, IsChain}
+use Rattle.encoding_runs.specs.Runs.{AreOfTurns, EachGetsOn}
+use Rattle.encoding_runs.proofs.TurnLemmas.{turn_call}
+
+-- a turn gets on
+abbrev pub GoesOn : ℕ → Turn → Type 0
+GoesOn need turn = (1 ≤ turn.take) × (need ≤ turn.room) × (turn.last ≡ true)
 
 module _ {A : Type 0} (encode : ℕ → List A) (need : ℕ) (some : 0 < need) (short : (c : ℕ) → IsScalar c → length (encode c) ≤ length (encode_utf8 c)) where
   short_output : (cs : List ℕ) → all_scalars cs ≡ true → length (flat_map encode cs) ≤ length (encode_utf8_all cs)
@@ -81,19 +88,25 @@ module _ {A : Type 0} (encode : ℕ → List A) (need : ℕ) (some : 0 < need) (
   reaches_on p unread q turns before result read inside (inr (inl (none, h))) (inr (all, nil, e)) = absurd (omega (arith, h, nil))
   reaches_on p unread q turns before result read inside (inr (inr (e, none, h))) (inr r) = inr (omega (arith, h), ap length none, ap (λ x. Some x) e)
 
-  reaches : (p unread : List ℕ) (room : ℕ) (turns : List Turn) (calls : List (Called A)) (before : Option DecoderResult) → Reaches p (length unread) (length turns) before
-      → EachGetsOn need turns → length unread + (need - 1) + length p ≤ room → AreCalls encode need p unread room turns calls → last_answer before calls ≡ Some InputEmpty
-  reaches p unread room [] [] before (inl (w, h, l)) each m c = absurd (omega (arith, l))
-  reaches p unread room [] [] before (inr (all, nil, e)) each m c = e
-  reaches p unread room [] (call ∷ calls) before r each m c = absurd c
-  reaches p unread room (turn ∷ turns) [] before r each m c = absurd c
-  reaches p unread room (turn ∷ turns) (call ∷ calls) before r (one, wide, last, each) m (is_call, c) =
-      let on = gets_on p unread room turn call.answer call.read call.out call.pending one wide last m is_call in
-      let left = room_after p unread room turn (is_marked_last turn (length unread)) call.answer call.read call.out call.pending m is_call in
-      let next = reaches_on p unread call.pending (length turns) before call.answer call.read left.0 on (subst (λ n. Reaches p (length unread) n before) (omega arith) r) in
-      reaches call.pending (drop call.read unread) (room - length call.out) turns calls (Some call.answer)
-      (subst (λ n. Reaches call.pending n (length turns) (Some call.answer)) (sym (length-drop call.read unread)) next) each left.1 c
+  reaches : (p unread : List ℕ) (room : ℕ) (turns : List Turn) (calls : List (Call ℕ DecoderResult A)) (before : Option DecoderResult) → Reaches p (length unread) (length turns) before
+      → AllByRecursion (GoesOn need) turns → length unread + (need - 1) + length p ≤ room → IsChain (IsCall encode need) p unread calls → AreOfTurns (length unread) room turns calls
+      → last_or before (map (λ call. call.result) calls) ≡ Some InputEmpty
+  reaches p unread room [] [] before (inl (w, h, l)) each m c t = absurd (omega (arith, l))
+  reaches p unread room [] [] before (inr (all, nil, e)) each m c t = e
+  reaches p unread room [] (call ∷ calls) before r each m c t = absurd t
+  reaches p unread room (turn ∷ turns) [] before r each m c t = absurd t
+  reaches p unread room (turn ∷ turns) (call ∷ calls) before r ((one, wide, last), each) m (does, whole, c) (e, f, g, t) =
+      let is_call = turn_call (IsCall encode need) p unread room turn call does e f g in
+      let on = gets_on p unread room turn call.result call.read call.out call.pending one wide last m is_call in
+      let left = room_after p unread room turn (is_marked_last turn (length unread)) call.result call.read call.out call.pending m is_call in
+      let next = reaches_on p unread call.pending (length turns) before call.result call.read left.0 on (subst (λ n. Reaches p (length unread) n before) (omega arith) r) in
+      let fewer : length (drop call.read unread) ≡ length unread - call.read = length-drop call.read unread in
+      reaches call.pending (drop call.read unread) (room - length call.out) turns calls (Some call.result)
+      (subst (λ n. Reaches call.pending n (length turns) (Some call.result)) (sym fewer) next) each left.1 c
+      (subst (λ n. AreOfTurns n (room - length call.out) turns calls) (sym fewer) t)
 
-  pub completes : (p src : List ℕ) (room : ℕ) (turns : List Turn) (calls : List (Called A)) (before : Option DecoderResult) → 2 * length src + 2 ≤ length turns → EachGetsOn need turns
-      → length src + (need - 1) + length p ≤ room → AreCalls encode need p src room turns calls → last_answer before calls ≡ Some InputEmpty
-  completes p src room turns calls before l each m c = reaches p src room turns calls before (inl (1, (λ _. omega arith), omega (arith, l))) each m c
+  pub completes : (p src : List ℕ) (room : ℕ) (turns : List Turn) (calls : List (Call ℕ DecoderResult A)) (before : Option DecoderResult) → 2 * length src + 2 ≤ length turns → EachGetsOn need turns
+      → length src + (need - 1) + length p ≤ room → IsChain (IsCall encode need) p src calls → AreOfTurns (length src) room turns calls
+      → last_or before (map (λ call. call.result) calls) ≡ Some InputEmpty
+  completes p src room turns calls before l each m c t =
+      reaches p src room turns calls before (inl (1, (λ _. omega arith), omega (arith, l))) (recursion_from_All (GoesOn need) turns each) m c t

@@ -4,12 +4,12 @@ use Rattle.std.proofs.lemmas.List.{length-append}
 use Rattle.std.specs.List.{flat_map}
 use Rattle.std.specs.Str.Lossy.{second_byte_min}
 use Rattle.std.proofs.lemmas.Bool.Decides.{nat_tests}
-use Rattle.encoding_base.specs.Sequence.{IsBeginning}
-use Rattle.encoding_base.specs.Pending.{IsPending}
-use Rattle.encoding_base.specs.Parts.{Part, bytes_of, ArePartsOf, repaired_text, count_broken, AreSettled}
-use Rattle.encoding_base.proofs.Sequences.SequenceLemmas.{HasOpenShape, HasOpenShape-IsBeginning, second_more}
-use Rattle.encoding_base.proofs.Decomposition.PartsLemmas.{fronts_nest}
-use Rattle.encoding_base.proofs.Decomposition.DecompositionLemmas.{StartsWith-append, StartsWith-bytes, same_parts, settled_stay, settled_front, repaired_text-append, count_broken-append}
+use Rattle.encoding_definitions.specs.Sequence.{IsBeginning}
+use Rattle.encoding_definitions.specs.Pending.{IsPending}
+use Rattle.encoding_definitions.specs.Parts.{Part, bytes_of, ArePartsOf, repaired_text, count_broken, AreSettled}
+use Rattle.encoding_definitions.proofs.Sequences.SequenceLemmas.{HasOpenShape, HasOpenShape-IsBeginning, second_more}
+use Rattle.encoding_definitions.proofs.Decomposition.PartsLemmas.{fronts_nest}
+use Rattle.encoding_definitions.proofs.Decomposition.DecompositionLemmas.{StartsWith-append, StartsWith-bytes, same_parts, settled_stay, settled_front, repaired_text-append, count_broken-append}
 
 -- the settled text begins the repaired text of all bytes that begin so
 pub settled_text : (bs rest more : List ℕ) (parts all : List Part) → AreSettled bs parts rest → ArePartsOf (bs ++ more) all

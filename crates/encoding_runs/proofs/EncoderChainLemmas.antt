@@ -1,21 +1,26 @@
 -- A chain of encoder calls writes the first parts of what was held and its source.
 use Rattle.std.proofs.Common.{◌≡◌, ℕ, ◌≤◌, ◌⊎◌, inl, inr, Bool, true, false, ◌||◌, List, [], ◌∷◌, ◌++◌, length, take, drop, refl, sym, ap, ◌∙◌, arith, subst}
+use Rattle.std.specs.Prelude.{Any}
 use Rattle.std.specs.List.{flat_map}
 use Rattle.std.proofs.lemmas.List.{append_assoc, append-nil, length-append, length-drop, length-take, drop_all, drop-drop, drop-append-le, take-append-drop, nil_from_length}
 use Rattle.std.proofs.lemmas.List.Concat.{flat_map-append}
-use Rattle.encoding_base.specs.Utf16.{AreUnits, Part16, units_of, utf8_of, StartsWith16}
-use Rattle.encoding_base.specs.Encoding.{IsHeld, IsEncoderCall}
-use Rattle.encoding_base.proofs.CodeUnits.Utf16Lemmas.{parts_exist}
-use Rattle.encoding_base.proofs.CodeUnits.EncoderLemmas.{AreUnits-behind}
-use Rattle.encoding_base.proofs.CodeUnits.FirstPartsLemmas.{StartsWith16-nil, StartsWith16-append, StartsWith16-units, StartsWith16-all, StartsWith16-read}
-use Rattle.encoding_base.proofs.CodeUnits.EncoderPartsLemmas.{AreUnits-append, AreUnits-held, parts_written, read_within, written_first, all_encoded}
-use Rattle.encoding_runs.specs.EncoderChains.{EncoderStep, IsEncoderChain, units_read, output_of, held_after, some_last, SomeLastIsEmpty, EncodesFirstParts}
+use Rattle.encoding_definitions.specs.Utf16.{AreUnits, Part16, units_of, utf8_of, StartsWith16}
+use Rattle.encoding_text.specs.Encoding.{IsHeld, IsEncoderCall}
+use Rattle.encoding_definitions.proofs.CodeUnits.Utf16Lemmas.{parts_exist}
+use Rattle.encoding_text.proofs.CodeUnits.EncoderLemmas.{AreUnits-behind}
+use Rattle.encoding_definitions.proofs.CodeUnits.FirstPartsLemmas.{StartsWith16-nil, StartsWith16-append, StartsWith16-units, StartsWith16-all, StartsWith16-read}
+use Rattle.encoding_text.proofs.CodeUnits.EncoderPartsLemmas.{AreUnits-append, AreUnits-held, parts_written, read_within, written_first, all_encoded}
+use Rattle.encoding_text.specs.declared.utf_8.encoder.EncoderResult.{EncoderResult}
+use Rattle.encoding_text.specs.declared.utf_8.encoder.EncoderResult.TheVariants.{InputEmpty}
+use Rattle.encoding_runs.specs.Calls.{Call, IsChain, read_in_all, output_of, pending_after, some_last}
+use Rattle.encoding_runs.specs.EncoderCalls.{EncodesFirstParts}
+use Rattle.encoding_runs.proofs.ChainLemmas.{any_parts, none_of_nil}
 
 -- ---- one call on the first unread units
 -- the units behind its piece are units that follow it
-call_first : (held unread more : List ℕ) (call : EncoderStep) (c : IsEncoderCall held (take call.piece unread) call.room call.last call.result call.read call.out call.held)
+call_first : (held unread more : List ℕ) (call : Call ℕ EncoderResult ℕ) (c : IsEncoderCall held (take call.piece unread) call.form call.last call.result call.read call.out call.pending)
     → (call.last ≡ true → length unread ≤ call.piece) → AreUnits unread → AreUnits more → (call.last ≡ true → more ≡ [])
-    → StartsWith16 (held ++ (unread ++ more)) (parts_written _ _ _ _ _ _ _ _ c) (call.held ++ (drop call.read unread ++ more))
+    → StartsWith16 (held ++ (unread ++ more)) (parts_written _ _ _ _ _ _ _ _ c) (call.pending ++ (drop call.read unread ++ more))
 call_first held unread more call c reaches a b n =
     let piece : List ℕ = take call.piece unread in
     let behind : List ℕ = drop call.piece unread ++ more in
@@ -25,16 +30,16 @@ call_first held unread more call c reaches a b n =
     let rest : drop call.read piece ++ behind ≡ drop call.read unread ++ more =
     sym (drop-append-le call.read piece behind within) ∙ ap (drop call.read) whole ∙ drop-append-le call.read unread more (omega (arith, within, length-take call.piece unread)) in
     let none : call.last ≡ true → behind ≡ [] = λ e. ap (λ xs. xs ++ more) (drop_all call.piece unread (reaches e)) ∙ n e in
-    let first : StartsWith16 (held ++ piece ++ behind) parts (call.held ++ drop call.read piece ++ behind) =
+    let first : StartsWith16 (held ++ piece ++ behind) parts (call.pending ++ drop call.read piece ++ behind) =
     written_first _ _ _ _ _ _ _ _ c behind (AreUnits-append (drop call.piece unread) more (AreUnits-behind unread call.piece a) b) none in
-    subst (λ xs. StartsWith16 xs parts (call.held ++ (drop call.read unread ++ more))) (append_assoc held piece behind ∙ ap (λ xs. held ++ xs) whole)
-    (subst (StartsWith16 (held ++ piece ++ behind) parts) (append_assoc call.held (drop call.read piece) behind ∙ ap (λ xs. call.held ++ xs) rest) first)
+    subst (λ xs. StartsWith16 xs parts (call.pending ++ (drop call.read unread ++ more))) (append_assoc held piece behind ∙ ap (λ xs. held ++ xs) whole)
+    (subst (StartsWith16 (held ++ piece ++ behind) parts) (append_assoc call.pending (drop call.read piece) behind ∙ ap (λ xs. call.pending ++ xs) rest) first)
 
 -- ---- the chain
 -- the parts that its calls wrote
-chain_parts : (calls : List EncoderStep) (held unread : List ℕ) → IsEncoderChain held unread calls → List Part16
+chain_parts : (calls : List (Call ℕ EncoderResult ℕ)) (held unread : List ℕ) → IsChain IsEncoderCall held unread calls → List Part16
 chain_parts [] held unread chain = []
-chain_parts (call ∷ calls) held unread chain = parts_written _ _ _ _ _ _ _ _ chain.0 ++ chain_parts calls call.held (drop call.read unread) chain.2
+chain_parts (call ∷ calls) held unread chain = parts_written _ _ _ _ _ _ _ _ chain.0 ++ chain_parts calls call.pending (drop call.read unread) chain.2
 
 none_marked : (a b : Bool) → (a || b) ≡ false → (a ≡ false) × (b ≡ false)
 none_marked true b e = absurd (cc (e))
@@ -45,68 +50,77 @@ no_more last more (inl e) t = e
 no_more last more (inr f) t = let clash : true ≡ false = sym t ∙ f in absurd (cc (clash))
 
 -- they are the first parts, also where units follow, if no call is marked last
-chain_first : (calls : List EncoderStep) (held unread more : List ℕ) (chain : IsEncoderChain held unread calls) → IsHeld held → AreUnits unread → AreUnits more → (more ≡ []) ⊎ (some_last calls ≡ false)
-    → StartsWith16 (held ++ (unread ++ more)) (chain_parts calls held unread chain) (held_after held calls ++ (drop (units_read calls) unread ++ more))
+chain_first : (calls : List (Call ℕ EncoderResult ℕ)) (held unread more : List ℕ) (chain : IsChain IsEncoderCall held unread calls) → IsHeld held → AreUnits unread → AreUnits more → (more ≡ []) ⊎ (some_last calls ≡ false)
+    → StartsWith16 (held ++ (unread ++ more)) (chain_parts calls held unread chain) (pending_after held calls ++ (drop (read_in_all calls) unread ++ more))
 unfolding chain_parts
 chain_first [] held unread more chain h a b n =
     StartsWith16-nil (held ++ (unread ++ more)) _ (parts_exist (held ++ (unread ++ more)) (AreUnits-held held (unread ++ more) h (AreUnits-append unread more a b)))
 chain_first (call ∷ calls) held unread more (c, reaches, chain) h a b n =
     let here : (more ≡ []) ⊎ (call.last ≡ false) = elim n [ inl e ↦ inl e | inr f ↦ inr (none_marked call.last (some_last calls) f).0 ] in
     let then' : (more ≡ []) ⊎ (some_last calls ≡ false) = elim n [ inl e ↦ inl e | inr f ↦ inr (none_marked call.last (some_last calls) f).1 ] in
-    let rest = chain_first calls call.held (drop call.read unread) more chain c.held_after (AreUnits-behind unread call.read a) b then' in
-    subst (λ xs. StartsWith16 (held ++ (unread ++ more)) (parts_written _ _ _ _ _ _ _ _ c ++ chain_parts calls call.held (drop call.read unread) chain) (held_after call.held calls ++ (xs ++ more)))
-    (drop-drop (units_read calls) call.read unread)
-    (StartsWith16-append (held ++ (unread ++ more)) _ (call.held ++ (drop call.read unread ++ more)) _ _ (call_first held unread more call c reaches a b (no_more call.last more here)) rest)
+    let rest = chain_first calls call.pending (drop call.read unread) more chain c.held_after (AreUnits-behind unread call.read a) b then' in
+    subst (λ xs. StartsWith16 (held ++ (unread ++ more)) (parts_written _ _ _ _ _ _ _ _ c ++ chain_parts calls call.pending (drop call.read unread) chain) (pending_after call.pending calls ++ (xs ++ more)))
+    (drop-drop (read_in_all calls) call.read unread)
+    (StartsWith16-append (held ++ (unread ++ more)) _ (call.pending ++ (drop call.read unread ++ more)) _ _ (call_first held unread more call c reaches a b (no_more call.last more here)) rest)
 
-chain_written : (calls : List EncoderStep) (held unread : List ℕ) (chain : IsEncoderChain held unread calls) → output_of calls ≡ flat_map utf8_of (chain_parts calls held unread chain)
+chain_written : (calls : List (Call ℕ EncoderResult ℕ)) (held unread : List ℕ) (chain : IsChain IsEncoderCall held unread calls) → output_of calls ≡ flat_map utf8_of (chain_parts calls held unread chain)
 unfolding chain_parts
 chain_written [] held unread chain = refl
 chain_written (call ∷ calls) held unread (c, reaches, chain) =
-    ap (λ xs. xs ++ output_of calls) c.longest.written ∙ ap (λ xs. flat_map utf8_of (parts_written _ _ _ _ _ _ _ _ c) ++ xs) (chain_written calls call.held (drop call.read unread) chain)
-    ∙ sym (flat_map-append utf8_of (parts_written _ _ _ _ _ _ _ _ c) (chain_parts calls call.held (drop call.read unread) chain))
+    ap (λ xs. xs ++ output_of calls) c.longest.written ∙ ap (λ xs. flat_map utf8_of (parts_written _ _ _ _ _ _ _ _ c) ++ xs) (chain_written calls call.pending (drop call.read unread) chain)
+    ∙ sym (flat_map-append utf8_of (parts_written _ _ _ _ _ _ _ _ c) (chain_parts calls call.pending (drop call.read unread) chain))
 
-pub chain_within : (calls : List EncoderStep) (held unread : List ℕ) → IsEncoderChain held unread calls → units_read calls ≤ length unread
+pub chain_within : (calls : List (Call ℕ EncoderResult ℕ)) (held unread : List ℕ) → IsChain IsEncoderCall held unread calls → read_in_all calls ≤ length unread
 chain_within [] held unread chain = omega arith
 chain_within (call ∷ calls) held unread (c, reaches, chain) =
-    omega (arith, chain_within calls call.held (drop call.read unread) chain, read_within _ _ _ _ _ _ _ _ c, length-take call.piece unread, length-drop call.read unread)
+    omega (arith, chain_within calls call.pending (drop call.read unread) chain, read_within _ _ _ _ _ _ _ _ c, length-take call.piece unread, length-drop call.read unread)
 
-pub chain_held : (calls : List EncoderStep) (held unread : List ℕ) → IsEncoderChain held unread calls → IsHeld held → IsHeld (held_after held calls)
+pub chain_held : (calls : List (Call ℕ EncoderResult ℕ)) (held unread : List ℕ) → IsChain IsEncoderCall held unread calls → IsHeld held → IsHeld (pending_after held calls)
 chain_held [] held unread chain h = h
-chain_held (call ∷ calls) held unread (c, reaches, chain) h = chain_held calls call.held (drop call.read unread) chain c.held_after
+chain_held (call ∷ calls) held unread (c, reaches, chain) h = chain_held calls call.pending (drop call.read unread) chain c.held_after
+
+-- a call is marked last and returns `InputEmpty`
+abbrev Ends : Call ℕ EncoderResult ℕ → Type 0
+Ends call = (call.last ≡ true) × (call.result ≡ InputEmpty)
 
 -- nothing is left behind a call that is marked last and returns `InputEmpty`
-chain_ends : (calls : List EncoderStep) (held unread : List ℕ) → IsEncoderChain held unread calls → SomeLastIsEmpty calls → AreUnits unread → held_after held calls ++ drop (units_read calls) unread ≡ []
-chain_ends [] held unread chain s a = absurd s
-chain_ends (call ∷ calls) held unread (c, reaches, chain) (inr s) a =
-    ap (λ xs. held_after call.held calls ++ xs) (sym (drop-drop (units_read calls) call.read unread)) ∙ chain_ends calls call.held (drop call.read unread) chain s (AreUnits-behind unread call.read a)
-chain_ends (call ∷ calls) held unread (c, reaches, chain) (inl (l, e)) a =
-    let ended = all_encoded _ _ _ _ _ _ _ _ c l e in
-    let rest : List ℕ = held_after call.held calls ++ (drop (units_read calls) (drop call.read unread) ++ []) in
-    let none : call.held ++ (drop call.read unread ++ []) ≡ [] =
-    ap (λ xs. xs ++ (drop call.read unread ++ [])) ended.1
-    ∙ ap (λ xs. xs ++ []) (drop_all call.read unread (omega (arith, ended.0, reaches l, length-take call.piece unread))) in
-    let first = chain_first calls call.held (drop call.read unread) [] chain c.held_after (AreUnits-behind unread call.read a) (λ k. omega arith) (inl refl) in
-    let units : flat_map units_of (chain_parts calls call.held (drop call.read unread) chain) ++ rest ≡ [] = StartsWith16-units _ _ _ first ∙ none in
-    let empty : rest ≡ [] = nil_from_length rest (omega (arith, ap length units, length-append (flat_map units_of (chain_parts calls call.held (drop call.read unread) chain)) rest)) in
-    ap (λ xs. held_after call.held calls ++ xs) (sym (drop-drop (units_read calls) call.read unread) ∙ sym (append-nil (drop (units_read calls) (drop call.read unread)))) ∙ empty
+chain_ends : (calls : List (Call ℕ EncoderResult ℕ)) (held unread : List ℕ) → IsChain IsEncoderCall held unread calls → Any Ends calls → AreUnits unread → pending_after held calls ++ drop (read_in_all calls) unread ≡ []
+chain_ends [] held unread chain s a = absurd (none_of_nil Ends s)
+chain_ends (call ∷ calls) held unread (c, reaches, chain) s a =
+    let behind : List ℕ = drop call.read unread in
+    let are : AreUnits behind = AreUnits-behind unread call.read a in
+    ap (λ xs. pending_after call.pending calls ++ xs) (sym (drop-drop (read_in_all calls) call.read unread))
+    ∙ elim (any_parts Ends call calls s) [
+      | inl (l, e) ↦
+          let ended = all_encoded _ _ _ _ _ _ _ _ c l e in
+          let rest : List ℕ = pending_after call.pending calls ++ (drop (read_in_all calls) behind ++ []) in
+          let none : call.pending ++ (behind ++ []) ≡ [] =
+          ap (λ xs. xs ++ (behind ++ [])) ended.1 ∙ ap (λ xs. xs ++ []) (drop_all call.read unread (omega (arith, ended.0, reaches l, length-take call.piece unread))) in
+          let parts : List Part16 = chain_parts calls call.pending behind chain in
+          let first = chain_first calls call.pending behind [] chain c.held_after are (λ k. omega arith) (inl refl) in
+          let units : flat_map units_of parts ++ rest ≡ [] = StartsWith16-units _ _ _ first ∙ none in
+          let empty : rest ≡ [] = nil_from_length rest (omega (arith, ap length units, length-append (flat_map units_of parts) rest)) in
+          ap (λ xs. pending_after call.pending calls ++ xs) (sym (append-nil (drop (read_in_all calls) behind))) ∙ empty
+      | inr more ↦ chain_ends calls call.pending behind chain more are
+    ]
 
-pub chain_encodes : (held src : List ℕ) (calls : List EncoderStep) → IsHeld held → AreUnits src → IsEncoderChain held src calls
-    → EncodesFirstParts held src calls (units_read calls) (output_of calls) (held_after held calls)
+pub chain_encodes : (held src : List ℕ) (calls : List (Call ℕ EncoderResult ℕ)) → IsHeld held → AreUnits src → IsChain IsEncoderCall held src calls
+    → EncodesFirstParts held src calls (read_in_all calls) (output_of calls) (pending_after held calls)
 chain_encodes held src calls h a chain =
     let parts : List Part16 = chain_parts calls held src chain in
-    let first : StartsWith16 (held ++ src) parts (held_after held calls ++ drop (units_read calls) src) =
-    subst (λ xs. StartsWith16 (held ++ xs) parts (held_after held calls ++ drop (units_read calls) src)) (append-nil src)
-    (subst (λ xs. StartsWith16 (held ++ (src ++ [])) parts (held_after held calls ++ xs)) (append-nil (drop (units_read calls) src))
+    let first : StartsWith16 (held ++ src) parts (pending_after held calls ++ drop (read_in_all calls) src) =
+    subst (λ xs. StartsWith16 (held ++ xs) parts (pending_after held calls ++ drop (read_in_all calls) src)) (append-nil src)
+    (subst (λ xs. StartsWith16 (held ++ (src ++ [])) parts (pending_after held calls ++ xs)) (append-nil (drop (read_in_all calls) src))
     (chain_first calls held src [] chain h a (λ k. omega arith) (inl refl))) in
     record {
       parts = parts;
       first = first;
       written = chain_written calls held src chain;
       within = chain_within calls held src chain;
-      units = StartsWith16-read held src parts (held_after held calls) (units_read calls) first;
+      units = StartsWith16-read held src parts (pending_after held calls) (read_in_all calls) first;
       one_held = chain_held calls held src chain h;
       all = λ s. StartsWith16-all (held ++ src) parts _ (chain_ends calls held src chain s a) first;
-      whatever_follows = λ n more b. subst (λ xs. StartsWith16 xs parts (held_after held calls ++ drop (units_read calls) src ++ more)) (sym (append_assoc held src more))
-          (subst (StartsWith16 (held ++ (src ++ more)) parts) (sym (append_assoc (held_after held calls) (drop (units_read calls) src) more))
+      whatever_follows = λ n more b. subst (λ xs. StartsWith16 xs parts (pending_after held calls ++ drop (read_in_all calls) src ++ more)) (sym (append_assoc held src more))
+          (subst (StartsWith16 (held ++ (src ++ more)) parts) (sym (append_assoc (pending_after held calls) (drop (read_in_all calls) src) more))
           (chain_first calls held src more chain h a b (inr n)));
     }

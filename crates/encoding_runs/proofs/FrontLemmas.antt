@@ -3,8 +3,8 @@ use Rattle.std.proofs.Common.{◌≡◌, ℕ, Bool, true, false, List, [], ◌++
 use Rattle.std.specs.Io.KnownBytes.{Keeps}
 use Rattle.std.proofs.KnownBytes.{Appends-kept}
 use Rattle.std.proofs.lemmas.List.{append-nil, append_assoc, take_all}
-use Rattle.encoding_base.specs.Parts.{Part, StartsWith, ArePartsOf, repaired_text}
-use Rattle.encoding_base.proofs.Decomposition.DecompositionLemmas.{has_parts, has_settled, parts_split, repaired_text-append}
+use Rattle.encoding_definitions.specs.Parts.{Part, StartsWith, ArePartsOf, repaired_text}
+use Rattle.encoding_definitions.proofs.Decomposition.DecompositionLemmas.{has_parts, has_settled, parts_split, repaired_text-append}
 use Rattle.encoding_runs.specs.Repairs.{IsRepaired, IsSettledText, IsFront, WritesRepaired, WritesSettled, StopsReading, WritesFrontOfRepaired}
 
 whole_settled : (bs text : List ℕ) → IsSettledText bs text → IsSettledText (take (length bs) bs) text

@@ -1,5 +1,6 @@
 pub mod SettledLemmas
 pub mod RepairLemmas
+pub mod FrontTextLemmas
 pub mod RoundLemmas
 pub mod FrontLemmas
 pub mod RepeatLemmas

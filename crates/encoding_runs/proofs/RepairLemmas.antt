@@ -6,15 +6,15 @@ use Rattle.std.proofs.lemmas.List.{append-nil, append_assoc, drop_all, length-dr
 use Rattle.std.specs.Str.{IsUtf8, chars}
 use Rattle.std.proofs.lemmas.Str.{encodes-chars}
 use lib.Utf8.{encode}
-use Rattle.encoding_base.specs.Pending.{IsPending}
-use Rattle.encoding_base.proofs.Sequences.SequenceLemmas.{length-IsBeginning}
-use Rattle.encoding_base.specs.Parts.{Part, repaired_text, count_broken}
-use Rattle.encoding_base.specs.Decoding.{IsBorrowedCall}
-use Rattle.encoding_base.specs.declared.decoder.Piece.{Piece}
-use Rattle.encoding_base.specs.declared.decoder.Piece.TheVariants.{Text, Char, Malformed, InputEmpty}
-use Rattle.encoding_base.specs.Giving.{Gives}
-use Rattle.encoding_base.proofs.Calls.BorrowedLemmas.{borrowed_gives}
-use Rattle.encoding_base.proofs.Decomposition.DecompositionLemmas.{StartsWith-append, has_parts, repaired_text-append, repaired_text-characters, count_broken-append, count_broken-characters, count_broken-bytes}
+use Rattle.encoding_definitions.specs.Pending.{IsPending}
+use Rattle.encoding_definitions.proofs.Sequences.SequenceLemmas.{length-IsBeginning}
+use Rattle.encoding_definitions.specs.Parts.{Part, repaired_text, count_broken}
+use Rattle.encoding_text.specs.Decoding.{IsBorrowedCall}
+use Rattle.encoding_text.specs.declared.decoder.Piece.{Piece}
+use Rattle.encoding_text.specs.declared.decoder.Piece.TheVariants.{Text, Char, Malformed, InputEmpty}
+use Rattle.encoding_definitions.specs.Giving.{Gives}
+use Rattle.encoding_text.proofs.Calls.BorrowedLemmas.{borrowed_gives}
+use Rattle.encoding_definitions.proofs.Decomposition.DecompositionLemmas.{StartsWith-append, has_parts, repaired_text-append, repaired_text-characters, count_broken-append, count_broken-characters, count_broken-bytes}
 use Rattle.encoding_runs.specs.Repairs.{IsProperFront, WritesRepaired, Stops}
 use Rattle.encoding_runs.specs.Steps.Writing.{text_of, broken_of, AreFirst, WritesParts, StopsInParts}
 use Rattle.encoding_runs.proofs.SettledLemmas.{AreFirst-trans, AreFirst-more}
@@ -55,7 +55,7 @@ piece_gives p src last InputEmpty read q call =
 
 -- ---- what is written
 -- more parts are written
-wrote_more : (last : Bool) (bs mid rest : List ℕ) (old new now : Option (List ℕ)) (n : ℕ) (more : List Part) → WritesParts last bs mid old new n → AreFirst last mid more rest
+pub wrote_more : (last : Bool) (bs mid rest : List ℕ) (old new now : Option (List ℕ)) (n : ℕ) (more : List Part) → WritesParts last bs mid old new n → AreFirst last mid more rest
     → Appends new now (repaired_text more) → WritesParts last bs rest old now (n + count_broken more)
 wrote_more last bs mid rest old new now n more w f a = record {
   parts = w.parts ++ more;
@@ -69,7 +69,7 @@ pub front_behind : (ps qs : List Part) (out : List ℕ) → IsProperFront out (r
 front_behind ps qs out (left, some, whole) =
     (left, some, repaired_text-append ps qs ∙ ap (λ xs. repaired_text ps ++ xs) whole ∙ sym (append_assoc (repaired_text ps) out left))
 
-proper_front : (k : ℕ) (text : List ℕ) → k < length text → IsProperFront (take k text) text
+pub proper_front : (k : ℕ) (text : List ℕ) → k < length text → IsProperFront (take k text) text
 proper_front k text short = (drop k text, (λ none. omega (arith, ap length none, length-drop k text)), sym (take-append-drop k text))
 
 -- one more piece is
@@ -81,7 +81,7 @@ wrote_piece last bs p src old new now n piece read q w call a =
     record { parts = more.parts; first = more.first; bytes = more.bytes; broken = omega (arith, more.broken, g.broken) }
 
 -- behind a piece nothing is pending
-nothing_pending : (p src : List ℕ) (last : Bool) (piece : Piece) (read : ℕ) (q : List ℕ) → IsBorrowedCall p src last piece read q → (piece ≡ InputEmpty → ⊥) → q ≡ []
+pub nothing_pending : (p src : List ℕ) (last : Bool) (piece : Piece) (read : ℕ) (q : List ℕ) → IsBorrowedCall p src last piece read q → (piece ≡ InputEmpty → ⊥) → q ≡ []
 nothing_pending p src last (Text t) read q call n = call.answer.1
 nothing_pending p src last (Char c) read q call n = call.answer.1
 nothing_pending p src last (Malformed k) read q call n = call.answer.2

@@ -4,10 +4,10 @@ use Rattle.std.specs.Prelude.{map}
 use Rattle.std.specs.List.{flat_map}
 use Rattle.std.proofs.lemmas.List.{take-append-drop}
 use Rattle.std.proofs.lemmas.List.Concat.{flat_map-append}
-use Rattle.encoding_base.specs.Utf16.{Part16, units_of, utf8_of, scalar_of, ArePartsOf16, IsUtf8OfLongestFront}
-use Rattle.encoding_base.proofs.CodeUnits.Utf16Lemmas.{parts_unique, rest_parts, none_left}
-use Rattle.encoding_text.proofs.Conversions.Utf16LawLemmas.{utf8_of_all}
-use Rattle.encoding_base.proofs.CodeUnits.FirstPartsLemmas.{first_fits}
+use Rattle.encoding_definitions.specs.Utf16.{Part16, units_of, utf8_of, scalar_of, ArePartsOf16, IsUtf8OfLongestFront}
+use Rattle.encoding_definitions.proofs.CodeUnits.Utf16Lemmas.{parts_unique, rest_parts, none_left}
+use Rattle.encoding_definitions.proofs.Conversions.Utf16LawLemmas.{utf8_of_all}
+use Rattle.encoding_definitions.proofs.CodeUnits.FirstPartsLemmas.{first_fits}
 use Rattle.encoding_runs.specs.Repeats.{Step, AreRepeated}
 
 repeated : (steps : List Step) (us : List ℕ) (parts : List Part16) → ArePartsOf16 us parts → AreRepeated us steps → flat_map (λ (step : Step). step.out) steps ≡ flat_map utf8_of parts

@@ -3,9 +3,9 @@ use Rattle.std.proofs.Common.{◌≡◌, ℕ, ◌+◌, ◌<◌, ◌≤◌, Bool,
 use Rattle.std.specs.Io.KnownBytes.{Keeps}
 use Rattle.std.proofs.KnownBytes.{Appends-trans, Consumes-trans, Consumes-kept}
 use Rattle.std.proofs.lemmas.List.{length-append, take_at}
-use Rattle.encoding_base.specs.Pending.{IsPending}
-use Rattle.encoding_base.specs.Parts.{Part, repaired_text}
-use Rattle.encoding_base.proofs.Decomposition.DecompositionLemmas.{StartsWith-append, has_parts, repaired_text-append}
+use Rattle.encoding_definitions.specs.Pending.{IsPending}
+use Rattle.encoding_definitions.specs.Parts.{Part, repaired_text}
+use Rattle.encoding_definitions.proofs.Decomposition.DecompositionLemmas.{StartsWith-append, has_parts, repaired_text-append}
 use Rattle.encoding_runs.specs.Repairs.{IsSettledText, IsDue, IsProperFront, RepairsAll, RepairsSettled, RepairsFront}
 use Rattle.encoding_runs.specs.Steps.Writing.{AreFirst, WritesParts, StopsInParts}
 use Rattle.encoding_runs.specs.Steps.Rounds.{ReadsRound, Reaches}

@@ -1,25 +1,25 @@
 -- What the calls of a run give, one after another: the first parts of the bytes, written and reported.
-use Rattle.std.proofs.Common.{◌≡◌, ℕ, ◌+◌, ◌-◌, ◌≤◌, inl, inr, true, ◌||◌, List, [], ◌∷◌, ◌++◌, length, map, take, drop, refl, sym, ap, ◌∙◌, arith, subst}
+use Rattle.std.proofs.Common.{◌≡◌, ℕ, ◌+◌, ◌≤◌, inl, inr, List, [], ◌∷◌, ◌++◌, length, map, refl, sym, ap, ◌∙◌, arith, subst}
 use Rattle.std.specs.List.{flat_map}
-use Rattle.std.proofs.lemmas.Bool.{and_parts, leb-true}
 use Rattle.std.proofs.lemmas.Grind.{flat_map-append}
 use Rattle.std.proofs.lemmas.List.{append-nil, length-append}
-use Rattle.encoding_base.specs.Pending.{IsPending}
-use Rattle.encoding_base.specs.Parts.{Part, Character, Broken, StartsWith, characters_of}
-use Rattle.encoding_base.specs.Decoding.{Answers}
-use Rattle.encoding_base.specs.declared.decoder.DecoderResult.{DecoderResult}
-use Rattle.encoding_base.specs.declared.decoder.DecoderResult.TheVariants.{InputEmpty, OutputFull, Malformed}
-use Rattle.encoding_base.specs.GivenParts.{IsReported}
-use Rattle.encoding_base.proofs.Calls.CallPartsLemmas.{call_gives}
-use Rattle.encoding_base.proofs.LongestFronts.FrontsLemmas.{WritesFront-same}
-use Rattle.encoding_base.proofs.Sequences.SequenceLemmas.{length-IsBeginning}
-use Rattle.encoding_runs.specs.Chains.{Given, IsChain, parts_given, read_in_all, left_pending, some_last, SomeEnds}
+use Rattle.encoding_definitions.specs.Pending.{IsPending}
+use Rattle.encoding_definitions.specs.Parts.{Part, Character, Broken, characters_of}
+use Rattle.encoding_text.specs.Decoding.{IsCall}
+use Rattle.encoding_text.specs.declared.decoder.DecoderResult.{DecoderResult}
+use Rattle.encoding_text.specs.declared.decoder.DecoderResult.TheVariants.{InputEmpty, OutputFull, Malformed}
+use Rattle.encoding_text.specs.GivenParts.{AreDecoded, IsReported}
+use Rattle.encoding_text.proofs.Calls.CallPartsLemmas.{decoded_gives}
+use Rattle.encoding_definitions.proofs.LongestFronts.FrontsLemmas.{WritesFront-same}
+use Rattle.encoding_definitions.proofs.Sequences.SequenceLemmas.{length-IsBeginning}
 use Rattle.encoding_runs.specs.declared.run.turns.Turn.{Turn}
-use Rattle.encoding_runs.specs.Turns.{room_of, is_marked_last}
 use Rattle.encoding_runs.specs.declared.run.decoding.Report.{Report}
 use Rattle.encoding_runs.specs.declared.run.decoding.Outcome.{Outcome}
-use Rattle.encoding_runs.specs.Runs.{Called, AreCalls, bytes_read, output_of, pending_after, report_of, reports_of_calls, some_marked_last, SomeLastIsEmpty, reports_of, IsRun, Delivers}
-use Rattle.encoding_runs.proofs.ChainLemmas.{chain_gives, given_bytes, all_given}
+use Rattle.encoding_runs.specs.Calls.{Call, output_of}
+use Rattle.encoding_runs.specs.DecoderCalls.{AreGivenInSequence}
+use Rattle.encoding_runs.specs.DecoderRuns.{reports_of, Delivers}
+use Rattle.encoding_runs.specs.Steps.Reports.{report_of, reports_of_calls, IsReportedRun}
+use Rattle.encoding_runs.proofs.ChainLemmas.{decoded_empty, chain_gives}
 
 -- ---- the characters and the reports of parts
 characters_of-append : (ps qs : List Part) → characters_of (ps ++ qs) ≡ characters_of ps ++ characters_of qs
@@ -70,98 +70,44 @@ module _ {A : Type 0} (encode : ℕ → List A) where
       ∙ ap (λ xs. reports_of encode (place + length (flat_map encode xs)) reported) (characters_of-characters cs)
       ∙ reports_of-reported (place + length (flat_map encode cs)) answer reported r
 
-  module _ (need : ℕ) where
-    -- a call that is marked last and returns `InputEmpty` reads all and leaves nothing pending
-    ended : (p src : List ℕ) (result : DecoderResult) (read : ℕ) (cs : List ℕ) (left : ℕ) (q : List ℕ) → result ≡ InputEmpty
-        → Answers encode need p src true result read cs left q → (read ≡ length src) × (q ≡ [])
-    ended p src InputEmpty read cs left q e (all, whole, none, room) = (all, none refl)
-    ended p src OutputFull read cs left q e a = cc
-    ended p src (Malformed k second) read cs left q e a = cc
+  -- ---- what calls give in sequence
+  abbrev Decoded : ℕ → DecoderResult → List A → List Part → Type 0
+  Decoded room = AreDecoded encode
 
-    -- ---- the calls as a chain
-    -- The chain of calls that give what these calls wrote and reported.
-    record GivesInTurn (p unread : List ℕ) (turns : List Turn) (calls : List (Called A)) : Type 0 where
-      pub given : List Given
-      pub chain : IsChain p unread given
-      pub output : output_of calls ≡ flat_map encode (characters_of (parts_given given))
-      pub reports : (place : ℕ) → reports_of_calls place calls ≡ reports_of encode place (parts_given given)
-      pub read : bytes_read calls ≡ read_in_all given
-      pub pending : pending_after p calls ≡ left_pending p given
-      pub last : some_marked_last unread turns calls ≡ some_last given
-      pub ends : SomeLastIsEmpty unread turns calls → SomeEnds unread given
+  given_output : (calls : List (Call ℕ DecoderResult A)) (parts : List Part) → AreGivenInSequence Decoded calls parts → output_of calls ≡ flat_map encode (characters_of parts)
+  given_output [] parts e = sym (ap (λ xs. flat_map encode (characters_of xs)) e)
+  given_output (call ∷ calls) parts (first, others, (cs, reported, scalars, out, is, e), given, whole) =
+      let here : call.out ≡ flat_map encode (characters_of first) =
+      out ∙ ap (flat_map encode) (sym (ap characters_of e ∙ given_characters cs call.result reported is)) in
+      (λ i. here i ++ given_output calls others given i) ∙ sym (flat_map-append encode (characters_of first) (characters_of others))
+      ∙ ap (flat_map encode) (sym (ap characters_of whole ∙ characters_of-append first others))
 
-    gives_in_turn : (p unread : List ℕ) (room : ℕ) (turns : List Turn) (calls : List (Called A)) → AreCalls encode need p unread room turns calls
-        → GivesInTurn p unread turns calls
-    gives_in_turn p unread room [] [] c = record {
-      given = [];
-      chain = tt;
-      output = refl;
-      reports = λ place. refl;
-      read = refl;
-      pending = refl;
-      last = refl;
-      ends = λ e. e;
-    }
-    gives_in_turn p unread room [] (call ∷ calls) c = absurd c
-    gives_in_turn p unread room (turn ∷ turns) [] c = absurd c
-    gives_in_turn p unread room (turn ∷ turns) (call ∷ calls) (is_call, c) =
-        let piece = take turn.take unread in
-        let marked = is_marked_last turn (length unread) in
-        let g = call_gives encode need p piece (room_of turn room) marked call.answer call.read call.out call.pending is_call in
-        let cs = g.0 in
-        let parts = map Character cs ++ g.1 in
-        let rest = gives_in_turn call.pending (drop call.read unread) (room - length call.out) turns calls c in
-        let more = parts_given rest.given in
-        let out : call.out ≡ flat_map encode (characters_of parts) = g.2 ∙ ap (flat_map encode) (sym (given_characters cs call.answer g.1 g.3)) in
-        record {
-          given = record { piece = turn.take; last = marked; parts = parts; read = call.read; pending = call.pending } ∷ rest.given;
-          chain = (g.4, (λ e. leb-true _ _ (and_parts _ _ e).1), rest.chain);
-          output = (λ i. out i ++ rest.output i) ∙ sym (flat_map-append encode (characters_of parts) (characters_of more))
-              ∙ ap (flat_map encode) (sym (characters_of-append parts more));
-          reports = λ place.
-              let there = place + length call.out in
-              (λ i. (ap (λ xs. report_of call.answer (place + length xs)) g.2 ∙ sym (given_reports place cs call.answer g.1 g.3)) i ++ rest.reports there i)
-              ∙ ap (λ xs. reports_of encode place parts ++ reports_of encode (place + length xs) more) out
-              ∙ sym (reports_of-append place parts more);
-          read = ap (λ n. call.read + n) rest.read;
-          pending = rest.pending;
-          last = ap (λ b. marked || b) rest.last;
-          ends = λ e. elim e [
-            | inl (m, empty) ↦
-                let all = ended p piece call.answer call.read is_call.scalars (room_of turn room - length call.out) call.pending empty
-                (subst (λ b. Answers encode need p piece b call.answer call.read is_call.scalars (room_of turn room - length call.out) call.pending) m is_call.answer) in
-                inl (m, all.0, all.1)
-            | inr f ↦ inr (rest.ends f)
-          ];
-        }
+  given_places : (place : ℕ) (calls : List (Call ℕ DecoderResult A)) (parts : List Part) → AreGivenInSequence Decoded calls parts → reports_of_calls place calls ≡ reports_of encode place parts
+  given_places place [] parts e = sym (ap (reports_of encode place) e)
+  given_places place (call ∷ calls) parts (first, others, (cs, reported, scalars, out, is, e), given, whole) =
+      let there = place + length call.out in
+      let here : call.out ≡ flat_map encode (characters_of first) =
+      out ∙ ap (flat_map encode) (sym (ap characters_of e ∙ given_characters cs call.result reported is)) in
+      let one : report_of call.result there ≡ reports_of encode place first =
+      ap (λ xs. report_of call.result (place + length xs)) out ∙ sym (ap (reports_of encode place) e ∙ given_reports place cs call.result reported is) in
+      (λ i. one i ++ given_places there calls others given i)
+      ∙ ap (λ xs. reports_of encode place first ++ reports_of encode (place + length xs) others) here
+      ∙ sym (ap (reports_of encode place) whole ∙ reports_of-append place first others)
 
-    -- ---- what a run delivers
-    few_pending : (q : List ℕ) → IsPending q → length q ≤ 3
-    few_pending q (inl e) = omega (arith, ap length e)
-    few_pending q (inr b) = length-IsBeginning q b
+  -- ---- what a run delivers
+  few_pending : (q : List ℕ) → IsPending q → length q ≤ 3
+  few_pending q (inl e) = omega (arith, ap length e)
+  few_pending q (inr b) = length-IsBeginning q b
 
-    pub delivers : (p src : List ℕ) (turns : List Turn) (old new : List A) (old_reports new_reports : List Report) (outcome : Outcome) (q : List ℕ) → IsPending p
-        → IsRun encode need p src turns old new old_reports new_reports outcome q → Delivers encode need p src turns old new old_reports new_reports outcome q
-    delivers p src turns old new old_reports new_reports outcome q h run =
-        let all = gives_in_turn p src (length old) turns run.calls run.chain in
-        let g = chain_gives p src all.given h all.chain in
-        let parts = parts_given all.given in
-        let pending : left_pending p all.given ≡ q = sym (run.pending ∙ all.pending) in
-        let read : read_in_all all.given ≡ outcome.read = sym (run.read ∙ all.read) in
-        let unread : left_pending p all.given ++ drop (read_in_all all.given) src ≡ q ++ drop outcome.read src = λ i. pending i ++ drop (read i) src in
-        let first : StartsWith (p ++ src) parts (q ++ drop outcome.read src) = subst (λ xs. StartsWith (p ++ src) parts xs) unread g.first in
-        let still : IsPending q = subst IsPending pending g.pending in
-        record {
-          run = run;
-          parts = parts;
-          first = first;
-          characters = WritesFront-same _ _ _ _ _ _ run.written refl all.output;
-          broken = WritesFront-same _ _ _ _ _ _ run.reports refl (all.reports 0);
-          within = omega (arith, g.within, read);
-          bytes = given_bytes p src parts outcome.read q first;
-          pending = still;
-          at_most_three = few_pending q still;
-          all = λ e. all_given p src all.given h all.chain (all.ends e);
-          whatever_follows = λ e more.
-              subst (λ xs. StartsWith (p ++ src ++ more) parts (xs ++ more)) unread (g.whatever_follows (sym all.last ∙ e) more);
-        }
+  pub delivers : (need : ℕ) (p src : List ℕ) (turns : List Turn) (old new : List A) (old_reports new_reports : List Report) (outcome : Outcome) (q : List ℕ) → IsPending p
+      → IsReportedRun encode need p src turns old new old_reports new_reports outcome q → Delivers encode need p src turns old new old_reports new_reports outcome q
+  delivers need p src turns old new old_reports new_reports outcome q h reported =
+      let run = reported.run in
+      let given = chain_gives (IsCall encode need) Decoded (decoded_gives encode need) (λ result. result ≡ InputEmpty) (decoded_empty encode need) p src run.calls h run.chain in
+      record {
+        run = run;
+        given = given;
+        characters = WritesFront-same _ _ _ _ _ _ run.writes refl (given_output run.calls given.parts given.in_sequence);
+        broken = WritesFront-same _ _ _ _ _ _ reported.reports refl (given_places 0 run.calls given.parts given.in_sequence);
+        at_most_three = few_pending q (subst IsPending (sym run.leaves) given.front.pending);
+      }

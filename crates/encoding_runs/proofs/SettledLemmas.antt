@@ -1,11 +1,11 @@
 -- First parts that stay whatever follows, one behind the other, and the settled parts.
 use Rattle.std.proofs.Common.{◌≡◌, ℕ, Bool, false, List, [], ◌∷◌, ◌++◌, refl, sym, ap, ◌∙◌, subst}
 use Rattle.std.proofs.lemmas.List.{append-nil, append_assoc}
-use Rattle.encoding_base.specs.Sequence.{IsBeginning}
-use Rattle.encoding_base.specs.Pending.{IsPending}
-use Rattle.encoding_base.specs.Parts.{Part, Broken, BeginsWithNoCharacter, StartsWith, AreSettled}
-use Rattle.encoding_base.proofs.Decomposition.PartsLemmas.{part_bytes}
-use Rattle.encoding_base.proofs.Decomposition.DecompositionLemmas.{StartsWith-append, settled_stay, has_settled}
+use Rattle.encoding_definitions.specs.Sequence.{IsBeginning}
+use Rattle.encoding_definitions.specs.Pending.{IsPending}
+use Rattle.encoding_definitions.specs.Parts.{Part, Broken, BeginsWithNoCharacter, StartsWith, AreSettled}
+use Rattle.encoding_definitions.proofs.Decomposition.PartsLemmas.{part_bytes}
+use Rattle.encoding_definitions.proofs.Decomposition.DecompositionLemmas.{StartsWith-append, settled_stay, has_settled}
 use Rattle.encoding_runs.specs.Steps.Writing.{AreFirst}
 
 -- parts behind parts

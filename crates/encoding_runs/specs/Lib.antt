@@ -1,10 +1,12 @@
 pub mod Repairs
 pub mod Streams
 pub mod Repeats
-pub mod EncoderChains
-pub mod Chains
+pub mod Calls
+pub mod DecoderCalls
+pub mod MixedCalls
+pub mod EncoderCalls
 pub mod Turns
 pub mod Runs
+pub mod DecoderRuns
 pub mod EncoderRuns
-pub mod MixedCalls
 pub mod Steps

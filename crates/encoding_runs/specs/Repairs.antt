@@ -1,7 +1,7 @@
 -- What the repair engine writes of the bytes that it read.
 use Rattle.std.specs.Prelude.{◌≡◌, ◌≢◌, ℕ, ◌+◌, ◌≤◌, Bool, true, false, List, [], ◌++◌, length, take, Option}
 use Rattle.std.specs.Io.KnownBytes.{Appends, Consumes, IsAtEnd}
-use Rattle.encoding_base.specs.Parts.{Part, ArePartsOf, AreSettled, repaired_text, count_broken}
+use Rattle.encoding_definitions.specs.Parts.{Part, ArePartsOf, AreSettled, repaired_text, count_broken}
 
 -- text is the bytes with U+FFFD for each broken part
 abbrev pub IsRepaired : List ℕ → List ℕ → Type 0

@@ -1,6 +1,6 @@
 -- A bounded conversion repeated on what is left: Encoding Standard, `encodeInto`.
 use Rattle.std.specs.Prelude.{◌≡◌, ℕ, List, [], ◌∷◌, drop}
-use Rattle.encoding_base.specs.Utf16.{IsUtf8OfLongestFront}
+use Rattle.encoding_definitions.specs.Utf16.{IsUtf8OfLongestFront}
 
 -- one conversion: its room in bytes, how many units it read, and the bytes that it wrote
 pub record Step : Type 0 where

@@ -3,20 +3,24 @@ ghost use Rattle.std.specs.Prelude.{◌≡◌, ◌↔◌, ℕ, ◌+◌, ◌<◌,
 ghost use Rattle.std.specs.Char.{IsScalar};
 ghost use Rattle.std.specs.List.{flat_map};
 ghost use Rattle.std.specs.Str.Lossy.{utf8_lossy};
-ghost use Rattle.encoding_base.specs.Sequence.{IsSequence};
-ghost use Rattle.encoding_base.specs.Parts.{Part, ArePartsOf, AreSettled, bytes_of, count_broken, repaired_text};
-ghost use Rattle.encoding_base.specs.Pending.{IsPending};
-ghost use Rattle.encoding_base.specs.OneAnswer.{HasOneAnswer, HasOnePiece};
+ghost use Rattle.encoding_definitions.specs.Sequence.{IsSequence};
+ghost use Rattle.encoding_definitions.specs.Parts.{Part, ArePartsOf, AreSettled, bytes_of, count_broken, repaired_text};
+ghost use Rattle.encoding_definitions.specs.Pending.{IsPending};
+ghost use Rattle.encoding_text.specs.OneAnswer.{HasOneAnswer, HasOnePiece};
 ghost use Rattle.std.specs.Char.Escape.{encode_utf16};
 ghost use Rattle.std.specs.Char.Utf16.{utf16_lossy_chars};
 ghost use Rattle.std.specs.Str.{all_scalars, chars};
-ghost use Rattle.encoding_base.specs.Utf16.{AreUnits, Part16, Character16, ArePartsOf16, IsUtf8OfLongestFront, scalar_of, utf8_of};
-ghost use Rattle.encoding_base.specs.Encoding.{IsHeld};
-ghost use Rattle.encoding_text.specs.Bidi.{IsRightToLeft, IsBidiBytes, IsBidiUnits};
-ghost use Rattle.encoding_text.specs.Surrogates.{IsValidUtf16, AreRepairedUnits, ChangesLone};
+ghost use Rattle.encoding_definitions.specs.Utf16.{AreUnits, Part16, Character16, ArePartsOf16, IsUtf8OfLongestFront, scalar_of, utf8_of};
+ghost use Rattle.encoding_text.specs.Encoding.{IsHeld, IsEncoderCall};
+ghost use Rattle.encoding_definitions.specs.Bidi.{IsRightToLeft, IsBidiBytes, IsBidiUnits};
+ghost use Rattle.encoding_definitions.specs.Surrogates.{IsValidUtf16, AreRepairedUnits, ChangesLone};
 ghost use Rattle.encoding_runs.specs.Repeats.{Step, AreRepeated};
-ghost use Rattle.encoding_runs.specs.EncoderChains.{EncoderStep, IsEncoderChain, EncodesFirstParts, units_read, output_of, held_after};
-ghost use Rattle.encoding_runs.specs.MixedCalls.{MixedCall, AreMixedCalls, GiveTheParts, AreAskedTheSame, AnswerTheSame};
+ghost use Rattle.std.specs.List.{AllZip};
+ghost use Rattle.encoding_text.specs.declared.utf_8.encoder.EncoderResult.{EncoderResult};
+ghost use Rattle.encoding_runs.specs.Calls.{Call, IsChain, read_in_all, output_of, pending_after};
+ghost use Rattle.encoding_runs.specs.DecoderCalls.{GiveTheParts};
+ghost use Rattle.encoding_runs.specs.MixedCalls.{Form, Answer, IsMixedCall, AreGiven, IsInputEmpty, AreAskedTheSame, AnswerTheSame};
+ghost use Rattle.encoding_runs.specs.EncoderCalls.{EncodesFirstParts};
 
 /// The well-formed sequences are exactly the UTF-8 of the scalar values, one for each, and none begins another.
 /// Unicode Standard, Table 3-7.
@@ -67,9 +71,10 @@ pub fn law_mixed_calls()
     ensures one_utf16 { (p src : List ℕ) (room : ℕ) (last : Bool) → IsPending p → HasOneAnswer encode_utf16 2 p src room last }
     ensures one_utf8 { (p src : List ℕ) (room : ℕ) (last : Bool) → IsPending p → HasOneAnswer encode_utf8 4 p src room last }
     ensures one_piece { (p src : List ℕ) (last : Bool) → IsPending p → HasOnePiece p src last }
-    ensures mixed { (p b : List ℕ) (calls : List MixedCall) → IsPending p → AreMixedCalls p b calls → GiveTheParts p b calls }
-    ensures same { (p b : List ℕ) (calls others : List MixedCall) → AreMixedCalls p b calls → AreMixedCalls p b others
-        → AreAskedTheSame calls others → AnswerTheSame calls others }
+    ensures mixed { (p b : List ℕ) (calls : List (Call Form Answer ℕ)) → IsPending p → IsChain IsMixedCall p b calls
+        → GiveTheParts AreGiven IsInputEmpty p b calls }
+    ensures same { (p b : List ℕ) (calls others : List (Call Form Answer ℕ)) → IsChain IsMixedCall p b calls
+        → IsChain IsMixedCall p b others → AllZip AreAskedTheSame calls others → AllZip AnswerTheSame calls others }
 {}
 
 /// UTF-16 code units have exactly one list of parts; counted as U+FFFD, the lone surrogates among them are those of
@@ -100,8 +105,9 @@ pub fn law_partial_repeats()
 /// left held, write the UTF-8 of the first parts of what was held and of the source, however it is cut and whatever
 /// the rooms. Unicode Standard, section 3.9, UTF-16.
 pub fn law_encoder_cuts()
-    ensures { (held src : List ℕ) (calls : List EncoderStep) → IsHeld held → AreUnits src → IsEncoderChain held src calls
-        → EncodesFirstParts held src calls (units_read calls) (output_of calls) (held_after held calls) }
+    ensures { (held src : List ℕ) (calls : List (Call ℕ EncoderResult ℕ)) → IsHeld held → AreUnits src
+        → IsChain IsEncoderCall held src calls
+        → EncodesFirstParts held src calls (read_in_all calls) (output_of calls) (pending_after held calls) }
 {}
 
 /// Scalar values, their UTF-8 and their UTF-16 agree on whether one of them is right-to-left.

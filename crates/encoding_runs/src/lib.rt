@@ -1,4 +1,4 @@
-//! What the kernels of `encoding_text` add up to over whole streams: repaired text, and the laws of the definitions.
+//! What the calls of `encoding_text` add up to over whole streams: repaired text, and the laws of the definitions.
 #![tactic(auto)]
 
 pub mod laws;

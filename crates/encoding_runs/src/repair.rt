@@ -1,5 +1,6 @@
 //! Repairs UTF-8: what comes out is the text of what goes in, with U+FFFD for each broken part.
 mod engine;
+mod front;
 mod streams;
 
 pub use engine::{RepairFault, Repaired, repair, repair_slice};

@@ -1,2 +1,2 @@
-pub mod Latin1Lemmas
+pub mod Iso2022JpLemmas
 pub mod Latin1ConversionLemmas

@@ -1,4 +1,6 @@
+pub mod Calls
+pub mod CodeUnits
+pub mod LongestFronts
 pub mod Latin
+pub mod Sequences
 pub mod Conversions
-pub mod Surrogates
-pub mod Bidi

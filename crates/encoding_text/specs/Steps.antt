@@ -1,3 +1,4 @@
--- What private functions say of their steps. Public contracts cite none of these.
-pub mod BidiBlocks
-pub mod Pairs
+-- What private functions say of their steps. No contract that is handed to users cites these.
+pub mod Resuming
+pub mod Ending
+pub mod Converting

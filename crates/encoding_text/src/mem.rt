@@ -1,13 +1,11 @@
 //! Checks and conversions of text that lies in memory as a whole: ASCII, Latin1, UTF-8 and UTF-16.
 
 mod bidi;
-mod bidi_blocks;
 mod borrowed;
 mod checks;
 mod copies;
 mod from_utf16;
 mod latin1;
-mod pair_blocks;
 mod surrogates;
 mod text_destinations;
 mod to_utf16;
@@ -23,8 +21,7 @@ pub use checks::{
     utf8_latin1_up_to,
 };
 pub use copies::{copy_ascii_to_ascii, copy_ascii_to_basic_latin, copy_basic_latin_to_ascii};
-pub use encoding_base::utf_8::convert_utf16_to_utf8_partial;
-pub use from_utf16::convert_utf16_to_utf8;
+pub use from_utf16::{convert_utf16_to_utf8, convert_utf16_to_utf8_partial};
 pub use latin1::{
     convert_latin1_to_utf8, convert_latin1_to_utf8_partial, convert_latin1_to_utf16,
     convert_utf8_to_latin1_lossy, convert_utf16_to_latin1_lossy,

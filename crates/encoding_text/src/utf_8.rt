@@ -1,7 +1,14 @@
 //! UTF-8: Unicode Standard, section 3.9, and Encoding Standard, section 8.1.
+mod decoding;
+mod encoder;
+pub(crate) mod encoding;
+mod table;
+mod validation;
 
-pub use encoding_base::utf_8::{
-    EncoderResult, UTF8_DATA, Utf8Data, Utf8Encoder, convert_utf8_to_utf16_up_to_invalid,
-    convert_utf16_to_utf8_partial_inner, convert_utf16_to_utf8_partial_tail, law_table,
-    utf8_valid_up_to,
-};
+pub(crate) use decoding::CodeUnit;
+pub use decoding::convert_utf8_to_utf16_up_to_invalid;
+pub use encoder::{EncoderResult, Utf8Encoder};
+pub use encoding::{convert_utf16_to_utf8_partial_inner, convert_utf16_to_utf8_partial_tail};
+pub use table::{UTF8_DATA, Utf8Data, law_table};
+pub(crate) use validation::character_length;
+pub use validation::utf8_valid_up_to;

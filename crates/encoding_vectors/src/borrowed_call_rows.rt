@@ -3,7 +3,7 @@
 use crate::decoder_rows::row_holds;
 use encoding_text::decoder::{Piece, Utf8Decoder};
 use std::test::Fail;
-use test_support::decoder_vectors::{Delivered, delivered_utf8, vectors};
+use test_vectors::decoder_vectors::{Delivered, delivered_utf8, vectors};
 
 /// Calls: source, mark, piece, bytes read; those of the other forms are as in the rows of the decoder.
 const ROWS: &str = "\
@@ -154,7 +154,8 @@ fn pieces_are(src: &[u8], most: usize, wanted: &Delivered<u8>) -> bool {
 /// The pieces of a vector are its parts, whole and cut after each byte, each two and each three.
 #[test]
 fn vectors_come_in_pieces(rt: HostRuntime) -> Result<(), Fail> {
-    for vector in &vectors(rt.alloc())? {
+    let vectors = vectors(rt.alloc())?;
+    for vector in &vectors {
         let want = delivered_utf8(rt.alloc(), vector)?;
         let come = pieces_are(&vector.bytes, 1, &want)
             && pieces_are(&vector.bytes, 2, &want)
@@ -162,5 +163,6 @@ fn vectors_come_in_pieces(rt: HostRuntime) -> Result<(), Fail> {
             && pieces_are(&vector.bytes, 16, &want);
         assert!(rt; come, "{}", vector.row);
     }
+    assert!(rt; vectors.len() == 104);
     Ok(())
 }

@@ -3,7 +3,7 @@
 use encoding_text::decoder::{DecoderResult, Utf8Decoder};
 use std::alloc::{AllocError, Global};
 use std::test::Fail;
-use test_support::decoder_vectors::{
+use test_vectors::decoder_vectors::{
     Delivered, Vector, delivered_utf8, delivered_utf16, length_of, vectors,
 };
 
@@ -87,9 +87,11 @@ fn is_delivered(alloc: Global, vector: &Vector) -> Result<bool, AllocError> {
 
 #[test]
 fn delivers_the_parts(rt: HostRuntime) -> Result<(), Fail> {
-    for vector in &vectors(rt.alloc())? {
+    let vectors = vectors(rt.alloc())?;
+    for vector in &vectors {
         assert!(rt; is_delivered(rt.alloc(), vector)?, "{}", vector.row);
     }
+    assert!(rt; vectors.len() == 104);
     Ok(())
 }
 

@@ -3,8 +3,8 @@
 use encoding_text::decoder::{DecoderResult, Piece, Utf8Decoder};
 use std::alloc::Global;
 use std::test::Fail;
-use test_support::decoder_vectors::scalar_of;
-use test_support::texts::{are_units_written, are_written, bytes_of, field, number_of, units_of};
+use test_vectors::decoder_vectors::scalar_of;
+use test_vectors::texts::{are_units_written, are_written, bytes_of, field, number_of, units_of};
 
 /// A call of a row: the source, the room and whether it is marked last, then the name of the result and how much is
 /// read.

@@ -2,9 +2,9 @@
 
 use encoding_text::utf_8::{EncoderResult, Utf8Encoder};
 use std::test::Fail;
-use test_support::encoder_vectors::{Source, limits, vectors};
-use test_support::held_units::holds;
-use test_support::texts::are_written;
+use test_vectors::encoder_vectors::{Source, limits, vectors};
+use test_vectors::held_units::holds;
+use test_vectors::texts::are_written;
 
 /// Whether a new encoder reads all units of a source, writes these bytes with ample room, and holds this then.
 fn encodes(source: &Source, last: bool, bytes: &[u8], held: &str) -> bool {

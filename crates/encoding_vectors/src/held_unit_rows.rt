@@ -3,8 +3,8 @@
 use encoding_text::utf_8::{EncoderResult, Utf8Encoder};
 use std::alloc::Global;
 use std::test::Fail;
-use test_support::held_units::holds;
-use test_support::texts::{are_written, bytes_of, field, number_of, units_of};
+use test_vectors::held_units::holds;
+use test_vectors::texts::{are_written, bytes_of, field, number_of, units_of};
 
 /// Returns an encoder that holds what a field says: none, or D83D.
 fn encoder_at(held: &str) -> Utf8Encoder {

@@ -7,7 +7,7 @@ use encoding_text::mem::{
 };
 use std::alloc::Global;
 use std::test::Fail;
-use test_support::texts::{are_written, bytes_of, field, number_of};
+use test_vectors::texts::{are_written, bytes_of, field, number_of};
 
 /// Bytes, and the length of their front that is the UTF-8 of Latin1 text; or bytes that are no text, so not Latin1.
 const FRONTS: &str = "\

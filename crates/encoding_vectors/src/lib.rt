@@ -8,6 +8,8 @@ mod borrowed_call_rows;
 #[cfg(test)]
 mod borrowed_rows;
 #[cfg(test)]
+mod call_walks;
+#[cfg(test)]
 mod decoder_parts;
 #[cfg(test)]
 mod decoder_rows;

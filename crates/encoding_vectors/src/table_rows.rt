@@ -2,7 +2,7 @@
 
 use encoding_text::utf_8::{UTF8_DATA, law_table};
 use std::test::Fail;
-use test_support::texts::{bytes_of, field};
+use test_vectors::texts::{bytes_of, field};
 
 // the first and the last place of each range of entries, and the entry there
 const RANGES: [(usize, usize, u8); 15] = [

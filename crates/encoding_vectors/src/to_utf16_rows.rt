@@ -5,7 +5,7 @@ use encoding_text::mem::{
     convert_str_to_utf16, convert_utf8_to_utf16, convert_utf8_to_utf16_without_replacement,
 };
 use encoding_text::utf_8::convert_utf8_to_utf16_up_to_invalid;
-use test_support::texts::are_units_written;
+use test_vectors::texts::are_units_written;
 
 #[test]
 fn converts_what_fits(rt: HostRuntime) {

@@ -7,7 +7,7 @@ use encoding_text::utf_8::{
 };
 use std::alloc::Global;
 use std::test::Fail;
-use test_support::texts::{are_written, bytes_of, field, number_of, units_of};
+use test_vectors::texts::{are_written, bytes_of, field, number_of, units_of};
 
 #[test]
 fn converts_a_text(rt: HostRuntime) {

@@ -4,7 +4,7 @@ use crate::decoder_chains::Form::{Borrowed, Utf8, Utf16};
 use crate::decoder_chains::{Form, Way, decodes_to};
 use crate::parts::Parts;
 use std::test::Fail;
-use test_support::decoder_vectors::{Vector, vectors};
+use test_vectors::decoder_vectors::{Vector, vectors};
 
 /// Calls of one form, and of all forms in turn, in each order.
 const FORMS: [[Form; 3]; 9] = [

@@ -7,8 +7,8 @@ use encoding_text::mem::{convert_utf8_to_utf16, is_utf8_bidi, is_utf8_latin1};
 use encoding_text::utf_8::utf8_valid_up_to;
 use std::alloc::{AllocError, Global};
 use std::test::Fail;
-use test_support::right_to_left::is_in_a_range;
 use test_support::streams::Compared;
+use test_vectors::right_to_left::is_in_a_range;
 
 /// The bytes at the edges.
 const EDGES: [u8; 25] = [

@@ -3,8 +3,8 @@
 use encoding_text::utf_8::{EncoderResult, Utf8Encoder};
 use std::alloc::Global;
 use std::test::Fail;
-use test_support::encoder_vectors::{Source, limits, vectors};
-use test_support::texts::are_written;
+use test_vectors::encoder_vectors::{Source, limits, vectors};
+use test_vectors::texts::are_written;
 
 /// Hands in code units until all are read, with so much room a call, or enough behind a call that got nowhere: whether
 /// what is written begins the wanted bytes, which are left without it.

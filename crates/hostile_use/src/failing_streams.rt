@@ -6,9 +6,9 @@ use encoding_runs::repair::{RepairFault, Repaired, Watch, repair};
 use std::alloc::{AllocError, Global};
 use std::io::ErrorKind;
 use std::test::Fail;
-use test_support::decoder_vectors::vectors;
 use test_support::streams::{Compared, Input};
-use test_support::texts::bytes_of;
+use test_vectors::decoder_vectors::vectors;
+use test_vectors::texts::bytes_of;
 
 /// How many bytes are read at a time at most.
 const ROUND: usize = 1024;

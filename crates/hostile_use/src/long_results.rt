@@ -1,4 +1,5 @@
-//! Long owned results of Latin1, in the memory of one growth, and memory that is refused and can be had again.
+//! Long results of Latin1: borrowed without memory, owned in the memory of one growth, with nothing left behind, and
+//! memory that is refused and can be had again.
 
 use encoding_text::mem::{CowBytes, CowStr, decode_latin1, encode_latin1_lossy, is_str_latin1};
 use std::alloc::{AllocError, Global};
@@ -61,6 +62,8 @@ fn one_growth_for_long_results(rt: HostRuntime) -> Result<(), Fail> {
         (100, 1, 0xE4, 102),
         (1500, 100, 0x80, 1700),
         (0, 5000, 0, 128 + 2 * 4872),
+        (10_001, 1, 0xFF, 10_003),
+        (0, 50_000, 0x80, 100_000),
     ] {
         let bytes = mixed(rt.alloc(), letters, first, others)?;
         assert!(rt;
@@ -97,12 +100,110 @@ fn a_refusal_leaves_the_memory(rt: HostRuntime) -> Result<(), Fail> {
     for (letters, others, first, length, capacity) in [
         (0, 5000, 0, 2000, 128 + 2 * 4872),
         (1500, 100, 0x80, 1600, 1700),
+        (10_001, 100, 0x80, 10_100, 10_201),
     ] {
         let bytes = mixed(rt.alloc(), letters, first, others)?;
         for _ in 0..3 {
             let holds = leaves_a_block(rt.alloc(), &bytes, length)?
                 && is_decoded(rt.alloc(), &bytes, capacity)?
                 && is_encoded(rt.alloc(), &bytes)?;
+            assert!(rt; holds, "{letters}, {others}");
+        }
+    }
+    Ok(())
+}
+
+/// Letters, of which none takes memory, where none is left.
+#[test]
+fn long_letters_take_no_memory(rt: HostRuntime) -> Result<(), Fail> {
+    for length in [1, 10_000, 10_001, 100_000] {
+        let bytes = mixed(rt.alloc(), length, 0, 0)?;
+        assert!(rt; are_borrowed(rt.alloc(), &bytes)?, "{length}");
+    }
+    Ok(())
+}
+
+/// Whether both calls lend their input where no memory is left.
+fn are_borrowed(alloc: Global, bytes: &[u8]) -> Result<bool, AllocError> {
+    let text = text_of(alloc, bytes)?;
+    if !is_str_latin1(&text) {
+        return Ok(false);
+    }
+    let held = exhaust(alloc)?;
+    let decoded = decode_latin1(alloc, bytes);
+    let encoded = encode_latin1_lossy(alloc, &text);
+    drop(held);
+    Ok(decoded == Ok(CowStr::Borrowed(&text)) && encoded == Ok(CowBytes::Borrowed(bytes)))
+}
+
+/// Two blocks of a length, all memory that is left.
+#[derive(Drop)]
+struct TwoBlocks {
+    held: Vec<Vec<u8>>,
+    length: usize,
+}
+
+/// Takes all memory but two blocks of this length.
+fn leave_two(alloc: Global, length: usize) -> Result<TwoBlocks, AllocError> {
+    let first = Vec::<u8>::with_capacity(alloc, length)?;
+    let second = Vec::<u8>::with_capacity(alloc, length)?;
+    let held = exhaust(alloc)?;
+    drop(first);
+    drop(second);
+    Ok(TwoBlocks { held, length })
+}
+
+impl TwoBlocks {
+    /// Whether so many of the blocks can be had, and no further one.
+    fn are_left(&self, alloc: Global, count: usize) -> bool {
+        let first = Vec::<u8>::with_capacity(alloc, self.length);
+        let second = Vec::<u8>::with_capacity(alloc, self.length);
+        let third = Vec::<u8>::with_capacity(alloc, self.length);
+        first.is_ok() == (count > 0) && second.is_ok() == (count > 1) && third.is_err()
+    }
+}
+
+/// Whether decoding takes one block of two, and gives it back with its text.
+fn decoding_takes_one(alloc: Global, bytes: &[u8], length: usize) -> Result<bool, AllocError> {
+    let blocks = leave_two(alloc, length)?;
+    let before = blocks.are_left(alloc, 2);
+    let decoded = decode_latin1(alloc, bytes);
+    let during = decoded.is_ok() && blocks.are_left(alloc, 1);
+    drop(decoded);
+    let behind = blocks.are_left(alloc, 2);
+    drop(blocks);
+    Ok(before && during && behind)
+}
+
+/// The same of encoding.
+fn encoding_takes_one(alloc: Global, bytes: &[u8], length: usize) -> Result<bool, AllocError> {
+    let text = text_of(alloc, bytes)?;
+    if !is_str_latin1(&text) {
+        return Ok(false);
+    }
+    let blocks = leave_two(alloc, length)?;
+    let before = blocks.are_left(alloc, 2);
+    let encoded = encode_latin1_lossy(alloc, &text);
+    let during = encoded.is_ok() && blocks.are_left(alloc, 1);
+    drop(encoded);
+    let behind = blocks.are_left(alloc, 2);
+    drop(blocks);
+    Ok(before && during && behind)
+}
+
+/// Letters, others and the first of them, and the capacity, which is the length of either block. More than once, so that
+/// what each call left behind would add up.
+#[test]
+fn a_success_leaves_nothing_behind(rt: HostRuntime) -> Result<(), Fail> {
+    for (letters, others, first, length) in [
+        (1500, 100, 0x80, 1700),
+        (0, 2500, 0x80, 5000),
+        (10_001, 100, 0x80, 10_201),
+    ] {
+        let bytes = mixed(rt.alloc(), letters, first, others)?;
+        for _ in 0..3 {
+            let holds = decoding_takes_one(rt.alloc(), &bytes, length)?
+                && encoding_takes_one(rt.alloc(), &bytes, length)?;
             assert!(rt; holds, "{letters}, {others}");
         }
     }

@@ -1,6 +1,6 @@
 //! The parts of bytes, by the table of well-formed sequences: Table 3-7 of the Unicode Standard.
 
-use test_support::decoder_vectors::{Expected, Vector};
+use test_vectors::decoder_vectors::{Expected, Vector};
 
 /// The ranges of the bytes of each row; where a row has fewer bytes, a range of no byte stands.
 const SEQUENCES: [[(u8, u8); 4]; 9] = [

@@ -3,7 +3,7 @@
 use encoding_text::mem::{ensure_utf16_validity, utf16_valid_up_to};
 use std::alloc::Global;
 use std::test::Fail;
-use test_support::texts::{field, units_of};
+use test_vectors::texts::{field, units_of};
 
 /// Code units, whether they are valid or end what is, and what the repair makes of them.
 const ROWS: &str = "\

@@ -1,10 +1,10 @@
-//! Every scalar value, and every two of the code units at the edges, against ranges that stand here and in `test_support`.
+//! Every scalar value, and every two of the code units at the edges, against ranges that stand here and in `test_vectors`.
 
 use encoding_text::mem::{
     ensure_utf16_validity, is_char_bidi, is_str_bidi, is_utf8_bidi, is_utf16_bidi,
     is_utf16_code_unit_bidi, utf16_valid_up_to,
 };
-use test_support::right_to_left::is_in_a_range;
+use test_vectors::right_to_left::is_in_a_range;
 
 /// Whether all checks of the character and of its code units say so.
 fn character_is(c: char, bidi: bool) -> bool {

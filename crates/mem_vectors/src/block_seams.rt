@@ -6,7 +6,7 @@ use encoding_text::mem::{
 };
 use std::alloc::Global;
 use std::test::Fail;
-use test_support::texts::{are_written, bytes_of, field, units_of};
+use test_vectors::texts::{are_written, bytes_of, field, units_of};
 
 /// Code units that stand round another, and their UTF-8.
 const FILLERS: &str = "\
@@ -79,14 +79,17 @@ fn units_hold(alloc: Global, filler: &str, before: usize, edge: &str) -> Result<
 
 #[test]
 fn units_at_each_place(rt: HostRuntime) -> Result<(), Fail> {
+    let mut count = 0u32;
     for filler in FILLERS.lines() {
         for edge in EDGES.lines() {
             for before in 0..FILLERS_IN_TEXT + 1 {
                 let holds = units_hold(rt.alloc(), filler, before, edge)?;
                 assert!(rt; holds, "{filler}, {edge}, {before}");
             }
+            count = count.saturating_add(1);
         }
     }
+    assert!(rt; count == 4 * 11);
     Ok(())
 }
 
@@ -117,13 +120,16 @@ fn latin1_holds(alloc: Global, filler: &str, before: usize, edge: &str) -> Resul
 
 #[test]
 fn latin1_at_each_place(rt: HostRuntime) -> Result<(), Fail> {
+    let mut count = 0u32;
     for filler in LATIN1_FILLERS.lines() {
         for edge in LATIN1_EDGES.lines() {
             for before in 0..FILLERS_IN_TEXT + 1 {
                 let holds = latin1_holds(rt.alloc(), filler, before, edge)?;
                 assert!(rt; holds, "{filler}, {edge}, {before}");
             }
+            count = count.saturating_add(1);
         }
     }
+    assert!(rt; count == 2 * 6);
     Ok(())
 }

@@ -6,7 +6,7 @@ use encoding_text::mem::{
     is_str_latin1, is_utf8_bidi, is_utf8_latin1, str_latin1_up_to, utf8_latin1_up_to,
 };
 use encoding_text::utf_8::utf8_valid_up_to;
-use test_support::right_to_left::is_in_a_range;
+use test_vectors::right_to_left::is_in_a_range;
 
 /// What the texts stand in.
 const ROOM: usize = 232;
@@ -128,16 +128,20 @@ const CHARACTERS: &str =
 
 #[test]
 fn each_character_among_letters(rt: HostRuntime) {
+    let mut count = 0u32;
     for (i, text) in CHARACTERS.split(' ').enumerate() {
         assert!(rt;
             agree_over_lengths(i % 16, 131, 'a', text.as_bytes()),
             "{text}"
         );
+        count = count.saturating_add(1);
     }
+    assert!(rt; count == 21);
 }
 
 #[test]
 fn among_longer_characters(rt: HostRuntime) {
+    let mut count = 0u32;
     for (i, text) in "\u{E4} \u{5D0} \u{2014} \u{10800}".split(' ').enumerate() {
         for others in ['\u{E4}', '\u{436}', '\u{6F22}', '\u{1F600}'] {
             assert!(rt;
@@ -145,7 +149,9 @@ fn among_longer_characters(rt: HostRuntime) {
                 "{text}"
             );
         }
+        count = count.saturating_add(1);
     }
+    assert!(rt; count == 4);
     for others in ['\u{E4}', '\u{6F22}', '\u{1F600}'] {
         assert!(rt;
             agree_over_lengths(5, 201, others, &[0xED, 0xA0]),
@@ -168,14 +174,17 @@ fn agree_in_long_text(place: usize, sequence: &[u8]) -> bool {
 /// Where a text is validated piece by piece.
 #[test]
 fn over_the_seam_of_pieces(rt: HostRuntime) {
+    let mut count = 0u32;
     for place in 4088..4100 {
         for text in "\u{5D0} \u{6F22} \u{202B} \u{1F600} \u{10800}".split(' ') {
             assert!(rt;
                 agree_in_long_text(place, text.as_bytes()),
                 "{text}, {place}"
             );
+            count = count.saturating_add(1);
         }
         assert!(rt; agree_in_long_text(place, &[0xE6, 0xBC]), "{place}");
         assert!(rt; agree_in_long_text(place, &[0xFF]), "{place}");
     }
+    assert!(rt; count == 12 * 5);
 }

@@ -11,6 +11,10 @@ mod block_seams;
 #[cfg(test)]
 mod checks_at_each_place;
 #[cfg(test)]
+mod conversion_walks;
+#[cfg(test)]
+mod long_units;
+#[cfg(test)]
 mod seam_rooms;
 #[cfg(test)]
 mod seam_rooms_to_utf8;

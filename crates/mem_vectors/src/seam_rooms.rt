@@ -6,8 +6,8 @@ use encoding_text::mem::convert_str_to_utf16;
 use encoding_text::utf_8::convert_utf8_to_utf16_up_to_invalid;
 use std::alloc::{AllocError, Global};
 use std::test::Fail;
-use test_support::decoder_vectors::{Expected, Vector, vectors};
-use test_support::texts::{are_units_written, are_written};
+use test_vectors::decoder_vectors::{Expected, Vector, vectors};
+use test_vectors::texts::{are_units_written, are_written};
 
 /// Characters that stand round a vector.
 pub(crate) const FILLERS: [char; 4] = ['a', '\u{430}', '\u{4E00}', '\u{1F600}'];
@@ -307,13 +307,16 @@ fn holds_among(
 #[test]
 fn vectors_into_each_room(rt: HostRuntime) -> Result<(), Fail> {
     let mut turn = 0;
+    let mut count = 0u32;
     for vector in &vectors(rt.alloc())? {
         if !vector.bytes.ends_with(b"Z") {
+            count = count.saturating_add(1);
             for filler in &FILLERS {
                 let holds = holds_among(rt.alloc(), *filler, vector, &mut turn)?;
                 assert!(rt; holds, "{}", vector.row);
             }
         }
     }
+    assert!(rt; count == 52);
     Ok(())
 }

@@ -8,7 +8,7 @@ use encoding_text::mem::{
 };
 use std::alloc::{AllocError, Global};
 use std::test::Fail;
-use test_support::encoder_vectors::{Source, limits, vectors};
+use test_vectors::encoder_vectors::{Source, limits, vectors};
 
 /// Code units, their UTF-8, and the code units and bytes up to the end of each character.
 #[derive(Drop)]
@@ -131,7 +131,8 @@ fn units_hold(
 #[test]
 fn units_into_each_room(rt: HostRuntime) -> Result<(), Fail> {
     let mut turn = 0;
-    for row in &vectors(rt.alloc())? {
+    let vectors = vectors(rt.alloc())?;
+    for row in &vectors {
         for filler in &FILLERS {
             assert!(rt;
                 units_hold(rt.alloc(), *filler, row, &mut turn)?,
@@ -140,7 +141,8 @@ fn units_into_each_room(rt: HostRuntime) -> Result<(), Fail> {
             );
         }
     }
-    for row in &limits(rt.alloc())? {
+    let limits = limits(rt.alloc())?;
+    for row in &limits {
         for filler in &FILLERS {
             assert!(rt;
                 units_hold(rt.alloc(), *filler, row, &mut turn)?,
@@ -149,6 +151,7 @@ fn units_into_each_room(rt: HostRuntime) -> Result<(), Fail> {
             );
         }
     }
+    assert!(rt; vectors.len() == 16 && limits.len() == 34);
     Ok(())
 }
 

@@ -9,7 +9,7 @@ use encoding_text::mem::{
 };
 
 /// Whether bytes are well-formed, by std.
-fn is_text(bytes: &[u8]) -> bool
+pub fn is_text(bytes: &[u8]) -> bool
     ensures { IsTrue result ↔ IsUtf8 bytes.now }
 {
     std::str::from_utf8(bytes).is_ok()

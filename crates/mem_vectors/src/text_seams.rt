@@ -4,7 +4,7 @@ use crate::block_seams::{FILLERS_IN_TEXT, around};
 use encoding_text::mem::{convert_str_to_utf16, convert_utf8_to_utf16};
 use std::alloc::Global;
 use std::test::Fail;
-use test_support::texts::{are_units_written, bytes_of, field, units_of};
+use test_vectors::texts::{are_units_written, bytes_of, field, units_of};
 
 /// Characters that stand round another, in UTF-8 and UTF-16.
 const FILLERS: &str = "\
@@ -78,6 +78,7 @@ fn text_holds(bytes: &[u8], units: &[u16]) -> bool {
 
 #[test]
 fn characters_at_each_place(rt: HostRuntime) -> Result<(), Fail> {
+    let mut count = 0u32;
     for filler in FILLERS.lines() {
         for edge in EDGES.lines() {
             for before in 0..FILLERS_IN_TEXT + 1 {
@@ -85,20 +86,25 @@ fn characters_at_each_place(rt: HostRuntime) -> Result<(), Fail> {
                 let holds = bytes_hold(&bytes, &units) && text_holds(&bytes, &units);
                 assert!(rt; holds, "{filler}, {edge}, {before}");
             }
+            count = count.saturating_add(1);
         }
     }
+    assert!(rt; count == 4 * 9);
     Ok(())
 }
 
 #[test]
 fn broken_parts_at_each_place(rt: HostRuntime) -> Result<(), Fail> {
+    let mut count = 0u32;
     for filler in FILLERS.lines() {
         for edge in BROKEN.lines() {
             for before in 0..FILLERS_IN_TEXT + 1 {
                 let (bytes, units) = texts_of(rt.alloc(), filler, before, edge)?;
                 assert!(rt; bytes_hold(&bytes, &units), "{filler}, {edge}, {before}");
             }
+            count = count.saturating_add(1);
         }
     }
+    assert!(rt; count == 4 * 6);
     Ok(())
 }

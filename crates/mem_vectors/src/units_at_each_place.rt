@@ -5,7 +5,7 @@ use encoding_text::mem::{
     Latin1Bidi, check_utf16_for_latin1_and_bidi, ensure_utf16_validity, is_basic_latin,
     is_utf16_bidi, is_utf16_latin1, utf16_valid_up_to,
 };
-use test_support::right_to_left::is_in_a_range;
+use test_vectors::right_to_left::is_in_a_range;
 
 /// What the code units stand in.
 const ROOM: usize = 160;
@@ -19,7 +19,7 @@ fn is_low(unit: u16) -> bool {
 }
 
 /// Whether the code unit at a place is a surrogate that stands in no pair.
-fn is_lone(src: &[u16], place: usize) -> bool {
+pub fn is_lone(src: &[u16], place: usize) -> bool {
     let before = place.checked_sub(1).and_then(|at| src.get(at));
     let behind = place.checked_add(1).and_then(|at| src.get(at));
     match src.get(place) {

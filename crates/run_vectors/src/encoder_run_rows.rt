@@ -5,9 +5,9 @@ use encoding_runs::run::run_from_utf16;
 use encoding_text::utf_8::{EncoderResult, Utf8Encoder};
 use std::alloc::Global;
 use std::test::Fail;
-use test_support::encoder_vectors::{limits, vectors};
-use test_support::held_units::holds;
-use test_support::texts::{are_written, bytes_of, field, number_of, units_of};
+use test_vectors::encoder_vectors::{limits, vectors};
+use test_vectors::held_units::holds;
+use test_vectors::texts::{are_written, bytes_of, field, number_of, units_of};
 
 /// Source, turns, room of the destination, how much is read, the last answer, output, and what is held then.
 const ROWS: &str = "\

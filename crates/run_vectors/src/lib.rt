@@ -2,9 +2,13 @@
 #![tactic(auto)]
 
 #[cfg(test)]
+mod dense_rows;
+#[cfg(test)]
 mod encoder_run_rows;
 #[cfg(test)]
 mod long_streams;
+#[cfg(test)]
+mod repair_fault_rows;
 #[cfg(test)]
 mod repair_rows;
 #[cfg(test)]

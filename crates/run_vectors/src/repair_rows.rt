@@ -5,9 +5,9 @@ use encoding_text::utf_8::utf8_valid_up_to;
 use std::alloc::{AllocError, Global};
 use std::io::ErrorKind;
 use std::test::Fail;
-use test_support::decoder_vectors::{Expected, Vector, length_of, repaired_text, vectors};
 use test_support::streams::{Output, ROOM};
-use test_support::texts::{bytes_of, field};
+use test_vectors::decoder_vectors::{Expected, Vector, length_of, repaired_text, vectors};
+use test_vectors::texts::{bytes_of, field};
 
 fn is_broken(part: &Expected) -> bool {
     matches!(part, Expected::Broken(_))
@@ -56,9 +56,11 @@ fn is_repaired(alloc: Global, vector: &Vector) -> Result<bool, AllocError> {
 
 #[test]
 fn repairs_vectors(rt: HostRuntime) -> Result<(), Fail> {
-    for vector in &vectors(rt.alloc())? {
+    let vectors = vectors(rt.alloc())?;
+    for vector in &vectors {
         assert!(rt; is_repaired(rt.alloc(), vector)?, "{}", vector.row);
     }
+    assert!(rt; vectors.len() == 104);
     Ok(())
 }
 

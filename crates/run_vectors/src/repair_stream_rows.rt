@@ -5,9 +5,9 @@ use encoding_runs::repair::{RepairFault, Repaired, Sink, Source, Watch, repair};
 use std::alloc::Global;
 use std::io::{ErrorKind, Read};
 use std::test::Fail;
-use test_support::decoder_vectors::{Vector, repaired_text, vectors};
 use test_support::streams::{Endless, Input, Output, ROOM};
-use test_support::texts::{bytes_of, field, number_of};
+use test_vectors::decoder_vectors::{Vector, repaired_text, vectors};
+use test_vectors::texts::{bytes_of, field, number_of};
 
 /// The bytes that the reader gives; whether it ends behind them or fails; the limit; what is returned: a fault, or how
 /// many bytes were read and how many parts replaced; and what was written.
@@ -35,9 +35,12 @@ E2 98 E2 | fails | 9 | Read | EF BF BD
 ED A0 80 | fails | 9 | Read | EF BF BD EF BF BD EF BF BD";
 
 /// Returns what a field names: a fault, or two numbers.
-fn outcome_of(field: &str) -> Result<Result<Repaired, RepairFault>, Fail> {
+pub fn outcome_of(field: &str) -> Result<Result<Repaired, RepairFault>, Fail> {
     if field == "Read" {
         return Ok(Err(RepairFault::Read));
+    }
+    if field == "Write" {
+        return Ok(Err(RepairFault::Write));
     }
     if field == "Limit" {
         return Ok(Err(RepairFault::Limit));
@@ -50,7 +53,7 @@ fn outcome_of(field: &str) -> Result<Result<Repaired, RepairFault>, Fail> {
 }
 
 /// Whether a repair returns so and writes this text, and its streams failed exactly on their faults.
-fn repairs_to<R: Read>(
+pub fn repairs_to<R: Read>(
     reader: &mut R,
     writer: &mut Output,
     limit: u64,
@@ -123,13 +126,15 @@ fn is_repaired(vector: &Vector, text: &[u8], step: usize) -> bool {
 
 #[test]
 fn repairs_vectors(rt: HostRuntime) -> Result<(), Fail> {
-    for vector in &vectors(rt.alloc())? {
+    let vectors = vectors(rt.alloc())?;
+    for vector in &vectors {
         let text = repaired_text(rt.alloc(), vector)?;
         let holds = [1, 2, ROOM]
             .iter()
             .all(|step| is_repaired(vector, &text, *step));
         assert!(rt; holds, "{}", vector.row);
     }
+    assert!(rt; vectors.len() == 104);
     Ok(())
 }
 

@@ -4,8 +4,8 @@ use encoding_runs::run::{Outcome, Report, Turn, run_to_utf8, run_to_utf16};
 use encoding_text::decoder::{DecoderResult, Utf8Decoder};
 use std::alloc::{AllocError, Global};
 use std::test::Fail;
-use test_support::decoder_vectors::{Delivered, Vector, delivered_utf8, delivered_utf16, vectors};
-use test_support::texts::{are_units_written, are_written, bytes_of, field, number_of, units_of};
+use test_vectors::decoder_vectors::{Delivered, Vector, delivered_utf8, delivered_utf16, vectors};
+use test_vectors::texts::{are_units_written, are_written, bytes_of, field, number_of, units_of};
 
 /// Returns the last answer that a field names.
 fn result_of(field: &str) -> Result<Option<DecoderResult>, Fail> {
@@ -308,9 +308,11 @@ fn runs_to_utf16(alloc: Global, vector: &Vector) -> Result<bool, AllocError> {
 
 #[test]
 fn vectors_run_to_utf16(rt: HostRuntime) -> Result<(), Fail> {
-    for vector in &vectors(rt.alloc())? {
+    let vectors = vectors(rt.alloc())?;
+    for vector in &vectors {
         assert!(rt; runs_to_utf16(rt.alloc(), vector)?, "{}", vector.row);
     }
+    assert!(rt; vectors.len() == 104);
     Ok(())
 }
 
@@ -322,8 +324,10 @@ fn runs_to_utf8(alloc: Global, vector: &Vector) -> Result<bool, AllocError> {
 
 #[test]
 fn vectors_run_to_utf8(rt: HostRuntime) -> Result<(), Fail> {
-    for vector in &vectors(rt.alloc())? {
+    let vectors = vectors(rt.alloc())?;
+    for vector in &vectors {
         assert!(rt; runs_to_utf8(rt.alloc(), vector)?, "{}", vector.row);
     }
+    assert!(rt; vectors.len() == 104);
     Ok(())
 }

@@ -2,7 +2,7 @@
 #![tactic(auto)]
 
 pub mod service;
-pub mod streams;
+mod streams;
 #[cfg(test)]
 mod tests;
 
@@ -10,7 +10,7 @@ use service::{NO_ARGUMENTS, report, serve};
 use std::cell::Cell;
 use std::env;
 use std::process::ExitCode;
-use streams::{ReadAhead, WriteBehind};
+use streams::{Due, ReadAhead, WriteBehind};
 
 /// The length of the arrays between the engine and the standard streams: as many bytes as a pipe holds.
 const ROOM: usize = 0x10000;
@@ -24,8 +24,8 @@ fn main(rt: HostRuntime) -> ExitCode {
         return ExitCode::from(NO_ARGUMENTS);
     };
     let count = arguments.count().saturating_sub(1);
-    let last = Cell::new(true);
-    let mut reader: ReadAhead<'_, _, ROOM> = ReadAhead::new(rt.stdin(), &last);
-    let mut writer: WriteBehind<'_, _, ROOM> = WriteBehind::new(rt.stdout(), &last);
+    let due = Cell::new(Due::Each);
+    let mut reader: ReadAhead<'_, _, ROOM> = ReadAhead::new(rt.stdin(), &due);
+    let mut writer: WriteBehind<'_, _, ROOM> = WriteBehind::new(rt.stdout(), &due);
     ExitCode::from(serve(count, &mut reader, &mut writer, &mut errors))
 }

@@ -1,11 +1,11 @@
 //! One run of the program, over any three streams.
-ghost use Rattle.std.specs.Prelude.{◌≡◌, ℕ, ◌<◌, ◌≤◌, ◌↔◌, Bool, List, length, IfOk};
+ghost use Rattle.std.specs.Prelude.{◌≡◌, ℕ, ◌<◌, ◌≤◌, ◌↔◌, Bool, false, List, length, IsTrue, OnOk, OnErr};
 ghost use Rattle.std.specs.Result.{IsOkAnd};
 ghost use Rattle.encoding_runs.specs.Repairs.{RepairsAll, RepairsFront, RepairsSettled};
 ghost use Rattle.utf8_repair.specs.Service.{RepairsSome, WritesFrontOf, line_of};
 
-use encoding_runs::repair::{RepairFault, Repaired, Watch, repair};
-use std::io::{Read, Write};
+use encoding_runs::repair::{RepairFault, Repaired, Sink, Source, Watch, repair};
+use std::io::{self, Read, Write};
 
 const UNCHANGED: u8 = 0;
 
@@ -21,33 +21,14 @@ const LIMIT: u8 = 5;
 
 pub(crate) const NO_ARGUMENTS: u8 = 6;
 
-/// Writes what the reader gives, repaired, up to its end or a fault.
-fn repair_stream<R: Read, W: Write>(reader: &mut R, writer: &mut W) -> Result<Repaired, RepairFault>
-    ensures ok { IfOk result (λ repaired. (bytes : List ℕ) × RepairsAll bytes (R.remaining reader.old) (R.remaining reader.new)
-        (W.contents writer.old) (W.contents writer.new) repaired.replaced) }
-    ensures read_fault { result ≡ Err RepairFault.Read → (bytes : List ℕ)
-        × RepairsSettled bytes (R.remaining reader.old) (R.remaining reader.new)
-        (W.contents writer.old) (W.contents writer.new) }
-    ensures write_fault { result ≡ Err RepairFault.Write → (bytes : List ℕ) × (ended : Bool)
-        × RepairsFront bytes ended (R.remaining reader.old) (R.remaining reader.new)
-        (W.contents writer.old) (W.contents writer.new) }
-    ensures limit { result ≡ Err RepairFault.Limit → (bytes : List ℕ) × (length bytes ≡ u64.MAX)
-        × RepairsSettled bytes (R.remaining reader.old) (R.remaining reader.new)
-        (W.contents writer.old) (W.contents writer.new) }
-{
-    let mut source = Watch::new(reader);
-    let mut sink = Watch::new(writer);
-    repair(&mut source, &mut sink, u64::MAX)
-}
-
 /// Returns the status of what the engine returned.
 fn status_of(outcome: Result<Repaired, RepairFault>) -> u8
     ensures status { (result ≤ 5) × (result ≡ 2 → ⊥) }
     ensures unchanged { result ≡ 0 → IsOkAnd outcome (λ repaired. repaired.replaced ≡ 0) }
     ensures replaced { result ≡ 1 → IsOkAnd outcome (λ repaired. 0 < repaired.replaced) }
-    ensures read_fault { result ≡ 3 → outcome ≡ Err RepairFault.Read }
-    ensures write_fault { result ≡ 4 → outcome ≡ Err RepairFault.Write }
-    ensures limit { result ≡ 5 → outcome ≡ Err RepairFault.Limit }
+    ensures read_fault { (result ≡ 3) ↔ (outcome ≡ Err RepairFault.Read) }
+    ensures write_fault { (result ≡ 4) ↔ (outcome ≡ Err RepairFault.Write) }
+    ensures limit { (result ≡ 5) ↔ (outcome ≡ Err RepairFault.Limit) }
 {
     match outcome {
         Ok(repaired) => {
@@ -60,6 +41,71 @@ fn status_of(outcome: Result<Repaired, RepairFault>) -> u8
         Err(RepairFault::Read) => READ_FAULT,
         Err(RepairFault::Write) => WRITE_FAULT,
         Err(RepairFault::Limit) => LIMIT,
+    }
+}
+
+/// Writes what the source gives, repaired, up to its end or a fault, and returns the status: where neither stream had
+/// failed before, 3 exactly if the source has failed then, and 4 exactly if the sink has.
+fn repair_source<R: Source, W: Sink>(source: &mut R, sink: &mut W) -> u8
+    ensures status { (result ≤ 5) × (result ≡ 2 → ⊥) }
+    ensures unchanged { result ≡ 0 → (bytes : List ℕ) × RepairsAll bytes (R.remaining source.old) (R.remaining source.new)
+        (W.contents sink.old) (W.contents sink.new) 0 }
+    ensures replaced { result ≡ 1 → (bytes : List ℕ) × (n : ℕ) × (0 < n)
+        × RepairsAll bytes (R.remaining source.old) (R.remaining source.new)
+        (W.contents sink.old) (W.contents sink.new) n }
+    ensures read_fault { result ≡ 3 → (bytes : List ℕ)
+        × RepairsSettled bytes (R.remaining source.old) (R.remaining source.new)
+        (W.contents sink.old) (W.contents sink.new) }
+    ensures write_fault { result ≡ 4 → R.has_ended source.old ≡ false → (bytes : List ℕ) × (ended : Bool)
+        × RepairsFront bytes ended (R.remaining source.old) (R.remaining source.new)
+        (W.contents sink.old) (W.contents sink.new) }
+    ensures limit { result ≡ 5 → (bytes : List ℕ) × (length bytes ≡ u64.MAX)
+        × RepairsSettled bytes (R.remaining source.old) (R.remaining source.new)
+        (W.contents sink.old) (W.contents sink.new) }
+    ensures front { R.has_ended source.old ≡ false → (bytes : List ℕ)
+        × RepairsSome bytes (R.remaining source.old) (R.remaining source.new)
+        (W.contents sink.old) (W.contents sink.new) }
+    ensures source_failed { R.has_failed source.old ≡ false → W.has_failed sink.old ≡ false
+        → (IsTrue (R.has_failed source.new) ↔ (result ≡ 3)) }
+    ensures sink_failed { R.has_failed source.old ≡ false → W.has_failed sink.old ≡ false
+        → (IsTrue (W.has_failed sink.new) ↔ (result ≡ 4)) }
+    ensures source_stream { R.stream source.new ≡ R.stream source.old }
+    ensures sink_keeps { W.keeps sink.old sink.new }
+{
+    let outcome = repair(source, sink, u64::MAX);
+    status_of(outcome)
+}
+
+/// Writes what the reader gives, repaired, up to its end or a fault, and returns the status.
+fn repair_stream<R: Read, W: Write>(reader: &mut R, writer: &mut W) -> u8
+    ensures status { (result ≤ 5) × (result ≡ 2 → ⊥) }
+    ensures unchanged { result ≡ 0 → (bytes : List ℕ) × RepairsAll bytes (R.remaining reader.old) (R.remaining reader.new)
+        (W.contents writer.old) (W.contents writer.new) 0 }
+    ensures replaced { result ≡ 1 → (bytes : List ℕ) × (n : ℕ) × (0 < n)
+        × RepairsAll bytes (R.remaining reader.old) (R.remaining reader.new)
+        (W.contents writer.old) (W.contents writer.new) n }
+    ensures read_fault { result ≡ 3 → (bytes : List ℕ)
+        × RepairsSettled bytes (R.remaining reader.old) (R.remaining reader.new)
+        (W.contents writer.old) (W.contents writer.new) }
+    ensures limit { result ≡ 5 → (bytes : List ℕ) × (length bytes ≡ u64.MAX)
+        × RepairsSettled bytes (R.remaining reader.old) (R.remaining reader.new)
+        (W.contents writer.old) (W.contents writer.new) }
+    ensures front { (bytes : List ℕ) × RepairsSome bytes (R.remaining reader.old) (R.remaining reader.new)
+        (W.contents writer.old) (W.contents writer.new) }
+{
+    let mut source = Watch::new(reader);
+    let mut sink = Watch::new(writer);
+    repair_source(&mut source, &mut sink)
+}
+
+/// Returns the status of a run behind its flush: 4 where that failed, and else what it was.
+fn status_behind(status: u8, flushed: io::Result<()>) -> u8
+    ensures failed { OnErr flushed (result ≡ 4) }
+    ensures flushed { OnOk flushed (result ≡ status) }
+{
+    match flushed {
+        Ok(()) => status,
+        Err(_) => WRITE_FAULT,
     }
 }
 
@@ -81,11 +127,8 @@ fn repair_and_flush<R: Read, W: Write>(reader: &mut R, writer: &mut W) -> u8
         × RepairsSettled bytes (R.remaining reader.old) (R.remaining reader.new)
         (W.contents writer.old) (W.contents writer.new) }
 {
-    let outcome = repair_stream(reader, writer);
-    if writer.flush().is_err() {
-        return WRITE_FAULT;
-    }
-    status_of(outcome)
+    let status = repair_stream(reader, writer);
+    status_behind(status, writer.flush())
 }
 
 /// The line that goes with a status: empty where nothing is said.

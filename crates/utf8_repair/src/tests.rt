@@ -1,7 +1,12 @@
 //! Runs over streams in memory.
 mod buffers;
+mod error_lines;
+mod faults;
+mod late_statuses;
+mod lines;
 mod long_streams;
 mod peers;
+mod slow_peers;
 
 use crate::service::{report, serve};
 use std::io::{ErrorKind, Read};
@@ -264,9 +269,11 @@ fn all_runs_are() -> bool {
     all
 }
 
-/// Every request for memory is refused while they run.
+/// Every request for memory is refused while they run. They run once before, so that the stack has its pages: it can't
+/// grow where memory is used up.
 #[test]
 fn takes_no_memory(rt: HostRuntime) -> Result<(), Fail> {
+    assert!(rt; all_runs_are());
     let held = exhaust(rt.alloc())?;
     let all = all_runs_are();
     let refused = Vec::<u8>::with_capacity(rt.alloc(), 1).is_err();

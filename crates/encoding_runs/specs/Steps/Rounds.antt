@@ -1,7 +1,7 @@
 -- Steps of the engine: what one round reads, and how far the rounds have come.
 use Rattle.std.specs.Prelude.{◌≡◌, ℕ, ◌<◌, ◌≤◌, Bool, true, false, List, [], length, Option}
 use Rattle.std.specs.Io.KnownBytes.{Consumes, IsAtEnd}
-use Rattle.encoding_base.specs.Pending.{IsPending}
+use Rattle.encoding_definitions.specs.Pending.{IsPending}
 use Rattle.encoding_runs.specs.Steps.Writing.{WritesParts}
 
 -- One read into so much room gave these bytes; there were none exactly where it saw the end.

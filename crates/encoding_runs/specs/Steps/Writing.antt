@@ -1,9 +1,9 @@
 -- Steps of the engine: the text of how many parts it has written.
 use Rattle.std.specs.Prelude.{◌≡◌, ℕ, Bool, false, List, [], ◌∷◌, ◌++◌, Option, encode_utf8}
 use Rattle.std.specs.Io.KnownBytes.{Appends}
-use Rattle.encoding_base.specs.Parts.{Part, StartsWith, repaired_text, count_broken}
-use Rattle.encoding_base.specs.declared.decoder.Piece.{Piece}
-use Rattle.encoding_base.specs.declared.decoder.Piece.TheVariants.{Text, Char, Malformed, InputEmpty}
+use Rattle.encoding_definitions.specs.Parts.{Part, StartsWith, repaired_text, count_broken}
+use Rattle.encoding_text.specs.declared.decoder.Piece.{Piece}
+use Rattle.encoding_text.specs.declared.decoder.Piece.TheVariants.{Text, Char, Malformed, InputEmpty}
 use Rattle.encoding_runs.specs.Repairs.{IsProperFront}
 
 -- what is written for a piece: U+FFFD for a broken part

@@ -1,11 +1,12 @@
 //! The engine: text goes out as it is, and U+FFFD for each broken part.
 ghost use Rattle.std.specs.Prelude.{◌≡◌, ◌≢◌, ℕ, ◌<◌, ◌≤◌, ◌↔◌, Bool, true, false, List, [], ◌++◌, length, take, IfOk, IfErr, IsTrue};
 ghost use Rattle.std.specs.Io.KnownBytes.{Appends, Keeps};
-ghost use Rattle.encoding_base.specs.Pending.{IsPending};
+ghost use Rattle.encoding_definitions.specs.Pending.{IsPending};
 ghost use Rattle.encoding_runs.specs.Repairs.{RepairsAll, RepairsFront, RepairsSettled, Stops, WritesRepaired};
 ghost use Rattle.encoding_runs.specs.Steps.Rounds.{ReadsRound};
 ghost use Rattle.encoding_runs.specs.Steps.Writing.{StopsInParts, WritesParts, broken_of, text_of};
 
+use super::front::{REPLACEMENT, repair_front};
 use super::streams::{Sink, Source};
 use encoding_text::decoder::{Piece, Utf8Decoder};
 
@@ -30,8 +31,11 @@ pub struct Repaired {
 /// How many bytes are read at a time at most.
 const ROUND: usize = 1024;
 
-/// U+FFFD in UTF-8.
-const REPLACEMENT: [u8; 3] = [0xEF, 0xBF, 0xBD];
+/// How many bytes wait for a write at most: U+FFFD for each byte of a round.
+const ROOM: usize = 3 * ROUND;
+
+/// How many bytes wait at most where a slice is repaired: a short one isn't worth the zeros of a long array.
+const SLICE_ROOM: usize = 192;
 
 /// Writes all of the bytes, each once, by as many writes as that takes.
 fn write_whole<W: Sink>(writer: &mut W, bytes: &[u8]) -> Result<(), RepairFault>
@@ -39,7 +43,7 @@ fn write_whole<W: Sink>(writer: &mut W, bytes: &[u8]) -> Result<(), RepairFault>
         × (W.has_failed writer.new ≡ W.has_failed writer.old)) }
     ensures err { IfErr result (λ fault. (fault ≡ RepairFault.Write) × (W.has_failed writer.new ≡ true)
         × (n : ℕ) × (n < length bytes.now) × Appends (W.contents writer.old) (W.contents writer.new) (take n bytes.now)) }
-    ensures stream { W.stream writer.new ≡ W.stream writer.old }
+    ensures keeps { W.keeps writer.old writer.new }
 {
     let mut at = 0;
     while at < bytes.len() {
@@ -59,7 +63,7 @@ fn write_piece<W: Sink>(writer: &mut W, piece: Piece<'_>) -> Result<u64, RepairF
     ensures err { IfErr result (λ fault. (fault ≡ RepairFault.Write) × (W.has_failed writer.new ≡ true)
         × (n : ℕ) × (n < length (text_of piece.entry))
         × Appends (W.contents writer.old) (W.contents writer.new) (take n (text_of piece.entry))) }
-    ensures stream { W.stream writer.new ≡ W.stream writer.old }
+    ensures keeps { W.keeps writer.old writer.new }
 {
     match piece {
         Piece::Text(text) => write_whole(writer, text.as_bytes())?,
@@ -82,6 +86,7 @@ fn write_parts<W: Sink>(
     decoder: &mut Utf8Decoder,
     src: &[u8],
     last: bool,
+    array: &mut [u8],
     writer: &mut W,
 ) -> Result<u64, RepairFault>
     requires unfinished { IsPending decoder.old }
@@ -91,7 +96,7 @@ fn write_parts<W: Sink>(
         × (W.has_failed writer.new ≡ W.has_failed writer.old)) }
     ensures err { IfErr result (λ fault. (fault ≡ RepairFault.Write) × (W.has_failed writer.new ≡ true)
         × StopsInParts last (decoder.old ++ src.now) (W.contents writer.old) (W.contents writer.new)) }
-    ensures stream { W.stream writer.new ≡ W.stream writer.old }
+    ensures keeps { W.keeps writer.old writer.new }
 {
     let mut rest = src;
     let mut replaced = 0;
@@ -106,6 +111,11 @@ fn write_parts<W: Sink>(
             return Ok(replaced);
         }
         rest = &rest[read..];
+        // broken parts often stand together: they go out by one write, with the characters between
+        let front = repair_front(rest, array);
+        write_whole(writer, &array[..front.written])?;
+        replaced += front.replaced as u64;
+        rest = &rest[front.read..];
     }
 }
 
@@ -122,10 +132,11 @@ pub fn repair_slice<W: Sink>(src: &[u8], writer: &mut W) -> Result<u64, RepairFa
         × Stops src.now (W.contents writer.old) (W.contents writer.new)) }
     ensures failed { W.has_failed writer.old ≡ false
         → (IsTrue (W.has_failed writer.new) ↔ (result ≡ Err RepairFault.Write)) }
-    ensures stream { W.stream writer.new ≡ W.stream writer.old }
+    ensures keeps { W.keeps writer.old writer.new }
 {
     let mut decoder = Utf8Decoder::new_inner();
-    write_parts(&mut decoder, src, true, writer)
+    let mut array = [0; SLICE_ROOM];
+    write_parts(&mut decoder, src, true, &mut array, writer)
 }
 
 /// One round: reads once into the buffer, and writes all that this gave, behind what is pending; at the end the
@@ -134,6 +145,7 @@ fn repair_round<R: Source, W: Sink>(
     decoder: &mut Utf8Decoder,
     reader: &mut R,
     buffer: &mut [u8],
+    array: &mut [u8],
     writer: &mut W,
 ) -> Result<Repaired, RepairFault>
     requires unfinished { IsPending decoder.old }
@@ -153,12 +165,12 @@ fn repair_round<R: Source, W: Sink>(
         × (R.has_failed reader.new ≡ R.has_failed reader.old) × (W.has_failed writer.new ≡ true) }
     ensures no_limit { result ≢ Err RepairFault.Limit }
     ensures reader_stream { R.stream reader.new ≡ R.stream reader.old }
-    ensures writer_stream { W.stream writer.new ≡ W.stream writer.old }
+    ensures writer_keeps { W.keeps writer.old writer.new }
 {
     let Some(count) = reader.read(buffer) else {
         return Err(RepairFault::Read);
     };
-    let replaced = write_parts(decoder, &buffer[..count], count == 0, writer)?;
+    let replaced = write_parts(decoder, &buffer[..count], count == 0, array, writer)?;
     Ok(Repaired {
         read: count as u64,
         replaced,
@@ -196,14 +208,21 @@ pub fn repair<R: Source, W: Sink>(
     ensures writer_failed { R.has_failed reader.old ≡ false → W.has_failed writer.old ≡ false
         → (IsTrue (W.has_failed writer.new) ↔ (result ≡ Err RepairFault.Write)) }
     ensures reader_stream { R.stream reader.new ≡ R.stream reader.old }
-    ensures writer_stream { W.stream writer.new ≡ W.stream writer.old }
+    ensures writer_keeps { W.keeps writer.old writer.new }
 {
     let mut decoder = Utf8Decoder::new_inner();
     let mut buffer = [0; ROUND];
+    let mut array = [0; ROOM];
     let (mut read, mut replaced) = (0, 0);
     while read < limit {
         let room = (limit - read).min(ROUND as u64) as usize;
-        let round = repair_round(&mut decoder, reader, &mut buffer[..room], writer)?;
+        let round = repair_round(
+            &mut decoder,
+            reader,
+            &mut buffer[..room],
+            &mut array,
+            writer,
+        )?;
         read += round.read;
         replaced += round.replaced;
         if round.read == 0 {

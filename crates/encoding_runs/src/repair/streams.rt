@@ -1,5 +1,6 @@
 //! Streams that say whether they failed, and whether their end was seen.
-ghost use Rattle.std.specs.Prelude.{◌≡◌, ℕ, ◌<◌, ◌≤◌, Bool, false, List, length, Option, IfSome};
+ghost use Rattle.std.specs.Prelude.{◌≡◌, ℕ, ◌<◌, ◌≤◌, Bool, false, List, length, Option, IfSome, refl};
+ghost use Rattle.std.proofs.Common.{◌∙◌};
 ghost use Rattle.std.specs.Borrow.{GName};
 ghost use Rattle.encoding_runs.specs.Streams.{ReadMoves, WriteMoves, FailsOnNone, EndsOnZero, watched_stream, watch_failed, watch_ended};
 
@@ -42,21 +43,25 @@ pub trait Sink {
 
     ghost has_failed: { Self → Bool };
 
-    // Which stream takes the bytes: a sink over a borrowed one writes to the same one all along.
-    ghost stream: { Self → GName } = { λ _. 0 };
+    // What no write changes, of a sink before and after it: which stream takes the bytes, and of a buffer what is behind them.
+    ghost keeps: { Self → Self → Type 0 };
 
     /// Whether a write failed.
     fn failed(&self) -> bool
         ensures { result ≡ has_failed self.now };
 
-    /// Takes some of the bytes from the first on, and returns how many, at least one. `None` is a failure:
-    /// no byte was taken, and `failed` is true from then on.
+    /// Takes some of the bytes, of which there has to be at least one, from the first on, and returns how many, at least
+    /// one. `None` is a failure: no byte was taken, and `failed` is true from then on.
     fn write(&mut self, bytes: &[u8]) -> Option<usize>
         requires not_empty { 0 < length bytes.now }
         ensures bound { IfSome result (λ n. (0 < n) × (n ≤ length bytes.now)) }
         ensures bytes { WriteMoves (contents self.old) (contents self.new) result bytes.now }
         ensures failed { FailsOnNone result (has_failed self.old) (has_failed self.new) }
-        ensures stream { stream self.new ≡ stream self.old };
+        ensures keeps { keeps self.old self.new };
+
+    ghost keeps_itself: { (sink : Self) → keeps sink sink };
+
+    ghost keeps_on: { (first second third : Self) → keeps first second → keeps second third → keeps first third };
 }
 
 /// A stream with whether it failed, and whether its end was seen. A call that its stream returns an error from is a
@@ -125,15 +130,26 @@ impl<'a, T: Write> Sink for Watch<'a, T> {
 
     ghost has_failed = { λ w. watch_failed w };
 
-    ghost stream = { λ w. (watched_stream w).ghost_name };
+    ghost keeps = { λ old new. (watched_stream new).ghost_name ≡ (watched_stream old).ghost_name };
+
+    ghost keeps_itself = { λ _. refl };
+
+    ghost keeps_on = { λ _ _ _ before after. after ∙ before };
 
     /// Whether a call failed.
     fn failed(&self) -> bool {
         self.failed
     }
 
-    /// Writes to the stream.
-    fn write(&mut self, bytes: &[u8]) -> Option<usize> {
+    /// Writes to the stream. Whether its end was seen stays as it was.
+    fn write(&mut self, bytes: &[u8]) -> Option<usize>
+        requires not_empty { 0 < length bytes.now }
+        ensures bound { IfSome result (λ n. (0 < n) × (n ≤ length bytes.now)) }
+        ensures bytes { WriteMoves (T.contents (watched_stream self.old).now) (T.contents (watched_stream self.new).now) result bytes.now }
+        ensures failed { FailsOnNone result (watch_failed self.old) (watch_failed self.new) }
+        ensures keeps { (watched_stream self.new).ghost_name ≡ (watched_stream self.old).ghost_name }
+        ensures ended { watch_ended self.new ≡ watch_ended self.old }
+    {
         match self.inner.write(bytes) {
             Ok(count) if count > 0 => Some(count),
             _ => {

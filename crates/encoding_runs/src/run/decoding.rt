@@ -2,10 +2,12 @@
 ghost use Rattle.std.specs.Prelude.{ℕ, ◌+◌, ◌-◌, ◌<◌, ◌≤◌, List, length, take, encode_utf8};
 ghost use Rattle.std.specs.Char.{IsScalar};
 ghost use Rattle.std.specs.Char.Escape.{encode_utf16};
-ghost use Rattle.encoding_base.specs.Fronts.{WritesFront};
-ghost use Rattle.encoding_base.specs.Decoding.{Decodes, IsCall, utf16_room, utf8_room};
+ghost use Rattle.encoding_definitions.specs.Fronts.{WritesFront};
+ghost use Rattle.encoding_text.specs.Decoding.{Decodes, IsCall, utf16_room, utf8_room};
 ghost use Rattle.encoding_runs.specs.Turns.{room_of, is_marked_last};
-ghost use Rattle.encoding_runs.specs.Runs.{Delivers, Completes, report_of};
+ghost use Rattle.encoding_runs.specs.Runs.{Completes};
+ghost use Rattle.encoding_runs.specs.DecoderRuns.{Delivers};
+ghost use Rattle.encoding_runs.specs.Steps.Reports.{report_of};
 
 use super::turns::Turn;
 use encoding_text::decoder::{DecoderResult, Utf8Decoder};
@@ -133,8 +135,8 @@ fn run<U: Decoded>(
     requires short { (c : ℕ) → IsScalar c → length (U.encode c) ≤ length (encode_utf8 c) }
     ensures delivers { Delivers U.encode U.need decoder.old src.now turns.now dst.old dst.new reports.old reports.new
         result decoder.new }
-    ensures completes { Completes (λ n pending. n + (U.need - 1) + pending) U.need decoder.old src.now turns.now
-        (length dst.old) result.result }
+    ensures completes { Completes DecoderResult.InputEmpty (λ n pending. n + (U.need - 1) + pending) U.need
+        decoder.old src.now turns.now (length dst.old) result.result }
 {
     // Without turns nothing else says that what is pending is nothing or a beginning.
     let _neutral = decoder.in_neutral_state();
@@ -179,7 +181,8 @@ pub fn run_to_utf16(
     requires places { length turns.now ≤ length reports.old }
     ensures delivers { Delivers encode_utf16 2 decoder.old src.now turns.now dst.old dst.new reports.old reports.new
         result decoder.new }
-    ensures completes { Completes utf16_room 2 decoder.old src.now turns.now (length dst.old) result.result }
+    ensures completes { Completes DecoderResult.InputEmpty utf16_room 2 decoder.old src.now turns.now (length dst.old)
+        result.result }
 {
     run::<u16>(decoder, src, turns, dst, reports)
 }
@@ -198,7 +201,8 @@ pub fn run_to_utf8(
     requires places { length turns.now ≤ length reports.old }
     ensures delivers { Delivers encode_utf8 4 decoder.old src.now turns.now dst.old dst.new reports.old reports.new
         result decoder.new }
-    ensures completes { Completes utf8_room 4 decoder.old src.now turns.now (length dst.old) result.result }
+    ensures completes { Completes DecoderResult.InputEmpty utf8_room 4 decoder.old src.now turns.now (length dst.old)
+        result.result }
 {
     run::<u8>(decoder, src, turns, dst, reports)
 }

@@ -1,9 +1,10 @@
 //! Runs of an encoder.
-ghost use Rattle.std.specs.Prelude.{◌≤◌, length, take};
-ghost use Rattle.encoding_base.specs.Fronts.{WritesFront};
-ghost use Rattle.encoding_base.specs.Encoding.{IsEncoderCall};
+ghost use Rattle.std.specs.Prelude.{◌+◌, ◌*◌, ◌≤◌, length, take};
+ghost use Rattle.encoding_definitions.specs.Fronts.{WritesFront};
+ghost use Rattle.encoding_text.specs.Encoding.{IsEncoderCall};
 ghost use Rattle.encoding_runs.specs.Turns.{room_of, is_marked_last};
-ghost use Rattle.encoding_runs.specs.EncoderRuns.{EncodesByTurns, CompletesEncoding};
+ghost use Rattle.encoding_runs.specs.Runs.{Completes};
+ghost use Rattle.encoding_runs.specs.EncoderRuns.{EncodesByTurns};
 
 use super::turns::Turn;
 use encoding_text::utf_8::{EncoderResult, Utf8Encoder};
@@ -58,7 +59,8 @@ pub fn run_from_utf16(
     dst: &mut [u8],
 ) -> EncodeOutcome
     ensures delivers { EncodesByTurns encoder.old src.now turns.now dst.old dst.new result encoder.new }
-    ensures completes { CompletesEncoding encoder.old src.now turns.now (length dst.old) result.result }
+    ensures completes { Completes EncoderResult.InputEmpty (λ n held. 3 * (n + held)) 4 encoder.old src.now turns.now
+        (length dst.old) result.result }
 {
     // Its contract says that at most one unit is held, also where there are no turns.
     let _room = encoder.max_buffer_length_from_utf16_without_replacement(0);

@@ -6,14 +6,14 @@ use Rattle.std.specs.Str.{all_scalars}
 use Rattle.std.proofs.lemmas.List.{append_assoc, length-append, length-drop, length-take, take_rest, drop-drop, take-append-drop}
 use Rattle.std.proofs.lemmas.Grind.{flat_map-append}
 use borrow.Rule.Slice.PartMut.{put_mid}
-use Rattle.encoding_base.specs.Parts.{Part, Character, Broken, IsFirstPart, StartsWith, ArePartsOf, repaired_scalar, repaired_utf16}
-use Rattle.encoding_base.specs.Fronts.{WritesFront}
-use Rattle.encoding_base.specs.Decoding.{Decodes}
-use Rattle.encoding_base.specs.declared.decoder.DecoderResult.TheVariants.{InputEmpty, Malformed}
-use Rattle.encoding_base.proofs.Calls.CallPartsLemmas.{broken_first}
-use Rattle.encoding_base.proofs.Decomposition.DecompositionLemmas.{StartsWith-append, StartsWith-one, StartsWith-characters}
-use Rattle.encoding_base.proofs.LongestFronts.FrontsLemmas.{WritesFront-length, WritesFront-same, WritesFront_after, WritesFront_push}
-use Rattle.encoding_base.proofs.Calls.DecodeLemmas.{broken_some}
+use Rattle.encoding_definitions.specs.Parts.{Part, Character, Broken, IsFirstPart, StartsWith, ArePartsOf, repaired_scalar, repaired_utf16}
+use Rattle.encoding_definitions.specs.Fronts.{WritesFront}
+use Rattle.encoding_text.specs.Decoding.{Decodes}
+use Rattle.encoding_text.specs.declared.decoder.DecoderResult.TheVariants.{InputEmpty, Malformed}
+use Rattle.encoding_text.proofs.Calls.CallPartsLemmas.{broken_first}
+use Rattle.encoding_definitions.proofs.Decomposition.DecompositionLemmas.{StartsWith-append, StartsWith-one, StartsWith-characters}
+use Rattle.encoding_definitions.proofs.LongestFronts.FrontsLemmas.{WritesFront-length, WritesFront-same, WritesFront_after, WritesFront_push}
+use Rattle.encoding_text.proofs.Calls.DecodeLemmas.{broken_some}
 
 -- the text of the first parts is written, up to the bytes from read on
 pub record Repaired (src old new : List ℕ) (read written : ℕ) : Type 0 where

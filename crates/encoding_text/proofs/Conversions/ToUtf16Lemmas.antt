@@ -5,11 +5,11 @@ use Rattle.std.specs.Str.{IsUtf8}
 use Rattle.std.specs.List.{flat_map}
 use Rattle.std.proofs.lemmas.Bool.{cases_lt}
 use Rattle.std.proofs.lemmas.List.{length-take, take_all}
-use Rattle.encoding_base.specs.Fronts.{WritesFront}
-use Rattle.encoding_base.specs.Converting.{IsText, ConvertsLongest, WritesText}
-use Rattle.encoding_base.proofs.Sequences.EncodingLemmas.{flat_map-encode_utf8}
-use Rattle.encoding_base.proofs.LongestFronts.FittingLemmas.{length-front}
-use Rattle.encoding_base.proofs.Calls.RoomLemmas.{length-utf16}
+use Rattle.encoding_definitions.specs.Fronts.{WritesFront}
+use Rattle.encoding_definitions.specs.Converting.{IsText, ConvertsLongest, WritesText}
+use Rattle.encoding_definitions.proofs.Sequences.EncodingLemmas.{flat_map-encode_utf8}
+use Rattle.encoding_definitions.proofs.LongestFronts.FittingLemmas.{length-front}
+use Rattle.encoding_definitions.proofs.Sequences.EncodingLemmas.{length-utf16}
 
 text_length : (src cs : List ℕ) → (t : IsText src cs) → length (encode_utf8_all cs) ≡ t.valid
 text_length src cs t = ap length t.spelled ∙ omega (arith, length-take t.valid src, t.front.within)

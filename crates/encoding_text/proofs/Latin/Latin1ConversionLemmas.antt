@@ -8,17 +8,17 @@ use Rattle.std.proofs.lemmas.Grind.{common_steps}
 use Rattle.std.proofs.lemmas.List.{append-nil, length-append, length-map, length-drop, length-take, length-take-le, get_or-drop, get_or-take, get_or_past, drop-drop, take_all, take_more, take_rest, drop_more, take-append-drop, map_more, map-append}
 use Rattle.std.proofs.lemmas.Str.{encodes-append, encode_ascii, encodes-IsAscii, chars-IsAscii, chars-append, IsUtf8-from_ascii}
 use borrow.Rule.Slice.PartMut.{put_mid}
-use Rattle.encoding_base.proofs.Sequences.EncodingLemmas.{flat_map-encode_utf8}
-use Rattle.encoding_base.specs.Fronts.{FitsLongest, WritesFront}
-use Rattle.encoding_base.specs.Latin1.{IsLatin1, IsUtf8Latin1}
-use Rattle.encoding_base.specs.Steps.Strides.{BelowUpTo}
-use Rattle.encoding_base.specs.Steps.Spelling.{all_ended}
+use Rattle.encoding_definitions.proofs.Sequences.EncodingLemmas.{flat_map-encode_utf8}
+use Rattle.encoding_definitions.specs.Fronts.{FitsLongest, WritesFront}
+use Rattle.encoding_definitions.specs.Latin1.{IsLatin1, IsUtf8Latin1}
+use Rattle.encoding_kernels.specs.Strides.{BelowUpTo}
+use Rattle.encoding_kernels.specs.Spelling.{all_ended}
 use Rattle.std.specs.Simd.Lanes.{chunk}
 use Rattle.std.proofs.lemmas.Simd.{length-chunk}
-use Rattle.encoding_base.proofs.Latin.EndedLemmas.{GoesOnWith, NextIs, Splits, nexts, splits, ended_without}
-use Rattle.encoding_base.proofs.Latin.AsciiLemmas.{Each-take}
-use Rattle.encoding_base.proofs.LongestFronts.FrontsLemmas.{FitsLongest-stop, FitsLongest-all, WritesFront_push, WritesFront_after, WritesFront_put, WritesFront-same}
-use Rattle.encoding_text.proofs.Latin.Latin1Lemmas.{IsLatin1-behind, next_of_one, split_front, scalars_of_latin1}
+use Rattle.encoding_kernels.proofs.Latin.EndedLemmas.{GoesOnWith, NextIs, Splits, nexts, splits, ended_without}
+use Rattle.encoding_kernels.proofs.Latin.AsciiLemmas.{Each-take}
+use Rattle.encoding_definitions.proofs.LongestFronts.FrontsLemmas.{FitsLongest-stop, FitsLongest-all, WritesFront_push, WritesFront_after, WritesFront_put, WritesFront-same}
+use Rattle.encoding_definitions.proofs.Latin.Latin1Lemmas.{IsLatin1-behind, next_of_one, split_front, scalars_of_latin1}
 
 -- ---- fitting
 singles : (xs : List ℕ) → length (flat_map (λ (b : ℕ). b ∷ []) xs) ≡ length xs

@@ -1,16 +1,23 @@
 //! Whether text has characters that are written from right to left, and whether it is Latin1.
 
-ghost use Rattle.std.specs.Prelude.{◌↔◌, ◌⊎◌, IsTrue};
+ghost use Rattle.std.specs.Prelude.{◌≡◌, ◌<◌, ◌≤◌, ◌↔◌, ◌⊎◌, ℕ, length, IsTrue, IsFalse};
+ghost use Rattle.std.specs.Str.{IsUtf8};
 ghost use Rattle.std.specs.Int.{IsInRange};
-ghost use Rattle.encoding_base.specs.Fronts.{IsLongestFront};
-ghost use Rattle.encoding_base.specs.Latin1.{IsLatin1, IsUtf8Latin1};
-ghost use Rattle.encoding_base.specs.Sequence.{IsSequence};
-ghost use Rattle.encoding_text.specs.Bidi.{IsRightToLeft, IsRightToLeftUnit, IsBidiUnits, IsBidiText, IsBidiBytes, Classifies};
+ghost use Rattle.encoding_definitions.specs.Fronts.{IsLongestFront};
+ghost use Rattle.encoding_definitions.specs.Latin1.{IsLatin1, IsUtf8Latin1};
+ghost use Rattle.encoding_definitions.specs.Sequence.{IsSequence};
+ghost use Rattle.encoding_definitions.specs.Bidi.{IsRightToLeft, IsRightToLeftUnit, IsBidiUnits, IsBidiText, IsBidiBytes};
+ghost use Rattle.encoding_text.specs.Classes.{Classifies};
+ghost use Rattle.encoding_kernels.specs.BidiBlocks.{second_end, StandsRightToLeft, NoneStands};
 
-use super::bidi_blocks::{FIRST_UNIT, UNIT_STRIDE, is_text_bidi, skip_clear_units, units_below};
 use super::checks::{LATIN1_END, str_latin1_up_to, utf8_latin1_up_to};
-use encoding_base::strides::{ASCII_END, front_below};
-use encoding_base::utf_8::{scalar_of_sequence, utf8_valid_up_to};
+use crate::ascii::ascii_valid_up_to;
+use crate::utf_8::{character_length, utf8_valid_up_to};
+use encoding_kernels::bidi_blocks::{
+    FIRST_LEAD, FIRST_UNIT, STRIDE, UNIT_STRIDE, skip_clear, skip_clear_units, units_below,
+};
+use encoding_kernels::scalars::scalar_of_sequence;
+use encoding_kernels::strides::front_below;
 
 /// The first right-to-left scalar value.
 const FIRST: u32 = 0x0590;
@@ -74,11 +81,65 @@ pub fn is_utf16_code_unit_bidi(u: u16) -> bool
 }
 
 /// Whether the one character that these bytes spell is right-to-left.
-pub(super) fn is_sequence_bidi(bytes: &[u8]) -> bool
+fn is_sequence_bidi(bytes: &[u8]) -> bool
     requires { IsSequence bytes.now }
     ensures { IsTrue result ↔ IsBidiText bytes.now }
 {
     is_right_to_left(scalar_of_sequence(bytes))
+}
+
+/// Whether right-to-left characters may begin with the byte.
+fn may_begin(lead: u8) -> bool
+    ensures { IsFalse result → second_end lead ≡ 0 }
+{
+    match lead {
+        0xD6..=0xE0 | 0xE2 | 0xEF | 0xF0 => true,
+        _ => false,
+    }
+}
+
+/// Whether a right-to-left character stands at the place.
+fn stands_at(bytes: &[u8], at: usize) -> bool
+    requires { at < length bytes.now }
+    ensures { IsTrue result ↔ StandsRightToLeft bytes.now at }
+{
+    if !may_begin(bytes[at]) {
+        return false;
+    }
+    let Some(length) = character_length(&bytes[at..]) else {
+        return false;
+    };
+    is_sequence_bidi(&bytes[at..at + length])
+}
+
+/// Whether a right-to-left character stands at one of the places.
+fn stands_between(bytes: &[u8], from: usize, to: usize) -> bool
+    requires { (from ≤ to) × (to ≤ length bytes.now) }
+    ensures found { IsTrue result → (k : ℕ) × (k < length bytes.now) × StandsRightToLeft bytes.now k }
+    ensures none { IsFalse result → NoneStands bytes.now from to }
+{
+    for at in from..to {
+        if stands_at(bytes, at) {
+            return true;
+        }
+    }
+    false
+}
+
+/// Whether a character of the well-formed text is right-to-left.
+fn is_text_bidi(bytes: &[u8]) -> bool
+    requires { IsUtf8 bytes.now }
+    ensures { IsTrue result ↔ IsBidiText bytes.now }
+{
+    let mut at = front_below(bytes, FIRST_LEAD);
+    while at < bytes.len() {
+        let from = skip_clear(bytes, at);
+        at = from + STRIDE.min(bytes.len() - from);
+        if stands_between(bytes, from, at) {
+            return true;
+        }
+    }
+    false
 }
 
 /// Whether a character of the text is right-to-left.
@@ -92,7 +153,7 @@ pub fn is_str_bidi(buffer: &str) -> bool
 pub fn is_utf8_bidi(buffer: &[u8]) -> bool
     ensures { IsTrue result ↔ IsBidiBytes buffer.now }
 {
-    let mut at = front_below(buffer, ASCII_END);
+    let mut at = ascii_valid_up_to(buffer);
     while at < buffer.len() {
         let length = PIECE.min(buffer.len() - at);
         let piece = &buffer[at..at + length];

@@ -4,11 +4,11 @@ ghost use Rattle.std.specs.Prelude.{◌≡◌, ◌+◌, ◌-◌, ◌*◌, ◌≤
 ghost use Rattle.std.specs.Str.{IsAscii, chars};
 ghost use Rattle.std.specs.String.{string_bytes};
 ghost use Rattle.encoding_text.specs.Borrowed.{DecodesLatin1, EncodesLatin1};
-ghost use Rattle.encoding_base.specs.Fronts.{WritesFront};
-ghost use Rattle.encoding_base.specs.Latin1.{IsUtf8Latin1};
+ghost use Rattle.encoding_definitions.specs.Fronts.{WritesFront};
+ghost use Rattle.encoding_definitions.specs.Latin1.{IsUtf8Latin1};
 
+use crate::ascii;
 use crate::mem::latin1;
-use encoding_base::ascii;
 use std::alloc::{AllocError, Global};
 
 /// A text that is borrowed or owned.

@@ -1,15 +1,17 @@
 //! Whether text is ASCII or Latin1, and how far.
 
-ghost use Rattle.std.specs.Prelude.{◌↔◌, ◌≤◌, length, IsTrue};
+ghost use Rattle.std.specs.Prelude.{◌<◌, ◌≤◌, ◌↔◌, length, take, IsTrue};
 ghost use Rattle.std.specs.Str.{IsAscii};
-ghost use Rattle.encoding_base.specs.Fronts.{IsLongestFront};
-ghost use Rattle.encoding_base.specs.Latin1.{IsLatin1, IsUtf8Latin1};
-ghost use Rattle.encoding_base.specs.Steps.Strides.{BelowUpTo};
+ghost use Rattle.encoding_definitions.specs.Fronts.{IsLongestFront};
+ghost use Rattle.encoding_definitions.specs.Latin1.{IsLatin1, IsUtf8Latin1};
+ghost use Rattle.encoding_kernels.specs.Strides.{BelowUpTo};
 
-use super::pair_blocks::{BEYOND_LATIN1, latin1_front};
-use encoding_base::sequence::is_continuation;
-use encoding_base::strides::{
-    ASCII_END, BASIC_LATIN_END, STRIDE, are_all_below, are_all_bytes_below, front_below, run_below,
+use crate::ascii::ascii_valid_up_to;
+use encoding_kernels::pair_blocks::{BEYOND_LATIN1, latin1_blocks};
+use encoding_kernels::sequence::is_continuation;
+use encoding_kernels::strides::{
+    ASCII_END, BASIC_LATIN_END, STRIDE, are_all_below, are_all_bytes_below, front_behind_stride,
+    front_below, run_below,
 };
 
 /// The least UTF-16 code unit that isn't Latin1.
@@ -69,7 +71,46 @@ pub fn utf8_latin1_up_to(buffer: &[u8]) -> usize
     longest_latin1(buffer, run)
 }
 
-/// The same, out of line, behind ASCII.
+/// How far an ASCII front goes on from where its first stride has it: behind a whole stride, or from the beginning.
+/// Elsewhere it ends at once.
+#[inline(always)]
+fn ascii_front(bytes: &[u8], from: usize) -> usize
+    requires { (from ≤ length bytes.now) × BelowUpTo 0x80 bytes.now from }
+    ensures within { result ≤ length bytes.now }
+    ensures below { BelowUpTo 0x80 bytes.now result }
+{
+    match from {
+        0 => ascii_valid_up_to(bytes),
+        STRIDE => front_behind_stride(bytes, ASCII_END),
+        _ => from,
+    }
+}
+
+/// How far the bytes are Latin1 in UTF-8, by an ASCII front that goes on from a place and whole blocks.
+#[inline(always)]
+fn latin1_front(bytes: &[u8], from: usize) -> usize
+    requires { (from ≤ length bytes.now) × BelowUpTo 0x80 bytes.now from }
+    ensures { (result ≤ length bytes.now) × IsUtf8Latin1 (take result bytes.now) }
+{
+    let front = ascii_front(bytes, from);
+    if front == bytes.len() {
+        return front;
+    }
+    if !is_latin1_lead(bytes[front]) {
+        return front;
+    }
+    latin1_blocks(bytes, front + 1)
+}
+
+/// Whether a Latin1 character of two bytes begins with the byte.
+fn is_latin1_lead(byte: u8) -> bool
+    ensures { IsTrue result → (0xC2 ≤ byte) × (byte < 0xC4) }
+{
+    byte == 0xC2 || byte == 0xC3
+}
+
+/// The length of the longest front that is Latin1 in UTF-8, by its whole blocks and then singly, behind ASCII up to a place.
+/// Out of line.
 #[inline(never)]
 fn longest_latin1(buffer: &[u8], from: usize) -> usize
     requires { (from ≤ length buffer.now) × BelowUpTo 0x80 buffer.now from }

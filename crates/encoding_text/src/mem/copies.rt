@@ -2,9 +2,9 @@
 
 ghost use Rattle.std.specs.Prelude.{◌≤◌, take, length};
 ghost use Rattle.std.specs.Str.{IsAscii};
-ghost use Rattle.encoding_base.specs.Fronts.{IsLongestFront, WritesFront};
+ghost use Rattle.encoding_definitions.specs.Fronts.{IsLongestFront, WritesFront};
 
-use encoding_base::ascii;
+use crate::ascii;
 
 /// Copies the longest ASCII front and returns its length. `dst` is no shorter than `src`. Behind what is written `dst`
 /// is as before.

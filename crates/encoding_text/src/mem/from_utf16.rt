@@ -1,10 +1,10 @@
 //! From UTF-16 to UTF-8, into a destination that surely suffices.
 
 ghost use Rattle.std.specs.Prelude.{◌*◌, ◌≤◌, length, take};
-ghost use Rattle.encoding_base.specs.Fronts.{WritesFront};
-ghost use Rattle.encoding_base.specs.Utf16.{IsUtf8OfUnits};
+ghost use Rattle.encoding_definitions.specs.Fronts.{WritesFront};
+ghost use Rattle.encoding_definitions.specs.Utf16.{IsUtf8OfUnits};
 
-use encoding_base::utf_8::convert_utf16_to_utf8_partial;
+pub use crate::utf_8::encoding::convert_utf16_to_utf8_partial;
 
 /// Converts all of `src` from UTF-16 to UTF-8, and returns how many bytes it wrote. `dst` has at least three bytes
 /// for each code unit of `src`.

@@ -3,13 +3,14 @@
 
 ghost use Rattle.std.specs.Prelude.{◌≡◌, ◌*◌, ◌%◌, ◌<◌, ◌≤◌, ◌⊎◌, [], ◌∷◌, take, length, map, encode_utf8, encode_utf8_all};
 ghost use Rattle.std.specs.Str.{chars};
-ghost use Rattle.encoding_base.specs.Fronts.{FitsLongest, WritesFront};
-ghost use Rattle.encoding_base.specs.Latin1.{IsUtf8Latin1};
+ghost use Rattle.encoding_definitions.specs.Fronts.{FitsLongest, WritesFront};
+ghost use Rattle.encoding_definitions.specs.Latin1.{IsUtf8Latin1};
 
-use encoding_base::strides::{
+use encoding_kernels::latin1_ends::latin1_of;
+use encoding_kernels::spelling::write_short;
+use encoding_kernels::strides::{
     ASCII_END, STRIDE, are_bytes_below, copy_ascii, narrow_lower, put_first, widen,
 };
-use encoding_base::utf_8::{latin1_of, write_short};
 use std::simd::prelude::*;
 
 /// The bytes that a character from U+0080 to U+00FF takes in UTF-8.

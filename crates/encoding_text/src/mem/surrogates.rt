@@ -1,12 +1,12 @@
 //! Lone surrogates in UTF-16: how far code units are valid, and their repair in place.
 
 ghost use Rattle.std.specs.Prelude.{◌-◌, ◌≤◌, length, drop};
-ghost use Rattle.encoding_base.specs.Fronts.{IsLongestFront};
-ghost use Rattle.encoding_text.specs.Surrogates.{IsValidUtf16, AreRepairedUnits};
-ghost use Rattle.encoding_base.specs.Utf16.{AreUnits};
+ghost use Rattle.encoding_definitions.specs.Fronts.{IsLongestFront};
+ghost use Rattle.encoding_definitions.specs.Surrogates.{IsValidUtf16, AreRepairedUnits};
+ghost use Rattle.encoding_definitions.specs.Utf16.{AreUnits};
 
-use super::pair_blocks::paired_front;
-use encoding_base::utf_8::{is_high_surrogate, is_low_surrogate, is_surrogate};
+use encoding_kernels::pair_blocks::paired_front;
+use encoding_kernels::surrogates::{is_high_surrogate, is_low_surrogate, is_surrogate};
 
 /// What stands in place of a lone surrogate.
 const REPLACEMENT_UNIT: u16 = 0xFFFD;

@@ -2,14 +2,14 @@
 
 ghost use Rattle.std.specs.Prelude.{◌≡◌, ◌*◌, ◌≤◌, [], ◌∷◌, length, take, encode_utf8, encode_utf8_all};
 ghost use Rattle.std.specs.Str.{IsUtf8};
-ghost use Rattle.encoding_text.specs.Clearing.{clear_front, WritesAndClears};
-ghost use Rattle.encoding_base.specs.Fronts.{FitsLongest};
-ghost use Rattle.encoding_base.specs.Utf16.{IsUtf8OfLongestFront, IsUtf8OfUnits};
+ghost use Rattle.encoding_definitions.specs.Clearing.{clear_front, WritesAndClears};
+ghost use Rattle.encoding_definitions.specs.Fronts.{FitsLongest};
+ghost use Rattle.encoding_definitions.specs.Utf16.{IsUtf8OfLongestFront, IsUtf8OfUnits};
 
 use crate::mem::from_utf16::convert_utf16_to_utf8;
 use crate::mem::latin1::{convert_latin1_to_utf8, convert_latin1_to_utf8_partial};
-use encoding_base::sequence::is_continuation;
-use encoding_base::utf_8::convert_utf16_to_utf8_partial;
+use crate::utf_8::encoding::convert_utf16_to_utf8_partial;
+use encoding_kernels::sequence::is_continuation;
 
 /// How many bytes behind what is written the conversions from Latin1 set to zero, whatever they were.
 const LATIN1_ZEROS: usize = 16;

@@ -4,12 +4,13 @@ ghost use Rattle.std.specs.Prelude.{◌≡◌, ℕ, ◌<◌, ◌≤◌, ◌↔�
 ghost use Rattle.std.specs.List.{flat_map};
 ghost use Rattle.std.specs.Char.Escape.{encode_utf16};
 ghost use Rattle.std.specs.Str.{IsUtf8, chars};
-ghost use Rattle.encoding_base.specs.Parts.{Part, ArePartsOf, repaired_utf16};
-ghost use Rattle.encoding_base.specs.Fronts.{WritesFront};
-ghost use Rattle.encoding_base.specs.Converting.{WritesText};
+ghost use Rattle.encoding_definitions.specs.Parts.{Part, ArePartsOf, repaired_utf16};
+ghost use Rattle.encoding_definitions.specs.Fronts.{WritesFront};
+ghost use Rattle.encoding_definitions.specs.Converting.{WritesText};
 
-use encoding_base::decoder::{DecoderResult, Utf8Decoder};
-use encoding_base::utf_8::{convert_utf8_to_utf16_up_to_invalid, write_text};
+use crate::decoder::{DecoderResult, Utf8Decoder};
+use crate::utf_8::convert_utf8_to_utf16_up_to_invalid;
+use encoding_kernels::text_units::write_text;
 
 /// Converts bytes to UTF-16, with U+FFFD for each broken part, and returns how many code units it wrote: Encoding
 /// Standard, UTF-8 decode without BOM.

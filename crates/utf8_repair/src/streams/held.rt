@@ -1,5 +1,5 @@
 //! Bytes that wait in an array.
-ghost use Rattle.std.specs.Prelude.{◌≡◌, ℕ, ◌<◌, ◌≤◌, min, List, [], ◌++◌, length, drop, take, IsTrue, OnOk, OnErr};
+ghost use Rattle.std.specs.Prelude.{◌≡◌, ℕ, ◌-◌, ◌<◌, ◌≤◌, min, List, [], ◌++◌, length, drop, take, IsTrue, OnOk, OnErr};
 ghost use Rattle.std.specs.Bool.{IsFalse};
 ghost use Rattle.std.specs.Io.KnownBytes.{Keeps, IsAtEnd, append_known, prepend_known};
 
@@ -63,6 +63,18 @@ impl<const N: usize> Held<N> {
         }
     }
 
+    /// Lets the last bytes go.
+    pub(crate) fn take_back(&mut self, count: usize)
+        requires { count ≤ length self.old }
+        ensures { self.new ≡ take (length self.old - count) self.old }
+    {
+        self.end -= count;
+        if self.start == self.end {
+            self.start = 0;
+            self.end = 0;
+        }
+    }
+
     /// Takes the piece where it fits behind what waits, and returns whether it did.
     pub(crate) fn push(&mut self, piece: &[u8]) -> bool
         ensures taken { IsTrue result → self.new ≡ self.old ++ piece.now }
@@ -103,17 +115,28 @@ impl<const N: usize> Held<N> {
         Ok(())
     }
 
+    /// Writes once of the bytes that wait, of which there has to be one. What is not taken waits on.
+    pub(crate) fn write_some<W: Write>(&mut self, writer: &mut W) -> io::Result<()>
+        requires not_empty { 0 < length self.old }
+        ensures bytes { Keeps (append_known (W.contents writer.old) self.old) (append_known (W.contents writer.new) self.new) }
+        ensures ok { OnOk result (length self.new < length self.old) }
+        ensures err { OnErr result (self.new ≡ self.old) }
+    {
+        let taken = writer.write(self.as_slice())?;
+        if taken == 0 {
+            return Err(Error::from(ErrorKind::WriteZero));
+        }
+        self.advance(taken);
+        Ok(())
+    }
+
     /// Writes out the bytes that wait. What a failure leaves unwritten waits on.
     pub(crate) fn write_to<W: Write>(&mut self, writer: &mut W) -> io::Result<()>
         ensures bytes { Keeps (append_known (W.contents writer.old) self.old) (append_known (W.contents writer.new) self.new) }
         ensures ok { OnOk result (self.new ≡ []) }
     {
         while self.len() > 0 {
-            let taken = writer.write(self.as_slice())?;
-            if taken == 0 {
-                return Err(Error::from(ErrorKind::WriteZero));
-            }
-            self.advance(taken);
+            self.write_some(writer)?;
         }
         Ok(())
     }

@@ -2,26 +2,42 @@
 ghost use Rattle.std.specs.Prelude.{◌≡◌, ◌<◌, []};
 ghost use Rattle.std.specs.Io.KnownBytes.{prepend_known};
 
+use super::due::Due;
 use super::held::Held;
 use std::cell::Cell;
 use std::io::{self, Read};
+use std::str::from_utf8;
 
-/// How many bytes of the array are given out apart, as the last ones. A filter that holds back at most three bytes,
-/// as the beginning of a sequence, writes something when it reads these.
+/// How many bytes of the array are given out apart, as the last ones, where no whole character ends it. A filter that
+/// holds back at most three bytes, as the beginning of a sequence, writes something when it reads these.
 const LAST: usize = 4;
 
-/// Fills an array by one read, and gives its bytes out. It sets `last` when it gives out the last ones, so that the
-/// next read may wait, and else clears it.
+/// How many of the last bytes are given out apart, and what of them is due: the last character, where a whole one ends
+/// the bytes, since a filter holds nothing of that back and writes it last.
+fn last_ones(bytes: &[u8]) -> (usize, Due) {
+    if let Some(end) = bytes.last() {
+        for count in 1..LAST + 1 {
+            let start = bytes.len().saturating_sub(count);
+            if from_utf8(&bytes[start..]).is_ok() {
+                return (count, Due::UpTo(*end));
+            }
+        }
+    }
+    (LAST, Due::Each)
+}
+
+/// Fills an array by one read, and gives its bytes out: apart those behind which the next read may wait. It tells the
+/// writer with each read what of it is due.
 #[derive(Drop)]
 pub struct ReadAhead<'a, R, const N: usize> {
     inner: R,
     held: Held<N>,
-    last: &'a Cell<bool>,
+    due: &'a Cell<Due>,
 }
 
 impl<'a, R, const N: usize> ReadAhead<'a, R, N> {
     /// Reads ahead of what is asked for, of this reader.
-    pub fn new(inner: R, last: &'a Cell<bool>) -> ReadAhead<'a, R, N>
+    pub fn new(inner: R, due: &'a Cell<Due>) -> ReadAhead<'a, R, N>
         requires { 0 < N }
         ensures inner { result.inner ≡ inner }
         ensures held { result.held ≡ [] }
@@ -29,7 +45,7 @@ impl<'a, R, const N: usize> ReadAhead<'a, R, N> {
         ReadAhead {
             inner,
             held: Held::new(),
-            last,
+            due,
         }
     }
 }
@@ -40,8 +56,9 @@ impl<R: Read, const N: usize> Read for ReadAhead<'_, R, N> {
     /// Reads what waits in the array, which one read of the reader inside fills where it is empty.
     fn read(&mut self, buffer: &mut [u8]) -> io::Result<usize> {
         self.held.fill(&mut self.inner)?;
-        let ahead = self.held.len().saturating_sub(LAST);
-        self.last.set(ahead == 0);
+        let (apart, due) = last_ones(self.held.as_slice());
+        let ahead = self.held.len().saturating_sub(apart);
+        self.due.set(if ahead == 0 { due } else { Due::Nothing });
         let most = if ahead == 0 { LAST } else { ahead };
         Ok(self.held.pop_into(buffer, most))
     }

@@ -4,7 +4,7 @@
 use super::{READ_FAULT, WRITE_FAULT};
 use crate::ROOM;
 use crate::service::serve;
-use crate::streams::{ReadAhead, WriteBehind};
+use crate::streams::{Due, ReadAhead, WriteBehind};
 use std::cell::Cell;
 use std::io::{ErrorKind, Read, Write};
 use test_support::patterns::{PatternInput, PatternOutput};
@@ -33,9 +33,9 @@ fn run_over_arrays_is(
     status: u8,
     line: &[u8],
 ) -> bool {
-    let last = Cell::new(true);
-    let mut ahead: ReadAhead<'_, _, ROOM> = ReadAhead::new(&mut *reader, &last);
-    let mut behind: WriteBehind<'_, _, ROOM> = WriteBehind::new(&mut *writer, &last);
+    let due = Cell::new(Due::Each);
+    let mut ahead: ReadAhead<'_, _, ROOM> = ReadAhead::new(&mut *reader, &due);
+    let mut behind: WriteBehind<'_, _, ROOM> = WriteBehind::new(&mut *writer, &due);
     run_is(&mut ahead, &mut behind, status, line)
 }
 

@@ -1,5 +1,5 @@
-use Rattle.encoding_base.proofs.Calls.OneAnswerLemmas.{one_utf8_answer, one_utf16_answer}
-use Rattle.encoding_base.proofs.Calls.OnePieceLemmas.{one_piece}
+use Rattle.encoding_text.proofs.Calls.OneAnswerLemmas.{one_utf8_answer, one_utf16_answer}
+use Rattle.encoding_text.proofs.Calls.OnePieceLemmas.{one_piece}
 use Rattle.encoding_runs.proofs.MixedLemmas.{mixed_parts, same_answers}
 use Rattle.encoding_runs.proofs.laws.law_mixed_calls.Goals as goal
 

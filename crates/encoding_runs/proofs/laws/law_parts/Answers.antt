@@ -1,5 +1,5 @@
-use Rattle.encoding_base.proofs.Decomposition.DecompositionLemmas.{has_parts, same_parts, parts-bytes, has_settled, settled_front}
-use Rattle.encoding_base.proofs.Decomposition.LossyLemmas.{repaired-utf8_lossy}
+use Rattle.encoding_definitions.proofs.Decomposition.DecompositionLemmas.{has_parts, same_parts, parts-bytes, has_settled, settled_front}
+use Rattle.encoding_definitions.proofs.Decomposition.LossyLemmas.{repaired-utf8_lossy}
 use Rattle.encoding_runs.proofs.CutLemmas.{settled_text}
 use Rattle.encoding_runs.proofs.laws.law_parts.Goals as goal
 

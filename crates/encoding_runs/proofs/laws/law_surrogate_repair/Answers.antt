@@ -1,4 +1,4 @@
-use Rattle.encoding_text.proofs.Surrogates.SurrogateLawLemmas.{repaired_exist, repaired_one, repaired_places, repaired_valid, repaired_twice, repaired_counts, repaired_lossy, valid_stays}
+use Rattle.encoding_definitions.proofs.Surrogates.SurrogateLawLemmas.{repaired_exist, repaired_one, repaired_places, repaired_valid, repaired_twice, repaired_counts, repaired_lossy, valid_stays}
 use Rattle.encoding_runs.proofs.laws.law_surrogate_repair.Goals as goal
 
 pub returns : goal.returns

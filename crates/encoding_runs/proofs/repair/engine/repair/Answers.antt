@@ -48,7 +48,7 @@ loop-read-preserved g c =
       reader_failed = e.7 ∙ before.reader_failed;
       writer_failed = e.8 ∙ before.writer_failed;
       reader_stream = c.in_ok-round.ensures.reader_stream ∙ before.reader_stream;
-      writer_stream = c.in_ok-round.ensures.writer_stream ∙ before.writer_stream;
+      writer_keeps = g.met.W.Sink.keeps_on _ _ _ before.writer_keeps c.in_ok-round.ensures.writer_keeps;
     }
 
 pub returns-clause-limit : goal.returns-clause-limit

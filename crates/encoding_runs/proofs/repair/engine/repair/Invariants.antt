@@ -10,7 +10,7 @@ invariant-loop-read g l = record {
   reader_failed : g.R.Source.has_failed l.reader ≡ g.R.Source.has_failed l.fn.reader;
   writer_failed : g.W.Sink.has_failed l.writer ≡ g.W.Sink.has_failed l.fn.writer;
   reader_stream : g.R.Source.stream l.reader ≡ g.R.Source.stream l.fn.reader;
-  writer_stream : g.W.Sink.stream l.writer ≡ g.W.Sink.stream l.fn.writer;
+  writer_keeps : g.W.Sink.keeps l.fn.writer l.writer;
 }
 
 abbrev pub decreases-loop-read : goal.decreases-loop-read

@@ -6,7 +6,7 @@ abbrev pub invariant-loop-writer : goal.invariant-loop-writer
 invariant-loop-writer g l = record {
   wrote : WritesParts l.last (l.fn.decoder ++ l.src) (l.decoder ++ l.rest) (g.W.Sink.contents l.fn.writer) (g.W.Sink.contents l.writer) l.replaced;
   failed : g.W.Sink.has_failed l.writer ≡ g.W.Sink.has_failed l.fn.writer;
-  stream : g.W.Sink.stream l.writer ≡ g.W.Sink.stream l.fn.writer;
+  keeps : g.W.Sink.keeps l.fn.writer l.writer;
 }
 
 abbrev pub decreases-loop-writer : goal.decreases-loop-writer

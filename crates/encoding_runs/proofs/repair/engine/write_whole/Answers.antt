@@ -13,5 +13,5 @@ loop-at-preserved g c =
       within = omega (arith, e.bound, ap length (take_rest bytes at), length-drop at bytes);
       wrote = rw take-add (Appends-trans _ _ _ _ _ c.loop-at.invariant.wrote more);
       failed = e.failed ∙ c.loop-at.invariant.failed;
-      stream = e.stream ∙ c.loop-at.invariant.stream;
+      keeps = g.met.W.Sink.keeps_on _ _ _ c.loop-at.invariant.keeps e.keeps;
     }

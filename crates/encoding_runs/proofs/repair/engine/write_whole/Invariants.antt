@@ -7,7 +7,7 @@ invariant-loop-at g l = record {
   within : l.at ≤ length l.bytes;
   wrote : Appends (g.W.Sink.contents l.initial.writer) (g.W.Sink.contents l.writer) (take l.at l.bytes);
   failed : g.W.Sink.has_failed l.writer ≡ g.W.Sink.has_failed l.initial.writer;
-  stream : g.W.Sink.stream l.writer ≡ g.W.Sink.stream l.initial.writer;
+  keeps : g.W.Sink.keeps l.initial.writer l.writer;
 }
 
 abbrev pub decreases-loop-at : goal.decreases-loop-at

@@ -1,12 +1,31 @@
-use Rattle.std.proofs.Common.{◌∙◌, ◌<◌, ◌+◌, ◌-◌, false, length, take, drop, get_or, arith}
+use Rattle.std.proofs.Common.{◌∙◌, ◌<◌, ◌+◌, ◌-◌, false, [], refl, length, take, drop, get_or, arith}
 use Rattle.std.proofs.lemmas.List.{length-drop, length-take, take_more, take_all}
-use Rattle.encoding_base.proofs.Calls.CallPartsLemmas.{call_within}
-use Rattle.encoding_base.proofs.LongestFronts.FrontsLemmas.{WritesFront-length}
+use Rattle.encoding_text.proofs.Calls.CallPartsLemmas.{call_within}
+use Rattle.encoding_definitions.proofs.LongestFronts.FrontsLemmas.{WritesFront-length}
 use Rattle.encoding_runs.specs.declared.run.turns.Turn.{Turn}
 use Rattle.encoding_runs.proofs.RunLemmas.{delivers}
-use Rattle.encoding_runs.proofs.TurnLemmas.{run_push, one_report}
+use Rattle.encoding_runs.proofs.TurnLemmas.{reported_push, one_report}
 use Rattle.encoding_runs.proofs.CompletionLemmas.{completes}
 use Rattle.encoding_runs.proofs.run.decoding.run.Goals as goal
+
+pub loop-turn-init : goal.loop-turn-init
+loop-turn-init g c = record {
+  run = record {
+    run = record {
+      calls = [];
+      chain = tt;
+      of_turns = tt;
+      reads = refl;
+      writes = record { count = refl; fits = omega arith; placed = refl };
+      returns = refl;
+      leaves = refl;
+    };
+    reports = record { count = refl; fits = omega arith; placed = refl };
+  };
+  read = omega arith;
+  written = omega arith;
+  reports = omega arith;
+}
 
 pub loop-turn-preserved : goal.loop-turn-preserved
 loop-turn-preserved g c =
@@ -18,7 +37,7 @@ loop-turn-preserved g c =
     let call = c.make_call-answer.ensures.call in
     let before = c.loop-turn.invariant in
     let inside : at < length turns = omega arith in
-    let run = run_push g.U.Decoded.encode g.U.Decoded.need _ _ _ _ _ _ _ _ _ turn _ _ _ _ _ _ _ _ before.run call.1 call.2 c.write_report.ensures in
+    let run = reported_push g.U.Decoded.encode g.U.Decoded.need _ _ _ _ _ _ _ _ _ turn _ _ _ _ _ _ _ _ before.run call.1 call.2 c.write_report.ensures in
     let within = call_within g.U.Decoded.encode g.U.Decoded.need _ (take turn.take unread) _ _ _ _ _ _ call.2.answer in
     record {
       run = rw (take_more turns at none inside) run;
@@ -30,7 +49,7 @@ loop-turn-preserved g c =
         length-take (length c.args.src.now - c.loop-turn.outcome.read) (drop c.loop-turn.outcome.read c.args.src.now),
         length-drop c.loop-turn.outcome.read c.args.src.now,
       );
-      written = omega (arith, run.written.fits, WritesFront-length _ _ _ _ run.written);
+      written = omega (arith, run.run.writes.fits, WritesFront-length _ _ _ _ run.run.writes);
       reports = omega (arith, before.reports, c.write_report.ensures.count, one_report c.make_call-answer.result.0 (c.loop-turn.outcome.written + c.make_call-answer.result.2));
     }
 
@@ -42,5 +61,5 @@ returns-clause-delivers g c =
 pub returns-clause-completes : goal.returns-clause-completes
 returns-clause-completes g c =
     let all = take_all c.loop-turn.turn-index c.args.turns.now (omega arith) in
-    let run = rw all at c.loop-turn.invariant.run in
-    λ l each m. run.result ∙ completes _ _ c.requires.some c.requires.short _ _ _ _ _ _ l each m run.chain
+    let run = (rw all at c.loop-turn.invariant.run).run in
+    λ l each m. run.returns ∙ completes _ _ c.requires.some c.requires.short _ _ _ _ _ _ l each m run.chain run.of_turns

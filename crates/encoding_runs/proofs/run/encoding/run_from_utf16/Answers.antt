@@ -1,8 +1,10 @@
 use Rattle.std.proofs.Common.{◌<◌, ◌-◌, false, length, drop, get_or, arith}
 use Rattle.std.proofs.lemmas.List.{length-drop, length-take, take_more, take_all}
-use Rattle.encoding_base.proofs.LongestFronts.FrontsLemmas.{WritesFront-length}
+use Rattle.encoding_definitions.proofs.LongestFronts.FrontsLemmas.{WritesFront-length}
+use Rattle.encoding_text.specs.Encoding.{IsEncoderCall}
 use Rattle.encoding_runs.specs.declared.run.turns.Turn.{Turn}
-use Rattle.encoding_runs.proofs.EncoderRunLemmas.{run_push, run_encodes, run_completes}
+use Rattle.encoding_runs.proofs.EncoderRunLemmas.{run_encodes, run_completes}
+use Rattle.encoding_runs.proofs.TurnLemmas.{run_push}
 use Rattle.encoding_runs.proofs.run.encoding.run_from_utf16.Goals as goal
 
 pub loop-turn-preserved : goal.loop-turn-preserved
@@ -13,7 +15,7 @@ loop-turn-preserved c =
     let before = c.loop-turn.invariant in
     let call = c.encode_turn-result.ensures in
     let inside : at < length turns = omega arith in
-    let run = run_push _ _ _ (get_or turns at none) _ _ _ _ _ _ _ _ _ before.run call.call call.rest in
+    let run = run_push IsEncoderCall _ _ _ _ _ _ _ _ _ (get_or turns at none) _ _ _ _ _ _ before.run call.rest call.call in
     record {
       run = rw (take_more turns at none inside) run;
       read = omega (
@@ -23,7 +25,7 @@ loop-turn-preserved c =
         length-take (length c.args.src.now - c.loop-turn.outcome.read) (drop c.loop-turn.outcome.read c.args.src.now),
         length-drop c.loop-turn.outcome.read c.args.src.now,
       );
-      written = omega (arith, run.written.fits, WritesFront-length _ _ _ _ run.written);
+      written = omega (arith, run.writes.fits, WritesFront-length _ _ _ _ run.writes);
     }
 
 pub returns-clause-delivers : goal.returns-clause-delivers

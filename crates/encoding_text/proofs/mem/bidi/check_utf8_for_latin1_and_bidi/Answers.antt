@@ -1,9 +1,9 @@
 use Rattle.std.proofs.Common.{refl, sym, subst}
 use Rattle.std.proofs.lemmas.List.{take_rest}
-use Rattle.encoding_text.specs.Bidi.{IsBidiBytes}
-use Rattle.encoding_base.specs.Latin1.{IsUtf8Latin1}
-use Rattle.encoding_text.proofs.Bidi.BidiTextLemmas.{bytes_whole, bytes_rest}
-use Rattle.encoding_base.proofs.LongestFronts.FrontsLemmas.{front_not_whole}
+use Rattle.encoding_definitions.specs.Bidi.{IsBidiBytes}
+use Rattle.encoding_definitions.specs.Latin1.{IsUtf8Latin1}
+use Rattle.encoding_definitions.proofs.Bidi.BidiTextLemmas.{bytes_whole, bytes_rest}
+use Rattle.encoding_definitions.proofs.LongestFronts.FrontsLemmas.{front_not_whole}
 use Rattle.encoding_text.proofs.mem.bidi.check_utf8_for_latin1_and_bidi.Goals as goal
 
 pub returns-then-is_utf8_bidi : goal.returns-then-is_utf8_bidi

@@ -1,14 +1,15 @@
 use Rattle.std.proofs.Common.{◌+◌, ◌-◌, ◌<◌, ◌≤◌, ◌⊎◌, inl, inr, length, take, drop, arith, refl}
 use Rattle.std.proofs.lemmas.List.{length-drop, length-take}
-use Rattle.encoding_text.proofs.Bidi.BidiBlocksLemmas.{ascii_text, not_text, piece_text, piece_none, piece_found}
+use Rattle.encoding_kernels.proofs.Latin.AsciiLemmas.{below_front}
+use Rattle.encoding_kernels.proofs.Bidi.BidiBlocksLemmas.{ascii_text, not_text, piece_text, piece_none, piece_found}
 use Rattle.encoding_text.proofs.mem.bidi.is_utf8_bidi.Goals as goal
 use Rattle.encoding_text.proofs.mem.bidi.is_utf8_bidi.Goals.{then-length-eq-PIECE, else-length-eq-PIECE}
 
 pub loop-at-init : goal.loop-at-init
 loop-at-init c =
-    let run = c.front_below-at.ensures in
-    let ascii = ascii_text c.args.buffer.now c.front_below-at.result run.within run.below in
-    record { within = run.within; text = ascii.0; none = ascii.1 }
+    let front = c.ascii_valid_up_to-at.ensures in
+    let ascii = ascii_text c.args.buffer.now c.ascii_valid_up_to-at.result front.within (below_front _ _ front) in
+    record { within = front.within; text = ascii.0; none = ascii.1 }
 
 pub returns-then-is_text_bidi : goal.returns-then-is_text_bidi
 returns-then-is_text_bidi c =

@@ -1,5 +1,5 @@
 use Rattle.std.proofs.Common.{◌-◌, ◌≤◌, length, take, IsUtf8}
-use Rattle.encoding_text.specs.Bidi.{IsBidiText}
+use Rattle.encoding_definitions.specs.Bidi.{IsBidiText}
 use Rattle.encoding_text.proofs.mem.bidi.is_utf8_bidi.Given as goal
 
 abbrev pub invariant-loop-at : goal.invariant-loop-at

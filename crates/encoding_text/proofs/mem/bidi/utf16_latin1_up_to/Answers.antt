@@ -1,5 +1,5 @@
 use Rattle.std.proofs.Common.{◌≤◌, arith}
-use Rattle.encoding_base.proofs.Latin.AsciiLemmas.{front_before}
+use Rattle.encoding_kernels.proofs.Latin.AsciiLemmas.{front_before}
 use Rattle.encoding_text.proofs.mem.bidi.utf16_latin1_up_to.Goals as goal
 
 pub returns : goal.returns

@@ -1,5 +1,5 @@
 use Rattle.std.proofs.Common.{◌-◌, ◌≤◌, length, take}
-use Rattle.encoding_base.specs.Latin1.{IsUtf8Latin1}
+use Rattle.encoding_definitions.specs.Latin1.{IsUtf8Latin1}
 use Rattle.encoding_text.proofs.mem.checks.longest_latin1.Given as goal
 
 abbrev pub invariant-loop-read : goal.invariant-loop-read

@@ -1,5 +1,5 @@
 use Rattle.std.proofs.Common.{length}
-use Rattle.encoding_base.proofs.CodeUnits.Utf16FrontLemmas.{room_for_all}
+use Rattle.encoding_definitions.proofs.CodeUnits.Utf16FrontLemmas.{room_for_all}
 use Rattle.encoding_text.proofs.mem.from_utf16.convert_utf16_to_utf8.Goals as goal
 
 pub returns-clause-all : goal.returns-clause-all

@@ -1,9 +1,9 @@
 use Rattle.std.proofs.Common.{arith, length, take, drop, ◌+◌, ◌-◌, ◌<◌, map-id, sym}
 use Rattle.std.specs.Simd.Lanes.{chunk}
 use Rattle.std.proofs.lemmas.Str.{encodes-IsAscii}
-use Rattle.encoding_base.proofs.Latin.AsciiLemmas.{Each-take}
-use Rattle.encoding_base.proofs.LongestFronts.FrontsLemmas.{WritesFront-nil}
-use Rattle.encoding_base.proofs.CodeUnits.UnitBlocksLemmas.{short_lanes, written_short, written_ascii}
+use Rattle.encoding_kernels.proofs.Latin.AsciiLemmas.{Each-take}
+use Rattle.encoding_definitions.proofs.LongestFronts.FrontsLemmas.{WritesFront-nil}
+use Rattle.encoding_kernels.proofs.CodeUnits.UnitBlocksLemmas.{short_lanes, written_short, written_ascii}
 use Rattle.encoding_text.proofs.mem.latin1.convert_latin1_blocks.Goals as goal
 
 pub loop-read-init : goal.loop-read-init

@@ -1,5 +1,5 @@
 use Rattle.std.proofs.Common.{◌-◌, ◌≤◌, length, take, encode_utf8_all}
-use Rattle.encoding_base.specs.Fronts.{WritesFront}
+use Rattle.encoding_definitions.specs.Fronts.{WritesFront}
 use Rattle.encoding_text.proofs.mem.latin1.convert_latin1_blocks.Given as goal
 
 abbrev pub invariant-loop-read : goal.invariant-loop-read

@@ -1,7 +1,7 @@
 use Rattle.std.proofs.Common.{[], ◌++◌, ◌+◌, take, drop, length, ap, ◌∙◌, refl, arith}
-use Rattle.encoding_base.proofs.Lanes.ChunksLemmas.{many, whole_stride}
-use Rattle.encoding_base.proofs.Latin.AsciiLemmas.{WritesFront_block, WritesFront_copy}
-use Rattle.encoding_base.proofs.LongestFronts.FrontsLemmas.{WritesFront-nil, WritesFront-length}
+use Rattle.encoding_kernels.proofs.Lanes.ChunksLemmas.{many, whole_stride}
+use Rattle.encoding_kernels.proofs.Latin.AsciiLemmas.{WritesFront_block, WritesFront_copy}
+use Rattle.encoding_definitions.proofs.LongestFronts.FrontsLemmas.{WritesFront-nil, WritesFront-length}
 use Rattle.encoding_text.proofs.mem.latin1.convert_latin1_to_utf16.Goals as goal
 
 pub loop-stride-init : goal.loop-stride-init

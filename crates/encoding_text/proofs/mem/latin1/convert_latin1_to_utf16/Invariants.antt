@@ -1,5 +1,5 @@
 use Rattle.std.proofs.Common.{◌≡◌, ◌*◌, take}
-use Rattle.encoding_base.specs.Fronts.{WritesFront}
+use Rattle.encoding_definitions.specs.Fronts.{WritesFront}
 use Rattle.encoding_text.proofs.mem.latin1.convert_latin1_to_utf16.Given as goal
 
 abbrev pub invariant-loop-stride : goal.invariant-loop-stride

@@ -1,6 +1,6 @@
 use Rattle.std.proofs.Common.{◌≡◌, ◌/◌, ◌∷◌, [], arith, ap, length, slice_index, encode_utf8, bit_or, bit_and}
 use Rattle.std.proofs.lemmas.Str.{encode_ascii}
-use Rattle.encoding_base.proofs.LongestFronts.FrontsLemmas.{WritesFront_push, WritesFront_push_two}
+use Rattle.encoding_definitions.proofs.LongestFronts.FrontsLemmas.{WritesFront_push, WritesFront_push_two}
 use Rattle.encoding_text.proofs.Latin.Latin1ConversionLemmas.{latin1_fits_stop, latin1_fits_all, latin1_more, latin1_bytes_two}
 use Rattle.encoding_text.proofs.mem.latin1.convert_latin1_to_utf8_partial.Goals as goal
 use Rattle.encoding_text.proofs.mem.latin1.convert_latin1_to_utf8_partial.Goals.{then-byte-lt128+else-written-dst, else-byte-lt128+else-dst-written-lt-HIGH_LENGTH}

@@ -1,5 +1,5 @@
 use Rattle.std.proofs.Common.{◌≡◌, ℕ, ◌*◌, ◌%◌, map, take}
-use Rattle.encoding_base.specs.Fronts.{WritesFront}
+use Rattle.encoding_definitions.specs.Fronts.{WritesFront}
 use Rattle.encoding_text.proofs.mem.latin1.convert_utf16_to_latin1_lossy.Given as goal
 
 abbrev pub invariant-loop-stride : goal.invariant-loop-stride

@@ -2,9 +2,9 @@ use Rattle.std.proofs.Common.{◌≡◌, ◌+◌, ◌-◌, ◌<◌, arith, ap, s
 use Rattle.std.specs.Str.{chars}
 use Rattle.std.proofs.lemmas.List.{take_all, length-drop}
 use Rattle.std.proofs.lemmas.Str.{length-le-encodes}
-use Rattle.encoding_base.proofs.Latin.AsciiLemmas.{WritesFront_copy}
-use Rattle.encoding_base.proofs.LongestFronts.FrontsLemmas.{WritesFront-nil}
-use Rattle.encoding_text.proofs.Latin.Latin1Lemmas.{latin1_chars, next_of_one, next_of_two}
+use Rattle.encoding_kernels.proofs.Latin.AsciiLemmas.{WritesFront_copy}
+use Rattle.encoding_definitions.proofs.LongestFronts.FrontsLemmas.{WritesFront-nil}
+use Rattle.encoding_definitions.proofs.Latin.Latin1Lemmas.{latin1_chars, next_of_one, next_of_two}
 use Rattle.encoding_text.proofs.Latin.Latin1ConversionLemmas.{character_of_two, run_rest, run_written, ascii_front, begins_apart, block_rest, block_written}
 use Rattle.encoding_text.proofs.mem.latin1.convert_utf8_to_latin1_lossy.Goals as goal
 use Rattle.encoding_text.proofs.mem.latin1.convert_utf8_to_latin1_lossy.Goals.{then-byte-lt128, else-byte-lt128}

@@ -1,7 +1,7 @@
 use Rattle.std.proofs.Common.{◌+◌, ◌-◌, drop, arith, subst}
 use Rattle.std.proofs.lemmas.List.{take_rest}
-use Rattle.encoding_base.specs.Fronts.{IsLongestFront}
-use Rattle.encoding_text.specs.Surrogates.{IsValidUtf16}
+use Rattle.encoding_definitions.specs.Fronts.{IsLongestFront}
+use Rattle.encoding_definitions.specs.Surrogates.{IsValidUtf16}
 use Rattle.encoding_text.proofs.mem.surrogates.next_lone.Goals as goal
 
 pub returns-clause-front : goal.returns-clause-front

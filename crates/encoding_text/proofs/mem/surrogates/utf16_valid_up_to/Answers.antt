@@ -1,5 +1,5 @@
 use Rattle.std.proofs.Common.{arith, refl}
-use Rattle.encoding_text.proofs.Surrogates.SurrogateLemmas.{valid_more_one, valid_more_two, valid_stop}
+use Rattle.encoding_definitions.proofs.Surrogates.SurrogateLemmas.{valid_more_one, valid_more_two, valid_stop}
 use Rattle.encoding_text.proofs.mem.surrogates.utf16_valid_up_to.Goals as goal
 use Rattle.encoding_text.proofs.mem.surrogates.utf16_valid_up_to.Goals.{then-not-is_high_surrogate-via-then-not-is_high_surrogate, then-not-is_high_surrogate-via-else-not-is_high_surrogate+then-at-buffer, then-not-is_high_surrogate-via-else-not-is_high_surrogate+else-at-buffer+then-not-is_low_surrogate}
 

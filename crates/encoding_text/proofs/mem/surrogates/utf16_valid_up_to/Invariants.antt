@@ -1,5 +1,5 @@
 use Rattle.std.proofs.Common.{◌-◌, ◌≤◌, length, take}
-use Rattle.encoding_text.specs.Surrogates.{IsValidUtf16}
+use Rattle.encoding_definitions.specs.Surrogates.{IsValidUtf16}
 use Rattle.encoding_text.proofs.mem.surrogates.utf16_valid_up_to.Given as goal
 
 abbrev pub invariant-loop-at : goal.invariant-loop-at

@@ -2,8 +2,8 @@ use Rattle.std.proofs.Common.{◌≡◌, ◌<◌, ◌++◌, length, get_or, set,
 use Rattle.std.specs.Prelude.{replicate}
 use Rattle.std.proofs.lemmas.Bool.{both_ways}
 use Rattle.std.proofs.lemmas.List.Edits.{fill_more}
-use Rattle.encoding_base.specs.Sequence.{IsContinuation}
-use Rattle.encoding_text.proofs.Conversions.ClearingLemmas.{byte_behind, clear_next, clear_end}
+use Rattle.encoding_definitions.specs.Sequence.{IsContinuation}
+use Rattle.encoding_definitions.proofs.Conversions.ClearingLemmas.{byte_behind, clear_next, clear_end}
 use Rattle.encoding_text.proofs.mem.text_destinations.clear.Goals as goal
 
 pub loop-at-preserved : goal.loop-at-preserved

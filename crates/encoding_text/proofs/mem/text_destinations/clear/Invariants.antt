@@ -1,6 +1,6 @@
 use Rattle.std.proofs.Common.{◌≡◌, ◌-◌, ◌≤◌, ◌++◌, length, drop}
 use Rattle.std.specs.Prelude.{replicate}
-use Rattle.encoding_text.specs.Clearing.{clear_continuation, clear_front}
+use Rattle.encoding_definitions.specs.Clearing.{clear_continuation, clear_front}
 use Rattle.encoding_text.proofs.mem.text_destinations.clear.Given as goal
 
 abbrev pub invariant-loop-at : goal.invariant-loop-at

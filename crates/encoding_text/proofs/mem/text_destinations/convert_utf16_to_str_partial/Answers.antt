@@ -1,5 +1,5 @@
-use Rattle.encoding_text.proofs.Conversions.Utf16TextLemmas.{IsUtf8-longest}
-use Rattle.encoding_text.proofs.Conversions.ClearingLemmas.{clears_behind, written_stays, text_stays}
+use Rattle.encoding_definitions.proofs.Conversions.Utf16TextLemmas.{IsUtf8-longest}
+use Rattle.encoding_definitions.proofs.Conversions.ClearingLemmas.{clears_behind, written_stays, text_stays}
 use Rattle.encoding_text.proofs.mem.text_destinations.convert_utf16_to_str_partial.Goals as goal
 
 pub returns : goal.returns

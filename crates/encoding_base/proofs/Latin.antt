@@ -1,3 +1,0 @@
-pub mod AsciiLemmas
-pub mod EndedLemmas
-pub mod Iso2022JpLemmas

@@ -1,5 +1,0 @@
-pub mod SequenceLemmas
-pub mod EncodingLemmas
-pub mod ScalarLemmas
-pub mod TableLemmas
-pub mod FirstBytesLemmas

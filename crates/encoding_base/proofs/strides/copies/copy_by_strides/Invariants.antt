@@ -1,6 +1,0 @@
-use Rattle.std.proofs.Common.{◌≡◌, ◌*◌, take}
-use Rattle.encoding_base.specs.Fronts.{WritesFront}
-use Rattle.encoding_base.proofs.strides.copies.copy_by_strides.Given as goal
-
-abbrev pub invariant-loop-stride : goal.invariant-loop-stride
-invariant-loop-stride g l = record { place : l.front ≡ l.stride-index * g.row.N; copied : WritesFront l.fn.dst l.dst l.front (take l.front l.src) }

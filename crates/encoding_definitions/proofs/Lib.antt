@@ -1,0 +1,8 @@
+pub mod Sequences
+pub mod Decomposition
+pub mod LongestFronts
+pub mod CodeUnits
+pub mod Latin
+pub mod Bidi
+pub mod Conversions
+pub mod Surrogates

@@ -1,0 +1,3 @@
+pub mod FrontsLemmas
+pub mod FittingLemmas
+pub mod Utf8Lemmas

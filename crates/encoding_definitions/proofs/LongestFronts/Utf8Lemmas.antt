@@ -1,0 +1,41 @@
+-- The longest well-formed front, character by character.
+use Rattle.std.proofs.Common.{◌≡◌, ℕ, ◌+◌, ◌<◌, ◌≤◌, inl, inr, List, length, take, drop, encode_utf8, refl, sym, ap, ◌∙◌, arith, subst, take-add}
+use Rattle.std.specs.Str.{IsUtf8, StartsWithNoChar}
+use Rattle.std.proofs.lemmas.Bool.{cases_lt}
+use Rattle.std.proofs.lemmas.List.{take_at, length-append, length-drop}
+use Rattle.std.proofs.lemmas.Str.{IsUtf8-append, IsUtf8-encode}
+use Rattle.std.proofs.str.Faults.{valid_to}
+use Rattle.encoding_definitions.specs.Sequence.{IsSequence}
+use Rattle.encoding_definitions.specs.Parts.{BeginsWithNoCharacter}
+use Rattle.encoding_definitions.specs.Fronts.{IsLongestFront}
+use Rattle.encoding_definitions.proofs.Sequences.SequenceLemmas.{IsSequence-some}
+use Rattle.encoding_definitions.proofs.Sequences.EncodingLemmas.{scalar_of_sequence, IsSequence-encode}
+
+pub IsUtf8-sequence : (bs : List ℕ) → IsSequence bs → IsUtf8 bs
+IsUtf8-sequence bs s = let c = scalar_of_sequence bs s in subst IsUtf8 c.2 (IsUtf8-encode c.0 c.1)
+
+-- one more character
+pub IsUtf8_more : (bs : List ℕ) (at n : ℕ) → IsUtf8 (take at bs) → IsSequence (take n (drop at bs)) → IsUtf8 (take (at + n) bs)
+IsUtf8_more bs at n u s = subst IsUtf8 (sym (take-add at n bs)) (IsUtf8-append _ _ u (IsUtf8-sequence _ s))
+
+pub starts_with_none : (bs : List ℕ) → BeginsWithNoCharacter bs → StartsWithNoChar bs
+starts_with_none bs n = λ c rest s e. n (encode_utf8 c) rest e (IsSequence-encode c s)
+
+-- the front ends where no character begins what is left
+pub IsLongestFront-utf8 : (bs : List ℕ) (at : ℕ) → at ≤ length bs → IsUtf8 (take at bs) → BeginsWithNoCharacter (drop at bs) → IsLongestFront IsUtf8 bs at
+IsLongestFront-utf8 bs at l u n = record { within = l; kind = u; longest = longest }
+  where
+    longest : (m : ℕ) → m ≤ length bs → IsUtf8 (take m bs) → m ≤ at
+    longest m h v = elim (cases_lt at m) [
+      | inl p ↦ absurd ((valid_to bs at (omega arith) u (starts_with_none _ n)).longest m p v)
+      | inr p ↦ p
+    ]
+
+-- no character begins what is behind the longest front
+pub no_character_after : (bs : List ℕ) (n : ℕ) → IsLongestFront IsUtf8 bs n → BeginsWithNoCharacter (drop n bs)
+no_character_after bs n l front rest e s =
+    let long : 0 < length front = omega (arith, IsSequence-some front s) in
+    let next : take (length front) (drop n bs) ≡ front = ap (take (length front)) e ∙ take_at front rest (length front) refl in
+    let total : n + length front ≤ length bs = omega (arith, l.within, ap length e, length-append front rest, length-drop n bs) in
+    let more = l.longest (n + length front) total (IsUtf8_more bs n (length front) l.kind (subst IsSequence (sym next) s)) in
+    omega arith

@@ -1,0 +1,4 @@
+pub mod SequenceLemmas
+pub mod EncodingLemmas
+pub mod FirstBytesLemmas
+pub mod ScalarLemmas

@@ -1,0 +1,2 @@
+pub mod SurrogateLemmas
+pub mod SurrogateLawLemmas

@@ -1,0 +1,30 @@
+-- What a conversion from UTF-8 reads and writes.
+use Rattle.std.specs.Prelude.{◌≡◌, ℕ, ◌≤◌, true, List, ◌++◌, length, take, encode_utf8, encode_utf8_all}
+use Rattle.std.specs.Str.{all_scalars, IsUtf8}
+use Rattle.std.specs.Char.{IsScalar}
+use Rattle.std.specs.Char.Escape.{encode_utf16}
+use Rattle.std.specs.List.{flat_map}
+use Rattle.encoding_definitions.specs.Fronts.{IsLongestFront, FitsLongest, WritesFront}
+
+-- the characters of the longest well-formed front
+pub record IsText (bs scalars : List ℕ) : Type 0 where
+  pub valid : ℕ
+  pub front : IsLongestFront IsUtf8 bs valid
+  pub are_scalars : all_scalars scalars ≡ true
+  pub spelled : encode_utf8_all scalars ≡ take valid bs
+
+-- of the characters of the longest well-formed front of src, the longest front that fits is read and written
+pub record ConvertsLongest {A : Type 0} (encode : ℕ → List A) (src : List ℕ) (old new : List A) (read written : ℕ) : Type 0 where
+  pub scalars : List ℕ
+  pub text : IsText src scalars
+  pub out : List A
+  pub longest : FitsLongest encode_utf8 encode scalars (length old) read out
+  pub writes : WritesFront old new written out
+
+-- a character whose output is no longer than the room begins the bytes
+abbrev pub FittingBegins : {A : Type 0} → (ℕ → List A) → List ℕ → ℕ → Type 0
+FittingBegins encode bs room = (c : ℕ) × (rest : List ℕ) × IsScalar c × (bs ≡ encode_utf8 c ++ rest) × (length (encode c) ≤ room)
+
+-- the characters of the longest well-formed front of src are written in UTF-16
+abbrev pub WritesText : List ℕ → List ℕ → List ℕ → ℕ → Type 0
+WritesText src old new written = (scalars : List ℕ) × IsText src scalars × WritesFront old new written (flat_map encode_utf16 scalars)

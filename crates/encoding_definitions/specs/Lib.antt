@@ -1,0 +1,14 @@
+pub mod Sequence
+pub mod Table
+pub mod Pending
+pub mod Parts
+pub mod Giving
+pub mod Fronts
+pub mod Converting
+pub mod Ascii
+pub mod Latin1
+pub mod Utf16
+pub mod Clearing
+pub mod Surrogates
+pub mod Bidi
+pub mod FirstScalar

@@ -1,0 +1,2 @@
+pub mod BidiBlocksLemmas
+pub mod BidiUnitBlocksLemmas

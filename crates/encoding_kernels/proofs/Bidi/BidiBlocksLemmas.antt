@@ -1,0 +1,217 @@
+-- Places of bytes where right-to-left characters stand: of a text with one there is such a place, and the first two bytes tell where there is none.
+use Rattle.std.proofs.Common.{◌≡◌, ℕ, ◌+◌, ◌-◌, ◌/◌, ◌%◌, ◌<◌, ◌≤◌, ◌⊎◌, inl, inr, List, [], ◌∷◌, ◌++◌, length, take, drop, slice_index, encode_utf8, encode_utf8_all, IsUtf8, refl, sym, ap, ◌∙◌, arith, subst, take-add, true, false, cond, ◌&&◌, leb, ltb, eqb, bit_or}
+use Rattle.std.specs.Prelude.{Any}
+use Rattle.std.specs.Str.{all_scalars}
+use Rattle.std.proofs.str.Laws.{two, three, four, both}
+use Rattle.std.proofs.lemmas.Str.{encode_same, IsUtf8-take, IsUtf8-append}
+use Rattle.std.proofs.lemmas.Bool.{cases_lt, eqb-true, agree_below_at, ltb-false}
+use Rattle.std.proofs.lemmas.Bool.Decides.{nat_tests}
+use Rattle.std.proofs.lemmas.List.{length-append, length-drop, drop_at, drop-drop, get_or-drop, take_at, take-append-drop, length-take, take-take}
+use lib.Utf8.{scalar}
+use Rattle.encoding_definitions.specs.Bidi.{IsRightToLeft, IsBidiText, IsBidiBytes}
+use Rattle.encoding_definitions.specs.Fronts.{IsLongestFront}
+use Rattle.encoding_definitions.specs.Parts.{BeginsWithNoCharacter}
+use Rattle.encoding_definitions.specs.Sequence.{IsSequence}
+use Rattle.encoding_kernels.specs.Strides.{AllBelow, BelowUpTo}
+use Rattle.encoding_kernels.specs.BidiBlocks.{second_end, StandsRightToLeft, NoneStands}
+use Rattle.encoding_definitions.proofs.Bidi.AnyLemmas.{Any-none, Any-cons}
+use Rattle.encoding_definitions.proofs.Bidi.BidiTextLemmas.{right_to_left_from, character_bidi, bidi_character, found_in_text, found_in_bytes, bidi_either, stuck_no_text, text_of_latin1, latin1_not_bidi}
+use Rattle.encoding_kernels.proofs.Paired.PairsLemmas.{ascii_latin1}
+use Rattle.encoding_definitions.proofs.LongestFronts.Utf8Lemmas.{IsUtf8-sequence}
+use Rattle.encoding_definitions.proofs.Sequences.SequenceLemmas.{IsSequence-some}
+use Rattle.encoding_definitions.proofs.Sequences.EncodingLemmas.{scalar_of_sequence, IsSequence-encode, length-encode_utf8-le}
+
+-- ---- the first two bytes
+end_hebrew : (a : ℕ) → 0xD6 ≤ a → a ≤ 0xDF → second_end a ≡ 0xFF
+end_hebrew a l h = grind (arith, nat_tests)
+
+second_of_two : (c : ℕ) → 0x590 ≤ c → c < 0x800 → 128 + c % 64 < second_end (192 + c / 64)
+second_of_two c l h = let e = end_hebrew (192 + c / 64) (omega arith) (omega arith) in omega arith
+
+second_of_three : (c : ℕ) → 0x800 ≤ c → c < 0x10000 → IsRightToLeft c → 128 + c / 64 % 64 < second_end (224 + c / 4096)
+second_of_three c l h r = elim (cases_lt c 0x1000) [
+  | inl p ↦ let low : c ≤ 0x8FF = omega arith in
+      let e : 224 + c / 4096 ≡ 0xE0 = omega arith in
+      rw e (omega arith)
+  | inr p ↦ elim (cases_lt c 0x3000) [
+    | inl q ↦ let from : 0x200F ≤ c = omega arith in
+        let to : c ≤ 0x2067 = omega arith in
+        let e : 224 + c / 4096 ≡ 0xE2 = omega arith in
+        rw e (omega arith)
+    | inr q ↦ let from : 0xFB1D ≤ c = omega arith in
+        let to : c ≤ 0xFEFE = omega arith in
+        let e : 224 + c / 4096 ≡ 0xEF = omega arith in
+        rw e (omega arith)
+  ]
+]
+
+second_of_four : (c : ℕ) → 0x10000 ≤ c → IsRightToLeft c → 128 + c / 4096 % 64 < second_end (240 + c / 262144)
+second_of_four c l r =
+    let to : c ≤ 0x1EFFF = omega arith in
+    let e : 240 + c / 262144 ≡ 0xF0 = omega arith in
+    rw e (omega arith)
+
+first_two : (c : ℕ) (rest : List ℕ) → IsRightToLeft c → slice_index (encode_utf8 c ++ rest) 1 < second_end (slice_index (encode_utf8 c ++ rest) 0)
+first_two c rest r = elim (cases_lt c 2048) [
+  | inl p ↦ rw (two c (omega (arith, right_to_left_from c r)) p) (second_of_two c (right_to_left_from c r) p)
+  | inr p ↦ elim (cases_lt c 65536) [
+    | inl q ↦ rw (three c p q) (second_of_three c p q r)
+    | inr q ↦ rw (four c q) (second_of_four c q r)
+  ]
+]
+
+at_place : (bs : List ℕ) (at k : ℕ) (xs : List ℕ) → drop at bs ≡ xs → slice_index xs k ≡ slice_index bs (at + k)
+at_place bs at k xs e = ap (λ ys. slice_index ys k) (sym e) ∙ get_or-drop at bs k 0
+
+pub second_below : (bs : List ℕ) (at : ℕ) → StandsRightToLeft bs at → slice_index bs (at + 1) < second_end (slice_index bs at)
+second_below bs at s =
+    let xs = encode_utf8 s.character ++ s.rest in
+    let first : slice_index xs 0 ≡ slice_index bs at = at_place bs at 0 xs s.spelled ∙ ap (λ k. slice_index bs k) {x = at + 0} {y = at} (omega arith) in
+    let second : slice_index xs 1 ≡ slice_index bs (at + 1) = at_place bs at 1 xs s.spelled in
+    rw (sym first, sym second) (first_two s.character s.rest s.right_to_left)
+
+-- ---- what the lanes hold
+abbrev pub ends_lane : ℕ → ℕ
+ends_lane a = bit_or (bit_or (bit_or (bit_or (cond (leb 0xD6 a && ltb a 0xE0) 0xFF 0) (cond (eqb a 0xE0) 0xA4 0)) (cond (eqb a 0xE2) 0x82 0)) (cond (eqb a 0xEF) 0xBC 0)) (cond (eqb a 0xF0) 0x9F 0)
+
+pub ends_are : (a : ℕ) → a < 256 → ends_lane a ≡ second_end a
+ends_are a l = eqb-true _ _ (agree_below_at (λ x. eqb (ends_lane x) (second_end x)) (λ x. true) 256 a refl l)
+
+-- where no second byte is below the number of the first
+pub none_stands : (bs : List ℕ) (at n : ℕ) → ((k : ℕ) → k < n → ltb (slice_index bs (at + 1 + k)) (second_end (slice_index bs (at + k))) ≡ false) → NoneStands bs at (at + n)
+none_stands bs at n clear = record {
+  each = λ k from to s.
+      let not_below = ltb-false _ _ (clear (k - at) (omega arith)) in
+      let first : at + (k - at) ≡ k = omega arith in
+      let second : at + 1 + (k - at) ≡ k + 1 = omega arith in
+      omega (arith, second_below bs k s, rw (first, second) at not_below);
+}
+
+-- ---- places where none stands
+low_end : (a : ℕ) → a < 0xD6 → second_end a ≡ 0
+low_end a l = grind (arith, nat_tests)
+
+pub none_from_zero : (bs : List ℕ) (at : ℕ) → second_end (slice_index bs at) ≡ 0 → StandsRightToLeft bs at → ⊥
+none_from_zero bs at e s = omega (arith, second_below bs at s)
+
+pub none_low : (bs : List ℕ) (at n : ℕ) → AllBelow 0xD6 bs at n → NoneStands bs at (at + n)
+none_low bs at n low = record { each = λ k from to s. none_from_zero bs k (low_end (slice_index bs k) (low k from to)) s }
+
+pub none_before : (bs : List ℕ) (n : ℕ) → BelowUpTo 0xD6 bs n → NoneStands bs 0 n
+none_before bs n low = record { each = λ k from to s. none_from_zero bs k (low_end (slice_index bs k) (low k to)) s }
+
+pub none_joined : (bs : List ℕ) (a b d : ℕ) → NoneStands bs a b → NoneStands bs b d → NoneStands bs a d
+none_joined bs a b d p q = record { each = λ k from to s. elim (cases_lt k b) [ inl l ↦ p.each k from l s | inr l ↦ q.each k l to s ] }
+
+some_bytes : (c : ℕ) → IsRightToLeft c → 2 ≤ length (encode_utf8 c)
+some_bytes c r = elim (cases_lt c 2048) [
+  | inl p ↦ rw (two c (omega (arith, right_to_left_from c r)) p) (omega arith)
+  | inr p ↦ elim (cases_lt c 65536) [ inl q ↦ rw (three c p q) (omega arith) | inr q ↦ rw (four c q) (omega arith) ]
+]
+
+-- the last byte begins none
+stands_within : (bs : List ℕ) (at : ℕ) → StandsRightToLeft bs at → at + 1 < length bs
+stands_within bs at s = omega (arith, some_bytes s.character s.right_to_left, ap length s.spelled, length-append (encode_utf8 s.character) s.rest, length-drop at bs)
+
+pub none_to_end : (bs : List ℕ) (at last : ℕ) → last ≤ at → NoneStands bs last (length bs - 1) → NoneStands bs at (length bs)
+none_to_end bs at last l none = record { each = λ k from to s. none.each k (omega arith) (omega (arith, stands_within bs k s)) s }
+
+-- ---- the character at a place
+pub stands_spelled : (bs : List ℕ) (at n : ℕ) → IsSequence (take n (drop at bs)) → IsBidiText (take n (drop at bs)) → StandsRightToLeft bs at
+stands_spelled bs at n q b =
+    let c = scalar_of_sequence (take n (drop at bs)) q in
+    record {
+      character = c.0;
+      rest = drop n (drop at bs);
+      scalar = c.1;
+      right_to_left = bidi_character c.0 _ c.2 b;
+      spelled = sym (take-append-drop n (drop at bs)) ∙ ap (λ xs. xs ++ drop n (drop at bs)) (sym c.2);
+    }
+
+pub spelled_stands : (bs : List ℕ) (at n : ℕ) → IsSequence (take n (drop at bs)) → StandsRightToLeft bs at → IsBidiText (take n (drop at bs))
+spelled_stands bs at n q s =
+    let c = scalar_of_sequence (take n (drop at bs)) q in
+    let both_ways = ap (λ xs. xs ++ drop n (drop at bs)) c.2 ∙ take-append-drop n (drop at bs) ∙ s.spelled in
+    let same = (encode_same c.0 s.character (drop n (drop at bs)) s.rest both_ways).0 in
+    character_bidi c.0 _ c.1 c.2 (subst IsRightToLeft (sym same) s.right_to_left)
+
+pub no_character_stands : (bs : List ℕ) (at : ℕ) → BeginsWithNoCharacter (drop at bs) → StandsRightToLeft bs at → ⊥
+no_character_stands bs at none s = none (encode_utf8 s.character) s.rest s.spelled (IsSequence-encode s.character s.scalar)
+
+-- ---- texts
+first_high : (bs : List ℕ) (at : ℕ) → StandsRightToLeft bs at → 0xD6 ≤ slice_index bs at
+first_high bs at s = elim (cases_lt (slice_index bs at) 0xD6) [
+  | inl l ↦ absurd (none_from_zero bs at (low_end _ l) s)
+  | inr l ↦ l
+]
+
+pub bidi_of_place : (bs : List ℕ) (at : ℕ) → IsUtf8 bs → at < length bs → StandsRightToLeft bs at → IsBidiText bs
+bidi_of_place bs at u l s =
+    let n = length (encode_utf8 s.character) in
+    let front : IsUtf8 (take at bs) = IsUtf8-take bs at u (omega arith, λ _ _. omega (arith, first_high bs at s)) in
+    let here : encode_utf8 s.character ≡ take n (drop at bs) = sym (take_at (encode_utf8 s.character) s.rest n refl) ∙ ap (take n) (sym s.spelled) in
+    found_in_text bs at n u (omega arith) front (character_bidi s.character _ s.scalar here s.right_to_left)
+
+place_in : (cs : List ℕ) → all_scalars cs ≡ true → Any IsRightToLeft cs → (k : ℕ) × (k < length (encode_utf8_all cs)) × StandsRightToLeft (encode_utf8_all cs) k
+place_in [] s a = absurd (Any-none IsRightToLeft a)
+place_in (c ∷ cs) s a =
+    let parts = both (scalar c) (all_scalars cs) s in
+    let rest = encode_utf8_all cs in
+    elim (Any-cons IsRightToLeft c cs a) [
+      | inl r ↦ (0, omega (arith, some_bytes c r, length-append (encode_utf8 c) rest), record { character = c; rest = rest; scalar = parts.0; right_to_left = r; spelled = refl })
+      | inr b ↦
+          let found = place_in cs parts.1 b in
+          let at = length (encode_utf8 c) + found.0 in
+          let behind : drop at (encode_utf8 c ++ rest) ≡ drop found.0 rest = sym (drop-drop found.0 (length (encode_utf8 c)) (encode_utf8 c ++ rest)) ∙ ap (drop found.0) (drop_at (encode_utf8 c) rest (length (encode_utf8 c)) refl) in
+          let s = found.2 in (
+            at,
+            omega (arith, found.1, length-append (encode_utf8 c) rest),
+            record { character = s.character; rest = s.rest; scalar = s.scalar; right_to_left = s.right_to_left; spelled = behind ∙ s.spelled },
+          )
+    ]
+
+pub place_of_bidi : (bs : List ℕ) → IsBidiText bs → (k : ℕ) × (k < length bs) × StandsRightToLeft bs k
+place_of_bidi bs b = subst (λ xs. (k : ℕ) × (k < length xs) × StandsRightToLeft xs k) b.2 (place_in b.0 b.1 b.3)
+
+-- ---- a piece of bytes behind a front without any
+module _ (bs piece : List ℕ) (at m : ℕ) (is : piece ≡ take m (drop at bs)) where
+  front_of : (n : ℕ) → n ≤ m → take n piece ≡ take n (drop at bs)
+  front_of n l = ap (take n) is ∙ take-take n m (drop at bs) l
+
+  -- where no character begins behind a longest front of the piece, none begins what is left
+  nothing_begins : (n : ℕ) → (4 ≤ m - n) ⊎ (length (drop at bs) ≤ m) → IsLongestFront IsUtf8 piece n → n ≤ m → BeginsWithNoCharacter (drop (at + n) bs)
+  nothing_begins n long f le front rest e q =
+      let k = length front in
+      let c = scalar_of_sequence front q in
+      let few : k ≤ 4 = omega (arith, length-encode_utf8-le c.0 c.1, ap length c.2) in
+      let inside : n + k ≤ length (drop at bs) = omega (arith, ap length e, length-append front rest, length-drop (at + n) bs, length-drop at bs, f.within, ap length is, length-take m (drop at bs)) in
+      let within : n + k ≤ m = elim long [ inl l ↦ omega arith | inr l ↦ omega arith ] in
+      let behind : drop n (drop at bs) ≡ front ++ rest = drop-drop n at bs ∙ e in
+      let next : take k (drop n (drop at bs)) ≡ front = ap (take k) behind ∙ take_at front rest k refl in
+      let more : take (n + k) piece ≡ take n piece ++ front =
+      front_of (n + k) within ∙ take-add n k (drop at bs) ∙ ap (λ xs. xs ++ take k (drop n (drop at bs))) (sym (front_of n le)) ∙ ap (λ xs. take n piece ++ xs) next in
+      let room : n + k ≤ length piece = omega (arith, ap length is, length-take m (drop at bs)) in
+      let text = subst IsUtf8 (sym more) (IsUtf8-append (take n piece) front f.kind (IsUtf8-sequence front q)) in
+      omega (arith, f.longest (n + k) room text, IsSequence-some front q)
+
+  module _ (n : ℕ) (within : n ≤ m) (v : IsUtf8 (take at bs)) where
+    pub piece_text : IsUtf8 (take n piece) → IsUtf8 (take (at + n) bs)
+    piece_text u = subst IsUtf8 (sym (take-add at n bs)) (IsUtf8-append (take at bs) (take n (drop at bs)) v (subst IsUtf8 (front_of n within) u))
+
+    pub piece_none : (IsBidiText (take at bs) → ⊥) → IsUtf8 (take n piece) → (IsBidiText (take n piece) → ⊥) → IsBidiText (take (at + n) bs) → ⊥
+    piece_none none u not b =
+        let w = subst IsUtf8 (front_of n within) u in
+        elim (bidi_either (take at bs) (take n (drop at bs)) v w (subst IsBidiText (take-add at n bs) b)) [
+          | inl a ↦ none a
+          | inr a ↦ not (subst IsBidiText (sym (front_of n within)) a)
+        ]
+
+    pub not_text : (4 ≤ m - n) ⊎ (length (drop at bs) ≤ m) → IsLongestFront IsUtf8 piece n → at + n < length bs → IsUtf8 bs → ⊥
+    not_text long f l u = stuck_no_text bs (at + n) l (piece_text f.kind) (nothing_begins n long f within) u
+
+    pub piece_found : at ≤ length bs → IsBidiText (take n piece) → IsBidiBytes bs
+    piece_found l b = found_in_bytes bs at n l v (subst IsBidiText (front_of n within) b)
+
+-- ---- an ASCII front
+pub ascii_text : (bs : List ℕ) (n : ℕ) → n ≤ length bs → BelowUpTo 0x80 bs n → IsUtf8 (take n bs) × (IsBidiText (take n bs) → ⊥)
+ascii_text bs n l low = let latin1 = ascii_latin1 bs n l low in (text_of_latin1 (take n bs) latin1, latin1_not_bidi (take n bs) latin1)

@@ -1,0 +1,2 @@
+pub mod PairedUnitsLemmas
+pub mod UnitBlocksLemmas

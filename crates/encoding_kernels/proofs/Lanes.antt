@@ -1,0 +1,16 @@
+pub mod ChunksLemmas
+pub mod EndsLemmas
+pub mod HalvesLemmas
+pub mod KeptLemmas
+pub mod LaneLemmas
+pub mod LongLemmas
+pub mod NarrowLemmas
+pub mod PlacesLemmas
+pub mod PutLemmas
+pub mod SpellingLemmas
+pub mod StoresLemmas
+pub mod StridesLemmas
+pub mod TestLemmas
+pub mod UnitBytesLemmas
+pub mod UnitLanesLemmas
+pub mod ZerosLemmas

@@ -1,0 +1,82 @@
+-- The strides of a part of a list: where each stands in the list.
+use Rattle.std.proofs.Common.{◌≡◌, ℕ, zero, suc, ◌+◌, ◌-◌, ◌*◌, ◌/◌, ◌<◌, ◌≤◌, ◌↔◌, inl, inr, List, length, length-take, length-drop, take, drop, drop-drop, get_or, slice_index, refl, sym, ap, ◌∙◌, arith}
+use Rattle.std.proofs.Math.Nat.{div-mul-le_self, mul-le-mul_right}
+use Rattle.std.proofs.lemmas.Bool.{cases_lt}
+use Rattle.std.proofs.lemmas.List.{drop-take, take-take, get_or-take, get_or-drop}
+use Rattle.std.specs.Simd.{first_chunks}
+use Rattle.encoding_kernels.specs.Strides.{AllBelow, BelowUpTo, IsRunBelow}
+
+-- the stride of a number
+pub numbered : (n k : ℕ) (xs : List ℕ) (i : ℕ) (d : List ℕ) → i < k → get_or (first_chunks n k xs) i d ≡ take n (drop (i * n) xs)
+numbered n zero xs i d h = absurd (omega arith)
+numbered n (suc k) xs zero d h = let e : 0 * n ≡ 0 = omega arith in rw e refl
+numbered n (suc k) xs (suc i) d h =
+    let e : n + i * n ≡ suc i * n = omega arith in
+    numbered n k (drop n xs) i d (omega arith) ∙ ap (take n) (drop-drop (i * n) n xs ∙ ap (λ m. drop m xs) e)
+
+-- so many strides are no longer than the list
+pub many : (n k i long : ℕ) → k ≡ long / n → i < k → i * n + n ≤ long
+many n k i long e l = omega (arith, e, div-mul-le_self long n, mul-le-mul_right {m = i + 1} {n = long / n} n (omega (arith, e)))
+
+-- the stride of a number of a list, where the strides before it end at a place
+pub whole_stride : (n : ℕ) (xs d : List ℕ) {i at : ℕ} {stride : List ℕ} {strides : List (List ℕ)} → stride ≡ get_or strides i d → strides ≡ first_chunks n (length xs / n) xs
+    → length strides ≡ length xs / n → at ≡ i * n → i < length strides → stride ≡ take n (drop at xs)
+whole_stride n xs d {i} is are count place l =
+    is ∙ ap (λ ys. get_or ys i d) are ∙ numbered n (length xs / n) xs i d (omega (arith, count, l)) ∙ ap (λ m. take n (drop m xs)) (sym place)
+
+-- the same of a part from one place on up to another
+pub stride_is : (n from to : ℕ) (xs d : List ℕ) {i at : ℕ} {stride : List ℕ} {strides : List (List ℕ)} → stride ≡ get_or strides i d
+    → strides ≡ first_chunks n (length (take (to - from) (drop from xs)) / n) (take (to - from) (drop from xs))
+    → length strides ≡ length (take (to - from) (drop from xs)) / n → at ≡ from + i * n → i < length strides → stride ≡ take n (drop at xs)
+stride_is n from to xs d {i} {strides = strides} is are count place l =
+    let part : List ℕ = take (to - from) (drop from xs) in
+    let within : i * n + n ≤ length part = many n (length strides) i (length part) count l in
+    let short : i * n + (to - from - i * n) ≡ to - from = omega (arith, within, length-take (to - from) (drop from xs)) in
+    let behind : drop (i * n) part ≡ take (to - from - i * n) (drop (i * n) (drop from xs)) =
+    ap (λ m. drop (i * n) (take m (drop from xs))) (sym short) ∙ drop-take (i * n) (to - from - i * n) (drop from xs) in
+    whole_stride n part d is are count refl l
+    ∙ ap (take n) behind ∙ take-take n (to - from - i * n) (drop (i * n) (drop from xs)) (omega (arith, within, length-take (to - from) (drop from xs)))
+    ∙ ap (take n) (drop-drop (i * n) from xs ∙ ap (λ m. drop m xs) (sym place))
+
+-- its end is within the part and the list
+pub stride_ends : (n from to at i k : ℕ) (xs : List ℕ) → at ≡ from + i * n → k ≡ length (take (to - from) (drop from xs)) / n → i < k → from ≤ to → from ≤ length xs
+    → (at + n ≤ to) × (at + n ≤ length xs)
+stride_ends n from to at i k xs place count l m o =
+    let within = many n k i (length (take (to - from) (drop from xs))) count l in
+    let long = length-take (to - from) (drop from xs) in
+    let rest = length-drop from xs in
+    (omega (arith, place, within, long), omega (arith, place, within, long, rest))
+
+-- what a stride has, the list has from its place on
+module _ (bound at n : ℕ) (xs stride : List ℕ) (is : stride ≡ take n (drop at xs)) where
+  pub unit_is : (k : ℕ) → k < n → slice_index stride k ≡ slice_index xs (at + k)
+  unit_is k l = ap (λ ys. slice_index ys k) is ∙ get_or-take n (drop at xs) k 0 l ∙ get_or-drop at xs k 0
+
+  pub below_stride : AllBelow bound stride 0 n ↔ AllBelow bound xs at n
+  below_stride = (
+    λ h k from to. let e : at + (k - at) ≡ k = omega arith in rw (sym e, sym (unit_is (k - at) (omega arith))) (h (k - at) (omega arith) (omega arith)),
+    λ h k from to. rw (unit_is k (omega arith)) (h (at + k) (omega arith) (omega arith)),
+  )
+
+  -- and before it each: so they are as far as its end
+  pub below_on : BelowUpTo bound xs at → AllBelow bound stride 0 n → BelowUpTo bound xs (at + n)
+  below_on before whole k l = elim (cases_lt k at) [ inl p ↦ before k p | inr p ↦ below_stride.0 whole k p l ]
+
+  pub run_in_stride : (run : ℕ) → IsRunBelow bound stride 0 n run → IsRunBelow bound xs at n run
+  run_in_stride run r = record {
+    within = r.within;
+    below = λ k from to. let e : at + (k - at) ≡ k = omega arith in rw (sym e, sym (unit_is (k - at) (omega (arith, r.within)))) (r.below (k - at) (omega arith) (omega arith));
+    stops = λ short. let e : 0 + run ≡ run = omega arith in rw (sym (unit_is run short)) (rw e at (r.stops short));
+  }
+
+-- where each unit of a list is below the bound, each of a stride is
+pub each_in_stride : (bound n : ℕ) (xs d : List ℕ) {i : ℕ} {stride : List ℕ} {strides : List (List ℕ)} → stride ≡ get_or strides i d → strides ≡ first_chunks n (length xs / n) xs
+    → length strides ≡ length xs / n → i < length strides → BelowUpTo bound xs (length xs) → AllBelow bound stride 0 n
+each_in_stride bound n xs d {i} {stride} {strides} is are count l each =
+    (below_stride bound (i * n) n xs stride (whole_stride n xs d is are count refl l)).1 (λ k _ m. each k (omega (arith, m, many n (length strides) i (length xs) count l)))
+
+-- where each unit before a stride is below the bound, and each of the stride, each before the next one is
+pub below_next_stride : (bound n : ℕ) (xs d : List ℕ) {i : ℕ} {stride : List ℕ} {strides : List (List ℕ)} → stride ≡ get_or strides i d → strides ≡ first_chunks n (length xs / n) xs
+    → length strides ≡ length xs / n → i < length strides → BelowUpTo bound xs (i * n) → AllBelow bound stride 0 n → BelowUpTo bound xs ((i + 1) * n)
+below_next_stride bound n xs d {i} {stride} is are count l before whole k m =
+    below_on bound (i * n) n xs stride (whole_stride n xs d is are count refl l) before whole k (omega (arith, m))

@@ -1,0 +1,242 @@
+-- Pairs of bytes in a vector of sixteen: which of them end a byte of Latin1, and which bytes these are.
+use Rattle.std.proofs.Common.{◌≡◌, ℕ, zero, suc, ◌+◌, ◌-◌, ◌*◌, ◌/◌, ◌%◌, ◌^◌, ◌<◌, ◌≤◌, ◌⊎◌, inl, inr, Bool, true, false, cond, ◌&&◌, ltb, List, [], ◌∷◌, ◌++◌, map, length, take, drop, get_or, replicate, bit_and, refl, sym, ap, ◌∙◌, arith, subst, w8, w16, Fits, length-append}
+use Rattle.std.specs.Prelude.{nat_lt, nat_le}
+use Rattle.std.proofs.lemmas.Bool.{cases_lt, lt-ltb, le-ltb}
+use Rattle.std.proofs.lemmas.Bool.Decides.{nat_tests}
+use Rattle.std.proofs.lemmas.List.{append-nil, drop_more, get_or-drop, get_or-map, length-map, same_lists, take-map}
+use Rattle.std.proofs.lemmas.Nat.{and_mask}
+use Rattle.std.proofs.lemmas.Simd.{get_or-chunk, get_or_wider, get_or_narrower, Each1-from_get_or, Each1-get_or, pick_l-range_with_len, mask_l-mod, mask_l-lt, swz_l}
+use Rattle.std.specs.Int.RustNames.{count_ones}
+use Rattle.std.specs.List.{range_with_len}
+use Rattle.std.specs.Simd.Lanes.{number_l, digits_l, mask_l, top, zip2, sel_l, pick_l, Each1}
+use lib.Dec.{leb}
+use Rattle.encoding_kernels.specs.Lanes.{HasLanes}
+use Rattle.encoding_kernels.specs.Spelling.{kept_places, ended, all_ended, both_end, EndsPair}
+use Rattle.encoding_kernels.proofs.Validation.FollowingLemmas.{one_before}
+use Rattle.encoding_kernels.proofs.Lanes.LaneLemmas.{HasLanes-itself, HasLanes-splat, HasLanes-zip2, HasLanes-select, HasLanes-same, compared, top_compared, mask_of}
+use Rattle.encoding_kernels.proofs.Lanes.TestLemmas.{tests_of, tests_and}
+use Rattle.encoding_kernels.proofs.Lanes.SpellingLemmas.{kept_long, looked_up}
+use Rattle.encoding_kernels.proofs.Latin.EndedLemmas.{ended_ascii, ended_last, ended_none, PairAt, pairs_kept, both_end_long}
+
+-- ---- two bytes as one number
+two_at : (bs : List ℕ) (i : ℕ) → i + 1 < length bs → take 2 (drop i bs) ≡ get_or bs i 0 ∷ get_or bs (i + 1) 0 ∷ []
+two_at bs i l = ap (take 2) (drop_more bs i 0 (omega arith)) ∙ ap (λ xs. get_or bs i 0 ∷ take 1 xs) (drop_more bs (i + 1) 0 l)
+
+joined : (x y : ℕ) → number_l 256 (x ∷ y ∷ []) ≡ x + 256 * y
+joined x y = omega arith
+
+abbrev pub wide_l : List ℕ → List ℕ
+wide_l bs = digits_l 65536 8 (number_l 256 bs)
+
+pub wide : (bs : List ℕ) → length bs ≡ 16 → Each1 (λ x. x < 256) bs → HasLanes 8 (wide_l bs) (λ j. get_or bs (2 * j) 0 + 256 * get_or bs (2 * j + 1) 0)
+wide bs long fit = record {
+  long = refl;
+  each = λ j l. get_or_wider 256 2 65536 8 bs j refl fit l ∙ ap (number_l 256) (two_at bs (2 * j) (omega arith)) ∙ joined (get_or bs (2 * j) 0) (get_or bs (2 * j + 1) 0);
+}
+
+low_half : (a b : ℕ) → a < 256 → bit_and (a + 256 * b) 0xFF ≡ a
+low_half a b l = let mask : bit_and (a + 256 * b) 0xFF ≡ (a + 256 * b) % 2 ^ 8 = and_mask (a + 256 * b) 8 in omega arith
+
+-- ---- the byte that x ends behind p
+abbrev end_of : ℕ → ℕ → ℕ
+end_of p x = cond (nat_le 0x80 x) ((p * 2 ^ 6 % 2 ^ 8 + bit_and x 0x3F) % 2 ^ 8) x
+
+end_small : (p x : ℕ) → x < 256 → end_of p x < 256
+end_small p x l = pick (nat_le 0x80 x)
+  where
+    pick : (t : Bool) → cond t ((p * 2 ^ 6 % 2 ^ 8 + bit_and x 0x3F) % 2 ^ 8) x < 256
+    pick true = omega arith
+    pick false = l
+
+end_is : (p x : ℕ) → x < 0xC0 → (end_of p x ∷ []) ≡ ended p x
+end_is p x l = elim (cases_lt x 0x80) [
+  | inl low ↦ let test : nat_le 0x80 x ≡ false = grind (arith, nat_tests) in rw test (sym (ended_ascii p x low))
+  | inr high ↦
+      let test : nat_le 0x80 x ≡ true = grind (arith, nat_tests) in
+      let six : bit_and x 0x3F ≡ x % 2 ^ 6 = and_mask x 6 in
+      let same : (p * 2 ^ 6 % 2 ^ 8 + bit_and x 0x3F) % 2 ^ 8 ≡ (p * 64 + x % 64) % 256 = omega arith in
+      rw (test, same) (sym (ended_last p x high l))
+]
+
+-- ---- a pair
+abbrev pair_word : ℕ → ℕ → ℕ → ℕ
+pair_word p a b = cond (nat_le 0xC0 (bit_and (a + 256 * b) 0xFF)) ((end_of p a + 256 * end_of a b) / 2 ^ 8) (end_of p a + 256 * end_of a b)
+
+pair_ends : (p a b : ℕ) → a < 256 → b < 256 → EndsPair p a b (pair_word p a b / 256 ^ 0 % 256) (pair_word p a b / 256 ^ 1 % 256)
+pair_ends p a b A B either =
+    let low = low_half a b A in
+    let first = end_small p a A in
+    let second = end_small a b B in
+    elim (cases_lt a 0xC0) [
+      | inl l ↦
+          let test : nat_le 0xC0 (bit_and (a + 256 * b) 0xFF) ≡ false = rw low (grind (arith, nat_tests)) in
+          let word : pair_word p a b ≡ end_of p a + 256 * end_of a b = ap (λ t. cond t ((end_of p a + 256 * end_of a b) / 2 ^ 8) (end_of p a + 256 * end_of a b)) test in
+          let x : pair_word p a b / 256 ^ 0 % 256 ≡ end_of p a = ap (λ n. n / 256 ^ 0 % 256) word ∙ omega arith in
+          let y : pair_word p a b / 256 ^ 1 % 256 ≡ end_of a b = ap (λ n. n / 256 ^ 1 % 256) word ∙ omega arith in
+          elim (cases_lt b 0xC0) [
+            | inl m ↦
+                let both : (nat_lt a 0xC0 && nat_lt b 0xC0) ≡ true = grind (arith, nat_tests) in
+                chosen (nat_lt a 0xC0 && nat_lt b 0xC0) true _ _ _ both ((λ i. x i ∷ y i ∷ []) ∙ (λ i. end_is p a l i ++ end_is a b m i))
+            | inr m ↦
+                let both : (nat_lt a 0xC0 && nat_lt b 0xC0) ≡ false = grind (arith, nat_tests) in
+                chosen (nat_lt a 0xC0 && nat_lt b 0xC0) false _ _ _ both
+                ((λ i. x i ∷ []) ∙ end_is p a l ∙ sym (append-nil (ended p a)) ∙ ap (λ ys. ended p a ++ ys) (sym (ended_none a b m)))
+          ]
+      | inr l ↦
+          let m : b < 0xC0 = elim either [ inl h ↦ absurd (omega arith) | inr h ↦ h ] in
+          let test : nat_le 0xC0 (bit_and (a + 256 * b) 0xFF) ≡ true = rw low (grind (arith, nat_tests)) in
+          let word : pair_word p a b ≡ (end_of p a + 256 * end_of a b) / 2 ^ 8 = ap (λ t. cond t ((end_of p a + 256 * end_of a b) / 2 ^ 8) (end_of p a + 256 * end_of a b)) test in
+          let x : pair_word p a b / 256 ^ 0 % 256 ≡ end_of a b = ap (λ n. n / 256 ^ 0 % 256) word ∙ omega arith in
+          let both : (nat_lt a 0xC0 && nat_lt b 0xC0) ≡ false = grind (arith, nat_tests) in
+          chosen (nat_lt a 0xC0 && nat_lt b 0xC0) false _ _ _ both ((λ i. x i ∷ []) ∙ end_is a b m ∙ ap (λ ys. ys ++ ended a b) (sym (ended_none p a l)))
+    ]
+  where
+    chosen : (t s : Bool) (x y : ℕ) (out : List ℕ) → t ≡ s → cond s (x ∷ y ∷ []) (x ∷ []) ≡ out → cond t (x ∷ y ∷ []) (x ∷ []) ≡ out
+    chosen t s x y out e h = ap (λ u. cond u (x ∷ y ∷ []) (x ∷ [])) e ∙ h
+
+-- ---- lanes
+abbrev before_l : List ℕ → List ℕ
+before_l bs = pick_l 0 (replicate 16 0 ++ bs) (range_with_len 15 16)
+
+abbrev ends_l : List ℕ → List ℕ
+ends_l bs = sel_l (map (top 7) (zip2 (compared w8 leb) (replicate 16 0x80) bs))
+    (zip2 (λ a b. (a + b) % 2 ^ 8) (zip2 (λ a b. a * 2 ^ b % 2 ^ 8) (before_l bs) (replicate 16 6)) (zip2 bit_and bs (replicate 16 0x3F))) bs
+
+abbrev pub result_l : List ℕ → List ℕ
+result_l bs = sel_l (map (top 15) (zip2 (compared w16 leb) (replicate 8 0xC0) (zip2 bit_and (wide_l bs) (replicate 8 0xFF))))
+    (zip2 (λ a b. a / 2 ^ b) (wide_l (ends_l bs)) (replicate 8 8)) (wide_l (ends_l bs))
+
+module _ (bs : List ℕ) (long : length bs ≡ 16) (fits : Each1 (Fits w8) bs) where
+  byte : (k : ℕ) → k < 16 → get_or bs k 0 < 256
+  byte k l = (Each1-get_or (Fits w8) bs k 0 (omega arith) fits).fits
+
+  bytes_fit : Each1 (λ x. x < 256) bs
+  bytes_fit = Each1-from_get_or (λ x. x < 256) bs 0 (λ k l. byte k (omega arith))
+
+  before_lanes : HasLanes 16 (before_l bs) (λ k. get_or (0 ∷ bs) k 0)
+  before_lanes =
+      let all = replicate 16 0 ++ bs in
+      let room : 15 + 16 ≤ length all = omega (arith, length-append (replicate 16 0) bs) in
+      record {
+        long = refl;
+        each = λ k l. ap (λ xs. get_or xs k 0) (pick_l-range_with_len 0 all 15 16 room) ∙ get_or-chunk 15 16 all k 0 l ∙ sym (get_or-drop 15 all k 0);
+      }
+
+  ends_lanes : HasLanes 16 (ends_l bs) (λ k. end_of (get_or (0 ∷ bs) k 0) (get_or bs k 0))
+  ends_lanes =
+      let lanes = HasLanes-itself 16 bs long in
+      let high = HasLanes-zip2 (λ a b. a * 2 ^ b % 2 ^ 8) before_lanes (HasLanes-splat 16 6) in
+      let low = HasLanes-zip2 bit_and lanes (HasLanes-splat 16 0x3F) in
+      let tests = HasLanes-zip2 (compared w8 leb) (HasLanes-splat 16 0x80) lanes in
+      HasLanes-same (HasLanes-select 7 tests (HasLanes-zip2 (λ a b. (a + b) % 2 ^ 8) high low) lanes)
+      (λ k l. ap (λ t. cond t ((get_or (0 ∷ bs) k 0 * 2 ^ 6 % 2 ^ 8 + bit_and (get_or bs k 0) 0x3F) % 2 ^ 8) (get_or bs k 0)) (top_compared w8 (leb 0x80 (get_or bs k 0))))
+
+  ends_fit : Each1 (λ x. x < 256) (ends_l bs)
+  ends_fit = Each1-from_get_or (λ x. x < 256) (ends_l bs) 0 (λ k l.
+      let in_lanes : k < 16 = omega (arith, ends_lanes.long) in
+      let is = ends_lanes.each k in_lanes in
+      omega (arith, is, end_small (get_or (0 ∷ bs) k 0) (get_or bs k 0) (byte k in_lanes)))
+
+  -- what stands before the second byte of a pair
+  first_before : (k : ℕ) → get_or (0 ∷ bs) (2 * k + 1) 0 ≡ get_or bs (2 * k) 0
+  first_before k = let place : 2 * k + 1 - 1 ≡ 2 * k = omega arith in one_before bs (2 * k + 1) (omega arith) ∙ ap (λ j. get_or bs j 0) place
+
+  words_lanes : HasLanes 8 (wide_l (ends_l bs)) (λ k. end_of (get_or (0 ∷ bs) (2 * k) 0) (get_or bs (2 * k) 0) + 256 * end_of (get_or bs (2 * k) 0) (get_or bs (2 * k + 1) 0))
+  words_lanes = HasLanes-same (wide (ends_l bs) ends_lanes.long ends_fit) (λ k l.
+      let first = ends_lanes.each (2 * k) (omega arith) in
+      let second = ends_lanes.each (2 * k + 1) (omega arith) ∙ ap (λ p. end_of p (get_or bs (2 * k + 1) 0)) (first_before k) in
+      (λ i. first i + 256 * second i))
+
+  result_lanes : HasLanes 8 (result_l bs) (λ k. pair_word (get_or (0 ∷ bs) (2 * k) 0) (get_or bs (2 * k) 0) (get_or bs (2 * k + 1) 0))
+  result_lanes =
+      let halves = HasLanes-zip2 bit_and (wide bs long bytes_fit) (HasLanes-splat 8 0xFF) in
+      let tests = HasLanes-zip2 (compared w16 leb) (HasLanes-splat 8 0xC0) halves in
+      let shifted = HasLanes-zip2 (λ a b. a / 2 ^ b) words_lanes (HasLanes-splat 8 8) in
+      HasLanes-same (HasLanes-select 15 tests shifted words_lanes) (λ k l.
+      let word = end_of (get_or (0 ∷ bs) (2 * k) 0) (get_or bs (2 * k) 0) + 256 * end_of (get_or bs (2 * k) 0) (get_or bs (2 * k + 1) 0) in
+      ap (λ t. cond t (word / 2 ^ 8) word) (top_compared w16 (leb 0xC0 (bit_and (get_or bs (2 * k) 0 + 256 * get_or bs (2 * k + 1) 0) 0xFF))))
+
+  pair_small : (p a b : ℕ) → a < 256 → b < 256 → pair_word p a b < 65536
+  pair_small p a b A B = pick (nat_le 0xC0 (bit_and (a + 256 * b) 0xFF))
+    where
+      pick : (t : Bool) → cond t ((end_of p a + 256 * end_of a b) / 2 ^ 8) (end_of p a + 256 * end_of a b) < 65536
+      pick true = omega (arith, end_small p a A, end_small a b B)
+      pick false = omega (arith, end_small p a A, end_small a b B)
+
+  results_fit : Each1 (λ x. x < 65536) (result_l bs)
+  results_fit = Each1-from_get_or (λ x. x < 65536) (result_l bs) 0 (λ k l.
+      let in_lanes : k < 8 = omega (arith, result_lanes.long) in
+      let is = result_lanes.each k in_lanes in
+      omega (arith, is, pair_small (get_or (0 ∷ bs) (2 * k) 0) (get_or bs (2 * k) 0) (get_or bs (2 * k + 1) 0) (byte (2 * k) (omega arith)) (byte (2 * k + 1) (omega arith))))
+
+  pub pairs_end : (k : ℕ) → k < 8
+      → EndsPair (get_or (0 ∷ bs) (2 * k) 0) (get_or bs (2 * k) 0) (get_or bs (2 * k + 1) 0) (get_or (digits_l 256 16 (number_l 65536 (result_l bs))) (2 * k) 0) (get_or (digits_l 256 16 (number_l 65536 (result_l bs))) (2 * k + 1) 0)
+  pairs_end k l =
+      let p = get_or (0 ∷ bs) (2 * k) 0 in
+      let a = get_or bs (2 * k) 0 in
+      let b = get_or bs (2 * k + 1) 0 in
+      let place : 2 * k ≡ 2 * k + 0 = omega arith in
+      let first = ap (λ j. get_or (digits_l 256 16 (number_l 65536 (result_l bs))) j 0) place ∙ get_or_narrower 65536 2 256 16 (result_l bs) k 0 (omega arith) results_fit (omega arith) (omega arith) ∙ ap (λ n. n / 256 ^ 0 % 256) (result_lanes.each k l) in
+      let second = get_or_narrower 65536 2 256 16 (result_l bs) k 1 (omega arith) results_fit (omega arith) (omega arith) ∙ ap (λ n. n / 256 ^ 1 % 256) (result_lanes.each k l) in
+      same_pair p a b first second (pair_ends p a b (byte (2 * k) (omega arith)) (byte (2 * k + 1) (omega arith)))
+    where
+      same_pair : (p a b : ℕ) {x y x2 y2 : ℕ} → x ≡ x2 → y ≡ y2 → EndsPair p a b x2 y2 → EndsPair p a b x y
+      same_pair p a b {x} {y} {x2} {y2} e f h = subst (λ k. EndsPair p a b k y) (sym e) (subst (EndsPair p a b x2) (sym f) h)
+
+  -- ---- the mask
+  abbrev tests_l : List ℕ
+  tests_l = zip2 bit_and (zip2 (compared w16 ltb) (zip2 bit_and (wide_l bs) (replicate 8 0xFF)) (replicate 8 0xC0)) (zip2 (compared w16 ltb) (wide_l bs) (replicate 8 0xC000))
+
+  high_test : (a b : ℕ) → a < 256 → ltb (a + 256 * b) 0xC000 ≡ nat_lt b 0xC0
+  high_test a b A = elim (cases_lt b 0xC0) [
+    | inl l ↦ lt-ltb (a + 256 * b) 0xC000 (omega arith) ∙ sym (lt-ltb b 0xC0 l)
+    | inr l ↦ le-ltb (a + 256 * b) 0xC000 (omega arith) ∙ sym (le-ltb b 0xC0 l)
+  ]
+
+  both_end_at : (xs : List ℕ) (k : ℕ) (d : Bool) → 2 * k + 1 < length xs → get_or (both_end xs) k d ≡ (nat_lt (get_or xs (2 * k) 0) 0xC0 && nat_lt (get_or xs (2 * k + 1) 0) 0xC0)
+  both_end_at [] k d l = absurd (omega arith)
+  both_end_at (a ∷ []) k d l = absurd (omega arith)
+  both_end_at (a ∷ b ∷ xs) zero d l = refl
+  both_end_at (a ∷ b ∷ xs) (suc k) d l =
+      let one : suc (suc (2 * k)) ≡ 2 * suc k = omega arith in
+      let two : suc (suc (2 * k + 1)) ≡ 2 * suc k + 1 = omega arith in
+      both_end_at xs k d (omega arith) ∙ (λ i. nat_lt (get_or (a ∷ b ∷ xs) (one i) 0) 0xC0 && nat_lt (get_or (a ∷ b ∷ xs) (two i) 0) 0xC0)
+
+  tests_are : map (top 15) tests_l ≡ both_end bs
+  tests_are =
+      let words = wide bs long bytes_fit in
+      let first = tests_of w16 ltb (HasLanes-zip2 bit_and words (HasLanes-splat 8 0xFF)) (HasLanes-splat 8 0xC0) in
+      let second = tests_of w16 ltb words (HasLanes-splat 8 0xC000) in
+      let both = tests_and first second in
+      let eight : length (map (top 15) tests_l) ≡ 8 = length-map tests_l (top 15) ∙ both.lanes.long in
+      same_lists (map (top 15) tests_l) (both_end bs) (omega (arith, eight, both_end_long 8 bs (omega arith))) (λ k d l.
+      let in_lanes : k < 8 = omega arith in
+      let a = get_or bs (2 * k) 0 in
+      let b = get_or bs (2 * k + 1) 0 in
+      get_or-map (top 15) tests_l k 0 d (omega (arith, both.lanes.long)) ∙ ap (top 15) (both.lanes.each k in_lanes)
+      ∙ top_compared w16 (ltb (bit_and (a + 256 * b) 0xFF) 0xC0 && ltb (a + 256 * b) 0xC000)
+      ∙ (λ i. ltb (low_half a b (byte (2 * k) (omega arith)) i) 0xC0 && high_test a b (byte (2 * k) (omega arith)) i)
+      ∙ sym (both_end_at bs k d (omega arith)))
+
+  pub mask_ends : mask_of 15 tests_l ≡ mask_l (both_end bs)
+  mask_ends = ap (λ ms. mask_l ms % 2 ^ 64) tests_are ∙ mask_l-mod (both_end bs) 64 (omega (arith, both_end_long 8 bs (omega arith)))
+
+  pub mask_small : mask_l (both_end bs) < 256
+  mask_small = subst (λ n. mask_l (both_end bs) < 2 ^ n) (both_end_long 8 bs (omega arith)) (mask_l-lt (both_end bs))
+
+  -- ---- what is kept
+  pub kept_ends : (bytes places : List ℕ) (mask : ℕ) → length places ≡ 16 → ((k : ℕ) → k < 16 → get_or places k 0 < 16) → mask ≡ mask_l (both_end bs)
+      → take (length (kept_places 0 (both_end bs))) places ≡ kept_places 0 (both_end bs)
+      → ((k : ℕ) → k < 8 → EndsPair (get_or (0 ∷ bs) (2 * k) 0) (get_or bs (2 * k) 0) (get_or bs (2 * k + 1) 0) (get_or bytes (2 * k) 0) (get_or bytes (2 * k + 1) 0))
+      → ((k : ℕ) → (get_or bs k 0 < 0xC0) ⊎ (get_or bs (k + 1) 0 < 0xC0))
+      → take (8 + count_ones mask) (swz_l w8 16 bytes 0 places) ≡ all_ended 0 bs
+  kept_ends bytes places mask many small m kept pairs apart =
+      let get : ℕ → ℕ = λ j. get_or bytes j 0 in
+      let count : 8 + count_ones mask ≡ length (kept_places 0 (both_end bs)) = omega (arith, kept_long 0 (both_end bs), ap count_ones m, both_end_long 8 bs (omega arith)) in
+      ap (λ n. take n (swz_l w8 16 bytes 0 places)) count ∙ ap (take (length (kept_places 0 (both_end bs)))) (looked_up bytes places many small)
+      ∙ take-map get (length (kept_places 0 (both_end bs))) places ∙ ap (map get) kept
+      ∙ pairs_kept get 8 bs 0 0 (omega arith) (λ k l.
+      let next : 2 * k + 1 ≡ suc (2 * k) = omega arith in
+      let place : 2 * k ≡ 0 + 2 * k = omega arith in
+      subst (λ j. PairAt get 0 bs j (2 * k)) place (subst (λ j. cond (nat_lt (get_or bs (2 * k) 0) 0xC0 && nat_lt (get_or bs j 0) 0xC0) (get (2 * k) ∷ get (2 * k + 1) ∷ []) (get (2 * k) ∷ [])
+      ≡ ended (get_or (0 ∷ bs) (2 * k) 0) (get_or bs (2 * k) 0) ++ ended (get_or bs (2 * k) 0) (get_or bs j 0)) next (pairs k l (apart (2 * k)))))

@@ -1,0 +1,67 @@
+-- Two stores of which only the first bytes count: the second covers what the first writes too much.
+use Rattle.std.proofs.Common.{◌≡◌, ℕ, ◌+◌, ◌≤◌, List, ◌++◌, length, take, drop, take-add, length-take-le, length-append, get_or, cond, ltb, sym, ap, ◌∙◌, arith, append_assoc, refl}
+use Rattle.std.proofs.lemmas.List.{take_at, drop_at, drop-drop, take-append-le}
+use Rattle.std.proofs.lemmas.List.FromFn.{get_or-range_with_len}
+use Rattle.std.proofs.lemmas.Simd.{length-put_chunk, length-chunk}
+use Rattle.std.specs.List.{range_with_len}
+use Rattle.std.specs.Simd.Lanes.{chunk, put_chunk, zip2, sel_l, top}
+use Rattle.std.proofs.Common.{map, replicate}
+use mir.Syntax.{Width}
+use mir.Val.{hbits}
+use Rattle.encoding_kernels.specs.Lanes.{HasLanes}
+use Rattle.encoding_kernels.proofs.Lanes.PutLemmas.{put_is}
+use Rattle.encoding_kernels.proofs.Lanes.LaneLemmas.{HasLanes-itself, HasLanes-splat, HasLanes-zip2, HasLanes-select, HasLanes-same, compared, top_compared, put_firsts}
+
+-- the first so many lanes of one vector, and behind them what stands at a place
+pub firsts_over : (w : Width) (at count : ℕ) (xs lanes : List ℕ) → at + 16 ≤ length xs → length lanes ≡ 16
+    → HasLanes 16 (sel_l (map (top (hbits w)) (zip2 (compared w ltb) (range_with_len 0 16) (replicate 16 count))) lanes (chunk at 16 xs)) (λ k. cond (ltb k count) (get_or lanes k 0) (get_or (chunk at 16 xs) k 0))
+firsts_over w at count xs lanes room long =
+    let places : HasLanes 16 (range_with_len 0 16) (λ k. k) = HasLanes-same (HasLanes-itself 16 (range_with_len 0 16) refl) (λ k l. let e : 0 + k ≡ k = omega arith in get_or-range_with_len 0 16 k 0 l ∙ e) in
+    let first = HasLanes-zip2 (compared w ltb) places (HasLanes-splat 16 count) in
+    let chosen = HasLanes-select (hbits w) first (HasLanes-itself 16 lanes long) (HasLanes-itself 16 (chunk at 16 xs) (length-chunk at 16 xs room)) in
+    HasLanes-same chosen (λ k l. ap (λ b. cond b (get_or lanes k 0) (get_or (chunk at 16 xs) k 0)) (top_compared w (ltb k count)))
+
+module _ (at count more : ℕ) (xs first second z : List ℕ) (room : at + 32 ≤ length xs) (few : count ≤ 16) (long : length first ≡ 16) (many : 8 ≤ count)
+    (less : more ≤ 16) (also : length second ≡ 16)
+    (lanes : HasLanes 16 z (λ k. cond (ltb k more) (get_or second k 0) (get_or (chunk (at + count) 16 xs) k 0))) where
+  stored : List ℕ
+  stored = put_chunk at xs first
+
+  stored_is : stored ≡ take at xs ++ (first ++ drop (at + 16) xs)
+  unfolding stored
+  stored_is = put_is at 16 xs first long (omega arith)
+
+  -- what stands before the second store
+  before : take (at + count) stored ≡ take at xs ++ take count first
+  before =
+      let front : length (take at xs) ≡ at = length-take-le at xs (omega arith) in
+      take-add at count stored ∙ (λ i. take at (stored_is i) ++ take count (drop at (stored_is i)))
+      ∙ (λ i. take_at (take at xs) (first ++ drop (at + 16) xs) at front i ++ take count (drop_at (take at xs) (first ++ drop (at + 16) xs) at front i))
+      ∙ ap (λ ys. take at xs ++ ys) (take-append-le count first (drop (at + 16) xs) (omega arith))
+
+  -- behind the second store all is as before both
+  behind : drop (at + count + 16) stored ≡ drop (at + count + 16) xs
+  behind =
+      let front : length (take at xs ++ first) ≡ at + 16 = omega (arith, length-append (take at xs) first, length-take-le at xs (omega arith)) in
+      let place : at + count + 16 ≡ at + 16 + count = omega arith in
+      ap (λ n. drop n stored) place ∙ sym (drop-drop count (at + 16) stored)
+      ∙ ap (drop count) (ap (drop (at + 16)) (stored_is ∙ sym (append_assoc (take at xs) first (drop (at + 16) xs))) ∙ drop_at (take at xs ++ first) (drop (at + 16) xs) (at + 16) front)
+      ∙ drop-drop count (at + 16) xs ∙ ap (λ n. drop n xs) (sym place)
+
+  -- the second store alone
+  second_alone : z ++ drop (at + count + 16) xs ≡ take more second ++ drop (at + count + more) xs
+  second_alone =
+      let front : length (take (at + count) xs) ≡ at + count = length-take-le (at + count) xs (omega arith) in
+      sym (drop_at (take (at + count) xs) (z ++ drop (at + count + 16) xs) (at + count) front)
+      ∙ ap (drop (at + count)) (sym (put_is (at + count) 16 xs z lanes.long (omega arith)) ∙ put_firsts (at + count) 16 more xs second z (omega arith) also less lanes)
+      ∙ drop_at (take (at + count) xs) (take more second ++ drop (at + count + more) xs) (at + count) front
+
+  pub both_put : put_chunk (at + count) (put_chunk at xs first) z ≡ take at xs ++ ((take count first ++ take more second) ++ drop (at + (count + more)) xs)
+  unfolding stored
+  both_put =
+      let place : at + count + more ≡ at + (count + more) = omega arith in
+      put_is (at + count) 16 stored z lanes.long (omega (arith, length-put_chunk at xs first))
+      ∙ (λ i. before i ++ (z ++ behind i))
+      ∙ ap (λ ys. (take at xs ++ take count first) ++ ys) (second_alone ∙ ap (λ n. take more second ++ drop n xs) place)
+      ∙ append_assoc (take at xs) (take count first) (take more second ++ drop (at + (count + more)) xs)
+      ∙ ap (λ ys. take at xs ++ ys) (sym (append_assoc (take count first) (take more second) (drop (at + (count + more)) xs)))

@@ -1,0 +1,116 @@
+-- The vectors that hold the code unit that ends with each byte, and a mark where one does.
+use Rattle.std.proofs.Common.{◌≡◌, ℕ, zero, suc, ◌+◌, ◌-◌, ◌*◌, ◌%◌, ◌^◌, ◌<◌, ◌≤◌, Bool, true, false, ◌&&◌, cond, ltb, List, [], ◌∷◌, ◌++◌, map, length, take, get_or, replicate, bit_and, refl, sym, ap, ◌∙◌, arith, w8, Fits}
+use Rattle.std.specs.List.{range_with_len}
+use Rattle.std.specs.Simd.Lanes.{zip2, pick_l, mask_l, top, Each1}
+use Rattle.std.proofs.lemmas.Nat.{and_mask, one_shl}
+use Rattle.std.proofs.lemmas.List.{length-map, get_or-map, same_lists}
+use Rattle.std.proofs.lemmas.List.FromFn.{get_or-map-range_with_len}
+use Rattle.std.proofs.lemmas.Simd.{Each1-get_or, mask_l-mod}
+use Rattle.encoding_kernels.specs.Lanes.{HasLanes}
+use Rattle.encoding_kernels.specs.Units.{ends_unit, low_bits, unit_at, units_behind, ends_behind}
+use Rattle.encoding_kernels.proofs.Lanes.LaneLemmas.{HasLanes-splat, HasLanes-zip2, compared}
+use Rattle.encoding_kernels.proofs.Lanes.KeptLemmas.{mask_front}
+
+-- ---- the bytes before
+abbrev lanes_from : List ℕ → ℕ → List ℕ
+lanes_from v n = pick_l 0 v (range_with_len 0 n)
+
+from_at : (v : List ℕ) (n k : ℕ) → k < n → get_or (lanes_from v n) k 0 ≡ get_or v k 0
+from_at v n k l = get_or-map-range_with_len (λ j. get_or v j 0) 0 n k k 0 l (omega arith)
+
+pub one_lanes : (v : List ℕ) → HasLanes 16 (0 ∷ lanes_from v 15) (λ k. get_or (0 ∷ v) k 0)
+one_lanes v = record { long = refl; each = each }
+  where
+    each : (k : ℕ) → k < 16 → get_or (0 ∷ lanes_from v 15) k 0 ≡ get_or (0 ∷ v) k 0
+    each zero l = refl
+    each (suc k) l = from_at v 15 k (omega arith)
+
+pub two_lanes : (v : List ℕ) → HasLanes 16 (0 ∷ 0 ∷ lanes_from v 14) (λ k. get_or (0 ∷ 0 ∷ v) k 0)
+two_lanes v = record { long = refl; each = each }
+  where
+    each : (k : ℕ) → k < 16 → get_or (0 ∷ 0 ∷ lanes_from v 14) k 0 ≡ get_or (0 ∷ 0 ∷ v) k 0
+    each zero l = refl
+    each (suc zero) l = refl
+    each (suc (suc k)) l = from_at v 14 k (omega arith)
+
+pub three_lanes : (v : List ℕ) → HasLanes 16 (0 ∷ 0 ∷ 0 ∷ lanes_from v 13) (λ k. get_or (0 ∷ 0 ∷ 0 ∷ v) k 0)
+three_lanes v = record { long = refl; each = each }
+  where
+    each : (k : ℕ) → k < 16 → get_or (0 ∷ 0 ∷ 0 ∷ lanes_from v 13) k 0 ≡ get_or (0 ∷ 0 ∷ 0 ∷ v) k 0
+    each zero l = refl
+    each (suc zero) l = refl
+    each (suc (suc zero)) l = refl
+    each (suc (suc (suc k))) l = from_at v 13 k (omega arith)
+
+-- bytes below a bound, and zeros before them
+pub behind_below : (n : ℕ) (v : List ℕ) → 0 < n → ((k : ℕ) → k < 16 → get_or v k 0 < n) → (k : ℕ) → k < 16 → get_or (0 ∷ v) k 0 < n
+behind_below n v h b zero l = h
+behind_below n v h b (suc k) l = b k (omega arith)
+
+pub bytes_below : (v : List ℕ) → length v ≡ 16 → Each1 (Fits w8) v → (k : ℕ) → k < 16 → get_or v k 0 < 256
+bytes_below v long fit k l = (Each1-get_or (Fits w8) v k 0 (omega (arith, long)) fit).fits
+
+-- ---- one lane
+pub low_lane : (a b : ℕ) → (bit_and a 63 * 64 % 2 ^ 16 + bit_and b 63) % 2 ^ 16 ≡ low_bits a b
+low_lane a b =
+    let p : bit_and a 63 ≡ a % 64 = and_mask a 6 in
+    let q : bit_and b 63 ≡ b % 64 = and_mask b 6 in
+    (λ i. (p i * 64 % 2 ^ 16 + q i) % 2 ^ 16) ∙ omega arith
+
+-- ---- all lanes
+pub units_at : (x y a : ℕ) (bs : List ℕ) (k : ℕ) → k < length bs
+    → get_or (units_behind x y a bs) k 0 ≡ unit_at (get_or (x ∷ y ∷ a ∷ bs) k 0) (get_or (y ∷ a ∷ bs) k 0) (get_or (a ∷ bs) k 0) (get_or bs k 0)
+unfolding units_behind
+units_at x y a [] k l = absurd (omega arith)
+units_at x y a (b ∷ bs) zero l = refl
+units_at x y a (b ∷ bs) (suc k) l = units_at y a b bs k (omega arith)
+
+pub length-units : (x y a : ℕ) (bs : List ℕ) → length (units_behind x y a bs) ≡ length bs
+unfolding units_behind
+length-units x y a [] = refl
+length-units x y a (b ∷ bs) = ap suc (length-units y a b bs)
+
+-- ---- marks
+both_tops : (p q : Bool) → top 7 (bit_and (cond p 255 0) (cond q 255 0)) ≡ p && q
+both_tops true true = refl
+both_tops true false = refl
+both_tops false true = refl
+both_tops false false = refl
+
+ends_at : (a : ℕ) (bs : List ℕ) (k : ℕ) (d : Bool) → k < length bs → get_or (ends_behind a bs) k d ≡ ends_unit (get_or (a ∷ bs) k 0) (get_or bs k 0)
+unfolding ends_behind
+ends_at a [] k d l = absurd (omega arith)
+ends_at a (b ∷ bs) zero d l = refl
+ends_at a (b ∷ bs) (suc k) d l = ends_at b bs k d (omega arith)
+
+pub length-ends : (a : ℕ) (bs : List ℕ) → length (ends_behind a bs) ≡ length bs
+unfolding ends_behind
+length-ends a [] = refl
+length-ends a (b ∷ bs) = ap suc (length-ends b bs)
+
+abbrev pub end_lanes : List ℕ → List ℕ → List ℕ
+end_lanes v one = zip2 bit_and (zip2 (compared w8 ltb) v (replicate 16 0xC0)) (zip2 (compared w8 ltb) one (replicate 16 0xE0))
+
+end_marks : (v one : List ℕ) → length v ≡ 16 → HasLanes 16 one (λ k. get_or (0 ∷ v) k 0) → map (top 7) (end_lanes v one) ≡ ends_behind 0 v
+end_marks v one long h =
+    let V : HasLanes 16 v (λ k. get_or v k 0) = record { long = long; each = λ k l. refl } in
+    let lanes = HasLanes-zip2 bit_and (HasLanes-zip2 (compared w8 ltb) V (HasLanes-splat 16 0xC0)) (HasLanes-zip2 (compared w8 ltb) h (HasLanes-splat 16 0xE0)) in
+    let size : length (map (top 7) (end_lanes v one)) ≡ 16 = length-map (end_lanes v one) (top 7) ∙ lanes.long in
+    same_lists (map (top 7) (end_lanes v one)) (ends_behind 0 v) (size ∙ sym (length-ends 0 v ∙ long)) (λ k d l.
+    let in_16 : k < 16 = omega (arith, size) in
+    get_or-map (top 7) (end_lanes v one) k 0 d (omega (arith, lanes.long)) ∙ ap (top 7) (lanes.each k in_16) ∙ both_tops _ _ ∙ sym (ends_at 0 v k d (omega (arith, long))))
+
+pub ends_mask : (v one : List ℕ) (end : ℕ) → length v ≡ 16 → HasLanes 16 one (λ k. get_or (0 ∷ v) k 0) → end ≤ 16
+    → bit_and (mask_l (map (top 7) (end_lanes v one)) % 2 ^ 64) (1 * 2 ^ end % 2 ^ 64 - 1) ≡ mask_l (take end (ends_behind 0 v) ++ replicate (16 - end) false)
+ends_mask v one end long h few =
+    let marks = end_marks v one long h in
+    let size : length (ends_behind 0 v) ≡ 16 = length-ends 0 v ∙ long in
+    let mask : mask_l (map (top 7) (end_lanes v one)) % 2 ^ 64 ≡ mask_l (ends_behind 0 v) = ap (λ ms. mask_l ms % 2 ^ 64) marks ∙ mask_l-mod (ends_behind 0 v) 64 (omega (arith, size)) in
+    (λ i. bit_and (mask i) (one_shl end 64 (omega arith) i - 1)) ∙ mask_front (ends_behind 0 v) (16 - end) end (omega (arith, size))
+
+-- ---- every third byte
+pub picked_lanes : (v ks : List ℕ) → length ks ≡ 8 → HasLanes 8 (pick_l 0 v ks) (λ k. get_or v (get_or ks k 0) 0)
+picked_lanes v ks long = record { long = length-map ks (λ j. get_or v j 0) ∙ long; each = λ k l. get_or-map (λ j. get_or v j 0) ks k 0 0 (omega (arith, long)) }
+
+pub triple_lane : (a b d : ℕ) → (a * 0x1000 % 2 ^ 16 + (bit_and b 63 * 64 % 2 ^ 16 + bit_and d 63) % 2 ^ 16) % 2 ^ 16 ≡ a % 16 * 4096 + low_bits b d
+triple_lane a b d = let e : a * 4096 % 65536 ≡ a % 16 * 4096 = omega arith in ap (λ n. (a * 0x1000 % 2 ^ 16 + n) % 2 ^ 16) (low_lane b d) ∙ omega arith

@@ -1,0 +1,94 @@
+-- Fronts whose units are each of a kind, of which the ASCII front is one, and copies of a front.
+use Rattle.std.proofs.Common.{◌≡◌, ℕ, ◌+◌, ◌<◌, ◌≤◌, inl, inr, List, length, ◌++◌, take, drop, take-add, length-take-le, length-drop, set, slice_index, sym, ap, ◌∙◌, arith, subst, Some}
+use Rattle.std.specs.Str.{IsAscii, IsUtf8}
+use Rattle.std.proofs.lemmas.Bool.{cases_lt}
+use Rattle.std.proofs.lemmas.List.{get_or-take, get_or_past, length-take, take_more}
+use Rattle.std.proofs.lemmas.Option.{slice_get-get_or}
+use Rattle.std.proofs.lemmas.Str.{IsUtf8-from_ascii}
+use Rattle.encoding_definitions.specs.Ascii.{IsFirstOther}
+use Rattle.encoding_definitions.specs.Fronts.{IsLongestFront, WritesFront}
+use Rattle.encoding_kernels.specs.Strides.{AllBelow, BelowUpTo, IsRunBelow}
+use Rattle.encoding_definitions.proofs.LongestFronts.FrontsLemmas.{WritesFront_push, WritesFront_put}
+
+-- ---- fronts of units that are each of a kind, which holds of the 0 past the end too
+module _ (P : ℕ → Type 0) (at_zero : P 0) where
+  pub Each-take : (xs : List ℕ) (n : ℕ) → ((k : ℕ) → k < n → P (slice_index xs k)) → (i : ℕ) → P (slice_index (take n xs) i)
+  Each-take xs n h i = elim (cases_lt i n) [
+    | inl l ↦ rw (get_or-take n xs i 0 l) (h i l)
+    | inr l ↦ rw (get_or_past (take n xs) i 0 (omega (arith, length-take n xs))) at_zero
+  ]
+
+  pub Each-at : (xs : List ℕ) (n k : ℕ) → k < n → ((i : ℕ) → P (slice_index (take n xs) i)) → P (slice_index xs k)
+  Each-at xs n k l h = rw (get_or-take n xs k 0 l) at (h k)
+
+  -- the front ends at the first unit that isn't of the kind
+  pub front_before : (xs : List ℕ) (n : ℕ) → n ≤ length xs → ((k : ℕ) → k < n → P (slice_index xs k)) → (n < length xs → ¬ (P (slice_index xs n)))
+      → IsLongestFront (λ ys. (i : ℕ) → P (slice_index ys i)) xs n
+  front_before xs n l h s = record {
+    within = l;
+    kind = Each-take xs n h;
+    longest = λ m b e. elim (cases_lt n m) [ inl p ↦ absurd (s (omega arith) (Each-at xs m n p e)) | inr p ↦ p ];
+  }
+
+  -- the unit behind the front isn't of the kind
+  pub behind_front : (xs : List ℕ) (n : ℕ) → IsLongestFront (λ ys. (i : ℕ) → P (slice_index ys i)) xs n → n < length xs → ¬ (P (slice_index xs n))
+  behind_front xs n f l p =
+      let whole : (k : ℕ) → k < n + 1 → P (slice_index xs k) = λ k b. elim (cases_lt k n) [
+        | inl q ↦ Each-at xs n k q f.kind
+        | inr q ↦ let e : k ≡ n = omega arith in subst (λ j. P (slice_index xs j)) (sym e) p
+      ] in
+      let more : n + 1 ≤ n = f.longest (n + 1) (omega arith) (Each-take xs (n + 1) whole) in
+      omega arith
+
+-- ---- ASCII
+-- the ASCII front ends at the first unit from 0x80 on
+pub ascii_front_at : (xs : List ℕ) (n : ℕ) → n < length xs → ((k : ℕ) → k < n → slice_index xs k < 0x80) → 0x80 ≤ slice_index xs n → IsLongestFront IsAscii xs n
+ascii_front_at xs n l h s = front_before (λ b. b < 0x80) (omega arith) xs n (omega arith) h (λ _ low. omega arith)
+
+-- what the longest ASCII front says of its units, and of the one behind it
+pub below_front : (xs : List ℕ) (n : ℕ) → IsLongestFront IsAscii xs n → BelowUpTo 0x80 xs n
+below_front xs n f k l = Each-at (λ b. b < 0x80) (omega arith) xs n k l f.kind
+
+pub not_ascii_behind : (xs : List ℕ) (n : ℕ) → IsLongestFront IsAscii xs n → n < length xs → 0x80 ≤ slice_index xs n
+not_ascii_behind xs n f l = elim (cases_lt (slice_index xs n) 0x80) [ inl p ↦ absurd (behind_front (λ b. b < 0x80) (omega arith) xs n f l p) | inr p ↦ p ]
+
+pub IsUtf8-ascii_front : (bytes : List ℕ) (n : ℕ) → BelowUpTo 0x80 bytes n → IsUtf8 (take n bytes)
+IsUtf8-ascii_front bytes n below = IsUtf8-from_ascii (take n bytes) (Each-take (λ b. b < 0x80) (omega arith) bytes n below)
+
+-- the first other unit, over so many places
+pub IsFirstOther-at : (xs : List ℕ) (room n : ℕ) → n < length xs → n < room → ((k : ℕ) → k < n → slice_index xs k < 0x80) → 0x80 ≤ slice_index xs n
+    → IsFirstOther (take room xs) (Some (slice_index xs n, n))
+IsFirstOther-at xs room n l m h s =
+    let short : n < length (take room xs) = omega (arith, length-take room xs) in
+    let same : (k : ℕ) → k < room → slice_index (take room xs) k ≡ slice_index xs k = λ k b. get_or-take room xs k 0 b in (
+      slice_get-get_or (take room xs) n 0 short ∙ ap Some (same n m),
+      ascii_front_at (take room xs) n short (λ k b. rw (same k (omega arith)) (h k b)) (rw (same n m) s),
+    )
+
+-- nothing is left
+pub IsAscii-through : (xs : List ℕ) (room n : ℕ) → BelowUpTo 0x80 xs n → length (take room xs) ≤ n → IsAscii (take room xs)
+IsAscii-through xs room n h e i = elim (cases_lt i (length (take room xs))) [
+  | inl p ↦ rw (get_or-take room xs i 0 (omega (arith, length-take room xs))) (h i (omega arith))
+  | inr p ↦ rw (get_or_past (take room xs) i 0 p) (omega arith)
+]
+
+-- ---- a loop over the units
+-- one more unit is copied
+pub WritesFront_copy : (old new xs : List ℕ) (n b : ℕ) → WritesFront old new n (take n xs) → n < length xs → n < length new → b ≡ slice_index xs n
+    → WritesFront old (set new n b) (n + 1) (take (n + 1) xs)
+WritesFront_copy old new xs n b w l m e = rw (take_more xs n 0 l, sym e) (WritesFront_push old new n (take n xs) b w m)
+
+-- so many more units are copied
+pub WritesFront_block : (old new after xs : List ℕ) (n m : ℕ) → WritesFront old new n (take n xs) → n + m ≤ length xs → n + m ≤ length new
+    → after ≡ take n new ++ (take m (drop n xs) ++ drop (n + m) new) → WritesFront old after (n + m) (take (n + m) xs)
+WritesFront_block old new after xs n m w l k put =
+    let short : length (take m (drop n xs)) ≡ m = length-take-le m (drop n xs) (omega (arith, length-drop n xs)) in
+    rw (take-add n m xs) (WritesFront_put old new after n m (take n xs) (take m (drop n xs)) w (sym short) k put)
+
+-- so many more units are below 0x80
+pub below_block : (xs : List ℕ) (n m : ℕ) → BelowUpTo 0x80 xs n → AllBelow 0x80 xs n m → BelowUpTo 0x80 xs (n + m)
+below_block xs n m h p k l = elim (cases_lt k n) [ inl q ↦ h k q | inr q ↦ p k q l ]
+
+-- a run from no later place on passes the places below the bound
+pub run_passes : (bound from at n run : ℕ) (xs : List ℕ) → BelowUpTo bound xs from → from ≤ at + n → IsRunBelow bound xs at n run → from ≤ at + run
+run_passes bound from at n run xs below l r = elim (cases_lt (at + run) from) [ inl p ↦ absurd (omega (arith, below (at + run) p, r.stops (omega arith))) | inr p ↦ p ]

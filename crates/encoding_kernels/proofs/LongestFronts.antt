@@ -1,0 +1,3 @@
+pub mod TextUnitsLemmas
+pub mod TextLoopLemmas
+pub mod TextTailLemmas

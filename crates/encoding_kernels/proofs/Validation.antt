@@ -1,0 +1,4 @@
+pub mod FollowingLemmas
+pub mod LaneLemmas
+pub mod MaskLemmas
+pub mod PairLemmas

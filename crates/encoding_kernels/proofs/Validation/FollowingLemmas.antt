@@ -1,0 +1,260 @@
+-- Bytes that follow one another up to a place where no character is cut are well-formed.
+use Rattle.std.proofs.Common.{◌≡◌, ℕ, zero, suc, ◌+◌, ◌-◌, ◌<◌, ◌≤◌, inl, inr, List, [], ◌∷◌, ◌++◌, length, take, drop, get_or, replicate, refl, sym, ap, ◌∙◌, arith, subst}
+use Rattle.std.specs.Str.{IsUtf8}
+use Rattle.std.proofs.lemmas.Bool.{cases_lt}
+use Rattle.std.proofs.lemmas.Bool.Decides.{nat_tests}
+use Rattle.std.proofs.lemmas.Str.{IsUtf8-nil}
+use Rattle.std.proofs.Math.Seq.{drop-cons}
+use Rattle.std.proofs.lemmas.List.{get_or-drop, get_or-take, length-append, length-take}
+use Rattle.std.proofs.lemmas.Simd.{get_or-chunk, pick_l-range_with_len}
+use Rattle.std.specs.List.{range_with_len}
+use lib.Lanes.{chunk, pick_l}
+use Rattle.encoding_definitions.specs.Sequence.{IsSequence, IsContinuation, IsSecond}
+use Rattle.encoding_definitions.proofs.Sequences.SequenceLemmas.{IsSequence-HasShape, second_from, second_two_from}
+use Rattle.encoding_definitions.proofs.LongestFronts.Utf8Lemmas.{IsUtf8_more}
+use Rattle.encoding_kernels.specs.Following.{Follows, FollowsAt, FollowTo, IsClosedAt, AsciiBetween}
+
+second_most : (a b : ℕ) → IsSecond a b → b ≤ 0xBF
+second_most a b s = grind (arith, nat_tests)
+
+-- the bytes from a place on
+module _ (bs : List ℕ) (at : ℕ) where
+  take_one : at < length bs → take 1 (drop at bs) ≡ get_or bs at 0 ∷ []
+  take_one h = ap (take 1) (drop-cons bs at 0 h)
+
+  take_two : suc at < length bs → take 2 (drop at bs) ≡ get_or bs at 0 ∷ get_or bs (suc at) 0 ∷ []
+  take_two h = ap (take 2) (drop-cons bs at 0 (omega arith)) ∙ ap (λ r. get_or bs at 0 ∷ take 1 r) (drop-cons bs (suc at) 0 h)
+
+  take_three : suc (suc at) < length bs → take 3 (drop at bs) ≡ get_or bs at 0 ∷ get_or bs (suc at) 0 ∷ get_or bs (suc (suc at)) 0 ∷ []
+  take_three h = ap (take 3) (drop-cons bs at 0 (omega arith)) ∙ ap (λ r. get_or bs at 0 ∷ take 2 r) (drop-cons bs (suc at) 0 (omega arith))
+      ∙ ap (λ r. get_or bs at 0 ∷ get_or bs (suc at) 0 ∷ take 1 r) (drop-cons bs (suc (suc at)) 0 h)
+
+  take_four : suc (suc (suc at)) < length bs
+      → take 4 (drop at bs) ≡ get_or bs at 0 ∷ get_or bs (suc at) 0 ∷ get_or bs (suc (suc at)) 0 ∷ get_or bs (suc (suc (suc at))) 0 ∷ []
+  take_four h = ap (take 4) (drop-cons bs at 0 (omega arith)) ∙ ap (λ r. get_or bs at 0 ∷ take 3 r) (drop-cons bs (suc at) 0 (omega arith))
+      ∙ ap (λ r. get_or bs at 0 ∷ get_or bs (suc at) 0 ∷ take 2 r) (drop-cons bs (suc (suc at)) 0 (omega arith))
+      ∙ ap (λ r. get_or bs at 0 ∷ get_or bs (suc at) 0 ∷ get_or bs (suc (suc at)) 0 ∷ take 1 r) (drop-cons bs (suc (suc (suc at))) 0 h)
+
+-- a character further, which is closed again
+abbrev IsStep : List ℕ → ℕ → ℕ → Type 0
+IsStep bs n at = (k : ℕ) × (0 < k) × (at + k ≤ n) × IsClosedAt bs (at + k) × IsSequence (take k (drop at bs))
+
+module _ (bs : List ℕ) (n at : ℕ) (within : n ≤ length bs) (end : IsClosedAt bs n) (follows : (i : ℕ) → at ≤ i → i < n → FollowsAt bs i) (closed : IsClosedAt bs at) where
+  -- no character is cut before n, so the next byte is before n too
+  next : (i : ℕ) → i ≤ n → (IsClosedAt bs i → ⊥) → i < n
+  next i le cut = elim (cases_lt i n) [ inl l ↦ l | inr g ↦ (let e : n ≡ i = omega arith in absurd (cut (subst (IsClosedAt bs) e end))) ]
+
+  to : (k m : ℕ) → m ≡ at + k → 0 < k → m ≤ n → IsClosedAt bs m → IsSequence (take k (drop at bs)) → IsStep bs n at
+  to k m e pos le c s = (k, pos, omega arith, subst (IsClosedAt bs) e c, s)
+
+  fourth_byte : 0xF0 ≤ get_or bs at 0 → IsSecond (get_or bs at 0) (get_or bs (suc at) 0) → IsContinuation (get_or bs (suc (suc at)) 0) → suc (suc at) < n → IsStep bs n at
+  fourth_byte h s c l =
+      let l3 = next (suc (suc (suc at))) (omega arith) (λ q. omega arith) in
+      let f = follows (suc (suc (suc at))) (omega arith) l3 in
+      let d = f.fourth h in
+      let most = second_most _ _ s in
+      to 4 (suc (suc (suc (suc at)))) (omega arith) (omega arith) (omega arith) (omega arith, omega arith, omega arith)
+      (subst IsSequence (sym (take_four bs at (omega arith))) (IsSequence-HasShape (get_or bs at 0 ∷ get_or bs (suc at) 0 ∷ get_or bs (suc (suc at)) 0 ∷ get_or bs (suc (suc (suc at))) 0 ∷ []) (h, s.1, second_from _ _ s, c, d)))
+
+  third_byte : 0xE0 ≤ get_or bs at 0 → IsSecond (get_or bs at 0) (get_or bs (suc at) 0) → suc at < n → IsStep bs n at
+  third_byte h s l =
+      let l2 = next (suc (suc at)) (omega arith) (λ q. omega arith) in
+      let f = follows (suc (suc at)) (omega arith) l2 in
+      let c = f.third h in
+      let most = second_most _ _ s in
+      elim (cases_lt (get_or bs at 0) 0xF0) [
+        | inl short ↦ to 3 (suc (suc (suc at))) (omega arith) (omega arith) (omega arith) (omega arith, omega arith, omega arith)
+            (subst IsSequence (sym (take_three bs at (omega arith))) (IsSequence-HasShape (get_or bs at 0 ∷ get_or bs (suc at) 0 ∷ get_or bs (suc (suc at)) 0 ∷ []) (h, omega arith, second_from _ _ s, c)))
+        | inr long ↦ fourth_byte long s c l2
+      ]
+
+  second_byte : 0xC0 ≤ get_or bs at 0 → at < n → IsStep bs n at
+  second_byte h l =
+      let l1 = next (suc at) (omega arith) (λ q. omega arith) in
+      let f = follows (suc at) (omega arith) l1 in
+      let s = f.second h in
+      let most = second_most _ _ s in
+      elim (cases_lt (get_or bs at 0) 0xE0) [
+        | inl short ↦ to 2 (suc (suc at)) (omega arith) (omega arith) (omega arith) (omega arith, omega arith, omega arith)
+            (subst IsSequence (sym (take_two bs at (omega arith))) (IsSequence-HasShape (get_or bs at 0 ∷ get_or bs (suc at) 0 ∷ []) (s.0, omega arith, second_two_from _ _ s short)))
+        | inr long ↦ third_byte long s l1
+      ]
+
+  step : at < n → IsStep bs n at
+  step l =
+      let f = follows at (omega arith) l in
+      elim (f.first closed.0 closed.1 closed.2) [
+        | inl ascii ↦ to 1 (suc at) (omega arith) (omega arith) (omega arith) (omega arith, omega arith, omega arith)
+            (subst IsSequence (sym (take_one bs at (omega arith))) (IsSequence-HasShape (get_or bs at 0 ∷ []) (omega arith)))
+        | inr lead ↦ second_byte lead l
+      ]
+
+-- from a well-formed front on: the bytes behind it follow one another, and no character is cut at either end
+pub IsUtf8_following : (bs : List ℕ) (n : ℕ) → n ≤ length bs → IsClosedAt bs n → (fuel at : ℕ) → n ≤ at + fuel → at ≤ n
+    → ((i : ℕ) → at ≤ i → i < n → FollowsAt bs i) → IsClosedAt bs at → IsUtf8 (take at bs) → IsUtf8 (take n bs)
+IsUtf8_following bs n within end zero at room le follows closed front = let e : at ≡ n = omega arith in subst (λ k. IsUtf8 (take k bs)) e front
+IsUtf8_following bs n within end (suc fuel) at room le follows closed front = elim (cases_lt at n) [
+  | inl l ↦
+      let s = step bs n at within end follows closed l in
+      IsUtf8_following bs n within end fuel (at + s.0) (omega arith) s.2 (λ i h k. follows i (omega arith) k) s.3 (IsUtf8_more bs at s.0 front s.4)
+  | inr g ↦ let e : at ≡ n = omega arith in subst (λ k. IsUtf8 (take k bs)) e front
+]
+
+-- ---- the bytes before, by their places
+pub one_before : (bs : List ℕ) (n : ℕ) → 1 ≤ n → get_or (0 ∷ bs) n 0 ≡ get_or bs (n - 1) 0
+one_before bs zero h = absurd (omega arith)
+one_before bs (suc n) h = ap (λ k. get_or bs k 0) (omega arith)
+
+pub two_before : (bs : List ℕ) (n : ℕ) → 2 ≤ n → get_or (0 ∷ 0 ∷ bs) n 0 ≡ get_or bs (n - 2) 0
+two_before bs zero h = absurd (omega arith)
+two_before bs (suc zero) h = absurd (omega arith)
+two_before bs (suc (suc n)) h = ap (λ k. get_or bs k 0) (omega arith)
+
+pub three_before : (bs : List ℕ) (n : ℕ) → 3 ≤ n → get_or (0 ∷ 0 ∷ 0 ∷ bs) n 0 ≡ get_or bs (n - 3) 0
+three_before bs zero h = absurd (omega arith)
+three_before bs (suc zero) h = absurd (omega arith)
+three_before bs (suc (suc zero)) h = absurd (omega arith)
+three_before bs (suc (suc (suc n))) h = ap (λ k. get_or bs k 0) (omega arith)
+
+moved : {x y a b x2 y2 a2 b2 : ℕ} → x ≡ x2 → y ≡ y2 → a ≡ a2 → b ≡ b2 → Follows x y a b → Follows x2 y2 a2 b2
+moved {x} {y} {a} {b} {x2} {y2} {a2} {b2} p q r s f =
+    subst (λ k. Follows k y2 a2 b2) p (subst (λ k. Follows x k a2 b2) q (subst (λ k. Follows x y k b2) r (subst (Follows x y a) s f)))
+
+-- lanes of four loads
+pub FollowsAt-loads : (n : ℕ) (bs : List ℕ) (at i : ℕ) → 3 ≤ at → i < n → Follows (get_or (chunk (at - 3) n bs) i 0) (get_or (chunk (at - 2) n bs) i 0) (get_or (chunk (at - 1) n bs) i 0) (get_or (chunk at n bs) i 0)
+    → FollowsAt bs (at + i)
+FollowsAt-loads n bs at i h l f =
+    let x : get_or (chunk (at - 3) n bs) i 0 ≡ get_or (0 ∷ 0 ∷ 0 ∷ bs) (at + i) 0 = get_or-chunk (at - 3) n bs i 0 l ∙ ap (λ k. get_or bs k 0) (omega arith) ∙ sym (three_before bs (at + i) (omega arith)) in
+    let y : get_or (chunk (at - 2) n bs) i 0 ≡ get_or (0 ∷ 0 ∷ bs) (at + i) 0 = get_or-chunk (at - 2) n bs i 0 l ∙ ap (λ k. get_or bs k 0) (omega arith) ∙ sym (two_before bs (at + i) (omega arith)) in
+    let a : get_or (chunk (at - 1) n bs) i 0 ≡ get_or (0 ∷ bs) (at + i) 0 = get_or-chunk (at - 1) n bs i 0 l ∙ ap (λ k. get_or bs k 0) (omega arith) ∙ sym (one_before bs (at + i) (omega arith)) in
+    let b : get_or (chunk at n bs) i 0 ≡ get_or bs (at + i) 0 = get_or-chunk at n bs i 0 l in
+    moved x y a b f
+
+-- lanes of a first load, with zeros before it
+abbrev pub shifted : List ℕ → ℕ → List ℕ
+shifted bs k = pick_l 0 (replicate 16 0 ++ take 16 bs) (range_with_len k 16)
+
+shifted_at : (bs : List ℕ) (k i : ℕ) → k ≤ 16 → 16 ≤ length bs → i < 16 → get_or (shifted bs k) i 0 ≡ get_or (drop k (replicate 16 0 ++ take 16 bs)) i 0
+shifted_at bs k i h long l =
+    let all = replicate 16 0 ++ take 16 bs in
+    let room : k + 16 ≤ length all = omega (arith, length-append (replicate 16 0) (take 16 bs), length-take 16 bs) in
+    ap (λ xs. get_or xs i 0) (pick_l-range_with_len 0 all k 16 room) ∙ get_or-chunk k 16 all i 0 l ∙ sym (get_or-drop k all i 0)
+
+-- bytes behind zeros, in a front and in the whole
+front_zero : (bs : List ℕ) (i : ℕ) → i < 16 → get_or (take 16 bs) i 0 ≡ get_or bs i 0
+front_zero bs i l = get_or-take 16 bs i 0 l
+
+front_one : (bs : List ℕ) (i : ℕ) → i < 16 → get_or (0 ∷ take 16 bs) i 0 ≡ get_or (0 ∷ bs) i 0
+front_one bs zero l = refl
+front_one bs (suc i) l = front_zero bs i (omega arith)
+
+front_two : (bs : List ℕ) (i : ℕ) → i < 16 → get_or (0 ∷ 0 ∷ take 16 bs) i 0 ≡ get_or (0 ∷ 0 ∷ bs) i 0
+front_two bs zero l = refl
+front_two bs (suc i) l = front_one bs i (omega arith)
+
+front_three : (bs : List ℕ) (i : ℕ) → i < 16 → get_or (0 ∷ 0 ∷ 0 ∷ take 16 bs) i 0 ≡ get_or (0 ∷ 0 ∷ 0 ∷ bs) i 0
+front_three bs zero l = refl
+front_three bs (suc i) l = front_two bs i (omega arith)
+
+pub FollowsAt-first : (bs : List ℕ) (i : ℕ) → 16 ≤ length bs → i < 16 → Follows (get_or (shifted bs 13) i 0) (get_or (shifted bs 14) i 0) (get_or (shifted bs 15) i 0) (get_or (take 16 bs) i 0) → FollowsAt bs i
+FollowsAt-first bs i long l f =
+    let x : get_or (shifted bs 13) i 0 ≡ get_or (0 ∷ 0 ∷ 0 ∷ bs) i 0 = shifted_at bs 13 i (omega arith) long l ∙ front_three bs i l in
+    let y : get_or (shifted bs 14) i 0 ≡ get_or (0 ∷ 0 ∷ bs) i 0 = shifted_at bs 14 i (omega arith) long l ∙ front_two bs i l in
+    let a : get_or (shifted bs 15) i 0 ≡ get_or (0 ∷ bs) i 0 = shifted_at bs 15 i (omega arith) long l ∙ front_one bs i l in
+    let b : get_or (take 16 bs) i 0 ≡ get_or bs i 0 = front_zero bs i l in
+    moved x y a b f
+
+-- ---- further
+pub FollowTo-more : (bs : List ℕ) (at n : ℕ) → FollowTo bs at → ((i : ℕ) → i < n → FollowsAt bs (at + i)) → FollowTo bs (at + n)
+FollowTo-more bs at n front more = record {
+  each = λ i l. elim (cases_lt i at) [
+    | inl k ↦ front.each i k
+    | inr g ↦ (let e : at + (i - at) ≡ i = omega arith in subst (FollowsAt bs) e (more (i - at) (omega arith)))
+  ];
+}
+
+pub FollowTo-over : (bs : List ℕ) (at from n : ℕ) → from ≤ at → FollowTo bs at → ((i : ℕ) → i < n → FollowsAt bs (from + i)) → FollowTo bs (from + n)
+FollowTo-over bs at from n h front more = FollowTo-more bs from n (record { each = λ i l. front.each i (omega arith) }) more
+
+-- two blocks
+pub follows_two : (bs : List ℕ) (at : ℕ) → ((i : ℕ) → i < 32 → FollowsAt bs (at + i)) → ((i : ℕ) → i < 32 → FollowsAt bs (at + 32 + i)) → FollowTo bs at → FollowTo bs (at + 64)
+follows_two bs at a b front =
+    let e : at + 32 + 32 ≡ at + 64 = omega arith in
+    subst (FollowTo bs) e (FollowTo-more bs (at + 32) 32 (FollowTo-more bs at 32 front a) b)
+
+pub FollowTo-none : (bs : List ℕ) → FollowTo bs 0
+FollowTo-none bs = record { each = λ i l. absurd (omega arith) }
+
+pub FollowTo-less : (bs : List ℕ) (n m : ℕ) → m ≤ n → FollowTo bs n → FollowTo bs m
+FollowTo-less bs n m h f = record { each = λ i l. f.each i (omega arith) }
+
+-- ---- ASCII
+closed_follows : (bs : List ℕ) (i : ℕ) → IsClosedAt bs i → get_or bs i 0 < 0x80 → FollowsAt bs i
+closed_follows bs i c l = record {
+  second = λ h. absurd (omega arith);
+  third = λ h. absurd (omega arith);
+  fourth = λ h. absurd (omega arith);
+  first = λ _ _ _. inl l;
+}
+
+-- a byte that ends a character, or is one
+closed_next : (bs : List ℕ) (i : ℕ) → IsClosedAt bs i → get_or bs i 0 < 0x80 → IsClosedAt bs (suc i)
+closed_next bs i c l = (omega arith, omega arith, omega arith)
+
+closed_along : (bs : List ℕ) (d at : ℕ) → IsClosedAt bs at → ((i : ℕ) → i < d → get_or bs (at + i) 0 < 0x80) → IsClosedAt bs (at + d)
+closed_along bs zero at c ascii = let e : at ≡ at + 0 = omega arith in subst (IsClosedAt bs) e c
+closed_along bs (suc d) at c ascii =
+    let before = closed_along bs d at c (λ i l. ascii i (omega arith)) in
+    let e : suc (at + d) ≡ at + suc d = omega arith in
+    subst (IsClosedAt bs) e (closed_next bs (at + d) before (ascii d (omega arith)))
+
+pub IsClosedAt-start : (bs : List ℕ) → IsClosedAt bs 0
+IsClosedAt-start bs = (omega arith, omega arith, omega arith)
+
+pub IsClosedAt-ascii : (bs : List ℕ) (at to : ℕ) → at ≤ to → IsClosedAt bs at → AsciiBetween bs at to → IsClosedAt bs to
+IsClosedAt-ascii bs at to h c ascii =
+    let e : at + (to - at) ≡ to = omega arith in
+    subst (IsClosedAt bs) e (closed_along bs (to - at) at c (λ i l. ascii.each (at + i) (omega arith) (omega arith)))
+
+pub FollowTo-ascii : (bs : List ℕ) (at to : ℕ) → FollowTo bs at → IsClosedAt bs at → AsciiBetween bs at to → FollowTo bs to
+FollowTo-ascii bs at to front c ascii = record {
+  each = λ i l. elim (cases_lt i at) [
+    | inl k ↦ front.each i k
+    | inr g ↦ closed_follows bs i (IsClosedAt-ascii bs at i g c (record { each = λ j p q. ascii.each j p (omega arith) })) (ascii.each i g l)
+  ];
+}
+
+-- a front of the whole
+pub FollowTo-ascii_front : (bs : List ℕ) (n : ℕ) → ((i : ℕ) → i < n → get_or bs i 0 < 0x80) → FollowTo bs n
+FollowTo-ascii_front bs n ascii = FollowTo-ascii bs 0 n (FollowTo-none bs) (IsClosedAt-start bs) (record { each = λ i _ l. ascii i l })
+
+-- ---- where no character is cut
+-- before a byte that goes on with none
+closed_before : (bs : List ℕ) (i : ℕ) → FollowsAt bs i → 0xC0 ≤ get_or bs i 0 → IsClosedAt bs i
+closed_before bs i f h =
+    let x : get_or (0 ∷ 0 ∷ 0 ∷ bs) i 0 < 0xF0 = elim (cases_lt (get_or (0 ∷ 0 ∷ 0 ∷ bs) i 0) 0xF0) [ inl l ↦ l | inr g ↦ (let s = f.fourth g in absurd (omega arith)) ] in
+    let y : get_or (0 ∷ 0 ∷ bs) i 0 < 0xE0 = elim (cases_lt (get_or (0 ∷ 0 ∷ bs) i 0) 0xE0) [ inl l ↦ l | inr g ↦ (let s = f.third g in absurd (omega arith)) ] in
+    let a : get_or (0 ∷ bs) i 0 < 0xC0 = elim (cases_lt (get_or (0 ∷ bs) i 0) 0xC0) [ inl l ↦ l | inr g ↦ (let s = second_most _ _ (f.second g) in absurd (omega arith)) ] in
+    (x, y, a)
+
+pub IsClosedAt-tests : (bs : List ℕ) (at : ℕ) → 3 ≤ at → get_or bs (at - 1) 0 < 0xC0 → get_or bs (at - 2) 0 < 0xE0 → get_or bs (at - 3) 0 < 0xF0 → IsClosedAt bs at
+IsClosedAt-tests bs at h a y x = (
+  subst (λ k. k < 0xF0) (sym (three_before bs at h)) x,
+  subst (λ k. k < 0xE0) (sym (two_before bs at (omega arith))) y,
+  subst (λ k. k < 0xC0) (sym (one_before bs at (omega arith))) a,
+)
+
+-- behind three bytes of ASCII
+pub IsClosedAt-behind_ascii : (bs : List ℕ) (from at : ℕ) → from + 3 ≤ at → AsciiBetween bs from at → IsClosedAt bs at
+IsClosedAt-behind_ascii bs from at h ascii =
+    let a = ascii.each (at - 1) (omega arith) (omega arith) in
+    let y = ascii.each (at - 2) (omega arith) (omega arith) in
+    let x = ascii.each (at - 3) (omega arith) (omega arith) in
+    IsClosedAt-tests bs at (omega arith) (omega arith) (omega arith) (omega arith)
+
+pub IsUtf8_closed : (bs : List ℕ) (n : ℕ) → n ≤ length bs → FollowTo bs n → IsClosedAt bs n → IsUtf8 (take n bs)
+IsUtf8_closed bs n within f c = IsUtf8_following bs n within c n 0 (omega arith) (omega arith) (λ i _ l. f.each i l) (IsClosedAt-start bs) IsUtf8-nil
+
+-- before the first byte of a character
+pub IsUtf8_before : (bs : List ℕ) (n i : ℕ) → n ≤ length bs → i < n → FollowTo bs n → 0xC0 ≤ get_or bs i 0 → IsUtf8 (take i bs)
+IsUtf8_before bs n i within l f h = IsUtf8_closed bs i (omega arith) (FollowTo-less bs n i (omega arith) f) (closed_before bs i (f.each i l) h)

@@ -1,0 +1,27 @@
+use Rattle.std.proofs.Common.{◌/◌, ◌^◌, arith, refl}
+use Rattle.std.specs.Int.RustNames.{count_ones}
+use Rattle.encoding_kernels.proofs.LongestFronts.TextLoopLemmas.{due_ascii, due_block, due_exact, due_triples}
+use Rattle.encoding_kernels.proofs.text_units.put_some.Goals as goal
+
+pub returns-then-begins_ascii-clause-written : goal.returns-then-begins_ascii-clause-written
+returns-then-begins_ascii-clause-written c =
+    let run = c.widen_ascii-front.ensures in
+    due_ascii c.args.src.now c.args.dst.now c.widen_ascii-front.new.dst c.widen_ascii-front.result 16 c.requires.text (omega arith) c.requires.room.1
+    (c.if-begins_ascii.ensures {u = tt} refl) run.within.0 run.ascii run.copied run.stops
+
+pub returns-then-src-ge24-clause-written : goal.returns-then-src-ge24-clause-written
+returns-then-src-ge24-clause-written c = due_triples c.args.src.now c.args.dst.now c.put_triples.new.dst c.requires.text c.if-src-ge24.true c.put_triples.ensures
+
+pub returns-then-begins_triples-clause-written : goal.returns-then-begins_triples-clause-written
+returns-then-begins_triples-clause-written c = due_exact c.args.src.now c.args.dst.now c.put_triples_alone.new.dst _ _ c.requires.text c.put_triples_alone.ensures
+
+pub returns-then-end-eq0-clause-written : goal.returns-then-end-eq0-clause-written
+returns-then-end-eq0-clause-written c = due_exact c.args.src.now c.args.dst.now c.put_character.new.dst _ _ c.requires.text c.put_character.ensures.written
+
+pub returns-then-is_due-clause-written : goal.returns-then-is_due-clause-written
+returns-then-is_due-clause-written c =
+    due_block c.args.src.now c.args.dst.now c.put_block.new.dst c.whole_end-end.result c.put_block.result (count_ones (c.unit_ends-kept.result / 2 ^ 8)) c.requires.text
+    (c.if-is_due.ensures {u = tt} refl) c.put_block.ensures
+
+pub returns-clause-written : goal.returns-clause-written
+returns-clause-written c = due_exact c.args.src.now c.args.dst.now c.put_block_alone.new.dst _ _ c.requires.text c.put_block_alone.ensures

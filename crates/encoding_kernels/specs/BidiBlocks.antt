@@ -1,0 +1,28 @@
+-- Right-to-left characters by their first two bytes, and the places of bytes and code units where none begins.
+use Rattle.std.specs.Prelude.{◌≡◌, ℕ, ◌<◌, ◌≤◌, ◌&&◌, List, ◌++◌, drop, encode_utf8, slice_index, if◌then◌else◌, nat_le, nat_eq}
+use Rattle.std.specs.Char.{IsScalar}
+use Rattle.encoding_definitions.specs.Bidi.{IsRightToLeft, IsRightToLeftUnit}
+
+-- the second byte of a right-to-left character with this first byte is below this number, which is 0 where there is none
+abbrev pub second_end : ℕ → ℕ
+second_end a = (if nat_le 0xD6 a && nat_le a 0xDF then 0xFF else
+    (if nat_eq a 0xE0 then 0xA4 else
+    (if nat_eq a 0xE2 then 0x82 else
+    (if nat_eq a 0xEF then 0xBC else
+    (if nat_eq a 0xF0 then 0x9F else 0)))))
+
+-- a right-to-left character stands at this place of the bytes
+pub record StandsRightToLeft (bs : List ℕ) (at : ℕ) : Type 0 where
+  pub character : ℕ
+  pub rest : List ℕ
+  pub scalar : IsScalar character
+  pub right_to_left : IsRightToLeft character
+  pub spelled : drop at bs ≡ encode_utf8 character ++ rest
+
+-- none stands at a place from one up to another
+pub record NoneStands (bs : List ℕ) (from to : ℕ) : Type 0 where
+  pub each : (k : ℕ) → from ≤ k → k < to → StandsRightToLeft bs k → ⊥
+
+-- none of the code units from one place up to another is right-to-left
+pub record NoneRightToLeft (us : List ℕ) (from to : ℕ) : Type 0 where
+  pub each : (k : ℕ) → from ≤ k → k < to → IsRightToLeftUnit (slice_index us k) → ⊥

@@ -1,0 +1,170 @@
+//! Pairs by blocks: code units without a lone surrogate, and Latin1 in UTF-8. Each unit is judged by itself and the one
+//! before it, which is read by a load of its own, so that a block carries no state and the last one may overlap.
+ghost use Rattle.std.specs.Prelude.{◌≡◌, ◌+◌, ◌<◌, ◌≤◌, length, take, slice_index, IsTrue};
+ghost use Rattle.encoding_definitions.specs.Utf16.{IsLowSurrogate};
+ghost use Rattle.encoding_definitions.specs.Latin1.{IsUtf8Latin1};
+ghost use Rattle.encoding_kernels.specs.Pairs.{PairUp, HaveNoSurrogate, FitLatin1};
+ghost use Rattle.encoding_definitions.specs.Surrogates.{IsValidUtf16};
+
+use crate::strides::STRIDE;
+use crate::surrogates::{is_high_surrogate, is_low_surrogate};
+use std::simd::Simd;
+use std::simd::prelude::*;
+
+/// The code units that one test covers.
+const UNIT_BLOCK: usize = 64;
+
+/// How many blocks behind one with surrogates are tested for pairs at once.
+const PAIRED_BLOCKS: usize = 8;
+
+/// The code units of a lesser test.
+const UNIT_STRIDE: usize = 8;
+
+/// The bytes that one test covers.
+const BLOCK: usize = 64;
+
+/// The least byte that stands before a continuation byte.
+const LEADS: u8 = 0xC0;
+
+/// The first byte of U+0100. All bytes of lesser characters are less, and greater characters begin with no lesser byte.
+pub const BEYOND_LATIN1: u8 = 0xC4;
+
+/// Whether each of the N code units from `at` on is a low surrogate exactly where the one before it is a high one.
+#[inline(always)]
+fn are_paired<const N: usize>(units: &[u16], at: usize) -> bool
+    requires { (0 < at) × (at + N ≤ length units.now) × (N ≤ 64) }
+    ensures { IsTrue result → PairUp units.now at (at + N) }
+{
+    let tops = Simd::<u16, N>::from_slice(&units[at..]) & Simd::splat(0xFC00);
+    let tops_before = Simd::<u16, N>::from_slice(&units[at - 1..]) & Simd::splat(0xFC00);
+    let low = tops.simd_eq(Simd::splat(0xDC00));
+    let high = tops_before.simd_eq(Simd::splat(0xD800));
+    !(low ^ high).any()
+}
+
+/// Whether none of the code units of a block is a surrogate, by one test.
+#[inline(always)]
+fn has_no_surrogate(block: &[u16]) -> bool
+    requires { length block.now ≡ 64 }
+    ensures { IsTrue result → HaveNoSurrogate block.now }
+{
+    let least = Simd::<u16, STRIDE>::splat(0xD800);
+    let first = Simd::<u16, STRIDE>::from_slice(block) - least;
+    let second = Simd::<u16, STRIDE>::from_slice(&block[STRIDE..]) - least;
+    let third = Simd::<u16, STRIDE>::from_slice(&block[2 * STRIDE..]) - least;
+    let fourth = Simd::<u16, STRIDE>::from_slice(&block[3 * STRIDE..]) - least;
+    let lowest = first.simd_min(second).simd_min(third.simd_min(fourth));
+    !lowest.simd_lt(Simd::splat(0x800)).any()
+}
+
+/// `at`, or the place before it where a pair is cut there.
+#[inline(always)]
+fn before_cut_pair(units: &[u16], at: usize) -> usize
+    requires { (0 < at) × (at ≤ length units.now) × PairUp units.now 0 at }
+    ensures { (result ≤ at) × IsValidUtf16 (take result units.now) }
+{
+    if is_high_surrogate(units[at - 1]) {
+        at - 1
+    } else {
+        at
+    }
+}
+
+/// How far a low surrogate stands exactly behind each high one, by whole blocks, behind a first code unit that isn't low.
+#[inline(always)]
+fn paired_blocks(units: &[u16]) -> usize
+    requires some { 0 < length units.now }
+    requires first { IsLowSurrogate (slice_index units.now 0) → ⊥ }
+    ensures within { (0 < result) × (result ≤ length units.now) }
+    ensures paired { PairUp units.now 0 result }
+{
+    let (blocks, _) = units[1..].as_chunks::<UNIT_BLOCK>();
+    let mut at = 1;
+    // surrogates seldom come alone: behind a block with some the next ones are tested for pairs at once
+    let mut expected = 0;
+    for block in blocks {
+        if 0 < expected || is_high_surrogate(units[at - 1]) || !has_no_surrogate(block) {
+            if !are_paired::<UNIT_BLOCK>(units, at) {
+                return at;
+            }
+            expected = if expected == 0 {
+                PAIRED_BLOCKS
+            } else {
+                expected - 1
+            };
+        }
+        at += UNIT_BLOCK;
+    }
+    at
+}
+
+/// How far the code units have no lone surrogate, by whole blocks and strides.
+#[inline(always)]
+pub fn paired_front(units: &[u16]) -> usize
+    ensures { (result ≤ length units.now) × IsValidUtf16 (take result units.now) }
+{
+    if units.is_empty() || is_low_surrogate(units[0]) {
+        return 0;
+    }
+    let mut at = paired_blocks(units);
+    while units.len() - at >= UNIT_STRIDE {
+        if !are_paired::<UNIT_STRIDE>(units, at) {
+            return before_cut_pair(units, at);
+        }
+        at += UNIT_STRIDE;
+    }
+    // the last stride overlaps the one before
+    let last = units.len() - UNIT_STRIDE.min(units.len());
+    if 0 < last && are_paired::<UNIT_STRIDE>(units, last) {
+        return before_cut_pair(units, units.len());
+    }
+    before_cut_pair(units, at)
+}
+
+/// Whether each of the N bytes from `at` on may stand in Latin1 behind the one before it.
+#[inline(always)]
+fn fit_latin1<const N: usize>(bytes: &[u8], at: usize) -> bool
+    requires { (0 < at) × (at + N ≤ length bytes.now) × (N ≤ 64) }
+    ensures { IsTrue result → FitLatin1 bytes.now at (at + N) }
+{
+    let block = Simd::<u8, N>::from_slice(&bytes[at..]);
+    let before = Simd::<u8, N>::from_slice(&bytes[at - 1..]);
+    let follows = (block & Simd::splat(0xC0)).simd_eq(Simd::splat(0x80));
+    let overlong = (block & Simd::splat(0xFE)).simd_eq(Simd::splat(0xC0));
+    let faults = (follows ^ before.simd_ge(Simd::splat(LEADS)))
+        | (overlong | block.simd_ge(Simd::splat(BEYOND_LATIN1)));
+    !faults.any()
+}
+
+/// `at`, or the beginning of the character that is cut there.
+#[inline(always)]
+fn before_cut_character(bytes: &[u8], at: usize) -> usize
+    requires { (0 < at) × (at ≤ length bytes.now) × FitLatin1 bytes.now 0 at }
+    ensures { (result ≤ at) × IsUtf8Latin1 (take result bytes.now) }
+{
+    if bytes[at - 1] >= LEADS { at - 1 } else { at }
+}
+
+/// How far the bytes are Latin1 in UTF-8, by whole blocks behind a front. Out of line: most other text ends before it.
+#[inline(never)]
+pub fn latin1_blocks(bytes: &[u8], from: usize) -> usize
+    requires { (0 < from) × (from ≤ length bytes.now) × FitLatin1 bytes.now 0 from }
+    ensures { (result ≤ length bytes.now) × IsUtf8Latin1 (take result bytes.now) }
+{
+    let mut at = from;
+    while bytes.len() - at >= BLOCK && fit_latin1::<BLOCK>(bytes, at) {
+        at += BLOCK;
+    }
+    while bytes.len() - at >= STRIDE {
+        if !fit_latin1::<STRIDE>(bytes, at) {
+            return before_cut_character(bytes, at);
+        }
+        at += STRIDE;
+    }
+    // the last stride overlaps the one before
+    let last = bytes.len() - STRIDE.min(bytes.len());
+    if 0 < last && fit_latin1::<STRIDE>(bytes, last) {
+        return before_cut_character(bytes, bytes.len());
+    }
+    before_cut_character(bytes, at)
+}

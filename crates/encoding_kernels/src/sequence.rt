@@ -1,0 +1,43 @@
+//! The bytes of one well-formed UTF-8 sequence, each seen alone: the nine rows of the Unicode Standard, Table 3-7.
+ghost use Rattle.std.specs.Prelude.{◌≡◌, ℕ, ◌+◌, ◌↔◌, List, [], ◌∷◌, length, IsTrue};
+ghost use Rattle.encoding_definitions.specs.Sequence.{IsSequence, IsBeginning, IsSecond, IsContinuation};
+
+/// Whether a sequence of several bytes begins with the byte.
+pub fn begins_several(byte: u8) -> bool
+    ensures { IsTrue result ↔ IsBeginning (byte ∷ []) }
+{
+    0xC2 <= byte && byte <= 0xF4
+}
+
+/// Whether the byte may stand second behind this first one of several.
+pub fn is_second(lead: u8, byte: u8) -> bool
+    ensures { IsTrue result ↔ IsSecond lead byte }
+{
+    match lead {
+        0xE0 => 0xA0 <= byte && byte <= 0xBF,
+        0xED => 0x80 <= byte && byte <= 0x9F,
+        0xF0 => 0x90 <= byte && byte <= 0xBF,
+        0xF4 => 0x80 <= byte && byte <= 0x8F,
+        0xC2..=0xF3 => is_continuation(byte),
+        _ => false,
+    }
+}
+
+/// Whether the byte may stand behind the second byte of a sequence.
+pub fn is_continuation(byte: u8) -> bool
+    ensures { IsTrue result ↔ IsContinuation byte }
+{
+    byte & 0xC0 == 0x80
+}
+
+/// The length of the sequences that begin with the byte.
+pub fn sequence_length(lead: u8) -> usize
+    ensures { (rest : List ℕ) → IsSequence (lead ∷ rest) → result ≡ 1 + length rest }
+{
+    match lead {
+        ..=0x7F => 1,
+        0x80..=0xDF => 2,
+        0xE0..=0xEF => 3,
+        _ => 4,
+    }
+}

@@ -1,0 +1,211 @@
+-- The front of a source, repaired into an array step by step, and written then.
+use Rattle.std.proofs.Common.{◌≡◌, ℕ, ◌+◌, ◌<◌, ◌≤◌, Bool, false, inl, List, [], ◌∷◌, ◌++◌, length, take, drop, slice_index, Option, encode_utf8, refl, sym, ap, ◌∙◌, arith, subst}
+use Rattle.std.specs.Io.KnownBytes.{Appends}
+use Rattle.std.proofs.KnownBytes.{Appends-trans}
+use Rattle.std.proofs.lemmas.List.{append-nil, append_assoc, drop-drop, drop-append-le, drop_more, length-append, length-drop, length-take, take-append-drop, take-append-le}
+use Rattle.std.proofs.Math.Seq.{take-append-add, take-append_seam}
+use borrow.Rule.Slice.PartMut.{put_mid, post_of}
+use Rattle.std.specs.Char.{IsScalar}
+use Rattle.encoding_definitions.proofs.Sequences.SequenceLemmas.{IsSequence-HasShape}
+use Rattle.encoding_definitions.proofs.Sequences.EncodingLemmas.{scalar_of_sequence}
+use Rattle.encoding_definitions.specs.Parts.{Part, Character, repaired_text}
+use Rattle.encoding_definitions.proofs.Decomposition.DecompositionLemmas.{StartsWith-one, repaired_text-append, count_broken-append, count_broken-bytes}
+use Rattle.encoding_text.specs.Decoding.{IsBroken, IsBorrowedCall}
+use Rattle.encoding_text.specs.declared.decoder.Piece.{Piece}
+use Rattle.encoding_text.specs.declared.decoder.Piece.TheVariants.{Text, Char, Malformed, InputEmpty}
+use Rattle.encoding_text.proofs.Calls.BorrowedLemmas.{borrowed_gives}
+use Rattle.encoding_runs.specs.Repairs.{IsProperFront}
+use Rattle.encoding_runs.specs.Steps.Writing.{text_of, broken_of, AreFirst, WritesParts, StopsInParts}
+use Rattle.encoding_runs.specs.Steps.Fronts.{RepairsFirst}
+use Rattle.encoding_runs.proofs.SettledLemmas.{AreFirst-trans}
+use Rattle.encoding_runs.proofs.RepairLemmas.{GivesPiece, piece_gives, nothing_pending, wrote_more, wrote_piece, front_behind, proper_front}
+
+-- nothing
+pub first_none : (src array : List ℕ) → RepairsFirst src array 0 0 0
+first_none src array = record {
+  parts = [];
+  first = record { starts = refl; whatever_follows = λ e more. refl };
+  within = omega arith;
+  fits = omega arith;
+  text = refl;
+  broken = refl;
+}
+
+-- more of it, behind what the array holds
+pub first_behind : (src array tail : List ℕ) (k read written n more_read more_written m : ℕ) → RepairsFirst src array read written n
+    → RepairsFirst (drop read src) tail more_read more_written m → RepairsFirst src (put_mid written k array tail) (read + more_read) (written + more_written) (n + m)
+first_behind src array tail k read written n more_read more_written m r s = record {
+  parts = r.parts ++ s.parts;
+  first = subst (AreFirst false src (r.parts ++ s.parts)) (drop-drop more_read read src) (AreFirst-trans false src r.parts (drop read src) s.parts (drop more_read (drop read src)) r.first s.first);
+  within = omega (arith, r.within, s.within, length-drop read src);
+  fits = omega (arith, size, s.fits, length-append front (tail ++ post), length-append tail post);
+  text = subst (λ i. take (i + more_written) (front ++ (tail ++ post)) ≡ front ++ take more_written (tail ++ post)) size (take-append-add front (tail ++ post) more_written)
+      ∙ ap (λ xs. front ++ xs) (take-append-le more_written tail post s.fits)
+      ∙ ap (λ xs. xs ++ take more_written tail) r.text ∙ ap (λ xs. repaired_text r.parts ++ xs) s.text ∙ sym (repaired_text-append r.parts s.parts);
+  broken = omega (arith, r.broken, s.broken, count_broken-append r.parts s.parts);
+}
+  where
+    front : List ℕ
+    front = take written array
+
+    post : List ℕ
+    post = post_of written k array
+
+    size : length front ≡ written
+    size = omega (arith, length-take written array, r.fits)
+
+-- ---- one step
+-- what stands at the front of the array
+at_front : (array out rest : List ℕ) → array ≡ out ++ rest → (length out ≤ length array) × (take (length out) array ≡ out)
+at_front array out rest e = (omega (arith, ap length e, length-append out rest), ap (take (length out)) e ∙ take-append_seam out rest)
+
+-- an ASCII byte
+pub ascii_first : (src array rest : List ℕ) → 0 < length src → slice_index src 0 < 0x80 → array ≡ slice_index src 0 ∷ rest → RepairsFirst src array 1 1 0
+ascii_first src array rest some ascii placed = record {
+  parts = Character s.0 ∷ [];
+  first = record {
+    starts = StartsWith-one src (Character s.0) (drop 1 src) (s.1, whole);
+    whatever_follows = λ e more. StartsWith-one (src ++ more) (Character s.0) (drop 1 src ++ more) (s.1, ap (λ xs. xs ++ more) whole ∙ append_assoc (encode_utf8 s.0) (drop 1 src) more);
+  };
+  within = omega (arith, some);
+  fits = (at_front array (lead ∷ []) rest placed).0;
+  text = (at_front array (lead ∷ []) rest placed).1 ∙ sym s.2 ∙ sym (append-nil (encode_utf8 s.0));
+  broken = refl;
+}
+  where
+    lead : ℕ
+    lead = slice_index src 0
+
+    s : (c : ℕ) × IsScalar c × (encode_utf8 c ≡ lead ∷ [])
+    s = scalar_of_sequence (lead ∷ []) (IsSequence-HasShape (lead ∷ []) (omega (arith, ascii)))
+
+    whole : src ≡ encode_utf8 s.0 ++ drop 1 src
+    whole = drop_more src 0 0 some ∙ ap (λ xs. xs ++ drop 1 src) (sym s.2)
+
+-- a byte that is a broken part
+pub lone_first : (src array rest : List ℕ) → 0 < length src → IsBroken (take 1 src) (drop 1 src) false → array ≡ 0xEF ∷ 0xBF ∷ 0xBD ∷ rest → RepairsFirst src array 1 3 1
+lone_first src array rest some broken placed = record {
+  parts = g.parts;
+  first = g.first;
+  within = omega (arith, some);
+  fits = (at_front array (0xEF ∷ 0xBF ∷ 0xBD ∷ []) rest placed).0;
+  text = (at_front array (0xEF ∷ 0xBF ∷ 0xBD ∷ []) rest placed).1 ∙ sym g.text;
+  broken = sym g.broken;
+}
+  where
+    call : IsBorrowedCall [] src false (Malformed 1) 1 []
+    call = record { pending_before = inl refl; pending = inl refl; answer = (omega (arith, some), omega (arith, length-take 1 src, some), refl, broken) }
+
+    g : GivesPiece [] src false (Malformed 1) 1 []
+    g = piece_gives [] src false (Malformed 1) 1 [] call
+
+-- a piece of the first bytes
+window_first : (bs more : List ℕ) (parts : List Part) (rest : List ℕ) → AreFirst false bs parts rest → AreFirst false (bs ++ more) parts (rest ++ more)
+window_first bs more parts rest f = record {
+  starts = f.whatever_follows refl more;
+  whatever_follows = λ e others. rw (append_assoc bs more others, append_assoc rest more others) (f.whatever_follows refl (more ++ others));
+}
+
+piece_first : (src array rest : List ℕ) (most : ℕ) (piece : Piece) (read : ℕ) (q : List ℕ) → most ≤ length src → IsBorrowedCall [] (take most src) false piece read q
+    → q ≡ [] → array ≡ text_of piece ++ rest → RepairsFirst src array read (length (text_of piece)) (broken_of piece)
+piece_first src array rest most piece read q short call none placed = record {
+  parts = g.parts;
+  first = subst (λ xs. AreFirst false xs g.parts (drop read src)) whole
+      (subst (AreFirst false (take most src ++ drop most src) g.parts) behind (window_first (take most src) (drop most src) g.parts (q ++ drop read (take most src)) g.first));
+  within = omega (arith, within, length-take most src, short);
+  fits = (at_front array (text_of piece) rest placed).0;
+  text = (at_front array (text_of piece) rest placed).1 ∙ sym g.text;
+  broken = sym g.broken;
+}
+  where
+    g : GivesPiece [] (take most src) false piece read q
+    g = piece_gives [] (take most src) false piece read q call
+
+    within : read ≤ length (take most src)
+    within = (borrowed_gives [] (take most src) false piece read q call).2.within
+
+    whole : take most src ++ drop most src ≡ src
+    whole = take-append-drop most src
+
+    behind : (q ++ drop read (take most src)) ++ drop most src ≡ drop read src
+    behind = ap (λ xs. (xs ++ drop read (take most src)) ++ drop most src) none
+        ∙ sym (drop-append-le read (take most src) (drop most src) within) ∙ ap (drop read) whole
+
+-- these bytes are written for a piece, and n broken parts replaced
+abbrev pub IsWrittenFor : Piece → List ℕ → ℕ → Type 0
+IsWrittenFor (Text t) bytes n = (bytes ≡ t.now) × (n ≡ 0)
+IsWrittenFor (Char c) bytes n = ⊥
+IsWrittenFor (Malformed k) bytes n = (bytes ≡ 0xEF ∷ 0xBF ∷ 0xBD ∷ []) × (n ≡ 1)
+IsWrittenFor InputEmpty bytes n = ⊥
+
+-- no more parts are broken than bytes are read
+few_broken : (src array : List ℕ) (read written n : ℕ) → RepairsFirst src array read written n → n ≤ read
+few_broken src array read written n r = omega (arith, count_broken-bytes src r.parts (drop read src) r.first.starts, r.broken, r.within, length-drop read src)
+
+-- what a step gives, that reads some byte
+abbrev pub Goes : List ℕ → List ℕ → ℕ → ℕ → ℕ → Type 0
+Goes src array read written n = (0 < read) × (read ≤ length src) × (written ≤ length array) × (n ≤ read) × RepairsFirst src array read written n
+
+goes : (src array : List ℕ) (read written n : ℕ) → 0 < read → RepairsFirst src array read written n → Goes src array read written n
+goes src array read written n some r = (some, r.within, r.fits, few_broken src array read written n r, r)
+
+pub piece_written : (src array rest bytes : List ℕ) (most : ℕ) (piece : Piece) (read : ℕ) (q : List ℕ) (n : ℕ) → most ≤ length src → IsBorrowedCall [] (take most src) false piece read q
+    → IsWrittenFor piece bytes n → array ≡ bytes ++ rest → Goes src array read (length bytes) n
+piece_written src array rest bytes most (Text t) read q n short call (same, none) placed =
+    rw (same, none) (goes src array read (length t.now) 0 call.answer.2 (piece_first src array rest most (Text t) read q short call call.answer.1 (placed ∙ ap (λ xs. xs ++ rest) same)))
+piece_written src array rest bytes most (Char c) read q n short call never placed = absurd never
+piece_written src array rest bytes most (Malformed k) read q n short call (same, one) placed =
+    let g = piece_gives [] (take most src) false (Malformed k) read q call in
+    let some : 0 < read = omega (
+      arith,
+      count_broken-bytes (take most src) g.parts (q ++ drop read (take most src)) g.first.starts,
+      g.broken,
+      length-append q (drop read (take most src)),
+      length-drop read (take most src),
+    ) in
+    rw (same, one) (goes src array read 3 1 some (piece_first src array rest most (Malformed k) read q short call call.answer.2 (placed ∙ ap (λ xs. xs ++ rest) same)))
+piece_written src array rest bytes most InputEmpty read q n short call never placed = absurd never
+
+-- ---- written
+-- such first parts of the last bytes too
+any_first : (last : Bool) (bs : List ℕ) (parts : List Part) (rest : List ℕ) → AreFirst false bs parts rest → AreFirst last bs parts rest
+any_first last bs parts rest f = record { starts = f.starts; whatever_follows = λ e. f.whatever_follows refl }
+
+-- all of the front is
+pub wrote_front : (last : Bool) (bs rest array : List ℕ) (old new now : Option (List ℕ)) (n read written m : ℕ) → WritesParts last bs rest old new n → RepairsFirst rest array read written m
+    → Appends new now (take written array) → WritesParts last bs (drop read rest) old now (n + m)
+wrote_front last bs rest array old new now n read written m w r a =
+    let more = wrote_more last bs rest (drop read rest) old new now n r.parts w (any_first last rest r.parts (drop read rest) r.first) (subst (Appends new now) r.text a) in
+    record { parts = more.parts; first = more.first; bytes = more.bytes; broken = omega (arith, more.broken, r.broken) }
+
+-- some of it is
+pub stopped_front : (last : Bool) (bs rest array : List ℕ) (old new now : Option (List ℕ)) (n read written m k : ℕ) → WritesParts last bs rest old new n → RepairsFirst rest array read written m
+    → k < length (take written array) → Appends new now (take k (take written array)) → StopsInParts last bs old now
+stopped_front last bs rest array old new now n read written m k w r short a = record {
+  parts = w.parts ++ r.parts;
+  rest = drop read rest;
+  first = AreFirst-trans last bs w.parts rest r.parts (drop read rest) w.first (any_first last rest r.parts (drop read rest) r.first);
+  out = repaired_text w.parts ++ take k (take written array);
+  less = front_behind w.parts r.parts (take k (take written array)) (subst (IsProperFront (take k (take written array))) r.text (proper_front k (take written array) short));
+  bytes = Appends-trans _ _ _ _ _ w.bytes a;
+}
+
+-- ---- a piece, and the front behind it
+-- nothing is pending behind a piece
+wrote_alone : (last : Bool) (bs p rest x : List ℕ) (old new mid : Option (List ℕ)) (n : ℕ) (piece : Piece) (read : ℕ) (q : List ℕ) → WritesParts last bs (p ++ rest) old new n
+    → IsBorrowedCall p rest last piece read q → (piece ≡ InputEmpty → ⊥) → Appends new mid (text_of piece) → x ≡ drop read rest → WritesParts last bs x old mid (n + broken_of piece)
+wrote_alone last bs p rest x old new mid n piece read q w call some a is =
+    subst (λ xs. WritesParts last bs xs old mid (n + broken_of piece)) (ap (λ xs. xs ++ drop read rest) (nothing_pending p rest last piece read q call some) ∙ sym is) (wrote_piece last bs p rest old new mid n piece read q w call a)
+
+pub wrote_with_front : (last : Bool) (bs p rest x y array : List ℕ) (old new mid now : Option (List ℕ)) (n : ℕ) (piece : Piece) (read : ℕ) (q : List ℕ) (more written m : ℕ)
+    → WritesParts last bs (p ++ rest) old new n → IsBorrowedCall p rest last piece read q → (piece ≡ InputEmpty → ⊥) → Appends new mid (text_of piece) → x ≡ drop read rest
+    → RepairsFirst x array more written m → Appends mid now (take written array) → y ≡ drop more x → WritesParts last bs (q ++ y) old now (n + broken_of piece + m)
+wrote_with_front last bs p rest x y array old new mid now n piece read q more written m w call some a is front b left =
+    subst (λ xs. WritesParts last bs xs old now (n + broken_of piece + m)) (sym (ap (λ xs. xs ++ y) (nothing_pending p rest last piece read q call some) ∙ left))
+    (wrote_front last bs x array old mid now (n + broken_of piece) more written m (wrote_alone last bs p rest x old new mid n piece read q w call some a is) front b)
+
+pub stopped_with_front : (last : Bool) (bs p rest x array : List ℕ) (old new mid now : Option (List ℕ)) (n : ℕ) (piece : Piece) (read : ℕ) (q : List ℕ) (more written m k : ℕ)
+    → WritesParts last bs (p ++ rest) old new n → IsBorrowedCall p rest last piece read q → (piece ≡ InputEmpty → ⊥) → Appends new mid (text_of piece) → x ≡ drop read rest
+    → RepairsFirst x array more written m → k < length (take written array) → Appends mid now (take k (take written array)) → StopsInParts last bs old now
+stopped_with_front last bs p rest x array old new mid now n piece read q more written m k w call some a is front short b =
+    stopped_front last bs x array old mid now (n + broken_of piece) more written m k (wrote_alone last bs p rest x old new mid n piece read q w call some a is) front short b

@@ -1,0 +1,17 @@
+use Rattle.std.proofs.Common.{◌-◌, arith, length}
+use Rattle.std.proofs.lemmas.List.{take_rest}
+use Rattle.encoding_runs.proofs.FrontTextLemmas.{first_behind}
+use Rattle.encoding_runs.proofs.repair.front.repair_bytes.Goals as goal
+
+pub loop-read-preserved : goal.loop-read-preserved
+loop-read-preserved c =
+    let before = c.loop-read.invariant in
+    let (few, one, byte) = c.in-Some.ensures.some in
+    let next = first_behind _ _ _ (length c.loop-read.dst - c.loop-read.written) _ _ _ _ _ _ before.repaired (rw take_rest at byte) in
+    record {
+      within = omega (arith, c.loop-read-test.true);
+      room = omega (arith, before.room, few);
+      below = omega (arith, before.below, one);
+      fits = next.fits;
+      repaired = next;
+    }

@@ -1,0 +1,22 @@
+-- What calls of a decoder in a row give, by what each of them gives.
+use Rattle.std.specs.Prelude.{◌≡◌, ℕ, true, List, [], ◌∷◌, ◌++◌, take, Any}
+use Rattle.std.specs.List.{flat_map}
+use Rattle.encoding_definitions.specs.Parts.{Part, bytes_of, ArePartsOf}
+use Rattle.encoding_definitions.specs.Giving.{Gives}
+use Rattle.encoding_runs.specs.Calls.{Call, read_in_all, pending_after, some_last}
+
+-- the parts that calls give in sequence, where those of one call are told by its form, its result and its output
+abbrev pub AreGivenInSequence : {Form Result A : Type 0} → (Form → Result → List A → List Part → Type 0) → List (Call Form Result A) → List Part → Type 0
+AreGivenInSequence AreGiven [] parts = parts ≡ []
+AreGivenInSequence AreGiven (call ∷ calls) parts = (first : List Part) × (others : List Part)
+    × AreGiven call.form call.result call.out first × AreGivenInSequence AreGiven calls others × (parts ≡ first ++ others)
+
+-- What the calls give in sequence is a front of the parts of p and b, and the bytes of it, then what is pending, are p and
+-- the bytes read. Where none is marked last, it is a front whatever follows b. Once one that is marked last returns
+-- `InputEmpty` it is all of the parts.
+pub record GiveTheParts {Form Result A : Type 0} (AreGiven : Form → Result → List A → List Part → Type 0) (IsInputEmpty : Result → Type 0) (p b : List ℕ) (calls : List (Call Form Result A)) : Type 0 where
+  pub parts : List Part
+  pub in_sequence : AreGivenInSequence AreGiven calls parts
+  pub front : Gives p b (some_last calls) parts (read_in_all calls) (pending_after p calls)
+  pub bytes : flat_map bytes_of parts ++ pending_after p calls ≡ p ++ take (read_in_all calls) b
+  pub all : Any (λ call. (call.last ≡ true) × IsInputEmpty call.result) calls → ArePartsOf (p ++ b) parts

@@ -1,0 +1,21 @@
+-- What calls of an encoder in a row write. What is pending is what the encoder holds, and a call's form is its room.
+use Rattle.std.specs.Prelude.{◌≡◌, ℕ, ◌≤◌, true, false, List, ◌++◌, length, take, drop, Any}
+use Rattle.std.specs.List.{flat_map}
+use Rattle.encoding_definitions.specs.Utf16.{AreUnits, Part16, units_of, utf8_of, ArePartsOf16, StartsWith16}
+use Rattle.encoding_text.specs.Encoding.{IsHeld}
+use Rattle.encoding_text.specs.declared.utf_8.encoder.EncoderResult.{EncoderResult}
+use Rattle.encoding_text.specs.declared.utf_8.encoder.EncoderResult.TheVariants.{InputEmpty}
+use Rattle.encoding_runs.specs.Calls.{Call, some_last}
+
+-- What was written is the UTF-8 of the first parts of what was held and of the source. The code units of these parts, and
+-- those that are held then, are those that were held and those read. They are all the parts once a call that is marked
+-- last returns `InputEmpty`, and the first ones whatever follows where none is marked last.
+pub record EncodesFirstParts (held src : List ℕ) (calls : List (Call ℕ EncoderResult ℕ)) (read : ℕ) (out after : List ℕ) : Type 0 where
+  pub parts : List Part16
+  pub first : StartsWith16 (held ++ src) parts (after ++ drop read src)
+  pub written : out ≡ flat_map utf8_of parts
+  pub within : read ≤ length src
+  pub units : flat_map units_of parts ++ after ≡ held ++ take read src
+  pub one_held : IsHeld after
+  pub all : Any (λ call. (call.last ≡ true) × (call.result ≡ InputEmpty)) calls → ArePartsOf16 (held ++ src) parts
+  pub whatever_follows : some_last calls ≡ false → (more : List ℕ) → AreUnits more → StartsWith16 (held ++ src ++ more) parts (after ++ drop read src ++ more)

@@ -1,0 +1,14 @@
+-- Steps of the engine: what it repairs into an array before one write.
+use Rattle.std.specs.Prelude.{◌≡◌, ℕ, ◌≤◌, false, List, length, take, drop}
+use Rattle.encoding_definitions.specs.Parts.{Part, repaired_text, count_broken}
+use Rattle.encoding_runs.specs.Steps.Writing.{AreFirst}
+
+-- So many bytes of the source are its first parts, which stay these whatever follows. Their text stands at the front of
+-- the array, and n of the parts are broken.
+pub record RepairsFirst (src array : List ℕ) (read written n : ℕ) : Type 0 where
+  pub parts : List Part
+  pub first : AreFirst false src parts (drop read src)
+  pub within : read ≤ length src
+  pub fits : written ≤ length array
+  pub text : take written array ≡ repaired_text parts
+  pub broken : n ≡ count_broken parts

@@ -1,5 +1,0 @@
-pub mod AnyLemmas
-pub mod BidiTextLemmas
-pub mod BidiUnitsLemmas
-pub mod BidiBlocksLemmas
-pub mod BidiUnitBlocksLemmas

@@ -1,0 +1,10 @@
+pub mod BorrowedLemmas
+pub mod CallLemmas
+pub mod CallPartsLemmas
+pub mod DecodeLemmas
+pub mod HasAnswerLemmas
+pub mod LoneByteLemmas
+pub mod OneAnswerLemmas
+pub mod OnePieceLemmas
+pub mod PendingLemmas
+pub mod RoomLemmas

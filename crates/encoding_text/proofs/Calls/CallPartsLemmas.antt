@@ -1,0 +1,128 @@
+-- What a call wrote and reported are the first parts of the bytes that it was given.
+use Rattle.std.proofs.Common.{◌≡◌, ℕ, ◌-◌, ◌≤◌, inl, inr, Bool, true, false, List, [], ◌∷◌, ◌++◌, length, map, take, drop, encode_utf8_all, refl, sym, ap, ◌∙◌, arith, subst}
+use Rattle.std.specs.Str.{all_scalars}
+use Rattle.std.proofs.lemmas.List.{append-nil, append_assoc, take-append-drop, take_all}
+use Rattle.encoding_definitions.specs.Sequence.{BeginsNothing}
+use Rattle.encoding_definitions.specs.Parts.{Part, Character, Broken, IsFirstPart, StartsWith}
+use Rattle.encoding_definitions.specs.Pending.{IsPending}
+use Rattle.encoding_definitions.specs.Giving.{Gives}
+use Rattle.encoding_text.specs.GivenParts.{IsReported, AreDecoded}
+use Rattle.encoding_text.specs.Decoding.{IsBroken, IsCall, Answers}
+use Rattle.encoding_text.specs.declared.decoder.DecoderResult.{DecoderResult}
+use Rattle.encoding_text.specs.declared.decoder.DecoderResult.TheVariants.{InputEmpty, OutputFull, Malformed}
+use Rattle.encoding_definitions.proofs.Decomposition.PartsLemmas.{first_lone, first_open, first_stuck}
+use Rattle.encoding_definitions.proofs.Decomposition.DecompositionLemmas.{StartsWith-characters, StartsWith-append, StartsWith-one}
+
+-- ---- a broken part is the first part of itself and the unread bytes behind it
+lone_first : (x rest : List ℕ) (b : ℕ) → x ≡ b ∷ [] → BeginsNothing b → IsFirstPart (x ++ rest) (Broken x) rest
+lone_first x rest b e n = subst (λ xs. IsFirstPart (xs ++ rest) (Broken xs) rest) (sym e) (first_lone b rest n)
+
+pub broken_first : (x rest : List ℕ) (last : Bool) → IsBroken x rest last → IsFirstPart (x ++ rest) (Broken x) rest
+broken_first x [] last (inl (b, e, n)) = lone_first x [] b e n
+broken_first x [] last (inr (o, l)) = subst (λ xs. IsFirstPart xs (Broken x) []) (sym (append-nil x)) (first_open x o)
+broken_first x (y ∷ ys) last (inl (b, e, n)) = lone_first x (y ∷ ys) b e n
+broken_first x (y ∷ ys) last (inr (o, s)) = first_stuck x y ys o s
+
+-- and stays one whatever follows, where the source isn't the last
+broken_stays : (x rest more : List ℕ) → IsBroken x rest false → IsBroken x (rest ++ more) false
+broken_stays x [] [] b = b
+broken_stays x [] (z ∷ more) (inl lone) = inl lone
+broken_stays x [] (z ∷ more) (inr (o, e)) = absurd (let no : false ≡ true = e in cc)
+broken_stays x (y ∷ ys) more b = b
+
+-- ---- the bytes of a call, split
+-- The bytes that follow what the call wrote: a broken part that it reports, with these bytes unread behind it, or else
+-- what stays pending.
+abbrev pub FollowsOutput : List ℕ → Bool → DecoderResult → List ℕ → List ℕ → Type 0
+FollowsOutput unread last InputEmpty q y = y ≡ q
+FollowsOutput unread last OutputFull q y = y ≡ q
+FollowsOutput unread last (Malformed k second) q y = (second ≡ 0) × (length y ≡ k) × (q ≡ []) × IsBroken y unread last
+
+follows_stays : (unread more : List ℕ) (result : DecoderResult) (q y : List ℕ) → FollowsOutput unread false result q y → FollowsOutput (unread ++ more) false result q y
+follows_stays unread more InputEmpty q y e = e
+follows_stays unread more OutputFull q y e = e
+follows_stays unread more (Malformed k second) q y (zero, size, none, broken) = (zero, size, none, broken_stays y unread more broken)
+
+-- the characters of what the call read, and those bytes behind them
+pub call_read : {A : Type 0} (encode : ℕ → List A) (need : ℕ) (p src : List ℕ) (last : Bool) (result : DecoderResult) (read : ℕ) (cs : List ℕ) (left : ℕ) (q : List ℕ)
+    → Answers encode need p src last result read cs left q → (y : List ℕ) × FollowsOutput (drop read src) last result q y × (p ++ take read src ≡ encode_utf8_all cs ++ y)
+call_read encode need p src last InputEmpty read cs left q (all, whole, ended, room) = (q, refl, ap (λ xs. p ++ xs) (take_all read src (omega (arith, all))) ∙ whole)
+call_read encode need p src last OutputFull read cs left q (short, whole, little, none, held) = (q, refl, whole)
+call_read encode need p src last (Malformed k second) read cs left q (x, zero, within, whole, size, none, broken, room) = (x, (zero, size, none, broken), whole)
+
+-- all the bytes that it was given
+pub call_bytes : (p src cs y : List ℕ) (read : ℕ) → p ++ take read src ≡ encode_utf8_all cs ++ y → p ++ src ≡ encode_utf8_all cs ++ (y ++ drop read src)
+call_bytes p src cs y read e =
+    ap (λ xs. p ++ xs) (sym (take-append-drop read src)) ∙ sym (append_assoc p (take read src) (drop read src)) ∙ ap (λ xs. xs ++ drop read src) e
+    ∙ append_assoc (encode_utf8_all cs) y (drop read src)
+
+-- no more of them than there are
+pub call_within : {A : Type 0} (encode : ℕ → List A) (need : ℕ) (p src : List ℕ) (last : Bool) (result : DecoderResult) (read : ℕ) (cs : List ℕ) (left : ℕ) (q : List ℕ)
+    → Answers encode need p src last result read cs left q → read ≤ length src
+call_within encode need p src last InputEmpty read cs left q a = omega (arith, a.0)
+call_within encode need p src last OutputFull read cs left q a = omega (arith, a.0)
+call_within encode need p src last (Malformed k second) read cs left q a = a.2
+
+-- ---- the first parts of those bytes
+-- the parts that the call reports
+abbrev reported_parts : DecoderResult → List ℕ → List Part
+reported_parts InputEmpty y = []
+reported_parts OutputFull y = []
+reported_parts (Malformed k second) y = Broken y ∷ []
+
+are_reported : (unread : List ℕ) (last : Bool) (result : DecoderResult) (q y : List ℕ) → FollowsOutput unread last result q y → IsReported result (reported_parts result y)
+are_reported unread last InputEmpty q y e = refl
+are_reported unread last OutputFull q y e = refl
+are_reported unread last (Malformed k second) q y (zero, size, none, broken) = (y, refl, size)
+
+reported_first : (unread : List ℕ) (last : Bool) (result : DecoderResult) (q y : List ℕ) → FollowsOutput unread last result q y
+    → StartsWith (y ++ unread) (reported_parts result y) (q ++ unread)
+reported_first unread last InputEmpty q y e = ap (λ xs. xs ++ unread) e
+reported_first unread last OutputFull q y e = ap (λ xs. xs ++ unread) e
+reported_first unread last (Malformed k second) q y (zero, size, none, broken) =
+    subst (λ xs. StartsWith (y ++ unread) (Broken y ∷ []) (xs ++ unread)) (sym none) (StartsWith-one (y ++ unread) (Broken y) unread (broken_first y unread last broken))
+
+-- behind the characters that it wrote
+given_first : (bs cs y unread q : List ℕ) (last : Bool) (result : DecoderResult) → all_scalars cs ≡ true → bs ≡ encode_utf8_all cs ++ (y ++ unread)
+    → FollowsOutput unread last result q y → StartsWith bs (map Character cs ++ reported_parts result y) (q ++ unread)
+given_first bs cs y unread q last result h e f =
+    let behind = y ++ unread in
+    subst (λ xs. StartsWith xs (map Character cs ++ reported_parts result y) (q ++ unread)) (sym e)
+    (StartsWith-append (encode_utf8_all cs ++ behind) (map Character cs) behind (reported_parts result y) (q ++ unread) (StartsWith-characters cs behind h)
+    (reported_first unread last result q y f))
+
+-- the characters of what was read, and what follows them, are given
+pub gives_from : (p src : List ℕ) (last : Bool) (result : DecoderResult) (read : ℕ) (cs q y : List ℕ) → read ≤ length src → IsPending q → all_scalars cs ≡ true
+    → FollowsOutput (drop read src) last result q y → p ++ take read src ≡ encode_utf8_all cs ++ y → Gives p src last (map Character cs ++ reported_parts result y) read q
+gives_from p src last result read cs q y within pending scalars follows e = record {
+  within = within;
+  first = given_first (p ++ src) cs y unread q last result scalars whole follows;
+  pending = pending;
+  whatever_follows = stays;
+}
+  where
+    unread : List ℕ
+    unread = drop read src
+
+    whole : p ++ src ≡ encode_utf8_all cs ++ (y ++ unread)
+    whole = call_bytes p src cs y read e
+
+    stays : last ≡ false → (more : List ℕ) → StartsWith (p ++ src ++ more) (map Character cs ++ reported_parts result y) (q ++ unread ++ more)
+    stays f more =
+        let longer : p ++ src ++ more ≡ encode_utf8_all cs ++ (y ++ (unread ++ more)) =
+        ap (λ xs. xs ++ more) whole ∙ append_assoc (encode_utf8_all cs) (y ++ unread) more ∙ ap (λ xs. encode_utf8_all cs ++ xs) (append_assoc y unread more) in
+        subst (λ xs. StartsWith (p ++ src ++ more) (map Character cs ++ reported_parts result y) xs) (sym (append_assoc q unread more))
+        (given_first (p ++ src ++ more) cs y (unread ++ more) q false result scalars longer
+        (follows_stays unread more result q y (subst (λ b. FollowsOutput unread b result q y) f follows)))
+
+-- a call gives the characters that it wrote, and then the broken part that it reports
+pub decoded_gives : {A : Type 0} (encode : ℕ → List A) (need : ℕ) (p src : List ℕ) (room : ℕ) (last : Bool) (result : DecoderResult) (read : ℕ) (out : List A) (q : List ℕ)
+    → IsCall encode need p src room last result read out q → (parts : List Part) × AreDecoded encode result out parts × Gives p src last parts read q
+decoded_gives encode need p src room last result read out q call =
+    let cs = call.scalars in
+    let left = room - length out in
+    let (y, follows, e) = call_read encode need p src last result read cs left q call.answer in (
+      map Character cs ++ reported_parts result y,
+      (cs, reported_parts result y, call.are_scalars, call.out_is, are_reported (drop read src) last result q y follows, refl),
+      gives_from p src last result read cs q y (call_within encode need p src last result read cs left q call.answer) call.pending call.are_scalars follows e,
+    )

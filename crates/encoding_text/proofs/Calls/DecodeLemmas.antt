@@ -1,0 +1,319 @@
+-- That a call answers as the definition has it: with nothing pending, with a beginning, and both in a row.
+use Rattle.std.proofs.Common.{◌≡◌, ◌≢◌, ℕ, ◌+◌, ◌-◌, ◌<◌, ◌≤◌, ◌⊎◌, inl, inr, Bool, true, false, List, [], ◌∷◌, ◌++◌, length, take, drop, encode_utf8, encode_utf8_all, refl, sym, ap, ◌∙◌, arith, subst, take-add}
+use Rattle.std.specs.Char.{IsScalar}
+use Rattle.std.specs.List.{flat_map}
+use Rattle.std.proofs.lemmas.Bool.{and_from, cases_lt}
+use Rattle.std.proofs.lemmas.List.{append-nil, append_assoc, length-append, length-drop, length-take, take-append-drop, drop-drop, nil_from_length, take_all, take_rest}
+use Rattle.std.proofs.lemmas.Str.{encode_same, length-encode, len_utf8_bounds}
+use borrow.Rule.Slice.PartMut.{put_mid}
+use Rattle.encoding_definitions.specs.Sequence.{IsSequence, IsBeginning}
+use Rattle.encoding_definitions.specs.Parts.{BeginsWithNoCharacter}
+use Rattle.encoding_definitions.specs.Pending.{IsPending}
+use Rattle.encoding_text.specs.Steps.Resuming.{Resumes}
+use Rattle.encoding_definitions.specs.Fronts.{WritesFront}
+use Rattle.encoding_definitions.specs.Converting.{FittingBegins}
+use Rattle.encoding_text.specs.Steps.Converting.{ConvertsFront}
+use Rattle.encoding_text.specs.Decoding.{IsBroken, Answers, Decodes}
+use Rattle.encoding_text.specs.Steps.Ending.{AnswersAllRead, AnswersNoCharacter}
+use Rattle.encoding_text.specs.declared.decoder.DecoderResult.{DecoderResult}
+use Rattle.encoding_text.specs.declared.decoder.DecoderResult.TheVariants.{InputEmpty, OutputFull, Malformed}
+use Rattle.encoding_text.specs.declared.decoder.pending.Resumed.TheVariants.{Stuck}
+use Rattle.encoding_definitions.proofs.Sequences.EncodingLemmas.{scalar_of_sequence}
+use Rattle.encoding_definitions.proofs.LongestFronts.FrontsLemmas.{WritesFront-nil, WritesFront-length, WritesFront_after}
+use Rattle.encoding_text.proofs.Calls.CallLemmas.{broken_stuck}
+
+-- what no broken part is
+pub broken_some : (x rest : List ℕ) (last : Bool) → IsBroken x rest last → 0 < length x
+broken_some x [] last (inl (b, e, n)) = omega (arith, ap length e)
+broken_some x [] last (inr (o, l)) = o.0
+broken_some x (y ∷ ys) last (inl (b, e, n)) = omega (arith, ap length e)
+broken_some x (y ∷ ys) last (inr (o, s)) = o.0
+
+module _ {A : Type 0} (encode : ℕ → List A) (need : ℕ) where
+  -- ---- with nothing pending
+  split_source : (src cs : List ℕ) (read : ℕ) → encode_utf8_all cs ≡ take read src → src ≡ encode_utf8_all cs ++ drop read src
+  split_source src cs read e = sym (take-append-drop read src) ∙ ap (λ xs. xs ++ drop read src) (sym e)
+
+  pub all_read : (src : List ℕ) (old new : List A) (read written : ℕ) (last : Bool) → ConvertsFront encode src old new read written → read ≡ length src
+      → Decodes encode need [] src old new last InputEmpty read written []
+  all_read src old new read written last d e =
+      let whole : take read src ≡ src = take_all read src (omega (arith, e)) in (
+        flat_map encode d.scalars,
+        d.writes,
+        record {
+          scalars = d.scalars;
+          are_scalars = d.are_scalars;
+          out_is = refl;
+          fits = omega (arith, d.writes.count, d.writes.fits);
+          pending_before = inl refl;
+          pending = inl refl;
+          answer = (e, sym (append-nil (encode_utf8_all d.scalars) ∙ d.spelled ∙ whole), λ _. refl, λ n _. absurd (n refl));
+          pending_needs_room = λ n _. absurd (n refl);
+        },
+      )
+
+  pub full : (src : List ℕ) (old new : List A) (read written : ℕ) (last : Bool) → ConvertsFront encode src old new read written → read ≢ length src
+      → length old - written < need → Decodes encode need [] src old new last OutputFull read written []
+  full src old new read written last d n l = (
+    flat_map encode d.scalars,
+    d.writes,
+    record {
+      scalars = d.scalars;
+      are_scalars = d.are_scalars;
+      out_is = refl;
+      fits = omega (arith, d.writes.count, d.writes.fits);
+      pending_before = inl refl;
+      pending = inl refl;
+      answer = (
+        let within : read ≤ length src = d.within in omega (arith, n),
+        sym (append-nil (encode_utf8_all d.scalars) ∙ d.spelled),
+        omega (arith, l, d.writes.count),
+        (λ _ f. d.stops (subst (λ k. FittingBegins encode (drop read src) (length old - k)) (sym d.writes.count) f)),
+        λ m. absurd (m refl),
+      );
+      pending_needs_room = λ m _. absurd (m refl);
+    },
+  )
+
+  pub ends : (src : List ℕ) (old new : List A) (read written : ℕ) (last : Bool) (result : DecoderResult) (more : ℕ) (q : List ℕ) → ConvertsFront encode src old new read written → need ≤ length old - written
+      → AnswersNoCharacter (drop read src) last result more q → Decodes encode need [] src old new last result (read + more) written q
+  ends src old new read written last InputEmpty more q d l (all, rest, o, not_last) =
+      let within : read ≤ length src = d.within in (
+        flat_map encode d.scalars,
+        d.writes,
+        record {
+          scalars = d.scalars;
+          are_scalars = d.are_scalars;
+          out_is = refl;
+          fits = omega (arith, d.writes.count, d.writes.fits);
+          pending_before = inl refl;
+          pending = inr (subst IsBeginning (sym rest) o);
+          answer = (
+            omega (arith, all, length-drop read src, within),
+            split_source src d.scalars read d.spelled ∙ ap (λ xs. encode_utf8_all d.scalars ++ xs) (sym rest),
+            (λ t. let clash : true ≡ false = sym t ∙ not_last in cc),
+            λ _ _. omega (arith, l, d.writes.count),
+          );
+          pending_needs_room = λ n _. absurd (n refl);
+        },
+      )
+  ends src old new read written last OutputFull more q d l none = absurd none
+  ends src old new read written last (Malformed k second) more q d l (zero, same, inside, none, broken) =
+      let within : read ≤ length src = d.within in
+      let taken : take (read + more) src ≡ encode_utf8_all d.scalars ++ take k (drop read src) =
+      take-add read more src ∙ (λ i. (sym d.spelled) i ++ take (same i) (drop read src)) in
+      let behind : drop (read + more) src ≡ drop k (drop read src) = sym (drop-drop more read src) ∙ ap (λ n. drop n (drop read src)) same in (
+        flat_map encode d.scalars,
+        d.writes,
+        record {
+          scalars = d.scalars;
+          are_scalars = d.are_scalars;
+          out_is = refl;
+          fits = omega (arith, d.writes.count, d.writes.fits);
+          pending_before = inl refl;
+          pending = inl none;
+          answer = (
+            take k (drop read src),
+            zero,
+            omega (arith, same, inside, length-drop read src, within),
+            taken,
+            omega (arith, length-take k (drop read src), inside),
+            none,
+            subst (λ xs. IsBroken (take k (drop read src)) xs last) (sym behind) broken,
+            λ _. omega (arith, l, d.writes.count),
+          );
+          pending_needs_room = λ n _. absurd (n refl);
+        },
+      )
+
+  -- ---- with a beginning pending
+  no_output : (old : List A) → WritesFront old old 0 []
+  no_output old = WritesFront-nil old
+
+  pub source_ended : (p src old-src after : List ℕ) (old : List A) (last : Bool) (result : DecoderResult) (read : ℕ) → IsBeginning p → old-src ≡ p ++ src → read ≡ length src → (0 < length src → need ≤ length old)
+      → AnswersAllRead old-src last result after → Decodes encode need p src old old last result read 0 after
+  source_ended p src held after old last InputEmpty read b e all room (same, whole, pending) = (
+    [],
+    no_output old,
+    record {
+      scalars = [];
+      are_scalars = refl;
+      out_is = refl;
+      fits = omega arith;
+      pending_before = inr b;
+      pending = subst IsPending (sym same) pending;
+      answer = (all, sym (same ∙ e), (λ t. same ∙ whole t), λ _ some. omega (arith, room (omega (arith, all, some))));
+      pending_needs_room = λ _ some. room (omega (arith, all));
+    },
+  )
+  source_ended p src held after old last OutputFull read b e all room none = absurd none
+  source_ended p src held after old last (Malformed k second) read b e all room (zero, count, none, o, l) =
+      let taken : p ++ take read src ≡ held = ap (λ xs. p ++ xs) (take_all read src (omega (arith, all))) ∙ sym e in (
+        [],
+        no_output old,
+        record {
+          scalars = [];
+          are_scalars = refl;
+          out_is = refl;
+          fits = omega arith;
+          pending_before = inr b;
+          pending = inl none;
+          answer = (
+            held,
+            zero,
+            omega (arith, all),
+            taken,
+            sym count,
+            none,
+            subst (λ xs. IsBroken held xs last) (sym (nil_from_length (drop read src) (omega (arith, length-drop read src, all)))) (inr (o, l)),
+            (λ some. omega (arith, room some)),
+          );
+          pending_needs_room = λ _ some. room (omega (arith, all));
+        },
+      )
+
+  pub pending_full : (p src : List ℕ) (old : List A) (last : Bool) → IsPending p → 0 < length src → length old < need → p ≢ [] → Decodes encode need p src old old last OutputFull 0 0 p
+  pending_full p src old last pending some l n = (
+    [],
+    no_output old,
+    record {
+      scalars = [];
+      are_scalars = refl;
+      out_is = refl;
+      fits = omega arith;
+      pending_before = pending;
+      pending = pending;
+      answer = (some, append-nil p, omega (arith, l), (λ e. absurd (n e)), λ _. (refl, refl));
+      pending_needs_room = λ _ h. absurd (omega arith);
+    },
+  )
+
+  pub pending_stuck : (p src q : List ℕ) (old : List A) (last : Bool) (k read : ℕ) → IsBeginning p → need ≤ length old → Resumes p src (Stuck k) read q → Decodes encode need p src old old last (Malformed k 0) read 0 q
+  pending_stuck p src q old last k read begins l (short, count, o, b, more, next, stuck, none) = (
+    [],
+    no_output old,
+    record {
+      scalars = [];
+      are_scalars = refl;
+      out_is = refl;
+      fits = omega arith;
+      pending_before = inr begins;
+      pending = inl none;
+      answer = (
+        p ++ take read src,
+        refl,
+        omega (arith, short),
+        refl,
+        omega (arith, count, length-append p (take read src), length-take read src, short),
+        none,
+        broken_stuck (p ++ take read src) (drop read src) last b more next o stuck,
+        λ _. omega (arith, l),
+      );
+      pending_needs_room = λ _ _. l;
+    },
+  )
+
+  -- the bytes of a character, and then others
+  behind : (p src cs : List ℕ) (c read : ℕ) (rest : List ℕ) → p ++ take read src ≡ encode_utf8 c → drop read src ≡ encode_utf8_all cs ++ rest → p ++ src ≡ encode_utf8_all (c ∷ cs) ++ rest
+  behind p src cs c read rest e f =
+      ap (λ xs. p ++ xs) (sym (take-append-drop read src)) ∙ sym (append_assoc p (take read src) (drop read src)) ∙ (λ i. e i ++ f i)
+      ∙ sym (append_assoc (encode_utf8 c) (encode_utf8_all cs) rest)
+
+  behind_front : (p src cs : List ℕ) (c read more : ℕ) (rest : List ℕ) → p ++ take read src ≡ encode_utf8 c → take more (drop read src) ≡ encode_utf8_all cs ++ rest
+      → p ++ take (read + more) src ≡ encode_utf8_all (c ∷ cs) ++ rest
+  behind_front p src cs c read more rest e f =
+      ap (λ xs. p ++ xs) (take-add read more src) ∙ sym (append_assoc p (take read src) (take more (drop read src))) ∙ (λ i. e i ++ f i)
+      ∙ sym (append_assoc (encode_utf8 c) (encode_utf8_all cs) rest)
+
+  pub answer_behind : (p src : List ℕ) (c read : ℕ) (cs : List ℕ) (last : Bool) (result : DecoderResult) (more left left' : ℕ) (q : List ℕ) → p ++ take read src ≡ encode_utf8 c → read ≤ length src → left ≡ left'
+      → Answers encode need [] (drop read src) last result more cs left q → Answers encode need p src last result (read + more) (c ∷ cs) left' q
+  answer_behind p src c read cs last InputEmpty more left left' q e within same (all, whole, ended, room) = (
+    omega (arith, all, length-drop read src, within),
+    behind p src cs c read q e whole,
+    ended,
+    (λ n _. some n (nat_cases more)),
+  )
+    where
+      nat_cases : (n : ℕ) → (n ≡ 0) ⊎ (0 < n)
+      nat_cases n = elim (cases_lt 0 n) [ inl h ↦ inr h | inr h ↦ inl (omega arith) ]
+
+      some : q ≢ [] → (more ≡ 0) ⊎ (0 < more) → need ≤ left'
+      some n (inl z) = absurd (n (nil_from_length q (omega (arith, ap length whole, length-append (encode_utf8_all cs) q, z, all))))
+      some n (inr s) = subst (λ k. need ≤ k) same (room n s)
+  answer_behind p src c read cs last OutputFull more left left' q e within same (short, whole, little, none, held) = (
+    omega (arith, short, length-drop read src),
+    behind_front p src cs c read more q e whole,
+    omega (arith, little, same),
+    (λ f g. none f (subst (λ k. FittingBegins encode (drop more (drop read src)) k) (sym same) (subst (λ xs. FittingBegins encode xs left') (sym (drop-drop more read src)) g))),
+    (λ n. absurd (n (held n).1)),
+  )
+  answer_behind p src c read cs last (Malformed k second) more left left' q e within same (x, zero, inside, whole, size, none, broken, room) = (
+    x,
+    zero,
+    omega (arith, inside, length-drop read src, within),
+    behind_front p src cs c read more x e whole,
+    size,
+    none,
+    subst (λ xs. IsBroken x xs last) (drop-drop more read src) broken,
+    (λ _. subst (λ n. need ≤ n) same (room (omega (arith, ap length whole, length-append (encode_utf8_all cs) x, length-take more (drop read src), broken_some x _ last broken)))),
+  )
+
+-- where a character takes no more than the need
+module _ {A : Type 0} (encode : ℕ → List A) (need : ℕ) (fits : (c : ℕ) → IsScalar c → length (encode c) ≤ need) where
+  -- with room for any character, none begins what is left
+  pub no_character_fits : (src : List ℕ) (old new : List A) (read written : ℕ) → ConvertsFront encode src old new read written → need ≤ length old - written → BeginsWithNoCharacter (drop read src)
+  no_character_fits src old new read written d l front rest e s =
+      let c = scalar_of_sequence front s in
+      d.stops (c.0, rest, c.1, e ∙ ap (λ xs. xs ++ rest) (sym c.2), omega (arith, fits c.0 c.1, l))
+
+  -- ---- a character that was pending, and the call for what is behind it
+  -- the bytes of one character convert to just that character
+  one_character : (s : List ℕ) (c : ℕ) (old new : List A) (read written : ℕ) → IsScalar c → encode_utf8 c ≡ s → need ≤ length old → ConvertsFront encode s old new read written
+      → WritesFront old new written (encode c)
+  one_character s c old new read written h e l d = just d.scalars refl
+    where
+      whole : (cs : List ℕ) → cs ≡ d.scalars → encode_utf8_all cs ++ drop read s ≡ encode_utf8 c ++ []
+      whole cs f = ap (λ xs. encode_utf8_all xs ++ drop read s) f ∙ ap (λ xs. xs ++ drop read s) d.spelled ∙ take-append-drop read s ∙ sym e ∙ sym (append-nil (encode_utf8 c))
+
+      just : (cs : List ℕ) → cs ≡ d.scalars → WritesFront old new written (encode c)
+      just [] f =
+          let none : written ≡ 0 = d.writes.count ∙ sym (ap (λ xs. length (flat_map encode xs)) f) in
+          absurd (d.stops (c, [], h, whole [] f, omega (arith, fits c h, none, l)))
+      just (b ∷ []) f =
+          let same = encode_same b c (drop read s) [] (ap (λ xs. xs ++ drop read s) (sym (append-nil (encode_utf8 b))) ∙ whole (b ∷ []) f) in
+          let out : flat_map encode d.scalars ≡ encode c = sym (ap (flat_map encode) f) ∙ append-nil (encode b) ∙ ap encode same.0 in
+          subst (λ xs. WritesFront old new written xs) out d.writes
+      just (b ∷ a ∷ more) f =
+          let rest = encode_utf8_all more ++ drop read s in
+          let same = encode_same b c (encode_utf8 a ++ rest) [] (regroup b a more ∙ whole (b ∷ a ∷ more) f) in
+          absurd (omega (arith, ap length same.1, length-append (encode_utf8 a) rest, length-encode a, len_utf8_bounds a))
+        where
+          regroup : (b a : ℕ) (more : List ℕ) → encode_utf8 b ++ (encode_utf8 a ++ (encode_utf8_all more ++ drop read s)) ≡ (encode_utf8 b ++ (encode_utf8 a ++ encode_utf8_all more)) ++ drop read s
+          regroup b a more = sym (append_assoc (encode_utf8 b) (encode_utf8 a ++ encode_utf8_all more) (drop read s)
+              ∙ ap (λ xs. encode_utf8 b ++ xs) (append_assoc (encode_utf8 a) (encode_utf8_all more) (drop read s)))
+
+  pub whole_then : (p src bytes : List ℕ) (old new sub : List A) (last : Bool) (result : DecoderResult) (read n read' written more written' : ℕ) (q : List ℕ)
+      → IsBeginning p → need ≤ length old → read ≤ length src → take n bytes ≡ p ++ take read src → IsSequence (p ++ take read src) → ConvertsFront encode (take n bytes) old new read' written
+      → Decodes encode need [] (drop read src) (take (length new - written) (drop written new)) sub last result more written' q
+      → Decodes encode need p src old (put_mid written (length new - written) new sub) last result (read + more) (written + written') q
+  whole_then p src bytes old new sub last result read n read' written more written' q begins room within e s d (out, writes, call) =
+      let c = scalar_of_sequence (p ++ take read src) s in
+      let first : WritesFront old new written (encode c.0) = one_character (take n bytes) c.0 old new read' written c.1 (c.2 ∙ sym e) room d in
+      let long : length (take (length new - written) (drop written new)) ≡ length old - written =
+      ap length (take_rest new written) ∙ length-drop written new ∙ ap (λ k. k - written) (WritesFront-length old new written (encode c.0) first) in
+      let size : length (encode c.0) ≡ written = sym first.count in
+      let left : length (take (length new - written) (drop written new)) - length out ≡ length old - length (encode c.0 ++ out) =
+      omega (arith, long, length-append (encode c.0) out, size) in (
+        encode c.0 ++ out,
+        WritesFront_after old new written (encode c.0) sub written' out first writes,
+        record {
+          scalars = c.0 ∷ call.scalars;
+          are_scalars = and_from _ _ c.1 call.are_scalars;
+          out_is = ap (λ xs. encode c.0 ++ xs) call.out_is;
+          fits = let inside : length out ≤ length (take (length new - written) (drop written new)) = call.fits in omega (arith, inside, long, length-append (encode c.0) out, size, first.fits);
+          pending_before = inr begins;
+          pending = call.pending;
+          answer = answer_behind encode need p src c.0 read call.scalars last result more _ _ q (sym c.2) within left call.answer;
+          pending_needs_room = λ _ _. room;
+        },
+      )

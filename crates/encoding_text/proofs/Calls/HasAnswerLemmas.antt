@@ -1,0 +1,207 @@
+-- For pending bytes, source, room and mark a decode call has an answer.
+use Rattle.std.proofs.Common.{◌≡◌, ◌≢◌, ℕ, ◌+◌, ◌-◌, ◌<◌, ◌≤◌, ◌⊎◌, inl, inr, Bool, true, false, List, [], ◌∷◌, ◌++◌, length, take, drop, encode_utf8, refl, sym, ap, ◌∙◌, arith, subst}
+use Rattle.std.specs.Char.{IsScalar}
+use Rattle.std.proofs.lemmas.Bool.{and_from, cases_Bool, cases_lt}
+use Rattle.std.proofs.lemmas.List.{append-nil, length-append, nil_from_length, take_at, drop_at}
+use Rattle.std.proofs.lemmas.Str.{encode_same, length-encode, len_utf8_bounds}
+use Rattle.encoding_definitions.specs.Sequence.{IsBeginning}
+use Rattle.encoding_definitions.specs.Parts.{Part, Character, Broken, IsFirstPart, ArePartsOf}
+use Rattle.encoding_definitions.specs.Pending.{IsPending}
+use Rattle.encoding_definitions.specs.Converting.{FittingBegins}
+use Rattle.encoding_text.specs.Decoding.{IsBroken, IsCall, Answers}
+use Rattle.encoding_text.specs.declared.decoder.DecoderResult.{DecoderResult}
+use Rattle.encoding_text.specs.declared.decoder.DecoderResult.TheVariants.{InputEmpty, OutputFull, Malformed}
+use Rattle.encoding_definitions.proofs.Sequences.EncodingLemmas.{IsSequence-encode}
+use Rattle.encoding_definitions.proofs.Decomposition.PartsLemmas.{fronts_nest, no_sequence_in_beginning, first_open, has_first_part, part_bytes, lone_part, stuck_part}
+use Rattle.encoding_definitions.proofs.Decomposition.DecompositionLemmas.{has_parts}
+use Rattle.encoding_text.proofs.Calls.DecodeLemmas.{answer_behind}
+
+pub length-encode-some : (c : ℕ) → 0 < length (encode_utf8 c)
+length-encode-some c = omega (arith, length-encode c, len_utf8_bounds c)
+
+-- no character's bytes begin a beginning, or nothing
+pub no_character_pending : (c : ℕ) (rest q : List ℕ) → IsScalar c → IsPending q → q ≡ encode_utf8 c ++ rest → ⊥
+no_character_pending c rest q h (inl n) e = omega (arith, ap length (sym n ∙ e), length-append (encode_utf8 c) rest, length-encode-some c)
+no_character_pending c rest q h (inr b) e = no_sequence_in_beginning (encode_utf8 c) rest (subst IsBeginning e b) (IsSequence-encode c h)
+
+-- ---- there is an answer
+pub broken_or_open : (x after : List ℕ) (last : Bool) → IsFirstPart (x ++ after) (Broken x) after → IsBroken x after last ⊎ ((after ≡ []) × IsBeginning x × (last ≡ false))
+broken_or_open x [] last (n, inl l) = elim (cases_Bool last) [ inl t ↦ inl (inr (l.beginning, t)) | inr f ↦ inr (refl, l.beginning, f) ]
+broken_or_open x (y ∷ ys) last (n, inl l) = inl (inr (l.beginning, stuck_part (x ++ (y ∷ ys)) x y ys n l))
+broken_or_open x [] last (n, inr l) = inl (inl (lone_part (x ++ []) x [] n l))
+broken_or_open x (y ∷ ys) last (n, inr l) = inl (inl (lone_part (x ++ (y ∷ ys)) x (y ∷ ys) n l))
+
+first_behind : (src x after : List ℕ) → src ≡ x ++ after → IsFirstPart src (Broken x) after → IsFirstPart (x ++ after) (Broken x) after
+first_behind src x after e f = subst (λ xs. IsFirstPart xs (Broken x) after) e f
+
+module _ {A : Type 0} (encode : ℕ → List A) (need : ℕ) (last : Bool) where
+  abbrev HasCall : List ℕ → List ℕ → ℕ → Type 0
+  HasCall p src room = (result : DecoderResult) × (read : ℕ) × (out : List A) × (q : List ℕ) × IsCall encode need p src room last result read out q
+
+  -- no room for the next character
+  full_call : (p src : List ℕ) (room : ℕ) → IsPending p → 0 < length src → room < need → (p ≡ [] → FittingBegins encode src room → ⊥) → HasCall p src room
+  full_call p src room pending some short none = (
+    OutputFull,
+    0,
+    [],
+    p,
+    record {
+      scalars = [];
+      are_scalars = refl;
+      out_is = refl;
+      fits = omega arith;
+      pending_before = pending;
+      pending = pending;
+      answer = (some, append-nil p, omega arith, (λ n f. none n (subst (λ k. FittingBegins encode src k) (omega arith) f)), λ _. (refl, refl));
+      pending_needs_room = λ _ h. absurd (omega arith);
+    },
+  )
+
+  -- the bytes t end the broken part x
+  report_call : (p src t x after : List ℕ) (room : ℕ) → IsPending p → x ≡ p ++ t → src ≡ t ++ after → IsBroken x after last → (0 < length src → need ≤ room) → HasCall p src room
+  report_call p src t x after room before e f broken enough =
+      let within : length t ≤ length src = omega (arith, ap length f, length-append t after) in
+      let front : take (length t) src ≡ t = ap (take (length t)) f ∙ take_at t after (length t) refl in
+      let back : drop (length t) src ≡ after = ap (drop (length t)) f ∙ drop_at t after (length t) refl in (
+        Malformed (length x) 0,
+        length t,
+        [],
+        [],
+        record {
+          scalars = [];
+          are_scalars = refl;
+          out_is = refl;
+          fits = omega arith;
+          pending_before = before;
+          pending = inl refl;
+          answer = (
+            x,
+            refl,
+            within,
+            ap (λ xs. p ++ xs) front ∙ sym e,
+            refl,
+            refl,
+            subst (λ xs. IsBroken x xs last) (sym back) broken,
+            (λ some. omega (arith, enough some)),
+          );
+          pending_needs_room = λ _ some. enough (omega arith);
+        },
+      )
+
+  -- all is read, and a beginning is left
+  open_call : (p src x : List ℕ) (room : ℕ) → IsPending p → p ++ src ≡ x → IsBeginning x → last ≡ false → (0 < length src → need ≤ room) → HasCall p src room
+  open_call p src x room before e o more enough = (
+    InputEmpty,
+    length src,
+    [],
+    x,
+    record {
+      scalars = [];
+      are_scalars = refl;
+      out_is = refl;
+      fits = omega arith;
+      pending_before = before;
+      pending = inr o;
+      answer = (refl, e, (λ t. let clash : true ≡ false = sym t ∙ more in cc), λ _ some. omega (arith, enough some));
+      pending_needs_room = λ _ some. enough some;
+    },
+  )
+
+  broken_call : (p src t x after : List ℕ) (room : ℕ) → IsPending p → x ≡ p ++ t → src ≡ t ++ after → IsFirstPart (x ++ after) (Broken x) after → (0 < length src → need ≤ room) → HasCall p src room
+  broken_call p src t x after room before e f first enough = elim (broken_or_open x after last first) [
+    | inl broken ↦ report_call p src t x after room before e f broken enough
+    | inr (n, o, more) ↦ open_call p src x room before (ap (λ xs. p ++ xs) (f ∙ ap (λ xs. t ++ xs) n ∙ append-nil t) ∙ sym e) o more enough
+  ]
+
+  -- the bytes t end a character, and a call follows
+  character_call : (p src t after : List ℕ) (c room : ℕ) → IsPending p → IsScalar c → encode_utf8 c ≡ p ++ t → src ≡ t ++ after → length (encode c) ≤ room → (p ≢ [] → need ≤ room)
+      → HasCall [] after (room - length (encode c)) → HasCall p src room
+  character_call p src t after c room before h e f fitting enough (result, read, out, q, call) =
+      let within : length t ≤ length src = omega (arith, ap length f, length-append t after) in
+      let front : take (length t) src ≡ t = ap (take (length t)) f ∙ take_at t after (length t) refl in
+      let back : drop (length t) src ≡ after = ap (drop (length t)) f ∙ drop_at t after (length t) refl in
+      let left : room - length (encode c) - length out ≡ room - length (encode c ++ out) = omega (arith, length-append (encode c) out) in (
+        result,
+        length t + read,
+        encode c ++ out,
+        q,
+        record {
+          scalars = c ∷ call.scalars;
+          are_scalars = and_from _ _ h call.are_scalars;
+          out_is = ap (λ xs. encode c ++ xs) call.out_is;
+          fits = let inside : length out ≤ room - length (encode c) = call.fits in omega (arith, length-append (encode c) out);
+          pending_before = before;
+          pending = call.pending;
+          answer = answer_behind encode need p src c (length t) call.scalars last result read _ _ q (ap (λ xs. p ++ xs) front ∙ sym e) within left
+              (subst (λ xs. Answers encode need [] xs last result read call.scalars (room - length (encode c) - length out) q) (sym back) call.answer);
+          pending_needs_room = λ some _. enough some;
+        },
+      )
+
+  module _ (fits : (c : ℕ) → IsScalar c → length (encode c) ≤ need) where
+    -- with nothing pending, by the parts of the source
+    neutral_call : (ps : List Part) (src : List ℕ) (room : ℕ) → ArePartsOf src ps → HasCall [] src room
+    neutral_call [] src room e = (
+      InputEmpty,
+      length src,
+      [],
+      [],
+      record {
+        scalars = [];
+        are_scalars = refl;
+        out_is = refl;
+        fits = omega arith;
+        pending_before = inl refl;
+        pending = inl refl;
+        answer = (refl, e, (λ _. refl), λ n _. absurd (n refl));
+        pending_needs_room = λ n _. absurd (n refl);
+      },
+    )
+    neutral_call (Character c ∷ ps) src room (after, (h, e), more) = elim (cases_lt room (length (encode c))) [
+      | inl short ↦ full_call [] src room (inl refl) (omega (arith, ap length e, length-append (encode_utf8 c) after, length-encode-some c)) (omega (arith, fits c h))
+          (λ _ (b, rest, k, f, g). let same = encode_same c b after rest (sym e ∙ f) in omega (arith, subst (λ x. length (encode x) ≤ room) (sym same.0) g))
+      | inr enough ↦ character_call [] src (encode_utf8 c) after c room (inl refl) h refl e enough (λ n. absurd (n refl)) (neutral_call ps after (room - length (encode c)) more)
+    ]
+    neutral_call (Broken x ∷ ps) src room (after, f, more) =
+        let bytes = part_bytes src (Broken x) after f in
+        elim (cases_lt room need) [
+          | inl short ↦ full_call [] src room (inl refl) (omega (arith, ap length bytes.0, length-append x after, bytes.1)) short
+              (λ _ (b, rest, k, e, g). f.0 (encode_utf8 b) rest e (IsSequence-encode b k))
+          | inr enough ↦ broken_call [] src x x after room (inl refl) refl bytes.0 (first_behind src x after bytes.0 f) (λ _. enough)
+        ]
+
+    -- with a beginning pending, by the first part of it and the source
+    resumed_call : (p src : List ℕ) (room : ℕ) (part : Part) (after : List ℕ) → IsBeginning p → need ≤ room → IsFirstPart (p ++ src) part after → HasCall p src room
+    resumed_call p src room (Character c) after b enough (h, e) = elim (fronts_nest p src (encode_utf8 c) after e) [
+      | inl (t, f, g) ↦
+          let parts = has_parts after in
+          character_call p src t after c room (inr b) h f g (omega (arith, fits c h)) (λ _. enough) (neutral_call parts.0 after (room - length (encode c)) parts.1)
+      | inr (t, f, g) ↦ absurd (no_character_pending c t p h (inr b) f)
+    ]
+    resumed_call p src room (Broken x) after b enough (n, inl l) =
+        let first : IsFirstPart (x ++ after) (Broken x) after = first_behind (p ++ src) x after l.whole (n, inl l) in
+        elim (fronts_nest p src x after l.whole) [
+          | inl (t, f, g) ↦ broken_call p src t x after room (inr b) f g first (λ _. enough)
+          | inr (t, f, g) ↦
+              let none : t ≡ [] = nil_from_length t (omega (arith, ap length f, length-append x t, l.longest p src refl b)) in
+              broken_call p src [] x after room (inr b) (sym (append-nil x) ∙ ap (λ xs. x ++ xs) (sym none) ∙ sym f ∙ sym (append-nil p)) (sym (g ∙ ap (λ xs. xs ++ src) none)) first (λ _. enough)
+        ]
+    resumed_call p src room (Broken x) after b enough (n, inr l) = absurd (l.none p src refl b)
+
+    pending_call : (p src : List ℕ) (room : ℕ) → IsBeginning p → HasCall p src room
+    pending_call p [] room b =
+        broken_call p [] [] p [] room (inr b) (sym (append-nil p)) refl (subst (λ xs. IsFirstPart xs (Broken p) []) (sym (append-nil p)) (first_open p b)) (λ none. absurd (omega arith))
+    pending_call p (y ∷ ys) room b = elim (cases_lt room need) [
+      | inl short ↦ full_call p (y ∷ ys) room (inr b) (omega arith) short (λ n _. omega (arith, ap length n, b.0))
+      | inr enough ↦
+          let first = has_first_part (p ++ (y ∷ ys)) (omega (arith, length-append p (y ∷ ys))) in
+          resumed_call p (y ∷ ys) room first.0 first.1 b enough first.2
+    ]
+
+    some_call : (p src : List ℕ) (room : ℕ) → IsPending p → HasCall p src room
+    some_call p src room (inl n) = let parts = has_parts src in subst (λ xs. HasCall xs src room) (sym n) (neutral_call parts.0 src room parts.1)
+    some_call p src room (inr b) = pending_call p src room b
+
+pub has_answer : {A : Type 0} (encode : ℕ → List A) (need : ℕ) (p src : List ℕ) (room : ℕ) (last : Bool) → ((c : ℕ) → IsScalar c → length (encode c) ≤ need) → IsPending p
+    → (result : DecoderResult) × (read : ℕ) × (out : List A) × (q : List ℕ) × IsCall encode need p src room last result read out q
+has_answer encode need p src room last fits pending = some_call encode need last fits p src room pending

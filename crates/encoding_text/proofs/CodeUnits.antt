@@ -1,0 +1,3 @@
+pub mod EncoderLemmas
+pub mod EncoderPartsLemmas
+pub mod EncoderTextLemmas

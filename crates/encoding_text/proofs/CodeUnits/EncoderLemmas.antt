@@ -1,0 +1,283 @@
+-- One call of the encoder: what is due, and a call that begins with the held unit.
+use Rattle.std.proofs.Common.{◌≡◌, ℕ, suc, ◌+◌, ◌-◌, ◌*◌, ◌<◌, ◌≤◌, ◌⊎◌, inl, inr, Bool, true, false, List, [], ◌∷◌, ◌++◌, length, take, drop, get_or, encode_utf8, refl, sym, ap, ◌∙◌, arith, subst, append_assoc}
+use Rattle.std.specs.Char.{len_utf8}
+use Rattle.std.specs.Char.Escape.{encode_utf16}
+use Rattle.std.specs.List.{flat_map}
+use Rattle.std.specs.Prelude.{◌==◌}
+use Rattle.std.proofs.lemmas.Bool.{cases_lt}
+use Rattle.std.proofs.lemmas.Bool.Decides.{nat_tests}
+use Rattle.std.proofs.lemmas.Str.{length-encode}
+use Rattle.std.proofs.lemmas.List.{length-append, length-drop, length-take-le, take-append-drop, drop_all, drop_more, get_or_past, get_or-take, get_or-drop, length-take, length_push, nil_from_length, take_rest}
+use borrow.Rule.Slice.PartMut.{put_mid}
+use Rattle.std.proofs.str.Utf16.{one_unit}
+use Rattle.encoding_definitions.specs.Fronts.{WritesFront}
+use Rattle.encoding_definitions.specs.Utf16.{AreUnits, Part16, Character16, Lone, units_of, utf8_of, ArePartsOf16, IsHighSurrogate, IsUtf8OfLongestFront}
+use Rattle.encoding_definitions.specs.FirstScalar.{BeginsLow, IsFirstPart16, IsFirstScalar}
+use Rattle.encoding_text.specs.Encoding.{IsHeld, EndsHigh, AreDue, EncoderAnswers, IsEncoderCall}
+use Rattle.encoding_text.specs.declared.utf_8.encoder.EncoderResult.{EncoderResult}
+use Rattle.encoding_text.specs.declared.utf_8.encoder.EncoderResult.TheVariants.{InputEmpty, OutputFull}
+use Rattle.encoding_definitions.proofs.LongestFronts.FrontsLemmas.{FitsLongest-all, FitsLongest-stop, WritesFront_after, WritesFront-length}
+use Rattle.encoding_definitions.proofs.CodeUnits.Utf16Lemmas.{parts_of, parts_exist, ArePartsOf16-cons, halves, length-units_of}
+use Rattle.encoding_definitions.proofs.LongestFronts.FittingLemmas.{FitsLongest-cons, written_is, written_front}
+use Rattle.encoding_definitions.proofs.CodeUnits.Utf16FrontLemmas.{all_fit, units_counted}
+
+-- ---- which unit stays open
+-- the units from this place on stay open
+pub record LeavesOpen (us : List ℕ) (last : Bool) (n : ℕ) : Type 0 where
+  pub within : n ≤ length us
+  pub held : IsHeld (drop n us)
+  pub last_opens_none : last ≡ true → n ≡ length us
+  pub waits : last ≡ false → EndsHigh us → n + 1 ≡ length us
+
+at_end : (front : List ℕ) (u : ℕ) → get_or (front ++ u ∷ []) (length front) 0 ≡ u
+at_end [] u = refl
+at_end (x ∷ front) u = at_end front u
+
+last_of_push : (front : List ℕ) (u : ℕ) → get_or (front ++ u ∷ []) (length (front ++ u ∷ []) - 1) 0 ≡ u
+last_of_push front u = ap (λ n. get_or (front ++ u ∷ []) n 0) {x = length (front ++ u ∷ []) - 1} {y = length front} (omega (arith, length_push front u)) ∙ at_end front u
+
+pub ends_high_last : (us : List ℕ) → EndsHigh us → (0 < length us) × IsHighSurrogate (get_or us (length us - 1) 0)
+ends_high_last us h = (omega (arith, ap length h.2, length_push h.0 h.1), subst IsHighSurrogate (sym (ap (λ xs. get_or xs (length xs - 1) 0) h.2 ∙ last_of_push h.0 h.1)) h.3)
+
+decide_high : (u : ℕ) → IsHighSurrogate u ⊎ (IsHighSurrogate u → ⊥)
+decide_high u = elim (cases_lt u 0xD800) [
+  | inl a ↦ inr (λ p. omega arith)
+  | inr a ↦ elim (cases_lt 0xDBFF u) [
+    | inl b ↦ inr (λ p. omega arith)
+    | inr b ↦ inl (a, b)
+  ]
+]
+
+all_due : (us : List ℕ) (last : Bool) → (last ≡ false → EndsHigh us → ⊥) → LeavesOpen us last (length us)
+all_due us last n = record {
+  within = omega arith;
+  held = subst IsHeld (sym (drop_all (length us) us (omega arith))) tt;
+  last_opens_none = λ e. refl;
+  waits = λ e h. absurd (n e h);
+}
+
+pub leaves_open : (us : List ℕ) (last : Bool) → (n : ℕ) × LeavesOpen us last n
+leaves_open us true = (length us, all_due us true (λ e. absurd (cc (e))))
+leaves_open [] false = (0, all_due [] false (λ e h. omega (arith, (ends_high_last [] h).0)))
+leaves_open (u ∷ us) false = elim (decide_high (get_or (u ∷ us) (length us) 0)) [
+  | inl h ↦ (
+    length us,
+    record {
+      within = omega arith;
+      held = subst IsHeld (sym (drop_more (u ∷ us) (length us) 0 (omega arith) ∙ ap (λ xs. get_or (u ∷ us) (length us) 0 ∷ xs) (drop_all (length us + 1) (u ∷ us) (omega arith)))) h;
+      last_opens_none = λ e. absurd (cc (e));
+      waits = λ e k. omega arith;
+    },
+  )
+  | inr n ↦ (length (u ∷ us), all_due (u ∷ us) false (λ e h. n (subst (λ k. IsHighSurrogate (get_or (u ∷ us) k 0)) {x = length (u ∷ us) - 1} {y = length us} (omega arith) (ends_high_last (u ∷ us) h).1)))
+]
+
+pub AreUnits-front : (us : List ℕ) (n : ℕ) → AreUnits us → AreUnits (take n us)
+AreUnits-front us n a k = elim (cases_lt k n) [
+  | inl l ↦ omega (arith, get_or-take n us k 0 l, a k)
+  | inr l ↦ omega (arith, get_or_past (take n us) k 0 (omega (arith, length-take n us)))
+]
+
+pub AreUnits-behind : (us : List ℕ) (n : ℕ) → AreUnits us → AreUnits (drop n us)
+AreUnits-behind us n a k = omega (arith, get_or-drop n us k 0, a (n + k))
+
+-- the parts in front of that place are due
+open_due : (us : List ℕ) (last : Bool) (n : ℕ) (due : List Part16) → LeavesOpen us last n → ArePartsOf16 (take n us) due → AreDue us last due (drop n us)
+open_due us last n due l a = record {
+  front = take n us;
+  whole = sym (take-append-drop n us);
+  parts = a;
+  held = l.held;
+  last_opens_none = λ e. drop_all n us (omega (arith, l.last_opens_none e));
+  waits = λ e h. omega (arith, l.waits e h, length-drop n us);
+}
+
+-- ---- nothing held
+module _ (src : List ℕ) (room : ℕ) (last : Bool) (n read : ℕ) (out : List ℕ) (l : LeavesOpen src last n) (f : IsUtf8OfLongestFront (take n src) room read out) where
+  fresh_length : length (flat_map units_of f.parts) ≡ n
+  fresh_length = ap length f.are_parts.1 ∙ length-take-le n src l.within
+
+  pub fresh_full : read < n → IsEncoderCall [] src room last OutputFull read out []
+  fresh_full h = record {
+    held_before = tt;
+    held_after = tt;
+    due = f.parts;
+    left_open = drop n src;
+    taken = read;
+    are_due = open_due src last n f.parts l f.are_parts;
+    longest = f.longest;
+    answer = (omega (arith, h, fresh_length), (λ e. (e, refl)), (λ p. (omega arith, refl)));
+  }
+
+-- ---- a unit held
+first_units : (us : List ℕ) (p : Part16) (rest : List ℕ) → IsFirstPart16 us p rest → us ≡ units_of p ++ rest
+first_units us (Character16 c) rest h = h.1
+first_units us (Lone u) rest h = h.1
+
+begins_low_append : (xs ys : List ℕ) → BeginsLow xs → BeginsLow (xs ++ ys)
+begins_low_append [] ys b = absurd b
+begins_low_append (x ∷ xs) ys b = b
+
+-- the part is the first also of fewer units
+first_of_fewer : (us : List ℕ) (p : Part16) (rest front more : List ℕ) → IsFirstPart16 us p rest → rest ≡ front ++ more → IsFirstPart16 (units_of p ++ front) p front
+first_of_fewer us (Character16 c) rest front more h e = (h.0, refl)
+first_of_fewer us (Lone u) rest front more h e = (h.0, refl, (λ k b. h.2 k (subst BeginsLow (sym e) (begins_low_append front more b))))
+
+AreDue-cons : (us : List ℕ) (p : Part16) (rest : List ℕ) (last : Bool) (due : List Part16) (left_open : List ℕ) → IsFirstPart16 us p rest → AreDue rest last due left_open
+    → (last ≡ false → EndsHigh us → EndsHigh rest) → AreDue us last (p ∷ due) left_open
+AreDue-cons us p rest last due left_open f d n = record {
+  front = units_of p ++ d.front;
+  whole = first_units us p rest f ∙ ap (λ xs. units_of p ++ xs) d.whole ∙ sym (append_assoc (units_of p) d.front left_open);
+  parts = ArePartsOf16-cons (units_of p ++ d.front) p d.front due (first_of_fewer us p rest d.front left_open f d.whole) d.parts;
+  held = d.held;
+  last_opens_none = d.last_opens_none;
+  waits = λ e h. d.waits e (n e h);
+}
+
+-- units behind the first end with a high surrogate where all do
+ends_high_tail : (a b : ℕ) (xs : List ℕ) → EndsHigh (a ∷ b ∷ xs) → EndsHigh (b ∷ xs)
+ends_high_tail a b xs ([], u, e, h) = absurd (omega (arith, ap length e))
+ends_high_tail a b xs (x ∷ front, u, e, h) = (front, u, ap (drop 1) e, h)
+
+ends_high_one : (u : ℕ) → EndsHigh (u ∷ []) → IsHighSurrogate u
+ends_high_one u h = (ends_high_last (u ∷ []) h).1
+
+behind_one : (u : ℕ) (rest : List ℕ) → 0 < length rest → EndsHigh (u ∷ rest) → EndsHigh rest
+behind_one u [] l h = absurd (omega arith)
+behind_one u (v ∷ rest) l h = ends_high_tail u v rest h
+
+behind_pair : (u v : ℕ) (rest : List ℕ) → 0xDC00 ≤ v → EndsHigh (u ∷ v ∷ rest) → EndsHigh rest
+behind_pair u v [] l h = let high = ends_high_one v (ends_high_tail u v [] h) in absurd (omega arith)
+behind_pair u v (x ∷ rest) l h = ends_high_tail v x rest (ends_high_tail u v (x ∷ rest) h)
+
+ends_behind : (us : List ℕ) (p : Part16) (rest : List ℕ) → IsFirstPart16 us p rest → (length (units_of p) ≡ 1 → 0 < length rest) → EndsHigh us → EndsHigh rest
+ends_behind us (Lone u) rest f n h = behind_one u rest (n refl) (subst EndsHigh f.1 h)
+ends_behind us (Character16 c) rest f n h = elim (cases_lt c 0x10000) [
+  | inl l ↦ behind_one c rest (n (ap length (one_unit c l))) (subst EndsHigh (f.1 ∙ ap (λ xs. xs ++ rest) (one_unit c l)) h)
+  | inr l ↦ let two = halves c l f.0 in
+      behind_pair two.0 two.1 rest two.2.2 (subst EndsHigh (f.1 ∙ ap (λ xs. xs ++ rest) two.3) h)
+]
+
+-- the first part of the held unit and the source
+pub held_first : (u : ℕ) (src : List ℕ) (scalar t : ℕ) (f : IsFirstScalar (u ∷ src) scalar) → t + 1 ≡ length (encode_utf16 scalar) → IsFirstPart16 (u ∷ src) f.part (drop t src)
+held_first u src scalar t f e =
+    let behind : drop (length (encode_utf16 scalar)) (u ∷ src) ≡ drop t src = ap (λ n. drop n (u ∷ src)) {x = length (encode_utf16 scalar)} {y = suc t} (omega arith) in
+    subst (IsFirstPart16 (u ∷ src) f.part) behind f.first
+
+module _ (u : ℕ) (src : List ℕ) (room : ℕ) (last : Bool) (p : Part16) (t : ℕ) (f : IsFirstPart16 (u ∷ src) p (drop t src)) (e : t + 1 ≡ length (units_of p)) (n : last ≡ false → 0 < length src) (high : IsHighSurrogate u) where
+  due_behind : last ≡ false → EndsHigh (u ∷ src) → EndsHigh (drop t src)
+  due_behind x = ends_behind (u ∷ src) p (drop t src) f (λ one. omega (arith, n x, length-drop t src))
+
+  -- its first part doesn't fit
+  pub held_full : AreUnits src → room < length (utf8_of p) → IsEncoderCall (u ∷ []) src room last OutputFull 0 [] (u ∷ [])
+  held_full a l =
+      let open_at = leaves_open (drop t src) last in
+      let rest : AreDue (drop t src) last (parts_of (take open_at.0 (drop t src))) (drop open_at.0 (drop t src)) =
+      open_due (drop t src) last open_at.0 _ open_at.1 (parts_exist _ (AreUnits-front (drop t src) open_at.0 (AreUnits-behind src t a))) in
+      record {
+        held_before = high;
+        held_after = high;
+        due = p ∷ parts_of (take open_at.0 (drop t src));
+        left_open = drop open_at.0 (drop t src);
+        taken = 0;
+        are_due = AreDue-cons (u ∷ src) p (drop t src) last _ _ f rest due_behind;
+        longest = FitsLongest-stop units_of utf8_of [] p (parts_of (take open_at.0 (drop t src))) room (omega arith) (omega (arith, l));
+        answer = (omega (arith, length-units_of p, length-append (units_of p) (flat_map units_of (parts_of (take open_at.0 (drop t src))))), (λ x. (refl, refl)), (λ x. absurd (omega arith)));
+      }
+
+  within : t ≤ length src
+  within = omega (arith, ap length (first_units (u ∷ src) p (drop t src) f), length-append (units_of p) (drop t src))
+
+  answers_behind : (due : List Part16) (left_open : List ℕ) (taken : ℕ) (r : EncoderResult) (read : ℕ) (after : List ℕ) → EncoderAnswers [] (drop t src) due left_open taken r read after
+      → EncoderAnswers (u ∷ []) src (p ∷ due) left_open (length (units_of p) + taken) r (t + read) after
+  answers_behind due left_open taken InputEmpty read after (x, y, z) = (omega (arith, x, length-append (units_of p) (flat_map units_of due)), omega (arith, y, length-drop t src, within), z)
+  answers_behind due left_open taken OutputFull read after (x, y, z) = (
+    omega (arith, x, length-append (units_of p) (flat_map units_of due)),
+    (λ k. absurd (omega (arith, k, length-units_of p))),
+    (λ k. elim (cases_lt 0 taken) [ inl l ↦ (omega (arith, (z l).0), (z l).1) | inr l ↦ let none : taken ≡ 0 = omega arith in (omega (arith, (y none).0), (y none).1) ]),
+  )
+
+  -- its first part is written, and then a call that holds nothing
+  pub held_then : (r : EncoderResult) (read : ℕ) (out after : List ℕ) → length (utf8_of p) ≤ room → IsEncoderCall [] (drop t src) (room - length (utf8_of p)) last r read out after
+      → IsEncoderCall (u ∷ []) src room last r (t + read) (utf8_of p ++ out) after
+  held_then r read out after l c = record {
+    held_before = high;
+    held_after = c.held_after;
+    due = p ∷ c.due;
+    left_open = c.left_open;
+    taken = length (units_of p) + c.taken;
+    are_due = AreDue-cons (u ∷ src) p (drop t src) last c.due c.left_open f c.are_due due_behind;
+    longest = FitsLongest-cons units_of utf8_of p c.due room c.taken out l c.longest;
+    answer = answers_behind c.due c.left_open c.taken r read after c.answer;
+  }
+
+-- a held unit waits on
+pub held_waits : (u room : ℕ) → IsHighSurrogate u → IsEncoderCall (u ∷ []) [] room false InputEmpty 0 [] (u ∷ [])
+held_waits u room h = record {
+  held_before = h;
+  held_after = h;
+  due = [];
+  left_open = u ∷ [];
+  taken = 0;
+  are_due = record { front = []; whole = refl; parts = (tt, refl); held = h; last_opens_none = λ e. absurd (cc (e)); waits = λ e k. refl };
+  longest = FitsLongest-all units_of utf8_of [] room (omega arith);
+  answer = (refl, refl, refl);
+}
+
+-- ---- room for all
+pub enough_room : (held src : List ℕ) (room : ℕ) (last : Bool) (r : EncoderResult) (read : ℕ) (out after : List ℕ) → 3 * (length src + length held) ≤ room
+    → IsEncoderCall held src room last r read out after → r ≡ InputEmpty
+enough_room held src room last InputEmpty read out after h c = refl
+enough_room held src room last OutputFull read out after h c =
+    let front : length (flat_map units_of c.due) ≡ length c.are_due.front = ap length c.are_due.parts.1 in
+    let whole : length held + length src ≡ length c.are_due.front + length c.left_open =
+    sym (length-append held src) ∙ ap length c.are_due.whole ∙ length-append c.are_due.front c.left_open in
+    absurd (omega (arith, (all_fit c.due room c.taken out (omega arith) c.longest).0, c.answer.0))
+
+-- ---- the calls as the encoder makes them, where what is held is a unit
+pub none_there : (is_empty : Bool) (n : ℕ) → is_empty ≡ (n == 0) → is_empty ≡ true → n ≡ 0
+none_there is_empty n e f = grind (arith, nat_tests)
+
+pub some_there : (is_empty last : Bool) (n : ℕ) → is_empty ≡ (n == 0) → ((is_empty ≡ true) × (last ≡ true)) ⊎ (is_empty ≡ false) → last ≡ false → 0 < n
+some_there is_empty last n e (inl h) f = absurd (cc (h.1, f))
+some_there is_empty last n e (inr h) f = some_when n (sym e ∙ h)
+  where
+    some_when : (n : ℕ) → (n == 0) ≡ false → 0 < n
+    some_when n e = grind (arith, nat_tests)
+
+module _ (held src : List ℕ) (u room : ℕ) (last : Bool) (e : held ≡ u ∷ []) (high : IsHighSurrogate u) where
+  pub call_waits : length src ≡ 0 → last ≡ false → IsEncoderCall held src room last InputEmpty 0 [] held
+  call_waits none f = rw (e, nil_from_length src none, f) (held_waits u room high)
+
+  -- of an empty source or of more, the first part begins with the held unit
+  pub call_full : (scalar t : ℕ) (f : IsFirstScalar (u ∷ src) scalar) → t + 1 ≡ length (encode_utf16 scalar) → (last ≡ false → 0 < length src) → AreUnits src → room < len_utf8 scalar
+      → IsEncoderCall held src room last OutputFull 0 [] held
+  call_full scalar t f g n a l =
+      let long : length (utf8_of f.part) ≡ len_utf8 scalar = ap (λ c. length (encode_utf8 c)) f.counts ∙ length-encode scalar in
+      rw e (held_full u src room last f.part t (held_first u src scalar t f g) (g ∙ units_counted (u ∷ src) scalar f) n high a (omega (arith, l, long)))
+
+module _ (held src old mid sub : List ℕ) (u scalar t first read written : ℕ) (last : Bool) (r : EncoderResult) (after : List ℕ) (e : held ≡ u ∷ []) (high : IsHighSurrogate u)
+    (f : IsFirstScalar (u ∷ src) scalar) (g : t + 1 ≡ length (encode_utf16 scalar)) (n : last ≡ false → 0 < length src)
+    (w : WritesFront old mid first (encode_utf8 scalar))
+    (c : IsEncoderCall [] (take (length src - t) (drop t src)) (length (take (length mid - first) (drop first mid))) last r read (take written sub) after)
+    (v : WritesFront (take (length mid - first) (drop first mid)) sub written (take written sub)) where
+  first_and_rest : WritesFront old (put_mid first (length mid - first) mid sub) (first + written) (encode_utf8 scalar ++ take written sub)
+  first_and_rest = WritesFront_after old mid first (encode_utf8 scalar) sub written (take written sub) w v
+
+  pub call_then_rest : WritesFront old (put_mid first (length mid - first) mid sub) (first + written) (take (first + written) (put_mid first (length mid - first) mid sub))
+  call_then_rest = written_front _ _ _ _ first_and_rest
+
+  pub call_then : IsEncoderCall held src (length old) last r (t + read) (take (first + written) (put_mid first (length mid - first) mid sub)) after
+  call_then =
+      let p : Part16 = f.part in
+      let bytes : utf8_of p ≡ encode_utf8 scalar = ap encode_utf8 f.counts in
+      let room : length (take (length mid - first) (drop first mid)) ≡ length old - length (utf8_of p) =
+      ap length (take_rest mid first) ∙ length-drop first mid ∙ omega (arith, WritesFront-length old mid first _ w, w.count, ap length bytes) in
+      let rest : IsEncoderCall [] (drop t src) (length old - length (utf8_of p)) last r read (take written sub) after =
+      subst (λ xs. IsEncoderCall [] xs (length old - length (utf8_of p)) last r read (take written sub) after) (take_rest src t)
+      (subst (λ k. IsEncoderCall [] (take (length src - t) (drop t src)) k last r read (take written sub) after) room c) in
+      let whole : IsEncoderCall (u ∷ []) src (length old) last r (t + read) (utf8_of p ++ take written sub) after =
+      held_then u src (length old) last p t (held_first u src scalar t f g) (g ∙ units_counted (u ∷ src) scalar f) n high r read (take written sub) after
+      (omega (arith, w.count, w.fits, ap length bytes)) rest in
+      subst (λ xs. IsEncoderCall xs src (length old) last r (t + read) (take (first + written) (put_mid first (length mid - first) mid sub)) after) (sym e)
+      (subst (λ xs. IsEncoderCall (u ∷ []) src (length old) last r (t + read) xs after) (ap (λ xs. xs ++ take written sub) bytes ∙ written_is _ _ _ _ first_and_rest) whole)

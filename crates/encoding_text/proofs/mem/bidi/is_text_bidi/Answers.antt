@@ -1,0 +1,24 @@
+use Rattle.std.proofs.Common.{arith, refl}
+use Rattle.encoding_kernels.proofs.Bidi.BidiBlocksLemmas.{none_joined, none_before, bidi_of_place, place_of_bidi}
+use Rattle.encoding_text.proofs.mem.bidi.is_text_bidi.Goals as goal
+
+pub returns-then-stands_between : goal.returns-then-stands_between
+returns-then-stands_between c = let found = c.if-stands_between.ensures.found refl in (λ e. bidi_of_place c.args.bytes.now found.0 c.requires found.1 found.2, λ b. refl)
+
+pub loop-at-preserved : goal.loop-at-preserved
+loop-at-preserved c =
+    let bs = c.args.bytes.now in
+    let place = c.skip_clear-from.result in
+    record {
+      within = omega (arith, c.min.ensures);
+      none = none_joined bs 0 place _ (none_joined bs 0 c.loop-at.at place c.loop-at.invariant.none c.skip_clear-from.ensures.none) (c.if-stands_between.ensures.none refl);
+    }
+
+pub returns : goal.returns
+returns c = (
+  λ e. absurd (cc),
+  λ b. let found = place_of_bidi c.args.bytes.now b in absurd (c.loop-at.invariant.none.each found.0 (omega arith) (omega (arith, found.1)) found.2),
+)
+
+pub loop-at-init : goal.loop-at-init
+loop-at-init c = let run = c.front_below-at.ensures in record { within = run.within; none = none_before c.args.bytes.now c.front_below-at.result run.below }

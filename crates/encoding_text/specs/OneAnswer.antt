@@ -1,0 +1,26 @@
+-- That a call has exactly one answer.
+use Rattle.std.specs.Prelude.{◌≡◌, ℕ, Bool, List}
+use Rattle.encoding_text.specs.Decoding.{IsCall, IsBorrowedCall}
+use Rattle.encoding_text.specs.declared.decoder.DecoderResult.{DecoderResult}
+use Rattle.encoding_text.specs.declared.decoder.Piece.{Piece}
+use Rattle.encoding_text.specs.declared.decoder.Piece.TheVariants.{Text, Char, Malformed, InputEmpty}
+
+-- of a decode call: an answer, and any answer is that one
+abbrev pub HasOneAnswer : {A : Type 0} → (ℕ → List A) → ℕ → List ℕ → List ℕ → ℕ → Bool → Type 0
+HasOneAnswer {A} encode need p src room last = (result : DecoderResult) × (read : ℕ) × (out : List A) × (q : List ℕ) × IsCall encode need p src room last result read out q
+    × ((result' : DecoderResult) (read' : ℕ) (out' : List A) (q' : List ℕ) → IsCall encode need p src room last result' read' out' q'
+    → (result ≡ result') × (read ≡ read') × (out ≡ out') × (q ≡ q'))
+
+-- the two pieces say the same: of a text that it has the same bytes, wherever it lies
+abbrev pub SayTheSame : Piece → Piece → Type 0
+SayTheSame (Text t) (Text u) = t.now ≡ u.now
+SayTheSame (Char c) (Char d) = c ≡ d
+SayTheSame (Malformed j) (Malformed k) = j ≡ k
+SayTheSame InputEmpty InputEmpty = Unit {0}
+SayTheSame _ _ = ⊥
+
+-- of a call without a destination
+abbrev pub HasOnePiece : List ℕ → List ℕ → Bool → Type 0
+HasOnePiece p src last = (returned : Piece) × (read : ℕ) × (q : List ℕ) × IsBorrowedCall p src last returned read q
+    × ((returned' : Piece) (read' : ℕ) (q' : List ℕ) → IsBorrowedCall p src last returned' read' q'
+    → SayTheSame returned returned' × (read ≡ read') × (q ≡ q'))

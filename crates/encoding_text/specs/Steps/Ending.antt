@@ -1,0 +1,19 @@
+-- Steps of the decoder: what ends a call whose source is read, or whose next bytes no character begins.
+use Rattle.std.specs.Prelude.{◌≡◌, ℕ, ◌≤◌, Bool, true, false, List, [], length, take, drop}
+use Rattle.encoding_definitions.specs.Sequence.{IsBeginning}
+use Rattle.encoding_definitions.specs.Pending.{IsPending}
+use Rattle.encoding_text.specs.Decoding.{IsBroken}
+use Rattle.encoding_text.specs.declared.decoder.DecoderResult.{DecoderResult}
+use Rattle.encoding_text.specs.declared.decoder.DecoderResult.TheVariants.{InputEmpty, OutputFull, Malformed}
+
+-- what a call answers where all of its source is read, with p pending
+abbrev pub AnswersAllRead : List ℕ → Bool → DecoderResult → List ℕ → Type 0
+AnswersAllRead p last InputEmpty q = (q ≡ p) × (last ≡ true → p ≡ []) × IsPending p
+AnswersAllRead p last OutputFull q = ⊥
+AnswersAllRead p last (Malformed k second) q = (second ≡ 0) × (k ≡ length p) × (q ≡ []) × IsBeginning p × (last ≡ true)
+
+-- what a call answers where no character begins the bytes that are left: the broken part, or a beginning that stays pending
+abbrev pub AnswersNoCharacter : List ℕ → Bool → DecoderResult → ℕ → List ℕ → Type 0
+AnswersNoCharacter rest last InputEmpty read q = (read ≡ length rest) × (q ≡ rest) × IsBeginning rest × (last ≡ false)
+AnswersNoCharacter rest last OutputFull read q = ⊥
+AnswersNoCharacter rest last (Malformed k second) read q = (second ≡ 0) × (read ≡ k) × (k ≤ length rest) × (q ≡ []) × IsBroken (take k rest) (drop k rest) last

@@ -1,0 +1,81 @@
+//! One call of a decoder that hands out parts of its source.
+ghost use Rattle.std.specs.Prelude.{◌≡◌, ◌≢◌, ℕ, []};
+ghost use Rattle.encoding_definitions.specs.Sequence.{IsBeginning};
+ghost use Rattle.encoding_text.specs.Decoding.{IsBorrowedCall};
+
+use super::pending::{Pending, Resumed, is_lone};
+use super::{DecoderResult, Piece};
+use crate::utf_8::utf8_valid_up_to;
+use encoding_kernels::scalars::scalar_of_sequence;
+
+/// The piece that says how a call without output ended.
+fn piece_at_end<'a>(end: DecoderResult) -> Piece<'a>
+    requires { end ≢ DecoderResult.OutputFull }
+    ensures all_read { end ≡ DecoderResult.InputEmpty → result ≡ Piece.InputEmpty }
+    ensures broken { (k second : ℕ) → end ≡ DecoderResult.Malformed k second → result ≡ Piece.Malformed k }
+{
+    match end {
+        DecoderResult::InputEmpty => Piece::InputEmpty,
+        DecoderResult::Malformed(count, _) => Piece::Malformed(count),
+        DecoderResult::OutputFull => unreachable!(),
+    }
+}
+
+/// Decodes the front of `src` behind the pending bytes: the piece, and how many bytes were read.
+#[inline(always)]
+pub(crate) fn decode_borrowed<'a>(
+    pending: &mut Pending,
+    src: &'a [u8],
+    last: bool,
+) -> (Piece<'a>, usize)
+    ensures { IsBorrowedCall pending.old src.now last result.0 result.1 pending.new }
+{
+    if pending.is_empty() {
+        borrow_front(pending, src, last)
+    } else {
+        resume_borrowed(pending, src, last)
+    }
+}
+
+/// The same with nothing pending.
+#[inline(always)]
+fn borrow_front<'a>(pending: &mut Pending, src: &'a [u8], last: bool) -> (Piece<'a>, usize)
+    requires neutral { pending.old ≡ [] }
+    ensures { IsBorrowedCall [] src.now last result.0 result.1 pending.new }
+{
+    // broken parts often follow at once, and one byte shows that
+    if !src.is_empty() && is_lone(src) {
+        return (Piece::Malformed(1), 1);
+    }
+    let length = utf8_valid_up_to(src);
+    if length > 0 {
+        return (
+            Piece::Text(unsafe { std::str::from_utf8_unchecked(&src[..length]) }),
+            length,
+        );
+    }
+    if src.is_empty() {
+        return (Piece::InputEmpty, 0);
+    }
+    let (end, read) = pending.end_before(src, last);
+    (piece_at_end(end), read)
+}
+
+/// The same with a beginning pending.
+#[inline(never)]
+fn resume_borrowed<'a>(pending: &mut Pending, src: &'a [u8], last: bool) -> (Piece<'a>, usize)
+    requires unfinished { IsBeginning pending.old }
+    ensures { IsBorrowedCall pending.old src.now last result.0 result.1 pending.new }
+{
+    match pending.resume(src) {
+        (Resumed::Ended, read) => (piece_at_end(pending.end(last)), read),
+        (Resumed::Stuck(count), read) => (Piece::Malformed(count as u8), read),
+        (Resumed::Whole(bytes, count), read) => {
+            let scalar = scalar_of_sequence(&bytes[..count]);
+            (
+                Piece::Char(unsafe { char::from_u32_unchecked(scalar) }),
+                read,
+            )
+        }
+    }
+}

@@ -1,0 +1,201 @@
+//! The bytes of an unfinished character.
+ghost use Rattle.std.specs.Prelude.{◌≡◌, ◌≢◌, ℕ, ◌<◌, ◌≤◌, ◌↔◌, Bool, false, List, [], length, take, drop, IsTrue};
+ghost use Rattle.encoding_definitions.specs.Sequence.{IsBeginning};
+ghost use Rattle.encoding_definitions.specs.Parts.{BeginsWithNoCharacter};
+ghost use Rattle.encoding_definitions.specs.Pending.{IsPending};
+ghost use Rattle.encoding_text.specs.Decoding.{IsBroken};
+ghost use Rattle.encoding_text.specs.Steps.Resuming.{GoesOn};
+
+use super::DecoderResult;
+use encoding_kernels::sequence::{begins_several, is_continuation, is_second, sequence_length};
+use std::marker::Model;
+
+/// Nothing, or the beginning of a sequence.
+#[derive(Drop)]
+pub(crate) struct Pending {
+    bytes: [u8; 4],
+    count: usize,
+}
+
+/// What one more byte makes of a beginning.
+#[derive(Drop)]
+pub(crate) enum Pushed {
+    /// A longer beginning.
+    Longer,
+    /// A sequence: these bytes, so many of them.
+    Whole([u8; 4], usize),
+    /// Neither: the byte was not taken.
+    Stuck,
+}
+
+/// What a source makes of a beginning.
+#[derive(Drop)]
+pub(crate) enum Resumed {
+    /// A longer beginning: the source ended first.
+    Ended,
+    /// A sequence: these bytes, so many of them.
+    Whole([u8; 4], usize),
+    /// A broken part of so many bytes.
+    Stuck(usize),
+}
+
+/// Whether the byte may stand behind so many bytes of a sequence that begins with `lead`.
+fn goes_on(lead: u8, count: usize, byte: u8) -> bool
+    ensures { IsTrue result ↔ GoesOn lead count byte }
+{
+    if count == 1 {
+        is_second(lead, byte)
+    } else {
+        is_continuation(byte)
+    }
+}
+
+/// Whether the first byte alone is a broken part, whatever follows the bytes: it begins nothing, or the next byte goes
+/// on with nothing.
+#[inline]
+pub(crate) fn is_lone(bytes: &[u8]) -> bool
+    requires some { 0 < length bytes.now }
+    ensures broken { (last : Bool) → IsTrue result → IsBroken (take 1 bytes.now) (drop 1 bytes.now) last }
+    ensures begins { BeginsWithNoCharacter bytes.now → result ≡ false → IsBeginning (take 1 bytes.now) }
+{
+    let lead = bytes[0];
+    if begins_several(lead) {
+        return bytes.len() > 1 && !is_continuation(bytes[1]);
+    }
+    lead >= 0x80
+}
+
+impl Model for Pending {
+    ghost Value = { List ℕ };
+
+    ghost view = { λ p. take p.count p.bytes };
+
+    ghost invariant = { λ p. (p.count ≤ 3) × IsPending (take p.count p.bytes) };
+}
+
+impl Pending {
+    ghost use Rattle.encoding_text.specs.Steps.Resuming.{Pushes, Resumes};
+    ghost use Rattle.encoding_text.specs.Steps.Ending.{AnswersAllRead, AnswersNoCharacter};
+
+    /// Nothing.
+    pub(crate) fn none() -> Pending
+        ensures { result ≡ [] }
+    {
+        Pending {
+            bytes: [0; 4],
+            count: 0,
+        }
+    }
+
+    /// The beginning, which is then pending.
+    pub(crate) fn hold(beginning: &[u8]) -> Pending
+        requires beginning { IsBeginning beginning.now }
+        ensures { result ≡ beginning.now }
+    {
+        let count = beginning.len();
+        let mut bytes = [0; 4];
+        bytes[..count].copy_from_slice(beginning);
+        Pending { bytes, count }
+    }
+
+    /// Whether nothing is pending.
+    pub(crate) fn is_empty(&self) -> bool
+        ensures empty { IsTrue result ↔ (self.now ≡ []) }
+        ensures pending { IsPending self.now }
+    {
+        self.count == 0
+    }
+
+    /// How many bytes are pending.
+    pub(crate) fn len(&self) -> usize
+        ensures length { result ≡ length self.now }
+        ensures within { result ≤ 3 }
+        ensures pending { IsPending self.now }
+    {
+        self.count
+    }
+
+    /// Takes one more byte if it goes on with the beginning, and returns what it makes of it.
+    fn push(&mut self, byte: u8) -> Pushed
+        requires unfinished { self.old ≢ [] }
+        ensures { Pushes self.old byte result self.new }
+    {
+        if !goes_on(self.bytes[0], self.count, byte) {
+            return Pushed::Stuck;
+        }
+        let mut bytes = self.bytes;
+        bytes[self.count] = byte;
+        let count = self.count + 1;
+        if count == sequence_length(bytes[0]) {
+            *self = Pending::none();
+            return Pushed::Whole(bytes, count);
+        }
+        *self = Pending { bytes, count };
+        Pushed::Longer
+    }
+
+    /// Takes bytes of the source as long as they go on with the beginning, and returns what they make of it and how
+    /// many they are.
+    #[inline(never)]
+    pub(crate) fn resume(&mut self, src: &[u8]) -> (Resumed, usize)
+        requires unfinished { self.old ≢ [] }
+        ensures { Resumes self.old src.now result.0 result.1 self.new }
+    {
+        for (read, byte) in src.iter().enumerate() {
+            match self.push(*byte) {
+                Pushed::Longer => {}
+                Pushed::Whole(bytes, count) => return (Resumed::Whole(bytes, count), read + 1),
+                Pushed::Stuck => {
+                    let count = self.count;
+                    *self = Pending::none();
+                    return (Resumed::Stuck(count), read);
+                }
+            }
+        }
+        (Resumed::Ended, src.len())
+    }
+
+    /// Ends a call whose source was read to its end, and returns what ended it: where no more will come, pending
+    /// bytes are a broken part.
+    pub(crate) fn end(&mut self, last: bool) -> DecoderResult
+        ensures { AnswersAllRead self.old last result self.new }
+    {
+        if !last || self.count == 0 {
+            return DecoderResult::InputEmpty;
+        }
+        let count = self.count;
+        *self = Pending::none();
+        DecoderResult::Malformed(count as u8, 0)
+    }
+
+    /// Ends a call before the first byte of `rest` that no character takes: reads the broken part, or holds a
+    /// beginning that more bytes may go on with. Returns what ended the call and how many bytes were read.
+    #[inline]
+    pub(crate) fn end_before(&mut self, rest: &[u8], last: bool) -> (DecoderResult, usize)
+        requires neutral { self.old ≡ [] }
+        requires not_empty { 0 < length rest.now }
+        requires no_character { BeginsWithNoCharacter rest.now }
+        ensures { AnswersNoCharacter rest.now last result.0 result.1 self.new }
+    {
+        if is_lone(rest) {
+            return (DecoderResult::Malformed(1, 0), 1);
+        }
+        self.end_in_beginning(rest, last)
+    }
+
+    /// The same where the first byte begins several. Out of line: most broken parts are one byte.
+    #[inline(never)]
+    fn end_in_beginning(&mut self, rest: &[u8], last: bool) -> (DecoderResult, usize)
+        requires not_empty { 0 < length rest.now }
+        requires no_character { BeginsWithNoCharacter rest.now }
+        requires begins { IsBeginning (take 1 rest.now) }
+        ensures { AnswersNoCharacter rest.now last result.0 result.1 self.new }
+    {
+        *self = Pending::hold(&rest[..1]);
+        match self.resume(&rest[1..]) {
+            (Resumed::Ended, _) => (self.end(last), rest.len()),
+            (Resumed::Stuck(count), _) => (DecoderResult::Malformed(count as u8, 0), count),
+            (Resumed::Whole(..), _) => unreachable!(),
+        }
+    }
+}

@@ -1,0 +1,119 @@
+//! From UTF-8 to UTF-16, and its twin from UTF-8 to UTF-8.
+ghost use Rattle.std.specs.Prelude.{◌≡◌, ℕ, ◌<◌, ◌≤◌, List, length, encode_utf8, IfSome, IfNone};
+ghost use Rattle.std.specs.Char.{IsScalar};
+ghost use Rattle.std.specs.Char.Escape.{encode_utf16};
+ghost use Rattle.encoding_definitions.specs.Sequence.{IsSequence};
+ghost use Rattle.encoding_definitions.specs.Fronts.{WritesFront};
+ghost use Rattle.encoding_definitions.specs.Converting.{ConvertsLongest};
+ghost use Rattle.encoding_text.specs.Steps.Converting.{Converted};
+
+use super::validation::{character_length, utf8_valid_up_to};
+use encoding_kernels::scalars::{put_utf16, scalar_of_sequence};
+use encoding_kernels::strides::copy_front;
+use encoding_kernels::text_units::write_text;
+
+/// The most bytes that are validated before they are converted: so many stay in the nearest cache.
+const PIECE: usize = 4096;
+
+/// What text is converted to: bytes of UTF-8, or code units of UTF-16.
+pub(crate) trait CodeUnit: Copy {
+    // a scalar value in these code units
+    ghost encode: { ℕ → List Self };
+
+    // the most code units that a character takes: the room that a call needs to get on
+    ghost need: { ℕ };
+
+    /// The most code units that a character takes.
+    fn needed_room() -> usize
+        ensures room { result ≡ need }
+        ensures holds_any { (c : ℕ) → IsScalar c → length (encode c) ≤ need };
+
+    /// Converts UTF-8 up to the first byte that no character takes, or as far as whole characters fit, and returns
+    /// how many bytes it read and how many code units it wrote. Behind what is written `dst` is as before.
+    fn convert_up_to_invalid(src: &[u8], dst: &mut [Self]) -> (usize, usize)
+        ensures { ConvertsLongest encode src.now dst.old dst.new result.0 result.1 };
+}
+
+impl CodeUnit for u16 {
+    ghost encode = { encode_utf16 };
+
+    ghost need = { 2 };
+
+    #[inline]
+    fn needed_room() -> usize {
+        2
+    }
+
+    #[inline]
+    fn convert_up_to_invalid(src: &[u8], dst: &mut [u16]) -> (usize, usize) {
+        convert_utf8_to_utf16_up_to_invalid(src, dst)
+    }
+}
+
+impl CodeUnit for u8 {
+    ghost encode = { encode_utf8 };
+
+    ghost need = { 4 };
+
+    #[inline]
+    fn needed_room() -> usize {
+        4
+    }
+
+    #[inline]
+    fn convert_up_to_invalid(src: &[u8], dst: &mut [u8]) -> (usize, usize) {
+        copy_utf8_up_to_invalid(src, dst)
+    }
+}
+
+/// Converts UTF-8 to UTF-16 up to the first byte that no character takes, or as far as whole characters fit, and
+/// returns how many bytes it read and how many code units it wrote. `dst` may have any length. Behind what is written
+/// `dst` is as before.
+pub fn convert_utf8_to_utf16_up_to_invalid(src: &[u8], dst: &mut [u16]) -> (usize, usize)
+    ensures { ConvertsLongest encode_utf16 src.now dst.old dst.new result.0 result.1 }
+{
+    let (mut read, mut written) = convert_texts(src, dst);
+    while let Some(length) = character_length(&src[read..]) {
+        let scalar = scalar_of_sequence(&src[read..read + length]);
+        let Some(units) = put_utf16(scalar, &mut dst[written..]) else {
+            break;
+        };
+        read += length;
+        written += units;
+    }
+    (read, written)
+}
+
+/// Converts UTF-8 by well-formed pieces whose UTF-16 fits whatever it is, and returns how many bytes it read and how
+/// many code units it wrote. Behind what is written `dst` is as before.
+fn convert_texts(src: &[u8], dst: &mut [u16]) -> (usize, usize)
+    ensures { Converted encode_utf16 src.now dst.old dst.new result.0 result.1 }
+{
+    let mut read = 0;
+    let mut written = 0;
+    loop {
+        let room = (src.len() - read).min(dst.len() - written).min(PIECE);
+        let valid = utf8_valid_up_to(&src[read..read + room]);
+        if valid == 0 {
+            return (read, written);
+        }
+        written += write_text(&src[read..read + valid], &mut dst[written..]);
+        read += valid;
+        if read == src.len() || valid + 3 < room {
+            return (read, written);
+        }
+    }
+}
+
+/// Copies UTF-8 up to the first byte that no character takes, or as far as whole characters fit, and returns how many
+/// bytes it read and how many it wrote, which is the same. Behind what is written `dst` is as before.
+///
+/// The characters that fit are those of the front that is as long as the room.
+fn copy_utf8_up_to_invalid(src: &[u8], dst: &mut [u8]) -> (usize, usize)
+    ensures { ConvertsLongest encode_utf8 src.now dst.old dst.new result.0 result.1 }
+{
+    let room = src.len().min(dst.len());
+    let length = utf8_valid_up_to(&src[..room]);
+    copy_front(&src[..length], dst);
+    (length, length)
+}

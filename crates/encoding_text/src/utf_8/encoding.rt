@@ -1,0 +1,156 @@
+//! UTF-16 to UTF-8, into a destination of any size.
+ghost use Rattle.std.specs.Prelude.{◌≡◌, ◌+◌, ◌<◌, ◌≤◌, ◌⊎◌, length, take, drop};
+ghost use Rattle.encoding_definitions.specs.Fronts.{WritesFront};
+ghost use Rattle.encoding_definitions.specs.Utf16.{IsUtf8OfFront, IsUtf8OfLongestFront};
+ghost use Rattle.encoding_definitions.specs.FirstScalar.{IsFirstScalar};
+
+use encoding_kernels::scalars::{utf8_length, utf16_length, write_scalar};
+use encoding_kernels::surrogates::{
+    is_high_surrogate, is_low_surrogate, is_surrogate, pair_scalar,
+};
+use encoding_kernels::utf16_blocks::{BLOCK, convert_blocks, convert_paired_blocks};
+
+/// What a lone surrogate counts as.
+pub(super) const REPLACEMENT: u32 = 0xFFFD;
+
+/// The most bytes that a character has in UTF-8.
+const LONGEST: usize = 4;
+
+/// What the first part of the code units from this place on counts as.
+#[inline(always)]
+fn scalar_at(src: &[u16], at: usize) -> u32
+    requires { at < length src.now }
+    ensures { IsFirstScalar (drop at src.now) result }
+{
+    let unit = src[at];
+    if !is_surrogate(unit) {
+        return u32::from(unit);
+    }
+    if is_high_surrogate(unit) && at + 1 < src.len() {
+        let next = src[at + 1];
+        if is_low_surrogate(next) {
+            return pair_scalar(unit, next);
+        }
+    }
+    REPLACEMENT
+}
+
+/// The characters that go one by one behind blocks: the first from U+0800 on among them is what ended these.
+const FEW_SINGLES: usize = 8;
+
+/// The characters that go one by one where blocks were sought in vain twice.
+const MANY_SINGLES: usize = 32;
+
+/// How many characters go one by one behind so many code units in blocks, and so many in blocks with pairs, where so
+/// many are left: none behind the latter, else few, and many where there were no blocks again, so that text without
+/// blocks isn't looked through twice.
+#[inline(always)]
+fn singles_behind(units: usize, paired: usize, left: usize, in_vain: bool) -> usize
+    ensures { paired ≡ 0 → 0 < result }
+{
+    if left <= BLOCK {
+        return MANY_SINGLES;
+    }
+    if paired > 0 {
+        return 0;
+    }
+    if units == 0 && in_vain {
+        return MANY_SINGLES;
+    }
+    FEW_SINGLES
+}
+
+/// How many characters more go one by one behind this one, which isn't ASCII: of few none where it is what ended
+/// blocks.
+#[inline(always)]
+fn singles_left(singles: usize, scalar: u32) -> usize
+    requires { 0 < singles }
+{
+    if singles <= FEW_SINGLES && scalar >= 0x800 {
+        return 0;
+    }
+    singles - 1
+}
+
+/// Converts the first characters of `src` from UTF-16 to UTF-8, while at least four bytes of `dst` are free, and
+/// returns how many code units it read and how many bytes it wrote. A surrogate that is in no pair becomes U+FFFD
+/// (Unicode Standard, section 3.9, UTF-16).
+///
+/// Either all of `src` is read, or at most three bytes are free: `convert_utf16_to_utf8_partial_tail` then fills
+/// those. Behind what is written `dst` is as before.
+pub fn convert_utf16_to_utf8_partial_inner(src: &[u16], dst: &mut [u8]) -> (usize, usize)
+    ensures front { IsUtf8OfFront src.now result.0 (take result.1 dst.new) }
+    ensures rest { WritesFront dst.old dst.new result.1 (take result.1 dst.new) }
+    ensures within { result.0 ≤ length src.now }
+    ensures filled { (result.0 ≡ length src.now) ⊎ (length dst.old < result.1 + 4) }
+{
+    let mut read = 0;
+    let mut written = 0;
+    let mut singles = if src.len() < 8 { MANY_SINGLES } else { 0 };
+    let mut in_vain = false;
+    let end = dst.len().saturating_sub(LONGEST - 1);
+    while read < src.len() && written < end {
+        if singles == 0 {
+            let (units, bytes) = convert_blocks(&src[read..], &mut dst[written..]);
+            read += units;
+            written += bytes;
+            let (paired, extra) = convert_paired_blocks(&src[read..], &mut dst[written..]);
+            read += paired;
+            written += extra;
+            singles = singles_behind(units, paired, src.len() - read, in_vain);
+            in_vain = units | paired == 0;
+        } else if src[read] < 0x80 {
+            dst[written] = src[read] as u8;
+            written += 1;
+            read += 1;
+            singles -= 1;
+        } else {
+            let scalar = scalar_at(src, read);
+            written += write_scalar(scalar, &mut dst[written..]);
+            read += utf16_length(scalar);
+            singles = singles_left(singles, scalar);
+        }
+    }
+    (read, written)
+}
+
+/// Converts the first characters of `src` from UTF-16 to UTF-8, as many as fit into the at most three bytes of
+/// `dst`, and returns how many code units it read and how many bytes it wrote. A surrogate that is in no pair becomes
+/// U+FFFD. `src` isn't empty. Behind what is written `dst` is as before.
+pub fn convert_utf16_to_utf8_partial_tail(src: &[u16], dst: &mut [u8]) -> (usize, usize)
+    requires not_empty { 0 < length src.now }
+    requires at_most_three { length dst.old ≤ 3 }
+    ensures longest { IsUtf8OfLongestFront src.now (length dst.old) result.0 (take result.1 dst.new) }
+    ensures within { result.0 ≤ length src.now }
+    ensures rest { WritesFront dst.old dst.new result.1 (take result.1 dst.new) }
+{
+    let mut read = 0;
+    let mut written = 0;
+    while read < src.len() {
+        let scalar = scalar_at(src, read);
+        if utf8_length(scalar) > dst.len() - written {
+            break;
+        }
+        written += write_scalar(scalar, &mut dst[written..]);
+        read += utf16_length(scalar);
+    }
+    (read, written)
+}
+
+/// Converts the first characters of `src` from UTF-16 to UTF-8, as many as fit into `dst`, and returns how many code
+/// units it read and how many bytes it wrote: Encoding Standard, `encodeInto`.
+///
+/// A surrogate that is in no pair counts as U+FFFD, also where it ends `src`: nothing is held from one call to the
+/// next. No character is written in part. Behind what is written `dst` is as before.
+pub fn convert_utf16_to_utf8_partial(src: &[u16], dst: &mut [u8]) -> (usize, usize)
+    ensures longest { IsUtf8OfLongestFront src.now (length dst.old) result.0 (take result.1 dst.new) }
+    ensures within { result.0 ≤ length src.now }
+    ensures rest { WritesFront dst.old dst.new result.1 (take result.1 dst.new) }
+{
+    let (read, written) = convert_utf16_to_utf8_partial_inner(src, dst);
+    if read == src.len() {
+        return (read, written);
+    }
+    let (more, extra) = convert_utf16_to_utf8_partial_tail(&src[read..], &mut dst[written..]);
+    (read + more, written + extra)
+}

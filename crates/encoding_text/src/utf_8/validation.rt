@@ -1,0 +1,133 @@
+//! Where bytes stop being UTF-8.
+ghost use Rattle.std.specs.Prelude.{◌<◌, ◌≤◌, ◌↔◌, ◌⊎◌, [], ◌∷◌, length, take, slice_index, IfSome, IfNone, IsTrue};
+ghost use Rattle.std.specs.Str.{IsUtf8};
+ghost use Rattle.encoding_definitions.specs.Sequence.{IsSequence};
+ghost use Rattle.encoding_definitions.specs.Parts.{BeginsWithNoCharacter};
+ghost use Rattle.encoding_definitions.specs.Fronts.{IsLongestFront};
+
+use crate::ascii::ascii_valid_up_to;
+use crate::utf_8::table::{UTF8_DATA, law_table};
+use encoding_kernels::blocks::well_formed_blocks;
+use encoding_kernels::sequence::{begins_several, is_continuation, is_second};
+use encoding_kernels::strides::ASCII_END;
+
+/// Whether three bytes are one character, for a first byte that begins neither one, two nor four.
+#[inline(always)]
+fn is_three(lead: u8, second: u8, third: u8) -> bool
+    requires leads { ((0x80 ≤ lead) × (lead ≤ 0xC1)) ⊎ ((0xE0 ≤ lead) × (lead ≤ 0xEF)) }
+    ensures { IsTrue result ↔ IsSequence (lead ∷ second ∷ third ∷ []) }
+{
+    law_table(lead, second, third, 0);
+    (UTF8_DATA.table[second as usize] & UTF8_DATA.table[lead as usize + 0x80]) | (third >> 6) == 2
+}
+
+/// Whether four bytes are one character, for a first byte that begins no fewer.
+#[inline(always)]
+fn is_four(lead: u8, second: u8, third: u8, fourth: u8) -> bool
+    requires leads { 0xF0 ≤ lead }
+    ensures { IsTrue result ↔ IsSequence (lead ∷ second ∷ third ∷ fourth ∷ []) }
+{
+    law_table(lead, second, third, fourth);
+    let common = UTF8_DATA.table[second as usize] & UTF8_DATA.table[lead as usize + 0x80];
+    u16::from(common) | u16::from(third >> 6) | (u16::from(fourth & 0xC0) << 2) == 0x202
+}
+
+/// The length of the character that begins three bytes or fewer, where one does and the first byte isn't ASCII.
+#[inline(never)]
+fn tail_length(bytes: &[u8]) -> Option<usize>
+    requires short { length bytes.now < 4 }
+    requires lead { 0x80 ≤ slice_index bytes.now 0 }
+    ensures length { IfSome result (λ n. (0 < n) × (n ≤ length bytes.now) × IsSequence (take n bytes.now)) }
+    ensures no_character { IfNone result (BeginsWithNoCharacter bytes.now) }
+{
+    if bytes.len() < 2 {
+        return None;
+    }
+    let lead = bytes[0];
+    if !is_second(lead, bytes[1]) {
+        return None;
+    }
+    if lead < 0xE0 {
+        return Some(2);
+    }
+    if bytes.len() < 3 || !is_continuation(bytes[2]) {
+        return None;
+    }
+    if lead < 0xF0 {
+        return Some(3);
+    }
+    None
+}
+
+/// The length of the character that begins the bytes, where one does.
+#[inline(always)]
+pub fn character_length(bytes: &[u8]) -> Option<usize>
+    ensures length { IfSome result (λ n. (0 < n) × (n ≤ length bytes.now) × IsSequence (take n bytes.now)) }
+    ensures no_character { IfNone result (BeginsWithNoCharacter bytes.now) }
+{
+    if bytes.is_empty() {
+        return None;
+    }
+    let lead = bytes[0];
+    if lead < 0x80 {
+        return Some(1);
+    }
+    if bytes.len() < 4 {
+        return tail_length(bytes);
+    }
+    if 0xC2 <= lead && lead < 0xE0 {
+        return is_continuation(bytes[1]).then_some(2);
+    }
+    if lead < 0xF0 {
+        if !is_three(lead, bytes[1], bytes[2]) {
+            return None;
+        }
+        return Some(3);
+    }
+    if !is_four(lead, bytes[1], bytes[2], bytes[3]) {
+        return None;
+    }
+    Some(4)
+}
+
+/// Whether two bytes show that no character begins there, where the first isn't ASCII.
+#[inline(always)]
+fn is_broken(bytes: &[u8]) -> bool
+    requires some { 0 < length bytes.now }
+    requires lead { 0x80 ≤ slice_index bytes.now 0 }
+    ensures { IsTrue result → BeginsWithNoCharacter bytes.now }
+{
+    bytes.len() < 2 || !begins_several(bytes[0]) || !is_continuation(bytes[1])
+}
+
+/// The length in bytes of the longest front of `src` that is well-formed UTF-8: the place of the first byte
+/// that no character takes, or the length of `src`.
+///
+/// Unicode Standard, section 3.9, UTF-8: the bytes of a character are in one of the nine rows of Table 3-7, Well-Formed
+/// UTF-8 Byte Sequences. The first byte tells how many there are and which may stand second; so no byte of an
+/// overlong form, of an encoded surrogate or above U+10FFFF is in the front.
+pub fn utf8_valid_up_to(src: &[u8]) -> usize
+    ensures { IsLongestFront IsUtf8 src.now result }
+{
+    let mut at = 0;
+    if src.len() >= 16 {
+        at = ascii_valid_up_to(src);
+        if at == src.len() {
+            return at;
+        }
+        // broken bytes often stand together, and a block costs more than two bytes
+        if is_broken(&src[at..]) {
+            return at;
+        }
+        at = well_formed_blocks(src, at);
+    } else if src.len() >= 8 && src[0] < ASCII_END {
+        at = ascii_valid_up_to(src);
+    }
+    while at < src.len() {
+        let Some(length) = character_length(&src[at..]) else {
+            break;
+        };
+        at += length;
+    }
+    at
+}

@@ -1,0 +1,143 @@
+//! Broken parts close together and far apart, in input longer than the array that the engine gathers its text in.
+
+use encoding_runs::repair::{Repaired, Watch, repair, repair_slice};
+use std::alloc::{AllocError, Global};
+use std::test::Fail;
+use test_support::streams::Input;
+
+/// Bytes, and the text that they are repaired to. No row begins with a continuation byte, so each is what it is
+/// whatever stands before it.
+const PARTS: [(&[u8], &[u8], u64); 12] = [
+    (b"a", b"a", 0),
+    (&[0xFF], b"\xEF\xBF\xBD", 1),
+    (&[0xC3, 0xA4], &[0xC3, 0xA4], 0),
+    (&[0xE2, 0x98], b"\xEF\xBF\xBD", 1),
+    (&[0x7F], &[0x7F], 0),
+    (&[0xC0, 0x80], b"\xEF\xBF\xBD\xEF\xBF\xBD", 2),
+    (&[0xE2, 0x98, 0x83], &[0xE2, 0x98, 0x83], 0),
+    (&[0xF0, 0x9F, 0x92], b"\xEF\xBF\xBD", 1),
+    (
+        &[0xED, 0xA0, 0x80],
+        b"\xEF\xBF\xBD\xEF\xBF\xBD\xEF\xBF\xBD",
+        3,
+    ),
+    (&[0xF0, 0x9F, 0x92, 0xA9], &[0xF0, 0x9F, 0x92, 0xA9], 0),
+    (&[0xC3], b"\xEF\xBF\xBD", 1),
+    (&[0xF5, 0xBF], b"\xEF\xBF\xBD\xEF\xBF\xBD", 2),
+];
+
+/// Input, its text, and how many of its parts are broken.
+#[derive(Drop)]
+struct Example {
+    bytes: Vec<u8>,
+    text: Vec<u8>,
+    replaced: u64,
+}
+
+/// Returns so many letters, and then so many parts, each behind so many letters. A part follows another by a step that
+/// goes on, so that each comes to stand beside each.
+fn example_of(
+    alloc: Global,
+    front: usize,
+    count: usize,
+    between: usize,
+) -> Result<Example, AllocError> {
+    let mut example = Example {
+        bytes: Vec::new(alloc),
+        text: Vec::new(alloc),
+        replaced: 0,
+    };
+    push_letters(&mut example, front)?;
+    for i in 0..count {
+        push_letters(&mut example, between)?;
+        let turn = i / PARTS.len();
+        let place = i.wrapping_mul(turn.wrapping_add(1)).wrapping_add(turn) % PARTS.len();
+        let (bytes, text, replaced) = PARTS[place];
+        example.bytes.extend_from_slice(bytes)?;
+        example.text.extend_from_slice(text)?;
+        example.replaced = example.replaced.saturating_add(replaced);
+    }
+    Ok(example)
+}
+
+fn push_letters(example: &mut Example, count: usize) -> Result<(), AllocError> {
+    for _ in 0..count {
+        example.bytes.push(b'z')?;
+        example.text.push(b'z')?;
+    }
+    Ok(())
+}
+
+/// Whether a slice is repaired so.
+fn repairs_slice(alloc: Global, example: &Example) -> bool {
+    let mut output = Vec::new(alloc);
+    let replaced = repair_slice(&example.bytes, &mut Watch::new(&mut output));
+    replaced == Ok(example.replaced) && output == example.text
+}
+
+/// Whether a stream is, which gives so many bytes a read.
+fn repairs_stream(alloc: Global, example: &Example, step: usize) -> bool {
+    let mut output = Vec::new(alloc);
+    let mut input = Input::of(&example.bytes, step);
+    let repaired = repair(
+        &mut Watch::new(&mut input),
+        &mut Watch::new(&mut output),
+        u64::MAX,
+    );
+    let expected = Repaired {
+        read: example.bytes.len() as u64,
+        replaced: example.replaced,
+    };
+    repaired == Ok(expected) && output == example.text
+}
+
+/// The letters in front move what follows over each seam: of the array, of a round, and of the bytes that are looked at
+/// together.
+fn repairs_behind_letters(alloc: Global, count: usize, between: usize) -> Result<bool, AllocError> {
+    for front in 0..20 {
+        let example = example_of(alloc, front, count, between)?;
+        let repaired = repairs_slice(alloc, &example)
+            && repairs_stream(alloc, &example, usize::MAX)
+            && repairs_stream(alloc, &example, 1021);
+        if !repaired || example.text.len() < 8000 {
+            return Ok(false);
+        }
+    }
+    Ok(true)
+}
+
+#[test]
+fn repairs_parts_close_together(rt: HostRuntime) -> Result<(), Fail> {
+    assert!(rt; repairs_behind_letters(rt.alloc(), 3000, 0)?);
+    Ok(())
+}
+
+#[test]
+fn repairs_parts_far_apart(rt: HostRuntime) -> Result<(), Fail> {
+    for between in [7, 8, 9, 15, 100, 1000] {
+        let count = 9000 / between;
+        assert!(rt;
+            repairs_behind_letters(rt.alloc(), count, between)?,
+            "{between}"
+        );
+    }
+    Ok(())
+}
+
+/// Each byte is a broken part, or each but the last.
+#[test]
+fn repairs_broken_bytes_alone(rt: HostRuntime) -> Result<(), Fail> {
+    for count in [1020usize, 1021, 1022, 1023, 1024, 1025, 1026, 2048, 5000] {
+        let mut example = example_of(rt.alloc(), 0, 0, 0)?;
+        for _ in 0..count {
+            example.bytes.push(0xFF)?;
+            example.text.extend_from_slice("\u{FFFD}".as_bytes())?;
+        }
+        example.replaced = count as u64;
+        assert!(rt; repairs_slice(rt.alloc(), &example), "{count}");
+        push_letters(&mut example, 1)?;
+        assert!(rt; repairs_slice(rt.alloc(), &example), "{count}");
+        assert!(rt; repairs_stream(rt.alloc(), &example, usize::MAX), "{count}");
+    }
+    Ok(())
+}

@@ -1,0 +1,47 @@
+-- What a writer holds behind what waits, where the last bytes are a piece of which some are taken back.
+use Rattle.std.proofs.Common.{◌≡◌, ℕ, ◌+◌, ◌-◌, ◌≤◌, List, ◌++◌, None, Some, Result, Ok, Err, IfOk, OnErr, Option, length, take, arith, sym, ap, ◌∙◌, subst, append_assoc, append-nil}
+use Rattle.std.proofs.Math.Seq.{take-append-add}
+use Rattle.std.proofs.lemmas.List.{length-append}
+use Rattle.std.proofs.KnownBytes.{Keeps-trans}
+use Rattle.std.specs.Io.KnownBytes.{Keeps, Appends, WriteAppends, append_known}
+
+-- a list less its last ones, which are some of the second half
+pub less_the_last : (xs ys : List ℕ) (left : ℕ) → left ≤ length ys → take (length (xs ++ ys) - left) (xs ++ ys) ≡ xs ++ take (length ys - left) ys
+less_the_last xs ys left small =
+    let count : length (xs ++ ys) - left ≡ length xs + (length ys - left) = omega (arith, length-append xs ys, small) in
+    ap (λ n. take n (xs ++ ys)) count ∙ take-append-add xs ys (length ys - left)
+
+kept_less_the_last : (a b : Option (List ℕ)) (old new : List ℕ) (left : ℕ) → left ≤ length old → left ≤ length new → Keeps (append_known a old) (append_known b new)
+    → Keeps (append_known a (take (length old - left) old)) (append_known b (take (length new - left) new))
+kept_less_the_last None b old new left was is kept = tt
+kept_less_the_last (Some x) None old new left was is kept = absurd kept
+kept_less_the_last (Some x) (Some y) old new left was is kept =
+    sym (less_the_last y new left is) ∙ ap (λ l. take (length l - left) l) kept ∙ less_the_last x old left was
+
+-- ---- of what is kept the last bytes are taken back
+pub taken_back : (a b : Option (List ℕ)) (old waits now : List ℕ) (count left : ℕ) → count ≡ left → left ≤ length old → left ≤ length waits
+    → now ≡ take (length waits - left) waits → Keeps (append_known a old) (append_known b waits)
+    → Keeps (append_known a (take (length old - count) old)) (append_known b now)
+taken_back a b old waits now count left same was is back kept =
+    subst (λ n. Keeps (append_known a (take (length old - n) old)) (append_known b now)) (sym same)
+    (subst (λ l. Keeps (append_known a (take (length old - left) old)) (append_known b l)) (sym back) (kept_less_the_last a b old waits left was is kept))
+
+-- ---- a piece behind what waits
+appended : (a b new : Option (List ℕ)) (front bs : List ℕ) → Keeps a (append_known b front) → Keeps (append_known b (front ++ bs)) new → Appends a new bs
+appended None b new front bs kept sent = tt
+appended (Some x) None new front bs kept sent = absurd kept
+appended (Some x) (Some y) None front bs kept sent = absurd sent
+appended (Some x) (Some y) (Some z) front bs kept sent = sent ∙ sym (append_assoc y front bs) ∙ ap (λ l. l ++ bs) kept
+
+-- what was sent of the piece is appended
+pub sent_piece : {E : Type 0} (result : Result ℕ E) (a b new : Option (List ℕ)) (front piece held : List ℕ) → held ≡ front ++ piece → Keeps a (append_known b front)
+    → IfOk result (λ n. (n ≤ length piece) × Keeps (append_known b (take (length held - (length piece - n)) held)) new)
+    → OnErr result (Keeps (append_known b (take (length held - length piece) held)) new) → WriteAppends a new result piece
+sent_piece (Ok n) a b new front piece held is kept (small, sent) err =
+    let rest : length piece - (length piece - n) ≡ n = omega arith in
+    let bytes = ap (λ l. take (length l - (length piece - n)) l) is ∙ less_the_last front piece (length piece - n) (omega arith) ∙ ap (λ k. front ++ take k piece) rest in
+    appended a b new front (take n piece) kept (subst (λ l. Keeps (append_known b l) new) bytes sent)
+sent_piece (Err e) a b new front piece held is kept ok err =
+    let none : length piece - length piece ≡ 0 = omega arith in
+    let bytes = ap (λ l. take (length l - length piece) l) is ∙ less_the_last front piece (length piece) (omega arith) ∙ ap (λ k. front ++ take k piece) none ∙ append-nil front in
+    Keeps-trans a _ new kept (subst (λ l. Keeps (append_known b l) new) bytes err)

@@ -1,0 +1,13 @@
+use Rattle.std.proofs.Common.{◌<◌}
+use Rattle.utf8_repair.proofs.ServiceLemmas.{both, front_written}
+use Rattle.utf8_repair.proofs.service.repair_source.Goals as goal
+
+pub returns-clause-replaced : goal.returns-clause-replaced
+returns-clause-replaced g c = λ is.
+    let (repaired, some, (bytes, read, less, all, ended)) = both (λ n. 0 < n) _ c.repair-outcome.result c.repair-outcome.ensures.ok (c.status_of.ensures.replaced is) in
+    (bytes, repaired.replaced, some, all)
+
+pub returns-clause-front : goal.returns-clause-front
+returns-clause-front g c = λ before.
+    let e = c.repair-outcome.ensures in
+    front_written c.repair-outcome.result _ _ _ _ _ _ e.ok e.read_fault (λ is. e.write_fault is before) e.limit
