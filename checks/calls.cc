@@ -1,2 +1,13 @@
-// The same calls from C++.
+// The same calls from C++, and with vectors that have no elements: what data() gives may be NULL.
+#include <vector>
+
 #include "calls.c"
+
+static void vectors_of_no_elements()
+{
+    const std::vector<uint8_t> bytes;
+    const std::vector<uint16_t> units;
+    std::vector<uint8_t> to_bytes;
+    std::vector<uint16_t> to_units;
+    buffers_of_no_elements(bytes.data(), units.data(), to_bytes.data(), to_units.data());
+}

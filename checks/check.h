@@ -1,0 +1,156 @@
+/*
+ * How the checks of the C library count, and how they look at a result and at the whole memory round a destination. C99 and
+ * C++17.
+ */
+#ifndef CHECK_H
+#define CHECK_H
+
+#include <stdarg.h>
+#include <stdio.h>
+#include <string.h>
+
+#include "encoding_text.h"
+
+static int passed;
+static int failed;
+
+static void check(bool holds, const char *what, const char *file, int line)
+{
+    if (holds) {
+        passed++;
+    } else {
+        failed++;
+        printf("%s, line %d: %s\n", file, line, what);
+    }
+}
+
+#define CHECK(condition) check(condition, #condition, __FILE__, __LINE__)
+
+/* An array and its length; the bytes of a string and how many they are. */
+#define ALL(array) (array), sizeof(array) / sizeof((array)[0])
+#define BYTES(string) (string), sizeof(string) - 1
+
+/* The two destinations lie between other memory, which no call may change. */
+#define BEFORE 16
+#define ROOM 64
+#define BEHIND 16
+static uint8_t byte_memory[BEFORE + ROOM + BEHIND];
+static uint16_t unit_memory[BEFORE + ROOM + BEHIND];
+
+/* What stands at a place until a call writes there: ASCII, so that a destination of bytes is well-formed, and at no two
+ * places near one another the same. */
+static uint8_t byte_before(size_t place)
+{
+    return (uint8_t)('A' + place % 26);
+}
+
+static uint16_t unit_before(size_t place)
+{
+    return (uint16_t)(0x4100 + place);
+}
+
+/* The destinations as they are before a call. */
+static uint8_t *fresh_bytes(void)
+{
+    for (size_t i = 0; i < sizeof byte_memory; i++) {
+        byte_memory[i] = byte_before(i);
+    }
+    return byte_memory + BEFORE;
+}
+
+static uint16_t *fresh_units(void)
+{
+    for (size_t i = 0; i < BEFORE + ROOM + BEHIND; i++) {
+        unit_memory[i] = unit_before(i);
+    }
+    return unit_memory + BEFORE;
+}
+
+/* The destination with these bytes at that place. */
+static uint8_t *bytes_with(size_t place, const char *bytes, size_t length)
+{
+    uint8_t *destination = fresh_bytes();
+    memcpy(destination + place, bytes, length);
+    return destination;
+}
+
+/* Whether these bytes stand at that place of the destination, and all round them is as it was. */
+static bool bytes_stand(size_t place, const char *wanted, size_t length)
+{
+    size_t begin = BEFORE + place;
+    for (size_t i = 0; i < sizeof byte_memory; i++) {
+        bool inside = i >= begin && i - begin < length;
+        if (byte_memory[i] != (inside ? (uint8_t)wanted[i - begin] : byte_before(i))) {
+            return false;
+        }
+    }
+    return true;
+}
+
+/* Whether these bytes begin the destination, and all round them is as it was. */
+static bool bytes_are(const char *wanted, size_t length)
+{
+    return bytes_stand(0, wanted, length);
+}
+
+/* Whether so many code units begin the destination, and all round them is as it was. */
+static bool units_are(size_t length, ...)
+{
+    va_list wanted;
+    bool are = true;
+    va_start(wanted, length);
+    for (size_t i = 0; i < BEFORE + ROOM + BEHIND; i++) {
+        bool inside = i >= BEFORE && i - BEFORE < length;
+        int unit = inside ? va_arg(wanted, int) : unit_before(i);
+        are = are && unit_memory[i] == unit;
+    }
+    va_end(wanted);
+    return are;
+}
+
+static bool no_bytes_written(void)
+{
+    return bytes_are("", 0);
+}
+
+static bool no_units_written(void)
+{
+    return units_are(0);
+}
+
+static bool front_is(encoding_front front, size_t length, uint16_t other)
+{
+    return front.length == length && front.other == other;
+}
+
+static bool counts_are(encoding_counts counts, size_t read, size_t written)
+{
+    return counts.read == read && counts.written == written;
+}
+
+static bool are_refused(encoding_counts counts)
+{
+    return counts_are(counts, ENCODING_REFUSED, ENCODING_REFUSED);
+}
+
+static bool decoded_is(encoding_decoded decoded, size_t read, size_t written, uint8_t result, uint8_t malformed)
+{
+    return decoded.read == read && decoded.written == written && decoded.result == result && decoded.malformed == malformed;
+}
+
+static bool piece_is(encoding_piece piece, size_t read, uint32_t character, uint8_t kind, uint8_t malformed)
+{
+    return piece.read == read && piece.character == character && piece.kind == kind && piece.malformed == malformed;
+}
+
+static bool encoded_is(encoding_encoded encoded, size_t read, size_t written, uint8_t result)
+{
+    return encoded.read == read && encoded.written == written && encoded.result == result;
+}
+
+static bool repaired_is(encoding_repaired repaired, size_t written, uint64_t replaced)
+{
+    return repaired.written == written && repaired.replaced == replaced;
+}
+
+#endif
