@@ -1,6 +1,6 @@
 """Repairs random bytes with the built program, and compares what comes out with what Python makes of them:
-checks/random_bytes.py PROGRAM MIB. Prints the program's status, "same" or the place of the first other byte, and how many
-KiB of memory it took at most between the first MiB and the last."""
+checks/random_bytes.py PROGRAM MIB. Prints the program's status, "same" or the place of the first other byte, and whether
+it took more memory between the first MiB and the last: more than SLACK, which the kernel's count may be off by."""
 import codecs
 import random
 import subprocess
@@ -8,6 +8,7 @@ import sys
 import threading
 
 MIB = 1 << 20
+SLACK = 512  # KiB
 
 
 def chunks(count):
@@ -63,7 +64,8 @@ def main():
     process.stdout.close()
     feeder.join()
     status = process.wait()
-    print(status, "same" if place is None else f"differs at {place}", f"+{memory[-1] - memory[0]} KiB")
+    more = memory[-1] - memory[0]
+    print(status, "same," if place is None else f"differs at {place},", "no" if more <= SLACK else f"{more} KiB", "more memory")
 
 
 main()

@@ -42,7 +42,7 @@ fn faults_of(fourth: u8x16, third: u8x16, second: u8x16, block: u8x16) -> u8x16
     (goes_on & u8x16::splat(0x80)) ^ pairs
 }
 
-/// The same in twice as many lanes.
+/// Zero in each of 32 lanes whose byte may stand behind the three before it.
 #[inline(always)]
 fn faults_of_32(fourth: u8x32, third: u8x32, second: u8x32, block: u8x32) -> u8x32
     ensures length { length result ≡ 32 }
@@ -73,7 +73,7 @@ fn faults(src: &[u8], at: usize) -> u8x16
     )
 }
 
-/// The same of the 32 bytes from `at` on.
+/// Zero in each lane whose byte, of the 32 from `at` on, may stand behind the three before it.
 #[inline(always)]
 fn faults_32(src: &[u8], at: usize) -> u8x32
     requires { (3 ≤ at) × (at + 32 ≤ length src.now) }
@@ -88,7 +88,7 @@ fn faults_32(src: &[u8], at: usize) -> u8x32
     )
 }
 
-/// The same of the first sixteen bytes, which zeros stand before.
+/// Zero in each lane whose byte, of the first sixteen, may stand behind those before it.
 #[inline(always)]
 fn first_faults(src: &[u8]) -> u8x16
     requires { 16 ≤ length src.now }
@@ -142,7 +142,7 @@ fn zeros(lanes: u8x16) -> usize
     }
 }
 
-/// The same of 32 lanes.
+/// How many of 32 lanes stand before the first that isn't zero.
 #[inline(always)]
 fn zeros_32(lanes: u8x32) -> usize
     ensures within { result ≤ 32 }
@@ -216,7 +216,8 @@ fn finish(src: &[u8], from: usize) -> usize
     last + zeros(faults(src, last))
 }
 
-/// The same from an ASCII front on. Out of line: where the loop lies, and so its speed, depends on no caller's code.
+/// How many bytes may each stand behind those before it, up to the first that may not, where an ASCII front ends at
+/// `front`. Out of line: where the loop lies, and so its speed, depends on no caller's code.
 #[inline(never)]
 fn following(src: &[u8], front: usize) -> usize
     requires long { 16 ≤ length src.now }

@@ -30,6 +30,16 @@ pub fn is_continuation(byte: u8) -> bool
     byte & 0xC0 == 0x80
 }
 
+/// Whether the first byte begins several, and the second may go on: by one test, since on random bytes a branch for each
+/// costs more than the test.
+#[inline(always)]
+pub fn begin_several(lead: u8, second: u8) -> bool
+    ensures { IsTrue result ↔ IsBeginning (lead ∷ []) × IsContinuation second }
+{
+    let mask = u8::from(begins_several(lead)) * 0xC0;
+    second & mask == 0x80
+}
+
 /// The length of the sequences that begin with the byte.
 pub fn sequence_length(lead: u8) -> usize
     ensures { (rest : List ℕ) → IsSequence (lead ∷ rest) → result ≡ 1 + length rest }

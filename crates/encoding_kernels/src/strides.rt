@@ -153,7 +153,7 @@ fn are_four_blocks_below(bytes: &[u8], at: usize, bound: u8) -> bool
     !((first | second) | (third | fourth)).any()
 }
 
-/// The same of eight blocks.
+/// Whether each of the bytes of eight blocks from a place on is below the bound, by one test.
 #[inline(always)]
 fn are_eight_blocks_below(bytes: &[u8], at: usize, bound: u8) -> bool
     requires { at + 512 ≤ length bytes.now }

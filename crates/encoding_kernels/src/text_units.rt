@@ -54,7 +54,7 @@ fn put_kept(first: u16x8, last: u16x8, kept: usize, dst: &mut [u16]) -> usize
     count + last_kept.count_ones() as usize
 }
 
-/// The same, and behind them `dst` is as before.
+/// Writes the units whose bit is set, in order, and no others. Returns how many these are.
 #[inline(always)]
 fn put_kept_alone(first: u16x8, last: u16x8, kept: usize, dst: &mut [u16]) -> usize
     requires { (kept < 2 ^ 16) × (16 ≤ length dst.old) }
@@ -104,7 +104,8 @@ fn put_block(src: &[u8], end: usize, kept: usize, dst: &mut [u16]) -> usize
     put_kept(first, last, kept, dst)
 }
 
-/// The same, and behind them `dst` is as before.
+/// Writes the UTF-16 of the first bytes, up to the end of a character, and nothing behind it. Returns how many code units
+/// these are.
 #[inline(always)]
 fn put_block_within(src: &[u8], end: usize, kept: usize, dst: &mut [u16]) -> usize
     requires room { (16 ≤ length src.now) × (16 ≤ length dst.old) }
@@ -117,7 +118,7 @@ fn put_block_within(src: &[u8], end: usize, kept: usize, dst: &mut [u16]) -> usi
     put_kept_alone(first, last, kept, dst)
 }
 
-/// The same, where fewer places may be left.
+/// Writes as `put_block_within` does, where fewer than sixteen places may be left.
 #[inline(always)]
 fn put_block_alone(src: &[u8], end: usize, kept: usize, dst: &mut [u16]) -> usize
     requires room { (16 ≤ length src.now) × (end ≤ length dst.old) }
@@ -167,7 +168,7 @@ fn put_triples(src: &[u8], dst: &mut [u16])
     triple_units(u8x16::from_slice(src)).copy_to_slice(dst);
 }
 
-/// The same, and behind them `dst` is as before.
+/// Writes the UTF-16 of the first five characters, of three bytes each, and nothing behind it.
 #[inline(always)]
 fn put_triples_alone(src: &[u8], dst: &mut [u16])
     requires room { (16 ≤ length src.now) × (5 ≤ length dst.old) }

@@ -85,7 +85,7 @@ fn letters_with_other_at(i: usize) -> [u8; 32] {
     src
 }
 
-/// The same in code units.
+/// The bytes as code units.
 fn widened(src: &[u8; 32]) -> [u16; 32] {
     let mut wide = [0u16; 32];
     for j in 0..32 {

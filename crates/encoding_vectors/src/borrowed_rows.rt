@@ -49,7 +49,7 @@ fn decodes_with_spare(
     Ok(refused && text == *wanted)
 }
 
-/// The same of a text that is encoded.
+/// Whether the text is encoded to this where a block of so many bytes is all that is left, and none is left then.
 fn encodes_with_spare(
     alloc: Global,
     text: &str,

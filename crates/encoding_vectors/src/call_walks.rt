@@ -51,7 +51,7 @@ fn told(ended: DecoderResult, all: bool, counts: (usize, usize)) -> Option<(usiz
     }
 }
 
-/// The same of `decode_to_utf8_raw`.
+/// Calls of `decode_to_utf8_raw` marked last, with U+FFFD written for each report.
 struct DecodeToUtf8;
 
 impl Conversion<u8, u8> for DecodeToUtf8 {

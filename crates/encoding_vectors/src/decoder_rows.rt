@@ -61,7 +61,7 @@ fn to_utf16_is(alloc: Global, decoder: &mut Utf8Decoder, row: &str) -> Result<bo
     )
 }
 
-/// The same to UTF-8.
+/// Whether the call of a row returns so, writes the bytes that end the row, and leaves what is behind them.
 fn to_utf8_is(alloc: Global, decoder: &mut Utf8Decoder, row: &str) -> Result<bool, Fail> {
     let mut row = row;
     let call = call_of(alloc, &mut row)?;
@@ -292,7 +292,7 @@ fn a_replacement_leaves_bytes() -> bool {
         && needed <= Some(bytes[4..].len())
 }
 
-/// The same in code units, of which U+FFFD takes one, and one is left where one is enough.
+/// U+FFFD takes one code unit of a queried length, and one is left where one is enough.
 fn a_replacement_leaves_a_unit() -> bool {
     let mut decoder = Utf8Decoder::new_inner();
     let queried = decoder.max_utf16_buffer_length(2);

@@ -63,7 +63,8 @@ impl Chain {
         unchanged.then_some((read, self.ends(&result)))
     }
 
-    /// The same to UTF-8.
+    /// Decodes to UTF-8. Returns how many bytes are read, and whether the call ended with `InputEmpty`: or none where what
+    /// is written is no text, or something is written behind it.
     fn call_utf8(&mut self, src: &[u8], room: usize, last: bool) -> Option<(usize, bool)> {
         let mut dst = [0x71; 8];
         let space = dst.get_mut(..room)?;
@@ -73,7 +74,8 @@ impl Chain {
         unchanged.then_some((read, self.ends(&result)))
     }
 
-    /// The same without a destination. A text is what is read.
+    /// Decodes without a destination, where a text is what is read. Returns how many bytes are read, and whether the call
+    /// ended with `InputEmpty`: or none where the piece is no text.
     fn call_borrowed(&mut self, src: &[u8], last: bool) -> Option<(usize, bool)> {
         let (piece, read) = self.decoder.decode_borrowed_raw(src, last);
         let mut ended = false;

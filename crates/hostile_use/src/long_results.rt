@@ -175,7 +175,7 @@ fn decoding_takes_one(alloc: Global, bytes: &[u8], length: usize) -> Result<bool
     Ok(before && during && behind)
 }
 
-/// The same of encoding.
+/// Whether encoding takes one block of two, and gives it back with its bytes.
 fn encoding_takes_one(alloc: Global, bytes: &[u8], length: usize) -> Result<bool, AllocError> {
     let text = text_of(alloc, bytes)?;
     if !is_str_latin1(&text) {

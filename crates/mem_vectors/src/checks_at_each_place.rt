@@ -105,7 +105,7 @@ fn agree_at_each_place(from: usize, length: usize, others: &[u8], sequence: &[u8
     true
 }
 
-/// The same over each length below a bound.
+/// Whether all calls agree, with the sequence at each place of each length below a bound.
 fn agree_over_lengths(from: usize, bound: usize, others: char, sequence: &[u8]) -> bool {
     let mut bytes = [0; 4];
     let others = others.encode_utf8(&mut bytes).as_bytes();

@@ -122,7 +122,7 @@ fn units_stand_at(to: usize, units: &[u16], dst: &[u16]) -> bool {
     are_units_written(&[], front, 0) && are_units_written(units, rest, units.len())
 }
 
-/// The same of bytes.
+/// Whether these bytes begin at a place, and `71` stands before and behind them.
 pub(crate) fn bytes_stand_at(to: usize, bytes: &[u8], dst: &[u8]) -> bool {
     let Some((front, rest)) = dst.split_at_checked(to) else {
         return false;

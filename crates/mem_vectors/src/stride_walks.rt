@@ -34,7 +34,7 @@ fn units_with_other(start: usize, length: usize, other: usize, unit: u16) -> [u1
     units
 }
 
-/// The same of bytes, between such as are no ASCII.
+/// A slice of letters at a start, with one byte that is no ASCII, and such bytes around it.
 fn bytes_with_other(start: usize, length: usize, other: usize) -> [u8; 160] {
     let mut bytes = [0xC3; 160];
     for i in 0..160usize {
@@ -54,7 +54,7 @@ fn are_letters(bytes: &[u8; 160], start: usize, count: usize) -> bool {
     })
 }
 
-/// The same of code units.
+/// Whether the code units hold so many letters at a start, and all others are as before.
 fn are_letter_units(units: &[u16; 160], start: usize, count: usize) -> bool {
     (0..160usize).all(|i| {
         let place = i.wrapping_sub(start);

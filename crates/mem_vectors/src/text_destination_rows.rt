@@ -147,7 +147,7 @@ fn units_hold(src: &[u16], text: &[u8], told: (usize, usize), old: &[u8]) -> boo
         && is_text(dst)
 }
 
-/// The same where there is room for all.
+/// Whether letters, a character and letters are converted whole into a destination that holds this text.
 fn all_units_hold(src: &[u16], text: &[u8], old: &[u8]) -> bool
     requires text { IsUtf8 old.now }
     requires room { 3 * length src.now ≤ length old.now }
@@ -218,7 +218,7 @@ fn bytes_hold(src: &[u8], text: &[u8], told: (usize, usize), old: &[u8]) -> bool
         && is_text(dst)
 }
 
-/// The same where there is room for all.
+/// Whether letters, a character and letters are converted whole into a destination that holds this text.
 fn all_bytes_hold(src: &[u8], text: &[u8], old: &[u8]) -> bool
     requires text { IsUtf8 old.now }
     requires room { 2 * length src.now ≤ length old.now }

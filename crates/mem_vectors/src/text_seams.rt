@@ -62,7 +62,7 @@ fn bytes_hold(bytes: &[u8], units: &[u16]) -> bool {
     are_units_written(units, &dst, written)
 }
 
-/// The same of a text, into as many places as it has bytes.
+/// Whether the bytes, as a text, come to the code units in a destination of as many places as it has bytes.
 fn text_holds(bytes: &[u8], units: &[u16]) -> bool {
     let mut dst = [0x71; 200];
     let Ok(text) = std::str::from_utf8(bytes) else {

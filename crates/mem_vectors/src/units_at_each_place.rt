@@ -92,7 +92,7 @@ fn agree_at_each_place(from: usize, length: usize, others: [u16; 2], two: [u16; 
     true
 }
 
-/// The same over each length.
+/// Whether all calls agree, with the two at each place of each length.
 fn agree_over_lengths(from: usize, others: [u16; 2], two: [u16; 2]) -> bool {
     (0..131usize).all(|length| agree_at_each_place(from, length, others, two))
 }

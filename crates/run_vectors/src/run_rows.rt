@@ -124,7 +124,7 @@ fn reports_of_utf16(
     }
 }
 
-/// The same to UTF-8.
+/// Makes a run: how many reports there are, if it comes so far, writes these bytes and leaves what is behind them.
 fn reports_of_utf8(
     decoder: &mut Utf8Decoder,
     run: &Run,
@@ -157,7 +157,8 @@ fn to_utf16_is(alloc: Global, decoder: &mut Utf8Decoder, row: &str) -> Result<bo
     }
 }
 
-/// The same to UTF-8.
+/// Whether the run of a row comes so far, writes the bytes and the reports that end the row, and leaves what is behind
+/// them.
 fn to_utf8_is(alloc: Global, decoder: &mut Utf8Decoder, row: &str) -> Result<bool, Fail> {
     let mut row = row;
     let run = run_of(alloc, &mut row)?;
@@ -316,7 +317,7 @@ fn vectors_run_to_utf16(rt: HostRuntime) -> Result<(), Fail> {
     Ok(())
 }
 
-/// The same to UTF-8.
+/// Whether a vector decodes to UTF-8 by turns of one byte and of all.
 fn runs_to_utf8(alloc: Global, vector: &Vector) -> Result<bool, AllocError> {
     let want = Some(delivered_utf8(alloc, vector)?);
     Ok(run_utf8(alloc, &vector.bytes, 1)? == want && run_utf8(alloc, &vector.bytes, 16)? == want)

@@ -52,7 +52,7 @@ fn to_units(alloc: Global, rows: &str) -> Result<Vec<Item<u8, u16>>, Fail> {
     Ok(items)
 }
 
-/// The same the other way.
+/// Returns what rows of two fields say, read backwards: what is written, and what is read.
 fn from_units(alloc: Global, rows: &str) -> Result<Vec<Item<u16, u8>>, Fail> {
     let mut items = Vec::new(alloc);
     for row in rows.lines() {
@@ -62,7 +62,7 @@ fn from_units(alloc: Global, rows: &str) -> Result<Vec<Item<u16, u8>>, Fail> {
     Ok(items)
 }
 
-/// The same of bytes to bytes.
+/// Returns what rows of two fields of bytes say: what is read, and what is written.
 fn to_bytes(alloc: Global, rows: &str) -> Result<Vec<Item<u8, u8>>, Fail> {
     let mut items = Vec::new(alloc);
     for row in rows.lines() {

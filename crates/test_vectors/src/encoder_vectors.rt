@@ -33,7 +33,7 @@ D800 DC00 | F0 90 80 80 | 0 | 0
 DBFF DFFF | F4 8F BF BF | 0 | 0
 DC00 DEDE | EF BF BD EF BF BD | 1 | 3";
 
-/// The same, of characters of each length in front of each other.
+/// Characters of each length in front of each other: code units, their UTF-8, and how many of both stand before the last.
 const LIMITS: &str = "\
 0062 | 62 | 0 | 0
 00A7 | C2 A7 | 0 | 0

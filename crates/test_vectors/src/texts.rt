@@ -52,7 +52,7 @@ pub fn are_written(bytes: &[u8], dst: &[u8], written: usize) -> bool {
     dst.get(..written) == Some(bytes) && dst.iter().skip(written).all(|byte| *byte == 0x71)
 }
 
-/// The same of code units.
+/// Whether these code units begin a destination that was filled with `71`, and `71` stands behind so many.
 pub fn are_units_written(units: &[u16], dst: &[u16], written: usize) -> bool {
     dst.get(..written) == Some(units) && dst.iter().skip(written).all(|unit| *unit == 0x71)
 }

@@ -8,6 +8,7 @@ ghost use Rattle.encoding_runs.specs.Steps.Writing.{StopsInParts, WritesParts, b
 
 use super::front::{REPLACEMENT, repair_front};
 use super::streams::{Sink, Source};
+use encoding_kernels::strides::ASCII_END;
 use encoding_text::decoder::{Piece, Utf8Decoder};
 
 /// Why a repair stopped.
@@ -38,6 +39,7 @@ const ROOM: usize = 3 * ROUND;
 const SLICE_ROOM: usize = 192;
 
 /// Writes all of the bytes, each once, by as many writes as that takes.
+#[inline(always)]
 fn write_whole<W: Sink>(writer: &mut W, bytes: &[u8]) -> Result<(), RepairFault>
     ensures ok { IfOk result (λ _. Appends (W.contents writer.old) (W.contents writer.new) bytes.now
         × (W.has_failed writer.new ≡ W.has_failed writer.old)) }
@@ -111,7 +113,10 @@ fn write_parts<W: Sink>(
             return Ok(replaced);
         }
         rest = &rest[read..];
-        // broken parts often stand together: they go out by one write, with the characters between
+        // other text is better written as it is
+        if rest.len() < 2 || rest[0] < ASCII_END || rest[1] < ASCII_END {
+            continue;
+        }
         let front = repair_front(rest, array);
         write_whole(writer, &array[..front.written])?;
         replaced += front.replaced as u64;

@@ -2,8 +2,8 @@
 ghost use Rattle.std.specs.Prelude.{◌≡◌, ◌/◌, ◌<◌, ◌≤◌, length, IfSome, IfNone};
 ghost use Rattle.encoding_runs.specs.Steps.Fronts.{RepairsFirst};
 
-use encoding_kernels::sequence::{begins_several, is_continuation};
-use encoding_kernels::strides::copy_front;
+use encoding_kernels::sequence::begin_several;
+use encoding_kernels::strides::{ASCII_END, copy_front};
 use encoding_text::decoder::{Piece, Utf8Decoder};
 
 /// U+FFFD in UTF-8.
@@ -33,15 +33,19 @@ fn repair_byte(src: &[u8], dst: &mut [u8]) -> Option<usize>
     ensures none { IfNone result (dst.new ≡ dst.old) }
 {
     let lead = src[0];
-    if begins_several(lead) && is_continuation(src[1]) {
+    if begin_several(lead, src[1]) {
         return None;
     }
-    if lead < 0x80 {
-        dst[0] = lead;
-        return Some(1);
-    }
-    copy_front(&REPLACEMENT, dst);
-    Some(3)
+    // three bytes in either case: on random bytes a branch costs more
+    let (first, count) = if lead < ASCII_END {
+        (lead, 1)
+    } else {
+        (REPLACEMENT[0], 3)
+    };
+    dst[0] = first;
+    dst[1] = REPLACEMENT[1];
+    dst[2] = REPLACEMENT[2];
+    Some(count)
 }
 
 /// Repairs bytes one by one, up to a character of several bytes or to text.
@@ -105,9 +109,10 @@ fn repair_piece(src: &[u8], most: usize, dst: &mut [u8]) -> Option<Front>
 }
 
 /// Repairs first parts of the bytes, which stay these whatever follows, as they fit and as long as broken parts stand close
-/// together. Out of line: the path of those that stand far apart stays short.
+/// together: they go out by one write, with the characters between. Out of line: the path of those that stand far apart
+/// stays short.
 #[inline(never)]
-fn repair_dense(src: &[u8], dst: &mut [u8]) -> Front
+pub(super) fn repair_front(src: &[u8], dst: &mut [u8]) -> Front
     ensures repaired { RepairsFirst src.now dst.new result.read result.written result.replaced }
     ensures within { (result.read ≤ length src.now) × (result.written ≤ length dst.new) × (result.replaced ≤ result.read) }
 {
@@ -134,21 +139,4 @@ fn repair_dense(src: &[u8], dst: &mut [u8]) -> Front
         written += piece.written;
         replaced += piece.replaced;
     }
-}
-
-/// Repairs first parts of the bytes, which stay these whatever follows, where broken parts may stand close together: none
-/// but where two bytes that aren't ASCII come first, since other text is better written as it is.
-#[inline(always)]
-pub(super) fn repair_front(src: &[u8], dst: &mut [u8]) -> Front
-    ensures repaired { RepairsFirst src.now dst.new result.read result.written result.replaced }
-    ensures within { (result.read ≤ length src.now) × (result.written ≤ length dst.new) × (result.replaced ≤ result.read) }
-{
-    if src.len() < 2 || src[0] < 0x80 || src[1] < 0x80 {
-        return Front {
-            read: 0,
-            written: 0,
-            replaced: 0,
-        };
-    }
-    repair_dense(src, dst)
 }

@@ -27,7 +27,7 @@ pub(crate) fn decode<U: CodeUnit>(
     }
 }
 
-/// The same with nothing pending.
+/// Decodes `src` with nothing pending, and returns what `decode` does.
 #[inline(always)]
 fn decode_neutral<U: CodeUnit>(
     pending: &mut Pending,
@@ -49,7 +49,7 @@ fn decode_neutral<U: CodeUnit>(
     (result, read + more, written)
 }
 
-/// The same with a beginning pending.
+/// Decodes `src` behind a beginning, and returns what `decode` does.
 #[inline(never)]
 fn decode_pending<U: CodeUnit>(
     pending: &mut Pending,

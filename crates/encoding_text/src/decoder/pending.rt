@@ -183,7 +183,8 @@ impl Pending {
         self.end_in_beginning(rest, last)
     }
 
-    /// The same where the first byte begins several. Out of line: most broken parts are one byte.
+    /// Ends a call before a first byte that begins several, but no character: reads the broken part, or holds a beginning
+    /// that more bytes may go on with. Out of line: most broken parts are one byte.
     #[inline(never)]
     fn end_in_beginning(&mut self, rest: &[u8], last: bool) -> (DecoderResult, usize)
         requires not_empty { 0 < length rest.now }

@@ -26,7 +26,7 @@ fn run_is<R: Read, W: Write>(reader: &mut R, writer: &mut W, status: u8, line: &
         && errors.flushes == 0
 }
 
-/// The same behind the arrays of the program.
+/// Whether a run behind the program's arrays returns the status, and says its line whole.
 fn run_over_arrays_is(
     reader: &mut PatternInput,
     writer: &mut PatternOutput,

@@ -1,6 +1,6 @@
 use Rattle.std.proofs.Common.{◌≤◌, ◌-◌, length}
 use Rattle.encoding_runs.specs.Steps.Fronts.{RepairsFirst}
-use Rattle.encoding_runs.proofs.repair.front.repair_dense.Given as goal
+use Rattle.encoding_runs.proofs.repair.front.repair_front.Given as goal
 
 abbrev pub invariant-loop-most : goal.invariant-loop-most
 invariant-loop-most l = record {

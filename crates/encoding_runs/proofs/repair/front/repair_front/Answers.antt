@@ -4,7 +4,7 @@ use Rattle.encoding_definitions.proofs.LongestFronts.FrontsLemmas.{put_mid-same}
 use Rattle.encoding_runs.specs.Steps.Fronts.{RepairsFirst}
 use Rattle.std.proofs.lemmas.List.{take_rest}
 use Rattle.encoding_runs.proofs.FrontTextLemmas.{first_behind}
-use Rattle.encoding_runs.proofs.repair.front.repair_dense.Goals as goal
+use Rattle.encoding_runs.proofs.repair.front.repair_front.Goals as goal
 
 pub loop-most-preserved : goal.loop-most-preserved
 loop-most-preserved c =
