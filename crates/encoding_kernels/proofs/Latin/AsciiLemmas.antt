@@ -1,10 +1,9 @@
 -- Fronts whose units are each of a kind, of which the ASCII front is one, and copies of a front.
 use Rattle.std.proofs.Common.{◌≡◌, ℕ, ◌+◌, ◌<◌, ◌≤◌, inl, inr, List, length, ◌++◌, take, drop, take-add, length-take-le, length-drop, set, slice_index, sym, ap, ◌∙◌, arith, subst, Some}
-use Rattle.std.specs.Str.{IsAscii, IsUtf8}
+use Rattle.std.specs.Str.{IsAscii}
 use Rattle.std.proofs.lemmas.Bool.{cases_lt}
 use Rattle.std.proofs.lemmas.List.{get_or-take, get_or_past, length-take, take_more}
 use Rattle.std.proofs.lemmas.Option.{slice_get-get_or}
-use Rattle.std.proofs.lemmas.Str.{IsUtf8-from_ascii}
 use Rattle.encoding_definitions.specs.Ascii.{IsFirstOther}
 use Rattle.encoding_definitions.specs.Fronts.{IsLongestFront, WritesFront}
 use Rattle.encoding_kernels.specs.Strides.{AllBelow, BelowUpTo, IsRunBelow}
@@ -51,9 +50,6 @@ below_front xs n f k l = Each-at (λ b. b < 0x80) (omega arith) xs n k l f.kind
 
 pub not_ascii_behind : (xs : List ℕ) (n : ℕ) → IsLongestFront IsAscii xs n → n < length xs → 0x80 ≤ slice_index xs n
 not_ascii_behind xs n f l = elim (cases_lt (slice_index xs n) 0x80) [ inl p ↦ absurd (behind_front (λ b. b < 0x80) (omega arith) xs n f l p) | inr p ↦ p ]
-
-pub IsUtf8-ascii_front : (bytes : List ℕ) (n : ℕ) → BelowUpTo 0x80 bytes n → IsUtf8 (take n bytes)
-IsUtf8-ascii_front bytes n below = IsUtf8-from_ascii (take n bytes) (Each-take (λ b. b < 0x80) (omega arith) bytes n below)
 
 -- the first other unit, over so many places
 pub IsFirstOther-at : (xs : List ℕ) (room n : ℕ) → n < length xs → n < room → ((k : ℕ) → k < n → slice_index xs k < 0x80) → 0x80 ≤ slice_index xs n

@@ -4,7 +4,7 @@ use Rattle.std.specs.List.{prefix_len}
 use Rattle.std.proofs.lemmas.Bool.Decides.{nat_tests}
 use Rattle.std.proofs.lemmas.List.{take_all}
 use Rattle.std.proofs.lemmas.Nat.{le_or_l, le_or_r}
-use Rattle.std.proofs.lemmas.Simd.{get_or-zip2, length-zip2, bitmask_splat, none_from_empty_mask, first_set_mask_l, run_in_chunk_le, run_in_chunk_fails}
+use Rattle.std.proofs.lemmas.Simd.{get_or-zip2, bitmask_splat, none_from_empty_mask, first_set_mask_l, run_in_chunk_le, run_in_chunk_fails}
 use lib.Count.{count_trailing_zeros}
 use lib.Lanes.{zip2, chunk, top, mask_l}
 use Rattle.encoding_kernels.specs.Following.{IsZeroTo}
@@ -44,9 +44,6 @@ module _ (n : ℕ) (few : n ≤ 64) (xs : List ℕ) (long : length xs ≡ n) whe
 
 -- ---- the lanes of a disjunction
 module _ (n : ℕ) (xs ys : List ℕ) (p : length xs ≡ n) (q : length ys ≡ n) where
-  pub or_long : length (zip2 bit_or xs ys) ≡ n
-  or_long = length-zip2 bit_or xs ys (p ∙ sym q) ∙ p
-
   or_at : (i : ℕ) → i < n → get_or (zip2 bit_or xs ys) i 0 ≡ bit_or (get_or xs i 0) (get_or ys i 0)
   or_at i l = get_or-zip2 bit_or xs ys i 0 0 0 (omega arith) (omega arith)
 

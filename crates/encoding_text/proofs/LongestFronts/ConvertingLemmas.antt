@@ -15,7 +15,7 @@ use Rattle.encoding_definitions.specs.Fronts.{IsLongestFront, FitsLongest, Write
 use Rattle.encoding_definitions.specs.Converting.{IsText, ConvertsLongest, FittingBegins}
 use Rattle.encoding_text.specs.Steps.Converting.{Converted, ConvertsFront}
 use Rattle.encoding_definitions.proofs.Sequences.EncodingLemmas.{IsSequence-encode, flat_map-encode_utf8, encodes_one}
-use Rattle.encoding_definitions.proofs.LongestFronts.FrontsLemmas.{WritesFront-nil, WritesFront_after, WritesFront-length, WritesFront-same, put_mid-same, FitsLongest-all, FitsLongest-stop}
+use Rattle.encoding_definitions.proofs.LongestFronts.FrontsLemmas.{WritesFront_after, WritesFront-length, WritesFront-same, put_mid-same, FitsLongest-all, FitsLongest-stop}
 use Rattle.encoding_definitions.proofs.LongestFronts.FittingLemmas.{flat_map_push}
 use Rattle.encoding_definitions.proofs.LongestFronts.Utf8Lemmas.{IsLongestFront-utf8, no_character_after}
 use Rattle.encoding_definitions.proofs.Decomposition.DecompositionLemmas.{has_parts}
@@ -57,9 +57,6 @@ module _ {A : Type 0} (encode : ℕ → List A) where
 
   pub converted_room : {src : List ℕ} {old new : List A} {read written : ℕ} → Converted encode src old new read written → written ≤ length new
   converted_room {src} {old} {new} {read} {written} d = omega (arith, d.writes.fits, WritesFront-length old new written (flat_map encode d.scalars) d.writes)
-
-  pub converted_none : (src : List ℕ) (old : List A) → Converted encode src old old 0 0
-  converted_none src old = record { scalars = []; are_scalars = refl; within = omega arith; spelled = refl; writes = WritesFront-nil old }
 
   -- where no character begins what is left
   pub converted_stuck : (src : List ℕ) (old new : List A) (read written : ℕ) → Converted encode src old new read written → BeginsWithNoCharacter (drop read src)
