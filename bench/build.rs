@@ -7,5 +7,8 @@ fn main() {
     let build = Path::new(&here).join("../build");
     println!("cargo:rustc-link-search=native={}", build.display());
     println!("cargo:rustc-link-lib=static=encoding_text");
-    println!("cargo:rerun-if-changed={}", build.join("libencoding_text.a").display());
+    println!(
+        "cargo:rerun-if-changed={}",
+        build.join("libencoding_text.a").display()
+    );
 }

@@ -1,7 +1,7 @@
 /*
- * Calls every function of encoding_text.h on its happy path and on each refused condition at its bounds, and compares each
- * result and the whole memory round each destination. It is C99 and C++17. It prints each miss, and ends with a line
- * `N passed, M failed`.
+ * Calls every function of encoding_text.h on its happy path and on each refused condition at its bounds, and compares
+ * each result and the whole memory round each destination. It is C99 and C++17. It prints each miss, and ends with a
+ * line `N passed, M failed`.
  */
 #include "check.h"
 #include "empty.h"
@@ -17,16 +17,18 @@ static void ascii_fronts(void)
     const uint16_t units[] = {0x61, 0x62, 0x263A};
     const uint8_t escape[] = {0x61, 0x1B, 0x62};
 
-    CHECK(front_is(encoding_validate_ascii(ALL(text)), 2, 0xE4));
-    CHECK(front_is(encoding_validate_ascii(text, 2), 2, 0));
-    CHECK(encoding_ascii_valid_up_to(ALL(text)) == 2);
-    CHECK(encoding_iso_2022_jp_ascii_valid_up_to(ALL(escape)) == 1);
-    CHECK(front_is(encoding_ascii_to_ascii(ALL(text), fresh_bytes(), 4), 2, 0xE4) && bytes_are(BYTES("ab")));
-    CHECK(front_is(encoding_ascii_to_ascii(ALL(text), fresh_bytes(), 1), 1, 0) && bytes_are(BYTES("a")));
-    CHECK(front_is(encoding_ascii_to_basic_latin(ALL(text), fresh_units(), 4), 2, 0xE4) && units_are(2, 0x61, 0x62));
-    CHECK(front_is(encoding_ascii_to_basic_latin(ALL(text), fresh_units(), 1), 1, 0) && units_are(1, 0x61));
-    CHECK(front_is(encoding_basic_latin_to_ascii(ALL(units), fresh_bytes(), 4), 2, 0x263A) && bytes_are(BYTES("ab")));
-    CHECK(front_is(encoding_basic_latin_to_ascii(ALL(units), fresh_bytes(), 2), 2, 0) && bytes_are(BYTES("ab")));
+    CHECK(front_is(encoding_text_validate_ascii(ALL(text)), 2, 0xE4));
+    CHECK(front_is(encoding_text_validate_ascii(text, 2), 2, 0));
+    CHECK(encoding_text_ascii_valid_up_to(ALL(text)) == 2);
+    CHECK(encoding_text_iso_2022_jp_ascii_valid_up_to(ALL(escape)) == 1);
+    CHECK(front_is(encoding_text_ascii_to_ascii(ALL(text), fresh_bytes(), 4), 2, 0xE4) && bytes_are(BYTES("ab")));
+    CHECK(front_is(encoding_text_ascii_to_ascii(ALL(text), fresh_bytes(), 1), 1, 0) && bytes_are(BYTES("a")));
+    CHECK(front_is(encoding_text_ascii_to_basic_latin(ALL(text), fresh_units(), 4), 2, 0xE4)
+          && units_are(2, 0x61, 0x62));
+    CHECK(front_is(encoding_text_ascii_to_basic_latin(ALL(text), fresh_units(), 1), 1, 0) && units_are(1, 0x61));
+    CHECK(front_is(encoding_text_basic_latin_to_ascii(ALL(units), fresh_bytes(), 4), 2, 0x263A)
+          && bytes_are(BYTES("ab")));
+    CHECK(front_is(encoding_text_basic_latin_to_ascii(ALL(units), fresh_bytes(), 2), 2, 0) && bytes_are(BYTES("ab")));
 }
 
 static void latin1_checks(void)
@@ -39,17 +41,19 @@ static void latin1_checks(void)
     const uint16_t latin1_units[] = {0x61, 0xFF};
     const uint16_t beyond_units[] = {0x61, 0x0100};
 
-    CHECK(encoding_mem_is_ascii(ALL(ascii)) && !encoding_mem_is_ascii(ALL(latin1)));
-    CHECK(encoding_mem_is_basic_latin(ALL(ascii_units)) && !encoding_mem_is_basic_latin(ALL(latin1_units)));
-    CHECK(encoding_mem_is_utf8_latin1(ALL(latin1)) && !encoding_mem_is_utf8_latin1(ALL(beyond)));
-    CHECK(!encoding_mem_is_utf8_latin1(ALL(broken)));
-    CHECK(encoding_mem_is_utf16_latin1(ALL(latin1_units)) && !encoding_mem_is_utf16_latin1(ALL(beyond_units)));
-    CHECK(encoding_mem_is_str_latin1(ALL(latin1)) == ENCODING_YES);
-    CHECK(encoding_mem_is_str_latin1(ALL(beyond)) == ENCODING_NO);
-    CHECK(encoding_mem_is_str_latin1(ALL(broken)) == ENCODING_NEITHER);
-    CHECK(encoding_mem_utf8_latin1_up_to(ALL(beyond)) == 2 && encoding_mem_utf8_latin1_up_to(ALL(broken)) == 1);
-    CHECK(encoding_mem_str_latin1_up_to(ALL(beyond)) == 2 && encoding_mem_str_latin1_up_to(ALL(latin1)) == 3);
-    CHECK(encoding_mem_str_latin1_up_to(ALL(broken)) == ENCODING_REFUSED);
+    CHECK(encoding_text_mem_is_ascii(ALL(ascii)) && !encoding_text_mem_is_ascii(ALL(latin1)));
+    CHECK(encoding_text_mem_is_basic_latin(ALL(ascii_units)) && !encoding_text_mem_is_basic_latin(ALL(latin1_units)));
+    CHECK(encoding_text_mem_is_utf8_latin1(ALL(latin1)) && !encoding_text_mem_is_utf8_latin1(ALL(beyond)));
+    CHECK(!encoding_text_mem_is_utf8_latin1(ALL(broken)));
+    CHECK(encoding_text_mem_is_utf16_latin1(ALL(latin1_units))
+          && !encoding_text_mem_is_utf16_latin1(ALL(beyond_units)));
+    CHECK(encoding_text_mem_is_str_latin1(ALL(latin1)) == ENCODING_TEXT_YES);
+    CHECK(encoding_text_mem_is_str_latin1(ALL(beyond)) == ENCODING_TEXT_NO);
+    CHECK(encoding_text_mem_is_str_latin1(ALL(broken)) == ENCODING_TEXT_REFUSED_ANSWER);
+    CHECK(encoding_text_mem_utf8_latin1_up_to(ALL(beyond)) == 2
+          && encoding_text_mem_utf8_latin1_up_to(ALL(broken)) == 1);
+    CHECK(encoding_text_mem_str_latin1_up_to(ALL(beyond)) == 2 && encoding_text_mem_str_latin1_up_to(ALL(latin1)) == 3);
+    CHECK(encoding_text_mem_str_latin1_up_to(ALL(broken)) == ENCODING_TEXT_REFUSED);
 }
 
 static void surrogates(void)
@@ -59,9 +63,9 @@ static void surrogates(void)
     const uint16_t mixed[] = {0xD83D, 0xD83D, 0xDCA9, 0xDCA9};
     uint16_t *buffer = fresh_units();
 
-    CHECK(encoding_mem_utf16_valid_up_to(ALL(lone)) == 1 && encoding_mem_utf16_valid_up_to(ALL(pair)) == 3);
+    CHECK(encoding_text_mem_utf16_valid_up_to(ALL(lone)) == 1 && encoding_text_mem_utf16_valid_up_to(ALL(pair)) == 3);
     memcpy(buffer, mixed, sizeof mixed);
-    encoding_mem_ensure_utf16_validity(buffer, 4);
+    encoding_text_mem_ensure_utf16_validity(buffer, 4);
     CHECK(units_are(4, 0xFFFD, 0xD83D, 0xDCA9, 0xFFFD));
 }
 
@@ -75,28 +79,31 @@ static void right_to_left_checks(void)
     const uint16_t hebrew_units[] = {0x61, 0x05D0};
     const uint16_t lone[] = {0x61, 0xD83D, 0x62};
 
-    CHECK(encoding_mem_is_char_bidi(0xFEFE) == ENCODING_YES && encoding_mem_is_char_bidi(0x1E800) == ENCODING_YES);
-    CHECK(encoding_mem_is_char_bidi(0xFEFF) == ENCODING_NO && encoding_mem_is_char_bidi(0x10FFFF) == ENCODING_NO);
-    CHECK(encoding_mem_is_char_bidi(0xD800) == ENCODING_NEITHER && encoding_mem_is_char_bidi(0xDFFF) == ENCODING_NEITHER);
-    CHECK(encoding_mem_is_char_bidi(0x110000) == ENCODING_NEITHER
-          && encoding_mem_is_char_bidi(UINT32_MAX) == ENCODING_NEITHER);
-    CHECK(encoding_mem_is_utf16_code_unit_bidi(0xD802) && !encoding_mem_is_utf16_code_unit_bidi(0xD801));
-    CHECK(encoding_mem_is_utf8_bidi(ALL(hebrew)) && encoding_mem_is_utf8_bidi(ALL(broken)));
-    CHECK(!encoding_mem_is_utf8_bidi(ALL(latin1)));
-    CHECK(encoding_mem_is_str_bidi(ALL(hebrew)) == ENCODING_YES);
-    CHECK(encoding_mem_is_str_bidi(ALL(latin1)) == ENCODING_NO);
-    CHECK(encoding_mem_is_str_bidi(ALL(broken)) == ENCODING_NEITHER);
-    CHECK(encoding_mem_is_utf16_bidi(ALL(hebrew_units)) && !encoding_mem_is_utf16_bidi(ALL(latin1_units)));
-    CHECK(encoding_mem_check_utf8_for_latin1_and_bidi(ALL(latin1)) == ENCODING_LATIN1);
-    CHECK(encoding_mem_check_utf8_for_latin1_and_bidi(ALL(beyond)) == ENCODING_LEFT_TO_RIGHT);
-    CHECK(encoding_mem_check_utf8_for_latin1_and_bidi(ALL(broken)) == ENCODING_BIDI);
-    CHECK(encoding_mem_check_str_for_latin1_and_bidi(ALL(latin1)) == ENCODING_LATIN1);
-    CHECK(encoding_mem_check_str_for_latin1_and_bidi(ALL(beyond)) == ENCODING_LEFT_TO_RIGHT);
-    CHECK(encoding_mem_check_str_for_latin1_and_bidi(ALL(hebrew)) == ENCODING_BIDI);
-    CHECK(encoding_mem_check_str_for_latin1_and_bidi(ALL(broken)) == ENCODING_NO_TEXT);
-    CHECK(encoding_mem_check_utf16_for_latin1_and_bidi(ALL(latin1_units)) == ENCODING_LATIN1);
-    CHECK(encoding_mem_check_utf16_for_latin1_and_bidi(ALL(lone)) == ENCODING_LEFT_TO_RIGHT);
-    CHECK(encoding_mem_check_utf16_for_latin1_and_bidi(ALL(hebrew_units)) == ENCODING_BIDI);
+    CHECK(encoding_text_mem_is_char_bidi(0xFEFE) == ENCODING_TEXT_YES
+          && encoding_text_mem_is_char_bidi(0x1E800) == ENCODING_TEXT_YES);
+    CHECK(encoding_text_mem_is_char_bidi(0xFEFF) == ENCODING_TEXT_NO
+          && encoding_text_mem_is_char_bidi(0x10FFFF) == ENCODING_TEXT_NO);
+    CHECK(encoding_text_mem_is_char_bidi(0xD800) == ENCODING_TEXT_REFUSED_ANSWER
+          && encoding_text_mem_is_char_bidi(0xDFFF) == ENCODING_TEXT_REFUSED_ANSWER);
+    CHECK(encoding_text_mem_is_char_bidi(0x110000) == ENCODING_TEXT_REFUSED_ANSWER
+          && encoding_text_mem_is_char_bidi(UINT32_MAX) == ENCODING_TEXT_REFUSED_ANSWER);
+    CHECK(encoding_text_mem_is_utf16_code_unit_bidi(0xD802) && !encoding_text_mem_is_utf16_code_unit_bidi(0xD801));
+    CHECK(encoding_text_mem_is_utf8_bidi(ALL(hebrew)) && encoding_text_mem_is_utf8_bidi(ALL(broken)));
+    CHECK(!encoding_text_mem_is_utf8_bidi(ALL(latin1)));
+    CHECK(encoding_text_mem_is_str_bidi(ALL(hebrew)) == ENCODING_TEXT_YES);
+    CHECK(encoding_text_mem_is_str_bidi(ALL(latin1)) == ENCODING_TEXT_NO);
+    CHECK(encoding_text_mem_is_str_bidi(ALL(broken)) == ENCODING_TEXT_REFUSED_ANSWER);
+    CHECK(encoding_text_mem_is_utf16_bidi(ALL(hebrew_units)) && !encoding_text_mem_is_utf16_bidi(ALL(latin1_units)));
+    CHECK(encoding_text_mem_check_utf8_for_latin1_and_bidi(ALL(latin1)) == ENCODING_TEXT_LATIN1);
+    CHECK(encoding_text_mem_check_utf8_for_latin1_and_bidi(ALL(beyond)) == ENCODING_TEXT_LEFT_TO_RIGHT);
+    CHECK(encoding_text_mem_check_utf8_for_latin1_and_bidi(ALL(broken)) == ENCODING_TEXT_BIDI);
+    CHECK(encoding_text_mem_check_str_for_latin1_and_bidi(ALL(latin1)) == ENCODING_TEXT_LATIN1);
+    CHECK(encoding_text_mem_check_str_for_latin1_and_bidi(ALL(beyond)) == ENCODING_TEXT_LEFT_TO_RIGHT);
+    CHECK(encoding_text_mem_check_str_for_latin1_and_bidi(ALL(hebrew)) == ENCODING_TEXT_BIDI);
+    CHECK(encoding_text_mem_check_str_for_latin1_and_bidi(ALL(broken)) == ENCODING_TEXT_REFUSED_ANSWER);
+    CHECK(encoding_text_mem_check_utf16_for_latin1_and_bidi(ALL(latin1_units)) == ENCODING_TEXT_LATIN1);
+    CHECK(encoding_text_mem_check_utf16_for_latin1_and_bidi(ALL(lone)) == ENCODING_TEXT_LEFT_TO_RIGHT);
+    CHECK(encoding_text_mem_check_utf16_for_latin1_and_bidi(ALL(hebrew_units)) == ENCODING_TEXT_BIDI);
 }
 
 static void copies(void)
@@ -104,12 +111,15 @@ static void copies(void)
     const uint8_t text[] = {0x61, 0x62, 0xE4};
     const uint16_t units[] = {0x61, 0x62, 0xE4};
 
-    CHECK(encoding_mem_copy_ascii_to_ascii(ALL(text), fresh_bytes(), 2) == ENCODING_REFUSED && no_bytes_written());
-    CHECK(encoding_mem_copy_ascii_to_ascii(ALL(text), fresh_bytes(), 3) == 2 && bytes_are(BYTES("ab")));
-    CHECK(encoding_mem_copy_ascii_to_basic_latin(ALL(text), fresh_units(), 2) == ENCODING_REFUSED && no_units_written());
-    CHECK(encoding_mem_copy_ascii_to_basic_latin(ALL(text), fresh_units(), 3) == 2 && units_are(2, 0x61, 0x62));
-    CHECK(encoding_mem_copy_basic_latin_to_ascii(ALL(units), fresh_bytes(), 2) == ENCODING_REFUSED && no_bytes_written());
-    CHECK(encoding_mem_copy_basic_latin_to_ascii(ALL(units), fresh_bytes(), 3) == 2 && bytes_are(BYTES("ab")));
+    CHECK(encoding_text_mem_copy_ascii_to_ascii(ALL(text), fresh_bytes(), 2) == ENCODING_TEXT_REFUSED
+          && no_bytes_written());
+    CHECK(encoding_text_mem_copy_ascii_to_ascii(ALL(text), fresh_bytes(), 3) == 2 && bytes_are(BYTES("ab")));
+    CHECK(encoding_text_mem_copy_ascii_to_basic_latin(ALL(text), fresh_units(), 2) == ENCODING_TEXT_REFUSED
+          && no_units_written());
+    CHECK(encoding_text_mem_copy_ascii_to_basic_latin(ALL(text), fresh_units(), 3) == 2 && units_are(2, 0x61, 0x62));
+    CHECK(encoding_text_mem_copy_basic_latin_to_ascii(ALL(units), fresh_bytes(), 2) == ENCODING_TEXT_REFUSED
+          && no_bytes_written());
+    CHECK(encoding_text_mem_copy_basic_latin_to_ascii(ALL(units), fresh_bytes(), 3) == 2 && bytes_are(BYTES("ab")));
 }
 
 static void latin1_conversions(void)
@@ -120,23 +130,29 @@ static void latin1_conversions(void)
     const uint8_t broken[] = {0x61, 0xC3};
     const uint16_t units[] = {0x0100, 0x01E4};
 
-    CHECK(encoding_mem_convert_latin1_to_utf16(ALL(latin1), fresh_units(), 1) == ENCODING_REFUSED && no_units_written());
-    CHECK(encoding_mem_convert_latin1_to_utf16(ALL(latin1), fresh_units(), 2) == 2 && units_are(2, 0x61, 0xFF));
-    CHECK(counts_are(encoding_mem_convert_latin1_to_utf8_partial(ALL(latin1), fresh_bytes(), 2), 1, 1)
+    CHECK(encoding_text_mem_convert_latin1_to_utf16(ALL(latin1), fresh_units(), 1) == ENCODING_TEXT_REFUSED
+          && no_units_written());
+    CHECK(encoding_text_mem_convert_latin1_to_utf16(ALL(latin1), fresh_units(), 2) == 2 && units_are(2, 0x61, 0xFF));
+    CHECK(counts_are(encoding_text_mem_convert_latin1_to_utf8_partial(ALL(latin1), fresh_bytes(), 2), 1, 1)
           && bytes_are(BYTES("a")));
-    CHECK(counts_are(encoding_mem_convert_latin1_to_utf8_partial(ALL(latin1), fresh_bytes(), 3), 2, 3));
+    CHECK(counts_are(encoding_text_mem_convert_latin1_to_utf8_partial(ALL(latin1), fresh_bytes(), 3), 2, 3));
     CHECK(bytes_are(BYTES("a\xC3\xBF")));
-    CHECK(encoding_mem_convert_latin1_to_utf8(ALL(latin1), fresh_bytes(), 3) == ENCODING_REFUSED && no_bytes_written());
-    CHECK(encoding_mem_convert_latin1_to_utf8(ALL(latin1), fresh_bytes(), 4) == 3 && bytes_are(BYTES("a\xC3\xBF")));
-    CHECK(encoding_mem_convert_utf8_to_latin1_lossy(ALL(text), fresh_bytes(), 2) == ENCODING_REFUSED && no_bytes_written());
-    CHECK(encoding_mem_convert_utf8_to_latin1_lossy(ALL(beyond), fresh_bytes(), 9) == ENCODING_REFUSED
+    CHECK(encoding_text_mem_convert_latin1_to_utf8(ALL(latin1), fresh_bytes(), 3) == ENCODING_TEXT_REFUSED
           && no_bytes_written());
-    CHECK(encoding_mem_convert_utf8_to_latin1_lossy(ALL(broken), fresh_bytes(), 9) == ENCODING_REFUSED
+    CHECK(encoding_text_mem_convert_latin1_to_utf8(ALL(latin1), fresh_bytes(), 4) == 3
+          && bytes_are(BYTES("a\xC3\xBF")));
+    CHECK(encoding_text_mem_convert_utf8_to_latin1_lossy(ALL(text), fresh_bytes(), 2) == ENCODING_TEXT_REFUSED
           && no_bytes_written());
-    CHECK(encoding_mem_convert_utf8_to_latin1_lossy(ALL(text), fresh_bytes(), 3) == 2 && bytes_are(BYTES("a\xE4")));
-    CHECK(encoding_mem_convert_utf16_to_latin1_lossy(ALL(units), fresh_bytes(), 1) == ENCODING_REFUSED
+    CHECK(encoding_text_mem_convert_utf8_to_latin1_lossy(ALL(beyond), fresh_bytes(), 9) == ENCODING_TEXT_REFUSED
           && no_bytes_written());
-    CHECK(encoding_mem_convert_utf16_to_latin1_lossy(ALL(units), fresh_bytes(), 2) == 2 && bytes_are(BYTES("\0\xE4")));
+    CHECK(encoding_text_mem_convert_utf8_to_latin1_lossy(ALL(broken), fresh_bytes(), 9) == ENCODING_TEXT_REFUSED
+          && no_bytes_written());
+    CHECK(encoding_text_mem_convert_utf8_to_latin1_lossy(ALL(text), fresh_bytes(), 3) == 2
+          && bytes_are(BYTES("a\xE4")));
+    CHECK(encoding_text_mem_convert_utf16_to_latin1_lossy(ALL(units), fresh_bytes(), 1) == ENCODING_TEXT_REFUSED
+          && no_bytes_written());
+    CHECK(encoding_text_mem_convert_utf16_to_latin1_lossy(ALL(units), fresh_bytes(), 2) == 2
+          && bytes_are(BYTES("\0\xE4")));
 }
 
 static void conversions_to_utf16(void)
@@ -144,19 +160,23 @@ static void conversions_to_utf16(void)
     const uint8_t text[] = {0x61, 0xC3, 0xA4};
     const uint8_t broken[] = {0x61, 0xC3, 0xA4, 0xFF};
 
-    CHECK(encoding_utf8_valid_up_to(ALL(broken)) == 3 && encoding_utf8_valid_up_to(ALL(text)) == 3);
-    CHECK(encoding_mem_convert_utf8_to_utf16(ALL(broken), fresh_units(), 4) == ENCODING_REFUSED && no_units_written());
-    CHECK(encoding_mem_convert_utf8_to_utf16(ALL(broken), fresh_units(), 5) == 3 && units_are(3, 0x61, 0xE4, 0xFFFD));
-    CHECK(encoding_mem_convert_str_to_utf16(ALL(text), fresh_units(), 2) == ENCODING_REFUSED && no_units_written());
-    CHECK(encoding_mem_convert_str_to_utf16(ALL(broken), fresh_units(), 9) == ENCODING_REFUSED && no_units_written());
-    CHECK(encoding_mem_convert_str_to_utf16(ALL(text), fresh_units(), 3) == 2 && units_are(2, 0x61, 0xE4));
-    CHECK(are_refused(encoding_mem_convert_utf8_to_utf16_without_replacement(ALL(text), fresh_units(), 2)));
+    CHECK(encoding_text_utf8_valid_up_to(ALL(broken)) == 3 && encoding_text_utf8_valid_up_to(ALL(text)) == 3);
+    CHECK(encoding_text_mem_convert_utf8_to_utf16(ALL(broken), fresh_units(), 4) == ENCODING_TEXT_REFUSED
+          && no_units_written());
+    CHECK(encoding_text_mem_convert_utf8_to_utf16(ALL(broken), fresh_units(), 5) == 3
+          && units_are(3, 0x61, 0xE4, 0xFFFD));
+    CHECK(encoding_text_mem_convert_str_to_utf16(ALL(text), fresh_units(), 2) == ENCODING_TEXT_REFUSED
+          && no_units_written());
+    CHECK(encoding_text_mem_convert_str_to_utf16(ALL(broken), fresh_units(), 9) == ENCODING_TEXT_REFUSED
+          && no_units_written());
+    CHECK(encoding_text_mem_convert_str_to_utf16(ALL(text), fresh_units(), 3) == 2 && units_are(2, 0x61, 0xE4));
+    CHECK(are_refused(encoding_text_mem_convert_utf8_to_utf16_without_replacement(ALL(text), fresh_units(), 2)));
     CHECK(no_units_written());
-    CHECK(counts_are(encoding_mem_convert_utf8_to_utf16_without_replacement(ALL(broken), fresh_units(), 4), 3, 2));
+    CHECK(counts_are(encoding_text_mem_convert_utf8_to_utf16_without_replacement(ALL(broken), fresh_units(), 4), 3, 2));
     CHECK(units_are(2, 0x61, 0xE4));
-    CHECK(counts_are(encoding_convert_utf8_to_utf16_up_to_invalid(ALL(broken), fresh_units(), 9), 3, 2));
+    CHECK(counts_are(encoding_text_convert_utf8_to_utf16_up_to_invalid(ALL(broken), fresh_units(), 9), 3, 2));
     CHECK(units_are(2, 0x61, 0xE4));
-    CHECK(counts_are(encoding_convert_utf8_to_utf16_up_to_invalid(ALL(text), fresh_units(), 1), 1, 1)
+    CHECK(counts_are(encoding_text_convert_utf8_to_utf16_up_to_invalid(ALL(text), fresh_units(), 1), 1, 1)
           && units_are(1, 0x61));
 }
 
@@ -165,22 +185,26 @@ static void conversions_from_utf16(void)
     const uint16_t units[] = {0x63, 0xD83D, 0xDCA9};
     const uint16_t lone[] = {0x63, 0xD83D};
 
-    CHECK(counts_are(encoding_mem_convert_utf16_to_utf8_partial(ALL(units), fresh_bytes(), 4), 1, 1)
+    CHECK(counts_are(encoding_text_mem_convert_utf16_to_utf8_partial(ALL(units), fresh_bytes(), 4), 1, 1)
           && bytes_are(BYTES("c")));
-    CHECK(counts_are(encoding_mem_convert_utf16_to_utf8_partial(ALL(lone), fresh_bytes(), 4), 2, 4));
+    CHECK(counts_are(encoding_text_mem_convert_utf16_to_utf8_partial(ALL(lone), fresh_bytes(), 4), 2, 4));
     CHECK(bytes_are(BYTES("c\xEF\xBF\xBD")));
-    CHECK(encoding_mem_convert_utf16_to_utf8(ALL(units), fresh_bytes(), 8) == ENCODING_REFUSED && no_bytes_written());
-    CHECK(encoding_mem_convert_utf16_to_utf8(ALL(units), fresh_bytes(), 9) == 5 && bytes_are(BYTES("c\xF0\x9F\x92\xA9")));
-    CHECK(counts_are(encoding_convert_utf16_to_utf8_partial_inner(ALL(units), fresh_bytes(), 9), 3, 5));
-    CHECK(bytes_are(BYTES("c\xF0\x9F\x92\xA9")));
-    CHECK(counts_are(encoding_convert_utf16_to_utf8_partial_tail(ALL(units), fresh_bytes(), 3), 1, 1)
-          && bytes_are(BYTES("c")));
-    CHECK(counts_are(encoding_convert_utf16_to_utf8_partial_tail(units + 1, 2, fresh_bytes(), 3), 0, 0)
+    CHECK(encoding_text_mem_convert_utf16_to_utf8(ALL(units), fresh_bytes(), 8) == ENCODING_TEXT_REFUSED
           && no_bytes_written());
-    CHECK(counts_are(encoding_convert_utf16_to_utf8_partial_tail(lone + 1, 1, fresh_bytes(), 3), 1, 3));
+    CHECK(encoding_text_mem_convert_utf16_to_utf8(ALL(units), fresh_bytes(), 9) == 5
+          && bytes_are(BYTES("c\xF0\x9F\x92\xA9")));
+    CHECK(counts_are(encoding_text_convert_utf16_to_utf8_partial_inner(ALL(units), fresh_bytes(), 9), 3, 5));
+    CHECK(bytes_are(BYTES("c\xF0\x9F\x92\xA9")));
+    CHECK(counts_are(encoding_text_convert_utf16_to_utf8_partial_tail(ALL(units), fresh_bytes(), 3), 1, 1)
+          && bytes_are(BYTES("c")));
+    CHECK(counts_are(encoding_text_convert_utf16_to_utf8_partial_tail(units + 1, 2, fresh_bytes(), 3), 0, 0)
+          && no_bytes_written());
+    CHECK(counts_are(encoding_text_convert_utf16_to_utf8_partial_tail(lone + 1, 1, fresh_bytes(), 3), 1, 3));
     CHECK(bytes_are(BYTES("\xEF\xBF\xBD")));
-    CHECK(are_refused(encoding_convert_utf16_to_utf8_partial_tail(ALL(units), fresh_bytes(), 4)) && no_bytes_written());
-    CHECK(are_refused(encoding_convert_utf16_to_utf8_partial_tail(units, 0, fresh_bytes(), 3)) && no_bytes_written());
+    CHECK(are_refused(encoding_text_convert_utf16_to_utf8_partial_tail(ALL(units), fresh_bytes(), 4))
+          && no_bytes_written());
+    CHECK(are_refused(encoding_text_convert_utf16_to_utf8_partial_tail(units, 0, fresh_bytes(), 3))
+          && no_bytes_written());
 }
 
 static void utf16_into_texts(void)
@@ -188,19 +212,23 @@ static void utf16_into_texts(void)
     const uint16_t letter[] = {0x61};
     const uint16_t snowman[] = {0x2603};
 
-    CHECK(counts_are(encoding_mem_convert_utf16_to_str_partial(ALL(letter), bytes_with(0, BYTES("\xC3\xA4")), 3), 1, 1));
+    CHECK(counts_are(
+        encoding_text_mem_convert_utf16_to_str_partial(ALL(letter), bytes_with(0, BYTES("\xC3\xA4")), 3), 1, 1));
     CHECK(bytes_are(BYTES("a\0")));
-    CHECK(counts_are(encoding_mem_convert_utf16_to_str_partial(ALL(snowman), fresh_bytes(), 3), 1, 3));
+    CHECK(counts_are(encoding_text_mem_convert_utf16_to_str_partial(ALL(snowman), fresh_bytes(), 3), 1, 3));
     CHECK(bytes_are(BYTES("\xE2\x98\x83")));
-    CHECK(counts_are(encoding_mem_convert_utf16_to_str_partial(ALL(snowman), fresh_bytes(), 2), 0, 0)
+    CHECK(counts_are(encoding_text_mem_convert_utf16_to_str_partial(ALL(snowman), fresh_bytes(), 2), 0, 0)
           && no_bytes_written());
-    CHECK(are_refused(encoding_mem_convert_utf16_to_str_partial(ALL(letter), bytes_with(0, BYTES("\xFF")), 3)));
+    CHECK(are_refused(encoding_text_mem_convert_utf16_to_str_partial(ALL(letter), bytes_with(0, BYTES("\xFF")), 3)));
     CHECK(bytes_are(BYTES("\xFF")));
-    CHECK(encoding_mem_convert_utf16_to_str(ALL(letter), bytes_with(0, BYTES("\xFF")), 3) == ENCODING_REFUSED);
+    CHECK(encoding_text_mem_convert_utf16_to_str(ALL(letter), bytes_with(0, BYTES("\xFF")),
+                                                 3) == ENCODING_TEXT_REFUSED);
     CHECK(bytes_are(BYTES("\xFF")));
-    CHECK(encoding_mem_convert_utf16_to_str(ALL(snowman), fresh_bytes(), 2) == ENCODING_REFUSED && no_bytes_written());
-    CHECK(encoding_mem_convert_utf16_to_str(ALL(snowman), fresh_bytes(), 3) == 3 && bytes_are(BYTES("\xE2\x98\x83")));
-    CHECK(encoding_mem_convert_utf16_to_str(ALL(snowman), bytes_with(0, BYTES("\xF0\x9F\x92\xA9")), 9) == 3);
+    CHECK(encoding_text_mem_convert_utf16_to_str(ALL(snowman), fresh_bytes(), 2) == ENCODING_TEXT_REFUSED
+          && no_bytes_written());
+    CHECK(encoding_text_mem_convert_utf16_to_str(ALL(snowman), fresh_bytes(), 3) == 3
+          && bytes_are(BYTES("\xE2\x98\x83")));
+    CHECK(encoding_text_mem_convert_utf16_to_str(ALL(snowman), bytes_with(0, BYTES("\xF0\x9F\x92\xA9")), 9) == 3);
     CHECK(bytes_are(BYTES("\xE2\x98\x83\0")));
 }
 
@@ -212,18 +240,21 @@ static void latin1_into_texts(void)
     const uint8_t latin1[] = {0xE4};
     const uint8_t two[] = {0xE4, 0x61};
 
-    CHECK(counts_are(encoding_mem_convert_latin1_to_str_partial(ALL(latin1), bytes_with(17, BYTES("\xE2\x98\x83")), 30),
+    CHECK(counts_are(encoding_text_mem_convert_latin1_to_str_partial(ALL(latin1), bytes_with(17, BYTES("\xE2\x98\x83")),
+                                                                     30),
                      1, 2));
     CHECK(bytes_are(BYTES(CLEARED)));
-    CHECK(counts_are(encoding_mem_convert_latin1_to_str_partial(ALL(two), fresh_bytes(), 2), 1, 2)
+    CHECK(counts_are(encoding_text_mem_convert_latin1_to_str_partial(ALL(two), fresh_bytes(), 2), 1, 2)
           && bytes_are(BYTES("\xC3\xA4")));
-    CHECK(are_refused(encoding_mem_convert_latin1_to_str_partial(ALL(latin1), bytes_with(19, BYTES("\xFF")), 20)));
+    CHECK(are_refused(encoding_text_mem_convert_latin1_to_str_partial(ALL(latin1), bytes_with(19, BYTES("\xFF")), 20)));
     CHECK(bytes_stand(19, BYTES("\xFF")));
-    CHECK(encoding_mem_convert_latin1_to_str(ALL(latin1), bytes_with(17, BYTES("\xE2\x98\x83")), 30) == 2);
+    CHECK(encoding_text_mem_convert_latin1_to_str(ALL(latin1), bytes_with(17, BYTES("\xE2\x98\x83")), 30) == 2);
     CHECK(bytes_are(BYTES(CLEARED)));
-    CHECK(encoding_mem_convert_latin1_to_str(ALL(latin1), fresh_bytes(), 2) == 2 && bytes_are(BYTES("\xC3\xA4")));
-    CHECK(encoding_mem_convert_latin1_to_str(ALL(latin1), fresh_bytes(), 1) == ENCODING_REFUSED && no_bytes_written());
-    CHECK(encoding_mem_convert_latin1_to_str(ALL(latin1), bytes_with(19, BYTES("\xFF")), 20) == ENCODING_REFUSED);
+    CHECK(encoding_text_mem_convert_latin1_to_str(ALL(latin1), fresh_bytes(), 2) == 2 && bytes_are(BYTES("\xC3\xA4")));
+    CHECK(encoding_text_mem_convert_latin1_to_str(ALL(latin1), fresh_bytes(), 1) == ENCODING_TEXT_REFUSED
+          && no_bytes_written());
+    CHECK(encoding_text_mem_convert_latin1_to_str(ALL(latin1), bytes_with(19, BYTES("\xFF")),
+                                                  20) == ENCODING_TEXT_REFUSED);
     CHECK(bytes_stand(19, BYTES("\xFF")));
 }
 
@@ -231,13 +262,20 @@ static void repair(void)
 {
     const uint8_t bytes[] = {0x61, 0xF0, 0x9F, 0x92, 0xFF, 0x62};
 
-    CHECK(repaired_is(encoding_repair_slice(ALL(bytes), fresh_bytes(), 17), ENCODING_REFUSED, 0) && no_bytes_written());
-    CHECK(repaired_is(encoding_repair_slice(ALL(bytes), fresh_bytes(), 18), 8, 2));
+    CHECK(repaired_is(encoding_text_repair_slice(ALL(bytes), fresh_bytes(), 17), ENCODING_TEXT_REFUSED, 0)
+          && no_bytes_written());
+    CHECK(repaired_is(encoding_text_repair_slice(ALL(bytes), fresh_bytes(), 18), 8, 2));
     CHECK(bytes_are(BYTES("a\xEF\xBF\xBD\xEF\xBF\xBD" "b")));
+}
+
+static void version(void)
+{
+    CHECK(encoding_text_version() == ENCODING_TEXT_VERSION && ENCODING_TEXT_VERSION == 100);
 }
 
 int main(void)
 {
+    version();
     ascii_fronts();
     latin1_checks();
     surrogates();

@@ -118,37 +118,38 @@ static bool no_units_written(void)
     return units_are(0);
 }
 
-static bool front_is(encoding_front front, size_t length, uint16_t other)
+static bool front_is(encoding_text_front front, size_t length, uint16_t other)
 {
     return front.length == length && front.other == other;
 }
 
-static bool counts_are(encoding_counts counts, size_t read, size_t written)
+static bool counts_are(encoding_text_counts counts, size_t read, size_t written)
 {
     return counts.read == read && counts.written == written;
 }
 
-static bool are_refused(encoding_counts counts)
+static bool are_refused(encoding_text_counts counts)
 {
-    return counts_are(counts, ENCODING_REFUSED, ENCODING_REFUSED);
+    return counts_are(counts, ENCODING_TEXT_REFUSED, ENCODING_TEXT_REFUSED);
 }
 
-static bool decoded_is(encoding_decoded decoded, size_t read, size_t written, uint8_t result, uint8_t malformed)
+static bool decoded_is(encoding_text_decoded decoded, size_t read, size_t written, uint8_t result, uint8_t malformed)
 {
-    return decoded.read == read && decoded.written == written && decoded.result == result && decoded.malformed == malformed;
+    return decoded.read == read && decoded.written == written && decoded.result == result
+        && decoded.malformed == malformed;
 }
 
-static bool piece_is(encoding_piece piece, size_t read, uint32_t character, uint8_t kind, uint8_t malformed)
+static bool piece_is(encoding_text_piece piece, size_t read, uint32_t character, uint8_t kind, uint8_t malformed)
 {
     return piece.read == read && piece.character == character && piece.kind == kind && piece.malformed == malformed;
 }
 
-static bool encoded_is(encoding_encoded encoded, size_t read, size_t written, uint8_t result)
+static bool encoded_is(encoding_text_encoded encoded, size_t read, size_t written, uint8_t result)
 {
     return encoded.read == read && encoded.written == written && encoded.result == result;
 }
 
-static bool repaired_is(encoding_repaired repaired, size_t written, uint64_t replaced)
+static bool repaired_is(encoding_text_repaired repaired, size_t written, uint64_t replaced)
 {
     return repaired.written == written && repaired.replaced == replaced;
 }

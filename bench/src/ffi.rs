@@ -60,8 +60,7 @@ pub struct Repaired {
 }
 
 pub const REFUSED: usize = usize::MAX;
-pub const NEITHER: u8 = 2;
-pub const NO_TEXT: u8 = 3;
+pub const REFUSED_ANSWER: u8 = u8::MAX;
 pub const INPUT_EMPTY: u8 = 0;
 pub const MALFORMED: u8 = 2;
 
@@ -86,79 +85,79 @@ macro_rules! calls {
 
 calls! {
     one {
-    encoding_validate_ascii(u8) -> Front;
-    encoding_ascii_valid_up_to(u8) -> usize;
-    encoding_iso_2022_jp_ascii_valid_up_to(u8) -> usize;
-    encoding_mem_is_ascii(u8) -> bool;
-    encoding_mem_is_basic_latin(u16) -> bool;
-    encoding_mem_is_utf8_latin1(u8) -> bool;
-    encoding_mem_is_utf16_latin1(u16) -> bool;
-    encoding_mem_is_str_latin1(u8) -> u8;
-    encoding_mem_utf8_latin1_up_to(u8) -> usize;
-    encoding_mem_str_latin1_up_to(u8) -> usize;
-    encoding_mem_utf16_valid_up_to(u16) -> usize;
-    encoding_mem_is_utf8_bidi(u8) -> bool;
-    encoding_mem_is_str_bidi(u8) -> u8;
-    encoding_mem_is_utf16_bidi(u16) -> bool;
-    encoding_mem_check_utf8_for_latin1_and_bidi(u8) -> u8;
-    encoding_mem_check_str_for_latin1_and_bidi(u8) -> u8;
-    encoding_mem_check_utf16_for_latin1_and_bidi(u16) -> u8;
-    encoding_utf8_valid_up_to(u8) -> usize;
+    encoding_text_validate_ascii(u8) -> Front;
+    encoding_text_ascii_valid_up_to(u8) -> usize;
+    encoding_text_iso_2022_jp_ascii_valid_up_to(u8) -> usize;
+    encoding_text_mem_is_ascii(u8) -> bool;
+    encoding_text_mem_is_basic_latin(u16) -> bool;
+    encoding_text_mem_is_utf8_latin1(u8) -> bool;
+    encoding_text_mem_is_utf16_latin1(u16) -> bool;
+    encoding_text_mem_is_str_latin1(u8) -> u8;
+    encoding_text_mem_utf8_latin1_up_to(u8) -> usize;
+    encoding_text_mem_str_latin1_up_to(u8) -> usize;
+    encoding_text_mem_utf16_valid_up_to(u16) -> usize;
+    encoding_text_mem_is_utf8_bidi(u8) -> bool;
+    encoding_text_mem_is_str_bidi(u8) -> u8;
+    encoding_text_mem_is_utf16_bidi(u16) -> bool;
+    encoding_text_mem_check_utf8_for_latin1_and_bidi(u8) -> u8;
+    encoding_text_mem_check_str_for_latin1_and_bidi(u8) -> u8;
+    encoding_text_mem_check_utf16_for_latin1_and_bidi(u16) -> u8;
+    encoding_text_utf8_valid_up_to(u8) -> usize;
     }
     two {
-    encoding_ascii_to_ascii(u8, u8) -> Front;
-    encoding_ascii_to_basic_latin(u8, u16) -> Front;
-    encoding_basic_latin_to_ascii(u16, u8) -> Front;
-    encoding_mem_copy_ascii_to_ascii(u8, u8) -> usize;
-    encoding_mem_copy_ascii_to_basic_latin(u8, u16) -> usize;
-    encoding_mem_copy_basic_latin_to_ascii(u16, u8) -> usize;
-    encoding_mem_convert_latin1_to_utf16(u8, u16) -> usize;
-    encoding_mem_convert_latin1_to_utf8_partial(u8, u8) -> Counts;
-    encoding_mem_convert_latin1_to_utf8(u8, u8) -> usize;
-    encoding_mem_convert_utf8_to_latin1_lossy(u8, u8) -> usize;
-    encoding_mem_convert_utf16_to_latin1_lossy(u16, u8) -> usize;
-    encoding_mem_convert_utf8_to_utf16(u8, u16) -> usize;
-    encoding_mem_convert_str_to_utf16(u8, u16) -> usize;
-    encoding_mem_convert_utf8_to_utf16_without_replacement(u8, u16) -> Counts;
-    encoding_mem_convert_utf16_to_utf8_partial(u16, u8) -> Counts;
-    encoding_mem_convert_utf16_to_utf8(u16, u8) -> usize;
-    encoding_mem_convert_utf16_to_str_partial(u16, u8) -> Counts;
-    encoding_mem_convert_latin1_to_str_partial(u8, u8) -> Counts;
-    encoding_convert_utf8_to_utf16_up_to_invalid(u8, u16) -> Counts;
-    encoding_repair_slice(u8, u8) -> Repaired;
+    encoding_text_ascii_to_ascii(u8, u8) -> Front;
+    encoding_text_ascii_to_basic_latin(u8, u16) -> Front;
+    encoding_text_basic_latin_to_ascii(u16, u8) -> Front;
+    encoding_text_mem_copy_ascii_to_ascii(u8, u8) -> usize;
+    encoding_text_mem_copy_ascii_to_basic_latin(u8, u16) -> usize;
+    encoding_text_mem_copy_basic_latin_to_ascii(u16, u8) -> usize;
+    encoding_text_mem_convert_latin1_to_utf16(u8, u16) -> usize;
+    encoding_text_mem_convert_latin1_to_utf8_partial(u8, u8) -> Counts;
+    encoding_text_mem_convert_latin1_to_utf8(u8, u8) -> usize;
+    encoding_text_mem_convert_utf8_to_latin1_lossy(u8, u8) -> usize;
+    encoding_text_mem_convert_utf16_to_latin1_lossy(u16, u8) -> usize;
+    encoding_text_mem_convert_utf8_to_utf16(u8, u16) -> usize;
+    encoding_text_mem_convert_str_to_utf16(u8, u16) -> usize;
+    encoding_text_mem_convert_utf8_to_utf16_without_replacement(u8, u16) -> Counts;
+    encoding_text_mem_convert_utf16_to_utf8_partial(u16, u8) -> Counts;
+    encoding_text_mem_convert_utf16_to_utf8(u16, u8) -> usize;
+    encoding_text_mem_convert_utf16_to_str_partial(u16, u8) -> Counts;
+    encoding_text_mem_convert_latin1_to_str_partial(u8, u8) -> Counts;
+    encoding_text_convert_utf8_to_utf16_up_to_invalid(u8, u16) -> Counts;
+    encoding_text_repair_slice(u8, u8) -> Repaired;
     }
 }
 
 extern "C" {
-    fn encoding_mem_ensure_utf16_validity(buffer: *mut u16, length: usize);
-    fn encoding_utf8_decoder_decode_to_utf16(
+    fn encoding_text_mem_ensure_utf16_validity(buffer: *mut u16, length: usize);
+    fn encoding_text_utf8_decoder_decode_to_utf16(
         decoder: &mut Decoder, src: *const u8, src_length: usize, dst: *mut u16, dst_length: usize, last: bool,
     ) -> Decoded;
-    fn encoding_utf8_decoder_decode_to_utf8(
+    fn encoding_text_utf8_decoder_decode_to_utf8(
         decoder: &mut Decoder, src: *const u8, src_length: usize, dst: *mut u8, dst_length: usize, last: bool,
     ) -> Decoded;
-    fn encoding_utf8_encoder_encode_from_utf16(
+    fn encoding_text_utf8_encoder_encode_from_utf16(
         encoder: &mut Encoder, src: *const u16, src_length: usize, dst: *mut u8, dst_length: usize, last: bool,
     ) -> Encoded;
-    fn encoding_utf8_encoder_encode_from_utf8(
+    fn encoding_text_utf8_encoder_encode_from_utf8(
         encoder: &mut Encoder, src: *const u8, src_length: usize, dst: *mut u8, dst_length: usize, last: bool,
     ) -> Encoded;
 }
 
 pub fn ensure_utf16_validity(buffer: &mut [u16]) {
-    unsafe { encoding_mem_ensure_utf16_validity(buffer.as_mut_ptr(), buffer.len()) }
+    unsafe { encoding_text_mem_ensure_utf16_validity(buffer.as_mut_ptr(), buffer.len()) }
 }
 
 impl Decoder {
     pub fn to_utf16(&mut self, src: &[u8], dst: &mut [u16], last: bool) -> Decoded {
         unsafe {
-            encoding_utf8_decoder_decode_to_utf16(self, src.as_ptr(), src.len(), dst.as_mut_ptr(), dst.len(), last)
+            encoding_text_utf8_decoder_decode_to_utf16(self, src.as_ptr(), src.len(), dst.as_mut_ptr(), dst.len(), last)
         }
     }
 
     pub fn to_utf8(&mut self, src: &[u8], dst: &mut [u8], last: bool) -> Decoded {
         unsafe {
-            encoding_utf8_decoder_decode_to_utf8(self, src.as_ptr(), src.len(), dst.as_mut_ptr(), dst.len(), last)
+            encoding_text_utf8_decoder_decode_to_utf8(self, src.as_ptr(), src.len(), dst.as_mut_ptr(), dst.len(), last)
         }
     }
 }
@@ -166,13 +165,15 @@ impl Decoder {
 impl Encoder {
     pub fn from_utf16(&mut self, src: &[u16], dst: &mut [u8], last: bool) -> Encoded {
         unsafe {
-            encoding_utf8_encoder_encode_from_utf16(self, src.as_ptr(), src.len(), dst.as_mut_ptr(), dst.len(), last)
+            let (to, room) = (dst.as_mut_ptr(), dst.len());
+            encoding_text_utf8_encoder_encode_from_utf16(self, src.as_ptr(), src.len(), to, room, last)
         }
     }
 
     pub fn from_utf8(&mut self, src: &[u8], dst: &mut [u8], last: bool) -> Encoded {
         unsafe {
-            encoding_utf8_encoder_encode_from_utf8(self, src.as_ptr(), src.len(), dst.as_mut_ptr(), dst.len(), last)
+            let (to, room) = (dst.as_mut_ptr(), dst.len());
+            encoding_text_utf8_encoder_encode_from_utf8(self, src.as_ptr(), src.len(), to, room, last)
         }
     }
 }

@@ -4,7 +4,7 @@
 //! and peers validate it by `std::str::from_utf8` before their own call. So do the rows that write into a text.
 
 use crate::call::{in_place, one, two};
-use crate::ffi::{self, Front, NEITHER, NO_TEXT, REFUSED};
+use crate::ffi::{self, Front, REFUSED, REFUSED_ANSWER};
 use crate::kinds::Source;
 use crate::room::Room;
 use crate::streams;
@@ -89,20 +89,20 @@ macro_rules! rows {
 
 pub const ROWS: &[Row] = rows! {
     "validate_ascii", Bytes:
-        OURS => |s, r| r.tell_front(ffi::encoding_validate_ascii(&s.bytes)),
+        OURS => |s, r| r.tell_front(ffi::encoding_text_validate_ascii(&s.bytes)),
         STD => |s, r| r.tell_front(one(|src| {
             Front::of(src, src.iter().position(|b| *b >= 0x80).unwrap_or(src.len()))
         }, &s.bytes)),
         CRATE => |s, r| r.tell_front(one(|src| Front::of(src, Encoding::ascii_valid_up_to(src)), &s.bytes));
     "ascii_valid_up_to", Bytes:
-        OURS => |s, r| r.told[0] = ffi::encoding_ascii_valid_up_to(&s.bytes),
+        OURS => |s, r| r.told[0] = ffi::encoding_text_ascii_valid_up_to(&s.bytes),
         CRATE => |s, r| r.told[0] = one(Encoding::ascii_valid_up_to, &s.bytes);
     "iso_2022_jp_ascii_valid_up_to", Bytes:
-        OURS => |s, r| r.told[0] = ffi::encoding_iso_2022_jp_ascii_valid_up_to(&s.bytes),
+        OURS => |s, r| r.told[0] = ffi::encoding_text_iso_2022_jp_ascii_valid_up_to(&s.bytes),
         CRATE => |s, r| r.told[0] = one(Encoding::iso_2022_jp_ascii_valid_up_to, &s.bytes);
     "ascii_to_ascii", Bytes:
         OURS => |s, r| {
-            let front = ffi::encoding_ascii_to_ascii(&s.bytes, r.bounded_bytes());
+            let front = ffi::encoding_text_ascii_to_ascii(&s.bytes, r.bounded_bytes());
             r.tell_copied(front)
         },
         CRATE => |s, r| {
@@ -114,7 +114,7 @@ pub const ROWS: &[Row] = rows! {
         };
     "ascii_to_basic_latin", Bytes:
         OURS => |s, r| {
-            let front = ffi::encoding_ascii_to_basic_latin(&s.bytes, r.bounded_units());
+            let front = ffi::encoding_text_ascii_to_basic_latin(&s.bytes, r.bounded_units());
             r.tell_copied(front)
         },
         CRATE => |s, r| {
@@ -126,7 +126,7 @@ pub const ROWS: &[Row] = rows! {
         };
     "basic_latin_to_ascii", Units:
         OURS => |s, r| {
-            let front = ffi::encoding_basic_latin_to_ascii(&s.units, r.bounded_bytes());
+            let front = ffi::encoding_text_basic_latin_to_ascii(&s.units, r.bounded_bytes());
             r.tell_copied(front)
         },
         CRATE => |s, r| {
@@ -137,44 +137,44 @@ pub const ROWS: &[Row] = rows! {
             r.tell_copied(front)
         };
     "copy_ascii_to_ascii", Bytes:
-        OURS => |s, r| r.written = ffi::encoding_mem_copy_ascii_to_ascii(&s.bytes, &mut r.bytes),
+        OURS => |s, r| r.written = ffi::encoding_text_mem_copy_ascii_to_ascii(&s.bytes, &mut r.bytes),
         CRATE => |s, r| r.written = two(mem::copy_ascii_to_ascii, &s.bytes, &mut r.bytes);
     "copy_ascii_to_basic_latin", Bytes:
-        OURS => |s, r| r.written = ffi::encoding_mem_copy_ascii_to_basic_latin(&s.bytes, &mut r.units),
+        OURS => |s, r| r.written = ffi::encoding_text_mem_copy_ascii_to_basic_latin(&s.bytes, &mut r.units),
         CRATE => |s, r| r.written = two(mem::copy_ascii_to_basic_latin, &s.bytes, &mut r.units);
     "copy_basic_latin_to_ascii", Units:
-        OURS => |s, r| r.written = ffi::encoding_mem_copy_basic_latin_to_ascii(&s.units, &mut r.bytes),
+        OURS => |s, r| r.written = ffi::encoding_text_mem_copy_basic_latin_to_ascii(&s.units, &mut r.bytes),
         CRATE => |s, r| r.written = two(mem::copy_basic_latin_to_ascii, &s.units, &mut r.bytes);
     "is_ascii", Bytes:
-        OURS => |s, r| r.told[0] = ffi::encoding_mem_is_ascii(&s.bytes).into(),
+        OURS => |s, r| r.told[0] = ffi::encoding_text_mem_is_ascii(&s.bytes).into(),
         STD => |s, r| r.told[0] = one(<[u8]>::is_ascii, &s.bytes).into(),
         CRATE => |s, r| r.told[0] = one(mem::is_ascii, &s.bytes).into();
     "is_basic_latin", Units:
-        OURS => |s, r| r.told[0] = ffi::encoding_mem_is_basic_latin(&s.units).into(),
+        OURS => |s, r| r.told[0] = ffi::encoding_text_mem_is_basic_latin(&s.units).into(),
         CRATE => |s, r| r.told[0] = one(mem::is_basic_latin, &s.units).into();
     "is_utf8_latin1", Bytes:
-        OURS => |s, r| r.told[0] = ffi::encoding_mem_is_utf8_latin1(&s.bytes).into(),
+        OURS => |s, r| r.told[0] = ffi::encoding_text_mem_is_utf8_latin1(&s.bytes).into(),
         CRATE => |s, r| r.told[0] = one(mem::is_utf8_latin1, &s.bytes).into();
     "is_str_latin1", Text:
-        OURS => |s, r| r.told[0] = ffi::encoding_mem_is_str_latin1(&s.bytes).into(),
+        OURS => |s, r| r.told[0] = ffi::encoding_text_mem_is_str_latin1(&s.bytes).into(),
         CRATE => |s, r| r.told[0] = one(|src| match str::from_utf8(src) {
             Ok(text) => mem::is_str_latin1(text).into(),
-            Err(_) => NEITHER,
+            Err(_) => REFUSED_ANSWER,
         }, &s.bytes).into();
     "is_utf16_latin1", Units:
-        OURS => |s, r| r.told[0] = ffi::encoding_mem_is_utf16_latin1(&s.units).into(),
+        OURS => |s, r| r.told[0] = ffi::encoding_text_mem_is_utf16_latin1(&s.units).into(),
         CRATE => |s, r| r.told[0] = one(mem::is_utf16_latin1, &s.units).into();
     "utf8_latin1_up_to", Bytes:
-        OURS => |s, r| r.told[0] = ffi::encoding_mem_utf8_latin1_up_to(&s.bytes),
+        OURS => |s, r| r.told[0] = ffi::encoding_text_mem_utf8_latin1_up_to(&s.bytes),
         CRATE => |s, r| r.told[0] = one(mem::utf8_latin1_up_to, &s.bytes);
     "str_latin1_up_to", Text:
-        OURS => |s, r| r.told[0] = ffi::encoding_mem_str_latin1_up_to(&s.bytes),
+        OURS => |s, r| r.told[0] = ffi::encoding_text_mem_str_latin1_up_to(&s.bytes),
         CRATE => |s, r| r.told[0] = one(|src| match str::from_utf8(src) {
             Ok(text) => mem::str_latin1_up_to(text),
             Err(_) => REFUSED,
         }, &s.bytes);
     "utf16_valid_up_to", Units:
-        OURS => |s, r| r.told[0] = ffi::encoding_mem_utf16_valid_up_to(&s.units),
+        OURS => |s, r| r.told[0] = ffi::encoding_text_mem_utf16_valid_up_to(&s.units),
         CRATE => |s, r| r.told[0] = one(mem::utf16_valid_up_to, &s.units);
     "ensure_utf16_validity", Units:
         OURS => |s, r| {
@@ -188,38 +188,38 @@ pub const ROWS: &[Row] = rows! {
             in_place(mem::ensure_utf16_validity, &mut r.units[..s.units.len()]);
         };
     "is_utf8_bidi", Bytes:
-        OURS => |s, r| r.told[0] = ffi::encoding_mem_is_utf8_bidi(&s.bytes).into(),
+        OURS => |s, r| r.told[0] = ffi::encoding_text_mem_is_utf8_bidi(&s.bytes).into(),
         CRATE => |s, r| r.told[0] = one(mem::is_utf8_bidi, &s.bytes).into();
     "is_str_bidi", Text:
-        OURS => |s, r| r.told[0] = ffi::encoding_mem_is_str_bidi(&s.bytes).into(),
+        OURS => |s, r| r.told[0] = ffi::encoding_text_mem_is_str_bidi(&s.bytes).into(),
         CRATE => |s, r| r.told[0] = one(|src| match str::from_utf8(src) {
             Ok(text) => mem::is_str_bidi(text).into(),
-            Err(_) => NEITHER,
+            Err(_) => REFUSED_ANSWER,
         }, &s.bytes).into();
     "is_utf16_bidi", Units:
-        OURS => |s, r| r.told[0] = ffi::encoding_mem_is_utf16_bidi(&s.units).into(),
+        OURS => |s, r| r.told[0] = ffi::encoding_text_mem_is_utf16_bidi(&s.units).into(),
         CRATE => |s, r| r.told[0] = one(mem::is_utf16_bidi, &s.units).into();
     "check_utf8_for_latin1_and_bidi", Bytes:
-        OURS => |s, r| r.told[0] = ffi::encoding_mem_check_utf8_for_latin1_and_bidi(&s.bytes).into(),
+        OURS => |s, r| r.told[0] = ffi::encoding_text_mem_check_utf8_for_latin1_and_bidi(&s.bytes).into(),
         CRATE => |s, r| r.told[0] = one(mem::check_utf8_for_latin1_and_bidi, &s.bytes) as usize;
     "check_str_for_latin1_and_bidi", Text:
-        OURS => |s, r| r.told[0] = ffi::encoding_mem_check_str_for_latin1_and_bidi(&s.bytes).into(),
+        OURS => |s, r| r.told[0] = ffi::encoding_text_mem_check_str_for_latin1_and_bidi(&s.bytes).into(),
         CRATE => |s, r| r.told[0] = one(|src| match str::from_utf8(src) {
             Ok(text) => mem::check_str_for_latin1_and_bidi(text) as u8,
-            Err(_) => NO_TEXT,
+            Err(_) => REFUSED_ANSWER,
         }, &s.bytes).into();
     "check_utf16_for_latin1_and_bidi", Units:
-        OURS => |s, r| r.told[0] = ffi::encoding_mem_check_utf16_for_latin1_and_bidi(&s.units).into(),
+        OURS => |s, r| r.told[0] = ffi::encoding_text_mem_check_utf16_for_latin1_and_bidi(&s.units).into(),
         CRATE => |s, r| r.told[0] = one(mem::check_utf16_for_latin1_and_bidi, &s.units) as usize;
     "convert_latin1_to_utf16", Latin1:
-        OURS => |s, r| r.written = ffi::encoding_mem_convert_latin1_to_utf16(&s.latin1, &mut r.units),
+        OURS => |s, r| r.written = ffi::encoding_text_mem_convert_latin1_to_utf16(&s.latin1, &mut r.units),
         CRATE => |s, r| {
             two(mem::convert_latin1_to_utf16, &s.latin1, &mut r.units);
             r.written = s.latin1.len();
         };
     "convert_latin1_to_utf8_partial", Latin1:
         OURS => |s, r| {
-            let counts = ffi::encoding_mem_convert_latin1_to_utf8_partial(&s.latin1, r.bounded_bytes());
+            let counts = ffi::encoding_text_mem_convert_latin1_to_utf8_partial(&s.latin1, r.bounded_bytes());
             r.tell_counts(counts)
         },
         CRATE => |s, r| {
@@ -227,22 +227,22 @@ pub const ROWS: &[Row] = rows! {
             r.tell_counts(counts)
         };
     "convert_latin1_to_utf8", Latin1:
-        OURS => |s, r| r.written = ffi::encoding_mem_convert_latin1_to_utf8(&s.latin1, &mut r.bytes),
+        OURS => |s, r| r.written = ffi::encoding_text_mem_convert_latin1_to_utf8(&s.latin1, &mut r.bytes),
         CRATE => |s, r| r.written = two(mem::convert_latin1_to_utf8, &s.latin1, &mut r.bytes);
     "convert_utf8_to_latin1_lossy", Latin1Text:
-        OURS => |s, r| r.written = ffi::encoding_mem_convert_utf8_to_latin1_lossy(&s.latin1_text, &mut r.bytes),
+        OURS => |s, r| r.written = ffi::encoding_text_mem_convert_utf8_to_latin1_lossy(&s.latin1_text, &mut r.bytes),
         CRATE => |s, r| r.written = two(mem::convert_utf8_to_latin1_lossy, &s.latin1_text, &mut r.bytes);
     "convert_utf16_to_latin1_lossy", Latin1Units:
-        OURS => |s, r| r.written = ffi::encoding_mem_convert_utf16_to_latin1_lossy(&s.latin1_units, &mut r.bytes),
+        OURS => |s, r| r.written = ffi::encoding_text_mem_convert_utf16_to_latin1_lossy(&s.latin1_units, &mut r.bytes),
         CRATE => |s, r| {
             two(mem::convert_utf16_to_latin1_lossy, &s.latin1_units, &mut r.bytes);
             r.written = s.latin1_units.len();
         };
     "convert_utf8_to_utf16", Bytes:
-        OURS => |s, r| r.written = ffi::encoding_mem_convert_utf8_to_utf16(&s.bytes, &mut r.units),
+        OURS => |s, r| r.written = ffi::encoding_text_mem_convert_utf8_to_utf16(&s.bytes, &mut r.units),
         CRATE => |s, r| r.written = two(mem::convert_utf8_to_utf16, &s.bytes, &mut r.units);
     "convert_str_to_utf16", Text:
-        OURS => |s, r| r.written = ffi::encoding_mem_convert_str_to_utf16(&s.bytes, &mut r.units),
+        OURS => |s, r| r.written = ffi::encoding_text_mem_convert_str_to_utf16(&s.bytes, &mut r.units),
         STD => |s, r| r.written = two(|src, dst: &mut [u16]| {
             let Ok(text) = str::from_utf8(src) else {
                 return REFUSED;
@@ -260,7 +260,7 @@ pub const ROWS: &[Row] = rows! {
         }, &s.bytes, &mut r.units);
     "convert_utf8_to_utf16_without_replacement", Text:
         OURS => |s, r| {
-            let counts = ffi::encoding_mem_convert_utf8_to_utf16_without_replacement(&s.bytes, &mut r.units);
+            let counts = ffi::encoding_text_mem_convert_utf8_to_utf16_without_replacement(&s.bytes, &mut r.units);
             r.tell_counts(counts)
         },
         CRATE => |s, r| {
@@ -269,7 +269,7 @@ pub const ROWS: &[Row] = rows! {
         };
     "convert_utf16_to_utf8_partial", Units:
         OURS => |s, r| {
-            let counts = ffi::encoding_mem_convert_utf16_to_utf8_partial(&s.units, r.bounded_bytes());
+            let counts = ffi::encoding_text_mem_convert_utf16_to_utf8_partial(&s.units, r.bounded_bytes());
             r.tell_counts(counts)
         },
         CRATE => |s, r| {
@@ -277,12 +277,12 @@ pub const ROWS: &[Row] = rows! {
             r.tell_counts(counts)
         };
     "convert_utf16_to_utf8", Units:
-        OURS => |s, r| r.written = ffi::encoding_mem_convert_utf16_to_utf8(&s.units, &mut r.bytes),
+        OURS => |s, r| r.written = ffi::encoding_text_mem_convert_utf16_to_utf8(&s.units, &mut r.bytes),
         STD => |s, r| r.written = two(|src, dst| put(&String::from_utf16_lossy(src), dst), &s.units, &mut r.bytes),
         CRATE => |s, r| r.written = two(mem::convert_utf16_to_utf8, &s.units, &mut r.bytes);
     "convert_utf16_to_str_partial", Units:
         OURS => |s, r| {
-            let counts = ffi::encoding_mem_convert_utf16_to_str_partial(&s.units, r.text(3 * s.units.len()));
+            let counts = ffi::encoding_text_mem_convert_utf16_to_str_partial(&s.units, r.text(3 * s.units.len()));
             r.tell_counts(counts)
         },
         CRATE => |s, r| {
@@ -294,7 +294,7 @@ pub const ROWS: &[Row] = rows! {
         };
     "convert_latin1_to_str_partial", Latin1:
         OURS => |s, r| {
-            let counts = ffi::encoding_mem_convert_latin1_to_str_partial(&s.latin1, r.text(2 * s.latin1.len()));
+            let counts = ffi::encoding_text_mem_convert_latin1_to_str_partial(&s.latin1, r.text(2 * s.latin1.len()));
             r.tell_counts(counts)
         },
         CRATE => |s, r| {
@@ -305,13 +305,13 @@ pub const ROWS: &[Row] = rows! {
             r.tell_counts(counts)
         };
     "utf8_valid_up_to", Bytes:
-        OURS => |s, r| r.told[0] = ffi::encoding_utf8_valid_up_to(&s.bytes),
+        OURS => |s, r| r.told[0] = ffi::encoding_text_utf8_valid_up_to(&s.bytes),
         STD => |s, r| r.told[0] = one(std_valid_up_to, &s.bytes),
         CRATE => |s, r| r.told[0] = one(Encoding::utf8_valid_up_to, &s.bytes),
         SIMD => |s, r| r.told[0] = one(simd_valid_up_to, &s.bytes);
     "convert_utf8_to_utf16_up_to_invalid", Text:
         OURS => |s, r| {
-            let counts = ffi::encoding_convert_utf8_to_utf16_up_to_invalid(&s.bytes, r.bounded_units());
+            let counts = ffi::encoding_text_convert_utf8_to_utf16_up_to_invalid(&s.bytes, r.bounded_units());
             r.tell_counts(counts)
         },
         STD => |s, r| {
@@ -335,7 +335,7 @@ pub const ROWS: &[Row] = rows! {
         OURS => streams::encode_from_utf8,
         CRATE => streams::crate_encode_from_utf8;
     "repair_slice", Bytes:
-        OURS => |s, r| r.written = ffi::encoding_repair_slice(&s.bytes, &mut r.bytes).written,
+        OURS => |s, r| r.written = ffi::encoding_text_repair_slice(&s.bytes, &mut r.bytes).written,
         STD => |s, r| r.written = two(|src, dst| put(&String::from_utf8_lossy(src), dst), &s.bytes, &mut r.bytes),
         CRATE => |s, r| r.written = two(|src, dst| {
             put(&UTF_8.decode_without_bom_handling(src).0, dst)

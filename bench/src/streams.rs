@@ -164,8 +164,8 @@ pub fn encode_from_utf8(source: &Source, room: &mut Room) {
             let call = encoder.from_utf8(piece, room.free_bytes(), true);
             room.written += call.written;
             piece = &piece[call.read..];
-            if call.result == ffi::NO_TEXT {
-                room.told[0] = ffi::NO_TEXT.into();
+            if call.result == ffi::REFUSED_ANSWER {
+                room.told[0] = ffi::REFUSED_ANSWER.into();
                 return;
             }
             if call.result == ffi::INPUT_EMPTY {
@@ -181,7 +181,7 @@ pub fn crate_encode_from_utf8(source: &Source, room: &mut Room) {
     room.written = 0;
     for piece in pieces_of_text(source) {
         let Ok(mut text) = str::from_utf8(piece) else {
-            room.told[0] = ffi::NO_TEXT.into();
+            room.told[0] = ffi::REFUSED_ANSWER.into();
             return;
         };
         loop {

@@ -25,7 +25,7 @@ fn front_of_bytes(found: Option<(u8, usize)>, length: usize) -> EncodingFront
 
 /// Where the longest ASCII front ends, and the first byte behind it.
 #[unsafe(no_mangle)]
-pub extern "C" fn encoding_validate_ascii(bytes: &[u8]) -> EncodingFront
+pub extern "C" fn encoding_text_validate_ascii(bytes: &[u8]) -> EncodingFront
     ensures { IsFrontOf bytes.now result }
 {
     front_of_bytes(ascii::validate_ascii(bytes), bytes.len())
@@ -33,7 +33,7 @@ pub extern "C" fn encoding_validate_ascii(bytes: &[u8]) -> EncodingFront
 
 /// The length in bytes of the longest ASCII front.
 #[unsafe(no_mangle)]
-pub extern "C" fn encoding_ascii_valid_up_to(bytes: &[u8]) -> usize
+pub extern "C" fn encoding_text_ascii_valid_up_to(bytes: &[u8]) -> usize
     ensures { IsLongestFront IsAscii bytes.now result }
 {
     ascii::ascii_valid_up_to(bytes)
@@ -41,7 +41,7 @@ pub extern "C" fn encoding_ascii_valid_up_to(bytes: &[u8]) -> usize
 
 /// The length in bytes of the longest ASCII front without escape and shift bytes.
 #[unsafe(no_mangle)]
-pub extern "C" fn encoding_iso_2022_jp_ascii_valid_up_to(bytes: &[u8]) -> usize
+pub extern "C" fn encoding_text_iso_2022_jp_ascii_valid_up_to(bytes: &[u8]) -> usize
     ensures { IsLongestFront IsIso2022JpAscii bytes.now result }
 {
     ascii::iso_2022_jp_ascii_valid_up_to(bytes)
@@ -49,7 +49,7 @@ pub extern "C" fn encoding_iso_2022_jp_ascii_valid_up_to(bytes: &[u8]) -> usize
 
 /// Copies the longest ASCII front, over the shorter length of the two. Behind what is written `dst` is as before.
 #[unsafe(no_mangle)]
-pub extern "C" fn encoding_ascii_to_ascii(src: &[u8], dst: &mut [u8]) -> EncodingFront
+pub extern "C" fn encoding_text_ascii_to_ascii(src: &[u8], dst: &mut [u8]) -> EncodingFront
     ensures found { IsFrontOf (take (length dst.old) src.now) result }
     ensures copied { WritesFront dst.old dst.new result.length (take result.length src.now) }
 {
@@ -59,7 +59,7 @@ pub extern "C" fn encoding_ascii_to_ascii(src: &[u8], dst: &mut [u8]) -> Encodin
 /// Copies the longest ASCII front, each byte as a code unit, over the shorter length of the two. Behind what is written
 /// `dst` is as before.
 #[unsafe(no_mangle)]
-pub extern "C" fn encoding_ascii_to_basic_latin(src: &[u8], dst: &mut [u16]) -> EncodingFront
+pub extern "C" fn encoding_text_ascii_to_basic_latin(src: &[u8], dst: &mut [u16]) -> EncodingFront
     ensures found { IsFrontOf (take (length dst.old) src.now) result }
     ensures copied { WritesFront dst.old dst.new result.length (take result.length src.now) }
 {
@@ -72,7 +72,7 @@ pub extern "C" fn encoding_ascii_to_basic_latin(src: &[u8], dst: &mut [u16]) -> 
 /// Copies the longest ASCII front of code units, each as a byte, over the shorter length of the two. Behind what is
 /// written `dst` is as before.
 #[unsafe(no_mangle)]
-pub extern "C" fn encoding_basic_latin_to_ascii(src: &[u16], dst: &mut [u8]) -> EncodingFront
+pub extern "C" fn encoding_text_basic_latin_to_ascii(src: &[u16], dst: &mut [u8]) -> EncodingFront
     ensures found { IsFrontOf (take (length dst.old) src.now) result }
     ensures copied { WritesFront dst.old dst.new result.length (take result.length src.now) }
 {

@@ -6,25 +6,24 @@ ghost use Rattle.encoding_definitions.specs.Latin1.{IsLatin1, IsUtf8Latin1};
 ghost use Rattle.encoding_definitions.specs.Bidi.{IsRightToLeft, IsRightToLeftUnit, IsBidiUnits, IsBidiText, IsBidiBytes};
 ghost use Rattle.encoding_c.specs.Doors.{Tells, Chooses};
 
-use crate::checks::as_text;
-use crate::door::{BIDI, LATIN1, LEFT_TO_RIGHT, NEITHER, NO, NO_TEXT, YES};
+use crate::door::{BIDI, LATIN1, LEFT_TO_RIGHT, NO, REFUSED_ANSWER, YES, as_text};
 use encoding_text::mem::{self, Latin1Bidi};
 
-/// Whether the scalar value is right-to-left: `NEITHER` where the number is no scalar value.
+/// Whether the scalar value is right-to-left: `REFUSED_ANSWER` where the number is no scalar value.
 #[unsafe(no_mangle)]
-pub extern "C" fn encoding_mem_is_char_bidi(c: u32) -> u8
+pub extern "C" fn encoding_text_mem_is_char_bidi(c: u32) -> u8
     ensures { Tells (IsScalar c) (IsRightToLeft c) result }
 {
     match char::from_u32(c) {
         Some(character) if mem::is_char_bidi(character) => YES,
         Some(_) => NO,
-        None => NEITHER,
+        None => REFUSED_ANSWER,
     }
 }
 
 /// Whether the code unit is a right-to-left character, or the high surrogate of one.
 #[unsafe(no_mangle)]
-pub extern "C" fn encoding_mem_is_utf16_code_unit_bidi(u: u16) -> bool
+pub extern "C" fn encoding_text_mem_is_utf16_code_unit_bidi(u: u16) -> bool
     ensures { IsTrue result ↔ IsRightToLeftUnit u }
 {
     mem::is_utf16_code_unit_bidi(u)
@@ -32,27 +31,27 @@ pub extern "C" fn encoding_mem_is_utf16_code_unit_bidi(u: u16) -> bool
 
 /// Whether the bytes are not well-formed UTF-8, or one of their characters is right-to-left.
 #[unsafe(no_mangle)]
-pub extern "C" fn encoding_mem_is_utf8_bidi(buffer: &[u8]) -> bool
+pub extern "C" fn encoding_text_mem_is_utf8_bidi(buffer: &[u8]) -> bool
     ensures { IsTrue result ↔ IsBidiBytes buffer.now }
 {
     mem::is_utf8_bidi(buffer)
 }
 
-/// Whether a character of the text is right-to-left: `NEITHER` where the bytes are no text.
+/// Whether a character of the text is right-to-left: `REFUSED_ANSWER` where the bytes are no text.
 #[unsafe(no_mangle)]
-pub extern "C" fn encoding_mem_is_str_bidi(buffer: &[u8]) -> u8
+pub extern "C" fn encoding_text_mem_is_str_bidi(buffer: &[u8]) -> u8
     ensures { Tells (IsUtf8 buffer.now) (IsBidiText buffer.now) result }
 {
     match as_text(buffer) {
         Some(text) if mem::is_str_bidi(text) => YES,
         Some(_) => NO,
-        None => NEITHER,
+        None => REFUSED_ANSWER,
     }
 }
 
 /// Whether a character of the code units is right-to-left, or a lone high surrogate may be half of one.
 #[unsafe(no_mangle)]
-pub extern "C" fn encoding_mem_is_utf16_bidi(buffer: &[u16]) -> bool
+pub extern "C" fn encoding_text_mem_is_utf16_bidi(buffer: &[u16]) -> bool
     ensures { IsTrue result ↔ IsBidiUnits buffer.now }
 {
     mem::is_utf16_bidi(buffer)
@@ -60,7 +59,7 @@ pub extern "C" fn encoding_mem_is_utf16_bidi(buffer: &[u16]) -> bool
 
 /// Whether the bytes are Latin1 in UTF-8, and else whether they are right-to-left or no UTF-8.
 #[unsafe(no_mangle)]
-pub extern "C" fn encoding_mem_check_utf8_for_latin1_and_bidi(buffer: &[u8]) -> u8
+pub extern "C" fn encoding_text_mem_check_utf8_for_latin1_and_bidi(buffer: &[u8]) -> u8
     ensures { Chooses (IsUtf8Latin1 buffer.now) (IsBidiBytes buffer.now) result }
 {
     match mem::check_utf8_for_latin1_and_bidi(buffer) {
@@ -70,14 +69,14 @@ pub extern "C" fn encoding_mem_check_utf8_for_latin1_and_bidi(buffer: &[u8]) -> 
     }
 }
 
-/// Whether the text is Latin1, and else whether it is right-to-left: `NO_TEXT` where the bytes are no text.
+/// Whether the text is Latin1, and else whether it is right-to-left: `REFUSED_ANSWER` where the bytes are no text.
 #[unsafe(no_mangle)]
-pub extern "C" fn encoding_mem_check_str_for_latin1_and_bidi(buffer: &[u8]) -> u8
+pub extern "C" fn encoding_text_mem_check_str_for_latin1_and_bidi(buffer: &[u8]) -> u8
     ensures text { IsUtf8 buffer.now → Chooses (IsUtf8Latin1 buffer.now) (IsBidiText buffer.now) result }
-    ensures refused { ¬ (IsUtf8 buffer.now) → result ≡ 3 }
+    ensures refused { ¬ (IsUtf8 buffer.now) → result ≡ u8.MAX }
 {
     let Some(text) = as_text(buffer) else {
-        return NO_TEXT;
+        return REFUSED_ANSWER;
     };
     match mem::check_str_for_latin1_and_bidi(text) {
         Latin1Bidi::Latin1 => LATIN1,
@@ -88,7 +87,7 @@ pub extern "C" fn encoding_mem_check_str_for_latin1_and_bidi(buffer: &[u8]) -> u
 
 /// Whether the code units are Latin1, and else whether they are right-to-left.
 #[unsafe(no_mangle)]
-pub extern "C" fn encoding_mem_check_utf16_for_latin1_and_bidi(buffer: &[u16]) -> u8
+pub extern "C" fn encoding_text_mem_check_utf16_for_latin1_and_bidi(buffer: &[u16]) -> u8
     ensures { Chooses (IsLatin1 buffer.now) (IsBidiUnits buffer.now) result }
 {
     match mem::check_utf16_for_latin1_and_bidi(buffer) {

@@ -1,30 +1,17 @@
 //! Checks of whole buffers.
 
-ghost use Rattle.std.specs.Prelude.{◌≡◌, ◌≢◌, ◌↔◌, IsTrue, IfSome, IfNone, IsUtf8};
+ghost use Rattle.std.specs.Prelude.{◌≡◌, ◌≢◌, ◌↔◌, IsTrue, IsUtf8};
 ghost use Rattle.std.specs.Str.{IsAscii};
 ghost use Rattle.encoding_definitions.specs.Fronts.{IsLongestFront};
 ghost use Rattle.encoding_definitions.specs.Latin1.{IsLatin1, IsUtf8Latin1};
 ghost use Rattle.encoding_c.specs.Doors.{Tells};
 
-use crate::door::{NEITHER, NO, REFUSED, YES};
+use crate::door::{NO, REFUSED, REFUSED_ANSWER, YES, as_text};
 use encoding_text::mem;
-use encoding_text::utf_8::utf8_valid_up_to;
-
-/// The bytes as a text, if they are well-formed.
-pub(crate) fn as_text<'a>(bytes: &'a [u8]) -> Option<&'a str>
-    ensures some { IfSome result (λ text. IsUtf8 bytes.now × (text.now ≡ bytes.now)) }
-    ensures none { IfNone result (¬ (IsUtf8 bytes.now)) }
-{
-    if utf8_valid_up_to(bytes) == bytes.len() {
-        Some(unsafe { std::str::from_utf8_unchecked(bytes) })
-    } else {
-        None
-    }
-}
 
 /// Whether each byte is ASCII.
 #[unsafe(no_mangle)]
-pub extern "C" fn encoding_mem_is_ascii(buffer: &[u8]) -> bool
+pub extern "C" fn encoding_text_mem_is_ascii(buffer: &[u8]) -> bool
     ensures { IsTrue result ↔ IsAscii buffer.now }
 {
     mem::is_ascii(buffer)
@@ -32,7 +19,7 @@ pub extern "C" fn encoding_mem_is_ascii(buffer: &[u8]) -> bool
 
 /// Whether each code unit is ASCII.
 #[unsafe(no_mangle)]
-pub extern "C" fn encoding_mem_is_basic_latin(buffer: &[u16]) -> bool
+pub extern "C" fn encoding_text_mem_is_basic_latin(buffer: &[u16]) -> bool
     ensures { IsTrue result ↔ IsAscii buffer.now }
 {
     mem::is_basic_latin(buffer)
@@ -40,27 +27,27 @@ pub extern "C" fn encoding_mem_is_basic_latin(buffer: &[u16]) -> bool
 
 /// Whether the bytes are well-formed UTF-8 whose scalar values are each up to U+00FF.
 #[unsafe(no_mangle)]
-pub extern "C" fn encoding_mem_is_utf8_latin1(buffer: &[u8]) -> bool
+pub extern "C" fn encoding_text_mem_is_utf8_latin1(buffer: &[u8]) -> bool
     ensures { IsTrue result ↔ IsUtf8Latin1 buffer.now }
 {
     mem::is_utf8_latin1(buffer)
 }
 
-/// Whether the scalar values of the text are each up to U+00FF: `NEITHER` where the bytes are no text.
+/// Whether the scalar values of the text are each up to U+00FF: `REFUSED_ANSWER` where the bytes are no text.
 #[unsafe(no_mangle)]
-pub extern "C" fn encoding_mem_is_str_latin1(buffer: &[u8]) -> u8
+pub extern "C" fn encoding_text_mem_is_str_latin1(buffer: &[u8]) -> u8
     ensures { Tells (IsUtf8 buffer.now) (IsUtf8Latin1 buffer.now) result }
 {
     match as_text(buffer) {
         Some(text) if mem::is_str_latin1(text) => YES,
         Some(_) => NO,
-        None => NEITHER,
+        None => REFUSED_ANSWER,
     }
 }
 
 /// Whether each code unit is up to 0x00FF.
 #[unsafe(no_mangle)]
-pub extern "C" fn encoding_mem_is_utf16_latin1(buffer: &[u16]) -> bool
+pub extern "C" fn encoding_text_mem_is_utf16_latin1(buffer: &[u16]) -> bool
     ensures { IsTrue result ↔ IsLatin1 buffer.now }
 {
     mem::is_utf16_latin1(buffer)
@@ -68,7 +55,7 @@ pub extern "C" fn encoding_mem_is_utf16_latin1(buffer: &[u16]) -> bool
 
 /// The length in bytes of the longest front that is the UTF-8 of scalar values up to U+00FF.
 #[unsafe(no_mangle)]
-pub extern "C" fn encoding_mem_utf8_latin1_up_to(buffer: &[u8]) -> usize
+pub extern "C" fn encoding_text_mem_utf8_latin1_up_to(buffer: &[u8]) -> usize
     ensures { IsLongestFront IsUtf8Latin1 buffer.now result }
 {
     mem::utf8_latin1_up_to(buffer)
@@ -77,7 +64,7 @@ pub extern "C" fn encoding_mem_utf8_latin1_up_to(buffer: &[u8]) -> usize
 /// The length in bytes of the longest front of a text that is the UTF-8 of scalar values up to U+00FF: `REFUSED` where the
 /// bytes are no text.
 #[unsafe(no_mangle)]
-pub extern "C" fn encoding_mem_str_latin1_up_to(buffer: &[u8]) -> usize
+pub extern "C" fn encoding_text_mem_str_latin1_up_to(buffer: &[u8]) -> usize
     ensures text { IsUtf8 buffer.now → IsLongestFront IsUtf8Latin1 buffer.now result }
     ensures refused { ¬ (IsUtf8 buffer.now) → result ≡ usize.MAX }
 {

@@ -10,14 +10,13 @@ ghost use Rattle.encoding_definitions.specs.Latin1.{IsUtf8Latin1};
 ghost use Rattle.encoding_definitions.specs.Parts.{Part, ArePartsOf, repaired_utf16};
 ghost use Rattle.encoding_definitions.specs.Utf16.{IsUtf8OfLongestFront, IsUtf8OfUnits};
 
-use crate::checks::as_text;
-use crate::door::{EncodingCounts, REFUSED};
+use crate::door::{EncodingCounts, REFUSED, as_text};
 use encoding_text::mem;
 use encoding_text::utf_8::convert_utf8_to_utf16_up_to_invalid;
 
 /// Copies the longest ASCII front. Behind what is written `dst` is as before. `REFUSED` where `dst` is shorter than `src`.
 #[unsafe(no_mangle)]
-pub extern "C" fn encoding_mem_copy_ascii_to_ascii(src: &[u8], dst: &mut [u8]) -> usize
+pub extern "C" fn encoding_text_mem_copy_ascii_to_ascii(src: &[u8], dst: &mut [u8]) -> usize
     ensures front { length src.now ≤ length dst.old → IsLongestFront IsAscii src.now result }
     ensures copied { length src.now ≤ length dst.old → WritesFront dst.old dst.new result (take result src.now) }
     ensures refused { length dst.old < length src.now → (result ≡ usize.MAX) × (dst.new ≡ dst.old) }
@@ -31,7 +30,7 @@ pub extern "C" fn encoding_mem_copy_ascii_to_ascii(src: &[u8], dst: &mut [u8]) -
 /// Copies the longest ASCII front, each byte as a code unit. Behind what is written `dst` is as before. `REFUSED` where
 /// `dst` is shorter than `src`.
 #[unsafe(no_mangle)]
-pub extern "C" fn encoding_mem_copy_ascii_to_basic_latin(src: &[u8], dst: &mut [u16]) -> usize
+pub extern "C" fn encoding_text_mem_copy_ascii_to_basic_latin(src: &[u8], dst: &mut [u16]) -> usize
     ensures front { length src.now ≤ length dst.old → IsLongestFront IsAscii src.now result }
     ensures copied { length src.now ≤ length dst.old → WritesFront dst.old dst.new result (take result src.now) }
     ensures refused { length dst.old < length src.now → (result ≡ usize.MAX) × (dst.new ≡ dst.old) }
@@ -45,7 +44,7 @@ pub extern "C" fn encoding_mem_copy_ascii_to_basic_latin(src: &[u8], dst: &mut [
 /// Copies the longest ASCII front of code units, each as a byte. Behind what is written `dst` is as before. `REFUSED`
 /// where `dst` is shorter than `src`.
 #[unsafe(no_mangle)]
-pub extern "C" fn encoding_mem_copy_basic_latin_to_ascii(src: &[u16], dst: &mut [u8]) -> usize
+pub extern "C" fn encoding_text_mem_copy_basic_latin_to_ascii(src: &[u16], dst: &mut [u8]) -> usize
     ensures front { length src.now ≤ length dst.old → IsLongestFront IsAscii src.now result }
     ensures copied { length src.now ≤ length dst.old → WritesFront dst.old dst.new result (take result src.now) }
     ensures refused { length dst.old < length src.now → (result ≡ usize.MAX) × (dst.new ≡ dst.old) }
@@ -59,7 +58,7 @@ pub extern "C" fn encoding_mem_copy_basic_latin_to_ascii(src: &[u16], dst: &mut 
 /// Writes each byte as a code unit, and returns how many. Behind what is written `dst` is as before. `REFUSED` where `dst`
 /// is shorter than `src`.
 #[unsafe(no_mangle)]
-pub extern "C" fn encoding_mem_convert_latin1_to_utf16(src: &[u8], dst: &mut [u16]) -> usize
+pub extern "C" fn encoding_text_mem_convert_latin1_to_utf16(src: &[u8], dst: &mut [u16]) -> usize
     ensures written { length src.now ≤ length dst.old
         → (result ≡ length src.now) × WritesFront dst.old dst.new result src.now }
     ensures refused { length dst.old < length src.now → (result ≡ usize.MAX) × (dst.new ≡ dst.old) }
@@ -73,7 +72,7 @@ pub extern "C" fn encoding_mem_convert_latin1_to_utf16(src: &[u8], dst: &mut [u1
 
 /// Writes the UTF-8 of the longest front of Latin1 whose UTF-8 fits. Behind what is written `dst` is as before.
 #[unsafe(no_mangle)]
-pub extern "C" fn encoding_mem_convert_latin1_to_utf8_partial(
+pub extern "C" fn encoding_text_mem_convert_latin1_to_utf8_partial(
     src: &[u8],
     dst: &mut [u8],
 ) -> EncodingCounts
@@ -88,7 +87,7 @@ pub extern "C" fn encoding_mem_convert_latin1_to_utf8_partial(
 /// Writes the UTF-8 of each byte as a character, and returns its length. Behind what is written `dst` is as before.
 /// `REFUSED` where `dst` is less than twice as long as `src`.
 #[unsafe(no_mangle)]
-pub extern "C" fn encoding_mem_convert_latin1_to_utf8(src: &[u8], dst: &mut [u8]) -> usize
+pub extern "C" fn encoding_text_mem_convert_latin1_to_utf8(src: &[u8], dst: &mut [u8]) -> usize
     ensures written { 2 * length src.now ≤ length dst.old → WritesFront dst.old dst.new result (encode_utf8_all src.now) }
     ensures refused { length dst.old < 2 * length src.now → (result ≡ usize.MAX) × (dst.new ≡ dst.old) }
 {
@@ -101,7 +100,10 @@ pub extern "C" fn encoding_mem_convert_latin1_to_utf8(src: &[u8], dst: &mut [u8]
 /// Writes the scalar value of each character of Latin1 text in UTF-8 as a byte, and returns how many. Behind what is
 /// written `dst` is as before. `REFUSED` where `dst` is shorter than `src`, or `src` isn't the UTF-8 of Latin1 text.
 #[unsafe(no_mangle)]
-pub extern "C" fn encoding_mem_convert_utf8_to_latin1_lossy(src: &[u8], dst: &mut [u8]) -> usize
+pub extern "C" fn encoding_text_mem_convert_utf8_to_latin1_lossy(
+    src: &[u8],
+    dst: &mut [u8],
+) -> usize
     ensures written { length src.now ≤ length dst.old → IsUtf8Latin1 src.now → WritesFront dst.old dst.new result (chars src.now) }
     ensures too_short { length dst.old < length src.now → (result ≡ usize.MAX) × (dst.new ≡ dst.old) }
     ensures other { ¬ (IsUtf8Latin1 src.now) → (result ≡ usize.MAX) × (dst.new ≡ dst.old) }
@@ -115,7 +117,10 @@ pub extern "C" fn encoding_mem_convert_utf8_to_latin1_lossy(src: &[u8], dst: &mu
 /// Writes the low eight bits of each code unit as a byte, and returns how many. Behind what is written `dst` is as before.
 /// `REFUSED` where `dst` is shorter than `src`.
 #[unsafe(no_mangle)]
-pub extern "C" fn encoding_mem_convert_utf16_to_latin1_lossy(src: &[u16], dst: &mut [u8]) -> usize
+pub extern "C" fn encoding_text_mem_convert_utf16_to_latin1_lossy(
+    src: &[u16],
+    dst: &mut [u8],
+) -> usize
     ensures written { length src.now ≤ length dst.old
         → (result ≡ length src.now) × WritesFront dst.old dst.new result (map (λ unit. unit % 0x100) src.now) }
     ensures refused { length dst.old < length src.now → (result ≡ usize.MAX) × (dst.new ≡ dst.old) }
@@ -130,7 +135,7 @@ pub extern "C" fn encoding_mem_convert_utf16_to_latin1_lossy(src: &[u16], dst: &
 /// Converts bytes to UTF-16 with U+FFFD for each broken part, and returns how many code units were written. Behind what is
 /// written `dst` is as before. `REFUSED` where `dst` isn't longer than `src`.
 #[unsafe(no_mangle)]
-pub extern "C" fn encoding_mem_convert_utf8_to_utf16(src: &[u8], dst: &mut [u16]) -> usize
+pub extern "C" fn encoding_text_mem_convert_utf8_to_utf16(src: &[u8], dst: &mut [u16]) -> usize
     ensures written { length src.now < length dst.old → (parts : List Part) × ArePartsOf src.now parts
         × WritesFront dst.old dst.new result (repaired_utf16 parts) }
     ensures refused { length dst.old ≤ length src.now → (result ≡ usize.MAX) × (dst.new ≡ dst.old) }
@@ -144,7 +149,7 @@ pub extern "C" fn encoding_mem_convert_utf8_to_utf16(src: &[u8], dst: &mut [u16]
 /// Converts a text to UTF-16, and returns how many code units were written. Behind what is written `dst` is as before.
 /// `REFUSED` where `dst` is shorter than `src`, or the bytes are no text.
 #[unsafe(no_mangle)]
-pub extern "C" fn encoding_mem_convert_str_to_utf16(src: &[u8], dst: &mut [u16]) -> usize
+pub extern "C" fn encoding_text_mem_convert_str_to_utf16(src: &[u8], dst: &mut [u16]) -> usize
     ensures written { length src.now ≤ length dst.old → IsUtf8 src.now
         → WritesFront dst.old dst.new result (flat_map encode_utf16 (chars src.now)) }
     ensures too_short { length dst.old < length src.now → (result ≡ usize.MAX) × (dst.new ≡ dst.old) }
@@ -162,7 +167,7 @@ pub extern "C" fn encoding_mem_convert_str_to_utf16(src: &[u8], dst: &mut [u16])
 /// Converts the longest well-formed front to UTF-16. `read` is its length, and so the length of `src` exactly where all of
 /// it is well-formed. Behind what is written `dst` is as before. `REFUSED` twice where `dst` is shorter than `src`.
 #[unsafe(no_mangle)]
-pub extern "C" fn encoding_mem_convert_utf8_to_utf16_without_replacement(
+pub extern "C" fn encoding_text_mem_convert_utf8_to_utf16_without_replacement(
     src: &[u8],
     dst: &mut [u16],
 ) -> EncodingCounts
@@ -184,7 +189,7 @@ pub extern "C" fn encoding_mem_convert_utf8_to_utf16_without_replacement(
 /// Converts the first characters of `src` from UTF-16 to UTF-8, as many as fit, with U+FFFD for each surrogate that is in
 /// no pair. Behind what is written `dst` is as before.
 #[unsafe(no_mangle)]
-pub extern "C" fn encoding_mem_convert_utf16_to_utf8_partial(
+pub extern "C" fn encoding_text_mem_convert_utf16_to_utf8_partial(
     src: &[u16],
     dst: &mut [u8],
 ) -> EncodingCounts
@@ -198,7 +203,7 @@ pub extern "C" fn encoding_mem_convert_utf16_to_utf8_partial(
 /// Converts all of `src` from UTF-16 to UTF-8, and returns how many bytes were written. Behind what is written `dst` is as
 /// before. `REFUSED` where `dst` is less than three times as long as `src`.
 #[unsafe(no_mangle)]
-pub extern "C" fn encoding_mem_convert_utf16_to_utf8(src: &[u16], dst: &mut [u8]) -> usize
+pub extern "C" fn encoding_text_mem_convert_utf16_to_utf8(src: &[u16], dst: &mut [u8]) -> usize
     ensures all { 3 * length src.now ≤ length dst.old → IsUtf8OfUnits src.now (take result dst.new) }
     ensures rest { 3 * length src.now ≤ length dst.old → WritesFront dst.old dst.new result (take result dst.new) }
     ensures refused { length dst.old < 3 * length src.now → (result ≡ usize.MAX) × (dst.new ≡ dst.old) }

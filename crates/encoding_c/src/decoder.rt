@@ -150,7 +150,7 @@ fn decoded(ended: DecoderResult, read: usize, written: usize) -> EncodingDecoded
 
 /// Makes a decoder with nothing pending.
 #[unsafe(no_mangle)]
-pub extern "C" fn encoding_utf8_decoder_new(decoder: &mut EncodingUtf8Decoder)
+pub extern "C" fn encoding_text_utf8_decoder_new(decoder: &mut EncodingUtf8Decoder)
     ensures { StandsFor decoder.new [] }
 {
     *decoder = EncodingUtf8Decoder {
@@ -161,7 +161,7 @@ pub extern "C" fn encoding_utf8_decoder_new(decoder: &mut EncodingUtf8Decoder)
 
 /// Whether nothing is pending.
 #[unsafe(no_mangle)]
-pub extern "C" fn encoding_utf8_decoder_in_neutral_state(decoder: &EncodingUtf8Decoder) -> bool
+pub extern "C" fn encoding_text_utf8_decoder_in_neutral_state(decoder: &EncodingUtf8Decoder) -> bool
     ensures { (p : List ℕ) × StandsFor decoder.now p × (IsTrue result ↔ (p ≡ [])) }
 {
     restored(*decoder).in_neutral_state()
@@ -170,7 +170,7 @@ pub extern "C" fn encoding_utf8_decoder_in_neutral_state(decoder: &EncodingUtf8D
 /// How many UTF-16 code units hold all that the next `byte_length` bytes may become, also with U+FFFD for each report:
 /// `usize::MAX` where that number is no less.
 #[unsafe(no_mangle)]
-pub extern "C" fn encoding_utf8_decoder_max_utf16_buffer_length(
+pub extern "C" fn encoding_text_utf8_decoder_max_utf16_buffer_length(
     decoder: &EncodingUtf8Decoder,
     byte_length: usize,
 ) -> usize
@@ -186,7 +186,7 @@ pub extern "C" fn encoding_utf8_decoder_max_utf16_buffer_length(
 /// How many bytes hold all that the next `byte_length` bytes may become, where nothing is written for reports:
 /// `usize::MAX` where that number is no less.
 #[unsafe(no_mangle)]
-pub extern "C" fn encoding_utf8_decoder_max_utf8_buffer_length_without_replacement(
+pub extern "C" fn encoding_text_utf8_decoder_max_utf8_buffer_length_without_replacement(
     decoder: &EncodingUtf8Decoder,
     byte_length: usize,
 ) -> usize
@@ -202,7 +202,7 @@ pub extern "C" fn encoding_utf8_decoder_max_utf8_buffer_length_without_replaceme
 /// How many bytes hold all that the next `byte_length` bytes may become, with U+FFFD for each report: `usize::MAX` where
 /// that number is no less.
 #[unsafe(no_mangle)]
-pub extern "C" fn encoding_utf8_decoder_max_utf8_buffer_length(
+pub extern "C" fn encoding_text_utf8_decoder_max_utf8_buffer_length(
     decoder: &EncodingUtf8Decoder,
     byte_length: usize,
 ) -> usize
@@ -218,7 +218,7 @@ pub extern "C" fn encoding_utf8_decoder_max_utf8_buffer_length(
 
 /// Decodes the next bytes to UTF-16. `last` says that none will follow `src`. Behind what is written `dst` is as before.
 #[unsafe(no_mangle)]
-pub extern "C" fn encoding_utf8_decoder_decode_to_utf16(
+pub extern "C" fn encoding_text_utf8_decoder_decode_to_utf16(
     decoder: &mut EncodingUtf8Decoder,
     src: &[u8],
     dst: &mut [u16],
@@ -240,7 +240,7 @@ pub extern "C" fn encoding_utf8_decoder_decode_to_utf16(
 
 /// Decodes the next bytes to UTF-8. `last` says that none will follow `src`. Behind what is written `dst` is as before.
 #[unsafe(no_mangle)]
-pub extern "C" fn encoding_utf8_decoder_decode_to_utf8(
+pub extern "C" fn encoding_text_utf8_decoder_decode_to_utf8(
     decoder: &mut EncodingUtf8Decoder,
     src: &[u8],
     dst: &mut [u8],
@@ -263,7 +263,7 @@ pub extern "C" fn encoding_utf8_decoder_decode_to_utf8(
 
 /// Decodes the next bytes without a destination: what they begin with, and how many of them were read.
 #[unsafe(no_mangle)]
-pub extern "C" fn encoding_utf8_decoder_decode_borrowed(
+pub extern "C" fn encoding_text_utf8_decoder_decode_borrowed(
     decoder: &mut EncodingUtf8Decoder,
     src: &[u8],
     last: bool,

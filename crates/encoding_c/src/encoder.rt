@@ -6,8 +6,7 @@ ghost use Rattle.encoding_definitions.specs.Utf16.{IsHighSurrogate};
 ghost use Rattle.encoding_text.specs.Encoding.{IsHeld, IsEncoderCall, IsEncoderTextCall};
 ghost use Rattle.encoding_c.specs.States.{Holds, IsKept, IsToldEncoded, EncoderCall};
 
-use crate::checks::as_text;
-use crate::door::NO_TEXT;
+use crate::door::{REFUSED_ANSWER, as_text};
 use encoding_text::utf_8::{EncoderResult, Utf8Encoder};
 
 /// An encoder between two calls: the high surrogate that it holds. What is no high surrogate is taken for an encoder that
@@ -94,7 +93,7 @@ fn number(ended: &EncoderResult) -> u8
 
 /// Makes an encoder that holds nothing.
 #[unsafe(no_mangle)]
-pub extern "C" fn encoding_utf8_encoder_new(encoder: &mut EncodingUtf8Encoder)
+pub extern "C" fn encoding_text_utf8_encoder_new(encoder: &mut EncodingUtf8Encoder)
     ensures { Holds encoder.new [] }
 {
     *encoder = EncodingUtf8Encoder { held: 0 };
@@ -103,7 +102,7 @@ pub extern "C" fn encoding_utf8_encoder_new(encoder: &mut EncodingUtf8Encoder)
 /// How many bytes hold all that `u16_length` code units and what is held may become: `usize::MAX` where that number is no
 /// less.
 #[unsafe(no_mangle)]
-pub extern "C" fn encoding_utf8_encoder_max_buffer_length_from_utf16_without_replacement(
+pub extern "C" fn encoding_text_utf8_encoder_max_buffer_length_from_utf16_without_replacement(
     encoder: &EncodingUtf8Encoder,
     u16_length: usize,
 ) -> usize
@@ -119,7 +118,7 @@ pub extern "C" fn encoding_utf8_encoder_max_buffer_length_from_utf16_without_rep
 /// How many bytes hold all that a text of `byte_length` bytes and what is held may become: `usize::MAX` where that number
 /// is no less.
 #[unsafe(no_mangle)]
-pub extern "C" fn encoding_utf8_encoder_max_buffer_length_from_utf8_without_replacement(
+pub extern "C" fn encoding_text_utf8_encoder_max_buffer_length_from_utf8_without_replacement(
     encoder: &EncodingUtf8Encoder,
     byte_length: usize,
 ) -> usize
@@ -135,7 +134,7 @@ pub extern "C" fn encoding_utf8_encoder_max_buffer_length_from_utf8_without_repl
 /// Encodes the held code unit and then those of `src`. `last` marks the last call. Behind what is written `dst` is as
 /// before.
 #[unsafe(no_mangle)]
-pub extern "C" fn encoding_utf8_encoder_encode_from_utf16(
+pub extern "C" fn encoding_text_utf8_encoder_encode_from_utf16(
     encoder: &mut EncodingUtf8Encoder,
     src: &[u16],
     dst: &mut [u8],
@@ -159,10 +158,10 @@ pub extern "C" fn encoding_utf8_encoder_encode_from_utf16(
     }
 }
 
-/// Encodes U+FFFD for a held code unit and then the text. Behind what is written `dst` is as before. `NO_TEXT` where the
+/// Encodes U+FFFD for a held code unit and then the text. Behind what is written `dst` is as before. `REFUSED_ANSWER` where the
 /// bytes are no text: then nothing is read or written.
 #[unsafe(no_mangle)]
-pub extern "C" fn encoding_utf8_encoder_encode_from_utf8(
+pub extern "C" fn encoding_text_utf8_encoder_encode_from_utf8(
     encoder: &mut EncodingUtf8Encoder,
     src: &[u8],
     dst: &mut [u8],
@@ -173,14 +172,14 @@ pub extern "C" fn encoding_utf8_encoder_encode_from_utf8(
         × (length src.now + 3 * length held ≤ length dst.old → ended ≡ EncoderResult.InputEmpty)) }
     ensures within { result.read ≤ length src.now }
     ensures rest { WritesFront dst.old dst.new result.written (take result.written dst.new) }
-    ensures refused { ¬ (IsUtf8 src.now) → (result.result ≡ 3) × (result.read ≡ 0) × (result.written ≡ 0)
+    ensures refused { ¬ (IsUtf8 src.now) → (result.result ≡ u8.MAX) × (result.read ≡ 0) × (result.written ≡ 0)
         × (encoder.new ≡ encoder.old) }
 {
     let Some(text) = as_text(src) else {
         return EncodingEncoded {
             read: 0,
             written: 0,
-            result: NO_TEXT,
+            result: REFUSED_ANSWER,
         };
     };
     let before = *encoder;

@@ -19,3 +19,4 @@ pub mod repair;
 pub mod surrogates;
 pub mod text_destinations;
 pub mod utf_8;
+pub mod version;

@@ -66,7 +66,7 @@ impl<'a> Sink for Buffer<'a> {
 /// Writes `src` with U+FFFD for each broken part, and returns how many bytes that are and how many parts were broken.
 /// Behind what is written `dst` is as before. `REFUSED` bytes where `dst` is less than three times as long as `src`.
 #[unsafe(no_mangle)]
-pub extern "C" fn encoding_repair_slice(src: &[u8], dst: &mut [u8]) -> EncodingRepaired
+pub extern "C" fn encoding_text_repair_slice(src: &[u8], dst: &mut [u8]) -> EncodingRepaired
     ensures written { 3 * length src.now ≤ length dst.old
         → (text : List ℕ) × IsRepairedWith src.now text result.replaced × WritesFront dst.old dst.new result.written text }
     ensures refused { length dst.old < 3 * length src.now

@@ -20,7 +20,7 @@ fn is_text(bytes: &[u8]) -> bool
 /// Converts the first characters of `src` from UTF-16 to UTF-8, as many as fit. Then the continuation bytes directly
 /// behind what is written become zero, and behind those `dst` is as before. `REFUSED` twice where `dst` is no text.
 #[unsafe(no_mangle)]
-pub extern "C" fn encoding_mem_convert_utf16_to_str_partial(
+pub extern "C" fn encoding_text_mem_convert_utf16_to_str_partial(
     src: &[u16],
     dst: &mut [u8],
 ) -> EncodingCounts
@@ -45,7 +45,7 @@ pub extern "C" fn encoding_mem_convert_utf16_to_str_partial(
 /// directly behind become zero, and behind those `dst` is as before. `REFUSED` where `dst` is no text, or less than three
 /// times as long as `src`.
 #[unsafe(no_mangle)]
-pub extern "C" fn encoding_mem_convert_utf16_to_str(src: &[u16], dst: &mut [u8]) -> usize
+pub extern "C" fn encoding_text_mem_convert_utf16_to_str(src: &[u16], dst: &mut [u8]) -> usize
     ensures all { IsUtf8 dst.old → 3 * length src.now ≤ length dst.old → IsUtf8OfUnits src.now (take result dst.new) }
     ensures rest { IsUtf8 dst.old → 3 * length src.now ≤ length dst.old
         → WritesAndClears 0 dst.old dst.new result (take result dst.new) }
@@ -63,7 +63,7 @@ pub extern "C" fn encoding_mem_convert_utf16_to_str(src: &[u16], dst: &mut [u8])
 /// all where there are fewer, and the continuation bytes directly behind those become zero. Behind all these `dst` is as
 /// before. `REFUSED` twice where `dst` is no text.
 #[unsafe(no_mangle)]
-pub extern "C" fn encoding_mem_convert_latin1_to_str_partial(
+pub extern "C" fn encoding_text_mem_convert_latin1_to_str_partial(
     src: &[u8],
     dst: &mut [u8],
 ) -> EncodingCounts
@@ -89,7 +89,7 @@ pub extern "C" fn encoding_mem_convert_latin1_to_str_partial(
 /// there are fewer, and the continuation bytes directly behind those become zero. Behind all these `dst` is as before.
 /// `REFUSED` where `dst` is no text, or less than twice as long as `src`.
 #[unsafe(no_mangle)]
-pub extern "C" fn encoding_mem_convert_latin1_to_str(src: &[u8], dst: &mut [u8]) -> usize
+pub extern "C" fn encoding_text_mem_convert_latin1_to_str(src: &[u8], dst: &mut [u8]) -> usize
     ensures written { IsUtf8 dst.old → 2 * length src.now ≤ length dst.old
         → WritesAndClears 16 dst.old dst.new result (encode_utf8_all src.now) }
     ensures text { IsUtf8 dst.old → IsUtf8 dst.new }

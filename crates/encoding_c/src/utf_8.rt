@@ -11,7 +11,7 @@ use encoding_text::utf_8;
 
 /// The length in bytes of the longest front that is well-formed UTF-8.
 #[unsafe(no_mangle)]
-pub extern "C" fn encoding_utf8_valid_up_to(src: &[u8]) -> usize
+pub extern "C" fn encoding_text_utf8_valid_up_to(src: &[u8]) -> usize
     ensures { IsLongestFront IsUtf8 src.now result }
 {
     utf_8::utf8_valid_up_to(src)
@@ -20,7 +20,7 @@ pub extern "C" fn encoding_utf8_valid_up_to(src: &[u8]) -> usize
 /// Of the characters of the longest well-formed front, reads and writes as UTF-16 the most that fit. Behind what is
 /// written `dst` is as before.
 #[unsafe(no_mangle)]
-pub extern "C" fn encoding_convert_utf8_to_utf16_up_to_invalid(
+pub extern "C" fn encoding_text_convert_utf8_to_utf16_up_to_invalid(
     src: &[u8],
     dst: &mut [u16],
 ) -> EncodingCounts
@@ -33,7 +33,7 @@ pub extern "C" fn encoding_convert_utf8_to_utf16_up_to_invalid(
 /// The UTF-8 of a front of whole characters: all is read, or at most three bytes are free. Behind what is written `dst`
 /// is as before.
 #[unsafe(no_mangle)]
-pub extern "C" fn encoding_convert_utf16_to_utf8_partial_inner(
+pub extern "C" fn encoding_text_convert_utf16_to_utf8_partial_inner(
     src: &[u16],
     dst: &mut [u8],
 ) -> EncodingCounts
@@ -48,7 +48,7 @@ pub extern "C" fn encoding_convert_utf16_to_utf8_partial_inner(
 /// The most first characters that fit into at most three bytes. Behind what is written `dst` is as before. `REFUSED`
 /// twice where `src` is empty or `dst` longer than three bytes.
 #[unsafe(no_mangle)]
-pub extern "C" fn encoding_convert_utf16_to_utf8_partial_tail(
+pub extern "C" fn encoding_text_convert_utf16_to_utf8_partial_tail(
     src: &[u16],
     dst: &mut [u8],
 ) -> EncodingCounts

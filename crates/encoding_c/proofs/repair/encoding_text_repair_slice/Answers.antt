@@ -1,7 +1,7 @@
 use Rattle.std.proofs.Common.{◌≡◌, ◌∙◌, sym, length, arith, ap, refl, Err, take}
 use Rattle.std.proofs.lemmas.List.{length-append, length-take}
 use Rattle.encoding_c.proofs.RepairLemmas.{stops_short}
-use Rattle.encoding_c.proofs.repair.encoding_repair_slice.Goals as goal
+use Rattle.encoding_c.proofs.repair.encoding_text_repair_slice.Goals as goal
 
 pub unreachable-requires : goal.unreachable-requires
 unreachable-requires c =

@@ -1,7 +1,7 @@
 use Rattle.std.proofs.Common.{subst, sym, IsUtf8}
 use Rattle.encoding_definitions.specs.Fronts.{IsLongestFront}
 use Rattle.encoding_text.proofs.Conversions.ToUtf16Lemmas.{whole_fits, text_front}
-use Rattle.encoding_c.proofs.conversions.encoding_mem_convert_utf8_to_utf16_without_replacement.Goals as goal
+use Rattle.encoding_c.proofs.conversions.encoding_text_mem_convert_utf8_to_utf16_without_replacement.Goals as goal
 
 pub returns-clause-front : goal.returns-clause-front
 returns-clause-front c room =
