@@ -6,10 +6,10 @@ pub mod LaneLemmas
 pub mod LongLemmas
 pub mod NarrowLemmas
 pub mod PlacesLemmas
+pub mod PlainLemmas
 pub mod PutLemmas
 pub mod SpellingLemmas
 pub mod StoresLemmas
-pub mod StridesLemmas
 pub mod TestLemmas
 pub mod UnitBytesLemmas
 pub mod UnitLanesLemmas

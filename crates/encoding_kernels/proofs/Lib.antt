@@ -5,3 +5,4 @@ pub mod LongestFronts
 pub mod CodeUnits
 pub mod Paired
 pub mod Bidi
+pub mod Sums

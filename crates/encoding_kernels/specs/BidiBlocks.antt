@@ -1,5 +1,5 @@
 -- Right-to-left characters by their first two bytes, and the places of bytes and code units where none begins.
-use Rattle.std.specs.Prelude.{◌≡◌, ℕ, ◌<◌, ◌≤◌, ◌&&◌, List, ◌++◌, drop, encode_utf8, slice_index, if◌then◌else◌, nat_le, nat_eq}
+use Rattle.std.specs.Prelude.{◌≡◌, ℕ, ◌+◌, ◌-◌, ◌%◌, ◌^◌, ◌<◌, ◌≤◌, ◌&&◌, ◌||◌, Bool, List, ◌++◌, drop, encode_utf8, slice_index, if◌then◌else◌, nat_le, nat_lt, nat_eq}
 use Rattle.std.specs.Char.{IsScalar}
 use Rattle.encoding_definitions.specs.Bidi.{IsRightToLeft, IsRightToLeftUnit}
 
@@ -26,3 +26,11 @@ pub record NoneStands (bs : List ℕ) (from to : ℕ) : Type 0 where
 -- none of the code units from one place up to another is right-to-left
 pub record NoneRightToLeft (us : List ℕ) (from to : ℕ) : Type 0 where
   pub each : (k : ℕ) → from ≤ k → k < to → IsRightToLeftUnit (slice_index us k) → ⊥
+
+-- a code unit is one of so many from one on, by one comparison
+abbrev pub in_range : ℕ → ℕ → ℕ → Bool
+in_range from count u = nat_lt ((u + (2 ^ 16 - from)) % 2 ^ 16) count
+
+-- a code unit is in one of four ranges, which hold the right-to-left ones and some more
+abbrev pub may_be_right_to_left : ℕ → Bool
+may_be_right_to_left u = (in_range 0x0590 0x0370 u || in_range 0x200F 0x0059 u) || (in_range 0xD802 0x003A u || in_range 0xFB1D 0x03E2 u)

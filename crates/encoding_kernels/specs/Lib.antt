@@ -1,4 +1,5 @@
 pub mod Following
+pub mod Places
 pub mod Strides
 pub mod Lanes
 pub mod Spelling
@@ -6,3 +7,4 @@ pub mod Units
 pub mod Halves
 pub mod BidiBlocks
 pub mod Pairs
+pub mod Lengths

@@ -1,5 +1,5 @@
 -- Units of which some come in pairs, as a rule on each and the one before it, with zero before the first.
-use Rattle.std.specs.Prelude.{ℕ, ◌<◌, ◌≤◌, ◌↔◌, List, ◌∷◌, slice_index}
+use Rattle.std.specs.Prelude.{ℕ, ◌<◌, ◌≤◌, ◌↔◌, Bool, not, ◌||◌, if◌then◌else◌, nat_eq, nat_le, List, ◌∷◌, slice_index, bit_and}
 use Rattle.encoding_definitions.specs.Sequence.{IsContinuation}
 use Rattle.encoding_definitions.specs.Utf16.{IsHighSurrogate, IsLowSurrogate}
 
@@ -20,3 +20,13 @@ pub record FitsLatin1 (before byte : ℕ) : Type 0 where
 -- the same of the bytes at the places from one up to another
 pub record FitLatin1 (bs : List ℕ) (from to : ℕ) : Type 0 where
   pub each : (k : ℕ) → from ≤ k → k < to → FitsLatin1 (slice_index (0 ∷ bs) k) (slice_index bs k)
+
+-- a code unit is a low surrogate, or the one before it a high one, and not both
+abbrev pub pair_fault : ℕ → ℕ → Bool
+pair_fault unit before = let low = nat_eq (bit_and unit 0xFC00) 0xDC00 in let high = nat_eq (bit_and before 0xFC00) 0xD800 in (if low then not high else high)
+
+-- a byte doesn't fit in Latin1 behind the one before it
+abbrev pub latin1_fault : ℕ → ℕ → Bool
+latin1_fault byte before =
+    let lead = nat_le 0xC0 before in
+    (if nat_eq (bit_and byte 0xC0) 0x80 then not lead else lead) || (nat_eq (bit_and byte 0xFE) 0xC0 || nat_le 0xC4 byte)

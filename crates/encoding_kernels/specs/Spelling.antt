@@ -32,3 +32,19 @@ both_end (a ∷ b ∷ xs) = (nat_lt a 0xC0 && nat_lt b 0xC0) ∷ both_end xs
 -- a and b behind p end the bytes x and y, or x alone
 abbrev pub EndsPair : ℕ → ℕ → ℕ → ℕ → ℕ → Type 0
 EndsPair p a b x y = (a < 0xC0) ⊎ (b < 0xC0) → (if nat_lt a 0xC0 && nat_lt b 0xC0 then x ∷ y ∷ [] else x ∷ []) ≡ ended p a ++ ended a b
+
+-- of four bytes for each two tests, from a place on, the last one where the first test holds, else the last two where the
+-- second does, else the last three
+abbrev pub last_places : ℕ → List Bool → List ℕ
+last_places at [] = []
+last_places at (b ∷ []) = []
+last_places at (ascii ∷ short ∷ bs) = (if ascii then (at + 3) ∷ [] else (if short then (at + 2) ∷ (at + 3) ∷ [] else (at + 1) ∷ (at + 2) ∷ (at + 3) ∷ [])) ++ last_places (at + 4) bs
+
+-- of each code unit, whether it is ASCII, and whether it is below U+0800
+abbrev pub classes : List ℕ → List Bool
+classes [] = []
+classes (u ∷ us) = nat_lt u 0x80 ∷ nat_lt u 0x800 ∷ classes us
+
+-- the UTF-8 of the code unit is the last one, two or three of these bytes
+abbrev pub SpellsLast : ℕ → ℕ → ℕ → ℕ → Type 0
+SpellsLast unit x y z = (if nat_lt unit 0x80 then z ∷ [] else (if nat_lt unit 0x800 then y ∷ z ∷ [] else x ∷ y ∷ z ∷ [])) ≡ encode_utf8 unit

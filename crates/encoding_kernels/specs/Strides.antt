@@ -1,20 +1,26 @@
 -- Parts of a list whose units are below a bound.
-use Rattle.std.specs.Prelude.{ℕ, ◌+◌, ◌<◌, ◌≤◌, List, slice_index}
+use Rattle.std.specs.Prelude.{ℕ, ◌+◌, ◌<◌, ◌≤◌, List, length, take, slice_index}
+use Rattle.encoding_definitions.specs.Fronts.{WritesFront}
+use Rattle.encoding_kernels.specs.Places.{PassBetween, IsRun}
+
+-- each unit from one place up to another is below the bound
+abbrev pub BelowBetween : ℕ → List ℕ → ℕ → ℕ → Type 0
+BelowBetween bound xs = PassBetween (λ k. slice_index xs k < bound)
 
 -- each of the n units from a place on is below the bound
 abbrev pub AllBelow : ℕ → List ℕ → ℕ → ℕ → Type 0
-AllBelow bound xs at n = (k : ℕ) → at ≤ k → k < at + n → slice_index xs k < bound
+AllBelow bound xs at n = BelowBetween bound xs at (at + n)
 
 -- each unit before the place is below the bound
 abbrev pub BelowUpTo : ℕ → List ℕ → ℕ → Type 0
 BelowUpTo bound xs place = (k : ℕ) → k < place → slice_index xs k < bound
 
--- each unit from one place up to another is below the bound
-abbrev pub BelowBetween : ℕ → List ℕ → ℕ → ℕ → Type 0
-BelowBetween bound xs from to = (k : ℕ) → from ≤ k → k < to → slice_index xs k < bound
-
 -- of the n units from a place on, so many first ones are below the bound, and the next, if there is one, isn't
-pub record IsRunBelow (bound : ℕ) (xs : List ℕ) (at n run : ℕ) : Type 0 where
-  pub within : run ≤ n
-  pub below : AllBelow bound xs at run
-  pub stops : run < n → bound ≤ slice_index xs (at + run)
+abbrev pub IsRunBelow : ℕ → List ℕ → ℕ → ℕ → ℕ → Type 0
+IsRunBelow bound xs = IsRun (λ k. slice_index xs k < bound)
+
+-- the units from one place up to another are ASCII and copied to the same places: a front that is ASCII and written up to the one is so up to the other
+pub record CopiesAscii (src old new : List ℕ) (from to : ℕ) : Type 0 where
+  pub within : (to ≤ length src) × (to ≤ length old)
+  pub ascii : BelowUpTo 0x80 src from → BelowUpTo 0x80 src to
+  pub copied : (first : List ℕ) → WritesFront first old from (take from src) → WritesFront first new to (take to src)

@@ -1,10 +1,10 @@
 //! Right-to-left characters by blocks: that none begins in a block is seen by one test of vectors.
-ghost use Rattle.std.specs.Prelude.{◌+◌, ◌<◌, ◌≤◌, length, slice_index, IsTrue};
-ghost use Rattle.encoding_kernels.specs.BidiBlocks.{second_end, NoneStands, NoneRightToLeft};
+ghost use Rattle.std.specs.Prelude.{◌≡◌, false, ◌+◌, ◌-◌, ◌≤◌, length, slice_index};
+ghost use Rattle.encoding_kernels.specs.BidiBlocks.{second_end, NoneStands, NoneRightToLeft, may_be_right_to_left};
 ghost use Rattle.encoding_kernels.specs.Lanes.{HasLanes};
-ghost use Rattle.encoding_kernels.specs.Strides.{BelowUpTo};
 
-use crate::strides::{are_bytes_below, skip_units_below};
+use crate::places::{Places, all, reach, skip};
+use crate::strides::{BytesBelow, UnitsBelow};
 use std::simd::Simd;
 use std::simd::prelude::*;
 
@@ -48,30 +48,29 @@ fn second_ends<const N: usize>(first: Simd<u8, N>) -> Simd<u8, N>
             .select(Simd::splat(0x9F), none)
 }
 
-/// Whether no right-to-left character can stand at one of the N places from `at` on.
-#[inline(always)]
-fn is_clear<const N: usize>(bytes: &[u8], at: usize) -> bool
-    requires { (at + N < length bytes.now) × (N ≤ 64) }
-    ensures { IsTrue result → NoneStands bytes.now at (at + N) }
-{
-    let ends = second_ends(Simd::<u8, N>::from_slice(&bytes[at..]));
-    !Simd::<u8, N>::from_slice(&bytes[at + 1..])
-        .simd_lt(ends)
-        .any()
+/// Places of bytes at which no right-to-left character can stand.
+#[derive(Drop)]
+struct ClearBytes<'a> {
+    bytes: &'a [u8],
 }
 
-/// Goes on from a place by blocks of bytes below those that right-to-left characters begin with.
-#[inline(always)]
-fn skip_low(bytes: &[u8], from: usize) -> usize
-    requires { from ≤ length bytes.now }
-    ensures within { (from ≤ result) × (result ≤ length bytes.now) }
-    ensures none { NoneStands bytes.now from result }
-{
-    let mut at = from;
-    while bytes.len() - at >= BLOCK && are_bytes_below::<BLOCK>(bytes, at, FIRST_LEAD) {
-        at += BLOCK;
+impl<'a, const N: usize> Places<N> for ClearBytes<'a> {
+    ghost count = { λ s. length s.bytes.now - 1 };
+
+    ghost passes = { λ s k. second_end (slice_index s.bytes.now k) ≤ slice_index s.bytes.now (k + 1) };
+
+    #[inline(always)]
+    fn len(&self) -> usize {
+        self.bytes.len().saturating_sub(1)
     }
-    at
+
+    #[inline(always)]
+    fn failing(&self, at: usize) -> u64 {
+        let bytes = self.bytes;
+        let ends = second_ends(Simd::<u8, N>::from_slice(&bytes[at..]));
+        let below = Simd::<u8, N>::from_slice(&bytes[at + 1..]).simd_lt(ends);
+        below.to_bitmask()
+    }
 }
 
 /// Goes on from a place by blocks at which no right-to-left character can stand, and returns where that ends.
@@ -80,60 +79,49 @@ pub fn skip_clear(bytes: &[u8], from: usize) -> usize
     ensures within { (from ≤ result) × (result ≤ length bytes.now) }
     ensures none { NoneStands bytes.now from result }
 {
+    let test = ClearBytes { bytes };
+    let low = BytesBelow {
+        bytes,
+        bound: FIRST_LEAD,
+    };
     let mut at = from;
-    while bytes.len() - at > BLOCK && is_clear::<BLOCK>(bytes, at) {
-        at = skip_low(bytes, at + BLOCK);
+    while bytes.len() - at > BLOCK && all::<BLOCK, BLOCK, _>(&test, at) {
+        at = skip::<BLOCK, BLOCK, _>(&low, at + BLOCK);
     }
-    while bytes.len() - at > STRIDE {
-        if !is_clear::<STRIDE>(bytes, at) {
-            return at;
-        }
-        at += STRIDE;
+    if at == bytes.len() {
+        return at;
     }
-    // the last stride overlaps the one before
-    if at < bytes.len()
-        && bytes.len() > STRIDE
-        && is_clear::<STRIDE>(bytes, bytes.len() - 1 - STRIDE)
-    {
-        return bytes.len();
-    }
-    at
+    let end = reach::<STRIDE, STRIDE, _>(&test, at);
+    // no character of two bytes begins with the last one
+    if end + 1 == bytes.len() { end + 1 } else { end }
 }
 
-/// How many code units come before the first that isn't below the bound.
-#[inline(always)]
-pub fn units_below(units: &[u16], bound: u16) -> usize
-    ensures within { result ≤ length units.now }
-    ensures below { BelowUpTo bound units.now result }
-    ensures stops { result < length units.now → bound ≤ slice_index units.now result }
-{
-    let by_blocks = skip_units_below::<UNIT_BLOCK>(units, 0, bound);
-    let by_strides = skip_units_below::<UNIT_STRIDE>(units, by_blocks, bound);
-    skip_units_below::<1>(units, by_strides, bound)
+/// Places of code units that aren't right-to-left, by four ranges that hold those and some more.
+#[derive(Drop)]
+struct ClearUnits<'a> {
+    units: &'a [u16],
 }
 
-/// Whether none of the N code units from `at` on is right-to-left, by four ranges that hold those and some more.
-#[inline(always)]
-fn are_units_clear<const N: usize>(units: &[u16], at: usize) -> bool
-    requires { (at + N ≤ length units.now) × (N ≤ 64) }
-    ensures { IsTrue result → NoneRightToLeft units.now at (at + N) }
-{
-    let block = Simd::<u16, N>::from_slice(&units[at..]);
-    let scripts = (block - Simd::splat(0x0590)).simd_lt(Simd::splat(0x0370));
-    let controls = (block - Simd::splat(0x200F)).simd_lt(Simd::splat(0x0059));
-    let halves = (block - Simd::splat(0xD802)).simd_lt(Simd::splat(0x003A));
-    let forms = (block - Simd::splat(0xFB1D)).simd_lt(Simd::splat(0x03E2));
-    !((scripts | controls) | (halves | forms)).any()
-}
+impl<'a, const N: usize> Places<N> for ClearUnits<'a> {
+    ghost count = { λ s. length s.units.now };
 
-/// Goes on from a place by blocks of code units below the right-to-left ones.
-#[inline(always)]
-fn skip_low_units(units: &[u16], from: usize) -> usize
-    requires { from ≤ length units.now }
-    ensures within { (from ≤ result) × (result ≤ length units.now) }
-    ensures none { NoneRightToLeft units.now from result }
-{
-    from + skip_units_below::<UNIT_BLOCK>(&units[from..], 0, FIRST_UNIT)
+    ghost passes = { λ s k. may_be_right_to_left (slice_index s.units.now k) ≡ false };
+
+    #[inline(always)]
+    fn len(&self) -> usize {
+        self.units.len()
+    }
+
+    #[inline(always)]
+    fn failing(&self, at: usize) -> u64 {
+        let units = self.units;
+        let block = Simd::<u16, N>::from_slice(&units[at..]);
+        let scripts = (block - Simd::splat(0x0590)).simd_lt(Simd::splat(0x0370));
+        let controls = (block - Simd::splat(0x200F)).simd_lt(Simd::splat(0x0059));
+        let halves = (block - Simd::splat(0xD802)).simd_lt(Simd::splat(0x003A));
+        let forms = (block - Simd::splat(0xFB1D)).simd_lt(Simd::splat(0x03E2));
+        ((scripts | controls) | (halves | forms)).to_bitmask()
+    }
 }
 
 /// Goes on from a place by blocks of code units that aren't right-to-left, and returns where that ends.
@@ -142,20 +130,14 @@ pub fn skip_clear_units(units: &[u16], from: usize) -> usize
     ensures within { (from ≤ result) × (result ≤ length units.now) }
     ensures none { NoneRightToLeft units.now from result }
 {
+    let test = ClearUnits { units };
+    let low = UnitsBelow {
+        units,
+        bound: FIRST_UNIT,
+    };
     let mut at = from;
-    while units.len() - at >= UNIT_BLOCK && are_units_clear::<UNIT_BLOCK>(units, at) {
-        at = skip_low_units(units, at + UNIT_BLOCK);
+    while units.len() - at >= UNIT_BLOCK && all::<UNIT_BLOCK, UNIT_BLOCK, _>(&test, at) {
+        at = skip::<UNIT_BLOCK, UNIT_BLOCK, _>(&low, at + UNIT_BLOCK);
     }
-    while units.len() - at >= UNIT_STRIDE {
-        if !are_units_clear::<UNIT_STRIDE>(units, at) {
-            return at;
-        }
-        at += UNIT_STRIDE;
-    }
-    // the last stride overlaps the one before
-    let last = units.len() - UNIT_STRIDE.min(units.len());
-    if 0 < last && are_units_clear::<UNIT_STRIDE>(units, last) {
-        return units.len();
-    }
-    at
+    reach::<UNIT_STRIDE, UNIT_STRIDE, _>(&test, at)
 }

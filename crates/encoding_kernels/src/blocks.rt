@@ -3,9 +3,10 @@
 ghost use Rattle.std.specs.Prelude.{◌≡◌, ℕ, ◌+◌, ◌<◌, ◌≤◌, ◌↔◌, length, take, slice_index, IsTrue};
 ghost use Rattle.std.specs.Str.{IsUtf8};
 ghost use Rattle.encoding_kernels.specs.Following.{IsZeroTo, FollowTo, Follows, FollowsAt};
-ghost use Rattle.encoding_kernels.specs.Strides.{BelowUpTo};
+ghost use Rattle.encoding_kernels.specs.Strides.{BelowBetween, BelowUpTo};
 
-use crate::strides::{ASCII_END, are_bytes_below, skip_bytes_below};
+use crate::places::skip;
+use crate::strides::{ASCII_END, BytesBelow, are_bytes_below};
 use std::simd::prelude::*;
 
 /// The faults that the upper half of the byte before leaves open, a bit each; twice, once for each sixteen lanes.
@@ -216,6 +217,21 @@ fn finish(src: &[u8], from: usize) -> usize
     last + zeros(faults(src, last))
 }
 
+/// Goes from a place on by 64 bytes while they are ASCII, and returns where that ends. Out of line: what it sets up would
+/// stand in the loop over blocks.
+#[inline(never)]
+fn skip_ascii(src: &[u8], from: usize) -> usize
+    requires { from ≤ length src.now }
+    ensures within { (from ≤ result) × (result ≤ length src.now) }
+    ensures below { BelowBetween ASCII_END src.now from result }
+{
+    let ascii = BytesBelow {
+        bytes: src,
+        bound: ASCII_END,
+    };
+    skip::<64, 64, _>(&ascii, from)
+}
+
 /// How many bytes may each stand behind those before it, up to the first that may not, where an ASCII front ends at
 /// `front`. Out of line: where the loop lies, and so its speed, depends on no caller's code.
 #[inline(never)]
@@ -247,7 +263,7 @@ fn following(src: &[u8], front: usize) -> usize
         let is_ascii = are_bytes_below::<64>(src, at, ASCII_END);
         at += 64;
         if is_ascii {
-            at = skip_bytes_below::<64>(src, at, ASCII_END);
+            at = skip_ascii(src, at);
         }
     }
     finish(src, at)

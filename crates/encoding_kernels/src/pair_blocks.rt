@@ -1,11 +1,12 @@
 //! Pairs by blocks: code units without a lone surrogate, and Latin1 in UTF-8. Each unit is judged by itself and the one
 //! before it, which is read by a load of its own, so that a block carries no state and the last one may overlap.
-ghost use Rattle.std.specs.Prelude.{◌≡◌, ◌+◌, ◌<◌, ◌≤◌, length, take, slice_index, IsTrue};
+ghost use Rattle.std.specs.Prelude.{◌≡◌, false, ◌+◌, ◌-◌, ◌<◌, ◌≤◌, length, take, slice_index, IsTrue};
 ghost use Rattle.encoding_definitions.specs.Utf16.{IsLowSurrogate};
 ghost use Rattle.encoding_definitions.specs.Latin1.{IsUtf8Latin1};
-ghost use Rattle.encoding_kernels.specs.Pairs.{PairUp, HaveNoSurrogate, FitLatin1};
+ghost use Rattle.encoding_kernels.specs.Pairs.{PairUp, HaveNoSurrogate, FitLatin1, pair_fault, latin1_fault};
 ghost use Rattle.encoding_definitions.specs.Surrogates.{IsValidUtf16};
 
+use crate::places::{Places, all, reach, skip};
 use crate::strides::STRIDE;
 use crate::surrogates::{is_high_surrogate, is_low_surrogate};
 use std::simd::Simd;
@@ -29,17 +30,31 @@ const LEADS: u8 = 0xC0;
 /// The first byte of U+0100. All bytes of lesser characters are less, and greater characters begin with no lesser byte.
 pub const BEYOND_LATIN1: u8 = 0xC4;
 
-/// Whether each of the N code units from `at` on is a low surrogate exactly where the one before it is a high one.
-#[inline(always)]
-fn are_paired<const N: usize>(units: &[u16], at: usize) -> bool
-    requires { (0 < at) × (at + N ≤ length units.now) × (N ≤ 64) }
-    ensures { IsTrue result → PairUp units.now at (at + N) }
-{
-    let tops = Simd::<u16, N>::from_slice(&units[at..]) & Simd::splat(0xFC00);
-    let tops_before = Simd::<u16, N>::from_slice(&units[at - 1..]) & Simd::splat(0xFC00);
-    let low = tops.simd_eq(Simd::splat(0xDC00));
-    let high = tops_before.simd_eq(Simd::splat(0xD800));
-    !(low ^ high).any()
+/// Pairs of code units that stand side by side: the second is a low surrogate exactly where the first is a high one.
+#[derive(Drop)]
+struct UnitPairs<'a> {
+    units: &'a [u16],
+}
+
+impl<'a, const N: usize> Places<N> for UnitPairs<'a> {
+    ghost count = { λ s. length s.units.now - 1 };
+
+    ghost passes = { λ s k. pair_fault (slice_index s.units.now (k + 1)) (slice_index s.units.now k) ≡ false };
+
+    #[inline(always)]
+    fn len(&self) -> usize {
+        self.units.len().saturating_sub(1)
+    }
+
+    #[inline(always)]
+    fn failing(&self, at: usize) -> u64 {
+        let units = self.units;
+        let tops = Simd::<u16, N>::from_slice(&units[at + 1..]) & Simd::splat(0xFC00);
+        let tops_before = Simd::<u16, N>::from_slice(&units[at..]) & Simd::splat(0xFC00);
+        let low = tops.simd_eq(Simd::splat(0xDC00));
+        let high = tops_before.simd_eq(Simd::splat(0xD800));
+        (low ^ high).to_bitmask()
+    }
 }
 
 /// Whether none of the code units of a block is a surrogate, by one test.
@@ -84,7 +99,7 @@ fn paired_blocks(units: &[u16]) -> usize
     let mut expected = 0;
     for block in blocks {
         if 0 < expected || is_high_surrogate(units[at - 1]) || !has_no_surrogate(block) {
-            if !are_paired::<UNIT_BLOCK>(units, at) {
+            if !all::<UNIT_BLOCK, UNIT_BLOCK, _>(&UnitPairs { units }, at - 1) {
                 return at;
             }
             expected = if expected == 0 {
@@ -106,34 +121,38 @@ pub fn paired_front(units: &[u16]) -> usize
     if units.is_empty() || is_low_surrogate(units[0]) {
         return 0;
     }
-    let mut at = paired_blocks(units);
-    while units.len() - at >= UNIT_STRIDE {
-        if !are_paired::<UNIT_STRIDE>(units, at) {
-            return before_cut_pair(units, at);
-        }
-        at += UNIT_STRIDE;
-    }
-    // the last stride overlaps the one before
-    let last = units.len() - UNIT_STRIDE.min(units.len());
-    if 0 < last && are_paired::<UNIT_STRIDE>(units, last) {
-        return before_cut_pair(units, units.len());
-    }
-    before_cut_pair(units, at)
+    let at = paired_blocks(units);
+    let last = reach::<UNIT_STRIDE, UNIT_STRIDE, _>(&UnitPairs { units }, at - 1);
+    before_cut_pair(units, last + 1)
 }
 
-/// Whether each of the N bytes from `at` on may stand in Latin1 behind the one before it.
-#[inline(always)]
-fn fit_latin1<const N: usize>(bytes: &[u8], at: usize) -> bool
-    requires { (0 < at) × (at + N ≤ length bytes.now) × (N ≤ 64) }
-    ensures { IsTrue result → FitLatin1 bytes.now at (at + N) }
-{
-    let block = Simd::<u8, N>::from_slice(&bytes[at..]);
-    let before = Simd::<u8, N>::from_slice(&bytes[at - 1..]);
-    let follows = (block & Simd::splat(0xC0)).simd_eq(Simd::splat(0x80));
-    let overlong = (block & Simd::splat(0xFE)).simd_eq(Simd::splat(0xC0));
-    let faults = (follows ^ before.simd_ge(Simd::splat(LEADS)))
-        | (overlong | block.simd_ge(Simd::splat(BEYOND_LATIN1)));
-    !faults.any()
+/// Pairs of bytes that stand side by side: the second may stand in Latin1 behind the first.
+#[derive(Drop)]
+struct BytePairs<'a> {
+    bytes: &'a [u8],
+}
+
+impl<'a, const N: usize> Places<N> for BytePairs<'a> {
+    ghost count = { λ s. length s.bytes.now - 1 };
+
+    ghost passes = { λ s k. latin1_fault (slice_index s.bytes.now (k + 1)) (slice_index s.bytes.now k) ≡ false };
+
+    #[inline(always)]
+    fn len(&self) -> usize {
+        self.bytes.len().saturating_sub(1)
+    }
+
+    #[inline(always)]
+    fn failing(&self, at: usize) -> u64 {
+        let bytes = self.bytes;
+        let block = Simd::<u8, N>::from_slice(&bytes[at + 1..]);
+        let before = Simd::<u8, N>::from_slice(&bytes[at..]);
+        let follows = (block & Simd::splat(0xC0)).simd_eq(Simd::splat(0x80));
+        let overlong = (block & Simd::splat(0xFE)).simd_eq(Simd::splat(0xC0));
+        let faults = (follows ^ before.simd_ge(Simd::splat(LEADS)))
+            | (overlong | block.simd_ge(Simd::splat(BEYOND_LATIN1)));
+        faults.to_bitmask()
+    }
 }
 
 /// `at`, or the beginning of the character that is cut there.
@@ -151,20 +170,8 @@ pub fn latin1_blocks(bytes: &[u8], from: usize) -> usize
     requires { (0 < from) × (from ≤ length bytes.now) × FitLatin1 bytes.now 0 from }
     ensures { (result ≤ length bytes.now) × IsUtf8Latin1 (take result bytes.now) }
 {
-    let mut at = from;
-    while bytes.len() - at >= BLOCK && fit_latin1::<BLOCK>(bytes, at) {
-        at += BLOCK;
-    }
-    while bytes.len() - at >= STRIDE {
-        if !fit_latin1::<STRIDE>(bytes, at) {
-            return before_cut_character(bytes, at);
-        }
-        at += STRIDE;
-    }
-    // the last stride overlaps the one before
-    let last = bytes.len() - STRIDE.min(bytes.len());
-    if 0 < last && fit_latin1::<STRIDE>(bytes, last) {
-        return before_cut_character(bytes, bytes.len());
-    }
-    before_cut_character(bytes, at)
+    let test = BytePairs { bytes };
+    let by_blocks = skip::<BLOCK, BLOCK, _>(&test, from - 1);
+    let last = reach::<STRIDE, STRIDE, _>(&test, by_blocks);
+    before_cut_character(bytes, last + 1)
 }

@@ -5,7 +5,7 @@ ghost use Rattle.std.specs.Simd.Lanes.{mask_l};
 ghost use Rattle.encoding_kernels.specs.Spelling.{Spells};
 
 use crate::kept_bytes::places_by;
-use crate::strides::{LANES, put_first};
+use crate::strides::LANES;
 use std::simd::prelude::*;
 
 /// Eight code units in two bytes each: the UTF-8 of each, and no matter what behind that of one byte.
@@ -55,7 +55,7 @@ pub(crate) fn put_both(
     more: usize,
 )
     requires room { at + 32 ≤ length dst.old }
-    requires first { (8 ≤ count) × (count ≤ 16) × (length first ≡ 16) }
+    requires first { (count ≤ 16) × (length first ≡ 16) }
     requires second { (more ≤ 16) × (length second ≡ 16) }
     ensures { dst.new ≡ take at dst.old ++ ((take count first ++ take more second) ++ drop (at + (count + more)) dst.old) }
 {
@@ -66,28 +66,6 @@ pub(crate) fn put_both(
     is_kept
         .select(second, behind)
         .copy_to_slice(&mut dst[next..]);
-}
-
-/// Whether each of the eight code units is below U+0800.
-#[inline(always)]
-pub(crate) fn are_short(units: u16x8) -> bool
-    ensures { IsTrue result → (k : ℕ) → slice_index units k < 0x800 }
-{
-    !units.simd_ge(u16x8::splat(0x800)).any()
-}
-
-/// Writes the UTF-8 of eight code units below U+0800, and returns how many bytes that is. Behind them `dst` is as before.
-#[inline(always)]
-pub(crate) fn write_short_eight(units: u16x8, dst: &mut [u8], at: usize) -> usize
-    requires room { at + 16 ≤ length dst.old }
-    requires short { (k : ℕ) → slice_index units k < 0x800 }
-    ensures most { result ≤ 16 }
-    ensures count { result ≡ length (encode_utf8_all units) }
-    ensures written { dst.new ≡ take at dst.old ++ (encode_utf8_all units ++ drop (at + result) dst.old) }
-{
-    let (bytes, count) = spell_short(units);
-    put_first(dst, at, bytes, count);
-    count
 }
 
 /// Writes the UTF-8 of twice eight code units below U+0800, and returns how many bytes that is. Behind them `dst` is as

@@ -10,13 +10,12 @@ ghost use Rattle.std.specs.Char.Escape.{encode_utf16};
 ghost use Rattle.std.specs.Int.RustNames.{count_ones};
 ghost use Rattle.std.specs.Simd.Lanes.{mask_l};
 ghost use Rattle.encoding_definitions.specs.Fronts.{WritesFront};
-ghost use Rattle.encoding_kernels.specs.Strides.{AllBelow};
 ghost use Rattle.encoding_kernels.specs.Units.{BeginsThree, PutsKept, PutsText, ends_behind, units_in};
 
 use crate::kept_lanes::gather;
 use crate::scalars::{put_utf16, scalar_of_sequence};
 use crate::sequence::{is_continuation, sequence_length};
-use crate::strides::{LANES as BYTE_LANES, widen_ascii};
+use crate::strides::{ASCII_END, LANES as BYTE_LANES, are_bytes_below, widen_ascii};
 use crate::unit_lanes::{code_units, triple_units, unit_ends};
 use std::simd::Simd;
 use std::simd::prelude::*;
@@ -136,17 +135,6 @@ fn put_block_alone(src: &[u8], end: usize, kept: usize, dst: &mut [u16]) -> usiz
     count
 }
 
-/// Whether the first bytes, so many, are ASCII.
-#[inline(always)]
-fn begins_ascii<const N: usize>(src: &[u8]) -> bool
-    requires { (N ≤ length src.now) × (N ≤ 64) }
-    ensures { IsTrue result → AllBelow 0x80 src.now 0 N }
-{
-    !Simd::<u8, N>::from_slice(src)
-        .simd_ge(Simd::splat(0x80))
-        .any()
-}
-
 /// Whether the text begins with five characters of three bytes.
 #[inline(always)]
 fn begins_triples(src: &[u8]) -> bool
@@ -214,7 +202,7 @@ fn put_some(src: &[u8], dst: &mut [u16]) -> (usize, usize)
     ensures some { 0 < result.0 }
     ensures written { PutsText src.now dst.old dst.new result.0 result.1 (units_in src.now) }
 {
-    if begins_ascii::<16>(src) {
+    if are_bytes_below::<16>(src, 0, ASCII_END) {
         let front = widen_ascii::<16>(src, dst, 0);
         return (front, front);
     }

@@ -1,4 +1,4 @@
-//! UTF-8 of code units by blocks of one class.
+//! UTF-8 of code units by blocks: sixteen of one class, or eight of any without a surrogate.
 
 ghost use Rattle.std.specs.Prelude.{◌≡◌, ◌+◌, ◌<◌, ◌≤◌, ◌⊎◌, ◌++◌, length, take, drop, encode_utf8_all, IsTrue};
 ghost use Rattle.encoding_definitions.specs.Fronts.{WritesFront};
@@ -7,22 +7,26 @@ ghost use Rattle.encoding_kernels.specs.Spelling.{ArePlain};
 ghost use Rattle.encoding_kernels.specs.Strides.{AllBelow};
 
 use crate::halves::{are_short_or_paired, write_short_or_paired};
-use crate::spelling::{are_long, are_short, write_long, write_short, write_short_eight};
+use crate::plain_units::{are_plain, write_eight};
+use crate::spelling::{are_long, write_long, write_short};
 use crate::strides::{are_units_below, narrow_ascii};
 use std::simd::prelude::*;
 
 /// The code units of a block.
-pub const BLOCK: usize = 16;
+const BLOCK: usize = 16;
+
+/// The code units of half a block, the fewest that are converted at once.
+pub const HALF_BLOCK: usize = 8;
 
 /// The blocks behind one that isn't ASCII that go without a test for ASCII: text seldom changes to long ASCII there,
 /// and a test that comes out now one way and now the other costs more than it saves.
 const BLOCKS_BEHIND: usize = 7;
 
-/// Converts eight code units from a place on, which are all below U+0800, or all from there on without a surrogate, and
-/// returns how many code units it read, eight or none, and how many bytes it wrote. Behind these `dst` is as before.
+/// Converts eight code units from a place on, if none is a surrogate, and returns how many code units it read, eight or
+/// none, and how many bytes it wrote. Behind these `dst` is as before.
 #[inline(always)]
 fn convert_eight(src: &[u16], at: usize, dst: &mut [u8], to: usize) -> (usize, usize)
-    requires room { (at + 8 ≤ length src.now) × (to + 24 ≤ length dst.old) }
+    requires room { (at + 8 ≤ length src.now) × (to + 32 ≤ length dst.old) }
     ensures eight { (result.0 ≡ 8) ⊎ ((result.0 ≡ 0) × (result.1 ≡ 0)) }
     ensures plain { ArePlain (take result.0 (drop at src.now)) }
     ensures count { result.1 ≡ length (encode_utf8_all (take result.0 (drop at src.now))) }
@@ -31,12 +35,12 @@ fn convert_eight(src: &[u16], at: usize, dst: &mut [u8], to: usize) -> (usize, u
         ++ (encode_utf8_all (take result.0 (drop at src.now)) ++ drop (to + result.1) dst.old) }
 {
     let units = u16x8::from_slice(&src[at..]);
-    if are_short(units) {
-        return (8, write_short_eight(units, dst, to));
-    }
     if are_long(units) {
         write_long(units, dst, to);
         return (8, 24);
+    }
+    if are_plain(units) {
+        return (8, write_eight(units, dst, to));
     }
     (0, 0)
 }
@@ -59,8 +63,8 @@ fn convert_sixteen(src: &[u16], at: usize, dst: &mut [u8], to: usize) -> usize
 }
 
 /// Converts blocks of code units from the beginning of `src` on, and returns how many code units these are and how many
-/// bytes it wrote: sixteen below U+0080 or below U+0800, or eight below U+0800 or from there on without a surrogate.
-/// Behind what is written `dst` is as before.
+/// bytes it wrote: sixteen below U+0080 or below U+0800, or eight without a surrogate. Behind what is written `dst` is as
+/// before.
 pub fn convert_blocks(src: &[u16], dst: &mut [u8]) -> (usize, usize)
     ensures within { result.0 ≤ length src.now }
     ensures plain { ArePlain (take result.0 src.now) }
@@ -69,7 +73,7 @@ pub fn convert_blocks(src: &[u16], dst: &mut [u8]) -> (usize, usize)
     let mut read = 0;
     let mut written = 0;
     let mut behind = 0;
-    while src.len() - read >= 8 && dst.len() - written >= 32 {
+    while src.len() - read >= HALF_BLOCK && dst.len() - written >= 32 {
         let is_short = src.len() - read >= BLOCK && are_units_below::<16>(src, read, 0x800);
         if is_short && behind > 0 {
             written += convert_sixteen(src, read, dst, written);

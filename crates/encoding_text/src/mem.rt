@@ -6,6 +6,7 @@ mod checks;
 mod copies;
 mod from_utf16;
 mod latin1;
+mod lengths;
 mod surrogates;
 mod text_destinations;
 mod to_utf16;
@@ -25,6 +26,10 @@ pub use from_utf16::{convert_utf16_to_utf8, convert_utf16_to_utf8_partial};
 pub use latin1::{
     convert_latin1_to_utf8, convert_latin1_to_utf8_partial, convert_latin1_to_utf16,
     convert_utf8_to_latin1_lossy, convert_utf16_to_latin1_lossy,
+};
+pub use lengths::{
+    latin1_length_from_utf8, utf8_length_from_latin1, utf8_length_from_utf16,
+    utf16_length_from_utf8,
 };
 pub use surrogates::{ensure_utf16_validity, utf16_valid_up_to};
 pub use text_destinations::{

@@ -1,10 +1,10 @@
 -- Places of bytes where right-to-left characters stand: of a text with one there is such a place, and the first two bytes tell where there is none.
-use Rattle.std.proofs.Common.{◌≡◌, ℕ, ◌+◌, ◌-◌, ◌/◌, ◌%◌, ◌<◌, ◌≤◌, ◌⊎◌, inl, inr, List, [], ◌∷◌, ◌++◌, length, take, drop, slice_index, encode_utf8, encode_utf8_all, IsUtf8, refl, sym, ap, ◌∙◌, arith, subst, take-add, true, false, cond, ◌&&◌, leb, ltb, eqb, bit_or}
+use Rattle.std.proofs.Common.{◌≡◌, ℕ, ◌+◌, ◌-◌, ◌/◌, ◌%◌, ◌<◌, ◌≤◌, ◌⊎◌, inl, inr, List, [], ◌∷◌, ◌++◌, length, take, drop, slice_index, encode_utf8, encode_utf8_all, IsUtf8, refl, sym, ap, ◌∙◌, arith, subst, take-add, true, cond, ◌&&◌, leb, ltb, eqb, bit_or}
 use Rattle.std.specs.Prelude.{Any}
 use Rattle.std.specs.Str.{all_scalars}
 use Rattle.std.proofs.str.Laws.{two, three, four, both}
 use Rattle.std.proofs.lemmas.Str.{encode_same, IsUtf8-take, IsUtf8-append}
-use Rattle.std.proofs.lemmas.Bool.{cases_lt, eqb-true, agree_below_at, ltb-false}
+use Rattle.std.proofs.lemmas.Bool.{cases_lt, eqb-true, agree_below_at}
 use Rattle.std.proofs.lemmas.Bool.Decides.{nat_tests}
 use Rattle.std.proofs.lemmas.List.{length-append, length-drop, drop_at, drop-drop, get_or-drop, take_at, take-append-drop, length-take, take-take}
 use lib.Utf8.{scalar}
@@ -12,7 +12,8 @@ use Rattle.encoding_definitions.specs.Bidi.{IsRightToLeft, IsBidiText, IsBidiByt
 use Rattle.encoding_definitions.specs.Fronts.{IsLongestFront}
 use Rattle.encoding_definitions.specs.Parts.{BeginsWithNoCharacter}
 use Rattle.encoding_definitions.specs.Sequence.{IsSequence}
-use Rattle.encoding_kernels.specs.Strides.{AllBelow, BelowUpTo}
+use Rattle.encoding_kernels.specs.Places.{PassBetween}
+use Rattle.encoding_kernels.specs.Strides.{BelowBetween, BelowUpTo}
 use Rattle.encoding_kernels.specs.BidiBlocks.{second_end, StandsRightToLeft, NoneStands}
 use Rattle.encoding_definitions.proofs.Bidi.AnyLemmas.{Any-none, Any-cons}
 use Rattle.encoding_definitions.proofs.Bidi.BidiTextLemmas.{right_to_left_from, character_bidi, bidi_character, found_in_text, found_in_bytes, bidi_either, stuck_no_text, text_of_latin1, latin1_not_bidi}
@@ -78,14 +79,8 @@ pub ends_are : (a : ℕ) → a < 256 → ends_lane a ≡ second_end a
 ends_are a l = eqb-true _ _ (agree_below_at (λ x. eqb (ends_lane x) (second_end x)) (λ x. true) 256 a refl l)
 
 -- where no second byte is below the number of the first
-pub none_stands : (bs : List ℕ) (at n : ℕ) → ((k : ℕ) → k < n → ltb (slice_index bs (at + 1 + k)) (second_end (slice_index bs (at + k))) ≡ false) → NoneStands bs at (at + n)
-none_stands bs at n clear = record {
-  each = λ k from to s.
-      let not_below = ltb-false _ _ (clear (k - at) (omega arith)) in
-      let first : at + (k - at) ≡ k = omega arith in
-      let second : at + 1 + (k - at) ≡ k + 1 = omega arith in
-      omega (arith, second_below bs k s, rw (first, second) at not_below);
-}
+pub none_clear : (bs : List ℕ) (from to : ℕ) → PassBetween (λ k. second_end (slice_index bs k) ≤ slice_index bs (k + 1)) from to → NoneStands bs from to
+none_clear bs from to clear = record { each = λ k l m s. omega (arith, second_below bs k s, clear k l m) }
 
 -- ---- places where none stands
 low_end : (a : ℕ) → a < 0xD6 → second_end a ≡ 0
@@ -94,8 +89,8 @@ low_end a l = grind (arith, nat_tests)
 pub none_from_zero : (bs : List ℕ) (at : ℕ) → second_end (slice_index bs at) ≡ 0 → StandsRightToLeft bs at → ⊥
 none_from_zero bs at e s = omega (arith, second_below bs at s)
 
-pub none_low : (bs : List ℕ) (at n : ℕ) → AllBelow 0xD6 bs at n → NoneStands bs at (at + n)
-none_low bs at n low = record { each = λ k from to s. none_from_zero bs k (low_end (slice_index bs k) (low k from to)) s }
+pub none_low : (bs : List ℕ) (from to : ℕ) → BelowBetween 0xD6 bs from to → NoneStands bs from to
+none_low bs from to low = record { each = λ k l m s. none_from_zero bs k (low_end (slice_index bs k) (low k l m)) s }
 
 pub none_before : (bs : List ℕ) (n : ℕ) → BelowUpTo 0xD6 bs n → NoneStands bs 0 n
 none_before bs n low = record { each = λ k from to s. none_from_zero bs k (low_end (slice_index bs k) (low k to)) s }
@@ -113,8 +108,8 @@ some_bytes c r = elim (cases_lt c 2048) [
 stands_within : (bs : List ℕ) (at : ℕ) → StandsRightToLeft bs at → at + 1 < length bs
 stands_within bs at s = omega (arith, some_bytes s.character s.right_to_left, ap length s.spelled, length-append (encode_utf8 s.character) s.rest, length-drop at bs)
 
-pub none_to_end : (bs : List ℕ) (at last : ℕ) → last ≤ at → NoneStands bs last (length bs - 1) → NoneStands bs at (length bs)
-none_to_end bs at last l none = record { each = λ k from to s. none.each k (omega arith) (omega (arith, stands_within bs k s)) s }
+pub none_last : (bs : List ℕ) (at : ℕ) → at + 1 ≡ length bs → NoneStands bs at (at + 1)
+none_last bs at e = record { each = λ k from to s. omega (arith, stands_within bs k s) }
 
 -- ---- the character at a place
 pub stands_spelled : (bs : List ℕ) (at n : ℕ) → IsSequence (take n (drop at bs)) → IsBidiText (take n (drop at bs)) → StandsRightToLeft bs at

@@ -1,16 +1,13 @@
 -- Code units of which none is right-to-left, by ranges that hold all of those.
-use Rattle.std.proofs.Common.{◌≡◌, ℕ, ◌+◌, ◌-◌, ◌%◌, ◌^◌, ◌<◌, ◌≤◌, ◌⊎◌, inl, inr, Bool, true, false, ◌||◌, ltb, List, drop, slice_index, refl, arith, subst}
+use Rattle.std.proofs.Common.{◌≡◌, ℕ, ◌+◌, ◌^◌, ◌<◌, ◌≤◌, ◌⊎◌, inl, inr, Bool, true, false, ◌||◌, List, slice_index, refl, arith, subst}
 use Rattle.std.proofs.lemmas.Bool.{cases_lt, ltb-false}
-use Rattle.std.proofs.lemmas.List.{get_or-drop}
 use Rattle.encoding_definitions.specs.Bidi.{IsRightToLeftUnit}
-use Rattle.encoding_kernels.specs.BidiBlocks.{NoneRightToLeft}
-use Rattle.encoding_kernels.specs.Strides.{AllBelow, BelowUpTo}
+use Rattle.encoding_kernels.specs.BidiBlocks.{NoneRightToLeft, in_range, may_be_right_to_left}
+use Rattle.encoding_kernels.specs.Places.{PassBetween}
+use Rattle.encoding_kernels.specs.Strides.{BelowBetween, BelowUpTo}
 use Rattle.encoding_definitions.proofs.Bidi.BidiUnitsLemmas.{UnitForm, unit_form, unit_low_none}
 
 -- ---- ranges by one comparison
-abbrev pub in_range : ℕ → ℕ → ℕ → Bool
-in_range from count u = ltb ((u + (2 ^ 16 - from)) % 2 ^ 16) count
-
 outside : (from count u : ℕ) → from < 2 ^ 16 → u < 2 ^ 16 → in_range from count u ≡ false → (u < from) ⊎ (from + count ≤ u)
 outside from count u l m e = elim (cases_lt u from) [
   | inl p ↦ inl p
@@ -25,16 +22,13 @@ or_right : (p q : Bool) → p || q ≡ false → q ≡ false
 or_right true q e = absurd (cc)
 or_right false q e = e
 
-abbrev pub may_be : ℕ → Bool
-may_be u = (in_range 0x0590 0x0370 u || in_range 0x200F 0x0059 u) || (in_range 0xD802 0x003A u || in_range 0xFB1D 0x03E2 u)
-
 none_of : (u : ℕ) → UnitForm u → (u < 0x590) ⊎ (0x590 + 0x370 ≤ u) → (u < 0x200F) ⊎ (0x200F + 0x59 ≤ u) → (u < 0xD802) ⊎ (0xD802 + 0x3A ≤ u) → (u < 0xFB1D) ⊎ (0xFB1D + 0x3E2 ≤ u)
     → u < 2 ^ 16 → ⊥
 none_of u (inl r) a b d e l = omega arith
 none_of u (inr (inl r)) a b d e l = omega arith
 none_of u (inr (inr r)) a b d e l = omega arith
 
-not_right_to_left : (u : ℕ) → u < 2 ^ 16 → may_be u ≡ false → IsRightToLeftUnit u → ⊥
+not_right_to_left : (u : ℕ) → u < 2 ^ 16 → may_be_right_to_left u ≡ false → IsRightToLeftUnit u → ⊥
 not_right_to_left u l e r =
     let front = or_left (in_range 0x0590 0x0370 u || in_range 0x200F 0x0059 u) (in_range 0xD802 0x003A u || in_range 0xFB1D 0x03E2 u) e in
     let behind = or_right (in_range 0x0590 0x0370 u || in_range 0x200F 0x0059 u) (in_range 0xD802 0x003A u || in_range 0xFB1D 0x03E2 u) e in
@@ -44,34 +38,18 @@ not_right_to_left u l e r =
     (outside 0xD802 0x003A u (omega arith) l (or_left (in_range 0xD802 0x003A u) (in_range 0xFB1D 0x03E2 u) behind))
     (outside 0xFB1D 0x03E2 u (omega arith) l (or_right (in_range 0xD802 0x003A u) (in_range 0xFB1D 0x03E2 u) behind)) l
 
-pub units_clear : (us : List ℕ) (at n : ℕ) → ((k : ℕ) → slice_index us k < 2 ^ 16) → ((k : ℕ) → k < n → may_be (slice_index us (at + k)) ≡ false) → NoneRightToLeft us at (at + n)
-units_clear us at n units none = record {
-  each = λ k from to r.
-      let here : at + (k - at) ≡ k = omega arith in
-      not_right_to_left (slice_index us k) (units k) (rw here at (none (k - at) (omega arith))) r;
-}
+pub units_clear : (us : List ℕ) (from to : ℕ) → ((k : ℕ) → slice_index us k < 2 ^ 16) → PassBetween (λ k. may_be_right_to_left (slice_index us k) ≡ false) from to → NoneRightToLeft us from to
+units_clear us from to units none = record { each = λ k l m r. not_right_to_left (slice_index us k) (units k) (none k l m) r }
 
 -- ---- parts
-pub units_low : (us : List ℕ) (at n : ℕ) → BelowUpTo 0x590 (drop at us) n → NoneRightToLeft us at (at + n)
-units_low us at n low = record {
-  each = λ k from to r.
-      let here : slice_index us (at + (k - at)) < 0x590 = subst (λ u. u < 0x590) (get_or-drop at us (k - at) 0) (low (k - at) (omega arith)) in
-      let same : at + (k - at) ≡ k = omega arith in
-      unit_low_none (slice_index us k) (rw same at here) r;
-}
+pub units_low : (us : List ℕ) (from to : ℕ) → BelowBetween 0x590 us from to → NoneRightToLeft us from to
+units_low us from to low = record { each = λ k l m r. unit_low_none (slice_index us k) (low k l m) r }
 
 pub units_joined : (us : List ℕ) (a b from to : ℕ) → NoneRightToLeft us a b → NoneRightToLeft us from to → from ≤ b → NoneRightToLeft us a to
 units_joined us a b from to p q l = record { each = λ k h m r. elim (cases_lt k b) [ inl i ↦ p.each k h i r | inr i ↦ q.each k (omega arith) m r ] }
 
 pub units_before : (us : List ℕ) (n : ℕ) → BelowUpTo 0x590 us n → NoneRightToLeft us 0 n
 units_before us n low = record { each = λ k from to r. unit_low_none (slice_index us k) (low k to) r }
-
--- with one more unit it isn't all below
-pub not_below : (bound : ℕ) (us : List ℕ) (n : ℕ) → (AllBelow bound us n 1 → ⊥) → bound ≤ slice_index us n
-not_below bound us n h = elim (cases_lt (slice_index us n) bound) [
-  | inl p ↦ absurd (h (λ k from to. let e : n ≡ k = omega arith in subst (λ j. slice_index us j < bound) e p))
-  | inr p ↦ p
-]
 
 pub unit_none : (us : List ℕ) (at : ℕ) → (IsRightToLeftUnit (slice_index us at) → ⊥) → NoneRightToLeft us at (at + 1)
 unit_none us at none = record { each = λ k from to r. let e : k ≡ at = omega arith in none (subst (λ j. IsRightToLeftUnit (slice_index us j)) e r) }

@@ -104,12 +104,9 @@ pub plain_sixteen : (us : List ℕ) (at : ℕ) → AllBelow 0x800 us at 16 → A
 plain_sixteen us at h = Each-take IsPlain (λ r. omega (arith, r.0)) (drop at us) 16 (λ k l r. let same = get_or-drop at us k 0 in omega (arith, same, h (at + k) (omega arith) (omega arith), r.0))
 
 -- eight in a vector
-pub eight_short : (us : List ℕ) (at : ℕ) → ((k : ℕ) → get_or (chunk at 8 us) k 0 < 0x800) → ArePlain (chunk at 8 us)
-eight_short us at h k r = omega (arith, h k, r.0)
-
-pub eight_long : (us : List ℕ) (at : ℕ) → ((k : ℕ) → k < 8 → (0x800 ≤ get_or (chunk at 8 us) k 0) × IsPlain (get_or (chunk at 8 us) k 0)) → ArePlain (chunk at 8 us)
-eight_long us at h k r = elim (cases_lt k 8) [
-  | inl l ↦ (h k l).1 r
+pub eight_plain : (us : List ℕ) (at : ℕ) → ((k : ℕ) → k < 8 → IsPlain (get_or (chunk at 8 us) k 0)) → ArePlain (chunk at 8 us)
+eight_plain us at h k r = elim (cases_lt k 8) [
+  | inl l ↦ h k l r
   | inr l ↦ omega (arith, r.0, get_or_past (chunk at 8 us) k 0 (omega (arith, length-take 8 (drop at us))))
 ]
 

@@ -1,10 +1,9 @@
 -- The strides of a part of a list: where each stands in the list.
-use Rattle.std.proofs.Common.{◌≡◌, ℕ, zero, suc, ◌+◌, ◌-◌, ◌*◌, ◌/◌, ◌<◌, ◌≤◌, ◌↔◌, inl, inr, List, length, length-take, length-drop, take, drop, drop-drop, get_or, slice_index, refl, sym, ap, ◌∙◌, arith}
+use Rattle.std.proofs.Common.{◌≡◌, ℕ, zero, suc, ◌+◌, ◌-◌, ◌*◌, ◌/◌, ◌<◌, ◌≤◌, ◌↔◌, List, length, length-take, length-drop, take, drop, drop-drop, get_or, slice_index, refl, sym, ap, ◌∙◌, arith}
 use Rattle.std.proofs.Math.Nat.{div-mul-le_self, mul-le-mul_right}
-use Rattle.std.proofs.lemmas.Bool.{cases_lt}
 use Rattle.std.proofs.lemmas.List.{drop-take, take-take, get_or-take, get_or-drop}
 use Rattle.std.specs.Simd.{first_chunks}
-use Rattle.encoding_kernels.specs.Strides.{AllBelow, BelowUpTo, IsRunBelow}
+use Rattle.encoding_kernels.specs.Strides.{AllBelow}
 
 -- the stride of a number
 pub numbered : (n k : ℕ) (xs : List ℕ) (i : ℕ) (d : List ℕ) → i < k → get_or (first_chunks n k xs) i d ≡ take n (drop (i * n) xs)
@@ -57,26 +56,3 @@ module _ (bound at n : ℕ) (xs stride : List ℕ) (is : stride ≡ take n (drop
     λ h k from to. let e : at + (k - at) ≡ k = omega arith in rw (sym e, sym (unit_is (k - at) (omega arith))) (h (k - at) (omega arith) (omega arith)),
     λ h k from to. rw (unit_is k (omega arith)) (h (at + k) (omega arith) (omega arith)),
   )
-
-  -- and before it each: so they are as far as its end
-  pub below_on : BelowUpTo bound xs at → AllBelow bound stride 0 n → BelowUpTo bound xs (at + n)
-  below_on before whole k l = elim (cases_lt k at) [ inl p ↦ before k p | inr p ↦ below_stride.0 whole k p l ]
-
-  pub run_in_stride : (run : ℕ) → IsRunBelow bound stride 0 n run → IsRunBelow bound xs at n run
-  run_in_stride run r = record {
-    within = r.within;
-    below = λ k from to. let e : at + (k - at) ≡ k = omega arith in rw (sym e, sym (unit_is (k - at) (omega (arith, r.within)))) (r.below (k - at) (omega arith) (omega arith));
-    stops = λ short. let e : 0 + run ≡ run = omega arith in rw (sym (unit_is run short)) (rw e at (r.stops short));
-  }
-
--- where each unit of a list is below the bound, each of a stride is
-pub each_in_stride : (bound n : ℕ) (xs d : List ℕ) {i : ℕ} {stride : List ℕ} {strides : List (List ℕ)} → stride ≡ get_or strides i d → strides ≡ first_chunks n (length xs / n) xs
-    → length strides ≡ length xs / n → i < length strides → BelowUpTo bound xs (length xs) → AllBelow bound stride 0 n
-each_in_stride bound n xs d {i} {stride} {strides} is are count l each =
-    (below_stride bound (i * n) n xs stride (whole_stride n xs d is are count refl l)).1 (λ k _ m. each k (omega (arith, m, many n (length strides) i (length xs) count l)))
-
--- where each unit before a stride is below the bound, and each of the stride, each before the next one is
-pub below_next_stride : (bound n : ℕ) (xs d : List ℕ) {i : ℕ} {stride : List ℕ} {strides : List (List ℕ)} → stride ≡ get_or strides i d → strides ≡ first_chunks n (length xs / n) xs
-    → length strides ≡ length xs / n → i < length strides → BelowUpTo bound xs (i * n) → AllBelow bound stride 0 n → BelowUpTo bound xs ((i + 1) * n)
-below_next_stride bound n xs d {i} {stride} is are count l before whole k m =
-    below_on bound (i * n) n xs stride (whole_stride n xs d is are count refl l) before whole k (omega (arith, m))

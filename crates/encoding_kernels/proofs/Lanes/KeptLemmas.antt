@@ -139,7 +139,7 @@ module _ (us : List ℕ) (fit : Each1 (λ x. x < 65536) us) (m : ℕ) (l : m < 2
       gathered_at j h ∙ sym (get_or-map (λ k. get_or us k 0) (gathered_places m) j 0 0 (omega (arith, places_long m l))))
 
 -- ---- masks
-mask_append : (xs ys : List Bool) → mask_l (xs ++ ys) ≡ mask_l ys * 2 ^ length xs + mask_l xs
+pub mask_append : (xs ys : List Bool) → mask_l (xs ++ ys) ≡ mask_l ys * 2 ^ length xs + mask_l xs
 mask_append [] ys = omega arith
 mask_append (x ∷ xs) ys =
     let more = mask_append xs ys in

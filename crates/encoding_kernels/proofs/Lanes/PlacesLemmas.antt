@@ -1,14 +1,15 @@
--- The table of kept places has, for each mask of eight tests, the places that the tests keep.
+-- Each table of kept places has, for each mask of eight tests, the places that the tests keep.
 use Rattle.std.proofs.Common.{◌≡◌, ℕ, zero, suc, ◌+◌, ◌*◌, ◌^◌, ◌<◌, Bool, true, false, ◌&&◌, ◌==◌, eqb-true, List, [], ◌∷◌, ap, ◌∙◌, length, take, get_or, refl, sym, arith, subst, inl, inr}
 use Rattle.std.proofs.lemmas.Bool.{and_parts, cases_lt, ltb-true, false≢true}
 use Rattle.std.specs.Simd.Lanes.{mask_l, number_l, digits_l}
 use lib.Dec.{ltb}
-use Rattle.encoding_kernels.specs.Spelling.{kept_places}
+use Rattle.encoding_kernels.specs.Spelling.{kept_places, last_places}
 use Rattle.encoding_kernels.specs.declared.kept_bytes.TheConstants.{PLACES}
+use Rattle.encoding_kernels.specs.declared.last_bytes.TheConstants.{LAST}
 
 -- the sixteen places of a mask
-abbrev pub row : ℕ → List ℕ
-row mask = digits_l 256 16 (number_l (2 ^ 32) (get_or PLACES (4 * mask) 0 ∷ get_or PLACES (4 * mask + 1) 0 ∷ get_or PLACES (4 * mask + 2) 0 ∷ get_or PLACES (4 * mask + 3) 0 ∷ []))
+abbrev pub row : List ℕ → ℕ → List ℕ
+row table mask = digits_l 256 16 (number_l (2 ^ 32) (get_or table (4 * mask) 0 ∷ get_or table (4 * mask + 1) 0 ∷ get_or table (4 * mask + 2) 0 ∷ get_or table (4 * mask + 3) 0 ∷ []))
 
 -- ---- all lists of tests
 abbrev all_tests : ℕ → (List Bool → Bool) → Bool
@@ -44,41 +45,39 @@ below_16_at [] e k = omega arith
 below_16_at (x ∷ xs) e zero = ltb-true x 16 (and_parts _ _ e).0
 below_16_at (x ∷ xs) e (suc k) = below_16_at xs (and_parts _ _ e).1 k
 
-abbrev is_right : List Bool → Bool
-is_right bs = same (take (length (kept_places 0 bs)) (row (mask_l bs))) (kept_places 0 bs)
+abbrev is_right : List ℕ → (List Bool → List ℕ) → List Bool → Bool
+is_right table kept bs = same (take (length (kept bs)) (row table (mask_l bs))) (kept bs)
 
--- all 256 rows
-computed : all_tests 8 is_right ≡ true
-computed = refl
+abbrev are_small : List ℕ → ℕ → Bool
+are_small table zero = true
+are_small table (suc mask) = below_16 (row table mask) && are_small table mask
 
-row_keeps : (bs : List Bool) → length bs ≡ 8 → take (length (kept_places 0 bs)) (row (mask_l bs)) ≡ kept_places 0 bs
-row_keeps bs l = same_is _ _ (all_tests_at 8 is_right computed bs l)
-
-abbrev are_small : ℕ → Bool
-are_small zero = true
-are_small (suc mask) = below_16 (row mask) && are_small mask
-
-all_small : are_small 256 ≡ true
-all_small = refl
-
-small_at : (n mask : ℕ) → are_small n ≡ true → mask < n → below_16 (row mask) ≡ true
-small_at zero mask e l = absurd (omega arith)
-small_at (suc n) mask e l = elim (cases_lt mask n) [
-  | inl p ↦ small_at n mask (and_parts _ _ e).1 p
-  | inr p ↦ let same : n ≡ mask = omega arith in subst (λ k. below_16 (row k) ≡ true) same (and_parts _ _ e).0
+small_at : (table : List ℕ) (n mask : ℕ) → are_small table n ≡ true → mask < n → below_16 (row table mask) ≡ true
+small_at table zero mask e l = absurd (omega arith)
+small_at table (suc n) mask e l = elim (cases_lt mask n) [
+  | inl p ↦ small_at table n mask (and_parts _ _ e).1 p
+  | inr p ↦ let same : n ≡ mask = omega arith in subst (λ k. below_16 (row table k) ≡ true) same (and_parts _ _ e).0
 ]
 
-row_small : (mask : ℕ) → mask < 256 → (k : ℕ) → get_or (row mask) k 0 < 16
-row_small mask l = below_16_at (row mask) (small_at 256 mask all_small l)
+-- all 256 rows are right
+pub record IsTable (table : List ℕ) (kept : List Bool → List ℕ) : Type 0 where
+  pub keeps : all_tests 8 (is_right table kept) ≡ true
+  pub small : are_small table 256 ≡ true
 
--- ---- four words of the table
-module _ (mask x y z w : ℕ) (first : x ≡ get_or PLACES (4 * mask) 0) (second : y ≡ get_or PLACES (4 * mask + 1) 0) (third : z ≡ get_or PLACES (4 * mask + 2) 0) (fourth : w ≡ get_or PLACES (4 * mask + 3) 0) where
-  is_row : digits_l 256 16 (number_l (2 ^ 32) (x ∷ y ∷ z ∷ w ∷ [])) ≡ row mask
+pub kept_table : IsTable PLACES (kept_places 0)
+kept_table = record { keeps = refl; small = refl }
+
+pub last_table : IsTable LAST (last_places 0)
+last_table = record { keeps = refl; small = refl }
+
+-- ---- four words of a table
+module _ (table : List ℕ) (kept : List Bool → List ℕ) (is : IsTable table kept) (mask x y z w : ℕ)
+    (first : x ≡ get_or table (4 * mask) 0) (second : y ≡ get_or table (4 * mask + 1) 0) (third : z ≡ get_or table (4 * mask + 2) 0) (fourth : w ≡ get_or table (4 * mask + 3) 0) where
+  is_row : digits_l 256 16 (number_l (2 ^ 32) (x ∷ y ∷ z ∷ w ∷ [])) ≡ row table mask
   is_row = λ i. digits_l 256 16 (number_l (2 ^ 32) (first i ∷ second i ∷ third i ∷ fourth i ∷ []))
 
-  pub places_small : mask < 256 → (k : ℕ) → get_or (digits_l 256 16 (number_l (2 ^ 32) (x ∷ y ∷ z ∷ w ∷ []))) k 0 < 16
-  places_small l = subst (λ xs. (k : ℕ) → get_or xs k 0 < 16) (sym is_row) (row_small mask l)
+  pub row_small : mask < 256 → (k : ℕ) → get_or (digits_l 256 16 (number_l (2 ^ 32) (x ∷ y ∷ z ∷ w ∷ []))) k 0 < 16
+  row_small l = subst (λ xs. (k : ℕ) → get_or xs k 0 < 16) (sym is_row) (below_16_at (row table mask) (small_at table 256 mask is.small l))
 
-  pub places_keep : (bs : List Bool) → length bs ≡ 8 → mask ≡ mask_l bs
-      → take (length (kept_places 0 bs)) (digits_l 256 16 (number_l (2 ^ 32) (x ∷ y ∷ z ∷ w ∷ []))) ≡ kept_places 0 bs
-  places_keep bs l m = ap (take (length (kept_places 0 bs))) (is_row ∙ ap row m) ∙ row_keeps bs l
+  pub row_keeps : (bs : List Bool) → length bs ≡ 8 → mask ≡ mask_l bs → take (length (kept bs)) (digits_l 256 16 (number_l (2 ^ 32) (x ∷ y ∷ z ∷ w ∷ []))) ≡ kept bs
+  row_keeps bs l m = ap (take (length (kept bs))) (is_row ∙ ap (row table) m) ∙ same_is _ _ (all_tests_at 8 (is_right table kept) is.keeps bs l)

@@ -1,10 +1,10 @@
 -- The UTF-8 of code units below U+0800, from both bytes of each and the places that are kept.
-use Rattle.std.proofs.Common.{IsTrue, not, eqb, ◌≡◌, ℕ, suc, ◌+◌, ◌*◌, ◌/◌, ◌%◌, ◌^◌, ◌<◌, ◌≤◌, Bool, true, false, cond, inl, inr, List, [], ◌∷◌, ◌++◌, map, length, take, get_or, encode_utf8_all, bit_and, replicate, refl, sym, ap, ◌∙◌, arith, subst, w16}
+use Rattle.std.proofs.Common.{◌≡◌, ℕ, suc, ◌+◌, ◌*◌, ◌/◌, ◌%◌, ◌^◌, ◌<◌, ◌≤◌, Bool, true, false, cond, inl, inr, List, [], ◌∷◌, ◌++◌, map, length, take, get_or, encode_utf8_all, bit_and, replicate, refl, sym, ap, ◌∙◌, arith, subst, w16}
 use Rattle.std.specs.Prelude.{nat_le}
-use Rattle.std.proofs.lemmas.Bool.{cases_lt, leb-false}
+use Rattle.std.proofs.lemmas.Bool.{cases_lt}
 use Rattle.std.proofs.lemmas.Bool.Decides.{nat_tests}
 use Rattle.std.proofs.lemmas.Grind.{same_number_lists}
-use Rattle.std.proofs.lemmas.List.{get_or_past, length-map, get_or-map, take-map}
+use Rattle.std.proofs.lemmas.List.{length-map, get_or-map, take-map}
 use Rattle.std.proofs.lemmas.Simd.{ones-mask_l_cons, get_or_narrower, Each1-from_get_or, swz_l, tops_compared, zip2_splat_left, mask_l-mod, mask_l-lt}
 use Rattle.std.proofs.lemmas.Nat.{and_mask}
 use Rattle.std.proofs.lemmas.Str.{encode_ascii}
@@ -16,7 +16,7 @@ use mir.Syntax.{Width, w8}
 use mir.Val.{hbits}
 use Rattle.encoding_kernels.specs.Lanes.{HasLanes}
 use Rattle.encoding_kernels.specs.Spelling.{kept_places, Spells}
-use Rattle.encoding_kernels.proofs.Lanes.LaneLemmas.{HasLanes-itself, HasLanes-splat, HasLanes-zip2, HasLanes-select, HasLanes-swizzle, compared, top_compared, mask_of, not_any}
+use Rattle.encoding_kernels.proofs.Lanes.LaneLemmas.{HasLanes-itself, HasLanes-splat, HasLanes-zip2, HasLanes-select, HasLanes-swizzle, compared, top_compared, mask_of}
 
 -- ---- how many places are kept
 ones-none : count_ones 0 ≡ 0
@@ -142,12 +142,3 @@ words_spell us words k long small is l =
   where
     word_small : (i : ℕ) → i < 8 → get_or words i 0 ≡ cond (nat_le 0x80 (get_or us i 0)) (both (get_or us i 0)) (get_or us i 0) → get_or words i 0 < 65536
     word_small i m e = rw e (pick (nat_le 0x80 (get_or us i 0)) (both (get_or us i 0)) (get_or us i 0) (omega arith) (omega (arith, small i)))
-
--- eight code units of which none is from U+0800 on
-pub all_short : (us : List ℕ) → length us ≡ 8 → IsTrue (not (not (eqb (mask_of 15 (zip2 (compared w16 leb) (replicate 8 0x800) us)) 0))) → (k : ℕ) → get_or us k 0 < 0x800
-all_short us long t k = elim (cases_lt k 8) [
-  | inl l ↦
-      let tests = not_any 15 (HasLanes-zip2 (compared w16 leb) (HasLanes-splat 8 0x800) (HasLanes-itself 8 us long)) (omega arith) in
-      leb-false _ _ (sym (top_compared w16 (leb 0x800 (get_or us k 0))) ∙ tests.0 t k l)
-  | inr l ↦ omega (arith, get_or_past us k 0 (omega (arith, long)))
-]

@@ -21,7 +21,7 @@ firsts_over w at count xs lanes room long =
     let chosen = HasLanes-select (hbits w) first (HasLanes-itself 16 lanes long) (HasLanes-itself 16 (chunk at 16 xs) (length-chunk at 16 xs room)) in
     HasLanes-same chosen (λ k l. ap (λ b. cond b (get_or lanes k 0) (get_or (chunk at 16 xs) k 0)) (top_compared w (ltb k count)))
 
-module _ (at count more : ℕ) (xs first second z : List ℕ) (room : at + 32 ≤ length xs) (few : count ≤ 16) (long : length first ≡ 16) (many : 8 ≤ count)
+module _ (at count more : ℕ) (xs first second z : List ℕ) (room : at + 32 ≤ length xs) (few : count ≤ 16) (long : length first ≡ 16)
     (less : more ≤ 16) (also : length second ≡ 16)
     (lanes : HasLanes 16 z (λ k. cond (ltb k more) (get_or second k 0) (get_or (chunk (at + count) 16 xs) k 0))) where
   stored : List ℕ

@@ -1,5 +1,6 @@
 -- Masks as tests of lanes: joined, chosen by, and what holds where no lane passes.
-use Rattle.std.proofs.Common.{◌≡◌, ℕ, ◌-◌, ◌^◌, ◌<◌, ◌≤◌, ◌↔◌, IsTrue, Bool, true, false, not, cond, ◌&&◌, ◌||◌, eqb, List, map, replicate, bit_and, bit_or, bit_xor, sym, ap, ◌∙◌, arith}
+use Rattle.std.proofs.Common.{◌≡◌, ℕ, ◌-◌, ◌^◌, ◌+◌, ◌<◌, ◌≤◌, ◌↔◌, IsTrue, Bool, true, false, not, cond, ◌&&◌, ◌||◌, eqb, List, map, replicate, bit_and, bit_or, bit_xor, sym, ap, ◌∙◌, arith, subst}
+use Rattle.std.proofs.lemmas.Bool.{false≢true}
 use Rattle.std.specs.Int.Bits.{and_self, and_zero_l, and_zero_r, or_self, or_zero_l, or_zero_r, xor_self, xor_zero_l, xor_zero_r}
 use Rattle.std.specs.Simd.Lanes.{zip2, top, sel_l}
 use Rattle.std.proofs.lemmas.Simd.{trailing_mask_l}
@@ -7,7 +8,8 @@ use lib.Count.{count_trailing_zeros}
 use mir.Syntax.{Width}
 use mir.Val.{bits, hbits}
 use Rattle.encoding_kernels.specs.Lanes.{HasLanes}
-use Rattle.encoding_kernels.proofs.Lanes.LaneLemmas.{HasLanes-zip2, HasLanes-splat, HasLanes-select, HasLanes-same, compared, top_compared, mask_of, mask_is, not_any_is, IsFirstSet, first_set, first_none}
+use Rattle.encoding_kernels.specs.Places.{Marks}
+use Rattle.encoding_kernels.proofs.Lanes.LaneLemmas.{HasLanes-zip2, HasLanes-splat, HasLanes-select, HasLanes-same, compared, top_compared, mask_of, mask_is, not_any_is, IsFirstSet, first_set, first_none, no_bit_from}
 
 -- lane k of the mask says whether t holds of k: all its bits are set, or none
 pub record HasTests (w : Width) (n : ℕ) (mask : List ℕ) (t : ℕ → Bool) : Type 0 where
@@ -72,3 +74,21 @@ module _ {w : Width} {n : ℕ} {a : List ℕ} {t : ℕ → Bool} where
   lowest_is_first p few some =
       let is = mask_is (hbits w) n a p.lanes.long few in
       of_tests w (first_set (hbits w) p.lanes few _ (ap (count_trailing_zeros 64) is ∙ trailing_mask_l (top (hbits w)) 64 a (omega (arith, p.lanes.long)) (omega (arith, is))))
+
+  -- of the places from one on, whose tests the lanes are
+  pub marks_of : (P : ℕ → Type 0) (at : ℕ) → HasTests w n a t → n ≤ 64 → ((k : ℕ) → k < n → (t k ≡ false) ↔ P (at + k)) → Marks P at n (mask_of (hbits w) a)
+  marks_of P at p few is =
+      let there = λ (k : ℕ) (from : at ≤ k) (l : k - at < n) (e : t (k - at) ≡ false). subst P {x = at + (k - at)} {y = k} (omega arith) ((is (k - at) l).0 e) in
+      record {
+        none = (
+          λ e k from to. there k from (omega arith) ((none_is_first p few e).before (k - at) (omega arith)),
+          λ h. no_bit_from (hbits w) p.lanes few (λ k l. top_compared w (t k) ∙ (is k l).1 (h (at + k) (omega arith) (omega arith))),
+        );
+        lowest = λ some.
+            let first = lowest_is_first p few some in
+            record {
+              within = first.within;
+              pass = λ k from to. there k from (omega (arith, first.within)) (first.before (k - at) (omega arith));
+              stops = λ l h. false≢true (sym ((is _ l).1 h) ∙ first.found l);
+            };
+      }

@@ -5,7 +5,8 @@ use Rattle.std.proofs.lemmas.List.{get_or_past}
 use Rattle.std.proofs.lemmas.Bool.Decides.{nat_tests}
 use Rattle.encoding_definitions.specs.Latin1.{IsUtf8Latin1}
 use Rattle.encoding_definitions.specs.Sequence.{IsContinuation}
-use Rattle.encoding_kernels.specs.Pairs.{PairUp, HaveNoSurrogate, FitsLatin1, FitLatin1}
+use Rattle.encoding_kernels.specs.Pairs.{PairUp, HaveNoSurrogate, FitsLatin1, FitLatin1, pair_fault, latin1_fault}
+use Rattle.encoding_kernels.specs.Places.{PassBetween}
 use Rattle.encoding_kernels.specs.Strides.{BelowUpTo}
 use Rattle.encoding_definitions.specs.Surrogates.{IsValidUtf16}
 use Rattle.encoding_definitions.specs.Utf16.{IsHighSurrogate, IsLowSurrogate}
@@ -103,17 +104,14 @@ same_tests false false e = (λ p. p, λ p. p)
 same_lane : (a b : Bool) (P Q : Type 0) → (a ≡ true) ↔ P → (b ≡ true) ↔ Q → cond a (not b) b ≡ false → P ↔ Q
 same_lane a b P Q p q e = let same = same_tests a b e in (λ x. q.0 (same.0 (p.1 x)), λ y. p.0 (same.1 (q.1 y)))
 
-abbrev pub pair_fault : ℕ → ℕ → Bool
-pair_fault x y = cond (eqb (bit_and x 0xFC00) 0xDC00) (not (eqb (bit_and y 0xFC00) 0xD800)) (eqb (bit_and y 0xFC00) 0xD800)
-
-pub paired_lanes : (us : List ℕ) (at n : ℕ) → 0 < at → ((k : ℕ) → slice_index us k < 2 ^ 16)
-    → ((k : ℕ) → k < n → pair_fault (slice_index us (at + k)) (slice_index us (at - 1 + k)) ≡ false) → PairUp us at (at + n)
-paired_lanes us at n some units none = record {
-  each = λ k from to.
-      let here : at + (k - at) ≡ k = omega arith in
-      let before : at - 1 + (k - at) ≡ k - 1 = omega arith in
-      let clean : pair_fault (slice_index us k) (slice_index us (k - 1)) ≡ false = rw (here, before) at (none (k - at) (omega arith)) in
-      let last : slice_index (0 ∷ us) k ≡ slice_index us (k - 1) = ap (λ i. slice_index (0 ∷ us) i) {x = k} {y = k - 1 + 1} (omega arith) ∙ before_next us (k - 1) in
+-- pairs that stand side by side without a fault, as the rule on each unit and the one before it
+pub pairs_up : (us : List ℕ) (from to at end : ℕ) → from < at → end ≤ to + 1 → ((k : ℕ) → slice_index us k < 2 ^ 16) → PassBetween (λ k. pair_fault (slice_index us (k + 1)) (slice_index us k) ≡ false) from to
+    → PairUp us at end
+pairs_up us from to at end o p units none = record {
+  each = λ k l m.
+      let here : k - 1 + 1 ≡ k = omega arith in
+      let clean : pair_fault (slice_index us k) (slice_index us (k - 1)) ≡ false = rw here at (none (k - 1) (omega arith) (omega arith)) in
+      let last : slice_index (0 ∷ us) k ≡ slice_index us (k - 1) = ap (λ i. slice_index (0 ∷ us) i) (sym here) ∙ before_next us (k - 1) in
       let low = low_test (slice_index us k) (units k) in
       let high = high_test (slice_index us (k - 1)) (units (k - 1)) in
       subst (λ u. IsLowSurrogate (slice_index us k) ↔ IsHighSurrogate u) (sym last) (same_lane _ _ _ _ low high clean);
@@ -247,9 +245,6 @@ ascii_latin1 bs (suc n) l low =
     let last : slice_index bs (suc n - 1) < 0x80 = low (suc n - 1) (omega arith) in
     latin1_whole bs (suc n) l (omega arith) (ascii_fits bs (suc n) low) (λ h. omega arith)
 
-abbrev pub latin1_fault : ℕ → ℕ → Bool
-latin1_fault b a = cond (eqb (bit_and b 0xC0) 0x80) (not (leb 0xC0 a)) (leb 0xC0 a) || (eqb (bit_and b 0xFE) 0xC0 || leb 0xC4 b)
-
 follows_test : (b : ℕ) → b < 256 → eqb (bit_and b 0xC0) 0x80 ≡ (leb 0x80 b && ltb b 0xC0)
 follows_test b l = agree_below_at (λ x. eqb (bit_and x 0xC0) 0x80) (λ x. leb 0x80 x && ltb x 0xC0) 256 b refl l
 
@@ -266,13 +261,12 @@ fits_from b a e = record {
 fits_lane : (b a : ℕ) → b < 256 → latin1_fault b a ≡ false → FitsLatin1 a b
 fits_lane b a l e = fits_from b a (rw (follows_test b l, overlong_test b l) at e)
 
-pub latin1_lanes : (bs : List ℕ) (at n : ℕ) → 0 < at → ((k : ℕ) → slice_index bs k < 256)
-    → ((k : ℕ) → k < n → latin1_fault (slice_index bs (at + k)) (slice_index bs (at - 1 + k)) ≡ false) → FitLatin1 bs at (at + n)
-latin1_lanes bs at n some bytes none = record {
-  each = λ k from to.
-      let here : at + (k - at) ≡ k = omega arith in
-      let before : at - 1 + (k - at) ≡ k - 1 = omega arith in
-      let clean : latin1_fault (slice_index bs k) (slice_index bs (k - 1)) ≡ false = rw (here, before) at (none (k - at) (omega arith)) in
-      let last : slice_index (0 ∷ bs) k ≡ slice_index bs (k - 1) = ap (λ i. slice_index (0 ∷ bs) i) {x = k} {y = k - 1 + 1} (omega arith) ∙ before_next bs (k - 1) in
+pub pairs_fit : (bs : List ℕ) (from to at end : ℕ) → from < at → end ≤ to + 1 → ((k : ℕ) → slice_index bs k < 256) → PassBetween (λ k. latin1_fault (slice_index bs (k + 1)) (slice_index bs k) ≡ false) from to
+    → FitLatin1 bs at end
+pairs_fit bs from to at end o p bytes none = record {
+  each = λ k l m.
+      let here : k - 1 + 1 ≡ k = omega arith in
+      let clean : latin1_fault (slice_index bs k) (slice_index bs (k - 1)) ≡ false = rw here at (none (k - 1) (omega arith) (omega arith)) in
+      let last : slice_index (0 ∷ bs) k ≡ slice_index bs (k - 1) = ap (λ i. slice_index (0 ∷ bs) i) (sym here) ∙ before_next bs (k - 1) in
       subst (λ a. FitsLatin1 a (slice_index bs k)) (sym last) (fits_lane (slice_index bs k) (slice_index bs (k - 1)) (bytes k) clean);
 }

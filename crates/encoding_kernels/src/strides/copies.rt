@@ -1,13 +1,14 @@
 //! Copies by vectors, of ASCII as far as it goes.
 
-ghost use Rattle.std.specs.Prelude.{◌≡◌, ◌+◌, ◌%◌, ◌<◌, ◌≤◌, ◌++◌, ℕ, List, length, map, take, drop, slice_index};
+ghost use Rattle.std.specs.Prelude.{◌≡◌, ◌+◌, ◌%◌, ◌<◌, ◌≤◌, ◌++◌, length, map, take, drop, slice_index};
 ghost use Rattle.encoding_definitions.specs.Fronts.{WritesFront};
-ghost use Rattle.encoding_kernels.specs.Strides.{AllBelow, BelowUpTo};
+ghost use Rattle.encoding_kernels.specs.Strides.{AllBelow, BelowUpTo, CopiesAscii};
 
 use super::{
-    ASCII_END, BASIC_LATIN_END, HALF_STRIDE, STRIDE, are_bytes_below, are_units_below, run_below,
-    run_of_units_below,
+    ASCII_END, BASIC_LATIN_END, HALF_STRIDE, STRIDE, UnitsBelow, are_bytes_below, are_units_below,
+    run_below,
 };
+use crate::places::run;
 use std::simd::Simd;
 use std::simd::prelude::*;
 
@@ -96,10 +97,7 @@ pub fn narrow_lower<const N: usize>(stride: &[u16; N], dst: &mut [u8], at: usize
 #[inline(always)]
 pub fn copy_ascii<const N: usize>(src: &[u8], dst: &mut [u8], from: usize) -> usize
     requires { (from ≤ length src.now) × (from ≤ length dst.old) × (0 < N) × (N ≤ 64) }
-    ensures within { (result ≤ length src.now) × (result ≤ length dst.old) }
-    ensures ascii { BelowUpTo 0x80 src.now from → BelowUpTo 0x80 src.now result }
-    ensures copied { (first : List ℕ) → WritesFront first dst.old from (take from src.now)
-        → WritesFront first dst.new result (take result src.now) }
+    ensures copies { CopiesAscii src.now dst.old dst.new from result }
     ensures stops { result + N ≤ length src.now → result + N ≤ length dst.old
         → AllBelow 0x80 src.now result N → ⊥ }
 {
@@ -120,10 +118,7 @@ pub fn copy_ascii<const N: usize>(src: &[u8], dst: &mut [u8], from: usize) -> us
 #[inline(always)]
 pub(crate) fn widen_ascii<const N: usize>(src: &[u8], dst: &mut [u16], from: usize) -> usize
     requires { (from ≤ length src.now) × (from ≤ length dst.old) × (0 < N) × (N ≤ 64) }
-    ensures within { (result ≤ length src.now) × (result ≤ length dst.old) }
-    ensures ascii { BelowUpTo 0x80 src.now from → BelowUpTo 0x80 src.now result }
-    ensures copied { (first : List ℕ) → WritesFront first dst.old from (take from src.now)
-        → WritesFront first dst.new result (take result src.now) }
+    ensures copies { CopiesAscii src.now dst.old dst.new from result }
     ensures stops { result + N ≤ length src.now → result + N ≤ length dst.old
         → AllBelow 0x80 src.now result N → ⊥ }
 {
@@ -144,10 +139,7 @@ pub(crate) fn widen_ascii<const N: usize>(src: &[u8], dst: &mut [u16], from: usi
 #[inline(always)]
 pub(crate) fn narrow_ascii<const N: usize>(src: &[u16], dst: &mut [u8], from: usize) -> usize
     requires { (from ≤ length src.now) × (from ≤ length dst.old) × (0 < N) × (N ≤ 64) }
-    ensures within { (result ≤ length src.now) × (result ≤ length dst.old) }
-    ensures ascii { BelowUpTo 0x80 src.now from → BelowUpTo 0x80 src.now result }
-    ensures copied { (first : List ℕ) → WritesFront first dst.old from (take from src.now)
-        → WritesFront first dst.new result (take result src.now) }
+    ensures copies { CopiesAscii src.now dst.old dst.new from result }
     ensures stops { result + N ≤ length src.now → result + N ≤ length dst.old
         → AllBelow 0x80 src.now result N → ⊥ }
 {
@@ -197,10 +189,7 @@ fn copy_last_ascii(src: &[u8], dst: &mut [u8], from: usize) -> usize
     requires within { (from ≤ length src.now) × (from ≤ length dst.old) }
     requires ascii { BelowUpTo 0x80 src.now from }
     requires last { from + 16 ≤ length src.now → from + 16 ≤ length dst.old → AllBelow 0x80 src.now from 16 → ⊥ }
-    ensures within { (result ≤ length src.now) × (result ≤ length dst.old) }
-    ensures ascii { BelowUpTo 0x80 src.now result }
-    ensures copied { (first : List ℕ) → WritesFront first dst.old from (take from src.now)
-        → WritesFront first dst.new result (take result src.now) }
+    ensures copies { CopiesAscii src.now dst.old dst.new from result }
     ensures stops { result < length src.now → result < length dst.old → 0x80 ≤ slice_index src.now result }
 {
     let room = src.len().min(dst.len());
@@ -220,10 +209,7 @@ fn widen_last_ascii(src: &[u8], dst: &mut [u16], from: usize) -> usize
     requires within { (from ≤ length src.now) × (from ≤ length dst.old) }
     requires ascii { BelowUpTo 0x80 src.now from }
     requires last { from + 16 ≤ length src.now → from + 16 ≤ length dst.old → AllBelow 0x80 src.now from 16 → ⊥ }
-    ensures within { (result ≤ length src.now) × (result ≤ length dst.old) }
-    ensures ascii { BelowUpTo 0x80 src.now result }
-    ensures copied { (first : List ℕ) → WritesFront first dst.old from (take from src.now)
-        → WritesFront first dst.new result (take result src.now) }
+    ensures copies { CopiesAscii src.now dst.old dst.new from result }
     ensures stops { result < length src.now → result < length dst.old → 0x80 ≤ slice_index src.now result }
 {
     let room = src.len().min(dst.len());
@@ -243,10 +229,7 @@ fn narrow_last_ascii(src: &[u16], dst: &mut [u8], from: usize) -> usize
     requires within { (from ≤ length src.now) × (from ≤ length dst.old) }
     requires ascii { BelowUpTo 0x80 src.now from }
     requires last { from + 16 ≤ length src.now → from + 16 ≤ length dst.old → AllBelow 0x80 src.now from 16 → ⊥ }
-    ensures within { (result ≤ length src.now) × (result ≤ length dst.old) }
-    ensures ascii { BelowUpTo 0x80 src.now result }
-    ensures copied { (first : List ℕ) → WritesFront first dst.old from (take from src.now)
-        → WritesFront first dst.new result (take result src.now) }
+    ensures copies { CopiesAscii src.now dst.old dst.new from result }
     ensures stops { result < length src.now → result < length dst.old → 0x80 ≤ slice_index src.now result }
 {
     let room = src.len().min(dst.len());
@@ -254,7 +237,11 @@ fn narrow_last_ascii(src: &[u16], dst: &mut [u8], from: usize) -> usize
         return narrow_ascii::<1>(src, dst, from);
     }
     let at = from.min(room - STRIDE);
-    let run = run_of_units_below::<STRIDE>(src, at, BASIC_LATIN_END);
+    let units = UnitsBelow {
+        units: src,
+        bound: BASIC_LATIN_END,
+    };
+    let run = run::<STRIDE, _>(&units, at);
     let lower = u16x16::from_slice(&src[at..]) & u16x16::splat(0xFF);
     put_first(dst, at, lower.cast::<u8>(), run);
     at + run
@@ -264,9 +251,7 @@ fn narrow_last_ascii(src: &[u16], dst: &mut [u8], from: usize) -> usize
 /// this is among the first ones is seen first.
 #[inline(always)]
 pub fn copy_ascii_front(src: &[u8], dst: &mut [u8]) -> usize
-    ensures within { (result ≤ length src.now) × (result ≤ length dst.old) }
-    ensures ascii { BelowUpTo 0x80 src.now result }
-    ensures copied { WritesFront dst.old dst.new result (take result src.now) }
+    ensures copies { CopiesAscii src.now dst.old dst.new 0 result }
     ensures stops { result < length src.now → result < length dst.old → 0x80 ≤ slice_index src.now result }
 {
     if src.len() >= STRIDE && dst.len() >= STRIDE && !are_bytes_below::<STRIDE>(src, 0, ASCII_END) {
@@ -281,9 +266,7 @@ pub fn copy_ascii_front(src: &[u8], dst: &mut [u8]) -> usize
 /// returns how many. That this is among the first ones is seen first.
 #[inline(always)]
 pub fn widen_ascii_front(src: &[u8], dst: &mut [u16]) -> usize
-    ensures within { (result ≤ length src.now) × (result ≤ length dst.old) }
-    ensures ascii { BelowUpTo 0x80 src.now result }
-    ensures copied { WritesFront dst.old dst.new result (take result src.now) }
+    ensures copies { CopiesAscii src.now dst.old dst.new 0 result }
     ensures stops { result < length src.now → result < length dst.old → 0x80 ≤ slice_index src.now result }
 {
     if src.len() >= STRIDE && dst.len() >= STRIDE && !are_bytes_below::<STRIDE>(src, 0, ASCII_END) {
@@ -298,9 +281,7 @@ pub fn widen_ascii_front(src: &[u8], dst: &mut [u16]) -> usize
 /// returns how many. That this is among the first ones is seen first.
 #[inline(always)]
 pub fn narrow_ascii_front(src: &[u16], dst: &mut [u8]) -> usize
-    ensures within { (result ≤ length src.now) × (result ≤ length dst.old) }
-    ensures ascii { BelowUpTo 0x80 src.now result }
-    ensures copied { WritesFront dst.old dst.new result (take result src.now) }
+    ensures copies { CopiesAscii src.now dst.old dst.new 0 result }
     ensures stops { result < length src.now → result < length dst.old → 0x80 ≤ slice_index src.now result }
 {
     if src.len() >= STRIDE

@@ -14,10 +14,10 @@ use super::checks::{LATIN1_END, str_latin1_up_to, utf8_latin1_up_to};
 use crate::ascii::ascii_valid_up_to;
 use crate::utf_8::{character_length, utf8_valid_up_to};
 use encoding_kernels::bidi_blocks::{
-    FIRST_LEAD, FIRST_UNIT, STRIDE, UNIT_STRIDE, skip_clear, skip_clear_units, units_below,
+    FIRST_LEAD, FIRST_UNIT, STRIDE, UNIT_STRIDE, skip_clear, skip_clear_units,
 };
 use encoding_kernels::scalars::scalar_of_sequence;
-use encoding_kernels::strides::front_below;
+use encoding_kernels::strides::{front_below, front_of_units_below};
 
 /// The first right-to-left scalar value.
 const FIRST: u32 = 0x0590;
@@ -175,7 +175,7 @@ pub fn is_utf8_bidi(buffer: &[u8]) -> bool
 pub fn is_utf16_bidi(buffer: &[u16]) -> bool
     ensures { IsTrue result ↔ IsBidiUnits buffer.now }
 {
-    let mut at = units_below(buffer, FIRST_UNIT);
+    let mut at = front_of_units_below(buffer, FIRST_UNIT);
     while at < buffer.len() {
         let from = skip_clear_units(buffer, at);
         at = from + UNIT_STRIDE.min(buffer.len() - from);
@@ -192,7 +192,7 @@ pub fn is_utf16_bidi(buffer: &[u16]) -> bool
 fn utf16_latin1_up_to(buffer: &[u16]) -> usize
     ensures { IsLongestFront IsLatin1 buffer.now result }
 {
-    units_below(buffer, LATIN1_END)
+    front_of_units_below(buffer, LATIN1_END)
 }
 
 /// Returns `Latin1` where the bytes are the UTF-8 of scalar values up to U+00FF, else `Bidi` where `is_utf8_bidi` holds,

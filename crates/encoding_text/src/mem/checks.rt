@@ -10,8 +10,8 @@ use crate::ascii::ascii_valid_up_to;
 use encoding_kernels::pair_blocks::{BEYOND_LATIN1, latin1_blocks};
 use encoding_kernels::sequence::is_continuation;
 use encoding_kernels::strides::{
-    ASCII_END, BASIC_LATIN_END, STRIDE, are_all_below, are_all_bytes_below, front_behind_stride,
-    front_below, run_below,
+    ASCII_END, BASIC_LATIN_END, STRIDE, are_all_bytes_below, are_all_units_below,
+    front_behind_stride, front_below, run_below,
 };
 
 /// The least UTF-16 code unit that isn't Latin1.
@@ -31,7 +31,7 @@ pub fn is_ascii(buffer: &[u8]) -> bool
 pub fn is_basic_latin(buffer: &[u16]) -> bool
     ensures { IsTrue result ↔ IsAscii buffer.now }
 {
-    are_all_below(buffer, BASIC_LATIN_END)
+    are_all_units_below(buffer, BASIC_LATIN_END)
 }
 
 /// Whether the bytes are well-formed UTF-8 whose scalar values are each up to U+00FF.
@@ -52,7 +52,7 @@ pub fn is_str_latin1(buffer: &str) -> bool
 pub fn is_utf16_latin1(buffer: &[u16]) -> bool
     ensures { IsTrue result ↔ IsLatin1 buffer.now }
 {
-    are_all_below(buffer, LATIN1_END)
+    are_all_units_below(buffer, LATIN1_END)
 }
 
 /// The number of bytes in the longest front that is the UTF-8 of scalar values up to U+00FF.

@@ -8,7 +8,7 @@ use encoding_kernels::scalars::{utf8_length, utf16_length, write_scalar};
 use encoding_kernels::surrogates::{
     is_high_surrogate, is_low_surrogate, is_surrogate, pair_scalar,
 };
-use encoding_kernels::utf16_blocks::{BLOCK, convert_blocks, convert_paired_blocks};
+use encoding_kernels::utf16_blocks::{HALF_BLOCK, convert_blocks, convert_paired_blocks};
 
 /// What a lone surrogate counts as.
 pub(super) const REPLACEMENT: u32 = 0xFFFD;
@@ -35,7 +35,7 @@ fn scalar_at(src: &[u16], at: usize) -> u32
     REPLACEMENT
 }
 
-/// The characters that go one by one behind blocks: the first from U+0800 on among them is what ended these.
+/// The characters that go one by one behind blocks: the first surrogate among them is what ended these.
 const FEW_SINGLES: usize = 8;
 
 /// The characters that go one by one where blocks were sought in vain twice.
@@ -48,7 +48,7 @@ const MANY_SINGLES: usize = 32;
 fn singles_behind(units: usize, paired: usize, left: usize, in_vain: bool) -> usize
     ensures { paired ≡ 0 → 0 < result }
 {
-    if left <= BLOCK {
+    if left < HALF_BLOCK {
         return MANY_SINGLES;
     }
     if paired > 0 {
@@ -61,12 +61,12 @@ fn singles_behind(units: usize, paired: usize, left: usize, in_vain: bool) -> us
 }
 
 /// How many characters more go one by one behind this one, which isn't ASCII: of few none where it is what ended
-/// blocks.
+/// blocks, a pair or what counts as U+FFFD.
 #[inline(always)]
 fn singles_left(singles: usize, scalar: u32) -> usize
     requires { 0 < singles }
 {
-    if singles <= FEW_SINGLES && scalar >= 0x800 {
+    if singles <= FEW_SINGLES && scalar >= REPLACEMENT {
         return 0;
     }
     singles - 1
@@ -86,7 +86,11 @@ pub fn convert_utf16_to_utf8_partial_inner(src: &[u16], dst: &mut [u8]) -> (usiz
 {
     let mut read = 0;
     let mut written = 0;
-    let mut singles = if src.len() < 8 { MANY_SINGLES } else { 0 };
+    let mut singles = if src.len() < HALF_BLOCK {
+        MANY_SINGLES
+    } else {
+        0
+    };
     let mut in_vain = false;
     let end = dst.len().saturating_sub(LONGEST - 1);
     while read < src.len() && written < end {

@@ -1,30 +1,25 @@
-use Rattle.std.proofs.Common.{◌+◌, ◌-◌, length, arith, refl, subst}
-use Rattle.encoding_kernels.specs.BidiBlocks.{NoneStands}
-use Rattle.encoding_kernels.proofs.Bidi.BidiBlocksLemmas.{none_joined, none_to_end}
+use Rattle.std.proofs.Common.{◌+◌, arith, refl}
+use Rattle.encoding_kernels.proofs.Bidi.BidiBlocksLemmas.{none_joined, none_clear, none_low, none_last}
 use Rattle.encoding_kernels.proofs.bidi_blocks.skip_clear.Goals as goal
 
 pub loop-at-preserved : goal.loop-at-preserved
 loop-at-preserved c =
     let bs = c.args.bytes.now in
     let at = c.loop-at.at in
-    let block = none_joined bs c.args.from at (at + 64) c.loop-at.invariant.none (c.if-is_clear.ensures refl) in
+    let block = none_joined bs c.args.from at (at + 64) c.loop-at.invariant.none (none_clear bs at (at + 64) (c.if-all.ensures.0 refl)) in
     record {
-      behind = omega (arith, c.skip_low-at.ensures.within);
-      within = omega (arith, c.skip_low-at.ensures.within);
-      none = none_joined bs c.args.from (at + 64) _ block c.skip_low-at.ensures.none;
+      within = (omega (arith, c.skip-at.ensures.within), omega (arith, c.skip-at.ensures.within));
+      none = none_joined bs c.args.from (at + 64) _ block (none_low bs (at + 64) _ c.skip-at.ensures.pass);
     }
 
-pub loop-at-2-preserved : goal.loop-at-2-preserved
-loop-at-2-preserved c = record {
-  behind = omega arith;
-  within = omega arith;
-  none = none_joined c.args.bytes.now c.args.from c.loop-at-2.at (c.loop-at-2.at + 16) c.loop-at-2.invariant.none (c.if-not-is_clear.ensures refl);
-}
-
-pub returns-then-is_clear-2-clause-none : goal.returns-then-is_clear-2-clause-none
-returns-then-is_clear-2-clause-none c =
+pub returns-then-end-bytes-clause-none : goal.returns-then-end-bytes-clause-none
+returns-then-end-bytes-clause-none c =
     let bs = c.args.bytes.now in
-    let at = c.loop-at-2.at in
-    let last = length bs - 1 - 16 in
-    let block = subst (NoneStands bs last) {x = last + 16} {y = length bs - 1} (omega arith) (c.if-is_clear-2.ensures refl) in
-    none_joined bs c.args.from at (length bs) c.loop-at-2.invariant.none (none_to_end bs at last (omega arith) block)
+    let at = c.loop-at.at in
+    let end = c.reach-end.result in
+    none_joined bs c.args.from at _ c.loop-at.invariant.none (none_joined bs at end _ (none_clear bs at end c.reach-end.ensures.pass) (none_last bs end c.if-end-bytes.true))
+
+pub returns-else-end-bytes-clause-none : goal.returns-else-end-bytes-clause-none
+returns-else-end-bytes-clause-none c =
+    let bs = c.args.bytes.now in
+    none_joined bs c.args.from c.loop-at.at _ c.loop-at.invariant.none (none_clear bs c.loop-at.at _ c.reach-end.ensures.pass)

@@ -3,21 +3,7 @@ use Rattle.encoding_kernels.specs.BidiBlocks.{NoneRightToLeft}
 use Rattle.encoding_kernels.proofs.bidi_blocks.skip_clear_units.Given as goal
 
 abbrev pub invariant-loop-at : goal.invariant-loop-at
-invariant-loop-at l = record {
-  behind : l.from ≤ l.at;
-  within : l.at ≤ length l.units;
-  none : NoneRightToLeft l.units l.from l.at;
-}
+invariant-loop-at l = record { within : (l.from ≤ l.at) × (l.at ≤ length l.units); none : NoneRightToLeft l.units l.from l.at }
 
 abbrev pub decreases-loop-at : goal.decreases-loop-at
 decreases-loop-at l = length l.units - l.at
-
-abbrev pub invariant-loop-at-2 : goal.invariant-loop-at-2
-invariant-loop-at-2 l = record {
-  behind : l.from ≤ l.at;
-  within : l.at ≤ length l.units;
-  none : NoneRightToLeft l.units l.from l.at;
-}
-
-abbrev pub decreases-loop-at-2 : goal.decreases-loop-at-2
-decreases-loop-at-2 l = length l.units - l.at

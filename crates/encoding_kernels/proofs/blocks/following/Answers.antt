@@ -50,7 +50,7 @@ loop-at-preserved-then-is_ascii c =
     let whole : c.loop-at.at + c.clean_of_64-clean.result ≡ c.loop-at.at + 64 = omega (arith, c.clean_of_64-clean.ensures.within, c.if-clean-lt64.false) in
     let front = subst (FollowTo bs) whole (c.clean_of_64-clean.ensures.follow c.loop-at.invariant.front) in
     record {
-      started = omega (arith, c.skip_bytes_below-at.ensures.within);
-      within = c.skip_bytes_below-at.ensures.within.1;
-      front = FollowTo-ascii bs (c.loop-at.at + 64) _ front (IsClosedAt-behind_ascii bs c.loop-at.at _ (omega arith) (record { each = c.are_bytes_below-is_ascii.ensures.0 c.if-is_ascii.true })) (record { each = c.skip_bytes_below-at.ensures.below });
+      started = omega (arith, c.skip_ascii-at.ensures.within);
+      within = c.skip_ascii-at.ensures.within.1;
+      front = FollowTo-ascii bs (c.loop-at.at + 64) _ front (IsClosedAt-behind_ascii bs c.loop-at.at _ (omega arith) (record { each = c.are_bytes_below-is_ascii.ensures.0 c.if-is_ascii.true })) (record { each = c.skip_ascii-at.ensures.below });
     }

@@ -3,11 +3,11 @@ use Rattle.std.specs.Int.RustNames.{count_ones}
 use Rattle.encoding_kernels.proofs.LongestFronts.TextLoopLemmas.{due_ascii, due_block, due_exact, due_triples}
 use Rattle.encoding_kernels.proofs.text_units.put_some.Goals as goal
 
-pub returns-then-begins_ascii-clause-written : goal.returns-then-begins_ascii-clause-written
-returns-then-begins_ascii-clause-written c =
+pub returns-then-are_bytes_below-clause-written : goal.returns-then-are_bytes_below-clause-written
+returns-then-are_bytes_below-clause-written c =
     let run = c.widen_ascii-front.ensures in
     due_ascii c.args.src.now c.args.dst.now c.widen_ascii-front.new.dst c.widen_ascii-front.result 16 c.requires.text (omega arith) c.requires.room.1
-    (c.if-begins_ascii.ensures {u = tt} refl) run.within.0 run.ascii run.copied run.stops
+    (c.if-are_bytes_below.ensures.0 refl) run.copies.within.0 run.copies.ascii run.copies.copied run.stops
 
 pub returns-then-src-ge24-clause-written : goal.returns-then-src-ge24-clause-written
 returns-then-src-ge24-clause-written c = due_triples c.args.src.now c.args.dst.now c.put_triples.new.dst c.requires.text c.if-src-ge24.true c.put_triples.ensures

@@ -7,7 +7,7 @@ pub loop-read-preserved-then-are_units_below : goal.loop-read-preserved-then-are
 loop-read-preserved-then-are_units_below c =
     let us = c.args.src.now in
     let here = c.loop-read.invariant in
-    let call = c.narrow_ascii-front.ensures in
+    let call = c.narrow_ascii-front.ensures.copies in
     let below = call.ascii (λ k l. absurd (omega arith)) in
     record {
       within = omega (arith, call.within.0);

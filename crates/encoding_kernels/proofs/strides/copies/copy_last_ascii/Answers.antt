@@ -1,11 +1,10 @@
 use Rattle.std.proofs.Common.{◌+◌, ◌++◌, drop, take, ap, ◌∙◌, arith}
 use Rattle.std.proofs.lemmas.List.{take-take}
-use Rattle.encoding_kernels.proofs.Latin.AsciiLemmas.{run_passes}
-use Rattle.encoding_definitions.proofs.LongestFronts.FrontsLemmas.{WritesFront_again}
+use Rattle.encoding_kernels.proofs.Latin.AsciiLemmas.{copies_run}
 use Rattle.encoding_kernels.proofs.strides.copies.copy_last_ascii.Goals as goal
 
-pub returns-clause-copied : goal.returns-clause-copied
-returns-clause-copied c =
+pub returns-clause-copies : goal.returns-clause-copies
+returns-clause-copies c =
     let src = c.args.src.now in
     let dst = c.args.dst.now in
     let from = c.args.from in
@@ -13,6 +12,5 @@ returns-clause-copied c =
     let run = c.run_below-run.result in
     let r = c.run_below-run.ensures in
     let place = c.min-at.ensures in
-    let more = run_passes 0x80 from at 16 run src c.requires.ascii (omega (arith, place)) r in
     let put = c.put_first.ensures ∙ ap (λ ys. take at dst ++ (ys ++ drop (at + run) dst)) (take-take run 16 (drop at src) (omega (arith, r.within))) in
-    λ first w. WritesFront_again first dst c.put_first.new.dst src from at run w (omega arith) more (omega (arith, r.within)) (omega (arith, r.within)) put
+    copies_run src dst c.put_first.new.dst from at run c.requires.ascii (omega arith) (omega (arith, place)) (omega (arith, place)) (omega (arith, place)) r put

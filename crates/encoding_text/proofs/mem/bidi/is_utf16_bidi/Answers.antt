@@ -34,4 +34,4 @@ loop-at-preserved c =
     }
 
 pub loop-at-init : goal.loop-at-init
-loop-at-init c = let run = c.units_below-at.ensures in record { within = run.within; none = units_before c.args.buffer.now c.units_below-at.result run.below }
+loop-at-init c = let run = c.front_of_units_below-at.ensures in record { within = run.within; none = units_before c.args.buffer.now c.front_of_units_below-at.result run.below }

@@ -4,5 +4,5 @@ use Rattle.encoding_text.proofs.mem.bidi.utf16_latin1_up_to.Goals as goal
 
 pub returns : goal.returns
 returns c =
-    let run = c.units_below.ensures in
-    front_before (λ u. u ≤ 0xFF) (omega arith) c.args.buffer.now c.units_below.result run.within (λ k l. omega (arith, run.below k l)) (λ l low. omega (arith, run.stops l))
+    let run = c.front_of_units_below.ensures in
+    front_before (λ u. u ≤ 0xFF) (omega arith) c.args.buffer.now c.front_of_units_below.result run.within (λ k l. omega (arith, run.below k l)) (λ l low. omega (arith, run.stops l))

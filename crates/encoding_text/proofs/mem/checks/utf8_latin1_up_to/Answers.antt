@@ -9,5 +9,5 @@ returns-then-buffer-run-ge-BEYOND_LATIN1 c =
     let bytes = c.args.buffer.now in
     let run = c.run_below-run.result in
     let high = c.if-buffer-run-ge-BEYOND_LATIN1.true in
-    let below : BelowUpTo 0x80 bytes run = λ k l. c.run_below-run.ensures.below k (omega arith) (omega (arith, l)) in
+    let below : BelowUpTo 0x80 bytes run = λ k l. c.run_below-run.ensures.pass k (omega arith) (omega (arith, l)) in
     latin1_stop bytes run (omega arith) (ascii_latin1 bytes run (omega arith) below) (λ l. (omega (arith, high), λ p q r s t. omega (arith, high, q)))

@@ -8,7 +8,7 @@ use Rattle.encoding_text.proofs.mem.latin1.convert_latin1_blocks.Goals as goal
 
 pub loop-read-init : goal.loop-read-init
 loop-read-init c =
-    let call = c.copy_ascii-read.ensures in
+    let call = c.copy_ascii-read.ensures.copies in
     let ascii = Each-take (λ u. u < 0x80) (omega arith) c.args.src.now c.copy_ascii-read.result (call.ascii (λ k l. absurd (omega arith))) in
     record {
       within = call.within.0;
@@ -19,7 +19,7 @@ pub loop-read-preserved-then-are_bytes_below : goal.loop-read-preserved-then-are
 loop-read-preserved-then-are_bytes_below c =
     let us = c.args.src.now in
     let here = c.loop-read.invariant in
-    let call = c.copy_ascii-front.ensures in
+    let call = c.copy_ascii-front.ensures.copies in
     let below = call.ascii (λ k l. absurd (omega arith)) in
     record {
       within = omega (arith, call.within.0);

@@ -14,7 +14,7 @@ loop-read-init c =
     let src = c.args.src.now in
     let text = latin1_chars src c.requires.latin1 in
     let front = c.copy_ascii-read.result in
-    let call = c.copy_ascii-read.ensures in
+    let call = c.copy_ascii-read.ensures.copies in
     let run = ascii_front src (chars src) front text.0 (sym text.1) call.within.0 (call.ascii (λ k l. absurd (omega arith))) in
     record {
       within = call.within.0;
@@ -29,7 +29,7 @@ loop-read-preserved-then-are_bytes_below c =
     let text = latin1_chars src c.requires.latin1 in
     let had = c.loop-read.invariant in
     let dst = c.loop-read.dst in
-    let call = c.copy_ascii-front.ensures in
+    let call = c.copy_ascii-front.ensures.copies in
     let below = call.ascii (λ k l. absurd (omega arith)) in
     let copied = call.copied _ (WritesFront-nil (take (length dst - c.loop-read.written) (drop c.loop-read.written dst))) in
     record {

@@ -1,0 +1,285 @@
+-- The UTF-8 of code units in four bytes each, of which the last ones are kept.
+use Rattle.std.proofs.Common.{◌≡◌, ℕ, suc, ◌+◌, ◌-◌, ◌*◌, ◌/◌, ◌%◌, ◌^◌, ◌<◌, ◌≤◌, IsTrue, Bool, true, false, not, eqb, cond, inl, inr, replicate, Fits, w16, List, [], ◌∷◌, ◌++◌, map, length, take, drop, get_or, encode_utf8_all, bit_and, refl, sym, ap, ◌∙◌, arith, subst, w8, leb, ltb, length-take-le, take-append-drop}
+use Rattle.std.specs.Prelude.{nat_lt}
+use Rattle.std.proofs.lemmas.Bool.{cases_lt, eqb-false, ltb-true, lt-ltb, false≢true}
+use Rattle.std.proofs.lemmas.Bool.Decides.{nat_tests}
+use Rattle.std.proofs.lemmas.List.{take-map, get_or_append_left, get_or-append_right}
+use Rattle.std.proofs.lemmas.Nat.{and_mask}
+use Rattle.std.proofs.lemmas.Nat.Bits.{and_high_mask}
+use Rattle.std.proofs.lemmas.Simd.{ones-mask_l_cons, get_or_narrower, Each1-from_get_or, Each1-get_or, swz_l, mask_l-lt}
+use Rattle.std.proofs.lemmas.Str.{encode_ascii, encodes-append}
+use Rattle.std.proofs.str.Laws.{two, three}
+use Rattle.std.specs.Int.RustNames.{count_ones}
+use Rattle.std.specs.Simd.Lanes.{mask_l, number_l, digits_l, pick_l, zip2, sel_l, top, Each1}
+use Rattle.encoding_kernels.specs.Lanes.{HasLanes}
+use Rattle.encoding_kernels.specs.Spelling.{last_places, classes, SpellsLast}
+use Rattle.encoding_kernels.proofs.Lanes.KeptLemmas.{mask_append}
+use Rattle.encoding_kernels.proofs.Lanes.LaneLemmas.{HasLanes-itself, HasLanes-splat, HasLanes-zip2, compared, mask_of}
+use Rattle.encoding_kernels.proofs.Lanes.TestLemmas.{tests_of, chosen, chosen_by, none_passes}
+use Rattle.encoding_kernels.proofs.Lanes.SpellingLemmas.{looked_up, mask_from, pick}
+use Rattle.encoding_kernels.proofs.Lanes.UnitLanesLemmas.{picked_lanes}
+
+-- ---- the test
+pub all_plain : (us : List ℕ) → length us ≡ 8 → Each1 (Fits w16) us → IsTrue (not (not (eqb (mask_of 15 (zip2 (compared w16 eqb) (zip2 bit_and us (replicate 8 0xF800)) (replicate 8 0xD800))) 0)))
+    → (k : ℕ) → k < 8 → (0xD800 ≤ get_or us k 0) × (get_or us k 0 ≤ 0xDFFF) → ⊥
+all_plain us long fit t k l r =
+    let x = get_or us k 0 in
+    let tops = HasLanes-zip2 bit_and (HasLanes-itself 8 us long) (HasLanes-splat 8 0xF800) in
+    let other = (none_passes (tests_of w16 eqb tops (HasLanes-splat 8 0xD800)) (omega arith)).0 t k l in
+    let top_bits : bit_and x 0xF800 ≡ x / 2048 * 2048 = and_high_mask 16 11 (omega arith) x (Each1-get_or (Fits w16) us k 0 (omega (arith, long)) fit).fits in
+    eqb-false _ _ other (omega (arith, top_bits, r.0, r.1))
+
+-- ---- the classes
+pub classes_long : (us : List ℕ) → length (classes us) ≡ 2 * length us
+classes_long [] = refl
+classes_long (u ∷ us) = omega (arith, classes_long us)
+
+classes-append : (us vs : List ℕ) → classes (us ++ vs) ≡ classes us ++ classes vs
+classes-append [] vs = refl
+classes-append (u ∷ us) vs = ap (λ bs. nat_lt u 0x80 ∷ nat_lt u 0x800 ∷ bs) (classes-append us vs)
+
+ascii_short : (u : ℕ) → nat_lt u 0x80 ≡ true → nat_lt u 0x800 ≡ true
+ascii_short u e = lt-ltb u 0x800 (let l = ltb-true u 0x80 e in omega arith)
+
+-- the masks of the first four and of the others
+pub both_masks : (us : List ℕ) (mask : ℕ) → length us ≡ 8 → mask ≡ mask_l (classes us)
+    → (bit_and mask 0xFF ≡ mask_l (classes (take 4 us))) × (mask / 2 ^ 8 ≡ mask_l (classes (drop 4 us)))
+both_masks us mask long e =
+    let front = classes (take 4 us) in
+    let eight : length front ≡ 8 = omega (arith, classes_long (take 4 us), length-take-le 4 us (omega arith)) in
+    let split : mask_l (classes us) ≡ mask_l (classes (drop 4 us)) * 2 ^ length front + mask_l front =
+    ap (λ xs. mask_l (classes xs)) (sym (take-append-drop 4 us)) ∙ ap mask_l (classes-append (take 4 us) (drop 4 us)) ∙ mask_append front (classes (drop 4 us)) in
+    let whole : mask ≡ mask_l (classes (drop 4 us)) * 2 ^ 8 + mask_l front = e ∙ split ∙ ap (λ n. mask_l (classes (drop 4 us)) * 2 ^ n + mask_l front) eight in
+    let small : mask_l front < 2 ^ 8 = subst (λ n. mask_l front < 2 ^ n) eight (mask_l-lt front) in
+    let low : bit_and mask 0xFF ≡ mask % 2 ^ 8 = and_mask mask 8 in
+    (omega (arith, low, whole, small), omega (arith, whole, small))
+
+-- ---- how many places are kept
+ones-none : count_ones 0 ≡ 0
+unfolding count_ones
+ones-none = refl
+
+long_step : (at : ℕ) (a s : Bool) (bs : List Bool) (n : ℕ) → (a ≡ true → s ≡ true) → length (last_places (at + 4) bs) + count_ones (mask_l bs) ≡ n
+    → length (last_places at (a ∷ s ∷ bs)) + count_ones (mask_l (a ∷ s ∷ bs)) ≡ 3 + n
+long_step at true true bs n v e = omega (arith, e, ones-mask_l_cons true (true ∷ bs), ones-mask_l_cons true bs)
+long_step at true false bs n v e = absurd (false≢true (v refl))
+long_step at false true bs n v e = omega (arith, e, ones-mask_l_cons false (true ∷ bs), ones-mask_l_cons true bs)
+long_step at false false bs n v e = omega (arith, e, ones-mask_l_cons false (false ∷ bs), ones-mask_l_cons false bs)
+
+last_long : (at : ℕ) (us : List ℕ) → length (last_places at (classes us)) + count_ones (mask_l (classes us)) ≡ 3 * length us
+last_long at [] = omega (arith, ones-none)
+last_long at (u ∷ us) =
+    let step = long_step at (nat_lt u 0x80) (nat_lt u 0x800) (classes us) (3 * length us) (ascii_short u) (last_long (at + 4) us) in
+    let count : 3 + 3 * length us ≡ 3 * suc (length us) = omega arith in
+    step ∙ count
+
+-- ---- what stands at them
+last_step : (get : ℕ → ℕ) (at : ℕ) (a s : Bool) (ks spelled rest : List ℕ)
+    → cond a (get (at + 3) ∷ []) (cond s (get (at + 2) ∷ get (at + 3) ∷ []) (get (at + 1) ∷ get (at + 2) ∷ get (at + 3) ∷ [])) ≡ spelled → map get ks ≡ rest
+    → map get (cond a ((at + 3) ∷ []) (cond s ((at + 2) ∷ (at + 3) ∷ []) ((at + 1) ∷ (at + 2) ∷ (at + 3) ∷ [])) ++ ks) ≡ spelled ++ rest
+last_step get at true s ks spelled rest e r = ap (λ xs. get (at + 3) ∷ xs) r ∙ ap (λ xs. xs ++ rest) e
+last_step get at false true ks spelled rest e r = ap (λ xs. get (at + 2) ∷ get (at + 3) ∷ xs) r ∙ ap (λ xs. xs ++ rest) e
+last_step get at false false ks spelled rest e r = ap (λ xs. get (at + 1) ∷ get (at + 2) ∷ get (at + 3) ∷ xs) r ∙ ap (λ xs. xs ++ rest) e
+
+last_spell : (get : ℕ → ℕ) (us : List ℕ) (at : ℕ) → ((k : ℕ) → k < length us → SpellsLast (get_or us k 0) (get (at + 4 * k + 1)) (get (at + 4 * k + 2)) (get (at + 4 * k + 3)))
+    → map get (last_places at (classes us)) ≡ encode_utf8_all us
+last_spell get [] at h = refl
+last_spell get (u ∷ us) at h =
+    let first : at + 4 * 0 ≡ at = omega arith in
+    let here : SpellsLast u (get (at + 1)) (get (at + 2)) (get (at + 3)) = subst (λ k. SpellsLast u (get (k + 1)) (get (k + 2)) (get (k + 3))) first (h 0 (omega arith)) in
+    let more : (k : ℕ) → k < length us → SpellsLast (get_or us k 0) (get (at + 4 + 4 * k + 1)) (get (at + 4 + 4 * k + 2)) (get (at + 4 + 4 * k + 3)) = λ k l.
+    let e : at + 4 * suc k ≡ at + 4 + 4 * k = omega arith in
+    subst (λ j. SpellsLast (get_or us k 0) (get (j + 1)) (get (j + 2)) (get (j + 3))) e (h (suc k) (omega arith)) in
+    last_step get at (nat_lt u 0x80) (nat_lt u 0x800) _ _ _ here (last_spell get us (at + 4) more)
+
+pub spelled_four : (us bytes places : List ℕ) (mask : ℕ) → length us ≡ 4 → length places ≡ 16 → ((k : ℕ) → k < 16 → get_or places k 0 < 16) → mask ≡ mask_l (classes us)
+    → take (length (last_places 0 (classes us))) places ≡ last_places 0 (classes us)
+    → ((k : ℕ) → k < 4 → SpellsLast (get_or us k 0) (get_or bytes (4 * k + 1) 0) (get_or bytes (4 * k + 2) 0) (get_or bytes (4 * k + 3) 0))
+    → take (12 - count_ones mask) (swz_l w8 16 bytes 0 places) ≡ encode_utf8_all us
+spelled_four us bytes places mask l long small m kept spells =
+    let places_of = last_places 0 (classes us) in
+    let count : 12 - count_ones mask ≡ length places_of = omega (arith, last_long 0 us, ap count_ones m) in
+    let get : ℕ → ℕ = λ j. get_or bytes j 0 in
+    ap (λ n. take n (swz_l w8 16 bytes 0 places)) count ∙ ap (take (length places_of)) (looked_up bytes places long small)
+    ∙ take-map get (length places_of) places ∙ ap (map get) kept
+    ∙ last_spell get us 0 (λ k i. let e : 4 * k ≡ 0 + 4 * k = omega arith in subst (λ j. SpellsLast (get_or us k 0) (get (j + 1)) (get (j + 2)) (get (j + 3))) e (spells k (omega arith)))
+
+-- ---- two vectors of four
+pub both_spelled : (us first second : List ℕ) (n m : ℕ) → take n first ≡ encode_utf8_all (take 4 us) → take m second ≡ encode_utf8_all (drop 4 us)
+    → take n first ++ take m second ≡ encode_utf8_all us
+both_spelled us first second n m e f = (λ i. e i ++ f i) ∙ sym (encodes-append (take 4 us) (drop 4 us)) ∙ ap encode_utf8_all (take-append-drop 4 us)
+
+-- ---- the vector of classes
+abbrev pub class_word : ℕ → ℕ
+class_word u = cond (ltb u 0x80) 0xFFFF (cond (ltb u 0x800) 0xFF00 0)
+
+class_bytes : (a s : Bool) → (a ≡ true → s ≡ true) → (leb 0x80 (cond a 0xFFFF (cond s 0xFF00 0) / 256 ^ 0 % 256) ≡ a) × (leb 0x80 (cond a 0xFFFF (cond s 0xFF00 0) / 256 ^ 1 % 256) ≡ s)
+class_bytes true true v = (refl, refl)
+class_bytes true false v = absurd (false≢true (v refl))
+class_bytes false true v = (refl, refl)
+class_bytes false false v = (refl, refl)
+
+class_list : (us bs : List ℕ) → length bs ≡ 2 * length us
+    → ((k : ℕ) → k < length us → (leb 0x80 (get_or bs (2 * k) 0) ≡ nat_lt (get_or us k 0) 0x80) × (leb 0x80 (get_or bs (2 * k + 1) 0) ≡ nat_lt (get_or us k 0) 0x800))
+    → map (leb 0x80) bs ≡ classes us
+class_list [] [] e h = refl
+class_list [] (b ∷ bs) e h = absurd (omega arith)
+class_list (u ∷ us) [] e h = absurd (omega arith)
+class_list (u ∷ us) (a ∷ []) e h = absurd (omega arith)
+class_list (u ∷ us) (a ∷ b ∷ bs) e h =
+    let first = h 0 (omega arith) in
+    let rest = class_list us bs (omega arith) (λ k l.
+    let even : suc (suc (2 * k)) ≡ 2 * suc k = omega arith in
+    let odd : suc (suc (2 * k + 1)) ≡ 2 * suc k + 1 = omega arith in
+    let next = h (suc k) (omega arith) in
+    (ap (λ j. leb 0x80 (get_or (a ∷ b ∷ bs) j 0)) even ∙ next.0, ap (λ j. leb 0x80 (get_or (a ∷ b ∷ bs) j 0)) odd ∙ next.1)) in
+    λ i. first.0 i ∷ first.1 i ∷ rest i
+
+class_small : (u : ℕ) → class_word u < 65536
+class_small u = pick (ltb u 0x80) 0xFFFF _ (omega arith) (pick (ltb u 0x800) 0xFF00 0 (omega arith) (omega arith))
+
+pub classes_are : (us words : List ℕ) → length us ≡ 8 → HasLanes 8 words (λ k. class_word (get_or us k 0)) → map (leb 0x80) (digits_l 256 16 (number_l 65536 words)) ≡ classes us
+classes_are us words long lanes =
+    let fit : Each1 (λ x. x < 65536) words = Each1-from_get_or (λ x. x < 65536) words 0 (λ i m.
+    let within : i < 8 = omega (arith, lanes.long) in
+    subst (λ x. x < 65536) (sym (lanes.each i within)) (class_small (get_or us i 0))) in
+    let bytes = digits_l 256 16 (number_l 65536 words) in
+    let part : (k j : ℕ) → k < 8 → j < 2 → get_or bytes (2 * k + j) 0 ≡ class_word (get_or us k 0) / 256 ^ j % 256 = λ k j l m.
+    get_or_narrower 65536 2 256 16 words k j (omega arith) fit m (omega (arith, lanes.long)) ∙ ap (λ x. x / 256 ^ j % 256) (lanes.each k l) in
+    let sixteen : length bytes ≡ 2 * length us = omega (arith, long) in
+    class_list us bytes sixteen (λ k l.
+    let within : k < 8 = omega arith in
+    let u = get_or us k 0 in
+    let is = class_bytes (ltb u 0x80) (ltb u 0x800) (ascii_short u) in
+    let place : 2 * k ≡ 2 * k + 0 = omega arith in
+    (ap (leb 0x80) (ap (λ j. get_or bytes j 0) place ∙ part k 0 within (omega arith)) ∙ is.0, ap (leb 0x80) (part k 1 within (omega arith)) ∙ is.1))
+
+-- the mask of its bytes
+pub mask_is_classes : (us words : List ℕ) → length us ≡ 8 → HasLanes 8 words (λ k. class_word (get_or us k 0))
+    → mask_of 7 (zip2 (compared w8 leb) (replicate 16 0x80) (digits_l 256 16 (number_l 65536 words))) ≡ mask_l (classes us)
+mask_is_classes us words long lanes = mask_from w8 16 0x80 (digits_l 256 16 (number_l 65536 words)) refl (omega arith) ∙ ap mask_l (classes_are us words long lanes)
+
+-- ---- two words of a code unit
+abbrev pub lead_word : ℕ → ℕ
+lead_word u = (u / 2 ^ 12 * 2 ^ 8 % 2 ^ 16 + 0xE000) % 2 ^ 16
+
+abbrev pub rest_word : ℕ → ℕ
+rest_word u = cond (ltb u 0x80) (u * 2 ^ 8 % 2 ^ 16) (((bit_and (u / 2 ^ 6) 0x3F + bit_and u 0x3F * 2 ^ 8 % 2 ^ 16) % 2 ^ 16 + cond (ltb u 0x800) 0x80C0 0x8080) % 2 ^ 16)
+
+abbrev pub lead_words : List ℕ → List ℕ
+lead_words us = zip2 (λ a b. (a + b) % 2 ^ 16) (zip2 (λ a b. a * 2 ^ b % 2 ^ 16) (zip2 (λ a b. a / 2 ^ b) us (replicate 8 12)) (replicate 8 8)) (replicate 8 0xE000)
+
+abbrev pub rest_words : List ℕ → List ℕ
+rest_words us = sel_l (map (top 15) (zip2 (compared w16 ltb) us (replicate 8 0x80))) (zip2 (λ a b. a * 2 ^ b % 2 ^ 16) us (replicate 8 8))
+    (zip2 (λ a b. (a + b) % 2 ^ 16) (zip2 (λ a b. (a + b) % 2 ^ 16) (zip2 bit_and (zip2 (λ a b. a / 2 ^ b) us (replicate 8 6)) (replicate 8 0x3F)) (zip2 (λ a b. a * 2 ^ b % 2 ^ 16) (zip2 bit_and us (replicate 8 0x3F)) (replicate 8 8)))
+    (sel_l (map (top 15) (zip2 (compared w16 ltb) us (replicate 8 0x800))) (replicate 8 0x80C0) (replicate 8 0x8080)))
+
+module _ (us : List ℕ) (long : length us ≡ 8) where
+  pub lead_lanes : HasLanes 8 (lead_words us) (λ k. lead_word (get_or us k 0))
+  lead_lanes =
+      let units = HasLanes-itself 8 us long in
+      HasLanes-zip2 (λ a b. (a + b) % 2 ^ 16) (HasLanes-zip2 (λ a b. a * 2 ^ b % 2 ^ 16) (HasLanes-zip2 (λ a b. a / 2 ^ b) units (HasLanes-splat 8 12)) (HasLanes-splat 8 8)) (HasLanes-splat 8 0xE000)
+
+  pub rest_lanes : HasLanes 8 (rest_words us) (λ k. rest_word (get_or us k 0))
+  rest_lanes =
+      let units = HasLanes-itself 8 us long in
+      let left = λ (a b : ℕ). a * 2 ^ b % 2 ^ 16 in
+      let add = λ (a b : ℕ). (a + b) % 2 ^ 16 in
+      let mark = chosen 0x80C0 0x8080 (tests_of w16 ltb units (HasLanes-splat 8 0x800)) in
+      let middle = HasLanes-zip2 bit_and (HasLanes-zip2 (λ a b. a / 2 ^ b) units (HasLanes-splat 8 6)) (HasLanes-splat 8 0x3F) in
+      let several = HasLanes-zip2 add (HasLanes-zip2 add middle (HasLanes-zip2 left (HasLanes-zip2 bit_and units (HasLanes-splat 8 0x3F)) (HasLanes-splat 8 8))) mark in
+      chosen_by (tests_of w16 ltb units (HasLanes-splat 8 0x80)) (HasLanes-zip2 left units (HasLanes-splat 8 8)) several
+
+pub rest_small : (u : ℕ) → rest_word u < 65536
+rest_small u = pick (ltb u 0x80) _ _ (omega arith) (omega arith)
+
+spells_last : (u : ℕ) → u < 2 ^ 16 → SpellsLast u (lead_word u / 0x100) (rest_word u % 0x100) (rest_word u / 0x100)
+spells_last u h =
+    let low : bit_and u 0x3F ≡ u % 2 ^ 6 = and_mask u 6 in
+    let mid : bit_and (u / 2 ^ 6) 0x3F ≡ u / 2 ^ 6 % 2 ^ 6 = and_mask (u / 2 ^ 6) 6 in
+    elim (cases_lt u 0x80) [
+      | inl l ↦
+          let ascii : nat_lt u 0x80 ≡ true = grind (arith, nat_tests) in
+          let byte : u * 2 ^ 8 % 2 ^ 16 / 0x100 ≡ u = omega arith in
+          rw (ascii, byte) (sym (encode_ascii u l))
+      | inr l ↦
+          let ascii : nat_lt u 0x80 ≡ false = grind (arith, nat_tests) in
+          elim (cases_lt u 0x800) [
+            | inl m ↦
+                let short : nat_lt u 0x800 ≡ true = grind (arith, nat_tests) in
+                let y : ((bit_and (u / 2 ^ 6) 0x3F + bit_and u 0x3F * 2 ^ 8 % 2 ^ 16) % 2 ^ 16 + 0x80C0) % 2 ^ 16 % 0x100 ≡ 192 + u / 64 = omega arith in
+                let z : ((bit_and (u / 2 ^ 6) 0x3F + bit_and u 0x3F * 2 ^ 8 % 2 ^ 16) % 2 ^ 16 + 0x80C0) % 2 ^ 16 / 0x100 ≡ 128 + u % 64 = omega arith in
+                rw (ascii, short, y, z) (sym (two u l m))
+            | inr m ↦
+                let short : nat_lt u 0x800 ≡ false = grind (arith, nat_tests) in
+                let x : lead_word u / 0x100 ≡ 224 + u / 4096 = omega arith in
+                let y : ((bit_and (u / 2 ^ 6) 0x3F + bit_and u 0x3F * 2 ^ 8 % 2 ^ 16) % 2 ^ 16 + 0x8080) % 2 ^ 16 % 0x100 ≡ 128 + u / 64 % 64 = omega arith in
+                let z : ((bit_and (u / 2 ^ 6) 0x3F + bit_and u 0x3F * 2 ^ 8 % 2 ^ 16) % 2 ^ 16 + 0x8080) % 2 ^ 16 / 0x100 ≡ 128 + u % 64 = omega arith in
+                rw (ascii, short, x, y, z) (sym (three u m h))
+          ]
+    ]
+
+spell_again : (u : ℕ) {x y z x2 y2 z2 : ℕ} → x ≡ x2 → y ≡ y2 → z ≡ z2 → SpellsLast u x2 y2 z2 → SpellsLast u x y z
+spell_again u p q r s = (λ i. cond (nat_lt u 0x80) (r i ∷ []) (cond (nat_lt u 0x800) (q i ∷ r i ∷ []) (p i ∷ q i ∷ r i ∷ []))) ∙ s
+
+pub words_spell : (us : List ℕ) → length us ≡ 8 → Each1 (Fits w16) us → (k : ℕ) → k < 8
+    → SpellsLast (get_or us k 0) (get_or (lead_words us) k 0 / 0x100) (get_or (rest_words us) k 0 % 0x100) (get_or (rest_words us) k 0 / 0x100)
+words_spell us long fit k l =
+    let lead = (lead_lanes us long).each k l in
+    let rest = (rest_lanes us long).each k l in
+    spell_again (get_or us k 0) (ap (λ x. x / 0x100) lead) (ap (λ x. x % 0x100) rest) (ap (λ x. x / 0x100) rest)
+    (spells_last (get_or us k 0) (Each1-get_or (Fits w16) us k 0 (omega (arith, long)) fit).fits)
+
+pub words_small : (us : List ℕ) → length us ≡ 8 → (k : ℕ) → k < 8 → (get_or (lead_words us) k 0 < 0x10000) × (get_or (rest_words us) k 0 < 0x10000)
+words_small us long k l =
+    let lead : lead_word (get_or us k 0) < 0x10000 = omega arith in
+    (subst (λ x. x < 0x10000) (sym ((lead_lanes us long).each k l)) lead, subst (λ x. x < 0x10000) (sym ((rest_lanes us long).each k l)) (rest_small (get_or us k 0)))
+
+-- both words of four code units, side by side
+module _ (us lead rest ks : List ℕ) (f : ℕ → ℕ) (half : (k : ℕ) → k < 4 → f k < 8) (leads : length lead ≡ 8) (rests : length rest ≡ 8) (small : (k : ℕ) → k < 8 → (get_or lead k 0 < 0x10000) × (get_or rest k 0 < 0x10000))
+    (long : length ks ≡ 8) (evens : (k : ℕ) → k < 4 → get_or ks (2 * k) 0 ≡ f k) (odds : (k : ℕ) → k < 4 → get_or ks (2 * k + 1) 0 ≡ 8 + (f k)) where
+  abbrev words : List ℕ
+  words = pick_l 0 (lead ++ rest) ks
+
+  even_word : (k : ℕ) → k < 4 → get_or words (2 * k) 0 ≡ get_or lead (f k) 0
+  even_word k l = (picked_lanes (lead ++ rest) ks long).each (2 * k) (omega arith) ∙ ap (λ j. get_or (lead ++ rest) j 0) (evens k l) ∙ get_or_append_left lead rest 0 (f k) (omega (arith, leads, half k l))
+
+  odd_word : (k : ℕ) → k < 4 → get_or words (2 * k + 1) 0 ≡ get_or rest (f k) 0
+  odd_word k l =
+      let back : 8 + (f k) - 8 ≡ f k = omega arith in
+      (picked_lanes (lead ++ rest) ks long).each (2 * k + 1) (omega arith) ∙ ap (λ j. get_or (lead ++ rest) j 0) (odds k l)
+      ∙ get_or-append_right lead rest 8 (8 + (f k)) 0 leads (omega arith) ∙ ap (λ j. get_or rest j 0) back
+
+  word_small : (i : ℕ) → i < 8 → get_or words i 0 < 65536
+  word_small i l = elim (cases_lt (i % 2) 1) [
+    | inl m ↦
+        let e : 2 * (i / 2) ≡ i = omega arith in
+        subst (λ j. get_or words j 0 < 65536) e (subst (λ x. x < 65536) (sym (even_word (i / 2) (omega arith))) ((small (f (i / 2)) (half (i / 2) (omega arith))).0))
+    | inr m ↦
+        let e : 2 * (i / 2) + 1 ≡ i = omega arith in
+        subst (λ j. get_or words j 0 < 65536) e (subst (λ x. x < 65536) (sym (odd_word (i / 2) (omega arith))) ((small (f (i / 2)) (half (i / 2) (omega arith))).1))
+  ]
+
+  low_of : (x : ℕ) → x / 256 ^ 0 % 256 ≡ x % 0x100
+  low_of x = omega arith
+
+  high_of : (x : ℕ) → x < 65536 → x / 256 ^ 1 % 256 ≡ x / 0x100
+  high_of x l = omega arith
+
+  pub four_spelled : ((k : ℕ) → k < 8 → SpellsLast (get_or us k 0) (get_or lead k 0 / 0x100) (get_or rest k 0 % 0x100) (get_or rest k 0 / 0x100)) → (k : ℕ) → k < 4
+      → SpellsLast (get_or us (f k) 0) (get_or (digits_l 256 16 (number_l 65536 (pick_l 0 (lead ++ rest) ks))) (4 * k + 1) 0)
+      (get_or (digits_l 256 16 (number_l 65536 (pick_l 0 (lead ++ rest) ks))) (4 * k + 2) 0) (get_or (digits_l 256 16 (number_l 65536 (pick_l 0 (lead ++ rest) ks))) (4 * k + 3) 0)
+  four_spelled spells k l =
+      let wide = (picked_lanes (lead ++ rest) ks long).long in
+      let all : Each1 (λ x. x < 65536) words = Each1-from_get_or (λ x. x < 65536) words 0 (λ i m. word_small i (omega (arith, wide))) in
+      let bytes = digits_l 256 16 (number_l 65536 words) in
+      let part : (i j : ℕ) → i < 8 → j < 2 → get_or bytes (2 * i + j) 0 ≡ get_or words i 0 / 256 ^ j % 256 = λ i j l m.
+      get_or_narrower 65536 2 256 16 words i j (omega arith) all m (omega (arith, wide)) in
+      let one : 4 * k + 1 ≡ 2 * (2 * k) + 1 = omega arith in
+      let two_on : 4 * k + 2 ≡ 2 * (2 * k + 1) + 0 = omega arith in
+      let three_on : 4 * k + 3 ≡ 2 * (2 * k + 1) + 1 = omega arith in
+      spell_again (get_or us (f k) 0)
+      (ap (λ j. get_or bytes j 0) one ∙ part (2 * k) 1 (omega arith) (omega arith) ∙ ap (λ x. x / 256 ^ 1 % 256) (even_word k l) ∙ high_of _ ((small (f k) (half k l)).0))
+      (ap (λ j. get_or bytes j 0) two_on ∙ part (2 * k + 1) 0 (omega arith) (omega arith) ∙ ap (λ x. x / 256 ^ 0 % 256) (odd_word k l) ∙ low_of _)
+      (ap (λ j. get_or bytes j 0) three_on ∙ part (2 * k + 1) 1 (omega arith) (omega arith) ∙ ap (λ x. x / 256 ^ 1 % 256) (odd_word k l) ∙ high_of _ ((small (f k) (half k l)).1))
+      (spells (f k) (half k l))

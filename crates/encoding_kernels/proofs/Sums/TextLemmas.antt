@@ -1,0 +1,234 @@
+-- The sums of whole texts: they lead to the lengths in another encoding.
+use Rattle.std.proofs.Common.{◌≡◌, ℕ, suc, ◌+◌, ◌/◌, ◌%◌, ◌<◌, ◌≤◌, inl, inr, true, false, cond, List, [], ◌∷◌, ◌++◌, length, slice_index, nat_le, encode_utf8, encode_utf8_all, refl, sym, ap, ◌∙◌, arith, subst}
+use Rattle.std.specs.Char.{IsScalar, len_utf8}
+use Rattle.std.specs.Char.Escape.{encode_utf16}
+use Rattle.std.specs.List.{flat_map}
+use Rattle.std.specs.Str.{chars}
+use Rattle.std.proofs.lemmas.Bool.{cases_lt, cond-true, cond-false}
+use Rattle.std.proofs.lemmas.Bool.Decides.{nat_tests}
+use Rattle.std.proofs.lemmas.List.{length-append}
+use Rattle.std.proofs.lemmas.Str.{length-encode}
+use Rattle.std.proofs.str.Laws.{one, two}
+use Rattle.std.proofs.str.Utf16.{one_unit, two_units, IsPair}
+use lib.Utf8.{scalar_cases}
+use mir.Val.{bool_byte}
+use Rattle.encoding_definitions.specs.Sequence.{IsContinuation, IsSecond, BeginsNothing}
+use Rattle.encoding_definitions.specs.Latin1.{IsLatin1, IsUtf8Latin1}
+use Rattle.encoding_definitions.specs.Parts.{Part, Character, Broken, ArePartsOf, IsFirstPart, BeginsWithNoCharacter, IsLongestBeginning, repaired_scalar, repaired_utf16}
+use Rattle.encoding_definitions.specs.Utf16.{Part16, Character16, Lone, units_of, utf8_of, IsHighSurrogate, ArePaired, ArePartsOf16}
+use Rattle.encoding_definitions.specs.FirstScalar.{IsFirstPart16, BeginsLow}
+use Rattle.encoding_definitions.proofs.Sequences.SequenceLemmas.{HasShape, HasOpenShape, HasShape-IsSequence, HasOpenShape-IsBeginning, IsBeginning-HasOpenShape, second_two, second_more, second_goes_on, third_goes_on}
+use Rattle.encoding_definitions.proofs.Sequences.EncodingLemmas.{IsSequence-encode}
+use Rattle.encoding_definitions.proofs.Decomposition.PartsLemmas.{IsStuck, stuck_part, lone_part}
+use Rattle.encoding_definitions.proofs.CodeUnits.Utf16Lemmas.{halves, first_of_parts, tail_paired}
+use Rattle.encoding_definitions.proofs.Latin.Latin1Lemmas.{latin1_chars}
+use Rattle.encoding_kernels.specs.Lengths.{total, one_from, goes_second, goes_third, joined, joined_by, pairs, beyond, beyond_one}
+
+-- ---- Latin1
+low_end : (least b : ℕ) → b < least → bool_byte (nat_le least b) ≡ 0
+low_end least b l = grind (arith, nat_tests)
+
+high_end : (least b : ℕ) → least ≤ b → bool_byte (nat_le least b) ≡ 1
+high_end least b l = grind (arith, nat_tests)
+
+latin1_one : (b : ℕ) → b < 256 → length (encode_utf8 b) ≡ 1 + bool_byte (nat_le 0x80 b)
+latin1_one b l = elim (cases_lt b 128) [
+  | inl p ↦ omega (arith, ap length (one b p), low_end 0x80 b p)
+  | inr p ↦ omega (arith, ap length (two b p (omega arith)), high_end 0x80 b p)
+]
+
+pub latin1_total : (bs : List ℕ) → ((k : ℕ) → slice_index bs k < 256) → length (encode_utf8_all bs) ≡ length bs + total (one_from 0x80) bs
+unfolding total
+latin1_total [] h = refl
+latin1_total (b ∷ bs) h = omega (arith, latin1_total bs (λ k. h (suc k)), latin1_one b (h 0), length-append (encode_utf8 b) (encode_utf8_all bs))
+
+-- a lead for each character of two bytes
+leads_of_one : (c : ℕ) (rest : List ℕ) → c ≤ 0xFF → 1 + total (one_from 0xC0) (encode_utf8 c ++ rest) ≡ length (encode_utf8 c) + total (one_from 0xC0) rest
+unfolding total
+leads_of_one c rest l = elim (cases_lt c 128) [
+  | inl p ↦ rw (one c p) (omega (arith, low_end 0xC0 c (omega arith)))
+  | inr p ↦ rw (two c p (omega arith)) (omega (arith, high_end 0xC0 (192 + c / 64) (omega arith), low_end 0xC0 (128 + c % 64) (omega arith)))
+]
+
+leads_total : (cs : List ℕ) → IsLatin1 cs → length cs + total (one_from 0xC0) (encode_utf8_all cs) ≡ length (encode_utf8_all cs)
+unfolding total
+leads_total [] h = refl
+leads_total (c ∷ cs) h = omega (arith, leads_total cs (λ k. h (suc k)), leads_of_one c (encode_utf8_all cs) (h 0), length-append (encode_utf8 c) (encode_utf8_all cs))
+
+pub chars_total : (bs : List ℕ) → IsUtf8Latin1 bs → length (chars bs) + total (one_from 0xC0) bs ≡ length bs
+chars_total bs h =
+    let text = latin1_chars bs h in
+    subst (λ xs. length (chars bs) + total (one_from 0xC0) xs ≡ length xs) text.1 (leads_total (chars bs) text.0)
+
+-- ---- UTF-8: what each byte is joined by
+goes_from : (a b : ℕ) → IsSecond a b → goes_second a b ≡ true
+goes_from a b s = grind (arith, nat_tests)
+
+stays_from : (a b : ℕ) → (IsSecond a b → ⊥) → goes_second a b ≡ false
+stays_from a b n = grind (arith, nat_tests)
+
+third_from : (a c : ℕ) → 0xE0 ≤ a → IsContinuation c → goes_third a c ≡ true
+third_from a c l t = grind (arith, nat_tests)
+
+low_third : (a c : ℕ) → a < 0xE0 → goes_third a c ≡ false
+low_third a c l = grind (arith, nat_tests)
+
+stays_third : (a c : ℕ) → (IsContinuation c → ⊥) → goes_third a c ≡ false
+stays_third a c n = grind (arith, nat_tests)
+
+joins_none : (a b c : ℕ) → (IsSecond a b → ⊥) → joined_by a b c ≡ 0
+joins_none a b c n = cond-false _ _ _ (stays_from a b n)
+
+joins_one : (a b c : ℕ) → IsSecond a b → goes_third a c ≡ false → joined_by a b c ≡ 1
+joins_one a b c s n = cond-true _ _ _ (goes_from a b s) ∙ cond-false _ _ _ n
+
+joins_two : (a b c : ℕ) → IsSecond a b → 0xE0 ≤ a → IsContinuation c → joined_by a b c ≡ 2
+joins_two a b c s l t = cond-true _ _ _ (goes_from a b s) ∙ cond-true _ _ _ (third_from a c l t)
+
+-- nothing is joined to a byte that begins none of several
+low_lead : (a b c : ℕ) → a < 0xC2 → joined_by a b c ≡ 0
+low_lead a b c l = joins_none a b c (λ s. omega (arith, s.0))
+
+second_low : (a b : ℕ) → IsSecond a b → b < 0xC2
+second_low a b s = grind (arith, nat_tests)
+
+shape_total : (x rest : List ℕ) → HasShape x → total joined (x ++ rest) + (1 + bool_byte (nat_le 4 (length x))) ≡ length x + total joined rest
+unfolding total
+shape_total [] rest h = absurd h
+shape_total (a ∷ []) rest h = omega (arith, low_lead a (slice_index rest 0) (slice_index rest 1) (omega arith))
+shape_total (a ∷ b ∷ []) rest (l, m, t) =
+    omega (arith, joins_one a b (slice_index rest 0) (second_two a b l m t) (low_third a (slice_index rest 0) (omega arith)), low_lead b (slice_index rest 0) (slice_index rest 1) (omega (arith, t.1)))
+shape_total (a ∷ b ∷ c ∷ []) rest (l, m, s, t) =
+    let second = second_more a b l (omega arith) s in
+    omega (arith, joins_two a b c second l t, low_lead b c (slice_index rest 0) (second_low a b second), low_lead c (slice_index rest 0) (slice_index rest 1) (omega (arith, t.1)))
+shape_total (a ∷ b ∷ c ∷ d ∷ []) rest (l, m, s, t, f) =
+    let second = second_more a b (omega arith) m s in
+    omega (arith, joins_two a b c second (omega arith) t, low_lead b c d (second_low a b second), low_lead c d (slice_index rest 0) (omega (arith, t.1)), low_lead d (slice_index rest 0) (slice_index rest 1) (omega (arith, f.1)))
+shape_total (a ∷ b ∷ c ∷ d ∷ e ∷ more) rest h = absurd h
+
+units_of_character : (c : ℕ) → IsScalar c → length (encode_utf16 c) ≡ 1 + bool_byte (nat_le 4 (length (encode_utf8 c)))
+units_of_character c s = elim (cases_lt c 0x10000) [
+  | inl l ↦ omega (arith, ap length (one_unit c l), low_end 4 (length (encode_utf8 c)) (omega (arith, length-encode c, three_bytes c l)))
+  | inr l ↦ omega (arith, ap length (two_units c l), high_end 4 (length (encode_utf8 c)) (omega (arith, length-encode c, four_bytes c l)))
+]
+  where
+    three_bytes : (c : ℕ) → c < 0x10000 → len_utf8 c < 4
+    three_bytes c l = grind (arith, nat_tests)
+
+    four_bytes : (c : ℕ) → 0x10000 ≤ c → 4 ≤ len_utf8 c
+    four_bytes c l = grind (arith, nat_tests)
+
+-- ---- broken parts
+-- no byte of rest goes on with the beginning x
+abbrev IsStuckBefore : List ℕ → List ℕ → Type 0
+IsStuckBefore x rest = (y : ℕ) (ys : List ℕ) → rest ≡ y ∷ ys → IsStuck x y
+
+zero_second : (a : ℕ) → IsSecond a 0 → ⊥
+zero_second a s = grind (arith, nat_tests)
+
+stuck_second : (a : ℕ) (rest : List ℕ) → IsStuckBefore (a ∷ []) rest → IsSecond a (slice_index rest 0) → ⊥
+stuck_second a [] n s = zero_second a s
+stuck_second a (y ∷ ys) n s = n y ys refl (second_goes_on a y s)
+
+stuck_third : (a b : ℕ) (rest : List ℕ) → HasOpenShape (a ∷ b ∷ []) → IsStuckBefore (a ∷ b ∷ []) rest → IsContinuation (slice_index rest 0) → ⊥
+stuck_third a b [] h n t = omega (arith, t.0)
+stuck_third a b (y ∷ ys) h n t = n y ys refl (third_goes_on a b y h t)
+
+open_total : (x rest : List ℕ) → HasOpenShape x → IsStuckBefore x rest → total joined (x ++ rest) + 1 ≡ length x + total joined rest
+unfolding total
+open_total [] rest h n = absurd h
+open_total (a ∷ []) rest h n = omega (arith, joins_none a (slice_index rest 0) (slice_index rest 1) (stuck_second a rest n))
+open_total (a ∷ b ∷ []) rest h n =
+    let second = second_more a b h.0 h.1 h.2 in
+    omega (arith, joins_one a b (slice_index rest 0) second (stays_third a (slice_index rest 0) (stuck_third a b rest h n)), low_lead b (slice_index rest 0) (slice_index rest 1) (second_low a b second))
+open_total (a ∷ b ∷ c ∷ []) rest h n =
+    let second = second_more a b (omega (arith, h.0)) h.1 h.2 in
+    omega (arith, joins_two a b c second (omega (arith, h.0)) h.3, low_lead b c (slice_index rest 0) (second_low a b second), low_lead c (slice_index rest 0) (slice_index rest 1) (omega (arith, h.3.1)))
+open_total (a ∷ b ∷ c ∷ d ∷ more) rest h n = absurd h
+
+lone_total : (b : ℕ) (rest : List ℕ) → BeginsNothing b → total joined (b ∷ rest) ≡ total joined rest
+unfolding total
+lone_total b rest n =
+    omega (arith, joins_none b (slice_index rest 0) (slice_index rest 1) (λ s. n (inr (IsBeginning-HasOpenShape (b ∷ []) (s.0, s.1)))))
+
+stuck_behind : (bs x rest : List ℕ) → BeginsWithNoCharacter bs → IsLongestBeginning bs x rest → IsStuckBefore x rest
+stuck_behind bs x rest n l y ys e = stuck_part bs x y ys n (subst (λ r. IsLongestBeginning bs x r) e l)
+
+-- ---- the first part, and all
+part_total : (bs : List ℕ) (p : Part) (rest : List ℕ) → IsFirstPart bs p rest → total joined bs + (length rest + length (encode_utf16 (repaired_scalar p))) ≡ length bs + total joined rest
+part_total bs (Character c) rest (s, e) =
+    let sum = shape_total (encode_utf8 c) rest (HasShape-IsSequence (encode_utf8 c) (IsSequence-encode c s)) in
+    rw e (omega (arith, sum, units_of_character c s, length-append (encode_utf8 c) rest))
+part_total bs (Broken x) rest (n, inl l) =
+    let sum = open_total x rest (HasOpenShape-IsBeginning x l.beginning) (stuck_behind bs x rest n l) in
+    rw l.whole (omega (arith, sum, ap length (one_unit 0xFFFD (omega arith)), length-append x rest))
+part_total bs (Broken x) rest (n, inr l) =
+    let lone = lone_part bs x rest n l in
+    let whole : bs ≡ lone.0 ∷ rest = l.whole ∙ ap (λ xs. xs ++ rest) lone.1 in
+    rw whole (omega (arith, lone_total lone.0 rest lone.2, ap length (one_unit 0xFFFD (omega arith))))
+
+pub utf16_total : (bs : List ℕ) (ps : List Part) → ArePartsOf bs ps → total joined bs + length (repaired_utf16 ps) ≡ length bs
+unfolding total
+utf16_total bs [] e = rw e refl
+utf16_total bs (p ∷ ps) (after, f, more) =
+    omega (arith, utf16_total after ps more, part_total bs p after f, length-append (encode_utf16 (repaired_scalar p)) (repaired_utf16 ps))
+
+-- ---- UTF-16
+size : ℕ → ℕ
+size u = cond (nat_le 0x800 u) 2 (cond (nat_le 0x80 u) 1 0)
+
+pair_beyond : (u v : ℕ) → IsPair u v → pairs u v ≡ true
+pair_beyond u v p = grind (arith, nat_tests)
+
+no_pair : (u v : ℕ) → (IsPair u v → ⊥) → pairs u v ≡ false
+no_pair u v n = grind (arith, nat_tests)
+
+len_low : (c : ℕ) → c < 0x10000 → len_utf8 c ≡ 1 + size c
+unfolding size
+len_low c l = grind (arith, nat_tests)
+
+alone_beyond : (u v : ℕ) → (IsPair u v → ⊥) → beyond_one u v ≡ size u
+unfolding size
+alone_beyond u v n = cond-false _ _ _ (no_pair u v n)
+
+size_surrogate : (u : ℕ) → 0x800 ≤ u → size u ≡ 2
+unfolding size
+size_surrogate u l = grind (arith, nat_tests)
+
+not_high : (c v : ℕ) → IsScalar c → c < 0x10000 → IsPair c v → ⊥
+not_high c v s l p = elim (scalar_cases c s) [ inl h ↦ omega (arith, p.0, h) | inr h ↦ omega (arith, p.1, h.0) ]
+
+not_low : (u v w : ℕ) → IsPair u v → IsPair v w → ⊥
+not_low u v w p q = omega (arith, p.2, q.1)
+
+lone_apart : (u : ℕ) (rest : List ℕ) → (IsHighSurrogate u → BeginsLow rest → ⊥) → IsPair u (slice_index rest 0) → ⊥
+lone_apart u [] n p = omega (arith, p.2)
+lone_apart u (v ∷ vs) n p = n (p.0, omega (arith, p.1)) (p.2, omega (arith, p.3))
+
+four_long : (c : ℕ) → 0x10000 ≤ c → len_utf8 c ≡ 4
+four_long c l = grind (arith, nat_tests)
+
+part16_total : (us : List ℕ) (p : Part16) (rest : List ℕ) → IsFirstPart16 us p rest → length us + total beyond us ≡ length (utf8_of p) + (length rest + total beyond rest)
+unfolding total
+part16_total us (Character16 c) rest (s, e) = elim (cases_lt c 0x10000) [
+  | inl l ↦ let whole : us ≡ c ∷ rest = e ∙ ap (λ xs. xs ++ rest) (one_unit c l) in
+      rw whole (omega (arith, alone_beyond c (slice_index rest 0) (not_high c (slice_index rest 0) s l), len_low c l, length-encode c))
+  | inr l ↦ let two = halves c l s in
+      let u = two.0 in
+      let v = two.1 in
+      let whole : us ≡ u ∷ v ∷ rest = e ∙ ap (λ xs. xs ++ rest) two.3 in
+      let none : beyond_one u v ≡ 0 = cond-true _ _ _ (pair_beyond u v two.2) in
+      rw whole (omega (arith, none, alone_beyond v (slice_index rest 0) (not_low u v (slice_index rest 0) two.2), size_surrogate v (omega (arith, two.2.2)), four_long c l, length-encode c))
+]
+part16_total us (Lone u) rest (s, e, n) =
+    let from : 0x800 ≤ u = elim s [ inl h ↦ omega (arith, h.0) | inr h ↦ omega (arith, h.0) ] in
+    rw e (omega (arith, alone_beyond u (slice_index rest 0) (lone_apart u rest n), size_surrogate u from, length-encode 0xFFFD))
+
+pub utf8_total : (us : List ℕ) (ps : List Part16) → ArePartsOf16 us ps → length (flat_map utf8_of ps) ≡ length us + total beyond us
+unfolding total
+utf8_total us ps h = rw (sym h.1) (by_parts ps h.0)
+  where
+    by_parts : (ps : List Part16) → ArePaired ps → length (flat_map utf8_of ps) ≡ length (flat_map units_of ps) + total beyond (flat_map units_of ps)
+    by_parts [] h = refl
+    by_parts (p ∷ ps) h =
+        omega (arith, by_parts ps (tail_paired p ps h), part16_total (flat_map units_of (p ∷ ps)) p (flat_map units_of ps) (first_of_parts p ps h), length-append (utf8_of p) (flat_map utf8_of ps))

@@ -1,0 +1,12 @@
+use Rattle.std.proofs.Common.{◌-◌, ◌≤◌}
+use Rattle.encoding_kernels.specs.Places.{PassBetween}
+use Rattle.encoding_kernels.proofs.places.skip.Given as goal
+
+abbrev pub invariant-loop-at : goal.invariant-loop-at
+invariant-loop-at g l = record {
+  within : (l.from ≤ l.at) × (l.at ≤ g.T.Places.count l.test);
+  pass : PassBetween (g.T.Places.passes l.test) l.from l.at;
+}
+
+abbrev pub decreases-loop-at : goal.decreases-loop-at
+decreases-loop-at g l = g.T.Places.count l.test - l.at

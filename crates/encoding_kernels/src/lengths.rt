@@ -1,0 +1,221 @@
+//! How long a text is in another encoding, with no test of whether it is well-formed: a sum over its places, of each by
+//! its unit and those behind it, in pieces that go by vectors.
+ghost use Rattle.std.specs.Prelude.{◌≡◌, ◌+◌, ◌*◌, ◌<◌, ◌≤◌, ℕ, List, length, drop, slice_index, encode_utf8_all};
+ghost use Rattle.std.specs.Str.{chars};
+ghost use Rattle.encoding_definitions.specs.Latin1.{IsUtf8Latin1};
+ghost use Rattle.encoding_definitions.specs.Parts.{Part, ArePartsOf, repaired_utf16};
+ghost use Rattle.encoding_definitions.specs.Utf16.{IsUtf8OfUnits};
+ghost use Rattle.encoding_kernels.specs.Lengths.{total, one_from, goes_second, joined, joined_by, beyond, beyond_one};
+
+use crate::strides::{ASCII_END, are_bytes_below};
+
+/// The places of a piece: a sum over them fits into a byte.
+const PIECE: usize = 64;
+
+/// The places of a lesser piece.
+const SHORT_PIECE: usize = 16;
+
+/// The least byte that begins a character of several.
+const LEADS: u8 = 0xC0;
+
+/// How many of the N bytes from a place on are no less than this.
+#[inline(always)]
+fn piece_from<const N: usize>(bytes: &[u8], at: usize, least: u8) -> usize
+    requires { (at + N ≤ length bytes.now) × (N ≤ 64) }
+    ensures sum { result + total (one_from least) (drop (at + N) bytes.now) ≡ total (one_from least) (drop at bytes.now) }
+    ensures small { result ≤ N }
+{
+    let mut count: u8 = 0;
+    for i in 0..N {
+        count += u8::from(bytes[at + i] >= least);
+    }
+    usize::from(count)
+}
+
+/// How many bytes are no less than this.
+#[inline(always)]
+fn count_from(bytes: &[u8], least: u8) -> usize
+    ensures counted { result ≡ total (one_from least) bytes.now }
+    ensures within { result ≤ length bytes.now }
+{
+    let mut count = 0;
+    let mut at = 0;
+    while bytes.len() - at >= PIECE {
+        count += piece_from::<PIECE>(bytes, at, least);
+        at += PIECE;
+    }
+    while bytes.len() - at >= SHORT_PIECE {
+        count += piece_from::<SHORT_PIECE>(bytes, at, least);
+        at += SHORT_PIECE;
+    }
+    while at < bytes.len() {
+        count += usize::from(bytes[at] >= least);
+        at += 1;
+    }
+    count
+}
+
+/// The number of bytes that the UTF-8 of each byte as a character has.
+pub fn utf8_length_of_latin1(bytes: &[u8]) -> usize
+    ensures { result ≡ length (encode_utf8_all bytes.now) }
+{
+    bytes.len() + count_from(bytes, ASCII_END)
+}
+
+/// The number of characters of Latin1 text in UTF-8.
+pub fn latin1_length_of_utf8(text: &[u8]) -> usize
+    requires { IsUtf8Latin1 text.now }
+    ensures { result ≡ length (chars text.now) }
+{
+    text.len() - count_from(text, LEADS)
+}
+
+/// Whether the byte may stand second behind this first one of several, with no branch.
+#[inline(always)]
+fn joins(lead: u8, second: u8) -> bool
+    ensures { result ≡ goes_second lead second }
+{
+    // the one first byte of three and of four that may not stand before such a second byte
+    let of_three = if second < 0xA0 { 0xE0 } else { 0xED };
+    let of_four = if second < 0x90 { 0xF0 } else { 0xF4 };
+    let begins = (lead >= 0xC2) & (lead <= 0xF4) & (lead != of_three) & (lead != of_four);
+    begins & (second >= 0x80) & (second < 0xC0)
+}
+
+/// How many of two bytes are the second and the third of what the one before them begins, with no branch.
+#[inline(always)]
+fn joined_behind(lead: u8, second: u8, third: u8) -> u8
+    ensures { result ≡ joined_by lead second third }
+{
+    let both = joins(lead, second);
+    let goes_on = both & (lead >= 0xE0) & (third >= 0x80) & (third < 0xC0);
+    u8::from(both) + u8::from(goes_on)
+}
+
+/// The sum over N places from one on.
+#[inline(always)]
+fn piece_joined<const N: usize>(bytes: &[u8], at: usize) -> usize
+    requires { (at + N + 2 ≤ length bytes.now) × (N ≤ 64) }
+    ensures sum { result + total joined (drop (at + N) bytes.now) ≡ total joined (drop at bytes.now) }
+    ensures small { result ≤ 2 * N }
+{
+    let mut sum: u8 = 0;
+    for i in 0..N {
+        sum += joined_behind(bytes[at + i], bytes[at + i + 1], bytes[at + i + 2]);
+    }
+    usize::from(sum)
+}
+
+/// The byte at a place, and zero behind the last.
+#[inline(always)]
+fn byte_at(bytes: &[u8], at: usize) -> u8
+    ensures { result ≡ slice_index bytes.now at }
+{
+    if at < bytes.len() { bytes[at] } else { 0 }
+}
+
+/// The sum over a piece from a place on: nothing goes on with ASCII.
+#[inline(always)]
+fn piece_joined_or_ascii(bytes: &[u8], at: usize) -> usize
+    requires { at + 66 ≤ length bytes.now }
+    ensures sum { result + total joined (drop (at + 64) bytes.now) ≡ total joined (drop at bytes.now) }
+    ensures small { result ≤ 128 }
+{
+    if are_bytes_below::<PIECE>(bytes, at, ASCII_END) {
+        return 0;
+    }
+    piece_joined::<PIECE>(bytes, at)
+}
+
+/// How many bytes are the second or the third of what an earlier one begins. The fourth of a character isn't counted,
+/// since that has two code units.
+#[inline(never)]
+fn count_joined(bytes: &[u8]) -> usize
+    ensures { result ≡ total joined bytes.now }
+{
+    let mut sum = 0;
+    let mut at = 0;
+    while bytes.len() - at >= PIECE + 2 {
+        sum += piece_joined_or_ascii(bytes, at);
+        at += PIECE;
+    }
+    while bytes.len() - at >= SHORT_PIECE + 2 {
+        sum += piece_joined::<SHORT_PIECE>(bytes, at);
+        at += SHORT_PIECE;
+    }
+    while at < bytes.len() {
+        let second = byte_at(bytes, at + 1);
+        let third = byte_at(bytes, at + 2);
+        sum += usize::from(joined_behind(bytes[at], second, third));
+        at += 1;
+    }
+    sum
+}
+
+/// The number of code units that the UTF-16 of bytes has, with U+FFFD for each broken part.
+pub fn utf16_length_of_utf8(bytes: &[u8]) -> usize
+    ensures { (parts : List Part) × ArePartsOf bytes.now parts × (result ≡ length (repaired_utf16 parts)) }
+{
+    bytes.len() - count_joined(bytes)
+}
+
+/// How many bytes the UTF-8 of a code unit has beyond one, with no branch: none of the first of a pair, two of the other.
+#[inline(always)]
+fn bytes_beyond(unit: u16, next: u16) -> u8
+    ensures { result ≡ beyond_one unit next }
+{
+    let single = !((unit & 0xFC00 == 0xD800) & (next & 0xFC00 == 0xDC00));
+    u8::from(single & (unit >= 0x80)) + u8::from(single & (unit >= 0x800))
+}
+
+/// The sum over N places from one on.
+#[inline(always)]
+fn piece_beyond<const N: usize>(units: &[u16], at: usize) -> usize
+    requires { (at + N + 1 ≤ length units.now) × (N ≤ 64) }
+    ensures sum { result + total beyond (drop (at + N) units.now) ≡ total beyond (drop at units.now) }
+    ensures small { result ≤ 2 * N }
+{
+    let mut sum: u8 = 0;
+    for i in 0..N {
+        sum += bytes_beyond(units[at + i], units[at + i + 1]);
+    }
+    usize::from(sum)
+}
+
+/// The code unit at a place, and zero behind the last.
+#[inline(always)]
+fn unit_at(units: &[u16], at: usize) -> u16
+    ensures { result ≡ slice_index units.now at }
+{
+    if at < units.len() { units[at] } else { 0 }
+}
+
+/// How many bytes the UTF-8 of code units has beyond one for each.
+#[inline(never)]
+fn count_beyond(units: &[u16]) -> usize
+    ensures counted { result ≡ total beyond units.now }
+    ensures within { result ≤ 2 * length units.now }
+{
+    let mut sum = 0;
+    let mut at = 0;
+    while units.len() - at > PIECE {
+        sum += piece_beyond::<PIECE>(units, at);
+        at += PIECE;
+    }
+    while units.len() - at > SHORT_PIECE {
+        sum += piece_beyond::<SHORT_PIECE>(units, at);
+        at += SHORT_PIECE;
+    }
+    while at < units.len() {
+        sum += usize::from(bytes_beyond(units[at], unit_at(units, at + 1)));
+        at += 1;
+    }
+    sum
+}
+
+/// The number of bytes that the UTF-8 of code units has, with U+FFFD for each lone surrogate.
+pub fn utf8_length_of_units(units: &[u16]) -> usize
+    ensures { (text : List ℕ) × IsUtf8OfUnits units.now text × (result ≡ length text) }
+{
+    units.len() + count_beyond(units)
+}

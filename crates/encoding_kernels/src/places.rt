@@ -1,0 +1,116 @@
+//! Places that pass a test, many at a time by vectors.
+
+ghost use Rattle.std.specs.Prelude.{◌≡◌, ℕ, ◌+◌, ◌*◌, ◌<◌, ◌≤◌, ◌↔◌, ◌⊎◌, IsTrue};
+ghost use Rattle.encoding_kernels.specs.Places.{PassBetween, IsRun, Marks};
+
+/// A test of each of a number of places, by N at a time.
+pub(crate) trait Places<const N: usize> {
+    ghost count: { Self → ℕ };
+
+    ghost passes: { Self → ℕ → Type 0 };
+
+    /// How many places there are.
+    fn len(&self) -> usize
+        ensures { result ≡ count self.now };
+
+    /// The mask of those of N places that fail.
+    fn failing(&self, at: usize) -> u64
+        requires { (at + N ≤ count self.now) × (0 < N) × (N ≤ 64) }
+        ensures { Marks (passes self.now) at N result };
+}
+
+/// Whether each of 4 * N places from one on passes, by one test.
+#[inline(always)]
+fn all_of_four<const N: usize, T: Places<N>>(test: &T, at: usize) -> bool
+    requires { (at + 4 * N ≤ T.count test.now) × (at + 4 * N < 18446744073709551616) × (0 < N) × (N ≤ 64) }
+    ensures { IsTrue result ↔ PassBetween (T.passes test.now) at (at + 4 * N) }
+{
+    let front = (test.failing(at) == 0) & (test.failing(at + N) == 0);
+    let back = (test.failing(at + 2 * N) == 0) & (test.failing(at + 3 * N) == 0);
+    front & back
+}
+
+/// Whether each of the W places from one on passes, by one test of one, four or eight vectors.
+#[inline(always)]
+pub(crate) fn all<const N: usize, const W: usize, T: Places<N>>(test: &T, at: usize) -> bool
+    requires within { (at + W ≤ T.count test.now) × (at + W < 18446744073709551616) × (0 < N) × (N ≤ 64) }
+    requires vectors { (W ≡ N) ⊎ (W ≡ 4 * N) ⊎ (W ≡ 8 * N) }
+    ensures { IsTrue result ↔ PassBetween (T.passes test.now) at (at + W) }
+{
+    if W == N {
+        test.failing(at) == 0
+    } else if W == 4 * N {
+        all_of_four(test, at)
+    } else {
+        all_of_four(test, at) & all_of_four(test, at + 4 * N)
+    }
+}
+
+/// How many of the N places from one on come before the first that fails.
+#[inline(always)]
+pub(crate) fn run<const N: usize, T: Places<N>>(test: &T, at: usize) -> usize
+    requires { (at + N ≤ T.count test.now) × (0 < N) × (N ≤ 64) }
+    ensures { IsRun (T.passes test.now) at N result }
+{
+    let failing = test.failing(at);
+    if failing == 0 {
+        N
+    } else {
+        failing.trailing_zeros() as usize
+    }
+}
+
+/// Goes from a place on by W at a time while they pass, and returns where that ends.
+#[inline(always)]
+pub(crate) fn skip<const N: usize, const W: usize, T: Places<N>>(test: &T, from: usize) -> usize
+    requires within { (from ≤ T.count test.now) × (0 < N) × (N ≤ 64) }
+    requires vectors { (W ≡ N) ⊎ (W ≡ 4 * N) ⊎ (W ≡ 8 * N) }
+    ensures within { (from ≤ result) × (result ≤ T.count test.now) }
+    ensures pass { PassBetween (T.passes test.now) from result }
+    ensures stops { result + W ≤ T.count test.now → PassBetween (T.passes test.now) result (result + W) → ⊥ }
+{
+    let end = test.len();
+    if end < W {
+        return from;
+    }
+    // a loop that compares with a bound takes an instruction less than one that subtracts
+    let mut at = from;
+    while at <= end - W && all::<N, W, T>(test, at) {
+        at += W;
+    }
+    at
+}
+
+/// As far as `skip` goes, or to the last place where the last W, which may begin before that, pass too.
+#[inline(always)]
+pub(crate) fn reach<const N: usize, const W: usize, T: Places<N>>(test: &T, from: usize) -> usize
+    requires within { (from ≤ T.count test.now) × (0 < N) × (N ≤ 64) }
+    requires vectors { (W ≡ N) ⊎ (W ≡ 4 * N) ⊎ (W ≡ 8 * N) }
+    ensures within { (from ≤ result) × (result ≤ T.count test.now) }
+    ensures pass { PassBetween (T.passes test.now) from result }
+    ensures whole { W ≤ T.count test.now → PassBetween (T.passes test.now) 0 (T.count test.now) → result ≡ T.count test.now }
+{
+    let at = skip::<N, W, T>(test, from);
+    let end = test.len();
+    if end - at < W && W <= end && all::<N, W, T>(test, end - W) {
+        return end;
+    }
+    at
+}
+
+/// The first place that fails, behind a place before which all pass, by N at a time. The last N may begin before it.
+#[inline(always)]
+pub(crate) fn find<const N: usize, T: Places<N>>(test: &T, from: usize) -> usize
+    requires room { (N ≤ T.count test.now) × (0 < N) × (N ≤ 64) }
+    requires from { (from ≤ T.count test.now) × PassBetween (T.passes test.now) 0 from }
+    ensures within { result ≤ T.count test.now }
+    ensures pass { PassBetween (T.passes test.now) 0 result }
+    ensures stops { result < T.count test.now → T.passes test.now result → ⊥ }
+{
+    let at = skip::<N, N, T>(test, from);
+    if at == test.len() {
+        return at;
+    }
+    let place = at.min(test.len() - N);
+    place + run::<N, T>(test, place)
+}
