@@ -39,7 +39,7 @@ first_whatever_follows p b n last parts read q g e more =
     (g.whatever_follows e (drop n b ++ more)))
 
 -- the bytes of what is given, and those that are pending then, are those that were pending and those read
-given_bytes : (p src : List ℕ) (parts : List Part) (read : ℕ) (q : List ℕ) → StartsWith (p ++ src) parts (q ++ drop read src)
+pub given_bytes : (p src : List ℕ) (parts : List Part) (read : ℕ) (q : List ℕ) → StartsWith (p ++ src) parts (q ++ drop read src)
     → flat_map bytes_of parts ++ q ≡ p ++ take read src
 given_bytes p src parts read q s =
     sym (append_cancel_right (p ++ take read src) (flat_map bytes_of parts ++ q) (drop read src)

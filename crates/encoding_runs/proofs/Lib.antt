@@ -13,3 +13,5 @@ pub mod CompletionLemmas
 pub mod BidiLawLemmas
 pub mod CutLemmas
 pub mod MixedLemmas
+pub mod BrokenLemmas
+pub mod BlockLemmas

@@ -1,5 +1,7 @@
 pub mod Repairs
 pub mod Streams
+pub mod BrokenParts
+pub mod Blocks
 pub mod Repeats
 pub mod Calls
 pub mod DecoderCalls

@@ -1,5 +1,5 @@
 //! Laws of the definitions: each is the contract of a function that does nothing.
-ghost use Rattle.std.specs.Prelude.{◌≡◌, ◌↔◌, ℕ, ◌+◌, ◌<◌, ◌≤◌, Bool, List, [], ◌∷◌, ◌++◌, Any, encode_utf8, length, map, encode_utf8_all, IsTrue, IsUtf8};
+ghost use Rattle.std.specs.Prelude.{◌≡◌, ◌↔◌, ℕ, ◌+◌, ◌<◌, ◌≤◌, Bool, true, List, [], ◌∷◌, ◌++◌, Any, encode_utf8, length, map, encode_utf8_all, IsTrue, IsUtf8};
 ghost use Rattle.std.specs.Char.{IsScalar};
 ghost use Rattle.std.specs.List.{flat_map};
 ghost use Rattle.std.specs.Str.Lossy.{utf8_lossy};
@@ -21,6 +21,10 @@ ghost use Rattle.encoding_runs.specs.Calls.{Call, IsChain, read_in_all, output_o
 ghost use Rattle.encoding_runs.specs.DecoderCalls.{GiveTheParts};
 ghost use Rattle.encoding_runs.specs.MixedCalls.{Form, Answer, IsMixedCall, AreGiven, IsInputEmpty, AreAskedTheSame, AnswerTheSame};
 ghost use Rattle.encoding_runs.specs.EncoderCalls.{EncodesFirstParts};
+ghost use Rattle.encoding_runs.specs.declared.repair.blocks.RepairedBlock.{RepairedBlock};
+ghost use Rattle.encoding_runs.specs.Blocks.{IsBlockRepair, RepairTheParts, replaced_in_all};
+ghost use Rattle.encoding_runs.specs.Repairs.{IsRepairedWith};
+ghost use Rattle.encoding_runs.specs.BrokenParts.{AreFoundInTurn, broken_places};
 
 /// The well-formed sequences are exactly the UTF-8 of the scalar values, one for each, and none begins another.
 /// Unicode Standard, Table 3-7.
@@ -60,6 +64,27 @@ pub fn law_cuts()
         → count_broken all ≡ count_broken parts + count_broken others }
     ensures behind_ascii { (bs rest : List ℕ) (b : ℕ) (parts : List Part) → b < 128
         → AreSettled (bs ++ b ∷ []) parts rest → rest ≡ [] }
+{}
+
+/// The broken parts that `next_broken` finds in turn, each search in the bytes behind the part found before, are exactly
+/// the broken ones among the parts of the bytes: each with its place and length, in order, as many as there are.
+/// Encoding Standard, UTF-8 decoder.
+pub fn law_next_broken()
+    ensures found { (bs : List ℕ) (parts : List Part) (found : List (ℕ × ℕ)) → ArePartsOf bs parts
+        → AreFoundInTurn 0 bs found ↔ (found ≡ broken_places 0 parts) }
+    ensures count { (bs : List ℕ) (parts : List Part) → ArePartsOf bs parts → length (broken_places 0 parts) ≡ count_broken parts }
+{}
+
+/// Calls of `repair_block` over one stream, each handed the unread bytes from the first on and what the one before left
+/// pending, write the repaired text of the first parts of the stream, however it is cut and whatever the rooms, and count
+/// the broken ones. Once a call marked last is finished that is the repaired text of the whole stream, and the number of
+/// its broken parts. Encoding Standard, UTF-8 decode without BOM.
+pub fn law_block_repair()
+    ensures front { (p b : List ℕ) (calls : List (Call ℕ RepairedBlock ℕ)) → IsPending p → IsChain IsBlockRepair p b calls
+        → RepairTheParts p b calls }
+    ensures whole { (b : List ℕ) (calls : List (Call ℕ RepairedBlock ℕ)) → IsChain IsBlockRepair [] b calls
+        → Any (λ call. (call.last ≡ true) × (call.result.finished ≡ true)) calls
+        → IsRepairedWith b (output_of calls) (replaced_in_all calls) }
 {}
 
 /// For pending bytes, source, mark and, with a destination, its room, each call of a decoder has exactly one answer.

@@ -8,7 +8,6 @@ ghost use Rattle.encoding_runs.specs.Steps.Writing.{StopsInParts, WritesParts, b
 
 use super::front::{REPLACEMENT, repair_front};
 use super::streams::{Sink, Source};
-use encoding_kernels::strides::ASCII_END;
 use encoding_text::decoder::{Piece, Utf8Decoder};
 
 /// Why a repair stopped.
@@ -113,10 +112,6 @@ fn write_parts<W: Sink>(
             return Ok(replaced);
         }
         rest = &rest[read..];
-        // other text is better written as it is
-        if rest.len() < 2 || rest[0] < ASCII_END || rest[1] < ASCII_END {
-            continue;
-        }
         let front = repair_front(rest, array);
         write_whole(writer, &array[..front.written])?;
         replaced += front.replaced as u64;

@@ -3,7 +3,7 @@ ghost use Rattle.std.specs.Prelude.{◌≡◌, ◌/◌, ◌<◌, ◌≤◌, leng
 ghost use Rattle.encoding_runs.specs.Steps.Fronts.{RepairsFirst};
 
 use encoding_kernels::sequence::begin_several;
-use encoding_kernels::strides::{ASCII_END, copy_front};
+use encoding_kernels::strides::{ASCII_END, are_bytes_below, copy_front};
 use encoding_text::decoder::{Piece, Utf8Decoder};
 
 /// U+FFFD in UTF-8.
@@ -12,8 +12,14 @@ pub(super) const REPLACEMENT: [u8; 3] = [0xEF, 0xBF, 0xBD];
 /// So many ASCII bytes behind one another are taken for the beginning of text.
 const QUIET: usize = 8;
 
-/// How many bytes are decoded at a time at most between broken parts that stand close together.
+/// So many bytes are repaired one by one behind text: a character with a broken byte gives as many parts at most.
+const FEW: usize = 3;
+
+/// How many bytes are decoded at a time at most where broken parts stand close together.
 const SHORT: usize = 8;
+
+/// A piece of so many of these bytes begins text.
+const MOST: usize = SHORT - 2;
 
 /// How much was repaired: how many bytes were read and written, and how many broken parts were replaced.
 #[derive(Drop)]
@@ -21,6 +27,12 @@ pub(super) struct Front {
     pub(super) read: usize,
     pub(super) written: usize,
     pub(super) replaced: usize,
+}
+
+/// Whether the bytes begin as text does.
+#[inline(always)]
+fn begins_text(bytes: &[u8]) -> bool {
+    bytes.len() >= QUIET && are_bytes_below::<QUIET>(bytes, 0, ASCII_END)
 }
 
 /// Writes the first byte, where it is ASCII, or U+FFFD for it, where it is a broken part whatever follows. Returns how
@@ -48,23 +60,22 @@ fn repair_byte(src: &[u8], dst: &mut [u8]) -> Option<usize>
     Some(count)
 }
 
-/// Repairs bytes one by one, up to a character of several bytes or to text.
-fn repair_bytes(src: &[u8], dst: &mut [u8]) -> Front
+/// Repairs bytes one by one, up to a character of several bytes: behind text a few, and else up to text.
+#[inline(always)]
+fn repair_bytes(src: &[u8], is_text: bool, dst: &mut [u8]) -> Front
     ensures repaired { RepairsFirst src.now dst.new result.read result.written result.replaced }
     ensures within { (result.read ≤ length src.now) × (result.written ≤ length dst.new) × (result.replaced ≤ result.read) }
 {
     let most = src.len().saturating_sub(1).min(dst.len() / 3);
+    let most = if is_text { most.min(FEW) } else { most };
     let (mut read, mut written, mut replaced) = (0, 0, 0);
-    let mut quiet = 0;
-    while read < most && quiet < QUIET {
+    while read < most && (is_text || !begins_text(&src[read..])) {
         let Some(count) = repair_byte(&src[read..], &mut dst[written..]) else {
             break;
         };
-        let broken = count / 3;
-        quiet = (quiet + 1) * (1 - broken);
         read += 1;
         written += count;
-        replaced += broken;
+        replaced += count / 3;
     }
     Front {
         read,
@@ -108,27 +119,24 @@ fn repair_piece(src: &[u8], most: usize, dst: &mut [u8]) -> Option<Front>
     }
 }
 
-/// Repairs first parts of the bytes, which stay these whatever follows, as they fit and as long as broken parts stand close
-/// together: they go out by one write, with the characters between. Out of line: the path of those that stand far apart
-/// stays short.
+/// Repairs first parts of the bytes, which stay these whatever follows, as they fit: broken parts go out by one write, with
+/// the text between. Out of line: the path of text without a broken part stays short.
 #[inline(never)]
 pub(super) fn repair_front(src: &[u8], dst: &mut [u8]) -> Front
     ensures repaired { RepairsFirst src.now dst.new result.read result.written result.replaced }
     ensures within { (result.read ≤ length src.now) × (result.written ≤ length dst.new) × (result.replaced ≤ result.read) }
 {
     let (mut read, mut written, mut replaced) = (0, 0, 0);
+    let mut is_text = true;
     loop {
-        let bytes = repair_bytes(&src[read..], &mut dst[written..]);
+        let bytes = repair_bytes(&src[read..], is_text, &mut dst[written..]);
         read += bytes.read;
         written += bytes.written;
         replaced += bytes.replaced;
-        let room = (src.len() - read).min(dst.len() - written);
-        let most = if bytes.replaced > 0 {
-            room.min(SHORT)
-        } else {
-            0
-        };
-        let Some(piece) = repair_piece(&src[read..], most, &mut dst[written..]) else {
+        let rest = &src[read..];
+        let room = rest.len().min(dst.len() - written);
+        let most = if is_text { room } else { room.min(SHORT) };
+        let Some(piece) = repair_piece(rest, most, &mut dst[written..]) else {
             return Front {
                 read,
                 written,
@@ -138,5 +146,6 @@ pub(super) fn repair_front(src: &[u8], dst: &mut [u8]) -> Front
         read += piece.read;
         written += piece.written;
         replaced += piece.replaced;
+        is_text = piece.read >= MOST;
     }
 }

@@ -45,15 +45,6 @@ overflow_add-replaced-in-loop-writer g c =
     c.repair_front-front.ensures.repaired c.in_ok-write_whole.ensures.ok.0 refl in
     omega (arith, wrote_count _ _ _ _ _ _ wrote, e.0, length-append c.args.decoder.now c.args.src.now, pending_length c.args.decoder.now c.requires.unfinished, c.well_formed.1.0.0)
 
-pub loop-writer-preserved-then-rest-lt2 : goal.loop-writer-preserved-then-rest-lt2
-loop-writer-preserved-then-rest-lt2 g c =
-    let e = c.in_ok-replaced.ensures.ok in
-    rw (e.0, take_rest c.loop-writer.rest.now c.decode_borrowed_raw-read.result.1) (record {
-      wrote = wrote_piece _ _ _ _ _ _ _ _ _ _ _ c.loop-writer.invariant.wrote c.decode_borrowed_raw-read.ensures e.1;
-      failed = e.2 ∙ c.loop-writer.invariant.failed;
-      keeps = g.met.W.Sink.keeps_on _ _ _ c.loop-writer.invariant.keeps c.in_ok-replaced.ensures.keeps;
-    })
-
 pub loop-writer-preserved : goal.loop-writer-preserved
 loop-writer-preserved g c =
     let e = c.in_ok-replaced.ensures.ok in

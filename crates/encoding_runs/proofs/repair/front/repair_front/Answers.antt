@@ -6,11 +6,11 @@ use Rattle.std.proofs.lemmas.List.{take_rest}
 use Rattle.encoding_runs.proofs.FrontTextLemmas.{first_behind}
 use Rattle.encoding_runs.proofs.repair.front.repair_front.Goals as goal
 
-pub loop-most-preserved : goal.loop-most-preserved
-loop-most-preserved c =
-    let before = c.loop-most.invariant in
+pub loop-is_text-preserved : goal.loop-is_text-preserved
+loop-is_text-preserved c =
+    let before = c.loop-is_text.invariant in
     let bytes = rw take_rest at c.repair_bytes-bytes.ensures.repaired in
-    let first = first_behind _ _ _ (length c.loop-most.dst - c.loop-most.written) _ _ _ _ _ _ before.repaired bytes in
+    let first = first_behind _ _ _ (length c.loop-is_text.dst - c.loop-is_text.written) _ _ _ _ _ _ before.repaired bytes in
     let (some, within, fits, few, piece) = c.in-Some.ensures.some in
     let next = first_behind _ _ _ _ _ _ _ _ _ _ first (rw take_rest at piece) in
     record {
@@ -23,8 +23,8 @@ loop-most-preserved c =
 pub returns-in_default-clause-repaired : goal.returns-in_default-clause-repaired
 returns-in_default-clause-repaired c =
     let bytes = rw take_rest at c.repair_bytes-bytes.ensures.repaired in
-    let first = first_behind _ _ _ (length c.loop-most.dst - c.loop-most.written) _ _ _ _ _ _ c.loop-most.invariant.repaired bytes in
-    let array : List ℕ = put_mid c.loop-most.written (length c.loop-most.dst - c.loop-most.written) c.loop-most.dst c.repair_bytes-bytes.new.dst in
-    let written : ℕ = c.loop-most.written + c.repair_bytes-bytes.result.written in
+    let first = first_behind _ _ _ (length c.loop-is_text.dst - c.loop-is_text.written) _ _ _ _ _ _ c.loop-is_text.invariant.repaired bytes in
+    let array : List ℕ = put_mid c.loop-is_text.written (length c.loop-is_text.dst - c.loop-is_text.written) c.loop-is_text.dst c.repair_bytes-bytes.new.dst in
+    let written : ℕ = c.loop-is_text.written + c.repair_bytes-bytes.result.written in
     let same : put_mid written (length array - written) array c.repair_piece.new.dst ≡ array = ap (put_mid written (length array - written) array) c.in_default.ensures.none ∙ put_mid-same array written in
-    subst (λ xs. RepairsFirst c.args.src.now xs (c.loop-most.read + c.repair_bytes-bytes.result.read) written (c.loop-most.replaced + c.repair_bytes-bytes.result.replaced)) (sym same) first
+    subst (λ xs. RepairsFirst c.args.src.now xs (c.loop-is_text.read + c.repair_bytes-bytes.result.read) written (c.loop-is_text.replaced + c.repair_bytes-bytes.result.replaced)) (sym same) first

@@ -1,0 +1,221 @@
+-- Where the next broken part is, and that those found in turn are the broken ones among the parts.
+use Rattle.std.proofs.Common.{◌≡◌, ℕ, ◌+◌, ◌<◌, ◌≤◌, ◌↔◌, inl, inr, true, List, [], ◌∷◌, ◌++◌, length, map, take, drop, slice_index, encode_utf8, encode_utf8_all, refl, sym, ap, ◌∙◌, arith, subst, take-add}
+use Rattle.std.specs.Str.{all_scalars, IsUtf8, chars}
+use Rattle.std.proofs.lemmas.Bool.{cases_lt, and_from}
+use Rattle.std.proofs.lemmas.List.{append-nil, append_assoc, length-append, length-take, length-drop, take_all, take_at, drop_at, drop_more, drop-drop, take-take, get_or-take, take-append-drop}
+use Rattle.std.proofs.lemmas.Str.{IsUtf8-append, encodes-chars, chars-encodes, encodes-append}
+use Rattle.std.proofs.str.Laws.{scalars-append}
+use Rattle.encoding_definitions.specs.Fronts.{IsLongestFront}
+use Rattle.encoding_definitions.specs.Parts.{Part, Character, Broken, IsFirstPart, StartsWith, ArePartsOf, count_broken}
+use Rattle.encoding_definitions.proofs.Sequences.SequenceLemmas.{length-IsBeginning}
+use Rattle.encoding_definitions.proofs.Decomposition.PartsLemmas.{part_bytes}
+use Rattle.encoding_definitions.proofs.Decomposition.DecompositionLemmas.{StartsWith-append, StartsWith-one, StartsWith-characters, parts_split, same_parts, count_broken-append, count_broken-characters}
+use Rattle.encoding_text.specs.Decoding.{IsBroken, IsBorrowedCall}
+use Rattle.encoding_text.specs.declared.decoder.Piece.{Piece}
+use Rattle.encoding_text.specs.declared.decoder.Piece.TheVariants.{Text, Char, Malformed, InputEmpty}
+use Rattle.encoding_text.proofs.Calls.CallPartsLemmas.{broken_first}
+use Rattle.encoding_runs.specs.BrokenParts.{IsNextBroken, AreFoundInTurn, broken_places}
+
+-- ---- a few bytes tell what all would
+-- at most three bytes are broken
+broken_length : (x rest : List ℕ) → IsBroken x rest true → length x ≤ 3
+broken_length x [] (inl (b, e, n)) = omega (arith, ap length e)
+broken_length x [] (inr (o, l)) = length-IsBeginning x o
+broken_length x (y ∷ ys) (inl (b, e, n)) = omega (arith, ap length e)
+broken_length x (y ∷ ys) (inr (o, s)) = length-IsBeginning x o
+
+-- the next byte tells what all behind it would
+told_by_next : (x r : List ℕ) (k n : ℕ) → k < n → n ≤ length r → IsBroken x (drop k (take n r)) true → IsBroken x (drop k r) true
+told_by_next x r k n more within b =
+    let front : drop k (take n r) ≡ slice_index r k ∷ drop (k + 1) (take n r) =
+    drop_more (take n r) k 0 (omega (arith, length-take n r)) ∙ ap (λ y. y ∷ drop (k + 1) (take n r)) (get_or-take n r k 0 more) in
+    let there : IsBroken x (slice_index r k ∷ drop (k + 1) (take n r)) true = subst (λ xs. IsBroken x xs true) front b in
+    subst (λ xs. IsBroken x xs true) (sym (drop_more r k 0 (omega arith))) there
+
+told : (x r : List ℕ) (k n : ℕ) → k ≤ 3 → n ≤ length r → (n < 4 → n ≡ length r) → IsBroken x (drop k (take n r)) true → IsBroken x (drop k r) true
+told x r k n few within short b = elim (cases_lt n 4) [
+  | inl l ↦ subst (λ xs. IsBroken x (drop k xs) true) (take_all n r (omega (arith, short l))) b
+  | inr g ↦ told_by_next x r k n (omega arith) within b
+]
+
+-- ---- the next broken part
+-- a broken part behind characters
+pub broken_behind : (bs : List ℕ) (place size : ℕ) → place + size ≤ length bs → IsUtf8 (take place bs)
+    → IsFirstPart (drop place bs) (Broken (take size (drop place bs))) (drop size (drop place bs)) → IsNextBroken bs place size
+broken_behind bs place size within (cs, (h, e)) f = record {
+  within = within;
+  well_formed = (cs, (h, e));
+  first = subst (λ ds. StartsWith bs (map Character ds ++ Broken (take size (drop place bs)) ∷ []) (drop (place + size) bs)) (sym (sym (ap chars e) ∙ chars-encodes cs h))
+      (subst (λ xs. StartsWith bs (map Character cs ++ Broken (take size (drop place bs)) ∷ []) xs) (drop-drop size place bs) starts);
+}
+  where
+    whole : encode_utf8_all cs ++ drop place bs ≡ bs
+    whole = ap (λ xs. xs ++ drop place bs) e ∙ take-append-drop place bs
+
+    starts : StartsWith bs (map Character cs ++ Broken (take size (drop place bs)) ∷ []) (drop size (drop place bs))
+    starts = StartsWith-append bs (map Character cs) (drop place bs) (Broken (take size (drop place bs)) ∷ []) (drop size (drop place bs))
+        (subst (λ xs. StartsWith xs (map Character cs) (drop place bs)) whole (StartsWith-characters cs (drop place bs) h))
+        (StartsWith-one (drop place bs) (Broken (take size (drop place bs))) (drop size (drop place bs)) f)
+
+-- what a call on the first few bytes behind the longest front reports
+pub reported_next : (bs : List ℕ) (place n k read : ℕ) (q : List ℕ) → IsLongestFront IsUtf8 bs place → n ≤ length (drop place bs) → (n < 4 → n ≡ length (drop place bs))
+    → IsBorrowedCall [] (take n (drop place bs)) true (Malformed k) read q → IsNextBroken bs place k
+reported_next bs place n k read q front within short call =
+    broken_behind bs place k (omega (arith, length-drop place bs, taken, size)) front.kind
+    (subst (λ xs. IsFirstPart xs (Broken (take k r)) (drop k r)) (take-append-drop k r)
+    (broken_first (take k r) (drop k r) true (told (take k r) r k n (omega (arith, few, length-take k r, taken, size)) within short there)))
+  where
+    r : List ℕ
+    r = drop place bs
+
+    taken : read ≤ n
+    taken = omega (arith, call.answer.0, length-take n r)
+
+    size : read ≡ k
+    size = omega (arith, call.answer.1, call.answer.0, length-take read (take n r))
+
+    same : take read (take n r) ≡ take k r
+    same = take-take read n r taken ∙ ap (λ m. take m r) size
+
+    there : IsBroken (take k r) (drop k (take n r)) true
+    there = subst (λ xs. IsBroken xs (drop k (take n r)) true) same (subst (λ m. IsBroken (take read (take n r)) (drop m (take n r)) true) size call.answer.3)
+
+    few : length (take k r) ≤ 3
+    few = broken_length (take k r) (drop k (take n r)) there
+
+-- a call that reports none on them has nothing to read
+none_left : (bs : List ℕ) (place n read : ℕ) (returned : Piece) (q : List ℕ) → IsLongestFront IsUtf8 bs place → n ≤ length (drop place bs)
+    → IsBorrowedCall [] (take n (drop place bs)) true returned read q → ((k : ℕ) → returned ≡ Malformed k → ⊥) → n ≡ 0
+none_left bs place n read (Text t) q front within call none =
+    let (neutral, nothing, some, bytes, text) = call.answer in
+    let r = drop place bs in
+    let taken : read ≤ n = omega (arith, text.within, length-take n r) in
+    let more : IsUtf8 (take (place + read) bs) = subst IsUtf8 (sym (take-add place read bs)) (IsUtf8-append _ _ front.kind (subst IsUtf8 (take-take read n r taken) text.kind)) in
+    absurd (omega (arith, some, taken, front.longest (place + read) (omega (arith, within, taken, length-drop place bs, front.within)) more))
+none_left bs place n read (Char c) q front within call none = absurd (call.answer.0 refl)
+none_left bs place n read (Malformed k) q front within call none = absurd (none k refl)
+none_left bs place n read InputEmpty q front within call none =
+    let (all, held, ended) = call.answer in
+    omega (arith, ap length (sym held ∙ ended refl), length-take n (drop place bs), within)
+
+pub none_is_text : (bs : List ℕ) (place n read : ℕ) (returned : Piece) (q : List ℕ) → IsLongestFront IsUtf8 bs place → n ≤ length (drop place bs) → (n < 4 → n ≡ length (drop place bs))
+    → IsBorrowedCall [] (take n (drop place bs)) true returned read q → ((k : ℕ) → returned ≡ Malformed k → ⊥) → IsUtf8 bs
+none_is_text bs place n read returned q front within short call none =
+    let nothing = none_left bs place n read returned q front within call none in
+    subst IsUtf8 (take_all place bs (omega (arith, length-drop place bs, short (omega (arith, nothing)), nothing))) front.kind
+
+-- ---- all parts of bytes whose next broken part is known
+-- the characters, the broken part, and the parts of what is left
+pub record AreSplit (bs : List ℕ) (parts : List Part) (place size : ℕ) : Type 0 where
+  pub characters : List ℕ
+  pub broken : List ℕ
+  pub others : List Part
+  pub are : parts ≡ (map Character characters ++ Broken broken ∷ []) ++ others
+  pub before : length (encode_utf8_all characters) ≡ place
+  pub long : length broken ≡ size
+  pub left : ArePartsOf (drop (place + size) bs) others
+
+split_at : (bs : List ℕ) (parts : List Part) (place size : ℕ) → ArePartsOf bs parts → IsNextBroken bs place size → AreSplit bs parts place size
+split_at bs parts place size are next =
+    let (others, same, left) = parts_split bs _ _ parts next.first are in record {
+      characters = chars (take place bs);
+      broken = take size (drop place bs);
+      others = others;
+      are = same;
+      before = ap length (encodes-chars (take place bs) next.well_formed) ∙ omega (arith, length-take place bs, next.within);
+      long = omega (arith, length-take size (drop place bs), length-drop place bs, next.within);
+      left = left;
+    }
+
+pub next_not_text : (bs : List ℕ) (place size : ℕ) → IsNextBroken bs place size → IsUtf8 bs → ⊥
+next_not_text bs place size next (cs, (h, e)) =
+    let are : ArePartsOf bs (map Character cs) =
+    subst (λ xs. ArePartsOf xs (map Character cs)) (append-nil (encode_utf8_all cs) ∙ e) (StartsWith-characters cs [] h) in
+    let s = split_at bs (map Character cs) place size are next in
+    omega (arith, count_broken-characters cs, ap count_broken s.are, count_broken-append (map Character s.characters ++ Broken s.broken ∷ []) s.others, count_broken-append (map Character s.characters) (Broken s.broken ∷ []))
+
+-- it has a byte
+last_part : (bs : List ℕ) (ps : List Part) (x rest : List ℕ) → StartsWith bs (ps ++ Broken x ∷ []) rest → 0 < length x
+last_part bs [] x rest (after, f, s) = (part_bytes bs (Broken x) after f).1
+last_part bs (p ∷ ps) x rest (after, f, s) = last_part after ps x rest s
+
+pub next_some : (bs : List ℕ) (place size : ℕ) → IsNextBroken bs place size → 0 < size
+next_some bs place size next = omega (arith, last_part bs _ _ _ next.first, length-take size (drop place bs))
+
+-- ---- those found in turn
+broken_places-characters : (at : ℕ) (cs : List ℕ) (ps : List Part) → broken_places at (map Character cs ++ ps) ≡ broken_places (at + length (encode_utf8_all cs)) ps
+broken_places-characters at [] ps = ap (λ n. broken_places n ps) (omega arith)
+broken_places-characters at (c ∷ cs) ps =
+    broken_places-characters (at + length (encode_utf8 c)) cs ps ∙ ap (λ n. broken_places n ps) (omega (arith, length-append (encode_utf8 c) (encode_utf8_all cs)))
+
+-- they are the broken ones
+found_are : (found : List (ℕ × ℕ)) (at : ℕ) (bs : List ℕ) (parts : List Part) → ArePartsOf bs parts → AreFoundInTurn at bs found → found ≡ broken_places at parts
+found_are [] at bs parts are (cs, (h, e)) =
+    let all : ArePartsOf bs (map Character cs) =
+    subst (λ xs. ArePartsOf xs (map Character cs)) (append-nil (encode_utf8_all cs) ∙ e) (StartsWith-characters cs [] h) in
+    sym (ap (broken_places at) (same_parts bs parts (map Character cs) are all ∙ sym (append-nil (map Character cs))) ∙ broken_places-characters at cs [])
+found_are ((place, size) ∷ found) at bs parts are (before, stands, next, more) =
+    let s = split_at bs parts before size are next in
+    let rest = found_are found (place + size) (drop (before + size) bs) s.others s.left more in
+    let one = ap (λ n. broken_places n (Broken s.broken ∷ s.others)) (ap (λ n. at + n) s.before ∙ sym stands) in
+    let two : (place, size) ∷ found ≡ (place, length s.broken) ∷ broken_places (place + length s.broken) s.others =
+    rw s.long (ap (λ xs. (place, size) ∷ xs) rest) in
+    two ∙ sym (ap (broken_places at) (s.are ∙ append_assoc (map Character s.characters) (Broken s.broken ∷ []) s.others) ∙ broken_places-characters at s.characters (Broken s.broken ∷ s.others) ∙ one)
+
+-- and the broken ones are they: behind so many characters a broken part is found, and behind it those that are found there
+broken_found : (at : ℕ) (cs bs x after : List ℕ) (found : List (ℕ × ℕ)) → all_scalars cs ≡ true → IsFirstPart bs (Broken x) after
+    → AreFoundInTurn (at + length (encode_utf8_all cs) + length x) after found
+    → AreFoundInTurn at (encode_utf8_all cs ++ bs) ((at + length (encode_utf8_all cs), length x) ∷ found)
+broken_found at cs bs x after found h f more = (n, refl, next, subst (λ ys. AreFoundInTurn (at + n + length x) ys found) left more)
+  where
+    text : List ℕ
+    text = encode_utf8_all cs
+
+    n : ℕ
+    n = length text
+
+    back : drop n (text ++ bs) ≡ bs
+    back = drop_at text bs n refl
+
+    bytes : bs ≡ x ++ after
+    bytes = (part_bytes bs (Broken x) after f).0
+
+    next : IsNextBroken (text ++ bs) n (length x)
+    next = broken_behind (text ++ bs) n (length x) (omega (arith, length-append text bs, ap length bytes, length-append x after))
+        (subst IsUtf8 (sym (take_at text bs n refl)) (cs, (h, refl)))
+        (subst (λ ys. IsFirstPart ys (Broken (take (length x) ys)) (drop (length x) ys)) (sym back)
+        (subst (λ ys. IsFirstPart bs (Broken ys) (drop (length x) bs)) (sym (ap (take (length x)) bytes ∙ take_at x after (length x) refl))
+        (subst (λ ys. IsFirstPart bs (Broken x) ys) (sym (ap (drop (length x)) bytes ∙ drop_at x after (length x) refl)) f)))
+
+    left : after ≡ drop (n + length x) (text ++ bs)
+    left = sym (sym (drop-drop (length x) n (text ++ bs)) ∙ ap (drop (length x)) (back ∙ bytes) ∙ drop_at x after (length x) refl)
+
+are_found : (parts : List Part) (at : ℕ) (cs bs : List ℕ) → all_scalars cs ≡ true → ArePartsOf bs parts
+    → AreFoundInTurn at (encode_utf8_all cs ++ bs) (broken_places (at + length (encode_utf8_all cs)) parts)
+are_found [] at cs bs h e = (cs, (h, sym (append-nil (encode_utf8_all cs)) ∙ ap (λ xs. encode_utf8_all cs ++ xs) (sym e)))
+are_found (Character c ∷ parts) at cs bs h (after, (s, e), more) =
+    let one : encode_utf8_all (cs ++ c ∷ []) ≡ encode_utf8_all cs ++ encode_utf8 c =
+    encodes-append cs (c ∷ []) ∙ ap (λ xs. encode_utf8_all cs ++ xs) (append-nil (encode_utf8 c)) in
+    let whole : encode_utf8_all (cs ++ c ∷ []) ++ after ≡ encode_utf8_all cs ++ bs =
+    ap (λ xs. xs ++ after) one ∙ append_assoc (encode_utf8_all cs) (encode_utf8 c) after ∙ ap (λ xs. encode_utf8_all cs ++ xs) (sym e) in
+    let place : at + length (encode_utf8_all (cs ++ c ∷ [])) ≡ at + length (encode_utf8_all cs) + length (encode_utf8 c) =
+    omega (arith, ap length one, length-append (encode_utf8_all cs) (encode_utf8 c)) in
+    subst (λ n. AreFoundInTurn at (encode_utf8_all cs ++ bs) (broken_places n parts)) place
+    (subst (λ xs. AreFoundInTurn at xs (broken_places (at + length (encode_utf8_all (cs ++ c ∷ []))) parts)) whole
+    (are_found parts at (cs ++ c ∷ []) after (scalars-append cs (c ∷ []) h (and_from _ _ s refl)) more))
+are_found (Broken x ∷ parts) at cs bs h (after, f, more) =
+    let behind = at + length (encode_utf8_all cs) + length x in
+    let zero_more : behind + length (encode_utf8_all []) ≡ behind = omega arith in
+    broken_found at cs bs x after (broken_places behind parts) h f
+    (subst (λ m. AreFoundInTurn behind after (broken_places m parts)) zero_more (are_found parts behind [] after refl more))
+
+pub found_parts : (bs : List ℕ) (parts : List Part) (found : List (ℕ × ℕ)) → ArePartsOf bs parts → AreFoundInTurn 0 bs found ↔ (found ≡ broken_places 0 parts)
+found_parts bs parts found are = (
+  found_are found 0 bs parts are,
+  λ e. subst (AreFoundInTurn 0 bs) (sym e) (are_found parts 0 [] bs refl are),
+)
+
+pub found_count : (at : ℕ) (parts : List Part) → length (broken_places at parts) ≡ count_broken parts
+found_count at [] = refl
+found_count at (Character c ∷ parts) = found_count (at + length (encode_utf8 c)) parts
+found_count at (Broken x ∷ parts) = omega (arith, found_count (at + length x) parts)

@@ -1,0 +1,34 @@
+use Rattle.std.proofs.Common.{◌≡◌, ◌+◌, ◌-◌, ◌≤◌, length, take, drop, arith, ap, ◌∙◌}
+use Rattle.std.proofs.lemmas.List.{take_rest, length-drop}
+use Rattle.std.proofs.lemmas.Str.{length-encode}
+use Rattle.encoding_text.specs.declared.decoder.DecoderResult.TheVariants.{Malformed}
+use Rattle.encoding_definitions.proofs.LongestFronts.FrontsLemmas.{WritesFront-length}
+use Rattle.encoding_runs.proofs.BlockLemmas.{block_begins, block_more, room_left, block_finished, block_full, block_stops, block_replaced}
+use Rattle.encoding_runs.proofs.repair.blocks.repair_block.Goals as goal
+
+pub loop-dst-init : goal.loop-dst-init
+loop-dst-init c = record { done = block_begins c.args.decoder.now c.args.src.now c.args.last c.args.dst.now c.in_neutral_state-neutral.ensures.pending; within = omega arith }
+
+pub returns-in-InputEmpty : goal.returns-in-InputEmpty
+returns-in-InputEmpty c =
+    let call = rw (take_rest c.args.src.now c.loop-dst.read, c.in-InputEmpty.is) at c.decode_part-result.ensures in
+    block_finished _ _ _ _ _ _ _ _ _ _ _ _ _ c.loop-dst.invariant.done call
+
+pub returns-in-OutputFull : goal.returns-in-OutputFull
+returns-in-OutputFull c =
+    let call = rw (take_rest c.args.src.now c.loop-dst.read, c.in-OutputFull.is) at c.decode_part-result.ensures in
+    block_full _ _ _ _ _ _ _ _ _ _ _ _ _ c.loop-dst.invariant.done call (omega (arith, c.loop-dst-test.true, c.loop-dst.invariant.within))
+
+pub loop-dst-preserved : goal.loop-dst-preserved
+loop-dst-preserved c =
+    let call = rw (take_rest c.args.src.now c.loop-dst.read, c.in-Malformed.is) at c.decode_part-result.ensures in
+    let (reported, is, b) = block_more _ _ _ _ _ _ _ _ _ _ _ _ _ (Malformed c.in-Malformed.field-0 c.in-Malformed.field-1) c.loop-dst.invariant.done call in
+    let done = block_replaced _ _ _ _ _ _ _ _ _ _ c.in-Malformed.field-0 c.in-Malformed.field-1 _ reported b is c.write_scalar-written.ensures in
+    record { done = done; within = omega (arith, done.writes.fits, WritesFront-length _ _ _ _ done.writes) }
+
+pub loop-dst-smaller : goal.loop-dst-smaller
+loop-dst-smaller c =
+    let call = rw (take_rest c.args.src.now c.loop-dst.read, c.in-Malformed.is) at c.decode_part-result.ensures in
+    let (reported, is, b) = block_more _ _ _ _ _ _ _ _ _ _ _ _ _ (Malformed c.in-Malformed.field-0 c.in-Malformed.field-1) c.loop-dst.invariant.done call in
+    let done = block_replaced _ _ _ _ _ _ _ _ _ _ c.in-Malformed.field-0 c.in-Malformed.field-1 _ reported b is c.write_scalar-written.ensures in
+    omega (arith, c.write_scalar-written.ensures.count, length-encode 0xFFFD, done.writes.fits)
