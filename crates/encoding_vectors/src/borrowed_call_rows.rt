@@ -3,7 +3,7 @@
 use crate::decoder_rows::row_holds;
 use encoding_text::decoder::{Piece, Utf8Decoder};
 use std::test::Fail;
-use test_vectors::decoder_vectors::{Delivered, delivered_utf8, vectors};
+use test_vectors::decoder_vectors::{Delivered, delivered, vectors};
 
 /// Calls: source, mark, piece, bytes read; those of the other forms are as in the rows of the decoder.
 const ROWS: &str = "\
@@ -156,7 +156,7 @@ fn pieces_are(src: &[u8], most: usize, wanted: &Delivered<u8>) -> bool {
 fn vectors_come_in_pieces(rt: HostRuntime) -> Result<(), Fail> {
     let vectors = vectors(rt.alloc())?;
     for vector in &vectors {
-        let want = delivered_utf8(rt.alloc(), vector)?;
+        let want = delivered::<u8>(rt.alloc(), vector)?;
         let come = pieces_are(&vector.bytes, 1, &want)
             && pieces_are(&vector.bytes, 2, &want)
             && pieces_are(&vector.bytes, 3, &want)

@@ -4,7 +4,7 @@ use encoding_text::decoder::{DecoderResult, Piece, Utf8Decoder};
 use std::alloc::Global;
 use std::test::Fail;
 use test_vectors::decoder_vectors::scalar_of;
-use test_vectors::texts::{are_units_written, are_written, bytes_of, field, number_of, units_of};
+use test_vectors::texts::{are_written, bytes_of, field, number_of, units_of};
 
 /// A call of a row: the source, the room and whether it is marked last, then the name of the result and how much is
 /// read.
@@ -54,11 +54,7 @@ fn to_utf16_is(alloc: Global, decoder: &mut Utf8Decoder, row: &str) -> Result<bo
         return Ok(false);
     };
     let (result, read, written) = decoder.decode_to_utf16_raw(&call.src, room, call.last);
-    Ok(
-        is_result(&result, call.result)
-            && read == call.read
-            && are_units_written(&out, &dst, written),
-    )
+    Ok(is_result(&result, call.result) && read == call.read && are_written(&out, &dst, written))
 }
 
 /// Whether the call of a row returns so, writes the bytes that end the row, and leaves what is behind them.

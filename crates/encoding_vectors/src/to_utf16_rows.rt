@@ -5,7 +5,7 @@ use encoding_text::mem::{
     convert_str_to_utf16, convert_utf8_to_utf16, convert_utf8_to_utf16_without_replacement,
 };
 use encoding_text::utf_8::convert_utf8_to_utf16_up_to_invalid;
-use test_vectors::texts::are_units_written;
+use test_vectors::texts::are_written;
 
 #[test]
 fn converts_what_fits(rt: HostRuntime) {
@@ -34,17 +34,17 @@ fn refuses_broken_parts(rt: HostRuntime) {
 
     let mut dst = [0x71; 36];
     let answer = convert_utf8_to_utf16_without_replacement(&BYTES, &mut dst);
-    assert!(rt; answer == Some(31) && are_units_written(&UNITS, &dst, 31));
+    assert!(rt; answer == Some(31) && are_written(&UNITS, &dst, 31));
 }
 
 #[test]
 fn converts_a_text(rt: HostRuntime) {
     let mut dst = [0x71; 37];
     let written = convert_utf8_to_utf16(&BYTES, &mut dst);
-    assert!(rt; written == 31 && are_units_written(&UNITS, &dst, written));
+    assert!(rt; written == 31 && are_written(&UNITS, &dst, written));
 
     assert!(rt; TEXT.len() == 36);
     let mut dst = [0x71; 36];
     let written = convert_str_to_utf16(TEXT, &mut dst);
-    assert!(rt; written == 31 && are_units_written(&UNITS, &dst, written));
+    assert!(rt; written == 31 && are_written(&UNITS, &dst, written));
 }

@@ -8,12 +8,13 @@ use std::alloc::Global;
 use std::test::Fail;
 use test_vectors::texts::{are_written, bytes_of, field, units_of};
 
-/// Code units that stand round another, and their UTF-8.
+/// Code units that stand round another, and their UTF-8: of one length, and of each.
 const FILLERS: &str = "\
 0061 | 61
 0430 | D0 B0
 4E00 | E4 B8 80
-D83D DE00 | F0 9F 98 80";
+D83D DE00 | F0 9F 98 80
+0061 0430 4E00 | 61 D0 B0 E4 B8 80";
 
 /// Code units at the edges of lengths and of surrogates, and their UTF-8.
 const EDGES: &str = "\
@@ -72,7 +73,7 @@ fn units_hold(alloc: Global, filler: &str, before: usize, edge: &str) -> Result<
     let filler_bytes = bytes_of(alloc, field(&mut filler))?;
     let edge_bytes = bytes_of(alloc, field(&mut edge))?;
     let bytes = around(alloc, &filler_bytes, before, &edge_bytes)?;
-    let mut dst = [0x71; 200];
+    let mut dst = [0x71; 260];
     let (read, written) = convert_utf16_to_utf8_partial(&units, &mut dst);
     Ok(read == units.len() && written == bytes.len() && are_written(&bytes, &dst, written))
 }
@@ -89,7 +90,7 @@ fn units_at_each_place(rt: HostRuntime) -> Result<(), Fail> {
             count = count.saturating_add(1);
         }
     }
-    assert!(rt; count == 4 * 11);
+    assert!(rt; count == 5 * 11);
     Ok(())
 }
 

@@ -13,6 +13,8 @@ mod checks_at_each_place;
 #[cfg(test)]
 mod conversion_walks;
 #[cfg(test)]
+mod length_rows;
+#[cfg(test)]
 mod long_units;
 #[cfg(test)]
 mod seam_rooms;

@@ -7,7 +7,7 @@ use encoding_text::utf_8::convert_utf8_to_utf16_up_to_invalid;
 use std::alloc::{AllocError, Global};
 use std::test::Fail;
 use test_vectors::decoder_vectors::{Expected, Vector, vectors};
-use test_vectors::texts::{are_units_written, are_written};
+use test_vectors::texts::are_written;
 
 /// Characters that stand round a vector.
 pub(crate) const FILLERS: [char; 4] = ['a', '\u{430}', '\u{4E00}', '\u{1F600}'];
@@ -119,7 +119,7 @@ fn units_stand_at(to: usize, units: &[u16], dst: &[u16]) -> bool {
     let Some((front, rest)) = dst.split_at_checked(to) else {
         return false;
     };
-    are_units_written(&[], front, 0) && are_units_written(units, rest, units.len())
+    are_written(&[], front, 0) && are_written(units, rest, units.len())
 }
 
 /// Whether these bytes begin at a place, and `71` stands before and behind them.

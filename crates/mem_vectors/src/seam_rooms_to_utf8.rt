@@ -1,5 +1,5 @@
-//! The same of code units and of Latin1: to UTF-8 into rooms round the seams of blocks, and from and to each of sixteen
-//! places, and Latin1 back.
+//! Code units and Latin1 to UTF-8 into rooms round the seams of blocks, and from and to each of sixteen places, and Latin1
+//! back, beside a walk over the characters.
 
 use crate::seam_rooms::{FILLERS, GAPS, LENGTH, Place, bytes_stand_at, count_of, next_place};
 use encoding_text::mem::{

@@ -4,7 +4,7 @@ use crate::block_seams::{FILLERS_IN_TEXT, around};
 use encoding_text::mem::{convert_str_to_utf16, convert_utf8_to_utf16};
 use std::alloc::Global;
 use std::test::Fail;
-use test_vectors::texts::{are_units_written, bytes_of, field, units_of};
+use test_vectors::texts::{are_written, bytes_of, field, units_of};
 
 /// Characters that stand round another, in UTF-8 and UTF-16.
 const FILLERS: &str = "\
@@ -59,7 +59,7 @@ fn bytes_hold(bytes: &[u8], units: &[u16]) -> bool {
         return false;
     }
     let written = convert_utf8_to_utf16(bytes, &mut dst);
-    are_units_written(units, &dst, written)
+    are_written(units, &dst, written)
 }
 
 /// Whether the bytes, as a text, come to the code units in a destination of as many places as it has bytes.
@@ -73,7 +73,7 @@ fn text_holds(bytes: &[u8], units: &[u16]) -> bool {
         return false;
     }
     let written = convert_str_to_utf16(text, &mut dst[..room]);
-    are_units_written(units, &dst, written)
+    are_written(units, &dst, written)
 }
 
 #[test]

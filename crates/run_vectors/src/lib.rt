@@ -2,6 +2,10 @@
 #![tactic(auto)]
 
 #[cfg(test)]
+mod block_rows;
+#[cfg(test)]
+mod broken_rows;
+#[cfg(test)]
 mod dense_rows;
 #[cfg(test)]
 mod encoder_run_rows;

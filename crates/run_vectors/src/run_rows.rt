@@ -1,11 +1,14 @@
 //! Runs of the decoder: rows, and the vectors whole and one byte a turn.
 
+ghost use Rattle.std.specs.Prelude.{◌≤◌, length};
+
 use encoding_runs::run::{Outcome, Report, Turn, run_to_utf8, run_to_utf16};
 use encoding_text::decoder::{DecoderResult, Utf8Decoder};
 use std::alloc::{AllocError, Global};
 use std::test::Fail;
-use test_vectors::decoder_vectors::{Delivered, Vector, delivered_utf8, delivered_utf16, vectors};
-use test_vectors::texts::{are_units_written, are_written, bytes_of, field, number_of, units_of};
+use test_vectors::decoder_vectors::{Delivered, Vector, delivered, vectors};
+use test_vectors::outputs::{Output, unwritten};
+use test_vectors::texts::{are_written, bytes_of, field, number_of};
 
 /// Returns the last answer that a field names.
 fn result_of(field: &str) -> Result<Option<DecoderResult>, Fail> {
@@ -104,67 +107,74 @@ fn came_to(run: &Run, outcome: &Outcome, written: usize) -> bool {
     outcome.read == run.read && outcome.written == written && outcome.result == run.result
 }
 
-/// Makes a run: how many reports there are, if it comes so far, writes these code units and leaves what is behind them.
-fn reports_of_utf16(
-    decoder: &mut Utf8Decoder,
-    run: &Run,
-    out: &[u16],
-    reports: &mut [Report],
-) -> Option<usize> {
-    let mut dst = [0x71; 8];
-    let room = dst.get_mut(..run.room)?;
-    if reports.len() < run.turns.len() {
-        return None;
-    }
-    let outcome = run_to_utf16(decoder, &run.src, &run.turns, room, reports);
-    if came_to(run, &outcome, out.len()) && are_units_written(out, &dst, outcome.written) {
-        Some(outcome.reports)
-    } else {
-        None
+/// A byte or a code unit, with the run that writes it.
+trait Written: Output {
+    /// Makes a run.
+    fn run(
+        decoder: &mut Utf8Decoder,
+        src: &[u8],
+        turns: &[Turn],
+        dst: &mut [Self],
+        reports: &mut [Report],
+    ) -> Outcome
+        requires places { length turns.now ≤ length reports.old };
+}
+
+impl Written for u8 {
+    fn run(
+        decoder: &mut Utf8Decoder,
+        src: &[u8],
+        turns: &[Turn],
+        dst: &mut [u8],
+        reports: &mut [Report],
+    ) -> Outcome {
+        run_to_utf8(decoder, src, turns, dst, reports)
     }
 }
 
-/// Makes a run: how many reports there are, if it comes so far, writes these bytes and leaves what is behind them.
-fn reports_of_utf8(
+impl Written for u16 {
+    fn run(
+        decoder: &mut Utf8Decoder,
+        src: &[u8],
+        turns: &[Turn],
+        dst: &mut [u16],
+        reports: &mut [Report],
+    ) -> Outcome {
+        run_to_utf16(decoder, src, turns, dst, reports)
+    }
+}
+
+/// Makes a run: how many reports there are, if it comes so far, writes this text and leaves what is behind it.
+fn reports_of<U: Written>(
+    alloc: Global,
     decoder: &mut Utf8Decoder,
     run: &Run,
-    out: &[u8],
+    out: &[U],
     reports: &mut [Report],
-) -> Option<usize> {
-    let mut dst = [0x71; 8];
-    let room = dst.get_mut(..run.room)?;
+) -> Result<Option<usize>, AllocError> {
+    let mut dst = unwritten::<U>(alloc, 8)?;
+    let Some(room) = dst.as_mut_slice().get_mut(..run.room) else {
+        return Ok(None);
+    };
     if reports.len() < run.turns.len() {
-        return None;
+        return Ok(None);
     }
-    let outcome = run_to_utf8(decoder, &run.src, &run.turns, room, reports);
+    let outcome = U::run(decoder, &run.src, &run.turns, room, reports);
     if came_to(run, &outcome, out.len()) && are_written(out, &dst, outcome.written) {
-        Some(outcome.reports)
+        Ok(Some(outcome.reports))
     } else {
-        None
+        Ok(None)
     }
 }
 
-/// Whether the run of a row comes so far, writes the code units and the reports that end the row, and leaves what is
-/// behind them.
-fn to_utf16_is(alloc: Global, decoder: &mut Utf8Decoder, row: &str) -> Result<bool, Fail> {
-    let mut row = row;
-    let run = run_of(alloc, &mut row)?;
-    let out = units_of(alloc, field(&mut row))?;
-    let mut reports = places(alloc, run.turns.len().saturating_add(1))?;
-    match reports_of_utf16(decoder, &run, &out, &mut reports) {
-        Some(count) => are_reported(row, &reports, count),
-        None => Ok(false),
-    }
-}
-
-/// Whether the run of a row comes so far, writes the bytes and the reports that end the row, and leaves what is behind
+/// Whether the run of a row comes so far, writes the text and the reports that end the row, and leaves what is behind
 /// them.
-fn to_utf8_is(alloc: Global, decoder: &mut Utf8Decoder, row: &str) -> Result<bool, Fail> {
+fn run_is<U: Written>(alloc: Global, decoder: &mut Utf8Decoder, row: &str) -> Result<bool, Fail> {
     let mut row = row;
     let run = run_of(alloc, &mut row)?;
-    let out = bytes_of(alloc, field(&mut row))?;
+    let out = U::all_of(alloc, field(&mut row))?;
     let mut reports = places(alloc, run.turns.len().saturating_add(1))?;
-    match reports_of_utf8(decoder, &run, &out, &mut reports) {
+    match reports_of(alloc, decoder, &run, &out, &mut reports)? {
         Some(count) => are_reported(row, &reports, count),
         None => Ok(false),
     }
@@ -180,8 +190,8 @@ fn holds(alloc: Global, decoder: &mut Utf8Decoder, row: &str) -> Result<bool, Fa
         }
         "neutral" => Ok(decoder.in_neutral_state()),
         "pending" => Ok(!decoder.in_neutral_state()),
-        "utf16" => to_utf16_is(alloc, decoder, rest),
-        "utf8" => to_utf8_is(alloc, decoder, rest),
+        "utf16" => run_is::<u16>(alloc, decoder, rest),
+        "utf8" => run_is::<u8>(alloc, decoder, rest),
         _ => Ok(false),
     }
 }
@@ -265,69 +275,49 @@ fn reported(
     Ok(Some(lengths))
 }
 
-/// Decodes to UTF-16 by turns of so many bytes: what that delivers, if it comes to the end.
-fn run_utf16(alloc: Global, src: &[u8], take: usize) -> Result<Option<Delivered<u16>>, AllocError> {
+/// Decodes by turns of so many bytes: what that delivers, if it comes to the end.
+fn run_by<U: Written>(
+    alloc: Global,
+    src: &[u8],
+    take: usize,
+) -> Result<Option<Delivered<U>>, AllocError> {
     let mut decoder = Utf8Decoder::new_inner();
     let turns = turns_for(alloc, src.len(), take, 16)?;
     let mut reports = places(alloc, turns.len())?;
     if reports.len() < turns.len() {
         return Ok(None);
     }
-    let mut dst = [0; 16];
-    let outcome = run_to_utf16(&mut decoder, src, &turns, &mut dst, &mut reports);
-    let mut units = Vec::new(alloc);
-    units.extend_from_slice(dst.get(..outcome.written).unwrap_or(&[]))?;
+    let mut dst = unwritten::<U>(alloc, 16)?;
+    let outcome = U::run(&mut decoder, src, &turns, &mut dst, &mut reports);
+    let mut text = Vec::new(alloc);
+    text.extend_from_slice(dst.get(..outcome.written).unwrap_or(&[]))?;
     match reported(alloc, &outcome, src.len(), &reports)? {
-        Some(lengths) => Ok(Some((units, lengths))),
+        Some(lengths) => Ok(Some((text, lengths))),
         None => Ok(None),
     }
 }
 
-/// Decodes to UTF-8 by turns of so many bytes: what that delivers, if it comes to the end.
-fn run_utf8(alloc: Global, src: &[u8], take: usize) -> Result<Option<Delivered<u8>>, AllocError> {
-    let mut decoder = Utf8Decoder::new_inner();
-    let turns = turns_for(alloc, src.len(), take, 16)?;
-    let mut reports = places(alloc, turns.len())?;
-    if reports.len() < turns.len() {
-        return Ok(None);
-    }
-    let mut dst = [0; 16];
-    let outcome = run_to_utf8(&mut decoder, src, &turns, &mut dst, &mut reports);
-    let mut bytes = Vec::new(alloc);
-    bytes.extend_from_slice(dst.get(..outcome.written).unwrap_or(&[]))?;
-    match reported(alloc, &outcome, src.len(), &reports)? {
-        Some(lengths) => Ok(Some((bytes, lengths))),
-        None => Ok(None),
-    }
-}
-
-/// Whether a vector decodes to UTF-16 by turns of one byte and of all.
-fn runs_to_utf16(alloc: Global, vector: &Vector) -> Result<bool, AllocError> {
-    let want = Some(delivered_utf16(alloc, vector)?);
-    Ok(run_utf16(alloc, &vector.bytes, 1)? == want && run_utf16(alloc, &vector.bytes, 16)? == want)
+/// Whether a vector decodes by turns of one byte and of all.
+fn runs<U: Written>(alloc: Global, vector: &Vector) -> Result<bool, AllocError> {
+    let want = Some(delivered::<U>(alloc, vector)?);
+    Ok(run_by(alloc, &vector.bytes, 1)? == want && run_by(alloc, &vector.bytes, 16)? == want)
 }
 
 #[test]
 fn vectors_run_to_utf16(rt: HostRuntime) -> Result<(), Fail> {
     let vectors = vectors(rt.alloc())?;
     for vector in &vectors {
-        assert!(rt; runs_to_utf16(rt.alloc(), vector)?, "{}", vector.row);
+        assert!(rt; runs::<u16>(rt.alloc(), vector)?, "{}", vector.row);
     }
     assert!(rt; vectors.len() == 104);
     Ok(())
-}
-
-/// Whether a vector decodes to UTF-8 by turns of one byte and of all.
-fn runs_to_utf8(alloc: Global, vector: &Vector) -> Result<bool, AllocError> {
-    let want = Some(delivered_utf8(alloc, vector)?);
-    Ok(run_utf8(alloc, &vector.bytes, 1)? == want && run_utf8(alloc, &vector.bytes, 16)? == want)
 }
 
 #[test]
 fn vectors_run_to_utf8(rt: HostRuntime) -> Result<(), Fail> {
     let vectors = vectors(rt.alloc())?;
     for vector in &vectors {
-        assert!(rt; runs_to_utf8(rt.alloc(), vector)?, "{}", vector.row);
+        assert!(rt; runs::<u8>(rt.alloc(), vector)?, "{}", vector.row);
     }
     assert!(rt; vectors.len() == 104);
     Ok(())

@@ -1,5 +1,6 @@
 //! The decoder's vectors: bytes, and the parts that they are. UTF-8 decoder of the Encoding Standard.
 
+use crate::outputs::Output;
 use crate::texts::{bytes_of, field};
 use Expected::{Broken, Character};
 use std::alloc::{AllocError, Global};
@@ -148,34 +149,17 @@ pub fn repaired_text(alloc: Global, vector: &Vector) -> Result<Vec<u8>, AllocErr
     Ok(text)
 }
 
-/// Returns what decoding to UTF-16 is to deliver.
-pub fn delivered_utf16(alloc: Global, vector: &Vector) -> Result<Delivered<u16>, AllocError> {
-    let mut units = Vec::new(alloc);
+/// Returns what decoding is to deliver.
+pub fn delivered<U: Output>(alloc: Global, vector: &Vector) -> Result<Delivered<U>, AllocError> {
+    let mut text = Vec::new(alloc);
     let mut reports = Vec::new(alloc);
     for part in &vector.parts {
         match part {
-            Character(scalar) => {
-                units.extend_from_slice(scalar.encode_utf16(&mut [0; 2]))?;
-            }
-            Broken(length) => reports.push((units.len(), *length))?,
+            Character(scalar) => U::push(&mut text, *scalar)?,
+            Broken(length) => reports.push((text.len(), *length))?,
         }
     }
-    Ok((units, reports))
-}
-
-/// Returns what decoding to UTF-8 is to deliver.
-pub fn delivered_utf8(alloc: Global, vector: &Vector) -> Result<Delivered<u8>, AllocError> {
-    let mut bytes = Vec::new(alloc);
-    let mut reports = Vec::new(alloc);
-    for part in &vector.parts {
-        match part {
-            Character(scalar) => {
-                bytes.extend_from_slice(scalar.encode_utf8(&mut [0; 4]).as_bytes())?;
-            }
-            Broken(length) => reports.push((bytes.len(), *length))?,
-        }
-    }
-    Ok((bytes, reports))
+    Ok((text, reports))
 }
 
 /// Returns how many bytes a part takes.

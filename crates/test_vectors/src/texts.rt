@@ -1,5 +1,6 @@
 //! Rows as text: fields between bars, of words between spaces, which are mostly hexadecimal.
 
+use crate::conversions::Unit;
 use std::alloc::Global;
 use std::test::Fail;
 
@@ -47,12 +48,7 @@ pub fn number_of(field: &str) -> Result<usize, Fail> {
     }
 }
 
-/// Whether these bytes begin a destination that was filled with `71`, and `71` stands behind so many.
-pub fn are_written(bytes: &[u8], dst: &[u8], written: usize) -> bool {
-    dst.get(..written) == Some(bytes) && dst.iter().skip(written).all(|byte| *byte == 0x71)
-}
-
-/// Whether these code units begin a destination that was filled with `71`, and `71` stands behind so many.
-pub fn are_units_written(units: &[u16], dst: &[u16], written: usize) -> bool {
-    dst.get(..written) == Some(units) && dst.iter().skip(written).all(|unit| *unit == 0x71)
+/// Whether these bytes or code units begin a destination that was filled with `71`, and `71` stands behind so many.
+pub fn are_written<U: Unit>(text: &[U], dst: &[U], written: usize) -> bool {
+    dst.get(..written) == Some(text) && dst.iter().skip(written).all(|unit| *unit == U::UNWRITTEN)
 }
