@@ -1,0 +1,53 @@
+-- Pieces and their repairs: one more at the end, and all of them joined.
+use Rattle.std.proofs.Common.{◌≡◌, ℕ, ◌+◌, ◌≤◌, List, [], ◌∷◌, ◌++◌, length, refl, sym, ap, subst, ◌∙◌, arith, append-nil, append_assoc, length-append}
+use Rattle.std.proofs.lemmas.List.{flat_map_more}
+use Rattle.std.proofs.lemmas.List.Sums.{sum_by-cons}
+use Rattle.std.specs.List.{flat_map, sum_by, AllByRecursion, AllZip}
+use Rattle.encoding_definitions.specs.Parts.{ArePartsOf}
+use Rattle.encoding_definitions.proofs.Decomposition.DecompositionLemmas.{count_broken-bytes}
+use Rattle.encoding_runs.specs.Repairs.{IsRepairedWith}
+use Rattle.cuts_example.specs.declared.RepairedPiece.{RepairedPiece}
+use Rattle.cuts_example.specs.Cuts.{MayBeCutBehind, AreCut, IsRepairOf}
+
+pub AreCut-push : (pieces : List (List ℕ)) (piece : List ℕ) → AllByRecursion MayBeCutBehind pieces → AreCut (pieces ++ piece ∷ [])
+AreCut-push [] piece h = tt
+AreCut-push (p ∷ []) piece h = (h.0, tt)
+AreCut-push (p ∷ q ∷ ps) piece h = (h.0, AreCut-push (q ∷ ps) piece h.1)
+
+pub AllByRecursion-push : {X : Type 0} (P : X → Type 0) (xs : List X) (x : X) → AllByRecursion P xs → P x → AllByRecursion P (xs ++ x ∷ [])
+AllByRecursion-push P [] x h p = (p, tt)
+AllByRecursion-push P (y ∷ ys) x h p = (h.0, AllByRecursion-push P ys x h.1 p)
+
+pub AllZip-push : {X Y : Type 0} (R : X → Y → Type 0) (xs : List X) (ys : List Y) (x : X) (y : Y) → AllZip R xs ys → R x y → AllZip R (xs ++ x ∷ []) (ys ++ y ∷ [])
+AllZip-push R [] [] x y h r = (r, tt)
+AllZip-push R [] (b ∷ bs) x y h r = absurd h
+AllZip-push R (a ∷ as') [] x y h r = absurd h
+AllZip-push R (a ∷ as') (b ∷ bs) x y h r = (h.0, AllZip-push R as' bs x y h.1 r)
+
+-- what is cut off goes behind the pieces before it
+pub flat_map-push : {X : Type 0} (f : X → List ℕ) (xs : List X) (x : X) (rest others bytes : List ℕ) → flat_map f xs ++ rest ≡ bytes → f x ++ others ≡ rest → flat_map f (xs ++ x ∷ []) ++ others ≡ bytes
+flat_map-push f xs x rest others bytes h e =
+    ap (λ t. t ++ others) (sym (flat_map_more f [] xs x)) ∙ append_assoc (flat_map f xs) (f x) others ∙ ap (λ t. flat_map f xs ++ t) e ∙ h
+
+-- no more parts are broken than there are bytes
+pub replaced_within : (pieces : List (List ℕ)) (repaired : List RepairedPiece) → AllZip IsRepairOf pieces repaired
+    → sum_by (λ piece. piece.replaced) repaired ≤ length (flat_map (λ piece. piece) pieces)
+replaced_within [] [] h = omega arith
+replaced_within [] (r ∷ rs) h = absurd h
+replaced_within (p ∷ ps) [] h = absurd h
+replaced_within (p ∷ ps) (r ∷ rs) ((parts, are, text, count), h) =
+    omega (arith, count, sum_by-cons (λ (piece : RepairedPiece). piece.replaced) r rs, count_broken-bytes p parts [] are, replaced_within ps rs h, length-append p (flat_map (λ piece. piece) ps))
+
+-- what holds of two pieces holds of all
+pub all_joined : ((piece more text others : List ℕ) (n m : ℕ) → MayBeCutBehind piece → IsRepairedWith piece text n → IsRepairedWith more others m → IsRepairedWith (piece ++ more) (text ++ others) (n + m))
+    → (pieces : List (List ℕ)) (repaired : List RepairedPiece) → AreCut pieces → AllZip IsRepairOf pieces repaired
+    → IsRepairedWith (flat_map (λ piece. piece) pieces) (flat_map (λ piece. piece.text.items) repaired) (sum_by (λ piece. piece.replaced) repaired)
+all_joined law [] [] cut h = ([], refl, refl, refl)
+all_joined law [] (r ∷ rs) cut h = absurd h
+all_joined law (p ∷ ps) [] cut h = absurd h
+all_joined law (p ∷ []) (r ∷ []) cut ((parts, are, text, count), h) =
+    (parts, subst (λ bs. ArePartsOf bs parts) (sym (append-nil p)) are, append-nil r.text.items ∙ text, omega (arith, count))
+all_joined law (p ∷ []) (r ∷ s ∷ rs) cut h = absurd h.1
+all_joined law (p ∷ q ∷ ps) (r ∷ rs) cut h =
+    subst (IsRepairedWith _ _) (sym (sum_by-cons (λ (piece : RepairedPiece). piece.replaced) r rs))
+    (law p _ r.text.items _ r.replaced _ cut.0 h.0 (all_joined law (q ∷ ps) rs cut.1 h.1))

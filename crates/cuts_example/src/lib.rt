@@ -1,0 +1,146 @@
+//! Bytes that are cut behind ASCII bytes, such as line ends, and whose pieces are repaired apart, in any order and on as
+//! many machines as there are: joined, their texts are what one repair of all the bytes writes.
+#![tactic(auto)]
+
+ghost use Rattle.std.specs.Prelude.{◌≡◌, ℕ, ◌+◌, ◌-◌, ◌<◌, ◌≤◌, ◌^◌, min, List, ◌++◌, length, take, map, sum_by, slice_index, IfOk};
+ghost use Rattle.std.specs.List.{flat_map, AllZip};
+ghost use Rattle.encoding_runs.specs.Repairs.{IsRepairedWith};
+ghost use Rattle.cuts_example.specs.Cuts.{EndsWithAscii, MayBeCutBehind, AreCut, IsRepairOf};
+
+use encoding_runs::laws::{law_cuts, law_parts};
+use encoding_runs::repair::{Watch, repair_slice};
+use std::alloc::{AllocError, Global};
+
+/// A piece that was repaired, or several that were joined.
+#[derive(Drop)]
+pub struct RepairedPiece {
+    /// Its text, in UTF-8.
+    pub text: Vec<u8>,
+    /// For how many broken parts it has U+FFFD.
+    pub replaced: u64,
+}
+
+/// Behind nothing, and behind an ASCII byte, bytes may be cut: what is repaired apart joins to what is repaired at once,
+/// and its broken parts add up.
+pub fn law_cut()
+    ensures { (piece more text others : List ℕ) (n m : ℕ) → MayBeCutBehind piece → IsRepairedWith piece text n
+        → IsRepairedWith more others m → IsRepairedWith (piece ++ more) (text ++ others) (n + m) }
+{
+    law_parts();
+    law_cuts();
+}
+
+/// How long the first piece is: at least so many bytes, up to and with the next ASCII byte, or all where none comes.
+fn cut_length(bytes: &[u8], least: usize) -> usize
+    requires { 0 < least }
+    ensures within { result ≤ length bytes.now }
+    ensures least { min least (length bytes.now) ≤ result }
+    ensures first { (k : ℕ) → least ≤ k → k < result → 0x80 ≤ slice_index bytes.now (k - 1) }
+    ensures ascii { result < length bytes.now → EndsWithAscii (take result bytes.now) }
+{
+    let mut length = least;
+    while length < bytes.len() {
+        if bytes[length - 1].is_ascii() {
+            return length;
+        }
+        length += 1;
+    }
+    bytes.len()
+}
+
+/// Cuts bytes into pieces, each but the last of at least so many bytes, and up to the next ASCII byte. An `Err` says that
+/// memory was refused.
+pub fn cut<'a>(alloc: Global, bytes: &'a [u8], least: usize) -> Result<Vec<&'a [u8]>, AllocError>
+    requires { 0 < least }
+    ensures whole { IfOk result (λ pieces. flat_map (λ piece. piece.now) pieces.items ≡ bytes.now) }
+    ensures cut { IfOk result (λ pieces. AreCut (map (λ piece. piece.now) pieces.items)) }
+{
+    let mut pieces = Vec::new(alloc);
+    let mut rest = bytes;
+    while !rest.is_empty() {
+        let (piece, others) = rest.split_at(cut_length(rest, least));
+        pieces.push(piece)?;
+        rest = others;
+    }
+    Ok(pieces)
+}
+
+/// Repairs a piece. An `Err` says that memory was refused.
+pub fn repair_piece(alloc: Global, piece: &[u8]) -> Result<RepairedPiece, AllocError>
+    ensures { IfOk result (λ repaired. IsRepairOf piece.now repaired) }
+{
+    let mut text = Vec::new(alloc);
+    match repair_slice(piece, &mut Watch::new(&mut text)) {
+        Ok(replaced) => Ok(RepairedPiece { text, replaced }),
+        Err(_) => Err(AllocError),
+    }
+}
+
+/// Joins repaired pieces in the order of their bytes, whoever repaired them and when: of whatever pieces they are the
+/// repairs, what comes out is the repair of the bytes that these make up. An `Err` says that memory was refused.
+pub fn join(alloc: Global, repaired: &[RepairedPiece]) -> Result<RepairedPiece, AllocError>
+    requires counted { sum_by (λ piece. piece.replaced) repaired.now < 2 ^ 64 }
+    ensures { (pieces : List (List ℕ)) → AreCut pieces → AllZip IsRepairOf pieces repaired.now
+        → IfOk result (λ whole. IsRepairOf (flat_map (λ piece. piece) pieces) whole) }
+{
+    law_cut();
+    let mut whole = RepairedPiece {
+        text: Vec::new(alloc),
+        replaced: 0,
+    };
+    for piece in repaired {
+        whole.text.extend_from_slice(&piece.text)?;
+        whole.replaced += piece.replaced;
+    }
+    Ok(whole)
+}
+
+/// Repairs bytes in pieces of at least so many bytes, each apart. An `Err` says that memory was refused.
+pub fn repair_apart(alloc: Global, bytes: &[u8], least: usize) -> Result<RepairedPiece, AllocError>
+    requires { 0 < least }
+    ensures { IfOk result (λ whole. IsRepairOf bytes.now whole) }
+{
+    let pieces = cut(alloc, bytes, least)?;
+    let mut repaired = Vec::new(alloc);
+    for piece in &pieces {
+        repaired.push(repair_piece(alloc, piece)?)?;
+    }
+    join(alloc, &repaired)
+}
+
+#[cfg(test)]
+mod tests {
+    use super::*;
+    use std::test::Fail;
+
+    /// Bytes, their text by the Encoding Standard's UTF-8 decoder, and how many parts of them are broken.
+    const ROWS: [(&[u8], &str, u64); 5] = [
+        (b"", "", 0),
+        (b"plain\ntext\n", "plain\ntext\n", 0),
+        (
+            b"a\xE2\x98\nb\xF0\x9F\x92\n\xC3\xA9",
+            "a\u{FFFD}\nb\u{FFFD}\n\u{E9}",
+            2,
+        ),
+        (
+            b"\xE0\x80\x80\n\xC2\x7F\xE2\x98",
+            "\u{FFFD}\u{FFFD}\u{FFFD}\n\u{FFFD}\u{7F}\u{FFFD}",
+            5,
+        ),
+        (b"\xE2\x98\x83\xF0\x9F\x92\xA9", "\u{2603}\u{1F4A9}", 0),
+    ];
+
+    #[test]
+    fn repairs_in_pieces_of_each_length(rt: HostRuntime) -> Result<(), Fail> {
+        for (bytes, text, replaced) in &ROWS {
+            for least in 1..14 {
+                let whole = repair_apart(rt.alloc(), bytes, least)?;
+                assert!(rt;
+                    whole.text.as_slice() == text.as_bytes() && whole.replaced == *replaced,
+                    "{text} in pieces of {least}"
+                );
+            }
+        }
+        Ok(())
+    }
+}

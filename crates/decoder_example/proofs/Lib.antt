@@ -1,0 +1,4 @@
+pub mod GivenLemmas
+pub mod CallLemmas
+pub mod MarkLemmas
+pub mod StreamLemmas

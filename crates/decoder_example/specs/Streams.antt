@@ -1,0 +1,34 @@
+-- Calls of a decoder in a row, over one stream.
+use Rattle.std.specs.Prelude.{◌≡◌, ℕ, Bool, true, List, [], ◌∷◌, length, take, drop}
+use Rattle.decoder_example.specs.declared.CoderResult.{CoderResult}
+use Rattle.decoder_example.specs.Marked.{State}
+use Rattle.decoder_example.specs.Calls.{IsReplacingCall}
+
+-- one of them: at most how many of the unread bytes it is handed, whether it is marked last, what ends it, how many bytes
+-- it reads, what it writes, whether U+FFFD stands for any, and what is held after it
+pub record Made (A : Type 0) : Type 0 where
+  pub piece : ℕ
+  pub last : Bool
+  pub result : CoderResult
+  pub read : ℕ
+  pub out : List A
+  pub replaced : Bool
+  pub after : State
+
+-- each is handed the first unread bytes, and one that is marked last all of them, and any destination
+abbrev pub AreMade : {A : Type 0} → (ℕ → List A) → ℕ → (ℕ → ℕ → ℕ) → State → List ℕ → List (Made A) → Type 0
+AreMade encode need query state unread [] = Unit {0}
+AreMade {A} encode need query state unread (call ∷ calls) =
+    ((dst : List A) × (dst' : List A) × (call.out ≡ take (length call.out) dst')
+    × IsReplacingCall encode need query state (take call.piece unread) dst dst' call.last call.result call.read (length call.out) call.replaced call.after)
+    × (call.last ≡ true → drop call.piece unread ≡ []) × AreMade encode need query call.after (drop call.read unread) calls
+
+-- what is held after them
+abbrev pub state_after : {A : Type 0} → State → List (Made A) → State
+state_after state [] = state
+state_after state (call ∷ calls) = state_after call.after calls
+
+-- what they leave unread
+abbrev pub unread_after : {A : Type 0} → List ℕ → List (Made A) → List ℕ
+unread_after unread [] = unread
+unread_after unread (call ∷ calls) = unread_after (drop call.read unread) calls

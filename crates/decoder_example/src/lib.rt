@@ -1,0 +1,417 @@
+//! A decoder of UTF-8 whose stream may begin with a byte order mark: it drops the mark, however that is cut, and writes
+//! U+FFFD for each broken part. Its calls have the shape of those of the crate `encoding_rs`. Encoding Standard, UTF-8
+//! decode.
+#![tactic(auto)]
+
+ghost use Rattle.std.specs.Prelude.{◌≡◌, ℕ, ◌+◌, ◌-◌, ◌<◌, ◌≤◌, Bool, true, false, List, [], ◌++◌, length, drop, encode_utf8, IfSome};
+ghost use Rattle.std.specs.Option.{SomeIff, is_none};
+ghost use Rattle.std.specs.Char.Escape.{encode_utf16};
+ghost use Rattle.encoding_definitions.specs.Fronts.{WritesFront};
+ghost use Rattle.encoding_text.specs.Decoding.{utf16_room, utf8_room_replacing};
+ghost use Rattle.decoder_example.specs.Marked.{State, Decoding, Sniffing, GivesText, held, left};
+ghost use Rattle.decoder_example.specs.Streams.{AreMade, Made, state_after, unread_after};
+ghost use Rattle.std.specs.List.{flat_map, list_any};
+ghost use Rattle.decoder_example.specs.Calls.{Ends, IsReplacingCall, IsReportingCall, Writes};
+
+use encoding_runs::laws::law_mixed_calls;
+use encoding_text::decoder::{DecoderResult, Utf8Decoder};
+use std::marker::Model;
+
+/// What ended a call.
+#[derive(Debug, PartialEq, Eq, Drop)]
+pub enum CoderResult {
+    /// All of the source was read.
+    InputEmpty,
+    /// The room that is left may not hold what comes next: hand in more.
+    OutputFull,
+}
+
+/// The byte order mark: U+FEFF.
+const MARK: [u8; 3] = [0xEF, 0xBB, 0xBF];
+
+/// What a decoder writes: code units of UTF-16, or bytes of UTF-8.
+trait CodeUnit: Copy {
+    // a scalar value in these code units
+    ghost encode: { ℕ → List Self };
+
+    // the most code units that a character takes
+    ghost need: { ℕ };
+
+    // what is queried for so many bytes, behind so many that are held
+    ghost query: { ℕ → ℕ → ℕ };
+
+    /// The decoder's call that writes them.
+    fn decode(
+        decoder: &mut Utf8Decoder,
+        src: &[u8],
+        dst: &mut [Self],
+        last: bool,
+    ) -> (DecoderResult, usize, usize)
+        ensures { IsReportingCall encode need query decoder.old src.now dst.old dst.new last result.0 result.1 result.2
+            decoder.new };
+}
+
+impl CodeUnit for u16 {
+    ghost encode = { encode_utf16 };
+
+    ghost need = { 2 };
+
+    ghost query = { utf16_room };
+
+    fn decode(
+        decoder: &mut Utf8Decoder,
+        src: &[u8],
+        dst: &mut [u16],
+        last: bool,
+    ) -> (DecoderResult, usize, usize) {
+        law_mixed_calls();
+        decoder.decode_to_utf16_raw(src, dst, last)
+    }
+}
+
+impl CodeUnit for u8 {
+    ghost encode = { encode_utf8 };
+
+    ghost need = { 4 };
+
+    ghost query = { utf8_room_replacing };
+
+    fn decode(
+        decoder: &mut Utf8Decoder,
+        src: &[u8],
+        dst: &mut [u8],
+        last: bool,
+    ) -> (DecoderResult, usize, usize) {
+        law_mixed_calls();
+        decoder.decode_to_utf8_raw(src, dst, last)
+    }
+}
+
+/// Writes code units to the first places.
+fn put<U: Copy>(dst: &mut [U], units: &[U])
+    requires fits { length units.now ≤ length dst.old }
+    ensures { WritesFront dst.old dst.new (length units.now) units.now }
+{
+    dst[..units.len()].copy_from_slice(units);
+}
+
+/// Makes one call, and writes U+FFFD for the broken part that it reports: then nothing ended the call but this part.
+/// Returns how many bytes were read and how many code units written.
+fn decode_part<U: CodeUnit>(
+    decoder: &mut Utf8Decoder,
+    src: &[u8],
+    dst: &mut [U],
+    last: bool,
+    replacement: &[U],
+) -> (Option<CoderResult>, usize, usize)
+    requires replacement { replacement.now ≡ U.encode 0xFFFD }
+    requires need { length replacement.now ≤ U.need }
+    requires query { (n pending : ℕ) → length replacement.now ≤ U.query n pending }
+    ensures wrote { Writes U.encode U.query (Decoding decoder.old) src.now dst.old dst.new last result.1 result.2
+        (is_none result.0) (Decoding decoder.new) }
+    ensures ends { IfSome result.0 (λ r. Ends U.encode U.need U.query (Decoding decoder.old) src.now (length dst.old)
+        last r result.1 result.2 (Decoding decoder.new)) }
+{
+    // With nothing to read a call reports the pending part into any room.
+    if last && src.is_empty() && dst.len() < replacement.len() && !decoder.in_neutral_state() {
+        return (Some(CoderResult::OutputFull), 0, 0);
+    }
+    let (result, read, written) = U::decode(decoder, src, dst, last);
+    match result {
+        DecoderResult::InputEmpty => (Some(CoderResult::InputEmpty), read, written),
+        DecoderResult::OutputFull => (Some(CoderResult::OutputFull), read, written),
+        DecoderResult::Malformed(..) => {
+            put(&mut dst[written..], replacement);
+            (None, read, written + replacement.len())
+        }
+    }
+}
+
+/// Decodes, with U+FFFD for each broken part: what ended the call, how many bytes were read and how many code units
+/// written, and whether any part was broken.
+fn decode_parts<U: CodeUnit>(
+    decoder: &mut Utf8Decoder,
+    src: &[u8],
+    dst: &mut [U],
+    last: bool,
+    replacement: &[U],
+) -> (CoderResult, usize, usize, bool)
+    requires replacement { replacement.now ≡ U.encode 0xFFFD }
+    requires need { length replacement.now ≤ U.need }
+    requires query { (n pending : ℕ) → length replacement.now ≤ U.query n pending }
+    ensures { IsReplacingCall U.encode U.need U.query (Decoding decoder.old) src.now dst.old dst.new last result.0
+        result.1 result.2 result.3 (Decoding decoder.new) }
+{
+    let mut read = 0;
+    let mut written = 0;
+    let mut replaced = false;
+    loop {
+        let (result, more_read, more_written) = decode_part(
+            decoder,
+            &src[read..],
+            &mut dst[written..],
+            last,
+            replacement,
+        );
+        read += more_read;
+        written += more_written;
+        match result {
+            Some(result) => return (result, read, written, replaced),
+            None => replaced = true,
+        }
+    }
+}
+
+/// Calls in a row, over one stream, of which each is handed the first of the unread bytes: what they write in sequence is
+/// the text of the first parts of the stream less its mark, with U+FFFD for each broken one, however the stream is cut and
+/// whatever the rooms, and U+FFFD stands for a part where a call says so. What is left is held or unread: nothing, once a
+/// call marked last returns `InputEmpty`.
+pub fn law_calls()
+    ensures utf16 { (state : State) (stream : List ℕ) (calls : List (Made ℕ)) → AreMade encode_utf16 2 utf16_room state stream calls
+        → GivesText encode_utf16 (left state stream) (left (state_after state calls) (unread_after stream calls))
+        (flat_map (λ call. call.out) calls) (list_any (λ call. call.replaced) calls) }
+    ensures utf8 { (state : State) (stream : List ℕ) (calls : List (Made ℕ)) → AreMade encode_utf8 4 utf8_room_replacing state stream calls
+        → GivesText encode_utf8 (left state stream) (left (state_after state calls) (unread_after stream calls))
+        (flat_map (λ call. call.out) calls) (list_any (λ call. call.replaced) calls) }
+{}
+
+/// A decoder of a stream that may begin with a byte order mark.
+#[derive(Drop)]
+pub struct Decoder {
+    // how many bytes of the mark were read, where nothing else was
+    sniffed: Option<usize>,
+    decoder: Utf8Decoder,
+}
+
+impl Model for Decoder {
+    ghost use Rattle.std.specs.Prelude.{◌≡◌, ◌<◌, [], IfSome};
+    ghost use Rattle.decoder_example.specs.Marked.{State, state_of};
+
+    ghost Value = { State };
+
+    ghost view = { λ d. state_of d.sniffed d.decoder };
+
+    ghost invariant = { λ d. IfSome d.sniffed (λ n. (n < 3) × (d.decoder ≡ [])) };
+}
+
+impl Decoder {
+    /// A decoder of a new stream, which drops the mark that may begin it.
+    pub fn new() -> Decoder
+        ensures { result ≡ Sniffing [] }
+    {
+        Decoder {
+            sniffed: Some(0),
+            decoder: Utf8Decoder::new_inner(),
+        }
+    }
+
+    /// A decoder of a new stream, of which a mark is a part.
+    pub fn new_without_bom_handling() -> Decoder
+        ensures { result ≡ Decoding [] }
+    {
+        Decoder {
+            sniffed: None,
+            decoder: Utf8Decoder::new_inner(),
+        }
+    }
+
+    /// Reads what of the mark begins `src`, as long as all that was read may be the mark. Once that isn't so any more, what
+    /// was taken for the mark's beginning is pending.
+    fn sniff(&mut self, src: &[u8], last: bool) -> usize
+        ensures within { result ≤ length src.now }
+        ensures left { (more : List ℕ) → (last ≡ true → more ≡ [])
+            → left self.new (drop result src.now ++ more) ≡ left self.old (src.now ++ more) }
+        ensures held { length (held self.new) + (length src.now - result) ≤ length (held self.old) + length src.now }
+        ensures open { (bytes : List ℕ) → self.new ≡ Sniffing bytes → (result ≡ length src.now) × (last ≡ false) }
+    {
+        let Some(sniffed) = self.sniffed else {
+            return 0;
+        };
+        let missing = &MARK[sniffed..];
+        if src.starts_with(missing) {
+            self.sniffed = None;
+            return missing.len();
+        }
+        if !last && missing.starts_with(src) {
+            self.sniffed = Some(sniffed + src.len());
+            return src.len();
+        }
+        law_mixed_calls();
+        self.decoder.decode_borrowed_raw(&MARK[..sniffed], false);
+        self.sniffed = None;
+        0
+    }
+
+    fn decode<U: CodeUnit>(
+        &mut self,
+        src: &[u8],
+        dst: &mut [U],
+        last: bool,
+        replacement: &[U],
+    ) -> (CoderResult, usize, usize, bool)
+        requires replacement { replacement.now ≡ U.encode 0xFFFD }
+        requires need { length replacement.now ≤ U.need }
+        requires query { (n pending : ℕ) → length replacement.now ≤ U.query n pending }
+        requires grows { (n p m q : ℕ) → n + p ≤ m + q → U.query n p ≤ U.query m q }
+        ensures { IsReplacingCall U.encode U.need U.query self.old src.now dst.old dst.new last result.0 result.1
+            result.2 result.3 self.new }
+    {
+        let sniffed = self.sniff(src, last);
+        if self.sniffed.is_some() {
+            return (CoderResult::InputEmpty, sniffed, 0, false);
+        }
+        let (result, read, written, replaced) = decode_parts(
+            &mut self.decoder,
+            &src[sniffed..],
+            dst,
+            last,
+            replacement,
+        );
+        (result, sniffed + read, written, replaced)
+    }
+
+    /// Decodes to UTF-16, with U+FFFD for each broken part: what ended the call, how many bytes of `src` it read, how many
+    /// code units it wrote, and whether a part was broken. `last` says that no bytes will follow `src`.
+    ///
+    /// Hand in the unread bytes again: over all calls the code units are the UTF-16 of the repaired text of the stream less
+    /// its mark, however it is cut and whatever the rooms, once a call marked last returns `InputEmpty`. With two code
+    /// units of room left a call reads on. Behind what is written `dst` is as before.
+    pub fn decode_to_utf16(
+        &mut self,
+        src: &[u8],
+        dst: &mut [u16],
+        last: bool,
+    ) -> (CoderResult, usize, usize, bool)
+        ensures { IsReplacingCall encode_utf16 2 utf16_room self.old src.now dst.old dst.new last result.0 result.1
+            result.2 result.3 self.new }
+    {
+        self.decode(src, dst, last, &[0xFFFD])
+    }
+
+    /// Decodes to UTF-8, with U+FFFD for each broken part: what ended the call, how many bytes of `src` it read and how
+    /// many it wrote, and whether a part was broken. `last` says that no bytes will follow `src`.
+    ///
+    /// Hand in the unread bytes again: over all calls the bytes are the repaired text of the stream less its mark, however
+    /// it is cut and whatever the rooms, once a call marked last returns `InputEmpty`. With four bytes of room left a call
+    /// reads on. Behind what is written `dst` is as before.
+    pub fn decode_to_utf8(
+        &mut self,
+        src: &[u8],
+        dst: &mut [u8],
+        last: bool,
+    ) -> (CoderResult, usize, usize, bool)
+        ensures { IsReplacingCall encode_utf8 4 utf8_room_replacing self.old src.now dst.old dst.new last result.0
+            result.1 result.2 result.3 self.new }
+    {
+        self.decode(src, dst, last, &[0xEF, 0xBF, 0xBD])
+    }
+
+    /// How many UTF-16 code units a destination has to hold so that the next `byte_length` bytes, in any pieces, never
+    /// meet its end: `None` where that number passes `usize::MAX`.
+    pub fn max_utf16_buffer_length(&self, byte_length: usize) -> Option<usize>
+        ensures { SomeIff result (utf16_room byte_length (length (held self.now)) ≤ usize.MAX)
+            (utf16_room byte_length (length (held self.now))) }
+    {
+        let sniffed = self.sniffed.unwrap_or(0);
+        self.decoder
+            .max_utf16_buffer_length(byte_length.checked_add(sniffed)?)
+    }
+
+    /// How many bytes a destination has to hold so that the next `byte_length` bytes, in any pieces, never meet its end
+    /// as UTF-8: `None` where that number passes `usize::MAX`.
+    pub fn max_utf8_buffer_length(&self, byte_length: usize) -> Option<usize>
+        ensures { SomeIff result (utf8_room_replacing byte_length (length (held self.now)) ≤ usize.MAX)
+            (utf8_room_replacing byte_length (length (held self.now))) }
+    {
+        let sniffed = self.sniffed.unwrap_or(0);
+        self.decoder
+            .max_utf8_buffer_length(byte_length.checked_add(sniffed)?)
+    }
+}
+
+#[cfg(test)]
+mod tests {
+    use super::*;
+    use std::test::Fail;
+
+    /// Bytes of a stream, its text by the Encoding Standard's UTF-8 decode, the UTF-16 of that, and whether U+FFFD stands
+    /// for some of the bytes.
+    const ROWS: [(&[u8], &str, &[u16], bool); 8] = [
+        (b"", "", &[], false),
+        (b"\xEF\xBB\xBF", "", &[], false),
+        (
+            b"\xEF\xBB\xBFa\xE2\x98\x83",
+            "a\u{2603}",
+            &[0x61, 0x2603],
+            false,
+        ),
+        (
+            b"\xEF\xBB\xBF\xEF\xBB\xBFa",
+            "\u{FEFF}a",
+            &[0xFEFF, 0x61],
+            false,
+        ),
+        (
+            b"ab\xEF\xBB\xBF",
+            "ab\u{FEFF}",
+            &[0x61, 0x62, 0xFEFF],
+            false,
+        ),
+        (b"\xEF\xBB", "\u{FFFD}", &[0xFFFD], true),
+        (
+            b"\xEF\xBBa\xF0\x9F\x92\xA9",
+            "\u{FFFD}a\u{1F4A9}",
+            &[0xFFFD, 0x61, 0xD83D, 0xDCA9],
+            true,
+        ),
+        (
+            b"\xEF\xBB\xBF\xE2\x98\xF0\x9F\x92\xA9\xFF\xE0\x80",
+            "\u{FFFD}\u{1F4A9}\u{FFFD}\u{FFFD}\u{FFFD}",
+            &[0xFFFD, 0xD83D, 0xDCA9, 0xFFFD, 0xFFFD, 0xFFFD],
+            true,
+        ),
+    ];
+
+    #[test]
+    fn decodes_to_utf16_at_each_cut(rt: HostRuntime) -> Result<(), Fail> {
+        for (bytes, text, units, replaced) in &ROWS {
+            for cut in 0..bytes.len() + 1 {
+                let (front, back) = bytes.split_at(cut);
+                let mut decoder = Decoder::new();
+                let mut room = [0; 32];
+                let (_, read, written, before) = decoder.decode_to_utf16(front, &mut room, false);
+                let (result, more, count, behind) = decoder.decode_to_utf16(
+                    back,
+                    &mut room[written..],
+                    true,
+                );
+                assert!(rt;
+                    result == CoderResult::InputEmpty && read == cut && more == back.len(),
+                    "{text} cut at {cut}"
+                );
+                assert!(rt;
+                    &room[..written + count] == *units && (before || behind) == *replaced,
+                    "{text} cut at {cut}"
+                );
+            }
+        }
+        Ok(())
+    }
+
+    #[test]
+    fn decodes_to_utf8_into_rooms_of_four(rt: HostRuntime) -> Result<(), Fail> {
+        for (bytes, text, _, _) in &ROWS {
+            let mut decoder = Decoder::new();
+            let mut decoded = Vec::new(rt.alloc());
+            let mut rest = *bytes;
+            for _ in 0..32 {
+                let mut room = [0; 4];
+                let (_, read, written, _) = decoder.decode_to_utf8(rest, &mut room, true);
+                decoded.extend_from_slice(&room[..written])?;
+                rest = &rest[read..];
+            }
+            assert!(rt; decoded.as_slice() == text.as_bytes(), "{text}");
+        }
+        Ok(())
+    }
+}

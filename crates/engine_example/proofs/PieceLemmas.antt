@@ -1,0 +1,122 @@
+-- Pieces of bytes, one after another, and what is written of them.
+use Rattle.std.proofs.Common.{◌≡◌, ◌≢◌, ℕ, ◌+◌, ◌-◌, ◌<◌, ◌≤◌, inl, inr, Bool, true, false, List, [], ◌∷◌, ◌++◌, length, take, drop, get_or, map, refl, sym, ap, subst, ◌∙◌, arith, append-nil, append_assoc, encode_utf8_all}
+use Rattle.std.specs.List.{flat_map}
+use Rattle.std.specs.Str.{chars}
+use Rattle.std.specs.Char.Escape.{encode_utf16}
+use Rattle.std.proofs.lemmas.Grind.{flat_map-append}
+use Rattle.std.proofs.lemmas.List.{take_all, take_more, drop_all, drop-drop, flat_map_more, length-drop}
+use Rattle.encoding_definitions.specs.Parts.{Part, Character, Broken, StartsWith, ArePartsOf, repaired_scalar, repaired_utf16}
+use Rattle.encoding_definitions.specs.Giving.{Gives}
+use Rattle.encoding_definitions.specs.Pending.{IsPending}
+use Rattle.encoding_definitions.proofs.Decomposition.DecompositionLemmas.{StartsWith-append}
+use Rattle.encoding_text.specs.Decoding.{IsBorrowedCall, IsBroken}
+use Rattle.encoding_text.specs.GivenParts.{AreBorrowed}
+use Rattle.encoding_text.specs.declared.decoder.Piece.{Piece}
+use Rattle.encoding_text.specs.declared.decoder.Piece.TheVariants as piece
+use Rattle.encoding_runs.specs.Calls.{Call, IsChain, some_last}
+use Rattle.encoding_runs.specs.DecoderCalls.{GiveTheParts}
+use Rattle.encoding_runs.specs.MixedCalls.{Form, Answer, Borrowed, Handed, IsMixedCall, AreGiven, IsInputEmpty}
+use Rattle.engine_example.specs.Blocks.{WritesPiece, IsRepairedUtf16}
+
+utf16-append : (ps qs : List Part) → repaired_utf16 (ps ++ qs) ≡ repaired_utf16 ps ++ repaired_utf16 qs
+utf16-append ps qs = flat_map-append (λ part. encode_utf16 (repaired_scalar part)) ps qs
+
+utf16-characters : (cs : List ℕ) → repaired_utf16 (map Character cs) ≡ flat_map encode_utf16 cs
+utf16-characters [] = refl
+utf16-characters (c ∷ cs) = ap (λ xs. encode_utf16 c ++ xs) (utf16-characters cs)
+
+-- the code units for what a call hands out
+abbrev pub units_for : Piece → List ℕ
+units_for (piece.Text t) = flat_map encode_utf16 (chars t.now)
+units_for (piece.Char c) = encode_utf16 c
+units_for (piece.Malformed k) = 0xFFFD ∷ []
+units_for piece.InputEmpty = []
+
+units_are : (returned : Piece) (parts : List Part) → AreBorrowed returned parts → units_for returned ≡ repaired_utf16 parts
+units_are (piece.Text t) parts h = rw h (sym (utf16-characters (chars t.now)))
+units_are (piece.Char c) parts h = rw h (sym (append-nil (encode_utf16 c)))
+units_are (piece.Malformed k) parts (x, h, l) = rw h refl
+units_are piece.InputEmpty parts h = rw h refl
+
+-- ---- the calls over one piece
+-- the parts that the calls up to here give, and their text
+pub record AreGivenUpTo (p b : List ℕ) (last : Bool) (out : List ℕ) (read : ℕ) (q : List ℕ) : Type 0 where
+  pub parts : List Part
+  pub written : out ≡ repaired_utf16 parts
+  pub gives : Gives p b last parts read q
+
+pub none_given : (p b : List ℕ) (last : Bool) → IsPending p → AreGivenUpTo p b last [] 0 p
+none_given p b last h = record { parts = []; written = refl; gives = record { within = omega arith; first = refl; pending = h; whatever_follows = λ e more. refl } }
+
+gives_on : (p b : List ℕ) (last : Bool) (ps qs : List Part) (n m : ℕ) (q r : List ℕ) → Gives p b last ps n q → Gives q (drop n b) last qs m r → Gives p b last (ps ++ qs) (n + m) r
+gives_on p b last ps qs n m q r g h =
+    let rest : drop m (drop n b) ≡ drop (n + m) b = drop-drop m n b in
+    record {
+      within = omega (arith, g.within, h.within, length-drop n b);
+      first = subst (λ xs. StartsWith (p ++ b) (ps ++ qs) (r ++ xs)) rest (StartsWith-append _ ps _ qs _ g.first h.first);
+      pending = h.pending;
+      whatever_follows = λ e more. subst (λ xs. StartsWith (p ++ b ++ more) (ps ++ qs) (r ++ xs ++ more)) rest
+          (StartsWith-append _ ps _ qs _ (g.whatever_follows e more) (h.whatever_follows e more));
+    }
+
+-- one more call, as a chain of its own
+pub given_on : ((p b : List ℕ) (calls : List (Call Form Answer ℕ)) → IsPending p → IsChain IsMixedCall p b calls → GiveTheParts AreGiven IsInputEmpty p b calls)
+    → (p b : List ℕ) (last : Bool) (out : List ℕ) (read : ℕ) (q : List ℕ) (returned : Piece) (more : ℕ) (r new : List ℕ) → AreGivenUpTo p b last out read q
+    → IsBorrowedCall q (drop read b) last returned more r → new ≡ out ++ units_for returned → AreGivenUpTo p b last new (read + more) r
+given_on law p b last out read q returned more r new g call e =
+    let rest = drop read b in
+    let all : take (length rest) rest ≡ rest = take_all (length rest) rest (omega arith) in
+    let one : Call Form Answer ℕ = record { form = Borrowed; piece = length rest; last = last; result = Handed returned; read = more; out = []; pending = r } in
+    let chain : IsChain IsMixedCall q rest (one ∷ []) = ((rw all call, refl), (λ e. omega arith), tt) in
+    let given = law q rest (one ∷ []) call.pending_before chain in
+    let (first, others, are, none, both) = given.in_sequence in
+    let parts : given.parts ≡ first = both ∙ ap (λ xs. first ++ xs) none ∙ append-nil first in
+    let text : units_for returned ≡ repaired_utf16 given.parts = units_are returned first are ∙ ap repaired_utf16 (sym parts) in
+    let n : more + 0 ≡ more = omega arith in
+    let front = subst (λ k. Gives q rest (some_last (one ∷ [])) given.parts k r) n given.front in
+    record {
+      parts = g.parts ++ given.parts;
+      written = e ∙ ap (λ xs. xs ++ units_for returned) g.written ∙ ap (λ xs. repaired_utf16 g.parts ++ xs) text ∙ sym (utf16-append g.parts given.parts);
+      gives = gives_on p b last g.parts given.parts read more q r g.gives
+          (record { within = front.within; first = front.first; pending = front.pending; whatever_follows = λ f. front.whatever_follows (rw f refl) });
+    }
+
+-- where all is read, what is written is that of the whole piece
+pub piece_written : (p b : List ℕ) (last : Bool) (out : List ℕ) (read : ℕ) (q : List ℕ) → AreGivenUpTo p b last out read q → read ≡ length b → (last ≡ true → q ≡ []) → WritesPiece p b last out q
+piece_written p b last out read q g e none =
+    let rest : q ++ drop read b ≡ q = ap (λ xs. q ++ xs) (drop_all read b (omega (arith, e))) ∙ append-nil q in
+    record {
+      parts = g.parts;
+      written = g.written;
+      all = λ l. subst (StartsWith (p ++ b) g.parts) (rest ∙ none l) g.gives.first;
+      whatever_follows = λ f more. subst (λ xs. StartsWith (p ++ b ++ more) g.parts (xs ++ more)) rest (g.gives.whatever_follows f more);
+    }
+
+-- ---- all pieces
+-- one more of those taken
+pub flat_map-take : {X : Type 0} (f : X → List ℕ) (xs : List X) (i : ℕ) (d : X) → i < length xs → flat_map f (take i xs) ++ f (get_or xs i d) ≡ flat_map f (take (i + 1) xs)
+flat_map-take f xs i d h = flat_map_more f [] (take i xs) (get_or xs i d) ∙ sym (ap (flat_map f) (take_more xs i d h))
+
+pub record AreTaken (bytes out q : List ℕ) : Type 0 where
+  pub parts : List Part
+  pub written : out ≡ repaired_utf16 parts
+  pub whatever_follows : (more : List ℕ) → StartsWith (bytes ++ more) parts (q ++ more)
+
+pub none_taken : AreTaken [] [] []
+none_taken = record { parts = []; written = refl; whatever_follows = λ more. refl }
+
+pub taken_on : (bytes out q piece block r : List ℕ) → AreTaken bytes out q → WritesPiece q piece false block r → AreTaken (bytes ++ piece) (out ++ block) r
+taken_on bytes out q piece block r t w = record {
+  parts = t.parts ++ w.parts;
+  written = ap (λ xs. xs ++ block) t.written ∙ ap (λ xs. repaired_utf16 t.parts ++ xs) w.written ∙ sym (utf16-append t.parts w.parts);
+  whatever_follows = λ more. subst (λ xs. StartsWith xs (t.parts ++ w.parts) (r ++ more)) (sym (append_assoc bytes piece more))
+      (StartsWith-append _ t.parts _ w.parts _ (subst (StartsWith (bytes ++ (piece ++ more)) t.parts) (sym (append_assoc q piece more)) (t.whatever_follows (piece ++ more)))
+      (w.whatever_follows refl more));
+}
+
+pub taken_all : (bytes out q block r : List ℕ) → AreTaken bytes out q → WritesPiece q [] true block r → IsRepairedUtf16 bytes (out ++ block)
+taken_all bytes out q block r t w = (
+  t.parts ++ w.parts,
+  subst (λ xs. ArePartsOf xs (t.parts ++ w.parts)) (append-nil bytes) (StartsWith-append _ t.parts _ w.parts [] (t.whatever_follows []) (w.all refl)),
+  ap (λ xs. xs ++ block) t.written ∙ ap (λ xs. repaired_utf16 t.parts ++ xs) w.written ∙ sym (utf16-append t.parts w.parts),
+)

@@ -1,0 +1,11 @@
+use Rattle.std.proofs.Common.{◌≡◌, ℕ, ◌*◌, ◌+◌, ◌≤◌, ◌++◌, take, length, arith, subst, sym, ap, ◌∙◌}
+use Rattle.std.proofs.lemmas.Grind.{common_steps}
+use Rattle.encoding_text.specs.declared.utf_8.encoder.EncoderResult.TheVariants.{InputEmpty}
+use Rattle.engine_example.proofs.BlockLemmas.{block_written}
+use Rattle.engine_example.proofs.append_block.Goals as goal
+
+pub returns-clause-written : goal.returns-clause-written
+returns-clause-written c =
+    let empty = c.encode_from_utf16_raw-written.ensures.suffices (grind (arith, common_steps)) in
+    let call = rw empty at c.encode_from_utf16_raw-written.ensures.call in
+    (_, grind (arith, common_steps), block_written c.law_encoder_cuts.ensures _ _ _ _ _ _ _ (λ k. omega (arith, c.type_inv.block k)) call)

@@ -1,0 +1,12 @@
+use Rattle.std.proofs.Common.{subst, ◌∙◌, sym}
+use Rattle.encoding_definitions.specs.Utf16.{ArePartsOf16}
+use Rattle.engine_example.proofs.RoundTripLemmas.{text_repaired, text_units}
+use Rattle.engine_example.proofs.law_there_and_back.Goals as goal
+
+pub returns-clause-repaired : goal.returns-clause-repaired
+returns-clause-repaired c = λ bs units out (parts, are, e) written. (parts, are, text_repaired c.law_utf16_round_trip.ensures.scalars bs units out parts are e written)
+
+pub returns-clause-stays : goal.returns-clause-stays
+returns-clause-stays c = λ bs units out u (parts, are, e) written.
+    let is = text_units c.law_parts.ensures.one bs units parts u are e in
+    written.written ∙ c.law_utf16_round_trip.ensures.text bs written.parts u (subst (λ xs. ArePartsOf16 xs written.parts) is written.are_parts)

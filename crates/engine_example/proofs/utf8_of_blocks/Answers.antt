@@ -1,0 +1,30 @@
+use Rattle.std.proofs.Common.{◌≡◌, ◌+◌, ◌++◌, [], ◌∷◌, List, ℕ, Vec, Global, take, arith, ap, sym, subst, ◌∙◌}
+use Rattle.std.proofs.lemmas.Grind.{common_steps}
+use Rattle.std.specs.List.{flat_map}
+use Rattle.encoding_definitions.specs.Utf16.{IsUtf8OfUnits}
+use Rattle.engine_example.proofs.BlockLemmas.{AreWritten, written_on, written_all, none_written}
+use Rattle.engine_example.proofs.PieceLemmas.{flat_map-take}
+use Rattle.engine_example.proofs.utf8_of_blocks.Goals as goal
+
+abbrev units_of : Vec ℕ Global → List ℕ
+units_of block = block.items
+
+pub loop-block-init : goal.loop-block-init
+loop-block-init c = rw (c.new-bytes.ensures.items, c.new_inner-encoder.ensures) (none_written c.law_utf16_round_trip.ensures.exist)
+
+pub loop-block-preserved : goal.loop-block-preserved
+loop-block-preserved c =
+    let (out, new, w) = c.in_ok-append_block.ensures.written in
+    let units = flat_map-take units_of c.args.blocks.now c.loop-block.block-index _ (omega arith) in
+    let is = ap units_of c.block-item.is in
+    let all : flat_map units_of (take c.loop-block.block-index c.args.blocks.now) ++ c.deref.result.now ≡ flat_map units_of (take (c.loop-block.block-index + 1) c.args.blocks.now) =
+    ap (λ xs. flat_map units_of (take c.loop-block.block-index c.args.blocks.now) ++ xs) (c.deref.ensures.value ∙ is) ∙ units in
+    subst (λ xs. AreWritten xs c.append_block.new.bytes.items c.append_block.new.encoder) all
+    (written_on c.law_utf16_round_trip.ensures.one _ _ _ _ out _ _ c.loop-block.invariant w c.in_ok-append_block.ensures.units new)
+
+pub returns : goal.returns
+returns c =
+    let (out, new, w) = c.in_ok-append_block-2.ensures.written in
+    let all : take c.loop-block.block-index c.args.blocks.now ≡ c.args.blocks.now = grind (arith, common_steps) in
+    let written = rw all at c.loop-block.invariant in
+    written_all c.law_utf16_round_trip.ensures.one _ _ _ out _ _ written w new

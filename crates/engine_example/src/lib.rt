@@ -1,0 +1,191 @@
+//! A text that an engine holds in UTF-16, in blocks that may cut it anywhere, also between the surrogates of a pair: its
+//! UTF-8 is that of all the code units in a row. And back: UTF-8 that comes in pieces, cut anywhere, as such blocks.
+#![tactic(auto)]
+
+ghost use Rattle.std.specs.Prelude.{◌≡◌, ℕ, List, ◌++◌, IfOk, OnOk, IsUtf8};
+ghost use Rattle.std.specs.Char.Escape.{encode_utf16};
+ghost use Rattle.std.specs.Str.{chars};
+ghost use Rattle.std.specs.List.{flat_map};
+ghost use Rattle.encoding_definitions.specs.Utf16.{AreUnits, IsUtf8OfUnits};
+ghost use Rattle.encoding_runs.specs.Repairs.{IsRepaired};
+ghost use Rattle.engine_example.specs.Blocks.{WritesBlock, WritesPiece, IsRepairedUtf16};
+
+use encoding_runs::laws::{law_encoder_cuts, law_mixed_calls, law_parts, law_utf16_round_trip};
+use encoding_text::decoder::{Piece, Utf8Decoder};
+use encoding_text::mem::convert_str_to_utf16;
+use encoding_text::utf_8::Utf8Encoder;
+use std::alloc::{AllocError, Global};
+
+/// Appends the UTF-8 of a block behind what the encoder holds; `last` says that no block follows. An `Err` says that
+/// memory was refused.
+fn append_block(
+    encoder: &mut Utf8Encoder,
+    block: &[u16],
+    last: bool,
+    bytes: &mut Vec<u8>,
+) -> Result<(), AllocError>
+    ensures units { AreUnits block.now }
+    ensures written { OnOk result ((out : List ℕ) × (bytes.new.items ≡ bytes.old.items ++ out)
+        × WritesBlock encoder.old block.now last out encoder.new) }
+{
+    law_encoder_cuts();
+    let at = bytes.len();
+    let Some(room) = encoder.max_buffer_length_from_utf16_without_replacement(block.len()) else {
+        return Err(AllocError);
+    };
+    let Some(end) = at.checked_add(room) else {
+        return Err(AllocError);
+    };
+    bytes.resize(end, 0)?;
+    let (_, _, written) = encoder.encode_from_utf16_raw(block, &mut bytes[at..], last);
+    bytes.truncate(at + written);
+    Ok(())
+}
+
+/// The UTF-8 of all blocks in a row, with U+FFFD for each surrogate that is in no pair. An `Err` says that memory was
+/// refused.
+pub fn utf8_of_blocks(alloc: Global, blocks: &[Vec<u16>]) -> Result<Vec<u8>, AllocError>
+    ensures { IfOk result (λ bytes. IsUtf8OfUnits (flat_map (λ block. block.items) blocks.now) bytes.items) }
+{
+    law_utf16_round_trip();
+    let mut encoder = Utf8Encoder::new_inner();
+    let mut bytes = Vec::new(alloc);
+    for block in blocks {
+        append_block(&mut encoder, block, false, &mut bytes)?;
+    }
+    append_block(&mut encoder, &[], true, &mut bytes)?;
+    Ok(bytes)
+}
+
+/// Appends a text in UTF-16. An `Err` says that memory was refused.
+fn append_text(block: &mut Vec<u16>, text: &str) -> Result<(), AllocError>
+    ensures { OnOk result (block.new.items ≡ block.old.items ++ flat_map encode_utf16 (chars text.now)) }
+{
+    let at = block.len();
+    block.resize(at.checked_add(text.len()).ok_or(AllocError)?, 0)?;
+    let written = convert_str_to_utf16(text, &mut block[at..]);
+    block.truncate(at + written);
+    Ok(())
+}
+
+/// The next piece of UTF-8 as a block, with U+FFFD for each broken part; `last` says that no piece follows. An `Err`
+/// says that memory was refused.
+fn block_of_piece(
+    alloc: Global,
+    decoder: &mut Utf8Decoder,
+    piece: &[u8],
+    last: bool,
+) -> Result<Vec<u16>, AllocError>
+    ensures { IfOk result (λ block. WritesPiece decoder.old piece.now last block.items decoder.new) }
+{
+    law_mixed_calls();
+    // Before the first call nothing else says that what is pending is nothing or a beginning.
+    let _neutral = decoder.in_neutral_state();
+    let mut block = Vec::new(alloc);
+    let mut read = 0;
+    loop {
+        let (next, bytes) = decoder.decode_borrowed_raw(&piece[read..], last);
+        read += bytes;
+        match next {
+            Piece::Text(text) => append_text(&mut block, text)?,
+            Piece::Char(c) => block.extend_from_slice(c.encode_utf16(&mut [0; 2]))?,
+            Piece::Malformed(_) => block.push(0xFFFD)?,
+            Piece::InputEmpty => return Ok(block),
+        }
+    }
+}
+
+/// UTF-8 in pieces as blocks of UTF-16, one for each piece and one behind them. An `Err` says that memory was refused.
+pub fn blocks_of_utf8(alloc: Global, pieces: &[&[u8]]) -> Result<Vec<Vec<u16>>, AllocError>
+    ensures { IfOk result (λ blocks. IsRepairedUtf16 (flat_map (λ piece. piece.now) pieces.now)
+        (flat_map (λ block. block.items) blocks.items)) }
+{
+    let mut decoder = Utf8Decoder::new_inner();
+    let mut blocks = Vec::new(alloc);
+    for piece in pieces {
+        blocks.push(block_of_piece(alloc, &mut decoder, piece, false)?)?;
+    }
+    blocks.push(block_of_piece(alloc, &mut decoder, &[], true)?)?;
+    Ok(blocks)
+}
+
+/// What goes to UTF-16 and from there to UTF-8 is the repaired text of the bytes, and is these themselves where they are
+/// well-formed.
+pub fn law_there_and_back()
+    ensures repaired { (bs units out : List ℕ) → IsRepairedUtf16 bs units → IsUtf8OfUnits units out → IsRepaired bs out }
+    ensures stays { (bs units out : List ℕ) → IsUtf8 bs → IsRepairedUtf16 bs units → IsUtf8OfUnits units out → out ≡ bs }
+{
+    law_parts();
+    law_utf16_round_trip();
+}
+
+#[cfg(test)]
+mod tests {
+    use super::*;
+    use std::test::Fail;
+
+    /// UTF-8, and its code units by the Encoding Standard's UTF-8 decoder.
+    const ROWS: [(&[u8], &[u16], &str); 4] = [
+        (b"", &[], ""),
+        (
+            b"a\xC3\xA9\xE2\x98\x83\xF0\x9F\x92\xA9b",
+            &[0x61, 0xE9, 0x2603, 0xD83D, 0xDCA9, 0x62],
+            "a\u{E9}\u{2603}\u{1F4A9}b",
+        ),
+        (
+            b"\xE2\x98\xF0\x9F\x92x\xC3",
+            &[0xFFFD, 0xFFFD, 0x78, 0xFFFD],
+            "\u{FFFD}\u{FFFD}x\u{FFFD}",
+        ),
+        (
+            b"\xED\xA0\xBD\xF4\x8F\xBF\xBF",
+            &[0xFFFD, 0xFFFD, 0xFFFD, 0xDBFF, 0xDFFF],
+            "\u{FFFD}\u{FFFD}\u{FFFD}\u{10FFFF}",
+        ),
+    ];
+
+    #[test]
+    fn goes_there_and_back_in_pieces_of_each_length(rt: HostRuntime) -> Result<(), Fail> {
+        for (bytes, units, text) in &ROWS {
+            for length in 1..12 {
+                let mut pieces = Vec::new(rt.alloc());
+                for piece in bytes.chunks(length) {
+                    pieces.push(piece)?;
+                }
+                let mut all = Vec::new(rt.alloc());
+                for block in &blocks_of_utf8(rt.alloc(), &pieces)? {
+                    all.extend_from_slice(block)?;
+                }
+                assert!(rt; all.as_slice() == *units, "{text} in pieces of {length}");
+                let mut blocks = Vec::new(rt.alloc());
+                for block in all.chunks(length) {
+                    let mut own = Vec::new(rt.alloc());
+                    own.extend_from_slice(block)?;
+                    blocks.push(own)?;
+                }
+                let back = utf8_of_blocks(rt.alloc(), &blocks)?;
+                assert!(rt;
+                    back.as_slice() == text.as_bytes(),
+                    "{text} in blocks of {length}"
+                );
+            }
+        }
+        Ok(())
+    }
+
+    #[test]
+    fn replaces_surrogates_in_no_pair(rt: HostRuntime) -> Result<(), Fail> {
+        let mut blocks = Vec::new(rt.alloc());
+        for units in [[0x61, 0xD83D], [0xD83D, 0xDCA9], [0xDCA9, 0xD83D]] {
+            let mut block = Vec::new(rt.alloc());
+            block.extend_from_slice(&units)?;
+            blocks.push(block)?;
+        }
+        let bytes = utf8_of_blocks(rt.alloc(), &blocks)?;
+        assert!(rt;
+            bytes.as_slice() == "a\u{FFFD}\u{1F4A9}\u{FFFD}\u{FFFD}".as_bytes(),
+            "cut and lone surrogates"
+        );
+        Ok(())
+    }
+}

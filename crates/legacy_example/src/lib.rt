@@ -1,0 +1,139 @@
+//! windows-1252 to UTF-16 and to UTF-8: ASCII, and the bytes whose characters Latin1 has at the same place, by the calls
+//! for these, and the 32 other bytes by their table. Encoding Standard, section 9.1, single-byte decoder.
+#![tactic(auto)]
+
+ghost use Rattle.std.specs.Prelude.{◌≡◌, ◌*◌, ◌<◌, ◌≤◌, length, take, map, slice_index, encode_utf8_all};
+ghost use Rattle.std.specs.Char.Escape.{encode_utf16};
+ghost use Rattle.std.specs.List.{flat_map};
+ghost use Rattle.encoding_definitions.specs.Fronts.{WritesFront};
+ghost use Rattle.legacy_example.specs.Windows1252.{scalar_of};
+
+use encoding_runs::laws::law_utf16_round_trip;
+use encoding_text::mem::{
+    convert_latin1_to_utf8, convert_latin1_to_utf16, convert_utf16_to_utf8, copy_ascii_to_ascii,
+    copy_ascii_to_basic_latin,
+};
+
+/// The code units of the bytes from 0x80 to 0x9F; all other bytes are those of Latin1.
+const OTHERS: [u16; 32] = [
+    0x20AC, 0x0081, 0x201A, 0x0192, 0x201E, 0x2026, 0x2020, 0x2021, 0x02C6, 0x2030, 0x0160, 0x2039,
+    0x0152, 0x008D, 0x017D, 0x008F, 0x0090, 0x2018, 0x2019, 0x201C, 0x201D, 0x2022, 0x2013, 0x2014,
+    0x02DC, 0x2122, 0x0161, 0x203A, 0x0153, 0x009D, 0x017E, 0x0178,
+];
+
+/// The code unit of a byte.
+fn code_unit(byte: u8) -> u16
+    ensures { result ≡ scalar_of byte }
+{
+    if byte >= 0x80 && byte < 0xA0 {
+        OTHERS[usize::from(byte - 0x80)]
+    } else {
+        u16::from(byte)
+    }
+}
+
+/// How many bytes come before the first of those that Latin1 has other characters for.
+fn latin1_length(bytes: &[u8]) -> usize
+    ensures within { result ≤ length bytes.now }
+    ensures same { map scalar_of (take result bytes.now) ≡ take result bytes.now }
+{
+    let mut length = 0;
+    while length < bytes.len() && code_unit(bytes[length]) == u16::from(bytes[length]) {
+        length += 1;
+    }
+    length
+}
+
+/// Writes the characters of windows-1252 as UTF-16, one code unit each. `dst` is no shorter than `src`. Behind what is
+/// written `dst` is as before.
+pub fn windows_1252_to_utf16(src: &[u8], dst: &mut [u16])
+    requires room { length src.now ≤ length dst.old }
+    ensures written { WritesFront dst.old dst.new (length src.now) (flat_map encode_utf16 (map scalar_of src.now)) }
+{
+    let mut at = copy_ascii_to_basic_latin(src, dst);
+    loop {
+        let run = latin1_length(&src[at..]);
+        convert_latin1_to_utf16(&src[at..at + run], &mut dst[at..]);
+        at += run;
+        if at == src.len() {
+            return;
+        }
+        dst[at] = code_unit(src[at]);
+        at += 1;
+    }
+}
+
+/// Writes the characters of windows-1252 as UTF-8, and returns how many bytes it wrote. `dst` has at least three bytes
+/// for each byte of `src`. Behind what is written `dst` is as before.
+pub fn windows_1252_to_utf8(src: &[u8], dst: &mut [u8]) -> usize
+    requires room { 3 * length src.now ≤ length dst.old }
+    ensures written { WritesFront dst.old dst.new result (encode_utf8_all (map scalar_of src.now)) }
+{
+    law_utf16_round_trip();
+    let mut read = copy_ascii_to_ascii(src, dst);
+    let mut written = read;
+    loop {
+        let run = latin1_length(&src[read..]);
+        written += convert_latin1_to_utf8(&src[read..read + run], &mut dst[written..]);
+        read += run;
+        if read == src.len() {
+            return written;
+        }
+        written += convert_utf16_to_utf8(&[code_unit(src[read])], &mut dst[written..]);
+        read += 1;
+    }
+}
+
+#[cfg(test)]
+mod tests {
+    use super::*;
+    use std::test::Fail;
+
+    /// Bytes, and their text by the Encoding Standard's index windows-1252.
+    const ROWS: [(&[u8], &str); 5] = [
+        (b"", ""),
+        (
+            b"plain text, longer than one vector of sixteen bytes",
+            "plain text, longer than one vector of sixteen bytes",
+        ),
+        (
+            b"\x80 5, \x93caf\xE9\x94 \x96 \xA9 \x99",
+            "\u{20AC} 5, \u{201C}caf\u{E9}\u{201D} \u{2013} \u{A9} \u{2122}",
+        ),
+        (
+            b"\x80\x81\x82\x83\x84\x85\x86\x87\x88\x89\x8A\x8B\x8C\x8D\x8E\x8F",
+            "\u{20AC}\u{81}\u{201A}\u{192}\u{201E}\u{2026}\u{2020}\u{2021}\u{2C6}\u{2030}\u{160}\u{2039}\u{152}\u{8D}\u{17D}\u{8F}",
+        ),
+        (
+            b"\x90\x91\x92\x93\x94\x95\x96\x97\x98\x99\x9A\x9B\x9C\x9D\x9E\x9F\xA0\xFF",
+            "\u{90}\u{2018}\u{2019}\u{201C}\u{201D}\u{2022}\u{2013}\u{2014}\u{2DC}\u{2122}\u{161}\u{203A}\u{153}\u{9D}\u{17E}\u{178}\u{A0}\u{FF}",
+        ),
+    ];
+
+    #[test]
+    fn decodes_rows_in_front_of_each_other(rt: HostRuntime) -> Result<(), Fail> {
+        for (first, first_text) in &ROWS {
+            for (second, second_text) in &ROWS {
+                let mut bytes = Vec::new(rt.alloc());
+                bytes.extend_from_slice(first)?;
+                bytes.extend_from_slice(second)?;
+                let text = format!(in rt.alloc(); "{first_text}{second_text}")?;
+                let mut utf8 = [0x2A; 256];
+                let written = windows_1252_to_utf8(&bytes, &mut utf8);
+                assert!(rt;
+                    &utf8[..written] == text.as_bytes() && utf8[written] == 0x2A,
+                    "{text}"
+                );
+                let mut units = [0x2A; 128];
+                windows_1252_to_utf16(&bytes, &mut units);
+                let mut at = 0;
+                for unit in text.encode_utf16() {
+                    assert!(rt; units[at] == unit, "{text} at {at}");
+                    at += 1;
+                }
+                assert!(rt; at == bytes.len() && units[at] == 0x2A, "{text}");
+            }
+        }
+        Ok(())
+    }
+}
