@@ -1,51 +1,109 @@
-# Builds, checks and installs the static library for C, its header, and the program utf8_repair.
+# Builds, checks and installs the libraries for C, their header, and the program utf8_repair.
 #
-#   make                        build/libencoding_text.a and build/utf8_repair (proved as they are built)
-#   make CPU=x86-64-v3          the same for processors with AVX2 (without CPU: x86-64-v2)
-#   make check                  a C and a C++ program call each function, also with sanitizers and under valgrind
-#   make install PREFIX=/usr    library, header, pkg-config file, program and manual page
+#   make                        build/libencoding_text.a, the shared library beside it and build/utf8_repair, proved as
+#                               they are built; each library holds a build for x86-64-v2 and one for x86-64-v3, which has
+#                               AVX2, and takes what the processor runs
+#   make CPU=x86-64-v3          a build for these processors alone; likewise CPU=x86-64-v2 and CPU=x86-64
+#   make check                  C and C++ programs call each function of each build, also with sanitizers and under
+#                               valgrind, and the examples run against what `make install` puts into an empty folder
+#   make install PREFIX=/usr    what was built last: libraries, header, files for pkg-config and CMake, program, manual
+#                               page; LIBDIR, INCLUDEDIR and DESTDIR change where
+#   make uninstall PREFIX=/usr  takes all of it away
+#   make doc                    HTML pages of the header and of the Rust crate into build/doc; nothing is built for them
+ASKED := $(CPU)
+CPU ?= both
+CPUS = both x86-64 x86-64-v2 x86-64-v3
 PREFIX ?= /usr/local
+LIBDIR ?= $(PREFIX)/lib
+INCLUDEDIR ?= $(PREFIX)/include
 DESTDIR ?=
-CPU ?= x86-64-v2
-VERSION = 0.1.0
 CC ?= cc
 CXX ?= c++
+OBJCOPY ?= objcopy
 STRICT = -Wall -Wextra -Werror -pedantic -Iinclude
 SANITIZE = -g -fsanitize=address,undefined -fno-sanitize-recover=all
+VERSION := $(shell awk '$$2 ~ /_VERSION_(MAJOR|MINOR|PATCH)$$/ {printf "%s%s", dot, $$3; dot = "."}' include/encoding_text.h)
+SHARED = libencoding_text.so.$(firstword $(subst ., ,$(VERSION)))
+export CC CXX LD AR OBJCOPY SHARED
+
+ifneq ($(words $(CPU)) $(words $(filter $(CPUS),$(CPU))),1 1)
+$(error CPU=$(CPU) is none of $(CPUS))
+endif
 
 LIBRARIES = encoding_definitions encoding_kernels encoding_text encoding_runs encoding_c utf8_repair
 SOURCES = $(foreach name,$(LIBRARIES),$(wildcard crates/$(name)/src/*.rt crates/$(name)/src/*/*.rt))
+BUILT = libencoding_text.a $(SHARED) utf8_repair
 
-all: build/libencoding_text.a build/utf8_repair
+# need(a command, what to do): ends with a line where it isn't there
+need = $(if $(shell command -v $(firstword $(1)) 2> /dev/null),,$(error $(firstword $(1)) is not there: $(2)))
+need_rt = $(call need,rt,put the toolchain's folder bin on the PATH)
+need_cc = $(call need,$(CC),install a C compiler (checks/setup does on Debian) or name yours by CC=)
+need_binutils = $(foreach tool,$(LD) $(OBJCOPY) $(AR),$(call need,$(tool),install binutils (checks/setup does on Debian)))
 
-build:
-	mkdir -p build
+all: $(BUILT:%=build/%) build/libencoding_text.so
 
-build/cpu: FORCE | build
+# What is in build/ itself is of one CPU, whose name stands in build/cpu.
+$(BUILT:%=build/%): build/%: build/$(CPU)/% build/cpu
+	cp $< $@
+
+build/cpu: FORCE | $(BUILT:%=build/$(CPU)/%)
 	@echo '$(CPU)' | cmp -s - $@ || echo '$(CPU)' > $@
 
-build/libencoding_text.a: $(SOURCES) build/cpu
-	cd crates/encoding_c && rt lib --cpu=$(CPU)
+build/libencoding_text.so: | build/$(SHARED)
+	ln -sf $(SHARED) $@
+
+# The same proofs stand for each CPU: where one build is there, another is compiled alone.
+build/x86%/libencoding_text.a: $(SOURCES)
+	$(need_rt)
+	@mkdir -p $(@D)
+	cd crates/encoding_c && rt lib --cpu=x86$*
 	cp crates/encoding_c/out/libencoding_c.a $@
 
-build/utf8_repair: $(SOURCES) build/cpu
-	cd crates/utf8_repair && rt run --cpu=$(CPU) < /dev/null
+build/x86%/utf8_repair: $(SOURCES)
+	$(need_rt)
+	@mkdir -p $(@D)
+	cd crates/utf8_repair && rt run --cpu=x86$* < /dev/null
 	cp crates/utf8_repair/out/utf8_repair $@
 
-check: all
-	CC='$(CC)' CXX='$(CXX)' STRICT='$(STRICT)' SANITIZE='$(SANITIZE)' checks/run
+# A pipe bounds the program before its processor does, so it isn't built twice.
+build/both/utf8_repair: build/x86-64-v2/utf8_repair
+	@mkdir -p $(@D)
+	cp $< $@
 
-install: all
-	install -Dm644 build/libencoding_text.a $(DESTDIR)$(PREFIX)/lib/libencoding_text.a
-	install -Dm644 include/encoding_text.h $(DESTDIR)$(PREFIX)/include/encoding_text.h
-	install -d $(DESTDIR)$(PREFIX)/lib/pkgconfig
-	sed -e 's|@PREFIX@|$(PREFIX)|' -e 's|@VERSION@|$(VERSION)|' checks/encoding_text.pc.in > $(DESTDIR)$(PREFIX)/lib/pkgconfig/encoding_text.pc
-	install -Dm755 build/utf8_repair $(DESTDIR)$(PREFIX)/bin/utf8_repair
-	install -Dm644 checks/utf8_repair.1 $(DESTDIR)$(PREFIX)/share/man/man1/utf8_repair.1
+build/both/libencoding_text.a: build/x86-64-v2/libencoding_text.a build/x86-64-v3/libencoding_text.a build/names checks/choose.c checks/join
+	$(need_cc)$(need_binutils)
+	@mkdir -p $(@D)
+	checks/join build/names build/x86-64-v2/libencoding_text.a build/x86-64-v3/libencoding_text.a $@
+
+# The functions that the header declares.
+build/names: include/encoding_text.h
+	$(need_cc)
+	@mkdir -p $(@D)
+	$(CC) -E -P $< | grep -o '\bencoding_text_[a-z0-9_]*(' | tr -d '(' | LC_ALL=C sort > $@
+
+build/exports: build/names
+	{ echo '{ global:'; sed 's/$$/;/' $<; echo 'local: *; };'; } > $@
+
+build/%/$(SHARED): build/%/libencoding_text.a build/exports
+	$(need_cc)
+	$(CC) -shared $(LDFLAGS) -Wl,-soname,$(SHARED) -Wl,--version-script=build/exports -Wl,-z,defs,-z,now,-z,noexecstack \
+	    -o $@ -Wl,--whole-archive $< -Wl,--no-whole-archive
+
+check: all
+	STRICT='$(STRICT)' SANITIZE='$(SANITIZE)' checks/run
+
+install uninstall:
+	$(if $(ASKED),$(if $(filter $(ASKED),$(shell cat build/cpu 2> /dev/null)),,$(error build/ isn't built for $(ASKED): run make CPU=$(ASKED) first)))
+	@PREFIX='$(PREFIX)' LIBDIR='$(LIBDIR)' INCLUDEDIR='$(INCLUDEDIR)' DESTDIR='$(DESTDIR)' VERSION=$(VERSION) checks/install $@
+
+doc:
+	@checks/doc
 
 clean:
 	rm -rf build
 
 FORCE:
 
-.PHONY: all check install clean FORCE
+.DELETE_ON_ERROR:
+.NOTPARALLEL:
+.PHONY: all check install uninstall doc clean FORCE

@@ -106,6 +106,25 @@ static void right_to_left_checks(void)
     CHECK(encoding_text_mem_check_utf16_for_latin1_and_bidi(ALL(hebrew_units)) == ENCODING_TEXT_BIDI);
 }
 
+static void known_texts(void)
+{
+    const uint8_t latin1[] = {0x61, 0xC3, 0xA4};
+    const uint8_t beyond[] = {0xC3, 0xA4, 0xC4, 0x80};
+    const uint8_t hebrew[] = {0x61, 0xD7, 0x90};
+
+    CHECK(encoding_text_mem_is_str_latin1_unchecked(ALL(latin1)) && !encoding_text_mem_is_str_latin1_unchecked(ALL(beyond)));
+    CHECK(encoding_text_mem_str_latin1_up_to_unchecked(ALL(latin1)) == 3);
+    CHECK(encoding_text_mem_str_latin1_up_to_unchecked(ALL(beyond)) == 2);
+    CHECK(encoding_text_mem_is_str_bidi_unchecked(ALL(hebrew)) && !encoding_text_mem_is_str_bidi_unchecked(ALL(beyond)));
+    CHECK(encoding_text_mem_check_str_for_latin1_and_bidi_unchecked(ALL(latin1)) == ENCODING_TEXT_LATIN1);
+    CHECK(encoding_text_mem_check_str_for_latin1_and_bidi_unchecked(ALL(beyond)) == ENCODING_TEXT_LEFT_TO_RIGHT);
+    CHECK(encoding_text_mem_check_str_for_latin1_and_bidi_unchecked(ALL(hebrew)) == ENCODING_TEXT_BIDI);
+    CHECK(encoding_text_mem_convert_str_to_utf16_unchecked(ALL(latin1), fresh_units(), 2) == ENCODING_TEXT_REFUSED
+          && no_units_written());
+    CHECK(encoding_text_mem_convert_str_to_utf16_unchecked(ALL(latin1), fresh_units(), 3) == 2
+          && units_are(2, 0x61, 0xE4));
+}
+
 static void copies(void)
 {
     const uint8_t text[] = {0x61, 0x62, 0xE4};
@@ -141,6 +160,9 @@ static void latin1_conversions(void)
           && no_bytes_written());
     CHECK(encoding_text_mem_convert_latin1_to_utf8(ALL(latin1), fresh_bytes(), 4) == 3
           && bytes_are(BYTES("a\xC3\xBF")));
+    CHECK(encoding_text_mem_decode_latin1(ALL(latin1), fresh_bytes(), 2) == ENCODING_TEXT_REFUSED
+          && no_bytes_written());
+    CHECK(encoding_text_mem_decode_latin1(ALL(latin1), fresh_bytes(), 3) == 3 && bytes_are(BYTES("a\xC3\xBF")));
     CHECK(encoding_text_mem_convert_utf8_to_latin1_lossy(ALL(text), fresh_bytes(), 2) == ENCODING_TEXT_REFUSED
           && no_bytes_written());
     CHECK(encoding_text_mem_convert_utf8_to_latin1_lossy(ALL(beyond), fresh_bytes(), 9) == ENCODING_TEXT_REFUSED
@@ -153,6 +175,27 @@ static void latin1_conversions(void)
           && no_bytes_written());
     CHECK(encoding_text_mem_convert_utf16_to_latin1_lossy(ALL(units), fresh_bytes(), 2) == 2
           && bytes_are(BYTES("\0\xE4")));
+}
+
+static void lengths(void)
+{
+    const uint8_t latin1[] = {0x61, 0x7F, 0x80, 0xFF};
+    const uint8_t text[] = {0x61, 0xC3, 0xA4, 0xC2, 0x80};
+    const uint8_t beyond[] = {0x61, 0xC4, 0x80};
+    const uint8_t cut[] = {0x61, 0xC3};
+    /* a, U+20AC, U+1F4A9, a truncated sequence of three bytes, an overlong form of two, a surrogate of three */
+    const uint8_t bytes[] = {0x61, 0xE2, 0x82, 0xAC, 0xF0, 0x9F, 0x92, 0xA9, 0xF0, 0x9F, 0x92, 0xC0, 0x80, 0xED, 0xA0,
+                             0x80};
+    /* a, U+00E4, U+20AC, a pair, two lone surrogates */
+    const uint16_t units[] = {0x61, 0xE4, 0x20AC, 0xD83D, 0xDCA9, 0xDCA9, 0xD83D};
+
+    CHECK(encoding_text_mem_utf16_length_from_utf8(ALL(bytes)) == 10);
+    CHECK(encoding_text_mem_utf16_length_from_utf8(ALL(cut)) == 2);
+    CHECK(encoding_text_mem_utf8_length_from_utf16(ALL(units)) == 16);
+    CHECK(encoding_text_mem_utf8_length_from_latin1(ALL(latin1)) == 6);
+    CHECK(encoding_text_mem_latin1_length_from_utf8(ALL(text)) == 3);
+    CHECK(encoding_text_mem_latin1_length_from_utf8(ALL(beyond)) == ENCODING_TEXT_REFUSED);
+    CHECK(encoding_text_mem_latin1_length_from_utf8(ALL(cut)) == ENCODING_TEXT_REFUSED);
 }
 
 static void conversions_to_utf16(void)
@@ -258,6 +301,18 @@ static void latin1_into_texts(void)
     CHECK(bytes_stand(19, BYTES("\xFF")));
 }
 
+static void broken_parts(void)
+{
+    const uint8_t bytes[] = {0x61, 0xF0, 0x9F, 0x92, 0xFF, 0x62, 0xE2, 0x98};
+    const uint8_t text[] = {0x61, 0xC3, 0xA4};
+
+    CHECK(broken_is(encoding_text_next_broken(ALL(bytes)), 1, 3));
+    CHECK(broken_is(encoding_text_next_broken(bytes + 4, 4), 0, 1));
+    CHECK(broken_is(encoding_text_next_broken(bytes + 5, 3), 1, 2));
+    CHECK(broken_is(encoding_text_next_broken(bytes, 1), 1, 0));
+    CHECK(broken_is(encoding_text_next_broken(ALL(text)), 3, 0));
+}
+
 static void repair(void)
 {
     const uint8_t bytes[] = {0x61, 0xF0, 0x9F, 0x92, 0xFF, 0x62};
@@ -266,6 +321,23 @@ static void repair(void)
           && no_bytes_written());
     CHECK(repaired_is(encoding_text_repair_slice(ALL(bytes), fresh_bytes(), 18), 8, 2));
     CHECK(bytes_are(BYTES("a\xEF\xBF\xBD\xEF\xBF\xBD" "b")));
+}
+
+static void repair_by_blocks(void)
+{
+    /* a and the beginning of U+1F4A9; the rest of it is missing, a byte that begins nothing, b, a cut sequence of three */
+    const uint8_t first[] = {0x61, 0xF0, 0x9F};
+    const uint8_t second[] = {0x92, 0xFF, 0x62, 0xE2, 0x98};
+    encoding_text_utf8_decoder decoder;
+
+    encoding_text_utf8_decoder_new(&decoder);
+    CHECK(block_is(encoding_text_repair_block(&decoder, ALL(first), fresh_bytes(), 2, false), 0, 0, 0, false)
+          && no_bytes_written());
+    CHECK(block_is(encoding_text_repair_block(&decoder, ALL(first), fresh_bytes(), 8, false), 3, 1, 0, true));
+    CHECK(bytes_are(BYTES("a")) && !encoding_text_utf8_decoder_in_neutral_state(&decoder));
+    CHECK(block_is(encoding_text_repair_block(&decoder, ALL(second), fresh_bytes(), 16, true), 5, 10, 3, true));
+    CHECK(bytes_are(BYTES("\xEF\xBF\xBD\xEF\xBF\xBD" "b\xEF\xBF\xBD")));
+    CHECK(encoding_text_utf8_decoder_in_neutral_state(&decoder));
 }
 
 static void version(void)
@@ -280,13 +352,17 @@ int main(void)
     latin1_checks();
     surrogates();
     right_to_left_checks();
+    known_texts();
     copies();
     latin1_conversions();
+    lengths();
     conversions_to_utf16();
     conversions_from_utf16();
     utf16_into_texts();
     latin1_into_texts();
+    broken_parts();
     repair();
+    repair_by_blocks();
     decoder_storage();
     decoder_lengths();
     decoder_calls();

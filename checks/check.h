@@ -149,9 +149,19 @@ static bool encoded_is(encoding_text_encoded encoded, size_t read, size_t writte
     return encoded.read == read && encoded.written == written && encoded.result == result;
 }
 
+static bool broken_is(encoding_text_broken_part part, size_t place, size_t length)
+{
+    return part.place == place && part.length == length;
+}
+
 static bool repaired_is(encoding_text_repaired repaired, size_t written, uint64_t replaced)
 {
     return repaired.written == written && repaired.replaced == replaced;
+}
+
+static bool block_is(encoding_text_repaired_block block, size_t read, size_t written, size_t replaced, bool finished)
+{
+    return block.read == read && block.written == written && block.replaced == replaced && block.finished == finished;
 }
 
 #endif

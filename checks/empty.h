@@ -16,11 +16,19 @@ static void checks_of_no_elements(const uint8_t *bytes, const uint16_t *units)
     CHECK(encoding_text_mem_is_str_latin1(bytes, 0) == ENCODING_TEXT_YES);
     CHECK(encoding_text_mem_utf8_latin1_up_to(bytes, 0) == 0 && encoding_text_mem_str_latin1_up_to(bytes, 0) == 0);
     CHECK(encoding_text_mem_utf16_valid_up_to(units, 0) == 0 && encoding_text_utf8_valid_up_to(bytes, 0) == 0);
+    CHECK(broken_is(encoding_text_next_broken(bytes, 0), 0, 0));
+    CHECK(encoding_text_mem_utf16_length_from_utf8(bytes, 0) == 0);
+    CHECK(encoding_text_mem_utf8_length_from_utf16(units, 0) == 0);
+    CHECK(encoding_text_mem_utf8_length_from_latin1(bytes, 0) == 0);
+    CHECK(encoding_text_mem_latin1_length_from_utf8(bytes, 0) == 0);
     CHECK(!encoding_text_mem_is_utf8_bidi(bytes, 0) && !encoding_text_mem_is_utf16_bidi(units, 0));
     CHECK(encoding_text_mem_is_str_bidi(bytes, 0) == ENCODING_TEXT_NO);
     CHECK(encoding_text_mem_check_utf8_for_latin1_and_bidi(bytes, 0) == ENCODING_TEXT_LATIN1);
     CHECK(encoding_text_mem_check_str_for_latin1_and_bidi(bytes, 0) == ENCODING_TEXT_LATIN1);
     CHECK(encoding_text_mem_check_utf16_for_latin1_and_bidi(units, 0) == ENCODING_TEXT_LATIN1);
+    CHECK(encoding_text_mem_is_str_latin1_unchecked(bytes, 0) && !encoding_text_mem_is_str_bidi_unchecked(bytes, 0));
+    CHECK(encoding_text_mem_str_latin1_up_to_unchecked(bytes, 0) == 0);
+    CHECK(encoding_text_mem_check_str_for_latin1_and_bidi_unchecked(bytes, 0) == ENCODING_TEXT_LATIN1);
 }
 
 /* Into a destination of so many elements, which may be none too. */
@@ -36,10 +44,12 @@ static void sources_of_no_elements(const uint8_t *bytes, const uint16_t *units, 
     CHECK(encoding_text_mem_convert_latin1_to_utf16(bytes, 0, to_units, room) == 0);
     CHECK(counts_are(encoding_text_mem_convert_latin1_to_utf8_partial(bytes, 0, to_bytes, room), 0, 0));
     CHECK(encoding_text_mem_convert_latin1_to_utf8(bytes, 0, to_bytes, room) == 0);
+    CHECK(encoding_text_mem_decode_latin1(bytes, 0, to_bytes, room) == 0);
     CHECK(encoding_text_mem_convert_utf8_to_latin1_lossy(bytes, 0, to_bytes, room) == 0);
     CHECK(encoding_text_mem_convert_utf16_to_latin1_lossy(units, 0, to_bytes, room) == 0);
     CHECK(encoding_text_mem_convert_utf8_to_utf16(bytes, 0, to_units, room) == (room == 0 ? ENCODING_TEXT_REFUSED : 0));
     CHECK(encoding_text_mem_convert_str_to_utf16(bytes, 0, to_units, room) == 0);
+    CHECK(encoding_text_mem_convert_str_to_utf16_unchecked(bytes, 0, to_units, room) == 0);
     CHECK(counts_are(encoding_text_mem_convert_utf8_to_utf16_without_replacement(bytes, 0, to_units, room), 0, 0));
     CHECK(counts_are(encoding_text_mem_convert_utf16_to_utf8_partial(units, 0, to_bytes, room), 0, 0));
     CHECK(encoding_text_mem_convert_utf16_to_utf8(units, 0, to_bytes, room) == 0);
@@ -104,6 +114,7 @@ static void decoder_calls_of_no_elements(const uint8_t *bytes, uint8_t *to_bytes
                      0, 0, ENCODING_TEXT_INPUT_EMPTY, 0));
     CHECK(piece_is(encoding_text_utf8_decoder_decode_borrowed(&decoder, bytes, 0, false), 0, 0,
                    ENCODING_TEXT_PIECE_INPUT_EMPTY, 0));
+    CHECK(block_is(encoding_text_repair_block(&decoder, bytes, 0, to_bytes, 0, true), 0, 0, 0, false));
     CHECK(pending_are(&decoder, BYTES("\xE2\x98")));
     CHECK(decoded_is(encoding_text_utf8_decoder_decode_to_utf16(&decoder, bytes, 0, to_units, 0, true),
                      0, 0, ENCODING_TEXT_MALFORMED, 2));

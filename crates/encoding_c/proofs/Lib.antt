@@ -1,3 +1,4 @@
 pub mod DecoderLemmas
 pub mod EncoderLemmas
 pub mod RepairLemmas
+pub mod Latin1Lemmas

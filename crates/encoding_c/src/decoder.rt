@@ -69,7 +69,7 @@ fn restored_pending(state: EncodingUtf8Decoder) -> Utf8Decoder
 
 /// The decoder that the storage stands for: mostly nothing is pending, and then no call is needed.
 #[inline(always)]
-fn restored(state: EncodingUtf8Decoder) -> Utf8Decoder
+pub(crate) fn restored(state: EncodingUtf8Decoder) -> Utf8Decoder
     ensures stands { StandsFor state result }
     ensures front { result ≡ take (length result) state.pending }
     ensures few { length result ≤ 3 }
@@ -81,7 +81,7 @@ fn restored(state: EncodingUtf8Decoder) -> Utf8Decoder
 }
 
 /// How many bytes are pending.
-fn pending_count(decoder: &Utf8Decoder) -> usize
+pub(crate) fn pending_count(decoder: &Utf8Decoder) -> usize
     ensures count { result ≡ length decoder.now }
     ensures few { result ≤ 3 }
     ensures pending { IsPending decoder.now }
@@ -107,7 +107,7 @@ fn byte_at(pending: &[u8], read: &[u8], place: usize) -> u8
 }
 
 /// The storage of a decoder whose pending bytes end these: those that were pending before its call, and the read ones.
-fn stored(decoder: &Utf8Decoder, pending: &[u8], read: &[u8]) -> EncodingUtf8Decoder
+pub(crate) fn stored(decoder: &Utf8Decoder, pending: &[u8], read: &[u8]) -> EncodingUtf8Decoder
     requires ends { EndsWith (pending.now ++ read.now) decoder.now }
     requires few { length pending.now ≤ 3 }
     ensures { StandsFor result decoder.now }

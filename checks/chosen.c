@@ -1,0 +1,23 @@
+/*
+ * Prints the place of each function in the file that it was found in, as nm prints it: chosen LIBRARY NAME.. looks into a
+ * shared library, and chosen '' NAME.. into the program itself.
+ */
+#define _GNU_SOURCE
+#include <dlfcn.h>
+#include <stdio.h>
+
+int main(int count, char **arguments)
+{
+    void *library = count < 2 ? NULL : dlopen(arguments[1][0] == '\0' ? NULL : arguments[1], RTLD_NOW);
+
+    for (int i = 2; i < count; i++) {
+        void *function = library == NULL ? NULL : dlsym(library, arguments[i]);
+        Dl_info file;
+        if (function == NULL || dladdr(function, &file) == 0) {
+            printf("%s isn't there\n", arguments[i]);
+            return 1;
+        }
+        printf("%016lx %s\n", (unsigned long)((char *)function - (char *)file.dli_fbase), arguments[i]);
+    }
+    return library == NULL;
+}

@@ -1,0 +1,72 @@
+//! Calls on bytes that their caller knows to be a text, as a language does that has a type for it: nothing tests that here.
+
+ghost use Rattle.std.specs.Prelude.{◌≡◌, ◌<◌, ◌≤◌, ◌↔◌, IsTrue, IsUtf8, length};
+ghost use Rattle.std.specs.List.{flat_map};
+ghost use Rattle.std.specs.Str.{chars};
+ghost use Rattle.std.specs.Char.Escape.{encode_utf16};
+ghost use Rattle.encoding_definitions.specs.Bidi.{IsBidiText};
+ghost use Rattle.encoding_definitions.specs.Fronts.{IsLongestFront, WritesFront};
+ghost use Rattle.encoding_definitions.specs.Latin1.{IsUtf8Latin1};
+ghost use Rattle.encoding_c.specs.Doors.{Chooses};
+
+use crate::door::{BIDI, LATIN1, LEFT_TO_RIGHT, REFUSED};
+use encoding_text::mem::{self, Latin1Bidi};
+use std::str::from_utf8_unchecked;
+
+/// Whether the scalar values of the text are each up to U+00FF.
+#[unsafe(no_mangle)]
+pub extern "C" fn encoding_text_mem_is_str_latin1_unchecked(buffer: &[u8]) -> bool
+    requires text { IsUtf8 buffer.now }
+    ensures { IsTrue result ↔ IsUtf8Latin1 buffer.now }
+{
+    mem::is_str_latin1(unsafe { from_utf8_unchecked(buffer) })
+}
+
+/// The length in bytes of the text's longest front of scalar values up to U+00FF.
+#[unsafe(no_mangle)]
+pub extern "C" fn encoding_text_mem_str_latin1_up_to_unchecked(buffer: &[u8]) -> usize
+    requires text { IsUtf8 buffer.now }
+    ensures { IsLongestFront IsUtf8Latin1 buffer.now result }
+{
+    mem::str_latin1_up_to(unsafe { from_utf8_unchecked(buffer) })
+}
+
+/// Whether a character of the text is right-to-left.
+#[unsafe(no_mangle)]
+pub extern "C" fn encoding_text_mem_is_str_bidi_unchecked(buffer: &[u8]) -> bool
+    requires text { IsUtf8 buffer.now }
+    ensures { IsTrue result ↔ IsBidiText buffer.now }
+{
+    mem::is_str_bidi(unsafe { from_utf8_unchecked(buffer) })
+}
+
+/// Whether the text is Latin1, and else whether it is right-to-left.
+#[unsafe(no_mangle)]
+pub extern "C" fn encoding_text_mem_check_str_for_latin1_and_bidi_unchecked(buffer: &[u8]) -> u8
+    requires text { IsUtf8 buffer.now }
+    ensures { Chooses (IsUtf8Latin1 buffer.now) (IsBidiText buffer.now) result }
+{
+    match mem::check_str_for_latin1_and_bidi(unsafe { from_utf8_unchecked(buffer) }) {
+        Latin1Bidi::Latin1 => LATIN1,
+        Latin1Bidi::LeftToRight => LEFT_TO_RIGHT,
+        Latin1Bidi::Bidi => BIDI,
+    }
+}
+
+/// Converts a text to UTF-16, and returns how many code units were written. Behind what is written `dst` is as before.
+/// `REFUSED` where `dst` is shorter than `src`.
+#[unsafe(no_mangle)]
+pub extern "C" fn encoding_text_mem_convert_str_to_utf16_unchecked(
+    src: &[u8],
+    dst: &mut [u16],
+) -> usize
+    requires text { IsUtf8 src.now }
+    ensures written { length src.now ≤ length dst.old
+        → WritesFront dst.old dst.new result (flat_map encode_utf16 (chars src.now)) }
+    ensures refused { length dst.old < length src.now → (result ≡ usize.MAX) × (dst.new ≡ dst.old) }
+{
+    if dst.len() < src.len() {
+        return REFUSED;
+    }
+    mem::convert_str_to_utf16(unsafe { from_utf8_unchecked(src) }, dst)
+}

@@ -1,0 +1,46 @@
+//! How long a text is in another encoding, exactly.
+
+ghost use Rattle.std.specs.Prelude.{◌≡◌, ℕ, List, length, encode_utf8_all};
+ghost use Rattle.std.specs.Str.{chars};
+ghost use Rattle.encoding_definitions.specs.Latin1.{IsUtf8Latin1};
+ghost use Rattle.encoding_definitions.specs.Parts.{Part, ArePartsOf, repaired_utf16};
+ghost use Rattle.encoding_definitions.specs.Utf16.{IsUtf8OfUnits};
+
+use crate::door::REFUSED;
+use encoding_text::mem;
+
+/// The number of code units of the bytes in UTF-16, with U+FFFD for each broken part.
+#[unsafe(no_mangle)]
+pub extern "C" fn encoding_text_mem_utf16_length_from_utf8(src: &[u8]) -> usize
+    ensures { (parts : List Part) × ArePartsOf src.now parts × (result ≡ length (repaired_utf16 parts)) }
+{
+    mem::utf16_length_from_utf8(src)
+}
+
+/// The number of bytes of the code units in UTF-8, with U+FFFD for each surrogate that is in no pair.
+#[unsafe(no_mangle)]
+pub extern "C" fn encoding_text_mem_utf8_length_from_utf16(src: &[u16]) -> usize
+    ensures { (text : List ℕ) × IsUtf8OfUnits src.now text × (result ≡ length text) }
+{
+    mem::utf8_length_from_utf16(src)
+}
+
+/// The number of bytes of the UTF-8 of each byte as a character.
+#[unsafe(no_mangle)]
+pub extern "C" fn encoding_text_mem_utf8_length_from_latin1(src: &[u8]) -> usize
+    ensures { result ≡ length (encode_utf8_all src.now) }
+{
+    mem::utf8_length_from_latin1(src)
+}
+
+/// The number of characters of Latin1 text in UTF-8. `REFUSED` where `src` isn't the UTF-8 of Latin1 text.
+#[unsafe(no_mangle)]
+pub extern "C" fn encoding_text_mem_latin1_length_from_utf8(src: &[u8]) -> usize
+    ensures characters { IsUtf8Latin1 src.now → result ≡ length (chars src.now) }
+    ensures other { ¬ (IsUtf8Latin1 src.now) → result ≡ usize.MAX }
+{
+    if !mem::is_utf8_latin1(src) {
+        return REFUSED;
+    }
+    mem::latin1_length_from_utf8(src)
+}

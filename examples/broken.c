@@ -1,0 +1,40 @@
+/* Prints line and column of each part of a text that is no UTF-8, with its bytes, and how many there are:
+ *
+ *     cc broken.c $(pkg-config --cflags --libs encoding_text) && ./a.out < text
+ *
+ * No broken part goes over a line's end, so each line is searched for itself. Columns count characters from 1 on, a
+ * broken part as one. */
+#define _POSIX_C_SOURCE 200809L
+#include <encoding_text.h>
+#include <stdio.h>
+#include <stdlib.h>
+
+int main(void)
+{
+    char *line = NULL;
+    size_t room = 0, line_number = 0, broken = 0;
+    ssize_t length;
+    while ((length = getline(&line, &room, stdin)) > 0) {
+        const uint8_t *at = (const uint8_t *)line, *end = at + length;
+        size_t column = 1;
+        line_number++;
+        for (;;) {
+            encoding_text_broken_part part = encoding_text_next_broken(at, (size_t)(end - at));
+            if (part.length == 0) {
+                break;
+            }
+            for (; part.place > 0; part.place--) {
+                column += (*at++ & 0xC0) != 0x80; /* no continuation byte: a character begins */
+            }
+            printf("line %zu, column %zu:", line_number, column++);
+            for (; part.length > 0; part.length--) {
+                printf(" %02X", *at++);
+            }
+            putchar('\n');
+            broken++;
+        }
+    }
+    printf("%zu broken\n", broken);
+    free(line);
+    return !feof(stdin);
+}

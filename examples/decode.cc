@@ -1,0 +1,46 @@
+// Decodes UTF-8 as it comes, in blocks, into a std::u16string, with U+FFFD for each broken part, and counts:
+//
+//     c++ decode.cc $(pkg-config --cflags --libs encoding_text) && ./a.out < text
+#include <encoding_text.h>
+
+#include <cstdio>
+#include <string>
+
+struct Decoder {
+    encoding_text_utf8_decoder state = {};
+    std::u16string text;
+    std::size_t broken = 0;
+
+    // Appends what the next bytes become; `last` says that none will follow.
+    void decode(const unsigned char *bytes, std::size_t length, bool last)
+    {
+        std::size_t at = text.size();
+        text.resize(at + encoding_text_utf8_decoder_max_utf16_buffer_length(&state, length));
+        encoding_text_decoded done;
+        do {
+            uint16_t *room = reinterpret_cast<uint16_t *>(&text[at]);
+            done = encoding_text_utf8_decoder_decode_to_utf16(&state, bytes, length, room, text.size() - at, last);
+            bytes += done.read;
+            length -= done.read;
+            at += done.written;
+            if (done.result == ENCODING_TEXT_MALFORMED) {
+                text[at++] = u'\uFFFD';
+                broken++;
+            }
+        } while (done.result == ENCODING_TEXT_MALFORMED);
+        text.resize(at);
+    }
+};
+
+int main()
+{
+    Decoder decoder;
+    unsigned char block[4096];
+    std::size_t length;
+    while ((length = std::fread(block, 1, sizeof block, stdin)) > 0) {
+        decoder.decode(block, length, false);
+    }
+    decoder.decode(nullptr, 0, true);
+    std::printf("%zu code units, %zu for a broken part\n", decoder.text.size(), decoder.broken);
+    return std::ferror(stdin) != 0;
+}

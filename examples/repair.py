@@ -1,0 +1,31 @@
+"""Repairs UTF-8 by the shared library: python3 repair.py < damaged > mended"""
+
+import ctypes
+import sys
+
+
+class Repaired(ctypes.Structure):
+    _fields_ = [("written", ctypes.c_size_t), ("replaced", ctypes.c_uint64)]
+
+
+library = ctypes.CDLL("libencoding_text.so.0")
+library.encoding_text_repair_slice.restype = Repaired
+library.encoding_text_repair_slice.argtypes = [
+    ctypes.c_char_p,
+    ctypes.c_size_t,
+    ctypes.c_char_p,
+    ctypes.c_size_t,
+]
+
+
+def repair(source):
+    """Returns the bytes with U+FFFD for each broken part, and how many parts were broken."""
+    room = ctypes.create_string_buffer(3 * len(source))
+    done = library.encoding_text_repair_slice(source, len(source), room, len(room))
+    return ctypes.string_at(room, done.written), done.replaced
+
+
+if __name__ == "__main__":
+    mended, replaced = repair(sys.stdin.buffer.read())
+    sys.stdout.buffer.write(mended)
+    print(f"{replaced} broken parts", file=sys.stderr)
