@@ -1,0 +1,9 @@
+//! Repairs standard input to standard output, and tells on standard error how many parts were broken.
+use std::io;
+
+fn main() -> io::Result<()> {
+    let mut text = encoding_text::Repair::new(io::stdin().lock());
+    io::copy(&mut text, &mut io::stdout().lock())?;
+    eprintln!("{} broken", text.replaced());
+    Ok(())
+}

@@ -1,0 +1,50 @@
+//! Whole buffers of text in memory: checks and conversions between UTF-8, UTF-16 and Latin1, under the names, signatures
+//! and panics of the module `mem` of `encoding_rs`.
+//!
+//! "Latin1" is U+0000 to U+00FF, each as the byte of its number. A "broken part" is what the UTF-8 decoder of the Encoding
+//! Standard reports as one error, a "lone surrogate" one that is in no pair. Lengths and counts are in elements: bytes for
+//! `u8` and `str`, code units for `u16`.
+//!
+//! The calls are those of the library, each with its [promise](crate::promises#mem). The crate adds tests of lengths,
+//! which panic before anything is written, and what a call names beside that. What is behind the written front of a
+//! destination is as before, but in the calls into a `str`, which say what they clear.
+
+mod bidi;
+mod checks;
+mod copies;
+mod from_utf16;
+mod latin1;
+#[cfg(feature = "alloc")]
+mod owned;
+mod to_utf16;
+
+pub use bidi::*;
+pub use checks::*;
+pub use copies::*;
+pub use from_utf16::*;
+pub use latin1::*;
+#[cfg(feature = "alloc")]
+pub use owned::*;
+pub use to_utf16::*;
+
+/// Panics where a destination is shorter than its source, before anything is written.
+#[inline]
+#[track_caller]
+fn assert_as_long<S, D>(src: &[S], dst: &[D]) {
+    assert!(
+        dst.len() >= src.len(),
+        "the destination has {} elements, fewer than the {} of the source",
+        dst.len(),
+        src.len()
+    );
+}
+
+/// Panics where a destination has fewer bytes than so many for each element of its source, before anything is written.
+#[inline]
+#[track_caller]
+fn assert_room(src_length: usize, bytes_each: usize, dst_length: usize) {
+    assert!(
+        dst_length / bytes_each >= src_length,
+        "the destination has {dst_length} bytes, fewer than {bytes_each} for each of the {src_length} elements of the source"
+    );
+}

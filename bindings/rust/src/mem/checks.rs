@@ -1,0 +1,95 @@
+//! Which of the smaller ranges a buffer keeps to, and whether UTF-16 is well-formed.
+
+use crate::c;
+
+/// Whether each byte is below 0x80.
+///
+/// [Proved](crate::promises#mem).
+#[must_use]
+#[inline]
+pub fn is_ascii(buffer: &[u8]) -> bool {
+    c::encoding_text_mem_is_ascii(buffer)
+}
+
+/// Whether each code unit is below 0x80.
+///
+/// [Proved](crate::promises#mem).
+#[must_use]
+#[inline]
+pub fn is_basic_latin(buffer: &[u16]) -> bool {
+    c::encoding_text_mem_is_basic_latin(buffer)
+}
+
+/// Whether the bytes are well-formed UTF-8 of characters up to U+00FF alone.
+///
+/// [Proved](crate::promises#mem).
+#[must_use]
+#[inline]
+pub fn is_utf8_latin1(buffer: &[u8]) -> bool {
+    c::encoding_text_mem_is_utf8_latin1(buffer)
+}
+
+/// Whether each character is up to U+00FF.
+///
+/// [Proved](crate::promises#mem). Nothing looks whether the text is well-formed.
+#[must_use]
+#[inline]
+pub fn is_str_latin1(buffer: &str) -> bool {
+    c::encoding_text_mem_is_str_latin1_unchecked(buffer)
+}
+
+/// Whether each code unit is up to 0x00FF.
+///
+/// [Proved](crate::promises#mem).
+#[must_use]
+#[inline]
+pub fn is_utf16_latin1(buffer: &[u16]) -> bool {
+    c::encoding_text_mem_is_utf16_latin1(buffer)
+}
+
+/// The length in bytes of the longest front that is well-formed UTF-8 of characters up to U+00FF.
+///
+/// [Proved](crate::promises#mem).
+#[must_use]
+#[inline]
+pub fn utf8_latin1_up_to(buffer: &[u8]) -> usize {
+    c::encoding_text_mem_utf8_latin1_up_to(buffer)
+}
+
+/// The length in bytes of the longest front of characters up to U+00FF.
+///
+/// [Proved](crate::promises#mem). Nothing looks whether the text is well-formed.
+#[must_use]
+#[inline]
+pub fn str_latin1_up_to(buffer: &str) -> usize {
+    c::encoding_text_mem_str_latin1_up_to_unchecked(buffer)
+}
+
+/// The place of the first lone surrogate, or the length where there is none.
+///
+/// [Proved](crate::promises#mem).
+///
+/// ```
+/// use encoding_text::mem::utf16_valid_up_to;
+/// assert_eq!(utf16_valid_up_to(&[0x61, 0xD83D, 0xDE00]), 3);
+/// assert_eq!(utf16_valid_up_to(&[0x61, 0xDE00, 0xD83D]), 1);
+/// ```
+#[must_use]
+#[inline]
+pub fn utf16_valid_up_to(buffer: &[u16]) -> usize {
+    c::encoding_text_mem_utf16_valid_up_to(buffer)
+}
+
+/// Replaces each lone surrogate by U+FFFD, and nothing else.
+///
+/// [Proved](crate::promises#mem).
+///
+/// ```
+/// let mut units = [0x61, 0xDE00, 0xD83D, 0xDE00];
+/// encoding_text::mem::ensure_utf16_validity(&mut units);
+/// assert_eq!(units, [0x61, 0xFFFD, 0xD83D, 0xDE00]);
+/// ```
+#[inline]
+pub fn ensure_utf16_validity(buffer: &mut [u16]) {
+    c::encoding_text_mem_ensure_utf16_validity(buffer);
+}

@@ -1,0 +1,99 @@
+//! Conversions between Latin1 and UTF-8, into bytes and into text, and from UTF-16 to Latin1.
+
+use super::{assert_as_long, assert_room, utf8_latin1_up_to};
+use crate::c;
+
+/// Writes the UTF-8 of the longest front of Latin1 whose UTF-8 fits, and returns how many bytes were read and how many
+/// written.
+///
+/// [Proved](crate::promises#mem).
+#[inline]
+pub fn convert_latin1_to_utf8_partial(src: &[u8], dst: &mut [u8]) -> (usize, usize) {
+    c::encoding_text_mem_convert_latin1_to_utf8_partial(src, dst).into()
+}
+
+/// Writes the UTF-8 of each byte as a character, and returns how many bytes were written.
+///
+/// [Proved](crate::promises#mem).
+///
+/// # Panics
+///
+/// Where `dst` has fewer than two bytes for each byte of `src`.
+#[inline]
+pub fn convert_latin1_to_utf8(src: &[u8], dst: &mut [u8]) -> usize {
+    assert_room(src.len(), 2, dst.len());
+    c::encoding_text_mem_convert_latin1_to_utf8(src, dst)
+}
+
+/// [`convert_latin1_to_utf8_partial`] into a text, of which the sixteen bytes behind what is written (all, where there are
+/// fewer) and then the continuation bytes directly behind those become zero.
+///
+/// What is written is [proved](crate::promises#mem); that the text is cleared behind it is done by the crate, which so
+/// doesn't look through the destination.
+#[inline]
+pub fn convert_latin1_to_str_partial(src: &[u8], dst: &mut str) -> (usize, usize) {
+    c::convert_latin1_to_str_partial(src, dst)
+}
+
+/// [`convert_latin1_to_utf8`] into a text, of which the sixteen bytes behind what is written (all, where there are fewer)
+/// and then the continuation bytes directly behind those become zero.
+///
+/// What is written is [proved](crate::promises#mem); that the text is cleared behind it is done by the crate.
+///
+/// # Panics
+///
+/// Where `dst` has fewer than two bytes for each byte of `src`.
+#[inline]
+pub fn convert_latin1_to_str(src: &[u8], dst: &mut str) -> usize {
+    assert_room(src.len(), 2, dst.len());
+    convert_latin1_to_str_partial(src, dst).1
+}
+
+/// Panics where debug assertions are enabled (and no fuzzing is): a source is no text of Latin1 in UTF-8.
+#[cold]
+#[track_caller]
+pub(super) fn refuse_beyond_latin1(up_to: usize) {
+    if cfg!(all(debug_assertions, not(fuzzing))) {
+        panic!("the source is no Latin1 in UTF-8 from byte {up_to} on");
+    }
+}
+
+/// Writes each character of Latin1 in UTF-8 as a byte, and returns how many bytes were written.
+///
+/// [Proved](crate::promises#mem) for Latin1. What becomes of anything else is decided by the crate: without debug
+/// assertions the longest front of Latin1 is converted alone.
+///
+/// # Panics
+///
+/// Where `dst` is shorter than `src`; and where `src` isn't the UTF-8 of characters up to U+00FF, if debug assertions are
+/// enabled for this crate and `cfg(fuzzing)` isn't.
+///
+/// ```
+/// let mut bytes = [0; 3];
+/// let written = encoding_text::mem::convert_utf8_to_latin1_lossy("aä".as_bytes(), &mut bytes);
+/// assert_eq!(&bytes[..written], b"a\xE4");
+/// ```
+#[inline]
+pub fn convert_utf8_to_latin1_lossy(src: &[u8], dst: &mut [u8]) -> usize {
+    assert_as_long(src, dst);
+    let written = c::encoding_text_mem_convert_utf8_to_latin1_lossy(src, dst);
+    if written == c::REFUSED {
+        let up_to = utf8_latin1_up_to(src);
+        refuse_beyond_latin1(up_to);
+        return c::encoding_text_mem_convert_utf8_to_latin1_lossy(&src[..up_to], dst);
+    }
+    written
+}
+
+/// Writes the low eight bits of each code unit: UTF-16 to Latin1, where each is up to 0x00FF.
+///
+/// [Proved](crate::promises#mem), also for code units beyond Latin1.
+///
+/// # Panics
+///
+/// Where `dst` has fewer bytes than `src` has code units.
+#[inline]
+pub fn convert_utf16_to_latin1_lossy(src: &[u16], dst: &mut [u8]) {
+    assert_as_long(src, dst);
+    c::encoding_text_mem_convert_utf16_to_latin1_lossy(src, dst);
+}

@@ -1,0 +1,70 @@
+//! Conversions to UTF-16.
+
+use super::assert_as_long;
+use crate::c;
+
+/// Converts to UTF-16 with U+FFFD for each broken part, and returns how many code units were written (Encoding Standard,
+/// "UTF-8 decode without BOM").
+///
+/// [Proved](crate::promises#mem).
+///
+/// # Panics
+///
+/// Where `dst` doesn't have at least one code unit more than `src` has bytes.
+///
+/// ```
+/// let mut units = [0; 6];
+/// let written = encoding_text::mem::convert_utf8_to_utf16(b"a\xE2\x98Z", &mut units);
+/// assert_eq!(units[..written], [0x61, 0xFFFD, 0x5A]);
+/// ```
+#[inline]
+pub fn convert_utf8_to_utf16(src: &[u8], dst: &mut [u16]) -> usize {
+    assert!(
+        dst.len() > src.len(),
+        "the destination has {} code units, not one more than the {} bytes of the source",
+        dst.len(),
+        src.len()
+    );
+    c::encoding_text_mem_convert_utf8_to_utf16(src, dst)
+}
+
+/// Converts a text to UTF-16, and returns how many code units were written.
+///
+/// [Proved](crate::promises#mem). Nothing looks whether the text is well-formed.
+///
+/// # Panics
+///
+/// Where `dst` has fewer code units than `src` has bytes.
+#[inline]
+pub fn convert_str_to_utf16(src: &str, dst: &mut [u16]) -> usize {
+    assert_as_long(src.as_bytes(), dst);
+    c::encoding_text_mem_convert_str_to_utf16_unchecked(src, dst)
+}
+
+/// Converts to UTF-16, and returns how many code units were written, or `None` where the source isn't well-formed: then
+/// the UTF-16 of its longest well-formed front is written.
+///
+/// [Proved](crate::promises#mem).
+///
+/// # Panics
+///
+/// Where `dst` has fewer code units than `src` has bytes.
+#[inline]
+pub fn convert_utf8_to_utf16_without_replacement(src: &[u8], dst: &mut [u16]) -> Option<usize> {
+    assert_as_long(src, dst);
+    let counts = c::encoding_text_mem_convert_utf8_to_utf16_without_replacement(src, dst);
+    (counts.read == src.len()).then_some(counts.written)
+}
+
+/// Writes each byte as a code unit: Latin1 to UTF-16.
+///
+/// [Proved](crate::promises#mem).
+///
+/// # Panics
+///
+/// Where `dst` has fewer code units than `src` has bytes.
+#[inline]
+pub fn convert_latin1_to_utf16(src: &[u8], dst: &mut [u16]) {
+    assert_as_long(src, dst);
+    c::encoding_text_mem_convert_latin1_to_utf16(src, dst);
+}

@@ -1,0 +1,101 @@
+//! Bytes as text, with U+FFFD for each broken part.
+
+#[cfg(feature = "std")]
+use crate::utf8_chunks;
+#[cfg(feature = "std")]
+use std::io::{self, Write};
+
+use crate::c;
+use alloc::borrow::Cow;
+
+/// The bytes as text, with U+FFFD for each broken part: borrowed exactly where all are well-formed. It is what
+/// `String::from_utf8_lossy` gives.
+///
+/// What it says is [proved](crate::promises#repair) of the two calls that it makes, one for the longest well-formed front
+/// and one for what is behind it; that they are joined is done by the crate. An owned result takes one allocation, three
+/// times as long as what is behind that front, and gives back what is too much. Only with the feature `alloc`.
+///
+/// ```
+/// use std::borrow::Cow;
+/// assert_eq!(encoding_text::repair(b"a\xE2\x98Z"), "a\u{FFFD}Z");
+/// assert!(matches!(encoding_text::repair("né".as_bytes()), Cow::Borrowed("né")));
+/// ```
+#[must_use]
+pub fn repair(bytes: &[u8]) -> Cow<'_, str> {
+    let front = c::utf8_front(bytes);
+    if front.len() == bytes.len() {
+        return Cow::Borrowed(front);
+    }
+    Cow::Owned(c::repair_behind(front, &bytes[front.len()..]))
+}
+
+/// How many bytes wait for the sink at most. A stretch that is longer is handed over where it is.
+#[cfg(feature = "std")]
+const ROOM: usize = 4096;
+
+/// Bytes that wait to be written together.
+#[cfg(feature = "std")]
+struct Together<'a, W: ?Sized> {
+    sink: &'a mut W,
+    room: [u8; ROOM],
+    length: usize,
+}
+
+#[cfg(feature = "std")]
+impl<W: Write + ?Sized> Together<'_, W> {
+    fn send(&mut self) -> io::Result<()> {
+        let waiting = &self.room[..self.length];
+        self.length = 0;
+        if waiting.is_empty() {
+            return Ok(());
+        }
+        self.sink.write_all(waiting)
+    }
+
+    fn push(&mut self, bytes: &[u8]) -> io::Result<()> {
+        if bytes.len() > ROOM - self.length {
+            self.send()?;
+        }
+        if bytes.len() > ROOM {
+            return self.sink.write_all(bytes);
+        }
+        self.room[self.length..self.length + bytes.len()].copy_from_slice(bytes);
+        self.length += bytes.len();
+        Ok(())
+    }
+}
+
+/// Writes the bytes as text, with U+FFFD for each broken part, and returns how many parts were broken. It takes no memory,
+/// and doesn't flush the sink.
+///
+/// Each well-formed stretch and each broken part is found by a call that is [proved](crate::promises#repair); that they are
+/// written one after another is done by the crate. Only with the feature `std`.
+///
+/// # Errors
+///
+/// Those of the sink's `write_all`. A front of the text was written then, less than all.
+///
+/// ```
+/// let mut text = Vec::new();
+/// assert_eq!(encoding_text::repair_to(b"a\xE2\x98Z\xFF", &mut text)?, 2);
+/// assert_eq!(text, "a\u{FFFD}Z\u{FFFD}".as_bytes());
+/// # Ok::<(), std::io::Error>(())
+/// ```
+#[cfg(feature = "std")]
+pub fn repair_to<W: Write + ?Sized>(bytes: &[u8], sink: &mut W) -> io::Result<u64> {
+    let mut together = Together {
+        sink,
+        room: [0; ROOM],
+        length: 0,
+    };
+    let mut broken = 0;
+    for chunk in utf8_chunks(bytes) {
+        together.push(chunk.valid().as_bytes())?;
+        if !chunk.invalid().is_empty() {
+            together.push("\u{FFFD}".as_bytes())?;
+            broken += 1;
+        }
+    }
+    together.send()?;
+    Ok(broken)
+}
