@@ -8,21 +8,35 @@ LETTERS = [chr(c) for c in range(ord("a"), ord("z") + 1)]
 BEYOND = [chr(c) for c in range(0xE0, 0xFF)]
 CYRILLIC = [chr(c) for c in range(0x430, 0x450)]
 EMOJI = [chr(c) for c in range(0x1F600, 0x1F650)]
+CJK = [chr(c) for c in range(0x4E00, 0x9E00)]
+MARKS = ["\u2019", "\u201C", "\u201D", "\u2014", "\u2026"]
+ELEMENTS = [
+    f"<{tag}>{''.join(letters[k * k * 7 % 31] if k % 8 else ' ' for k in range(length))}</{tag}>\n"
+    for tag in ("p", "li", "td")
+    for letters in (LETTERS * 2, CYRILLIC, CJK)
+    for length in range(20, 60)
+]
 
-# Each kind as groups of characters, and how often a group is chosen.
+# Each kind as groups of characters, words or elements, and how often a group is chosen.
 KINDS = {
     "ASCII": [(LETTERS, 1)],
     "Latin": [(LETTERS, 19), (BEYOND, 1)],
     "Cyrillic": [([" "], 1), (CYRILLIC, 6)],
-    "CJK": [([chr(c) for c in range(0x4E00, 0x9E00)], 1)],
+    "CJK": [(CJK, 1)],
     "emoji": [(LETTERS, 3), (EMOJI, 1)],
+    "prose": [(LETTERS, 41), ([" "], 8), (MARKS, 1)],
+    "CJK+ASCII": [(CJK, 57), (["\n", "2026", "word"], 3)],
+    "HTML": [(ELEMENTS, 1)],
 }
+
+# A kind with one byte in a hundred broken, and the kind.
+BROKEN = {"broken": "Latin", "broken-ASCII": "ASCII"}
 
 
 def text_of(groups):
     """Returns a MiB of text: no character is cut at its end."""
     lists, weights = zip(*groups)
-    chosen = random.choices(lists, weights, k=MIB)
+    chosen = random.choices(lists, weights, k=MIB // len(min(lists[0], key=len)))
     text = "".join(random.choice(characters) for characters in chosen)
     return text.encode()[:MIB].decode(errors="ignore").encode()
 
@@ -42,7 +56,7 @@ def main():
         for _ in range(count):
             sys.stdout.buffer.write(random.randbytes(MIB))
         return
-    text = broken(text_of(KINDS["Latin"])) if kind == "broken" else text_of(KINDS[kind])
+    text = broken(text_of(KINDS[BROKEN[kind]])) if kind in BROKEN else text_of(KINDS[kind])
     for _ in range(count):
         sys.stdout.buffer.write(text)
 

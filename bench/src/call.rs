@@ -1,19 +1,29 @@
-//! How a peer is called: as ours is, by a function that isn't inlined where it is called.
+//! How a peer is called: as ours is, through an address, by a function that isn't inlined where it is called.
 //!
-//! Ours are functions of a static library for C. A peer is called here through a function that gets the same slices and
-//! has the peer's body inlined into itself where that can be: one call each, and what a caller knows of the arguments
-//! helps neither. Where it can't be, that is a jump more, which made no difference that could be measured.
+//! simdutf is called in a shared library, which goes through an address; so ours and all others do too (module `ffi`),
+//! since that costs some nanoseconds on processors that guard indirect jumps. A peer in Rust is called here through a
+//! function that gets the same slices and has the peer's body inlined into itself where that can be: one call each, and
+//! what a caller knows of the arguments helps none. Where it can't be, that is a jump more, which made no difference
+//! that could be measured.
+
+use std::hint::black_box;
 
 /// Calls a function of one slice.
-#[inline(never)]
-pub fn one<S, T>(call: impl Fn(&[S]) -> T, src: &[S]) -> T {
-    call(src)
+pub fn one<F: Fn(&[S]) -> T, S, T>(call: F, src: &[S]) -> T {
+    #[inline(never)]
+    fn apart<F: Fn(&[S]) -> T, S, T>(call: F, src: &[S]) -> T {
+        call(src)
+    }
+    black_box(apart::<F, S, T> as fn(F, &[S]) -> T)(call, src)
 }
 
 /// Calls a function of a source and a destination.
-#[inline(never)]
-pub fn two<S, D, T>(call: impl Fn(&[S], &mut [D]) -> T, src: &[S], dst: &mut [D]) -> T {
-    call(src, dst)
+pub fn two<F: Fn(&[S], &mut [D]) -> T, S, D, T>(call: F, src: &[S], dst: &mut [D]) -> T {
+    #[inline(never)]
+    fn apart<F: Fn(&[S], &mut [D]) -> T, S, D, T>(call: F, src: &[S], dst: &mut [D]) -> T {
+        call(src, dst)
+    }
+    black_box(apart::<F, S, D, T> as fn(F, &[S], &mut [D]) -> T)(call, src, dst)
 }
 
 /// Calls a function that changes a slice in place.

@@ -1,4 +1,7 @@
-//! The functions of `encoding_text.h`, and each of them over slices.
+//! The functions of `encoding_text.h`, and each of them over slices. Those of slices alone are called through an
+//! address, as their peers are (module `call`).
+
+use std::hint::black_box;
 
 #[repr(C)]
 pub struct Counts {
@@ -75,10 +78,12 @@ macro_rules! calls {
             }
         }
         $(pub fn $one(buffer: &[$kind]) -> $result {
-            unsafe { raw::$one(buffer.as_ptr(), buffer.len()) }
+            type Call = unsafe extern "C" fn(*const $kind, usize) -> $result;
+            unsafe { black_box(raw::$one as Call)(buffer.as_ptr(), buffer.len()) }
         })*
         $(pub fn $two(src: &[$from], dst: &mut [$to]) -> $counts {
-            unsafe { raw::$two(src.as_ptr(), src.len(), dst.as_mut_ptr(), dst.len()) }
+            type Call = unsafe extern "C" fn(*const $from, usize, *mut $to, usize) -> $counts;
+            unsafe { black_box(raw::$two as Call)(src.as_ptr(), src.len(), dst.as_mut_ptr(), dst.len()) }
         })*
     };
 }

@@ -6,6 +6,7 @@ use crate::room::Room;
 use crate::rows::{Reads, Row, ROWS};
 use crate::texts;
 use std::process;
+use std::slice::from_ref;
 
 /// What destinations hold before: a text with characters of each length.
 const TEXT: &str = "q\u{E9}\u{2603}\u{1F600}";
@@ -38,13 +39,13 @@ fn limit(length: usize, random: &mut Random) -> usize {
 /// Runs each engine of the row, and says which one gives something else.
 fn compare(row: &Row, source: &Source, fresh: &Room, ours: &mut Room, theirs: &mut Room) -> Result<(), String> {
     ours.refill(fresh);
-    (row.engines[0].1)(source, ours);
+    (row.engines[0].1)(from_ref(source), ours, 1);
     if !row.clears() && !ours.keeps(fresh) {
         return Err("ours changes what lies behind its output".into());
     }
     for (name, run) in &row.engines[1..] {
         theirs.refill(fresh);
-        run(source, theirs);
+        run(from_ref(source), theirs, 1);
         let same = ours.agrees(theirs) && (!row.clears() || ours.bytes == theirs.bytes);
         if !same {
             return Err(format!(

@@ -1,17 +1,22 @@
-//! Measures each row of the public surface beside std, `encoding_rs` and `simdutf8`, all in one run, interleaved, and
-//! compares what they give.
+//! Measures each row of the public surface beside std, `encoding_rs`, `simdutf8` and simdutf, all in one run,
+//! interleaved, and compares what they give.
 //!
 //! - `bench` prints a table of ratios, ours to the best peer, with our throughput in GB/s of source, and writes the
 //!   same to `build/bench.tsv`. Before timing, each engine's whole output is compared with ours, and a difference ends
 //!   the run.
+//! - `bench simdutf` measures ours and simdutf's kernel of the same width alone, where simdutf has the call, and prints
+//!   their throughputs.
 //! - `bench ROW KIND SIZE ENGINE TIMES` runs one engine alone, for counters of instructions; `bench --list` prints what
 //!   there is at 64 KiB, with the length of the source.
+//! - `bench calls` compares the Rust crate with C on each row that is one call, and prints what one costs on sixteen
+//!   letters in both; the status is 1 where Rust takes 2 ns more.
 //! - `bench fuzz COUNT [SEED]` compares whole outputs on so many random and damaged texts.
 //!
 //! Like is measured with like. Ours are called as functions of a library for C, and each peer through a function that
-//! isn't inlined either (module `call`). C has no type for a text, so where a row takes or gives one (`str` in its
-//! name, and `encode_from_utf8`) each engine begins with bytes and validates them, ours at its door, a peer by
-//! `std::str::from_utf8` (module `rows`). A row whose call tells the element behind a front asks peers for that too.
+//! isn't inlined either, all through an address (module `call`). C has no type for a text, so where a row takes or
+//! gives one (`str` in its name, and `encode_from_utf8`) each engine begins with bytes and validates them, ours at its
+//! door, a peer by `std::str::from_utf8` (module `rows`). A row whose call tells the element behind a front asks peers
+//! for that too.
 
 mod call;
 mod ffi;
@@ -20,17 +25,26 @@ mod kinds;
 mod measure;
 mod room;
 mod rows;
+#[cfg(feature = "rust")]
+mod rust;
+mod simdutf;
 mod streams;
 mod texts;
 
 use std::{env, process};
+
+/// The processors that ours is built for.
+const CPU: &str = env!("CPU");
 
 fn main() {
     let arguments: Vec<String> = env::args().skip(1).collect();
     let arguments: Vec<&str> = arguments.iter().map(String::as_str).collect();
     match arguments.as_slice() {
         [] => measure::table(),
+        ["simdutf"] => measure::beside_simdutf(),
         ["--list"] => measure::list_all(),
+        #[cfg(feature = "rust")]
+        ["calls"] => rust::calls(),
         ["fuzz", count] => fuzz::fuzz(number(count), 1),
         ["fuzz", count, seed] => fuzz::fuzz(number(count), number(seed)),
         [row, kind, size, engine, times] => measure::alone(row, kind, number(size) as usize, engine, number(times)),
@@ -43,6 +57,6 @@ fn number(argument: &str) -> u64 {
 }
 
 fn usage() -> ! {
-    eprintln!("usage: bench [--list | fuzz COUNT [SEED] | ROW KIND SIZE ENGINE TIMES]");
+    eprintln!("usage: bench [simdutf | calls | --list | fuzz COUNT [SEED] | ROW KIND SIZE ENGINE TIMES]");
     process::exit(2)
 }

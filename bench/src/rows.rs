@@ -7,8 +7,10 @@ use crate::call::{in_place, one, two};
 use crate::ffi::{self, Front, REFUSED, REFUSED_ANSWER};
 use crate::kinds::Source;
 use crate::room::Room;
+use crate::simdutf::{self, Counted};
 use crate::streams;
 use encoding_rs::{mem, Encoding, UTF_8};
+use std::hint::black_box;
 use std::str;
 
 /// What a row reads, which is what its throughput counts.
@@ -22,8 +24,16 @@ pub enum Reads {
     Latin1Units,
 }
 
-/// An engine's name, and how it runs the row.
-pub type Engine = (&'static str, fn(&Source, &mut Room));
+/// An engine's name, and how it runs the row so many times, on the sources in turn.
+pub type Engine = (&'static str, fn(&[Source], &mut Room, u64));
+
+/// The loop stands around each engine's own call, so that no other call lies in it.
+pub fn in_turn(sources: &[Source], room: &mut Room, times: u64, run: impl Fn(&Source, &mut Room)) {
+    for source in sources.iter().cycle().take(times as usize) {
+        run(black_box(source), room);
+        black_box(&mut *room);
+    }
+}
 
 pub struct Row {
     pub name: &'static str,
@@ -31,10 +41,14 @@ pub struct Row {
     pub engines: &'static [Engine],
 }
 
-const OURS: &str = "ours";
+pub const OURS: &str = "ours";
 const STD: &str = "std";
 const CRATE: &str = "encoding_rs";
 const SIMD: &str = "simdutf8";
+
+/// simdutf by its plain calls, which say no more than that a text is ill-formed, and by those that say where.
+pub const SIMDUTF: &str = "simdutf";
+pub const SIMDUTF_ERRORS: &str = "simdutf with errors";
 
 /// Where the longest well-formed front ends.
 fn std_valid_up_to(src: &[u8]) -> usize {
@@ -81,9 +95,58 @@ fn crate_front_to_utf16(src: &[u8], dst: &mut [u16]) -> (usize, usize) {
     }
 }
 
+// What simdutf has no call for, on ill-formed texts, the crate does after it has refused: it is the quickest there.
+
+/// Where the longest well-formed front ends, by the plain call where it can say it.
+fn simdutf_valid_up_to(src: &[u8]) -> usize {
+    if simdutf::validate_utf8(src) { src.len() } else { simdutf::validate_utf8_with_errors(src).count }
+}
+
+/// The same of code units.
+fn simdutf_utf16_valid_up_to(src: &[u16]) -> usize {
+    if simdutf::validate_utf16le(src) { src.len() } else { simdutf::validate_utf16le_with_errors(src).count }
+}
+
+/// How much a call with errors wrote, and where it found none.
+fn counted(call: Counted) -> Option<usize> {
+    (call.error == 0).then_some(call.count)
+}
+
+/// How much a plain call wrote, and where it found no error: an empty text it doesn't refuse.
+fn plain(length: usize, written: usize) -> Option<usize> {
+    (length == 0 || written > 0).then_some(written)
+}
+
+/// A call to UTF-16, and how much it wrote, where it found no error.
+type ToUtf16 = fn(&[u8], &mut [u16]) -> Option<usize>;
+
+/// The front as UTF-16. simdutf asks for room and tells no place: without room it is std's.
+fn simdutf_front_to_utf16(src: &[u8], dst: &mut [u16], convert: ToUtf16) -> (usize, usize) {
+    if dst.len() < src.len() {
+        return std_front_to_utf16(src, dst);
+    }
+    convert(src, dst).map_or_else(|| crate_front_to_utf16(src, dst), |written| (src.len(), written))
+}
+
+fn simdutf_to_utf16(src: &[u8], dst: &mut [u16]) -> Option<usize> {
+    plain(src.len(), simdutf::convert_utf8_to_utf16le(src, dst))
+}
+
+fn simdutf_to_utf16_with_errors(src: &[u8], dst: &mut [u16]) -> Option<usize> {
+    counted(simdutf::convert_utf8_to_utf16le_with_errors(src, dst))
+}
+
+fn simdutf_to_utf8(src: &[u16], dst: &mut [u8]) -> Option<usize> {
+    plain(src.len(), simdutf::convert_utf16le_to_utf8(src, dst))
+}
+
+fn simdutf_to_utf8_with_errors(src: &[u16], dst: &mut [u8]) -> Option<usize> {
+    counted(simdutf::convert_utf16le_to_utf8_with_errors(src, dst))
+}
+
 macro_rules! rows {
     ($($name:literal, $reads:ident: $($engine:ident => $run:expr),+;)*) => {
-        &[$(Row { name: $name, reads: Reads::$reads, engines: &[$(($engine, $run)),+] }),*]
+        &[$(Row { name: $name, reads: Reads::$reads, engines: &[$(($engine, |s, r, n| in_turn(s, r, n, $run))),+] }),*]
     };
 }
 
@@ -93,10 +156,12 @@ pub const ROWS: &[Row] = rows! {
         STD => |s, r| r.tell_front(one(|src| {
             Front::of(src, src.iter().position(|b| *b >= 0x80).unwrap_or(src.len()))
         }, &s.bytes)),
-        CRATE => |s, r| r.tell_front(one(|src| Front::of(src, Encoding::ascii_valid_up_to(src)), &s.bytes));
+        CRATE => |s, r| r.tell_front(one(|src| Front::of(src, Encoding::ascii_valid_up_to(src)), &s.bytes)),
+        SIMDUTF => |s, r| r.tell_front(Front::of(&s.bytes, simdutf::validate_ascii_with_errors(&s.bytes).count));
     "ascii_valid_up_to", Bytes:
         OURS => |s, r| r.told[0] = ffi::encoding_text_ascii_valid_up_to(&s.bytes),
-        CRATE => |s, r| r.told[0] = one(Encoding::ascii_valid_up_to, &s.bytes);
+        CRATE => |s, r| r.told[0] = one(Encoding::ascii_valid_up_to, &s.bytes),
+        SIMDUTF => |s, r| r.told[0] = simdutf::validate_ascii_with_errors(&s.bytes).count;
     "iso_2022_jp_ascii_valid_up_to", Bytes:
         OURS => |s, r| r.told[0] = ffi::encoding_text_iso_2022_jp_ascii_valid_up_to(&s.bytes),
         CRATE => |s, r| r.told[0] = one(Encoding::iso_2022_jp_ascii_valid_up_to, &s.bytes);
@@ -148,7 +213,8 @@ pub const ROWS: &[Row] = rows! {
     "is_ascii", Bytes:
         OURS => |s, r| r.told[0] = ffi::encoding_text_mem_is_ascii(&s.bytes).into(),
         STD => |s, r| r.told[0] = one(<[u8]>::is_ascii, &s.bytes).into(),
-        CRATE => |s, r| r.told[0] = one(mem::is_ascii, &s.bytes).into();
+        CRATE => |s, r| r.told[0] = one(mem::is_ascii, &s.bytes).into(),
+        SIMDUTF => |s, r| r.told[0] = simdutf::validate_ascii(&s.bytes).into();
     "is_basic_latin", Units:
         OURS => |s, r| r.told[0] = ffi::encoding_text_mem_is_basic_latin(&s.units).into(),
         CRATE => |s, r| r.told[0] = one(mem::is_basic_latin, &s.units).into();
@@ -175,7 +241,9 @@ pub const ROWS: &[Row] = rows! {
         }, &s.bytes);
     "utf16_valid_up_to", Units:
         OURS => |s, r| r.told[0] = ffi::encoding_text_mem_utf16_valid_up_to(&s.units),
-        CRATE => |s, r| r.told[0] = one(mem::utf16_valid_up_to, &s.units);
+        CRATE => |s, r| r.told[0] = one(mem::utf16_valid_up_to, &s.units),
+        SIMDUTF => |s, r| r.told[0] = simdutf_utf16_valid_up_to(&s.units),
+        SIMDUTF_ERRORS => |s, r| r.told[0] = simdutf::validate_utf16le_with_errors(&s.units).count;
     "ensure_utf16_validity", Units:
         OURS => |s, r| {
             r.written = s.units.len();
@@ -216,7 +284,8 @@ pub const ROWS: &[Row] = rows! {
         CRATE => |s, r| {
             two(mem::convert_latin1_to_utf16, &s.latin1, &mut r.units);
             r.written = s.latin1.len();
-        };
+        },
+        SIMDUTF => |s, r| r.written = simdutf::convert_latin1_to_utf16le(&s.latin1, &mut r.units);
     "convert_latin1_to_utf8_partial", Latin1:
         OURS => |s, r| {
             let counts = ffi::encoding_text_mem_convert_latin1_to_utf8_partial(&s.latin1, r.bounded_bytes());
@@ -228,19 +297,33 @@ pub const ROWS: &[Row] = rows! {
         };
     "convert_latin1_to_utf8", Latin1:
         OURS => |s, r| r.written = ffi::encoding_text_mem_convert_latin1_to_utf8(&s.latin1, &mut r.bytes),
-        CRATE => |s, r| r.written = two(mem::convert_latin1_to_utf8, &s.latin1, &mut r.bytes);
+        CRATE => |s, r| r.written = two(mem::convert_latin1_to_utf8, &s.latin1, &mut r.bytes),
+        SIMDUTF => |s, r| r.written = simdutf::convert_latin1_to_utf8(&s.latin1, &mut r.bytes);
     "convert_utf8_to_latin1_lossy", Latin1Text:
         OURS => |s, r| r.written = ffi::encoding_text_mem_convert_utf8_to_latin1_lossy(&s.latin1_text, &mut r.bytes),
-        CRATE => |s, r| r.written = two(mem::convert_utf8_to_latin1_lossy, &s.latin1_text, &mut r.bytes);
+        CRATE => |s, r| r.written = two(mem::convert_utf8_to_latin1_lossy, &s.latin1_text, &mut r.bytes),
+        SIMDUTF => |s, r| r.written = simdutf::convert_utf8_to_latin1(&s.latin1_text, &mut r.bytes),
+        SIMDUTF_ERRORS => |s, r| {
+            r.written = simdutf::convert_utf8_to_latin1_with_errors(&s.latin1_text, &mut r.bytes).count;
+        };
     "convert_utf16_to_latin1_lossy", Latin1Units:
         OURS => |s, r| r.written = ffi::encoding_text_mem_convert_utf16_to_latin1_lossy(&s.latin1_units, &mut r.bytes),
         CRATE => |s, r| {
             two(mem::convert_utf16_to_latin1_lossy, &s.latin1_units, &mut r.bytes);
             r.written = s.latin1_units.len();
-        };
+        },
+        SIMDUTF => |s, r| r.written = simdutf::convert_utf16le_to_latin1(&s.latin1_units, &mut r.bytes);
     "convert_utf8_to_utf16", Bytes:
         OURS => |s, r| r.written = ffi::encoding_text_mem_convert_utf8_to_utf16(&s.bytes, &mut r.units),
-        CRATE => |s, r| r.written = two(mem::convert_utf8_to_utf16, &s.bytes, &mut r.units);
+        CRATE => |s, r| r.written = two(mem::convert_utf8_to_utf16, &s.bytes, &mut r.units),
+        SIMDUTF => |s, r| {
+            let written = simdutf_to_utf16(&s.bytes, &mut r.units);
+            r.written = written.unwrap_or_else(|| mem::convert_utf8_to_utf16(&s.bytes, &mut r.units));
+        },
+        SIMDUTF_ERRORS => |s, r| {
+            let written = simdutf_to_utf16_with_errors(&s.bytes, &mut r.units);
+            r.written = written.unwrap_or_else(|| mem::convert_utf8_to_utf16(&s.bytes, &mut r.units));
+        };
     "convert_str_to_utf16", Text:
         OURS => |s, r| r.written = ffi::encoding_text_mem_convert_str_to_utf16(&s.bytes, &mut r.units),
         STD => |s, r| r.written = two(|src, dst: &mut [u16]| {
@@ -257,7 +340,15 @@ pub const ROWS: &[Row] = rows! {
         CRATE => |s, r| r.written = two(|src, dst| match str::from_utf8(src) {
             Ok(text) => mem::convert_str_to_utf16(text, dst),
             Err(_) => REFUSED,
-        }, &s.bytes, &mut r.units);
+        }, &s.bytes, &mut r.units),
+        SIMDUTF => |s, r| {
+            let written = simdutf_to_utf16(&s.bytes, &mut r.units);
+            r.written = written.unwrap_or(REFUSED);
+        },
+        SIMDUTF_ERRORS => |s, r| {
+            let written = simdutf_to_utf16_with_errors(&s.bytes, &mut r.units);
+            r.written = written.unwrap_or(REFUSED);
+        };
     "convert_utf8_to_utf16_without_replacement", Text:
         OURS => |s, r| {
             let counts = ffi::encoding_text_mem_convert_utf8_to_utf16_without_replacement(&s.bytes, &mut r.units);
@@ -265,6 +356,14 @@ pub const ROWS: &[Row] = rows! {
         },
         CRATE => |s, r| {
             let counts = two(crate_front_to_utf16, &s.bytes, &mut r.units);
+            r.tell_counts(counts)
+        },
+        SIMDUTF => |s, r| {
+            let counts = simdutf_front_to_utf16(&s.bytes, &mut r.units, simdutf_to_utf16);
+            r.tell_counts(counts)
+        },
+        SIMDUTF_ERRORS => |s, r| {
+            let counts = simdutf_front_to_utf16(&s.bytes, &mut r.units, simdutf_to_utf16_with_errors);
             r.tell_counts(counts)
         };
     "convert_utf16_to_utf8_partial", Units:
@@ -279,7 +378,15 @@ pub const ROWS: &[Row] = rows! {
     "convert_utf16_to_utf8", Units:
         OURS => |s, r| r.written = ffi::encoding_text_mem_convert_utf16_to_utf8(&s.units, &mut r.bytes),
         STD => |s, r| r.written = two(|src, dst| put(&String::from_utf16_lossy(src), dst), &s.units, &mut r.bytes),
-        CRATE => |s, r| r.written = two(mem::convert_utf16_to_utf8, &s.units, &mut r.bytes);
+        CRATE => |s, r| r.written = two(mem::convert_utf16_to_utf8, &s.units, &mut r.bytes),
+        SIMDUTF => |s, r| {
+            let written = simdutf_to_utf8(&s.units, &mut r.bytes);
+            r.written = written.unwrap_or_else(|| mem::convert_utf16_to_utf8(&s.units, &mut r.bytes));
+        },
+        SIMDUTF_ERRORS => |s, r| {
+            let written = simdutf_to_utf8_with_errors(&s.units, &mut r.bytes);
+            r.written = written.unwrap_or_else(|| mem::convert_utf16_to_utf8(&s.units, &mut r.bytes));
+        };
     "convert_utf16_to_str_partial", Units:
         OURS => |s, r| {
             let counts = ffi::encoding_text_mem_convert_utf16_to_str_partial(&s.units, r.text(3 * s.units.len()));
@@ -308,7 +415,9 @@ pub const ROWS: &[Row] = rows! {
         OURS => |s, r| r.told[0] = ffi::encoding_text_utf8_valid_up_to(&s.bytes),
         STD => |s, r| r.told[0] = one(std_valid_up_to, &s.bytes),
         CRATE => |s, r| r.told[0] = one(Encoding::utf8_valid_up_to, &s.bytes),
-        SIMD => |s, r| r.told[0] = one(simd_valid_up_to, &s.bytes);
+        SIMD => |s, r| r.told[0] = one(simd_valid_up_to, &s.bytes),
+        SIMDUTF => |s, r| r.told[0] = simdutf_valid_up_to(&s.bytes),
+        SIMDUTF_ERRORS => |s, r| r.told[0] = simdutf::validate_utf8_with_errors(&s.bytes).count;
     "convert_utf8_to_utf16_up_to_invalid", Text:
         OURS => |s, r| {
             let counts = ffi::encoding_text_convert_utf8_to_utf16_up_to_invalid(&s.bytes, r.bounded_units());
@@ -320,6 +429,14 @@ pub const ROWS: &[Row] = rows! {
         },
         CRATE => |s, r| {
             let counts = two(crate_front_to_utf16, &s.bytes, r.bounded_units());
+            r.tell_counts(counts)
+        },
+        SIMDUTF => |s, r| {
+            let counts = simdutf_front_to_utf16(&s.bytes, r.bounded_units(), simdutf_to_utf16);
+            r.tell_counts(counts)
+        },
+        SIMDUTF_ERRORS => |s, r| {
+            let counts = simdutf_front_to_utf16(&s.bytes, r.bounded_units(), simdutf_to_utf16_with_errors);
             r.tell_counts(counts)
         };
     "decode_to_utf16, 4 KiB a call", Bytes:
@@ -339,7 +456,13 @@ pub const ROWS: &[Row] = rows! {
         STD => |s, r| r.written = two(|src, dst| put(&String::from_utf8_lossy(src), dst), &s.bytes, &mut r.bytes),
         CRATE => |s, r| r.written = two(|src, dst| {
             put(&UTF_8.decode_without_bom_handling(src).0, dst)
-        }, &s.bytes, &mut r.bytes);
+        }, &s.bytes, &mut r.bytes),
+        SIMDUTF => |s, r| r.written = if simdutf::validate_utf8(&s.bytes) {
+            r.bytes[..s.bytes.len()].copy_from_slice(&s.bytes);
+            s.bytes.len()
+        } else {
+            put(&UTF_8.decode_without_bom_handling(&s.bytes).0, &mut r.bytes)
+        };
 };
 
 impl Row {
