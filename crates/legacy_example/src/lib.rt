@@ -118,20 +118,22 @@ mod tests {
                 bytes.extend_from_slice(first)?;
                 bytes.extend_from_slice(second)?;
                 let text = format!(in rt.alloc(); "{first_text}{second_text}")?;
-                let mut utf8 = [0x2A; 256];
+                let mut expected = Vec::new(rt.alloc());
+                for unit in text.encode_utf16() {
+                    expected.push(unit)?;
+                }
+                expected.push(0x2A)?;
+                let (mut utf8, mut units) = ([0x2A; 256], [0x2A; 128]);
+                assert!(rt; bytes.len() < 80, "{text} is longer than the destinations");
                 let written = windows_1252_to_utf8(&bytes, &mut utf8);
                 assert!(rt;
-                    &utf8[..written] == text.as_bytes() && utf8[written] == 0x2A,
+                    utf8.starts_with(text.as_bytes())
+                        && written == text.len()
+                        && utf8.get(written) == Some(&0x2A),
                     "{text}"
                 );
-                let mut units = [0x2A; 128];
                 windows_1252_to_utf16(&bytes, &mut units);
-                let mut at = 0;
-                for unit in text.encode_utf16() {
-                    assert!(rt; units[at] == unit, "{text} at {at}");
-                    at += 1;
-                }
-                assert!(rt; at == bytes.len() && units[at] == 0x2A, "{text}");
+                assert!(rt; units.starts_with(&expected), "{text}");
             }
         }
         Ok(())
