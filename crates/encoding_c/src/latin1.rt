@@ -1,7 +1,9 @@
-//! Latin1 to UTF-8 into a room that holds just its text.
+//! Latin1 to UTF-8 and back into a room that holds just the text.
 
 ghost use Rattle.std.specs.Prelude.{◌≡◌, ◌<◌, ◌≤◌, length, encode_utf8_all};
+ghost use Rattle.std.specs.Str.{chars};
 ghost use Rattle.encoding_definitions.specs.Fronts.{WritesFront};
+ghost use Rattle.encoding_definitions.specs.Latin1.{IsUtf8Latin1};
 
 use crate::door::REFUSED;
 use encoding_text::mem;
@@ -19,4 +21,19 @@ pub extern "C" fn encoding_text_mem_decode_latin1(src: &[u8], dst: &mut [u8]) ->
     }
     let (_, written) = mem::convert_latin1_to_utf8_partial(src, dst);
     written
+}
+
+/// Writes the scalar value of each character of Latin1 text in UTF-8 as a byte, and returns how many. Behind what is
+/// written `dst` is as before. `REFUSED` where `dst` is shorter than that, or `src` isn't the UTF-8 of Latin1 text.
+#[unsafe(no_mangle)]
+pub extern "C" fn encoding_text_mem_encode_latin1(src: &[u8], dst: &mut [u8]) -> usize
+    ensures written { IsUtf8Latin1 src.now → length (chars src.now) ≤ length dst.old
+        → WritesFront dst.old dst.new result (chars src.now) }
+    ensures too_short { length dst.old < length (chars src.now) → (result ≡ usize.MAX) × (dst.new ≡ dst.old) }
+    ensures other { ¬ (IsUtf8Latin1 src.now) → (result ≡ usize.MAX) × (dst.new ≡ dst.old) }
+{
+    if !mem::is_utf8_latin1(src) || dst.len() < mem::latin1_length_from_utf8(src) {
+        return REFUSED;
+    }
+    mem::convert_utf8_to_latin1(src, dst)
 }

@@ -25,7 +25,7 @@ pub use copies::{copy_ascii_to_ascii, copy_ascii_to_basic_latin, copy_basic_lati
 pub use from_utf16::{convert_utf16_to_utf8, convert_utf16_to_utf8_partial};
 pub use latin1::{
     convert_latin1_to_utf8, convert_latin1_to_utf8_partial, convert_latin1_to_utf16,
-    convert_utf8_to_latin1_lossy, convert_utf16_to_latin1_lossy,
+    convert_utf8_to_latin1, convert_utf8_to_latin1_lossy, convert_utf16_to_latin1_lossy,
 };
 pub use lengths::{
     latin1_length_from_utf8, utf8_length_from_latin1, utf8_length_from_utf16,

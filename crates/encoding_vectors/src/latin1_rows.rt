@@ -2,8 +2,9 @@
 
 use encoding_text::mem::{
     convert_latin1_to_utf8, convert_latin1_to_utf8_partial, convert_latin1_to_utf16,
-    convert_utf8_to_latin1_lossy, convert_utf16_to_latin1_lossy, is_str_latin1, is_utf8_latin1,
-    is_utf16_latin1, str_latin1_up_to, utf8_latin1_up_to,
+    convert_utf8_to_latin1, convert_utf8_to_latin1_lossy, convert_utf16_to_latin1_lossy,
+    is_str_latin1, is_utf8_latin1, is_utf16_latin1, latin1_length_from_utf8, str_latin1_up_to,
+    utf8_latin1_up_to,
 };
 use std::alloc::Global;
 use std::test::Fail;
@@ -120,6 +121,16 @@ fn converts_each_byte_back(rt: HostRuntime) {
     let mut back = [0x71u8; 384];
     let written = convert_utf8_to_latin1_lossy(&utf8, &mut back);
     assert!(rt; written == 256 && are_written(&latin1(), &back, written));
+}
+
+/// Into a destination that ends with the text.
+#[test]
+fn converts_each_byte_back_into_its_room(rt: HostRuntime) {
+    let utf8 = latin1_in_utf8();
+    assert!(rt; is_utf8_latin1(&utf8) && latin1_length_from_utf8(&utf8) <= 256);
+    let mut back = [0x71u8; 256];
+    let written = convert_utf8_to_latin1(&utf8, &mut back);
+    assert!(rt; written == 256 && back == latin1());
 }
 
 /// Returns the text whose characters are the units.

@@ -103,9 +103,9 @@ fn whole_length(last: u8) -> usize
 }
 
 /// Writes the scalar value of each character of Latin1 text in UTF-8 as a byte, and returns how many bytes it wrote.
-/// `dst` is no shorter than `src`. Behind what is written `dst` is as before.
-pub fn convert_utf8_to_latin1_lossy(src: &[u8], dst: &mut [u8]) -> usize
-    requires room { length src.now ≤ length dst.old }
+/// `dst` holds that many, which `latin1_length_from_utf8` counts. Behind what is written `dst` is as before.
+pub fn convert_utf8_to_latin1(src: &[u8], dst: &mut [u8]) -> usize
+    requires room { length (chars src.now) ≤ length dst.old }
     requires latin1 { IsUtf8Latin1 src.now }
     ensures written { WritesFront dst.old dst.new result (chars src.now) }
 {
@@ -135,6 +135,16 @@ pub fn convert_utf8_to_latin1_lossy(src: &[u8], dst: &mut [u8]) -> usize
         written += 1;
     }
     written
+}
+
+/// Writes the scalar value of each character of Latin1 text in UTF-8 as a byte, and returns how many bytes it wrote.
+/// `dst` is no shorter than `src`. Behind what is written `dst` is as before.
+pub fn convert_utf8_to_latin1_lossy(src: &[u8], dst: &mut [u8]) -> usize
+    requires room { length src.now ≤ length dst.old }
+    requires latin1 { IsUtf8Latin1 src.now }
+    ensures written { WritesFront dst.old dst.new result (chars src.now) }
+{
+    convert_utf8_to_latin1(src, dst)
 }
 
 /// Writes the low eight bits of each UTF-16 code unit as a byte. `dst` is no shorter than `src`. Behind what is written
