@@ -145,6 +145,10 @@ static void latin1_conversions(void)
 {
     const uint8_t latin1[] = {0x61, 0xFF};
     const uint8_t text[] = {0x61, 0xC3, 0xA4};
+    /* eight times U+00FF, a, U+0080, nine times U+00FF */
+    const uint8_t long_text[] = {0xC3, 0xBF, 0xC3, 0xBF, 0xC3, 0xBF, 0xC3, 0xBF, 0xC3, 0xBF, 0xC3, 0xBF, 0xC3,
+                                 0xBF, 0xC3, 0xBF, 0x61, 0xC2, 0x80, 0xC3, 0xBF, 0xC3, 0xBF, 0xC3, 0xBF, 0xC3,
+                                 0xBF, 0xC3, 0xBF, 0xC3, 0xBF, 0xC3, 0xBF, 0xC3, 0xBF, 0xC3, 0xBF};
     const uint8_t beyond[] = {0xC4, 0x80};
     const uint8_t broken[] = {0x61, 0xC3};
     const uint16_t units[] = {0x0100, 0x01E4};
@@ -163,6 +167,17 @@ static void latin1_conversions(void)
     CHECK(encoding_text_mem_decode_latin1(ALL(latin1), fresh_bytes(), 2) == ENCODING_TEXT_REFUSED
           && no_bytes_written());
     CHECK(encoding_text_mem_decode_latin1(ALL(latin1), fresh_bytes(), 3) == 3 && bytes_are(BYTES("a\xC3\xBF")));
+    CHECK(encoding_text_mem_encode_latin1(ALL(text), fresh_bytes(), 1) == ENCODING_TEXT_REFUSED
+          && no_bytes_written());
+    CHECK(encoding_text_mem_encode_latin1(ALL(text), fresh_bytes(), 2) == 2 && bytes_are(BYTES("a\xE4")));
+    CHECK(encoding_text_mem_encode_latin1(ALL(long_text), fresh_bytes(), 18) == ENCODING_TEXT_REFUSED
+          && no_bytes_written());
+    CHECK(encoding_text_mem_encode_latin1(ALL(long_text), fresh_bytes(), 19) == 19
+          && bytes_are(BYTES("\xFF\xFF\xFF\xFF\xFF\xFF\xFF\xFF" "a\x80\xFF\xFF\xFF\xFF\xFF\xFF\xFF\xFF\xFF")));
+    CHECK(encoding_text_mem_encode_latin1(ALL(beyond), fresh_bytes(), 9) == ENCODING_TEXT_REFUSED
+          && no_bytes_written());
+    CHECK(encoding_text_mem_encode_latin1(ALL(broken), fresh_bytes(), 9) == ENCODING_TEXT_REFUSED
+          && no_bytes_written());
     CHECK(encoding_text_mem_convert_utf8_to_latin1_lossy(ALL(text), fresh_bytes(), 2) == ENCODING_TEXT_REFUSED
           && no_bytes_written());
     CHECK(encoding_text_mem_convert_utf8_to_latin1_lossy(ALL(beyond), fresh_bytes(), 9) == ENCODING_TEXT_REFUSED
@@ -371,6 +386,9 @@ int main(void)
     encoder_lengths();
     encoder_calls_from_utf16();
     encoder_calls_from_text();
+    runs_to_the_end();
+    runs_that_go_on();
+    runs_from_utf16();
     buffers_of_no_elements(NULL, NULL, NULL, NULL);
     buffers_of_no_elements(byte_memory, unit_memory, byte_memory, unit_memory);
 #ifdef __cplusplus

@@ -149,6 +149,13 @@ static bool encoded_is(encoding_text_encoded encoded, size_t read, size_t writte
     return encoded.read == read && encoded.written == written && encoded.result == result;
 }
 
+static bool outcome_is(encoding_text_outcome outcome, size_t read, size_t written, size_t reports, uint8_t result,
+                       uint8_t malformed)
+{
+    return outcome.read == read && outcome.written == written && outcome.reports == reports && outcome.result == result
+        && outcome.malformed == malformed;
+}
+
 static bool broken_is(encoding_text_broken_part part, size_t place, size_t length)
 {
     return part.place == place && part.length == length;

@@ -5,7 +5,7 @@
 #ifndef EMPTY_H
 #define EMPTY_H
 
-#include "streaming.h"
+#include "runs.h"
 
 static void checks_of_no_elements(const uint8_t *bytes, const uint16_t *units)
 {
@@ -45,6 +45,7 @@ static void sources_of_no_elements(const uint8_t *bytes, const uint16_t *units, 
     CHECK(counts_are(encoding_text_mem_convert_latin1_to_utf8_partial(bytes, 0, to_bytes, room), 0, 0));
     CHECK(encoding_text_mem_convert_latin1_to_utf8(bytes, 0, to_bytes, room) == 0);
     CHECK(encoding_text_mem_decode_latin1(bytes, 0, to_bytes, room) == 0);
+    CHECK(encoding_text_mem_encode_latin1(bytes, 0, to_bytes, room) == 0);
     CHECK(encoding_text_mem_convert_utf8_to_latin1_lossy(bytes, 0, to_bytes, room) == 0);
     CHECK(encoding_text_mem_convert_utf16_to_latin1_lossy(units, 0, to_bytes, room) == 0);
     CHECK(encoding_text_mem_convert_utf8_to_utf16(bytes, 0, to_units, room) == (room == 0 ? ENCODING_TEXT_REFUSED : 0));
@@ -76,6 +77,8 @@ static void destinations_of_no_elements(uint8_t *to_bytes, uint16_t *to_units)
     CHECK(encoding_text_mem_convert_latin1_to_utf16(ALL(bytes), to_units, 0) == ENCODING_TEXT_REFUSED);
     CHECK(counts_are(encoding_text_mem_convert_latin1_to_utf8_partial(ALL(bytes), to_bytes, 0), 0, 0));
     CHECK(encoding_text_mem_convert_latin1_to_utf8(ALL(bytes), to_bytes, 0) == ENCODING_TEXT_REFUSED);
+    CHECK(encoding_text_mem_decode_latin1(ALL(bytes), to_bytes, 0) == ENCODING_TEXT_REFUSED);
+    CHECK(encoding_text_mem_encode_latin1(ALL(bytes), to_bytes, 0) == ENCODING_TEXT_REFUSED);
     CHECK(encoding_text_mem_convert_utf8_to_latin1_lossy(ALL(bytes), to_bytes, 0) == ENCODING_TEXT_REFUSED);
     CHECK(encoding_text_mem_convert_utf16_to_latin1_lossy(ALL(units), to_bytes, 0) == ENCODING_TEXT_REFUSED);
     CHECK(encoding_text_mem_convert_utf8_to_utf16(ALL(bytes), to_units, 0) == ENCODING_TEXT_REFUSED);
@@ -155,6 +158,33 @@ static void encoder_calls_of_no_elements(const uint8_t *bytes, const uint16_t *u
     CHECK(bytes_are(BYTES("\xEF\xBF\xBD")) && is_new_encoder(encoder));
 }
 
+static void runs_of_no_elements(const uint8_t *bytes, const uint16_t *units, uint8_t *to_bytes, uint16_t *to_units)
+{
+    const encoding_text_turn turn[] = {{9, 9, true}};
+    encoding_text_utf8_decoder decoder = decoder_with(0xE2, 0x98, 0, 2);
+    encoding_text_utf8_encoder encoder = encoder_with(0xD83D);
+
+    CHECK(outcome_is(encoding_text_run_to_utf16(&decoder, bytes, 0, NULL, 0, to_units, 0, NULL, 0), 0, 0, 0,
+                     ENCODING_TEXT_NO_CALL, 0));
+    CHECK(outcome_is(encoding_text_run_to_utf8(&decoder, bytes, 0, NULL, 0, to_bytes, 0, NULL, 0), 0, 0, 0,
+                     ENCODING_TEXT_NO_CALL, 0));
+    CHECK(outcome_is(encoding_text_run_to_utf16(&decoder, bytes, 0, turn, 1, to_units, 0, NULL, 0), 0, 0, 0,
+                     ENCODING_TEXT_REFUSED_ANSWER, 0));
+    CHECK(outcome_is(encoding_text_run_to_utf8(&decoder, bytes, 0, turn, 1, to_bytes, 0, NULL, 0), 0, 0, 0,
+                     ENCODING_TEXT_REFUSED_ANSWER, 0));
+    CHECK(pending_are(&decoder, BYTES("\xE2\x98")));
+    CHECK(outcome_is(encoding_text_run_to_utf16(&decoder, bytes, 0, turn, 1, to_units, 0, fresh_reports(), 1), 0, 0, 1,
+                     ENCODING_TEXT_MALFORMED, 2));
+    CHECK(reports_are(1, 0, 2) && pending_are(&decoder, "", 0));
+    CHECK(outcome_is(encoding_text_run_to_utf8(&decoder, bytes, 0, turn, 1, to_bytes, 0, fresh_reports(), 1), 0, 0, 0,
+                     ENCODING_TEXT_INPUT_EMPTY, 0));
+    CHECK(encoded_is(encoding_text_run_from_utf16(&encoder, units, 0, NULL, 0, to_bytes, 0), 0, 0,
+                     ENCODING_TEXT_NO_CALL));
+    CHECK(encoded_is(encoding_text_run_from_utf16(&encoder, units, 0, turn, 1, to_bytes, 0), 0, 0,
+                     ENCODING_TEXT_OUTPUT_FULL));
+    CHECK(reports_are(0) && encoder.held == 0xD83D);
+}
+
 static void buffers_of_no_elements(const uint8_t *bytes, const uint16_t *units, uint8_t *to_bytes, uint16_t *to_units)
 {
     checks_of_no_elements(bytes, units);
@@ -165,6 +195,7 @@ static void buffers_of_no_elements(const uint8_t *bytes, const uint16_t *units, 
     texts_of_no_elements(bytes, to_bytes);
     decoder_calls_of_no_elements(bytes, to_bytes, to_units);
     encoder_calls_of_no_elements(bytes, units, to_bytes);
+    runs_of_no_elements(bytes, units, to_bytes, to_units);
 }
 
 #endif

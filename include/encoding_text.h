@@ -8,7 +8,8 @@
  *   UTF-16 code units for uint16_t;
  * - a pointer that a length belongs to may be NULL where that length is 0 (a std::vector without elements may hand that
  *   over); no other pointer is NULL;
- * - a pointer is aligned as its type asks, and a destination, a decoder and an encoder overlap no other argument;
+ * - a pointer is aligned as its type asks, and a destination, also of reports, a decoder and an encoder overlap no other
+ *   argument;
  * - behind what is reported as written a destination is as before, save in the `_str` functions, which say what they clear;
  * - no memory is taken, and nothing is kept but what a decoder or an encoder holds in the caller's storage;
  * - a condition that isn't met is told by a result that no other call has: nothing is read or written then; but in the
@@ -19,9 +20,9 @@
  * `make CPU=x86-64-v3` and the like, or where the C library isn't glibc, it holds one build, and the variable does
  * nothing. On a processor that runs no build that it holds, it ends the program by an illegal instruction.
  *
- * What C doesn't have of the library in Rattle: `decode_latin1` and `encode_latin1_lossy`, which may take memory; the
- * constants `UTF8_DATA` and `ASCII_MASK`; the runs over pieces and rooms (`run_to_utf16`, `run_to_utf8`,
- * `run_from_utf16`); the repair of a reader into a writer (`repair`, `Watch`); and the laws, which are theorems.
+ * What C doesn't have of the library in Rattle: `decode_latin1` and `encode_latin1_lossy`, which may take memory (the
+ * functions of these names write into the caller's room); the constants `UTF8_DATA` and `ASCII_MASK`; the repair of a
+ * reader into a writer (`repair`, `Watch`); and the laws, which are theorems.
  *
  * "Well-formed" is well-formed UTF-8 (Unicode Standard, section 3.9, Table 3-7). A "broken part" is what the UTF-8
  * decoder of the Encoding Standard reports as one error. A "lone surrogate" is a surrogate that is in no pair.
@@ -181,6 +182,11 @@ size_t encoding_text_mem_decode_latin1(const uint8_t *src, size_t src_length, ui
 size_t encoding_text_mem_convert_utf8_to_latin1_lossy(const uint8_t *src, size_t src_length, uint8_t *dst,
                                                       size_t dst_length);
 
+/** Writes each character of Latin1 text in UTF-8 as a byte into a room that may hold just these.
+ * @return how many; ENCODING_TEXT_REFUSED where src isn't the UTF-8 of scalar values up to U+00FF, or dst_length <
+ * encoding_text_mem_latin1_length_from_utf8(src, src_length) */
+size_t encoding_text_mem_encode_latin1(const uint8_t *src, size_t src_length, uint8_t *dst, size_t dst_length);
+
 /** Writes the low eight bits of each code unit.
  * @return how many; ENCODING_TEXT_REFUSED where dst_length < src_length */
 size_t encoding_text_mem_convert_utf16_to_latin1_lossy(const uint16_t *src, size_t src_length, uint8_t *dst,
@@ -237,7 +243,7 @@ size_t encoding_text_mem_utf8_length_from_utf16(const uint16_t *src, size_t src_
  * @return how many bytes the UTF-8 of Latin1 has */
 size_t encoding_text_mem_utf8_length_from_latin1(const uint8_t *src, size_t src_length);
 
-/** @return how many bytes encoding_text_mem_convert_utf8_to_latin1_lossy writes of src, one for each character;
+/** @return how many bytes encoding_text_mem_encode_latin1 writes of src, one for each character;
  * ENCODING_TEXT_REFUSED where src isn't the UTF-8 of scalar values up to U+00FF */
 size_t encoding_text_mem_latin1_length_from_utf8(const uint8_t *src, size_t src_length);
 
@@ -389,6 +395,62 @@ encoding_text_encoded encoding_text_utf8_encoder_encode_from_utf16(encoding_text
 encoding_text_encoded encoding_text_utf8_encoder_encode_from_utf8(encoding_text_utf8_encoder *encoder,
                                                                   const uint8_t *src, size_t src_length, uint8_t *dst,
                                                                   size_t dst_length, bool last);
+
+/* ---- Runs: a source in pieces of any length, into rooms of any length --------------------------------------------- */
+
+#define ENCODING_TEXT_NO_CALL 3 /**< what a run without turns has in `result` */
+
+/** One call of a run. */
+typedef struct {
+    size_t take; /**< its piece is the next so many unread elements, or all that are left if fewer */
+    size_t room; /**< its room, or the rest of the destination if that is less */
+    bool last;   /**< whether it is marked last where its piece reaches the end of the source */
+} encoding_text_turn;
+
+/** A broken part that a run reports. */
+typedef struct {
+    size_t place;   /**< how many elements the run wrote before it */
+    uint8_t length; /**< how many bytes it has, 1 to 3 */
+} encoding_text_report;
+
+/** What a run of a decoder returns: `result` is what its last call returned, ENCODING_TEXT_NO_CALL without turns, and
+ * ENCODING_TEXT_REFUSED_ANSWER where reports_length < turns_length. */
+typedef struct {
+    size_t read;       /**< bytes of the source */
+    size_t written;    /**< elements of the destination */
+    size_t reports;    /**< how many broken parts were reported */
+    uint8_t result;    /**< what ended the last call */
+    uint8_t malformed; /**< bytes of the broken part that did */
+} encoding_text_outcome;
+
+/** Decodes src by one call for each turn, whatever they return. A call gets the next unread bytes and the rest of dst, or
+ * as much of both as its turn says. The characters are written to dst and each broken part to the next place of reports,
+ * which has a place for each turn; behind those it is as before. What the turns cut doesn't matter: written and reported
+ * are the first characters and broken parts of what was pending and of src.
+ *
+ * 2 * src_length + 2 turns come to the end of src, where each takes at least one byte, has room for two code units (four
+ * bytes) and is to be marked last, and dst_length is what encoding_text_utf8_decoder_max_utf16_buffer_length
+ * (encoding_text_utf8_decoder_max_utf8_buffer_length_without_replacement) returns.
+ * @return how far the calls came, and what ended the last of them */
+encoding_text_outcome encoding_text_run_to_utf16(encoding_text_utf8_decoder *decoder, const uint8_t *src,
+                                                 size_t src_length, const encoding_text_turn *turns,
+                                                 size_t turns_length, uint16_t *dst, size_t dst_length,
+                                                 encoding_text_report *reports, size_t reports_length);
+encoding_text_outcome encoding_text_run_to_utf8(encoding_text_utf8_decoder *decoder, const uint8_t *src,
+                                                size_t src_length, const encoding_text_turn *turns,
+                                                size_t turns_length, uint8_t *dst, size_t dst_length,
+                                                encoding_text_report *reports, size_t reports_length);
+
+/** Encodes src by one call for each turn, whatever they return; a piece is counted in code units. Written is the UTF-8 of
+ * the first characters of what was held and of src, wherever the turns cut them, with U+FFFD for each lone surrogate.
+ *
+ * 2 * src_length + 2 turns come to the end of src, where each takes at least one code unit, has room for four bytes and
+ * is to be marked last, and dst_length is what
+ * encoding_text_utf8_encoder_max_buffer_length_from_utf16_without_replacement returns.
+ * @return how far the calls came, and what ended the last of them: ENCODING_TEXT_NO_CALL without turns */
+encoding_text_encoded encoding_text_run_from_utf16(encoding_text_utf8_encoder *encoder, const uint16_t *src,
+                                                   size_t src_length, const encoding_text_turn *turns,
+                                                   size_t turns_length, uint8_t *dst, size_t dst_length);
 
 /* ---- Broken parts ------------------------------------------------------------------------------------------------- */
 

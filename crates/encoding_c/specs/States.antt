@@ -26,9 +26,13 @@ pub record Holds (state : EncodingUtf8Encoder) (held : List ℕ) : Type 0 where
   pub high : IsHighSurrogate state.held → held ≡ state.held ∷ []
   pub other : ¬ (IsHighSurrogate state.held) → held ≡ []
 
+-- the last one of the units, if there is one, and else the one from before
+abbrev pub IsLastOf : List ℕ → ℕ → ℕ → Type 0
+IsLastOf src before unit = (0 < length src → unit ≡ slice_index src (length src - 1)) × (length src ≡ 0 → unit ≡ before)
+
 -- the unit to keep if one is held: after InputEmpty the last one of the source, if there is one, and else the one from before
 abbrev pub IsKept : EncoderResult → List ℕ → ℕ → ℕ → Type 0
-IsKept encoder.InputEmpty src before unit = (0 < length src → unit ≡ slice_index src (length src - 1)) × (length src ≡ 0 → unit ≡ before)
+IsKept encoder.InputEmpty src before unit = IsLastOf src before unit
 IsKept encoder.OutputFull src before unit = unit ≡ before
 
 -- xs end with q

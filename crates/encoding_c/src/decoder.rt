@@ -130,16 +130,23 @@ pub(crate) fn stored(decoder: &Utf8Decoder, pending: &[u8], read: &[u8]) -> Enco
     }
 }
 
+/// What ended a call in two numbers.
+pub(crate) fn numbers(ended: &DecoderResult) -> (u8, u8)
+    ensures { IsTold ended.now result.0 result.1 }
+{
+    match *ended {
+        DecoderResult::InputEmpty => (0, 0),
+        DecoderResult::OutputFull => (1, 0),
+        DecoderResult::Malformed(count, _) => (2, count),
+    }
+}
+
 /// What the call returns in numbers.
 fn decoded(ended: DecoderResult, read: usize, written: usize) -> EncodingDecoded
     ensures told { IsTold ended result.result result.malformed }
     ensures counts { (result.read ≡ read) × (result.written ≡ written) }
 {
-    let (result, malformed) = match ended {
-        DecoderResult::InputEmpty => (0, 0),
-        DecoderResult::OutputFull => (1, 0),
-        DecoderResult::Malformed(count, _) => (2, count),
-    };
+    let (result, malformed) = numbers(&ended);
     EncodingDecoded {
         read,
         written,

@@ -4,7 +4,7 @@ ghost use Rattle.std.specs.Prelude.{◌≡◌, ℕ, ◌+◌, ◌*◌, ◌<◌, �
 ghost use Rattle.encoding_definitions.specs.Fronts.{WritesFront};
 ghost use Rattle.encoding_definitions.specs.Utf16.{IsHighSurrogate};
 ghost use Rattle.encoding_text.specs.Encoding.{IsHeld, IsEncoderCall, IsEncoderTextCall};
-ghost use Rattle.encoding_c.specs.States.{Holds, IsKept, IsToldEncoded, EncoderCall};
+ghost use Rattle.encoding_c.specs.States.{Holds, IsLastOf, IsKept, IsToldEncoded, EncoderCall};
 
 use crate::door::{REFUSED_ANSWER, as_text};
 use encoding_text::utf_8::{EncoderResult, Utf8Encoder};
@@ -34,7 +34,7 @@ fn is_high_surrogate(unit: u16) -> bool
 }
 
 /// The encoder that the storage stands for.
-fn restored(state: EncodingUtf8Encoder) -> Utf8Encoder
+pub(crate) fn restored(state: EncodingUtf8Encoder) -> Utf8Encoder
     ensures holds { Holds state result }
     ensures unit { 0 < length result → result ≡ state.held ∷ [] }
 {
@@ -57,12 +57,23 @@ fn is_holding(encoder: &Utf8Encoder) -> bool
 }
 
 /// The storage of an encoder that holds this unit, if it holds one.
-fn stored(encoder: &Utf8Encoder, unit: u16) -> EncodingUtf8Encoder
+pub(crate) fn stored(encoder: &Utf8Encoder, unit: u16) -> EncodingUtf8Encoder
     requires { 0 < length encoder.now → encoder.now ≡ unit ∷ [] }
     ensures { Holds result encoder.now }
 {
     let held = if is_holding(encoder) { unit } else { 0 };
     EncodingUtf8Encoder { held }
+}
+
+/// The last of the code units, or the one from before where there are none.
+pub(crate) fn last_of(src: &[u16], before: u16) -> u16
+    ensures { IsLastOf src.now before result }
+{
+    if src.is_empty() {
+        before
+    } else {
+        src[src.len() - 1]
+    }
 }
 
 /// The code unit that is held after a call, if one is.
@@ -71,18 +82,12 @@ fn unit_to_keep(ended: &EncoderResult, src: &[u16], before: u16) -> u16
 {
     match ended {
         EncoderResult::OutputFull => before,
-        EncoderResult::InputEmpty => {
-            if src.is_empty() {
-                before
-            } else {
-                src[src.len() - 1]
-            }
-        }
+        EncoderResult::InputEmpty => last_of(src, before),
     }
 }
 
 /// What ended the call as a number.
-fn number(ended: &EncoderResult) -> u8
+pub(crate) fn number(ended: &EncoderResult) -> u8
     ensures { IsToldEncoded ended.now result }
 {
     match ended {

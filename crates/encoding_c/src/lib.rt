@@ -1,4 +1,4 @@
-//! The calls of `encoding_text`, the search for broken parts and the repair of a slice for C and C++, as a static library.
+//! The calls of `encoding_text`, the runs, the search for broken parts and the repair for C and C++, as a static library.
 //! `include/encoding_text.h` says each function once more in C's words.
 //!
 //! A slice is a pointer and then its length. Where the length is 0 C may hand over `NULL`: the compiler puts an address in
@@ -21,6 +21,7 @@ pub mod known_texts;
 pub mod latin1;
 pub mod lengths;
 pub mod repair;
+pub mod runs;
 pub mod surrogates;
 pub mod text_destinations;
 pub mod utf_8;

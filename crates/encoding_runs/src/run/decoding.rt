@@ -13,6 +13,7 @@ use super::turns::Turn;
 use encoding_text::decoder::{DecoderResult, Utf8Decoder};
 
 /// A broken part that a run reports.
+#[repr(C)]
 #[derive(Debug, PartialEq, Eq, Drop)]
 pub struct Report {
     /// How many code units, or bytes of UTF-8, the run wrote before it.

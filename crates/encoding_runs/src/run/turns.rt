@@ -3,6 +3,7 @@ ghost use Rattle.std.specs.Prelude.{◌≡◌, min};
 ghost use Rattle.encoding_runs.specs.Turns.{room_of, is_marked_last};
 
 /// One call of a run: how much of the unread source it is handed, and how much room it has.
+#[repr(C)]
 #[derive(Debug, PartialEq, Eq, Drop)]
 pub struct Turn {
     /// Its piece is the next so many unread bytes, or all that are left if fewer. A piece of UTF-16 is counted in

@@ -1,0 +1,150 @@
+//! Runs: a source that goes through a decoder or an encoder in pieces of any length, into rooms of any length. The decoder
+//! and the encoder lie in the caller's storage.
+
+ghost use Rattle.std.specs.Prelude.{◌≡◌, ◌+◌, ◌*◌, ◌<◌, ◌≤◌, length, encode_utf8};
+ghost use Rattle.std.specs.Char.Escape.{encode_utf16};
+ghost use Rattle.encoding_text.specs.Decoding.{utf16_room, utf8_room};
+ghost use Rattle.encoding_runs.specs.Runs.{Completes};
+ghost use Rattle.encoding_runs.specs.DecoderRuns.{Delivers};
+ghost use Rattle.encoding_runs.specs.EncoderRuns.{EncodesByTurns};
+ghost use Rattle.encoding_c.specs.Runs.{IsToldLast, IsToldLastEncoded, DecoderRun, EncoderRun};
+
+use crate::decoder::{self, EncodingUtf8Decoder, pending_count};
+use crate::door::REFUSED_ANSWER;
+use crate::encoder::{self, EncodingEncoded, EncodingUtf8Encoder};
+use encoding_runs::run::{Outcome, Report, Turn, run_from_utf16, run_to_utf8, run_to_utf16};
+use encoding_text::decoder::DecoderResult;
+use encoding_text::utf_8::EncoderResult;
+
+/// The last call's answer where there was no call.
+const NO_CALL: u8 = 3;
+
+/// What a run of a decoder did: how much it read and wrote, how many broken parts it reported, what ended its last call,
+/// and how many bytes a broken part has that did.
+#[repr(C)]
+#[derive(Clone, Copy)]
+pub struct EncodingOutcome {
+    pub read: usize,
+    pub written: usize,
+    pub reports: usize,
+    pub result: u8,
+    pub malformed: u8,
+}
+
+/// What there is to tell where a turn has no place for a report.
+const REFUSED_RUN: EncodingOutcome = EncodingOutcome {
+    read: 0,
+    written: 0,
+    reports: 0,
+    result: REFUSED_ANSWER,
+    malformed: 0,
+};
+
+/// What a decoder's run did in numbers.
+fn told(outcome: &Outcome) -> EncodingOutcome
+    ensures last { IsToldLast outcome.now.result result.result result.malformed }
+    ensures counts { (result.read ≡ outcome.now.read) × (result.written ≡ outcome.now.written)
+        × (result.reports ≡ outcome.now.reports) }
+{
+    let (result, malformed) = match &outcome.result {
+        Some(ended) => decoder::numbers(ended),
+        None => (NO_CALL, 0),
+    };
+    EncodingOutcome {
+        read: outcome.read,
+        written: outcome.written,
+        reports: outcome.reports,
+        result,
+        malformed,
+    }
+}
+
+/// What an encoder's last call returned as a number.
+fn last_number(last: &Option<EncoderResult>) -> u8
+    ensures { IsToldLastEncoded last.now result }
+{
+    match last {
+        Some(ended) => encoder::number(ended),
+        None => NO_CALL,
+    }
+}
+
+/// Decodes a source to UTF-16 by one call for each turn, whatever they return. Behind what is written `dst` and `reports`
+/// are as before. `REFUSED_ANSWER` where there are fewer places for reports than turns: then nothing is read or written.
+#[unsafe(no_mangle)]
+pub extern "C" fn encoding_text_run_to_utf16(
+    decoder: &mut EncodingUtf8Decoder,
+    src: &[u8],
+    turns: &[Turn],
+    dst: &mut [u16],
+    reports: &mut [Report],
+) -> EncodingOutcome
+    ensures run { length turns.now ≤ length reports.old → DecoderRun decoder.old decoder.new result (λ p outcome q.
+        Delivers encode_utf16 2 p src.now turns.now dst.old dst.new reports.old reports.new outcome q
+        × Completes DecoderResult.InputEmpty utf16_room 2 p src.now turns.now (length dst.old) outcome.result) }
+    ensures refused { length reports.old < length turns.now
+        → (result.result ≡ u8.MAX) × (result.malformed ≡ 0) × (result.read ≡ 0) × (result.written ≡ 0)
+        × (result.reports ≡ 0) × (decoder.new ≡ decoder.old) × (dst.new ≡ dst.old) × (reports.new ≡ reports.old) }
+{
+    if reports.len() < turns.len() {
+        return REFUSED_RUN;
+    }
+    let before = *decoder;
+    let mut inner = decoder::restored(before);
+    let held = pending_count(&inner);
+    let outcome = run_to_utf16(&mut inner, src, turns, dst, reports);
+    *decoder = decoder::stored(&inner, &before.pending[..held], &src[..outcome.read]);
+    told(&outcome)
+}
+
+/// Decodes a source to UTF-8 by one call for each turn, as `encoding_text_run_to_utf16` does to UTF-16.
+#[unsafe(no_mangle)]
+pub extern "C" fn encoding_text_run_to_utf8(
+    decoder: &mut EncodingUtf8Decoder,
+    src: &[u8],
+    turns: &[Turn],
+    dst: &mut [u8],
+    reports: &mut [Report],
+) -> EncodingOutcome
+    ensures run { length turns.now ≤ length reports.old → DecoderRun decoder.old decoder.new result (λ p outcome q.
+        Delivers encode_utf8 4 p src.now turns.now dst.old dst.new reports.old reports.new outcome q
+        × Completes DecoderResult.InputEmpty utf8_room 4 p src.now turns.now (length dst.old) outcome.result) }
+    ensures refused { length reports.old < length turns.now
+        → (result.result ≡ u8.MAX) × (result.malformed ≡ 0) × (result.read ≡ 0) × (result.written ≡ 0)
+        × (result.reports ≡ 0) × (decoder.new ≡ decoder.old) × (dst.new ≡ dst.old) × (reports.new ≡ reports.old) }
+{
+    if reports.len() < turns.len() {
+        return REFUSED_RUN;
+    }
+    let before = *decoder;
+    let mut inner = decoder::restored(before);
+    let held = pending_count(&inner);
+    let outcome = run_to_utf8(&mut inner, src, turns, dst, reports);
+    *decoder = decoder::stored(&inner, &before.pending[..held], &src[..outcome.read]);
+    told(&outcome)
+}
+
+/// Encodes a source by one call for each turn, whatever they return. Behind what is written `dst` is as before.
+#[unsafe(no_mangle)]
+pub extern "C" fn encoding_text_run_from_utf16(
+    encoder: &mut EncodingUtf8Encoder,
+    src: &[u16],
+    turns: &[Turn],
+    dst: &mut [u8],
+) -> EncodingEncoded
+    ensures { EncoderRun encoder.old encoder.new result (λ held outcome later.
+        EncodesByTurns held src.now turns.now dst.old dst.new outcome later
+        × Completes EncoderResult.InputEmpty (λ n held. 3 * (n + held)) 4 held src.now turns.now (length dst.old)
+        outcome.result) }
+{
+    let before = *encoder;
+    let mut inner = encoder::restored(before);
+    let outcome = run_from_utf16(&mut inner, src, turns, dst);
+    let unit = encoder::last_of(&src[..outcome.read], before.held);
+    *encoder = encoder::stored(&inner, unit);
+    EncodingEncoded {
+        read: outcome.read,
+        written: outcome.written,
+        result: last_number(&outcome.result),
+    }
+}
