@@ -27,7 +27,7 @@ SHARED = libencoding_text.so.$(firstword $(subst ., ,$(VERSION)))
 export CC CXX LD AR OBJCOPY SHARED
 
 ifneq ($(words $(CPU)) $(words $(filter $(CPUS),$(CPU))),1 1)
-$(error CPU=$(CPU) is none of $(CPUS))
+$(error CPU=$(CPU) is none of these: $(CPUS))
 endif
 
 LIBRARIES = encoding_definitions encoding_kernels encoding_text encoding_runs encoding_c utf8_repair
@@ -40,7 +40,11 @@ need_rt = $(call need,rt,put the toolchain's folder bin on the PATH)
 need_cc = $(call need,$(CC),install a C compiler (checks/setup does on Debian) or name yours by CC=)
 need_binutils = $(foreach tool,$(LD) $(OBJCOPY) $(AR),$(call need,$(tool),install binutils (checks/setup does on Debian)))
 
-all: $(BUILT:%=build/%) build/libencoding_text.so
+all: tools $(BUILT:%=build/%) build/libencoding_text.so
+
+# Asked for first: the proofs take long.
+tools:
+	$(need_cc)$(if $(filter both,$(CPU)),$(need_binutils))
 
 # What is in build/ itself is of one CPU, whose name stands in build/cpu.
 $(BUILT:%=build/%): build/%: build/$(CPU)/% build/cpu
@@ -106,4 +110,4 @@ FORCE:
 
 .DELETE_ON_ERROR:
 .NOTPARALLEL:
-.PHONY: all check install uninstall doc clean FORCE
+.PHONY: all tools check install uninstall doc clean FORCE
