@@ -123,8 +123,8 @@ mod tests {
                     expected.push(unit)?;
                 }
                 expected.push(0x2A)?;
-                let (mut utf8, mut units) = ([0x2A; 256], [0x2A; 128]);
-                assert!(rt; bytes.len() < 80, "{text} is longer than the destinations");
+                let (mut utf8, mut units) = ([0x2A; 384], [0x2A; 128]);
+                assert!(rt; bytes.len() < 128, "{text} is longer than the destinations");
                 let written = windows_1252_to_utf8(&bytes, &mut utf8);
                 assert!(rt;
                     utf8.starts_with(text.as_bytes())
