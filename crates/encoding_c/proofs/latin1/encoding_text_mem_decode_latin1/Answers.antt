@@ -1,4 +1,3 @@
-use Rattle.std.proofs.Common.{◌≤◌}
 use Rattle.encoding_c.proofs.Latin1Lemmas.{latin1_fits_all}
 use Rattle.encoding_c.proofs.latin1.encoding_text_mem_decode_latin1.Goals as goal
 
