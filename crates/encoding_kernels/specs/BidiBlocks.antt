@@ -1,5 +1,5 @@
 -- Right-to-left characters by their first bytes, and the places of bytes and code units where none begins.
-use Rattle.std.specs.Prelude.{◌≡◌, ℕ, ◌+◌, ◌-◌, ◌%◌, ◌^◌, ◌<◌, ◌≤◌, ◌&&◌, ◌||◌, Bool, List, ◌++◌, drop, encode_utf8, slice_index, if◌then◌else◌, nat_le, nat_lt, nat_eq}
+use Rattle.std.specs.Prelude.{◌≡◌, ℕ, ◌+◌, ◌-◌, ◌%◌, ◌^◌, ◌<◌, ◌≤◌, ◌&&◌, ◌||◌, Bool, not, List, ◌++◌, drop, encode_utf8, slice_index, if◌then◌else◌, nat_le, nat_lt, nat_eq}
 use Rattle.std.specs.Char.{IsScalar}
 use Rattle.encoding_definitions.specs.Bidi.{IsRightToLeft, IsRightToLeftUnit}
 
@@ -7,17 +7,25 @@ use Rattle.encoding_definitions.specs.Bidi.{IsRightToLeft, IsRightToLeftUnit}
 abbrev pub ends_mark : ℕ → Bool
 ends_mark d = ((nat_eq d 0x8F || nat_eq d 0xA7) || nat_eq d 0xAB) || nat_eq d 0xAE
 
--- the second byte of a right-to-left character with this first byte, and a third that ends a mark or doesn't, is below this number, which is 0 where there is none
-abbrev pub second_end : ℕ → Bool → ℕ
+-- what such a mark begins with, where it ends with this byte; 0xFF where none does
+abbrev pub mark_lead : ℕ → ℕ
+mark_lead d = if ends_mark d then 0xE2 else 0xFF
+
+-- the second byte of a right-to-left character with this first byte is below this number, which is 0 where there is none
+abbrev pub second_end : ℕ → ℕ → ℕ
 second_end a mark = (if nat_le 0xD6 a && nat_le a 0xDF then 0xFF else
     (if nat_eq a 0xE0 then 0xA4 else
-    (if nat_eq a 0xE2 && mark then 0x82 else
     (if nat_eq a 0xEF then 0xBC else
-    (if nat_eq a 0xF0 then 0x9F else 0)))))
+    (if nat_eq a 0xF0 then 0x9F else
+    (if nat_eq a mark then 0x82 else 0)))))
 
 -- by three bytes, none can stand at this place
 abbrev pub IsClear : List ℕ → ℕ → Type 0
-IsClear bs k = second_end (slice_index bs k) (ends_mark (slice_index bs (k + 2))) ≤ slice_index bs (k + 1)
+IsClear bs k = second_end (slice_index bs k) (mark_lead (slice_index bs (k + 2))) ≤ slice_index bs (k + 1)
+
+-- one may begin with this byte
+abbrev pub may_begin : ℕ → ℕ → Bool
+may_begin a mark = let high = nat_le 0xD6 a in let punctuation = nat_eq a 0xE2 in (if high then not punctuation else punctuation) || nat_eq a mark
 
 -- a right-to-left character stands at this place of the bytes
 pub record StandsRightToLeft (bs : List ℕ) (at : ℕ) : Type 0 where

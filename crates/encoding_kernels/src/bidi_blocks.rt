@@ -1,10 +1,10 @@
 //! Right-to-left characters by blocks: that none begins in a block is seen by one test of vectors.
 ghost use Rattle.std.specs.Prelude.{◌≡◌, false, ◌+◌, ◌-◌, ◌≤◌, length, slice_index};
-ghost use Rattle.encoding_kernels.specs.BidiBlocks.{second_end, ends_mark, IsClear, NoneStands, NoneRightToLeft, may_be_right_to_left};
+ghost use Rattle.encoding_kernels.specs.BidiBlocks.{second_end, mark_lead, may_begin, IsClear, NoneStands, NoneRightToLeft, may_be_right_to_left};
 ghost use Rattle.encoding_kernels.specs.Lanes.{HasLanes};
 
 use crate::places::{Places, all, reach, skip};
-use crate::strides::{BytesBelow, UnitsBelow};
+use crate::strides::UnitsBelow;
 use std::simd::Simd;
 use std::simd::prelude::*;
 
@@ -26,29 +26,69 @@ pub const FIRST_UNIT: u16 = 0x0590;
 /// The first byte of U+0580 to U+05BF. Lesser characters begin with lesser bytes.
 pub const FIRST_LEAD: u8 = 0xD6;
 
-/// Below this number is the second byte of a right-to-left character that begins with the lane, and 0 where there is none.
-/// General punctuation, which begins with 0xE2, has one for the third bytes of right-to-left marks alone.
+/// The first byte of U+2000 to U+2FFF, general punctuation among them, in which the right-to-left marks are U+200F,
+/// U+202B, U+202E and U+2067.
+const PUNCTUATION_LEAD: u8 = 0xE2;
+
+/// The first byte of a right-to-left mark that ends with the lane; 0xFF where none does.
 #[inline(always)]
-fn second_ends<const N: usize>(first: Simd<u8, N>, third: Simd<u8, N>) -> Simd<u8, N>
-    ensures { HasLanes N result (λ k. second_end (slice_index first.entry k) (ends_mark (slice_index third.entry k))) }
+fn mark_leads<const N: usize>(third: Simd<u8, N>) -> Simd<u8, N>
+    ensures { HasLanes N result (λ k. mark_lead (slice_index third.entry k)) }
 {
-    let none = Simd::splat(0);
-    let hebrew = first.simd_ge(Simd::splat(FIRST_LEAD)) & first.simd_lt(Simd::splat(0xE0));
-    let mark = third.simd_eq(Simd::splat(0x8F))
+    let ends_mark = third.simd_eq(Simd::splat(0x8F))
         | third.simd_eq(Simd::splat(0xA7))
         | third.simd_eq(Simd::splat(0xAB))
         | third.simd_eq(Simd::splat(0xAE));
+    ends_mark.select(Simd::splat(PUNCTUATION_LEAD), Simd::splat(0xFF))
+}
+
+/// Below this number is the second byte of a right-to-left character that begins with the lane; 0 where there is none.
+#[inline(always)]
+fn second_ends<const N: usize>(first: Simd<u8, N>, third: Simd<u8, N>) -> Simd<u8, N>
+    ensures { HasLanes N result (λ k. second_end (slice_index first.entry k) (mark_lead (slice_index third.entry k))) }
+{
+    let none = Simd::splat(0);
+    let hebrew = first.simd_ge(Simd::splat(FIRST_LEAD)) & first.simd_lt(Simd::splat(0xE0));
     hebrew.select(Simd::splat(0xFF), none)
         | first
             .simd_eq(Simd::splat(0xE0))
             .select(Simd::splat(0xA4), none)
-        | (first.simd_eq(Simd::splat(0xE2)) & mark).select(Simd::splat(0x82), none)
         | first
             .simd_eq(Simd::splat(0xEF))
             .select(Simd::splat(0xBC), none)
         | first
             .simd_eq(Simd::splat(0xF0))
             .select(Simd::splat(0x9F), none)
+        | first
+            .simd_eq(mark_leads(third))
+            .select(Simd::splat(0x82), none)
+}
+
+/// Places of bytes with which no right-to-left character begins: those of lesser characters and of punctuation.
+#[derive(Drop)]
+struct LowBytes<'a> {
+    bytes: &'a [u8],
+}
+
+impl<'a, const N: usize> Places<N> for LowBytes<'a> {
+    ghost count = { λ s. length s.bytes.now - 2 };
+
+    ghost passes = { λ s k. may_begin (slice_index s.bytes.now k) (mark_lead (slice_index s.bytes.now (k + 2))) ≡ false };
+
+    #[inline(always)]
+    fn len(&self) -> usize {
+        self.bytes.len().saturating_sub(2)
+    }
+
+    #[inline(always)]
+    fn failing(&self, at: usize) -> u64 {
+        let bytes = self.bytes;
+        let first = Simd::<u8, N>::from_slice(&bytes[at..]);
+        let third = Simd::<u8, N>::from_slice(&bytes[at + 2..]);
+        let high = first.simd_ge(Simd::splat(FIRST_LEAD));
+        let others = high ^ first.simd_eq(Simd::splat(PUNCTUATION_LEAD));
+        (others | first.simd_eq(mark_leads(third))).to_bitmask()
+    }
 }
 
 /// Places of bytes at which no right-to-left character can stand.
@@ -84,10 +124,7 @@ pub fn skip_clear(bytes: &[u8], from: usize) -> usize
     ensures none { NoneStands bytes.now from result }
 {
     let test = ClearBytes { bytes };
-    let low = BytesBelow {
-        bytes,
-        bound: FIRST_LEAD,
-    };
+    let low = LowBytes { bytes };
     let mut at = from;
     while bytes.len() - at >= BLOCK + 2 && all::<BLOCK, BLOCK, _>(&test, at) {
         at = skip::<BLOCK, BLOCK, _>(&low, at + BLOCK);
