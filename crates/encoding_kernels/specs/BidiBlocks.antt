@@ -7,9 +7,9 @@ use Rattle.encoding_definitions.specs.Bidi.{IsRightToLeft, IsRightToLeftUnit}
 abbrev pub ends_mark : ℕ → Bool
 ends_mark d = ((nat_eq d 0x8F || nat_eq d 0xA7) || nat_eq d 0xAB) || nat_eq d 0xAE
 
--- what such a mark begins with, where it ends with this byte; 0xFF where none does
+-- what such a mark begins with, where it ends with this byte; else 0xF0, with which others begin in any case
 abbrev pub mark_lead : ℕ → ℕ
-mark_lead d = if ends_mark d then 0xE2 else 0xFF
+mark_lead d = if ends_mark d then 0xE2 else 0xF0
 
 -- the second byte of a right-to-left character with this first byte is below this number, which is 0 where there is none
 abbrev pub second_end : ℕ → ℕ → ℕ

@@ -30,7 +30,7 @@ pub const FIRST_LEAD: u8 = 0xD6;
 /// U+202B, U+202E and U+2067.
 const PUNCTUATION_LEAD: u8 = 0xE2;
 
-/// The first byte of a right-to-left mark that ends with the lane; 0xFF where none does.
+/// The first byte of a right-to-left mark that ends with the lane; else 0xF0, with which others begin in any case.
 #[inline(always)]
 fn mark_leads<const N: usize>(third: Simd<u8, N>) -> Simd<u8, N>
     ensures { HasLanes N result (λ k. mark_lead (slice_index third.entry k)) }
@@ -39,7 +39,7 @@ fn mark_leads<const N: usize>(third: Simd<u8, N>) -> Simd<u8, N>
         | third.simd_eq(Simd::splat(0xA7))
         | third.simd_eq(Simd::splat(0xAB))
         | third.simd_eq(Simd::splat(0xAE));
-    ends_mark.select(Simd::splat(PUNCTUATION_LEAD), Simd::splat(0xFF))
+    ends_mark.select(Simd::splat(PUNCTUATION_LEAD), Simd::splat(0xF0))
 }
 
 /// Below this number is the second byte of a right-to-left character that begins with the lane; 0 where there is none.

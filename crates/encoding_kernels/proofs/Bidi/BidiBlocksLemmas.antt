@@ -85,19 +85,19 @@ second_below bs at s =
 abbrev pub ends_lane : ℕ → ℕ → ℕ
 ends_lane a mark = bit_or (bit_or (bit_or (bit_or (cond (leb 0xD6 a && ltb a 0xE0) 0xFF 0) (cond (eqb a 0xE0) 0xA4 0)) (cond (eqb a 0xEF) 0xBC 0)) (cond (eqb a 0xF0) 0x9F 0)) (cond (eqb a mark) 0x82 0)
 
-chosen_either : (P : ℕ → Type 0) → P 0xE2 → P 0xFF → (ends : Bool) → P (cond ends 0xE2 0xFF)
+chosen_either : (P : ℕ → Type 0) → P 0xE2 → P 0xF0 → (ends : Bool) → P (cond ends 0xE2 0xF0)
 chosen_either P p q true = p
 chosen_either P p q false = q
 
 -- for both numbers that `mark_lead` has
-for_both : (P : ℕ → Type 0) → P 0xE2 → P 0xFF → (d : ℕ) → P (mark_lead d)
+pub for_both : (P : ℕ → Type 0) → P 0xE2 → P 0xF0 → (d : ℕ) → P (mark_lead d)
 for_both P p q d = chosen_either P p q (ends_mark d)
 
 pub ends_are : (a d : ℕ) → a < 256 → ends_lane a (mark_lead d) ≡ second_end a (mark_lead d)
 ends_are a d l =
     let same = λ (mark : ℕ). λ (x : ℕ). eqb (ends_lane x mark) (second_end x mark) in
     for_both (λ mark. ends_lane a mark ≡ second_end a mark)
-    (eqb-true _ _ (agree_below_at (same 0xE2) (λ x. true) 256 a refl l)) (eqb-true _ _ (agree_below_at (same 0xFF) (λ x. true) 256 a refl l)) d
+    (eqb-true _ _ (agree_below_at (same 0xE2) (λ x. true) 256 a refl l)) (eqb-true _ _ (agree_below_at (same 0xF0) (λ x. true) 256 a refl l)) d
 
 -- where no second byte is below the number of the first
 pub none_clear : (bs : List ℕ) (from to : ℕ) → PassBetween (IsClear bs) from to → NoneStands bs from to
