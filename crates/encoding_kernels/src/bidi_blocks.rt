@@ -127,7 +127,12 @@ pub fn skip_clear(bytes: &[u8], from: usize) -> usize
     let low = LowBytes { bytes };
     let mut at = from;
     while bytes.len() - at >= BLOCK + 2 && all::<BLOCK, BLOCK, _>(&test, at) {
-        at = skip::<BLOCK, BLOCK, _>(&low, at + BLOCK);
+        // of the same bytes, whose vectors are at hand
+        let is_low = all::<BLOCK, BLOCK, _>(&low, at);
+        at += BLOCK;
+        if is_low {
+            at = skip::<BLOCK, BLOCK, _>(&low, at);
+        }
     }
     if bytes.len() - at < 2 {
         return at;
