@@ -1,10 +1,10 @@
 //! Right-to-left characters by blocks: that none begins in a block is seen by one test of vectors.
 ghost use Rattle.std.specs.Prelude.{◌≡◌, false, ◌+◌, ◌-◌, ◌≤◌, length, slice_index};
-ghost use Rattle.encoding_kernels.specs.BidiBlocks.{second_end, NoneStands, NoneRightToLeft, may_be_right_to_left};
+ghost use Rattle.encoding_kernels.specs.BidiBlocks.{second_end, mark_lead, may_begin, IsClear, NoneStands, NoneRightToLeft, may_be_right_to_left};
 ghost use Rattle.encoding_kernels.specs.Lanes.{HasLanes};
 
 use crate::places::{Places, all, reach, skip};
-use crate::strides::{BytesBelow, UnitsBelow};
+use crate::strides::UnitsBelow;
 use std::simd::Simd;
 use std::simd::prelude::*;
 
@@ -26,10 +26,26 @@ pub const FIRST_UNIT: u16 = 0x0590;
 /// The first byte of U+0580 to U+05BF. Lesser characters begin with lesser bytes.
 pub const FIRST_LEAD: u8 = 0xD6;
 
+/// The first byte of U+2000 to U+2FFF, general punctuation among them, in which the right-to-left marks are U+200F,
+/// U+202B, U+202E and U+2067.
+const PUNCTUATION_LEAD: u8 = 0xE2;
+
+/// The first byte of a right-to-left mark that ends with the lane; else 0xF0, with which others begin in any case.
+#[inline(always)]
+fn mark_leads<const N: usize>(third: Simd<u8, N>) -> Simd<u8, N>
+    ensures { HasLanes N result (λ k. mark_lead (slice_index third.entry k)) }
+{
+    let ends_mark = third.simd_eq(Simd::splat(0x8F))
+        | third.simd_eq(Simd::splat(0xA7))
+        | third.simd_eq(Simd::splat(0xAB))
+        | third.simd_eq(Simd::splat(0xAE));
+    ends_mark.select(Simd::splat(PUNCTUATION_LEAD), Simd::splat(0xF0))
+}
+
 /// Below this number is the second byte of a right-to-left character that begins with the lane; 0 where there is none.
 #[inline(always)]
-fn second_ends<const N: usize>(first: Simd<u8, N>) -> Simd<u8, N>
-    ensures { HasLanes N result (λ k. second_end (slice_index first.entry k)) }
+fn second_ends<const N: usize>(first: Simd<u8, N>, third: Simd<u8, N>) -> Simd<u8, N>
+    ensures { HasLanes N result (λ k. second_end (slice_index first.entry k) (mark_lead (slice_index third.entry k))) }
 {
     let none = Simd::splat(0);
     let hebrew = first.simd_ge(Simd::splat(FIRST_LEAD)) & first.simd_lt(Simd::splat(0xE0));
@@ -38,14 +54,41 @@ fn second_ends<const N: usize>(first: Simd<u8, N>) -> Simd<u8, N>
             .simd_eq(Simd::splat(0xE0))
             .select(Simd::splat(0xA4), none)
         | first
-            .simd_eq(Simd::splat(0xE2))
-            .select(Simd::splat(0x82), none)
-        | first
             .simd_eq(Simd::splat(0xEF))
             .select(Simd::splat(0xBC), none)
         | first
             .simd_eq(Simd::splat(0xF0))
             .select(Simd::splat(0x9F), none)
+        | first
+            .simd_eq(mark_leads(third))
+            .select(Simd::splat(0x82), none)
+}
+
+/// Places of bytes with which no right-to-left character begins: those of lesser characters and of punctuation.
+#[derive(Drop)]
+struct LowBytes<'a> {
+    bytes: &'a [u8],
+}
+
+impl<'a, const N: usize> Places<N> for LowBytes<'a> {
+    ghost count = { λ s. length s.bytes.now - 2 };
+
+    ghost passes = { λ s k. may_begin (slice_index s.bytes.now k) (mark_lead (slice_index s.bytes.now (k + 2))) ≡ false };
+
+    #[inline(always)]
+    fn len(&self) -> usize {
+        self.bytes.len().saturating_sub(2)
+    }
+
+    #[inline(always)]
+    fn failing(&self, at: usize) -> u64 {
+        let bytes = self.bytes;
+        let first = Simd::<u8, N>::from_slice(&bytes[at..]);
+        let third = Simd::<u8, N>::from_slice(&bytes[at + 2..]);
+        let high = first.simd_ge(Simd::splat(FIRST_LEAD));
+        let others = high ^ first.simd_eq(Simd::splat(PUNCTUATION_LEAD));
+        (others | first.simd_eq(mark_leads(third))).to_bitmask()
+    }
 }
 
 /// Places of bytes at which no right-to-left character can stand.
@@ -55,21 +98,22 @@ struct ClearBytes<'a> {
 }
 
 impl<'a, const N: usize> Places<N> for ClearBytes<'a> {
-    ghost count = { λ s. length s.bytes.now - 1 };
+    ghost count = { λ s. length s.bytes.now - 2 };
 
-    ghost passes = { λ s k. second_end (slice_index s.bytes.now k) ≤ slice_index s.bytes.now (k + 1) };
+    ghost passes = { λ s k. IsClear s.bytes.now k };
 
     #[inline(always)]
     fn len(&self) -> usize {
-        self.bytes.len().saturating_sub(1)
+        self.bytes.len().saturating_sub(2)
     }
 
     #[inline(always)]
     fn failing(&self, at: usize) -> u64 {
         let bytes = self.bytes;
-        let ends = second_ends(Simd::<u8, N>::from_slice(&bytes[at..]));
-        let below = Simd::<u8, N>::from_slice(&bytes[at + 1..]).simd_lt(ends);
-        below.to_bitmask()
+        let first = Simd::<u8, N>::from_slice(&bytes[at..]);
+        let second = Simd::<u8, N>::from_slice(&bytes[at + 1..]);
+        let third = Simd::<u8, N>::from_slice(&bytes[at + 2..]);
+        second.simd_lt(second_ends(first, third)).to_bitmask()
     }
 }
 
@@ -80,23 +124,23 @@ pub fn skip_clear(bytes: &[u8], from: usize) -> usize
     ensures none { NoneStands bytes.now from result }
 {
     let test = ClearBytes { bytes };
-    let low = BytesBelow {
-        bytes,
-        bound: FIRST_LEAD,
-    };
+    let low = LowBytes { bytes };
     let mut at = from;
-    while bytes.len() - at > BLOCK && all::<BLOCK, BLOCK, _>(&test, at) {
-        at = skip::<BLOCK, BLOCK, _>(&low, at + BLOCK);
+    while bytes.len() - at >= BLOCK + 2 && all::<BLOCK, BLOCK, _>(&test, at) {
+        // of the same bytes, whose vectors are at hand
+        let is_low = all::<BLOCK, BLOCK, _>(&low, at);
+        at += BLOCK;
+        if is_low {
+            at = skip::<BLOCK, BLOCK, _>(&low, at);
+        }
     }
-    if at == bytes.len() {
+    if bytes.len() - at < 2 {
         return at;
     }
-    let end = reach::<STRIDE, STRIDE, _>(&test, at);
-    // no character of two bytes begins with the last one
-    if end + 1 == bytes.len() { end + 1 } else { end }
+    reach::<STRIDE, STRIDE, _>(&test, at)
 }
 
-/// Places of code units that aren't right-to-left, by four ranges that hold those and some more.
+/// Places of code units that aren't right-to-left, by ranges and marks that hold those and some more.
 #[derive(Drop)]
 struct ClearUnits<'a> {
     units: &'a [u16],
@@ -117,10 +161,11 @@ impl<'a, const N: usize> Places<N> for ClearUnits<'a> {
         let units = self.units;
         let block = Simd::<u16, N>::from_slice(&units[at..]);
         let scripts = (block - Simd::splat(0x0590)).simd_lt(Simd::splat(0x0370));
-        let controls = (block - Simd::splat(0x200F)).simd_lt(Simd::splat(0x0059));
+        let embeddings = (block - Simd::splat(0x202B)).simd_lt(Simd::splat(4));
+        let marks = block.simd_eq(Simd::splat(0x200F)) | block.simd_eq(Simd::splat(0x2067));
         let halves = (block - Simd::splat(0xD802)).simd_lt(Simd::splat(0x003A));
         let forms = (block - Simd::splat(0xFB1D)).simd_lt(Simd::splat(0x03E2));
-        ((scripts | controls) | (halves | forms)).to_bitmask()
+        ((scripts | embeddings) | marks | (halves | forms)).to_bitmask()
     }
 }
 

@@ -1,5 +1,5 @@
--- Places of bytes where right-to-left characters stand: of a text with one there is such a place, and the first two bytes tell where there is none.
-use Rattle.std.proofs.Common.{◌≡◌, ℕ, ◌+◌, ◌-◌, ◌/◌, ◌%◌, ◌<◌, ◌≤◌, ◌⊎◌, inl, inr, List, [], ◌∷◌, ◌++◌, length, take, drop, slice_index, encode_utf8, encode_utf8_all, IsUtf8, refl, sym, ap, ◌∙◌, arith, subst, take-add, true, cond, ◌&&◌, leb, ltb, eqb, bit_or}
+-- Places of bytes where right-to-left characters stand: of a text with one there is such a place, and the first three bytes tell where there is none.
+use Rattle.std.proofs.Common.{◌≡◌, ℕ, ◌+◌, ◌-◌, ◌/◌, ◌%◌, ◌<◌, ◌≤◌, ◌⊎◌, inl, inr, List, [], ◌∷◌, ◌++◌, length, take, drop, slice_index, encode_utf8, encode_utf8_all, IsUtf8, refl, sym, ap, ◌∙◌, arith, subst, take-add, Bool, true, false, cond, ◌&&◌, leb, ltb, eqb, bit_or}
 use Rattle.std.specs.Prelude.{Any}
 use Rattle.std.specs.Str.{all_scalars}
 use Rattle.std.proofs.str.Laws.{two, three, four, both}
@@ -13,8 +13,8 @@ use Rattle.encoding_definitions.specs.Fronts.{IsLongestFront}
 use Rattle.encoding_definitions.specs.Parts.{BeginsWithNoCharacter}
 use Rattle.encoding_definitions.specs.Sequence.{IsSequence}
 use Rattle.encoding_kernels.specs.Places.{PassBetween}
-use Rattle.encoding_kernels.specs.Strides.{BelowBetween, BelowUpTo}
-use Rattle.encoding_kernels.specs.BidiBlocks.{second_end, StandsRightToLeft, NoneStands}
+use Rattle.encoding_kernels.specs.Strides.{BelowUpTo}
+use Rattle.encoding_kernels.specs.BidiBlocks.{second_end, ends_mark, mark_lead, may_begin, IsClear, StandsRightToLeft, NoneStands}
 use Rattle.encoding_definitions.proofs.Bidi.AnyLemmas.{Any-none, Any-cons}
 use Rattle.encoding_definitions.proofs.Bidi.BidiTextLemmas.{right_to_left_from, character_bidi, bidi_character, found_in_text, found_in_bytes, bidi_either, stuck_no_text, text_of_latin1, latin1_not_bidi}
 use Rattle.encoding_kernels.proofs.Paired.PairsLemmas.{ascii_latin1}
@@ -22,14 +22,22 @@ use Rattle.encoding_definitions.proofs.LongestFronts.Utf8Lemmas.{IsUtf8-sequence
 use Rattle.encoding_definitions.proofs.Sequences.SequenceLemmas.{IsSequence-some}
 use Rattle.encoding_definitions.proofs.Sequences.EncodingLemmas.{scalar_of_sequence, IsSequence-encode, length-encode_utf8-le}
 
--- ---- the first two bytes
-end_hebrew : (a : ℕ) → 0xD6 ≤ a → a ≤ 0xDF → second_end a ≡ 0xFF
-end_hebrew a l h = grind (arith, nat_tests)
+-- ---- the first three bytes
+end_hebrew : (a mark : ℕ) → 0xD6 ≤ a → a ≤ 0xDF → second_end a mark ≡ 0xFF
+end_hebrew a mark l h = grind (arith, nat_tests)
 
-second_of_two : (c : ℕ) → 0x590 ≤ c → c < 0x800 → 128 + c % 64 < second_end (192 + c / 64)
-second_of_two c l h = let e = end_hebrew (192 + c / 64) (omega arith) (omega arith) in omega arith
+second_of_two : (c mark : ℕ) → 0x590 ≤ c → c < 0x800 → 128 + c % 64 < second_end (192 + c / 64) mark
+second_of_two c mark l h = let e = end_hebrew (192 + c / 64) mark (omega arith) (omega arith) in omega arith
 
-second_of_three : (c : ℕ) → 0x800 ≤ c → c < 0x10000 → IsRightToLeft c → 128 + c / 64 % 64 < second_end (224 + c / 4096)
+lead_of_mark : (c : ℕ) → 0x1000 ≤ c → c < 0x3000 → IsRightToLeft c → mark_lead (128 + c % 64) ≡ 0xE2
+lead_of_mark c l h (inr (inl e)) = rw e refl
+lead_of_mark c l h (inr (inr (inl e))) = rw e refl
+lead_of_mark c l h (inr (inr (inr (inl e)))) = rw e refl
+lead_of_mark c l h (inr (inr (inr (inr (inl e))))) = rw e refl
+lead_of_mark c l h (inl r) = absurd (omega arith)
+lead_of_mark c l h (inr (inr (inr (inr (inr r))))) = absurd (omega arith)
+
+second_of_three : (c : ℕ) → 0x800 ≤ c → c < 0x10000 → IsRightToLeft c → 128 + c / 64 % 64 < second_end (224 + c / 4096) (mark_lead (128 + c % 64))
 second_of_three c l h r = elim (cases_lt c 0x1000) [
   | inl p ↦ let low : c ≤ 0x8FF = omega arith in
       let e : 224 + c / 4096 ≡ 0xE0 = omega arith in
@@ -38,7 +46,7 @@ second_of_three c l h r = elim (cases_lt c 0x1000) [
     | inl q ↦ let from : 0x200F ≤ c = omega arith in
         let to : c ≤ 0x2067 = omega arith in
         let e : 224 + c / 4096 ≡ 0xE2 = omega arith in
-        rw e (omega arith)
+        rw (e, lead_of_mark c p q r) (omega arith)
     | inr q ↦ let from : 0xFB1D ≤ c = omega arith in
         let to : c ≤ 0xFEFE = omega arith in
         let e : 224 + c / 4096 ≡ 0xEF = omega arith in
@@ -46,54 +54,70 @@ second_of_three c l h r = elim (cases_lt c 0x1000) [
   ]
 ]
 
-second_of_four : (c : ℕ) → 0x10000 ≤ c → IsRightToLeft c → 128 + c / 4096 % 64 < second_end (240 + c / 262144)
-second_of_four c l r =
+second_of_four : (c mark : ℕ) → 0x10000 ≤ c → IsRightToLeft c → 128 + c / 4096 % 64 < second_end (240 + c / 262144) mark
+second_of_four c mark l r =
     let to : c ≤ 0x1EFFF = omega arith in
     let e : 240 + c / 262144 ≡ 0xF0 = omega arith in
     rw e (omega arith)
 
-first_two : (c : ℕ) (rest : List ℕ) → IsRightToLeft c → slice_index (encode_utf8 c ++ rest) 1 < second_end (slice_index (encode_utf8 c ++ rest) 0)
-first_two c rest r = elim (cases_lt c 2048) [
-  | inl p ↦ rw (two c (omega (arith, right_to_left_from c r)) p) (second_of_two c (right_to_left_from c r) p)
+first_three : (c : ℕ) (rest : List ℕ) → IsRightToLeft c
+    → slice_index (encode_utf8 c ++ rest) 1 < second_end (slice_index (encode_utf8 c ++ rest) 0) (mark_lead (slice_index (encode_utf8 c ++ rest) 2))
+first_three c rest r = elim (cases_lt c 2048) [
+  | inl p ↦ rw (two c (omega (arith, right_to_left_from c r)) p) (second_of_two c _ (right_to_left_from c r) p)
   | inr p ↦ elim (cases_lt c 65536) [
     | inl q ↦ rw (three c p q) (second_of_three c p q r)
-    | inr q ↦ rw (four c q) (second_of_four c q r)
+    | inr q ↦ rw (four c q) (second_of_four c _ q r)
   ]
 ]
 
 at_place : (bs : List ℕ) (at k : ℕ) (xs : List ℕ) → drop at bs ≡ xs → slice_index xs k ≡ slice_index bs (at + k)
 at_place bs at k xs e = ap (λ ys. slice_index ys k) (sym e) ∙ get_or-drop at bs k 0
 
-pub second_below : (bs : List ℕ) (at : ℕ) → StandsRightToLeft bs at → slice_index bs (at + 1) < second_end (slice_index bs at)
+pub second_below : (bs : List ℕ) (at : ℕ) → StandsRightToLeft bs at → slice_index bs (at + 1) < second_end (slice_index bs at) (mark_lead (slice_index bs (at + 2)))
 second_below bs at s =
     let xs = encode_utf8 s.character ++ s.rest in
     let first : slice_index xs 0 ≡ slice_index bs at = at_place bs at 0 xs s.spelled ∙ ap (λ k. slice_index bs k) {x = at + 0} {y = at} (omega arith) in
     let second : slice_index xs 1 ≡ slice_index bs (at + 1) = at_place bs at 1 xs s.spelled in
-    rw (sym first, sym second) (first_two s.character s.rest s.right_to_left)
+    let third : slice_index xs 2 ≡ slice_index bs (at + 2) = at_place bs at 2 xs s.spelled in
+    rw (sym first, sym second, sym third) (first_three s.character s.rest s.right_to_left)
 
 -- ---- what the lanes hold
-abbrev pub ends_lane : ℕ → ℕ
-ends_lane a = bit_or (bit_or (bit_or (bit_or (cond (leb 0xD6 a && ltb a 0xE0) 0xFF 0) (cond (eqb a 0xE0) 0xA4 0)) (cond (eqb a 0xE2) 0x82 0)) (cond (eqb a 0xEF) 0xBC 0)) (cond (eqb a 0xF0) 0x9F 0)
+abbrev pub ends_lane : ℕ → ℕ → ℕ
+ends_lane a mark = bit_or (bit_or (bit_or (bit_or (cond (leb 0xD6 a && ltb a 0xE0) 0xFF 0) (cond (eqb a 0xE0) 0xA4 0)) (cond (eqb a 0xEF) 0xBC 0)) (cond (eqb a 0xF0) 0x9F 0)) (cond (eqb a mark) 0x82 0)
 
-pub ends_are : (a : ℕ) → a < 256 → ends_lane a ≡ second_end a
-ends_are a l = eqb-true _ _ (agree_below_at (λ x. eqb (ends_lane x) (second_end x)) (λ x. true) 256 a refl l)
+chosen_either : (P : ℕ → Type 0) → P 0xE2 → P 0xF0 → (ends : Bool) → P (cond ends 0xE2 0xF0)
+chosen_either P p q true = p
+chosen_either P p q false = q
+
+-- for both numbers that `mark_lead` has
+pub for_both : (P : ℕ → Type 0) → P 0xE2 → P 0xF0 → (d : ℕ) → P (mark_lead d)
+for_both P p q d = chosen_either P p q (ends_mark d)
+
+pub ends_are : (a d : ℕ) → a < 256 → ends_lane a (mark_lead d) ≡ second_end a (mark_lead d)
+ends_are a d l =
+    let same = λ (mark : ℕ). λ (x : ℕ). eqb (ends_lane x mark) (second_end x mark) in
+    for_both (λ mark. ends_lane a mark ≡ second_end a mark)
+    (eqb-true _ _ (agree_below_at (same 0xE2) (λ x. true) 256 a refl l)) (eqb-true _ _ (agree_below_at (same 0xF0) (λ x. true) 256 a refl l)) d
 
 -- where no second byte is below the number of the first
-pub none_clear : (bs : List ℕ) (from to : ℕ) → PassBetween (λ k. second_end (slice_index bs k) ≤ slice_index bs (k + 1)) from to → NoneStands bs from to
+pub none_clear : (bs : List ℕ) (from to : ℕ) → PassBetween (IsClear bs) from to → NoneStands bs from to
 none_clear bs from to clear = record { each = λ k l m s. omega (arith, second_below bs k s, clear k l m) }
 
 -- ---- places where none stands
-low_end : (a : ℕ) → a < 0xD6 → second_end a ≡ 0
-low_end a l = grind (arith, nat_tests)
+low_end : (a d : ℕ) → a < 0xD6 → second_end a (mark_lead d) ≡ 0
+low_end a d l = for_both (λ mark. second_end a mark ≡ 0) (grind (arith, nat_tests)) (grind (arith, nat_tests)) d
 
-pub none_from_zero : (bs : List ℕ) (at : ℕ) → second_end (slice_index bs at) ≡ 0 → StandsRightToLeft bs at → ⊥
-none_from_zero bs at e s = omega (arith, second_below bs at s)
+end_of_low : (a d : ℕ) → may_begin a (mark_lead d) ≡ false → second_end a (mark_lead d) ≡ 0
+end_of_low a d = for_both (λ mark. may_begin a mark ≡ false → second_end a mark ≡ 0) (λ e. grind (arith, nat_tests)) (λ e. grind (arith, nat_tests)) d
 
-pub none_low : (bs : List ℕ) (from to : ℕ) → BelowBetween 0xD6 bs from to → NoneStands bs from to
-none_low bs from to low = record { each = λ k l m s. none_from_zero bs k (low_end (slice_index bs k) (low k l m)) s }
+pub none_from_zero : (bs : List ℕ) (at : ℕ) → ((d : ℕ) → second_end (slice_index bs at) (mark_lead d) ≡ 0) → StandsRightToLeft bs at → ⊥
+none_from_zero bs at none s = omega (arith, second_below bs at s, none (slice_index bs (at + 2)))
+
+pub none_low : (bs : List ℕ) (from to : ℕ) → PassBetween (λ k. may_begin (slice_index bs k) (mark_lead (slice_index bs (k + 2))) ≡ false) from to → NoneStands bs from to
+none_low bs from to low = record { each = λ k l m s. omega (arith, second_below bs k s, end_of_low (slice_index bs k) (slice_index bs (k + 2)) (low k l m)) }
 
 pub none_before : (bs : List ℕ) (n : ℕ) → BelowUpTo 0xD6 bs n → NoneStands bs 0 n
-none_before bs n low = record { each = λ k from to s. none_from_zero bs k (low_end (slice_index bs k) (low k to)) s }
+none_before bs n low = record { each = λ k from to s. none_from_zero bs k (λ d. low_end (slice_index bs k) d (low k to)) s }
 
 pub none_joined : (bs : List ℕ) (a b d : ℕ) → NoneStands bs a b → NoneStands bs b d → NoneStands bs a d
 none_joined bs a b d p q = record { each = λ k from to s. elim (cases_lt k b) [ inl l ↦ p.each k from l s | inr l ↦ q.each k l to s ] }
@@ -103,13 +127,6 @@ some_bytes c r = elim (cases_lt c 2048) [
   | inl p ↦ rw (two c (omega (arith, right_to_left_from c r)) p) (omega arith)
   | inr p ↦ elim (cases_lt c 65536) [ inl q ↦ rw (three c p q) (omega arith) | inr q ↦ rw (four c q) (omega arith) ]
 ]
-
--- the last byte begins none
-stands_within : (bs : List ℕ) (at : ℕ) → StandsRightToLeft bs at → at + 1 < length bs
-stands_within bs at s = omega (arith, some_bytes s.character s.right_to_left, ap length s.spelled, length-append (encode_utf8 s.character) s.rest, length-drop at bs)
-
-pub none_last : (bs : List ℕ) (at : ℕ) → at + 1 ≡ length bs → NoneStands bs at (at + 1)
-none_last bs at e = record { each = λ k from to s. omega (arith, stands_within bs k s) }
 
 -- ---- the character at a place
 pub stands_spelled : (bs : List ℕ) (at n : ℕ) → IsSequence (take n (drop at bs)) → IsBidiText (take n (drop at bs)) → StandsRightToLeft bs at
@@ -136,7 +153,7 @@ no_character_stands bs at none s = none (encode_utf8 s.character) s.rest s.spell
 -- ---- texts
 first_high : (bs : List ℕ) (at : ℕ) → StandsRightToLeft bs at → 0xD6 ≤ slice_index bs at
 first_high bs at s = elim (cases_lt (slice_index bs at) 0xD6) [
-  | inl l ↦ absurd (none_from_zero bs at (low_end _ l) s)
+  | inl l ↦ absurd (none_from_zero bs at (λ d. low_end _ d l) s)
   | inr l ↦ l
 ]
 

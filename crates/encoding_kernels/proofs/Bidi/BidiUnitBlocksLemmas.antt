@@ -1,6 +1,8 @@
 -- Code units of which none is right-to-left, by ranges that hold all of those.
 use Rattle.std.proofs.Common.{◌≡◌, ℕ, ◌+◌, ◌^◌, ◌<◌, ◌≤◌, ◌⊎◌, inl, inr, Bool, true, false, ◌||◌, List, slice_index, refl, arith, subst}
+use Rattle.std.specs.Prelude.{nat_eq}
 use Rattle.std.proofs.lemmas.Bool.{cases_lt, ltb-false}
+use Rattle.std.proofs.lemmas.Bool.Decides.{nat_tests}
 use Rattle.encoding_definitions.specs.Bidi.{IsRightToLeftUnit}
 use Rattle.encoding_kernels.specs.BidiBlocks.{NoneRightToLeft, in_range, may_be_right_to_left}
 use Rattle.encoding_kernels.specs.Places.{PassBetween}
@@ -22,19 +24,27 @@ or_right : (p q : Bool) → p || q ≡ false → q ≡ false
 or_right true q e = absurd (cc)
 or_right false q e = e
 
-none_of : (u : ℕ) → UnitForm u → (u < 0x590) ⊎ (0x590 + 0x370 ≤ u) → (u < 0x200F) ⊎ (0x200F + 0x59 ≤ u) → (u < 0xD802) ⊎ (0xD802 + 0x3A ≤ u) → (u < 0xFB1D) ⊎ (0xFB1D + 0x3E2 ≤ u)
-    → u < 2 ^ 16 → ⊥
-none_of u (inl r) a b d e l = omega arith
-none_of u (inr (inl r)) a b d e l = omega arith
-none_of u (inr (inr r)) a b d e l = omega arith
+none_of : (u : ℕ) → UnitForm u → (u < 0x590) ⊎ (0x590 + 0x370 ≤ u) → (u < 0x202B) ⊎ (0x202B + 4 ≤ u) → (u ≡ 0x200F → ⊥) → (u ≡ 0x2067 → ⊥) → (u < 0xD802) ⊎ (0xD802 + 0x3A ≤ u)
+    → (u < 0xFB1D) ⊎ (0xFB1D + 0x3E2 ≤ u) → u < 2 ^ 16 → ⊥
+none_of u (inl r) a b c d e f l = omega arith
+none_of u (inr (inl r)) a b c d e f l = omega arith
+none_of u (inr (inr r)) a b c d e f l = omega arith
+
+is_not : (u x : ℕ) → nat_eq u x ≡ false → u ≡ x → ⊥
+is_not u x e is = grind (arith, nat_tests)
 
 not_right_to_left : (u : ℕ) → u < 2 ^ 16 → may_be_right_to_left u ≡ false → IsRightToLeftUnit u → ⊥
 not_right_to_left u l e r =
-    let front = or_left (in_range 0x0590 0x0370 u || in_range 0x200F 0x0059 u) (in_range 0xD802 0x003A u || in_range 0xFB1D 0x03E2 u) e in
-    let behind = or_right (in_range 0x0590 0x0370 u || in_range 0x200F 0x0059 u) (in_range 0xD802 0x003A u || in_range 0xFB1D 0x03E2 u) e in
+    let controls = (in_range 0x0590 0x0370 u || in_range 0x202B 4 u) || (nat_eq u 0x200F || nat_eq u 0x2067) in
+    let front = or_left controls (in_range 0xD802 0x003A u || in_range 0xFB1D 0x03E2 u) e in
+    let behind = or_right controls (in_range 0xD802 0x003A u || in_range 0xFB1D 0x03E2 u) e in
+    let scripts = or_left (in_range 0x0590 0x0370 u || in_range 0x202B 4 u) (nat_eq u 0x200F || nat_eq u 0x2067) front in
+    let marks = or_right (in_range 0x0590 0x0370 u || in_range 0x202B 4 u) (nat_eq u 0x200F || nat_eq u 0x2067) front in
     none_of u (unit_form u r)
-    (outside 0x0590 0x0370 u (omega arith) l (or_left (in_range 0x0590 0x0370 u) (in_range 0x200F 0x0059 u) front))
-    (outside 0x200F 0x0059 u (omega arith) l (or_right (in_range 0x0590 0x0370 u) (in_range 0x200F 0x0059 u) front))
+    (outside 0x0590 0x0370 u (omega arith) l (or_left (in_range 0x0590 0x0370 u) (in_range 0x202B 4 u) scripts))
+    (outside 0x202B 4 u (omega arith) l (or_right (in_range 0x0590 0x0370 u) (in_range 0x202B 4 u) scripts))
+    (is_not u 0x200F (or_left (nat_eq u 0x200F) (nat_eq u 0x2067) marks))
+    (is_not u 0x2067 (or_right (nat_eq u 0x200F) (nat_eq u 0x2067) marks))
     (outside 0xD802 0x003A u (omega arith) l (or_left (in_range 0xD802 0x003A u) (in_range 0xFB1D 0x03E2 u) behind))
     (outside 0xFB1D 0x03E2 u (omega arith) l (or_right (in_range 0xD802 0x003A u) (in_range 0xFB1D 0x03E2 u) behind)) l
 

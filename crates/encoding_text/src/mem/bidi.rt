@@ -8,7 +8,7 @@ ghost use Rattle.encoding_definitions.specs.Latin1.{IsLatin1, IsUtf8Latin1};
 ghost use Rattle.encoding_definitions.specs.Sequence.{IsSequence};
 ghost use Rattle.encoding_definitions.specs.Bidi.{IsRightToLeft, IsRightToLeftUnit, IsBidiUnits, IsBidiText, IsBidiBytes};
 ghost use Rattle.encoding_text.specs.Classes.{Classifies};
-ghost use Rattle.encoding_kernels.specs.BidiBlocks.{second_end, StandsRightToLeft, NoneStands};
+ghost use Rattle.encoding_kernels.specs.BidiBlocks.{second_end, mark_lead, StandsRightToLeft, NoneStands};
 
 use super::checks::{LATIN1_END, str_latin1_up_to, utf8_latin1_up_to};
 use crate::ascii::ascii_valid_up_to;
@@ -90,7 +90,7 @@ fn is_sequence_bidi(bytes: &[u8]) -> bool
 
 /// Whether right-to-left characters may begin with the byte.
 fn may_begin(lead: u8) -> bool
-    ensures { IsFalse result → second_end lead ≡ 0 }
+    ensures { IsFalse result → (third : ℕ) → second_end lead (mark_lead third) ≡ 0 }
 {
     match lead {
         0xD6..=0xE0 | 0xE2 | 0xEF | 0xF0 => true,

@@ -1,9 +1,9 @@
 use Rattle.std.proofs.Common.{◌+◌, arith, refl}
-use Rattle.encoding_kernels.proofs.Bidi.BidiBlocksLemmas.{none_joined, none_clear, none_low, none_last}
+use Rattle.encoding_kernels.proofs.Bidi.BidiBlocksLemmas.{none_joined, none_clear, none_low}
 use Rattle.encoding_kernels.proofs.bidi_blocks.skip_clear.Goals as goal
 
-pub loop-at-preserved : goal.loop-at-preserved
-loop-at-preserved c =
+pub loop-at-preserved-then-is_low : goal.loop-at-preserved-then-is_low
+loop-at-preserved-then-is_low c =
     let bs = c.args.bytes.now in
     let at = c.loop-at.at in
     let block = none_joined bs c.args.from at (at + 64) c.loop-at.invariant.none (none_clear bs at (at + 64) (c.if-all.ensures.0 refl)) in
@@ -12,14 +12,16 @@ loop-at-preserved c =
       none = none_joined bs c.args.from (at + 64) _ block (none_low bs (at + 64) _ c.skip-at.ensures.pass);
     }
 
-pub returns-then-end-bytes-clause-none : goal.returns-then-end-bytes-clause-none
-returns-then-end-bytes-clause-none c =
+pub loop-at-preserved : goal.loop-at-preserved
+loop-at-preserved c =
     let bs = c.args.bytes.now in
     let at = c.loop-at.at in
-    let end = c.reach-end.result in
-    none_joined bs c.args.from at _ c.loop-at.invariant.none (none_joined bs at end _ (none_clear bs at end c.reach-end.ensures.pass) (none_last bs end c.if-end-bytes.true))
+    record {
+      within = (omega arith, omega arith);
+      none = none_joined bs c.args.from at (at + 64) c.loop-at.invariant.none (none_clear bs at (at + 64) (c.if-all.ensures.0 refl));
+    }
 
-pub returns-else-end-bytes-clause-none : goal.returns-else-end-bytes-clause-none
-returns-else-end-bytes-clause-none c =
+pub returns-clause-none : goal.returns-clause-none
+returns-clause-none c =
     let bs = c.args.bytes.now in
-    none_joined bs c.args.from c.loop-at.at _ c.loop-at.invariant.none (none_clear bs c.loop-at.at _ c.reach-end.ensures.pass)
+    none_joined bs c.args.from c.loop-at.at _ c.loop-at.invariant.none (none_clear bs c.loop-at.at _ c.reach.ensures.pass)
