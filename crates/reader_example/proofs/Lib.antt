@@ -1,0 +1,5 @@
+pub mod BufferLemmas
+pub mod TextLemmas
+pub mod PieceLemmas
+pub mod BlockLemmas
+pub mod CharacterLemmas
