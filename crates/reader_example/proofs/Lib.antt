@@ -3,3 +3,4 @@ pub mod TextLemmas
 pub mod PieceLemmas
 pub mod BlockLemmas
 pub mod CharacterLemmas
+pub mod UnitLemmas

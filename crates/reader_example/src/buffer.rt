@@ -6,46 +6,46 @@ use std::io;
 use std::io::Read;
 use std::marker::Model;
 
-/// The bytes from `begin` to `end`.
+/// The units from `begin` to `end`.
 #[derive(Drop)]
-pub(crate) struct Buffer<const N: usize> {
-    bytes: [u8; N],
+pub(crate) struct Buffer<T: Copy, const N: usize> {
+    units: [T; N],
     begin: usize,
     end: usize,
 }
 
-impl<const N: usize> Model for Buffer<N> {
-    ghost use Rattle.std.specs.Prelude.{◌≤◌, List, ℕ, length, slice_range};
+impl<T: Copy, const N: usize> Model for Buffer<T, N> {
+    ghost use Rattle.std.specs.Prelude.{◌≤◌, List, length, slice_range};
 
-    ghost Value = { List ℕ };
+    ghost Value = { List T };
 
-    ghost view = { λ b. slice_range b.bytes b.begin b.end };
+    ghost view = { λ b. slice_range b.units b.begin b.end };
 
-    ghost invariant = { λ b. (b.begin ≤ b.end) × (b.end ≤ length b.bytes) };
+    ghost invariant = { λ b. (b.begin ≤ b.end) × (b.end ≤ length b.units) };
 }
 
-impl<const N: usize> Buffer<N> {
-    /// A buffer of nothing.
-    pub(crate) fn new() -> Buffer<N>
+impl<T: Copy, const N: usize> Buffer<T, N> {
+    /// A buffer of nothing, whose room is filled with `unit`.
+    pub(crate) fn new(unit: T) -> Buffer<T, N>
         ensures { result ≡ [] }
     {
         Buffer {
-            bytes: [0; N],
+            units: [unit; N],
             begin: 0,
             end: 0,
         }
     }
 
     /// What is in it.
-    pub(crate) fn unread(&self) -> &[u8]
+    pub(crate) fn unread(&self) -> &[T]
         ensures value { result.now ≡ self.now }
         ensures fits { length result.now ≤ N }
     {
-        let bytes = &self.bytes[..];
-        &bytes[self.begin..self.end]
+        let units = &self.units[..];
+        &units[self.begin..self.end]
     }
 
-    /// Takes so many bytes from its front.
+    /// Takes so many units from its front.
     pub(crate) fn consume(&mut self, count: usize)
         requires { count ≤ length self.old }
         ensures { self.new ≡ drop count self.old }
@@ -53,31 +53,18 @@ impl<const N: usize> Buffer<N> {
         self.begin += count;
     }
 
-    /// Puts these bytes in place of what is in it.
-    pub(crate) fn hold(&mut self, bytes: &[u8])
-        requires { length bytes.now ≤ N }
-        ensures { self.new ≡ bytes.now }
+    /// Puts these units in place of what is in it.
+    pub(crate) fn hold(&mut self, units: &[T])
+        requires { length units.now ≤ N }
+        ensures { self.new ≡ units.now }
     {
-        self.bytes[..bytes.len()].copy_from_slice(bytes);
+        self.units[..units.len()].copy_from_slice(units);
         self.begin = 0;
-        self.end = bytes.len();
-    }
-
-    /// Reads once, where nothing is in it.
-    pub(crate) fn fill<R: Read>(&mut self, reader: &mut R) -> io::Result<()>
-        requires empty { self.old ≡ [] }
-        requires room { 0 < N }
-        ensures bytes { Consumes (R.remaining reader.old) (R.remaining reader.new) self.new }
-        ensures end { OnOk result (self.new ≡ [] → IsAtEnd (R.remaining reader.new)) }
-    {
-        self.begin = 0;
-        self.end = 0;
-        self.end = reader.read(&mut self.bytes)?;
-        Ok(())
+        self.end = units.len();
     }
 
     /// Moves as much of it as fits to the front of `dst`, and returns how much.
-    pub(crate) fn give(&mut self, dst: &mut [u8]) -> usize
+    pub(crate) fn give(&mut self, dst: &mut [T]) -> usize
         ensures count { result ≡ min (length dst.old) (length self.old) }
         ensures room { length dst.new ≡ length dst.old }
         ensures bytes { self.old ≡ take result dst.new ++ self.new }
@@ -87,5 +74,20 @@ impl<const N: usize> Buffer<N> {
         dst[..count].copy_from_slice(&unread[..count]);
         self.consume(count);
         count
+    }
+}
+
+impl<const N: usize> Buffer<u8, N> {
+    /// Reads once, where nothing is in it.
+    pub(crate) fn fill<R: Read>(&mut self, reader: &mut R) -> io::Result<()>
+        requires empty { self.old ≡ [] }
+        requires room { 0 < N }
+        ensures bytes { Consumes (R.remaining reader.old) (R.remaining reader.new) self.new }
+        ensures end { OnOk result (self.new ≡ [] → IsAtEnd (R.remaining reader.new)) }
+    {
+        self.begin = 0;
+        self.end = 0;
+        self.end = reader.read(&mut self.units)?;
+        Ok(())
     }
 }

@@ -2,4 +2,5 @@
 #![tactic(auto)]
 
 mod buffer;
+pub mod utf16_reader;
 pub mod utf8_reader;

@@ -24,7 +24,7 @@ const ROOM: usize = 7;
 const REPLACEMENT: [u8; 3] = [0xEF, 0xBF, 0xBD];
 
 /// Holds the text of a piece: U+FFFD for a broken part.
-fn hold_piece(held: &mut Buffer<4>, piece: Piece<'_>)
+fn hold_piece(held: &mut Buffer<u8, 4>, piece: Piece<'_>)
     requires { length (text_for piece) ≤ 4 }
     ensures { held.new ≡ text_for piece.entry }
 {
@@ -45,9 +45,9 @@ pub struct Utf8Reader<R> {
     inner: R,
     decoder: Utf8Decoder,
     // what was read and not decoded
-    block: Buffer<BLOCK>,
+    block: Buffer<u8, BLOCK>,
     // what is left of a character that is longer than the room it was given into
-    held: Buffer<4>,
+    held: Buffer<u8, 4>,
 }
 
 impl<R: Read> Utf8Reader<R> {
@@ -61,8 +61,8 @@ impl<R: Read> Utf8Reader<R> {
         Utf8Reader {
             inner,
             decoder: Utf8Decoder::new_inner(),
-            block: Buffer::new(),
-            held: Buffer::new(),
+            block: Buffer::new(0),
+            held: Buffer::new(0),
         }
     }
 
@@ -136,6 +136,19 @@ impl<R: Read> Utf8Reader<R> {
             }
         }
     }
+
+    /// Decodes one character into `dst`, and returns how long it is: 0 at the end.
+    pub(crate) fn character(&mut self, dst: &mut [u8]) -> io::Result<usize>
+        requires room { 4 ≤ length dst.old }
+        requires held { self.old.held ≡ [] }
+        ensures bound { ReadsAtMost result dst.new }
+        ensures bytes { ReadConsumes (text_left R.remaining self.old) (text_left R.remaining self.new) result dst.new }
+        ensures one { IfOk result (λ n. 0 < n → IsSequence (take n dst.new)) }
+        ensures none_held { self.new.held ≡ [] }
+    {
+        self.hold()?;
+        Ok(self.held.give(dst))
+    }
 }
 
 impl<R: Read> Read for Utf8Reader<R> {
@@ -151,7 +164,7 @@ impl<R: Read> Read for Utf8Reader<R> {
         ensures bound { ReadsAtMost result dst.new }
         ensures bytes { ReadConsumes (text_left R.remaining self.old) (text_left R.remaining self.new) result dst.new }
         ensures characters { IfOk result (λ n.
-            GivesCharacters (held_of self.old) (length dst.old) (take n dst.new) (held_of self.new)) }
+            GivesCharacters IsUtf8 IsSequence (held_of self.old) (length dst.old) (take n dst.new) (held_of self.new)) }
         ensures err { OnErr result (held_of self.new ≡ held_of self.old) }
     {
         if dst.is_empty() {
