@@ -2,7 +2,6 @@
 use Rattle.std.proofs.Common.{◌≡◌, ◌≢◌, ℕ, ◌<◌, ◌≤◌, true, ◌&&◌, List, [], ◌∷◌, ◌++◌, length, map, take, encode_utf8, encode_utf8_all, Option, None, Some, Result, Ok, Err, IfOk, OnErr, IsTrue, refl, sym, ap, subst, ◌∙◌, arith, append-nil, length-append}
 use Rattle.std.proofs.lemmas.Bool.Decides.{nat_tests}
 use Rattle.std.proofs.lemmas.Grind.{flat_map-append}
-use Rattle.std.proofs.lemmas.List.{nil_from_length}
 use Rattle.std.proofs.lemmas.Str.{chars-append, chars-encodes, encodes-chars, scalars-chars}
 use Rattle.std.specs.Char.{IsScalar}
 use Rattle.std.specs.Char.Escape.{encode_utf16}
@@ -15,7 +14,6 @@ use Rattle.encoding_definitions.specs.Utf16.{Character16, ArePartsOf16}
 use Rattle.encoding_definitions.proofs.Sequences.SequenceLemmas.{length-IsSequence}
 use Rattle.encoding_definitions.proofs.Surrogates.SurrogateLemmas.{valid-encode}
 use Rattle.reader_example.specs.Reading.{GivesCharacters, IsUtf16Character, units_of}
-use Rattle.reader_example.proofs.BlockLemmas.{some_length}
 
 abbrev pub utf16_of : List ℕ → List ℕ
 utf16_of text = flat_map encode_utf16 (chars text)

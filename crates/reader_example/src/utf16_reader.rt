@@ -12,9 +12,8 @@ use crate::buffer::Buffer;
 use crate::utf8_reader::Utf8Reader;
 use encoding_runs::laws::{law_sequences, law_utf16_round_trip};
 use encoding_text::mem::convert_str_to_utf16;
-use std::io;
 use std::io::Read;
-use std::str;
+use std::{io, str};
 
 /// How many bytes of text are read at a time.
 const BLOCK: usize = 1024;

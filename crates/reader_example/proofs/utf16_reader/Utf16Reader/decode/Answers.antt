@@ -1,5 +1,5 @@
-use Rattle.std.proofs.Common.{◌≡◌, ◌≤◌, [], length, take, sym, ap, subst, ◌∙◌, arith}
-use Rattle.std.proofs.lemmas.List.{nil_from_length, length-take}
+use Rattle.std.proofs.Common.{length, sym, ap, subst, arith}
+use Rattle.std.proofs.lemmas.List.{nil_from_length}
 use Rattle.std.specs.Io.KnownBytes.{Consumes}
 use Rattle.encoding_definitions.specs.Surrogates.{IsValidUtf16}
 use Rattle.reader_example.proofs.BlockLemmas.{written_front}

@@ -1,8 +1,7 @@
-use Rattle.std.proofs.Common.{◌≡◌, ◌≢◌, ◌≤◌, [], length, take, sym, ap, subst, ◌∙◌, arith}
-use Rattle.std.proofs.lemmas.List.{nil_from_length}
+use Rattle.std.proofs.Common.{length, take, sym, ap, subst, ◌∙◌, arith}
 use Rattle.std.proofs.lemmas.Str.{IsUtf8-nil}
 use Rattle.std.specs.Str.{IsUtf8}
-use Rattle.std.specs.Io.KnownBytes.{Consumes, Keeps}
+use Rattle.std.specs.Io.KnownBytes.{Consumes}
 use Rattle.encoding_definitions.specs.Sequence.{IsSequence}
 use Rattle.encoding_definitions.proofs.LongestFronts.Utf8Lemmas.{IsUtf8-sequence}
 use Rattle.reader_example.specs.Reading.{IsUtf16Character}
@@ -30,7 +29,7 @@ returns-clause-one g c = λ some.
     let read = c.in_ok-count.ensures in
     let bytes = some_text text.result.now (λ none. some (held ∙ none)) in
     subst IsUtf16Character (sym held)
-        (one_character c.law_sequences.ensures.spelled text.result.now (subst IsSequence (sym text.ensures) (read.one (omega (arith, some_length text.result.now bytes, ap length text.ensures, read.bound)))))
+    (one_character c.law_sequences.ensures.spelled text.result.now (subst IsSequence (sym text.ensures) (read.one (omega (arith, some_length text.result.now bytes, ap length text.ensures, read.bound)))))
 
 pub returns-clause-end : goal.returns-clause-end
 returns-clause-end g c = λ none.

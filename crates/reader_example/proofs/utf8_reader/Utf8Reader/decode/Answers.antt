@@ -1,11 +1,9 @@
-use Rattle.std.proofs.Common.{◌≡◌, ◌<◌, ◌≤◌, [], length, take, drop, true, ap, sym, subst, ◌∙◌, arith}
+use Rattle.std.proofs.Common.{◌≡◌, [], length, true, ap, sym, subst, ◌∙◌, arith}
 use Rattle.std.proofs.lemmas.Bool.{both_ways}
-use Rattle.std.proofs.lemmas.Bool.Decides.{nat_tests}
 use Rattle.std.proofs.lemmas.List.{nil_from_length}
 use Rattle.std.specs.Str.{IsUtf8}
 use Rattle.std.specs.Io.KnownBytes.{Consumes, IsAtEnd}
 use Rattle.encoding_definitions.proofs.LongestFronts.FrontsLemmas.{WritesFront-length}
-use Rattle.encoding_runs.specs.Blocks.{IsBlockRepair}
 use Rattle.reader_example.specs.Reading.{text_left}
 use Rattle.reader_example.proofs.TextLemmas.{Keeps_then, Keeps-none}
 use Rattle.reader_example.proofs.BlockLemmas.{some_length, written_front, whole_characters, grows, repaired, repaired_all}
