@@ -10,7 +10,7 @@ use Rattle.encoding_definitions.specs.Giving.{Gives}
 use Rattle.encoding_runs.specs.Blocks.{IsBlockRepair}
 use Rattle.encoding_runs.specs.declared.repair.blocks.RepairedBlock.{RepairedBlock}
 use Rattle.encoding_runs.proofs.RepairLemmas.{pending_length}
-use Rattle.reader_example.specs.Reading.{text_of}
+use Rattle.reader_example.specs.Reading.{text_from}
 use Rattle.reader_example.proofs.TextLemmas.{Consumes-given, no_text_left, no_text, IsUtf8-repaired}
 
 pub some_length : (bs : List ℕ) → bs ≢ [] → 0 < length bs
@@ -40,14 +40,14 @@ module _ (p block : List ℕ) (room : ℕ) (last : Bool) (result : RepairedBlock
 
   module _ (exist : (bs : List ℕ) → (parts : List Part) × ArePartsOf bs parts) (lossy : (bs : List ℕ) (parts : List Part) → ArePartsOf bs parts → repaired_text parts ≡ utf8_lossy bs)
       (known : Option (List ℕ)) (held rest : List ℕ) (nothing : held ≡ []) (left : rest ≡ drop read block) (end : last ≡ true → (block ≡ []) × IsAtEnd known) where
-    pub repaired : Consumes (text_of held p block known) (text_of held q rest known) out
+    pub repaired : Consumes (text_from held p block known) (text_from held q rest known) out
     repaired =
         let whole = take_all (length block) block (omega arith) in
         let given : Gives p (take (length block) block) last repair.parts read q = subst (λ bs. Gives p bs last repair.parts read q) (sym whole) repair.given in
         rw (nothing, left) (Consumes-given exist lossy known p block (length block) last repair.parts read q out given (λ marked. (drop_all (length block) block (omega arith), (end marked).1)) repair.text)
 
     -- the last one writes nothing only where no text is left
-    pub repaired_all : last ≡ true → 7 ≤ room → length out ≡ 0 → IsAtEnd (text_of held q rest known)
+    pub repaired_all : last ≡ true → 7 ≤ room → length out ≡ 0 → IsAtEnd (text_from held q rest known)
     repaired_all marked enough none =
         let (all, empty) = finished result.finished refl enough none in
         let (no_block, no_more) = end marked in

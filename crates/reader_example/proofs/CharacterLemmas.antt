@@ -1,5 +1,5 @@
 -- Where a read cuts a character.
-use Rattle.std.proofs.Common.{◌≡◌, ◌≢◌, ℕ, min, List, [], ◌∷◌, ◌++◌, length, take, refl, sym, ap, subst, ◌∙◌, arith, append-nil, length-append}
+use Rattle.std.proofs.Common.{◌≡◌, ◌≢◌, ℕ, min, List, [], ◌∷◌, ◌++◌, length, take, sym, ap, subst, ◌∙◌, arith, length-append}
 use Rattle.std.proofs.lemmas.List.{length-take}
 use Rattle.reader_example.specs.Reading.{GivesCharacters}
 use Rattle.reader_example.proofs.BlockLemmas.{some_length}
@@ -8,15 +8,6 @@ module _ (IsText IsCharacter : List ℕ → Type 0) (empty : IsText []) (text : 
   pub character_text : (held : List ℕ) → (held ≢ [] → IsCharacter held) → IsText held
   character_text [] one = empty
   character_text (u ∷ us) one = text (u ∷ us) (one (λ none. omega (arith, ap length none)))
-
-  -- whole characters
-  pub gives_text : (room : ℕ) (given : List ℕ) → IsText given → GivesCharacters IsText IsCharacter [] room given []
-  gives_text room given whole = record {
-    rest = λ some. absurd (some refl);
-    whole = λ none. subst IsText (sym (append-nil given)) whole;
-    one = λ none some. absurd (some refl);
-    full = λ some. absurd (some refl);
-  }
 
   module _ (held new dst : List ℕ) (room count : ℕ) (units : held ≡ take count dst ++ new) (moved : count ≡ min room (length held)) (size : length dst ≡ room) where
     filled : new ≢ [] → length (take count dst) ≡ room

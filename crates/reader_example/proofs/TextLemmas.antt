@@ -9,7 +9,7 @@ use Rattle.encoding_definitions.specs.Parts.{Part, Character, Broken, StartsWith
 use Rattle.encoding_definitions.specs.Giving.{Gives}
 use Rattle.encoding_definitions.proofs.Decomposition.DecompositionLemmas.{StartsWith-append, repaired_text-append}
 use Rattle.decoder_example.proofs.GivenLemmas.{first_parts}
-use Rattle.reader_example.specs.Reading.{text_of}
+use Rattle.reader_example.specs.Reading.{text_from}
 
 -- ---- streams
 pub Keeps_then : (a b c : Option (List ℕ)) (bs : List ℕ) → Keeps a b → Consumes b c bs → Consumes a c bs
@@ -61,17 +61,17 @@ module _ (exist : (bs : List ℕ) → (parts : List Part) × ArePartsOf bs parts
 
   -- what a call gives is taken from the text that is left
   pub Consumes-given : (known : Option (List ℕ)) (p block : List ℕ) (count : ℕ) (last : Bool) (parts : List Part) (read : ℕ) (q out : List ℕ) → Gives p (take count block) last parts read q
-      → (last ≡ true → (drop count block ≡ []) × IsAtEnd known) → out ≡ repaired_text parts → Consumes (text_of [] p block known) (text_of [] q (drop read block) known) out
+      → (last ≡ true → (drop count block ≡ []) × IsAtEnd known) → out ≡ repaired_text parts → Consumes (text_from [] p block known) (text_from [] q (drop read block) known) out
   Consumes-given None p block count last parts read q out given end text = tt
   Consumes-given (Some more) p block count last parts read q out given end text =
       given_text p block count last parts read q more given (λ marked. ap (λ bs. bs ++ more) (end marked).0 ∙ (end marked).1) ∙ ap (λ bs. bs ++ utf8_lossy (q ++ (drop read block ++ more))) (sym text)
 
   -- or is held
   pub Keeps-given : (known : Option (List ℕ)) (p block : List ℕ) (count : ℕ) (last : Bool) (parts : List Part) (read : ℕ) (q held : List ℕ) → Gives p (take count block) last parts read q
-      → (last ≡ true → (drop count block ≡ []) × IsAtEnd known) → held ≡ repaired_text parts → Keeps (text_of [] p block known) (text_of held q (drop read block) known)
+      → (last ≡ true → (drop count block ≡ []) × IsAtEnd known) → held ≡ repaired_text parts → Keeps (text_from [] p block known) (text_from held q (drop read block) known)
   Keeps-given None p block count last parts read q held given end text = tt
   Keeps-given (Some more) p block count last parts read q held given end text = sym (Consumes-given (Some more) p block count last parts read q held given end text)
 
-  pub no_text_left : (known : Option (List ℕ)) → IsAtEnd known → IsAtEnd (text_of [] [] [] known)
+  pub no_text_left : (known : Option (List ℕ)) → IsAtEnd known → IsAtEnd (text_from [] [] [] known)
   no_text_left None end = tt
   no_text_left (Some more) end = ap utf8_lossy end ∙ lossy-nil

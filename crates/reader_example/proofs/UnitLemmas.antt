@@ -1,5 +1,5 @@
 -- The same text in UTF-16.
-use Rattle.std.proofs.Common.{◌≡◌, ◌≢◌, ℕ, ◌<◌, ◌≤◌, true, ◌&&◌, List, [], ◌∷◌, ◌++◌, length, map, take, encode_utf8, encode_utf8_all, Option, None, Some, Result, Ok, Err, IfOk, OnErr, IsTrue, refl, sym, ap, subst, ◌∙◌, arith, append-nil, length-append}
+use Rattle.std.proofs.Common.{◌≡◌, ◌≢◌, ℕ, ◌<◌, ◌≤◌, true, ◌&&◌, List, [], ◌∷◌, ◌++◌, length, map, take, encode_utf8, encode_utf8_all, Option, None, Some, Result, Ok, Err, IfOk, OnErr, IsTrue, refl, sym, ap, ◌∙◌, arith, append-nil, length-append}
 use Rattle.std.proofs.lemmas.Bool.Decides.{nat_tests}
 use Rattle.std.proofs.lemmas.Grind.{flat_map-append}
 use Rattle.std.proofs.lemmas.Str.{chars-append, chars-encodes, encodes-chars, scalars-chars}
@@ -13,7 +13,7 @@ use Rattle.encoding_definitions.specs.Surrogates.{IsValidUtf16}
 use Rattle.encoding_definitions.specs.Utf16.{Character16, ArePartsOf16}
 use Rattle.encoding_definitions.proofs.Sequences.SequenceLemmas.{length-IsSequence}
 use Rattle.encoding_definitions.proofs.Surrogates.SurrogateLemmas.{valid-encode}
-use Rattle.reader_example.specs.Reading.{GivesCharacters, IsUtf16Character, units_of}
+use Rattle.reader_example.specs.Reading.{GivesCharacters, IsUtf16Character, units_from}
 
 abbrev pub utf16_of : List ℕ → List ℕ
 utf16_of text = flat_map encode_utf16 (chars text)
@@ -27,23 +27,19 @@ uncut (Ok n) held (b ∷ bs) dst room enough none given err =
     absurd (omega (arith, given.full some, length-IsSequence (take n dst ++ (b ∷ bs)) (given.one none some), length-append (take n dst) (b ∷ bs), enough))
 uncut (Err e) held held' dst room enough none given err = err ∙ none
 
--- so what is given is text
-pub given_text : (held held' given : List ℕ) (room : ℕ) → held ≡ [] → held' ≡ [] → GivesCharacters IsUtf8 IsSequence held room given held' → IsUtf8 given
-given_text held held' given room none empty gives = subst IsUtf8 (ap (λ bs. given ++ bs) empty ∙ append-nil given) (gives.whole none)
-
 -- ---- what is left
-pub Consumes-units : (known known' : Option (List ℕ)) (text : List ℕ) → IsUtf8 text → Consumes known known' text → Consumes (units_of [] known) (units_of [] known') (utf16_of text)
+pub Consumes-units : (known known' : Option (List ℕ)) (text : List ℕ) → IsUtf8 text → Consumes known known' text → Consumes (units_from [] known) (units_from [] known') (utf16_of text)
 Consumes-units None known' text u e = tt
 Consumes-units (Some all) None text u e = absurd e
 Consumes-units (Some all) (Some rest) text u e = ap (flat_map encode_utf16) (ap chars e ∙ chars-append text rest u) ∙ flat_map-append encode_utf16 (chars text) (chars rest)
 
 -- or held
-pub Keeps-units : (known known' : Option (List ℕ)) (text : List ℕ) → IsUtf8 text → Consumes known known' text → Keeps (units_of [] known) (units_of (utf16_of text) known')
+pub Keeps-units : (known known' : Option (List ℕ)) (text : List ℕ) → IsUtf8 text → Consumes known known' text → Keeps (units_from [] known) (units_from (utf16_of text) known')
 Keeps-units None known' text u e = tt
 Keeps-units (Some all) None text u e = absurd e
 Keeps-units (Some all) (Some rest) text u e = sym (Consumes-units (Some all) (Some rest) text u e)
 
-pub no_units_left : (known : Option (List ℕ)) → IsAtEnd known → IsAtEnd (units_of [] known)
+pub no_units_left : (known : Option (List ℕ)) → IsAtEnd known → IsAtEnd (units_from [] known)
 no_units_left None e = tt
 no_units_left (Some text) e = ap (flat_map encode_utf16) (ap chars e ∙ chars-encodes [] refl)
 

@@ -12,23 +12,23 @@ use Rattle.reader_example.specs.declared.utf8_reader.Utf8Reader.{Utf8Reader}
 
 -- What is held of a character, and then the repaired text of the bytes that are pending, of those that are unread and of
 -- those to come, where these are known.
-abbrev pub text_of : List ℕ → List ℕ → List ℕ → Option (List ℕ) → Option (List ℕ)
-text_of held pending unread known = option_map (λ bytes. held ++ utf8_lossy (pending ++ (unread ++ bytes))) known
+abbrev pub text_from : List ℕ → List ℕ → List ℕ → Option (List ℕ) → Option (List ℕ)
+text_from held pending unread known = option_map (λ bytes. held ++ utf8_lossy (pending ++ (unread ++ bytes))) known
 
 -- the text that a reader has left
 abbrev pub text_left : {R : Type 0} → (R → Option (List ℕ)) → Utf8Reader R → Option (List ℕ)
-text_left remaining r = text_of r.held r.decoder r.block (remaining r.inner)
+text_left remaining r = text_from r.held r.decoder r.block (remaining r.inner)
 
 -- what it holds of a character whose front was given
 abbrev pub held_of : {R : Type 0} → Utf8Reader R → List ℕ
 held_of r = r.held
 
 -- The same in UTF-16, of which a reader holds the second half of a pair.
-abbrev pub units_of : List ℕ → Option (List ℕ) → Option (List ℕ)
-units_of held text = option_map (λ bytes. held ++ flat_map encode_utf16 (chars bytes)) text
+abbrev pub units_from : List ℕ → Option (List ℕ) → Option (List ℕ)
+units_from held text = option_map (λ bytes. held ++ flat_map encode_utf16 (chars bytes)) text
 
 abbrev pub units_left : {R : Type 0} → (R → Option (List ℕ)) → Utf16Reader R → Option (List ℕ)
-units_left remaining r = units_of r.held (text_left remaining r.inner)
+units_left remaining r = units_from r.held (text_left remaining r.inner)
 
 abbrev pub half_of : {R : Type 0} → Utf16Reader R → List ℕ
 half_of r = r.held
