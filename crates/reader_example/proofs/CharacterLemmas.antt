@@ -1,0 +1,32 @@
+-- Where a read cuts a character.
+use Rattle.std.proofs.Common.{◌≡◌, ◌≢◌, ℕ, min, List, [], ◌∷◌, ◌++◌, length, take, sym, ap, subst, ◌∙◌, arith, length-append}
+use Rattle.std.proofs.lemmas.List.{length-take}
+use Rattle.reader_example.specs.Reading.{GivesCharacters}
+use Rattle.reader_example.proofs.BlockLemmas.{some_length}
+
+module _ (IsText IsCharacter : List ℕ → Type 0) (empty : IsText []) (text : (units : List ℕ) → IsCharacter units → IsText units) where
+  pub character_text : (held : List ℕ) → (held ≢ [] → IsCharacter held) → IsText held
+  character_text [] one = empty
+  character_text (u ∷ us) one = text (u ∷ us) (one (λ none. omega (arith, ap length none)))
+
+  module _ (held new dst : List ℕ) (room count : ℕ) (units : held ≡ take count dst ++ new) (moved : count ≡ min room (length held)) (size : length dst ≡ room) where
+    filled : new ≢ [] → length (take count dst) ≡ room
+    filled some = omega (arith, some_length new some, ap length units, length-append (take count dst) new, length-take count dst, moved, size)
+
+    -- of what was held before
+    pub gives_rest : (old : List ℕ) → old ≡ held → old ≢ [] → GivesCharacters IsText IsCharacter old room (take count dst) new
+    gives_rest old same some = record {
+      rest = λ h. sym units ∙ sym same;
+      whole = λ none. absurd (some none);
+      one = λ none. absurd (some none);
+      full = filled;
+    }
+
+    -- of a character that was decoded
+    pub gives_character : (old : List ℕ) → old ≡ [] → (held ≢ [] → IsCharacter held) → GivesCharacters IsText IsCharacter old room (take count dst) new
+    gives_character old none one = record {
+      rest = λ some. absurd (some none);
+      whole = λ e. subst IsText units (character_text held one);
+      one = λ e some. subst IsCharacter units (one (λ nothing. omega (arith, some_length new some, ap length nothing, ap length units, length-append (take count dst) new)));
+      full = filled;
+    }

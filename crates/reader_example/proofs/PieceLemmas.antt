@@ -1,0 +1,76 @@
+-- What a call without a destination gives of at most one byte.
+use Rattle.std.proofs.Common.{◌≡◌, ◌≢◌, ℕ, ◌≤◌, true, Bool, List, [], ◌∷◌, ◌++◌, length, take, encode_utf8, encode_utf8_all, refl, sym, ap, subst, ◌∙◌, arith, append-nil, length-append}
+use Rattle.std.proofs.lemmas.Bool.{and_parts}
+use Rattle.std.proofs.lemmas.List.{take_all, length-take}
+use Rattle.std.proofs.lemmas.Str.{length-encode, len_utf8_bounds, encodes-chars}
+use Rattle.std.specs.Char.{IsScalar}
+use Rattle.std.specs.Str.{IsUtf8, all_scalars, chars}
+use Rattle.encoding_definitions.specs.Sequence.{IsSequence}
+use Rattle.encoding_definitions.specs.Parts.{Part, repaired_text}
+use Rattle.encoding_definitions.specs.Pending.{IsPending}
+use Rattle.encoding_definitions.specs.Giving.{Gives}
+use Rattle.encoding_definitions.proofs.Decomposition.DecompositionLemmas.{repaired_text-characters}
+use Rattle.encoding_text.specs.Decoding.{IsBorrowedCall}
+use Rattle.encoding_text.specs.GivenParts.{AreBorrowed}
+use Rattle.encoding_text.specs.declared.decoder.Piece.{Piece}
+use Rattle.encoding_text.specs.declared.decoder.Piece.TheVariants.{Text, Char, Malformed, InputEmpty}
+use Rattle.encoding_runs.specs.Calls.{Call, IsChain}
+use Rattle.encoding_runs.specs.DecoderCalls.{GiveTheParts}
+use Rattle.encoding_runs.specs.MixedCalls.{Form, Borrowed, Answer, Handed, IsMixedCall, AreGiven, IsInputEmpty}
+use Rattle.decoder_example.proofs.GivenLemmas.{one_gives}
+use Rattle.reader_example.specs.Reading.{text_for}
+
+text_of_parts : (p src : List ℕ) (last : Bool) (piece : Piece) (read : ℕ) (q : List ℕ) (parts : List Part) → IsBorrowedCall p src last piece read q → AreBorrowed piece parts → text_for piece ≡ repaired_text parts
+text_of_parts p src last (Text text) read q parts call are =
+    let (neutral, none, some, bytes, front) = call.answer in
+    sym (ap repaired_text are ∙ repaired_text-characters (chars text.now) ∙ encodes-chars text.now (subst IsUtf8 (sym bytes) front.kind))
+text_of_parts p src last (Char c) read q parts call are = sym (ap repaired_text are ∙ append-nil (encode_utf8 c))
+text_of_parts p src last (Malformed k) read q parts call (x, are, size) = sym (ap repaired_text are ∙ append-nil (encode_utf8 0xFFFD))
+text_of_parts p src last InputEmpty read q parts call are = sym (ap repaired_text are)
+
+-- the text is that of the parts that the call gives
+pub text_given : ((p b : List ℕ) (calls : List (Call Form Answer ℕ)) → IsPending p → IsChain IsMixedCall p b calls → GiveTheParts AreGiven IsInputEmpty p b calls)
+    → (p src : List ℕ) (last : Bool) (piece : Piece) (read : ℕ) (q : List ℕ) → IsBorrowedCall p src last piece read q
+    → (parts : List Part) × Gives p src last parts read q × (text_for piece ≡ repaired_text parts)
+text_given mixed p src last piece read q made =
+    let call : Call Form Answer ℕ = record { form = Borrowed; piece = length src; last = last; result = Handed piece; read = read; out = []; pending = q } in
+    let does : IsMixedCall p (take (length src) src) Borrowed last (Handed piece) read [] q = (subst (λ bs. IsBorrowedCall p bs last piece read q) (sym (take_all (length src) src (omega arith))) made, refl) in
+    let (parts, are, given) = one_gives p src call (mixed p src (call ∷ []) made.pending_before (does, λ _. omega arith, tt)) in
+    (parts, given, text_of_parts p src last piece read q parts made are)
+
+-- where it is none, all was read
+pub none_given : (p src : List ℕ) (last : Bool) (piece : Piece) (read : ℕ) (q : List ℕ) → IsBorrowedCall p src last piece read q → text_for piece ≡ [] → (read ≡ length src) × (q ≡ p ++ src) × (last ≡ true → q ≡ [])
+none_given p src last (Text text) read q call none =
+    let (neutral, empty, some, bytes, front) = call.answer in
+    absurd (omega (arith, ap length none, ap length bytes, length-take read src, front.within, some))
+none_given p src last (Char c) read q call none = absurd (omega (arith, ap length none, length-encode c, len_utf8_bounds c))
+none_given p src last (Malformed k) read q call none = absurd (omega (arith, ap length none, length-encode 0xFFFD, len_utf8_bounds 0xFFFD))
+none_given p src last InputEmpty read q call none = call.answer
+
+pub short_text : (p src : List ℕ) (last : Bool) (piece : Piece) (read : ℕ) (q : List ℕ) → IsBorrowedCall p src last piece read q → length src ≤ 1 → length (text_for piece) ≤ 4
+short_text p src last (Text text) read q call short =
+    let (neutral, empty, some, bytes, front) = call.answer in
+    omega (arith, ap length bytes, length-take read src, front.within, short)
+short_text p src last (Char c) read q call short = omega (arith, length-encode c, len_utf8_bounds c)
+short_text p src last (Malformed k) read q call short = omega (arith, length-encode 0xFFFD, len_utf8_bounds 0xFFFD)
+short_text p src last InputEmpty read q call short = omega arith
+
+module _ (each : (c : ℕ) → IsScalar c → IsSequence (encode_utf8 c)) where
+  one_character : (cs : List ℕ) → all_scalars cs ≡ true → encode_utf8_all cs ≢ [] → length (encode_utf8_all cs) ≤ 1 → IsSequence (encode_utf8_all cs)
+  one_character [] scalars some short = absurd (some refl)
+  one_character (c ∷ []) scalars some short = subst IsSequence (sym (append-nil (encode_utf8 c))) (each c (and_parts _ _ scalars).0)
+  one_character (c ∷ d ∷ cs) scalars some short =
+      absurd (omega (arith, short, length-append (encode_utf8 c) (encode_utf8 d ++ encode_utf8_all cs), length-append (encode_utf8 d) (encode_utf8_all cs), length-encode c, len_utf8_bounds c, length-encode d, len_utf8_bounds d))
+
+  -- else it is one character
+  pub one_given : (p src : List ℕ) (last : Bool) (piece : Piece) (read : ℕ) (q : List ℕ) → IsBorrowedCall p src last piece read q → length src ≤ 1 → text_for piece ≢ [] → IsSequence (text_for piece)
+  one_given p src last (Text text) read q call short some =
+      let (neutral, empty, positive, bytes, front) = call.answer in
+      let (cs, (scalars, spelled)) = front.kind in
+      let whole = spelled ∙ sym bytes in
+      subst IsSequence whole (one_character cs scalars (λ none. some (sym whole ∙ none)) (omega (arith, ap length spelled, length-take read src, front.within, short)))
+  one_given p src last (Char c) read q call short some =
+      let (pending, empty, within, scalar, spelled) = call.answer in
+      each c scalar
+  one_given p src last (Malformed k) read q call short some = each 0xFFFD refl
+  one_given p src last InputEmpty read q call short some = absurd (some refl)

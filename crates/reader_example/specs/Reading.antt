@@ -1,0 +1,54 @@
+-- What a reader has left to give, and where it cuts a character.
+use Rattle.std.specs.Prelude.{◌≡◌, ◌≢◌, ℕ, List, [], ◌++◌, length, Option, option_map, encode_utf8}
+use Rattle.std.specs.Char.{IsScalar}
+use Rattle.std.specs.Char.Escape.{encode_utf16}
+use Rattle.std.specs.List.{flat_map}
+use Rattle.std.specs.Str.{chars}
+use Rattle.std.specs.Str.Lossy.{utf8_lossy}
+use Rattle.encoding_text.specs.declared.decoder.Piece.{Piece}
+use Rattle.encoding_text.specs.declared.decoder.Piece.TheVariants.{Text, Char, Malformed, InputEmpty}
+use Rattle.reader_example.specs.declared.utf16_reader.Utf16Reader.{Utf16Reader}
+use Rattle.reader_example.specs.declared.utf8_reader.Utf8Reader.{Utf8Reader}
+
+-- What is held of a character, and then the repaired text of the bytes that are pending, of those that are unread and of
+-- those to come, where these are known.
+abbrev pub text_from : List ℕ → List ℕ → List ℕ → Option (List ℕ) → Option (List ℕ)
+text_from held pending unread known = option_map (λ bytes. held ++ utf8_lossy (pending ++ (unread ++ bytes))) known
+
+-- the text that a reader has left
+abbrev pub text_left : {R : Type 0} → (R → Option (List ℕ)) → Utf8Reader R → Option (List ℕ)
+text_left remaining r = text_from r.held r.decoder r.block (remaining r.inner)
+
+-- what it holds of a character whose front was given
+abbrev pub held_of : {R : Type 0} → Utf8Reader R → List ℕ
+held_of r = r.held
+
+-- The same in UTF-16, of which a reader holds the second half of a pair.
+abbrev pub units_from : List ℕ → Option (List ℕ) → Option (List ℕ)
+units_from held text = option_map (λ bytes. held ++ flat_map encode_utf16 (chars bytes)) text
+
+abbrev pub units_left : {R : Type 0} → (R → Option (List ℕ)) → Utf16Reader R → Option (List ℕ)
+units_left remaining r = units_from r.held (text_left remaining r.inner)
+
+abbrev pub half_of : {R : Type 0} → Utf16Reader R → List ℕ
+half_of r = r.held
+
+-- the code units of one character
+abbrev pub IsUtf16Character : List ℕ → Type 0
+IsUtf16Character units = (c : ℕ) × IsScalar c × (units ≡ encode_utf16 c)
+
+-- What a read gives, in front of what is held after it, with so much room. Of a character that was cut before these are
+-- what was held of it; else they are whole characters, or, where a part is held, one character that is longer than the
+-- room. A part is held only where the room is full.
+pub record GivesCharacters (IsText IsCharacter : List ℕ → Type 0) (held : List ℕ) (room : ℕ) (given held' : List ℕ) : Type 0 where
+  pub rest : held ≢ [] → given ++ held' ≡ held
+  pub whole : held ≡ [] → IsText (given ++ held')
+  pub one : held ≡ [] → held' ≢ [] → IsCharacter (given ++ held')
+  pub full : held' ≢ [] → length given ≡ room
+
+-- the text of what a call without a destination hands out
+abbrev pub text_for : Piece → List ℕ
+text_for (Text text) = text.now
+text_for (Char c) = encode_utf8 c
+text_for (Malformed k) = encode_utf8 0xFFFD
+text_for InputEmpty = []

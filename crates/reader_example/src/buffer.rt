@@ -1,0 +1,93 @@
+//! A buffer of fixed length: what was put into it, less what was taken from its front.
+ghost use Rattle.std.specs.Prelude.{◌≡◌, ◌<◌, ◌≤◌, [], List, ℕ, ◌++◌, length, take, drop, min, OnOk};
+ghost use Rattle.std.specs.Io.KnownBytes.{Consumes, IsAtEnd};
+
+use std::io;
+use std::io::Read;
+use std::marker::Model;
+
+/// The units from `begin` to `end`.
+#[derive(Drop)]
+pub(crate) struct Buffer<T: Copy, const N: usize> {
+    units: [T; N],
+    begin: usize,
+    end: usize,
+}
+
+impl<T: Copy, const N: usize> Model for Buffer<T, N> {
+    ghost use Rattle.std.specs.Prelude.{◌≤◌, List, length, slice_range};
+
+    ghost Value = { List T };
+
+    ghost view = { λ b. slice_range b.units b.begin b.end };
+
+    ghost invariant = { λ b. (b.begin ≤ b.end) × (b.end ≤ length b.units) };
+}
+
+impl<T: Copy, const N: usize> Buffer<T, N> {
+    /// A buffer of nothing, whose room is filled with `unit`.
+    pub(crate) fn new(unit: T) -> Buffer<T, N>
+        ensures { result ≡ [] }
+    {
+        Buffer {
+            units: [unit; N],
+            begin: 0,
+            end: 0,
+        }
+    }
+
+    /// What is in it.
+    pub(crate) fn unread(&self) -> &[T]
+        ensures value { result.now ≡ self.now }
+        ensures fits { length result.now ≤ N }
+    {
+        let units = &self.units[..];
+        &units[self.begin..self.end]
+    }
+
+    /// Takes so many units from its front.
+    pub(crate) fn consume(&mut self, count: usize)
+        requires { count ≤ length self.old }
+        ensures { self.new ≡ drop count self.old }
+    {
+        self.begin += count;
+    }
+
+    /// Puts these units in place of what is in it.
+    pub(crate) fn hold(&mut self, units: &[T])
+        requires { length units.now ≤ N }
+        ensures { self.new ≡ units.now }
+    {
+        self.units[..units.len()].copy_from_slice(units);
+        self.begin = 0;
+        self.end = units.len();
+    }
+
+    /// Moves as much of it as fits to the front of `dst`, and returns how much.
+    pub(crate) fn give(&mut self, dst: &mut [T]) -> usize
+        ensures count { result ≡ min (length dst.old) (length self.old) }
+        ensures room { length dst.new ≡ length dst.old }
+        ensures bytes { self.old ≡ take result dst.new ++ self.new }
+    {
+        let unread = self.unread();
+        let count = dst.len().min(unread.len());
+        dst[..count].copy_from_slice(&unread[..count]);
+        self.consume(count);
+        count
+    }
+}
+
+impl<const N: usize> Buffer<u8, N> {
+    /// Reads once, where nothing is in it.
+    pub(crate) fn fill<R: Read>(&mut self, reader: &mut R) -> io::Result<()>
+        requires empty { self.old ≡ [] }
+        requires room { 0 < N }
+        ensures bytes { Consumes (R.remaining reader.old) (R.remaining reader.new) self.new }
+        ensures end { OnOk result (self.new ≡ [] → IsAtEnd (R.remaining reader.new)) }
+    {
+        self.begin = 0;
+        self.end = 0;
+        self.end = reader.read(&mut self.units)?;
+        Ok(())
+    }
+}

@@ -1,0 +1,107 @@
+//! A reader of text in UTF-16.
+ghost use Rattle.std.specs.Prelude.{◌≡◌, ◌≢◌, ◌<◌, ◌≤◌, [], length, take, IfOk, OnOk, OnErr, option_map};
+ghost use Rattle.std.specs.Char.Escape.{encode_utf16};
+ghost use Rattle.std.specs.Io.{ReadsAtMost};
+ghost use Rattle.std.specs.Io.KnownBytes.{Keeps, ReadConsumes, IsAtEnd};
+ghost use Rattle.std.specs.List.{flat_map};
+ghost use Rattle.std.specs.Str.{chars};
+ghost use Rattle.std.specs.Str.Lossy.{utf8_lossy};
+ghost use Rattle.encoding_definitions.specs.Surrogates.{IsValidUtf16};
+
+use crate::buffer::Buffer;
+use crate::utf8_reader::Utf8Reader;
+use encoding_runs::laws::{law_sequences, law_utf16_round_trip};
+use encoding_text::mem::convert_str_to_utf16;
+use std::io::Read;
+use std::{io, str};
+
+/// How many bytes of text are read at a time.
+const BLOCK: usize = 1024;
+
+/// Into so many bytes no character is cut.
+const ROOM: usize = 4;
+
+/// Gives, in UTF-16, the repaired text of what `inner` gives.
+#[derive(Drop)]
+pub struct Utf16Reader<R> {
+    inner: Utf8Reader<R>,
+    // the second half of a pair that is longer than the room it was given into
+    held: Buffer<u16, 4>,
+    ghost whole: { inner.held ≡ [] },
+}
+
+impl<R: Read> Utf16Reader<R> {
+    ghost use Rattle.reader_example.specs.Reading.{units_left, half_of, IsUtf16Character, GivesCharacters};
+
+    /// A reader of the text of what `inner` gives.
+    pub fn new(inner: R) -> Utf16Reader<R>
+        ensures units { units_left R.remaining result
+            ≡ option_map (λ bytes. flat_map encode_utf16 (chars (utf8_lossy bytes))) (R.remaining inner) }
+        ensures held { half_of result ≡ [] }
+    {
+        Utf16Reader {
+            inner: Utf8Reader::new(inner),
+            held: Buffer::new(0),
+        }
+    }
+
+    /// Reads text into `bytes`, whole characters, and converts it. Meets the end where there is none.
+    fn decode(&mut self, bytes: &mut [u8], dst: &mut [u16]) -> io::Result<usize>
+        requires bytes { 4 ≤ length bytes.old }
+        requires room { length bytes.old ≤ length dst.old }
+        requires held { self.old.held ≡ [] }
+        ensures bound { ReadsAtMost result dst.new }
+        ensures units { ReadConsumes (units_left R.remaining self.old) (units_left R.remaining self.new) result dst.new }
+        ensures whole { IfOk result (λ n. IsValidUtf16 (take n dst.new)) }
+        ensures none_held { self.new.held ≡ [] }
+    {
+        law_utf16_round_trip();
+        let count = self.inner.read(bytes)?;
+        let text = unsafe { str::from_utf8_unchecked(&bytes[..count]) };
+        Ok(convert_str_to_utf16(text, dst))
+    }
+
+    /// Decodes one character, which is held, or meets the end.
+    fn hold(&mut self) -> io::Result<()>
+        requires held { self.old.held ≡ [] }
+        ensures units { Keeps (units_left R.remaining self.old) (units_left R.remaining self.new) }
+        ensures one { self.new.held ≢ [] → IsUtf16Character self.new.held }
+        ensures end { OnOk result (self.new.held ≡ [] → IsAtEnd (units_left R.remaining self.new)) }
+        ensures err { OnErr result (self.new.held ≡ []) }
+    {
+        law_sequences();
+        let mut bytes = [0; ROOM];
+        let count = self.inner.character(&mut bytes)?;
+        let character = unsafe { str::from_utf8_unchecked(&bytes[..count]) };
+        let mut units = [0; ROOM];
+        let count = convert_str_to_utf16(character, &mut units);
+        self.held.hold(&units[..count]);
+        Ok(())
+    }
+
+    /// Gives the next code units of the text, as long as there are any and `dst` has room, and returns how many: none is
+    /// the end, or no room. After an error of the reader inside, which is handed on, nothing is lost: what was read before
+    /// stays for the next call.
+    ///
+    /// No pair is cut unless `dst` has room for one code unit alone: then the next call gives the second.
+    pub fn read(&mut self, dst: &mut [u16]) -> io::Result<usize>
+        ensures bound { ReadsAtMost result dst.new }
+        ensures units { ReadConsumes (units_left R.remaining self.old) (units_left R.remaining self.new) result dst.new }
+        ensures characters { IfOk result (λ n. GivesCharacters IsValidUtf16 IsUtf16Character
+            (half_of self.old) (length dst.old) (take n dst.new) (half_of self.new)) }
+        ensures err { OnErr result (half_of self.new ≡ half_of self.old) }
+    {
+        if dst.is_empty() {
+            return Ok(0);
+        }
+        if self.held.unread().is_empty() {
+            if dst.len() >= ROOM {
+                let mut bytes = [0; BLOCK];
+                let room = dst.len().min(BLOCK);
+                return self.decode(&mut bytes[..room], dst);
+            }
+            self.hold()?;
+        }
+        Ok(self.held.give(dst))
+    }
+}

@@ -1,0 +1,181 @@
+//! A reader of text: what another gives, as well-formed UTF-8.
+ghost use Rattle.std.specs.Prelude.{◌≡◌, ◌≢◌, ◌↔◌, ◌<◌, ◌≤◌, [], length, take, true, false, IfOk, OnOk, OnErr, IsTrue, option_map};
+ghost use Rattle.std.specs.Io.{ReadsAtMost};
+ghost use Rattle.std.specs.Io.KnownBytes.{Keeps, ReadConsumes, IsAtEnd};
+ghost use Rattle.std.specs.Str.{IsUtf8};
+ghost use Rattle.std.specs.Str.Lossy.{utf8_lossy};
+ghost use Rattle.encoding_definitions.specs.Sequence.{IsSequence};
+ghost use Rattle.reader_example.specs.Reading.{text_for};
+
+use crate::buffer::Buffer;
+use encoding_runs::laws::{law_mixed_calls, law_parts, law_sequences};
+use encoding_runs::repair::repair_block;
+use encoding_text::decoder::{Piece, Utf8Decoder};
+use std::io;
+use std::io::Read;
+
+/// How many bytes are read at a time.
+const BLOCK: usize = 1024;
+
+/// With so much room a call of `repair_block` gets on.
+const ROOM: usize = 7;
+
+/// What stands for a broken part: the UTF-8 of U+FFFD.
+const REPLACEMENT: [u8; 3] = [0xEF, 0xBF, 0xBD];
+
+/// Holds the text of a piece: U+FFFD for a broken part.
+fn hold_piece(held: &mut Buffer<u8, 4>, piece: Piece<'_>)
+    requires { length (text_for piece) ≤ 4 }
+    ensures { held.new ≡ text_for piece.entry }
+{
+    match piece {
+        Piece::Text(text) => held.hold(text.as_bytes()),
+        Piece::Char(character) => {
+            let mut sequence = [0; 4];
+            held.hold(character.encode_utf8(&mut sequence).as_bytes());
+        }
+        Piece::Malformed(_) => held.hold(&REPLACEMENT),
+        Piece::InputEmpty => held.hold(&[]),
+    }
+}
+
+/// Gives the repaired text of what `inner` gives: each maximal broken part of it becomes U+FFFD.
+#[derive(Drop)]
+pub struct Utf8Reader<R> {
+    inner: R,
+    decoder: Utf8Decoder,
+    // what was read and not decoded
+    block: Buffer<u8, BLOCK>,
+    // what is left of a character that is longer than the room it was given into
+    held: Buffer<u8, 4>,
+}
+
+impl<R: Read> Utf8Reader<R> {
+    ghost use Rattle.reader_example.specs.Reading.{text_left, held_of};
+
+    /// A reader of the text of what `inner` gives.
+    pub fn new(inner: R) -> Utf8Reader<R>
+        ensures text { text_left R.remaining result ≡ option_map utf8_lossy (R.remaining inner) }
+        ensures held { held_of result ≡ [] }
+    {
+        Utf8Reader {
+            inner,
+            decoder: Utf8Decoder::new_inner(),
+            block: Buffer::new(0),
+            held: Buffer::new(0),
+        }
+    }
+
+    /// Reads where all that was read is decoded, and returns whether that met the end.
+    fn fill(&mut self) -> io::Result<bool>
+        ensures text { Keeps (text_left R.remaining self.old) (text_left R.remaining self.new) }
+        ensures same { (self.new.decoder ≡ self.old.decoder) × (self.new.held ≡ self.old.held) }
+        ensures ended { IfOk result (λ last. IsTrue last ↔ (self.new.block ≡ [])) }
+        ensures end { OnOk result (self.new.block ≡ [] → IsAtEnd (R.remaining self.new.inner)) }
+    {
+        if self.block.unread().is_empty() {
+            self.block.fill(&mut self.inner)?;
+        }
+        Ok(self.block.unread().is_empty())
+    }
+
+    /// Decodes into `dst` what gives some text, whole characters, or meets the end.
+    fn decode(&mut self, dst: &mut [u8]) -> io::Result<usize>
+        requires room { 7 ≤ length dst.old }
+        requires held { self.old.held ≡ [] }
+        ensures bound { ReadsAtMost result dst.new }
+        ensures bytes { ReadConsumes (text_left R.remaining self.old) (text_left R.remaining self.new) result dst.new }
+        ensures whole { IfOk result (λ n. IsUtf8 (take n dst.new)) }
+        ensures none_held { self.new.held ≡ [] }
+    {
+        law_parts();
+        loop {
+            let last = self.fill()?;
+            let repaired = repair_block(&mut self.decoder, self.block.unread(), dst, last);
+            self.block.consume(repaired.read);
+            if last || repaired.written > 0 {
+                return Ok(repaired.written);
+            }
+        }
+    }
+
+    /// Decodes the next byte, or what is pending at the end. What that gives, a character or nothing, is held.
+    fn decode_byte(&mut self, last: bool)
+        requires held { self.old.held ≡ [] }
+        requires ended { IsTrue last ↔ (self.old.block ≡ []) }
+        requires end { self.old.block ≡ [] → IsAtEnd (R.remaining self.old.inner) }
+        ensures text { Keeps (text_left R.remaining self.old) (text_left R.remaining self.new) }
+        ensures one { self.new.held ≢ [] → IsSequence self.new.held }
+        ensures end { self.new.held ≡ [] → last ≡ true → IsAtEnd (text_left R.remaining self.new) }
+        ensures progress { self.new.held ≡ [] → last ≡ false
+            → (length self.old.decoder < length self.new.decoder) × (length self.new.decoder ≤ 3) }
+    {
+        law_sequences();
+        law_parts();
+        law_mixed_calls();
+        let unread = self.block.unread();
+        let next = &unread[..unread.len().min(1)];
+        let (piece, read) = self.decoder.decode_borrowed_raw(next, last);
+        hold_piece(&mut self.held, piece);
+        self.block.consume(read);
+    }
+
+    /// Decodes what gives one character, which is held, or meets the end.
+    fn hold(&mut self) -> io::Result<()>
+        requires held { self.old.held ≡ [] }
+        ensures text { Keeps (text_left R.remaining self.old) (text_left R.remaining self.new) }
+        ensures one { self.new.held ≢ [] → IsSequence self.new.held }
+        ensures end { OnOk result (self.new.held ≡ [] → IsAtEnd (text_left R.remaining self.new)) }
+        ensures err { OnErr result (self.new.held ≡ []) }
+    {
+        loop {
+            let last = self.fill()?;
+            self.decode_byte(last);
+            if last || !self.held.unread().is_empty() {
+                return Ok(());
+            }
+        }
+    }
+
+    /// Decodes one character into `dst`, and returns how long it is: 0 at the end.
+    pub(crate) fn character(&mut self, dst: &mut [u8]) -> io::Result<usize>
+        requires room { 4 ≤ length dst.old }
+        requires held { self.old.held ≡ [] }
+        ensures bound { ReadsAtMost result dst.new }
+        ensures bytes { ReadConsumes (text_left R.remaining self.old) (text_left R.remaining self.new) result dst.new }
+        ensures one { IfOk result (λ n. 0 < n → IsSequence (take n dst.new)) }
+        ensures none_held { self.new.held ≡ [] }
+    {
+        self.hold()?;
+        Ok(self.held.give(dst))
+    }
+}
+
+impl<R: Read> Read for Utf8Reader<R> {
+    ghost use Rattle.reader_example.specs.Reading.{text_left, held_of, GivesCharacters};
+
+    ghost remaining = { text_left R.remaining };
+
+    /// Gives the next of the text, as long as there is any and `dst` has room. After an error of the reader inside, which
+    /// is handed on, nothing is lost: what was read before stays for the next call.
+    ///
+    /// No character is cut unless it is longer than `dst`: then the next calls give the rest of it.
+    fn read(&mut self, dst: &mut [u8]) -> io::Result<usize>
+        ensures bound { ReadsAtMost result dst.new }
+        ensures bytes { ReadConsumes (text_left R.remaining self.old) (text_left R.remaining self.new) result dst.new }
+        ensures characters { IfOk result (λ n.
+            GivesCharacters IsUtf8 IsSequence (held_of self.old) (length dst.old) (take n dst.new) (held_of self.new)) }
+        ensures err { OnErr result (held_of self.new ≡ held_of self.old) }
+    {
+        if dst.is_empty() {
+            return Ok(0);
+        }
+        if self.held.unread().is_empty() {
+            if dst.len() >= ROOM {
+                return self.decode(dst);
+            }
+            self.hold()?;
+        }
+        Ok(self.held.give(dst))
+    }
+}
