@@ -118,7 +118,7 @@ static bool no_units_written(void)
     return units_are(0);
 }
 
-static bool front_is(encoding_text_front front, size_t length, uint16_t other)
+static bool front_is(encoding_text_prefix front, size_t length, uint16_t other)
 {
     return front.length == length && front.other == other;
 }

@@ -64,39 +64,39 @@ typedef struct {
     size_t written; /**< elements of the destination */
 } encoding_text_counts;
 
-/** The longest ASCII front, and what ends it. */
+/** The longest ASCII prefix, and what ends it. */
 typedef struct {
-    size_t length;  /**< how many elements the front has */
+    size_t length;  /**< how many elements the prefix has */
     uint16_t other; /**< the first element behind it: 0 where there is none */
-} encoding_text_front;
+} encoding_text_prefix;
 
 /** @return the version of the library: 10,000 times the first number, 100 times the second, and the third */
 uint32_t encoding_text_version(void);
 
-/* ---- ASCII fronts ------------------------------------------------------------------------------------------------- */
+/* ---- ASCII prefixes ------------------------------------------------------------------------------------------------- */
 
-/** @return the longest front of bytes below 0x80, and the first byte behind it */
-encoding_text_front encoding_text_validate_ascii(const uint8_t *bytes, size_t bytes_length);
+/** @return the longest prefix of bytes below 0x80, and the first byte behind it */
+encoding_text_prefix encoding_text_validate_ascii(const uint8_t *bytes, size_t bytes_length);
 
-/** @return the length of the longest front of bytes below 0x80 */
+/** @return the length of the longest prefix of bytes below 0x80 */
 size_t encoding_text_ascii_valid_up_to(const uint8_t *bytes, size_t bytes_length);
 
-/** @return the length of the longest front of bytes below 0x80 without 0x1B, 0x0E and 0x0F: the bytes that the
+/** @return the length of the longest prefix of bytes below 0x80 without 0x1B, 0x0E and 0x0F: the bytes that the
  * ISO-2022-JP decoder gives back as they are (Encoding Standard, section 12.2.1) */
 size_t encoding_text_iso_2022_jp_ascii_valid_up_to(const uint8_t *bytes, size_t bytes_length);
 
-/** Copies the longest ASCII front of the first min(src_length, dst_length) elements. @return that front */
-encoding_text_front encoding_text_ascii_to_ascii(const uint8_t *src, size_t src_length, uint8_t *dst,
+/** Copies the longest ASCII prefix of the first min(src_length, dst_length) elements. @return that prefix */
+encoding_text_prefix encoding_text_ascii_to_ascii(const uint8_t *src, size_t src_length, uint8_t *dst,
                                                  size_t dst_length);
 
-/** Copies the longest ASCII front of the first min(src_length, dst_length) bytes, each as a code unit.
- * @return that front */
-encoding_text_front encoding_text_ascii_to_basic_latin(const uint8_t *src, size_t src_length, uint16_t *dst,
+/** Copies the longest ASCII prefix of the first min(src_length, dst_length) bytes, each as a code unit.
+ * @return that prefix */
+encoding_text_prefix encoding_text_ascii_to_basic_latin(const uint8_t *src, size_t src_length, uint16_t *dst,
                                                        size_t dst_length);
 
-/** Copies the longest ASCII front of the first min(src_length, dst_length) code units, each as a byte.
- * @return that front */
-encoding_text_front encoding_text_basic_latin_to_ascii(const uint16_t *src, size_t src_length, uint8_t *dst,
+/** Copies the longest ASCII prefix of the first min(src_length, dst_length) code units, each as a byte.
+ * @return that prefix */
+encoding_text_prefix encoding_text_basic_latin_to_ascii(const uint16_t *src, size_t src_length, uint8_t *dst,
                                                        size_t dst_length);
 
 /* ---- Whole buffers: checks ---------------------------------------------------------------------------------------- */
@@ -113,10 +113,10 @@ bool encoding_text_mem_is_utf16_latin1(const uint16_t *buffer, size_t buffer_len
  * ENCODING_TEXT_REFUSED_ANSWER where the bytes aren't well-formed */
 uint8_t encoding_text_mem_is_str_latin1(const uint8_t *buffer, size_t buffer_length);
 
-/** @return the length in bytes of the longest front that is the UTF-8 of scalar values up to U+00FF */
+/** @return the length in bytes of the longest prefix that is the UTF-8 of scalar values up to U+00FF */
 size_t encoding_text_mem_utf8_latin1_up_to(const uint8_t *buffer, size_t buffer_length);
 
-/** @return the length in bytes of the longest front of a text with scalar values up to U+00FF: ENCODING_TEXT_REFUSED
+/** @return the length in bytes of the longest prefix of a text with scalar values up to U+00FF: ENCODING_TEXT_REFUSED
  * where the bytes aren't well-formed */
 size_t encoding_text_mem_str_latin1_up_to(const uint8_t *buffer, size_t buffer_length);
 
@@ -151,7 +151,7 @@ uint8_t encoding_text_mem_check_utf16_for_latin1_and_bidi(const uint16_t *buffer
 
 /* ---- Whole buffers: conversions ----------------------------------------------------------------------------------- */
 
-/** Copies the longest ASCII front. @return its length; ENCODING_TEXT_REFUSED where dst_length < src_length */
+/** Copies the longest ASCII prefix. @return its length; ENCODING_TEXT_REFUSED where dst_length < src_length */
 size_t encoding_text_mem_copy_ascii_to_ascii(const uint8_t *src, size_t src_length, uint8_t *dst, size_t dst_length);
 size_t encoding_text_mem_copy_ascii_to_basic_latin(const uint8_t *src, size_t src_length, uint16_t *dst,
                                                    size_t dst_length);
@@ -162,7 +162,7 @@ size_t encoding_text_mem_copy_basic_latin_to_ascii(const uint16_t *src, size_t s
 size_t encoding_text_mem_convert_latin1_to_utf16(const uint8_t *src, size_t src_length, uint16_t *dst,
                                                  size_t dst_length);
 
-/** Writes the UTF-8 of the longest front of Latin1 whose UTF-8 fits (Encoding Standard, encodeInto).
+/** Writes the UTF-8 of the longest prefix of Latin1 whose UTF-8 fits (Encoding Standard, encodeInto).
  * @return how much was read and written */
 encoding_text_counts encoding_text_mem_convert_latin1_to_utf8_partial(const uint8_t *src, size_t src_length,
                                                                       uint8_t *dst, size_t dst_length);
@@ -201,7 +201,7 @@ size_t encoding_text_mem_convert_utf8_to_utf16(const uint8_t *src, size_t src_le
  * well-formed */
 size_t encoding_text_mem_convert_str_to_utf16(const uint8_t *src, size_t src_length, uint16_t *dst, size_t dst_length);
 
-/** Converts the longest well-formed front to UTF-16.
+/** Converts the longest well-formed prefix to UTF-16.
  * @return its length as `read`: src_length exactly where all of src is well-formed; ENCODING_TEXT_REFUSED twice where
  * dst_length < src_length */
 encoding_text_counts encoding_text_mem_convert_utf8_to_utf16_without_replacement(const uint8_t *src, size_t src_length,
@@ -264,15 +264,15 @@ size_t encoding_text_mem_convert_latin1_to_str(const uint8_t *src, size_t src_le
 
 /* ---- UTF-8 -------------------------------------------------------------------------------------------------------- */
 
-/** @return the length in bytes of the longest well-formed front */
+/** @return the length in bytes of the longest well-formed prefix */
 size_t encoding_text_utf8_valid_up_to(const uint8_t *src, size_t src_length);
 
-/** Of the characters of the longest well-formed front, reads and writes as UTF-16 the most that fit.
+/** Of the characters of the longest well-formed prefix, reads and writes as UTF-16 the most that fit.
  * @return how much that was */
 encoding_text_counts encoding_text_convert_utf8_to_utf16_up_to_invalid(const uint8_t *src, size_t src_length,
                                                                        uint16_t *dst, size_t dst_length);
 
-/** Writes the UTF-8 of a front of whole characters: then all is read, or at most three bytes are free.
+/** Writes the UTF-8 of a prefix of whole characters: then all is read, or at most three bytes are free.
  * @return how much was read and written */
 encoding_text_counts encoding_text_convert_utf16_to_utf8_partial_inner(const uint16_t *src, size_t src_length,
                                                                        uint8_t *dst, size_t dst_length);

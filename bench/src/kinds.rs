@@ -178,7 +178,7 @@ pub fn text(kind: Kind, size: usize, random: &mut Random) -> String {
 }
 
 /// What is measured: texts of the kind, of about so many bytes each. Short ones are many, taken in turn: on one text,
-/// again and again, branches that go by the text are foretold, which no text that is met once gives.
+/// again and again, branches that go by the text are predicted, as no text that is met once has them.
 pub fn sources(kind: Kind, size: usize) -> Vec<Source> {
     let count = ((256 << 10) / size).clamp(1, 1024) as u64;
     (0..count).map(|which| source(kind, size, which)).collect()

@@ -14,8 +14,8 @@
 //!
 //! Like is measured with like. Ours are called as functions of a library for C, and each peer through a function that
 //! isn't inlined either, all through an address (module `call`). C has no type for a text, so where a row takes or
-//! gives one (`str` in its name, and `encode_from_utf8`) each engine begins with bytes and validates them, ours at its
-//! door, a peer by `std::str::from_utf8` (module `rows`). A row whose call tells the element behind a front asks peers
+//! gives one (`str` in its name, and `encode_from_utf8`) each engine begins with bytes and validates them, ours
+//! in its function for C, a peer by `std::str::from_utf8` (module `rows`). A row whose call tells the element behind a front asks peers
 //! for that too.
 
 mod call;

@@ -1,6 +1,6 @@
-//! ASCII fronts: where the first byte or code unit from 0x80 on is, and copies of what is before it.
+//! ASCII prefixes: where the first byte or code unit from 0x80 on is, and copies of what is before it.
 //!
-//! Each call is one of the library, with its [promise](crate::promises#ascii); the crate adds that a front and what is
+//! Each call is one of the library, with its [promise](crate::promises#ascii); the crate adds that a prefix and what is
 //! behind it become an `Option`.
 
 use crate::c;
@@ -12,13 +12,13 @@ pub const ASCII_MASK: usize = usize::from_ne_bytes([0x80; size_of::<usize>()]);
 /// `encoding_rs` may leave there.
 pub const MAX_STRIDE_SIZE: usize = 16;
 
-/// The code unit behind a front, which is never 0, and its place.
+/// The code unit behind a prefix, which is never 0, and its place.
 #[inline]
 fn unit_behind(front: c::Front) -> Option<(u16, usize)> {
     (front.other != 0).then_some((front.other, front.length))
 }
 
-/// The byte behind a front of bytes, and its place.
+/// The byte behind a prefix of bytes, and its place.
 #[inline]
 fn byte_behind(front: c::Front) -> Option<(u8, usize)> {
     unit_behind(front).map(|(byte, place)| (byte as u8, place))
@@ -33,7 +33,7 @@ pub fn validate_ascii(bytes: &[u8]) -> Option<(u8, usize)> {
     byte_behind(c::encoding_text_validate_ascii(bytes))
 }
 
-/// The length in bytes of the longest ASCII front.
+/// The length in bytes of the longest ASCII prefix.
 ///
 /// [Proved](crate::promises#ascii).
 ///
@@ -46,7 +46,7 @@ pub fn ascii_valid_up_to(bytes: &[u8]) -> usize {
     c::encoding_text_ascii_valid_up_to(bytes)
 }
 
-/// The length in bytes of the longest front that the ISO-2022-JP decoder gives back as it is: ASCII without 0x1B, 0x0E
+/// The length in bytes of the longest prefix that the ISO-2022-JP decoder gives back as it is: ASCII without 0x1B, 0x0E
 /// and 0x0F (Encoding Standard, section 12.2.1).
 ///
 /// [Proved](crate::promises#ascii).
@@ -56,7 +56,7 @@ pub fn iso_2022_jp_ascii_valid_up_to(bytes: &[u8]) -> usize {
     c::encoding_text_iso_2022_jp_ascii_valid_up_to(bytes)
 }
 
-/// Copies the longest ASCII front of the first `min(src.len(), dst.len())` bytes. Returns the byte behind it and its
+/// Copies the longest ASCII prefix of the first `min(src.len(), dst.len())` bytes. Returns the byte behind it and its
 /// place, or `None` where all of these are ASCII. Behind the copy `dst` is as before.
 ///
 /// [Proved](crate::promises#ascii).
@@ -65,7 +65,7 @@ pub fn ascii_to_ascii(src: &[u8], dst: &mut [u8]) -> Option<(u8, usize)> {
     byte_behind(c::encoding_text_ascii_to_ascii(src, dst))
 }
 
-/// Copies the longest ASCII front of the first `min(src.len(), dst.len())` bytes, each as a code unit. Returns the byte
+/// Copies the longest ASCII prefix of the first `min(src.len(), dst.len())` bytes, each as a code unit. Returns the byte
 /// behind it and its place, or `None` where all of these are ASCII. Behind the copy `dst` is as before.
 ///
 /// [Proved](crate::promises#ascii).
@@ -74,7 +74,7 @@ pub fn ascii_to_basic_latin(src: &[u8], dst: &mut [u16]) -> Option<(u8, usize)> 
     byte_behind(c::encoding_text_ascii_to_basic_latin(src, dst))
 }
 
-/// Copies the longest ASCII front of the first `min(src.len(), dst.len())` code units, each as a byte. Returns the code
+/// Copies the longest ASCII prefix of the first `min(src.len(), dst.len())` code units, each as a byte. Returns the code
 /// unit behind it and its place, or `None` where all of these are ASCII. Behind the copy `dst` is as before.
 ///
 /// [Proved](crate::promises#ascii).

@@ -21,7 +21,7 @@ impl From<Counts> for (usize, usize) {
     }
 }
 
-/// The length of an ASCII front, and the element behind it, 0 where there is none.
+/// The length of an ASCII prefix, and the element behind it, 0 where there is none.
 #[repr(C)]
 pub(crate) struct Front {
     pub(crate) length: usize,

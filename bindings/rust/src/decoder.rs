@@ -28,7 +28,7 @@ fn ended(decoded: &c::Decoded) -> DecoderResult {
 #[must_use]
 #[derive(Clone, Copy, Debug, PartialEq, Eq)]
 pub enum Piece<'a> {
-    /// The longest well-formed front of the source, as a part of the source itself.
+    /// The longest well-formed prefix of the source, as a part of the source itself.
     Text(&'a str),
     /// The character that the pending bytes begin and the read ones end.
     Char(char),
@@ -141,7 +141,7 @@ impl Utf8Decoder {
     /// Decodes without a destination: what was found, and how many bytes of `src` were read. `last` says that no bytes will
     /// follow `src`.
     ///
-    /// With nothing pending, and a character at the front, it is the longest well-formed front, which isn't copied. Else it
+    /// With nothing pending, and a character at the front, it is the longest well-formed prefix, which isn't copied. Else it
     /// is the character or the broken part that the pending bytes and those of `src` begin with, or
     /// [`Piece::InputEmpty`] where all is read first: then the pending bytes and the read ones are pending now, and none are
     /// in a call marked last. Hand in the unread bytes again.

@@ -6,7 +6,7 @@
 //! `u8` and `str`, code units for `u16`.
 //!
 //! The calls are those of the library, each with its [promise](crate::promises#mem). The crate adds tests of lengths,
-//! which panic before anything is written, and what a call names beside that. What is behind the written front of a
+//! which panic before anything is written, and what a call names beside that. What is behind the written prefix of a
 //! destination is as before, but in the calls into a `str`, which say what they clear.
 
 mod bidi;

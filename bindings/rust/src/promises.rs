@@ -7,7 +7,7 @@
 //! below lead to its tables from documentation that was built in the repository.
 //!
 //! Of all calls it is proved that they return, that they touch no memory but their arguments, and that what is behind the
-//! written front of a destination is as before. The crate adds to all that slices, texts and results of C are turned into
+//! written prefix of a destination is as before. The crate adds to all that slices, texts and results of C are turned into
 //! one another: lengths, layouts, which numbers stand for which variants, and that a `str` is well-formed where a call asks
 //! for that. So much is read and tested, and not proved.
 //!
@@ -18,7 +18,7 @@
 //! | Calls of [`ascii`](crate::ascii) | Proved | The crate's own |
 //! |---|---|---|
 //! | `ascii_valid_up_to`, `iso_2022_jp_ascii_valid_up_to` | all that is said | nothing |
-//! | `validate_ascii`, `ascii_to_ascii`, `ascii_to_basic_latin`, `basic_latin_to_ascii` | what is copied, the length of the front, the element behind it | an `Option` of the last two |
+//! | `validate_ascii`, `ascii_to_ascii`, `ascii_to_basic_latin`, `basic_latin_to_ascii` | what is copied, the length of the prefix, the element behind it | an `Option` of the last two |
 //! | `ASCII_MASK`, `MAX_STRIDE_SIZE` | nothing | the numbers |
 //!
 //! # `mem`
@@ -36,7 +36,7 @@
 //! | `convert_utf16_to_str_partial`, `convert_latin1_to_str_partial` | what is written, and how much | what is cleared behind it, and that the destination is text then |
 //! | `convert_utf16_to_str`, `convert_latin1_to_str` | what is written, and how much, into a destination that is long enough | that test, and the same |
 //! | `convert_utf8_to_latin1_lossy` | what is written, and how much, where the source is Latin1 in UTF-8 and the destination long enough | that test, and what becomes of another source |
-//! | `decode_latin1`, `encode_latin1_lossy` | the ASCII front, and what the rest becomes | the allocation, that the two are joined, and what becomes of a text beyond Latin1 |
+//! | `decode_latin1`, `encode_latin1_lossy` | the ASCII prefix, and what the rest becomes | the allocation, that the two are joined, and what becomes of a text beyond Latin1 |
 //!
 //! # `utf_8`
 //!
@@ -84,7 +84,7 @@
 //!
 //! | Calls | Proved | The crate's own |
 //! |---|---|---|
-//! | [`repair`](crate::repair()) | the well-formed front, and the repaired rest | the allocation, and that the two are joined |
+//! | [`repair`](crate::repair()) | the well-formed prefix, and the repaired rest | the allocation, and that the two are joined |
 //! | [`repair_to`](crate::repair_to) | each chunk, as above | that they are written in their order, with U+FFFD for each broken part |
 //!
 //! # Streams

@@ -11,9 +11,9 @@ use alloc::borrow::Cow;
 /// The bytes as text, with U+FFFD for each broken part: borrowed exactly where all are well-formed. It is what
 /// `String::from_utf8_lossy` gives.
 ///
-/// What it says is [proved](crate::promises#repair) of the two calls that it makes, one for the longest well-formed front
+/// What it says is [proved](crate::promises#repair) of the two calls that it makes, one for the longest well-formed prefix
 /// and one for what is behind it; that they are joined is done by the crate. An owned result takes one allocation, three
-/// times as long as what is behind that front, and gives back what is too much. Only with the feature `alloc`.
+/// times as long as what is behind that prefix, and gives back what is too much. Only with the feature `alloc`.
 ///
 /// ```
 /// use std::borrow::Cow;
@@ -73,7 +73,7 @@ impl<W: Write + ?Sized> Together<'_, W> {
 ///
 /// # Errors
 ///
-/// Those of the sink's `write_all`. A front of the text was written then, less than all.
+/// Those of the sink's `write_all`. A prefix of the text was written then, less than all.
 ///
 /// ```
 /// let mut text = Vec::new();

@@ -1,4 +1,4 @@
-//! UTF-8 as such: its longest well-formed front, conversions up to the first broken part, the table of second bytes, and
+//! UTF-8 as such: its longest well-formed prefix, conversions up to the first broken part, the table of second bytes, and
 //! the streaming encoder; under the names of the module `utf_8` of `encoding_rs`.
 
 mod encoder;
@@ -10,7 +10,7 @@ pub use table::{Utf8Data, UTF8_DATA};
 
 use crate::c;
 
-/// The length in bytes of the longest well-formed front (Unicode Standard, section 3.9, Table 3-7).
+/// The length in bytes of the longest well-formed prefix (Unicode Standard, section 3.9, Table 3-7).
 ///
 /// [Proved](crate::promises#utf_8).
 ///
@@ -23,7 +23,7 @@ pub fn utf8_valid_up_to(src: &[u8]) -> usize {
     c::encoding_text_utf8_valid_up_to(src)
 }
 
-/// Of the characters of the longest well-formed front, reads and writes as UTF-16 the most that fit. Returns how many
+/// Of the characters of the longest well-formed prefix, reads and writes as UTF-16 the most that fit. Returns how many
 /// bytes were read and how many code units written.
 ///
 /// [Proved](crate::promises#utf_8).
@@ -32,7 +32,7 @@ pub fn convert_utf8_to_utf16_up_to_invalid(src: &[u8], dst: &mut [u16]) -> (usiz
     c::encoding_text_convert_utf8_to_utf16_up_to_invalid(src, dst).into()
 }
 
-/// Writes the UTF-8 of a front of whole characters, with U+FFFD for each lone surrogate: then all is read, or at most
+/// Writes the UTF-8 of a prefix of whole characters, with U+FFFD for each lone surrogate: then all is read, or at most
 /// three bytes are free. Returns how many code units were read and how many bytes written.
 ///
 /// [Proved](crate::promises#utf_8).

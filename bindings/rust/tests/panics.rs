@@ -60,7 +60,7 @@ fn tail() {
     }
 }
 
-/// Beyond Latin1: a panic with debug assertions, else the longest front of Latin1.
+/// Beyond Latin1: a panic with debug assertions, else the longest prefix of Latin1.
 #[test]
 fn beyond_latin1() {
     for (bytes, latin1) in [

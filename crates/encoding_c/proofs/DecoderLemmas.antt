@@ -56,9 +56,9 @@ held_again src pending returned read q call = said returned (same_piece [] src f
     said piece.InputEmpty s = refl
 
 -- the last bytes, one after another
-pub last_bytes : (xs front q : List ℕ) (a b c n : ℕ) → xs ≡ front ++ q → length q ≤ 3 → n ≡ length front → a ≡ slice_index xs n → b ≡ slice_index xs (n + 1) → c ≡ slice_index xs (n + 2)
+pub compress_last : (xs front q : List ℕ) (a b c n : ℕ) → xs ≡ front ++ q → length q ≤ 3 → n ≡ length front → a ≡ slice_index xs n → b ≡ slice_index xs (n + 1) → c ≡ slice_index xs (n + 2)
     → take (length q) (a ∷ b ∷ c ∷ []) ≡ q
-last_bytes xs front q a b c n e few at f g h = three q few (f ∙ ap (slice_index xs) (zero n) ∙ here 0) (g ∙ here 1) (h ∙ here 2)
+compress_last xs front q a b c n e few at f g h = three q few (f ∙ ap (slice_index xs) (zero n) ∙ here 0) (g ∙ here 1) (h ∙ here 2)
   where
     zero : (m : ℕ) → m ≡ m + 0
     zero m = omega arith

@@ -6,7 +6,7 @@ ghost use Rattle.encoding_definitions.specs.Latin1.{IsLatin1, IsUtf8Latin1};
 ghost use Rattle.encoding_definitions.specs.Bidi.{IsRightToLeft, IsRightToLeftUnit, IsBidiUnits, IsBidiText, IsBidiBytes};
 ghost use Rattle.encoding_c.specs.Doors.{Tells, Chooses};
 
-use crate::door::{BIDI, LATIN1, LEFT_TO_RIGHT, NO, REFUSED_ANSWER, YES, as_text};
+use crate::status::{BIDI, LATIN1, LEFT_TO_RIGHT, NO, REFUSED_ANSWER, YES, as_text};
 use encoding_text::mem::{self, Latin1Bidi};
 
 /// Whether the scalar value is right-to-left: `REFUSED_ANSWER` where the number is no scalar value.

@@ -6,7 +6,7 @@ ghost use Rattle.encoding_definitions.specs.Fronts.{IsLongestFront};
 ghost use Rattle.encoding_definitions.specs.Latin1.{IsLatin1, IsUtf8Latin1};
 ghost use Rattle.encoding_c.specs.Doors.{Tells};
 
-use crate::door::{NO, REFUSED, REFUSED_ANSWER, YES, as_text};
+use crate::status::{NO, REFUSED, REFUSED_ANSWER, YES, as_text};
 use encoding_text::mem;
 
 /// Whether each byte is ASCII.
@@ -53,7 +53,7 @@ pub extern "C" fn encoding_text_mem_is_utf16_latin1(buffer: &[u16]) -> bool
     mem::is_utf16_latin1(buffer)
 }
 
-/// The length in bytes of the longest front that is the UTF-8 of scalar values up to U+00FF.
+/// The length in bytes of the longest prefix that is the UTF-8 of scalar values up to U+00FF.
 #[unsafe(no_mangle)]
 pub extern "C" fn encoding_text_mem_utf8_latin1_up_to(buffer: &[u8]) -> usize
     ensures { IsLongestFront IsUtf8Latin1 buffer.now result }
@@ -61,7 +61,7 @@ pub extern "C" fn encoding_text_mem_utf8_latin1_up_to(buffer: &[u8]) -> usize
     mem::utf8_latin1_up_to(buffer)
 }
 
-/// The length in bytes of the longest front of a text that is the UTF-8 of scalar values up to U+00FF: `REFUSED` where the
+/// The length in bytes of the longest prefix of a text that is the UTF-8 of scalar values up to U+00FF: `REFUSED` where the
 /// bytes are no text.
 #[unsafe(no_mangle)]
 pub extern "C" fn encoding_text_mem_str_latin1_up_to(buffer: &[u8]) -> usize

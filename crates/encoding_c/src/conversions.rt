@@ -10,11 +10,11 @@ ghost use Rattle.encoding_definitions.specs.Latin1.{IsUtf8Latin1};
 ghost use Rattle.encoding_definitions.specs.Parts.{Part, ArePartsOf, repaired_utf16};
 ghost use Rattle.encoding_definitions.specs.Utf16.{IsUtf8OfLongestFront, IsUtf8OfUnits};
 
-use crate::door::{EncodingCounts, REFUSED, as_text};
+use crate::status::{EncodingCounts, REFUSED, as_text};
 use encoding_text::mem;
 use encoding_text::utf_8::convert_utf8_to_utf16_up_to_invalid;
 
-/// Copies the longest ASCII front. Behind what is written `dst` is as before. `REFUSED` where `dst` is shorter than `src`.
+/// Copies the longest ASCII prefix. Behind what is written `dst` is as before. `REFUSED` where `dst` is shorter than `src`.
 #[unsafe(no_mangle)]
 pub extern "C" fn encoding_text_mem_copy_ascii_to_ascii(src: &[u8], dst: &mut [u8]) -> usize
     ensures front { length src.now ≤ length dst.old → IsLongestFront IsAscii src.now result }
@@ -27,7 +27,7 @@ pub extern "C" fn encoding_text_mem_copy_ascii_to_ascii(src: &[u8], dst: &mut [u
     mem::copy_ascii_to_ascii(src, dst)
 }
 
-/// Copies the longest ASCII front, each byte as a code unit. Behind what is written `dst` is as before. `REFUSED` where
+/// Copies the longest ASCII prefix, each byte as a code unit. Behind what is written `dst` is as before. `REFUSED` where
 /// `dst` is shorter than `src`.
 #[unsafe(no_mangle)]
 pub extern "C" fn encoding_text_mem_copy_ascii_to_basic_latin(src: &[u8], dst: &mut [u16]) -> usize
@@ -41,7 +41,7 @@ pub extern "C" fn encoding_text_mem_copy_ascii_to_basic_latin(src: &[u8], dst: &
     mem::copy_ascii_to_basic_latin(src, dst)
 }
 
-/// Copies the longest ASCII front of code units, each as a byte. Behind what is written `dst` is as before. `REFUSED`
+/// Copies the longest ASCII prefix of code units, each as a byte. Behind what is written `dst` is as before. `REFUSED`
 /// where `dst` is shorter than `src`.
 #[unsafe(no_mangle)]
 pub extern "C" fn encoding_text_mem_copy_basic_latin_to_ascii(src: &[u16], dst: &mut [u8]) -> usize
@@ -70,7 +70,7 @@ pub extern "C" fn encoding_text_mem_convert_latin1_to_utf16(src: &[u8], dst: &mu
     src.len()
 }
 
-/// Writes the UTF-8 of the longest front of Latin1 whose UTF-8 fits. Behind what is written `dst` is as before.
+/// Writes the UTF-8 of the longest prefix of Latin1 whose UTF-8 fits. Behind what is written `dst` is as before.
 #[unsafe(no_mangle)]
 pub extern "C" fn encoding_text_mem_convert_latin1_to_utf8_partial(
     src: &[u8],
@@ -164,7 +164,7 @@ pub extern "C" fn encoding_text_mem_convert_str_to_utf16(src: &[u8], dst: &mut [
     }
 }
 
-/// Converts the longest well-formed front to UTF-16. `read` is its length, and so the length of `src` exactly where all of
+/// Converts the longest well-formed prefix to UTF-16. `read` is its length, and so the length of `src` exactly where all of
 /// it is well-formed. Behind what is written `dst` is as before. `REFUSED` twice where `dst` is shorter than `src`.
 #[unsafe(no_mangle)]
 pub extern "C" fn encoding_text_mem_convert_utf8_to_utf16_without_replacement(

@@ -6,7 +6,7 @@ ghost use Rattle.encoding_definitions.specs.Utf16.{IsHighSurrogate};
 ghost use Rattle.encoding_text.specs.Encoding.{IsHeld, IsEncoderCall, IsEncoderTextCall};
 ghost use Rattle.encoding_c.specs.States.{Holds, IsLastOf, IsKept, IsToldEncoded, EncoderCall};
 
-use crate::door::{REFUSED_ANSWER, as_text};
+use crate::status::{REFUSED_ANSWER, as_text};
 use encoding_text::utf_8::{EncoderResult, Utf8Encoder};
 
 /// An encoder between two calls: the high surrogate that it holds. What is no high surrogate is taken for an encoder that

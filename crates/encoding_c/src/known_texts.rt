@@ -9,7 +9,7 @@ ghost use Rattle.encoding_definitions.specs.Fronts.{IsLongestFront, WritesFront}
 ghost use Rattle.encoding_definitions.specs.Latin1.{IsUtf8Latin1};
 ghost use Rattle.encoding_c.specs.Doors.{Chooses};
 
-use crate::door::{BIDI, LATIN1, LEFT_TO_RIGHT, REFUSED};
+use crate::status::{BIDI, LATIN1, LEFT_TO_RIGHT, REFUSED};
 use encoding_text::mem::{self, Latin1Bidi};
 use std::str::from_utf8_unchecked;
 
@@ -22,7 +22,7 @@ pub extern "C" fn encoding_text_mem_is_str_latin1_unchecked(buffer: &[u8]) -> bo
     mem::is_str_latin1(unsafe { from_utf8_unchecked(buffer) })
 }
 
-/// The length in bytes of the text's longest front of scalar values up to U+00FF.
+/// The length in bytes of the text's longest prefix of scalar values up to U+00FF.
 #[unsafe(no_mangle)]
 pub extern "C" fn encoding_text_mem_str_latin1_up_to_unchecked(buffer: &[u8]) -> usize
     requires text { IsUtf8 buffer.now }

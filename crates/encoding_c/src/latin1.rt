@@ -5,7 +5,7 @@ ghost use Rattle.std.specs.Str.{chars};
 ghost use Rattle.encoding_definitions.specs.Fronts.{WritesFront};
 ghost use Rattle.encoding_definitions.specs.Latin1.{IsUtf8Latin1};
 
-use crate::door::REFUSED;
+use crate::status::REFUSED;
 use encoding_text::mem;
 
 /// Writes the text whose characters are the bytes, and returns its length. Behind what is written `dst` is as before.

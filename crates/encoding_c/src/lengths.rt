@@ -6,7 +6,7 @@ ghost use Rattle.encoding_definitions.specs.Latin1.{IsUtf8Latin1};
 ghost use Rattle.encoding_definitions.specs.Parts.{Part, ArePartsOf, repaired_utf16};
 ghost use Rattle.encoding_definitions.specs.Utf16.{IsUtf8OfUnits};
 
-use crate::door::REFUSED;
+use crate::status::REFUSED;
 use encoding_text::mem;
 
 /// The number of code units of the bytes in UTF-16, with U+FFFD for each broken part.

@@ -5,7 +5,7 @@
 //! its place before the body begins, so that no slice here is `NULL`.
 //!
 //! What a contract of `encoding_text` asks of its caller, and a caller in C can break, is tested here: then nothing is read
-//! or written, and the result is one that no honest call has. The calls of `known_texts` alone hand the condition on.
+//! or written, and the result is one that no other call has. The calls of `known_texts` alone hand the condition on.
 #![tactic(auto)]
 
 pub mod ascii;
@@ -15,13 +15,13 @@ pub mod broken;
 pub mod checks;
 pub mod conversions;
 pub mod decoder;
-pub mod door;
 pub mod encoder;
 pub mod known_texts;
 pub mod latin1;
 pub mod lengths;
 pub mod repair;
 pub mod runs;
+pub mod status;
 pub mod surrogates;
 pub mod text_destinations;
 pub mod utf_8;

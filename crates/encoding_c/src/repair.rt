@@ -5,7 +5,7 @@ ghost use Rattle.std.proofs.Common.{◌∙◌, arith};
 ghost use Rattle.encoding_definitions.specs.Fronts.{WritesFront};
 ghost use Rattle.encoding_runs.specs.Repairs.{IsRepairedWith};
 
-use crate::door::REFUSED;
+use crate::status::REFUSED;
 use encoding_runs::repair::{Sink, repair_slice};
 
 /// How many bytes were written, and how many broken parts became U+FFFD.

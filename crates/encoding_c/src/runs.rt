@@ -10,8 +10,8 @@ ghost use Rattle.encoding_runs.specs.EncoderRuns.{EncodesByTurns};
 ghost use Rattle.encoding_c.specs.Runs.{IsToldLast, IsToldLastEncoded, DecoderRun, EncoderRun};
 
 use crate::decoder::{self, EncodingUtf8Decoder, pending_count};
-use crate::door::REFUSED_ANSWER;
 use crate::encoder::{self, EncodingEncoded, EncodingUtf8Encoder};
+use crate::status::REFUSED_ANSWER;
 use encoding_runs::run::{Outcome, Report, Turn, run_from_utf16, run_to_utf8, run_to_utf16};
 use encoding_text::decoder::DecoderResult;
 use encoding_text::utf_8::EncoderResult;

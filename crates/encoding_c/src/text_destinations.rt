@@ -6,7 +6,7 @@ ghost use Rattle.encoding_definitions.specs.Clearing.{WritesAndClears};
 ghost use Rattle.encoding_definitions.specs.Fronts.{FitsLongest};
 ghost use Rattle.encoding_definitions.specs.Utf16.{IsUtf8OfLongestFront, IsUtf8OfUnits};
 
-use crate::door::{EncodingCounts, REFUSED};
+use crate::status::{EncodingCounts, REFUSED};
 use encoding_text::mem;
 use encoding_text::utf_8::utf8_valid_up_to;
 
@@ -59,7 +59,7 @@ pub extern "C" fn encoding_text_mem_convert_utf16_to_str(src: &[u16], dst: &mut 
     mem::convert_utf16_to_str(src, dst)
 }
 
-/// Writes the UTF-8 of the longest front of Latin1 whose UTF-8 fits. Then the sixteen bytes behind what is written, or
+/// Writes the UTF-8 of the longest prefix of Latin1 whose UTF-8 fits. Then the sixteen bytes behind what is written, or
 /// all where there are fewer, and the continuation bytes directly behind those become zero. Behind all these `dst` is as
 /// before. `REFUSED` twice where `dst` is no text.
 #[unsafe(no_mangle)]

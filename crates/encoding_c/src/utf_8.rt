@@ -6,10 +6,10 @@ ghost use Rattle.encoding_definitions.specs.Fronts.{IsLongestFront, WritesFront}
 ghost use Rattle.encoding_definitions.specs.Converting.{ConvertsLongest};
 ghost use Rattle.encoding_definitions.specs.Utf16.{IsUtf8OfFront, IsUtf8OfLongestFront};
 
-use crate::door::{EncodingCounts, REFUSED};
+use crate::status::{EncodingCounts, REFUSED};
 use encoding_text::utf_8;
 
-/// The length in bytes of the longest front that is well-formed UTF-8.
+/// The length in bytes of the longest prefix that is well-formed UTF-8.
 #[unsafe(no_mangle)]
 pub extern "C" fn encoding_text_utf8_valid_up_to(src: &[u8]) -> usize
     ensures { IsLongestFront IsUtf8 src.now result }
@@ -17,7 +17,7 @@ pub extern "C" fn encoding_text_utf8_valid_up_to(src: &[u8]) -> usize
     utf_8::utf8_valid_up_to(src)
 }
 
-/// Of the characters of the longest well-formed front, reads and writes as UTF-16 the most that fit. Behind what is
+/// Of the characters of the longest well-formed prefix, reads and writes as UTF-16 the most that fit. Behind what is
 /// written `dst` is as before.
 #[unsafe(no_mangle)]
 pub extern "C" fn encoding_text_convert_utf8_to_utf16_up_to_invalid(
@@ -30,7 +30,7 @@ pub extern "C" fn encoding_text_convert_utf8_to_utf16_up_to_invalid(
     EncodingCounts { read, written }
 }
 
-/// The UTF-8 of a front of whole characters: all is read, or at most three bytes are free. Behind what is written `dst`
+/// The UTF-8 of a prefix of whole characters: all is read, or at most three bytes are free. Behind what is written `dst`
 /// is as before.
 #[unsafe(no_mangle)]
 pub extern "C" fn encoding_text_convert_utf16_to_utf8_partial_inner(

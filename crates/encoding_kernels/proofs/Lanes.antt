@@ -1,14 +1,14 @@
 pub mod ChunksLemmas
 pub mod EndsLemmas
-pub mod HalvesLemmas
-pub mod KeptLemmas
+pub mod SurrogatePairsLemmas
+pub mod CompressLemmas
 pub mod LaneLemmas
 pub mod LongLemmas
 pub mod NarrowLemmas
 pub mod PlacesLemmas
 pub mod PlainLemmas
 pub mod PutLemmas
-pub mod SpellingLemmas
+pub mod EncodeLanesLemmas
 pub mod StoresLemmas
 pub mod TestLemmas
 pub mod UnitBytesLemmas

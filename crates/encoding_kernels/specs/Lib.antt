@@ -2,9 +2,9 @@ pub mod Following
 pub mod Places
 pub mod Strides
 pub mod Lanes
-pub mod Spelling
+pub mod EncodeLanes
 pub mod Units
-pub mod Halves
+pub mod SurrogatePairs
 pub mod BidiBlocks
 pub mod Pairs
 pub mod Lengths

@@ -17,8 +17,8 @@ places_from zero at mask = []
 places_from (suc n) at mask = (if mask % 2 == 1 then at ∷ [] else []) ++ places_from n (at + 1) (mask / 2)
 
 -- the places of eight lanes whose bit is set, and zeros behind them
-unfoldable pub gathered_places : ℕ → List ℕ
-gathered_places mask = take 8 (places_from 8 0 mask ++ replicate 8 0)
+unfoldable pub compressed_places : ℕ → List ℕ
+compressed_places mask = take 8 (places_from 8 0 mask ++ replicate 8 0)
 
 -- the two bytes of each of these lanes
 unfoldable pub bytes_at : List ℕ → List ℕ
@@ -26,10 +26,10 @@ bytes_at [] = []
 bytes_at (k ∷ ks) = (2 * k) ∷ (2 * k + 1) ∷ bytes_at ks
 
 unfoldable pub byte_places : ℕ → List ℕ
-byte_places mask = bytes_at (gathered_places mask)
+byte_places mask = bytes_at (compressed_places mask)
 
 -- the elements whose mark is set stand in front, so many; of the rest the first `reach` places may have changed
-pub record PutsKept (marks : List Bool) (us old new : List ℕ) (count reach : ℕ) : Type 0 where
+pub record WritesCompressed (marks : List Bool) (us old new : List ℕ) (count reach : ℕ) : Type 0 where
   pub counted : count ≡ length (keep marks us)
   pub placed : take count new ≡ keep marks us
   pub behind : drop reach new ≡ drop reach old
@@ -82,7 +82,7 @@ units_in text = length (flat_map encode_utf16 (chars text))
 
 -- Of the text some first characters are read, n bytes, and their code units written in front, so many; of the
 -- destination the first `reach` places may have changed, and no other.
-pub record PutsText (src old new : List ℕ) (read written reach : ℕ) : Type 0 where
+pub record WritesUtf16 (src old new : List ℕ) (read written reach : ℕ) : Type 0 where
   pub taken : List ℕ
   pub are_scalars : all_scalars taken ≡ true
   pub within : read ≤ length src

@@ -4,21 +4,9 @@ ghost use Rattle.encoding_kernels.specs.BidiBlocks.{second_end, mark_lead, may_b
 ghost use Rattle.encoding_kernels.specs.Lanes.{HasLanes};
 
 use crate::places::{Places, all, reach, skip};
-use crate::strides::UnitsBelow;
+use crate::strides::{BLOCK, HALF_UNIT_BLOCK, STRIDE, UNIT_STRIDE, UnitsBelow};
 use std::simd::Simd;
 use std::simd::prelude::*;
-
-/// The places that one test covers.
-const BLOCK: usize = 64;
-
-/// The places of a lesser test, and those that are looked at one by one where it doesn't clear them.
-pub const STRIDE: usize = 16;
-
-/// The code units that one test covers.
-const UNIT_BLOCK: usize = 32;
-
-/// The code units of a lesser test, and those that are looked at one by one where it doesn't clear them.
-pub const UNIT_STRIDE: usize = 8;
 
 /// The first right-to-left code unit.
 pub const FIRST_UNIT: u16 = 0x0590;
@@ -181,8 +169,10 @@ pub fn skip_clear_units(units: &[u16], from: usize) -> usize
         bound: FIRST_UNIT,
     };
     let mut at = from;
-    while units.len() - at >= UNIT_BLOCK && all::<UNIT_BLOCK, UNIT_BLOCK, _>(&test, at) {
-        at = skip::<UNIT_BLOCK, UNIT_BLOCK, _>(&low, at + UNIT_BLOCK);
+    while units.len() - at >= HALF_UNIT_BLOCK
+        && all::<HALF_UNIT_BLOCK, HALF_UNIT_BLOCK, _>(&test, at)
+    {
+        at = skip::<HALF_UNIT_BLOCK, HALF_UNIT_BLOCK, _>(&low, at + HALF_UNIT_BLOCK);
     }
     reach::<UNIT_STRIDE, UNIT_STRIDE, _>(&test, at)
 }

@@ -232,7 +232,7 @@ fn skip_ascii(src: &[u8], from: usize) -> usize
     skip::<64, 64, _>(&ascii, from)
 }
 
-/// How many bytes may each stand behind those before it, up to the first that may not, where an ASCII front ends at
+/// How many bytes may each stand behind those before it, up to the first that may not, where an ASCII prefix ends at
 /// `front`. Out of line: where the loop lies, and so its speed, depends on no caller's code.
 #[inline(never)]
 fn following(src: &[u8], front: usize) -> usize
@@ -269,7 +269,7 @@ fn following(src: &[u8], front: usize) -> usize
     finish(src, at)
 }
 
-/// The length of a well-formed front, by whole blocks, where the first bytes are ASCII.
+/// The length of a well-formed prefix, by whole blocks, where the first bytes are ASCII.
 #[inline(always)]
 pub fn well_formed_blocks(src: &[u8], front: usize) -> usize
     requires long { 16 ≤ length src.now }

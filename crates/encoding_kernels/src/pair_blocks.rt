@@ -7,22 +7,13 @@ ghost use Rattle.encoding_kernels.specs.Pairs.{PairUp, HaveNoSurrogate, FitLatin
 ghost use Rattle.encoding_definitions.specs.Surrogates.{IsValidUtf16};
 
 use crate::places::{Places, all, reach, skip};
-use crate::strides::STRIDE;
+use crate::strides::{BLOCK, STRIDE, UNIT_BLOCK, UNIT_STRIDE};
 use crate::surrogates::{is_high_surrogate, is_low_surrogate};
 use std::simd::Simd;
 use std::simd::prelude::*;
 
-/// The code units that one test covers.
-const UNIT_BLOCK: usize = 64;
-
 /// How many blocks behind one with surrogates are tested for pairs at once.
 const PAIRED_BLOCKS: usize = 8;
-
-/// The code units of a lesser test.
-const UNIT_STRIDE: usize = 8;
-
-/// The bytes that one test covers.
-const BLOCK: usize = 64;
 
 /// The least byte that stands before a continuation byte.
 const LEADS: u8 = 0xC0;
@@ -164,7 +155,7 @@ fn before_cut_character(bytes: &[u8], at: usize) -> usize
     if bytes[at - 1] >= LEADS { at - 1 } else { at }
 }
 
-/// How far the bytes are Latin1 in UTF-8, by whole blocks behind a front. Out of line: most other text ends before it.
+/// How far the bytes are Latin1 in UTF-8, by whole blocks behind a prefix. Out of line: most other text ends before it.
 #[inline(never)]
 pub fn latin1_blocks(bytes: &[u8], from: usize) -> usize
     requires { (0 < from) × (from ≤ length bytes.now) × FitLatin1 bytes.now 0 from }

@@ -29,7 +29,7 @@ pub fn scalar_of_sequence(bytes: &[u8]) -> u32
 
 /// Writes the UTF-16 of the scalar value at the front, if it fits, and returns how many code units that are.
 #[inline(always)]
-pub fn put_utf16(scalar: u32, dst: &mut [u16]) -> Option<usize>
+pub fn write_utf16(scalar: u32, dst: &mut [u16]) -> Option<usize>
     requires scalar { IsScalar scalar }
     ensures written { IfSome result (λ n. WritesFront dst.old dst.new n (encode_utf16 scalar)) }
     ensures unfit { IfNone result ((length dst.old < length (encode_utf16 scalar)) × (dst.new ≡ dst.old)) }

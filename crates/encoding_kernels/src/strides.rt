@@ -6,15 +6,15 @@ ghost use Rattle.encoding_kernels.specs.Strides.{AllBelow, BelowUpTo, IsRunBelow
 
 use crate::places::{Places, all, find, reach, run, skip};
 pub use copies::{
-    copy_ascii, copy_ascii_front, copy_front, narrow_ascii_front, narrow_lower, put_first, widen,
-    widen_ascii_front,
+    copy_ascii, copy_ascii_front, copy_front, pack_ascii_front, pack_lower, unpack,
+    unpack_ascii_front, write_first,
 };
-pub(crate) use copies::{LANES, narrow_ascii, widen_ascii};
+pub(crate) use copies::{LANES, pack_ascii, unpack_ascii};
 use std::simd::Simd;
 use std::simd::prelude::*;
 
 /// The bytes of a block.
-const BLOCK: usize = 64;
+pub(crate) const BLOCK: usize = 64;
 
 /// The bytes of four blocks.
 const FOUR_BLOCKS: usize = 256;
@@ -22,20 +22,20 @@ const FOUR_BLOCKS: usize = 256;
 /// The bytes of eight blocks.
 const EIGHT_BLOCKS: usize = 512;
 
-/// The bytes among which one test finds a place.
+/// The units of a stride, a vector of bytes.
 pub const STRIDE: usize = 16;
 
-/// The bytes of a text shorter than a stride that one test covers.
-const HALF_STRIDE: usize = 8;
+/// The units of half a stride.
+pub const HALF_STRIDE: usize = 8;
 
 /// The UTF-16 code units that one test covers.
-const UNIT_BLOCK: usize = 64;
+pub(crate) const UNIT_BLOCK: usize = 64;
 
 /// The UTF-16 code units of a text shorter than a block that one test covers.
-const HALF_UNIT_BLOCK: usize = 32;
+pub(crate) const HALF_UNIT_BLOCK: usize = 32;
 
-/// The UTF-16 code units of a text shorter than that which one test covers.
-const UNIT_STRIDE: usize = 8;
+/// The UTF-16 code units of a vector.
+pub const UNIT_STRIDE: usize = 8;
 
 /// The least byte that isn't ASCII.
 pub const ASCII_END: u8 = 0x80;
@@ -113,7 +113,7 @@ pub(crate) fn are_units_below<const N: usize>(units: &[u16], at: usize, bound: u
 
 /// How many of the N bytes from a place on come before the first that isn't below the bound.
 #[inline(always)]
-pub fn run_below<const N: usize>(bytes: &[u8], at: usize, bound: u8) -> usize
+pub fn run_of_bytes_below<const N: usize>(bytes: &[u8], at: usize, bound: u8) -> usize
     requires { (at + N ≤ length bytes.now) × (0 < N) × (N ≤ 64) }
     ensures { IsRunBelow bound bytes.now at N result }
 {
@@ -122,15 +122,15 @@ pub fn run_below<const N: usize>(bytes: &[u8], at: usize, bound: u8) -> usize
 
 /// How many bytes come before the first that isn't below the bound. That this is among the first ones is seen first.
 #[inline(always)]
-pub fn front_below(bytes: &[u8], bound: u8) -> usize
+pub fn front_of_bytes_below(bytes: &[u8], bound: u8) -> usize
     ensures within { result ≤ length bytes.now }
     ensures below { BelowUpTo bound bytes.now result }
     ensures stops { result < length bytes.now → bound ≤ slice_index bytes.now result }
 {
     if bytes.len() < STRIDE {
-        return short_front_below(bytes, bound);
+        return short_front_of_bytes_below(bytes, bound);
     }
-    let run = run_below::<STRIDE>(bytes, 0, bound);
+    let run = run_of_bytes_below::<STRIDE>(bytes, 0, bound);
     if run < STRIDE {
         return run;
     }
@@ -155,7 +155,7 @@ pub fn front_behind_stride(bytes: &[u8], bound: u8) -> usize
 
 /// How many bytes of a short text come before the first that isn't below the bound.
 #[inline(always)]
-fn short_front_below(bytes: &[u8], bound: u8) -> usize
+fn short_front_of_bytes_below(bytes: &[u8], bound: u8) -> usize
     ensures within { result ≤ length bytes.now }
     ensures below { BelowUpTo bound bytes.now result }
     ensures stops { result < length bytes.now → bound ≤ slice_index bytes.now result }
@@ -176,7 +176,7 @@ pub fn are_all_bytes_below(bytes: &[u8], bound: u8) -> bool
     ensures { IsTrue result ↔ EachIndex bytes.now (λ k. slice_index bytes.now k < bound) }
 {
     if bytes.len() < STRIDE {
-        return short_front_below(bytes, bound) == bytes.len();
+        return short_front_of_bytes_below(bytes, bound) == bytes.len();
     }
     let test = BytesBelow { bytes, bound };
     if !all::<STRIDE, STRIDE, _>(&test, 0) {

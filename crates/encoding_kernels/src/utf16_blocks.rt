@@ -3,20 +3,14 @@
 ghost use Rattle.std.specs.Prelude.{◌≡◌, ◌+◌, ◌<◌, ◌≤◌, ◌⊎◌, ◌++◌, length, take, drop, encode_utf8_all, IsTrue};
 ghost use Rattle.encoding_definitions.specs.Fronts.{WritesFront};
 ghost use Rattle.encoding_definitions.specs.Utf16.{IsUtf8OfFront};
-ghost use Rattle.encoding_kernels.specs.Spelling.{ArePlain};
+ghost use Rattle.encoding_kernels.specs.EncodeLanes.{ArePlain};
 ghost use Rattle.encoding_kernels.specs.Strides.{AllBelow};
 
-use crate::halves::{are_short_or_paired, write_short_or_paired};
-use crate::plain_units::{are_plain, write_eight};
-use crate::spelling::{are_long, write_long, write_short};
-use crate::strides::{are_units_below, narrow_ascii};
+use crate::encode_lanes::{are_long, write_long, write_short};
+use crate::encode_units::{are_plain, write_eight};
+use crate::strides::{HALF_STRIDE, STRIDE, are_units_below, pack_ascii};
+use crate::surrogate_pairs::{are_short_or_paired, write_short_or_paired};
 use std::simd::prelude::*;
-
-/// The code units of a block.
-const BLOCK: usize = 16;
-
-/// The code units of half a block, the fewest that are converted at once.
-pub const HALF_BLOCK: usize = 8;
 
 /// The blocks behind one that isn't ASCII that go without a test for ASCII: text seldom changes to long ASCII there,
 /// and a test that comes out now one way and now the other costs more than it saves.
@@ -73,21 +67,21 @@ pub fn convert_blocks(src: &[u16], dst: &mut [u8]) -> (usize, usize)
     let mut read = 0;
     let mut written = 0;
     let mut behind = 0;
-    while src.len() - read >= HALF_BLOCK && dst.len() - written >= 32 {
-        let is_short = src.len() - read >= BLOCK && are_units_below::<16>(src, read, 0x800);
+    while src.len() - read >= HALF_STRIDE && dst.len() - written >= 32 {
+        let is_short = src.len() - read >= STRIDE && are_units_below::<16>(src, read, 0x800);
         if is_short && behind > 0 {
             written += convert_sixteen(src, read, dst, written);
-            read += BLOCK;
+            read += STRIDE;
             behind -= 1;
             continue;
         }
         if is_short && are_units_below::<16>(src, read, 0x80) {
-            let front = narrow_ascii::<16>(&src[read..], &mut dst[written..], 0);
+            let front = pack_ascii::<16>(&src[read..], &mut dst[written..], 0);
             read += front;
             written += front;
         } else if is_short {
             written += convert_sixteen(src, read, dst, written);
-            read += BLOCK;
+            read += STRIDE;
             behind = BLOCKS_BEHIND;
         } else {
             let (units, bytes) = convert_eight(src, read, dst, written);
@@ -111,7 +105,7 @@ pub fn convert_paired_blocks(src: &[u16], dst: &mut [u8]) -> (usize, usize)
 {
     let mut read = 0;
     let mut written = 0;
-    while src.len() - read > BLOCK
+    while src.len() - read > STRIDE
         && dst.len() - written >= 32
         && !are_units_below::<16>(src, read, 0x800)
         && are_short_or_paired(src, read)

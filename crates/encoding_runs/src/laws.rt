@@ -116,7 +116,7 @@ pub fn law_utf16_round_trip()
         → ArePartsOf16 (flat_map encode_utf16 (chars bs)) parts → flat_map utf8_of parts ≡ bs }
 {}
 
-/// The longest fitting front, taken again and again on the code units that are left until all are read, gives in
+/// The longest fitting prefix, taken again and again on the code units that are left until all are read, gives in
 /// sequence the UTF-8 of all their scalar values, whatever the rooms; and with a code unit unread and four bytes of
 /// room at least one is read. Encoding Standard, `encodeInto`.
 pub fn law_partial_repeats()

@@ -1,4 +1,4 @@
-//! ASCII fronts of bytes and of UTF-16 code units: where they end, and their copies.
+//! ASCII prefixes of bytes and of UTF-16 code units: where they end, and their copies.
 
 ghost use Rattle.std.specs.Prelude.{take, length};
 ghost use Rattle.std.specs.Str.{IsAscii};
@@ -6,7 +6,7 @@ ghost use Rattle.encoding_definitions.specs.Ascii.{IsFirstOther, front_length, I
 ghost use Rattle.encoding_definitions.specs.Fronts.{IsLongestFront, WritesFront};
 
 use encoding_kernels::strides::{
-    ASCII_END, STRIDE, copy_ascii_front, front_below, narrow_ascii_front, widen_ascii_front,
+    ASCII_END, STRIDE, copy_ascii_front, front_of_bytes_below, pack_ascii_front, unpack_ascii_front,
 };
 use std::simd::prelude::*;
 
@@ -27,7 +27,7 @@ const SHIFT_IN: u8 = 0x0F;
 pub fn validate_ascii(bytes: &[u8]) -> Option<(u8, usize)>
     ensures { IsFirstOther bytes.now result }
 {
-    let front = front_below(bytes, ASCII_END);
+    let front = front_of_bytes_below(bytes, ASCII_END);
     if front < bytes.len() {
         Some((bytes[front], front))
     } else {
@@ -35,7 +35,7 @@ pub fn validate_ascii(bytes: &[u8]) -> Option<(u8, usize)>
     }
 }
 
-/// The number of bytes in the longest ASCII front.
+/// The number of bytes in the longest ASCII prefix.
 #[inline(always)]
 pub fn ascii_valid_up_to(bytes: &[u8]) -> usize
     ensures { IsLongestFront IsAscii bytes.now result }
@@ -62,7 +62,7 @@ fn iso_2022_jp_ascii_run(stride: &[u8; STRIDE]) -> usize
     }
 }
 
-/// The number of bytes in the longest ASCII front without an escape byte, 0x1B, or a shift byte, 0x0E or 0x0F. Encoding
+/// The number of bytes in the longest ASCII prefix without an escape byte, 0x1B, or a shift byte, 0x0E or 0x0F. Encoding
 /// Standard, section 12.2.1: the bytes that the ISO-2022-JP decoder gives back as they are.
 pub fn iso_2022_jp_ascii_valid_up_to(bytes: &[u8]) -> usize
     ensures { IsLongestFront IsIso2022JpAscii bytes.now result }
@@ -85,7 +85,7 @@ pub fn iso_2022_jp_ascii_valid_up_to(bytes: &[u8]) -> usize
     bytes.len()
 }
 
-/// Copies the longest ASCII front, over the shorter length of the two, and returns the first byte there that isn't
+/// Copies the longest ASCII prefix, over the shorter length of the two, and returns the first byte there that isn't
 /// ASCII with its place, or `None`. Behind what is written `dst` is as before.
 #[inline(always)]
 pub fn ascii_to_ascii(src: &[u8], dst: &mut [u8]) -> Option<(u8, usize)>
@@ -101,7 +101,7 @@ pub fn ascii_to_ascii(src: &[u8], dst: &mut [u8]) -> Option<(u8, usize)>
     }
 }
 
-/// Copies the longest ASCII front, each byte as a UTF-16 code unit, over the shorter length of the two, and returns the
+/// Copies the longest ASCII prefix, each byte as a UTF-16 code unit, over the shorter length of the two, and returns the
 /// first byte there that isn't ASCII with its place, or `None`. Behind what is written `dst` is as before.
 #[inline(always)]
 pub fn ascii_to_basic_latin(src: &[u8], dst: &mut [u16]) -> Option<(u8, usize)>
@@ -109,7 +109,7 @@ pub fn ascii_to_basic_latin(src: &[u8], dst: &mut [u16]) -> Option<(u8, usize)>
     ensures copied { let n = front_length (take (length dst.old) src.now) result in
         WritesFront dst.old dst.new n (take n src.now) }
 {
-    let front = widen_ascii_front(src, dst);
+    let front = unpack_ascii_front(src, dst);
     if front < src.len() && front < dst.len() {
         Some((src[front], front))
     } else {
@@ -117,7 +117,7 @@ pub fn ascii_to_basic_latin(src: &[u8], dst: &mut [u16]) -> Option<(u8, usize)>
     }
 }
 
-/// Copies the longest ASCII front of UTF-16 code units, each as a byte, over the shorter length of the two, and returns
+/// Copies the longest ASCII prefix of UTF-16 code units, each as a byte, over the shorter length of the two, and returns
 /// the first code unit there that isn't ASCII with its place, or `None`. Behind what is written `dst` is as before.
 #[inline(always)]
 pub fn basic_latin_to_ascii(src: &[u16], dst: &mut [u8]) -> Option<(u16, usize)>
@@ -125,7 +125,7 @@ pub fn basic_latin_to_ascii(src: &[u16], dst: &mut [u8]) -> Option<(u16, usize)>
     ensures copied { let n = front_length (take (length dst.old) src.now) result in
         WritesFront dst.old dst.new n (take n src.now) }
 {
-    let front = narrow_ascii_front(src, dst);
+    let front = pack_ascii_front(src, dst);
     if front < src.len() && front < dst.len() {
         Some((src[front], front))
     } else {

@@ -28,7 +28,7 @@ pub enum DecoderResult {
 /// What a borrowed call of a decoder returns.
 #[derive(Debug, PartialEq, Eq, Drop)]
 pub enum Piece<'a> {
-    /// The longest well-formed front of the source, as a part of the source itself.
+    /// The longest well-formed prefix of the source, as a part of the source itself.
     Text(&'a str),
     /// The character that the pending bytes begin and the read ones end.
     Char(char),
@@ -155,7 +155,7 @@ impl Utf8Decoder {
     /// Decodes without a destination: the next piece, and how many bytes of `src` were read. `last` says that no
     /// bytes will follow `src`.
     ///
-    /// With nothing pending, and a character at the front, the piece is the longest well-formed front, which borrows
+    /// With nothing pending, and a character at the front, the piece is the longest well-formed prefix, which borrows
     /// from `src`. Else it is the character or the broken part that the pending bytes and those of `src` begin with,
     /// or `InputEmpty` where all is read first: then the pending bytes and the read ones are pending now, and none
     /// are in a call marked last. Hand in the unread bytes again. It takes no memory.

@@ -1,4 +1,4 @@
-//! ASCII fronts, their copies and their checks.
+//! ASCII prefixes, their copies and their checks.
 
 use encoding_text::ascii::{
     ASCII_MASK, ascii_to_ascii, ascii_to_basic_latin, ascii_valid_up_to, basic_latin_to_ascii,
@@ -14,7 +14,7 @@ fn masks_each_byte(rt: HostRuntime) {
     assert!(rt; ASCII_MASK == 0x8080_8080_8080_8080);
 }
 
-/// Whether fronts end before the first byte from 0x80 on.
+/// Whether prefixes end before the first byte from 0x80 on.
 fn fronts_end() -> bool {
     ascii_valid_up_to(b"") == 0
         && ascii_valid_up_to(b"ab") == 2
@@ -29,7 +29,7 @@ fn finds_the_front(rt: HostRuntime) {
     assert!(rt; fronts_end());
 }
 
-/// Whether fronts of ISO-2022-JP end also before an escape byte and the two shift bytes.
+/// Whether prefixes of ISO-2022-JP end also before an escape byte and the two shift bytes.
 fn iso_2022_jp_fronts_end() -> bool {
     iso_2022_jp_ascii_valid_up_to(&[0x61, 0x1B, 0x62]) == 1
         && iso_2022_jp_ascii_valid_up_to(&[0x61, 0x62]) == 2
@@ -105,7 +105,7 @@ fn stops_at(i: usize) -> bool {
     ascii_to_ascii(&src, &mut bytes) == Some((0xAA, i)) && is_front_of(&bytes, &src, i)
 }
 
-fn stops_widening_at(i: usize) -> bool {
+fn stops_unpacking_at(i: usize) -> bool {
     let src = letters_with_other_at(i);
     let mut units = [0u16; 32];
     let answer = ascii_to_basic_latin(&src, &mut units);
@@ -113,7 +113,7 @@ fn stops_widening_at(i: usize) -> bool {
         && (0..32usize).all(|j| units[j] == if j < i { u16::from(src[j]) } else { 0 })
 }
 
-fn stops_narrowing_at(i: usize) -> bool {
+fn stops_packing_at(i: usize) -> bool {
     let src = letters_with_other_at(i);
     let mut bytes = [0u8; 32];
     let answer = basic_latin_to_ascii(&widened(&src), &mut bytes);
@@ -123,7 +123,7 @@ fn stops_narrowing_at(i: usize) -> bool {
 #[test]
 fn scans_stop_at_each_place(rt: HostRuntime) {
     for i in 0..32 {
-        let stop = stops_at(i) && stops_widening_at(i) && stops_narrowing_at(i);
+        let stop = stops_at(i) && stops_unpacking_at(i) && stops_packing_at(i);
         assert!(rt; stop, "{i}");
     }
 }

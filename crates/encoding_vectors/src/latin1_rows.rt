@@ -1,4 +1,4 @@
-//! Latin1: checks, fronts and conversions.
+//! Latin1: checks, prefixes and conversions.
 
 use encoding_text::mem::{
     convert_latin1_to_utf8, convert_latin1_to_utf8_partial, convert_latin1_to_utf16,
@@ -10,7 +10,7 @@ use std::alloc::Global;
 use std::test::Fail;
 use test_vectors::texts::{are_written, bytes_of, field, number_of};
 
-/// Bytes, and the length of their front that is the UTF-8 of Latin1 text; or bytes that are no text, so not Latin1.
+/// Bytes, and the length of their prefix that is the UTF-8 of Latin1 text; or bytes that are no text, so not Latin1.
 const FRONTS: &str = "\
 | 0
 61 C3 FF | 1

@@ -8,7 +8,7 @@ mod borrowed_call_rows;
 #[cfg(test)]
 mod borrowed_rows;
 #[cfg(test)]
-mod call_walks;
+mod calls_every_room;
 #[cfg(test)]
 mod decoder_parts;
 #[cfg(test)]

@@ -25,7 +25,7 @@ fn replaces_broken_parts(rt: HostRuntime) {
     assert!(rt; written == 3 && dst == [0x0061, 0xFFFD, 0xFFFD, 0x71, 0x71, 0x71]);
 }
 
-/// The longest well-formed front is written also where the bytes are refused.
+/// The longest well-formed prefix is written also where the bytes are refused.
 #[test]
 fn refuses_broken_parts(rt: HostRuntime) {
     let mut dst = [0x71; 4];

@@ -85,7 +85,7 @@ fn lengths_of(unit: u16, next: Option<&u16>) -> (usize, usize) {
     }
 }
 
-/// Whether so many units are a front of whole characters, and so many bytes its UTF-8.
+/// Whether so many units are a prefix of whole characters, and so many bytes its UTF-8.
 fn is_front(units: &[u16], read: usize, written: usize) -> bool {
     let (mut end, mut length) = (0usize, 0usize);
     for at in 0..read.min(units.len()) {
@@ -98,7 +98,7 @@ fn is_front(units: &[u16], read: usize, written: usize) -> bool {
     end == read && length == written
 }
 
-/// Whether the inner half writes a front of whole characters, and reads all or leaves at most three bytes free. Which
+/// Whether the inner half writes a prefix of whole characters, and reads all or leaves at most three bytes free. Which
 /// characters it leaves is open.
 fn inner_is_right(units: &[u16], bytes: &[u8], room: usize) -> bool {
     let mut dst = [0x71; 40];

@@ -28,9 +28,9 @@ utf16_characters : (cs : List ℕ) → repaired_utf16 (map Character cs) ≡ fla
 utf16_characters cs = flat_map-map (λ part. encode_utf16 (repaired_scalar part)) Character cs
 
 -- well-formed bytes have their characters as parts
-pub text_units : ((bs : List ℕ) (parts others : List Part) → ArePartsOf bs parts → ArePartsOf bs others → parts ≡ others)
+pub utf8_to_utf16 : ((bs : List ℕ) (parts others : List Part) → ArePartsOf bs parts → ArePartsOf bs others → parts ≡ others)
     → (bs units : List ℕ) (parts : List Part) → IsUtf8 bs → ArePartsOf bs parts → units ≡ repaired_utf16 parts → units ≡ flat_map encode_utf16 (chars bs)
-text_units one bs units parts u are e =
+utf8_to_utf16 one bs units parts u are e =
     let whole : encode_utf8_all (chars bs) ++ [] ≡ bs = append-nil (encode_utf8_all (chars bs)) ∙ encodes-chars bs u in
     let same : parts ≡ map Character (chars bs) = one bs parts (map Character (chars bs)) are
     (subst (λ xs. ArePartsOf xs (map Character (chars bs))) whole (StartsWith-characters (chars bs) [] (scalars-chars bs u))) in

@@ -55,7 +55,7 @@ fn mixed(
     Ok(bytes)
 }
 
-/// Letters, others and the first of them, and the capacity: a byte for each in the ASCII front, two for each behind it.
+/// Letters, others and the first of them, and the capacity: a byte for each in the ASCII prefix, two for each behind it.
 #[test]
 fn one_growth_for_long_results(rt: HostRuntime) -> Result<(), Fail> {
     for (letters, others, first, capacity) in [
@@ -94,7 +94,7 @@ fn leaves_a_block(alloc: Global, bytes: &[u8], length: usize) -> Result<bool, Al
 }
 
 /// Letters, others and the first of them, the block, and the capacity. The block is shorter than what the calls ask
-/// for, and longer than the ASCII front. With memory again both succeed.
+/// for, and longer than the ASCII prefix. With memory again both succeed.
 #[test]
 fn a_refusal_leaves_the_memory(rt: HostRuntime) -> Result<(), Fail> {
     for (letters, others, first, length, capacity) in [

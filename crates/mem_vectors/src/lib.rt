@@ -3,30 +3,30 @@
 #![tactic(auto)]
 
 #[cfg(test)]
+mod ascii_every_length;
+#[cfg(test)]
+mod bidi_every_scalar;
+#[cfg(test)]
 mod bidi_rows;
 #[cfg(test)]
-mod bidi_walks;
+mod checks_every_place;
 #[cfg(test)]
-mod block_seams;
-#[cfg(test)]
-mod checks_at_each_place;
-#[cfg(test)]
-mod conversion_walks;
+mod conversions_every_length;
 #[cfg(test)]
 mod length_rows;
 #[cfg(test)]
 mod long_units;
 #[cfg(test)]
-mod seam_rooms;
-#[cfg(test)]
-mod seam_rooms_to_utf8;
-#[cfg(test)]
-mod stride_walks;
-#[cfg(test)]
 mod surrogate_rows;
 #[cfg(test)]
 mod text_destination_rows;
 #[cfg(test)]
-mod text_seams;
+mod to_utf8_around_blocks;
 #[cfg(test)]
-mod units_at_each_place;
+mod unit_checks_every_place;
+#[cfg(test)]
+mod utf16_to_utf8_every_room;
+#[cfg(test)]
+mod utf8_to_utf16_around_blocks;
+#[cfg(test)]
+mod utf8_to_utf16_every_room;

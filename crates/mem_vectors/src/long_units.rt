@@ -1,7 +1,7 @@
 //! Lone surrogates and pairs at each place of long code units, over the seams of blocks of 64, and of the blocks that are
 //! tested for pairs behind one with surrogates: validity and repair, beside a plain loop.
 
-use crate::units_at_each_place::is_lone;
+use crate::unit_checks_every_place::is_lone;
 use encoding_text::mem::{ensure_utf16_validity, utf16_valid_up_to};
 
 /// The most code units: more than a block with surrogates, the eight behind it and one more.

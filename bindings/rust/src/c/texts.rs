@@ -6,12 +6,12 @@ use crate::decoder::Piece as Decodable;
 #[cfg(feature = "alloc")]
 use alloc::{string::String, vec::Vec};
 
-/// The longest well-formed front.
+/// The longest well-formed prefix.
 #[cfg(feature = "alloc")]
 #[inline]
 pub(crate) fn utf8_front(src: &[u8]) -> &str {
     let front = &src[..encoding_text_utf8_valid_up_to(src)];
-    // SAFETY: `encoding_text_utf8_valid_up_to` returns the length of a front that is well-formed UTF-8.
+    // SAFETY: `encoding_text_utf8_valid_up_to` returns the length of a prefix that is well-formed UTF-8.
     unsafe { core::str::from_utf8_unchecked(front) }
 }
 
@@ -24,12 +24,12 @@ pub(crate) fn first_chunk(src: &[u8]) -> (&str, &[u8]) {
     (unsafe { core::str::from_utf8_unchecked(front) }, &rest[..broken.length])
 }
 
-/// The longest ASCII front.
+/// The longest ASCII prefix.
 #[cfg(feature = "alloc")]
 #[inline]
 pub(crate) fn ascii_front(src: &[u8]) -> &str {
     let front = &src[..encoding_text_ascii_valid_up_to(src)];
-    // SAFETY: `encoding_text_ascii_valid_up_to` returns the length of a front of bytes below 0x80, each a character.
+    // SAFETY: `encoding_text_ascii_valid_up_to` returns the length of a prefix of bytes below 0x80, each a character.
     unsafe { core::str::from_utf8_unchecked(front) }
 }
 
@@ -40,7 +40,7 @@ pub(crate) fn decode_borrowed<'a>(decoder: &mut Decoder, src: &'a [u8], last: bo
     let found = match piece.kind {
         PIECE_TEXT => {
             let front = &src[..piece.read];
-            // SAFETY: of this kind are calls that read a well-formed front of the source, and nothing else.
+            // SAFETY: of this kind are calls that read a well-formed prefix of the source, and nothing else.
             Decodable::Text(unsafe { core::str::from_utf8_unchecked(front) })
         }
         PIECE_CHAR => {
@@ -156,7 +156,7 @@ pub(crate) fn utf8_to_latin1(text: &str, ascii: usize) -> Option<Vec<u8>> {
     (written != REFUSED).then_some(latin1)
 }
 
-/// The well-formed front, and behind it the rest with U+FFFD for each broken part.
+/// The well-formed prefix, and behind it the rest with U+FFFD for each broken part.
 #[cfg(feature = "alloc")]
 pub(crate) fn repair_behind(front: &str, rest: &[u8]) -> String {
     let room = rest.len().saturating_mul(3);

@@ -47,7 +47,7 @@ pub fn is_utf16_latin1(buffer: &[u16]) -> bool {
     c::encoding_text_mem_is_utf16_latin1(buffer)
 }
 
-/// The length in bytes of the longest front that is well-formed UTF-8 of characters up to U+00FF.
+/// The length in bytes of the longest prefix that is well-formed UTF-8 of characters up to U+00FF.
 ///
 /// [Proved](crate::promises#mem).
 #[must_use]
@@ -56,7 +56,7 @@ pub fn utf8_latin1_up_to(buffer: &[u8]) -> usize {
     c::encoding_text_mem_utf8_latin1_up_to(buffer)
 }
 
-/// The length in bytes of the longest front of characters up to U+00FF.
+/// The length in bytes of the longest prefix of characters up to U+00FF.
 ///
 /// [Proved](crate::promises#mem). Nothing looks whether the text is well-formed.
 #[must_use]

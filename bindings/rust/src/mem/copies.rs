@@ -1,9 +1,9 @@
-//! Copies of ASCII fronts.
+//! Copies of ASCII prefixes.
 
 use super::assert_as_long;
 use crate::c;
 
-/// Copies the longest ASCII front, and returns its length in bytes.
+/// Copies the longest ASCII prefix, and returns its length in bytes.
 ///
 /// [Proved](crate::promises#mem).
 ///
@@ -16,7 +16,7 @@ pub fn copy_ascii_to_ascii(src: &[u8], dst: &mut [u8]) -> usize {
     c::encoding_text_mem_copy_ascii_to_ascii(src, dst)
 }
 
-/// Copies the longest ASCII front, each byte as a code unit, and returns its length.
+/// Copies the longest ASCII prefix, each byte as a code unit, and returns its length.
 ///
 /// [Proved](crate::promises#mem).
 ///
@@ -29,7 +29,7 @@ pub fn copy_ascii_to_basic_latin(src: &[u8], dst: &mut [u16]) -> usize {
     c::encoding_text_mem_copy_ascii_to_basic_latin(src, dst)
 }
 
-/// Copies the longest front of code units below 0x80, each as a byte, and returns its length.
+/// Copies the longest prefix of code units below 0x80, each as a byte, and returns its length.
 ///
 /// [Proved](crate::promises#mem).
 ///

@@ -3,7 +3,7 @@
 use super::{assert_as_long, assert_room, utf8_latin1_up_to};
 use crate::c;
 
-/// Writes the UTF-8 of the longest front of Latin1 whose UTF-8 fits, and returns how many bytes were read and how many
+/// Writes the UTF-8 of the longest prefix of Latin1 whose UTF-8 fits, and returns how many bytes were read and how many
 /// written.
 ///
 /// [Proved](crate::promises#mem).
@@ -61,7 +61,7 @@ pub(super) fn refuse_beyond_latin1(up_to: usize) {
 /// Writes each character of Latin1 in UTF-8 as a byte, and returns how many bytes were written.
 ///
 /// [Proved](crate::promises#mem) for Latin1. What becomes of anything else is decided by the crate: without debug
-/// assertions the longest front of Latin1 is converted alone.
+/// assertions the longest prefix of Latin1 is converted alone.
 ///
 /// # Panics
 ///

@@ -7,7 +7,7 @@ use alloc::borrow::Cow;
 
 /// The text whose characters are the bytes: borrowed where they are ASCII, else owned, by one allocation.
 ///
-/// What it says is [proved](crate::promises#mem) of the two calls that it makes, one for the ASCII front and one for the
+/// What it says is [proved](crate::promises#mem) of the two calls that it makes, one for the ASCII prefix and one for the
 /// rest; that they are joined is done by the crate. Only with the feature `alloc`.
 ///
 /// ```
@@ -25,9 +25,9 @@ pub fn decode_latin1(bytes: &[u8]) -> Cow<'_, str> {
 
 /// The characters of a text of Latin1 as bytes: borrowed where they are ASCII, else owned, by one allocation.
 ///
-/// What it says is [proved](crate::promises#mem) of the two calls that it makes, one for the ASCII front and one for the
+/// What it says is [proved](crate::promises#mem) of the two calls that it makes, one for the ASCII prefix and one for the
 /// rest; that they are joined is done by the crate, and what becomes of a text beyond Latin1: without debug assertions its
-/// longest front of Latin1 is converted alone. Only with the feature `alloc`.
+/// longest prefix of Latin1 is converted alone. Only with the feature `alloc`.
 ///
 /// # Panics
 ///

@@ -42,7 +42,7 @@ pub fn convert_str_to_utf16(src: &str, dst: &mut [u16]) -> usize {
 }
 
 /// Converts to UTF-16, and returns how many code units were written, or `None` where the source isn't well-formed: then
-/// the UTF-16 of its longest well-formed front is written.
+/// the UTF-16 of its longest well-formed prefix is written.
 ///
 /// [Proved](crate::promises#mem).
 ///

@@ -184,7 +184,7 @@ pub fn units_of(random: &mut Random, length: usize) -> Framed<u16> {
     Framed::new(random, length, |drawn| drawn as u16)
 }
 
-/// The well-formed front by `std`.
+/// The well-formed prefix by `std`.
 pub fn front(bytes: &[u8]) -> &str {
     match std::str::from_utf8(bytes) {
         Ok(text) => text,

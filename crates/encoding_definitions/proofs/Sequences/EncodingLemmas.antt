@@ -18,11 +18,11 @@ pub high_scalar : (c : ℕ) → 57344 ≤ c → c < 1114112 → IsScalar c
 high_scalar c l h = grind (arith, nat_tests)
 
 -- the bytes are the UTF-8 of the scalar value c
-abbrev pub SpelledBy : List ℕ → ℕ → Type 0
-SpelledBy bs c = IsScalar c × (encode_utf8 c ≡ bs)
+abbrev pub EncodedBy : List ℕ → ℕ → Type 0
+EncodedBy bs c = IsScalar c × (encode_utf8 c ≡ bs)
 
-abbrev Spells : List ℕ → Type 0
-Spells bs = (c : ℕ) × (SpelledBy bs c)
+abbrev EncodesTo : List ℕ → Type 0
+EncodesTo bs = (c : ℕ) × (EncodedBy bs c)
 
 same_two : (a b x y : ℕ) → a ≡ x → b ≡ y → ◌≡◌ {A = List ℕ} (a ∷ b ∷ []) (x ∷ y ∷ [])
 same_two a b x y e f = rw (e, f) refl
@@ -41,26 +41,26 @@ second_three a b l h s = grind (arith, nat_tests)
 pub second_four : (a b : ℕ) → 0xF0 ≤ a → a ≤ 0xF4 → IsTrue (is_second a b) → (128 ≤ b) × (b < 192) × (16 ≤ (a - 240) * 64 + (b - 128)) × ((a - 240) * 64 + (b - 128) < 272)
 second_four a b l h s = grind (arith, nat_tests)
 
-pub spells_two : (a b : ℕ) → HasShape (a ∷ b ∷ []) → SpelledBy (a ∷ b ∷ []) ((a - 192) * 64 + (b - 128))
+pub spells_two : (a b : ℕ) → HasShape (a ∷ b ∷ []) → EncodedBy (a ∷ b ∷ []) ((a - 192) * 64 + (b - 128))
 spells_two a b h =
     let c = (a - 192) * 64 + (b - 128) in
     (low_scalar c (omega arith), two c (omega arith) (omega arith) ∙ same_two _ _ _ _ (omega arith) (omega arith))
 
-pub spells_three : (a b d : ℕ) → HasShape (a ∷ b ∷ d ∷ []) → SpelledBy (a ∷ b ∷ d ∷ []) ((a - 224) * 4096 + (b - 128) * 64 + (d - 128))
+pub spells_three : (a b d : ℕ) → HasShape (a ∷ b ∷ d ∷ []) → EncodedBy (a ∷ b ∷ d ∷ []) ((a - 224) * 4096 + (b - 128) * 64 + (d - 128))
 spells_three a b d h =
     let l = second_three a b h.0 h.1 h.2 in
     let c = (a - 224) * 4096 + (b - 128) * 64 + (d - 128) in
     let scalar_is : IsScalar c = elim l.3 [ inl p ↦ low_scalar c (omega arith) | inr p ↦ high_scalar c (omega arith) (omega arith) ] in
     (scalar_is, three c (omega arith) (omega arith) ∙ same_three _ _ _ _ _ _ (omega arith) (omega arith) (omega arith))
 
-pub spells_four : (a b d e : ℕ) → HasShape (a ∷ b ∷ d ∷ e ∷ []) → SpelledBy (a ∷ b ∷ d ∷ e ∷ []) ((a - 240) * 262144 + (b - 128) * 4096 + (d - 128) * 64 + (e - 128))
+pub spells_four : (a b d e : ℕ) → HasShape (a ∷ b ∷ d ∷ e ∷ []) → EncodedBy (a ∷ b ∷ d ∷ e ∷ []) ((a - 240) * 262144 + (b - 128) * 4096 + (d - 128) * 64 + (e - 128))
 spells_four a b d e h =
     let l = second_four a b h.0 h.1 h.2 in
     let c = (a - 240) * 262144 + (b - 128) * 4096 + (d - 128) * 64 + (e - 128) in
     let third : c / 64 ≡ (a - 240) * 4096 + (b - 128) * 64 + (d - 128) = omega arith in
     (high_scalar c (omega arith) (omega arith), four c (omega arith) ∙ same_four _ _ _ _ _ _ _ _ (omega arith) (omega arith) (omega arith) (omega arith))
 
-spells_shape : (bs : List ℕ) → HasShape bs → Spells bs
+spells_shape : (bs : List ℕ) → HasShape bs → EncodesTo bs
 spells_shape [] h = absurd h
 spells_shape (a ∷ []) h = (a, (low_scalar a (omega arith), one a (omega arith)))
 spells_shape (a ∷ b ∷ []) h = (_, spells_two a b h)

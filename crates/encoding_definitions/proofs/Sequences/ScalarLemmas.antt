@@ -6,7 +6,7 @@ use Rattle.std.proofs.str.Laws.{one}
 use lib.Utf8.{low_scalar}
 use Rattle.encoding_definitions.specs.Sequence.{IsSequence}
 use Rattle.encoding_definitions.proofs.Sequences.SequenceLemmas.{HasShape-IsSequence}
-use Rattle.encoding_definitions.proofs.Sequences.EncodingLemmas.{SpelledBy, second_three, second_four, spells_two, spells_three, spells_four}
+use Rattle.encoding_definitions.proofs.Sequences.EncodingLemmas.{EncodedBy, second_three, second_four, spells_two, spells_three, spells_four}
 
 low_five : (a : ℕ) → 0xC2 ≤ a → a ≤ 0xDF → bit_and a 0x1F ≡ a - 192
 low_five a l h = let e : bit_and a 0x1F ≡ a % 32 = grind (arith, common_steps) in omega arith
@@ -42,7 +42,7 @@ join_four x y z w l h k m =
     ap (λ n. bit_or (bit_or n (z * 64 % 4294967296)) w) first ∙ ap (λ n. bit_or n w) second ∙ or_shifted (x * 4096 + y * 64 + z) 6 w m ∙ omega arith
 
 pub scalar_two : (bs : List ℕ) (x y : ℕ) → IsSequence bs → 2 ≤ length bs → length bs < 3 → x ≡ bit_and (slice_index bs 0) 0x1F → y ≡ bit_and (slice_index bs 1) 0x3F
-    → SpelledBy bs (bit_or (x * 64 % 4294967296) y)
+    → EncodedBy bs (bit_or (x * 64 % 4294967296) y)
 scalar_two [] x y s l h e f = absurd (omega arith)
 scalar_two (a ∷ []) x y s l h e f = absurd (omega arith)
 scalar_two (a ∷ b ∷ []) x y s l h e f =
@@ -51,11 +51,11 @@ scalar_two (a ∷ b ∷ []) x y s l h e f =
     let q = f ∙ low_six b t.2.0 t.2.1 in
     let c = spells_two a b t in
     let same : bit_or (x * 64 % 4294967296) y ≡ (a - 192) * 64 + (b - 128) = join_two x y (omega (arith, p)) (omega (arith, q)) ∙ omega (arith, p, q) in
-    subst (λ n. SpelledBy (a ∷ b ∷ []) n) (sym same) c
+    subst (λ n. EncodedBy (a ∷ b ∷ []) n) (sym same) c
 scalar_two (a ∷ b ∷ c ∷ more) x y s l h e f = absurd (omega arith)
 
 pub scalar_three : (bs : List ℕ) (x y z : ℕ) → IsSequence bs → 3 ≤ length bs → length bs < 4 → x ≡ bit_and (slice_index bs 0) 0x0F → y ≡ bit_and (slice_index bs 1) 0x3F → z ≡ bit_and (slice_index bs 2) 0x3F
-    → SpelledBy bs (bit_or (bit_or (x * 4096 % 4294967296) (y * 64 % 4294967296)) z)
+    → EncodedBy bs (bit_or (bit_or (x * 4096 % 4294967296) (y * 64 % 4294967296)) z)
 scalar_three [] x y z s l h e f g = absurd (omega arith)
 scalar_three (a ∷ []) x y z s l h e f g = absurd (omega arith)
 scalar_three (a ∷ b ∷ []) x y z s l h e f g = absurd (omega arith)
@@ -67,12 +67,12 @@ scalar_three (a ∷ b ∷ d ∷ []) x y z s l h e f g =
     let r = g ∙ low_six d t.3.0 t.3.1 in
     let same : bit_or (bit_or (x * 4096 % 4294967296) (y * 64 % 4294967296)) z ≡ (a - 224) * 4096 + (b - 128) * 64 + (d - 128) =
     join_three x y z (omega (arith, p)) (omega (arith, q, second.1)) (omega (arith, r)) ∙ omega (arith, p, q, r) in
-    subst (λ n. SpelledBy (a ∷ b ∷ d ∷ []) n) (sym same) (spells_three a b d t)
+    subst (λ n. EncodedBy (a ∷ b ∷ d ∷ []) n) (sym same) (spells_three a b d t)
 scalar_three (a ∷ b ∷ c ∷ d ∷ more) x y z s l h e f g = absurd (omega arith)
 
 pub scalar_four : (bs : List ℕ) (x y z w : ℕ) → IsSequence bs → 4 ≤ length bs → length bs < 5 → x ≡ bit_and (slice_index bs 0) 0x07 → y ≡ bit_and (slice_index bs 1) 0x3F → z ≡ bit_and (slice_index bs 2) 0x3F
     → w ≡ bit_and (slice_index bs 3) 0x3F
-    → SpelledBy bs (bit_or (bit_or (bit_or (x * 262144 % 4294967296) (y * 4096 % 4294967296)) (z * 64 % 4294967296)) w)
+    → EncodedBy bs (bit_or (bit_or (bit_or (x * 262144 % 4294967296) (y * 4096 % 4294967296)) (z * 64 % 4294967296)) w)
 scalar_four [] x y z w s l h e f g i = absurd (omega arith)
 scalar_four (a ∷ []) x y z w s l h e f g i = absurd (omega arith)
 scalar_four (a ∷ b ∷ []) x y z w s l h e f g i = absurd (omega arith)
@@ -86,12 +86,12 @@ scalar_four (a ∷ b ∷ d ∷ k ∷ []) x y z w s l h e f g i =
     let u = i ∙ low_six k t.4.0 t.4.1 in
     let same : bit_or (bit_or (bit_or (x * 262144 % 4294967296) (y * 4096 % 4294967296)) (z * 64 % 4294967296)) w ≡ (a - 240) * 262144 + (b - 128) * 4096 + (d - 128) * 64 + (k - 128) =
     join_four x y z w (omega (arith, p)) (omega (arith, q, second.1)) (omega (arith, r)) (omega (arith, u)) ∙ omega (arith, p, q, r, u) in
-    subst (λ n. SpelledBy (a ∷ b ∷ d ∷ k ∷ []) n) (sym same) (spells_four a b d k t)
+    subst (λ n. EncodedBy (a ∷ b ∷ d ∷ k ∷ []) n) (sym same) (spells_four a b d k t)
 scalar_four (a ∷ b ∷ c ∷ d ∷ e' ∷ more) x y z w s l h e f g i = absurd (omega arith)
 
-pub scalar_one : (bs : List ℕ) (x : ℕ) → IsSequence bs → 1 ≤ length bs → length bs < 2 → x ≡ slice_index bs 0 → SpelledBy bs x
+pub scalar_one : (bs : List ℕ) (x : ℕ) → IsSequence bs → 1 ≤ length bs → length bs < 2 → x ≡ slice_index bs 0 → EncodedBy bs x
 scalar_one [] x s l h e = absurd (omega arith)
 scalar_one (a ∷ []) x s l h e =
     let low : a ≤ 0x7F = HasShape-IsSequence (a ∷ []) s in
-    subst (λ n. SpelledBy (a ∷ []) n) (sym e) (low_scalar a (omega arith), one a (omega arith))
+    subst (λ n. EncodedBy (a ∷ []) n) (sym e) (low_scalar a (omega arith), one a (omega arith))
 scalar_one (a ∷ b ∷ more) x s l h e = absurd (omega arith)

@@ -10,7 +10,7 @@ use Rattle.std.proofs.lemmas.List.Concat.{flat_map-append}
 use Rattle.std.proofs.str.Laws.{four}
 use Rattle.std.proofs.str.Utf16.{one_unit, two_units, IsPair}
 use Rattle.encoding_definitions.specs.Utf16.{AreUnits, IsHighSurrogate, IsLowSurrogate, Part16, units_of, utf8_of, ArePartsOf16, IsUtf8OfFront}
-use Rattle.encoding_kernels.specs.Halves.{IsShortOrHalf, AreShortOrPaired, half_bytes, joined, halves_from}
+use Rattle.encoding_kernels.specs.SurrogatePairs.{IsShortOrHalf, AreShortOrPaired, half_bytes, joined, halves_from}
 use Rattle.encoding_definitions.proofs.CodeUnits.Utf16Lemmas.{parts_of, parts_exist, parts_unique, rest_parts}
 use Rattle.encoding_definitions.proofs.CodeUnits.Utf16FrontLemmas.{Walked, scalar_of_unit, scalar_of_two, step_walked, step_written}
 

@@ -13,7 +13,7 @@ use borrow.Rule.Slice.PartMut.{put_mid}
 use Rattle.encoding_definitions.specs.Fronts.{WritesFront}
 use Rattle.encoding_definitions.specs.Utf16.{AreUnits, Part16, Character16, units_of, utf8_of}
 use Rattle.encoding_definitions.specs.FirstScalar.{IsFirstScalar}
-use Rattle.encoding_kernels.specs.Spelling.{ArePlain}
+use Rattle.encoding_kernels.specs.EncodeLanes.{ArePlain}
 use Rattle.encoding_kernels.specs.Strides.{AllBelow, BelowUpTo}
 use Rattle.encoding_kernels.proofs.Latin.AsciiLemmas.{Each-take}
 use Rattle.encoding_definitions.proofs.LongestFronts.FrontsLemmas.{WritesFront_push, WritesFront-same, WritesFront_put, WritesFront_after}

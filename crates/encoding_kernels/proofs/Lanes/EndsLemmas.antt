@@ -11,11 +11,11 @@ use Rattle.std.specs.List.{range_with_len}
 use Rattle.std.specs.Simd.Lanes.{number_l, digits_l, mask_l, top, zip2, sel_l, pick_l, Each1}
 use lib.Dec.{leb}
 use Rattle.encoding_kernels.specs.Lanes.{HasLanes}
-use Rattle.encoding_kernels.specs.Spelling.{kept_places, ended, all_ended, both_end, EndsPair}
+use Rattle.encoding_kernels.specs.EncodeLanes.{kept_places, ended, all_ended, both_end, EndsPair}
 use Rattle.encoding_kernels.proofs.Validation.FollowingLemmas.{one_before}
 use Rattle.encoding_kernels.proofs.Lanes.LaneLemmas.{HasLanes-itself, HasLanes-splat, HasLanes-zip2, HasLanes-select, HasLanes-same, compared, top_compared, mask_of}
 use Rattle.encoding_kernels.proofs.Lanes.TestLemmas.{tests_of, tests_and}
-use Rattle.encoding_kernels.proofs.Lanes.SpellingLemmas.{kept_long, looked_up}
+use Rattle.encoding_kernels.proofs.Lanes.EncodeLanesLemmas.{kept_long, looked_up}
 use Rattle.encoding_kernels.proofs.Latin.EndedLemmas.{ended_ascii, ended_last, ended_none, PairAt, pairs_kept, both_end_long}
 
 -- ---- two bytes as one number

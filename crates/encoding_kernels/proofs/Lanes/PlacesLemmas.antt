@@ -3,9 +3,9 @@ use Rattle.std.proofs.Common.{◌≡◌, ℕ, zero, suc, ◌+◌, ◌*◌, ◌^�
 use Rattle.std.proofs.lemmas.Bool.{and_parts, cases_lt, ltb-true, false≢true}
 use Rattle.std.specs.Simd.Lanes.{mask_l, number_l, digits_l}
 use lib.Dec.{ltb}
-use Rattle.encoding_kernels.specs.Spelling.{kept_places, last_places}
-use Rattle.encoding_kernels.specs.declared.kept_bytes.TheConstants.{PLACES}
-use Rattle.encoding_kernels.specs.declared.last_bytes.TheConstants.{LAST}
+use Rattle.encoding_kernels.specs.EncodeLanes.{kept_places, last_places}
+use Rattle.encoding_kernels.specs.declared.compress_pairs.TheConstants.{PLACES}
+use Rattle.encoding_kernels.specs.declared.compress_last.TheConstants.{LAST}
 
 -- the sixteen places of a mask
 abbrev pub row : List ℕ → ℕ → List ℕ

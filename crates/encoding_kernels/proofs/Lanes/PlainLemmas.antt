@@ -12,11 +12,11 @@ use Rattle.std.proofs.str.Laws.{two, three}
 use Rattle.std.specs.Int.RustNames.{count_ones}
 use Rattle.std.specs.Simd.Lanes.{mask_l, number_l, digits_l, pick_l, zip2, sel_l, top, Each1}
 use Rattle.encoding_kernels.specs.Lanes.{HasLanes}
-use Rattle.encoding_kernels.specs.Spelling.{last_places, classes, SpellsLast}
-use Rattle.encoding_kernels.proofs.Lanes.KeptLemmas.{mask_append}
+use Rattle.encoding_kernels.specs.EncodeLanes.{last_places, classes, EncodesLast}
+use Rattle.encoding_kernels.proofs.Lanes.CompressLemmas.{mask_append}
 use Rattle.encoding_kernels.proofs.Lanes.LaneLemmas.{HasLanes-itself, HasLanes-splat, HasLanes-zip2, compared, mask_of}
 use Rattle.encoding_kernels.proofs.Lanes.TestLemmas.{tests_of, chosen, chosen_by, none_passes}
-use Rattle.encoding_kernels.proofs.Lanes.SpellingLemmas.{looked_up, mask_from, pick}
+use Rattle.encoding_kernels.proofs.Lanes.EncodeLanesLemmas.{looked_up, mask_from, pick}
 use Rattle.encoding_kernels.proofs.Lanes.UnitLanesLemmas.{picked_lanes}
 
 -- ---- the test
@@ -81,20 +81,20 @@ last_step get at true s ks spelled rest e r = ap (λ xs. get (at + 3) ∷ xs) r 
 last_step get at false true ks spelled rest e r = ap (λ xs. get (at + 2) ∷ get (at + 3) ∷ xs) r ∙ ap (λ xs. xs ++ rest) e
 last_step get at false false ks spelled rest e r = ap (λ xs. get (at + 1) ∷ get (at + 2) ∷ get (at + 3) ∷ xs) r ∙ ap (λ xs. xs ++ rest) e
 
-last_spell : (get : ℕ → ℕ) (us : List ℕ) (at : ℕ) → ((k : ℕ) → k < length us → SpellsLast (get_or us k 0) (get (at + 4 * k + 1)) (get (at + 4 * k + 2)) (get (at + 4 * k + 3)))
+last_spell : (get : ℕ → ℕ) (us : List ℕ) (at : ℕ) → ((k : ℕ) → k < length us → EncodesLast (get_or us k 0) (get (at + 4 * k + 1)) (get (at + 4 * k + 2)) (get (at + 4 * k + 3)))
     → map get (last_places at (classes us)) ≡ encode_utf8_all us
 last_spell get [] at h = refl
 last_spell get (u ∷ us) at h =
     let first : at + 4 * 0 ≡ at = omega arith in
-    let here : SpellsLast u (get (at + 1)) (get (at + 2)) (get (at + 3)) = subst (λ k. SpellsLast u (get (k + 1)) (get (k + 2)) (get (k + 3))) first (h 0 (omega arith)) in
-    let more : (k : ℕ) → k < length us → SpellsLast (get_or us k 0) (get (at + 4 + 4 * k + 1)) (get (at + 4 + 4 * k + 2)) (get (at + 4 + 4 * k + 3)) = λ k l.
+    let here : EncodesLast u (get (at + 1)) (get (at + 2)) (get (at + 3)) = subst (λ k. EncodesLast u (get (k + 1)) (get (k + 2)) (get (k + 3))) first (h 0 (omega arith)) in
+    let more : (k : ℕ) → k < length us → EncodesLast (get_or us k 0) (get (at + 4 + 4 * k + 1)) (get (at + 4 + 4 * k + 2)) (get (at + 4 + 4 * k + 3)) = λ k l.
     let e : at + 4 * suc k ≡ at + 4 + 4 * k = omega arith in
-    subst (λ j. SpellsLast (get_or us k 0) (get (j + 1)) (get (j + 2)) (get (j + 3))) e (h (suc k) (omega arith)) in
+    subst (λ j. EncodesLast (get_or us k 0) (get (j + 1)) (get (j + 2)) (get (j + 3))) e (h (suc k) (omega arith)) in
     last_step get at (nat_lt u 0x80) (nat_lt u 0x800) _ _ _ here (last_spell get us (at + 4) more)
 
 pub spelled_four : (us bytes places : List ℕ) (mask : ℕ) → length us ≡ 4 → length places ≡ 16 → ((k : ℕ) → k < 16 → get_or places k 0 < 16) → mask ≡ mask_l (classes us)
     → take (length (last_places 0 (classes us))) places ≡ last_places 0 (classes us)
-    → ((k : ℕ) → k < 4 → SpellsLast (get_or us k 0) (get_or bytes (4 * k + 1) 0) (get_or bytes (4 * k + 2) 0) (get_or bytes (4 * k + 3) 0))
+    → ((k : ℕ) → k < 4 → EncodesLast (get_or us k 0) (get_or bytes (4 * k + 1) 0) (get_or bytes (4 * k + 2) 0) (get_or bytes (4 * k + 3) 0))
     → take (12 - count_ones mask) (swz_l w8 16 bytes 0 places) ≡ encode_utf8_all us
 spelled_four us bytes places mask l long small m kept spells =
     let places_of = last_places 0 (classes us) in
@@ -102,7 +102,7 @@ spelled_four us bytes places mask l long small m kept spells =
     let get : ℕ → ℕ = λ j. get_or bytes j 0 in
     ap (λ n. take n (swz_l w8 16 bytes 0 places)) count ∙ ap (take (length places_of)) (looked_up bytes places long small)
     ∙ take-map get (length places_of) places ∙ ap (map get) kept
-    ∙ last_spell get us 0 (λ k i. let e : 4 * k ≡ 0 + 4 * k = omega arith in subst (λ j. SpellsLast (get_or us k 0) (get (j + 1)) (get (j + 2)) (get (j + 3))) e (spells k (omega arith)))
+    ∙ last_spell get us 0 (λ k i. let e : 4 * k ≡ 0 + 4 * k = omega arith in subst (λ j. EncodesLast (get_or us k 0) (get (j + 1)) (get (j + 2)) (get (j + 3))) e (spells k (omega arith)))
 
 -- ---- two vectors of four
 pub both_spelled : (us first second : List ℕ) (n m : ℕ) → take n first ≡ encode_utf8_all (take 4 us) → take m second ≡ encode_utf8_all (drop 4 us)
@@ -193,7 +193,7 @@ module _ (us : List ℕ) (long : length us ≡ 8) where
 pub rest_small : (u : ℕ) → rest_word u < 65536
 rest_small u = pick (ltb u 0x80) _ _ (omega arith) (omega arith)
 
-spells_last : (u : ℕ) → u < 2 ^ 16 → SpellsLast u (lead_word u / 0x100) (rest_word u % 0x100) (rest_word u / 0x100)
+spells_last : (u : ℕ) → u < 2 ^ 16 → EncodesLast u (lead_word u / 0x100) (rest_word u % 0x100) (rest_word u / 0x100)
 spells_last u h =
     let low : bit_and u 0x3F ≡ u % 2 ^ 6 = and_mask u 6 in
     let mid : bit_and (u / 2 ^ 6) 0x3F ≡ u / 2 ^ 6 % 2 ^ 6 = and_mask (u / 2 ^ 6) 6 in
@@ -219,15 +219,15 @@ spells_last u h =
           ]
     ]
 
-spell_again : (u : ℕ) {x y z x2 y2 z2 : ℕ} → x ≡ x2 → y ≡ y2 → z ≡ z2 → SpellsLast u x2 y2 z2 → SpellsLast u x y z
-spell_again u p q r s = (λ i. cond (nat_lt u 0x80) (r i ∷ []) (cond (nat_lt u 0x800) (q i ∷ r i ∷ []) (p i ∷ q i ∷ r i ∷ []))) ∙ s
+encode_again : (u : ℕ) {x y z x2 y2 z2 : ℕ} → x ≡ x2 → y ≡ y2 → z ≡ z2 → EncodesLast u x2 y2 z2 → EncodesLast u x y z
+encode_again u p q r s = (λ i. cond (nat_lt u 0x80) (r i ∷ []) (cond (nat_lt u 0x800) (q i ∷ r i ∷ []) (p i ∷ q i ∷ r i ∷ []))) ∙ s
 
 pub words_spell : (us : List ℕ) → length us ≡ 8 → Each1 (Fits w16) us → (k : ℕ) → k < 8
-    → SpellsLast (get_or us k 0) (get_or (lead_words us) k 0 / 0x100) (get_or (rest_words us) k 0 % 0x100) (get_or (rest_words us) k 0 / 0x100)
+    → EncodesLast (get_or us k 0) (get_or (lead_words us) k 0 / 0x100) (get_or (rest_words us) k 0 % 0x100) (get_or (rest_words us) k 0 / 0x100)
 words_spell us long fit k l =
     let lead = (lead_lanes us long).each k l in
     let rest = (rest_lanes us long).each k l in
-    spell_again (get_or us k 0) (ap (λ x. x / 0x100) lead) (ap (λ x. x % 0x100) rest) (ap (λ x. x / 0x100) rest)
+    encode_again (get_or us k 0) (ap (λ x. x / 0x100) lead) (ap (λ x. x % 0x100) rest) (ap (λ x. x / 0x100) rest)
     (spells_last (get_or us k 0) (Each1-get_or (Fits w16) us k 0 (omega (arith, long)) fit).fits)
 
 pub words_small : (us : List ℕ) → length us ≡ 8 → (k : ℕ) → k < 8 → (get_or (lead_words us) k 0 < 0x10000) × (get_or (rest_words us) k 0 < 0x10000)
@@ -266,8 +266,8 @@ module _ (us lead rest ks : List ℕ) (f : ℕ → ℕ) (half : (k : ℕ) → k 
   high_of : (x : ℕ) → x < 65536 → x / 256 ^ 1 % 256 ≡ x / 0x100
   high_of x l = omega arith
 
-  pub four_spelled : ((k : ℕ) → k < 8 → SpellsLast (get_or us k 0) (get_or lead k 0 / 0x100) (get_or rest k 0 % 0x100) (get_or rest k 0 / 0x100)) → (k : ℕ) → k < 4
-      → SpellsLast (get_or us (f k) 0) (get_or (digits_l 256 16 (number_l 65536 (pick_l 0 (lead ++ rest) ks))) (4 * k + 1) 0)
+  pub four_spelled : ((k : ℕ) → k < 8 → EncodesLast (get_or us k 0) (get_or lead k 0 / 0x100) (get_or rest k 0 % 0x100) (get_or rest k 0 / 0x100)) → (k : ℕ) → k < 4
+      → EncodesLast (get_or us (f k) 0) (get_or (digits_l 256 16 (number_l 65536 (pick_l 0 (lead ++ rest) ks))) (4 * k + 1) 0)
       (get_or (digits_l 256 16 (number_l 65536 (pick_l 0 (lead ++ rest) ks))) (4 * k + 2) 0) (get_or (digits_l 256 16 (number_l 65536 (pick_l 0 (lead ++ rest) ks))) (4 * k + 3) 0)
   four_spelled spells k l =
       let wide = (picked_lanes (lead ++ rest) ks long).long in
@@ -278,7 +278,7 @@ module _ (us lead rest ks : List ℕ) (f : ℕ → ℕ) (half : (k : ℕ) → k 
       let one : 4 * k + 1 ≡ 2 * (2 * k) + 1 = omega arith in
       let two_on : 4 * k + 2 ≡ 2 * (2 * k + 1) + 0 = omega arith in
       let three_on : 4 * k + 3 ≡ 2 * (2 * k + 1) + 1 = omega arith in
-      spell_again (get_or us (f k) 0)
+      encode_again (get_or us (f k) 0)
       (ap (λ j. get_or bytes j 0) one ∙ part (2 * k) 1 (omega arith) (omega arith) ∙ ap (λ x. x / 256 ^ 1 % 256) (even_word k l) ∙ high_of _ ((small (f k) (half k l)).0))
       (ap (λ j. get_or bytes j 0) two_on ∙ part (2 * k + 1) 0 (omega arith) (omega arith) ∙ ap (λ x. x / 256 ^ 0 % 256) (odd_word k l) ∙ low_of _)
       (ap (λ j. get_or bytes j 0) three_on ∙ part (2 * k + 1) 1 (omega arith) (omega arith) ∙ ap (λ x. x / 256 ^ 1 % 256) (odd_word k l) ∙ high_of _ ((small (f k) (half k l)).1))

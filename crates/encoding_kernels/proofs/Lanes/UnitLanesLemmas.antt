@@ -9,7 +9,7 @@ use Rattle.std.proofs.lemmas.Simd.{Each1-get_or, mask_l-mod}
 use Rattle.encoding_kernels.specs.Lanes.{HasLanes}
 use Rattle.encoding_kernels.specs.Units.{ends_unit, low_bits, unit_at, units_behind, ends_behind}
 use Rattle.encoding_kernels.proofs.Lanes.LaneLemmas.{HasLanes-splat, HasLanes-zip2, compared}
-use Rattle.encoding_kernels.proofs.Lanes.KeptLemmas.{mask_front}
+use Rattle.encoding_kernels.proofs.Lanes.CompressLemmas.{mask_front}
 
 -- ---- the bytes before
 abbrev lanes_from : List ℕ → ℕ → List ℕ

@@ -6,8 +6,8 @@ use Rattle.std.proofs.lemmas.Bool.{cases_lt}
 use Rattle.std.proofs.lemmas.Bool.Decides.{nat_tests}
 use Rattle.std.proofs.lemmas.Str.{encode_ascii}
 use Rattle.encoding_definitions.specs.Latin1.{IsLatin1}
-use Rattle.encoding_kernels.specs.Spelling.{ended, all_ended, both_end, kept_places}
-use Rattle.encoding_kernels.proofs.Lanes.SpellingLemmas.{kept_step}
+use Rattle.encoding_kernels.specs.EncodeLanes.{ended, all_ended, both_end, kept_places}
+use Rattle.encoding_kernels.proofs.Lanes.EncodeLanesLemmas.{kept_step}
 
 -- a byte that goes on with a character
 abbrev pub GoesOnWith : ℕ → Type 0

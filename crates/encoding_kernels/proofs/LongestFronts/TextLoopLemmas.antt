@@ -15,7 +15,7 @@ use borrow.Rule.Slice.PartMut.{put_mid}
 use Rattle.encoding_definitions.specs.Sequence.{IsSequence}
 use Rattle.encoding_definitions.specs.Fronts.{WritesFront}
 use Rattle.encoding_kernels.specs.Strides.{AllBelow, BelowUpTo}
-use Rattle.encoding_kernels.specs.Units.{units_in, PutsText}
+use Rattle.encoding_kernels.specs.Units.{units_in, WritesUtf16}
 use Rattle.encoding_definitions.proofs.Sequences.EncodingLemmas.{IsSequence-encode, length-encode_utf16-utf8}
 use Rattle.encoding_definitions.proofs.LongestFronts.FrontsLemmas.{WritesFront-nil}
 use Rattle.encoding_definitions.proofs.LongestFronts.FittingLemmas.{written_is}
@@ -49,7 +49,7 @@ first_character src n (c ∷ cs, (h, e)) some all =
       rest = subst IsUtf8 (sym back) (cs, (parts.1, refl));
     }
 
-pub puts_character : (src old new : List ℕ) (n k c : ℕ) → Begins src n → IsScalar c → encode_utf8 c ≡ take n src → WritesFront old new k (encode_utf16 c) → PutsText src old new n k k
+pub puts_character : (src old new : List ℕ) (n k c : ℕ) → Begins src n → IsScalar c → encode_utf8 c ≡ take n src → WritesFront old new k (encode_utf16 c) → WritesUtf16 src old new n k k
 puts_character src old new n k c b s e w =
     let units : flat_map encode_utf16 (c ∷ []) ≡ encode_utf16 c = append-nil (encode_utf16 c) in
     record {
@@ -92,7 +92,7 @@ units_third (c ∷ cs) h =
     ]
 
 -- what is due then
-units_split : (src old new : List ℕ) (n k reach : ℕ) → IsUtf8 src → PutsText src old new n k reach → units_in src ≡ k + units_in (drop n src)
+units_split : (src old new : List ℕ) (n k reach : ℕ) → IsUtf8 src → WritesUtf16 src old new n k reach → units_in src ≡ k + units_in (drop n src)
 units_split src old new n k reach u p =
     let more = p.rest.0 in
     let all : encode_utf8_all (p.taken ++ more) ≡ src = encodes-append p.taken more ∙ (λ i. p.spelled i ++ p.rest.1.1 i) ∙ take-append-drop n src in
@@ -100,7 +100,7 @@ units_split src old new n k reach u p =
     ap length (flat_map-append encode_utf16 p.taken more) ∙ length-append (flat_map encode_utf16 p.taken) (flat_map encode_utf16 more) in
     omega (arith, units_of (p.taken ++ more) src u all, total, p.counted, units_of more (drop n src) p.rest p.rest.1.1)
 
-reaches : (src old new : List ℕ) (n k reach most : ℕ) → reach ≤ most → PutsText src old new n k reach → PutsText src old new n k most
+reaches : (src old new : List ℕ) (n k reach most : ℕ) → reach ≤ most → WritesUtf16 src old new n k reach → WritesUtf16 src old new n k most
 reaches src old new n k reach most l p =
     let e : reach + (most - reach) ≡ most = omega arith in
     let past = λ (xs : List ℕ). ap (λ m. drop m xs) (sym e) ∙ sym (drop-drop (most - reach) reach xs) in
@@ -116,19 +116,19 @@ reaches src old new n k reach most l p =
     }
 
 -- eight places are due behind all but the later code units
-pub due_block : (src old new : List ℕ) (n k later : ℕ) → IsUtf8 src → 8 ≤ later + (length src - n) / 3 → PutsText src old new n k (k + 8 - later) → PutsText src old new n k (units_in src)
+pub due_block : (src old new : List ℕ) (n k later : ℕ) → IsUtf8 src → 8 ≤ later + (length src - n) / 3 → WritesUtf16 src old new n k (k + 8 - later) → WritesUtf16 src old new n k (units_in src)
 due_block src old new n k later u l p =
     let more = p.rest in
     let left : length src - n ≤ 3 * units_in (drop n src) = omega (arith, units_of more.0 (drop n src) more more.1.1, units_third more.0 more.1.0, ap length more.1.1, length-drop n src) in
     reaches src old new n k (k + 8 - later) (units_in src) (omega (arith, left, l, units_split src old new n k (k + 8 - later) u p)) p
 
-pub due_exact : (src old new : List ℕ) (n k : ℕ) → IsUtf8 src → PutsText src old new n k k → PutsText src old new n k (units_in src)
+pub due_exact : (src old new : List ℕ) (n k : ℕ) → IsUtf8 src → WritesUtf16 src old new n k k → WritesUtf16 src old new n k (units_in src)
 due_exact src old new n k u p = reaches src old new n k k (units_in src) (omega (arith, units_split src old new n k k u p)) p
 
 -- the front of the strides, where the first bytes are ASCII
 pub due_ascii : (src old new : List ℕ) (n m : ℕ) → IsUtf8 src → m ≤ length src → length src ≤ length old → AllBelow 0x80 src 0 m → n ≤ length src
     → (BelowUpTo 0x80 src 0 → BelowUpTo 0x80 src n) → ((first : List ℕ) → WritesFront first old 0 [] → WritesFront first new n (take n src))
-    → (n + m ≤ length src → n + m ≤ length old → AllBelow 0x80 src n m → ⊥) → PutsText src old new n n (units_in src)
+    → (n + m ≤ length src → n + m ≤ length old → AllBelow 0x80 src n m → ⊥) → WritesUtf16 src old new n n (units_in src)
 due_ascii src old new n m u long room first within ascii copied stops =
     let some : 0 < n = elim (cases_lt 0 n) [
       | inl p ↦ p
@@ -137,7 +137,7 @@ due_ascii src old new n m u long room first within ascii copied stops =
     due_exact src old new n n u (puts_ascii src old new n u some within (ascii (λ k l. absurd (omega arith))) (copied old (WritesFront-nil old)))
 
 -- of five characters of three bytes eight places are due where three bytes more follow each of three
-pub due_triples : (src old new : List ℕ) → IsUtf8 src → 24 ≤ length src → PutsText src old new 15 5 8 → PutsText src old new 15 5 (units_in src)
+pub due_triples : (src old new : List ℕ) → IsUtf8 src → 24 ≤ length src → WritesUtf16 src old new 15 5 8 → WritesUtf16 src old new 15 5 (units_in src)
 due_triples src old new u l p = due_block src old new 15 5 5 u (omega arith) p
 
 -- ---- as far as a loop has come
@@ -154,7 +154,7 @@ pub record Putting (src old new : List ℕ) (read written : ℕ) : Type 0 where
   pub behind : drop (units_in src) new ≡ drop (units_in src) old
 
 pub putting_more : (src old new sub : List ℕ) (read written n k : ℕ) → written ≤ length new → Putting src old new read written
-    → PutsText (drop read src) (take (length new - written) (drop written new)) sub n k (units_in (drop read src)) → Putting src old (put_mid written (length new - written) new sub) (read + n) (written + k)
+    → WritesUtf16 (drop read src) (take (length new - written) (drop written new)) sub n k (units_in (drop read src)) → Putting src old (put_mid written (length new - written) new sub) (read + n) (written + k)
 putting_more src old new sub read written n k room d p =
     let units = flat_map encode_utf16 d.done in
     let after = put_mid written (length new - written) new sub in

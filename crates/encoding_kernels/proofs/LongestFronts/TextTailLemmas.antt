@@ -8,7 +8,7 @@ use Rattle.std.proofs.lemmas.Bool.{and_from}
 use Rattle.std.proofs.lemmas.List.{length-take, take-append-drop, take_at, drop_at}
 use Rattle.std.proofs.lemmas.Str.{chars_from_encodes}
 use Rattle.encoding_definitions.specs.Fronts.{WritesFront}
-use Rattle.encoding_kernels.specs.Units.{PutsText}
+use Rattle.encoding_kernels.specs.Units.{WritesUtf16}
 use Rattle.encoding_definitions.proofs.Sequences.EncodingLemmas.{length-utf16}
 
 -- zeros are a text
@@ -18,7 +18,7 @@ zeros_text (suc n) zero = ([], (refl, refl))
 zeros_text zero (suc m) = let text = zeros_text zero m in (0 ∷ text.0, (and_from _ _ refl text.1.0, λ i. one 0 (omega arith) i ++ text.1.1 i))
 zeros_text (suc n) (suc m) = zeros_text n m
 
-module _ {src old new : List ℕ} {n k reach : ℕ} (p : PutsText src old new n k reach) where
+module _ {src old new : List ℕ} {n k reach : ℕ} (p : WritesUtf16 src old new n k reach) where
   -- no more code units than bytes
   pub puts_few : k ≤ n
   puts_few = omega (arith, p.counted, length-utf16 p.taken p.are_scalars, ap length p.spelled, length-take n src, p.within)
@@ -27,7 +27,7 @@ module _ {src old new : List ℕ} {n k reach : ℕ} (p : PutsText src old new n 
   puts_long = ap length p.placed ∙ sym p.counted
 
   -- the code units copied to other places
-  pub puts_alone : (places : List ℕ) → PutsText src places (take k new ++ drop k places) n k k
+  pub puts_alone : (places : List ℕ) → WritesUtf16 src places (take k new ++ drop k places) n k k
   puts_alone places = record {
     taken = p.taken;
     are_scalars = p.are_scalars;
@@ -40,7 +40,7 @@ module _ {src old new : List ℕ} {n k reach : ℕ} (p : PutsText src old new n 
   }
 
 -- a whole text, at the front of a block
-pub puts_whole : (src block old new : List ℕ) (n k : ℕ) → IsUtf8 src → take n block ≡ src → n ≤ length old → PutsText block old new n k k → WritesFront old new k (flat_map encode_utf16 (chars src))
+pub puts_whole : (src block old new : List ℕ) (n k : ℕ) → IsUtf8 src → take n block ≡ src → n ≤ length old → WritesUtf16 block old new n k k → WritesFront old new k (flat_map encode_utf16 (chars src))
 puts_whole src block old new n k u front room p =
     let units : flat_map encode_utf16 p.taken ≡ flat_map encode_utf16 (chars src) = ap (flat_map encode_utf16) (chars_from_encodes p.taken src u (p.spelled ∙ front)) in
     record {

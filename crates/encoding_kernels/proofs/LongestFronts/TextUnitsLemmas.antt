@@ -16,8 +16,8 @@ use Rattle.std.proofs.lemmas.Str.{IsUtf8-take, IsUtf8-drop, IsUtf8-from_ascii, I
 use Rattle.encoding_definitions.specs.Fronts.{WritesFront}
 use Rattle.encoding_kernels.specs.Strides.{BelowUpTo}
 use Rattle.encoding_kernels.specs.Lanes.{HasLanes}
-use Rattle.encoding_kernels.specs.Units.{BeginsThree, keep, ends_unit, low_bits, triple_unit, unit_at, units_behind, upper_of, ends_behind, PutsKept, PutsText}
-use Rattle.encoding_kernels.proofs.Lanes.KeptLemmas.{keep_pad}
+use Rattle.encoding_kernels.specs.Units.{BeginsThree, keep, ends_unit, low_bits, triple_unit, unit_at, units_behind, upper_of, ends_behind, WritesCompressed, WritesUtf16}
+use Rattle.encoding_kernels.proofs.Lanes.CompressLemmas.{keep_pad}
 use Rattle.encoding_definitions.proofs.LongestFronts.FittingLemmas.{written_is}
 use Rattle.encoding_kernels.proofs.Latin.AsciiLemmas.{Each-take}
 
@@ -161,7 +161,7 @@ front_units (suc n) x y a [] = refl
 front_units (suc n) x y a (b ∷ bs) = ap (λ us. (if ends_unit a b then unit_at x y a b ∷ [] else []) ++ us) (front_units n y a b bs)
 
 pub puts_block : (src old new us : List ℕ) (end count reach : ℕ) → IsUtf8 src → end ≤ 16 → IsCharBoundary src end → us ≡ units_behind 0 0 0 (take 16 src)
-    → PutsKept (take end (ends_behind 0 (take 16 src)) ++ replicate (16 - end) false) us old new count reach → PutsText src old new end count reach
+    → WritesCompressed (take end (ends_behind 0 (take 16 src)) ++ replicate (16 - end) false) us old new count reach → WritesUtf16 src old new end count reach
 puts_block src old new us end count reach u few boundary e kept =
     let text = IsUtf8-take src end u boundary in
     let cs = text.0 in
@@ -185,7 +185,7 @@ ascii_units : (bs : List ℕ) → ((i : ℕ) → get_or bs i 0 < 128) → flat_m
 ascii_units [] h = refl
 ascii_units (b ∷ bs) h = (λ i. one_unit b (omega (arith, h 0)) i ++ ascii_units bs (λ k. h (suc k)) i)
 
-pub puts_ascii : (src old new : List ℕ) (n : ℕ) → IsUtf8 src → 0 < n → n ≤ length src → BelowUpTo 0x80 src n → WritesFront old new n (take n src) → PutsText src old new n n n
+pub puts_ascii : (src old new : List ℕ) (n : ℕ) → IsUtf8 src → 0 < n → n ≤ length src → BelowUpTo 0x80 src n → WritesFront old new n (take n src) → WritesUtf16 src old new n n n
 puts_ascii src old new n u some within h w =
     let bs = take n src in
     let ascii : IsAscii bs = Each-take (λ b. b < 0x80) (omega arith) src n h in
@@ -296,7 +296,7 @@ lanes_in v (suc (suc (suc (suc zero)))) l = refl
 lanes_in v (suc (suc (suc (suc (suc k))))) l = absurd (omega arith)
 
 pub puts_triples : (src old r : List ℕ) → IsUtf8 src → 16 ≤ length src → 8 ≤ length old → ((k : ℕ) → k < 5 → BeginsThree (get_or src (3 * k) 0)) → HasLanes 8 r (triple_lanes (take 16 src))
-    → PutsText src old (put_chunk 0 old r) 15 5 8
+    → WritesUtf16 src old (put_chunk 0 old r) 15 5 8
 puts_triples src old r u long room b h =
     let t = triples 5 src u b in
     let put : put_chunk 0 old r ≡ r ++ drop 8 old = put_chunk_is 0 old r (omega (arith, h.long, room)) ∙ ap (λ n. r ++ drop n old) h.long in

@@ -13,7 +13,7 @@ use Rattle.encoding_definitions.specs.Utf16.{IsHighSurrogate, IsLowSurrogate}
 use Rattle.encoding_definitions.proofs.Surrogates.SurrogateLemmas.{valid-encode, valid_more_one, valid_more_two}
 use Rattle.encoding_definitions.proofs.Latin.Latin1Lemmas.{latin1_more_one, latin1_more_two, IsUtf8Latin1-nil}
 use Rattle.encoding_kernels.proofs.Lanes.ChunksLemmas.{unit_is}
-use Rattle.encoding_kernels.proofs.Lanes.HalvesLemmas.{low_test, high_test}
+use Rattle.encoding_kernels.proofs.Lanes.SurrogatePairsLemmas.{low_test, high_test}
 
 before_next : (us : List ℕ) (k : ℕ) → slice_index (0 ∷ us) (k + 1) ≡ slice_index us k
 before_next us k = ap (λ j. slice_index (0 ∷ us) j) {x = k + 1} {y = suc k} (omega arith)

@@ -6,7 +6,7 @@ ghost use Rattle.encoding_kernels.specs.Strides.{AllBelow, BelowUpTo, CopiesAsci
 
 use super::{
     ASCII_END, BASIC_LATIN_END, HALF_STRIDE, STRIDE, UnitsBelow, are_bytes_below, are_units_below,
-    run_below,
+    run_of_bytes_below,
 };
 use crate::places::run;
 use std::simd::Simd;
@@ -45,7 +45,7 @@ fn copy_by_strides<const N: usize>(src: &[u8], dst: &mut [u8])
     }
 }
 
-/// Writes the bytes at the front. Few are not worth a call of the C library, which goes through a table of addresses.
+/// Writes the bytes at the front. Few are not worth a PLT call of the C library.
 #[inline]
 pub fn copy_front(src: &[u8], dst: &mut [u8])
     requires { length src.now ≤ length dst.old }
@@ -64,7 +64,7 @@ pub fn copy_front(src: &[u8], dst: &mut [u8])
 
 /// Writes a stride of bytes to a place, each as a UTF-16 code unit.
 #[inline(always)]
-pub fn widen<const N: usize>(stride: &[u8; N], dst: &mut [u16], at: usize)
+pub fn unpack<const N: usize>(stride: &[u8; N], dst: &mut [u16], at: usize)
     requires { at + N ≤ length dst.old }
     ensures { dst.new ≡ take at dst.old ++ (stride.now ++ drop (at + N) dst.old) }
 {
@@ -74,9 +74,9 @@ pub fn widen<const N: usize>(stride: &[u8; N], dst: &mut [u16], at: usize)
 
 /// Writes a stride of UTF-16 code units to a place, each as a byte.
 #[inline(always)]
-fn narrow<const N: usize>(stride: &[u16; N], dst: &mut [u8], at: usize)
+fn pack<const N: usize>(stride: &[u16; N], dst: &mut [u8], at: usize)
     requires room { at + N ≤ length dst.old }
-    requires narrow { AllBelow 0x100 stride.now 0 N }
+    requires pack { AllBelow 0x100 stride.now 0 N }
     ensures { dst.new ≡ take at dst.old ++ (stride.now ++ drop (at + N) dst.old) }
 {
     let bytes = Simd::<u16, N>::from_slice(stride).cast::<u8>();
@@ -85,7 +85,7 @@ fn narrow<const N: usize>(stride: &[u16; N], dst: &mut [u8], at: usize)
 
 /// Writes the lower byte of each of a stride of UTF-16 code units to a place.
 #[inline(always)]
-pub fn narrow_lower<const N: usize>(stride: &[u16; N], dst: &mut [u8], at: usize)
+pub fn pack_lower<const N: usize>(stride: &[u16; N], dst: &mut [u8], at: usize)
     requires { at + N ≤ length dst.old }
     ensures { dst.new ≡ take at dst.old ++ (map (λ unit. unit % 0x100) stride.now ++ drop (at + N) dst.old) }
 {
@@ -116,7 +116,7 @@ pub fn copy_ascii<const N: usize>(src: &[u8], dst: &mut [u8], from: usize) -> us
 
 /// Copies bytes, N at a time, from a place on as UTF-16 code units while they are ASCII, and returns where that ends.
 #[inline(always)]
-pub(crate) fn widen_ascii<const N: usize>(src: &[u8], dst: &mut [u16], from: usize) -> usize
+pub(crate) fn unpack_ascii<const N: usize>(src: &[u8], dst: &mut [u16], from: usize) -> usize
     requires { (from ≤ length src.now) × (from ≤ length dst.old) × (0 < N) × (N ≤ 64) }
     ensures copies { CopiesAscii src.now dst.old dst.new from result }
     ensures stops { result + N ≤ length src.now → result + N ≤ length dst.old
@@ -129,7 +129,7 @@ pub(crate) fn widen_ascii<const N: usize>(src: &[u8], dst: &mut [u16], from: usi
         if !are_bytes_below::<N>(stride, 0, ASCII_END) {
             return at;
         }
-        widen::<N>(stride, dst, at);
+        unpack::<N>(stride, dst, at);
         at += N;
     }
     at
@@ -137,7 +137,7 @@ pub(crate) fn widen_ascii<const N: usize>(src: &[u8], dst: &mut [u16], from: usi
 
 /// Copies UTF-16 code units, N at a time, from a place on as bytes while they are ASCII, and returns where that ends.
 #[inline(always)]
-pub(crate) fn narrow_ascii<const N: usize>(src: &[u16], dst: &mut [u8], from: usize) -> usize
+pub(crate) fn pack_ascii<const N: usize>(src: &[u16], dst: &mut [u8], from: usize) -> usize
     requires { (from ≤ length src.now) × (from ≤ length dst.old) × (0 < N) × (N ≤ 64) }
     ensures copies { CopiesAscii src.now dst.old dst.new from result }
     ensures stops { result + N ≤ length src.now → result + N ≤ length dst.old
@@ -150,7 +150,7 @@ pub(crate) fn narrow_ascii<const N: usize>(src: &[u16], dst: &mut [u8], from: us
         if !are_units_below::<N>(stride, 0, BASIC_LATIN_END) {
             return at;
         }
-        narrow::<N>(stride, dst, at);
+        pack::<N>(stride, dst, at);
         at += N;
     }
     at
@@ -158,7 +158,7 @@ pub(crate) fn narrow_ascii<const N: usize>(src: &[u16], dst: &mut [u8], from: us
 
 /// Writes the first bytes of a vector, so many. Behind them `dst` is as before, though sixteen bytes are stored.
 #[inline(always)]
-pub fn put_first(dst: &mut [u8], at: usize, bytes: u8x16, count: usize)
+pub fn write_first(dst: &mut [u8], at: usize, bytes: u8x16, count: usize)
     requires room { at + 16 ≤ length dst.old }
     requires bytes { (count ≤ 16) × (length bytes ≡ 16) }
     ensures { dst.new ≡ take at dst.old ++ (take count bytes ++ drop (at + count) dst.old) }
@@ -170,7 +170,7 @@ pub fn put_first(dst: &mut [u8], at: usize, bytes: u8x16, count: usize)
 
 /// Writes the first code units of a vector, so many. Behind them `dst` is as before, though sixteen are stored.
 #[inline(always)]
-fn put_first_units(dst: &mut [u16], at: usize, units: u16x16, count: usize)
+fn write_first_units(dst: &mut [u16], at: usize, units: u16x16, count: usize)
     requires room { at + 16 ≤ length dst.old }
     requires units { (count ≤ 16) × (length units ≡ 16) }
     ensures { dst.new ≡ take at dst.old ++ (take count units ++ drop (at + count) dst.old) }
@@ -197,15 +197,15 @@ fn copy_last_ascii(src: &[u8], dst: &mut [u8], from: usize) -> usize
         return copy_ascii::<1>(src, dst, from);
     }
     let at = from.min(room - STRIDE);
-    let run = run_below::<STRIDE>(src, at, ASCII_END);
-    put_first(dst, at, u8x16::from_slice(&src[at..]), run);
+    let run = run_of_bytes_below::<STRIDE>(src, at, ASCII_END);
+    write_first(dst, at, u8x16::from_slice(&src[at..]), run);
     at + run
 }
 
 /// Copies the bytes from a place on as UTF-16 code units up to the first that isn't ASCII, where that is among the next
 /// sixteen or fewer are left, and returns where that ends. The last sixteen may begin before the place.
 #[inline(always)]
-fn widen_last_ascii(src: &[u8], dst: &mut [u16], from: usize) -> usize
+fn unpack_last_ascii(src: &[u8], dst: &mut [u16], from: usize) -> usize
     requires within { (from ≤ length src.now) × (from ≤ length dst.old) }
     requires ascii { BelowUpTo 0x80 src.now from }
     requires last { from + 16 ≤ length src.now → from + 16 ≤ length dst.old → AllBelow 0x80 src.now from 16 → ⊥ }
@@ -214,18 +214,18 @@ fn widen_last_ascii(src: &[u8], dst: &mut [u16], from: usize) -> usize
 {
     let room = src.len().min(dst.len());
     if room < STRIDE || from == room {
-        return widen_ascii::<1>(src, dst, from);
+        return unpack_ascii::<1>(src, dst, from);
     }
     let at = from.min(room - STRIDE);
-    let run = run_below::<STRIDE>(src, at, ASCII_END);
-    put_first_units(dst, at, u8x16::from_slice(&src[at..]).cast::<u16>(), run);
+    let run = run_of_bytes_below::<STRIDE>(src, at, ASCII_END);
+    write_first_units(dst, at, u8x16::from_slice(&src[at..]).cast::<u16>(), run);
     at + run
 }
 
 /// Copies the UTF-16 code units from a place on as bytes up to the first that isn't ASCII, where that is among the next
 /// sixteen or fewer are left, and returns where that ends. The last sixteen may begin before the place.
 #[inline(always)]
-fn narrow_last_ascii(src: &[u16], dst: &mut [u8], from: usize) -> usize
+fn pack_last_ascii(src: &[u16], dst: &mut [u8], from: usize) -> usize
     requires within { (from ≤ length src.now) × (from ≤ length dst.old) }
     requires ascii { BelowUpTo 0x80 src.now from }
     requires last { from + 16 ≤ length src.now → from + 16 ≤ length dst.old → AllBelow 0x80 src.now from 16 → ⊥ }
@@ -234,7 +234,7 @@ fn narrow_last_ascii(src: &[u16], dst: &mut [u8], from: usize) -> usize
 {
     let room = src.len().min(dst.len());
     if room < STRIDE || from == room {
-        return narrow_ascii::<1>(src, dst, from);
+        return pack_ascii::<1>(src, dst, from);
     }
     let at = from.min(room - STRIDE);
     let units = UnitsBelow {
@@ -243,7 +243,7 @@ fn narrow_last_ascii(src: &[u16], dst: &mut [u8], from: usize) -> usize
     };
     let run = run::<STRIDE, _>(&units, at);
     let lower = u16x16::from_slice(&src[at..]) & u16x16::splat(0xFF);
-    put_first(dst, at, lower.cast::<u8>(), run);
+    write_first(dst, at, lower.cast::<u8>(), run);
     at + run
 }
 
@@ -265,22 +265,22 @@ pub fn copy_ascii_front(src: &[u8], dst: &mut [u8]) -> usize
 /// Copies the bytes before the first that isn't ASCII as UTF-16 code units, over the shorter length of the two, and
 /// returns how many. That this is among the first ones is seen first.
 #[inline(always)]
-pub fn widen_ascii_front(src: &[u8], dst: &mut [u16]) -> usize
+pub fn unpack_ascii_front(src: &[u8], dst: &mut [u16]) -> usize
     ensures copies { CopiesAscii src.now dst.old dst.new 0 result }
     ensures stops { result < length src.now → result < length dst.old → 0x80 ≤ slice_index src.now result }
 {
     if src.len() >= STRIDE && dst.len() >= STRIDE && !are_bytes_below::<STRIDE>(src, 0, ASCII_END) {
-        return widen_last_ascii(src, dst, 0);
+        return unpack_last_ascii(src, dst, 0);
     }
-    let by_blocks = widen_ascii::<64>(src, dst, 0);
-    let by_strides = widen_ascii::<STRIDE>(src, dst, by_blocks);
-    widen_last_ascii(src, dst, by_strides)
+    let by_blocks = unpack_ascii::<64>(src, dst, 0);
+    let by_strides = unpack_ascii::<STRIDE>(src, dst, by_blocks);
+    unpack_last_ascii(src, dst, by_strides)
 }
 
 /// Copies the UTF-16 code units before the first that isn't ASCII as bytes, over the shorter length of the two, and
 /// returns how many. That this is among the first ones is seen first.
 #[inline(always)]
-pub fn narrow_ascii_front(src: &[u16], dst: &mut [u8]) -> usize
+pub fn pack_ascii_front(src: &[u16], dst: &mut [u8]) -> usize
     ensures copies { CopiesAscii src.now dst.old dst.new 0 result }
     ensures stops { result < length src.now → result < length dst.old → 0x80 ≤ slice_index src.now result }
 {
@@ -288,9 +288,9 @@ pub fn narrow_ascii_front(src: &[u16], dst: &mut [u8]) -> usize
         && dst.len() >= STRIDE
         && !are_units_below::<STRIDE>(src, 0, BASIC_LATIN_END)
     {
-        return narrow_last_ascii(src, dst, 0);
+        return pack_last_ascii(src, dst, 0);
     }
-    let by_blocks = narrow_ascii::<32>(src, dst, 0);
-    let by_strides = narrow_ascii::<STRIDE>(src, dst, by_blocks);
-    narrow_last_ascii(src, dst, by_strides)
+    let by_blocks = pack_ascii::<32>(src, dst, 0);
+    let by_strides = pack_ascii::<STRIDE>(src, dst, by_blocks);
+    pack_last_ascii(src, dst, by_strides)
 }

@@ -12,7 +12,7 @@ use Rattle.encoding_definitions.proofs.Sequences.EncodingLemmas.{flat_map-encode
 use Rattle.encoding_definitions.specs.Fronts.{FitsLongest, WritesFront}
 use Rattle.encoding_definitions.specs.Latin1.{IsLatin1, IsUtf8Latin1}
 use Rattle.encoding_kernels.specs.Strides.{BelowUpTo}
-use Rattle.encoding_kernels.specs.Spelling.{all_ended}
+use Rattle.encoding_kernels.specs.EncodeLanes.{all_ended}
 use Rattle.std.specs.Simd.Lanes.{chunk}
 use Rattle.std.proofs.lemmas.Simd.{length-chunk}
 use Rattle.encoding_kernels.proofs.Latin.EndedLemmas.{GoesOnWith, NextIs, Splits, nexts, splits, ended_without}

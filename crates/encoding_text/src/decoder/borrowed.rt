@@ -21,7 +21,7 @@ fn piece_at_end<'a>(end: DecoderResult) -> Piece<'a>
     }
 }
 
-/// Decodes the front of `src` behind the pending bytes: the piece, and how many bytes were read.
+/// Decodes the prefix of `src` behind the pending bytes: the piece, and how many bytes were read.
 #[inline(always)]
 pub(crate) fn decode_borrowed<'a>(
     pending: &mut Pending,
@@ -37,7 +37,7 @@ pub(crate) fn decode_borrowed<'a>(
     }
 }
 
-/// Decodes the front of `src` with nothing pending: the piece, and how many bytes were read.
+/// Decodes the prefix of `src` with nothing pending: the piece, and how many bytes were read.
 #[inline(always)]
 fn borrow_front<'a>(pending: &mut Pending, src: &'a [u8], last: bool) -> (Piece<'a>, usize)
     requires neutral { pending.old ≡ [] }
@@ -61,7 +61,7 @@ fn borrow_front<'a>(pending: &mut Pending, src: &'a [u8], last: bool) -> (Piece<
     (piece_at_end(end), read)
 }
 
-/// Decodes the front of `src` behind a beginning: the piece, and how many bytes were read.
+/// Decodes the prefix of `src` behind a beginning: the piece, and how many bytes were read.
 #[inline(never)]
 fn resume_borrowed<'a>(pending: &mut Pending, src: &'a [u8], last: bool) -> (Piece<'a>, usize)
     requires unfinished { IsBeginning pending.old }

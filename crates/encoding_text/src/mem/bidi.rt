@@ -13,11 +13,9 @@ ghost use Rattle.encoding_kernels.specs.BidiBlocks.{second_end, mark_lead, Stand
 use super::checks::{LATIN1_END, str_latin1_up_to, utf8_latin1_up_to};
 use crate::ascii::ascii_valid_up_to;
 use crate::utf_8::{character_length, utf8_valid_up_to};
-use encoding_kernels::bidi_blocks::{
-    FIRST_LEAD, FIRST_UNIT, STRIDE, UNIT_STRIDE, skip_clear, skip_clear_units,
-};
+use encoding_kernels::bidi_blocks::{FIRST_LEAD, FIRST_UNIT, skip_clear, skip_clear_units};
 use encoding_kernels::scalars::scalar_of_sequence;
-use encoding_kernels::strides::{front_below, front_of_units_below};
+use encoding_kernels::strides::{STRIDE, UNIT_STRIDE, front_of_bytes_below, front_of_units_below};
 
 /// The first right-to-left scalar value.
 const FIRST: u32 = 0x0590;
@@ -131,7 +129,7 @@ fn is_text_bidi(bytes: &[u8]) -> bool
     requires { IsUtf8 bytes.now }
     ensures { IsTrue result ↔ IsBidiText bytes.now }
 {
-    let mut at = front_below(bytes, FIRST_LEAD);
+    let mut at = front_of_bytes_below(bytes, FIRST_LEAD);
     while at < bytes.len() {
         let from = skip_clear(bytes, at);
         at = from + STRIDE.min(bytes.len() - from);
@@ -188,7 +186,7 @@ pub fn is_utf16_bidi(buffer: &[u16]) -> bool
     false
 }
 
-/// The number of code units in the longest front that is Latin1.
+/// The number of code units in the longest prefix that is Latin1.
 fn utf16_latin1_up_to(buffer: &[u16]) -> usize
     ensures { IsLongestFront IsLatin1 buffer.now result }
 {

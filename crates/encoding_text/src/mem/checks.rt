@@ -11,7 +11,7 @@ use encoding_kernels::pair_blocks::{BEYOND_LATIN1, latin1_blocks};
 use encoding_kernels::sequence::is_continuation;
 use encoding_kernels::strides::{
     ASCII_END, BASIC_LATIN_END, STRIDE, are_all_bytes_below, are_all_units_below,
-    front_behind_stride, front_below, run_below,
+    front_behind_stride, front_of_bytes_below, run_of_bytes_below,
 };
 
 /// The least UTF-16 code unit that isn't Latin1.
@@ -55,7 +55,7 @@ pub fn is_utf16_latin1(buffer: &[u16]) -> bool
     are_all_units_below(buffer, LATIN1_END)
 }
 
-/// The number of bytes in the longest front that is the UTF-8 of scalar values up to U+00FF.
+/// The number of bytes in the longest prefix that is the UTF-8 of scalar values up to U+00FF.
 #[inline]
 pub fn utf8_latin1_up_to(buffer: &[u8]) -> usize
     ensures { IsLongestFront IsUtf8Latin1 buffer.now result }
@@ -63,7 +63,7 @@ pub fn utf8_latin1_up_to(buffer: &[u8]) -> usize
     if buffer.len() < STRIDE {
         return longest_latin1(buffer, 0);
     }
-    let run = run_below::<STRIDE>(buffer, 0, ASCII_END);
+    let run = run_of_bytes_below::<STRIDE>(buffer, 0, ASCII_END);
     // most other text ends here
     if run < STRIDE && buffer[run] >= BEYOND_LATIN1 {
         return run;
@@ -71,7 +71,7 @@ pub fn utf8_latin1_up_to(buffer: &[u8]) -> usize
     longest_latin1(buffer, run)
 }
 
-/// How far an ASCII front goes on from where its first stride has it: behind a whole stride, or from the beginning.
+/// How far an ASCII prefix goes on from where its first stride has it: behind a whole stride, or from the beginning.
 /// Elsewhere it ends at once.
 #[inline(always)]
 fn ascii_front(bytes: &[u8], from: usize) -> usize
@@ -86,7 +86,7 @@ fn ascii_front(bytes: &[u8], from: usize) -> usize
     }
 }
 
-/// How far the bytes are Latin1 in UTF-8, by an ASCII front that goes on from a place and whole blocks.
+/// How far the bytes are Latin1 in UTF-8, by an ASCII prefix that goes on from a place and whole blocks.
 #[inline(always)]
 fn latin1_front(bytes: &[u8], from: usize) -> usize
     requires { (from ≤ length bytes.now) × BelowUpTo 0x80 bytes.now from }
@@ -109,7 +109,7 @@ fn is_latin1_lead(byte: u8) -> bool
     byte == 0xC2 || byte == 0xC3
 }
 
-/// The length of the longest front that is Latin1 in UTF-8, by its whole blocks and then singly, behind ASCII up to a place.
+/// The length of the longest prefix that is Latin1 in UTF-8, by its whole blocks and then singly, behind ASCII up to a place.
 /// Out of line.
 #[inline(never)]
 fn longest_latin1(buffer: &[u8], from: usize) -> usize
@@ -135,10 +135,10 @@ fn longest_latin1(buffer: &[u8], from: usize) -> usize
     read
 }
 
-/// The number of bytes in the longest front of the text whose scalar values are each up to U+00FF.
+/// The number of bytes in the longest prefix of the text whose scalar values are each up to U+00FF.
 pub fn str_latin1_up_to(buffer: &str) -> usize
     ensures { IsLongestFront IsUtf8Latin1 buffer.now result }
 {
     let bytes = buffer.as_bytes();
-    front_below(bytes, BEYOND_LATIN1)
+    front_of_bytes_below(bytes, BEYOND_LATIN1)
 }

@@ -6,11 +6,11 @@ ghost use Rattle.std.specs.Str.{chars};
 ghost use Rattle.encoding_definitions.specs.Fronts.{FitsLongest, WritesFront};
 ghost use Rattle.encoding_definitions.specs.Latin1.{IsUtf8Latin1};
 
-use encoding_kernels::latin1_ends::latin1_of;
-use encoding_kernels::spelling::write_short;
+use encoding_kernels::encode_lanes::write_short;
 use encoding_kernels::strides::{
-    ASCII_END, STRIDE, are_bytes_below, copy_ascii, narrow_lower, put_first, widen,
+    ASCII_END, STRIDE, are_bytes_below, copy_ascii, pack_lower, unpack, write_first,
 };
+use encoding_kernels::utf8_to_latin1::latin1_of;
 use std::simd::prelude::*;
 
 /// The bytes that a character from U+0080 to U+00FF takes in UTF-8.
@@ -24,7 +24,7 @@ pub fn convert_latin1_to_utf16(src: &[u8], dst: &mut [u16])
     let (strides, _) = src.as_chunks::<STRIDE>();
     let mut at = 0;
     for stride in strides {
-        widen::<STRIDE>(stride, dst, at);
+        unpack::<STRIDE>(stride, dst, at);
         at += STRIDE;
     }
     for i in at..src.len() {
@@ -32,7 +32,7 @@ pub fn convert_latin1_to_utf16(src: &[u8], dst: &mut [u16])
     }
 }
 
-/// Writes the UTF-8 of an ASCII front of `src` and of blocks of sixteen bytes behind it, and returns how many bytes
+/// Writes the UTF-8 of an ASCII prefix of `src` and of blocks of sixteen bytes behind it, and returns how many bytes
 /// these are and how many it wrote. Behind what is written `dst` is as before.
 fn convert_latin1_blocks(src: &[u8], dst: &mut [u8]) -> (usize, usize)
     ensures within { result.0 ≤ length src.now }
@@ -55,7 +55,7 @@ fn convert_latin1_blocks(src: &[u8], dst: &mut [u8]) -> (usize, usize)
     (read, written)
 }
 
-/// Writes the UTF-8 of the longest front of `src` whose UTF-8 fits into `dst`, and returns how many bytes it read and
+/// Writes the UTF-8 of the longest prefix of `src` whose UTF-8 fits into `dst`, and returns how many bytes it read and
 /// how many it wrote: Encoding Standard, `encodeInto`. Behind what is written `dst` is as before.
 pub fn convert_latin1_to_utf8_partial(src: &[u8], dst: &mut [u8]) -> (usize, usize)
     ensures front { FitsLongest (λ b. b ∷ []) encode_utf8 src.now (length dst.old) result.0
@@ -118,7 +118,7 @@ pub fn convert_utf8_to_latin1(src: &[u8], dst: &mut [u8]) -> usize
             written += front;
         } else {
             let (bytes, count) = latin1_of(u8x16::from_slice(&src[read..]));
-            put_first(dst, written, bytes, count);
+            write_first(dst, written, bytes, count);
             written += count;
             read += whole_length(src[read + 15]);
         }
@@ -156,7 +156,7 @@ pub fn convert_utf16_to_latin1_lossy(src: &[u16], dst: &mut [u8])
     let (strides, _) = src.as_chunks::<STRIDE>();
     let mut at = 0;
     for stride in strides {
-        narrow_lower::<STRIDE>(stride, dst, at);
+        pack_lower::<STRIDE>(stride, dst, at);
         at += STRIDE;
     }
     for i in at..src.len() {

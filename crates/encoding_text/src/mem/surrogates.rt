@@ -11,7 +11,7 @@ use encoding_kernels::surrogates::{is_high_surrogate, is_low_surrogate, is_surro
 /// What stands in place of a lone surrogate.
 const REPLACEMENT_UNIT: u16 = 0xFFFD;
 
-/// The number of code units in the longest front that has no lone surrogate among its parts: the place of the first
+/// The number of code units in the longest prefix that has no lone surrogate among its parts: the place of the first
 /// lone surrogate, or the length of `buffer`.
 pub fn utf16_valid_up_to(buffer: &[u16]) -> usize
     ensures { IsLongestFront IsValidUtf16 buffer.now result }

@@ -48,7 +48,7 @@ pub fn convert_utf16_to_str(src: &[u16], dst: &mut [u8]) -> usize
     end
 }
 
-/// Writes the UTF-8 of the longest front of `src` whose UTF-8 fits into `dst`, and returns how many bytes were read
+/// Writes the UTF-8 of the longest prefix of `src` whose UTF-8 fits into `dst`, and returns how many bytes were read
 /// and how many were written: `convert_latin1_to_utf8_partial`, into a text.
 ///
 /// `dst` is well-formed before and after. The sixteen bytes behind what is written, or all where there are fewer, and

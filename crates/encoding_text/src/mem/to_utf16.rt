@@ -10,7 +10,7 @@ ghost use Rattle.encoding_definitions.specs.Converting.{WritesText};
 
 use crate::decoder::{DecoderResult, Utf8Decoder};
 use crate::utf_8::convert_utf8_to_utf16_up_to_invalid;
-use encoding_kernels::text_units::write_text;
+use encoding_kernels::utf8_to_utf16::convert_valid_utf8_to_utf16;
 
 /// Converts bytes to UTF-16, with U+FFFD for each broken part, and returns how many code units it wrote: Encoding
 /// Standard, UTF-8 decode without BOM.
@@ -49,12 +49,12 @@ pub fn convert_str_to_utf16(src: &str, dst: &mut [u16]) -> usize
     requires room { length src.now ≤ length dst.old }
     ensures { WritesFront dst.old dst.new result (flat_map encode_utf16 (chars src.now)) }
 {
-    write_text(src.as_bytes(), dst)
+    convert_valid_utf8_to_utf16(src.as_bytes(), dst)
 }
 
 /// Converts bytes to UTF-16, and returns how many code units it wrote where they are well-formed, else `None`.
 ///
-/// Just the characters of the longest well-formed front are written. `dst` holds at least as many code units as `src`
+/// Just the characters of the longest well-formed prefix are written. `dst` holds at least as many code units as `src`
 /// has bytes. Behind what is written `dst` is as before.
 pub fn convert_utf8_to_utf16_without_replacement(src: &[u8], dst: &mut [u16]) -> Option<usize>
     requires room { length src.now ≤ length dst.old }

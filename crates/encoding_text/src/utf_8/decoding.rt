@@ -8,9 +8,9 @@ ghost use Rattle.encoding_definitions.specs.Converting.{ConvertsLongest};
 ghost use Rattle.encoding_text.specs.Steps.Converting.{Converted};
 
 use super::validation::{character_length, utf8_valid_up_to};
-use encoding_kernels::scalars::{put_utf16, scalar_of_sequence};
+use encoding_kernels::scalars::{scalar_of_sequence, write_utf16};
 use encoding_kernels::strides::copy_front;
-use encoding_kernels::text_units::write_text;
+use encoding_kernels::utf8_to_utf16::convert_valid_utf8_to_utf16;
 
 /// The most bytes that are validated before they are converted: so many stay in the nearest cache.
 const PIECE: usize = 4096;
@@ -75,7 +75,7 @@ pub fn convert_utf8_to_utf16_up_to_invalid(src: &[u8], dst: &mut [u16]) -> (usiz
     let (mut read, mut written) = convert_texts(src, dst);
     while let Some(length) = character_length(&src[read..]) {
         let scalar = scalar_of_sequence(&src[read..read + length]);
-        let Some(units) = put_utf16(scalar, &mut dst[written..]) else {
+        let Some(units) = write_utf16(scalar, &mut dst[written..]) else {
             break;
         };
         read += length;
@@ -97,7 +97,7 @@ fn convert_texts(src: &[u8], dst: &mut [u16]) -> (usize, usize)
         if valid == 0 {
             return (read, written);
         }
-        written += write_text(&src[read..read + valid], &mut dst[written..]);
+        written += convert_valid_utf8_to_utf16(&src[read..read + valid], &mut dst[written..]);
         read += valid;
         if read == src.len() || valid + 3 < room {
             return (read, written);
@@ -108,7 +108,7 @@ fn convert_texts(src: &[u8], dst: &mut [u16]) -> (usize, usize)
 /// Copies UTF-8 up to the first byte that no character takes, or as far as whole characters fit, and returns how many
 /// bytes it read and how many it wrote, which is the same. Behind what is written `dst` is as before.
 ///
-/// The characters that fit are those of the front that is as long as the room.
+/// The characters that fit are those of the prefix that is as long as the room.
 fn copy_utf8_up_to_invalid(src: &[u8], dst: &mut [u8]) -> (usize, usize)
     ensures { ConvertsLongest encode_utf8 src.now dst.old dst.new result.0 result.1 }
 {

@@ -5,10 +5,11 @@ ghost use Rattle.encoding_definitions.specs.Utf16.{IsUtf8OfFront, IsUtf8OfLonges
 ghost use Rattle.encoding_definitions.specs.FirstScalar.{IsFirstScalar};
 
 use encoding_kernels::scalars::{utf8_length, utf16_length, write_scalar};
+use encoding_kernels::strides::HALF_STRIDE;
 use encoding_kernels::surrogates::{
     is_high_surrogate, is_low_surrogate, is_surrogate, pair_scalar,
 };
-use encoding_kernels::utf16_blocks::{HALF_BLOCK, convert_blocks, convert_paired_blocks};
+use encoding_kernels::utf16_blocks::{convert_blocks, convert_paired_blocks};
 
 /// What a lone surrogate counts as.
 pub(super) const REPLACEMENT: u32 = 0xFFFD;
@@ -38,7 +39,7 @@ fn scalar_at(src: &[u16], at: usize) -> u32
 /// The characters that go one by one behind blocks: the first surrogate among them is what ended these.
 const FEW_SINGLES: usize = 8;
 
-/// The characters that go one by one where blocks were sought in vain twice.
+/// The characters that go one by one where there were no blocks twice in a row.
 const MANY_SINGLES: usize = 32;
 
 /// How many characters go one by one behind so many code units in blocks, and so many in blocks with pairs, where so
@@ -48,7 +49,7 @@ const MANY_SINGLES: usize = 32;
 fn singles_behind(units: usize, paired: usize, left: usize, in_vain: bool) -> usize
     ensures { paired ≡ 0 → 0 < result }
 {
-    if left < HALF_BLOCK {
+    if left < HALF_STRIDE {
         return MANY_SINGLES;
     }
     if paired > 0 {
@@ -86,7 +87,7 @@ pub fn convert_utf16_to_utf8_partial_inner(src: &[u16], dst: &mut [u8]) -> (usiz
 {
     let mut read = 0;
     let mut written = 0;
-    let mut singles = if src.len() < HALF_BLOCK {
+    let mut singles = if src.len() < HALF_STRIDE {
         MANY_SINGLES
     } else {
         0

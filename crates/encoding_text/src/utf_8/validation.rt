@@ -100,12 +100,12 @@ fn is_broken(bytes: &[u8]) -> bool
     bytes.len() < 2 || !begins_several(bytes[0]) || !is_continuation(bytes[1])
 }
 
-/// The length in bytes of the longest front of `src` that is well-formed UTF-8: the place of the first byte
+/// The length in bytes of the longest prefix of `src` that is well-formed UTF-8: the place of the first byte
 /// that no character takes, or the length of `src`.
 ///
 /// Unicode Standard, section 3.9, UTF-8: the bytes of a character are in one of the nine rows of Table 3-7, Well-Formed
 /// UTF-8 Byte Sequences. The first byte tells how many there are and which may stand second; so no byte of an
-/// overlong form, of an encoded surrogate or above U+10FFFF is in the front.
+/// overlong form, of an encoded surrogate or above U+10FFFF is in the prefix.
 pub fn utf8_valid_up_to(src: &[u8]) -> usize
     ensures { IsLongestFront IsUtf8 src.now result }
 {

@@ -1,6 +1,6 @@
 use Rattle.std.proofs.Common.{subst, ◌∙◌, sym}
 use Rattle.encoding_definitions.specs.Utf16.{ArePartsOf16}
-use Rattle.engine_example.proofs.RoundTripLemmas.{text_repaired, text_units}
+use Rattle.engine_example.proofs.RoundTripLemmas.{text_repaired, utf8_to_utf16}
 use Rattle.engine_example.proofs.law_there_and_back.Goals as goal
 
 pub returns-clause-repaired : goal.returns-clause-repaired
@@ -8,5 +8,5 @@ returns-clause-repaired c = λ bs units out (parts, are, e) written. (parts, are
 
 pub returns-clause-stays : goal.returns-clause-stays
 returns-clause-stays c = λ bs units out u (parts, are, e) written.
-    let is = text_units c.law_parts.ensures.one bs units parts u are e in
+    let is = utf8_to_utf16 c.law_parts.ensures.one bs units parts u are e in
     written.written ∙ c.law_utf16_round_trip.ensures.text bs written.parts u (subst (λ xs. ArePartsOf16 xs written.parts) is written.are_parts)

@@ -7,7 +7,7 @@ use super::held::Held;
 use std::cell::Cell;
 use std::io::{self, Write};
 
-/// Gathers what is written in an array, and writes it out when that is full, at a flush, and with each piece that is
+/// Compresses what is written in an array, and writes it out when that is full, at a flush, and with each piece that is
 /// due: by one write, as far as the writer inside takes it. What is never flushed is lost.
 #[derive(Drop)]
 pub struct WriteBehind<'a, W, const N: usize> {
@@ -17,7 +17,7 @@ pub struct WriteBehind<'a, W, const N: usize> {
 }
 
 impl<'a, W, const N: usize> WriteBehind<'a, W, N> {
-    /// Gathers what is to be written to this writer.
+    /// Compresses what is to be written to this writer.
     pub fn new(inner: W, due: &'a Cell<Due>) -> WriteBehind<'a, W, N>
         requires { 0 < N }
         ensures inner { result.inner ≡ inner }

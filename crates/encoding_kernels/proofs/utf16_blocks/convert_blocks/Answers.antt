@@ -7,12 +7,12 @@ pub loop-read-preserved-then-are_units_below : goal.loop-read-preserved-then-are
 loop-read-preserved-then-are_units_below c =
     let us = c.args.src.now in
     let here = c.loop-read.invariant in
-    let call = c.narrow_ascii-front.ensures.copies in
+    let call = c.pack_ascii-front.ensures.copies in
     let below = call.ascii (λ k l. absurd (omega arith)) in
     record {
       within = omega (arith, call.within.0);
-      plain = plain_ascii us c.loop-read.read c.narrow_ascii-front.result below here.plain;
-      written = written_ascii us c.loop-read.read c.narrow_ascii-front.result below c.args.dst.now c.loop-read.dst c.narrow_ascii-front.new.dst c.loop-read.written here.written
+      plain = plain_ascii us c.loop-read.read c.pack_ascii-front.result below here.plain;
+      written = written_ascii us c.loop-read.read c.pack_ascii-front.result below c.args.dst.now c.loop-read.dst c.pack_ascii-front.new.dst c.loop-read.written here.written
           (call.copied _ (WritesFront-nil (take (length c.loop-read.dst - c.loop-read.written) (drop c.loop-read.written c.loop-read.dst))));
     }
 

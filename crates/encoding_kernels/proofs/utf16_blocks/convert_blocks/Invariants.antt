@@ -1,6 +1,6 @@
 use Rattle.std.proofs.Common.{◌-◌, ◌≤◌, length, take, encode_utf8_all}
 use Rattle.encoding_definitions.specs.Fronts.{WritesFront}
-use Rattle.encoding_kernels.specs.Spelling.{ArePlain}
+use Rattle.encoding_kernels.specs.EncodeLanes.{ArePlain}
 use Rattle.encoding_kernels.proofs.utf16_blocks.convert_blocks.Given as goal
 
 abbrev pub invariant-loop-read : goal.invariant-loop-read

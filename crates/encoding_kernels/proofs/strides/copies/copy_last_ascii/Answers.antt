@@ -9,8 +9,8 @@ returns-clause-copies c =
     let dst = c.args.dst.now in
     let from = c.args.from in
     let at = c.min-at.result in
-    let run = c.run_below-run.result in
-    let r = c.run_below-run.ensures in
+    let run = c.run_of_bytes_below-run.result in
+    let r = c.run_of_bytes_below-run.ensures in
     let place = c.min-at.ensures in
-    let put = c.put_first.ensures ∙ ap (λ ys. take at dst ++ (ys ++ drop (at + run) dst)) (take-take run 16 (drop at src) (omega (arith, r.within))) in
-    copies_run src dst c.put_first.new.dst from at run c.requires.ascii (omega arith) (omega (arith, place)) (omega (arith, place)) (omega (arith, place)) r put
+    let put = c.write_first.ensures ∙ ap (λ ys. take at dst ++ (ys ++ drop (at + run) dst)) (take-take run 16 (drop at src) (omega (arith, r.within))) in
+    copies_run src dst c.write_first.new.dst from at run c.requires.ascii (omega arith) (omega (arith, place)) (omega (arith, place)) (omega (arith, place)) r put

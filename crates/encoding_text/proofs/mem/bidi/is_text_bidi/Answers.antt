@@ -21,4 +21,4 @@ returns c = (
 )
 
 pub loop-at-init : goal.loop-at-init
-loop-at-init c = let run = c.front_below-at.ensures in record { within = run.within; none = none_before c.args.bytes.now c.front_below-at.result run.below }
+loop-at-init c = let run = c.front_of_bytes_below-at.ensures in record { within = run.within; none = none_before c.args.bytes.now c.front_of_bytes_below-at.result run.below }

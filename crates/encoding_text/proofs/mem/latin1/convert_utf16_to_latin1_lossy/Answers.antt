@@ -16,10 +16,10 @@ loop-stride-preserved c =
     let copied = c.loop-stride.invariant.copied in
     let within = many 16 (length c.as_chunks.result.0.now) c.loop-stride.stride-index (length src) c.as_chunks.ensures.front_len c.loop-stride-test.true in
     let is = whole_stride 16 src [] refl c.as_chunks.ensures.front c.as_chunks.ensures.front_len place c.loop-stride-test.true in
-    let put = c.narrow_lower.ensures ∙ ap (λ xs. take at c.loop-stride.dst ++ (map (λ (unit : ℕ). unit % 0x100) xs ++ drop (at + 16) c.loop-stride.dst)) is in
+    let put = c.pack_lower.ensures ∙ ap (λ xs. take at c.loop-stride.dst ++ (map (λ (unit : ℕ). unit % 0x100) xs ++ drop (at + 16) c.loop-stride.dst)) is in
     record {
       place = omega (arith, place);
-      copied = WritesFront_low_block c.args.dst.now c.loop-stride.dst c.narrow_lower.new.dst src at 16 copied (omega (arith, place, within)) (omega (arith, place, within, WritesFront-length _ _ _ _ copied)) put;
+      copied = WritesFront_low_block c.args.dst.now c.loop-stride.dst c.pack_lower.new.dst src at 16 copied (omega (arith, place, within)) (omega (arith, place, within, WritesFront-length _ _ _ _ copied)) put;
     }
 
 pub loop-i-preserved : goal.loop-i-preserved

@@ -54,10 +54,10 @@ loop-read-preserved c =
     let whole = c.whole_length-read.ensures in
     record {
       within = omega (arith, whole);
-      rest = block_rest src cs c.args.dst.now _ c.put_first.new.dst c.loop-read.read c.loop-read.written c.latin1_of-count.result.1 c.whole_length-read.result text.0 had.rest had.written c.latin1_of-count.result.0 call.ended
-          (omega (arith, call.long, call.count)) (omega (arith, call.count)) c.put_first.ensures (omega arith) whole;
-      written = block_written src cs c.args.dst.now _ c.put_first.new.dst c.loop-read.read c.loop-read.written c.latin1_of-count.result.1 c.whole_length-read.result text.0 had.rest had.written c.latin1_of-count.result.0 call.ended
-          (omega (arith, call.long, call.count)) (omega (arith, call.count)) c.put_first.ensures (omega arith) whole;
+      rest = block_rest src cs c.args.dst.now _ c.write_first.new.dst c.loop-read.read c.loop-read.written c.latin1_of-count.result.1 c.whole_length-read.result text.0 had.rest had.written c.latin1_of-count.result.0 call.ended
+          (omega (arith, call.long, call.count)) (omega (arith, call.count)) c.write_first.ensures (omega arith) whole;
+      written = block_written src cs c.args.dst.now _ c.write_first.new.dst c.loop-read.read c.loop-read.written c.latin1_of-count.result.1 c.whole_length-read.result text.0 had.rest had.written c.latin1_of-count.result.0 call.ended
+          (omega (arith, call.long, call.count)) (omega (arith, call.count)) c.write_first.ensures (omega arith) whole;
     }
 
 pub bounds-dst-written : goal.bounds-dst-written

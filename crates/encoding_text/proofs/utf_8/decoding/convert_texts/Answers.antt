@@ -18,7 +18,7 @@ returns-then-read-src c =
     let valid = c.utf8_valid_up_to-valid.result in
     let size : read + valid - read ≡ valid = omega arith in
     let text = text_of_piece (drop read c.args.src.now) c.min-room.result (read + c.min-room.result - read) valid (omega arith) c.utf8_valid_up_to-valid.ensures in
-    converted_text encode_utf16 _ _ _ _ _ _ valid _ c.loop-read.invariant.converted text.1 text.0 (rw size at c.write_text-written.ensures)
+    converted_text encode_utf16 _ _ _ _ _ _ valid _ c.loop-read.invariant.converted text.1 text.0 (rw size at c.convert_valid_utf8_to_utf16-written.ensures)
 
 pub loop-read-preserved : goal.loop-read-preserved
 loop-read-preserved c =
@@ -26,5 +26,5 @@ loop-read-preserved c =
     let valid = c.utf8_valid_up_to-valid.result in
     let size : read + valid - read ≡ valid = omega arith in
     let text = text_of_piece (drop read c.args.src.now) c.min-room.result (read + c.min-room.result - read) valid (omega arith) c.utf8_valid_up_to-valid.ensures in
-    let whole = converted_text encode_utf16 _ _ _ _ _ _ valid _ c.loop-read.invariant.converted text.1 text.0 (rw size at c.write_text-written.ensures) in
+    let whole = converted_text encode_utf16 _ _ _ _ _ _ valid _ c.loop-read.invariant.converted text.1 text.0 (rw size at c.convert_valid_utf8_to_utf16-written.ensures) in
     record { within = whole.within; room = converted_room encode_utf16 whole; converted = whole }

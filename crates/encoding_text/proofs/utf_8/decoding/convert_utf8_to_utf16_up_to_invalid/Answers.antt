@@ -15,13 +15,13 @@ loop-length-preserved c =
     let found = rw take_rest at c.in-Some.ensures.length in
     let size : c.loop-length.read + c.in-Some.length - c.loop-length.read ≡ c.in-Some.length = omega arith in
     let s = c.scalar_of_sequence-scalar.ensures in
-    converted_more encode_utf16 _ _ _ _ _ _ _ c.in-Some.length _ c.loop-length.invariant s.scalar (rw size at s.spelled) found.1 c.in-Some-put_utf16.ensures.written
+    converted_more encode_utf16 _ _ _ _ _ _ _ c.in-Some.length _ c.loop-length.invariant s.scalar (rw size at s.spelled) found.1 c.in-Some-write_utf16.ensures.written
 
-pub returns-in_default-put_utf16 : goal.returns-in_default-put_utf16
-returns-in_default-put_utf16 c =
+pub returns-in_default-write_utf16 : goal.returns-in_default-write_utf16
+returns-in_default-write_utf16 c =
     let size : c.loop-length.read + c.in-Some.length - c.loop-length.read ≡ c.in-Some.length = omega arith in
     let s = c.scalar_of_sequence-scalar.ensures in
-    let unfit = c.in_default-put_utf16.ensures.unfit in
+    let unfit = c.in_default-write_utf16.ensures.unfit in
     converts_longest encode_utf16 _ _ _ _ _
     (converted_unfit encode_utf16 _ _ _ _ _ _ _ c.in-Some.length c.loop-length.invariant s.scalar (rw size at s.spelled) unfit.1 unfit.0)
 

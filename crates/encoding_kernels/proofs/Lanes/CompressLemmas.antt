@@ -1,0 +1,415 @@
+-- The kept lanes of a vector, moved to its front by a table of their places.
+use Rattle.std.proofs.Common.{◌≡◌, ℕ, zero, suc, ◌+◌, ◌-◌, ◌*◌, ◌/◌, ◌%◌, ◌^◌, ◌<◌, ◌≤◌, ◌==◌, Bool, true, false, ◌&&◌, cond, if◌then◌else◌, leb, ltb, eqb, List, [], ◌∷◌, ◌++◌, map, length, take, drop, get_or, replicate, bit_and, refl, sym, ap, ◌∙◌, arith, subst, w8, w16, append_assoc}
+use Rattle.std.specs.List.{range_with_len}
+use Rattle.std.specs.Int.RustNames.{count_ones}
+use Rattle.std.specs.Simd.Lanes.{zip2, sel_l, top, put_chunk, mask_l, Each1, number_l, digits_l}
+use Rattle.std.proofs.Math.Nat.{pow-suc, mul_assoc}
+use Rattle.std.proofs.Math.Seq.{drop-cons, take-append-add}
+use Rattle.std.proofs.lemmas.Bool.{and_parts, eqb-true, leb-true}
+use Rattle.std.proofs.lemmas.Grind.{same_number_lists}
+use Rattle.std.proofs.lemmas.Nat.{and_mask, mod_low, ones_le_self}
+use Rattle.std.proofs.lemmas.List.{length-map, length-append, length-take-le, length-drop, get_or-map, get_or-replicate, take-map, map-append, take-append-drop, take_at, drop_at, drop-drop, drop-append-le}
+use Rattle.std.proofs.lemmas.List.FromFn.{get_or-map-range_with_len, get_or-range_with_len}
+use Rattle.std.proofs.lemmas.Simd.{SwzOk, SwzOk-from_below, swz_l, length-swz_l, get_or-swz_l_below, Each1-from_get_or, Each1-get_or, get_or_wider, get_or_narrower, mask_l-lt, ones-mask_l_cons, put_chunk_is}
+use Rattle.encoding_kernels.specs.declared.compress_units.TheConstants.{COMPRESSED}
+use Rattle.encoding_kernels.specs.Lanes.{HasLanes}
+use Rattle.encoding_kernels.proofs.Lanes.LaneLemmas.{HasLanes-itself, HasLanes-splat, HasLanes-zip2, HasLanes-select, HasLanes-same, compared, top_compared, firsts_are}
+use Rattle.encoding_kernels.specs.Units.{keep, places_from, compressed_places, bytes_at, byte_places, WritesCompressed}
+
+-- ---- the table
+-- the bytes that are made of a word
+abbrev pub word_bytes : ℕ → List ℕ
+word_bytes word = digits_l 256 16 (number_l 65536 (zip2 (λ a b. (a + b) % 2 ^ 16) (zip2 (λ a b. a * b % 2 ^ 16) (map (λ x. x) (digits_l 256 8 (number_l (2 ^ 64) (word ∷ [])))) (replicate 8 0x0202)) (replicate 8 0x0100)))
+
+-- all 256 words
+computed : map word_bytes COMPRESSED ≡ map byte_places (range_with_len 0 256)
+unfolding byte_places bytes_at compressed_places places_from
+computed = refl
+
+pub word_bytes_is : (m : ℕ) → m < 256 → word_bytes (get_or COMPRESSED m 0) ≡ byte_places m
+word_bytes_is m l = sym (get_or-map word_bytes COMPRESSED m 0 [] l) ∙ ap (λ xs. get_or xs m []) computed ∙ get_or-map-range_with_len byte_places 0 256 m m [] l (omega arith)
+
+abbrev up_to : ℕ → List ℕ → Bool
+up_to n [] = true
+up_to n (k ∷ ks) = leb k n && up_to n ks
+
+up_to_each : (n : ℕ) (ks : List ℕ) → up_to n ks ≡ true → Each1 (λ j. j < n + 1) ks
+up_to_each n [] e = tt
+up_to_each n (k ∷ ks) e = let p = and_parts (leb k n) (up_to n ks) e in (omega (arith, leb-true _ _ p.0), up_to_each n ks p.1)
+
+abbrev has_shape : ℕ → Bool
+has_shape m = (eqb (length (compressed_places m)) 8 && up_to 7 (compressed_places m)) && (eqb (length (byte_places m)) 16 && up_to 15 (byte_places m))
+
+all_have_shape : map has_shape (range_with_len 0 256) ≡ replicate 256 true
+unfolding byte_places bytes_at compressed_places places_from
+all_have_shape = refl
+
+shape : (m : ℕ) → m < 256 → has_shape m ≡ true
+shape m l = sym (get_or-map-range_with_len has_shape 0 256 m m false l (omega arith)) ∙ ap (λ xs. get_or xs m false) all_have_shape ∙ get_or-replicate 256 m true false l
+
+module _ (m : ℕ) (l : m < 256) where
+  places_long : length (compressed_places m) ≡ 8
+  places_long = eqb-true _ _ (and_parts _ _ (and_parts _ _ (shape m l)).0).0
+
+  places_small : (j : ℕ) → j < 8 → get_or (compressed_places m) j 0 < 8
+  places_small j k = Each1-get_or (λ i. i < 8) (compressed_places m) j 0 (omega (arith, places_long)) (up_to_each 7 _ (and_parts _ _ (and_parts _ _ (shape m l)).0).1)
+
+  pub bytes_long : length (byte_places m) ≡ 16
+  bytes_long = eqb-true _ _ (and_parts _ _ (and_parts _ _ (shape m l)).1).0
+
+  bytes_small : Each1 (λ j. j < 16) (byte_places m)
+  bytes_small = up_to_each 15 _ (and_parts _ _ (and_parts _ _ (shape m l)).1).1
+
+  pub places_ok : SwzOk w8 16 16 0 (byte_places m)
+  places_ok = SwzOk-from_below w8 16 1 16 0 (byte_places m) refl (omega (arith, bytes_long)) bytes_small
+
+-- ---- two bytes of each lane
+even_at : (ks : List ℕ) (j : ℕ) → j < length ks → get_or (bytes_at ks) (2 * j) 0 ≡ 2 * get_or ks j 0
+unfolding bytes_at
+even_at [] j l = absurd (omega arith)
+even_at (k ∷ ks) zero l = refl
+even_at (k ∷ ks) (suc j) l = ap (λ n. get_or (bytes_at (k ∷ ks)) n 0) {x = 2 * suc j} {y = suc (suc (2 * j))} (omega arith) ∙ even_at ks j (omega arith)
+
+odd_at : (ks : List ℕ) (j : ℕ) → j < length ks → get_or (bytes_at ks) (suc (2 * j)) 0 ≡ 2 * get_or ks j 0 + 1
+unfolding bytes_at
+odd_at [] j l = absurd (omega arith)
+odd_at (k ∷ ks) zero l = refl
+odd_at (k ∷ ks) (suc j) l = ap (λ n. get_or (bytes_at (k ∷ ks)) n 0) {x = suc (2 * suc j)} {y = suc (suc (suc (2 * j)))} (omega arith) ∙ odd_at ks j (omega arith)
+
+digit_small : (n x i : ℕ) → get_or (digits_l 256 n x) i 0 < 256
+digit_small zero x i = omega arith
+digit_small (suc n) x zero = omega arith
+digit_small (suc n) x (suc i) = digit_small n (x / 256) i
+
+take_two : (bs : List ℕ) (at : ℕ) → suc at < length bs → take 2 (drop at bs) ≡ get_or bs at 0 ∷ get_or bs (suc at) 0 ∷ []
+take_two bs at h = ap (take 2) (drop-cons bs at 0 (omega arith)) ∙ ap (λ r. get_or bs at 0 ∷ take 1 r) (drop-cons bs (suc at) 0 h)
+
+module _ (us : List ℕ) (fit : Each1 (λ x. x < 65536) us) (m : ℕ) (l : m < 256) where
+  abbrev ks : List ℕ
+  ks = compressed_places m
+
+  abbrev bytes : List ℕ
+  bytes = digits_l 256 16 (number_l 65536 us)
+
+  abbrev picked : List ℕ
+  picked = swz_l w8 16 bytes 0 (byte_places m)
+
+  picked_long : length picked ≡ 16
+  picked_long = length-swz_l w8 16 bytes 0 (byte_places m) ∙ bytes_long m l
+
+  -- a byte that is picked, by its place
+  picked_at : (i k : ℕ) → i < 16 → get_or (byte_places m) i 0 ≡ k → k < 16 → get_or picked i 0 ≡ get_or bytes k 0
+  picked_at i k h e s =
+      let is : 16 * ((0 + i) / 16) + get_or (byte_places m) i 0 ≡ k = omega (arith, e) in
+      get_or-swz_l_below w8 16 bytes 0 (byte_places m) i (omega (arith, bytes_long m l)) (omega (arith, e, s)) ∙ ap (λ n. get_or bytes n 0) is
+
+  picked_small : Each1 (λ x. x < 256) picked
+  picked_small = Each1-from_get_or (λ x. x < 256) picked 0 (λ i h.
+      let in_16 : i < 16 = omega (arith, picked_long) in
+      let small = Each1-get_or (λ j. j < 16) (byte_places m) i 0 (omega (arith, bytes_long m l)) (bytes_small m l) in
+      subst (λ x. x < 256) (sym (picked_at i _ in_16 refl small)) (digit_small 16 (number_l 65536 us) _))
+
+  compressed_at : (j : ℕ) → j < 8 → get_or (digits_l 65536 8 (number_l 256 picked)) j 0 ≡ get_or us (get_or ks j 0) 0
+  unfolding byte_places
+  compressed_at j h =
+      let k = get_or ks j 0 in
+      let u = get_or us k 0 in
+      let small = places_small m l j h in
+      let in_ks : j < length ks = omega (arith, places_long m l) in
+      let low : get_or picked (2 * j) 0 ≡ u / 256 ^ 0 % 256 =
+      picked_at (2 * j) (2 * k + 0) (omega arith) (even_at ks j in_ks ∙ omega arith) (omega (arith, small)) ∙ get_or_narrower 65536 2 256 16 us k 0 refl fit (omega arith) (omega (arith, small)) in
+      let high : get_or picked (suc (2 * j)) 0 ≡ u / 256 ^ 1 % 256 =
+      picked_at (suc (2 * j)) (2 * k + 1) (omega arith) (odd_at ks j in_ks) (omega (arith, small)) ∙ get_or_narrower 65536 2 256 16 us k 1 refl fit (omega arith) (omega (arith, small)) in
+      let bound : u < 65536 = fits_at k in
+      get_or_wider 256 2 65536 8 picked j refl picked_small h ∙ ap (number_l 256) (take_two picked (2 * j) (omega (arith, picked_long))) ∙ joined _ _ u low high bound
+    where
+      fits_at : (k : ℕ) → get_or us k 0 < 65536
+      fits_at k = each_or us k fit
+        where
+          each_or : (xs : List ℕ) (i : ℕ) → Each1 (λ x. x < 65536) xs → get_or xs i 0 < 65536
+          each_or [] i e = omega arith
+          each_or (x ∷ xs) zero e = e.0
+          each_or (x ∷ xs) (suc i) e = each_or xs i e.1
+
+      joined : (p q u : ℕ) → p ≡ u / 256 ^ 0 % 256 → q ≡ u / 256 ^ 1 % 256 → u < 65536 → number_l 256 (p ∷ q ∷ []) ≡ u
+      joined p q u e f b = let e1 : p ≡ u % 256 = e ∙ omega arith in let f1 : q ≡ u / 256 % 256 = f ∙ omega arith in omega arith
+
+  pub compressed : digits_l 65536 8 (number_l 256 picked) ≡ map (λ k. get_or us k 0) (compressed_places m)
+  compressed = same_number_lists _ _ (sym (length-map (compressed_places m) (λ k. get_or us k 0) ∙ places_long m l)) (λ j h.
+      compressed_at j h ∙ sym (get_or-map (λ k. get_or us k 0) (compressed_places m) j 0 0 (omega (arith, places_long m l))))
+
+-- ---- masks
+pub mask_append : (xs ys : List Bool) → mask_l (xs ++ ys) ≡ mask_l ys * 2 ^ length xs + mask_l xs
+mask_append [] ys = omega arith
+mask_append (x ∷ xs) ys =
+    let more = mask_append xs ys in
+    let power : mask_l ys * 2 ^ suc (length xs) ≡ mask_l ys * 2 ^ length xs * 2 = ap (λ n. mask_l ys * n) (pow-suc 2 (length xs)) ∙ sym (mul_assoc (mask_l ys) (2 ^ length xs) 2) in
+    omega (arith, more, power)
+
+mask_none : (n : ℕ) → mask_l (replicate n false) ≡ 0
+mask_none zero = refl
+mask_none (suc n) = omega (arith, mask_none n)
+
+mask_pad : (xs : List Bool) (n : ℕ) → mask_l (xs ++ replicate n false) ≡ mask_l xs
+mask_pad [] n = mask_none n
+mask_pad (x ∷ xs) n = ap (λ m. cond x 1 0 + 2 * m) (mask_pad xs n)
+
+-- the marks before a place
+pub mask_front : (xs : List Bool) (n e : ℕ) → e ≤ length xs → bit_and (mask_l xs) (2 ^ e - 1) ≡ mask_l (take e xs ++ replicate n false)
+mask_front xs n e h =
+    let long : length (take e xs) ≡ e = length-take-le e xs h in
+    let whole : mask_l xs ≡ mask_l (drop e xs) * 2 ^ e + mask_l (take e xs) = ap mask_l (sym (take-append-drop e xs)) ∙ mask_append (take e xs) (drop e xs) ∙ ap (λ k. mask_l (drop e xs) * 2 ^ k + mask_l (take e xs)) long in
+    let small : mask_l (take e xs) < 2 ^ e = subst (λ k. mask_l (take e xs) < 2 ^ k) long (mask_l-lt (take e xs)) in
+    and_mask (mask_l xs) e ∙ ap (λ m. m % 2 ^ e) whole ∙ mod_low (mask_l (drop e xs)) e (mask_l (take e xs)) small ∙ sym (mask_pad (take e xs) n)
+
+-- sixteen marks in two halves
+module _ (ms : List Bool) (long : length ms ≡ 16) where
+  halves : mask_l ms ≡ mask_l (drop 8 ms) * 256 + mask_l (take 8 ms)
+  halves = ap mask_l (sym (take-append-drop 8 ms)) ∙ mask_append (take 8 ms) (drop 8 ms) ∙ ap (λ k. mask_l (drop 8 ms) * 2 ^ k + mask_l (take 8 ms)) (length-take-le 8 ms (omega (arith, long)))
+
+  low_small : mask_l (take 8 ms) < 256
+  low_small = subst (λ k. mask_l (take 8 ms) < 2 ^ k) (length-take-le 8 ms (omega (arith, long))) (mask_l-lt (take 8 ms))
+
+  low_half : mask_l ms % 256 ≡ mask_l (take 8 ms)
+  low_half = omega (arith, halves, low_small)
+
+  high_half : mask_l ms / 256 ≡ mask_l (drop 8 ms)
+  high_half = omega (arith, halves, low_small)
+
+-- ---- kept elements
+kept_places : (f : ℕ → ℕ) (ms : List Bool) (us : List ℕ) (at : ℕ) → length ms ≡ length us → ((i : ℕ) → f (at + i) ≡ get_or us i 0) → map f (places_from (length ms) at (mask_l ms)) ≡ keep ms us
+unfolding places_from keep
+kept_places f [] us at e h = refl
+kept_places f (m ∷ ms) [] at e h = absurd (omega arith)
+kept_places f (true ∷ ms) (u ∷ us) at e h =
+    let bit : (1 + 2 * mask_l ms) % 2 ≡ 1 = omega arith in
+    let half : (1 + 2 * mask_l ms) / 2 ≡ mask_l ms = omega arith in
+    let first : f at ≡ u = ap f {x = at} {y = at + 0} (omega arith) ∙ h 0 in
+    let rest = kept_places f ms us (at + 1) (omega arith) (λ i. ap f {x = at + 1 + i} {y = at + suc i} (omega arith) ∙ h (suc i)) in
+    (λ i. map f ((if bit i == 1 then at ∷ [] else []) ++ places_from (length ms) (at + 1) (half i))) ∙ (λ i. first i ∷ rest i)
+kept_places f (false ∷ ms) (u ∷ us) at e h =
+    let bit : (0 + 2 * mask_l ms) % 2 ≡ 0 = omega arith in
+    let half : (0 + 2 * mask_l ms) / 2 ≡ mask_l ms = omega arith in
+    let rest = kept_places f ms us (at + 1) (omega arith) (λ i. ap f {x = at + 1 + i} {y = at + suc i} (omega arith) ∙ h (suc i)) in
+    (λ i. map f ((if bit i == 1 then at ∷ [] else []) ++ places_from (length ms) (at + 1) (half i))) ∙ rest
+
+length-keep : (ms : List Bool) (us : List ℕ) → length ms ≡ length us → length (keep ms us) ≡ count_ones (mask_l ms)
+unfolding keep
+length-keep [] us e = omega (arith, ones_le_self 0)
+length-keep (m ∷ ms) [] e = absurd (omega arith)
+length-keep (true ∷ ms) (u ∷ us) e = omega (arith, length-keep ms us (omega arith), ones-mask_l_cons true ms)
+length-keep (false ∷ ms) (u ∷ us) e = omega (arith, length-keep ms us (omega arith), ones-mask_l_cons false ms)
+
+length-keep-le : (ms : List Bool) (us : List ℕ) → length (keep ms us) ≤ length ms
+unfolding keep
+length-keep-le [] us = omega arith
+length-keep-le (m ∷ ms) [] = omega arith
+length-keep-le (true ∷ ms) (u ∷ us) = let l = length-keep-le ms us in omega arith
+length-keep-le (false ∷ ms) (u ∷ us) = let l = length-keep-le ms us in omega arith
+
+keep_split : (n : ℕ) (ms : List Bool) (us : List ℕ) → length ms ≡ length us → keep ms us ≡ keep (take n ms) (take n us) ++ keep (drop n ms) (drop n us)
+unfolding keep
+keep_split zero ms us e = refl
+keep_split (suc n) [] us e = refl
+keep_split (suc n) (m ∷ ms) [] e = absurd (omega arith)
+keep_split (suc n) (m ∷ ms) (u ∷ us) e =
+    ap (λ xs. (if m then u ∷ [] else []) ++ xs) (keep_split n ms us (omega arith)) ∙ sym (append_assoc (if m then u ∷ [] else []) (keep (take n ms) (take n us)) (keep (drop n ms) (drop n us)))
+
+keep_none : (n : ℕ) (us : List ℕ) → keep (replicate n false) us ≡ []
+unfolding keep
+keep_none zero us = refl
+keep_none (suc n) [] = refl
+keep_none (suc n) (u ∷ us) = keep_none n us
+
+pub keep_pad : (ms : List Bool) (us : List ℕ) (n : ℕ) → keep (ms ++ replicate n false) us ≡ keep ms us
+unfolding keep
+keep_pad [] us n = keep_none n us
+keep_pad (m ∷ ms) [] n = refl
+keep_pad (m ∷ ms) (u ∷ us) n = ap (λ xs. (if m then u ∷ [] else []) ++ xs) (keep_pad ms us n)
+
+-- what is gathered begins with the kept elements
+compressed_keep : (ms : List Bool) (us : List ℕ) → length ms ≡ 8 → length us ≡ 8 → (tail : List ℕ) × (map (λ k. get_or us k 0) (compressed_places (mask_l ms)) ≡ keep ms us ++ tail)
+unfolding compressed_places
+compressed_keep ms us p q =
+    let f = λ (k : ℕ). get_or us k 0 in
+    let zeros = map f (replicate 8 0) in
+    let kept = keep ms us in
+    let few : length kept ≤ 8 = omega (arith, length-keep-le ms us, p) in
+    let places : map f (places_from 8 0 (mask_l ms)) ≡ kept = ap (λ n. map f (places_from n 0 (mask_l ms))) (sym p) ∙ kept_places f ms us 0 (p ∙ sym q) (λ i. ap f {x = 0 + i} {y = i} (omega arith)) in
+    let room : 8 ≡ length kept + (8 - length kept) = omega arith in (
+      take (8 - length kept) zeros,
+      sym (take-map f 8 (places_from 8 0 (mask_l ms) ++ replicate 8 0)) ∙ ap (take 8) (map-append f (places_from 8 0 (mask_l ms)) (replicate 8 0) ∙ ap (λ xs. xs ++ zeros) places)
+          ∙ ap (λ n. take n (kept ++ zeros)) room ∙ take-append-add kept zeros (8 - length kept),
+    )
+
+drop_past : (xs ys : List ℕ) (j : ℕ) → drop (length xs + j) (xs ++ ys) ≡ drop j ys
+drop_past xs ys j = sym (drop-drop j (length xs) (xs ++ ys)) ∙ ap (drop j) (drop_at xs ys (length xs) refl)
+
+-- ---- both halves, one behind what is kept of the other
+module _ (ms : List Bool) (us old low_us high_us first second : List ℕ) (kept : ℕ) (low_us_is : low_us ≡ take 8 us) (high_us_is : high_us ≡ drop 8 us) (marks_long : length ms ≡ 16) (long : length us ≡ 16) (room : 16 ≤ length old) (is : kept ≡ mask_l ms)
+    (first_is : first ≡ map (λ k. get_or low_us k 0) (compressed_places (bit_and kept 255)))
+    (second_is : second ≡ map (λ k. get_or high_us k 0) (compressed_places (kept / 256))) where
+  abbrev low_marks : List Bool
+  low_marks = take 8 ms
+
+  abbrev high_marks : List Bool
+  high_marks = drop 8 ms
+
+  abbrev low_kept : List ℕ
+  low_kept = keep low_marks (take 8 us)
+
+  abbrev high_kept : List ℕ
+  high_kept = keep high_marks (drop 8 us)
+
+  low_long : length low_marks ≡ 8
+  low_long = length-take-le 8 ms (omega (arith, marks_long))
+
+  high_long : length high_marks ≡ 8
+  high_long = omega (arith, marks_long, length-drop 8 ms)
+
+  low_us_long : length (take 8 us) ≡ 8
+  low_us_long = length-take-le 8 us (omega (arith, long))
+
+  high_us_long : length (drop 8 us) ≡ 8
+  high_us_long = omega (arith, long, length-drop 8 us)
+
+  low_mask : bit_and kept 255 ≡ mask_l low_marks
+  low_mask = and_mask kept 8 ∙ ap (λ k. k % 256) is ∙ low_half ms marks_long
+
+  high_mask : kept / 256 ≡ mask_l high_marks
+  high_mask = ap (λ k. k / 256) is ∙ high_half ms marks_long
+
+  low_compressed : (tail : List ℕ) × (first ≡ low_kept ++ tail)
+  low_compressed = let g = compressed_keep low_marks (take 8 us) low_long low_us_long in
+      (g.0, first_is ∙ (λ i. map (λ k. get_or (low_us_is i) k 0) (compressed_places (low_mask i))) ∙ g.1)
+
+  high_compressed : (tail : List ℕ) × (second ≡ high_kept ++ tail)
+  high_compressed = let g = compressed_keep high_marks (drop 8 us) high_long high_us_long in
+      (g.0, second_is ∙ (λ i. map (λ k. get_or (high_us_is i) k 0) (compressed_places (high_mask i))) ∙ g.1)
+
+  low_count : count_ones (bit_and kept 255) ≡ length low_kept
+  low_count = ap count_ones low_mask ∙ sym (length-keep low_marks (take 8 us) (low_long ∙ sym low_us_long))
+
+  high_count : count_ones (kept / 256) ≡ length high_kept
+  high_count = ap count_ones high_mask ∙ sym (length-keep high_marks (drop 8 us) (high_long ∙ sym high_us_long))
+
+  low_few : length low_kept ≤ 8
+  low_few = omega (arith, length-keep-le low_marks (take 8 us), low_long)
+
+  first_long : length first ≡ 8
+  first_long = ap length first_is ∙ length-map (compressed_places (bit_and kept 255)) (λ k. get_or low_us k 0)
+      ∙ ap (λ m. length (compressed_places m)) low_mask ∙ places_long (mask_l low_marks) (low_small ms marks_long)
+
+  high_mask_small : mask_l high_marks < 256
+  high_mask_small = subst (λ k. mask_l high_marks < 2 ^ k) high_long (mask_l-lt high_marks)
+
+  second_long : length second ≡ 8
+  second_long = ap length second_is ∙ length-map (compressed_places (kept / 256)) (λ k. get_or high_us k 0)
+      ∙ ap (λ m. length (compressed_places m)) high_mask ∙ places_long (mask_l high_marks) high_mask_small
+
+  abbrev half_put : List ℕ
+  half_put = put_chunk 0 old first
+
+  half_is : half_put ≡ first ++ drop 8 old
+  half_is = put_chunk_is 0 old first (omega (arith, first_long, room)) ∙ ap (λ n. first ++ drop n old) first_long
+
+  half_long : length half_put ≡ length old
+  half_long = ap length half_is ∙ omega (arith, length-append first (drop 8 old), first_long, length-drop 8 old, room)
+
+  abbrev count : ℕ
+  count = length low_kept
+
+  abbrev both_put : List ℕ
+  both_put = put_chunk count half_put second
+
+  front : take count half_put ≡ low_kept
+  front = ap (take count) (half_is ∙ ap (λ xs. xs ++ drop 8 old) low_compressed.1 ∙ append_assoc low_kept low_compressed.0 (drop 8 old)) ∙ take_at low_kept (low_compressed.0 ++ drop 8 old) count refl
+
+  both_is : both_put ≡ low_kept ++ (second ++ drop 8 (drop count half_put))
+  both_is = put_chunk_is count half_put second (omega (arith, half_long, second_long, low_few, room)) ∙ (λ i. front i ++ (second ++ drop (second_long i) (drop count half_put)))
+
+  whole : low_kept ++ high_kept ≡ keep ms us
+  whole = sym (keep_split 8 ms us (marks_long ∙ sym long))
+
+  kept_front : take (count + length high_kept) both_put ≡ keep ms us
+  kept_front =
+      let rest = drop 8 (drop count half_put) in
+      let split : both_put ≡ (low_kept ++ high_kept) ++ (high_compressed.0 ++ rest) =
+      both_is ∙ ap (λ xs. low_kept ++ (xs ++ rest)) high_compressed.1 ∙ ap (λ xs. low_kept ++ xs) (append_assoc high_kept high_compressed.0 rest) ∙ sym (append_assoc low_kept high_kept (high_compressed.0 ++ rest)) in
+      ap (take (count + length high_kept)) split ∙ take_at (low_kept ++ high_kept) (high_compressed.0 ++ rest) (count + length high_kept) (length-append low_kept high_kept) ∙ whole
+
+  kept_behind : drop (count + 8) both_put ≡ drop (count + 8) old
+  kept_behind =
+      let rest = drop 8 (drop count half_put) in
+      let split : both_put ≡ (low_kept ++ second) ++ rest = both_is ∙ sym (append_assoc low_kept second rest) in
+      let size : length (low_kept ++ second) ≡ count + 8 = length-append low_kept second ∙ ap (λ n. count + n) second_long in
+      let places : length first + count ≡ count + 8 = omega (arith, first_long) in
+      ap (drop (count + 8)) split ∙ drop_at (low_kept ++ second) rest (count + 8) size ∙ drop-drop 8 count half_put
+      ∙ ap (drop (count + 8)) half_is ∙ ap (λ n. drop n (first ++ drop 8 old)) (sym places) ∙ drop_past first (drop 8 old) count ∙ drop-drop count 8 old ∙ ap (λ n. drop n old) {x = 8 + count} {y = count + 8} (omega arith)
+
+  pub writes_compressed : WritesCompressed ms us old (put_chunk (count_ones (bit_and kept 255)) (put_chunk 0 old first) second) (count_ones (bit_and kept 255) + count_ones (kept / 256)) (count_ones (bit_and kept 255) + count_ones (kept / 256) + 8 - count_ones (kept / 256))
+  writes_compressed =
+      let same : put_chunk (count_ones (bit_and kept 255)) half_put second ≡ both_put = ap (λ n. put_chunk n half_put second) low_count in
+      let size : count_ones (bit_and kept 255) + count_ones (kept / 256) ≡ count + length high_kept = (λ i. low_count i + high_count i) in
+      record {
+        counted = size ∙ sym (length-append low_kept high_kept) ∙ ap length whole;
+        placed = (λ i. take (size i) (same i)) ∙ kept_front;
+        behind = subst (λ n. drop n (put_chunk (count_ones (bit_and kept 255)) half_put second) ≡ drop n old) {x = count + 8} (omega (arith, low_count)) (ap (drop (count + 8)) same ∙ kept_behind);
+      }
+
+  -- the same, where the second store keeps what stood behind its own
+  abbrev alone : List ℕ
+  alone = sel_l (map (top 15) (zip2 (compared w16 ltb) (range_with_len 0 8) (replicate 8 (count_ones (kept / 256))))) second (take 8 (drop (count_ones (bit_and kept 255)) old))
+
+  abbrev more : ℕ
+  more = length high_kept
+
+  more_few : more ≤ 8
+  more_few = omega (arith, length-keep-le high_marks (drop 8 us), high_long)
+
+  abbrev behind : List ℕ
+  behind = take 8 (drop count old)
+
+  behind_long : length behind ≡ 8
+  behind_long = length-take-le 8 (drop count old) (omega (arith, length-drop count old, room, low_few))
+
+  alone_is : alone ≡ high_kept ++ drop more behind
+  alone_is =
+      let places : HasLanes 8 (range_with_len 0 8) (λ k. k) = HasLanes-same (HasLanes-itself 8 (range_with_len 0 8) refl) (λ k l. let e : 0 + k ≡ k = omega arith in get_or-range_with_len 0 8 k 0 l ∙ e) in
+      let tests = HasLanes-zip2 (compared w16 ltb) places (HasLanes-splat 8 more) in
+      let chosen = HasLanes-same (HasLanes-select 15 tests (HasLanes-itself 8 second second_long) (HasLanes-itself 8 behind behind_long))
+      (λ k l. ap (λ b. cond b (get_or second k 0) (get_or behind k 0)) (top_compared w16 (ltb k more))) in
+      (λ i. sel_l (map (top 15) (zip2 (compared w16 ltb) (range_with_len 0 8) (replicate 8 (high_count i)))) second (take 8 (drop (low_count i) old)))
+      ∙ firsts_are 8 more second behind _ second_long behind_long more_few chosen
+      ∙ ap (λ xs. xs ++ drop more behind) (ap (take more) high_compressed.1 ∙ take_at high_kept high_compressed.0 more refl)
+
+  alone_long : length alone ≡ 8
+  alone_long = ap length alone_is ∙ omega (arith, length-append high_kept (drop more behind), length-drop more behind, behind_long, more_few)
+
+  rest_as_before : drop 8 (drop count half_put) ≡ drop 8 (drop count old)
+  rest_as_before =
+      let places : length first + count ≡ count + 8 = omega (arith, first_long) in
+      drop-drop 8 count half_put ∙ ap (drop (count + 8)) half_is ∙ ap (λ n. drop n (first ++ drop 8 old)) (sym places) ∙ drop_past first (drop 8 old) count
+      ∙ drop-drop count 8 old ∙ ap (λ n. drop n old) {x = 8 + count} {y = count + 8} (omega arith) ∙ sym (drop-drop 8 count old)
+
+  behind_kept : drop more behind ++ drop 8 (drop count old) ≡ drop (count + more) old
+  behind_kept = sym (drop-append-le more behind (drop 8 (drop count old)) (omega (arith, behind_long, more_few))) ∙ ap (drop more) (take-append-drop 8 (drop count old)) ∙ drop-drop more count old
+
+  alone_put : put_chunk count half_put alone ≡ (low_kept ++ high_kept) ++ drop (count + more) old
+  alone_put =
+      put_chunk_is count half_put alone (omega (arith, half_long, alone_long, low_few, room)) ∙ (λ i. front i ++ (alone_is i ++ drop (alone_long i) (drop count half_put)))
+      ∙ ap (λ xs. low_kept ++ ((high_kept ++ drop more behind) ++ xs)) rest_as_before
+      ∙ ap (λ xs. low_kept ++ xs) (append_assoc high_kept (drop more behind) (drop 8 (drop count old)) ∙ ap (λ xs. high_kept ++ xs) behind_kept)
+      ∙ sym (append_assoc low_kept high_kept (drop (count + more) old))
+
+  pub writes_compressed_exact : WritesCompressed ms us old (put_chunk (count_ones (bit_and kept 255)) (put_chunk 0 old first) alone) (count_ones (bit_and kept 255) + count_ones (kept / 256)) (count_ones (bit_and kept 255) + count_ones (kept / 256))
+  writes_compressed_exact =
+      let after = put_chunk (count_ones (bit_and kept 255)) half_put alone in
+      let is : after ≡ (low_kept ++ high_kept) ++ drop (count + more) old = ap (λ n. put_chunk n half_put alone) low_count ∙ alone_put in
+      let size : count_ones (bit_and kept 255) + count_ones (kept / 256) ≡ count + more = (λ i. low_count i + high_count i) in
+      let both = low_kept ++ high_kept in
+      record {
+        counted = size ∙ sym (length-append low_kept high_kept) ∙ ap length whole;
+        placed = (λ i. take (size i) (is i)) ∙ take_at both (drop (count + more) old) (count + more) (length-append low_kept high_kept) ∙ whole;
+        behind = (λ i. drop (size i) (is i)) ∙ drop_at both (drop (count + more) old) (count + more) (length-append low_kept high_kept) ∙ ap (λ n. drop n old) (sym size);
+      }

@@ -1,5 +1,0 @@
-use Rattle.encoding_kernels.proofs.Lanes.UnitLanesLemmas.{three_lanes}
-use Rattle.encoding_kernels.proofs.unit_lanes.three_before.Goals as goal
-
-pub returns : goal.returns
-returns c = three_lanes c.args.block

@@ -1,5 +1,0 @@
-use Rattle.encoding_kernels.proofs.Lanes.UnitLanesLemmas.{two_lanes}
-use Rattle.encoding_kernels.proofs.unit_lanes.two_before.Goals as goal
-
-pub returns : goal.returns
-returns c = two_lanes c.args.block

@@ -1,0 +1,21 @@
+use Rattle.std.proofs.Common.{◌++◌, arith, drop, length-take-le, sym, subst}
+use Rattle.encoding_kernels.specs.Units.{WritesUtf16}
+use Rattle.encoding_kernels.proofs.LongestFronts.TextTailLemmas.{puts_few, puts_long, puts_alone}
+use Rattle.encoding_kernels.proofs.utf8_to_utf16.write_block_in_any_room.Goals as goal
+
+pub slice_bounds-copy_from_slice-end : goal.slice_bounds-copy_from_slice-end
+slice_bounds-copy_from_slice-end c = omega (arith, puts_few c.write_block-count.ensures, c.requires.room.1)
+
+pub slice_bounds-copy_from_slice-end-2 : goal.slice_bounds-copy_from_slice-end-2
+slice_bounds-copy_from_slice-end-2 c =
+    sym (length-take-le c.write_block-count.result c.args.dst.now (omega (arith, puts_few c.write_block-count.ensures, c.requires.room.1)))
+
+pub copy_from_slice-requires : goal.copy_from_slice-requires
+copy_from_slice-requires c =
+    omega (arith, length-take-le c.write_block-count.result c.args.dst.now (omega (arith, puts_few c.write_block-count.ensures, c.requires.room.1)), puts_long c.write_block-count.ensures)
+
+pub returns : goal.returns
+returns c =
+    let count = c.write_block-count.result in
+    subst (λ us. WritesUtf16 c.args.src.now c.args.dst.now (us ++ drop count c.args.dst.now) c.args.end count count) (sym c.copy_from_slice.ensures.after)
+    (puts_alone c.write_block-count.ensures c.args.dst.now)

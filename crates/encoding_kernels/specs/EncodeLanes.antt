@@ -1,0 +1,50 @@
+-- Steps of a conversion to UTF-8 by vectors: code units in two bytes each, and which of these are kept.
+use Rattle.std.specs.Prelude.{◌≡◌, ℕ, ◌+◌, ◌*◌, ◌%◌, ◌<◌, ◌⊎◌, ◌&&◌, nat_lt, ◌≤◌, Bool, nat_le, List, [], ◌∷◌, ◌++◌, if◌then◌else◌, encode_utf8, slice_index}
+
+-- of two bytes for each test, from a place on, the first, and the second where the test holds
+abbrev pub kept_places : ℕ → List Bool → List ℕ
+kept_places at [] = []
+kept_places at (b ∷ bs) = (if b then at ∷ (at + 1) ∷ [] else at ∷ []) ++ kept_places (at + 2) bs
+
+-- the UTF-8 of the code unit is both bytes, or the first where it is ASCII
+abbrev pub EncodesTo : ℕ → ℕ → ℕ → Type 0
+EncodesTo unit x y = (if nat_le 0x80 unit then x ∷ y ∷ [] else x ∷ []) ≡ encode_utf8 unit
+
+-- none of the code units is a surrogate
+abbrev pub ArePlain : List ℕ → Type 0
+ArePlain us = (k : ℕ) → (0xD800 ≤ slice_index us k) × (slice_index us k ≤ 0xDFFF) → ⊥
+
+-- the Latin1 byte that the byte x ends as UTF-8 behind p, if it ends one
+abbrev pub ended : ℕ → ℕ → List ℕ
+ended p x = if nat_lt x 0x80 then x ∷ [] else (if nat_lt x 0xC0 then ((p * 64 + x % 64) % 256) ∷ [] else [])
+
+-- the Latin1 bytes that bytes behind p end
+abbrev pub all_ended : ℕ → List ℕ → List ℕ
+all_ended p [] = []
+all_ended p (x ∷ xs) = ended p x ++ all_ended x xs
+
+-- of each pair of bytes, whether both end a byte
+abbrev pub both_end : List ℕ → List Bool
+both_end [] = []
+both_end (a ∷ []) = []
+both_end (a ∷ b ∷ xs) = (nat_lt a 0xC0 && nat_lt b 0xC0) ∷ both_end xs
+
+-- a and b behind p end the bytes x and y, or x alone
+abbrev pub EndsPair : ℕ → ℕ → ℕ → ℕ → ℕ → Type 0
+EndsPair p a b x y = (a < 0xC0) ⊎ (b < 0xC0) → (if nat_lt a 0xC0 && nat_lt b 0xC0 then x ∷ y ∷ [] else x ∷ []) ≡ ended p a ++ ended a b
+
+-- of four bytes for each two tests, from a place on, the last one where the first test holds, else the last two where the
+-- second does, else the last three
+abbrev pub last_places : ℕ → List Bool → List ℕ
+last_places at [] = []
+last_places at (b ∷ []) = []
+last_places at (ascii ∷ short ∷ bs) = (if ascii then (at + 3) ∷ [] else (if short then (at + 2) ∷ (at + 3) ∷ [] else (at + 1) ∷ (at + 2) ∷ (at + 3) ∷ [])) ++ last_places (at + 4) bs
+
+-- of each code unit, whether it is ASCII, and whether it is below U+0800
+abbrev pub classes : List ℕ → List Bool
+classes [] = []
+classes (u ∷ us) = nat_lt u 0x80 ∷ nat_lt u 0x800 ∷ classes us
+
+-- the UTF-8 of the code unit is the last one, two or three of these bytes
+abbrev pub EncodesLast : ℕ → ℕ → ℕ → ℕ → Type 0
+EncodesLast unit x y z = (if nat_lt unit 0x80 then z ∷ [] else (if nat_lt unit 0x800 then y ∷ z ∷ [] else x ∷ y ∷ z ∷ [])) ≡ encode_utf8 unit

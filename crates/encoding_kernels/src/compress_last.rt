@@ -1,0 +1,59 @@
+//! Which bytes are kept of four lanes of four bytes, the last ones of each, looked up by a mask.
+
+ghost use Rattle.std.specs.Prelude.{◌≡◌, ℕ, ◌+◌, ◌*◌, ◌<◌, Bool, List, length, take, slice_index};
+ghost use Rattle.std.specs.Simd.Lanes.{mask_l};
+ghost use Rattle.encoding_kernels.specs.EncodeLanes.{last_places};
+
+use std::simd::prelude::*;
+
+/// A table that is made lane by lane, from the last on: before the places that are kept behind a lane stand those of its
+/// last three bytes, its last one, its last two, or its last one, as its two bits tell. Each row has four words.
+macro_rules! rows {
+    ([] $($row:expr),*) => {
+        [$(
+            ($row & 0xFFFF_FFFF) as u32,
+            ($row >> 32 & 0xFFFF_FFFF) as u32,
+            ($row >> 64) as u32,
+            0
+        ),*]
+    };
+    ([$last:literal $($before:literal)*] $($row:expr),*) => {
+        rows!([$($before)*] $(
+            $row << 24 | $last << 16 | $last - 1 << 8 | $last - 2,
+            $row << 8 | $last,
+            $row << 16 | $last << 8 | $last - 1,
+            $row << 8 | $last
+        ),*)
+    };
+}
+
+/// For each mask of four lanes the places of the bytes that are kept: of a lane the last one where the first of its bits is
+/// set, else the last two where the second is, else the last three. Behind them are zeros.
+const LAST: [u32; 1024] = rows!([15u128 11u128 7u128 3u128] 0u128);
+
+/// A word of the table.
+#[inline(always)]
+fn last_word(at: usize) -> u32
+    requires { at < 1024 }
+    ensures { result ≡ slice_index LAST at }
+{
+    LAST[at]
+}
+
+/// The places that a mask keeps, with zeros behind them.
+#[inline(always)]
+pub(crate) fn last_by(mask: usize) -> u8x16
+    requires { mask < 256 }
+    ensures long { length result ≡ 16 }
+    ensures within { (k : ℕ) → k < 16 → slice_index result k < 16 }
+    ensures kept { (tests : List Bool) → length tests ≡ 8 → mask ≡ mask_l tests
+        → take (length (last_places 0 tests)) result ≡ last_places 0 tests }
+{
+    u32x4::from_array([
+        last_word(4 * mask),
+        last_word(4 * mask + 1),
+        last_word(4 * mask + 2),
+        last_word(4 * mask + 3),
+    ])
+    .to_le_bytes()
+}

@@ -1,0 +1,40 @@
+//! The kept lanes of a vector, moved to its front: their places are looked up by the mask of those that are kept.
+
+ghost use Rattle.std.specs.Prelude.{◌≡◌, ◌<◌, map, slice_index};
+ghost use Rattle.encoding_kernels.specs.Units.{compressed_places, byte_places};
+
+use std::simd::Simd;
+use std::simd::prelude::*;
+
+/// A table that is made lane by lane, from the last on: of the places that are kept behind a lane a row as they are, and a
+/// row with the lane before them.
+macro_rules! rows {
+    ([] $($row:expr),*) => { [$($row),*] };
+    ([$last:literal $($before:literal)*] $($row:expr),*) => {
+        rows!([$($before)*] $($row, $row << 8 | $last),*)
+    };
+}
+
+/// For each mask of eight lanes the places of those that are kept: the first in the lowest byte, and zeros behind them.
+const COMPRESSED: [u64; 256] = rows!([7 6 5 4 3 2 1 0] 0);
+
+/// The places of the two bytes of each kept lane, in order.
+#[inline(always)]
+fn compress_places(mask: usize) -> u8x16
+    requires { mask < 256 }
+    ensures { result ≡ byte_places mask }
+{
+    let places = Simd::<u64, 1>::from_array([COMPRESSED[mask]])
+        .to_le_bytes()
+        .cast::<u16>();
+    (places * u16x8::splat(0x0202) + u16x8::splat(0x0100)).to_le_bytes()
+}
+
+/// The kept lanes, in order, and behind them the first lane.
+#[inline(always)]
+pub(crate) fn compress(lanes: u16x8, mask: usize) -> u16x8
+    requires { mask < 256 }
+    ensures { result ≡ map (λ k. slice_index lanes k) (compressed_places mask) }
+{
+    u16x8::from_le_bytes(lanes.to_le_bytes().swizzle_dyn(compress_places(mask)))
+}

@@ -1,0 +1,126 @@
+//! The UTF-8 of vectors of code units: which of their bytes it keeps is looked up by a mask.
+
+ghost use Rattle.std.specs.Prelude.{◌≡◌, ℕ, ◌+◌, ◌*◌, ◌<◌, ◌≤◌, ◌++◌, nat_le, length, map, take, drop, slice_index, encode_utf8_all, IsTrue};
+ghost use Rattle.std.specs.Simd.Lanes.{mask_l};
+ghost use Rattle.encoding_kernels.specs.EncodeLanes.{EncodesTo};
+
+use crate::compress_pairs::places_by;
+use crate::strides::LANES;
+use std::simd::prelude::*;
+
+/// Eight code units in two bytes each: the UTF-8 of each, and no matter what behind that of one byte.
+#[inline(always)]
+fn both_bytes(units: u16x8) -> u8x16
+    requires { (k : ℕ) → slice_index units k < 0x800 }
+    ensures long { length result ≡ 16 }
+    ensures bytes { (k : ℕ) → k < 8 → EncodesTo (slice_index units k) (slice_index result (2 * k)) (slice_index result (2 * k + 1)) }
+{
+    let last = (units & u16x8::splat(0x3F)) << u16x8::splat(8);
+    let both = (units >> u16x8::splat(6)) + last + u16x8::splat(0x80C0);
+    let takes_two = units.simd_ge(u16x8::splat(0x80));
+    takes_two.select(both, units).to_le_bytes()
+}
+
+/// The mask of the code units that aren't ASCII.
+#[inline(always)]
+pub(crate) fn mask_of_others(units: u16x8) -> usize
+    ensures small { result < 256 }
+    ensures mask { result ≡ mask_l (map (nat_le 0x80) units) }
+{
+    units.simd_ge(u16x8::splat(0x80)).to_bitmask() as usize
+}
+
+/// The UTF-8 of eight code units below U+0800, in the first bytes of the vector, and how many these are.
+#[inline(always)]
+fn encode_short(units: u16x8) -> (u8x16, usize)
+    requires { (k : ℕ) → slice_index units k < 0x800 }
+    ensures long { length result.0 ≡ 16 }
+    ensures count { (8 ≤ result.1) × (result.1 ≤ 16) }
+    ensures spelled { take result.1 result.0 ≡ encode_utf8_all units }
+{
+    let mask = mask_of_others(units);
+    let bytes = both_bytes(units).swizzle_dyn(places_by(mask));
+    (bytes, 8 + mask.count_ones() as usize)
+}
+
+/// Writes first bytes of two vectors, so many of each, one behind the other. Behind them `dst` is as before, though 32
+/// bytes are stored.
+#[inline(always)]
+pub(crate) fn write_both(
+    dst: &mut [u8],
+    at: usize,
+    first: u8x16,
+    count: usize,
+    second: u8x16,
+    more: usize,
+)
+    requires room { at + 32 ≤ length dst.old }
+    requires first { (count ≤ 16) × (length first ≡ 16) }
+    requires second { (more ≤ 16) × (length second ≡ 16) }
+    ensures { dst.new ≡ take at dst.old ++ ((take count first ++ take more second) ++ drop (at + (count + more)) dst.old) }
+{
+    let next = at + count;
+    let behind = u8x16::from_slice(&dst[next..]);
+    first.copy_to_slice(&mut dst[at..]);
+    let is_kept = u8x16::from_array(LANES).simd_lt(u8x16::splat(more as u8));
+    is_kept
+        .select(second, behind)
+        .copy_to_slice(&mut dst[next..]);
+}
+
+/// Writes the UTF-8 of twice eight code units below U+0800, and returns how many bytes that is. Behind them `dst` is as
+/// before.
+#[inline(always)]
+pub fn write_short(first: u16x8, second: u16x8, dst: &mut [u8], at: usize) -> usize
+    requires room { at + 32 ≤ length dst.old }
+    requires short { (k : ℕ) → (slice_index first k < 0x800) × (slice_index second k < 0x800) }
+    ensures most { result ≤ 32 }
+    ensures count { result ≡ length (encode_utf8_all first ++ encode_utf8_all second) }
+    ensures written { dst.new ≡ take at dst.old
+        ++ ((encode_utf8_all first ++ encode_utf8_all second) ++ drop (at + result) dst.old) }
+{
+    let (bytes, count) = encode_short(first);
+    let (other, more) = encode_short(second);
+    write_both(dst, at, bytes, count, other, more);
+    count + more
+}
+
+/// Whether each of the eight code units is from U+0800 on, and no surrogate.
+#[inline(always)]
+pub(crate) fn are_long(units: u16x8) -> bool
+    ensures { IsTrue result → (k : ℕ) → k < 8 → (0x800 ≤ slice_index units k)
+        × ((0xD800 ≤ slice_index units k) × (slice_index units k ≤ 0xDFFF) → ⊥) }
+{
+    let tops = units & u16x8::splat(0xF800);
+    let others = tops.simd_eq(u16x8::splat(0)) | tops.simd_eq(u16x8::splat(0xD800));
+    !others.any()
+}
+
+/// The UTF-8 of eight code units from U+0800 on, which is three bytes for each, in two vectors.
+#[inline(always)]
+fn encode_long(units: u16x8) -> (u8x16, u8x8)
+    requires { (k : ℕ) → k < 8 → 0x800 ≤ slice_index units k }
+    ensures long { (length result.0 ≡ 16) × (length result.1 ≡ 8) }
+    ensures spelled { result.0 ++ result.1 ≡ encode_utf8_all units }
+{
+    let words = units.cast::<u32>();
+    let middle = ((words >> u32x8::splat(6)) & u32x8::splat(0x3F)) << u32x8::splat(8);
+    let last = (words & u32x8::splat(0x3F)) << u32x8::splat(16);
+    let all = (words >> u32x8::splat(12)) + middle + last + u32x8::splat(0x80_80E0);
+    let bytes = all.to_le_bytes();
+    let first = bytes.swizzle([0, 1, 2, 4, 5, 6, 8, 9, 10, 12, 13, 14, 16, 17, 18, 20]);
+    (first, bytes.swizzle([21, 22, 24, 25, 26, 28, 29, 30]))
+}
+
+/// Writes the UTF-8 of eight code units from U+0800 on, which is 24 bytes. Behind them `dst` is as before.
+#[inline(always)]
+pub(crate) fn write_long(units: u16x8, dst: &mut [u8], at: usize)
+    requires room { at + 24 ≤ length dst.old }
+    requires long { (k : ℕ) → k < 8 → 0x800 ≤ slice_index units k }
+    ensures count { length (encode_utf8_all units) ≡ 24 }
+    ensures written { dst.new ≡ take at dst.old ++ (encode_utf8_all units ++ drop (at + 24) dst.old) }
+{
+    let (first, second) = encode_long(units);
+    first.copy_to_slice(&mut dst[at..]);
+    second.copy_to_slice(&mut dst[at + 16..]);
+}

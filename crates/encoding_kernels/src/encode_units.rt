@@ -1,0 +1,108 @@
+//! The UTF-8 of code units that are no surrogates, by vectors: each has four bytes, of which a table tells the kept ones.
+
+ghost use Rattle.std.specs.Prelude.{◌≡◌, ℕ, ◌+◌, ◌*◌, ◌/◌, ◌%◌, ◌<◌, ◌≤◌, List, ◌++◌, length, take, drop, slice_index, encode_utf8_all, IsTrue};
+ghost use Rattle.std.specs.Simd.Lanes.{mask_l};
+ghost use Rattle.encoding_kernels.specs.EncodeLanes.{EncodesLast, classes};
+
+use crate::compress_last::last_by;
+use crate::encode_lanes::write_both;
+use std::simd::prelude::*;
+
+/// The least code unit of three bytes.
+const LONG: u16 = 0x800;
+
+/// Whether none of the eight code units is a surrogate.
+#[inline(always)]
+pub(crate) fn are_plain(units: u16x8) -> bool
+    ensures { IsTrue result → (k : ℕ) → k < 8 → (0xD800 ≤ slice_index units k) × (slice_index units k ≤ 0xDFFF) → ⊥ }
+{
+    let tops = units & u16x8::splat(0xF800);
+    !tops.simd_eq(u16x8::splat(0xD800)).any()
+}
+
+/// Two bits for each of eight code units: whether it is ASCII, and whether it is below U+0800.
+#[inline(always)]
+fn mask_of_classes(units: u16x8) -> usize
+    ensures small { result < 0x10000 }
+    ensures mask { result ≡ mask_l (classes units) }
+{
+    let below = units
+        .simd_lt(u16x8::splat(LONG))
+        .select(u16x8::splat(0xFF00), u16x8::splat(0));
+    let classes = units
+        .simd_lt(u16x8::splat(0x80))
+        .select(u16x8::splat(0xFFFF), below);
+    classes
+        .to_le_bytes()
+        .simd_ge(u8x16::splat(0x80))
+        .to_bitmask() as usize
+}
+
+/// Two words for each of eight code units, of which the last bytes are its UTF-8: the upper byte of the first word, and
+/// both of the second.
+#[inline(always)]
+fn two_words(units: u16x8) -> (u16x8, u16x8)
+    ensures long { (length result.0 ≡ 8) × (length result.1 ≡ 8) }
+    ensures small { (k : ℕ) → k < 8 → (slice_index result.0 k < 0x10000) × (slice_index result.1 k < 0x10000) }
+    ensures spelled { (k : ℕ) → k < 8 → EncodesLast (slice_index units k)
+        (slice_index result.0 k / 0x100) (slice_index result.1 k % 0x100) (slice_index result.1 k / 0x100) }
+{
+    let six = u16x8::splat(0x3F);
+    let first = ((units >> u16x8::splat(12)) << u16x8::splat(8)) + u16x8::splat(0xE000);
+    let mark = units
+        .simd_lt(u16x8::splat(LONG))
+        .select(u16x8::splat(0x80C0), u16x8::splat(0x8080));
+    let middle = (units >> u16x8::splat(6)) & six;
+    let several = middle + ((units & six) << u16x8::splat(8)) + mark;
+    let second = units
+        .simd_lt(u16x8::splat(0x80))
+        .select(units << u16x8::splat(8), several);
+    (first, second)
+}
+
+/// Eight code units in four bytes each, of which the last ones are the UTF-8 of each: the first four, and the others.
+#[inline(always)]
+fn four_bytes(units: u16x8) -> (u8x16, u8x16)
+    ensures long { (length result.0 ≡ 16) × (length result.1 ≡ 16) }
+    ensures first { (k : ℕ) → k < 4 → EncodesLast (slice_index units k)
+        (slice_index result.0 (4 * k + 1)) (slice_index result.0 (4 * k + 2)) (slice_index result.0 (4 * k + 3)) }
+    ensures second { (k : ℕ) → k < 4 → EncodesLast (slice_index units (4 + k))
+        (slice_index result.1 (4 * k + 1)) (slice_index result.1 (4 * k + 2)) (slice_index result.1 (4 * k + 3)) }
+{
+    let (words, others) = two_words(units);
+    let first = words.shuffle(others, [0, 8, 1, 9, 2, 10, 3, 11]);
+    let second = words.shuffle(others, [4, 12, 5, 13, 6, 14, 7, 15]);
+    (first.to_le_bytes(), second.to_le_bytes())
+}
+
+/// The UTF-8 of four code units, of which each has four bytes, in the first bytes of the vector, and how many these are.
+#[inline(always)]
+fn encode_four(bytes: u8x16, mask: usize) -> (u8x16, usize)
+    requires { mask < 0x100 }
+    ensures long { length result.0 ≡ 16 }
+    ensures count { result.1 ≤ 12 }
+    ensures spelled { (us : List ℕ) → length us ≡ 4 → mask ≡ mask_l (classes us)
+        → ((k : ℕ) → k < 4 → EncodesLast (slice_index us k)
+        (slice_index bytes (4 * k + 1)) (slice_index bytes (4 * k + 2)) (slice_index bytes (4 * k + 3)))
+        → take result.1 result.0 ≡ encode_utf8_all us }
+{
+    let count = 12 - mask.count_ones() as usize;
+    (bytes.swizzle_dyn(last_by(mask)), count)
+}
+
+/// Writes the UTF-8 of eight code units, and returns how many bytes that is. Behind them `dst` is as before, though up to
+/// 28 bytes are stored.
+#[inline(always)]
+pub(crate) fn write_eight(units: u16x8, dst: &mut [u8], at: usize) -> usize
+    requires room { at + 32 ≤ length dst.old }
+    ensures most { result ≤ 24 }
+    ensures count { result ≡ length (encode_utf8_all units) }
+    ensures written { dst.new ≡ take at dst.old ++ (encode_utf8_all units ++ drop (at + result) dst.old) }
+{
+    let (lanes, others) = four_bytes(units);
+    let mask = mask_of_classes(units);
+    let (bytes, count) = encode_four(lanes, mask & 0xFF);
+    let (other, more) = encode_four(others, mask >> 8);
+    write_both(dst, at, bytes, count, other, more);
+    count + more
+}

@@ -1,0 +1,54 @@
+//! Latin1 of sixteen bytes of UTF-8: which bytes of pairs are kept is looked up by a mask, as in the other direction.
+
+ghost use Rattle.std.specs.Prelude.{◌≡◌, ℕ, ◌+◌, ◌*◌, ◌<◌, ◌≤◌, ◌⊎◌, ◌∷◌, length, take, slice_index};
+ghost use Rattle.std.specs.Simd.Lanes.{mask_l};
+ghost use Rattle.encoding_kernels.specs.EncodeLanes.{EndsPair, all_ended, both_end};
+
+use crate::compress_pairs::places_by;
+use std::simd::prelude::*;
+
+/// Sixteen bytes in pairs: for each pair the Latin1 bytes that its bytes end, and no matter what behind one alone.
+#[inline(always)]
+fn ended_pairs(block: u8x16) -> u8x16
+    ensures long { length result ≡ 16 }
+    ensures pairs { (k : ℕ) → k < 8 → EndsPair (slice_index (0 ∷ block) (2 * k)) (slice_index block (2 * k))
+        (slice_index block (2 * k + 1)) (slice_index result (2 * k)) (slice_index result (2 * k + 1)) }
+{
+    let before = u8x16::splat(0).shuffle(
+        block,
+        [
+            15, 16, 17, 18, 19, 20, 21, 22, 23, 24, 25, 26, 27, 28, 29, 30,
+        ],
+    );
+    let low = (before << u8x16::splat(6)) + (block & u8x16::splat(0x3F));
+    let ends = block.simd_ge(u8x16::splat(0x80)).select(low, block);
+    let words = u16x8::from_le_bytes(ends);
+    let firsts = u16x8::from_le_bytes(block) & u16x8::splat(0xFF);
+    let begins = firsts.simd_ge(u16x8::splat(0xC0));
+    begins.select(words >> u16x8::splat(8), words).to_le_bytes()
+}
+
+/// The mask of the pairs of bytes that each end a byte of Latin1.
+#[inline(always)]
+fn mask_of_ends(block: u8x16) -> usize
+    ensures small { result < 256 }
+    ensures mask { result ≡ mask_l (both_end block) }
+{
+    let words = u16x8::from_le_bytes(block);
+    let first = (words & u16x8::splat(0xFF)).simd_lt(u16x8::splat(0xC0));
+    (first & words.simd_lt(u16x8::splat(0xC000))).to_bitmask() as usize
+}
+
+/// The Latin1 of sixteen bytes of UTF-8 from the beginning of a character on, in the first bytes of the vector, and how
+/// many these are. No two bytes that begin two stand side by side.
+#[inline(always)]
+pub fn latin1_of(block: u8x16) -> (u8x16, usize)
+    requires { (k : ℕ) → (slice_index block k < 0xC0) ⊎ (slice_index block (k + 1) < 0xC0) }
+    ensures long { length result.0 ≡ 16 }
+    ensures count { result.1 ≤ 16 }
+    ensures ended { take result.1 result.0 ≡ all_ended 0 block }
+{
+    let mask = mask_of_ends(block);
+    let bytes = ended_pairs(block).swizzle_dyn(places_by(mask));
+    (bytes, 8 + mask.count_ones() as usize)
+}

@@ -1,0 +1,294 @@
+//! UTF-16 of well-formed UTF-8, sixteen bytes at a time: of the code units that end with each byte those that are one
+//! are moved together.
+//!
+//! What a block stores behind its own code units is overwritten by those of the bytes that follow, since these have at
+//! least a third as many: a block is stored only where so many places are still due.
+ghost use Rattle.std.specs.Prelude.{◌≡◌, ℕ, ◌+◌, ◌-◌, ◌/◌, ◌%◌, ◌<◌, ◌≤◌, [], ◌∷◌, ◌*◌, ◌^◌, Bool, false, List, ◌++◌, length, take, drop, replicate, slice_index, IsTrue};
+ghost use Rattle.std.specs.List.{flat_map};
+ghost use Rattle.std.specs.Str.{IsUtf8, IsCharBoundary, chars};
+ghost use Rattle.std.specs.Char.Escape.{encode_utf16};
+ghost use Rattle.std.specs.Int.RustNames.{count_ones};
+ghost use Rattle.std.specs.Simd.Lanes.{mask_l};
+ghost use Rattle.encoding_definitions.specs.Fronts.{WritesFront};
+ghost use Rattle.encoding_kernels.specs.Units.{BeginsThree, WritesCompressed, WritesUtf16, ends_behind, units_in};
+
+use crate::compress_units::compress;
+use crate::decode_lanes::{code_units, triple_units, unit_ends};
+use crate::scalars::{scalar_of_sequence, write_utf16};
+use crate::sequence::{is_continuation, sequence_length};
+use crate::strides::{ASCII_END, LANES as BYTE_LANES, are_bytes_below, unpack_ascii};
+use std::simd::Simd;
+use std::simd::prelude::*;
+
+/// The greatest byte at each place that leaves no character cut at the end of sixteen.
+const LAST: [u8; 16] = [
+    255, 255, 255, 255, 255, 255, 255, 255, 255, 255, 255, 255, 255, 0xEF, 0xDF, 0xBF,
+];
+
+/// The places of the lanes of a vector.
+const LANES: [u16; 8] = [0, 1, 2, 3, 4, 5, 6, 7];
+
+/// The bits that tell whether a byte begins three, at every third place.
+const LEAD_BITS: [u8; 16] = [
+    0xF0, 0, 0, 0xF0, 0, 0, 0xF0, 0, 0, 0xF0, 0, 0, 0xF0, 0, 0, 0,
+];
+
+/// What they are where it does.
+const LEADS: [u8; 16] = [
+    0xE0, 0, 0, 0xE0, 0, 0, 0xE0, 0, 0, 0xE0, 0, 0, 0xE0, 0, 0, 0,
+];
+
+/// Writes the units whose bit is set, in order, and returns how many these are.
+#[inline(always)]
+fn write_compressed(first: u16x8, last: u16x8, kept: usize, dst: &mut [u16]) -> usize
+    requires { (kept < 2 ^ 16) × (16 ≤ length dst.old) }
+    ensures { (marks : List Bool) → length marks ≡ 16 → kept ≡ mask_l marks
+        → WritesCompressed marks (first ++ last) dst.old dst.new result (result + 8 - count_ones (kept / 2 ^ 8)) }
+{
+    let first_kept = kept & 0xFF;
+    let last_kept = kept >> 8;
+    compress(first, first_kept).copy_to_slice(dst);
+    let count = first_kept.count_ones() as usize;
+    compress(last, last_kept).copy_to_slice(&mut dst[count..]);
+    count + last_kept.count_ones() as usize
+}
+
+/// Writes the units whose bit is set, in order, and no others. Returns how many these are.
+#[inline(always)]
+fn write_compressed_exact(first: u16x8, last: u16x8, kept: usize, dst: &mut [u16]) -> usize
+    requires { (kept < 2 ^ 16) × (16 ≤ length dst.old) }
+    ensures { (marks : List Bool) → length marks ≡ 16 → kept ≡ mask_l marks
+        → WritesCompressed marks (first ++ last) dst.old dst.new result result }
+{
+    let first_kept = kept & 0xFF;
+    let last_kept = kept >> 8;
+    let count = first_kept.count_ones() as usize;
+    let more = last_kept.count_ones() as usize;
+    let behind = u16x8::from_slice(&dst[count..]);
+    compress(first, first_kept).copy_to_slice(dst);
+    let is_kept = u16x8::from_array(LANES).simd_lt(u16x8::splat(more as u16));
+    is_kept
+        .select(compress(last, last_kept), behind)
+        .copy_to_slice(&mut dst[count..]);
+    count + more
+}
+
+/// Where the last whole character of the first sixteen bytes ends, or 0.
+#[inline(always)]
+fn whole_end(src: &[u8]) -> usize
+    requires { (16 < length src.now) × IsUtf8 src.now }
+    ensures { (result ≤ 16) × IsCharBoundary src.now result }
+{
+    let cut = u8x16::from_slice(src)
+        .saturating_sub(u8x16::from_array(LAST))
+        .simd_ne(u8x16::splat(0))
+        .to_bitmask();
+    let end = (cut | 0x10000).trailing_zeros() as usize;
+    if end > 16 || is_continuation(src[end]) {
+        return 0;
+    }
+    end
+}
+
+/// Writes the UTF-16 of the first bytes, up to the end of a character, and returns how many code units these are.
+#[inline(always)]
+fn write_block(src: &[u8], end: usize, kept: usize, dst: &mut [u16]) -> usize
+    requires room { (16 ≤ length src.now) × (16 ≤ length dst.old) }
+    requires text { IsUtf8 src.now }
+    requires end { (end ≤ 16) × IsCharBoundary src.now end }
+    requires kept { kept ≡ mask_l (take end (ends_behind 0 (take 16 src.now)) ++ replicate (16 - end) false) }
+    ensures { WritesUtf16 src.now dst.old dst.new end result (result + 8 - count_ones (kept / 2 ^ 8)) }
+{
+    let (first, last) = code_units(u8x16::from_slice(src));
+    write_compressed(first, last, kept, dst)
+}
+
+/// Writes the UTF-16 of the first bytes, up to the end of a character, and nothing behind it. Returns how many code units
+/// these are.
+#[inline(always)]
+fn write_block_exact(src: &[u8], end: usize, kept: usize, dst: &mut [u16]) -> usize
+    requires room { (16 ≤ length src.now) × (16 ≤ length dst.old) }
+    requires text { IsUtf8 src.now }
+    requires end { (end ≤ 16) × IsCharBoundary src.now end }
+    requires kept { kept ≡ mask_l (take end (ends_behind 0 (take 16 src.now)) ++ replicate (16 - end) false) }
+    ensures { WritesUtf16 src.now dst.old dst.new end result result }
+{
+    let (first, last) = code_units(u8x16::from_slice(src));
+    write_compressed_exact(first, last, kept, dst)
+}
+
+/// Writes as `write_block_exact` does, where fewer than sixteen places may be left.
+#[inline(always)]
+fn write_block_in_any_room(src: &[u8], end: usize, kept: usize, dst: &mut [u16]) -> usize
+    requires room { (16 ≤ length src.now) × (end ≤ length dst.old) }
+    requires text { IsUtf8 src.now }
+    requires end { (end ≤ 16) × IsCharBoundary src.now end }
+    requires kept { kept ≡ mask_l (take end (ends_behind 0 (take 16 src.now)) ++ replicate (16 - end) false) }
+    ensures { WritesUtf16 src.now dst.old dst.new end result result }
+{
+    if dst.len() >= 16 {
+        return write_block_exact(src, end, kept, dst);
+    }
+    let mut units = [0; 16];
+    let count = write_block(src, end, kept, &mut units);
+    dst[..count].copy_from_slice(&units[..count]);
+    count
+}
+
+/// Whether the text begins with five characters of three bytes.
+#[inline(always)]
+fn begins_triples(src: &[u8]) -> bool
+    requires { 16 ≤ length src.now }
+    ensures { IsTrue result → (k : ℕ) → k < 5 → BeginsThree (slice_index src.now (3 * k)) }
+{
+    let leads = u8x16::from_slice(src) & u8x16::from_array(LEAD_BITS);
+    !leads.simd_ne(u8x16::from_array(LEADS)).any()
+}
+
+/// Writes the UTF-16 of the first five characters, of three bytes each.
+#[inline(always)]
+fn write_triples(src: &[u8], dst: &mut [u16])
+    requires room { (16 ≤ length src.now) × (8 ≤ length dst.old) }
+    requires text { IsUtf8 src.now }
+    requires triples { (k : ℕ) → k < 5 → BeginsThree (slice_index src.now (3 * k)) }
+    ensures { WritesUtf16 src.now dst.old dst.new 15 5 8 }
+{
+    triple_units(u8x16::from_slice(src)).copy_to_slice(dst);
+}
+
+/// Writes the UTF-16 of the first five characters, of three bytes each, and nothing behind it.
+#[inline(always)]
+fn write_triples_exact(src: &[u8], dst: &mut [u16])
+    requires room { (16 ≤ length src.now) × (5 ≤ length dst.old) }
+    requires text { IsUtf8 src.now }
+    requires triples { (k : ℕ) → k < 5 → BeginsThree (slice_index src.now (3 * k)) }
+    ensures { WritesUtf16 src.now dst.old dst.new 15 5 5 }
+{
+    let mut units = [0; 8];
+    write_triples(src, &mut units);
+    dst[..5].copy_from_slice(&units[..5]);
+}
+
+/// Whether eight places are due behind the first half of a block: for the second half, and a third of the bytes left.
+#[inline(always)]
+fn is_due(kept: usize, left: usize) -> bool
+    ensures { IsTrue result → 8 ≤ count_ones (kept / 2 ^ 8) + left / 3 }
+{
+    left >= 24 || (kept >> 8).count_ones() as usize + left / 3 >= 8
+}
+
+/// Writes the UTF-16 of the first character, and returns how many bytes and code units these are.
+#[inline(always)]
+fn write_character(src: &[u8], dst: &mut [u16]) -> (usize, usize)
+    requires room { (0 < length src.now) × (length src.now ≤ length dst.old) }
+    requires text { IsUtf8 src.now }
+    ensures some { 0 < result.0 }
+    ensures written { WritesUtf16 src.now dst.old dst.new result.0 result.1 result.1 }
+{
+    let length = sequence_length(src[0]);
+    let scalar = scalar_of_sequence(&src[..length]);
+    let Some(units) = write_utf16(scalar, dst) else {
+        unreachable!();
+    };
+    (length, units)
+}
+
+/// Writes the UTF-16 of some first characters, and returns how many bytes and code units these are. What is due behind
+/// them may have changed too.
+#[inline(always)]
+fn write_some(src: &[u8], dst: &mut [u16]) -> (usize, usize)
+    requires room { (16 < length src.now) × (length src.now ≤ length dst.old) }
+    requires text { IsUtf8 src.now }
+    ensures some { 0 < result.0 }
+    ensures written { WritesUtf16 src.now dst.old dst.new result.0 result.1 (units_in src.now) }
+{
+    if are_bytes_below::<16>(src, 0, ASCII_END) {
+        let front = unpack_ascii::<16>(src, dst, 0);
+        return (front, front);
+    }
+    if begins_triples(src) {
+        if src.len() >= 24 {
+            write_triples(src, dst);
+            return (15, 5);
+        }
+        write_triples_exact(src, dst);
+        return (15, 5);
+    }
+    let end = whole_end(src);
+    if end == 0 {
+        return write_character(src, dst);
+    }
+    let kept = unit_ends(u8x16::from_slice(src), end);
+    if is_due(kept, src.len() - end) {
+        return (end, write_block(src, end, kept, dst));
+    }
+    (end, write_block_in_any_room(src, end, kept, dst))
+}
+
+/// Writes the UTF-16 of a text of a few bytes, and returns how many code units these are. Behind what is written
+/// `dst` is as before.
+#[inline(always)]
+fn write_few(src: &[u8], dst: &mut [u16]) -> usize
+    requires room { length src.now ≤ length dst.old }
+    requires text { IsUtf8 src.now }
+    ensures { WritesFront dst.old dst.new result (flat_map encode_utf16 (chars src.now)) }
+{
+    let mut read = 0;
+    let mut written = 0;
+    while read < src.len() {
+        let (bytes, units) = write_character(&src[read..], &mut dst[written..]);
+        read += bytes;
+        written += units;
+    }
+    written
+}
+
+/// The bytes of a text of eight to sixteen, and zeros behind them: its first eight, and of its last eight those behind
+/// these. By loads alone, since a load of what two stores left would stall on store forwarding.
+#[inline(always)]
+fn with_zeros(src: &[u8]) -> u8x16
+    requires { (8 ≤ length src.now) × (length src.now ≤ 16) }
+    ensures { result ≡ src.now ++ drop (length src.now) (replicate 16 0) }
+{
+    let lanes = u8x16::from_array(BYTE_LANES);
+    let count = u8x16::splat(src.len() as u8);
+    let first = u8x8::from_slice(src);
+    let last = u8x8::from_slice(&src[src.len() - 8..]);
+    let both = first.shuffle(last, [0, 1, 2, 3, 4, 5, 6, 7, 8, 9, 10, 11, 12, 13, 14, 15]);
+    let behind = (lanes + (u8x16::splat(16) - count)) & u8x16::splat(15);
+    let places = lanes.simd_lt(u8x16::splat(8)).select(lanes, behind);
+    let bytes = both.swizzle_dyn(places);
+    lanes.simd_lt(count).select(bytes, u8x16::splat(0))
+}
+
+/// Writes the UTF-16 of a text of eight to sixteen bytes, and returns how many code units these are. Behind what is
+/// written `dst` is as before.
+#[inline(never)]
+fn write_tail(src: &[u8], dst: &mut [u16]) -> usize
+    requires room { (8 ≤ length src.now) × (length src.now ≤ 16) × (length src.now ≤ length dst.old) }
+    requires text { IsUtf8 src.now }
+    ensures { WritesFront dst.old dst.new result (flat_map encode_utf16 (chars src.now)) }
+{
+    let block = with_zeros(src).to_array();
+    let kept = unit_ends(u8x16::from_slice(&block), src.len());
+    write_block_in_any_room(&block, src.len(), kept, dst)
+}
+
+/// Writes the UTF-16 of a text, and returns how many code units these are. Behind what is written `dst` is as before.
+pub fn convert_valid_utf8_to_utf16(src: &[u8], dst: &mut [u16]) -> usize
+    requires room { length src.now ≤ length dst.old }
+    requires text { IsUtf8 src.now }
+    ensures { WritesFront dst.old dst.new result (flat_map encode_utf16 (chars src.now)) }
+{
+    let mut read = 0;
+    let mut written = 0;
+    while src.len() - read > 16 {
+        let (bytes, units) = write_some(&src[read..], &mut dst[written..]);
+        read += bytes;
+        written += units;
+    }
+    if src.len() - read < 8 {
+        return written + write_few(&src[read..], &mut dst[written..]);
+    }
+    written + write_tail(&src[read..], &mut dst[written..])
+}
