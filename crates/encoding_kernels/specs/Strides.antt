@@ -19,8 +19,8 @@ BelowUpTo bound xs place = (k : ℕ) → k < place → slice_index xs k < bound
 abbrev pub IsRunBelow : ℕ → List ℕ → ℕ → ℕ → ℕ → Type 0
 IsRunBelow bound xs = IsRun (λ k. slice_index xs k < bound)
 
--- the units from one place up to another are ASCII and copied to the same places: a front that is ASCII and written up to the one is so up to the other
-pub record CopiesAscii (src old new : List ℕ) (from to : ℕ) : Type 0 where
+-- the units from one place up to another, numbers of them, are ASCII and copied to the same places: a front that is ASCII and written up to the one is so up to the other
+pub record CopiesAscii {A : Type 0} (numbers : List ℕ) (src old new : List A) (from to : ℕ) : Type 0 where
   pub within : (to ≤ length src) × (to ≤ length old)
-  pub ascii : BelowUpTo 0x80 src from → BelowUpTo 0x80 src to
-  pub copied : (first : List ℕ) → WritesFront first old from (take from src) → WritesFront first new to (take to src)
+  pub ascii : BelowUpTo 0x80 numbers from → BelowUpTo 0x80 numbers to
+  pub copied : (first : List A) → WritesFront first old from (take from src) → WritesFront first new to (take to src)

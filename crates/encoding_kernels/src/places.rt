@@ -1,6 +1,7 @@
 //! Places that pass a test, many at a time by vectors.
 
 ghost use Rattle.std.specs.Prelude.{◌≡◌, ℕ, ◌+◌, ◌*◌, ◌<◌, ◌≤◌, ◌↔◌, ◌⊎◌, IsTrue};
+ghost use lib.Count.{count_trailing_zeros};
 ghost use Rattle.encoding_kernels.specs.Places.{PassBetween, IsRun, Marks};
 
 /// A test of each of a number of places, by N at a time.
@@ -46,18 +47,26 @@ pub(crate) fn all<const N: usize, const W: usize, T: Places<N>>(test: &T, at: us
     }
 }
 
+/// How many of N places come before the first that fails, by the mask of those that do.
+#[inline(always)]
+pub(crate) fn run_before<const N: usize>(failing: u64) -> usize
+    ensures none { failing ≡ 0 → result ≡ N }
+    ensures some { 0 < failing → result ≡ count_trailing_zeros 64 failing }
+{
+    if failing == 0 {
+        N
+    } else {
+        failing.trailing_zeros() as usize
+    }
+}
+
 /// How many of the N places from one on come before the first that fails.
 #[inline(always)]
 pub(crate) fn run<const N: usize, T: Places<N>>(test: &T, at: usize) -> usize
     requires { (at + N ≤ T.count test.now) × (0 < N) × (N ≤ 64) }
     ensures { IsRun (T.passes test.now) at N result }
 {
-    let failing = test.failing(at);
-    if failing == 0 {
-        N
-    } else {
-        failing.trailing_zeros() as usize
-    }
+    run_before::<N>(test.failing(at))
 }
 
 /// Goes from a place on by W at a time while they pass, and returns where that ends.

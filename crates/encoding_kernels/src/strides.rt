@@ -1,20 +1,20 @@
 //! Slices by vectors: how many first units are below a bound.
+mod ascii_copies;
 mod copies;
 
 ghost use Rattle.std.specs.Prelude.{◌↔◌, ◌+◌, ◌<◌, ◌≤◌, length, slice_index, EachIndex, IsTrue};
 ghost use Rattle.encoding_kernels.specs.Strides.{AllBelow, BelowUpTo, IsRunBelow};
 
 use crate::places::{Places, all, find, reach, run, skip};
-pub use copies::{
-    copy_ascii, copy_ascii_front, copy_front, pack_ascii_front, pack_lower, unpack,
-    unpack_ascii_front, write_first,
-};
-pub(crate) use copies::{LANES, pack_ascii, unpack_ascii};
+pub use ascii_copies::{AsciiAs, AsciiVectors, copy_ascii, copy_ascii_front};
+pub(crate) use ascii_copies::{pack_ascii, unpack_ascii};
+pub(crate) use copies::LANES;
+pub use copies::{copy_front, pack_lower, unpack, write_first};
 use std::simd::Simd;
 use std::simd::prelude::*;
 
 /// The bytes of a block.
-pub(crate) const BLOCK: usize = 64;
+pub const BLOCK: usize = 64;
 
 /// The bytes of four blocks.
 const FOUR_BLOCKS: usize = 256;
@@ -32,7 +32,7 @@ pub const HALF_STRIDE: usize = 8;
 pub(crate) const UNIT_BLOCK: usize = 64;
 
 /// The UTF-16 code units of a text shorter than a block that one test covers.
-pub(crate) const HALF_UNIT_BLOCK: usize = 32;
+pub const HALF_UNIT_BLOCK: usize = 32;
 
 /// The UTF-16 code units of a vector.
 pub const UNIT_STRIDE: usize = 8;

@@ -6,7 +6,7 @@ ghost use Rattle.encoding_definitions.specs.Ascii.{IsFirstOther, front_length, I
 ghost use Rattle.encoding_definitions.specs.Fronts.{IsLongestFront, WritesFront};
 
 use encoding_kernels::strides::{
-    ASCII_END, STRIDE, copy_ascii_front, front_of_bytes_below, pack_ascii_front, unpack_ascii_front,
+    ASCII_END, BLOCK, HALF_UNIT_BLOCK, STRIDE, copy_ascii_front, front_of_bytes_below,
 };
 use std::simd::prelude::*;
 
@@ -93,7 +93,7 @@ pub fn ascii_to_ascii(src: &[u8], dst: &mut [u8]) -> Option<(u8, usize)>
     ensures copied { let n = front_length (take (length dst.old) src.now) result in
         WritesFront dst.old dst.new n (take n src.now) }
 {
-    let front = copy_ascii_front(src, dst);
+    let front = copy_ascii_front::<BLOCK, u8, u8>(src, dst);
     if front < src.len() && front < dst.len() {
         Some((src[front], front))
     } else {
@@ -109,7 +109,7 @@ pub fn ascii_to_basic_latin(src: &[u8], dst: &mut [u16]) -> Option<(u8, usize)>
     ensures copied { let n = front_length (take (length dst.old) src.now) result in
         WritesFront dst.old dst.new n (take n src.now) }
 {
-    let front = unpack_ascii_front(src, dst);
+    let front = copy_ascii_front::<BLOCK, u16, u8>(src, dst);
     if front < src.len() && front < dst.len() {
         Some((src[front], front))
     } else {
@@ -125,7 +125,7 @@ pub fn basic_latin_to_ascii(src: &[u16], dst: &mut [u8]) -> Option<(u16, usize)>
     ensures copied { let n = front_length (take (length dst.old) src.now) result in
         WritesFront dst.old dst.new n (take n src.now) }
 {
-    let front = pack_ascii_front(src, dst);
+    let front = copy_ascii_front::<HALF_UNIT_BLOCK, u8, u16>(src, dst);
     if front < src.len() && front < dst.len() {
         Some((src[front], front))
     } else {

@@ -1,7 +1,7 @@
 -- A vector that is put in a list at a place, and one that is read from a whole stride.
-use Rattle.std.proofs.Common.{◌≡◌, ℕ, ◌+◌, ◌≤◌, List, ◌++◌, length, take, drop, drop-drop, ap, ◌∙◌, arith}
+use Rattle.std.proofs.Common.{◌≡◌, ℕ, ◌+◌, ◌≤◌, List, ◌++◌, length, take, drop, drop-drop, map, map-id, ap, ◌∙◌, arith}
 use Rattle.std.proofs.lemmas.List.{take_all}
-use Rattle.std.proofs.lemmas.Simd.{put_chunk_is}
+use Rattle.std.proofs.lemmas.Simd.{put_chunk_is, length-chunk}
 use Rattle.std.specs.Simd.Lanes.{chunk, put_chunk}
 
 pub put_is : {X : Type 0} (at n : ℕ) (xs ys : List X) → length ys ≡ n → at + n ≤ length xs → put_chunk at xs ys ≡ take at xs ++ (ys ++ drop (at + n) xs)
@@ -16,3 +16,7 @@ whole_chunk n stride long = take_all n stride (omega (arith, long))
 -- of a vector read from a stride
 pub put_stride : {X : Type 0} (at n : ℕ) (xs stride : List X) → length stride ≡ n → at + n ≤ length xs → put_chunk at xs (chunk 0 n stride) ≡ take at xs ++ (stride ++ drop (at + n) xs)
 put_stride at n xs stride long room = ap (put_chunk at xs) (whole_chunk n stride long) ∙ put_is at n xs stride long room
+
+-- of a vector read from the same place of another list, each lane cast to what holds it
+pub put_same_place : {X : Type 0} (at n : ℕ) (xs ys : List X) → at + n ≤ length ys → at + n ≤ length xs → put_chunk at xs (map (λ x. x) (chunk at n ys)) ≡ take at xs ++ (take n (drop at ys) ++ drop (at + n) xs)
+put_same_place at n xs ys within room = ap (put_chunk at xs) (map-id (chunk at n ys)) ∙ put_is at n xs (chunk at n ys) (length-chunk at n ys within) room

@@ -7,7 +7,7 @@ use Rattle.std.proofs.lemmas.Option.{slice_get-get_or}
 use Rattle.encoding_definitions.specs.Ascii.{IsFirstOther}
 use Rattle.encoding_definitions.specs.Fronts.{IsLongestFront, WritesFront}
 use Rattle.encoding_kernels.specs.Strides.{AllBelow, BelowUpTo, IsRunBelow, CopiesAscii}
-use Rattle.encoding_definitions.proofs.LongestFronts.FrontsLemmas.{WritesFront-nil, WritesFront_push, WritesFront_put, WritesFront_again}
+use Rattle.encoding_definitions.proofs.LongestFronts.FrontsLemmas.{WritesFront_push, WritesFront_put, WritesFront_again}
 
 -- ---- fronts of units that are each of a kind, which holds of the 0 past the end too
 module _ (P : ℕ → Type 0) (at_zero : P 0) where
@@ -75,7 +75,7 @@ pub WritesFront_copy : (old new xs : List ℕ) (n b : ℕ) → WritesFront old n
 WritesFront_copy old new xs n b w l m e = rw (take_more xs n 0 l, sym e) (WritesFront_push old new n (take n xs) b w m)
 
 -- so many more units are copied
-pub WritesFront_block : (old new after xs : List ℕ) (n m : ℕ) → WritesFront old new n (take n xs) → n + m ≤ length xs → n + m ≤ length new
+pub WritesFront_block : {A : Type 0} (old new after xs : List A) (n m : ℕ) → WritesFront old new n (take n xs) → n + m ≤ length xs → n + m ≤ length new
     → after ≡ take n new ++ (take m (drop n xs) ++ drop (n + m) new) → WritesFront old after (n + m) (take (n + m) xs)
 WritesFront_block old new after xs n m w l k put =
     let short : length (take m (drop n xs)) ≡ m = length-take-le m (drop n xs) (omega (arith, length-drop n xs)) in
@@ -85,35 +85,23 @@ WritesFront_block old new after xs n m w l k put =
 pub run_passes : (bound from at n run : ℕ) (xs : List ℕ) → BelowUpTo bound xs from → from ≤ at + n → IsRunBelow bound xs at n run → from ≤ at + run
 run_passes bound from at n run xs below l r = elim (cases_lt (at + run) from) [ inl p ↦ absurd (r.stops (omega arith) (below (at + run) p)) | inr p ↦ p ]
 
--- ---- copies
-module _ (src old new after : List ℕ) (from at : ℕ) (done : CopiesAscii src old new from at) where
-  -- n more units
-  pub copies_more : (n : ℕ) → at + n ≤ length src → at + n ≤ length old → length new ≡ length old → AllBelow 0x80 src at n → after ≡ take at new ++ (take n (drop at src) ++ drop (at + n) new)
-      → CopiesAscii src old after from (at + n)
-  copies_more n l m same ascii put = record {
-    within = (l, m);
-    ascii = λ h k b. elim (cases_lt k at) [ inl q ↦ done.ascii h k q | inr q ↦ ascii k q b ];
-    copied = λ first w. WritesFront_block first new after src at n (done.copied first w) l (omega arith) put;
-  }
-
-  pub copies_on : (to : ℕ) → length new ≡ length old → CopiesAscii src new after at to → CopiesAscii src old after from to
-  copies_on to same more = record {
-    within = (more.within.0, omega (arith, more.within.1));
-    ascii = λ h. more.ascii (done.ascii h);
-    copied = λ first w. more.copied first (done.copied first w);
-  }
+-- ---- copies, by the numbers of the units and by what is written of them
+-- n more units
+pub copies_more : {A : Type 0} (numbers : List ℕ) (src old new after : List A) (from at n : ℕ) → CopiesAscii numbers src old new from at → at + n ≤ length src → at + n ≤ length old
+    → length new ≡ length old → AllBelow 0x80 numbers at n → after ≡ take at new ++ (take n (drop at src) ++ drop (at + n) new) → CopiesAscii numbers src old after from (at + n)
+copies_more numbers src old new after from at n done l m same ascii put = record {
+  within = (l, m);
+  ascii = λ h k b. elim (cases_lt k at) [ inl q ↦ done.ascii h k q | inr q ↦ ascii k q b ];
+  copied = λ first w. WritesFront_block first new after src at n (done.copied first w) l (omega arith) put;
+}
 
 -- a run from no later place on
-pub copies_run : (src old new : List ℕ) (from at run : ℕ) → BelowUpTo 0x80 src from → at ≤ from → from ≤ at + 16 → at + 16 ≤ length src → at + 16 ≤ length old → IsRunBelow 0x80 src at 16 run
-    → new ≡ take at old ++ (take run (drop at src) ++ drop (at + run) old) → CopiesAscii src old new from (at + run)
-copies_run src old new from at run below near far l m r put =
-    let more = run_passes 0x80 from at 16 run src below far r in
+pub copies_run : {A : Type 0} (numbers : List ℕ) (src old new : List A) (from at run : ℕ) → BelowUpTo 0x80 numbers from → at ≤ from → from ≤ at + 16 → at + 16 ≤ length src → at + 16 ≤ length old
+    → IsRunBelow 0x80 numbers at 16 run → new ≡ take at old ++ (take run (drop at src) ++ drop (at + run) old) → CopiesAscii numbers src old new from (at + run)
+copies_run numbers src old new from at run below near far l m r put =
+    let more = run_passes 0x80 from at 16 run numbers below far r in
     record {
       within = (omega (arith, r.within), omega (arith, r.within));
       ascii = λ h k b. elim (cases_lt k at) [ inl q ↦ h k (omega arith) | inr q ↦ r.pass k q b ];
       copied = λ first w. WritesFront_again first old new src from at run w near more (omega (arith, r.within)) (omega (arith, r.within)) put;
     }
-
--- from the beginning on
-pub copied_front : (src old new : List ℕ) (n : ℕ) → CopiesAscii src old new 0 n → BelowUpTo 0x80 src n × WritesFront old new n (take n src)
-copied_front src old new n c = (c.ascii (λ k l. absurd (omega arith)), c.copied old (WritesFront-nil old))

@@ -1,5 +1,10 @@
-use Rattle.encoding_kernels.proofs.Lanes.PutLemmas.{put_stride}
+use Rattle.std.proofs.lemmas.Simd.{length-chunk}
+use Rattle.std.specs.Simd.Lanes.{chunk}
+use Rattle.encoding_kernels.proofs.Lanes.PutLemmas.{put_is}
 use Rattle.encoding_kernels.proofs.strides.copies.copy.Goals as goal
 
 pub returns : goal.returns
-returns g c = put_stride c.args.at g.row.N c.args.dst.now c.args.stride.now c.told-stride c.requires
+returns g c =
+    let at = c.args.at in
+    let n = g.row.N in
+    put_is at n c.args.dst.now (chunk at n c.args.src.now) (length-chunk at n c.args.src.now c.requires.0) c.requires.1

@@ -1,0 +1,232 @@
+//! Copies of ASCII as far as it goes, to units of the same width, of a greater or of a lesser one.
+
+ghost use Rattle.std.specs.Prelude.{◌≡◌, ℕ, ◌+◌, ◌<◌, ◌≤◌, List, ◌++◌, length, take, drop, slice_index, refl};
+ghost use Rattle.encoding_kernels.specs.Places.{Marks};
+ghost use Rattle.encoding_kernels.specs.Strides.{AllBelow, BelowUpTo, CopiesAscii};
+
+use super::copies::{copy, write_first, write_first_units};
+use super::{ASCII_END, BASIC_LATIN_END, BytesBelow, STRIDE, UnitsBelow};
+use crate::places::{Places, run_before};
+use std::simd::Simd;
+use std::simd::prelude::*;
+
+/// Units of which ASCII is written as units of D.
+pub trait AsciiAs<D>: Copy {
+    // units by their numbers
+    ghost numbers: { List Self → List ℕ };
+
+    // units as they are written
+    ghost written: { List Self → List D };
+
+    /// Writes the first of sixteen units from a place on, which are ASCII, so many. Behind them `dst` is as before, though
+    /// sixteen are stored.
+    fn write_first(src: &[Self], dst: &mut [D], at: usize, count: usize)
+        requires within { (at + 16 ≤ length src.now) × (at + 16 ≤ length dst.old) × (count ≤ 16) }
+        requires ascii { AllBelow 0x80 (numbers src.now) at count }
+        ensures { dst.new ≡ take at dst.old ++ (take count (drop at (written src.now)) ++ drop (at + count) dst.old) };
+
+    ghost as_many: { (xs : List Self) → length (written xs) ≡ length xs };
+}
+
+/// The same by N units at a time.
+pub trait AsciiVectors<const N: usize, D>: AsciiAs<D> {
+    /// The mask of those of N units that aren't ASCII.
+    fn others(src: &[Self], at: usize) -> u64
+        requires { (at + N ≤ length src.now) × (0 < N) × (N ≤ 64) }
+        ensures { Marks (λ k. slice_index (Self.numbers src.now) k < 0x80) at N result };
+
+    /// Writes N units from a place on, which are ASCII.
+    fn write(src: &[Self], dst: &mut [D], at: usize)
+        requires within { (at + N ≤ length src.now) × (at + N ≤ length dst.old) }
+        requires ascii { AllBelow 0x80 (Self.numbers src.now) at N }
+        ensures { dst.new ≡ take at dst.old ++ (take N (drop at (Self.written src.now)) ++ drop (at + N) dst.old) };
+}
+
+/// Copies units, N at a time, from a place on while they are ASCII, and returns where that ends.
+#[inline(always)]
+fn copy_vectors<const N: usize, D, S: AsciiVectors<N, D>>(
+    src: &[S],
+    dst: &mut [D],
+    from: usize,
+) -> usize
+    requires { (from ≤ length src.now) × (from ≤ length dst.old) × (0 < N) × (N ≤ 64) }
+    ensures copies { CopiesAscii (S.numbers src.now) (S.written src.now) dst.old dst.new from result }
+    ensures stops { result + N ≤ length src.now → result + N ≤ length dst.old
+        → AllBelow 0x80 (S.numbers src.now) result N → ⊥ }
+{
+    let room = src.len().min(dst.len());
+    if room < N {
+        return from;
+    }
+    let mut at = from;
+    while at <= room - N && S::others(src, at) == 0 {
+        S::write(src, dst, at);
+        at += N;
+    }
+    at
+}
+
+/// Copies the units from a place on up to the first that isn't ASCII, where that is among the next sixteen or fewer are
+/// left, and returns where that ends. The last sixteen may begin before the place.
+#[inline(always)]
+fn copy_last<D, S: AsciiVectors<1, D> + AsciiVectors<16, D>>(
+    src: &[S],
+    dst: &mut [D],
+    from: usize,
+) -> usize
+    requires within { (from ≤ length src.now) × (from ≤ length dst.old) }
+    requires ascii { BelowUpTo 0x80 (S.numbers src.now) from }
+    requires last { from + 16 ≤ length src.now → from + 16 ≤ length dst.old
+        → AllBelow 0x80 (S.numbers src.now) from 16 → ⊥ }
+    ensures copies { CopiesAscii (S.numbers src.now) (S.written src.now) dst.old dst.new from result }
+    ensures stops { result < length src.now → result < length dst.old → 0x80 ≤ slice_index (S.numbers src.now) result }
+{
+    let room = src.len().min(dst.len());
+    if room < STRIDE || from == room {
+        return copy_vectors::<1, D, S>(src, dst, from);
+    }
+    let at = from.min(room - STRIDE);
+    let run = run_before::<STRIDE>(<S as AsciiVectors<STRIDE, D>>::others(src, at));
+    S::write_first(src, dst, at, run);
+    at + run
+}
+
+/// Copies the units before the first that isn't ASCII, by N at a time first, over the shorter length of the two, and
+/// returns how many. That it is among the first ones is seen before all.
+#[inline(always)]
+pub fn copy_ascii_front<
+    const N: usize,
+    D,
+    S: AsciiVectors<1, D> + AsciiVectors<16, D> + AsciiVectors<N, D>,
+>(src: &[S], dst: &mut [D]) -> usize
+    requires { (0 < N) × (N ≤ 64) }
+    ensures copies { CopiesAscii (S.numbers src.now) (S.written src.now) dst.old dst.new 0 result }
+    ensures stops { result < length src.now → result < length dst.old → 0x80 ≤ slice_index (S.numbers src.now) result }
+{
+    let is_long = src.len() >= STRIDE && dst.len() >= STRIDE;
+    if is_long && <S as AsciiVectors<STRIDE, D>>::others(src, 0) != 0 {
+        return copy_last::<D, S>(src, dst, 0);
+    }
+    let by_blocks = copy_vectors::<N, D, S>(src, dst, 0);
+    let by_strides = copy_vectors::<STRIDE, D, S>(src, dst, by_blocks);
+    copy_last::<D, S>(src, dst, by_strides)
+}
+
+/// Copies bytes, N at a time, from a place on while they are ASCII, and returns where that ends.
+#[inline(always)]
+pub fn copy_ascii<const N: usize>(src: &[u8], dst: &mut [u8], from: usize) -> usize
+    requires { (from ≤ length src.now) × (from ≤ length dst.old) × (0 < N) × (N ≤ 64) }
+    ensures copies { CopiesAscii src.now src.now dst.old dst.new from result }
+    ensures stops { result + N ≤ length src.now → result + N ≤ length dst.old
+        → AllBelow 0x80 src.now result N → ⊥ }
+{
+    copy_vectors::<N, u8, u8>(src, dst, from)
+}
+
+/// Copies bytes, N at a time, from a place on as UTF-16 code units while they are ASCII, and returns where that ends.
+#[inline(always)]
+pub(crate) fn unpack_ascii<const N: usize>(src: &[u8], dst: &mut [u16], from: usize) -> usize
+    requires { (from ≤ length src.now) × (from ≤ length dst.old) × (0 < N) × (N ≤ 64) }
+    ensures copies { CopiesAscii src.now src.now dst.old dst.new from result }
+    ensures stops { result + N ≤ length src.now → result + N ≤ length dst.old
+        → AllBelow 0x80 src.now result N → ⊥ }
+{
+    copy_vectors::<N, u16, u8>(src, dst, from)
+}
+
+/// Copies UTF-16 code units, N at a time, from a place on as bytes while they are ASCII, and returns where that ends.
+#[inline(always)]
+pub(crate) fn pack_ascii<const N: usize>(src: &[u16], dst: &mut [u8], from: usize) -> usize
+    requires { (from ≤ length src.now) × (from ≤ length dst.old) × (0 < N) × (N ≤ 64) }
+    ensures copies { CopiesAscii src.now src.now dst.old dst.new from result }
+    ensures stops { result + N ≤ length src.now → result + N ≤ length dst.old
+        → AllBelow 0x80 src.now result N → ⊥ }
+{
+    copy_vectors::<N, u8, u16>(src, dst, from)
+}
+
+impl AsciiAs<u8> for u8 {
+    ghost numbers = { λ xs. xs };
+
+    ghost written = { λ xs. xs };
+
+    ghost as_many = { λ _. refl };
+
+    #[inline(always)]
+    fn write_first(src: &[u8], dst: &mut [u8], at: usize, count: usize) {
+        write_first(dst, at, u8x16::from_slice(&src[at..]), count);
+    }
+}
+
+impl AsciiAs<u16> for u8 {
+    ghost numbers = { λ xs. xs };
+
+    ghost written = { λ xs. xs };
+
+    ghost as_many = { λ _. refl };
+
+    #[inline(always)]
+    fn write_first(src: &[u8], dst: &mut [u16], at: usize, count: usize) {
+        write_first_units(dst, at, u8x16::from_slice(&src[at..]).cast::<u16>(), count);
+    }
+}
+
+impl AsciiAs<u8> for u16 {
+    ghost numbers = { λ xs. xs };
+
+    ghost written = { λ xs. xs };
+
+    ghost as_many = { λ _. refl };
+
+    #[inline(always)]
+    fn write_first(src: &[u16], dst: &mut [u8], at: usize, count: usize) {
+        let lower = u16x16::from_slice(&src[at..]) & u16x16::splat(0xFF);
+        write_first(dst, at, lower.cast::<u8>(), count);
+    }
+}
+
+impl<const N: usize> AsciiVectors<N, u8> for u8 {
+    #[inline(always)]
+    fn others(src: &[u8], at: usize) -> u64 {
+        let bytes = BytesBelow {
+            bytes: src,
+            bound: ASCII_END,
+        };
+        Places::<N>::failing(&bytes, at)
+    }
+
+    #[inline(always)]
+    fn write(src: &[u8], dst: &mut [u8], at: usize) {
+        copy::<N>(src, dst, at);
+    }
+}
+
+impl<const N: usize> AsciiVectors<N, u16> for u8 {
+    #[inline(always)]
+    fn others(src: &[u8], at: usize) -> u64 {
+        <u8 as AsciiVectors<N, u8>>::others(src, at)
+    }
+
+    #[inline(always)]
+    fn write(src: &[u8], dst: &mut [u16], at: usize) {
+        let units = Simd::<u8, N>::from_slice(&src[at..]).cast::<u16>();
+        units.copy_to_slice(&mut dst[at..]);
+    }
+}
+
+impl<const N: usize> AsciiVectors<N, u8> for u16 {
+    #[inline(always)]
+    fn others(src: &[u16], at: usize) -> u64 {
+        let units = UnitsBelow {
+            units: src,
+            bound: BASIC_LATIN_END,
+        };
+        Places::<N>::failing(&units, at)
+    }
+
+    #[inline(always)]
+    fn write(src: &[u16], dst: &mut [u8], at: usize) {
+        let bytes = Simd::<u16, N>::from_slice(&src[at..]).cast::<u8>();
+        bytes.copy_to_slice(&mut dst[at..]);
+    }
+}
