@@ -57,33 +57,25 @@ IsToldPiece (piece.Char c) told = (told.kind ≡ 1) × (told.character ≡ c) ×
 IsToldPiece (piece.Malformed k) told = (told.kind ≡ 2) × (told.character ≡ 0) × (told.malformed ≡ k)
 IsToldPiece piece.InputEmpty told = (told.kind ≡ 3) × (told.character ≡ 0) × (told.malformed ≡ 0)
 
--- A call of the decoder that lies in the storage: what holds of the pending bytes before it, of what ended it and of the
--- pending bytes after it.
-pub record DecoderCall (before after : EncodingUtf8Decoder) (result malformed : ℕ) (Says : List ℕ → DecoderResult → List ℕ → Type 0) : Type 0 where
+-- What is done in the storage of a decoder or an encoder, of whatever kind: what holds of what the storage stands for
+-- before it, of what was done and of what the storage stands for after it, and how what was done is told.
+pub record IsDone {Storage Done : Type 0} (Stands : Storage → List ℕ → Type 0) (AreTold : Done → Type 0) (before after : Storage) (Says : List ℕ → Done → List ℕ → Type 0) : Type 0 where
   pub p : List ℕ
-  pub ended : DecoderResult
+  pub done : Done
   pub q : List ℕ
-  pub stood : StandsFor before p
-  pub stands : StandsFor after q
-  pub told : IsTold ended result malformed
-  pub says : Says p ended q
+  pub stood : Stands before p
+  pub stands : Stands after q
+  pub told : AreTold done
+  pub says : Says p done q
 
--- The same of a borrowed call.
-pub record PieceCall (before after : EncodingUtf8Decoder) (numbers : EncodingPiece) (Says : List ℕ → Piece → List ℕ → Type 0) : Type 0 where
-  pub p : List ℕ
-  pub returned : Piece
-  pub q : List ℕ
-  pub stood : StandsFor before p
-  pub stands : StandsFor after q
-  pub told : IsToldPiece returned numbers
-  pub says : Says p returned q
+-- a call of the decoder
+abbrev pub DecoderCall : EncodingUtf8Decoder → EncodingUtf8Decoder → ℕ → ℕ → (List ℕ → DecoderResult → List ℕ → Type 0) → Type 0
+DecoderCall before after result malformed = IsDone StandsFor (λ ended. IsTold ended result malformed) before after
 
--- The same of an encoder and the units that it holds.
-pub record EncoderCall (before after : EncodingUtf8Encoder) (result : ℕ) (Says : List ℕ → EncoderResult → List ℕ → Type 0) : Type 0 where
-  pub held : List ℕ
-  pub ended : EncoderResult
-  pub later : List ℕ
-  pub stood : Holds before held
-  pub stands : Holds after later
-  pub told : IsToldEncoded ended result
-  pub says : Says held ended later
+-- a borrowed call
+abbrev pub PieceCall : EncodingUtf8Decoder → EncodingUtf8Decoder → EncodingPiece → (List ℕ → Piece → List ℕ → Type 0) → Type 0
+PieceCall before after numbers = IsDone StandsFor (λ returned. IsToldPiece returned numbers) before after
+
+-- a call of the encoder
+abbrev pub EncoderCall : EncodingUtf8Encoder → EncodingUtf8Encoder → ℕ → (List ℕ → EncoderResult → List ℕ → Type 0) → Type 0
+EncoderCall before after result = IsDone Holds (λ ended. IsToldEncoded ended result) before after

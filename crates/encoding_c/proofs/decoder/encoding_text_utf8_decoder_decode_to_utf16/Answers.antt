@@ -18,7 +18,7 @@ returns-clause-call c =
     let d = c.decoded.ensures in
     record {
       p = c.restored-inner.result;
-      ended = c.decode_to_utf16_raw-ended.result.0;
+      done = c.decode_to_utf16_raw-ended.result.0;
       q = c.decode_to_utf16_raw-ended.new.self;
       stood = c.restored-inner.ensures.stands;
       stands = c.stored.ensures;
