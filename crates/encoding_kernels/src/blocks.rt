@@ -1,161 +1,16 @@
-//! Well-formed UTF-8, by blocks of 64 and of sixteen bytes: Keiser and Lemire, "Validating UTF-8 In Less Than One
-//! Instruction Per Byte", with the bytes before by loads of their own, so that a block carries no state.
-ghost use Rattle.std.specs.Prelude.{◌≡◌, ℕ, ◌+◌, ◌<◌, ◌≤◌, ◌↔◌, length, take, slice_index, IsTrue};
+//! Well-formed UTF-8, by blocks of 64 bytes, and at most 64 bytes by two overlapping vectors.
+ghost use Rattle.std.specs.Prelude.{◌+◌, ◌<◌, ◌≤◌, length, take, IsTrue};
 ghost use Rattle.std.specs.Str.{IsUtf8};
-ghost use Rattle.encoding_kernels.specs.Following.{IsZeroTo, FollowTo, Follows, FollowsAt};
+ghost use Rattle.encoding_kernels.specs.Following.{FollowTo};
 ghost use Rattle.encoding_kernels.specs.Strides.{BelowBetween, BelowUpTo};
 
-use crate::places::skip;
-use crate::strides::{ASCII_END, BytesBelow, are_bytes_below};
-use std::simd::prelude::*;
-
-/// The faults that the upper half of the byte before leaves open, a bit each; twice, once for each sixteen lanes.
-const FIRST_HIGH: [u8; 32] = [
-    2, 2, 2, 2, 2, 2, 2, 2, 128, 128, 128, 128, 33, 1, 21, 73, 2, 2, 2, 2, 2, 2, 2, 2, 128, 128,
-    128, 128, 33, 1, 21, 73,
-];
-
-/// The faults that its lower half leaves open.
-const FIRST_LOW: [u8; 32] = [
-    231, 163, 131, 131, 139, 203, 203, 203, 203, 203, 203, 203, 203, 219, 203, 203, 231, 163, 131,
-    131, 139, 203, 203, 203, 203, 203, 203, 203, 203, 219, 203, 203,
-];
-
-/// The faults that the upper half of the byte itself leaves open.
-const SECOND_HIGH: [u8; 32] = [
-    1, 1, 1, 1, 1, 1, 1, 1, 230, 174, 186, 186, 1, 1, 1, 1, 1, 1, 1, 1, 1, 1, 1, 1, 230, 174, 186,
-    186, 1, 1, 1, 1,
-];
-
-/// Zero in each lane whose byte may stand behind the three before it.
-#[inline(always)]
-fn faults_of(fourth: u8x16, third: u8x16, second: u8x16, block: u8x16) -> u8x16
-    ensures length { length result ≡ 16 }
-    ensures lanes { (i : ℕ) → i < 16 → slice_index result i ≡ 0
-        → Follows (slice_index fourth i) (slice_index third i) (slice_index second i) (slice_index block i) }
-{
-    let four = u8x16::splat(4);
-    let pairs = u8x16::from_slice(&FIRST_HIGH).swizzle_dyn(second >> four)
-        & u8x16::from_slice(&FIRST_LOW).swizzle_dyn(second & u8x16::splat(15))
-        & u8x16::from_slice(&SECOND_HIGH).swizzle_dyn(block >> four);
-    let goes_on = third.saturating_sub(u8x16::splat(0x60))
-        | fourth.saturating_sub(u8x16::splat(0x70));
-    (goes_on & u8x16::splat(0x80)) ^ pairs
-}
-
-/// Zero in each of 32 lanes whose byte may stand behind the three before it.
-#[inline(always)]
-fn faults_of_32(fourth: u8x32, third: u8x32, second: u8x32, block: u8x32) -> u8x32
-    ensures length { length result ≡ 32 }
-    ensures lanes { (i : ℕ) → i < 32 → slice_index result i ≡ 0
-        → Follows (slice_index fourth i) (slice_index third i) (slice_index second i) (slice_index block i) }
-{
-    let four = u8x32::splat(4);
-    let pairs = u8x32::from_slice(&FIRST_HIGH).swizzle_dyn_within::<16>(second >> four)
-        & u8x32::from_slice(&FIRST_LOW).swizzle_dyn_within::<16>(second & u8x32::splat(15))
-        & u8x32::from_slice(&SECOND_HIGH).swizzle_dyn_within::<16>(block >> four);
-    let goes_on = third.saturating_sub(u8x32::splat(0x60))
-        | fourth.saturating_sub(u8x32::splat(0x70));
-    (goes_on & u8x32::splat(0x80)) ^ pairs
-}
-
-/// Zero in each lane whose byte, of the sixteen from `at` on, may stand behind the three before it.
-#[inline(always)]
-fn faults(src: &[u8], at: usize) -> u8x16
-    requires { (3 ≤ at) × (at + 16 ≤ length src.now) }
-    ensures length { length result ≡ 16 }
-    ensures lanes { (i : ℕ) → i < 16 → slice_index result i ≡ 0 → FollowsAt src.now (at + i) }
-{
-    faults_of(
-        u8x16::from_slice(&src[at - 3..]),
-        u8x16::from_slice(&src[at - 2..]),
-        u8x16::from_slice(&src[at - 1..]),
-        u8x16::from_slice(&src[at..]),
-    )
-}
-
-/// Zero in each lane whose byte, of the 32 from `at` on, may stand behind the three before it.
-#[inline(always)]
-fn faults_32(src: &[u8], at: usize) -> u8x32
-    requires { (3 ≤ at) × (at + 32 ≤ length src.now) }
-    ensures length { length result ≡ 32 }
-    ensures lanes { (i : ℕ) → i < 32 → slice_index result i ≡ 0 → FollowsAt src.now (at + i) }
-{
-    faults_of_32(
-        u8x32::from_slice(&src[at - 3..]),
-        u8x32::from_slice(&src[at - 2..]),
-        u8x32::from_slice(&src[at - 1..]),
-        u8x32::from_slice(&src[at..]),
-    )
-}
-
-/// Zero in each lane whose byte, of the first sixteen, may stand behind those before it.
-#[inline(always)]
-fn first_faults(src: &[u8]) -> u8x16
-    requires { 16 ≤ length src.now }
-    ensures length { length result ≡ 16 }
-    ensures lanes { (i : ℕ) → i < 16 → slice_index result i ≡ 0 → FollowsAt src.now i }
-{
-    let block = u8x16::from_slice(src);
-    let zero = u8x16::splat(0);
-    faults_of(
-        zero.shuffle(
-            block,
-            [
-                13, 14, 15, 16, 17, 18, 19, 20, 21, 22, 23, 24, 25, 26, 27, 28,
-            ],
-        ),
-        zero.shuffle(
-            block,
-            [
-                14, 15, 16, 17, 18, 19, 20, 21, 22, 23, 24, 25, 26, 27, 28, 29,
-            ],
-        ),
-        zero.shuffle(
-            block,
-            [
-                15, 16, 17, 18, 19, 20, 21, 22, 23, 24, 25, 26, 27, 28, 29, 30,
-            ],
-        ),
-        block,
-    )
-}
-
-/// Whether each lane is zero.
-#[inline(always)]
-fn is_zero(lanes: u8x32) -> bool
-    ensures { IsTrue result → IsZeroTo lanes 32 }
-{
-    lanes.simd_ne(u8x32::splat(0)).to_bitmask() == 0
-}
-
-/// How many lanes stand before the first that isn't zero.
-#[inline(always)]
-fn zeros(lanes: u8x16) -> usize
-    ensures within { result ≤ 16 }
-    ensures zeros { IsZeroTo lanes result }
-{
-    let bits = lanes.simd_ne(u8x16::splat(0)).to_bitmask();
-    if bits == 0 {
-        16
-    } else {
-        bits.trailing_zeros() as usize
-    }
-}
-
-/// How many of 32 lanes stand before the first that isn't zero.
-#[inline(always)]
-fn zeros_32(lanes: u8x32) -> usize
-    ensures within { result ≤ 32 }
-    ensures zeros { IsZeroTo lanes result }
-{
-    let bits = lanes.simd_ne(u8x32::splat(0)).to_bitmask();
-    if bits == 0 {
-        32
-    } else {
-        bits.trailing_zeros() as usize
-    }
-}
+use crate::faults::{faults, faults_32, first_faults, first_faults_32, is_zero, zeros, zeros_32};
+use crate::places::{all, skip};
+use crate::sequence::{begins_several, is_continuation};
+use crate::strides::{
+    ASCII_END, BLOCK, BytesBelow, FOUR_BLOCKS, are_bytes_below, front_behind_stride,
+    run_of_bytes_below,
+};
 
 /// How many of the 64 bytes from `at` on come before the first that may not stand behind the three before it.
 #[inline(always)]
@@ -174,6 +29,59 @@ fn clean_of_64(src: &[u8], at: usize) -> usize
         return clean;
     }
     32 + zeros_32(second)
+}
+
+/// The same of the 256 bytes from `at` on.
+#[inline(always)]
+fn clean_of_256(src: &[u8], at: usize) -> usize
+    requires { (3 ≤ at) × (at + 256 ≤ length src.now) }
+    ensures within { result ≤ 256 }
+    ensures follow { FollowTo src.now at → FollowTo src.now (at + result) }
+{
+    let mut blocks = 0;
+    while blocks < 4 {
+        let clean = clean_of_64(src, at + BLOCK * blocks);
+        if clean < 64 {
+            return BLOCK * blocks + clean;
+        }
+        blocks += 1;
+    }
+    256
+}
+
+/// How many bytes may each stand behind those before it, up to the first that may not or to the 64th.
+#[inline(always)]
+fn clean_of_first_64(src: &[u8]) -> usize
+    requires { 35 ≤ length src.now }
+    ensures within { result ≤ length src.now }
+    ensures follow { FollowTo src.now result }
+{
+    let last = (src.len() - 32).min(32);
+    let first = first_faults_32(src);
+    let second = faults_32(src, last);
+    if is_zero(first | second) {
+        return last + 32;
+    }
+    let clean = zeros_32(first);
+    if clean < 32 {
+        return clean;
+    }
+    last + zeros_32(second)
+}
+
+/// The same up to the 32nd, where there are sixteen.
+#[inline(always)]
+fn clean_of_first_32(src: &[u8]) -> usize
+    requires { 16 ≤ length src.now }
+    ensures within { result ≤ length src.now }
+    ensures follow { FollowTo src.now result }
+{
+    let clean = zeros(first_faults(src));
+    if clean < 16 || src.len() < 19 {
+        return clean;
+    }
+    let last = (src.len() - 16).min(16);
+    last + zeros(faults(src, last))
 }
 
 /// `at`, or the beginning of the character that is cut before it.
@@ -196,25 +104,18 @@ fn back(src: &[u8], at: usize) -> usize
     at
 }
 
-/// How many bytes from the beginning on may each stand behind those before it, where the first ones do.
-#[inline(never)]
-fn finish(src: &[u8], from: usize) -> usize
-    requires { (16 ≤ from) × (from ≤ length src.now) × FollowTo src.now from }
-    ensures { (result ≤ length src.now) × FollowTo src.now result }
+/// Whether each of the 256 bytes from `at` on is ASCII. Fewer among other characters aren't worth a branch that the text
+/// decides.
+#[inline(always)]
+fn are_256_ascii(src: &[u8], at: usize) -> bool
+    requires { (at + 256 ≤ length src.now) × (at + 256 < 18446744073709551616) }
+    ensures { IsTrue result → BelowBetween ASCII_END src.now at (at + 256) }
 {
-    let mut at = from;
-    while src.len() - at >= 16 {
-        let clean = zeros(faults(src, at));
-        if clean < 16 {
-            return at + clean;
-        }
-        at += 16;
-    }
-    if at == src.len() || src.len() < 19 {
-        return at;
-    }
-    let last = src.len() - 16;
-    last + zeros(faults(src, last))
+    let ascii = BytesBelow {
+        bytes: src,
+        bound: ASCII_END,
+    };
+    all::<BLOCK, FOUR_BLOCKS, _>(&ascii, at)
 }
 
 /// Goes from a place on by 64 bytes while they are ASCII, and returns where that ends. Out of line: what it sets up would
@@ -232,49 +133,132 @@ fn skip_ascii(src: &[u8], from: usize) -> usize
     skip::<64, 64, _>(&ascii, from)
 }
 
-/// How many bytes may each stand behind those before it, up to the first that may not, where an ASCII prefix ends at
-/// `front`. Out of line: where the loop lies, and so its speed, depends on no caller's code.
-#[inline(never)]
-fn following(src: &[u8], front: usize) -> usize
-    requires long { 16 ≤ length src.now }
-    requires ascii { (front ≤ length src.now) × BelowUpTo 0x80 src.now front }
+/// The same behind the first 64 bytes, by as many at a time. The last 64 may begin before `from`.
+#[inline(always)]
+fn finish(src: &[u8], from: usize) -> usize
+    requires { (64 ≤ from) × (from ≤ length src.now) × FollowTo src.now from }
     ensures { (result ≤ length src.now) × FollowTo src.now result }
 {
-    let mut at = front;
-    if at < 16 {
-        let clean = zeros(first_faults(src));
-        if clean < 16 {
-            return clean;
-        }
-        at = 16;
-    } else if src.len() - at >= 16 {
-        let clean = zeros(faults(src, at));
-        if clean < 16 {
-            return at + clean;
-        }
-        at += 16;
-    }
-    while src.len() - at >= 64 {
+    let mut at = from;
+    while src.len() - at >= BLOCK {
         let clean = clean_of_64(src, at);
-        if clean < 64 {
+        if clean < BLOCK {
             return at + clean;
         }
-        // tested last: a branch that is seldom taken at the loop's head can cost a third of its speed, by where it lies
-        let is_ascii = are_bytes_below::<64>(src, at, ASCII_END);
-        at += 64;
-        if is_ascii {
+        at += BLOCK;
+    }
+    if at == src.len() || src.len() < BLOCK + 3 {
+        return at;
+    }
+    let last = src.len() - BLOCK;
+    last + clean_of_64(src, last)
+}
+
+/// How many bytes may each stand behind those before it, where those before `from` do. Out of line: where the loop lies,
+/// and so its speed, depends on no caller's code.
+#[inline(never)]
+fn following(src: &[u8], from: usize) -> usize
+    requires long { 64 ≤ length src.now }
+    requires front { (from ≤ length src.now) × FollowTo src.now from }
+    ensures { (result ≤ length src.now) × FollowTo src.now result }
+{
+    let mut at = from;
+    if at < BLOCK {
+        at = clean_of_first_64(src);
+        if at < BLOCK {
+            return at;
+        }
+    }
+    while src.len() - at >= FOUR_BLOCKS {
+        let clean = clean_of_256(src, at);
+        if clean < FOUR_BLOCKS {
+            return at + clean;
+        }
+        at += FOUR_BLOCKS;
+        if are_256_ascii(src, at - FOUR_BLOCKS) {
             at = skip_ascii(src, at);
         }
     }
     finish(src, at)
 }
 
-/// The length of a well-formed prefix, by whole blocks, where the first bytes are ASCII.
+/// Whether all of at most 64 bytes are ASCII, by two loads.
 #[inline(always)]
-pub fn well_formed_blocks(src: &[u8], front: usize) -> usize
-    requires long { 16 ≤ length src.now }
-    requires ascii { (front ≤ length src.now) × BelowUpTo 0x80 src.now front }
+fn is_short_ascii(src: &[u8]) -> bool
+    requires { (16 ≤ length src.now) × (length src.now ≤ 64) }
+    ensures { IsTrue result → BelowUpTo ASCII_END src.now (length src.now) }
+{
+    let length = src.len();
+    if length >= 32 {
+        are_bytes_below::<32>(src, 0, ASCII_END)
+            & are_bytes_below::<32>(src, length - 32, ASCII_END)
+    } else {
+        are_bytes_below::<16>(src, 0, ASCII_END)
+            & are_bytes_below::<16>(src, length - 16, ASCII_END)
+    }
+}
+
+/// The length of the ASCII prefix. One mask finds its end among the first 64 bytes, without a branch that the text decides.
+#[inline(always)]
+fn ascii_front(src: &[u8]) -> usize
+    requires { 64 ≤ length src.now }
+    ensures within { result ≤ length src.now }
+    ensures below { BelowUpTo ASCII_END src.now result }
+{
+    let run = run_of_bytes_below::<BLOCK>(src, 0, ASCII_END);
+    if run < BLOCK {
+        return run;
+    }
+    front_behind_stride(src, ASCII_END)
+}
+
+/// Whether two bytes show that no character of several bytes begins there.
+#[inline(always)]
+fn is_broken(bytes: &[u8]) -> bool {
+    bytes.len() < 2 || !begins_several(bytes[0]) || !is_continuation(bytes[1])
+}
+
+/// The length of a well-formed prefix of at most 64 bytes.
+#[inline(always)]
+fn well_formed_short(src: &[u8]) -> usize
+    requires { (16 ≤ length src.now) × (length src.now ≤ 64) }
     ensures { (result ≤ length src.now) × IsUtf8 (take result src.now) }
 {
-    back(src, following(src, front))
+    if is_short_ascii(src) {
+        return src.len();
+    }
+    let clean = if src.len() >= 35 {
+        clean_of_first_64(src)
+    } else {
+        clean_of_first_32(src)
+    };
+    back(src, clean)
+}
+
+/// The length of a well-formed prefix of at least 64 bytes.
+#[inline(always)]
+fn well_formed_long(src: &[u8]) -> usize
+    requires { 64 ≤ length src.now }
+    ensures { (result ≤ length src.now) × IsUtf8 (take result src.now) }
+{
+    let front = ascii_front(src);
+    // broken bytes often stand together, and a block costs more than two bytes
+    if front == src.len() || is_broken(&src[front..]) {
+        return front;
+    }
+    // from a multiple of 64 on, so that the length alone decides how often the loops go round
+    back(src, following(src, front / BLOCK * BLOCK))
+}
+
+/// The length of a well-formed prefix, by whole blocks.
+#[inline(always)]
+pub fn well_formed_blocks(src: &[u8]) -> usize
+    requires long { 16 ≤ length src.now }
+    ensures { (result ≤ length src.now) × IsUtf8 (take result src.now) }
+{
+    if src.len() <= BLOCK {
+        well_formed_short(src)
+    } else {
+        well_formed_long(src)
+    }
 }

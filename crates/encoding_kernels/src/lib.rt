@@ -10,6 +10,7 @@ mod compress_units;
 mod decode_lanes;
 pub mod encode_lanes;
 mod encode_units;
+mod faults;
 pub mod lengths;
 pub mod pair_blocks;
 mod places;

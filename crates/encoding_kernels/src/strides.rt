@@ -17,7 +17,7 @@ use std::simd::prelude::*;
 pub const BLOCK: usize = 64;
 
 /// The bytes of four blocks.
-const FOUR_BLOCKS: usize = 256;
+pub(crate) const FOUR_BLOCKS: usize = 256;
 
 /// The bytes of eight blocks.
 const EIGHT_BLOCKS: usize = 512;

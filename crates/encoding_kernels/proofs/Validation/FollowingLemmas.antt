@@ -5,7 +5,7 @@ use Rattle.std.proofs.lemmas.Bool.{cases_lt}
 use Rattle.std.proofs.lemmas.Bool.Decides.{nat_tests}
 use Rattle.std.proofs.lemmas.Str.{IsUtf8-nil}
 use Rattle.std.proofs.Math.Seq.{drop-cons}
-use Rattle.std.proofs.lemmas.List.{get_or-drop, get_or-take, length-append, length-take}
+use Rattle.std.proofs.lemmas.List.{get_or-drop, get_or-take, length-append, length-replicate, length-take}
 use Rattle.std.proofs.lemmas.Simd.{get_or-chunk, pick_l-range_with_len}
 use Rattle.std.specs.List.{range_with_len}
 use lib.Lanes.{chunk, pick_l}
@@ -131,38 +131,38 @@ FollowsAt-loads n bs at i h l f =
     moved x y a b f
 
 -- lanes of a first load, with zeros before it
-abbrev pub shifted : List ℕ → ℕ → List ℕ
-shifted bs k = pick_l 0 (replicate 16 0 ++ take 16 bs) (range_with_len k 16)
+abbrev pub shifted : ℕ → List ℕ → ℕ → List ℕ
+shifted n bs k = pick_l 0 (replicate n 0 ++ take n bs) (range_with_len k n)
 
-shifted_at : (bs : List ℕ) (k i : ℕ) → k ≤ 16 → 16 ≤ length bs → i < 16 → get_or (shifted bs k) i 0 ≡ get_or (drop k (replicate 16 0 ++ take 16 bs)) i 0
-shifted_at bs k i h long l =
-    let all = replicate 16 0 ++ take 16 bs in
-    let room : k + 16 ≤ length all = omega (arith, length-append (replicate 16 0) (take 16 bs), length-take 16 bs) in
-    ap (λ xs. get_or xs i 0) (pick_l-range_with_len 0 all k 16 room) ∙ get_or-chunk k 16 all i 0 l ∙ sym (get_or-drop k all i 0)
+-- the lanes as long as the zeros: so many of these stay
+module _ (n : ℕ) (bs : List ℕ) (long : n ≤ length bs) where
+  shifted_at : (k i : ℕ) → k ≤ n → i < n → get_or (shifted n bs k) i 0 ≡ get_or (drop k (replicate n 0 ++ take n bs)) i 0
+  shifted_at k i h l =
+      let all = replicate n 0 ++ take n bs in
+      let room : k + n ≤ length all = omega (arith, length-append (replicate n 0) (take n bs), length-replicate {A = ℕ} n 0, length-take n bs) in
+      ap (λ xs. get_or xs i 0) (pick_l-range_with_len 0 all k n room) ∙ get_or-chunk k n all i 0 l ∙ sym (get_or-drop k all i 0)
 
--- bytes behind zeros, in a front and in the whole
-front_zero : (bs : List ℕ) (i : ℕ) → i < 16 → get_or (take 16 bs) i 0 ≡ get_or bs i 0
-front_zero bs i l = get_or-take 16 bs i 0 l
+  -- bytes behind zeros, in a front and in the whole
+  front_one : (i : ℕ) → i < n → get_or (0 ∷ take n bs) i 0 ≡ get_or (0 ∷ bs) i 0
+  front_one zero l = refl
+  front_one (suc i) l = get_or-take n bs i 0 (omega arith)
 
-front_one : (bs : List ℕ) (i : ℕ) → i < 16 → get_or (0 ∷ take 16 bs) i 0 ≡ get_or (0 ∷ bs) i 0
-front_one bs zero l = refl
-front_one bs (suc i) l = front_zero bs i (omega arith)
+  front_two : (i : ℕ) → i < n → get_or (0 ∷ 0 ∷ take n bs) i 0 ≡ get_or (0 ∷ 0 ∷ bs) i 0
+  front_two zero l = refl
+  front_two (suc i) l = front_one i (omega arith)
 
-front_two : (bs : List ℕ) (i : ℕ) → i < 16 → get_or (0 ∷ 0 ∷ take 16 bs) i 0 ≡ get_or (0 ∷ 0 ∷ bs) i 0
-front_two bs zero l = refl
-front_two bs (suc i) l = front_one bs i (omega arith)
+  front_three : (i : ℕ) → i < n → get_or (0 ∷ 0 ∷ 0 ∷ take n bs) i 0 ≡ get_or (0 ∷ 0 ∷ 0 ∷ bs) i 0
+  front_three zero l = refl
+  front_three (suc i) l = front_two i (omega arith)
 
-front_three : (bs : List ℕ) (i : ℕ) → i < 16 → get_or (0 ∷ 0 ∷ 0 ∷ take 16 bs) i 0 ≡ get_or (0 ∷ 0 ∷ 0 ∷ bs) i 0
-front_three bs zero l = refl
-front_three bs (suc i) l = front_two bs i (omega arith)
-
-pub FollowsAt-first : (bs : List ℕ) (i : ℕ) → 16 ≤ length bs → i < 16 → Follows (get_or (shifted bs 13) i 0) (get_or (shifted bs 14) i 0) (get_or (shifted bs 15) i 0) (get_or (take 16 bs) i 0) → FollowsAt bs i
-FollowsAt-first bs i long l f =
-    let x : get_or (shifted bs 13) i 0 ≡ get_or (0 ∷ 0 ∷ 0 ∷ bs) i 0 = shifted_at bs 13 i (omega arith) long l ∙ front_three bs i l in
-    let y : get_or (shifted bs 14) i 0 ≡ get_or (0 ∷ 0 ∷ bs) i 0 = shifted_at bs 14 i (omega arith) long l ∙ front_two bs i l in
-    let a : get_or (shifted bs 15) i 0 ≡ get_or (0 ∷ bs) i 0 = shifted_at bs 15 i (omega arith) long l ∙ front_one bs i l in
-    let b : get_or (take 16 bs) i 0 ≡ get_or bs i 0 = front_zero bs i l in
-    moved x y a b f
+  pub FollowsAt-first : (three two one i : ℕ) → (three ≤ n) × (two ≤ n) × (one ≤ n) → drop three (replicate n 0 ++ take n bs) ≡ 0 ∷ 0 ∷ 0 ∷ take n bs
+      → drop two (replicate n 0 ++ take n bs) ≡ 0 ∷ 0 ∷ take n bs → drop one (replicate n 0 ++ take n bs) ≡ 0 ∷ take n bs → i < n
+      → Follows (get_or (shifted n bs three) i 0) (get_or (shifted n bs two) i 0) (get_or (shifted n bs one) i 0) (get_or (take n bs) i 0) → FollowsAt bs i
+  FollowsAt-first three two one i few e3 e2 e1 l f =
+      let x = shifted_at three i few.0 l ∙ ap (λ xs. get_or xs i 0) e3 ∙ front_three i l in
+      let y = shifted_at two i few.1 l ∙ ap (λ xs. get_or xs i 0) e2 ∙ front_two i l in
+      let a = shifted_at one i few.2 l ∙ ap (λ xs. get_or xs i 0) e1 ∙ front_one i l in
+      moved x y a (get_or-take n bs i 0 l) f
 
 -- ---- further
 pub FollowTo-more : (bs : List ℕ) (at n : ℕ) → FollowTo bs at → ((i : ℕ) → i < n → FollowsAt bs (at + i)) → FollowTo bs (at + n)
@@ -258,3 +258,8 @@ IsUtf8_closed bs n within f c = IsUtf8_following bs n within c n 0 (omega arith)
 -- before the first byte of a character
 pub IsUtf8_before : (bs : List ℕ) (n i : ℕ) → n ≤ length bs → i < n → FollowTo bs n → 0xC0 ≤ get_or bs i 0 → IsUtf8 (take i bs)
 IsUtf8_before bs n i within l f h = IsUtf8_closed bs i (omega arith) (FollowTo-less bs n i (omega arith) f) (closed_before bs i (f.each i l) h)
+
+-- a front of ASCII
+pub IsUtf8-ascii_front : (bs : List ℕ) (n : ℕ) → n ≤ length bs → ((i : ℕ) → i < n → get_or bs i 0 < 0x80) → IsUtf8 (take n bs)
+IsUtf8-ascii_front bs n within ascii =
+    IsUtf8_closed bs n within (FollowTo-ascii_front bs n ascii) (IsClosedAt-ascii bs 0 n (omega arith) (IsClosedAt-start bs) (record { each = λ i _ l. ascii i l }))

@@ -3,7 +3,7 @@ use Rattle.std.proofs.Common.{◌≡◌, ℕ, zero, suc, ◌+◌, ◌-◌, ◌*�
 use Rattle.std.proofs.lemmas.Bool.{and_parts, cases_lt, true≢false}
 use Rattle.std.proofs.lemmas.Bool.Decides.{nat_tests, Decides-below_and}
 use Rattle.std.proofs.lemmas.Nat.Bits.{and_pow, bit_at_or}
-use Rattle.encoding_kernels.specs.declared.blocks.TheConstants.{FIRST_HIGH, FIRST_LOW, SECOND_HIGH}
+use Rattle.encoding_kernels.specs.declared.faults.TheConstants.{FIRST_HIGH, FIRST_LOW, SECOND_HIGH}
 use Rattle.encoding_kernels.specs.Following.{Follows}
 use Rattle.encoding_definitions.specs.Sequence.{IsContinuation, IsSecond}
 use Rattle.encoding_definitions.proofs.Sequences.SequenceLemmas.{is_second}

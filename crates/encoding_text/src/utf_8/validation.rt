@@ -8,7 +8,7 @@ ghost use Rattle.encoding_definitions.specs.Fronts.{IsLongestFront};
 use crate::ascii::ascii_valid_up_to;
 use crate::utf_8::table::{UTF8_DATA, law_table};
 use encoding_kernels::blocks::well_formed_blocks;
-use encoding_kernels::sequence::{begins_several, is_continuation, is_second};
+use encoding_kernels::sequence::{is_continuation, is_second};
 use encoding_kernels::strides::ASCII_END;
 
 /// Whether three bytes are one character, for a first byte that begins neither one, two nor four.
@@ -90,16 +90,6 @@ pub fn character_length(bytes: &[u8]) -> Option<usize>
     Some(4)
 }
 
-/// Whether two bytes show that no character begins there, where the first isn't ASCII.
-#[inline(always)]
-fn is_broken(bytes: &[u8]) -> bool
-    requires some { 0 < length bytes.now }
-    requires lead { 0x80 ≤ slice_index bytes.now 0 }
-    ensures { IsTrue result → BeginsWithNoCharacter bytes.now }
-{
-    bytes.len() < 2 || !begins_several(bytes[0]) || !is_continuation(bytes[1])
-}
-
 /// The length in bytes of the longest prefix of `src` that is well-formed UTF-8: the place of the first byte
 /// that no character takes, or the length of `src`.
 ///
@@ -111,15 +101,7 @@ pub fn utf8_valid_up_to(src: &[u8]) -> usize
 {
     let mut at = 0;
     if src.len() >= 16 {
-        at = ascii_valid_up_to(src);
-        if at == src.len() {
-            return at;
-        }
-        // broken bytes often stand together, and a block costs more than two bytes
-        if is_broken(&src[at..]) {
-            return at;
-        }
-        at = well_formed_blocks(src, at);
+        at = well_formed_blocks(src);
     } else if src.len() >= 8 && src[0] < ASCII_END {
         at = ascii_valid_up_to(src);
     }

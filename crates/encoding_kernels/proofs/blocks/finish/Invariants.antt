@@ -4,7 +4,7 @@ use Rattle.encoding_kernels.proofs.blocks.finish.Given as goal
 
 abbrev pub invariant-loop-at : goal.invariant-loop-at
 invariant-loop-at l = record {
-  started : 16 ≤ l.at;
+  started : 64 ≤ l.at;
   within : l.at ≤ length l.src;
   front : FollowTo l.src l.at;
 }

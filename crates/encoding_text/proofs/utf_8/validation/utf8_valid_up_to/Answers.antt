@@ -1,36 +1,15 @@
-use Rattle.std.proofs.Common.{arith, add-zero}
-use Rattle.std.proofs.lemmas.List.{take_rest, length-drop, get_or-drop}
+use Rattle.std.proofs.Common.{arith}
+use Rattle.std.proofs.lemmas.List.{take_rest, length-drop}
 use Rattle.std.proofs.lemmas.Str.{IsUtf8-nil, IsUtf8-from_ascii}
-use Rattle.encoding_kernels.proofs.Latin.AsciiLemmas.{below_front, not_ascii_behind}
 use Rattle.encoding_definitions.proofs.LongestFronts.Utf8Lemmas.{IsUtf8_more, IsLongestFront-utf8}
 use Rattle.encoding_text.proofs.utf_8.validation.utf8_valid_up_to.Goals as goal
-use Rattle.encoding_text.proofs.utf_8.validation.utf8_valid_up_to.Goals.{then-src-ge16+else-at-src+else-is_broken, else-src-ge16+then-src-ge8+then-src-lt-ASCII_END, else-src-ge16+else-src-ge8}
-
-pub returns-then-at-src : goal.returns-then-at-src
-returns-then-at-src c = record {
-  within = omega arith;
-  kind = IsUtf8-from_ascii _ c.ascii_valid_up_to-at.ensures.kind;
-  longest = λ m h _. omega arith;
-}
-
-pub is_broken-requires-clause-lead : goal.is_broken-requires-clause-lead
-is_broken-requires-clause-lead c =
-    let behind = not_ascii_behind _ _ c.ascii_valid_up_to-at.ensures (omega (arith, c.if-at-src.false, c.ascii_valid_up_to-at.ensures.within)) in
-    rw (take_rest, get_or-drop, add-zero) behind
-
-pub well_formed_blocks-at-requires-clause-ascii : goal.well_formed_blocks-at-requires-clause-ascii
-well_formed_blocks-at-requires-clause-ascii c = (c.ascii_valid_up_to-at.ensures.within, below_front _ _ c.ascii_valid_up_to-at.ensures)
-
-pub returns-then-is_broken : goal.returns-then-is_broken
-returns-then-is_broken c =
-    let front = c.ascii_valid_up_to-at.ensures in
-    IsLongestFront-utf8 _ _ front.within (IsUtf8-from_ascii _ front.kind) (rw take_rest at (c.is_broken.ensures c.if-is_broken.true))
+use Rattle.encoding_text.proofs.utf_8.validation.utf8_valid_up_to.Goals.{then-src-ge16, else-src-ge16+then-src-ge8+then-src-lt-ASCII_END, else-src-ge16+else-src-ge8}
 
 pub loop-at-init : goal.loop-at-init
 loop-at-init c = elim c.if-src-ge16.branch [
-  | then-src-ge16+else-at-src+else-is_broken w ↦ rw w.at-is (record { within = w.well_formed_blocks-at.ensures.0; text = w.well_formed_blocks-at.ensures.1 })
+  | then-src-ge16 w ↦ rw w.at-is (record { within = w.well_formed_blocks-at.ensures.0; text = w.well_formed_blocks-at.ensures.1 })
   | else-src-ge16+then-src-ge8+then-src-lt-ASCII_END w ↦
-      let front = w.ascii_valid_up_to-at-then-src-lt-ASCII_END in
+      let front = w.ascii_valid_up_to-at in
       rw w.at-is (record { within = front.ensures.within; text = IsUtf8-from_ascii _ front.ensures.kind })
   | else-src-ge16+else-src-ge8 w ↦ rw w.at-is (record { within = omega arith; text = IsUtf8-nil })
 ]

@@ -1,0 +1,189 @@
+//! The bytes of UTF-8 that may not stand behind those before them, found by vectors: Keiser and Lemire, "Validating UTF-8 In
+//! Less Than One Instruction Per Byte", with the bytes before by loads of their own, so that a block carries no state.
+ghost use Rattle.std.specs.Prelude.{◌≡◌, ℕ, ◌+◌, ◌<◌, ◌≤◌, length, slice_index, IsTrue};
+ghost use Rattle.encoding_kernels.specs.Following.{IsZeroTo, Follows, FollowsAt};
+
+use std::simd::prelude::*;
+
+/// The faults that the upper half of the byte before leaves open, a bit each; twice, once for each sixteen lanes.
+const FIRST_HIGH: [u8; 32] = [
+    2, 2, 2, 2, 2, 2, 2, 2, 128, 128, 128, 128, 33, 1, 21, 73, 2, 2, 2, 2, 2, 2, 2, 2, 128, 128,
+    128, 128, 33, 1, 21, 73,
+];
+
+/// The faults that its lower half leaves open.
+const FIRST_LOW: [u8; 32] = [
+    231, 163, 131, 131, 139, 203, 203, 203, 203, 203, 203, 203, 203, 219, 203, 203, 231, 163, 131,
+    131, 139, 203, 203, 203, 203, 203, 203, 203, 203, 219, 203, 203,
+];
+
+/// The faults that the upper half of the byte itself leaves open.
+const SECOND_HIGH: [u8; 32] = [
+    1, 1, 1, 1, 1, 1, 1, 1, 230, 174, 186, 186, 1, 1, 1, 1, 1, 1, 1, 1, 1, 1, 1, 1, 230, 174, 186,
+    186, 1, 1, 1, 1,
+];
+
+/// Zero in each lane whose byte may stand behind the three before it.
+#[inline(always)]
+fn faults_of(fourth: u8x16, third: u8x16, second: u8x16, block: u8x16) -> u8x16
+    ensures length { length result ≡ 16 }
+    ensures lanes { (i : ℕ) → i < 16 → slice_index result i ≡ 0
+        → Follows (slice_index fourth i) (slice_index third i) (slice_index second i) (slice_index block i) }
+{
+    let four = u8x16::splat(4);
+    let pairs = u8x16::from_slice(&FIRST_HIGH).swizzle_dyn(second >> four)
+        & u8x16::from_slice(&FIRST_LOW).swizzle_dyn(second & u8x16::splat(15))
+        & u8x16::from_slice(&SECOND_HIGH).swizzle_dyn(block >> four);
+    let goes_on = third.saturating_sub(u8x16::splat(0x60))
+        | fourth.saturating_sub(u8x16::splat(0x70));
+    (goes_on & u8x16::splat(0x80)) ^ pairs
+}
+
+/// Zero in each of 32 lanes whose byte may stand behind the three before it.
+#[inline(always)]
+fn faults_of_32(fourth: u8x32, third: u8x32, second: u8x32, block: u8x32) -> u8x32
+    ensures length { length result ≡ 32 }
+    ensures lanes { (i : ℕ) → i < 32 → slice_index result i ≡ 0
+        → Follows (slice_index fourth i) (slice_index third i) (slice_index second i) (slice_index block i) }
+{
+    let four = u8x32::splat(4);
+    let pairs = u8x32::from_slice(&FIRST_HIGH).swizzle_dyn_within::<16>(second >> four)
+        & u8x32::from_slice(&FIRST_LOW).swizzle_dyn_within::<16>(second & u8x32::splat(15))
+        & u8x32::from_slice(&SECOND_HIGH).swizzle_dyn_within::<16>(block >> four);
+    let goes_on = third.saturating_sub(u8x32::splat(0x60))
+        | fourth.saturating_sub(u8x32::splat(0x70));
+    (goes_on & u8x32::splat(0x80)) ^ pairs
+}
+
+/// Zero in each lane whose byte, of the sixteen from `at` on, may stand behind the three before it.
+#[inline(always)]
+pub(crate) fn faults(src: &[u8], at: usize) -> u8x16
+    requires { (3 ≤ at) × (at + 16 ≤ length src.now) }
+    ensures length { length result ≡ 16 }
+    ensures lanes { (i : ℕ) → i < 16 → slice_index result i ≡ 0 → FollowsAt src.now (at + i) }
+{
+    faults_of(
+        u8x16::from_slice(&src[at - 3..]),
+        u8x16::from_slice(&src[at - 2..]),
+        u8x16::from_slice(&src[at - 1..]),
+        u8x16::from_slice(&src[at..]),
+    )
+}
+
+/// Zero in each lane whose byte, of the 32 from `at` on, may stand behind the three before it.
+#[inline(always)]
+pub(crate) fn faults_32(src: &[u8], at: usize) -> u8x32
+    requires { (3 ≤ at) × (at + 32 ≤ length src.now) }
+    ensures length { length result ≡ 32 }
+    ensures lanes { (i : ℕ) → i < 32 → slice_index result i ≡ 0 → FollowsAt src.now (at + i) }
+{
+    faults_of_32(
+        u8x32::from_slice(&src[at - 3..]),
+        u8x32::from_slice(&src[at - 2..]),
+        u8x32::from_slice(&src[at - 1..]),
+        u8x32::from_slice(&src[at..]),
+    )
+}
+
+/// Zero in each lane whose byte, of the first sixteen, may stand behind those before it.
+#[inline(always)]
+pub(crate) fn first_faults(src: &[u8]) -> u8x16
+    requires { 16 ≤ length src.now }
+    ensures length { length result ≡ 16 }
+    ensures lanes { (i : ℕ) → i < 16 → slice_index result i ≡ 0 → FollowsAt src.now i }
+{
+    let block = u8x16::from_slice(src);
+    let zero = u8x16::splat(0);
+    faults_of(
+        zero.shuffle(
+            block,
+            [
+                13, 14, 15, 16, 17, 18, 19, 20, 21, 22, 23, 24, 25, 26, 27, 28,
+            ],
+        ),
+        zero.shuffle(
+            block,
+            [
+                14, 15, 16, 17, 18, 19, 20, 21, 22, 23, 24, 25, 26, 27, 28, 29,
+            ],
+        ),
+        zero.shuffle(
+            block,
+            [
+                15, 16, 17, 18, 19, 20, 21, 22, 23, 24, 25, 26, 27, 28, 29, 30,
+            ],
+        ),
+        block,
+    )
+}
+
+/// Zero in each lane whose byte, of the first 32, may stand behind those before it.
+#[inline(always)]
+pub(crate) fn first_faults_32(src: &[u8]) -> u8x32
+    requires { 32 ≤ length src.now }
+    ensures length { length result ≡ 32 }
+    ensures lanes { (i : ℕ) → i < 32 → slice_index result i ≡ 0 → FollowsAt src.now i }
+{
+    let block = u8x32::from_slice(src);
+    let zero = u8x32::splat(0);
+    faults_of_32(
+        zero.shuffle(
+            block,
+            [
+                29, 30, 31, 32, 33, 34, 35, 36, 37, 38, 39, 40, 41, 42, 43, 44, 45, 46, 47, 48, 49,
+                50, 51, 52, 53, 54, 55, 56, 57, 58, 59, 60,
+            ],
+        ),
+        zero.shuffle(
+            block,
+            [
+                30, 31, 32, 33, 34, 35, 36, 37, 38, 39, 40, 41, 42, 43, 44, 45, 46, 47, 48, 49, 50,
+                51, 52, 53, 54, 55, 56, 57, 58, 59, 60, 61,
+            ],
+        ),
+        zero.shuffle(
+            block,
+            [
+                31, 32, 33, 34, 35, 36, 37, 38, 39, 40, 41, 42, 43, 44, 45, 46, 47, 48, 49, 50, 51,
+                52, 53, 54, 55, 56, 57, 58, 59, 60, 61, 62,
+            ],
+        ),
+        block,
+    )
+}
+
+/// Whether each lane is zero.
+#[inline(always)]
+pub(crate) fn is_zero(lanes: u8x32) -> bool
+    ensures { IsTrue result → IsZeroTo lanes 32 }
+{
+    lanes.simd_ne(u8x32::splat(0)).to_bitmask() == 0
+}
+
+/// How many lanes stand before the first that isn't zero.
+#[inline(always)]
+pub(crate) fn zeros(lanes: u8x16) -> usize
+    ensures within { result ≤ 16 }
+    ensures zeros { IsZeroTo lanes result }
+{
+    let bits = lanes.simd_ne(u8x16::splat(0)).to_bitmask();
+    if bits == 0 {
+        16
+    } else {
+        bits.trailing_zeros() as usize
+    }
+}
+
+/// How many of 32 lanes stand before the first that isn't zero.
+#[inline(always)]
+pub(crate) fn zeros_32(lanes: u8x32) -> usize
+    ensures within { result ≤ 32 }
+    ensures zeros { IsZeroTo lanes result }
+{
+    let bits = lanes.simd_ne(u8x32::splat(0)).to_bitmask();
+    if bits == 0 {
+        32
+    } else {
+        bits.trailing_zeros() as usize
+    }
+}
