@@ -1,15 +1,18 @@
 -- The front of a source, repaired into an array step by step, and written then.
-use Rattle.std.proofs.Common.{◌≡◌, ℕ, ◌+◌, ◌<◌, ◌≤◌, Bool, false, inl, List, [], ◌∷◌, ◌++◌, length, take, drop, slice_index, Option, encode_utf8, refl, sym, ap, ◌∙◌, arith, subst}
+use Rattle.std.proofs.Common.{◌≡◌, ℕ, ◌+◌, ◌<◌, ◌≤◌, Bool, false, inl, List, [], ◌∷◌, ◌++◌, length, take, drop, slice_index, Option, encode_utf8, encode_utf8_all, map, add-zero, refl, sym, ap, ◌∙◌, arith, subst}
 use Rattle.std.specs.Io.KnownBytes.{Appends}
 use Rattle.std.proofs.KnownBytes.{Appends-trans}
-use Rattle.std.proofs.lemmas.List.{append-nil, append_assoc, drop-drop, drop-append-le, drop_more, length-append, length-drop, length-take, take-append-drop, take-append-le}
+use Rattle.std.proofs.lemmas.List.{append-nil, append_assoc, drop-drop, drop-append-le, drop_more, length-append, length-drop, length-take, take-append-drop, take-append-le, take-take}
 use Rattle.std.proofs.Math.Seq.{take-append-add, take-append_seam}
 use borrow.Rule.Slice.PartMut.{put_mid, post_of}
 use Rattle.std.specs.Char.{IsScalar}
+use Rattle.std.proofs.lemmas.Str.{IsUtf8-from_ascii}
 use Rattle.encoding_definitions.proofs.Sequences.SequenceLemmas.{IsSequence-HasShape}
 use Rattle.encoding_definitions.proofs.Sequences.EncodingLemmas.{scalar_of_sequence}
-use Rattle.encoding_definitions.specs.Parts.{Part, Character, repaired_text}
-use Rattle.encoding_definitions.proofs.Decomposition.DecompositionLemmas.{StartsWith-one, repaired_text-append, count_broken-append, count_broken-bytes}
+use Rattle.encoding_definitions.specs.Parts.{Part, Character, StartsWith, repaired_text}
+use Rattle.encoding_definitions.proofs.Decomposition.DecompositionLemmas.{StartsWith-characters, StartsWith-one, repaired_text-append, repaired_text-characters, count_broken-append, count_broken-bytes, count_broken-characters}
+use Rattle.encoding_kernels.specs.Strides.{BelowUpTo}
+use Rattle.encoding_kernels.proofs.Latin.AsciiLemmas.{Each-take}
 use Rattle.encoding_text.specs.Decoding.{IsBroken, IsBorrowedCall}
 use Rattle.encoding_text.specs.declared.decoder.Piece.{Piece}
 use Rattle.encoding_text.specs.declared.decoder.Piece.TheVariants.{Text, Char, Malformed, InputEmpty}
@@ -53,6 +56,11 @@ first_behind src array tail k read written n more_read more_written m r s = reco
 
     size : length front ≡ written
     size = omega (arith, length-take written array, r.fits)
+
+-- characters alone behind it
+pub text_behind : (src array tail : List ℕ) (k read written n more more_written : ℕ) → RepairsFirst src array read written n → RepairsFirst (drop read src) tail more more_written 0
+    → RepairsFirst src (put_mid written k array tail) (read + more) (written + more_written) n
+text_behind src array tail k read written n more more_written r s = rw (add-zero n) at (first_behind src array tail k read written n more more_written 0 r s)
 
 -- ---- one step
 -- what stands at the front of the array
@@ -98,6 +106,25 @@ lone_first src array rest some broken placed = record {
 
     g : GivesPiece [] src false (Malformed 1) 1 []
     g = piece_gives [] src false (Malformed 1) 1 [] call
+
+-- the ASCII bytes before a place, of those that were copied
+pub ascii_copied : (src array rest : List ℕ) (n m : ℕ) → n ≤ m → m ≤ length src → BelowUpTo 0x80 src n → array ≡ take m src ++ rest → RepairsFirst src array n n 0
+ascii_copied src array rest n m short within below placed =
+    let (cs, (h, e)) = IsUtf8-from_ascii (take n src) (Each-take (λ b. b < 0x80) (omega arith) src n below) in
+    let whole : encode_utf8_all cs ++ drop n src ≡ src = ap (λ xs. xs ++ drop n src) e ∙ take-append-drop n src in
+    record {
+      parts = map Character cs;
+      first = record {
+        starts = subst (λ xs. StartsWith xs (map Character cs) (drop n src)) whole (StartsWith-characters cs (drop n src) h);
+        whatever_follows = λ _ more.
+            subst (λ xs. StartsWith xs (map Character cs) (drop n src ++ more)) (sym (append_assoc (encode_utf8_all cs) (drop n src) more) ∙ ap (λ xs. xs ++ more) whole)
+            (StartsWith-characters cs (drop n src ++ more) h);
+      };
+      within = omega (arith, short, within);
+      fits = omega (arith, ap length placed, length-append (take m src) rest, length-take m src, short, within);
+      text = ap (take n) placed ∙ take-append-le n (take m src) rest (omega (arith, length-take m src, short, within)) ∙ take-take n m src short ∙ sym e ∙ sym (repaired_text-characters cs);
+      broken = sym (count_broken-characters cs);
+    }
 
 -- a piece of the first bytes
 window_first : (bs more : List ℕ) (parts : List Part) (rest : List ℕ) → AreFirst false bs parts rest → AreFirst false (bs ++ more) parts (rest ++ more)

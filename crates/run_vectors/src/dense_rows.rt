@@ -141,3 +141,25 @@ fn repairs_broken_bytes_alone(rt: HostRuntime) -> Result<(), Fail> {
     }
     Ok(())
 }
+
+/// Broken bytes stand alone in ASCII, each so far behind the one before it, and a character of two bytes ends that.
+#[test]
+fn repairs_broken_bytes_in_ascii(rt: HostRuntime) -> Result<(), Fail> {
+    for between in 0..70 {
+        let mut example = example_of(rt.alloc(), 3, 0, 0)?;
+        for _ in 0..40 {
+            example.bytes.push(0xFF)?;
+            example.text.extend_from_slice("\u{FFFD}".as_bytes())?;
+            push_letters(&mut example, between)?;
+        }
+        example.replaced = 40;
+        example.bytes.extend_from_slice("\u{E4}".as_bytes())?;
+        example.text.extend_from_slice("\u{E4}".as_bytes())?;
+        assert!(rt; repairs_slice(rt.alloc(), &example), "{between}");
+        assert!(rt;
+            repairs_stream(rt.alloc(), &example, usize::MAX),
+            "{between}"
+        );
+    }
+    Ok(())
+}

@@ -3,8 +3,11 @@ ghost use Rattle.std.specs.Prelude.{◌≡◌, ◌/◌, ◌<◌, ◌≤◌, leng
 ghost use Rattle.encoding_runs.specs.Steps.Fronts.{RepairsFirst};
 
 use encoding_kernels::sequence::begin_several;
-use encoding_kernels::strides::{ASCII_END, are_bytes_below, copy_front};
+use encoding_kernels::strides::{
+    ASCII_END, are_bytes_below, copy_ascii, copy_front, run_of_bytes_below,
+};
 use encoding_text::decoder::{Piece, Utf8Decoder};
+use std::simd::Simd;
 
 /// U+FFFD in UTF-8.
 pub(super) const REPLACEMENT: [u8; 3] = [0xEF, 0xBF, 0xBD];
@@ -17,6 +20,9 @@ const FEW: usize = 3;
 
 /// How many bytes are decoded at a time at most where broken parts stand close together.
 const SHORT: usize = 8;
+
+/// The bytes of the vectors by which ASCII is copied.
+const VECTOR: usize = 32;
 
 /// A piece of so many of these bytes begins text.
 const MOST: usize = SHORT - 2;
@@ -119,6 +125,48 @@ fn repair_piece(src: &[u8], most: usize, dst: &mut [u8]) -> Option<Front>
     }
 }
 
+/// Copies the ASCII bytes at the front, as far as there are whole vectors. Returns how many bytes that are.
+#[inline(always)]
+fn repair_ascii(src: &[u8], dst: &mut [u8]) -> usize
+    ensures repaired { RepairsFirst src.now dst.new result result 0 }
+{
+    let at = copy_ascii::<VECTOR>(src, dst, 0);
+    if src.len().min(dst.len()) - at < VECTOR {
+        return at;
+    }
+    // behind the last of them the array may hold anything
+    Simd::<u8, VECTOR>::from_slice(&src[at..]).copy_to_slice(&mut dst[at..]);
+    at + run_of_bytes_below::<VECTOR>(src, at, ASCII_END)
+}
+
+/// Repairs ASCII text whose broken parts are bytes that stand alone, from the first of them on, up to what isn't that.
+#[inline(always)]
+fn repair_ascii_text(src: &[u8], dst: &mut [u8]) -> Front
+    ensures repaired { RepairsFirst src.now dst.new result.read result.written result.replaced }
+    ensures within { (result.read ≤ length src.now) × (result.written ≤ length dst.new) × (result.replaced ≤ result.read) }
+{
+    let (mut read, mut written, mut replaced) = (0, 0, 0);
+    while src.len() - read > 1 && dst.len() - written >= REPLACEMENT.len() {
+        let Some(count) = repair_byte(&src[read..], &mut dst[written..]) else {
+            break;
+        };
+        read += 1;
+        written += count;
+        replaced += count / 3;
+        let ascii = repair_ascii(&src[read..], &mut dst[written..]);
+        read += ascii;
+        written += ascii;
+        if ascii == 0 {
+            break;
+        }
+    }
+    Front {
+        read,
+        written,
+        replaced,
+    }
+}
+
 /// Repairs first parts of the bytes, which stay these whatever follows, as they fit: broken parts go out by one write, with
 /// the text between. Out of line: the path of text without a broken part stays short.
 #[inline(never)]
@@ -126,7 +174,8 @@ pub(super) fn repair_front(src: &[u8], dst: &mut [u8]) -> Front
     ensures repaired { RepairsFirst src.now dst.new result.read result.written result.replaced }
     ensures within { (result.read ≤ length src.now) × (result.written ≤ length dst.new) × (result.replaced ≤ result.read) }
 {
-    let (mut read, mut written, mut replaced) = (0, 0, 0);
+    let ascii = repair_ascii_text(src, dst);
+    let (mut read, mut written, mut replaced) = (ascii.read, ascii.written, ascii.replaced);
     let mut is_text = true;
     loop {
         let bytes = repair_bytes(&src[read..], is_text, &mut dst[written..]);
