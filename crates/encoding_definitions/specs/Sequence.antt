@@ -1,5 +1,6 @@
 -- Well-formed UTF-8 byte sequences: Unicode Standard, Table 3-7.
-use Rattle.std.specs.Prelude.{ℕ, ◌<◌, ◌≤◌, Bool, true, false, ◌&&◌, ◌||◌, List, [], ◌∷◌, ◌++◌, length, ◌⊎◌, nat_le, IsTrue}
+use Rattle.std.specs.Prelude.{ℕ, ◌<◌, ◌≤◌, Bool, true, false, ◌&&◌, List, [], ◌∷◌, ◌++◌, length, ◌⊎◌, nat_le, IsTrue}
+use Rattle.std.specs.List.{list_any}
 use Rattle.std.specs.Str.Lossy.{second_byte_min, second_byte_max}
 
 -- the nine rows of the table: of each byte of a sequence, the least and the greatest value
@@ -22,14 +23,9 @@ in_row [] (b ∷ bs) = false
 in_row (range ∷ row) [] = false
 in_row (range ∷ row) (b ∷ bs) = (nat_le range.0 b && nat_le b range.1) && in_row row bs
 
--- the bytes are in one of the rows
-abbrev pub in_some_row : List (List (ℕ × ℕ)) → List ℕ → Bool
-in_some_row [] bs = false
-in_some_row (row ∷ more) bs = in_row row bs || in_some_row more bs
-
--- a well-formed sequence: the bytes of one character
+-- a well-formed sequence: the bytes of one character, which are in one of the rows
 abbrev pub IsSequence : List ℕ → Type 0
-IsSequence bs = IsTrue (in_some_row rows bs)
+IsSequence bs = IsTrue (list_any (λ row. in_row row bs) rows)
 
 -- the bytes that stand behind the first of a sequence
 abbrev pub IsContinuation : ℕ → Type 0

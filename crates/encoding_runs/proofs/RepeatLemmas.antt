@@ -8,21 +8,21 @@ use Rattle.encoding_definitions.specs.Utf16.{Part16, units_of, utf8_of, scalar_o
 use Rattle.encoding_definitions.proofs.CodeUnits.Utf16Lemmas.{parts_unique, rest_parts, none_left}
 use Rattle.encoding_definitions.proofs.Conversions.Utf16LawLemmas.{utf8_of_all}
 use Rattle.encoding_definitions.proofs.CodeUnits.FirstPartsLemmas.{first_fits}
-use Rattle.encoding_runs.specs.Repeats.{Step, AreRepeated}
+use Rattle.encoding_runs.specs.Repeats.{WritesInTurn}
 
-repeated : (steps : List Step) (us : List ℕ) (parts : List Part16) → ArePartsOf16 us parts → AreRepeated us steps → flat_map (λ (step : Step). step.out) steps ≡ flat_map utf8_of parts
-repeated [] us parts a r = sym (ap (flat_map utf8_of) (none_left parts (ap length (a.1 ∙ r))))
-repeated (step ∷ steps) us parts a (f, r) =
+repeated : (rooms us out : List ℕ) (parts : List Part16) → ArePartsOf16 us parts → WritesInTurn us rooms out → out ≡ flat_map utf8_of parts
+repeated [] us out parts a (none, empty) = empty ∙ sym (ap (flat_map utf8_of) (none_left parts (ap length (a.1 ∙ none))))
+repeated (room ∷ rooms) us out parts a (read, first, others, f, r, joined) =
     let same : f.parts ≡ parts = parts_unique us f.parts parts f.are_parts a in
     let n : ℕ = f.longest.count in
-    let first : step.out ≡ flat_map utf8_of (take n parts) = f.longest.written ∙ ap (λ ps. flat_map utf8_of (take n ps)) same in
-    let read : step.read ≡ length (flat_map units_of (take n parts)) = f.longest.taken ∙ ap (λ ps. length (flat_map units_of (take n ps))) same in
-    let rest : ArePartsOf16 (drop step.read us) (drop n parts) = subst (λ k. ArePartsOf16 (drop k us) (drop n parts)) (sym read) (rest_parts us parts n a) in
-    ap (λ xs. step.out ++ xs) (repeated steps (drop step.read us) (drop n parts) rest r) ∙ ap (λ xs. xs ++ flat_map utf8_of (drop n parts)) first
+    let written : first ≡ flat_map utf8_of (take n parts) = f.longest.written ∙ ap (λ ps. flat_map utf8_of (take n ps)) same in
+    let taken : read ≡ length (flat_map units_of (take n parts)) = f.longest.taken ∙ ap (λ ps. length (flat_map units_of (take n ps))) same in
+    let rest : ArePartsOf16 (drop read us) (drop n parts) = subst (λ k. ArePartsOf16 (drop k us) (drop n parts)) (sym taken) (rest_parts us parts n a) in
+    joined ∙ ap (λ xs. first ++ xs) (repeated rooms (drop read us) others (drop n parts) rest r) ∙ ap (λ xs. xs ++ flat_map utf8_of (drop n parts)) written
     ∙ sym (flat_map-append utf8_of (take n parts) (drop n parts)) ∙ ap (flat_map utf8_of) (take-append-drop n parts)
 
-pub joined : (us : List ℕ) (parts : List Part16) (steps : List Step) → ArePartsOf16 us parts → AreRepeated us steps → flat_map (λ (step : Step). step.out) steps ≡ encode_utf8_all (map scalar_of parts)
-joined us parts steps a r = repeated steps us parts a r ∙ utf8_of_all parts
+pub joined : (us : List ℕ) (parts : List Part16) (rooms out : List ℕ) → ArePartsOf16 us parts → WritesInTurn us rooms out → out ≡ encode_utf8_all (map scalar_of parts)
+joined us parts rooms out a r = repeated rooms us out parts a r ∙ utf8_of_all parts
 
 pub progress : (us out : List ℕ) (room read : ℕ) → 0 < length us → 4 ≤ room → IsUtf8OfLongestFront us room read out → 0 < read
 progress us out room read s l f = first_fits f.parts room read out (omega (arith, s, ap length f.are_parts.1)) l f.longest

@@ -63,20 +63,22 @@ stopped_writing unread mid left old new now read n p room bytes last before afte
   omega (arith, r.count, length-append r.input bytes, b.within),
   (
     Consumes-trans _ _ _ _ _ r.consumed b.consumed,
-    record {
-      text = repaired_text (ps ++ others.0);
-      out = out;
-      due = subst (λ e. IsDue all e (repaired_text (ps ++ others.0))) (sym (seen last refl)) others.1;
-      less = subst (IsProperFront out) (sym (repaired_text-append ps others.0)) (longer_front out (repaired_text ps) (repaired_text others.0) (front_behind r.wrote.parts s.parts s.out s.less));
-      bytes = Appends-trans _ _ _ _ _ r.wrote.bytes s.bytes;
-      before = length r.input;
-      within = omega (arith, length-append r.input bytes);
-      one_round = omega (arith, length-append r.input bytes, b.within, short);
-      all_at_end = λ e. at_end last refl e;
-      settled = repaired_text r.wrote.parts;
-      was_settled = subst (λ xs. IsSettledText xs (repaired_text r.wrote.parts)) (sym (take_at r.input bytes (length r.input) refl)) (is_settled _ _ _ _ _ r.wrote r.still_open);
-      whole_rounds = (s.out, refl);
-    },
+    (
+      repaired_text (ps ++ others.0),
+      out,
+      subst (λ e. IsDue all e (repaired_text (ps ++ others.0))) (sym (seen last refl)) others.1,
+      subst (IsProperFront out) (sym (repaired_text-append ps others.0)) (longer_front out (repaired_text ps) (repaired_text others.0) (front_behind r.wrote.parts s.parts s.out s.less)),
+      Appends-trans _ _ _ _ _ r.wrote.bytes s.bytes,
+      record {
+        before = length r.input;
+        within = omega (arith, length-append r.input bytes);
+        one_round = omega (arith, length-append r.input bytes, b.within, short);
+        settled = repaired_text r.wrote.parts;
+        was_settled = subst (λ xs. IsSettledText xs (repaired_text r.wrote.parts)) (sym (take_at r.input bytes (length r.input) refl)) (is_settled _ _ _ _ _ r.wrote r.still_open);
+        whole_rounds = (s.out, refl);
+      },
+      λ e. at_end last refl e,
+    ),
   ),
 )
   where

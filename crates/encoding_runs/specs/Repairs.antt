@@ -39,37 +39,26 @@ Stops bs old new = (text : List ℕ) × (out : List ℕ) × IsRepaired bs text �
 abbrev pub IsDue : List ℕ → Bool → List ℕ → Type 0
 IsDue bs ended text = (ended ≡ true → IsRepaired bs text) × (ended ≡ false → IsSettledText bs text)
 
--- A write failed while the bytes were read. Of the text that was due, less than all stands behind what was written
--- before, and at least the settled text of the first bytes: of all but the last 1,024 at most, and of all of them
--- once the end was seen.
-pub record StopsReading (bs : List ℕ) (ended : Bool) (old new : Option (List ℕ)) : Type 0 where
-  pub text : List ℕ
-  pub out : List ℕ
-  pub due : IsDue bs ended text
-  pub less : IsProperFront out text
-  pub bytes : Appends old new out
+-- out holds at least the settled text of the first bytes: of all but the last 1,024 at most
+pub record HoldsRounds (bs out : List ℕ) : Type 0 where
   pub before : ℕ
   pub within : before ≤ length bs
   pub one_round : length bs ≤ before + 1024
-  pub all_at_end : ended ≡ true → before ≡ length bs
   pub settled : List ℕ
   pub was_settled : IsSettledText (take before bs) settled
   pub whole_rounds : IsFront settled out
 
+-- A write failed while the bytes were read. Of the text that was due, less than all stands behind what was written
+-- before, and at least the settled text of all but the last bytes, and of all of them once the end was seen.
+abbrev pub StopsReading : List ℕ → Bool → Option (List ℕ) → Option (List ℕ) → Type 0
+StopsReading bs ended old new = (text : List ℕ) × (out : List ℕ) × IsDue bs ended text × IsProperFront out text × Appends old new out
+    × (rounds : HoldsRounds bs out) × (ended ≡ true → rounds.before ≡ length bs)
+
 -- Of the repaired text of the bytes a front was written: nothing, some, or all of it, and at least the settled text of
--- the first bytes, all but the last 1,024 at most.
-pub record WritesFrontOfRepaired (bs : List ℕ) (old new : Option (List ℕ)) : Type 0 where
-  pub text : List ℕ
-  pub out : List ℕ
-  pub repaired : IsRepaired bs text
-  pub front : IsFront out text
-  pub bytes : Appends old new out
-  pub before : ℕ
-  pub within : before ≤ length bs
-  pub one_round : length bs ≤ before + 1024
-  pub settled : List ℕ
-  pub was_settled : IsSettledText (take before bs) settled
-  pub whole_rounds : IsFront settled out
+-- all but the last bytes.
+abbrev pub WritesFrontOfRepaired : List ℕ → Option (List ℕ) → Option (List ℕ) → Type 0
+WritesFrontOfRepaired bs old new =
+    (text : List ℕ) × (out : List ℕ) × IsRepaired bs text × IsFront out text × Appends old new out × HoldsRounds bs out
 
 -- all that there was to read was read, and written repaired; n parts were broken
 abbrev pub RepairsAll : List ℕ → Option (List ℕ) → Option (List ℕ) → Option (List ℕ) → Option (List ℕ) → ℕ → Type 0

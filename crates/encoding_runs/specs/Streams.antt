@@ -1,8 +1,6 @@
 -- What a read from a source and a write to a sink do.
 use Rattle.std.specs.Prelude.{◌≡◌, ℕ, ◌<◌, Bool, true, List, length, take, Option, MatchOption}
 use Rattle.std.specs.Io.KnownBytes.{Consumes, IsAtEnd, Keeps, Appends}
-use Rattle.std.specs.Borrow.{MutBor}
-use Rattle.encoding_runs.specs.declared.repair.streams.Watch.{Watch}
 
 -- at `Some n` the known bytes lose their first n, which begin the buffer, and no byte comes into room at the end
 -- alone; at `None` nothing moves
@@ -20,15 +18,3 @@ FailsOnNone r old new = MatchOption r (new ≡ true) (λ _. new ≡ old)
 -- a read of no byte into some room sees the end, and nothing else changes whether it was seen
 abbrev pub EndsOnZero : Option ℕ → ℕ → Bool → Bool → Type 0
 EndsOnZero r room old new = MatchOption r (new ≡ old) (λ n. (n ≡ 0 → 0 < room → new ≡ true) × ((n ≡ 0 → room ≡ 0) → new ≡ old))
-
--- the stream that is watched
-abbrev pub watched_stream : {T : Type 0} → Watch T → MutBor T
-watched_stream w = w.inner
-
--- whether a call of it failed since
-abbrev pub watch_failed : {T : Type 0} → Watch T → Bool
-watch_failed w = w.failed
-
--- whether a read of it saw the end since
-abbrev pub watch_ended : {T : Type 0} → Watch T → Bool
-watch_ended w = w.ended

@@ -14,7 +14,7 @@ ghost use Rattle.encoding_definitions.specs.Utf16.{AreUnits, Part16, Character16
 ghost use Rattle.encoding_text.specs.Encoding.{IsHeld, IsEncoderCall};
 ghost use Rattle.encoding_definitions.specs.Bidi.{IsRightToLeft, IsBidiBytes, IsBidiUnits};
 ghost use Rattle.encoding_definitions.specs.Surrogates.{IsValidUtf16, AreRepairedUnits, ChangesLone};
-ghost use Rattle.encoding_runs.specs.Repeats.{Step, AreRepeated};
+ghost use Rattle.encoding_runs.specs.Repeats.{WritesInTurn};
 ghost use Rattle.std.specs.List.{AllZip};
 ghost use Rattle.encoding_text.specs.declared.utf_8.encoder.EncoderResult.{EncoderResult};
 ghost use Rattle.encoding_runs.specs.Calls.{Call, IsChain, read_in_all, output_of, pending_after};
@@ -120,8 +120,8 @@ pub fn law_utf16_round_trip()
 /// sequence the UTF-8 of all their scalar values, whatever the rooms; and with a code unit unread and four bytes of
 /// room at least one is read. Encoding Standard, `encodeInto`.
 pub fn law_partial_repeats()
-    ensures joined { (us : List ℕ) (parts : List Part16) (steps : List Step) → ArePartsOf16 us parts
-        → AreRepeated us steps → flat_map (λ step. step.out) steps ≡ encode_utf8_all (map scalar_of parts) }
+    ensures joined { (us : List ℕ) (parts : List Part16) (rooms out : List ℕ) → ArePartsOf16 us parts
+        → WritesInTurn us rooms out → out ≡ encode_utf8_all (map scalar_of parts) }
     ensures progress { (us out : List ℕ) (room read : ℕ) → 0 < length us → 4 ≤ room
         → IsUtf8OfLongestFront us room read out → 0 < read }
 {}

@@ -37,22 +37,7 @@ pub settled_kept : (bs : List ℕ) (unread left old new now : Option (List ℕ))
 settled_kept bs unread left old new now (consumed, (text, is, a)) k = (consumed, (text, is, Appends-kept _ _ _ _ a k))
 
 pub some_kept : (bs : List ℕ) (unread left old new now : Option (List ℕ)) → RepairsSome bs unread left old new → Keeps new now → RepairsSome bs unread left old now
-some_kept bs unread left old new now (consumed, w) k = (
-  consumed,
-  record {
-    text = w.text;
-    out = w.out;
-    repaired = w.repaired;
-    front = w.front;
-    bytes = Appends-kept _ _ _ _ w.bytes k;
-    before = w.before;
-    within = w.within;
-    one_round = w.one_round;
-    settled = w.settled;
-    was_settled = w.was_settled;
-    whole_rounds = w.whole_rounds;
-  },
-)
+some_kept bs unread left old new now (consumed, (text, out, repaired, front, bytes, rounds)) k = (consumed, (text, out, repaired, front, Appends-kept _ _ _ _ bytes k, rounds))
 
 -- a status other than 4 is the one before the flush
 pub before_flush : {T E : Type 0} (flushed : Result T E) (status now : ℕ) → OnErr flushed (now ≡ 4) → OnOk flushed (now ≡ status) → now ≢ 4 → now ≡ status

@@ -4,9 +4,14 @@ use Rattle.std.proofs.lemmas.Bool.{and_parts, and_from, or_cases, or_left, or_ri
 use Rattle.std.proofs.lemmas.Bool.Decides.{nat_tests}
 use Rattle.std.proofs.lemmas.List.{length-append, append_assoc}
 use Rattle.std.specs.Str.Lossy.{second_byte_min, second_byte_max}
+use Rattle.std.specs.List.{list_any}
 use Rattle.std.specs.Prelude.{IsTrue}
 use Rattle.encoding_definitions.specs.Parts.{BeginsWithNoCharacter}
-use Rattle.encoding_definitions.specs.Sequence.{rows, in_row, in_some_row, IsContinuation, IsSecond, IsSequence, IsBeginning}
+use Rattle.encoding_definitions.specs.Sequence.{rows, in_row, IsContinuation, IsSecond, IsSequence, IsBeginning}
+
+-- the bytes are in one of the rows
+abbrev in_some_row : List (List (ℕ × ℕ)) → List ℕ → Bool
+in_some_row table bs = list_any (λ row. in_row row bs) table
 
 -- ---- beginnings, by a test on the rows
 -- the bytes are of the first ranges of the row, and a range is left

@@ -2,7 +2,7 @@
 ghost use Rattle.std.specs.Prelude.{◌≡◌, ℕ, ◌<◌, ◌≤◌, Bool, false, List, length, Option, IfSome, refl};
 ghost use Rattle.std.proofs.Common.{◌∙◌};
 ghost use Rattle.std.specs.Borrow.{GName};
-ghost use Rattle.encoding_runs.specs.Streams.{ReadMoves, WriteMoves, FailsOnNone, EndsOnZero, watched_stream, watch_failed, watch_ended};
+ghost use Rattle.encoding_runs.specs.Streams.{ReadMoves, WriteMoves, FailsOnNone, EndsOnZero};
 
 use std::io::{Read, Write};
 
@@ -76,10 +76,10 @@ pub struct Watch<'a, T> {
 impl<'a, T> Watch<'a, T> {
     /// Watches the stream, which has not failed so far, and whose end was not seen.
     pub fn new(inner: &'a mut T) -> Watch<'a, T>
-        ensures same_stream { (watched_stream result).ghost_name ≡ inner.entry.ghost_name }
-        ensures as_it_was { (watched_stream result).now ≡ inner.old }
-        ensures not_failed { watch_failed result ≡ false }
-        ensures not_ended { watch_ended result ≡ false }
+        ensures same_stream { result.inner.ghost_name ≡ inner.entry.ghost_name }
+        ensures as_it_was { result.inner.now ≡ inner.old }
+        ensures not_failed { result.failed ≡ false }
+        ensures not_ended { result.ended ≡ false }
     {
         Watch {
             inner,
@@ -90,13 +90,13 @@ impl<'a, T> Watch<'a, T> {
 }
 
 impl<'a, T: Read> Source for Watch<'a, T> {
-    ghost remaining = { λ w. T.remaining (watched_stream w).now };
+    ghost remaining = { λ w. T.remaining w.inner.now };
 
-    ghost has_failed = { λ w. watch_failed w };
+    ghost has_failed = { λ w. w.failed };
 
-    ghost has_ended = { λ w. watch_ended w };
+    ghost has_ended = { λ w. w.ended };
 
-    ghost stream = { λ w. (watched_stream w).ghost_name };
+    ghost stream = { λ w. w.inner.ghost_name };
 
     /// Whether a call failed.
     fn failed(&self) -> bool {
@@ -126,11 +126,11 @@ impl<'a, T: Read> Source for Watch<'a, T> {
 }
 
 impl<'a, T: Write> Sink for Watch<'a, T> {
-    ghost contents = { λ w. T.contents (watched_stream w).now };
+    ghost contents = { λ w. T.contents w.inner.now };
 
-    ghost has_failed = { λ w. watch_failed w };
+    ghost has_failed = { λ w. w.failed };
 
-    ghost keeps = { λ old new. (watched_stream new).ghost_name ≡ (watched_stream old).ghost_name };
+    ghost keeps = { λ old new. new.inner.ghost_name ≡ old.inner.ghost_name };
 
     ghost keeps_itself = { λ _. refl };
 
@@ -145,10 +145,10 @@ impl<'a, T: Write> Sink for Watch<'a, T> {
     fn write(&mut self, bytes: &[u8]) -> Option<usize>
         requires not_empty { 0 < length bytes.now }
         ensures bound { IfSome result (λ n. (0 < n) × (n ≤ length bytes.now)) }
-        ensures bytes { WriteMoves (T.contents (watched_stream self.old).now) (T.contents (watched_stream self.new).now) result bytes.now }
-        ensures failed { FailsOnNone result (watch_failed self.old) (watch_failed self.new) }
-        ensures keeps { (watched_stream self.new).ghost_name ≡ (watched_stream self.old).ghost_name }
-        ensures ended { watch_ended self.new ≡ watch_ended self.old }
+        ensures bytes { WriteMoves (T.contents self.old.inner.now) (T.contents self.new.inner.now) result bytes.now }
+        ensures failed { FailsOnNone result (self.old.failed) (self.new.failed) }
+        ensures keeps { self.new.inner.ghost_name ≡ self.old.inner.ghost_name }
+        ensures ended { self.new.ended ≡ self.old.ended }
     {
         match self.inner.write(bytes) {
             Ok(count) if count > 0 => Some(count),
