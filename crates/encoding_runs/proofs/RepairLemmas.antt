@@ -1,5 +1,5 @@
 -- What stands written when the text of so many first parts is, and when a write fails in the middle of one.
-use Rattle.std.proofs.Common.{◌≡◌, ℕ, ◌+◌, ◌<◌, ◌≤◌, Bool, false, List, [], ◌∷◌, ◌++◌, length, take, drop, Option, inl, inr, encode_utf8, encode_utf8_all, refl, sym, ap, ◌∙◌, arith, subst}
+use Rattle.std.proofs.Common.{◌≡◌, ℕ, ◌+◌, ◌<◌, ◌≤◌, Bool, true, false, true≢false, List, [], ◌∷◌, ◌++◌, length, map, take, drop, Option, inl, inr, encode_utf8, encode_utf8_all, refl, sym, ap, ◌∙◌, arith, subst}
 use Rattle.std.specs.Io.KnownBytes.{Appends}
 use Rattle.std.proofs.KnownBytes.{Appends-trans}
 use Rattle.std.proofs.lemmas.List.{append-nil, append_assoc, drop_all, length-drop, take-append-drop}
@@ -8,13 +8,13 @@ use Rattle.std.proofs.lemmas.Str.{encodes-chars}
 use lib.Utf8.{encode}
 use Rattle.encoding_definitions.specs.Pending.{IsPending}
 use Rattle.encoding_definitions.proofs.Sequences.SequenceLemmas.{length-IsBeginning}
-use Rattle.encoding_definitions.specs.Parts.{Part, repaired_text, count_broken}
+use Rattle.encoding_definitions.specs.Parts.{Part, Character, StartsWith, repaired_text, count_broken}
 use Rattle.encoding_text.specs.Decoding.{IsBorrowedCall}
 use Rattle.encoding_text.specs.declared.decoder.Piece.{Piece}
 use Rattle.encoding_text.specs.declared.decoder.Piece.TheVariants.{Text, Char, Malformed, InputEmpty}
 use Rattle.encoding_definitions.specs.Giving.{Gives}
 use Rattle.encoding_text.proofs.Calls.BorrowedLemmas.{borrowed_gives}
-use Rattle.encoding_definitions.proofs.Decomposition.DecompositionLemmas.{StartsWith-append, has_parts, repaired_text-append, repaired_text-characters, count_broken-append, count_broken-characters, count_broken-bytes}
+use Rattle.encoding_definitions.proofs.Decomposition.DecompositionLemmas.{StartsWith-append, StartsWith-characters, has_parts, repaired_text-append, repaired_text-characters, count_broken-append, count_broken-characters, count_broken-bytes}
 use Rattle.encoding_runs.specs.Repairs.{IsProperFront, WritesRepaired, Stops}
 use Rattle.encoding_runs.specs.Steps.Writing.{text_of, broken_of, AreFirst, WritesParts, StopsInParts}
 use Rattle.encoding_runs.proofs.SettledLemmas.{AreFirst-trans, AreFirst-more}
@@ -140,6 +140,60 @@ stopped_all last bs old new s =
       subst (IsProperFront s.out) (sym (repaired_text-append s.parts others.0)) (longer_front s.out (repaired_text s.parts) (repaired_text others.0) s.less),
       s.bytes,
     )
+
+-- ---- a well-formed front, and then the rest
+record TextParts (bs : List ℕ) (n : ℕ) : Type 0 where
+  parts : List Part
+  first : AreFirst true bs parts (drop n bs)
+  text : repaired_text parts ≡ take n bs
+  broken : count_broken parts ≡ 0
+
+text_parts : (bs : List ℕ) (n : ℕ) → IsUtf8 (take n bs) → TextParts bs n
+text_parts bs n (cs, (scalars, spelled)) = record {
+  parts = map Character cs;
+  first = record {
+    starts = subst (λ xs. StartsWith xs (map Character cs) (drop n bs)) (ap (λ xs. xs ++ drop n bs) spelled ∙ take-append-drop n bs) (StartsWith-characters cs (drop n bs) scalars);
+    whatever_follows = λ e more. absurd (true≢false e);
+  };
+  text = repaired_text-characters cs ∙ spelled;
+  broken = count_broken-characters cs;
+}
+
+pub wrote_text : (bs : List ℕ) (n : ℕ) (old new : Option (List ℕ)) → IsUtf8 (take n bs) → Appends old new (take n bs) → WritesParts true bs (drop n bs) old new 0
+wrote_text bs n old new text a =
+    let t = text_parts bs n text in
+    record { parts = t.parts; first = t.first; bytes = subst (Appends old new) (sym t.text) a; broken = sym t.broken }
+
+pub wrote_all_text : (bs : List ℕ) (n : ℕ) (old new : Option (List ℕ)) → length bs ≤ n → IsUtf8 (take n bs) → Appends old new (take n bs) → WritesRepaired bs old new 0
+wrote_all_text bs n old new all text a = wrote_all true bs old new 0 (subst (λ xs. WritesParts true bs xs old new 0) (drop_all n bs all) (wrote_text bs n old new text a))
+
+pub stopped_text : (bs : List ℕ) (n k : ℕ) (old new : Option (List ℕ)) → IsUtf8 (take n bs) → k < length (take n bs) → Appends old new (take k (take n bs)) → Stops bs old new
+stopped_text bs n k old new text short a =
+    let t = text_parts bs n text in
+    stopped_all true bs old new (record {
+      parts = t.parts;
+      rest = drop n bs;
+      first = t.first;
+      out = take k (take n bs);
+      less = subst (IsProperFront (take k (take n bs))) (sym t.text) (proper_front k (take n bs) short);
+      bytes = a;
+    })
+
+pub wrote_rest : (bs rest : List ℕ) (old new now : Option (List ℕ)) (n : ℕ) → WritesParts true bs rest old new 0 → WritesParts true rest [] new now n → WritesRepaired bs old now n
+wrote_rest bs rest old new now n w v =
+    let all = wrote_more true bs rest [] old new now 0 v.parts w v.first v.bytes in
+    wrote_all true bs old now n (record { parts = all.parts; first = all.first; bytes = all.bytes; broken = omega (arith, all.broken, v.broken) })
+
+pub stopped_rest : (bs rest : List ℕ) (old new now : Option (List ℕ)) → WritesParts true bs rest old new 0 → StopsInParts true rest new now → Stops bs old now
+stopped_rest bs rest old new now w s =
+    stopped_all true bs old now (record {
+      parts = w.parts ++ s.parts;
+      rest = s.rest;
+      first = AreFirst-trans true bs w.parts rest s.parts s.rest w.first s.first;
+      out = repaired_text w.parts ++ s.out;
+      less = front_behind w.parts s.parts s.out s.less;
+      bytes = Appends-trans _ _ _ _ _ w.bytes s.bytes;
+    })
 
 -- ---- more bytes behind those that stay
 pub wrote_behind : (last : Bool) (bs mid more rest : List ℕ) (old new now : Option (List ℕ)) (n m : ℕ) → WritesParts false bs mid old new n

@@ -188,3 +188,46 @@ fn over_the_seam_of_pieces(rt: HostRuntime) {
     }
     assert!(rt; count == 12 * 5);
 }
+
+/// The length of a text that goes over to letters and back.
+const LONG: usize = 900;
+
+/// Where std finds the end of the longest well-formed prefix.
+fn valid_up_to(src: &[u8]) -> usize {
+    match std::str::from_utf8(src) {
+        Ok(text) => text.len(),
+        Err(fault) => fault.valid_up_to(),
+    }
+}
+
+/// Whether the longest prefix ends as std says, whole and with a broken byte at each place: characters of two bytes,
+/// then so many letters from a place on, then such characters again.
+fn ends_at_each_break(from: usize, letters: usize) -> bool {
+    let mut text = [0xA9; LONG];
+    for (i, slot) in text.iter_mut().enumerate() {
+        if from <= i && i < from.saturating_add(letters) {
+            *slot = 0x61;
+        } else if i % 2 == 0 {
+            *slot = 0xC3;
+        }
+    }
+    if utf8_valid_up_to(&text) != LONG {
+        return false;
+    }
+    (0..LONG).all(|place| {
+        let mut seen = text;
+        if let Some(byte) = seen.get_mut(place) {
+            *byte = 0xFF;
+        }
+        utf8_valid_up_to(&seen) == valid_up_to(&seen)
+    })
+}
+
+#[test]
+fn letters_among_others_with_each_break(rt: HostRuntime) {
+    for from in [0, 2, 64, 100, 126] {
+        for letters in [190, 256, 318, 320, 448, 574, 640] {
+            assert!(rt; ends_at_each_break(from, letters), "{from}, {letters}");
+        }
+    }
+}

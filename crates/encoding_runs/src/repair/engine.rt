@@ -9,6 +9,7 @@ ghost use Rattle.encoding_runs.specs.Steps.Writing.{StopsInParts, WritesParts, b
 use super::front::{REPLACEMENT, repair_front};
 use super::streams::{Sink, Source};
 use encoding_text::decoder::{Piece, Utf8Decoder};
+use encoding_text::utf_8::utf8_valid_up_to;
 
 /// Why a repair stopped.
 #[derive(Debug, PartialEq, Eq, Drop)]
@@ -119,6 +120,21 @@ fn write_parts<W: Sink>(
     }
 }
 
+/// Decodes all of `src`, which is the last, and writes what that gives. Returns how many parts were broken. Out of line:
+/// text alone takes neither a decoder nor an array.
+#[inline(never)]
+fn write_last_parts<W: Sink>(src: &[u8], writer: &mut W) -> Result<u64, RepairFault>
+    ensures ok { IfOk result (λ replaced. WritesParts true src.now [] (W.contents writer.old) (W.contents writer.new) replaced
+        × (W.has_failed writer.new ≡ W.has_failed writer.old)) }
+    ensures err { IfErr result (λ fault. (fault ≡ RepairFault.Write) × (W.has_failed writer.new ≡ true)
+        × StopsInParts true src.now (W.contents writer.old) (W.contents writer.new)) }
+    ensures keeps { W.keeps writer.old writer.new }
+{
+    let mut decoder = Utf8Decoder::new_inner();
+    let mut array = [0; SLICE_ROOM];
+    write_parts(&mut decoder, src, true, &mut array, writer)
+}
+
 /// Writes `src` repaired: its characters as they are, and U+FFFD for each broken part. Returns how many parts
 /// were broken.
 ///
@@ -134,9 +150,12 @@ pub fn repair_slice<W: Sink>(src: &[u8], writer: &mut W) -> Result<u64, RepairFa
         → (IsTrue (W.has_failed writer.new) ↔ (result ≡ Err RepairFault.Write)) }
     ensures keeps { W.keeps writer.old writer.new }
 {
-    let mut decoder = Utf8Decoder::new_inner();
-    let mut array = [0; SLICE_ROOM];
-    write_parts(&mut decoder, src, true, &mut array, writer)
+    let length = utf8_valid_up_to(src);
+    write_whole(writer, &src[..length])?;
+    if length == src.len() {
+        return Ok(0);
+    }
+    write_last_parts(&src[length..], writer)
 }
 
 /// One round: reads once into the buffer, and writes all that this gave, behind what is pending; at the end the

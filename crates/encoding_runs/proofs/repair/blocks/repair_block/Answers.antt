@@ -1,9 +1,9 @@
-use Rattle.std.proofs.Common.{◌≡◌, ◌+◌, ◌-◌, ◌≤◌, length, take, drop, arith, ap, ◌∙◌}
-use Rattle.std.proofs.lemmas.List.{take_rest, length-drop}
+use Rattle.std.proofs.Common.{arith}
+use Rattle.std.proofs.lemmas.List.{take_rest}
 use Rattle.std.proofs.lemmas.Str.{length-encode}
 use Rattle.encoding_text.specs.declared.decoder.DecoderResult.TheVariants.{Malformed}
 use Rattle.encoding_definitions.proofs.LongestFronts.FrontsLemmas.{WritesFront-length}
-use Rattle.encoding_runs.proofs.BlockLemmas.{block_begins, block_more, room_left, block_finished, block_full, block_stops, block_replaced}
+use Rattle.encoding_runs.proofs.BlockLemmas.{block_begins, block_more, block_finished, block_full, block_replaced}
 use Rattle.encoding_runs.proofs.repair.blocks.repair_block.Goals as goal
 
 pub loop-dst-init : goal.loop-dst-init
