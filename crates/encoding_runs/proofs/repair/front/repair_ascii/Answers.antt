@@ -1,12 +1,17 @@
-use Rattle.std.proofs.Common.{◌+◌, ◌≤◌, length, inl, inr, arith}
+use Rattle.std.proofs.Common.{ℕ, ◌+◌, ◌≤◌, List, length, take, inl, inr, arith}
 use Rattle.std.proofs.lemmas.Bool.{cases_lt}
 use Rattle.std.proofs.lemmas.Simd.{length-chunk}
 use Rattle.std.specs.Simd.Lanes.{chunk}
-use Rattle.encoding_kernels.specs.Strides.{BelowUpTo}
+use Rattle.encoding_definitions.specs.Fronts.{WritesFront}
+use Rattle.encoding_definitions.proofs.LongestFronts.FrontsLemmas.{WritesFront-nil}
+use Rattle.encoding_kernels.specs.Strides.{BelowUpTo, CopiesAscii}
 use Rattle.encoding_kernels.proofs.Lanes.PutLemmas.{put_is}
-use Rattle.encoding_kernels.proofs.Latin.AsciiLemmas.{copied_front, WritesFront_block}
+use Rattle.encoding_kernels.proofs.Latin.AsciiLemmas.{WritesFront_block}
 use Rattle.encoding_runs.proofs.FrontTextLemmas.{ascii_copied}
 use Rattle.encoding_runs.proofs.repair.front.repair_ascii.Goals as goal
+
+copied_front : (src old new : List ℕ) (n : ℕ) → CopiesAscii src src old new 0 n → BelowUpTo 0x80 src n × WritesFront old new n (take n src)
+copied_front src old new n c = (c.ascii (λ k l. absurd (omega arith)), c.copied old (WritesFront-nil old))
 
 pub returns-then-min-at-lt-VECTOR : goal.returns-then-min-at-lt-VECTOR
 returns-then-min-at-lt-VECTOR c =
