@@ -4,7 +4,7 @@ ghost use Rattle.std.specs.Prelude.{◌≡◌, ◌↔◌, IsTrue, IsUtf8};
 ghost use Rattle.std.specs.Char.{IsScalar};
 ghost use Rattle.encoding_definitions.specs.Latin1.{IsLatin1, IsUtf8Latin1};
 ghost use Rattle.encoding_definitions.specs.Bidi.{IsRightToLeft, IsRightToLeftUnit, IsBidiUnits, IsBidiText, IsBidiBytes};
-ghost use Rattle.encoding_c.specs.Doors.{Tells, Chooses};
+ghost use Rattle.encoding_c.specs.Status.{Tells, Chooses};
 
 use crate::status::{BIDI, LATIN1, LEFT_TO_RIGHT, NO, REFUSED_ANSWER, YES, as_text};
 use encoding_text::mem::{self, Latin1Bidi};

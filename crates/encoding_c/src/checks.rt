@@ -4,7 +4,7 @@ ghost use Rattle.std.specs.Prelude.{◌≡◌, ◌≢◌, ◌↔◌, IsTrue, IsU
 ghost use Rattle.std.specs.Str.{IsAscii};
 ghost use Rattle.encoding_definitions.specs.Fronts.{IsLongestFront};
 ghost use Rattle.encoding_definitions.specs.Latin1.{IsLatin1, IsUtf8Latin1};
-ghost use Rattle.encoding_c.specs.Doors.{Tells};
+ghost use Rattle.encoding_c.specs.Status.{Tells};
 
 use crate::status::{NO, REFUSED, REFUSED_ANSWER, YES, as_text};
 use encoding_text::mem;

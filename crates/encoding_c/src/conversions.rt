@@ -10,7 +10,7 @@ ghost use Rattle.encoding_definitions.specs.Latin1.{IsUtf8Latin1};
 ghost use Rattle.encoding_definitions.specs.Parts.{Part, ArePartsOf, repaired_utf16};
 ghost use Rattle.encoding_definitions.specs.Utf16.{IsUtf8OfLongestFront, IsUtf8OfUnits};
 
-use crate::status::{EncodingCounts, REFUSED, as_text};
+use crate::status::{EncodingCounts, REFUSED, REFUSED_COUNTS, as_text};
 use encoding_text::mem;
 use encoding_text::utf_8::convert_utf8_to_utf16_up_to_invalid;
 
@@ -177,10 +177,7 @@ pub extern "C" fn encoding_text_mem_convert_utf8_to_utf16_without_replacement(
         → (result.read ≡ usize.MAX) × (result.written ≡ usize.MAX) × (dst.new ≡ dst.old) }
 {
     if dst.len() < src.len() {
-        return EncodingCounts {
-            read: REFUSED,
-            written: REFUSED,
-        };
+        return REFUSED_COUNTS;
     }
     let (read, written) = convert_utf8_to_utf16_up_to_invalid(src, dst);
     EncodingCounts { read, written }

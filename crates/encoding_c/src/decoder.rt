@@ -130,15 +130,23 @@ pub(crate) fn stored(decoder: &Utf8Decoder, pending: &[u8], read: &[u8]) -> Enco
     }
 }
 
-/// What ended a call in two numbers.
-pub(crate) fn numbers(ended: &DecoderResult) -> (u8, u8)
-    ensures { IsTold ended.now result.0 result.1 }
+/// What ended a call, and how many bytes a broken part has that did.
+#[derive(Clone, Copy)]
+pub(crate) struct Ended {
+    pub(crate) result: u8,
+    pub(crate) malformed: u8,
+}
+
+/// What ended a call in numbers.
+pub(crate) fn numbers(ended: &DecoderResult) -> Ended
+    ensures { IsTold ended.now result.result result.malformed }
 {
-    match *ended {
+    let (result, malformed) = match *ended {
         DecoderResult::InputEmpty => (0, 0),
         DecoderResult::OutputFull => (1, 0),
         DecoderResult::Malformed(count, _) => (2, count),
-    }
+    };
+    Ended { result, malformed }
 }
 
 /// What the call returns in numbers.
@@ -146,7 +154,7 @@ fn decoded(ended: DecoderResult, read: usize, written: usize) -> EncodingDecoded
     ensures told { IsTold ended result.result result.malformed }
     ensures counts { (result.read ≡ read) × (result.written ≡ written) }
 {
-    let (result, malformed) = numbers(&ended);
+    let Ended { result, malformed } = numbers(&ended);
     EncodingDecoded {
         read,
         written,

@@ -7,7 +7,7 @@ ghost use Rattle.std.specs.Char.Escape.{encode_utf16};
 ghost use Rattle.encoding_definitions.specs.Bidi.{IsBidiText};
 ghost use Rattle.encoding_definitions.specs.Fronts.{IsLongestFront, WritesFront};
 ghost use Rattle.encoding_definitions.specs.Latin1.{IsUtf8Latin1};
-ghost use Rattle.encoding_c.specs.Doors.{Chooses};
+ghost use Rattle.encoding_c.specs.Status.{Chooses};
 
 use crate::status::{BIDI, LATIN1, LEFT_TO_RIGHT, REFUSED};
 use encoding_text::mem::{self, Latin1Bidi};

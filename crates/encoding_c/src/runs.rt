@@ -9,7 +9,7 @@ ghost use Rattle.encoding_runs.specs.DecoderRuns.{Delivers};
 ghost use Rattle.encoding_runs.specs.EncoderRuns.{EncodesByTurns};
 ghost use Rattle.encoding_c.specs.Runs.{IsToldLast, IsToldLastEncoded, DecoderRun, EncoderRun};
 
-use crate::decoder::{self, EncodingUtf8Decoder, pending_count};
+use crate::decoder::{self, EncodingUtf8Decoder, Ended, pending_count};
 use crate::encoder::{self, EncodingEncoded, EncodingUtf8Encoder};
 use crate::status::REFUSED_ANSWER;
 use encoding_runs::run::{Outcome, Report, Turn, run_from_utf16, run_to_utf8, run_to_utf16};
@@ -18,6 +18,12 @@ use encoding_text::utf_8::EncoderResult;
 
 /// The last call's answer where there was no call.
 const NO_CALL: u8 = 3;
+
+/// What tells that there was no call.
+const NO_CALL_ENDED: Ended = Ended {
+    result: NO_CALL,
+    malformed: 0,
+};
 
 /// What a run of a decoder did: how much it read and wrote, how many broken parts it reported, what ended its last call,
 /// and how many bytes a broken part has that did.
@@ -46,9 +52,9 @@ fn told(outcome: &Outcome) -> EncodingOutcome
     ensures counts { (result.read ≡ outcome.now.read) × (result.written ≡ outcome.now.written)
         × (result.reports ≡ outcome.now.reports) }
 {
-    let (result, malformed) = match &outcome.result {
+    let Ended { result, malformed } = match &outcome.result {
         Some(ended) => decoder::numbers(ended),
-        None => (NO_CALL, 0),
+        None => NO_CALL_ENDED,
     };
     EncodingOutcome {
         read: outcome.read,

@@ -25,6 +25,7 @@ pub const LEFT_TO_RIGHT: u8 = 1;
 
 /// It is right-to-left, and no Latin1.
 pub const BIDI: u8 = 2;
+
 /// How many code units or bytes of the source were read, and how many of the destination written.
 #[repr(C)]
 #[derive(Clone, Copy)]
@@ -32,6 +33,12 @@ pub struct EncodingCounts {
     pub read: usize,
     pub written: usize,
 }
+
+/// What counts are where a condition was not met.
+pub(crate) const REFUSED_COUNTS: EncodingCounts = EncodingCounts {
+    read: REFUSED,
+    written: REFUSED,
+};
 
 /// How long the ASCII prefix is, and the first code unit or byte behind it: 0 where there is none.
 #[repr(C)]

@@ -6,7 +6,7 @@ ghost use Rattle.encoding_definitions.specs.Clearing.{WritesAndClears};
 ghost use Rattle.encoding_definitions.specs.Fronts.{FitsLongest};
 ghost use Rattle.encoding_definitions.specs.Utf16.{IsUtf8OfLongestFront, IsUtf8OfUnits};
 
-use crate::status::{EncodingCounts, REFUSED};
+use crate::status::{EncodingCounts, REFUSED, REFUSED_COUNTS};
 use encoding_text::mem;
 use encoding_text::utf_8::utf8_valid_up_to;
 
@@ -32,10 +32,7 @@ pub extern "C" fn encoding_text_mem_convert_utf16_to_str_partial(
         → (result.read ≡ usize.MAX) × (result.written ≡ usize.MAX) × (dst.new ≡ dst.old) }
 {
     if !is_text(dst) {
-        return EncodingCounts {
-            read: REFUSED,
-            written: REFUSED,
-        };
+        return REFUSED_COUNTS;
     }
     let (read, written) = mem::convert_utf16_to_str_partial(src, dst);
     EncodingCounts { read, written }
@@ -76,10 +73,7 @@ pub extern "C" fn encoding_text_mem_convert_latin1_to_str_partial(
         → (result.read ≡ usize.MAX) × (result.written ≡ usize.MAX) × (dst.new ≡ dst.old) }
 {
     if !is_text(dst) {
-        return EncodingCounts {
-            read: REFUSED,
-            written: REFUSED,
-        };
+        return REFUSED_COUNTS;
     }
     let (read, written) = mem::convert_latin1_to_str_partial(src, dst);
     EncodingCounts { read, written }

@@ -6,7 +6,7 @@ ghost use Rattle.encoding_definitions.specs.Fronts.{IsLongestFront, WritesFront}
 ghost use Rattle.encoding_definitions.specs.Converting.{ConvertsLongest};
 ghost use Rattle.encoding_definitions.specs.Utf16.{IsUtf8OfFront, IsUtf8OfLongestFront};
 
-use crate::status::{EncodingCounts, REFUSED};
+use crate::status::{EncodingCounts, REFUSED_COUNTS};
 use encoding_text::utf_8;
 
 /// The length in bytes of the longest prefix that is well-formed UTF-8.
@@ -60,10 +60,7 @@ pub extern "C" fn encoding_text_convert_utf16_to_utf8_partial_tail(
         → (result.read ≡ usize.MAX) × (result.written ≡ usize.MAX) × (dst.new ≡ dst.old) }
 {
     if src.is_empty() || dst.len() > 3 {
-        return EncodingCounts {
-            read: REFUSED,
-            written: REFUSED,
-        };
+        return REFUSED_COUNTS;
     }
     let (read, written) = utf_8::convert_utf16_to_utf8_partial_tail(src, dst);
     EncodingCounts { read, written }

@@ -37,22 +37,7 @@ stride_is n from to xs d {i} {strides = strides} is are count place l =
     ∙ ap (take n) behind ∙ take-take n (to - from - i * n) (drop (i * n) (drop from xs)) (omega (arith, within, length-take (to - from) (drop from xs)))
     ∙ ap (take n) (drop-drop (i * n) from xs ∙ ap (λ m. drop m xs) (sym place))
 
--- its end is within the part and the list
-pub stride_ends : (n from to at i k : ℕ) (xs : List ℕ) → at ≡ from + i * n → k ≡ length (take (to - from) (drop from xs)) / n → i < k → from ≤ to → from ≤ length xs
-    → (at + n ≤ to) × (at + n ≤ length xs)
-stride_ends n from to at i k xs place count l m o =
-    let within = many n k i (length (take (to - from) (drop from xs))) count l in
-    let long = length-take (to - from) (drop from xs) in
-    let rest = length-drop from xs in
-    (omega (arith, place, within, long), omega (arith, place, within, long, rest))
-
 -- what a stride has, the list has from its place on
 module _ (bound at n : ℕ) (xs stride : List ℕ) (is : stride ≡ take n (drop at xs)) where
   pub unit_is : (k : ℕ) → k < n → slice_index stride k ≡ slice_index xs (at + k)
   unit_is k l = ap (λ ys. slice_index ys k) is ∙ get_or-take n (drop at xs) k 0 l ∙ get_or-drop at xs k 0
-
-  pub below_stride : AllBelow bound stride 0 n ↔ AllBelow bound xs at n
-  below_stride = (
-    λ h k from to. let e : at + (k - at) ≡ k = omega arith in rw (sym e, sym (unit_is (k - at) (omega arith))) (h (k - at) (omega arith) (omega arith)),
-    λ h k from to. rw (unit_is k (omega arith)) (h (at + k) (omega arith) (omega arith)),
-  )

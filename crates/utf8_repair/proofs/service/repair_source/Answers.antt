@@ -11,3 +11,8 @@ pub returns-clause-front : goal.returns-clause-front
 returns-clause-front g c = λ before.
     let e = c.repair-outcome.ensures in
     front_written c.repair-outcome.result _ _ _ _ _ _ e.ok e.read_fault (λ is. e.write_fault is before) e.limit
+
+pub returns-clause-write_fault : goal.returns-clause-write_fault
+returns-clause-write_fault g c = λ is before.
+    let (bytes, few, stopped) = c.repair-outcome.ensures.write_fault (c.status_of.ensures.write_fault.0 is) before in
+    (bytes, g.R.Source.has_ended c.repair-outcome.new.reader, stopped)
