@@ -225,8 +225,8 @@ fn ends_at_each_break(from: usize, letters: usize) -> bool {
 
 #[test]
 fn letters_among_others_with_each_break(rt: HostRuntime) {
-    for from in [0, 2, 64, 100, 126] {
-        for letters in [190, 256, 318, 320, 448, 574, 640] {
+    for from in [0, 64, 100] {
+        for letters in [254, 320, 574] {
             assert!(rt; ends_at_each_break(from, letters), "{from}, {letters}");
         }
     }
