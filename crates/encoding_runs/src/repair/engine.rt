@@ -38,9 +38,9 @@ const ROOM: usize = 3 * ROUND;
 /// How many bytes wait at most where a slice is repaired: a short one isn't worth the zeros of a long array.
 const SLICE_ROOM: usize = 192;
 
-/// Writes all of the bytes, each once, by as many writes as that takes.
-#[inline(always)]
-fn write_whole<W: Sink>(writer: &mut W, bytes: &[u8]) -> Result<(), RepairFault>
+/// Writes all of the bytes, each once, by as many writes as that takes. Out of line: most writers take all at once.
+#[inline(never)]
+fn write_by_parts<W: Sink>(writer: &mut W, bytes: &[u8]) -> Result<(), RepairFault>
     ensures ok { IfOk result (λ _. Appends (W.contents writer.old) (W.contents writer.new) bytes.now
         × (W.has_failed writer.new ≡ W.has_failed writer.old)) }
     ensures err { IfErr result (λ fault. (fault ≡ RepairFault.Write) × (W.has_failed writer.new ≡ true)
@@ -53,6 +53,27 @@ fn write_whole<W: Sink>(writer: &mut W, bytes: &[u8]) -> Result<(), RepairFault>
             Some(count) => at += count,
             None => return Err(RepairFault::Write),
         }
+    }
+    Ok(())
+}
+
+/// Writes all of the bytes, each once, by as many writes as that takes.
+#[inline(always)]
+fn write_whole<W: Sink>(writer: &mut W, bytes: &[u8]) -> Result<(), RepairFault>
+    ensures ok { IfOk result (λ _. Appends (W.contents writer.old) (W.contents writer.new) bytes.now
+        × (W.has_failed writer.new ≡ W.has_failed writer.old)) }
+    ensures err { IfErr result (λ fault. (fault ≡ RepairFault.Write) × (W.has_failed writer.new ≡ true)
+        × (n : ℕ) × (n < length bytes.now) × Appends (W.contents writer.old) (W.contents writer.new) (take n bytes.now)) }
+    ensures keeps { W.keeps writer.old writer.new }
+{
+    if bytes.is_empty() {
+        return Ok(());
+    }
+    let Some(count) = writer.write(bytes) else {
+        return Err(RepairFault::Write);
+    };
+    if count < bytes.len() {
+        return write_by_parts(writer, &bytes[count..]);
     }
     Ok(())
 }

@@ -1,17 +1,16 @@
-use Rattle.std.proofs.Common.{arith, length, take-add, ap, ◌∙◌}
-use Rattle.std.proofs.lemmas.List.{take_rest, length-drop}
+use Rattle.std.proofs.Common.{◌≡◌, ℕ, ◌+◌, ◌<◌, ◌≤◌, List, Option, Result, Ok, Err, IfErr, drop, length, take, take-add, arith}
+use Rattle.std.specs.Io.KnownBytes.{Appends}
 use Rattle.std.proofs.KnownBytes.{Appends-trans}
+use Rattle.std.proofs.lemmas.List.{length-drop, take_rest}
 use Rattle.encoding_runs.proofs.repair.engine.write_whole.Goals as goal
 
-pub loop-at-preserved : goal.loop-at-preserved
-loop-at-preserved g c =
-    let at = c.loop-at.at in
-    let bytes = c.args.bytes.now in
-    let e = c.in-Some.ensures in
-    let more = rw take_rest at e.bytes in
-    record {
-      within = omega (arith, e.bound, ap length (take_rest bytes at), length-drop at bytes);
-      wrote = rw take-add (Appends-trans _ _ _ _ _ c.loop-at.invariant.wrote more);
-      failed = e.failed ∙ c.loop-at.invariant.failed;
-      keeps = g.met.W.Sink.keeps_on _ _ _ c.loop-at.invariant.keeps e.keeps;
-    }
+-- a front of what stands behind the first bytes is one of all of them
+stopped : {A F : Type 0} (write : F) (failed : Type 0) (bytes : List ℕ) (count : ℕ) (old mid new : Option (List ℕ)) (r : Result A F) → count ≤ length bytes → Appends old mid (take count bytes)
+    → IfErr r (λ fault. (fault ≡ write) × failed × (n : ℕ) × (n < length (drop count bytes)) × Appends mid new (take n (drop count bytes)))
+    → IfErr r (λ fault. (fault ≡ write) × failed × (n : ℕ) × (n < length bytes) × Appends old new (take n bytes))
+stopped write failed bytes count old mid new (Ok u) within a e = e
+stopped write failed bytes count old mid new (Err f) within a (is, has, n, less, more) = (is, has, count + n, omega (arith, less, length-drop count bytes), rw take-add (Appends-trans _ _ _ _ _ a more))
+
+pub returns-then-count-bytes-clause-err : goal.returns-then-count-bytes-clause-err
+returns-then-count-bytes-clause-err g c =
+    stopped _ _ c.args.bytes.now c.in-Some.count _ _ _ c.write_by_parts.result (omega (arith, c.if-count-bytes.true)) c.in-Some.ensures.bytes (rw take_rest at c.write_by_parts.ensures.err)
