@@ -3,6 +3,7 @@ pub mod EndsLemmas
 pub mod SurrogatePairsLemmas
 pub mod CompressLemmas
 pub mod LaneLemmas
+pub mod LatinLanesLemmas
 pub mod LongLemmas
 pub mod NarrowLemmas
 pub mod PlacesLemmas

@@ -76,7 +76,7 @@ fn upper_bits(block: u8x16) -> u8x16
 
 /// The first eight lanes, and the last, each of a lower and an upper byte.
 #[inline(always)]
-fn join_bytes(lower: u8x16, upper: u8x16) -> (u16x8, u16x8)
+pub(crate) fn join_bytes(lower: u8x16, upper: u8x16) -> (u16x8, u16x8)
     ensures first { HasLanes 8 result.0 (λ k. slice_index lower k + 0x100 * slice_index upper k) }
     ensures last { HasLanes 8 result.1 (λ k. slice_index lower (8 + k) + 0x100 * slice_index upper (8 + k)) }
 {

@@ -11,6 +11,7 @@ mod decode_lanes;
 pub mod encode_lanes;
 mod encode_units;
 mod faults;
+pub mod latin1_to_utf8;
 pub mod lengths;
 pub mod pair_blocks;
 mod places;

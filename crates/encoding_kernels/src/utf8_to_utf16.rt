@@ -16,7 +16,7 @@ use crate::compress_units::compress;
 use crate::decode_lanes::{code_units, triple_units, unit_ends};
 use crate::scalars::{scalar_of_sequence, write_utf16};
 use crate::sequence::{is_continuation, sequence_length};
-use crate::strides::{ASCII_END, LANES as BYTE_LANES, are_bytes_below, unpack_ascii};
+use crate::strides::{ASCII_END, LANES as BYTE_LANES, STRIDE, are_bytes_below, unpack_ascii};
 use std::simd::Simd;
 use std::simd::prelude::*;
 
@@ -272,6 +272,16 @@ fn write_tail(src: &[u8], dst: &mut [u16]) -> usize
     let block = with_zeros(src).to_array();
     let kept = unit_ends(u8x16::from_slice(&block), src.len());
     write_block_in_any_room(&block, src.len(), kept, dst)
+}
+
+/// Writes the UTF-16 of an ASCII prefix by strides, and returns how long it is. Behind it `dst` is as before.
+#[inline(always)]
+pub fn convert_ascii_front(src: &[u8], dst: &mut [u16]) -> usize
+    ensures within { (result ≤ length src.now) × (result ≤ length dst.old) }
+    ensures text { IsUtf8 (take result src.now) }
+    ensures written { WritesFront dst.old dst.new result (flat_map encode_utf16 (chars (take result src.now))) }
+{
+    unpack_ascii::<STRIDE>(src, dst, 0)
 }
 
 /// Writes the UTF-16 of a text, and returns how many code units these are. Behind what is written `dst` is as before.

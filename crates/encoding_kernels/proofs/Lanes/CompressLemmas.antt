@@ -170,10 +170,10 @@ module _ (ms : List Bool) (long : length ms ≡ 16) where
   low_small : mask_l (take 8 ms) < 256
   low_small = subst (λ k. mask_l (take 8 ms) < 2 ^ k) (length-take-le 8 ms (omega (arith, long))) (mask_l-lt (take 8 ms))
 
-  low_half : mask_l ms % 256 ≡ mask_l (take 8 ms)
+  pub low_half : mask_l ms % 256 ≡ mask_l (take 8 ms)
   low_half = omega (arith, halves, low_small)
 
-  high_half : mask_l ms / 256 ≡ mask_l (drop 8 ms)
+  pub high_half : mask_l ms / 256 ≡ mask_l (drop 8 ms)
   high_half = omega (arith, halves, low_small)
 
 -- ---- kept elements

@@ -3,7 +3,7 @@ use Rattle.std.proofs.Common.{◌≡◌, ℕ, zero, suc, ◌+◌, ◌-◌, ◌*�
 use lib.Utf8.{scalar, scalar_cases}
 use Rattle.std.specs.Char.{IsScalar}
 use Rattle.std.specs.Char.Escape.{encode_utf16}
-use Rattle.std.specs.Str.{all_scalars, IsUtf8, IsCharBoundary, IsAscii}
+use Rattle.std.specs.Str.{all_scalars, chars, IsUtf8, IsCharBoundary, IsAscii}
 use Rattle.std.specs.List.{flat_map, range_with_len}
 use Rattle.std.specs.Simd.Lanes.{put_chunk}
 use Rattle.std.proofs.str.Laws.{one, two, three, four}
@@ -12,7 +12,7 @@ use Rattle.std.proofs.lemmas.Grind.{same_number_lists}
 use Rattle.std.proofs.lemmas.Simd.{put_chunk_is}
 use Rattle.std.proofs.lemmas.List.{length-append, length-drop, length-take, take_at, take-take, drop_at, drop-drop, get_or-drop, get_or-take, take-append-le}
 use Rattle.std.proofs.lemmas.List.FromFn.{get_or-map-range_with_len}
-use Rattle.std.proofs.lemmas.Str.{IsUtf8-take, IsUtf8-drop, IsUtf8-from_ascii, IsCharBoundary-after_ascii, encodes-IsAscii, encodes_same}
+use Rattle.std.proofs.lemmas.Str.{IsUtf8-take, IsUtf8-drop, IsUtf8-from_ascii, IsCharBoundary-after_ascii, encodes-IsAscii, encodes_same, chars-IsAscii}
 use Rattle.encoding_definitions.specs.Fronts.{WritesFront}
 use Rattle.encoding_kernels.specs.Strides.{BelowUpTo}
 use Rattle.encoding_kernels.specs.Lanes.{HasLanes}
@@ -184,6 +184,13 @@ puts_block src old new us end count reach u few boundary e kept =
 ascii_units : (bs : List ℕ) → ((i : ℕ) → get_or bs i 0 < 128) → flat_map encode_utf16 bs ≡ bs
 ascii_units [] h = refl
 ascii_units (b ∷ bs) h = (λ i. one_unit b (omega (arith, h 0)) i ++ ascii_units bs (λ k. h (suc k)) i)
+
+-- an ASCII prefix is a text, and its own UTF-16
+pub ascii_text : (src : List ℕ) (n : ℕ) → n ≤ length src → BelowUpTo 0x80 src n → IsUtf8 (take n src) × (flat_map encode_utf16 (chars (take n src)) ≡ take n src)
+ascii_text src n within h =
+    let bs = take n src in
+    let ascii : IsAscii bs = Each-take (λ b. b < 0x80) (omega arith) src n h in
+    (IsUtf8-from_ascii bs ascii, ap (flat_map encode_utf16) (chars-IsAscii bs ascii) ∙ ascii_units bs ascii)
 
 pub puts_ascii : (src old new : List ℕ) (n : ℕ) → IsUtf8 src → 0 < n → n ≤ length src → BelowUpTo 0x80 src n → WritesFront old new n (take n src) → WritesUtf16 src old new n n n
 puts_ascii src old new n u some within h w =

@@ -1,0 +1,112 @@
+-- The UTF-8 of sixteen bytes of Latin1: both bytes of each, and which halves of them are kept.
+use Rattle.std.proofs.Common.{◌≡◌, ℕ, ◌+◌, ◌*◌, ◌/◌, ◌%◌, ◌^◌, ◌<◌, ◌≤◌, true, false, cond, leb, inl, inr, List, ◌++◌, map, length, take, drop, get_or, get_or-take, get_or-drop, length-append, length-drop, length-take-le, encode_utf8_all, bit_and, replicate, sym, ap, ◌∙◌, arith, subst, w8}
+use Rattle.std.specs.Prelude.{nat_le}
+use Rattle.std.proofs.lemmas.Bool.{cases_lt}
+use Rattle.std.proofs.lemmas.Bool.Decides.{nat_tests}
+use Rattle.std.proofs.lemmas.List.{length-map, take-map, drop-map, take-append-drop}
+use Rattle.std.proofs.lemmas.Nat.{and_mask}
+use Rattle.std.proofs.lemmas.Simd.{get_or_narrower, Each1-from_get_or, mask_l-lt}
+use Rattle.std.proofs.lemmas.Str.{encode_ascii, encodes-append}
+use Rattle.std.proofs.str.Laws.{two}
+use Rattle.std.specs.Simd.Lanes.{mask_l, number_l, digits_l, top, zip2, sel_l, Each1}
+use mir.Syntax.{w8}
+use Rattle.encoding_kernels.specs.Lanes.{HasLanes}
+use Rattle.encoding_kernels.specs.EncodeLanes.{EncodesTo}
+use Rattle.encoding_kernels.proofs.Lanes.CompressLemmas.{low_half, high_half}
+use Rattle.encoding_kernels.proofs.Lanes.LaneLemmas.{HasLanes-itself, HasLanes-splat, HasLanes-zip2, HasLanes-select, HasLanes-same, compared, top_compared}
+
+-- ---- one byte
+abbrev pub first_of : ℕ → ℕ
+first_of b = cond (leb 0x80 b) ((b / 2 ^ 6 + 0xC0) % 2 ^ 8) b
+
+abbrev pub second_of : ℕ → ℕ
+second_of b = (bit_and b 0x3F + 0x80) % 2 ^ 8
+
+EncodesTo-latin : (b : ℕ) → b < 0x100 → EncodesTo b (first_of b) (second_of b)
+EncodesTo-latin b l = elim (cases_lt b 0x80) [
+  | inl low ↦
+      let test : nat_le 0x80 b ≡ false = grind (arith, nat_tests) in
+      rw (test) (sym (encode_ascii b low))
+  | inr high ↦
+      let test : nat_le 0x80 b ≡ true = grind (arith, nat_tests) in
+      let bits : bit_and b 0x3F ≡ b % 2 ^ 6 = and_mask b 6 in
+      let first : (b / 2 ^ 6 + 0xC0) % 2 ^ 8 ≡ 192 + b / 64 = omega arith in
+      let second : second_of b ≡ 128 + b % 64 = omega arith in
+      rw (test, first, second) (sym (two b high (omega arith)))
+]
+
+first_small : (b : ℕ) → b < 0x100 → first_of b < 0x100
+first_small b l = elim (cases_lt b 0x80) [
+  | inl low ↦ let test : leb 0x80 b ≡ false = grind (arith, nat_tests) in rw (test) l
+  | inr high ↦ let test : leb 0x80 b ≡ true = grind (arith, nat_tests) in rw (test) (omega arith)
+]
+
+-- ---- lanes
+module _ (v : List ℕ) (long : length v ≡ 16) (small : (k : ℕ) → k < 16 → get_or v k 0 < 0x100) where
+  pub first_lanes : HasLanes 16 (sel_l (map (top 7) (zip2 (compared w8 leb) (replicate 16 0x80) v)) (zip2 (λ a b. (a + b) % 2 ^ 8) (zip2 (λ a b. a / 2 ^ b) v (replicate 16 6)) (replicate 16 0xC0)) v) (λ k. first_of (get_or v k 0))
+  first_lanes =
+      let lanes = HasLanes-itself 16 v long in
+      let lead = HasLanes-zip2 (λ a b. (a + b) % 2 ^ 8) (HasLanes-zip2 (λ a b. a / 2 ^ b) lanes (HasLanes-splat 16 6)) (HasLanes-splat 16 0xC0) in
+      let chosen = HasLanes-select 7 (HasLanes-zip2 (compared w8 leb) (HasLanes-splat 16 0x80) lanes) lead lanes in
+      HasLanes-same chosen (λ k l. ap (λ t. cond t ((get_or v k 0 / 2 ^ 6 + 0xC0) % 2 ^ 8) (get_or v k 0)) (top_compared w8 (leb 0x80 (get_or v k 0))))
+
+  pub second_lanes : HasLanes 16 (zip2 (λ a b. (a + b) % 2 ^ 8) (zip2 bit_and v (replicate 16 0x3F)) (replicate 16 0x80)) (λ k. second_of (get_or v k 0))
+  second_lanes = HasLanes-zip2 (λ a b. (a + b) % 2 ^ 8) (HasLanes-zip2 bit_and (HasLanes-itself 16 v long) (HasLanes-splat 16 0x3F)) (HasLanes-splat 16 0x80)
+
+  -- words of both bytes, as bytes
+  pub latin_pairs : (lower upper words : List ℕ) (at : ℕ → ℕ) → ((k : ℕ) → k < 8 → at k < 16) → HasLanes 16 lower (λ k. first_of (get_or v k 0)) → HasLanes 16 upper (λ k. second_of (get_or v k 0))
+      → HasLanes 8 words (λ k. get_or lower (at k) 0 + 0x100 * get_or upper (at k) 0) → (k : ℕ) → k < 8
+      → EncodesTo (get_or v (at k) 0) (get_or (digits_l 256 16 (number_l 65536 words)) (2 * k) 0) (get_or (digits_l 256 16 (number_l 65536 words)) (2 * k + 1) 0)
+  latin_pairs lower upper words at inside low high is k l =
+      let word : (i : ℕ) → i < 8 → get_or words i 0 ≡ first_of (get_or v (at i) 0) + 0x100 * second_of (get_or v (at i) 0) = λ i m.
+      is.each i m ∙ (λ j. low.each (at i) (inside i m) j + 0x100 * high.each (at i) (inside i m) j) in
+      let fit : Each1 (λ x. x < 65536) words = Each1-from_get_or (λ x. x < 65536) words 0 (λ i m.
+      let here : i < 8 = omega (arith, is.long) in omega (arith, word i here, first_small (get_or v (at i) 0) (small (at i) (inside i here)))) in
+      let b = get_or v (at k) 0 in
+      let bound = first_small b (small (at k) (inside k l)) in
+      let place : 2 * k ≡ 2 * k + 0 = omega arith in
+      let even : get_or words k 0 / 256 ^ 0 % 256 ≡ first_of b = omega (arith, word k l, bound) in
+      let odd : get_or words k 0 / 256 ^ 1 % 256 ≡ second_of b = omega (arith, word k l, bound) in
+      let first = ap (λ j. get_or (digits_l 256 16 (number_l 65536 words)) j 0) place ∙ get_or_narrower 65536 2 256 16 words k 0 (omega (arith, is.long)) fit (omega arith) (omega arith) ∙ even in
+      let second = get_or_narrower 65536 2 256 16 words k 1 (omega (arith, is.long)) fit (omega arith) (omega arith) ∙ odd in
+      subst (λ x. EncodesTo b x (get_or (digits_l 256 16 (number_l 65536 words)) (2 * k + 1) 0)) (sym first) (subst (EncodesTo b (first_of b)) (sym second) (EncodesTo-latin b (small (at k) (inside k l))))
+
+-- ---- halves
+module _ (v : List ℕ) (long : length v ≡ 16) (others : ℕ) (is : others ≡ mask_l (map (nat_le 0x80) v)) where
+  marks_long : length (map (nat_le 0x80) v) ≡ 16
+  marks_long = length-map v (nat_le 0x80) ∙ long
+
+  pub low_others : bit_and others 255 ≡ mask_l (map (nat_le 0x80) (take 8 v))
+  low_others = and_mask others 8 ∙ ap (λ m. m % 256) is ∙ low_half (map (nat_le 0x80) v) marks_long ∙ ap mask_l (take-map (nat_le 0x80) 8 v)
+
+  pub high_others : others / 256 ≡ mask_l (map (nat_le 0x80) (drop 8 v))
+  high_others = ap (λ m. m / 256) is ∙ high_half (map (nat_le 0x80) v) marks_long ∙ ap mask_l (drop-map (nat_le 0x80) 8 v)
+
+  pub others_small : others / 256 < 256
+  others_small = let bound : mask_l (map (nat_le 0x80) v) < 2 ^ 16 = subst (λ n. mask_l (map (nat_le 0x80) v) < 2 ^ n) marks_long (mask_l-lt (map (nat_le 0x80) v)) in
+      omega (arith, is)
+
+-- what both halves spell
+module _ (v : List ℕ) (long : length v ≡ 16) where
+  pub low_long : length (take 8 v) ≡ 8
+  low_long = length-take-le 8 v (omega (arith, long))
+
+  pub high_long : length (drop 8 v) ≡ 8
+  high_long = omega (arith, long, length-drop 8 v)
+
+  pub low_pairs : (pairs : List ℕ) → ((k : ℕ) → k < 8 → EncodesTo (get_or v k 0) (get_or pairs (2 * k) 0) (get_or pairs (2 * k + 1) 0))
+      → (k : ℕ) → k < 8 → EncodesTo (get_or (take 8 v) k 0) (get_or pairs (2 * k) 0) (get_or pairs (2 * k + 1) 0)
+  low_pairs pairs h k l = subst (λ b. EncodesTo b (get_or pairs (2 * k) 0) (get_or pairs (2 * k + 1) 0)) (sym (get_or-take 8 v k 0 l)) (h k l)
+
+  pub high_pairs : (pairs : List ℕ) → ((k : ℕ) → k < 8 → EncodesTo (get_or v (8 + k) 0) (get_or pairs (2 * k) 0) (get_or pairs (2 * k + 1) 0))
+      → (k : ℕ) → k < 8 → EncodesTo (get_or (drop 8 v) k 0) (get_or pairs (2 * k) 0) (get_or pairs (2 * k + 1) 0)
+  high_pairs pairs h k l = subst (λ b. EncodesTo b (get_or pairs (2 * k) 0) (get_or pairs (2 * k + 1) 0)) (sym (get_or-drop 8 v k 0)) (h k l)
+
+  pub both_spelled : (first second : List ℕ) (count more : ℕ) → length first ≡ 16 → length second ≡ 16 → count ≤ 16 → more ≤ 16
+      → take count first ≡ encode_utf8_all (take 8 v) → take more second ≡ encode_utf8_all (drop 8 v)
+      → (take count first ++ take more second ≡ encode_utf8_all v) × (count + more ≡ length (encode_utf8_all v))
+  both_spelled first second count more p q few less low high =
+      let joined : take count first ++ take more second ≡ encode_utf8_all v = (λ i. low i ++ high i) ∙ sym (encodes-append (take 8 v) (drop 8 v)) ∙ ap encode_utf8_all (take-append-drop 8 v) in (
+        joined,
+        omega (arith, length-append (take count first) (take more second), length-take-le count first (omega (arith, p)), length-take-le more second (omega (arith, q)), ap length joined),
+      )

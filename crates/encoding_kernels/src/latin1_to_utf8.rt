@@ -1,0 +1,67 @@
+//! The UTF-8 of sixteen bytes of Latin1: both bytes of each are computed, and which of them are kept is looked up by a
+//! mask.
+
+ghost use Rattle.std.specs.Prelude.{◌≡◌, ℕ, ◌+◌, ◌*◌, ◌<◌, ◌≤◌, ◌++◌, List, nat_le, length, map, take, drop, slice_index, encode_utf8_all};
+ghost use Rattle.std.specs.Simd.Lanes.{mask_l};
+ghost use Rattle.encoding_kernels.specs.EncodeLanes.{EncodesTo};
+
+use crate::compress_pairs::places_by;
+use crate::decode_lanes::join_bytes;
+use crate::encode_lanes::write_both;
+use std::simd::prelude::*;
+
+/// Sixteen bytes of Latin1 in two bytes each, by eight: the UTF-8 of each, and no matter what behind that of one byte.
+#[inline(always)]
+fn both_bytes(block: u8x16) -> (u8x16, u8x16)
+    ensures long { (length result.0 ≡ 16) × (length result.1 ≡ 16) }
+    ensures first { (k : ℕ) → k < 8
+        → EncodesTo (slice_index block k) (slice_index result.0 (2 * k)) (slice_index result.0 (2 * k + 1)) }
+    ensures last { (k : ℕ) → k < 8
+        → EncodesTo (slice_index block (8 + k)) (slice_index result.1 (2 * k)) (slice_index result.1 (2 * k + 1)) }
+{
+    let lead = (block >> u8x16::splat(6)) + u8x16::splat(0xC0);
+    let first = block.simd_ge(u8x16::splat(0x80)).select(lead, block);
+    let second = (block & u8x16::splat(0x3F)) + u8x16::splat(0x80);
+    let (low, high) = join_bytes(first, second);
+    (low.to_le_bytes(), high.to_le_bytes())
+}
+
+/// The mask of the bytes that aren't ASCII.
+#[inline(always)]
+fn mask_of_others(block: u8x16) -> usize
+    ensures { result ≡ mask_l (map (nat_le 0x80) block) }
+{
+    block.simd_ge(u8x16::splat(0x80)).to_bitmask() as usize
+}
+
+/// The bytes of eight pairs that a mask keeps, in the first ones of the vector, and how many these are.
+#[inline(always)]
+fn kept_bytes(pairs: u8x16, mask: usize) -> (u8x16, usize)
+    requires { mask < 256 }
+    ensures long { length result.0 ≡ 16 }
+    ensures count { (8 ≤ result.1) × (result.1 ≤ 16) }
+    ensures spelled { (bytes : List ℕ) → length bytes ≡ 8 → mask ≡ mask_l (map (nat_le 0x80) bytes)
+        → ((k : ℕ) → k < 8 → EncodesTo (slice_index bytes k) (slice_index pairs (2 * k)) (slice_index pairs (2 * k + 1)))
+        → take result.1 result.0 ≡ encode_utf8_all bytes }
+{
+    (
+        pairs.swizzle_dyn(places_by(mask)),
+        8 + mask.count_ones() as usize,
+    )
+}
+
+/// Writes the UTF-8 of sixteen bytes of Latin1, and returns how many bytes that is. Behind them `dst` is as before.
+#[inline(always)]
+pub fn write_latin1(block: u8x16, dst: &mut [u8], at: usize) -> usize
+    requires room { at + 32 ≤ length dst.old }
+    ensures most { result ≤ 32 }
+    ensures count { result ≡ length (encode_utf8_all block) }
+    ensures written { dst.new ≡ take at dst.old ++ (encode_utf8_all block ++ drop (at + result) dst.old) }
+{
+    let others = mask_of_others(block);
+    let (low, high) = both_bytes(block);
+    let (first, count) = kept_bytes(low, others & 0xFF);
+    let (second, more) = kept_bytes(high, others >> 8);
+    write_both(dst, at, first, count, second, more);
+    count + more
+}
