@@ -1,19 +1,11 @@
 //! Reads standard input to its end, and writes it to standard output as well-formed UTF-8.
 #![tactic(auto)]
 
-pub mod service;
-mod streams;
-#[cfg(test)]
-mod tests;
-
-use service::{NO_ARGUMENTS, report, serve};
+use repair_filter::service::{NO_ARGUMENTS, report, serve};
+use repair_filter::streams::{Due, ROOM, ReadAhead, WriteBehind};
 use std::cell::Cell;
 use std::env;
 use std::process::ExitCode;
-use streams::{Due, ReadAhead, WriteBehind};
-
-/// The length of the arrays between the engine and the standard streams: as many bytes as a pipe holds.
-const ROOM: usize = 0x10000;
 
 /// Serves the standard streams, each behind an array: they are not buffered, and each of their calls is one of the
 /// system.
