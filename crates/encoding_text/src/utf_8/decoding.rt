@@ -10,7 +10,7 @@ ghost use Rattle.encoding_text.specs.Steps.Converting.{Converted};
 use super::validation::{character_length, utf8_valid_up_to};
 use encoding_kernels::scalars::{scalar_of_sequence, write_utf16};
 use encoding_kernels::strides::copy_front;
-use encoding_kernels::utf8_to_utf16::convert_valid_utf8_to_utf16;
+use encoding_kernels::utf8_to_utf16::{convert_ascii_front, convert_valid_utf8_to_utf16};
 
 /// The most bytes that are validated before they are converted: so many stay in the nearest cache.
 const PIECE: usize = 4096;
@@ -86,12 +86,17 @@ pub fn convert_utf8_to_utf16_up_to_invalid(src: &[u8], dst: &mut [u16]) -> (usiz
 
 /// Converts UTF-8 by well-formed pieces whose UTF-16 fits whatever it is, and returns how many bytes it read and how
 /// many code units it wrote. Behind what is written `dst` is as before.
+///
+/// The test for ASCII is its validation, so ASCII before a piece is read once.
 fn convert_texts(src: &[u8], dst: &mut [u16]) -> (usize, usize)
     ensures { Converted encode_utf16 src.now dst.old dst.new result.0 result.1 }
 {
     let mut read = 0;
     let mut written = 0;
     loop {
+        let front = convert_ascii_front(&src[read..], &mut dst[written..]);
+        read += front;
+        written += front;
         let room = (src.len() - read).min(dst.len() - written).min(PIECE);
         let valid = utf8_valid_up_to(&src[read..read + room]);
         if valid == 0 {
