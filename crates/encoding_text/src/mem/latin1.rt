@@ -6,7 +6,7 @@ ghost use Rattle.std.specs.Str.{chars};
 ghost use Rattle.encoding_definitions.specs.Fronts.{FitsLongest, WritesFront};
 ghost use Rattle.encoding_definitions.specs.Latin1.{IsUtf8Latin1};
 
-use encoding_kernels::encode_lanes::write_short;
+use encoding_kernels::latin1_to_utf8::write_latin1;
 use encoding_kernels::strides::{
     ASCII_END, STRIDE, are_bytes_below, copy_ascii, pack_lower, unpack, write_first,
 };
@@ -34,23 +34,30 @@ pub fn convert_latin1_to_utf16(src: &[u8], dst: &mut [u16])
 
 /// Writes the UTF-8 of an ASCII prefix of `src` and of blocks of sixteen bytes behind it, and returns how many bytes
 /// these are and how many it wrote. Behind what is written `dst` is as before.
+///
+/// Four blocks share one test for ASCII: where ASCII and others stand mixed, a mispredicted branch costs more than a block.
 fn convert_latin1_blocks(src: &[u8], dst: &mut [u8]) -> (usize, usize)
     ensures within { result.0 ≤ length src.now }
     ensures written { WritesFront dst.old dst.new result.1 (encode_utf8_all (take result.0 src.now)) }
 {
     let mut read = copy_ascii::<64>(src, dst, 0);
     let mut written = read;
-    while src.len() - read >= 16 && dst.len() - written >= 32 {
-        if are_bytes_below::<16>(src, read, ASCII_END) {
-            let front = copy_ascii::<16>(&src[read..], &mut dst[written..], 0);
+    while src.len() - read >= 64 && dst.len() - written >= 128 {
+        if are_bytes_below::<64>(src, read, ASCII_END) {
+            let front = copy_ascii::<64>(&src[read..], &mut dst[written..], 0);
             read += front;
             written += front;
         } else {
-            let first = u8x8::from_slice(&src[read..]).cast::<u16>();
-            let second = u8x8::from_slice(&src[read + 8..]).cast::<u16>();
-            written += write_short(first, second, dst, written);
-            read += 16;
+            let end = read + 64;
+            while read < end {
+                written += write_latin1(u8x16::from_slice(&src[read..]), dst, written);
+                read += 16;
+            }
         }
+    }
+    while src.len() - read >= 16 && dst.len() - written >= 32 {
+        written += write_latin1(u8x16::from_slice(&src[read..]), dst, written);
+        read += 16;
     }
     (read, written)
 }

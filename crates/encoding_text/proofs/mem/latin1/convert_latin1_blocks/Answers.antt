@@ -1,9 +1,8 @@
-use Rattle.std.proofs.Common.{arith, length, take, drop, ◌+◌, ◌-◌, ◌<◌, map-id, sym}
-use Rattle.std.specs.Simd.Lanes.{chunk}
+use Rattle.std.proofs.Common.{arith, length, take, drop, ◌-◌, ◌<◌, sym}
 use Rattle.std.proofs.lemmas.Str.{encodes-IsAscii}
 use Rattle.encoding_kernels.proofs.Latin.AsciiLemmas.{Each-take}
 use Rattle.encoding_definitions.proofs.LongestFronts.FrontsLemmas.{WritesFront-nil}
-use Rattle.encoding_kernels.proofs.CodeUnits.UnitBlocksLemmas.{short_lanes, written_short, written_ascii}
+use Rattle.encoding_kernels.proofs.CodeUnits.UnitBlocksLemmas.{written_eight, written_ascii}
 use Rattle.encoding_text.proofs.mem.latin1.convert_latin1_blocks.Goals as goal
 
 pub loop-read-init : goal.loop-read-init
@@ -27,20 +26,24 @@ loop-read-preserved-then-are_bytes_below c =
           (call.copied _ (WritesFront-nil (take (length c.loop-read.dst - c.loop-read.written) (drop c.loop-read.written c.loop-read.dst))));
     }
 
-pub write_short-written-requires-clause-short : goal.write_short-written-requires-clause-short
-write_short-written-requires-clause-short c =
-    let us = c.args.src.now in
-    let read = c.loop-read.read in
-    rw (map-id (chunk read 8 us), map-id (chunk (read + 8) 8 us)) (short_lanes us read (omega arith) (λ k from to. omega (arith, c.type_inv.src k)))
+pub loop-read-else-are_bytes_below-preserved : goal.loop-read-else-are_bytes_below-preserved
+loop-read-else-are_bytes_below-preserved c =
+    let here = c.loop-read-else-are_bytes_below.invariant in
+    let call = c.write_latin1-written.ensures in
+    record {
+      within = (omega (arith, here.whole), here.within.1);
+      whole = omega (arith, here.whole);
+      room = omega (arith, here.whole, here.room, call.most);
+      written = written_eight c.args.src.now c.args.dst.now _ c.write_latin1-written.new.dst c.loop-read-else-are_bytes_below.read c.loop-read-else-are_bytes_below.written here.written 16 c.write_latin1-written.result call.count
+          (omega (arith, here.whole, here.room, call.most)) call.written;
+    }
 
-pub loop-read-preserved : goal.loop-read-preserved
-loop-read-preserved c =
-    let us = c.args.src.now in
-    let read = c.loop-read.read in
-    let here = c.loop-read.invariant in
-    let call = c.write_short-written.ensures in
+pub loop-read-2-preserved : goal.loop-read-2-preserved
+loop-read-2-preserved c =
+    let here = c.loop-read-2.invariant in
+    let call = c.write_latin1-written-in-loop-read-2.ensures in
     record {
       within = omega arith;
-      written = written_short us c.args.dst.now _ c.write_short-written.new.dst read c.loop-read.written here.written _ _ c.write_short-written.result
-          (map-id (chunk read 8 us)) (map-id (chunk (read + 8) 8 us)) call.count (omega (arith, call.most)) call.written;
+      written = written_eight c.args.src.now c.args.dst.now _ c.write_latin1-written-in-loop-read-2.new.dst c.loop-read-2.read c.loop-read-2.written here.written 16 c.write_latin1-written-in-loop-read-2.result call.count
+          (omega (arith, call.most)) call.written;
     }
