@@ -10,6 +10,7 @@ pub mod PlacesLemmas
 pub mod PlainLemmas
 pub mod PutLemmas
 pub mod EncodeLanesLemmas
+pub mod SpillsLemmas
 pub mod StoresLemmas
 pub mod TestLemmas
 pub mod UnitBytesLemmas

@@ -1,5 +1,5 @@
 -- Steps of a conversion to UTF-8 by vectors: code units in two bytes each, and which of these are kept.
-use Rattle.std.specs.Prelude.{◌≡◌, ℕ, ◌+◌, ◌*◌, ◌%◌, ◌<◌, ◌⊎◌, ◌&&◌, nat_lt, ◌≤◌, Bool, nat_le, List, [], ◌∷◌, ◌++◌, if◌then◌else◌, encode_utf8, slice_index}
+use Rattle.std.specs.Prelude.{◌≡◌, ℕ, ◌+◌, ◌*◌, ◌%◌, ◌<◌, ◌⊎◌, ◌&&◌, nat_lt, ◌≤◌, Bool, nat_le, List, [], ◌∷◌, ◌++◌, if◌then◌else◌, encode_utf8, slice_index, length, take, drop}
 
 -- of two bytes for each test, from a place on, the first, and the second where the test holds
 abbrev pub kept_places : ℕ → List Bool → List ℕ
@@ -48,3 +48,14 @@ classes (u ∷ us) = nat_lt u 0x80 ∷ nat_lt u 0x800 ∷ classes us
 -- the UTF-8 of the code unit is the last one, two or three of these bytes
 abbrev pub EncodesLast : ℕ → ℕ → ℕ → ℕ → Type 0
 EncodesLast unit x y z = (if nat_lt unit 0x80 then z ∷ [] else (if nat_lt unit 0x800 then y ∷ z ∷ [] else x ∷ y ∷ z ∷ [])) ≡ encode_utf8 unit
+
+-- with what was kept of them put back in the sixteen places from one on
+abbrev pub mended : List ℕ → ℕ → List ℕ → List ℕ
+mended xs at kept = take at xs ++ (kept ++ drop (at + 16) xs)
+
+-- bytes are stored at a place, of which so many first ones count, and of what stands behind these no more than sixteen are changed
+pub record Spills (old new : List ℕ) (at count : ℕ) (out : List ℕ) : Type 0 where
+  pub counted : length out ≡ count
+  pub front : take (at + count) new ≡ take at old ++ out
+  pub behind : drop (at + count + 16) new ≡ drop (at + count + 16) old
+  pub long : length new ≡ length old

@@ -2,7 +2,7 @@
 
 ghost use Rattle.std.specs.Prelude.{◌≡◌, ℕ, ◌+◌, ◌*◌, ◌<◌, ◌≤◌, ◌++◌, nat_le, length, map, take, drop, slice_index, encode_utf8_all, IsTrue};
 ghost use Rattle.std.specs.Simd.Lanes.{mask_l};
-ghost use Rattle.encoding_kernels.specs.EncodeLanes.{EncodesTo};
+ghost use Rattle.encoding_kernels.specs.EncodeLanes.{EncodesTo, Spills, mended};
 
 use crate::compress_pairs::places_by;
 use crate::strides::LANES;
@@ -68,6 +68,46 @@ pub(crate) fn write_both(
         .copy_to_slice(&mut dst[next..]);
 }
 
+/// Stores two vectors of which first bytes count, so many of each, one behind the other. Of what stands behind these no
+/// more than sixteen bytes are changed.
+#[inline(always)]
+pub(crate) fn store_two(
+    dst: &mut [u8],
+    at: usize,
+    first: u8x16,
+    count: usize,
+    second: u8x16,
+    more: usize,
+)
+    requires room { at + 32 ≤ length dst.old }
+    requires first { (count ≤ 16) × (length first ≡ 16) }
+    requires second { (more ≤ 16) × (length second ≡ 16) }
+    ensures { Spills dst.old dst.new at (count + more) (take count first ++ take more second) }
+{
+    first.copy_to_slice(&mut dst[at..]);
+    second.copy_to_slice(&mut dst[at + count..]);
+}
+
+/// Stores the UTF-8 of twice eight code units below U+0800, and returns how many bytes that is and what stood in the
+/// sixteen places behind them, which may be changed.
+#[inline(always)]
+pub(crate) fn store_short(first: u16x8, second: u16x8, dst: &mut [u8], at: usize) -> (usize, u8x16)
+    requires room { at + 48 ≤ length dst.old }
+    requires short { (k : ℕ) → (slice_index first k < 0x800) × (slice_index second k < 0x800) }
+    ensures most { (16 ≤ result.0) × (result.0 ≤ 32) }
+    ensures count { result.0 ≡ length (encode_utf8_all first ++ encode_utf8_all second) }
+    ensures kept { length result.1 ≡ 16 }
+    ensures written { mended dst.new (at + result.0) result.1
+        ≡ take at dst.old ++ ((encode_utf8_all first ++ encode_utf8_all second) ++ drop (at + result.0) dst.old) }
+{
+    let (bytes, count) = encode_short(first);
+    let (other, more) = encode_short(second);
+    let all = count + more;
+    let kept = u8x16::from_slice(&dst[at + all..]);
+    store_two(dst, at, bytes, count, other, more);
+    (all, kept)
+}
+
 /// Writes the UTF-8 of twice eight code units below U+0800, and returns how many bytes that is. Behind them `dst` is as
 /// before.
 #[inline(always)]
@@ -123,4 +163,22 @@ pub(crate) fn write_long(units: u16x8, dst: &mut [u8], at: usize)
     let (first, second) = encode_long(units);
     first.copy_to_slice(&mut dst[at..]);
     second.copy_to_slice(&mut dst[at + 16..]);
+}
+
+/// Stores the UTF-8 of twice eight code units from U+0800 on, and returns how many bytes that is and what stands in the
+/// sixteen places behind them.
+#[inline(always)]
+pub(crate) fn store_long(first: u16x8, second: u16x8, dst: &mut [u8], at: usize) -> (usize, u8x16)
+    requires room { at + 64 ≤ length dst.old }
+    requires long { (k : ℕ) → k < 8 → (0x800 ≤ slice_index first k) × (0x800 ≤ slice_index second k) }
+    ensures most { result.0 ≡ 48 }
+    ensures count { result.0 ≡ length (encode_utf8_all first ++ encode_utf8_all second) }
+    ensures kept { length result.1 ≡ 16 }
+    ensures written { mended dst.new (at + result.0) result.1
+        ≡ take at dst.old ++ ((encode_utf8_all first ++ encode_utf8_all second) ++ drop (at + result.0) dst.old) }
+{
+    let kept = u8x16::from_slice(&dst[at + 48..]);
+    write_long(first, dst, at);
+    write_long(second, dst, at + 24);
+    (48, kept)
 }

@@ -2,10 +2,10 @@
 
 ghost use Rattle.std.specs.Prelude.{◌≡◌, ℕ, ◌+◌, ◌*◌, ◌/◌, ◌%◌, ◌<◌, ◌≤◌, List, ◌++◌, length, take, drop, slice_index, encode_utf8_all, IsTrue};
 ghost use Rattle.std.specs.Simd.Lanes.{mask_l};
-ghost use Rattle.encoding_kernels.specs.EncodeLanes.{EncodesLast, classes};
+ghost use Rattle.encoding_kernels.specs.EncodeLanes.{EncodesLast, classes, mended};
 
 use crate::compress_last::last_by;
-use crate::encode_lanes::write_both;
+use crate::encode_lanes::{store_two, write_both};
 use std::simd::prelude::*;
 
 /// The least code unit of three bytes.
@@ -80,7 +80,7 @@ fn four_bytes(units: u16x8) -> (u8x16, u8x16)
 fn encode_four(bytes: u8x16, mask: usize) -> (u8x16, usize)
     requires { mask < 0x100 }
     ensures long { length result.0 ≡ 16 }
-    ensures count { result.1 ≤ 12 }
+    ensures count { (4 ≤ result.1) × (result.1 ≤ 12) }
     ensures spelled { (us : List ℕ) → length us ≡ 4 → mask ≡ mask_l (classes us)
         → ((k : ℕ) → k < 4 → EncodesLast (slice_index us k)
         (slice_index bytes (4 * k + 1)) (slice_index bytes (4 * k + 2)) (slice_index bytes (4 * k + 3)))
@@ -88,6 +88,22 @@ fn encode_four(bytes: u8x16, mask: usize) -> (u8x16, usize)
 {
     let count = 12 - mask.count_ones() as usize;
     (bytes.swizzle_dyn(last_by(mask)), count)
+}
+
+/// The UTF-8 of eight code units: that of the first four in the first bytes of a vector, and how many these are, and that
+/// of the others in another.
+#[inline(always)]
+fn encode_eight(units: u16x8) -> (u8x16, usize, u8x16, usize)
+    ensures long { (length result.0 ≡ 16) × (length result.2 ≡ 16) }
+    ensures first { (4 ≤ result.1) × (result.1 ≤ 12) }
+    ensures second { (4 ≤ result.3) × (result.3 ≤ 12) }
+    ensures spelled { take result.1 result.0 ++ take result.3 result.2 ≡ encode_utf8_all units }
+{
+    let (lanes, others) = four_bytes(units);
+    let mask = mask_of_classes(units);
+    let (bytes, count) = encode_four(lanes, mask & 0xFF);
+    let (other, more) = encode_four(others, mask >> 8);
+    (bytes, count, other, more)
 }
 
 /// Writes the UTF-8 of eight code units, and returns how many bytes that is. Behind them `dst` is as before, though up to
@@ -99,10 +115,33 @@ pub(crate) fn write_eight(units: u16x8, dst: &mut [u8], at: usize) -> usize
     ensures count { result ≡ length (encode_utf8_all units) }
     ensures written { dst.new ≡ take at dst.old ++ (encode_utf8_all units ++ drop (at + result) dst.old) }
 {
-    let (lanes, others) = four_bytes(units);
-    let mask = mask_of_classes(units);
-    let (bytes, count) = encode_four(lanes, mask & 0xFF);
-    let (other, more) = encode_four(others, mask >> 8);
+    let (bytes, count, other, more) = encode_eight(units);
     write_both(dst, at, bytes, count, other, more);
     count + more
+}
+
+/// Stores the UTF-8 of twice eight code units, and returns how many bytes that is and what stood in the sixteen places
+/// behind them, which may be changed.
+#[inline(always)]
+pub(crate) fn store_sixteen(
+    first: u16x8,
+    second: u16x8,
+    dst: &mut [u8],
+    at: usize,
+) -> (usize, u8x16)
+    requires room { at + 64 ≤ length dst.old }
+    ensures most { (16 ≤ result.0) × (result.0 ≤ 48) }
+    ensures count { result.0 ≡ length (encode_utf8_all first ++ encode_utf8_all second) }
+    ensures kept { length result.1 ≡ 16 }
+    ensures written { mended dst.new (at + result.0) result.1
+        ≡ take at dst.old ++ ((encode_utf8_all first ++ encode_utf8_all second) ++ drop (at + result.0) dst.old) }
+{
+    let (bytes, count, other, more) = encode_eight(first);
+    let (next, few, last, rest) = encode_eight(second);
+    let half = count + more;
+    let all = half + few + rest;
+    let kept = u8x16::from_slice(&dst[at + all..]);
+    store_two(dst, at, bytes, count, other, more);
+    store_two(dst, at + half, next, few, last, rest);
+    (all, kept)
 }

@@ -3,18 +3,41 @@
 ghost use Rattle.std.specs.Prelude.{◌≡◌, ◌+◌, ◌<◌, ◌≤◌, ◌⊎◌, ◌++◌, length, take, drop, encode_utf8_all, IsTrue};
 ghost use Rattle.encoding_definitions.specs.Fronts.{WritesFront};
 ghost use Rattle.encoding_definitions.specs.Utf16.{IsUtf8OfFront};
-ghost use Rattle.encoding_kernels.specs.EncodeLanes.{ArePlain};
+ghost use Rattle.encoding_kernels.specs.EncodeLanes.{ArePlain, mended};
 ghost use Rattle.encoding_kernels.specs.Strides.{AllBelow};
 
-use crate::encode_lanes::{are_long, write_long, write_short};
-use crate::encode_units::{are_plain, write_eight};
+use crate::encode_lanes::{are_long, store_long, store_short};
+use crate::encode_units::{are_plain, store_sixteen, write_eight};
 use crate::strides::{HALF_STRIDE, STRIDE, are_units_below, pack_ascii};
 use crate::surrogate_pairs::{are_short_or_paired, write_short_or_paired};
 use std::simd::prelude::*;
 
+/// The bytes that a block of sixteen code units may store, and those behind it that are kept.
+const ROOM: usize = 64;
+
+/// The blocks of ASCII in a row behind which strides of 32 are tried.
+const ASCII_BLOCKS: usize = 8;
+
+/// The bytes of eight code units above which most of the next ones are taken to be beyond ASCII too.
+const FEW_BYTES: usize = 16;
+
 /// The blocks behind one that isn't ASCII that go without a test for ASCII: text seldom changes to long ASCII there,
 /// and a test that comes out now one way and now the other costs more than it saves.
-const BLOCKS_BEHIND: usize = 7;
+const BLOCKS_BEHIND: usize = 8;
+
+/// Converts so many ASCII code units from a place on, to as many bytes.
+#[inline(always)]
+fn convert_ascii<const N: usize>(src: &[u16], at: usize, dst: &mut [u8], to: usize)
+    requires room { (at + N ≤ length src.now) × (to + N ≤ length dst.old) }
+    requires lanes { (0 < N) × (N ≤ 64) }
+    requires ascii { AllBelow 0x80 src.now at N }
+    ensures plain { ArePlain (take N (drop at src.now)) }
+    ensures count { length (encode_utf8_all (take N (drop at src.now))) ≡ N }
+    ensures written { dst.new ≡ take to dst.old ++ (encode_utf8_all (take N (drop at src.now)) ++ drop (to + N) dst.old) }
+{
+    let bytes = Simd::<u16, N>::from_slice(&src[at..]).cast::<u8>();
+    bytes.copy_to_slice(&mut dst[to..]);
+}
 
 /// Converts eight code units from a place on, if none is a surrogate, and returns how many code units it read, eight or
 /// none, and how many bytes it wrote. Behind these `dst` is as before.
@@ -29,36 +52,180 @@ fn convert_eight(src: &[u16], at: usize, dst: &mut [u8], to: usize) -> (usize, u
         ++ (encode_utf8_all (take result.0 (drop at src.now)) ++ drop (to + result.1) dst.old) }
 {
     let units = u16x8::from_slice(&src[at..]);
-    if are_long(units) {
-        write_long(units, dst, to);
-        return (8, 24);
-    }
     if are_plain(units) {
         return (8, write_eight(units, dst, to));
     }
     (0, 0)
 }
 
-/// Converts sixteen code units below U+0800 from a place on, and returns how many bytes it wrote. Behind these `dst` is
-/// as before.
+/// Converts blocks from the beginning of `src` on while most of them are ASCII, and returns how many code units these
+/// are and how many bytes it wrote: sixteen that are ASCII, or eight of any class but surrogates. It also ends behind a
+/// long run of ASCII. Behind what is written `dst` is as before.
 #[inline(always)]
-fn convert_sixteen(src: &[u16], at: usize, dst: &mut [u8], to: usize) -> usize
-    requires room { (at + 16 ≤ length src.now) × (to + 32 ≤ length dst.old) }
-    requires short { AllBelow 0x800 src.now at 16 }
-    ensures plain { ArePlain (take 16 (drop at src.now)) }
-    ensures count { result ≡ length (encode_utf8_all (take 16 (drop at src.now))) }
-    ensures most { result ≤ 32 }
-    ensures written { dst.new ≡ take to dst.old
-        ++ (encode_utf8_all (take 16 (drop at src.now)) ++ drop (to + result) dst.old) }
+fn convert_sparse_blocks(src: &[u16], dst: &mut [u8]) -> (usize, usize)
+    ensures within { result.0 ≤ length src.now }
+    ensures plain { ArePlain (take result.0 src.now) }
+    ensures written { WritesFront dst.old dst.new result.1 (encode_utf8_all (take result.0 src.now)) }
+{
+    let mut read = 0;
+    let mut written = 0;
+    let mut blocks = 0;
+    let mut last = 0;
+    while src.len() - read >= STRIDE
+        && dst.len() - written >= ROOM
+        && blocks < ASCII_BLOCKS
+        && last <= FEW_BYTES
+    {
+        if are_units_below::<8>(src, read, 0x80) {
+            if are_units_below::<8>(src, read + 8, 0x80) {
+                convert_ascii::<16>(src, read, dst, written);
+                read += 16;
+                written += 16;
+                blocks += 1;
+            } else {
+                convert_ascii::<8>(src, read, dst, written);
+                read += 8;
+                written += 8;
+            }
+            continue;
+        }
+        if are_units_below::<8>(src, read, 0x800) {
+            break;
+        }
+        let (units, bytes) = convert_eight(src, read, dst, written);
+        if units == 0 {
+            break;
+        }
+        read += units;
+        written += bytes;
+        blocks = 0;
+        last = bytes;
+    }
+    (read, written)
+}
+
+/// Whether none of the sixteen code units from a place on is a surrogate.
+#[inline(always)]
+fn are_sixteen_plain(src: &[u16], at: usize) -> bool
+    requires { at + 16 ≤ length src.now }
+    ensures { IsTrue result → ArePlain (take 16 (drop at src.now)) }
+{
+    if are_units_below::<16>(src, at, 0x800) {
+        return true;
+    }
+    let first = u16x8::from_slice(&src[at..]);
+    let second = u16x8::from_slice(&src[at + 8..]);
+    are_plain(first) & are_plain(second)
+}
+
+/// Converts sixteen code units without a surrogate from a place on, and returns how many bytes these take, what stood in
+/// the sixteen places behind them, and whether all are from U+0800 on, for which they are tested only where that is told
+/// to be likely.
+#[inline(always)]
+fn convert_sixteen(
+    src: &[u16],
+    at: usize,
+    dst: &mut [u8],
+    to: usize,
+    is_long_likely: bool,
+) -> (usize, u8x16, bool)
+    requires room { (at + 16 ≤ length src.now) × (to + 64 ≤ length dst.old) }
+    ensures count { result.0 ≡ length (encode_utf8_all (take 16 (drop at src.now))) }
+    ensures most { (16 ≤ result.0) × (result.0 ≤ 48) }
+    ensures kept { length result.1 ≡ 16 }
+    ensures written { mended dst.new (to + result.0) result.1
+        ≡ take to dst.old ++ (encode_utf8_all (take 16 (drop at src.now)) ++ drop (to + result.0) dst.old) }
 {
     let first = u16x8::from_slice(&src[at..]);
     let second = u16x8::from_slice(&src[at + 8..]);
-    write_short(first, second, dst, to)
+    if are_units_below::<16>(src, at, 0x800) {
+        let (bytes, kept) = store_short(first, second, dst, to);
+        return (bytes, kept, is_long_likely);
+    }
+    if is_long_likely && are_long(first) & are_long(second) {
+        let (bytes, kept) = store_long(first, second, dst, to);
+        return (bytes, kept, true);
+    }
+    let (bytes, kept) = store_sixteen(first, second, dst, to);
+    (bytes, kept, false)
 }
 
-/// Converts blocks of code units from the beginning of `src` on, and returns how many code units these are and how many
-/// bytes it wrote: sixteen below U+0080 or below U+0800, or eight without a surrogate. Behind what is written `dst` is as
-/// before.
+/// Converts blocks of sixteen code units from the beginning of `src` on while most are beyond ASCII and none is a
+/// surrogate, and returns how many code units these are and how many bytes it wrote. A block stores more than counts:
+/// what stood behind it is written back behind the last one alone, so that there too `dst` is as before.
+#[inline(always)]
+fn convert_dense_blocks(src: &[u16], dst: &mut [u8]) -> (usize, usize)
+    ensures within { result.0 ≤ length src.now }
+    ensures plain { ArePlain (take result.0 src.now) }
+    ensures written { WritesFront dst.old dst.new result.1 (encode_utf8_all (take result.0 src.now)) }
+{
+    if dst.len() < ROOM {
+        return (0, 0);
+    }
+    let mut read = 0;
+    let mut written = 0;
+    let mut behind = u8x16::from_slice(dst);
+    let mut untested = 0;
+    let mut is_long_likely = true;
+    while src.len() - read >= STRIDE && dst.len() - written >= ROOM {
+        if untested == 0 {
+            if are_units_below::<16>(src, read, 0x80) {
+                break;
+            }
+            untested = BLOCKS_BEHIND;
+            is_long_likely = true;
+        }
+        if !are_sixteen_plain(src, read) {
+            break;
+        }
+        let (bytes, kept, is_long) = convert_sixteen(src, read, dst, written, is_long_likely);
+        read += STRIDE;
+        written += bytes;
+        behind = kept;
+        untested -= 1;
+        is_long_likely = is_long;
+    }
+    behind.copy_to_slice(&mut dst[written..]);
+    (read, written)
+}
+
+/// Converts the first eight code units, if there are so many and none is a surrogate, and returns how many code units it
+/// read, eight or none, and how many bytes it wrote. Behind these `dst` is as before.
+#[inline(always)]
+fn convert_first_eight(src: &[u16], dst: &mut [u8]) -> (usize, usize)
+    ensures within { result.0 ≤ length src.now }
+    ensures plain { ArePlain (take result.0 src.now) }
+    ensures written { WritesFront dst.old dst.new result.1 (encode_utf8_all (take result.0 src.now)) }
+{
+    if src.len() < HALF_STRIDE || dst.len() < 32 {
+        return (0, 0);
+    }
+    convert_eight(src, 0, dst, 0)
+}
+
+/// Converts ASCII by long strides from the beginning of `src` on, then blocks that are mostly ASCII, then such as mostly
+/// aren't, and eight more, and returns how many code units these are and how many bytes it wrote. Behind what is written
+/// `dst` is as before.
+#[inline(always)]
+fn convert_some_blocks(src: &[u16], dst: &mut [u8]) -> (usize, usize)
+    ensures within { result.0 ≤ length src.now }
+    ensures plain { ArePlain (take result.0 src.now) }
+    ensures written { WritesFront dst.old dst.new result.1 (encode_utf8_all (take result.0 src.now)) }
+{
+    let mut read = pack_ascii::<32>(src, dst, 0);
+    let mut written = read;
+    let (sparse, few) = convert_sparse_blocks(&src[read..], &mut dst[written..]);
+    read += sparse;
+    written += few;
+    let (dense, many) = convert_dense_blocks(&src[read..], &mut dst[written..]);
+    read += dense;
+    written += many;
+    let (last, more) = convert_first_eight(&src[read..], &mut dst[written..]);
+    (read + last, written + more)
+}
+
+/// Converts blocks of code units from the beginning of `src` on, none of which has a surrogate, and returns how many code
+/// units these are and how many bytes it wrote. Behind what is written `dst` is as before.
 pub fn convert_blocks(src: &[u16], dst: &mut [u8]) -> (usize, usize)
     ensures within { result.0 ≤ length src.now }
     ensures plain { ArePlain (take result.0 src.now) }
@@ -66,31 +233,13 @@ pub fn convert_blocks(src: &[u16], dst: &mut [u8]) -> (usize, usize)
 {
     let mut read = 0;
     let mut written = 0;
-    let mut behind = 0;
     while src.len() - read >= HALF_STRIDE && dst.len() - written >= 32 {
-        let is_short = src.len() - read >= STRIDE && are_units_below::<16>(src, read, 0x800);
-        if is_short && behind > 0 {
-            written += convert_sixteen(src, read, dst, written);
-            read += STRIDE;
-            behind -= 1;
-            continue;
+        let (units, bytes) = convert_some_blocks(&src[read..], &mut dst[written..]);
+        if units == 0 {
+            break;
         }
-        if is_short && are_units_below::<16>(src, read, 0x80) {
-            let front = pack_ascii::<16>(&src[read..], &mut dst[written..], 0);
-            read += front;
-            written += front;
-        } else if is_short {
-            written += convert_sixteen(src, read, dst, written);
-            read += STRIDE;
-            behind = BLOCKS_BEHIND;
-        } else {
-            let (units, bytes) = convert_eight(src, read, dst, written);
-            if units == 0 {
-                break;
-            }
-            read += units;
-            written += bytes;
-        }
+        read += units;
+        written += bytes;
     }
     (read, written)
 }

@@ -89,7 +89,7 @@ module _ (us old new : List ℕ) (read written : ℕ) (done : List Part16) (w : 
       (ap (λ xs. flat_map utf8_of done ++ xs) (sym (encode_ascii (get_or us read 0) ascii)) ∙ sym (step_written us read done (get_or us read 0) 1 w counts_as))
 
 -- ---- one block more
-encodes_more : (us : List ℕ) (n m : ℕ) → encode_utf8_all (take n us) ++ encode_utf8_all (take m (drop n us)) ≡ encode_utf8_all (take (n + m) us)
+pub encodes_more : (us : List ℕ) (n m : ℕ) → encode_utf8_all (take n us) ++ encode_utf8_all (take m (drop n us)) ≡ encode_utf8_all (take (n + m) us)
 encodes_more us n m = sym (encodes-append (take n us) (take m (drop n us))) ∙ ap encode_utf8_all (sym (take-add n m us))
 
 module _ (us : List ℕ) (n : ℕ) (plain : ArePlain (take n us)) where
@@ -139,6 +139,34 @@ module _ (us old new after : List ℕ) (n written : ℕ) (w : WritesFront old ne
       → after ≡ take written new ++ (encode_utf8_all (take k (drop n us)) ++ drop (written + m) new)
       → WritesFront old after (written + m) (encode_utf8_all (take (n + k) us))
   written_eight k m count room put = WritesFront-same _ _ _ _ _ _ (WritesFront_put old new after written m _ _ w count room put) refl (encodes_more us n k)
+
+-- a block of ASCII
+pub ascii_block : (us : List ℕ) (at n : ℕ) → AllBelow 0x80 us at n → encode_utf8_all (take n (drop at us)) ≡ take n (drop at us)
+ascii_block us at n below = encodes-IsAscii (take n (drop at us)) (Each-take (λ u. u < 0x80) (omega arith) (drop at us) n (λ k l. let same = get_or-drop at us k 0 in omega (arith, same, below (at + k) (omega arith) (omega arith))))
+
+-- two vectors of eight
+pub sixteen_plain : (us : List ℕ) (at : ℕ) → ((k : ℕ) → k < 8 → IsPlain (get_or (chunk at 8 us) k 0)) → ((k : ℕ) → k < 8 → IsPlain (get_or (chunk (at + 8) 8 us) k 0)) → ArePlain (take 16 (drop at us))
+sixteen_plain us at p q = plain_then (drop at us) 8 8 (eight_plain us at p) (rw (drop-drop 8 at us) (eight_plain us (at + 8) q))
+
+-- what is left was converted as far as some blocks go
+module _ (us : List ℕ) (read n : ℕ) where
+  pub plain_left : ArePlain (take read us) → ArePlain (take n (take (length us - read) (drop read us))) → ArePlain (take (read + n) us)
+  plain_left p q = plain_then us read n p (subst (λ xs. ArePlain (take n xs)) (take_rest us read) q)
+
+  pub written_left : (old new sub : List ℕ) (written m : ℕ) → WritesFront old new written (encode_utf8_all (take read us))
+      → WritesFront (take (length new - written) (drop written new)) sub m (encode_utf8_all (take n (take (length us - read) (drop read us))))
+      → WritesFront old (put_mid written (length new - written) new sub) (written + m) (encode_utf8_all (take (read + n) us))
+  written_left old new sub written m w v =
+      WritesFront-same _ _ _ _ _ _ (WritesFront_after old new written _ sub m _ w v) refl
+      (ap (λ xs. encode_utf8_all (take read us) ++ encode_utf8_all (take n xs)) (take_rest us read) ∙ encodes_more us read n)
+
+-- an ASCII front of all
+module _ (us : List ℕ) (m : ℕ) (below : BelowUpTo 0x80 us m) where
+  pub ascii_front_plain : ArePlain (take m us)
+  ascii_front_plain = Each-take IsPlain (λ r. omega (arith, r.0)) us m (λ k l r. omega (arith, below k l, r.0))
+
+  pub ascii_front_written : (old new : List ℕ) → WritesFront old new m (take m us) → WritesFront old new m (encode_utf8_all (take m us))
+  ascii_front_written old new w = WritesFront-same _ _ _ _ _ _ w refl (sym (encodes-IsAscii (take m us) (Each-take (λ u. u < 0x80) (omega arith) us m below)))
 
 -- an ASCII front of what is left
 module _ (us : List ℕ) (n m : ℕ) (below : BelowUpTo 0x80 (take (length us - n) (drop n us)) m) where

@@ -1,5 +1,5 @@
 -- Masks as tests of lanes: joined, chosen by, and what holds where no lane passes.
-use Rattle.std.proofs.Common.{◌≡◌, ℕ, ◌-◌, ◌^◌, ◌+◌, ◌<◌, ◌≤◌, ◌↔◌, IsTrue, Bool, true, false, not, cond, ◌&&◌, ◌||◌, eqb, List, map, replicate, bit_and, bit_or, bit_xor, sym, ap, ◌∙◌, arith, subst}
+use Rattle.std.proofs.Common.{◌≡◌, ℕ, ◌-◌, ◌^◌, ◌+◌, ◌<◌, ◌≤◌, ◌↔◌, IsTrue, Bool, true, false, not, cond, ◌&&◌, ◌||◌, eqb, List, map, replicate, bit_and, bit_or, bit_xor, refl, sym, ap, ◌∙◌, arith, subst}
 use Rattle.std.proofs.lemmas.Bool.{false≢true}
 use Rattle.std.specs.Int.Bits.{and_self, and_zero_l, and_zero_r, or_self, or_zero_l, or_zero_r, xor_self, xor_zero_l, xor_zero_r}
 use Rattle.std.specs.Simd.Lanes.{zip2, top, sel_l}
@@ -92,3 +92,8 @@ module _ {w : Width} {n : ℕ} {a : List ℕ} {t : ℕ → Bool} where
               stops = λ l h. false≢true (sym ((is _ l).1 h) ∙ first.found l);
             };
       }
+
+-- two tests under one
+pub and_both : (a b : Bool) → IsTrue (a && b) → IsTrue a × IsTrue b
+and_both true b t = (refl, t)
+and_both false b t = absurd (cc)

@@ -1,44 +1,21 @@
-use Rattle.std.proofs.Common.{◌+◌, ◌*◌, ◌++◌, ◌∙◌, take, drop, length, length-append, length-take-le, length-drop, get_or, get_or-take, get_or-drop, arith, subst, sym, ap}
-use Rattle.encoding_kernels.specs.EncodeLanes.{EncodesLast}
-use Rattle.encoding_kernels.proofs.Lanes.PlainLemmas.{both_masks, both_spelled}
+use Rattle.std.proofs.Common.{◌+◌, ◌++◌, ◌∙◌, take, drop, length, length-append, length-take-le, arith, ap}
 use Rattle.encoding_kernels.proofs.encode_units.write_eight.Goals as goal
 
 pub returns-clause-count : goal.returns-clause-count
 returns-clause-count c =
-    let us = c.args.units in
-    let long = c.fits-units.0 in
-    let bytes = c.four_bytes.ensures in
-    let first = c.encode_four-count.ensures in
-    let second = c.encode_four-more.ensures in
-    let lanes = c.four_bytes.result.0 in
-    let others = c.four_bytes.result.1 in
-    let masks = both_masks us c.mask_of_classes-mask.result long c.mask_of_classes-mask.ensures.mask in
-    let front = first.spelled (take 4 us) (length-take-le 4 us (omega (arith, long))) masks.0 (λ k l.
-    subst (λ u. EncodesLast u (get_or lanes (4 * k + 1) 0) (get_or lanes (4 * k + 2) 0) (get_or lanes (4 * k + 3) 0)) (sym (get_or-take 4 us k 0 l)) (bytes.first k l)) in
-    let behind = second.spelled (drop 4 us) (omega (arith, length-drop 4 us, long)) masks.1 (λ k l.
-    subst (λ u. EncodesLast u (get_or others (4 * k + 1) 0) (get_or others (4 * k + 2) 0) (get_or others (4 * k + 3) 0)) (sym (get_or-drop 4 us k 0)) (bytes.second k l)) in
-    let whole = both_spelled us c.encode_four-count.result.0 c.encode_four-more.result.0 c.encode_four-count.result.1 c.encode_four-more.result.1 front behind in
+    let here = c.encode_eight-count.result in
+    let call = c.encode_eight-count.ensures in
     omega (
       arith,
-      ap length whole,
-      length-append (take c.encode_four-count.result.1 c.encode_four-count.result.0) (take c.encode_four-more.result.1 c.encode_four-more.result.0),
-      length-take-le c.encode_four-count.result.1 c.encode_four-count.result.0 (omega (arith, first.long, first.count)),
-      length-take-le c.encode_four-more.result.1 c.encode_four-more.result.0 (omega (arith, second.long, second.count)),
+      ap length call.spelled,
+      length-append (take here.1 here.0) (take here.3 here.2),
+      length-take-le here.1 here.0 (omega (arith, call.long, call.first)),
+      length-take-le here.3 here.2 (omega (arith, call.long, call.second)),
     )
 
 pub returns-clause-written : goal.returns-clause-written
 returns-clause-written c =
-    let us = c.args.units in
-    let long = c.fits-units.0 in
-    let bytes = c.four_bytes.ensures in
-    let lanes = c.four_bytes.result.0 in
-    let others = c.four_bytes.result.1 in
-    let masks = both_masks us c.mask_of_classes-mask.result long c.mask_of_classes-mask.ensures.mask in
-    let front = c.encode_four-count.ensures.spelled (take 4 us) (length-take-le 4 us (omega (arith, long))) masks.0 (λ k l.
-    subst (λ u. EncodesLast u (get_or lanes (4 * k + 1) 0) (get_or lanes (4 * k + 2) 0) (get_or lanes (4 * k + 3) 0)) (sym (get_or-take 4 us k 0 l)) (bytes.first k l)) in
-    let behind = c.encode_four-more.ensures.spelled (drop 4 us) (omega (arith, length-drop 4 us, long)) masks.1 (λ k l.
-    subst (λ u. EncodesLast u (get_or others (4 * k + 1) 0) (get_or others (4 * k + 2) 0) (get_or others (4 * k + 3) 0)) (sym (get_or-drop 4 us k 0)) (bytes.second k l)) in
-    let whole = both_spelled us c.encode_four-count.result.0 c.encode_four-more.result.0 c.encode_four-count.result.1 c.encode_four-more.result.1 front behind in
-    let dst = c.args.dst.now in
+    let here = c.encode_eight-count.result in
     let at = c.args.at in
-    c.write_both.ensures ∙ ap (λ xs. take at dst ++ (xs ++ drop (at + (c.encode_four-count.result.1 + c.encode_four-more.result.1)) dst)) whole
+    let dst = c.args.dst.now in
+    c.write_both.ensures ∙ ap (λ xs. take at dst ++ (xs ++ drop (at + (here.1 + here.3)) dst)) c.encode_eight-count.ensures.spelled

@@ -1,0 +1,71 @@
+-- Vectors stored of which first bytes count, and what stood behind these put back.
+use Rattle.std.proofs.Common.{◌≡◌, ℕ, ◌+◌, ◌≤◌, List, [], ◌++◌, length, take, drop, drop-drop, subst, take-add, length-take-le, length-append, length-drop, refl, sym, ap, ◌∙◌, arith, append_assoc}
+use Rattle.std.proofs.lemmas.List.{take_at, drop_at, take-append-le, take-append-drop}
+use Rattle.std.proofs.lemmas.Simd.{length-put_chunk, chunk-drop}
+use Rattle.std.proofs.lemmas.Slice.{drop-append-drop}
+use Rattle.std.specs.Simd.Lanes.{chunk, put_chunk}
+use Rattle.encoding_definitions.specs.Fronts.{WritesFront}
+use Rattle.encoding_definitions.proofs.LongestFronts.FrontsLemmas.{WritesFront-nil, WritesFront_put}
+use Rattle.encoding_kernels.specs.EncodeLanes.{Spills, mended}
+use Rattle.encoding_kernels.proofs.Lanes.PutLemmas.{put_is}
+
+-- one vector
+pub store_spills : (xs ys : List ℕ) (at n : ℕ) → length ys ≡ 16 → n ≤ 16 → at + 16 ≤ length xs → Spills xs (put_chunk at xs ys) at n (take n ys)
+store_spills xs ys at n long few room =
+    let is : put_chunk at xs ys ≡ take at xs ++ (ys ++ drop (at + 16) xs) = put_is at 16 xs ys long room in
+    let start : length (take at xs) ≡ at = length-take-le at xs (omega arith) in
+    let both : length (take at xs ++ ys) ≡ at + 16 = omega (arith, length-append (take at xs) ys) in
+    record {
+      counted = length-take-le n ys (omega arith);
+      front = take-add at n (put_chunk at xs ys) ∙ (λ i. take at (is i) ++ take n (drop at (is i)))
+          ∙ (λ i. take_at (take at xs) (ys ++ drop (at + 16) xs) at start i ++ take n (drop_at (take at xs) (ys ++ drop (at + 16) xs) at start i))
+          ∙ ap (λ zs. take at xs ++ zs) (take-append-le n ys (drop (at + 16) xs) (omega arith));
+      behind = ap (drop (at + n + 16)) (is ∙ sym (append_assoc (take at xs) ys (drop (at + 16) xs))) ∙ drop-append-drop (at + 16) xs (take at xs ++ ys) (at + n + 16) (omega arith) both;
+      long = length-put_chunk at xs ys;
+    }
+
+-- one behind the other
+pub spills_then : (a b c : List ℕ) (at n m : ℕ) (xs ys : List ℕ) → Spills a b at n xs → Spills b c (at + n) m ys → Spills a c at (n + m) (xs ++ ys)
+spills_then a b c at n m xs ys p q =
+    let place : at + (n + m) ≡ at + n + m = omega arith in
+    let last : at + (n + m) + 16 ≡ at + n + 16 + m = omega arith in
+    let end : at + n + 16 + m ≡ at + n + m + 16 = omega arith in
+    record {
+      counted = omega (arith, length-append xs ys, p.counted, q.counted);
+      front = ap (λ k. take k c) place ∙ q.front ∙ ap (λ zs. zs ++ ys) p.front ∙ append_assoc (take at a) xs ys;
+      behind = ap (λ k. drop k c) (last ∙ end) ∙ q.behind ∙ ap (λ k. drop k b) (sym end) ∙ sym (drop-drop m (at + n + 16) b) ∙ ap (drop m) p.behind ∙ drop-drop m (at + n + 16) a ∙ ap (λ k. drop k a) (sym last);
+      long = q.long ∙ p.long;
+    }
+
+-- what stood behind put back
+pub spills_mended : (old new : List ℕ) (at n : ℕ) (out : List ℕ) → Spills old new at n out → mended new (at + n) (chunk (at + n) 16 old) ≡ take at old ++ (out ++ drop (at + n) old)
+spills_mended old new at n out p =
+    (λ i. p.front i ++ (chunk (at + n) 16 old ++ p.behind i)) ∙ ap (λ zs. (take at old ++ out) ++ zs) (sym (chunk-drop (at + n) 16 old)) ∙ append_assoc (take at old) out (drop (at + n) old)
+
+-- nothing written
+pub mended_first : (xs : List ℕ) → WritesFront xs (mended xs 0 (chunk 0 16 xs)) 0 []
+mended_first xs = subst (λ ys. WritesFront xs ys 0 []) (sym (take-append-drop 16 xs)) (WritesFront-nil xs)
+
+-- one block more, of sixteen bytes at least
+pub mended_put : (old d e s t out more : List ℕ) (w c : ℕ) → WritesFront old (mended d w s) w out → length s ≡ 16 → w + 16 ≤ length d → c ≡ length more → 16 ≤ c → w + c ≤ length d
+    → mended e (w + c) t ≡ take w d ++ (more ++ drop (w + c) d) → WritesFront old (mended e (w + c) t) (w + c) (out ++ more)
+mended_put old d e s t out more w c v long room count most fits put =
+    let start : length (take w d) ≡ w = length-take-le w d (omega arith) in
+    let both : length (take w d ++ s) ≡ w + 16 = omega (arith, length-append (take w d) s) in
+    let front : take w (mended d w s) ≡ take w d = take_at (take w d) (s ++ drop (w + 16) d) w start in
+    let behind : drop (w + c) (mended d w s) ≡ drop (w + c) d = ap (drop (w + c)) (sym (append_assoc (take w d) s (drop (w + 16) d))) ∙ drop-append-drop (w + 16) d (take w d ++ s) (w + c) (omega arith) both in
+    let whole : length (mended d w s) ≡ length d = omega (arith, start, long, length-append (take w d) (s ++ drop (w + 16) d), length-append s (drop (w + 16) d), length-drop (w + 16) d) in
+    WritesFront_put old (mended d w s) (mended e (w + c) t) w c out more v count (omega (arith, whole)) (put ∙ (λ i. sym front i ++ (more ++ sym behind i)))
+
+-- what is written and no more
+pub exact_spills : (old new out : List ℕ) (at n : ℕ) → length out ≡ n → at + n ≤ length old → new ≡ take at old ++ (out ++ drop (at + n) old) → Spills old new at n out
+exact_spills old new out at n count room put =
+    let start : length (take at old) ≡ at = length-take-le at old (omega arith) in
+    let both : length (take at old ++ out) ≡ at + n = omega (arith, length-append (take at old) out) in
+    let is : new ≡ (take at old ++ out) ++ drop (at + n) old = put ∙ sym (append_assoc (take at old) out (drop (at + n) old)) in
+    record {
+      counted = count;
+      front = ap (take (at + n)) is ∙ take_at (take at old ++ out) (drop (at + n) old) (at + n) both;
+      behind = ap (drop (at + n + 16)) is ∙ drop-append-drop (at + n) old (take at old ++ out) (at + n + 16) (omega arith) both;
+      long = omega (arith, ap length is, length-append (take at old ++ out) (drop (at + n) old), length-drop (at + n) old);
+    }

@@ -1,0 +1,19 @@
+use Rattle.std.proofs.Common.{◌+◌, ◌++◌, ◌∙◌, take, drop, ap, sym, map-id, length, arith}
+use Rattle.std.proofs.lemmas.Simd.{length-chunk}
+use Rattle.std.specs.Simd.Lanes.{chunk, put_chunk}
+use Rattle.encoding_kernels.proofs.Lanes.PutLemmas.{put_is}
+use Rattle.encoding_kernels.proofs.CodeUnits.UnitBlocksLemmas.{ascii_block}
+use Rattle.encoding_kernels.proofs.utf16_blocks.convert_ascii.Goals as goal
+
+pub returns-clause-count : goal.returns-clause-count
+returns-clause-count g c = ap length (ascii_block c.args.src.now c.args.at g.row.N c.requires.ascii) ∙ length-chunk c.args.at g.row.N c.args.src.now c.requires.room.0
+
+pub returns-clause-written : goal.returns-clause-written
+returns-clause-written g c =
+    let at = c.args.at in
+    let to = c.args.to in
+    let dst = c.args.dst.now in
+    let units = chunk at g.row.N c.args.src.now in
+    ap (put_chunk to dst) (map-id units)
+    ∙ put_is to g.row.N dst units (length-chunk at g.row.N c.args.src.now c.requires.room.0) c.requires.room.1
+    ∙ ap (λ xs. take to dst ++ (xs ++ drop (to + g.row.N) dst)) (sym (ascii_block c.args.src.now at g.row.N c.requires.ascii))

@@ -1,0 +1,30 @@
+use Rattle.std.proofs.Common.{◌+◌, arith}
+use Rattle.encoding_definitions.proofs.LongestFronts.FrontsLemmas.{WritesFront-nil}
+use Rattle.encoding_kernels.proofs.CodeUnits.UnitBlocksLemmas.{ascii_front_plain, ascii_front_written, plain_left, written_left}
+use Rattle.encoding_kernels.proofs.utf16_blocks.convert_some_blocks.Goals as goal
+
+pub returns-clause-plain : goal.returns-clause-plain
+returns-clause-plain c =
+    let us = c.args.src.now in
+    let front = c.pack_ascii-read.result in
+    let below = c.pack_ascii-read.ensures.copies.ascii (λ k l. absurd (omega arith)) in
+    let sparse = c.convert_sparse_blocks-sparse.result.0 in
+    let dense = c.convert_dense_blocks-dense.result.0 in
+    let first = plain_left us front sparse (ascii_front_plain us front below) c.convert_sparse_blocks-sparse.ensures.plain in
+    let second = plain_left us (front + sparse) dense first c.convert_dense_blocks-dense.ensures.plain in
+    plain_left us (front + sparse + dense) c.convert_first_eight-last.result.0 second c.convert_first_eight-last.ensures.plain
+
+pub returns-clause-written : goal.returns-clause-written
+returns-clause-written c =
+    let us = c.args.src.now in
+    let old = c.args.dst.now in
+    let front = c.pack_ascii-read.result in
+    let copies = c.pack_ascii-read.ensures.copies in
+    let below = copies.ascii (λ k l. absurd (omega arith)) in
+    let sparse = c.convert_sparse_blocks-sparse.result in
+    let dense = c.convert_dense_blocks-dense.result in
+    let last = c.convert_first_eight-last.result in
+    let first = ascii_front_written us front below old _ (copies.copied old (WritesFront-nil old)) in
+    let second = written_left us front sparse.0 old _ _ front sparse.1 first c.convert_sparse_blocks-sparse.ensures.written in
+    let third = written_left us (front + sparse.0) dense.0 old _ _ (front + sparse.1) dense.1 second c.convert_dense_blocks-dense.ensures.written in
+    written_left us (front + sparse.0 + dense.0) last.0 old _ _ (front + sparse.1 + dense.1) last.1 third c.convert_first_eight-last.ensures.written
