@@ -1,4 +1,4 @@
-use Rattle.std.proofs.Common.{◌+◌, ◌++◌, take, drop, length, encode_utf8_all, ap, ◌∙◌}
+use Rattle.std.proofs.Common.{◌+◌, ◌++◌, take, drop, ap, ◌∙◌}
 use Rattle.encoding_kernels.proofs.Lanes.LatinLanesLemmas.{low_others, high_others, others_small, low_long, high_long, low_pairs, high_pairs, both_spelled}
 use Rattle.encoding_kernels.proofs.latin1_to_utf8.write_latin1.Goals as goal
 
