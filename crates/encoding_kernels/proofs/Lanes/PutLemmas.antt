@@ -13,10 +13,6 @@ put_is at n xs ys long room =
 pub whole_chunk : {X : Type 0} (n : ℕ) (stride : List X) → length stride ≡ n → chunk 0 n stride ≡ stride
 whole_chunk n stride long = take_all n stride (omega (arith, long))
 
--- of a vector read from a stride
-pub put_stride : {X : Type 0} (at n : ℕ) (xs stride : List X) → length stride ≡ n → at + n ≤ length xs → put_chunk at xs (chunk 0 n stride) ≡ take at xs ++ (stride ++ drop (at + n) xs)
-put_stride at n xs stride long room = ap (put_chunk at xs) (whole_chunk n stride long) ∙ put_is at n xs stride long room
-
 -- of a vector read from the same place of another list, each lane cast to what holds it
 pub put_same_place : {X : Type 0} (at n : ℕ) (xs ys : List X) → at + n ≤ length ys → at + n ≤ length xs → put_chunk at xs (map (λ x. x) (chunk at n ys)) ≡ take at xs ++ (take n (drop at ys) ++ drop (at + n) xs)
 put_same_place at n xs ys within room = ap (put_chunk at xs) (map-id (chunk at n ys)) ∙ put_is at n xs (chunk at n ys) (length-chunk at n ys within) room

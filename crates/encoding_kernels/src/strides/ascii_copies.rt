@@ -4,7 +4,7 @@ ghost use Rattle.std.specs.Prelude.{◌≡◌, ℕ, ◌+◌, ◌<◌, ◌≤◌,
 ghost use Rattle.encoding_kernels.specs.Places.{Marks};
 ghost use Rattle.encoding_kernels.specs.Strides.{AllBelow, BelowUpTo, CopiesAscii};
 
-use super::copies::{copy, write_first, write_first_units};
+use super::copies::{copy, unpack, write_first, write_first_units};
 use super::{ASCII_END, BASIC_LATIN_END, BytesBelow, STRIDE, UnitsBelow};
 use crate::places::{Places, run_before};
 use std::simd::Simd;
@@ -209,8 +209,7 @@ impl<const N: usize> AsciiVectors<N, u16> for u8 {
 
     #[inline(always)]
     fn write(src: &[u8], dst: &mut [u16], at: usize) {
-        let units = Simd::<u8, N>::from_slice(&src[at..]).cast::<u16>();
-        units.copy_to_slice(&mut dst[at..]);
+        unpack::<N>(src, dst, at);
     }
 }
 

@@ -54,13 +54,13 @@ pub fn copy_front(src: &[u8], dst: &mut [u8])
     }
 }
 
-/// Writes a stride of bytes to a place, each as a UTF-16 code unit.
+/// Writes the N bytes from a place on to the same place, each as a UTF-16 code unit.
 #[inline(always)]
-pub fn unpack<const N: usize>(stride: &[u8; N], dst: &mut [u16], at: usize)
-    requires { at + N ≤ length dst.old }
-    ensures { dst.new ≡ take at dst.old ++ (stride.now ++ drop (at + N) dst.old) }
+pub fn unpack<const N: usize>(src: &[u8], dst: &mut [u16], at: usize)
+    requires { (at + N ≤ length src.now) × (at + N ≤ length dst.old) }
+    ensures { dst.new ≡ take at dst.old ++ (take N (drop at src.now) ++ drop (at + N) dst.old) }
 {
-    let units = Simd::<u8, N>::from_slice(stride).cast::<u16>();
+    let units = Simd::<u8, N>::from_slice(&src[at..]).cast::<u16>();
     units.copy_to_slice(&mut dst[at..]);
 }
 

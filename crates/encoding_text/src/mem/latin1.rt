@@ -21,10 +21,17 @@ pub fn convert_latin1_to_utf16(src: &[u8], dst: &mut [u16])
     requires room { length src.now ≤ length dst.old }
     ensures written { WritesFront dst.old dst.new (length src.now) src.now }
 {
-    let (strides, _) = src.as_chunks::<STRIDE>();
     let mut at = 0;
-    for stride in strides {
-        unpack::<STRIDE>(stride, dst, at);
+    // four at a time, in the order of their places: as many bytes in one vector are stored out of order
+    while src.len() - at >= 4 * STRIDE {
+        unpack::<STRIDE>(src, dst, at);
+        unpack::<STRIDE>(src, dst, at + STRIDE);
+        unpack::<STRIDE>(src, dst, at + 2 * STRIDE);
+        unpack::<STRIDE>(src, dst, at + 3 * STRIDE);
+        at += 4 * STRIDE;
+    }
+    while src.len() - at >= STRIDE {
+        unpack::<STRIDE>(src, dst, at);
         at += STRIDE;
     }
     for i in at..src.len() {
