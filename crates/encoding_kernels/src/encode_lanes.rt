@@ -136,20 +136,24 @@ pub(crate) fn are_long(units: u16x8) -> bool
     !others.any()
 }
 
-/// The UTF-8 of eight code units from U+0800 on, which is three bytes for each, in two vectors.
+/// The UTF-8 of eight code units from U+0800 on, which is three bytes for each, in two vectors. The first two bytes of each
+/// make a word and the last one another, so that no lane is wider than a code unit.
 #[inline(always)]
 fn encode_long(units: u16x8) -> (u8x16, u8x8)
     requires { (k : ℕ) → k < 8 → 0x800 ≤ slice_index units k }
     ensures long { (length result.0 ≡ 16) × (length result.1 ≡ 8) }
     ensures spelled { result.0 ++ result.1 ≡ encode_utf8_all units }
 {
-    let words = units.cast::<u32>();
-    let middle = ((words >> u32x8::splat(6)) & u32x8::splat(0x3F)) << u32x8::splat(8);
-    let last = (words & u32x8::splat(0x3F)) << u32x8::splat(16);
-    let all = (words >> u32x8::splat(12)) + middle + last + u32x8::splat(0x80_80E0);
-    let bytes = all.to_le_bytes();
-    let first = bytes.swizzle([0, 1, 2, 4, 5, 6, 8, 9, 10, 12, 13, 14, 16, 17, 18, 20]);
-    (first, bytes.swizzle([21, 22, 24, 25, 26, 28, 29, 30]))
+    let middle = ((units >> u16x8::splat(6)) & u16x8::splat(0x3F)) << u16x8::splat(8);
+    let two = (units >> u16x8::splat(12)) + middle + u16x8::splat(0x80E0);
+    let last = (units & u16x8::splat(0x3F)) + u16x8::splat(0x80);
+    let both = two.to_le_bytes();
+    let lasts = last.to_le_bytes();
+    let first = both.shuffle(
+        lasts,
+        [0, 1, 16, 2, 3, 18, 4, 5, 20, 6, 7, 22, 8, 9, 24, 10],
+    );
+    (first, both.shuffle(lasts, [11, 26, 12, 13, 28, 14, 15, 30]))
 }
 
 /// Writes the UTF-8 of eight code units from U+0800 on, which is 24 bytes. Behind them `dst` is as before.

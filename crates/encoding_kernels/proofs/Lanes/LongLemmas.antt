@@ -1,15 +1,15 @@
 -- The UTF-8 of code units from U+0800 on, of four bytes each.
-use Rattle.std.proofs.Common.{◌≡◌, ℕ, zero, suc, ◌+◌, ◌*◌, ◌/◌, ◌%◌, ◌^◌, ◌<◌, ◌≤◌, Bool, true, false, cond, eqb, IsTrue, not, List, [], ◌∷◌, ◌++◌, map, length, get_or, encode_utf8, encode_utf8_all, bit_and, bit_or, replicate, refl, sym, ap, ◌∙◌, arith, subst, w16, take, drop, length-append, length-take-le, append_assoc, Fits}
+use Rattle.std.proofs.Common.{◌≡◌, ℕ, zero, suc, ◌+◌, ◌-◌, ◌*◌, ◌/◌, ◌%◌, ◌^◌, ◌<◌, ◌≤◌, Bool, true, false, cond, eqb, IsTrue, not, List, [], ◌∷◌, ◌++◌, map, length, get_or, encode_utf8, encode_utf8_all, bit_and, bit_or, replicate, refl, sym, ap, ◌∙◌, arith, subst, w16, take, drop, length-append, length-take-le, append_assoc, Fits}
 use Rattle.std.proofs.lemmas.Bool.{eqb-false, true≢false}
-use Rattle.std.proofs.lemmas.Simd.{get_or_narrower, Each1-from_get_or, Each1-get_or, pick_l_left, length-put_chunk}
+use Rattle.std.proofs.lemmas.Simd.{get_or_narrower, Each1-from_get_or, Each1-get_or, length-put_chunk}
 use Rattle.std.proofs.lemmas.Nat.{and_mask}
 use Rattle.std.proofs.lemmas.Nat.Bits.{and_high_mask}
 use Rattle.std.proofs.str.Laws.{three}
 use Rattle.std.specs.Simd.Lanes.{number_l, digits_l, top, zip2, Each1, pick_l, put_chunk}
-use Rattle.std.proofs.lemmas.List.{take_at, drop_at, drop-drop}
+use Rattle.std.proofs.lemmas.List.{take_at, drop_at, drop-drop, get_or_append_left, get_or-append_right}
 use Rattle.encoding_kernels.specs.Lanes.{HasLanes}
 use Rattle.encoding_kernels.proofs.Lanes.PutLemmas.{put_is}
-use Rattle.encoding_kernels.proofs.Lanes.LaneLemmas.{HasLanes-itself, HasLanes-splat, HasLanes-zip2, HasLanes-cast, compared, mask_of, not_any}
+use Rattle.encoding_kernels.proofs.Lanes.LaneLemmas.{HasLanes-itself, HasLanes-splat, HasLanes-zip2, compared, mask_of, not_any}
 
 -- ---- the test
 either_top : (a b : Bool) → top 15 (bit_or (cond a 65535 0) (cond b 65535 0)) ≡ false → (a ≡ false) × (b ≡ false)
@@ -38,78 +38,88 @@ all_long us long fit t k l =
     long_lane (get_or us k 0) (Each1-get_or (Fits w16) us k 0 (omega arith) fit).fits (tests.0 t k l)
 
 -- ---- the bytes
+-- of so many code units the first two bytes, and the last one sixteen places on
 abbrev pub three_places : ℕ → ℕ → List ℕ
 three_places at zero = []
-three_places at (suc n) = at ∷ (at + 1) ∷ (at + 2) ∷ three_places (at + 4) n
+three_places at (suc n) = at ∷ (at + 1) ∷ (at + 16) ∷ three_places (at + 2) n
 
 three_spell : (get : ℕ → ℕ) (us : List ℕ) (at : ℕ)
-    → ((k : ℕ) → k < length us → (get (at + 4 * k) ∷ get (at + 4 * k + 1) ∷ get (at + 4 * k + 2) ∷ []) ≡ encode_utf8 (get_or us k 0))
+    → ((k : ℕ) → k < length us → (get (at + 2 * k) ∷ get (at + 2 * k + 1) ∷ get (at + 2 * k + 16) ∷ []) ≡ encode_utf8 (get_or us k 0))
     → map get (three_places at (length us)) ≡ encode_utf8_all us
 three_spell get [] at h = refl
 three_spell get (u ∷ us) at h =
-    let first : at + 4 * 0 ≡ at = omega arith in
-    let here : (get at ∷ get (at + 1) ∷ get (at + 2) ∷ []) ≡ encode_utf8 u = subst (λ k. (get k ∷ get (k + 1) ∷ get (k + 2) ∷ []) ≡ encode_utf8 u) first (h 0 (omega arith)) in
-    let more : (k : ℕ) → k < length us → (get (at + 4 + 4 * k) ∷ get (at + 4 + 4 * k + 1) ∷ get (at + 4 + 4 * k + 2) ∷ []) ≡ encode_utf8 (get_or us k 0) = λ k l.
-    let e : at + 4 * suc k ≡ at + 4 + 4 * k = omega arith in
-    subst (λ j. (get j ∷ get (j + 1) ∷ get (j + 2) ∷ []) ≡ encode_utf8 (get_or us k 0)) e (h (suc k) (omega arith)) in
-    ap (λ r. get at ∷ get (at + 1) ∷ get (at + 2) ∷ r) (three_spell get us (at + 4) more) ∙ ap (λ xs. xs ++ encode_utf8_all us) here
+    let first : at + 2 * 0 ≡ at = omega arith in
+    let here : (get at ∷ get (at + 1) ∷ get (at + 16) ∷ []) ≡ encode_utf8 u = subst (λ k. (get k ∷ get (k + 1) ∷ get (k + 16) ∷ []) ≡ encode_utf8 u) first (h 0 (omega arith)) in
+    let more : (k : ℕ) → k < length us → (get (at + 2 + 2 * k) ∷ get (at + 2 + 2 * k + 1) ∷ get (at + 2 + 2 * k + 16) ∷ []) ≡ encode_utf8 (get_or us k 0) = λ k l.
+    let e : at + 2 * suc k ≡ at + 2 + 2 * k = omega arith in
+    subst (λ j. (get j ∷ get (j + 1) ∷ get (j + 16) ∷ []) ≡ encode_utf8 (get_or us k 0)) e (h (suc k) (omega arith)) in
+    ap (λ r. get at ∷ get (at + 1) ∷ get (at + 16) ∷ r) (three_spell get us (at + 2) more) ∙ ap (λ xs. xs ++ encode_utf8_all us) here
 
-abbrev pub word : ℕ → ℕ
-word u = (((u / 2 ^ 12 + (bit_and (u / 2 ^ 6) 0x3F * 2 ^ 8) % 2 ^ 32) % 2 ^ 32 + (bit_and u 0x3F * 2 ^ 16) % 2 ^ 32) % 2 ^ 32 + 0x8080E0) % 2 ^ 32
+abbrev pub two_word : ℕ → ℕ
+two_word u = ((u / 2 ^ 12 + bit_and (u / 2 ^ 6) 0x3F * 2 ^ 8 % 2 ^ 16) % 2 ^ 16 + 0x80E0) % 2 ^ 16
 
-word_bytes : (u : ℕ) → 0x800 ≤ u → u < 2 ^ 16 → (word u / 256 ^ 0 % 256 ∷ word u / 256 ^ 1 % 256 ∷ word u / 256 ^ 2 % 256 ∷ []) ≡ encode_utf8 u
+abbrev pub last_word : ℕ → ℕ
+last_word u = (bit_and u 0x3F + 0x80) % 2 ^ 16
+
+word_bytes : (u : ℕ) → 0x800 ≤ u → u < 2 ^ 16 → (two_word u / 256 ^ 0 % 256 ∷ two_word u / 256 ^ 1 % 256 ∷ last_word u / 256 ^ 0 % 256 ∷ []) ≡ encode_utf8 u
 word_bytes u l h =
     let low : bit_and u 0x3F ≡ u % 2 ^ 6 = and_mask u 6 in
     let mid : bit_and (u / 2 ^ 6) 0x3F ≡ u / 2 ^ 6 % 2 ^ 6 = and_mask (u / 2 ^ 6) 6 in
-    let x : word u / 256 ^ 0 % 256 ≡ 224 + u / 4096 = omega arith in
-    let y : word u / 256 ^ 1 % 256 ≡ 128 + u / 64 % 64 = omega arith in
-    let z : word u / 256 ^ 2 % 256 ≡ 128 + u % 64 = omega arith in
+    let x : two_word u / 256 ^ 0 % 256 ≡ 224 + u / 4096 = omega arith in
+    let y : two_word u / 256 ^ 1 % 256 ≡ 128 + u / 64 % 64 = omega arith in
+    let z : last_word u / 256 ^ 0 % 256 ≡ 128 + u % 64 = omega arith in
     rw (x, y, z) (sym (three u l (omega arith)))
 
 -- the words of eight code units, and their bytes
-abbrev pub words_of : List ℕ → List ℕ
-words_of us = zip2 (λ a b. (a + b) % 2 ^ 32) (zip2 (λ a b. (a + b) % 2 ^ 32) (zip2 (λ a b. (a + b) % 2 ^ 32) (zip2 (λ a b. a / 2 ^ b) (map (λ x. x) us) (replicate 8 12))
-    (zip2 (λ a b. a * 2 ^ b % 2 ^ 32) (zip2 bit_and (zip2 (λ a b. a / 2 ^ b) (map (λ x. x) us) (replicate 8 6)) (replicate 8 0x3F)) (replicate 8 8)))
-    (zip2 (λ a b. a * 2 ^ b % 2 ^ 32) (zip2 bit_and (map (λ x. x) us) (replicate 8 0x3F)) (replicate 8 16))) (replicate 8 0x8080E0)
+abbrev pub two_words : List ℕ → List ℕ
+two_words us = zip2 (λ a b. (a + b) % 2 ^ 16) (zip2 (λ a b. (a + b) % 2 ^ 16) (zip2 (λ a b. a / 2 ^ b) us (replicate 8 12))
+    (zip2 (λ a b. a * 2 ^ b % 2 ^ 16) (zip2 bit_and (zip2 (λ a b. a / 2 ^ b) us (replicate 8 6)) (replicate 8 0x3F)) (replicate 8 8))) (replicate 8 0x80E0)
 
-word_lanes : (us : List ℕ) → length us ≡ 8 → HasLanes 8 (words_of us) (λ k. word (get_or us k 0))
-word_lanes us long =
-    let lanes = HasLanes-cast (HasLanes-itself 8 us long) in
-    let add = λ (a b : ℕ). (a + b) % 2 ^ 32 in
+abbrev pub last_words : List ℕ → List ℕ
+last_words us = zip2 (λ a b. (a + b) % 2 ^ 16) (zip2 bit_and us (replicate 8 0x3F)) (replicate 8 0x80)
+
+two_lanes : (us : List ℕ) → length us ≡ 8 → HasLanes 8 (two_words us) (λ k. two_word (get_or us k 0))
+two_lanes us long =
+    let lanes = HasLanes-itself 8 us long in
+    let add = λ (a b : ℕ). (a + b) % 2 ^ 16 in
     let lead = HasLanes-zip2 (λ a b. a / 2 ^ b) lanes (HasLanes-splat 8 12) in
-    let middle = HasLanes-zip2 (λ a b. a * 2 ^ b % 2 ^ 32) (HasLanes-zip2 bit_and (HasLanes-zip2 (λ a b. a / 2 ^ b) lanes (HasLanes-splat 8 6)) (HasLanes-splat 8 0x3F)) (HasLanes-splat 8 8) in
-    let last = HasLanes-zip2 (λ a b. a * 2 ^ b % 2 ^ 32) (HasLanes-zip2 bit_and lanes (HasLanes-splat 8 0x3F)) (HasLanes-splat 8 16) in
-    HasLanes-zip2 add (HasLanes-zip2 add (HasLanes-zip2 add lead middle) last) (HasLanes-splat 8 0x8080E0)
+    let middle = HasLanes-zip2 (λ a b. a * 2 ^ b % 2 ^ 16) (HasLanes-zip2 bit_and (HasLanes-zip2 (λ a b. a / 2 ^ b) lanes (HasLanes-splat 8 6)) (HasLanes-splat 8 0x3F)) (HasLanes-splat 8 8) in
+    HasLanes-zip2 add (HasLanes-zip2 add lead middle) (HasLanes-splat 8 0x80E0)
+
+last_lanes : (us : List ℕ) → length us ≡ 8 → HasLanes 8 (last_words us) (λ k. last_word (get_or us k 0))
+last_lanes us long = HasLanes-zip2 (λ a b. (a + b) % 2 ^ 16) (HasLanes-zip2 bit_and (HasLanes-itself 8 us long) (HasLanes-splat 8 0x3F)) (HasLanes-splat 8 0x80)
 
 abbrev pub bytes_of : List ℕ → List ℕ
-bytes_of us = digits_l 256 32 (number_l (2 ^ 32) (words_of us))
+bytes_of words = digits_l 256 16 (number_l (2 ^ 16) words)
+
+part_of : {words : List ℕ} {f : ℕ → ℕ} → HasLanes 8 words f → ((k : ℕ) → f k < 2 ^ 16) → (k j : ℕ) → k < 8 → j < 2 → get_or (bytes_of words) (2 * k + j) 0 ≡ f k / 256 ^ j % 256
+part_of {words} {f} lanes small k j l m =
+    let fit : Each1 (λ x. x < 2 ^ 16) words = Each1-from_get_or (λ x. x < 2 ^ 16) words 0 (λ i h.
+    let within : i < 8 = omega (arith, lanes.long) in
+    subst (λ x. x < 2 ^ 16) (sym (lanes.each i within)) (small i)) in
+    get_or_narrower (2 ^ 16) 2 256 16 words k j (omega arith) fit m (omega (arith, lanes.long)) ∙ ap (λ x. x / 256 ^ j % 256) (lanes.each k l)
 
 triple : {x y z x2 y2 z2 : ℕ} {e : List ℕ} → x ≡ x2 → y ≡ y2 → z ≡ z2 → (x2 ∷ y2 ∷ z2 ∷ []) ≡ e → (x ∷ y ∷ z ∷ []) ≡ e
 triple p q r e = (λ i. p i ∷ q i ∷ r i ∷ []) ∙ e
 
-long_picked : (us : List ℕ) → length us ≡ 8 → Each1 (Fits w16) us → ((k : ℕ) → k < 8 → 0x800 ≤ get_or us k 0) → pick_l 0 (bytes_of us) (three_places 0 8) ≡ encode_utf8_all us
-long_picked us long fit high =
-    let lanes = word_lanes us long in
-    let words_fit : Each1 (λ x. x < 2 ^ 32) (words_of us) = Each1-from_get_or (λ x. x < 2 ^ 32) (words_of us) 0 (λ i l.
-    let e = lanes.each i (omega (arith, lanes.long)) in omega (arith, e)) in
-    let part : (k j : ℕ) → k < 8 → j < 4 → get_or (bytes_of us) (4 * k + j) 0 ≡ word (get_or us k 0) / 256 ^ j % 256 = λ k j l m.
-    get_or_narrower (2 ^ 32) 4 256 32 (words_of us) k j (omega arith) words_fit m (omega arith) ∙ ap (λ x. x / 256 ^ j % 256) (lanes.each k l) in
-    let get : ℕ → ℕ = λ j. get_or (bytes_of us) j 0 in
+pub long_spelled : (us : List ℕ) → length us ≡ 8 → Each1 (Fits w16) us → ((k : ℕ) → k < 8 → 0x800 ≤ get_or us k 0)
+    → pick_l 0 (bytes_of (two_words us) ++ bytes_of (last_words us)) (0 ∷ 1 ∷ 16 ∷ 2 ∷ 3 ∷ 18 ∷ 4 ∷ 5 ∷ 20 ∷ 6 ∷ 7 ∷ 22 ∷ 8 ∷ 9 ∷ 24 ∷ 10 ∷ [])
+    ++ pick_l 0 (bytes_of (two_words us) ++ bytes_of (last_words us)) (11 ∷ 26 ∷ 12 ∷ 13 ∷ 28 ∷ 14 ∷ 15 ∷ 30 ∷ []) ≡ encode_utf8_all us
+long_spelled us long fit high =
+    let both = bytes_of (two_words us) in
+    let lasts = bytes_of (last_words us) in
+    let get : ℕ → ℕ = λ j. get_or (both ++ lasts) j 0 in
+    let two = part_of (two_lanes us long) (λ k. omega arith) in
+    let last = part_of (last_lanes us long) (λ k. omega arith) in
     ap (λ n. map get (three_places 0 n)) (sym long) ∙ three_spell get us 0 (λ k l.
     let in_lanes : k < 8 = omega arith in
-    let start : 0 + 4 * k ≡ 4 * k + 0 = omega arith in
-    let second : 0 + 4 * k + 1 ≡ 4 * k + 1 = omega arith in
-    let third : 0 + 4 * k + 2 ≡ 4 * k + 2 = omega arith in
-    triple (ap get start ∙ part k 0 in_lanes (omega arith)) (ap get second ∙ part k 1 in_lanes (omega arith)) (ap get third ∙ part k 2 in_lanes (omega arith))
+    let start : 0 + 2 * k ≡ 2 * k + 0 = omega arith in
+    let second : 0 + 2 * k + 1 ≡ 2 * k + 1 = omega arith in
+    let third : 0 + 2 * k + 16 - 16 ≡ 2 * k + 0 = omega arith in
+    triple (get_or_append_left both lasts 0 (0 + 2 * k) (omega arith) ∙ ap (λ j. get_or both j 0) start ∙ two k 0 in_lanes (omega arith))
+    (get_or_append_left both lasts 0 (0 + 2 * k + 1) (omega arith) ∙ ap (λ j. get_or both j 0) second ∙ two k 1 in_lanes (omega arith))
+    (get_or-append_right both lasts 16 (0 + 2 * k + 16) 0 (omega arith) (omega arith) ∙ ap (λ j. get_or lasts j 0) third ∙ last k 0 in_lanes (omega arith))
     (word_bytes (get_or us k 0) (high k in_lanes) (Each1-get_or (Fits w16) us k 0 l fit).fits))
-
-pub long_spelled : (us : List ℕ) → length us ≡ 8 → Each1 (Fits w16) us → ((k : ℕ) → k < 8 → 0x800 ≤ get_or us k 0)
-    → pick_l 0 (bytes_of us ++ bytes_of us) (0 ∷ 1 ∷ 2 ∷ 4 ∷ 5 ∷ 6 ∷ 8 ∷ 9 ∷ 10 ∷ 12 ∷ 13 ∷ 14 ∷ 16 ∷ 17 ∷ 18 ∷ 20 ∷ [])
-    ++ pick_l 0 (bytes_of us ++ bytes_of us) (21 ∷ 22 ∷ 24 ∷ 25 ∷ 26 ∷ 28 ∷ 29 ∷ 30 ∷ []) ≡ encode_utf8_all us
-long_spelled us long fit high =
-    (λ i. pick_l_left 0 (bytes_of us) (bytes_of us) 32 (0 ∷ 1 ∷ 2 ∷ 4 ∷ 5 ∷ 6 ∷ 8 ∷ 9 ∷ 10 ∷ 12 ∷ 13 ∷ 14 ∷ 16 ∷ 17 ∷ 18 ∷ 20 ∷ []) refl tt i
-    ++ pick_l_left 0 (bytes_of us) (bytes_of us) 32 (21 ∷ 22 ∷ 24 ∷ 25 ∷ 26 ∷ 28 ∷ 29 ∷ 30 ∷ []) refl tt i)
-    ∙ long_picked us long fit high
 
 -- ---- two stores, one behind the other
 pub two_puts : (at n m : ℕ) (xs first second : List ℕ) → at + (n + m) ≤ length xs → length first ≡ n → length second ≡ m
