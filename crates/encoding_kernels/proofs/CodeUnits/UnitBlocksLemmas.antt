@@ -173,9 +173,6 @@ module _ (us : List ℕ) (n m : ℕ) (below : BelowUpTo 0x80 (take (length us - 
   ascii_at : (k : ℕ) → k < m → get_or us (n + k) 0 < 0x80
   ascii_at k l = let same = get_or-drop n us k 0 in omega (arith, same, ap (λ xs. get_or xs k 0) (take_rest us n), below k l)
 
-  pub plain_ascii : ArePlain (take n us) → ArePlain (take (n + m) us)
-  plain_ascii plain = plain_more us n plain m (λ k l r. omega (arith, ascii_at k l, r.0))
-
   ascii_spelled : take m (take (length us - n) (drop n us)) ≡ encode_utf8_all (take m (drop n us))
   ascii_spelled =
       let ascii : IsAscii (take m (drop n us)) = Each-take (λ u. u < 0x80) (omega arith) (drop n us) m (λ k l. let same = get_or-drop n us k 0 in omega (arith, same, ascii_at k l)) in

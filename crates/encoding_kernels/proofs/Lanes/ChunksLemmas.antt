@@ -1,9 +1,8 @@
 -- The strides of a part of a list: where each stands in the list.
-use Rattle.std.proofs.Common.{◌≡◌, ℕ, zero, suc, ◌+◌, ◌-◌, ◌*◌, ◌/◌, ◌<◌, ◌≤◌, ◌↔◌, List, length, length-take, length-drop, take, drop, drop-drop, get_or, slice_index, refl, sym, ap, ◌∙◌, arith}
+use Rattle.std.proofs.Common.{◌≡◌, ℕ, zero, suc, ◌+◌, ◌-◌, ◌*◌, ◌/◌, ◌<◌, ◌≤◌, List, length, length-take, take, drop, drop-drop, get_or, slice_index, refl, sym, ap, ◌∙◌, arith}
 use Rattle.std.proofs.Math.Nat.{div-mul-le_self, mul-le-mul_right}
 use Rattle.std.proofs.lemmas.List.{drop-take, take-take, get_or-take, get_or-drop}
 use Rattle.std.specs.Simd.{first_chunks}
-use Rattle.encoding_kernels.specs.Strides.{AllBelow}
 
 -- the stride of a number
 pub numbered : (n k : ℕ) (xs : List ℕ) (i : ℕ) (d : List ℕ) → i < k → get_or (first_chunks n k xs) i d ≡ take n (drop (i * n) xs)

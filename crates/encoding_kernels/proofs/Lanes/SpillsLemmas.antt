@@ -1,5 +1,5 @@
 -- Vectors stored of which first bytes count, and what stood behind these put back.
-use Rattle.std.proofs.Common.{◌≡◌, ℕ, ◌+◌, ◌≤◌, List, [], ◌++◌, length, take, drop, drop-drop, subst, take-add, length-take-le, length-append, length-drop, refl, sym, ap, ◌∙◌, arith, append_assoc}
+use Rattle.std.proofs.Common.{◌≡◌, ℕ, ◌+◌, ◌≤◌, List, [], ◌++◌, length, take, drop, drop-drop, subst, take-add, length-take-le, length-append, length-drop, sym, ap, ◌∙◌, arith, append_assoc}
 use Rattle.std.proofs.lemmas.List.{take_at, drop_at, take-append-le, take-append-drop}
 use Rattle.std.proofs.lemmas.Simd.{length-put_chunk, chunk-drop}
 use Rattle.std.proofs.lemmas.Slice.{drop-append-drop}

@@ -1,4 +1,4 @@
-use Rattle.std.proofs.Common.{◌+◌, ◌++◌, ◌∙◌, take, drop, ap}
+use Rattle.std.proofs.Common.{◌+◌, ◌++◌, ◌∙◌, take, drop}
 use Rattle.encoding_kernels.proofs.Lanes.SpillsLemmas.{spills_mended}
 use Rattle.encoding_kernels.proofs.encode_lanes.store_short.Goals as goal
 

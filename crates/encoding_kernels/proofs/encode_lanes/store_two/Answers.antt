@@ -1,5 +1,4 @@
 use Rattle.std.proofs.Common.{arith}
-use Rattle.std.proofs.lemmas.Simd.{length-put_chunk}
 use Rattle.encoding_kernels.proofs.Lanes.SpillsLemmas.{store_spills, spills_then}
 use Rattle.encoding_kernels.proofs.encode_lanes.store_two.Goals as goal
 

@@ -1,4 +1,4 @@
-use Rattle.std.proofs.Common.{◌+◌, ◌*◌, ◌++◌, ◌∙◌, take, drop, length, length-append, length-take-le, length-drop, get_or, get_or-take, get_or-drop, arith, subst, sym, ap}
+use Rattle.std.proofs.Common.{◌+◌, ◌*◌, take, drop, length-take-le, length-drop, get_or, get_or-take, get_or-drop, arith, subst, sym}
 use Rattle.encoding_kernels.specs.EncodeLanes.{EncodesLast}
 use Rattle.encoding_kernels.proofs.Lanes.PlainLemmas.{both_masks, both_spelled}
 use Rattle.encoding_kernels.proofs.encode_units.encode_eight.Goals as goal

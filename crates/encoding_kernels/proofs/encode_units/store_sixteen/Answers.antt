@@ -1,4 +1,4 @@
-use Rattle.std.proofs.Common.{ℕ, ◌≡◌, ◌+◌, ◌++◌, ◌∙◌, take, drop, ap, arith, subst}
+use Rattle.std.proofs.Common.{◌≡◌, ◌+◌, ◌++◌, ◌∙◌, take, drop, arith, subst}
 use Rattle.encoding_kernels.specs.EncodeLanes.{mended}
 use Rattle.std.specs.Simd.Lanes.{chunk}
 use Rattle.encoding_kernels.proofs.Lanes.SpillsLemmas.{spills_then, spills_mended}

@@ -1,4 +1,4 @@
-use Rattle.std.proofs.Common.{◌+◌, ◌++◌, ◌∙◌, take, drop, ap, sym, map-id, length, arith}
+use Rattle.std.proofs.Common.{◌+◌, ◌++◌, ◌∙◌, take, drop, ap, sym, map-id, length}
 use Rattle.std.proofs.lemmas.Simd.{length-chunk}
 use Rattle.std.specs.Simd.Lanes.{chunk, put_chunk}
 use Rattle.encoding_kernels.proofs.Lanes.PutLemmas.{put_is}

@@ -1,4 +1,4 @@
-use Rattle.std.proofs.Common.{◌+◌, arith}
+use Rattle.std.proofs.Common.{arith}
 use Rattle.encoding_kernels.proofs.CodeUnits.UnitBlocksLemmas.{plain_left, written_left}
 use Rattle.encoding_kernels.proofs.utf16_blocks.convert_blocks.Goals as goal
 

@@ -1,7 +1,7 @@
-use Rattle.std.proofs.Common.{◌+◌, arith, take, encode_utf8_all, refl, sym, subst}
+use Rattle.std.proofs.Common.{arith, take, encode_utf8_all, refl, sym, subst}
 use Rattle.encoding_definitions.specs.Fronts.{WritesFront}
 use Rattle.encoding_definitions.proofs.LongestFronts.FrontsLemmas.{WritesFront-same}
-use Rattle.encoding_kernels.proofs.Lanes.SpillsLemmas.{mended_first, mended_put}
+use Rattle.encoding_kernels.proofs.Lanes.SpillsLemmas.{mended_put}
 use Rattle.encoding_kernels.proofs.Lanes.PutLemmas.{put_is}
 use Rattle.encoding_kernels.proofs.CodeUnits.UnitBlocksLemmas.{plain_then, encodes_more}
 use Rattle.encoding_kernels.proofs.utf16_blocks.convert_dense_blocks.Goals as goal
