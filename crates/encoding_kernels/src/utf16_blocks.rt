@@ -204,11 +204,12 @@ fn convert_first_eight(src: &[u16], dst: &mut [u8]) -> (usize, usize)
 }
 
 /// Converts ASCII by long strides from the beginning of `src` on, then blocks that are mostly ASCII, then such as mostly
-/// aren't, and eight more, and returns how many code units these are and how many bytes it wrote. Behind what is written
-/// `dst` is as before.
+/// aren't, and eight more, and returns how many code units these are, how many bytes it wrote, and whether the eight were
+/// there: if not, a surrogate or the end of either is next. Behind what is written `dst` is as before.
 #[inline(always)]
-fn convert_some_blocks(src: &[u16], dst: &mut [u8]) -> (usize, usize)
+fn convert_some_blocks(src: &[u16], dst: &mut [u8]) -> (usize, usize, bool)
     ensures within { result.0 ≤ length src.now }
+    ensures some { IsTrue result.2 → 0 < result.0 }
     ensures plain { ArePlain (take result.0 src.now) }
     ensures written { WritesFront dst.old dst.new result.1 (encode_utf8_all (take result.0 src.now)) }
 {
@@ -221,7 +222,7 @@ fn convert_some_blocks(src: &[u16], dst: &mut [u8]) -> (usize, usize)
     read += dense;
     written += many;
     let (last, more) = convert_first_eight(&src[read..], &mut dst[written..]);
-    (read + last, written + more)
+    (read + last, written + more, last > 0)
 }
 
 /// Converts blocks of code units from the beginning of `src` on, none of which has a surrogate, and returns how many code
@@ -234,12 +235,12 @@ pub fn convert_blocks(src: &[u16], dst: &mut [u8]) -> (usize, usize)
     let mut read = 0;
     let mut written = 0;
     while src.len() - read >= HALF_STRIDE && dst.len() - written >= 32 {
-        let (units, bytes) = convert_some_blocks(&src[read..], &mut dst[written..]);
-        if units == 0 {
-            break;
-        }
+        let (units, bytes, goes_on) = convert_some_blocks(&src[read..], &mut dst[written..]);
         read += units;
         written += bytes;
+        if !goes_on {
+            break;
+        }
     }
     (read, written)
 }

@@ -12,3 +12,12 @@ loop-read-preserved c =
       plain = plain_left us c.loop-read.read c.convert_some_blocks-units.result.0 here.plain call.plain;
       written = written_left us c.loop-read.read c.convert_some_blocks-units.result.0 c.args.dst.now c.loop-read.dst _ c.loop-read.written c.convert_some_blocks-units.result.1 here.written call.written;
     }
+
+pub returns-then-not-goes_on-clause-plain : goal.returns-then-not-goes_on-clause-plain
+returns-then-not-goes_on-clause-plain c =
+    plain_left c.args.src.now c.loop-read.read c.convert_some_blocks-units.result.0 c.loop-read.invariant.plain c.convert_some_blocks-units.ensures.plain
+
+pub returns-then-not-goes_on-clause-written : goal.returns-then-not-goes_on-clause-written
+returns-then-not-goes_on-clause-written c =
+    written_left c.args.src.now c.loop-read.read c.convert_some_blocks-units.result.0 c.args.dst.now c.loop-read.dst _ c.loop-read.written c.convert_some_blocks-units.result.1
+    c.loop-read.invariant.written c.convert_some_blocks-units.ensures.written
