@@ -157,6 +157,45 @@ fn units_into_each_room(rt: HostRuntime) -> Result<(), Fail> {
     Ok(())
 }
 
+/// Runs of characters of one length, which end within blocks of eight and of sixteen code units.
+const RUNS: [(char, usize); 7] = [
+    ('a', 16),
+    ('\u{4E00}', 3),
+    ('a', 5),
+    ('\u{4E00}', 33),
+    ('\u{430}', 18),
+    ('a', 9),
+    ('\u{4E00}', 8),
+];
+
+fn runs_of(alloc: Global) -> Result<Units, AllocError> {
+    let mut text = Units {
+        units: Vec::new(alloc),
+        bytes: Vec::new(alloc),
+        ends: Vec::new(alloc),
+    };
+    for (character, count) in &RUNS {
+        for _ in 0..*count {
+            text.units
+                .extend_from_slice(character.encode_utf16(&mut [0; 2]))?;
+            text.bytes
+                .extend_from_slice(character.encode_utf8(&mut [0; 4]).as_bytes())?;
+        }
+    }
+    push_ends(&mut text)?;
+    Ok(text)
+}
+
+#[test]
+fn runs_into_each_room(rt: HostRuntime) -> Result<(), Fail> {
+    let mut turn = 0;
+    let text = runs_of(rt.alloc())?;
+    for room in 0..300 {
+        assert!(rt; units_convert(&text, next_place(&mut turn, room)), "{room}");
+    }
+    Ok(())
+}
+
 /// Bytes of Latin1, of which one is another, their UTF-8, and the bytes of both up to the end of each character.
 #[derive(Drop)]
 struct Latin1 {
