@@ -31,7 +31,7 @@ fn clean_of_64(src: &[u8], at: usize) -> usize
     32 + zeros_32(second)
 }
 
-/// The same of the 256 bytes from `at` on.
+/// How many of the 256 bytes from `at` on come before the first that may not stand behind the three before it.
 #[inline(always)]
 fn clean_of_256(src: &[u8], at: usize) -> usize
     requires { (3 ≤ at) × (at + 256 ≤ length src.now) }
@@ -69,7 +69,7 @@ fn clean_of_first_64(src: &[u8]) -> usize
     last + zeros_32(second)
 }
 
-/// The same up to the 32nd, where there are sixteen.
+/// How many of at least sixteen bytes may each stand behind those before it, up to the first that may not or to the 32nd.
 #[inline(always)]
 fn clean_of_first_32(src: &[u8]) -> usize
     requires { 16 ≤ length src.now }
@@ -133,7 +133,8 @@ fn skip_ascii(src: &[u8], from: usize) -> usize
     skip::<64, 64, _>(&ascii, from)
 }
 
-/// The same behind the first 64 bytes, by as many at a time. The last 64 may begin before `from`.
+/// How many bytes may each stand behind those before it, where those before `from` do, by 64 at a time. The last 64 may
+/// begin before `from`.
 #[inline(always)]
 fn finish(src: &[u8], from: usize) -> usize
     requires { (64 ≤ from) × (from ≤ length src.now) × FollowTo src.now from }

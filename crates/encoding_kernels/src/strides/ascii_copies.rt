@@ -28,7 +28,7 @@ pub trait AsciiAs<D>: Copy {
     ghost as_many: { (xs : List Self) → length (written xs) ≡ length xs };
 }
 
-/// The same by N units at a time.
+/// Units of which ASCII is tested and written as units of D by N at a time.
 pub trait AsciiVectors<const N: usize, D>: AsciiAs<D> {
     /// The mask of those of N units that aren't ASCII.
     fn others(src: &[Self], at: usize) -> u64
