@@ -2,7 +2,7 @@
 #
 #   make                        build/libencoding_text.a, the shared library beside it and build/utf8_repair, proved as
 #                               they are built; each library holds a build for x86-64-v2 and one for x86-64-v3, which has
-#                               AVX2, and takes what the processor runs
+#                               AVX2, and takes what the processor runs; what the toolchain prints goes to build/logs
 #   make CPU=x86-64-v3          a build for these processors alone; likewise CPU=x86-64-v2 and CPU=x86-64
 #   make check                  C and C++ programs call each function of each build, also with sanitizers and under
 #                               valgrind, and the examples run against what `make install` puts into an empty folder
@@ -34,6 +34,14 @@ LIBRARIES = encoding_definitions encoding_kernels encoding_text encoding_runs en
 SOURCES = $(foreach name,$(LIBRARIES),$(wildcard crates/$(name)/src/*.rt crates/$(name)/src/*/*.rt))
 BUILT = libencoding_text.a $(SHARED) utf8_repair
 
+# What takes long, in order: the first step proves all that the others stand on.
+ifeq ($(CPU),both)
+STEPS = x86-64-v2/library x86-64-v3/library x86-64-v2/program
+else
+STEPS = $(CPU)/library $(CPU)/program
+endif
+progress = checks/progress '$(STEPS)'
+
 # need(a command, what to do): ends with a line where it isn't there
 need = $(if $(shell command -v $(firstword $(1)) 2> /dev/null),,$(error $(firstword $(1)) is not there: $(2)))
 need_rt = $(call need,rt,put the toolchain's folder bin on the PATH)
@@ -60,13 +68,13 @@ build/libencoding_text.so: | build/$(SHARED)
 build/x86%/libencoding_text.a: $(SOURCES)
 	$(need_rt)
 	@mkdir -p $(@D)
-	cd crates/encoding_c && rt lib --cpu=x86$*
+	@$(progress) x86$*/library '5 to 11 min, 1 behind another' sh -c 'cd crates/encoding_c && rt lib --cpu=x86$*'
 	cp crates/encoding_c/out/libencoding_c.a $@
 
 build/x86%/utf8_repair: $(SOURCES)
 	$(need_rt)
 	@mkdir -p $(@D)
-	cd crates/utf8_repair && rt run --cpu=x86$* < /dev/null
+	@$(progress) x86$*/program '1 min' sh -c 'cd crates/utf8_repair && rt run --cpu=x86$* < /dev/null'
 	cp crates/utf8_repair/out/utf8_repair $@
 
 # A pipe bounds the program before its processor does, so it isn't built twice.
