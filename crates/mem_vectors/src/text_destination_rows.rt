@@ -7,6 +7,7 @@ use encoding_text::mem::{
     convert_latin1_to_str, convert_latin1_to_str_partial, convert_utf16_to_str,
     convert_utf16_to_str_partial,
 };
+use std::cmp::Ordering;
 
 /// Whether bytes are well-formed, by std.
 pub fn is_text(bytes: &[u8]) -> bool
@@ -15,30 +16,93 @@ pub fn is_text(bytes: &[u8]) -> bool
     std::str::from_utf8(bytes).is_ok()
 }
 
-/// Whether the bounded conversion of units returns this and leaves this text.
-fn units_leave(src: &[u16], dst: &mut [u8], told: (usize, usize), want: &[u8]) -> bool {
-    is_text(dst) && convert_utf16_to_str_partial(src, dst) == told && *dst == *want
+/// A unit of a source, with the calls that convert it into a text.
+trait Source: Copy {
+    /// The most bytes that a unit becomes.
+    const MOST: usize;
+
+    /// How many bytes behind what is written become zero, beside those that continued a character.
+    const ZEROS: usize;
+
+    /// Returns a letter.
+    fn letter(byte: u8) -> Self;
+
+    /// Makes the bounded call, or returns `None` where the destination holds no text.
+    fn convert_partial(src: &[Self], dst: &mut [u8]) -> Option<(usize, usize)>;
+
+    /// Makes the call that converts all, or returns `None` where the destination holds no text or is too short.
+    fn convert(src: &[Self], dst: &mut [u8]) -> Option<usize>;
 }
 
-/// Whether the bounded conversion of Latin1 returns this and leaves this text.
-fn latin1_leaves(src: &[u8], dst: &mut [u8], told: (usize, usize), want: &[u8]) -> bool {
-    is_text(dst) && convert_latin1_to_str_partial(src, dst) == told && *dst == *want
+impl Source for u16 {
+    const MOST: usize = 3;
+
+    const ZEROS: usize = 0;
+
+    fn letter(byte: u8) -> u16 {
+        u16::from(byte)
+    }
+
+    fn convert_partial(src: &[u16], dst: &mut [u8]) -> Option<(usize, usize)> {
+        if !is_text(dst) {
+            return None;
+        }
+        Some(convert_utf16_to_str_partial(src, dst))
+    }
+
+    fn convert(src: &[u16], dst: &mut [u8]) -> Option<usize> {
+        match src.len().checked_mul(3) {
+            Some(most) if most <= dst.len() && is_text(dst) => Some(convert_utf16_to_str(src, dst)),
+            _ => None,
+        }
+    }
+}
+
+impl Source for u8 {
+    const MOST: usize = 2;
+
+    const ZEROS: usize = 16;
+
+    fn letter(byte: u8) -> u8 {
+        byte
+    }
+
+    fn convert_partial(src: &[u8], dst: &mut [u8]) -> Option<(usize, usize)> {
+        if !is_text(dst) {
+            return None;
+        }
+        Some(convert_latin1_to_str_partial(src, dst))
+    }
+
+    fn convert(src: &[u8], dst: &mut [u8]) -> Option<usize> {
+        match src.len().checked_mul(2) {
+            Some(most) if most <= dst.len() && is_text(dst) => Some(convert_latin1_to_str(
+                src, dst,
+            )),
+            _ => None,
+        }
+    }
+}
+
+/// Whether the bounded conversion returns this and leaves this text.
+fn leaves<S: Source>(src: &[S], dst: &mut [u8], told: (usize, usize), want: &[u8]) -> bool {
+    S::convert_partial(src, dst) == Some(told) && *dst == *want
 }
 
 /// Whether the rows of units hold.
 fn units_rows_hold() -> bool {
     let mut dst = [0xE2, 0x98, 0x83];
-    units_leave(
+    leaves::<u16>(
         &[0x61],
         &mut [0xC3, 0xA4, 0x62],
         (1, 1),
         &[0x61, 0x00, 0x62],
-    ) && units_leave(
+    ) && leaves::<u16>(
         &[0x2603],
         &mut [0xF0, 0x9F, 0x92, 0xA9, 0x62],
         (1, 3),
         &[0xE2, 0x98, 0x83, 0x00, 0x62],
-    ) && units_leave(&[], &mut [0xC3, 0xA4], (0, 0), &[0xC3, 0xA4])
+    ) && leaves::<u16>(&[], &mut [0xC3, 0xA4], (0, 0), &[0xC3, 0xA4])
         && is_text(&dst)
         && convert_utf16_to_str(&[0x61], &mut dst) == 1
         && dst == [0x61, 0x00, 0x00]
@@ -58,9 +122,9 @@ fn latin1_rows_hold() -> bool {
     dst[15..18].copy_from_slice(&[0xE2, 0x98, 0x83]);
     let mut behind_none = [0x00; 19];
     behind_none[18] = 0x71;
-    latin1_leaves(&[0xE4], &mut [0x71; 20], (1, 2), &behind_two)
-        && latin1_leaves(&[], &mut [0x71; 4], (0, 0), &[0x00; 4])
-        && latin1_leaves(&[], &mut dst, (0, 0), &behind_none)
+    leaves::<u8>(&[0xE4], &mut [0x71; 20], (1, 2), &behind_two)
+        && leaves::<u8>(&[], &mut [0x71; 4], (0, 0), &[0x00; 4])
+        && leaves::<u8>(&[], &mut dst, (0, 0), &behind_none)
 }
 
 #[test]
@@ -94,9 +158,6 @@ const BEFORE: usize = 69;
 
 /// How many letters `b` stand behind it.
 const BEHIND: usize = 40;
-
-/// How many bytes a conversion from Latin1 sets to zero.
-const ZEROS: usize = 16;
 
 /// Fills a destination with a character.
 fn fill(dst: &mut [u8], character: &[u8]) {
@@ -133,146 +194,96 @@ fn is_cleared(written: &[u8], zeros: usize, old: &[u8], new: &[u8]) -> bool {
     new.len() == old.len() && new.get(..written.len()) == Some(written)
 }
 
+/// The longest destination: three bytes for each unit of the longest source.
+const LONGEST: usize = 3 * (BEFORE + 1 + BEHIND);
+
 /// Whether letters, a character and letters are converted so into a destination that holds this text.
-fn units_hold(src: &[u16], text: &[u8], told: (usize, usize), old: &[u8]) -> bool
-    requires { IsUtf8 old.now }
-{
-    let mut buffer = [0; 330];
+fn holds_partial<S: Source>(src: &[S], text: &[u8], told: (usize, usize), old: &[u8]) -> bool {
+    let mut buffer = [0; LONGEST];
     let (Some(dst), Some(written)) = (buffer.get_mut(..old.len()), text.get(..told.1)) else {
         return false;
     };
     dst.copy_from_slice(old);
-    convert_utf16_to_str_partial(src, dst) == told
-        && is_cleared(written, 0, old, dst)
+    S::convert_partial(src, dst) == Some(told)
+        && is_cleared(written, S::ZEROS, old, dst)
         && is_text(dst)
 }
 
 /// Whether letters, a character and letters are converted whole into a destination that holds this text.
-fn all_units_hold(src: &[u16], text: &[u8], old: &[u8]) -> bool
-    requires text { IsUtf8 old.now }
-    requires room { 3 * length src.now ≤ length old.now }
-{
-    let mut buffer = [0; 330];
+fn holds_whole<S: Source>(src: &[S], text: &[u8], old: &[u8]) -> bool {
+    let mut buffer = [0; LONGEST];
     let Some(dst) = buffer.get_mut(..old.len()) else {
         return false;
     };
     dst.copy_from_slice(old);
-    convert_utf16_to_str(src, dst) == text.len() && is_cleared(text, 0, old, dst) && is_text(dst)
+    S::convert(src, dst) == Some(text.len()) && is_cleared(text, S::ZEROS, old, dst) && is_text(dst)
 }
 
-/// Whether this unit behind each number of letters is converted so, where the room is at most three times the source.
-fn unit_holds(unit: u16, character: &[u8], old: &[u8]) -> bool
-    requires { IsUtf8 old.now }
-{
-    let mut units = [0x62; BEFORE + 1 + BEHIND];
-    units[..BEFORE].fill(0x61);
-    units[BEFORE] = unit;
+/// Makes a source of letters `a`, this unit and letters `b`.
+fn place<S: Source>(unit: S, source: &mut [S]) {
+    for (place, at) in source.iter_mut().enumerate() {
+        *at = match place.cmp(&BEFORE) {
+            Ordering::Less => S::letter(b'a'),
+            Ordering::Equal => unit,
+            Ordering::Greater => S::letter(b'b'),
+        };
+    }
+}
+
+/// Whether the unit behind each number of letters is converted so, where the room is at most what the source may need.
+fn holds_behind_letters<S: Source>(source: &[S], character: &[u8], old: &[u8]) -> bool {
     let mut bytes = [b'b'; 113];
     bytes[..BEFORE].fill(b'a');
     let end = BEFORE + character.len().min(4);
     bytes[BEFORE..end].copy_from_slice(&character[..end - BEFORE]);
     let mut holds = true;
     for letters in 0..=BEFORE {
-        let src = &units[BEFORE - letters..];
+        let src = source.get(BEFORE - letters..).unwrap_or(&[]);
         let text = &bytes[BEFORE - letters..end + BEHIND];
-        if old.len() <= 3 * src.len() {
+        let most = S::MOST.saturating_mul(src.len());
+        if old.len() <= most {
             let told = front(letters, character.len(), old.len());
-            holds = holds && units_hold(src, text, told, old);
+            holds = holds && holds_partial(src, text, told, old);
         }
-        if old.len() == 3 * src.len() {
-            holds = holds && all_units_hold(src, text, old);
+        if old.len() == most {
+            holds = holds && holds_whole(src, text, old);
         }
     }
     holds
 }
 
-/// Whether each unit is converted so into this text.
-fn units_leave_it(old: &[u8]) -> bool {
-    is_text(old)
-        && UNITS.iter().all(|(unit, character)| unit_holds(*unit, character.as_bytes(), old))
+/// Returns the first room in which one of these units isn't converted so into a destination full of this character.
+fn fails_in<S: Source>(
+    source: &mut [S],
+    units: &[(S, &'static str)],
+    filling: &str,
+) -> Option<usize> {
+    let mut buffer = [0; LONGEST];
+    fill(&mut buffer, filling.as_bytes());
+    let most = S::MOST.saturating_mul(source.len()).min(LONGEST);
+    for (unit, character) in units {
+        place(*unit, source);
+        for room in (0..=most).step_by(filling.len().max(1)) {
+            if !holds_behind_letters(source, character.as_bytes(), &buffer[..room]) {
+                return Some(room);
+            }
+        }
+    }
+    None
 }
 
 #[test]
 fn units_leave_a_text(rt: HostRuntime) {
     for filling in &FILLINGS {
-        let mut buffer = [0; 330];
-        fill(&mut buffer, filling.as_bytes());
-        for room in (0..=330usize).step_by(filling.len().max(1)) {
-            let holds = units_leave_it(&buffer[..room]);
-            assert!(rt; holds, "into {room} bytes of {filling}");
-        }
+        let fails = fails_in(&mut [0u16; BEFORE + 1 + BEHIND], &UNITS, filling);
+        assert_eq!(rt; fails, None, "into {filling}");
     }
-}
-
-/// Whether letters, a character and letters are converted so into a destination that holds this text.
-fn bytes_hold(src: &[u8], text: &[u8], told: (usize, usize), old: &[u8]) -> bool
-    requires { IsUtf8 old.now }
-{
-    let mut buffer = [0; 220];
-    let (Some(dst), Some(written)) = (buffer.get_mut(..old.len()), text.get(..told.1)) else {
-        return false;
-    };
-    dst.copy_from_slice(old);
-    convert_latin1_to_str_partial(src, dst) == told
-        && is_cleared(written, ZEROS, old, dst)
-        && is_text(dst)
-}
-
-/// Whether letters, a character and letters are converted whole into a destination that holds this text.
-fn all_bytes_hold(src: &[u8], text: &[u8], old: &[u8]) -> bool
-    requires text { IsUtf8 old.now }
-    requires room { 2 * length src.now ≤ length old.now }
-{
-    let mut buffer = [0; 220];
-    let Some(dst) = buffer.get_mut(..old.len()) else {
-        return false;
-    };
-    dst.copy_from_slice(old);
-    convert_latin1_to_str(src, dst) == text.len()
-        && is_cleared(text, ZEROS, old, dst)
-        && is_text(dst)
-}
-
-/// Whether this byte behind each number of letters is converted so, where the room is at most twice the source.
-fn byte_holds(byte: u8, character: &[u8], old: &[u8]) -> bool
-    requires { IsUtf8 old.now }
-{
-    let mut latin1 = [b'b'; BEFORE + 1 + BEHIND];
-    latin1[..BEFORE].fill(b'a');
-    latin1[BEFORE] = byte;
-    let mut bytes = [b'b'; 113];
-    bytes[..BEFORE].fill(b'a');
-    let end = BEFORE + character.len().min(4);
-    bytes[BEFORE..end].copy_from_slice(&character[..end - BEFORE]);
-    let mut holds = true;
-    for letters in 0..=BEFORE {
-        let src = &latin1[BEFORE - letters..];
-        let text = &bytes[BEFORE - letters..end + BEHIND];
-        if old.len() <= 2 * src.len() {
-            let told = front(letters, character.len(), old.len());
-            holds = holds && bytes_hold(src, text, told, old);
-        }
-        if old.len() == 2 * src.len() {
-            holds = holds && all_bytes_hold(src, text, old);
-        }
-    }
-    holds
-}
-
-/// Whether each byte is converted so into this text.
-fn bytes_leave_it(old: &[u8]) -> bool {
-    is_text(old)
-        && BYTES.iter().all(|(byte, character)| byte_holds(*byte, character.as_bytes(), old))
 }
 
 #[test]
 fn bytes_leave_a_text(rt: HostRuntime) {
     for filling in &FILLINGS {
-        let mut buffer = [0; 220];
-        fill(&mut buffer, filling.as_bytes());
-        for room in (0..=220usize).step_by(filling.len().max(1)) {
-            let holds = bytes_leave_it(&buffer[..room]);
-            assert!(rt; holds, "into {room} bytes of {filling}");
-        }
+        let fails = fails_in(&mut [0u8; BEFORE + 1 + BEHIND], &BYTES, filling);
+        assert_eq!(rt; fails, None, "into {filling}");
     }
 }
