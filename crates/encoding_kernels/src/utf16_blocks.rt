@@ -8,8 +8,9 @@ ghost use Rattle.encoding_kernels.specs.Strides.{AllBelow};
 
 use crate::encode_lanes::{are_long, store_long, store_short};
 use crate::encode_units::{are_plain, store_sixteen, write_eight};
-use crate::strides::{HALF_STRIDE, STRIDE, are_units_below, pack_ascii};
+use crate::strides::{HALF_STRIDE, STRIDE, are_units_below, copy_ascii_front};
 use crate::surrogate_pairs::{are_short_or_paired, write_short_or_paired};
+use crate::surrogates::is_surrogate;
 use std::simd::prelude::*;
 
 /// The bytes that a block of sixteen code units may store, and those behind it that are kept.
@@ -203,9 +204,9 @@ fn convert_first_eight(src: &[u16], dst: &mut [u8]) -> (usize, usize)
     convert_eight(src, 0, dst, 0)
 }
 
-/// Converts ASCII by long strides from the beginning of `src` on, then blocks that are mostly ASCII, then such as mostly
-/// aren't, and eight more, and returns how many code units these are, how many bytes it wrote, and whether the eight were
-/// there: if not, a surrogate or the end of either is next. Behind what is written `dst` is as before.
+/// Converts the ASCII at the beginning of `src`, and if no surrogate ends it, blocks that are mostly ASCII, then such as
+/// mostly aren't, and eight more, and returns how many code units these are, how many bytes it wrote, and whether the eight
+/// were there: if not, a surrogate or the end of either is near. Behind what is written `dst` is as before.
 #[inline(always)]
 fn convert_some_blocks(src: &[u16], dst: &mut [u8]) -> (usize, usize, bool)
     ensures within { result.0 ≤ length src.now }
@@ -213,8 +214,11 @@ fn convert_some_blocks(src: &[u16], dst: &mut [u8]) -> (usize, usize, bool)
     ensures plain { ArePlain (take result.0 src.now) }
     ensures written { WritesFront dst.old dst.new result.1 (encode_utf8_all (take result.0 src.now)) }
 {
-    let mut read = pack_ascii::<32>(src, dst, 0);
+    let mut read = copy_ascii_front::<32, u8, u16>(src, dst);
     let mut written = read;
+    if read < src.len() && is_surrogate(src[read]) {
+        return (read, written, false);
+    }
     let (sparse, few) = convert_sparse_blocks(&src[read..], &mut dst[written..]);
     read += sparse;
     written += few;

@@ -6,8 +6,8 @@ use Rattle.encoding_kernels.proofs.utf16_blocks.convert_some_blocks.Goals as goa
 pub returns-clause-plain : goal.returns-clause-plain
 returns-clause-plain c =
     let us = c.args.src.now in
-    let front = c.pack_ascii-read.result in
-    let below = c.pack_ascii-read.ensures.copies.ascii (λ k l. absurd (omega arith)) in
+    let front = c.copy_ascii_front-read.result in
+    let below = c.copy_ascii_front-read.ensures.copies.ascii (λ k l. absurd (omega arith)) in
     let sparse = c.convert_sparse_blocks-sparse.result.0 in
     let dense = c.convert_dense_blocks-dense.result.0 in
     let first = plain_left us front sparse (ascii_front_plain us front below) c.convert_sparse_blocks-sparse.ensures.plain in
@@ -18,8 +18,8 @@ pub returns-clause-written : goal.returns-clause-written
 returns-clause-written c =
     let us = c.args.src.now in
     let old = c.args.dst.now in
-    let front = c.pack_ascii-read.result in
-    let copies = c.pack_ascii-read.ensures.copies in
+    let front = c.copy_ascii_front-read.result in
+    let copies = c.copy_ascii_front-read.ensures.copies in
     let below = copies.ascii (λ k l. absurd (omega arith)) in
     let sparse = c.convert_sparse_blocks-sparse.result in
     let dense = c.convert_dense_blocks-dense.result in
@@ -28,3 +28,8 @@ returns-clause-written c =
     let second = written_left us front sparse.0 old _ _ front sparse.1 first c.convert_sparse_blocks-sparse.ensures.written in
     let third = written_left us (front + sparse.0) dense.0 old _ _ (front + sparse.1) dense.1 second c.convert_dense_blocks-dense.ensures.written in
     written_left us (front + sparse.0 + dense.0) last.0 old _ _ (front + sparse.1 + dense.1) last.1 third c.convert_first_eight-last.ensures.written
+
+pub returns-then-is_surrogate-clause-written : goal.returns-then-is_surrogate-clause-written
+returns-then-is_surrogate-clause-written c =
+    let copies = c.copy_ascii_front-read.ensures.copies in
+    ascii_front_written c.args.src.now c.copy_ascii_front-read.result (copies.ascii (λ k l. absurd (omega arith))) c.args.dst.now _ (copies.copied c.args.dst.now (WritesFront-nil c.args.dst.now))
