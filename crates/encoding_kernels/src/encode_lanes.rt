@@ -108,23 +108,6 @@ pub(crate) fn store_short(first: u16x8, second: u16x8, dst: &mut [u8], at: usize
     (all, kept)
 }
 
-/// Writes the UTF-8 of twice eight code units below U+0800, and returns how many bytes that is. Behind them `dst` is as
-/// before.
-#[inline(always)]
-pub fn write_short(first: u16x8, second: u16x8, dst: &mut [u8], at: usize) -> usize
-    requires room { at + 32 ≤ length dst.old }
-    requires short { (k : ℕ) → (slice_index first k < 0x800) × (slice_index second k < 0x800) }
-    ensures most { result ≤ 32 }
-    ensures count { result ≡ length (encode_utf8_all first ++ encode_utf8_all second) }
-    ensures written { dst.new ≡ take at dst.old
-        ++ ((encode_utf8_all first ++ encode_utf8_all second) ++ drop (at + result) dst.old) }
-{
-    let (bytes, count) = encode_short(first);
-    let (other, more) = encode_short(second);
-    write_both(dst, at, bytes, count, other, more);
-    count + more
-}
-
 /// Whether each of the eight code units is from U+0800 on, and no surrogate.
 #[inline(always)]
 pub(crate) fn are_long(units: u16x8) -> bool

@@ -1,11 +1,12 @@
 //! The UTF-8 of code units that are no surrogates, by vectors: each has four bytes, of which a table tells the kept ones.
 
-ghost use Rattle.std.specs.Prelude.{◌≡◌, ℕ, ◌+◌, ◌*◌, ◌/◌, ◌%◌, ◌<◌, ◌≤◌, List, ◌++◌, length, take, drop, slice_index, encode_utf8_all, IsTrue};
+ghost use Rattle.std.specs.Prelude.{◌≡◌, ℕ, ◌+◌, ◌*◌, ◌/◌, ◌%◌, ◌<◌, ◌≤◌, List, ◌++◌, length, take, drop, replicate, slice_index, encode_utf8_all, IsTrue};
 ghost use Rattle.std.specs.Simd.Lanes.{mask_l};
 ghost use Rattle.encoding_kernels.specs.EncodeLanes.{EncodesLast, classes, mended};
 
 use crate::compress_last::last_by;
 use crate::encode_lanes::{store_two, write_both};
+use crate::places::run_before;
 use std::simd::prelude::*;
 
 /// The least code unit of three bytes.
@@ -18,6 +19,16 @@ pub(crate) fn are_plain(units: u16x8) -> bool
 {
     let tops = units & u16x8::splat(0xF800);
     !tops.simd_eq(u16x8::splat(0xD800)).any()
+}
+
+/// How many of the eight code units come before the first surrogate.
+#[inline(always)]
+pub(crate) fn plain_front(units: u16x8) -> usize
+    ensures within { result ≤ 8 }
+    ensures plain { (k : ℕ) → k < result → (0xD800 ≤ slice_index units k) × (slice_index units k ≤ 0xDFFF) → ⊥ }
+{
+    let tops = units & u16x8::splat(0xF800);
+    run_before::<8>(tops.simd_eq(u16x8::splat(0xD800)).to_bitmask())
 }
 
 /// Two bits for each of eight code units: whether it is ASCII, and whether it is below U+0800.
@@ -118,6 +129,36 @@ pub(crate) fn write_eight(units: u16x8, dst: &mut [u8], at: usize) -> usize
     let (bytes, count, other, more) = encode_eight(units);
     write_both(dst, at, bytes, count, other, more);
     count + more
+}
+
+/// The first of eight code units, so many, and zeros behind them.
+#[inline(always)]
+fn with_zeros(units: u16x8, first: usize) -> u16x8
+    requires { first ≤ 8 }
+    ensures { result ≡ take first units ++ drop first (replicate 8 0) }
+{
+    let places = u16x8::from_array([0, 1, 2, 3, 4, 5, 6, 7]);
+    places
+        .simd_lt(u16x8::splat(first as u16))
+        .select(units, u16x8::splat(0))
+}
+
+/// Writes the UTF-8 of the first of eight code units, so many, and returns how many bytes that is. Behind them `dst` is as
+/// before: the zeros of the other ones are stored, and what stood there is written back.
+#[inline(always)]
+pub(crate) fn write_first_of_eight(units: u16x8, first: usize, dst: &mut [u8], at: usize) -> usize
+    requires room { at + 32 ≤ length dst.old }
+    requires first { first ≤ 8 }
+    ensures most { result ≤ 24 }
+    ensures count { result ≡ length (encode_utf8_all (take first units)) }
+    ensures written { dst.new ≡ take at dst.old ++ (encode_utf8_all (take first units) ++ drop (at + result) dst.old) }
+{
+    let (bytes, count, other, more) = encode_eight(with_zeros(units, first));
+    let written = count + more - (8 - first);
+    let behind = u8x8::from_slice(&dst[at + written..]);
+    write_both(dst, at, bytes, count, other, more);
+    behind.copy_to_slice(&mut dst[at + written..]);
+    written
 }
 
 /// Stores the UTF-8 of twice eight code units, and returns how many bytes that is and what stood in the sixteen places

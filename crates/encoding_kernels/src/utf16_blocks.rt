@@ -7,7 +7,9 @@ ghost use Rattle.encoding_kernels.specs.EncodeLanes.{ArePlain, mended};
 ghost use Rattle.encoding_kernels.specs.Strides.{AllBelow};
 
 use crate::encode_lanes::{are_long, store_long, store_short};
-use crate::encode_units::{are_plain, store_sixteen, write_eight};
+use crate::encode_units::{
+    are_plain, plain_front, store_sixteen, write_eight, write_first_of_eight,
+};
 use crate::strides::{HALF_STRIDE, STRIDE, are_units_below, copy_ascii_front};
 use crate::surrogate_pairs::{are_short_or_paired, write_short_or_paired};
 use crate::surrogates::is_surrogate;
@@ -190,8 +192,8 @@ fn convert_dense_blocks(src: &[u16], dst: &mut [u8]) -> (usize, usize)
     (read, written)
 }
 
-/// Converts the first eight code units, if there are so many and none is a surrogate, and returns how many code units it
-/// read, eight or none, and how many bytes it wrote. Behind these `dst` is as before.
+/// Converts those of the first eight code units that come before a surrogate, if there are eight, and returns how many
+/// these are and how many bytes it wrote. Behind these `dst` is as before.
 #[inline(always)]
 fn convert_first_eight(src: &[u16], dst: &mut [u8]) -> (usize, usize)
     ensures within { result.0 ≤ length src.now }
@@ -201,12 +203,15 @@ fn convert_first_eight(src: &[u16], dst: &mut [u8]) -> (usize, usize)
     if src.len() < HALF_STRIDE || dst.len() < 32 {
         return (0, 0);
     }
-    convert_eight(src, 0, dst, 0)
+    let units = u16x8::from_slice(src);
+    let first = plain_front(units);
+    (first, write_first_of_eight(units, first, dst, 0))
 }
 
-/// Converts the ASCII at the beginning of `src`, and if no surrogate ends it, blocks that are mostly ASCII, then such as
-/// mostly aren't, and eight more, and returns how many code units these are, how many bytes it wrote, and whether the eight
-/// were there: if not, a surrogate or the end of either is near. Behind what is written `dst` is as before.
+/// Converts the ASCII at the beginning of `src`, and if no surrogate ends it, blocks that are mostly ASCII, and what comes
+/// before a surrogate of eight more; if all eight do, also blocks that mostly aren't ASCII. Returns how many code units
+/// these are, how many bytes it wrote, and whether all eight did: if not, a surrogate is next, or the end of either is
+/// near. Behind what is written `dst` is as before.
 #[inline(always)]
 fn convert_some_blocks(src: &[u16], dst: &mut [u8]) -> (usize, usize, bool)
     ensures within { result.0 ≤ length src.now }
@@ -222,11 +227,14 @@ fn convert_some_blocks(src: &[u16], dst: &mut [u8]) -> (usize, usize, bool)
     let (sparse, few) = convert_sparse_blocks(&src[read..], &mut dst[written..]);
     read += sparse;
     written += few;
+    let (first, some) = convert_first_eight(&src[read..], &mut dst[written..]);
+    read += first;
+    written += some;
+    if first < HALF_STRIDE {
+        return (read, written, false);
+    }
     let (dense, many) = convert_dense_blocks(&src[read..], &mut dst[written..]);
-    read += dense;
-    written += many;
-    let (last, more) = convert_first_eight(&src[read..], &mut dst[written..]);
-    (read + last, written + more, last > 0)
+    (read + dense, written + many, true)
 }
 
 /// Converts blocks of code units from the beginning of `src` on, none of which has a surrogate, and returns how many code

@@ -110,6 +110,10 @@ eight_plain us at h k r = elim (cases_lt k 8) [
   | inr l ↦ omega (arith, r.0, get_or_past (chunk at 8 us) k 0 (omega (arith, length-take 8 (drop at us))))
 ]
 
+-- the first of eight in a vector
+pub first_plain : (us : List ℕ) (n : ℕ) → n ≤ 8 → ((k : ℕ) → k < n → IsPlain (get_or (chunk 0 8 us) k 0)) → ArePlain (take n us)
+first_plain us n few h = Each-take IsPlain (λ r. omega (arith, r.0)) us n (λ k l r. let same = get_or-take 8 us k 0 (omega arith) in h k l (omega (arith, same, r.0), omega (arith, same, r.1)))
+
 pub plain_then : (us : List ℕ) (n m : ℕ) → ArePlain (take n us) → ArePlain (take m (drop n us)) → ArePlain (take (n + m) us)
 plain_then us n m p q = plain_more us n p m (λ k l. let same = get_or-drop n us k 0 in let front = get_or-take m (drop n us) k 0 l in λ r. q k (omega (arith, same, front, r.0), omega (arith, same, front, r.1)))
 
@@ -129,12 +133,6 @@ short_joined us first second n e f =
     ∙ ap (λ xs. encode_utf8_all (chunk n 8 us ++ take 8 xs)) (sym (drop-drop 8 n us)) ∙ ap encode_utf8_all (sym (take-add 8 8 (drop n us)))
 
 module _ (us old new after : List ℕ) (n written : ℕ) (w : WritesFront old new written (encode_utf8_all (take n us))) where
-  pub written_short : (first second : List ℕ) (m : ℕ) → first ≡ chunk n 8 us → second ≡ chunk (n + 8) 8 us → m ≡ length (encode_utf8_all first ++ encode_utf8_all second) → written + m ≤ length new
-      → after ≡ take written new ++ ((encode_utf8_all first ++ encode_utf8_all second) ++ drop (written + m) new)
-      → WritesFront old after (written + m) (encode_utf8_all (take (n + 16) us))
-  written_short first second m e f count room put =
-      WritesFront-same _ _ _ _ _ _ (WritesFront_put old new after written m _ _ w count room put) refl (ap (λ xs. encode_utf8_all (take n us) ++ xs) (short_joined us first second n e f) ∙ encodes_more us n 16)
-
   pub written_eight : (k m : ℕ) → m ≡ length (encode_utf8_all (take k (drop n us))) → written + m ≤ length new
       → after ≡ take written new ++ (encode_utf8_all (take k (drop n us)) ++ drop (written + m) new)
       → WritesFront old after (written + m) (encode_utf8_all (take (n + k) us))

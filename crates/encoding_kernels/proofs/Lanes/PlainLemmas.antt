@@ -1,33 +1,85 @@
 -- The UTF-8 of code units in four bytes each, of which the last ones are kept.
-use Rattle.std.proofs.Common.{◌≡◌, ℕ, suc, ◌+◌, ◌-◌, ◌*◌, ◌/◌, ◌%◌, ◌^◌, ◌<◌, ◌≤◌, IsTrue, Bool, true, false, not, eqb, cond, inl, inr, replicate, Fits, w16, List, [], ◌∷◌, ◌++◌, map, length, take, drop, get_or, encode_utf8_all, bit_and, refl, sym, ap, ◌∙◌, arith, subst, w8, leb, ltb, length-take-le, take-append-drop}
+use Rattle.std.proofs.Common.{◌≡◌, ℕ, zero, suc, ◌+◌, ◌-◌, ◌*◌, ◌/◌, ◌%◌, ◌^◌, ◌<◌, ◌≤◌, IsTrue, Bool, true, false, not, eqb, cond, inl, inr, replicate, Fits, w16, List, [], ◌∷◌, ◌++◌, map, length, take, drop, get_or, encode_utf8_all, bit_and, refl, sym, ap, ◌∙◌, arith, subst, w8, leb, ltb, length-take-le, take-append-drop, get_or-drop}
 use Rattle.std.specs.Prelude.{nat_lt}
 use Rattle.std.proofs.lemmas.Bool.{cases_lt, eqb-false, ltb-true, lt-ltb, false≢true}
 use Rattle.std.proofs.lemmas.Bool.Decides.{nat_tests}
-use Rattle.std.proofs.lemmas.List.{take-map, get_or_append_left, get_or-append_right}
+use Rattle.std.proofs.lemmas.List.{take-map, get_or_append_left, get_or-append_right, get_or_past}
 use Rattle.std.proofs.lemmas.Nat.{and_mask}
 use Rattle.std.proofs.lemmas.Nat.Bits.{and_high_mask}
-use Rattle.std.proofs.lemmas.Simd.{ones-mask_l_cons, get_or_narrower, Each1-from_get_or, Each1-get_or, swz_l, mask_l-lt}
-use Rattle.std.proofs.lemmas.Str.{encode_ascii, encodes-append}
+use Rattle.std.proofs.lemmas.Simd.{ones-mask_l_cons, get_or_narrower, get_or-replicate, Each1-from_get_or, Each1-get_or, swz_l, mask_l-lt}
+use Rattle.std.proofs.lemmas.Str.{encode_ascii, encodes-append, encodes-IsAscii}
 use Rattle.std.proofs.str.Laws.{two, three}
 use Rattle.std.specs.Int.RustNames.{count_ones}
+use lib.Count.{count_trailing_zeros}
 use Rattle.std.specs.Simd.Lanes.{mask_l, number_l, digits_l, pick_l, zip2, sel_l, top, Each1}
 use Rattle.encoding_kernels.specs.Lanes.{HasLanes}
 use Rattle.encoding_kernels.specs.EncodeLanes.{last_places, classes, EncodesLast}
 use Rattle.encoding_kernels.proofs.Lanes.CompressLemmas.{mask_append}
-use Rattle.encoding_kernels.proofs.Lanes.LaneLemmas.{HasLanes-itself, HasLanes-splat, HasLanes-zip2, compared, mask_of}
-use Rattle.encoding_kernels.proofs.Lanes.TestLemmas.{tests_of, chosen, chosen_by, none_passes}
+use Rattle.encoding_kernels.proofs.Lanes.LaneLemmas.{HasLanes-itself, HasLanes-same, HasLanes-splat, HasLanes-zip2, IsFirstSet, compared, firsts_are, mask_of}
+use Rattle.encoding_kernels.proofs.Lanes.TestLemmas.{HasTests, tests_of, chosen, chosen_by, none_passes, none_is_first, lowest_is_first}
 use Rattle.encoding_kernels.proofs.Lanes.EncodeLanesLemmas.{looked_up, mask_from, pick}
 use Rattle.encoding_kernels.proofs.Lanes.UnitLanesLemmas.{picked_lanes}
 
 -- ---- the test
-pub all_plain : (us : List ℕ) → length us ≡ 8 → Each1 (Fits w16) us → IsTrue (not (not (eqb (mask_of 15 (zip2 (compared w16 eqb) (zip2 bit_and us (replicate 8 0xF800)) (replicate 8 0xD800))) 0)))
-    → (k : ℕ) → k < 8 → (0xD800 ≤ get_or us k 0) × (get_or us k 0 ≤ 0xDFFF) → ⊥
-all_plain us long fit t k l r =
-    let x = get_or us k 0 in
-    let tops = HasLanes-zip2 bit_and (HasLanes-itself 8 us long) (HasLanes-splat 8 0xF800) in
-    let other = (none_passes (tests_of w16 eqb tops (HasLanes-splat 8 0xD800)) (omega arith)).0 t k l in
-    let top_bits : bit_and x 0xF800 ≡ x / 2048 * 2048 = and_high_mask 16 11 (omega arith) x (Each1-get_or (Fits w16) us k 0 (omega (arith, long)) fit).fits in
-    eqb-false _ _ other (omega (arith, top_bits, r.0, r.1))
+abbrev pub surrogates : List ℕ → List ℕ
+surrogates us = zip2 (compared w16 eqb) (zip2 bit_and us (replicate 8 0xF800)) (replicate 8 0xD800)
+
+module _ (us : List ℕ) (long : length us ≡ 8) (fit : Each1 (Fits w16) us) where
+  tests : HasTests w16 8 (surrogates us) (λ k. eqb (bit_and (get_or us k 0) 0xF800) 0xD800)
+  tests = tests_of w16 eqb (HasLanes-zip2 bit_and (HasLanes-itself 8 us long) (HasLanes-splat 8 0xF800)) (HasLanes-splat 8 0xD800)
+
+  plain_lane : (k : ℕ) → k < 8 → eqb (bit_and (get_or us k 0) 0xF800) 0xD800 ≡ false → (0xD800 ≤ get_or us k 0) × (get_or us k 0 ≤ 0xDFFF) → ⊥
+  plain_lane k l other r =
+      let x = get_or us k 0 in
+      let top_bits : bit_and x 0xF800 ≡ x / 2048 * 2048 = and_high_mask 16 11 (omega arith) x (Each1-get_or (Fits w16) us k 0 (omega (arith, long)) fit).fits in
+      eqb-false _ _ other (omega (arith, top_bits, r.0, r.1))
+
+  pub all_plain : IsTrue (not (not (eqb (mask_of 15 (surrogates us)) 0))) → (k : ℕ) → k < 8 → (0xD800 ≤ get_or us k 0) × (get_or us k 0 ≤ 0xDFFF) → ⊥
+  all_plain t k l = plain_lane k l ((none_passes tests (omega arith)).0 t k l)
+
+  -- before the first that is one, as the mask tells
+  pub before_first : (r : ℕ) → (mask_of 15 (surrogates us) ≡ 0 → r ≡ 8) → (0 < mask_of 15 (surrogates us) → r ≡ count_trailing_zeros 64 (mask_of 15 (surrogates us)))
+      → (r ≤ 8) × ((k : ℕ) → k < r → (0xD800 ≤ get_or us k 0) × (get_or us k 0 ≤ 0xDFFF) → ⊥)
+  before_first r none some =
+      let Is = λ (n : ℕ). IsFirstSet 8 n (λ k. eqb (bit_and (get_or us k 0) 0xF800) 0xD800) in
+      let first : Is r = elim (cases_lt 0 (mask_of 15 (surrogates us))) [
+        | inl l ↦ subst Is (sym (some l)) (lowest_is_first tests (omega arith) l)
+        | inr l ↦ let e : mask_of 15 (surrogates us) ≡ 0 = omega arith in subst Is (sym (none e)) (none_is_first tests (omega arith) e)
+      ] in
+      (first.within, λ k l. plain_lane k (omega (arith, first.within)) (first.before k l))
+
+-- ---- the first ones alone
+abbrev pub first_lanes : ℕ → List ℕ → List ℕ
+first_lanes n us = sel_l (map (top 15) (zip2 (compared w16 ltb) (0 ∷ 1 ∷ 2 ∷ 3 ∷ 4 ∷ 5 ∷ 6 ∷ 7 ∷ []) (replicate 8 n))) us (replicate 8 0)
+
+eight_places : HasLanes 8 (0 ∷ 1 ∷ 2 ∷ 3 ∷ 4 ∷ 5 ∷ 6 ∷ 7 ∷ []) (λ k. k)
+eight_places = HasLanes-same (HasLanes-itself 8 (0 ∷ 1 ∷ 2 ∷ 3 ∷ 4 ∷ 5 ∷ 6 ∷ 7 ∷ []) refl) below
+  where
+    below : (k : ℕ) → k < 8 → get_or (0 ∷ 1 ∷ 2 ∷ 3 ∷ 4 ∷ 5 ∷ 6 ∷ 7 ∷ []) k 0 ≡ k
+    below zero l = refl
+    below (suc zero) l = refl
+    below (suc (suc zero)) l = refl
+    below (suc (suc (suc zero))) l = refl
+    below (suc (suc (suc (suc zero)))) l = refl
+    below (suc (suc (suc (suc (suc zero))))) l = refl
+    below (suc (suc (suc (suc (suc (suc zero)))))) l = refl
+    below (suc (suc (suc (suc (suc (suc (suc zero))))))) l = refl
+    below (suc (suc (suc (suc (suc (suc (suc (suc k)))))))) l = absurd (omega arith)
+
+pub first_lanes_are : (n : ℕ) (us : List ℕ) → n ≤ 8 → length us ≡ 8 → first_lanes n us ≡ take n us ++ drop n (replicate 8 0)
+first_lanes_are n us few long =
+    firsts_are 8 n us (replicate 8 0) (first_lanes n us) long refl few
+    (HasLanes-same (chosen_by (tests_of w16 ltb eight_places (HasLanes-splat 8 n)) (HasLanes-itself 8 us long) (HasLanes-splat 8 0))
+    (λ k l. ap (λ x. cond (ltb k n) (get_or us k 0) x) (sym (get_or-replicate 8 k 0 0 l))))
+
+pub zeros_spelled : (n : ℕ) (us : List ℕ) → encode_utf8_all (take n us ++ drop n (replicate 8 0)) ≡ encode_utf8_all (take n us) ++ drop n (replicate 8 0)
+zeros_spelled n us = encodes-append (take n us) (drop n (replicate 8 0)) ∙ ap (λ xs. encode_utf8_all (take n us) ++ xs) (encodes-IsAscii (drop n (replicate 8 0)) (λ k. zero_at k))
+  where
+    zero_at : (k : ℕ) → get_or (drop n (replicate 8 0)) k 0 < 0x80
+    zero_at k = elim (cases_lt (n + k) 8) [
+      | inl l ↦ omega (arith, get_or-drop {A = ℕ} n (replicate 8 0) k 0, get_or-replicate {A = ℕ} 8 (n + k) 0 0 l)
+      | inr l ↦ omega (arith, get_or-drop {A = ℕ} n (replicate 8 0) k 0, get_or_past {X = ℕ} (replicate 8 0) (n + k) 0 l)
+    ]
 
 -- ---- the classes
 pub classes_long : (us : List ℕ) → length (classes us) ≡ 2 * length us

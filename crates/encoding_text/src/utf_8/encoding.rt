@@ -36,15 +36,12 @@ fn scalar_at(src: &[u16], at: usize) -> u32
     REPLACEMENT
 }
 
-/// The characters that go one by one behind blocks: the first surrogate among them is what ended these.
-const FEW_SINGLES: usize = 8;
-
 /// The characters that go one by one where there were no blocks twice in a row.
 const MANY_SINGLES: usize = 32;
 
 /// How many characters go one by one behind so many code units in blocks, and so many in blocks with pairs, where so
-/// many are left: none behind the latter, else few, and many where there were no blocks again, so that text without
-/// blocks isn't looked through twice.
+/// many are left: none behind the latter, else one, which is what ended blocks, and many where not even eight code units
+/// went before it again, so that text without blocks isn't looked through twice.
 #[inline(always)]
 fn singles_behind(units: usize, paired: usize, left: usize, in_vain: bool) -> usize
     ensures { paired ≡ 0 → 0 < result }
@@ -55,22 +52,10 @@ fn singles_behind(units: usize, paired: usize, left: usize, in_vain: bool) -> us
     if paired > 0 {
         return 0;
     }
-    if units == 0 && in_vain {
+    if units < HALF_STRIDE && in_vain {
         return MANY_SINGLES;
     }
-    FEW_SINGLES
-}
-
-/// How many characters more go one by one behind this one, which isn't ASCII: of few none where it is what ended
-/// blocks, a pair or what counts as U+FFFD.
-#[inline(always)]
-fn singles_left(singles: usize, scalar: u32) -> usize
-    requires { 0 < singles }
-{
-    if singles <= FEW_SINGLES && scalar >= REPLACEMENT {
-        return 0;
-    }
-    singles - 1
+    1
 }
 
 /// Converts the first characters of `src` from UTF-16 to UTF-8, while at least four bytes of `dst` are free, and
@@ -103,7 +88,7 @@ pub fn convert_utf16_to_utf8_partial_inner(src: &[u16], dst: &mut [u8]) -> (usiz
             read += paired;
             written += extra;
             singles = singles_behind(units, paired, src.len() - read, in_vain);
-            in_vain = units | paired == 0;
+            in_vain = units | paired < HALF_STRIDE;
         } else if src[read] < 0x80 {
             dst[written] = src[read] as u8;
             written += 1;
@@ -113,7 +98,7 @@ pub fn convert_utf16_to_utf8_partial_inner(src: &[u16], dst: &mut [u8]) -> (usiz
             let scalar = scalar_at(src, read);
             written += write_scalar(scalar, &mut dst[written..]);
             read += utf16_length(scalar);
-            singles = singles_left(singles, scalar);
+            singles -= 1;
         }
     }
     (read, written)

@@ -1,8 +1,14 @@
-use Rattle.std.proofs.Common.{[], arith, refl}
+use Rattle.std.proofs.Common.{[], encode_utf8_all, ap, arith}
+use Rattle.std.proofs.lemmas.List.{take-take}
 use Rattle.encoding_definitions.proofs.LongestFronts.FrontsLemmas.{WritesFront-nil, WritesFront-same, WritesFront_put}
+use Rattle.encoding_kernels.proofs.CodeUnits.UnitBlocksLemmas.{first_plain}
 use Rattle.encoding_kernels.proofs.utf16_blocks.convert_first_eight.Goals as goal
+
+pub returns-clause-plain : goal.returns-clause-plain
+returns-clause-plain c = first_plain c.args.src.now c.plain_front-first.result c.plain_front-first.ensures.within c.plain_front-first.ensures.plain
 
 pub returns-clause-written : goal.returns-clause-written
 returns-clause-written c =
-    let call = c.convert_eight.ensures in
-    WritesFront-same _ _ _ _ _ _ (WritesFront_put c.args.dst.now c.args.dst.now c.convert_eight.new.dst 0 c.convert_eight.result.1 [] _ (WritesFront-nil c.args.dst.now) call.count (omega (arith, call.most)) call.written) (omega arith) refl
+    let call = c.write_first_of_eight.ensures in
+    WritesFront-same _ _ _ _ _ _ (WritesFront_put c.args.dst.now c.args.dst.now c.write_first_of_eight.new.dst 0 c.write_first_of_eight.result [] _ (WritesFront-nil c.args.dst.now) call.count (omega (arith, call.most)) call.written)
+    (omega arith) (ap encode_utf8_all (take-take c.plain_front-first.result 8 c.args.src.now c.plain_front-first.ensures.within))
