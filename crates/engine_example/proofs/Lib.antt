@@ -1,3 +1,4 @@
 pub mod BlockLemmas
 pub mod PieceLemmas
 pub mod RoundTripLemmas
+pub mod UnitLemmas

@@ -1,0 +1,154 @@
+//! The code units of a text in a row: their repair, their UTF-8 through a small room, and whether a character of them is
+//! right-to-left.
+
+ghost use Rattle.std.specs.Prelude.{◌≡◌, ◌↔◌, List, ℕ, Any, IfOk, IsTrue, encode_utf8_all};
+ghost use Rattle.std.specs.Char.Escape.{encode_utf16};
+ghost use Rattle.std.specs.Char.Utf16.{utf16_lossy_chars};
+ghost use Rattle.std.specs.List.{flat_map};
+ghost use Rattle.std.specs.Str.{chars};
+ghost use Rattle.encoding_definitions.specs.Bidi.{IsRightToLeft};
+ghost use Rattle.encoding_definitions.specs.Surrogates.{IsValidUtf16, AreRepairedUnits, ChangesLone};
+ghost use Rattle.encoding_definitions.specs.Utf16.{IsUtf8OfUnits};
+
+use encoding_runs::laws::{
+    law_bidi_agrees, law_partial_repeats, law_surrogate_repair, law_utf16_round_trip,
+};
+use encoding_text::mem::{
+    convert_utf16_to_utf8_partial, ensure_utf16_validity, is_str_bidi, is_utf16_bidi,
+};
+use std::alloc::{AllocError, Global};
+
+/// The bytes that `utf8_of_units` writes at once: four or more, so that each character fits.
+const ROOM: usize = 64;
+
+/// Repairs a text where it stands. Its code units are then the UTF-16 of what `String::from_utf16_lossy` makes of them,
+/// and a place in the text stays where it was.
+pub fn repair_units(units: &mut [u16])
+    ensures repaired { AreRepairedUnits units.old units.new }
+    ensures text { units.new ≡ flat_map encode_utf16 (utf16_lossy_chars units.old) }
+    ensures valid { IsValidUtf16 units.new }
+    ensures places { ChangesLone units.old units.new }
+    ensures stays { IsValidUtf16 units.old → units.new ≡ units.old }
+    ensures twice { AreRepairedUnits units.new units.new }
+{
+    law_surrogate_repair();
+    ensure_utf16_validity(units);
+}
+
+/// Whether `kept` is still the repaired text of these code units. An `Err` says that memory was refused.
+pub fn is_repaired(alloc: Global, units: &[u16], kept: &[u16]) -> Result<bool, AllocError>
+    ensures { IfOk result (λ is. IsTrue is ↔ AreRepairedUnits units.now kept.now) }
+{
+    law_surrogate_repair();
+    let mut repaired = Vec::new(alloc);
+    repaired.extend_from_slice(units)?;
+    ensure_utf16_validity(&mut repaired);
+    Ok(repaired.as_slice() == kept)
+}
+
+/// The UTF-8 of the code units, written in turns into one small room: that of `String::from_utf16_lossy`. An `Err` says
+/// that memory was refused.
+pub fn utf8_of_units(alloc: Global, units: &[u16]) -> Result<Vec<u8>, AllocError>
+    ensures { IfOk result (λ bytes. bytes.items ≡ encode_utf8_all (utf16_lossy_chars units.now)) }
+{
+    law_partial_repeats();
+    law_utf16_round_trip();
+    let mut room = [0; ROOM];
+    let mut bytes = Vec::new(alloc);
+    let mut read = 0;
+    while read < units.len() {
+        let (more, written) = convert_utf16_to_utf8_partial(&units[read..], &mut room);
+        bytes.extend_from_slice(&room[..written])?;
+        read += more;
+    }
+    Ok(bytes)
+}
+
+/// Whether a character of the code units is right-to-left. They are repaired first: a lone high surrogate might be half
+/// of such a character.
+pub fn has_right_to_left(units: &mut [u16]) -> bool
+    ensures repaired { AreRepairedUnits units.old units.new }
+    ensures right_to_left { IsTrue result ↔ Any IsRightToLeft (utf16_lossy_chars units.old) }
+{
+    law_bidi_agrees();
+    law_surrogate_repair();
+    repair_units(units);
+    is_utf16_bidi(units)
+}
+
+/// Whether a character of the text is right-to-left: the same as of its code units.
+pub fn has_text_right_to_left(text: &str) -> bool
+    ensures { IsTrue result ↔ Any IsRightToLeft (chars text.now) }
+{
+    law_bidi_agrees();
+    is_str_bidi(text)
+}
+
+/// The UTF-8 of code units is that of the repaired ones, whether or not they are repaired first.
+pub fn law_repair_first()
+    ensures { (units repaired out : List ℕ) → AreRepairedUnits units repaired
+        → IsUtf8OfUnits units out ↔ IsUtf8OfUnits repaired out }
+{
+    law_surrogate_repair();
+}
+
+#[cfg(test)]
+mod tests {
+    use super::*;
+    use std::test::Fail;
+
+    /// Code units, the repaired ones, their text, and whether it has a right-to-left character.
+    const ROWS: [(&[u16], &[u16], &str, bool); 5] = [
+        (&[], &[], "", false),
+        (
+            &[0x61, 0xD83D, 0xDCA9, 0xD83D],
+            &[0x61, 0xD83D, 0xDCA9, 0xFFFD],
+            "a\u{1F4A9}\u{FFFD}",
+            false,
+        ),
+        (&[0xD802], &[0xFFFD], "\u{FFFD}", false),
+        (
+            &[0xD802, 0xD802, 0xDC00],
+            &[0xFFFD, 0xD802, 0xDC00],
+            "\u{FFFD}\u{10800}",
+            true,
+        ),
+        (&[0xDC00, 0x5D0], &[0xFFFD, 0x5D0], "\u{FFFD}\u{5D0}", true),
+    ];
+
+    #[test]
+    fn repairs_and_writes_each_row(rt: HostRuntime) -> Result<(), Fail> {
+        for (units, repaired, text, right_to_left) in &ROWS {
+            let mut own = Vec::new(rt.alloc());
+            own.extend_from_slice(units)?;
+            let bytes = utf8_of_units(rt.alloc(), &own)?;
+            assert!(rt; bytes.as_slice() == text.as_bytes(), "UTF-8 of {text}");
+            assert!(rt;
+                is_repaired(rt.alloc(), &own, repaired)?,
+                "{text} as it was kept"
+            );
+            assert!(rt; has_text_right_to_left(text) == *right_to_left, "{text}");
+            assert!(rt;
+                has_right_to_left(&mut own) == *right_to_left,
+                "units of {text}"
+            );
+            assert!(rt; own.as_slice() == *repaired, "repaired units of {text}");
+        }
+        Ok(())
+    }
+
+    #[test]
+    fn writes_a_character_across_the_end_of_the_room(rt: HostRuntime) -> Result<(), Fail> {
+        for before in 59..66 {
+            let mut units = Vec::new(rt.alloc());
+            units.resize(before, 0x61)?;
+            units.extend_from_slice(&[0xD83D, 0xDCA9, 0xE9])?;
+            let mut text = Vec::new(rt.alloc());
+            text.resize(before, b'a')?;
+            text.extend_from_slice("\u{1F4A9}\u{E9}".as_bytes())?;
+            let bytes = utf8_of_units(rt.alloc(), &units)?;
+            assert!(rt; bytes == text, "{before} bytes before the character");
+        }
+        Ok(())
+    }
+}
