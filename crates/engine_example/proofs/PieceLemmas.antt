@@ -1,15 +1,15 @@
 -- Pieces of bytes, one after another, and what is written of them.
-use Rattle.std.proofs.Common.{◌≡◌, ◌≢◌, ℕ, ◌+◌, ◌-◌, ◌<◌, ◌≤◌, inl, inr, Bool, true, false, List, [], ◌∷◌, ◌++◌, length, take, drop, get_or, map, refl, sym, ap, subst, ◌∙◌, arith, append-nil, append_assoc, encode_utf8_all}
+use Rattle.std.proofs.Common.{◌≡◌, ℕ, ◌+◌, ◌<◌, Bool, true, false, List, [], ◌∷◌, ◌++◌, length, take, drop, get_or, map, refl, sym, ap, subst, ◌∙◌, arith, append-nil, append_assoc}
 use Rattle.std.specs.List.{flat_map}
 use Rattle.std.specs.Str.{chars}
 use Rattle.std.specs.Char.Escape.{encode_utf16}
 use Rattle.std.proofs.lemmas.Grind.{flat_map-append}
 use Rattle.std.proofs.lemmas.List.{take_all, take_more, drop_all, drop-drop, flat_map_more, length-drop}
-use Rattle.encoding_definitions.specs.Parts.{Part, Character, Broken, StartsWith, ArePartsOf, repaired_scalar, repaired_utf16}
+use Rattle.encoding_definitions.specs.Parts.{Part, Character, StartsWith, ArePartsOf, repaired_scalar, repaired_utf16}
 use Rattle.encoding_definitions.specs.Giving.{Gives}
 use Rattle.encoding_definitions.specs.Pending.{IsPending}
 use Rattle.encoding_definitions.proofs.Decomposition.DecompositionLemmas.{StartsWith-append}
-use Rattle.encoding_text.specs.Decoding.{IsBorrowedCall, IsBroken}
+use Rattle.encoding_text.specs.Decoding.{IsBorrowedCall}
 use Rattle.encoding_text.specs.GivenParts.{AreBorrowed}
 use Rattle.encoding_text.specs.declared.decoder.Piece.{Piece}
 use Rattle.encoding_text.specs.declared.decoder.Piece.TheVariants as piece

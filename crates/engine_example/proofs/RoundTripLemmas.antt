@@ -8,7 +8,7 @@ use Rattle.std.proofs.lemmas.List.Folds.{flat_map-map}
 use Rattle.std.proofs.lemmas.Str.{encodes-chars, scalars-chars}
 use lib.Utf8.{scalar}
 use Rattle.encoding_definitions.specs.Parts.{Part, Character, Broken, StartsWith, ArePartsOf, repaired_scalar, repaired_text, repaired_utf16}
-use Rattle.encoding_definitions.specs.Utf16.{Part16, ArePartsOf16, scalar_of, utf8_of, IsUtf8OfUnits}
+use Rattle.encoding_definitions.specs.Utf16.{Part16, ArePartsOf16, scalar_of, IsUtf8OfUnits}
 use Rattle.encoding_definitions.proofs.Decomposition.DecompositionLemmas.{StartsWith-characters}
 
 repaired_scalars : (bs : List ℕ) (parts : List Part) (rest : List ℕ) → StartsWith bs parts rest → all_scalars (map repaired_scalar parts) ≡ true

@@ -1,7 +1,7 @@
-use Rattle.std.proofs.Common.{◌≡◌, ◌++◌, arith, ap, ◌∙◌}
+use Rattle.std.proofs.Common.{arith}
 use Rattle.std.proofs.lemmas.Grind.{common_steps}
 use Rattle.std.proofs.lemmas.List.{take_rest}
-use Rattle.engine_example.proofs.PieceLemmas.{given_on, units_for}
+use Rattle.engine_example.proofs.PieceLemmas.{given_on}
 use Rattle.engine_example.proofs.block_of_piece.Goals as goal
 
 pub loop-text-preserved-in-Continue-1 : goal.loop-text-preserved-in-Continue-1

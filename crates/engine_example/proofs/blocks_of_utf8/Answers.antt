@@ -1,9 +1,7 @@
-use Rattle.std.proofs.Common.{◌≡◌, ◌+◌, ◌++◌, [], ◌∷◌, List, ℕ, Vec, Global, Bor, take, arith, ap, sym, subst, ◌∙◌}
+use Rattle.std.proofs.Common.{◌≡◌, [], List, ℕ, Vec, Global, Bor, take, arith, sym}
 use Rattle.std.proofs.lemmas.Grind.{common_steps}
-use Rattle.std.proofs.lemmas.List.{flat_map_more, take_all}
-use Rattle.std.specs.List.{flat_map}
-use Rattle.engine_example.specs.Blocks.{IsRepairedUtf16}
-use Rattle.engine_example.proofs.PieceLemmas.{AreTaken, flat_map-take, taken_on, taken_all}
+use Rattle.std.proofs.lemmas.List.{flat_map_more}
+use Rattle.engine_example.proofs.PieceLemmas.{flat_map-take, taken_on, taken_all}
 use Rattle.engine_example.proofs.blocks_of_utf8.Goals as goal
 
 abbrev bytes_of : Bor (List ℕ) → List ℕ

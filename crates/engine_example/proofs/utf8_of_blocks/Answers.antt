@@ -1,7 +1,6 @@
-use Rattle.std.proofs.Common.{◌≡◌, ◌+◌, ◌++◌, [], ◌∷◌, List, ℕ, Vec, Global, take, arith, ap, sym, subst, ◌∙◌}
+use Rattle.std.proofs.Common.{◌≡◌, ◌+◌, ◌++◌, List, ℕ, Vec, Global, take, arith, ap, subst, ◌∙◌}
 use Rattle.std.proofs.lemmas.Grind.{common_steps}
 use Rattle.std.specs.List.{flat_map}
-use Rattle.encoding_definitions.specs.Utf16.{IsUtf8OfUnits}
 use Rattle.engine_example.proofs.BlockLemmas.{AreWritten, written_on, written_all, none_written}
 use Rattle.engine_example.proofs.PieceLemmas.{flat_map-take}
 use Rattle.engine_example.proofs.utf8_of_blocks.Goals as goal
