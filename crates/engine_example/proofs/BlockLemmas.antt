@@ -1,24 +1,17 @@
 -- Blocks of code units, one after another, and what is written of them.
-use Rattle.std.proofs.Common.{◌≡◌, ℕ, zero, suc, ◌<◌, Bool, true, false, List, [], ◌∷◌, ◌++◌, length, take, drop, refl, sym, ap, subst, ◌∙◌, arith, append-nil, append_assoc}
+use Rattle.std.proofs.Common.{◌≡◌, ℕ, Bool, true, false, List, [], ◌∷◌, ◌++◌, length, take, drop, refl, sym, ap, subst, ◌∙◌, arith, append-nil, append_assoc}
 use Rattle.std.specs.List.{flat_map}
 use Rattle.std.proofs.lemmas.Grind.{flat_map-append}
 use Rattle.std.proofs.lemmas.List.{take_all, drop_all}
 use Rattle.std.proofs.lemmas.List.Quantifiers.{Any-push}
-use Rattle.encoding_definitions.specs.Utf16.{AreUnits, Part16, utf8_of, ArePartsOf16, StartsWith16, IsUtf8OfUnits}
+use Rattle.encoding_definitions.specs.Utf16.{AreUnits, Part16, utf8_of, ArePartsOf16, StartsWith16}
 use Rattle.encoding_text.specs.Encoding.{IsHeld, IsEncoderCall}
 use Rattle.encoding_text.specs.declared.utf_8.encoder.EncoderResult.{EncoderResult}
 use Rattle.encoding_text.specs.declared.utf_8.encoder.EncoderResult.TheVariants.{InputEmpty}
+use Rattle.encoding_text.proofs.CodeUnits.EncoderPartsLemmas.{AreUnits-append}
 use Rattle.encoding_runs.specs.Calls.{Call, IsChain, read_in_all, output_of, pending_after}
 use Rattle.encoding_runs.specs.EncoderCalls.{EncodesFirstParts}
 use Rattle.engine_example.specs.Blocks.{WritesBlock}
-
-AreUnits-cons : (u : ℕ) (us : List ℕ) → u < 0x10000 → AreUnits us → AreUnits (u ∷ us)
-AreUnits-cons u us l h zero = l
-AreUnits-cons u us l h (suc k) = h k
-
-AreUnits-append : (us vs : List ℕ) → AreUnits us → AreUnits vs → AreUnits (us ++ vs)
-AreUnits-append [] vs g h = h
-AreUnits-append (u ∷ us) vs g h = AreUnits-cons u (us ++ vs) (g 0) (AreUnits-append us vs (λ k. g (suc k)) h)
 
 -- a call that reads all of a block, as a chain of its own
 pub block_written : ((held src : List ℕ) (calls : List (Call ℕ EncoderResult ℕ)) → IsHeld held → AreUnits src → IsChain IsEncoderCall held src calls
@@ -38,46 +31,35 @@ block_written law held block room last read out after units call =
       whatever_follows = λ e more us. subst (λ xs. StartsWith16 (held ++ block ++ more) first.parts (xs ++ more)) none (first.whatever_follows (rw e refl) more us);
     }
 
--- the UTF-8 of the first parts of the units, of which so many are held, whatever follows
-pub record AreWritten (units out held : List ℕ) : Type 0 where
-  pub parts : List Part16
-  pub written : out ≡ flat_map utf8_of parts
-  pub whatever_follows : (more : List ℕ) → AreUnits more → StartsWith16 (units ++ more) parts (held ++ more)
-
 module _ (one : (us : List ℕ) (parts others : List Part16) → ArePartsOf16 us parts → ArePartsOf16 us others → parts ≡ others) where
   -- first parts, and then those of the rest
+  parts_on : (us mid : List ℕ) (ps qs : List Part16) → StartsWith16 us ps mid → ArePartsOf16 mid qs → ArePartsOf16 us (ps ++ qs)
+  parts_on us mid ps qs s are = subst (λ xs. ArePartsOf16 us (ps ++ xs)) (one mid s.others qs s.behind are) s.whole
+
   starts_on : (us mid rest : List ℕ) (ps qs : List Part16) → StartsWith16 us ps mid → StartsWith16 mid qs rest → StartsWith16 us (ps ++ qs) rest
   starts_on us mid rest ps qs s t = record {
     others = t.others;
-    whole = subst (ArePartsOf16 us) (ap (λ xs. ps ++ xs) (one mid s.others (qs ++ t.others) s.behind t.whole) ∙ sym (append_assoc ps qs t.others)) s.whole;
+    whole = subst (ArePartsOf16 us) (sym (append_assoc ps qs t.others)) (parts_on us mid ps (qs ++ t.others) s t.whole);
     behind = t.behind;
   }
 
-  pub written_on : (units out held block more_out after new : List ℕ) → AreWritten units out held → WritesBlock held block false more_out after → AreUnits block → new ≡ out ++ more_out
-      → AreWritten (units ++ block) new after
-  written_on units out held block more_out after new w b us e = record {
+  -- what is written of the blocks before, and then of one more
+  pub written_on : (units out held block more_out after new : List ℕ) (last : Bool) → WritesBlock [] units false out held → WritesBlock held block last more_out after → AreUnits block → new ≡ out ++ more_out
+      → WritesBlock [] (units ++ block) last new after
+  written_on units out held block more_out after new last w b us e = record {
     parts = w.parts ++ b.parts;
     written = e ∙ ap (λ xs. xs ++ more_out) w.written ∙ ap (λ xs. flat_map utf8_of w.parts ++ xs) b.written ∙ sym (flat_map-append utf8_of w.parts b.parts);
-    whatever_follows = λ more vs. subst (λ xs. StartsWith16 xs (w.parts ++ b.parts) (after ++ more)) (sym (append_assoc units block more))
+    all = λ f. parts_on _ _ w.parts b.parts (w.whatever_follows refl block us) (b.all f);
+    whatever_follows = λ f more vs. subst (λ xs. StartsWith16 xs (w.parts ++ b.parts) (after ++ more)) (sym (append_assoc units block more))
         (starts_on _ _ _ w.parts b.parts (subst (λ xs. StartsWith16 (units ++ (block ++ more)) w.parts xs) (sym (append_assoc held block more))
-        (w.whatever_follows (block ++ more) (AreUnits-append block more us vs))) (b.whatever_follows refl more vs));
+        (w.whatever_follows refl (block ++ more) (AreUnits-append block more us vs))) (b.whatever_follows f more vs));
   }
 
-  -- the last block, behind which nothing follows
-  pub written_all : (units out held more_out after new : List ℕ) → AreWritten units out held → WritesBlock held [] true more_out after → new ≡ out ++ more_out → IsUtf8OfUnits units new
-  written_all units out held more_out after new w b e =
-      let first = w.whatever_follows [] (λ k. omega arith) in
-      let rest : first.others ≡ b.parts = one (held ++ []) first.others b.parts first.behind (b.all refl) in
-      record {
-        parts = w.parts ++ b.parts;
-        are_parts = subst (λ xs. ArePartsOf16 xs (w.parts ++ b.parts)) (append-nil units) (subst (λ xs. ArePartsOf16 (units ++ []) (w.parts ++ xs)) rest first.whole);
-        written = e ∙ ap (λ xs. xs ++ more_out) w.written ∙ ap (λ xs. flat_map utf8_of w.parts ++ xs) b.written ∙ sym (flat_map-append utf8_of w.parts b.parts);
-      }
-
 -- nothing is written yet
-pub none_written : ((us : List ℕ) → AreUnits us → (parts : List Part16) × ArePartsOf16 us parts) → AreWritten [] [] []
+pub none_written : ((us : List ℕ) → AreUnits us → (parts : List Part16) × ArePartsOf16 us parts) → WritesBlock [] [] false [] []
 none_written exist = record {
   parts = [];
   written = refl;
-  whatever_follows = λ more us. let (parts, are) = exist more us in record { others = parts; whole = are; behind = are };
+  all = λ e. (tt, refl);
+  whatever_follows = λ e more us. let (parts, are) = exist more us in record { others = parts; whole = are; behind = are };
 }

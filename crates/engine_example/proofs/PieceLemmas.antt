@@ -4,8 +4,9 @@ use Rattle.std.specs.List.{flat_map}
 use Rattle.std.specs.Str.{chars}
 use Rattle.std.specs.Char.Escape.{encode_utf16}
 use Rattle.std.proofs.lemmas.Grind.{flat_map-append}
+use Rattle.std.proofs.lemmas.List.Folds.{flat_map-map}
 use Rattle.std.proofs.lemmas.List.{take_all, take_more, drop_all, drop-drop, flat_map_more, length-drop}
-use Rattle.encoding_definitions.specs.Parts.{Part, Character, StartsWith, ArePartsOf, repaired_scalar, repaired_utf16}
+use Rattle.encoding_definitions.specs.Parts.{Part, Character, StartsWith, repaired_scalar, repaired_utf16}
 use Rattle.encoding_definitions.specs.Giving.{Gives}
 use Rattle.encoding_definitions.specs.Pending.{IsPending}
 use Rattle.encoding_definitions.proofs.Decomposition.DecompositionLemmas.{StartsWith-append}
@@ -16,14 +17,13 @@ use Rattle.encoding_text.specs.declared.decoder.Piece.TheVariants as piece
 use Rattle.encoding_runs.specs.Calls.{Call, IsChain, some_last}
 use Rattle.encoding_runs.specs.DecoderCalls.{GiveTheParts}
 use Rattle.encoding_runs.specs.MixedCalls.{Form, Answer, Borrowed, Handed, IsMixedCall, AreGiven, IsInputEmpty}
-use Rattle.engine_example.specs.Blocks.{WritesPiece, IsRepairedUtf16}
+use Rattle.engine_example.specs.Blocks.{WritesPiece}
 
 utf16-append : (ps qs : List Part) → repaired_utf16 (ps ++ qs) ≡ repaired_utf16 ps ++ repaired_utf16 qs
 utf16-append ps qs = flat_map-append (λ part. encode_utf16 (repaired_scalar part)) ps qs
 
-utf16-characters : (cs : List ℕ) → repaired_utf16 (map Character cs) ≡ flat_map encode_utf16 cs
-utf16-characters [] = refl
-utf16-characters (c ∷ cs) = ap (λ xs. encode_utf16 c ++ xs) (utf16-characters cs)
+pub utf16-characters : (cs : List ℕ) → repaired_utf16 (map Character cs) ≡ flat_map encode_utf16 cs
+utf16-characters cs = flat_map-map (λ part. encode_utf16 (repaired_scalar part)) Character cs
 
 -- the code units for what a call hands out
 abbrev pub units_for : Piece → List ℕ
@@ -97,26 +97,16 @@ piece_written p b last out read q g e none =
 pub flat_map-take : {X : Type 0} (f : X → List ℕ) (xs : List X) (i : ℕ) (d : X) → i < length xs → flat_map f (take i xs) ++ f (get_or xs i d) ≡ flat_map f (take (i + 1) xs)
 flat_map-take f xs i d h = flat_map_more f [] (take i xs) (get_or xs i d) ∙ sym (ap (flat_map f) (take_more xs i d h))
 
-pub record AreTaken (bytes out q : List ℕ) : Type 0 where
-  pub parts : List Part
-  pub written : out ≡ repaired_utf16 parts
-  pub whatever_follows : (more : List ℕ) → StartsWith (bytes ++ more) parts (q ++ more)
+pub none_taken : WritesPiece [] [] false [] []
+none_taken = record { parts = []; written = refl; all = λ e. refl; whatever_follows = λ e more. refl }
 
-pub none_taken : AreTaken [] [] []
-none_taken = record { parts = []; written = refl; whatever_follows = λ more. refl }
-
-pub taken_on : (bytes out q piece block r : List ℕ) → AreTaken bytes out q → WritesPiece q piece false block r → AreTaken (bytes ++ piece) (out ++ block) r
-taken_on bytes out q piece block r t w = record {
+-- what is written of the pieces before, and then of one more
+pub taken_on : (bytes out q piece block r : List ℕ) (last : Bool) → WritesPiece [] bytes false out q → WritesPiece q piece last block r → WritesPiece [] (bytes ++ piece) last (out ++ block) r
+taken_on bytes out q piece block r last t w = record {
   parts = t.parts ++ w.parts;
   written = ap (λ xs. xs ++ block) t.written ∙ ap (λ xs. repaired_utf16 t.parts ++ xs) w.written ∙ sym (utf16-append t.parts w.parts);
-  whatever_follows = λ more. subst (λ xs. StartsWith xs (t.parts ++ w.parts) (r ++ more)) (sym (append_assoc bytes piece more))
-      (StartsWith-append _ t.parts _ w.parts _ (subst (StartsWith (bytes ++ (piece ++ more)) t.parts) (sym (append_assoc q piece more)) (t.whatever_follows (piece ++ more)))
-      (w.whatever_follows refl more));
+  all = λ e. StartsWith-append _ t.parts _ w.parts [] (t.whatever_follows refl piece) (w.all e);
+  whatever_follows = λ e more. subst (λ xs. StartsWith xs (t.parts ++ w.parts) (r ++ more)) (sym (append_assoc bytes piece more))
+      (StartsWith-append _ t.parts _ w.parts _ (subst (StartsWith (bytes ++ (piece ++ more)) t.parts) (sym (append_assoc q piece more)) (t.whatever_follows refl (piece ++ more)))
+      (w.whatever_follows e more));
 }
-
-pub taken_all : (bytes out q block r : List ℕ) → AreTaken bytes out q → WritesPiece q [] true block r → IsRepairedUtf16 bytes (out ++ block)
-taken_all bytes out q block r t w = (
-  t.parts ++ w.parts,
-  subst (λ xs. ArePartsOf xs (t.parts ++ w.parts)) (append-nil bytes) (StartsWith-append _ t.parts _ w.parts [] (t.whatever_follows []) (w.all refl)),
-  ap (λ xs. xs ++ block) t.written ∙ ap (λ xs. repaired_utf16 t.parts ++ xs) w.written ∙ sym (utf16-append t.parts w.parts),
-)

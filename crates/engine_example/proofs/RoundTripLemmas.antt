@@ -10,6 +10,7 @@ use lib.Utf8.{scalar}
 use Rattle.encoding_definitions.specs.Parts.{Part, Character, Broken, StartsWith, ArePartsOf, repaired_scalar, repaired_text, repaired_utf16}
 use Rattle.encoding_definitions.specs.Utf16.{Part16, ArePartsOf16, scalar_of, IsUtf8OfUnits}
 use Rattle.encoding_definitions.proofs.Decomposition.DecompositionLemmas.{StartsWith-characters}
+use Rattle.engine_example.proofs.PieceLemmas.{utf16-characters}
 
 repaired_scalars : (bs : List ℕ) (parts : List Part) (rest : List ℕ) → StartsWith bs parts rest → all_scalars (map repaired_scalar parts) ≡ true
 repaired_scalars bs [] rest s = refl
@@ -24,9 +25,6 @@ text_repaired law bs units out parts are e w =
     let scalars : map scalar_of w.parts ≡ cs = law cs w.parts (repaired_scalars bs parts [] are) (subst (λ xs. ArePartsOf16 xs w.parts) units_are w.are_parts) in
     w.written ∙ sym (flat_map-map encode_utf8 scalar_of w.parts) ∙ ap (flat_map encode_utf8) scalars ∙ flat_map-map encode_utf8 repaired_scalar parts
 
-utf16_characters : (cs : List ℕ) → repaired_utf16 (map Character cs) ≡ flat_map encode_utf16 cs
-utf16_characters cs = flat_map-map (λ part. encode_utf16 (repaired_scalar part)) Character cs
-
 -- well-formed bytes have their characters as parts
 pub utf8_to_utf16 : ((bs : List ℕ) (parts others : List Part) → ArePartsOf bs parts → ArePartsOf bs others → parts ≡ others)
     → (bs units : List ℕ) (parts : List Part) → IsUtf8 bs → ArePartsOf bs parts → units ≡ repaired_utf16 parts → units ≡ flat_map encode_utf16 (chars bs)
@@ -34,4 +32,4 @@ utf8_to_utf16 one bs units parts u are e =
     let whole : encode_utf8_all (chars bs) ++ [] ≡ bs = append-nil (encode_utf8_all (chars bs)) ∙ encodes-chars bs u in
     let same : parts ≡ map Character (chars bs) = one bs parts (map Character (chars bs)) are
     (subst (λ xs. ArePartsOf xs (map Character (chars bs))) whole (StartsWith-characters (chars bs) [] (scalars-chars bs u))) in
-    e ∙ ap repaired_utf16 same ∙ utf16_characters (chars bs)
+    e ∙ ap repaired_utf16 same ∙ utf16-characters (chars bs)
