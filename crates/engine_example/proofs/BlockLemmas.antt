@@ -1,6 +1,5 @@
 -- Blocks of code units, one after another, and what is written of them.
 use Rattle.std.proofs.Common.{◌≡◌, ℕ, Bool, true, false, List, [], ◌∷◌, ◌++◌, length, take, drop, refl, sym, ap, subst, ◌∙◌, arith, append-nil, append_assoc}
-use Rattle.std.specs.List.{flat_map}
 use Rattle.std.proofs.lemmas.Grind.{flat_map-append}
 use Rattle.std.proofs.lemmas.List.{take_all, drop_all}
 use Rattle.std.proofs.lemmas.List.Quantifiers.{Any-push}
@@ -48,7 +47,7 @@ module _ (one : (us : List ℕ) (parts others : List Part16) → ArePartsOf16 us
       → WritesBlock [] (units ++ block) last new after
   written_on units out held block more_out after new last w b us e = record {
     parts = w.parts ++ b.parts;
-    written = e ∙ ap (λ xs. xs ++ more_out) w.written ∙ ap (λ xs. flat_map utf8_of w.parts ++ xs) b.written ∙ sym (flat_map-append utf8_of w.parts b.parts);
+    written = cc (flat_map-append utf8_of w.parts b.parts);
     all = λ f. parts_on _ _ w.parts b.parts (w.whatever_follows refl block us) (b.all f);
     whatever_follows = λ f more vs. subst (λ xs. StartsWith16 xs (w.parts ++ b.parts) (after ++ more)) (sym (append_assoc units block more))
         (starts_on _ _ _ w.parts b.parts (subst (λ xs. StartsWith16 (units ++ (block ++ more)) w.parts xs) (sym (append_assoc held block more))

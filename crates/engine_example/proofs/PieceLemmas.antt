@@ -76,7 +76,7 @@ given_on law p b last out read q returned more r new g call e =
     let front = subst (λ k. Gives q rest (some_last (one ∷ [])) given.parts k r) n given.front in
     record {
       parts = g.parts ++ given.parts;
-      written = e ∙ ap (λ xs. xs ++ units_for returned) g.written ∙ ap (λ xs. repaired_utf16 g.parts ++ xs) text ∙ sym (utf16-append g.parts given.parts);
+      written = cc (utf16-append g.parts given.parts);
       gives = gives_on p b last g.parts given.parts read more q r g.gives
           (record { within = front.within; first = front.first; pending = front.pending; whatever_follows = λ f. front.whatever_follows (rw f refl) });
     }
@@ -104,7 +104,7 @@ none_taken = record { parts = []; written = refl; all = λ e. refl; whatever_fol
 pub taken_on : (bytes out q piece block r : List ℕ) (last : Bool) → WritesPiece [] bytes false out q → WritesPiece q piece last block r → WritesPiece [] (bytes ++ piece) last (out ++ block) r
 taken_on bytes out q piece block r last t w = record {
   parts = t.parts ++ w.parts;
-  written = ap (λ xs. xs ++ block) t.written ∙ ap (λ xs. repaired_utf16 t.parts ++ xs) w.written ∙ sym (utf16-append t.parts w.parts);
+  written = cc (utf16-append t.parts w.parts);
   all = λ e. StartsWith-append _ t.parts _ w.parts [] (t.whatever_follows refl piece) (w.all e);
   whatever_follows = λ e more. subst (λ xs. StartsWith xs (t.parts ++ w.parts) (r ++ more)) (sym (append_assoc bytes piece more))
       (StartsWith-append _ t.parts _ w.parts _ (subst (StartsWith (bytes ++ (piece ++ more)) t.parts) (sym (append_assoc q piece more)) (t.whatever_follows refl (piece ++ more)))

@@ -21,8 +21,8 @@ use std::alloc::{AllocError, Global};
 /// The bytes that `utf8_of_units` writes at once: four or more, so that each character fits.
 const ROOM: usize = 64;
 
-/// Repairs a text where it stands. Its code units are then the UTF-16 of what `String::from_utf16_lossy` makes of them,
-/// and a place in the text stays where it was.
+/// Writes U+FFFD in place of each surrogate that is in no pair. The code units are then the UTF-16 of the text that
+/// `String::from_utf16_lossy` makes of them, each place in it is where it was, and a second repair changes nothing.
 pub fn repair_units(units: &mut [u16])
     ensures repaired { AreRepairedUnits units.old units.new }
     ensures text { units.new ≡ flat_map encode_utf16 (utf16_lossy_chars units.old) }
@@ -76,15 +76,15 @@ pub fn has_right_to_left(units: &mut [u16]) -> bool
     is_utf16_bidi(units)
 }
 
-/// Whether a character of the text is right-to-left: the same as of its code units.
-pub fn has_text_right_to_left(text: &str) -> bool
+/// Whether a character of the text is right-to-left: the same as of its UTF-16.
+pub fn text_has_right_to_left(text: &str) -> bool
     ensures { IsTrue result ↔ Any IsRightToLeft (chars text.now) }
 {
     law_bidi_agrees();
     is_str_bidi(text)
 }
 
-/// The UTF-8 of code units is that of the repaired ones, whether or not they are repaired first.
+/// Code units may be repaired before they go to UTF-8, or not: the bytes are the same.
 pub fn law_repair_first()
     ensures { (units repaired out : List ℕ) → AreRepairedUnits units repaired
         → IsUtf8OfUnits units out ↔ IsUtf8OfUnits repaired out }
@@ -127,7 +127,7 @@ mod tests {
                 is_repaired(rt.alloc(), &own, repaired)?,
                 "{text} as it was kept"
             );
-            assert!(rt; has_text_right_to_left(text) == *right_to_left, "{text}");
+            assert!(rt; text_has_right_to_left(text) == *right_to_left, "{text}");
             assert!(rt;
                 has_right_to_left(&mut own) == *right_to_left,
                 "units of {text}"
