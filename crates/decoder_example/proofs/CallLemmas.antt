@@ -14,7 +14,7 @@ use Rattle.encoding_definitions.proofs.Decomposition.PartsLemmas.{no_sequence_in
 use Rattle.encoding_definitions.proofs.Sequences.EncodingLemmas.{IsSequence-encode}
 use Rattle.encoding_definitions.specs.Pending.{IsPending}
 use Rattle.encoding_definitions.proofs.Decomposition.DecompositionLemmas.{count_broken-bytes}
-use Rattle.encoding_definitions.proofs.LongestFronts.FrontsLemmas.{WritesFront-nil, WritesFront-length, WritesFront_after}
+use Rattle.encoding_definitions.proofs.LongestFronts.FrontsLemmas.{WritesFront-length, WritesFront_after}
 use borrow.Rule.Slice.PartMut.{put_mid}
 use Rattle.encoding_text.specs.Decoding.{IsBroken, Answers, IsCall}
 use Rattle.encoding_text.specs.declared.decoder.DecoderResult.{DecoderResult}
@@ -23,21 +23,12 @@ use Rattle.decoder_example.specs.declared.CoderResult.{CoderResult}
 use Rattle.decoder_example.specs.declared.CoderResult.TheVariants.{InputEmpty, OutputFull}
 use Rattle.decoder_example.specs.Marked.{State, Decoding, held, left, GivesText}
 use Rattle.decoder_example.specs.Calls.{Writes, Ends, IsReportingCall, IsReplacingCall}
-use Rattle.decoder_example.proofs.GivenLemmas.{first_parts, decoded_text, written_for, is_report, GivesText-nil, GivesText-append}
+use Rattle.decoder_example.proofs.GivenLemmas.{first_parts, decoded_text, written_for, is_report, GivesText-append}
 
 lt_from : (n : ℕ) → true ≡ nat_lt 0 n → 0 < n
 lt_from n e = grind (arith, nat_tests)
 
 module _ {A : Type 0} (encode : ℕ → List A) (query : ℕ → ℕ → ℕ) where
-  pub Writes-nil : (old : State) (src : List ℕ) (dst : List A) (last : Bool) → Writes encode query old src dst dst last 0 0 false old
-  Writes-nil old src dst last = record {
-    out = [];
-    writes = WritesFront-nil dst;
-    within = omega arith;
-    gives = λ more none. GivesText-nil encode (left old (src ++ more));
-    suffices = λ m l h. let same : m - 0 ≡ m = omega arith in omega (arith, h, ap (λ n. query n (length (held old))) same);
-  }
-
   pub Writes_after : (old mid new : State) (src : List ℕ) (dst dst' sub : List A) (last : Bool) (read written r w : ℕ) (replaced again : Bool)
       → Writes encode query old src dst dst' last read written replaced mid
       → Writes encode query mid (take (length src - read) (drop read src)) (take (length dst' - written) (drop written dst')) sub last r w again new

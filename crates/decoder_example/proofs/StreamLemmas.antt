@@ -1,9 +1,19 @@
 -- What calls in a row give.
-use Rattle.std.proofs.Common.{◌≡◌, ℕ, List, [], ◌∷◌, ◌++◌, length, take, drop, sym, ap, subst, ◌∙◌, take-append-drop}
-use Rattle.std.proofs.lemmas.List.{take_at, drop-append-le}
+use Rattle.std.proofs.Common.{◌≡◌, ℕ, ◌≤◌, inl, Bool, true, false, List, [], ◌∷◌, ◌++◌, length, take, drop, encode_utf8_all, refl, sym, ap, subst, ◌∙◌, arith, append-nil, length-append, take-append-drop}
+use Rattle.std.proofs.lemmas.List.{take_at, drop-append-le, drop_all, nil_from_length, length-take}
 use Rattle.std.specs.List.{flat_map, list_any}
+use Rattle.std.specs.Str.{all_scalars}
+use Rattle.encoding_definitions.specs.Parts.{StartsWith, AreSettled, bytes_of}
+use Rattle.encoding_text.specs.Decoding.{IsCall}
+use Rattle.encoding_text.specs.OneAnswer.{HasOneAnswer}
+use Rattle.encoding_text.specs.declared.decoder.DecoderResult.{DecoderResult}
+use Rattle.encoding_text.specs.declared.decoder.DecoderResult.TheVariants.{InputEmpty}
+use Rattle.encoding_runs.specs.Calls.{Call, read_in_all, pending_after, some_last}
+use Rattle.encoding_runs.specs.DecoderCalls.{GiveTheParts}
+use Rattle.encoding_runs.specs.MixedCalls.{Form, Answer, AreGiven, IsInputEmpty}
+use Rattle.encoding_runs.proofs.SettledLemmas.{settled_first}
 use Rattle.decoder_example.specs.Marked.{State, left, GivesText}
-use Rattle.decoder_example.specs.Streams.{Made, AreMade, state_after, unread_after}
+use Rattle.decoder_example.specs.Streams.{Made, AreMade, TakesWhole, state_after, unread_after}
 use Rattle.decoder_example.proofs.GivenLemmas.{GivesText-nil, GivesText-append}
 
 pub calls_give : {A : Type 0} (encode : ℕ → List A) (need : ℕ) (query : ℕ → ℕ → ℕ) (state : State) (unread : List ℕ) (calls : List (Made A)) → AreMade encode need query state unread calls
@@ -20,3 +30,40 @@ calls_give encode need query state unread (call ∷ calls) ((dst, dst', out, doe
     (subst (λ bs. GivesText encode (left state (front ++ back)) (left call.after bs) call.out call.replaced) rest
     (subst (λ xs. GivesText encode (left state (front ++ back)) (left call.after (drop call.read front ++ back)) xs call.replaced) written (does.wrote.gives back last))) in
     GivesText-append encode _ _ _ _ _ _ _ first (calls_give encode need query call.after (drop call.read unread) calls made)
+
+-- ---- the decoder inside
+-- all that was read and may go on is settled
+pub settled_calls : (p stream : List ℕ) (calls : List (Call Form Answer ℕ)) (given : GiveTheParts AreGiven IsInputEmpty p stream calls) → some_last calls ≡ false → length stream ≤ read_in_all calls
+    → AreSettled (p ++ stream) given.parts (pending_after p calls)
+settled_calls p stream calls given unmarked all =
+    let q = pending_after p calls in
+    let none : q ++ drop (read_in_all calls) stream ≡ q = ap (λ bs. q ++ bs) (drop_all (read_in_all calls) stream all) ∙ append-nil q in
+    settled_first (p ++ stream) given.parts q (record {
+      starts = subst (StartsWith (p ++ stream) given.parts) none given.front.first;
+      whatever_follows = λ _ more. subst (λ bs. StartsWith (p ++ stream ++ more) given.parts (bs ++ more)) none (given.front.whatever_follows unmarked more);
+    }) given.front.pending
+
+-- nothing is pending where the bytes of the parts are the whole stream
+pub none_left : (stream : List ℕ) (calls : List (Call Form Answer ℕ)) (given : GiveTheParts AreGiven IsInputEmpty [] stream calls) → flat_map bytes_of given.parts ≡ stream → pending_after [] calls ≡ []
+none_left stream calls given joined =
+    let q = pending_after [] calls in
+    nil_from_length q (omega (arith, ap length given.bytes, ap length joined, length-append (flat_map bytes_of given.parts) q, length-take (read_in_all calls) stream))
+
+-- the one answer to a call on a text, where the room holds it
+pub takes_whole : {A : Type 0} (encode : ℕ → List A) (need : ℕ) (cs : List ℕ) (out : List A) (q : List ℕ) (room read : ℕ) (last : Bool) (result : DecoderResult) → all_scalars cs ≡ true
+    → length (flat_map encode cs) ≤ room → HasOneAnswer encode need [] (encode_utf8_all cs) room last → IsCall encode need [] (encode_utf8_all cs) room last result read out q
+    → TakesWhole encode cs result read out q
+takes_whole encode need cs out q room read last result scalars fits (r, k, units, p, is, one) made =
+    let whole : IsCall encode need [] (encode_utf8_all cs) room last InputEmpty (length (encode_utf8_all cs)) (flat_map encode cs) [] = record {
+      scalars = cs;
+      are_scalars = scalars;
+      out_is = refl;
+      fits = fits;
+      pending_before = inl refl;
+      pending = inl refl;
+      answer = (refl, sym (append-nil (encode_utf8_all cs)), (λ _. refl), λ some. absurd (some refl));
+      pending_needs_room = λ some. absurd (some refl);
+    } in
+    let a = one InputEmpty _ _ _ whole in
+    let b = one result read out q made in
+    (sym b.0 ∙ a.0, sym b.1 ∙ a.1, sym b.2 ∙ a.2, sym b.3 ∙ a.3)

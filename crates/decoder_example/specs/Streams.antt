@@ -1,5 +1,12 @@
 -- Calls of a decoder in a row, over one stream.
-use Rattle.std.specs.Prelude.{◌≡◌, ℕ, Bool, true, List, [], ◌∷◌, length, take, drop}
+use Rattle.std.specs.Prelude.{◌≡◌, ℕ, Bool, true, List, [], ◌∷◌, ◌++◌, length, take, drop, encode_utf8_all}
+use Rattle.std.specs.List.{flat_map}
+use Rattle.encoding_definitions.specs.Parts.{Part, ArePartsOf, AreSettled, repaired_text, repaired_utf16}
+use Rattle.encoding_text.specs.declared.decoder.DecoderResult.{DecoderResult}
+use Rattle.encoding_text.specs.declared.decoder.DecoderResult.TheVariants.{InputEmpty}
+use Rattle.encoding_runs.specs.Calls.{Call, pending_after}
+use Rattle.encoding_runs.specs.DecoderCalls.{AreGivenInSequence}
+use Rattle.encoding_runs.specs.MixedCalls.{Form, Answer, AreGiven}
 use Rattle.decoder_example.specs.declared.CoderResult.{CoderResult}
 use Rattle.decoder_example.specs.Marked.{State}
 use Rattle.decoder_example.specs.Calls.{IsReplacingCall}
@@ -32,3 +39,17 @@ state_after state (call ∷ calls) = state_after call.after calls
 abbrev pub unread_after : {A : Type 0} → List ℕ → List (Made A) → List ℕ
 unread_after unread [] = unread
 unread_after unread (call ∷ calls) = unread_after (drop call.read unread) calls
+
+-- The calls give, in sequence, the settled parts of what was pending and of the stream, whose text begins that of both and
+-- of anything behind them, in UTF-8 and in UTF-16.
+pub record GiveWhatStays (p stream : List ℕ) (calls : List (Call Form Answer ℕ)) : Type 0 where
+  pub parts : List Part
+  pub given : AreGivenInSequence AreGiven calls parts
+  pub settled : AreSettled (p ++ stream) parts (pending_after p calls)
+  pub utf8 : (more : List ℕ) (all : List Part) → ArePartsOf (p ++ stream ++ more) all → (text : List ℕ) × (repaired_text all ≡ repaired_text parts ++ text)
+  pub utf16 : (more : List ℕ) (all : List Part) → ArePartsOf (p ++ stream ++ more) all → (units : List ℕ) × (repaired_utf16 all ≡ repaired_utf16 parts ++ units)
+
+-- all of a text is read and written, and nothing is pending
+abbrev pub TakesWhole : {A : Type 0} → (ℕ → List A) → List ℕ → DecoderResult → ℕ → List A → List ℕ → Type 0
+TakesWhole encode scalars result read out q =
+    (result ≡ InputEmpty) × (read ≡ length (encode_utf8_all scalars)) × (out ≡ flat_map encode scalars) × (q ≡ [])

@@ -3,19 +3,20 @@
 //! decode.
 #![tactic(auto)]
 
+mod streams;
+
 ghost use Rattle.std.specs.Prelude.{◌≡◌, ℕ, ◌+◌, ◌-◌, ◌<◌, ◌≤◌, Bool, true, false, List, [], ◌++◌, length, drop, encode_utf8, IfSome};
 ghost use Rattle.std.specs.Option.{SomeIff, is_none};
 ghost use Rattle.std.specs.Char.Escape.{encode_utf16};
 ghost use Rattle.encoding_definitions.specs.Fronts.{WritesFront};
 ghost use Rattle.encoding_text.specs.Decoding.{utf16_room, utf8_room_replacing};
-ghost use Rattle.decoder_example.specs.Marked.{State, Decoding, Sniffing, GivesText, held, left};
-ghost use Rattle.decoder_example.specs.Streams.{AreMade, Made, state_after, unread_after};
-ghost use Rattle.std.specs.List.{flat_map, list_any};
+ghost use Rattle.decoder_example.specs.Marked.{State, Decoding, Sniffing, held, left};
 ghost use Rattle.decoder_example.specs.Calls.{Ends, IsReplacingCall, IsReportingCall, Writes};
 
 use encoding_runs::laws::law_mixed_calls;
 use encoding_text::decoder::{DecoderResult, Utf8Decoder};
 use std::marker::Model;
+pub use streams::{law_calls, law_given_stays, law_next_stream, law_whole_text};
 
 /// What ended a call.
 #[derive(Debug, PartialEq, Eq, Drop)]
@@ -161,19 +162,6 @@ fn decode_parts<U: CodeUnit>(
         }
     }
 }
-
-/// Calls in a row, over one stream, of which each is handed the first of the unread bytes: what they write in sequence is
-/// the text of the first parts of the stream less its mark, with U+FFFD for each broken one, however the stream is cut and
-/// whatever the rooms, and U+FFFD stands for a part where a call says so. What is left is held or unread: nothing, once a
-/// call marked last returns `InputEmpty`.
-pub fn law_calls()
-    ensures utf16 { (state : State) (stream : List ℕ) (calls : List (Made ℕ)) → AreMade encode_utf16 2 utf16_room state stream calls
-        → GivesText encode_utf16 (left state stream) (left (state_after state calls) (unread_after stream calls))
-        (flat_map (λ call. call.out) calls) (list_any (λ call. call.replaced) calls) }
-    ensures utf8 { (state : State) (stream : List ℕ) (calls : List (Made ℕ)) → AreMade encode_utf8 4 utf8_room_replacing state stream calls
-        → GivesText encode_utf8 (left state stream) (left (state_after state calls) (unread_after stream calls))
-        (flat_map (λ call. call.out) calls) (list_any (λ call. call.replaced) calls) }
-{}
 
 /// A decoder of a stream that may begin with a byte order mark.
 #[derive(Drop)]
