@@ -4,3 +4,4 @@ pub mod PieceLemmas
 pub mod BlockLemmas
 pub mod CharacterLemmas
 pub mod UnitLemmas
+pub mod WellFormedLemmas

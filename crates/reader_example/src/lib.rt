@@ -5,6 +5,7 @@
 mod buffer;
 mod utf16_reader;
 mod utf8_reader;
+mod well_formed;
 
 ghost use Rattle.std.specs.Prelude.{◌≡◌, IfOk, IfSome, string_bytes};
 ghost use Rattle.std.specs.Str.Lossy.{utf8_lossy};
@@ -14,6 +15,7 @@ use std::io;
 use std::io::Read;
 pub use utf8_reader::Utf8Reader;
 pub use utf16_reader::Utf16Reader;
+pub use well_formed::is_well_formed;
 
 /// Reads all that a reader gives, as text. An error is the reader's, or says that memory was refused.
 pub fn read_text<R: Read + Drop>(alloc: Global, inner: R) -> io::Result<String>
@@ -88,6 +90,9 @@ mod tests {
         for (bytes, text, _) in &ROWS {
             let read = read_text(rt.alloc(), *bytes)?;
             assert!(rt; read.as_str() == *text, "{text}");
+            let mut rest = *bytes;
+            let whole = is_well_formed(&mut rest)?;
+            assert!(rt; whole == (text.as_bytes() == *bytes), "{text}");
         }
         Ok(())
     }

@@ -1,0 +1,125 @@
+-- Blocks of a stream, of which none had a broken part yet.
+use Rattle.std.proofs.Common.{◌≡◌, ◌↔◌, ℕ, ◌+◌, ◌<◌, ◌≤◌, zero, true, false, Bool, List, [], ◌∷◌, ◌++◌, length, map, take, drop, encode_utf8, encode_utf8_all, inl, Option, None, Some, IfSome, IsTrue, refl, sym, ap, subst, ◌∙◌, arith, append-nil, length-append}
+use Rattle.std.specs.Prelude.{Any}
+use Rattle.std.specs.List.{flat_map}
+use Rattle.std.specs.Str.{IsUtf8}
+use Rattle.std.specs.Io.KnownBytes.{Consumes, IsAtEnd}
+use Rattle.std.proofs.lemmas.Bool.{both_ways}
+use Rattle.std.proofs.lemmas.List.{take_at, drop_at}
+use Rattle.encoding_definitions.specs.Pending.{IsPending}
+use Rattle.encoding_definitions.specs.Parts.{Part, Character, Broken, ArePartsOf, StartsWith, bytes_of, repaired_text, count_broken}
+use Rattle.encoding_definitions.proofs.Bidi.AnyLemmas.{Any-here, Any-there}
+use Rattle.encoding_definitions.proofs.Decomposition.DecompositionLemmas.{StartsWith-append, StartsWith-bytes, StartsWith-characters, count_broken-append, count_broken-characters}
+use Rattle.encoding_runs.specs.Blocks.{IsBlockRepair, RepairTheParts, replaced_in_all}
+use Rattle.encoding_runs.specs.Calls.{Call, IsChain, output_of}
+use Rattle.encoding_runs.specs.Repairs.{IsRepairedWith}
+use Rattle.encoding_runs.specs.declared.repair.blocks.RepairedBlock.{RepairedBlock}
+use Rattle.encoding_runs.proofs.RepairLemmas.{pending_length}
+use Rattle.reader_example.proofs.TextLemmas.{IsUtf8-repaired}
+
+abbrev Ends : Call ℕ RepairedBlock ℕ → Type 0
+Ends call = (call.last ≡ true) × (call.result.finished ≡ true)
+
+-- Calls on what is unread, behind the calls made so far, are calls over the whole stream, with no more parts replaced.
+abbrev GoesOn : List ℕ → List ℕ → List ℕ → Type 0
+GoesOn bytes p unread = IsPending p × ((others : List (Call ℕ RepairedBlock ℕ)) → IsChain IsBlockRepair p unread others
+    → (all : List (Call ℕ RepairedBlock ℕ)) × IsChain IsBlockRepair [] bytes all × (replaced_in_all all ≡ replaced_in_all others) × (Any Ends others → Any Ends all))
+
+-- the same of the known bytes of a reader, from its beginning and from here
+abbrev pub NoneBroken : Option (List ℕ) → List ℕ → Option (List ℕ) → Type 0
+NoneBroken None p now = Unit {0}
+NoneBroken (Some bytes) p None = ⊥
+NoneBroken (Some bytes) p (Some unread) = GoesOn bytes p unread
+
+pub none_yet : (known : Option (List ℕ)) → NoneBroken known [] known
+none_yet None = tt
+none_yet (Some bytes) = (inl refl, λ others chain. (others, chain, refl, λ some. some))
+
+-- ---- parts of which none is broken
+unbroken_text : (parts : List Part) → count_broken parts ≡ 0 → repaired_text parts ≡ flat_map bytes_of parts
+unbroken_text [] none = refl
+unbroken_text (Character c ∷ parts) none = ap (λ bs. encode_utf8 c ++ bs) (unbroken_text parts none)
+unbroken_text (Broken bytes ∷ parts) none = absurd (omega (arith, none))
+
+module _ (one : (bs : List ℕ) (parts others : List Part) → ArePartsOf bs parts → ArePartsOf bs others → parts ≡ others) where
+  none_broken : (bytes : List ℕ) (parts : List Part) → IsUtf8 bytes → ArePartsOf bytes parts → count_broken parts ≡ 0
+  none_broken bytes parts (cs, (scalars, spelled)) are =
+      let characters : ArePartsOf bytes (map Character cs) = subst (λ bs. ArePartsOf bs (map Character cs)) (append-nil (encode_utf8_all cs) ∙ spelled) (StartsWith-characters cs [] scalars) in
+      ap count_broken (one bytes parts (map Character cs) are characters) ∙ count_broken-characters cs
+
+-- ---- the next block
+module _ (p block : List ℕ) (room : ℕ) (last : Bool) (result : RepairedBlock) (read : ℕ) (out q : List ℕ) (repair : IsBlockRepair p block room last result read out q) where
+  abbrev call : Call ℕ RepairedBlock ℕ
+  call = record { form = room; piece = length block; last = last; result = result; read = read; out = out; pending = q }
+
+  -- a call on it, and then others
+  then_others : (bytes rest : List ℕ) → GoesOn bytes p (block ++ rest) → (last ≡ true → rest ≡ []) → (others : List (Call ℕ RepairedBlock ℕ)) → IsChain IsBlockRepair q (drop read (block ++ rest)) others
+      → (all : List (Call ℕ RepairedBlock ℕ)) × IsChain IsBlockRepair [] bytes all × (replaced_in_all all ≡ replaced_in_all (call ∷ others)) × (Any Ends (call ∷ others) → Any Ends all)
+  then_others bytes rest (pending, on) end others chain = on (call ∷ others) (
+    subst (λ bs. IsBlockRepair p bs room last result read out q) (sym (take_at block rest (length block) refl)) repair,
+    λ marked. omega (arith, length-append block rest, ap length (end marked)),
+    chain,
+  )
+
+  -- into this room it is finished
+  finished : IsPending p → result.replaced ≤ 0 → length block ≤ 1024 → 1034 ≤ room → result.finished ≡ true
+  finished pending none short enough = go result.finished refl
+    where
+      go : (b : Bool) → result.finished ≡ b → b ≡ true
+      go true e = refl
+      go false e =
+          let bytes = StartsWith-bytes _ repair.parts _ repair.given.first in
+          absurd (omega (
+            arith,
+            repair.full e,
+            enough,
+            short,
+            pending_length p pending,
+            ap length (repair.text ∙ unbroken_text repair.parts (omega (arith, none, repair.replaced))),
+            ap length bytes,
+            length-append p block,
+            length-append (flat_map bytes_of repair.parts) (q ++ drop read block),
+          ))
+
+  pub next : (known before after : Option (List ℕ)) → NoneBroken known p before → Consumes before after block → last ≡ false → result.replaced ≤ 0 → length block ≤ 1024 → 1034 ≤ room → NoneBroken known q after
+  next None before after on read_here unmarked none short enough = tt
+  next (Some bytes) None after on read_here unmarked none short enough = absurd on
+  next (Some bytes) (Some unread) None on read_here unmarked none short enough = absurd read_here
+  next (Some bytes) (Some unread) (Some rest) on read_here unmarked none short enough =
+      let here : GoesOn bytes p (block ++ rest) = subst (GoesOn bytes p) read_here on in
+      let all = (repair.finished (finished on.0 none short enough)).0 in
+      let left : drop read (block ++ rest) ≡ rest = drop_at block rest read (sym all) in (
+        repair.given.pending,
+        λ others chain.
+            let (calls, are, count, ends) = then_others bytes rest here (λ marked. absurd (both_ways _ unmarked marked)) others (subst (λ bs. IsChain IsBlockRepair q bs others) (sym left) chain) in
+            (calls, are, omega (arith, count, none), λ some. ends (Any-there Ends call others some)),
+      )
+
+  -- a broken part is in all the bytes
+  pub some_broken : ((p b : List ℕ) (calls : List (Call ℕ RepairedBlock ℕ)) → IsPending p → IsChain IsBlockRepair p b calls → RepairTheParts p b calls)
+      → ((bs : List ℕ) → (parts : List Part) × ArePartsOf bs parts) → ((bs : List ℕ) (parts others : List Part) → ArePartsOf bs parts → ArePartsOf bs others → parts ≡ others)
+      → (known before after : Option (List ℕ)) → NoneBroken known p before → Consumes before after block → (last ≡ true → IsAtEnd after) → 0 < result.replaced → IfSome known (λ bytes. IsTrue false ↔ IsUtf8 bytes)
+  some_broken front exist one None before after on read_here end some = tt
+  some_broken front exist one (Some bytes) None after on read_here end some = absurd on
+  some_broken front exist one (Some bytes) (Some unread) None on read_here end some = absurd read_here
+  some_broken front exist one (Some bytes) (Some unread) (Some rest) on read_here end some =
+      let (calls, chain, count, ends) = then_others bytes rest (subst (GoesOn bytes p) read_here on) end [] tt in
+      let first = front [] bytes calls (inl refl) chain in
+      let (others, are) = exist _ in
+      let whole : ArePartsOf bytes (first.parts ++ others) = StartsWith-append bytes first.parts _ others [] first.front.first are in (
+        (λ e. absurd (both_ways _ refl e)),
+        λ well. absurd (omega (arith, some, count, first.replaced, count_broken-append first.parts others, none_broken one bytes (first.parts ++ others) well whole)),
+      )
+
+  -- and none is where all is read
+  pub all_whole : ((b : List ℕ) (calls : List (Call ℕ RepairedBlock ℕ)) → IsChain IsBlockRepair [] b calls → Any Ends calls → IsRepairedWith b (output_of calls) (replaced_in_all calls))
+      → ((bs : List ℕ) (parts : List Part) → ArePartsOf bs parts → flat_map bytes_of parts ≡ bs)
+      → (known before after : Option (List ℕ)) → NoneBroken known p before → Consumes before after block → last ≡ true → IsAtEnd after → result.replaced ≤ 0 → length block ≤ 1024 → 1034 ≤ room → IfSome known (λ bytes. IsTrue true ↔ IsUtf8 bytes)
+  all_whole whole joined None before after on read_here marked end none short enough = tt
+  all_whole whole joined (Some bytes) None after on read_here marked end none short enough = absurd on
+  all_whole whole joined (Some bytes) (Some unread) None on read_here marked end none short enough = absurd read_here
+  all_whole whole joined (Some bytes) (Some unread) (Some rest) on read_here marked end none short enough =
+      let (calls, chain, count, ends) = then_others bytes rest (subst (GoesOn bytes p) read_here on) (λ _. end) [] tt in
+      let (parts, are, text, broken) = whole bytes calls chain (ends (Any-here Ends call [] (marked, finished on.0 none short enough))) in
+      let same = unbroken_text parts (omega (arith, broken, count, none)) ∙ joined bytes parts are in
+      ((λ _. subst IsUtf8 same (IsUtf8-repaired bytes parts [] are)), λ _. refl)

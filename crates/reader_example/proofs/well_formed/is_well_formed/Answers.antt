@@ -1,0 +1,36 @@
+use Rattle.std.proofs.Common.{◌≡◌, ◌==◌, length, take, refl, sym, ap, subst, arith}
+use Rattle.std.proofs.lemmas.Bool.{eqb-true}
+use Rattle.std.proofs.lemmas.Bool.Decides.{nat_tests}
+use Rattle.std.proofs.lemmas.List.{length-take}
+use Rattle.encoding_definitions.proofs.LongestFronts.FrontsLemmas.{WritesFront-length}
+use Rattle.reader_example.proofs.WellFormedLemmas.{NoneBroken, none_yet, next, some_broken, all_whole}
+use Rattle.reader_example.proofs.well_formed.is_well_formed.Goals as goal
+
+pub loop-init : goal.loop-init
+loop-init g c = record {
+  none = rw c.new_inner-decoder.ensures (none_yet (g.R.Read.remaining c.args.reader.now));
+  block = refl;
+  room = refl;
+}
+
+pub returns-then-repaired-gt0 : goal.returns-then-repaired-gt0
+returns-then-repaired-gt0 g c =
+    let (out, writes, repair) = c.repair_block-repaired.ensures in
+    let read = c.in_ok-count.ensures in
+    some_broken _ _ _ _ _ _ _ _ repair c.law_block_repair.ensures.front c.law_parts.ensures.exist c.law_parts.ensures.one _ _ _ c.loop.invariant.none read.bytes.0 (λ marked. read.bytes.1 (eqb-true _ _ marked) (omega (arith, c.loop.invariant.block, c.read.auto.buf))) c.if-repaired-gt0.true
+
+pub returns-then-last : goal.returns-then-last
+returns-then-last g c =
+    let (out, writes, repair) = c.repair_block-repaired.ensures in
+    let read = c.in_ok-count.ensures in
+    all_whole _ _ _ _ _ _ _ _ repair c.law_block_repair.ensures.whole c.law_parts.ensures.joined _ _ _ c.loop.invariant.none read.bytes.0 (ap (λ n. n == 0) c.if-last.true) (read.bytes.1 c.if-last.true (omega (arith, c.loop.invariant.block, c.read.auto.buf))) c.if-repaired-gt0.false (omega (arith, read.bound, c.loop.invariant.block, c.read.auto.buf)) (omega (arith, c.loop.invariant.room))
+
+pub loop-preserved : goal.loop-preserved
+loop-preserved g c =
+    let (out, writes, repair) = c.repair_block-repaired.ensures in
+    let read = c.in_ok-count.ensures in
+    record {
+      none = next _ _ _ _ _ _ _ _ repair _ _ _ c.loop.invariant.none read.bytes.0 (grind (arith, nat_tests, c.if-last.false)) c.if-repaired-gt0.false (omega (arith, read.bound, c.loop.invariant.block, c.read.auto.buf)) (omega (arith, c.loop.invariant.room));
+      block = omega (arith, c.loop.invariant.block, c.read.auto.buf);
+      room = omega (arith, c.loop.invariant.room, WritesFront-length _ _ _ _ writes);
+    }

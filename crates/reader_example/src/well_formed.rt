@@ -1,0 +1,39 @@
+//! Whether what a reader gives is text as it stands.
+ghost use Rattle.std.specs.Prelude.{◌↔◌, IfOk, IfSome, IsTrue};
+ghost use Rattle.std.specs.Str.{IsUtf8};
+
+use encoding_runs::laws::{law_block_repair, law_parts};
+use encoding_runs::repair::repair_block;
+use encoding_text::decoder::Utf8Decoder;
+use std::io;
+use std::io::{Error, ErrorKind, Read};
+
+/// How many bytes are read at a time.
+const BLOCK: usize = 1024;
+
+/// With so much room a block, behind three pending bytes, is finished where none of it is broken.
+const ROOM: usize = 1034;
+
+/// Whether all that a reader gives is well-formed UTF-8, in constant memory: it reads to the end, or no further than the
+/// block that has the first broken part. An error is the reader's.
+pub fn is_well_formed<R: Read>(reader: &mut R) -> io::Result<bool>
+    ensures { IfOk result (λ answer. IfSome (R.remaining reader.old) (λ bytes. IsTrue answer ↔ IsUtf8 bytes)) }
+{
+    law_block_repair();
+    law_parts();
+    let mut decoder = Utf8Decoder::new_inner();
+    let mut block = [0; BLOCK];
+    let mut text = [0; ROOM];
+    for _ in 0..u64::MAX {
+        let count = reader.read(&mut block)?;
+        let last = count == 0;
+        let repaired = repair_block(&mut decoder, &block[..count], &mut text, last);
+        if repaired.replaced > 0 {
+            return Ok(false);
+        }
+        if last {
+            return Ok(true);
+        }
+    }
+    Err(Error::from(ErrorKind::Other))
+}
