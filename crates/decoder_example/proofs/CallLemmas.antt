@@ -29,11 +29,12 @@ lt_from : (n : ℕ) → true ≡ nat_lt 0 n → 0 < n
 lt_from n e = grind (arith, nat_tests)
 
 module _ {A : Type 0} (encode : ℕ → List A) (query : ℕ → ℕ → ℕ) where
-  pub Writes_after : (old mid new : State) (src : List ℕ) (dst dst' sub : List A) (last : Bool) (read written r w : ℕ) (replaced again : Bool)
+  -- the second call says that it replaced nothing, or something
+  pub Writes_then : (old mid new : State) (src : List ℕ) (dst dst' sub : List A) (last : Bool) (read written r w : ℕ) (replaced again both : Bool) → (replaced || again) ≡ both
       → Writes encode query old src dst dst' last read written replaced mid
       → Writes encode query mid (take (length src - read) (drop read src)) (take (length dst' - written) (drop written dst')) sub last r w again new
-      → Writes encode query old src dst (put_mid written (length dst' - written) dst' sub) last (read + r) (written + w) (replaced || again) new
-  Writes_after old mid new src dst dst' sub last read written r w replaced again first second =
+      → Writes encode query old src dst (put_mid written (length dst' - written) dst' sub) last (read + r) (written + w) both new
+  Writes_then old mid new src dst dst' sub last read written r w replaced again both e first second =
       let unread : take (length src - read) (drop read src) ≡ drop read src = take_rest src read in
       let room : length (take (length dst' - written) (drop written dst')) ≡ length dst - written =
       ap length (take_rest dst' written) ∙ length-drop written dst' ∙ ap (λ n. n - written) (WritesFront-length dst dst' written first.out first.writes) in
@@ -42,24 +43,15 @@ module _ {A : Type 0} (encode : ℕ → List A) (query : ℕ → ℕ → ℕ) wh
         out = first.out ++ second.out;
         writes = WritesFront_after dst dst' written first.out sub w second.out first.writes second.writes;
         within = omega (arith, first.within, second.within, ap length unread, length-drop read src);
-        gives = λ more none. GivesText-append encode _ _ _ _ _ _ _ (first.gives more none)
+        gives = λ more none. subst (GivesText encode (left old (src ++ more)) (left new (drop (read + r) src ++ more)) (first.out ++ second.out)) e (GivesText-append encode _ _ _ _ _ _ _ (first.gives more none)
             (subst (λ bs. GivesText encode (left mid (drop read src ++ more)) (left new (bs ++ more)) second.out again) rest
-            (subst (λ bs. GivesText encode (left mid (bs ++ more)) (left new (drop r (take (length src - read) (drop read src)) ++ more)) second.out again) unread (second.gives more none)));
+            (subst (λ bs. GivesText encode (left mid (bs ++ more)) (left new (drop r (take (length src - read) (drop read src)) ++ more)) second.out again) unread (second.gives more none))));
         suffices = λ m l h.
             let here = first.suffices m l h in
             let there = second.suffices (m - read) (omega (arith, l, ap length unread, length-drop read src)) (omega (arith, here, room)) in
             let same : query (m - read - r) (length (held new)) ≡ query (m - (read + r)) (length (held new)) = ap (λ n. query n (length (held new))) (omega arith) in
             omega (arith, there, same, room, first.writes.fits);
       }
-
-  -- the second call says that it replaced nothing, or something
-  pub Writes_then : (old mid new : State) (src : List ℕ) (dst dst' sub : List A) (last : Bool) (read written r w : ℕ) (replaced again both : Bool) → (replaced || again) ≡ both
-      → Writes encode query old src dst dst' last read written replaced mid
-      → Writes encode query mid (take (length src - read) (drop read src)) (take (length dst' - written) (drop written dst')) sub last r w again new
-      → Writes encode query old src dst (put_mid written (length dst' - written) dst' sub) last (read + r) (written + w) both new
-  Writes_then old mid new src dst dst' sub last read written r w replaced again both e first second =
-      subst (λ b. Writes encode query old src dst (put_mid written (length dst' - written) dst' sub) last (read + r) (written + w) b new) e
-      (Writes_after old mid new src dst dst' sub last read written r w replaced again first second)
 
   pub Ends_after : (need : ℕ) (old mid new : State) (src : List ℕ) (dst dst' : List A) (last : Bool) (result : CoderResult) (read written r w : ℕ) (replaced : Bool)
       → Writes encode query old src dst dst' last read written replaced mid
@@ -156,16 +148,6 @@ module _ {A : Type 0} (encode : ℕ → List A) (query : ℕ → ℕ → ℕ) wh
         (λ e begins. fits e (subst (λ bs. FittingBegins encode bs (length dst - w)) (sym rest) begins)),
         (λ m l. omega (arith, less m l, short (m - k) (omega (arith, l, size)))),
       )
-
-  pub decoded_behind : (need : ℕ) (old mid new : State) (p q src : List ℕ) (dst dst' : List A) (last : Bool) (result : CoderResult) (k r w : ℕ) (replaced : Bool) → Decoding p ≡ mid → Decoding q ≡ new → k ≤ length src
-      → ((more : List ℕ) → (last ≡ true → more ≡ []) → left mid (drop k src ++ more) ≡ left old (src ++ more))
-      → length (held mid) + (length src - k) ≤ length (held old) + length src → ((n p m q : ℕ) → n + p ≤ m + q → query n p ≤ query m q)
-      → IsReplacingCall encode need query (Decoding p) (take (length src - k) (drop k src)) dst dst' last result r w replaced (Decoding q)
-      → IsReplacingCall encode need query old src dst dst' last result (k + r) w replaced new
-  decoded_behind need old mid new p q src dst dst' last result k r w replaced e f within same fewer grows call =
-      sniffed_call need old mid new src dst dst' last result k r w replaced within same fewer grows
-      (subst (λ s. IsReplacingCall encode need query s (take (length src - k) (drop k src)) dst dst' last result r w replaced new) e
-      (subst (λ s. IsReplacingCall encode need query (Decoding p) (take (length src - k) (drop k src)) dst dst' last result r w replaced s) f call))
 
 -- ---- U+FFFD has room
 at_end : (p x cs : List ℕ) (last : Bool) → IsPending p → all_scalars cs ≡ true → p ≡ encode_utf8_all cs ++ x → IsBroken x [] last → (cs ≡ []) × (last ≡ true) × (p ≢ [])
