@@ -1,7 +1,7 @@
 -- What a call without a destination gives of at most one byte.
-use Rattle.std.proofs.Common.{◌≡◌, ◌≢◌, ℕ, ◌≤◌, true, Bool, List, [], ◌∷◌, ◌++◌, length, take, encode_utf8, encode_utf8_all, refl, sym, ap, subst, ◌∙◌, arith, append-nil, length-append}
+use Rattle.std.proofs.Common.{◌≡◌, ◌≢◌, ℕ, ◌≤◌, true, Bool, List, [], ◌∷◌, ◌++◌, length, encode_utf8, encode_utf8_all, refl, sym, ap, subst, ◌∙◌, arith, append-nil, length-append}
 use Rattle.std.proofs.lemmas.Bool.{and_parts}
-use Rattle.std.proofs.lemmas.List.{take_all, length-take}
+use Rattle.std.proofs.lemmas.List.{length-take}
 use Rattle.std.proofs.lemmas.Str.{length-encode, len_utf8_bounds, encodes-chars}
 use Rattle.std.specs.Char.{IsScalar}
 use Rattle.std.specs.Str.{IsUtf8, all_scalars, chars}
@@ -33,9 +33,7 @@ pub text_given : ((p b : List ℕ) (calls : List (Call Form Answer ℕ)) → IsP
     → (p src : List ℕ) (last : Bool) (piece : Piece) (read : ℕ) (q : List ℕ) → IsBorrowedCall p src last piece read q
     → (parts : List Part) × Gives p src last parts read q × (text_for piece ≡ repaired_text parts)
 text_given mixed p src last piece read q made =
-    let call : Call Form Answer ℕ = record { form = Borrowed; piece = length src; last = last; result = Handed piece; read = read; out = []; pending = q } in
-    let does : IsMixedCall p (take (length src) src) Borrowed last (Handed piece) read [] q = (subst (λ bs. IsBorrowedCall p bs last piece read q) (sym (take_all (length src) src (omega arith))) made, refl) in
-    let (parts, are, given) = one_gives p src call (mixed p src (call ∷ []) made.pending_before (does, λ _. omega arith, tt)) in
+    let (parts, are, given) = one_gives mixed p src Borrowed last (Handed piece) read [] q made.pending_before (made, refl) in
     (parts, given, text_of_parts p src last piece read q parts made are)
 
 -- where it is none, all was read

@@ -1,5 +1,5 @@
 -- Blocks of a stream, of which none had a broken part yet.
-use Rattle.std.proofs.Common.{◌≡◌, ◌↔◌, ℕ, ◌+◌, ◌<◌, ◌≤◌, zero, true, false, Bool, List, [], ◌∷◌, ◌++◌, length, map, take, drop, encode_utf8, encode_utf8_all, inl, Option, None, Some, IfSome, IsTrue, refl, sym, ap, subst, ◌∙◌, arith, append-nil, length-append}
+use Rattle.std.proofs.Common.{◌≡◌, ◌↔◌, ℕ, ◌<◌, ◌≤◌, true, false, Bool, List, [], ◌∷◌, ◌++◌, length, map, drop, encode_utf8, encode_utf8_all, inl, Option, None, Some, IfSome, IsTrue, refl, sym, ap, subst, ◌∙◌, arith, append-nil, length-append}
 use Rattle.std.specs.Prelude.{Any}
 use Rattle.std.specs.List.{flat_map}
 use Rattle.std.specs.Str.{IsUtf8}
@@ -7,7 +7,7 @@ use Rattle.std.specs.Io.KnownBytes.{Consumes, IsAtEnd}
 use Rattle.std.proofs.lemmas.Bool.{both_ways}
 use Rattle.std.proofs.lemmas.List.{take_at, drop_at}
 use Rattle.encoding_definitions.specs.Pending.{IsPending}
-use Rattle.encoding_definitions.specs.Parts.{Part, Character, Broken, ArePartsOf, StartsWith, bytes_of, repaired_text, count_broken}
+use Rattle.encoding_definitions.specs.Parts.{Part, Character, Broken, ArePartsOf, bytes_of, repaired_text, count_broken}
 use Rattle.encoding_definitions.proofs.Bidi.AnyLemmas.{Any-here, Any-there}
 use Rattle.encoding_definitions.proofs.Decomposition.DecompositionLemmas.{StartsWith-append, StartsWith-bytes, StartsWith-characters, count_broken-append, count_broken-characters}
 use Rattle.encoding_runs.specs.Blocks.{IsBlockRepair, RepairTheParts, replaced_in_all}

@@ -1,9 +1,8 @@
-use Rattle.std.proofs.Common.{◌≡◌, ◌==◌, length, take, refl, sym, ap, subst, arith}
+use Rattle.std.proofs.Common.{◌==◌, refl, ap, arith}
 use Rattle.std.proofs.lemmas.Bool.{eqb-true}
 use Rattle.std.proofs.lemmas.Bool.Decides.{nat_tests}
-use Rattle.std.proofs.lemmas.List.{length-take}
 use Rattle.encoding_definitions.proofs.LongestFronts.FrontsLemmas.{WritesFront-length}
-use Rattle.reader_example.proofs.WellFormedLemmas.{NoneBroken, none_yet, next, some_broken, all_whole}
+use Rattle.reader_example.proofs.WellFormedLemmas.{none_yet, next, some_broken, all_whole}
 use Rattle.reader_example.proofs.well_formed.is_well_formed.Goals as goal
 
 pub loop-init : goal.loop-init
