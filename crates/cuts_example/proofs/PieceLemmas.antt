@@ -1,13 +1,14 @@
 -- Pieces and their repairs: one more at the end, and all of them joined.
-use Rattle.std.proofs.Common.{◌≡◌, ℕ, ◌+◌, ◌≤◌, List, [], ◌∷◌, ◌++◌, length, refl, sym, ap, subst, ◌∙◌, arith, append-nil, append_assoc, length-append}
+use Rattle.std.proofs.Common.{◌≡◌, ℕ, ◌+◌, ◌≤◌, List, [], ◌∷◌, ◌++◌, length, refl, sym, ap, subst, ◌∙◌, arith, encode_utf8, append-nil, append_assoc, length-append}
 use Rattle.std.proofs.lemmas.List.{flat_map_more}
 use Rattle.std.proofs.lemmas.List.Sums.{sum_by-cons}
 use Rattle.std.specs.List.{flat_map, sum_by, AllByRecursion, AllZip}
-use Rattle.encoding_definitions.specs.Parts.{ArePartsOf}
+use Rattle.encoding_definitions.specs.Parts.{Part, Character, Broken, bytes_of, ArePartsOf}
 use Rattle.encoding_definitions.proofs.Decomposition.DecompositionLemmas.{count_broken-bytes}
+use Rattle.encoding_runs.specs.BrokenParts.{broken_places}
 use Rattle.encoding_runs.specs.Repairs.{IsRepairedWith}
 use Rattle.cuts_example.specs.declared.RepairedPiece.{RepairedPiece}
-use Rattle.cuts_example.specs.Cuts.{MayBeCutBehind, AreCut, IsRepairOf}
+use Rattle.cuts_example.specs.Cuts.{MayBeCutBehind, AreCut, IsRepairOf, behind}
 
 pub AreCut-push : (pieces : List (List ℕ)) (piece : List ℕ) → AllByRecursion MayBeCutBehind pieces → AreCut (pieces ++ piece ∷ [])
 AreCut-push [] piece h = tt
@@ -51,3 +52,15 @@ all_joined law (p ∷ []) (r ∷ s ∷ rs) cut h = absurd h.1
 all_joined law (p ∷ q ∷ ps) (r ∷ rs) cut h =
     subst (IsRepairedWith _ _) (sym (sum_by-cons (λ (piece : RepairedPiece). piece.replaced) r rs))
     (law p _ r.text.items _ r.replaced _ cut.0 h.0 (all_joined law (q ∷ ps) rs cut.1 h.1))
+
+-- ---- broken parts of what stands behind others
+behind_more : (parts : List Part) (n at m : ℕ) → n + at ≡ m → broken_places m parts ≡ behind n (broken_places at parts)
+behind_more [] n at m e = refl
+behind_more (Character c ∷ parts) n at m e = behind_more parts n _ _ (omega arith)
+behind_more (Broken x ∷ parts) n at m e = let rest = behind_more parts n (at + length x) (m + length x) (omega arith) in cc
+
+pub broken_behind : (parts others : List Part) (at n : ℕ) → at + length (flat_map bytes_of parts) ≡ n
+    → broken_places at (parts ++ others) ≡ broken_places at parts ++ behind n (broken_places 0 others)
+broken_behind [] others at n e = behind_more others n 0 at (omega arith)
+broken_behind (Character c ∷ parts) others at n e = broken_behind parts others _ n (omega (arith, length-append (encode_utf8 c) (flat_map bytes_of parts)))
+broken_behind (Broken x ∷ parts) others at n e = ap (λ found. (at, length x) ∷ found) (broken_behind parts others _ n (omega (arith, length-append x (flat_map bytes_of parts))))

@@ -1,5 +1,7 @@
 -- Bytes that are cut where their pieces can be repaired apart.
-use Rattle.std.specs.Prelude.{◌≡◌, ℕ, ◌<◌, List, [], ◌∷◌, ◌++◌, ◌⊎◌}
+use Rattle.std.specs.Prelude.{◌≡◌, ℕ, ◌+◌, ◌<◌, List, [], ◌∷◌, ◌++◌, ◌⊎◌, map}
+use Rattle.encoding_definitions.specs.Parts.{Part, ArePartsOf}
+use Rattle.encoding_runs.specs.BrokenParts.{broken_places}
 use Rattle.encoding_runs.specs.Repairs.{IsRepairedWith}
 use Rattle.cuts_example.specs.declared.RepairedPiece.{RepairedPiece}
 
@@ -20,3 +22,11 @@ AreCut (piece ∷ next ∷ pieces) = MayBeCutBehind piece × AreCut (next ∷ pi
 -- it has the repaired text of the bytes, and counts their broken parts
 abbrev pub IsRepairOf : List ℕ → RepairedPiece → Type 0
 IsRepairOf bs repaired = IsRepairedWith bs repaired.text.items repaired.replaced
+
+-- the place and the length of each broken part of the bytes, in order
+abbrev pub AreBrokenPartsOf : List ℕ → List (ℕ × ℕ) → Type 0
+AreBrokenPartsOf bs found = (parts : List Part) × ArePartsOf bs parts × (found ≡ broken_places 0 parts)
+
+-- the same places and lengths where n bytes stand before
+abbrev pub behind : ℕ → List (ℕ × ℕ) → List (ℕ × ℕ)
+behind n found = map (λ part. (n + part.0, part.1)) found

@@ -5,9 +5,10 @@
 ghost use Rattle.std.specs.Prelude.{◌≡◌, ℕ, ◌+◌, ◌-◌, ◌<◌, ◌≤◌, ◌^◌, min, List, ◌++◌, length, take, map, sum_by, slice_index, IfOk};
 ghost use Rattle.std.specs.List.{flat_map, AllZip};
 ghost use Rattle.encoding_runs.specs.Repairs.{IsRepairedWith};
-ghost use Rattle.cuts_example.specs.Cuts.{EndsWithAscii, MayBeCutBehind, AreCut, IsRepairOf};
+ghost use Rattle.cuts_example.specs.Cuts.{EndsWithAscii, MayBeCutBehind, AreCut, IsRepairOf, AreBrokenPartsOf, behind};
 
-use encoding_runs::laws::{law_cuts, law_parts};
+use encoding_runs::broken::{BrokenPart, next_broken};
+use encoding_runs::laws::{law_cuts, law_next_broken, law_parts};
 use encoding_runs::repair::{Watch, repair_slice};
 use std::alloc::{AllocError, Global};
 
@@ -21,13 +22,33 @@ pub struct RepairedPiece {
 }
 
 /// Behind nothing, and behind an ASCII byte, bytes may be cut: what is repaired apart joins to what is repaired at once,
-/// and its broken parts add up.
+/// and its broken parts add up. They are those of the piece, and behind it those of what follows.
 pub fn law_cut()
-    ensures { (piece more text others : List ℕ) (n m : ℕ) → MayBeCutBehind piece → IsRepairedWith piece text n
+    ensures broken { (piece more : List ℕ) (found others : List (ℕ × ℕ)) → MayBeCutBehind piece
+        → AreBrokenPartsOf piece found → AreBrokenPartsOf more others
+        → AreBrokenPartsOf (piece ++ more) (found ++ behind (length piece) others) }
+    ensures repaired { (piece more text others : List ℕ) (n m : ℕ) → MayBeCutBehind piece → IsRepairedWith piece text n
         → IsRepairedWith more others m → IsRepairedWith (piece ++ more) (text ++ others) (n + m) }
 {
     law_parts();
     law_cuts();
+}
+
+/// The places and lengths of all broken parts, as many as a repair counts. An `Err` says that memory was refused.
+pub fn broken_places(alloc: Global, bytes: &[u8]) -> Result<Vec<(usize, usize)>, AllocError>
+    ensures found { IfOk result (λ found. AreBrokenPartsOf bytes.now found.items) }
+    ensures count { (text : List ℕ) (n : ℕ) → IsRepairedWith bytes.now text n
+        → IfOk result (λ found. length found.items ≡ n) }
+{
+    law_parts();
+    law_next_broken();
+    let mut found = Vec::new(alloc);
+    let mut read = 0;
+    while let Some(BrokenPart { place, length }) = next_broken(&bytes[read..]) {
+        found.push((read + place, length))?;
+        read += place + length;
+    }
+    Ok(found)
 }
 
 /// How long the first piece is: at least so many bytes, up to and with the next ASCII byte, or all where none comes.
@@ -113,30 +134,33 @@ mod tests {
     use super::*;
     use std::test::Fail;
 
-    /// Bytes, their text by the Encoding Standard's UTF-8 decoder, and how many parts of them are broken.
-    const ROWS: [(&[u8], &str, u64); 5] = [
-        (b"", "", 0),
-        (b"plain\ntext\n", "plain\ntext\n", 0),
+    /// Bytes, their text by the Encoding Standard's UTF-8 decoder, and the places and lengths of their broken parts.
+    const ROWS: [(&[u8], &str, &[(usize, usize)]); 5] = [
+        (b"", "", &[]),
+        (b"plain\ntext\n", "plain\ntext\n", &[]),
         (
             b"a\xE2\x98\nb\xF0\x9F\x92\n\xC3\xA9",
             "a\u{FFFD}\nb\u{FFFD}\n\u{E9}",
-            2,
+            &[(1, 2), (5, 3)],
         ),
         (
             b"\xE0\x80\x80\n\xC2\x7F\xE2\x98",
             "\u{FFFD}\u{FFFD}\u{FFFD}\n\u{FFFD}\u{7F}\u{FFFD}",
-            5,
+            &[(0, 1), (1, 1), (2, 1), (4, 1), (6, 2)],
         ),
-        (b"\xE2\x98\x83\xF0\x9F\x92\xA9", "\u{2603}\u{1F4A9}", 0),
+        (b"\xE2\x98\x83\xF0\x9F\x92\xA9", "\u{2603}\u{1F4A9}", &[]),
     ];
 
     #[test]
     fn repairs_in_pieces_of_each_length(rt: HostRuntime) -> Result<(), Fail> {
-        for (bytes, text, replaced) in &ROWS {
+        for (bytes, text, places) in &ROWS {
+            let found = broken_places(rt.alloc(), bytes)?;
+            assert!(rt; found.as_slice() == *places, "broken parts of {text}");
             for least in 1..14 {
                 let whole = repair_apart(rt.alloc(), bytes, least)?;
                 assert!(rt;
-                    whole.text.as_slice() == text.as_bytes() && whole.replaced == *replaced,
+                    whole.text.as_slice() == text.as_bytes()
+                        && whole.replaced == places.len() as u64,
                     "{text} in pieces of {least}"
                 );
             }

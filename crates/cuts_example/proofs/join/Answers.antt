@@ -7,7 +7,7 @@ use Rattle.cuts_example.proofs.join.Goals as goal
 
 pub returns : goal.returns
 returns c = λ pieces cut each.
-    let (parts, are, text, count) = all_joined c.law_cut.ensures pieces c.args.repaired.now cut each in
+    let (parts, are, text, count) = all_joined c.law_cut.ensures.repaired pieces c.args.repaired.now cut each in
     let all : take c.loop-piece.piece-index c.args.repaired.now ≡ c.args.repaired.now = grind (arith, common_steps) in (
       parts,
       are,
