@@ -20,7 +20,7 @@ use Rattle.legacy_example.specs.declared.TheConstants.{OTHERS}
 low : (xs : List ℕ) (b : ℕ) → b < 0x80 → (if nat_lt b 0x80 then b else slice_index xs (b - 0x80)) ≡ b
 low xs b h = grind (arith, nat_tests)
 
-high : (xs : List ℕ) (b : ℕ) → 0x80 ≤ b → (if nat_lt b 0x80 then b else slice_index xs (b - 0x80)) ≡ slice_index xs (b - 0x80)
+pub high : (xs : List ℕ) (b : ℕ) → 0x80 ≤ b → (if nat_lt b 0x80 then b else slice_index xs (b - 0x80)) ≡ slice_index xs (b - 0x80)
 high xs b h = grind (arith, nat_tests)
 
 -- ---- the index: the 32 entries of the code's table, and then those of Latin1

@@ -1,5 +1,5 @@
 -- windows-1252 by its table: Encoding Standard, section 9.1, single-byte decoder, and its index windows-1252.
-use Rattle.std.specs.Prelude.{ℕ, ◌-◌, List, [], ◌∷◌, if◌then◌else◌, nat_lt, slice_index}
+use Rattle.std.specs.Prelude.{ℕ, ◌-◌, ◌<◌, List, [], ◌∷◌, if◌then◌else◌, nat_lt, slice_index}
 
 -- the index: the scalar value of each byte from 0x80 on
 abbrev pub index : List ℕ
@@ -16,3 +16,7 @@ index =
 -- the scalar value of a byte
 abbrev pub scalar_of : ℕ → ℕ
 scalar_of b = if nat_lt b 0x80 then b else slice_index index (b - 0x80)
+
+-- each is a byte
+abbrev pub AreBytes : List ℕ → Type 0
+AreBytes bs = (k : ℕ) → slice_index bs k < 0x100

@@ -2,13 +2,13 @@
 //! for these, and the 32 other bytes by their table. Encoding Standard, section 9.1, single-byte decoder.
 #![tactic(auto)]
 
-ghost use Rattle.std.specs.Prelude.{◌≡◌, ◌*◌, ◌<◌, ◌≤◌, length, take, map, slice_index, encode_utf8_all};
+ghost use Rattle.std.specs.Prelude.{◌≡◌, ℕ, ◌*◌, ◌≤◌, List, length, take, map, slice_index, encode_utf8_all};
 ghost use Rattle.std.specs.Char.Escape.{encode_utf16};
 ghost use Rattle.std.specs.List.{flat_map};
 ghost use Rattle.encoding_definitions.specs.Fronts.{WritesFront};
-ghost use Rattle.legacy_example.specs.Windows1252.{scalar_of};
+ghost use Rattle.legacy_example.specs.Windows1252.{scalar_of, AreBytes};
 
-use encoding_runs::laws::law_utf16_round_trip;
+use encoding_runs::laws::{law_sequences, law_utf16_round_trip};
 use encoding_text::mem::{
     convert_latin1_to_utf8, convert_latin1_to_utf16, convert_utf16_to_utf8, copy_ascii_to_ascii,
     copy_ascii_to_basic_latin,
@@ -42,6 +42,14 @@ fn latin1_length(bytes: &[u8]) -> usize
         length += 1;
     }
     length
+}
+
+/// Nothing is lost: only the same bytes have the same UTF-8.
+pub fn law_nothing_is_lost()
+    ensures { (bytes others : List ℕ) → AreBytes bytes → AreBytes others
+        → encode_utf8_all (map scalar_of bytes) ≡ encode_utf8_all (map scalar_of others) → bytes ≡ others }
+{
+    law_sequences();
 }
 
 /// Writes the characters of windows-1252 as UTF-16, one code unit each. `dst` is no shorter than `src`. Behind what is
