@@ -44,12 +44,8 @@ same_byte a b h k e = sym (byte_back a h) ∙ ap byte_of e ∙ byte_back b k
 same_end : ((bs rest : List ℕ) → IsSequence bs → IsSequence (bs ++ rest) → rest ≡ [])
     → (x xs y ys : List ℕ) → IsSequence x → IsSequence y → x ++ xs ≡ y ++ ys → (x ≡ y) × (xs ≡ ys)
 same_end none x xs y ys s t e = elim (fronts_nest x xs y ys e) [
-  | inl (more, f, g) ↦
-      let nothing = none x more s (subst IsSequence f t) in
-      (sym (append-nil x) ∙ ap (λ r. x ++ r) (sym nothing) ∙ sym f, g ∙ ap (λ r. r ++ ys) nothing)
-  | inr (more, f, g) ↦
-      let nothing = none y more t (subst IsSequence f s) in
-      (f ∙ ap (λ r. y ++ r) nothing ∙ append-nil y, sym (g ∙ ap (λ r. r ++ xs) nothing))
+  | inl (more, f, g) ↦ let nothing = none x more s (subst IsSequence f t) in let whole = append-nil x in (cc, cc)
+  | inr (more, f, g) ↦ let nothing = none y more t (subst IsSequence f s) in let whole = append-nil y in (cc, cc)
 ]
 
 some : (c : ℕ) (xs : List ℕ) → encode_utf8 c ++ xs ≡ [] → ⊥
@@ -68,8 +64,7 @@ same law (a ∷ bytes) (b ∷ others) h k e =
 
 pub returns : goal.returns
 returns c = same (λ a b xs ys h k e.
-    let law = c.law_sequences.ensures in
     let s = low_scalar (scalar_of a) (scalar_below a h) in
     let t = low_scalar (scalar_of b) (scalar_below b k) in
-    let (sequence, more) = same_end law.none_begins_another _ xs _ ys (law.each (scalar_of a) s) (law.each (scalar_of b) t) e in
-    (same_byte a b h k (law.one (scalar_of a) (scalar_of b) s t sequence), more))
+    let (sequence, more) = same_end c.law_sequences.ensures.none_begins_another _ xs _ ys (c.law_sequences.ensures.each (scalar_of a) s) (c.law_sequences.ensures.each (scalar_of b) t) e in
+    (same_byte a b h k (c.law_sequences.ensures.one (scalar_of a) (scalar_of b) s t sequence), more))
