@@ -19,12 +19,6 @@ pub AllByRecursion-push : {X : Type 0} (P : X → Type 0) (xs : List X) (x : X) 
 AllByRecursion-push P [] x h p = (p, tt)
 AllByRecursion-push P (y ∷ ys) x h p = (h.0, AllByRecursion-push P ys x h.1 p)
 
-pub AllZip-push : {X Y : Type 0} (R : X → Y → Type 0) (xs : List X) (ys : List Y) (x : X) (y : Y) → AllZip R xs ys → R x y → AllZip R (xs ++ x ∷ []) (ys ++ y ∷ [])
-AllZip-push R [] [] x y h r = (r, tt)
-AllZip-push R [] (b ∷ bs) x y h r = absurd h
-AllZip-push R (a ∷ as') [] x y h r = absurd h
-AllZip-push R (a ∷ as') (b ∷ bs) x y h r = (h.0, AllZip-push R as' bs x y h.1 r)
-
 -- what is cut off goes behind the pieces before it
 pub flat_map-push : {X : Type 0} (f : X → List ℕ) (xs : List X) (x : X) (rest others bytes : List ℕ) → flat_map f xs ++ rest ≡ bytes → f x ++ others ≡ rest → flat_map f (xs ++ x ∷ []) ++ others ≡ bytes
 flat_map-push f xs x rest others bytes h e =

@@ -22,7 +22,8 @@ pub struct RepairedPiece {
 }
 
 /// Behind nothing, and behind an ASCII byte, bytes may be cut: what is repaired apart joins to what is repaired at once,
-/// and its broken parts add up. They are those of the piece, and behind it those of what follows.
+/// and its broken parts add up. Those of the whole are those of the piece and then, so many bytes further on as it has,
+/// those of what follows: so they are found apart too.
 pub fn law_cut()
     ensures broken { (piece more : List ℕ) (found others : List (ℕ × ℕ)) → MayBeCutBehind piece
         → AreBrokenPartsOf piece found → AreBrokenPartsOf more others
@@ -34,7 +35,8 @@ pub fn law_cut()
     law_cuts();
 }
 
-/// The places and lengths of all broken parts, as many as a repair counts. An `Err` says that memory was refused.
+/// The place and the length, in bytes, of each broken part, in order: as many as a repair counts. An `Err` says that
+/// memory was refused.
 pub fn broken_places(alloc: Global, bytes: &[u8]) -> Result<Vec<(usize, usize)>, AllocError>
     ensures found { IfOk result (λ found. AreBrokenPartsOf bytes.now found.items) }
     ensures count { (text : List ℕ) (n : ℕ) → IsRepairedWith bytes.now text n

@@ -1,19 +1,20 @@
 -- The index by ranges of bytes, and its characters in UTF-16 and UTF-8.
-use Rattle.std.proofs.Common.{◌≡◌, ℕ, suc, ◌+◌, ◌-◌, ◌*◌, ◌<◌, ◌≤◌, inl, inr, true, false, List, [], ◌∷◌, ◌++◌, length, drop, map, slice_index, if◌then◌else◌, nat_lt, encode_utf8, encode_utf8_all, IsTrue, refl, sym, ap, subst, ◌∙◌, arith}
+use Rattle.std.proofs.Common.{◌≡◌, ℕ, zero, suc, take, ◌+◌, ◌-◌, ◌*◌, ◌<◌, ◌≤◌, inl, inr, true, List, [], ◌∷◌, ◌++◌, length, drop, map, slice_index, if◌then◌else◌, nat_lt, encode_utf8, encode_utf8_all, IsTrue, refl, sym, ap, subst, ◌∙◌, arith}
 use Rattle.std.specs.Char.Escape.{encode_utf16}
-use Rattle.std.specs.List.{flat_map, list_all, range_with_len}
+use Rattle.std.specs.List.{flat_map, range_with_len}
 use Rattle.std.specs.Str.{all_scalars, IsAscii}
 use Rattle.std.proofs.Math.ListN.{get_or-append}
-use Rattle.std.proofs.lemmas.Bool.{cases_lt, and_from}
+use Rattle.std.proofs.lemmas.Bool.{cases_lt, and_from, ltb-true}
 use Rattle.std.proofs.lemmas.Bool.Decides.{nat_tests}
 use Rattle.std.proofs.lemmas.List.{append-nil, get_or-drop, length-append}
-use Rattle.std.proofs.lemmas.List.Folds.{flat_map-map, list_all_at}
+use Rattle.std.proofs.lemmas.List.Folds.{flat_map-map}
+use Rattle.std.proofs.lemmas.List.Sums.{AllPass-from_list_all}
 use Rattle.std.proofs.lemmas.List.FromFn.{get_or-map-range_with_len}
 use Rattle.std.proofs.lemmas.Str.{length-encode}
 use lib.Utf8.{scalar, low_scalar}
 use Rattle.encoding_definitions.specs.Utf16.{Part16, ArePartsOf16, IsUtf8OfUnits}
 use Rattle.encoding_definitions.specs.Utf16.{scalar_of as part_scalar}
-use Rattle.legacy_example.specs.Windows1252.{index, scalar_of}
+use Rattle.legacy_example.specs.Windows1252.{index, scalar_of, AreBytes}
 use Rattle.legacy_example.specs.declared.TheConstants.{OTHERS}
 
 -- ---- the choice between a byte and an entry
@@ -42,25 +43,10 @@ scalar_latin1 b l h =
     high index b (omega arith) ∙ ap (λ k. slice_index index k) (sym place) ∙ sym (get_or-drop 32 index (b - 0xA0) 0) ∙ ap (λ xs. slice_index xs (b - 0xA0)) behind_is
     ∙ get_or-map-range_with_len (λ c. c) 0xA0 96 (b - 0xA0) b 0 (omega arith) (omega arith)
 
-all_below : list_all (λ c. nat_lt c 0xD800) OTHERS ≡ true
-all_below = refl
-
-other_below : (k : ℕ) → k < 32 → slice_index OTHERS k < 0xD800
-other_below k h = elim (cases_lt (slice_index OTHERS k) 0xD800) [
-  | inl l ↦ l
-  | inr g ↦
-      let no : nat_lt (slice_index OTHERS k) 0xD800 ≡ false = grind (arith, nat_tests) in
-      let none : false ≡ true = sym (list_all_at (λ c. nat_lt c 0xD800) OTHERS k 0 (omega arith) no) ∙ all_below in
-      grind (arith, none)
-]
-
 pub scalar_below : (b : ℕ) → b < 0x100 → scalar_of b < 0xD800
 scalar_below b h = elim (cases_lt b 0x80) [
   | inl l ↦ omega (arith, scalar_low b l)
-  | inr g ↦ elim (cases_lt b 0xA0) [
-    | inl l ↦ omega (arith, scalar_other b g l, other_below (b - 0x80) (omega arith))
-    | inr m ↦ omega (arith, scalar_latin1 b m h)
-  ]
+  | inr g ↦ rw (high index b g) (ltb-true _ _ (AllPass-from_list_all (λ c. nat_lt c 0xD800) index refl (b - 0x80) 0 (omega arith)))
 ]
 
 -- ---- characters below the surrogates
@@ -68,7 +54,7 @@ one_unit : (c : ℕ) → c < 0xD800 → encode_utf16 c ≡ c ∷ []
 one_unit c h = let e : nat_lt c 0x10000 ≡ true = grind (arith, nat_tests) in rw e refl
 
 -- each is one code unit
-pub units_are : (bs : List ℕ) → ((k : ℕ) → slice_index bs k < 0x100) → map scalar_of bs ≡ flat_map encode_utf16 (map scalar_of bs)
+pub units_are : (bs : List ℕ) → AreBytes bs → map scalar_of bs ≡ flat_map encode_utf16 (map scalar_of bs)
 units_are [] h = refl
 units_are (b ∷ bs) h = ap (λ xs. scalar_of b ∷ xs) (units_are bs (λ k. h (suc k))) ∙ sym (ap (λ xs. xs ++ flat_map encode_utf16 (map scalar_of bs)) (one_unit (scalar_of b) (scalar_below b (h 0))))
 
@@ -76,10 +62,11 @@ units_are (b ∷ bs) h = ap (λ xs. scalar_of b ∷ xs) (units_are bs (λ k. h (
 three_at_most : (c : ℕ) → c < 0xD800 → length (encode_utf8 c) ≤ 3
 three_at_most c h = rw (length-encode c) (grind (arith, nat_tests))
 
-pub bytes_within : (bs : List ℕ) → ((k : ℕ) → slice_index bs k < 0x100) → length (encode_utf8_all (map scalar_of bs)) ≤ 3 * length bs
-bytes_within [] h = omega arith
-bytes_within (b ∷ bs) h =
-    omega (arith, length-append (encode_utf8 (scalar_of b)) (encode_utf8_all (map scalar_of bs)), three_at_most (scalar_of b) (scalar_below b (h 0)), bytes_within bs (λ k. h (suc k)))
+pub bytes_within : (n : ℕ) (bs : List ℕ) → AreBytes bs → length (encode_utf8_all (map scalar_of (take n bs))) ≤ 3 * n
+bytes_within zero bs h = omega arith
+bytes_within (suc n) [] h = omega arith
+bytes_within (suc n) (b ∷ bs) h =
+    omega (arith, length-append (encode_utf8 (scalar_of b)) (encode_utf8_all (map scalar_of (take n bs))), three_at_most (scalar_of b) (scalar_below b (h 0)), bytes_within n bs (λ k. h (suc k)))
 
 -- the UTF-8 of one such code unit
 pub one_written : ((cs : List ℕ) (parts : List Part16) → IsTrue (all_scalars cs) → ArePartsOf16 (flat_map encode_utf16 cs) parts → map part_scalar parts ≡ cs)

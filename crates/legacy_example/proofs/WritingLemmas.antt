@@ -1,12 +1,12 @@
 -- Runs of bytes, written behind what was written of those before.
-use Rattle.std.proofs.Common.{◌≡◌, ℕ, zero, suc, ◌+◌, ◌-◌, ◌*◌, ◌<◌, ◌≤◌, List, [], ◌∷◌, ◌++◌, length, take, drop, take-add, map, slice_index, encode_utf8_all, refl, sym, ap, ◌∙◌, arith}
+use Rattle.std.proofs.Common.{◌≡◌, ℕ, ◌+◌, ◌-◌, ◌*◌, ◌<◌, ◌≤◌, List, [], ◌∷◌, ◌++◌, length, take, drop, take-add, map, slice_index, encode_utf8_all, refl, sym, ap, ◌∙◌, arith}
 use Rattle.std.specs.Str.{IsAscii}
 use Rattle.std.proofs.lemmas.List.{map-append, map_more, take_rest, length-take-le, length-drop}
 use Rattle.std.proofs.lemmas.Str.{encodes-append, encodes-IsAscii}
 use borrow.Rule.Slice.PartMut.{put_mid}
 use Rattle.encoding_definitions.specs.Fronts.{WritesFront}
 use Rattle.encoding_definitions.proofs.LongestFronts.FrontsLemmas.{WritesFront-length, WritesFront-same, WritesFront_after}
-use Rattle.legacy_example.specs.Windows1252.{scalar_of}
+use Rattle.legacy_example.specs.Windows1252.{scalar_of, AreBytes}
 use Rattle.legacy_example.proofs.IndexLemmas.{ascii_same, bytes_within}
 
 -- a run that Latin1 has in the same place
@@ -51,22 +51,8 @@ bytes_run src old dst sub read run written m w same v =
     let more = rw n at v in
     WritesFront-same _ _ _ _ _ _ (WritesFront_after old dst written _ sub m _ w more) refl (run_bytes_behind src read run (rw (take_rest src read) at same))
 
-below_take : (n : ℕ) (xs : List ℕ) → ((i : ℕ) → slice_index xs i < 0x100) → (k : ℕ) → slice_index (take n xs) k < 0x100
-below_take zero xs h k = omega arith
-below_take (suc n) [] h k = omega arith
-below_take (suc n) (x ∷ xs) h zero = h zero
-below_take (suc n) (x ∷ xs) h (suc k) = below_take n xs (λ i. h (suc i)) k
-
 -- three bytes are left for each byte that is left
-pub room_left : (src old dst : List ℕ) (read written : ℕ) → ((i : ℕ) → slice_index src i < 0x100) → 3 * length src ≤ length old → read ≤ length src
+pub room_left : (src old dst : List ℕ) (read written : ℕ) → AreBytes src → 3 * length src ≤ length old → read ≤ length src
     → WritesFront old dst written (encode_utf8_all (map scalar_of (take read src))) → 3 * (length src - read) ≤ length (take (length dst - written) (drop written dst))
 room_left src old dst read written h room within w =
-    omega (
-      arith,
-      w.count,
-      bytes_within (take read src) (below_take read src h),
-      length-take-le read src within,
-      WritesFront-length _ _ _ _ w,
-      ap length (take_rest dst written),
-      length-drop written dst,
-    )
+    omega (arith, w.count, bytes_within read src h, WritesFront-length _ _ _ _ w, ap length (take_rest dst written), length-drop written dst)

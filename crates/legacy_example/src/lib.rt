@@ -44,7 +44,7 @@ fn latin1_length(bytes: &[u8]) -> usize
     length
 }
 
-/// Nothing is lost: only the same bytes have the same UTF-8.
+/// Nothing is lost: bytes whose characters have the same UTF-8 are the same bytes.
 pub fn law_nothing_is_lost()
     ensures { (bytes others : List ℕ) → AreBytes bytes → AreBytes others
         → encode_utf8_all (map scalar_of bytes) ≡ encode_utf8_all (map scalar_of others) → bytes ≡ others }

@@ -2,11 +2,12 @@ use Rattle.std.proofs.Common.{◌≡◌, ℕ, ◌+◌, ◌<◌, ◌≤◌, List,
 use Rattle.std.proofs.lemmas.Grind.{common_steps}
 use Rattle.std.proofs.lemmas.List.{map_push, take_more}
 use Rattle.std.proofs.lemmas.List.Folds.{flat_map-map}
+use Rattle.std.proofs.lemmas.Slice.Zip.{all_zipped_more}
 use Rattle.std.specs.List.{AllZip, flat_map}
 use Rattle.std.specs.declared.alloc.AllocError.{AllocError}
 use Rattle.cuts_example.specs.declared.RepairedPiece.{RepairedPiece}
 use Rattle.cuts_example.specs.Cuts.{IsRepairOf}
-use Rattle.cuts_example.proofs.PieceLemmas.{AllZip-push, replaced_within}
+use Rattle.cuts_example.proofs.PieceLemmas.{replaced_within}
 use Rattle.cuts_example.proofs.repair_apart.Goals as goal
 
 abbrev bytes_of : Bor (List ℕ) → List ℕ
@@ -17,7 +18,7 @@ one_more : (pieces : List (Bor (List ℕ))) (i : ℕ) (d : Bor (List ℕ)) (repa
     → AllZip IsRepairOf (map bytes_of (take (i + 1) pieces)) more
 one_more pieces i d repaired more r short each one e =
     let items = ap (map bytes_of) (take_more pieces i d short) ∙ map_push bytes_of (take i pieces) (get_or pieces i d) in
-    rw e (subst (λ ps. AllZip IsRepairOf ps (repaired ++ r ∷ [])) (sym items) (AllZip-push IsRepairOf _ repaired _ r each one))
+    rw e (subst (λ ps. AllZip IsRepairOf ps (repaired ++ r ∷ [])) (sym items) (all_zipped_more IsRepairOf _ repaired _ r each one))
 
 pub loop-piece-preserved : goal.loop-piece-preserved
 loop-piece-preserved c =
