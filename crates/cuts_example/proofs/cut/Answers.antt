@@ -17,7 +17,7 @@ loop-rest-preserved c =
     let behind = c.loop-rest.invariant.behind some in
     record {
       whole = rw items (flat_map-push now c.loop-rest.pieces.items c.split_at.result.0 c.loop-rest.rest.now c.split_at.result.1.now c.args.bytes.now c.loop-rest.invariant.whole
-          (ap (λ t. t ++ c.split_at.result.1.now) front ∙ ap (λ t. take c.cut_length.result c.loop-rest.rest.now ++ t) back ∙ take-append-drop c.cut_length.result c.loop-rest.rest.now));
+          (cc (take-append-drop c.cut_length.result c.loop-rest.rest.now)));
       behind = λ more. let short : c.cut_length.result < length c.loop-rest.rest.now = omega (arith, ap length back, length-drop c.cut_length.result c.loop-rest.rest.now) in
           subst (AllByRecursion MayBeCutBehind) (sym pushed) (AllByRecursion-push MayBeCutBehind (map now c.loop-rest.pieces.items) c.split_at.result.0.now behind
           (inr (subst EndsWithAscii (sym front) (c.cut_length.ensures.ascii short))));

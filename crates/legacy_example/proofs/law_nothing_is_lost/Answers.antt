@@ -37,9 +37,6 @@ byte_back b h = elim (cases_lt b 0x80) [
       ∙ get_or-map-range_with_len (λ c. c) 0x80 128 (b - 0x80) b 0 (omega arith) (omega arith)
 ]
 
-same_byte : (a b : ℕ) → a < 0x100 → b < 0x100 → scalar_of a ≡ scalar_of b → a ≡ b
-same_byte a b h k e = sym (byte_back a h) ∙ ap byte_of e ∙ byte_back b k
-
 -- where the UTF-8 of one scalar value ends
 same_end : ((bs rest : List ℕ) → IsSequence bs → IsSequence (bs ++ rest) → rest ≡ [])
     → (x xs y ys : List ℕ) → IsSequence x → IsSequence y → x ++ xs ≡ y ++ ys → (x ≡ y) × (xs ≡ ys)
@@ -67,4 +64,4 @@ returns c = same (λ a b xs ys h k e.
     let s = low_scalar (scalar_of a) (scalar_below a h) in
     let t = low_scalar (scalar_of b) (scalar_below b k) in
     let (sequence, more) = same_end c.law_sequences.ensures.none_begins_another _ xs _ ys (c.law_sequences.ensures.each (scalar_of a) s) (c.law_sequences.ensures.each (scalar_of b) t) e in
-    (same_byte a b h k (c.law_sequences.ensures.one (scalar_of a) (scalar_of b) s t sequence), more))
+    (sym (byte_back a h) ∙ ap byte_of (c.law_sequences.ensures.one (scalar_of a) (scalar_of b) s t sequence) ∙ byte_back b k, more))
