@@ -22,6 +22,7 @@ const OTHERS: [u16; 32] = [
 ];
 
 /// The code unit of a byte.
+#[tactic(auto, using(crate::proofs::IndexLemmas::scalar_other, crate::proofs::IndexLemmas::scalar_latin1))]
 fn code_unit(byte: u8) -> u16
     ensures { result ≡ scalar_of byte }
 {
