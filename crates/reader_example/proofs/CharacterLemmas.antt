@@ -13,20 +13,11 @@ module _ (IsText IsCharacter : List ℕ → Type 0) (empty : IsText []) (text : 
     filled : new ≢ [] → length (take count dst) ≡ room
     filled some = omega (arith, some_length new some, ap length units, length-append (take count dst) new, length-take count dst, moved, size)
 
-    -- of what was held before
-    pub gives_rest : (old : List ℕ) → old ≡ held → old ≢ [] → GivesCharacters IsText IsCharacter old room (take count dst) new
-    gives_rest old same some = record {
-      rest = λ h. sym units ∙ sym same;
-      whole = λ none. absurd (some none);
-      one = λ none. absurd (some none);
-      full = filled;
-    }
-
-    -- of a character that was decoded
-    pub gives_character : (old : List ℕ) → old ≡ [] → (held ≢ [] → IsCharacter held) → GivesCharacters IsText IsCharacter old room (take count dst) new
-    gives_character old none one = record {
-      rest = λ some. absurd (some none);
-      whole = λ e. subst IsText units (character_text held one);
-      one = λ e some. subst IsCharacter units (one (λ nothing. omega (arith, some_length new some, ap length nothing, ap length units, length-append (take count dst) new)));
+    -- of what was held before, or else of a character that was decoded
+    pub gives_held : (old : List ℕ) → (old ≢ [] → old ≡ held) → (old ≡ [] → held ≢ [] → IsCharacter held) → GivesCharacters IsText IsCharacter old room (take count dst) new
+    gives_held old same one = record {
+      rest = λ some. sym units ∙ sym (same some);
+      whole = λ none. subst IsText units (character_text held (one none));
+      one = λ none some. subst IsCharacter units (one none (λ nothing. omega (arith, some_length new some, ap length nothing, ap length units, length-append (take count dst) new)));
       full = filled;
     }

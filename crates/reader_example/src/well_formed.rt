@@ -1,5 +1,6 @@
 //! Whether what a reader gives is text as it stands.
 ghost use Rattle.std.specs.Prelude.{◌↔◌, IfOk, IfSome, IsTrue};
+ghost use Rattle.std.specs.Io.KnownBytes.{IsAtEnd};
 ghost use Rattle.std.specs.Str.{IsUtf8};
 
 use encoding_runs::laws::{law_block_repair, law_parts};
@@ -15,9 +16,11 @@ const BLOCK: usize = 1024;
 const ROOM: usize = 1034;
 
 /// Whether all that a reader gives is well-formed UTF-8, in constant memory: it reads to the end, or no further than the
-/// block that has the first broken part. An error is the reader's.
+/// block that shows the first broken part. An error is the reader's, or says that no end came
+/// in `u64::MAX` reads.
 pub fn is_well_formed<R: Read>(reader: &mut R) -> io::Result<bool>
-    ensures { IfOk result (λ answer. IfSome (R.remaining reader.old) (λ bytes. IsTrue answer ↔ IsUtf8 bytes)) }
+    ensures answer { IfOk result (λ answer. IfSome (R.remaining reader.old) (λ bytes. IsTrue answer ↔ IsUtf8 bytes)) }
+    ensures end { IfOk result (λ answer. IsTrue answer → IsAtEnd (R.remaining reader.new)) }
 {
     law_block_repair();
     law_parts();

@@ -6,7 +6,7 @@ use Rattle.std.specs.Str.{IsUtf8}
 use Rattle.encoding_definitions.proofs.LongestFronts.Utf8Lemmas.{IsUtf8-sequence}
 use Rattle.encoding_definitions.specs.Sequence.{IsSequence}
 use Rattle.reader_example.specs.Reading.{held_of}
-use Rattle.reader_example.proofs.CharacterLemmas.{gives_rest, gives_character}
+use Rattle.reader_example.proofs.CharacterLemmas.{gives_held}
 use Rattle.reader_example.proofs.utf8_reader.Utf8ReaderRead.read.Goals.{then-is_empty-2+else-dst-ge-ROOM+in_ok-hold, else-is_empty-2}
 use Rattle.reader_example.proofs.utf8_reader.Utf8ReaderRead.read.Goals as goal
 
@@ -18,8 +18,7 @@ returns-clause-characters g c =
       | then-is_empty-2+else-dst-ge-ROOM+in_ok-hold w ↦
           let none : held ≡ [] = nil_from_length held (ap length (sym c.unread.ensures.value) ∙ eqb-true _ _ (sym c.is_empty-2.ensures ∙ w.if-is_empty-2.true)) in
           let same = ap held_of w.self-is in
-          gives_character IsUtf8 IsSequence IsUtf8-nil IsUtf8-sequence c.if-is_empty-2.self.held _ _ _ _ give.bytes give.count give.room held none (λ some. subst IsSequence (sym same) (w.hold.ensures.one (λ e. some (same ∙ e))))
+          gives_held IsUtf8 IsSequence IsUtf8-nil IsUtf8-sequence c.if-is_empty-2.self.held _ _ _ _ give.bytes give.count give.room held (λ some. absurd (some none)) (λ _ some. subst IsSequence (sym same) (w.hold.ensures.one (λ e. some (same ∙ e))))
       | else-is_empty-2 w ↦
-          gives_rest IsUtf8 IsSequence IsUtf8-nil IsUtf8-sequence c.if-is_empty-2.self.held _ _ _ _ give.bytes give.count give.room held (sym (ap held_of w.self-is))
-          (λ none. both_ways _ w.if-is_empty-2.false (c.is_empty-2.ensures ∙ ap (λ bs. length bs == 0) (c.unread.ensures.value ∙ none)))
+          gives_held IsUtf8 IsSequence IsUtf8-nil IsUtf8-sequence c.if-is_empty-2.self.held _ _ _ _ give.bytes give.count give.room held (λ _. sym (ap held_of w.self-is)) (λ none. absurd (both_ways _ w.if-is_empty-2.false (c.is_empty-2.ensures ∙ ap (λ bs. length bs == 0) (c.unread.ensures.value ∙ none))))
     ]
