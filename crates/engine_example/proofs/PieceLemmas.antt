@@ -1,7 +1,6 @@
 -- Pieces of bytes, one after another, and what is written of them.
 use Rattle.std.proofs.Common.{◌≡◌, ℕ, ◌+◌, ◌<◌, Bool, true, false, List, [], ◌∷◌, ◌++◌, length, take, drop, get_or, map, refl, sym, ap, subst, ◌∙◌, arith, append-nil, append_assoc}
 use Rattle.std.specs.List.{flat_map}
-use Rattle.std.specs.Str.{chars}
 use Rattle.std.specs.Char.Escape.{encode_utf16}
 use Rattle.std.proofs.lemmas.Grind.{flat_map-append}
 use Rattle.std.proofs.lemmas.List.Folds.{flat_map-map}
@@ -13,8 +12,7 @@ use Rattle.encoding_definitions.proofs.Decomposition.DecompositionLemmas.{Starts
 use Rattle.encoding_text.specs.Decoding.{IsBorrowedCall}
 use Rattle.encoding_text.specs.GivenParts.{AreBorrowed}
 use Rattle.encoding_text.specs.declared.decoder.Piece.{Piece}
-use Rattle.encoding_text.specs.declared.decoder.Piece.TheVariants as piece
-use Rattle.encoding_runs.specs.Calls.{Call, IsChain, some_last}
+use Rattle.encoding_runs.specs.Calls.{Call, IsChain}
 use Rattle.encoding_runs.specs.DecoderCalls.{GiveTheParts}
 use Rattle.encoding_runs.specs.MixedCalls.{Form, Answer, Borrowed, Handed, IsMixedCall, AreGiven, IsInputEmpty}
 use Rattle.engine_example.specs.Blocks.{WritesPiece}
@@ -24,19 +22,6 @@ utf16-append ps qs = flat_map-append (λ part. encode_utf16 (repaired_scalar par
 
 pub utf16-characters : (cs : List ℕ) → repaired_utf16 (map Character cs) ≡ flat_map encode_utf16 cs
 utf16-characters cs = flat_map-map (λ part. encode_utf16 (repaired_scalar part)) Character cs
-
--- the code units for what a call hands out
-abbrev pub units_for : Piece → List ℕ
-units_for (piece.Text t) = flat_map encode_utf16 (chars t.now)
-units_for (piece.Char c) = encode_utf16 c
-units_for (piece.Malformed k) = 0xFFFD ∷ []
-units_for piece.InputEmpty = []
-
-units_are : (returned : Piece) (parts : List Part) → AreBorrowed returned parts → units_for returned ≡ repaired_utf16 parts
-units_are (piece.Text t) parts h = rw h (sym (utf16-characters (chars t.now)))
-units_are (piece.Char c) parts h = rw h (sym (append-nil (encode_utf16 c)))
-units_are (piece.Malformed k) parts (x, h, l) = rw h refl
-units_are piece.InputEmpty parts h = rw h refl
 
 -- ---- the calls over one piece
 -- the parts that the calls up to here give, and their text
@@ -48,22 +33,11 @@ pub record AreGivenUpTo (p b : List ℕ) (last : Bool) (out : List ℕ) (read : 
 pub none_given : (p b : List ℕ) (last : Bool) → IsPending p → AreGivenUpTo p b last [] 0 p
 none_given p b last h = record { parts = []; written = refl; gives = record { within = omega arith; first = refl; pending = h; whatever_follows = λ e more. refl } }
 
-gives_on : (p b : List ℕ) (last : Bool) (ps qs : List Part) (n m : ℕ) (q r : List ℕ) → Gives p b last ps n q → Gives q (drop n b) last qs m r → Gives p b last (ps ++ qs) (n + m) r
-gives_on p b last ps qs n m q r g h =
-    let rest : drop m (drop n b) ≡ drop (n + m) b = drop-drop m n b in
-    record {
-      within = omega (arith, g.within, h.within, length-drop n b);
-      first = subst (λ xs. StartsWith (p ++ b) (ps ++ qs) (r ++ xs)) rest (StartsWith-append _ ps _ qs _ g.first h.first);
-      pending = h.pending;
-      whatever_follows = λ e more. subst (λ xs. StartsWith (p ++ b ++ more) (ps ++ qs) (r ++ xs ++ more)) rest
-          (StartsWith-append _ ps _ qs _ (g.whatever_follows e more) (h.whatever_follows e more));
-    }
-
 -- one more call, as a chain of its own
 pub given_on : ((p b : List ℕ) (calls : List (Call Form Answer ℕ)) → IsPending p → IsChain IsMixedCall p b calls → GiveTheParts AreGiven IsInputEmpty p b calls)
     → (p b : List ℕ) (last : Bool) (out : List ℕ) (read : ℕ) (q : List ℕ) (returned : Piece) (more : ℕ) (r new : List ℕ) → AreGivenUpTo p b last out read q
-    → IsBorrowedCall q (drop read b) last returned more r → new ≡ out ++ units_for returned → AreGivenUpTo p b last new (read + more) r
-given_on law p b last out read q returned more r new g call e =
+    → IsBorrowedCall q (drop read b) last returned more r → ((parts : List Part) → AreBorrowed returned parts → new ≡ out ++ repaired_utf16 parts) → AreGivenUpTo p b last new (read + more) r
+given_on law p b last out read q returned more r new g call text =
     let rest = drop read b in
     let all : take (length rest) rest ≡ rest = take_all (length rest) rest (omega arith) in
     let one : Call Form Answer ℕ = record { form = Borrowed; piece = length rest; last = last; result = Handed returned; read = more; out = []; pending = r } in
@@ -71,14 +45,19 @@ given_on law p b last out read q returned more r new g call e =
     let given = law q rest (one ∷ []) call.pending_before chain in
     let (first, others, are, none, both) = given.in_sequence in
     let parts : given.parts ≡ first = both ∙ ap (λ xs. first ++ xs) none ∙ append-nil first in
-    let text : units_for returned ≡ repaired_utf16 given.parts = units_are returned first are ∙ ap repaired_utf16 (sym parts) in
-    let n : more + 0 ≡ more = omega arith in
-    let front = subst (λ k. Gives q rest (some_last (one ∷ [])) given.parts k r) n given.front in
+    let written = text first are in
+    let read_is : read + (more + 0) ≡ read + more = omega arith in
+    let behind : drop (more + 0) rest ≡ drop (read + more) b = drop-drop (more + 0) read b ∙ ap (λ k. drop k b) read_is in
     record {
       parts = g.parts ++ given.parts;
       written = cc (utf16-append g.parts given.parts);
-      gives = gives_on p b last g.parts given.parts read more q r g.gives
-          (record { within = front.within; first = front.first; pending = front.pending; whatever_follows = λ f. front.whatever_follows (rw f refl) });
+      gives = record {
+        within = omega (arith, g.gives.within, given.front.within, length-drop read b);
+        first = subst (λ xs. StartsWith (p ++ b) (g.parts ++ given.parts) (r ++ xs)) behind (StartsWith-append _ g.parts _ given.parts _ g.gives.first given.front.first);
+        pending = given.front.pending;
+        whatever_follows = λ f after. subst (λ xs. StartsWith (p ++ b ++ after) (g.parts ++ given.parts) (r ++ xs ++ after)) behind
+            (StartsWith-append _ g.parts _ given.parts _ (g.gives.whatever_follows f after) (given.front.whatever_follows (rw f refl) after));
+      };
     }
 
 -- where all is read, what is written is that of the whole piece
