@@ -16,8 +16,8 @@ const BLOCK: usize = 1024;
 const ROOM: usize = 1034;
 
 /// Whether all that a reader gives is well-formed UTF-8, in constant memory: it reads to the end, or no further than the
-/// block that shows the first broken part. An error is the reader's, or says that no end came
-/// in `u64::MAX` reads.
+/// block that shows the first broken part. An error is the reader's, or says that no end came in
+/// `u64::MAX` reads.
 pub fn is_well_formed<R: Read>(reader: &mut R) -> io::Result<bool>
     ensures answer { IfOk result (λ answer. IfSome (R.remaining reader.old) (λ bytes. IsTrue answer ↔ IsUtf8 bytes)) }
     ensures end { IfOk result (λ answer. IsTrue answer → IsAtEnd (R.remaining reader.new)) }
