@@ -6,8 +6,8 @@ ghost use Rattle.std.specs.Prelude.{◌↔◌, ◌+◌, ◌<◌, ◌≤◌, leng
 ghost use Rattle.encoding_kernels.specs.Strides.{AllBelow, BelowUpTo, IsRunBelow};
 
 use crate::places::{Places, all, find, reach, run, skip};
+pub(crate) use ascii_copies::unpack_ascii;
 pub use ascii_copies::{AsciiAs, AsciiVectors, copy_ascii, copy_ascii_front};
-pub(crate) use ascii_copies::{pack_ascii, unpack_ascii};
 pub(crate) use copies::LANES;
 pub use copies::{copy_front, pack_lower, unpack, write_first};
 use std::simd::Simd;

@@ -134,17 +134,6 @@ pub(crate) fn unpack_ascii<const N: usize>(src: &[u8], dst: &mut [u16], from: us
     copy_vectors::<N, u16, u8>(src, dst, from)
 }
 
-/// Copies UTF-16 code units, N at a time, from a place on as bytes while they are ASCII, and returns where that ends.
-#[inline(always)]
-pub(crate) fn pack_ascii<const N: usize>(src: &[u16], dst: &mut [u8], from: usize) -> usize
-    requires { (from ≤ length src.now) × (from ≤ length dst.old) × (0 < N) × (N ≤ 64) }
-    ensures copies { CopiesAscii src.now src.now dst.old dst.new from result }
-    ensures stops { result + N ≤ length src.now → result + N ≤ length dst.old
-        → AllBelow 0x80 src.now result N → ⊥ }
-{
-    copy_vectors::<N, u8, u16>(src, dst, from)
-}
-
 impl AsciiAs<u8> for u8 {
     ghost numbers = { λ xs. xs };
 
