@@ -3,7 +3,8 @@ use Rattle.std.proofs.Common.{◌≡◌, ℕ, ◌≤◌, inl, Bool, true, false,
 use Rattle.std.proofs.lemmas.List.{take_at, drop-append-le, drop_all, nil_from_length, length-take}
 use Rattle.std.specs.List.{flat_map, list_any}
 use Rattle.std.specs.Str.{all_scalars}
-use Rattle.encoding_definitions.specs.Parts.{StartsWith, AreSettled, bytes_of}
+use Rattle.encoding_definitions.specs.Pending.{IsPending}
+use Rattle.encoding_definitions.specs.Parts.{Part, StartsWith, AreSettled, bytes_of}
 use Rattle.encoding_text.specs.Decoding.{IsCall}
 use Rattle.encoding_text.specs.OneAnswer.{HasOneAnswer}
 use Rattle.encoding_text.specs.declared.decoder.DecoderResult.{DecoderResult}
@@ -11,7 +12,6 @@ use Rattle.encoding_text.specs.declared.decoder.DecoderResult.TheVariants.{Input
 use Rattle.encoding_runs.specs.Calls.{Call, read_in_all, pending_after, some_last}
 use Rattle.encoding_runs.specs.DecoderCalls.{GiveTheParts}
 use Rattle.encoding_runs.specs.MixedCalls.{Form, Answer, AreGiven, IsInputEmpty}
-use Rattle.encoding_runs.proofs.SettledLemmas.{settled_first}
 use Rattle.decoder_example.specs.Marked.{State, left, GivesText}
 use Rattle.decoder_example.specs.Streams.{Made, AreMade, TakesWhole, state_after, unread_after}
 use Rattle.decoder_example.proofs.GivenLemmas.{GivesText-nil, GivesText-append}
@@ -33,15 +33,14 @@ calls_give encode need query state unread (call ∷ calls) ((dst, dst', out, doe
 
 -- ---- the decoder inside
 -- all that was read and may go on is settled
-pub settled_calls : (p stream : List ℕ) (calls : List (Call Form Answer ℕ)) (given : GiveTheParts AreGiven IsInputEmpty p stream calls) → some_last calls ≡ false → length stream ≤ read_in_all calls
+pub settled_calls : ((bs rest : List ℕ) (parts : List Part) → StartsWith bs parts rest → IsPending rest → ((more : List ℕ) → StartsWith (bs ++ more) parts (rest ++ more)) → AreSettled bs parts rest)
+    → (p stream : List ℕ) (calls : List (Call Form Answer ℕ)) (given : GiveTheParts AreGiven IsInputEmpty p stream calls) → some_last calls ≡ false → length stream ≤ read_in_all calls
     → AreSettled (p ++ stream) given.parts (pending_after p calls)
-settled_calls p stream calls given unmarked all =
+settled_calls settled_are p stream calls given unmarked all =
     let q = pending_after p calls in
     let none : q ++ drop (read_in_all calls) stream ≡ q = ap (λ bs. q ++ bs) (drop_all (read_in_all calls) stream all) ∙ append-nil q in
-    settled_first (p ++ stream) given.parts q (record {
-      starts = subst (StartsWith (p ++ stream) given.parts) none given.front.first;
-      whatever_follows = λ _ more. subst (λ bs. StartsWith (p ++ stream ++ more) given.parts (bs ++ more)) none (given.front.whatever_follows unmarked more);
-    }) given.front.pending
+    settled_are (p ++ stream) q given.parts (subst (StartsWith (p ++ stream) given.parts) none given.front.first) given.front.pending
+    (λ more. subst (λ bs. StartsWith (p ++ stream ++ more) given.parts (bs ++ more)) none (given.front.whatever_follows unmarked more))
 
 -- nothing is pending where the bytes of the parts are the whole stream
 pub none_left : (stream : List ℕ) (calls : List (Call Form Answer ℕ)) (given : GiveTheParts AreGiven IsInputEmpty [] stream calls) → flat_map bytes_of given.parts ≡ stream → pending_after [] calls ≡ []

@@ -134,13 +134,20 @@ next_not_text bs place size next (cs, (h, e)) =
     let s = split_at bs (map Character cs) place size are next in
     omega (arith, count_broken-characters cs, ap count_broken s.are, count_broken-append (map Character s.characters ++ Broken s.broken ∷ []) s.others, count_broken-append (map Character s.characters) (Broken s.broken ∷ []))
 
--- it has a byte
-last_part : (bs : List ℕ) (ps : List Part) (x rest : List ℕ) → StartsWith bs (ps ++ Broken x ∷ []) rest → 0 < length x
-last_part bs [] x rest (after, f, s) = (part_bytes bs (Broken x) after f).1
-last_part bs (p ∷ ps) x rest (after, f, s) = last_part after ps x rest s
+-- it has one to three bytes
+first_size : (bs x rest : List ℕ) → IsFirstPart bs (Broken x) rest → (0 < length x) × (length x ≤ 3)
+first_size bs x rest (n, inl l) = (l.beginning.0, length-IsBeginning x l.beginning)
+first_size bs x rest (n, inr l) = (omega (arith, l.one), omega (arith, l.one))
 
-pub next_some : (bs : List ℕ) (place size : ℕ) → IsNextBroken bs place size → 0 < size
-next_some bs place size next = omega (arith, last_part bs _ _ _ next.first, length-take size (drop place bs))
+last_size : (bs : List ℕ) (ps : List Part) (x rest : List ℕ) → StartsWith bs (ps ++ Broken x ∷ []) rest → (0 < length x) × (length x ≤ 3)
+last_size bs [] x rest (after, f, s) = first_size bs x after f
+last_size bs (p ∷ ps) x rest (after, f, s) = last_size after ps x rest s
+
+pub next_size : (bs : List ℕ) (place size : ℕ) → IsNextBroken bs place size → (0 < size) × (size ≤ 3)
+next_size bs place size next =
+    let last = last_size bs _ _ _ next.first in
+    let long = length-take size (drop place bs) in
+    (omega (arith, last.0, long), omega (arith, last.1, long, next.within, length-drop place bs))
 
 -- ---- those found in turn
 broken_places-characters : (at : ℕ) (cs : List ℕ) (ps : List Part) → broken_places at (map Character cs ++ ps) ≡ broken_places (at + length (encode_utf8_all cs)) ps

@@ -9,6 +9,7 @@ pub mod EncoderRunLemmas
 pub mod ChainLemmas
 pub mod RunLemmas
 pub mod TurnLemmas
+pub mod WellFormedLemmas
 pub mod CompletionLemmas
 pub mod BidiLawLemmas
 pub mod CutLemmas

@@ -4,7 +4,7 @@ ghost use Rattle.std.specs.Char.{IsScalar};
 ghost use Rattle.std.specs.List.{flat_map};
 ghost use Rattle.std.specs.Str.Lossy.{utf8_lossy};
 ghost use Rattle.encoding_definitions.specs.Sequence.{IsSequence};
-ghost use Rattle.encoding_definitions.specs.Parts.{Part, ArePartsOf, AreSettled, bytes_of, count_broken, repaired_text};
+ghost use Rattle.encoding_definitions.specs.Parts.{Part, StartsWith, ArePartsOf, AreSettled, bytes_of, count_broken, repaired_text};
 ghost use Rattle.encoding_definitions.specs.Pending.{IsPending};
 ghost use Rattle.encoding_text.specs.OneAnswer.{HasOneAnswer, HasOnePiece};
 ghost use Rattle.std.specs.Char.Escape.{encode_utf16};
@@ -24,7 +24,7 @@ ghost use Rattle.encoding_runs.specs.EncoderCalls.{EncodesFirstParts};
 ghost use Rattle.encoding_runs.specs.declared.repair.blocks.RepairedBlock.{RepairedBlock};
 ghost use Rattle.encoding_runs.specs.Blocks.{IsBlockRepair, RepairTheParts, replaced_in_all};
 ghost use Rattle.encoding_runs.specs.Repairs.{IsRepairedWith};
-ghost use Rattle.encoding_runs.specs.BrokenParts.{AreFoundInTurn, broken_places};
+ghost use Rattle.encoding_runs.specs.BrokenParts.{IsNextBroken, AreFoundInTurn, broken_places};
 
 /// The well-formed sequences are exactly the UTF-8 of the scalar values, one for each, and none begins another.
 /// Unicode Standard, Table 3-7.
@@ -35,16 +35,21 @@ pub fn law_sequences()
     ensures none_begins_another { (bs rest : List ℕ) → IsSequence bs → IsSequence (bs ++ rest) → rest ≡ [] }
 {}
 
-/// Bytes have exactly one list of parts, whose bytes joined are these bytes. Their settled parts are the first ones of
-/// the bytes with anything behind them, and so the settled text begins the repaired text of these. With U+FFFD for each
-/// broken part they are the text that `String::from_utf8_lossy` makes. Encoding Standard, UTF-8 decoder.
+/// Bytes have exactly one list of parts, whose bytes joined are these bytes, and are well-formed exactly where none of
+/// these is broken. Their settled parts are the first ones of the bytes with anything behind them, and so the settled text
+/// begins the repaired text of these; and first parts that stay so, with nothing or a beginning behind them, are the
+/// settled ones. With U+FFFD for each broken part they are the text that `String::from_utf8_lossy` makes. Encoding
+/// Standard, UTF-8 decoder.
 pub fn law_parts()
     ensures exist { (bs : List ℕ) → (parts : List Part) × ArePartsOf bs parts }
     ensures one { (bs : List ℕ) (parts others : List Part) → ArePartsOf bs parts → ArePartsOf bs others → parts ≡ others }
     ensures joined { (bs : List ℕ) (parts : List Part) → ArePartsOf bs parts → flat_map bytes_of parts ≡ bs }
+    ensures well_formed { (bs : List ℕ) (parts : List Part) → ArePartsOf bs parts → IsUtf8 bs ↔ (count_broken parts ≡ 0) }
     ensures settled_exist { (bs : List ℕ) → (parts : List Part) × (rest : List ℕ) × AreSettled bs parts rest }
     ensures settled_stay { (bs rest more : List ℕ) (parts all : List Part) → AreSettled bs parts rest
         → ArePartsOf (bs ++ more) all → (others : List Part) × (all ≡ parts ++ others) }
+    ensures settled_are { (bs rest : List ℕ) (parts : List Part) → StartsWith bs parts rest → IsPending rest
+        → ((more : List ℕ) → StartsWith (bs ++ more) parts (rest ++ more)) → AreSettled bs parts rest }
     ensures settled_text { (bs rest more : List ℕ) (parts all : List Part) → AreSettled bs parts rest
         → ArePartsOf (bs ++ more) all → (text : List ℕ) × (repaired_text all ≡ repaired_text parts ++ text) }
     ensures lossy { (bs : List ℕ) (parts : List Part) → ArePartsOf bs parts → repaired_text parts ≡ utf8_lossy bs }
@@ -67,9 +72,10 @@ pub fn law_cuts()
 {}
 
 /// The broken parts that `next_broken` finds in turn, each search in the bytes behind the part found before, are exactly
-/// the broken ones among the parts of the bytes: each with its place and length, in order, as many as there are.
-/// Encoding Standard, UTF-8 decoder.
+/// the broken ones among the parts of the bytes: each with its place and length, in order, as many as there are. Each has
+/// one to three bytes. Encoding Standard, UTF-8 decoder.
 pub fn law_next_broken()
+    ensures size { (bs : List ℕ) (place size : ℕ) → IsNextBroken bs place size → (0 < size) × (size ≤ 3) }
     ensures found { (bs : List ℕ) (parts : List Part) (found : List (ℕ × ℕ)) → ArePartsOf bs parts
         → AreFoundInTurn 0 bs found ↔ (found ≡ broken_places 0 parts) }
     ensures count { (bs : List ℕ) (parts : List Part) → ArePartsOf bs parts → length (broken_places 0 parts) ≡ count_broken parts }

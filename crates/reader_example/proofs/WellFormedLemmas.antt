@@ -9,13 +9,12 @@ use Rattle.std.proofs.lemmas.List.{take_at, drop_at}
 use Rattle.encoding_definitions.specs.Pending.{IsPending}
 use Rattle.encoding_definitions.specs.Parts.{Part, Character, Broken, ArePartsOf, bytes_of, repaired_text, count_broken}
 use Rattle.encoding_definitions.proofs.Bidi.AnyLemmas.{Any-here, Any-there}
-use Rattle.encoding_definitions.proofs.Decomposition.DecompositionLemmas.{StartsWith-append, StartsWith-bytes, StartsWith-characters, count_broken-append, count_broken-characters}
+use Rattle.encoding_definitions.proofs.Decomposition.DecompositionLemmas.{StartsWith-append, StartsWith-bytes, count_broken-append}
 use Rattle.encoding_runs.specs.Blocks.{IsBlockRepair, RepairTheParts, replaced_in_all}
 use Rattle.encoding_runs.specs.Calls.{Call, IsChain, output_of}
 use Rattle.encoding_runs.specs.Repairs.{IsRepairedWith}
 use Rattle.encoding_runs.specs.declared.repair.blocks.RepairedBlock.{RepairedBlock}
 use Rattle.encoding_runs.proofs.RepairLemmas.{pending_length}
-use Rattle.reader_example.proofs.TextLemmas.{IsUtf8-repaired}
 
 abbrev Ends : Call ℕ RepairedBlock ℕ → Type 0
 Ends call = (call.last ≡ true) × (call.result.finished ≡ true)
@@ -40,12 +39,6 @@ unbroken_text : (parts : List Part) → count_broken parts ≡ 0 → repaired_te
 unbroken_text [] none = refl
 unbroken_text (Character c ∷ parts) none = ap (λ bs. encode_utf8 c ++ bs) (unbroken_text parts none)
 unbroken_text (Broken bytes ∷ parts) none = absurd (omega (arith, none))
-
-module _ (one : (bs : List ℕ) (parts others : List Part) → ArePartsOf bs parts → ArePartsOf bs others → parts ≡ others) where
-  none_broken : (bytes : List ℕ) (parts : List Part) → IsUtf8 bytes → ArePartsOf bytes parts → count_broken parts ≡ 0
-  none_broken bytes parts (cs, (scalars, spelled)) are =
-      let characters : ArePartsOf bytes (map Character cs) = subst (λ bs. ArePartsOf bs (map Character cs)) (append-nil (encode_utf8_all cs) ∙ spelled) (StartsWith-characters cs [] scalars) in
-      ap count_broken (one bytes parts (map Character cs) are characters) ∙ count_broken-characters cs
 
 -- ---- the next block
 module _ (p block : List ℕ) (room : ℕ) (last : Bool) (result : RepairedBlock) (read : ℕ) (out q : List ℕ) (repair : IsBlockRepair p block room last result read out q) where
@@ -97,29 +90,28 @@ module _ (p block : List ℕ) (room : ℕ) (last : Bool) (result : RepairedBlock
 
   -- a broken part is in all the bytes
   pub some_broken : ((p b : List ℕ) (calls : List (Call ℕ RepairedBlock ℕ)) → IsPending p → IsChain IsBlockRepair p b calls → RepairTheParts p b calls)
-      → ((bs : List ℕ) → (parts : List Part) × ArePartsOf bs parts) → ((bs : List ℕ) (parts others : List Part) → ArePartsOf bs parts → ArePartsOf bs others → parts ≡ others)
+      → ((bs : List ℕ) → (parts : List Part) × ArePartsOf bs parts) → ((bs : List ℕ) (parts : List Part) → ArePartsOf bs parts → IsUtf8 bs ↔ (count_broken parts ≡ 0))
       → (known before after : Option (List ℕ)) → NoneBroken known p before → Consumes before after block → (last ≡ true → IsAtEnd after) → 0 < result.replaced → IfSome known (λ bytes. IsTrue false ↔ IsUtf8 bytes)
-  some_broken front exist one None before after on read_here end some = tt
-  some_broken front exist one (Some bytes) None after on read_here end some = absurd on
-  some_broken front exist one (Some bytes) (Some unread) None on read_here end some = absurd read_here
-  some_broken front exist one (Some bytes) (Some unread) (Some rest) on read_here end some =
+  some_broken front exist unbroken None before after on read_here end some = tt
+  some_broken front exist unbroken (Some bytes) None after on read_here end some = absurd on
+  some_broken front exist unbroken (Some bytes) (Some unread) None on read_here end some = absurd read_here
+  some_broken front exist unbroken (Some bytes) (Some unread) (Some rest) on read_here end some =
       let (calls, chain, count, ends) = then_others bytes rest (subst (GoesOn bytes p) read_here on) end [] tt in
       let first = front [] bytes calls (inl refl) chain in
       let (others, are) = exist _ in
       let whole : ArePartsOf bytes (first.parts ++ others) = StartsWith-append bytes first.parts _ others [] first.front.first are in (
         (λ e. absurd (both_ways _ refl e)),
-        λ well. absurd (omega (arith, some, count, first.replaced, count_broken-append first.parts others, none_broken one bytes (first.parts ++ others) well whole)),
+        λ well. absurd (omega (arith, some, count, first.replaced, count_broken-append first.parts others, (unbroken bytes (first.parts ++ others) whole).0 well)),
       )
 
   -- and none is where all is read
   pub all_whole : ((b : List ℕ) (calls : List (Call ℕ RepairedBlock ℕ)) → IsChain IsBlockRepair [] b calls → Any Ends calls → IsRepairedWith b (output_of calls) (replaced_in_all calls))
-      → ((bs : List ℕ) (parts : List Part) → ArePartsOf bs parts → flat_map bytes_of parts ≡ bs)
+      → ((bs : List ℕ) (parts : List Part) → ArePartsOf bs parts → IsUtf8 bs ↔ (count_broken parts ≡ 0))
       → (known before after : Option (List ℕ)) → NoneBroken known p before → Consumes before after block → last ≡ true → IsAtEnd after → result.replaced ≤ 0 → length block ≤ 1024 → 1034 ≤ room → IfSome known (λ bytes. IsTrue true ↔ IsUtf8 bytes)
-  all_whole whole joined None before after on read_here marked end none short enough = tt
-  all_whole whole joined (Some bytes) None after on read_here marked end none short enough = absurd on
-  all_whole whole joined (Some bytes) (Some unread) None on read_here marked end none short enough = absurd read_here
-  all_whole whole joined (Some bytes) (Some unread) (Some rest) on read_here marked end none short enough =
+  all_whole whole unbroken None before after on read_here marked end none short enough = tt
+  all_whole whole unbroken (Some bytes) None after on read_here marked end none short enough = absurd on
+  all_whole whole unbroken (Some bytes) (Some unread) None on read_here marked end none short enough = absurd read_here
+  all_whole whole unbroken (Some bytes) (Some unread) (Some rest) on read_here marked end none short enough =
       let (calls, chain, count, ends) = then_others bytes rest (subst (GoesOn bytes p) read_here on) (λ _. end) [] tt in
       let (parts, are, text, broken) = whole bytes calls chain (ends (Any-here Ends call [] (marked, finished on.0 none short enough))) in
-      let same = unbroken_text parts (omega (arith, broken, count, none)) ∙ joined bytes parts are in
-      ((λ _. subst IsUtf8 same (IsUtf8-repaired bytes parts [] are)), λ _. refl)
+      ((λ _. (unbroken bytes parts are).1 (omega (arith, broken, count, none))), λ _. refl)

@@ -2,7 +2,6 @@ use Rattle.std.proofs.Common.{◌≡◌, ℕ, ◌+◌, ◌-◌, List, [], ◌∷
 use Rattle.std.proofs.lemmas.List.{take_rest, length-drop, drop-drop}
 use Rattle.encoding_definitions.specs.Parts.{Part, ArePartsOf}
 use Rattle.encoding_runs.specs.BrokenParts.{IsNextBroken, AreFoundInTurn}
-use Rattle.encoding_runs.proofs.BrokenLemmas.{next_some}
 use Rattle.cuts_example.proofs.broken_places.Goals as goal
 
 -- one more, behind those that were found
@@ -16,7 +15,7 @@ one_more bytes read place size found more next before e others are =
     rw (e, append_assoc) (before _ (place, refl, rw (take_rest bytes read) at next, rw drop-drop moved))
 
 pub loop-place-smaller : goal.loop-place-smaller
-loop-place-smaller c = omega (arith, next_some _ _ _ c.in-Some.ensures.some, c.in-Some.ensures.some.within, ap length (take_rest c.args.bytes.now c.loop-place.read), length-drop c.loop-place.read c.args.bytes.now)
+loop-place-smaller c = omega (arith, (c.law_next_broken.ensures.size _ _ _ c.in-Some.ensures.some).0, c.in-Some.ensures.some.within, ap length (take_rest c.args.bytes.now c.loop-place.read), length-drop c.loop-place.read c.args.bytes.now)
 
 pub loop-place-preserved : goal.loop-place-preserved
 loop-place-preserved c =

@@ -1,7 +1,7 @@
 use Rattle.std.proofs.Common.{◌≡◌, ℕ, List, [], ◌++◌, length, inl, inr, ap, subst, arith}
 use Rattle.std.proofs.lemmas.List.{nil_from_length}
 use Rattle.encoding_definitions.specs.Parts.{Part, ArePartsOf, AreSettled}
-use Rattle.encoding_definitions.proofs.Decomposition.DecompositionLemmas.{count_broken-bytes, parts-bytes}
+use Rattle.encoding_definitions.proofs.Decomposition.DecompositionLemmas.{count_broken-bytes}
 use Rattle.cuts_example.specs.Cuts.{MayBeCutBehind}
 use Rattle.cuts_example.proofs.PieceLemmas.{broken_behind}
 use Rattle.cuts_example.proofs.law_cut.Goals as goal
@@ -27,6 +27,6 @@ returns c =
       broken = λ piece more found others may (parts, are, is_found) (rest, are_rest, is_others).
           let (all, are_all) = c.law_parts.ensures.exist (piece ++ more) in
           let both = c.law_cuts.ensures.parts piece more parts rest all (settled piece parts may are) are_rest are_all in
-          let places = broken_behind parts rest 0 (length piece) (omega (arith, ap length (parts-bytes piece parts are))) in
+          let places = broken_behind parts rest 0 (length piece) (omega (arith, ap length (c.law_parts.ensures.joined piece parts are))) in
           (all, are_all, cc);
     }

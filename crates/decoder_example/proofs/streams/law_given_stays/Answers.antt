@@ -8,7 +8,7 @@ use Rattle.decoder_example.proofs.streams.law_given_stays.Goals as goal
 pub returns : goal.returns
 returns c = λ p stream calls pending chain unmarked all.
     let given = c.law_mixed_calls.ensures.mixed p stream calls pending chain in
-    let settled = settled_calls p stream calls given unmarked all in
+    let settled = settled_calls c.law_parts.ensures.settled_are p stream calls given unmarked all in
     record {
       parts = given.parts;
       given = given.in_sequence;
