@@ -169,4 +169,22 @@ mod tests {
         }
         Ok(())
     }
+
+    #[test]
+    fn repairs_a_long_text(rt: HostRuntime) -> Result<(), Fail> {
+        let mut bytes = Vec::new(rt.alloc());
+        bytes.resize(70_000, b'a')?;
+        bytes.push(0xFF)?;
+        let mut text = Vec::new(rt.alloc());
+        text.resize(70_000, b'a')?;
+        text.extend_from_slice("\u{FFFD}".as_bytes())?;
+        let found = broken_places(rt.alloc(), &bytes)?;
+        assert!(rt;
+            found.as_slice() == &[(70_000, 1)],
+            "the last byte is broken"
+        );
+        let whole = repair_apart(rt.alloc(), &bytes, 1_000)?;
+        assert!(rt; whole.text == text && whole.replaced == 1, "in pieces");
+        Ok(())
+    }
 }

@@ -76,9 +76,6 @@ piece_written p b last out read q g e none =
 pub flat_map-take : {X : Type 0} (f : X → List ℕ) (xs : List X) (i : ℕ) (d : X) → i < length xs → flat_map f (take i xs) ++ f (get_or xs i d) ≡ flat_map f (take (i + 1) xs)
 flat_map-take f xs i d h = flat_map_more f [] (take i xs) (get_or xs i d) ∙ sym (ap (flat_map f) (take_more xs i d h))
 
-pub none_taken : WritesPiece [] [] false [] []
-none_taken = record { parts = []; written = refl; all = λ e. refl; whatever_follows = λ e more. refl }
-
 -- what is written of the pieces before, and then of one more
 pub taken_on : (bytes out q piece block r : List ℕ) (last : Bool) → WritesPiece [] bytes false out q → WritesPiece q piece last block r → WritesPiece [] (bytes ++ piece) last (out ++ block) r
 taken_on bytes out q piece block r last t w = record {

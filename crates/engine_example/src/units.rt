@@ -151,4 +151,19 @@ mod tests {
         }
         Ok(())
     }
+
+    #[test]
+    fn repairs_and_writes_a_long_text(rt: HostRuntime) -> Result<(), Fail> {
+        let mut units = Vec::new(rt.alloc());
+        units.resize(70_000, 0x61)?;
+        units.extend_from_slice(&[0xD83D, 0x5D0])?;
+        let mut text = Vec::new(rt.alloc());
+        text.resize(70_000, b'a')?;
+        text.extend_from_slice("\u{FFFD}\u{5D0}".as_bytes())?;
+        let bytes = utf8_of_units(rt.alloc(), &units)?;
+        assert!(rt; bytes == text, "UTF-8 of a long text");
+        assert!(rt; has_right_to_left(&mut units), "a long text");
+        assert!(rt; units[70_000..] == [0xFFFD, 0x5D0], "the last units");
+        Ok(())
+    }
 }

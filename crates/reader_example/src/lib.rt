@@ -98,6 +98,23 @@ mod tests {
     }
 
     #[test]
+    fn reads_texts_longer_than_each_buffer(rt: HostRuntime) -> Result<(), Fail> {
+        let mut bytes = Vec::new(rt.alloc());
+        for _ in 0..7_000 {
+            bytes.extend_from_slice("a\u{E9}\u{2603}\u{1F4A9}".as_bytes())?;
+        }
+        let mut rest = bytes.as_slice();
+        assert!(rt; is_well_formed(&mut rest)?, "all of a long text");
+        assert_eq!(rt; rest.len(), 0, "bytes left of a long text");
+        let text = read_text(rt.alloc(), bytes.as_slice())?;
+        assert!(rt; text.as_bytes() == bytes.as_slice(), "a long text");
+        bytes.push(0xF0)?;
+        let mut rest = bytes.as_slice();
+        assert!(rt; !is_well_formed(&mut rest)?, "a long text cut short");
+        Ok(())
+    }
+
+    #[test]
     fn gives_utf8_into_each_room_past_faults(rt: HostRuntime) -> Result<(), Fail> {
         for (bytes, text, _) in &ROWS {
             for step in 1..6 {
