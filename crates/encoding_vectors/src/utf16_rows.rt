@@ -7,6 +7,7 @@ use encoding_text::utf_8::{
 };
 use std::alloc::Global;
 use std::test::Fail;
+use test_vectors::encoder_vectors::lengths_of;
 use test_vectors::texts::{are_written, bytes_of, field, number_of, units_of};
 
 #[test]
@@ -74,16 +75,6 @@ DCA9 0061 0061 0061 0061 | EF BF BD 61 61 61 61
 0061 0062 0063 0064 0065 0066 0067 0068 0069 006A 006B 006C 006D 006E 006F 0070 0071 0072 0073 0074 0075 \
 D83D DCA9 0076 2603 0077 00B6 0078 0079 007A 007A | \
 61 62 63 64 65 66 67 68 69 6A 6B 6C 6D 6E 6F 70 71 72 73 74 75 F0 9F 92 A9 76 E2 98 83 77 C2 B6 78 79 7A 7A";
-
-/// Returns how many units the character takes that begins with the first of two, and how many bytes in UTF-8.
-fn lengths_of(unit: u16, next: Option<&u16>) -> (usize, usize) {
-    match (unit, next) {
-        (0..=0x7F, _) => (1, 1),
-        (0x80..=0x7FF, _) => (1, 2),
-        (0xD800..=0xDBFF, Some(0xDC00..=0xDFFF)) => (2, 4),
-        _ => (1, 3),
-    }
-}
 
 /// Whether so many units are a prefix of whole characters, and so many bytes its UTF-8.
 fn is_front(units: &[u16], read: usize, written: usize) -> bool {

@@ -47,15 +47,16 @@ FF | C3 BF";
 /// How often the filler stands in a text.
 pub(crate) const FILLERS_IN_TEXT: usize = 38;
 
-/// Returns the text with so many fillers before the edge, and the others behind it.
+/// Returns a text of so many fillers, with so many of them before the edge and the others behind it.
 pub(crate) fn around<T: Copy>(
     alloc: Global,
     filler: &[T],
+    count: usize,
     before: usize,
     edge: &[T],
 ) -> Result<Vec<T>, Fail> {
     let mut text = Vec::new(alloc);
-    for i in 0..FILLERS_IN_TEXT + 1 {
+    for i in 0..=count {
         for item in if i == before { edge } else { filler } {
             text.push(*item)?;
         }
@@ -69,10 +70,10 @@ fn units_hold(alloc: Global, filler: &str, before: usize, edge: &str) -> Result<
     let mut edge = edge;
     let filler_units = units_of(alloc, field(&mut filler))?;
     let edge_units = units_of(alloc, field(&mut edge))?;
-    let units = around(alloc, &filler_units, before, &edge_units)?;
+    let units = around(alloc, &filler_units, FILLERS_IN_TEXT, before, &edge_units)?;
     let filler_bytes = bytes_of(alloc, field(&mut filler))?;
     let edge_bytes = bytes_of(alloc, field(&mut edge))?;
-    let bytes = around(alloc, &filler_bytes, before, &edge_bytes)?;
+    let bytes = around(alloc, &filler_bytes, FILLERS_IN_TEXT, before, &edge_bytes)?;
     let mut dst = [0x71; 260];
     let (read, written) = convert_utf16_to_utf8_partial(&units, &mut dst);
     Ok(read == units.len() && written == bytes.len() && are_written(&bytes, &dst, written))
@@ -100,10 +101,10 @@ fn latin1_holds(alloc: Global, filler: &str, before: usize, edge: &str) -> Resul
     let mut edge = edge;
     let filler_latin1 = bytes_of(alloc, field(&mut filler))?;
     let edge_latin1 = bytes_of(alloc, field(&mut edge))?;
-    let latin1 = around(alloc, &filler_latin1, before, &edge_latin1)?;
+    let latin1 = around(alloc, &filler_latin1, FILLERS_IN_TEXT, before, &edge_latin1)?;
     let filler_bytes = bytes_of(alloc, field(&mut filler))?;
     let edge_bytes = bytes_of(alloc, field(&mut edge))?;
-    let bytes = around(alloc, &filler_bytes, before, &edge_bytes)?;
+    let bytes = around(alloc, &filler_bytes, FILLERS_IN_TEXT, before, &edge_bytes)?;
     let mut dst = [0x71; 120];
     let (read, written) = convert_latin1_to_utf8_partial(&latin1, &mut dst);
     let mut back = [0x71; 120];

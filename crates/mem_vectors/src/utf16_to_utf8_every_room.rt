@@ -10,7 +10,7 @@ use encoding_text::mem::{
 };
 use std::alloc::{AllocError, Global};
 use std::test::Fail;
-use test_vectors::encoder_vectors::{Source, limits, vectors};
+use test_vectors::encoder_vectors::{Source, lengths_of, limits, vectors};
 
 /// Code units, their UTF-8, and the code units and bytes up to the end of each character.
 #[derive(Drop)]
@@ -18,17 +18,6 @@ struct Units {
     units: Vec<u16>,
     bytes: Vec<u8>,
     ends: Vec<(usize, usize)>,
-}
-
-/// Returns how many code units the character takes that begins with the first of two, and how many bytes in UTF-8. A
-/// surrogate in no pair counts as U+FFFD.
-fn lengths_of(unit: u16, next: Option<&u16>) -> (usize, usize) {
-    match (unit, next) {
-        (0..=0x7F, _) => (1, 1),
-        (0x80..=0x7FF, _) => (1, 2),
-        (0xD800..=0xDBFF, Some(0xDC00..=0xDFFF)) => (2, 4),
-        _ => (1, 3),
-    }
 }
 
 /// Adds the ends of all characters.
@@ -133,27 +122,17 @@ fn units_hold(
 #[test]
 fn units_into_each_room(rt: HostRuntime) -> Result<(), Fail> {
     let mut turn = 0;
-    let vectors = vectors(rt.alloc())?;
-    for row in &vectors {
-        for filler in &FILLERS {
-            assert!(rt;
-                units_hold(rt.alloc(), *filler, row, &mut turn)?,
-                "{}",
-                row.row
-            );
+    let mut count = 0u32;
+    for rows in &[vectors(rt.alloc())?, limits(rt.alloc())?] {
+        for row in rows {
+            for filler in &FILLERS {
+                let holds = units_hold(rt.alloc(), *filler, row, &mut turn)?;
+                assert!(rt; holds, "{}", row.row);
+            }
+            count = count.saturating_add(1);
         }
     }
-    let limits = limits(rt.alloc())?;
-    for row in &limits {
-        for filler in &FILLERS {
-            assert!(rt;
-                units_hold(rt.alloc(), *filler, row, &mut turn)?,
-                "{}",
-                row.row
-            );
-        }
-    }
-    assert!(rt; vectors.len() == 16 && limits.len() == 34);
+    assert!(rt; count == 50);
     Ok(())
 }
 

@@ -47,8 +47,8 @@ fn texts_of(
     let edge_bytes = bytes_of(alloc, field(&mut edge))?;
     let filler_units = units_of(alloc, field(&mut filler))?;
     let edge_units = units_of(alloc, field(&mut edge))?;
-    let bytes = around(alloc, &filler_bytes, before, &edge_bytes)?;
-    let units = around(alloc, &filler_units, before, &edge_units)?;
+    let bytes = around(alloc, &filler_bytes, FILLERS_IN_TEXT, before, &edge_bytes)?;
+    let units = around(alloc, &filler_units, FILLERS_IN_TEXT, before, &edge_units)?;
     Ok((bytes, units))
 }
 

@@ -70,6 +70,17 @@ D83D DE0E D83D DCA9 | F0 9F 98 8E F0 9F 92 A9 | 2 | 4
 0063 00B6 DCA9 | 63 C2 B6 EF BF BD | 2 | 3
 263A DCA9 | E2 98 BA EF BF BD | 1 | 3";
 
+/// Returns how many code units the character takes that begins with the first of two, and how many bytes in UTF-8. A
+/// surrogate in no pair counts as U+FFFD.
+pub fn lengths_of(unit: u16, next: Option<&u16>) -> (usize, usize) {
+    match (unit, next) {
+        (0..=0x7F, _) => (1, 1),
+        (0x80..=0x7FF, _) => (1, 2),
+        (0xD800..=0xDBFF, Some(0xDC00..=0xDFFF)) => (2, 4),
+        _ => (1, 3),
+    }
+}
+
 /// Returns the vectors.
 pub fn vectors(alloc: Global) -> Result<Vec<Source>, Fail> {
     sources_of(alloc, VECTORS)
