@@ -139,25 +139,6 @@ module _ (p src : List ℕ) (last : Bool) (old new sub : List ℕ) (read written
         },
       )
 
--- too little room is left for a call
-pub block_stops : (p src : List ℕ) (last : Bool) (old new : List ℕ) (read written replaced : ℕ) (q : List ℕ) → BlockDone p src last old new read written replaced q
-    → length new - written < 3
-    → (out : List ℕ) × WritesFront old new written out
-    × IsBlockRepair p src (length old) last (record { read = read; written = written; replaced = replaced; finished = false }) read out q
-block_stops p src last old new read written replaced q d l = (
-  repaired_text d.parts,
-  d.writes,
-  record {
-    parts = d.parts;
-    given = subst (λ ps. Gives p src last ps read q) (append-nil d.parts) d.given;
-    text = refl;
-    fits = omega (arith, d.writes.count, d.writes.fits);
-    replaced = d.broken;
-    finished = λ e. absurd (true≢false (sym e));
-    full = λ _. omega (arith, d.writes.count, d.writes.fits, WritesFront-length _ _ _ _ d.writes);
-  },
-)
-
 -- U+FFFD for the part that is reported
 pub block_replaced : (p src : List ℕ) (last : Bool) (old new sub : List ℕ) (read written replaced n k second : ℕ) (q : List ℕ) (reported : List Part)
     → BlockText p src last old new read written replaced q reported → IsReported (Malformed k second) reported

@@ -30,7 +30,3 @@ module _ (bs : List ℕ) where
   -- the first byte begins none of fewer than four
   pub no_character_four : 0xF0 ≤ slice_index bs 0 → (IsSequence first_four → ⊥) → BeginsWithNoCharacter bs
   no_character_four l n = no_character_reads bs (λ r. n (four_reads r l))
-
-  -- no continuation byte behind a first byte that isn't ASCII
-  pub no_character_second : 0x80 ≤ slice_index bs 0 → (IsContinuation (slice_index bs 1) → ⊥) → BeginsWithNoCharacter bs
-  no_character_second l n = no_character_reads bs (λ r. n (second_continues _ _ (r.1 l).1))
