@@ -1,8 +1,8 @@
 -- What a call wrote and reported are the first parts of the bytes that it was given.
-use Rattle.std.proofs.Common.{◌≡◌, ℕ, ◌-◌, ◌≤◌, inl, inr, Bool, true, false, List, [], ◌∷◌, ◌++◌, length, map, take, drop, encode_utf8_all, refl, sym, ap, ◌∙◌, arith, subst}
+use Rattle.std.proofs.Common.{◌≡◌, ℕ, ◌+◌, ◌-◌, ◌<◌, ◌≤◌, inl, inr, Bool, true, false, List, [], ◌∷◌, ◌++◌, length, map, take, drop, encode_utf8_all, refl, sym, ap, ◌∙◌, arith, subst}
 use Rattle.std.specs.Str.{all_scalars}
-use Rattle.std.proofs.lemmas.List.{append-nil, append_assoc, take-append-drop, take_all}
-use Rattle.encoding_definitions.specs.Sequence.{BeginsNothing}
+use Rattle.std.proofs.lemmas.List.{append-nil, append_assoc, length-append, take-append-drop, take_all}
+use Rattle.encoding_definitions.specs.Sequence.{IsBeginning, BeginsNothing}
 use Rattle.encoding_definitions.specs.Parts.{Part, Character, Broken, IsFirstPart, StartsWith}
 use Rattle.encoding_definitions.specs.Pending.{IsPending}
 use Rattle.encoding_definitions.specs.Giving.{Gives}
@@ -10,8 +10,9 @@ use Rattle.encoding_text.specs.GivenParts.{IsReported, AreDecoded}
 use Rattle.encoding_text.specs.Decoding.{IsBroken, IsCall, Answers}
 use Rattle.encoding_text.specs.declared.decoder.DecoderResult.{DecoderResult}
 use Rattle.encoding_text.specs.declared.decoder.DecoderResult.TheVariants.{InputEmpty, OutputFull, Malformed}
-use Rattle.encoding_definitions.proofs.Decomposition.PartsLemmas.{first_lone, first_open, first_stuck}
+use Rattle.encoding_definitions.proofs.Decomposition.PartsLemmas.{first_lone, first_open, first_stuck, same_first_part}
 use Rattle.encoding_definitions.proofs.Decomposition.DecompositionLemmas.{StartsWith-characters, StartsWith-append, StartsWith-one}
+use Rattle.encoding_text.proofs.Calls.DecodeLemmas.{broken_some}
 
 -- ---- a broken part is the first part of itself and the unread bytes behind it
 lone_first : (x rest : List ℕ) (b : ℕ) → x ≡ b ∷ [] → BeginsNothing b → IsFirstPart (x ++ rest) (Broken x) rest
@@ -22,6 +23,26 @@ broken_first x [] last (inl (b, e, n)) = lone_first x [] b e n
 broken_first x [] last (inr (o, l)) = subst (λ xs. IsFirstPart xs (Broken x) []) (sym (append-nil x)) (first_open x o)
 broken_first x (y ∷ ys) last (inl (b, e, n)) = lone_first x (y ∷ ys) b e n
 broken_first x (y ∷ ys) last (inr (o, s)) = first_stuck x y ys o s
+
+-- two broken parts of the same bytes are one
+pub same_broken : (x rest x' rest' : List ℕ) (last : Bool) → IsBroken x rest last → IsBroken x' rest' last → x ++ rest ≡ x' ++ rest' → (x ≡ x') × (rest ≡ rest')
+same_broken x rest x' rest' last b b' e =
+    let first' = subst (λ xs. IsFirstPart xs (Broken x') rest') (sym e) (broken_first x' rest' last b') in
+    let one = same_first_part (x ++ rest) (Broken x) rest (Broken x') rest' (broken_first x rest last b) first' in
+    (let same : Broken x ≡ Broken x' = one.0 in cc, one.1)
+
+-- bytes that stay pending have none
+pub pending_not_broken : (q x rest : List ℕ) (last : Bool) → IsPending q → (last ≡ true → q ≡ []) → IsBroken x rest last → q ≡ x ++ rest → ⊥
+pending_not_broken q x rest last (inl n) ended b e = omega (arith, ap length (sym n ∙ e), length-append x rest, broken_some x rest last b)
+pending_not_broken q x rest last (inr o) ended b e =
+    let first = subst (λ xs. IsFirstPart xs (Broken x) rest) (sym e) (broken_first x rest last b) in
+    let one = same_first_part q (Broken q) [] (Broken x) rest (first_open q o) first in
+    whole x rest (let same : Broken q ≡ Broken x = one.0 in cc) (sym one.1) b
+  where
+    whole : (x rest : List ℕ) → q ≡ x → rest ≡ [] → IsBroken x rest last → ⊥
+    whole x [] e n (inl (b, f, none)) = none (inr (subst IsBeginning (e ∙ f) o))
+    whole x [] e n (inr (begins, l)) = omega (arith, o.0, ap length (ended l))
+    whole x (y ∷ ys) e n b = omega (arith, ap length n)
 
 -- and stays one whatever follows, where the source isn't the last
 broken_stays : (x rest more : List ℕ) → IsBroken x rest false → IsBroken x (rest ++ more) false

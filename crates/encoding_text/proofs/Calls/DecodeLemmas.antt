@@ -13,7 +13,7 @@ use Rattle.encoding_text.specs.Steps.Resuming.{Resumes}
 use Rattle.encoding_definitions.specs.Fronts.{WritesFront}
 use Rattle.encoding_definitions.specs.Converting.{FittingBegins}
 use Rattle.encoding_text.specs.Steps.Converting.{ConvertsFront}
-use Rattle.encoding_text.specs.Decoding.{IsBroken, Answers, Decodes}
+use Rattle.encoding_text.specs.Decoding.{IsBroken, IsCall, Answers, Decodes}
 use Rattle.encoding_text.specs.Steps.Ending.{AnswersAllRead, AnswersNoCharacter}
 use Rattle.encoding_text.specs.declared.decoder.DecoderResult.{DecoderResult}
 use Rattle.encoding_text.specs.declared.decoder.DecoderResult.TheVariants.{InputEmpty, OutputFull, Malformed}
@@ -31,30 +31,10 @@ broken_some x (y ∷ ys) last (inr (o, s)) = o.0
 
 module _ {A : Type 0} (encode : ℕ → List A) (need : ℕ) where
   -- ---- with nothing pending
-  split_source : (src cs : List ℕ) (read : ℕ) → encode_utf8_all cs ≡ take read src → src ≡ encode_utf8_all cs ++ drop read src
-  split_source src cs read e = sym (take-append-drop read src) ∙ ap (λ xs. xs ++ drop read src) (sym e)
-
-  pub all_read : (src : List ℕ) (old new : List A) (read written : ℕ) (last : Bool) → ConvertsFront encode src old new read written → read ≡ length src
-      → Decodes encode need [] src old new last InputEmpty read written []
-  all_read src old new read written last d e =
-      let whole : take read src ≡ src = take_all read src (omega (arith, e)) in (
-        flat_map encode d.scalars,
-        d.writes,
-        record {
-          scalars = d.scalars;
-          are_scalars = d.are_scalars;
-          out_is = refl;
-          fits = omega (arith, d.writes.count, d.writes.fits);
-          pending_before = inl refl;
-          pending = inl refl;
-          answer = (e, sym (append-nil (encode_utf8_all d.scalars) ∙ d.spelled ∙ whole), λ _. refl, λ n _. absurd (n refl));
-          pending_needs_room = λ n _. absurd (n refl);
-        },
-      )
-
-  pub full : (src : List ℕ) (old new : List A) (read written : ℕ) (last : Bool) → ConvertsFront encode src old new read written → read ≢ length src
-      → length old - written < need → Decodes encode need [] src old new last OutputFull read written []
-  full src old new read written last d n l = (
+  -- the characters of a front are written
+  front_call : {src q : List ℕ} {old new : List A} {read read' written : ℕ} {last : Bool} {result : DecoderResult} (d : ConvertsFront encode src old new read written) → IsPending q
+      → Answers encode need [] src last result read' d.scalars (length old - length (flat_map encode d.scalars)) q → Decodes encode need [] src old new last result read' written q
+  front_call d pending answer = (
     flat_map encode d.scalars,
     d.writes,
     record {
@@ -63,154 +43,111 @@ module _ {A : Type 0} (encode : ℕ → List A) (need : ℕ) where
       out_is = refl;
       fits = omega (arith, d.writes.count, d.writes.fits);
       pending_before = inl refl;
-      pending = inl refl;
-      answer = (
-        let within : read ≤ length src = d.within in omega (arith, n),
+      pending = pending;
+      answer = answer;
+      pending_needs_room = λ n _. absurd (n refl);
+    },
+  )
+
+  pub all_read : (src : List ℕ) (old new : List A) (read written : ℕ) (last : Bool) → ConvertsFront encode src old new read written → read ≡ length src
+      → Decodes encode need [] src old new last InputEmpty read written []
+  all_read src old new read written last d e =
+      front_call d (inl refl) (e, sym (append-nil (encode_utf8_all d.scalars) ∙ d.spelled ∙ take_all read src (omega (arith, e))), (λ _. refl), λ n _. absurd (n refl))
+
+  pub full : (src : List ℕ) (old new : List A) (read written : ℕ) (last : Bool) → ConvertsFront encode src old new read written → read ≢ length src
+      → length old - written < need → Decodes encode need [] src old new last OutputFull read written []
+  full src old new read written last d n l =
+      let within : read ≤ length src = d.within in
+      front_call d (inl refl) (
+        omega (arith, n),
         sym (append-nil (encode_utf8_all d.scalars) ∙ d.spelled),
         omega (arith, l, d.writes.count),
         (λ _ f. d.stops (subst (λ k. FittingBegins encode (drop read src) (length old - k)) (sym d.writes.count) f)),
         λ m. absurd (m refl),
-      );
-      pending_needs_room = λ m _. absurd (m refl);
-    },
-  )
+      )
 
   pub ends : (src : List ℕ) (old new : List A) (read written : ℕ) (last : Bool) (result : DecoderResult) (more : ℕ) (q : List ℕ) → ConvertsFront encode src old new read written → need ≤ length old - written
       → AnswersNoCharacter (drop read src) last result more q → Decodes encode need [] src old new last result (read + more) written q
   ends src old new read written last InputEmpty more q d l (all, rest, o, not_last) =
-      let within : read ≤ length src = d.within in (
-        flat_map encode d.scalars,
-        d.writes,
-        record {
-          scalars = d.scalars;
-          are_scalars = d.are_scalars;
-          out_is = refl;
-          fits = omega (arith, d.writes.count, d.writes.fits);
-          pending_before = inl refl;
-          pending = inr (subst IsBeginning (sym rest) o);
-          answer = (
-            omega (arith, all, length-drop read src, within),
-            split_source src d.scalars read d.spelled ∙ ap (λ xs. encode_utf8_all d.scalars ++ xs) (sym rest),
-            (λ t. let clash : true ≡ false = sym t ∙ not_last in cc),
-            λ _ _. omega (arith, l, d.writes.count),
-          );
-          pending_needs_room = λ n _. absurd (n refl);
-        },
+      let within : read ≤ length src = d.within in
+      front_call d (inr (subst IsBeginning (sym rest) o)) (
+        omega (arith, all, length-drop read src),
+        sym (take-append-drop read src) ∙ (λ i. (sym d.spelled) i ++ (sym rest) i),
+        (λ t. let clash : true ≡ false = sym t ∙ not_last in cc),
+        λ _ _. omega (arith, l, d.writes.count),
       )
   ends src old new read written last OutputFull more q d l none = absurd none
   ends src old new read written last (Malformed k second) more q d l (zero, same, inside, none, broken) =
       let within : read ≤ length src = d.within in
-      let taken : take (read + more) src ≡ encode_utf8_all d.scalars ++ take k (drop read src) =
-      take-add read more src ∙ (λ i. (sym d.spelled) i ++ take (same i) (drop read src)) in
-      let behind : drop (read + more) src ≡ drop k (drop read src) = sym (drop-drop more read src) ∙ ap (λ n. drop n (drop read src)) same in (
-        flat_map encode d.scalars,
-        d.writes,
-        record {
-          scalars = d.scalars;
-          are_scalars = d.are_scalars;
-          out_is = refl;
-          fits = omega (arith, d.writes.count, d.writes.fits);
-          pending_before = inl refl;
-          pending = inl none;
-          answer = (
-            take k (drop read src),
-            zero,
-            omega (arith, same, inside, length-drop read src, within),
-            taken,
-            omega (arith, length-take k (drop read src), inside),
-            none,
-            subst (λ xs. IsBroken (take k (drop read src)) xs last) (sym behind) broken,
-            λ _. omega (arith, l, d.writes.count),
-          );
-          pending_needs_room = λ n _. absurd (n refl);
-        },
+      let behind : drop (read + more) src ≡ drop k (drop read src) = sym (drop-drop more read src) ∙ ap (λ n. drop n (drop read src)) same in
+      front_call d (inl none) (
+        take k (drop read src),
+        zero,
+        omega (arith, same, inside, length-drop read src),
+        take-add read more src ∙ (λ i. (sym d.spelled) i ++ take (same i) (drop read src)),
+        omega (arith, length-take k (drop read src), inside),
+        none,
+        subst (λ xs. IsBroken (take k (drop read src)) xs last) (sym behind) broken,
+        λ _. omega (arith, l, d.writes.count),
       )
 
   -- ---- with a beginning pending
-  no_output : (old : List A) → WritesFront old old 0 []
-  no_output old = WritesFront-nil old
+  -- no character is written
+  pub silent_call : {p src q : List ℕ} {room read : ℕ} {last : Bool} {result : DecoderResult} → IsPending p → IsPending q → (p ≢ [] → 0 < read → need ≤ room)
+      → Answers encode need p src last result read [] (room - 0) q → IsCall encode need p src room last result read [] q
+  silent_call before after enough answer = record {
+    scalars = [];
+    are_scalars = refl;
+    out_is = refl;
+    fits = omega arith;
+    pending_before = before;
+    pending = after;
+    answer = answer;
+    pending_needs_room = enough;
+  }
 
   pub source_ended : (p src old-src after : List ℕ) (old : List A) (last : Bool) (result : DecoderResult) (read : ℕ) → IsBeginning p → old-src ≡ p ++ src → read ≡ length src → (0 < length src → need ≤ length old)
       → AnswersAllRead old-src last result after → Decodes encode need p src old old last result read 0 after
   source_ended p src held after old last InputEmpty read b e all room (same, whole, pending) = (
     [],
-    no_output old,
-    record {
-      scalars = [];
-      are_scalars = refl;
-      out_is = refl;
-      fits = omega arith;
-      pending_before = inr b;
-      pending = subst IsPending (sym same) pending;
-      answer = (all, sym (same ∙ e), (λ t. same ∙ whole t), λ _ some. omega (arith, room (omega (arith, all, some))));
-      pending_needs_room = λ _ some. room (omega (arith, all));
-    },
+    WritesFront-nil old,
+    silent_call (inr b) (subst IsPending (sym same) pending) (λ _ some. room (omega (arith, all)))
+        (all, sym (same ∙ e), (λ t. same ∙ whole t), λ _ some. omega (arith, room (omega (arith, all, some)))),
   )
   source_ended p src held after old last OutputFull read b e all room none = absurd none
-  source_ended p src held after old last (Malformed k second) read b e all room (zero, count, none, o, l) =
-      let taken : p ++ take read src ≡ held = ap (λ xs. p ++ xs) (take_all read src (omega (arith, all))) ∙ sym e in (
-        [],
-        no_output old,
-        record {
-          scalars = [];
-          are_scalars = refl;
-          out_is = refl;
-          fits = omega arith;
-          pending_before = inr b;
-          pending = inl none;
-          answer = (
-            held,
-            zero,
-            omega (arith, all),
-            taken,
-            sym count,
-            none,
-            subst (λ xs. IsBroken held xs last) (sym (nil_from_length (drop read src) (omega (arith, length-drop read src, all)))) (inr (o, l)),
-            (λ some. omega (arith, room some)),
-          );
-          pending_needs_room = λ _ some. room (omega (arith, all));
-        },
-      )
+  source_ended p src held after old last (Malformed k second) read b e all room (zero, count, none, o, l) = (
+    [],
+    WritesFront-nil old,
+    silent_call (inr b) (inl none) (λ _ some. room (omega (arith, all))) (
+      held,
+      zero,
+      omega (arith, all),
+      ap (λ xs. p ++ xs) (take_all read src (omega (arith, all))) ∙ sym e,
+      sym count,
+      none,
+      subst (λ xs. IsBroken held xs last) (sym (nil_from_length (drop read src) (omega (arith, length-drop read src, all)))) (inr (o, l)),
+      (λ some. omega (arith, room some)),
+    ),
+  )
 
   pub pending_full : (p src : List ℕ) (old : List A) (last : Bool) → IsPending p → 0 < length src → length old < need → p ≢ [] → Decodes encode need p src old old last OutputFull 0 0 p
-  pending_full p src old last pending some l n = (
-    [],
-    no_output old,
-    record {
-      scalars = [];
-      are_scalars = refl;
-      out_is = refl;
-      fits = omega arith;
-      pending_before = pending;
-      pending = pending;
-      answer = (some, append-nil p, omega (arith, l), (λ e. absurd (n e)), λ _. (refl, refl));
-      pending_needs_room = λ _ h. absurd (omega arith);
-    },
-  )
+  pending_full p src old last pending some l n =
+      ([], WritesFront-nil old, silent_call pending pending (λ _ h. absurd (omega arith)) (some, append-nil p, omega (arith, l), (λ e. absurd (n e)), λ _. (refl, refl)))
 
   pub pending_stuck : (p src q : List ℕ) (old : List A) (last : Bool) (k read : ℕ) → IsBeginning p → need ≤ length old → Resumes p src (Stuck k) read q → Decodes encode need p src old old last (Malformed k 0) read 0 q
   pending_stuck p src q old last k read begins l (short, count, o, b, more, next, stuck, none) = (
     [],
-    no_output old,
-    record {
-      scalars = [];
-      are_scalars = refl;
-      out_is = refl;
-      fits = omega arith;
-      pending_before = inr begins;
-      pending = inl none;
-      answer = (
-        p ++ take read src,
-        refl,
-        omega (arith, short),
-        refl,
-        omega (arith, count, length-append p (take read src), length-take read src, short),
-        none,
-        broken_stuck (p ++ take read src) (drop read src) last b more next o stuck,
-        λ _. omega (arith, l),
-      );
-      pending_needs_room = λ _ _. l;
-    },
+    WritesFront-nil old,
+    silent_call (inr begins) (inl none) (λ _ _. l) (
+      p ++ take read src,
+      refl,
+      omega (arith, short),
+      refl,
+      omega (arith, count, length-append p (take read src), length-take read src, short),
+      none,
+      broken_stuck (p ++ take read src) (drop read src) last b more next o stuck,
+      λ _. omega (arith, l),
+    ),
   )
 
   -- the bytes of a character, and then others
@@ -258,6 +195,23 @@ module _ {A : Type 0} (encode : ℕ → List A) (need : ℕ) where
     (λ _. subst (λ n. need ≤ n) same (room (omega (arith, ap length whole, length-append (encode_utf8_all cs) x, length-take more (drop read src), broken_some x _ last broken)))),
   )
 
+  -- a character, and the call that follows it
+  pub call_behind : (p src : List ℕ) (c read room room' : ℕ) (last : Bool) (result : DecoderResult) (more : ℕ) (out : List A) (q : List ℕ) → IsPending p → IsScalar c → p ++ take read src ≡ encode_utf8 c
+      → read ≤ length src → length (encode c) ≤ room → (p ≢ [] → need ≤ room) → room' ≡ room - length (encode c) → IsCall encode need [] (drop read src) room' last result more out q
+      → IsCall encode need p src room last result (read + more) (encode c ++ out) q
+  call_behind p src c read room room' last result more out q before h e within fitting enough size call =
+      let inside : length out ≤ room' = call.fits in
+      record {
+        scalars = c ∷ call.scalars;
+        are_scalars = and_from _ _ h call.are_scalars;
+        out_is = ap (λ xs. encode c ++ xs) call.out_is;
+        fits = omega (arith, length-append (encode c) out);
+        pending_before = before;
+        pending = call.pending;
+        answer = answer_behind p src c read call.scalars last result more _ _ q e within (omega (arith, length-append (encode c) out)) call.answer;
+        pending_needs_room = λ some _. enough some;
+      }
+
 -- where a character takes no more than the need
 module _ {A : Type 0} (encode : ℕ → List A) (need : ℕ) (fits : (c : ℕ) → IsScalar c → length (encode c) ≤ need) where
   -- with room for any character, none begins what is left
@@ -299,21 +253,9 @@ module _ {A : Type 0} (encode : ℕ → List A) (need : ℕ) (fits : (c : ℕ) �
   whole_then p src bytes old new sub last result read n read' written more written' q begins room within e s d (out, writes, call) =
       let c = scalar_of_sequence (p ++ take read src) s in
       let first : WritesFront old new written (encode c.0) = one_character (take n bytes) c.0 old new read' written c.1 (c.2 ∙ sym e) room d in
-      let long : length (take (length new - written) (drop written new)) ≡ length old - written =
-      ap length (take_rest new written) ∙ length-drop written new ∙ ap (λ k. k - written) (WritesFront-length old new written (encode c.0) first) in
-      let size : length (encode c.0) ≡ written = sym first.count in
-      let left : length (take (length new - written) (drop written new)) - length out ≡ length old - length (encode c.0 ++ out) =
-      omega (arith, long, length-append (encode c.0) out, size) in (
+      let size : length (take (length new - written) (drop written new)) ≡ length old - length (encode c.0) =
+      omega (arith, ap length (take_rest new written), length-drop written new, WritesFront-length old new written (encode c.0) first, first.count) in (
         encode c.0 ++ out,
         WritesFront_after old new written (encode c.0) sub written' out first writes,
-        record {
-          scalars = c.0 ∷ call.scalars;
-          are_scalars = and_from _ _ c.1 call.are_scalars;
-          out_is = ap (λ xs. encode c.0 ++ xs) call.out_is;
-          fits = let inside : length out ≤ length (take (length new - written) (drop written new)) = call.fits in omega (arith, inside, long, length-append (encode c.0) out, size, first.fits);
-          pending_before = inr begins;
-          pending = call.pending;
-          answer = answer_behind encode need p src c.0 read call.scalars last result more _ _ q (sym c.2) within left call.answer;
-          pending_needs_room = λ _ _. room;
-        },
+        call_behind encode need p src c.0 read _ _ last result more out q (inr begins) c.1 (sym c.2) within (omega (arith, first.count, first.fits)) (λ _. room) size call,
       )

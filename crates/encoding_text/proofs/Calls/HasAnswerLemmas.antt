@@ -1,20 +1,22 @@
 -- For pending bytes, source, room and mark a decode call has an answer.
-use Rattle.std.proofs.Common.{◌≡◌, ◌≢◌, ℕ, ◌+◌, ◌-◌, ◌<◌, ◌≤◌, ◌⊎◌, inl, inr, Bool, true, false, List, [], ◌∷◌, ◌++◌, length, take, drop, encode_utf8, refl, sym, ap, ◌∙◌, arith, subst}
+use Rattle.std.proofs.Common.{◌≡◌, ◌≢◌, ℕ, ◌+◌, ◌-◌, ◌<◌, ◌≤◌, ◌⊎◌, inl, inr, Bool, true, false, List, [], ◌∷◌, ◌++◌, length, take, drop, encode_utf8, encode_utf8_all, refl, sym, ap, ◌∙◌, arith, subst}
 use Rattle.std.specs.Char.{IsScalar}
-use Rattle.std.proofs.lemmas.Bool.{and_from, cases_Bool, cases_lt}
-use Rattle.std.proofs.lemmas.List.{append-nil, length-append, nil_from_length, take_at, drop_at}
+use Rattle.std.specs.Str.{all_scalars}
+use Rattle.std.proofs.lemmas.Bool.{and_parts, cases_Bool, cases_lt}
+use Rattle.std.proofs.lemmas.List.{append-nil, append_assoc, length-append, nil_from_length}
 use Rattle.std.proofs.lemmas.Str.{encode_same, length-encode, len_utf8_bounds}
 use Rattle.encoding_definitions.specs.Sequence.{IsBeginning}
 use Rattle.encoding_definitions.specs.Parts.{Part, Character, Broken, IsFirstPart, ArePartsOf}
 use Rattle.encoding_definitions.specs.Pending.{IsPending}
 use Rattle.encoding_definitions.specs.Converting.{FittingBegins}
-use Rattle.encoding_text.specs.Decoding.{IsBroken, IsCall, Answers}
+use Rattle.encoding_text.specs.Decoding.{IsBroken, IsCall}
 use Rattle.encoding_text.specs.declared.decoder.DecoderResult.{DecoderResult}
 use Rattle.encoding_text.specs.declared.decoder.DecoderResult.TheVariants.{InputEmpty, OutputFull, Malformed}
 use Rattle.encoding_definitions.proofs.Sequences.EncodingLemmas.{IsSequence-encode}
 use Rattle.encoding_definitions.proofs.Decomposition.PartsLemmas.{fronts_nest, no_sequence_in_beginning, first_open, has_first_part, part_bytes, lone_part, stuck_part}
 use Rattle.encoding_definitions.proofs.Decomposition.DecompositionLemmas.{has_parts}
-use Rattle.encoding_text.proofs.Calls.DecodeLemmas.{answer_behind}
+use Rattle.encoding_text.proofs.LongestFronts.ConvertingLemmas.{cut_behind}
+use Rattle.encoding_text.proofs.Calls.DecodeLemmas.{silent_call, call_behind}
 
 pub length-encode-some : (c : ℕ) → 0 < length (encode_utf8 c)
 length-encode-some c = omega (arith, length-encode c, len_utf8_bounds c)
@@ -23,6 +25,11 @@ length-encode-some c = omega (arith, length-encode c, len_utf8_bounds c)
 pub no_character_pending : (c : ℕ) (rest q : List ℕ) → IsScalar c → IsPending q → q ≡ encode_utf8 c ++ rest → ⊥
 no_character_pending c rest q h (inl n) e = omega (arith, ap length (sym n ∙ e), length-append (encode_utf8 c) rest, length-encode-some c)
 no_character_pending c rest q h (inr b) e = no_sequence_in_beginning (encode_utf8 c) rest (subst IsBeginning e b) (IsSequence-encode c h)
+
+pub no_characters_pending : (cs rest q : List ℕ) → all_scalars cs ≡ true → IsPending q → q ≡ encode_utf8_all cs ++ rest → cs ≡ []
+no_characters_pending [] rest q h pending e = refl
+no_characters_pending (c ∷ cs) rest q h pending e =
+    absurd (no_character_pending c (encode_utf8_all cs ++ rest) q (and_parts _ _ h).0 pending (e ∙ append_assoc (encode_utf8 c) (encode_utf8_all cs) rest))
 
 -- ---- there is an answer
 pub broken_or_open : (x after : List ℕ) (last : Bool) → IsFirstPart (x ++ after) (Broken x) after → IsBroken x after last ⊎ ((after ≡ []) × IsBeginning x × (last ≡ false))
@@ -45,47 +52,20 @@ module _ {A : Type 0} (encode : ℕ → List A) (need : ℕ) (last : Bool) where
     0,
     [],
     p,
-    record {
-      scalars = [];
-      are_scalars = refl;
-      out_is = refl;
-      fits = omega arith;
-      pending_before = pending;
-      pending = pending;
-      answer = (some, append-nil p, omega arith, (λ n f. none n (subst (λ k. FittingBegins encode src k) (omega arith) f)), λ _. (refl, refl));
-      pending_needs_room = λ _ h. absurd (omega arith);
-    },
+    silent_call encode need pending pending (λ _ h. absurd (omega arith))
+        (some, append-nil p, omega arith, (λ n f. none n (subst (λ k. FittingBegins encode src k) (omega arith) f)), λ _. (refl, refl)),
   )
 
   -- the bytes t end the broken part x
   report_call : (p src t x after : List ℕ) (room : ℕ) → IsPending p → x ≡ p ++ t → src ≡ t ++ after → IsBroken x after last → (0 < length src → need ≤ room) → HasCall p src room
   report_call p src t x after room before e f broken enough =
-      let within : length t ≤ length src = omega (arith, ap length f, length-append t after) in
-      let front : take (length t) src ≡ t = ap (take (length t)) f ∙ take_at t after (length t) refl in
-      let back : drop (length t) src ≡ after = ap (drop (length t)) f ∙ drop_at t after (length t) refl in (
+      let cut = cut_behind src t after f in (
         Malformed (length x) 0,
         length t,
         [],
         [],
-        record {
-          scalars = [];
-          are_scalars = refl;
-          out_is = refl;
-          fits = omega arith;
-          pending_before = before;
-          pending = inl refl;
-          answer = (
-            x,
-            refl,
-            within,
-            ap (λ xs. p ++ xs) front ∙ sym e,
-            refl,
-            refl,
-            subst (λ xs. IsBroken x xs last) (sym back) broken,
-            (λ some. omega (arith, enough some)),
-          );
-          pending_needs_room = λ _ some. enough (omega arith);
-        },
+        silent_call encode need before (inl refl) (λ _ some. enough (omega (arith, cut.0)))
+            (x, refl, cut.0, ap (λ xs. p ++ xs) cut.1 ∙ sym e, refl, refl, subst (λ xs. IsBroken x xs last) (sym cut.2) broken, (λ some. omega (arith, enough some))),
       )
 
   -- all is read, and a beginning is left
@@ -95,16 +75,7 @@ module _ {A : Type 0} (encode : ℕ → List A) (need : ℕ) (last : Bool) where
     length src,
     [],
     x,
-    record {
-      scalars = [];
-      are_scalars = refl;
-      out_is = refl;
-      fits = omega arith;
-      pending_before = before;
-      pending = inr o;
-      answer = (refl, e, (λ t. let clash : true ≡ false = sym t ∙ more in cc), λ _ some. omega (arith, enough some));
-      pending_needs_room = λ _ some. enough some;
-    },
+    silent_call encode need before (inr o) (λ _ some. enough some) (refl, e, (λ t. let clash : true ≡ false = sym t ∙ more in cc), λ _ some. omega (arith, enough some)),
   )
 
   broken_call : (p src t x after : List ℕ) (room : ℕ) → IsPending p → x ≡ p ++ t → src ≡ t ++ after → IsFirstPart (x ++ after) (Broken x) after → (0 < length src → need ≤ room) → HasCall p src room
@@ -117,25 +88,13 @@ module _ {A : Type 0} (encode : ℕ → List A) (need : ℕ) (last : Bool) where
   character_call : (p src t after : List ℕ) (c room : ℕ) → IsPending p → IsScalar c → encode_utf8 c ≡ p ++ t → src ≡ t ++ after → length (encode c) ≤ room → (p ≢ [] → need ≤ room)
       → HasCall [] after (room - length (encode c)) → HasCall p src room
   character_call p src t after c room before h e f fitting enough (result, read, out, q, call) =
-      let within : length t ≤ length src = omega (arith, ap length f, length-append t after) in
-      let front : take (length t) src ≡ t = ap (take (length t)) f ∙ take_at t after (length t) refl in
-      let back : drop (length t) src ≡ after = ap (drop (length t)) f ∙ drop_at t after (length t) refl in
-      let left : room - length (encode c) - length out ≡ room - length (encode c ++ out) = omega (arith, length-append (encode c) out) in (
+      let cut = cut_behind src t after f in (
         result,
         length t + read,
         encode c ++ out,
         q,
-        record {
-          scalars = c ∷ call.scalars;
-          are_scalars = and_from _ _ h call.are_scalars;
-          out_is = ap (λ xs. encode c ++ xs) call.out_is;
-          fits = let inside : length out ≤ room - length (encode c) = call.fits in omega (arith, length-append (encode c) out);
-          pending_before = before;
-          pending = call.pending;
-          answer = answer_behind encode need p src c (length t) call.scalars last result read _ _ q (ap (λ xs. p ++ xs) front ∙ sym e) within left
-              (subst (λ xs. Answers encode need [] xs last result read call.scalars (room - length (encode c) - length out) q) (sym back) call.answer);
-          pending_needs_room = λ some _. enough some;
-        },
+        call_behind encode need p src c (length t) room _ last result read out q before h (ap (λ xs. p ++ xs) cut.1 ∙ sym e) cut.0 fitting enough refl
+            (subst (λ xs. IsCall encode need [] xs (room - length (encode c)) last result read out q) (sym cut.2) call),
       )
 
   module _ (fits : (c : ℕ) → IsScalar c → length (encode c) ≤ need) where
@@ -146,16 +105,7 @@ module _ {A : Type 0} (encode : ℕ → List A) (need : ℕ) (last : Bool) where
       length src,
       [],
       [],
-      record {
-        scalars = [];
-        are_scalars = refl;
-        out_is = refl;
-        fits = omega arith;
-        pending_before = inl refl;
-        pending = inl refl;
-        answer = (refl, e, (λ _. refl), λ n _. absurd (n refl));
-        pending_needs_room = λ n _. absurd (n refl);
-      },
+      silent_call encode need (inl refl) (inl refl) (λ n _. absurd (n refl)) (refl, e, (λ _. refl), λ n _. absurd (n refl)),
     )
     neutral_call (Character c ∷ ps) src room (after, (h, e), more) = elim (cases_lt room (length (encode c))) [
       | inl short ↦ full_call [] src room (inl refl) (omega (arith, ap length e, length-append (encode_utf8 c) after, length-encode-some c)) (omega (arith, fits c h))

@@ -1,25 +1,22 @@
 -- For given pending bytes, source, room and mark a decode call has exactly one answer.
-use Rattle.std.proofs.Common.{◌≡◌, ◌≢◌, ℕ, ◌+◌, ◌-◌, ◌<◌, ◌≤◌, ◌⊎◌, inl, inr, Bool, true, List, [], ◌∷◌, ◌++◌, length, take, drop, encode_utf8, encode_utf8_all, refl, sym, ap, ◌∙◌, arith, subst}
+use Rattle.std.proofs.Common.{◌≡◌, ◌≢◌, ℕ, zero, suc, ◌+◌, ◌-◌, ◌<◌, ◌≤◌, ◌⊎◌, inl, inr, Bool, true, List, [], ◌∷◌, ◌++◌, length, take, drop, encode_utf8, encode_utf8_all, refl, sym, ap, ◌∙◌, arith, subst}
 use Rattle.std.specs.Char.{IsScalar}
 use Rattle.std.specs.Char.Escape.{encode_utf16}
 use Rattle.std.specs.Str.{all_scalars}
 use Rattle.std.specs.List.{flat_map}
-use Rattle.std.proofs.lemmas.Bool.{and_parts, cases_lt}
+use Rattle.std.proofs.lemmas.Bool.{and_parts}
 use Rattle.std.proofs.lemmas.List.{append-nil, append_assoc, append_cancel_left, length-append, length-drop, length-take, drop_all}
 use Rattle.std.proofs.lemmas.Grind.{flat_map-append}
 use Rattle.std.proofs.lemmas.Str.{encode_same}
 use Rattle.encoding_definitions.specs.Sequence.{IsBeginning}
-use Rattle.encoding_definitions.specs.Parts.{Broken, IsFirstPart}
 use Rattle.encoding_definitions.specs.Pending.{IsPending}
 use Rattle.encoding_text.specs.Decoding.{IsBroken, IsCall, Answers}
 use Rattle.encoding_text.specs.OneAnswer.{HasOneAnswer}
 use Rattle.encoding_text.specs.declared.decoder.DecoderResult.{DecoderResult}
 use Rattle.encoding_text.specs.declared.decoder.DecoderResult.TheVariants.{InputEmpty, OutputFull, Malformed}
 use Rattle.encoding_definitions.proofs.Sequences.EncodingLemmas.{IsSequence-encode, length-encode_utf8-le, length-encode_utf16-le}
-use Rattle.encoding_definitions.proofs.Decomposition.PartsLemmas.{first_open, same_first_part}
-use Rattle.encoding_text.proofs.Calls.DecodeLemmas.{broken_some}
-use Rattle.encoding_text.proofs.Calls.HasAnswerLemmas.{length-encode-some, no_character_pending, has_answer}
-use Rattle.encoding_text.proofs.Calls.CallPartsLemmas.{broken_first, FollowsOutput, call_read, call_bytes}
+use Rattle.encoding_text.proofs.Calls.HasAnswerLemmas.{length-encode-some, no_character_pending, no_characters_pending, has_answer}
+use Rattle.encoding_text.proofs.Calls.CallPartsLemmas.{broken_first, same_broken, pending_not_broken, FollowsOutput, call_read, call_bytes}
 
 -- ---- characters that begin the same bytes
 -- cs are all the characters of cs', and z the same bytes behind them, or else cs' has more of them, of which the first begins z
@@ -61,26 +58,11 @@ record Ended {A : Type 0} (encode : ℕ → List A) (need : ℕ) (p src : List �
   pub whole : p ++ take read src ≡ encode_utf8_all cs ++ y
 
 -- it read something, if it wrote a character
-has_read : (p src rest : List ℕ) (read c : ℕ) → IsPending p → IsScalar c → p ++ take read src ≡ encode_utf8 c ++ rest → 0 < read
-has_read p src rest read c pending h e = elim (cases_lt 0 read) [
-  | inl some ↦ some
-  | inr none ↦
-      let zero : read ≡ 0 = omega arith in
-      absurd (no_character_pending c rest p h pending (sym (append-nil p) ∙ sym (ap (λ n. p ++ take n src) zero) ∙ e))
-]
-
 wrote_some : (p src cs more y : List ℕ) (read c : ℕ) → IsPending p → all_scalars (cs ++ c ∷ more) ≡ true → p ++ take read src ≡ encode_utf8_all (cs ++ c ∷ more) ++ y → 0 < read
-wrote_some p src [] more y read c pending h e =
-    has_read p src (encode_utf8_all more ++ y) read c pending (and_parts _ _ h).0 (e ∙ append_assoc (encode_utf8 c) (encode_utf8_all more) y)
-wrote_some p src (b ∷ cs) more y read c pending h e =
-    has_read p src (encode_utf8_all (cs ++ c ∷ more) ++ y) read b pending (and_parts _ _ h).0 (e ∙ append_assoc (encode_utf8 b) (encode_utf8_all (cs ++ c ∷ more)) y)
-
-pub open_not_broken : (x : List ℕ) (last : Bool) → IsBeginning x → (last ≡ true → x ≡ []) → IsBroken x [] last → ⊥
-open_not_broken x last o ended (inl (b, e, n)) = n (inr (subst IsBeginning e o))
-open_not_broken x last o ended (inr (b, l)) = omega (arith, o.0, ap length (ended l))
-
-pub same_bytes : (x y : List ℕ) → Broken x ≡ Broken y → x ≡ y
-same_bytes x y e = cc
+wrote_some p src cs more y zero c pending h e =
+    let none = no_characters_pending (cs ++ c ∷ more) y p h pending (sym (append-nil p) ∙ e) in
+    absurd (omega (arith, ap length none, length-append cs (c ∷ more)))
+wrote_some p src cs more y (suc read) c pending h e = omega arith
 
 all_dropped : (src : List ℕ) (read : ℕ) → read ≡ length src → drop read src ≡ []
 all_dropped src read e = drop_all read src (omega (arith, e))
@@ -117,18 +99,8 @@ module _ {A : Type 0} (encode : ℕ → List A) (need : ℕ) (p src : List ℕ) 
         omega (arith, d'.answer.2)
 
     empty_malformed : (read read' : ℕ) (q q' y y' : List ℕ) (k second : ℕ) → End InputEmpty read q y → End (Malformed k second) read' q' y' → y ++ drop read src ≡ y' ++ drop read' src → ⊥
-    empty_malformed read read' q q' y y' k second d d' e = either d.pending
-      where
-        same : q ≡ y' ++ drop read' src
-        same = sym (append-nil q) ∙ (λ i. (sym d.follows) i ++ (sym (all_dropped src read d.answer.0)) i) ∙ e
-
-        either : IsPending q → ⊥
-        either (inl n) = omega (arith, ap length (sym n ∙ same), length-append y' (drop read' src), broken_some y' (drop read' src) last d'.follows.3)
-        either (inr o) =
-            let first = broken_first y' (drop read' src) last d'.follows.3 in
-            let one = same_first_part q (Broken q) [] (Broken y') (drop read' src) (first_open q o) (subst (λ xs. IsFirstPart xs (Broken y') (drop read' src)) (sym same) first) in
-            let broken : IsBroken q [] last = subst (λ xs. IsBroken q xs last) (sym one.1) (subst (λ xs. IsBroken xs (drop read' src) last) (sym (same_bytes q y' one.0)) d'.follows.3) in
-            open_not_broken q last o d.answer.2 broken
+    empty_malformed read read' q q' y y' k second d d' e =
+        pending_not_broken q y' (drop read' src) last d.pending d.answer.2 d'.follows.3 (sym (append-nil q) ∙ (λ i. (sym d.follows) i ++ (sym (all_dropped src read d.answer.0)) i) ∙ e)
 
     full_malformed : (read read' : ℕ) (q q' y y' : List ℕ) (k second : ℕ) → End OutputFull read q y → End (Malformed k second) read' q' y' → ⊥
     full_malformed read read' q q' y y' k second d d' =
@@ -187,10 +159,8 @@ module _ {A : Type 0} (encode : ℕ → List A) (need : ℕ) (p src : List ℕ) 
     malformed_malformed : (read read' : ℕ) (q q' y y' : List ℕ) (k second k' second' : ℕ) → End (Malformed k second) read q y → End (Malformed k' second') read' q' y'
         → y ++ drop read src ≡ y' ++ drop read' src → Same (Malformed k second) read q (Malformed k' second') read' q'
     malformed_malformed read read' q q' y y' k second k' second' d d' e =
-        let first = broken_first y (drop read src) last d.follows.3 in
-        let first' = broken_first y' (drop read' src) last d'.follows.3 in
-        let one = same_first_part (y ++ drop read src) (Broken y) (drop read src) (Broken y') (drop read' src) first (subst (λ xs. IsFirstPart xs (Broken y') (drop read' src)) (sym e) first') in
-        let count : k ≡ k' = sym d.follows.1 ∙ ap length (same_bytes y y' one.0) ∙ d'.follows.1 in
+        let one = same_broken y (drop read src) y' (drop read' src) last d.follows.3 d'.follows.3 e in
+        let count : k ≡ k' = sym d.follows.1 ∙ ap length one.0 ∙ d'.follows.1 in
         let zero : second ≡ second' = d.follows.0 ∙ sym d'.follows.0 in (
           (λ i. Malformed (count i) (zero i)),
           omega (arith, ap length one.1, length-drop read src, length-drop read' src, d.answer.2, d'.answer.2),

@@ -13,28 +13,15 @@ use Rattle.encoding_text.specs.Decoding.{IsBroken, IsBorrowedCall}
 use Rattle.encoding_text.specs.OneAnswer.{SayTheSame, HasOnePiece}
 use Rattle.encoding_text.specs.declared.decoder.Piece.{Piece}
 use Rattle.encoding_text.specs.declared.decoder.Piece.TheVariants.{Text, Char, Malformed, InputEmpty}
-use Rattle.encoding_definitions.proofs.Sequences.SequenceLemmas.{IsSequence-some}
 use Rattle.encoding_definitions.proofs.Sequences.EncodingLemmas.{IsSequence-encode}
 use Rattle.encoding_definitions.proofs.LongestFronts.Utf8Lemmas.{IsLongestFront-utf8}
 use Rattle.encoding_definitions.proofs.Decomposition.PartsLemmas.{fronts_nest, first_open, has_first_part, same_first_part}
 use Rattle.encoding_definitions.proofs.Decomposition.DecompositionLemmas.{has_parts}
-use Rattle.encoding_text.proofs.Calls.DecodeLemmas.{broken_some}
-use Rattle.encoding_text.proofs.Calls.CallPartsLemmas.{broken_first}
+use Rattle.encoding_text.proofs.Calls.CallPartsLemmas.{broken_first, same_broken, pending_not_broken}
 use Rattle.encoding_text.proofs.Calls.HasAnswerLemmas.{length-encode-some, no_character_pending, broken_or_open}
-use Rattle.encoding_text.proofs.Calls.OneAnswerLemmas.{open_not_broken, same_bytes}
+use Rattle.encoding_text.proofs.LongestFronts.ConvertingLemmas.{cut_behind, leading}
 
 -- ---- there is an answer
--- the characters of the longest well-formed front, and what is behind them
-abbrev HasText : List ℕ → Type 0
-HasText bs = (cs : List ℕ) × (rest : List ℕ) × (all_scalars cs ≡ true) × (bs ≡ encode_utf8_all cs ++ rest) × BeginsWithNoCharacter rest
-
-text_of : (bs : List ℕ) (ps : List Part) → ArePartsOf bs ps → HasText bs
-text_of bs [] e = ([], [], refl, e, λ front rest f s. omega (arith, ap length f, length-append front rest, IsSequence-some front s))
-text_of bs (Character c ∷ ps) (after, (h, e), more) =
-    let found = text_of after ps more in
-    (c ∷ found.0, found.1, and_from _ _ h found.2, e ∙ ap (λ xs. encode_utf8 c ++ xs) found.3 ∙ sym (append_assoc (encode_utf8 c) (encode_utf8_all found.0) found.1), found.4)
-text_of bs (Broken x ∷ ps) (after, f, more) = ([], bs, refl, refl, f.0)
-
 module _ (last : Bool) where
   abbrev HasPiece : List ℕ → List ℕ → Type 0
   HasPiece p src = (returned : Piece) × (read : ℕ) × (q : List ℕ) × IsBorrowedCall p src last returned read q
@@ -42,10 +29,8 @@ module _ (last : Bool) where
   -- the bytes t end the broken part that is first, or the source ends it
   broken_piece : (p src t after : List ℕ) → IsPending p → src ≡ t ++ after → IsFirstPart ((p ++ t) ++ after) (Broken (p ++ t)) after → HasPiece p src
   broken_piece p src t after pending e first =
-      let within : length t ≤ length src = omega (arith, ap length e, length-append t after) in
-      let front : take (length t) src ≡ t = ap (take (length t)) e ∙ take_at t after (length t) refl in
-      let back : drop (length t) src ≡ after = ap (drop (length t)) e ∙ drop_at t after (length t) refl in
-      let taken : p ++ take (length t) src ≡ p ++ t = ap (λ xs. p ++ xs) front in
+      let cut = cut_behind src t after e in
+      let taken : p ++ take (length t) src ≡ p ++ t = ap (λ xs. p ++ xs) cut.1 in
       elim (broken_or_open (p ++ t) after last first) [
         | inl broken ↦ (
           Malformed (length (p ++ t)),
@@ -54,7 +39,7 @@ module _ (last : Bool) where
           record {
             pending_before = pending;
             pending = inl refl;
-            answer = (within, ap length taken, refl, subst (λ xs. IsBroken xs (drop (length t) src) last) (sym taken) (subst (λ xs. IsBroken (p ++ t) xs last) (sym back) broken));
+            answer = (cut.0, ap length taken, refl, subst (λ xs. IsBroken xs (drop (length t) src) last) (sym taken) (subst (λ xs. IsBroken (p ++ t) xs last) (sym cut.2) broken));
           },
         )
         | inr (none, o, more) ↦
@@ -71,7 +56,7 @@ module _ (last : Bool) where
       ]
 
   -- with nothing pending
-  front_piece : (src : List ℕ) → HasText src → HasPiece [] src
+  front_piece : (src : List ℕ) → ((cs : List ℕ) × (rest : List ℕ) × (all_scalars cs ≡ true) × (src ≡ encode_utf8_all cs ++ rest) × BeginsWithNoCharacter rest) → HasPiece [] src
   front_piece src ([], rest, h, e, none) = by_bytes src (subst BeginsWithNoCharacter (sym e) none)
     where
       by_bytes : (bs : List ℕ) → BeginsWithNoCharacter bs → HasPiece [] bs
@@ -85,9 +70,7 @@ module _ (last : Bool) where
               broken_piece [] (b ∷ bs) x after (inl refl) whole (subst (λ xs. IsFirstPart xs (Broken x) after) whole (m, either))
   front_piece src (c ∷ cs, rest, h, e, none) =
       let text = encode_utf8_all (c ∷ cs) in
-      let front : take (length text) src ≡ text = ap (take (length text)) e ∙ take_at text rest (length text) refl in
-      let back : drop (length text) src ≡ rest = ap (drop (length text)) e ∙ drop_at text rest (length text) refl in
-      let within : length text ≤ length src = omega (arith, ap length e, length-append text rest) in (
+      let cut = cut_behind src text rest e in (
         Text (record { ref_ptr = (0, 0); now = text }),
         length text,
         [],
@@ -98,8 +81,8 @@ module _ (last : Bool) where
             refl,
             refl,
             omega (arith, length-append (encode_utf8 c) (encode_utf8_all cs), length-encode-some c),
-            sym front,
-            IsLongestFront-utf8 src (length text) within (subst IsUtf8 (sym front) (c ∷ cs, (h, refl))) (subst BeginsWithNoCharacter (sym back) none),
+            sym cut.1,
+            IsLongestFront-utf8 src (length text) cut.0 (subst IsUtf8 (sym cut.1) (c ∷ cs, (h, refl))) (subst BeginsWithNoCharacter (sym cut.2) none),
           );
         },
       )
@@ -108,14 +91,14 @@ module _ (last : Bool) where
   resumed_piece : (p src : List ℕ) → IsBeginning p → ((part : Part) × (after : List ℕ) × IsFirstPart (p ++ src) part after) → HasPiece p src
   resumed_piece p src b (Character c, after, (h, e)) = elim (fronts_nest p src (encode_utf8 c) after e) [
     | inl (t, f, g) ↦
-        let front : take (length t) src ≡ t = ap (take (length t)) g ∙ take_at t after (length t) refl in (
+        let cut = cut_behind src t after g in (
           Char c,
           length t,
           [],
           record {
             pending_before = inr b;
             pending = inl refl;
-            answer = ((λ n. omega (arith, ap length n, b.0)), refl, omega (arith, ap length g, length-append t after), h, ap (λ xs. p ++ xs) front ∙ sym f);
+            answer = ((λ n. omega (arith, ap length n, b.0)), refl, cut.0, h, ap (λ xs. p ++ xs) cut.1 ∙ sym f);
           },
         )
     | inr (t, f, g) ↦ absurd (no_character_pending c t p h (inr b) f)
@@ -130,7 +113,7 @@ module _ (last : Bool) where
   resumed_piece p src b (Broken x, after, (n, inr l)) = absurd (l.none p src refl b)
 
   has_piece : (p src : List ℕ) → IsPending p → HasPiece p src
-  has_piece p src (inl n) = let parts = has_parts src in subst (λ xs. HasPiece xs src) (sym n) (front_piece src (text_of src parts.0 parts.1))
+  has_piece p src (inl n) = let parts = has_parts src in subst (λ xs. HasPiece xs src) (sym n) (front_piece src (leading src parts.0 parts.1))
   has_piece p src (inr b) = resumed_piece p src b (has_first_part (p ++ src) (omega (arith, length-append p src, b.0)))
 
 -- ---- there is only one
@@ -164,21 +147,8 @@ module _ (p src : List ℕ) (last : Bool) where
   not_open read q (c, rest, h, e) call = no_character_pending c rest q h call.pending (call.answer.1 ∙ e)
 
   broken_not_open : (k read read' : ℕ) (q q' : List ℕ) → Call (Malformed k) read q → Call InputEmpty read' q' → ⊥
-  broken_not_open k read read' q q' call call' = either call'.pending
-    where
-      x : List ℕ
-      x = p ++ take read src
-
-      same : q' ≡ x ++ drop read src
-      same = call'.answer.1 ∙ split read
-
-      either : IsPending q' → ⊥
-      either (inl n) = omega (arith, ap length (sym n ∙ same), length-append x (drop read src), broken_some x (drop read src) last call.answer.3)
-      either (inr o) =
-          let first = broken_first x (drop read src) last call.answer.3 in
-          let one = same_first_part q' (Broken q') [] (Broken x) (drop read src) (first_open q' o) (subst (λ xs. IsFirstPart xs (Broken x) (drop read src)) (sym same) first) in
-          let broken : IsBroken q' [] last = subst (λ xs. IsBroken q' xs last) (sym one.1) (subst (λ xs. IsBroken xs (drop read src) last) (sym (same_bytes q' x one.0)) call.answer.3) in
-          open_not_broken q' last o call'.answer.2 broken
+  broken_not_open k read read' q q' call call' =
+      pending_not_broken q' (p ++ take read src) (drop read src) last call'.pending call'.answer.2 call.answer.3 (call'.answer.1 ∙ split read)
 
   of_text : (t : Bor (List ℕ)) (read : ℕ) (q : List ℕ) → Call (Text t) read q → Begins
   of_text t read q call =
@@ -214,11 +184,8 @@ module _ (p src : List ℕ) (last : Bool) where
   same_piece (Malformed k) (Malformed k') read read' q q' call call' =
       let x = p ++ take read src in
       let x' = p ++ take read' src in
-      let first = broken_first x (drop read src) last call.answer.3 in
-      let first' = broken_first x' (drop read' src) last call'.answer.3 in
-      let one = same_first_part (x ++ drop read src) (Broken x) (drop read src) (Broken x') (drop read' src) first
-      (subst (λ xs. IsFirstPart xs (Broken x') (drop read' src)) (sym (split read') ∙ split read) first') in (
-        sym call.answer.1 ∙ ap length (same_bytes x x' one.0) ∙ call'.answer.1,
+      let one = same_broken x (drop read src) x' (drop read' src) last call.answer.3 call'.answer.3 (sym (split read) ∙ split read') in (
+        sym call.answer.1 ∙ ap length one.0 ∙ call'.answer.1,
         same_read read read' call.answer.0 call'.answer.0 one.1,
         call.answer.2 ∙ sym call'.answer.2,
       )

@@ -14,11 +14,28 @@ use Rattle.encoding_definitions.specs.Parts.{Part, Character, Broken, BeginsWith
 use Rattle.encoding_definitions.specs.Fronts.{IsLongestFront, FitsLongest, WritesFront}
 use Rattle.encoding_definitions.specs.Converting.{IsText, ConvertsLongest, FittingBegins}
 use Rattle.encoding_text.specs.Steps.Converting.{Converted, ConvertsFront}
+use Rattle.encoding_definitions.proofs.Sequences.SequenceLemmas.{IsSequence-some}
 use Rattle.encoding_definitions.proofs.Sequences.EncodingLemmas.{IsSequence-encode, flat_map-encode_utf8, encodes_one}
 use Rattle.encoding_definitions.proofs.LongestFronts.FrontsLemmas.{WritesFront_after, WritesFront-length, WritesFront-same, put_mid-same, FitsLongest-all, FitsLongest-stop}
 use Rattle.encoding_definitions.proofs.LongestFronts.FittingLemmas.{flat_map_push}
 use Rattle.encoding_definitions.proofs.LongestFronts.Utf8Lemmas.{IsLongestFront-utf8, no_character_after}
 use Rattle.encoding_definitions.proofs.Decomposition.DecompositionLemmas.{has_parts}
+
+-- a list, cut behind its first items
+pub cut_behind : {X : Type 0} (xs front back : List X) → xs ≡ front ++ back → (length front ≤ length xs) × (take (length front) xs ≡ front) × (drop (length front) xs ≡ back)
+cut_behind xs front back e = (
+  omega (arith, ap length e, length-append front back),
+  ap (take (length front)) e ∙ take_at front back (length front) refl,
+  ap (drop (length front)) e ∙ drop_at front back (length front) refl,
+)
+
+-- the characters that begin bytes, up to where none does
+pub leading : (bs : List ℕ) (ps : List Part) → ArePartsOf bs ps → (cs : List ℕ) × (rest : List ℕ) × (all_scalars cs ≡ true) × (bs ≡ encode_utf8_all cs ++ rest) × BeginsWithNoCharacter rest
+leading bs [] e = ([], [], refl, e, λ front rest f s. omega (arith, ap length f, length-append front rest, IsSequence-some front s))
+leading bs (Character c ∷ ps) (after, (s, e), more) =
+    let r = leading after ps more in
+    (c ∷ r.0, r.1, and_from _ _ s r.2, e ∙ ap (λ xs. encode_utf8 c ++ xs) r.3 ∙ sym (append_assoc (encode_utf8 c) (encode_utf8_all r.0) r.1), r.4)
+leading bs (Broken x ∷ ps) (after, f, more) = ([], bs, refl, refl, f.0)
 
 -- ---- one more character
 pub all_scalars_more : (cs : List ℕ) (c : ℕ) → all_scalars cs ≡ true → IsScalar c → all_scalars (cs ++ c ∷ []) ≡ true
@@ -58,44 +75,21 @@ module _ {A : Type 0} (encode : ℕ → List A) where
   pub converted_room : {src : List ℕ} {old new : List A} {read written : ℕ} → Converted encode src old new read written → written ≤ length new
   converted_room {src} {old} {new} {read} {written} d = omega (arith, d.writes.fits, WritesFront-length old new written (flat_map encode d.scalars) d.writes)
 
-  -- where no character begins what is left
+  -- where no character that fits begins what is left
+  converted_stops : {src : List ℕ} {old new : List A} {read written : ℕ} → Converted encode src old new read written → (FittingBegins encode (drop read src) (length old - written) → ⊥)
+      → ConvertsFront encode src old new read written
+  converted_stops d n = record { scalars = d.scalars; are_scalars = d.are_scalars; within = d.within; spelled = d.spelled; writes = d.writes; stops = n }
+
   pub converted_stuck : (src : List ℕ) (old new : List A) (read written : ℕ) → Converted encode src old new read written → BeginsWithNoCharacter (drop read src)
       → ConvertsFront encode src old new read written
-  converted_stuck src old new read written d n = record {
-    scalars = d.scalars;
-    are_scalars = d.are_scalars;
-    within = d.within;
-    spelled = d.spelled;
-    writes = d.writes;
-    stops = λ (c, rest, s, e, f). n (encode_utf8 c) rest e (IsSequence-encode c s);
-  }
+  converted_stuck src old new read written d n = converted_stops d (λ (c, rest, s, e, f). n (encode_utf8 c) rest e (IsSequence-encode c s))
 
-  -- where the character that begins what is left doesn't fit
   pub converted_full : (src : List ℕ) (old new : List A) (read written c : ℕ) (rest : List ℕ) → Converted encode src old new read written → IsScalar c
       → drop read src ≡ encode_utf8 c ++ rest → length old - written < length (encode c) → ConvertsFront encode src old new read written
-  converted_full src old new read written c rest d s e l = record {
-    scalars = d.scalars;
-    are_scalars = d.are_scalars;
-    within = d.within;
-    spelled = d.spelled;
-    writes = d.writes;
-    stops = λ (b, more, t, f, g). let same = encode_same c b rest more (sym e ∙ f) in omega (arith, l, subst (λ k. length (encode k) ≤ length old - written) (sym same.0) g);
-  }
+  converted_full src old new read written c rest d s e l =
+      converted_stops d (λ (b, more, t, f, g). let same = encode_same b c more rest (sym f ∙ e) in omega (arith, l, g, ap (λ k. length (encode k)) same.0))
 
   -- ---- the longest front that fits
-  -- the characters that begin bytes, up to where none does
-  leading : (bs : List ℕ) (ps : List Part) → ArePartsOf bs ps
-      → (cs : List ℕ) × (rest : List ℕ) × (all_scalars cs ≡ true) × (bs ≡ encode_utf8_all cs ++ rest) × BeginsWithNoCharacter rest
-  leading bs [] e = ([], [], refl, e, none)
-    where
-      none : BeginsWithNoCharacter []
-      none [] rest f s = cc
-      none (x ∷ xs) rest f s = cc
-  leading bs (Character c ∷ ps) (after, (s, e), more) =
-      let r = leading after ps more in
-      (c ∷ r.0, r.1, and_from _ _ s r.2, e ∙ ap (λ xs. encode_utf8 c ++ xs) r.3 ∙ sym (append_assoc (encode_utf8 c) (encode_utf8_all r.0) r.1), r.4)
-  leading bs (Broken x ∷ ps) (after, f, more) = ([], bs, refl, refl, f.0)
-
   -- all the characters of the well-formed front: those that were read, and more
   whole_text : (src cs : List ℕ) (read : ℕ) → all_scalars cs ≡ true → read ≤ length src → encode_utf8_all cs ≡ take read src
       → (more : List ℕ) × IsText src (cs ++ more) × (rest : List ℕ) × (all_scalars more ≡ true) × (drop read src ≡ encode_utf8_all more ++ rest)
@@ -108,11 +102,9 @@ module _ {A : Type 0} (encode : ℕ → List A) where
       sym (take-append-drop read src) ∙ (λ i. (sym e) i ++ r.3 i) ∙ sym (append_assoc (encode_utf8_all cs) (encode_utf8_all r.0) r.1)
       ∙ ap (λ xs. xs ++ r.1) (sym (encodes-append cs r.0)) in
       let scalars : all_scalars all ≡ true = scalars-append cs r.0 h r.2 in
-      let front : take (length text) src ≡ text = ap (take (length text)) whole ∙ take_at text r.1 (length text) refl in
-      let back : drop (length text) src ≡ r.1 = ap (drop (length text)) whole ∙ drop_at text r.1 (length text) refl in
-      let longest = IsLongestFront-utf8 src (length text) (omega (arith, ap length whole, length-append text r.1)) (subst IsUtf8 (sym front) (all, (scalars, refl)))
-      (subst BeginsWithNoCharacter (sym back) r.4) in
-      (r.0, record { valid = length text; front = longest; are_scalars = scalars; spelled = sym front }, r.1, r.2, r.3)
+      let cut = cut_behind src text r.1 whole in
+      let longest = IsLongestFront-utf8 src (length text) cut.0 (subst IsUtf8 (sym cut.1) (all, (scalars, refl))) (subst BeginsWithNoCharacter (sym cut.2) r.4) in
+      (r.0, record { valid = length text; front = longest; are_scalars = scalars; spelled = sym cut.1 }, r.1, r.2, r.3)
 
   fits_longest : (src cs more rest : List ℕ) (old : List A) (read written : ℕ) → encode_utf8_all cs ≡ take read src → read ≤ length src
       → length (flat_map encode cs) ≡ written → written ≤ length old → all_scalars more ≡ true → drop read src ≡ encode_utf8_all more ++ rest
