@@ -10,7 +10,7 @@ use Rattle.std.proofs.lemmas.List.Elements.{recursion_from_All}
 use Rattle.encoding_text.specs.Decoding.{IsCall, Answers, IsReport}
 use Rattle.encoding_text.specs.declared.decoder.DecoderResult.{DecoderResult}
 use Rattle.encoding_text.specs.declared.decoder.DecoderResult.TheVariants.{InputEmpty, OutputFull, Malformed}
-use Rattle.encoding_text.proofs.Calls.RoomLemmas.{counts, progress_of}
+use Rattle.encoding_text.proofs.Calls.RoomLemmas.{counts, progress}
 use Rattle.encoding_runs.specs.declared.run.turns.Turn.{Turn}
 use Rattle.encoding_runs.specs.Turns.{room_of, is_marked_last}
 use Rattle.encoding_runs.specs.Calls.{Call, IsChain}
@@ -39,40 +39,28 @@ module _ {A : Type 0} (encode : ℕ → List A) (need : ℕ) (some : 0 < need) (
   gets_on : (p unread : List ℕ) (room : ℕ) (turn : Turn) (result : DecoderResult) (read : ℕ) (out : List A) (q : List ℕ)
       → 1 ≤ turn.take → need ≤ turn.room → turn.last ≡ true → length unread + (need - 1) + length p ≤ room
       → IsCall encode need p (take turn.take unread) (room_of turn room) (is_marked_last turn (length unread)) result read out q → GetsOn p unread result read q
-  gets_on p unread room turn result read out q one wide last l call = by_answer result call.answer
-    where
-      piece : List ℕ
-      piece = take turn.take unread
-
-      on : (r : DecoderResult) → Answers encode need p piece (is_marked_last turn (length unread)) r read call.scalars (room_of turn room - length out) q
-          → 0 < length piece → (0 < read) ⊎ IsReport r
-      on r a h = progress_of encode need p piece (room_of turn room) (is_marked_last turn (length unread)) r read call.scalars out q call.pending_before call.are_scalars call.out_is a h
-          (omega (arith, length-take turn.take unread))
-
-      by_answer : (r : DecoderResult) → Answers encode need p piece (is_marked_last turn (length unread)) r read call.scalars (room_of turn room - length out) q → GetsOn p unread r read q
-      by_answer InputEmpty a = elim (cases_lt 0 (length unread)) [
-        | inl h ↦ inl (omega (arith, a.0, length-take turn.take unread))
-        | inr h ↦ inr (inr (refl, a.2 (marked turn (length unread) last (omega arith)), omega arith))
-      ]
-      by_answer OutputFull a = elim (on OutputFull a (omega (arith, a.0))) [
+  gets_on p unread room turn InputEmpty read out q one wide last l call = elim (cases_lt 0 (length unread)) [
+    | inl h ↦ inl (omega (arith, call.answer.0, length-take turn.take unread))
+    | inr h ↦ inr (inr (refl, call.answer.2 (marked turn (length unread) last (omega arith)), omega arith))
+  ]
+  gets_on p unread room turn OutputFull read out q one wide last l call =
+      elim (progress OutputFull call (omega (arith, call.answer.0)) (omega (arith, call.answer.0, length-take turn.take unread))) [
         | inl h ↦ inl h
         | inr (k, second, e) ↦ let no : OutputFull ≡ Malformed k second = e in cc
       ]
-      by_answer (Malformed k second) a = elim (cases_lt 0 read) [
-        | inl h ↦ inl h
-        | inr h ↦
-            let c = counts encode need p piece (is_marked_last turn (length unread)) (Malformed k second) read call.scalars (room_of turn room - length out) q a in
-            inr (inl (a.5, omega (arith, (c.reported (k, second, refl)).0)))
-      ]
+  gets_on p unread room turn (Malformed k second) read out q one wide last l call = elim (cases_lt 0 read) [
+    | inl h ↦ inl h
+    | inr h ↦ let c = counts short_output (Malformed k second) call in inr (inl (call.answer.5, omega (arith, (c.reported (k, second, refl)).0)))
+  ]
 
   -- what is left of the room suffices for what is left of the bytes
   room_after : (p unread : List ℕ) (room : ℕ) (turn : Turn) (last : Bool) (result : DecoderResult) (read : ℕ) (out : List A) (q : List ℕ)
       → length unread + (need - 1) + length p ≤ room → IsCall encode need p (take turn.take unread) (room_of turn room) last result read out q
       → (read ≤ length unread) × (length (drop read unread) + (need - 1) + length q ≤ room - length out)
   room_after p unread room turn last result read out q l call =
-      let c = counts encode need p (take turn.take unread) last result read call.scalars (room_of turn room - length out) q call.answer in
+      let c = counts short_output result call in
       let inside : read ≤ length unread = omega (arith, c.within, length-take turn.take unread) in
-      (inside, omega (arith, l, inside, c.split, short_output call.scalars call.are_scalars, ap length call.out_is, length-drop read unread))
+      (inside, omega (arith, l, inside, c.split, length-drop read unread))
 
   -- ---- all calls
   -- turns enough are left, where one more is counted for pending bytes; or the end is reached
