@@ -22,19 +22,7 @@ use Rattle.encoding_runs.specs.Blocks.{IsBlockRepair, RepairTheParts, replaced_i
 use Rattle.encoding_runs.specs.Calls.{Call, IsChain, output_of}
 use Rattle.encoding_runs.specs.DecoderCalls.{AreGivenInSequence, GiveTheParts}
 use Rattle.encoding_runs.specs.Repairs.{IsRepairedWith}
-use Rattle.encoding_runs.proofs.ChainLemmas.{chain_gives}
-
--- what a call gives, and what the next one gives of the rest
-gives_then : (p src : List ℕ) (last : Bool) (ps qs : List Part) (r s : ℕ) (q t : List ℕ) → Gives p src last ps r q → Gives q (drop r src) last qs s t → Gives p src last (ps ++ qs) (r + s) t
-gives_then p src last ps qs r s q t g h = record {
-  within = omega (arith, g.within, h.within, length-drop r src);
-  first = subst (λ xs. StartsWith (p ++ src) (ps ++ qs) (t ++ xs)) (drop-drop s r src)
-      (StartsWith-append (p ++ src) ps (q ++ drop r src) qs (t ++ drop s (drop r src)) g.first h.first);
-  pending = h.pending;
-  whatever_follows = λ e more.
-      subst (λ xs. StartsWith (p ++ src ++ more) (ps ++ qs) (t ++ xs ++ more)) (drop-drop s r src)
-      (StartsWith-append (p ++ src ++ more) ps (q ++ drop r src ++ more) qs (t ++ drop s (drop r src) ++ more) (g.whatever_follows e more) (h.whatever_follows e more));
-}
+use Rattle.encoding_runs.proofs.ChainLemmas.{chain_gives, gives_then}
 
 -- parts are given, and the text of all but the reported ones among them is written
 pub record BlockText (p src : List ℕ) (last : Bool) (old new : List ℕ) (read written replaced : ℕ) (q : List ℕ) (reported : List Part) : Type 0 where
@@ -79,7 +67,7 @@ module _ (p src : List ℕ) (last : Bool) (old new sub : List ℕ) (read written
         is,
         record {
           parts = done ++ map Character cs;
-          given = subst (λ ps. Gives p src last ps (read + bytes) t) whole (gives_then p src last done more read bytes q t before g);
+          given = subst (λ ps. Gives p src last ps (read + bytes) t) whole (gives_then p src last last last done more read bytes q t (λ e. (e, e)) before g);
           writes = WritesFront-same _ _ _ _ _ _ (WritesFront_after old new written (repaired_text done) sub units out d.writes w) refl
               (ap (λ xs. repaired_text done ++ xs) (out_is ∙ flat_map-encode_utf8 cs ∙ sym (repaired_text-characters cs)) ∙ sym (repaired_text-append done (map Character cs)));
           broken = omega (arith, d.broken, count_broken-append done (map Character cs), count_broken-characters cs);

@@ -1,5 +1,5 @@
 -- A chain of a decoder's calls gives what one call gives: the first parts of what was pending and of the bytes.
-use Rattle.std.proofs.Common.{◌≡◌, ℕ, zero, suc, ◌≤◌, ◌⊎◌, inl, inr, Bool, true, false, List, [], ◌∷◌, ◌++◌, length, take, drop, refl, sym, ap, ◌∙◌, arith, subst}
+use Rattle.std.proofs.Common.{◌≡◌, ℕ, zero, suc, ◌+◌, ◌≤◌, ◌⊎◌, inl, inr, Bool, true, false, List, [], ◌∷◌, ◌++◌, length, take, drop, refl, sym, ap, ◌∙◌, arith, subst}
 use Rattle.std.specs.Prelude.{Any}
 use Rattle.std.specs.List.{flat_map}
 use Rattle.std.proofs.lemmas.Bool.{or_parts}
@@ -38,6 +38,27 @@ first_whatever_follows p b n last parts read q g e more =
     (subst (λ xs. StartsWith (front ++ (drop n b ++ more)) parts xs) (sym (append_assoc back (drop n b) more) ∙ ap (λ xs. xs ++ more) (unread_bytes q b n read g.within))
     (g.whatever_follows e (drop n b ++ more)))
 
+of_piece : (p b : List ℕ) (n : ℕ) (last : Bool) (parts : List Part) (read : ℕ) (q : List ℕ) → Gives p (take n b) last parts read q → (last ≡ true → length b ≤ n) → Gives p b last parts read q
+of_piece p b n last parts read q g whole = record {
+  within = omega (arith, g.within, length-take n b);
+  first = first_of_all p b n last parts read q g whole;
+  pending = g.pending;
+  whatever_follows = first_whatever_follows p b n last parts read q g;
+}
+
+-- what a call gives, and what the next one gives of the rest
+pub gives_then : (p src : List ℕ) (last next both : Bool) (ps qs : List Part) (r s : ℕ) (q t : List ℕ) → (both ≡ false → (last ≡ false) × (next ≡ false)) → Gives p src last ps r q
+    → Gives q (drop r src) next qs s t → Gives p src both (ps ++ qs) (r + s) t
+gives_then p src last next both ps qs r s q t none g h = record {
+  within = omega (arith, g.within, h.within, length-drop r src);
+  first = subst (λ xs. StartsWith (p ++ src) (ps ++ qs) (t ++ xs)) (drop-drop s r src)
+      (StartsWith-append (p ++ src) ps (q ++ drop r src) qs (t ++ drop s (drop r src)) g.first h.first);
+  pending = h.pending;
+  whatever_follows = λ e more.
+      subst (λ xs. StartsWith (p ++ src ++ more) (ps ++ qs) (t ++ xs ++ more)) (drop-drop s r src)
+      (StartsWith-append (p ++ src ++ more) ps (q ++ drop r src ++ more) qs (t ++ drop s (drop r src) ++ more) (g.whatever_follows (none e).0 more) (h.whatever_follows (none e).1 more));
+}
+
 -- the bytes of what is given, and those that are pending then, are those that were pending and those read
 pub given_bytes : (p src : List ℕ) (parts : List Part) (read : ℕ) (q : List ℕ) → StartsWith (p ++ src) parts (q ++ drop read src)
     → flat_map bytes_of parts ++ q ≡ p ++ take read src
@@ -72,49 +93,21 @@ module _ {Form Result A : Type 0} (Does : CallRelation Form Result A) (AreGiven 
   chain_given : (p b : List ℕ) (calls : List (Call Form Result A)) → IsPending p → IsChain Does p b calls → Given p b calls
   chain_given p b [] h c = record { parts = []; in_sequence = refl; front = record { within = omega arith; first = refl; pending = h; whatever_follows = λ e more. refl } }
   chain_given p b (call ∷ calls) h (does, whole, c) =
-      let after = drop call.read b in
-      let q = pending_after call.pending calls in
-      let all = read_in_all calls in
       let (first, are, g) = gives p (take call.piece b) call.form call.last call.result call.read call.out call.pending does in
-      let rest = chain_given call.pending after calls g.pending c in
-      let others = rest.parts in
+      let rest = chain_given call.pending (drop call.read b) calls g.pending c in
       record {
-        parts = first ++ others;
-        in_sequence = (first, others, are, rest.in_sequence, refl);
-        front = record {
-          within = omega (arith, rest.front.within, length-drop call.read b, g.within, length-take call.piece b);
-          first = subst (λ xs. StartsWith (p ++ b) (first ++ others) (q ++ xs)) (drop-drop all call.read b)
-              (StartsWith-append (p ++ b) first (call.pending ++ after) others (q ++ drop all after)
-              (first_of_all p b call.piece call.last first call.read call.pending g whole) rest.front.first);
-          pending = rest.front.pending;
-          whatever_follows = λ e more.
-              let none = or_parts call.last (some_last calls) e in
-              subst (λ xs. StartsWith (p ++ b ++ more) (first ++ others) (q ++ xs ++ more)) (drop-drop all call.read b)
-              (StartsWith-append (p ++ b ++ more) first (call.pending ++ after ++ more) others (q ++ drop all after ++ more)
-              (first_whatever_follows p b call.piece call.last first call.read call.pending g none.0 more) (rest.front.whatever_follows none.1 more));
-        };
+        parts = first ++ rest.parts;
+        in_sequence = (first, rest.parts, are, rest.in_sequence, refl);
+        front = gives_then p b call.last (some_last calls) _ first rest.parts call.read (read_in_all calls) call.pending _ (or_parts call.last (some_last calls))
+            (of_piece p b call.piece call.last first call.read call.pending g whole) rest.front;
       }
 
   -- with nothing pending and nothing unread calls give nothing
   nothing_left : (p b : List ℕ) (calls : List (Call Form Result A)) → p ≡ [] → length b ≡ 0 → IsChain Does p b calls → (read_in_all calls ≡ 0) × (pending_after p calls ≡ [])
-  nothing_left p b [] e n c = (refl, e)
-  nothing_left p b (call ∷ calls) e n (does, whole, c) =
-      let piece = take call.piece b in
-      let (first, are, g) = gives p piece call.form call.last call.result call.read call.out call.pending does in
-      let behind = call.pending ++ drop call.read piece in
-      let bytes = StartsWith-bytes (p ++ piece) first behind g.first in
-      let size : length call.pending ≡ 0 = omega (
-        arith,
-        ap length bytes,
-        length-append p piece,
-        ap length e,
-        n,
-        length-take call.piece b,
-        length-append (flat_map bytes_of first) behind,
-        length-append call.pending (drop call.read piece),
-      ) in
-      let rest = nothing_left call.pending (drop call.read b) calls (nil_from_length call.pending size) (omega (arith, n, length-drop call.read b)) c in
-      (omega (arith, rest.0, g.within, n, length-take call.piece b), rest.1)
+  nothing_left p b calls e n c =
+      let given = chain_given p b calls (inl e) c in
+      let bytes = given_bytes p b given.parts (read_in_all calls) (pending_after p calls) given.front.first in
+      (omega (arith, given.front.within), nil_from_length _ (omega (arith, ap length bytes, ap length e, length-append p (take (read_in_all calls) b), length-append (flat_map bytes_of given.parts) (pending_after p calls), length-take (read_in_all calls) b)))
 
   -- ---- to the end of the bytes, by a call that is marked last and reads all, leaving nothing pending
   module _ (IsInputEmpty : Result → Type 0)
