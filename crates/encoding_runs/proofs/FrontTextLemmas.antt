@@ -1,7 +1,6 @@
 -- The front of a source, repaired into an array step by step, and written then.
 use Rattle.std.proofs.Common.{◌≡◌, ℕ, ◌+◌, ◌<◌, ◌≤◌, Bool, false, inl, List, [], ◌∷◌, ◌++◌, length, take, drop, slice_index, Option, encode_utf8, encode_utf8_all, map, add-zero, refl, sym, ap, ◌∙◌, arith, subst}
 use Rattle.std.specs.Io.KnownBytes.{Appends}
-use Rattle.std.proofs.KnownBytes.{Appends-trans}
 use Rattle.std.proofs.lemmas.List.{append-nil, append_assoc, drop-drop, drop-append-le, drop_more, length-append, length-drop, length-take, take-append-drop, take-append-le, take-take}
 use Rattle.std.proofs.Math.Seq.{take-append-add, take-append_seam}
 use borrow.Rule.Slice.PartMut.{put_mid, post_of}
@@ -17,11 +16,10 @@ use Rattle.encoding_text.specs.Decoding.{IsBroken, IsBorrowedCall}
 use Rattle.encoding_text.specs.declared.decoder.Piece.{Piece}
 use Rattle.encoding_text.specs.declared.decoder.Piece.TheVariants.{Text, Char, Malformed, InputEmpty}
 use Rattle.encoding_text.proofs.Calls.BorrowedLemmas.{borrowed_gives}
-use Rattle.encoding_runs.specs.Repairs.{IsProperFront}
 use Rattle.encoding_runs.specs.Steps.Writing.{text_of, broken_of, AreFirst, WritesParts, StopsInParts}
 use Rattle.encoding_runs.specs.Steps.Fronts.{RepairsFirst}
 use Rattle.encoding_runs.proofs.SettledLemmas.{AreFirst-trans}
-use Rattle.encoding_runs.proofs.RepairLemmas.{GivesPiece, piece_gives, nothing_pending, wrote_more, wrote_piece, front_behind, proper_front}
+use Rattle.encoding_runs.proofs.RepairLemmas.{GivesPiece, piece_gives, nothing_pending, wrote_then, wrote_piece, stopped_in, stopped_then}
 
 -- nothing
 pub first_none : (src array : List ℕ) → RepairsFirst src array 0 0 0
@@ -202,20 +200,14 @@ any_first last bs parts rest f = record { starts = f.starts; whatever_follows = 
 pub wrote_front : (last : Bool) (bs rest array : List ℕ) (old new now : Option (List ℕ)) (n read written m : ℕ) → WritesParts last bs rest old new n → RepairsFirst rest array read written m
     → Appends new now (take written array) → WritesParts last bs (drop read rest) old now (n + m)
 wrote_front last bs rest array old new now n read written m w r a =
-    let more = wrote_more last bs rest (drop read rest) old new now n r.parts w (any_first last rest r.parts (drop read rest) r.first) (subst (Appends new now) r.text a) in
-    record { parts = more.parts; first = more.first; bytes = more.bytes; broken = omega (arith, more.broken, r.broken) }
+    wrote_then last bs rest (drop read rest) old new now n m w
+    (record { parts = r.parts; first = any_first last rest r.parts (drop read rest) r.first; bytes = subst (Appends new now) r.text a; broken = r.broken })
 
 -- some of it is
 pub stopped_front : (last : Bool) (bs rest array : List ℕ) (old new now : Option (List ℕ)) (n read written m k : ℕ) → WritesParts last bs rest old new n → RepairsFirst rest array read written m
     → k < length (take written array) → Appends new now (take k (take written array)) → StopsInParts last bs old now
-stopped_front last bs rest array old new now n read written m k w r short a = record {
-  parts = w.parts ++ r.parts;
-  rest = drop read rest;
-  first = AreFirst-trans last bs w.parts rest r.parts (drop read rest) w.first (any_first last rest r.parts (drop read rest) r.first);
-  out = repaired_text w.parts ++ take k (take written array);
-  less = front_behind w.parts r.parts (take k (take written array)) (subst (IsProperFront (take k (take written array))) r.text (proper_front k (take written array) short));
-  bytes = Appends-trans _ _ _ _ _ w.bytes a;
-}
+stopped_front last bs rest array old new now n read written m k w r short a =
+    stopped_then last bs rest old new now n w (stopped_in last rest r.parts (drop read rest) (take written array) new now k (any_first last rest r.parts (drop read rest) r.first) r.text short a)
 
 -- ---- a piece, and the front behind it
 -- nothing is pending behind a piece

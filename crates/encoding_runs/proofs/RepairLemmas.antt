@@ -10,9 +10,9 @@ use Rattle.encoding_definitions.specs.Pending.{IsPending}
 use Rattle.encoding_definitions.proofs.Sequences.SequenceLemmas.{length-IsBeginning}
 use Rattle.encoding_definitions.specs.Parts.{Part, Character, StartsWith, repaired_text, count_broken}
 use Rattle.encoding_text.specs.Decoding.{IsBorrowedCall}
+use Rattle.encoding_text.specs.GivenParts.{AreBorrowed}
 use Rattle.encoding_text.specs.declared.decoder.Piece.{Piece}
 use Rattle.encoding_text.specs.declared.decoder.Piece.TheVariants.{Text, Char, Malformed, InputEmpty}
-use Rattle.encoding_definitions.specs.Giving.{Gives}
 use Rattle.encoding_text.proofs.Calls.BorrowedLemmas.{borrowed_gives}
 use Rattle.encoding_definitions.proofs.Decomposition.DecompositionLemmas.{StartsWith-append, StartsWith-characters, has_parts, repaired_text-append, repaired_text-characters, count_broken-append, count_broken-characters, count_broken-bytes}
 use Rattle.encoding_runs.specs.Repairs.{IsProperFront, WritesRepaired, Stops}
@@ -26,42 +26,30 @@ pub record GivesPiece (p src : List ℕ) (last : Bool) (piece : Piece) (read : �
   pub text : repaired_text parts ≡ text_of piece
   pub broken : count_broken parts ≡ broken_of piece
 
--- by its parts
-gives_of : (p src : List ℕ) (last : Bool) (piece : Piece) (read : ℕ) (q : List ℕ) (parts : List Part) → Gives p src last parts read q → repaired_text parts ≡ text_of piece
-    → count_broken parts ≡ broken_of piece → GivesPiece p src last piece read q
-gives_of p src last piece read q parts g text broken = record {
-  parts = parts;
-  first = record { starts = g.first; whatever_follows = g.whatever_follows };
-  text = text;
-  broken = broken;
-}
+given_text : (p src : List ℕ) (last : Bool) (piece : Piece) (read : ℕ) (q : List ℕ) (parts : List Part) → IsBorrowedCall p src last piece read q → AreBorrowed piece parts
+    → (repaired_text parts ≡ text_of piece) × (count_broken parts ≡ broken_of piece)
+unfolding encode
+given_text p src last (Text t) read q parts call are =
+    let spelled = encodes-chars t.now (subst IsUtf8 (sym call.answer.3) call.answer.4.kind) in
+    (ap repaired_text are ∙ repaired_text-characters (chars t.now) ∙ spelled, ap count_broken are ∙ count_broken-characters (chars t.now))
+given_text p src last (Char c) read q parts call are = (ap repaired_text are ∙ append-nil (encode_utf8 c), ap count_broken are)
+given_text p src last (Malformed k) read q parts call (x, are, size) = (ap repaired_text are, ap count_broken are)
+given_text p src last InputEmpty read q parts call are = (ap repaired_text are, ap count_broken are)
 
 pub piece_gives : (p src : List ℕ) (last : Bool) (piece : Piece) (read : ℕ) (q : List ℕ) → IsBorrowedCall p src last piece read q → GivesPiece p src last piece read q
-unfolding encode
-piece_gives p src last (Text t) read q call =
-    let (parts, are, g) = borrowed_gives p src last (Text t) read q call in
-    let (neutral, none, some, bytes, front) = call.answer in
-    let spelled : encode_utf8_all (chars t.now) ≡ t.now = encodes-chars t.now (subst IsUtf8 (sym bytes) front.kind) in
-    gives_of p src last (Text t) read q parts g (ap repaired_text are ∙ repaired_text-characters (chars t.now) ∙ spelled) (ap count_broken are ∙ count_broken-characters (chars t.now))
-piece_gives p src last (Char c) read q call =
-    let (parts, are, g) = borrowed_gives p src last (Char c) read q call in
-    gives_of p src last (Char c) read q parts g (ap repaired_text are ∙ append-nil (encode_utf8 c)) (ap count_broken are)
-piece_gives p src last (Malformed k) read q call =
-    let (parts, (x, are, size), g) = borrowed_gives p src last (Malformed k) read q call in
-    gives_of p src last (Malformed k) read q parts g (ap repaired_text are) (ap count_broken are)
-piece_gives p src last InputEmpty read q call =
-    let (parts, are, g) = borrowed_gives p src last InputEmpty read q call in
-    gives_of p src last InputEmpty read q parts g (ap repaired_text are) (ap count_broken are)
+piece_gives p src last piece read q call =
+    let (parts, are, g) = borrowed_gives p src last piece read q call in
+    let t = given_text p src last piece read q parts call are in
+    record { parts = parts; first = record { starts = g.first; whatever_follows = g.whatever_follows }; text = t.0; broken = t.1 }
 
 -- ---- what is written
--- more parts are written
-pub wrote_more : (last : Bool) (bs mid rest : List ℕ) (old new now : Option (List ℕ)) (n : ℕ) (more : List Part) → WritesParts last bs mid old new n → AreFirst last mid more rest
-    → Appends new now (repaired_text more) → WritesParts last bs rest old now (n + count_broken more)
-wrote_more last bs mid rest old new now n more w f a = record {
-  parts = w.parts ++ more;
-  first = AreFirst-trans last bs w.parts mid more rest w.first f;
-  bytes = subst (Appends old now) (sym (repaired_text-append w.parts more)) (Appends-trans _ _ _ _ _ w.bytes a);
-  broken = omega (arith, w.broken, count_broken-append w.parts more);
+-- more parts are written behind them
+pub wrote_then : (last : Bool) (bs mid rest : List ℕ) (old new now : Option (List ℕ)) (n m : ℕ) → WritesParts last bs mid old new n → WritesParts last mid rest new now m → WritesParts last bs rest old now (n + m)
+wrote_then last bs mid rest old new now n m w v = record {
+  parts = w.parts ++ v.parts;
+  first = AreFirst-trans last bs w.parts mid v.parts rest w.first v.first;
+  bytes = subst (Appends old now) (sym (repaired_text-append w.parts v.parts)) (Appends-trans _ _ _ _ _ w.bytes v.bytes);
+  broken = omega (arith, w.broken, v.broken, count_broken-append w.parts v.parts);
 }
 
 -- a front of the text of more parts
@@ -69,16 +57,34 @@ pub front_behind : (ps qs : List Part) (out : List ℕ) → IsProperFront out (r
 front_behind ps qs out (left, some, whole) =
     (left, some, repaired_text-append ps qs ∙ ap (λ xs. repaired_text ps ++ xs) whole ∙ sym (append_assoc (repaired_text ps) out left))
 
-pub proper_front : (k : ℕ) (text : List ℕ) → k < length text → IsProperFront (take k text) text
-proper_front k text short = (drop k text, (λ none. omega (arith, ap length none, length-drop k text)), sym (take-append-drop k text))
+-- less than the text of more parts is written, and of all of them
+pub stopped_in : (last : Bool) (bs : List ℕ) (parts : List Part) (rest text : List ℕ) (old new : Option (List ℕ)) (k : ℕ) → AreFirst last bs parts rest → text ≡ repaired_text parts → k < length text → Appends old new (take k text)
+    → StopsInParts last bs old new
+stopped_in last bs parts rest text old new k f e short a = record {
+  parts = parts;
+  rest = rest;
+  first = f;
+  out = take k text;
+  less = (drop k text, (λ none. omega (arith, ap length none, length-drop k text)), sym e ∙ sym (take-append-drop k text));
+  bytes = a;
+}
+
+pub stopped_then : (last : Bool) (bs mid : List ℕ) (old new now : Option (List ℕ)) (n : ℕ) → WritesParts last bs mid old new n → StopsInParts last mid new now → StopsInParts last bs old now
+stopped_then last bs mid old new now n w s = record {
+  parts = w.parts ++ s.parts;
+  rest = s.rest;
+  first = AreFirst-trans last bs w.parts mid s.parts s.rest w.first s.first;
+  out = repaired_text w.parts ++ s.out;
+  less = front_behind w.parts s.parts s.out s.less;
+  bytes = Appends-trans _ _ _ _ _ w.bytes s.bytes;
+}
 
 -- one more piece is
 pub wrote_piece : (last : Bool) (bs p src : List ℕ) (old new now : Option (List ℕ)) (n : ℕ) (piece : Piece) (read : ℕ) (q : List ℕ) → WritesParts last bs (p ++ src) old new n
     → IsBorrowedCall p src last piece read q → Appends new now (text_of piece) → WritesParts last bs (q ++ drop read src) old now (n + broken_of piece)
 wrote_piece last bs p src old new now n piece read q w call a =
     let g = piece_gives p src last piece read q call in
-    let more = wrote_more last bs (p ++ src) (q ++ drop read src) old new now n g.parts w g.first (subst (Appends new now) (sym g.text) a) in
-    record { parts = more.parts; first = more.first; bytes = more.bytes; broken = omega (arith, more.broken, g.broken) }
+    wrote_then last bs (p ++ src) (q ++ drop read src) old new now n (broken_of piece) w (record { parts = g.parts; first = g.first; bytes = subst (Appends new now) (sym g.text) a; broken = sym g.broken })
 
 -- behind a piece nothing is pending
 pub nothing_pending : (p src : List ℕ) (last : Bool) (piece : Piece) (read : ℕ) (q : List ℕ) → IsBorrowedCall p src last piece read q → (piece ≡ InputEmpty → ⊥) → q ≡ []
@@ -101,14 +107,8 @@ wrote_last last bs p src old new now n piece read q w call some a all =
 pub stopped_piece : (last : Bool) (bs p src : List ℕ) (old new now : Option (List ℕ)) (n : ℕ) (piece : Piece) (read : ℕ) (q : List ℕ) (k : ℕ) → WritesParts last bs (p ++ src) old new n
     → IsBorrowedCall p src last piece read q → k < length (text_of piece) → Appends new now (take k (text_of piece)) → StopsInParts last bs old now
 stopped_piece last bs p src old new now n piece read q k w call short a =
-    let g = piece_gives p src last piece read q call in record {
-      parts = w.parts ++ g.parts;
-      rest = q ++ drop read src;
-      first = AreFirst-trans last bs w.parts (p ++ src) g.parts (q ++ drop read src) w.first g.first;
-      out = repaired_text w.parts ++ take k (text_of piece);
-      less = front_behind w.parts g.parts (take k (text_of piece)) (subst (IsProperFront (take k (text_of piece))) (sym g.text) (proper_front k (text_of piece) short));
-      bytes = Appends-trans _ _ _ _ _ w.bytes a;
-    }
+    let g = piece_gives p src last piece read q call in
+    stopped_then last bs (p ++ src) old new now n w (stopped_in last (p ++ src) g.parts (q ++ drop read src) (text_of piece) new now k g.first (sym g.text) short a)
 
 -- the count stays below the number of bytes
 pub wrote_count : (last : Bool) (bs rest : List ℕ) (old new : Option (List ℕ)) (n : ℕ) → WritesParts last bs rest old new n → n + length rest ≤ length bs
@@ -169,31 +169,13 @@ wrote_all_text bs n old new all text a = wrote_all true bs old new 0 (subst (λ 
 
 pub stopped_text : (bs : List ℕ) (n k : ℕ) (old new : Option (List ℕ)) → IsUtf8 (take n bs) → k < length (take n bs) → Appends old new (take k (take n bs)) → Stops bs old new
 stopped_text bs n k old new text short a =
-    let t = text_parts bs n text in
-    stopped_all true bs old new (record {
-      parts = t.parts;
-      rest = drop n bs;
-      first = t.first;
-      out = take k (take n bs);
-      less = subst (IsProperFront (take k (take n bs))) (sym t.text) (proper_front k (take n bs) short);
-      bytes = a;
-    })
+    let t = text_parts bs n text in stopped_all true bs old new (stopped_in true bs t.parts (drop n bs) (take n bs) old new k t.first (sym t.text) short a)
 
 pub wrote_rest : (bs rest : List ℕ) (old new now : Option (List ℕ)) (n : ℕ) → WritesParts true bs rest old new 0 → WritesParts true rest [] new now n → WritesRepaired bs old now n
-wrote_rest bs rest old new now n w v =
-    let all = wrote_more true bs rest [] old new now 0 v.parts w v.first v.bytes in
-    wrote_all true bs old now n (record { parts = all.parts; first = all.first; bytes = all.bytes; broken = omega (arith, all.broken, v.broken) })
+wrote_rest bs rest old new now n w v = wrote_all true bs old now n (subst (WritesParts true bs [] old now) {x = 0 + n} {y = n} (omega arith) (wrote_then true bs rest [] old new now 0 n w v))
 
 pub stopped_rest : (bs rest : List ℕ) (old new now : Option (List ℕ)) → WritesParts true bs rest old new 0 → StopsInParts true rest new now → Stops bs old now
-stopped_rest bs rest old new now w s =
-    stopped_all true bs old now (record {
-      parts = w.parts ++ s.parts;
-      rest = s.rest;
-      first = AreFirst-trans true bs w.parts rest s.parts s.rest w.first s.first;
-      out = repaired_text w.parts ++ s.out;
-      less = front_behind w.parts s.parts s.out s.less;
-      bytes = Appends-trans _ _ _ _ _ w.bytes s.bytes;
-    })
+stopped_rest bs rest old new now w s = stopped_all true bs old now (stopped_then true bs rest old new now 0 w s)
 
 -- ---- more bytes behind those that stay
 pub wrote_behind : (last : Bool) (bs mid more rest : List ℕ) (old new now : Option (List ℕ)) (n m : ℕ) → WritesParts false bs mid old new n

@@ -12,17 +12,6 @@ use Rattle.encoding_runs.specs.Steps.Rounds.{ReadsRound, Reaches}
 use Rattle.encoding_runs.proofs.SettledLemmas.{settled_first, settled_behind, AreFirst-more}
 use Rattle.encoding_runs.proofs.RepairLemmas.{wrote_all, wrote_behind, front_behind, longer_front}
 
-pub reaches_more : (unread mid left old new now : Option (List ℕ)) (read n : ℕ) (p : List ℕ) (room : ℕ) (bytes : List ℕ) (before after : Bool) (m : ℕ) (q : List ℕ)
-    → Reaches unread mid old new read n p → ReadsRound room bytes false mid left before after → WritesParts false (p ++ bytes) q new now m → IsPending q
-    → Reaches unread left old now (read + length bytes) (n + m) q
-reaches_more unread mid left old new now read n p room bytes before after m q r b w still = record {
-  input = r.input ++ bytes;
-  consumed = Consumes-trans _ _ _ _ _ r.consumed b.consumed;
-  count = omega (arith, r.count, length-append r.input bytes);
-  wrote = wrote_behind false r.input p bytes q old new now n m r.wrote w;
-  still_open = still;
-}
-
 -- ---- before a read, or where it fails
 is_settled : (bs p : List ℕ) (old new : Option (List ℕ)) (n : ℕ) → (w : WritesParts false bs p old new n) → IsPending p → IsSettledText bs (repaired_text w.parts)
 is_settled bs p old new n w still = (w.parts, p, settled_first bs w.parts p w.first still, refl)
@@ -33,16 +22,6 @@ stopped_reading unread mid left old new read n p r k = (
   r.input,
   sym r.count,
   (Consumes-kept _ _ _ _ r.consumed k, (repaired_text r.wrote.parts, is_settled _ _ _ _ _ r.wrote r.still_open, r.wrote.bytes)),
-)
-
--- ---- at the end
-pub reached_end : (unread mid left old new now : Option (List ℕ)) (read n : ℕ) (p : List ℕ) (room : ℕ) (bytes : List ℕ) (before after : Bool) (m : ℕ)
-    → Reaches unread mid old new read n p → ReadsRound room bytes true mid left before after → WritesParts true (p ++ bytes) [] new now m
-    → (all : List ℕ) × (read + length bytes ≡ length all) × RepairsAll all unread left old now (n + m)
-reached_end unread mid left old new now read n p room bytes before after m r b w = (
-  r.input ++ bytes,
-  omega (arith, r.count, length-append r.input bytes),
-  (Consumes-trans _ _ _ _ _ r.consumed b.consumed, (b.at_end refl).2, wrote_all true _ _ _ _ (wrote_behind true r.input p bytes [] old new now n m r.wrote w)),
 )
 
 -- ---- where a write fails
@@ -107,13 +86,25 @@ pub reaches_next : (unread mid left old new now : Option (List ℕ)) (read n : �
     → Reaches unread mid old new read n p → ReadsRound room bytes last mid left before after → WritesParts last (p ++ bytes) q new now m → IsPending q → 0 < length bytes
     → Reaches unread left old now (read + length bytes) (n + m) q × (after ≡ before)
 reaches_next unread mid left old new now read n p room bytes true before after m q r b w still some = absurd (omega (arith, ap length (b.at_end refl).0, some))
-reaches_next unread mid left old new now read n p room bytes false before after m q r b w still some =
-    (reaches_more unread mid left old new now read n p room bytes before after m q r b w still, (b.going_on refl).1)
+reaches_next unread mid left old new now read n p room bytes false before after m q r b w still some = (
+  record {
+    input = r.input ++ bytes;
+    consumed = Consumes-trans _ _ _ _ _ r.consumed b.consumed;
+    count = omega (arith, r.count, length-append r.input bytes);
+    wrote = wrote_behind false r.input p bytes q old new now n m r.wrote w;
+    still_open = still;
+  },
+  (b.going_on refl).1,
+)
 
 pub reaches_end : (unread mid left old new now : Option (List ℕ)) (read n : ℕ) (p : List ℕ) (room : ℕ) (bytes : List ℕ) (last before after : Bool) (m : ℕ) (q : List ℕ)
     → Reaches unread mid old new read n p → ReadsRound room bytes last mid left before after → WritesParts last (p ++ bytes) q new now m → (last ≡ true → q ≡ []) → length bytes ≡ 0
     → (all : List ℕ) × (read + length bytes ≡ length all) × RepairsAll all unread left old now (n + m) × (after ≡ true)
 reaches_end unread mid left old new now read n p room bytes false before after m q r b w none empty = absurd (omega (arith, (b.going_on refl).0, empty))
 reaches_end unread mid left old new now read n p room bytes true before after m q r b w none empty =
-    let all = reached_end unread mid left old new now read n p room bytes before after m r b (subst (λ xs. WritesParts true (p ++ bytes) xs new now m) (none refl) w) in
-    (all.0, all.1, all.2, (b.at_end refl).1)
+    let all = wrote_behind true r.input p bytes q old new now n m r.wrote w in (
+      r.input ++ bytes,
+      omega (arith, r.count, length-append r.input bytes),
+      (Consumes-trans _ _ _ _ _ r.consumed b.consumed, (b.at_end refl).2, wrote_all true _ _ _ _ (subst (λ xs. WritesParts true (r.input ++ bytes) xs old now (n + m)) (none refl) all)),
+      (b.at_end refl).1,
+    )

@@ -11,7 +11,6 @@ use Rattle.encoding_text.specs.declared.decoder.DecoderResult.TheVariants.{Input
 use Rattle.encoding_text.specs.GivenParts.{AreDecoded, IsReported}
 use Rattle.encoding_text.proofs.Calls.CallPartsLemmas.{decoded_gives}
 use Rattle.encoding_definitions.proofs.LongestFronts.FrontsLemmas.{WritesFront-same}
-use Rattle.encoding_definitions.proofs.Sequences.SequenceLemmas.{length-IsBeginning}
 use Rattle.encoding_runs.specs.declared.run.turns.Turn.{Turn}
 use Rattle.encoding_runs.specs.declared.run.decoding.Report.{Report}
 use Rattle.encoding_runs.specs.declared.run.decoding.Outcome.{Outcome}
@@ -20,6 +19,7 @@ use Rattle.encoding_runs.specs.DecoderCalls.{AreGivenInSequence}
 use Rattle.encoding_runs.specs.DecoderRuns.{reports_of, Delivers}
 use Rattle.encoding_runs.specs.Steps.Reports.{report_of, reports_of_calls, IsReportedRun}
 use Rattle.encoding_runs.proofs.ChainLemmas.{decoded_empty, chain_gives}
+use Rattle.encoding_runs.proofs.RepairLemmas.{pending_length}
 
 -- ---- the characters and the reports of parts
 characters_of-append : (ps qs : List Part) → characters_of (ps ++ qs) ≡ characters_of ps ++ characters_of qs
@@ -95,10 +95,6 @@ module _ {A : Type 0} (encode : ℕ → List A) where
       ∙ sym (ap (reports_of encode place) whole ∙ reports_of-append place first others)
 
   -- ---- what a run delivers
-  few_pending : (q : List ℕ) → IsPending q → length q ≤ 3
-  few_pending q (inl e) = omega (arith, ap length e)
-  few_pending q (inr b) = length-IsBeginning q b
-
   pub delivers : (need : ℕ) (p src : List ℕ) (turns : List Turn) (old new : List A) (old_reports new_reports : List Report) (outcome : Outcome) (q : List ℕ) → IsPending p
       → IsReportedRun encode need p src turns old new old_reports new_reports outcome q → Delivers encode need p src turns old new old_reports new_reports outcome q
   delivers need p src turns old new old_reports new_reports outcome q h reported =
@@ -109,5 +105,5 @@ module _ {A : Type 0} (encode : ℕ → List A) where
         given = given;
         characters = WritesFront-same _ _ _ _ _ _ run.writes refl (given_output run.calls given.parts given.in_sequence);
         broken = WritesFront-same _ _ _ _ _ _ reported.reports refl (given_places 0 run.calls given.parts given.in_sequence);
-        at_most_three = few_pending q (subst IsPending (sym run.leaves) given.front.pending);
+        at_most_three = pending_length q (subst IsPending (sym run.leaves) given.front.pending);
       }

@@ -125,7 +125,7 @@ fn write_parts<W: Sink>(
     let mut replaced = 0;
     loop {
         let (piece, read) = decoder.decode_borrowed_raw(rest, last);
-        if matches!(piece, Piece::InputEmpty) {
+        if let Piece::InputEmpty = piece {
             return Ok(replaced);
         }
         replaced += write_piece(writer, piece)?;

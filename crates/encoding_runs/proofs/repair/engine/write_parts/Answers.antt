@@ -1,11 +1,9 @@
 use Rattle.std.proofs.Common.{◌≡◌, ◌-◌, ◌++◌, ◌∙◌, drop, inl, length, refl, sym, take, true≢false, arith}
 use Rattle.std.proofs.lemmas.Result.{err_from_is_err_and}
 use Rattle.std.proofs.lemmas.List.{take_rest, length-append}
-use Rattle.encoding_text.specs.declared.decoder.Piece.TheVariants as Piece
 use Rattle.encoding_runs.proofs.RepairLemmas.{wrote_piece, wrote_last, stopped_piece, wrote_count, pending_length}
 use Rattle.encoding_runs.proofs.FrontTextLemmas.{wrote_with_front, stopped_with_front}
 use Rattle.encoding_runs.proofs.repair.engine.write_parts.Goals as goal
-use Rattle.encoding_runs.proofs.repair.engine.write_parts.Goals.{in-InputEmpty, in_default}
 
 pub returns-in_err-replaced-clause-err : goal.returns-in_err-replaced-clause-err
 returns-in_err-replaced-clause-err g c =
@@ -23,25 +21,14 @@ pub returns-in_err-write_whole-clause-err : goal.returns-in_err-write_whole-clau
 returns-in_err-write_whole-clause-err g c =
     let p = err_from_is_err_and c.from_residual-in_err-write_whole.result c.from_residual-in_err-write_whole.ensures.1 in
     let e = c.in_err-write_whole.ensures.err in
-    let some : c.decode_borrowed_raw-read.result.0 ≡ Piece.InputEmpty → ⊥ = λ is. elim c.match-matches.branch [
-      | in-InputEmpty w ↦ true≢false (sym w.matches-is ∙ c.if-matches.false)
-      | in_default w ↦ w.in_default.not-InputEmpty is
-    ] in
-    rw (p.1, p.2) (
-      e.0,
-      e.1,
-      stopped_with_front _ _ _ _ _ _ _ _ _ _ _ _ _ _ _ _ _ _ c.loop-writer.invariant.wrote c.decode_borrowed_raw-read.ensures some c.in_ok-replaced.ensures.ok.1 (take_rest c.loop-writer.rest.now c.decode_borrowed_raw-read.result.1)
-          c.repair_front-front.ensures.repaired e.3 e.4,
-    )
+    let stopped = stopped_with_front _ _ _ _ _ _ _ _ _ _ _ _ _ _ _ _ _ _ c.loop-writer.invariant.wrote c.decode_borrowed_raw-read.ensures c.in_default.not-InputEmpty c.in_ok-replaced.ensures.ok.1
+    (take_rest c.loop-writer.rest.now c.decode_borrowed_raw-read.result.1) c.repair_front-front.ensures.repaired e.3 e.4 in
+    rw (p.1, p.2) (e.0, e.1, stopped)
 
 pub overflow_add-replaced-in-loop-writer : goal.overflow_add-replaced-in-loop-writer
 overflow_add-replaced-in-loop-writer g c =
     let e = c.in_ok-replaced.ensures.ok in
-    let some : c.decode_borrowed_raw-read.result.0 ≡ Piece.InputEmpty → ⊥ = λ is. elim c.match-matches.branch [
-      | in-InputEmpty w ↦ true≢false (sym w.matches-is ∙ c.if-matches.false)
-      | in_default w ↦ w.in_default.not-InputEmpty is
-    ] in
-    let wrote = wrote_with_front _ _ _ _ _ _ _ _ _ _ _ _ _ _ _ _ _ _ c.loop-writer.invariant.wrote c.decode_borrowed_raw-read.ensures some e.1 (take_rest c.loop-writer.rest.now c.decode_borrowed_raw-read.result.1)
+    let wrote = wrote_with_front _ _ _ _ _ _ _ _ _ _ _ _ _ _ _ _ _ _ c.loop-writer.invariant.wrote c.decode_borrowed_raw-read.ensures c.in_default.not-InputEmpty e.1 (take_rest c.loop-writer.rest.now c.decode_borrowed_raw-read.result.1)
     c.repair_front-front.ensures.repaired c.in_ok-write_whole.ensures.ok.0 refl in
     omega (arith, wrote_count _ _ _ _ _ _ wrote, e.0, length-append c.args.decoder.now c.args.src.now, pending_length c.args.decoder.now c.requires.unfinished, c.well_formed.1.0.0)
 
@@ -52,12 +39,8 @@ loop-writer-preserved g c =
     let rest = c.loop-writer.rest.now in
     let read = c.decode_borrowed_raw-read.result.1 in
     let behind = take (length rest - read) (drop read rest) in
-    let some : c.decode_borrowed_raw-read.result.0 ≡ Piece.InputEmpty → ⊥ = λ is. elim c.match-matches.branch [
-      | in-InputEmpty w ↦ true≢false (sym w.matches-is ∙ c.if-matches.false)
-      | in_default w ↦ w.in_default.not-InputEmpty is
-    ] in
     rw e.0 (record {
-      wrote = wrote_with_front _ _ _ _ _ _ _ _ _ _ _ _ _ _ _ _ _ _ c.loop-writer.invariant.wrote c.decode_borrowed_raw-read.ensures some e.1 (take_rest c.loop-writer.rest.now c.decode_borrowed_raw-read.result.1)
+      wrote = wrote_with_front _ _ _ _ _ _ _ _ _ _ _ _ _ _ _ _ _ _ c.loop-writer.invariant.wrote c.decode_borrowed_raw-read.ensures c.in_default.not-InputEmpty e.1 (take_rest c.loop-writer.rest.now c.decode_borrowed_raw-read.result.1)
           c.repair_front-front.ensures.repaired done.ok.0 (take_rest behind c.repair_front-front.result.read);
       failed = done.ok.1 ∙ e.2 ∙ c.loop-writer.invariant.failed;
       keeps = g.met.W.Sink.keeps_on _ _ _ (g.met.W.Sink.keeps_on _ _ _ c.loop-writer.invariant.keeps c.in_ok-replaced.ensures.keeps) done.keeps;
@@ -66,11 +49,5 @@ loop-writer-preserved g c =
 pub returns-then-read-rest-clause-ok : goal.returns-then-read-rest-clause-ok
 returns-then-read-rest-clause-ok g c =
     let e = c.in_ok-replaced.ensures.ok in
-    let call = c.decode_borrowed_raw-read.ensures in
-    let some : c.decode_borrowed_raw-read.result.0 ≡ Piece.InputEmpty → ⊥ = λ is. elim c.match-matches.branch [
-      | in-InputEmpty w ↦ true≢false (sym w.matches-is ∙ c.if-matches.false)
-      | in_default w ↦ w.in_default.not-InputEmpty is
-    ] in
-    let wrote = wrote_last c.args.last (c.args.decoder.now ++ c.args.src.now) c.loop-writer.decoder c.loop-writer.rest.now (g.W.Sink.contents c.args.writer.now) (g.W.Sink.contents c.loop-writer.writer) (g.W.Sink.contents c.write_piece.new.writer)
-    c.loop-writer.replaced c.decode_borrowed_raw-read.result.0 c.decode_borrowed_raw-read.result.1 c.decode_borrowed_raw-read.new.self c.loop-writer.invariant.wrote call some e.1 (omega arith) in
+    let wrote = wrote_last _ _ _ _ _ _ _ _ _ _ _ c.loop-writer.invariant.wrote c.decode_borrowed_raw-read.ensures c.in_default.not-InputEmpty e.1 (omega arith) in
     rw e.0 (wrote.0, inl wrote.1, λ l. wrote.1, e.2 ∙ c.loop-writer.invariant.failed)
