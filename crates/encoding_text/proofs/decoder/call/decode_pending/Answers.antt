@@ -18,9 +18,6 @@ returns-then-dst-needed_room g c =
     let some_pending : c.args.pending.now ≢ [] = λ e. omega (arith, ap length e, c.requires.unfinished.0) in
     pending_full g.U.CodeUnit.encode g.U.CodeUnit.need _ _ _ _ (inr c.requires.unfinished) some (omega (arith, c.if-dst-needed_room.true, c.needed_room.ensures.room)) some_pending
 
-pub resume-requires : goal.resume-requires
-resume-requires g c = record { unfinished = λ e. omega (arith, ap length e, c.requires.unfinished.0) }
-
 pub overflow_cast-result : goal.overflow_cast-result
 overflow_cast-result g c =
     let r = rw c.in-Stuck-default.is-0 at c.resume.ensures in

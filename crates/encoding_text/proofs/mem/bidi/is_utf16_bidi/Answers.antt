@@ -1,7 +1,7 @@
 use Rattle.std.proofs.Common.{◌+◌, arith, refl, subst}
 use Rattle.encoding_kernels.specs.BidiBlocks.{NoneRightToLeft}
 use Rattle.encoding_definitions.proofs.Bidi.BidiUnitsLemmas.{bidi_at, bidi_place}
-use Rattle.encoding_kernels.proofs.Bidi.BidiUnitBlocksLemmas.{units_before, units_joined, unit_none}
+use Rattle.encoding_kernels.proofs.Bidi.BidiUnitBlocksLemmas.{units_joined, unit_none}
 use Rattle.encoding_text.proofs.mem.bidi.is_utf16_bidi.Goals as goal
 
 pub loop-i-init : goal.loop-i-init
@@ -32,6 +32,3 @@ loop-at-preserved c =
       within = omega (arith, c.min.ensures);
       none = subst (NoneRightToLeft c.args.buffer.now 0) {x = c.loop-i.i} {y = to} (omega arith) c.loop-i.invariant;
     }
-
-pub loop-at-init : goal.loop-at-init
-loop-at-init c = let run = c.front_of_units_below-at.ensures in record { within = run.within; none = units_before c.args.buffer.now c.front_of_units_below-at.result run.below }

@@ -1,5 +1,4 @@
-use Rattle.std.proofs.Common.{arith, refl}
-use Rattle.encoding_kernels.proofs.Paired.PairsLemmas.{ascii_latin1, lead_fits}
+use Rattle.encoding_kernels.proofs.Paired.PairsLemmas.{ascii_latin1}
 use Rattle.encoding_text.proofs.mem.checks.latin1_front.Goals as goal
 
 pub returns-then-front-bytes : goal.returns-then-front-bytes
@@ -11,8 +10,3 @@ pub returns-then-not-is_latin1_lead : goal.returns-then-not-is_latin1_lead
 returns-then-not-is_latin1_lead c =
     let run = c.ascii_front-front.ensures in
     (run.within, ascii_latin1 c.args.bytes.now c.ascii_front-front.result run.within run.below)
-
-pub latin1_blocks-requires : goal.latin1_blocks-requires
-latin1_blocks-requires c =
-    let lead = c.if-not-is_latin1_lead.ensures refl in
-    (omega arith, omega (arith, c.ascii_front-front.ensures.within), lead_fits c.args.bytes.now c.ascii_front-front.result c.ascii_front-front.ensures.below lead.0 lead.1)

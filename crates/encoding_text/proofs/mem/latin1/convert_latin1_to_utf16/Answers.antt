@@ -1,6 +1,6 @@
 use Rattle.std.proofs.Common.{◌≡◌, ℕ, ◌+◌, ◌≤◌, List, ◌++◌, take, drop, length, subst, refl, arith}
 use Rattle.encoding_definitions.specs.Fronts.{WritesFront}
-use Rattle.encoding_definitions.proofs.LongestFronts.FrontsLemmas.{WritesFront-nil, WritesFront-length}
+use Rattle.encoding_definitions.proofs.LongestFronts.FrontsLemmas.{WritesFront-length}
 use Rattle.encoding_kernels.proofs.Latin.AsciiLemmas.{WritesFront_block, WritesFront_copy}
 use Rattle.encoding_text.proofs.mem.latin1.convert_latin1_to_utf16.Goals as goal
 
@@ -9,9 +9,6 @@ stride : (old new after src : List ℕ) (at next : ℕ) → at + 16 ≡ next →
     → after ≡ take at new ++ (take 16 (drop at src) ++ drop (at + 16) new) → WritesFront old after next (take next src)
 stride old new after src at next e room within w put =
     subst (λ n. WritesFront old after n (take n src)) e (WritesFront_block old new after src at 16 w (omega arith) (omega (arith, WritesFront-length _ _ _ _ w)) put)
-
-pub loop-at-init : goal.loop-at-init
-loop-at-init c = record { within = omega arith; copied = WritesFront-nil c.args.dst.now }
 
 pub loop-at-preserved : goal.loop-at-preserved
 loop-at-preserved c =

@@ -1,12 +1,9 @@
 use Rattle.std.proofs.Common.{◌≡◌, ℕ, [], ◌++◌, ◌+◌, ◌%◌, map, take, drop, length, ap, ◌∙◌, refl, arith, bit_and, slice_index}
 use Rattle.std.proofs.lemmas.Grind.{common_steps}
 use Rattle.encoding_kernels.proofs.Lanes.ChunksLemmas.{many, whole_stride}
-use Rattle.encoding_definitions.proofs.LongestFronts.FrontsLemmas.{WritesFront-nil, WritesFront-length}
+use Rattle.encoding_definitions.proofs.LongestFronts.FrontsLemmas.{WritesFront-length}
 use Rattle.encoding_text.proofs.Latin.Latin1ConversionLemmas.{WritesFront_low, WritesFront_low_block}
 use Rattle.encoding_text.proofs.mem.latin1.convert_utf16_to_latin1_lossy.Goals as goal
-
-pub loop-stride-init : goal.loop-stride-init
-loop-stride-init c = record { place = omega arith; copied = WritesFront-nil c.args.dst.now }
 
 pub loop-stride-preserved : goal.loop-stride-preserved
 loop-stride-preserved c =

@@ -10,6 +10,3 @@ returns-clause-front c =
     let found = c.utf16_valid_up_to.result in
     subst (λ n. IsLongestFront IsValidUtf16 (drop from c.args.units.now) n) {x = found} {y = from + found - from} (omega arith)
     (subst (λ xs. IsLongestFront IsValidUtf16 xs found) (take_rest c.args.units.now from) c.utf16_valid_up_to.ensures)
-
-pub returns-clause-are_units : goal.returns-clause-are_units
-returns-clause-are_units c = λ k. omega (arith, c.type_inv.units k)

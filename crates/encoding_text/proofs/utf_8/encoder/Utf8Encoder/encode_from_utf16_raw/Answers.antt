@@ -1,18 +1,11 @@
 use Rattle.std.proofs.Common.{◌≡◌, ◌∷◌, ◌∙◌, [], length, arith, rules, sym, ap, subst}
 use Rattle.encoding_text.specs.Encoding.{IsHeld, held_units}
-use Rattle.encoding_text.proofs.CodeUnits.EncoderLemmas.{none_there, some_there, call_waits, call_full, call_then, call_then_rest, enough_room}
+use Rattle.encoding_text.proofs.CodeUnits.EncoderLemmas.{some_there, call_full, call_then, call_then_rest, enough_room}
 use Rattle.encoding_text.proofs.utf_8.encoder.Utf8Encoder.encode_from_utf16_raw.Goals as goal
 
 pub returns-in_default-clause-suffices : goal.returns-in_default-clause-suffices
 returns-in_default-clause-suffices c = λ h.
     enough_room _ c.args.src.now (length c.args.dst.now) c.args.last _ _ _ _ (omega (arith, h)) c.encode_fresh.ensures.call
-
-pub returns-then-not-last-clause-call : goal.returns-then-not-last-clause-call
-returns-then-not-last-clause-call c =
-    let held : c.args.self.now ≡ c.in-Some.high ∷ [] = sym c.self.view_is ∙ ap held_units c.in-Some.is in
-    let high = subst IsHeld (ap held_units c.in-Some.is) c.self.invariant in
-    let none = none_there c.is_empty.result (length c.args.src.now) c.is_empty.ensures c.if-is_empty.true in
-    call_waits c.args.self.now c.args.src.now c.in-Some.high (length c.args.dst.now) c.args.last held high none c.if-not-last.true
 
 pub returns-then-utf8_length-dst-clause-call : goal.returns-then-utf8_length-dst-clause-call
 returns-then-utf8_length-dst-clause-call c =
