@@ -1,4 +1,3 @@
 pub mod SequenceLemmas
 pub mod EncodingLemmas
-pub mod FirstBytesLemmas
 pub mod ScalarLemmas

@@ -1,15 +1,15 @@
 -- The repair of a block: what is written after each call of the decoder, and what calls on blocks give in a row.
-use Rattle.std.proofs.Common.{◌≡◌, ℕ, ◌+◌, ◌-◌, ◌*◌, ◌<◌, ◌≤◌, inl, Bool, true, false, List, [], ◌∷◌, ◌++◌, length, map, take, drop, encode_utf8, refl, sym, ap, ◌∙◌, arith, subst, true≢false}
+use Rattle.std.proofs.Common.{◌≡◌, ℕ, ◌+◌, ◌-◌, ◌*◌, ◌≤◌, inl, Bool, true, false, List, [], ◌∷◌, ◌++◌, length, map, take, drop, encode_utf8, refl, sym, ap, ◌∙◌, arith, subst, true≢false}
 use Rattle.std.specs.Prelude.{Any}
-use Rattle.std.proofs.lemmas.List.{append-nil, append_assoc, length-drop, drop-drop, take_rest}
+use Rattle.std.proofs.lemmas.List.{append-nil, append_assoc, length-drop, take_rest}
 use Rattle.std.proofs.lemmas.Str.{length-encode}
 use borrow.Rule.Slice.PartMut.{put_mid}
-use Rattle.encoding_definitions.specs.Parts.{Part, Character, Broken, StartsWith, repaired_text, count_broken}
+use Rattle.encoding_definitions.specs.Parts.{Part, Character, Broken, repaired_text, count_broken}
 use Rattle.encoding_definitions.specs.Pending.{IsPending}
 use Rattle.encoding_definitions.specs.Giving.{Gives}
 use Rattle.encoding_definitions.specs.Fronts.{WritesFront}
 use Rattle.encoding_definitions.proofs.LongestFronts.FrontsLemmas.{WritesFront-nil, WritesFront-same, WritesFront-length, WritesFront_after}
-use Rattle.encoding_definitions.proofs.Decomposition.DecompositionLemmas.{StartsWith-append, repaired_text-append, repaired_text-characters, count_broken-append, count_broken-characters}
+use Rattle.encoding_definitions.proofs.Decomposition.DecompositionLemmas.{repaired_text-append, repaired_text-characters, count_broken-append, count_broken-characters}
 use Rattle.encoding_definitions.proofs.Sequences.EncodingLemmas.{flat_map-encode_utf8}
 use Rattle.encoding_text.specs.Decoding.{IsCall}
 use Rattle.encoding_text.specs.GivenParts.{IsReported}

@@ -7,7 +7,7 @@ use Rattle.std.specs.List.{AllByRecursion, flat_map, last_or}
 use Rattle.std.proofs.lemmas.Bool.{and_parts, cases_lt, le-leb}
 use Rattle.std.proofs.lemmas.List.{length-append, length-drop, length-take}
 use Rattle.std.proofs.lemmas.List.Elements.{recursion_from_All}
-use Rattle.encoding_text.specs.Decoding.{IsCall, Answers, IsReport}
+use Rattle.encoding_text.specs.Decoding.{IsCall}
 use Rattle.encoding_text.specs.declared.decoder.DecoderResult.{DecoderResult}
 use Rattle.encoding_text.specs.declared.decoder.DecoderResult.TheVariants.{InputEmpty, OutputFull, Malformed}
 use Rattle.encoding_text.proofs.Calls.RoomLemmas.{counts, progress}

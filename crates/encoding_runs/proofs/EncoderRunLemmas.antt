@@ -66,13 +66,9 @@ module _ (held unread : List ℕ) (left : ℕ) (turn : Turn) (call : Call ℕ En
   ends_call none = enough_room _ _ _ _ _ _ _ _ (omega (arith, room, length-take call.piece unread, at_most_one_held held c.held_before)) c
 
   fewer : 0 < length unread → 2 * length (drop call.read unread) + length call.pending < 2 * length unread + length held
-  fewer some = omega (
-    arith,
-    gets_on _ _ _ _ _ _ _ _ c (omega (arith, length-take call.piece unread, piece)) (λ small. omega (arith, small, room, length-take call.piece unread, at_most_one_held held c.held_before)),
-    length-drop call.read unread,
-    read_within _ _ _ _ _ _ _ _ c,
-    length-take call.piece unread,
-  )
+  fewer some =
+      let on = gets_on _ _ _ _ _ _ _ _ c (omega (arith, length-take call.piece unread, piece)) (λ small. omega (arith, small, room, length-take call.piece unread, at_most_one_held held c.held_before)) in
+      omega (arith, on, length-drop call.read unread, read_within _ _ _ _ _ _ _ _ c, length-take call.piece unread)
 
   next_turn : (turns : ℕ) (before : Option EncoderResult) → ComesToEnd held unread (turns + 1) before → ComesToEnd call.pending (drop call.read unread) turns (Some call.result)
   next_turn turns before e = elim (cases_lt 0 (length unread)) [

@@ -181,13 +181,7 @@ piece_written src array rest bytes most (Text t) read q n short call (same, none
 piece_written src array rest bytes most (Char c) read q n short call never placed = absurd never
 piece_written src array rest bytes most (Malformed k) read q n short call (same, one) placed =
     let g = piece_gives [] (take most src) false (Malformed k) read q call in
-    let some : 0 < read = omega (
-      arith,
-      count_broken-bytes (take most src) g.parts (q ++ drop read (take most src)) g.first.starts,
-      g.broken,
-      length-append q (drop read (take most src)),
-      length-drop read (take most src),
-    ) in
+    let some : 0 < read = omega (arith, count_broken-bytes (take most src) g.parts (q ++ drop read (take most src)) g.first.starts, g.broken, length-append {A = ℕ}, length-drop {A = ℕ}) in
     rw (same, one) (goes src array read 3 1 some (piece_first src array rest most (Malformed k) read q short call call.answer.2 (placed ∙ ap (λ xs. xs ++ rest) same)))
 piece_written src array rest bytes most InputEmpty read q n short call never placed = absurd never
 

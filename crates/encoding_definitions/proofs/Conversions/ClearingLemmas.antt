@@ -1,7 +1,7 @@
 -- A text whose front is overwritten and that is cleared behind it is well-formed.
 use Rattle.std.proofs.Common.{◌≡◌, ℕ, suc, ◌+◌, ◌-◌, ◌<◌, inl, inr, ◌&&◌, List, [], ◌∷◌, ◌++◌, length, take, drop, get_or, refl, sym, ap, ◌∙◌, arith, nat_le, IsUtf8, append_assoc, subst}
 use Rattle.std.specs.Prelude.{replicate}
-use Rattle.std.proofs.lemmas.Bool.{and_from, and_parts, le-leb, leb-true, cond-true, cond-false, cases_Bool, cases_lt, both_ways, false_from_ne_true}
+use Rattle.std.proofs.lemmas.Bool.{and_from, le-leb, cond-true, cond-false, cases_Bool, cases_lt, both_ways}
 use Rattle.std.proofs.lemmas.List.{append-nil, length-drop, length-take-le, take_at, take_rest, drop_at, drop-drop, drop_all, drop_more, get_or-append_right, get_or-drop, get_or-replicate, get_or_past, length-replicate, replicate_more}
 use Rattle.std.proofs.lemmas.Str.{IsUtf8-nil, IsUtf8-append, IsUtf8-drop, IsUtf8-from_ascii}
 use borrow.Rule.Slice.PartMut.{put_mid}
@@ -14,10 +14,6 @@ use Rattle.encoding_definitions.proofs.LongestFronts.FittingLemmas.{written_is}
 -- ---- one byte
 clear_more : (b : ℕ) (bs : List ℕ) → IsContinuation b → clear_continuation (b ∷ bs) ≡ 0 ∷ clear_continuation bs
 clear_more b bs c = cond-true (nat_le 0x80 b && nat_le b 0xBF) _ _ (and_from _ _ (le-leb _ _ c.0) (le-leb _ _ c.1))
-
-clear_stop : (b : ℕ) (bs : List ℕ) → (IsContinuation b → ⊥) → clear_continuation (b ∷ bs) ≡ b ∷ bs
-clear_stop b bs n = cond-false (nat_le 0x80 b && nat_le b 0xBF) _ _
-    (false_from_ne_true _ (λ e. let parts = and_parts (nat_le 0x80 b) (nat_le b 0xBF) e in n (leb-true _ _ parts.0, leb-true _ _ parts.1)))
 
 -- ---- the loop, at a place behind bytes that are zero
 pub clear_next : (bs : List ℕ) (at : ℕ) → at < length bs → IsContinuation (get_or bs at 0)
@@ -32,12 +28,6 @@ pub byte_behind : (bs : List ℕ) (at : ℕ) → get_or (replicate at 0 ++ drop 
 byte_behind bs at =
     get_or-append_right (replicate at 0) (drop at bs) at at 0 (length-replicate {A = ℕ} at 0) (omega arith) ∙ get_or-drop at bs (at - at) 0
     ∙ ap (λ n. get_or bs n 0) {x = at + (at - at)} {y = at} (omega arith)
-
-pub clear_end : (bs : List ℕ) (at : ℕ) → (at < length bs → IsContinuation (get_or bs at 0) → ⊥) → clear_continuation (drop at bs) ≡ drop at bs
-clear_end bs at n = elim (cases_lt at (length bs)) [
-  | inl h ↦ rw (drop_more bs at 0 h) (clear_stop (get_or bs at 0) (drop (at + 1) bs) (n h))
-  | inr h ↦ rw (drop_all at bs h) refl
-]
 
 -- ---- the bytes that are cleared, and what is behind them
 record IsCleared (bs : List ℕ) : Type 0 where

@@ -2,12 +2,15 @@
 use Rattle.std.proofs.Common.{ℕ, ◌<◌, ◌≤◌, ◌⊎◌, inl, inr, Bool, List, [], ◌∷◌, ◌++◌, length, take, drop, slice_index, sym, arith, subst}
 use Rattle.std.proofs.lemmas.List.{drop_more}
 use Rattle.std.proofs.lemmas.Bool.{cases_lt}
-use Rattle.encoding_definitions.specs.Sequence.{IsSequence, IsBeginning, IsContinuation}
+use Rattle.std.proofs.lemmas.Bool.Decides.{nat_tests}
+use Rattle.encoding_definitions.specs.Sequence.{IsSequence, IsBeginning, IsContinuation, IsSecond}
 use Rattle.encoding_definitions.specs.Parts.{BeginsWithNoCharacter}
 use Rattle.encoding_text.specs.Decoding.{IsBroken}
 use Rattle.encoding_definitions.proofs.Sequences.SequenceLemmas.{HasShape-IsSequence, IsSequence-HasShape, HasOpenShape-IsBeginning, second_more}
-use Rattle.encoding_definitions.proofs.Sequences.FirstBytesLemmas.{second_continues}
 use Rattle.encoding_text.proofs.Calls.CallLemmas.{broken_lone, broken_stuck, take_one, begins_before}
+
+second_continues : (a b : ℕ) → IsSecond a b → IsContinuation b
+second_continues a b s = grind (arith, nat_tests)
 
 -- the second byte of a sequence or of a beginning
 second_of : (a b : ℕ) → IsSequence (a ∷ b ∷ []) ⊎ IsBeginning (a ∷ b ∷ []) → IsContinuation b

@@ -10,7 +10,7 @@ use Rattle.std.proofs.lemmas.Grind.{flat_map-append}
 use Rattle.std.proofs.lemmas.Str.{encode_same}
 use Rattle.encoding_definitions.specs.Sequence.{IsBeginning}
 use Rattle.encoding_definitions.specs.Pending.{IsPending}
-use Rattle.encoding_text.specs.Decoding.{IsBroken, IsCall, Answers}
+use Rattle.encoding_text.specs.Decoding.{IsCall, Answers}
 use Rattle.encoding_text.specs.OneAnswer.{HasOneAnswer}
 use Rattle.encoding_text.specs.declared.decoder.DecoderResult.{DecoderResult}
 use Rattle.encoding_text.specs.declared.decoder.DecoderResult.TheVariants.{InputEmpty, OutputFull, Malformed}
@@ -110,21 +110,7 @@ module _ {A : Type 0} (encode : ℕ → List A) (need : ℕ) (p src : List ℕ) 
     held_full : (read read' : ℕ) (q q' y y' : List ℕ) → End OutputFull read q y → End OutputFull read' q' y' → q ≡ [] → IsBeginning q' → ⊥
     held_full read read' q q' y y' d d' n b =
         let held = d'.answer.4 (λ none. omega (arith, ap length none, b.0)) in
-        omega (
-          arith,
-          ap length d.whole,
-          ap length d'.whole,
-          length-append p (take read src),
-          length-append p (take read' src),
-          length-append (encode_utf8_all cs) y,
-          length-append (encode_utf8_all cs) y',
-          length-take read' src,
-          ap length (d.follows ∙ n),
-          ap length (d'.follows ∙ held.1),
-          ap length held.1,
-          held.0,
-          b.0,
-        )
+        omega (arith, ap length d.whole, ap length d'.whole, length-append {A = ℕ}, length-take {A = ℕ}, ap length (d.follows ∙ n), ap length (d'.follows ∙ held.1), ap length held.1, held.0, b.0)
 
     abbrev Same : DecoderResult → ℕ → List ℕ → DecoderResult → ℕ → List ℕ → Type 0
     Same result read q result' read' q' = (result ≡ result') × (read ≡ read') × (q ≡ q')
@@ -133,22 +119,8 @@ module _ {A : Type 0} (encode : ℕ → List A) (need : ℕ) (p src : List ℕ) 
     full_full read read' q q' y y' d d' e = either d.pending d'.pending
       where
         either : IsPending q → IsPending q' → Same OutputFull read q OutputFull read' q'
-        either (inl n) (inl n') = (
-          refl,
-          omega (
-            arith,
-            ap length e,
-            length-append y (drop read src),
-            length-append y' (drop read' src),
-            length-drop read src,
-            length-drop read' src,
-            ap length (d.follows ∙ n),
-            ap length (d'.follows ∙ n'),
-            d.answer.0,
-            d'.answer.0,
-          ),
-          n ∙ sym n',
-        )
+        either (inl n) (inl n') =
+            (refl, omega (arith, ap length e, length-append {A = ℕ}, length-drop {A = ℕ}, ap length (d.follows ∙ n), ap length (d'.follows ∙ n'), d.answer.0, d'.answer.0), n ∙ sym n')
         either (inl n) (inr b') = absurd (held_full read read' q q' y y' d d' n b')
         either (inr b) (inl n') = absurd (held_full read' read q' q y' y d' d n' b)
         either (inr b) (inr b') =

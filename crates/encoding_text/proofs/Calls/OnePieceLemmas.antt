@@ -3,11 +3,11 @@ use Rattle.std.proofs.Common.{◌≡◌, ℕ, ◌<◌, ◌≤◌, inl, inr, Bool
 use Rattle.std.specs.Borrow.{Bor}
 use Rattle.std.specs.Char.{IsScalar}
 use Rattle.std.specs.Str.{all_scalars, IsUtf8}
-use Rattle.std.proofs.lemmas.Bool.{and_parts, and_from}
-use Rattle.std.proofs.lemmas.List.{append-nil, append_assoc, length-append, length-drop, length-take, nil_from_length, take_at, drop_at, take-append-drop}
+use Rattle.std.proofs.lemmas.Bool.{and_parts}
+use Rattle.std.proofs.lemmas.List.{append-nil, append_assoc, length-append, length-drop, length-take, nil_from_length, take-append-drop}
 use Rattle.std.proofs.lemmas.Str.{encode_same}
 use Rattle.encoding_definitions.specs.Sequence.{IsBeginning}
-use Rattle.encoding_definitions.specs.Parts.{Part, Character, Broken, BeginsWithNoCharacter, IsFirstPart, ArePartsOf}
+use Rattle.encoding_definitions.specs.Parts.{Part, Character, Broken, BeginsWithNoCharacter, IsFirstPart}
 use Rattle.encoding_definitions.specs.Pending.{IsPending}
 use Rattle.encoding_text.specs.Decoding.{IsBroken, IsBorrowedCall}
 use Rattle.encoding_text.specs.OneAnswer.{SayTheSame, HasOnePiece}
@@ -15,7 +15,7 @@ use Rattle.encoding_text.specs.declared.decoder.Piece.{Piece}
 use Rattle.encoding_text.specs.declared.decoder.Piece.TheVariants.{Text, Char, Malformed, InputEmpty}
 use Rattle.encoding_definitions.proofs.Sequences.EncodingLemmas.{IsSequence-encode}
 use Rattle.encoding_definitions.proofs.LongestFronts.Utf8Lemmas.{IsLongestFront-utf8}
-use Rattle.encoding_definitions.proofs.Decomposition.PartsLemmas.{fronts_nest, first_open, has_first_part, same_first_part}
+use Rattle.encoding_definitions.proofs.Decomposition.PartsLemmas.{fronts_nest, has_first_part}
 use Rattle.encoding_definitions.proofs.Decomposition.DecompositionLemmas.{has_parts}
 use Rattle.encoding_text.proofs.Calls.CallPartsLemmas.{broken_first, same_broken, pending_not_broken}
 use Rattle.encoding_text.proofs.Calls.HasAnswerLemmas.{length-encode-some, no_character_pending, broken_or_open}

@@ -7,7 +7,7 @@ use Rattle.std.specs.Prelude.{◌==◌}
 use Rattle.std.proofs.lemmas.Bool.{cases_lt}
 use Rattle.std.proofs.lemmas.Bool.Decides.{nat_tests}
 use Rattle.std.proofs.lemmas.Str.{length-encode}
-use Rattle.std.proofs.lemmas.List.{length-append, length-drop, length-take-le, take-append-drop, drop_all, drop_more, get_or_past, get_or-take, get_or-drop, length-take, length_push, nil_from_length, take_rest}
+use Rattle.std.proofs.lemmas.List.{length-append, length-drop, length-take-le, take-append-drop, drop_all, drop_more, get_or_past, get_or-take, get_or-drop, length-take, length_push, take_rest}
 use borrow.Rule.Slice.PartMut.{put_mid}
 use Rattle.std.proofs.str.Utf16.{one_unit}
 use Rattle.encoding_definitions.specs.Fronts.{WritesFront}
@@ -16,7 +16,7 @@ use Rattle.encoding_definitions.specs.FirstScalar.{BeginsLow, IsFirstPart16, IsF
 use Rattle.encoding_text.specs.Encoding.{IsHeld, EndsHigh, AreDue, EncoderAnswers, IsEncoderCall}
 use Rattle.encoding_text.specs.declared.utf_8.encoder.EncoderResult.{EncoderResult}
 use Rattle.encoding_text.specs.declared.utf_8.encoder.EncoderResult.TheVariants.{InputEmpty, OutputFull}
-use Rattle.encoding_definitions.proofs.LongestFronts.FrontsLemmas.{FitsLongest-all, FitsLongest-stop, WritesFront_after, WritesFront-length}
+use Rattle.encoding_definitions.proofs.LongestFronts.FrontsLemmas.{FitsLongest-stop, WritesFront_after, WritesFront-length}
 use Rattle.encoding_definitions.proofs.CodeUnits.Utf16Lemmas.{parts_of, parts_exist, ArePartsOf16-cons, halves, length-units_of}
 use Rattle.encoding_definitions.proofs.LongestFronts.FittingLemmas.{FitsLongest-cons, written_is, written_front}
 use Rattle.encoding_definitions.proofs.CodeUnits.Utf16FrontLemmas.{all_fit, units_counted}
@@ -211,19 +211,6 @@ module _ (u : ℕ) (src : List ℕ) (room : ℕ) (last : Bool) (p : Part16) (t :
     answer = answers_behind c.due c.left_open c.taken r read after c.answer;
   }
 
--- a held unit waits on
-pub held_waits : (u room : ℕ) → IsHighSurrogate u → IsEncoderCall (u ∷ []) [] room false InputEmpty 0 [] (u ∷ [])
-held_waits u room h = record {
-  held_before = h;
-  held_after = h;
-  due = [];
-  left_open = u ∷ [];
-  taken = 0;
-  are_due = record { front = []; whole = refl; parts = (tt, refl); held = h; last_opens_none = λ e. absurd (cc (e)); waits = λ e k. refl };
-  longest = FitsLongest-all units_of utf8_of [] room (omega arith);
-  answer = (refl, refl, refl);
-}
-
 -- ---- room for all
 pub enough_room : (held src : List ℕ) (room : ℕ) (last : Bool) (r : EncoderResult) (read : ℕ) (out after : List ℕ) → 3 * (length src + length held) ≤ room
     → IsEncoderCall held src room last r read out after → r ≡ InputEmpty
@@ -246,9 +233,6 @@ some_there is_empty last n e (inr h) f = some_when n (sym e ∙ h)
     some_when n e = grind (arith, nat_tests)
 
 module _ (held src : List ℕ) (u room : ℕ) (last : Bool) (e : held ≡ u ∷ []) (high : IsHighSurrogate u) where
-  pub call_waits : length src ≡ 0 → last ≡ false → IsEncoderCall held src room last InputEmpty 0 [] held
-  call_waits none f = rw (e, nil_from_length src none, f) (held_waits u room high)
-
   -- of an empty source or of more, the first part begins with the held unit
   pub call_full : (scalar t : ℕ) (f : IsFirstScalar (u ∷ src) scalar) → t + 1 ≡ length (encode_utf16 scalar) → (last ≡ false → 0 < length src) → AreUnits src → room < len_utf8 scalar
       → IsEncoderCall held src room last OutputFull 0 [] held

@@ -84,14 +84,4 @@ pub repaired_length : (new sub : List ℕ) (written units : ℕ) (out : List ℕ
 repaired_length new sub written units out w l =
     let kept : length sub ≡ length (take (length new - written) (drop written new)) = WritesFront-length _ _ _ _ w in
     let size : length (take (length new - written) (drop written new)) ≡ length new - written = ap length (take_rest new written) ∙ length-drop written new in
-    omega (
-      arith,
-      kept,
-      size,
-      l,
-      length-append (take written new) (sub ++ drop (length new - written) (drop written new)),
-      length-append sub (drop (length new - written) (drop written new)),
-      length-take written new,
-      length-drop (length new - written) (drop written new),
-      length-drop written new,
-    )
+    omega (arith, kept, size, l, length-append {A = ℕ}, length-take {A = ℕ}, length-drop {A = ℕ})

@@ -1,7 +1,6 @@
 //! One call of a decoder, to bytes or to code units.
 ghost use Rattle.std.specs.Prelude.{◌≡◌, []};
 ghost use Rattle.encoding_definitions.specs.Sequence.{IsBeginning};
-ghost use Rattle.encoding_definitions.specs.Pending.{IsPending};
 ghost use Rattle.encoding_text.specs.Decoding.{Decodes};
 
 use super::DecoderResult;
@@ -17,8 +16,7 @@ pub(crate) fn decode<U: CodeUnit>(
     dst: &mut [U],
     last: bool,
 ) -> (DecoderResult, usize, usize)
-    ensures pending { IsPending pending.old }
-    ensures call { Decodes U.encode U.need pending.old src.now dst.old dst.new last result.0 result.1 result.2 pending.new }
+    ensures { Decodes U.encode U.need pending.old src.now dst.old dst.new last result.0 result.1 result.2 pending.new }
 {
     if pending.is_empty() {
         decode_neutral(pending, src, dst, last)

@@ -5,7 +5,7 @@ ghost use Rattle.std.specs.Char.Escape.{encode_utf16};
 ghost use Rattle.encoding_definitions.specs.Sequence.{IsSequence};
 ghost use Rattle.encoding_definitions.specs.Fronts.{WritesFront};
 ghost use Rattle.encoding_definitions.specs.Converting.{ConvertsLongest};
-ghost use Rattle.encoding_text.specs.Steps.Converting.{Converted};
+ghost use Rattle.encoding_text.specs.Steps.Converting.{Converted, ConvertsFront};
 
 use super::validation::{character_length, utf8_valid_up_to};
 use encoding_kernels::scalars::{scalar_of_sequence, write_utf16};
@@ -31,7 +31,7 @@ pub(crate) trait CodeUnit: Copy {
     /// Converts UTF-8 up to the first byte that no character takes, or as far as whole characters fit, and returns
     /// how many bytes it read and how many code units it wrote. Behind what is written `dst` is as before.
     fn convert_up_to_invalid(src: &[u8], dst: &mut [Self]) -> (usize, usize)
-        ensures { ConvertsLongest encode src.now dst.old dst.new result.0 result.1 };
+        ensures { ConvertsFront encode src.now dst.old dst.new result.0 result.1 };
 }
 
 impl CodeUnit for u16 {
@@ -115,7 +115,7 @@ fn convert_texts(src: &[u8], dst: &mut [u16]) -> (usize, usize)
 ///
 /// The characters that fit are those of the prefix that is as long as the room.
 fn copy_utf8_up_to_invalid(src: &[u8], dst: &mut [u8]) -> (usize, usize)
-    ensures { ConvertsLongest encode_utf8 src.now dst.old dst.new result.0 result.1 }
+    ensures { ConvertsFront encode_utf8 src.now dst.old dst.new result.0 result.1 }
 {
     let room = src.len().min(dst.len());
     let length = utf8_valid_up_to(&src[..room]);

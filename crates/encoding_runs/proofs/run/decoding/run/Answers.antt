@@ -1,4 +1,4 @@
-use Rattle.std.proofs.Common.{◌∙◌, ◌<◌, ◌+◌, ◌-◌, false, [], refl, length, take, drop, get_or, arith}
+use Rattle.std.proofs.Common.{◌∙◌, ℕ, ◌<◌, ◌+◌, ◌-◌, false, [], refl, length, take, drop, get_or, arith}
 use Rattle.std.proofs.lemmas.List.{length-drop, length-take, take_more, take_all}
 use Rattle.encoding_text.proofs.Calls.CallPartsLemmas.{call_within}
 use Rattle.encoding_definitions.proofs.LongestFronts.FrontsLemmas.{WritesFront-length}
@@ -41,14 +41,7 @@ loop-turn-preserved g c =
     let within = call_within g.U.Decoded.encode g.U.Decoded.need _ (take turn.take unread) _ _ _ _ _ _ call.2.answer in
     record {
       run = rw (take_more turns at none inside) run;
-      read = omega (
-        arith,
-        within,
-        before.read,
-        length-take turn.take unread,
-        length-take (length c.args.src.now - c.loop-turn.outcome.read) (drop c.loop-turn.outcome.read c.args.src.now),
-        length-drop c.loop-turn.outcome.read c.args.src.now,
-      );
+      read = omega (arith, within, before.read, length-take {A = ℕ}, length-drop {A = ℕ});
       written = omega (arith, run.run.writes.fits, WritesFront-length _ _ _ _ run.run.writes);
       reports = omega (arith, before.reports, c.write_report.ensures.count, one_report c.make_call-answer.result.0 (c.loop-turn.outcome.written + c.make_call-answer.result.2));
     }

@@ -1,4 +1,4 @@
-use Rattle.std.proofs.Common.{◌<◌, ◌-◌, false, length, drop, get_or, arith}
+use Rattle.std.proofs.Common.{◌<◌, ℕ, ◌-◌, false, length, drop, get_or, arith}
 use Rattle.std.proofs.lemmas.List.{length-drop, length-take, take_more, take_all}
 use Rattle.encoding_definitions.proofs.LongestFronts.FrontsLemmas.{WritesFront-length}
 use Rattle.encoding_text.specs.Encoding.{IsEncoderCall}
@@ -18,13 +18,7 @@ loop-turn-preserved c =
     let run = run_push IsEncoderCall _ _ _ _ _ _ _ _ _ (get_or turns at none) _ _ _ _ _ _ before.run call.rest call.call in
     record {
       run = rw (take_more turns at none inside) run;
-      read = omega (
-        arith,
-        call.within,
-        before.read,
-        length-take (length c.args.src.now - c.loop-turn.outcome.read) (drop c.loop-turn.outcome.read c.args.src.now),
-        length-drop c.loop-turn.outcome.read c.args.src.now,
-      );
+      read = omega (arith, call.within, before.read, length-take {A = ℕ}, length-drop {A = ℕ});
       written = omega (arith, run.writes.fits, WritesFront-length _ _ _ _ run.writes);
     }
 

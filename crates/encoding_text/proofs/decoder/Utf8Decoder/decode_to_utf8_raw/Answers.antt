@@ -3,7 +3,7 @@ use Rattle.encoding_text.proofs.decoder.Utf8Decoder.decode_to_utf8_raw.Goals as 
 
 pub returns : goal.returns
 returns c =
-    let call = rw c.self.view_is at c.decode.ensures.call in
+    let call = rw c.self.view_is at c.decode.ensures in
     record {
       call = call;
       progress = progress _ call.2;

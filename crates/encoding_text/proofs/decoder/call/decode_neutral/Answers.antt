@@ -1,41 +1,29 @@
-use Rattle.std.proofs.Common.{arith, rules, length, ◌≤◌}
+use Rattle.std.proofs.Common.{arith, length}
 use Rattle.std.proofs.lemmas.List.{take_rest, length-drop}
 use Rattle.encoding_definitions.proofs.LongestFronts.FrontsLemmas.{WritesFront-length}
-use Rattle.encoding_text.proofs.LongestFronts.ConvertingLemmas.{converts_front}
 use Rattle.encoding_text.proofs.Calls.DecodeLemmas.{all_read, full, ends, no_character_fits}
 use Rattle.encoding_text.proofs.decoder.call.decode_neutral.Goals as goal
 
 pub returns-then-read-src : goal.returns-then-read-src
-returns-then-read-src g c =
-    rw c.requires.neutral (all_read g.U.CodeUnit.encode g.U.CodeUnit.need _ _ _ _ _ _ (converts_front g.U.CodeUnit.encode _ _ _ _ _ c.convert_up_to_invalid-read.ensures) c.if-read-src.true)
+returns-then-read-src g c = rw c.requires.neutral (all_read g.U.CodeUnit.encode g.U.CodeUnit.need _ _ _ _ _ _ c.convert_up_to_invalid-read.ensures c.if-read-src.true)
 
 pub returns-then-dst-written : goal.returns-then-dst-written
 returns-then-dst-written g c =
-    let front = converts_front g.U.CodeUnit.encode _ _ _ _ _ c.convert_up_to_invalid-read.ensures in
-    let long = WritesFront-length _ _ _ _ front.writes in
-    rw c.requires.neutral (full g.U.CodeUnit.encode g.U.CodeUnit.need _ _ _ _ _ _ front c.if-read-src.false (omega (arith, c.if-dst-written.true, c.needed_room.ensures.room, long)))
-
-pub slice_bounds-end_before-count : goal.slice_bounds-end_before-count
-slice_bounds-end_before-count g c = (converts_front g.U.CodeUnit.encode _ _ _ _ _ c.convert_up_to_invalid-read.ensures).within
-
-pub slice_bounds-end_before-start : goal.slice_bounds-end_before-start
-slice_bounds-end_before-start g c =
-    let within : c.convert_up_to_invalid-read.result.0 ≤ length c.args.src.now = (converts_front g.U.CodeUnit.encode _ _ _ _ _ c.convert_up_to_invalid-read.ensures).within in
-    search (rules, within)
+    let long = WritesFront-length _ _ _ _ c.convert_up_to_invalid-read.ensures.writes in
+    rw c.requires.neutral (full g.U.CodeUnit.encode g.U.CodeUnit.need _ _ _ _ _ _ c.convert_up_to_invalid-read.ensures c.if-read-src.false (omega (arith, c.if-dst-written.true, c.needed_room.ensures.room, long)))
 
 pub end_before-result-requires-clause-not_empty : goal.end_before-result-requires-clause-not_empty
 end_before-result-requires-clause-not_empty g c =
-    let within : c.convert_up_to_invalid-read.result.0 ≤ length c.args.src.now = (converts_front g.U.CodeUnit.encode _ _ _ _ _ c.convert_up_to_invalid-read.ensures).within in
-    rw take_rest (omega (arith, length-drop c.convert_up_to_invalid-read.result.0 c.args.src.now, c.if-read-src.false))
+    rw take_rest (omega (arith, length-drop c.convert_up_to_invalid-read.result.0 c.args.src.now, c.if-read-src.false, c.convert_up_to_invalid-read.ensures.within))
 
 pub end_before-result-requires-clause-no_character : goal.end_before-result-requires-clause-no_character
 end_before-result-requires-clause-no_character g c =
-    let front = converts_front g.U.CodeUnit.encode _ _ _ _ _ c.convert_up_to_invalid-read.ensures in
+    let front = c.convert_up_to_invalid-read.ensures in
     let long = WritesFront-length _ _ _ _ front.writes in
     rw take_rest (no_character_fits g.U.CodeUnit.encode g.U.CodeUnit.need c.needed_room.ensures.holds_any _ _ _ _ _ front (omega (arith, c.if-dst-written.false, c.needed_room.ensures.room, long)))
 
 pub returns : goal.returns
 returns g c =
-    let front = converts_front g.U.CodeUnit.encode _ _ _ _ _ c.convert_up_to_invalid-read.ensures in
+    let front = c.convert_up_to_invalid-read.ensures in
     let long = WritesFront-length _ _ _ _ front.writes in
     ends g.U.CodeUnit.encode g.U.CodeUnit.need _ _ _ _ _ _ _ _ _ front (omega (arith, c.if-dst-written.false, c.needed_room.ensures.room, long)) (rw take_rest at c.end_before-result.ensures)

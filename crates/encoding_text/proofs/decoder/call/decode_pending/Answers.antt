@@ -2,7 +2,6 @@ use Rattle.std.proofs.Common.{arith, sym, ap, inr, ◌∙◌, ◌≡◌, ◌≢�
 use Rattle.std.proofs.lemmas.Bool.{eqb-true, eqb-false}
 use Rattle.std.proofs.lemmas.List.{take_rest, append-nil, nil_from_length, length-append, length-take}
 use Rattle.encoding_definitions.proofs.Sequences.SequenceLemmas.{length-IsBeginning}
-use Rattle.encoding_text.proofs.LongestFronts.ConvertingLemmas.{converts_front}
 use Rattle.encoding_text.proofs.Calls.DecodeLemmas.{source_ended, pending_full, pending_stuck, whole_then}
 use Rattle.encoding_text.proofs.decoder.call.decode_pending.Goals as goal
 
@@ -36,6 +35,5 @@ returns-in-Stuck-default g c =
 pub returns-in-Whole-default : goal.returns-in-Whole-default
 returns-in-Whole-default g c =
     let r = rw c.in-Whole-default.is-0 at c.resume.ensures in
-    let front = converts_front g.U.CodeUnit.encode _ _ _ _ _ c.convert_up_to_invalid-written.ensures in
-    whole_then g.U.CodeUnit.encode g.U.CodeUnit.need c.needed_room.ensures.holds_any _ _ c.in-Whole-default.bytes _ _ _ _ _ _ c.in-Whole-default.count _ _ _ _ _ c.requires.unfinished (omega (arith, c.if-dst-needed_room.false, c.needed_room.ensures.room)) r.1 r.4 r.5 front
+    whole_then g.U.CodeUnit.encode g.U.CodeUnit.need c.needed_room.ensures.holds_any _ _ c.in-Whole-default.bytes _ _ _ _ _ _ c.in-Whole-default.count _ _ _ _ _ c.requires.unfinished (omega (arith, c.if-dst-needed_room.false, c.needed_room.ensures.room)) r.1 r.4 r.5 c.convert_up_to_invalid-written.ensures
     (rw (take_rest c.args.src.now c.resume.result.1) at c.decode_neutral-result.ensures)

@@ -1,4 +1,4 @@
-use Rattle.std.proofs.Common.{◌≡◌, ◌+◌, ◌-◌, ◌<◌, ◌∙◌, ap, arith, refl, length, take, drop}
+use Rattle.std.proofs.Common.{◌≡◌, ℕ, ◌+◌, ◌-◌, ◌<◌, ◌∙◌, ap, arith, refl, length, take, drop}
 use Rattle.std.proofs.lemmas.List.{take_rest, length-drop, length-set}
 use borrow.Rule.Slice.PartMut.{put_mid}
 use Rattle.encoding_definitions.proofs.LongestFronts.FrontsLemmas.{WritesFront-length}
@@ -55,11 +55,5 @@ loop-dst-preserved c =
     record {
       neutral = some.2;
       repaired = repaired_more _ _ _ _ _ _ _ _ _ _ _ repaired call (omega (arith, left_in, whole));
-      room = omega (
-        arith,
-        left_in,
-        room,
-        long,
-        length-set (put_mid written (length dst - written) dst c.decode_to_utf16_raw-result.new.dst) (written + units) 0xFFFD,
-      );
+      room = omega (arith, left_in, room, long, length-set {A = ℕ});
     }
