@@ -45,8 +45,7 @@ pub broken_behind : (bs : List ℕ) (place size : ℕ) → place + size ≤ leng
 broken_behind bs place size within (cs, (h, e)) f = record {
   within = within;
   well_formed = (cs, (h, e));
-  first = subst (λ ds. StartsWith bs (map Character ds ++ Broken (take size (drop place bs)) ∷ []) (drop (place + size) bs)) (sym (sym (ap chars e) ∙ chars-encodes cs h))
-      (subst (λ xs. StartsWith bs (map Character cs ++ Broken (take size (drop place bs)) ∷ []) xs) (drop-drop size place bs) starts);
+  first = rw (sym (sym (ap chars e) ∙ chars-encodes cs h), drop-drop) at starts;
 }
   where
     whole : encode_utf8_all cs ++ drop place bs ≡ bs
@@ -207,9 +206,7 @@ are_found (Character c ∷ parts) at cs bs h (after, (s, e), more) =
     ap (λ xs. xs ++ after) one ∙ append_assoc (encode_utf8_all cs) (encode_utf8 c) after ∙ ap (λ xs. encode_utf8_all cs ++ xs) (sym e) in
     let place : at + length (encode_utf8_all (cs ++ c ∷ [])) ≡ at + length (encode_utf8_all cs) + length (encode_utf8 c) =
     omega (arith, ap length one, length-append (encode_utf8_all cs) (encode_utf8 c)) in
-    subst (λ n. AreFoundInTurn at (encode_utf8_all cs ++ bs) (broken_places n parts)) place
-    (subst (λ xs. AreFoundInTurn at xs (broken_places (at + length (encode_utf8_all (cs ++ c ∷ []))) parts)) whole
-    (are_found parts at (cs ++ c ∷ []) after (scalars-append cs (c ∷ []) h (and_from _ _ s refl)) more))
+    rw (place, whole) at (are_found parts at (cs ++ c ∷ []) after (scalars-append cs (c ∷ []) h (and_from _ _ s refl)) more)
 are_found (Broken x ∷ parts) at cs bs h (after, f, more) =
     let behind = at + length (encode_utf8_all cs) + length x in
     let zero_more : behind + length (encode_utf8_all []) ≡ behind = omega arith in

@@ -25,9 +25,7 @@ unread_bytes q b n r h = append_assoc q (drop r (take n b)) (drop n b) ∙ ap (�
 first_of_all : (p b : List ℕ) (n : ℕ) (last : Bool) (parts : List Part) (read : ℕ) (q : List ℕ) → Gives p (take n b) last parts read q → (last ≡ true → length b ≤ n)
     → StartsWith (p ++ b) parts (q ++ drop read b)
 first_of_all p b n true parts read q g whole = subst (λ xs. StartsWith (p ++ xs) parts (q ++ drop read xs)) (take_all n b (whole refl)) g.first
-first_of_all p b n false parts read q g whole =
-    subst (λ xs. StartsWith xs parts (q ++ drop read b)) (piece_bytes p b n)
-    (subst (λ xs. StartsWith (p ++ take n b ++ drop n b) parts xs) (unread_bytes q b n read g.within) (g.whatever_follows refl (drop n b)))
+first_of_all p b n false parts read q g whole = rw (piece_bytes p b n, unread_bytes q b n read g.within) at (g.whatever_follows refl (drop n b))
 
 first_whatever_follows : (p b : List ℕ) (n : ℕ) (last : Bool) (parts : List Part) (read : ℕ) (q : List ℕ) → Gives p (take n b) last parts read q → last ≡ false
     → (more : List ℕ) → StartsWith (p ++ b ++ more) parts (q ++ drop read b ++ more)

@@ -32,8 +32,7 @@ call_first held unread more call c reaches a b n =
     let none : call.last ≡ true → behind ≡ [] = λ e. ap (λ xs. xs ++ more) (drop_all call.piece unread (reaches e)) ∙ n e in
     let first : StartsWith16 (held ++ piece ++ behind) parts (call.pending ++ drop call.read piece ++ behind) =
     written_first _ _ _ _ _ _ _ _ c behind (AreUnits-append (drop call.piece unread) more (AreUnits-behind unread call.piece a) b) none in
-    subst (λ xs. StartsWith16 xs parts (call.pending ++ (drop call.read unread ++ more))) (append_assoc held piece behind ∙ ap (λ xs. held ++ xs) whole)
-    (subst (StartsWith16 (held ++ piece ++ behind) parts) (append_assoc call.pending (drop call.read piece) behind ∙ ap (λ xs. call.pending ++ xs) rest) first)
+    rw (append_assoc held piece behind ∙ ap (λ xs. held ++ xs) whole, append_assoc call.pending (drop call.read piece) behind ∙ ap (λ xs. call.pending ++ xs) rest) at first
 
 -- ---- the chain
 -- the parts that its calls wrote
@@ -109,9 +108,7 @@ pub chain_encodes : (held src : List ℕ) (calls : List (Call ℕ EncoderResult 
 chain_encodes held src calls h a chain =
     let parts : List Part16 = chain_parts calls held src chain in
     let first : StartsWith16 (held ++ src) parts (pending_after held calls ++ drop (read_in_all calls) src) =
-    subst (λ xs. StartsWith16 (held ++ xs) parts (pending_after held calls ++ drop (read_in_all calls) src)) (append-nil src)
-    (subst (λ xs. StartsWith16 (held ++ (src ++ [])) parts (pending_after held calls ++ xs)) (append-nil (drop (read_in_all calls) src))
-    (chain_first calls held src [] chain h a (λ k. omega arith) (inl refl))) in
+    rw (append-nil src, append-nil (drop (read_in_all calls) src)) at (chain_first calls held src [] chain h a (λ k. omega arith) (inl refl)) in
     record {
       parts = parts;
       first = first;

@@ -17,8 +17,7 @@ use Rattle.encoding_text.proofs.CodeUnits.EncoderPartsLemmas.{at_most_one_held, 
 use Rattle.encoding_runs.specs.declared.run.turns.Turn.{Turn}
 use Rattle.encoding_runs.specs.declared.run.encoding.EncodeOutcome.{EncodeOutcome}
 use Rattle.encoding_runs.specs.Turns.{room_of, is_marked_last}
-use Rattle.encoding_runs.specs.Calls.{Call, IsChain, read_in_all, output_of}
-use Rattle.encoding_runs.specs.EncoderCalls.{EncodesFirstParts}
+use Rattle.encoding_runs.specs.Calls.{Call, IsChain}
 use Rattle.encoding_runs.specs.Runs.{AreOfTurns, IsRun, Completes}
 use Rattle.encoding_runs.specs.EncoderRuns.{EncodesByTurns}
 use Rattle.encoding_runs.proofs.TurnLemmas.{WritesFront_within, same_call}
@@ -30,8 +29,7 @@ pub run_encodes : (held src : List ℕ) (turns : List Turn) (old new : List ℕ)
     → IsRun IsEncoderCall held src turns old new outcome.read outcome.written outcome.result after → EncodesByTurns held src turns old new outcome after
 run_encodes held src turns old new outcome after h a run = record {
   run = run;
-  encodes = subst (λ n. EncodesFirstParts held src run.calls n (output_of run.calls) after) (sym run.reads)
-      (subst (EncodesFirstParts held src run.calls (read_in_all run.calls) (output_of run.calls)) (sym run.leaves) (chain_encodes held src run.calls h a run.chain));
+  encodes = rw (sym run.reads, sym run.leaves) at (chain_encodes held src run.calls h a run.chain);
 }
 
 -- ---- the call of a turn

@@ -135,8 +135,7 @@ piece_first : (src array rest : List ℕ) (most : ℕ) (piece : Piece) (read : �
     → q ≡ [] → array ≡ text_of piece ++ rest → RepairsFirst src array read (length (text_of piece)) (broken_of piece)
 piece_first src array rest most piece read q short call none placed = record {
   parts = g.parts;
-  first = subst (λ xs. AreFirst false xs g.parts (drop read src)) whole
-      (subst (AreFirst false (take most src ++ drop most src) g.parts) behind (window_first (take most src) (drop most src) g.parts (q ++ drop read (take most src)) g.first));
+  first = rw (behind, whole) at (window_first (take most src) (drop most src) g.parts (q ++ drop read (take most src)) g.first);
   within = omega (arith, within, length-take most src, short);
   fits = (at_front array (text_of piece) rest placed).0;
   text = (at_front array (text_of piece) rest placed).1 ∙ sym g.text;

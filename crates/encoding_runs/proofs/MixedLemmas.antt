@@ -66,11 +66,7 @@ same_answers p b [] [] c d e = tt
 same_answers p b [] (other ∷ others) c d e = absurd e
 same_answers p b (call ∷ calls) [] c d e = absurd e
 same_answers p b (call ∷ calls) (other ∷ others) (does, whole, c) (does', whole', d) ((form, piece, last), e) =
-    let asked : IsMixedCall p (take call.piece b) call.form call.last other.result other.read other.out other.pending =
-    subst (λ x. IsMixedCall p (take call.piece b) x call.last other.result other.read other.out other.pending) (sym form)
-    (subst (λ n. IsMixedCall p (take n b) other.form call.last other.result other.read other.out other.pending) (sym piece)
-    (subst (λ x. IsMixedCall p (take other.piece b) other.form x other.result other.read other.out other.pending) (sym last) does')) in
+    let asked = rw (sym form, sym piece, sym last) at does' in
     let same = mixed_agree p (take call.piece b) call.form call.last call.result other.result call.read other.read call.out other.out call.pending other.pending does asked in
-    let rest : IsChain IsMixedCall call.pending (drop call.read b) others =
-    subst (λ q. IsChain IsMixedCall q (drop call.read b) others) (sym same.3) (subst (λ n. IsChain IsMixedCall other.pending (drop n b) others) (sym same.1) d) in
+    let rest = rw (sym same.3, sym same.1) at d in
     (same, same_answers call.pending (drop call.read b) calls others c rest e)

@@ -34,11 +34,7 @@ marked turn unread e = grind (arith, nat_tests)
 module _ {Result A : Type 0} (Does : CallRelation ℕ Result A) where
   pub same_call : (p p' src src' : List ℕ) (room room' : ℕ) (last last' : Bool) (result : Result) (read : ℕ) (out out' : List A) (q : List ℕ) → Does p src room last result read out q
       → p ≡ p' → src ≡ src' → room ≡ room' → last ≡ last' → out ≡ out' → Does p' src' room' last' result read out' q
-  same_call p p' src src' room room' last last' result read out out' q call e f g h k =
-      subst (λ xs. Does xs src' room' last' result read out' q) e
-      (subst (λ xs. Does p xs room' last' result read out' q) f
-      (subst (λ n. Does p src n last' result read out' q) g
-      (subst (λ b. Does p src room b result read out' q) h (subst (λ xs. Does p src room last result read xs q) k call))))
+  same_call p p' src src' room room' last last' result read out out' q call e f g h k = rw (e, f, g, h, k) at call
 
   -- the first call of a run is one of the first turn
   pub turn_call : (p unread : List ℕ) (left : ℕ) (turn : Turn) (call : Call ℕ Result A) → Does p (take call.piece unread) call.form call.last call.result call.read call.out call.pending

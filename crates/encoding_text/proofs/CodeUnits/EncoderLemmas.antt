@@ -257,9 +257,7 @@ module _ (held src old mid sub : List ℕ) (u scalar t first read written : ℕ)
       let bytes : utf8_of p ≡ encode_utf8 scalar = ap encode_utf8 f.counts in
       let room : length (take (length mid - first) (drop first mid)) ≡ length old - length (utf8_of p) =
       ap length (take_rest mid first) ∙ length-drop first mid ∙ omega (arith, WritesFront-length old mid first _ w, w.count, ap length bytes) in
-      let rest : IsEncoderCall [] (drop t src) (length old - length (utf8_of p)) last r read (take written sub) after =
-      subst (λ xs. IsEncoderCall [] xs (length old - length (utf8_of p)) last r read (take written sub) after) (take_rest src t)
-      (subst (λ k. IsEncoderCall [] (take (length src - t) (drop t src)) k last r read (take written sub) after) room c) in
+      let rest = rw (room, take_rest src t) at c in
       let whole : IsEncoderCall (u ∷ []) src (length old) last r (t + read) (utf8_of p ++ take written sub) after =
       held_then u src (length old) last p t (held_first u src scalar t f g) (g ∙ units_counted (u ∷ src) scalar f) n high r read (take written sub) after
       (omega (arith, w.count, w.fits, ap length bytes)) rest in

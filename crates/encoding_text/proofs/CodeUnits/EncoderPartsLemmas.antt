@@ -63,30 +63,31 @@ module _ (held src : List ℕ) (room : ℕ) (last : Bool) (r : EncoderResult) (r
   all_units : length held + length src ≡ length c.are_due.front + length c.left_open
   all_units = sym (length-append held src) ∙ ap length c.are_due.whole ∙ length-append c.are_due.front c.left_open
 
-  pub read_within : read ≤ length src
-  read_within = by_result r c.answer
+  -- behind the units of what it wrote lie those that it holds then and has not read
+  come_to : (read ≤ length src) × (drop c.taken (held ++ src) ≡ after ++ drop read src)
+  come_to = by_result r c.answer
     where
-      by_result : (r : EncoderResult) → EncoderAnswers held src c.due c.left_open c.taken r read after → read ≤ length src
-      by_result InputEmpty (x, y, z) = omega arith
+      by_result : (r : EncoderResult) → EncoderAnswers held src c.due c.left_open c.taken r read after → (read ≤ length src) × (drop c.taken (held ++ src) ≡ after ++ drop read src)
+      by_result InputEmpty (x, y, z) = (
+        omega arith,
+        ap (drop c.taken) c.are_due.whole ∙ drop_at c.are_due.front c.left_open c.taken (omega (arith, x, ap length due_units)) ∙ sym z ∙ sym (append-nil after)
+            ∙ ap (λ xs. after ++ xs) (sym (drop_all read src (omega arith))),
+      )
       by_result OutputFull (x, y, z) = elim (cases_lt 0 c.taken) [
-        | inl some ↦ omega (arith, (z some).0, taken_within, all_units)
-        | inr none ↦ let zero : c.taken ≡ 0 = omega arith in omega (arith, (y zero).0)
+        | inl some ↦ (
+          omega (arith, (z some).0, taken_within, all_units),
+          ap (λ n. drop n (held ++ src)) {x = c.taken} {y = length held + read} (omega (arith, (z some).0)) ∙ sym (drop-drop read (length held) (held ++ src))
+              ∙ ap (drop read) (drop_at held src (length held) refl) ∙ ap (λ xs. xs ++ drop read src) (sym (z some).1),
+        )
+        | inr none ↦ let zero : c.taken ≡ 0 = omega arith in
+            (omega (arith, (y zero).0), ap (λ n. drop n (held ++ src)) zero ∙ ap (λ xs. xs ++ src) (sym (y zero).1) ∙ ap (λ n. after ++ drop n src) (sym (y zero).0))
       ]
 
-  -- behind the units of what it wrote lie those that it holds then and has not read
+  pub read_within : read ≤ length src
+  read_within = come_to.0
+
   rest_is : drop c.taken (held ++ src) ≡ after ++ drop read src
-  rest_is = by_result r c.answer
-    where
-      by_result : (r : EncoderResult) → EncoderAnswers held src c.due c.left_open c.taken r read after → drop c.taken (held ++ src) ≡ after ++ drop read src
-      by_result InputEmpty (x, y, z) =
-          ap (drop c.taken) c.are_due.whole ∙ drop_at c.are_due.front c.left_open c.taken (omega (arith, x, ap length due_units)) ∙ sym z ∙ sym (append-nil after)
-          ∙ ap (λ xs. after ++ xs) (sym (drop_all read src (omega arith)))
-      by_result OutputFull (x, y, z) = elim (cases_lt 0 c.taken) [
-        | inl some ↦ ap (λ n. drop n (held ++ src)) {x = c.taken} {y = length held + read} (omega (arith, (z some).0)) ∙ sym (drop-drop read (length held) (held ++ src))
-            ∙ ap (drop read) (drop_at held src (length held) refl) ∙ ap (λ xs. xs ++ drop read src) (sym (z some).1)
-        | inr none ↦ let zero : c.taken ≡ 0 = omega arith in
-            ap (λ n. drop n (held ++ src)) zero ∙ ap (λ xs. xs ++ src) (sym (y zero).1) ∙ ap (λ n. after ++ drop n src) (sym (y zero).0)
-      ]
+  rest_is = come_to.1
 
   -- they are the first parts whatever follows, which is nothing where the call is marked last
   pub written_first : (behind : List ℕ) → AreUnits behind → (last ≡ true → behind ≡ []) → StartsWith16 (held ++ src ++ behind) parts_written (after ++ drop read src ++ behind)
@@ -102,9 +103,7 @@ module _ (held src : List ℕ) (room : ℕ) (last : Bool) (r : EncoderResult) (r
       let rest : drop (length (flat_map units_of parts_written)) (held ++ src ++ behind) ≡ after ++ drop read src ++ behind =
       ap (λ k. drop k (held ++ src ++ behind)) (sym c.longest.taken)
       ∙ drop-append-le c.taken (held ++ src) behind (omega (arith, taken_within, all_units, length-append held src)) ∙ ap (λ xs. xs ++ behind) rest_is in
-      subst (StartsWith16 (held ++ src ++ behind) parts_written) rest
-      (subst (λ ps. StartsWith16 (held ++ src ++ behind) ps (drop (length (flat_map units_of ps)) (held ++ src ++ behind))) first
-      (StartsWith16-take (held ++ src ++ behind) (c.due ++ parts_of open_behind) c.longest.count all))
+      rw (first, rest) at (StartsWith16-take (held ++ src ++ behind) (c.due ++ parts_of open_behind) c.longest.count all)
 
   -- the units that it read and held, those of the parts, and those that it holds then
   units_split : length (flat_map units_of parts_written) + length after ≡ length held + read

@@ -51,11 +51,7 @@ module _ (text : List ℕ) (room n : ℕ) (u : IsUtf8 text) (b : IsCharBoundary 
       FitsLongest-stop encode_utf8 encode_utf8 front c more room (omega (arith, front_length)) (omega (arith, front_length, no_more c more e, length-encode c))
 
   pub text_front : FitsLongest encode_utf8 encode_utf8 (chars text) room n (take n text)
-  text_front =
-      subst (λ k. FitsLongest encode_utf8 encode_utf8 (chars text) room k (take n text)) front_length
-      (subst (λ xs. FitsLongest encode_utf8 encode_utf8 (chars text) room (length (flat_map encode_utf8 front)) xs) front_text
-      (subst (λ cs. FitsLongest encode_utf8 encode_utf8 cs room (length (flat_map encode_utf8 front)) (flat_map encode_utf8 front)) whole_text
-      (front_fits (chars (drop n text)) refl)))
+  text_front = rw (front_length, front_text, whole_text) at (front_fits (chars (drop n text)) refl)
 
 -- ---- the characters due
 text_bytes : (cs : List ℕ) → flat_map utf8_of (map Character16 cs) ≡ encode_utf8_all cs
