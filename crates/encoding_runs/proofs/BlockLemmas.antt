@@ -1,5 +1,5 @@
 -- The repair of a block: what is written after each call of the decoder, and what calls on blocks give in a row.
-use Rattle.std.proofs.Common.{◌≡◌, ℕ, ◌+◌, ◌-◌, ◌*◌, ◌≤◌, inl, Bool, true, false, List, [], ◌∷◌, ◌++◌, length, map, take, drop, encode_utf8, refl, sym, ap, ◌∙◌, arith, subst, true≢false}
+use Rattle.std.proofs.Common.{◌≡◌, ℕ, ◌+◌, ◌-◌, ◌*◌, ◌<◌, ◌≤◌, inl, Bool, true, false, List, [], ◌∷◌, ◌++◌, length, map, take, drop, encode_utf8, refl, sym, ap, ◌∙◌, arith, subst, true≢false}
 use Rattle.std.specs.Prelude.{Any}
 use Rattle.std.proofs.lemmas.List.{append-nil, append_assoc, length-drop, take_rest}
 use Rattle.std.proofs.lemmas.Str.{length-encode}
@@ -8,7 +8,7 @@ use Rattle.encoding_definitions.specs.Parts.{Part, Character, Broken, repaired_t
 use Rattle.encoding_definitions.specs.Pending.{IsPending}
 use Rattle.encoding_definitions.specs.Giving.{Gives}
 use Rattle.encoding_definitions.specs.Fronts.{WritesFront}
-use Rattle.encoding_definitions.proofs.LongestFronts.FrontsLemmas.{WritesFront-nil, WritesFront-same, WritesFront-length, WritesFront_after}
+use Rattle.encoding_definitions.proofs.LongestFronts.FrontsLemmas.{WritesFront-same, WritesFront-length, WritesFront_after}
 use Rattle.encoding_definitions.proofs.Decomposition.DecompositionLemmas.{repaired_text-append, repaired_text-characters, count_broken-append, count_broken-characters}
 use Rattle.encoding_definitions.proofs.Sequences.EncodingLemmas.{flat_map-encode_utf8}
 use Rattle.encoding_text.specs.Decoding.{IsCall}
@@ -16,7 +16,6 @@ use Rattle.encoding_text.specs.GivenParts.{IsReported}
 use Rattle.encoding_text.specs.declared.decoder.DecoderResult.{DecoderResult}
 use Rattle.encoding_text.specs.declared.decoder.DecoderResult.TheVariants.{InputEmpty, OutputFull, Malformed}
 use Rattle.encoding_text.proofs.Calls.CallPartsLemmas.{decoded_gives}
-use Rattle.encoding_text.proofs.Conversions.RepairingLemmas.{repaired_length}
 use Rattle.encoding_runs.specs.declared.repair.blocks.RepairedBlock.{RepairedBlock}
 use Rattle.encoding_runs.specs.Blocks.{IsBlockRepair, RepairTheParts, replaced_in_all}
 use Rattle.encoding_runs.specs.Calls.{Call, IsChain, output_of}
@@ -35,15 +34,6 @@ pub record BlockText (p src : List ℕ) (last : Bool) (old new : List ℕ) (read
 -- the text of all is written
 abbrev pub BlockDone : List ℕ → List ℕ → Bool → List ℕ → List ℕ → ℕ → ℕ → ℕ → List ℕ → Type 0
 BlockDone p src last old new read written replaced q = BlockText p src last old new read written replaced q []
-
-pub block_begins : (p src : List ℕ) (last : Bool) (old : List ℕ) → IsPending p → BlockDone p src last old old 0 0 0 p
-block_begins p src last old h = record {
-  parts = [];
-  given = record { within = omega arith; first = refl; pending = h; whatever_follows = λ e more. refl };
-  writes = WritesFront-nil old;
-  broken = refl;
-  three = omega arith;
-}
 
 -- a call of the decoder on what is left, into what is left but three bytes
 abbrev pub DecodesRest : List ℕ → List ℕ → Bool → List ℕ → List ℕ → ℕ → ℕ → DecoderResult → ℕ → ℕ → List ℕ → Type 0
@@ -75,57 +65,41 @@ module _ (p src : List ℕ) (last : Bool) (old new sub : List ℕ) (read written
         },
       )
 
-  -- three bytes are left behind it
-  pub room_left : (result : DecoderResult) → BlockDone p src last old new read written replaced q → DecodesRest q src last new sub read written result bytes units t
-      → written + 3 ≤ length new → (length after ≡ length new) × (written + units + 3 ≤ length new)
-  room_left result d (out, w, call) l =
-      let size : length (take (length new - written) (drop written new)) ≡ length new - written = ap length (take_rest new written) ∙ length-drop written new in
-      (repaired_length new sub written units out w (omega arith), omega (arith, call.fits, w.count, size))
-
 -- ---- what ends a call
-no_more : (parts reported : List Part) → reported ≡ [] → parts ++ reported ≡ parts
-no_more parts reported e = ap (λ ps. parts ++ ps) e ∙ append-nil parts
-
 module _ (p src : List ℕ) (last : Bool) (old new sub : List ℕ) (read written replaced : ℕ) (q : List ℕ) (bytes units : ℕ) (t : List ℕ)
     (d : BlockDone p src last old new read written replaced q) where
-  -- all was read
-  pub block_finished : DecodesRest q src last new sub read written InputEmpty bytes units t
-      → (out : List ℕ) × WritesFront old (put_mid written (length new - written) new sub) (written + units) out
-      × IsBlockRepair p src (length old) last (record { read = read + bytes; written = written + units; replaced = replaced; finished = true }) (read + bytes) out t
-  block_finished (out, w, call) =
-      let (reported, is, b) = block_more p src last old new sub read written replaced q bytes units t InputEmpty d (out, w, call) in (
+  abbrev Ended : Bool → Type 0
+  Ended finished = (out : List ℕ) × WritesFront old (put_mid written (length new - written) new sub) (written + units) out
+      × IsBlockRepair p src (length old) last (record { read = read + bytes; written = written + units; replaced = replaced; finished = finished }) (read + bytes) out t
+
+  ended : (result : DecoderResult) (finished : Bool) → ((reported : List Part) → IsReported result reported → reported ≡ []) → DecodesRest q src last new sub read written result bytes units t
+      → (finished ≡ true → (read + bytes ≡ length src) × (last ≡ true → t ≡ [])) → (finished ≡ false → length old < written + units + 7) → Ended finished
+  ended result finished none call is_end is_full =
+      let (reported, is, b) = block_more p src last old new sub read written replaced q bytes units t result d call in
+      let whole : b.parts ++ reported ≡ b.parts = ap (λ ps. b.parts ++ ps) (none reported is) ∙ append-nil b.parts in (
         repaired_text b.parts,
         b.writes,
         record {
           parts = b.parts;
-          given = subst (λ ps. Gives p src last ps (read + bytes) t) (no_more b.parts reported is) b.given;
+          given = subst (λ ps. Gives p src last ps (read + bytes) t) whole b.given;
           text = refl;
           fits = omega (arith, b.writes.count, b.writes.fits);
           replaced = b.broken;
-          finished = λ _. (omega (arith, call.answer.0, length-drop read src, d.given.within), call.answer.2);
-          full = λ e. absurd (true≢false e);
+          finished = is_end;
+          full = λ e. omega (arith, is_full e, b.writes.count);
         },
       )
 
+  -- all was read
+  pub block_finished : DecodesRest q src last new sub read written InputEmpty bytes units t → Ended true
+  block_finished (out, w, call) =
+      ended InputEmpty true (λ reported e. e) (out, w, call) (λ _. (omega (arith, call.answer.0, length-drop read src, d.given.within), call.answer.2)) (λ e. absurd (true≢false e))
+
   -- the room that is left isn't enough
-  pub block_full : DecodesRest q src last new sub read written OutputFull bytes units t → written + 3 ≤ length new
-      → (out : List ℕ) × WritesFront old (put_mid written (length new - written) new sub) (written + units) out
-      × IsBlockRepair p src (length old) last (record { read = read + bytes; written = written + units; replaced = replaced; finished = false }) (read + bytes) out t
+  pub block_full : DecodesRest q src last new sub read written OutputFull bytes units t → written + 3 ≤ length new → Ended false
   block_full (out, w, call) l =
-      let (reported, is, b) = block_more p src last old new sub read written replaced q bytes units t OutputFull d (out, w, call) in
-      let size : length (take (length new - written) (drop written new)) ≡ length new - written = ap length (take_rest new written) ∙ length-drop written new in (
-        repaired_text b.parts,
-        b.writes,
-        record {
-          parts = b.parts;
-          given = subst (λ ps. Gives p src last ps (read + bytes) t) (no_more b.parts reported is) b.given;
-          text = refl;
-          fits = omega (arith, b.writes.count, b.writes.fits);
-          replaced = b.broken;
-          finished = λ e. absurd (true≢false (sym e));
-          full = λ _. omega (arith, call.answer.2, size, w.count, b.writes.count, WritesFront-length _ _ _ _ d.writes);
-        },
-      )
+      let size : length (take (length new - written) (drop written new)) ≡ length new - written = ap length (take_rest new written) ∙ length-drop written new in
+      ended OutputFull false (λ reported e. e) (out, w, call) (λ e. absurd (true≢false (sym e))) (λ _. omega (arith, call.answer.2, size, w.count, WritesFront-length _ _ _ _ d.writes))
 
 -- U+FFFD for the part that is reported
 pub block_replaced : (p src : List ℕ) (last : Bool) (old new sub : List ℕ) (read written replaced n k second : ℕ) (q : List ℕ) (reported : List Part)

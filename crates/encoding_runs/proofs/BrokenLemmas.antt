@@ -2,7 +2,7 @@
 use Rattle.std.proofs.Common.{◌≡◌, ℕ, ◌+◌, ◌<◌, ◌≤◌, ◌↔◌, inl, inr, true, List, [], ◌∷◌, ◌++◌, length, map, take, drop, slice_index, encode_utf8, encode_utf8_all, refl, sym, ap, ◌∙◌, arith, subst, take-add}
 use Rattle.std.specs.Str.{all_scalars, IsUtf8, chars}
 use Rattle.std.proofs.lemmas.Bool.{cases_lt, and_from}
-use Rattle.std.proofs.lemmas.List.{append-nil, append_assoc, length-append, length-take, length-drop, take_all, take_at, drop_at, drop_more, drop-drop, take-take, get_or-take, take-append-drop}
+use Rattle.std.proofs.lemmas.List.{append-nil, append_assoc, length-append, length-take, length-drop, take_all, drop_more, drop-drop, take-take, get_or-take, take-append-drop}
 use Rattle.std.proofs.lemmas.Str.{IsUtf8-append, encodes-chars, chars-encodes, encodes-append}
 use Rattle.std.proofs.str.Laws.{scalars-append}
 use Rattle.encoding_definitions.specs.Fronts.{IsLongestFront}
@@ -13,6 +13,7 @@ use Rattle.encoding_definitions.proofs.Decomposition.DecompositionLemmas.{Starts
 use Rattle.encoding_text.specs.Decoding.{IsBroken, IsBorrowedCall}
 use Rattle.encoding_text.specs.declared.decoder.Piece.{Piece}
 use Rattle.encoding_text.specs.declared.decoder.Piece.TheVariants.{Text, Char, Malformed, InputEmpty}
+use Rattle.encoding_text.proofs.LongestFronts.ConvertingLemmas.{cut_behind}
 use Rattle.encoding_text.proofs.Calls.CallPartsLemmas.{broken_first}
 use Rattle.encoding_runs.specs.BrokenParts.{IsNextBroken, AreFoundInTurn, broken_places}
 
@@ -180,21 +181,20 @@ broken_found at cs bs x after found h f more = (n, refl, next, subst (λ ys. Are
     n : ℕ
     n = length text
 
-    back : drop n (text ++ bs) ≡ bs
-    back = drop_at text bs n refl
-
     bytes : bs ≡ x ++ after
     bytes = (part_bytes bs (Broken x) after f).0
 
+    at_text : (n ≤ length (text ++ bs)) × (take n (text ++ bs) ≡ text) × (drop n (text ++ bs) ≡ bs)
+    at_text = cut_behind (text ++ bs) text bs refl
+
+    at_part : (length x ≤ length bs) × (take (length x) bs ≡ x) × (drop (length x) bs ≡ after)
+    at_part = cut_behind bs x after bytes
+
     next : IsNextBroken (text ++ bs) n (length x)
-    next = broken_behind (text ++ bs) n (length x) (omega (arith, length-append text bs, ap length bytes, length-append x after))
-        (subst IsUtf8 (sym (take_at text bs n refl)) (cs, (h, refl)))
-        (subst (λ ys. IsFirstPart ys (Broken (take (length x) ys)) (drop (length x) ys)) (sym back)
-        (subst (λ ys. IsFirstPart bs (Broken ys) (drop (length x) bs)) (sym (ap (take (length x)) bytes ∙ take_at x after (length x) refl))
-        (subst (λ ys. IsFirstPart bs (Broken x) ys) (sym (ap (drop (length x)) bytes ∙ drop_at x after (length x) refl)) f)))
+    next = broken_behind (text ++ bs) n (length x) (omega (arith, length-append text bs, at_part.0)) (subst IsUtf8 (sym at_text.1) (cs, (h, refl))) (rw (at_text.2, at_part.1, at_part.2) f)
 
     left : after ≡ drop (n + length x) (text ++ bs)
-    left = sym (sym (drop-drop (length x) n (text ++ bs)) ∙ ap (drop (length x)) (back ∙ bytes) ∙ drop_at x after (length x) refl)
+    left = sym (sym (drop-drop (length x) n (text ++ bs)) ∙ ap (drop (length x)) at_text.2 ∙ at_part.2)
 
 are_found : (parts : List Part) (at : ℕ) (cs bs : List ℕ) → all_scalars cs ≡ true → ArePartsOf bs parts
     → AreFoundInTurn at (encode_utf8_all cs ++ bs) (broken_places (at + length (encode_utf8_all cs)) parts)

@@ -2,7 +2,7 @@
 use Rattle.std.proofs.Common.{◌≡◌, ℕ, ◌+◌, ◌<◌, ◌≤◌, Bool, false, inl, List, [], ◌∷◌, ◌++◌, length, take, drop, slice_index, Option, encode_utf8, encode_utf8_all, map, add-zero, refl, sym, ap, ◌∙◌, arith, subst}
 use Rattle.std.specs.Io.KnownBytes.{Appends}
 use Rattle.std.proofs.lemmas.List.{append-nil, append_assoc, drop-drop, drop-append-le, drop_more, length-append, length-drop, length-take, take-append-drop, take-append-le, take-take}
-use Rattle.std.proofs.Math.Seq.{take-append-add, take-append_seam}
+use Rattle.std.proofs.Math.Seq.{take-append-add}
 use borrow.Rule.Slice.PartMut.{put_mid, post_of}
 use Rattle.std.specs.Char.{IsScalar}
 use Rattle.std.proofs.lemmas.Str.{IsUtf8-from_ascii}
@@ -15,22 +15,12 @@ use Rattle.encoding_kernels.proofs.Latin.AsciiLemmas.{Each-take}
 use Rattle.encoding_text.specs.Decoding.{IsBroken, IsBorrowedCall}
 use Rattle.encoding_text.specs.declared.decoder.Piece.{Piece}
 use Rattle.encoding_text.specs.declared.decoder.Piece.TheVariants.{Text, Char, Malformed, InputEmpty}
+use Rattle.encoding_text.proofs.LongestFronts.ConvertingLemmas.{cut_behind}
 use Rattle.encoding_text.proofs.Calls.BorrowedLemmas.{borrowed_gives}
 use Rattle.encoding_runs.specs.Steps.Writing.{text_of, broken_of, AreFirst, WritesParts, StopsInParts}
 use Rattle.encoding_runs.specs.Steps.Fronts.{RepairsFirst}
 use Rattle.encoding_runs.proofs.SettledLemmas.{AreFirst-trans}
 use Rattle.encoding_runs.proofs.RepairLemmas.{GivesPiece, piece_gives, nothing_pending, wrote_then, wrote_piece, stopped_in, stopped_then}
-
--- nothing
-pub first_none : (src array : List ℕ) → RepairsFirst src array 0 0 0
-first_none src array = record {
-  parts = [];
-  first = record { starts = refl; whatever_follows = λ e more. refl };
-  within = omega arith;
-  fits = omega arith;
-  text = refl;
-  broken = refl;
-}
 
 -- more of it, behind what the array holds
 pub first_behind : (src array tail : List ℕ) (k read written n more_read more_written m : ℕ) → RepairsFirst src array read written n
@@ -61,10 +51,6 @@ pub text_behind : (src array tail : List ℕ) (k read written n more more_writte
 text_behind src array tail k read written n more more_written r s = rw (add-zero n) at (first_behind src array tail k read written n more more_written 0 r s)
 
 -- ---- one step
--- what stands at the front of the array
-at_front : (array out rest : List ℕ) → array ≡ out ++ rest → (length out ≤ length array) × (take (length out) array ≡ out)
-at_front array out rest e = (omega (arith, ap length e, length-append out rest), ap (take (length out)) e ∙ take-append_seam out rest)
-
 -- an ASCII byte
 pub ascii_first : (src array rest : List ℕ) → 0 < length src → slice_index src 0 < 0x80 → array ≡ slice_index src 0 ∷ rest → RepairsFirst src array 1 1 0
 ascii_first src array rest some ascii placed = record {
@@ -74,8 +60,8 @@ ascii_first src array rest some ascii placed = record {
     whatever_follows = λ e more. StartsWith-one (src ++ more) (Character s.0) (drop 1 src ++ more) (s.1, ap (λ xs. xs ++ more) whole ∙ append_assoc (encode_utf8 s.0) (drop 1 src) more);
   };
   within = omega (arith, some);
-  fits = (at_front array (lead ∷ []) rest placed).0;
-  text = (at_front array (lead ∷ []) rest placed).1 ∙ sym s.2 ∙ sym (append-nil (encode_utf8 s.0));
+  fits = (cut_behind array (lead ∷ []) rest placed).0;
+  text = (cut_behind array (lead ∷ []) rest placed).1 ∙ sym s.2 ∙ sym (append-nil (encode_utf8 s.0));
   broken = refl;
 }
   where
@@ -94,8 +80,8 @@ lone_first src array rest some broken placed = record {
   parts = g.parts;
   first = g.first;
   within = omega (arith, some);
-  fits = (at_front array (0xEF ∷ 0xBF ∷ 0xBD ∷ []) rest placed).0;
-  text = (at_front array (0xEF ∷ 0xBF ∷ 0xBD ∷ []) rest placed).1 ∙ sym g.text;
+  fits = (cut_behind array (0xEF ∷ 0xBF ∷ 0xBD ∷ []) rest placed).0;
+  text = (cut_behind array (0xEF ∷ 0xBF ∷ 0xBD ∷ []) rest placed).1 ∙ sym g.text;
   broken = sym g.broken;
 }
   where
@@ -137,8 +123,8 @@ piece_first src array rest most piece read q short call none placed = record {
   parts = g.parts;
   first = rw (behind, whole) at (window_first (take most src) (drop most src) g.parts (q ++ drop read (take most src)) g.first);
   within = omega (arith, within, length-take most src, short);
-  fits = (at_front array (text_of piece) rest placed).0;
-  text = (at_front array (text_of piece) rest placed).1 ∙ sym g.text;
+  fits = (cut_behind array (text_of piece) rest placed).0;
+  text = (cut_behind array (text_of piece) rest placed).1 ∙ sym g.text;
   broken = sym g.broken;
 }
   where

@@ -151,22 +151,18 @@ module _ {A : Type 0} (encode : ℕ → List A) (need : ℕ) where
   )
 
   -- the bytes of a character, and then others
-  behind : (p src cs : List ℕ) (c read : ℕ) (rest : List ℕ) → p ++ take read src ≡ encode_utf8 c → drop read src ≡ encode_utf8_all cs ++ rest → p ++ src ≡ encode_utf8_all (c ∷ cs) ++ rest
-  behind p src cs c read rest e f =
-      ap (λ xs. p ++ xs) (sym (take-append-drop read src)) ∙ sym (append_assoc p (take read src) (drop read src)) ∙ (λ i. e i ++ f i)
-      ∙ sym (append_assoc (encode_utf8 c) (encode_utf8_all cs) rest)
+  behind : (p x y cs rest : List ℕ) (c : ℕ) → p ++ x ≡ encode_utf8 c → y ≡ encode_utf8_all cs ++ rest → p ++ (x ++ y) ≡ encode_utf8_all (c ∷ cs) ++ rest
+  behind p x y cs rest c e f = sym (append_assoc p x y) ∙ (λ i. e i ++ f i) ∙ sym (append_assoc (encode_utf8 c) (encode_utf8_all cs) rest)
 
   behind_front : (p src cs : List ℕ) (c read more : ℕ) (rest : List ℕ) → p ++ take read src ≡ encode_utf8 c → take more (drop read src) ≡ encode_utf8_all cs ++ rest
       → p ++ take (read + more) src ≡ encode_utf8_all (c ∷ cs) ++ rest
-  behind_front p src cs c read more rest e f =
-      ap (λ xs. p ++ xs) (take-add read more src) ∙ sym (append_assoc p (take read src) (take more (drop read src))) ∙ (λ i. e i ++ f i)
-      ∙ sym (append_assoc (encode_utf8 c) (encode_utf8_all cs) rest)
+  behind_front p src cs c read more rest e f = ap (λ xs. p ++ xs) (take-add read more src) ∙ behind p (take read src) (take more (drop read src)) cs rest c e f
 
   pub answer_behind : (p src : List ℕ) (c read : ℕ) (cs : List ℕ) (last : Bool) (result : DecoderResult) (more left left' : ℕ) (q : List ℕ) → p ++ take read src ≡ encode_utf8 c → read ≤ length src → left ≡ left'
       → Answers encode need [] (drop read src) last result more cs left q → Answers encode need p src last result (read + more) (c ∷ cs) left' q
   answer_behind p src c read cs last InputEmpty more left left' q e within same (all, whole, ended, room) = (
     omega (arith, all, length-drop read src, within),
-    behind p src cs c read q e whole,
+    ap (λ xs. p ++ xs) (sym (take-append-drop read src)) ∙ behind p (take read src) (drop read src) cs q c e whole,
     ended,
     (λ n _. some n (nat_cases more)),
   )

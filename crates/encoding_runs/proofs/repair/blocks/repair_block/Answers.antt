@@ -3,11 +3,8 @@ use Rattle.std.proofs.lemmas.List.{take_rest}
 use Rattle.std.proofs.lemmas.Str.{length-encode}
 use Rattle.encoding_text.specs.declared.decoder.DecoderResult.TheVariants.{Malformed}
 use Rattle.encoding_definitions.proofs.LongestFronts.FrontsLemmas.{WritesFront-length}
-use Rattle.encoding_runs.proofs.BlockLemmas.{block_begins, block_more, block_finished, block_full, block_replaced}
+use Rattle.encoding_runs.proofs.BlockLemmas.{block_more, block_finished, block_full, block_replaced}
 use Rattle.encoding_runs.proofs.repair.blocks.repair_block.Goals as goal
-
-pub loop-dst-init : goal.loop-dst-init
-loop-dst-init c = record { done = block_begins c.args.decoder.now c.args.src.now c.args.last c.args.dst.now c.in_neutral_state-neutral.ensures.pending; within = omega arith }
 
 pub returns-in-InputEmpty : goal.returns-in-InputEmpty
 returns-in-InputEmpty c =

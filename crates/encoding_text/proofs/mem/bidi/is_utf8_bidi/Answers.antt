@@ -1,5 +1,6 @@
-use Rattle.std.proofs.Common.{◌+◌, ◌-◌, ◌<◌, ◌≤◌, ◌⊎◌, inl, inr, length, take, drop, arith, refl}
+use Rattle.std.proofs.Common.{ℕ, ◌+◌, ◌-◌, ◌<◌, ◌≤◌, ◌⊎◌, inl, inr, List, length, take, drop, arith, refl, IsUtf8}
 use Rattle.std.proofs.lemmas.List.{length-drop, length-take}
+use Rattle.encoding_definitions.specs.Fronts.{IsLongestFront}
 use Rattle.encoding_kernels.proofs.Latin.AsciiLemmas.{below_front}
 use Rattle.encoding_kernels.proofs.Bidi.BidiBlocksLemmas.{ascii_text, not_text, piece_text, piece_none, piece_found}
 use Rattle.encoding_text.proofs.mem.bidi.is_utf8_bidi.Goals as goal
@@ -11,28 +12,23 @@ loop-at-init c =
     let ascii = ascii_text c.args.buffer.now c.ascii_valid_up_to-at.result front.within (below_front _ _ front) in
     record { within = front.within; text = ascii.0; none = ascii.1 }
 
+-- a text at the front of a piece is no longer than it
+inside : (m n : ℕ) (bs : List ℕ) → IsLongestFront IsUtf8 (take m bs) n → n ≤ m
+inside m n bs f = omega (arith, f.within, length-take m bs)
+
 pub returns-then-is_text_bidi : goal.returns-then-is_text_bidi
 returns-then-is_text_bidi c =
-    let bs = c.args.buffer.now in
-    let at = c.loop-at.at in
-    let m = at + c.min-length.result - at in
-    let f = c.utf8_valid_up_to-front.ensures in
-    let within : c.utf8_valid_up_to-front.result ≤ m = omega (arith, f.within, length-take m (drop at bs)) in
-    let here = (c.if-is_text_bidi.ensures {u = tt}).0 refl in
-    (λ e. piece_found bs (take m (drop at bs)) at m refl _ within c.loop-at.invariant.text c.loop-at.invariant.within here, λ b. refl)
+    let within = inside _ _ _ c.utf8_valid_up_to-front.ensures in
+    (λ e. piece_found c.args.buffer.now _ c.loop-at.at _ refl _ within c.loop-at.invariant.text c.loop-at.invariant.within ((c.if-is_text_bidi.ensures {u = tt}).0 refl), λ b. refl)
 
 pub loop-at-preserved : goal.loop-at-preserved
 loop-at-preserved c =
-    let bs = c.args.buffer.now in
-    let at = c.loop-at.at in
-    let m = at + c.min-length.result - at in
-    let n = c.utf8_valid_up_to-front.result in
     let f = c.utf8_valid_up_to-front.ensures in
-    let within : n ≤ m = omega (arith, f.within, length-take m (drop at bs)) in
+    let within = inside _ _ _ f in
     record {
-      within = omega (arith, f.within, length-take m (drop at bs), length-drop at bs);
-      text = piece_text bs (take m (drop at bs)) at m refl n within c.loop-at.invariant.text f.kind;
-      none = piece_none bs (take m (drop at bs)) at m refl n within c.loop-at.invariant.text c.loop-at.invariant.none f.kind
+      within = omega (arith, f.within, length-take {A = ℕ}, length-drop {A = ℕ});
+      text = piece_text c.args.buffer.now _ c.loop-at.at _ refl _ within c.loop-at.invariant.text f.kind;
+      none = piece_none c.args.buffer.now _ c.loop-at.at _ refl _ within c.loop-at.invariant.text c.loop-at.invariant.none f.kind
           (λ b. let none = (c.if-is_text_bidi.ensures {u = tt}).1 b in cc);
     }
 
@@ -42,11 +38,10 @@ returns-then-length-front c =
     let at = c.loop-at.at in
     let m = at + c.min-length.result - at in
     let n = c.utf8_valid_up_to-front.result in
-    let f = c.utf8_valid_up_to-front.ensures in
-    let within : n ≤ m = omega (arith, f.within, length-take m (drop at bs)) in
     let long : (4 ≤ m - n) ⊎ (length (drop at bs) ≤ m) = elim c.if-length-eq-PIECE.branch [
       | then-length-eq-PIECE w ↦ inl (omega (arith, w.cut-is, c.if-length-front.true))
       | else-length-eq-PIECE w ↦ inr (omega (arith, w.if-length-eq-PIECE.false, c.min-length.ensures, length-drop at bs))
     ] in
     let left : at + n < length bs = omega (arith, c.if-length-front.true, c.min-length.ensures) in
-    (λ e. inl (not_text bs (take m (drop at bs)) at m refl n within c.loop-at.invariant.text long f left), λ b. refl)
+    let f = c.utf8_valid_up_to-front.ensures in
+    (λ e. inl (not_text bs (take m (drop at bs)) at m refl n (inside m n _ f) c.loop-at.invariant.text long f left), λ b. refl)
