@@ -153,6 +153,7 @@ pub fn convert_utf8_to_latin1(src: &[u8], dst: &mut [u8]) -> usize
 
 /// Writes the scalar value of each character of Latin1 text in UTF-8 as a byte, and returns how many bytes it wrote.
 /// `dst` is no shorter than `src`. Behind what is written `dst` is as before.
+#[tactic(auto, using(encoding_kernels::proofs::Sums::TextLemmas::chars_total))]
 pub fn convert_utf8_to_latin1_lossy(src: &[u8], dst: &mut [u8]) -> usize
     requires room { length src.now ≤ length dst.old }
     requires latin1 { IsUtf8Latin1 src.now }

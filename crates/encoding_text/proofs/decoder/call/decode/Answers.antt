@@ -1,8 +1,0 @@
-use Rattle.std.proofs.lemmas.Bool.{both_ways}
-use Rattle.encoding_text.proofs.Calls.PendingLemmas.{pending_beginning}
-use Rattle.encoding_text.proofs.decoder.call.decode.Goals as goal
-
-pub decode_pending-requires : goal.decode_pending-requires
-decode_pending-requires g c = record {
-  unfinished = pending_beginning _ (λ e. both_ways _ c.if-is_empty.false (c.is_empty.ensures.empty.1 e)) c.is_empty.ensures.pending;
-}
