@@ -57,9 +57,6 @@ twice : (xs : List ℕ) → ((i : ℕ) → slice_index xs i < 256) → length (e
 twice [] h = omega arith
 twice (x ∷ xs) h = omega (arith, length-append (encode_utf8 x) (encode_utf8_all xs), length_two x (h 0), twice xs (λ i. h (suc i)))
 
-below_take : (xs : List ℕ) (n : ℕ) → ((i : ℕ) → slice_index xs i < 256) → (i : ℕ) → slice_index (take n xs) i < 256
-below_take xs n h i = Each-take (λ b. b < 256) (omega arith) xs n (λ k _. h k) i
-
 -- ---- one more byte as a character
 pub latin1_more : (xs : List ℕ) (i : ℕ) → i < length xs → encode_utf8_all (take (i + 1) xs) ≡ encode_utf8_all (take i xs) ++ encode_utf8 (slice_index xs i)
 latin1_more xs i h = rw (take_more xs i 0 h, encodes-append, append-nil) refl
@@ -76,7 +73,7 @@ pub latin1_fits_twice : (xs : List ℕ) (room read : ℕ) (out : List ℕ) → (
 latin1_fits_twice xs room read out h l f =
     let all : take (length xs) xs ≡ xs = take_all (length xs) xs (omega arith) in
     let whole : f.count ≡ length xs = elim (cases_lt f.count (length xs)) [
-      | inl p ↦ absurd (omega (arith, f.longest p, ap length (flat_map-encode_utf8 (take (f.count + 1) xs)), twice (take (f.count + 1) xs) (below_take xs (f.count + 1) h), length-take-le (f.count + 1) xs (omega arith)))
+      | inl p ↦ absurd (omega (arith, f.longest p, ap length (flat_map-encode_utf8 (take (f.count + 1) xs)), twice (take (f.count + 1) xs) (Each-take (λ b. b < 256) (omega arith) xs (f.count + 1) (λ k _. h k)), length-take-le (f.count + 1) xs (omega arith)))
       | inr p ↦ omega (arith, f.within)
     ] in
     f.written ∙ flat_map-encode_utf8 (take f.count xs) ∙ ap (λ n. encode_utf8_all (take n xs)) whole ∙ ap encode_utf8_all all
@@ -114,7 +111,7 @@ WritesFront_low_block old new after xs n m w l k put =
     rw (take-add n m xs, map-append low (take n xs) (take m (drop n xs))) (WritesFront_put old new after n m (map low (take n xs)) (map low (take m (drop n xs))) w (sym short) k put)
 
 -- ---- behind an ASCII front, which is its own text
-ascii_utf8_front : (bs : List ℕ) (n : ℕ) → IsAscii (take n bs) → take n bs ++ encode_utf8_all (take (length bs - n) (drop n bs)) ≡ encode_utf8_all bs
+pub ascii_utf8_front : (bs : List ℕ) (n : ℕ) → IsAscii (take n bs) → take n bs ++ encode_utf8_all (take (length bs - n) (drop n bs)) ≡ encode_utf8_all bs
 ascii_utf8_front bs n h =
     let rest : encode_utf8_all (take (length bs - n) (drop n bs)) ≡ encode_utf8_all (drop n bs) = ap encode_utf8_all (take_rest bs n) in
     let front : encode_utf8_all (take n bs) ≡ take n bs = encodes-IsAscii (take n bs) h in
@@ -128,7 +125,7 @@ ascii_latin1_rest bs n h u =
     let low : IsLatin1 (take n bs ++ parts.0) = subst IsLatin1 parts.1 u.1 in
     rw (take_rest bs n) (parts.0, IsLatin1-behind (take n bs) parts.0 low, parts.2)
 
-ascii_chars_front : (bs : List ℕ) (n : ℕ) → IsAscii (take n bs) → take n bs ++ chars (take (length bs - n) (drop n bs)) ≡ chars bs
+pub ascii_chars_front : (bs : List ℕ) (n : ℕ) → IsAscii (take n bs) → take n bs ++ chars (take (length bs - n) (drop n bs)) ≡ chars bs
 ascii_chars_front bs n h =
     let rest : chars (take (length bs - n) (drop n bs)) ≡ chars (drop n bs) = ap chars (take_rest bs n) in
     let front : chars (take n bs) ≡ take n bs = chars-IsAscii (take n bs) h in
@@ -136,23 +133,13 @@ ascii_chars_front bs n h =
     rw rest (ap (λ xs. xs ++ chars (drop n bs)) (sym front) ∙ sym whole ∙ ap chars (take-append-drop n bs))
 
 -- a front was copied, and a call wrote behind it
-written_behind : (bs old front sub : List ℕ) (n m : ℕ) (more : List ℕ) → n ≤ length bs → n ≤ length old → front ≡ take n bs
+pub written_behind : (bs old front sub : List ℕ) (n m : ℕ) (more : List ℕ) → n ≤ length bs → n ≤ length old → front ≡ take n bs
     → WritesFront (take (length (front ++ drop n old) - n) (drop n (front ++ drop n old))) sub m more
     → WritesFront old (put_mid n (length (front ++ drop n old) - n) (front ++ drop n old) sub) (n + m) (take n bs ++ more)
 written_behind bs old front sub n m more l k e w =
     let copied : WritesFront old (front ++ drop n old) n (take n bs) =
     record { count = sym (length-take-le n bs l); fits = k; placed = ap (λ xs. xs ++ drop n old) e } in
     WritesFront_after old (front ++ drop n old) n (take n bs) sub m more copied w
-
-pub utf8_written_behind : (bs old front sub : List ℕ) (n m : ℕ) → n ≤ length bs → n ≤ length old → IsAscii (take n bs) → front ≡ take n bs
-    → WritesFront (take (length (front ++ drop n old) - n) (drop n (front ++ drop n old))) sub m (encode_utf8_all (take (length bs - n) (drop n bs)))
-    → WritesFront old (put_mid n (length (front ++ drop n old) - n) (front ++ drop n old) sub) (n + m) (encode_utf8_all bs)
-utf8_written_behind bs old front sub n m l k h e w = rw (ascii_utf8_front bs n h) at (written_behind bs old front sub n m _ l k e w)
-
-pub latin1_written_behind : (bs old front sub : List ℕ) (n m : ℕ) → n ≤ length bs → n ≤ length old → IsAscii (take n bs) → front ≡ take n bs
-    → WritesFront (take (length (front ++ drop n old) - n) (drop n (front ++ drop n old))) sub m (chars (take (length bs - n) (drop n bs)))
-    → WritesFront old (put_mid n (length (front ++ drop n old) - n) (front ++ drop n old) sub) (n + m) (chars bs)
-latin1_written_behind bs old front sub n m l k h e w = rw (ascii_chars_front bs n h) at (written_behind bs old front sub n m _ l k e w)
 
 -- bytes as characters are well-formed
 pub IsUtf8-bytes : (xs : List ℕ) → ((i : ℕ) → slice_index xs i < 256) → IsUtf8 (encode_utf8_all xs)
@@ -189,19 +176,13 @@ ascii_front src cs n low text within ascii =
 module _ (src cs old new sub : List ℕ) (i j n : ℕ) (low : IsLatin1 cs) (rest : drop i src ≡ encode_utf8_all (drop j cs)) (w : WritesFront old new j (take j cs))
     (within : n ≤ length (take (length src - i) (drop i src))) (ascii : BelowUpTo 0x80 (take (length src - i) (drop i src)) n)
     (v : WritesFront (take (length new - j) (drop j new)) sub n (take n (take (length src - i) (drop i src)))) where
-  ascii_part : (i ≤ length src) → (j + n ≤ length cs) × (take n (drop i src) ≡ take n (drop j cs)) × (drop (i + n) src ≡ encode_utf8_all (drop (j + n) cs))
-  ascii_part h =
+  pub ascii_on : i ≤ length src → (drop (i + n) src ≡ encode_utf8_all (drop (j + n) cs)) × WritesFront old (put_mid j (length new - j) new sub) (j + n) (take (j + n) cs)
+  ascii_on h =
       let counted : j ≤ length cs = omega (arith, w.count, length-take j cs) in
-      ascii_run src cs i j n low rest counted (omega (arith, within, ap length (take_rest src i), length-drop i src)) (λ k l.
-      omega (arith, get_or-drop i src k 0, ap (λ xs. slice_index xs k) (take_rest src i), ascii k l))
-
-  pub run_rest : i ≤ length src → drop (i + n) src ≡ encode_utf8_all (drop (j + n) cs)
-  run_rest h = (ascii_part h).2
-
-  pub run_written : i ≤ length src → WritesFront old (put_mid j (length new - j) new sub) (j + n) (take (j + n) cs)
-  run_written h =
-      WritesFront-same _ _ _ _ _ _ (WritesFront_after old new j (take j cs) sub n _ w v) refl
-      (ap (λ xs. take j cs ++ take n xs) (take_rest src i) ∙ ap (λ xs. take j cs ++ xs) (ascii_part h).1 ∙ sym (take-add j n cs))
+      let part = ascii_run src cs i j n low rest counted (omega (arith, within, ap length (take_rest src i), length-drop i src))
+      (λ k l. omega (arith, get_or-drop i src k 0, ap (λ xs. slice_index xs k) (take_rest src i), ascii k l)) in
+      let text = ap (λ xs. take j cs ++ take n xs) (take_rest src i) ∙ ap (λ xs. take j cs ++ xs) part.1 ∙ sym (take-add j n cs) in
+      (part.2, WritesFront-same _ _ _ _ _ _ (WritesFront_after old new j (take j cs) sub n _ w v) refl text)
 
 -- ---- blocks of sixteen bytes of Latin1 text
 -- no two bytes that begin two stand side by side
@@ -250,11 +231,10 @@ module _ (src cs old new after : List ℕ) (i j m k : ℕ) (low : IsLatin1 cs) (
   counted : length (all_ended 0 (take k (drop i src))) ≡ m
   counted = ap length (sym ended_whole ∙ sym ends) ∙ length-take-le m bytes many
 
-  pub block_rest : drop (i + k) src ≡ encode_utf8_all (drop (j + m) cs)
-  block_rest = sym (drop-drop k i src) ∙ parts.0 ∙ ap (λ n. encode_utf8_all (drop n (drop j cs))) counted ∙ ap encode_utf8_all (drop-drop m j cs)
-
-  pub block_written : WritesFront old after (j + m) (take (j + m) cs)
-  block_written =
-      let part : take m bytes ≡ take m (drop j cs) = ends ∙ ended_whole ∙ sym parts.1 ∙ ap (λ n. take n (drop j cs)) counted in
-      WritesFront-same _ _ _ _ _ _ (WritesFront_put old new after j m (take j cs) (take m bytes) w (sym (length-take-le m bytes many)) room put) refl
-      (ap (λ xs. take j cs ++ xs) part ∙ sym (take-add j m cs))
+  pub block_on : (drop (i + k) src ≡ encode_utf8_all (drop (j + m) cs)) × WritesFront old after (j + m) (take (j + m) cs)
+  block_on =
+      let part : take m bytes ≡ take m (drop j cs) = ends ∙ ended_whole ∙ sym parts.1 ∙ ap (λ n. take n (drop j cs)) counted in (
+        sym (drop-drop k i src) ∙ parts.0 ∙ ap (λ n. encode_utf8_all (drop n (drop j cs))) counted ∙ ap encode_utf8_all (drop-drop m j cs),
+        WritesFront-same _ _ _ _ _ _ (WritesFront_put old new after j m (take j cs) (take m bytes) w (sym (length-take-le m bytes many)) room put) refl
+            (ap (λ xs. take j cs ++ xs) part ∙ sym (take-add j m cs)),
+      )

@@ -1,5 +1,5 @@
 use Rattle.std.proofs.Common.{arith}
-use Rattle.encoding_text.proofs.Latin.Latin1ConversionLemmas.{ascii_latin1_rest, latin1_written_behind}
+use Rattle.encoding_text.proofs.Latin.Latin1ConversionLemmas.{ascii_latin1_rest, ascii_chars_front, written_behind}
 use Rattle.encoding_text.proofs.mem.borrowed.write_latin1_of_utf8.Goals as goal
 
 pub convert_utf8_to_latin1_lossy-requires-clause-latin1 : goal.convert_utf8_to_latin1_lossy-requires-clause-latin1
@@ -7,5 +7,5 @@ convert_utf8_to_latin1_lossy-requires-clause-latin1 c = ascii_latin1_rest c.args
 
 pub returns : goal.returns
 returns c =
-    latin1_written_behind c.args.text.now c.args.dst.now c.copy_from_slice.new.self c.convert_utf8_to_latin1_lossy.new.dst c.args.front c.convert_utf8_to_latin1_lossy.result
-    c.requires.within (omega arith) c.requires.ascii c.copy_from_slice.ensures.after c.convert_utf8_to_latin1_lossy.ensures.written
+    rw (ascii_chars_front c.args.text.now c.args.front c.requires.ascii) at (written_behind c.args.text.now c.args.dst.now c.copy_from_slice.new.self c.convert_utf8_to_latin1_lossy.new.dst c.args.front
+    c.convert_utf8_to_latin1_lossy.result _ c.requires.within (omega arith) c.copy_from_slice.ensures.after c.convert_utf8_to_latin1_lossy.ensures.written)

@@ -5,7 +5,7 @@ use Rattle.std.proofs.lemmas.Str.{length-le-encodes}
 use Rattle.encoding_kernels.proofs.Latin.AsciiLemmas.{WritesFront_copy}
 use Rattle.encoding_definitions.proofs.LongestFronts.FrontsLemmas.{WritesFront-nil}
 use Rattle.encoding_definitions.proofs.Latin.Latin1Lemmas.{latin1_chars, next_of_one, next_of_two}
-use Rattle.encoding_text.proofs.Latin.Latin1ConversionLemmas.{character_of_two, run_rest, run_written, ascii_front, begins_apart, block_rest, block_written}
+use Rattle.encoding_text.proofs.Latin.Latin1ConversionLemmas.{character_of_two, ascii_on, ascii_front, begins_apart, block_on}
 use Rattle.encoding_text.proofs.mem.latin1.convert_utf8_to_latin1.Goals as goal
 use Rattle.encoding_text.proofs.mem.latin1.convert_utf8_to_latin1.Goals.{then-byte-lt128, else-byte-lt128}
 
@@ -32,11 +32,8 @@ loop-read-preserved-then-are_bytes_below c =
     let call = c.copy_ascii-front.ensures.copies in
     let below = call.ascii (λ k l. absurd (omega arith)) in
     let copied = call.copied _ (WritesFront-nil (take (length dst - c.loop-read.written) (drop c.loop-read.written dst))) in
-    record {
-      within = omega (arith, call.within.0);
-      rest = run_rest src cs c.args.dst.now dst c.copy_ascii-front.new.dst c.loop-read.read c.loop-read.written c.copy_ascii-front.result text.0 had.rest had.written call.within.0 below copied had.within;
-      written = run_written src cs c.args.dst.now dst c.copy_ascii-front.new.dst c.loop-read.read c.loop-read.written c.copy_ascii-front.result text.0 had.rest had.written call.within.0 below copied had.within;
-    }
+    let next = ascii_on src cs c.args.dst.now dst c.copy_ascii-front.new.dst c.loop-read.read c.loop-read.written c.copy_ascii-front.result text.0 had.rest had.written call.within.0 below copied had.within in
+    record { within = omega (arith, call.within.0); rest = next.0; written = next.1 }
 
 pub latin1_of-count-requires : goal.latin1_of-count-requires
 latin1_of-count-requires c =
@@ -52,13 +49,9 @@ loop-read-preserved c =
     let had = c.loop-read.invariant in
     let call = c.latin1_of-count.ensures in
     let whole = c.whole_length-read.ensures in
-    record {
-      within = omega (arith, whole);
-      rest = block_rest src cs c.args.dst.now _ c.write_first.new.dst c.loop-read.read c.loop-read.written c.latin1_of-count.result.1 c.whole_length-read.result text.0 had.rest had.written c.latin1_of-count.result.0 call.ended
-          (omega (arith, call.long, call.count)) (omega (arith, call.count)) c.write_first.ensures (omega arith) whole;
-      written = block_written src cs c.args.dst.now _ c.write_first.new.dst c.loop-read.read c.loop-read.written c.latin1_of-count.result.1 c.whole_length-read.result text.0 had.rest had.written c.latin1_of-count.result.0 call.ended
-          (omega (arith, call.long, call.count)) (omega (arith, call.count)) c.write_first.ensures (omega arith) whole;
-    }
+    let next = block_on src cs c.args.dst.now _ c.write_first.new.dst c.loop-read.read c.loop-read.written c.latin1_of-count.result.1 c.whole_length-read.result text.0 had.rest had.written c.latin1_of-count.result.0 call.ended
+    (omega (arith, call.long, call.count)) (omega (arith, call.count)) c.write_first.ensures (omega arith) whole in
+    record { within = omega (arith, whole); rest = next.0; written = next.1 }
 
 pub bounds-src-read-else-byte-lt128 : goal.bounds-src-read-else-byte-lt128
 bounds-src-read-else-byte-lt128 c =
