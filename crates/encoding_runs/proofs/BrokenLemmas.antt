@@ -214,10 +214,7 @@ are_found (Broken x ∷ parts) at cs bs h (after, f, more) =
     (subst (λ m. AreFoundInTurn behind after (broken_places m parts)) zero_more (are_found parts behind [] after refl more))
 
 pub found_parts : (bs : List ℕ) (parts : List Part) (found : List (ℕ × ℕ)) → ArePartsOf bs parts → AreFoundInTurn 0 bs found ↔ (found ≡ broken_places 0 parts)
-found_parts bs parts found are = (
-  found_are found 0 bs parts are,
-  λ e. subst (AreFoundInTurn 0 bs) (sym e) (are_found parts 0 [] bs refl are),
-)
+found_parts bs parts found are = (found_are found 0 bs parts are, λ e. subst (AreFoundInTurn 0 bs) (sym e) (are_found parts 0 [] bs refl are))
 
 pub found_count : (at : ℕ) (parts : List Part) → length (broken_places at parts) ≡ count_broken parts
 found_count at [] = refl

@@ -53,11 +53,8 @@ due_front bs out text true r s front = (text, r refl, front)
 due_front bs out text false r s (left, whole) =
     let (ps, rest, settled, is) = s refl in
     let (parts, are) = has_parts bs in
-    let (more, e) = begins_with_settled bs ps rest parts settled.starts are in (
-      repaired_text parts,
-      (parts, are, refl),
-      (left ++ more, e ∙ ap (λ xs. xs ++ more) (sym is ∙ whole) ∙ append_assoc out left more),
-    )
+    let (more, e) = begins_with_settled bs ps rest parts settled.starts are in
+    (repaired_text parts, (parts, are, refl), (left ++ more, e ∙ ap (λ xs. xs ++ more) (sym is ∙ whole) ∙ append_assoc out left more))
 
 pub stopped_front : (bs : List ℕ) (ended : Bool) (old new now : Option (List ℕ)) → StopsReading bs ended old new → Keeps new now → WritesFrontOfRepaired bs old now
 stopped_front bs ended old new now (text, out, due, less, bytes, rounds, at_end) k =

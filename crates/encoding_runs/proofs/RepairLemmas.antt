@@ -120,11 +120,8 @@ wrote_all last bs old new n w = (repaired_text w.parts, (w.parts, w.first.starts
 
 -- a front of a text is one of what begins with the text
 pub longer_front : (out text more : List ℕ) → IsProperFront out text → IsProperFront out (text ++ more)
-longer_front out text more (left, some, whole) = (
-  left ++ more,
-  (λ none. some (no_items left more none)),
-  ap (λ xs. xs ++ more) whole ∙ append_assoc out left more,
-)
+longer_front out text more (left, some, whole) =
+    (left ++ more, (λ none. some (no_items left more none)), ap (λ xs. xs ++ more) whole ∙ append_assoc out left more)
   where
     no_items : (xs ys : List ℕ) → xs ++ ys ≡ [] → xs ≡ []
     no_items [] ys e = refl

@@ -18,11 +18,8 @@ is_settled bs p old new n w still = (w.parts, p, settled_first bs w.parts p w.fi
 
 pub stopped_reading : (unread mid left old new : Option (List ℕ)) (read n : ℕ) (p : List ℕ) → Reaches unread mid old new read n p → Keeps mid left
     → (bytes : List ℕ) × (length bytes ≡ read) × RepairsSettled bytes unread left old new
-stopped_reading unread mid left old new read n p r k = (
-  r.input,
-  sym r.count,
-  (Consumes-kept _ _ _ _ r.consumed k, (repaired_text r.wrote.parts, is_settled _ _ _ _ _ r.wrote r.still_open, r.wrote.bytes)),
-)
+stopped_reading unread mid left old new read n p r k =
+    (r.input, sym r.count, (Consumes-kept _ _ _ _ r.consumed k, (repaired_text r.wrote.parts, is_settled _ _ _ _ _ r.wrote r.still_open, r.wrote.bytes)))
 
 -- ---- where a write fails
 -- what was to be written of the bytes, as first parts of them and more

@@ -80,12 +80,8 @@ module _ {Result A : Type 0} (Does : CallRelation ℕ Result A) where
     turns_push : (turns : List Turn) (calls : List (Call ℕ Result A)) (unread left : ℕ) (turn : Turn) → AreOfTurns unread left turns calls
         → call.piece ≡ turn.take → call.form ≡ room_of turn (left - length (output_of calls)) → call.last ≡ is_marked_last turn (unread - read_in_all calls)
         → AreOfTurns unread left (turns ++ turn ∷ []) (calls ++ call ∷ [])
-    turns_push [] [] unread left turn t p r l = (
-      p,
-      r ∙ ap (room_of turn) {x = left - 0} {y = left} (omega arith),
-      l ∙ ap (is_marked_last turn) {x = unread - 0} {y = unread} (omega arith),
-      tt,
-    )
+    turns_push [] [] unread left turn t p r l =
+        (p, r ∙ ap (room_of turn) {x = left - 0} {y = left} (omega arith), l ∙ ap (is_marked_last turn) {x = unread - 0} {y = unread} (omega arith), tt)
     turns_push [] (c ∷ calls) unread left turn t p r l = absurd t
     turns_push (first ∷ turns) [] unread left turn t p r l = absurd t
     turns_push (first ∷ turns) (c ∷ calls) unread left turn (u, v, w, t) p r l = (

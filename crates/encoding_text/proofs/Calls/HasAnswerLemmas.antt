@@ -100,13 +100,8 @@ module _ {A : Type 0} (encode : ℕ → List A) (need : ℕ) (last : Bool) where
   module _ (fits : (c : ℕ) → IsScalar c → length (encode c) ≤ need) where
     -- with nothing pending, by the parts of the source
     neutral_call : (ps : List Part) (src : List ℕ) (room : ℕ) → ArePartsOf src ps → HasCall [] src room
-    neutral_call [] src room e = (
-      InputEmpty,
-      length src,
-      [],
-      [],
-      silent_call encode need (inl refl) (inl refl) (λ n _. absurd (n refl)) (refl, e, (λ _. refl), λ n _. absurd (n refl)),
-    )
+    neutral_call [] src room e =
+        (InputEmpty, length src, [], [], silent_call encode need (inl refl) (inl refl) (λ n _. absurd (n refl)) (refl, e, (λ _. refl), λ n _. absurd (n refl)))
     neutral_call (Character c ∷ ps) src room (after, (h, e), more) = elim (cases_lt room (length (encode c))) [
       | inl short ↦ full_call [] src room (inl refl) (omega (arith, ap length e, length-append (encode_utf8 c) after, length-encode-some c)) (omega (arith, fits c h))
           (λ _ (b, rest, k, f, g). let same = encode_same c b after rest (sym e ∙ f) in omega (arith, subst (λ x. length (encode x) ≤ room) (sym same.0) g))

@@ -141,11 +141,8 @@ module _ {A : Type 0} (encode : ℕ → List A) (need : ℕ) (p src : List ℕ) 
 
     same_end : (result result' : DecoderResult) (read read' : ℕ) (q q' y y' : List ℕ) → End result read q y → End result' read' q' y'
         → y ++ drop read src ≡ y' ++ drop read' src → Same result read q result' read' q'
-    same_end InputEmpty InputEmpty read read' q q' y y' d d' e = (
-      refl,
-      d.answer.0 ∙ sym d'.answer.0,
-      append_cancel_left (encode_utf8_all cs) q q' (sym d.answer.1 ∙ d'.answer.1),
-    )
+    same_end InputEmpty InputEmpty read read' q q' y y' d d' e =
+        (refl, d.answer.0 ∙ sym d'.answer.0, append_cancel_left (encode_utf8_all cs) q q' (sym d.answer.1 ∙ d'.answer.1))
     same_end InputEmpty OutputFull read read' q q' y y' d d' e = absurd (empty_full read read' q q' y y' d d' e)
     same_end InputEmpty (Malformed k second) read read' q q' y y' d d' e = absurd (empty_malformed read read' q q' y y' k second d d' e)
     same_end OutputFull InputEmpty read read' q q' y y' d d' e = absurd (empty_full read' read q' q y' y d' d (sym e))
@@ -218,14 +215,8 @@ one_answer encode need p src room last = same_call encode need p src last room
 has_one_answer : {A : Type 0} (encode : ℕ → List A) (need : ℕ) (p src : List ℕ) (room : ℕ) (last : Bool) → ((c : ℕ) → IsScalar c → length (encode c) ≤ need) → IsPending p
     → HasOneAnswer encode need p src room last
 has_one_answer encode need p src room last fits pending =
-    let a = has_answer encode need p src room last fits pending in (
-      a.0,
-      a.1,
-      a.2,
-      a.3,
-      a.4,
-      λ result' read' out' q' call'. one_answer encode need p src room last a.0 result' a.1 read' a.2 out' a.3 q' pending a.4 call',
-    )
+    let a = has_answer encode need p src room last fits pending in
+    (a.0, a.1, a.2, a.3, a.4, λ result' read' out' q' call'. one_answer encode need p src room last a.0 result' a.1 read' a.2 out' a.3 q' pending a.4 call')
 
 pub one_utf8_answer : (p src : List ℕ) (room : ℕ) (last : Bool) → IsPending p → HasOneAnswer encode_utf8 4 p src room last
 one_utf8_answer p src room last pending = has_one_answer encode_utf8 4 p src room last length-encode_utf8-le pending

@@ -184,11 +184,8 @@ module _ (p src : List ℕ) (last : Bool) where
   same_piece (Malformed k) (Malformed k') read read' q q' call call' =
       let x = p ++ take read src in
       let x' = p ++ take read' src in
-      let one = same_broken x (drop read src) x' (drop read' src) last call.answer.3 call'.answer.3 (sym (split read) ∙ split read') in (
-        sym call.answer.1 ∙ ap length one.0 ∙ call'.answer.1,
-        same_read read read' call.answer.0 call'.answer.0 one.1,
-        call.answer.2 ∙ sym call'.answer.2,
-      )
+      let one = same_broken x (drop read src) x' (drop read' src) last call.answer.3 call'.answer.3 (sym (split read) ∙ split read') in
+      (sym call.answer.1 ∙ ap length one.0 ∙ call'.answer.1, same_read read read' call.answer.0 call'.answer.0 one.1, call.answer.2 ∙ sym call'.answer.2)
   same_piece (Malformed k) InputEmpty read read' q q' call call' = absurd (broken_not_open k read read' q q' call call')
   same_piece InputEmpty (Text t) read read' q q' call call' = absurd (not_open read q (of_text t read' q' call') call)
   same_piece InputEmpty (Char c) read read' q q' call call' = absurd (not_open read q (of_character c read' q' call') call)
@@ -198,10 +195,5 @@ module _ (p src : List ℕ) (last : Bool) where
 -- ---- exactly one
 pub one_piece : (p src : List ℕ) (last : Bool) → IsPending p → HasOnePiece p src last
 one_piece p src last pending =
-    let found = has_piece last p src pending in (
-      found.0,
-      found.1,
-      found.2,
-      found.3,
-      λ returned' read' q' call'. same_piece p src last found.0 returned' found.1 read' found.2 q' found.3 call',
-    )
+    let found = has_piece last p src pending in
+    (found.0, found.1, found.2, found.3, λ returned' read' q' call'. same_piece p src last found.0 returned' found.1 read' found.2 q' found.3 call')

@@ -23,7 +23,5 @@ returns c =
     let at = c.args.at in
     let n = c.in-Some.length in
     let found = rw take_rest at c.in-Some.ensures.length in
-    let sequence = subst (λ k. IsSequence (take k (drop at bs))) {x = n} {y = at + n - at} (omega arith) found.2 in (
-      λ e. stands_spelled bs at _ sequence (c.is_sequence_bidi.ensures.0 e),
-      λ s. c.is_sequence_bidi.ensures.1 (spelled_stands bs at _ sequence s),
-    )
+    let sequence = subst (λ k. IsSequence (take k (drop at bs))) {x = n} {y = at + n - at} (omega arith) found.2 in
+    (λ e. stands_spelled bs at _ sequence (c.is_sequence_bidi.ensures.0 e), λ s. c.is_sequence_bidi.ensures.1 (spelled_stands bs at _ sequence s))
