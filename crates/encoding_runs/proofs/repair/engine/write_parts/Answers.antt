@@ -1,4 +1,4 @@
-use Rattle.std.proofs.Common.{◌≡◌, ◌-◌, ◌++◌, ◌∙◌, drop, inl, length, refl, sym, take, true≢false, arith}
+use Rattle.std.proofs.Common.{◌-◌, ◌∙◌, drop, inl, length, refl, take, arith}
 use Rattle.std.proofs.lemmas.Result.{err_from_is_err_and}
 use Rattle.std.proofs.lemmas.List.{take_rest, length-append}
 use Rattle.encoding_runs.proofs.RepairLemmas.{wrote_piece, wrote_last, stopped_piece, wrote_count, pending_length}

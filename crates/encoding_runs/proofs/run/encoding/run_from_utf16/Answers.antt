@@ -1,4 +1,4 @@
-use Rattle.std.proofs.Common.{◌<◌, ℕ, ◌-◌, false, length, drop, get_or, arith}
+use Rattle.std.proofs.Common.{◌<◌, ℕ, false, length, get_or, arith}
 use Rattle.std.proofs.lemmas.List.{length-drop, length-take, take_more, take_all}
 use Rattle.encoding_definitions.proofs.LongestFronts.FrontsLemmas.{WritesFront-length}
 use Rattle.encoding_text.specs.Encoding.{IsEncoderCall}

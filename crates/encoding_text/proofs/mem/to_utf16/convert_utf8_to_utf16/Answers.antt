@@ -1,6 +1,5 @@
 use Rattle.std.proofs.Common.{◌≡◌, ℕ, ◌+◌, ◌-◌, ◌<◌, ◌∙◌, ap, arith, refl, length, take, drop}
 use Rattle.std.proofs.lemmas.List.{take_rest, length-drop, length-set}
-use borrow.Rule.Slice.PartMut.{put_mid}
 use Rattle.encoding_definitions.proofs.LongestFronts.FrontsLemmas.{WritesFront-length}
 use Rattle.encoding_text.proofs.Calls.RoomLemmas.{keeps_room}
 use Rattle.encoding_text.proofs.Conversions.RepairingLemmas.{repaired_all, repaired_more, repaired_length, reads_some}
