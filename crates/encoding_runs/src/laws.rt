@@ -58,7 +58,6 @@ pub fn law_parts()
 /// Bytes may be cut where the settled parts of the first piece leave no rest: the parts of all of them are those of
 /// the first piece, and then those of the other. So the pieces can be repaired apart: their repaired texts join, and
 /// their broken parts add up. Bytes that end with an ASCII byte leave no rest.
-#[tactic(auto, using(crate::proofs::CutLemmas::cut_parts, crate::proofs::CutLemmas::cut_texts, crate::proofs::CutLemmas::cut_counts, crate::proofs::CutLemmas::ascii_settles))]
 pub fn law_cuts()
     ensures parts { (bs more : List ℕ) (parts others all : List Part) → AreSettled bs parts []
         → ArePartsOf more others → ArePartsOf (bs ++ more) all → all ≡ parts ++ others }
@@ -75,7 +74,6 @@ pub fn law_cuts()
 /// The broken parts that `next_broken` finds in turn, each search in the bytes behind the part found before, are exactly
 /// the broken ones among the parts of the bytes: each with its place and length, in order, as many as there are. Each has
 /// one to three bytes. Encoding Standard, UTF-8 decoder.
-#[tactic(auto, using(crate::proofs::BrokenLemmas::next_size, crate::proofs::BrokenLemmas::found_parts, crate::proofs::BrokenLemmas::found_count))]
 pub fn law_next_broken()
     ensures size { (bs : List ℕ) (place size : ℕ) → IsNextBroken bs place size → (0 < size) × (size ≤ 3) }
     ensures found { (bs : List ℕ) (parts : List Part) (found : List (ℕ × ℕ)) → ArePartsOf bs parts
@@ -137,7 +135,6 @@ pub fn law_partial_repeats()
 /// Calls of an encoder over one source, each on the unread code units from the first on and from what the one before
 /// left held, write the UTF-8 of the first parts of what was held and of the source, however it is cut and whatever
 /// the rooms. Unicode Standard, section 3.9, UTF-16.
-#[tactic(auto, using(crate::proofs::EncoderChainLemmas::chain_encodes))]
 pub fn law_encoder_cuts()
     ensures { (held src : List ℕ) (calls : List (Call ℕ EncoderResult ℕ)) → IsHeld held → AreUnits src
         → IsChain IsEncoderCall held src calls
