@@ -1,21 +1,19 @@
 -- The front of a source, repaired into an array step by step, and written then.
-use Rattle.std.proofs.Common.{◌≡◌, ℕ, ◌+◌, ◌<◌, ◌≤◌, Bool, false, inl, List, [], ◌∷◌, ◌++◌, length, take, drop, slice_index, Option, encode_utf8, encode_utf8_all, map, add-zero, refl, sym, ap, ◌∙◌, arith, subst}
+use Rattle.std.proofs.Common.{◌≡◌, ℕ, ◌+◌, ◌<◌, ◌≤◌, Bool, false, inl, List, [], ◌∷◌, ◌++◌, length, take, drop, slice_index, Option, encode_utf8_all, map, add-zero, refl, sym, ap, ◌∙◌, arith, subst}
 use Rattle.std.specs.Io.KnownBytes.{Appends}
-use Rattle.std.proofs.lemmas.List.{append-nil, append_assoc, drop-drop, drop-append-le, drop_more, length-append, length-drop, length-take, take-append-drop, take-append-le, take-take}
+use Rattle.std.proofs.lemmas.List.{append_assoc, drop-drop, drop-append-le, length-append, length-drop, length-take, take-append-drop, take-append-le, take-take}
 use Rattle.std.proofs.Math.Seq.{take-append-add}
 use borrow.Rule.Slice.PartMut.{put_mid, post_of}
-use Rattle.std.specs.Char.{IsScalar}
 use Rattle.std.proofs.lemmas.Str.{IsUtf8-from_ascii}
-use Rattle.encoding_definitions.proofs.Sequences.SequenceLemmas.{IsSequence-HasShape}
-use Rattle.encoding_definitions.proofs.Sequences.EncodingLemmas.{scalar_of_sequence}
 use Rattle.encoding_definitions.specs.Parts.{Part, Character, StartsWith, repaired_text}
-use Rattle.encoding_definitions.proofs.Decomposition.DecompositionLemmas.{StartsWith-characters, StartsWith-one, repaired_text-append, repaired_text-characters, count_broken-append, count_broken-bytes, count_broken-characters}
+use Rattle.encoding_definitions.proofs.Decomposition.DecompositionLemmas.{StartsWith-characters, repaired_text-append, repaired_text-characters, count_broken-append, count_broken-bytes, count_broken-characters}
 use Rattle.encoding_kernels.specs.Strides.{BelowUpTo}
 use Rattle.encoding_kernels.proofs.Latin.AsciiLemmas.{Each-take}
 use Rattle.encoding_text.specs.Decoding.{IsBroken, IsBorrowedCall}
 use Rattle.encoding_text.specs.declared.decoder.Piece.{Piece}
 use Rattle.encoding_text.specs.declared.decoder.Piece.TheVariants.{Text, Char, Malformed, InputEmpty}
 use Rattle.encoding_text.proofs.LongestFronts.ConvertingLemmas.{cut_behind}
+use Rattle.encoding_text.proofs.Calls.CallLemmas.{take_one}
 use Rattle.encoding_text.proofs.Calls.BorrowedLemmas.{borrowed_gives}
 use Rattle.encoding_runs.specs.Steps.Writing.{text_of, broken_of, AreFirst, WritesParts, StopsInParts}
 use Rattle.encoding_runs.specs.Steps.Fronts.{RepairsFirst}
@@ -51,29 +49,6 @@ pub text_behind : (src array tail : List ℕ) (k read written n more more_writte
 text_behind src array tail k read written n more more_written r s = rw (add-zero n) at (first_behind src array tail k read written n more more_written 0 r s)
 
 -- ---- one step
--- an ASCII byte
-pub ascii_first : (src array rest : List ℕ) → 0 < length src → slice_index src 0 < 0x80 → array ≡ slice_index src 0 ∷ rest → RepairsFirst src array 1 1 0
-ascii_first src array rest some ascii placed = record {
-  parts = Character s.0 ∷ [];
-  first = record {
-    starts = StartsWith-one src (Character s.0) (drop 1 src) (s.1, whole);
-    whatever_follows = λ e more. StartsWith-one (src ++ more) (Character s.0) (drop 1 src ++ more) (s.1, ap (λ xs. xs ++ more) whole ∙ append_assoc (encode_utf8 s.0) (drop 1 src) more);
-  };
-  within = omega (arith, some);
-  fits = (cut_behind array (lead ∷ []) rest placed).0;
-  text = (cut_behind array (lead ∷ []) rest placed).1 ∙ sym s.2 ∙ sym (append-nil (encode_utf8 s.0));
-  broken = refl;
-}
-  where
-    lead : ℕ
-    lead = slice_index src 0
-
-    s : (c : ℕ) × IsScalar c × (encode_utf8 c ≡ lead ∷ [])
-    s = scalar_of_sequence (lead ∷ []) (IsSequence-HasShape (lead ∷ []) (omega (arith, ascii)))
-
-    whole : src ≡ encode_utf8 s.0 ++ drop 1 src
-    whole = drop_more src 0 0 some ∙ ap (λ xs. xs ++ drop 1 src) (sym s.2)
-
 -- a byte that is a broken part
 pub lone_first : (src array rest : List ℕ) → 0 < length src → IsBroken (take 1 src) (drop 1 src) false → array ≡ 0xEF ∷ 0xBF ∷ 0xBD ∷ rest → RepairsFirst src array 1 3 1
 lone_first src array rest some broken placed = record {
@@ -109,6 +84,12 @@ ascii_copied src array rest n m short within below placed =
       text = ap (take n) placed ∙ take-append-le n (take m src) rest (omega (arith, length-take m src, short, within)) ∙ take-take n m src short ∙ sym e ∙ sym (repaired_text-characters cs);
       broken = sym (count_broken-characters cs);
     }
+
+-- an ASCII byte
+pub ascii_first : (src array rest : List ℕ) → 0 < length src → slice_index src 0 < 0x80 → array ≡ slice_index src 0 ∷ rest → RepairsFirst src array 1 1 0
+ascii_first src array rest some ascii placed =
+    let first : BelowUpTo 0x80 src 1 = λ k l. let zero : k ≡ 0 = omega arith in omega (arith, ap (slice_index src) zero) in
+    ascii_copied src array rest 1 1 (omega arith) some first (placed ∙ ap (λ xs. xs ++ rest) (sym (take_one src some)))
 
 -- a piece of the first bytes
 window_first : (bs more : List ℕ) (parts : List Part) (rest : List ℕ) → AreFirst false bs parts rest → AreFirst false (bs ++ more) parts (rest ++ more)

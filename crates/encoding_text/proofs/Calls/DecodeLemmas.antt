@@ -1,5 +1,5 @@
 -- That a call answers as the definition has it: with nothing pending, with a beginning, and both in a row.
-use Rattle.std.proofs.Common.{◌≡◌, ◌≢◌, ℕ, ◌+◌, ◌-◌, ◌<◌, ◌≤◌, ◌⊎◌, inl, inr, Bool, true, false, List, [], ◌∷◌, ◌++◌, length, take, drop, encode_utf8, encode_utf8_all, refl, sym, ap, ◌∙◌, arith, subst, take-add}
+use Rattle.std.proofs.Common.{◌≡◌, ◌≢◌, ℕ, ◌+◌, ◌-◌, ◌<◌, ◌≤◌, inl, inr, Bool, true, false, List, [], ◌∷◌, ◌++◌, length, take, drop, encode_utf8, encode_utf8_all, refl, sym, ap, ◌∙◌, arith, subst, take-add}
 use Rattle.std.specs.Char.{IsScalar}
 use Rattle.std.specs.List.{flat_map}
 use Rattle.std.proofs.lemmas.Bool.{and_from, cases_lt}
@@ -164,15 +164,11 @@ module _ {A : Type 0} (encode : ℕ → List A) (need : ℕ) where
     omega (arith, all, length-drop read src, within),
     ap (λ xs. p ++ xs) (sym (take-append-drop read src)) ∙ behind p (take read src) (drop read src) cs q c e whole,
     ended,
-    (λ n _. some n (nat_cases more)),
+    (λ n _. elim (cases_lt 0 more) [
+      | inl s ↦ subst (λ k. need ≤ k) same (room n s)
+      | inr z ↦ absurd (n (nil_from_length q (omega (arith, ap length whole, length-append (encode_utf8_all cs) q, all))))
+    ]),
   )
-    where
-      nat_cases : (n : ℕ) → (n ≡ 0) ⊎ (0 < n)
-      nat_cases n = elim (cases_lt 0 n) [ inl h ↦ inr h | inr h ↦ inl (omega arith) ]
-
-      some : q ≢ [] → (more ≡ 0) ⊎ (0 < more) → need ≤ left'
-      some n (inl z) = absurd (n (nil_from_length q (omega (arith, ap length whole, length-append (encode_utf8_all cs) q, z, all))))
-      some n (inr s) = subst (λ k. need ≤ k) same (room n s)
   answer_behind p src c read cs last OutputFull more left left' q e within same (short, whole, little, none, held) = (
     omega (arith, short, length-drop read src),
     behind_front p src cs c read more q e whole,

@@ -7,7 +7,7 @@ use Rattle.std.specs.Prelude.{◌==◌}
 use Rattle.std.proofs.lemmas.Bool.{cases_lt}
 use Rattle.std.proofs.lemmas.Bool.Decides.{nat_tests}
 use Rattle.std.proofs.lemmas.Str.{length-encode}
-use Rattle.std.proofs.lemmas.List.{length-append, length-drop, length-take-le, take-append-drop, drop_all, drop_more, get_or_past, get_or-take, get_or-drop, length-take, length_push, take_rest}
+use Rattle.std.proofs.lemmas.List.{length-append, length-drop, length-take-le, take-append-drop, drop_all, drop_more, get_or-drop, length_push, take_rest}
 use borrow.Rule.Slice.PartMut.{put_mid}
 use Rattle.std.proofs.str.Utf16.{one_unit}
 use Rattle.encoding_definitions.specs.Fronts.{WritesFront}
@@ -20,6 +20,7 @@ use Rattle.encoding_definitions.proofs.LongestFronts.FrontsLemmas.{FitsLongest-s
 use Rattle.encoding_definitions.proofs.CodeUnits.Utf16Lemmas.{parts_of, parts_exist, ArePartsOf16-cons, halves, length-units_of}
 use Rattle.encoding_definitions.proofs.LongestFronts.FittingLemmas.{FitsLongest-cons, written_is, written_front}
 use Rattle.encoding_definitions.proofs.CodeUnits.Utf16FrontLemmas.{all_fit, units_counted}
+use Rattle.encoding_kernels.proofs.Latin.AsciiLemmas.{Each-take}
 
 -- ---- which unit stays open
 -- the units from this place on stay open
@@ -73,10 +74,7 @@ leaves_open (u ∷ us) false = elim (decide_high (get_or (u ∷ us) (length us) 
 ]
 
 pub AreUnits-front : (us : List ℕ) (n : ℕ) → AreUnits us → AreUnits (take n us)
-AreUnits-front us n a k = elim (cases_lt k n) [
-  | inl l ↦ omega (arith, get_or-take n us k 0 l, a k)
-  | inr l ↦ omega (arith, get_or_past (take n us) k 0 (omega (arith, length-take n us)))
-]
+AreUnits-front us n a = Each-take (λ u. u < 0x10000) (omega arith) us n (λ k _. a k)
 
 pub AreUnits-behind : (us : List ℕ) (n : ℕ) → AreUnits us → AreUnits (drop n us)
 AreUnits-behind us n a k = omega (arith, get_or-drop n us k 0, a (n + k))

@@ -37,26 +37,8 @@ leading bs (Character c ∷ ps) (after, (s, e), more) =
     (c ∷ r.0, r.1, and_from _ _ s r.2, e ∙ ap (λ xs. encode_utf8 c ++ xs) r.3 ∙ sym (append_assoc (encode_utf8 c) (encode_utf8_all r.0) r.1), r.4)
 leading bs (Broken x ∷ ps) (after, f, more) = ([], bs, refl, refl, f.0)
 
--- ---- one more character
-pub all_scalars_more : (cs : List ℕ) (c : ℕ) → all_scalars cs ≡ true → IsScalar c → all_scalars (cs ++ c ∷ []) ≡ true
-all_scalars_more cs c h s = scalars-append cs (c ∷ []) h (and_from _ _ s refl)
-
-pub encodes_more : (cs : List ℕ) (c : ℕ) → encode_utf8_all (cs ++ c ∷ []) ≡ encode_utf8_all cs ++ encode_utf8 c
-encodes_more cs c = encodes-append cs (c ∷ []) ∙ ap (λ xs. encode_utf8_all cs ++ xs) (encodes_one c)
-
+-- ---- more characters
 module _ {A : Type 0} (encode : ℕ → List A) where
-  -- one more character
-  pub converted_more : (src : List ℕ) (old new sub : List A) (read written c n m : ℕ) → Converted encode src old new read written → IsScalar c
-      → encode_utf8 c ≡ take n (drop read src) → n ≤ length (drop read src) → WritesFront (take (length new - written) (drop written new)) sub m (encode c)
-      → Converted encode src old (put_mid written (length new - written) new sub) (read + n) (written + m)
-  converted_more src old new sub read written c n m d s e l w = record {
-    scalars = d.scalars ++ c ∷ [];
-    are_scalars = all_scalars_more d.scalars c d.are_scalars s;
-    within = let before : read ≤ length src = d.within in omega (arith, l, length-drop read src);
-    spelled = encodes_more d.scalars c ∙ (λ i. d.spelled i ++ e i) ∙ sym (take-add read n src);
-    writes = WritesFront-same _ _ _ _ _ _ (WritesFront_after old new written (flat_map encode d.scalars) sub m (encode c) d.writes w) refl (sym (flat_map_push encode d.scalars c));
-  }
-
   -- a whole text more
   pub converted_text : (src : List ℕ) (old new sub : List A) (read written n m : ℕ) → Converted encode src old new read written → (u : IsUtf8 (take n (drop read src))) → n ≤ length (drop read src)
       → WritesFront (take (length new - written) (drop written new)) sub m (flat_map encode (chars (take n (drop read src)))) → Converted encode src old (put_mid written (length new - written) new sub) (read + n) (written + m)
@@ -71,6 +53,16 @@ module _ {A : Type 0} (encode : ℕ → List A) where
         writes = WritesFront-same _ _ _ _ _ _ (WritesFront_after old new written (flat_map encode d.scalars) sub m _ d.writes w) refl
             (ap (λ cs. flat_map encode d.scalars ++ flat_map encode cs) (sym same) ∙ sym (flat_map-append encode d.scalars u.0));
       }
+
+  -- one more character
+  pub converted_more : (src : List ℕ) (old new sub : List A) (read written c n m : ℕ) → Converted encode src old new read written → IsScalar c
+      → encode_utf8 c ≡ take n (drop read src) → n ≤ length (drop read src) → WritesFront (take (length new - written) (drop written new)) sub m (encode c)
+      → Converted encode src old (put_mid written (length new - written) new sub) (read + n) (written + m)
+  converted_more src old new sub read written c n m d s e l w =
+      let spelled : encode_utf8_all (c ∷ []) ≡ take n (drop read src) = encodes_one c ∙ e in
+      let text : IsUtf8 (take n (drop read src)) = (c ∷ [], (and_from _ _ s refl, spelled)) in
+      let out : encode c ≡ flat_map encode (chars (take n (drop read src))) = sym (append-nil (encode c)) ∙ ap (flat_map encode) (chars_from_encodes (c ∷ []) _ text spelled) in
+      converted_text src old new sub read written n m d text l (subst (λ xs. WritesFront (take (length new - written) (drop written new)) sub m xs) out w)
 
   pub converted_room : {src : List ℕ} {old new : List A} {read written : ℕ} → Converted encode src old new read written → written ≤ length new
   converted_room {src} {old} {new} {read} {written} d = omega (arith, d.writes.fits, WritesFront-length old new written (flat_map encode d.scalars) d.writes)
