@@ -1,12 +1,12 @@
 -- The front of a source, repaired into an array step by step, and written then.
-use Rattle.std.proofs.Common.{◌≡◌, ℕ, ◌+◌, ◌<◌, ◌≤◌, Bool, false, inl, List, [], ◌∷◌, ◌++◌, length, take, drop, slice_index, Option, encode_utf8_all, map, add-zero, refl, sym, ap, ◌∙◌, arith, subst}
+use Rattle.std.proofs.Common.{◌≡◌, ℕ, ◌+◌, ◌<◌, ◌≤◌, Bool, false, inl, List, [], ◌∷◌, ◌++◌, length, take, drop, slice_index, Option, add-zero, refl, sym, ap, ◌∙◌, arith, subst}
 use Rattle.std.specs.Io.KnownBytes.{Appends}
-use Rattle.std.proofs.lemmas.List.{append_assoc, drop-drop, drop-append-le, length-append, length-drop, length-take, take-append-drop, take-append-le, take-take}
+use Rattle.std.proofs.lemmas.List.{append_assoc, drop-drop, drop-append-le, length-append, length-drop, length-take, take-append-drop, take-append-le, take-take, take_all}
 use Rattle.std.proofs.Math.Seq.{take-append-add}
 use borrow.Rule.Slice.PartMut.{put_mid, post_of}
 use Rattle.std.proofs.lemmas.Str.{IsUtf8-from_ascii}
-use Rattle.encoding_definitions.specs.Parts.{Part, Character, StartsWith, repaired_text}
-use Rattle.encoding_definitions.proofs.Decomposition.DecompositionLemmas.{StartsWith-characters, repaired_text-append, repaired_text-characters, count_broken-append, count_broken-bytes, count_broken-characters}
+use Rattle.encoding_definitions.specs.Parts.{Part, repaired_text}
+use Rattle.encoding_definitions.proofs.Decomposition.DecompositionLemmas.{repaired_text-append, count_broken-append, count_broken-bytes}
 use Rattle.encoding_kernels.specs.Strides.{BelowUpTo}
 use Rattle.encoding_kernels.proofs.Latin.AsciiLemmas.{Each-take}
 use Rattle.encoding_text.specs.Decoding.{IsBroken, IsBorrowedCall}
@@ -18,7 +18,7 @@ use Rattle.encoding_text.proofs.Calls.BorrowedLemmas.{borrowed_gives}
 use Rattle.encoding_runs.specs.Steps.Writing.{text_of, broken_of, AreFirst, WritesParts, StopsInParts}
 use Rattle.encoding_runs.specs.Steps.Fronts.{RepairsFirst}
 use Rattle.encoding_runs.proofs.SettledLemmas.{AreFirst-trans}
-use Rattle.encoding_runs.proofs.RepairLemmas.{GivesPiece, piece_gives, nothing_pending, wrote_then, wrote_piece, stopped_in, stopped_then}
+use Rattle.encoding_runs.proofs.RepairLemmas.{text_parts, GivesPiece, piece_gives, nothing_pending, wrote_then, wrote_piece, stopped_in, stopped_then}
 
 -- more of it, behind what the array holds
 pub first_behind : (src array tail : List ℕ) (k read written n more_read more_written m : ℕ) → RepairsFirst src array read written n
@@ -49,40 +49,17 @@ pub text_behind : (src array tail : List ℕ) (k read written n more more_writte
 text_behind src array tail k read written n more more_written r s = rw (add-zero n) at (first_behind src array tail k read written n more more_written 0 r s)
 
 -- ---- one step
--- a byte that is a broken part
-pub lone_first : (src array rest : List ℕ) → 0 < length src → IsBroken (take 1 src) (drop 1 src) false → array ≡ 0xEF ∷ 0xBF ∷ 0xBD ∷ rest → RepairsFirst src array 1 3 1
-lone_first src array rest some broken placed = record {
-  parts = g.parts;
-  first = g.first;
-  within = omega (arith, some);
-  fits = (cut_behind array (0xEF ∷ 0xBF ∷ 0xBD ∷ []) rest placed).0;
-  text = (cut_behind array (0xEF ∷ 0xBF ∷ 0xBD ∷ []) rest placed).1 ∙ sym g.text;
-  broken = sym g.broken;
-}
-  where
-    call : IsBorrowedCall [] src false (Malformed 1) 1 []
-    call = record { pending_before = inl refl; pending = inl refl; answer = (omega (arith, some), omega (arith, length-take 1 src, some), refl, broken) }
-
-    g : GivesPiece [] src false (Malformed 1) 1 []
-    g = piece_gives [] src false (Malformed 1) 1 [] call
-
 -- the ASCII bytes before a place, of those that were copied
 pub ascii_copied : (src array rest : List ℕ) (n m : ℕ) → n ≤ m → m ≤ length src → BelowUpTo 0x80 src n → array ≡ take m src ++ rest → RepairsFirst src array n n 0
 ascii_copied src array rest n m short within below placed =
-    let (cs, (h, e)) = IsUtf8-from_ascii (take n src) (Each-take (λ b. b < 0x80) (omega arith) src n below) in
-    let whole : encode_utf8_all cs ++ drop n src ≡ src = ap (λ xs. xs ++ drop n src) e ∙ take-append-drop n src in
+    let t = text_parts src n (IsUtf8-from_ascii (take n src) (Each-take (λ b. b < 0x80) (omega arith) src n below)) in
     record {
-      parts = map Character cs;
-      first = record {
-        starts = subst (λ xs. StartsWith xs (map Character cs) (drop n src)) whole (StartsWith-characters cs (drop n src) h);
-        whatever_follows = λ _ more.
-            subst (λ xs. StartsWith xs (map Character cs) (drop n src ++ more)) (sym (append_assoc (encode_utf8_all cs) (drop n src) more) ∙ ap (λ xs. xs ++ more) whole)
-            (StartsWith-characters cs (drop n src ++ more) h);
-      };
+      parts = t.parts;
+      first = t.first false;
       within = omega (arith, short, within);
       fits = omega (arith, ap length placed, length-append (take m src) rest, length-take m src, short, within);
-      text = ap (take n) placed ∙ take-append-le n (take m src) rest (omega (arith, length-take m src, short, within)) ∙ take-take n m src short ∙ sym e ∙ sym (repaired_text-characters cs);
-      broken = sym (count_broken-characters cs);
+      text = ap (take n) placed ∙ take-append-le n (take m src) rest (omega (arith, length-take m src, short, within)) ∙ take-take n m src short ∙ sym t.text;
+      broken = sym t.broken;
     }
 
 -- an ASCII byte
@@ -121,6 +98,14 @@ piece_first src array rest most piece read q short call none placed = record {
     behind : (q ++ drop read (take most src)) ++ drop most src ≡ drop read src
     behind = ap (λ xs. (xs ++ drop read (take most src)) ++ drop most src) none
         ∙ sym (drop-append-le read (take most src) (drop most src) within) ∙ ap (drop read) whole
+
+-- a byte that is a broken part
+pub lone_first : (src array rest : List ℕ) → 0 < length src → IsBroken (take 1 src) (drop 1 src) false → array ≡ 0xEF ∷ 0xBF ∷ 0xBD ∷ rest → RepairsFirst src array 1 3 1
+lone_first src array rest some broken placed =
+    let call : IsBorrowedCall [] src false (Malformed 1) 1 [] =
+    record { pending_before = inl refl; pending = inl refl; answer = (omega (arith, some), omega (arith, length-take 1 src, some), refl, broken) } in
+    let all = subst (λ xs. IsBorrowedCall [] xs false (Malformed 1) 1 []) (sym (take_all (length src) src (omega arith))) call in
+    piece_first src array rest (length src) (Malformed 1) 1 [] (omega arith) all refl placed
 
 -- these bytes are written for a piece, and n broken parts replaced
 abbrev pub IsWrittenFor : Piece → List ℕ → ℕ → Type 0

@@ -1,5 +1,5 @@
 -- What stands written when the text of so many first parts is, and when a write fails in the middle of one.
-use Rattle.std.proofs.Common.{◌≡◌, ℕ, ◌+◌, ◌<◌, ◌≤◌, Bool, true, false, true≢false, List, [], ◌∷◌, ◌++◌, length, map, take, drop, Option, inl, inr, encode_utf8, refl, sym, ap, ◌∙◌, arith, subst}
+use Rattle.std.proofs.Common.{◌≡◌, ℕ, ◌+◌, ◌<◌, ◌≤◌, Bool, true, false, List, [], ◌∷◌, ◌++◌, length, map, take, drop, Option, inl, inr, encode_utf8, encode_utf8_all, refl, sym, ap, ◌∙◌, arith, subst}
 use Rattle.std.specs.Io.KnownBytes.{Appends}
 use Rattle.std.proofs.KnownBytes.{Appends-trans}
 use Rattle.std.proofs.lemmas.List.{append-nil, append_assoc, drop_all, length-drop, take-append-drop}
@@ -139,34 +139,38 @@ stopped_all last bs old new s =
     )
 
 -- ---- a well-formed front, and then the rest
-record TextParts (bs : List ℕ) (n : ℕ) : Type 0 where
-  parts : List Part
-  first : AreFirst true bs parts (drop n bs)
-  text : repaired_text parts ≡ take n bs
-  broken : count_broken parts ≡ 0
+pub record TextParts (bs : List ℕ) (n : ℕ) : Type 0 where
+  pub parts : List Part
+  pub first : (last : Bool) → AreFirst last bs parts (drop n bs)
+  pub text : repaired_text parts ≡ take n bs
+  pub broken : count_broken parts ≡ 0
 
-text_parts : (bs : List ℕ) (n : ℕ) → IsUtf8 (take n bs) → TextParts bs n
-text_parts bs n (cs, (scalars, spelled)) = record {
-  parts = map Character cs;
-  first = record {
-    starts = subst (λ xs. StartsWith xs (map Character cs) (drop n bs)) (ap (λ xs. xs ++ drop n bs) spelled ∙ take-append-drop n bs) (StartsWith-characters cs (drop n bs) scalars);
-    whatever_follows = λ e more. absurd (true≢false e);
-  };
-  text = repaired_text-characters cs ∙ spelled;
-  broken = count_broken-characters cs;
-}
+pub text_parts : (bs : List ℕ) (n : ℕ) → IsUtf8 (take n bs) → TextParts bs n
+text_parts bs n (cs, (scalars, spelled)) =
+    let whole : encode_utf8_all cs ++ drop n bs ≡ bs = ap (λ xs. xs ++ drop n bs) spelled ∙ take-append-drop n bs in
+    record {
+      parts = map Character cs;
+      first = λ last. record {
+        starts = subst (λ xs. StartsWith xs (map Character cs) (drop n bs)) whole (StartsWith-characters cs (drop n bs) scalars);
+        whatever_follows = λ _ more.
+            subst (λ xs. StartsWith xs (map Character cs) (drop n bs ++ more)) (sym (append_assoc (encode_utf8_all cs) (drop n bs) more) ∙ ap (λ xs. xs ++ more) whole)
+            (StartsWith-characters cs (drop n bs ++ more) scalars);
+      };
+      text = repaired_text-characters cs ∙ spelled;
+      broken = count_broken-characters cs;
+    }
 
 pub wrote_text : (bs : List ℕ) (n : ℕ) (old new : Option (List ℕ)) → IsUtf8 (take n bs) → Appends old new (take n bs) → WritesParts true bs (drop n bs) old new 0
 wrote_text bs n old new text a =
     let t = text_parts bs n text in
-    record { parts = t.parts; first = t.first; bytes = subst (Appends old new) (sym t.text) a; broken = sym t.broken }
+    record { parts = t.parts; first = t.first true; bytes = subst (Appends old new) (sym t.text) a; broken = sym t.broken }
 
 pub wrote_all_text : (bs : List ℕ) (n : ℕ) (old new : Option (List ℕ)) → length bs ≤ n → IsUtf8 (take n bs) → Appends old new (take n bs) → WritesRepaired bs old new 0
 wrote_all_text bs n old new all text a = wrote_all true bs old new 0 (subst (λ xs. WritesParts true bs xs old new 0) (drop_all n bs all) (wrote_text bs n old new text a))
 
 pub stopped_text : (bs : List ℕ) (n k : ℕ) (old new : Option (List ℕ)) → IsUtf8 (take n bs) → k < length (take n bs) → Appends old new (take k (take n bs)) → Stops bs old new
 stopped_text bs n k old new text short a =
-    let t = text_parts bs n text in stopped_all true bs old new (stopped_in true bs t.parts (drop n bs) (take n bs) old new k t.first (sym t.text) short a)
+    let t = text_parts bs n text in stopped_all true bs old new (stopped_in true bs t.parts (drop n bs) (take n bs) old new k (t.first true) (sym t.text) short a)
 
 pub wrote_rest : (bs rest : List ℕ) (old new now : Option (List ℕ)) (n : ℕ) → WritesParts true bs rest old new 0 → WritesParts true rest [] new now n → WritesRepaired bs old now n
 wrote_rest bs rest old new now n w v = wrote_all true bs old now n (subst (WritesParts true bs [] old now) {x = 0 + n} {y = n} (omega arith) (wrote_then true bs rest [] old new now 0 n w v))

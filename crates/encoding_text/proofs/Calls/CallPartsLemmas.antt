@@ -66,10 +66,10 @@ follows_stays unread more (Malformed k second) q y (zero, size, none, broken) = 
 
 -- the characters of what the call read, and those bytes behind them
 pub call_read : {A : Type 0} (encode : ℕ → List A) (need : ℕ) (p src : List ℕ) (last : Bool) (result : DecoderResult) (read : ℕ) (cs : List ℕ) (left : ℕ) (q : List ℕ)
-    → Answers encode need p src last result read cs left q → (y : List ℕ) × FollowsOutput (drop read src) last result q y × (p ++ take read src ≡ encode_utf8_all cs ++ y)
-call_read encode need p src last InputEmpty read cs left q (all, whole, ended, room) = (q, refl, ap (λ xs. p ++ xs) (take_all read src (omega (arith, all))) ∙ whole)
-call_read encode need p src last OutputFull read cs left q (short, whole, little, none, held) = (q, refl, whole)
-call_read encode need p src last (Malformed k second) read cs left q (x, zero, within, whole, size, none, broken, room) = (x, (zero, size, none, broken), whole)
+    → Answers encode need p src last result read cs left q → (y : List ℕ) × FollowsOutput (drop read src) last result q y × (p ++ take read src ≡ encode_utf8_all cs ++ y) × (read ≤ length src)
+call_read encode need p src last InputEmpty read cs left q (all, whole, ended, room) = (q, refl, ap (λ xs. p ++ xs) (take_all read src (omega (arith, all))) ∙ whole, omega (arith, all))
+call_read encode need p src last OutputFull read cs left q (short, whole, little, none, held) = (q, refl, whole, omega (arith, short))
+call_read encode need p src last (Malformed k second) read cs left q (x, zero, within, whole, size, none, broken, room) = (x, (zero, size, none, broken), whole, within)
 
 -- all the bytes that it was given
 pub call_bytes : (p src cs y : List ℕ) (read : ℕ) → p ++ take read src ≡ encode_utf8_all cs ++ y → p ++ src ≡ encode_utf8_all cs ++ (y ++ drop read src)
@@ -80,9 +80,7 @@ call_bytes p src cs y read e =
 -- no more of them than there are
 pub call_within : {A : Type 0} (encode : ℕ → List A) (need : ℕ) (p src : List ℕ) (last : Bool) (result : DecoderResult) (read : ℕ) (cs : List ℕ) (left : ℕ) (q : List ℕ)
     → Answers encode need p src last result read cs left q → read ≤ length src
-call_within encode need p src last InputEmpty read cs left q a = omega (arith, a.0)
-call_within encode need p src last OutputFull read cs left q a = omega (arith, a.0)
-call_within encode need p src last (Malformed k second) read cs left q a = a.2
+call_within encode need p src last result read cs left q a = (call_read encode need p src last result read cs left q a).3
 
 -- ---- the first parts of those bytes
 -- the parts that the call reports
@@ -91,17 +89,13 @@ reported_parts InputEmpty y = []
 reported_parts OutputFull y = []
 reported_parts (Malformed k second) y = Broken y ∷ []
 
-are_reported : (unread : List ℕ) (last : Bool) (result : DecoderResult) (q y : List ℕ) → FollowsOutput unread last result q y → IsReported result (reported_parts result y)
-are_reported unread last InputEmpty q y e = refl
-are_reported unread last OutputFull q y e = refl
-are_reported unread last (Malformed k second) q y (zero, size, none, broken) = (y, refl, size)
-
 reported_first : (unread : List ℕ) (last : Bool) (result : DecoderResult) (q y : List ℕ) → FollowsOutput unread last result q y
-    → StartsWith (y ++ unread) (reported_parts result y) (q ++ unread)
-reported_first unread last InputEmpty q y e = ap (λ xs. xs ++ unread) e
-reported_first unread last OutputFull q y e = ap (λ xs. xs ++ unread) e
+    → IsReported result (reported_parts result y) × StartsWith (y ++ unread) (reported_parts result y) (q ++ unread)
+reported_first unread last InputEmpty q y e = (refl, ap (λ xs. xs ++ unread) e)
+reported_first unread last OutputFull q y e = (refl, ap (λ xs. xs ++ unread) e)
 reported_first unread last (Malformed k second) q y (zero, size, none, broken) =
-    subst (λ xs. StartsWith (y ++ unread) (Broken y ∷ []) (xs ++ unread)) (sym none) (StartsWith-one (y ++ unread) (Broken y) unread (broken_first y unread last broken))
+    let first = StartsWith-one (y ++ unread) (Broken y) unread (broken_first y unread last broken) in
+    ((y, refl, size), subst (λ xs. StartsWith (y ++ unread) (Broken y ∷ []) (xs ++ unread)) (sym none) first)
 
 -- behind the characters that it wrote
 given_first : (bs cs y unread q : List ℕ) (last : Bool) (result : DecoderResult) → all_scalars cs ≡ true → bs ≡ encode_utf8_all cs ++ (y ++ unread)
@@ -110,7 +104,7 @@ given_first bs cs y unread q last result h e f =
     let behind = y ++ unread in
     subst (λ xs. StartsWith xs (map Character cs ++ reported_parts result y) (q ++ unread)) (sym e)
     (StartsWith-append (encode_utf8_all cs ++ behind) (map Character cs) behind (reported_parts result y) (q ++ unread) (StartsWith-characters cs behind h)
-    (reported_first unread last result q y f))
+    (reported_first unread last result q y f).1)
 
 -- the characters of what was read, and what follows them, are given
 pub gives_from : (p src : List ℕ) (last : Bool) (result : DecoderResult) (read : ℕ) (cs q y : List ℕ) → read ≤ length src → IsPending q → all_scalars cs ≡ true
@@ -142,8 +136,8 @@ pub decoded_gives : {A : Type 0} (encode : ℕ → List A) (need : ℕ) (p src :
 decoded_gives encode need p src room last result read out q call =
     let cs = call.scalars in
     let left = room - length out in
-    let (y, follows, e) = call_read encode need p src last result read cs left q call.answer in (
+    let (y, follows, e, within) = call_read encode need p src last result read cs left q call.answer in (
       map Character cs ++ reported_parts result y,
-      (cs, reported_parts result y, call.are_scalars, call.out_is, are_reported (drop read src) last result q y follows, refl),
-      gives_from p src last result read cs q y (call_within encode need p src last result read cs left q call.answer) call.pending call.are_scalars follows e,
+      (cs, reported_parts result y, call.are_scalars, call.out_is, (reported_first (drop read src) last result q y follows).0, refl),
+      gives_from p src last result read cs q y within call.pending call.are_scalars follows e,
     )

@@ -11,7 +11,7 @@ use Rattle.encoding_text.specs.declared.decoder.DecoderResult.TheVariants.{Input
 use Rattle.encoding_definitions.proofs.Sequences.EncodingLemmas.{length-utf16, flat_map-encode_utf8}
 use Rattle.encoding_text.proofs.Calls.DecodeLemmas.{broken_some}
 use Rattle.encoding_text.proofs.Calls.HasAnswerLemmas.{no_characters_pending}
-use Rattle.encoding_text.proofs.Calls.CallPartsLemmas.{FollowsOutput, call_read, call_within}
+use Rattle.encoding_text.proofs.Calls.CallPartsLemmas.{FollowsOutput, call_read}
 
 -- what was pending and what was read, against what was written, a broken part and what is pending then
 pub record Counts (p src : List ℕ) (room need : ℕ) (result : DecoderResult) (read written : ℕ) (q : List ℕ) : Type 0 where
@@ -49,8 +49,7 @@ module _ {A : Type 0} {encode : ℕ → List A} {need : ℕ} {p src : List ℕ} 
   module _ (short : (cs : List ℕ) → all_scalars cs ≡ true → length (flat_map encode cs) ≤ length (encode_utf8_all cs)) where
     pub counts : (result : DecoderResult) → IsCall encode need p src room last result read out q → Counts p src room need result read (length out) q
     counts result call =
-        let (y, follows, e) = call_read encode need p src last result read call.scalars (room - length out) q call.answer in
-        let within = call_within encode need p src last result read call.scalars (room - length out) q call.answer in
+        let (y, follows, e, within) = call_read encode need p src last result read call.scalars (room - length out) q call.answer in
         let total : length out + length y ≤ length p + read =
         omega (arith, short call.scalars call.are_scalars, ap length call.out_is, ap length e, length-append p (take read src), length-take read src, length-append (encode_utf8_all call.scalars) y) in
         let b = behind_output _ last result q y follows in
