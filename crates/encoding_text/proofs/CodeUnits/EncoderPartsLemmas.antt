@@ -2,7 +2,7 @@
 use Rattle.std.proofs.Common.{◌≡◌, ℕ, zero, suc, ◌+◌, ◌*◌, ◌<◌, ◌≤◌, inl, inr, Bool, true, false, List, [], ◌∷◌, ◌++◌, length, take, drop, refl, sym, ap, ◌∙◌, arith, subst}
 use Rattle.std.specs.List.{flat_map}
 use Rattle.std.proofs.lemmas.Bool.{cases_lt}
-use Rattle.std.proofs.lemmas.List.{append_assoc, append-nil, length-append, length-drop, length-take-le, drop_all, drop_at, drop-drop, drop-append-le, take-append-le, take-append-drop}
+use Rattle.std.proofs.lemmas.List.{append_assoc, append-nil, length-append, length-drop, drop_all, drop_at, drop-drop, drop-append-le, take-append-le, take-append-drop}
 use Rattle.std.proofs.lemmas.List.Concat.{flat_map-append}
 use Rattle.encoding_definitions.specs.Utf16.{AreUnits, Part16, Lone, units_of, ArePartsOf16, StartsWith16, IsHighSurrogate}
 use Rattle.encoding_definitions.specs.FirstScalar.{BeginsLow}
@@ -108,10 +108,8 @@ module _ (held src : List ℕ) (room : ℕ) (last : Bool) (r : EncoderResult) (r
   -- the units that it read and held, those of the parts, and those that it holds then
   units_split : length (flat_map units_of parts_written) + length after ≡ length held + read
   units_split =
-      let rest : length (held ++ src) ≡ c.taken + length (drop c.taken (held ++ src)) =
-      sym (ap length (take-append-drop c.taken (held ++ src))) ∙ length-append (take c.taken (held ++ src)) (drop c.taken (held ++ src))
-      ∙ ap (λ k. k + length (drop c.taken (held ++ src))) (length-take-le c.taken (held ++ src) (omega (arith, taken_within, all_units, length-append held src))) in
-      omega (arith, rest, ap length rest_is, length-append held src, length-append after (drop read src), length-drop read src, read_within, c.longest.taken)
+      let left = length-drop c.taken (held ++ src) in
+      omega (arith, left, ap length rest_is, length-append held src, length-append after (drop read src), length-drop read src, read_within, c.longest.taken, taken_within, all_units)
 
   -- what it writes leaves three bytes of room for each unit that is left, where there were as many for each
   pub room_left : length out + 3 * length after ≤ 3 * (length held + read)

@@ -79,24 +79,23 @@ latin1_fits_twice xs room read out h l f =
     f.written ∙ flat_map-encode_utf8 (take f.count xs) ∙ ap (λ n. encode_utf8_all (take n xs)) whole ∙ ap encode_utf8_all all
 
 -- ---- one more character as a byte
-low_or : (c : ℕ) → 128 ≤ c → c < 192 → bit_or 128 (bit_and (128 + c % 64) 63) ≡ c
-low_or c l h =
-    let last : bit_and (128 + c % 64) 63 ≡ (128 + c % 64) % 64 = grind (arith, common_steps) in
-    let both : bit_or 128 (c % 64) ≡ 128 + c % 64 = grind (arith, common_steps) in
-    ap (λ n. bit_or 128 n) (last ∙ (let e : (128 + c % 64) % 64 ≡ c % 64 = omega arith in e)) ∙ both ∙ (let e : 128 + c % 64 ≡ c = omega arith in e)
+low_six : (b : ℕ) → bit_and b 63 ≡ b % 64
+low_six b = grind (arith, common_steps)
 
-high_or : (c : ℕ) → 192 ≤ c → c < 256 → bit_or 192 (bit_and (128 + c % 64) 63) ≡ c
-high_or c l h =
-    let last : bit_and (128 + c % 64) 63 ≡ (128 + c % 64) % 64 = grind (arith, common_steps) in
-    let both : bit_or 192 (c % 64) ≡ 192 + c % 64 = grind (arith, common_steps) in
-    ap (λ n. bit_or 192 n) (last ∙ (let e : (128 + c % 64) % 64 ≡ c % 64 = omega arith in e)) ∙ both ∙ (let e : 192 + c % 64 ≡ c = omega arith in e)
+or_low : (n : ℕ) → n < 64 → bit_or 128 n ≡ 128 + n
+or_low n l = grind (arith, common_steps)
+
+or_high : (n : ℕ) → n < 64 → bit_or 192 n ≡ 192 + n
+or_high n l = grind (arith, common_steps)
 
 -- the two bits that the first byte has for the scalar value, and the six of the second
 pub character_of_two : (a b c : ℕ) → 128 ≤ c → c < 256 → a ≡ 192 + c / 64 → b ≡ 128 + c % 64 → bit_or (a * 64 % 256) (bit_and b 63) ≡ c
-character_of_two a b c l h e f = elim (cases_lt c 192) [
-  | inl p ↦ let first : a * 64 % 256 ≡ 128 = omega arith in rw (first, f) (low_or c l p)
-  | inr p ↦ let first : a * 64 % 256 ≡ 192 = omega arith in rw (first, f) (high_or c p h)
-]
+character_of_two a b c l h e f =
+    let six : bit_and b 63 ≡ c % 64 = omega (arith, low_six b) in
+    elim (cases_lt c 192) [
+      | inl p ↦ let first : a * 64 % 256 ≡ 128 = omega arith in rw (first, six) (omega (arith, or_low (c % 64) (omega arith)))
+      | inr p ↦ let first : a * 64 % 256 ≡ 192 = omega arith in rw (first, six) (omega (arith, or_high (c % 64) (omega arith)))
+    ]
 
 pub WritesFront_low : (old new xs : List ℕ) (n b : ℕ) → WritesFront old new n (map (λ (unit : ℕ). unit % 0x100) (take n xs)) → n < length xs → n < length new → b ≡ slice_index xs n % 0x100
     → WritesFront old (set new n b) (n + 1) (map (λ (unit : ℕ). unit % 0x100) (take (n + 1) xs))
