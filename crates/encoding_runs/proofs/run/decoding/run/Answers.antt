@@ -1,7 +1,7 @@
 use Rattle.std.proofs.Common.{◌∙◌, ℕ, ◌<◌, ◌+◌, ◌-◌, false, [], refl, length, take, drop, get_or, arith}
 use Rattle.std.proofs.lemmas.List.{length-drop, length-take, take_more, take_all}
 use Rattle.encoding_text.proofs.Calls.CallPartsLemmas.{call_within}
-use Rattle.encoding_definitions.proofs.LongestFronts.FrontsLemmas.{WritesFront-length}
+use Rattle.encoding_definitions.proofs.LongestFronts.FrontsLemmas.{WritesFront-nil, WritesFront-length}
 use Rattle.encoding_runs.specs.declared.run.turns.Turn.{Turn}
 use Rattle.encoding_runs.proofs.RunLemmas.{delivers}
 use Rattle.encoding_runs.proofs.TurnLemmas.{reported_push, one_report}
@@ -11,16 +11,8 @@ use Rattle.encoding_runs.proofs.run.decoding.run.Goals as goal
 pub loop-turn-init : goal.loop-turn-init
 loop-turn-init g c = record {
   run = record {
-    run = record {
-      calls = [];
-      chain = tt;
-      of_turns = tt;
-      reads = refl;
-      writes = record { count = refl; fits = omega arith; placed = refl };
-      returns = refl;
-      leaves = refl;
-    };
-    reports = record { count = refl; fits = omega arith; placed = refl };
+    run = record { calls = []; chain = tt; of_turns = tt; reads = refl; writes = WritesFront-nil _; returns = refl; leaves = refl };
+    reports = WritesFront-nil _;
   };
   read = omega arith;
   written = omega arith;

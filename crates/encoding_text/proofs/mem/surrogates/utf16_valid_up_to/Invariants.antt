@@ -3,10 +3,7 @@ use Rattle.encoding_definitions.specs.Surrogates.{IsValidUtf16}
 use Rattle.encoding_text.proofs.mem.surrogates.utf16_valid_up_to.Given as goal
 
 abbrev pub invariant-loop-at : goal.invariant-loop-at
-invariant-loop-at l = record {
-  within : l.at ≤ length l.buffer;
-  valid : IsValidUtf16 (take l.at l.buffer);
-}
+invariant-loop-at l = record { within : l.at ≤ length l.buffer; valid : IsValidUtf16 (take l.at l.buffer) }
 
 abbrev pub decreases-loop-at : goal.decreases-loop-at
 decreases-loop-at l = length l.buffer - l.at
