@@ -32,6 +32,7 @@ first_behind src array tail k read written n more_read more_written m r s = reco
       ∙ ap (λ xs. front ++ xs) (take-append-le more_written tail post s.fits)
       ∙ ap (λ xs. xs ++ take more_written tail) r.text ∙ ap (λ xs. repaired_text r.parts ++ xs) s.text ∙ sym (repaired_text-append r.parts s.parts);
   broken = omega (arith, r.broken, s.broken, count_broken-append r.parts s.parts);
+  few = omega (arith, r.few, s.few);
 }
   where
     front : List ℕ
@@ -60,6 +61,7 @@ ascii_copied src array rest n m short within below placed =
       fits = omega (arith, ap length placed, length-append (take m src) rest, length-take m src, short, within);
       text = ap (take n) placed ∙ take-append-le n (take m src) rest (omega (arith, length-take m src, short, within)) ∙ take-take n m src short ∙ sym t.text;
       broken = sym t.broken;
+      few = omega arith;
     }
 
 -- an ASCII byte
@@ -79,11 +81,12 @@ piece_first : (src array rest : List ℕ) (most : ℕ) (piece : Piece) (read : �
     → q ≡ [] → array ≡ text_of piece ++ rest → RepairsFirst src array read (length (text_of piece)) (broken_of piece)
 piece_first src array rest most piece read q short call none placed = record {
   parts = g.parts;
-  first = rw (behind, whole) at (window_first (take most src) (drop most src) g.parts (q ++ drop read (take most src)) g.first);
+  first = first;
   within = omega (arith, within, length-take most src, short);
   fits = (cut_behind array (text_of piece) rest placed).0;
   text = (cut_behind array (text_of piece) rest placed).1 ∙ sym g.text;
   broken = sym g.broken;
+  few = omega (arith, count_broken-bytes src g.parts (drop read src) first.starts, g.broken, within, length-take most src, length-drop read src, short);
 }
   where
     g : GivesPiece [] (take most src) false piece read q
@@ -98,6 +101,9 @@ piece_first src array rest most piece read q short call none placed = record {
     behind : (q ++ drop read (take most src)) ++ drop most src ≡ drop read src
     behind = ap (λ xs. (xs ++ drop read (take most src)) ++ drop most src) none
         ∙ sym (drop-append-le read (take most src) (drop most src) within) ∙ ap (drop read) whole
+
+    first : AreFirst false src g.parts (drop read src)
+    first = rw (behind, whole) at (window_first (take most src) (drop most src) g.parts (q ++ drop read (take most src)) g.first)
 
 -- a byte that is a broken part
 pub lone_first : (src array rest : List ℕ) → 0 < length src → IsBroken (take 1 src) (drop 1 src) false → array ≡ 0xEF ∷ 0xBF ∷ 0xBD ∷ rest → RepairsFirst src array 1 3 1
@@ -114,26 +120,15 @@ IsWrittenFor (Char c) bytes n = ⊥
 IsWrittenFor (Malformed k) bytes n = (bytes ≡ 0xEF ∷ 0xBF ∷ 0xBD ∷ []) × (n ≡ 1)
 IsWrittenFor InputEmpty bytes n = ⊥
 
--- no more parts are broken than bytes are read
-few_broken : (src array : List ℕ) (read written n : ℕ) → RepairsFirst src array read written n → n ≤ read
-few_broken src array read written n r = omega (arith, count_broken-bytes src r.parts (drop read src) r.first.starts, r.broken, r.within, length-drop read src)
-
--- what a step gives, that reads some byte
-abbrev pub Goes : List ℕ → List ℕ → ℕ → ℕ → ℕ → Type 0
-Goes src array read written n = (0 < read) × (read ≤ length src) × (written ≤ length array) × (n ≤ read) × RepairsFirst src array read written n
-
-goes : (src array : List ℕ) (read written n : ℕ) → 0 < read → RepairsFirst src array read written n → Goes src array read written n
-goes src array read written n some r = (some, r.within, r.fits, few_broken src array read written n r, r)
-
 pub piece_written : (src array rest bytes : List ℕ) (most : ℕ) (piece : Piece) (read : ℕ) (q : List ℕ) (n : ℕ) → most ≤ length src → IsBorrowedCall [] (take most src) false piece read q
-    → IsWrittenFor piece bytes n → array ≡ bytes ++ rest → Goes src array read (length bytes) n
+    → IsWrittenFor piece bytes n → array ≡ bytes ++ rest → (0 < read) × RepairsFirst src array read (length bytes) n
 piece_written src array rest bytes most (Text t) read q n short call (same, none) placed =
-    rw (same, none) (goes src array read (length t.now) 0 call.answer.2 (piece_first src array rest most (Text t) read q short call call.answer.1 (placed ∙ ap (λ xs. xs ++ rest) same)))
+    rw (same, none) (call.answer.2, piece_first src array rest most (Text t) read q short call call.answer.1 (placed ∙ ap (λ xs. xs ++ rest) same))
 piece_written src array rest bytes most (Char c) read q n short call never placed = absurd never
 piece_written src array rest bytes most (Malformed k) read q n short call (same, one) placed =
     let g = piece_gives [] (take most src) false (Malformed k) read q call in
     let some : 0 < read = omega (arith, count_broken-bytes (take most src) g.parts (q ++ drop read (take most src)) g.first.starts, g.broken, length-append {A = ℕ}, length-drop {A = ℕ}) in
-    rw (same, one) (goes src array read 3 1 some (piece_first src array rest most (Malformed k) read q short call call.answer.2 (placed ∙ ap (λ xs. xs ++ rest) same)))
+    rw (same, one) (some, piece_first src array rest most (Malformed k) read q short call call.answer.2 (placed ∙ ap (λ xs. xs ++ rest) same))
 piece_written src array rest bytes most InputEmpty read q n short call never placed = absurd never
 
 -- ---- written

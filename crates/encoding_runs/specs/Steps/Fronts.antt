@@ -4,7 +4,7 @@ use Rattle.encoding_definitions.specs.Parts.{Part, repaired_text, count_broken}
 use Rattle.encoding_runs.specs.Steps.Writing.{AreFirst}
 
 -- So many bytes of the source are its first parts, which stay these whatever follows. Their text stands at the front of
--- the array, and n of the parts are broken.
+-- the array, and n of the parts are broken, which are no more than bytes.
 pub record RepairsFirst (src array : List ℕ) (read written n : ℕ) : Type 0 where
   pub parts : List Part
   pub first : AreFirst false src parts (drop read src)
@@ -12,3 +12,4 @@ pub record RepairsFirst (src array : List ℕ) (read written n : ℕ) : Type 0 w
   pub fits : written ≤ length array
   pub text : take written array ≡ repaired_text parts
   pub broken : n ≡ count_broken parts
+  pub few : n ≤ read

@@ -70,7 +70,6 @@ fn repair_byte(src: &[u8], dst: &mut [u8]) -> Option<usize>
 #[inline(always)]
 fn repair_bytes(src: &[u8], is_text: bool, dst: &mut [u8]) -> Front
     ensures repaired { RepairsFirst src.now dst.new result.read result.written result.replaced }
-    ensures within { (result.read ≤ length src.now) × (result.written ≤ length dst.new) × (result.replaced ≤ result.read) }
 {
     let most = src.len().saturating_sub(1).min(dst.len() / 3);
     let most = if is_text { most.min(FEW) } else { most };
@@ -94,8 +93,7 @@ fn repair_bytes(src: &[u8], is_text: bool, dst: &mut [u8]) -> Front
 #[inline(never)]
 fn repair_piece(src: &[u8], most: usize, dst: &mut [u8]) -> Option<Front>
     requires within { (most ≤ length src.now) × (most ≤ length dst.old) }
-    ensures some { IfSome result (λ front. (0 < front.read) × (front.read ≤ length src.now)
-        × (front.written ≤ length dst.new) × (front.replaced ≤ front.read)
+    ensures some { IfSome result (λ front. (0 < front.read)
         × RepairsFirst src.now dst.new front.read front.written front.replaced) }
     ensures none { IfNone result (dst.new ≡ dst.old) }
 {
@@ -143,7 +141,6 @@ fn repair_ascii(src: &[u8], dst: &mut [u8]) -> usize
 #[inline(always)]
 fn repair_ascii_text(src: &[u8], dst: &mut [u8]) -> Front
     ensures repaired { RepairsFirst src.now dst.new result.read result.written result.replaced }
-    ensures within { (result.read ≤ length src.now) × (result.written ≤ length dst.new) × (result.replaced ≤ result.read) }
 {
     let (mut read, mut written, mut replaced) = (0, 0, 0);
     while src.len() - read > 1 && dst.len() - written >= REPLACEMENT.len() {
@@ -172,7 +169,6 @@ fn repair_ascii_text(src: &[u8], dst: &mut [u8]) -> Front
 #[inline(never)]
 pub(super) fn repair_front(src: &[u8], dst: &mut [u8]) -> Front
     ensures repaired { RepairsFirst src.now dst.new result.read result.written result.replaced }
-    ensures within { (result.read ≤ length src.now) × (result.written ≤ length dst.new) × (result.replaced ≤ result.read) }
 {
     let ascii = repair_ascii_text(src, dst);
     let (mut read, mut written, mut replaced) = (ascii.read, ascii.written, ascii.replaced);

@@ -8,10 +8,4 @@ loop-read-preserved c =
     let before = c.loop-read.invariant in
     let (few, one, byte) = c.in-Some.ensures.some in
     let next = first_behind _ _ _ (length c.loop-read.dst - c.loop-read.written) _ _ _ _ _ _ before.repaired (rw take_rest at byte) in
-    record {
-      within = omega (arith, c.loop-read-test.true);
-      room = omega (arith, before.room, few);
-      below = omega (arith, before.below, one);
-      fits = next.fits;
-      repaired = next;
-    }
+    record { within = omega (arith, c.loop-read-test.true); room = omega (arith, before.room, few); repaired = next }

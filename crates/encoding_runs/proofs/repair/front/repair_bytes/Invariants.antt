@@ -1,4 +1,4 @@
-use Rattle.std.proofs.Common.{◌≤◌, ◌*◌, ◌-◌, length}
+use Rattle.std.proofs.Common.{◌≤◌, ◌*◌, ◌-◌}
 use Rattle.encoding_runs.specs.Steps.Fronts.{RepairsFirst}
 use Rattle.encoding_runs.proofs.repair.front.repair_bytes.Given as goal
 
@@ -6,8 +6,6 @@ abbrev pub invariant-loop-read : goal.invariant-loop-read
 invariant-loop-read l = record {
   within : l.read ≤ l.most;
   room : l.written ≤ 3 * l.read;
-  below : l.replaced ≤ l.read;
-  fits : l.written ≤ length l.dst;
   repaired : RepairsFirst l.src l.dst l.read l.written l.replaced;
 }
 

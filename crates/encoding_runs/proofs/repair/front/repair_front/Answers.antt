@@ -1,4 +1,4 @@
-use Rattle.std.proofs.Common.{ℕ, List, ◌≡◌, ◌+◌, ◌-◌, ◌∙◌, ap, arith, length, subst, sym}
+use Rattle.std.proofs.Common.{ℕ, List, ◌≡◌, ◌+◌, ◌-◌, ◌∙◌, ap, length, subst, sym}
 use borrow.Rule.Slice.PartMut.{put_mid}
 use Rattle.encoding_definitions.proofs.LongestFronts.FrontsLemmas.{put_mid-same}
 use Rattle.encoding_runs.specs.Steps.Fronts.{RepairsFirst}
@@ -8,23 +8,15 @@ use Rattle.encoding_runs.proofs.repair.front.repair_front.Goals as goal
 
 pub loop-is_text-preserved : goal.loop-is_text-preserved
 loop-is_text-preserved c =
-    let before = c.loop-is_text.invariant in
     let bytes = rw take_rest at c.repair_bytes-bytes.ensures.repaired in
-    let first = first_behind _ _ _ (length c.loop-is_text.dst - c.loop-is_text.written) _ _ _ _ _ _ before.repaired bytes in
-    let (some, within, fits, few, piece) = c.in-Some.ensures.some in
-    let next = first_behind _ _ _ _ _ _ _ _ _ _ first (rw take_rest at piece) in
-    record {
-      read = next.within;
-      written = next.fits;
-      below = omega (arith, before.below, c.repair_bytes-bytes.ensures.within.2, few);
-      repaired = next;
-    }
+    let first = first_behind _ _ _ (length c.loop-is_text.dst - c.loop-is_text.written) _ _ _ _ _ _ c.loop-is_text.invariant bytes in
+    first_behind _ _ _ _ _ _ _ _ _ _ first (rw take_rest at c.in-Some.ensures.some.1)
 
-pub returns-in_default-clause-repaired : goal.returns-in_default-clause-repaired
-returns-in_default-clause-repaired c =
+pub returns-in_default : goal.returns-in_default
+returns-in_default c =
     let bytes = rw take_rest at c.repair_bytes-bytes.ensures.repaired in
-    let first = first_behind _ _ _ (length c.loop-is_text.dst - c.loop-is_text.written) _ _ _ _ _ _ c.loop-is_text.invariant.repaired bytes in
+    let first = first_behind _ _ _ (length c.loop-is_text.dst - c.loop-is_text.written) _ _ _ _ _ _ c.loop-is_text.invariant bytes in
     let array : List ℕ = put_mid c.loop-is_text.written (length c.loop-is_text.dst - c.loop-is_text.written) c.loop-is_text.dst c.repair_bytes-bytes.new.dst in
     let written : ℕ = c.loop-is_text.written + c.repair_bytes-bytes.result.written in
     let same : put_mid written (length array - written) array c.repair_piece.new.dst ≡ array = ap (put_mid written (length array - written) array) c.in_default.ensures.none ∙ put_mid-same array written in
-    subst (λ xs. RepairsFirst c.args.src.now xs (c.loop-is_text.read + c.repair_bytes-bytes.result.read) written (c.loop-is_text.replaced + c.repair_bytes-bytes.result.replaced)) (sym same) first
+    record { repaired = subst (λ xs. RepairsFirst c.args.src.now xs (c.loop-is_text.read + c.repair_bytes-bytes.result.read) written (c.loop-is_text.replaced + c.repair_bytes-bytes.result.replaced)) (sym same) first }

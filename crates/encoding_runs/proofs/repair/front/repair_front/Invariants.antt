@@ -1,14 +1,9 @@
-use Rattle.std.proofs.Common.{◌≤◌, ◌-◌, length}
+use Rattle.std.proofs.Common.{◌-◌, length}
 use Rattle.encoding_runs.specs.Steps.Fronts.{RepairsFirst}
 use Rattle.encoding_runs.proofs.repair.front.repair_front.Given as goal
 
 abbrev pub invariant-loop-is_text : goal.invariant-loop-is_text
-invariant-loop-is_text l = record {
-  read : l.read ≤ length l.src;
-  written : l.written ≤ length l.dst;
-  below : l.replaced ≤ l.read;
-  repaired : RepairsFirst l.src l.dst l.read l.written l.replaced;
-}
+invariant-loop-is_text l = RepairsFirst l.src l.dst l.read l.written l.replaced
 
 abbrev pub decreases-loop-is_text : goal.decreases-loop-is_text
 decreases-loop-is_text l = length l.src - l.read
