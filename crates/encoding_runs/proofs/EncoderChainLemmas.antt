@@ -1,7 +1,8 @@
 -- A chain of encoder calls writes the first parts of what was held and its source.
-use Rattle.std.proofs.Common.{◌≡◌, ℕ, ◌≤◌, ◌⊎◌, inl, inr, Bool, true, false, ◌||◌, List, [], ◌∷◌, ◌++◌, length, take, drop, refl, sym, ap, ◌∙◌, arith, subst}
+use Rattle.std.proofs.Common.{◌≡◌, ℕ, ◌≤◌, ◌⊎◌, inl, inr, Bool, true, false, List, [], ◌∷◌, ◌++◌, length, take, drop, refl, sym, ap, ◌∙◌, arith, subst}
 use Rattle.std.specs.Prelude.{Any}
 use Rattle.std.specs.List.{flat_map}
+use Rattle.std.proofs.lemmas.Bool.{or_parts}
 use Rattle.std.proofs.lemmas.List.{append_assoc, append-nil, length-append, length-drop, length-take, drop_all, drop-drop, drop-append-le, take-append-drop, nil_from_length}
 use Rattle.std.proofs.lemmas.List.Concat.{flat_map-append}
 use Rattle.encoding_definitions.specs.Utf16.{AreUnits, Part16, units_of, utf8_of, StartsWith16}
@@ -40,10 +41,6 @@ chain_parts : (calls : List (Call ℕ EncoderResult ℕ)) (held unread : List �
 chain_parts [] held unread chain = []
 chain_parts (call ∷ calls) held unread chain = parts_written _ _ _ _ _ _ _ _ chain.0 ++ chain_parts calls call.pending (drop call.read unread) chain.2
 
-none_marked : (a b : Bool) → (a || b) ≡ false → (a ≡ false) × (b ≡ false)
-none_marked true b e = absurd (cc (e))
-none_marked false b e = (refl, e)
-
 no_more : (last : Bool) (more : List ℕ) → (more ≡ []) ⊎ (last ≡ false) → last ≡ true → more ≡ []
 no_more last more (inl e) t = e
 no_more last more (inr f) t = let clash : true ≡ false = sym t ∙ f in absurd (cc (clash))
@@ -55,8 +52,8 @@ unfolding chain_parts
 chain_first [] held unread more chain h a b n =
     StartsWith16-nil (held ++ (unread ++ more)) _ (parts_exist (held ++ (unread ++ more)) (AreUnits-held held (unread ++ more) h (AreUnits-append unread more a b)))
 chain_first (call ∷ calls) held unread more (c, reaches, chain) h a b n =
-    let here : (more ≡ []) ⊎ (call.last ≡ false) = elim n [ inl e ↦ inl e | inr f ↦ inr (none_marked call.last (some_last calls) f).0 ] in
-    let then' : (more ≡ []) ⊎ (some_last calls ≡ false) = elim n [ inl e ↦ inl e | inr f ↦ inr (none_marked call.last (some_last calls) f).1 ] in
+    let here : (more ≡ []) ⊎ (call.last ≡ false) = elim n [ inl e ↦ inl e | inr f ↦ inr (or_parts call.last (some_last calls) f).0 ] in
+    let then' : (more ≡ []) ⊎ (some_last calls ≡ false) = elim n [ inl e ↦ inl e | inr f ↦ inr (or_parts call.last (some_last calls) f).1 ] in
     let rest = chain_first calls call.pending (drop call.read unread) more chain c.held_after (AreUnits-behind unread call.read a) b then' in
     subst (λ xs. StartsWith16 (held ++ (unread ++ more)) (parts_written _ _ _ _ _ _ _ _ c ++ chain_parts calls call.pending (drop call.read unread) chain) (pending_after call.pending calls ++ (xs ++ more)))
     (drop-drop (read_in_all calls) call.read unread)

@@ -38,9 +38,6 @@ broken_or_open x (y ∷ ys) last (n, inl l) = inl (inr (l.beginning, stuck_part 
 broken_or_open x [] last (n, inr l) = inl (inl (lone_part (x ++ []) x [] n l))
 broken_or_open x (y ∷ ys) last (n, inr l) = inl (inl (lone_part (x ++ (y ∷ ys)) x (y ∷ ys) n l))
 
-first_behind : (src x after : List ℕ) → src ≡ x ++ after → IsFirstPart src (Broken x) after → IsFirstPart (x ++ after) (Broken x) after
-first_behind src x after e f = subst (λ xs. IsFirstPart xs (Broken x) after) e f
-
 module _ {A : Type 0} (encode : ℕ → List A) (need : ℕ) (last : Bool) where
   abbrev HasCall : List ℕ → List ℕ → ℕ → Type 0
   HasCall p src room = (result : DecoderResult) × (read : ℕ) × (out : List A) × (q : List ℕ) × IsCall encode need p src room last result read out q
@@ -112,7 +109,7 @@ module _ {A : Type 0} (encode : ℕ → List A) (need : ℕ) (last : Bool) where
         elim (cases_lt room need) [
           | inl short ↦ full_call [] src room (inl refl) (omega (arith, ap length bytes.0, length-append x after, bytes.1)) short
               (λ _ (b, rest, k, e, g). f.0 (encode_utf8 b) rest e (IsSequence-encode b k))
-          | inr enough ↦ broken_call [] src x x after room (inl refl) refl bytes.0 (first_behind src x after bytes.0 f) (λ _. enough)
+          | inr enough ↦ broken_call [] src x x after room (inl refl) refl bytes.0 (subst (λ xs. IsFirstPart xs (Broken x) after) bytes.0 f) (λ _. enough)
         ]
 
     -- with a beginning pending, by the first part of it and the source
@@ -124,7 +121,7 @@ module _ {A : Type 0} (encode : ℕ → List A) (need : ℕ) (last : Bool) where
       | inr (t, f, g) ↦ absurd (no_character_pending c t p h (inr b) f)
     ]
     resumed_call p src room (Broken x) after b enough (n, inl l) =
-        let first : IsFirstPart (x ++ after) (Broken x) after = first_behind (p ++ src) x after l.whole (n, inl l) in
+        let first : IsFirstPart (x ++ after) (Broken x) after = subst (λ xs. IsFirstPart xs (Broken x) after) l.whole (n, inl l) in
         elim (fronts_nest p src x after l.whole) [
           | inl (t, f, g) ↦ broken_call p src t x after room (inr b) f g first (λ _. enough)
           | inr (t, f, g) ↦

@@ -64,16 +64,13 @@ wrote_some p src cs more y zero c pending h e =
     absurd (omega (arith, ap length none, length-append cs (c ∷ more)))
 wrote_some p src cs more y (suc read) c pending h e = omega arith
 
-all_dropped : (src : List ℕ) (read : ℕ) → read ≡ length src → drop read src ≡ []
-all_dropped src read e = drop_all read src (omega (arith, e))
-
 module _ {A : Type 0} (encode : ℕ → List A) (need : ℕ) (p src : List ℕ) (last : Bool) where
   -- no character begins what is behind, for which the room would suffice
   no_more : (result : DecoderResult) (read : ℕ) (cs : List ℕ) (room : ℕ) (q y : List ℕ) (c : ℕ) (rest : List ℕ) → IsScalar c
       → Ended encode need p src last result read cs (room - length (flat_map encode cs)) q y → (p ≢ [] → need ≤ room)
       → length (flat_map encode cs) + length (encode c) ≤ room → y ++ drop read src ≡ encode_utf8 c ++ rest → ⊥
   no_more InputEmpty read cs room q y c rest h d large fits e =
-      no_character_pending c rest q h d.pending (sym (append-nil q) ∙ (λ i. (sym d.follows) i ++ (sym (all_dropped src read d.answer.0)) i) ∙ e)
+      no_character_pending c rest q h d.pending (sym (append-nil q) ∙ (λ i. (sym d.follows) i ++ (sym (drop_all read src (omega (arith, d.answer.0)))) i) ∙ e)
   no_more OutputFull read cs room q y c rest h d large fits e = full d.pending
     where
       full : IsPending q → ⊥
@@ -100,7 +97,7 @@ module _ {A : Type 0} (encode : ℕ → List A) (need : ℕ) (p src : List ℕ) 
 
     empty_malformed : (read read' : ℕ) (q q' y y' : List ℕ) (k second : ℕ) → End InputEmpty read q y → End (Malformed k second) read' q' y' → y ++ drop read src ≡ y' ++ drop read' src → ⊥
     empty_malformed read read' q q' y y' k second d d' e =
-        pending_not_broken q y' (drop read' src) last d.pending d.answer.2 d'.follows.3 (sym (append-nil q) ∙ (λ i. (sym d.follows) i ++ (sym (all_dropped src read d.answer.0)) i) ∙ e)
+        pending_not_broken q y' (drop read' src) last d.pending d.answer.2 d'.follows.3 (sym (append-nil q) ∙ (λ i. (sym d.follows) i ++ (sym (drop_all read src (omega (arith, d.answer.0)))) i) ∙ e)
 
     full_malformed : (read read' : ℕ) (q q' y y' : List ℕ) (k second : ℕ) → End OutputFull read q y → End (Malformed k second) read' q' y' → ⊥
     full_malformed read read' q q' y y' k second d d' =

@@ -92,9 +92,6 @@ open_due us last n due l a = record {
 
 -- ---- nothing held
 module _ (src : List ℕ) (room : ℕ) (last : Bool) (n read : ℕ) (out : List ℕ) (l : LeavesOpen src last n) (f : IsUtf8OfLongestFront (take n src) room read out) where
-  fresh_length : length (flat_map units_of f.parts) ≡ n
-  fresh_length = ap length f.are_parts.1 ∙ length-take-le n src l.within
-
   pub fresh_full : read < n → IsEncoderCall [] src room last OutputFull read out []
   fresh_full h = record {
     held_before = tt;
@@ -104,7 +101,7 @@ module _ (src : List ℕ) (room : ℕ) (last : Bool) (n read : ℕ) (out : List 
     taken = read;
     are_due = open_due src last n f.parts l f.are_parts;
     longest = f.longest;
-    answer = (omega (arith, h, fresh_length), (λ e. (e, refl)), (λ p. (omega arith, refl)));
+    answer = (omega (arith, h, ap length f.are_parts.1, length-take-le n src l.within), (λ e. (e, refl)), (λ p. (omega arith, refl)));
   }
 
 -- ---- a unit held
@@ -137,15 +134,12 @@ ends_high_tail : (a b : ℕ) (xs : List ℕ) → EndsHigh (a ∷ b ∷ xs) → E
 ends_high_tail a b xs ([], u, e, h) = absurd (omega (arith, ap length e))
 ends_high_tail a b xs (x ∷ front, u, e, h) = (front, u, ap (drop 1) e, h)
 
-ends_high_one : (u : ℕ) → EndsHigh (u ∷ []) → IsHighSurrogate u
-ends_high_one u h = (ends_high_last (u ∷ []) h).1
-
 behind_one : (u : ℕ) (rest : List ℕ) → 0 < length rest → EndsHigh (u ∷ rest) → EndsHigh rest
 behind_one u [] l h = absurd (omega arith)
 behind_one u (v ∷ rest) l h = ends_high_tail u v rest h
 
 behind_pair : (u v : ℕ) (rest : List ℕ) → 0xDC00 ≤ v → EndsHigh (u ∷ v ∷ rest) → EndsHigh rest
-behind_pair u v [] l h = let high = ends_high_one v (ends_high_tail u v [] h) in absurd (omega arith)
+behind_pair u v [] l h = let high = (ends_high_last (v ∷ []) (ends_high_tail u v [] h)).1 in absurd (omega arith)
 behind_pair u v (x ∷ rest) l h = ends_high_tail v x rest (ends_high_tail u v (x ∷ rest) h)
 
 ends_behind : (us : List ℕ) (p : Part16) (rest : List ℕ) → IsFirstPart16 us p rest → (length (units_of p) ≡ 1 → 0 < length rest) → EndsHigh us → EndsHigh rest
