@@ -122,14 +122,6 @@ block_replaced p src last old new sub read written replaced n k second q reporte
 abbrev AreRepairedParts : ℕ → RepairedBlock → List ℕ → List Part → Type 0
 AreRepairedParts room block out parts = (out ≡ repaired_text parts) × (block.replaced ≡ count_broken parts)
 
-block_gives : (p src : List ℕ) (room : ℕ) (last : Bool) (block : RepairedBlock) (read : ℕ) (out q : List ℕ) → IsBlockRepair p src room last block read out q
-    → (parts : List Part) × AreRepairedParts room block out parts × Gives p src last parts read q
-block_gives p src room last block read out q call = (call.parts, (call.text, call.replaced), call.given)
-
-block_ends : (p src : List ℕ) (room : ℕ) (last : Bool) (block : RepairedBlock) (read : ℕ) (out q : List ℕ) → IsBlockRepair p src room last block read out q
-    → last ≡ true → block.finished ≡ true → (read ≡ length src) × (q ≡ [])
-block_ends p src room last block read out q call marked e = ((call.finished e).0, (call.finished e).1 marked)
-
 sequence_text : (calls : List (Call ℕ RepairedBlock ℕ)) (parts : List Part) → AreGivenInSequence AreRepairedParts calls parts
     → (output_of calls ≡ repaired_text parts) × (replaced_in_all calls ≡ count_broken parts)
 sequence_text [] parts e = (ap repaired_text (sym e), ap count_broken (sym e))
@@ -140,7 +132,8 @@ sequence_text (call ∷ calls) parts (first, others, (text, count), more, whole)
     )
 
 blocks_give : (p b : List ℕ) (calls : List (Call ℕ RepairedBlock ℕ)) → IsPending p → IsChain IsBlockRepair p b calls → GiveTheParts AreRepairedParts (λ block. block.finished ≡ true) p b calls
-blocks_give = chain_gives IsBlockRepair AreRepairedParts block_gives (λ block. block.finished ≡ true) block_ends
+blocks_give = chain_gives IsBlockRepair AreRepairedParts (λ p src room last block read out q call. (call.parts, (call.text, call.replaced), call.given)) (λ block. block.finished ≡ true)
+    (λ p src room last block read out q call marked e. ((call.finished e).0, (call.finished e).1 marked))
 
 pub blocks_front : (p b : List ℕ) (calls : List (Call ℕ RepairedBlock ℕ)) → IsPending p → IsChain IsBlockRepair p b calls → RepairTheParts p b calls
 blocks_front p b calls h c =

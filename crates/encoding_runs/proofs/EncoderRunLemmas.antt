@@ -36,13 +36,10 @@ run_encodes held src turns old new outcome after h a run = record {
 module _ (held unread left sub : List ℕ) (turn : Turn) (piece room : ℕ) (last : Bool) (r : EncoderResult) (read written : ℕ) (after : List ℕ) (p : piece ≡ min turn.take (length unread))
     (q : room ≡ room_of turn (length left)) (l : last ≡ is_marked_last turn (length unread))
     (c : IsEncoderCall held (take piece unread) (length (take room left)) last r read (take written sub) after) (w : WritesFront (take room left) sub written (take written sub)) where
-  same_output : take written sub ≡ take written (sub ++ drop room left)
-  same_output = sym (take-append-le written sub (drop room left) (omega (arith, w.fits, WritesFront-length _ _ _ _ w)))
-
   pub turn_call : IsEncoderCall held (take turn.take unread) (room_of turn (length left)) (is_marked_last turn (length unread)) r read (take written (sub ++ drop room left)) after
   turn_call =
       same_call IsEncoderCall held held _ _ _ _ _ _ r read _ _ after c refl (ap (λ n. take n unread) p ∙ take_min turn.take unread)
-      (length-take room left ∙ omega (arith, q)) l same_output
+      (length-take room left ∙ omega (arith, q)) l (sym (take-append-le written sub (drop room left) (omega (arith, w.fits, WritesFront-length _ _ _ _ w))))
 
   pub turn_rest : WritesFront left (sub ++ drop room left) written (take written (sub ++ drop room left))
   turn_rest = written_front _ _ _ _ (WritesFront_within left sub room written (take written sub) w)
@@ -60,9 +57,6 @@ module _ (held unread : List ℕ) (left : ℕ) (turn : Turn) (call : Call ℕ En
   still_enough : 3 * (length (drop call.read unread) + length call.pending) ≤ left - length call.out
   still_enough = omega (arith, room_left _ _ _ _ _ _ _ _ c, length-drop call.read unread, read_within _ _ _ _ _ _ _ _ c, length-take call.piece unread)
 
-  ends_call : length unread ≡ 0 → call.result ≡ InputEmpty
-  ends_call none = enough_room _ _ _ _ _ _ _ _ (omega (arith, room, length-take call.piece unread, at_most_one_held held c.held_before)) c
-
   fewer : 0 < length unread → 2 * length (drop call.read unread) + length call.pending < 2 * length unread + length held
   fewer some =
       let on = gets_on _ _ _ _ _ _ _ _ c (omega (arith, length-take call.piece unread, piece)) (λ small. omega (arith, small, room, length-take call.piece unread, at_most_one_held held c.held_before)) in
@@ -74,7 +68,7 @@ module _ (held unread : List ℕ) (left : ℕ) (turn : Turn) (call : Call ℕ En
       | inl (none, b) ↦ absurd (omega arith)
       | inr more ↦ inr (omega (arith, fewer some))
     ]
-    | inr none ↦ inl (omega (arith, length-drop call.read unread), ap Some (ends_call (omega arith)))
+    | inr none ↦ inl (omega (arith, length-drop call.read unread), ap Some (enough_room _ _ _ _ _ _ _ _ (omega (arith, room, length-take call.piece unread, at_most_one_held held c.held_before)) c))
   ]
 
 turns_complete : (turns : List Turn) (calls : List (Call ℕ EncoderResult ℕ)) (held unread : List ℕ) (left : ℕ) (before : Option EncoderResult) → IsChain IsEncoderCall held unread calls

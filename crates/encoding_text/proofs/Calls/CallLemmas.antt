@@ -1,5 +1,5 @@
 -- How a call ends: with the source, with a broken part, or for want of room.
-use Rattle.std.proofs.Common.{◌≡◌, ◌≢◌, ℕ, ◌+◌, ◌<◌, ◌≤◌, inl, inr, Bool, true, List, [], ◌∷◌, ◌++◌, length, take, drop, slice_index, refl, sym, ap, ◌∙◌, arith, subst, take-add}
+use Rattle.std.proofs.Common.{◌≡◌, ◌≢◌, ℕ, ◌+◌, ◌<◌, ◌≤◌, inl, inr, Bool, List, [], ◌∷◌, ◌++◌, length, take, drop, slice_index, refl, sym, ap, ◌∙◌, arith, subst, take-add}
 use Rattle.std.proofs.lemmas.Bool.{cases_Bool}
 use Rattle.std.proofs.lemmas.List.{length-append, length-drop, length-take, take-append-drop, drop-drop, take_all, drop_all, take_more}
 use Rattle.encoding_definitions.specs.Sequence.{IsSequence, IsBeginning, BeginsNothing}
@@ -21,9 +21,6 @@ broken_lone b (y ∷ ys) last n = inl (b, refl, n)
 pub broken_stuck : (x rest : List ℕ) (last : Bool) (b : ℕ) (more : List ℕ) → rest ≡ b ∷ more → IsBeginning x → IsStuck x b → IsBroken x rest last
 broken_stuck x rest last b more e o s = subst (λ xs. IsBroken x xs last) (sym e) (inr (o, s))
 
-broken_open : (x rest : List ℕ) (last : Bool) → rest ≡ [] → IsBeginning x → last ≡ true → IsBroken x rest last
-broken_open x rest last e o l = subst (λ xs. IsBroken x xs last) (sym e) (inr (o, l))
-
 -- ---- before the first byte that no character takes
 pub take_one : (r : List ℕ) → 0 < length r → take 1 r ≡ slice_index r 0 ∷ []
 take_one r h = take_more r 0 0 h
@@ -42,7 +39,7 @@ ended_before r p q after last (Malformed k second) read h e f (zero, count, none
     let all : q ≡ r = f.1 ∙ ap (λ xs. xs ++ drop 1 r) e ∙ take-append-drop 1 r in
     let size : k ≡ length r = count ∙ ap length all in
     let front : take k r ≡ r = take_all k r (omega (arith, size)) in
-    (zero, sym size, omega (arith, size), none, subst (λ xs. IsBroken xs (drop k r) last) (sym front) (broken_open r (drop k r) last (drop_all k r (omega (arith, size))) (subst IsBeginning all o) l))
+    (zero, sym size, omega (arith, size), none, subst (λ xs. IsBroken xs (drop k r) last) (sym front) (subst (λ xs. IsBroken r xs last) (sym (drop_all k r (omega (arith, size)))) (inr (subst IsBeginning all o, l))))
 
 pub stuck_before : (r p q : List ℕ) (last : Bool) (k read : ℕ) → 0 < length r → p ≡ take 1 r → Resumes p (drop 1 r) (Stuck k) read q
     → (k ≤ 3) × (k ≤ length r) × (q ≡ []) × IsBroken (take k r) (drop k r) last
