@@ -9,11 +9,10 @@ use Rattle.std.proofs.lemmas.Bool.{and_parts, eqb-true, leb-true}
 use Rattle.std.proofs.lemmas.Grind.{same_number_lists}
 use Rattle.std.proofs.lemmas.Nat.{and_mask, mod_low, ones_le_self}
 use Rattle.std.proofs.lemmas.List.{length-map, length-append, length-take-le, length-drop, get_or-map, get_or-replicate, take-map, map-append, take-append-drop, take_at, drop_at, drop-drop, drop-append-le}
-use Rattle.std.proofs.lemmas.List.FromFn.{get_or-map-range_with_len, get_or-range_with_len}
 use Rattle.std.proofs.lemmas.Simd.{SwzOk, SwzOk-from_below, swz_l, length-swz_l, get_or-swz_l_below, Each1-from_get_or, Each1-get_or, get_or_wider, get_or_narrower, mask_l-lt, ones-mask_l_cons, put_chunk_is}
 use Rattle.encoding_kernels.specs.declared.compress_units.TheConstants.{COMPRESSED}
 use Rattle.encoding_kernels.specs.Lanes.{HasLanes}
-use Rattle.encoding_kernels.proofs.Lanes.LaneLemmas.{HasLanes-itself, HasLanes-splat, HasLanes-zip2, HasLanes-select, HasLanes-same, compared, top_compared, firsts_are}
+use Rattle.encoding_kernels.proofs.Lanes.LaneLemmas.{HasLanes-itself, HasLanes-numbers, HasLanes-splat, HasLanes-zip2, HasLanes-select, HasLanes-same, compared, top_compared, firsts_are, same_below}
 use Rattle.encoding_kernels.specs.Units.{keep, places_from, compressed_places, bytes_at, byte_places, WritesCompressed}
 
 -- ---- the table
@@ -22,12 +21,12 @@ abbrev pub word_bytes : ℕ → List ℕ
 word_bytes word = digits_l 256 16 (number_l 65536 (zip2 (λ a b. (a + b) % 2 ^ 16) (zip2 (λ a b. a * b % 2 ^ 16) (map (λ x. x) (digits_l 256 8 (number_l (2 ^ 64) (word ∷ [])))) (replicate 8 0x0202)) (replicate 8 0x0100)))
 
 -- all 256 words
-computed : map word_bytes COMPRESSED ≡ map byte_places (range_with_len 0 256)
+computed : map (λ k. word_bytes (get_or COMPRESSED k 0)) (range_with_len 0 256) ≡ map byte_places (range_with_len 0 256)
 unfolding byte_places bytes_at compressed_places places_from
 computed = refl
 
 pub word_bytes_is : (m : ℕ) → m < 256 → word_bytes (get_or COMPRESSED m 0) ≡ byte_places m
-word_bytes_is m l = sym (get_or-map word_bytes COMPRESSED m 0 [] l) ∙ ap (λ xs. get_or xs m []) computed ∙ get_or-map-range_with_len byte_places 0 256 m m [] l (omega arith)
+word_bytes_is = same_below (λ k. word_bytes (get_or COMPRESSED k 0)) byte_places [] 256 computed
 
 abbrev up_to : ℕ → List ℕ → Bool
 up_to n [] = true
@@ -40,12 +39,9 @@ up_to_each n (k ∷ ks) e = let p = and_parts (leb k n) (up_to n ks) e in (omega
 abbrev has_shape : ℕ → Bool
 has_shape m = (eqb (length (compressed_places m)) 8 && up_to 7 (compressed_places m)) && (eqb (length (byte_places m)) 16 && up_to 15 (byte_places m))
 
-all_have_shape : map has_shape (range_with_len 0 256) ≡ replicate 256 true
-unfolding byte_places bytes_at compressed_places places_from
-all_have_shape = refl
-
 shape : (m : ℕ) → m < 256 → has_shape m ≡ true
-shape m l = sym (get_or-map-range_with_len has_shape 0 256 m m false l (omega arith)) ∙ ap (λ xs. get_or xs m false) all_have_shape ∙ get_or-replicate 256 m true false l
+unfolding byte_places bytes_at compressed_places places_from
+shape = same_below has_shape (λ _. true) true 256 refl
 
 module _ (m : ℕ) (l : m < 256) where
   places_long : length (compressed_places m) ≡ 8
@@ -375,8 +371,7 @@ module _ (ms : List Bool) (us old low_us high_us first second : List ℕ) (kept 
 
   alone_is : alone ≡ high_kept ++ drop more behind
   alone_is =
-      let places : HasLanes 8 (range_with_len 0 8) (λ k. k) = HasLanes-same (HasLanes-itself 8 (range_with_len 0 8) refl) (λ k l. let e : 0 + k ≡ k = omega arith in get_or-range_with_len 0 8 k 0 l ∙ e) in
-      let tests = HasLanes-zip2 (compared w16 ltb) places (HasLanes-splat 8 more) in
+      let tests = HasLanes-zip2 (compared w16 ltb) (HasLanes-numbers 8) (HasLanes-splat 8 more) in
       let chosen = HasLanes-same (HasLanes-select 15 tests (HasLanes-itself 8 second second_long) (HasLanes-itself 8 behind behind_long))
       (λ k l. ap (λ b. cond b (get_or second k 0) (get_or behind k 0)) (top_compared w16 (ltb k more))) in
       (λ i. sel_l (map (top 15) (zip2 (compared w16 ltb) (range_with_len 0 8) (replicate 8 (high_count i)))) second (take 8 (drop (low_count i) old)))

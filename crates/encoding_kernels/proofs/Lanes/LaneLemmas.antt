@@ -6,7 +6,8 @@ use Rattle.std.proofs.lemmas.List.{length-map, get_or-map, drop-append-le, get_o
 use Rattle.std.proofs.lemmas.List.Sums.{prefix_len-le-length, prefix_len_passes, prefix_len_stops}
 use Rattle.std.proofs.lemmas.Simd.{chunk-drop, length-chunk, get_or-chunk, length-replicate, get_or-replicate, length-zip2, get_or-zip2, length-sel_l, get_or-sel_l, swz_l, SwzOk, length-swz_l, get_or-swz_l_below, SwzOk-from_below, Each1-from_get_or, mask_l-mod, leading_from_mask_l}
 use Rattle.std.specs.Simd.Lanes.{zip2, chunk, put_chunk, mask_l, top, sel_l}
-use Rattle.std.specs.List.{prefix_len}
+use Rattle.std.specs.List.{prefix_len, range_with_len}
+use Rattle.std.proofs.lemmas.List.FromFn.{get_or-map-range_with_len, get_or-range_with_len, length-range_with_len}
 use mir.Syntax.{Width, w8, w16, w32, w64, w128}
 use mir.Val.{bits, hbits}
 use Rattle.encoding_kernels.specs.Lanes.{HasLanes}
@@ -32,6 +33,14 @@ HasLanes-cast {n} {a} {f} p = subst (λ xs. HasLanes n xs f) (sym (map-id a)) p
 
 pub HasLanes-itself : (n : ℕ) (a : List ℕ) → length a ≡ n → HasLanes n a (λ k. get_or a k 0)
 HasLanes-itself n a long = record { long = long; each = λ k l. refl }
+
+-- the number of each lane
+pub HasLanes-numbers : (n : ℕ) → HasLanes n (range_with_len 0 n) (λ k. k)
+HasLanes-numbers n = record { long = length-range_with_len 0 n; each = λ k l. let e : 0 + k ≡ k = omega arith in get_or-range_with_len 0 n k 0 l ∙ e }
+
+-- what two functions give below a bound, where all of it computes to the same
+pub same_below : {X : Type 0} (f g : ℕ → X) (d : X) (n : ℕ) → map f (range_with_len 0 n) ≡ map g (range_with_len 0 n) → (k : ℕ) → k < n → f k ≡ g k
+same_below f g d n e k l = sym (get_or-map-range_with_len f 0 n k k d l (omega arith)) ∙ ap (λ xs. get_or xs k d) e ∙ get_or-map-range_with_len g 0 n k k d l (omega arith)
 
 -- a stride read whole
 pub HasLanes-whole : (n : ℕ) (xs : List ℕ) → length xs ≡ n → HasLanes n (chunk 0 n xs) (λ k. get_or xs k 0)

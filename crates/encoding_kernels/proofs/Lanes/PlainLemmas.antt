@@ -10,12 +10,13 @@ use Rattle.std.proofs.lemmas.Simd.{ones-mask_l_cons, get_or_narrower, get_or-rep
 use Rattle.std.proofs.lemmas.Str.{encode_ascii, encodes-append, encodes-IsAscii}
 use Rattle.std.proofs.str.Laws.{two, three}
 use Rattle.std.specs.Int.RustNames.{count_ones}
+use Rattle.std.specs.List.{range_with_len}
 use lib.Count.{count_trailing_zeros}
 use Rattle.std.specs.Simd.Lanes.{mask_l, number_l, digits_l, pick_l, zip2, sel_l, top, Each1}
 use Rattle.encoding_kernels.specs.Lanes.{HasLanes}
 use Rattle.encoding_kernels.specs.EncodeLanes.{last_places, classes, EncodesLast}
 use Rattle.encoding_kernels.proofs.Lanes.CompressLemmas.{mask_append}
-use Rattle.encoding_kernels.proofs.Lanes.LaneLemmas.{HasLanes-itself, HasLanes-same, HasLanes-splat, HasLanes-zip2, IsFirstSet, compared, firsts_are, mask_of}
+use Rattle.encoding_kernels.proofs.Lanes.LaneLemmas.{HasLanes-itself, HasLanes-numbers, HasLanes-same, HasLanes-splat, HasLanes-zip2, IsFirstSet, compared, firsts_are, mask_of, same_below}
 use Rattle.encoding_kernels.proofs.Lanes.TestLemmas.{HasTests, tests_of, chosen, chosen_by, none_passes, none_is_first, lowest_is_first}
 use Rattle.encoding_kernels.proofs.Lanes.EncodeLanesLemmas.{looked_up, mask_from, pick}
 use Rattle.encoding_kernels.proofs.Lanes.UnitLanesLemmas.{picked_lanes}
@@ -52,24 +53,10 @@ module _ (us : List ℕ) (long : length us ≡ 8) (fit : Each1 (Fits w16) us) wh
 abbrev pub first_lanes : ℕ → List ℕ → List ℕ
 first_lanes n us = sel_l (map (top 15) (zip2 (compared w16 ltb) (0 ∷ 1 ∷ 2 ∷ 3 ∷ 4 ∷ 5 ∷ 6 ∷ 7 ∷ []) (replicate 8 n))) us (replicate 8 0)
 
-eight_places : HasLanes 8 (0 ∷ 1 ∷ 2 ∷ 3 ∷ 4 ∷ 5 ∷ 6 ∷ 7 ∷ []) (λ k. k)
-eight_places = HasLanes-same (HasLanes-itself 8 (0 ∷ 1 ∷ 2 ∷ 3 ∷ 4 ∷ 5 ∷ 6 ∷ 7 ∷ []) refl) below
-  where
-    below : (k : ℕ) → k < 8 → get_or (0 ∷ 1 ∷ 2 ∷ 3 ∷ 4 ∷ 5 ∷ 6 ∷ 7 ∷ []) k 0 ≡ k
-    below zero l = refl
-    below (suc zero) l = refl
-    below (suc (suc zero)) l = refl
-    below (suc (suc (suc zero))) l = refl
-    below (suc (suc (suc (suc zero)))) l = refl
-    below (suc (suc (suc (suc (suc zero))))) l = refl
-    below (suc (suc (suc (suc (suc (suc zero)))))) l = refl
-    below (suc (suc (suc (suc (suc (suc (suc zero))))))) l = refl
-    below (suc (suc (suc (suc (suc (suc (suc (suc k)))))))) l = absurd (omega arith)
-
 pub first_lanes_are : (n : ℕ) (us : List ℕ) → n ≤ 8 → length us ≡ 8 → first_lanes n us ≡ take n us ++ drop n (replicate 8 0)
 first_lanes_are n us few long =
     firsts_are 8 n us (replicate 8 0) (first_lanes n us) long refl few
-    (HasLanes-same (chosen_by (tests_of w16 ltb eight_places (HasLanes-splat 8 n)) (HasLanes-itself 8 us long) (HasLanes-splat 8 0))
+    (HasLanes-same (chosen_by (tests_of w16 ltb (HasLanes-numbers 8) (HasLanes-splat 8 n)) (HasLanes-itself 8 us long) (HasLanes-splat 8 0))
     (λ k l. ap (λ x. cond (ltb k n) (get_or us k 0) x) (sym (get_or-replicate 8 k 0 0 l))))
 
 pub zeros_spelled : (n : ℕ) (us : List ℕ) → encode_utf8_all (take n us ++ drop n (replicate 8 0)) ≡ encode_utf8_all (take n us) ++ drop n (replicate 8 0)
@@ -289,17 +276,17 @@ words_small us long k l =
 
 -- both words of four code units, side by side
 module _ (us lead rest ks : List ℕ) (f : ℕ → ℕ) (half : (k : ℕ) → k < 4 → f k < 8) (leads : length lead ≡ 8) (rests : length rest ≡ 8) (small : (k : ℕ) → k < 8 → (get_or lead k 0 < 0x10000) × (get_or rest k 0 < 0x10000))
-    (long : length ks ≡ 8) (evens : (k : ℕ) → k < 4 → get_or ks (2 * k) 0 ≡ f k) (odds : (k : ℕ) → k < 4 → get_or ks (2 * k + 1) 0 ≡ 8 + (f k)) where
+    (long : length ks ≡ 8) (evens : map (λ k. get_or ks (2 * k) 0) (range_with_len 0 4) ≡ map f (range_with_len 0 4)) (odds : map (λ k. get_or ks (2 * k + 1) 0) (range_with_len 0 4) ≡ map (λ k. 8 + f k) (range_with_len 0 4)) where
   abbrev words : List ℕ
   words = pick_l 0 (lead ++ rest) ks
 
   even_word : (k : ℕ) → k < 4 → get_or words (2 * k) 0 ≡ get_or lead (f k) 0
-  even_word k l = (picked_lanes (lead ++ rest) ks long).each (2 * k) (omega arith) ∙ ap (λ j. get_or (lead ++ rest) j 0) (evens k l) ∙ get_or_append_left lead rest 0 (f k) (omega (arith, leads, half k l))
+  even_word k l = (picked_lanes (lead ++ rest) ks long).each (2 * k) (omega arith) ∙ ap (λ j. get_or (lead ++ rest) j 0) (same_below (λ i. get_or ks (2 * i) 0) f 0 4 evens k l) ∙ get_or_append_left lead rest 0 (f k) (omega (arith, leads, half k l))
 
   odd_word : (k : ℕ) → k < 4 → get_or words (2 * k + 1) 0 ≡ get_or rest (f k) 0
   odd_word k l =
       let back : 8 + (f k) - 8 ≡ f k = omega arith in
-      (picked_lanes (lead ++ rest) ks long).each (2 * k + 1) (omega arith) ∙ ap (λ j. get_or (lead ++ rest) j 0) (odds k l)
+      (picked_lanes (lead ++ rest) ks long).each (2 * k + 1) (omega arith) ∙ ap (λ j. get_or (lead ++ rest) j 0) (same_below (λ i. get_or ks (2 * i + 1) 0) (λ i. 8 + f i) 0 4 odds k l)
       ∙ get_or-append_right lead rest 8 (8 + (f k)) 0 leads (omega arith) ∙ ap (λ j. get_or rest j 0) back
 
   word_small : (i : ℕ) → i < 8 → get_or words i 0 < 65536

@@ -42,10 +42,6 @@ pub spills_mended : (old new : List ℕ) (at n : ℕ) (out : List ℕ) → Spill
 spills_mended old new at n out p =
     (λ i. p.front i ++ (chunk (at + n) 16 old ++ p.behind i)) ∙ ap (λ zs. (take at old ++ out) ++ zs) (sym (chunk-drop (at + n) 16 old)) ∙ append_assoc (take at old) out (drop (at + n) old)
 
--- nothing written
-pub mended_first : (xs : List ℕ) → WritesFront xs (mended xs 0 (chunk 0 16 xs)) 0 []
-mended_first xs = subst (λ ys. WritesFront xs ys 0 []) (sym (take-append-drop 16 xs)) (WritesFront-nil xs)
-
 -- one block more, of sixteen bytes at least
 pub mended_put : (old d e s t out more : List ℕ) (w c : ℕ) → WritesFront old (mended d w s) w out → length s ≡ 16 → w + 16 ≤ length d → c ≡ length more → 16 ≤ c → w + c ≤ length d
     → mended e (w + c) t ≡ take w d ++ (more ++ drop (w + c) d) → WritesFront old (mended e (w + c) t) (w + c) (out ++ more)

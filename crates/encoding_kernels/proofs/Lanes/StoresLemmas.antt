@@ -1,7 +1,6 @@
 -- Two stores of which only the first bytes count: the second covers what the first writes too much.
-use Rattle.std.proofs.Common.{◌≡◌, ℕ, ◌+◌, ◌≤◌, List, ◌++◌, length, take, drop, take-add, length-take-le, length-append, length-drop, get_or, cond, ltb, sym, ap, ◌∙◌, arith, append_assoc, refl}
+use Rattle.std.proofs.Common.{◌≡◌, ℕ, ◌+◌, ◌≤◌, List, ◌++◌, length, take, drop, take-add, length-take-le, length-append, length-drop, get_or, cond, ltb, sym, ap, ◌∙◌, arith, append_assoc}
 use Rattle.std.proofs.lemmas.List.{take_at, drop_at, drop-drop, take-append-le}
-use Rattle.std.proofs.lemmas.List.FromFn.{get_or-range_with_len}
 use Rattle.std.proofs.lemmas.Simd.{length-put_chunk, length-chunk, chunk-drop}
 use Rattle.std.proofs.lemmas.Slice.{drop-append-drop}
 use Rattle.std.specs.List.{range_with_len}
@@ -11,14 +10,13 @@ use mir.Syntax.{Width}
 use mir.Val.{hbits}
 use Rattle.encoding_kernels.specs.Lanes.{HasLanes}
 use Rattle.encoding_kernels.proofs.Lanes.PutLemmas.{put_is}
-use Rattle.encoding_kernels.proofs.Lanes.LaneLemmas.{HasLanes-itself, HasLanes-splat, HasLanes-zip2, HasLanes-select, HasLanes-same, compared, top_compared, put_firsts}
+use Rattle.encoding_kernels.proofs.Lanes.LaneLemmas.{HasLanes-itself, HasLanes-numbers, HasLanes-splat, HasLanes-zip2, HasLanes-select, HasLanes-same, compared, top_compared, put_firsts}
 
 -- the first so many lanes of one vector, and behind them what stands at a place
 pub firsts_over : (w : Width) (at count : ℕ) (xs lanes : List ℕ) → at + 16 ≤ length xs → length lanes ≡ 16
     → HasLanes 16 (sel_l (map (top (hbits w)) (zip2 (compared w ltb) (range_with_len 0 16) (replicate 16 count))) lanes (chunk at 16 xs)) (λ k. cond (ltb k count) (get_or lanes k 0) (get_or (chunk at 16 xs) k 0))
 firsts_over w at count xs lanes room long =
-    let places : HasLanes 16 (range_with_len 0 16) (λ k. k) = HasLanes-same (HasLanes-itself 16 (range_with_len 0 16) refl) (λ k l. let e : 0 + k ≡ k = omega arith in get_or-range_with_len 0 16 k 0 l ∙ e) in
-    let first = HasLanes-zip2 (compared w ltb) places (HasLanes-splat 16 count) in
+    let first = HasLanes-zip2 (compared w ltb) (HasLanes-numbers 16) (HasLanes-splat 16 count) in
     let chosen = HasLanes-select (hbits w) first (HasLanes-itself 16 lanes long) (HasLanes-itself 16 (chunk at 16 xs) (length-chunk at 16 xs room)) in
     HasLanes-same chosen (λ k l. ap (λ b. cond b (get_or lanes k 0) (get_or (chunk at 16 xs) k 0)) (top_compared w (ltb k count)))
 

@@ -1,6 +1,7 @@
 -- The lower and the upper byte of the code unit that ends with each byte, and the vectors that both are joined to.
-use Rattle.std.proofs.Common.{◌≡◌, ℕ, zero, suc, ◌+◌, ◌-◌, ◌*◌, ◌/◌, ◌%◌, ◌^◌, ◌<◌, inl, inr, Bool, true, false, cond, leb, ltb, List, [], ◌∷◌, ◌++◌, length, take, drop, get_or, bit_and, bit_or, refl, sym, ap, ◌∙◌, arith, w8, Fits, length-take-le, length-drop, get_or-take, get_or-drop}
+use Rattle.std.proofs.Common.{◌≡◌, ℕ, zero, suc, ◌+◌, ◌-◌, ◌*◌, ◌/◌, ◌%◌, ◌^◌, ◌<◌, inl, inr, Bool, true, false, cond, leb, ltb, List, [], ◌∷◌, ◌++◌, map, length, take, drop, get_or, bit_and, bit_or, refl, sym, ap, ◌∙◌, arith, w8, Fits, length-take-le, length-drop, get_or-take, get_or-drop}
 use Rattle.std.specs.Int.Bits.{or_zero_r}
+use Rattle.std.specs.List.{range_with_len}
 use Rattle.std.specs.Simd.Lanes.{pick_l, top, Each1}
 use Rattle.std.proofs.lemmas.Bool.{cond-true, cond-false, cases_lt, lt-leb, le-leb}
 use Rattle.std.proofs.lemmas.Grind.{same_number_lists}
@@ -8,7 +9,7 @@ use Rattle.std.proofs.lemmas.Nat.{and_mask}
 use Rattle.std.proofs.lemmas.List.{length-map, get_or-map, get_or_append_left, get_or-append_right}
 use Rattle.encoding_kernels.specs.Lanes.{HasLanes}
 use Rattle.encoding_kernels.specs.Units.{low_bits, unit_at, unit_lane, units_behind, upper_of}
-use Rattle.encoding_kernels.proofs.Lanes.LaneLemmas.{compared, top_compared}
+use Rattle.encoding_kernels.proofs.Lanes.LaneLemmas.{compared, same_below, top_compared}
 use Rattle.encoding_kernels.proofs.Lanes.EndsLemmas.{wide, wide_l}
 use Rattle.encoding_kernels.proofs.Lanes.UnitLanesLemmas.{length-units, units_at}
 
@@ -111,7 +112,8 @@ module _ (lower upper : List ℕ) (p : length lower ≡ 16) (e : Each1 (Fits w8)
   picked_small [] = tt
   picked_small (k ∷ ks) = (both_small lower upper k e f, picked_small ks)
 
-  pub joined_lanes : (places : List ℕ) (at : ℕ → ℕ) → length places ≡ 16 → ((j : ℕ) → j < 8 → at j < 16) → ((j : ℕ) → j < 8 → get_or places (2 * j) 0 ≡ at j) → ((j : ℕ) → j < 8 → get_or places (2 * j + 1) 0 ≡ 16 + at j)
+  pub joined_lanes : (places : List ℕ) (at : ℕ → ℕ) → length places ≡ 16 → ((j : ℕ) → j < 8 → at j < 16)
+      → map (λ j. get_or places (2 * j) 0) (range_with_len 0 8) ≡ map at (range_with_len 0 8) → map (λ j. get_or places (2 * j + 1) 0) (range_with_len 0 8) ≡ map (λ j. 16 + at j) (range_with_len 0 8)
       → HasLanes 8 (wide_l (pick_l 0 (lower ++ upper) places)) (λ j. get_or lower (at j) 0 + 0x100 * get_or upper (at j) 0)
   joined_lanes places at long inside evens odds =
       let picked = λ (k : ℕ). get_or (lower ++ upper) k 0 in
@@ -121,9 +123,9 @@ module _ (lower upper : List ℕ) (p : length lower ≡ 16) (e : Each1 (Fits w8)
         each = λ j l.
             let back : 16 + at j - 16 ≡ at j = omega arith in
             let even : get_or (pick_l 0 (lower ++ upper) places) (2 * j) 0 ≡ get_or lower (at j) 0 =
-            get_or-map picked places (2 * j) 0 0 (omega (arith, long)) ∙ ap picked (evens j l) ∙ get_or_append_left lower upper 0 (at j) (omega (arith, inside j l, p)) in
+            get_or-map picked places (2 * j) 0 0 (omega (arith, long)) ∙ ap picked (same_below (λ i. get_or places (2 * i) 0) at 0 8 evens j l) ∙ get_or_append_left lower upper 0 (at j) (omega (arith, inside j l, p)) in
             let odd : get_or (pick_l 0 (lower ++ upper) places) (2 * j + 1) 0 ≡ get_or upper (at j) 0 =
-            get_or-map picked places (2 * j + 1) 0 0 (omega (arith, long)) ∙ ap picked (odds j l) ∙ get_or-append_right lower upper 16 (16 + at j) 0 p (omega arith) ∙ ap (λ k. get_or upper k 0) back in
+            get_or-map picked places (2 * j + 1) 0 0 (omega (arith, long)) ∙ ap picked (same_below (λ i. get_or places (2 * i + 1) 0) (λ i. 16 + at i) 0 8 odds j l) ∙ get_or-append_right lower upper 16 (16 + at j) 0 p (omega arith) ∙ ap (λ k. get_or upper k 0) back in
             lanes.each j l ∙ (λ i. even i + 0x100 * odd i);
       }
 

@@ -15,32 +15,11 @@ use Rattle.encoding_kernels.proofs.Lanes.CompressLemmas.{mask_front}
 abbrev lanes_from : List ℕ → ℕ → List ℕ
 lanes_from v n = pick_l 0 v (range_with_len 0 n)
 
-from_at : (v : List ℕ) (n k : ℕ) → k < n → get_or (lanes_from v n) k 0 ≡ get_or v k 0
-from_at v n k l = get_or-map-range_with_len (λ j. get_or v j 0) 0 n k k 0 l (omega arith)
-
-pub one_lanes : (v : List ℕ) → HasLanes 16 (0 ∷ lanes_from v 15) (λ k. get_or (0 ∷ v) k 0)
-one_lanes v = record { long = refl; each = each }
-  where
-    each : (k : ℕ) → k < 16 → get_or (0 ∷ lanes_from v 15) k 0 ≡ get_or (0 ∷ v) k 0
-    each zero l = refl
-    each (suc k) l = from_at v 15 k (omega arith)
-
-pub two_lanes : (v : List ℕ) → HasLanes 16 (0 ∷ 0 ∷ lanes_from v 14) (λ k. get_or (0 ∷ 0 ∷ v) k 0)
-two_lanes v = record { long = refl; each = each }
-  where
-    each : (k : ℕ) → k < 16 → get_or (0 ∷ 0 ∷ lanes_from v 14) k 0 ≡ get_or (0 ∷ 0 ∷ v) k 0
-    each zero l = refl
-    each (suc zero) l = refl
-    each (suc (suc k)) l = from_at v 14 k (omega arith)
-
-pub three_lanes : (v : List ℕ) → HasLanes 16 (0 ∷ 0 ∷ 0 ∷ lanes_from v 13) (λ k. get_or (0 ∷ 0 ∷ 0 ∷ v) k 0)
-three_lanes v = record { long = refl; each = each }
-  where
-    each : (k : ℕ) → k < 16 → get_or (0 ∷ 0 ∷ 0 ∷ lanes_from v 13) k 0 ≡ get_or (0 ∷ 0 ∷ 0 ∷ v) k 0
-    each zero l = refl
-    each (suc zero) l = refl
-    each (suc (suc zero)) l = refl
-    each (suc (suc (suc k))) l = from_at v 13 k (omega arith)
+-- behind zeros, as a shuffle gives them
+pub behind_lanes : (zs v : List ℕ) (n k : ℕ) → k < length zs + n → get_or (zs ++ lanes_from v n) k 0 ≡ get_or (zs ++ v) k 0
+behind_lanes [] v n k l = get_or-map-range_with_len (λ j. get_or v j 0) 0 n k k 0 (omega arith) (omega arith)
+behind_lanes (z ∷ zs) v n zero l = refl
+behind_lanes (z ∷ zs) v n (suc k) l = behind_lanes zs v n k (omega arith)
 
 -- bytes below a bound, and zeros before them
 pub behind_below : (n : ℕ) (v : List ℕ) → 0 < n → ((k : ℕ) → k < 16 → get_or v k 0 < n) → (k : ℕ) → k < 16 → get_or (0 ∷ v) k 0 < n

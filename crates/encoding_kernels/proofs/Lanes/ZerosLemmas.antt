@@ -3,20 +3,16 @@ use Rattle.std.proofs.Common.{◌≡◌, ℕ, ◌+◌, ◌-◌, ◌^◌, ◌%◌
 use Rattle.std.proofs.lemmas.Bool.{cases_lt, cond-true, cond-false, lt-ltb, le-ltb}
 use Rattle.std.proofs.lemmas.Grind.{same_number_lists}
 use Rattle.std.proofs.lemmas.List.{get_or-map, get_or_append_left, get_or-append_right, length-take-le}
-use Rattle.std.proofs.lemmas.List.FromFn.{get_or-range_with_len}
 use Rattle.std.proofs.lemmas.Nat.{and_le_r, and_mask}
 use Rattle.std.proofs.lemmas.Simd.{get_or-chunk, length-replicate, get_or-replicate, swz_l, SwzOk}
 use Rattle.std.specs.List.{range_with_len}
 use Rattle.std.specs.Simd.Lanes.{chunk, pick_l, sel_l, top, zip2}
 use Rattle.encoding_kernels.specs.Lanes.{HasLanes}
-use Rattle.encoding_kernels.proofs.Lanes.LaneLemmas.{HasLanes-itself, HasLanes-same, HasLanes-splat, HasLanes-swizzle, HasLanes-zip2, compared, swizzle_ok}
+use Rattle.encoding_kernels.proofs.Lanes.LaneLemmas.{HasLanes-numbers, HasLanes-splat, HasLanes-swizzle, HasLanes-zip2, compared, swizzle_ok}
 use Rattle.encoding_kernels.proofs.Lanes.TestLemmas.{chosen_by, tests_of}
 
 abbrev numbers : List ℕ
 numbers = range_with_len 0 16
-
-numbered : HasLanes 16 numbers (λ k. k)
-numbered = HasLanes-same (HasLanes-itself 16 numbers refl) (λ k l. let e : 0 + k ≡ k = omega arith in get_or-range_with_len 0 16 k 0 l ∙ e)
 
 -- where the byte k stands among the first eight and the last eight of n
 abbrev later : ℕ → ℕ → ℕ
@@ -31,8 +27,8 @@ places n = sel_l (map (top 7) (zip2 (compared w8 ltb) numbers (replicate 16 8)))
 
 placed : (n : ℕ) → HasLanes 16 (places n) (place n)
 placed n =
-    let moved = HasLanes-zip2 (λ a b. (a + b) % 2 ^ 8) numbered (HasLanes-zip2 (λ a b. (a + (2 ^ 8 - b)) % 2 ^ 8) (HasLanes-splat 16 16) (HasLanes-splat 16 n)) in
-    chosen_by (tests_of w8 ltb numbered (HasLanes-splat 16 8)) numbered (HasLanes-zip2 bit_and moved (HasLanes-splat 16 15))
+    let moved = HasLanes-zip2 (λ a b. (a + b) % 2 ^ 8) (HasLanes-numbers 16) (HasLanes-zip2 (λ a b. (a + (2 ^ 8 - b)) % 2 ^ 8) (HasLanes-splat 16 16) (HasLanes-splat 16 n)) in
+    chosen_by (tests_of w8 ltb (HasLanes-numbers 16) (HasLanes-splat 16 8)) (HasLanes-numbers 16) (HasLanes-zip2 bit_and moved (HasLanes-splat 16 15))
 
 place_small : (n k : ℕ) → k < 16 → place n k < 16
 place_small n k l = elim (cases_lt k 8) [
@@ -54,7 +50,7 @@ module _ (xs : List ℕ) (least : 8 ≤ length xs) (most : length xs ≤ 16) whe
   both = pick_l 0 ends numbers
 
   picked : (j : ℕ) → j < 16 → get_or both j 0 ≡ get_or ends j 0
-  picked j l = get_or-map (λ k. get_or ends k 0) numbers j 0 0 (omega arith) ∙ ap (λ k. get_or ends k 0) (numbered.each j l)
+  picked j l = get_or-map (λ k. get_or ends k 0) numbers j 0 0 (omega arith) ∙ ap (λ k. get_or ends k 0) ((HasLanes-numbers 16).each j l)
 
   first_long : length (take 8 xs) ≡ 8
   first_long = length-take-le 8 xs least
@@ -80,7 +76,7 @@ module _ (xs : List ℕ) (least : 8 ≤ length xs) (most : length xs ≤ 16) whe
   z = sel_l (map (top 7) (zip2 (compared w8 ltb) numbers (replicate 16 n))) (swz_l w8 16 both 0 (places n)) (replicate 16 0)
 
   lanes : HasLanes 16 z (λ k. cond (ltb k n) (get_or both (place n k) 0) 0)
-  lanes = chosen_by (tests_of w8 ltb numbered (HasLanes-splat 16 n)) (HasLanes-swizzle both (placed n) (place_small n)) (HasLanes-splat 16 0)
+  lanes = chosen_by (tests_of w8 ltb (HasLanes-numbers 16) (HasLanes-splat 16 n)) (HasLanes-swizzle both (placed n) (place_small n)) (HasLanes-splat 16 0)
 
   pub with_zeros_is : z ≡ xs ++ drop n (replicate 16 0)
   with_zeros_is = same_number_lists z (xs ++ drop n (replicate 16 0)) (omega (arith, lanes.long, length-append {A = ℕ} xs (drop n (replicate 16 0)), length-drop {A = ℕ} n (replicate 16 0), length-replicate {A = ℕ} 16 0, most)) (λ k l.

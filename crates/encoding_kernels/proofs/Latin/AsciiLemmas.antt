@@ -44,12 +44,9 @@ module _ (P : ℕ → Type 0) (at_zero : P 0) where
 pub ascii_front_at : (xs : List ℕ) (n : ℕ) → n < length xs → ((k : ℕ) → k < n → slice_index xs k < 0x80) → 0x80 ≤ slice_index xs n → IsLongestFront IsAscii xs n
 ascii_front_at xs n l h s = front_before (λ b. b < 0x80) (omega arith) xs n (omega arith) h (λ _ low. omega arith)
 
--- what the longest ASCII front says of its units, and of the one behind it
+-- what the longest ASCII front says of its units
 pub below_front : (xs : List ℕ) (n : ℕ) → IsLongestFront IsAscii xs n → BelowUpTo 0x80 xs n
 below_front xs n f k l = Each-at (λ b. b < 0x80) (omega arith) xs n k l f.kind
-
-pub not_ascii_behind : (xs : List ℕ) (n : ℕ) → IsLongestFront IsAscii xs n → n < length xs → 0x80 ≤ slice_index xs n
-not_ascii_behind xs n f l = elim (cases_lt (slice_index xs n) 0x80) [ inl p ↦ absurd (behind_front (λ b. b < 0x80) (omega arith) xs n f l p) | inr p ↦ p ]
 
 -- the first other unit, over so many places
 pub IsFirstOther-at : (xs : List ℕ) (room n : ℕ) → n < length xs → n < room → ((k : ℕ) → k < n → slice_index xs k < 0x80) → 0x80 ≤ slice_index xs n

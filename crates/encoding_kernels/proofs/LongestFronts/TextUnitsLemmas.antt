@@ -4,20 +4,20 @@ use lib.Utf8.{scalar, scalar_cases}
 use Rattle.std.specs.Char.{IsScalar}
 use Rattle.std.specs.Char.Escape.{encode_utf16}
 use Rattle.std.specs.Str.{all_scalars, chars, IsUtf8, IsCharBoundary, IsAscii}
-use Rattle.std.specs.List.{flat_map, range_with_len}
+use Rattle.std.specs.List.{flat_map}
 use Rattle.std.specs.Simd.Lanes.{put_chunk}
 use Rattle.std.proofs.str.Laws.{one, two, three, four}
 use Rattle.std.proofs.lemmas.Bool.{cond-true, cond-false, cases_lt, lt-leb, le-leb, lt-ltb, le-ltb, and_parts, and_from}
 use Rattle.std.proofs.lemmas.Grind.{same_number_lists}
 use Rattle.std.proofs.lemmas.Simd.{put_chunk_is}
 use Rattle.std.proofs.lemmas.List.{length-append, length-drop, length-take, take_at, take-take, drop_at, drop-drop, get_or-drop, get_or-take, take-append-le}
-use Rattle.std.proofs.lemmas.List.FromFn.{get_or-map-range_with_len}
 use Rattle.std.proofs.lemmas.Str.{IsUtf8-take, IsUtf8-drop, IsUtf8-from_ascii, IsCharBoundary-after_ascii, encodes-IsAscii, encodes_same, chars-IsAscii}
 use Rattle.encoding_definitions.specs.Fronts.{WritesFront}
 use Rattle.encoding_kernels.specs.Strides.{BelowUpTo}
 use Rattle.encoding_kernels.specs.Lanes.{HasLanes}
 use Rattle.encoding_kernels.specs.Units.{BeginsThree, keep, ends_unit, low_bits, triple_unit, unit_at, units_behind, upper_of, ends_behind, WritesCompressed, WritesUtf16}
 use Rattle.encoding_kernels.proofs.Lanes.CompressLemmas.{keep_pad}
+use Rattle.encoding_kernels.proofs.Lanes.LaneLemmas.{same_below}
 use Rattle.encoding_definitions.proofs.LongestFronts.FittingLemmas.{written_is}
 use Rattle.encoding_kernels.proofs.Latin.AsciiLemmas.{Each-take}
 
@@ -32,13 +32,8 @@ mark_on : (a b : ℕ) → b < 0xC0 → a < 0xE0 → ends_unit a b ≡ true
 mark_on a b l h = λ i. lt-ltb b 0xC0 l i && lt-ltb a 0xE0 h i
 
 -- the upper byte of a low surrogate
-marked : map (λ n. bit_or n 0xDC) (range_with_len 0 16) ≡ map (λ n. 0xDC + n % 4) (range_with_len 0 16)
-marked = refl
-
 low_mark : (n : ℕ) → n < 16 → bit_or n 0xDC ≡ 0xDC + n % 4
-low_mark n l =
-    sym (get_or-map-range_with_len (λ k. bit_or k 0xDC) 0 16 n n 0 l (omega arith)) ∙ ap (λ xs. get_or xs n 0) marked
-    ∙ get_or-map-range_with_len (λ k. 0xDC + k % 4) 0 16 n n 0 l (omega arith)
+low_mark = same_below (λ n. bit_or n 0xDC) (λ n. 0xDC + n % 4) 0 16 refl
 
 module _ (x y a b : ℕ) where
   unit_one : b < 0x80 → unit_at x y a b ≡ b
@@ -295,12 +290,7 @@ triple_lanes v k = triple_unit (get_or v (get_or (0 ∷ 3 ∷ 6 ∷ 9 ∷ 12 ∷
 
 -- of five in a block
 lanes_in : (v : List ℕ) (k : ℕ) → k < 5 → triple_lanes v k ≡ triple_unit (get_or v (3 * k) 0) (get_or v (3 * k + 1) 0) (get_or v (3 * k + 2) 0)
-lanes_in v zero l = refl
-lanes_in v (suc zero) l = refl
-lanes_in v (suc (suc zero)) l = refl
-lanes_in v (suc (suc (suc zero))) l = refl
-lanes_in v (suc (suc (suc (suc zero)))) l = refl
-lanes_in v (suc (suc (suc (suc (suc k))))) l = absurd (omega arith)
+lanes_in v = same_below (triple_lanes v) (λ k. triple_unit (get_or v (3 * k) 0) (get_or v (3 * k + 1) 0) (get_or v (3 * k + 2) 0)) 0 5 refl
 
 pub puts_triples : (src old r : List ℕ) → IsUtf8 src → 16 ≤ length src → 8 ≤ length old → ((k : ℕ) → k < 5 → BeginsThree (get_or src (3 * k) 0)) → HasLanes 8 r (triple_lanes (take 16 src))
     → WritesUtf16 src old (put_chunk 0 old r) 15 5 8
