@@ -19,6 +19,7 @@ const SHORT_PIECE: usize = 16;
 const LEADS: u8 = 0xC0;
 
 /// How many of the N bytes from a place on are no less than this.
+#[tactic(auto, using(crate::proofs::Sums::TotalLemmas::from_next, crate::proofs::Sums::TotalLemmas::bool_byte_most))]
 #[inline(always)]
 fn piece_from<const N: usize>(bytes: &[u8], at: usize, least: u8) -> usize
     requires { (at + N ≤ length bytes.now) × (N ≤ 64) }
@@ -33,6 +34,7 @@ fn piece_from<const N: usize>(bytes: &[u8], at: usize, least: u8) -> usize
 }
 
 /// How many bytes are no less than this.
+#[tactic(auto, using(crate::proofs::Sums::TotalLemmas::from_next, crate::proofs::Sums::TotalLemmas::bool_byte_most, crate::proofs::Sums::TotalLemmas::total_end))]
 #[inline(always)]
 fn count_from(bytes: &[u8], least: u8) -> usize
     ensures counted { result ≡ total (one_from least) bytes.now }
@@ -85,7 +87,8 @@ fn joins(lead: u8, second: u8) -> bool
 /// How many of two bytes are the second and the third of what the one before them begins, with no branch.
 #[inline(always)]
 fn joined_behind(lead: u8, second: u8, third: u8) -> u8
-    ensures { result ≡ joined_by lead second third }
+    ensures joined { result ≡ joined_by lead second third }
+    ensures small { result ≤ 2 }
 {
     let both = joins(lead, second);
     let goes_on = both & (lead >= 0xE0) & (third >= 0x80) & (third < 0xC0);
@@ -93,6 +96,7 @@ fn joined_behind(lead: u8, second: u8, third: u8) -> u8
 }
 
 /// The sum over N places from one on.
+#[tactic(auto, using(crate::proofs::Sums::TotalLemmas::joined_next))]
 #[inline(always)]
 fn piece_joined<const N: usize>(bytes: &[u8], at: usize) -> usize
     requires { (at + N + 2 ≤ length bytes.now) × (N ≤ 64) }
@@ -129,6 +133,7 @@ fn piece_joined_or_ascii(bytes: &[u8], at: usize) -> usize
 
 /// How many bytes are the second or the third of what an earlier one begins. The fourth of a character isn't counted,
 /// since that has two code units.
+#[tactic(auto, using(crate::proofs::Sums::TotalLemmas::joined_next, crate::proofs::Sums::TotalLemmas::total_end))]
 #[inline(never)]
 fn count_joined(bytes: &[u8]) -> usize
     ensures { result ≡ total joined bytes.now }
@@ -162,13 +167,15 @@ pub fn utf16_length_of_utf8(bytes: &[u8]) -> usize
 /// How many bytes the UTF-8 of a code unit has beyond one, with no branch: none of the first of a pair, two of the other.
 #[inline(always)]
 fn bytes_beyond(unit: u16, next: u16) -> u8
-    ensures { result ≡ beyond_one unit next }
+    ensures beyond { result ≡ beyond_one unit next }
+    ensures small { result ≤ 2 }
 {
     let single = !((unit & 0xFC00 == 0xD800) & (next & 0xFC00 == 0xDC00));
     u8::from(single & (unit >= 0x80)) + u8::from(single & (unit >= 0x800))
 }
 
 /// The sum over N places from one on.
+#[tactic(auto, using(crate::proofs::Sums::TotalLemmas::beyond_next))]
 #[inline(always)]
 fn piece_beyond<const N: usize>(units: &[u16], at: usize) -> usize
     requires { (at + N + 1 ≤ length units.now) × (N ≤ 64) }
@@ -191,6 +198,7 @@ fn unit_at(units: &[u16], at: usize) -> u16
 }
 
 /// How many bytes the UTF-8 of code units has beyond one for each.
+#[tactic(auto, using(crate::proofs::Sums::TotalLemmas::beyond_next, crate::proofs::Sums::TotalLemmas::total_end))]
 #[inline(never)]
 fn count_beyond(units: &[u16]) -> usize
     ensures counted { result ≡ total beyond units.now }

@@ -26,43 +26,27 @@ total_end f [] (suc i) l = refl
 total_end f (x ∷ xs) zero l = absurd (omega arith)
 total_end f (x ∷ xs) (suc i) l = total_end f xs i (omega arith)
 
--- one place more of a sum, where what is there is known
-pub total_more : (f : List ℕ → ℕ) (xs : List ℕ) (i next n m whole : ℕ) → next ≡ i + 1 → i < length xs → m ≡ f (drop i xs)
-    → n + total f (drop i xs) ≡ whole → (n + m) + total f (drop next xs) ≡ whole
-total_more f xs i next n m whole p l e before = rw p (omega (arith, total_next f xs i l, e, before))
-
 there : (xs : List ℕ) (i k : ℕ) → slice_index (drop i xs) k ≡ slice_index xs (i + k)
 there xs i k = get_or-drop i xs k 0
 
 here : (xs : List ℕ) (i : ℕ) → slice_index (drop i xs) 0 ≡ slice_index xs i
 here xs i = let e : i + 0 ≡ i = omega arith in there xs i 0 ∙ ap (slice_index xs) e
 
-module _ (xs : List ℕ) (i next n m whole : ℕ) (p : next ≡ i + 1) (l : i < length xs) where
-  -- one byte more of those that are no less than a least one
-  pub one_more : (least : ℕ) → m ≡ bool_byte (nat_le least (slice_index xs i)) → n + total (one_from least) (drop i xs) ≡ whole → (n + m) + total (one_from least) (drop next xs) ≡ whole
-  one_more least e before =
-      total_more (one_from least) xs i next n m whole p l (e ∙ ap (λ x. bool_byte (nat_le least x)) (sym (here xs i))) before
+-- one byte more of those that are no less than a least one, of those that stand behind what they go on with, and one
+-- code unit more
+module _ (xs : List ℕ) (i next : ℕ) (p : next ≡ i + 1) (l : i < length xs) where
+  pub from_next : (least : ℕ) → total (one_from least) (drop i xs) ≡ bool_byte (nat_le least (slice_index xs i)) + total (one_from least) (drop next xs)
+  from_next least = rw p (total_next (one_from least) xs i l ∙ (λ k. bool_byte (nat_le least (here xs i k)) + total (one_from least) (drop (i + 1) xs)))
 
-  -- one byte more of those that stand behind what they go on with
-  pub joined_more : m ≡ joined_by (slice_index xs i) (slice_index xs (i + 1)) (slice_index xs (i + 2))
-      → n + total joined (drop i xs) ≡ whole → (n + m) + total joined (drop next xs) ≡ whole
-  joined_more e before =
-      total_more joined xs i next n m whole p l (e ∙ (λ k. joined_by (sym (here xs i) k) (sym (there xs i 1) k) (sym (there xs i 2) k))) before
+  pub joined_next : total joined (drop i xs) ≡ joined_by (slice_index xs i) (slice_index xs (i + 1)) (slice_index xs (i + 2)) + total joined (drop next xs)
+  joined_next = rw p (total_next joined xs i l ∙ (λ k. joined_by (here xs i k) (there xs i 1 k) (there xs i 2 k) + total joined (drop (i + 1) xs)))
 
-  -- one code unit more
-  pub beyond_more : m ≡ beyond_one (slice_index xs i) (slice_index xs (i + 1)) → n + total beyond (drop i xs) ≡ whole → (n + m) + total beyond (drop next xs) ≡ whole
-  beyond_more e before =
-      total_more beyond xs i next n m whole p l (e ∙ (λ k. beyond_one (sym (here xs i) k) (sym (there xs i 1) k))) before
+  pub beyond_next : total beyond (drop i xs) ≡ beyond_one (slice_index xs i) (slice_index xs (i + 1)) + total beyond (drop next xs)
+  beyond_next = rw p (total_next beyond xs i l ∙ (λ k. beyond_one (here xs i k) (there xs i 1 k) + total beyond (drop (i + 1) xs)))
 
-pub joined_by_most : (m a b c : ℕ) → m ≡ joined_by a b c → m ≤ 2
-joined_by_most m a b c e = rw e (grind (arith, nat_tests))
-
-pub beyond_one_most : (m u v : ℕ) → m ≡ beyond_one u v → m ≤ 2
-beyond_one_most m u v e = rw e (grind (arith, nat_tests))
-
-pub bool_byte_most : (m : ℕ) (b : Bool) → m ≡ bool_byte b → m ≤ 1
-bool_byte_most m true e = omega (arith, e)
-bool_byte_most m false e = omega (arith, e)
+pub bool_byte_most : (b : Bool) → bool_byte b ≤ 1
+bool_byte_most true = omega arith
+bool_byte_most false = omega arith
 
 -- nothing is joined to ASCII
 none_joined : (a b c : ℕ) → a < 0xC2 → joined_by a b c ≡ 0

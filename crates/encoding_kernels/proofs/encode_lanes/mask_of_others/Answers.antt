@@ -2,8 +2,5 @@ use Rattle.std.proofs.Common.{w16, arith}
 use Rattle.encoding_kernels.proofs.Lanes.EncodeLanesLemmas.{mask_from, small_mask}
 use Rattle.encoding_kernels.proofs.encode_lanes.mask_of_others.Goals as goal
 
-pub returns-clause-small : goal.returns-clause-small
-returns-clause-small c = omega (arith, mask_from w16 8 0x80 c.args.units c.fits-units.0 (omega arith), small_mask c.args.units c.fits-units.0)
-
 pub returns-clause-mask : goal.returns-clause-mask
 returns-clause-mask c = mask_from w16 8 0x80 c.args.units c.fits-units.0 (omega arith)

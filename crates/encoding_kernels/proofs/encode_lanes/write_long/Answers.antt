@@ -2,11 +2,6 @@ use Rattle.std.proofs.Common.{◌∙◌, ◌++◌, ◌+◌, drop, take, ap, leng
 use Rattle.encoding_kernels.proofs.Lanes.LongLemmas.{two_puts}
 use Rattle.encoding_kernels.proofs.encode_lanes.write_long.Goals as goal
 
-pub returns-clause-count : goal.returns-clause-count
-returns-clause-count c =
-    let bytes = c.encode_long.ensures in
-    omega (arith, bytes.long.0, bytes.long.1, ap length bytes.spelled, length-append c.encode_long.result.0 c.encode_long.result.1)
-
 pub returns-clause-written : goal.returns-clause-written
 returns-clause-written c =
     let bytes = c.encode_long.ensures in

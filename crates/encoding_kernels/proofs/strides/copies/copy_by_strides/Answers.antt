@@ -4,9 +4,6 @@ use Rattle.encoding_definitions.proofs.LongestFronts.FrontsLemmas.{WritesFront-n
 use Rattle.encoding_kernels.proofs.Latin.AsciiLemmas.{WritesFront_block}
 use Rattle.encoding_kernels.proofs.strides.copies.copy_by_strides.Goals as goal
 
-pub loop-at-init : goal.loop-at-init
-loop-at-init g c = record { within = omega arith; copied = WritesFront-nil c.args.dst.now }
-
 pub loop-at-preserved : goal.loop-at-preserved
 loop-at-preserved g c =
     let copied = c.loop-at.invariant.copied in
