@@ -1,6 +1,6 @@
 //! Which bytes are kept of eight pairs of bytes, looked up by a mask.
 
-ghost use Rattle.std.specs.Prelude.{◌≡◌, ℕ, ◌+◌, ◌*◌, ◌<◌, Bool, List, length, take, slice_index};
+ghost use Rattle.std.specs.Prelude.{◌≡◌, ℕ, ◌+◌, ◌*◌, ◌<◌, ◌≤◌, Bool, List, length, map, take, slice_index};
 ghost use Rattle.std.specs.Simd.Lanes.{mask_l};
 ghost use Rattle.encoding_kernels.specs.EncodeLanes.{kept_places};
 
@@ -40,7 +40,7 @@ fn places_word(at: usize) -> u32
 
 /// The places that a mask keeps, with zeros behind them.
 #[inline(always)]
-pub(crate) fn places_by(mask: usize) -> u8x16
+fn places_by(mask: usize) -> u8x16
     requires { mask < 256 }
     ensures long { length result ≡ 16 }
     ensures within { (k : ℕ) → k < 16 → slice_index result k < 16 }
@@ -54,4 +54,19 @@ pub(crate) fn places_by(mask: usize) -> u8x16
         places_word(4 * mask + 3),
     ])
     .to_le_bytes()
+}
+
+/// The bytes of eight pairs that a mask keeps, in the first ones of the vector, and how many these are.
+#[inline(always)]
+pub(crate) fn keep_pairs(pairs: u8x16, mask: usize) -> (u8x16, usize)
+    requires { mask < 256 }
+    ensures long { length result.0 ≡ 16 }
+    ensures count { (8 ≤ result.1) × (result.1 ≤ 16) }
+    ensures kept { (tests : List Bool) → length tests ≡ 8 → mask ≡ mask_l tests
+        → take result.1 result.0 ≡ map (λ k. slice_index pairs k) (kept_places 0 tests) }
+{
+    (
+        pairs.swizzle_dyn(places_by(mask)),
+        8 + mask.count_ones() as usize,
+    )
 }

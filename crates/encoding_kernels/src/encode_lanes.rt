@@ -4,7 +4,7 @@ ghost use Rattle.std.specs.Prelude.{◌≡◌, ℕ, ◌+◌, ◌*◌, ◌<◌, �
 ghost use Rattle.std.specs.Simd.Lanes.{mask_l};
 ghost use Rattle.encoding_kernels.specs.EncodeLanes.{EncodesTo, Spills, mended};
 
-use crate::compress_pairs::places_by;
+use crate::compress_pairs::keep_pairs;
 use crate::strides::LANES;
 use std::simd::prelude::*;
 
@@ -38,9 +38,7 @@ fn encode_short(units: u16x8) -> (u8x16, usize)
     ensures count { (8 ≤ result.1) × (result.1 ≤ 16) }
     ensures spelled { take result.1 result.0 ≡ encode_utf8_all units }
 {
-    let mask = mask_of_others(units);
-    let bytes = both_bytes(units).swizzle_dyn(places_by(mask));
-    (bytes, 8 + mask.count_ones() as usize)
+    keep_pairs(both_bytes(units), mask_of_others(units))
 }
 
 /// Writes first bytes of two vectors, so many of each, one behind the other. Behind them `dst` is as before, though 32

@@ -5,7 +5,7 @@ ghost use Rattle.std.specs.Prelude.{◌≡◌, ℕ, ◌+◌, ◌*◌, ◌<◌, �
 ghost use Rattle.std.specs.Simd.Lanes.{mask_l};
 ghost use Rattle.encoding_kernels.specs.EncodeLanes.{EncodesTo};
 
-use crate::compress_pairs::places_by;
+use crate::compress_pairs::keep_pairs;
 use crate::decode_lanes::join_bytes;
 use crate::encode_lanes::write_both;
 use std::simd::prelude::*;
@@ -34,22 +34,6 @@ fn mask_of_others(block: u8x16) -> usize
     block.simd_ge(u8x16::splat(0x80)).to_bitmask() as usize
 }
 
-/// The bytes of eight pairs that a mask keeps, in the first ones of the vector, and how many these are.
-#[inline(always)]
-fn kept_bytes(pairs: u8x16, mask: usize) -> (u8x16, usize)
-    requires { mask < 256 }
-    ensures long { length result.0 ≡ 16 }
-    ensures count { (8 ≤ result.1) × (result.1 ≤ 16) }
-    ensures spelled { (bytes : List ℕ) → length bytes ≡ 8 → mask ≡ mask_l (map (nat_le 0x80) bytes)
-        → ((k : ℕ) → k < 8 → EncodesTo (slice_index bytes k) (slice_index pairs (2 * k)) (slice_index pairs (2 * k + 1)))
-        → take result.1 result.0 ≡ encode_utf8_all bytes }
-{
-    (
-        pairs.swizzle_dyn(places_by(mask)),
-        8 + mask.count_ones() as usize,
-    )
-}
-
 /// Writes the UTF-8 of sixteen bytes of Latin1, and returns how many bytes that is. Behind them `dst` is as before.
 #[inline(always)]
 pub fn write_latin1(block: u8x16, dst: &mut [u8], at: usize) -> usize
@@ -60,8 +44,8 @@ pub fn write_latin1(block: u8x16, dst: &mut [u8], at: usize) -> usize
 {
     let others = mask_of_others(block);
     let (low, high) = both_bytes(block);
-    let (first, count) = kept_bytes(low, others & 0xFF);
-    let (second, more) = kept_bytes(high, others >> 8);
+    let (first, count) = keep_pairs(low, others & 0xFF);
+    let (second, more) = keep_pairs(high, others >> 8);
     write_both(dst, at, first, count, second, more);
     count + more
 }

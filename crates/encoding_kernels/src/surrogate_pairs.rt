@@ -5,7 +5,7 @@ ghost use Rattle.std.specs.Prelude.{◌≡◌, ℕ, ◌+◌, ◌*◌, ◌<◌, �
 ghost use Rattle.encoding_definitions.specs.Utf16.{IsHighSurrogate};
 ghost use Rattle.encoding_kernels.specs.SurrogatePairs.{AreShortOrPaired, IsShortOrHalf, EncodesHalf, half_bytes, joined, halves_from};
 
-use crate::compress_pairs::places_by;
+use crate::compress_pairs::keep_pairs;
 use crate::encode_lanes::{mask_of_others, write_both};
 use crate::surrogates::{is_high_surrogate, is_low_surrogate};
 use std::simd::prelude::*;
@@ -63,9 +63,7 @@ fn encode_halves(units: u16x8, before: u16x8) -> (u8x16, usize)
     ensures spelled { take result.1 result.0
         ≡ joined (λ k. half_bytes (slice_index before k) (slice_index units k)) 0 8 }
 {
-    let mask = mask_of_others(units);
-    let bytes = bytes_of_halves(units, before).swizzle_dyn(places_by(mask));
-    (bytes, 8 + mask.count_ones() as usize)
+    keep_pairs(bytes_of_halves(units, before), mask_of_others(units))
 }
 
 /// One if the code unit at the place is a high surrogate, and else zero.

@@ -4,7 +4,7 @@ ghost use Rattle.std.specs.Prelude.{◌≡◌, ℕ, ◌+◌, ◌*◌, ◌<◌, �
 ghost use Rattle.std.specs.Simd.Lanes.{mask_l};
 ghost use Rattle.encoding_kernels.specs.EncodeLanes.{EndsPair, all_ended, both_end};
 
-use crate::compress_pairs::places_by;
+use crate::compress_pairs::keep_pairs;
 use std::simd::prelude::*;
 
 /// Sixteen bytes in pairs: for each pair the Latin1 bytes that its bytes end, and no matter what behind one alone.
@@ -48,7 +48,5 @@ pub fn latin1_of(block: u8x16) -> (u8x16, usize)
     ensures count { result.1 ≤ 16 }
     ensures ended { take result.1 result.0 ≡ all_ended 0 block }
 {
-    let mask = mask_of_ends(block);
-    let bytes = ended_pairs(block).swizzle_dyn(places_by(mask));
-    (bytes, 8 + mask.count_ones() as usize)
+    keep_pairs(ended_pairs(block), mask_of_ends(block))
 }

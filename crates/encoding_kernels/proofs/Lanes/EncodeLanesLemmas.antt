@@ -23,7 +23,7 @@ ones-none : count_ones 0 ≡ 0
 unfolding count_ones
 ones-none = refl
 
-pub kept_long : (at : ℕ) (bs : List Bool) → length (kept_places at bs) ≡ length bs + count_ones (mask_l bs)
+kept_long : (at : ℕ) (bs : List Bool) → length (kept_places at bs) ≡ length bs + count_ones (mask_l bs)
 kept_long at [] = omega (arith, ones-none)
 kept_long at (false ∷ bs) = omega (arith, kept_long (at + 2) bs, ones-mask_l_cons false bs)
 kept_long at (true ∷ bs) = omega (arith, kept_long (at + 2) bs, ones-mask_l_cons true bs)
@@ -53,23 +53,19 @@ looked_up bytes places long small =
     lanes.each k (omega (arith, lanes.long)) ∙ sym (get_or-map (λ j. get_or bytes j 0) places k 0 0 (omega (arith, lanes.long))))
 
 -- the bytes at the places that the mask keeps
-pub compressed : (us bytes places : List ℕ) (mask : ℕ) → length us ≡ 8 → length places ≡ 16 → ((k : ℕ) → k < 16 → get_or places k 0 < 16) → mask ≡ mask_l (map (nat_le 0x80) us)
-    → take (length (kept_places 0 (map (nat_le 0x80) us))) places ≡ kept_places 0 (map (nat_le 0x80) us)
-    → take (8 + count_ones mask) (swz_l w8 16 bytes 0 places) ≡ map (λ j. get_or bytes j 0) (kept_places 0 (map (nat_le 0x80) us))
-compressed us bytes places mask l long small m kept =
-    let tests = map (nat_le 0x80) us in
-    let count : 8 + count_ones mask ≡ length (kept_places 0 tests) = omega (arith, kept_long 0 tests, ap count_ones m, length-map us (nat_le 0x80)) in
+pub compressed : (tests : List Bool) (bytes places : List ℕ) (mask : ℕ) → length tests ≡ 8 → length places ≡ 16 → ((k : ℕ) → k < 16 → get_or places k 0 < 16) → mask ≡ mask_l tests
+    → take (length (kept_places 0 tests)) places ≡ kept_places 0 tests → take (8 + count_ones mask) (swz_l w8 16 bytes 0 places) ≡ map (λ j. get_or bytes j 0) (kept_places 0 tests)
+compressed tests bytes places mask l long small m kept =
+    let count : 8 + count_ones mask ≡ length (kept_places 0 tests) = omega (arith, kept_long 0 tests, ap count_ones m) in
     let get : ℕ → ℕ = λ j. get_or bytes j 0 in
     ap (λ n. take n (swz_l w8 16 bytes 0 places)) count ∙ ap (take (length (kept_places 0 tests))) (looked_up bytes places long small)
     ∙ take-map get (length (kept_places 0 tests)) places ∙ ap (map get) kept
 
-pub spelled_short : (us bytes places : List ℕ) (mask : ℕ) → length us ≡ 8 → length places ≡ 16 → ((k : ℕ) → k < 16 → get_or places k 0 < 16) → mask ≡ mask_l (map (nat_le 0x80) us)
-    → take (length (kept_places 0 (map (nat_le 0x80) us))) places ≡ kept_places 0 (map (nat_le 0x80) us)
-    → ((k : ℕ) → k < 8 → EncodesTo (get_or us k 0) (get_or bytes (2 * k) 0) (get_or bytes (2 * k + 1) 0))
-    → take (8 + count_ones mask) (swz_l w8 16 bytes 0 places) ≡ encode_utf8_all us
-spelled_short us bytes places mask l long small m kept spells =
-    compressed us bytes places mask l long small m kept
-    ∙ kept_spell (λ j. get_or bytes j 0) us 0 (λ k i. let e : 2 * k ≡ 0 + 2 * k = omega arith in subst (λ j. EncodesTo (get_or us k 0) (get_or bytes j 0) (get_or bytes (j + 1) 0)) e (spells k (omega arith)))
+-- which are the UTF-8 of eight units
+pub spelled_short : (us bytes : List ℕ) → length us ≡ 8 → ((k : ℕ) → k < 8 → EncodesTo (get_or us k 0) (get_or bytes (2 * k) 0) (get_or bytes (2 * k + 1) 0))
+    → map (λ j. get_or bytes j 0) (kept_places 0 (map (nat_le 0x80) us)) ≡ encode_utf8_all us
+spelled_short us bytes l spells =
+    kept_spell (λ j. get_or bytes j 0) us 0 (λ k i. let e : 2 * k ≡ 0 + 2 * k = omega arith in subst (λ j. EncodesTo (get_or us k 0) (get_or bytes j 0) (get_or bytes (j + 1) 0)) e (spells k (omega arith)))
 
 -- ---- both bytes
 -- of a code unit from 0x80 on, in one number

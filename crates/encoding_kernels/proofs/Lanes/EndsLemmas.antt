@@ -15,7 +15,6 @@ use Rattle.encoding_kernels.specs.EncodeLanes.{kept_places, ended, all_ended, bo
 use Rattle.encoding_kernels.proofs.Validation.FollowingLemmas.{one_before}
 use Rattle.encoding_kernels.proofs.Lanes.LaneLemmas.{HasLanes-itself, HasLanes-splat, HasLanes-zip2, HasLanes-select, HasLanes-same, compared, top_compared, mask_of}
 use Rattle.encoding_kernels.proofs.Lanes.TestLemmas.{tests_of, tests_and}
-use Rattle.encoding_kernels.proofs.Lanes.EncodeLanesLemmas.{kept_long, looked_up}
 use Rattle.encoding_kernels.proofs.Latin.EndedLemmas.{ended_ascii, ended_last, ended_none, PairAt, pairs_kept, both_end_long}
 
 -- ---- two bytes as one number
@@ -225,17 +224,12 @@ module _ (bs : List ℕ) (long : length bs ≡ 16) (fits : Each1 (Fits w8) bs) w
   mask_small = subst (λ n. mask_l (both_end bs) < 2 ^ n) (both_end_long 8 bs (omega arith)) (mask_l-lt (both_end bs))
 
   -- ---- what is kept
-  pub kept_ends : (bytes places : List ℕ) (mask : ℕ) → length places ≡ 16 → ((k : ℕ) → k < 16 → get_or places k 0 < 16) → mask ≡ mask_l (both_end bs)
-      → take (length (kept_places 0 (both_end bs))) places ≡ kept_places 0 (both_end bs)
+  pub kept_ends : (bytes : List ℕ)
       → ((k : ℕ) → k < 8 → EndsPair (get_or (0 ∷ bs) (2 * k) 0) (get_or bs (2 * k) 0) (get_or bs (2 * k + 1) 0) (get_or bytes (2 * k) 0) (get_or bytes (2 * k + 1) 0))
-      → ((k : ℕ) → (get_or bs k 0 < 0xC0) ⊎ (get_or bs (k + 1) 0 < 0xC0))
-      → take (8 + count_ones mask) (swz_l w8 16 bytes 0 places) ≡ all_ended 0 bs
-  kept_ends bytes places mask many small m kept pairs apart =
+      → ((k : ℕ) → (get_or bs k 0 < 0xC0) ⊎ (get_or bs (k + 1) 0 < 0xC0)) → map (λ j. get_or bytes j 0) (kept_places 0 (both_end bs)) ≡ all_ended 0 bs
+  kept_ends bytes pairs apart =
       let get : ℕ → ℕ = λ j. get_or bytes j 0 in
-      let count : 8 + count_ones mask ≡ length (kept_places 0 (both_end bs)) = omega (arith, kept_long 0 (both_end bs), ap count_ones m, both_end_long 8 bs (omega arith)) in
-      ap (λ n. take n (swz_l w8 16 bytes 0 places)) count ∙ ap (take (length (kept_places 0 (both_end bs)))) (looked_up bytes places many small)
-      ∙ take-map get (length (kept_places 0 (both_end bs))) places ∙ ap (map get) kept
-      ∙ pairs_kept get 8 bs 0 0 (omega arith) (λ k l.
+      pairs_kept get 8 bs 0 0 (omega arith) (λ k l.
       let next : 2 * k + 1 ≡ suc (2 * k) = omega arith in
       let place : 2 * k ≡ 0 + 2 * k = omega arith in
       subst (λ j. PairAt get 0 bs j (2 * k)) place (subst (λ j. cond (nat_lt (get_or bs (2 * k) 0) 0xC0 && nat_lt (get_or bs j 0) 0xC0) (get (2 * k) ∷ get (2 * k + 1) ∷ []) (get (2 * k) ∷ [])

@@ -1,5 +1,5 @@
 -- The UTF-8 of sixteen bytes of Latin1: both bytes of each, and which halves of them are kept.
-use Rattle.std.proofs.Common.{◌≡◌, ℕ, ◌+◌, ◌*◌, ◌/◌, ◌%◌, ◌^◌, ◌<◌, ◌≤◌, true, false, cond, leb, inl, inr, List, ◌++◌, map, length, take, drop, get_or, get_or-take, get_or-drop, length-append, length-drop, length-take-le, encode_utf8_all, bit_and, replicate, sym, ap, ◌∙◌, arith, subst, w8}
+use Rattle.std.proofs.Common.{◌≡◌, ℕ, ◌+◌, ◌*◌, ◌/◌, ◌%◌, ◌^◌, ◌<◌, ◌≤◌, Bool, true, false, cond, leb, inl, inr, List, ◌++◌, map, length, take, drop, get_or, get_or-take, get_or-drop, length-drop, length-take-le, encode_utf8_all, bit_and, replicate, sym, ap, ◌∙◌, arith, subst, w8}
 use Rattle.std.specs.Prelude.{nat_le}
 use Rattle.std.proofs.lemmas.Bool.{cases_lt}
 use Rattle.std.proofs.lemmas.Bool.Decides.{nat_tests}
@@ -11,9 +11,10 @@ use Rattle.std.proofs.str.Laws.{two}
 use Rattle.std.specs.Simd.Lanes.{mask_l, number_l, digits_l, top, zip2, sel_l, Each1}
 use mir.Syntax.{w8}
 use Rattle.encoding_kernels.specs.Lanes.{HasLanes}
-use Rattle.encoding_kernels.specs.EncodeLanes.{EncodesTo}
+use Rattle.encoding_kernels.specs.EncodeLanes.{EncodesTo, kept_places}
 use Rattle.encoding_kernels.proofs.Lanes.CompressLemmas.{low_half, high_half}
 use Rattle.encoding_kernels.proofs.Lanes.LaneLemmas.{HasLanes-itself, HasLanes-splat, HasLanes-zip2, HasLanes-select, HasLanes-same, compared, top_compared}
+use Rattle.encoding_kernels.proofs.Lanes.EncodeLanesLemmas.{spelled_short}
 
 -- ---- one byte
 abbrev pub first_of : ℕ → ℕ
@@ -76,37 +77,26 @@ module _ (v : List ℕ) (long : length v ≡ 16) (others : ℕ) (is : others ≡
   marks_long : length (map (nat_le 0x80) v) ≡ 16
   marks_long = length-map v (nat_le 0x80) ∙ long
 
-  pub low_others : bit_and others 255 ≡ mask_l (map (nat_le 0x80) (take 8 v))
-  low_others = and_mask others 8 ∙ ap (λ m. m % 256) is ∙ low_half (map (nat_le 0x80) v) marks_long ∙ ap mask_l (take-map (nat_le 0x80) 8 v)
-
-  pub high_others : others / 256 ≡ mask_l (map (nat_le 0x80) (drop 8 v))
-  high_others = ap (λ m. m / 256) is ∙ high_half (map (nat_le 0x80) v) marks_long ∙ ap mask_l (drop-map (nat_le 0x80) 8 v)
-
   pub others_small : others / 256 < 256
   others_small = let bound : mask_l (map (nat_le 0x80) v) < 2 ^ 16 = subst (λ n. mask_l (map (nat_le 0x80) v) < 2 ^ n) marks_long (mask_l-lt (map (nat_le 0x80) v)) in
       omega (arith, is)
 
--- what both halves spell
-module _ (v : List ℕ) (long : length v ≡ 16) where
-  pub low_long : length (take 8 v) ≡ 8
-  low_long = length-take-le 8 v (omega (arith, long))
+  low_others : bit_and others 255 ≡ mask_l (map (nat_le 0x80) (take 8 v))
+  low_others = and_mask others 8 ∙ ap (λ m. m % 256) is ∙ low_half (map (nat_le 0x80) v) marks_long ∙ ap mask_l (take-map (nat_le 0x80) 8 v)
 
-  pub high_long : length (drop 8 v) ≡ 8
-  high_long = omega (arith, long, length-drop 8 v)
+  high_others : others / 256 ≡ mask_l (map (nat_le 0x80) (drop 8 v))
+  high_others = ap (λ m. m / 256) is ∙ high_half (map (nat_le 0x80) v) marks_long ∙ ap mask_l (drop-map (nat_le 0x80) 8 v)
 
-  pub low_pairs : (pairs : List ℕ) → ((k : ℕ) → k < 8 → EncodesTo (get_or v k 0) (get_or pairs (2 * k) 0) (get_or pairs (2 * k + 1) 0))
-      → (k : ℕ) → k < 8 → EncodesTo (get_or (take 8 v) k 0) (get_or pairs (2 * k) 0) (get_or pairs (2 * k + 1) 0)
-  low_pairs pairs h k l = subst (λ b. EncodesTo b (get_or pairs (2 * k) 0) (get_or pairs (2 * k + 1) 0)) (sym (get_or-take 8 v k 0 l)) (h k l)
-
-  pub high_pairs : (pairs : List ℕ) → ((k : ℕ) → k < 8 → EncodesTo (get_or v (8 + k) 0) (get_or pairs (2 * k) 0) (get_or pairs (2 * k + 1) 0))
-      → (k : ℕ) → k < 8 → EncodesTo (get_or (drop 8 v) k 0) (get_or pairs (2 * k) 0) (get_or pairs (2 * k + 1) 0)
-  high_pairs pairs h k l = subst (λ b. EncodesTo b (get_or pairs (2 * k) 0) (get_or pairs (2 * k + 1) 0)) (sym (get_or-drop 8 v k 0)) (h k l)
-
-  pub both_spelled : (first second : List ℕ) (count more : ℕ) → length first ≡ 16 → length second ≡ 16 → count ≤ 16 → more ≤ 16
-      → take count first ≡ encode_utf8_all (take 8 v) → take more second ≡ encode_utf8_all (drop 8 v)
-      → (take count first ++ take more second ≡ encode_utf8_all v) × (count + more ≡ length (encode_utf8_all v))
-  both_spelled first second count more p q few less low high =
-      let joined : take count first ++ take more second ≡ encode_utf8_all v = (λ i. low i ++ high i) ∙ sym (encodes-append (take 8 v) (drop 8 v)) ∙ ap encode_utf8_all (take-append-drop 8 v) in (
-        joined,
-        omega (arith, length-append (take count first) (take more second), length-take-le count first (omega (arith, p)), length-take-le more second (omega (arith, q)), ap length joined),
-      )
+  -- what both halves spell, where what is kept of their pairs is known by any tests
+  pub latin_spelled : (low high first second : List ℕ) (count more : ℕ) → ((k : ℕ) → k < 8 → EncodesTo (get_or v k 0) (get_or low (2 * k) 0) (get_or low (2 * k + 1) 0))
+      → ((k : ℕ) → k < 8 → EncodesTo (get_or v (8 + k) 0) (get_or high (2 * k) 0) (get_or high (2 * k + 1) 0))
+      → ((tests : List Bool) → length tests ≡ 8 → bit_and others 255 ≡ mask_l tests → take count first ≡ map (λ k. get_or low k 0) (kept_places 0 tests))
+      → ((tests : List Bool) → length tests ≡ 8 → others / 256 ≡ mask_l tests → take more second ≡ map (λ k. get_or high k 0) (kept_places 0 tests)) → take count first ++ take more second ≡ encode_utf8_all v
+  latin_spelled low high first second count more p q kept keeps =
+      let low_long : length (take 8 v) ≡ 8 = length-take-le 8 v (omega (arith, long)) in
+      let high_long : length (drop 8 v) ≡ 8 = omega (arith, long, length-drop 8 v) in
+      let front = kept (map (nat_le 0x80) (take 8 v)) (length-map (take 8 v) (nat_le 0x80) ∙ low_long) low_others
+          ∙ spelled_short (take 8 v) low low_long (λ k l. subst (λ b. EncodesTo b (get_or low (2 * k) 0) (get_or low (2 * k + 1) 0)) (sym (get_or-take 8 v k 0 l)) (p k l)) in
+      let back = keeps (map (nat_le 0x80) (drop 8 v)) (length-map (drop 8 v) (nat_le 0x80) ∙ high_long) high_others
+          ∙ spelled_short (drop 8 v) high high_long (λ k l. subst (λ b. EncodesTo b (get_or high (2 * k) 0) (get_or high (2 * k + 1) 0)) (sym (get_or-drop 8 v k 0)) (q k l)) in
+      (λ i. front i ++ back i) ∙ sym (encodes-append (take 8 v) (drop 8 v)) ∙ ap encode_utf8_all (take-append-drop 8 v)

@@ -15,7 +15,7 @@ use Rattle.encoding_definitions.specs.Utf16.{IsHighSurrogate, IsLowSurrogate}
 use Rattle.encoding_kernels.specs.Lanes.{HasLanes}
 use Rattle.encoding_kernels.specs.EncodeLanes.{kept_places}
 use Rattle.encoding_kernels.specs.SurrogatePairs.{IsShortOrHalf, AreShortOrPaired, EncodesHalf, half_bytes, joined, halves_from}
-use Rattle.encoding_kernels.proofs.Lanes.EncodeLanesLemmas.{both, EncodesTo-word, compressed, kept_step, pick}
+use Rattle.encoding_kernels.proofs.Lanes.EncodeLanesLemmas.{both, EncodesTo-word, kept_step, pick}
 
 -- ---- what is joined
 pub joined-same : (f g : ℕ → List ℕ) (i j n : ℕ) → ((k : ℕ) → k < n → f (i + k) ≡ g (j + k)) → joined f i n ≡ joined g j n
@@ -74,14 +74,11 @@ kept_join get f (u ∷ us) at i h =
     subst (λ j. cond (nat_le 0x80 (get_or us k 0)) (get j ∷ get (j + 1) ∷ []) (get j ∷ []) ≡ f (i + 1 + k)) e (h (suc k) (omega arith) ∙ ap f place) in
     kept_step get at (nat_le 0x80 u) _ _ _ here (kept_join get f us (at + 2) (i + 1) more)
 
-pub spelled_halves : (us ps bytes places : List ℕ) (mask : ℕ) → length us ≡ 8 → length places ≡ 16 → ((k : ℕ) → k < 16 → get_or places k 0 < 16) → mask ≡ mask_l (map (nat_le 0x80) us)
-    → take (length (kept_places 0 (map (nat_le 0x80) us))) places ≡ kept_places 0 (map (nat_le 0x80) us)
-    → ((k : ℕ) → k < 8 → EncodesHalf (get_or ps k 0) (get_or us k 0) (get_or bytes (2 * k) 0) (get_or bytes (2 * k + 1) 0))
-    → take (8 + count_ones mask) (swz_l w8 16 bytes 0 places) ≡ joined (λ k. half_bytes (get_or ps k 0) (get_or us k 0)) 0 8
-spelled_halves us ps bytes places mask l long small m kept spells =
+pub spelled_halves : (us ps bytes : List ℕ) → length us ≡ 8 → ((k : ℕ) → k < 8 → EncodesHalf (get_or ps k 0) (get_or us k 0) (get_or bytes (2 * k) 0) (get_or bytes (2 * k + 1) 0))
+    → map (λ j. get_or bytes j 0) (kept_places 0 (map (nat_le 0x80) us)) ≡ joined (λ k. half_bytes (get_or ps k 0) (get_or us k 0)) 0 8
+spelled_halves us ps bytes l spells =
     let f : ℕ → List ℕ = λ k. half_bytes (get_or ps k 0) (get_or us k 0) in
-    compressed us bytes places mask l long small m kept
-    ∙ kept_join (λ j. get_or bytes j 0) f us 0 0 (λ k i.
+    kept_join (λ j. get_or bytes j 0) f us 0 0 (λ k i.
     let e : 2 * k ≡ 0 + 2 * k = omega arith in
     let place : k ≡ 0 + k = omega arith in
     subst (λ j. cond (nat_le 0x80 (get_or us k 0)) (get_or bytes j 0 ∷ get_or bytes (j + 1) 0 ∷ []) (get_or bytes j 0 ∷ []) ≡ f (0 + k)) e (spells k (omega arith) ∙ ap f place))
