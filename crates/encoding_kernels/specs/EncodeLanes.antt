@@ -1,5 +1,6 @@
 -- Steps of a conversion to UTF-8 by vectors: code units in two bytes each, and which of these are kept.
-use Rattle.std.specs.Prelude.{◌≡◌, ℕ, ◌+◌, ◌*◌, ◌%◌, ◌<◌, ◌⊎◌, ◌&&◌, nat_lt, ◌≤◌, Bool, nat_le, List, [], ◌∷◌, ◌++◌, if◌then◌else◌, encode_utf8, slice_index, length, take, drop}
+use Rattle.std.specs.Prelude.{◌≡◌, ℕ, ◌+◌, ◌*◌, ◌%◌, ◌<◌, ◌⊎◌, ◌&&◌, nat_lt, ◌≤◌, Bool, nat_le, List, [], ◌∷◌, ◌++◌, if◌then◌else◌, encode_utf8, encode_utf8_all, slice_index, length, take, drop}
+use Rattle.encoding_definitions.specs.Fronts.{WritesFront}
 
 -- of two bytes for each test, from a place on, the first, and the second where the test holds
 abbrev pub kept_places : ℕ → List Bool → List ℕ
@@ -59,3 +60,9 @@ pub record Spills (old new : List ℕ) (at count : ℕ) (out : List ℕ) : Type 
   pub front : take (at + count) new ≡ take at old ++ out
   pub behind : drop (at + count + 16) new ≡ drop (at + count + 16) old
   pub long : length new ≡ length old
+
+-- so many first code units are no surrogates, and their UTF-8 is written in front
+pub record WritesPlain (us old new : List ℕ) (read count : ℕ) : Type 0 where
+  pub within : read ≤ length us
+  pub plain : ArePlain (take read us)
+  pub written : WritesFront old new count (encode_utf8_all (take read us))

@@ -165,30 +165,6 @@ pub(crate) fn unit_ends(block: u8x16, end: usize) -> usize
     ends.to_bitmask() as usize & ((1 << end) - 1)
 }
 
-/// Every third byte from the first on.
-#[inline(always)]
-fn first_bytes(block: u8x16) -> u8x8
-    ensures { HasLanes 8 result (λ k. slice_index block (slice_index (0 ∷ 3 ∷ 6 ∷ 9 ∷ 12 ∷ 12 ∷ 12 ∷ 12 ∷ []) k)) }
-{
-    block.swizzle::<8>([0, 3, 6, 9, 12, 12, 12, 12])
-}
-
-/// Every third byte from the second on.
-#[inline(always)]
-fn second_bytes(block: u8x16) -> u8x8
-    ensures { HasLanes 8 result (λ k. slice_index block (slice_index (1 ∷ 4 ∷ 7 ∷ 10 ∷ 13 ∷ 13 ∷ 13 ∷ 13 ∷ []) k)) }
-{
-    block.swizzle::<8>([1, 4, 7, 10, 13, 13, 13, 13])
-}
-
-/// Every third byte from the third on.
-#[inline(always)]
-fn third_bytes(block: u8x16) -> u8x8
-    ensures { HasLanes 8 result (λ k. slice_index block (slice_index (2 ∷ 5 ∷ 8 ∷ 11 ∷ 14 ∷ 14 ∷ 14 ∷ 14 ∷ []) k)) }
-{
-    block.swizzle::<8>([2, 5, 8, 11, 14, 14, 14, 14])
-}
-
 /// The code units of five characters of three bytes, and three more lanes.
 #[inline(always)]
 pub(crate) fn triple_units(block: u8x16) -> u16x8
@@ -198,8 +174,8 @@ pub(crate) fn triple_units(block: u8x16) -> u16x8
         (slice_index block (slice_index (2 ∷ 5 ∷ 8 ∷ 11 ∷ 14 ∷ 14 ∷ 14 ∷ 14 ∷ []) k))) }
 {
     let six = u16x8::splat(0x3F);
-    let first = first_bytes(block).cast::<u16>();
-    let second = second_bytes(block).cast::<u16>();
-    let third = third_bytes(block).cast::<u16>();
+    let first = block.swizzle::<8>([0, 3, 6, 9, 12, 12, 12, 12]).cast::<u16>();
+    let second = block.swizzle::<8>([1, 4, 7, 10, 13, 13, 13, 13]).cast::<u16>();
+    let third = block.swizzle::<8>([2, 5, 8, 11, 14, 14, 14, 14]).cast::<u16>();
     first * u16x8::splat(0x1000) + ((second & six) * u16x8::splat(64) + (third & six))
 }

@@ -3,7 +3,7 @@
 ghost use Rattle.std.specs.Prelude.{◌≡◌, ◌+◌, ◌<◌, ◌≤◌, ◌⊎◌, ◌++◌, length, take, drop, encode_utf8_all, IsTrue};
 ghost use Rattle.encoding_definitions.specs.Fronts.{WritesFront};
 ghost use Rattle.encoding_definitions.specs.Utf16.{IsUtf8OfFront};
-ghost use Rattle.encoding_kernels.specs.EncodeLanes.{ArePlain, mended};
+ghost use Rattle.encoding_kernels.specs.EncodeLanes.{ArePlain, WritesPlain, mended};
 ghost use Rattle.encoding_kernels.specs.Strides.{AllBelow};
 
 use crate::encode_lanes::{are_long, store_long, store_short};
@@ -66,9 +66,7 @@ fn convert_eight(src: &[u16], at: usize, dst: &mut [u8], to: usize) -> (usize, u
 /// long run of ASCII. Behind what is written `dst` is as before.
 #[inline(always)]
 fn convert_sparse_blocks(src: &[u16], dst: &mut [u8]) -> (usize, usize)
-    ensures within { result.0 ≤ length src.now }
-    ensures plain { ArePlain (take result.0 src.now) }
-    ensures written { WritesFront dst.old dst.new result.1 (encode_utf8_all (take result.0 src.now)) }
+    ensures { WritesPlain src.now dst.old dst.new result.0 result.1 }
 {
     let mut read = 0;
     let mut written = 0;
@@ -124,6 +122,7 @@ fn are_sixteen_plain(src: &[u16], at: usize) -> bool
 /// Converts sixteen code units without a surrogate from a place on, and returns how many bytes these take, what stood in
 /// the sixteen places behind them, and whether all are from U+0800 on, for which they are tested only where that is told
 /// to be likely.
+#[tactic(auto, using(crate::proofs::CodeUnits::UnitBlocksLemmas::short_joined))]
 #[inline(always)]
 fn convert_sixteen(
     src: &[u16],
@@ -158,9 +157,7 @@ fn convert_sixteen(
 /// what stood behind it is written back behind the last one alone, so that there too `dst` is as before.
 #[inline(always)]
 fn convert_dense_blocks(src: &[u16], dst: &mut [u8]) -> (usize, usize)
-    ensures within { result.0 ≤ length src.now }
-    ensures plain { ArePlain (take result.0 src.now) }
-    ensures written { WritesFront dst.old dst.new result.1 (encode_utf8_all (take result.0 src.now)) }
+    ensures { WritesPlain src.now dst.old dst.new result.0 result.1 }
 {
     if dst.len() < ROOM {
         return (0, 0);
@@ -196,9 +193,7 @@ fn convert_dense_blocks(src: &[u16], dst: &mut [u8]) -> (usize, usize)
 /// these are and how many bytes it wrote. Behind these `dst` is as before.
 #[inline(always)]
 fn convert_first_eight(src: &[u16], dst: &mut [u8]) -> (usize, usize)
-    ensures within { result.0 ≤ length src.now }
-    ensures plain { ArePlain (take result.0 src.now) }
-    ensures written { WritesFront dst.old dst.new result.1 (encode_utf8_all (take result.0 src.now)) }
+    ensures { WritesPlain src.now dst.old dst.new result.0 result.1 }
 {
     if src.len() < HALF_STRIDE || dst.len() < 32 {
         return (0, 0);
@@ -214,10 +209,8 @@ fn convert_first_eight(src: &[u16], dst: &mut [u8]) -> (usize, usize)
 /// near. Behind what is written `dst` is as before.
 #[inline(always)]
 fn convert_some_blocks(src: &[u16], dst: &mut [u8]) -> (usize, usize, bool)
-    ensures within { result.0 ≤ length src.now }
     ensures some { IsTrue result.2 → 0 < result.0 }
-    ensures plain { ArePlain (take result.0 src.now) }
-    ensures written { WritesFront dst.old dst.new result.1 (encode_utf8_all (take result.0 src.now)) }
+    ensures plain { WritesPlain src.now dst.old dst.new result.0 result.1 }
 {
     let mut read = copy_ascii_front::<32, u8, u16>(src, dst);
     let mut written = read;
@@ -240,9 +233,7 @@ fn convert_some_blocks(src: &[u16], dst: &mut [u8]) -> (usize, usize, bool)
 /// Converts blocks of code units from the beginning of `src` on, none of which has a surrogate, and returns how many code
 /// units these are and how many bytes it wrote. Behind what is written `dst` is as before.
 pub fn convert_blocks(src: &[u16], dst: &mut [u8]) -> (usize, usize)
-    ensures within { result.0 ≤ length src.now }
-    ensures plain { ArePlain (take result.0 src.now) }
-    ensures written { WritesFront dst.old dst.new result.1 (encode_utf8_all (take result.0 src.now)) }
+    ensures { WritesPlain src.now dst.old dst.new result.0 result.1 }
 {
     let mut read = 0;
     let mut written = 0;

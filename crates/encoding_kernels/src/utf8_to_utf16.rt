@@ -103,21 +103,8 @@ fn write_block(src: &[u8], end: usize, kept: usize, dst: &mut [u16]) -> usize
     write_compressed(first, last, kept, dst)
 }
 
-/// Writes the UTF-16 of the first bytes, up to the end of a character, and nothing behind it. Returns how many code units
-/// these are.
-#[inline(always)]
-fn write_block_exact(src: &[u8], end: usize, kept: usize, dst: &mut [u16]) -> usize
-    requires room { (16 ≤ length src.now) × (16 ≤ length dst.old) }
-    requires text { IsUtf8 src.now }
-    requires end { (end ≤ 16) × IsCharBoundary src.now end }
-    requires kept { kept ≡ mask_l (take end (ends_behind 0 (take 16 src.now)) ++ replicate (16 - end) false) }
-    ensures { WritesUtf16 src.now dst.old dst.new end result result }
-{
-    let (first, last) = code_units(u8x16::from_slice(src));
-    write_compressed_exact(first, last, kept, dst)
-}
-
-/// Writes as `write_block_exact` does, where fewer than sixteen places may be left.
+/// Writes the UTF-16 of the first bytes, up to the end of a character, and nothing behind it, where fewer than sixteen
+/// places may be left. Returns how many code units these are.
 #[inline(always)]
 fn write_block_in_any_room(src: &[u8], end: usize, kept: usize, dst: &mut [u16]) -> usize
     requires room { (16 ≤ length src.now) × (end ≤ length dst.old) }
@@ -127,7 +114,8 @@ fn write_block_in_any_room(src: &[u8], end: usize, kept: usize, dst: &mut [u16])
     ensures { WritesUtf16 src.now dst.old dst.new end result result }
 {
     if dst.len() >= 16 {
-        return write_block_exact(src, end, kept, dst);
+        let (first, last) = code_units(u8x16::from_slice(src));
+        return write_compressed_exact(first, last, kept, dst);
     }
     let mut units = [0; 16];
     let count = write_block(src, end, kept, &mut units);

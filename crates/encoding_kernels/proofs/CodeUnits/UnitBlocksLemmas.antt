@@ -13,10 +13,10 @@ use borrow.Rule.Slice.PartMut.{put_mid}
 use Rattle.encoding_definitions.specs.Fronts.{WritesFront}
 use Rattle.encoding_definitions.specs.Utf16.{AreUnits, Part16, Character16, units_of, utf8_of}
 use Rattle.encoding_definitions.specs.FirstScalar.{IsFirstScalar}
-use Rattle.encoding_kernels.specs.EncodeLanes.{ArePlain}
-use Rattle.encoding_kernels.specs.Strides.{AllBelow, BelowUpTo}
+use Rattle.encoding_kernels.specs.EncodeLanes.{ArePlain, WritesPlain}
+use Rattle.encoding_kernels.specs.Strides.{AllBelow, BelowUpTo, CopiesAscii}
 use Rattle.encoding_kernels.proofs.Latin.AsciiLemmas.{Each-take}
-use Rattle.encoding_definitions.proofs.LongestFronts.FrontsLemmas.{WritesFront_push, WritesFront-same, WritesFront_put, WritesFront_after}
+use Rattle.encoding_definitions.proofs.LongestFronts.FrontsLemmas.{WritesFront-nil, WritesFront_push, WritesFront-same, WritesFront_put, WritesFront_after}
 use Rattle.encoding_definitions.proofs.CodeUnits.Utf16Lemmas.{parts_of, parts_of-first, first_unit}
 use Rattle.encoding_definitions.proofs.CodeUnits.Utf16FrontLemmas.{Walked, scalar_of_unit, step_walked, step_written}
 
@@ -127,10 +127,9 @@ short_lanes us n room h k = (lane n (omega arith) (omega arith), lane (n + 8) (o
       | inr l ↦ omega (arith, get_or_past (chunk at 8 us) k 0 (omega (arith, length-chunk at 8 us (omega arith))))
     ]
 
-pub short_joined : (us first second : List ℕ) (n : ℕ) → first ≡ chunk n 8 us → second ≡ chunk (n + 8) 8 us → encode_utf8_all first ++ encode_utf8_all second ≡ encode_utf8_all (take 16 (drop n us))
-short_joined us first second n e f =
-    (λ i. encode_utf8_all (e i) ++ encode_utf8_all (f i)) ∙ sym (encodes-append (chunk n 8 us) (chunk (n + 8) 8 us))
-    ∙ ap (λ xs. encode_utf8_all (chunk n 8 us ++ take 8 xs)) (sym (drop-drop 8 n us)) ∙ ap encode_utf8_all (sym (take-add 8 8 (drop n us)))
+pub short_joined : (us : List ℕ) (n : ℕ) → encode_utf8_all (chunk n 8 us) ++ encode_utf8_all (chunk (n + 8) 8 us) ≡ encode_utf8_all (take 16 (drop n us))
+short_joined us n =
+    sym (encodes-append (chunk n 8 us) (chunk (n + 8) 8 us)) ∙ ap (λ xs. encode_utf8_all (chunk n 8 us ++ take 8 xs)) (sym (drop-drop 8 n us)) ∙ ap encode_utf8_all (sym (take-add 8 8 (drop n us)))
 
 module _ (us old new after : List ℕ) (n written : ℕ) (w : WritesFront old new written (encode_utf8_all (take n us))) where
   pub written_eight : (k m : ℕ) → m ≡ length (encode_utf8_all (take k (drop n us))) → written + m ≤ length new
@@ -146,25 +145,35 @@ ascii_block us at n below = encodes-IsAscii (take n (drop at us)) (Each-take (λ
 pub sixteen_plain : (us : List ℕ) (at : ℕ) → ((k : ℕ) → k < 8 → IsPlain (get_or (chunk at 8 us) k 0)) → ((k : ℕ) → k < 8 → IsPlain (get_or (chunk (at + 8) 8 us) k 0)) → ArePlain (take 16 (drop at us))
 sixteen_plain us at p q = plain_then (drop at us) 8 8 (eight_plain us at p) (rw (drop-drop 8 at us) (eight_plain us (at + 8) q))
 
--- what is left was converted as far as some blocks go
-module _ (us : List ℕ) (read n : ℕ) where
-  pub plain_left : ArePlain (take read us) → ArePlain (take n (take (length us - read) (drop read us))) → ArePlain (take (read + n) us)
-  plain_left p q = plain_then us read n p (subst (λ xs. ArePlain (take n xs)) (take_rest us read) q)
+-- so many more are converted
+pub plain_put : {us old new after : List ℕ} {n written : ℕ} → WritesPlain us old new n written → (k m : ℕ) → n + k ≤ length us → ArePlain (take k (drop n us)) → m ≡ length (encode_utf8_all (take k (drop n us)))
+    → written + m ≤ length new → after ≡ take written new ++ (encode_utf8_all (take k (drop n us)) ++ drop (written + m) new) → WritesPlain us old after (n + k) (written + m)
+plain_put {us} {old} {new} {after} {n} {written} w k m inside plain count room put = record {
+  within = inside;
+  plain = plain_then us n k w.plain plain;
+  written = written_eight us old new after n written w.written k m count room put;
+}
 
-  pub written_left : (old new sub : List ℕ) (written m : ℕ) → WritesFront old new written (encode_utf8_all (take read us))
-      → WritesFront (take (length new - written) (drop written new)) sub m (encode_utf8_all (take n (take (length us - read) (drop read us))))
-      → WritesFront old (put_mid written (length new - written) new sub) (written + m) (encode_utf8_all (take (read + n) us))
-  written_left old new sub written m w v =
-      WritesFront-same _ _ _ _ _ _ (WritesFront_after old new written _ sub m _ w v) refl
-      (ap (λ xs. encode_utf8_all (take read us) ++ encode_utf8_all (take n xs)) (take_rest us read) ∙ encodes_more us read n)
+-- what is left was converted as far as some blocks go
+pub plain_left : {us old new sub : List ℕ} {read written n m : ℕ} → WritesPlain us old new read written
+    → WritesPlain (take (length us - read) (drop read us)) (take (length new - written) (drop written new)) sub n m
+    → WritesPlain us old (put_mid written (length new - written) new sub) (read + n) (written + m)
+plain_left {us} {old} {new} {sub} {read} {written} {n} {m} w v = record {
+  within = let inside : read ≤ length us = w.within in omega (arith, v.within, length-take (length us - read) (drop read us));
+  plain = plain_then us read n w.plain (subst (λ xs. ArePlain (take n xs)) (take_rest us read) v.plain);
+  written = WritesFront-same _ _ _ _ _ _ (WritesFront_after old new written _ sub m _ w.written v.written) refl
+      (ap (λ xs. encode_utf8_all (take read us) ++ encode_utf8_all (take n xs)) (take_rest us read) ∙ encodes_more us read n);
+}
 
 -- an ASCII front of all
-module _ (us : List ℕ) (m : ℕ) (below : BelowUpTo 0x80 us m) where
-  pub ascii_front_plain : ArePlain (take m us)
-  ascii_front_plain = Each-take IsPlain (λ r. omega (arith, r.0)) us m (λ k l r. omega (arith, below k l, r.0))
-
-  pub ascii_front_written : (old new : List ℕ) → WritesFront old new m (take m us) → WritesFront old new m (encode_utf8_all (take m us))
-  ascii_front_written old new w = WritesFront-same _ _ _ _ _ _ w refl (sym (encodes-IsAscii (take m us) (Each-take (λ u. u < 0x80) (omega arith) us m below)))
+pub plain_front : {us old new : List ℕ} {m : ℕ} → CopiesAscii us us old new 0 m → WritesPlain us old new m m
+plain_front {us} {old} {new} {m} copies =
+    let below : BelowUpTo 0x80 us m = copies.ascii (λ k l. absurd (omega arith)) in
+    record {
+      within = copies.within.0;
+      plain = Each-take IsPlain (λ r. omega (arith, r.0)) us m (λ k l r. omega (arith, below k l, r.0));
+      written = WritesFront-same _ _ _ _ _ _ (copies.copied old (WritesFront-nil old)) refl (sym (encodes-IsAscii (take m us) (Each-take (λ u. u < 0x80) (omega arith) us m below)));
+    }
 
 -- an ASCII front of what is left
 module _ (us : List ℕ) (n m : ℕ) (below : BelowUpTo 0x80 (take (length us - n) (drop n us)) m) where

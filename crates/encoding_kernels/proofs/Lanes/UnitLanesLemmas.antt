@@ -1,11 +1,13 @@
 -- The vectors that hold the code unit that ends with each byte, and a mark where one does.
-use Rattle.std.proofs.Common.{◌≡◌, ℕ, zero, suc, ◌+◌, ◌-◌, ◌*◌, ◌%◌, ◌^◌, ◌<◌, ◌≤◌, Bool, true, false, ◌&&◌, cond, ltb, List, [], ◌∷◌, ◌++◌, map, length, take, get_or, replicate, bit_and, refl, sym, ap, ◌∙◌, arith, w8, Fits}
+use Rattle.std.proofs.Common.{◌≡◌, ℕ, zero, suc, ◌+◌, ◌-◌, ◌*◌, ◌%◌, ◌^◌, ◌<◌, ◌≤◌, Bool, true, false, ◌&&◌, cond, ltb, List, [], ◌∷◌, ◌++◌, map, length, take, get_or, replicate, bit_and, refl, sym, ap, ◌∙◌, arith, subst, w8, Fits}
 use Rattle.std.specs.List.{range_with_len}
 use Rattle.std.specs.Simd.Lanes.{zip2, pick_l, mask_l, top, Each1}
 use Rattle.std.proofs.lemmas.Nat.{and_mask, one_shl}
 use Rattle.std.proofs.lemmas.List.{length-map, get_or-map, same_lists}
 use Rattle.std.proofs.lemmas.List.FromFn.{get_or-map-range_with_len}
-use Rattle.std.proofs.lemmas.Simd.{Each1-get_or, mask_l-mod}
+use Rattle.std.proofs.lemmas.Simd.{Each1-get_or, mask_l-mod, pick_l_left}
+use lib.Dec.{T}
+use lib.Lanes.{all_below}
 use Rattle.encoding_kernels.specs.Lanes.{HasLanes}
 use Rattle.encoding_kernels.specs.Units.{ends_unit, low_bits, unit_at, units_behind, ends_behind}
 use Rattle.encoding_kernels.proofs.Lanes.LaneLemmas.{HasLanes-splat, HasLanes-zip2, compared}
@@ -90,6 +92,9 @@ ends_mask v one end long h few =
 -- ---- every third byte
 pub picked_lanes : (v ks : List ℕ) → length ks ≡ 8 → HasLanes 8 (pick_l 0 v ks) (λ k. get_or v (get_or ks k 0) 0)
 picked_lanes v ks long = record { long = length-map ks (λ j. get_or v j 0) ∙ long; each = λ k l. get_or-map (λ j. get_or v j 0) ks k 0 0 (omega (arith, long)) }
+
+pub third_lanes : (v ks : List ℕ) → length v ≡ 16 → length ks ≡ 8 → T (all_below 16 ks) → HasLanes 8 (pick_l 0 (v ++ v) ks) (λ k. get_or v (get_or ks k 0) 0)
+third_lanes v ks long eight small = subst (λ xs. HasLanes 8 xs (λ k. get_or v (get_or ks k 0) 0)) (sym (pick_l_left 0 v v 16 ks long small)) (picked_lanes v ks eight)
 
 pub triple_lane : (a b d : ℕ) → (a * 0x1000 % 2 ^ 16 + (bit_and b 63 * 64 % 2 ^ 16 + bit_and d 63) % 2 ^ 16) % 2 ^ 16 ≡ a % 16 * 4096 + low_bits b d
 triple_lane a b d = let e : a * 4096 % 65536 ≡ a % 16 * 4096 = omega arith in ap (λ n. (a * 0x1000 % 2 ^ 16 + n) % 2 ^ 16) (low_lane b d) ∙ omega arith

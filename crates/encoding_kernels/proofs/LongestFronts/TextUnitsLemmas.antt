@@ -1,16 +1,16 @@
 -- UTF-16 of a text by its bytes, and writing it front by front.
-use Rattle.std.proofs.Common.{◌≡◌, ℕ, zero, suc, ◌+◌, ◌-◌, ◌*◌, ◌/◌, ◌%◌, ◌<◌, ◌≤◌, inl, inr, true, false, ◌&&◌, if◌then◌else◌, leb, ltb, List, [], ◌∷◌, ◌++◌, length, take, drop, get_or, replicate, map, bit_or, encode_utf8, encode_utf8_all, refl, sym, ap, ◌∙◌, arith, subst, take-add}
+use Rattle.std.proofs.Common.{◌≡◌, ℕ, zero, suc, ◌+◌, ◌-◌, ◌*◌, ◌/◌, ◌%◌, ◌^◌, ◌<◌, ◌≤◌, inl, inr, Bool, true, false, ◌&&◌, if◌then◌else◌, leb, ltb, List, [], ◌∷◌, ◌++◌, length, take, drop, get_or, replicate, map, bit_or, encode_utf8, encode_utf8_all, refl, sym, ap, ◌∙◌, arith, subst, take-add}
 use lib.Utf8.{scalar, scalar_cases}
 use Rattle.std.specs.Char.{IsScalar}
 use Rattle.std.specs.Char.Escape.{encode_utf16}
 use Rattle.std.specs.Str.{all_scalars, chars, IsUtf8, IsCharBoundary, IsAscii}
 use Rattle.std.specs.List.{flat_map}
-use Rattle.std.specs.Simd.Lanes.{put_chunk}
+use Rattle.std.specs.Simd.Lanes.{mask_l, put_chunk}
 use Rattle.std.proofs.str.Laws.{one, two, three, four}
 use Rattle.std.proofs.lemmas.Bool.{cond-true, cond-false, cases_lt, lt-leb, le-leb, lt-ltb, le-ltb, and_parts, and_from}
 use Rattle.std.proofs.lemmas.Grind.{same_number_lists}
-use Rattle.std.proofs.lemmas.Simd.{put_chunk_is}
-use Rattle.std.proofs.lemmas.List.{length-append, length-drop, length-take, take_at, take-take, drop_at, drop-drop, get_or-drop, get_or-take, take-append-le}
+use Rattle.std.proofs.lemmas.Simd.{length-replicate, mask_l-lt, put_chunk_is}
+use Rattle.std.proofs.lemmas.List.{length-append, length-drop, length-take, length-take-le, take-append-drop, take_at, take-take, drop_at, drop-drop, get_or-drop, get_or-take, take-append-le}
 use Rattle.std.proofs.lemmas.Str.{IsUtf8-take, IsUtf8-drop, IsUtf8-from_ascii, IsCharBoundary-after_ascii, encodes-IsAscii, encodes_same, chars-IsAscii}
 use Rattle.encoding_definitions.specs.Fronts.{WritesFront}
 use Rattle.encoding_kernels.specs.Strides.{BelowUpTo}
@@ -18,6 +18,7 @@ use Rattle.encoding_kernels.specs.Lanes.{HasLanes}
 use Rattle.encoding_kernels.specs.Units.{BeginsThree, keep, ends_unit, low_bits, triple_unit, unit_at, units_behind, upper_of, ends_behind, WritesCompressed, WritesUtf16}
 use Rattle.encoding_kernels.proofs.Lanes.CompressLemmas.{keep_pad}
 use Rattle.encoding_kernels.proofs.Lanes.LaneLemmas.{same_below}
+use Rattle.encoding_kernels.proofs.Lanes.UnitLanesLemmas.{length-ends}
 use Rattle.encoding_definitions.proofs.LongestFronts.FittingLemmas.{written_is}
 use Rattle.encoding_kernels.proofs.Latin.AsciiLemmas.{Each-take}
 
@@ -155,9 +156,25 @@ front_units zero x y a bs = refl
 front_units (suc n) x y a [] = refl
 front_units (suc n) x y a (b ∷ bs) = ap (λ us. (if ends_unit a b then unit_at x y a b ∷ [] else []) ++ us) (front_units n y a b bs)
 
-pub puts_block : (src old new us : List ℕ) (end count reach : ℕ) → IsUtf8 src → end ≤ 16 → IsCharBoundary src end → us ≡ units_behind 0 0 0 (take 16 src)
-    → WritesCompressed (take end (ends_behind 0 (take 16 src)) ++ replicate (16 - end) false) us old new count reach → WritesUtf16 src old new end count reach
-puts_block src old new us end count reach u few boundary e kept =
+-- the marks of sixteen bytes up to an end, of which the mask is made
+abbrev marks_to : List ℕ → ℕ → List Bool
+marks_to src end = take end (ends_behind 0 (take 16 src)) ++ replicate (16 - end) false
+
+marks_long : (src : List ℕ) (end : ℕ) → 16 ≤ length src → end ≤ 16 → length (marks_to src end) ≡ 16
+marks_long src end room few =
+    let size : length (ends_behind 0 (take 16 src)) ≡ 16 = length-ends 0 (take 16 src) ∙ length-take-le 16 src room in
+    omega (arith, length-append (take end (ends_behind 0 (take 16 src))) (replicate {A = Bool} (16 - end) false), length-take-le end (ends_behind 0 (take 16 src)) (omega (arith, size)), length-replicate {A = Bool} (16 - end) false)
+
+pub kept_small : (src : List ℕ) (end kept : ℕ) → 16 ≤ length src → end ≤ 16 → kept ≡ mask_l (marks_to src end) → kept < 2 ^ 16
+kept_small src end kept room few is = let small : mask_l (marks_to src end) < 2 ^ 16 = subst (λ n. mask_l (marks_to src end) < 2 ^ n) (marks_long src end room few) (mask_l-lt (marks_to src end)) in omega (arith, is)
+
+pub puts_block : (src old new first last : List ℕ) (end kept count reach : ℕ) → IsUtf8 src → 16 ≤ length src → end ≤ 16 → IsCharBoundary src end
+    → (first ≡ take 8 (units_behind 0 0 0 (take 16 src))) × (last ≡ drop 8 (units_behind 0 0 0 (take 16 src))) → kept ≡ mask_l (marks_to src end)
+    → ((marks : List Bool) → length marks ≡ 16 → kept ≡ mask_l marks → WritesCompressed marks (first ++ last) old new count reach) → WritesUtf16 src old new end count reach
+puts_block src old new first last end kept count reach u room few boundary halves is writes =
+    let us = first ++ last in
+    let e : us ≡ units_behind 0 0 0 (take 16 src) = (λ i. halves.0 i ++ halves.1 i) ∙ take-append-drop 8 (units_behind 0 0 0 (take 16 src)) in
+    let done = writes (marks_to src end) (marks_long src end room few) is in
     let text = IsUtf8-take src end u boundary in
     let cs = text.0 in
     let marks = take end (ends_behind 0 (take 16 src)) in
@@ -170,9 +187,9 @@ puts_block src old new us end count reach u few boundary e kept =
       within = boundary.0;
       spelled = text.1.1;
       rest = IsUtf8-drop src end u boundary;
-      counted = kept.counted ∙ ap length units;
-      placed = kept.placed ∙ units;
-      behind = kept.behind;
+      counted = done.counted ∙ ap length units;
+      placed = done.placed ∙ units;
+      behind = done.behind;
     }
 
 -- ---- ASCII

@@ -1,5 +1,5 @@
-use Rattle.std.proofs.Common.{arith, take, encode_utf8_all, refl, sym, subst}
-use Rattle.encoding_definitions.specs.Fronts.{WritesFront}
+use Rattle.std.proofs.Common.{arith, refl, sym, subst}
+use Rattle.encoding_kernels.specs.EncodeLanes.{WritesPlain}
 use Rattle.encoding_definitions.proofs.LongestFronts.FrontsLemmas.{WritesFront-same}
 use Rattle.encoding_kernels.proofs.Lanes.SpillsLemmas.{mended_put}
 use Rattle.encoding_kernels.proofs.Lanes.PutLemmas.{put_is}
@@ -11,17 +11,18 @@ loop-read-preserved c =
     let us = c.args.src.now in
     let here = c.loop-read.invariant in
     let call = c.convert_sixteen-bytes.ensures in
-    let plain = c.if-not-are_sixteen_plain.ensures refl in
     record {
-      within = omega arith;
-      plain = plain_then us c.loop-read.read 16 here.plain plain;
       room = omega (arith, call.most);
       long = call.kept;
-      written = WritesFront-same _ _ _ _ _ _ (mended_put c.args.dst.now c.loop-read.dst c.convert_sixteen-bytes.new.dst _ _ _ _ c.loop-read.written c.convert_sixteen-bytes.result.0 here.written here.long here.room call.count call.most.0 (omega (arith, call.most)) call.written)
-          refl (encodes_more us c.loop-read.read 16);
+      plain = record {
+        within = omega arith;
+        plain = plain_then us c.loop-read.read 16 here.plain.plain (c.if-not-are_sixteen_plain.ensures refl);
+        written = WritesFront-same _ _ _ _ _ _ (mended_put c.args.dst.now c.loop-read.dst c.convert_sixteen-bytes.new.dst _ _ _ _ c.loop-read.written c.convert_sixteen-bytes.result.0 here.plain.written here.long here.room call.count call.most.0 (omega (arith, call.most)) call.written)
+            refl (encodes_more us c.loop-read.read 16);
+      };
     }
 
-pub returns-clause-written : goal.returns-clause-written
-returns-clause-written c =
+pub returns : goal.returns
+returns c =
     let here = c.loop-read.invariant in
-    subst (λ xs. WritesFront c.args.dst.now xs c.loop-read.written (encode_utf8_all (take c.loop-read.read c.args.src.now))) (sym (put_is c.loop-read.written 16 c.loop-read.dst c.loop-read.behind here.long here.room)) here.written
+    subst (λ xs. WritesPlain c.args.src.now c.args.dst.now xs c.loop-read.read c.loop-read.written) (sym (put_is c.loop-read.written 16 c.loop-read.dst c.loop-read.behind here.long here.room)) here.plain

@@ -1,15 +1,12 @@
-use Rattle.std.proofs.Common.{◌≡◌, ◌-◌, ◌+◌, ◌≤◌, length, take, encode_utf8_all}
-use Rattle.encoding_definitions.specs.Fronts.{WritesFront}
-use Rattle.encoding_kernels.specs.EncodeLanes.{ArePlain, mended}
+use Rattle.std.proofs.Common.{◌≡◌, ◌-◌, ◌+◌, ◌≤◌, length}
+use Rattle.encoding_kernels.specs.EncodeLanes.{WritesPlain, mended}
 use Rattle.encoding_kernels.proofs.utf16_blocks.convert_dense_blocks.Given as goal
 
 abbrev pub invariant-loop-read : goal.invariant-loop-read
 invariant-loop-read l = record {
-  within : l.read ≤ length l.src;
-  plain : ArePlain (take l.read l.src);
   room : l.written + 16 ≤ length l.dst;
   long : length l.behind ≡ 16;
-  written : WritesFront l.initial.dst (mended l.dst l.written l.behind) l.written (encode_utf8_all (take l.read l.src));
+  plain : WritesPlain l.src l.initial.dst (mended l.dst l.written l.behind) l.read l.written;
 }
 
 abbrev pub decreases-loop-read : goal.decreases-loop-read

@@ -1,7 +1,15 @@
 use Rattle.std.proofs.Common.{◌++◌, arith, drop, length-take-le, sym, subst}
 use Rattle.encoding_kernels.specs.Units.{WritesUtf16}
 use Rattle.encoding_kernels.proofs.LongestFronts.TextTailLemmas.{puts_few, puts_long, puts_alone}
+use Rattle.encoding_kernels.proofs.LongestFronts.TextUnitsLemmas.{kept_small, puts_block}
 use Rattle.encoding_kernels.proofs.utf8_to_utf16.write_block_in_any_room.Goals as goal
+
+pub write_compressed_exact-requires : goal.write_compressed_exact-requires
+write_compressed_exact-requires c = (kept_small c.args.src.now c.args.end c.args.kept c.requires.room.0 c.requires.end.0 c.requires.kept, omega arith)
+
+pub returns-then-dst-ge16 : goal.returns-then-dst-ge16
+returns-then-dst-ge16 c =
+    puts_block c.args.src.now c.args.dst.now _ _ _ c.args.end c.args.kept _ _ c.requires.text c.requires.room.0 c.requires.end.0 c.requires.end.1 c.code_units.ensures c.requires.kept c.write_compressed_exact.ensures
 
 pub slice_bounds-copy_from_slice-end : goal.slice_bounds-copy_from_slice-end
 slice_bounds-copy_from_slice-end c = omega (arith, puts_few c.write_block-count.ensures, c.requires.room.1)
