@@ -174,8 +174,14 @@ pub(crate) fn triple_units(block: u8x16) -> u16x8
         (slice_index block (slice_index (2 ∷ 5 ∷ 8 ∷ 11 ∷ 14 ∷ 14 ∷ 14 ∷ 14 ∷ []) k))) }
 {
     let six = u16x8::splat(0x3F);
-    let first = block.swizzle::<8>([0, 3, 6, 9, 12, 12, 12, 12]).cast::<u16>();
-    let second = block.swizzle::<8>([1, 4, 7, 10, 13, 13, 13, 13]).cast::<u16>();
-    let third = block.swizzle::<8>([2, 5, 8, 11, 14, 14, 14, 14]).cast::<u16>();
+    let first = block
+        .swizzle::<8>([0, 3, 6, 9, 12, 12, 12, 12])
+        .cast::<u16>();
+    let second = block
+        .swizzle::<8>([1, 4, 7, 10, 13, 13, 13, 13])
+        .cast::<u16>();
+    let third = block
+        .swizzle::<8>([2, 5, 8, 11, 14, 14, 14, 14])
+        .cast::<u16>();
     first * u16x8::splat(0x1000) + ((second & six) * u16x8::splat(64) + (third & six))
 }

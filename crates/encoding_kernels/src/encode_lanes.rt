@@ -107,6 +107,7 @@ pub(crate) fn store_short(first: u16x8, second: u16x8, dst: &mut [u8], at: usize
 }
 
 /// Whether each of the eight code units is from U+0800 on, and no surrogate.
+#[tactic(auto, using(crate::proofs::Lanes::LongLemmas::all_long))]
 #[inline(always)]
 pub(crate) fn are_long(units: u16x8) -> bool
     ensures { IsTrue result → (k : ℕ) → k < 8 → (0x800 ≤ slice_index units k)
@@ -119,6 +120,7 @@ pub(crate) fn are_long(units: u16x8) -> bool
 
 /// The UTF-8 of eight code units from U+0800 on, which is three bytes for each, in two vectors. The first two bytes of each
 /// make a word and the last one another, so that no lane is wider than a code unit.
+#[tactic(auto, using(crate::proofs::Lanes::LongLemmas::long_spelled))]
 #[inline(always)]
 fn encode_long(units: u16x8) -> (u8x16, u8x8)
     requires { (k : ℕ) → k < 8 → 0x800 ≤ slice_index units k }

@@ -13,6 +13,7 @@ use std::simd::prelude::*;
 const LONG: u16 = 0x800;
 
 /// Whether none of the eight code units is a surrogate.
+#[tactic(auto, using(crate::proofs::Lanes::PlainLemmas::all_plain))]
 #[inline(always)]
 pub(crate) fn are_plain(units: u16x8) -> bool
     ensures { IsTrue result → (k : ℕ) → k < 8 → (0xD800 ≤ slice_index units k) × (slice_index units k ≤ 0xDFFF) → ⊥ }
@@ -132,6 +133,7 @@ pub(crate) fn write_eight(units: u16x8, dst: &mut [u8], at: usize) -> usize
 }
 
 /// The first of eight code units, so many, and zeros behind them.
+#[tactic(auto, using(crate::proofs::Lanes::PlainLemmas::first_lanes_are))]
 #[inline(always)]
 fn with_zeros(units: u16x8, first: usize) -> u16x8
     requires { first ≤ 8 }

@@ -58,6 +58,7 @@ fn count_from(bytes: &[u8], least: u8) -> usize
 }
 
 /// The number of bytes that the UTF-8 of each byte as a character has.
+#[tactic(auto, using(crate::proofs::Sums::TextLemmas::latin1_total))]
 pub fn utf8_length_of_latin1(bytes: &[u8]) -> usize
     ensures { result ≡ length (encode_utf8_all bytes.now) }
 {
@@ -65,6 +66,7 @@ pub fn utf8_length_of_latin1(bytes: &[u8]) -> usize
 }
 
 /// The number of characters of Latin1 text in UTF-8.
+#[tactic(auto, using(crate::proofs::Sums::TextLemmas::chars_total))]
 pub fn latin1_length_of_utf8(text: &[u8]) -> usize
     requires { IsUtf8Latin1 text.now }
     ensures { result ≡ length (chars text.now) }
@@ -119,6 +121,7 @@ fn byte_at(bytes: &[u8], at: usize) -> u8
 }
 
 /// The sum over a piece from a place on: nothing goes on with ASCII.
+#[tactic(auto, using(crate::proofs::Sums::TotalLemmas::ascii_joined))]
 #[inline(always)]
 fn piece_joined_or_ascii(bytes: &[u8], at: usize) -> usize
     requires { at + 66 ≤ length bytes.now }

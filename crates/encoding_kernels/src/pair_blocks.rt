@@ -64,6 +64,7 @@ fn has_no_surrogate(block: &[u16]) -> bool
 }
 
 /// `at`, or the place before it where a pair is cut there.
+#[tactic(auto, using(crate::proofs::Paired::PairsLemmas::valid_whole, crate::proofs::Paired::PairsLemmas::valid_cut))]
 #[inline(always)]
 fn before_cut_pair(units: &[u16], at: usize) -> usize
     requires { (0 < at) × (at ≤ length units.now) × PairUp units.now 0 at }
@@ -147,6 +148,7 @@ impl<'a, const N: usize> Places<N> for BytePairs<'a> {
 }
 
 /// `at`, or the beginning of the character that is cut there.
+#[tactic(auto, using(crate::proofs::Paired::PairsLemmas::latin1_whole, crate::proofs::Paired::PairsLemmas::latin1_cut))]
 #[inline(always)]
 fn before_cut_character(bytes: &[u8], at: usize) -> usize
     requires { (0 < at) × (at ≤ length bytes.now) × FitLatin1 bytes.now 0 at }

@@ -8,6 +8,7 @@ use crate::compress_pairs::keep_pairs;
 use std::simd::prelude::*;
 
 /// Sixteen bytes in pairs: for each pair the Latin1 bytes that its bytes end, and no matter what behind one alone.
+#[tactic(auto, using(crate::proofs::Lanes::EndsLemmas::pairs_end))]
 #[inline(always)]
 fn ended_pairs(block: u8x16) -> u8x16
     ensures long { length result ≡ 16 }
@@ -29,6 +30,7 @@ fn ended_pairs(block: u8x16) -> u8x16
 }
 
 /// The mask of the pairs of bytes that each end a byte of Latin1.
+#[tactic(auto, using(crate::proofs::Lanes::EndsLemmas::mask_ends, crate::proofs::Lanes::EndsLemmas::mask_small))]
 #[inline(always)]
 fn mask_of_ends(block: u8x16) -> usize
     ensures small { result < 256 }

@@ -134,6 +134,7 @@ fn begins_triples(src: &[u8]) -> bool
 }
 
 /// Writes the UTF-16 of the first five characters, of three bytes each.
+#[tactic(auto, using(crate::proofs::LongestFronts::TextUnitsLemmas::puts_triples))]
 #[inline(always)]
 fn write_triples(src: &[u8], dst: &mut [u16])
     requires room { (16 ≤ length src.now) × (8 ≤ length dst.old) }
@@ -183,6 +184,7 @@ fn write_character(src: &[u8], dst: &mut [u16]) -> (usize, usize)
 
 /// Writes the UTF-16 of some first characters, and returns how many bytes and code units these are. What is due behind
 /// them may have changed too.
+#[tactic(auto, using(crate::proofs::LongestFronts::TextLoopLemmas::due_exact, crate::proofs::LongestFronts::TextLoopLemmas::due_triples, crate::proofs::LongestFronts::TextLoopLemmas::due_block))]
 #[inline(always)]
 fn write_some(src: &[u8], dst: &mut [u16]) -> (usize, usize)
     requires room { (16 < length src.now) × (length src.now ≤ length dst.old) }
