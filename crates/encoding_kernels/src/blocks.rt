@@ -4,7 +4,7 @@ ghost use Rattle.std.specs.Str.{IsUtf8};
 ghost use Rattle.encoding_kernels.specs.Following.{FollowTo};
 ghost use Rattle.encoding_kernels.specs.Strides.{BelowBetween, BelowUpTo};
 
-use crate::faults::{faults, faults_32, first_faults, first_faults_32, is_zero, zeros, zeros_32};
+use crate::faults::{faults, faults_32, first_faults, first_faults_32, is_zero, zeros};
 use crate::places::{all, skip};
 use crate::sequence::{begins_several, is_continuation};
 use crate::strides::{
@@ -24,11 +24,11 @@ fn clean_of_64(src: &[u8], at: usize) -> usize
     if is_zero(first | second) {
         return 64;
     }
-    let clean = zeros_32(first);
+    let clean = zeros(first);
     if clean < 32 {
         return clean;
     }
-    32 + zeros_32(second)
+    32 + zeros(second)
 }
 
 /// How many of the 256 bytes from `at` on come before the first that may not stand behind the three before it.
@@ -62,11 +62,11 @@ fn clean_of_first_64(src: &[u8]) -> usize
     if is_zero(first | second) {
         return last + 32;
     }
-    let clean = zeros_32(first);
+    let clean = zeros(first);
     if clean < 32 {
         return clean;
     }
-    last + zeros_32(second)
+    last + zeros(second)
 }
 
 /// How many of at least sixteen bytes may each stand behind those before it, up to the first that may not or to the 32nd.

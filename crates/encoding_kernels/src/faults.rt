@@ -3,6 +3,8 @@
 ghost use Rattle.std.specs.Prelude.{◌≡◌, ℕ, ◌+◌, ◌<◌, ◌≤◌, length, slice_index, IsTrue};
 ghost use Rattle.encoding_kernels.specs.Following.{IsZeroTo, Follows, FollowsAt};
 
+use crate::places::run_before;
+use std::simd::Simd;
 use std::simd::prelude::*;
 
 /// The faults that the upper half of the byte before leaves open, a bit each; twice, once for each sixteen lanes.
@@ -162,28 +164,10 @@ pub(crate) fn is_zero(lanes: u8x32) -> bool
 
 /// How many lanes stand before the first that isn't zero.
 #[inline(always)]
-pub(crate) fn zeros(lanes: u8x16) -> usize
-    ensures within { result ≤ 16 }
-    ensures zeros { IsZeroTo lanes result }
+pub(crate) fn zeros<const N: usize>(lanes: Simd<u8, N>) -> usize
+    requires { N ≤ 64 }
+    ensures within { result ≤ N }
+    ensures zeros { IsZeroTo lanes.entry result }
 {
-    let bits = lanes.simd_ne(u8x16::splat(0)).to_bitmask();
-    if bits == 0 {
-        16
-    } else {
-        bits.trailing_zeros() as usize
-    }
-}
-
-/// How many of 32 lanes stand before the first that isn't zero.
-#[inline(always)]
-pub(crate) fn zeros_32(lanes: u8x32) -> usize
-    ensures within { result ≤ 32 }
-    ensures zeros { IsZeroTo lanes result }
-{
-    let bits = lanes.simd_ne(u8x32::splat(0)).to_bitmask();
-    if bits == 0 {
-        32
-    } else {
-        bits.trailing_zeros() as usize
-    }
+    run_before::<N>(lanes.simd_ne(Simd::splat(0)).to_bitmask())
 }

@@ -16,8 +16,8 @@ use Rattle.std.specs.Simd.Lanes.{mask_l, number_l, digits_l, pick_l, zip2, sel_l
 use Rattle.encoding_kernels.specs.Lanes.{HasLanes}
 use Rattle.encoding_kernels.specs.EncodeLanes.{last_places, classes, EncodesLast}
 use Rattle.encoding_kernels.proofs.Lanes.CompressLemmas.{mask_append}
-use Rattle.encoding_kernels.proofs.Lanes.LaneLemmas.{HasLanes-itself, HasLanes-numbers, HasLanes-same, HasLanes-splat, HasLanes-zip2, IsFirstSet, compared, firsts_are, mask_of, same_below}
-use Rattle.encoding_kernels.proofs.Lanes.TestLemmas.{HasTests, tests_of, chosen, chosen_by, none_passes, none_is_first, lowest_is_first}
+use Rattle.encoding_kernels.proofs.Lanes.LaneLemmas.{HasLanes-itself, HasLanes-numbers, HasLanes-same, HasLanes-splat, HasLanes-zip2, compared, firsts_are, mask_of, same_below}
+use Rattle.encoding_kernels.proofs.Lanes.TestLemmas.{HasTests, tests_of, chosen, chosen_by, none_passes, run_is_first}
 use Rattle.encoding_kernels.proofs.Lanes.EncodeLanesLemmas.{looked_up, mask_from, pick}
 use Rattle.encoding_kernels.proofs.Lanes.UnitLanesLemmas.{picked_lanes}
 
@@ -42,11 +42,7 @@ module _ (us : List ℕ) (long : length us ≡ 8) (fit : Each1 (Fits w16) us) wh
   pub before_first : (r : ℕ) → (mask_of 15 (surrogates us) ≡ 0 → r ≡ 8) → (0 < mask_of 15 (surrogates us) → r ≡ count_trailing_zeros 64 (mask_of 15 (surrogates us)))
       → (r ≤ 8) × ((k : ℕ) → k < r → (0xD800 ≤ get_or us k 0) × (get_or us k 0 ≤ 0xDFFF) → ⊥)
   before_first r none some =
-      let Is = λ (n : ℕ). IsFirstSet 8 n (λ k. eqb (bit_and (get_or us k 0) 0xF800) 0xD800) in
-      let first : Is r = elim (cases_lt 0 (mask_of 15 (surrogates us))) [
-        | inl l ↦ subst Is (sym (some l)) (lowest_is_first tests (omega arith) l)
-        | inr l ↦ let e : mask_of 15 (surrogates us) ≡ 0 = omega arith in subst Is (sym (none e)) (none_is_first tests (omega arith) e)
-      ] in
+      let first = run_is_first tests (omega arith) r none some in
       (first.within, λ k l. plain_lane k (omega (arith, first.within)) (first.before k l))
 
 -- ---- the first ones alone

@@ -1,6 +1,6 @@
 -- Masks as tests of lanes: joined, chosen by, and what holds where no lane passes.
-use Rattle.std.proofs.Common.{◌≡◌, ℕ, ◌-◌, ◌^◌, ◌+◌, ◌<◌, ◌≤◌, ◌↔◌, IsTrue, Bool, true, false, not, cond, ◌&&◌, ◌||◌, eqb, List, map, replicate, bit_and, bit_or, bit_xor, refl, sym, ap, ◌∙◌, arith, subst}
-use Rattle.std.proofs.lemmas.Bool.{false≢true}
+use Rattle.std.proofs.Common.{◌≡◌, ℕ, ◌-◌, ◌^◌, ◌+◌, ◌<◌, ◌≤◌, ◌↔◌, IsTrue, Bool, true, false, not, cond, ◌&&◌, ◌||◌, eqb, inl, inr, List, map, replicate, bit_and, bit_or, bit_xor, refl, sym, ap, ◌∙◌, arith, subst}
+use Rattle.std.proofs.lemmas.Bool.{cases_lt, false≢true}
 use Rattle.std.specs.Int.Bits.{and_self, and_zero_l, and_zero_r, or_self, or_zero_l, or_zero_r, xor_self, xor_zero_l, xor_zero_r}
 use Rattle.std.specs.Simd.Lanes.{zip2, top, sel_l}
 use Rattle.std.proofs.lemmas.Simd.{trailing_mask_l}
@@ -74,6 +74,13 @@ module _ {w : Width} {n : ℕ} {a : List ℕ} {t : ℕ → Bool} where
   lowest_is_first p few some =
       let is = mask_is (hbits w) n a p.lanes.long few in
       of_tests w (first_set (hbits w) p.lanes few _ (ap (count_trailing_zeros 64) is ∙ trailing_mask_l (top (hbits w)) 64 a (omega (arith, p.lanes.long)) (omega (arith, is))))
+
+  -- both, as a run tells it
+  pub run_is_first : HasTests w n a t → n ≤ 64 → (r : ℕ) → (mask_of (hbits w) a ≡ 0 → r ≡ n) → (0 < mask_of (hbits w) a → r ≡ count_trailing_zeros 64 (mask_of (hbits w) a)) → IsFirstSet n r t
+  run_is_first p few r none some = elim (cases_lt 0 (mask_of (hbits w) a)) [
+    | inl l ↦ subst (λ k. IsFirstSet n k t) (sym (some l)) (lowest_is_first p few l)
+    | inr l ↦ let e : mask_of (hbits w) a ≡ 0 = omega arith in subst (λ k. IsFirstSet n k t) (sym (none e)) (none_is_first p few e)
+  ]
 
   -- of the places from one on, whose tests the lanes are
   pub marks_of : (P : ℕ → Type 0) (at : ℕ) → HasTests w n a t → n ≤ 64 → ((k : ℕ) → k < n → (t k ≡ false) ↔ P (at + k)) → Marks P at n (mask_of (hbits w) a)

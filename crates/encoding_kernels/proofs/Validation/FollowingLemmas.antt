@@ -5,7 +5,7 @@ use Rattle.std.proofs.lemmas.Bool.{cases_lt}
 use Rattle.std.proofs.lemmas.Bool.Decides.{nat_tests}
 use Rattle.std.proofs.lemmas.Str.{IsUtf8-nil}
 use Rattle.std.proofs.Math.Seq.{drop-cons}
-use Rattle.std.proofs.lemmas.List.{get_or-drop, get_or-take, length-append, length-replicate, length-take}
+use Rattle.std.proofs.lemmas.List.{get_or-append_right, get_or-drop, get_or-take, length-append, length-replicate, length-take}
 use Rattle.std.proofs.lemmas.Simd.{get_or-chunk, pick_l-range_with_len}
 use Rattle.std.specs.List.{range_with_len}
 use lib.Lanes.{chunk, pick_l}
@@ -102,19 +102,13 @@ IsUtf8_following bs n within end (suc fuel) at room le follows closed front = el
 
 -- ---- the bytes before, by their places
 pub one_before : (bs : List ℕ) (n : ℕ) → 1 ≤ n → get_or (0 ∷ bs) n 0 ≡ get_or bs (n - 1) 0
-one_before bs zero h = absurd (omega arith)
-one_before bs (suc n) h = ap (λ k. get_or bs k 0) (omega arith)
+one_before bs n h = get_or-append_right (0 ∷ []) bs 1 n 0 refl h
 
-pub two_before : (bs : List ℕ) (n : ℕ) → 2 ≤ n → get_or (0 ∷ 0 ∷ bs) n 0 ≡ get_or bs (n - 2) 0
-two_before bs zero h = absurd (omega arith)
-two_before bs (suc zero) h = absurd (omega arith)
-two_before bs (suc (suc n)) h = ap (λ k. get_or bs k 0) (omega arith)
+two_before : (bs : List ℕ) (n : ℕ) → 2 ≤ n → get_or (0 ∷ 0 ∷ bs) n 0 ≡ get_or bs (n - 2) 0
+two_before bs n h = get_or-append_right (0 ∷ 0 ∷ []) bs 2 n 0 refl h
 
-pub three_before : (bs : List ℕ) (n : ℕ) → 3 ≤ n → get_or (0 ∷ 0 ∷ 0 ∷ bs) n 0 ≡ get_or bs (n - 3) 0
-three_before bs zero h = absurd (omega arith)
-three_before bs (suc zero) h = absurd (omega arith)
-three_before bs (suc (suc zero)) h = absurd (omega arith)
-three_before bs (suc (suc (suc n))) h = ap (λ k. get_or bs k 0) (omega arith)
+three_before : (bs : List ℕ) (n : ℕ) → 3 ≤ n → get_or (0 ∷ 0 ∷ 0 ∷ bs) n 0 ≡ get_or bs (n - 3) 0
+three_before bs n h = get_or-append_right (0 ∷ 0 ∷ 0 ∷ []) bs 3 n 0 refl h
 
 moved : {x y a b x2 y2 a2 b2 : ℕ} → x ≡ x2 → y ≡ y2 → a ≡ a2 → b ≡ b2 → Follows x y a b → Follows x2 y2 a2 b2
 moved {x} {y} {a} {b} {x2} {y2} {a2} {b2} p q r s f =

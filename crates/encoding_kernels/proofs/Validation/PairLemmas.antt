@@ -1,12 +1,14 @@
 -- What the three look-ups tell of two neighbouring bytes, and what a lane that is zero tells of four.
-use Rattle.std.proofs.Common.{◌≡◌, ℕ, zero, suc, ◌+◌, ◌-◌, ◌*◌, ◌/◌, ◌<◌, ◌≤◌, ◌⊎◌, inl, inr, Bool, true, ◌&&◌, ◌||◌, ◌==◌, if◌then◌else◌, sym, false, get_or, bit_and, bit_or, bit_xor, refl, arith, nat_le, nat_lt, eq-eqb}
+use Rattle.std.proofs.Common.{◌≡◌, ℕ, zero, suc, ◌+◌, ◌-◌, ◌*◌, ◌/◌, ◌<◌, ◌≤◌, ◌⊎◌, inl, inr, Bool, true, ◌&&◌, ◌||◌, ◌==◌, if◌then◌else◌, sym, false, map, [], get_or, bit_and, bit_or, bit_xor, refl, arith, nat_le, nat_lt, eq-eqb}
 use Rattle.std.proofs.lemmas.Bool.{and_parts, cases_lt, true≢false}
-use Rattle.std.proofs.lemmas.Bool.Decides.{nat_tests, Decides-below_and}
+use Rattle.std.proofs.lemmas.Bool.Decides.{nat_tests}
 use Rattle.std.proofs.lemmas.Nat.Bits.{and_pow, bit_at_or}
+use Rattle.std.specs.List.{range_with_len}
 use Rattle.encoding_kernels.specs.declared.faults.TheConstants.{FIRST_HIGH, FIRST_LOW, SECOND_HIGH}
 use Rattle.encoding_kernels.specs.Following.{Follows}
 use Rattle.encoding_definitions.specs.Sequence.{IsContinuation, IsSecond}
 use Rattle.encoding_definitions.proofs.Sequences.SequenceLemmas.{is_second}
+use Rattle.encoding_kernels.proofs.Lanes.LaneLemmas.{same_below}
 
 -- ---- two bytes
 -- the faults that the tables leave of a byte a and a byte behind it whose upper half is h
@@ -26,23 +28,9 @@ continues a h = nat_lt a 0xC0 && (nat_le 8 h && nat_lt h 12)
 abbrev told : ℕ → ℕ → Bool
 told a h = (if bit_xor 0 (pair a h) == 0 then clear a h else true) && (if bit_xor 0x80 (pair a h) == 0 then continues a h else true)
 
-abbrev told_below : ℕ → ℕ → Bool
-told_below a zero = true
-told_below a (suc h) = told a h && told_below a h
-
-abbrev all_told_below : ℕ → Bool
-all_told_below zero = true
-all_told_below (suc a) = told_below a 16 && all_told_below a
-
--- all 256 bytes, with all 16 halves of the byte behind them
-computed : all_told_below 256 ≡ true
-computed = refl
-
+-- of all 256 bytes, with all 16 halves of the byte behind them
 is_told : (a h : ℕ) → a < 256 → h < 16 → told a h ≡ true
-is_told a h l k =
-    let bytes = Decides-below_and (λ x. told_below x 16) (λ x. told_below x 16 ≡ true) all_told_below (λ x. ((λ e. e), (λ e. e))) refl (λ _. refl) 256 in
-    let halves = Decides-below_and (told a) (λ x. told a x ≡ true) (told_below a) (λ x. ((λ e. e), (λ e. e))) refl (λ _. refl) 16 in
-    halves.0 (bytes.0 computed a l) h k
+is_told a h l k = same_below (told a) (λ _. true) true 16 (same_below (λ x. map (told x) (range_with_len 0 16)) (λ _. map (λ _. true) (range_with_len 0 16)) [] 256 refl a l) h k
 
 where_tested : (test inner : Bool) → (if test then inner else true) ≡ true → test ≡ true → inner ≡ true
 where_tested true inner e t = e

@@ -13,14 +13,14 @@ returns-then-is_zero-clause-follow c front =
 
 pub returns-then-clean-lt32-clause-follow : goal.returns-then-clean-lt32-clause-follow
 returns-then-clean-lt32-clause-follow c front =
-    let clean = c.zeros_32-clean.ensures in
-    FollowTo-more c.args.src.now c.args.at c.zeros_32-clean.result front (λ i l. c.faults_32-first.ensures.lanes i (omega (arith, clean.within)) (clean.zeros.each i l))
+    let clean = c.zeros-clean.ensures in
+    FollowTo-more c.args.src.now c.args.at c.zeros-clean.result front (λ i l. c.faults_32-first.ensures.lanes i (omega (arith, clean.within)) (clean.zeros.each i l))
 
 pub returns-clause-follow : goal.returns-clause-follow
 returns-clause-follow c front =
     let bs = c.args.src.now in
-    let clean = c.zeros_32-clean.ensures in
-    let more = c.zeros_32.ensures in
+    let clean = c.zeros-clean.ensures in
+    let more = c.zeros.ensures in
     let half = FollowTo-more bs c.args.at 32 front (λ i l. c.faults_32-first.ensures.lanes i l (clean.zeros.each i (omega (arith, c.if-clean-lt32.false)))) in
-    let e : c.args.at + 32 + c.zeros_32.result ≡ c.args.at + (32 + c.zeros_32.result) = omega arith in
-    subst (FollowTo bs) e (FollowTo-more bs (c.args.at + 32) c.zeros_32.result half (λ i l. c.faults_32-second.ensures.lanes i (omega (arith, more.within)) (more.zeros.each i l)))
+    let e : c.args.at + 32 + c.zeros.result ≡ c.args.at + (32 + c.zeros.result) = omega arith in
+    subst (FollowTo bs) e (FollowTo-more bs (c.args.at + 32) c.zeros.result half (λ i l. c.faults_32-second.ensures.lanes i (omega (arith, more.within)) (more.zeros.each i l)))

@@ -13,7 +13,7 @@ returns-then-is_zero-clause-follow c =
 
 pub returns-clause-follow : goal.returns-clause-follow
 returns-clause-follow c =
-    let last = c.zeros_32.ensures in
-    FollowTo-over c.args.src.now 32 c.min-last.result c.zeros_32.result (omega (arith, c.min-last.ensures))
-    (record { each = λ i l. c.first_faults_32-first.ensures.lanes i l (c.zeros_32-clean.ensures.zeros.each i (omega (arith, c.if-clean-lt32.false))) })
+    let last = c.zeros.ensures in
+    FollowTo-over c.args.src.now 32 c.min-last.result c.zeros.result (omega (arith, c.min-last.ensures))
+    (record { each = λ i l. c.first_faults_32-first.ensures.lanes i l (c.zeros-clean.ensures.zeros.each i (omega (arith, c.if-clean-lt32.false))) })
     (λ i l. c.faults_32-second.ensures.lanes i (omega (arith, last.within)) (last.zeros.each i l))
