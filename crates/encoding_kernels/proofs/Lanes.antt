@@ -15,4 +15,5 @@ pub mod StoresLemmas
 pub mod TestLemmas
 pub mod UnitBytesLemmas
 pub mod UnitLanesLemmas
+pub mod WordLemmas
 pub mod ZerosLemmas

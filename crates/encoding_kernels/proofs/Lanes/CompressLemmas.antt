@@ -12,6 +12,7 @@ use Rattle.std.proofs.lemmas.List.{length-map, length-append, length-take-le, le
 use Rattle.std.proofs.lemmas.Simd.{SwzOk, SwzOk-from_below, swz_l, length-swz_l, get_or-swz_l_below, Each1-from_get_or, Each1-get_or, get_or_wider, get_or_narrower, mask_l-lt, ones-mask_l_cons, put_chunk_is}
 use Rattle.encoding_kernels.specs.declared.compress_units.TheConstants.{COMPRESSED}
 use Rattle.encoding_kernels.specs.Lanes.{HasLanes}
+use Rattle.encoding_kernels.proofs.Lanes.WordLemmas.{bytes_lanes, wide, wide_l}
 use Rattle.encoding_kernels.proofs.Lanes.LaneLemmas.{HasLanes-itself, HasLanes-numbers, HasLanes-splat, HasLanes-zip2, HasLanes-select, HasLanes-same, compared, top_compared, firsts_are, same_below}
 use Rattle.encoding_kernels.specs.Units.{keep, places_from, compressed_places, bytes_at, byte_places, WritesCompressed}
 
@@ -66,21 +67,18 @@ even_at [] j l = absurd (omega arith)
 even_at (k ∷ ks) zero l = refl
 even_at (k ∷ ks) (suc j) l = ap (λ n. get_or (bytes_at (k ∷ ks)) n 0) {x = 2 * suc j} {y = suc (suc (2 * j))} (omega arith) ∙ even_at ks j (omega arith)
 
-odd_at : (ks : List ℕ) (j : ℕ) → j < length ks → get_or (bytes_at ks) (suc (2 * j)) 0 ≡ 2 * get_or ks j 0 + 1
+odd_at : (ks : List ℕ) (j : ℕ) → j < length ks → get_or (bytes_at ks) (2 * j + 1) 0 ≡ 2 * get_or ks j 0 + 1
 unfolding bytes_at
 odd_at [] j l = absurd (omega arith)
 odd_at (k ∷ ks) zero l = refl
-odd_at (k ∷ ks) (suc j) l = ap (λ n. get_or (bytes_at (k ∷ ks)) n 0) {x = suc (2 * suc j)} {y = suc (suc (suc (2 * j)))} (omega arith) ∙ odd_at ks j (omega arith)
+odd_at (k ∷ ks) (suc j) l = ap (λ n. get_or (bytes_at (k ∷ ks)) n 0) {x = 2 * suc j + 1} {y = suc (suc (2 * j + 1))} (omega arith) ∙ odd_at ks j (omega arith)
 
 digit_small : (n x i : ℕ) → get_or (digits_l 256 n x) i 0 < 256
 digit_small zero x i = omega arith
 digit_small (suc n) x zero = omega arith
 digit_small (suc n) x (suc i) = digit_small n (x / 256) i
 
-take_two : (bs : List ℕ) (at : ℕ) → suc at < length bs → take 2 (drop at bs) ≡ get_or bs at 0 ∷ get_or bs (suc at) 0 ∷ []
-take_two bs at h = ap (take 2) (drop-cons bs at 0 (omega arith)) ∙ ap (λ r. get_or bs at 0 ∷ take 1 r) (drop-cons bs (suc at) 0 h)
-
-module _ (us : List ℕ) (fit : Each1 (λ x. x < 65536) us) (m : ℕ) (l : m < 256) where
+module _ (us : List ℕ) (eight : length us ≡ 8) (fit : Each1 (λ x. x < 65536) us) (m : ℕ) (l : m < 256) where
   abbrev ks : List ℕ
   ks = compressed_places m
 
@@ -105,30 +103,17 @@ module _ (us : List ℕ) (fit : Each1 (λ x. x < 65536) us) (m : ℕ) (l : m < 2
       let small = Each1-get_or (λ j. j < 16) (byte_places m) i 0 (omega (arith, bytes_long m l)) (bytes_small m l) in
       subst (λ x. x < 256) (sym (picked_at i _ in_16 refl small)) (digit_small 16 (number_l 65536 us) _))
 
-  compressed_at : (j : ℕ) → j < 8 → get_or (digits_l 65536 8 (number_l 256 picked)) j 0 ≡ get_or us (get_or ks j 0) 0
+  compressed_at : (j : ℕ) → j < 8 → get_or (wide_l picked) j 0 ≡ get_or us (get_or ks j 0) 0
   unfolding byte_places
   compressed_at j h =
       let k = get_or ks j 0 in
-      let u = get_or us k 0 in
       let small = places_small m l j h in
       let in_ks : j < length ks = omega (arith, places_long m l) in
-      let low : get_or picked (2 * j) 0 ≡ u / 256 ^ 0 % 256 =
-      picked_at (2 * j) (2 * k + 0) (omega arith) (even_at ks j in_ks ∙ omega arith) (omega (arith, small)) ∙ get_or_narrower 65536 2 256 16 us k 0 refl fit (omega arith) (omega (arith, small)) in
-      let high : get_or picked (suc (2 * j)) 0 ≡ u / 256 ^ 1 % 256 =
-      picked_at (suc (2 * j)) (2 * k + 1) (omega arith) (odd_at ks j in_ks) (omega (arith, small)) ∙ get_or_narrower 65536 2 256 16 us k 1 refl fit (omega arith) (omega (arith, small)) in
-      let bound : u < 65536 = fits_at k in
-      get_or_wider 256 2 65536 8 picked j refl picked_small h ∙ ap (number_l 256) (take_two picked (2 * j) (omega (arith, picked_long))) ∙ joined _ _ u low high bound
-    where
-      fits_at : (k : ℕ) → get_or us k 0 < 65536
-      fits_at k = each_or us k fit
-        where
-          each_or : (xs : List ℕ) (i : ℕ) → Each1 (λ x. x < 65536) xs → get_or xs i 0 < 65536
-          each_or [] i e = omega arith
-          each_or (x ∷ xs) zero e = e.0
-          each_or (x ∷ xs) (suc i) e = each_or xs i e.1
-
-      joined : (p q u : ℕ) → p ≡ u / 256 ^ 0 % 256 → q ≡ u / 256 ^ 1 % 256 → u < 65536 → number_l 256 (p ∷ q ∷ []) ≡ u
-      joined p q u e f b = let e1 : p ≡ u % 256 = e ∙ omega arith in let f1 : q ≡ u / 256 % 256 = f ∙ omega arith in omega arith
+      let two = bytes_lanes (HasLanes-itself 8 us eight) (λ i b. Each1-get_or (λ x. x < 65536) us i 0 (omega (arith, eight)) fit) k small in
+      let low : get_or picked (2 * j) 0 ≡ get_or us k 0 % 256 = picked_at (2 * j) (2 * k) (omega arith) (even_at ks j in_ks) (omega (arith, small)) ∙ two.0 in
+      let high : get_or picked (2 * j + 1) 0 ≡ get_or us k 0 / 256 = picked_at (2 * j + 1) (2 * k + 1) (omega arith) (odd_at ks j in_ks) (omega (arith, small)) ∙ two.1 in
+      let whole : get_or us k 0 % 256 + 256 * (get_or us k 0 / 256) ≡ get_or us k 0 = omega arith in
+      (wide picked picked_long picked_small).each j h ∙ (λ i. low i + 256 * high i) ∙ whole
 
   pub compressed : digits_l 65536 8 (number_l 256 picked) ≡ map (λ k. get_or us k 0) (compressed_places m)
   compressed = same_number_lists _ _ (sym (length-map (compressed_places m) (λ k. get_or us k 0) ∙ places_long m l)) (λ j h.

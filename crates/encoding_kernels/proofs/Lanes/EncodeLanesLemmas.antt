@@ -16,7 +16,9 @@ use mir.Syntax.{Width, w8}
 use mir.Val.{hbits}
 use Rattle.encoding_kernels.specs.Lanes.{HasLanes}
 use Rattle.encoding_kernels.specs.EncodeLanes.{kept_places, EncodesTo}
-use Rattle.encoding_kernels.proofs.Lanes.LaneLemmas.{HasLanes-itself, HasLanes-splat, HasLanes-zip2, HasLanes-select, HasLanes-swizzle, compared, top_compared, mask_of}
+use Rattle.encoding_kernels.proofs.Lanes.LaneLemmas.{HasLanes-itself, HasLanes-splat, HasLanes-zip2, HasLanes-swizzle, compared, mask_of}
+use Rattle.encoding_kernels.proofs.Lanes.TestLemmas.{chosen_by, tests_of}
+use Rattle.encoding_kernels.proofs.Lanes.WordLemmas.{bytes_of, bytes_lanes}
 
 -- ---- how many places are kept
 ones-none : count_ones 0 ≡ 0
@@ -72,10 +74,10 @@ spelled_short us bytes l spells =
 abbrev pub both : ℕ → ℕ
 both u = ((u / 2 ^ 6 + bit_and u 0x3F * 2 ^ 8 % 2 ^ 16) % 2 ^ 16 + 0x80C0) % 2 ^ 16
 
-both_is : (u : ℕ) → u < 0x800 → (both u % 256 ≡ 192 + u / 64) × (both u / 256 % 256 ≡ 128 + u % 64)
+both_is : (u : ℕ) → u < 0x800 → (both u % 256 ≡ 192 + u / 64) × (both u / 256 ≡ 128 + u % 64)
 both_is u l = let low : bit_and u 0x3F ≡ u % 2 ^ 6 = and_mask u 6 in (omega arith, omega arith)
 
-pub EncodesTo-word : (u : ℕ) → u < 0x800 → EncodesTo u (cond (nat_le 0x80 u) (both u) u % 256) (cond (nat_le 0x80 u) (both u) u / 256 % 256)
+pub EncodesTo-word : (u : ℕ) → u < 0x800 → EncodesTo u (cond (nat_le 0x80 u) (both u) u % 256) (cond (nat_le 0x80 u) (both u) u / 256)
 EncodesTo-word u l = elim (cases_lt u 0x80) [
   | inl low ↦
       let test : nat_le 0x80 u ≡ false = grind (arith, nat_tests) in
@@ -99,7 +101,7 @@ small_mask us long =
     let eight : length (map (nat_le 0x80) us) ≡ 8 = length-map us (nat_le 0x80) ∙ long in
     subst (λ n. mask_l (map (nat_le 0x80) us) < 2 ^ n) eight (mask_l-lt (map (nat_le 0x80) us))
 
-respell : (u : ℕ) {x y x2 y2 : ℕ} → x ≡ x2 → y ≡ y2 → EncodesTo u x2 y2 → EncodesTo u x y
+pub respell : (u : ℕ) {x y x2 y2 : ℕ} → x ≡ x2 → y ≡ y2 → EncodesTo u x2 y2 → EncodesTo u x y
 respell u {x} {y} {x2} {y2} p q s = subst (λ k. EncodesTo u k y) (sym p) (subst (EncodesTo u x2) (sym q) s)
 
 pub pick : (b : Bool) (x y : ℕ) → x < 65536 → y < 65536 → cond b x y < 65536
@@ -116,25 +118,13 @@ both_lanes us long =
     let last = HasLanes-zip2 (λ a b. a * 2 ^ b % 2 ^ 16) (HasLanes-zip2 bit_and lanes (HasLanes-splat 8 0x3F)) (HasLanes-splat 8 8) in
     HasLanes-zip2 (λ a b. (a + b) % 2 ^ 16) (HasLanes-zip2 (λ a b. (a + b) % 2 ^ 16) lead last) (HasLanes-splat 8 0x80C0)
 
-pub words_spell : (us words : List ℕ) (k : ℕ) → length us ≡ 8 → ((i : ℕ) → get_or us i 0 < 0x800) → words ≡ sel_l (map (top 15) (zip2 (compared w16 leb) (replicate 8 0x80) us))
+abbrev pub both_words : List ℕ → List ℕ
+both_words us = sel_l (map (top 15) (zip2 (compared w16 leb) (replicate 8 0x80) us))
     (zip2 (λ a b. (a + b) % 2 ^ 16) (zip2 (λ a b. (a + b) % 2 ^ 16) (zip2 (λ a b. a / 2 ^ b) us (replicate 8 6)) (zip2 (λ a b. a * 2 ^ b % 2 ^ 16) (zip2 bit_and us (replicate 8 0x3F)) (replicate 8 8))) (replicate 8 0x80C0)) us
-    → k < 8 → EncodesTo (get_or us k 0) (get_or (digits_l 256 16 (number_l 65536 words)) (2 * k) 0) (get_or (digits_l 256 16 (number_l 65536 words)) (2 * k + 1) 0)
-words_spell us words k long small is l =
+
+pub words_spell : (us : List ℕ) → length us ≡ 8 → ((i : ℕ) → get_or us i 0 < 0x800) → (k : ℕ) → k < 8 → EncodesTo (get_or us k 0) (get_or (bytes_of (both_words us)) (2 * k) 0) (get_or (bytes_of (both_words us)) (2 * k + 1) 0)
+words_spell us long small k l =
     let lanes = HasLanes-itself 8 us long in
-    let tests = HasLanes-zip2 (compared w16 leb) (HasLanes-splat 8 0x80) lanes in
-    let chosen = HasLanes-select 15 tests (both_lanes us long) lanes in
-    let word : (i : ℕ) → i < 8 → get_or words i 0 ≡ cond (nat_le 0x80 (get_or us i 0)) (both (get_or us i 0)) (get_or us i 0) = λ i m.
-    ap (λ xs. get_or xs i 0) is ∙ chosen.each i m ∙ ap (λ b. cond b (both (get_or us i 0)) (get_or us i 0)) (top_compared w16 (leb 0x80 (get_or us i 0))) in
-    let fit : Each1 (λ x. x < 65536) words = Each1-from_get_or (λ x. x < 65536) words 0 (λ i m. word_small i (omega (arith, ap length is, chosen.long)) (word i (omega (arith, ap length is, chosen.long)))) in
-    let chosen_word = cond (nat_le 0x80 (get_or us k 0)) (both (get_or us k 0)) (get_or us k 0) in
-    let first = get_or_narrower 65536 2 256 16 words k 0 (omega arith) fit (omega arith) (omega arith) in
-    let second = get_or_narrower 65536 2 256 16 words k 1 (omega arith) fit (omega arith) (omega arith) in
-    let place : 2 * k ≡ 2 * k + 0 = omega arith in
-    let low : chosen_word / 256 ^ 0 % 256 ≡ chosen_word % 256 = omega arith in
-    let high : chosen_word / 256 ^ 1 % 256 ≡ chosen_word / 256 % 256 = omega arith in
-    respell (get_or us k 0)
-    (ap (λ j. get_or (digits_l 256 16 (number_l 65536 words)) j 0) place ∙ first ∙ ap (λ x. x / 256 ^ 0 % 256) (word k l) ∙ low)
-    (second ∙ ap (λ x. x / 256 ^ 1 % 256) (word k l) ∙ high) (EncodesTo-word (get_or us k 0) (small k))
-  where
-    word_small : (i : ℕ) → i < 8 → get_or words i 0 ≡ cond (nat_le 0x80 (get_or us i 0)) (both (get_or us i 0)) (get_or us i 0) → get_or words i 0 < 65536
-    word_small i m e = rw e (pick (nat_le 0x80 (get_or us i 0)) (both (get_or us i 0)) (get_or us i 0) (omega arith) (omega (arith, small i)))
+    let words = chosen_by (tests_of w16 leb (HasLanes-splat 8 0x80) lanes) (both_lanes us long) lanes in
+    let bytes = bytes_lanes words (λ i m. pick (leb 0x80 (get_or us i 0)) (both (get_or us i 0)) (get_or us i 0) (omega arith) (omega (arith, small i))) k l in
+    respell (get_or us k 0) bytes.0 bytes.1 (EncodesTo-word (get_or us k 0) (small k))

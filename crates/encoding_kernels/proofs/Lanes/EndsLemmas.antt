@@ -15,24 +15,10 @@ use Rattle.encoding_kernels.specs.EncodeLanes.{kept_places, ended, all_ended, bo
 use Rattle.encoding_kernels.proofs.Validation.FollowingLemmas.{one_before}
 use Rattle.encoding_kernels.proofs.Lanes.LaneLemmas.{HasLanes-itself, HasLanes-splat, HasLanes-zip2, HasLanes-select, HasLanes-same, compared, top_compared, mask_of}
 use Rattle.encoding_kernels.proofs.Lanes.TestLemmas.{tests_of, tests_and}
+use Rattle.encoding_kernels.proofs.Lanes.WordLemmas.{bytes_of, bytes_lanes, wide, wide_l}
 use Rattle.encoding_kernels.proofs.Latin.EndedLemmas.{ended_ascii, ended_last, ended_none, PairAt, pairs_kept, both_end_long}
 
 -- ---- two bytes as one number
-two_at : (bs : List ℕ) (i : ℕ) → i + 1 < length bs → take 2 (drop i bs) ≡ get_or bs i 0 ∷ get_or bs (i + 1) 0 ∷ []
-two_at bs i l = ap (take 2) (drop_more bs i 0 (omega arith)) ∙ ap (λ xs. get_or bs i 0 ∷ take 1 xs) (drop_more bs (i + 1) 0 l)
-
-joined : (x y : ℕ) → number_l 256 (x ∷ y ∷ []) ≡ x + 256 * y
-joined x y = omega arith
-
-abbrev pub wide_l : List ℕ → List ℕ
-wide_l bs = digits_l 65536 8 (number_l 256 bs)
-
-pub wide : (bs : List ℕ) → length bs ≡ 16 → Each1 (λ x. x < 256) bs → HasLanes 8 (wide_l bs) (λ j. get_or bs (2 * j) 0 + 256 * get_or bs (2 * j + 1) 0)
-wide bs long fit = record {
-  long = refl;
-  each = λ j l. get_or_wider 256 2 65536 8 bs j refl fit l ∙ ap (number_l 256) (two_at bs (2 * j) (omega arith)) ∙ joined (get_or bs (2 * j) 0) (get_or bs (2 * j + 1) 0);
-}
-
 low_half : (a b : ℕ) → a < 256 → bit_and (a + 256 * b) 0xFF ≡ a
 low_half a b l = let mask : bit_and (a + 256 * b) 0xFF ≡ (a + 256 * b) % 2 ^ 8 = and_mask (a + 256 * b) 8 in omega arith
 
@@ -61,7 +47,7 @@ end_is p x l = elim (cases_lt x 0x80) [
 abbrev pair_word : ℕ → ℕ → ℕ → ℕ
 pair_word p a b = cond (nat_le 0xC0 (bit_and (a + 256 * b) 0xFF)) ((end_of p a + 256 * end_of a b) / 2 ^ 8) (end_of p a + 256 * end_of a b)
 
-pair_ends : (p a b : ℕ) → a < 256 → b < 256 → EndsPair p a b (pair_word p a b / 256 ^ 0 % 256) (pair_word p a b / 256 ^ 1 % 256)
+pair_ends : (p a b : ℕ) → a < 256 → b < 256 → EndsPair p a b (pair_word p a b % 256) (pair_word p a b / 256)
 pair_ends p a b A B either =
     let low = low_half a b A in
     let first = end_small p a A in
@@ -70,8 +56,8 @@ pair_ends p a b A B either =
       | inl l ↦
           let test : nat_le 0xC0 (bit_and (a + 256 * b) 0xFF) ≡ false = rw low (grind (arith, nat_tests)) in
           let word : pair_word p a b ≡ end_of p a + 256 * end_of a b = ap (λ t. cond t ((end_of p a + 256 * end_of a b) / 2 ^ 8) (end_of p a + 256 * end_of a b)) test in
-          let x : pair_word p a b / 256 ^ 0 % 256 ≡ end_of p a = ap (λ n. n / 256 ^ 0 % 256) word ∙ omega arith in
-          let y : pair_word p a b / 256 ^ 1 % 256 ≡ end_of a b = ap (λ n. n / 256 ^ 1 % 256) word ∙ omega arith in
+          let x : pair_word p a b % 256 ≡ end_of p a = ap (λ n. n % 256) word ∙ omega arith in
+          let y : pair_word p a b / 256 ≡ end_of a b = ap (λ n. n / 256) word ∙ omega arith in
           elim (cases_lt b 0xC0) [
             | inl m ↦
                 let both : (nat_lt a 0xC0 && nat_lt b 0xC0) ≡ true = grind (arith, nat_tests) in
@@ -85,7 +71,7 @@ pair_ends p a b A B either =
           let m : b < 0xC0 = elim either [ inl h ↦ absurd (omega arith) | inr h ↦ h ] in
           let test : nat_le 0xC0 (bit_and (a + 256 * b) 0xFF) ≡ true = rw low (grind (arith, nat_tests)) in
           let word : pair_word p a b ≡ (end_of p a + 256 * end_of a b) / 2 ^ 8 = ap (λ t. cond t ((end_of p a + 256 * end_of a b) / 2 ^ 8) (end_of p a + 256 * end_of a b)) test in
-          let x : pair_word p a b / 256 ^ 0 % 256 ≡ end_of a b = ap (λ n. n / 256 ^ 0 % 256) word ∙ omega arith in
+          let x : pair_word p a b % 256 ≡ end_of a b = ap (λ n. n % 256) word ∙ omega arith in
           let both : (nat_lt a 0xC0 && nat_lt b 0xC0) ≡ false = grind (arith, nat_tests) in
           chosen (nat_lt a 0xC0 && nat_lt b 0xC0) false _ _ _ both ((λ i. x i ∷ []) ∙ end_is a b m ∙ ap (λ ys. ys ++ ended a b) (sym (ended_none p a l)))
     ]
@@ -162,22 +148,14 @@ module _ (bs : List ℕ) (long : length bs ≡ 16) (fits : Each1 (Fits w8) bs) w
       pick true = omega (arith, end_small p a A, end_small a b B)
       pick false = omega (arith, end_small p a A, end_small a b B)
 
-  results_fit : Each1 (λ x. x < 65536) (result_l bs)
-  results_fit = Each1-from_get_or (λ x. x < 65536) (result_l bs) 0 (λ k l.
-      let in_lanes : k < 8 = omega (arith, result_lanes.long) in
-      let is = result_lanes.each k in_lanes in
-      omega (arith, is, pair_small (get_or (0 ∷ bs) (2 * k) 0) (get_or bs (2 * k) 0) (get_or bs (2 * k + 1) 0) (byte (2 * k) (omega arith)) (byte (2 * k + 1) (omega arith))))
-
   pub pairs_end : (k : ℕ) → k < 8
-      → EndsPair (get_or (0 ∷ bs) (2 * k) 0) (get_or bs (2 * k) 0) (get_or bs (2 * k + 1) 0) (get_or (digits_l 256 16 (number_l 65536 (result_l bs))) (2 * k) 0) (get_or (digits_l 256 16 (number_l 65536 (result_l bs))) (2 * k + 1) 0)
+      → EndsPair (get_or (0 ∷ bs) (2 * k) 0) (get_or bs (2 * k) 0) (get_or bs (2 * k + 1) 0) (get_or (bytes_of (result_l bs)) (2 * k) 0) (get_or (bytes_of (result_l bs)) (2 * k + 1) 0)
   pairs_end k l =
       let p = get_or (0 ∷ bs) (2 * k) 0 in
       let a = get_or bs (2 * k) 0 in
       let b = get_or bs (2 * k + 1) 0 in
-      let place : 2 * k ≡ 2 * k + 0 = omega arith in
-      let first = ap (λ j. get_or (digits_l 256 16 (number_l 65536 (result_l bs))) j 0) place ∙ get_or_narrower 65536 2 256 16 (result_l bs) k 0 (omega arith) results_fit (omega arith) (omega arith) ∙ ap (λ n. n / 256 ^ 0 % 256) (result_lanes.each k l) in
-      let second = get_or_narrower 65536 2 256 16 (result_l bs) k 1 (omega arith) results_fit (omega arith) (omega arith) ∙ ap (λ n. n / 256 ^ 1 % 256) (result_lanes.each k l) in
-      same_pair p a b first second (pair_ends p a b (byte (2 * k) (omega arith)) (byte (2 * k + 1) (omega arith)))
+      let bytes = bytes_lanes result_lanes (λ i m. pair_small (get_or (0 ∷ bs) (2 * i) 0) (get_or bs (2 * i) 0) (get_or bs (2 * i + 1) 0) (byte (2 * i) (omega arith)) (byte (2 * i + 1) (omega arith))) k l in
+      same_pair p a b bytes.0 bytes.1 (pair_ends p a b (byte (2 * k) (omega arith)) (byte (2 * k + 1) (omega arith)))
     where
       same_pair : (p a b : ℕ) {x y x2 y2 : ℕ} → x ≡ x2 → y ≡ y2 → EndsPair p a b x2 y2 → EndsPair p a b x y
       same_pair p a b {x} {y} {x2} {y2} e f h = subst (λ k. EndsPair p a b k y) (sym e) (subst (EndsPair p a b x2) (sym f) h)

@@ -14,7 +14,8 @@ use Rattle.encoding_kernels.specs.Lanes.{HasLanes}
 use Rattle.encoding_kernels.specs.EncodeLanes.{EncodesTo, kept_places}
 use Rattle.encoding_kernels.proofs.Lanes.CompressLemmas.{low_half, high_half}
 use Rattle.encoding_kernels.proofs.Lanes.LaneLemmas.{HasLanes-itself, HasLanes-splat, HasLanes-zip2, HasLanes-select, HasLanes-same, compared, top_compared}
-use Rattle.encoding_kernels.proofs.Lanes.EncodeLanesLemmas.{spelled_short}
+use Rattle.encoding_kernels.proofs.Lanes.EncodeLanesLemmas.{respell, spelled_short}
+use Rattle.encoding_kernels.proofs.Lanes.WordLemmas.{bytes_of, bytes_lanes}
 
 -- ---- one byte
 abbrev pub first_of : ℕ → ℕ
@@ -57,20 +58,15 @@ module _ (v : List ℕ) (long : length v ≡ 16) (small : (k : ℕ) → k < 16 �
   -- words of both bytes, as bytes
   pub latin_pairs : (lower upper words : List ℕ) (at : ℕ → ℕ) → ((k : ℕ) → k < 8 → at k < 16) → HasLanes 16 lower (λ k. first_of (get_or v k 0)) → HasLanes 16 upper (λ k. second_of (get_or v k 0))
       → HasLanes 8 words (λ k. get_or lower (at k) 0 + 0x100 * get_or upper (at k) 0) → (k : ℕ) → k < 8
-      → EncodesTo (get_or v (at k) 0) (get_or (digits_l 256 16 (number_l 65536 words)) (2 * k) 0) (get_or (digits_l 256 16 (number_l 65536 words)) (2 * k + 1) 0)
+      → EncodesTo (get_or v (at k) 0) (get_or (bytes_of words) (2 * k) 0) (get_or (bytes_of words) (2 * k + 1) 0)
   latin_pairs lower upper words at inside low high is k l =
-      let word : (i : ℕ) → i < 8 → get_or words i 0 ≡ first_of (get_or v (at i) 0) + 0x100 * second_of (get_or v (at i) 0) = λ i m.
-      is.each i m ∙ (λ j. low.each (at i) (inside i m) j + 0x100 * high.each (at i) (inside i m) j) in
-      let fit : Each1 (λ x. x < 65536) words = Each1-from_get_or (λ x. x < 65536) words 0 (λ i m.
-      let here : i < 8 = omega (arith, is.long) in omega (arith, word i here, first_small (get_or v (at i) 0) (small (at i) (inside i here)))) in
+      let word = HasLanes-same is (λ i m j. low.each (at i) (inside i m) j + 0x100 * high.each (at i) (inside i m) j) in
+      let bytes = bytes_lanes word (λ i m. omega (arith, first_small (get_or v (at i) 0) (small (at i) (inside i m)))) k l in
       let b = get_or v (at k) 0 in
       let bound = first_small b (small (at k) (inside k l)) in
-      let place : 2 * k ≡ 2 * k + 0 = omega arith in
-      let even : get_or words k 0 / 256 ^ 0 % 256 ≡ first_of b = omega (arith, word k l, bound) in
-      let odd : get_or words k 0 / 256 ^ 1 % 256 ≡ second_of b = omega (arith, word k l, bound) in
-      let first = ap (λ j. get_or (digits_l 256 16 (number_l 65536 words)) j 0) place ∙ get_or_narrower 65536 2 256 16 words k 0 (omega (arith, is.long)) fit (omega arith) (omega arith) ∙ even in
-      let second = get_or_narrower 65536 2 256 16 words k 1 (omega (arith, is.long)) fit (omega arith) (omega arith) ∙ odd in
-      subst (λ x. EncodesTo b x (get_or (digits_l 256 16 (number_l 65536 words)) (2 * k + 1) 0)) (sym first) (subst (EncodesTo b (first_of b)) (sym second) (EncodesTo-latin b (small (at k) (inside k l))))
+      let even : (first_of b + 0x100 * second_of b) % 256 ≡ first_of b = omega (arith, bound) in
+      let odd : (first_of b + 0x100 * second_of b) / 256 ≡ second_of b = omega (arith, bound) in
+      respell b (bytes.0 ∙ even) (bytes.1 ∙ odd) (EncodesTo-latin b (small (at k) (inside k l)))
 
 -- ---- halves
 module _ (v : List ℕ) (long : length v ≡ 16) (others : ℕ) (is : others ≡ mask_l (map (nat_le 0x80) v)) where

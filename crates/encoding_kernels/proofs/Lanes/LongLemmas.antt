@@ -9,6 +9,7 @@ use Rattle.std.specs.Simd.Lanes.{number_l, digits_l, top, zip2, Each1, pick_l, p
 use Rattle.std.proofs.lemmas.List.{take_at, drop_at, drop-drop, get_or_append_left, get_or-append_right}
 use Rattle.encoding_kernels.specs.Lanes.{HasLanes}
 use Rattle.encoding_kernels.proofs.Lanes.PutLemmas.{put_is}
+use Rattle.encoding_kernels.proofs.Lanes.WordLemmas.{bytes_of, bytes_lanes}
 use Rattle.encoding_kernels.proofs.Lanes.LaneLemmas.{HasLanes-itself, HasLanes-splat, HasLanes-zip2, compared, mask_of, not_any}
 
 -- ---- the test
@@ -61,13 +62,13 @@ two_word u = ((u / 2 ^ 12 + bit_and (u / 2 ^ 6) 0x3F * 2 ^ 8 % 2 ^ 16) % 2 ^ 16 
 abbrev pub last_word : ℕ → ℕ
 last_word u = (bit_and u 0x3F + 0x80) % 2 ^ 16
 
-word_bytes : (u : ℕ) → 0x800 ≤ u → u < 2 ^ 16 → (two_word u / 256 ^ 0 % 256 ∷ two_word u / 256 ^ 1 % 256 ∷ last_word u / 256 ^ 0 % 256 ∷ []) ≡ encode_utf8 u
+word_bytes : (u : ℕ) → 0x800 ≤ u → u < 2 ^ 16 → (two_word u % 256 ∷ two_word u / 256 ∷ last_word u % 256 ∷ []) ≡ encode_utf8 u
 word_bytes u l h =
     let low : bit_and u 0x3F ≡ u % 2 ^ 6 = and_mask u 6 in
     let mid : bit_and (u / 2 ^ 6) 0x3F ≡ u / 2 ^ 6 % 2 ^ 6 = and_mask (u / 2 ^ 6) 6 in
-    let x : two_word u / 256 ^ 0 % 256 ≡ 224 + u / 4096 = omega arith in
-    let y : two_word u / 256 ^ 1 % 256 ≡ 128 + u / 64 % 64 = omega arith in
-    let z : last_word u / 256 ^ 0 % 256 ≡ 128 + u % 64 = omega arith in
+    let x : two_word u % 256 ≡ 224 + u / 4096 = omega arith in
+    let y : two_word u / 256 ≡ 128 + u / 64 % 64 = omega arith in
+    let z : last_word u % 256 ≡ 128 + u % 64 = omega arith in
     rw (x, y, z) (sym (three u l (omega arith)))
 
 -- the words of eight code units, and their bytes
@@ -89,16 +90,6 @@ two_lanes us long =
 last_lanes : (us : List ℕ) → length us ≡ 8 → HasLanes 8 (last_words us) (λ k. last_word (get_or us k 0))
 last_lanes us long = HasLanes-zip2 (λ a b. (a + b) % 2 ^ 16) (HasLanes-zip2 bit_and (HasLanes-itself 8 us long) (HasLanes-splat 8 0x3F)) (HasLanes-splat 8 0x80)
 
-abbrev pub bytes_of : List ℕ → List ℕ
-bytes_of words = digits_l 256 16 (number_l (2 ^ 16) words)
-
-part_of : {words : List ℕ} {f : ℕ → ℕ} → HasLanes 8 words f → ((k : ℕ) → f k < 2 ^ 16) → (k j : ℕ) → k < 8 → j < 2 → get_or (bytes_of words) (2 * k + j) 0 ≡ f k / 256 ^ j % 256
-part_of {words} {f} lanes small k j l m =
-    let fit : Each1 (λ x. x < 2 ^ 16) words = Each1-from_get_or (λ x. x < 2 ^ 16) words 0 (λ i h.
-    let within : i < 8 = omega (arith, lanes.long) in
-    subst (λ x. x < 2 ^ 16) (sym (lanes.each i within)) (small i)) in
-    get_or_narrower (2 ^ 16) 2 256 16 words k j (omega arith) fit m (omega (arith, lanes.long)) ∙ ap (λ x. x / 256 ^ j % 256) (lanes.each k l)
-
 triple : {x y z x2 y2 z2 : ℕ} {e : List ℕ} → x ≡ x2 → y ≡ y2 → z ≡ z2 → (x2 ∷ y2 ∷ z2 ∷ []) ≡ e → (x ∷ y ∷ z ∷ []) ≡ e
 triple p q r e = (λ i. p i ∷ q i ∷ r i ∷ []) ∙ e
 
@@ -109,16 +100,16 @@ long_spelled us long fit high =
     let both = bytes_of (two_words us) in
     let lasts = bytes_of (last_words us) in
     let get : ℕ → ℕ = λ j. get_or (both ++ lasts) j 0 in
-    let two = part_of (two_lanes us long) (λ k. omega arith) in
-    let last = part_of (last_lanes us long) (λ k. omega arith) in
+    let two = bytes_lanes (two_lanes us long) (λ i m. omega arith) in
+    let last = bytes_lanes (last_lanes us long) (λ i m. omega arith) in
     ap (λ n. map get (three_places 0 n)) (sym long) ∙ three_spell get us 0 (λ k l.
     let in_lanes : k < 8 = omega arith in
-    let start : 0 + 2 * k ≡ 2 * k + 0 = omega arith in
+    let start : 0 + 2 * k ≡ 2 * k = omega arith in
     let second : 0 + 2 * k + 1 ≡ 2 * k + 1 = omega arith in
-    let third : 0 + 2 * k + 16 - 16 ≡ 2 * k + 0 = omega arith in
-    triple (get_or_append_left both lasts 0 (0 + 2 * k) (omega arith) ∙ ap (λ j. get_or both j 0) start ∙ two k 0 in_lanes (omega arith))
-    (get_or_append_left both lasts 0 (0 + 2 * k + 1) (omega arith) ∙ ap (λ j. get_or both j 0) second ∙ two k 1 in_lanes (omega arith))
-    (get_or-append_right both lasts 16 (0 + 2 * k + 16) 0 (omega arith) (omega arith) ∙ ap (λ j. get_or lasts j 0) third ∙ last k 0 in_lanes (omega arith))
+    let third : 0 + 2 * k + 16 - 16 ≡ 2 * k = omega arith in
+    triple (get_or_append_left both lasts 0 (0 + 2 * k) (omega arith) ∙ ap (λ j. get_or both j 0) start ∙ (two k in_lanes).0)
+    (get_or_append_left both lasts 0 (0 + 2 * k + 1) (omega arith) ∙ ap (λ j. get_or both j 0) second ∙ (two k in_lanes).1)
+    (get_or-append_right both lasts 16 (0 + 2 * k + 16) 0 (omega arith) (omega arith) ∙ ap (λ j. get_or lasts j 0) third ∙ (last k in_lanes).0)
     (word_bytes (get_or us k 0) (high k in_lanes) (Each1-get_or (Fits w16) us k 0 l fit).fits))
 
 -- ---- two stores, one behind the other

@@ -20,6 +20,7 @@ use Rattle.encoding_kernels.proofs.Lanes.LaneLemmas.{HasLanes-itself, HasLanes-n
 use Rattle.encoding_kernels.proofs.Lanes.TestLemmas.{HasTests, tests_of, chosen, chosen_by, none_passes, run_is_first}
 use Rattle.encoding_kernels.proofs.Lanes.EncodeLanesLemmas.{looked_up, mask_from, pick}
 use Rattle.encoding_kernels.proofs.Lanes.UnitLanesLemmas.{picked_lanes}
+use Rattle.encoding_kernels.proofs.Lanes.WordLemmas.{bytes_of, bytes_lanes}
 
 -- ---- the test
 abbrev pub surrogates : List ℕ → List ℕ
@@ -148,7 +149,7 @@ both_spelled us first second n m e f = (λ i. e i ++ f i) ∙ sym (encodes-appen
 abbrev pub class_word : ℕ → ℕ
 class_word u = cond (ltb u 0x80) 0xFFFF (cond (ltb u 0x800) 0xFF00 0)
 
-class_bytes : (a s : Bool) → (a ≡ true → s ≡ true) → (leb 0x80 (cond a 0xFFFF (cond s 0xFF00 0) / 256 ^ 0 % 256) ≡ a) × (leb 0x80 (cond a 0xFFFF (cond s 0xFF00 0) / 256 ^ 1 % 256) ≡ s)
+class_bytes : (a s : Bool) → (a ≡ true → s ≡ true) → (leb 0x80 (cond a 0xFFFF (cond s 0xFF00 0) % 256) ≡ a) × (leb 0x80 (cond a 0xFFFF (cond s 0xFF00 0) / 256) ≡ s)
 class_bytes true true v = (refl, refl)
 class_bytes true false v = absurd (false≢true (v refl))
 class_bytes false true v = (refl, refl)
@@ -175,19 +176,12 @@ class_small u = pick (ltb u 0x80) 0xFFFF _ (omega arith) (pick (ltb u 0x800) 0xF
 
 pub classes_are : (us words : List ℕ) → length us ≡ 8 → HasLanes 8 words (λ k. class_word (get_or us k 0)) → map (leb 0x80) (digits_l 256 16 (number_l 65536 words)) ≡ classes us
 classes_are us words long lanes =
-    let fit : Each1 (λ x. x < 65536) words = Each1-from_get_or (λ x. x < 65536) words 0 (λ i m.
-    let within : i < 8 = omega (arith, lanes.long) in
-    subst (λ x. x < 65536) (sym (lanes.each i within)) (class_small (get_or us i 0))) in
-    let bytes = digits_l 256 16 (number_l 65536 words) in
-    let part : (k j : ℕ) → k < 8 → j < 2 → get_or bytes (2 * k + j) 0 ≡ class_word (get_or us k 0) / 256 ^ j % 256 = λ k j l m.
-    get_or_narrower 65536 2 256 16 words k j (omega arith) fit m (omega (arith, lanes.long)) ∙ ap (λ x. x / 256 ^ j % 256) (lanes.each k l) in
-    let sixteen : length bytes ≡ 2 * length us = omega (arith, long) in
-    class_list us bytes sixteen (λ k l.
-    let within : k < 8 = omega arith in
+    let sixteen : length (bytes_of words) ≡ 2 * length us = omega (arith, long) in
+    class_list us (bytes_of words) sixteen (λ k l.
     let u = get_or us k 0 in
+    let bytes = bytes_lanes lanes (λ i m. class_small (get_or us i 0)) k (omega arith) in
     let is = class_bytes (ltb u 0x80) (ltb u 0x800) (ascii_short u) in
-    let place : 2 * k ≡ 2 * k + 0 = omega arith in
-    (ap (leb 0x80) (ap (λ j. get_or bytes j 0) place ∙ part k 0 within (omega arith)) ∙ is.0, ap (leb 0x80) (part k 1 within (omega arith)) ∙ is.1))
+    (ap (leb 0x80) bytes.0 ∙ is.0, ap (leb 0x80) bytes.1 ∙ is.1))
 
 -- the mask of its bytes
 pub mask_is_classes : (us words : List ℕ) → length us ≡ 8 → HasLanes 8 words (λ k. class_word (get_or us k 0))
@@ -295,26 +289,14 @@ module _ (us lead rest ks : List ℕ) (f : ℕ → ℕ) (half : (k : ℕ) → k 
         subst (λ j. get_or words j 0 < 65536) e (subst (λ x. x < 65536) (sym (odd_word (i / 2) (omega arith))) ((small (f (i / 2)) (half (i / 2) (omega arith))).1))
   ]
 
-  low_of : (x : ℕ) → x / 256 ^ 0 % 256 ≡ x % 0x100
-  low_of x = omega arith
-
-  high_of : (x : ℕ) → x < 65536 → x / 256 ^ 1 % 256 ≡ x / 0x100
-  high_of x l = omega arith
-
   pub four_spelled : ((k : ℕ) → k < 8 → EncodesLast (get_or us k 0) (get_or lead k 0 / 0x100) (get_or rest k 0 % 0x100) (get_or rest k 0 / 0x100)) → (k : ℕ) → k < 4
       → EncodesLast (get_or us (f k) 0) (get_or (digits_l 256 16 (number_l 65536 (pick_l 0 (lead ++ rest) ks))) (4 * k + 1) 0)
       (get_or (digits_l 256 16 (number_l 65536 (pick_l 0 (lead ++ rest) ks))) (4 * k + 2) 0) (get_or (digits_l 256 16 (number_l 65536 (pick_l 0 (lead ++ rest) ks))) (4 * k + 3) 0)
   four_spelled spells k l =
-      let wide = (picked_lanes (lead ++ rest) ks long).long in
-      let all : Each1 (λ x. x < 65536) words = Each1-from_get_or (λ x. x < 65536) words 0 (λ i m. word_small i (omega (arith, wide))) in
-      let bytes = digits_l 256 16 (number_l 65536 words) in
-      let part : (i j : ℕ) → i < 8 → j < 2 → get_or bytes (2 * i + j) 0 ≡ get_or words i 0 / 256 ^ j % 256 = λ i j l m.
-      get_or_narrower 65536 2 256 16 words i j (omega arith) all m (omega (arith, wide)) in
-      let one : 4 * k + 1 ≡ 2 * (2 * k) + 1 = omega arith in
-      let two_on : 4 * k + 2 ≡ 2 * (2 * k + 1) + 0 = omega arith in
-      let three_on : 4 * k + 3 ≡ 2 * (2 * k + 1) + 1 = omega arith in
-      encode_again (get_or us (f k) 0)
-      (ap (λ j. get_or bytes j 0) one ∙ part (2 * k) 1 (omega arith) (omega arith) ∙ ap (λ x. x / 256 ^ 1 % 256) (even_word k l) ∙ high_of _ ((small (f k) (half k l)).0))
-      (ap (λ j. get_or bytes j 0) two_on ∙ part (2 * k + 1) 0 (omega arith) (omega arith) ∙ ap (λ x. x / 256 ^ 0 % 256) (odd_word k l) ∙ low_of _)
-      (ap (λ j. get_or bytes j 0) three_on ∙ part (2 * k + 1) 1 (omega arith) (omega arith) ∙ ap (λ x. x / 256 ^ 1 % 256) (odd_word k l) ∙ high_of _ ((small (f k) (half k l)).1))
-      (spells (f k) (half k l))
+      let bytes = bytes_lanes (HasLanes-itself 8 words (picked_lanes (lead ++ rest) ks long).long) word_small in
+      let at = λ (i : ℕ). get_or (bytes_of words) i 0 in
+      let first : 4 * k + 1 ≡ 2 * (2 * k) + 1 = omega arith in
+      let second : 4 * k + 2 ≡ 2 * (2 * k + 1) = omega arith in
+      let third : 4 * k + 3 ≡ 2 * (2 * k + 1) + 1 = omega arith in
+      encode_again (get_or us (f k) 0) (ap at first ∙ (bytes (2 * k) (omega arith)).1 ∙ ap (λ x. x / 256) (even_word k l)) (ap at second ∙ (bytes (2 * k + 1) (omega arith)).0 ∙ ap (λ x. x % 256) (odd_word k l))
+      (ap at third ∙ (bytes (2 * k + 1) (omega arith)).1 ∙ ap (λ x. x / 256) (odd_word k l)) (spells (f k) (half k l))

@@ -15,6 +15,7 @@ use Rattle.encoding_definitions.specs.Utf16.{IsHighSurrogate, IsLowSurrogate}
 use Rattle.encoding_kernels.specs.Lanes.{HasLanes}
 use Rattle.encoding_kernels.specs.EncodeLanes.{kept_places}
 use Rattle.encoding_kernels.specs.SurrogatePairs.{IsShortOrHalf, AreShortOrPaired, EncodesHalf, half_bytes, joined, halves_from}
+use Rattle.encoding_kernels.proofs.Lanes.WordLemmas.{bytes_of, bytes_lanes}
 use Rattle.encoding_kernels.proofs.Lanes.EncodeLanesLemmas.{both, EncodesTo-word, kept_step, pick}
 
 -- ---- what is joined
@@ -94,19 +95,19 @@ low_word p u = (((bit_and p 3 * 2 ^ 4 % 2 ^ 16 + bit_and (u / 2 ^ 6) 0xF) % 2 ^ 
 abbrev pub half_word : ℕ → ℕ → ℕ
 half_word p u = cond (nat_le 0x80 u) (cond (nat_le 0x800 u) (cond (nat_le 0xDC00 u) (low_word p u) (high_word u)) (both u)) u
 
-high_is : (u : ℕ) → 0xD800 ≤ u → u < 0xDC00 → (high_word u % 256 ≡ (u + 64) / 256 + 24) × (high_word u / 256 % 256 ≡ (u + 64) / 4 % 64 + 128)
+high_is : (u : ℕ) → 0xD800 ≤ u → u < 0xDC00 → (high_word u % 256 ≡ (u + 64) / 256 + 24) × (high_word u / 256 ≡ (u + 64) / 4 % 64 + 128)
 high_is u l h =
     let second : bit_and ((u + 0x40) % 2 ^ 16 / 2 ^ 2) 0x3F ≡ (u + 0x40) % 2 ^ 16 / 2 ^ 2 % 2 ^ 6 = and_mask ((u + 0x40) % 2 ^ 16 / 2 ^ 2) 6 in
     (omega arith, omega arith)
 
-low_is : (p u : ℕ) → (low_word p u % 256 ≡ 128 + p % 4 * 16 + u / 64 % 16) × (low_word p u / 256 % 256 ≡ 128 + u % 64)
+low_is : (p u : ℕ) → (low_word p u % 256 ≡ 128 + p % 4 * 16 + u / 64 % 16) × (low_word p u / 256 ≡ 128 + u % 64)
 low_is p u =
     let before : bit_and p 3 ≡ p % 2 ^ 2 = and_mask p 2 in
     let third : bit_and (u / 2 ^ 6) 0xF ≡ u / 2 ^ 6 % 2 ^ 4 = and_mask (u / 2 ^ 6) 4 in
     let last : bit_and u 0x3F ≡ u % 2 ^ 6 = and_mask u 6 in
     (omega arith, omega arith)
 
-pub EncodesTo-half : (p u : ℕ) → IsShortOrHalf u → EncodesHalf p u (half_word p u % 256) (half_word p u / 256 % 256)
+pub EncodesTo-half : (p u : ℕ) → IsShortOrHalf u → EncodesHalf p u (half_word p u % 256) (half_word p u / 256)
 EncodesTo-half p u (inl l) =
     let short : nat_le 0x800 u ≡ false = grind (arith, nat_tests) in
     let below : nat_lt u 0x800 ≡ true = grind (arith, nat_tests) in
@@ -134,23 +135,12 @@ half_small p u h =
     pick (nat_le 0x80 u) _ u (pick (nat_le 0x800 u) _ (both u) (pick (nat_le 0xDC00 u) (low_word p u) (high_word u) (omega arith) (omega arith)) (omega arith)) small
 
 pub halves_spell : (us ps words : List ℕ) (k : ℕ) → HasLanes 8 words (λ i. half_word (get_or ps i 0) (get_or us i 0)) → ((i : ℕ) → i < 8 → IsShortOrHalf (get_or us i 0)) → k < 8
-    → EncodesHalf (get_or ps k 0) (get_or us k 0) (get_or (digits_l 256 16 (number_l 65536 words)) (2 * k) 0) (get_or (digits_l 256 16 (number_l 65536 words)) (2 * k + 1) 0)
+    → EncodesHalf (get_or ps k 0) (get_or us k 0) (get_or (bytes_of words) (2 * k) 0) (get_or (bytes_of words) (2 * k + 1) 0)
 halves_spell us ps words k lanes each l =
-    let fit : Each1 (λ x. x < 65536) words = Each1-from_get_or (λ x. x < 65536) words 0 (λ i m.
-    let within : i < 8 = omega (arith, lanes.long) in
-    subst (λ x. x < 65536) (sym (lanes.each i within)) (half_small (get_or ps i 0) (get_or us i 0) (each i within))) in
     let p = get_or ps k 0 in
     let u = get_or us k 0 in
-    let word = half_word p u in
-    let bytes = digits_l 256 16 (number_l 65536 words) in
-    let place : 2 * k ≡ 2 * k + 0 = omega arith in
-    let low : word / 256 ^ 0 % 256 ≡ word % 256 = omega arith in
-    let high : word / 256 ^ 1 % 256 ≡ word / 256 % 256 = omega arith in
-    let first : get_or bytes (2 * k) 0 ≡ word % 256 =
-    ap (λ j. get_or bytes j 0) place ∙ get_or_narrower 65536 2 256 16 words k 0 (omega arith) fit (omega arith) (omega (arith, lanes.long)) ∙ ap (λ x. x / 256 ^ 0 % 256) (lanes.each k l) ∙ low in
-    let second : get_or bytes (2 * k + 1) 0 ≡ word / 256 % 256 =
-    get_or_narrower 65536 2 256 16 words k 1 (omega arith) fit (omega arith) (omega (arith, lanes.long)) ∙ ap (λ x. x / 256 ^ 1 % 256) (lanes.each k l) ∙ high in
-    subst (λ x. EncodesHalf p u x (get_or bytes (2 * k + 1) 0)) (sym first) (subst (λ y. EncodesHalf p u (word % 256) y) (sym second) (EncodesTo-half p u (each k l)))
+    let bytes = bytes_lanes lanes (λ i m. half_small (get_or ps i 0) (get_or us i 0) (each i m)) k l in
+    subst (λ x. EncodesHalf p u x (get_or (bytes_of words) (2 * k + 1) 0)) (sym bytes.0) (subst (λ y. EncodesHalf p u (half_word p u % 256) y) (sym bytes.1) (EncodesTo-half p u (each k l)))
 
 -- ---- two vectors of eight
 half_before : (p q u : ℕ) → IsShortOrHalf u → (IsLowSurrogate u → ⊥) → half_bytes p u ≡ half_bytes q u

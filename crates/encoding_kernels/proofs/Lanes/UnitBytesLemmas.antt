@@ -10,7 +10,7 @@ use Rattle.std.proofs.lemmas.List.{length-map, get_or-map, get_or_append_left, g
 use Rattle.encoding_kernels.specs.Lanes.{HasLanes}
 use Rattle.encoding_kernels.specs.Units.{low_bits, unit_at, unit_lane, units_behind, upper_of}
 use Rattle.encoding_kernels.proofs.Lanes.LaneLemmas.{compared, same_below, top_compared}
-use Rattle.encoding_kernels.proofs.Lanes.EndsLemmas.{wide, wide_l}
+use Rattle.encoding_kernels.proofs.Lanes.WordLemmas.{wide, wide_l}
 use Rattle.encoding_kernels.proofs.Lanes.UnitLanesLemmas.{length-units, units_at}
 
 -- ---- one lane

@@ -10,4 +10,4 @@ swizzle c = subst (SwzOk w8 16 16 0) (sym c.compress_places.ensures) (places_ok 
 pub returns : goal.returns
 returns c =
     ap (λ js. digits_l 65536 8 (number_l 256 (swz_l w8 16 (digits_l 256 16 (number_l 65536 c.args.lanes)) 0 js))) c.compress_places.ensures
-    ∙ compressed c.args.lanes (below_from_Fits w16 c.args.lanes c.fits-lanes.1) c.args.mask c.requires
+    ∙ compressed c.args.lanes c.fits-lanes.0 (below_from_Fits w16 c.args.lanes c.fits-lanes.1) c.args.mask c.requires
