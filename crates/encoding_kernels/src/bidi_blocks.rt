@@ -64,11 +64,6 @@ impl<'a, const N: usize> Places<N> for LowBytes<'a> {
     ghost passes = { λ s k. may_begin (slice_index s.bytes.now k) (mark_lead (slice_index s.bytes.now (k + 2))) ≡ false };
 
     #[inline(always)]
-    fn len(&self) -> usize {
-        self.bytes.len().saturating_sub(2)
-    }
-
-    #[inline(always)]
     fn failing(&self, at: usize) -> u64 {
         let bytes = self.bytes;
         let first = Simd::<u8, N>::from_slice(&bytes[at..]);
@@ -89,11 +84,6 @@ impl<'a, const N: usize> Places<N> for ClearBytes<'a> {
     ghost count = { λ s. length s.bytes.now - 2 };
 
     ghost passes = { λ s k. IsClear s.bytes.now k };
-
-    #[inline(always)]
-    fn len(&self) -> usize {
-        self.bytes.len().saturating_sub(2)
-    }
 
     #[inline(always)]
     fn failing(&self, at: usize) -> u64 {
@@ -119,13 +109,13 @@ pub fn skip_clear(bytes: &[u8], from: usize) -> usize
         let is_low = all::<BLOCK, BLOCK, _>(&low, at);
         at += BLOCK;
         if is_low {
-            at = skip::<BLOCK, BLOCK, _>(&low, at);
+            at = skip::<BLOCK, BLOCK, _>(&low, at, bytes.len() - 2);
         }
     }
     if bytes.len() - at < 2 {
         return at;
     }
-    reach::<STRIDE, STRIDE, _>(&test, at)
+    reach::<STRIDE, STRIDE, _>(&test, at, bytes.len() - 2)
 }
 
 /// Places of code units that aren't right-to-left, by ranges and marks that hold those and some more.
@@ -138,11 +128,6 @@ impl<'a, const N: usize> Places<N> for ClearUnits<'a> {
     ghost count = { λ s. length s.units.now };
 
     ghost passes = { λ s k. may_be_right_to_left (slice_index s.units.now k) ≡ false };
-
-    #[inline(always)]
-    fn len(&self) -> usize {
-        self.units.len()
-    }
 
     #[inline(always)]
     fn failing(&self, at: usize) -> u64 {
@@ -172,7 +157,8 @@ pub fn skip_clear_units(units: &[u16], from: usize) -> usize
     while units.len() - at >= HALF_UNIT_BLOCK
         && all::<HALF_UNIT_BLOCK, HALF_UNIT_BLOCK, _>(&test, at)
     {
-        at = skip::<HALF_UNIT_BLOCK, HALF_UNIT_BLOCK, _>(&low, at + HALF_UNIT_BLOCK);
+        at += HALF_UNIT_BLOCK;
+        at = skip::<HALF_UNIT_BLOCK, HALF_UNIT_BLOCK, _>(&low, at, units.len());
     }
-    reach::<UNIT_STRIDE, UNIT_STRIDE, _>(&test, at)
+    reach::<UNIT_STRIDE, UNIT_STRIDE, _>(&test, at, units.len())
 }

@@ -130,7 +130,7 @@ fn skip_ascii(src: &[u8], from: usize) -> usize
         bytes: src,
         bound: ASCII_END,
     };
-    skip::<64, 64, _>(&ascii, from)
+    skip::<64, 64, _>(&ascii, from, src.len())
 }
 
 /// How many bytes may each stand behind those before it, where those before `from` do, by 64 at a time. The last 64 may

@@ -33,11 +33,6 @@ impl<'a, const N: usize> Places<N> for UnitPairs<'a> {
     ghost passes = { λ s k. pair_fault (slice_index s.units.now (k + 1)) (slice_index s.units.now k) ≡ false };
 
     #[inline(always)]
-    fn len(&self) -> usize {
-        self.units.len().saturating_sub(1)
-    }
-
-    #[inline(always)]
     fn failing(&self, at: usize) -> u64 {
         let units = self.units;
         let tops = Simd::<u16, N>::from_slice(&units[at + 1..]) & Simd::splat(0xFC00);
@@ -114,7 +109,7 @@ pub fn paired_front(units: &[u16]) -> usize
         return 0;
     }
     let at = paired_blocks(units);
-    let last = reach::<UNIT_STRIDE, UNIT_STRIDE, _>(&UnitPairs { units }, at - 1);
+    let last = reach::<UNIT_STRIDE, UNIT_STRIDE, _>(&UnitPairs { units }, at - 1, units.len() - 1);
     before_cut_pair(units, last + 1)
 }
 
@@ -128,11 +123,6 @@ impl<'a, const N: usize> Places<N> for BytePairs<'a> {
     ghost count = { λ s. length s.bytes.now - 1 };
 
     ghost passes = { λ s k. latin1_fault (slice_index s.bytes.now (k + 1)) (slice_index s.bytes.now k) ≡ false };
-
-    #[inline(always)]
-    fn len(&self) -> usize {
-        self.bytes.len().saturating_sub(1)
-    }
 
     #[inline(always)]
     fn failing(&self, at: usize) -> u64 {
@@ -164,7 +154,7 @@ pub fn latin1_blocks(bytes: &[u8], from: usize) -> usize
     ensures { (result ≤ length bytes.now) × IsUtf8Latin1 (take result bytes.now) }
 {
     let test = BytePairs { bytes };
-    let by_blocks = skip::<BLOCK, BLOCK, _>(&test, from - 1);
-    let last = reach::<STRIDE, STRIDE, _>(&test, by_blocks);
+    let by_blocks = skip::<BLOCK, BLOCK, _>(&test, from - 1, bytes.len() - 1);
+    let last = reach::<STRIDE, STRIDE, _>(&test, by_blocks, bytes.len() - 1);
     before_cut_character(bytes, last + 1)
 }

@@ -10,10 +10,6 @@ pub(crate) trait Places<const N: usize> {
 
     ghost passes: { Self → ℕ → Type 0 };
 
-    /// How many places there are.
-    fn len(&self) -> usize
-        ensures { result ≡ count self.now };
-
     /// The mask of those of N places that fail.
     fn failing(&self, at: usize) -> u64
         requires { (at + N ≤ count self.now) × (0 < N) × (N ≤ 64) }
@@ -69,16 +65,19 @@ pub(crate) fn run<const N: usize, T: Places<N>>(test: &T, at: usize) -> usize
     run_before::<N>(test.failing(at))
 }
 
-/// Goes from a place on by W at a time while they pass, and returns where that ends.
+/// Goes from a place on, no farther than to an end, by W at a time while they pass, and returns where that ends.
 #[inline(always)]
-pub(crate) fn skip<const N: usize, const W: usize, T: Places<N>>(test: &T, from: usize) -> usize
-    requires within { (from ≤ T.count test.now) × (0 < N) × (N ≤ 64) }
+pub(crate) fn skip<const N: usize, const W: usize, T: Places<N>>(
+    test: &T,
+    from: usize,
+    end: usize,
+) -> usize
+    requires within { (from ≤ end) × (end ≤ T.count test.now) × (0 < N) × (N ≤ 64) }
     requires vectors { (W ≡ N) ⊎ (W ≡ 4 * N) ⊎ (W ≡ 8 * N) }
-    ensures within { (from ≤ result) × (result ≤ T.count test.now) }
+    ensures within { (from ≤ result) × (result ≤ end) }
     ensures pass { PassBetween (T.passes test.now) from result }
-    ensures stops { result + W ≤ T.count test.now → PassBetween (T.passes test.now) result (result + W) → ⊥ }
+    ensures stops { result + W ≤ end → PassBetween (T.passes test.now) result (result + W) → ⊥ }
 {
-    let end = test.len();
     if end < W {
         return from;
     }
@@ -92,34 +91,37 @@ pub(crate) fn skip<const N: usize, const W: usize, T: Places<N>>(test: &T, from:
 
 /// As far as `skip` goes, or to the last place where the last W, which may begin before that, pass too.
 #[inline(always)]
-pub(crate) fn reach<const N: usize, const W: usize, T: Places<N>>(test: &T, from: usize) -> usize
-    requires within { (from ≤ T.count test.now) × (0 < N) × (N ≤ 64) }
+pub(crate) fn reach<const N: usize, const W: usize, T: Places<N>>(
+    test: &T,
+    from: usize,
+    end: usize,
+) -> usize
+    requires within { (from ≤ end) × (end ≤ T.count test.now) × (0 < N) × (N ≤ 64) }
     requires vectors { (W ≡ N) ⊎ (W ≡ 4 * N) ⊎ (W ≡ 8 * N) }
-    ensures within { (from ≤ result) × (result ≤ T.count test.now) }
+    ensures within { (from ≤ result) × (result ≤ end) }
     ensures pass { PassBetween (T.passes test.now) from result }
-    ensures whole { W ≤ T.count test.now → PassBetween (T.passes test.now) 0 (T.count test.now) → result ≡ T.count test.now }
+    ensures whole { W ≤ end → PassBetween (T.passes test.now) 0 end → result ≡ end }
 {
-    let at = skip::<N, W, T>(test, from);
-    let end = test.len();
+    let at = skip::<N, W, T>(test, from, end);
     if end - at < W && W <= end && all::<N, W, T>(test, end - W) {
         return end;
     }
     at
 }
 
-/// The first place that fails, behind a place before which all pass, by N at a time. The last N may begin before it.
+/// The first place before an end that fails, behind a place before which all pass, by N at a time. The last N may begin before it.
 #[inline(always)]
-pub(crate) fn find<const N: usize, T: Places<N>>(test: &T, from: usize) -> usize
-    requires room { (N ≤ T.count test.now) × (0 < N) × (N ≤ 64) }
-    requires from { (from ≤ T.count test.now) × PassBetween (T.passes test.now) 0 from }
-    ensures within { result ≤ T.count test.now }
+pub(crate) fn find<const N: usize, T: Places<N>>(test: &T, from: usize, end: usize) -> usize
+    requires room { (N ≤ end) × (end ≤ T.count test.now) × (0 < N) × (N ≤ 64) }
+    requires from { (from ≤ end) × PassBetween (T.passes test.now) 0 from }
+    ensures within { result ≤ end }
     ensures pass { PassBetween (T.passes test.now) 0 result }
-    ensures stops { result < T.count test.now → T.passes test.now result → ⊥ }
+    ensures stops { result < end → T.passes test.now result → ⊥ }
 {
-    let at = skip::<N, N, T>(test, from);
-    if at == test.len() {
+    let at = skip::<N, N, T>(test, from, end);
+    if at == end {
         return at;
     }
-    let place = at.min(test.len() - N);
+    let place = at.min(end - N);
     place + run::<N, T>(test, place)
 }

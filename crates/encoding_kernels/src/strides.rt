@@ -6,7 +6,7 @@ ghost use Rattle.std.specs.Prelude.{◌↔◌, ◌+◌, ◌<◌, ◌≤◌, leng
 ghost use Rattle.encoding_kernels.specs.Strides.{AllBelow, BelowUpTo, IsRunBelow};
 
 use crate::places::{Places, all, find, reach, run, skip};
-pub(crate) use ascii_copies::unpack_ascii;
+pub(crate) use ascii_copies::copy_vectors;
 pub use ascii_copies::{AsciiAs, AsciiVectors, copy_ascii, copy_ascii_front};
 pub(crate) use copies::LANES;
 pub use copies::{copy_front, pack_lower, unpack, write_first};
@@ -56,11 +56,6 @@ impl<'a, const N: usize> Places<N> for BytesBelow<'a> {
     ghost passes = { λ s k. slice_index s.bytes.now k < s.bound };
 
     #[inline(always)]
-    fn len(&self) -> usize {
-        self.bytes.len()
-    }
-
-    #[inline(always)]
     fn failing(&self, at: usize) -> u64 {
         let bytes = self.bytes;
         let others = Simd::<u8, N>::from_slice(&bytes[at..]).simd_ge(Simd::splat(self.bound));
@@ -79,11 +74,6 @@ impl<'a, const N: usize> Places<N> for UnitsBelow<'a> {
     ghost count = { λ s. length s.units.now };
 
     ghost passes = { λ s k. slice_index s.units.now k < s.bound };
-
-    #[inline(always)]
-    fn len(&self) -> usize {
-        self.units.len()
-    }
 
     #[inline(always)]
     fn failing(&self, at: usize) -> u64 {
@@ -147,10 +137,10 @@ pub fn front_behind_stride(bytes: &[u8], bound: u8) -> usize
 {
     let test = BytesBelow { bytes, bound };
     if bytes.len() < BLOCK {
-        return find::<STRIDE, _>(&test, STRIDE);
+        return find::<STRIDE, _>(&test, STRIDE, bytes.len());
     }
-    let by_blocks = skip::<BLOCK, FOUR_BLOCKS, _>(&test, 0);
-    find::<BLOCK, _>(&test, by_blocks)
+    let by_blocks = skip::<BLOCK, FOUR_BLOCKS, _>(&test, 0, bytes.len());
+    find::<BLOCK, _>(&test, by_blocks, bytes.len())
 }
 
 /// How many bytes of a short text come before the first that isn't below the bound.
@@ -161,7 +151,7 @@ fn short_front_of_bytes_below(bytes: &[u8], bound: u8) -> usize
     ensures stops { result < length bytes.now → bound ≤ slice_index bytes.now result }
 {
     if bytes.len() >= HALF_STRIDE {
-        return find::<HALF_STRIDE, _>(&BytesBelow { bytes, bound }, 0);
+        return find::<HALF_STRIDE, _>(&BytesBelow { bytes, bound }, 0, bytes.len());
     }
     let mut at = 0;
     while at < bytes.len() && bytes[at] < bound {
@@ -183,10 +173,10 @@ pub fn are_all_bytes_below(bytes: &[u8], bound: u8) -> bool
         return false;
     }
     let end = match bytes.len() {
-        EIGHT_BLOCKS.. => reach::<BLOCK, EIGHT_BLOCKS, _>(&test, 0),
-        FOUR_BLOCKS.. => reach::<BLOCK, FOUR_BLOCKS, _>(&test, 0),
-        BLOCK.. => reach::<BLOCK, BLOCK, _>(&test, 0),
-        _ => reach::<STRIDE, STRIDE, _>(&test, 0),
+        EIGHT_BLOCKS.. => reach::<BLOCK, EIGHT_BLOCKS, _>(&test, 0, bytes.len()),
+        FOUR_BLOCKS.. => reach::<BLOCK, FOUR_BLOCKS, _>(&test, 0, bytes.len()),
+        BLOCK.. => reach::<BLOCK, BLOCK, _>(&test, 0, bytes.len()),
+        _ => reach::<STRIDE, STRIDE, _>(&test, 0, bytes.len()),
     };
     end == bytes.len()
 }
@@ -199,9 +189,9 @@ pub fn front_of_units_below(units: &[u16], bound: u16) -> usize
     ensures stops { result < length units.now → bound ≤ slice_index units.now result }
 {
     let test = UnitsBelow { units, bound };
-    let by_blocks = skip::<HALF_UNIT_BLOCK, HALF_UNIT_BLOCK, _>(&test, 0);
-    let by_strides = skip::<UNIT_STRIDE, UNIT_STRIDE, _>(&test, by_blocks);
-    skip::<1, 1, _>(&test, by_strides)
+    let by_blocks = skip::<HALF_UNIT_BLOCK, HALF_UNIT_BLOCK, _>(&test, 0, units.len());
+    let by_strides = skip::<UNIT_STRIDE, UNIT_STRIDE, _>(&test, by_blocks, units.len());
+    skip::<1, 1, _>(&test, by_strides, units.len())
 }
 
 /// Whether each UTF-16 code unit is below the bound. The first ones, which most often decide it, are looked at alone.
@@ -211,15 +201,15 @@ pub fn are_all_units_below(units: &[u16], bound: u16) -> bool
 {
     let test = UnitsBelow { units, bound };
     if units.len() < UNIT_STRIDE {
-        return skip::<1, 1, _>(&test, 0) == units.len();
+        return skip::<1, 1, _>(&test, 0, units.len()) == units.len();
     }
     if !all::<UNIT_STRIDE, UNIT_STRIDE, _>(&test, 0) {
         return false;
     }
     let end = match units.len() {
-        UNIT_BLOCK.. => reach::<UNIT_BLOCK, UNIT_BLOCK, _>(&test, 0),
-        HALF_UNIT_BLOCK.. => reach::<HALF_UNIT_BLOCK, HALF_UNIT_BLOCK, _>(&test, 0),
-        _ => reach::<UNIT_STRIDE, UNIT_STRIDE, _>(&test, 0),
+        UNIT_BLOCK.. => reach::<UNIT_BLOCK, UNIT_BLOCK, _>(&test, 0, units.len()),
+        HALF_UNIT_BLOCK.. => reach::<HALF_UNIT_BLOCK, HALF_UNIT_BLOCK, _>(&test, 0, units.len()),
+        _ => reach::<UNIT_STRIDE, UNIT_STRIDE, _>(&test, 0, units.len()),
     };
     end == units.len()
 }

@@ -16,7 +16,7 @@ use crate::compress_units::compress;
 use crate::decode_lanes::{code_units, triple_units, unit_ends};
 use crate::scalars::{scalar_of_sequence, write_utf16};
 use crate::sequence::{is_continuation, sequence_length};
-use crate::strides::{ASCII_END, LANES as BYTE_LANES, STRIDE, are_bytes_below, unpack_ascii};
+use crate::strides::{ASCII_END, LANES as BYTE_LANES, STRIDE, are_bytes_below, copy_vectors};
 use std::simd::Simd;
 use std::simd::prelude::*;
 
@@ -193,7 +193,7 @@ fn write_some(src: &[u8], dst: &mut [u16]) -> (usize, usize)
     ensures written { WritesUtf16 src.now dst.old dst.new result.0 result.1 (units_in src.now) }
 {
     if are_bytes_below::<16>(src, 0, ASCII_END) {
-        let front = unpack_ascii::<16>(src, dst, 0);
+        let front = copy_vectors::<16, u16, u8>(src, dst, 0);
         return (front, front);
     }
     if begins_triples(src) {
@@ -271,7 +271,7 @@ pub fn convert_ascii_front(src: &[u8], dst: &mut [u16]) -> usize
     ensures text { IsUtf8 (take result src.now) }
     ensures written { WritesFront dst.old dst.new result (flat_map encode_utf16 (chars (take result src.now))) }
 {
-    unpack_ascii::<STRIDE>(src, dst, 0)
+    copy_vectors::<STRIDE, u16, u8>(src, dst, 0)
 }
 
 /// Writes the UTF-16 of a text, and returns how many code units these are. Behind what is written `dst` is as before.

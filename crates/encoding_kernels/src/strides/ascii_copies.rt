@@ -44,7 +44,7 @@ pub trait AsciiVectors<const N: usize, D>: AsciiAs<D> {
 
 /// Copies units, N at a time, from a place on while they are ASCII, and returns where that ends.
 #[inline(always)]
-fn copy_vectors<const N: usize, D, S: AsciiVectors<N, D>>(
+pub(crate) fn copy_vectors<const N: usize, D, S: AsciiVectors<N, D>>(
     src: &[S],
     dst: &mut [D],
     from: usize,
@@ -121,17 +121,6 @@ pub fn copy_ascii<const N: usize>(src: &[u8], dst: &mut [u8], from: usize) -> us
         → AllBelow 0x80 src.now result N → ⊥ }
 {
     copy_vectors::<N, u8, u8>(src, dst, from)
-}
-
-/// Copies bytes, N at a time, from a place on as UTF-16 code units while they are ASCII, and returns where that ends.
-#[inline(always)]
-pub(crate) fn unpack_ascii<const N: usize>(src: &[u8], dst: &mut [u16], from: usize) -> usize
-    requires { (from ≤ length src.now) × (from ≤ length dst.old) × (0 < N) × (N ≤ 64) }
-    ensures copies { CopiesAscii src.now src.now dst.old dst.new from result }
-    ensures stops { result + N ≤ length src.now → result + N ≤ length dst.old
-        → AllBelow 0x80 src.now result N → ⊥ }
-{
-    copy_vectors::<N, u16, u8>(src, dst, from)
 }
 
 impl AsciiAs<u8> for u8 {

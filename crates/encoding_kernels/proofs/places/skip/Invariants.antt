@@ -4,9 +4,9 @@ use Rattle.encoding_kernels.proofs.places.skip.Given as goal
 
 abbrev pub invariant-loop-at : goal.invariant-loop-at
 invariant-loop-at g l = record {
-  within : (l.from ≤ l.at) × (l.at ≤ g.T.Places.count l.test);
+  within : (l.from ≤ l.at) × (l.at ≤ l.end);
   pass : PassBetween (g.T.Places.passes l.test) l.from l.at;
 }
 
 abbrev pub decreases-loop-at : goal.decreases-loop-at
-decreases-loop-at g l = g.T.Places.count l.test - l.at
+decreases-loop-at g l = l.end - l.at
