@@ -32,6 +32,7 @@ fn clean_of_64(src: &[u8], at: usize) -> usize
 }
 
 /// How many of the 256 bytes from `at` on come before the first that may not stand behind the three before it.
+#[tactic(auto, using(crate::proofs::Validation::FollowingLemmas::FollowTo_less))]
 #[inline(always)]
 fn clean_of_256(src: &[u8], at: usize) -> usize
     requires { (3 ≤ at) × (at + 256 ≤ length src.now) }
@@ -85,6 +86,7 @@ fn clean_of_first_32(src: &[u8]) -> usize
 }
 
 /// `at`, or the beginning of the character that is cut before it.
+#[tactic(auto, using(crate::proofs::Validation::FollowingLemmas::IsUtf8_before, crate::proofs::Validation::FollowingLemmas::IsUtf8_closed, crate::proofs::Validation::FollowingLemmas::IsClosedAt_tests))]
 fn back(src: &[u8], at: usize) -> usize
     requires { (at ≤ length src.now) × FollowTo src.now at }
     ensures { (result ≤ at) × IsUtf8 (take result src.now) }
@@ -135,6 +137,7 @@ fn skip_ascii(src: &[u8], from: usize) -> usize
 
 /// How many bytes may each stand behind those before it, where those before `from` do, by 64 at a time. The last 64 may
 /// begin before `from`.
+#[tactic(auto, using(crate::proofs::Validation::FollowingLemmas::FollowTo_less))]
 #[inline(always)]
 fn finish(src: &[u8], from: usize) -> usize
     requires { (64 ≤ from) × (from ≤ length src.now) × FollowTo src.now from }
@@ -220,6 +223,7 @@ fn is_broken(bytes: &[u8]) -> bool {
 }
 
 /// The length of a well-formed prefix of at most 64 bytes.
+#[tactic(auto, using(crate::proofs::Validation::FollowingLemmas::IsUtf8_ascii_front))]
 #[inline(always)]
 fn well_formed_short(src: &[u8]) -> usize
     requires { (16 ≤ length src.now) × (length src.now ≤ 64) }
@@ -237,6 +241,7 @@ fn well_formed_short(src: &[u8]) -> usize
 }
 
 /// The length of a well-formed prefix of at least 64 bytes.
+#[tactic(auto, using(crate::proofs::Validation::FollowingLemmas::IsUtf8_ascii_front, crate::proofs::Validation::FollowingLemmas::FollowTo_less, crate::proofs::Validation::FollowingLemmas::FollowTo_ascii_front))]
 #[inline(always)]
 fn well_formed_long(src: &[u8]) -> usize
     requires { 64 ≤ length src.now }

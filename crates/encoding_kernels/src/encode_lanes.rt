@@ -9,6 +9,7 @@ use crate::strides::LANES;
 use std::simd::prelude::*;
 
 /// Eight code units in two bytes each: the UTF-8 of each, and no matter what behind that of one byte.
+#[tactic(auto, using(crate::proofs::Lanes::EncodeLanesLemmas::words_spell))]
 #[inline(always)]
 fn both_bytes(units: u16x8) -> u8x16
     requires { (k : ℕ) → slice_index units k < 0x800 }
@@ -88,6 +89,7 @@ pub(crate) fn store_two(
 
 /// Stores the UTF-8 of twice eight code units below U+0800, and returns how many bytes that is and what stood in the
 /// sixteen places behind them, which may be changed.
+#[tactic(auto, using(crate::proofs::Lanes::SpillsLemmas::spills_mended))]
 #[inline(always)]
 pub(crate) fn store_short(first: u16x8, second: u16x8, dst: &mut [u8], at: usize) -> (usize, u8x16)
     requires room { at + 48 ≤ length dst.old }

@@ -226,7 +226,7 @@ none_of : (a b : Bool) → (a || b) ≡ false → (a ≡ false) × (b ≡ false)
 none_of true b e = absurd (true≢false e)
 none_of false b e = (refl, e)
 
-same_tests : (a b : Bool) → cond a (not b) b ≡ false → a ≡ b
+pub same_tests : (a b : Bool) → cond a (not b) b ≡ false → a ≡ b
 same_tests true true e = refl
 same_tests true false e = absurd (true≢false e)
 same_tests false true e = absurd (true≢false e)

@@ -13,7 +13,7 @@ use Rattle.encoding_definitions.specs.Utf16.{IsHighSurrogate, IsLowSurrogate}
 use Rattle.encoding_definitions.proofs.Surrogates.SurrogateLemmas.{valid-encode, valid_more_one, valid_more_two}
 use Rattle.encoding_definitions.proofs.Latin.Latin1Lemmas.{latin1_more_one, latin1_more_two, IsUtf8Latin1-nil}
 use Rattle.encoding_kernels.proofs.Lanes.ChunksLemmas.{unit_is}
-use Rattle.encoding_kernels.proofs.Lanes.SurrogatePairsLemmas.{low_test, high_test}
+use Rattle.encoding_kernels.proofs.Lanes.SurrogatePairsLemmas.{low_test, high_test, same_tests}
 
 before_next : (us : List ℕ) (k : ℕ) → slice_index (0 ∷ us) (k + 1) ≡ slice_index us k
 before_next us k = ap (λ j. slice_index (0 ∷ us) j) {x = k + 1} {y = suc k} (omega arith)
@@ -94,15 +94,9 @@ module _ (us : List ℕ) (n : ℕ) (within : n ≤ length us) (some : 0 < n) (un
 pub paired_joined : (us : List ℕ) (a b from to : ℕ) → PairUp us a b → PairUp us from to → from ≤ b → PairUp us a to
 paired_joined us a b from to p q l = record { each = λ k h m. elim (cases_lt k b) [ inl i ↦ p.each k h i | inr i ↦ q.each k (omega arith) m ] }
 
--- two tests give one answer
-same_tests : (a b : Bool) → cond a (not b) b ≡ false → (a ≡ true) ↔ (b ≡ true)
-same_tests true true e = (λ p. refl, λ p. refl)
-same_tests true false e = absurd (cc)
-same_tests false true e = absurd (cc)
-same_tests false false e = (λ p. p, λ p. p)
-
+-- two tests that give one answer
 same_lane : (a b : Bool) (P Q : Type 0) → (a ≡ true) ↔ P → (b ≡ true) ↔ Q → cond a (not b) b ≡ false → P ↔ Q
-same_lane a b P Q p q e = let same = same_tests a b e in (λ x. q.0 (same.0 (p.1 x)), λ y. p.0 (same.1 (q.1 y)))
+same_lane a b P Q p q e = let same = same_tests a b e in (λ x. q.0 (sym same ∙ p.1 x), λ y. p.0 (same ∙ q.1 y))
 
 -- pairs that stand side by side without a fault, as the rule on each unit and the one before it
 pub pairs_up : (us : List ℕ) (from to at end : ℕ) → from < at → end ≤ to + 1 → ((k : ℕ) → slice_index us k < 2 ^ 16) → PassBetween (λ k. pair_fault (slice_index us (k + 1)) (slice_index us k) ≡ false) from to

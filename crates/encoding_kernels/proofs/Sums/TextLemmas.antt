@@ -61,15 +61,6 @@ chars_total bs h =
     subst (λ xs. length (chars bs) + total (one_from 0xC0) xs ≡ length xs) text.1 (leads_total (chars bs) text.0)
 
 -- ---- UTF-8: what each byte is joined by
-goes_from : (a b : ℕ) → IsSecond a b → goes_second a b ≡ true
-goes_from a b s = grind (arith, nat_tests)
-
-stays_from : (a b : ℕ) → (IsSecond a b → ⊥) → goes_second a b ≡ false
-stays_from a b n = grind (arith, nat_tests)
-
-third_from : (a c : ℕ) → 0xE0 ≤ a → IsContinuation c → goes_third a c ≡ true
-third_from a c l t = grind (arith, nat_tests)
-
 low_third : (a c : ℕ) → a < 0xE0 → goes_third a c ≡ false
 low_third a c l = grind (arith, nat_tests)
 
@@ -77,13 +68,13 @@ stays_third : (a c : ℕ) → (IsContinuation c → ⊥) → goes_third a c ≡ 
 stays_third a c n = grind (arith, nat_tests)
 
 joins_none : (a b c : ℕ) → (IsSecond a b → ⊥) → joined_by a b c ≡ 0
-joins_none a b c n = cond-false _ _ _ (stays_from a b n)
+joins_none a b c n = grind (arith, nat_tests)
 
 joins_one : (a b c : ℕ) → IsSecond a b → goes_third a c ≡ false → joined_by a b c ≡ 1
-joins_one a b c s n = cond-true _ _ _ (goes_from a b s) ∙ cond-false _ _ _ n
+joins_one a b c s n = grind (arith, nat_tests)
 
 joins_two : (a b c : ℕ) → IsSecond a b → 0xE0 ≤ a → IsContinuation c → joined_by a b c ≡ 2
-joins_two a b c s l t = cond-true _ _ _ (goes_from a b s) ∙ cond-true _ _ _ (third_from a c l t)
+joins_two a b c s l t = grind (arith, nat_tests)
 
 -- nothing is joined to a byte that begins none of several
 low_lead : (a b c : ℕ) → a < 0xC2 → joined_by a b c ≡ 0
@@ -177,11 +168,8 @@ utf16_total bs (p ∷ ps) (after, f, more) =
 size : ℕ → ℕ
 size u = cond (nat_le 0x800 u) 2 (cond (nat_le 0x80 u) 1 0)
 
-pair_beyond : (u v : ℕ) → IsPair u v → pairs u v ≡ true
+pair_beyond : (u v : ℕ) → IsPair u v → beyond_one u v ≡ 0
 pair_beyond u v p = grind (arith, nat_tests)
-
-no_pair : (u v : ℕ) → (IsPair u v → ⊥) → pairs u v ≡ false
-no_pair u v n = grind (arith, nat_tests)
 
 len_low : (c : ℕ) → c < 0x10000 → len_utf8 c ≡ 1 + size c
 unfolding size
@@ -189,7 +177,7 @@ len_low c l = grind (arith, nat_tests)
 
 alone_beyond : (u v : ℕ) → (IsPair u v → ⊥) → beyond_one u v ≡ size u
 unfolding size
-alone_beyond u v n = cond-false _ _ _ (no_pair u v n)
+alone_beyond u v n = grind (arith, nat_tests)
 
 size_surrogate : (u : ℕ) → 0x800 ≤ u → size u ≡ 2
 unfolding size
@@ -217,8 +205,7 @@ part16_total us (Character16 c) rest (s, e) = elim (cases_lt c 0x10000) [
       let u = two.0 in
       let v = two.1 in
       let whole : us ≡ u ∷ v ∷ rest = e ∙ ap (λ xs. xs ++ rest) two.3 in
-      let none : beyond_one u v ≡ 0 = cond-true _ _ _ (pair_beyond u v two.2) in
-      rw whole (omega (arith, none, alone_beyond v (slice_index rest 0) (not_low u v (slice_index rest 0) two.2), size_surrogate v (omega (arith, two.2.2)), four_long c l, length-encode c))
+      rw whole (omega (arith, pair_beyond u v two.2, alone_beyond v (slice_index rest 0) (not_low u v (slice_index rest 0) two.2), size_surrogate v (omega (arith, two.2.2)), four_long c l, length-encode c))
 ]
 part16_total us (Lone u) rest (s, e, n) =
     let from : 0x800 ≤ u = elim s [ inl h ↦ omega (arith, h.0) | inr h ↦ omega (arith, h.0) ] in

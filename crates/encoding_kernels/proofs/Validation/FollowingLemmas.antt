@@ -179,8 +179,8 @@ follows_two bs at a b front =
 pub FollowTo-none : (bs : List ℕ) → FollowTo bs 0
 FollowTo-none bs = record { each = λ i l. absurd (omega arith) }
 
-pub FollowTo-less : (bs : List ℕ) (n m : ℕ) → m ≤ n → FollowTo bs n → FollowTo bs m
-FollowTo-less bs n m h f = record { each = λ i l. f.each i (omega arith) }
+pub FollowTo_less : (bs : List ℕ) (n m : ℕ) → m ≤ n → FollowTo bs n → FollowTo bs m
+FollowTo_less bs n m h f = record { each = λ i l. f.each i (omega arith) }
 
 -- ---- ASCII
 closed_follows : (bs : List ℕ) (i : ℕ) → IsClosedAt bs i → get_or bs i 0 < 0x80 → FollowsAt bs i
@@ -219,8 +219,8 @@ FollowTo-ascii bs at to front c ascii = record {
 }
 
 -- a front of the whole
-pub FollowTo-ascii_front : (bs : List ℕ) (n : ℕ) → ((i : ℕ) → i < n → get_or bs i 0 < 0x80) → FollowTo bs n
-FollowTo-ascii_front bs n ascii = FollowTo-ascii bs 0 n (FollowTo-none bs) (IsClosedAt-start bs) (record { each = λ i _ l. ascii i l })
+pub FollowTo_ascii_front : (bs : List ℕ) (n : ℕ) → ((i : ℕ) → i < n → get_or bs i 0 < 0x80) → FollowTo bs n
+FollowTo_ascii_front bs n ascii = FollowTo-ascii bs 0 n (FollowTo-none bs) (IsClosedAt-start bs) (record { each = λ i _ l. ascii i l })
 
 -- ---- where no character is cut
 -- before a byte that goes on with none
@@ -231,8 +231,8 @@ closed_before bs i f h =
     let a : get_or (0 ∷ bs) i 0 < 0xC0 = elim (cases_lt (get_or (0 ∷ bs) i 0) 0xC0) [ inl l ↦ l | inr g ↦ (let s = second_most _ _ (f.second g) in absurd (omega arith)) ] in
     (x, y, a)
 
-pub IsClosedAt-tests : (bs : List ℕ) (at : ℕ) → 3 ≤ at → get_or bs (at - 1) 0 < 0xC0 → get_or bs (at - 2) 0 < 0xE0 → get_or bs (at - 3) 0 < 0xF0 → IsClosedAt bs at
-IsClosedAt-tests bs at h a y x = (
+pub IsClosedAt_tests : (bs : List ℕ) (at : ℕ) → 3 ≤ at → get_or bs (at - 1) 0 < 0xC0 → get_or bs (at - 2) 0 < 0xE0 → get_or bs (at - 3) 0 < 0xF0 → IsClosedAt bs at
+IsClosedAt_tests bs at h a y x = (
   subst (λ k. k < 0xF0) (sym (three_before bs at h)) x,
   subst (λ k. k < 0xE0) (sym (two_before bs at (omega arith))) y,
   subst (λ k. k < 0xC0) (sym (one_before bs at (omega arith))) a,
@@ -244,16 +244,16 @@ IsClosedAt-behind_ascii bs from at h ascii =
     let a = ascii.each (at - 1) (omega arith) (omega arith) in
     let y = ascii.each (at - 2) (omega arith) (omega arith) in
     let x = ascii.each (at - 3) (omega arith) (omega arith) in
-    IsClosedAt-tests bs at (omega arith) (omega arith) (omega arith) (omega arith)
+    IsClosedAt_tests bs at (omega arith) (omega arith) (omega arith) (omega arith)
 
 pub IsUtf8_closed : (bs : List ℕ) (n : ℕ) → n ≤ length bs → FollowTo bs n → IsClosedAt bs n → IsUtf8 (take n bs)
 IsUtf8_closed bs n within f c = IsUtf8_following bs n within c n 0 (omega arith) (omega arith) (λ i _ l. f.each i l) (IsClosedAt-start bs) IsUtf8-nil
 
 -- before the first byte of a character
 pub IsUtf8_before : (bs : List ℕ) (n i : ℕ) → n ≤ length bs → i < n → FollowTo bs n → 0xC0 ≤ get_or bs i 0 → IsUtf8 (take i bs)
-IsUtf8_before bs n i within l f h = IsUtf8_closed bs i (omega arith) (FollowTo-less bs n i (omega arith) f) (closed_before bs i (f.each i l) h)
+IsUtf8_before bs n i within l f h = IsUtf8_closed bs i (omega arith) (FollowTo_less bs n i (omega arith) f) (closed_before bs i (f.each i l) h)
 
 -- a front of ASCII
-pub IsUtf8-ascii_front : (bs : List ℕ) (n : ℕ) → n ≤ length bs → ((i : ℕ) → i < n → get_or bs i 0 < 0x80) → IsUtf8 (take n bs)
-IsUtf8-ascii_front bs n within ascii =
-    IsUtf8_closed bs n within (FollowTo-ascii_front bs n ascii) (IsClosedAt-ascii bs 0 n (omega arith) (IsClosedAt-start bs) (record { each = λ i _ l. ascii i l }))
+pub IsUtf8_ascii_front : (bs : List ℕ) (n : ℕ) → n ≤ length bs → ((i : ℕ) → i < n → get_or bs i 0 < 0x80) → IsUtf8 (take n bs)
+IsUtf8_ascii_front bs n within ascii =
+    IsUtf8_closed bs n within (FollowTo_ascii_front bs n ascii) (IsClosedAt-ascii bs 0 n (omega arith) (IsClosedAt-start bs) (record { each = λ i _ l. ascii i l }))

@@ -1,11 +1,11 @@
 use Rattle.std.proofs.Common.{◌+◌, arith}
-use Rattle.encoding_kernels.proofs.Validation.FollowingLemmas.{FollowTo-ascii, FollowTo-less, IsClosedAt-behind_ascii}
+use Rattle.encoding_kernels.proofs.Validation.FollowingLemmas.{FollowTo-ascii, FollowTo_less, IsClosedAt-behind_ascii}
 use Rattle.encoding_kernels.proofs.blocks.following.Goals as goal
 
 pub loop-at-preserved-then-are_256_ascii : goal.loop-at-preserved-then-are_256_ascii
 loop-at-preserved-then-are_256_ascii c =
     let bs = c.args.src.now in
-    let front = FollowTo-less bs _ (c.loop-at.at + 256) (omega (arith, c.if-clean-lt-FOUR_BLOCKS.false)) (c.clean_of_256-clean.ensures.follow c.loop-at.invariant.front) in
+    let front = FollowTo_less bs _ (c.loop-at.at + 256) (omega (arith, c.if-clean-lt-FOUR_BLOCKS.false)) (c.clean_of_256-clean.ensures.follow c.loop-at.invariant.front) in
     record {
       started = omega (arith, c.skip_ascii-at.ensures.within);
       within = c.skip_ascii-at.ensures.within.1;
