@@ -9,9 +9,10 @@ use Rattle.std.proofs.lemmas.Bool.{and_parts, eqb-true, leb-true}
 use Rattle.std.proofs.lemmas.Grind.{same_number_lists}
 use Rattle.std.proofs.lemmas.Nat.{and_mask, mod_low, ones_le_self}
 use Rattle.std.proofs.lemmas.List.{length-map, length-append, length-take-le, length-drop, get_or-map, get_or-replicate, take-map, map-append, take-append-drop, take_at, drop_at, drop-drop, drop-append-le}
-use Rattle.std.proofs.lemmas.Simd.{SwzOk, SwzOk-from_below, swz_l, length-swz_l, get_or-swz_l_below, Each1-from_get_or, Each1-get_or, get_or_wider, get_or_narrower, mask_l-lt, ones-mask_l_cons, put_chunk_is}
+use Rattle.std.proofs.lemmas.Simd.{SwzOk, SwzOk-from_below, swz_l, length-swz_l, get_or-swz_l_below, Each1-from_get_or, Each1-get_or, get_or_wider, get_or_narrower, mask_l-lt, ones-mask_l_cons, length-put_chunk}
 use Rattle.encoding_kernels.specs.declared.compress_units.TheConstants.{COMPRESSED}
 use Rattle.encoding_kernels.specs.Lanes.{HasLanes}
+use Rattle.encoding_kernels.proofs.Lanes.PutLemmas.{put_front, put_is}
 use Rattle.encoding_kernels.proofs.Lanes.WordLemmas.{bytes_lanes, wide, wide_l}
 use Rattle.encoding_kernels.proofs.Lanes.LaneLemmas.{HasLanes-itself, HasLanes-numbers, HasLanes-splat, HasLanes-zip2, HasLanes-select, HasLanes-same, compared, top_compared, firsts_are, same_below}
 use Rattle.encoding_kernels.specs.Units.{keep, places_from, compressed_places, bytes_at, byte_places, WritesCompressed}
@@ -223,9 +224,6 @@ compressed_keep ms us p q =
           ∙ ap (λ n. take n (kept ++ zeros)) room ∙ take-append-add kept zeros (8 - length kept),
     )
 
-drop_past : (xs ys : List ℕ) (j : ℕ) → drop (length xs + j) (xs ++ ys) ≡ drop j ys
-drop_past xs ys j = sym (drop-drop j (length xs) (xs ++ ys)) ∙ ap (drop j) (drop_at xs ys (length xs) refl)
-
 -- ---- both halves, one behind what is kept of the other
 module _ (ms : List Bool) (us old low_us high_us first second : List ℕ) (kept : ℕ) (low_us_is : low_us ≡ take 8 us) (high_us_is : high_us ≡ drop 8 us) (marks_long : length ms ≡ 16) (long : length us ≡ 16) (room : 16 ≤ length old) (is : kept ≡ mask_l ms)
     (first_is : first ≡ map (λ k. get_or low_us k 0) (compressed_places (bit_and kept 255)))
@@ -291,42 +289,37 @@ module _ (ms : List Bool) (us old low_us high_us first second : List ℕ) (kept 
   abbrev half_put : List ℕ
   half_put = put_chunk 0 old first
 
-  half_is : half_put ≡ first ++ drop 8 old
-  half_is = put_chunk_is 0 old first (omega (arith, first_long, room)) ∙ ap (λ n. first ++ drop n old) first_long
-
-  half_long : length half_put ≡ length old
-  half_long = ap length half_is ∙ omega (arith, length-append first (drop 8 old), first_long, length-drop 8 old, room)
-
   abbrev count : ℕ
   count = length low_kept
+
+  abbrev more : ℕ
+  more = length high_kept
+
+  -- with whatever is stored behind what is kept of the first
+  stored : (z : List ℕ) → length z ≡ 8 → put_chunk count half_put z ≡ low_kept ++ (z ++ drop (count + 8) old)
+  stored z eight =
+      let start : 0 + count ≡ count = omega arith in
+      let parts = put_front 8 old first 0 count first_long low_few (omega (arith, room)) in
+      let front : take count half_put ≡ low_kept = ap (λ n. take n half_put) (sym start) ∙ parts.0 ∙ ap (take count) low_compressed.1 ∙ take_at low_kept low_compressed.0 count refl in
+      let behind : drop (count + 8) half_put ≡ drop (count + 8) old = ap (λ n. drop (n + 8) half_put) (sym start) ∙ parts.1 ∙ ap (λ n. drop (n + 8) old) start in
+      put_is count 8 half_put z eight (omega (arith, length-put_chunk 0 old first, low_few, room)) ∙ (λ i. front i ++ (z ++ behind i))
 
   abbrev both_put : List ℕ
   both_put = put_chunk count half_put second
 
-  front : take count half_put ≡ low_kept
-  front = ap (take count) (half_is ∙ ap (λ xs. xs ++ drop 8 old) low_compressed.1 ∙ append_assoc low_kept low_compressed.0 (drop 8 old)) ∙ take_at low_kept (low_compressed.0 ++ drop 8 old) count refl
-
-  both_is : both_put ≡ low_kept ++ (second ++ drop 8 (drop count half_put))
-  both_is = put_chunk_is count half_put second (omega (arith, half_long, second_long, low_few, room)) ∙ (λ i. front i ++ (second ++ drop (second_long i) (drop count half_put)))
-
   whole : low_kept ++ high_kept ≡ keep ms us
   whole = sym (keep_split 8 ms us (marks_long ∙ sym long))
 
-  kept_front : take (count + length high_kept) both_put ≡ keep ms us
+  kept_front : take (count + more) both_put ≡ keep ms us
   kept_front =
-      let rest = drop 8 (drop count half_put) in
-      let split : both_put ≡ (low_kept ++ high_kept) ++ (high_compressed.0 ++ rest) =
-      both_is ∙ ap (λ xs. low_kept ++ (xs ++ rest)) high_compressed.1 ∙ ap (λ xs. low_kept ++ xs) (append_assoc high_kept high_compressed.0 rest) ∙ sym (append_assoc low_kept high_kept (high_compressed.0 ++ rest)) in
-      ap (take (count + length high_kept)) split ∙ take_at (low_kept ++ high_kept) (high_compressed.0 ++ rest) (count + length high_kept) (length-append low_kept high_kept) ∙ whole
+      let rest = high_compressed.0 ++ drop (count + 8) old in
+      let split : both_put ≡ (low_kept ++ high_kept) ++ rest =
+      stored second second_long ∙ ap (λ xs. low_kept ++ (xs ++ drop (count + 8) old)) high_compressed.1 ∙ ap (λ xs. low_kept ++ xs) (append_assoc high_kept high_compressed.0 (drop (count + 8) old)) ∙ sym (append_assoc low_kept high_kept rest) in
+      ap (take (count + more)) split ∙ take_at (low_kept ++ high_kept) rest (count + more) (length-append low_kept high_kept) ∙ whole
 
   kept_behind : drop (count + 8) both_put ≡ drop (count + 8) old
-  kept_behind =
-      let rest = drop 8 (drop count half_put) in
-      let split : both_put ≡ (low_kept ++ second) ++ rest = both_is ∙ sym (append_assoc low_kept second rest) in
-      let size : length (low_kept ++ second) ≡ count + 8 = length-append low_kept second ∙ ap (λ n. count + n) second_long in
-      let places : length first + count ≡ count + 8 = omega (arith, first_long) in
-      ap (drop (count + 8)) split ∙ drop_at (low_kept ++ second) rest (count + 8) size ∙ drop-drop 8 count half_put
-      ∙ ap (drop (count + 8)) half_is ∙ ap (λ n. drop n (first ++ drop 8 old)) (sym places) ∙ drop_past first (drop 8 old) count ∙ drop-drop count 8 old ∙ ap (λ n. drop n old) {x = 8 + count} {y = count + 8} (omega arith)
+  kept_behind = ap (drop (count + 8)) (stored second second_long ∙ sym (append_assoc low_kept second (drop (count + 8) old)))
+      ∙ drop_at (low_kept ++ second) (drop (count + 8) old) (count + 8) (length-append low_kept second ∙ ap (λ n. count + n) second_long)
 
   pub writes_compressed : WritesCompressed ms us old (put_chunk (count_ones (bit_and kept 255)) (put_chunk 0 old first) second) (count_ones (bit_and kept 255) + count_ones (kept / 256)) (count_ones (bit_and kept 255) + count_ones (kept / 256) + 8 - count_ones (kept / 256))
   writes_compressed =
@@ -341,9 +334,6 @@ module _ (ms : List Bool) (us old low_us high_us first second : List ℕ) (kept 
   -- the same, where the second store keeps what stood behind its own
   abbrev alone : List ℕ
   alone = sel_l (map (top 15) (zip2 (compared w16 ltb) (range_with_len 0 8) (replicate 8 (count_ones (kept / 256))))) second (take 8 (drop (count_ones (bit_and kept 255)) old))
-
-  abbrev more : ℕ
-  more = length high_kept
 
   more_few : more ≤ 8
   more_few = omega (arith, length-keep-le high_marks (drop 8 us), high_long)
@@ -366,19 +356,12 @@ module _ (ms : List Bool) (us old low_us high_us first second : List ℕ) (kept 
   alone_long : length alone ≡ 8
   alone_long = ap length alone_is ∙ omega (arith, length-append high_kept (drop more behind), length-drop more behind, behind_long, more_few)
 
-  rest_as_before : drop 8 (drop count half_put) ≡ drop 8 (drop count old)
-  rest_as_before =
-      let places : length first + count ≡ count + 8 = omega (arith, first_long) in
-      drop-drop 8 count half_put ∙ ap (drop (count + 8)) half_is ∙ ap (λ n. drop n (first ++ drop 8 old)) (sym places) ∙ drop_past first (drop 8 old) count
-      ∙ drop-drop count 8 old ∙ ap (λ n. drop n old) {x = 8 + count} {y = count + 8} (omega arith) ∙ sym (drop-drop 8 count old)
-
   behind_kept : drop more behind ++ drop 8 (drop count old) ≡ drop (count + more) old
   behind_kept = sym (drop-append-le more behind (drop 8 (drop count old)) (omega (arith, behind_long, more_few))) ∙ ap (drop more) (take-append-drop 8 (drop count old)) ∙ drop-drop more count old
 
   alone_put : put_chunk count half_put alone ≡ (low_kept ++ high_kept) ++ drop (count + more) old
   alone_put =
-      put_chunk_is count half_put alone (omega (arith, half_long, alone_long, low_few, room)) ∙ (λ i. front i ++ (alone_is i ++ drop (alone_long i) (drop count half_put)))
-      ∙ ap (λ xs. low_kept ++ ((high_kept ++ drop more behind) ++ xs)) rest_as_before
+      stored alone alone_long ∙ (λ i. low_kept ++ (alone_is i ++ sym (drop-drop 8 count old) i))
       ∙ ap (λ xs. low_kept ++ xs) (append_assoc high_kept (drop more behind) (drop 8 (drop count old)) ∙ ap (λ xs. high_kept ++ xs) behind_kept)
       ∙ sym (append_assoc low_kept high_kept (drop (count + more) old))
 

@@ -1,7 +1,8 @@
 -- A vector that is put in a list at a place, and one that is read from a whole stride.
-use Rattle.std.proofs.Common.{◌≡◌, ℕ, ◌+◌, ◌≤◌, List, ◌++◌, length, take, drop, drop-drop, map, map-id, ap, ◌∙◌, arith}
-use Rattle.std.proofs.lemmas.List.{take_all}
+use Rattle.std.proofs.Common.{◌≡◌, ℕ, ◌+◌, ◌≤◌, List, ◌++◌, length, take, drop, drop-drop, take-add, length-take-le, length-append, map, map-id, sym, ap, ◌∙◌, arith, append_assoc}
+use Rattle.std.proofs.lemmas.List.{take_all, take_at, drop_at, take-append-le}
 use Rattle.std.proofs.lemmas.Simd.{put_chunk_is, length-chunk}
+use Rattle.std.proofs.lemmas.Slice.{drop-append-drop}
 use Rattle.std.specs.Simd.Lanes.{chunk, put_chunk}
 
 pub put_is : {X : Type 0} (at n : ℕ) (xs ys : List X) → length ys ≡ n → at + n ≤ length xs → put_chunk at xs ys ≡ take at xs ++ (ys ++ drop (at + n) xs)
@@ -16,3 +17,16 @@ whole_chunk n stride long = take_all n stride (omega (arith, long))
 -- of a vector read from the same place of another list, each lane cast to what holds it
 pub put_same_place : {X : Type 0} (at n : ℕ) (xs ys : List X) → at + n ≤ length ys → at + n ≤ length xs → put_chunk at xs (map (λ x. x) (chunk at n ys)) ≡ take at xs ++ (take n (drop at ys) ++ drop (at + n) xs)
 put_same_place at n xs ys within room = ap (put_chunk at xs) (map-id (chunk at n ys)) ∙ put_is at n xs (chunk at n ys) (length-chunk at n ys within) room
+
+-- a vector that is put, of which first lanes count: what stands before their end, and a vector's width behind it
+pub put_front : (w : ℕ) (xs ys : List ℕ) (at n : ℕ) → length ys ≡ w → n ≤ w → at + w ≤ length xs
+    → (take (at + n) (put_chunk at xs ys) ≡ take at xs ++ take n ys) × (drop (at + n + w) (put_chunk at xs ys) ≡ drop (at + n + w) xs)
+put_front w xs ys at n long few room =
+    let is : put_chunk at xs ys ≡ take at xs ++ (ys ++ drop (at + w) xs) = put_is at w xs ys long room in
+    let start : length (take at xs) ≡ at = length-take-le at xs (omega arith) in
+    let both : length (take at xs ++ ys) ≡ at + w = omega (arith, length-append (take at xs) ys) in (
+      take-add at n (put_chunk at xs ys) ∙ (λ i. take at (is i) ++ take n (drop at (is i)))
+          ∙ (λ i. take_at (take at xs) (ys ++ drop (at + w) xs) at start i ++ take n (drop_at (take at xs) (ys ++ drop (at + w) xs) at start i))
+          ∙ ap (λ zs. take at xs ++ zs) (take-append-le n ys (drop (at + w) xs) (omega arith)),
+      ap (drop (at + n + w)) (is ∙ sym (append_assoc (take at xs) ys (drop (at + w) xs))) ∙ drop-append-drop (at + w) xs (take at xs ++ ys) (at + n + w) (omega arith) both,
+    )

@@ -7,22 +7,13 @@ use Rattle.std.specs.Simd.Lanes.{chunk, put_chunk}
 use Rattle.encoding_definitions.specs.Fronts.{WritesFront}
 use Rattle.encoding_definitions.proofs.LongestFronts.FrontsLemmas.{WritesFront-nil, WritesFront_put}
 use Rattle.encoding_kernels.specs.EncodeLanes.{Spills, mended}
-use Rattle.encoding_kernels.proofs.Lanes.PutLemmas.{put_is}
+use Rattle.encoding_kernels.proofs.Lanes.PutLemmas.{put_front}
 
 -- one vector
 pub store_spills : (xs ys : List ℕ) (at n : ℕ) → length ys ≡ 16 → n ≤ 16 → at + 16 ≤ length xs → Spills xs (put_chunk at xs ys) at n (take n ys)
 store_spills xs ys at n long few room =
-    let is : put_chunk at xs ys ≡ take at xs ++ (ys ++ drop (at + 16) xs) = put_is at 16 xs ys long room in
-    let start : length (take at xs) ≡ at = length-take-le at xs (omega arith) in
-    let both : length (take at xs ++ ys) ≡ at + 16 = omega (arith, length-append (take at xs) ys) in
-    record {
-      counted = length-take-le n ys (omega arith);
-      front = take-add at n (put_chunk at xs ys) ∙ (λ i. take at (is i) ++ take n (drop at (is i)))
-          ∙ (λ i. take_at (take at xs) (ys ++ drop (at + 16) xs) at start i ++ take n (drop_at (take at xs) (ys ++ drop (at + 16) xs) at start i))
-          ∙ ap (λ zs. take at xs ++ zs) (take-append-le n ys (drop (at + 16) xs) (omega arith));
-      behind = ap (drop (at + n + 16)) (is ∙ sym (append_assoc (take at xs) ys (drop (at + 16) xs))) ∙ drop-append-drop (at + 16) xs (take at xs ++ ys) (at + n + 16) (omega arith) both;
-      long = length-put_chunk at xs ys;
-    }
+    let parts = put_front 16 xs ys at n long few room in
+    record { counted = length-take-le n ys (omega arith); front = parts.0; behind = parts.1; long = length-put_chunk at xs ys }
 
 -- one behind the other
 pub spills_then : (a b c : List ℕ) (at n m : ℕ) (xs ys : List ℕ) → Spills a b at n xs → Spills b c (at + n) m ys → Spills a c at (n + m) (xs ++ ys)

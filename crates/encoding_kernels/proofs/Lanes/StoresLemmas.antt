@@ -9,7 +9,7 @@ use Rattle.std.proofs.Common.{map, replicate}
 use mir.Syntax.{Width}
 use mir.Val.{hbits}
 use Rattle.encoding_kernels.specs.Lanes.{HasLanes}
-use Rattle.encoding_kernels.proofs.Lanes.PutLemmas.{put_is}
+use Rattle.encoding_kernels.proofs.Lanes.PutLemmas.{put_front, put_is}
 use Rattle.encoding_kernels.proofs.Lanes.LaneLemmas.{HasLanes-itself, HasLanes-numbers, HasLanes-splat, HasLanes-zip2, HasLanes-select, HasLanes-same, compared, top_compared, put_firsts}
 
 -- the first so many lanes of one vector, and behind them what stands at a place
@@ -23,30 +23,6 @@ firsts_over w at count xs lanes room long =
 module _ (at count more : ℕ) (xs first second z : List ℕ) (room : at + 32 ≤ length xs) (few : count ≤ 16) (long : length first ≡ 16)
     (less : more ≤ 16) (also : length second ≡ 16)
     (lanes : HasLanes 16 z (λ k. cond (ltb k more) (get_or second k 0) (get_or (chunk (at + count) 16 xs) k 0))) where
-  stored : List ℕ
-  stored = put_chunk at xs first
-
-  stored_is : stored ≡ take at xs ++ (first ++ drop (at + 16) xs)
-  unfolding stored
-  stored_is = put_is at 16 xs first long (omega arith)
-
-  -- what stands before the second store
-  before : take (at + count) stored ≡ take at xs ++ take count first
-  before =
-      let front : length (take at xs) ≡ at = length-take-le at xs (omega arith) in
-      take-add at count stored ∙ (λ i. take at (stored_is i) ++ take count (drop at (stored_is i)))
-      ∙ (λ i. take_at (take at xs) (first ++ drop (at + 16) xs) at front i ++ take count (drop_at (take at xs) (first ++ drop (at + 16) xs) at front i))
-      ∙ ap (λ ys. take at xs ++ ys) (take-append-le count first (drop (at + 16) xs) (omega arith))
-
-  -- behind the second store all is as before both
-  behind : drop (at + count + 16) stored ≡ drop (at + count + 16) xs
-  behind =
-      let front : length (take at xs ++ first) ≡ at + 16 = omega (arith, length-append (take at xs) first, length-take-le at xs (omega arith)) in
-      let place : at + count + 16 ≡ at + 16 + count = omega arith in
-      ap (λ n. drop n stored) place ∙ sym (drop-drop count (at + 16) stored)
-      ∙ ap (drop count) (ap (drop (at + 16)) (stored_is ∙ sym (append_assoc (take at xs) first (drop (at + 16) xs))) ∙ drop_at (take at xs ++ first) (drop (at + 16) xs) (at + 16) front)
-      ∙ drop-drop count (at + 16) xs ∙ ap (λ n. drop n xs) (sym place)
-
   -- the second store alone
   second_alone : z ++ drop (at + count + 16) xs ≡ take more second ++ drop (at + count + more) xs
   second_alone =
@@ -56,11 +32,11 @@ module _ (at count more : ℕ) (xs first second z : List ℕ) (room : at + 32 �
       ∙ drop_at (take (at + count) xs) (take more second ++ drop (at + count + more) xs) (at + count) front
 
   pub both_put : put_chunk (at + count) (put_chunk at xs first) z ≡ take at xs ++ ((take count first ++ take more second) ++ drop (at + (count + more)) xs)
-  unfolding stored
   both_put =
       let place : at + count + more ≡ at + (count + more) = omega arith in
-      put_is (at + count) 16 stored z lanes.long (omega (arith, length-put_chunk at xs first))
-      ∙ (λ i. before i ++ (z ++ behind i))
+      let parts = put_front 16 xs first at count long few (omega arith) in
+      put_is (at + count) 16 (put_chunk at xs first) z lanes.long (omega (arith, length-put_chunk at xs first))
+      ∙ (λ i. parts.0 i ++ (z ++ parts.1 i))
       ∙ ap (λ ys. (take at xs ++ take count first) ++ ys) (second_alone ∙ ap (λ n. take more second ++ drop n xs) place)
       ∙ append_assoc (take at xs) (take count first) (take more second ++ drop (at + (count + more)) xs)
       ∙ ap (λ ys. take at xs ++ ys) (sym (append_assoc (take count first) (take more second) (drop (at + (count + more)) xs)))
