@@ -13,6 +13,7 @@ use Rattle.std.proofs.lemmas.Simd.{SwzOk, SwzOk-from_below, swz_l, length-swz_l,
 use Rattle.encoding_kernels.specs.declared.compress_units.TheConstants.{COMPRESSED}
 use Rattle.encoding_kernels.specs.Lanes.{HasLanes}
 use Rattle.encoding_kernels.proofs.Lanes.PutLemmas.{put_front, put_is}
+use Rattle.encoding_kernels.proofs.Lanes.TestLemmas.{chosen_by, tests_of}
 use Rattle.encoding_kernels.proofs.Lanes.WordLemmas.{bytes_lanes, wide, wide_l}
 use Rattle.encoding_kernels.proofs.Lanes.LaneLemmas.{HasLanes-itself, HasLanes-numbers, HasLanes-splat, HasLanes-zip2, HasLanes-select, HasLanes-same, compared, top_compared, firsts_are, same_below}
 use Rattle.encoding_kernels.specs.Units.{keep, places_from, compressed_places, bytes_at, byte_places, WritesCompressed}
@@ -346,9 +347,7 @@ module _ (ms : List Bool) (us old low_us high_us first second : List ℕ) (kept 
 
   alone_is : alone ≡ high_kept ++ drop more behind
   alone_is =
-      let tests = HasLanes-zip2 (compared w16 ltb) (HasLanes-numbers 8) (HasLanes-splat 8 more) in
-      let chosen = HasLanes-same (HasLanes-select 15 tests (HasLanes-itself 8 second second_long) (HasLanes-itself 8 behind behind_long))
-      (λ k l. ap (λ b. cond b (get_or second k 0) (get_or behind k 0)) (top_compared w16 (ltb k more))) in
+      let chosen = chosen_by (tests_of w16 ltb (HasLanes-numbers 8) (HasLanes-splat 8 more)) (HasLanes-itself 8 second second_long) (HasLanes-itself 8 behind behind_long) in
       (λ i. sel_l (map (top 15) (zip2 (compared w16 ltb) (range_with_len 0 8) (replicate 8 (high_count i)))) second (take 8 (drop (low_count i) old)))
       ∙ firsts_are 8 more second behind _ second_long behind_long more_few chosen
       ∙ ap (λ xs. xs ++ drop more behind) (ap (take more) high_compressed.1 ∙ take_at high_kept high_compressed.0 more refl)

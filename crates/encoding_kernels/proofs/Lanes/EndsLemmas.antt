@@ -14,7 +14,7 @@ use Rattle.encoding_kernels.specs.Lanes.{HasLanes}
 use Rattle.encoding_kernels.specs.EncodeLanes.{kept_places, ended, all_ended, both_end, EndsPair}
 use Rattle.encoding_kernels.proofs.Validation.FollowingLemmas.{one_before}
 use Rattle.encoding_kernels.proofs.Lanes.LaneLemmas.{HasLanes-itself, HasLanes-splat, HasLanes-zip2, HasLanes-select, HasLanes-same, compared, top_compared, mask_of}
-use Rattle.encoding_kernels.proofs.Lanes.TestLemmas.{tests_of, tests_and}
+use Rattle.encoding_kernels.proofs.Lanes.TestLemmas.{chosen_by, tests_of, tests_and}
 use Rattle.encoding_kernels.proofs.Lanes.WordLemmas.{bytes_of, bytes_lanes, wide, wide_l}
 use Rattle.encoding_kernels.proofs.Latin.EndedLemmas.{ended_ascii, ended_last, ended_none, PairAt, pairs_kept, both_end_long}
 
@@ -112,9 +112,7 @@ module _ (bs : List ℕ) (long : length bs ≡ 16) (fits : Each1 (Fits w8) bs) w
       let lanes = HasLanes-itself 16 bs long in
       let high = HasLanes-zip2 (λ a b. a * 2 ^ b % 2 ^ 8) before_lanes (HasLanes-splat 16 6) in
       let low = HasLanes-zip2 bit_and lanes (HasLanes-splat 16 0x3F) in
-      let tests = HasLanes-zip2 (compared w8 leb) (HasLanes-splat 16 0x80) lanes in
-      HasLanes-same (HasLanes-select 7 tests (HasLanes-zip2 (λ a b. (a + b) % 2 ^ 8) high low) lanes)
-      (λ k l. ap (λ t. cond t ((get_or (0 ∷ bs) k 0 * 2 ^ 6 % 2 ^ 8 + bit_and (get_or bs k 0) 0x3F) % 2 ^ 8) (get_or bs k 0)) (top_compared w8 (leb 0x80 (get_or bs k 0))))
+      chosen_by (tests_of w8 leb (HasLanes-splat 16 0x80) lanes) (HasLanes-zip2 (λ a b. (a + b) % 2 ^ 8) high low) lanes
 
   ends_fit : Each1 (λ x. x < 256) (ends_l bs)
   ends_fit = Each1-from_get_or (λ x. x < 256) (ends_l bs) 0 (λ k l.
@@ -135,11 +133,7 @@ module _ (bs : List ℕ) (long : length bs ≡ 16) (fits : Each1 (Fits w8) bs) w
   result_lanes : HasLanes 8 (result_l bs) (λ k. pair_word (get_or (0 ∷ bs) (2 * k) 0) (get_or bs (2 * k) 0) (get_or bs (2 * k + 1) 0))
   result_lanes =
       let halves = HasLanes-zip2 bit_and (wide bs long bytes_fit) (HasLanes-splat 8 0xFF) in
-      let tests = HasLanes-zip2 (compared w16 leb) (HasLanes-splat 8 0xC0) halves in
-      let shifted = HasLanes-zip2 (λ a b. a / 2 ^ b) words_lanes (HasLanes-splat 8 8) in
-      HasLanes-same (HasLanes-select 15 tests shifted words_lanes) (λ k l.
-      let word = end_of (get_or (0 ∷ bs) (2 * k) 0) (get_or bs (2 * k) 0) + 256 * end_of (get_or bs (2 * k) 0) (get_or bs (2 * k + 1) 0) in
-      ap (λ t. cond t (word / 2 ^ 8) word) (top_compared w16 (leb 0xC0 (bit_and (get_or bs (2 * k) 0 + 256 * get_or bs (2 * k + 1) 0) 0xFF))))
+      chosen_by (tests_of w16 leb (HasLanes-splat 8 0xC0) halves) (HasLanes-zip2 (λ a b. a / 2 ^ b) words_lanes (HasLanes-splat 8 8)) words_lanes
 
   pair_small : (p a b : ℕ) → a < 256 → b < 256 → pair_word p a b < 65536
   pair_small p a b A B = pick (nat_le 0xC0 (bit_and (a + 256 * b) 0xFF))

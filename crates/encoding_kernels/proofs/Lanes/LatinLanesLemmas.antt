@@ -13,7 +13,8 @@ use mir.Syntax.{w8}
 use Rattle.encoding_kernels.specs.Lanes.{HasLanes}
 use Rattle.encoding_kernels.specs.EncodeLanes.{EncodesTo, kept_places}
 use Rattle.encoding_kernels.proofs.Lanes.CompressLemmas.{low_half, high_half}
-use Rattle.encoding_kernels.proofs.Lanes.LaneLemmas.{HasLanes-itself, HasLanes-splat, HasLanes-zip2, HasLanes-select, HasLanes-same, compared, top_compared}
+use Rattle.encoding_kernels.proofs.Lanes.LaneLemmas.{HasLanes-itself, HasLanes-splat, HasLanes-zip2, HasLanes-same, compared}
+use Rattle.encoding_kernels.proofs.Lanes.TestLemmas.{chosen_by, tests_of}
 use Rattle.encoding_kernels.proofs.Lanes.EncodeLanesLemmas.{respell, spelled_short}
 use Rattle.encoding_kernels.proofs.Lanes.WordLemmas.{bytes_of, bytes_lanes}
 
@@ -49,8 +50,7 @@ module _ (v : List ℕ) (long : length v ≡ 16) (small : (k : ℕ) → k < 16 �
   first_lanes =
       let lanes = HasLanes-itself 16 v long in
       let lead = HasLanes-zip2 (λ a b. (a + b) % 2 ^ 8) (HasLanes-zip2 (λ a b. a / 2 ^ b) lanes (HasLanes-splat 16 6)) (HasLanes-splat 16 0xC0) in
-      let chosen = HasLanes-select 7 (HasLanes-zip2 (compared w8 leb) (HasLanes-splat 16 0x80) lanes) lead lanes in
-      HasLanes-same chosen (λ k l. ap (λ t. cond t ((get_or v k 0 / 2 ^ 6 + 0xC0) % 2 ^ 8) (get_or v k 0)) (top_compared w8 (leb 0x80 (get_or v k 0))))
+      chosen_by (tests_of w8 leb (HasLanes-splat 16 0x80) lanes) lead lanes
 
   pub second_lanes : HasLanes 16 (zip2 (λ a b. (a + b) % 2 ^ 8) (zip2 bit_and v (replicate 16 0x3F)) (replicate 16 0x80)) (λ k. second_of (get_or v k 0))
   second_lanes = HasLanes-zip2 (λ a b. (a + b) % 2 ^ 8) (HasLanes-zip2 bit_and (HasLanes-itself 16 v long) (HasLanes-splat 16 0x3F)) (HasLanes-splat 16 0x80)

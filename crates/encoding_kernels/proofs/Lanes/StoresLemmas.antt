@@ -10,15 +10,14 @@ use mir.Syntax.{Width}
 use mir.Val.{hbits}
 use Rattle.encoding_kernels.specs.Lanes.{HasLanes}
 use Rattle.encoding_kernels.proofs.Lanes.PutLemmas.{put_front, put_is}
+use Rattle.encoding_kernels.proofs.Lanes.TestLemmas.{chosen_by, tests_of}
 use Rattle.encoding_kernels.proofs.Lanes.LaneLemmas.{HasLanes-itself, HasLanes-numbers, HasLanes-splat, HasLanes-zip2, HasLanes-select, HasLanes-same, compared, top_compared, put_firsts}
 
 -- the first so many lanes of one vector, and behind them what stands at a place
 pub firsts_over : (w : Width) (at count : ℕ) (xs lanes : List ℕ) → at + 16 ≤ length xs → length lanes ≡ 16
     → HasLanes 16 (sel_l (map (top (hbits w)) (zip2 (compared w ltb) (range_with_len 0 16) (replicate 16 count))) lanes (chunk at 16 xs)) (λ k. cond (ltb k count) (get_or lanes k 0) (get_or (chunk at 16 xs) k 0))
 firsts_over w at count xs lanes room long =
-    let first = HasLanes-zip2 (compared w ltb) (HasLanes-numbers 16) (HasLanes-splat 16 count) in
-    let chosen = HasLanes-select (hbits w) first (HasLanes-itself 16 lanes long) (HasLanes-itself 16 (chunk at 16 xs) (length-chunk at 16 xs room)) in
-    HasLanes-same chosen (λ k l. ap (λ b. cond b (get_or lanes k 0) (get_or (chunk at 16 xs) k 0)) (top_compared w (ltb k count)))
+    chosen_by (tests_of w ltb (HasLanes-numbers 16) (HasLanes-splat 16 count)) (HasLanes-itself 16 lanes long) (HasLanes-itself 16 (chunk at 16 xs) (length-chunk at 16 xs room))
 
 module _ (at count more : ℕ) (xs first second z : List ℕ) (room : at + 32 ≤ length xs) (few : count ≤ 16) (long : length first ≡ 16)
     (less : more ≤ 16) (also : length second ≡ 16)

@@ -1,7 +1,7 @@
 -- Code units below U+0800 and pairs, in lanes: each half of a pair has two bytes.
 use Rattle.std.proofs.Common.{◌≡◌, ℕ, zero, suc, ◌+◌, ◌-◌, ◌*◌, ◌/◌, ◌%◌, ◌^◌, ◌<◌, ◌≤◌, ◌↔◌, ◌⊎◌, inl, inr, Bool, true, false, not, cond, eqb, leb, ◌||◌, List, [], ◌∷◌, ◌++◌, map, length, take, drop, get_or, bit_and, refl, sym, ap, ◌∙◌, arith, subst, append_assoc, length-append, length-take-le, w8}
 use Rattle.std.specs.Prelude.{nat_le, nat_lt}
-use Rattle.std.proofs.lemmas.Bool.{cases_lt, leb-false, eqb-true, eq-eqb, true≢false}
+use Rattle.std.proofs.lemmas.Bool.{cases_lt, leb-false, eqb-true, eq-eqb, true≢false, or_parts}
 use Rattle.std.proofs.lemmas.Bool.Decides.{nat_tests}
 use Rattle.std.proofs.lemmas.List.{append-nil, take-append-drop, take_at, get_or-map}
 use Rattle.std.proofs.lemmas.List.FromFn.{get_or-range_with_len}
@@ -222,10 +222,6 @@ module _ (us : List ℕ) (at : ℕ) (room : at + 16 ≤ length us) (p : AreShort
       joined_halves 8 (take count bytes) (take (more - 2 * cut) other) (omega arith) first (ap (λ n. take n other) same ∙ second) ∙ ap (halves_from us at) units
 
 -- ---- the test
-none_of : (a b : Bool) → (a || b) ≡ false → (a ≡ false) × (b ≡ false)
-none_of true b e = absurd (true≢false e)
-none_of false b e = (refl, e)
-
 pub same_tests : (a b : Bool) → cond a (not b) b ≡ false → a ≡ b
 same_tests true true e = refl
 same_tests true false e = absurd (true≢false e)
@@ -261,11 +257,11 @@ pub halves_lanes : (us : List ℕ) (at : ℕ) → ((k : ℕ) → get_or us k 0 <
 halves_lanes us at fit whole none = record {
   each = λ k from to.
       let x = get_or us k 0 in
-      let same = same_tests (leb 0x800 x) (eqb (bit_and x 0xF800) 0xD800) (none_of _ _ (clean k from to)).1 in
+      let same = same_tests (leb 0x800 x) (eqb (bit_and x 0xF800) 0xD800) (or_parts _ _ (clean k from to)).1 in
       short_or_half x (fit k) (eqb (bit_and x 0xF800) 0xD800) same refl;
   whole = λ l. whole;
   paired = λ k from to.
-      let same = same_tests _ _ (none_of _ _ (clean k from (omega arith))).0 in
+      let same = same_tests _ _ (or_parts _ _ (clean k from (omega arith))).0 in
       let high = high_test (get_or us k 0) (fit k) in
       let low = low_test (get_or us (k + 1) 0) (fit (k + 1)) in
       (λ h. low.0 (sym same ∙ high.1 h), λ h. high.0 (same ∙ low.1 h));

@@ -1,15 +1,15 @@
 -- Masks as tests of lanes: joined, chosen by, and what holds where no lane passes.
-use Rattle.std.proofs.Common.{◌≡◌, ℕ, ◌-◌, ◌^◌, ◌+◌, ◌<◌, ◌≤◌, ◌↔◌, IsTrue, Bool, true, false, not, cond, ◌&&◌, ◌||◌, eqb, inl, inr, List, map, replicate, bit_and, bit_or, bit_xor, refl, sym, ap, ◌∙◌, arith, subst}
-use Rattle.std.proofs.lemmas.Bool.{cases_lt, false≢true}
+use Rattle.std.proofs.Common.{◌≡◌, ℕ, ◌-◌, ◌^◌, ◌+◌, ◌<◌, ◌≤◌, ◌↔◌, IsTrue, Bool, true, false, not, cond, ◌&&◌, ◌||◌, eqb, leb, inl, inr, List, length, get_or, map, replicate, bit_and, bit_or, bit_xor, refl, sym, ap, ◌∙◌, arith, subst}
+use Rattle.std.proofs.lemmas.Bool.{cases_lt, false≢true, leb-false, lt-leb}
 use Rattle.std.specs.Int.Bits.{and_self, and_zero_l, and_zero_r, or_self, or_zero_l, or_zero_r, xor_self, xor_zero_l, xor_zero_r}
-use Rattle.std.specs.Simd.Lanes.{zip2, top, sel_l}
+use Rattle.std.specs.Simd.Lanes.{chunk, zip2, top, sel_l}
 use Rattle.std.proofs.lemmas.Simd.{trailing_mask_l}
 use lib.Count.{count_trailing_zeros}
 use mir.Syntax.{Width}
 use mir.Val.{bits, hbits}
 use Rattle.encoding_kernels.specs.Lanes.{HasLanes}
 use Rattle.encoding_kernels.specs.Places.{Marks}
-use Rattle.encoding_kernels.proofs.Lanes.LaneLemmas.{HasLanes-zip2, HasLanes-splat, HasLanes-select, HasLanes-same, compared, top_compared, mask_of, mask_is, not_any_is, IsFirstSet, first_set, first_none, no_bit_from}
+use Rattle.encoding_kernels.proofs.Lanes.LaneLemmas.{HasLanes-load, HasLanes-zip2, HasLanes-splat, HasLanes-select, HasLanes-same, compared, top_compared, mask_of, mask_is, not_any_is, IsFirstSet, first_set, first_none, no_bit_from}
 
 -- lane k of the mask says whether t holds of k: all its bits are set, or none
 pub record HasTests (w : Width) (n : ℕ) (mask : List ℕ) (t : ℕ → Bool) : Type 0 where
@@ -99,6 +99,11 @@ module _ {w : Width} {n : ℕ} {a : List ℕ} {t : ℕ → Bool} where
               stops = λ l h. false≢true (sym ((is _ l).1 h) ∙ first.found l);
             };
       }
+
+-- those that are below a bound
+pub marks_below : (w : Width) (n at bound : ℕ) (xs : List ℕ) → at + n ≤ length xs → n ≤ 64 → Marks (λ k. get_or xs k 0 < bound) at n (mask_of (hbits w) (zip2 (compared w leb) (replicate n bound) (chunk at n xs)))
+marks_below w n at bound xs room few =
+    marks_of (λ k. get_or xs k 0 < bound) at (tests_of w leb (HasLanes-splat n bound) (HasLanes-load at n xs room)) few (λ k l. (leb-false bound _, lt-leb bound _))
 
 -- two tests under one
 pub and_both : (a b : Bool) → IsTrue (a && b) → IsTrue a × IsTrue b

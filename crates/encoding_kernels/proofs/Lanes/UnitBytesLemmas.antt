@@ -9,7 +9,7 @@ use Rattle.std.proofs.lemmas.Nat.{and_mask}
 use Rattle.std.proofs.lemmas.List.{length-map, get_or-map, get_or_append_left, get_or-append_right}
 use Rattle.encoding_kernels.specs.Lanes.{HasLanes}
 use Rattle.encoding_kernels.specs.Units.{low_bits, unit_at, unit_lane, units_behind, upper_of}
-use Rattle.encoding_kernels.proofs.Lanes.LaneLemmas.{compared, same_below, top_compared}
+use Rattle.encoding_kernels.proofs.Lanes.LaneLemmas.{same_below}
 use Rattle.encoding_kernels.proofs.Lanes.WordLemmas.{wide, wide_l}
 use Rattle.encoding_kernels.proofs.Lanes.UnitLanesLemmas.{length-units, units_at}
 
@@ -20,20 +20,17 @@ lower_bits_lane a b = let six : bit_and b 0x3F ≡ b % 64 = and_mask b 6 in ap (
 pub high_bits_lane : (a b : ℕ) → (a * 2 ^ 2 % 2 ^ 8 + bit_and (b / 2 ^ 4) 3) % 2 ^ 8 ≡ low_bits a b / 0x10
 high_bits_lane a b = let two : bit_and (b / 2 ^ 4) 3 ≡ b / 16 % 4 = and_mask (b / 2 ^ 4) 2 in ap (λ n. (a * 2 ^ 2 % 2 ^ 8 + n) % 2 ^ 8) two ∙ omega arith
 
-pub upper_bits_lane : (y a : ℕ) → (cond (top 7 (compared w8 leb 0xE0 y)) (y * 2 ^ 4 % 2 ^ 8) 0 + bit_and (a / 2 ^ 2) 0x0F) % 2 ^ 8 ≡ upper_of y a
+pub upper_bits_lane : (y a : ℕ) → (cond (leb 0xE0 y) (y * 2 ^ 4 % 2 ^ 8) 0 + bit_and (a / 2 ^ 2) 0x0F) % 2 ^ 8 ≡ upper_of y a
 upper_bits_lane y a =
     let four : bit_and (a / 2 ^ 2) 0x0F ≡ a / 4 % 16 = and_mask (a / 2 ^ 2) 4 in
-    (λ i. (cond (top_compared w8 (leb 0xE0 y) i) (y * 2 ^ 4 % 2 ^ 8) 0 + four i) % 2 ^ 8) ∙ pick (leb 0xE0 y)
+    ap (λ n. (cond (leb 0xE0 y) (y * 2 ^ 4 % 2 ^ 8) 0 + n) % 2 ^ 8) four ∙ pick (leb 0xE0 y)
   where
     pick : (t : Bool) → (cond t (y * 2 ^ 4 % 2 ^ 8) 0 + a / 4 % 16) % 2 ^ 8 ≡ cond t (y % 16 * 16) 0 + a % 64 / 4
     pick true = omega arith
     pick false = omega arith
 
-pub lower_lane : (x y a b : ℕ) → b < 256
-    → cond (top 7 (compared w8 ltb b 0x80)) b (cond (top 7 (compared w8 leb 0xF0 y)) ((low_bits a b / 0x10 + 0xC0) % 2 ^ 8) (low_bits a b % 0x100)) ≡ unit_at x y a b % 0x100
-lower_lane x y a b small =
-    (λ i. cond (top_compared w8 (ltb b 0x80) i) b (cond (top_compared w8 (leb 0xF0 y) i) ((low_bits a b / 0x10 + 0xC0) % 2 ^ 8) (low_bits a b % 0x100)))
-    ∙ pick (ltb b 0x80) (leb 0xF0 y) (leb 0xF0 x) (leb 0xE0 y) (low_bits a b) (bit_or (upper_of y a) 0xDC)
+pub lower_lane : (x y a b : ℕ) → b < 256 → cond (ltb b 0x80) b (cond (leb 0xF0 y) ((low_bits a b / 0x10 + 0xC0) % 2 ^ 8) (low_bits a b % 0x100)) ≡ unit_at x y a b % 0x100
+lower_lane x y a b small = pick (ltb b 0x80) (leb 0xF0 y) (leb 0xF0 x) (leb 0xE0 y) (low_bits a b) (bit_or (upper_of y a) 0xDC)
   where
     pick : (s t u v : Bool) (low high : ℕ) → cond s b (cond t ((low / 0x10 + 0xC0) % 2 ^ 8) (low % 0x100))
         ≡ cond s b (cond t (0xD7C0 + (y % 8 * 256 + low / 16)) (cond u (high * 0x100 + low % 0x100) (cond v (y % 16 * 4096 + low) low))) % 0x100
@@ -53,14 +50,11 @@ high_is y h small = elim (cases_lt h 64) [
 high_small : (a b : ℕ) → low_bits a b / 0x10 < 256
 high_small a b = omega arith
 
-pub upper_lane : (x y a b : ℕ) → b < 256
-    → cond (top 7 (compared w8 ltb b 0x80)) 0 (cond (top 7 (compared w8 leb 0xF0 y)) ((cond (top 7 (compared w8 leb 0x40 (low_bits a b / 0x10))) 0xD8 0xD7 + bit_and y 7) % 2 ^ 8)
-    (bit_or (upper_of y a) (cond (top 7 (compared w8 leb 0xF0 x)) 0xDC 0))) ≡ unit_at x y a b / 0x100
+pub upper_lane : (x y a b : ℕ) → b < 256 → cond (ltb b 0x80) 0 (cond (leb 0xF0 y) ((cond (leb 0x40 (low_bits a b / 0x10)) 0xD8 0xD7 + bit_and y 7) % 2 ^ 8) (bit_or (upper_of y a) (cond (leb 0xF0 x) 0xDC 0)))
+    ≡ unit_at x y a b / 0x100
 upper_lane x y a b small =
     let three : bit_and y 7 ≡ y % 8 = and_mask y 3 in
-    (λ i. cond (top_compared w8 (ltb b 0x80) i) 0 (cond (top_compared w8 (leb 0xF0 y) i) ((cond (top_compared w8 (leb 0x40 (low_bits a b / 0x10)) i) 0xD8 0xD7 + three i) % 2 ^ 8)
-    (bit_or (upper_of y a) (cond (top_compared w8 (leb 0xF0 x) i) 0xDC 0))))
-    ∙ pick (ltb b 0x80) (leb 0xF0 y) (leb 0xF0 x) (leb 0xE0 y) _ (high_is y (low_bits a b / 0x10) (high_small a b))
+    pick (ltb b 0x80) (leb 0xF0 y) (leb 0xF0 x) (leb 0xE0 y) _ (ap (λ n. (cond (leb 0x40 (low_bits a b / 0x10)) 0xD8 0xD7 + n) % 2 ^ 8) three ∙ high_is y (low_bits a b / 0x10) (high_small a b))
   where
     pick : (s t u v : Bool) (high : ℕ) → high ≡ (0xD7C0 + (y % 8 * 256 + low_bits a b / 0x10)) / 0x100
         → cond s 0 (cond t high (bit_or (cond v (y % 16 * 16) 0 + a % 64 / 4) (cond u 0xDC 0)))
@@ -80,16 +74,16 @@ module _ (x y a b : ℕ) (X : x < 0xF0) (Y : y < 0xF0) (small : b < 256) where
   short_is : unit_at x y a b ≡ cond (ltb b 0x80) b (cond (leb 0xE0 y) (y % 16 * 4096 + low_bits a b) (low_bits a b))
   short_is = ap (cond (ltb b 0x80) b) (cond-false (leb 0xF0 y) _ _ (lt-leb _ _ Y) ∙ cond-false (leb 0xF0 x) _ _ (lt-leb _ _ X))
 
-  pub short_lower_lane : cond (top 7 (compared w8 ltb b 0x80)) b (low_bits a b % 0x100) ≡ unit_at x y a b % 0x100
-  short_lower_lane = (λ i. cond (top_compared w8 (ltb b 0x80) i) b (low_bits a b % 0x100)) ∙ pick (ltb b 0x80) (leb 0xE0 y) (low_bits a b) ∙ ap (λ u. u % 0x100) (sym short_is)
+  pub short_lower_lane : cond (ltb b 0x80) b (low_bits a b % 0x100) ≡ unit_at x y a b % 0x100
+  short_lower_lane = pick (ltb b 0x80) (leb 0xE0 y) (low_bits a b) ∙ ap (λ u. u % 0x100) (sym short_is)
     where
       pick : (s v : Bool) (low : ℕ) → cond s b (low % 0x100) ≡ cond s b (cond v (y % 16 * 4096 + low) low) % 0x100
       pick true v low = omega (arith, small)
       pick false true low = omega arith
       pick false false low = refl
 
-  pub short_upper_lane : cond (top 7 (compared w8 ltb b 0x80)) 0 (upper_of y a) ≡ unit_at x y a b / 0x100
-  short_upper_lane = (λ i. cond (top_compared w8 (ltb b 0x80) i) 0 (upper_of y a)) ∙ pick (ltb b 0x80) (leb 0xE0 y) ∙ ap (λ u. u / 0x100) (sym short_is)
+  pub short_upper_lane : cond (ltb b 0x80) 0 (upper_of y a) ≡ unit_at x y a b / 0x100
+  short_upper_lane = pick (ltb b 0x80) (leb 0xE0 y) ∙ ap (λ u. u / 0x100) (sym short_is)
     where
       pick : (s v : Bool) → cond s 0 (cond v (y % 16 * 16) 0 + a % 64 / 4) ≡ cond s b (cond v (y % 16 * 4096 + low_bits a b) (low_bits a b)) / 0x100
       pick true v = omega (arith, small)

@@ -9,7 +9,8 @@ use Rattle.encoding_kernels.specs.declared.faults.TheConstants.{FIRST_HIGH, FIRS
 use Rattle.encoding_kernels.specs.Following.{Follows}
 use Rattle.encoding_kernels.specs.Lanes.{HasLanes}
 use Rattle.encoding_kernels.proofs.Validation.PairLemmas.{lane, lane_follows}
-use Rattle.encoding_kernels.proofs.Lanes.LaneLemmas.{HasLanes-itself, HasLanes-same, HasLanes-select, HasLanes-splat, HasLanes-zip2, compared, top_compared}
+use Rattle.encoding_kernels.proofs.Lanes.LaneLemmas.{HasLanes-itself, HasLanes-same, HasLanes-splat, HasLanes-zip2, compared}
+use Rattle.encoding_kernels.proofs.Lanes.TestLemmas.{chosen_by, tests_of}
 
 -- so many bytes: sixteen, or two times sixteen
 abbrev pub IsLanes : ℕ → List ℕ → Type 0
@@ -107,8 +108,7 @@ difference : (n : ℕ) (xs : List ℕ) (y : ℕ) → IsLanes n xs → y < 256 �
 difference n xs y is small =
     let X = HasLanes-itself n xs is.0 in
     let Y = HasLanes-splat n y in
-    HasLanes-same (HasLanes-zip2 wrapping_less (HasLanes-select 7 (HasLanes-zip2 (compared w8 ltb) X Y) Y X) Y) (λ k l.
-    ap (λ b. wrapping_less (cond b y (get_or xs k 0)) y) (top_compared w8 (ltb (get_or xs k 0) y)) ∙ wrapping_less_is (get_or xs k 0) y (byte n xs is k l) small)
+    HasLanes-same (HasLanes-zip2 wrapping_less (chosen_by (tests_of w8 ltb X Y) Y X) Y) (λ k l. wrapping_less_is (get_or xs k 0) y (byte n xs is k l) small)
 
 -- ---- the test
 abbrev pub pairs_of : ℕ → List ℕ → List ℕ → List ℕ

@@ -1,5 +1,6 @@
 use Rattle.std.proofs.Common.{◌∷◌, get_or, ◌+◌, ◌^◌, ◌%◌, ltb, leb, w8}
-use Rattle.encoding_kernels.proofs.Lanes.LaneLemmas.{HasLanes-itself, HasLanes-splat, HasLanes-zip2, HasLanes-select, HasLanes-same, compared}
+use Rattle.encoding_kernels.proofs.Lanes.LaneLemmas.{HasLanes-itself, HasLanes-splat, HasLanes-zip2, HasLanes-same}
+use Rattle.encoding_kernels.proofs.Lanes.TestLemmas.{chosen_by, tests_of}
 use Rattle.encoding_kernels.proofs.Lanes.UnitLanesLemmas.{bytes_below}
 use Rattle.encoding_kernels.proofs.Lanes.UnitBytesLemmas.{lower_lane}
 use Rattle.encoding_kernels.proofs.decode_lanes.lower_bytes.Goals as goal
@@ -9,6 +10,6 @@ returns c =
     let v = c.args.block in
     let bytes = HasLanes-itself 16 v c.fits-block.0 in
     let high = HasLanes-zip2 (λ a b. (a + b) % 2 ^ 8) c.high_bits.ensures (HasLanes-splat 16 0xC0) in
-    let longer = HasLanes-select 7 (HasLanes-zip2 (compared w8 leb) (HasLanes-splat 16 0xF0) c.two_before.ensures) high c.lower_bits.ensures in
-    let all = HasLanes-select 7 (HasLanes-zip2 (compared w8 ltb) bytes (HasLanes-splat 16 0x80)) bytes longer in
-    HasLanes-same all (λ k l. lower_lane (get_or (0 ∷ 0 ∷ 0 ∷ v) k 0) (get_or (0 ∷ 0 ∷ v) k 0) (get_or (0 ∷ v) k 0) (get_or v k 0) (bytes_below v c.fits-block.0 c.fits-block.1 k l))
+    let longer = chosen_by (tests_of w8 leb (HasLanes-splat 16 0xF0) c.two_before.ensures) high c.lower_bits.ensures in
+    HasLanes-same (chosen_by (tests_of w8 ltb bytes (HasLanes-splat 16 0x80)) bytes longer)
+    (λ k l. lower_lane (get_or (0 ∷ 0 ∷ 0 ∷ v) k 0) (get_or (0 ∷ 0 ∷ v) k 0) (get_or (0 ∷ v) k 0) (get_or v k 0) (bytes_below v c.fits-block.0 c.fits-block.1 k l))
