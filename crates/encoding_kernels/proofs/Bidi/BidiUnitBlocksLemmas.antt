@@ -1,7 +1,7 @@
 -- Code units of which none is right-to-left, by ranges that hold all of those.
 use Rattle.std.proofs.Common.{◌≡◌, ℕ, ◌+◌, ◌^◌, ◌<◌, ◌≤◌, ◌⊎◌, inl, inr, Bool, true, false, ◌||◌, List, slice_index, refl, arith, subst}
 use Rattle.std.specs.Prelude.{nat_eq}
-use Rattle.std.proofs.lemmas.Bool.{cases_lt, ltb-false}
+use Rattle.std.proofs.lemmas.Bool.{cases_lt, ltb-false, or_parts}
 use Rattle.std.proofs.lemmas.Bool.Decides.{nat_tests}
 use Rattle.encoding_definitions.specs.Bidi.{IsRightToLeftUnit}
 use Rattle.encoding_kernels.specs.BidiBlocks.{NoneRightToLeft, in_range, may_be_right_to_left}
@@ -16,14 +16,6 @@ outside from count u l m e = elim (cases_lt u from) [
   | inr p ↦ let over = ltb-false _ _ e in inr (omega arith)
 ]
 
-or_left : (p q : Bool) → p || q ≡ false → p ≡ false
-or_left true q e = e
-or_left false q e = refl
-
-or_right : (p q : Bool) → p || q ≡ false → q ≡ false
-or_right true q e = absurd (cc)
-or_right false q e = e
-
 none_of : (u : ℕ) → UnitForm u → (u < 0x590) ⊎ (0x590 + 0x370 ≤ u) → (u < 0x202B) ⊎ (0x202B + 4 ≤ u) → (u ≡ 0x200F → ⊥) → (u ≡ 0x2067 → ⊥) → (u < 0xD802) ⊎ (0xD802 + 0x3A ≤ u)
     → (u < 0xFB1D) ⊎ (0xFB1D + 0x3E2 ≤ u) → u < 2 ^ 16 → ⊥
 none_of u (inl r) a b c d e f l = omega arith
@@ -36,17 +28,13 @@ is_not u x e is = grind (arith, nat_tests)
 not_right_to_left : (u : ℕ) → u < 2 ^ 16 → may_be_right_to_left u ≡ false → IsRightToLeftUnit u → ⊥
 not_right_to_left u l e r =
     let controls = (in_range 0x0590 0x0370 u || in_range 0x202B 4 u) || (nat_eq u 0x200F || nat_eq u 0x2067) in
-    let front = or_left controls (in_range 0xD802 0x003A u || in_range 0xFB1D 0x03E2 u) e in
-    let behind = or_right controls (in_range 0xD802 0x003A u || in_range 0xFB1D 0x03E2 u) e in
-    let scripts = or_left (in_range 0x0590 0x0370 u || in_range 0x202B 4 u) (nat_eq u 0x200F || nat_eq u 0x2067) front in
-    let marks = or_right (in_range 0x0590 0x0370 u || in_range 0x202B 4 u) (nat_eq u 0x200F || nat_eq u 0x2067) front in
-    none_of u (unit_form u r)
-    (outside 0x0590 0x0370 u (omega arith) l (or_left (in_range 0x0590 0x0370 u) (in_range 0x202B 4 u) scripts))
-    (outside 0x202B 4 u (omega arith) l (or_right (in_range 0x0590 0x0370 u) (in_range 0x202B 4 u) scripts))
-    (is_not u 0x200F (or_left (nat_eq u 0x200F) (nat_eq u 0x2067) marks))
-    (is_not u 0x2067 (or_right (nat_eq u 0x200F) (nat_eq u 0x2067) marks))
-    (outside 0xD802 0x003A u (omega arith) l (or_left (in_range 0xD802 0x003A u) (in_range 0xFB1D 0x03E2 u) behind))
-    (outside 0xFB1D 0x03E2 u (omega arith) l (or_right (in_range 0xD802 0x003A u) (in_range 0xFB1D 0x03E2 u) behind)) l
+    let parts = or_parts controls (in_range 0xD802 0x003A u || in_range 0xFB1D 0x03E2 u) e in
+    let front = or_parts (in_range 0x0590 0x0370 u || in_range 0x202B 4 u) (nat_eq u 0x200F || nat_eq u 0x2067) parts.0 in
+    let scripts = or_parts (in_range 0x0590 0x0370 u) (in_range 0x202B 4 u) front.0 in
+    let marks = or_parts (nat_eq u 0x200F) (nat_eq u 0x2067) front.1 in
+    let behind = or_parts (in_range 0xD802 0x003A u) (in_range 0xFB1D 0x03E2 u) parts.1 in
+    none_of u (unit_form u r) (outside 0x0590 0x0370 u (omega arith) l scripts.0) (outside 0x202B 4 u (omega arith) l scripts.1) (is_not u 0x200F marks.0) (is_not u 0x2067 marks.1)
+    (outside 0xD802 0x003A u (omega arith) l behind.0) (outside 0xFB1D 0x03E2 u (omega arith) l behind.1) l
 
 pub units_clear : (us : List ℕ) (from to : ℕ) → ((k : ℕ) → slice_index us k < 2 ^ 16) → PassBetween (λ k. may_be_right_to_left (slice_index us k) ≡ false) from to → NoneRightToLeft us from to
 units_clear us from to units none = record { each = λ k l m r. not_right_to_left (slice_index us k) (units k) (none k l m) r }

@@ -27,11 +27,7 @@ abbrev end_of : ℕ → ℕ → ℕ
 end_of p x = cond (nat_le 0x80 x) ((p * 2 ^ 6 % 2 ^ 8 + bit_and x 0x3F) % 2 ^ 8) x
 
 end_small : (p x : ℕ) → x < 256 → end_of p x < 256
-end_small p x l = pick (nat_le 0x80 x)
-  where
-    pick : (t : Bool) → cond t ((p * 2 ^ 6 % 2 ^ 8 + bit_and x 0x3F) % 2 ^ 8) x < 256
-    pick true = omega arith
-    pick false = l
+end_small p x l = grind (arith, nat_tests)
 
 end_is : (p x : ℕ) → x < 0xC0 → (end_of p x ∷ []) ≡ ended p x
 end_is p x l = elim (cases_lt x 0x80) [
@@ -159,10 +155,7 @@ module _ (bs : List ℕ) (long : length bs ≡ 16) (fits : Each1 (Fits w8) bs) w
   tests_l = zip2 bit_and (zip2 (compared w16 ltb) (zip2 bit_and (wide_l bs) (replicate 8 0xFF)) (replicate 8 0xC0)) (zip2 (compared w16 ltb) (wide_l bs) (replicate 8 0xC000))
 
   high_test : (a b : ℕ) → a < 256 → ltb (a + 256 * b) 0xC000 ≡ nat_lt b 0xC0
-  high_test a b A = elim (cases_lt b 0xC0) [
-    | inl l ↦ lt-ltb (a + 256 * b) 0xC000 (omega arith) ∙ sym (lt-ltb b 0xC0 l)
-    | inr l ↦ le-ltb (a + 256 * b) 0xC000 (omega arith) ∙ sym (le-ltb b 0xC0 l)
-  ]
+  high_test a b A = grind (arith, nat_tests)
 
   both_end_at : (xs : List ℕ) (k : ℕ) (d : Bool) → 2 * k + 1 < length xs → get_or (both_end xs) k d ≡ (nat_lt (get_or xs (2 * k) 0) 0xC0 && nat_lt (get_or xs (2 * k + 1) 0) 0xC0)
   both_end_at [] k d l = absurd (omega arith)

@@ -39,10 +39,7 @@ EncodesTo-latin b l = elim (cases_lt b 0x80) [
 ]
 
 first_small : (b : ℕ) → b < 0x100 → first_of b < 0x100
-first_small b l = elim (cases_lt b 0x80) [
-  | inl low ↦ let test : leb 0x80 b ≡ false = grind (arith, nat_tests) in rw (test) l
-  | inr high ↦ let test : leb 0x80 b ≡ true = grind (arith, nat_tests) in rw (test) (omega arith)
-]
+first_small b l = grind (arith, nat_tests)
 
 -- ---- lanes
 module _ (v : List ℕ) (long : length v ≡ 16) (small : (k : ℕ) → k < 16 → get_or v k 0 < 0x100) where

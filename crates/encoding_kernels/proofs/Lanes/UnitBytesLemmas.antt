@@ -4,6 +4,7 @@ use Rattle.std.specs.Int.Bits.{or_zero_r}
 use Rattle.std.specs.List.{range_with_len}
 use Rattle.std.specs.Simd.Lanes.{pick_l, top, Each1}
 use Rattle.std.proofs.lemmas.Bool.{cond-true, cond-false, cases_lt, lt-leb, le-leb}
+use Rattle.std.proofs.lemmas.Bool.Decides.{nat_tests}
 use Rattle.std.proofs.lemmas.Grind.{same_number_lists}
 use Rattle.std.proofs.lemmas.Nat.{and_mask}
 use Rattle.std.proofs.lemmas.List.{length-map, get_or-map, get_or_append_left, get_or-append_right}
@@ -42,10 +43,7 @@ lower_lane x y a b small = pick (ltb b 0x80) (leb 0xF0 y) (leb 0xF0 x) (leb 0xE0
 
 -- the upper byte of a high surrogate
 high_is : (y h : ℕ) → h < 256 → (cond (leb 0x40 h) 0xD8 0xD7 + y % 8) % 2 ^ 8 ≡ (0xD7C0 + (y % 8 * 256 + h)) / 0x100
-high_is y h small = elim (cases_lt h 64) [
-  | inl p ↦ ap (λ n. (n + y % 8) % 2 ^ 8) (cond-false (leb 0x40 h) 0xD8 0xD7 (lt-leb _ _ p)) ∙ omega arith
-  | inr p ↦ ap (λ n. (n + y % 8) % 2 ^ 8) (cond-true (leb 0x40 h) 0xD8 0xD7 (le-leb _ _ p)) ∙ omega arith
-]
+high_is y h small = grind (arith, nat_tests)
 
 high_small : (a b : ℕ) → low_bits a b / 0x10 < 256
 high_small a b = omega arith

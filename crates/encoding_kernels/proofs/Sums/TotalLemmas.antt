@@ -45,8 +45,7 @@ module _ (xs : List ℕ) (i next : ℕ) (p : next ≡ i + 1) (l : i < length xs)
   beyond_next = rw p (total_next beyond xs i l ∙ (λ k. beyond_one (here xs i k) (there xs i 1 k) + total beyond (drop (i + 1) xs)))
 
 pub bool_byte_most : (b : Bool) → bool_byte b ≤ 1
-bool_byte_most true = omega arith
-bool_byte_most false = omega arith
+bool_byte_most b = grind (arith, nat_tests)
 
 -- nothing is joined to ASCII
 none_joined : (a b c : ℕ) → a < 0xC2 → joined_by a b c ≡ 0

@@ -1,6 +1,7 @@
 -- The vector operations of the test, lane by lane.
 use Rattle.std.proofs.Common.{◌≡◌, ℕ, ◌+◌, ◌-◌, ◌*◌, ◌/◌, ◌%◌, ◌^◌, ◌<◌, ◌≤◌, cond, ltb, List, ◌++◌, ◌⊎◌, take, map, length, get_or, replicate, bit_and, bit_or, bit_xor, refl, sym, ap, ◌∙◌, inl, inr, arith, w8, Fits, lt-ltb, le-ltb}
 use Rattle.std.proofs.lemmas.Bool.{cases_lt}
+use Rattle.std.proofs.lemmas.Bool.Decides.{nat_tests}
 use Rattle.std.proofs.lemmas.List.{length-take-le, get_or-append_right, get_or-take}
 use Rattle.std.proofs.lemmas.Nat.{and_le_r}
 use Rattle.std.proofs.lemmas.Simd.{get_or-chunk, Each1-get_or, Each1-from_get_or, SwzOk, SwzOk-from_below, swz_l, length-swz_l, get_or-swz_l_below}
@@ -99,10 +100,7 @@ abbrev greater : List ℕ → List ℕ → List ℕ
 greater xs ys = sel_l (map (top 7) (zip2 (compared w8 ltb) xs ys)) ys xs
 
 wrapping_less_is : (a b : ℕ) → a < 256 → b < 256 → wrapping_less (cond (ltb a b) b a) b ≡ a - b
-wrapping_less_is a b l k = elim (cases_lt a b) [
-  | inl p ↦ rw (lt-ltb a b p) (omega arith)
-  | inr p ↦ rw (le-ltb a b p) (omega arith)
-]
+wrapping_less_is a b l k = grind (arith, nat_tests)
 
 difference : (n : ℕ) (xs : List ℕ) (y : ℕ) → IsLanes n xs → y < 256 → HasLanes n (zip2 wrapping_less (greater xs (replicate n y)) (replicate n y)) (λ k. get_or xs k 0 - y)
 difference n xs y is small =
