@@ -132,11 +132,7 @@ module _ (bs : List ℕ) (long : length bs ≡ 16) (fits : Each1 (Fits w8) bs) w
       chosen_by (tests_of w16 leb (HasLanes-splat 8 0xC0) halves) (HasLanes-zip2 (λ a b. a / 2 ^ b) words_lanes (HasLanes-splat 8 8)) words_lanes
 
   pair_small : (p a b : ℕ) → a < 256 → b < 256 → pair_word p a b < 65536
-  pair_small p a b A B = pick (nat_le 0xC0 (bit_and (a + 256 * b) 0xFF))
-    where
-      pick : (t : Bool) → cond t ((end_of p a + 256 * end_of a b) / 2 ^ 8) (end_of p a + 256 * end_of a b) < 65536
-      pick true = omega (arith, end_small p a A, end_small a b B)
-      pick false = omega (arith, end_small p a A, end_small a b B)
+  pair_small p a b A B = grind (arith, nat_tests, end_small p a A, end_small a b B)
 
   pub pairs_end : (k : ℕ) → k < 8
       → EndsPair (get_or (0 ∷ bs) (2 * k) 0) (get_or bs (2 * k) 0) (get_or bs (2 * k + 1) 0) (get_or (bytes_of (result_l bs)) (2 * k) 0) (get_or (bytes_of (result_l bs)) (2 * k + 1) 0)

@@ -132,7 +132,7 @@ EncodesTo-half p u (inr (l, h)) =
 half_small : (p u : ℕ) → IsShortOrHalf u → half_word p u < 65536
 half_small p u h =
     let small : u < 65536 = elim h [ inl l ↦ omega arith | inr r ↦ omega (arith, r.1) ] in
-    pick (nat_le 0x80 u) _ u (pick (nat_le 0x800 u) _ (both u) (pick (nat_le 0xDC00 u) (low_word p u) (high_word u) (omega arith) (omega arith)) (omega arith)) small
+    grind (arith, nat_tests)
 
 pub halves_spell : (us ps words : List ℕ) (k : ℕ) → HasLanes 8 words (λ i. half_word (get_or ps i 0) (get_or us i 0)) → ((i : ℕ) → i < 8 → IsShortOrHalf (get_or us i 0)) → k < 8
     → EncodesHalf (get_or ps k 0) (get_or us k 0) (get_or (bytes_of words) (2 * k) 0) (get_or (bytes_of words) (2 * k + 1) 0)

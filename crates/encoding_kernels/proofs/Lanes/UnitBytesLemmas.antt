@@ -24,22 +24,10 @@ high_bits_lane a b = let two : bit_and (b / 2 ^ 4) 3 ≡ b / 16 % 4 = and_mask (
 pub upper_bits_lane : (y a : ℕ) → (cond (leb 0xE0 y) (y * 2 ^ 4 % 2 ^ 8) 0 + bit_and (a / 2 ^ 2) 0x0F) % 2 ^ 8 ≡ upper_of y a
 upper_bits_lane y a =
     let four : bit_and (a / 2 ^ 2) 0x0F ≡ a / 4 % 16 = and_mask (a / 2 ^ 2) 4 in
-    ap (λ n. (cond (leb 0xE0 y) (y * 2 ^ 4 % 2 ^ 8) 0 + n) % 2 ^ 8) four ∙ pick (leb 0xE0 y)
-  where
-    pick : (t : Bool) → (cond t (y * 2 ^ 4 % 2 ^ 8) 0 + a / 4 % 16) % 2 ^ 8 ≡ cond t (y % 16 * 16) 0 + a % 64 / 4
-    pick true = omega arith
-    pick false = omega arith
+    grind (arith, nat_tests, four)
 
 pub lower_lane : (x y a b : ℕ) → b < 256 → cond (ltb b 0x80) b (cond (leb 0xF0 y) ((low_bits a b / 0x10 + 0xC0) % 2 ^ 8) (low_bits a b % 0x100)) ≡ unit_at x y a b % 0x100
-lower_lane x y a b small = pick (ltb b 0x80) (leb 0xF0 y) (leb 0xF0 x) (leb 0xE0 y) (low_bits a b) (bit_or (upper_of y a) 0xDC)
-  where
-    pick : (s t u v : Bool) (low high : ℕ) → cond s b (cond t ((low / 0x10 + 0xC0) % 2 ^ 8) (low % 0x100))
-        ≡ cond s b (cond t (0xD7C0 + (y % 8 * 256 + low / 16)) (cond u (high * 0x100 + low % 0x100) (cond v (y % 16 * 4096 + low) low))) % 0x100
-    pick true t u v low high = omega (arith, small)
-    pick false true u v low high = omega arith
-    pick false false true v low high = omega arith
-    pick false false false true low high = omega arith
-    pick false false false false low high = refl
+lower_lane x y a b small = grind (arith, nat_tests)
 
 -- the upper byte of a high surrogate
 high_is : (y h : ℕ) → h < 256 → (cond (leb 0x40 h) 0xD8 0xD7 + y % 8) % 2 ^ 8 ≡ (0xD7C0 + (y % 8 * 256 + h)) / 0x100
@@ -73,20 +61,10 @@ module _ (x y a b : ℕ) (X : x < 0xF0) (Y : y < 0xF0) (small : b < 256) where
   short_is = ap (cond (ltb b 0x80) b) (cond-false (leb 0xF0 y) _ _ (lt-leb _ _ Y) ∙ cond-false (leb 0xF0 x) _ _ (lt-leb _ _ X))
 
   pub short_lower_lane : cond (ltb b 0x80) b (low_bits a b % 0x100) ≡ unit_at x y a b % 0x100
-  short_lower_lane = pick (ltb b 0x80) (leb 0xE0 y) (low_bits a b) ∙ ap (λ u. u % 0x100) (sym short_is)
-    where
-      pick : (s v : Bool) (low : ℕ) → cond s b (low % 0x100) ≡ cond s b (cond v (y % 16 * 4096 + low) low) % 0x100
-      pick true v low = omega (arith, small)
-      pick false true low = omega arith
-      pick false false low = refl
+  short_lower_lane = rw short_is (grind (arith, nat_tests))
 
   pub short_upper_lane : cond (ltb b 0x80) 0 (upper_of y a) ≡ unit_at x y a b / 0x100
-  short_upper_lane = pick (ltb b 0x80) (leb 0xE0 y) ∙ ap (λ u. u / 0x100) (sym short_is)
-    where
-      pick : (s v : Bool) → cond s 0 (cond v (y % 16 * 16) 0 + a % 64 / 4) ≡ cond s b (cond v (y % 16 * 4096 + low_bits a b) (low_bits a b)) / 0x100
-      pick true v = omega (arith, small)
-      pick false true = omega arith
-      pick false false = omega arith
+  short_upper_lane = rw short_is (grind (arith, nat_tests))
 
 -- ---- bytes joined
 any_small : (xs : List ℕ) (k : ℕ) → Each1 (Fits w8) xs → get_or xs k 0 < 256

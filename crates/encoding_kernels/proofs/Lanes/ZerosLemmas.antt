@@ -1,6 +1,7 @@
 -- A vector of a short text with zeros behind it, out of its first eight bytes and its last eight.
 use Rattle.std.proofs.Common.{◌≡◌, ℕ, ◌+◌, ◌-◌, ◌^◌, ◌%◌, ◌<◌, ◌≤◌, List, ◌++◌, length, length-append, length-drop, take, drop, replicate, map, get_or, get_or-take, get_or-drop, cond, ltb, bit_and, inl, inr, refl, sym, ap, ◌∙◌, arith, w8}
 use Rattle.std.proofs.lemmas.Bool.{cases_lt, cond-true, cond-false, lt-ltb, le-ltb}
+use Rattle.std.proofs.lemmas.Bool.Decides.{nat_tests}
 use Rattle.std.proofs.lemmas.Grind.{same_number_lists}
 use Rattle.std.proofs.lemmas.List.{get_or-map, get_or_append_left, get_or-append_right, length-take-le}
 use Rattle.std.proofs.lemmas.Nat.{and_le_r, and_mask}
@@ -31,10 +32,7 @@ placed n =
     chosen_by (tests_of w8 ltb (HasLanes-numbers 16) (HasLanes-splat 16 8)) (HasLanes-numbers 16) (HasLanes-zip2 bit_and moved (HasLanes-splat 16 15))
 
 place_small : (n k : ℕ) → k < 16 → place n k < 16
-place_small n k l = elim (cases_lt k 8) [
-  | inl p ↦ rw (lt-ltb k 8 p) (omega arith)
-  | inr p ↦ rw (le-ltb k 8 p) (omega (arith, and_le_r ((k + (16 + (2 ^ 8 - n)) % 2 ^ 8) % 2 ^ 8) 15))
-]
+place_small n k l = grind (arith, nat_tests, and_le_r ((k + (16 + (2 ^ 8 - n)) % 2 ^ 8) % 2 ^ 8) 15)
 
 pub places_ok : (n : ℕ) → SwzOk w8 16 16 0 (places n)
 places_ok n = swizzle_ok (placed n) (place_small n)

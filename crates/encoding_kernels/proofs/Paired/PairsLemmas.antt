@@ -119,18 +119,8 @@ above_least u = (u + (2 ^ 16 - 0xD800)) % 2 ^ 16
 abbrev pub least_of : ℕ → ℕ → ℕ
 least_of a b = cond (ltb a b) a b
 
-both_from : (a b x : ℕ) → x ≤ least_of a b → (x ≤ a) × (x ≤ b)
-both_from a b x h = elim (cases_lt a b) [
-  | inl l ↦ (let e : x ≤ a = rw (lt-ltb a b l) at h in (e, omega arith))
-  | inr l ↦ (let e : x ≤ b = rw (le-ltb a b l) at h in (omega arith, e))
-]
-
 four_from : (a b c d x : ℕ) → ltb (least_of (least_of a b) (least_of c d)) x ≡ false → (x ≤ a) × (x ≤ b) × (x ≤ c) × (x ≤ d)
-four_from a b c d x h =
-    let halves = both_from (least_of a b) (least_of c d) x (ltb-false (least_of (least_of a b) (least_of c d)) x h) in
-    let low = both_from a b x halves.0 in
-    let high = both_from c d x halves.1 in
-    (low.0, low.1, high.0, high.1)
+four_from a b c d x h = (grind (arith, nat_tests), grind (arith, nat_tests), grind (arith, nat_tests), grind (arith, nat_tests))
 
 far_from_least : (u : ℕ) → u < 2 ^ 16 → 0x800 ≤ above_least u → 0xD800 ≤ u → u ≤ 0xDFFF → ⊥
 far_from_least u l h from to = omega arith
