@@ -78,16 +78,7 @@ both_is : (u : ℕ) → u < 0x800 → (both u % 256 ≡ 192 + u / 64) × (both u
 both_is u l = let low : bit_and u 0x3F ≡ u % 2 ^ 6 = and_mask u 6 in (omega arith, omega arith)
 
 pub EncodesTo-word : (u : ℕ) → u < 0x800 → EncodesTo u (cond (nat_le 0x80 u) (both u) u % 256) (cond (nat_le 0x80 u) (both u) u / 256)
-EncodesTo-word u l = elim (cases_lt u 0x80) [
-  | inl low ↦
-      let test : nat_le 0x80 u ≡ false = grind (arith, nat_tests) in
-      let byte : u % 256 ≡ u = omega arith in
-      rw (test, byte) (sym (encode_ascii u low))
-  | inr high ↦
-      let test : nat_le 0x80 u ≡ true = grind (arith, nat_tests) in
-      let bytes = both_is u l in
-      rw (test, bytes.0, bytes.1) (sym (two u high l))
-]
+EncodesTo-word u l = grind (arith, nat_tests, both_is u l, two u, encode_ascii u)
 
 -- ---- lanes
 -- the mask of `simd_ge` with a splat

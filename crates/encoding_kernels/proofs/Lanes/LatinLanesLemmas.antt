@@ -26,17 +26,7 @@ abbrev pub second_of : ℕ → ℕ
 second_of b = (bit_and b 0x3F + 0x80) % 2 ^ 8
 
 EncodesTo-latin : (b : ℕ) → b < 0x100 → EncodesTo b (first_of b) (second_of b)
-EncodesTo-latin b l = elim (cases_lt b 0x80) [
-  | inl low ↦
-      let test : nat_le 0x80 b ≡ false = grind (arith, nat_tests) in
-      rw (test) (sym (encode_ascii b low))
-  | inr high ↦
-      let test : nat_le 0x80 b ≡ true = grind (arith, nat_tests) in
-      let bits : bit_and b 0x3F ≡ b % 2 ^ 6 = and_mask b 6 in
-      let first : (b / 2 ^ 6 + 0xC0) % 2 ^ 8 ≡ 192 + b / 64 = omega arith in
-      let second : second_of b ≡ 128 + b % 64 = omega arith in
-      rw (test, first, second) (sym (two b high (omega arith)))
-]
+EncodesTo-latin b l = grind (arith, nat_tests, and_mask b 6, two b, encode_ascii b)
 
 first_small : (b : ℕ) → b < 0x100 → first_of b < 0x100
 first_small b l = grind (arith, nat_tests)

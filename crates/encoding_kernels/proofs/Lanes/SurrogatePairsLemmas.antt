@@ -146,14 +146,10 @@ halves_spell us ps words k lanes each l =
 half_before : (p q u : ℕ) → IsShortOrHalf u → (IsLowSurrogate u → ⊥) → half_bytes p u ≡ half_bytes q u
 half_before p q u h n =
     let first : u < 0xDC00 = elim (cases_lt u 0xDC00) [ inl l ↦ l | inr l ↦ elim h [ inl m ↦ omega arith | inr m ↦ absurd (n (l, m.1)) ] ] in
-    let before : nat_lt u 0xDC00 ≡ true = grind (arith, nat_tests) in
-    rw before refl
+    grind (arith, nat_tests)
 
 half_long : (p u : ℕ) → IsHighSurrogate u → length (half_bytes p u) ≡ 2
-half_long p u h =
-    let beyond : nat_lt u 0x800 ≡ false = grind (arith, nat_tests) in
-    let before : nat_lt u 0xDC00 ≡ true = grind (arith, nat_tests) in
-    rw (beyond, before) refl
+half_long p u h = grind (arith, nat_tests)
 
 -- the lanes, each moved on by one
 abbrev pub moved : List ℕ → List ℕ

@@ -40,20 +40,8 @@ pub upper_lane : (x y a b : ℕ) → b < 256 → cond (ltb b 0x80) 0 (cond (leb 
     ≡ unit_at x y a b / 0x100
 upper_lane x y a b small =
     let three : bit_and y 7 ≡ y % 8 = and_mask y 3 in
-    pick (ltb b 0x80) (leb 0xF0 y) (leb 0xF0 x) (leb 0xE0 y) _ (ap (λ n. (cond (leb 0x40 (low_bits a b / 0x10)) 0xD8 0xD7 + n) % 2 ^ 8) three ∙ high_is y (low_bits a b / 0x10) (high_small a b))
-  where
-    pick : (s t u v : Bool) (high : ℕ) → high ≡ (0xD7C0 + (y % 8 * 256 + low_bits a b / 0x10)) / 0x100
-        → cond s 0 (cond t high (bit_or (cond v (y % 16 * 16) 0 + a % 64 / 4) (cond u 0xDC 0)))
-        ≡ cond s b (cond t (0xD7C0 + (y % 8 * 256 + low_bits a b / 16)) (cond u (bit_or (cond v (y % 16 * 16) 0 + a % 64 / 4) 0xDC * 0x100 + low_bits a b % 0x100)
-        (cond v (y % 16 * 4096 + low_bits a b) (low_bits a b)))) / 0x100
-    pick true t u v high e = omega (arith, small)
-    pick false true u v high e = e
-    pick false false true v high e = parts (bit_or (cond v (y % 16 * 16) 0 + a % 64 / 4) 0xDC) (low_bits a b)
-      where
-        parts : (n low : ℕ) → n ≡ (n * 0x100 + low % 0x100) / 0x100
-        parts n low = omega arith
-    pick false false false true high e = or_zero_r (y % 16 * 16 + a % 64 / 4) ∙ omega arith
-    pick false false false false high e = or_zero_r (0 + a % 64 / 4) ∙ omega arith
+    let high = high_is y (low_bits a b / 0x10) (high_small a b) in
+    grind (arith, nat_tests, three, high, or_zero_r (upper_of y a))
 
 -- where no character has four bytes
 module _ (x y a b : ℕ) (X : x < 0xF0) (Y : y < 0xF0) (small : b < 256) where

@@ -8,6 +8,7 @@ use Rattle.std.specs.List.{flat_map}
 use Rattle.std.specs.Simd.Lanes.{mask_l, put_chunk}
 use Rattle.std.proofs.str.Laws.{one, two, three, four}
 use Rattle.std.proofs.lemmas.Bool.{cond-true, cond-false, cases_lt, lt-leb, le-leb, lt-ltb, le-ltb, and_parts, and_from}
+use Rattle.std.proofs.lemmas.Bool.Decides.{nat_tests}
 use Rattle.std.proofs.lemmas.Grind.{same_number_lists}
 use Rattle.std.proofs.lemmas.Simd.{length-replicate, mask_l-lt, put_chunk_is}
 use Rattle.std.proofs.lemmas.List.{length-append, length-drop, length-take, length-take-le, take-append-drop, take_at, take-take, drop_at, drop-drop, get_or-drop, get_or-take, take-append-le}
@@ -55,9 +56,7 @@ module _ (x y a b : ℕ) where
   unit_three h p q r = cond-false (ltb b 0x80) _ _ (le-ltb _ _ h) ∙ cond-false (leb 0xF0 y) _ _ (lt-leb _ _ q) ∙ cond-false (leb 0xF0 x) _ _ (lt-leb _ _ p) ∙ cond-true (leb 0xE0 y) _ _ (le-leb _ _ r)
 
   unit_two : 0x80 ≤ b → x < 0xF0 → y < 0xE0 → unit_at x y a b ≡ low_bits a b
-  unit_two h p q =
-      let r : y < 0xF0 = omega arith in
-      cond-false (ltb b 0x80) _ _ (le-ltb _ _ h) ∙ cond-false (leb 0xF0 y) _ _ (lt-leb _ _ r) ∙ cond-false (leb 0xF0 x) _ _ (lt-leb _ _ p) ∙ cond-false (leb 0xE0 y) _ _ (lt-leb _ _ q)
+  unit_two h p q = grind (arith, nat_tests)
 
   abbrev emits : List ℕ → List ℕ
   emits rest = (if ends_unit a b then unit_at x y a b ∷ [] else []) ++ rest
