@@ -30,14 +30,7 @@ end_small : (p x : ℕ) → x < 256 → end_of p x < 256
 end_small p x l = grind (arith, nat_tests)
 
 end_is : (p x : ℕ) → x < 0xC0 → (end_of p x ∷ []) ≡ ended p x
-end_is p x l = elim (cases_lt x 0x80) [
-  | inl low ↦ let test : nat_le 0x80 x ≡ false = grind (arith, nat_tests) in rw test (sym (ended_ascii p x low))
-  | inr high ↦
-      let test : nat_le 0x80 x ≡ true = grind (arith, nat_tests) in
-      let six : bit_and x 0x3F ≡ x % 2 ^ 6 = and_mask x 6 in
-      let same : (p * 2 ^ 6 % 2 ^ 8 + bit_and x 0x3F) % 2 ^ 8 ≡ (p * 64 + x % 64) % 256 = omega arith in
-      rw (test, same) (sym (ended_last p x high l))
-]
+end_is p x l = grind (arith, nat_tests, and_mask x 6)
 
 -- ---- a pair
 abbrev pair_word : ℕ → ℕ → ℕ → ℕ

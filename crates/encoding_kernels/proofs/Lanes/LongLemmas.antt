@@ -4,6 +4,7 @@ use Rattle.std.proofs.lemmas.Bool.{eqb-false, true≢false}
 use Rattle.std.proofs.lemmas.Simd.{get_or_narrower, Each1-from_get_or, Each1-get_or, length-put_chunk}
 use Rattle.std.proofs.lemmas.Nat.{and_mask}
 use Rattle.std.proofs.lemmas.Nat.Bits.{and_high_mask}
+use Rattle.std.proofs.lemmas.Bool.Decides.{nat_tests}
 use Rattle.std.proofs.str.Laws.{three}
 use Rattle.std.specs.Simd.Lanes.{number_l, digits_l, top, zip2, Each1, pick_l, put_chunk}
 use Rattle.std.proofs.lemmas.List.{take_at, drop_at, drop-drop, get_or_append_left, get_or-append_right}
@@ -66,10 +67,7 @@ word_bytes : (u : ℕ) → 0x800 ≤ u → u < 2 ^ 16 → (two_word u % 256 ∷ 
 word_bytes u l h =
     let low : bit_and u 0x3F ≡ u % 2 ^ 6 = and_mask u 6 in
     let mid : bit_and (u / 2 ^ 6) 0x3F ≡ u / 2 ^ 6 % 2 ^ 6 = and_mask (u / 2 ^ 6) 6 in
-    let x : two_word u % 256 ≡ 224 + u / 4096 = omega arith in
-    let y : two_word u / 256 ≡ 128 + u / 64 % 64 = omega arith in
-    let z : last_word u % 256 ≡ 128 + u % 64 = omega arith in
-    rw (x, y, z) (sym (three u l (omega arith)))
+    grind (arith, nat_tests, low, mid, three u)
 
 -- the words of eight code units, and their bytes
 abbrev pub two_words : List ℕ → List ℕ

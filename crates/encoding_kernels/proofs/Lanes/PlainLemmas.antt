@@ -226,27 +226,7 @@ spells_last : (u : ℕ) → u < 2 ^ 16 → EncodesLast u (lead_word u / 0x100) (
 spells_last u h =
     let low : bit_and u 0x3F ≡ u % 2 ^ 6 = and_mask u 6 in
     let mid : bit_and (u / 2 ^ 6) 0x3F ≡ u / 2 ^ 6 % 2 ^ 6 = and_mask (u / 2 ^ 6) 6 in
-    elim (cases_lt u 0x80) [
-      | inl l ↦
-          let ascii : nat_lt u 0x80 ≡ true = grind (arith, nat_tests) in
-          let byte : u * 2 ^ 8 % 2 ^ 16 / 0x100 ≡ u = omega arith in
-          rw (ascii, byte) (sym (encode_ascii u l))
-      | inr l ↦
-          let ascii : nat_lt u 0x80 ≡ false = grind (arith, nat_tests) in
-          elim (cases_lt u 0x800) [
-            | inl m ↦
-                let short : nat_lt u 0x800 ≡ true = grind (arith, nat_tests) in
-                let y : ((bit_and (u / 2 ^ 6) 0x3F + bit_and u 0x3F * 2 ^ 8 % 2 ^ 16) % 2 ^ 16 + 0x80C0) % 2 ^ 16 % 0x100 ≡ 192 + u / 64 = omega arith in
-                let z : ((bit_and (u / 2 ^ 6) 0x3F + bit_and u 0x3F * 2 ^ 8 % 2 ^ 16) % 2 ^ 16 + 0x80C0) % 2 ^ 16 / 0x100 ≡ 128 + u % 64 = omega arith in
-                rw (ascii, short, y, z) (sym (two u l m))
-            | inr m ↦
-                let short : nat_lt u 0x800 ≡ false = grind (arith, nat_tests) in
-                let x : lead_word u / 0x100 ≡ 224 + u / 4096 = omega arith in
-                let y : ((bit_and (u / 2 ^ 6) 0x3F + bit_and u 0x3F * 2 ^ 8 % 2 ^ 16) % 2 ^ 16 + 0x8080) % 2 ^ 16 % 0x100 ≡ 128 + u / 64 % 64 = omega arith in
-                let z : ((bit_and (u / 2 ^ 6) 0x3F + bit_and u 0x3F * 2 ^ 8 % 2 ^ 16) % 2 ^ 16 + 0x8080) % 2 ^ 16 / 0x100 ≡ 128 + u % 64 = omega arith in
-                rw (ascii, short, x, y, z) (sym (three u m h))
-          ]
-    ]
+    grind (arith, nat_tests, low, mid, two u, three u, encode_ascii u)
 
 encode_again : (u : ℕ) {x y z x2 y2 z2 : ℕ} → x ≡ x2 → y ≡ y2 → z ≡ z2 → EncodesLast u x2 y2 z2 → EncodesLast u x y z
 encode_again u p q r s = (λ i. cond (nat_lt u 0x80) (r i ∷ []) (cond (nat_lt u 0x800) (q i ∷ r i ∷ []) (p i ∷ q i ∷ r i ∷ []))) ∙ s

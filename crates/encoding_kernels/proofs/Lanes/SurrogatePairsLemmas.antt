@@ -112,22 +112,7 @@ EncodesTo-half p u (inl l) =
     let short : nat_le 0x800 u ≡ false = grind (arith, nat_tests) in
     let below : nat_lt u 0x800 ≡ true = grind (arith, nat_tests) in
     rw (short, below) (EncodesTo-word u l)
-EncodesTo-half p u (inr (l, h)) =
-    let wide : nat_le 0x80 u ≡ true = grind (arith, nat_tests) in
-    let several : nat_le 0x800 u ≡ true = grind (arith, nat_tests) in
-    let beyond : nat_lt u 0x800 ≡ false = grind (arith, nat_tests) in
-    elim (cases_lt u 0xDC00) [
-      | inl m ↦
-          let first : nat_le 0xDC00 u ≡ false = grind (arith, nat_tests) in
-          let before : nat_lt u 0xDC00 ≡ true = grind (arith, nat_tests) in
-          let bytes = high_is u l m in
-          rw (wide, several, beyond, first, before, bytes.0, bytes.1) refl
-      | inr m ↦
-          let second : nat_le 0xDC00 u ≡ true = grind (arith, nat_tests) in
-          let behind : nat_lt u 0xDC00 ≡ false = grind (arith, nat_tests) in
-          let bytes = low_is p u in
-          rw (wide, several, beyond, second, behind, bytes.0, bytes.1) refl
-    ]
+EncodesTo-half p u (inr (l, h)) = let low = low_is p u in grind (arith, nat_tests, high_is u l, low)
 
 half_small : (p u : ℕ) → IsShortOrHalf u → half_word p u < 65536
 half_small p u h =
