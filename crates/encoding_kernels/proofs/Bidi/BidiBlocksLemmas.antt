@@ -30,12 +30,7 @@ second_of_two : (c mark : ℕ) → 0x590 ≤ c → c < 0x800 → 128 + c % 64 < 
 second_of_two c mark l h = let e = end_hebrew (192 + c / 64) mark (omega arith) (omega arith) in omega arith
 
 lead_of_mark : (c : ℕ) → 0x1000 ≤ c → c < 0x3000 → IsRightToLeft c → mark_lead (128 + c % 64) ≡ 0xE2
-lead_of_mark c l h (inr (inl e)) = rw e refl
-lead_of_mark c l h (inr (inr (inl e))) = rw e refl
-lead_of_mark c l h (inr (inr (inr (inl e)))) = rw e refl
-lead_of_mark c l h (inr (inr (inr (inr (inl e))))) = rw e refl
-lead_of_mark c l h (inl r) = absurd (omega arith)
-lead_of_mark c l h (inr (inr (inr (inr (inr r))))) = absurd (omega arith)
+lead_of_mark c l h r = grind (arith, nat_tests, r)
 
 second_of_three : (c : ℕ) → 0x800 ≤ c → c < 0x10000 → IsRightToLeft c → 128 + c / 64 % 64 < second_end (224 + c / 4096) (mark_lead (128 + c % 64))
 second_of_three c l h r = elim (cases_lt c 0x1000) [
@@ -55,10 +50,7 @@ second_of_three c l h r = elim (cases_lt c 0x1000) [
 ]
 
 second_of_four : (c mark : ℕ) → 0x10000 ≤ c → IsRightToLeft c → 128 + c / 4096 % 64 < second_end (240 + c / 262144) mark
-second_of_four c mark l r =
-    let to : c ≤ 0x1EFFF = omega arith in
-    let e : 240 + c / 262144 ≡ 0xF0 = omega arith in
-    rw e (omega arith)
+second_of_four c mark l r = grind (arith, nat_tests, r)
 
 first_three : (c : ℕ) (rest : List ℕ) → IsRightToLeft c
     → slice_index (encode_utf8 c ++ rest) 1 < second_end (slice_index (encode_utf8 c ++ rest) 0) (mark_lead (slice_index (encode_utf8 c ++ rest) 2))

@@ -16,22 +16,12 @@ use Rattle.encoding_definitions.proofs.CodeUnits.Utf16FrontLemmas.{Walked, scala
 
 -- ---- the bytes of a character
 short_bytes : (p u : ℕ) → u < 0x800 → encode_utf8 u ≡ half_bytes p u
-short_bytes p u l =
-    let below : nat_lt u 0x800 ≡ true = grind (arith, nat_tests) in
-    rw below refl
+short_bytes p u l = grind (arith, nat_tests)
 
 pair_bytes : (p u v : ℕ) → IsPair u v → encode_utf8 (surrogate_pair_char u v) ≡ half_bytes p u ++ half_bytes u v
 pair_bytes p u v (a, b, d, e) =
     let c = surrogate_pair_char u v in
-    let several : nat_lt u 0x800 ≡ false = grind (arith, nat_tests) in
-    let first : nat_lt u 0xDC00 ≡ true = grind (arith, nat_tests) in
-    let also : nat_lt v 0x800 ≡ false = grind (arith, nat_tests) in
-    let second : nat_lt v 0xDC00 ≡ false = grind (arith, nat_tests) in
-    let w : (u + 64) / 256 + 24 ≡ 240 + c / 262144 = omega arith in
-    let x : (u + 64) / 4 % 64 + 128 ≡ 128 + c / 4096 % 64 = omega arith in
-    let y : 128 + u % 4 * 16 + v / 64 % 16 ≡ 128 + c / 64 % 64 = omega arith in
-    let z : 128 + v % 64 ≡ 128 + c % 64 = omega arith in
-    rw (several, first, also, second, w, x, y, z) (four c (omega arith))
+    grind (arith, nat_tests, four c)
 
 -- ---- character by character
 module _ (us : List ℕ) (units : AreUnits us) where

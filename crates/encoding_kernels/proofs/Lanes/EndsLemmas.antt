@@ -39,34 +39,7 @@ pair_word p a b = cond (nat_le 0xC0 (bit_and (a + 256 * b) 0xFF)) ((end_of p a +
 pair_ends : (p a b : ℕ) → a < 256 → b < 256 → EndsPair p a b (pair_word p a b % 256) (pair_word p a b / 256)
 pair_ends p a b A B either =
     let low = low_half a b A in
-    let first = end_small p a A in
-    let second = end_small a b B in
-    elim (cases_lt a 0xC0) [
-      | inl l ↦
-          let test : nat_le 0xC0 (bit_and (a + 256 * b) 0xFF) ≡ false = rw low (grind (arith, nat_tests)) in
-          let word : pair_word p a b ≡ end_of p a + 256 * end_of a b = ap (λ t. cond t ((end_of p a + 256 * end_of a b) / 2 ^ 8) (end_of p a + 256 * end_of a b)) test in
-          let x : pair_word p a b % 256 ≡ end_of p a = ap (λ n. n % 256) word ∙ omega arith in
-          let y : pair_word p a b / 256 ≡ end_of a b = ap (λ n. n / 256) word ∙ omega arith in
-          elim (cases_lt b 0xC0) [
-            | inl m ↦
-                let both : (nat_lt a 0xC0 && nat_lt b 0xC0) ≡ true = grind (arith, nat_tests) in
-                chosen (nat_lt a 0xC0 && nat_lt b 0xC0) true _ _ _ both ((λ i. x i ∷ y i ∷ []) ∙ (λ i. end_is p a l i ++ end_is a b m i))
-            | inr m ↦
-                let both : (nat_lt a 0xC0 && nat_lt b 0xC0) ≡ false = grind (arith, nat_tests) in
-                chosen (nat_lt a 0xC0 && nat_lt b 0xC0) false _ _ _ both
-                ((λ i. x i ∷ []) ∙ end_is p a l ∙ sym (append-nil (ended p a)) ∙ ap (λ ys. ended p a ++ ys) (sym (ended_none a b m)))
-          ]
-      | inr l ↦
-          let m : b < 0xC0 = elim either [ inl h ↦ absurd (omega arith) | inr h ↦ h ] in
-          let test : nat_le 0xC0 (bit_and (a + 256 * b) 0xFF) ≡ true = rw low (grind (arith, nat_tests)) in
-          let word : pair_word p a b ≡ (end_of p a + 256 * end_of a b) / 2 ^ 8 = ap (λ t. cond t ((end_of p a + 256 * end_of a b) / 2 ^ 8) (end_of p a + 256 * end_of a b)) test in
-          let x : pair_word p a b % 256 ≡ end_of a b = ap (λ n. n % 256) word ∙ omega arith in
-          let both : (nat_lt a 0xC0 && nat_lt b 0xC0) ≡ false = grind (arith, nat_tests) in
-          chosen (nat_lt a 0xC0 && nat_lt b 0xC0) false _ _ _ both ((λ i. x i ∷ []) ∙ end_is a b m ∙ ap (λ ys. ys ++ ended a b) (sym (ended_none p a l)))
-    ]
-  where
-    chosen : (t s : Bool) (x y : ℕ) (out : List ℕ) → t ≡ s → cond s (x ∷ y ∷ []) (x ∷ []) ≡ out → cond t (x ∷ y ∷ []) (x ∷ []) ≡ out
-    chosen t s x y out e h = ap (λ u. cond u (x ∷ y ∷ []) (x ∷ [])) e ∙ h
+    grind (arith, nat_tests, low, end_small p a A, end_small a b B, either, and_mask a 6, and_mask b 6)
 
 -- ---- lanes
 abbrev before_l : List ℕ → List ℕ

@@ -8,6 +8,7 @@ use Rattle.std.specs.List.{flat_map}
 use Rattle.std.proofs.str.Laws.{one, two, three, four, scalars-append}
 use Rattle.std.proofs.Math.Seq.{drop-cons, take-append-add}
 use Rattle.std.proofs.lemmas.Bool.{cases_lt, and_parts, and_from}
+use Rattle.std.proofs.lemmas.Bool.Decides.{nat_tests}
 use Rattle.std.proofs.lemmas.Grind.{flat_map-append}
 use Rattle.std.proofs.lemmas.List.{append-nil, length-append, length-drop, length-take, length-take-le, take-append-drop, take_at, take_all, take_rest, drop_at, drop_all, drop-drop, get_or_append_left}
 use Rattle.std.proofs.lemmas.Str.{encodes-append, chars_from_encodes, length-encode, len_utf8_bounds}
@@ -80,16 +81,7 @@ units_third (c ∷ cs) h =
     omega (arith, units_third cs parts.1, unit_third c parts.0, length-append (encode_utf8 c) (encode_utf8_all cs), length-append (encode_utf16 c) (flat_map encode_utf16 cs))
   where
     unit_third : (c : ℕ) → IsScalar c → length (encode_utf8 c) ≤ 3 * length (encode_utf16 c)
-    unit_third c s = elim (cases_lt c 65536) [
-      | inl p ↦ elim (cases_lt c 128) [
-        | inl q ↦ omega (arith, ap length (one_unit c p), ap length (one c q))
-        | inr q ↦ elim (cases_lt c 2048) [
-          | inl r ↦ omega (arith, ap length (one_unit c p), ap length (two c q r))
-          | inr r ↦ omega (arith, ap length (one_unit c p), ap length (three c r p))
-        ]
-      ]
-      | inr p ↦ omega (arith, ap length (two_units c p), ap length (four c p))
-    ]
+    unit_third c s = grind (arith, nat_tests, length-encode c)
 
 -- what is due then
 units_split : (src old new : List ℕ) (n k reach : ℕ) → IsUtf8 src → WritesUtf16 src old new n k reach → units_in src ≡ k + units_in (drop n src)

@@ -32,10 +32,7 @@ high_end : (least b : ℕ) → least ≤ b → bool_byte (nat_le least b) ≡ 1
 high_end least b l = grind (arith, nat_tests)
 
 latin1_one : (b : ℕ) → b < 256 → length (encode_utf8 b) ≡ 1 + bool_byte (nat_le 0x80 b)
-latin1_one b l = elim (cases_lt b 128) [
-  | inl p ↦ omega (arith, ap length (one b p), low_end 0x80 b p)
-  | inr p ↦ omega (arith, ap length (two b p (omega arith)), high_end 0x80 b p)
-]
+latin1_one b l = grind (arith, nat_tests, length-encode b)
 
 pub latin1_total : (bs : List ℕ) → ((k : ℕ) → slice_index bs k < 256) → length (encode_utf8_all bs) ≡ length bs + total (one_from 0x80) bs
 unfolding total
@@ -98,16 +95,7 @@ shape_total (a ∷ b ∷ c ∷ d ∷ []) rest (l, m, s, t, f) =
 shape_total (a ∷ b ∷ c ∷ d ∷ e ∷ more) rest h = absurd h
 
 units_of_character : (c : ℕ) → IsScalar c → length (encode_utf16 c) ≡ 1 + bool_byte (nat_le 4 (length (encode_utf8 c)))
-units_of_character c s = elim (cases_lt c 0x10000) [
-  | inl l ↦ omega (arith, ap length (one_unit c l), low_end 4 (length (encode_utf8 c)) (omega (arith, length-encode c, three_bytes c l)))
-  | inr l ↦ omega (arith, ap length (two_units c l), high_end 4 (length (encode_utf8 c)) (omega (arith, length-encode c, four_bytes c l)))
-]
-  where
-    three_bytes : (c : ℕ) → c < 0x10000 → len_utf8 c < 4
-    three_bytes c l = grind (arith, nat_tests)
-
-    four_bytes : (c : ℕ) → 0x10000 ≤ c → 4 ≤ len_utf8 c
-    four_bytes c l = grind (arith, nat_tests)
+units_of_character c s = grind (arith, nat_tests, length-encode c)
 
 -- ---- broken parts
 -- no byte of rest goes on with the beginning x
