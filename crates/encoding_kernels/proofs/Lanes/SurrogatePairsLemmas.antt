@@ -108,10 +108,7 @@ low_is p u =
     (omega arith, omega arith)
 
 pub EncodesTo-half : (p u : ℕ) → IsShortOrHalf u → EncodesHalf p u (half_word p u % 256) (half_word p u / 256)
-EncodesTo-half p u (inl l) =
-    let short : nat_le 0x800 u ≡ false = grind (arith, nat_tests) in
-    let below : nat_lt u 0x800 ≡ true = grind (arith, nat_tests) in
-    rw (short, below) (EncodesTo-word u l)
+EncodesTo-half p u (inl l) = grind (arith, nat_tests, EncodesTo-word u l)
 EncodesTo-half p u (inr (l, h)) = let low = low_is p u in grind (arith, nat_tests, high_is u l, low)
 
 half_small : (p u : ℕ) → IsShortOrHalf u → half_word p u < 65536

@@ -42,12 +42,7 @@ module _ (x y a b : ℕ) where
   unit_one h = cond-true (ltb b 0x80) _ _ (lt-ltb _ _ h)
 
   unit_low : 0x80 ≤ b → 0xF0 ≤ x → y < 0xE0 → unit_at x y a b ≡ 0xDC00 + low_bits a b % 0x400
-  unit_low h p q =
-      let r : y < 0xF0 = omega arith in
-      let upper : upper_of y a ≡ a % 64 / 4 = ap (λ n. n + a % 64 / 4) (cond-false (leb 0xE0 y) _ _ (lt-leb _ _ q)) ∙ omega arith in
-      let mark : bit_or (upper_of y a) 0xDC ≡ 0xDC + a % 64 / 4 % 4 = ap (λ n. bit_or n 0xDC) upper ∙ low_mark (a % 64 / 4) (omega arith) in
-      cond-false (ltb b 0x80) _ _ (le-ltb _ _ h) ∙ cond-false (leb 0xF0 y) _ _ (lt-leb _ _ r) ∙ cond-true (leb 0xF0 x) _ _ (le-leb _ _ p)
-      ∙ ap (λ n. n * 0x100 + low_bits a b % 0x100) mark ∙ omega arith
+  unit_low h p q = grind (arith, nat_tests, low_mark (a % 64 / 4) (omega arith))
 
   unit_high : 0x80 ≤ b → 0xF0 ≤ y → unit_at x y a b ≡ 0xD7C0 + (y % 8 * 256 + low_bits a b / 16)
   unit_high h q = cond-false (ltb b 0x80) _ _ (le-ltb _ _ h) ∙ cond-true (leb 0xF0 y) _ _ (le-leb _ _ q)

@@ -1,18 +1,16 @@
-use Rattle.std.proofs.Common.{◌+◌, arith}
+use Rattle.std.proofs.Common.{◌+◌, arith, refl}
 use Rattle.encoding_kernels.proofs.Lanes.UnitLanesLemmas.{bytes_below}
 use Rattle.encoding_kernels.proofs.Lanes.LatinLanesLemmas.{first_lanes, second_lanes, latin_pairs}
 use Rattle.encoding_kernels.proofs.latin1_to_utf8.both_bytes.Goals as goal
 
-pub returns-clause-first : goal.returns-clause-first
-returns-clause-first c =
+pub returns : goal.returns
+returns c =
     let v = c.args.block in
     let long = c.fits-block.0 in
     let small = bytes_below v long c.fits-block.1 in
-    latin_pairs v long small _ _ c.join_bytes.result.0 (λ k. k) (λ k l. omega arith) (first_lanes v long small) (second_lanes v long small) c.join_bytes.ensures.first
-
-pub returns-clause-last : goal.returns-clause-last
-returns-clause-last c =
-    let v = c.args.block in
-    let long = c.fits-block.0 in
-    let small = bytes_below v long c.fits-block.1 in
-    latin_pairs v long small _ _ c.join_bytes.result.1 (λ k. 8 + k) (λ k l. omega arith) (first_lanes v long small) (second_lanes v long small) c.join_bytes.ensures.last
+    let pairs = c.join_bytes.ensures in
+    record {
+      long = (refl, refl);
+      first = latin_pairs v long small _ _ c.join_bytes.result.0 (λ k. k) (λ k l. omega arith) (first_lanes v long small) (second_lanes v long small) pairs.first;
+      last = latin_pairs v long small _ _ c.join_bytes.result.1 (λ k. 8 + k) (λ k l. omega arith) (first_lanes v long small) (second_lanes v long small) pairs.last;
+    }

@@ -4,13 +4,12 @@ use Rattle.encoding_definitions.proofs.LongestFronts.FrontsLemmas.{WritesFront-n
 use Rattle.encoding_kernels.proofs.LongestFronts.TextUnitsLemmas.{ascii_text}
 use Rattle.encoding_kernels.proofs.utf8_to_utf16.convert_ascii_front.Goals as goal
 
-pub returns-clause-text : goal.returns-clause-text
-returns-clause-text c =
-    let run = c.copy_vectors.ensures.copies in
-    (ascii_text c.args.src.now c.copy_vectors.result run.within.0 (run.ascii (λ k l. absurd (omega arith)))).0
-
-pub returns-clause-written : goal.returns-clause-written
-returns-clause-written c =
+pub returns : goal.returns
+returns c =
     let run = c.copy_vectors.ensures.copies in
     let text = ascii_text c.args.src.now c.copy_vectors.result run.within.0 (run.ascii (λ k l. absurd (omega arith))) in
-    subst (WritesFront c.args.dst.now c.copy_vectors.new.dst c.copy_vectors.result) (sym text.1) (run.copied c.args.dst.now (WritesFront-nil c.args.dst.now))
+    record {
+      within = run.within;
+      text = text.0;
+      written = subst (WritesFront c.args.dst.now c.copy_vectors.new.dst c.copy_vectors.result) (sym text.1) (run.copied c.args.dst.now (WritesFront-nil c.args.dst.now));
+    }
