@@ -3,7 +3,7 @@ use Rattle.std.proofs.Common.{◌≡◌, ℕ, ◌+◌, ◌-◌, ◌/◌, ◌%◌
 use Rattle.std.specs.Prelude.{Any}
 use Rattle.std.specs.Str.{all_scalars}
 use Rattle.std.proofs.str.Laws.{two, three, four, both}
-use Rattle.std.proofs.lemmas.Str.{encode_same, IsUtf8-take, IsUtf8-append}
+use Rattle.std.proofs.lemmas.Str.{encode_same, length-encode, IsUtf8-take, IsUtf8-append}
 use Rattle.std.proofs.lemmas.Bool.{cases_lt, eqb-true, agree_below_at}
 use Rattle.std.proofs.lemmas.Bool.Decides.{nat_tests}
 use Rattle.std.proofs.lemmas.List.{length-append, length-drop, drop_at, drop-drop, get_or-drop, take_at, take-append-drop, length-take, take-take}
@@ -115,10 +115,7 @@ pub none_joined : (bs : List ℕ) (a b d : ℕ) → NoneStands bs a b → NoneSt
 none_joined bs a b d p q = record { each = λ k from to s. elim (cases_lt k b) [ inl l ↦ p.each k from l s | inr l ↦ q.each k l to s ] }
 
 some_bytes : (c : ℕ) → IsRightToLeft c → 2 ≤ length (encode_utf8 c)
-some_bytes c r = elim (cases_lt c 2048) [
-  | inl p ↦ rw (two c (omega (arith, right_to_left_from c r)) p) (omega arith)
-  | inr p ↦ elim (cases_lt c 65536) [ inl q ↦ rw (three c p q) (omega arith) | inr q ↦ rw (four c q) (omega arith) ]
-]
+some_bytes c r = grind (arith, nat_tests, length-encode c, right_to_left_from c r)
 
 -- ---- the character at a place
 pub stands_spelled : (bs : List ℕ) (at n : ℕ) → IsSequence (take n (drop at bs)) → IsBidiText (take n (drop at bs)) → StandsRightToLeft bs at
