@@ -1,6 +1,5 @@
 -- Code units below U+0800 and pairs: each is a character, whose UTF-8 is joined from the bytes of its units.
-use Rattle.std.proofs.Common.{◌≡◌, ℕ, zero, suc, ◌+◌, ◌-◌, ◌*◌, ◌/◌, ◌%◌, ◌<◌, ◌≤◌, ◌⊎◌, inl, inr, true, false, List, [], ◌∷◌, ◌++◌, length, take, drop, take-append-drop, drop-drop, get_or, encode_utf8, refl, sym, ap, ◌∙◌, arith, subst, append_assoc}
-use Rattle.std.specs.Prelude.{nat_lt}
+use Rattle.std.proofs.Common.{◌≡◌, ℕ, zero, suc, ◌+◌, ◌-◌, ◌<◌, ◌≤◌, ◌⊎◌, inl, inr, List, [], ◌∷◌, ◌++◌, length, take, drop, take-append-drop, drop-drop, get_or, encode_utf8, sym, ap, ◌∙◌, arith, subst, append_assoc}
 use Rattle.std.specs.List.{flat_map}
 use Rattle.std.specs.Char.Utf16.{surrogate_pair_char}
 use Rattle.std.proofs.lemmas.Bool.{cases_lt}

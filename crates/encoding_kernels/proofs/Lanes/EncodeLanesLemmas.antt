@@ -1,16 +1,15 @@
 -- The UTF-8 of code units below U+0800, from both bytes of each and the places that are kept.
-use Rattle.std.proofs.Common.{◌≡◌, ℕ, suc, ◌+◌, ◌*◌, ◌/◌, ◌%◌, ◌^◌, ◌<◌, ◌≤◌, Bool, true, false, cond, inl, inr, List, [], ◌∷◌, ◌++◌, map, length, take, get_or, encode_utf8_all, bit_and, replicate, refl, sym, ap, ◌∙◌, arith, subst, w16}
+use Rattle.std.proofs.Common.{◌≡◌, ℕ, suc, ◌+◌, ◌*◌, ◌/◌, ◌%◌, ◌^◌, ◌<◌, ◌≤◌, Bool, true, false, cond, List, [], ◌∷◌, ◌++◌, map, length, take, get_or, encode_utf8_all, bit_and, replicate, refl, sym, ap, ◌∙◌, arith, subst, w16}
 use Rattle.std.specs.Prelude.{nat_le}
-use Rattle.std.proofs.lemmas.Bool.{cases_lt}
 use Rattle.std.proofs.lemmas.Bool.Decides.{nat_tests}
 use Rattle.std.proofs.lemmas.Grind.{same_number_lists}
 use Rattle.std.proofs.lemmas.List.{length-map, get_or-map, take-map}
-use Rattle.std.proofs.lemmas.Simd.{ones-mask_l_cons, get_or_narrower, Each1-from_get_or, swz_l, tops_compared, zip2_splat_left, mask_l-mod, mask_l-lt}
+use Rattle.std.proofs.lemmas.Simd.{ones-mask_l_cons, swz_l, tops_compared, zip2_splat_left, mask_l-mod, mask_l-lt}
 use Rattle.std.proofs.lemmas.Nat.{and_mask}
 use Rattle.std.proofs.lemmas.Str.{encode_ascii}
 use Rattle.std.proofs.str.Laws.{two}
 use Rattle.std.specs.Int.RustNames.{count_ones}
-use Rattle.std.specs.Simd.Lanes.{mask_l, number_l, digits_l, top, zip2, sel_l, Each1}
+use Rattle.std.specs.Simd.Lanes.{mask_l, top, zip2, sel_l}
 use lib.Dec.{leb}
 use mir.Syntax.{Width, w8}
 use mir.Val.{hbits}

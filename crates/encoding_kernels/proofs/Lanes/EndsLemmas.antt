@@ -1,22 +1,20 @@
 -- Pairs of bytes in a vector of sixteen: which of them end a byte of Latin1, and which bytes these are.
-use Rattle.std.proofs.Common.{◌≡◌, ℕ, zero, suc, ◌+◌, ◌-◌, ◌*◌, ◌/◌, ◌%◌, ◌^◌, ◌<◌, ◌≤◌, ◌⊎◌, inl, inr, Bool, true, false, cond, ◌&&◌, ltb, List, [], ◌∷◌, ◌++◌, map, length, take, drop, get_or, replicate, bit_and, refl, sym, ap, ◌∙◌, arith, subst, w8, w16, Fits, length-append}
+use Rattle.std.proofs.Common.{◌≡◌, ℕ, zero, suc, ◌+◌, ◌-◌, ◌*◌, ◌/◌, ◌%◌, ◌^◌, ◌<◌, ◌≤◌, ◌⊎◌, Bool, cond, ◌&&◌, ltb, List, [], ◌∷◌, ◌++◌, map, length, get_or, replicate, bit_and, refl, sym, ap, ◌∙◌, arith, subst, w8, w16, Fits, length-append}
 use Rattle.std.specs.Prelude.{nat_lt, nat_le}
-use Rattle.std.proofs.lemmas.Bool.{cases_lt, lt-ltb, le-ltb}
 use Rattle.std.proofs.lemmas.Bool.Decides.{nat_tests}
-use Rattle.std.proofs.lemmas.List.{append-nil, drop_more, get_or-drop, get_or-map, length-map, same_lists, take-map}
+use Rattle.std.proofs.lemmas.List.{get_or-drop, get_or-map, length-map, same_lists}
 use Rattle.std.proofs.lemmas.Nat.{and_mask}
-use Rattle.std.proofs.lemmas.Simd.{get_or-chunk, get_or_wider, get_or_narrower, Each1-from_get_or, Each1-get_or, pick_l-range_with_len, mask_l-mod, mask_l-lt, swz_l}
-use Rattle.std.specs.Int.RustNames.{count_ones}
+use Rattle.std.proofs.lemmas.Simd.{get_or-chunk, Each1-from_get_or, Each1-get_or, pick_l-range_with_len, mask_l-mod, mask_l-lt}
 use Rattle.std.specs.List.{range_with_len}
-use Rattle.std.specs.Simd.Lanes.{number_l, digits_l, mask_l, top, zip2, sel_l, pick_l, Each1}
+use Rattle.std.specs.Simd.Lanes.{mask_l, top, zip2, sel_l, pick_l, Each1}
 use lib.Dec.{leb}
 use Rattle.encoding_kernels.specs.Lanes.{HasLanes}
 use Rattle.encoding_kernels.specs.EncodeLanes.{kept_places, ended, all_ended, both_end, EndsPair}
 use Rattle.encoding_kernels.proofs.Validation.FollowingLemmas.{one_before}
-use Rattle.encoding_kernels.proofs.Lanes.LaneLemmas.{HasLanes-itself, HasLanes-splat, HasLanes-zip2, HasLanes-select, HasLanes-same, compared, top_compared, mask_of}
+use Rattle.encoding_kernels.proofs.Lanes.LaneLemmas.{HasLanes-itself, HasLanes-splat, HasLanes-zip2, HasLanes-same, compared, top_compared, mask_of}
 use Rattle.encoding_kernels.proofs.Lanes.TestLemmas.{chosen_by, tests_of, tests_and}
 use Rattle.encoding_kernels.proofs.Lanes.WordLemmas.{bytes_of, bytes_lanes, wide, wide_l}
-use Rattle.encoding_kernels.proofs.Latin.EndedLemmas.{ended_ascii, ended_last, ended_none, PairAt, pairs_kept, both_end_long}
+use Rattle.encoding_kernels.proofs.Latin.EndedLemmas.{PairAt, pairs_kept, both_end_long}
 
 -- ---- two bytes as one number
 low_half : (a b : ℕ) → a < 256 → bit_and (a + 256 * b) 0xFF ≡ a

@@ -1,14 +1,13 @@
 -- The UTF-8 of sixteen bytes of Latin1: both bytes of each, and which halves of them are kept.
-use Rattle.std.proofs.Common.{◌≡◌, ℕ, ◌+◌, ◌*◌, ◌/◌, ◌%◌, ◌^◌, ◌<◌, ◌≤◌, Bool, true, false, cond, leb, inl, inr, List, ◌++◌, map, length, take, drop, get_or, get_or-take, get_or-drop, length-drop, length-take-le, encode_utf8_all, bit_and, replicate, sym, ap, ◌∙◌, arith, subst, w8}
+use Rattle.std.proofs.Common.{◌≡◌, ℕ, ◌+◌, ◌*◌, ◌/◌, ◌%◌, ◌^◌, ◌<◌, Bool, cond, leb, List, ◌++◌, map, length, take, drop, get_or, get_or-take, get_or-drop, length-drop, length-take-le, encode_utf8_all, bit_and, replicate, sym, ap, ◌∙◌, arith, subst, w8}
 use Rattle.std.specs.Prelude.{nat_le}
-use Rattle.std.proofs.lemmas.Bool.{cases_lt}
 use Rattle.std.proofs.lemmas.Bool.Decides.{nat_tests}
 use Rattle.std.proofs.lemmas.List.{length-map, take-map, drop-map, take-append-drop}
 use Rattle.std.proofs.lemmas.Nat.{and_mask}
-use Rattle.std.proofs.lemmas.Simd.{get_or_narrower, Each1-from_get_or, mask_l-lt}
+use Rattle.std.proofs.lemmas.Simd.{mask_l-lt}
 use Rattle.std.proofs.lemmas.Str.{encode_ascii, encodes-append}
 use Rattle.std.proofs.str.Laws.{two}
-use Rattle.std.specs.Simd.Lanes.{mask_l, number_l, digits_l, top, zip2, sel_l, Each1}
+use Rattle.std.specs.Simd.Lanes.{mask_l, top, zip2, sel_l}
 use mir.Syntax.{w8}
 use Rattle.encoding_kernels.specs.Lanes.{HasLanes}
 use Rattle.encoding_kernels.specs.EncodeLanes.{EncodesTo, kept_places}

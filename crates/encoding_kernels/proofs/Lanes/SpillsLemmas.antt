@@ -1,11 +1,11 @@
 -- Vectors stored of which first bytes count, and what stood behind these put back.
-use Rattle.std.proofs.Common.{◌≡◌, ℕ, ◌+◌, ◌≤◌, List, [], ◌++◌, length, take, drop, drop-drop, subst, take-add, length-take-le, length-append, length-drop, sym, ap, ◌∙◌, arith, append_assoc}
-use Rattle.std.proofs.lemmas.List.{take_at, drop_at, take-append-le, take-append-drop}
+use Rattle.std.proofs.Common.{◌≡◌, ℕ, ◌+◌, ◌≤◌, List, ◌++◌, length, take, drop, drop-drop, length-take-le, length-append, length-drop, sym, ap, ◌∙◌, arith, append_assoc}
+use Rattle.std.proofs.lemmas.List.{take_at}
 use Rattle.std.proofs.lemmas.Simd.{length-put_chunk, chunk-drop}
 use Rattle.std.proofs.lemmas.Slice.{drop-append-drop}
 use Rattle.std.specs.Simd.Lanes.{chunk, put_chunk}
 use Rattle.encoding_definitions.specs.Fronts.{WritesFront}
-use Rattle.encoding_definitions.proofs.LongestFronts.FrontsLemmas.{WritesFront-nil, WritesFront_put}
+use Rattle.encoding_definitions.proofs.LongestFronts.FrontsLemmas.{WritesFront_put}
 use Rattle.encoding_kernels.specs.EncodeLanes.{Spills, mended}
 use Rattle.encoding_kernels.proofs.Lanes.PutLemmas.{put_front}
 

@@ -1,6 +1,6 @@
 -- Two stores of which only the first bytes count: the second covers what the first writes too much.
-use Rattle.std.proofs.Common.{◌≡◌, ℕ, ◌+◌, ◌≤◌, List, ◌++◌, length, take, drop, take-add, length-take-le, length-append, length-drop, get_or, cond, ltb, sym, ap, ◌∙◌, arith, append_assoc}
-use Rattle.std.proofs.lemmas.List.{take_at, drop_at, drop-drop, take-append-le}
+use Rattle.std.proofs.Common.{◌≡◌, ℕ, ◌+◌, ◌≤◌, List, ◌++◌, length, take, drop, length-take-le, length-append, length-drop, get_or, cond, ltb, sym, ap, ◌∙◌, arith, append_assoc}
+use Rattle.std.proofs.lemmas.List.{take_at, drop_at}
 use Rattle.std.proofs.lemmas.Simd.{length-put_chunk, length-chunk, chunk-drop}
 use Rattle.std.proofs.lemmas.Slice.{drop-append-drop}
 use Rattle.std.specs.List.{range_with_len}
@@ -11,7 +11,7 @@ use mir.Val.{hbits}
 use Rattle.encoding_kernels.specs.Lanes.{HasLanes}
 use Rattle.encoding_kernels.proofs.Lanes.PutLemmas.{put_front, put_is}
 use Rattle.encoding_kernels.proofs.Lanes.TestLemmas.{chosen_by, tests_of}
-use Rattle.encoding_kernels.proofs.Lanes.LaneLemmas.{HasLanes-itself, HasLanes-numbers, HasLanes-splat, HasLanes-zip2, HasLanes-select, HasLanes-same, compared, top_compared, put_firsts}
+use Rattle.encoding_kernels.proofs.Lanes.LaneLemmas.{HasLanes-itself, HasLanes-numbers, HasLanes-splat, compared, put_firsts}
 
 -- the first so many lanes of one vector, and behind them what stands at a place
 pub firsts_over : (w : Width) (at count : ℕ) (xs lanes : List ℕ) → at + 16 ≤ length xs → length lanes ≡ 16

@@ -1,22 +1,21 @@
 -- Code units below U+0800 and pairs, in lanes: each half of a pair has two bytes.
-use Rattle.std.proofs.Common.{◌≡◌, ℕ, zero, suc, ◌+◌, ◌-◌, ◌*◌, ◌/◌, ◌%◌, ◌^◌, ◌<◌, ◌≤◌, ◌↔◌, ◌⊎◌, inl, inr, Bool, true, false, not, cond, eqb, leb, ◌||◌, List, [], ◌∷◌, ◌++◌, map, length, take, drop, get_or, bit_and, refl, sym, ap, ◌∙◌, arith, subst, append_assoc, length-append, length-take-le, w8}
-use Rattle.std.specs.Prelude.{nat_le, nat_lt}
+use Rattle.std.proofs.Common.{◌≡◌, ℕ, zero, suc, ◌+◌, ◌-◌, ◌*◌, ◌/◌, ◌%◌, ◌^◌, ◌<◌, ◌≤◌, ◌↔◌, ◌⊎◌, inl, inr, Bool, true, false, not, cond, eqb, leb, ◌||◌, List, [], ◌∷◌, ◌++◌, map, length, take, drop, get_or, bit_and, refl, sym, ap, ◌∙◌, arith, subst, append_assoc, length-append, length-take-le}
+use Rattle.std.specs.Prelude.{nat_le}
 use Rattle.std.proofs.lemmas.Bool.{cases_lt, leb-false, eqb-true, eq-eqb, true≢false, or_parts}
 use Rattle.std.proofs.lemmas.Bool.Decides.{nat_tests}
 use Rattle.std.proofs.lemmas.List.{append-nil, take-append-drop, take_at, get_or-map}
 use Rattle.std.proofs.lemmas.List.FromFn.{get_or-range_with_len}
 use Rattle.std.proofs.lemmas.Nat.{and_mask}
 use Rattle.std.proofs.lemmas.Nat.Bits.{and_high_mask}
-use Rattle.std.proofs.lemmas.Simd.{get_or_narrower, Each1-from_get_or, get_or-chunk, length-chunk, pick_l_left, swz_l}
-use Rattle.std.specs.Int.RustNames.{count_ones}
+use Rattle.std.proofs.lemmas.Simd.{get_or-chunk, length-chunk, pick_l_left}
 use Rattle.std.specs.List.{range_with_len}
-use Rattle.std.specs.Simd.Lanes.{mask_l, number_l, digits_l, Each1, chunk, pick_l}
+use Rattle.std.specs.Simd.Lanes.{chunk, pick_l}
 use Rattle.encoding_definitions.specs.Utf16.{IsHighSurrogate, IsLowSurrogate}
 use Rattle.encoding_kernels.specs.Lanes.{HasLanes}
 use Rattle.encoding_kernels.specs.EncodeLanes.{kept_places}
 use Rattle.encoding_kernels.specs.SurrogatePairs.{IsShortOrHalf, AreShortOrPaired, EncodesHalf, half_bytes, joined, halves_from}
 use Rattle.encoding_kernels.proofs.Lanes.WordLemmas.{bytes_of, bytes_lanes}
-use Rattle.encoding_kernels.proofs.Lanes.EncodeLanesLemmas.{both, EncodesTo-word, kept_step, pick}
+use Rattle.encoding_kernels.proofs.Lanes.EncodeLanesLemmas.{both, EncodesTo-word, kept_step}
 
 -- ---- what is joined
 pub joined-same : (f g : ℕ → List ℕ) (i j n : ℕ) → ((k : ℕ) → k < n → f (i + k) ≡ g (j + k)) → joined f i n ≡ joined g j n

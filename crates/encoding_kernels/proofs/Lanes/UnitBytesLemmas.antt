@@ -1,9 +1,9 @@
 -- The lower and the upper byte of the code unit that ends with each byte, and the vectors that both are joined to.
-use Rattle.std.proofs.Common.{◌≡◌, ℕ, zero, suc, ◌+◌, ◌-◌, ◌*◌, ◌/◌, ◌%◌, ◌^◌, ◌<◌, inl, inr, Bool, true, false, cond, leb, ltb, List, [], ◌∷◌, ◌++◌, map, length, take, drop, get_or, bit_and, bit_or, refl, sym, ap, ◌∙◌, arith, w8, Fits, length-take-le, length-drop, get_or-take, get_or-drop}
+use Rattle.std.proofs.Common.{◌≡◌, ℕ, zero, suc, ◌+◌, ◌-◌, ◌*◌, ◌/◌, ◌%◌, ◌^◌, ◌<◌, cond, leb, ltb, List, [], ◌∷◌, ◌++◌, map, length, take, drop, get_or, bit_and, bit_or, sym, ap, ◌∙◌, arith, w8, Fits, length-take-le, length-drop, get_or-take, get_or-drop}
 use Rattle.std.specs.Int.Bits.{or_zero_r}
 use Rattle.std.specs.List.{range_with_len}
-use Rattle.std.specs.Simd.Lanes.{pick_l, top, Each1}
-use Rattle.std.proofs.lemmas.Bool.{cond-true, cond-false, cases_lt, lt-leb, le-leb}
+use Rattle.std.specs.Simd.Lanes.{pick_l, Each1}
+use Rattle.std.proofs.lemmas.Bool.{cond-false, lt-leb}
 use Rattle.std.proofs.lemmas.Bool.Decides.{nat_tests}
 use Rattle.std.proofs.lemmas.Grind.{same_number_lists}
 use Rattle.std.proofs.lemmas.Nat.{and_mask}

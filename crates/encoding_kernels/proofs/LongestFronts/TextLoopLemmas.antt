@@ -5,7 +5,7 @@ use Rattle.std.specs.Char.{IsScalar}
 use Rattle.std.specs.Char.Escape.{encode_utf16}
 use Rattle.std.specs.Str.{all_scalars, IsUtf8, chars}
 use Rattle.std.specs.List.{flat_map}
-use Rattle.std.proofs.str.Laws.{one, two, three, four, scalars-append}
+use Rattle.std.proofs.str.Laws.{scalars-append}
 use Rattle.std.proofs.Math.Seq.{drop-cons, take-append-add}
 use Rattle.std.proofs.lemmas.Bool.{cases_lt, and_parts, and_from}
 use Rattle.std.proofs.lemmas.Bool.Decides.{nat_tests}
@@ -20,7 +20,7 @@ use Rattle.encoding_kernels.specs.Units.{units_in, WritesUtf16}
 use Rattle.encoding_definitions.proofs.Sequences.EncodingLemmas.{IsSequence-encode, length-encode_utf16-utf8}
 use Rattle.encoding_definitions.proofs.LongestFronts.FrontsLemmas.{WritesFront-nil}
 use Rattle.encoding_definitions.proofs.LongestFronts.FittingLemmas.{written_is}
-use Rattle.encoding_kernels.proofs.LongestFronts.TextUnitsLemmas.{one_unit, two_units, puts_ascii}
+use Rattle.encoding_kernels.proofs.LongestFronts.TextUnitsLemmas.{puts_ascii}
 use Rattle.encoding_definitions.proofs.Sequences.EncodingLemmas.{encodes_one, length-utf16}
 
 -- ---- a character

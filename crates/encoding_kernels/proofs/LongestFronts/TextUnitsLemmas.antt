@@ -1,5 +1,5 @@
 -- UTF-16 of a text by its bytes, and writing it front by front.
-use Rattle.std.proofs.Common.{◌≡◌, ℕ, zero, suc, ◌+◌, ◌-◌, ◌*◌, ◌/◌, ◌%◌, ◌^◌, ◌<◌, ◌≤◌, inl, inr, Bool, true, false, ◌&&◌, if◌then◌else◌, leb, ltb, List, [], ◌∷◌, ◌++◌, length, take, drop, get_or, replicate, map, bit_or, encode_utf8, encode_utf8_all, refl, sym, ap, ◌∙◌, arith, subst, take-add}
+use Rattle.std.proofs.Common.{◌≡◌, ℕ, zero, suc, ◌+◌, ◌-◌, ◌*◌, ◌/◌, ◌%◌, ◌^◌, ◌<◌, ◌≤◌, inl, inr, Bool, true, false, ◌&&◌, if◌then◌else◌, leb, ltb, List, [], ◌∷◌, ◌++◌, length, take, drop, get_or, replicate, bit_or, encode_utf8, encode_utf8_all, refl, sym, ap, ◌∙◌, arith, subst, take-add}
 use lib.Utf8.{scalar, scalar_cases}
 use Rattle.std.specs.Char.{IsScalar}
 use Rattle.std.specs.Char.Escape.{encode_utf16}
@@ -16,7 +16,7 @@ use Rattle.std.proofs.lemmas.Str.{IsUtf8-take, IsUtf8-drop, IsUtf8-from_ascii, I
 use Rattle.encoding_definitions.specs.Fronts.{WritesFront}
 use Rattle.encoding_kernels.specs.Strides.{BelowUpTo}
 use Rattle.encoding_kernels.specs.Lanes.{HasLanes}
-use Rattle.encoding_kernels.specs.Units.{BeginsThree, keep, ends_unit, low_bits, triple_unit, unit_at, units_behind, upper_of, ends_behind, WritesCompressed, WritesUtf16}
+use Rattle.encoding_kernels.specs.Units.{BeginsThree, keep, ends_unit, low_bits, triple_unit, unit_at, units_behind, ends_behind, WritesCompressed, WritesUtf16}
 use Rattle.encoding_kernels.proofs.Lanes.CompressLemmas.{keep_pad}
 use Rattle.encoding_kernels.proofs.Lanes.LaneLemmas.{same_below}
 use Rattle.encoding_kernels.proofs.Lanes.UnitLanesLemmas.{length-ends}

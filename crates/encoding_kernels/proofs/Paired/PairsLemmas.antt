@@ -1,6 +1,6 @@
 -- Units of which some come in pairs: a front in which each second stands behind a first, and each first before a second, is whole but for a last first.
 use Rattle.std.proofs.Common.{◌≡◌, ℕ, zero, suc, ◌+◌, ◌-◌, ◌^◌, ◌<◌, ◌≤◌, ◌↔◌, ◌⊎◌, inl, inr, Bool, true, false, not, cond, ◌||◌, ◌&&◌, eqb, leb, ltb, List, [], ◌∷◌, length, take, slice_index, bit_and, ◌%◌, drop, refl, sym, ap, ◌∙◌, arith, subst}
-use Rattle.std.proofs.lemmas.Bool.{cases_lt, lt-ltb, le-ltb, ltb-false, agree_below_at}
+use Rattle.std.proofs.lemmas.Bool.{cases_lt, agree_below_at}
 use Rattle.std.proofs.lemmas.List.{get_or_past}
 use Rattle.std.proofs.lemmas.Bool.Decides.{nat_tests}
 use Rattle.encoding_definitions.specs.Latin1.{IsUtf8Latin1}

@@ -1,15 +1,15 @@
 -- The sums of whole texts: they lead to the lengths in another encoding.
-use Rattle.std.proofs.Common.{◌≡◌, ℕ, suc, ◌+◌, ◌/◌, ◌%◌, ◌<◌, ◌≤◌, inl, inr, true, false, cond, List, [], ◌∷◌, ◌++◌, length, slice_index, nat_le, encode_utf8, encode_utf8_all, refl, sym, ap, ◌∙◌, arith, subst}
+use Rattle.std.proofs.Common.{◌≡◌, ℕ, suc, ◌+◌, ◌/◌, ◌%◌, ◌<◌, ◌≤◌, inl, inr, false, cond, List, [], ◌∷◌, ◌++◌, length, slice_index, nat_le, encode_utf8, encode_utf8_all, refl, sym, ap, ◌∙◌, arith, subst}
 use Rattle.std.specs.Char.{IsScalar, len_utf8}
 use Rattle.std.specs.Char.Escape.{encode_utf16}
 use Rattle.std.specs.List.{flat_map}
 use Rattle.std.specs.Str.{chars}
-use Rattle.std.proofs.lemmas.Bool.{cases_lt, cond-true, cond-false}
+use Rattle.std.proofs.lemmas.Bool.{cases_lt}
 use Rattle.std.proofs.lemmas.Bool.Decides.{nat_tests}
 use Rattle.std.proofs.lemmas.List.{length-append}
 use Rattle.std.proofs.lemmas.Str.{length-encode}
 use Rattle.std.proofs.str.Laws.{one, two}
-use Rattle.std.proofs.str.Utf16.{one_unit, two_units, IsPair}
+use Rattle.std.proofs.str.Utf16.{one_unit, IsPair}
 use lib.Utf8.{scalar_cases}
 use mir.Val.{bool_byte}
 use Rattle.encoding_definitions.specs.Sequence.{IsContinuation, IsSecond, BeginsNothing}
@@ -22,7 +22,7 @@ use Rattle.encoding_definitions.proofs.Sequences.EncodingLemmas.{IsSequence-enco
 use Rattle.encoding_definitions.proofs.Decomposition.PartsLemmas.{IsStuck, stuck_part, lone_part}
 use Rattle.encoding_definitions.proofs.CodeUnits.Utf16Lemmas.{halves, first_of_parts, tail_paired}
 use Rattle.encoding_definitions.proofs.Latin.Latin1Lemmas.{latin1_chars}
-use Rattle.encoding_kernels.specs.Lengths.{total, one_from, goes_second, goes_third, joined, joined_by, pairs, beyond, beyond_one}
+use Rattle.encoding_kernels.specs.Lengths.{total, one_from, goes_third, joined, joined_by, beyond, beyond_one}
 
 -- ---- Latin1
 low_end : (least b : ℕ) → b < least → bool_byte (nat_le least b) ≡ 0

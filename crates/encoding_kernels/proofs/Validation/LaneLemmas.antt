@@ -1,5 +1,5 @@
 -- The vector operations of the test, lane by lane.
-use Rattle.std.proofs.Common.{◌≡◌, ℕ, ◌+◌, ◌-◌, ◌*◌, ◌/◌, ◌%◌, ◌^◌, ◌<◌, ◌≤◌, cond, ltb, List, ◌++◌, ◌⊎◌, take, map, length, get_or, replicate, bit_and, bit_or, bit_xor, refl, sym, ap, ◌∙◌, inl, inr, arith, w8, Fits, lt-ltb, le-ltb}
+use Rattle.std.proofs.Common.{◌≡◌, ℕ, ◌+◌, ◌-◌, ◌*◌, ◌/◌, ◌%◌, ◌^◌, ◌<◌, ◌≤◌, cond, ltb, List, ◌++◌, ◌⊎◌, take, map, length, get_or, replicate, bit_and, bit_or, bit_xor, refl, sym, ap, ◌∙◌, inl, inr, arith, w8, Fits}
 use Rattle.std.proofs.lemmas.Bool.{cases_lt}
 use Rattle.std.proofs.lemmas.Bool.Decides.{nat_tests}
 use Rattle.std.proofs.lemmas.List.{length-take-le, get_or-append_right, get_or-take}

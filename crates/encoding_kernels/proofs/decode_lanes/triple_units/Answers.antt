@@ -1,4 +1,4 @@
-use Rattle.std.proofs.Common.{◌+◌, ◌*◌, ◌^◌, ◌%◌, ◌∷◌, [], bit_and, refl, List, ℕ}
+use Rattle.std.proofs.Common.{◌+◌, ◌*◌, ◌^◌, ◌%◌, ◌∷◌, [], bit_and, refl}
 use Rattle.encoding_kernels.proofs.Lanes.LaneLemmas.{HasLanes-splat, HasLanes-zip2, HasLanes-cast, HasLanes-same}
 use Rattle.encoding_kernels.proofs.Lanes.UnitLanesLemmas.{third_lanes, triple_lane}
 use Rattle.encoding_kernels.proofs.decode_lanes.triple_units.Goals as goal

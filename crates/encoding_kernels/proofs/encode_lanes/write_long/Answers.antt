@@ -1,4 +1,4 @@
-use Rattle.std.proofs.Common.{◌∙◌, ◌++◌, ◌+◌, drop, take, ap, length, length-append, arith}
+use Rattle.std.proofs.Common.{◌∙◌, ◌++◌, ◌+◌, drop, take, ap}
 use Rattle.encoding_kernels.proofs.Lanes.LongLemmas.{two_puts}
 use Rattle.encoding_kernels.proofs.encode_lanes.write_long.Goals as goal
 

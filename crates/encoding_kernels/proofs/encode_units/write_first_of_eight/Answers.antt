@@ -13,8 +13,15 @@ returns c =
     let zeros : List ℕ = drop c.args.first (replicate 8 0) in
     let n = here.1 + here.3 - (8 - c.args.first) in
     let whole : take here.1 here.0 ++ take here.3 here.2 ≡ front ++ zeros = call.spelled ∙ ap encode_utf8_all c.with_zeros.ensures ∙ zeros_spelled c.args.first c.args.units in
-    let count : n ≡ length front = omega (arith, ap length whole, length-append (take here.1 here.0) (take here.3 here.2), length-append front zeros, length-drop {A = ℕ} c.args.first (replicate 8 0),
-      length-take-le here.1 here.0 (omega (arith, call.long, call.first)), length-take-le here.3 here.2 (omega (arith, call.long, call.second))) in
+    let count : n ≡ length front = omega (
+      arith,
+      ap length whole,
+      length-append (take here.1 here.0) (take here.3 here.2),
+      length-append front zeros,
+      length-drop {A = ℕ} c.args.first (replicate 8 0),
+      length-take-le here.1 here.0 (omega (arith, call.long, call.first)),
+      length-take-le here.3 here.2 (omega (arith, call.long, call.second)),
+    ) in
     let sum : here.1 + here.3 ≡ n + (8 - c.args.first) = omega (arith, call.first, call.second) in
     record {
       most = omega (arith, call.first, call.second);

@@ -1,6 +1,4 @@
-use Rattle.std.proofs.Common.{rules}
-use Rattle.encoding_definitions.proofs.Sequences.SequenceLemmas.{IsSequence-some, length-IsSequence}
-use Rattle.encoding_definitions.proofs.Sequences.ScalarLemmas.{scalar_one, scalar_two, scalar_three, scalar_four}
+use Rattle.encoding_definitions.proofs.Sequences.ScalarLemmas.{scalar_two, scalar_three, scalar_four}
 use Rattle.encoding_kernels.proofs.scalars.scalar_of_sequence.Goals as goal
 
 pub returns-in-len2-clause-spelled : goal.returns-in-len2-clause-spelled

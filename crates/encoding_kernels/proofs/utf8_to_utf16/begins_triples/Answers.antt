@@ -1,4 +1,4 @@
-use Rattle.std.proofs.Common.{◌≡◌, ℕ, zero, suc, ◌*◌, ◌<◌, ◌&&◌, arith, bit_and, eqb, false, get_or, get_or-take, leb, length-take-le, ltb, map, not, refl, sym, take, ap, ◌∙◌, w8}
+use Rattle.std.proofs.Common.{◌≡◌, ℕ, ◌*◌, ◌<◌, ◌&&◌, arith, bit_and, eqb, false, get_or, get_or-take, leb, length-take-le, ltb, not, refl, sym, take, ◌∙◌, w8}
 use Rattle.std.proofs.lemmas.Bool.{and_parts, leb-true, ltb-true, not-false}
 use Rattle.encoding_kernels.specs.declared.utf8_to_utf16.TheConstants.{LEAD_BITS, LEADS}
 use Rattle.encoding_kernels.specs.Lanes.{HasLanes}

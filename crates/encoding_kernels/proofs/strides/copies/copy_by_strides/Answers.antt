@@ -1,6 +1,6 @@
 use Rattle.std.proofs.Common.{◌≡◌, ◌+◌, ◌-◌, take, length, ap, ◌∙◌, arith}
 use Rattle.std.proofs.lemmas.List.{take_all}
-use Rattle.encoding_definitions.proofs.LongestFronts.FrontsLemmas.{WritesFront-nil, WritesFront-length, WritesFront-same, WritesFront_again}
+use Rattle.encoding_definitions.proofs.LongestFronts.FrontsLemmas.{WritesFront-length, WritesFront-same, WritesFront_again}
 use Rattle.encoding_kernels.proofs.Latin.AsciiLemmas.{WritesFront_block}
 use Rattle.encoding_kernels.proofs.strides.copies.copy_by_strides.Goals as goal
 
