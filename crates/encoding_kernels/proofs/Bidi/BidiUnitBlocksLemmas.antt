@@ -11,10 +11,7 @@ use Rattle.encoding_definitions.proofs.Bidi.BidiUnitsLemmas.{UnitForm, unit_form
 
 -- ---- ranges by one comparison
 outside : (from count u : ℕ) → from < 2 ^ 16 → u < 2 ^ 16 → in_range from count u ≡ false → (u < from) ⊎ (from + count ≤ u)
-outside from count u l m e = elim (cases_lt u from) [
-  | inl p ↦ inl p
-  | inr p ↦ let over = ltb-false _ _ e in inr (omega arith)
-]
+outside from count u l m e = let over = ltb-false _ _ e in grind arith
 
 none_of : (u : ℕ) → UnitForm u → (u < 0x590) ⊎ (0x590 + 0x370 ≤ u) → (u < 0x202B) ⊎ (0x202B + 4 ≤ u) → (u ≡ 0x200F → ⊥) → (u ≡ 0x2067 → ⊥) → (u < 0xD802) ⊎ (0xD802 + 0x3A ≤ u)
     → (u < 0xFB1D) ⊎ (0xFB1D + 0x3E2 ≤ u) → u < 2 ^ 16 → ⊥

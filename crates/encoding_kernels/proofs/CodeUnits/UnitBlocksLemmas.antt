@@ -25,10 +25,7 @@ abbrev IsPlain : ℕ → Type 0
 IsPlain u = (0xD800 ≤ u) × (u ≤ 0xDFFF) → ⊥
 
 apart : (u : ℕ) → IsPlain u → (u < 0xD800) ⊎ (0xDFFF < u)
-apart u p = elim (cases_lt u 0xD800) [
-  | inl l ↦ inl l
-  | inr l ↦ elim (cases_lt 0xDFFF u) [ inl h ↦ inr h | inr h ↦ absurd (p (l, h)) ]
-]
+apart u p = grind arith
 
 parts_of_plain : (us rest : List ℕ) → ArePlain us → AreUnits us → parts_of (us ++ rest) ≡ map Character16 us ++ parts_of rest
 parts_of_plain [] rest p a = refl

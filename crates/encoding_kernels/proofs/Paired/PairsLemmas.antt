@@ -65,13 +65,10 @@ valid_none : IsValidUtf16 []
 valid_none = valid-encode [] [] refl refl
 
 high_decided : (u : ℕ) → IsHighSurrogate u ⊎ (IsHighSurrogate u → ⊥)
-high_decided u = elim (cases_lt u 0xD800) [
-  | inl l ↦ inr (λ h. omega (arith, h.0))
-  | inr l ↦ elim (cases_lt 0xDBFF u) [ inl m ↦ inr (λ h. omega (arith, h.1)) | inr m ↦ inl (l, m) ]
-]
+high_decided u = grind (arith, nat_tests)
 
 not_surrogate : (u : ℕ) → (IsHighSurrogate u → ⊥) → (IsLowSurrogate u → ⊥) → 0xD800 ≤ u → u ≤ 0xDFFF → ⊥
-not_surrogate u h l a b = elim (cases_lt u 0xDC00) [ inl m ↦ h (a, omega arith) | inr m ↦ l (m, b) ]
+not_surrogate u h l a b = grind arith
 
 module _ (us : List ℕ) (n : ℕ) (within : n ≤ length us) (some : 0 < n) (units : (k : ℕ) → slice_index us k < 0x10000) (p : PairUp us 0 n) where
   abbrev IsValidTo : ℕ → Type 0
@@ -176,7 +173,7 @@ abbrev IsLead : ℕ → Type 0
 IsLead b = 0xC0 ≤ b
 
 ascii_byte : (b : ℕ) → (IsLead b → ⊥) → (IsContinuation b → ⊥) → b < 0x80
-ascii_byte b h l = elim (cases_lt b 0x80) [ inl p ↦ p | inr p ↦ elim (cases_lt b 0xC0) [ inl q ↦ absurd (l (p, omega arith)) | inr q ↦ absurd (h q) ] ]
+ascii_byte b h l = grind arith
 
 module _ (bs : List ℕ) (n : ℕ) (within : n ≤ length bs) (some : 0 < n) (p : FitLatin1 bs 0 n) where
   abbrev IsLatin1To : ℕ → Type 0

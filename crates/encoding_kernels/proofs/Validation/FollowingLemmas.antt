@@ -232,11 +232,7 @@ closed_before bs i f h =
     (x, y, a)
 
 pub IsClosedAt_tests : (bs : List ℕ) (at : ℕ) → 3 ≤ at → get_or bs (at - 1) 0 < 0xC0 → get_or bs (at - 2) 0 < 0xE0 → get_or bs (at - 3) 0 < 0xF0 → IsClosedAt bs at
-IsClosedAt_tests bs at h a y x = (
-  subst (λ k. k < 0xF0) (sym (three_before bs at h)) x,
-  subst (λ k. k < 0xE0) (sym (two_before bs at (omega arith))) y,
-  subst (λ k. k < 0xC0) (sym (one_before bs at (omega arith))) a,
-)
+IsClosedAt_tests bs at h a y x = (omega (arith, three_before bs at h), omega (arith, two_before bs at (omega arith)), omega (arith, one_before bs at (omega arith)))
 
 -- behind three bytes of ASCII
 pub IsClosedAt-behind_ascii : (bs : List ℕ) (from at : ℕ) → from + 3 ≤ at → AsciiBetween bs from at → IsClosedAt bs at
