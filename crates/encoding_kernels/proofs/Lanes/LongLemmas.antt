@@ -1,6 +1,6 @@
 -- The UTF-8 of code units from U+0800 on, of four bytes each.
 use Rattle.std.proofs.Common.{◌≡◌, ℕ, zero, suc, ◌+◌, ◌-◌, ◌*◌, ◌/◌, ◌%◌, ◌^◌, ◌<◌, ◌≤◌, Bool, true, false, cond, eqb, IsTrue, not, List, [], ◌∷◌, ◌++◌, map, length, get_or, encode_utf8, encode_utf8_all, bit_and, bit_or, replicate, refl, sym, ap, ◌∙◌, arith, subst, w16, take, drop, length-append, length-take-le, append_assoc, Fits}
-use Rattle.std.proofs.lemmas.Bool.{eqb-false, true≢false}
+use Rattle.std.proofs.lemmas.Bool.{eqb-false, or_parts}
 use Rattle.std.proofs.lemmas.Simd.{Each1-get_or, length-put_chunk}
 use Rattle.std.proofs.lemmas.Nat.{and_mask}
 use Rattle.std.proofs.lemmas.Nat.Bits.{and_high_mask}
@@ -10,34 +10,23 @@ use Rattle.std.specs.Simd.Lanes.{top, zip2, Each1, pick_l, put_chunk}
 use Rattle.std.proofs.lemmas.List.{take_at, drop_at, drop-drop, get_or_append_left, get_or-append_right}
 use Rattle.encoding_kernels.specs.Lanes.{HasLanes}
 use Rattle.encoding_kernels.proofs.Lanes.PutLemmas.{put_is}
+use Rattle.encoding_kernels.proofs.Lanes.TestLemmas.{none_passes, tests_of, tests_or}
 use Rattle.encoding_kernels.proofs.Lanes.WordLemmas.{bytes_of, bytes_lanes}
 use Rattle.encoding_kernels.proofs.Lanes.LaneLemmas.{HasLanes-itself, HasLanes-splat, HasLanes-zip2, compared, mask_of, not_any}
 
 -- ---- the test
-either_top : (a b : Bool) → top 15 (bit_or (cond a 65535 0) (cond b 65535 0)) ≡ false → (a ≡ false) × (b ≡ false)
-either_top false false e = (refl, refl)
-either_top true false e = absurd (true≢false e)
-either_top false true e = absurd (true≢false e)
-either_top true true e = absurd (true≢false e)
-
-long_lane : (x : ℕ) → x < 2 ^ 16 → top 15 (bit_or (compared w16 eqb (bit_and x 0xF800) 0) (compared w16 eqb (bit_and x 0xF800) 0xD800)) ≡ false
-    → (0x800 ≤ x) × ((0xD800 ≤ x) × (x ≤ 0xDFFF) → ⊥)
-long_lane x l e =
-    let tops : bit_and x 0xF800 ≡ x / 2048 * 2048 = and_high_mask 16 11 (omega arith) x l in
-    let tests = either_top _ _ e in
-    let low = eqb-false _ _ tests.0 in
-    let surrogate = eqb-false _ _ tests.1 in
-    (omega arith, λ r. surrogate (omega (arith, r.0, r.1)))
-
 pub all_long : (us : List ℕ) → length us ≡ 8 → Each1 (Fits w16) us
     → IsTrue (not (not (eqb (mask_of 15 (zip2 bit_or (zip2 (compared w16 eqb) (zip2 bit_and us (replicate 8 0xF800)) (replicate 8 0)) (zip2 (compared w16 eqb) (zip2 bit_and us (replicate 8 0xF800)) (replicate 8 0xD800)))) 0)))
     → (k : ℕ) → k < 8 → (0x800 ≤ get_or us k 0) × ((0xD800 ≤ get_or us k 0) × (get_or us k 0 ≤ 0xDFFF) → ⊥)
 all_long us long fit t k l =
+    let x = get_or us k 0 in
     let tops = HasLanes-zip2 bit_and (HasLanes-itself 8 us long) (HasLanes-splat 8 0xF800) in
-    let low = HasLanes-zip2 (compared w16 eqb) tops (HasLanes-splat 8 0) in
-    let surrogate = HasLanes-zip2 (compared w16 eqb) tops (HasLanes-splat 8 0xD800) in
-    let tests = not_any 15 (HasLanes-zip2 bit_or low surrogate) (omega arith) in
-    long_lane (get_or us k 0) (Each1-get_or (Fits w16) us k 0 (omega arith) fit).fits (tests.0 t k l)
+    let others = tests_or (tests_of w16 eqb tops (HasLanes-splat 8 0)) (tests_of w16 eqb tops (HasLanes-splat 8 0xD800)) in
+    let none = or_parts (eqb (bit_and x 0xF800) 0) (eqb (bit_and x 0xF800) 0xD800) ((none_passes others (omega arith)).0 t k l) in
+    let top_bits : bit_and x 0xF800 ≡ x / 2048 * 2048 = and_high_mask 16 11 (omega arith) x (Each1-get_or (Fits w16) us k 0 (omega arith) fit).fits in
+    let low = eqb-false _ _ none.0 in
+    let surrogate = eqb-false _ _ none.1 in
+    (omega arith, λ r. surrogate (omega (arith, r.0, r.1)))
 
 -- ---- the bytes
 -- of so many code units the first two bytes, and the last one sixteen places on
