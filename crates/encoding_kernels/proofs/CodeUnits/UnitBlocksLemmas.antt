@@ -102,10 +102,7 @@ plain_sixteen us at h = Each-take IsPlain (λ r. omega (arith, r.0)) (drop at us
 
 -- eight in a vector
 pub eight_plain : (us : List ℕ) (at : ℕ) → ((k : ℕ) → k < 8 → IsPlain (get_or (chunk at 8 us) k 0)) → ArePlain (chunk at 8 us)
-eight_plain us at h k r = elim (cases_lt k 8) [
-  | inl l ↦ h k l r
-  | inr l ↦ omega (arith, r.0, get_or_past (chunk at 8 us) k 0 (omega (arith, length-take 8 (drop at us))))
-]
+eight_plain us at h k r = elim (cases_lt k 8) [ inl l ↦ h k l r | inr l ↦ omega (arith, r.0, get_or_past (chunk at 8 us) k 0 (omega (arith, length-take 8 (drop at us)))) ]
 
 -- the first of eight in a vector
 pub first_plain : (us : List ℕ) (n : ℕ) → n ≤ 8 → ((k : ℕ) → k < n → IsPlain (get_or (chunk 0 8 us) k 0)) → ArePlain (take n us)

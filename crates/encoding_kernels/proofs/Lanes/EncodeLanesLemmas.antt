@@ -86,11 +86,6 @@ mask_from w n bound us long few =
     let tests = tops_compared w leb (replicate n bound) us ∙ zip2_splat_left leb bound n us long in
     ap (λ ms. mask_l ms % 2 ^ 64) tests ∙ mask_l-mod (map (leb bound) us) 64 (omega (arith, length-map us (leb bound)))
 
-pub small_mask : (us : List ℕ) → length us ≡ 8 → mask_l (map (nat_le 0x80) us) < 256
-small_mask us long =
-    let eight : length (map (nat_le 0x80) us) ≡ 8 = length-map us (nat_le 0x80) ∙ long in
-    subst (λ n. mask_l (map (nat_le 0x80) us) < 2 ^ n) eight (mask_l-lt (map (nat_le 0x80) us))
-
 pub respell : (u : ℕ) {x y x2 y2 : ℕ} → x ≡ x2 → y ≡ y2 → EncodesTo u x2 y2 → EncodesTo u x y
 respell u {x} {y} {x2} {y2} p q s = subst (λ k. EncodesTo u k y) (sym p) (subst (EncodesTo u x2) (sym q) s)
 

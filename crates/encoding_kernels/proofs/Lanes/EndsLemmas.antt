@@ -27,9 +27,6 @@ end_of p x = cond (nat_le 0x80 x) ((p * 2 ^ 6 % 2 ^ 8 + bit_and x 0x3F) % 2 ^ 8)
 end_small : (p x : ℕ) → x < 256 → end_of p x < 256
 end_small p x l = grind (arith, nat_tests)
 
-end_is : (p x : ℕ) → x < 0xC0 → (end_of p x ∷ []) ≡ ended p x
-end_is p x l = grind (arith, nat_tests, and_mask x 6)
-
 -- ---- a pair
 abbrev pair_word : ℕ → ℕ → ℕ → ℕ
 pair_word p a b = cond (nat_le 0xC0 (bit_and (a + 256 * b) 0xFF)) ((end_of p a + 256 * end_of a b) / 2 ^ 8) (end_of p a + 256 * end_of a b)

@@ -19,6 +19,11 @@ pub firsts_over : (w : Width) (at count : ℕ) (xs lanes : List ℕ) → at + 16
 firsts_over w at count xs lanes room long =
     chosen_by (tests_of w ltb (HasLanes-numbers 16) (HasLanes-splat 16 count)) (HasLanes-itself 16 lanes long) (HasLanes-itself 16 (chunk at 16 xs) (length-chunk at 16 xs room))
 
+-- which are so put
+pub put_first : (w : Width) (at count : ℕ) (xs lanes : List ℕ) → at + 16 ≤ length xs → length lanes ≡ 16 → count ≤ 16
+    → put_chunk at xs (sel_l (map (top (hbits w)) (zip2 (compared w ltb) (range_with_len 0 16) (replicate 16 count))) lanes (chunk at 16 xs)) ≡ take at xs ++ (take count lanes ++ drop (at + count) xs)
+put_first w at count xs lanes room long few = put_firsts at 16 count xs lanes _ room long few (firsts_over w at count xs lanes room long)
+
 module _ (at count more : ℕ) (xs first second z : List ℕ) (room : at + 32 ≤ length xs) (few : count ≤ 16) (long : length first ≡ 16)
     (less : more ≤ 16) (also : length second ≡ 16)
     (lanes : HasLanes 16 z (λ k. cond (ltb k more) (get_or second k 0) (get_or (chunk (at + count) 16 xs) k 0))) where

@@ -1,9 +1,6 @@
 use Rattle.std.proofs.Common.{w16}
-use Rattle.encoding_kernels.proofs.Lanes.LaneLemmas.{put_firsts}
-use Rattle.encoding_kernels.proofs.Lanes.StoresLemmas.{firsts_over}
+use Rattle.encoding_kernels.proofs.Lanes.StoresLemmas.{put_first}
 use Rattle.encoding_kernels.proofs.strides.copies.write_first_units.Goals as goal
 
 pub returns : goal.returns
-returns c =
-    put_firsts c.args.at 16 c.args.count c.args.dst.now c.args.units _ c.requires.room c.requires.units.1 c.requires.units.0
-    (firsts_over w16 c.args.at c.args.count c.args.dst.now c.args.units c.requires.room c.requires.units.1)
+returns c = put_first w16 c.args.at c.args.count c.args.dst.now c.args.units c.requires.room c.requires.units.1 c.requires.units.0
