@@ -6,6 +6,7 @@ use Rattle.std.specs.Simd.Lanes.{zip2, sel_l, top, put_chunk, mask_l, Each1, num
 use Rattle.std.proofs.Math.Nat.{pow-suc, mul_assoc}
 use Rattle.std.proofs.Math.Seq.{take-append-add}
 use Rattle.std.proofs.lemmas.Bool.{and_parts, eqb-true, leb-true}
+use Rattle.std.proofs.lemmas.Bool.Decides.{nat_tests}
 use Rattle.std.proofs.lemmas.Grind.{same_number_lists}
 use Rattle.std.proofs.lemmas.Nat.{and_mask, mod_low, ones_le_self}
 use Rattle.std.proofs.lemmas.List.{length-map, length-append, length-take-le, length-drop, get_or-map, take-map, map-append, take-append-drop, take_at, drop_at, drop-drop, drop-append-le}
@@ -179,15 +180,13 @@ length-keep : (ms : List Bool) (us : List ℕ) → length ms ≡ length us → l
 unfolding keep
 length-keep [] us e = omega (arith, ones_le_self 0)
 length-keep (m ∷ ms) [] e = absurd (omega arith)
-length-keep (true ∷ ms) (u ∷ us) e = omega (arith, length-keep ms us (omega arith), ones-mask_l_cons true ms)
-length-keep (false ∷ ms) (u ∷ us) e = omega (arith, length-keep ms us (omega arith), ones-mask_l_cons false ms)
+length-keep (m ∷ ms) (u ∷ us) e = let rest = length-keep ms us (omega arith) in grind (arith, nat_tests, rest, ones-mask_l_cons m ms)
 
 length-keep-le : (ms : List Bool) (us : List ℕ) → length (keep ms us) ≤ length ms
 unfolding keep
 length-keep-le [] us = omega arith
 length-keep-le (m ∷ ms) [] = omega arith
-length-keep-le (true ∷ ms) (u ∷ us) = let l = length-keep-le ms us in omega arith
-length-keep-le (false ∷ ms) (u ∷ us) = let l = length-keep-le ms us in omega arith
+length-keep-le (m ∷ ms) (u ∷ us) = let l = length-keep-le ms us in grind (arith, nat_tests, l)
 
 keep_split : (n : ℕ) (ms : List Bool) (us : List ℕ) → length ms ≡ length us → keep ms us ≡ keep (take n ms) (take n us) ++ keep (drop n ms) (drop n us)
 unfolding keep

@@ -26,8 +26,7 @@ ones-none = refl
 
 kept_long : (at : ℕ) (bs : List Bool) → length (kept_places at bs) ≡ length bs + count_ones (mask_l bs)
 kept_long at [] = omega (arith, ones-none)
-kept_long at (false ∷ bs) = omega (arith, kept_long (at + 2) bs, ones-mask_l_cons false bs)
-kept_long at (true ∷ bs) = omega (arith, kept_long (at + 2) bs, ones-mask_l_cons true bs)
+kept_long at (b ∷ bs) = let rest = kept_long (at + 2) bs in grind (arith, nat_tests, rest, ones-mask_l_cons b bs)
 
 -- ---- what stands at them
 pub kept_step : (get : ℕ → ℕ) (at : ℕ) (b : Bool) (ks spelled rest : List ℕ) → cond b (get at ∷ get (at + 1) ∷ []) (get at ∷ []) ≡ spelled → map get ks ≡ rest
@@ -90,8 +89,7 @@ pub respell : (u : ℕ) {x y x2 y2 : ℕ} → x ≡ x2 → y ≡ y2 → EncodesT
 respell u {x} {y} {x2} {y2} p q s = subst (λ k. EncodesTo u k y) (sym p) (subst (EncodesTo u x2) (sym q) s)
 
 pub pick : (b : Bool) (x y : ℕ) → x < 65536 → y < 65536 → cond b x y < 65536
-pick true x y l m = l
-pick false x y l m = m
+pick b x y l m = grind (arith, nat_tests)
 
 -- the words of eight code units, as bytes
 both_lanes : (us : List ℕ) → length us ≡ 8

@@ -97,10 +97,7 @@ ones-none = refl
 
 long_step : (at : ℕ) (a s : Bool) (bs : List Bool) (n : ℕ) → (a ≡ true → s ≡ true) → length (last_places (at + 4) bs) + count_ones (mask_l bs) ≡ n
     → length (last_places at (a ∷ s ∷ bs)) + count_ones (mask_l (a ∷ s ∷ bs)) ≡ 3 + n
-long_step at true true bs n v e = omega (arith, e, ones-mask_l_cons true (true ∷ bs), ones-mask_l_cons true bs)
-long_step at true false bs n v e = absurd (false≢true (v refl))
-long_step at false true bs n v e = omega (arith, e, ones-mask_l_cons false (true ∷ bs), ones-mask_l_cons true bs)
-long_step at false false bs n v e = omega (arith, e, ones-mask_l_cons false (false ∷ bs), ones-mask_l_cons false bs)
+long_step at a s bs n v e = grind (arith, nat_tests, v, e, ones-mask_l_cons a (s ∷ bs), ones-mask_l_cons s bs)
 
 last_long : (at : ℕ) (us : List ℕ) → length (last_places at (classes us)) + count_ones (mask_l (classes us)) ≡ 3 * length us
 last_long at [] = omega (arith, ones-none)
@@ -150,10 +147,7 @@ abbrev pub class_word : ℕ → ℕ
 class_word u = cond (ltb u 0x80) 0xFFFF (cond (ltb u 0x800) 0xFF00 0)
 
 class_bytes : (a s : Bool) → (a ≡ true → s ≡ true) → (leb 0x80 (cond a 0xFFFF (cond s 0xFF00 0) % 256) ≡ a) × (leb 0x80 (cond a 0xFFFF (cond s 0xFF00 0) / 256) ≡ s)
-class_bytes true true v = (refl, refl)
-class_bytes true false v = absurd (false≢true (v refl))
-class_bytes false true v = (refl, refl)
-class_bytes false false v = (refl, refl)
+class_bytes a s v = (grind (arith, nat_tests, v), grind (arith, nat_tests, v))
 
 class_list : (us bs : List ℕ) → length bs ≡ 2 * length us
     → ((k : ℕ) → k < length us → (leb 0x80 (get_or bs (2 * k) 0) ≡ nat_lt (get_or us k 0) 0x80) × (leb 0x80 (get_or bs (2 * k + 1) 0) ≡ nat_lt (get_or us k 0) 0x800))

@@ -200,10 +200,7 @@ module _ (us : List ℕ) (at : ℕ) (room : at + 16 ≤ length us) (p : AreShort
 
 -- ---- the test
 pub same_tests : (a b : Bool) → cond a (not b) b ≡ false → a ≡ b
-same_tests true true e = refl
-same_tests true false e = absurd (true≢false e)
-same_tests false true e = absurd (true≢false e)
-same_tests false false e = refl
+same_tests a b e = grind (arith, nat_tests)
 
 pub low_test : (x : ℕ) → x < 2 ^ 16 → (eqb (bit_and x 0xFC00) 0xDC00 ≡ true) ↔ IsLowSurrogate x
 low_test x l =

@@ -20,18 +20,6 @@ IsLanes n v = (length v ≡ n) × Each1 (Fits w8) v
 abbrev pub IsWidth : ℕ → Type 0
 IsWidth n = (n ≡ 16) ⊎ (n ≡ 32)
 
-from_16 : (n : ℕ) → IsWidth n → 16 ≤ n
-from_16 n (inl e) = omega arith
-from_16 n (inr e) = omega arith
-
-below_32 : (n : ℕ) → IsWidth n → n ≤ 32
-below_32 n (inl e) = omega arith
-below_32 n (inr e) = omega arith
-
-whole_32 : (n : ℕ) → IsWidth n → (i : ℕ) → i < n → 16 ≤ i → 32 ≤ n
-whole_32 n (inl e) i l h = omega arith
-whole_32 n (inr e) i l h = omega arith
-
 byte : (n : ℕ) (v : List ℕ) → IsLanes n v → (i : ℕ) → i < n → get_or v i 0 < 256
 byte n v is i l = (Each1-get_or (Fits w8) v i 0 (omega (arith, is.0)) is.1).fits
 
@@ -61,10 +49,10 @@ module _ (n : ℕ) (w : IsWidth n) {js : List ℕ} {f : ℕ → ℕ} (places : H
         λ k m. (let e : 0 + k ≡ k = omega arith in get_or-chunk 0 n t k 0 m ∙ ap (λ m. get_or t m 0) e) in
         let read = get_or-swz_l_below w8 16 (chunk 0 n t) 0 js i (omega (arith, places.long)) (omega (arith, places.each i l, low)) in
         let first : i < 16 → 16 * ((0 + i) / 16) + get_or js i 0 ≡ j = λ k. omega (arith, places.each i l) in
-        let second : 16 ≤ i → 16 * ((0 + i) / 16) + get_or js i 0 ≡ 16 + j = λ k. omega (arith, places.each i l, below_32 n w) in
+        let second : 16 ≤ i → 16 * ((0 + i) / 16) + get_or js i 0 ≡ 16 + j = λ k. omega (arith, places.each i l, w) in
         read ∙ elim (cases_lt i 16) [
-          | inl k ↦ ap (λ m. get_or (chunk 0 n t) m 0) (first k) ∙ loaded j (omega (arith, from_16 n w, low))
-          | inr k ↦ ap (λ m. get_or (chunk 0 n t) m 0) (second k) ∙ loaded (16 + j) (omega (arith, low, whole_32 n w i l k)) ∙ copied
+          | inl k ↦ ap (λ m. get_or (chunk 0 n t) m 0) (first k) ∙ loaded j (omega (arith, w, low))
+          | inr k ↦ ap (λ m. get_or (chunk 0 n t) m 0) (second k) ∙ loaded (16 + j) (omega (arith, low, w, k, l)) ∙ copied
         ];
   }
 
