@@ -131,19 +131,8 @@ module _ (h : ℕ) {n : ℕ} {a : List ℕ} {f : ℕ → ℕ} (lanes : HasLanes 
   first_none none = first_set n (sym (leading_from_mask_l (top h) a (sym (mask_is h n a lanes.long few) ∙ none) ∙ lanes.long))
 
   -- no bit is set
-  pub no_bit : mask_of h a ≡ 0 → (k : ℕ) → k < n → top h (f k) ≡ false
-  no_bit none = (first_none none).before
-
   pub no_bit_from : ((k : ℕ) → k < n → top h (f k) ≡ false) → mask_of h a ≡ 0
   no_bit_from p = mask_is h n a lanes.long few ∙ empty_mask (top h) a 0 (λ k l. at_lane k (omega (arith, lanes.long)) ∙ p k (omega (arith, lanes.long)))
-
-  -- `!mask.any()`
-  pub not_any : IsTrue (not (not (eqb (mask_of h a) 0))) ↔ ((k : ℕ) → k < n → top h (f k) ≡ false)
-  not_any = (λ e. no_bit (eqb-true _ 0 (not-false _ (not-true _ e))), λ p. not_from_false _ (not_from_true _ (eq-eqb _ 0 (no_bit_from p))))
-
-  -- the same, where what is asked of a lane says P
-  pub not_any_is : (P : ℕ → Type 0) → ((k : ℕ) → k < n → (top h (f k) ≡ false) ↔ P k) → IsTrue (not (not (eqb (mask_of h a) 0))) ↔ ((k : ℕ) → k < n → P k)
-  not_any_is P t = (λ e k l. (t k l).0 (not_any.0 e k l), λ p. not_any.1 (λ k l. (t k l).1 (p k l)))
 
 -- ---- a store of which only the first lanes count
 -- the first so many lanes of one vector, and behind them those of another

@@ -12,7 +12,7 @@ use Rattle.encoding_kernels.specs.Lanes.{HasLanes}
 use Rattle.encoding_kernels.proofs.Lanes.PutLemmas.{put_is}
 use Rattle.encoding_kernels.proofs.Lanes.TestLemmas.{none_passes, tests_of, tests_or}
 use Rattle.encoding_kernels.proofs.Lanes.WordLemmas.{bytes_of, bytes_lanes}
-use Rattle.encoding_kernels.proofs.Lanes.LaneLemmas.{HasLanes-itself, HasLanes-splat, HasLanes-zip2, compared, mask_of, not_any}
+use Rattle.encoding_kernels.proofs.Lanes.LaneLemmas.{HasLanes-itself, HasLanes-splat, HasLanes-zip2, compared, mask_of}
 
 -- ---- the test
 pub all_long : (us : List ℕ) → length us ≡ 8 → Each1 (Fits w16) us

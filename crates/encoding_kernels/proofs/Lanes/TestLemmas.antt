@@ -1,6 +1,6 @@
 -- Masks as tests of lanes: joined, chosen by, and what holds where no lane passes.
 use Rattle.std.proofs.Common.{◌≡◌, ℕ, ◌-◌, ◌^◌, ◌+◌, ◌<◌, ◌≤◌, ◌↔◌, IsTrue, Bool, true, false, not, cond, ◌&&◌, ◌||◌, eqb, leb, inl, inr, List, length, get_or, map, replicate, bit_and, bit_or, bit_xor, refl, sym, ap, ◌∙◌, arith, subst}
-use Rattle.std.proofs.lemmas.Bool.{cases_lt, false≢true, leb-false, lt-leb}
+use Rattle.std.proofs.lemmas.Bool.{cases_lt, false≢true, leb-false, lt-leb, eqb-true, eq-eqb, not-true, not-false, not_from_false, not_from_true}
 use Rattle.std.specs.Int.Bits.{and_self, and_zero_l, and_zero_r, or_self, or_zero_l, or_zero_r, xor_self, xor_zero_l, xor_zero_r}
 use Rattle.std.specs.Simd.Lanes.{chunk, zip2, top, sel_l}
 use Rattle.std.proofs.lemmas.Simd.{trailing_mask_l}
@@ -9,7 +9,7 @@ use mir.Syntax.{Width}
 use mir.Val.{bits, hbits}
 use Rattle.encoding_kernels.specs.Lanes.{HasLanes}
 use Rattle.encoding_kernels.specs.Places.{Marks}
-use Rattle.encoding_kernels.proofs.Lanes.LaneLemmas.{HasLanes-load, HasLanes-zip2, HasLanes-splat, HasLanes-select, HasLanes-same, compared, top_compared, mask_of, mask_is, not_any_is, IsFirstSet, first_set, first_none, no_bit_from}
+use Rattle.encoding_kernels.proofs.Lanes.LaneLemmas.{HasLanes-load, HasLanes-zip2, HasLanes-splat, HasLanes-select, HasLanes-same, compared, top_compared, mask_of, mask_is, IsFirstSet, first_set, first_none, no_bit_from}
 
 -- lane k of the mask says whether t holds of k: all its bits are set, or none
 pub record HasTests (w : Width) (n : ℕ) (mask : List ℕ) (t : ℕ → Bool) : Type 0 where
@@ -62,13 +62,16 @@ module _ {w : Width} {n : ℕ} {a : List ℕ} {t : ℕ → Bool} where
   pub chosen_by : {b c : List ℕ} {f g : ℕ → ℕ} → HasTests w n a t → HasLanes n b f → HasLanes n c g → HasLanes n (sel_l (map (top (hbits w)) a) b c) (λ k. cond (t k) (f k) (g k))
   chosen_by {b} {c} {f} {g} p q r = HasLanes-same (HasLanes-select (hbits w) p.lanes q r) (λ k l. ap (λ x. cond x (f k) (g k)) (top_compared w (t k)))
 
-  -- `!mask.any()`
-  pub none_passes : HasTests w n a t → n ≤ 64 → IsTrue (not (not (eqb (mask_of (hbits w) a) 0))) ↔ ((k : ℕ) → k < n → t k ≡ false)
-  none_passes p few = not_any_is (hbits w) p.lanes few (λ k. t k ≡ false) (λ k l. (λ e. sym (top_compared w (t k)) ∙ e, λ e. top_compared w (t k) ∙ e))
-
   -- `mask.to_bitmask()`: where it is 0, no lane passes, and else its lowest bit is the first that does
   pub none_is_first : HasTests w n a t → n ≤ 64 → mask_of (hbits w) a ≡ 0 → IsFirstSet n n t
   none_is_first p few none = of_tests w (first_none (hbits w) p.lanes few none)
+
+  -- `!mask.any()`
+  pub none_passes : HasTests w n a t → n ≤ 64 → IsTrue (not (not (eqb (mask_of (hbits w) a) 0))) ↔ ((k : ℕ) → k < n → t k ≡ false)
+  none_passes p few = (
+    λ e. (none_is_first p few (eqb-true _ 0 (not-false _ (not-true _ e)))).before,
+    λ q. not_from_false _ (not_from_true _ (eq-eqb _ 0 (no_bit_from (hbits w) p.lanes few (λ k l. top_compared w (t k) ∙ q k l)))),
+  )
 
   pub lowest_is_first : HasTests w n a t → n ≤ 64 → 0 < mask_of (hbits w) a → IsFirstSet n (count_trailing_zeros 64 (mask_of (hbits w) a)) t
   lowest_is_first p few some =
