@@ -4,7 +4,7 @@ use Rattle.std.specs.Prelude.{nat_le}
 use Rattle.std.proofs.lemmas.Bool.Decides.{nat_tests}
 use Rattle.std.proofs.lemmas.Grind.{same_number_lists}
 use Rattle.std.proofs.lemmas.List.{length-map, get_or-map, take-map}
-use Rattle.std.proofs.lemmas.Simd.{ones-mask_l_cons, swz_l, tops_compared, zip2_splat_left, mask_l-mod, mask_l-lt}
+use Rattle.std.proofs.lemmas.Simd.{ones-mask_l_cons, swz_l, tops_compared, zip2_splat_left, mask_l-mod}
 use Rattle.std.proofs.lemmas.Nat.{and_mask}
 use Rattle.std.proofs.lemmas.Str.{encode_ascii}
 use Rattle.std.proofs.str.Laws.{two}

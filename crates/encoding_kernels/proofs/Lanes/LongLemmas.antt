@@ -1,12 +1,12 @@
 -- The UTF-8 of code units from U+0800 on, of four bytes each.
-use Rattle.std.proofs.Common.{◌≡◌, ℕ, zero, suc, ◌+◌, ◌-◌, ◌*◌, ◌/◌, ◌%◌, ◌^◌, ◌<◌, ◌≤◌, Bool, true, false, cond, eqb, IsTrue, not, List, [], ◌∷◌, ◌++◌, map, length, get_or, encode_utf8, encode_utf8_all, bit_and, bit_or, replicate, refl, sym, ap, ◌∙◌, arith, subst, w16, take, drop, length-append, length-take-le, append_assoc, Fits}
+use Rattle.std.proofs.Common.{◌≡◌, ℕ, zero, suc, ◌+◌, ◌-◌, ◌*◌, ◌/◌, ◌%◌, ◌^◌, ◌<◌, ◌≤◌, eqb, IsTrue, not, List, [], ◌∷◌, ◌++◌, map, length, get_or, encode_utf8, encode_utf8_all, bit_and, bit_or, replicate, refl, sym, ap, ◌∙◌, arith, subst, w16, take, drop, length-append, length-take-le, append_assoc, Fits}
 use Rattle.std.proofs.lemmas.Bool.{eqb-false, or_parts}
 use Rattle.std.proofs.lemmas.Simd.{Each1-get_or, length-put_chunk}
 use Rattle.std.proofs.lemmas.Nat.{and_mask}
 use Rattle.std.proofs.lemmas.Nat.Bits.{and_high_mask}
 use Rattle.std.proofs.lemmas.Bool.Decides.{nat_tests}
 use Rattle.std.proofs.str.Laws.{three}
-use Rattle.std.specs.Simd.Lanes.{top, zip2, Each1, pick_l, put_chunk}
+use Rattle.std.specs.Simd.Lanes.{zip2, Each1, pick_l, put_chunk}
 use Rattle.std.proofs.lemmas.List.{take_at, drop_at, drop-drop, get_or_append_left, get_or-append_right}
 use Rattle.encoding_kernels.specs.Lanes.{HasLanes}
 use Rattle.encoding_kernels.proofs.Lanes.PutLemmas.{put_is}

@@ -1,7 +1,7 @@
 -- The UTF-8 of code units in four bytes each, of which the last ones are kept.
 use Rattle.std.proofs.Common.{◌≡◌, ℕ, suc, ◌+◌, ◌-◌, ◌*◌, ◌/◌, ◌%◌, ◌^◌, ◌<◌, ◌≤◌, IsTrue, Bool, true, false, not, eqb, cond, inl, inr, replicate, Fits, w16, List, [], ◌∷◌, ◌++◌, map, length, take, drop, get_or, encode_utf8_all, bit_and, refl, sym, ap, ◌∙◌, arith, subst, w8, leb, ltb, length-take-le, take-append-drop, get_or-drop}
 use Rattle.std.specs.Prelude.{nat_lt}
-use Rattle.std.proofs.lemmas.Bool.{cases_lt, eqb-false, ltb-true, lt-ltb, false≢true}
+use Rattle.std.proofs.lemmas.Bool.{cases_lt, eqb-false, ltb-true, lt-ltb}
 use Rattle.std.proofs.lemmas.Bool.Decides.{nat_tests}
 use Rattle.std.proofs.lemmas.List.{take-map, get_or_append_left, get_or-append_right, get_or_past}
 use Rattle.std.proofs.lemmas.Nat.{and_mask}
