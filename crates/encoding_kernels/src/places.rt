@@ -89,7 +89,7 @@ pub(crate) fn skip<const N: usize, const W: usize, T: Places<N>>(
     at
 }
 
-/// As far as `skip` goes, or to the last place where the last W, which may begin before that, pass too.
+/// As far as `skip` goes, or to the end, where the last W before it, which may begin sooner, pass too.
 #[inline(always)]
 pub(crate) fn reach<const N: usize, const W: usize, T: Places<N>>(
     test: &T,
