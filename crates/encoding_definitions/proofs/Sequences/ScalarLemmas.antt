@@ -2,8 +2,6 @@
 use Rattle.std.proofs.Common.{◌≡◌, ℕ, ◌+◌, ◌-◌, ◌*◌, ◌%◌, ◌<◌, ◌≤◌, ◌^◌, List, [], ◌∷◌, length, slice_index, bit_and, bit_or, sym, ap, ◌∙◌, arith, subst}
 use Rattle.std.proofs.lemmas.Grind.{common_steps}
 use Rattle.std.proofs.lemmas.Nat.{or_shifted}
-use Rattle.std.proofs.str.Laws.{one}
-use lib.Utf8.{low_scalar}
 use Rattle.encoding_definitions.specs.Sequence.{IsSequence}
 use Rattle.encoding_definitions.proofs.Sequences.SequenceLemmas.{HasShape-IsSequence}
 use Rattle.encoding_definitions.proofs.Sequences.EncodingLemmas.{EncodedBy, second_three, second_four, spells_two, spells_three, spells_four}
@@ -88,10 +86,3 @@ scalar_four (a ∷ b ∷ d ∷ k ∷ []) x y z w s l h e f g i =
     join_four x y z w (omega (arith, p)) (omega (arith, q, second.1)) (omega (arith, r)) (omega (arith, u)) ∙ omega (arith, p, q, r, u) in
     subst (λ n. EncodedBy (a ∷ b ∷ d ∷ k ∷ []) n) (sym same) (spells_four a b d k t)
 scalar_four (a ∷ b ∷ c ∷ d ∷ e' ∷ more) x y z w s l h e f g i = absurd (omega arith)
-
-pub scalar_one : (bs : List ℕ) (x : ℕ) → IsSequence bs → 1 ≤ length bs → length bs < 2 → x ≡ slice_index bs 0 → EncodedBy bs x
-scalar_one [] x s l h e = absurd (omega arith)
-scalar_one (a ∷ []) x s l h e =
-    let low : a ≤ 0x7F = HasShape-IsSequence (a ∷ []) s in
-    subst (λ n. EncodedBy (a ∷ []) n) (sym e) (low_scalar a (omega arith), one a (omega arith))
-scalar_one (a ∷ b ∷ more) x s l h e = absurd (omega arith)

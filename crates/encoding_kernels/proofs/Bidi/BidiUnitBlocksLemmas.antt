@@ -6,7 +6,7 @@ use Rattle.std.proofs.lemmas.Bool.Decides.{nat_tests}
 use Rattle.encoding_definitions.specs.Bidi.{IsRightToLeftUnit}
 use Rattle.encoding_kernels.specs.BidiBlocks.{NoneRightToLeft, in_range, may_be_right_to_left}
 use Rattle.encoding_kernels.specs.Places.{PassBetween}
-use Rattle.encoding_kernels.specs.Strides.{BelowBetween, BelowUpTo}
+use Rattle.encoding_kernels.specs.Strides.{BelowBetween}
 use Rattle.encoding_definitions.proofs.Bidi.BidiUnitsLemmas.{UnitForm, unit_form, unit_low_none}
 
 -- ---- ranges by one comparison
@@ -42,9 +42,6 @@ units_low us from to low = record { each = λ k l m r. unit_low_none (slice_inde
 
 pub units_joined : (us : List ℕ) (a b from to : ℕ) → NoneRightToLeft us a b → NoneRightToLeft us from to → from ≤ b → NoneRightToLeft us a to
 units_joined us a b from to p q l = record { each = λ k h m r. elim (cases_lt k b) [ inl i ↦ p.each k h i r | inr i ↦ q.each k (omega arith) m r ] }
-
-pub units_before : (us : List ℕ) (n : ℕ) → BelowUpTo 0x590 us n → NoneRightToLeft us 0 n
-units_before us n low = record { each = λ k from to r. unit_low_none (slice_index us k) (low k to) r }
 
 pub unit_none : (us : List ℕ) (at : ℕ) → (IsRightToLeftUnit (slice_index us at) → ⊥) → NoneRightToLeft us at (at + 1)
 unit_none us at none = record { each = λ k from to r. let e : k ≡ at = omega arith in none (subst (λ j. IsRightToLeftUnit (slice_index us j)) e r) }

@@ -58,13 +58,6 @@ IsFirstOther-at xs room n l m h s =
       ascii_front_at (take room xs) n short (λ k b. rw (same k (omega arith)) (h k b)) (rw (same n m) s),
     )
 
--- nothing is left
-pub IsAscii-through : (xs : List ℕ) (room n : ℕ) → BelowUpTo 0x80 xs n → length (take room xs) ≤ n → IsAscii (take room xs)
-IsAscii-through xs room n h e i = elim (cases_lt i (length (take room xs))) [
-  | inl p ↦ rw (get_or-take room xs i 0 (omega (arith, length-take room xs))) (h i (omega arith))
-  | inr p ↦ rw (get_or_past (take room xs) i 0 p) (omega arith)
-]
-
 -- ---- a loop over the units
 -- one more unit is copied
 pub WritesFront_copy : (old new xs : List ℕ) (n b : ℕ) → WritesFront old new n (take n xs) → n < length xs → n < length new → b ≡ slice_index xs n

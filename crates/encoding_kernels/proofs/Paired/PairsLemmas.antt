@@ -209,17 +209,6 @@ ascii_fits bs n low = record {
       record { low = omega arith; lead = λ h. absurd (omega arith); follows = (λ h. absurd (omega (arith, h.0)), λ h. absurd (omega arith)) };
 }
 
--- a front of ASCII and the first byte of a character of two
-pub lead_fits : (bs : List ℕ) (n : ℕ) → BelowUpTo 0x80 bs n → 0xC2 ≤ slice_index bs n → slice_index bs n < 0xC4 → FitLatin1 bs 0 (n + 1)
-lead_fits bs n low from to =
-    let before = before_below bs n n low (omega arith) in
-    latin1_joined bs 0 n n (n + 1) (ascii_fits bs n low) (record {
-      each = λ k h m.
-          let e : n ≡ k = omega arith in
-          subst (λ i. FitsLatin1 (slice_index (0 ∷ bs) i) (slice_index bs i)) e
-          (record { low = to; lead = λ _. from; follows = (λ h. absurd (omega (arith, h.1)), λ h. absurd (omega arith)) });
-    }) (omega arith)
-
 pub ascii_latin1 : (bs : List ℕ) (n : ℕ) → n ≤ length bs → BelowUpTo 0x80 bs n → IsUtf8Latin1 (take n bs)
 ascii_latin1 bs zero l low = IsUtf8Latin1-nil
 ascii_latin1 bs (suc n) l low =
