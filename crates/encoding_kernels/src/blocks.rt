@@ -86,7 +86,6 @@ fn clean_of_first_32(src: &[u8]) -> usize
 }
 
 /// `at`, or the beginning of the character that is cut before it.
-#[tactic(auto, using(crate::proofs::Validation::FollowingLemmas::IsUtf8_before, crate::proofs::Validation::FollowingLemmas::IsUtf8_closed, crate::proofs::Validation::FollowingLemmas::IsClosedAt_tests))]
 fn back(src: &[u8], at: usize) -> usize
     requires { (at ≤ length src.now) × FollowTo src.now at }
     ensures { (result ≤ at) × IsUtf8 (take result src.now) }

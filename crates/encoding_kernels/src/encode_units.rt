@@ -133,7 +133,6 @@ pub(crate) fn write_eight(units: u16x8, dst: &mut [u8], at: usize) -> usize
 }
 
 /// The first of eight code units, so many, and zeros behind them.
-#[tactic(auto, using(crate::proofs::Lanes::PlainLemmas::first_lanes_are))]
 #[inline(always)]
 fn with_zeros(units: u16x8, first: usize) -> u16x8
     requires { first ≤ 8 }

@@ -7,7 +7,6 @@ ghost use Rattle.encoding_definitions.specs.Sequence.{IsSequence};
 ghost use Rattle.encoding_definitions.specs.Fronts.{WritesFront};
 
 /// The scalar value that the bytes spell.
-#[tactic(auto, using(encoding_definitions::proofs::Sequences::ScalarLemmas::scalar_three, encoding_definitions::proofs::Sequences::ScalarLemmas::scalar_four))]
 #[inline(always)]
 pub fn scalar_of_sequence(bytes: &[u8]) -> u32
     requires sequence { IsSequence bytes.now }

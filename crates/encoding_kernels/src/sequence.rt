@@ -13,14 +13,15 @@ pub fn begins_several(byte: u8) -> bool
 pub fn is_second(lead: u8, byte: u8) -> bool
     ensures { IsTrue result ↔ IsSecond lead byte }
 {
-    match lead {
-        0xE0 => 0xA0 <= byte && byte <= 0xBF,
-        0xED => 0x80 <= byte && byte <= 0x9F,
-        0xF0 => 0x90 <= byte && byte <= 0xBF,
-        0xF4 => 0x80 <= byte && byte <= 0x8F,
-        0xC2..=0xF3 => is_continuation(byte),
-        _ => false,
-    }
+    let (least, greatest) = match lead {
+        0xE0 => (0xA0, 0xBF),
+        0xED => (0x80, 0x9F),
+        0xF0 => (0x90, 0xBF),
+        0xF4 => (0x80, 0x8F),
+        0xC2..=0xF3 => (0x80, 0xBF),
+        _ => return false,
+    };
+    least <= byte && byte <= greatest
 }
 
 /// Whether the byte may stand behind the second byte of a sequence.

@@ -122,7 +122,6 @@ fn are_sixteen_plain(src: &[u16], at: usize) -> bool
 /// Converts sixteen code units without a surrogate from a place on, and returns how many bytes these take, what stood in
 /// the sixteen places behind them, and whether all are from U+0800 on, for which they are tested only where that is told
 /// to be likely.
-#[tactic(auto, using(crate::proofs::CodeUnits::UnitBlocksLemmas::short_joined))]
 #[inline(always)]
 fn convert_sixteen(
     src: &[u16],

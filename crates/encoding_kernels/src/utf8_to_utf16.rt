@@ -184,7 +184,6 @@ fn write_character(src: &[u8], dst: &mut [u16]) -> (usize, usize)
 
 /// Writes the UTF-16 of some first characters, and returns how many bytes and code units these are. What is due behind
 /// them may have changed too.
-#[tactic(auto, using(crate::proofs::LongestFronts::TextLoopLemmas::due_exact, crate::proofs::LongestFronts::TextLoopLemmas::due_triples, crate::proofs::LongestFronts::TextLoopLemmas::due_block))]
 #[inline(always)]
 fn write_some(src: &[u8], dst: &mut [u16]) -> (usize, usize)
     requires room { (16 < length src.now) × (length src.now ≤ length dst.old) }

@@ -11,6 +11,11 @@ returns-then-is_zero-clause-follow c =
     FollowTo-over c.args.src.now 32 c.min-last.result 32 (omega (arith, c.min-last.ensures)) (record { each = λ i l. a.lanes i l (zeros.0.each i l) })
     (λ i l. b.lanes i l (zeros.1.each i l))
 
+pub returns-then-clean-lt32-clause-follow : goal.returns-then-clean-lt32-clause-follow
+returns-then-clean-lt32-clause-follow c =
+    let clean = c.zeros-clean.ensures in
+    record { each = λ i l. c.first_faults_32-first.ensures.lanes i (omega (arith, clean.within)) (clean.zeros.each i l) }
+
 pub returns-clause-follow : goal.returns-clause-follow
 returns-clause-follow c =
     let last = c.zeros.ensures in
