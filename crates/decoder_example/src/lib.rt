@@ -316,6 +316,3 @@ impl Decoder {
             .max_utf8_buffer_length(byte_length.checked_add(sniffed)?)
     }
 }
-
-#[cfg(test)]
-mod tests;

@@ -1,6 +1,6 @@
-//! Known rows over every cut of their bytes, whatever the rooms.
+//! Byte order marks and broken parts, over every cut of their bytes, whatever the rooms.
 
-use super::*;
+use decoder_example::{CoderResult, Decoder};
 use std::test::Fail;
 
 /// Bytes of a stream, its text by the Encoding Standard's UTF-8 decode, the UTF-16 of that, and whether U+FFFD stands

@@ -1,0 +1,55 @@
+//! Bytes in pieces of each length, apart and joined, and the places of their broken parts.
+
+use cuts_example::{broken_places, repair_apart};
+use std::test::Fail;
+
+/// Bytes, their text by the Encoding Standard's UTF-8 decoder, and the places and lengths of their broken parts.
+const ROWS: [(&[u8], &str, &[(usize, usize)]); 5] = [
+    (b"", "", &[]),
+    (b"plain\ntext\n", "plain\ntext\n", &[]),
+    (
+        b"a\xE2\x98\nb\xF0\x9F\x92\n\xC3\xA9",
+        "a\u{FFFD}\nb\u{FFFD}\n\u{E9}",
+        &[(1, 2), (5, 3)],
+    ),
+    (
+        b"\xE0\x80\x80\n\xC2\x7F\xE2\x98",
+        "\u{FFFD}\u{FFFD}\u{FFFD}\n\u{FFFD}\u{7F}\u{FFFD}",
+        &[(0, 1), (1, 1), (2, 1), (4, 1), (6, 2)],
+    ),
+    (b"\xE2\x98\x83\xF0\x9F\x92\xA9", "\u{2603}\u{1F4A9}", &[]),
+];
+
+#[test]
+fn repairs_in_pieces_of_each_length(rt: HostRuntime) -> Result<(), Fail> {
+    for (bytes, text, places) in &ROWS {
+        let found = broken_places(rt.alloc(), bytes)?;
+        assert!(rt; found.as_slice() == *places, "broken parts of {text}");
+        for least in 1..14 {
+            let whole = repair_apart(rt.alloc(), bytes, least)?;
+            assert!(rt;
+                whole.text.as_slice() == text.as_bytes() && whole.replaced == places.len() as u64,
+                "{text} in pieces of {least}"
+            );
+        }
+    }
+    Ok(())
+}
+
+#[test]
+fn repairs_a_long_text(rt: HostRuntime) -> Result<(), Fail> {
+    let mut bytes = Vec::new(rt.alloc());
+    bytes.resize(70_000, b'a')?;
+    bytes.push(0xFF)?;
+    let mut text = Vec::new(rt.alloc());
+    text.resize(70_000, b'a')?;
+    text.extend_from_slice("\u{FFFD}".as_bytes())?;
+    let found = broken_places(rt.alloc(), &bytes)?;
+    assert!(rt;
+        found.as_slice() == &[(70_000, 1)],
+        "the last byte is broken"
+    );
+    let whole = repair_apart(rt.alloc(), &bytes, 1_000)?;
+    assert!(rt; whole.text == text && whole.replaced == 1, "in pieces");
+    Ok(())
+}

@@ -1,0 +1,15 @@
+//! Tests alone: the examples on known rows, and on texts longer than each buffer.
+#![tactic(auto)]
+
+#[cfg(test)]
+mod cuts;
+#[cfg(test)]
+mod decoder;
+#[cfg(test)]
+mod engine;
+#[cfg(test)]
+mod legacy;
+#[cfg(test)]
+mod reader;
+#[cfg(test)]
+mod units;
