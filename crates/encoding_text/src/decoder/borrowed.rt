@@ -22,7 +22,6 @@ fn piece_at_end<'a>(end: DecoderResult) -> Piece<'a>
 }
 
 /// Decodes the prefix of `src` behind the pending bytes: the piece, and how many bytes were read.
-#[tactic(auto, using(crate::proofs::Calls::PendingLemmas::pending_beginning))]
 #[inline(always)]
 pub(crate) fn decode_borrowed<'a>(
     pending: &mut Pending,

@@ -222,7 +222,6 @@ fn encode_text(src: &str, dst: &mut [u8]) -> (EncoderResult, usize)
 }
 
 /// Copies the first characters of the text, as many as fit into `dst`, and returns how many bytes those are.
-#[tactic(auto, using(crate::proofs::CodeUnits::EncoderTextLemmas::text_front))]
 fn copy_text(src: &str, dst: &mut [u8]) -> usize
     ensures longest { FitsLongest encode_utf8 encode_utf8 (chars src.now) (length dst.old) result (take result src.now) }
     ensures within { result ≤ length src.now }

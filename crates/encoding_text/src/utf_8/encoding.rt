@@ -18,7 +18,6 @@ pub(super) const REPLACEMENT: u32 = 0xFFFD;
 const LONGEST: usize = 4;
 
 /// What the first part of the code units from this place on counts as.
-#[tactic(auto, using(encoding_definitions::proofs::CodeUnits::Utf16FrontLemmas::scalar_of_unit, encoding_definitions::proofs::CodeUnits::Utf16FrontLemmas::scalar_of_two, encoding_definitions::proofs::CodeUnits::Utf16FrontLemmas::scalar_of_lone))]
 #[inline(always)]
 fn scalar_at(src: &[u16], at: usize) -> u32
     requires { at < length src.now }
@@ -133,7 +132,6 @@ pub fn convert_utf16_to_utf8_partial_tail(src: &[u16], dst: &mut [u8]) -> (usize
 ///
 /// A surrogate that is in no pair counts as U+FFFD, also where it ends `src`: nothing is held from one call to the
 /// next. No character is written in part. Behind what is written `dst` is as before.
-#[tactic(auto, using(encoding_definitions::proofs::CodeUnits::Utf16FrontLemmas::front_all, encoding_definitions::proofs::CodeUnits::Utf16FrontLemmas::join_longest))]
 pub fn convert_utf16_to_utf8_partial(src: &[u16], dst: &mut [u8]) -> (usize, usize)
     ensures longest { IsUtf8OfLongestFront src.now (length dst.old) result.0 (take result.1 dst.new) }
     ensures within { result.0 ≤ length src.now }

@@ -49,7 +49,6 @@ pub const UTF8_DATA: Utf8Data = Utf8Data {
 
 /// What the table says of four bytes: the first three, or all of them, are well-formed exactly where their formula has
 /// one value, and it never has that value for a first byte that no sequence of so many bytes begins with.
-#[tactic(auto, using(crate::proofs::Sequences::TableLemmas::three_is, crate::proofs::Sequences::TableLemmas::three_never, crate::proofs::Sequences::TableLemmas::four_is, crate::proofs::Sequences::TableLemmas::four_never))]
 pub fn law_table(lead: u8, second: u8, third: u8, fourth: u8)
     ensures three { 0xE0 ≤ lead → lead ≤ 0xEF
         → (of_three UTF8_DATA.table lead second third ≡ 2) ↔ IsSequence (lead ∷ second ∷ third ∷ []) }

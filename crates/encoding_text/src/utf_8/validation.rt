@@ -33,7 +33,6 @@ fn is_four(lead: u8, second: u8, third: u8, fourth: u8) -> bool
 }
 
 /// The length of the character that begins three bytes or fewer, where one does and the first byte isn't ASCII.
-#[tactic(auto, using(encoding_definitions::proofs::Sequences::SequenceLemmas::no_character_reads))]
 #[inline(never)]
 fn tail_length(bytes: &[u8]) -> Option<usize>
     requires short { length bytes.now < 4 }
