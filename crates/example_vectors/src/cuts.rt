@@ -46,7 +46,7 @@ fn repairs_a_long_text(rt: HostRuntime) -> Result<(), Fail> {
     text.extend_from_slice("\u{FFFD}".as_bytes())?;
     let found = broken_places(rt.alloc(), &bytes)?;
     assert!(rt;
-        found.as_slice() == &[(70_000, 1)],
+        found.as_slice() == [(70_000, 1)].as_slice(),
         "the last byte is broken"
     );
     let whole = repair_apart(rt.alloc(), &bytes, 1_000)?;
