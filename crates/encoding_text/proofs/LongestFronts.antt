@@ -1,1 +1,2 @@
 pub mod ConvertingLemmas
+pub mod WholeFrontsLemmas
