@@ -9,7 +9,6 @@ use crate::utf_8::CodeUnit;
 
 /// Decodes `src` behind the pending bytes, and returns what ended the call, how many bytes it read and how many code
 /// units it wrote. Behind what is written `dst` is as before.
-#[tactic(auto, using(crate::proofs::Calls::PendingLemmas::pending_beginning))]
 #[inline(always)]
 pub(crate) fn decode<U: CodeUnit>(
     pending: &mut Pending,
