@@ -112,7 +112,6 @@ fn is_latin1_lead(byte: u8) -> bool
 
 /// The length of the longest prefix that is Latin1 in UTF-8, by its whole blocks and then singly, behind ASCII up to a place.
 /// Out of line.
-#[tactic(auto, using(encoding_definitions::proofs::Latin::Latin1Lemmas::latin1_more_one, encoding_definitions::proofs::Latin::Latin1Lemmas::latin1_more_two))]
 #[inline(never)]
 fn longest_latin1(buffer: &[u8], from: usize) -> usize
     requires { (from ≤ length buffer.now) × BelowUpTo 0x80 buffer.now from }

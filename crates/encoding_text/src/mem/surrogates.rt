@@ -13,7 +13,6 @@ const REPLACEMENT_UNIT: u16 = 0xFFFD;
 
 /// The number of code units in the longest prefix that has no lone surrogate among its parts: the place of the first
 /// lone surrogate, or the length of `buffer`.
-#[tactic(auto, using(encoding_definitions::proofs::Surrogates::SurrogateLemmas::valid_more_one, encoding_definitions::proofs::Surrogates::SurrogateLemmas::valid_more_two))]
 pub fn utf16_valid_up_to(buffer: &[u16]) -> usize
     ensures { IsLongestFront IsValidUtf16 buffer.now result }
 {

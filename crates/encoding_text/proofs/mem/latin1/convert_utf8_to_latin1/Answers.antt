@@ -53,10 +53,22 @@ loop-read-preserved c =
     (omega (arith, call.long, call.count)) (omega (arith, call.count)) c.write_first.ensures (omega arith) whole in
     record { within = omega (arith, whole); rest = next.0; written = next.1 }
 
+pub bounds-dst-written : goal.bounds-dst-written
+bounds-dst-written c =
+    let text = latin1_chars c.args.src.now c.requires.latin1 in
+    let next = next_of_one c.args.src.now (chars c.args.src.now) c.loop-read-2.read c.loop-read-2.written text.0 c.loop-read-2.invariant.rest c.loop-read-2-test.true c.if-byte-lt128.true in
+    omega (arith, next.0, ap length text.1, length-le-encodes (chars c.args.src.now))
+
 pub bounds-src-read-else-byte-lt128 : goal.bounds-src-read-else-byte-lt128
 bounds-src-read-else-byte-lt128 c =
     let text = latin1_chars c.args.src.now c.requires.latin1 in
     (next_of_two c.args.src.now (chars c.args.src.now) c.loop-read-2.read c.loop-read-2.written text.0 c.loop-read-2.invariant.rest c.loop-read-2-test.true c.if-byte-lt128.false).1
+
+pub bounds-dst-written-else-byte-lt128 : goal.bounds-dst-written-else-byte-lt128
+bounds-dst-written-else-byte-lt128 c =
+    let text = latin1_chars c.args.src.now c.requires.latin1 in
+    let next = next_of_two c.args.src.now (chars c.args.src.now) c.loop-read-2.read c.loop-read-2.written text.0 c.loop-read-2.invariant.rest c.loop-read-2-test.true c.if-byte-lt128.false in
+    omega (arith, next.0, ap length text.1, length-le-encodes (chars c.args.src.now))
 
 pub loop-read-2-preserved : goal.loop-read-2-preserved
 loop-read-2-preserved c =

@@ -1,7 +1,14 @@
 use Rattle.std.proofs.Common.{arith, refl}
-use Rattle.encoding_definitions.proofs.Surrogates.SurrogateLemmas.{valid_stop}
+use Rattle.encoding_definitions.proofs.Surrogates.SurrogateLemmas.{valid_more_one, valid_more_two, valid_stop}
 use Rattle.encoding_text.proofs.mem.surrogates.utf16_valid_up_to.Goals as goal
 use Rattle.encoding_text.proofs.mem.surrogates.utf16_valid_up_to.Goals.{then-not-is_high_surrogate-via-then-not-is_high_surrogate, then-not-is_high_surrogate-via-else-not-is_high_surrogate+then-at-buffer, then-not-is_high_surrogate-via-else-not-is_high_surrogate+else-at-buffer+then-not-is_low_surrogate}
+
+pub loop-at-preserved-then-not-is_surrogate : goal.loop-at-preserved-then-not-is_surrogate
+loop-at-preserved-then-not-is_surrogate c = record {
+  within = omega arith;
+  valid = valid_more_one c.args.buffer.now c.loop-at.at c.loop-at-test.true (omega (arith, c.type_inv.buffer c.loop-at.at)) c.loop-at.invariant.valid
+      (λ l h. cc ((c.if-not-is_surrogate.ensures {u = tt}).1 (l, h)));
+}
 
 pub returns-then-not-is_high_surrogate : goal.returns-then-not-is_high_surrogate
 returns-then-not-is_high_surrogate c =
@@ -15,3 +22,12 @@ returns-then-not-is_high_surrogate c =
         | then-not-is_high_surrogate-via-else-not-is_high_surrogate+else-at-buffer+then-not-is_low_surrogate w ↦ cc ((w.if-not-is_low_surrogate.ensures {u = tt}).1 (p.2, omega (arith, p.3)))
       ],
     ))
+
+pub loop-at-preserved : goal.loop-at-preserved
+loop-at-preserved c =
+    let high = (c.if-not-is_high_surrogate.ensures {u = tt}).0 refl in
+    let low = (c.if-not-is_low_surrogate.ensures {u = tt}).0 refl in
+    record {
+      within = omega arith;
+      valid = valid_more_two c.args.buffer.now c.loop-at.at (omega arith) c.loop-at.invariant.valid (high.0, omega (arith, high.1), low.0, omega (arith, low.1));
+    }

@@ -1,0 +1,15 @@
+use Rattle.std.proofs.Common.{inl, inr, length, arith}
+use Rattle.std.proofs.lemmas.Bool.{cases_lt}
+use Rattle.std.proofs.lemmas.List.{get_or_past}
+use Rattle.encoding_text.proofs.mem.checks.is_utf16_latin1.Goals as goal
+
+pub returns : goal.returns
+returns c =
+    let units = c.args.buffer.now in
+    let below = c.are_all_units_below.ensures in (
+      λ e i. elim (cases_lt i (length units)) [
+        | inl l ↦ omega (arith, below.0 e i l)
+        | inr past ↦ omega (arith, get_or_past units i 0 past)
+      ],
+      λ latin1. below.1 (λ k _. omega (arith, latin1 k)),
+    )
