@@ -77,52 +77,68 @@ fn copies_what_there_is_room_for(rt: HostRuntime) {
 }
 
 /// 0x40, 0x41 and so on, with 0xAA at a place.
-fn letters_with_other_at(i: usize) -> [u8; 32] {
-    let mut src = [0u8; 32];
-    for j in 0..32 {
+fn letters_with_other_at(i: usize) -> [u8; 40] {
+    let mut src = [0u8; 40];
+    for j in 0..40 {
         src[j] = if i == j { 0xAA } else { 0x40 + j as u8 };
     }
     src
 }
 
 /// The bytes as code units.
-fn widened(src: &[u8; 32]) -> [u16; 32] {
-    let mut wide = [0u16; 32];
-    for j in 0..32 {
+fn widened(src: &[u8; 40]) -> [u16; 40] {
+    let mut wide = [0u16; 40];
+    for j in 0..40 {
         wide[j] = u16::from(src[j]);
     }
     wide
 }
 
 /// Whether the items before a place are those of the source, and all others are zero.
-fn is_front_of(bytes: &[u8; 32], src: &[u8; 32], end: usize) -> bool {
-    (0..32usize).all(|j| bytes[j] == if j < end { src[j] } else { 0 })
+fn is_front_of(bytes: &[u8; 40], src: &[u8; 40], end: usize) -> bool {
+    (0..40usize).all(|j| bytes[j] == if j < end { src[j] } else { 0 })
 }
 
 fn stops_at(i: usize) -> bool {
     let src = letters_with_other_at(i);
-    let mut bytes = [0u8; 32];
-    ascii_to_ascii(&src, &mut bytes) == Some((0xAA, i)) && is_front_of(&bytes, &src, i)
+    let mut bytes = [0u8; 40];
+    let mut copied = [0u8; 40];
+    let found = if i < 40 { Some((0xAA, i)) } else { None };
+    ascii_to_ascii(&src, &mut bytes) == found
+        && is_front_of(&bytes, &src, i)
+        && copy_ascii_to_ascii(&src, &mut copied) == i
+        && copied == bytes
+        && validate_ascii(&src) == found
+        && ascii_valid_up_to(&src) == i
+        && iso_2022_jp_ascii_valid_up_to(&src) == i
 }
 
 fn stops_unpacking_at(i: usize) -> bool {
     let src = letters_with_other_at(i);
-    let mut units = [0u16; 32];
-    let answer = ascii_to_basic_latin(&src, &mut units);
-    answer == Some((0xAA, i))
-        && (0..32usize).all(|j| units[j] == if j < i { u16::from(src[j]) } else { 0 })
+    let mut units = [0u16; 40];
+    let mut copied = [0u16; 40];
+    let found = if i < 40 { Some((0xAA, i)) } else { None };
+    ascii_to_basic_latin(&src, &mut units) == found
+        && copy_ascii_to_basic_latin(&src, &mut copied) == i
+        && copied == units
+        && (0..40usize).all(|j| units[j] == if j < i { u16::from(src[j]) } else { 0 })
 }
 
 fn stops_packing_at(i: usize) -> bool {
     let src = letters_with_other_at(i);
-    let mut bytes = [0u8; 32];
-    let answer = basic_latin_to_ascii(&widened(&src), &mut bytes);
-    answer == Some((0xAA, i)) && is_front_of(&bytes, &src, i)
+    let mut bytes = [0u8; 40];
+    let mut copied = [0u8; 40];
+    let found = if i < 40 { Some((0xAA, i)) } else { None };
+    basic_latin_to_ascii(&widened(&src), &mut bytes) == found
+        && is_front_of(&bytes, &src, i)
+        && copy_basic_latin_to_ascii(&widened(&src), &mut copied) == i
+        && copied == bytes
 }
 
+/// At each place, and where there is none, at the end.
 #[test]
 fn scans_stop_at_each_place(rt: HostRuntime) {
-    for i in 0..32 {
+    for i in 0..41 {
         let stop = stops_at(i) && stops_unpacking_at(i) && stops_packing_at(i);
         assert!(rt; stop, "{i}");
     }

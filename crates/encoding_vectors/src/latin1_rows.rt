@@ -96,7 +96,7 @@ fn latin1_in_utf8() -> [u8; 384] {
 }
 
 #[test]
-fn converts_each_byte_to_a_unit(rt: HostRuntime) {
+fn converts_each_byte_to_a_unit_and_back(rt: HostRuntime) {
     let mut units = [0x71u16; 256];
     convert_latin1_to_utf16(&latin1(), &mut units);
     assert!(rt;
@@ -105,6 +105,9 @@ fn converts_each_byte_to_a_unit(rt: HostRuntime) {
             .enumerate()
             .all(|(c, unit)| usize::from(*unit) == c)
     );
+    let mut back = [0x71u8; 256];
+    convert_utf16_to_latin1_lossy(&units, &mut back);
+    assert!(rt; back == latin1());
 }
 
 #[test]
@@ -152,10 +155,13 @@ fn are_told_apart(alloc: Global, start: usize, end: usize) -> Result<bool, Fail>
     }
     let text = text_from_units(alloc, &units)?;
     let latin1 = end <= start;
+    let front = if latin1 { text.len() } else { 0 };
     Ok(
         is_utf16_latin1(&units) == latin1
             && is_str_latin1(&text) == latin1
-            && is_utf8_latin1(text.as_bytes()) == latin1,
+            && is_utf8_latin1(text.as_bytes()) == latin1
+            && str_latin1_up_to(&text) == front
+            && utf8_latin1_up_to(text.as_bytes()) == front,
     )
 }
 

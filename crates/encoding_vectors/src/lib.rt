@@ -8,8 +8,6 @@ mod borrowed_call_rows;
 #[cfg(test)]
 mod borrowed_rows;
 #[cfg(test)]
-mod calls_every_room;
-#[cfg(test)]
 mod decoder_parts;
 #[cfg(test)]
 mod decoder_rows;

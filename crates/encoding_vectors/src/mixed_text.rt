@@ -1,6 +1,9 @@
 //! A text with characters of one to four bytes: its UTF-16, its UTF-8, and as a text.
 
+use encoding_text::decoder::{DecoderResult, Piece, Utf8Decoder};
+use encoding_text::utf_8::{EncoderResult, Utf8Encoder, utf8_valid_up_to};
 use std::test::Fail;
+use test_vectors::texts::are_written;
 
 /// The letters from a to u, U+1F4A9, v, U+2603, w, U+00B6, xyzz in UTF-16.
 pub const UNITS: [u16; 31] = [
@@ -23,4 +26,23 @@ pub const TEXT: &str = "abcdefghijklmnopqrstu\u{1F4A9}v\u{2603}w\u{B6}xyzz";
 fn the_text_has_these_bytes(rt: HostRuntime) -> Result<(), Fail> {
     assert!(rt; TEXT.as_bytes() == BYTES.as_slice());
     Ok(())
+}
+
+#[test]
+fn one_call_takes_the_text(rt: HostRuntime) {
+    assert!(rt; utf8_valid_up_to(&BYTES) == 36);
+    let mut units = [0x71; 38];
+    let answer = Utf8Decoder::new_inner().decode_to_utf16_raw(&BYTES, &mut units, true);
+    assert!(rt; answer == (DecoderResult::InputEmpty, 36, 31) && are_written(&UNITS, &units, 31));
+    let mut bytes = [0x71; 40];
+    let answer = Utf8Decoder::new_inner().decode_to_utf8_raw(&BYTES, &mut bytes, true);
+    assert!(rt; answer == (DecoderResult::InputEmpty, 36, 36) && are_written(&BYTES, &bytes, 36));
+    let (piece, read) = Utf8Decoder::new_inner().decode_borrowed_raw(&BYTES, true);
+    assert!(rt; read == 36 && piece == Piece::Text(TEXT));
+    let mut bytes = [0x71; 40];
+    let answer = Utf8Encoder::new_inner().encode_from_utf16_raw(&UNITS, &mut bytes, true);
+    assert!(rt; answer == (EncoderResult::InputEmpty, 31, 36) && are_written(&BYTES, &bytes, 36));
+    let mut bytes = [0x71; 40];
+    let answer = Utf8Encoder::new_inner().encode_from_utf8_raw(TEXT, &mut bytes, true);
+    assert!(rt; answer == (EncoderResult::InputEmpty, 36, 36) && are_written(&BYTES, &bytes, 36));
 }

@@ -43,6 +43,10 @@ fn converts_a_text(rt: HostRuntime) {
     let written = convert_utf8_to_utf16(&BYTES, &mut dst);
     assert!(rt; written == 31 && are_written(&UNITS, &dst, written));
 
+    let mut dst = [0x71; 37];
+    let answer = convert_utf8_to_utf16_up_to_invalid(&BYTES, &mut dst);
+    assert!(rt; answer == (36, 31) && are_written(&UNITS, &dst, 31));
+
     assert!(rt; TEXT.len() == 36);
     let mut dst = [0x71; 36];
     let written = convert_str_to_utf16(TEXT, &mut dst);

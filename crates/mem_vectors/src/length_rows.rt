@@ -1,7 +1,6 @@
 //! Exact lengths in another encoding: one character or broken part among others of one kind, at each place of a text that
 //! is longer than a piece and what is left behind pieces.
 
-use crate::to_utf8_around_blocks::around;
 use encoding_text::mem::{
     is_utf8_latin1, latin1_length_from_utf8, utf8_length_from_latin1, utf8_length_from_utf16,
     utf16_length_from_utf8,
@@ -63,6 +62,17 @@ D83D 0061 | 4
 E000 | 3
 FFFF | 3";
 
+/// Returns a text of so many fillers, with so many of them before the edge and the others behind it.
+fn around<T: Copy>(alloc: Global, filler: &[T], before: usize, edge: &[T]) -> Result<Vec<T>, Fail> {
+    let mut text = Vec::new(alloc);
+    for i in 0..=FILLERS_IN_TEXT {
+        for item in if i == before { edge } else { filler } {
+            text.push(*item)?;
+        }
+    }
+    Ok(text)
+}
+
 /// Returns the length of a text with the edge, where a filler and the edge have these lengths.
 fn length_of(filler: &str, edge: &str) -> Result<usize, Fail> {
     let fillers = number_of(filler)?.saturating_mul(FILLERS_IN_TEXT);
@@ -75,7 +85,7 @@ fn bytes_hold(alloc: Global, filler: &str, edge: &str, before: usize) -> Result<
     let mut edge = edge;
     let filler_bytes = bytes_of(alloc, field(&mut filler))?;
     let edge_bytes = bytes_of(alloc, field(&mut edge))?;
-    let bytes = around(alloc, &filler_bytes, FILLERS_IN_TEXT, before, &edge_bytes)?;
+    let bytes = around(alloc, &filler_bytes, before, &edge_bytes)?;
     Ok(utf16_length_from_utf8(&bytes) == length_of(field(&mut filler), field(&mut edge))?)
 }
 
@@ -85,7 +95,7 @@ fn units_hold(alloc: Global, filler: &str, edge: &str, before: usize) -> Result<
     let mut edge = edge;
     let filler_units = units_of(alloc, field(&mut filler))?;
     let edge_units = units_of(alloc, field(&mut edge))?;
-    let units = around(alloc, &filler_units, FILLERS_IN_TEXT, before, &edge_units)?;
+    let units = around(alloc, &filler_units, before, &edge_units)?;
     Ok(utf8_length_from_utf16(&units) == length_of(field(&mut filler), field(&mut edge))?)
 }
 
@@ -128,8 +138,8 @@ fn latin1_holds(alloc: Global, other: u8, byte: u8, utf8: &[u8]) -> Result<bool,
     let other_utf8 = if other < 0x80 { 1usize } else { 2 };
     let others = other_utf8.saturating_mul(FILLERS_IN_TEXT);
     for before in 0..FILLERS_IN_TEXT + 1 {
-        let bytes = around(alloc, &[other], FILLERS_IN_TEXT, before, &[byte])?;
-        let text = around(alloc, &[0x61], FILLERS_IN_TEXT, before, utf8)?;
+        let bytes = around(alloc, &[other], before, &[byte])?;
+        let text = around(alloc, &[0x61], before, utf8)?;
         if utf8_length_from_latin1(&bytes) != others.saturating_add(utf8.len())
             || !is_latin1_of_length(&text, bytes.len())
         {

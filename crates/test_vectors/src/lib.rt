@@ -1,8 +1,6 @@
 //! What tests of several crates share about texts: rows of words, vectors, and what they are held against.
 #![tactic(auto)]
 
-pub mod conversion_rows;
-pub mod conversions;
 pub mod decoder_vectors;
 pub mod encoder_vectors;
 pub mod held_units;

@@ -1,7 +1,6 @@
 //! What a decoder writes, bytes or code units, as one kind.
 
-use crate::conversions::Unit;
-use crate::texts::{bytes_of, units_of};
+use crate::texts::{Unit, bytes_of, units_of};
 use encoding_text::decoder::{DecoderResult, Utf8Decoder};
 use std::alloc::{AllocError, Global};
 use std::test::Fail;

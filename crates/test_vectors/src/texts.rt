@@ -1,8 +1,21 @@
 //! Rows as text: fields between bars, of words between spaces, which are mostly hexadecimal.
 
-use crate::conversions::Unit;
 use std::alloc::Global;
 use std::test::Fail;
+
+/// A byte or a code unit.
+pub trait Unit: Copy + PartialEq {
+    /// Fills a destination. No row writes it.
+    const UNWRITTEN: Self;
+}
+
+impl Unit for u8 {
+    const UNWRITTEN: u8 = 0x71;
+}
+
+impl Unit for u16 {
+    const UNWRITTEN: u16 = 0x71;
+}
 
 /// Returns the next field of a row, and leaves the fields behind it.
 pub fn field<'a>(row: &mut &'a str) -> &'a str {

@@ -1,6 +1,12 @@
 //! Random text, damaged text and code units, always the same: a generator with a fixed seed.
 #![allow(dead_code)]
 
+pub mod rows;
+pub mod vectors;
+pub mod walk;
+
+use encoding_text::mem::Latin1Bidi;
+
 /// Splitmix64.
 pub struct Random(u64);
 
@@ -219,4 +225,24 @@ pub fn characters(units: &[u16]) -> Vec<(usize, char)> {
     char::decode_utf16(units.iter().copied())
         .map(|it| it.map_or((1, '\u{FFFD}'), |character| (character.len_utf16(), character)))
         .collect()
+}
+
+/// The blocks of right-to-left scripts, and the controls that make what follows right-to-left.
+pub fn is_right_to_left(c: char) -> bool {
+    matches!(c, '\u{590}'..='\u{8FF}' | '\u{FB1D}'..='\u{FDFF}' | '\u{FE70}'..='\u{FEFE}' | '\u{10800}'..='\u{10FFF}'
+        | '\u{1E800}'..='\u{1EFFF}' | '\u{200F}' | '\u{202B}' | '\u{202E}' | '\u{2067}')
+}
+
+/// A character of one code unit, or a high surrogate of the two ranges beyond those.
+pub fn is_unit_right_to_left(u: u16) -> bool {
+    char::from_u32(u.into()).is_some_and(is_right_to_left) || matches!(u, 0xD802 | 0xD803 | 0xD83A | 0xD83B)
+}
+
+/// The class of a text that is Latin1, and one that is right-to-left or broken.
+pub fn class_of(is_latin1: bool, is_bidi: bool) -> Latin1Bidi {
+    match (is_latin1, is_bidi) {
+        (true, _) => Latin1Bidi::Latin1,
+        (_, true) => Latin1Bidi::Bidi,
+        _ => Latin1Bidi::LeftToRight,
+    }
 }

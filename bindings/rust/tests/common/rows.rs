@@ -1,0 +1,94 @@
+//! Rows of text: fields between bars, of words between spaces, which are hexadecimal; and the units that stand round a
+//! source and round what is written.
+use std::fmt::Debug;
+
+/// A byte or a code unit.
+pub trait Unit: Copy + PartialEq + Debug {
+    /// Begins a character.
+    const BEFORE: Self;
+    /// Ends a character that is cut short.
+    const BEHIND: Self;
+    /// Fills a destination. No row writes it.
+    const UNWRITTEN: Self;
+    /// Stands behind what is written into a text.
+    const ZERO: Self;
+
+    /// The unit that a word names.
+    fn named(word: &str) -> Self;
+}
+
+impl Unit for u8 {
+    const BEFORE: u8 = 0xC3;
+    const BEHIND: u8 = 0x83;
+    const UNWRITTEN: u8 = 0x71;
+    const ZERO: u8 = 0;
+
+    fn named(word: &str) -> u8 {
+        u8::from_str_radix(word, 16).unwrap()
+    }
+}
+
+impl Unit for u16 {
+    const BEFORE: u16 = 0xD83D;
+    const BEHIND: u16 = 0xDCA9;
+    const UNWRITTEN: u16 = 0x71;
+    const ZERO: u16 = 0;
+
+    fn named(word: &str) -> u16 {
+        u16::from_str_radix(word, 16).unwrap()
+    }
+}
+
+/// A character or a broken part: the units that are read and those that are written.
+pub struct Item<S, D> {
+    pub read: Vec<S>,
+    pub written: Vec<D>,
+}
+
+/// The two fields of a row.
+pub fn fields(row: &str) -> (&str, &str) {
+    row.split_once('|').unwrap()
+}
+
+/// The bytes or code units that a field names.
+pub fn named<T: Unit>(field: &str) -> Vec<T> {
+    field.split_whitespace().map(T::named).collect()
+}
+
+/// What rows of two fields say: what is read, and what is written.
+pub fn items<S: Unit, D: Unit>(rows: &str) -> Vec<Item<S, D>> {
+    let item = |row| {
+        let (read, written) = fields(row);
+        Item {
+            read: named(read),
+            written: named(written),
+        }
+    };
+    rows.lines().map(item).collect()
+}
+
+/// What rows of two fields say, read backwards: what is written, and what is read.
+pub fn items_backwards<S: Unit, D: Unit>(rows: &str) -> Vec<Item<S, D>> {
+    let turned = |item: Item<D, S>| Item {
+        read: item.written,
+        written: item.read,
+    };
+    items(rows).into_iter().map(turned).collect()
+}
+
+/// So many fillers, with so many of them before the edge and the others behind it.
+pub fn around<T: Copy>(filler: &[T], count: usize, before: usize, edge: &[T]) -> Vec<T> {
+    (0..=count)
+        .flat_map(|i| if i == before { edge } else { filler })
+        .copied()
+        .collect()
+}
+
+/// Looks whether these units begin at a place, and what is unwritten stands before and behind them.
+pub fn assert_written<T: Unit>(wanted: &[T], at: usize, dst: &[T]) {
+    let (before, rest) = dst.split_at(at);
+    let (written, behind) = rest.split_at(wanted.len());
+    assert_eq!(written, wanted);
+    assert!(before.iter().all(|unit| *unit == T::UNWRITTEN), "before: {before:x?}");
+    assert!(behind.iter().all(|unit| *unit == T::UNWRITTEN), "behind: {behind:x?}");
+}

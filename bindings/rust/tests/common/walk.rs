@@ -1,0 +1,191 @@
+//! Conversions beside a reference that grows by one character: over every length, from each of sixteen places, with
+//! another character at every place, and with units round the source and the destination that are none of theirs.
+use super::rows::{Item, Unit};
+
+/// The most units of a source.
+const LONGEST: usize = 130;
+
+/// What a source and a destination stand in: three units for each of the longest source, and sixteen more before and
+/// behind.
+const ROOM: usize = 3 * LONGEST + 48;
+
+/// The room that a destination has.
+#[derive(Clone, Copy)]
+pub enum Room {
+    /// So many times as many units as the source has, and so many more.
+    Times(usize, usize),
+    /// As many as are written of all.
+    Exact,
+    /// One less, so that the last character has no room.
+    Short,
+}
+
+/// How a call is made: the room, and how many units behind what is written become zero.
+#[derive(Clone, Copy)]
+pub struct Way {
+    room: Room,
+    zeros: usize,
+}
+
+/// Into as much room as is needed.
+pub const EXACT: Way = Way {
+    room: Room::Exact,
+    zeros: 0,
+};
+
+/// Into one unit less.
+pub const SHORT: Way = Way {
+    room: Room::Short,
+    zeros: 0,
+};
+
+/// The way into so many times as many units as the source has, and so many more.
+pub fn into_room(times: usize, more: usize) -> Way {
+    Way {
+        room: Room::Times(times, more),
+        zeros: 0,
+    }
+}
+
+impl Way {
+    /// The way, on which now so many units behind what is written become zero.
+    pub fn with_zeros(self, zeros: usize) -> Way {
+        Way { zeros, ..self }
+    }
+}
+
+/// Characters of which texts are made: a letter of one unit, those that stand round others, and these others. A call is
+/// tried with each of the others among each of the fillers.
+pub struct Items<S, D> {
+    pub letter: Item<S, D>,
+    pub fillers: Vec<Item<S, D>>,
+    pub others: Vec<Item<S, D>>,
+}
+
+/// A source, what is to be written of it, and the units of both before its last character; and what the source and the
+/// destination stand in, the latter also as it is before a call.
+struct Text<S, D> {
+    src: Vec<S>,
+    wanted: Vec<D>,
+    front: (usize, usize),
+    source: [S; ROOM],
+    destination: [D; ROOM],
+    unwritten: [D; ROOM],
+}
+
+impl<S: Unit, D: Unit> Text<S, D> {
+    fn new() -> Text<S, D> {
+        Text {
+            src: Vec::new(),
+            wanted: Vec::new(),
+            front: (0, 0),
+            source: [S::BEHIND; ROOM],
+            destination: [D::UNWRITTEN; ROOM],
+            unwritten: [D::UNWRITTEN; ROOM],
+        }
+    }
+
+    fn push(&mut self, item: &Item<S, D>) {
+        self.front = (self.src.len(), self.wanted.len());
+        self.src.extend_from_slice(&item.read);
+        self.wanted.extend_from_slice(&item.written);
+    }
+
+    /// Makes it a text of so many units, with the other character at a place if it ends within them. Letters stand where
+    /// a filler has no room. The next call is from the first place.
+    fn fill(&mut self, [letter, filler, other]: [&Item<S, D>; 3], length: usize, place: usize) {
+        self.src.clear();
+        self.wanted.clear();
+        self.front = (0, 0);
+        while self.src.len() < length {
+            let at = self.src.len();
+            let left = if at < place { place } else { length } - at;
+            if at == place && other.read.len() <= left {
+                self.push(other);
+            } else if filler.read.len() <= left {
+                self.push(filler);
+            } else {
+                self.push(letter);
+            }
+        }
+        self.source.fill(S::BEHIND);
+    }
+
+    /// How many units are to be read and written into this room, and how many units it is.
+    fn told(&self, room: Room) -> ((usize, usize), usize) {
+        let (read, written) = (self.src.len(), self.wanted.len());
+        match room {
+            Room::Times(times, more) => ((read, written), read * times + more),
+            Room::Exact => ((read, written), written),
+            Room::Short => (self.front, written.saturating_sub(1)),
+        }
+    }
+
+    /// Whether the destination has what is wanted at a place, then so many zeros, and is as before all round.
+    fn is_written(&self, to: usize, written: usize, zeros: usize) -> bool {
+        let (before, rest) = self.destination.split_at(to);
+        let (front, behind) = rest.split_at(written);
+        let (cleared, left) = behind.split_at(zeros);
+        before == &self.unwritten[..to]
+            && front == &self.wanted[..written]
+            && cleared.iter().all(|unit| *unit == D::ZERO)
+            && left == &self.unwritten[..left.len()]
+    }
+
+    /// Whether the call from one place to another reads and writes what it is to, and nothing else. It returns how many
+    /// units it read and how many it wrote. Each call on a text is from a place behind that of the one before, so that
+    /// nothing of that stands behind the source.
+    fn converts(
+        &mut self,
+        from: usize,
+        to: usize,
+        way: Way,
+        call: impl FnOnce(&[S], &mut [D]) -> (usize, usize),
+    ) -> bool {
+        let ((read, written), room) = self.told(way.room);
+        self.source[..from].fill(S::BEFORE);
+        let src = &mut self.source[from..from + self.src.len()];
+        src.copy_from_slice(&self.src);
+        let told = call(src, &mut self.destination[to..to + room]);
+        let zeros = way.zeros.min(room - written);
+        let holds = told == (read, written) && self.is_written(to, written, zeros);
+        self.destination[to..to + written + zeros].fill(D::UNWRITTEN);
+        holds
+    }
+}
+
+/// Looks whether the call holds over each length, with the other character at each place, from each of sixteen places to
+/// one of sixteen.
+fn assert_holds_among<S: Unit, D: Unit>(
+    items: [&Item<S, D>; 3],
+    way: Way,
+    mut call: impl FnMut(&[S], &mut [D]) -> (usize, usize),
+) {
+    let mut text = Text::new();
+    let mut turn = 0;
+    for length in 0..=LONGEST {
+        for place in 0..=length {
+            text.fill(items, length, place);
+            for from in 0..16 {
+                turn += 5;
+                let holds = text.converts(from, turn % 16, way, &mut call);
+                assert!(holds, "{:x?} from {from} to {}", text.src, turn % 16);
+            }
+            turn += 1;
+        }
+    }
+}
+
+/// Looks whether the call holds with each of the others among each of the fillers, and returns how many these are.
+pub fn held<S: Unit, D: Unit>(
+    items: &Items<S, D>,
+    way: Way,
+    mut call: impl FnMut(&[S], &mut [D]) -> (usize, usize),
+) -> usize {
+    for filler in &items.fillers {
+        for other in &items.others {
+            assert_holds_among([&items.letter, filler, other], way, &mut call);
+        }
+    }
+    items.fillers.len() * items.others.len()
+}

@@ -1,0 +1,159 @@
+//! Slices of every length at every alignment, with another unit at every place: scans and copies of ASCII, Latin1 to
+//! UTF-16 and back, and where text breaks.
+
+use encoding_text::ascii::*;
+use encoding_text::mem::*;
+use encoding_text::utf_8::utf8_valid_up_to;
+
+/// The longest slice. It stands between units that no call may read or write, at least 15 on either side.
+const LONGEST: usize = 130;
+
+/// What a slice stands in.
+const ROOM: usize = 160;
+
+/// What a place of the slice holds, from 0x20 to 0x5F.
+fn letter(place: usize) -> u8 {
+    0x20 + (place & 0x3F) as u8
+}
+
+/// A slice of letters at a start, with one other unit, and such units around it.
+fn with_other<T: Copy + From<u8>>(start: usize, length: usize, place: usize, other: T, around: T) -> [T; ROOM] {
+    let mut units = [around; ROOM];
+    for (at, unit) in units[start..start + length].iter_mut().enumerate() {
+        *unit = if at == place { other } else { letter(at).into() };
+    }
+    units
+}
+
+/// So many letters at a start, and 0x71 everywhere else.
+fn letters<T: Copy + From<u8>>(start: usize, count: usize) -> [T; ROOM] {
+    with_other(start, count, ROOM, 0x71.into(), 0x71.into())
+}
+
+/// Whether the scans and copies of bytes stop at the other byte.
+fn bytes_stop(start: usize, length: usize, other: usize) -> bool {
+    let slice = start..start + length;
+    let bytes = with_other(start, length, other, 0xAA, 0xC3);
+    let src = &bytes[slice.clone()];
+    let found = (other < length).then_some((0xAA, other));
+    let mut narrow = [0x71; ROOM];
+    let copied = ascii_to_ascii(src, &mut narrow[slice.clone()]);
+    let mut wide = [0x71; ROOM];
+    let widened = ascii_to_basic_latin(src, &mut wide[slice]);
+    let front = other.min(length);
+    validate_ascii(src) == found
+        && ascii_valid_up_to(src) == front
+        && is_ascii(src) == (other >= length)
+        && copied == found
+        && widened == found
+        && narrow == letters::<u8>(start, front)
+        && wide == letters::<u16>(start, front)
+}
+
+/// Bytes that end a prefix of ISO-2022-JP.
+const ENDS: [u8; 4] = [0x0E, 0x0F, 0x1B, 0x80];
+
+/// Whether a prefix of ISO-2022-JP stops at such a byte, of which each comes to stand at each place.
+fn iso_2022_jp_stops(start: usize, length: usize, other: usize) -> bool {
+    let bytes = with_other(start, length, other, ENDS[start & 3], 0xC3);
+    iso_2022_jp_ascii_valid_up_to(&bytes[start..start + length]) == other.min(length)
+}
+
+/// Whether the scans and the copy of code units stop at the other one.
+fn units_stop(start: usize, length: usize, other: usize) -> bool {
+    let slice = start..start + length;
+    let units = with_other(start, length, other, 0xAA, 0xDC00);
+    let above = with_other(start, length, other, 0x100, 0xDC00);
+    let alone = with_other(start, length, other, 0xD83D, 0xDC00);
+    let src = &units[slice.clone()];
+    let found = (other < length).then_some((0xAA, other));
+    let mut bytes = [0x71; ROOM];
+    let front = other.min(length);
+    basic_latin_to_ascii(src, &mut bytes[slice.clone()]) == found
+        && is_basic_latin(src) == (other >= length)
+        && is_utf16_latin1(src)
+        && is_utf16_latin1(&above[slice.clone()]) == (other >= length)
+        && utf16_valid_up_to(&alone[slice]) == front
+        && bytes == letters::<u8>(start, front)
+}
+
+/// Whether Latin1 comes back from UTF-16 as it was, and the units behind it are as before.
+fn latin1_comes_back(start: usize, length: usize, other: usize) -> bool {
+    let slice = start..start + length;
+    let bytes = with_other(start, length, other, 0xAA, 0xC3);
+    let mut units = [0xDC00; ROOM];
+    convert_latin1_to_utf16(&bytes[slice.clone()], &mut units[slice.clone()]);
+    let mut back = [0xC3; ROOM];
+    convert_utf16_to_latin1_lossy(&units[slice.clone()], &mut back[slice]);
+    units == with_other::<u16>(start, length, other, 0xAA, 0xDC00) && back == bytes
+}
+
+#[test]
+fn each_length_alignment_and_place() {
+    for length in 0..=LONGEST {
+        for start in 0..16 {
+            for other in 0..=length {
+                let holds = bytes_stop(start, length, other)
+                    && iso_2022_jp_stops(start, length, other)
+                    && units_stop(start, length, other)
+                    && latin1_comes_back(start, length, other);
+                assert!(holds, "{start}, {length}, {other}");
+            }
+        }
+    }
+}
+
+/// Lengths round those that checks and scans cover by one test.
+const LONG: [usize; 9] = [255, 256, 257, 511, 512, 513, 1023, 1024, 1025];
+
+/// Whether the check and the scan of so many letters, between bytes that are no ASCII, stop at the other byte.
+fn long_letters_stop(length: usize, other: usize) -> bool {
+    let mut bytes = [0xC3; 1040];
+    for (at, byte) in bytes.iter_mut().enumerate().skip(1).take(length) {
+        *byte = if at - 1 == other { 0xAA } else { letter(at) };
+    }
+    let src = &bytes[1..=length];
+    is_ascii(src) == (other >= length) && ascii_valid_up_to(src) == other.min(length)
+}
+
+#[test]
+fn each_place_of_long_letters() {
+    for length in LONG {
+        for other in 0..=length {
+            assert!(long_letters_stop(length, other), "{length}, {other}");
+        }
+    }
+}
+
+/// A character of each length.
+const CHARACTERS: [&[u8]; 4] = [&[0x61], &[0xC3, 0xA4], &[0xE2, 0x98, 0x83], &[0xF0, 0x9F, 0x92, 0xA9]];
+
+/// Whether so many letters, then such characters, are valid up to the byte that breaks them.
+fn is_valid_up_to_break(letters: usize, character: &[u8], length: usize, broken: usize) -> bool {
+    let mut text = [0; ROOM];
+    for (place, byte) in text.iter_mut().enumerate() {
+        *byte = match place.checked_sub(letters) {
+            _ if place == broken => 0xFF,
+            None => 0x61,
+            Some(behind) if place < length => character[behind % character.len()],
+            Some(_) => 0xC3,
+        };
+    }
+    let end = broken.min(length);
+    let left = end.saturating_sub(letters) % character.len();
+    utf8_valid_up_to(&text[..length]) == end - left
+}
+
+#[test]
+fn each_length_of_text_and_break() {
+    for length in 0..=LONGEST {
+        for letters in 0..20 {
+            for broken in 0..=length {
+                for character in CHARACTERS {
+                    let holds = is_valid_up_to_break(letters, character, length, broken);
+                    assert!(holds, "{length}, {letters}, {broken}, {character:x?}");
+                }
+            }
+        }
+    }
+}
