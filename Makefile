@@ -64,11 +64,14 @@ build/cpu: FORCE | $(BUILT:%=build/$(CPU)/%)
 build/libencoding_text.so: | build/$(SHARED)
 	ln -sf $(SHARED) $@
 
+# The functions for C are many and small: each of several processes would read all that they stand on.
+library = cd crates/encoding_runs && rt lib && cd ../encoding_c && rt lib --jobs 1 --cpu=x86$*
+
 # The same proofs stand for each CPU: where one build is there, another is compiled alone.
 build/x86%/libencoding_text.a: $(SOURCES)
 	$(need_rt)
 	@mkdir -p $(@D)
-	@$(progress) x86$*/library '5 to 11 min, 1 behind another' sh -c 'cd crates/encoding_c && rt lib --cpu=x86$*'
+	@$(progress) x86$*/library '5 to 11 min, 1 behind another' sh -c '$(library)'
 	cp crates/encoding_c/out/libencoding_c.a $@
 
 build/x86%/utf8_repair: $(SOURCES)

@@ -47,6 +47,54 @@ fn every_character() {
     }
 }
 
+/// Each character alone, by all checks: no unit of a pair behind its first says so.
+#[test]
+fn every_character_alone() {
+    for c in '\0'..=char::MAX {
+        let text = c.to_string();
+        let units: Vec<u16> = text.encode_utf16().collect();
+        let is_bidi = is_right_to_left(c);
+        assert_eq!(
+            (is_str_bidi(&text), is_utf8_bidi(text.as_bytes())),
+            (is_bidi, is_bidi),
+            "{c:?}"
+        );
+        assert_eq!(
+            (is_utf16_bidi(&units), is_utf16_code_unit_bidi(units[0])),
+            (is_bidi, is_bidi),
+            "{c:?}"
+        );
+        assert!(units[1..].iter().all(|unit| !is_utf16_code_unit_bidi(*unit)), "{c:?}");
+    }
+}
+
+/// Code units at the ends of the ranges and of the surrogates, and a letter.
+const ENDS: [u16; 39] = [
+    0x0061, 0x058F, 0x0590, 0x08FF, 0x0900, 0x200E, 0x200F, 0x2010, 0x202A, 0x202B, 0x202C, 0x202D, 0x202E, 0x202F,
+    0x2066, 0x2067, 0x2068, 0xD7FF, 0xD800, 0xD801, 0xD802, 0xD803, 0xD804, 0xD839, 0xD83A, 0xD83B, 0xD83C, 0xDBFF,
+    0xDC00, 0xDFFF, 0xE000, 0xFB1C, 0xFB1D, 0xFDFF, 0xFE00, 0xFE6F, 0xFE70, 0xFEFE, 0xFEFF,
+];
+
+/// Whether two code units are valid, right-to-left and repaired as their parts are.
+#[test]
+fn every_two_ends() {
+    for a in ENDS {
+        for b in ENDS {
+            let mut units = [a, b];
+            check_units(&units);
+            let repaired: Vec<u16> = String::from_utf16_lossy(&units).encode_utf16().collect();
+            let front = units
+                .iter()
+                .zip(&repaired)
+                .position(|(unit, mended)| unit != mended)
+                .unwrap_or(2);
+            assert_eq!(utf16_valid_up_to(&units), front, "{units:x?}");
+            ensure_utf16_validity(&mut units);
+            assert_eq!(units[..], repaired, "{a:x}, {b:x}");
+        }
+    }
+}
+
 #[test]
 fn every_unit() {
     for u in 0..=u16::MAX {

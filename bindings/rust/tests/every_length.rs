@@ -39,9 +39,15 @@ fn bytes_stop(start: usize, length: usize, other: usize) -> bool {
     let mut narrow = [0x71; ROOM];
     let copied = ascii_to_ascii(src, &mut narrow[slice.clone()]);
     let mut wide = [0x71; ROOM];
-    let widened = ascii_to_basic_latin(src, &mut wide[slice]);
+    let widened = ascii_to_basic_latin(src, &mut wide[slice.clone()]);
+    let mut also = [0x71; ROOM];
+    let mut also_wide = [0x71; ROOM];
     let front = other.min(length);
-    validate_ascii(src) == found
+    copy_ascii_to_ascii(src, &mut also[slice.clone()]) == front
+        && copy_ascii_to_basic_latin(src, &mut also_wide[slice.clone()]) == front
+        && also == narrow
+        && also_wide == wide
+        && validate_ascii(src) == found
         && ascii_valid_up_to(src) == front
         && is_ascii(src) == (other >= length)
         && copied == found
@@ -68,8 +74,11 @@ fn units_stop(start: usize, length: usize, other: usize) -> bool {
     let src = &units[slice.clone()];
     let found = (other < length).then_some((0xAA, other));
     let mut bytes = [0x71; ROOM];
+    let mut also = [0x71; ROOM];
     let front = other.min(length);
     basic_latin_to_ascii(src, &mut bytes[slice.clone()]) == found
+        && copy_basic_latin_to_ascii(src, &mut also[slice.clone()]) == front
+        && also == bytes
         && is_basic_latin(src) == (other >= length)
         && is_utf16_latin1(src)
         && is_utf16_latin1(&above[slice.clone()]) == (other >= length)
@@ -154,6 +163,43 @@ fn each_length_of_text_and_break() {
                     assert!(holds, "{length}, {letters}, {broken}, {character:x?}");
                 }
             }
+        }
+    }
+}
+
+/// The units from one on to 0x7F, of which then the first one, two and so on become 0xA0, are ASCII where none does.
+#[test]
+fn each_end_of_ascii() {
+    for start in 0..0x80 {
+        for end in start..=0x80 {
+            let units: Vec<u16> = (start..0x80).map(|unit| if unit < end { 0xA0 } else { unit }).collect();
+            let bytes: Vec<u8> = units.iter().map(|unit| *unit as u8).collect();
+            assert_eq!(is_ascii(&bytes), end == start, "{start}, {end}");
+            assert_eq!(is_basic_latin(&units), end == start, "{start}, {end}");
+        }
+    }
+}
+
+/// The units from one on to 0xFF, of which then the first ones become 0x100, 0x101 and so on, are Latin1 where none does:
+/// as units, as a text and as its bytes.
+#[test]
+fn each_end_of_latin1() {
+    for start in 0..0x100 {
+        for end in start..=0x100 {
+            let other = |unit| 0x100 | (unit - start + 0x100) & 0x1FF;
+            let units: Vec<u16> = (start..0x100)
+                .map(|unit| if unit < end { other(unit) } else { unit })
+                .collect();
+            let text = String::from_utf16(&units).unwrap();
+            let front = if end == start { text.len() } else { 0 };
+            let seen = (
+                is_utf16_latin1(&units),
+                is_str_latin1(&text),
+                is_utf8_latin1(text.as_bytes()),
+            );
+            assert_eq!(seen, (end == start, end == start, end == start), "{start}, {end}");
+            assert_eq!(str_latin1_up_to(&text), front, "{start}, {end}");
+            assert_eq!(utf8_latin1_up_to(text.as_bytes()), front, "{start}, {end}");
         }
     }
 }

@@ -22,6 +22,10 @@ fn fronts_end() -> bool {
         && ascii_valid_up_to(&[0xFF, 0x61]) == 0
         && validate_ascii(b"ab") == None
         && validate_ascii(&[0x61, 0x80, 0xFF]) == Some((0x80, 1))
+        && is_ascii(b"ab")
+        && !is_ascii(&[0x61, 0x80])
+        && is_basic_latin(&[0x61, 0x7F])
+        && !is_basic_latin(&[0x61, 0xA0])
 }
 
 #[test]
@@ -65,102 +69,16 @@ fn copies_the_front(rt: HostRuntime) {
 fn shorter_lengths_are_copied() -> bool {
     let mut bytes = [0; 2];
     let mut units = [0; 4];
+    let mut narrow = [0; 3];
     ascii_to_ascii(&[0x61, 0x62, 0xE4], &mut bytes) == None
         && bytes == [0x61, 0x62]
         && ascii_to_basic_latin(&[0x61, 0x62], &mut units) == None
         && units == [0x61, 0x62, 0, 0]
+        && basic_latin_to_ascii(&[0x61, 0x62, 0xAA, 0x63], &mut narrow) == Some((0xAA, 2))
+        && narrow == [0x61, 0x62, 0]
 }
 
 #[test]
 fn copies_what_there_is_room_for(rt: HostRuntime) {
     assert!(rt; shorter_lengths_are_copied());
-}
-
-/// 0x40, 0x41 and so on, with 0xAA at a place.
-fn letters_with_other_at(i: usize) -> [u8; 40] {
-    let mut src = [0u8; 40];
-    for j in 0..40 {
-        src[j] = if i == j { 0xAA } else { 0x40 + j as u8 };
-    }
-    src
-}
-
-/// The bytes as code units.
-fn widened(src: &[u8; 40]) -> [u16; 40] {
-    let mut wide = [0u16; 40];
-    for j in 0..40 {
-        wide[j] = u16::from(src[j]);
-    }
-    wide
-}
-
-/// Whether the items before a place are those of the source, and all others are zero.
-fn is_front_of(bytes: &[u8; 40], src: &[u8; 40], end: usize) -> bool {
-    (0..40usize).all(|j| bytes[j] == if j < end { src[j] } else { 0 })
-}
-
-fn stops_at(i: usize) -> bool {
-    let src = letters_with_other_at(i);
-    let mut bytes = [0u8; 40];
-    let mut copied = [0u8; 40];
-    let found = if i < 40 { Some((0xAA, i)) } else { None };
-    ascii_to_ascii(&src, &mut bytes) == found
-        && is_front_of(&bytes, &src, i)
-        && copy_ascii_to_ascii(&src, &mut copied) == i
-        && copied == bytes
-        && validate_ascii(&src) == found
-        && ascii_valid_up_to(&src) == i
-        && iso_2022_jp_ascii_valid_up_to(&src) == i
-}
-
-fn stops_unpacking_at(i: usize) -> bool {
-    let src = letters_with_other_at(i);
-    let mut units = [0u16; 40];
-    let mut copied = [0u16; 40];
-    let found = if i < 40 { Some((0xAA, i)) } else { None };
-    ascii_to_basic_latin(&src, &mut units) == found
-        && copy_ascii_to_basic_latin(&src, &mut copied) == i
-        && copied == units
-        && (0..40usize).all(|j| units[j] == if j < i { u16::from(src[j]) } else { 0 })
-}
-
-fn stops_packing_at(i: usize) -> bool {
-    let src = letters_with_other_at(i);
-    let mut bytes = [0u8; 40];
-    let mut copied = [0u8; 40];
-    let found = if i < 40 { Some((0xAA, i)) } else { None };
-    basic_latin_to_ascii(&widened(&src), &mut bytes) == found
-        && is_front_of(&bytes, &src, i)
-        && copy_basic_latin_to_ascii(&widened(&src), &mut copied) == i
-        && copied == bytes
-}
-
-/// At each place, and where there is none, at the end.
-#[test]
-fn scans_stop_at_each_place(rt: HostRuntime) {
-    for i in 0..41 {
-        let stop = stops_at(i) && stops_unpacking_at(i) && stops_packing_at(i);
-        assert!(rt; stop, "{i}");
-    }
-}
-
-/// Whether the checks tell the units from i to 0x7F, of which those before j become 0xA0, from ASCII.
-fn are_told_apart(i: usize, j: usize) -> bool {
-    let mut bytes = [0u8; 128];
-    let mut units = [0u16; 128];
-    for at in 0..128 {
-        let byte = if i <= at && at < j { 0xA0 } else { at as u8 };
-        bytes[at] = byte;
-        units[at] = u16::from(byte);
-    }
-    i <= 128 && is_ascii(&bytes[i..]) == (j <= i) && is_basic_latin(&units[i..]) == (j <= i)
-}
-
-/// The units from i to 0x7F, of which then the first one, two and so on become 0xA0.
-#[test]
-fn checks_at_all_lengths(rt: HostRuntime) {
-    for i in 0..128 {
-        let apart = (i..129usize).all(|j| are_told_apart(i, j));
-        assert!(rt; apart, "{i}");
-    }
 }

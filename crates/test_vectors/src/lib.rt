@@ -5,5 +5,4 @@ pub mod decoder_vectors;
 pub mod encoder_vectors;
 pub mod held_units;
 pub mod outputs;
-pub mod right_to_left;
 pub mod texts;

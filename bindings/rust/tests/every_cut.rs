@@ -1,0 +1,222 @@
+//! Streams cut everywhere: the decoder's vectors and the encoder's over every cut and into every small room.
+mod common;
+
+use common::rows::{fields, items, named, Item};
+use common::vectors::{BYTES, LIMITS, UNITS};
+use encoding_text::decoder::Piece;
+use encoding_text::{DecoderResult, EncoderResult, Utf8Decoder, Utf8Encoder};
+
+/// A character, or how many bytes are none.
+type Part = Result<char, u8>;
+
+/// The form of a decode call.
+#[derive(Clone, Copy)]
+enum Form {
+    Utf16,
+    Utf8,
+    Borrowed,
+}
+use Form::{Borrowed, Utf16, Utf8};
+
+/// Calls of one form, and of all forms in turn, in each order.
+const FORMS: [[Form; 3]; 9] = [
+    [Utf16, Utf16, Utf16],
+    [Utf8, Utf8, Utf8],
+    [Borrowed, Borrowed, Borrowed],
+    [Utf16, Utf8, Borrowed],
+    [Utf16, Borrowed, Utf8],
+    [Utf8, Utf16, Borrowed],
+    [Utf8, Borrowed, Utf16],
+    [Borrowed, Utf16, Utf8],
+    [Borrowed, Utf8, Utf16],
+];
+
+/// How many calls a piece takes at most.
+const CALLS: usize = 32;
+
+/// The pieces of a list: cut at each place that has a bit, the lowest for the one before the first. The last is marked.
+fn pieces<T>(all: &[T], cuts: u32) -> impl Iterator<Item = (&[T], bool)> {
+    let mut places: Vec<usize> = (0..=all.len()).filter(|place| cuts >> place & 1 == 1).collect();
+    let last = places.len();
+    places.insert(0, 0);
+    places.push(all.len());
+    (0..=last).map(move |i| (&all[places[i]..places[i + 1]], i == last))
+}
+
+/// Calls of a decoder in a chain, and what they delivered.
+struct Chain {
+    decoder: Utf8Decoder,
+    forms: [Form; 3],
+    room: usize,
+    calls: usize,
+    delivered: Vec<Part>,
+}
+
+impl Chain {
+    /// Notes a result, and returns whether it is `InputEmpty`.
+    fn ends(&mut self, result: DecoderResult) -> bool {
+        if let DecoderResult::Malformed(length, behind) = result {
+            self.delivered.push(Err(length + behind));
+        }
+        result == DecoderResult::InputEmpty
+    }
+
+    /// Makes the next call, of the form whose turn it is, into so much room or, where that is not enough, what any
+    /// character needs. Returns how many bytes are read, and whether the call ended with `InputEmpty`.
+    fn call(&mut self, src: &[u8], last: bool, enough: bool) -> (usize, bool) {
+        let form = self.forms[self.calls % 3];
+        self.calls += 1;
+        match form {
+            Utf16 => {
+                let mut dst = [0x71; 8];
+                let space = &mut dst[..if enough { 2 } else { self.room }];
+                let (result, read, written) = self.decoder.decode_to_utf16_raw(src, space, last);
+                let characters = char::decode_utf16(dst[..written].iter().copied());
+                self.delivered
+                    .extend(characters.map(|character| Ok(character.unwrap())));
+                assert!(dst[written..].iter().all(|unit| *unit == 0x71));
+                (read, self.ends(result))
+            }
+            Utf8 => {
+                let mut dst = [0x71; 8];
+                let space = &mut dst[..if enough { 4 } else { self.room }];
+                let (result, read, written) = self.decoder.decode_to_utf8_raw(src, space, last);
+                self.delivered
+                    .extend(std::str::from_utf8(&dst[..written]).unwrap().chars().map(Ok));
+                assert!(dst[written..].iter().all(|byte| *byte == 0x71));
+                (read, self.ends(result))
+            }
+            Borrowed => {
+                let (piece, read) = self.decoder.decode_borrowed(src, last);
+                match piece {
+                    Piece::Text(text) => {
+                        assert_eq!(text.as_bytes(), &src[..read]);
+                        self.delivered.extend(text.chars().map(Ok));
+                    }
+                    Piece::Char(character) => self.delivered.push(Ok(character)),
+                    Piece::Malformed(length) => self.delivered.push(Err(length)),
+                    Piece::InputEmpty => return (read, true),
+                }
+                (read, false)
+            }
+        }
+    }
+
+    /// Hands in a piece until `InputEmpty` is returned, when all of it is read. A call that gets nowhere is followed by one
+    /// with enough room.
+    fn hand_in(&mut self, piece: &[u8], last: bool) {
+        let mut unread = piece;
+        let mut stuck = false;
+        for _ in 0..CALLS {
+            let count = self.delivered.len();
+            let (read, ended) = self.call(unread, last, stuck);
+            unread = &unread[read..];
+            if ended {
+                assert!(unread.is_empty());
+                return;
+            }
+            stuck = read == 0 && self.delivered.len() == count;
+        }
+        panic!("no end after {CALLS} calls");
+    }
+}
+
+/// Looks whether the bytes, cut so, come in these parts, and nothing is pending then.
+fn assert_delivered(bytes: &[u8], cuts: u32, room: usize, forms: [Form; 3], parts: &[Part]) {
+    let mut chain = Chain {
+        decoder: Utf8Decoder::new_inner(),
+        forms,
+        room,
+        calls: 0,
+        delivered: Vec::new(),
+    };
+    for (piece, last) in pieces(bytes, cuts) {
+        chain.hand_in(piece, last);
+    }
+    assert_eq!(chain.delivered, parts, "{bytes:x?}, {cuts:b}, {room}");
+    assert!(chain.decoder.in_neutral_state(), "{bytes:x?}, {cuts:b}, {room}");
+}
+
+/// The part that a word names: a character by its scalar value, or `?` and a length.
+fn part(word: &str) -> Part {
+    match word.strip_prefix("U+") {
+        Some(scalar) => Ok(char::from_u32(u32::from_str_radix(scalar, 16).unwrap()).unwrap()),
+        None => Err(word[1..].parse().unwrap()),
+    }
+}
+
+/// All sets of cuts: so also each cut in two, each in three, and one byte a piece. Before each vector stands `61`; behind
+/// it nothing, and `5A`.
+#[test]
+fn of_the_decoder() {
+    let mut count = 0;
+    for row in BYTES.lines() {
+        let (bytes, parts) = fields(row);
+        for behind in ["", "Z"] {
+            let bytes = [b"a".to_vec(), named(bytes), behind.into()].concat();
+            let mut wanted = vec![Ok('a')];
+            wanted.extend(parts.split_whitespace().map(part));
+            wanted.extend(behind.chars().map(Ok));
+            for cuts in 0..2 << bytes.len() {
+                for room in 0..6 {
+                    for forms in FORMS {
+                        assert_delivered(&bytes, cuts, room, forms, &wanted);
+                    }
+                }
+            }
+            count += 1;
+        }
+    }
+    assert_eq!(count, 104);
+}
+
+/// Hands in code units until all are read: each call's bytes go on with what is wanted, which is left without them.
+fn encode(encoder: &mut Utf8Encoder, piece: &[u16], last: bool, room: usize, wanted: &mut &[u8]) {
+    let mut unread = piece;
+    let mut stuck = false;
+    for _ in 0..CALLS {
+        let mut dst = [0x71; 8];
+        let space = &mut dst[..if stuck { 4 } else { room }];
+        let (result, read, written) = encoder.encode_from_utf16_raw(unread, space, last);
+        let (front, behind) = wanted.split_at(written);
+        assert_eq!(&dst[..written], front);
+        assert!(dst[written..].iter().all(|byte| *byte == 0x71));
+        unread = &unread[read..];
+        *wanted = behind;
+        if result == EncoderResult::InputEmpty {
+            assert!(unread.is_empty());
+            return;
+        }
+        stuck = read == 0 && written == 0;
+    }
+    panic!("no end after {CALLS} calls");
+}
+
+/// Looks whether an encoder writes these bytes for code units that are cut so, and holds nothing then.
+fn assert_encoded(mut encoder: Utf8Encoder, units: &[u16], cuts: u32, room: usize, bytes: &[u8]) {
+    let mut wanted = bytes;
+    for (piece, last) in pieces(units, cuts) {
+        encode(&mut encoder, piece, last, room, &mut wanted);
+    }
+    assert!(wanted.is_empty(), "{units:x?}, {cuts:b}, {room}");
+    assert_eq!(encoder.max_buffer_length_from_utf16_without_replacement(0), Some(0));
+}
+
+/// From a new encoder, and from one that holds D83D.
+#[test]
+fn of_the_encoder() {
+    let sources: Vec<Item<u16, u8>> = [UNITS, LIMITS].into_iter().flat_map(items).collect();
+    assert_eq!(sources.len(), 50);
+    for Item { read: units, written } in &sources {
+        let behind_a_unit = String::from_utf16_lossy(&[&[0xD83D], &units[..]].concat());
+        for cuts in 0..2 << units.len() {
+            for room in 0..6 {
+                assert_encoded(Utf8Encoder::new_inner(), units, cuts, room, written);
+                let mut encoder = Utf8Encoder::new_inner();
+                let held = encoder.encode_from_utf16_raw(&[0xD83D], &mut [], false);
+                assert_eq!(held, (EncoderResult::InputEmpty, 1, 0));
+                assert_encoded(encoder, units, cuts, room, behind_a_unit.as_bytes());
+            }
+        }
+    }
+}
