@@ -1,4 +1,5 @@
 //! All sequences of three and four bytes at the edges of the ranges of UTF-8, through all calls that read bytes, beside std.
+#![cfg(feature = "std")]
 mod common;
 
 use common::{class_of, is_right_to_left};
