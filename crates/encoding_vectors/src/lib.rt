@@ -1,29 +1,34 @@
-//! Tests alone: published vectors and worked examples, through the public calls of `encoding_text`.
+//! Tests alone: each public call of `encoding_text` and `encoding_runs`; published vectors, every place of a fault, and
+//! long input and long results, for the calls that take streams or memory.
 #![tactic(auto)]
 
 #[cfg(test)]
-mod ascii_rows;
-#[cfg(test)]
-mod borrowed_call_rows;
-#[cfg(test)]
 mod borrowed_rows;
 #[cfg(test)]
-mod decoder_parts;
+mod decoder_vectors;
 #[cfg(test)]
-mod decoder_rows;
+mod dense_rows;
 #[cfg(test)]
-mod encoder_rows;
+mod failing_streams;
 #[cfg(test)]
-mod held_unit_rows;
+mod long_results;
 #[cfg(test)]
-mod latin1_rows;
+mod long_streams;
 #[cfg(test)]
 mod mixed_text;
 #[cfg(test)]
+mod parts;
+#[cfg(test)]
+mod repair_fault_rows;
+#[cfg(test)]
+mod repair_rows;
+#[cfg(test)]
+mod repair_stream_rows;
+#[cfg(test)]
+mod short_texts;
+#[cfg(test)]
 mod table_rows;
 #[cfg(test)]
-mod to_utf16_rows;
+mod texts;
 #[cfg(test)]
-mod unchanged_tails;
-#[cfg(test)]
-mod utf16_rows;
+mod variant_numbers;

@@ -1,26 +1,39 @@
-//! A text with characters of one to four bytes: its UTF-16, its UTF-8, and as a text.
+//! A text with characters of one to four bytes through each call that takes it whole.
 
+use crate::texts::{are_written, is_text};
+use encoding_runs::broken::next_broken;
+use encoding_runs::repair::repair_block;
+use encoding_runs::run::{Report, Turn, run_from_utf16, run_to_utf8, run_to_utf16};
 use encoding_text::decoder::{DecoderResult, Piece, Utf8Decoder};
-use encoding_text::utf_8::{EncoderResult, Utf8Encoder, utf8_valid_up_to};
+use encoding_text::mem::{
+    Latin1Bidi, check_str_for_latin1_and_bidi, check_utf8_for_latin1_and_bidi,
+    check_utf16_for_latin1_and_bidi, convert_str_to_utf16, convert_utf8_to_utf16,
+    convert_utf8_to_utf16_without_replacement, convert_utf16_to_str, convert_utf16_to_str_partial,
+    convert_utf16_to_utf8, convert_utf16_to_utf8_partial, ensure_utf16_validity, is_str_bidi,
+    is_utf8_bidi, is_utf16_bidi, utf8_length_from_utf16, utf16_length_from_utf8, utf16_valid_up_to,
+};
+use encoding_text::utf_8::{
+    EncoderResult, Utf8Encoder, convert_utf8_to_utf16_up_to_invalid,
+    convert_utf16_to_utf8_partial_inner, utf8_valid_up_to,
+};
 use std::test::Fail;
-use test_vectors::texts::are_written;
 
 /// The letters from a to u, U+1F4A9, v, U+2603, w, U+00B6, xyzz in UTF-16.
-pub const UNITS: [u16; 31] = [
+const UNITS: [u16; 31] = [
     0x0061, 0x0062, 0x0063, 0x0064, 0x0065, 0x0066, 0x0067, 0x0068, 0x0069, 0x006A, 0x006B, 0x006C,
     0x006D, 0x006E, 0x006F, 0x0070, 0x0071, 0x0072, 0x0073, 0x0074, 0x0075, 0xD83D, 0xDCA9, 0x0076,
     0x2603, 0x0077, 0x00B6, 0x0078, 0x0079, 0x007A, 0x007A,
 ];
 
 /// The letters from a to u, U+1F4A9, v, U+2603, w, U+00B6, xyzz in UTF-8.
-pub const BYTES: [u8; 36] = [
+const BYTES: [u8; 36] = [
     0x61, 0x62, 0x63, 0x64, 0x65, 0x66, 0x67, 0x68, 0x69, 0x6A, 0x6B, 0x6C, 0x6D, 0x6E, 0x6F, 0x70,
     0x71, 0x72, 0x73, 0x74, 0x75, 0xF0, 0x9F, 0x92, 0xA9, 0x76, 0xE2, 0x98, 0x83, 0x77, 0xC2, 0xB6,
     0x78, 0x79, 0x7A, 0x7A,
 ];
 
 /// The text.
-pub const TEXT: &str = "abcdefghijklmnopqrstu\u{1F4A9}v\u{2603}w\u{B6}xyzz";
+const TEXT: &str = "abcdefghijklmnopqrstu\u{1F4A9}v\u{2603}w\u{B6}xyzz";
 
 #[test]
 fn the_text_has_these_bytes(rt: HostRuntime) -> Result<(), Fail> {
@@ -29,8 +42,7 @@ fn the_text_has_these_bytes(rt: HostRuntime) -> Result<(), Fail> {
 }
 
 #[test]
-fn one_call_takes_the_text(rt: HostRuntime) {
-    assert!(rt; utf8_valid_up_to(&BYTES) == 36);
+fn the_decoder_takes_it(rt: HostRuntime) {
     let mut units = [0x71; 38];
     let answer = Utf8Decoder::new_inner().decode_to_utf16_raw(&BYTES, &mut units, true);
     assert!(rt; answer == (DecoderResult::InputEmpty, 36, 31) && are_written(&UNITS, &units, 31));
@@ -39,10 +51,147 @@ fn one_call_takes_the_text(rt: HostRuntime) {
     assert!(rt; answer == (DecoderResult::InputEmpty, 36, 36) && are_written(&BYTES, &bytes, 36));
     let (piece, read) = Utf8Decoder::new_inner().decode_borrowed_raw(&BYTES, true);
     assert!(rt; read == 36 && piece == Piece::Text(TEXT));
+}
+
+#[test]
+fn the_encoder_takes_it(rt: HostRuntime) {
     let mut bytes = [0x71; 40];
     let answer = Utf8Encoder::new_inner().encode_from_utf16_raw(&UNITS, &mut bytes, true);
     assert!(rt; answer == (EncoderResult::InputEmpty, 31, 36) && are_written(&BYTES, &bytes, 36));
     let mut bytes = [0x71; 40];
     let answer = Utf8Encoder::new_inner().encode_from_utf8_raw(TEXT, &mut bytes, true);
     assert!(rt; answer == (EncoderResult::InputEmpty, 36, 36) && are_written(&BYTES, &bytes, 36));
+}
+
+#[test]
+fn queries_of_its_length(rt: HostRuntime) {
+    let decoder = Utf8Decoder::new_inner();
+    assert!(rt; decoder.in_neutral_state());
+    assert!(rt; decoder.max_utf16_buffer_length(36) == Some(37));
+    assert!(rt; decoder.max_utf8_buffer_length_without_replacement(36) == Some(39));
+    assert!(rt; decoder.max_utf8_buffer_length(36) == Some(111));
+    let encoder = Utf8Encoder::new_inner();
+    assert!(rt; encoder.max_buffer_length_from_utf16_without_replacement(31) == Some(93));
+    assert!(rt; encoder.max_buffer_length_from_utf8_without_replacement(36) == Some(36));
+}
+
+#[test]
+fn queries_at_the_limit(rt: HostRuntime) {
+    let decoder = Utf8Decoder::new_inner();
+    assert!(rt; decoder.max_utf16_buffer_length(usize::MAX - 1) == Some(usize::MAX));
+    assert!(rt; decoder.max_utf16_buffer_length(usize::MAX) == None);
+    let most = decoder.max_utf8_buffer_length_without_replacement(usize::MAX - 3);
+    assert!(rt; most == Some(usize::MAX));
+    let most = decoder.max_utf8_buffer_length_without_replacement(usize::MAX - 2);
+    assert!(rt; most == None);
+    let most = decoder.max_utf8_buffer_length(6_148_914_691_236_517_204);
+    assert!(rt; most == Some(usize::MAX));
+    assert!(rt; decoder.max_utf8_buffer_length(6_148_914_691_236_517_205) == None);
+    let mut encoder = Utf8Encoder::new_inner();
+    let _ = encoder.encode_from_utf16_raw(&[0xD83D], &mut [], false);
+    let most = encoder.max_buffer_length_from_utf8_without_replacement(usize::MAX - 3);
+    assert!(rt; most == Some(usize::MAX));
+    let most = encoder.max_buffer_length_from_utf8_without_replacement(usize::MAX - 2);
+    assert!(rt; most == None);
+    let most = encoder.max_buffer_length_from_utf16_without_replacement(usize::MAX - 3);
+    assert!(rt; most == None);
+}
+
+#[test]
+fn conversions_to_utf16_take_it(rt: HostRuntime) {
+    assert!(rt; utf8_valid_up_to(&BYTES) == 36 && utf16_length_from_utf8(&BYTES) == 31);
+    let mut dst = [0x71; 37];
+    let written = convert_utf8_to_utf16(&BYTES, &mut dst);
+    assert!(rt; written == 31 && are_written(&UNITS, &dst, written));
+    let mut dst = [0x71; 36];
+    let answer = convert_utf8_to_utf16_without_replacement(&BYTES, &mut dst);
+    assert!(rt; answer == Some(31) && are_written(&UNITS, &dst, 31));
+    let mut dst = [0x71; 4];
+    let answer = convert_utf8_to_utf16_without_replacement(&[0x61, 0xC3, 0xA4, 0xFF], &mut dst);
+    assert!(rt; answer == None && dst == [0x0061, 0x00E4, 0x71, 0x71]);
+    let mut dst = [0x71; 37];
+    let answer = convert_utf8_to_utf16_up_to_invalid(&BYTES, &mut dst);
+    assert!(rt; answer == (36, 31) && are_written(&UNITS, &dst, 31));
+    assert!(rt; TEXT.len() == 36);
+    let mut dst = [0x71; 36];
+    let written = convert_str_to_utf16(TEXT, &mut dst);
+    assert!(rt; written == 31 && are_written(&UNITS, &dst, written));
+}
+
+#[test]
+fn conversions_to_utf8_take_it(rt: HostRuntime) {
+    assert!(rt; utf16_valid_up_to(&UNITS) == 31 && utf8_length_from_utf16(&UNITS) == 36);
+    let mut dst = [0x71; 94];
+    let written = convert_utf16_to_utf8(&UNITS, &mut dst);
+    assert!(rt; written == 36 && are_written(&BYTES, &dst, written));
+    let mut dst = [0x71; 40];
+    let answer = convert_utf16_to_utf8_partial(&UNITS, &mut dst);
+    assert!(rt; answer == (31, 36) && are_written(&BYTES, &dst, 36));
+    let mut dst = [0x71; 40];
+    let answer = convert_utf16_to_utf8_partial_inner(&UNITS, &mut dst);
+    assert!(rt; answer == (31, 36) && are_written(&BYTES, &dst, 36));
+}
+
+#[test]
+fn a_text_takes_it(rt: HostRuntime) {
+    let mut dst = [b'q'; 93];
+    assert!(rt; is_text(&dst) && convert_utf16_to_str_partial(&UNITS, &mut dst) == (31, 36));
+    assert!(rt; are_written(&BYTES, &dst, 36));
+    let mut dst = [b'q'; 93];
+    assert!(rt; is_text(&dst) && convert_utf16_to_str(&UNITS, &mut dst) == 36);
+    assert!(rt; are_written(&BYTES, &dst, 36));
+}
+
+#[test]
+fn it_is_left_to_right(rt: HostRuntime) {
+    assert!(rt; !is_str_bidi(TEXT) && !is_utf8_bidi(&BYTES) && !is_utf16_bidi(&UNITS));
+    assert!(rt; check_str_for_latin1_and_bidi(TEXT) == Latin1Bidi::LeftToRight);
+    assert!(rt; check_utf8_for_latin1_and_bidi(&BYTES) == Latin1Bidi::LeftToRight);
+    assert!(rt; check_utf16_for_latin1_and_bidi(&UNITS) == Latin1Bidi::LeftToRight);
+}
+
+/// Its surrogates stand in a pair, and are repaired once one of them is gone.
+#[test]
+fn its_surrogates(rt: HostRuntime) {
+    let mut units = UNITS;
+    ensure_utf16_validity(&mut units);
+    assert!(rt; units == UNITS);
+    units[21] = 0x61;
+    ensure_utf16_validity(&mut units);
+    assert!(rt; units[22] == 0xFFFD && utf16_valid_up_to(&units) == 31);
+}
+
+#[test]
+fn runs_take_it(rt: HostRuntime) {
+    let turns = [Turn {
+        take: 36,
+        room: 40,
+        last: true,
+    }];
+    let mut reports = [Report {
+        place: 0x71,
+        length: 0x71,
+    }];
+    let mut units = [0x71; 40];
+    let mut decoder = Utf8Decoder::new_inner();
+    let outcome = run_to_utf16(&mut decoder, &BYTES, &turns, &mut units, &mut reports);
+    assert!(rt; outcome.result == Some(DecoderResult::InputEmpty) && outcome.reports == 0);
+    assert!(rt; outcome.read == 36 && outcome.written == 31 && are_written(&UNITS, &units, 31));
+    let mut bytes = [0x71; 40];
+    let outcome = run_to_utf8(&mut decoder, &BYTES, &turns, &mut bytes, &mut reports);
+    assert!(rt; outcome.result == Some(DecoderResult::InputEmpty) && outcome.reports == 0);
+    assert!(rt; outcome.read == 36 && outcome.written == 36 && are_written(&BYTES, &bytes, 36));
+    let mut bytes = [0x71; 40];
+    let outcome = run_from_utf16(&mut Utf8Encoder::new_inner(), &UNITS, &turns, &mut bytes);
+    assert!(rt; outcome.result == Some(EncoderResult::InputEmpty));
+    assert!(rt; outcome.read == 31 && outcome.written == 36 && are_written(&BYTES, &bytes, 36));
+}
+
+#[test]
+fn nothing_is_broken(rt: HostRuntime) {
+    assert!(rt; next_broken(&BYTES) == None);
+    let mut bytes = [0x71; 44];
+    let done = repair_block(&mut Utf8Decoder::new_inner(), &BYTES, &mut bytes, true);
+    assert!(rt; done.finished && done.read == 36 && done.replaced == 0);
+    assert!(rt; done.written == 36 && are_written(&BYTES, &bytes, 36));
 }

@@ -1,8 +1,8 @@
 //! The table of the formulas: its entries, and the formulas by them.
 
+use crate::texts::{bytes_of, field};
 use encoding_text::utf_8::{UTF8_DATA, law_table};
 use std::test::Fail;
-use test_vectors::texts::{bytes_of, field};
 
 // the first and the last place of each range of entries, and the entry there
 const RANGES: [(usize, usize, u8); 15] = [

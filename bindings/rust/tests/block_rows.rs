@@ -1,0 +1,70 @@
+//! The repair of a stream by blocks: whatever the blocks and the rooms, what is written is the text of the whole.
+#[path = "common/runs.rs"]
+mod runs;
+
+use runs::{repair_block, Decoder};
+
+/// a, U+20AC, U+1F4A9, then a truncated sequence of three bytes, two of an overlong form and three of a surrogate.
+const BYTES: [u8; 16] = [
+    0x61, 0xE2, 0x82, 0xAC, 0xF0, 0x9F, 0x92, 0xA9, 0xF0, 0x9F, 0x92, 0xC0, 0x80, 0xED, 0xA0, 0x80,
+];
+
+/// Its text: Encoding Standard, UTF-8 decode without BOM.
+const TEXT: &str = "a€💩\u{FFFD}\u{FFFD}\u{FFFD}\u{FFFD}\u{FFFD}\u{FFFD}";
+
+/// How many parts are broken.
+const BROKEN: usize = 6;
+
+/// How often the bytes stand in the stream.
+const TIMES: usize = 40;
+
+/// Looks whether blocks of so many bytes, each into so much room, come to the text.
+fn assert_repaired(stream: &[u8], text: &str, block: usize, room: usize) {
+    let mut decoder = Decoder::default();
+    let (mut read, mut replaced, mut written) = (0, 0, Vec::new());
+    for _ in 0..4 * stream.len() {
+        let end = stream.len().min(read + block);
+        let last = end == stream.len();
+        let mut dst = [0x71; 64];
+        let done = repair_block(&mut decoder, &stream[read..end], &mut dst[..room], last);
+        let (front, behind) = dst.split_at(done.written);
+        assert!(behind.iter().all(|byte| *byte == 0x71), "{block}, {room}");
+        written.extend_from_slice(front);
+        read += done.read;
+        replaced += done.replaced;
+        if last && done.finished {
+            assert_eq!((read, replaced), (stream.len(), BROKEN * TIMES), "{block}, {room}");
+            assert_eq!(written, text.as_bytes(), "{block}, {room}");
+            return;
+        }
+    }
+    panic!("no end: {block}, {room}");
+}
+
+#[test]
+fn blocks_and_rooms() {
+    let stream = BYTES.repeat(TIMES);
+    let text = TEXT.repeat(TIMES);
+    let mut count = 0;
+    for block in [1, 2, 3, 5, 16, 17, 100, 640] {
+        for room in [7, 8, 9, 10, 31, 64] {
+            assert_repaired(&stream, &text, block, room);
+            count += 1;
+        }
+    }
+    assert_eq!(count, 8 * 6);
+}
+
+/// Too little room for a call: nothing is read or written, and the decoder stays as it is.
+#[test]
+fn little_room() {
+    let mut decoder = Decoder::default();
+    let mut dst = [0x71; 2];
+    let none = repair_block(&mut decoder, &[0xFF], &mut dst, true);
+    assert_eq!((none.read, none.written, none.finished), (0, 0, false));
+    assert_eq!(dst, [0x71; 2]);
+    let mut dst = [0x71; 7];
+    let one = repair_block(&mut decoder, &[0xFF], &mut dst, true);
+    assert_eq!((one.replaced, one.finished), (1, true));
+    assert_eq!(dst, [0xEF, 0xBF, 0xBD, 0x71, 0x71, 0x71, 0x71]);
+}

@@ -1,0 +1,116 @@
+//! Where `next_broken` finds broken parts, one behind the other.
+mod common;
+
+use common::rows::{fields, named};
+use common::vectors::BYTES;
+use encoding_text::next_broken;
+use std::ops::Range;
+
+/// A letter, U+2603, a letter, three bytes that begin a character, a letter, and U+1F4A9.
+const PATTERN: [u8; 13] = [
+    0x61, 0xE2, 0x98, 0x83, 0x62, 0xF0, 0x9F, 0x92, 0x63, 0xF0, 0x9F, 0x92, 0xA9,
+];
+
+/// Each broken part, found in turn.
+fn found_in_turn(bytes: &[u8]) -> Vec<Range<usize>> {
+    let mut found = Vec::new();
+    let mut at = 0;
+    while let Some(part) = next_broken(&bytes[at..]) {
+        found.push(at + part.start..at + part.end);
+        at += part.end;
+    }
+    found
+}
+
+/// Where the part that a word names ends if it begins at a place, and whether it is broken.
+fn part_at(place: usize, word: &str) -> (usize, bool) {
+    match word.strip_prefix("U+") {
+        Some(scalar) => {
+            let character = char::from_u32(u32::from_str_radix(scalar, 16).unwrap()).unwrap();
+            (place + character.len_utf8(), false)
+        }
+        None => (place + word.strip_prefix('?').unwrap().parse::<usize>().unwrap(), true),
+    }
+}
+
+/// Before each vector stands `61`; behind it nothing, and `5A`.
+#[test]
+fn finds_those_of_vectors() {
+    let mut count = 0;
+    for row in BYTES.lines() {
+        let (bytes, parts) = fields(row);
+        let mut wanted = Vec::new();
+        let mut place = 1;
+        for word in parts.split_whitespace() {
+            let (end, is_broken) = part_at(place, word);
+            if is_broken {
+                wanted.push(place..end);
+            }
+            place = end;
+        }
+        for behind in ["", "Z"] {
+            let bytes = [b"a".to_vec(), named(bytes), behind.into()].concat();
+            assert_eq!(found_in_turn(&bytes), wanted, "{row}, {behind}");
+            count += 1;
+        }
+    }
+    assert_eq!(count, 104);
+}
+
+/// Bytes, and the place and the length of each broken part: Unicode Standard, Tables 3-8 to 3-11, and ends of input.
+const ROWS: &str = "\
+C0 AF E0 80 BF F0 81 82 41 | 0+1 1+1 2+1 3+1 4+1 5+1 6+1 7+1
+ED A0 80 ED BF BF ED AF 41 | 0+1 1+1 2+1 3+1 4+1 5+1 6+1 7+1
+F4 91 92 93 FF 41 80 BF 42 | 0+1 1+1 2+1 3+1 4+1 6+1 7+1
+E1 80 E2 F0 91 92 F1 BF 41 | 0+2 2+1 3+3 6+2
+F0 91 92 41 42 43 44 | 0+3
+61 F0 91 92 | 1+3
+61 E1 80 | 1+2
+61 C2 | 1+1
+61 62 C3 A4 63 |
+|";
+
+/// The broken part that a word names by its place and its length.
+fn broken(word: &str) -> Range<usize> {
+    let (place, length) = word.split_once('+').unwrap();
+    let place = place.parse().unwrap();
+    place..place + length.parse::<usize>().unwrap()
+}
+
+#[test]
+fn finds_those_of_rows() {
+    for row in ROWS.lines() {
+        let (bytes, parts) = fields(row);
+        let wanted: Vec<Range<usize>> = parts.split_whitespace().map(broken).collect();
+        assert_eq!(found_in_turn(&named::<u8>(bytes)), wanted, "{row}");
+    }
+    assert_eq!(ROWS.lines().count(), 10);
+}
+
+/// Looks whether the first broken part is found of bytes that stand behind so many letters and begin with it.
+fn assert_found_behind(letters: usize, bytes: &[u8], length: usize) {
+    let all = [&vec![b'a'; letters], bytes].concat();
+    assert_eq!(
+        next_broken(&all),
+        Some(letters..letters + length),
+        "{letters}, {bytes:x?}"
+    );
+}
+
+/// At each place of a block, and behind more than 64 KiB.
+#[test]
+fn finds_it_behind_letters() {
+    for letters in 0..200 {
+        assert_found_behind(letters, &[0xF0, 0x9F, 0x92], 3);
+        assert_found_behind(letters, &[0xE2, 0x98, 0x5A, 0x5A], 2);
+        assert_found_behind(letters, &[0x80, 0x80, 0x80, 0x80], 1);
+    }
+    assert_found_behind(100_000, &[0xE2, 0x98], 2);
+}
+
+/// Of a period of thirteen bytes three are broken, behind the fifth.
+#[test]
+fn finds_those_of_long_input() {
+    let wanted = (0..8000).map(|period| 13 * period + 5..13 * period + 8);
+    assert!(found_in_turn(&PATTERN.repeat(8000)).into_iter().eq(wanted));
+}

@@ -1,0 +1,181 @@
+//! The vectors through each call of the decoder: whole into bytes and code units, and in pieces, whole and cut.
+mod common;
+
+use common::rows::{fields, named, Unit};
+use common::vectors::BYTES;
+use encoding_text::decoder::Piece;
+use encoding_text::{DecoderResult, Utf8Decoder};
+
+/// A byte or a code unit, with the decoder's call that writes it.
+trait Output: Unit {
+    fn decode(decoder: &mut Utf8Decoder, src: &[u8], dst: &mut [Self], last: bool) -> (DecoderResult, usize, usize);
+
+    /// Puts a character behind others.
+    fn push(text: &mut Vec<Self>, character: char);
+}
+
+impl Output for u8 {
+    fn decode(decoder: &mut Utf8Decoder, src: &[u8], dst: &mut [u8], last: bool) -> (DecoderResult, usize, usize) {
+        decoder.decode_to_utf8_raw(src, dst, last)
+    }
+
+    fn push(text: &mut Vec<u8>, character: char) {
+        text.extend_from_slice(character.encode_utf8(&mut [0; 4]).as_bytes());
+    }
+}
+
+impl Output for u16 {
+    fn decode(decoder: &mut Utf8Decoder, src: &[u8], dst: &mut [u16], last: bool) -> (DecoderResult, usize, usize) {
+        decoder.decode_to_utf16_raw(src, dst, last)
+    }
+
+    fn push(text: &mut Vec<u16>, character: char) {
+        text.extend_from_slice(character.encode_utf16(&mut [0; 2]));
+    }
+}
+
+/// A character, or how many bytes are none.
+type Part = Result<char, u8>;
+
+/// What decoding delivers: bytes or code units, and for each report how many of them stood before it, and its length.
+type Delivered<U> = (Vec<U>, Vec<(usize, u8)>);
+
+/// Bytes and the parts that are expected of them, with the row that they stand in.
+struct Vector {
+    row: &'static str,
+    bytes: Vec<u8>,
+    parts: Vec<Part>,
+}
+
+impl Vector {
+    /// What decoding is to deliver.
+    fn wanted<U: Output>(&self) -> Delivered<U> {
+        let (mut text, mut reports) = (Vec::new(), Vec::new());
+        for part in &self.parts {
+            match *part {
+                Ok(character) => U::push(&mut text, character),
+                Err(length) => reports.push((text.len(), length)),
+            }
+        }
+        (text, reports)
+    }
+}
+
+/// The part that a word names: a character by its scalar value, or `?` and a length.
+fn part(word: &str) -> Part {
+    match word.strip_prefix("U+") {
+        Some(scalar) => Ok(char::from_u32(u32::from_str_radix(scalar, 16).unwrap()).unwrap()),
+        None => Err(word.strip_prefix('?').unwrap().parse().unwrap()),
+    }
+}
+
+/// The vector of a row, with `61` in front and a text behind it.
+fn vector(row: &'static str, behind: &str) -> Vector {
+    let (bytes, words) = fields(row);
+    let mut parts = vec![Ok('a')];
+    parts.extend(words.split_whitespace().map(part));
+    parts.extend(behind.chars().map(Ok));
+    Vector {
+        row,
+        bytes: [b"a".to_vec(), named(bytes), behind.into()].concat(),
+        parts,
+    }
+}
+
+/// The vectors: each row with `61` in front, once alone and once with `5A` behind.
+fn vectors() -> Vec<Vector> {
+    BYTES
+        .lines()
+        .flat_map(|row| [vector(row, ""), vector(row, "Z")])
+        .collect()
+}
+
+/// What decoding delivers, where the unread bytes are handed in again after each report. Then all is read, and nothing
+/// is pending.
+fn decoded<U: Output>(vector: &Vector) -> Delivered<U> {
+    let mut decoder = Utf8Decoder::new_inner();
+    let mut unread = &vector.bytes[..];
+    let (mut text, mut reports) = (Vec::new(), Vec::new());
+    for _ in 0..8 {
+        let mut dst = [U::UNWRITTEN; 16];
+        let (result, read, written) = U::decode(&mut decoder, unread, &mut dst, true);
+        unread = &unread[read..];
+        text.extend_from_slice(&dst[..written]);
+        match result {
+            DecoderResult::Malformed(length, 0) => reports.push((text.len(), length)),
+            DecoderResult::InputEmpty => {
+                assert!(unread.is_empty() && decoder.in_neutral_state(), "{}", vector.row);
+                return (text, reports);
+            }
+            _ => panic!("{result:?}, {}", vector.row),
+        }
+    }
+    panic!("no end, {}", vector.row);
+}
+
+#[test]
+fn delivers_the_parts() {
+    let vectors = vectors();
+    for vector in &vectors {
+        assert_eq!(decoded::<u16>(vector), vector.wanted(), "{}", vector.row);
+        assert_eq!(decoded::<u8>(vector), vector.wanted(), "{}", vector.row);
+    }
+    assert_eq!(vectors.len(), 104);
+}
+
+/// How many bytes a part takes.
+fn length_of(part: &Part) -> usize {
+    part.map_or_else(usize::from, char::len_utf8)
+}
+
+/// The parts of a vector take its bytes, each once.
+#[test]
+fn parts_take_all_bytes() {
+    let vectors = vectors();
+    for vector in &vectors {
+        let length: usize = vector.parts.iter().map(length_of).sum();
+        assert_eq!(length, vector.bytes.len(), "{}", vector.row);
+    }
+    assert_eq!(vectors.len(), 104);
+}
+
+/// What the pieces of a vector deliver, where the unread bytes are handed in, at most so many a call and the last of
+/// them marked so. Then all is read.
+fn in_pieces(vector: &Vector, most: usize) -> Delivered<u8> {
+    let mut decoder = Utf8Decoder::new_inner();
+    let mut unread = &vector.bytes[..];
+    let (mut text, mut reports) = (Vec::new(), Vec::new());
+    for _ in 0..24 {
+        let handed = &unread[..most.min(unread.len())];
+        let last = handed.len() == unread.len();
+        let (piece, read) = decoder.decode_borrowed(handed, last);
+        let front = &handed[..read];
+        unread = &unread[read..];
+        match piece {
+            Piece::Text(piece) => {
+                assert_eq!(piece.as_bytes(), front, "{}", vector.row);
+                text.extend_from_slice(front);
+            }
+            Piece::Char(character) => u8::push(&mut text, character),
+            Piece::Malformed(length) => reports.push((text.len(), length)),
+            Piece::InputEmpty if last => {
+                assert!(unread.is_empty(), "{}", vector.row);
+                return (text, reports);
+            }
+            Piece::InputEmpty => {}
+        }
+    }
+    panic!("no end, {}", vector.row);
+}
+
+/// The pieces of a vector are its parts, whole and cut after each byte, each two and each three.
+#[test]
+fn vectors_come_in_pieces() {
+    let vectors = vectors();
+    for vector in &vectors {
+        for most in [1, 2, 3, 16] {
+            assert_eq!(in_pieces(vector, most), vector.wanted(), "{}, {most}", vector.row);
+        }
+    }
+    assert_eq!(vectors.len(), 104);
+}

@@ -1,0 +1,302 @@
+//! The encoder on its vectors, into rooms round those that they need, and with and without a held unit.
+mod common;
+#[path = "common/runs.rs"]
+mod runs;
+
+use common::rows::{fields, named, Unit};
+use common::{characters, vectors};
+use encoding_text::{EncoderResult, Utf8Encoder};
+
+/// An encoder that holds what a field says: none, or D83D.
+fn encoder_at(held: &str) -> Utf8Encoder {
+    let mut encoder = Utf8Encoder::new_inner();
+    match held {
+        "none" => {}
+        "D83D" => {
+            let answer = encoder.encode_from_utf16_raw(&[0xD83D], &mut [], false);
+            assert_eq!(answer, (EncoderResult::InputEmpty, 1, 0));
+        }
+        _ => panic!("{held}"),
+    }
+    encoder
+}
+
+/// Whether an encoder holds what a field says: the query at 0 tells how many units, and a low surrogate then which.
+fn holds(mut encoder: Utf8Encoder, held: &str) -> bool {
+    let room = encoder.max_buffer_length_from_utf16_without_replacement(0);
+    let (low, pair) = match held {
+        "none" => return room == Some(0),
+        "D83D" => (0xDCA9, [0xF0, 0x9F, 0x92, 0xA9]),
+        "D800" => (0xDC00, [0xF0, 0x90, 0x80, 0x80]),
+        _ => panic!("{held}"),
+    };
+    let mut dst = [0; 4];
+    let (_, _, written) = encoder.encode_from_utf16_raw(&[low], &mut dst, true);
+    room == Some(3) && written == 4 && dst == pair
+}
+
+/// What a call is to return, to write, and to leave held.
+struct Wanted<'a> {
+    result: EncoderResult,
+    read: usize,
+    bytes: &'a [u8],
+    held: &'a str,
+}
+
+/// Looks whether a call into so much room does what is wanted, and leaves what is behind that.
+fn assert_call(
+    row: &str,
+    mut encoder: Utf8Encoder,
+    room: usize,
+    wanted: &Wanted,
+    call: impl FnOnce(&mut Utf8Encoder, &mut [u8]) -> (EncoderResult, usize, usize),
+) {
+    let mut dst = [u8::UNWRITTEN; 64];
+    let answer = call(&mut encoder, &mut dst[..room]);
+    assert_eq!(answer, (wanted.result, wanted.read, wanted.bytes.len()), "{row}");
+    let (written, behind) = dst.split_at(wanted.bytes.len());
+    assert_eq!(written, wanted.bytes, "{row}");
+    assert!(
+        behind.iter().all(|byte| *byte == u8::UNWRITTEN),
+        "{row}, behind: {behind:x?}"
+    );
+    assert!(holds(encoder, wanted.held), "{row}");
+}
+
+/// Code units and their UTF-8, with the row that they stand in.
+struct Source {
+    row: &'static str,
+    units: Vec<u16>,
+    bytes: Vec<u8>,
+}
+
+fn sources(rows: &'static str) -> Vec<Source> {
+    let source = |row| {
+        let (units, bytes) = fields(row);
+        Source {
+            row,
+            units: named(units),
+            bytes: named(bytes),
+        }
+    };
+    rows.lines().map(source).collect()
+}
+
+/// Looks whether a new encoder reads all of a source, writes these bytes with ample room, and holds this then.
+fn assert_encodes(source: &Source, last: bool, bytes: &[u8], held: &str) {
+    let wanted = Wanted {
+        result: EncoderResult::InputEmpty,
+        read: source.units.len(),
+        bytes,
+        held,
+    };
+    assert_call(source.row, Utf8Encoder::new_inner(), 64, &wanted, |encoder, dst| {
+        encoder.encode_from_utf16_raw(&source.units, dst, last)
+    });
+}
+
+/// The same is written marked last or not, but for a high surrogate that ends a call not marked last.
+#[test]
+fn encodes_vectors() {
+    let vectors = sources(vectors::UNITS);
+    for source in &vectors {
+        assert_encodes(source, true, &source.bytes, "none");
+        if source.units == [0xD800] {
+            assert_encodes(source, false, &[], "D800");
+        } else {
+            assert_encodes(source, false, &source.bytes, "none");
+        }
+    }
+    assert_eq!(vectors.len(), 16);
+}
+
+/// Looks whether a new encoder reads so many units of a source into so much room, writes so many of its bytes, and holds
+/// nothing then.
+fn assert_encodes_into(source: &Source, room: usize, result: EncoderResult, (units, bytes): (usize, usize)) {
+    let wanted = Wanted {
+        result,
+        read: units,
+        bytes: &source.bytes[..bytes],
+        held: "none",
+    };
+    assert_call(source.row, Utf8Encoder::new_inner(), room, &wanted, |encoder, dst| {
+        encoder.encode_from_utf16_raw(&source.units, dst, true)
+    });
+}
+
+/// How many units and how many bytes stand before the last character, as `std` has it.
+fn before_the_last(source: &Source) -> (usize, usize) {
+    let (units, character) = *characters(&source.units).last().unwrap();
+    (source.units.len() - units, source.bytes.len() - character.len_utf8())
+}
+
+/// Looks whether all is written into 64 bytes that hold 0, 1, 2 and so on, which those behind keep.
+fn assert_keeps_what_is_behind(source: &Source) {
+    let mut dst: [u8; 64] = std::array::from_fn(|place| place as u8);
+    let mut wanted = dst;
+    wanted[..source.bytes.len()].copy_from_slice(&source.bytes);
+    let answer = Utf8Encoder::new_inner().encode_from_utf16_raw(&source.units, &mut dst, true);
+    let all = (EncoderResult::InputEmpty, source.units.len(), source.bytes.len());
+    assert_eq!(answer, all, "{}", source.row);
+    assert_eq!(dst, wanted, "{}", source.row);
+}
+
+/// Exactly the size is enough for all, and one byte less for all characters but the last.
+#[test]
+fn writes_what_fits() {
+    let limits = sources(vectors::LIMITS);
+    for source in &limits {
+        let size = source.bytes.len();
+        let all = (source.units.len(), size);
+        assert_encodes_into(source, size, EncoderResult::InputEmpty, all);
+        assert_encodes_into(source, size - 1, EncoderResult::OutputFull, before_the_last(source));
+        assert_keeps_what_is_behind(source);
+    }
+    assert_eq!(limits.len(), 34);
+}
+
+/// The room that a query tells is enough for its units.
+#[test]
+fn three_bytes_a_unit() {
+    let mut encoder = Utf8Encoder::new_inner();
+    let mut dst = [0; 12];
+    let units = [0x2C9F, 0x2CA9, 0x2CA3, 0x2C9F];
+    assert_eq!(encoder.max_buffer_length_from_utf16_without_replacement(4), Some(12));
+    let answer = encoder.encode_from_utf16_raw(&units, &mut dst, true);
+    assert_eq!(answer, (EncoderResult::InputEmpty, 4, 12));
+    assert_eq!(
+        dst,
+        [0xE2, 0xB2, 0x9F, 0xE2, 0xB2, 0xA9, 0xE2, 0xB2, 0xA3, 0xE2, 0xB2, 0x9F]
+    );
+}
+
+/// An empty text is read whatever the mark.
+#[test]
+fn empty_text() {
+    let wanted = Wanted {
+        result: EncoderResult::InputEmpty,
+        read: 0,
+        bytes: &[],
+        held: "none",
+    };
+    assert_text("no text", "none", "", 0, &wanted);
+}
+
+/// Code units: held before, source, room, mark, result, units read, bytes written, held after. Texts, with either mark:
+/// held before, text, room, result, bytes read, bytes written, held after.
+const ROWS: &str = "\
+units | none | 0063 D83D DCA9 | 4 | more | OutputFull | 1 | 63 | none
+units | none | 0063 D83D DCA9 | 4 | last | OutputFull | 1 | 63 | none
+units | none | 263A D83D | 6 | last | InputEmpty | 2 | E2 98 BA EF BF BD | none
+units | none | D83D DCA9 | 3 | more | OutputFull | 0 | | none
+units | none | D83D DCA9 | 3 | last | OutputFull | 0 | | none
+units | none | D83D | 0 | more | InputEmpty | 1 | | D83D
+units | none | 0063 D83D | 1 | more | InputEmpty | 2 | 63 | D83D
+units | none | 0063 D83D | 0 | more | OutputFull | 0 | | none
+units | none | D83D DCA9 D83D | 3 | more | OutputFull | 0 | | none
+units | D83D | DCA9 | 3 | last | OutputFull | 0 | | D83D
+units | D83D | 0062 | 4 | more | InputEmpty | 1 | EF BF BD 62 | none
+units | D83D | 0062 | 3 | more | OutputFull | 0 | EF BF BD | none
+units | D83D | D83D | 3 | more | InputEmpty | 1 | EF BF BD | D83D
+units | D83D | | 0 | more | InputEmpty | 0 | | D83D
+units | D83D | | 2 | last | OutputFull | 0 | | D83D
+units | D83D | | 3 | last | InputEmpty | 0 | EF BF BD | none
+units | D83D | DCA9 | 4 | last | InputEmpty | 1 | F0 9F 92 A9 | none
+text | none | aä | 2 | OutputFull | 1 | 61 | none
+text | none | aä | 3 | InputEmpty | 3 | 61 C3 A4 | none
+text | none | aä | 0 | OutputFull | 0 | | none
+text | D83D | a | 4 | InputEmpty | 1 | EF BF BD 61 | none
+text | D83D | a | 3 | OutputFull | 0 | EF BF BD | none
+text | D83D | | 2 | OutputFull | 0 | | D83D";
+
+/// What the last fields of a row say: the result, how much is read, and what is held then; and the bytes that are
+/// written.
+fn wanted<'a>(row: &str, [result, read, held]: [&'a str; 3], bytes: &'a [u8]) -> Wanted<'a> {
+    Wanted {
+        result: match result {
+            "InputEmpty" => EncoderResult::InputEmpty,
+            "OutputFull" => EncoderResult::OutputFull,
+            _ => panic!("{row}"),
+        },
+        read: read.parse().unwrap(),
+        bytes,
+        held,
+    }
+}
+
+/// Looks whether the call on a text does what is wanted, with either mark: the crate's, and the library's, which the
+/// crate's doesn't make.
+fn assert_text(row: &str, before: &str, text: &str, room: usize, wanted: &Wanted) {
+    for last in [false, true] {
+        assert_call(row, encoder_at(before), room, wanted, |encoder, dst| {
+            encoder.encode_from_utf8_raw(text, dst, last)
+        });
+        let mut encoder = runs::Encoder::that_holds((before == "D83D").then_some(0xD83D));
+        let mut dst = [u8::UNWRITTEN; 64];
+        let answer = runs::encode_from_utf8(&mut encoder, text, &mut dst[..room], last);
+        assert_eq!(answer, (wanted.result, wanted.read, wanted.bytes.len()), "{row}");
+        let (written, behind) = dst.split_at(wanted.bytes.len());
+        assert_eq!(written, wanted.bytes, "{row}");
+        assert!(behind.iter().all(|byte| *byte == u8::UNWRITTEN), "{row}");
+        assert_eq!(encoder.held(), (wanted.held == "D83D").then_some(0xD83D), "{row}");
+    }
+}
+
+#[test]
+fn rows_with_and_without_a_held_unit() {
+    let mut count = 0;
+    for row in ROWS.lines() {
+        let fields: Vec<&str> = row.split('|').map(str::trim).collect();
+        let [.., result, read, bytes, held] = fields[..] else {
+            panic!("{row}");
+        };
+        let bytes = named(bytes);
+        let wanted = wanted(row, [result, read, held], &bytes);
+        match fields[..fields.len() - 4] {
+            ["units", before, units, room, mark @ ("more" | "last")] => {
+                let units: Vec<u16> = named(units);
+                assert_call(
+                    row,
+                    encoder_at(before),
+                    room.parse().unwrap(),
+                    &wanted,
+                    |encoder, dst| encoder.encode_from_utf16_raw(&units, dst, mark == "last"),
+                );
+            }
+            ["text", before, text, room] => assert_text(row, before, text, room.parse().unwrap(), &wanted),
+            _ => panic!("{row}"),
+        }
+        count += 1;
+    }
+    assert_eq!(count, 23);
+}
+
+/// The two halves of a pair in two calls.
+#[test]
+fn a_pair_cut_between_calls() {
+    let mut encoder = Utf8Encoder::new_inner();
+    let first = encoder.encode_from_utf16_raw(&[0xD83D], &mut [], false);
+    assert_eq!(first, (EncoderResult::InputEmpty, 1, 0));
+    let mut dst = [0; 4];
+    let second = encoder.encode_from_utf16_raw(&[0xDCA9], &mut dst, true);
+    assert_eq!(second, (EncoderResult::InputEmpty, 1, 4));
+    assert_eq!(dst, [0xF0, 0x9F, 0x92, 0xA9]);
+}
+
+/// Looks whether the queries return so: of the length, the most bytes for so many units, and for a text of so many bytes.
+fn assert_queries(held: &str, length: usize, from_utf16: Option<usize>, from_utf8: Option<usize>) {
+    let encoder = encoder_at(held);
+    let answers = (
+        encoder.max_buffer_length_from_utf16_without_replacement(length),
+        encoder.max_buffer_length_from_utf8_without_replacement(length),
+    );
+    assert_eq!(answers, (from_utf16, from_utf8), "{held}, {length}");
+}
+
+#[test]
+fn queries() {
+    assert_queries("none", 4, Some(12), Some(4));
+    assert_queries("D83D", 4, Some(15), Some(7));
+    assert_queries("D83D", usize::MAX - 3, None, Some(usize::MAX));
+    assert_queries("D83D", usize::MAX - 2, None, None);
+}

@@ -1,0 +1,167 @@
+//! Exact lengths in another encoding: one character or broken part among others of one kind, at each place of a text
+//! that is longer than a piece and what is left behind pieces. The crate has no calls for them, so the functions of the
+//! library are declared here.
+mod common;
+
+use common::rows::{around, fields, named, Unit};
+use encoding_text::mem::is_utf8_latin1;
+
+extern "C" {
+    fn encoding_text_mem_utf16_length_from_utf8(src: *const u8, src_length: usize) -> usize;
+    fn encoding_text_mem_utf8_length_from_utf16(src: *const u16, src_length: usize) -> usize;
+    fn encoding_text_mem_utf8_length_from_latin1(src: *const u8, src_length: usize) -> usize;
+    fn encoding_text_mem_latin1_length_from_utf8(src: *const u8, src_length: usize) -> usize;
+}
+
+fn utf16_length_from_utf8(src: &[u8]) -> usize {
+    // SAFETY: it reads so many bytes from the pointer on, which are those of the slice, and takes any.
+    unsafe { encoding_text_mem_utf16_length_from_utf8(src.as_ptr(), src.len()) }
+}
+
+fn utf8_length_from_utf16(src: &[u16]) -> usize {
+    // SAFETY: it reads so many code units from the pointer on, which are those of the slice, and takes any.
+    unsafe { encoding_text_mem_utf8_length_from_utf16(src.as_ptr(), src.len()) }
+}
+
+fn utf8_length_from_latin1(src: &[u8]) -> usize {
+    // SAFETY: it reads so many bytes from the pointer on, which are those of the slice, and takes any.
+    unsafe { encoding_text_mem_utf8_length_from_latin1(src.as_ptr(), src.len()) }
+}
+
+fn latin1_length_from_utf8(src: &[u8]) -> usize {
+    // SAFETY: it reads so many bytes from the pointer on, which are those of the slice, and refuses what isn't Latin1.
+    unsafe { encoding_text_mem_latin1_length_from_utf8(src.as_ptr(), src.len()) }
+}
+
+/// How often the filler stands in a text.
+const FILLERS_IN_TEXT: usize = 90;
+
+/// What rows say: units, and the length that they have in the other encoding.
+fn lengths<T: Unit>(rows: &str) -> Vec<(Vec<T>, usize)> {
+    let length = |row| {
+        let (units, length) = fields(row);
+        (named(units), length.trim().parse().unwrap())
+    };
+    rows.lines().map(length).collect()
+}
+
+/// Looks whether texts of each of the edges at each place among each of the fillers have the lengths of their parts;
+/// counts edges among fillers.
+fn at_each_place<T: Unit>(fillers: &str, edges: &str, length_of: fn(&[T]) -> usize) -> usize {
+    let (fillers, edges) = (lengths::<T>(fillers), lengths::<T>(edges));
+    for (filler, filler_length) in &fillers {
+        for (edge, edge_length) in &edges {
+            for before in 0..=FILLERS_IN_TEXT {
+                let text = around(filler, FILLERS_IN_TEXT, before, edge);
+                let wanted = filler_length * FILLERS_IN_TEXT + edge_length;
+                assert_eq!(length_of(&text), wanted, "{filler:x?}, {edge:x?}, {before}");
+            }
+        }
+    }
+    fillers.len() * edges.len()
+}
+
+/// Bytes that stand round others, and their number of code units.
+const BYTE_FILLERS: &str = "\
+61 | 1
+D0 B0 | 1
+E4 B8 80 | 1
+F0 9F 98 80 | 2";
+
+/// Characters and broken parts, and their number of code units: Encoding Standard, UTF-8 decoder.
+const BYTE_EDGES: &str = "\
+7F | 1
+C2 80 | 1
+E0 A0 80 | 1
+ED 9F BF | 1
+EF BF BF | 1
+F0 90 80 80 | 2
+F4 8F BF BF | 2
+80 | 1
+C2 | 1
+E2 98 | 1
+F0 9F | 1
+F0 9F 92 | 1
+C1 BF | 2
+E0 9F BF | 3
+ED A0 80 | 3
+F0 8F BF BF | 4
+F4 90 80 80 | 4
+F5 80 | 2
+E2 98 F0 9F 92 C3 | 3";
+
+#[test]
+fn code_units_of_bytes() {
+    let count = at_each_place(BYTE_FILLERS, BYTE_EDGES, utf16_length_from_utf8);
+    assert_eq!(count, 4 * 19);
+    assert_eq!(utf16_length_from_utf8(&[]), 0);
+}
+
+/// Code units that stand round others, and their number of bytes.
+const UNIT_FILLERS: &str = "\
+0061 | 1
+0430 | 2
+4E00 | 3
+D83D DE00 | 4";
+
+/// Characters and lone surrogates, and their number of bytes: Unicode Standard, section 3.9, with U+FFFD for the
+/// latter.
+const UNIT_EDGES: &str = "\
+007F | 1
+0080 | 2
+07FF | 2
+0800 | 3
+D7FF | 3
+D800 DC00 | 4
+DBFF DFFF | 4
+DE00 D83D | 6
+D83D 0061 | 4
+E000 | 3
+FFFF | 3";
+
+#[test]
+fn bytes_of_code_units() {
+    let count = at_each_place(UNIT_FILLERS, UNIT_EDGES, utf8_length_from_utf16);
+    assert_eq!(count, 4 * 11);
+    assert_eq!(utf8_length_from_utf16(&[]), 0);
+}
+
+/// Bytes that stand round another, and the length of the UTF-8 of each.
+const LATIN1_FILLERS: [(u8, usize); 2] = [(0x61, 1), (0xE4, 2)];
+
+/// Bytes at the edges of lengths and of first bytes, and the UTF-8 of each.
+const LATIN1_EDGES: [(u8, &[u8]); 4] = [
+    (0x7F, &[0x7F]),
+    (0x80, &[0xC2, 0x80]),
+    (0xC0, &[0xC3, 0x80]),
+    (0xFF, &[0xC3, 0xBF]),
+];
+
+/// Each byte, at each place of so many of another, has its UTF-8 beside theirs; and its UTF-8 among letters is Latin1
+/// with one character for each byte.
+#[test]
+fn latin1_and_its_utf8() {
+    for (filler, filler_length) in LATIN1_FILLERS {
+        for (byte, utf8) in LATIN1_EDGES {
+            for before in 0..=FILLERS_IN_TEXT {
+                let bytes = around(&[filler], FILLERS_IN_TEXT, before, &[byte]);
+                let wanted = filler_length * FILLERS_IN_TEXT + utf8.len();
+                assert_eq!(
+                    utf8_length_from_latin1(&bytes),
+                    wanted,
+                    "{filler:x}, {byte:x}, {before}"
+                );
+                let text = around(&[0x61], FILLERS_IN_TEXT, before, utf8);
+                assert_latin1_of_length(&text, bytes.len());
+            }
+        }
+    }
+    assert_eq!(utf8_length_from_latin1(&[]), 0);
+    assert_latin1_of_length(&[], 0);
+}
+
+/// Looks whether the text is Latin1 in UTF-8 and has so many characters.
+fn assert_latin1_of_length(text: &[u8], length: usize) {
+    assert!(is_utf8_latin1(text), "{text:x?}");
+    assert_eq!(latin1_length_from_utf8(text), length, "{text:x?}");
+}

@@ -1,0 +1,57 @@
+//! Bounded conversions into each room: how much fits, and that what is behind it stays.
+
+use encoding_text::mem::{convert_latin1_to_utf8_partial, convert_utf16_to_utf8_partial};
+use std::fmt::Debug;
+
+/// How many units are read and bytes written, where the unit behind so many letters has this size in UTF-8, and all
+/// others are letters.
+fn longest_front(letters: usize, size: usize, length: usize, room: usize) -> (usize, usize) {
+    if room < letters {
+        return (room, room);
+    }
+    if room - letters < size {
+        return (letters, letters);
+    }
+    let more = size - 1;
+    let written = room.min(length + more);
+    (written - more, written)
+}
+
+/// Looks whether as much is read and written as fits into each room, of up to so many bytes for each unit, and `q`
+/// stays behind it. A unit that has this size in UTF-8 stands behind letters and before forty letters.
+fn assert_tails_stay<S: Copy + Debug + From<u8>>(
+    (unit, size): (S, usize),
+    bytes_each: usize,
+    convert: fn(&[S], &mut [u8]) -> (usize, usize),
+) {
+    for letters in 0..70 {
+        let length = letters + 41;
+        let mut src = [S::from(b'b'); 110];
+        src[..letters].fill(b'a'.into());
+        src[letters] = unit;
+        for room in 0..=bytes_each * length {
+            let mut dst = [b'q'; 330];
+            let (read, written) = convert(&src[..length], &mut dst[..room]);
+            let wanted = longest_front(letters, size, length, room);
+            assert_eq!((read, written), wanted, "{unit:x?}, {letters}, {room}");
+            let stays = dst[written..].iter().all(|byte| *byte == b'q');
+            assert!(stays, "{unit:x?}, {letters}, {room}");
+        }
+    }
+}
+
+/// A byte of two behind letters and before forty letters, into each room.
+#[test]
+fn latin1_tails_stay() {
+    for high in [0x80, 0xA0, 0xCA, 0xE4, 0xFF] {
+        assert_tails_stay((high, 2), 2, convert_latin1_to_utf8_partial);
+    }
+}
+
+/// A unit of two or three bytes behind letters and before forty letters, into each room.
+#[test]
+fn utf16_tails_stay() {
+    for unit in [(0x00CA, 2), (0x00E4, 2), (0x4E00, 3), (0xD83D, 3), (0xDCA9, 3)] {
+        assert_tails_stay(unit, 3, convert_utf16_to_utf8_partial);
+    }
+}

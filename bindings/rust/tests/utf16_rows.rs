@@ -1,0 +1,209 @@
+//! UTF-16 to UTF-8 and back on a text with characters of one to four bytes, and on short rows: whole, bounded, the two
+//! halves of the bounded conversion, and broken bytes.
+mod common;
+
+use common::characters;
+use common::rows::{assert_written, fields, named, Unit};
+use encoding_text::decoder::Piece;
+use encoding_text::mem::*;
+use encoding_text::utf_8::*;
+use encoding_text::DecoderResult;
+
+/// The letters from a to u, U+1F4A9, v, U+2603, w, U+00B6, xyzz in UTF-16.
+const UNITS: [u16; 31] = [
+    0x0061, 0x0062, 0x0063, 0x0064, 0x0065, 0x0066, 0x0067, 0x0068, 0x0069, 0x006A, 0x006B, 0x006C, 0x006D, 0x006E,
+    0x006F, 0x0070, 0x0071, 0x0072, 0x0073, 0x0074, 0x0075, 0xD83D, 0xDCA9, 0x0076, 0x2603, 0x0077, 0x00B6, 0x0078,
+    0x0079, 0x007A, 0x007A,
+];
+
+/// The letters from a to u, U+1F4A9, v, U+2603, w, U+00B6, xyzz in UTF-8.
+const BYTES: [u8; 36] = [
+    0x61, 0x62, 0x63, 0x64, 0x65, 0x66, 0x67, 0x68, 0x69, 0x6A, 0x6B, 0x6C, 0x6D, 0x6E, 0x6F, 0x70, 0x71, 0x72, 0x73,
+    0x74, 0x75, 0xF0, 0x9F, 0x92, 0xA9, 0x76, 0xE2, 0x98, 0x83, 0x77, 0xC2, 0xB6, 0x78, 0x79, 0x7A, 0x7A,
+];
+
+/// The text.
+const TEXT: &str = "abcdefghijklmnopqrstu\u{1F4A9}v\u{2603}w\u{B6}xyzz";
+
+#[test]
+fn the_text_has_these_bytes() {
+    assert_eq!(TEXT.as_bytes(), BYTES);
+}
+
+#[test]
+fn one_call_takes_the_text() {
+    assert_eq!(utf8_valid_up_to(&BYTES), 36);
+
+    let mut units = [0x71; 38];
+    let answer = Utf8Decoder::new_inner().decode_to_utf16_raw(&BYTES, &mut units, true);
+    assert_eq!(answer, (DecoderResult::InputEmpty, 36, 31));
+    assert_written(&UNITS, 0, &units);
+
+    let mut bytes = [0x71; 40];
+    let answer = Utf8Decoder::new_inner().decode_to_utf8_raw(&BYTES, &mut bytes, true);
+    assert_eq!(answer, (DecoderResult::InputEmpty, 36, 36));
+    assert_written(&BYTES, 0, &bytes);
+
+    let answer = Utf8Decoder::new_inner().decode_borrowed(&BYTES, true);
+    assert_eq!(answer, (Piece::Text(TEXT), 36));
+
+    let mut bytes = [0x71; 40];
+    let answer = Utf8Encoder::new_inner().encode_from_utf16_raw(&UNITS, &mut bytes, true);
+    assert_eq!(answer, (EncoderResult::InputEmpty, 31, 36));
+    assert_written(&BYTES, 0, &bytes);
+
+    let mut bytes = [0x71; 40];
+    let answer = Utf8Encoder::new_inner().encode_from_utf8_raw(TEXT, &mut bytes, true);
+    assert_eq!(answer, (EncoderResult::InputEmpty, 36, 36));
+    assert_written(&BYTES, 0, &bytes);
+}
+
+#[test]
+fn converts_a_text_to_utf8() {
+    let mut dst = [0x71; 94];
+    assert_eq!(convert_utf16_to_utf8(&UNITS, &mut dst), 36);
+    assert_written(&BYTES, 0, &dst);
+}
+
+#[test]
+fn converts_a_text_to_utf8_in_two() {
+    let mut first = [0x71; 24];
+    assert_eq!(convert_utf16_to_utf8_partial(&UNITS, &mut first), (21, 21));
+    assert_written(&BYTES[..21], 0, &first);
+    let mut second = [0x71; 73];
+    assert_eq!(convert_utf16_to_utf8(&UNITS[21..], &mut second), 15);
+    assert_written(&BYTES[21..], 0, &second);
+}
+
+/// Looks whether a destination begins with these bytes, and is as before behind them.
+fn assert_begins(row: &str, bytes: &[u8], dst: &[u8]) {
+    let (written, behind) = dst.split_at(bytes.len());
+    assert_eq!(written, bytes, "{row}");
+    assert!(
+        behind.iter().all(|byte| *byte == u8::UNWRITTEN),
+        "{row}, behind: {behind:x?}"
+    );
+}
+
+/// Units, room, units read, bytes written.
+const TAILS: &str = "\
+D83D DCA9 | 3 | 0 |
+D83D 0062 | 3 | 1 | EF BF BD
+0061 00E4 | 2 | 1 | 61
+2603 | 2 | 0 |";
+
+#[test]
+fn tails() {
+    let mut count = 0;
+    for row in TAILS.lines() {
+        let fields: Vec<&str> = row.split('|').map(str::trim).collect();
+        let [units, room, read, bytes] = fields[..] else {
+            panic!("{row}");
+        };
+        let (units, bytes): (Vec<u16>, Vec<u8>) = (named(units), named(bytes));
+        let (room, read): (usize, usize) = (room.parse().unwrap(), read.parse().unwrap());
+        let mut dst = [u8::UNWRITTEN; 3];
+        let answer = convert_utf16_to_utf8_partial_tail(&units, &mut dst[..room]);
+        assert_eq!(answer, (read, bytes.len()), "{row}");
+        assert_begins(row, &bytes, &dst);
+        count += 1;
+    }
+    assert_eq!(count, 4);
+}
+
+/// Sources and their UTF-8. There are characters of each length, cut pairs, and pairs at the end.
+const SOURCES: &str = "\
+|
+0062 | 62
+00E4 2603 D83D DCA9 0062 | C3 A4 E2 98 83 F0 9F 92 A9 62
+D83D DCA9 | F0 9F 92 A9
+D83D D83D DCA9 DCA9 | EF BF BD F0 9F 92 A9 EF BF BD
+2603 2603 2603 D83D | E2 98 83 E2 98 83 E2 98 83 EF BF BD
+DCA9 0061 0061 0061 0061 | EF BF BD 61 61 61 61
+0061 0062 0063 0064 0065 0066 0067 0068 0069 006A 006B 006C 006D 006E 006F 0070 0071 0072 0073 0074 0075 \
+D83D DCA9 0076 2603 0077 00B6 0078 0079 007A 007A | \
+61 62 63 64 65 66 67 68 69 6A 6B 6C 6D 6E 6F 70 71 72 73 74 75 F0 9F 92 A9 76 E2 98 83 77 C2 B6 78 79 7A 7A";
+
+/// Whether so many units are a prefix of whole characters, and so many bytes its UTF-8.
+fn is_front(units: &[u16], read: usize, written: usize) -> bool {
+    let (mut end, mut length) = (0, 0);
+    for (units, character) in characters(units) {
+        if end < read {
+            end += units;
+            length += character.len_utf8();
+        }
+    }
+    (end, length) == (read, written)
+}
+
+/// Looks whether the inner half writes a prefix of whole characters, and reads all or leaves at most three bytes free.
+/// Which characters it leaves is open.
+fn assert_inner(row: &str, units: &[u16], bytes: &[u8], room: usize) {
+    let mut dst = [u8::UNWRITTEN; 40];
+    let (read, written) = convert_utf16_to_utf8_partial_inner(units, &mut dst[..room]);
+    assert!(read == units.len() || room <= written + 3, "{row}, {room}: {written}");
+    assert!(is_front(units, read, written), "{row}, {room}: {read}, {written}");
+    assert_begins(row, &bytes[..written], &dst);
+}
+
+#[test]
+fn inner_fills_all_but_three_bytes() {
+    let mut count = 0;
+    for row in SOURCES.lines() {
+        let (units, bytes) = fields(row);
+        let (units, bytes): (Vec<u16>, Vec<u8>) = (named(units), named(bytes));
+        assert!(is_front(&units, units.len(), bytes.len()), "{row}");
+        for room in 0..=40 {
+            assert_inner(row, &units, &bytes, room);
+        }
+        count += 1;
+    }
+    assert_eq!(count, 8);
+}
+
+#[test]
+fn converts_what_fits() {
+    let mut one = [0x71];
+    let answer = convert_utf8_to_utf16_up_to_invalid(&[0xF0, 0x9F, 0x92, 0xA9], &mut one);
+    assert_eq!((answer, one), ((0, 0), [0x71]));
+    let mut two = [0x71; 2];
+    let src = [0xE2, 0x98, 0x83, 0xF0, 0x9F, 0x92, 0xA9];
+    let answer = convert_utf8_to_utf16_up_to_invalid(&src, &mut two);
+    assert_eq!((answer, two), ((3, 1), [0x2603, 0x71]));
+}
+
+#[test]
+fn replaces_broken_parts() {
+    let mut dst = [0x71; 6];
+    let written = convert_utf8_to_utf16(&[0x61, 0xF0, 0x9F, 0x92, 0xC2], &mut dst);
+    assert_eq!((written, dst), (3, [0x0061, 0xFFFD, 0xFFFD, 0x71, 0x71, 0x71]));
+}
+
+/// The longest well-formed prefix is written also where the bytes are refused.
+#[test]
+fn refuses_broken_parts() {
+    let mut dst = [0x71; 4];
+    let answer = convert_utf8_to_utf16_without_replacement(&[0x61, 0xC3, 0xA4, 0xFF], &mut dst);
+    assert_eq!((answer, dst), (None, [0x0061, 0x00E4, 0x71, 0x71]));
+
+    let mut dst = [0x71; 36];
+    let answer = convert_utf8_to_utf16_without_replacement(&BYTES, &mut dst);
+    assert_eq!(answer, Some(31));
+    assert_written(&UNITS, 0, &dst);
+}
+
+#[test]
+fn converts_a_text_to_utf16() {
+    let mut dst = [0x71; 37];
+    assert_eq!(convert_utf8_to_utf16(&BYTES, &mut dst), 31);
+    assert_written(&UNITS, 0, &dst);
+
+    let mut dst = [0x71; 37];
+    assert_eq!(convert_utf8_to_utf16_up_to_invalid(&BYTES, &mut dst), (36, 31));
+    assert_written(&UNITS, 0, &dst);
+
+    assert_eq!(TEXT.len(), 36);
+    let mut dst = [0x71; 36];
+    assert_eq!(convert_str_to_utf16(TEXT, &mut dst), 31);
+    assert_written(&UNITS, 0, &dst);
+}

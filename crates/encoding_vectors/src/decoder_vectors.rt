@@ -1,0 +1,154 @@
+//! The decoder's vectors: bytes, and the parts that they are. UTF-8 decoder of the Encoding Standard.
+
+use crate::texts::{bytes_of, field};
+use Expected::{Broken, Character};
+use std::alloc::{AllocError, Global};
+use std::test::Fail;
+
+/// A part that is expected: a character, or so many bytes that are none.
+#[derive(Drop)]
+pub enum Expected {
+    Character(char),
+    Broken(usize),
+}
+
+/// Bytes and the parts that are expected of them, with the row that they stand in.
+#[derive(Drop)]
+pub struct Vector {
+    pub row: &'static str,
+    pub bytes: Vec<u8>,
+    pub parts: Vec<Expected>,
+}
+
+/// Bytes and their parts: characters by their scalar values, and `?` with the length of what is none.
+const ROWS: &str = "\
+|
+C3 A4 | U+00E4
+E2 98 83 | U+2603
+F0 9F 92 A9 | U+1F4A9
+C3 | ?1
+E2 98 | ?2
+F0 9F 92 | ?3
+BF | ?1
+BF BF | ?1 ?1
+C3 A4 80 | U+00E4 ?1
+C3 A4 BF | U+00E4 ?1
+E2 98 83 80 | U+2603 ?1
+E2 98 83 BF | U+2603 ?1
+F0 9F 92 A9 80 | U+1F4A9 ?1
+F0 9F 92 A9 BF | U+1F4A9 ?1
+00 | U+0000
+C0 80 | ?1 ?1
+E0 80 80 | ?1 ?1 ?1
+F0 80 80 80 | ?1 ?1 ?1 ?1
+FF | ?1
+7F | U+007F
+C1 BF | ?1 ?1
+E0 81 BF | ?1 ?1 ?1
+F0 80 81 BF | ?1 ?1 ?1 ?1
+80 | ?1
+80 80 | ?1 ?1
+80 80 80 | ?1 ?1 ?1
+80 80 80 80 | ?1 ?1 ?1 ?1
+C2 80 | U+0080
+E0 82 80 | ?1 ?1 ?1
+F0 80 82 80 | ?1 ?1 ?1 ?1
+C1 80 | ?1 ?1
+C2 7F | ?1 U+007F
+DF BF | U+07FF
+E0 9F BF | ?1 ?1 ?1
+F0 80 9F BF | ?1 ?1 ?1 ?1
+E0 A0 80 | U+0800
+F0 80 A0 80 | ?1 ?1 ?1 ?1
+ED 9F BF | U+D7FF
+F0 8D 9F BF | ?1 ?1 ?1 ?1
+ED A0 80 | ?1 ?1 ?1
+F0 8D A0 80 | ?1 ?1 ?1 ?1
+ED BF BF | ?1 ?1 ?1
+F0 8D BF BF | ?1 ?1 ?1 ?1
+EE 80 80 | U+E000
+F0 8E 80 80 | ?1 ?1 ?1 ?1
+EF BF BF | U+FFFF
+F0 8F BF BF | ?1 ?1 ?1 ?1
+F0 90 80 80 | U+10000
+F4 8F BF BF | U+10FFFF
+F4 90 80 80 | ?1 ?1 ?1 ?1
+F4 8F BF FF | ?3 ?1";
+
+/// Returns the vectors: each row with `61` in front, once alone and once with `5A` behind.
+pub fn vectors(alloc: Global) -> Result<Vec<Vector>, Fail> {
+    let mut vectors = Vec::new(alloc);
+    for row in ROWS.lines() {
+        vectors.push(vector_of(alloc, row, b"")?)?;
+        vectors.push(vector_of(alloc, row, b"Z")?)?;
+    }
+    Ok(vectors)
+}
+
+/// Returns the vector of a row, with letters behind it.
+fn vector_of(alloc: Global, row: &'static str, behind: &[u8]) -> Result<Vector, Fail> {
+    let mut rest = row;
+    let bytes = framed_bytes(alloc, &bytes_of(alloc, field(&mut rest))?, behind)?;
+    let parts = framed_parts(alloc, rest, behind)?;
+    Ok(Vector { row, bytes, parts })
+}
+
+/// Returns `61`, the bytes, and the letters.
+fn framed_bytes(alloc: Global, bytes: &[u8], behind: &[u8]) -> Result<Vec<u8>, AllocError> {
+    let mut framed = Vec::new(alloc);
+    framed.push(b'a')?;
+    framed.extend_from_slice(bytes)?;
+    framed.extend_from_slice(behind)?;
+    Ok(framed)
+}
+
+/// Returns the parts of the same.
+fn framed_parts(alloc: Global, words: &str, behind: &[u8]) -> Result<Vec<Expected>, Fail> {
+    let mut parts = Vec::new(alloc);
+    parts.push(Character('a'))?;
+    for word in words.split_whitespace() {
+        parts.push(part_of(word)?)?;
+    }
+    for letter in behind {
+        parts.push(Character(char::from(*letter)))?;
+    }
+    Ok(parts)
+}
+
+/// Returns the part that a word names.
+fn part_of(word: &str) -> Result<Expected, Fail> {
+    match word {
+        "?1" => Ok(Broken(1)),
+        "?2" => Ok(Broken(2)),
+        "?3" => Ok(Broken(3)),
+        _ => Ok(Character(scalar_of(word)?)),
+    }
+}
+
+/// Returns the scalar value that a word such as `U+00E4` names.
+fn scalar_of(word: &str) -> Result<char, Fail> {
+    let digits = word.strip_prefix("U+").ok_or("no scalar value")?;
+    Ok(char::from_u32(u32::from_str_radix(digits, 16)?).ok_or("no scalar value")?)
+}
+
+/// Returns the repaired text: the characters, and U+FFFD for each broken part.
+pub fn repaired_text(alloc: Global, vector: &Vector) -> Result<Vec<u8>, AllocError> {
+    let mut text = Vec::new(alloc);
+    for part in &vector.parts {
+        match part {
+            Character(scalar) => {
+                text.extend_from_slice(scalar.encode_utf8(&mut [0; 4]).as_bytes())?;
+            }
+            Broken(_) => text.extend_from_slice(&[0xEF, 0xBF, 0xBD])?,
+        }
+    }
+    Ok(text)
+}
+
+/// Returns how many bytes a part takes.
+pub fn length_of(part: &Expected) -> usize {
+    match part {
+        Character(scalar) => scalar.len_utf8(),
+        Broken(length) => *length,
+    }
+}

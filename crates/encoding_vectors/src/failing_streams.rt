@@ -1,0 +1,208 @@
+//! Streams that give and take few bytes a call, and that fail at each place: the vectors, and long input with broken
+//! parts over the ends of rounds.
+
+use crate::decoder_vectors::vectors;
+use crate::parts::{Parts, settled_length};
+use crate::texts::bytes_of;
+use encoding_runs::repair::{RepairFault, Repaired, Watch, repair};
+use std::alloc::{AllocError, Global};
+use std::io::ErrorKind;
+use std::test::Fail;
+use test_support::streams::{Compared, Input};
+
+/// How many bytes are read at a time at most.
+const ROUND: usize = 1024;
+
+/// How many bytes a read gives, and a write takes.
+const STEPS: [(usize, usize); 4] = [(1, 1), (1, 10_000), (10_000, 1), (10_000, 10_000)];
+
+/// Bytes that are repaired, and their text.
+#[derive(Drop)]
+struct Case<'a> {
+    bytes: &'a [u8],
+    text: &'a [u8],
+    steps: (usize, usize),
+}
+
+impl Case<'_> {
+    /// Whether a repair of what a reader gives returns so, and writes so much of the text and nothing else, and asks
+    /// neither stream again once it has failed.
+    fn repairs_to(
+        &self,
+        reader: &mut Input<'_>,
+        writer: &mut Compared<'_>,
+        limit: u64,
+        outcome: Result<Repaired, RepairFault>,
+        written: usize,
+    ) -> bool {
+        let returned = repair(
+            &mut Watch::new(&mut *reader),
+            &mut Watch::new(&mut *writer),
+            limit,
+        );
+        let behind = match returned {
+            Ok(_) | Err(RepairFault::Read) => 1,
+            Err(_) => reader.asked_behind.min(1),
+        };
+        returned == outcome
+            && writer.same
+            && writer.taken == written
+            && writer.asked_behind == 0
+            && reader.asked_behind == behind
+    }
+
+    /// Whether all is repaired, with so many parts replaced.
+    fn is_repaired(&self, replaced: u64) -> bool {
+        let mut reader = Input::of(self.bytes, self.steps.0);
+        let mut writer = Compared::with(self.text, self.steps.1);
+        let read = self.bytes.len() as u64;
+        let outcome = Ok(Repaired { read, replaced });
+        self.repairs_to(&mut reader, &mut writer, u64::MAX, outcome, self.text.len())
+    }
+
+    /// Whether the settled text of so many bytes is written where the next read fails, and where these are the limit.
+    fn stops_reading_at(&self, place: usize, kind: ErrorKind) -> bool {
+        let front = self.bytes.get(..place).unwrap_or(&[]);
+        let settled = settled_length(front);
+        let mut reader = Input::that_fails(front, kind).by_steps_of(self.steps.0);
+        let mut writer = Compared::with(self.text, self.steps.1);
+        let fails = self.repairs_to(
+            &mut reader,
+            &mut writer,
+            u64::MAX,
+            Err(RepairFault::Read),
+            settled,
+        );
+        let mut reader = Input::of(self.bytes, self.steps.0);
+        let mut writer = Compared::with(self.text, self.steps.1);
+        let limit = front.len() as u64;
+        fails
+            && self.repairs_to(
+                &mut reader,
+                &mut writer,
+                limit,
+                Err(RepairFault::Limit),
+                settled,
+            )
+            && reader.asked_behind == 0
+    }
+
+    /// Whether a repair stops where the writer took so many bytes, and what was settled before the last read was
+    /// written before it.
+    fn stops_writing_at(&self, place: usize, fault: Option<ErrorKind>) -> bool {
+        let mut reader = Input::of(self.bytes, self.steps.0);
+        let mut writer = Compared::with(self.text, self.steps.1).that_takes(place, fault);
+        let stops = self.repairs_to(
+            &mut reader,
+            &mut writer,
+            u64::MAX,
+            Err(RepairFault::Write),
+            place,
+        );
+        let earlier = reader.asked.saturating_sub(1);
+        let given = earlier
+            .saturating_mul(self.steps.0.min(ROUND))
+            .min(self.bytes.len());
+        stops && settled_length(self.bytes.get(..given).unwrap_or(&[])) <= place
+    }
+
+    /// Whether it stops at each place from one to another, whatever stream fails, and however.
+    fn stops_between(&self, start: usize, end: usize) -> bool {
+        (start..end).all(|place| {
+            let reads = place > self.bytes.len()
+                || self.stops_reading_at(place, ErrorKind::Other)
+                    && self.stops_reading_at(place, ErrorKind::Interrupted);
+            let writes = place >= self.text.len()
+                || self.stops_writing_at(place, None)
+                    && self.stops_writing_at(place, Some(ErrorKind::Other))
+                    && self.stops_writing_at(place, Some(ErrorKind::Interrupted));
+            reads && writes
+        })
+    }
+}
+
+/// Whether bytes are repaired to what std makes of them by streams of all kinds, and stop at each place from one to
+/// another.
+fn holds(
+    alloc: Global,
+    bytes: &[u8],
+    replaced: u64,
+    start: usize,
+    end: usize,
+) -> Result<bool, AllocError> {
+    let text = String::from_utf8_lossy(alloc, bytes)?;
+    Ok(
+        STEPS.iter().all(|steps| {
+            let case = Case {
+                bytes,
+                text: text.as_bytes(),
+                steps: *steps,
+            };
+            case.is_repaired(replaced) && case.stops_between(start, end)
+        }),
+    )
+}
+
+#[test]
+fn vectors_at_each_place(rt: HostRuntime) -> Result<(), Fail> {
+    let vectors = vectors(rt.alloc())?;
+    for vector in &vectors {
+        let replaced = Parts::of_vector(vector).broken_count();
+        assert!(rt;
+            holds(rt.alloc(), &vector.bytes, replaced, 0, 20)?,
+            "{}",
+            vector.row
+        );
+    }
+    assert!(rt; vectors.len() == 104);
+    Ok(())
+}
+
+/// Parts: characters and broken ones.
+const PARTS: &str = "\
+FF
+C3
+E2 98
+F0 9F 92
+ED A0 80
+E2 98 83
+F0 9F 92 A9";
+
+/// Returns 5,000 letters with a part at a place and 1,024 bytes behind it.
+fn long_input(alloc: Global, part: &[u8], place: usize) -> Result<Vec<u8>, AllocError> {
+    let mut input = Vec::new(alloc);
+    for _ in 0..5000 {
+        input.push(0x61)?;
+    }
+    for (at, byte) in part.iter().enumerate() {
+        let first = place.saturating_add(at);
+        for second in [first, first.saturating_add(ROUND)] {
+            if let Some(letter) = input.get_mut(second) {
+                *letter = *byte;
+            }
+        }
+    }
+    Ok(input)
+}
+
+/// Over the first two ends of a round, and at the end.
+#[test]
+fn rounds_at_each_place(rt: HostRuntime) -> Result<(), Fail> {
+    let mut count = 0u32;
+    for row in PARTS.lines() {
+        let part = bytes_of(rt.alloc(), row)?;
+        let replaced = Parts::of(&part).broken_count().saturating_mul(2);
+        for place in 1021..1028 {
+            let input = long_input(rt.alloc(), &part, place)?;
+            for (start, end) in [(1018, 1034), (2042, 2058), (4998, 5002)] {
+                assert!(rt;
+                    holds(rt.alloc(), &input, replaced, start, end)?,
+                    "{row}, {place}, {start}"
+                );
+            }
+        }
+        count = count.saturating_add(1);
+    }
+    assert!(rt; count == 7);
+    Ok(())
+}

@@ -1,0 +1,156 @@
+//! What `repair_slice`, `utf8_valid_up_to` and `Watch` return.
+
+use crate::decoder_vectors::{Expected, Vector, length_of, repaired_text, vectors};
+use crate::texts::{bytes_of, field};
+use encoding_runs::repair::{RepairFault, Sink, Watch, repair_slice};
+use encoding_text::utf_8::utf8_valid_up_to;
+use std::alloc::{AllocError, Global};
+use std::io::ErrorKind;
+use std::test::Fail;
+use test_support::streams::{Output, ROOM};
+
+fn is_broken(part: &Expected) -> bool {
+    matches!(part, Expected::Broken(_))
+}
+
+/// Returns how many parts are broken.
+pub fn broken_count(vector: &Vector) -> u64 {
+    let mut count = 0u64;
+    for part in &vector.parts {
+        if is_broken(part) {
+            count = count.saturating_add(1);
+        }
+    }
+    count
+}
+
+/// Returns the length of the characters before the first broken part.
+fn valid_length(vector: &Vector) -> usize {
+    let mut length = 0usize;
+    for part in &vector.parts {
+        if is_broken(part) {
+            return length;
+        }
+        length = length.saturating_add(length_of(part));
+    }
+    length
+}
+
+/// Whether the bytes are repaired to the text, with so many parts replaced, by a writer that takes so many bytes a call.
+fn repairs_to(bytes: &[u8], text: &[u8], replaced: u64, step: usize) -> bool {
+    let mut output = Output::by_steps_of(step);
+    repair_slice(bytes, &mut Watch::new(&mut output)) == Ok(replaced) && output.written() == text
+}
+
+/// Whether a vector's bytes are repaired, whatever the writer takes a call, and the end of their text is found.
+fn is_repaired(alloc: Global, vector: &Vector) -> Result<bool, AllocError> {
+    let text = repaired_text(alloc, vector)?;
+    let replaced = broken_count(vector);
+    Ok(
+        repairs_to(&vector.bytes, &text, replaced, 1)
+            && repairs_to(&vector.bytes, &text, replaced, 2)
+            && repairs_to(&vector.bytes, &text, replaced, ROOM)
+            && utf8_valid_up_to(&vector.bytes) == valid_length(vector),
+    )
+}
+
+#[test]
+fn repairs_vectors(rt: HostRuntime) -> Result<(), Fail> {
+    let vectors = vectors(rt.alloc())?;
+    for vector in &vectors {
+        assert!(rt; is_repaired(rt.alloc(), vector)?, "{}", vector.row);
+    }
+    assert!(rt; vectors.len() == 104);
+    Ok(())
+}
+
+#[test]
+fn finds_the_end_of_text(rt: HostRuntime) {
+    assert!(rt; utf8_valid_up_to(&[0x61, 0xE2, 0x98]) == 1);
+    assert!(rt; utf8_valid_up_to(&[]) == 0);
+}
+
+/// Bytes, what they are repaired to, and how many parts are replaced.
+const ROWS: &str = "\
+E2 98 83 | E2 98 83 | 0
+61 F0 9F 92 | 61 EF BF BD | 1
+61 E2 98 5A | 61 EF BF BD 5A | 1
+61 E0 80 80 | 61 EF BF BD EF BF BD EF BF BD | 3
+61 C2 7F | 61 EF BF BD 7F | 1
+| | 0";
+
+fn row_holds(alloc: Global, row: &str) -> Result<bool, Fail> {
+    let mut rest = row;
+    let bytes = bytes_of(alloc, field(&mut rest))?;
+    let text = bytes_of(alloc, field(&mut rest))?;
+    let replaced = field(&mut rest).parse::<u64>()?;
+    Ok(repairs_to(&bytes, &text, replaced, ROOM))
+}
+
+#[test]
+fn repairs_rows(rt: HostRuntime) -> Result<(), Fail> {
+    let mut count = 0u32;
+    for row in ROWS.lines() {
+        assert!(rt; row_holds(rt.alloc(), row)?, "{row}");
+        count = count.saturating_add(1);
+    }
+    assert!(rt; count == 6);
+    Ok(())
+}
+
+/// Whether the repair stops with a writer that takes so many bytes of the text in all, which has these then.
+fn stops_at(bytes: &[u8], text: &[u8], taken: usize, fault: Option<ErrorKind>) -> bool {
+    let mut output = Output::that_takes(taken, fault);
+    let mut sink = Watch::new(&mut output);
+    let result = repair_slice(bytes, &mut sink);
+    sink.failed()
+        && result == Err(RepairFault::Write)
+        && text.get(..taken) == Some(output.written())
+}
+
+/// Whether it stops so wherever a writer fails, or takes none.
+fn stops(bytes: &[u8], text: &[u8]) -> bool {
+    (0..text.len()).all(|taken| {
+        stops_at(bytes, text, taken, None)
+            && stops_at(bytes, text, taken, Some(ErrorKind::Other))
+            && stops_at(bytes, text, taken, Some(ErrorKind::Interrupted))
+    })
+}
+
+/// A writer that takes so many bytes in all has these, and the repair stops.
+#[test]
+fn stops_where_the_writer_does(rt: HostRuntime) {
+    assert!(rt; stops(&[0x61, 0xFF], &[0x61, 0xEF, 0xBF, 0xBD]));
+    assert!(rt; stops(b"abc", b"abc"));
+    assert!(rt;
+        stops(
+            &[0xE2, 0x98, 0x83, 0xFF],
+            &[0xE2, 0x98, 0x83, 0xEF, 0xBF, 0xBD]
+        )
+    );
+}
+
+/// Whether a write takes so many bytes, and the sink has failed then exactly where it took none.
+fn writes(sink: &mut Watch<'_, Output>, bytes: &[u8], taken: Option<usize>) -> bool {
+    !bytes.is_empty() && sink.write(bytes) == taken && sink.failed() == taken.is_none()
+}
+
+/// A watched stream is asked at each call, and has failed once it took no byte.
+fn watches_a_fault(fault: Option<ErrorKind>) -> bool {
+    let mut output = Output::that_takes(3, fault);
+    let mut sink = Watch::new(&mut output);
+    !sink.failed()
+        && writes(&mut sink, b"ab", Some(2))
+        && writes(&mut sink, b"cd", Some(1))
+        && writes(&mut sink, b"d", None)
+        && writes(&mut sink, b"d", None)
+        && output.written() == b"abc".as_slice()
+        && output.asked == 4
+}
+
+#[test]
+fn watches(rt: HostRuntime) {
+    assert!(rt; watches_a_fault(None));
+    assert!(rt; watches_a_fault(Some(ErrorKind::Other)));
+    assert!(rt; watches_a_fault(Some(ErrorKind::Interrupted)));
+}

@@ -1,0 +1,283 @@
+//! What `repair` reads, writes and returns, and a watched stream as a source.
+
+use crate::decoder_vectors::{Vector, repaired_text, vectors};
+use crate::repair_rows::broken_count;
+use crate::texts::{bytes_of, field, number_of};
+use encoding_runs::repair::{RepairFault, Repaired, Sink, Source, Watch, repair};
+use std::alloc::Global;
+use std::io::{ErrorKind, Read};
+use std::test::Fail;
+use test_support::streams::{Endless, Input, Output, ROOM};
+
+/// The bytes that the reader gives; whether it ends behind them or fails; the limit; what is returned: a fault, or how
+/// many bytes were read and how many parts replaced; and what was written.
+const ROWS: &str = "\
+ | ends | 100 | 0 0 |
+61 E2 98 5A | ends | 100 | 4 1 | 61 EF BF BD 5A
+61 E0 80 80 | ends | 100 | 4 3 | 61 EF BF BD EF BF BD EF BF BD
+61 C2 7F | ends | 100 | 3 1 | 61 EF BF BD 7F
+61 E2 98 | ends | 100 | 3 1 | 61 EF BF BD
+61 E2 98 | fails | 100 | Read | 61
+61 E2 98 | ends | 3 | Limit | 61
+61 E2 98 | fails | 3 | Limit | 61
+61 E2 98 | ends | 0 | Limit |
+61 62 63 | ends | 100 | 3 0 | 61 62 63
+61 FF 62 | ends | 2 | Limit | 61 EF BF BD
+61 FF 62 | ends | 3 | Limit | 61 EF BF BD 62
+61 FF 62 | ends | 4 | 3 1 | 61 EF BF BD 62
+61 FF 62 | fails | 4 | Read | 61 EF BF BD 62
+ | fails | 1 | Read |
+F0 9F 92 | fails | 9 | Read |
+F0 9F 92 A9 | fails | 9 | Read | F0 9F 92 A9
+F0 9F 92 41 | fails | 9 | Read | EF BF BD 41
+E2 98 E2 | ends | 9 | 3 2 | EF BF BD EF BF BD
+E2 98 E2 | fails | 9 | Read | EF BF BD
+ED A0 80 | fails | 9 | Read | EF BF BD EF BF BD EF BF BD";
+
+/// Returns what a field names: a fault, or two numbers.
+pub fn outcome_of(field: &str) -> Result<Result<Repaired, RepairFault>, Fail> {
+    if field == "Read" {
+        return Ok(Err(RepairFault::Read));
+    }
+    if field == "Write" {
+        return Ok(Err(RepairFault::Write));
+    }
+    if field == "Limit" {
+        return Ok(Err(RepairFault::Limit));
+    }
+    let (read, replaced) = field.split_once(' ').unwrap_or((field, ""));
+    Ok(Ok(Repaired {
+        read: number_of(read)? as u64,
+        replaced: number_of(replaced)? as u64,
+    }))
+}
+
+/// Whether a repair returns so and writes this text, and its streams failed exactly on their faults.
+pub fn repairs_to<R: Read>(
+    reader: &mut R,
+    writer: &mut Output,
+    limit: u64,
+    outcome: Result<Repaired, RepairFault>,
+    text: &[u8],
+) -> bool {
+    let mut source = Watch::new(reader);
+    let mut sink = Watch::new(&mut *writer);
+    let returned = repair(&mut source, &mut sink, limit);
+    let failed = source.failed() == (returned == Err(RepairFault::Read))
+        && sink.failed() == (returned == Err(RepairFault::Write))
+        && (source.ended() || returned.is_err());
+    failed && returned == outcome && writer.written() == text && writer.flushes == 0
+}
+
+/// Whether a row holds over a reader that gives so many bytes a call, and a writer that takes so many.
+fn row_holds(alloc: Global, row: &str, step: usize, taken: usize) -> Result<bool, Fail> {
+    let mut fields = row;
+    let input = bytes_of(alloc, field(&mut fields))?;
+    let ends = field(&mut fields) == "ends";
+    let limit = number_of(field(&mut fields))? as u64;
+    let outcome = outcome_of(field(&mut fields))?;
+    let text = bytes_of(alloc, field(&mut fields))?;
+    let mut reader = if ends {
+        Input::of(&input, step)
+    } else {
+        Input::that_fails(&input, ErrorKind::Other)
+    };
+    let mut writer = Output::by_steps_of(taken);
+    Ok(repairs_to(&mut reader, &mut writer, limit, outcome, &text))
+}
+
+/// Whether it holds whatever the steps.
+fn row_holds_by_steps(alloc: Global, row: &str) -> Result<bool, Fail> {
+    let mut holds = true;
+    for step in [1, 2, ROOM] {
+        for taken in [1, 2, ROOM] {
+            holds = holds && row_holds(alloc, row, step, taken)?;
+        }
+    }
+    Ok(holds)
+}
+
+#[test]
+fn rows_hold(rt: HostRuntime) -> Result<(), Fail> {
+    let mut count = 0u32;
+    for row in ROWS.lines() {
+        assert!(rt; row_holds_by_steps(rt.alloc(), row)?, "{row}");
+        count = count.saturating_add(1);
+    }
+    assert!(rt; count == 21);
+    Ok(())
+}
+
+/// Whether a vector's bytes are repaired to its text, over a reader that gives so many bytes a call.
+fn is_repaired(vector: &Vector, text: &[u8], step: usize) -> bool {
+    let mut reader = Input::of(&vector.bytes, step);
+    let outcome = Ok(Repaired {
+        read: vector.bytes.len() as u64,
+        replaced: broken_count(vector),
+    });
+    repairs_to(
+        &mut reader,
+        &mut Output::that_takes_all(),
+        2000,
+        outcome,
+        text,
+    )
+}
+
+#[test]
+fn repairs_vectors(rt: HostRuntime) -> Result<(), Fail> {
+    let vectors = vectors(rt.alloc())?;
+    for vector in &vectors {
+        let text = repaired_text(rt.alloc(), vector)?;
+        let holds = [1, 2, ROOM]
+            .iter()
+            .all(|step| is_repaired(vector, &text, *step));
+        assert!(rt; holds, "{}", vector.row);
+    }
+    assert!(rt; vectors.len() == 104);
+    Ok(())
+}
+
+/// Whether so many bytes `61` and these behind are repaired to the same with this text behind, over the end of a round.
+fn long_repairs_to(before: usize, behind: &[u8], text_behind: &[u8], replaced: u64) -> bool {
+    let mut input = [0x61; 1040];
+    let mut text = [0x61; 1040];
+    let length = before.saturating_add(behind.len());
+    let text_length = before.saturating_add(text_behind.len());
+    if before > 1024 || behind.len() > 16 || text_behind.len() > 16 {
+        return false;
+    }
+    input[before..length].copy_from_slice(behind);
+    text[before..text_length].copy_from_slice(text_behind);
+    let mut reader = Input::of(&input[..length], ROOM);
+    let mut writer = Output::that_takes_all();
+    let outcome = Ok(Repaired {
+        read: length as u64,
+        replaced,
+    });
+    repairs_to(
+        &mut reader,
+        &mut writer,
+        2000,
+        outcome,
+        &text[..text_length],
+    )
+}
+
+/// Whether characters and broken parts at the end of a round come whole.
+fn ends_of_rounds_hold() -> bool {
+    long_repairs_to(1023, &[0xE2, 0x98, 0x83], &[0xE2, 0x98, 0x83], 0)
+        && long_repairs_to(1022, &[0xF0, 0x9F], &[0xEF, 0xBF, 0xBD], 1)
+        && long_repairs_to(
+            1022,
+            &[0xF0, 0x9F, 0x92, 0xA9, 0x5A],
+            &[0xF0, 0x9F, 0x92, 0xA9, 0x5A],
+            0,
+        )
+        && long_repairs_to(1022, &[0xF0, 0x9F, 0x5A], &[0xEF, 0xBF, 0xBD, 0x5A], 1)
+        && long_repairs_to(1024, &[0xFF], &[0xEF, 0xBF, 0xBD], 1)
+}
+
+#[test]
+fn repairs_over_the_end_of_a_round(rt: HostRuntime) {
+    assert!(rt; ends_of_rounds_hold());
+}
+
+/// Whether a repair whose writer takes so many bytes in all stops there.
+fn stops_at(input: &[u8], text: &[u8], taken: usize, fault: Option<ErrorKind>) -> bool {
+    let mut reader = Input::of(input, ROOM);
+    let mut writer = Output::that_takes(taken, fault);
+    match text.get(..taken) {
+        Some(front) => repairs_to(
+            &mut reader,
+            &mut writer,
+            100,
+            Err(RepairFault::Write),
+            front,
+        ),
+        None => false,
+    }
+}
+
+/// Whether it stops so wherever the writer does.
+fn stops(input: &[u8], text: &[u8], fault: Option<ErrorKind>) -> bool {
+    (0..text.len()).all(|taken| stops_at(input, text, taken, fault))
+}
+
+#[test]
+fn stops_where_the_writer_does(rt: HostRuntime) {
+    let text = [0x61, 0xEF, 0xBF, 0xBD, 0xEF, 0xBF, 0xBD];
+    for fault in [None, Some(ErrorKind::Other), Some(ErrorKind::Interrupted)] {
+        let holds = stops(b"abc", b"abc", fault) && stops(&[0x61, 0xE2, 0x98, 0xFF], &text, fault);
+        assert!(rt; holds);
+    }
+}
+
+/// Whether a repair with this limit of an endless stream asks so often, and writes as much as the limit.
+fn asks(limit: u64, asked: usize) -> bool {
+    let mut reader = Endless { asked: 0 };
+    let mut writer = Output::that_takes_all();
+    let returned = repair(
+        &mut Watch::new(&mut reader),
+        &mut Watch::new(&mut writer),
+        limit,
+    );
+    returned == Err(RepairFault::Limit)
+        && reader.asked == asked
+        && writer.written().len() as u64 == limit
+}
+
+/// The reader is asked for at most 1,024 bytes and what the limit leaves, and not at all once that is nothing.
+#[test]
+fn asks_within_the_limit(rt: HostRuntime) {
+    assert!(rt; asks(0, 0) && asks(1, 1) && asks(1024, 1) && asks(1025, 2) && asks(2000, 2));
+}
+
+/// Whether a read into so much room gives so many bytes, and the end is seen then or not.
+fn reads(
+    source: &mut Watch<'_, Input<'_>>,
+    room: usize,
+    given: Option<usize>,
+    ended: bool,
+) -> bool {
+    let mut buffer = [0; 8];
+    let room = room.min(8);
+    source.read(&mut buffer[..room]) == given
+        && source.ended() == ended
+        && source.failed() == given.is_none()
+}
+
+/// A read of no byte into some room sees the end, and a read into no room doesn't.
+fn the_end_is_seen() -> bool {
+    let mut input = Input::of(b"abc", ROOM);
+    let mut source = Watch::new(&mut input);
+    !source.failed()
+        && !source.ended()
+        && reads(&mut source, 0, Some(0), false)
+        && reads(&mut source, 2, Some(2), false)
+        && reads(&mut source, 2, Some(1), false)
+        && reads(&mut source, 0, Some(0), false)
+        && reads(&mut source, 1, Some(0), true)
+        && reads(&mut source, 0, Some(0), true)
+        && input.asked == 6
+}
+
+#[test]
+fn watches_the_end(rt: HostRuntime) {
+    assert!(rt; the_end_is_seen());
+}
+
+/// A read that fails gives nothing, and is a failure from then on.
+fn a_fault_is_seen(kind: ErrorKind) -> bool {
+    let mut input = Input::that_fails(b"a", kind);
+    let mut source = Watch::new(&mut input);
+    reads(&mut source, 2, Some(1), false)
+        && reads(&mut source, 2, None, false)
+        && reads(&mut source, 2, None, false)
+        && source.failed()
+}
+
+#[test]
+fn watches_a_fault(rt: HostRuntime) {
+    assert!(rt; a_fault_is_seen(ErrorKind::Other) && a_fault_is_seen(ErrorKind::Interrupted));
+}

@@ -1,0 +1,62 @@
+//! Rows as text: fields between bars, of words between spaces, which are mostly hexadecimal.
+
+ghost use Rattle.std.specs.Prelude.{◌↔◌, IsTrue};
+ghost use Rattle.std.specs.Str.{IsUtf8};
+
+use std::alloc::Global;
+use std::test::Fail;
+
+/// A byte or a code unit.
+pub trait Unit: Copy + PartialEq {
+    /// Fills a destination. No row writes it.
+    const UNWRITTEN: Self;
+}
+
+impl Unit for u8 {
+    const UNWRITTEN: u8 = 0x71;
+}
+
+impl Unit for u16 {
+    const UNWRITTEN: u16 = 0x71;
+}
+
+/// Returns the next field of a row, and leaves the fields behind it.
+pub fn field<'a>(row: &mut &'a str) -> &'a str {
+    match row.split_once('|') {
+        Some((first, rest)) => {
+            *row = rest;
+            first.trim()
+        }
+        None => {
+            let last = *row;
+            *row = "";
+            last.trim()
+        }
+    }
+}
+
+/// Returns the bytes that a field names.
+pub fn bytes_of(alloc: Global, field: &str) -> Result<Vec<u8>, Fail> {
+    let mut bytes = Vec::new(alloc);
+    for word in field.split_whitespace() {
+        bytes.push(u8::from_str_radix(word, 16)?)?;
+    }
+    Ok(bytes)
+}
+
+/// Returns the number that a field is, in decimal digits.
+pub fn number_of(field: &str) -> Result<usize, Fail> {
+    Ok(field.parse::<usize>()?)
+}
+
+/// Whether these bytes or code units begin a destination that was filled with `71`, and `71` stands behind so many.
+pub fn are_written<U: Unit>(text: &[U], dst: &[U], written: usize) -> bool {
+    dst.get(..written) == Some(text) && dst.iter().skip(written).all(|unit| *unit == U::UNWRITTEN)
+}
+
+/// Whether bytes are well-formed, by std.
+pub fn is_text(bytes: &[u8]) -> bool
+    ensures { IsTrue result ↔ IsUtf8 bytes.now }
+{
+    std::str::from_utf8(bytes).is_ok()
+}
