@@ -2,7 +2,7 @@
 mod common;
 
 use common::rows::{fields, named};
-use common::vectors::BYTES;
+use common::vectors::{length_of, vectors};
 use encoding_text::next_broken;
 use std::ops::Range;
 
@@ -22,39 +22,21 @@ fn found_in_turn(bytes: &[u8]) -> Vec<Range<usize>> {
     found
 }
 
-/// Where the part that a word names ends if it begins at a place, and whether it is broken.
-fn part_at(place: usize, word: &str) -> (usize, bool) {
-    match word.strip_prefix("U+") {
-        Some(scalar) => {
-            let character = char::from_u32(u32::from_str_radix(scalar, 16).unwrap()).unwrap();
-            (place + character.len_utf8(), false)
-        }
-        None => (place + word.strip_prefix('?').unwrap().parse::<usize>().unwrap(), true),
-    }
-}
-
-/// Before each vector stands `61`; behind it nothing, and `5A`.
 #[test]
 fn finds_those_of_vectors() {
-    let mut count = 0;
-    for row in BYTES.lines() {
-        let (bytes, parts) = fields(row);
-        let mut wanted = Vec::new();
-        let mut place = 1;
-        for word in parts.split_whitespace() {
-            let (end, is_broken) = part_at(place, word);
-            if is_broken {
+    let vectors = vectors();
+    for vector in &vectors {
+        let (mut wanted, mut place) = (Vec::new(), 0);
+        for part in &vector.parts {
+            let end = place + length_of(part);
+            if part.is_err() {
                 wanted.push(place..end);
             }
             place = end;
         }
-        for behind in ["", "Z"] {
-            let bytes = [b"a".to_vec(), named(bytes), behind.into()].concat();
-            assert_eq!(found_in_turn(&bytes), wanted, "{row}, {behind}");
-            count += 1;
-        }
+        assert_eq!(found_in_turn(&vector.bytes), wanted, "{}", vector.row);
     }
-    assert_eq!(count, 104);
+    assert_eq!(vectors.len(), 104);
 }
 
 /// Bytes, and the place and the length of each broken part: Unicode Standard, Tables 3-8 to 3-11, and ends of input.

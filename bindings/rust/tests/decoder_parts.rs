@@ -1,8 +1,8 @@
 //! The vectors through each call of the decoder: whole into bytes and code units, and in pieces, whole and cut.
 mod common;
 
-use common::rows::{fields, named, Unit};
-use common::vectors::BYTES;
+use common::rows::Unit;
+use common::vectors::{length_of, vectors, Vector};
 use encoding_text::decoder::Piece;
 use encoding_text::{DecoderResult, Utf8Decoder};
 
@@ -34,60 +34,19 @@ impl Output for u16 {
     }
 }
 
-/// A character, or how many bytes are none.
-type Part = Result<char, u8>;
-
 /// What decoding delivers: bytes or code units, and for each report how many of them stood before it, and its length.
 type Delivered<U> = (Vec<U>, Vec<(usize, u8)>);
 
-/// Bytes and the parts that are expected of them, with the row that they stand in.
-struct Vector {
-    row: &'static str,
-    bytes: Vec<u8>,
-    parts: Vec<Part>,
-}
-
-impl Vector {
-    /// What decoding is to deliver.
-    fn wanted<U: Output>(&self) -> Delivered<U> {
-        let (mut text, mut reports) = (Vec::new(), Vec::new());
-        for part in &self.parts {
-            match *part {
-                Ok(character) => U::push(&mut text, character),
-                Err(length) => reports.push((text.len(), length)),
-            }
+/// What decoding is to deliver.
+fn wanted<U: Output>(vector: &Vector) -> Delivered<U> {
+    let (mut text, mut reports) = (Vec::new(), Vec::new());
+    for part in &vector.parts {
+        match *part {
+            Ok(character) => U::push(&mut text, character),
+            Err(length) => reports.push((text.len(), length)),
         }
-        (text, reports)
     }
-}
-
-/// The part that a word names: a character by its scalar value, or `?` and a length.
-fn part(word: &str) -> Part {
-    match word.strip_prefix("U+") {
-        Some(scalar) => Ok(char::from_u32(u32::from_str_radix(scalar, 16).unwrap()).unwrap()),
-        None => Err(word.strip_prefix('?').unwrap().parse().unwrap()),
-    }
-}
-
-/// The vector of a row, with `61` in front and a text behind it.
-fn vector(row: &'static str, behind: &str) -> Vector {
-    let (bytes, words) = fields(row);
-    let mut parts = vec![Ok('a')];
-    parts.extend(words.split_whitespace().map(part));
-    parts.extend(behind.chars().map(Ok));
-    Vector {
-        row,
-        bytes: [b"a".to_vec(), named(bytes), behind.into()].concat(),
-        parts,
-    }
-}
-
-/// The vectors: each row with `61` in front, once alone and once with `5A` behind.
-fn vectors() -> Vec<Vector> {
-    BYTES
-        .lines()
-        .flat_map(|row| [vector(row, ""), vector(row, "Z")])
-        .collect()
+    (text, reports)
 }
 
 /// What decoding delivers, where the unread bytes are handed in again after each report. Then all is read, and nothing
@@ -117,15 +76,10 @@ fn decoded<U: Output>(vector: &Vector) -> Delivered<U> {
 fn delivers_the_parts() {
     let vectors = vectors();
     for vector in &vectors {
-        assert_eq!(decoded::<u16>(vector), vector.wanted(), "{}", vector.row);
-        assert_eq!(decoded::<u8>(vector), vector.wanted(), "{}", vector.row);
+        assert_eq!(decoded::<u16>(vector), wanted(vector), "{}", vector.row);
+        assert_eq!(decoded::<u8>(vector), wanted(vector), "{}", vector.row);
     }
     assert_eq!(vectors.len(), 104);
-}
-
-/// How many bytes a part takes.
-fn length_of(part: &Part) -> usize {
-    part.map_or_else(usize::from, char::len_utf8)
 }
 
 /// The parts of a vector take its bytes, each once.
@@ -174,7 +128,7 @@ fn vectors_come_in_pieces() {
     let vectors = vectors();
     for vector in &vectors {
         for most in [1, 2, 3, 16] {
-            assert_eq!(in_pieces(vector, most), vector.wanted(), "{}, {most}", vector.row);
+            assert_eq!(in_pieces(vector, most), wanted(vector), "{}, {most}", vector.row);
         }
     }
     assert_eq!(vectors.len(), 104);

@@ -2,6 +2,7 @@
 mod common;
 
 use common::rows::{named, Unit};
+use common::vectors::part;
 use encoding_text::decoder::Piece;
 use encoding_text::{DecoderResult, Utf8Decoder};
 
@@ -50,10 +51,10 @@ fn piece_of<'a>(field: &str, text: &'a [u8]) -> Piece<'a> {
     if field.starts_with("Text ") {
         return Piece::Text(std::str::from_utf8(text).unwrap());
     }
-    match field.strip_prefix("U+") {
-        Some(scalar) => Piece::Char(char::from_u32(u32::from_str_radix(scalar, 16).unwrap()).unwrap()),
-        None if field == "InputEmpty" => Piece::InputEmpty,
-        None => Piece::Malformed(broken(field)),
+    match field {
+        "InputEmpty" => Piece::InputEmpty,
+        _ if field.starts_with("U+") => Piece::Char(part(field).unwrap()),
+        _ => Piece::Malformed(broken(field)),
     }
 }
 

@@ -1,13 +1,10 @@
 //! Streams cut everywhere: the decoder's vectors and the encoder's over every cut and into every small room.
 mod common;
 
-use common::rows::{fields, items, named, Item};
-use common::vectors::{BYTES, LIMITS, UNITS};
+use common::rows::{items, Item};
+use common::vectors::{vectors, Part, Vector, LIMITS, UNITS};
 use encoding_text::decoder::Piece;
 use encoding_text::{DecoderResult, EncoderResult, Utf8Decoder, Utf8Encoder};
-
-/// A character, or how many bytes are none.
-type Part = Result<char, u8>;
 
 /// The form of a decode call.
 #[derive(Clone, Copy)]
@@ -137,37 +134,20 @@ fn assert_delivered(bytes: &[u8], cuts: u32, room: usize, forms: [Form; 3], part
     assert!(chain.decoder.in_neutral_state(), "{bytes:x?}, {cuts:b}, {room}");
 }
 
-/// The part that a word names: a character by its scalar value, or `?` and a length.
-fn part(word: &str) -> Part {
-    match word.strip_prefix("U+") {
-        Some(scalar) => Ok(char::from_u32(u32::from_str_radix(scalar, 16).unwrap()).unwrap()),
-        None => Err(word[1..].parse().unwrap()),
-    }
-}
-
-/// All sets of cuts: so also each cut in two, each in three, and one byte a piece. Before each vector stands `61`; behind
-/// it nothing, and `5A`.
+/// All sets of cuts: so also each cut in two, each in three, and one byte a piece.
 #[test]
 fn of_the_decoder() {
-    let mut count = 0;
-    for row in BYTES.lines() {
-        let (bytes, parts) = fields(row);
-        for behind in ["", "Z"] {
-            let bytes = [b"a".to_vec(), named(bytes), behind.into()].concat();
-            let mut wanted = vec![Ok('a')];
-            wanted.extend(parts.split_whitespace().map(part));
-            wanted.extend(behind.chars().map(Ok));
-            for cuts in 0..2 << bytes.len() {
-                for room in 0..6 {
-                    for forms in FORMS {
-                        assert_delivered(&bytes, cuts, room, forms, &wanted);
-                    }
+    let vectors = vectors();
+    for Vector { bytes, parts, .. } in &vectors {
+        for cuts in 0..2 << bytes.len() {
+            for room in 0..6 {
+                for forms in FORMS {
+                    assert_delivered(bytes, cuts, room, forms, parts);
                 }
             }
-            count += 1;
         }
     }
-    assert_eq!(count, 104);
+    assert_eq!(vectors.len(), 104);
 }
 
 /// Hands in code units until all are read: each call's bytes go on with what is wanted, which is left without them.

@@ -196,21 +196,12 @@ fn push_row(text: &mut Text<u8, u16>, row: &str) {
     let (bytes, parts) = fields(row);
     let bytes: Vec<u8> = named(bytes);
     let mut rest = bytes.as_slice();
-    for part in parts.split_whitespace() {
-        let length = match part.strip_prefix("U+") {
-            Some(scalar) => {
-                let scalar = u32::from_str_radix(scalar, 16).unwrap();
-                let character = char::from_u32(scalar).unwrap();
-                push_character(text, character);
-                character.len_utf8()
-            }
-            None => {
-                let length = part.strip_prefix('?').unwrap().parse().unwrap();
-                text.push_broken(&rest[..length]);
-                length
-            }
-        };
-        rest = &rest[length..];
+    for part in parts.split_whitespace().map(vectors::part) {
+        match part {
+            Ok(character) => push_character(text, character),
+            Err(length) => text.push_broken(&rest[..length.into()]),
+        }
+        rest = &rest[vectors::length_of(&part)..];
     }
     assert!(rest.is_empty() && text.units.ends_with(&bytes), "{row}");
 }

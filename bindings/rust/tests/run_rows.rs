@@ -3,8 +3,8 @@ mod common;
 #[path = "common/runs.rs"]
 mod runs;
 
-use common::rows::{fields, named, Unit};
-use common::vectors::BYTES;
+use common::rows::{named, Unit};
+use common::vectors::{vectors, Vector};
 use encoding_text::DecoderResult;
 use runs::*;
 
@@ -104,17 +104,6 @@ fn rows_hold() {
     assert_eq!(count, 26);
 }
 
-/// The length of the broken part that a word such as `?1` names.
-fn broken(word: &str) -> Option<u8> {
-    word.strip_prefix('?').map(|length| length.parse().unwrap())
-}
-
-/// The character that a word such as `U+00E4` names.
-fn character(word: &str) -> char {
-    let scalar = u32::from_str_radix(word.strip_prefix("U+").unwrap(), 16).unwrap();
-    char::from_u32(scalar).unwrap()
-}
-
 /// Looks whether turns of so many bytes come to the end of the bytes, and deliver this text and these reports.
 fn assert_delivered<U: Unit>(run: Run<U>, bytes: &[u8], take: usize, text: &[U], told: &[Report]) {
     let turns = turns_for(bytes.len(), take, 16);
@@ -128,32 +117,24 @@ fn assert_delivered<U: Unit>(run: Run<U>, bytes: &[u8], take: usize, text: &[U],
     assert_eq!(&reports[..outcome.reports], told, "{bytes:x?}, {take}");
 }
 
-/// Looks whether the run delivers the parts of each vector, written as these units. Before each vector stands `61`;
-/// behind it nothing, and `5A`.
+/// Looks whether the run delivers the parts of each vector, written as these units.
 fn assert_vectors_run<U: Unit>(run: Run<U>, units: fn(char) -> Vec<U>) {
-    let mut count = 0;
-    for row in BYTES.lines() {
-        let (bytes, parts) = fields(row);
-        for behind in ["", "Z"] {
-            let bytes = [b"a".to_vec(), named(bytes), behind.into()].concat();
-            let mut text = units('a');
-            let mut told = Vec::new();
-            for word in parts.split_whitespace() {
-                match broken(word) {
-                    Some(length) => told.push(Report {
-                        place: text.len(),
-                        length,
-                    }),
-                    None => text.extend(units(character(word))),
-                }
+    let vectors = vectors();
+    for Vector { bytes, parts, .. } in &vectors {
+        let (mut text, mut told) = (Vec::new(), Vec::new());
+        for part in parts {
+            match *part {
+                Ok(character) => text.extend(units(character)),
+                Err(length) => told.push(Report {
+                    place: text.len(),
+                    length,
+                }),
             }
-            text.extend(behind.chars().flat_map(units));
-            assert_delivered(run, &bytes, 1, &text, &told);
-            assert_delivered(run, &bytes, 16, &text, &told);
-            count += 1;
         }
+        assert_delivered(run, bytes, 1, &text, &told);
+        assert_delivered(run, bytes, 16, &text, &told);
     }
-    assert_eq!(count, 104);
+    assert_eq!(vectors.len(), 104);
 }
 
 #[test]

@@ -1,4 +1,51 @@
 //! Sequences and what they are: UTF-8 by its parts, UTF-8 decoder of the Encoding Standard; and code units by their UTF-8.
+use super::rows::{fields, named};
+
+/// A character, or how many bytes are none.
+pub type Part = Result<char, u8>;
+
+/// The character that a word such as `U+00E4` names, or else the length behind `?`.
+pub fn part(word: &str) -> Part {
+    match word.strip_prefix("U+") {
+        Some(scalar) => Ok(char::from_u32(u32::from_str_radix(scalar, 16).unwrap()).unwrap()),
+        None => Err(word.strip_prefix('?').unwrap().parse().unwrap()),
+    }
+}
+
+/// How many bytes a part takes.
+pub fn length_of(part: &Part) -> usize {
+    part.map_or_else(usize::from, char::len_utf8)
+}
+
+/// Bytes and their parts, with the row that they stand in.
+pub struct Vector {
+    pub row: &'static str,
+    pub bytes: Vec<u8>,
+    pub parts: Vec<Part>,
+}
+
+impl Vector {
+    /// The vector of a row, with `61` in front and a text behind it.
+    fn of(row: &'static str, behind: &str) -> Vector {
+        let (bytes, words) = fields(row);
+        let mut parts = vec![Ok('a')];
+        parts.extend(words.split_whitespace().map(part));
+        parts.extend(behind.chars().map(Ok));
+        Vector {
+            row,
+            bytes: [b"a".to_vec(), named(bytes), behind.into()].concat(),
+            parts,
+        }
+    }
+}
+
+/// The rows of [`BYTES`] as vectors: each with `61` in front, once alone and once with `5A` behind.
+pub fn vectors() -> Vec<Vector> {
+    BYTES
+        .lines()
+        .flat_map(|row| [Vector::of(row, ""), Vector::of(row, "Z")])
+        .collect()
+}
 
 /// Bytes and their parts: characters by their scalar values, and `?` with the length of what is none.
 pub const BYTES: &str = "\
