@@ -54,6 +54,9 @@ all: tools $(BUILT:%=build/%) build/libencoding_text.so
 tools:
 	$(need_cc)$(if $(filter both,$(CPU)),$(need_binutils))
 
+cxx:
+	$(call need,$(CXX),install a C++ compiler (checks/setup does on Debian) or name yours by CXX=)
+
 # What is in build/ itself is of one CPU, whose name stands in build/cpu.
 $(BUILT:%=build/%): build/%: build/$(CPU)/% build/cpu
 	cp $< $@
@@ -104,7 +107,7 @@ build/%/$(SHARED): build/%/libencoding_text.a build/exports
 	$(CC) -shared $(LDFLAGS) -Wl,-soname,$(SHARED) -Wl,--version-script=build/exports -Wl,-z,defs,-z,now,-z,noexecstack \
 	    -o $@ -Wl,--whole-archive $< -Wl,--no-whole-archive
 
-check: all
+check: cxx all
 	STRICT='$(STRICT)' SANITIZE='$(SANITIZE)' checks/run
 
 install uninstall:
@@ -121,4 +124,4 @@ FORCE:
 
 .DELETE_ON_ERROR:
 .NOTPARALLEL:
-.PHONY: all tools check install uninstall doc clean FORCE
+.PHONY: all tools cxx check install uninstall doc clean FORCE
