@@ -1,5 +1,6 @@
 //! The decoder's vectors: bytes, and the parts that they are. UTF-8 decoder of the Encoding Standard.
 
+use crate::outputs::Output;
 use crate::texts::{bytes_of, field};
 use Expected::{Broken, Character};
 use std::alloc::{AllocError, Global};
@@ -19,6 +20,9 @@ pub struct Vector {
     pub bytes: Vec<u8>,
     pub parts: Vec<Expected>,
 }
+
+/// What decoding delivers: the code units, and for each report how many of them stood before it, and its length.
+pub type Delivered<U> = (Vec<U>, Vec<(usize, usize)>);
 
 /// Bytes and their parts: characters by their scalar values, and `?` with the length of what is none.
 const ROWS: &str = "\
@@ -126,7 +130,7 @@ fn part_of(word: &str) -> Result<Expected, Fail> {
 }
 
 /// Returns the scalar value that a word such as `U+00E4` names.
-fn scalar_of(word: &str) -> Result<char, Fail> {
+pub fn scalar_of(word: &str) -> Result<char, Fail> {
     let digits = word.strip_prefix("U+").ok_or("no scalar value")?;
     Ok(char::from_u32(u32::from_str_radix(digits, 16)?).ok_or("no scalar value")?)
 }
@@ -143,6 +147,19 @@ pub fn repaired_text(alloc: Global, vector: &Vector) -> Result<Vec<u8>, AllocErr
         }
     }
     Ok(text)
+}
+
+/// Returns what decoding is to deliver.
+pub fn delivered<U: Output>(alloc: Global, vector: &Vector) -> Result<Delivered<U>, AllocError> {
+    let mut text = Vec::new(alloc);
+    let mut reports = Vec::new(alloc);
+    for part in &vector.parts {
+        match part {
+            Character(scalar) => U::push(&mut text, *scalar)?,
+            Broken(length) => reports.push((text.len(), *length))?,
+        }
+    }
+    Ok((text, reports))
 }
 
 /// Returns how many bytes a part takes.

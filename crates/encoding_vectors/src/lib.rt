@@ -1,21 +1,51 @@
-//! Tests alone: each public call of `encoding_text` and `encoding_runs`; published vectors, every place of a fault, and
-//! long input and long results, for the calls that take streams or memory.
+//! Tests alone: each public call of `encoding_text` and `encoding_runs`; worked rows and published vectors; every place of
+//! a fault, and long input and long results, for the calls that take streams or memory. `docs/ROWS.md` has every row.
 #![tactic(auto)]
 
 #[cfg(test)]
+mod ascii_rows;
+#[cfg(test)]
+mod bidi_rows;
+#[cfg(test)]
+mod borrowed_call_rows;
+#[cfg(test)]
 mod borrowed_rows;
+#[cfg(test)]
+mod decoder_chains;
+#[cfg(test)]
+mod decoder_cuts;
+#[cfg(test)]
+mod decoder_parts;
+#[cfg(test)]
+mod decoder_rows;
 #[cfg(test)]
 mod decoder_vectors;
 #[cfg(test)]
 mod dense_rows;
 #[cfg(test)]
+mod encoder_rows;
+#[cfg(test)]
+mod encoder_run_rows;
+#[cfg(test)]
+mod encoder_vectors;
+#[cfg(test)]
 mod failing_streams;
+#[cfg(test)]
+mod held_unit_rows;
+#[cfg(test)]
+mod held_units;
+#[cfg(test)]
+mod latin1_checks;
+#[cfg(test)]
+mod latin1_rows;
 #[cfg(test)]
 mod long_results;
 #[cfg(test)]
 mod long_streams;
 #[cfg(test)]
 mod mixed_text;
+#[cfg(test)]
+mod outputs;
 #[cfg(test)]
 mod parts;
 #[cfg(test)]
@@ -25,10 +55,24 @@ mod repair_rows;
 #[cfg(test)]
 mod repair_stream_rows;
 #[cfg(test)]
+mod run_rows;
+#[cfg(test)]
 mod short_texts;
+#[cfg(test)]
+mod surrogate_places;
+#[cfg(test)]
+mod surrogate_rows;
 #[cfg(test)]
 mod table_rows;
 #[cfg(test)]
+mod text_destination_rows;
+#[cfg(test)]
 mod texts;
+#[cfg(test)]
+mod to_utf16_rows;
+#[cfg(test)]
+mod unchanged_tails;
+#[cfg(test)]
+mod utf16_rows;
 #[cfg(test)]
 mod variant_numbers;

@@ -7,11 +7,11 @@ use encoding_text::ascii::{
 };
 use encoding_text::mem::{
     convert_latin1_to_str, convert_latin1_to_str_partial, convert_latin1_to_utf8,
-    convert_latin1_to_utf8_partial, convert_latin1_to_utf16, convert_utf8_to_latin1,
-    convert_utf8_to_latin1_lossy, convert_utf16_to_latin1_lossy, copy_ascii_to_ascii,
-    copy_ascii_to_basic_latin, copy_basic_latin_to_ascii, is_ascii, is_basic_latin, is_char_bidi,
-    is_str_latin1, is_utf8_latin1, is_utf16_code_unit_bidi, is_utf16_latin1,
-    latin1_length_from_utf8, str_latin1_up_to, utf8_latin1_up_to, utf8_length_from_latin1,
+    convert_latin1_to_utf8_partial, convert_latin1_to_utf16, convert_utf8_to_latin1_lossy,
+    convert_utf16_to_latin1_lossy, copy_ascii_to_ascii, copy_ascii_to_basic_latin,
+    copy_basic_latin_to_ascii, is_ascii, is_basic_latin, is_char_bidi, is_str_latin1,
+    is_utf8_latin1, is_utf16_code_unit_bidi, is_utf16_latin1, latin1_length_from_utf8,
+    str_latin1_up_to, utf8_latin1_up_to, utf8_length_from_latin1,
 };
 use encoding_text::utf_8::convert_utf16_to_utf8_partial_tail;
 
@@ -83,38 +83,6 @@ fn a_text_takes_latin1(rt: HostRuntime) {
     let mut dst = [0x71; 20];
     assert!(rt; is_text(&dst) && convert_latin1_to_str(&[0x61, 0xE4], &mut dst) == 3);
     assert!(rt; dst == wanted);
-}
-
-/// Returns the bytes from 0x00 to 0xFF.
-fn latin1() -> [u8; 256] {
-    let mut bytes = [0; 256];
-    for c in 0..256 {
-        bytes[c] = c as u8;
-    }
-    bytes
-}
-
-/// Returns the UTF-8 of U+0000 to U+00FF, by the table of UTF-8.
-fn latin1_in_utf8() -> [u8; 384] {
-    let mut utf8 = [0; 384];
-    for c in 0..128 {
-        utf8[c] = c as u8;
-    }
-    for c in 128..256 {
-        utf8[2 * c - 128] = 0xC0 + c as u8 / 64;
-        utf8[2 * c - 127] = 0x80 + c as u8 % 64;
-    }
-    utf8
-}
-
-/// Each character of Latin1 into a destination that ends with the text.
-#[test]
-fn converts_each_byte_back_into_its_room(rt: HostRuntime) {
-    let utf8 = latin1_in_utf8();
-    assert!(rt; is_utf8_latin1(&utf8) && latin1_length_from_utf8(&utf8) <= 256);
-    let mut back = [0x71u8; 256];
-    let written = convert_utf8_to_latin1(&utf8, &mut back);
-    assert!(rt; written == 256 && back == latin1());
 }
 
 #[test]

@@ -44,9 +44,24 @@ pub fn bytes_of(alloc: Global, field: &str) -> Result<Vec<u8>, Fail> {
     Ok(bytes)
 }
 
-/// Returns the number that a field is, in decimal digits.
+/// Returns the code units that a field names.
+pub fn units_of(alloc: Global, field: &str) -> Result<Vec<u16>, Fail> {
+    let mut units = Vec::new(alloc);
+    for word in field.split_whitespace() {
+        units.push(u16::from_str_radix(word, 16)?)?;
+    }
+    Ok(units)
+}
+
+/// Returns the number that a field is, in decimal digits. The greatest one is `MAX`, and one below it `MAX - 1`.
 pub fn number_of(field: &str) -> Result<usize, Fail> {
-    Ok(field.parse::<usize>()?)
+    if field == "MAX" {
+        return Ok(usize::MAX);
+    }
+    match field.strip_prefix("MAX - ") {
+        Some(less) => Ok(usize::MAX.saturating_sub(less.parse::<usize>()?)),
+        None => Ok(field.parse::<usize>()?),
+    }
 }
 
 /// Whether these bytes or code units begin a destination that was filled with `71`, and `71` stands behind so many.

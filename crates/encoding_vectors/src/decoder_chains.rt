@@ -1,0 +1,148 @@
+//! Decode calls in a chain: over any cuts, into any room, and in all forms.
+
+use crate::parts::{Parts, broken};
+use encoding_text::decoder::{DecoderResult, Piece, Utf8Decoder};
+
+/// The form of a decode call.
+#[derive(Clone, Copy)]
+pub enum Form {
+    Utf16,
+    Utf8,
+    Borrowed,
+}
+
+/// How bytes are handed in.
+#[derive(Clone, Copy)]
+pub struct Way {
+    /// A bit for each place that is cut, the lowest for the one before the first byte.
+    pub cuts: u32,
+    /// The room of a call. A call that makes no progress is followed by one with the room that any character needs.
+    pub room: usize,
+    /// The forms of the calls, in turn.
+    pub forms: [Form; 3],
+}
+
+/// How many calls a piece takes at most.
+const CALLS: usize = 32;
+
+/// Calls of a decoder, and what they delivered.
+#[derive(Drop)]
+struct Chain {
+    decoder: Utf8Decoder,
+    delivered: Parts,
+    calls: usize,
+}
+
+impl Chain {
+    /// Notes a result, and returns whether it is `InputEmpty`.
+    fn ends(&mut self, outcome: &DecoderResult) -> bool {
+        if let DecoderResult::Malformed(length, behind) = outcome {
+            let length = usize::from(*length).saturating_add(usize::from(*behind));
+            self.delivered.push(broken(length));
+        }
+        *outcome == DecoderResult::InputEmpty
+    }
+
+    /// Notes the characters of a text.
+    fn note(&mut self, text: &str) {
+        for character in text.chars() {
+            self.delivered.push(u32::from(character));
+        }
+    }
+
+    /// Decodes to UTF-16. Returns how many bytes are read, and whether the call ended with `InputEmpty`: or `None` if
+    /// what is written is no text, or more was written.
+    fn call_utf16(&mut self, src: &[u8], room: usize, last: bool) -> Option<(usize, bool)> {
+        let mut dst = [0x71; 8];
+        let space = dst.get_mut(..room)?;
+        let (result, read, written) = self.decoder.decode_to_utf16_raw(src, space, last);
+        for unit in char::decode_utf16(dst.get(..written)?.iter().copied()) {
+            self.delivered.push(u32::from(unit.ok()?));
+        }
+        let unchanged = dst.iter().skip(written).all(|unit| *unit == 0x71);
+        unchanged.then_some((read, self.ends(&result)))
+    }
+
+    /// Decodes to UTF-8. Returns how many bytes are read, and whether the call ended with `InputEmpty`: or `None` if what
+    /// is written is no text, or more was written.
+    fn call_utf8(&mut self, src: &[u8], room: usize, last: bool) -> Option<(usize, bool)> {
+        let mut dst = [0x71; 8];
+        let space = dst.get_mut(..room)?;
+        let (result, read, written) = self.decoder.decode_to_utf8_raw(src, space, last);
+        self.note(std::str::from_utf8(dst.get(..written)?).ok()?);
+        let unchanged = dst.iter().skip(written).all(|byte| *byte == 0x71);
+        unchanged.then_some((read, self.ends(&result)))
+    }
+
+    /// Decodes without a destination. A text is what was read. Returns how many bytes are read, and whether the call
+    /// ended with `InputEmpty`: or `None` if the piece is no text.
+    fn call_borrowed(&mut self, src: &[u8], last: bool) -> Option<(usize, bool)> {
+        let (piece, read) = self.decoder.decode_borrowed_raw(src, last);
+        let mut ended = false;
+        match piece {
+            Piece::Text(text) if src.get(..read) == Some(text.as_bytes()) => self.note(text),
+            Piece::Text(_) => return None,
+            Piece::Char(character) => self.delivered.push(u32::from(character)),
+            Piece::Malformed(length) => self.delivered.push(broken(usize::from(length))),
+            Piece::InputEmpty => ended = true,
+        }
+        Some((read, ended))
+    }
+
+    /// Makes the next call, of the form whose turn it is, into the room of the way, or into enough of it.
+    fn call(&mut self, src: &[u8], last: bool, way: &Way, enough: bool) -> Option<(usize, bool)> {
+        let form = way.forms[self.calls % 3];
+        self.calls = self.calls.saturating_add(1);
+        match form {
+            Form::Utf16 => self.call_utf16(src, if enough { 2 } else { way.room }, last),
+            Form::Utf8 => self.call_utf8(src, if enough { 4 } else { way.room }, last),
+            Form::Borrowed => self.call_borrowed(src, last),
+        }
+    }
+
+    /// Hands in a piece until `InputEmpty` is returned: whether all of it is read then.
+    fn reads(&mut self, piece: &[u8], last: bool, way: &Way) -> bool {
+        let mut unread = piece;
+        let mut stuck = false;
+        for _ in 0..CALLS {
+            let count = self.delivered.count;
+            let Some((read, ended)) = self.call(unread, last, way, stuck) else {
+                return false;
+            };
+            let Some(rest) = unread.get(read..) else {
+                return false;
+            };
+            if ended {
+                return rest.is_empty();
+            }
+            stuck = read == 0 && self.delivered.count == count;
+            unread = rest;
+        }
+        false
+    }
+}
+
+/// Whether the bytes, handed in so, are decoded to these parts, and nothing is pending then.
+pub fn decodes_to(bytes: &[u8], way: &Way, parts: &Parts) -> bool {
+    let mut chain = Chain {
+        decoder: Utf8Decoder::new_inner(),
+        delivered: Parts::none(),
+        calls: 0,
+    };
+    let mut cuts = way.cuts;
+    let mut rest = bytes;
+    for place in 0..bytes.len().saturating_add(1) {
+        let start = bytes.len().saturating_sub(rest.len());
+        if cuts % 2 == 1 {
+            let (Some(piece), Some(behind)) = (bytes.get(start..place), bytes.get(place..)) else {
+                return false;
+            };
+            if !chain.reads(piece, false, way) {
+                return false;
+            }
+            rest = behind;
+        }
+        cuts /= 2;
+    }
+    chain.reads(rest, true, way) && chain.delivered == *parts && chain.decoder.in_neutral_state()
+}

@@ -1,0 +1,82 @@
+//! The vectors through both calls of the decoder, marked last.
+
+use crate::decoder_vectors::{Delivered, Vector, delivered, length_of, vectors};
+use crate::outputs::{Output, unwritten};
+use encoding_text::decoder::{DecoderResult, Utf8Decoder};
+use std::alloc::{AllocError, Global};
+use std::test::Fail;
+
+/// Whether the report that follows those that came has this length, after the code units that came.
+fn report_is(wanted: &[(usize, usize)], came: (usize, usize), length: u8) -> bool {
+    wanted.get(came.1) == Some(&(came.0, usize::from(length)))
+}
+
+/// Decodes, and hands in the unread bytes again after each report: whether all is read, and that delivers what is wanted.
+fn decodes<U: Output>(
+    alloc: Global,
+    src: &[u8],
+    wanted: &Delivered<U>,
+) -> Result<bool, AllocError> {
+    let mut decoder = Utf8Decoder::new_inner();
+    let mut unread = src;
+    let mut came = (0, 0);
+    for _ in 0..8 {
+        let mut dst = unwritten(alloc, 16)?;
+        let (result, read, written) = U::decode(&mut decoder, unread, &mut dst, true);
+        let end = written.saturating_add(came.0);
+        let (Some(rest), Some(front)) = (unread.get(read..), dst.get(..written)) else {
+            return Ok(false);
+        };
+        if wanted.0.get(came.0..end) != Some(front) {
+            return Ok(false);
+        }
+        unread = rest;
+        came.0 = end;
+        match result {
+            DecoderResult::Malformed(length, 0) if report_is(&wanted.1, came, length) => {
+                came.1 = came.1.saturating_add(1);
+            }
+            DecoderResult::InputEmpty => {
+                return Ok(
+                    unread.is_empty()
+                        && decoder.in_neutral_state()
+                        && came == (wanted.0.len(), wanted.1.len()),
+                );
+            }
+            _ => return Ok(false),
+        }
+    }
+    Ok(false)
+}
+
+/// Whether decoding to UTF-16 and to UTF-8 delivers what a vector expects.
+fn is_delivered(alloc: Global, vector: &Vector) -> Result<bool, AllocError> {
+    let units = delivered::<u16>(alloc, vector)?;
+    let bytes = delivered::<u8>(alloc, vector)?;
+    Ok(decodes(alloc, &vector.bytes, &units)? && decodes(alloc, &vector.bytes, &bytes)?)
+}
+
+#[test]
+fn delivers_the_parts(rt: HostRuntime) -> Result<(), Fail> {
+    let vectors = vectors(rt.alloc())?;
+    for vector in &vectors {
+        assert!(rt; is_delivered(rt.alloc(), vector)?, "{}", vector.row);
+    }
+    assert!(rt; vectors.len() == 104);
+    Ok(())
+}
+
+/// The parts of a vector take its bytes, each once.
+#[test]
+fn parts_take_all_bytes(rt: HostRuntime) -> Result<(), Fail> {
+    let vectors = vectors(rt.alloc())?;
+    for vector in &vectors {
+        let mut length = 0usize;
+        for part in &vector.parts {
+            length = length.saturating_add(length_of(part));
+        }
+        assert!(rt; length == vector.bytes.len(), "{}", vector.row);
+    }
+    assert!(rt; vectors.len() == 104);
+    Ok(())
+}

@@ -1,0 +1,138 @@
+//! The encoder while it holds nothing: vectors and limits.
+
+use crate::encoder_vectors::{Source, limits, vectors};
+use crate::held_units::holds;
+use crate::texts::are_written;
+use encoding_text::utf_8::{EncoderResult, Utf8Encoder};
+use std::test::Fail;
+
+/// Whether a new encoder reads all units of a source, writes these bytes with ample room, and holds this then.
+fn encodes(source: &Source, last: bool, bytes: &[u8], held: &str) -> bool {
+    let mut encoder = Utf8Encoder::new_inner();
+    let mut dst = [0x71; 64];
+    let (result, read, written) = encoder.encode_from_utf16_raw(&source.units, &mut dst, last);
+    result == EncoderResult::InputEmpty
+        && read == source.units.len()
+        && are_written(bytes, &dst, written)
+        && holds(encoder, held)
+}
+
+/// Whether the same is written marked last or not, but for a high surrogate that ends a call not marked last.
+fn is_encoded(source: &Source) -> bool {
+    let ends_high = source.units.as_slice() == [0xD800].as_slice();
+    encodes(source, true, &source.bytes, "none")
+        && if ends_high {
+            encodes(source, false, &[], "D800")
+        } else {
+            encodes(source, false, &source.bytes, "none")
+        }
+}
+
+#[test]
+fn encodes_vectors(rt: HostRuntime) -> Result<(), Fail> {
+    let vectors = vectors(rt.alloc())?;
+    for source in &vectors {
+        assert!(rt; is_encoded(source), "{}", source.row);
+    }
+    assert!(rt; vectors.len() == 16);
+    Ok(())
+}
+
+/// Whether a new encoder writes the first `bytes` bytes of a source into the room, reads `units` units, and holds nothing then.
+fn encodes_into(
+    source: &Source,
+    room: usize,
+    wanted: EncoderResult,
+    units: usize,
+    bytes: usize,
+) -> bool {
+    let mut encoder = Utf8Encoder::new_inner();
+    let mut dst = [0x71; 64];
+    let (Some(room), Some(front)) = (dst.get_mut(..room), source.bytes.get(..bytes)) else {
+        return false;
+    };
+    let (result, read, written) = encoder.encode_from_utf16_raw(&source.units, room, true);
+    result == wanted && read == units && are_written(front, &dst, written) && holds(encoder, "none")
+}
+
+/// Into exactly its size.
+fn fits_exactly(source: &Source) -> bool {
+    let size = source.bytes.len();
+    encodes_into(
+        source,
+        size,
+        EncoderResult::InputEmpty,
+        source.units.len(),
+        size,
+    )
+}
+
+/// Into one byte less all characters but the last are written.
+fn leaves_the_last(source: &Source) -> bool {
+    let room = source.bytes.len().saturating_sub(1);
+    encodes_into(
+        source,
+        room,
+        EncoderResult::OutputFull,
+        source.front_units,
+        source.front_bytes,
+    )
+}
+
+/// Into 64 bytes that hold 0, 1, 2 and so on. Those after the written bytes keep their values.
+fn keeps_what_is_behind(source: &Source) -> bool {
+    let mut dst = [0; 64];
+    for i in 0..64 {
+        dst[i] = i as u8;
+    }
+    let (result, read, written) = Utf8Encoder::new_inner().encode_from_utf16_raw(
+        &source.units,
+        &mut dst,
+        true,
+    );
+    result == EncoderResult::InputEmpty
+        && read == source.units.len()
+        && dst.get(..written) == Some(source.bytes.as_slice())
+        && (written..64).all(|i| dst.get(i) == Some(&((i & 63) as u8)))
+}
+
+#[test]
+fn writes_what_fits(rt: HostRuntime) -> Result<(), Fail> {
+    let limits = limits(rt.alloc())?;
+    for source in &limits {
+        let fits = fits_exactly(source) && leaves_the_last(source) && keeps_what_is_behind(source);
+        assert!(rt; fits, "{}", source.row);
+    }
+    assert!(rt; limits.len() == 34);
+    Ok(())
+}
+
+/// Whether a query's room is enough for its units.
+fn three_bytes_are_enough() -> bool {
+    let mut encoder = Utf8Encoder::new_inner();
+    let mut dst = [0; 12];
+    let units = [0x2C9F, 0x2CA9, 0x2CA3, 0x2C9F];
+    encoder.max_buffer_length_from_utf16_without_replacement(4) == Some(12)
+        && encoder.encode_from_utf16_raw(&units, &mut dst, true)
+            == (EncoderResult::InputEmpty, 4, 12)
+        && dst
+            == [
+                0xE2, 0xB2, 0x9F, 0xE2, 0xB2, 0xA9, 0xE2, 0xB2, 0xA3, 0xE2, 0xB2, 0x9F,
+            ]
+}
+
+#[test]
+fn three_bytes_a_unit(rt: HostRuntime) {
+    assert!(rt; three_bytes_are_enough());
+}
+
+/// Whether an empty text is read whatever the mark.
+fn reads_no_text(last: bool) -> bool {
+    let answer = Utf8Encoder::new_inner().encode_from_utf8_raw("", &mut [], last);
+    answer == (EncoderResult::InputEmpty, 0, 0)
+}
+
+#[test]
+fn empty_text(rt: HostRuntime) {
+    assert!(rt; reads_no_text(false) && reads_no_text(true));
+}
