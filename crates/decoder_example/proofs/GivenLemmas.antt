@@ -1,36 +1,17 @@
 -- The parts that one call gives, and their text with U+FFFD for each broken one.
 use Rattle.std.proofs.Common.{◌≡◌, ℕ, ◌+◌, Bool, true, false, ◌||◌, nat_lt, List, [], ◌∷◌, ◌++◌, length, take, drop, map, refl, sym, ap, subst, ◌∙◌, arith, append-nil, append_assoc}
-use Rattle.std.proofs.Math.Bool.{or-false}
 use Rattle.std.proofs.lemmas.Bool.Decides.{nat_tests}
 use Rattle.std.proofs.lemmas.Grind.{flat_map-append}
-use Rattle.std.proofs.lemmas.List.{take_all}
 use Rattle.std.specs.List.{flat_map}
 use Rattle.encoding_definitions.specs.Parts.{Part, Character, StartsWith, repaired_scalar, count_broken}
-use Rattle.encoding_definitions.specs.Pending.{IsPending}
 use Rattle.encoding_definitions.specs.Giving.{Gives}
 use Rattle.encoding_definitions.proofs.Decomposition.DecompositionLemmas.{StartsWith-append, count_broken-append, count_broken-characters}
 use Rattle.encoding_text.specs.GivenParts.{AreDecoded, IsReported}
 use Rattle.encoding_text.specs.declared.decoder.DecoderResult.{DecoderResult}
 use Rattle.encoding_text.specs.declared.decoder.DecoderResult.TheVariants.{InputEmpty, OutputFull, Malformed}
-use Rattle.encoding_runs.specs.Calls.{Call, IsChain}
-use Rattle.encoding_runs.specs.DecoderCalls.{GiveTheParts}
-use Rattle.encoding_runs.specs.MixedCalls.{Form, Answer, IsMixedCall, AreGiven, IsInputEmpty}
 use Rattle.decoder_example.specs.Marked.{GivesText}
 
--- the law of calls in a row, for one
-pub one_gives : ((p b : List ℕ) (calls : List (Call Form Answer ℕ)) → IsPending p → IsChain IsMixedCall p b calls → GiveTheParts AreGiven IsInputEmpty p b calls)
-    → (p src : List ℕ) (form : Form) (last : Bool) (result : Answer) (read : ℕ) (out q : List ℕ) → IsPending p → IsMixedCall p src form last result read out q
-    → (parts : List Part) × AreGiven form result out parts × Gives p src last parts read q
-one_gives mixed p src form last result read out q pending does =
-    let call : Call Form Answer ℕ = record { form = form; piece = length src; last = last; result = result; read = read; out = out; pending = q } in
-    let whole : IsMixedCall p (take (length src) src) form last result read out q = subst (λ bs. IsMixedCall p bs form last result read out q) (sym (take_all (length src) src (omega arith))) does in
-    let given = mixed p src (call ∷ []) pending (whole, λ _. omega arith, tt) in
-    let (first, others, are, none, all) = given.in_sequence in
-    let parts : given.parts ≡ first = all ∙ ap (λ ps. first ++ ps) none ∙ append-nil first in
-    let count : read + 0 ≡ read = omega arith in
-    (given.parts, subst (AreGiven form result out) (sym parts) are, subst (λ n. Gives p src last given.parts n q) count (subst (λ b. Gives p src b given.parts (read + 0) q) (or-false last) given.front))
-
--- they are the first whatever follows, where anything may
+-- the parts that a call gives are the first ones whatever follows, where anything may
 pub first_parts : (p src : List ℕ) (last : Bool) (parts : List Part) (read : ℕ) (q more : List ℕ) → Gives p src last parts read q → (last ≡ true → more ≡ [])
     → StartsWith (p ++ (src ++ more)) parts (q ++ (drop read src ++ more))
 first_parts p src false parts read q more given none =

@@ -1,2 +1,3 @@
 pub mod SurrogateLemmas
 pub mod SurrogateLawLemmas
+pub mod ValidLemmas

@@ -21,6 +21,9 @@ use Rattle.encoding_runs.proofs.TurnLemmas.{turn_call}
 abbrev pub GoesOn : ℕ → Turn → Type 0
 GoesOn need turn = (1 ≤ turn.take) × (need ≤ turn.room) × (turn.last ≡ true)
 
+pub marked : (turn : Turn) (n : ℕ) → turn.last ≡ true → n ≤ turn.take → is_marked_last turn n ≡ true
+marked turn n e l = λ i. e i && le-leb n turn.take l i
+
 module _ {A : Type 0} (encode : ℕ → List A) (need : ℕ) (some : 0 < need) (short : (c : ℕ) → IsScalar c → length (encode c) ≤ length (encode_utf8 c)) where
   short_output : (cs : List ℕ) → all_scalars cs ≡ true → length (flat_map encode cs) ≤ length (encode_utf8_all cs)
   short_output [] h = omega arith
@@ -32,9 +35,6 @@ module _ {A : Type 0} (encode : ℕ → List A) (need : ℕ) (some : 0 < need) (
   -- it reads a byte, or reports what was pending, or all was read before and it comes to the end
   abbrev GetsOn : List ℕ → List ℕ → DecoderResult → ℕ → List ℕ → Type 0
   GetsOn p unread result read q = (0 < read) ⊎ (((q ≡ []) × (0 < length p)) ⊎ ((result ≡ InputEmpty) × (q ≡ []) × (length unread ≡ 0)))
-
-  marked : (turn : Turn) (n : ℕ) → turn.last ≡ true → n ≤ turn.take → is_marked_last turn n ≡ true
-  marked turn n e l = λ i. e i && le-leb n turn.take l i
 
   gets_on : (p unread : List ℕ) (room : ℕ) (turn : Turn) (result : DecoderResult) (read : ℕ) (out : List A) (q : List ℕ)
       → 1 ≤ turn.take → need ≤ turn.room → turn.last ≡ true → length unread + (need - 1) + length p ≤ room

@@ -76,7 +76,7 @@ chain_held [] held unread chain h = h
 chain_held (call ∷ calls) held unread (c, reaches, chain) h = chain_held calls call.pending (drop call.read unread) chain c.held_after
 
 -- a call is marked last and returns `InputEmpty`
-abbrev Ends : Call ℕ EncoderResult ℕ → Type 0
+abbrev pub Ends : Call ℕ EncoderResult ℕ → Type 0
 Ends call = (call.last ≡ true) × (call.result ≡ InputEmpty)
 
 -- nothing is left behind a call that is marked last and returns `InputEmpty`

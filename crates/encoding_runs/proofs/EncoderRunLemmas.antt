@@ -1,12 +1,12 @@
 -- A run of an encoder: what it writes, and turns enough for all of the source.
-use Rattle.std.proofs.Common.{◌≡◌, ℕ, ◌+◌, ◌-◌, ◌*◌, ◌<◌, ◌≤◌, ◌⊎◌, inl, inr, Bool, true, List, [], ◌∷◌, ◌++◌, length, map, take, drop, Option, Some, None, refl, sym, ap, ◌∙◌, arith, subst}
-use Rattle.std.specs.Prelude.{min}
+use Rattle.std.proofs.Common.{◌≡◌, ℕ, ◌+◌, ◌-◌, ◌*◌, ◌<◌, ◌≤◌, ◌⊎◌, inl, inr, suc, Bool, true, List, [], ◌∷◌, ◌++◌, length, map, take, drop, Option, Some, None, refl, sym, ap, ◌∙◌, arith, subst}
+use Rattle.std.specs.Prelude.{min, Any}
 use Rattle.std.specs.List.{AllByRecursion, last_or}
 use Rattle.std.proofs.lemmas.Bool.{cases_lt}
 use Rattle.std.proofs.lemmas.List.{length-drop, length-take, take_min, take-append-le}
 use Rattle.std.proofs.lemmas.List.Elements.{recursion_from_All}
 use Rattle.encoding_definitions.specs.Fronts.{WritesFront}
-use Rattle.encoding_definitions.specs.Utf16.{AreUnits}
+use Rattle.encoding_definitions.specs.Utf16.{AreUnits, IsUtf8OfUnits}
 use Rattle.encoding_text.specs.Encoding.{IsHeld, IsEncoderCall}
 use Rattle.encoding_text.specs.declared.utf_8.encoder.EncoderResult.{EncoderResult}
 use Rattle.encoding_text.specs.declared.utf_8.encoder.EncoderResult.TheVariants.{InputEmpty}
@@ -17,12 +17,12 @@ use Rattle.encoding_text.proofs.CodeUnits.EncoderPartsLemmas.{at_most_one_held, 
 use Rattle.encoding_runs.specs.declared.run.turns.Turn.{Turn}
 use Rattle.encoding_runs.specs.declared.run.encoding.EncodeOutcome.{EncodeOutcome}
 use Rattle.encoding_runs.specs.Turns.{room_of, is_marked_last}
-use Rattle.encoding_runs.specs.Calls.{Call, IsChain}
-use Rattle.encoding_runs.specs.Runs.{AreOfTurns, IsRun, Completes}
+use Rattle.encoding_runs.specs.Calls.{Call, IsChain, output_of}
+use Rattle.encoding_runs.specs.Runs.{AreOfTurns, IsRun, EachGetsOn, Completes}
 use Rattle.encoding_runs.specs.EncoderRuns.{EncodesByTurns}
 use Rattle.encoding_runs.proofs.TurnLemmas.{WritesFront_within, same_call}
-use Rattle.encoding_runs.proofs.CompletionLemmas.{GoesOn}
-use Rattle.encoding_runs.proofs.EncoderChainLemmas.{chain_encodes}
+use Rattle.encoding_runs.proofs.CompletionLemmas.{GoesOn, marked}
+use Rattle.encoding_runs.proofs.EncoderChainLemmas.{Ends, chain_encodes}
 
 -- ---- what a run writes
 pub run_encodes : (held src : List ℕ) (turns : List Turn) (old new : List ℕ) (outcome : EncodeOutcome) (after : List ℕ) → IsHeld held → AreUnits src
@@ -62,13 +62,20 @@ module _ (held unread : List ℕ) (left : ℕ) (turn : Turn) (call : Call ℕ En
       let on = gets_on _ _ _ _ _ _ _ _ c (omega (arith, length-take call.piece unread, piece)) (λ small. omega (arith, small, room, length-take call.piece unread, at_most_one_held held c.held_before)) in
       omega (arith, on, length-drop call.read unread, read_within _ _ _ _ _ _ _ _ c, length-take call.piece unread)
 
+  -- with nothing unread it is marked last and comes to the end
+  ends : length unread ≡ 0 → Ends call
+  ends none = (
+    last ∙ marked turn (length unread) to_be_last (omega arith),
+    enough_room _ _ _ _ _ _ _ _ (omega (arith, room, length-take call.piece unread, at_most_one_held held c.held_before)) c,
+  )
+
   next_turn : (turns : ℕ) (before : Option EncoderResult) → ComesToEnd held unread (turns + 1) before → ComesToEnd call.pending (drop call.read unread) turns (Some call.result)
   next_turn turns before e = elim (cases_lt 0 (length unread)) [
     | inl some ↦ elim e [
       | inl (none, b) ↦ absurd (omega arith)
       | inr more ↦ inr (omega (arith, fewer some))
     ]
-    | inr none ↦ inl (omega (arith, length-drop call.read unread), ap Some (enough_room _ _ _ _ _ _ _ _ (omega (arith, room, length-take call.piece unread, at_most_one_held held c.held_before)) c))
+    | inr none ↦ inl (omega (arith, length-drop call.read unread), ap Some (ends (omega arith)).1)
   ]
 
 turns_complete : (turns : List Turn) (calls : List (Call ℕ EncoderResult ℕ)) (held unread : List ℕ) (left : ℕ) (before : Option EncoderResult) → IsChain IsEncoderCall held unread calls
@@ -83,8 +90,39 @@ turns_complete (turn ∷ turns) (call ∷ calls) held unread left before (c, rea
     (still_enough held unread left turn call c p r l one has_room to_be_last enough)
     (next_turn held unread left turn call c p r l one has_room to_be_last enough (length turns) before (elim e [ inl h ↦ inl h | inr h ↦ inr (omega arith) ]))
 
+-- one of the calls is marked last and returns `InputEmpty`
+turns_end : (turns : List Turn) (calls : List (Call ℕ EncoderResult ℕ)) (held unread : List ℕ) (left : ℕ) → IsChain IsEncoderCall held unread calls
+    → AreOfTurns (length unread) left turns calls → AllByRecursion (GoesOn 4) turns → 3 * (length unread + length held) ≤ left → 2 * length unread + length held < length turns
+    → Any Ends calls
+turns_end [] calls held unread left chain t g enough more = absurd (omega (arith, more))
+turns_end (turn ∷ turns) [] held unread left chain t g enough more = absurd t
+turns_end (turn ∷ turns) (call ∷ calls) held unread left (c, reaches, chain) (p, r, l, t) ((one, has_room, to_be_last), g) enough more = elim (cases_lt 0 (length unread)) [
+  | inl some ↦
+      let (k, end, inside, is, ends) =
+      turns_end turns calls call.pending (drop call.read unread) (left - length call.out) chain
+      (subst (λ n. AreOfTurns n (left - length call.out) turns calls) (sym (length-drop call.read unread)) t) g
+      (still_enough held unread left turn call c p r l one has_room to_be_last enough)
+      (omega (arith, more, fewer held unread left turn call c p r l one has_room to_be_last enough some)) in
+      (suc k, end, omega (arith, inside), is, ends)
+  | inr none ↦ (0, call, omega arith, refl, ends held unread left turn call c p r l one has_room to_be_last enough (omega arith))
+]
+
+-- ---- turns enough for a source
+module _ (held src : List ℕ) (turns : List Turn) (room : ℕ) (calls : List (Call ℕ EncoderResult ℕ)) (h : IsHeld held) where
+  pub chain_completes : IsChain IsEncoderCall held src calls → AreOfTurns (length src) room turns calls
+      → Completes InputEmpty (λ n held. 3 * (n + held)) 4 held src turns room (last_or None (map (λ call. call.result) calls))
+  chain_completes chain t many g enough =
+      turns_complete turns calls held src room None chain t (recursion_from_All (GoesOn 4) turns g) enough (inr (omega (arith, at_most_one_held held h)))
+
+  pub chain_whole : AreUnits src → IsChain IsEncoderCall held src calls → AreOfTurns (length src) room turns calls
+      → 2 * length src + 2 ≤ length turns → EachGetsOn 4 turns → 3 * (length src + length held) ≤ room → IsUtf8OfUnits (held ++ src) (output_of calls)
+  chain_whole a chain t many g enough =
+      let some = turns_end turns calls held src room chain t (recursion_from_All (GoesOn 4) turns g) enough (omega (arith, at_most_one_held held h)) in
+      let first = chain_encodes held src calls h a chain in
+      record { parts = first.parts; are_parts = first.all some; written = first.written }
+
 pub run_completes : (held src : List ℕ) (turns : List Turn) (old new : List ℕ) (outcome : EncodeOutcome) (after : List ℕ) → IsHeld held
     → IsRun IsEncoderCall held src turns old new outcome.read outcome.written outcome.result after
     → Completes InputEmpty (λ n held. 3 * (n + held)) 4 held src turns (length old) outcome.result
 run_completes held src turns old new outcome after h run many g enough =
-    run.returns ∙ turns_complete turns run.calls held src (length old) None run.chain run.of_turns (recursion_from_All (GoesOn 4) turns g) enough (inr (omega (arith, at_most_one_held held h)))
+    run.returns ∙ chain_completes held src turns (length old) run.calls h run.chain run.of_turns many g enough

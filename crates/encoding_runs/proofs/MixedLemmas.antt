@@ -1,9 +1,10 @@
 -- Calls of any form in a row give first parts, and calls that are asked the same answer the same.
-use Rattle.std.proofs.Common.{◌≡◌, ℕ, Bool, true, List, [], ◌∷◌, length, take, drop, encode_utf8, sym, ◌∙◌, subst}
+use Rattle.std.proofs.Common.{◌≡◌, ℕ, Bool, true, List, [], ◌∷◌, ◌++◌, length, take, drop, encode_utf8, sym, ap, ◌∙◌, subst, arith}
 use Rattle.std.specs.Char.Escape.{encode_utf16}
 use Rattle.std.specs.List.{AllZip}
+use Rattle.std.proofs.lemmas.List.{drop_all}
 use Rattle.encoding_definitions.specs.Pending.{IsPending}
-use Rattle.encoding_definitions.specs.Parts.{Part}
+use Rattle.encoding_definitions.specs.Parts.{Part, StartsWith}
 use Rattle.encoding_definitions.specs.Giving.{Gives}
 use Rattle.encoding_text.specs.Decoding.{IsBorrowedCall}
 use Rattle.encoding_text.proofs.Calls.CallPartsLemmas.{decoded_gives}
@@ -11,9 +12,9 @@ use Rattle.encoding_text.proofs.Calls.BorrowedLemmas.{borrowed_gives}
 use Rattle.encoding_text.proofs.Calls.OneAnswerLemmas.{one_answer}
 use Rattle.encoding_text.proofs.Calls.OnePieceLemmas.{same_piece}
 use Rattle.encoding_runs.specs.Calls.{Call, IsChain}
-use Rattle.encoding_runs.specs.DecoderCalls.{GiveTheParts}
+use Rattle.encoding_runs.specs.DecoderCalls.{GivesFirstParts, GiveTheParts}
 use Rattle.encoding_runs.specs.MixedCalls.{Form, ToUtf16, ToUtf8, Borrowed, Answer, Decoded, Handed, IsMixedCall, AreGiven, IsInputEmpty, AnswersAgree, AreAskedTheSame, AnswerTheSame}
-use Rattle.encoding_runs.proofs.ChainLemmas.{decoded_empty, chain_gives}
+use Rattle.encoding_runs.proofs.ChainLemmas.{decoded_empty, given_bytes, chain_gives}
 
 -- ---- what calls give
 mixed_gives : (p src : List ℕ) (form : Form) (last : Bool) (answer : Answer) (read : ℕ) (out q : List ℕ) → IsMixedCall p src form last answer read out q
@@ -36,6 +37,21 @@ mixed_empty p src Borrowed last (Handed returned) read out q call marked e =
 mixed_empty p src (ToUtf16 room) last (Handed returned) read out q call marked e = absurd call
 mixed_empty p src (ToUtf8 room) last (Handed returned) read out q call marked e = absurd call
 mixed_empty p src Borrowed last (Decoded r) read out q call marked e = absurd call
+
+pub one_call_gives : (p src : List ℕ) (form : Form) (last : Bool) (answer : Answer) (read : ℕ) (out q : List ℕ) → IsMixedCall p src form last answer read out q
+    → GivesFirstParts AreGiven IsInputEmpty p src form last answer read out q
+one_call_gives p src form last answer read out q call =
+    let (parts, given, front) = mixed_gives p src form last answer read out q call in
+    record {
+      parts = parts;
+      given = given;
+      front = front;
+      bytes = given_bytes p src parts read q front.first;
+      all = λ marked e.
+          let (whole, none) = mixed_empty p src form last answer read out q call marked e in
+          let rest : q ++ drop read src ≡ [] = ap (λ xs. xs ++ drop read src) none ∙ drop_all read src (omega (arith, whole)) in
+          subst (StartsWith (p ++ src) parts) rest front.first;
+    }
 
 pub mixed_parts : (p b : List ℕ) (calls : List (Call Form Answer ℕ)) → IsPending p → IsChain IsMixedCall p b calls → GiveTheParts AreGiven IsInputEmpty p b calls
 mixed_parts = chain_gives IsMixedCall AreGiven mixed_gives IsInputEmpty mixed_empty

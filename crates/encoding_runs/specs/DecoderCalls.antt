@@ -1,9 +1,19 @@
 -- What calls of a decoder in a row give, by what each of them gives.
-use Rattle.std.specs.Prelude.{◌≡◌, ℕ, true, List, [], ◌∷◌, ◌++◌, take, Any}
+use Rattle.std.specs.Prelude.{◌≡◌, ℕ, Bool, true, List, [], ◌∷◌, ◌++◌, take, Any}
 use Rattle.std.specs.List.{flat_map}
 use Rattle.encoding_definitions.specs.Parts.{Part, bytes_of, ArePartsOf}
 use Rattle.encoding_definitions.specs.Giving.{Gives}
 use Rattle.encoding_runs.specs.Calls.{Call, read_in_all, pending_after, some_last}
+
+-- What one call gives is the first parts of p and src, and the bytes of these, then what is pending, are p and the bytes
+-- read. Unless the call is marked last, they are the first parts whatever follows src. If it is, and returns `InputEmpty`,
+-- they are all of the parts.
+pub record GivesFirstParts {Form Result A : Type 0} (AreGiven : Form → Result → List A → List Part → Type 0) (IsInputEmpty : Result → Type 0) (p src : List ℕ) (form : Form) (last : Bool) (result : Result) (read : ℕ) (out : List A) (q : List ℕ) : Type 0 where
+  pub parts : List Part
+  pub given : AreGiven form result out parts
+  pub front : Gives p src last parts read q
+  pub bytes : flat_map bytes_of parts ++ q ≡ p ++ take read src
+  pub all : last ≡ true → IsInputEmpty result → ArePartsOf (p ++ src) parts
 
 -- the parts that calls give in sequence, where those of one call are told by its form, its result and its output
 abbrev pub AreGivenInSequence : {Form Result A : Type 0} → (Form → Result → List A → List Part → Type 0) → List (Call Form Result A) → List Part → Type 0

@@ -1,5 +1,5 @@
 //! Laws of the definitions: each is the contract of a function that does nothing.
-ghost use Rattle.std.specs.Prelude.{◌≡◌, ◌↔◌, ℕ, ◌+◌, ◌<◌, ◌≤◌, Bool, true, List, [], ◌∷◌, ◌++◌, Any, encode_utf8, length, map, encode_utf8_all, IsTrue, IsUtf8};
+ghost use Rattle.std.specs.Prelude.{◌≡◌, ◌↔◌, ℕ, ◌+◌, ◌<◌, ◌≤◌, Bool, true, List, [], ◌∷◌, ◌++◌, Any, encode_utf8, length, map, encode_utf8_all, IsTrue, IsUtf8, ◌*◌, false, None};
 ghost use Rattle.std.specs.Char.{IsScalar};
 ghost use Rattle.std.specs.List.{flat_map};
 ghost use Rattle.std.specs.Str.Lossy.{utf8_lossy};
@@ -8,19 +8,22 @@ ghost use Rattle.encoding_definitions.specs.Parts.{Part, StartsWith, ArePartsOf,
 ghost use Rattle.encoding_definitions.specs.Pending.{IsPending};
 ghost use Rattle.encoding_text.specs.OneAnswer.{HasOneAnswer, HasOnePiece};
 ghost use Rattle.std.specs.Char.Escape.{encode_utf16};
-ghost use Rattle.std.specs.Char.Utf16.{utf16_lossy_chars};
+ghost use Rattle.std.specs.Char.Utf16.{utf16_lossy_chars, has_unpaired_surrogate};
 ghost use Rattle.std.specs.Str.{all_scalars, chars};
-ghost use Rattle.encoding_definitions.specs.Utf16.{AreUnits, Part16, Character16, ArePartsOf16, IsUtf8OfLongestFront, scalar_of, utf8_of};
+ghost use Rattle.encoding_definitions.specs.Utf16.{AreUnits, Part16, Character16, ArePartsOf16, IsUtf8OfLongestFront, IsUtf8OfUnits, scalar_of, utf8_of};
 ghost use Rattle.encoding_text.specs.Encoding.{IsHeld, IsEncoderCall};
 ghost use Rattle.encoding_definitions.specs.Bidi.{IsRightToLeft, IsBidiBytes, IsBidiUnits};
 ghost use Rattle.encoding_definitions.specs.Surrogates.{IsValidUtf16, AreRepairedUnits, ChangesLone};
 ghost use Rattle.encoding_runs.specs.Repeats.{WritesInTurn};
-ghost use Rattle.std.specs.List.{AllZip};
+ghost use Rattle.std.specs.List.{AllZip, last_or};
 ghost use Rattle.encoding_text.specs.declared.utf_8.encoder.EncoderResult.{EncoderResult};
+ghost use Rattle.encoding_text.specs.declared.utf_8.encoder.EncoderResult.TheVariants as encoded;
 ghost use Rattle.encoding_runs.specs.Calls.{Call, IsChain, read_in_all, output_of, pending_after};
-ghost use Rattle.encoding_runs.specs.DecoderCalls.{GiveTheParts};
+ghost use Rattle.encoding_runs.specs.DecoderCalls.{GivesFirstParts, GiveTheParts};
 ghost use Rattle.encoding_runs.specs.MixedCalls.{Form, Answer, IsMixedCall, AreGiven, IsInputEmpty, AreAskedTheSame, AnswerTheSame};
 ghost use Rattle.encoding_runs.specs.EncoderCalls.{EncodesFirstParts};
+ghost use Rattle.encoding_runs.specs.declared.run.turns.Turn.{Turn};
+ghost use Rattle.encoding_runs.specs.Runs.{AreOfTurns, EachGetsOn, Completes};
 ghost use Rattle.encoding_runs.specs.declared.repair.blocks.RepairedBlock.{RepairedBlock};
 ghost use Rattle.encoding_runs.specs.Blocks.{IsBlockRepair, RepairTheParts, replaced_in_all};
 ghost use Rattle.encoding_runs.specs.Repairs.{IsRepairedWith};
@@ -94,7 +97,10 @@ pub fn law_block_repair()
 {}
 
 /// For pending bytes, source, mark and, with a destination, its room, each call of a decoder has exactly one answer.
-/// Calls of its three forms may be mixed: over one list of bytes, each handed the unread ones from the first on, they
+/// What a call gives, in any of the three forms, is the first parts of what was pending and of its source. Unless it is
+/// marked last, they are the first parts whatever follows the source.
+///
+/// Calls of the three forms may be mixed: over one list of bytes, each handed the unread ones from the first on, they
 /// give in sequence the first parts of what was pending and these bytes, whatever follows them, and all of the parts
 /// once a call marked last returns `InputEmpty`. What a decoder returns depends on its pending bytes alone, so a
 /// neutral one returns from every list of calls what a new one does. Encoding Standard, UTF-8 decoder.
@@ -102,6 +108,9 @@ pub fn law_mixed_calls()
     ensures one_utf16 { (p src : List ℕ) (room : ℕ) (last : Bool) → IsPending p → HasOneAnswer encode_utf16 2 p src room last }
     ensures one_utf8 { (p src : List ℕ) (room : ℕ) (last : Bool) → IsPending p → HasOneAnswer encode_utf8 4 p src room last }
     ensures one_piece { (p src : List ℕ) (last : Bool) → IsPending p → HasOnePiece p src last }
+    ensures one_call { (p src : List ℕ) (form : Form) (last : Bool) (answer : Answer) (read : ℕ) (out q : List ℕ)
+        → IsMixedCall p src form last answer read out q
+        → GivesFirstParts AreGiven IsInputEmpty p src form last answer read out q }
     ensures mixed { (p b : List ℕ) (calls : List (Call Form Answer ℕ)) → IsPending p → IsChain IsMixedCall p b calls
         → GiveTheParts AreGiven IsInputEmpty p b calls }
     ensures same { (p b : List ℕ) (calls others : List (Call Form Answer ℕ)) → IsChain IsMixedCall p b calls
@@ -135,10 +144,23 @@ pub fn law_partial_repeats()
 /// Calls of an encoder over one source, each on the unread code units from the first on and from what the one before
 /// left held, write the UTF-8 of the first parts of what was held and of the source, however it is cut and whatever
 /// the rooms. Unicode Standard, section 3.9, UTF-16.
+///
+/// The calls may be those of a list of turns, into a destination of the length that
+/// `max_buffer_length_from_utf16_without_replacement` returns. With at least twice as many turns as the source has code
+/// units and two more, each of which takes a code unit, has four bytes of room and is to be marked last, the last call
+/// returns `InputEmpty`, and the UTF-8 of all parts is written.
 pub fn law_encoder_cuts()
-    ensures { (held src : List ℕ) (calls : List (Call ℕ EncoderResult ℕ)) → IsHeld held → AreUnits src
+    ensures first_parts { (held src : List ℕ) (calls : List (Call ℕ EncoderResult ℕ)) → IsHeld held → AreUnits src
         → IsChain IsEncoderCall held src calls
         → EncodesFirstParts held src calls (read_in_all calls) (output_of calls) (pending_after held calls) }
+    ensures completes { (held src : List ℕ) (turns : List Turn) (room : ℕ) (calls : List (Call ℕ EncoderResult ℕ))
+        → IsHeld held → IsChain IsEncoderCall held src calls → AreOfTurns (length src) room turns calls
+        → Completes encoded.InputEmpty (λ n held. 3 * (n + held)) 4 held src turns room
+        (last_or None (map (λ call. call.result) calls)) }
+    ensures whole { (held src : List ℕ) (turns : List Turn) (room : ℕ) (calls : List (Call ℕ EncoderResult ℕ))
+        → IsHeld held → AreUnits src → IsChain IsEncoderCall held src calls → AreOfTurns (length src) room turns calls
+        → 2 * length src + 2 ≤ length turns → EachGetsOn 4 turns → 3 * (length src + length held) ≤ room
+        → IsUtf8OfUnits (held ++ src) (output_of calls) }
 {}
 
 /// Scalar values, their UTF-8 and their UTF-16 agree on whether one of them is right-to-left.
@@ -150,8 +172,12 @@ pub fn law_bidi_agrees()
 /// UTF-16 code units have exactly one list of repaired units. It has U+FFFD at the place of each lone surrogate, and at
 /// all other places, which are as many, what was there. It has no lone surrogate, repaired again it is the same, and
 /// its parts count as the scalar values that the old parts count as: those of std's lossy decoding. Valid code units
-/// stay as they are. Unicode Standard, section 3.9, UTF-16.
+/// stay as they are: they are the UTF-16 of scalar values, and std finds no unpaired surrogate in them. Unicode Standard,
+/// section 3.9, UTF-16.
 pub fn law_surrogate_repair()
+    ensures spelled { (us : List ℕ) → IsValidUtf16 us
+        ↔ ((cs : List ℕ) × IsTrue (all_scalars cs) × (us ≡ flat_map encode_utf16 cs)) }
+    ensures paired { (us : List ℕ) → AreUnits us → IsValidUtf16 us ↔ (has_unpaired_surrogate us ≡ false) }
     ensures exist { (us : List ℕ) → AreUnits us → (new : List ℕ) × AreRepairedUnits us new }
     ensures one { (old new other : List ℕ) → AreRepairedUnits old new → AreRepairedUnits old other → new ≡ other }
     ensures places { (old new : List ℕ) → AreRepairedUnits old new → ChangesLone old new }

@@ -1,10 +1,10 @@
 -- Pieces of bytes, one after another, and what is written of them.
-use Rattle.std.proofs.Common.{◌≡◌, ℕ, ◌+◌, ◌<◌, Bool, true, false, List, [], ◌∷◌, ◌++◌, length, take, drop, get_or, map, refl, sym, ap, subst, ◌∙◌, arith, append-nil, append_assoc}
+use Rattle.std.proofs.Common.{◌≡◌, ℕ, ◌+◌, ◌<◌, Bool, true, false, List, [], ◌++◌, length, take, drop, get_or, map, refl, sym, ap, subst, ◌∙◌, arith, append-nil, append_assoc}
 use Rattle.std.specs.List.{flat_map}
 use Rattle.std.specs.Char.Escape.{encode_utf16}
 use Rattle.std.proofs.lemmas.Grind.{flat_map-append}
 use Rattle.std.proofs.lemmas.List.Folds.{flat_map-map}
-use Rattle.std.proofs.lemmas.List.{take_all, take_more, drop_all, drop-drop, flat_map_more, length-drop}
+use Rattle.std.proofs.lemmas.List.{take_more, drop_all, drop-drop, flat_map_more, length-drop}
 use Rattle.encoding_definitions.specs.Parts.{Part, Character, StartsWith, repaired_scalar, repaired_utf16}
 use Rattle.encoding_definitions.specs.Giving.{Gives}
 use Rattle.encoding_definitions.specs.Pending.{IsPending}
@@ -12,8 +12,7 @@ use Rattle.encoding_definitions.proofs.Decomposition.DecompositionLemmas.{Starts
 use Rattle.encoding_text.specs.Decoding.{IsBorrowedCall}
 use Rattle.encoding_text.specs.GivenParts.{AreBorrowed}
 use Rattle.encoding_text.specs.declared.decoder.Piece.{Piece}
-use Rattle.encoding_runs.specs.Calls.{Call, IsChain}
-use Rattle.encoding_runs.specs.DecoderCalls.{GiveTheParts}
+use Rattle.encoding_runs.specs.DecoderCalls.{GivesFirstParts}
 use Rattle.encoding_runs.specs.MixedCalls.{Form, Answer, Borrowed, Handed, IsMixedCall, AreGiven, IsInputEmpty}
 use Rattle.engine_example.specs.Blocks.{WritesPiece}
 
@@ -33,21 +32,15 @@ pub record AreGivenUpTo (p b : List ℕ) (last : Bool) (out : List ℕ) (read : 
 pub none_given : (p b : List ℕ) (last : Bool) → IsPending p → AreGivenUpTo p b last [] 0 p
 none_given p b last h = record { parts = []; written = refl; gives = record { within = omega arith; first = refl; pending = h; whatever_follows = λ e more. refl } }
 
--- one more call, as a chain of its own
-pub given_on : ((p b : List ℕ) (calls : List (Call Form Answer ℕ)) → IsPending p → IsChain IsMixedCall p b calls → GiveTheParts AreGiven IsInputEmpty p b calls)
+-- one more call
+pub given_on : ((p src : List ℕ) (form : Form) (last : Bool) (answer : Answer) (read : ℕ) (out q : List ℕ) → IsMixedCall p src form last answer read out q
+    → GivesFirstParts AreGiven IsInputEmpty p src form last answer read out q)
     → (p b : List ℕ) (last : Bool) (out : List ℕ) (read : ℕ) (q : List ℕ) (returned : Piece) (more : ℕ) (r new : List ℕ) → AreGivenUpTo p b last out read q
     → IsBorrowedCall q (drop read b) last returned more r → ((parts : List Part) → AreBorrowed returned parts → new ≡ out ++ repaired_utf16 parts) → AreGivenUpTo p b last new (read + more) r
-given_on law p b last out read q returned more r new g call text =
-    let rest = drop read b in
-    let all : take (length rest) rest ≡ rest = take_all (length rest) rest (omega arith) in
-    let one : Call Form Answer ℕ = record { form = Borrowed; piece = length rest; last = last; result = Handed returned; read = more; out = []; pending = r } in
-    let chain : IsChain IsMixedCall q rest (one ∷ []) = ((rw all call, refl), (λ e. omega arith), tt) in
-    let given = law q rest (one ∷ []) call.pending_before chain in
-    let (first, others, are, none, both) = given.in_sequence in
-    let parts : given.parts ≡ first = both ∙ ap (λ xs. first ++ xs) none ∙ append-nil first in
-    let written = text first are in
-    let read_is : read + (more + 0) ≡ read + more = omega arith in
-    let behind : drop (more + 0) rest ≡ drop (read + more) b = drop-drop (more + 0) read b ∙ ap (λ k. drop k b) read_is in
+given_on one_call p b last out read q returned more r new g call text =
+    let given = one_call q (drop read b) Borrowed last (Handed returned) more [] r (call, refl) in
+    let written = text given.parts given.given in
+    let behind : drop more (drop read b) ≡ drop (read + more) b = drop-drop more read b in
     record {
       parts = g.parts ++ given.parts;
       written = cc (utf16-append g.parts given.parts);
@@ -56,7 +49,7 @@ given_on law p b last out read q returned more r new g call text =
         first = subst (λ xs. StartsWith (p ++ b) (g.parts ++ given.parts) (r ++ xs)) behind (StartsWith-append _ g.parts _ given.parts _ g.gives.first given.front.first);
         pending = given.front.pending;
         whatever_follows = λ f after. subst (λ xs. StartsWith (p ++ b ++ after) (g.parts ++ given.parts) (r ++ xs ++ after)) behind
-            (StartsWith-append _ g.parts _ given.parts _ (g.gives.whatever_follows f after) (given.front.whatever_follows (rw f refl) after));
+            (StartsWith-append _ g.parts _ given.parts _ (g.gives.whatever_follows f after) (given.front.whatever_follows f after));
       };
     }
 

@@ -16,6 +16,7 @@ use encoding_text::mem::convert_str_to_utf16;
 use encoding_text::utf_8::Utf8Encoder;
 use std::alloc::{AllocError, Global};
 
+pub mod turns;
 pub mod units;
 
 /// Appends the UTF-8 of a block behind what the encoder holds; `last` says that no block follows. An `Err` says that

@@ -1,11 +1,11 @@
-//! The code units of a text in a row: their repair, their UTF-8 through a small room, and whether a character of them is
-//! right-to-left.
+//! The code units of a text in a row: whether they are a text, their repair, their UTF-8 through a small room, and whether
+//! a character of them is right-to-left.
 
-ghost use Rattle.std.specs.Prelude.{◌≡◌, ◌↔◌, List, ℕ, Any, IfOk, IsTrue, encode_utf8_all};
+ghost use Rattle.std.specs.Prelude.{◌≡◌, ◌↔◌, List, ℕ, Any, IfOk, IsTrue, encode_utf8_all, false};
 ghost use Rattle.std.specs.Char.Escape.{encode_utf16};
-ghost use Rattle.std.specs.Char.Utf16.{utf16_lossy_chars};
+ghost use Rattle.std.specs.Char.Utf16.{utf16_lossy_chars, has_unpaired_surrogate};
 ghost use Rattle.std.specs.List.{flat_map};
-ghost use Rattle.std.specs.Str.{chars};
+ghost use Rattle.std.specs.Str.{all_scalars, chars};
 ghost use Rattle.encoding_definitions.specs.Bidi.{IsRightToLeft};
 ghost use Rattle.encoding_definitions.specs.Surrogates.{IsValidUtf16, AreRepairedUnits, ChangesLone};
 ghost use Rattle.encoding_definitions.specs.Utf16.{IsUtf8OfUnits};
@@ -15,11 +15,21 @@ use encoding_runs::laws::{
 };
 use encoding_text::mem::{
     convert_utf16_to_utf8_partial, ensure_utf16_validity, is_str_bidi, is_utf16_bidi,
+    utf16_valid_up_to,
 };
 use std::alloc::{AllocError, Global};
 
 /// The bytes that `utf8_of_units` writes at once: four or more, so that each character fits.
 const ROOM: usize = 64;
+
+/// Whether the code units are the UTF-16 of a text: of these `String::from_utf16` makes it, and of no others.
+pub fn is_text(units: &[u16]) -> bool
+    ensures text { IsTrue result ↔ ((cs : List ℕ) × IsTrue (all_scalars cs) × (units.now ≡ flat_map encode_utf16 cs)) }
+    ensures paired { IsTrue result ↔ (has_unpaired_surrogate units.now ≡ false) }
+{
+    law_surrogate_repair();
+    utf16_valid_up_to(units) == units.len()
+}
 
 /// Writes U+FFFD in place of each surrogate that is in no pair. The code units are then the UTF-16 of the text that
 /// `String::from_utf16_lossy` makes of them, each place in it is where it was, and a second repair changes nothing.

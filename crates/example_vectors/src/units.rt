@@ -1,7 +1,8 @@
-//! Code units repaired in place, their UTF-8, and whether they have right-to-left characters.
+//! Code units repaired in place, their UTF-8, at once and by turns, and whether they have right-to-left characters.
 
+use engine_example::turns::utf8_by_turns;
 use engine_example::units::{
-    has_right_to_left, is_repaired, text_has_right_to_left, utf8_of_units,
+    has_right_to_left, is_repaired, is_text, text_has_right_to_left, utf8_of_units,
 };
 use std::test::Fail;
 
@@ -31,6 +32,12 @@ fn repairs_and_writes_each_row(rt: HostRuntime) -> Result<(), Fail> {
         own.extend_from_slice(units)?;
         let bytes = utf8_of_units(rt.alloc(), &own)?;
         assert!(rt; bytes.as_slice() == text.as_bytes(), "UTF-8 of {text}");
+        let bytes = utf8_by_turns(rt.alloc(), &own)?;
+        assert!(rt; bytes.as_slice() == text.as_bytes(), "{text} by turns");
+        assert!(rt;
+            is_text(&own) == (*units == *repaired),
+            "valid units of {text}"
+        );
         assert!(rt;
             is_repaired(rt.alloc(), &own, repaired)?,
             "{text} as it was kept"

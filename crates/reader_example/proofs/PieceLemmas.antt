@@ -7,17 +7,14 @@ use Rattle.std.specs.Char.{IsScalar}
 use Rattle.std.specs.Str.{IsUtf8, all_scalars, chars}
 use Rattle.encoding_definitions.specs.Sequence.{IsSequence}
 use Rattle.encoding_definitions.specs.Parts.{Part, repaired_text}
-use Rattle.encoding_definitions.specs.Pending.{IsPending}
 use Rattle.encoding_definitions.specs.Giving.{Gives}
 use Rattle.encoding_definitions.proofs.Decomposition.DecompositionLemmas.{repaired_text-characters}
 use Rattle.encoding_text.specs.Decoding.{IsBorrowedCall}
 use Rattle.encoding_text.specs.GivenParts.{AreBorrowed}
 use Rattle.encoding_text.specs.declared.decoder.Piece.{Piece}
 use Rattle.encoding_text.specs.declared.decoder.Piece.TheVariants.{Text, Char, Malformed, InputEmpty}
-use Rattle.encoding_runs.specs.Calls.{Call, IsChain}
-use Rattle.encoding_runs.specs.DecoderCalls.{GiveTheParts}
+use Rattle.encoding_runs.specs.DecoderCalls.{GivesFirstParts}
 use Rattle.encoding_runs.specs.MixedCalls.{Form, Borrowed, Answer, Handed, IsMixedCall, AreGiven, IsInputEmpty}
-use Rattle.decoder_example.proofs.GivenLemmas.{one_gives}
 use Rattle.reader_example.specs.Reading.{text_for}
 
 text_of_parts : (p src : List ℕ) (last : Bool) (piece : Piece) (read : ℕ) (q : List ℕ) (parts : List Part) → IsBorrowedCall p src last piece read q → AreBorrowed piece parts → text_for piece ≡ repaired_text parts
@@ -29,12 +26,13 @@ text_of_parts p src last (Malformed k) read q parts call (x, are, size) = sym (a
 text_of_parts p src last InputEmpty read q parts call are = sym (ap repaired_text are)
 
 -- the text is that of the parts that the call gives
-pub text_given : ((p b : List ℕ) (calls : List (Call Form Answer ℕ)) → IsPending p → IsChain IsMixedCall p b calls → GiveTheParts AreGiven IsInputEmpty p b calls)
+pub text_given : ((p src : List ℕ) (form : Form) (last : Bool) (answer : Answer) (read : ℕ) (out q : List ℕ) → IsMixedCall p src form last answer read out q
+    → GivesFirstParts AreGiven IsInputEmpty p src form last answer read out q)
     → (p src : List ℕ) (last : Bool) (piece : Piece) (read : ℕ) (q : List ℕ) → IsBorrowedCall p src last piece read q
     → (parts : List Part) × Gives p src last parts read q × (text_for piece ≡ repaired_text parts)
-text_given mixed p src last piece read q made =
-    let (parts, are, given) = one_gives mixed p src Borrowed last (Handed piece) read [] q made.pending_before (made, refl) in
-    (parts, given, text_of_parts p src last piece read q parts made are)
+text_given one_call p src last piece read q made =
+    let first = one_call p src Borrowed last (Handed piece) read [] q (made, refl) in
+    (first.parts, first.front, text_of_parts p src last piece read q first.parts made first.given)
 
 -- where it is none, all was read
 pub none_given : (p src : List ℕ) (last : Bool) (piece : Piece) (read : ℕ) (q : List ℕ) → IsBorrowedCall p src last piece read q → text_for piece ≡ [] → (read ≡ length src) × (q ≡ p ++ src) × (last ≡ true → q ≡ [])

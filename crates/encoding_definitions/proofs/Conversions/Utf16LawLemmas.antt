@@ -1,5 +1,5 @@
 -- From scalar values to UTF-16 and back, and what std makes of units.
-use Rattle.std.proofs.Common.{◌≡◌, ℕ, inl, inr, List, [], ◌∷◌, ◌++◌, get_or, encode_utf8_all, Some, refl, sym, ap, ◌∙◌, arith}
+use Rattle.std.proofs.Common.{◌≡◌, ℕ, inl, inr, List, [], ◌∷◌, ◌++◌, get_or, encode_utf8_all, Option, Some, None, refl, sym, ap, ◌∙◌, arith}
 use Rattle.std.specs.Prelude.{IsTrue, map, unwrap_or}
 use Rattle.std.specs.Char.{IsScalar}
 use Rattle.std.specs.Char.Escape.{encode_utf16}
@@ -47,26 +47,40 @@ text_back bs parts u a = utf8_of_all parts ∙ ap encode_utf8_all (scalars-encod
 single_scalar : (c : ℕ) → IsScalar c → lone_unit_char c ≡ Some c
 single_scalar c s = elim (scalar_cases c s) [ inl h ↦ lone_unit_char_low c h | inr h ↦ lone_unit_char_high c h.0 ]
 
-lossy_first : (us : List ℕ) (p : Part16) (rest : List ℕ) → IsFirstPart16 us p rest → utf16_lossy_chars us ≡ scalar_of p ∷ utf16_lossy_chars rest
-lossy_first us (Character16 c) rest (s, e) = elim (cases_lt c 0x10000) [
-  | inl l ↦ ap utf16_lossy_chars (e ∙ ap (λ xs. xs ++ rest) (one_unit c l)) ∙ ap (map (λ o. unwrap_or o 0xFFFD)) (utf16_chars_lone c rest (not_high c s) ∙ ap (λ o. o ∷ utf16_chars rest) (single_scalar c s))
+-- the character, and none for an unpaired surrogate
+abbrev pub character_of : Part16 → Option ℕ
+character_of (Character16 c) = Some c
+character_of (Lone u) = None
+
+chars_first : (us : List ℕ) (p : Part16) (rest : List ℕ) → IsFirstPart16 us p rest → utf16_chars us ≡ character_of p ∷ utf16_chars rest
+chars_first us (Character16 c) rest (s, e) = elim (cases_lt c 0x10000) [
+  | inl l ↦ ap utf16_chars (e ∙ ap (λ xs. xs ++ rest) (one_unit c l)) ∙ utf16_chars_lone c rest (not_high c s) ∙ ap (λ o. o ∷ utf16_chars rest) (single_scalar c s)
   | inr l ↦ let two = halves c l s in
-      ap utf16_lossy_chars (e ∙ ap (λ xs. xs ++ rest) two.3) ∙ ap (map (λ o. unwrap_or o 0xFFFD)) (utf16_chars_pair two.0 two.1 rest two.2) ∙ ap (λ d. d ∷ utf16_lossy_chars rest) two.4
+      ap utf16_chars (e ∙ ap (λ xs. xs ++ rest) two.3) ∙ utf16_chars_pair two.0 two.1 rest two.2 ∙ ap (λ d. Some d ∷ utf16_chars rest) two.4
 ]
   where
     not_high : (c : ℕ) → IsScalar c → IsPair c (get_or rest 0 0) → ⊥
     not_high c s p = elim (scalar_cases c s) [ inl h ↦ omega arith | inr h ↦ omega arith ]
-lossy_first us (Lone u) rest (s, e, n) =
-    ap utf16_lossy_chars e ∙ ap (map (λ o. unwrap_or o 0xFFFD)) (utf16_chars_lone u rest (apart u rest n) ∙ ap (λ o. o ∷ utf16_chars rest) (elim s [ inl h ↦ lone_unit_char_surrogate u h.0 (omega arith) | inr h ↦ lone_unit_char_surrogate u (omega arith) (omega (arith, h.1)) ]))
+chars_first us (Lone u) rest (s, e, n) =
+    ap utf16_chars e ∙ utf16_chars_lone u rest (apart u rest n)
+    ∙ ap (λ o. o ∷ utf16_chars rest) (elim s [ inl h ↦ lone_unit_char_surrogate u h.0 (omega arith) | inr h ↦ lone_unit_char_surrogate u (omega arith) (omega (arith, h.1)) ])
   where
     apart : (u : ℕ) (rest : List ℕ) → (IsHighSurrogate u → BeginsLow rest → ⊥) → IsPair u (get_or rest 0 0) → ⊥
     apart u [] n p = omega (arith, p.2)
     apart u (v ∷ vs) n p = n (p.0, omega arith) (p.2, omega arith)
 
-lossy_paired : (parts : List Part16) → ArePaired parts → map scalar_of parts ≡ utf16_lossy_chars (flat_map units_of parts)
-lossy_paired [] a = sym (ap (map (λ o. unwrap_or o 0xFFFD)) utf16_chars-nil)
-lossy_paired (p ∷ parts) a =
-    ap (λ cs. scalar_of p ∷ cs) (lossy_paired parts (tail_paired p parts a)) ∙ sym (lossy_first _ p (flat_map units_of parts) (first_of_parts p parts a))
+chars_paired : (parts : List Part16) → ArePaired parts → map character_of parts ≡ utf16_chars (flat_map units_of parts)
+chars_paired [] a = sym utf16_chars-nil
+chars_paired (p ∷ parts) a =
+    ap (λ os. character_of p ∷ os) (chars_paired parts (tail_paired p parts a)) ∙ sym (chars_first _ p (flat_map units_of parts) (first_of_parts p parts a))
+
+pub characters_are : (us : List ℕ) (parts : List Part16) → ArePartsOf16 us parts → map character_of parts ≡ utf16_chars us
+characters_are us parts (a, e) = chars_paired parts a ∙ ap utf16_chars e
+
+lossy_characters : (parts : List Part16) → map scalar_of parts ≡ map (λ o. unwrap_or o 0xFFFD) (map character_of parts)
+lossy_characters [] = refl
+lossy_characters (Character16 c ∷ parts) = ap (λ cs. c ∷ cs) (lossy_characters parts)
+lossy_characters (Lone u ∷ parts) = ap (λ cs. 0xFFFD ∷ cs) (lossy_characters parts)
 
 pub scalars_lossy : (us : List ℕ) (parts : List Part16) → ArePartsOf16 us parts → map scalar_of parts ≡ utf16_lossy_chars us
-scalars_lossy us parts (a, e) = lossy_paired parts a ∙ ap utf16_lossy_chars e
+scalars_lossy us parts a = lossy_characters parts ∙ ap (map (λ o. unwrap_or o 0xFFFD)) (characters_are us parts a)

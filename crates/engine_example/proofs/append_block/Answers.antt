@@ -7,4 +7,4 @@ pub returns-clause-written : goal.returns-clause-written
 returns-clause-written c =
     let empty = c.encode_from_utf16_raw-written.ensures.suffices (grind (arith, common_steps)) in
     let call = rw empty at c.encode_from_utf16_raw-written.ensures.call in
-    (_, grind (arith, common_steps), block_written c.law_encoder_cuts.ensures _ _ _ _ _ _ _ (λ k. omega (arith, c.type_inv.block k)) call)
+    (_, grind (arith, common_steps), block_written c.law_encoder_cuts.ensures.first_parts _ _ _ _ _ _ _ (λ k. omega (arith, c.type_inv.block k)) call)

@@ -16,7 +16,7 @@ pub returns-clause-text : goal.returns-clause-text
 returns-clause-text g c =
     let self = c.args.self.now in
     let call = rw c.unread-unread.ensures.value at c.decode_borrowed_raw-read.ensures in
-    let (parts, given, text) = text_given c.law_mixed_calls.ensures.mixed _ _ _ _ _ _ call in
+    let (parts, given, text) = text_given c.law_mixed_calls.ensures.one_call _ _ _ _ _ _ call in
     let known = g.R.Read.remaining self.inner in
     let end : c.args.last ≡ true → (drop c.min.result self.block ≡ []) × IsAtEnd known = λ marked.
     let none = c.requires.ended.0 marked in

@@ -1,0 +1,72 @@
+//! Code units that go through an encoder by turns, each with a small piece and a small room.
+
+ghost use Rattle.std.specs.Prelude.{◌≡◌, ℕ, List, length, map, IfOk, Some, None};
+ghost use Rattle.std.specs.List.{last_or};
+ghost use Rattle.encoding_definitions.specs.Utf16.{AreUnits, IsUtf8OfUnits};
+ghost use Rattle.encoding_text.specs.declared.utf_8.encoder.EncoderResult.{EncoderResult};
+ghost use Rattle.encoding_text.specs.declared.utf_8.encoder.EncoderResult.TheVariants.{InputEmpty};
+ghost use Rattle.encoding_runs.specs.declared.run.turns.Turn.{Turn};
+ghost use Rattle.encoding_runs.specs.Calls.{Call, output_of};
+ghost use Rattle.encoding_runs.specs.Runs.{EachGetsOn};
+ghost use Rattle.engine_example.specs.Turns.{AreEnough};
+
+use encoding_runs::laws::{law_encoder_cuts, law_utf16_round_trip};
+use encoding_runs::run::{Turn, run_from_utf16};
+use encoding_text::utf_8::Utf8Encoder;
+use std::alloc::{AllocError, Global};
+
+/// The code units that a turn takes.
+const PIECE: usize = 7;
+
+/// The bytes that a turn has room for: four or more, so that each character fits.
+const ROOM: usize = 16;
+
+/// So many turns. An `Err` says that memory was refused.
+fn small_turns(alloc: Global, count: usize) -> Result<Vec<Turn>, AllocError>
+    ensures count { IfOk result (λ turns. length turns.items ≡ count) }
+    ensures each { IfOk result (λ turns. EachGetsOn 4 turns.items) }
+{
+    let mut turns = Vec::new(alloc);
+    for _ in 0..count {
+        turns.push(Turn {
+            take: PIECE,
+            room: ROOM,
+            last: true,
+        })?;
+    }
+    Ok(turns)
+}
+
+/// The UTF-8 of the code units, by one call for each of enough turns, with U+FFFD for each unpaired surrogate. An `Err`
+/// says that memory was refused.
+pub fn utf8_by_turns(alloc: Global, units: &[u16]) -> Result<Vec<u8>, AllocError>
+    ensures { IfOk result (λ bytes. IsUtf8OfUnits units.now bytes.items) }
+{
+    law_encoder_cuts();
+    let mut encoder = Utf8Encoder::new_inner();
+    let Some(room) = encoder.max_buffer_length_from_utf16_without_replacement(units.len()) else {
+        return Err(AllocError);
+    };
+    let Some(twice) = units.len().checked_mul(2) else {
+        return Err(AllocError);
+    };
+    let turns = small_turns(alloc, twice.checked_add(2).ok_or(AllocError)?)?;
+    let mut bytes = Vec::new(alloc);
+    bytes.resize(room, 0)?;
+    let outcome = run_from_utf16(&mut encoder, units, &turns, &mut bytes);
+    bytes.truncate(outcome.written);
+    Ok(bytes)
+}
+
+/// If turns are enough for all of the code units, the last call returns `InputEmpty`, and the bytes are those of any other
+/// such turns, however these cut the code units and the room.
+pub fn law_turns()
+    ensures ends { (units : List ℕ) (turns : List Turn) (room : ℕ) (calls : List (Call ℕ EncoderResult ℕ))
+        → AreEnough units turns room calls → last_or None (map (λ call. call.result) calls) ≡ Some InputEmpty }
+    ensures same { (units : List ℕ) (turns others : List Turn) (room more : ℕ)
+        (calls again : List (Call ℕ EncoderResult ℕ)) → AreUnits units → AreEnough units turns room calls
+        → AreEnough units others more again → output_of calls ≡ output_of again }
+{
+    law_encoder_cuts();
+    law_utf16_round_trip();
+}
