@@ -1,6 +1,6 @@
 //! The vectors through both calls of the decoder, marked last.
 
-use crate::decoder_vectors::{Delivered, Vector, delivered, length_of, vectors};
+use crate::decoder_vectors::{Delivered, Vector, delivered, vectors};
 use crate::outputs::{Output, unwritten};
 use encoding_text::decoder::{DecoderResult, Utf8Decoder};
 use std::alloc::{AllocError, Global};
@@ -61,21 +61,6 @@ fn delivers_the_parts(rt: HostRuntime) -> Result<(), Fail> {
     let vectors = vectors(rt.alloc())?;
     for vector in &vectors {
         assert!(rt; is_delivered(rt.alloc(), vector)?, "{}", vector.row);
-    }
-    assert!(rt; vectors.len() == 104);
-    Ok(())
-}
-
-/// The parts of a vector take its bytes, each once.
-#[test]
-fn parts_take_all_bytes(rt: HostRuntime) -> Result<(), Fail> {
-    let vectors = vectors(rt.alloc())?;
-    for vector in &vectors {
-        let mut length = 0usize;
-        for part in &vector.parts {
-            length = length.saturating_add(length_of(part));
-        }
-        assert!(rt; length == vector.bytes.len(), "{}", vector.row);
     }
     assert!(rt; vectors.len() == 104);
     Ok(())

@@ -139,6 +139,8 @@ pub fn row_holds(alloc: Global, decoder: &mut Utf8Decoder, row: &str) -> Result<
 
 /// Calls: source, room, mark, result, bytes read, code units written. If bytes stay pending, the next calls show
 /// which. Bytes that begin like a byte order mark are decoded as any others. 6148914691236517205 is a third of `MAX`.
+/// In the last rows a call into a queried length leaves enough for what is left: after `61`, and U+FFFD for the report, five
+/// bytes of nine, where three are enough; one code unit of three, where one is.
 const ROWS: &str = "\
 new
 utf16 | C3 A4 61 | 1 | more | OutputFull | 2 | 00E4
@@ -224,7 +226,23 @@ lengths | MAX | None | None | None
 lengths | MAX - 3 | MAX - 2 | MAX | None
 lengths | MAX - 2 | MAX - 1 | None | None
 lengths | 6148914691236517204 | 6148914691236517205 | 6148914691236517207 | MAX
-lengths | 6148914691236517205 | 6148914691236517206 | 6148914691236517208 | None";
+lengths | 6148914691236517205 | 6148914691236517206 | 6148914691236517208 | None
+new
+lengths | 4 | 5 | 7 | 15
+utf16 | F0 9F 92 | 5 | more | InputEmpty | 3 |
+lengths | 1 | 5 | 7 | 15
+new
+lengths | 2 | 3 | 5 | 9
+utf8 | 61 C3 | 5 | more | InputEmpty | 2 | 61
+lengths | 0 | 2 | 4 | 6
+new
+lengths | 2 | 3 | 5 | 9
+utf8 | 61 FF | 9 | last | Malformed 1 | 2 | 61
+lengths | 0 | 1 | 3 | 3
+new
+lengths | 2 | 3 | 5 | 9
+utf16 | 61 FF | 3 | last | Malformed 1 | 2 | 61
+lengths | 0 | 1 | 3 | 3";
 
 #[test]
 fn rows_hold(rt: HostRuntime) -> Result<(), Fail> {
@@ -234,77 +252,6 @@ fn rows_hold(rt: HostRuntime) -> Result<(), Fail> {
         assert!(rt; row_holds(rt.alloc(), &mut decoder, row)?, "{row}");
         count = count.saturating_add(1);
     }
-    assert!(rt; count == 85);
+    assert!(rt; count == 101);
     Ok(())
-}
-
-/// Of a queried length three bytes take no code unit, and what is left is the query's number for the last byte.
-fn units_left_suffice() -> bool {
-    let mut decoder = Utf8Decoder::new_inner();
-    let queried = decoder.max_utf16_buffer_length(4);
-    let mut units = [0x71; 5];
-    let answer = decoder.decode_to_utf16_raw(&[0xF0, 0x9F, 0x92], &mut units, false);
-    let needed = decoder.max_utf16_buffer_length(1);
-    queried == Some(units.len())
-        && answer == (DecoderResult::InputEmpty, 3, 0)
-        && units == [0x71; 5]
-        && needed == Some(5)
-        && needed <= Some(units.len())
-}
-
-/// Of a queried length `61` takes a byte, and the four that are left are the query's number for no byte more.
-fn bytes_left_suffice() -> bool {
-    let mut decoder = Utf8Decoder::new_inner();
-    let queried = decoder.max_utf8_buffer_length_without_replacement(2);
-    let mut bytes = [0x71; 5];
-    let answer = decoder.decode_to_utf8_raw(&[0x61, 0xC3], &mut bytes, false);
-    let needed = decoder.max_utf8_buffer_length_without_replacement(0);
-    queried == Some(bytes.len())
-        && answer == (DecoderResult::InputEmpty, 2, 1)
-        && bytes == [0x61, 0x71, 0x71, 0x71, 0x71]
-        && needed == Some(4)
-        && needed <= Some(bytes[1..].len())
-}
-
-#[test]
-fn what_is_left_suffices(rt: HostRuntime) {
-    assert!(rt; units_left_suffice());
-    assert!(rt; bytes_left_suffice());
-}
-
-/// U+FFFD, written after a report, takes three bytes of a queried length. Five are left, and three are enough.
-fn a_replacement_leaves_bytes() -> bool {
-    let mut decoder = Utf8Decoder::new_inner();
-    let queried = decoder.max_utf8_buffer_length(2);
-    let mut bytes = [0x71; 9];
-    let answer = decoder.decode_to_utf8_raw(&[0x61, 0xFF], &mut bytes, true);
-    bytes[1..4].copy_from_slice(&[0xEF, 0xBF, 0xBD]);
-    let needed = decoder.max_utf8_buffer_length(0);
-    queried == Some(bytes.len())
-        && answer == (DecoderResult::Malformed(1, 0), 2, 1)
-        && bytes == [0x61, 0xEF, 0xBF, 0xBD, 0x71, 0x71, 0x71, 0x71, 0x71]
-        && bytes[4..].len() == 5
-        && needed == Some(3)
-        && needed <= Some(bytes[4..].len())
-}
-
-/// U+FFFD takes one code unit of a queried length. One is left, and one is enough.
-fn a_replacement_leaves_a_unit() -> bool {
-    let mut decoder = Utf8Decoder::new_inner();
-    let queried = decoder.max_utf16_buffer_length(2);
-    let mut units = [0x71; 3];
-    let answer = decoder.decode_to_utf16_raw(&[0x61, 0xFF], &mut units, true);
-    units[1] = 0xFFFD;
-    let needed = decoder.max_utf16_buffer_length(0);
-    queried == Some(units.len())
-        && answer == (DecoderResult::Malformed(1, 0), 2, 1)
-        && units == [0x61, 0xFFFD, 0x71]
-        && needed == Some(1)
-        && needed <= Some(units[2..].len())
-}
-
-#[test]
-fn a_replacement_leaves_enough_room(rt: HostRuntime) {
-    assert!(rt; a_replacement_leaves_bytes());
-    assert!(rt; a_replacement_leaves_a_unit());
 }

@@ -5,7 +5,7 @@ use encoding_text::mem::{
     convert_latin1_to_utf8, convert_latin1_to_utf8_partial, convert_latin1_to_utf16,
     convert_utf8_to_latin1, convert_utf8_to_latin1_lossy, convert_utf16_to_latin1_lossy,
     is_str_latin1, is_utf8_latin1, is_utf16_latin1, latin1_length_from_utf8, str_latin1_up_to,
-    utf8_latin1_up_to,
+    utf8_latin1_up_to, utf8_length_from_latin1,
 };
 use std::alloc::Global;
 use std::test::Fail;
@@ -116,7 +116,8 @@ fn converts_each_byte_to_a_unit_and_back(rt: HostRuntime) {
 fn converts_each_byte_to_utf8(rt: HostRuntime) {
     let mut text = [0x71u8; 512];
     let written = convert_latin1_to_utf8(&latin1(), &mut text);
-    assert!(rt; written == 384 && are_written(&latin1_in_utf8(), &text, written));
+    assert!(rt; written == 384 && utf8_length_from_latin1(&latin1()) == 384);
+    assert!(rt; are_written(&latin1_in_utf8(), &text, written));
 }
 
 #[test]

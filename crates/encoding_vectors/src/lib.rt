@@ -57,8 +57,6 @@ mod repair_stream_rows;
 #[cfg(test)]
 mod run_rows;
 #[cfg(test)]
-mod short_texts;
-#[cfg(test)]
 mod surrogate_places;
 #[cfg(test)]
 mod surrogate_rows;

@@ -1,6 +1,10 @@
-//! Bounded conversions into each room: how much fits, and that what follows stays.
+//! Bounded conversions into each room: how much fits, and that what follows stays, or is cleared in a text.
 
-use encoding_text::mem::{convert_latin1_to_utf8_partial, convert_utf16_to_utf8_partial};
+use crate::texts::is_text;
+use encoding_text::mem::{
+    convert_latin1_to_str, convert_latin1_to_str_partial, convert_latin1_to_utf8_partial,
+    convert_utf16_to_str, convert_utf16_to_str_partial, convert_utf16_to_utf8_partial,
+};
 
 /// Returns how many units are read and bytes written, if the unit after `letters` letters has this size in UTF-8,
 /// and all others are letters.
@@ -16,15 +20,41 @@ fn longest_front(letters: usize, size: usize, length: usize, room: usize) -> (us
     (written.saturating_sub(more), written)
 }
 
+/// Whether zeros follow the written bytes, as many of them as there is room for, and `q` follows these.
+fn is_cleared(dst: &[u8], written: usize, zeros: usize, room: usize) -> bool {
+    let end = written.saturating_add(zeros).min(room);
+    dst.iter()
+        .enumerate()
+        .skip(written)
+        .all(|(i, byte)| *byte == if i < end { 0 } else { b'q' })
+}
+
 /// Whether what fits of the bytes is written, and `q` stays after it.
 fn latin1_tail_stays(src: &[u8], letters: usize, room: usize) -> bool {
     let mut dst = [b'q'; 220];
     let Some(part) = dst.get_mut(..room) else {
         return false;
     };
-    let (read, written) = convert_latin1_to_utf8_partial(src, part);
-    (read, written) == longest_front(letters, 2, src.len(), room)
-        && dst.iter().skip(written).all(|byte| *byte == b'q')
+    let told = convert_latin1_to_utf8_partial(src, part);
+    told == longest_front(letters, 2, src.len(), room) && is_cleared(&dst, told.1, 0, room)
+}
+
+/// Whether a text takes the same, with sixteen zeros after it; all of it into the greatest room.
+fn latin1_clears(src: &[u8], letters: usize, room: usize) -> bool {
+    let mut dst = [b'q'; 220];
+    let Some(part) = dst.get_mut(..room) else {
+        return false;
+    };
+    if !is_text(part) {
+        return false;
+    }
+    let told = match src.len().checked_mul(2) {
+        Some(most) if most <= part.len() => (src.len(), convert_latin1_to_str(src, part)),
+        _ => convert_latin1_to_str_partial(src, part),
+    };
+    is_text(part)
+        && told == longest_front(letters, 2, src.len(), room)
+        && is_cleared(&dst, told.1, 16, room)
 }
 
 /// A byte of two after letters and before forty letters, into each room.
@@ -37,7 +67,9 @@ fn latin1_tails_stay(rt: HostRuntime) {
             src[letters] = high;
             let length = letters + 41;
             for room in 0..2 * length + 1 {
-                let stays = latin1_tail_stays(&src[..length], letters, room);
+                let src = &src[..length];
+                let stays = latin1_tail_stays(src, letters, room)
+                    && latin1_clears(src, letters, room);
                 assert!(rt; stays, "{high}, {letters}, {room}");
             }
         }
@@ -50,9 +82,26 @@ fn utf16_tail_stays(src: &[u16], letters: usize, size: usize, room: usize) -> bo
     let Some(part) = dst.get_mut(..room) else {
         return false;
     };
-    let (read, written) = convert_utf16_to_utf8_partial(src, part);
-    (read, written) == longest_front(letters, size, src.len(), room)
-        && dst.iter().skip(written).all(|byte| *byte == b'q')
+    let told = convert_utf16_to_utf8_partial(src, part);
+    told == longest_front(letters, size, src.len(), room) && is_cleared(&dst, told.1, 0, room)
+}
+
+/// Whether a text takes the same, with nothing to clear in letters; all of it into the greatest room.
+fn utf16_text_stays(src: &[u16], letters: usize, size: usize, room: usize) -> bool {
+    let mut dst = [b'q'; 330];
+    let Some(part) = dst.get_mut(..room) else {
+        return false;
+    };
+    if !is_text(part) {
+        return false;
+    }
+    let told = match src.len().checked_mul(3) {
+        Some(most) if most <= part.len() => (src.len(), convert_utf16_to_str(src, part)),
+        _ => convert_utf16_to_str_partial(src, part),
+    };
+    is_text(part)
+        && told == longest_front(letters, size, src.len(), room)
+        && is_cleared(&dst, told.1, 0, room)
 }
 
 /// A unit of two or three bytes after letters and before forty letters, into each room.
@@ -71,7 +120,9 @@ fn utf16_tails_stay(rt: HostRuntime) {
             src[letters] = unit;
             let length = letters + 41;
             for room in 0..3 * length + 1 {
-                let stays = utf16_tail_stays(&src[..length], letters, size, room);
+                let src = &src[..length];
+                let stays = utf16_tail_stays(src, letters, size, room)
+                    && utf16_text_stays(src, letters, size, room);
                 assert!(rt; stays, "{unit}, {letters}, {room}");
             }
         }
