@@ -1,11 +1,12 @@
 -- Calls of any form in a row give first parts, and calls that are asked the same answer the same.
-use Rattle.std.proofs.Common.{◌≡◌, ℕ, Bool, true, List, [], ◌∷◌, ◌++◌, length, take, drop, encode_utf8, sym, ap, ◌∙◌, subst, arith}
+use Rattle.std.proofs.Common.{◌≡◌, ℕ, ◌+◌, Bool, true, List, [], ◌∷◌, ◌++◌, length, take, drop, encode_utf8, sym, ap, ◌∙◌, subst, arith}
 use Rattle.std.specs.Char.Escape.{encode_utf16}
-use Rattle.std.specs.List.{AllZip}
-use Rattle.std.proofs.lemmas.List.{drop_all}
+use Rattle.std.specs.List.{AllZip, flat_map}
+use Rattle.std.proofs.lemmas.List.{drop_all, length-append, length-drop, nil_from_length}
 use Rattle.encoding_definitions.specs.Pending.{IsPending}
-use Rattle.encoding_definitions.specs.Parts.{Part, StartsWith}
+use Rattle.encoding_definitions.specs.Parts.{Part, StartsWith, bytes_of}
 use Rattle.encoding_definitions.specs.Giving.{Gives}
+use Rattle.encoding_definitions.proofs.Decomposition.DecompositionLemmas.{StartsWith-bytes}
 use Rattle.encoding_text.specs.Decoding.{IsBorrowedCall}
 use Rattle.encoding_text.proofs.Calls.CallPartsLemmas.{decoded_gives}
 use Rattle.encoding_text.proofs.Calls.BorrowedLemmas.{borrowed_gives}
@@ -53,8 +54,24 @@ one_call_gives p src form last answer read out q call =
           subst (StartsWith (p ++ src) parts) rest front.first;
     }
 
+-- a call that gives all of the parts reads all and leaves nothing pending
+all_read : (p src : List ℕ) (form : Form) (last : Bool) (answer : Answer) (read : ℕ) (out q : List ℕ) → GivesFirstParts AreGiven IsInputEmpty p src form last answer read out q
+    → last ≡ true → IsInputEmpty answer → (read ≡ length src) × (q ≡ [])
+all_read p src form last answer read out q g marked e =
+    let bytes : List ℕ = flat_map bytes_of g.parts in
+    let all = ap length (StartsWith-bytes (p ++ src) g.parts [] (g.all marked e)) in
+    let first = ap length (StartsWith-bytes (p ++ src) g.parts (q ++ drop read src) g.front.first) in
+    let sizes : length q + length (drop read src) ≡ 0 =
+    omega (arith, all, first, length-append bytes [], length-append bytes (q ++ drop read src), length-append q (drop read src)) in
+    (omega (arith, sizes, length-drop read src, g.front.within), nil_from_length q (omega (arith, sizes)))
+
+-- what calls in a row give follows from what each gives
 pub mixed_parts : (p b : List ℕ) (calls : List (Call Form Answer ℕ)) → IsPending p → IsChain IsMixedCall p b calls → GiveTheParts AreGiven IsInputEmpty p b calls
-mixed_parts = chain_gives IsMixedCall AreGiven mixed_gives IsInputEmpty mixed_empty
+mixed_parts =
+    chain_gives IsMixedCall AreGiven
+    (λ p src form last answer read out q call. let g = one_call_gives p src form last answer read out q call in (g.parts, g.given, g.front))
+    IsInputEmpty
+    (λ p src form last answer read out q call. all_read p src form last answer read out q (one_call_gives p src form last answer read out q call))
 
 -- ---- the same answers
 abbrev Agree : Answer → ℕ → List ℕ → List ℕ → Answer → ℕ → List ℕ → List ℕ → Type 0
