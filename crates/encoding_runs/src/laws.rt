@@ -145,9 +145,9 @@ pub fn law_partial_repeats()
 /// left held, write the UTF-8 of the first parts of what was held and of the source, however it is cut and whatever
 /// the rooms. Unicode Standard, section 3.9, UTF-16.
 ///
-/// The calls may be those of a list of turns, into a destination of the length that
-/// `max_buffer_length_from_utf16_without_replacement` returns. With at least twice as many turns as the source has code
-/// units and two more, each of which takes a code unit, has four bytes of room and is to be marked last, the last call
+/// The calls may be those of a list of turns, into a destination of at least the length that
+/// `max_buffer_length_from_utf16_without_replacement` returns. Let there be at least two turns more than twice the code
+/// units of the source, and let each take a code unit, have four bytes of room and `last` set. Then the last call
 /// returns `InputEmpty`, and the UTF-8 of all parts is written.
 pub fn law_encoder_cuts()
     ensures first_parts { (held src : List ℕ) (calls : List (Call ℕ EncoderResult ℕ)) → IsHeld held → AreUnits src

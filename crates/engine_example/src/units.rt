@@ -22,7 +22,7 @@ use std::alloc::{AllocError, Global};
 /// The bytes that `utf8_of_units` writes at once: four or more, so that each character fits.
 const ROOM: usize = 64;
 
-/// Whether the code units are the UTF-16 of a text: of these `String::from_utf16` makes it, and of no others.
+/// Whether the code units are the UTF-16 of a text. Then `String::from_utf16` returns that text, and else an error.
 pub fn is_text(units: &[u16]) -> bool
     ensures text { IsTrue result ↔ ((cs : List ℕ) × IsTrue (all_scalars cs) × (units.now ≡ flat_map encode_utf16 cs)) }
     ensures paired { IsTrue result ↔ (has_unpaired_surrogate units.now ≡ false) }
