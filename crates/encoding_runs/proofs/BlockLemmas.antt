@@ -1,8 +1,11 @@
 -- The repair of a block: what is written after each call of the decoder, and what calls on blocks give in a row.
-use Rattle.std.proofs.Common.{◌≡◌, ℕ, ◌+◌, ◌-◌, ◌*◌, ◌<◌, ◌≤◌, inl, Bool, true, false, List, [], ◌∷◌, ◌++◌, length, map, take, drop, encode_utf8, refl, sym, ap, ◌∙◌, arith, subst, true≢false}
+use Rattle.std.proofs.Common.{◌≡◌, ℕ, ◌+◌, ◌-◌, ◌*◌, ◌<◌, ◌≤◌, ◌↔◌, inl, inr, Bool, true, false, List, [], ◌∷◌, ◌++◌, length, map, take, drop, encode_utf8, refl, sym, ap, ◌∙◌, arith, subst, true≢false}
 use Rattle.std.specs.Prelude.{Any}
-use Rattle.std.proofs.lemmas.List.{append-nil, append_assoc, length-drop, take_rest}
-use Rattle.std.proofs.lemmas.Str.{length-encode}
+use Rattle.std.specs.Char.{IsScalar}
+use Rattle.std.specs.List.{flat_map}
+use Rattle.std.proofs.lemmas.Bool.{cases_lt}
+use Rattle.std.proofs.lemmas.List.{append-nil, append_assoc, drop-drop, length-append, length-drop, take_rest}
+use Rattle.std.proofs.lemmas.Str.{length-encode, len_utf8_bounds}
 use borrow.Rule.Slice.PartMut.{put_mid}
 use Rattle.encoding_definitions.specs.Parts.{Part, Character, Broken, repaired_text, count_broken}
 use Rattle.encoding_definitions.specs.Pending.{IsPending}
@@ -11,13 +14,14 @@ use Rattle.encoding_definitions.specs.Fronts.{WritesFront}
 use Rattle.encoding_definitions.proofs.LongestFronts.FrontsLemmas.{WritesFront-same, WritesFront-length, WritesFront_after}
 use Rattle.encoding_definitions.proofs.Decomposition.DecompositionLemmas.{repaired_text-append, repaired_text-characters, count_broken-append, count_broken-characters}
 use Rattle.encoding_definitions.proofs.Sequences.EncodingLemmas.{flat_map-encode_utf8}
-use Rattle.encoding_text.specs.Decoding.{IsCall}
+use Rattle.encoding_text.specs.Decoding.{Decodes}
 use Rattle.encoding_text.specs.GivenParts.{IsReported}
 use Rattle.encoding_text.specs.declared.decoder.DecoderResult.{DecoderResult}
 use Rattle.encoding_text.specs.declared.decoder.DecoderResult.TheVariants.{InputEmpty, OutputFull, Malformed}
 use Rattle.encoding_text.proofs.Calls.CallPartsLemmas.{decoded_gives}
+use Rattle.encoding_text.proofs.Calls.HasAnswerLemmas.{no_characters_pending}
 use Rattle.encoding_runs.specs.declared.repair.blocks.RepairedBlock.{RepairedBlock}
-use Rattle.encoding_runs.specs.Blocks.{IsBlockRepair, RepairTheParts, replaced_in_all}
+use Rattle.encoding_runs.specs.Blocks.{IsBlockRepair, WantsSpace, RepairTheParts, replaced_in_all}
 use Rattle.encoding_runs.specs.Calls.{Call, IsChain, output_of}
 use Rattle.encoding_runs.specs.DecoderCalls.{AreGivenInSequence, GiveTheParts}
 use Rattle.encoding_runs.specs.Repairs.{IsRepairedWith}
@@ -35,11 +39,10 @@ pub record BlockText (p src : List ℕ) (last : Bool) (old new : List ℕ) (read
 abbrev pub BlockDone : List ℕ → List ℕ → Bool → List ℕ → List ℕ → ℕ → ℕ → ℕ → List ℕ → Type 0
 BlockDone p src last old new read written replaced q = BlockText p src last old new read written replaced q []
 
--- a call of the decoder on what is left, into what is left but three bytes
+-- a call of the decoder on what is left, into what is left
 abbrev pub DecodesRest : List ℕ → List ℕ → Bool → List ℕ → List ℕ → ℕ → ℕ → DecoderResult → ℕ → ℕ → List ℕ → Type 0
 DecodesRest q src last new sub read written result bytes units t =
-    (out : List ℕ) × WritesFront (take (length new - written) (drop written new)) sub units out
-    × IsCall encode_utf8 4 q (drop read src) (length (take (length new - written) (drop written new)) - 3) last result bytes out t
+    Decodes encode_utf8 4 q (drop read src) (take (length new - written) (drop written new)) sub last result bytes units t
 
 module _ (p src : List ℕ) (last : Bool) (old new sub : List ℕ) (read written replaced : ℕ) (q : List ℕ) (bytes units : ℕ) (t : List ℕ) where
   abbrev after : List ℕ
@@ -66,40 +69,91 @@ module _ (p src : List ℕ) (last : Bool) (old new sub : List ℕ) (read written
       )
 
 -- ---- what ends a call
-module _ (p src : List ℕ) (last : Bool) (old new sub : List ℕ) (read written replaced : ℕ) (q : List ℕ) (bytes units : ℕ) (t : List ℕ)
-    (d : BlockDone p src last old new read written replaced q) where
-  abbrev Ended : Bool → Type 0
-  Ended finished = (out : List ℕ) × WritesFront old (put_mid written (length new - written) new sub) (written + units) out
-      × IsBlockRepair p src (length old) last (record { read = read + bytes; written = written + units; replaced = replaced; finished = finished }) (read + bytes) out t
+-- what a call on a block did
+abbrev pub Ended : List ℕ → List ℕ → Bool → List ℕ → List ℕ → ℕ → ℕ → ℕ → Bool → List ℕ → Type 0
+Ended p src last old new read written replaced finished q = (out : List ℕ) × WritesFront old new written out
+    × IsBlockRepair p src (length old) last (record { read = read; written = written; replaced = replaced; finished = finished }) read out q
 
-  ended : (result : DecoderResult) (finished : Bool) → ((reported : List Part) → IsReported result reported → reported ≡ []) → DecodesRest q src last new sub read written result bytes units t
-      → (finished ≡ true → (read + bytes ≡ length src) × (last ≡ true → t ≡ [])) → (finished ≡ false → length old < written + units + 7) → Ended finished
-  ended result finished none call is_end is_full =
-      let (reported, is, b) = block_more p src last old new sub read written replaced q bytes units t result d call in
-      let whole : b.parts ++ reported ≡ b.parts = ap (λ ps. b.parts ++ ps) (none reported is) ∙ append-nil b.parts in (
-        repaired_text b.parts,
-        b.writes,
-        record {
-          parts = b.parts;
-          given = subst (λ ps. Gives p src last ps (read + bytes) t) whole b.given;
-          text = refl;
-          fits = omega (arith, b.writes.count, b.writes.fits);
-          replaced = b.broken;
-          finished = is_end;
-          full = λ e. omega (arith, is_full e, b.writes.count);
-        },
-      )
+ended : (p src : List ℕ) (last : Bool) (old new : List ℕ) (read written replaced : ℕ) (finished : Bool) (q : List ℕ) (reported : List Part) → IsPending p
+    → BlockText p src last old new read written replaced q reported → reported ≡ [] → (finished ≡ true) ↔ ((read ≡ length src) × (last ≡ true → q ≡ []))
+    → (finished ≡ false → WantsSpace src read (length old - written) q) → Ended p src last old new read written replaced finished q
+ended p src last old new read written replaced finished q reported h b none is_end is_full = (
+  repaired_text b.parts,
+  b.writes,
+  record {
+    parts = b.parts;
+    was_pending = h;
+    given = subst (λ ps. Gives p src last ps read q) (ap (λ ps. b.parts ++ ps) none ∙ append-nil b.parts) b.given;
+    text = refl;
+    fits = omega (arith, b.writes.count, b.writes.fits);
+    replaced = b.broken;
+    finished = is_end;
+    full = λ e. subst (λ n. WantsSpace src read (length old - n) q) b.writes.count (is_full e);
+  },
+)
+
+-- all was read, and U+FFFD for what is pending doesn't fit
+pub block_stuck : (p src : List ℕ) (last : Bool) (old new : List ℕ) (read written replaced : ℕ) (finished : Bool) (q : List ℕ) → IsPending p
+    → BlockDone p src last old new read written replaced q → length src - read ≡ 0 → length new - written < 3 → (finished ≡ true) ↔ (last ≡ true → q ≡ [])
+    → Ended p src last old new read written replaced finished q
+block_stuck p src last old new read written replaced finished q h d all few is_end =
+    let whole : read ≡ length src = omega (arith, all, d.given.within) in
+    let left : length old - written < 3 = omega (arith, few, WritesFront-length _ _ _ _ d.writes) in
+    ended p src last old new read written replaced finished q [] h d refl ((λ e. (whole, is_end.0 e)), λ e. is_end.1 e.1)
+    (λ e. record { few = omega (arith, left); at_end = λ _. left; next = λ _ (c, rest, scalar, begins, l). no_fitting c rest scalar begins whole })
+  where
+    no_fitting : (c : ℕ) (rest : List ℕ) → IsScalar c → drop read src ≡ encode_utf8 c ++ rest → read ≡ length src → ⊥
+    no_fitting c rest scalar begins whole =
+        omega (arith, ap length begins, length-drop read src, whole, length-append (encode_utf8 c) rest, length-encode c, len_utf8_bounds c)
+
+module _ (p src : List ℕ) (last : Bool) (old new sub : List ℕ) (read written replaced : ℕ) (q : List ℕ) (bytes units : ℕ) (t : List ℕ) (h : IsPending p)
+    (d : BlockDone p src last old new read written replaced q) where
+  abbrev dst : List ℕ
+  dst = put_mid written (length new - written) new sub
+
+  abbrev EndedBy : Bool → Type 0
+  EndedBy finished = Ended p src last old dst (read + bytes) (written + units) replaced finished t
+
+  size : length (take (length new - written) (drop written new)) ≡ length old - written
+  size = ap length (take_rest new written) ∙ length-drop written new ∙ ap (λ n. n - written) (WritesFront-length _ _ _ _ d.writes)
 
   -- all was read
-  pub block_finished : DecodesRest q src last new sub read written InputEmpty bytes units t → Ended true
+  pub block_finished : DecodesRest q src last new sub read written InputEmpty bytes units t → EndedBy true
   block_finished (out, w, call) =
-      ended InputEmpty true (λ reported e. e) (out, w, call) (λ _. (omega (arith, call.answer.0, length-drop read src, d.given.within), call.answer.2)) (λ e. absurd (true≢false e))
+      let (reported, is, b) = block_more p src last old new sub read written replaced q bytes units t InputEmpty d (out, w, call) in
+      let all : read + bytes ≡ length src = omega (arith, call.answer.0, length-drop read src, d.given.within) in
+      ended p src last old _ _ _ replaced true t reported h b is ((λ _. (all, call.answer.2)), λ _. refl) (λ e. absurd (true≢false e))
 
-  -- the room that is left isn't enough
-  pub block_full : DecodesRest q src last new sub read written OutputFull bytes units t → written + 3 ≤ length new → Ended false
-  block_full (out, w, call) l =
-      let size : length (take (length new - written) (drop written new)) ≡ length new - written = ap length (take_rest new written) ∙ length-drop written new in
-      ended OutputFull false (λ reported e. e) (out, w, call) (λ e. absurd (true≢false (sym e))) (λ _. omega (arith, call.answer.2, size, w.count, WritesFront-length _ _ _ _ d.writes))
+  -- the space that is left isn't enough
+  pub block_full : DecodesRest q src last new sub read written OutputFull bytes units t → EndedBy false
+  block_full (out, w, call) =
+      let (reported, is, b) = block_more p src last old new sub read written replaced q bytes units t OutputFull d (out, w, call) in
+      let (some, whole, few, none, held) = call.answer in
+      let unread : read + bytes ≡ length src → ⊥ = λ all. omega (arith, all, some, length-drop read src) in
+      let left : length (take (length new - written) (drop written new)) - length out ≡ length old - (written + units) = omega (arith, size, w.count) in
+      ended p src last old _ _ _ replaced false t reported h b is ((λ e. absurd (true≢false (sym e))), λ e. absurd (unread e.0)) (λ _. record {
+        few = omega (arith, few, left);
+        at_end = λ all. absurd (unread all);
+        next = λ nothing f. none nothing (rw (left, drop-drop bytes read src) f);
+      })
+
+  -- a report leaves space for U+FFFD
+  pub block_fits : (k second : ℕ) → DecodesRest q src last new sub read written (Malformed k second) bytes units t → (length src - read ≡ 0 → 3 ≤ length new - written)
+      → 3 ≤ length (take (length dst - (written + units)) (drop (written + units) dst))
+  block_fits k second (out, w, call) at_end =
+      let (reported, is, b) = block_more p src last old new sub read written replaced q bytes units t (Malformed k second) d (out, w, call) in
+      let (x, zero, within, whole, count, none, broken, enough) = call.answer in
+      let space : length (take (length dst - (written + units)) (drop (written + units) dst)) ≡ length old - (written + units) =
+      ap length (take_rest dst (written + units)) ∙ length-drop (written + units) dst ∙ ap (λ n. n - (written + units)) (WritesFront-length _ _ _ _ b.writes) in
+      let same = WritesFront-length _ _ _ _ d.writes in
+      elim (cases_lt 0 (length (drop read src))) [
+        | inl some ↦ omega (arith, enough some, size, w.count, space)
+        | inr nothing ↦
+            let no_bytes : bytes ≡ 0 = omega (arith, within, nothing) in
+            let no_characters = no_characters_pending call.scalars x q call.are_scalars call.pending_before
+            (sym (append-nil q) ∙ ap (λ n. q ++ take n (drop read src)) (sym no_bytes) ∙ whole) in
+            omega (arith, at_end (omega (arith, nothing, length-drop read src)), w.count, space, same, ap length (call.out_is ∙ ap (flat_map encode_utf8) no_characters))
+      ]
 
 -- U+FFFD for the part that is reported
 pub block_replaced : (p src : List ℕ) (last : Bool) (old new sub : List ℕ) (read written replaced n k second : ℕ) (q : List ℕ) (reported : List Part)
@@ -133,11 +187,16 @@ sequence_text (call ∷ calls) parts (first, others, (text, count), more, whole)
 
 blocks_give : (p b : List ℕ) (calls : List (Call ℕ RepairedBlock ℕ)) → IsPending p → IsChain IsBlockRepair p b calls → GiveTheParts AreRepairedParts (λ block. block.finished ≡ true) p b calls
 blocks_give = chain_gives IsBlockRepair AreRepairedParts (λ p src room last block read out q call. (call.parts, (call.text, call.replaced), call.given)) (λ block. block.finished ≡ true)
-    (λ p src room last block read out q call marked e. ((call.finished e).0, (call.finished e).1 marked))
+    (λ p src room last block read out q call marked e. ((call.finished.0 e).0, (call.finished.0 e).1 marked))
 
-pub blocks_front : (p b : List ℕ) (calls : List (Call ℕ RepairedBlock ℕ)) → IsPending p → IsChain IsBlockRepair p b calls → RepairTheParts p b calls
+-- what was pending before the first call
+pending_before : (p b : List ℕ) (calls : List (Call ℕ RepairedBlock ℕ)) → (calls ≡ [] → IsPending p) → IsChain IsBlockRepair p b calls → IsPending p
+pending_before p b [] h c = h refl
+pending_before p b (call ∷ calls) h c = c.0.was_pending
+
+pub blocks_front : (p b : List ℕ) (calls : List (Call ℕ RepairedBlock ℕ)) → (calls ≡ [] → IsPending p) → IsChain IsBlockRepair p b calls → RepairTheParts p b calls
 blocks_front p b calls h c =
-    let given = blocks_give p b calls h c in
+    let given = blocks_give p b calls (pending_before p b calls h c) c in
     let text = sequence_text calls given.parts given.in_sequence in
     record { parts = given.parts; front = given.front; text = text.0; replaced = text.1 }
 

@@ -1,21 +1,32 @@
 -- The repair of a stream by blocks: one call on the next bytes, and calls in a row.
-use Rattle.std.specs.Prelude.{◌≡◌, ℕ, ◌+◌, ◌<◌, ◌≤◌, Bool, true, false, List, [], ◌∷◌, length}
+use Rattle.std.specs.Prelude.{◌≡◌, ◌↔◌, ℕ, ◌+◌, ◌-◌, ◌<◌, ◌≤◌, Bool, true, false, List, [], ◌∷◌, length, drop, encode_utf8}
 use Rattle.encoding_definitions.specs.Parts.{Part, repaired_text, count_broken}
+use Rattle.encoding_definitions.specs.Converting.{FittingBegins}
 use Rattle.encoding_definitions.specs.Giving.{Gives}
+use Rattle.encoding_definitions.specs.Pending.{IsPending}
 use Rattle.encoding_runs.specs.declared.repair.blocks.RepairedBlock.{RepairedBlock}
 use Rattle.encoding_runs.specs.Calls.{Call, read_in_all, output_of, pending_after, some_last}
 
--- One call, from what is pending, on the next bytes and into so much room. It writes the text of the first parts of both
--- and counts the broken ones among them. It is finished where all was read, and then nothing is pending if these bytes
--- are the last. Elsewhere fewer than seven bytes of room are left.
+-- Why a call stops before it is finished, with this source, of which so much is read, and so much space left. Less is left
+-- than the longest character has: with that much the decoder goes on with what is pending, and reports. If only U+FFFD for
+-- what is pending is left to be written, that doesn't fit. With nothing pending, no character that fits comes next.
+pub record WantsSpace (src : List ℕ) (read left : ℕ) (q : List ℕ) : Type 0 where
+  pub few : left < 4
+  pub at_end : read ≡ length src → left < 3
+  pub next : q ≡ [] → FittingBegins encode_utf8 (drop read src) left → ⊥
+
+-- One call, from what is pending, on the next bytes and into so much space. It writes the text of the first parts of both
+-- and counts the malformed sequences among them. It is finished exactly if all was read, and nothing is pending if these
+-- bytes are the last.
 pub record IsBlockRepair (p src : List ℕ) (room : ℕ) (last : Bool) (block : RepairedBlock) (read : ℕ) (out q : List ℕ) : Type 0 where
   pub parts : List Part
+  pub was_pending : IsPending p
   pub given : Gives p src last parts read q
   pub text : out ≡ repaired_text parts
   pub fits : length out ≤ room
   pub replaced : block.replaced ≡ count_broken parts
-  pub finished : block.finished ≡ true → (read ≡ length src) × (last ≡ true → q ≡ [])
-  pub full : block.finished ≡ false → room < length out + 7
+  pub finished : (block.finished ≡ true) ↔ ((read ≡ length src) × (last ≡ true → q ≡ []))
+  pub full : block.finished ≡ false → WantsSpace src read (room - length out) q
 
 -- for how many broken parts calls wrote U+FFFD
 abbrev pub replaced_in_all : List (Call ℕ RepairedBlock ℕ) → ℕ

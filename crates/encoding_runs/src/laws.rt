@@ -86,11 +86,12 @@ pub fn law_next_broken()
 
 /// Calls of `repair_block` over one stream, each handed the unread bytes from the first on and what the one before left
 /// pending, write the repaired text of the first parts of the stream, however it is cut and whatever the rooms, and count
-/// the broken ones. Once a call marked last is finished that is the repaired text of the whole stream, and the number of
-/// its broken parts. Encoding Standard, UTF-8 decode without BOM.
+/// the broken ones. Each call says that what was pending before it is nothing or an incomplete sequence: this is a premise
+/// only if there are no calls. Once a call marked last is finished that is the repaired text of the whole stream, and the
+/// number of its broken parts. Encoding Standard, UTF-8 decode without BOM.
 pub fn law_block_repair()
-    ensures front { (p b : List ℕ) (calls : List (Call ℕ RepairedBlock ℕ)) → IsPending p → IsChain IsBlockRepair p b calls
-        → RepairTheParts p b calls }
+    ensures front { (p b : List ℕ) (calls : List (Call ℕ RepairedBlock ℕ)) → (calls ≡ [] → IsPending p)
+        → IsChain IsBlockRepair p b calls → RepairTheParts p b calls }
     ensures whole { (b : List ℕ) (calls : List (Call ℕ RepairedBlock ℕ)) → IsChain IsBlockRepair [] b calls
         → Any (λ call. (call.last ≡ true) × (call.result.finished ≡ true)) calls
         → IsRepairedWith b (output_of calls) (replaced_in_all calls) }

@@ -26,8 +26,8 @@ module _ (p block : List ℕ) (room : ℕ) (last : Bool) (result : RepairedBlock
   whole_characters = subst IsUtf8 (sym repair.text) (IsUtf8-repaired _ repair.parts _ repair.given.first)
 
   finished : (b : Bool) → result.finished ≡ b → 7 ≤ room → length out ≡ 0 → (read ≡ length block) × (last ≡ true → q ≡ [])
-  finished true e enough none = repair.finished e
-  finished false e enough none = absurd (omega (arith, repair.full e, enough, none))
+  finished true e enough none = repair.finished.0 e
+  finished false e enough none = absurd (omega (arith, (repair.full e).few, enough, none))
 
   -- a call that writes nothing and isn't the last leaves more pending
   pub grows : 7 ≤ room → length out ≡ 0 → 0 < length block → (length p < length q) × (length q ≤ 3)

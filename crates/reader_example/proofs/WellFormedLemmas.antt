@@ -64,7 +64,7 @@ module _ (p block : List ℕ) (room : ℕ) (last : Bool) (result : RepairedBlock
           let bytes = StartsWith-bytes _ repair.parts _ repair.given.first in
           absurd (omega (
             arith,
-            repair.full e,
+            (repair.full e).few,
             enough,
             short,
             pending_length p pending,
@@ -80,7 +80,7 @@ module _ (p block : List ℕ) (room : ℕ) (last : Bool) (result : RepairedBlock
   next (Some bytes) (Some unread) None on read_here unmarked none short enough = absurd read_here
   next (Some bytes) (Some unread) (Some rest) on read_here unmarked none short enough =
       let here : GoesOn bytes p (block ++ rest) = subst (GoesOn bytes p) read_here on in
-      let all = (repair.finished (finished on.0 none short enough)).0 in
+      let all = (repair.finished.0 (finished on.0 none short enough)).0 in
       let left : drop read (block ++ rest) ≡ rest = drop_at block rest read (sym all) in (
         repair.given.pending,
         λ others chain.
@@ -89,7 +89,7 @@ module _ (p block : List ℕ) (room : ℕ) (last : Bool) (result : RepairedBlock
       )
 
   -- a broken part is in all the bytes
-  pub some_broken : ((p b : List ℕ) (calls : List (Call ℕ RepairedBlock ℕ)) → IsPending p → IsChain IsBlockRepair p b calls → RepairTheParts p b calls)
+  pub some_broken : ((p b : List ℕ) (calls : List (Call ℕ RepairedBlock ℕ)) → (calls ≡ [] → IsPending p) → IsChain IsBlockRepair p b calls → RepairTheParts p b calls)
       → ((bs : List ℕ) → (parts : List Part) × ArePartsOf bs parts) → ((bs : List ℕ) (parts : List Part) → ArePartsOf bs parts → IsUtf8 bs ↔ (count_broken parts ≡ 0))
       → (known before after : Option (List ℕ)) → NoneBroken known p before → Consumes before after block → (last ≡ true → IsAtEnd after) → 0 < result.replaced → IfSome known (λ bytes. IsTrue false ↔ IsUtf8 bytes)
   some_broken front exist unbroken None before after on read_here end some = tt
@@ -97,7 +97,7 @@ module _ (p block : List ℕ) (room : ℕ) (last : Bool) (result : RepairedBlock
   some_broken front exist unbroken (Some bytes) (Some unread) None on read_here end some = absurd read_here
   some_broken front exist unbroken (Some bytes) (Some unread) (Some rest) on read_here end some =
       let (calls, chain, count, ends) = then_others bytes rest (subst (GoesOn bytes p) read_here on) end [] tt in
-      let first = front [] bytes calls (inl refl) chain in
+      let first = front [] bytes calls (λ _. inl refl) chain in
       let (others, are) = exist _ in
       let whole : ArePartsOf bytes (first.parts ++ others) = StartsWith-append bytes first.parts _ others [] first.front.first are in (
         (λ e. absurd (both_ways _ refl e)),

@@ -1,12 +1,13 @@
-use Rattle.std.proofs.Common.{◌-◌, ◌≤◌, length}
+use Rattle.std.proofs.Common.{◌≡◌, ◌-◌, ◌≤◌, false, length}
 use Rattle.encoding_runs.proofs.BlockLemmas.{BlockDone}
 use Rattle.encoding_runs.proofs.repair.blocks.repair_block.Given as goal
 
-abbrev pub invariant-loop-dst : goal.invariant-loop-dst
-invariant-loop-dst l = record {
-  done : BlockDone l.initial.decoder l.src l.last l.initial.dst l.dst l.read l.written l.replaced l.decoder;
-  within : l.written ≤ length l.dst;
+abbrev pub invariant-loop-rest : goal.invariant-loop-rest
+invariant-loop-rest l = record {
+  done : BlockDone l.initial.decoder l.src l.last l.initial.dst l.dst l.block.read l.block.written l.block.replaced l.decoder;
+  within : l.block.written ≤ length l.dst;
+  unfinished : l.block.finished ≡ false;
 }
 
-abbrev pub decreases-loop-dst : goal.decreases-loop-dst
-decreases-loop-dst l = length l.initial.dst - l.written
+abbrev pub decreases-loop-rest : goal.decreases-loop-rest
+decreases-loop-rest l = length l.initial.dst - l.block.written
