@@ -346,10 +346,13 @@ static void repair_by_blocks(void)
     encoding_text_utf8_decoder decoder;
 
     encoding_text_utf8_decoder_new(&decoder);
-    CHECK(block_is(encoding_text_repair_block(&decoder, ALL(first), fresh_bytes(), 2, false), 0, 0, 0, false)
+    CHECK(block_is(encoding_text_repair_block(&decoder, ALL(first), fresh_bytes(), 0, false), 0, 0, 0, false)
           && no_bytes_written());
-    CHECK(block_is(encoding_text_repair_block(&decoder, ALL(first), fresh_bytes(), 8, false), 3, 1, 0, true));
-    CHECK(bytes_are(BYTES("a")) && !encoding_text_utf8_decoder_in_neutral_state(&decoder));
+    CHECK(block_is(encoding_text_repair_block(&decoder, ALL(first), fresh_bytes(), 2, false), 1, 1, 0, false));
+    CHECK(bytes_are(BYTES("a")) && encoding_text_utf8_decoder_in_neutral_state(&decoder));
+    CHECK(block_is(encoding_text_repair_block(&decoder, first + 1, 2, fresh_bytes(), 4, false), 2, 0, 0, true)
+          && no_bytes_written());
+    CHECK(!encoding_text_utf8_decoder_in_neutral_state(&decoder));
     CHECK(block_is(encoding_text_repair_block(&decoder, ALL(second), fresh_bytes(), 16, true), 5, 10, 3, true));
     CHECK(bytes_are(BYTES("\xEF\xBF\xBD\xEF\xBF\xBD" "b\xEF\xBF\xBD")));
     CHECK(encoding_text_utf8_decoder_in_neutral_state(&decoder));

@@ -485,10 +485,10 @@ typedef struct {
     bool finished;   /**< whether all of the block was read, and nothing is pending after the last one */
 } encoding_text_repaired_block;
 
-/** Writes the next block of a stream with U+FFFD for each broken part; last says that no block follows. The decoder is new
- * before the first block, and holds what is pending between two. Where it isn't finished, hand in the bytes that are
- * unread again with more room: seven bytes get on. Whatever the blocks and rooms, all that is written is the repaired
- * stream. @return how much was read and written */
+/** Writes the next block of a stream with U+FFFD for each malformed sequence; last says that no block follows. The decoder
+ * is new before the first block, and holds what is pending between two. If it isn't finished, fewer than four bytes are
+ * free: hand in the bytes that are unread again with more space. Four bytes get on. Whatever the blocks and spaces, all
+ * that is written is the repaired stream. @return how much was read and written */
 encoding_text_repaired_block encoding_text_repair_block(encoding_text_utf8_decoder *decoder, const uint8_t *src,
                                                         size_t src_length, uint8_t *dst, size_t dst_length, bool last);
 

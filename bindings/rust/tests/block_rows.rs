@@ -47,12 +47,12 @@ fn blocks_and_rooms() {
     let text = TEXT.repeat(TIMES);
     let mut count = 0;
     for block in [1, 2, 3, 5, 16, 17, 100, 640] {
-        for room in [7, 8, 9, 10, 31, 64] {
+        for room in [4, 5, 6, 7, 8, 9, 10, 31, 64] {
             assert_repaired(&stream, &text, block, room);
             count += 1;
         }
     }
-    assert_eq!(count, 8 * 6);
+    assert_eq!(count, 8 * 9);
 }
 
 /// Too little room for a call: nothing is read or written, and the decoder stays as it is.
@@ -63,8 +63,34 @@ fn little_room() {
     let none = repair_block(&mut decoder, &[0xFF], &mut dst, true);
     assert_eq!((none.read, none.written, none.finished), (0, 0, false));
     assert_eq!(dst, [0x71; 2]);
-    let mut dst = [0x71; 7];
+    let mut dst = [0x71; 4];
     let one = repair_block(&mut decoder, &[0xFF], &mut dst, true);
     assert_eq!((one.replaced, one.finished), (1, true));
-    assert_eq!(dst, [0xEF, 0xBF, 0xBD, 0x71, 0x71, 0x71, 0x71]);
+    assert_eq!(dst, [0xEF, 0xBF, 0xBD, 0x71]);
+}
+
+/// Text that fits is finished, also if no byte is left for more.
+#[test]
+fn text_that_fits() {
+    for room in 3..7 {
+        let mut dst = [0x71; 6];
+        let done = repair_block(&mut Decoder::default(), b"abc", &mut dst[..room], true);
+        assert_eq!((done.read, done.written, done.finished), (3, 3, true), "{room}");
+        assert_eq!(&dst, b"abcqqq", "{room}");
+    }
+}
+
+/// An empty last block is finished in any space if nothing is pending, and else if U+FFFD fits.
+#[test]
+fn empty_last_block() {
+    for room in 0..=3 {
+        let mut dst = [0x71; 3];
+        let mut decoder = Decoder::default();
+        let none = repair_block(&mut decoder, &[], &mut dst[..room], true);
+        assert_eq!((none.written, none.finished), (0, true), "{room}");
+        assert!(repair_block(&mut decoder, &[0xE2, 0x98], &mut [0x71; 4], false).finished);
+        let pending = repair_block(&mut decoder, &[], &mut dst[..room], true);
+        let is_long = room >= 3;
+        assert_eq!((pending.written, pending.finished), (if is_long { 3 } else { 0 }, is_long), "{room}");
+    }
 }
