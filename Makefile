@@ -30,7 +30,7 @@ ifneq ($(words $(CPU)) $(words $(filter $(CPUS),$(CPU))),1 1)
 $(error CPU=$(CPU) is none of these: $(CPUS))
 endif
 
-LIBRARIES = encoding_definitions encoding_kernels encoding_text encoding_runs encoding_c repair_filter utf8_repair
+LIBRARIES = encoding_definitions encoding_kernels encoding_text encoding_runs encoding_c utf8_repair
 SOURCES = $(foreach name,$(LIBRARIES),$(wildcard crates/$(name)/src/*.rt crates/$(name)/src/*/*.rt))
 BUILT = libencoding_text.a $(SHARED) utf8_repair
 

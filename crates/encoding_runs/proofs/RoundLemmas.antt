@@ -1,6 +1,6 @@
 -- The rounds of the engine, one behind the other, up to the end or a fault.
 use Rattle.std.proofs.Common.{◌≡◌, ℕ, ◌+◌, ◌<◌, ◌≤◌, Bool, true, false, List, [], ◌++◌, length, Option, refl, sym, ap, ◌∙◌, arith, subst}
-use Rattle.std.specs.Io.KnownBytes.{Keeps}
+use Rattle.std.specs.Io.KnownBytes.{Keeps, IsAtEnd}
 use Rattle.std.proofs.KnownBytes.{Appends-trans, Consumes-trans, Consumes-kept}
 use Rattle.std.proofs.lemmas.List.{length-append, take_at}
 use Rattle.encoding_definitions.specs.Pending.{IsPending}
@@ -39,6 +39,7 @@ stopped_writing unread mid left old new now read n p room bytes last before afte
   omega (arith, r.count, length-append r.input bytes, b.within),
   (
     Consumes-trans _ _ _ _ _ r.consumed b.consumed,
+    λ e. none_left last refl e,
     (
       repaired_text (ps ++ others.0),
       out,
@@ -73,6 +74,10 @@ stopped_writing unread mid left old new now read n p room bytes last before afte
     seen : (b' : Bool) → last ≡ b' → after ≡ last
     seen true e = (b.at_end e).1 ∙ sym e
     seen false e = (b.going_on e).1 ∙ going ∙ sym e
+
+    none_left : (b' : Bool) → last ≡ b' → after ≡ true → IsAtEnd left
+    none_left true e t = (b.at_end e).2
+    none_left false e t = absurd (let no : false ≡ true = sym going ∙ sym (b.going_on e).1 ∙ t in cc)
 
     at_end : (b' : Bool) → last ≡ b' → after ≡ true → length r.input ≡ length all
     at_end true e t = omega (arith, length-append r.input bytes, ap length (b.at_end e).0)

@@ -54,12 +54,6 @@ abbrev pub StopsReading : List ℕ → Bool → Option (List ℕ) → Option (Li
 StopsReading bs ended old new = (text : List ℕ) × (out : List ℕ) × IsDue bs ended text × IsProperFront out text × Appends old new out
     × (rounds : HoldsRounds bs out) × (ended ≡ true → rounds.before ≡ length bs)
 
--- Of the repaired text of the bytes a front was written: nothing, some, or all of it, and at least the settled text of
--- all but the last bytes.
-abbrev pub WritesFrontOfRepaired : List ℕ → Option (List ℕ) → Option (List ℕ) → Type 0
-WritesFrontOfRepaired bs old new =
-    (text : List ℕ) × (out : List ℕ) × IsRepaired bs text × IsFront out text × Appends old new out × HoldsRounds bs out
-
 -- all that there was to read was read, and written repaired; n parts were broken
 abbrev pub RepairsAll : List ℕ → Option (List ℕ) → Option (List ℕ) → Option (List ℕ) → Option (List ℕ) → ℕ → Type 0
 RepairsAll bs unread left old new n = Consumes unread left bs × IsAtEnd left × WritesRepaired bs old new n
@@ -68,6 +62,7 @@ RepairsAll bs unread left old new n = Consumes unread left bs × IsAtEnd left ×
 abbrev pub RepairsSettled : List ℕ → Option (List ℕ) → Option (List ℕ) → Option (List ℕ) → Option (List ℕ) → Type 0
 RepairsSettled bs unread left old new = Consumes unread left bs × WritesSettled bs old new
 
--- these bytes were read, and a write failed before all was written that was due
+-- these bytes were read, with nothing left to read if their end was seen, and a write failed before all was written that
+-- was due
 abbrev pub RepairsFront : List ℕ → Bool → Option (List ℕ) → Option (List ℕ) → Option (List ℕ) → Option (List ℕ) → Type 0
-RepairsFront bs ended unread left old new = Consumes unread left bs × StopsReading bs ended old new
+RepairsFront bs ended unread left old new = Consumes unread left bs × (ended ≡ true → IsAtEnd left) × StopsReading bs ended old new

@@ -1,11 +1,17 @@
 //! Reads standard input to its end, and writes it to standard output as well-formed UTF-8.
 #![tactic(auto)]
 
-use repair_filter::service::{NO_ARGUMENTS, report, serve};
-use repair_filter::streams::{Due, ROOM, ReadAhead, WriteBehind};
+mod service;
+mod streams;
+#[cfg(test)]
+mod tests;
+
+pub use service::serve;
+use service::{NO_ARGUMENTS, report};
 use std::cell::Cell;
 use std::env;
 use std::process::ExitCode;
+use streams::{Due, ROOM, ReadAhead, WriteBehind};
 
 /// Serves the standard streams, each behind an array: they are not buffered, and each of their calls is one of the
 /// system.

@@ -1,0 +1,68 @@
+//! A reader that reads much at once and gives it out in pieces.
+ghost use Rattle.std.specs.Prelude.{◌≡◌, ◌<◌, []};
+ghost use Rattle.std.specs.Io.KnownBytes.{prepend_known};
+
+use super::due::Due;
+use super::held::Held;
+use std::cell::Cell;
+use std::io::{self, Read};
+use std::str::from_utf8;
+
+/// How many bytes of the array are given out apart, as the last ones, if no whole character ends it. A filter that
+/// holds back at most three bytes, as an incomplete sequence, writes something when it reads these.
+const LAST: usize = 4;
+
+/// How many of the last bytes are given out apart, and what of them is due.
+///
+/// If a whole character ends the bytes, the filter writes it last and holds nothing back. Of more than one byte, only
+/// its first one is given out with the bytes before it: that settles all of these, and the other bytes then make one
+/// piece.
+fn last_ones(bytes: &[u8]) -> (usize, Due) {
+    for count in 1..LAST + 1 {
+        let start = bytes.len().saturating_sub(count);
+        match bytes.get(start..) {
+            Some([end]) if end.is_ascii() => return (1, Due::UpTo(*end)),
+            Some(character) if from_utf8(character).is_ok() => return (count - 1, Due::Each),
+            _ => {}
+        }
+    }
+    (LAST, Due::Each)
+}
+
+/// Fills an array by one read, and gives its bytes out: apart those behind which the next read may wait. It tells the
+/// writer with each read what of it is due.
+#[derive(Drop)]
+pub(crate) struct ReadAhead<'a, R, const N: usize> {
+    inner: R,
+    held: Held<N>,
+    due: &'a Cell<Due>,
+}
+
+impl<'a, R, const N: usize> ReadAhead<'a, R, N> {
+    /// Reads ahead of what is asked for, of this reader.
+    pub(crate) fn new(inner: R, due: &'a Cell<Due>) -> ReadAhead<'a, R, N>
+        requires { 0 < N }
+        ensures inner { result.inner ≡ inner }
+        ensures held { result.held ≡ [] }
+    {
+        ReadAhead {
+            inner,
+            held: Held::new(),
+            due,
+        }
+    }
+}
+
+impl<R: Read, const N: usize> Read for ReadAhead<'_, R, N> {
+    ghost remaining = { λ r. prepend_known r.held (R.remaining r.inner) };
+
+    /// Reads what waits in the array, which one read of the reader inside fills where it is empty.
+    fn read(&mut self, buffer: &mut [u8]) -> io::Result<usize> {
+        self.held.fill(&mut self.inner)?;
+        let (apart, due) = last_ones(self.held.as_slice());
+        let ahead = self.held.len().saturating_sub(apart);
+        self.due.set(if ahead == 0 { due } else { Due::Nothing });
+        let most = if ahead == 0 { LAST } else { ahead };
+        Ok(self.held.pop_into(buffer, most))
+    }
+}

@@ -1,0 +1,101 @@
+//! A writer that gathers pieces and writes much at once.
+ghost use Rattle.std.specs.Prelude.{◌≡◌, ◌++◌, ◌-◌, ◌<◌, ◌≤◌, true, false, List, ℕ, [], length, take, IfOk, OnOk, OnErr};
+ghost use Rattle.std.specs.Io.KnownBytes.{Keeps, append_known};
+
+use super::due::Due;
+use super::held::Held;
+use std::cell::Cell;
+use std::io::{self, Write};
+
+/// Compresses what is written in an array, and writes it out when that is full, at a flush, and with each piece that is
+/// due: by one write, as far as the writer inside takes it. What is never flushed is lost.
+#[derive(Drop)]
+pub(crate) struct WriteBehind<'a, W, const N: usize> {
+    inner: W,
+    held: Held<N>,
+    due: &'a Cell<Due>,
+}
+
+impl<'a, W, const N: usize> WriteBehind<'a, W, N> {
+    /// Compresses what is to be written to this writer.
+    pub(crate) fn new(inner: W, due: &'a Cell<Due>) -> WriteBehind<'a, W, N>
+        requires { 0 < N }
+        ensures inner { result.inner ≡ inner }
+        ensures held { result.held ≡ [] }
+    {
+        WriteBehind {
+            inner,
+            held: Held::new(),
+            due,
+        }
+    }
+}
+
+impl<W: Write, const N: usize> WriteBehind<'_, W, N> {
+    /// Takes the piece behind what waits, and returns whether it did: where it is longer than the array, it doesn't, and
+    /// nothing waits.
+    fn gather(&mut self, piece: &[u8]) -> io::Result<bool>
+        ensures taken { IfOk result (λ taken. taken ≡ true → (front : List ℕ) × (self.new.held ≡ front ++ piece.now)
+            × Keeps (append_known (W.contents self.old.inner) self.old.held) (append_known (W.contents self.new.inner) front)) }
+        ensures too_long { IfOk result (λ taken. taken ≡ false → (self.new.held ≡ [])
+            × Keeps (append_known (W.contents self.old.inner) self.old.held) (W.contents self.new.inner)) }
+        ensures err { OnErr result (Keeps (append_known (W.contents self.old.inner) self.old.held)
+            (append_known (W.contents self.new.inner) self.new.held)) }
+    {
+        if self.held.push(piece) {
+            return Ok(true);
+        }
+        self.held.write_to(&mut self.inner)?;
+        Ok(self.held.push(piece))
+    }
+
+    /// Writes out what waits, of which the last bytes, so many, are a piece, until some of this is taken, and returns how
+    /// many. What is not taken of the piece doesn't wait on.
+    fn send(&mut self, count: usize) -> io::Result<usize>
+        requires { (0 < count) × (count ≤ length self.old.held) }
+        ensures ok { IfOk result (λ n. (n ≤ count) × Keeps
+            (append_known (W.contents self.old.inner) (take (length self.old.held - (count - n)) self.old.held))
+            (append_known (W.contents self.new.inner) self.new.held)) }
+        ensures err { OnErr result (Keeps
+            (append_known (W.contents self.old.inner) (take (length self.old.held - count) self.old.held))
+            (append_known (W.contents self.new.inner) self.new.held)) }
+    {
+        while self.held.len() >= count {
+            match self.held.write_some(&mut self.inner) {
+                Ok(()) => {}
+                Err(error) => {
+                    self.held.take_back(count);
+                    return Err(error);
+                }
+            }
+        }
+        let left = self.held.len();
+        self.held.take_back(left);
+        Ok(count - left)
+    }
+}
+
+impl<W: Write, const N: usize> Write for WriteBehind<'_, W, N> {
+    ghost contents = { λ w. append_known (W.contents w.inner) w.held };
+
+    /// Takes the piece, behind what waits, and sends both at once where the piece is due. A failure of the writer inside
+    /// leaves the piece untaken.
+    fn write(&mut self, piece: &[u8]) -> io::Result<usize> {
+        if !self.gather(piece)? {
+            return self.inner.write(piece);
+        }
+        if self.due.get().has(piece) {
+            return self.send(piece.len());
+        }
+        Ok(piece.len())
+    }
+
+    /// Writes out what waits, and flushes the writer inside.
+    fn flush(&mut self) -> io::Result<()>
+        ensures bytes { Keeps (append_known (W.contents self.old.inner) self.old.held) (append_known (W.contents self.new.inner) self.new.held) }
+        ensures ok { OnOk result (self.new.held ≡ []) }
+    {
+        self.held.write_to(&mut self.inner)?;
+        self.inner.flush()
+    }
+}

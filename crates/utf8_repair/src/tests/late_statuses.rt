@@ -1,0 +1,63 @@
+//! Statuses that come late: of input longer than every buffer by far, where no stream fails, and of a flush that fails
+//! behind the arrays of the program.
+
+use super::patterns::{PatternInput, PatternOutput};
+use super::serve_rows::{CUTS, ROWS, WRITE_FAULT};
+use super::streams::{Input, Output};
+use crate::service::serve;
+use crate::streams::{Due, ROOM, ReadAhead, WriteBehind};
+use std::cell::Cell;
+use std::io::{ErrorKind, Read, Write};
+
+/// How many bytes the long input has: the pattern 250,000 times, more than 3 MiB.
+const LENGTH: usize = 13 * 250_000;
+
+/// Whether a run over these streams, behind the arrays of the program, ends with the status and says its line.
+fn ends_with<R: Read, W: Write>(reader: &mut R, writer: &mut W, status: u8, line: &[u8]) -> bool {
+    let due = Cell::new(Due::Each);
+    let mut errors = Output::that_takes_all();
+    let mut ahead: ReadAhead<'_, _, ROOM> = ReadAhead::new(&mut *reader, &due);
+    let mut behind: WriteBehind<'_, _, ROOM> = WriteBehind::new(&mut *writer, &due);
+    serve(0, &mut ahead, &mut behind, &mut errors) == status && errors.written() == line
+}
+
+/// Whether all of the input is written repaired, with the status and no line.
+fn is_served(input: PatternInput, status: u8) -> bool {
+    let mut reader = input;
+    let mut writer = PatternOutput::that_takes(usize::MAX);
+    ends_with(&mut reader, &mut writer, status, b"")
+        && reader.given == LENGTH
+        && writer.taken == LENGTH
+        && writer.same
+}
+
+#[test]
+fn tells_no_fault_of_long_input(rt: HostRuntime) {
+    assert!(rt; is_served(PatternInput::of(LENGTH, None), 1));
+    assert!(rt; is_served(PatternInput::of(LENGTH, None).repaired(), 0));
+}
+
+/// The flush of the stream inside fails, once all is written: whatever the engine returned, that is a write fault.
+#[test]
+fn tells_a_flush_that_fails_behind_the_arrays(rt: HostRuntime) {
+    for row in &ROWS {
+        let mut writer = Output::that_cannot_flush();
+        let mut reader = Input::of(row.input, 2);
+        assert!(rt;
+            ends_with(&mut reader, &mut writer, 4, WRITE_FAULT),
+            "{:?}",
+            row.input
+        );
+        assert!(rt; writer.written() == row.output && writer.flushes == 1);
+    }
+    for cut in &CUTS {
+        let mut writer = Output::that_cannot_flush();
+        let mut reader = Input::that_fails(cut.input, ErrorKind::Other);
+        assert!(rt;
+            ends_with(&mut reader, &mut writer, 4, WRITE_FAULT),
+            "{:?}",
+            cut.input
+        );
+        assert!(rt; writer.written() == cut.settled && writer.flushes == 1);
+    }
+}

@@ -1,0 +1,129 @@
+//! Long input, past each round of the engine and each array: streams of a pattern, as they are and behind the arrays of
+//! the program.
+
+use super::patterns::{PatternInput, PatternOutput};
+use super::serve_rows::{READ_FAULT, WRITE_FAULT};
+use super::streams::Output;
+use crate::service::serve;
+use crate::streams::{Due, ROOM, ReadAhead, WriteBehind};
+use std::cell::Cell;
+use std::io::{ErrorKind, Read, Write};
+
+/// How many bytes of the pattern the streams give: their end stands behind a broken part.
+const LENGTH: usize = 200_000;
+
+/// How many bytes an output takes before its fault: up to and about the ends of rounds and of arrays, and almost all.
+const PLACES: [usize; 12] = [
+    0, 1, 1023, 1024, 1025, 65_535, 65_536, 65_537, 131_072, 131_073, 196_609, 199_996,
+];
+
+/// Whether a run returns the status, and says its line whole.
+fn run_is<R: Read, W: Write>(reader: &mut R, writer: &mut W, status: u8, line: &[u8]) -> bool {
+    let mut errors = Output::that_takes_all();
+    serve(0, reader, writer, &mut errors) == status
+        && errors.written() == line
+        && errors.flushes == 0
+}
+
+/// Whether a run behind the program's arrays returns the status, and says its line whole.
+fn run_over_arrays_is(
+    reader: &mut PatternInput,
+    writer: &mut PatternOutput,
+    status: u8,
+    line: &[u8],
+) -> bool {
+    let due = Cell::new(Due::Each);
+    let mut ahead: ReadAhead<'_, _, ROOM> = ReadAhead::new(&mut *reader, &due);
+    let mut behind: WriteBehind<'_, _, ROOM> = WriteBehind::new(&mut *writer, &due);
+    run_is(&mut ahead, &mut behind, status, line)
+}
+
+/// Whether the output took so many bytes of the text, was then flushed, once, and was not written to after its fault.
+fn took(writer: &PatternOutput, count: usize) -> bool {
+    writer.same
+        && writer.taken == count
+        && writer.asked_behind == 0
+        && writer.flushes == 1
+        && writer.flushed_at == count
+}
+
+/// Whether a run over both streams, and one behind the arrays, writes so much of the text, and asks once behind the
+/// last byte.
+fn serves(letters: usize, fault: Option<ErrorKind>, count: usize, status: u8, line: &[u8]) -> bool {
+    let length = LENGTH.saturating_add(letters);
+    let mut reader = PatternInput::of(length, fault).behind_letters(letters);
+    let mut writer = PatternOutput::that_takes(usize::MAX).behind_letters(letters);
+    let alone = run_is(&mut reader, &mut writer, status, line);
+    let mut far = PatternInput::of(length, fault).behind_letters(letters);
+    let mut late = PatternOutput::that_takes(usize::MAX).behind_letters(letters);
+    let count = count.saturating_add(letters);
+    alone
+        && took(&writer, count)
+        && reader.asked_behind == 1
+        && run_over_arrays_is(&mut far, &mut late, status, line)
+        && took(&late, count)
+        && far.asked_behind == 1
+}
+
+/// As the letters in front are none, one and so on, each place of the pattern stands across each 1,024 bytes, and each
+/// 65,536: its characters and its broken part.
+#[test]
+fn repairs_long_streams(rt: HostRuntime) {
+    for letters in 0..13 {
+        assert!(rt; serves(letters, None, LENGTH, 1, b""), "{letters}");
+    }
+}
+
+/// The beginning of a character at the end is not written.
+#[test]
+fn reports_late_read_faults(rt: HostRuntime) {
+    for kind in [ErrorKind::Other, ErrorKind::Interrupted] {
+        for letters in 0..13 {
+            let stops = serves(letters, Some(kind), LENGTH - 3, 3, READ_FAULT);
+            assert!(rt; stops, "{letters}");
+        }
+    }
+}
+
+/// Text that is long and well-formed comes out as it went in.
+#[test]
+fn leaves_a_long_text(rt: HostRuntime) {
+    let mut reader = PatternInput::of(LENGTH, None).repaired();
+    let mut writer = PatternOutput::that_takes(usize::MAX);
+    assert!(rt; run_is(&mut reader, &mut writer, 0, b"") && took(&writer, LENGTH));
+    let mut far = PatternInput::of(LENGTH, None).repaired();
+    let mut late = PatternOutput::that_takes(usize::MAX);
+    assert!(rt; run_over_arrays_is(&mut far, &mut late, 0, b"") && took(&late, LENGTH));
+    assert!(rt; reader.asked_behind == 1 && far.asked_behind == 1);
+}
+
+/// Whether a run stops at the fault of the output, which would take the rest, and no more than a round was read ahead.
+fn stops_at(taken: usize) -> bool {
+    let mut reader = PatternInput::of(LENGTH, None);
+    let mut writer = PatternOutput::that_takes(taken);
+    run_is(&mut reader, &mut writer, 4, WRITE_FAULT)
+        && took(&writer, taken)
+        && reader.given.saturating_sub(taken) <= 1027
+        && reader.asked_behind == 0
+}
+
+/// Whether a run behind the arrays stops there as well, and no more than an array was read ahead. The flush alone tries
+/// the bytes that wait once more.
+fn stops_over_arrays_at(taken: usize) -> bool {
+    let mut reader = PatternInput::of(LENGTH, None);
+    let mut writer = PatternOutput::that_takes(taken);
+    run_over_arrays_is(&mut reader, &mut writer, 4, WRITE_FAULT)
+        && writer.same
+        && writer.flushes == 1
+        && writer.flushed_at == writer.taken
+        && writer.asked_behind <= 1
+        && reader.given.saturating_sub(taken) <= ROOM + 3
+        && reader.asked_behind == 0
+}
+
+#[test]
+fn reports_late_write_faults(rt: HostRuntime) {
+    for taken in PLACES {
+        assert!(rt; stops_at(taken) && stops_over_arrays_at(taken), "{taken}");
+    }
+}

@@ -1,0 +1,150 @@
+//! Long streams of a pattern, which keep none of its bytes. A round's end falls into a character or into a broken part.
+
+use std::io::{Error, ErrorKind, Read, Result, Write};
+
+/// A letter, U+2603, a letter, three bytes that begin a character, a letter, and U+1F4A9.
+pub const PATTERN: [u8; 13] = [
+    0x61, 0xE2, 0x98, 0x83, 0x62, 0xF0, 0x9F, 0x92, 0x63, 0xF0, 0x9F, 0x92, 0xA9,
+];
+
+/// What comes of a period once it is repaired.
+pub const REPAIRED: [u8; 13] = [
+    0x61, 0xE2, 0x98, 0x83, 0x62, 0xEF, 0xBF, 0xBD, 0x63, 0xF0, 0x9F, 0x92, 0xA9,
+];
+
+/// Returns the byte at a place of so many letters and a pattern, over and over, behind them.
+fn byte_at(letters: usize, pattern: &[u8; 13], at: usize) -> u8 {
+    match at.checked_sub(letters) {
+        Some(place) => pattern[place % 13],
+        None => b'a',
+    }
+}
+
+/// Gives the pattern over and over, as many bytes as are asked for, up to a length, and then ends or fails.
+#[derive(Drop)]
+pub struct PatternInput {
+    letters: usize,
+    pattern: [u8; 13],
+    length: usize,
+    fault: Option<ErrorKind>,
+    /// How many bytes it gave.
+    pub given: usize,
+    /// How often it was read after its last byte.
+    pub asked_behind: usize,
+}
+
+impl PatternInput {
+    /// Returns an input that gives so many bytes, and then fails where there is a fault.
+    pub fn of(length: usize, fault: Option<ErrorKind>) -> PatternInput {
+        PatternInput {
+            letters: 0,
+            pattern: PATTERN,
+            length,
+            fault,
+            given: 0,
+            asked_behind: 0,
+        }
+    }
+
+    /// Returns the input, which now gives so many letters first.
+    pub fn behind_letters(self, letters: usize) -> PatternInput {
+        let mut input = self;
+        input.letters = letters;
+        input
+    }
+
+    /// Returns the input, which now gives the repaired pattern.
+    pub fn repaired(self) -> PatternInput {
+        let mut input = self;
+        input.pattern = REPAIRED;
+        input
+    }
+}
+
+impl Read for PatternInput {
+    fn read(&mut self, buffer: &mut [u8]) -> Result<usize> {
+        let count = self.length.saturating_sub(self.given).min(buffer.len());
+        if count == 0 {
+            self.asked_behind = self.asked_behind.saturating_add(1);
+            if let Some(kind) = self.fault {
+                return Err(Error::from(kind));
+            }
+        }
+        let mut at = self.given;
+        for byte in buffer.iter_mut() {
+            *byte = byte_at(self.letters, &self.pattern, at);
+            at = at.saturating_add(1);
+        }
+        self.given = self.given.saturating_add(count);
+        Ok(count)
+    }
+}
+
+/// Takes so many bytes and fails then once, and compares what it takes with the repaired pattern.
+#[derive(Drop)]
+pub struct PatternOutput {
+    letters: usize,
+    takes: usize,
+    failed: bool,
+    /// How many bytes it took.
+    pub taken: usize,
+    /// Whether they were those of the repaired pattern.
+    pub same: bool,
+    /// How often it was written to after its fault.
+    pub asked_behind: usize,
+    /// How often it was flushed.
+    pub flushes: usize,
+    /// How many bytes it had taken when it was last flushed.
+    pub flushed_at: usize,
+}
+
+impl PatternOutput {
+    /// Returns an output that takes so many bytes, fails once, and takes all from then on.
+    pub fn that_takes(takes: usize) -> PatternOutput {
+        PatternOutput {
+            letters: 0,
+            takes,
+            failed: false,
+            taken: 0,
+            same: true,
+            asked_behind: 0,
+            flushes: 0,
+            flushed_at: 0,
+        }
+    }
+
+    /// Returns the output, which now compares the first bytes with so many letters.
+    pub fn behind_letters(self, letters: usize) -> PatternOutput {
+        let mut output = self;
+        output.letters = letters;
+        output
+    }
+}
+
+impl Write for PatternOutput {
+    fn write(&mut self, bytes: &[u8]) -> Result<usize> {
+        let mut count = bytes.len();
+        if self.failed {
+            self.asked_behind = self.asked_behind.saturating_add(1);
+        } else {
+            count = count.min(self.takes.saturating_sub(self.taken));
+            if count == 0 {
+                self.failed = true;
+                return Err(Error::from(ErrorKind::Other));
+            }
+        }
+        let mut at = self.taken;
+        for byte in bytes.iter().take(count) {
+            self.same = self.same && *byte == byte_at(self.letters, &REPAIRED, at);
+            at = at.saturating_add(1);
+        }
+        self.taken = self.taken.saturating_add(count);
+        Ok(count)
+    }
+
+    fn flush(&mut self) -> Result<()> {
+        self.flushes = self.flushes.saturating_add(1);
+        self.flushed_at = self.taken;
+        Ok(())
+    }
+}

@@ -1,0 +1,224 @@
+//! A peer that types, one row a read, and a writer that counts its calls. They share what has arrived.
+
+use super::streams::Output;
+use std::cell::Cell;
+use std::io::{Error, ErrorKind, Read, Result, Write};
+
+/// How many bytes have arrived, and by how many writes.
+#[derive(Drop)]
+pub struct Arrived {
+    pub bytes: Cell<usize>,
+    pub writes: Cell<usize>,
+}
+
+impl Arrived {
+    /// Returns that nothing has arrived.
+    pub fn none() -> Arrived {
+        Arrived {
+            bytes: Cell::new(0),
+            writes: Cell::new(0),
+        }
+    }
+}
+
+/// What one read gives, what of it and of the rows before it is then due, and by how many writes at most.
+pub struct Row {
+    pub input: &'static [u8],
+    pub due: &'static [u8],
+    pub writes: usize,
+}
+
+/// Gives one row a read. At each read it sees whether all that is due has arrived, by as few writes as are allowed.
+#[derive(Drop)]
+pub struct Typist<'a> {
+    rows: &'a [Row],
+    arrived: &'a Arrived,
+    due: usize,
+    most: usize,
+    /// How many reads found something missing.
+    pub late: usize,
+    /// How many rows left by too many writes.
+    pub torn: usize,
+}
+
+impl<'a> Typist<'a> {
+    /// Returns a peer that types these rows.
+    pub fn of(rows: &'a [Row], arrived: &'a Arrived) -> Typist<'a> {
+        Typist {
+            rows,
+            arrived,
+            due: 0,
+            most: 0,
+            late: 0,
+            torn: 0,
+        }
+    }
+}
+
+impl Read for Typist<'_> {
+    fn read(&mut self, buffer: &mut [u8]) -> Result<usize> {
+        if self.arrived.bytes.get() != self.due {
+            self.late = self.late.saturating_add(1);
+        }
+        if self.arrived.writes.replace(0) > self.most {
+            self.torn = self.torn.saturating_add(1);
+        }
+        let Some((row, later)) = self.rows.split_first() else {
+            return Ok(0);
+        };
+        self.rows = later;
+        self.due = self.due.saturating_add(row.due.len());
+        self.most = row.writes;
+        let count = row.input.len().min(buffer.len());
+        buffer[..count].copy_from_slice(&row.input[..count]);
+        Ok(count)
+    }
+}
+
+/// Takes what its output takes, counts what arrives, and fails once, at the call that has this number.
+#[derive(Drop)]
+pub struct Counted<'a> {
+    output: Output,
+    arrived: &'a Arrived,
+    fails_at: usize,
+    kind: ErrorKind,
+}
+
+impl<'a> Counted<'a> {
+    /// Returns a writer to the output.
+    pub fn of(output: Output, arrived: &'a Arrived) -> Counted<'a> {
+        Counted {
+            output,
+            arrived,
+            fails_at: usize::MAX,
+            kind: ErrorKind::Other,
+        }
+    }
+
+    /// Returns the writer, which now fails once, at the call that has this number, from 0 on.
+    pub fn that_fails_at(self, call: usize, kind: ErrorKind) -> Counted<'a> {
+        let mut writer = self;
+        writer.fails_at = call;
+        writer.kind = kind;
+        writer
+    }
+
+    /// Returns the bytes that it took.
+    pub fn written(&self) -> &[u8] {
+        self.output.written()
+    }
+}
+
+impl Write for Counted<'_> {
+    fn write(&mut self, bytes: &[u8]) -> Result<usize> {
+        let call = self.arrived.writes.get();
+        self.arrived.writes.set(call.saturating_add(1));
+        if call == self.fails_at {
+            return Err(Error::from(self.kind));
+        }
+        let count = self.output.write(bytes)?;
+        let before = self.arrived.bytes.get();
+        self.arrived.bytes.set(before.saturating_add(count));
+        Ok(count)
+    }
+
+    fn flush(&mut self) -> Result<()> {
+        self.output.flush()
+    }
+}
+
+/// Gives its bytes by one read, fails at the next, and ends then.
+#[derive(Drop)]
+pub struct FailsOnce<'a> {
+    bytes: &'a [u8],
+    kind: ErrorKind,
+    /// How often it was read.
+    asked: &'a Cell<usize>,
+}
+
+impl<'a> FailsOnce<'a> {
+    /// Returns a reader of these bytes.
+    pub fn behind(bytes: &'a [u8], kind: ErrorKind, asked: &'a Cell<usize>) -> FailsOnce<'a> {
+        FailsOnce { bytes, kind, asked }
+    }
+}
+
+impl Read for FailsOnce<'_> {
+    fn read(&mut self, buffer: &mut [u8]) -> Result<usize> {
+        let asked = self.asked.get();
+        self.asked.set(asked.saturating_add(1));
+        if asked == 1 {
+            return Err(Error::from(self.kind));
+        }
+        let count = self.bytes.len().min(buffer.len());
+        buffer[..count].copy_from_slice(&self.bytes[..count]);
+        self.bytes = &[];
+        Ok(count)
+    }
+}
+
+/// Gives lines of a length, one a read: letters, and then the bytes of its end.
+#[derive(Drop)]
+pub struct Lines {
+    length: usize,
+    end: &'static [u8],
+    left: usize,
+}
+
+impl Lines {
+    /// Returns a reader of so many lines, each of this length and with this end.
+    pub fn of(length: usize, end: &'static [u8], left: usize) -> Lines {
+        Lines { length, end, left }
+    }
+}
+
+impl Read for Lines {
+    fn read(&mut self, buffer: &mut [u8]) -> Result<usize> {
+        if self.left == 0 || buffer.len() < self.length {
+            return Ok(0);
+        }
+        self.left = self.left.saturating_sub(1);
+        let letters = self.length.saturating_sub(self.end.len());
+        for (place, byte) in buffer.iter_mut().take(self.length).enumerate() {
+            *byte = match place.checked_sub(letters) {
+                Some(at) => self.end.get(at).copied().unwrap_or(b'?'),
+                None => b'x',
+            };
+        }
+        Ok(self.length)
+    }
+}
+
+/// Takes all that is written, and counts the writes: those of one length, and others.
+#[derive(Drop)]
+pub struct Lengths {
+    length: usize,
+    pub writes: usize,
+    pub others: usize,
+}
+
+impl Lengths {
+    /// Returns a writer that counts the writes of this length.
+    pub fn of(length: usize) -> Lengths {
+        Lengths {
+            length,
+            writes: 0,
+            others: 0,
+        }
+    }
+}
+
+impl Write for Lengths {
+    fn write(&mut self, bytes: &[u8]) -> Result<usize> {
+        if bytes.len() == self.length {
+            self.writes = self.writes.saturating_add(1);
+        } else {
+            self.others = self.others.saturating_add(1);
+        }
+        Ok(bytes.len())
+    }
+
+    fn flush(&mut self) -> Result<()> {
+        Ok(())
+    }
+}

@@ -1,0 +1,146 @@
+//! Streams over arrays, which take no memory and fail where they are told to.
+ghost use Rattle.std.specs.Prelude.{◌≤◌};
+
+use std::io::{Error, ErrorKind, Read, Result, Write};
+
+/// Gives its bytes, so many a read, and then ends or fails.
+#[derive(Drop)]
+pub struct Input<'a> {
+    rest: &'a [u8],
+    step: usize,
+    fault: Option<ErrorKind>,
+    /// How often it was read.
+    pub asked: usize,
+    /// How often it was read after its last byte.
+    pub asked_behind: usize,
+}
+
+impl<'a> Input<'a> {
+    /// Returns an input that gives these bytes, so many a read, and ends.
+    pub fn of(bytes: &'a [u8], step: usize) -> Input<'a> {
+        Input {
+            rest: bytes,
+            step,
+            fault: None,
+            asked: 0,
+            asked_behind: 0,
+        }
+    }
+
+    /// Returns an input that gives these bytes, one a read, and then fails.
+    pub fn that_fails(bytes: &'a [u8], fault: ErrorKind) -> Input<'a> {
+        Input {
+            rest: bytes,
+            step: 1,
+            fault: Some(fault),
+            asked: 0,
+            asked_behind: 0,
+        }
+    }
+}
+
+impl Read for Input<'_> {
+    fn read(&mut self, buffer: &mut [u8]) -> Result<usize> {
+        self.asked = self.asked.saturating_add(1);
+        if self.rest.is_empty() {
+            self.asked_behind = self.asked_behind.saturating_add(1);
+            if let Some(kind) = self.fault {
+                return Err(Error::from(kind));
+            }
+        }
+        let count = self.rest.len().min(self.step).min(buffer.len());
+        let (now, later) = self.rest.split_at(count);
+        buffer[..count].copy_from_slice(now);
+        self.rest = later;
+        Ok(count)
+    }
+}
+
+/// The most bytes that an [`Output`] holds.
+pub const ROOM: usize = 2048;
+
+/// Takes so many bytes a call and so many in all, and then fails, or takes none where it has no fault.
+#[derive(Drop)]
+pub struct Output {
+    bytes: [u8; ROOM],
+    count: usize,
+    step: usize,
+    takes: usize,
+    fault: Option<ErrorKind>,
+    flushable: bool,
+    /// How often it was written to.
+    pub asked: usize,
+    /// How often it was flushed.
+    pub flushes: usize,
+    /// How many bytes it had taken when it was last flushed.
+    pub flushed_at: usize,
+    ghost within: { count ≤ 2048 },
+}
+
+impl Output {
+    /// Returns an output that takes so many bytes in all, and then fails, or takes none where there is no fault.
+    pub fn that_takes(takes: usize, fault: Option<ErrorKind>) -> Output {
+        Output {
+            bytes: [0x71; ROOM],
+            count: 0,
+            step: ROOM,
+            takes,
+            fault,
+            flushable: true,
+            asked: 0,
+            flushes: 0,
+            flushed_at: 0,
+        }
+    }
+
+    /// Returns an output that takes all bytes.
+    pub fn that_takes_all() -> Output {
+        Output::that_takes(ROOM, None)
+    }
+
+    /// Returns an output that takes all bytes, at most so many a call.
+    pub fn by_steps_of(step: usize) -> Output {
+        let mut output = Output::that_takes_all();
+        output.step = step;
+        output
+    }
+
+    /// Returns an output that takes all bytes, and fails where it is flushed.
+    pub fn that_cannot_flush() -> Output {
+        let mut output = Output::that_takes_all();
+        output.flushable = false;
+        output
+    }
+
+    /// Returns the bytes that it took.
+    pub fn written(&self) -> &[u8] {
+        &self.bytes[..self.count]
+    }
+}
+
+impl Write for Output {
+    fn write(&mut self, bytes: &[u8]) -> Result<usize> {
+        self.asked = self.asked.saturating_add(1);
+        let room = self.takes.min(ROOM).saturating_sub(self.count);
+        let taken = bytes.len().min(room).min(self.step);
+        if taken == 0 {
+            if let Some(kind) = self.fault {
+                return Err(Error::from(kind));
+            }
+        }
+        let end = self.count + taken;
+        self.bytes[self.count..end].copy_from_slice(&bytes[..taken]);
+        self.count = end;
+        Ok(taken)
+    }
+
+    fn flush(&mut self) -> Result<()> {
+        self.flushes = self.flushes.saturating_add(1);
+        self.flushed_at = self.count;
+        if self.flushable {
+            Ok(())
+        } else {
+            Err(Error::from(ErrorKind::Other))
+        }
+    }
+}
