@@ -1,4 +1,4 @@
-use Rattle.std.proofs.Common.{rules, ap, sym, refl}
+use Rattle.std.proofs.Common.{rules, ap, sym}
 use Rattle.utf8_repair.proofs.ServiceLemmas.{prefix_of}
 use Rattle.utf8_repair.proofs.service.repair_stream.Goals as goal
 
