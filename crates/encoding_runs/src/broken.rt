@@ -1,25 +1,27 @@
-//! Where the broken parts of some bytes are.
+//! Finds malformed sequences in bytes.
 ghost use Rattle.std.specs.Prelude.{◌≡◌, ◌↔◌, IfSome, IsUtf8, None};
 ghost use Rattle.encoding_runs.specs.BrokenParts.{IsNextBroken};
 
 use encoding_text::decoder::{Piece, Utf8Decoder};
 use encoding_text::utf_8::utf8_valid_up_to;
 
-/// A broken part among some bytes.
+/// A malformed sequence in a slice of bytes.
 #[derive(Debug, PartialEq, Eq, Drop)]
 pub struct BrokenPart {
-    /// How many bytes stand before it.
+    /// The index of its first byte.
     pub place: usize,
-    /// How many bytes it has, one to three.
+    /// Its length in bytes, one to three.
     pub length: usize,
 }
 
-/// So many bytes tell how long a broken part is that begins them: it has at most three, and the next byte ends it.
+/// The most bytes that determine the length of a malformed sequence: the sequence has at most three, and one more ends
+/// it.
 const TELLING: usize = 4;
 
-/// The first broken part of `src`, and `None` exactly where `src` is well-formed: all before it is text. Search on
-/// behind it, in the bytes from `place + length` on, and its broken parts are found in turn. What ends with `src` is
-/// broken there. It takes no memory. Encoding Standard, UTF-8 decoder.
+/// Returns the first malformed sequence of `src`. Returns `None` if and only if `src` is well-formed.
+///
+/// The bytes before it are well-formed. An incomplete sequence at the end of `src` is malformed. To find the next one,
+/// search in the bytes from `place + length` on. Allocates no memory. Encoding Standard, UTF-8 decoder.
 pub fn next_broken(src: &[u8]) -> Option<BrokenPart>
     ensures some { IfSome result (λ part. IsNextBroken src.now part.place part.length) }
     ensures none { (result ≡ None) ↔ IsUtf8 src.now }

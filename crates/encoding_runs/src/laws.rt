@@ -29,8 +29,8 @@ ghost use Rattle.encoding_runs.specs.Blocks.{IsBlockRepair, RepairTheParts, repl
 ghost use Rattle.encoding_runs.specs.Repairs.{IsRepairedWith};
 ghost use Rattle.encoding_runs.specs.BrokenParts.{IsNextBroken, AreFoundInTurn, broken_places};
 
-/// The well-formed sequences are exactly the UTF-8 of the scalar values, one for each, and none begins another.
-/// Unicode Standard, Table 3-7.
+/// The well-formed sequences are exactly the UTF-8 of the scalar values, one for each. None is a proper prefix of
+/// another. Unicode Standard, Table 3-7.
 pub fn law_sequences()
     ensures spelled { (bs : List ℕ) → IsSequence bs → (c : ℕ) × IsScalar c × (encode_utf8 c ≡ bs) }
     ensures each { (c : ℕ) → IsScalar c → IsSequence (encode_utf8 c) }
@@ -38,11 +38,13 @@ pub fn law_sequences()
     ensures none_begins_another { (bs rest : List ℕ) → IsSequence bs → IsSequence (bs ++ rest) → rest ≡ [] }
 {}
 
-/// Bytes have exactly one list of parts, whose bytes joined are these bytes, and are well-formed exactly where none of
-/// these is broken. Their settled parts are the first ones of the bytes with anything behind them, and so the settled text
-/// begins the repaired text of these; and first parts that stay so, with nothing or a beginning behind them, are the
-/// settled ones. With U+FFFD for each broken part they are the text that `String::from_utf8_lossy` makes. Encoding
-/// Standard, UTF-8 decoder.
+/// Bytes have exactly one list of parts. The bytes of the parts, joined, are these bytes. The bytes are well-formed if
+/// and only if no part is malformed.
+///
+/// The final parts are the first parts of the bytes followed by anything, so their text is a prefix of the repaired
+/// text of any continuation. First parts that stay so for any continuation, and leave nothing or an incomplete
+/// sequence, are the final parts. With U+FFFD for each malformed sequence the parts are the text that
+/// `String::from_utf8_lossy` makes. Encoding Standard, UTF-8 decoder.
 pub fn law_parts()
     ensures exist { (bs : List ℕ) → (parts : List Part) × ArePartsOf bs parts }
     ensures one { (bs : List ℕ) (parts others : List Part) → ArePartsOf bs parts → ArePartsOf bs others → parts ≡ others }
@@ -58,9 +60,9 @@ pub fn law_parts()
     ensures lossy { (bs : List ℕ) (parts : List Part) → ArePartsOf bs parts → repaired_text parts ≡ utf8_lossy bs }
 {}
 
-/// Bytes may be cut where the settled parts of the first piece leave no rest: the parts of all of them are those of
-/// the first piece, and then those of the other. So the pieces can be repaired apart: their repaired texts join, and
-/// their broken parts add up. Bytes that end with an ASCII byte leave no rest.
+/// Bytes may be cut where the final parts of the first piece leave no rest: the parts of the whole are those of the
+/// first piece, then those of the second. So the pieces can be repaired separately: their repaired texts join, and
+/// their counts of malformed sequences add up. Bytes that end with an ASCII byte leave no rest.
 pub fn law_cuts()
     ensures parts { (bs more : List ℕ) (parts others all : List Part) → AreSettled bs parts []
         → ArePartsOf more others → ArePartsOf (bs ++ more) all → all ≡ parts ++ others }
@@ -74,9 +76,9 @@ pub fn law_cuts()
         → AreSettled (bs ++ b ∷ []) parts rest → rest ≡ [] }
 {}
 
-/// The broken parts that `next_broken` finds in turn, each search in the bytes behind the part found before, are exactly
-/// the broken ones among the parts of the bytes: each with its place and length, in order, as many as there are. Each has
-/// one to three bytes. Encoding Standard, UTF-8 decoder.
+/// Repeated calls of `next_broken`, each on the bytes after the sequence found before, find exactly the malformed
+/// sequences among the parts of the bytes: each with its index and length, in order. Each has one to three bytes.
+/// Encoding Standard, UTF-8 decoder.
 pub fn law_next_broken()
     ensures size { (bs : List ℕ) (place size : ℕ) → IsNextBroken bs place size → (0 < size) × (size ≤ 3) }
     ensures found { (bs : List ℕ) (parts : List Part) (found : List (ℕ × ℕ)) → ArePartsOf bs parts
@@ -84,11 +86,12 @@ pub fn law_next_broken()
     ensures count { (bs : List ℕ) (parts : List Part) → ArePartsOf bs parts → length (broken_places 0 parts) ≡ count_broken parts }
 {}
 
-/// Calls of `repair_block` over one stream, each handed the unread bytes from the first on and what the one before left
-/// pending, write the repaired text of the first parts of the stream, however it is cut and whatever the rooms, and count
-/// the broken ones. Each call says that what was pending before it is nothing or an incomplete sequence: this is a premise
-/// only if there are no calls. Once a call marked last is finished that is the repaired text of the whole stream, and the
-/// number of its broken parts. Encoding Standard, UTF-8 decode without BOM.
+/// Calls of `repair_block` over one stream write the repaired text of the first parts of the stream, and count the
+/// malformed sequences among them, for any cuts and any spaces. Each call starts with the first unread byte and with
+/// what the previous call left pending. Each call says that the pending bytes before it are none or an incomplete
+/// sequence, so this is a premise only if there are no calls. Once a call marked last is finished, the output is the
+/// repaired text of the whole stream, and the count is that of its malformed sequences. Encoding Standard, UTF-8 decode
+/// without BOM.
 pub fn law_block_repair()
     ensures front { (p b : List ℕ) (calls : List (Call ℕ RepairedBlock ℕ)) → (calls ≡ [] → IsPending p)
         → IsChain IsBlockRepair p b calls → RepairTheParts p b calls }
@@ -97,14 +100,15 @@ pub fn law_block_repair()
         → IsRepairedWith b (output_of calls) (replaced_in_all calls) }
 {}
 
-/// For pending bytes, source, mark and, with a destination, its room, each call of a decoder has exactly one answer.
-/// What a call gives, in any of the three forms, is the first parts of what was pending and of its source. Unless it is
-/// marked last, they are the first parts whatever follows the source.
+/// For given pending bytes, source, `last` and, with a destination, space, each call of a decoder has exactly one
+/// result. A call of any of the three forms yields the first parts of the pending bytes and the source. Unless it is
+/// marked last, they are the first parts for any continuation of the source.
 ///
-/// Calls of the three forms may be mixed: over one list of bytes, each handed the unread ones from the first on, they
-/// give in sequence the first parts of what was pending and these bytes, whatever follows them, and all of the parts
-/// once a call marked last returns `InputEmpty`. What a decoder returns depends on its pending bytes alone, so a
-/// neutral one returns from every list of calls what a new one does. Encoding Standard, UTF-8 decoder.
+/// Calls of the three forms may be mixed over one list of bytes, each starting with the first unread byte. In sequence
+/// they yield the first parts of the pending bytes and these bytes. If no call is marked last, they are the first parts
+/// for any continuation. Once a call marked last returns `InputEmpty`, they are all parts. The results depend only on
+/// the pending bytes, so a neutral decoder returns the same as a new one from any list of calls. Encoding Standard,
+/// UTF-8 decoder.
 pub fn law_mixed_calls()
     ensures one_utf16 { (p src : List ℕ) (room : ℕ) (last : Bool) → IsPending p → HasOneAnswer encode_utf16 2 p src room last }
     ensures one_utf8 { (p src : List ℕ) (room : ℕ) (last : Bool) → IsPending p → HasOneAnswer encode_utf8 4 p src room last }
@@ -118,9 +122,9 @@ pub fn law_mixed_calls()
         → IsChain IsMixedCall p b others → AllZip AreAskedTheSame calls others → AllZip AnswerTheSame calls others }
 {}
 
-/// UTF-16 code units have exactly one list of parts; counted as U+FFFD, the lone surrogates among them are those of
-/// std's lossy decoding. The parts of the UTF-16 of scalar values are these scalar values, so a text that goes to
-/// UTF-16 and from there to UTF-8 comes back byte for byte. Unicode Standard, section 3.9, UTF-16.
+/// UTF-16 code units have exactly one list of parts. With U+FFFD for each unpaired surrogate, they are those of std's
+/// lossy decoding. The parts of the UTF-16 of scalar values are these scalar values, so text converted to UTF-16 and
+/// back to UTF-8 is the same, byte for byte. Unicode Standard, section 3.9, UTF-16.
 pub fn law_utf16_round_trip()
     ensures exist { (us : List ℕ) → AreUnits us → (parts : List Part16) × ArePartsOf16 us parts }
     ensures one { (us : List ℕ) (parts others : List Part16) → ArePartsOf16 us parts → ArePartsOf16 us others → parts ≡ others }
@@ -132,9 +136,9 @@ pub fn law_utf16_round_trip()
         → ArePartsOf16 (flat_map encode_utf16 (chars bs)) parts → flat_map utf8_of parts ≡ bs }
 {}
 
-/// The longest fitting prefix, taken again and again on the code units that are left until all are read, gives in
-/// sequence the UTF-8 of all their scalar values, whatever the rooms; and with a code unit unread and four bytes of
-/// room at least one is read. Encoding Standard, `encodeInto`.
+/// Repeated conversion of the longest fitting prefix of the remaining code units, until all are read, writes the UTF-8
+/// of all their scalar values, for any sequence of spaces. With a code unit unread and four bytes of space, at least
+/// one is read. Encoding Standard, `encodeInto`.
 pub fn law_partial_repeats()
     ensures joined { (us : List ℕ) (parts : List Part16) (rooms out : List ℕ) → ArePartsOf16 us parts
         → WritesInTurn us rooms out → out ≡ encode_utf8_all (map scalar_of parts) }
@@ -142,14 +146,14 @@ pub fn law_partial_repeats()
         → IsUtf8OfLongestFront us room read out → 0 < read }
 {}
 
-/// Calls of an encoder over one source, each on the unread code units from the first on and from what the one before
-/// left held, write the UTF-8 of the first parts of what was held and of the source, however it is cut and whatever
-/// the rooms. Unicode Standard, section 3.9, UTF-16.
+/// Calls of an encoder over one source write the UTF-8 of the first parts of the pending surrogate and the source, for
+/// any cuts and any spaces. Each call starts with the first unread code unit and with what the previous call left
+/// pending. Unicode Standard, section 3.9, UTF-16.
 ///
 /// The calls may be those of a list of turns, into a destination of at least the length that
-/// `max_buffer_length_from_utf16_without_replacement` returns. Let there be at least two turns more than twice the code
-/// units of the source, and let each take a code unit, have four bytes of room and `last` set. Then the last call
-/// returns `InputEmpty`, and the UTF-8 of all parts is written.
+/// `max_buffer_length_from_utf16_without_replacement` returns. Let there be at least two turns more than twice the
+/// number of code units of the source. Let each turn take at least one code unit, have at least four bytes of space and
+/// have `last` set. Then the last call returns `InputEmpty`, and the UTF-8 of all parts is written.
 pub fn law_encoder_cuts()
     ensures first_parts { (held src : List ℕ) (calls : List (Call ℕ EncoderResult ℕ)) → IsHeld held → AreUnits src
         → IsChain IsEncoderCall held src calls
@@ -164,16 +168,16 @@ pub fn law_encoder_cuts()
         → IsUtf8OfUnits (held ++ src) (output_of calls) }
 {}
 
-/// Scalar values, their UTF-8 and their UTF-16 agree on whether one of them is right-to-left.
+/// Scalar values, their UTF-8 and their UTF-16 agree on whether they contain a right-to-left character.
 pub fn law_bidi_agrees()
     ensures utf8 { (cs : List ℕ) → IsTrue (all_scalars cs) → Any IsRightToLeft cs ↔ IsBidiBytes (encode_utf8_all cs) }
     ensures utf16 { (cs : List ℕ) → IsTrue (all_scalars cs) → Any IsRightToLeft cs ↔ IsBidiUnits (flat_map encode_utf16 cs) }
 {}
 
-/// UTF-16 code units have exactly one list of repaired units. It has U+FFFD at the place of each lone surrogate, and at
-/// all other places, which are as many, what was there. It has no lone surrogate, repaired again it is the same, and
-/// its parts count as the scalar values that the old parts count as: those of std's lossy decoding. Valid code units
-/// stay as they are: they are the UTF-16 of scalar values, and std finds no unpaired surrogate in them. Unicode Standard,
+/// UTF-16 code units have exactly one repaired list. It has the same length, U+FFFD at the index of each unpaired
+/// surrogate, and the same code unit at every other index. It has no unpaired surrogate, and repairing it again changes
+/// nothing. Its parts have the scalar values of the old parts, those of std's lossy decoding. Valid code units are
+/// unchanged: they are the UTF-16 of scalar values, and std finds no unpaired surrogate in them. Unicode Standard,
 /// section 3.9, UTF-16.
 pub fn law_surrogate_repair()
     ensures spelled { (us : List ℕ) → IsValidUtf16 us

@@ -1,5 +1,5 @@
-//! What the calls of `encoding_text` add up to over whole streams: repaired text, where the broken parts are, and the laws
-//! of the definitions.
+//! What the calls of `encoding_text` yield over whole streams: repaired text and malformed sequences. Also the laws of
+//! the definitions.
 #![tactic(auto)]
 
 pub mod broken;

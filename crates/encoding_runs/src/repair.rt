@@ -1,4 +1,4 @@
-//! Repairs UTF-8: what comes out is the text of what goes in, with U+FFFD for each broken part.
+//! Repairs UTF-8: writes the text of the input, with U+FFFD for each malformed sequence.
 mod blocks;
 mod engine;
 mod front;

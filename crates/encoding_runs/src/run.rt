@@ -1,4 +1,4 @@
-//! Runs: a source that goes through a decoder or an encoder in pieces of any length, into rooms of any length.
+//! Runs: calls of a decoder or an encoder over a source, in pieces of any length and into output space of any length.
 mod decoding;
 mod encoding;
 mod turns;

@@ -1,4 +1,4 @@
-//! The repair of a stream by blocks, whose bytes and whose room the caller brings.
+//! Repairs a stream by blocks. The caller provides each block and its destination.
 ghost use Rattle.std.specs.Prelude.{ℕ, List, length};
 ghost use Rattle.encoding_definitions.specs.Fronts.{WritesFront};
 ghost use Rattle.encoding_runs.specs.Blocks.{IsBlockRepair};
@@ -6,31 +6,33 @@ ghost use Rattle.encoding_runs.specs.Blocks.{IsBlockRepair};
 use encoding_kernels::scalars::write_scalar;
 use encoding_text::decoder::{DecoderResult, Utf8Decoder};
 
-/// What a call did with a block.
+/// What one call of [`repair_block`] did.
 #[derive(Debug, PartialEq, Eq, Drop)]
 pub struct RepairedBlock {
-    /// How many bytes of the block it read.
+    /// The number of bytes of the block that were read.
     pub read: usize,
-    /// How many bytes it wrote.
+    /// The number of bytes that were written.
     pub written: usize,
-    /// For how many broken parts it wrote U+FFFD.
+    /// The number of malformed sequences for which U+FFFD was written.
     pub replaced: usize,
-    /// Whether it read all of the block, and after the last one nothing is pending. Else it wants more space.
+    /// Whether the whole block was read and, if it was the last, nothing is pending. If false, more space is needed.
     pub finished: bool,
 }
 
-/// What stands for a broken part.
+/// The scalar value that replaces a malformed sequence.
 const REPLACEMENT: u32 = 0xFFFD;
 
-/// How many bytes of UTF-8 that has.
+/// The length of U+FFFD in UTF-8, in bytes.
 const REPLACEMENT_LENGTH: usize = 3;
 
 /// Writes the next block of a stream with U+FFFD for each malformed sequence, and returns how much it read and wrote.
-/// `last` says that no block follows. What is pending of one block is in the decoder, which is new before the first.
 ///
-/// Hand in the bytes that are unread again, with more space, until it is finished: four bytes of space get on. Whatever the
-/// blocks and spaces, all that is written is the repaired text of the whole stream: `law_block_repair`. After what is
-/// written `dst` is unchanged. Encoding Standard, UTF-8 decode without BOM.
+/// `last` says that no block follows. The decoder keeps the pending bytes of a block. Pass a new decoder with the first
+/// block.
+///
+/// If the result is not `finished`, call again with the unread bytes and more space. Four bytes of space are enough to
+/// make progress. For any blocks and spaces, the output of all calls is the repaired text of the whole stream:
+/// `law_block_repair`. The rest of `dst` is unchanged. Encoding Standard, UTF-8 decode without BOM.
 pub fn repair_block(
     decoder: &mut Utf8Decoder,
     src: &[u8],
@@ -40,7 +42,7 @@ pub fn repair_block(
     ensures { (out : List ℕ) × WritesFront dst.old dst.new result.written out
         × IsBlockRepair decoder.old src.now (length dst.old) last result result.read out decoder.new }
 {
-    // Without a call of the decoder nothing else says that what is pending is nothing or an incomplete sequence.
+    // Without a call of the decoder no other clause says that the pending bytes are none or an incomplete sequence.
     let _neutral = decoder.in_neutral_state();
     let mut block = RepairedBlock {
         read: 0,
@@ -51,7 +53,8 @@ pub fn repair_block(
     loop {
         let rest = &src[block.read..];
         let left = dst.len() - block.written;
-        // At the end the decoder reports what is pending whatever the space. With bytes unread it wants four for a report.
+        // At the end the decoder reports its pending bytes into any space. With bytes unread it needs four bytes for a
+        // report.
         if rest.is_empty() && left < REPLACEMENT_LENGTH {
             block.finished = !last || decoder.in_neutral_state();
             return block;

@@ -1,4 +1,4 @@
-//! The engine: text goes out as it is, and U+FFFD for each broken part.
+//! The engine: writes text unchanged, and U+FFFD for each malformed sequence.
 ghost use Rattle.std.specs.Prelude.{◌≡◌, ◌≢◌, ℕ, ◌<◌, ◌≤◌, ◌↔◌, Bool, true, false, List, [], ◌++◌, length, take, IfOk, IfErr, IsTrue};
 ghost use Rattle.std.specs.Io.KnownBytes.{Appends, Keeps};
 ghost use Rattle.encoding_definitions.specs.Pending.{IsPending};
@@ -16,29 +16,29 @@ use encoding_text::utf_8::utf8_valid_up_to;
 pub enum RepairFault {
     /// A read failed.
     Read = 1,
-    /// A write failed, or took no byte.
+    /// A write failed, or wrote no byte.
     Write = 2,
-    /// So many bytes were read as were allowed, and the end was not seen.
+    /// `limit` bytes were read, and the end was not seen.
     Limit = 3,
 }
 
-/// What a repair did: how many bytes it read, and for how many broken parts it wrote U+FFFD.
+/// What a repair did: the number of bytes it read, and of malformed sequences for which it wrote U+FFFD.
 #[derive(Debug, PartialEq, Eq, Drop)]
 pub struct Repaired {
     pub read: u64,
     pub replaced: u64,
 }
 
-/// How many bytes are read at a time at most.
+/// The most bytes of one read.
 const ROUND: usize = 1024;
 
-/// How many bytes wait for a write at most: U+FFFD for each byte of a round.
+/// The most bytes that wait for a write: U+FFFD for each byte of a round.
 const ROOM: usize = 3 * ROUND;
 
-/// How many bytes wait at most where a slice is repaired: a short one isn't worth the zeros of a long array.
+/// The most bytes that wait for a write if a slice is repaired. A short slice isn't worth the zeros of a long array.
 const SLICE_ROOM: usize = 192;
 
-/// Writes all of the bytes, each once, by as many writes as that takes. Out of line: most writers take all at once.
+/// Writes all bytes, each once, with as many writes as needed. Out of line: most writers take all bytes at once.
 #[inline(never)]
 fn write_by_parts<W: Sink>(writer: &mut W, bytes: &[u8]) -> Result<(), RepairFault>
     ensures ok { IfOk result (λ _. Appends (W.contents writer.old) (W.contents writer.new) bytes.now
@@ -57,7 +57,7 @@ fn write_by_parts<W: Sink>(writer: &mut W, bytes: &[u8]) -> Result<(), RepairFau
     Ok(())
 }
 
-/// Writes all of the bytes, each once, by as many writes as that takes.
+/// Writes all bytes, each once, with as many writes as needed.
 #[inline(always)]
 fn write_whole<W: Sink>(writer: &mut W, bytes: &[u8]) -> Result<(), RepairFault>
     ensures ok { IfOk result (λ _. Appends (W.contents writer.old) (W.contents writer.new) bytes.now
@@ -78,7 +78,7 @@ fn write_whole<W: Sink>(writer: &mut W, bytes: &[u8]) -> Result<(), RepairFault>
     Ok(())
 }
 
-/// Writes a text as it is, a character, or U+FFFD for a broken part, and returns how many parts were broken.
+/// Writes text unchanged, a character, or U+FFFD for a malformed sequence. Returns the number of malformed sequences.
 fn write_piece<W: Sink>(writer: &mut W, piece: Piece<'_>) -> Result<u64, RepairFault>
     ensures ok { IfOk result (λ replaced. (replaced ≡ broken_of piece.entry)
         × Appends (W.contents writer.old) (W.contents writer.new) (text_of piece.entry)
@@ -103,8 +103,8 @@ fn write_piece<W: Sink>(writer: &mut W, piece: Piece<'_>) -> Result<u64, RepairF
     Ok(0)
 }
 
-/// Decodes all of `src`, which `last` marks as the last bytes, behind what is pending, and writes what that gives.
-/// Returns how many parts were broken.
+/// Decodes all of `src` after the pending bytes, and writes the result. `last` says that no byte follows. Returns the
+/// number of malformed sequences.
 fn write_parts<W: Sink>(
     decoder: &mut Utf8Decoder,
     src: &[u8],
@@ -129,7 +129,7 @@ fn write_parts<W: Sink>(
             return Ok(replaced);
         }
         replaced += write_piece(writer, piece)?;
-        // behind a piece nothing is pending
+        // after a piece nothing is pending
         if read == rest.len() {
             return Ok(replaced);
         }
@@ -141,8 +141,8 @@ fn write_parts<W: Sink>(
     }
 }
 
-/// Decodes all of `src`, which is the last, and writes what that gives. Returns how many parts were broken. Out of line:
-/// text alone takes neither a decoder nor an array.
+/// Decodes all of `src`, the last bytes, and writes the result. Returns the number of malformed sequences. Out of line:
+/// well-formed text needs neither a decoder nor an array.
 #[inline(never)]
 fn write_last_parts<W: Sink>(src: &[u8], writer: &mut W) -> Result<u64, RepairFault>
     ensures ok { IfOk result (λ replaced. WritesParts true src.now [] (W.contents writer.old) (W.contents writer.new) replaced
@@ -156,12 +156,10 @@ fn write_last_parts<W: Sink>(src: &[u8], writer: &mut W) -> Result<u64, RepairFa
     write_parts(&mut decoder, src, true, &mut array, writer)
 }
 
-/// Writes `src` repaired: its characters as they are, and U+FFFD for each broken part. Returns how many parts
-/// were broken.
+/// Writes `src` with U+FFFD for each malformed sequence, and returns the number of malformed sequences.
 ///
-/// The only fault is [`RepairFault::Write`], at the first write that fails or takes no byte; then less than all of
-/// the text was written, from its front on. Nothing is flushed, and no memory is taken. Encoding Standard, UTF-8
-/// decoder, with replacement.
+/// Returns [`RepairFault::Write`] at the first write that fails or writes no byte. Then a proper prefix of the repaired
+/// text was written. Flushes nothing, and allocates no memory. Encoding Standard, UTF-8 decoder, with replacement.
 pub fn repair_slice<W: Sink>(src: &[u8], writer: &mut W) -> Result<u64, RepairFault>
     ensures ok { IfOk result (λ replaced.
         WritesRepaired src.now (W.contents writer.old) (W.contents writer.new) replaced) }
@@ -179,8 +177,8 @@ pub fn repair_slice<W: Sink>(src: &[u8], writer: &mut W) -> Result<u64, RepairFa
     write_last_parts(&src[length..], writer)
 }
 
-/// One round: reads once into the buffer, and writes all that this gave, behind what is pending; at the end the
-/// pending part. Returns what the round read, and how many parts were broken.
+/// Runs one round: reads once into the buffer, and writes the result of the pending bytes and of these. At the end it
+/// writes what is pending. Returns how much it read, and the number of malformed sequences.
 fn repair_round<R: Source, W: Sink>(
     decoder: &mut Utf8Decoder,
     reader: &mut R,
@@ -217,13 +215,13 @@ fn repair_round<R: Source, W: Sink>(
     })
 }
 
-/// Reads to the end, and writes what it reads repaired: characters as they are, and U+FFFD for each broken part.
-/// Encoding Standard, UTF-8 decoder, with replacement.
+/// Reads to the end, and writes what it reads with U+FFFD for each malformed sequence. Encoding Standard, UTF-8
+/// decoder, with replacement.
 ///
-/// At most 1,024 bytes are read at a time, and all that they settle is written before the next read. So after a
-/// read that fails, and once `limit` bytes were read and the end was not seen, exactly the text of the settled
-/// parts was written: all but the beginning of a character at the end. At the first write that fails or takes no
-/// byte less than the text was written, from its front on. Nothing is flushed, and no memory is taken.
+/// Reads at most 1,024 bytes at a time, and writes the text of all final parts before the next read. So if a read
+/// fails, or `limit` bytes were read and the end was not seen, exactly the text of the final parts was written: all
+/// except an incomplete sequence at the end. At the first write that fails or writes no byte, only a proper prefix of
+/// the text due so far was written. Flushes nothing, and allocates no memory.
 pub fn repair<R: Source, W: Sink>(
     reader: &mut R,
     writer: &mut W,

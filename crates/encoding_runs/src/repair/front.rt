@@ -1,4 +1,4 @@
-//! The front of some bytes, repaired into an array: many characters and broken parts for one write.
+//! Repairs a prefix of some bytes into an array, so that one write has many characters and malformed sequences.
 ghost use Rattle.std.specs.Prelude.{◌≡◌, ◌/◌, ◌<◌, ◌≤◌, length, IfSome, IfNone};
 ghost use Rattle.encoding_runs.specs.Steps.Fronts.{RepairsFirst};
 
@@ -12,22 +12,22 @@ use std::simd::Simd;
 /// U+FFFD in UTF-8.
 pub(super) const REPLACEMENT: [u8; 3] = [0xEF, 0xBF, 0xBD];
 
-/// So many ASCII bytes behind one another are taken for the beginning of text.
+/// The length of a run of ASCII bytes that ends the repair byte by byte.
 const QUIET: usize = 8;
 
-/// So many bytes are repaired one by one behind text: a character with a broken byte gives as many parts at most.
+/// The most bytes repaired one by one after text: one damaged character has at most this many malformed sequences.
 const FEW: usize = 3;
 
-/// How many bytes are decoded at a time at most where broken parts stand close together.
+/// The most bytes decoded at a time if malformed sequences are close together.
 const SHORT: usize = 8;
 
-/// The bytes of the vectors by which ASCII is copied.
+/// The length of the vectors that copy ASCII.
 const VECTOR: usize = 32;
 
-/// A piece of so many of these bytes begins text.
+/// The shortest piece of at most `SHORT` bytes that counts as the start of text.
 const MOST: usize = SHORT - 2;
 
-/// How much was repaired: how many bytes were read and written, and how many broken parts were replaced.
+/// How much was repaired: the bytes read, the bytes written, and the malformed sequences replaced.
 #[derive(Drop)]
 pub(super) struct Front {
     pub(super) read: usize,
@@ -35,14 +35,14 @@ pub(super) struct Front {
     pub(super) replaced: usize,
 }
 
-/// Whether the bytes begin as text does.
+/// Returns whether the bytes start with a run of ASCII.
 #[inline(always)]
 fn begins_text(bytes: &[u8]) -> bool {
     bytes.len() >= QUIET && are_bytes_below::<QUIET>(bytes, 0, ASCII_END)
 }
 
-/// Writes the first byte, where it is ASCII, or U+FFFD for it, where it is a broken part whatever follows. Returns how
-/// many bytes that are: one or three.
+/// Writes the first byte if it is ASCII, or U+FFFD if it is a malformed sequence before any continuation. Returns the
+/// length written, one or three.
 #[inline(always)]
 fn repair_byte(src: &[u8], dst: &mut [u8]) -> Option<usize>
     requires two { 1 < length src.now }
@@ -66,7 +66,7 @@ fn repair_byte(src: &[u8], dst: &mut [u8]) -> Option<usize>
     Some(count)
 }
 
-/// Repairs bytes one by one, up to a character of several bytes: behind text a few, and else up to text.
+/// Repairs bytes one by one, up to a character of several bytes: at most `FEW` after text, and otherwise up to text.
 #[inline(always)]
 fn repair_bytes(src: &[u8], is_text: bool, dst: &mut [u8]) -> Front
     ensures repaired { RepairsFirst src.now dst.new result.read result.written result.replaced }
@@ -89,7 +89,7 @@ fn repair_bytes(src: &[u8], is_text: bool, dst: &mut [u8]) -> Front
     }
 }
 
-/// Repairs the first piece of so many bytes, where there is one and it fits.
+/// Repairs the first piece of the first `most` bytes. Returns `None` if there is none or it doesn't fit.
 #[inline(never)]
 fn repair_piece(src: &[u8], most: usize, dst: &mut [u8]) -> Option<Front>
     requires within { (most ≤ length src.now) × (most ≤ length dst.old) }
@@ -123,7 +123,7 @@ fn repair_piece(src: &[u8], most: usize, dst: &mut [u8]) -> Option<Front>
     }
 }
 
-/// Copies the ASCII bytes at the front, as far as there are whole vectors. Returns how many bytes that are.
+/// Copies an ASCII prefix by whole vectors, and returns its length.
 #[inline(always)]
 fn repair_ascii(src: &[u8], dst: &mut [u8]) -> usize
     ensures repaired { RepairsFirst src.now dst.new result result 0 }
@@ -132,12 +132,13 @@ fn repair_ascii(src: &[u8], dst: &mut [u8]) -> usize
     if src.len().min(dst.len()) - at < VECTOR {
         return at;
     }
-    // behind the last of them the array may hold anything
+    // the array may hold anything after the last ASCII byte
     Simd::<u8, VECTOR>::from_slice(&src[at..]).copy_to_slice(&mut dst[at..]);
     at + run_of_bytes_below::<VECTOR>(src, at, ASCII_END)
 }
 
-/// Repairs ASCII text whose broken parts are bytes that stand alone, from the first of them on, up to what isn't that.
+/// Repairs ASCII text in which each malformed sequence is a single byte. The first byte is malformed. Stops at anything
+/// else.
 #[inline(always)]
 fn repair_ascii_text(src: &[u8], dst: &mut [u8]) -> Front
     ensures repaired { RepairsFirst src.now dst.new result.read result.written result.replaced }
@@ -164,8 +165,8 @@ fn repair_ascii_text(src: &[u8], dst: &mut [u8]) -> Front
     }
 }
 
-/// Repairs first parts of the bytes, which stay these whatever follows, as they fit: broken parts go out by one write, with
-/// the text between. Out of line: the path of text without a broken part stays short.
+/// Repairs the first parts of the bytes that are final and fit, so that one write has many malformed sequences and the
+/// text between them. Out of line: the path of well-formed text stays short.
 #[inline(never)]
 pub(super) fn repair_front(src: &[u8], dst: &mut [u8]) -> Front
     ensures repaired { RepairsFirst src.now dst.new result.read result.written result.replaced }

@@ -1,4 +1,4 @@
-//! Streams that say whether they failed, and whether their end was seen.
+//! Streams that record whether they failed, and whether their end was seen.
 ghost use Rattle.std.specs.Prelude.{◌≡◌, ℕ, ◌<◌, ◌≤◌, Bool, false, List, length, Option, IfSome, refl};
 ghost use Rattle.std.proofs.Common.{◌∙◌};
 ghost use Rattle.std.specs.Borrow.{GName};
@@ -6,28 +6,29 @@ ghost use Rattle.encoding_runs.specs.Streams.{ReadMoves, WriteMoves, FailsOnNone
 
 use std::io::{Read, Write};
 
-/// Where bytes come from: a [`Read`] that keeps whether it failed, and whether its end was seen.
+/// A source of bytes: a [`Read`] that records whether it failed, and whether its end was seen.
 pub trait Source {
-    // The bytes that reads will give from here on, where they are known.
+    // The bytes that later reads will yield, if they are known.
     ghost remaining: { Self → Option (List ℕ) };
 
     ghost has_failed: { Self → Bool };
 
     ghost has_ended: { Self → Bool };
 
-    // Which stream gives the bytes: a source over a borrowed one reads the same one all along.
+    // Which stream yields the bytes: a source over a borrowed stream always reads the same one.
     ghost stream: { Self → GName } = { λ _. 0 };
 
-    /// Whether a read failed.
+    /// Returns whether a read failed.
     fn failed(&self) -> bool
         ensures { result ≡ has_failed self.now };
 
-    /// Whether the end was seen.
+    /// Returns whether the end was seen.
     fn ended(&self) -> bool
         ensures { result ≡ has_ended self.now };
 
-    /// Gives the next bytes, at the front of the buffer, and returns how many: none in some room is the end, and
-    /// `ended` is true from then on. `None` is a failure: no byte is given, and `failed` is true from then on.
+    /// Reads the next bytes into the start of the buffer, and returns how many. Zero bytes into a non-empty buffer are
+    /// the end, and `ended` returns true from then on. Returns `None` on failure: no byte is read, and `failed` returns
+    /// true from then on.
     fn read(&mut self, buffer: &mut [u8]) -> Option<usize>
         ensures bound { IfSome result (λ n. n ≤ length buffer.new) }
         ensures bytes { ReadMoves (remaining self.old) (remaining self.new) result buffer.new }
@@ -36,22 +37,22 @@ pub trait Source {
         ensures stream { stream self.new ≡ stream self.old };
 }
 
-/// Where bytes go: a [`Write`] that keeps whether it failed.
+/// A destination of bytes: a [`Write`] that records whether it failed.
 pub trait Sink {
-    // The bytes that the sink holds, where they are known.
+    // The bytes that the sink holds, if they are known.
     ghost contents: { Self → Option (List ℕ) };
 
     ghost has_failed: { Self → Bool };
 
-    // What no write changes, of a sink before and after it: which stream takes the bytes, and of a buffer what is behind them.
+    // What no write changes, of a sink before and after it: which stream takes the bytes, and the rest of a buffer.
     ghost keeps: { Self → Self → Type 0 };
 
-    /// Whether a write failed.
+    /// Returns whether a write failed.
     fn failed(&self) -> bool
         ensures { result ≡ has_failed self.now };
 
-    /// Takes some of the bytes, of which there has to be at least one, from the first on, and returns how many, at least
-    /// one. `None` is a failure: no byte was taken, and `failed` is true from then on.
+    /// Writes a prefix of the bytes, of at least one byte, and returns its length. `bytes` must not be empty. Returns
+    /// `None` on failure: no byte was written, and `failed` returns true from then on.
     fn write(&mut self, bytes: &[u8]) -> Option<usize>
         requires not_empty { 0 < length bytes.now }
         ensures bound { IfSome result (λ n. (0 < n) × (n ≤ length bytes.now)) }
@@ -64,8 +65,8 @@ pub trait Sink {
     ghost keeps_on: { (first second third : Self) → keeps first second → keeps second third → keeps first third };
 }
 
-/// A stream with whether it failed, and whether its end was seen. A call that its stream returns an error from is a
-/// failure, and so is a write that takes no byte. A read that gives none into some room sees the end.
+/// A stream that records whether it failed, and whether its end was seen. An error from the stream is a failure, and so
+/// is a write of no byte. A read of no byte into a non-empty buffer is the end.
 #[derive(Drop)]
 pub struct Watch<'a, T> {
     inner: &'a mut T,
@@ -74,7 +75,7 @@ pub struct Watch<'a, T> {
 }
 
 impl<'a, T> Watch<'a, T> {
-    /// Watches the stream, which has not failed so far, and whose end was not seen.
+    /// Watches a stream. It has not failed so far, and its end was not seen.
     pub fn new(inner: &'a mut T) -> Watch<'a, T>
         ensures same_stream { result.inner.ghost_name ≡ inner.entry.ghost_name }
         ensures as_it_was { result.inner.now ≡ inner.old }
@@ -98,12 +99,12 @@ impl<'a, T: Read> Source for Watch<'a, T> {
 
     ghost stream = { λ w. w.inner.ghost_name };
 
-    /// Whether a call failed.
+    /// Returns whether a call failed.
     fn failed(&self) -> bool {
         self.failed
     }
 
-    /// Whether the end was seen.
+    /// Returns whether the end was seen.
     fn ended(&self) -> bool {
         self.ended
     }
@@ -136,12 +137,12 @@ impl<'a, T: Write> Sink for Watch<'a, T> {
 
     ghost keeps_on = { λ _ _ _ before after. after ∙ before };
 
-    /// Whether a call failed.
+    /// Returns whether a call failed.
     fn failed(&self) -> bool {
         self.failed
     }
 
-    /// Writes to the stream. Whether its end was seen stays as it was.
+    /// Writes to the stream. Whether its end was seen is unchanged.
     fn write(&mut self, bytes: &[u8]) -> Option<usize>
         requires not_empty { 0 < length bytes.now }
         ensures bound { IfSome result (λ n. (0 < n) × (n ≤ length bytes.now)) }

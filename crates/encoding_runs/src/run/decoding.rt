@@ -1,4 +1,4 @@
-//! Runs of a decoder.
+//! Runs of a decoder. The rest of each destination is unchanged.
 ghost use Rattle.std.specs.Prelude.{ℕ, ◌+◌, ◌-◌, ◌<◌, ◌≤◌, List, length, take, encode_utf8};
 ghost use Rattle.std.specs.Char.{IsScalar};
 ghost use Rattle.std.specs.Char.Escape.{encode_utf16};
@@ -12,38 +12,38 @@ ghost use Rattle.encoding_runs.specs.Steps.Reports.{report_of};
 use super::turns::Turn;
 use encoding_text::decoder::{DecoderResult, Utf8Decoder};
 
-/// A broken part that a run reports.
+/// A malformed sequence that a run reports.
 #[repr(C)]
 #[derive(Debug, PartialEq, Eq, Drop)]
 pub struct Report {
-    /// How many code units, or bytes of UTF-8, the run wrote before it.
+    /// The number of code units, or bytes of UTF-8, that the run wrote before it.
     pub place: usize,
-    /// How many bytes it has, one to three.
+    /// Its length in bytes, one to three.
     pub length: u8,
 }
 
 /// What a run did.
 #[derive(Debug, PartialEq, Eq, Drop)]
 pub struct Outcome {
-    /// How many bytes of the source it read.
+    /// The number of bytes of the source that were read.
     pub read: usize,
-    /// How many code units, or bytes of UTF-8, it wrote.
+    /// The number of code units, or bytes of UTF-8, that were written.
     pub written: usize,
-    /// How many broken parts it reported.
+    /// The number of malformed sequences that were reported.
     pub reports: usize,
-    /// What its last call returned: `None` without turns.
+    /// The result of the last call, `None` if there are no turns.
     pub result: Option<DecoderResult>,
 }
 
-/// What a decoder writes by one of its calls: code units of UTF-16, or bytes of UTF-8.
+/// A code unit that a decoder writes: of UTF-16, or a byte of UTF-8.
 trait Decoded: Copy {
     // a scalar value in these code units
     ghost encode: { ℕ → List Self };
 
-    // the most code units that a character takes
+    // the most code units of a character
     ghost need: { ℕ };
 
-    /// The decoder's call that writes them.
+    /// Decodes into these code units.
     fn decode(
         decoder: &mut Utf8Decoder,
         src: &[u8],
@@ -86,8 +86,8 @@ impl Decoded for u8 {
     }
 }
 
-/// Makes the call of a turn on the unread bytes, into what is left of a destination: its answer, how many bytes were
-/// read, and how many code units written.
+/// Makes the call of a turn on the unread bytes, into the rest of a destination. Returns its result, the number of
+/// bytes read and the number of code units written.
 fn make_call<U: Decoded>(
     decoder: &mut Utf8Decoder,
     turn: &Turn,
@@ -108,7 +108,7 @@ fn make_call<U: Decoded>(
     )
 }
 
-/// Writes the report that an answer is, if it is one, at the first place, and returns how many that are.
+/// Writes the report of a call's result, if it is one, at index 0, and returns the number of reports written.
 fn write_report(answer: &DecoderResult, place: usize, reports: &mut [Report]) -> usize
     requires room { 0 < length reports.old }
     ensures { WritesFront reports.old reports.new result (report_of answer.now place) }
@@ -122,8 +122,8 @@ fn write_report(answer: &DecoderResult, place: usize, reports: &mut [Report]) ->
     }
 }
 
-/// Makes the calls of the turns, one for each, and returns how far they came. A character takes a code unit at least,
-/// and no more of them than bytes of UTF-8.
+/// Makes one call for each turn, and returns the totals. A character has at least one code unit, and no more code units
+/// than bytes of UTF-8.
 fn run<U: Decoded>(
     decoder: &mut Utf8Decoder,
     src: &[u8],
@@ -139,7 +139,7 @@ fn run<U: Decoded>(
     ensures completes { Completes DecoderResult.InputEmpty (λ n pending. n + (U.need - 1) + pending) U.need
         decoder.old src.now turns.now (length dst.old) result.result }
 {
-    // Without turns nothing else says that what is pending is nothing or a beginning.
+    // Without turns no other clause says that the pending bytes are none or an incomplete sequence.
     let _neutral = decoder.in_neutral_state();
     let mut outcome = Outcome {
         read: 0,
@@ -162,16 +162,18 @@ fn run<U: Decoded>(
     outcome
 }
 
-/// Decodes a source to UTF-16 by one call for each turn, whatever they return, and returns how far they came.
+/// Decodes a source to UTF-16 with one call for each turn, regardless of their results. Returns the totals and the last
+/// result.
 ///
-/// A call is handed the next unread bytes, as many as its turn takes, and of what is left of `dst` as much as its turn
-/// gives. It is marked last where its turn says so and its piece reaches the end of `src`. Each broken part that a call
-/// reports is written to the next place of `reports`, which has to have a place for each turn. So the first parts of
-/// the pending bytes and of `src` are delivered: their characters in `dst`, their broken parts in `reports`. Behind
-/// what is written `dst` is as before, and so is `reports`.
+/// A call takes the next unread bytes, at most `take` of them, and the rest of `dst`, at most `room` code units of it.
+/// It is marked last if the turn's `last` is set and its piece reaches the end of `src`. Each malformed sequence that a
+/// call reports is written to the next index of `reports`, which must be at least as long as `turns`. So the run
+/// delivers the first parts of the pending bytes and `src`: characters to `dst`, malformed sequences to `reports`. The
+/// rest of `dst` and of `reports` is unchanged.
 ///
-/// Twice as many turns as `src` has bytes, and two, come to its end, where each takes at least one byte, has room for
-/// two code units and is to be marked last, and `dst` is as long as `max_utf16_buffer_length` returns.
+/// At least `2 * src.len() + 2` turns reach the end of `src` if each takes at least one byte, has a `room` of at least
+/// two code units and has `last` set. For this `dst` must have at least the length that `max_utf16_buffer_length`
+/// returns.
 pub fn run_to_utf16(
     decoder: &mut Utf8Decoder,
     src: &[u8],
@@ -188,10 +190,11 @@ pub fn run_to_utf16(
     run::<u16>(decoder, src, turns, dst, reports)
 }
 
-/// Decodes a source to UTF-8 by one call for each turn, as [`run_to_utf16`] does to UTF-16.
+/// Decodes a source to UTF-8 with one call for each turn, as [`run_to_utf16`] does to UTF-16.
 ///
-/// Twice as many turns as `src` has bytes, and two, come to its end, where each takes at least one byte, has room for
-/// four and is to be marked last, and `dst` is as long as `max_utf8_buffer_length_without_replacement` returns.
+/// At least `2 * src.len() + 2` turns reach the end of `src` if each takes at least one byte, has a `room` of at least
+/// four bytes and has `last` set. For this `dst` must have at least the length that
+/// `max_utf8_buffer_length_without_replacement` returns.
 pub fn run_to_utf8(
     decoder: &mut Utf8Decoder,
     src: &[u8],

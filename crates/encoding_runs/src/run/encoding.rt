@@ -12,16 +12,16 @@ use encoding_text::utf_8::{EncoderResult, Utf8Encoder};
 /// What a run of an encoder did.
 #[derive(Debug, PartialEq, Eq, Drop)]
 pub struct EncodeOutcome {
-    /// How many code units of the source it read.
+    /// The number of code units of the source that were read.
     pub read: usize,
-    /// How many bytes it wrote.
+    /// The number of bytes that were written.
     pub written: usize,
-    /// What its last call returned: `None` without turns.
+    /// The result of the last call, `None` if there are no turns.
     pub result: Option<EncoderResult>,
 }
 
-/// Makes the call of a turn on the unread code units, into what is left of a destination, and returns what ended it,
-/// how many code units it read and how many bytes it wrote.
+/// Makes the call of a turn on the unread code units, into the rest of a destination. Returns its result, the number of
+/// code units read and the number of bytes written.
 fn encode_turn(
     encoder: &mut Utf8Encoder,
     turn: &Turn,
@@ -42,16 +42,15 @@ fn encode_turn(
     )
 }
 
-/// Encodes a source by one call for each turn, whatever they return, and returns how far the calls came.
+/// Encodes a source with one call for each turn, regardless of their results. Returns the totals and the last result.
 ///
-/// A call is handed the next unread code units, as many as its turn takes, and the rest of `dst`, or as much of it as
-/// its turn gives. It is marked last where its turn says so and its piece reaches the end of `src`. So the UTF-8 of the
-/// first parts of the held unit and of `src` is written, wherever the turns cut them. Behind what is written `dst` is as
-/// before.
+/// A call takes the next unread code units, at most `take` of them, and the rest of `dst`, at most `room` bytes of it.
+/// It is marked last if the turn's `last` is set and its piece reaches the end of `src`. So the run writes the UTF-8 of
+/// the first parts of the pending surrogate and `src`, however the turns cut them. The rest of `dst` is unchanged.
 ///
-/// With turns that each take a code unit, have four bytes of room and are to be marked last, as many as twice the length
-/// of `src` and two more, and a `dst` of the length that `max_buffer_length_from_utf16_without_replacement` returns, all
-/// of `src` is encoded.
+/// At least `2 * src.len() + 2` turns encode all of `src` if each takes at least one code unit, has a `room` of at
+/// least four bytes and has `last` set. For this `dst` must have at least the length that
+/// `max_buffer_length_from_utf16_without_replacement` returns.
 pub fn run_from_utf16(
     encoder: &mut Utf8Encoder,
     src: &[u16],
@@ -62,7 +61,7 @@ pub fn run_from_utf16(
     ensures completes { Completes EncoderResult.InputEmpty (λ n held. 3 * (n + held)) 4 encoder.old src.now turns.now
         (length dst.old) result.result }
 {
-    // Its contract says that at most one unit is held, also where there are no turns.
+    // Without turns no other contract says that at most one surrogate is pending.
     let _room = encoder.max_buffer_length_from_utf16_without_replacement(0);
     let mut outcome = EncodeOutcome {
         read: 0,
