@@ -12,16 +12,16 @@ use Rattle.encoding_runs.specs.declared.run.decoding.Outcome.{Outcome}
 use Rattle.encoding_runs.specs.DecoderCalls.{GiveTheParts}
 use Rattle.encoding_runs.specs.Runs.{IsRun}
 
--- the reports of the broken ones among parts whose output begins at a place: how much output stands before each, and
--- its length
+-- the reports of the malformed sequences among parts whose output starts at offset `place`: the offset of each in the
+-- output, and its length
 abbrev pub reports_of : {A : Type 0} → (ℕ → List A) → ℕ → List Part → List Report
 reports_of encode place [] = []
 reports_of encode place (Character c ∷ parts) = reports_of encode (place + length (encode c)) parts
 reports_of encode place (Broken bytes ∷ parts) = record { place = place; length = length bytes } ∷ reports_of encode place parts
 
--- What a run delivers: the first parts of what was pending and of its source, which its calls give in sequence. It writes
--- their characters into a destination, and reports their broken parts into places for reports, behind whose contents they
--- are as before.
+-- What a run delivers: the first parts of the pending bytes and its source, which its calls yield in sequence. It
+-- writes their characters, and reports their malformed sequences. The rest of the destination and of the reports is
+-- unchanged.
 pub record Delivers {A : Type 0} (encode : ℕ → List A) (need : ℕ) (p src : List ℕ) (turns : List Turn) (old new : List A) (old_reports new_reports : List Report) (outcome : Outcome) (q : List ℕ) : Type 0 where
   pub run : IsRun (IsCall encode need) p src turns old new outcome.read outcome.written outcome.result q
   pub given : GiveTheParts (λ room. AreDecoded encode) (λ result. result ≡ InputEmpty) p src run.calls

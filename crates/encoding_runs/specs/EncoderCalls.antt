@@ -1,4 +1,4 @@
--- What calls of an encoder in a row write. What is pending is what the encoder holds, and a call's form is its room.
+-- What successive calls of an encoder write. What is pending is its pending surrogate, and a call's form is its space.
 use Rattle.std.specs.Prelude.{◌≡◌, ℕ, ◌≤◌, true, false, List, ◌++◌, length, take, drop, Any}
 use Rattle.std.specs.List.{flat_map}
 use Rattle.encoding_definitions.specs.Utf16.{AreUnits, Part16, units_of, utf8_of, ArePartsOf16, StartsWith16}
@@ -7,9 +7,9 @@ use Rattle.encoding_text.specs.declared.utf_8.encoder.EncoderResult.{EncoderResu
 use Rattle.encoding_text.specs.declared.utf_8.encoder.EncoderResult.TheVariants.{InputEmpty}
 use Rattle.encoding_runs.specs.Calls.{Call, some_last}
 
--- What was written is the UTF-8 of the first parts of what was held and of the source. The code units of these parts, and
--- those that are held then, are those that were held and those read. They are all the parts once a call that is marked
--- last returns `InputEmpty`, and the first ones whatever follows where none is marked last.
+-- The output is the UTF-8 of the first parts of the pending surrogate and the source. The code units of these parts,
+-- then what is pending, are the old pending surrogate and the code units read. Once a call marked last returns
+-- `InputEmpty`, they are all parts. If no call is marked last, they are the first parts for any continuation.
 pub record EncodesFirstParts (held src : List ℕ) (calls : List (Call ℕ EncoderResult ℕ)) (read : ℕ) (out after : List ℕ) : Type 0 where
   pub parts : List Part16
   pub first : StartsWith16 (held ++ src) parts (after ++ drop read src)

@@ -7,7 +7,7 @@ use Rattle.encoding_runs.specs.Calls.{output_of}
 use Rattle.encoding_runs.specs.EncoderCalls.{EncodesFirstParts}
 use Rattle.encoding_runs.specs.Runs.{IsRun}
 
--- a run, and the first parts of what was held and of the source, of which it writes the UTF-8
+-- a run, and the first parts of the pending surrogate and the source, whose UTF-8 it writes
 pub record EncodesByTurns (held src : List ℕ) (turns : List Turn) (old new : List ℕ) (outcome : EncodeOutcome) (after : List ℕ) : Type 0 where
   pub run : IsRun IsEncoderCall held src turns old new outcome.read outcome.written outcome.result after
   pub encodes : EncodesFirstParts held src run.calls outcome.read (output_of run.calls) after

@@ -1,4 +1,4 @@
--- A run of a decoder or of an encoder: one call for each turn, each from what the one before left pending.
+-- A run of a decoder or an encoder: one call for each turn. Each call starts with what the previous one left pending.
 use Rattle.std.specs.Prelude.{◌≡◌, ℕ, ◌+◌, ◌-◌, ◌*◌, ◌≤◌, true, List, [], ◌∷◌, length, map, Option, None, Some, All}
 use Rattle.std.specs.List.{last_or}
 use Rattle.encoding_definitions.specs.Fronts.{WritesFront}
@@ -6,8 +6,8 @@ use Rattle.encoding_runs.specs.declared.run.turns.Turn.{Turn}
 use Rattle.encoding_runs.specs.Turns.{room_of, is_marked_last}
 use Rattle.encoding_runs.specs.Calls.{CallRelation, Call, IsChain, read_in_all, output_of, pending_after}
 
--- The calls are those of the turns, one for each, where so much is unread and so much room is left. Their form is their
--- room.
+-- The calls are those of the turns, one for each, with `unread` of the source unread and `left` of the destination
+-- left. The form of a call is its space.
 abbrev pub AreOfTurns : {Result A : Type 0} → ℕ → ℕ → List Turn → List (Call ℕ Result A) → Type 0
 AreOfTurns unread left [] [] = Unit {0}
 AreOfTurns unread left (turn ∷ turns) (call ∷ calls) =
@@ -15,8 +15,7 @@ AreOfTurns unread left (turn ∷ turns) (call ∷ calls) =
     × AreOfTurns (unread - call.read) (left - length call.out) turns calls
 AreOfTurns unread left _ _ = ⊥
 
--- A run from what is pending, into a destination, which behind what is written is as before: its calls, and what it counts
--- of them.
+-- A run that starts with p pending: its calls, and their totals. The rest of the destination is unchanged.
 pub record IsRun {Result A : Type 0} (Does : CallRelation ℕ Result A) (p src : List ℕ) (turns : List Turn) (old new : List A) (read written : ℕ) (result : Option Result) (q : List ℕ) : Type 0 where
   pub calls : List (Call ℕ Result A)
   pub chain : IsChain Does p src calls
@@ -26,12 +25,12 @@ pub record IsRun {Result A : Type 0} (Does : CallRelation ℕ Result A) (p src :
   pub returns : result ≡ last_or None (map (λ call. call.result) calls)
   pub leaves : q ≡ pending_after p calls
 
--- each turn hands in something, has room for any character, and is to be marked last
+-- each turn takes at least one unit, has space for any character, and has `last` set
 abbrev pub EachGetsOn : ℕ → List Turn → Type 0
 EachGetsOn need turns = All (λ turn. (1 ≤ turn.take) × (need ≤ turn.room) × (turn.last ≡ true)) turns
 
--- so many such turns come to the end of the source, which this result tells, where the destination holds the queried
--- number
+-- with at least `2 * length src + 2` such turns, and a destination of the queried length, the run reaches the end of
+-- the source, and its last result is `empty`
 abbrev pub Completes : {Result : Type 0} → Result → (ℕ → ℕ → ℕ) → ℕ → List ℕ → List ℕ → List Turn → ℕ → Option Result → Type 0
 Completes empty query need p src turns room result =
     2 * length src + 2 ≤ length turns → EachGetsOn need turns → query (length src) (length p) ≤ room → result ≡ Some empty

@@ -1,4 +1,4 @@
--- What private functions say of their steps. Public contracts cite none of these.
+-- What private functions say of their steps. No public contract cites these.
 pub mod Writing
 pub mod Rounds
 pub mod Fronts

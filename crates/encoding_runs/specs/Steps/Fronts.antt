@@ -3,8 +3,8 @@ use Rattle.std.specs.Prelude.{◌≡◌, ℕ, ◌≤◌, false, List, length, ta
 use Rattle.encoding_definitions.specs.Parts.{Part, repaired_text, count_broken}
 use Rattle.encoding_runs.specs.Steps.Writing.{AreFirst}
 
--- So many bytes of the source are its first parts, which stay these whatever follows. Their text stands at the front of
--- the array, and n of the parts are broken, which are no more than bytes.
+-- The first `read` bytes of the source are its first parts, for any continuation. Their text is the first `written`
+-- bytes of the array. Of the parts n are malformed, at most `read`.
 pub record RepairsFirst (src array : List ℕ) (read written n : ℕ) : Type 0 where
   pub parts : List Part
   pub first : AreFirst false src parts (drop read src)

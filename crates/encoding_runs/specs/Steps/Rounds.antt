@@ -4,14 +4,15 @@ use Rattle.std.specs.Io.KnownBytes.{Consumes, IsAtEnd}
 use Rattle.encoding_definitions.specs.Pending.{IsPending}
 use Rattle.encoding_runs.specs.Steps.Writing.{WritesParts}
 
--- One read into so much room gave these bytes; there were none exactly where it saw the end.
+-- One read into a buffer of length `room` yielded these bytes. There were none if and only if it saw the end.
 pub record ReadsRound (room : ℕ) (bytes : List ℕ) (last : Bool) (unread left : Option (List ℕ)) (before after : Bool) : Type 0 where
   pub consumed : Consumes unread left bytes
   pub within : length bytes ≤ room
   pub going_on : last ≡ false → (0 < length bytes) × (after ≡ before)
   pub at_end : last ≡ true → (bytes ≡ []) × (after ≡ true) × IsAtEnd left
 
--- The rounds have read so many bytes and written their settled text. These of them are pending, and n parts were broken.
+-- The rounds have read `read` bytes and written the text of their final parts. Bytes are pending, and n parts are
+-- malformed.
 pub record Reaches (unread left old new : Option (List ℕ)) (read n : ℕ) (pending : List ℕ) : Type 0 where
   pub input : List ℕ
   pub consumed : Consumes unread left input
