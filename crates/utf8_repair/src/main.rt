@@ -13,8 +13,7 @@ use std::env;
 use std::process::ExitCode;
 use streams::{Due, ROOM, ReadAhead, WriteBehind};
 
-/// Serves the standard streams, each behind an array: they are not buffered, and each of their calls is one of the
-/// system.
+/// Serves the standard streams, each through an array: they are unbuffered, and each of their calls is a system call.
 fn main(rt: HostRuntime) -> ExitCode {
     let mut errors = rt.stderr();
     let Ok(arguments) = env::args(&rt) else {

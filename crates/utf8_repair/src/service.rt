@@ -19,10 +19,10 @@ const WRITE_FAULT: u8 = 4;
 
 const LIMIT: u8 = 5;
 
-/// The status where the arguments could not be had.
+/// The status if the arguments could not be read.
 pub(crate) const NO_ARGUMENTS: u8 = 6;
 
-/// Returns the status of what the engine returned.
+/// Returns the status of the engine's result.
 fn status_of(outcome: Result<Repaired, RepairFault>) -> u8
     ensures status { (result ≤ 5) × (result ≡ 2 → ⊥) }
     ensures unchanged { result ≡ 0 → IsOkAnd outcome (λ repaired. repaired.replaced ≡ 0) }
@@ -45,8 +45,8 @@ fn status_of(outcome: Result<Repaired, RepairFault>) -> u8
     }
 }
 
-/// Writes what the source gives, repaired, up to its end or a fault, and returns the status: where neither stream had
-/// failed before, 3 exactly if the source has failed then, and 4 exactly if the sink has.
+/// Writes the repaired text of the source, up to its end or a failure, and returns the status. If neither stream had
+/// failed before, the status is 3 if and only if the source fails, and 4 if and only if the sink fails.
 fn repair_source<R: Source, W: Sink>(source: &mut R, sink: &mut W) -> u8
     ensures status { (result ≤ 5) × (result ≡ 2 → ⊥) }
     ensures unchanged { result ≡ 0 → (bytes : List ℕ) × RepairsAll bytes (R.remaining source.old) (R.remaining source.new)
@@ -77,7 +77,7 @@ fn repair_source<R: Source, W: Sink>(source: &mut R, sink: &mut W) -> u8
     status_of(outcome)
 }
 
-/// Writes what the reader gives, repaired, up to its end or a fault, and returns the status.
+/// Writes the repaired text of the reader, up to its end or a failure, and returns the status.
 fn repair_stream<R: Read, W: Write>(reader: &mut R, writer: &mut W) -> u8
     ensures status { (result ≤ 5) × (result ≡ 2 → ⊥) }
     ensures unchanged { result ≡ 0 → (bytes : List ℕ) × RepairsAll bytes (R.remaining reader.old) (R.remaining reader.new)
@@ -100,7 +100,7 @@ fn repair_stream<R: Read, W: Write>(reader: &mut R, writer: &mut W) -> u8
     repair_source(&mut source, &mut sink)
 }
 
-/// Returns the status of a run behind its flush: 4 where that failed, and else what it was.
+/// Returns the status of a run after its flush: 4 if the flush failed, and otherwise `status`.
 fn status_behind(status: u8, flushed: io::Result<()>) -> u8
     ensures failed { OnErr flushed (result ≡ 4) }
     ensures flushed { OnOk flushed (result ≡ status) }
@@ -111,7 +111,7 @@ fn status_behind(status: u8, flushed: io::Result<()>) -> u8
     }
 }
 
-/// Writes what the reader gives, repaired, then flushes whatever came of it. Returns the status.
+/// Writes the repaired text of the reader, flushes the writer with any status, and returns the status.
 fn repair_and_flush<R: Read, W: Write>(reader: &mut R, writer: &mut W) -> u8
     ensures status { (result ≤ 5) × (result ≡ 2 → ⊥) }
     ensures unchanged { result ≡ 0 → (bytes : List ℕ) × RepairsAll bytes (R.remaining reader.old) (R.remaining reader.new)
@@ -133,7 +133,7 @@ fn repair_and_flush<R: Read, W: Write>(reader: &mut R, writer: &mut W) -> u8
     status_behind(status, writer.flush())
 }
 
-/// The line that goes with a status: empty where nothing is said.
+/// Returns the line of a status, empty if it has none.
 fn line_of(status: u8) -> &'static [u8]
     ensures { result.now ≡ line_of status }
 {
@@ -147,7 +147,7 @@ fn line_of(status: u8) -> &'static [u8]
     }
 }
 
-/// Writes the text up to the first write that fails or takes no byte.
+/// Writes the text, up to the first write that fails or writes no byte.
 fn write_line<E: Write>(text: &[u8], errors: &mut E)
     ensures { WritesFrontOf text.now (E.contents errors.old) (E.contents errors.new) }
 {
@@ -160,7 +160,7 @@ fn write_line<E: Write>(text: &[u8], errors: &mut E)
     }
 }
 
-/// Writes the line of the status, where it has one.
+/// Writes the line of the status, if it has one.
 pub(crate) fn report<E: Write>(status: u8, errors: &mut E)
     ensures line { WritesFrontOf (line_of status) (E.contents errors.old) (E.contents errors.new) }
     ensures silent { status ≤ 1 → errors.new ≡ errors.old }
@@ -171,20 +171,20 @@ pub(crate) fn report<E: Write>(status: u8, errors: &mut E)
     }
 }
 
-/// Serves one run: reads `reader` to its end, writes it repaired to `writer`, and returns the status, whose line
-/// goes to `errors`. `arguments` counts those after the program's name.
+/// Serves one run: reads `reader` to its end, writes the repaired text to `writer`, and returns the status. Writes the
+/// line of the status to `errors`. `arguments` is the number of arguments after the program's name.
 ///
 /// | Status | When | Line |
 /// |---|---|---|
-/// | 0 | no part was broken | |
-/// | 1 | a part was broken, and U+FFFD stands for it | |
+/// | 0 | the input was well-formed | |
+/// | 1 | U+FFFD was written for at least one malformed sequence | |
 /// | 2 | an argument was given; nothing is read or written | `usage: utf8_repair` |
-/// | 3 | a read failed, also by an interruption; the settled text of what was read is written | `utf8_repair: read fault` |
-/// | 4 | a write failed or took no byte, or the flush failed; a prefix of the text that was due is written | `utf8_repair: write fault` |
-/// | 5 | the greatest `u64` of bytes was read, and the end not seen; their settled text is written | `utf8_repair: limit` |
+/// | 3 | a read failed or was interrupted; the text of the final parts of what was read is written | `utf8_repair: read fault` |
+/// | 4 | a write failed or wrote no byte, or the flush failed; a prefix of the text due is written | `utf8_repair: write fault` |
+/// | 5 | `u64::MAX` bytes were read and the end was not seen; the text of their final parts is written | `utf8_repair: limit` |
 ///
-/// What is read is written before more is read. Once the engine was called the writer is flushed, whatever came of
-/// it, and not before. Faults of `errors` change nothing. No memory is taken.
+/// Writes the text of all final parts before it reads more. Flushes the writer only after the engine has returned, even
+/// if it failed. Errors of `errors` change nothing. Allocates no memory.
 pub fn serve<R: Read, W: Write, E: Write>(
     arguments: usize,
     reader: &mut R,

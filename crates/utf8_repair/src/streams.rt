@@ -1,4 +1,4 @@
-//! Streams of the program's own: an array between the filter and each slow stream, so that the calls below are few.
+//! Streams of the program: an array between the engine and each slow stream, to make fewer system calls.
 mod due;
 mod held;
 mod read_ahead;
@@ -8,5 +8,5 @@ pub(crate) use due::Due;
 pub(crate) use read_ahead::ReadAhead;
 pub(crate) use write_behind::WriteBehind;
 
-/// The length of the arrays between the engine and the standard streams: as many bytes as a pipe holds.
+/// The length of the arrays between the engine and the standard streams: the capacity of a pipe.
 pub(crate) const ROOM: usize = 0x10000;

@@ -1,20 +1,20 @@
-//! What of a round has to be written out before the next read.
+//! What of a round must be written out before the next read.
 ghost use Rattle.std.specs.Prelude.{◌<◌, length, IsTrue};
 
-/// Which pieces are due, as the reader tells the writer with each read.
+/// Which pieces are due. The reader sets it for the writer with each read.
 #[derive(Clone, Copy)]
 pub(crate) enum Due {
-    /// None: more bytes wait to be read.
+    /// No piece: more buffered bytes can be read.
     Nothing,
-    /// The one that ends with this byte, the last of the bytes that were read, and what waits. The byte is ASCII, so
+    /// The piece that ends with this byte, the last byte that was read, and all buffered bytes. The byte is ASCII, so
     /// no U+FFFD ends with it.
     UpTo(u8),
-    /// Each, and what waits.
+    /// Each piece, and all buffered bytes.
     Each,
 }
 
 impl Due {
-    /// Whether this piece is due. One of no bytes never is.
+    /// Returns whether this piece is due. An empty piece never is.
     pub(crate) fn has(self, piece: &[u8]) -> bool
         ensures { IsTrue result → 0 < length piece.now }
     {

@@ -1,4 +1,4 @@
-//! Bytes that wait in an array.
+//! A queue of bytes in an array.
 ghost use Rattle.std.specs.Prelude.{◌≡◌, ℕ, ◌-◌, ◌<◌, ◌≤◌, min, List, [], ◌++◌, length, drop, take, IsTrue, OnOk, OnErr};
 ghost use Rattle.std.specs.Bool.{IsFalse};
 ghost use Rattle.std.specs.Io.KnownBytes.{Keeps, IsAtEnd, append_known, prepend_known};
@@ -6,7 +6,7 @@ ghost use Rattle.std.specs.Io.KnownBytes.{Keeps, IsAtEnd, append_known, prepend_
 use std::io::{self, Error, ErrorKind, Read, Write};
 use std::marker::Model;
 
-/// At most `N` bytes. What goes in first comes out first.
+/// A queue of at most `N` bytes: first in, first out.
 #[derive(Drop)]
 pub(crate) struct Held<const N: usize> {
     bytes: [u8; N],
@@ -14,7 +14,7 @@ pub(crate) struct Held<const N: usize> {
     end: usize,
 }
 
-// Clauses see the bytes that wait.
+// Clauses refer to the queued bytes.
 impl<const N: usize> Model for Held<N> {
     ghost Value = { List ℕ };
 
@@ -24,7 +24,7 @@ impl<const N: usize> Model for Held<N> {
 }
 
 impl<const N: usize> Held<N> {
-    /// An array in which nothing waits.
+    /// Returns an empty queue.
     pub(crate) fn new() -> Held<N>
         requires { 0 < N }
         ensures { result ≡ [] }
@@ -36,7 +36,7 @@ impl<const N: usize> Held<N> {
         }
     }
 
-    /// The bytes that wait.
+    /// Returns the queued bytes.
     pub(crate) fn as_slice(&self) -> &[u8]
         ensures { result.now ≡ self.now }
     {
@@ -44,14 +44,14 @@ impl<const N: usize> Held<N> {
         &bytes[self.start..self.end]
     }
 
-    /// How many bytes wait.
+    /// Returns the number of queued bytes.
     pub(crate) fn len(&self) -> usize
         ensures { result ≡ length self.now }
     {
         self.end - self.start
     }
 
-    /// Lets the first bytes go.
+    /// Removes the first `count` bytes.
     fn advance(&mut self, count: usize)
         requires { count ≤ length self.old }
         ensures { self.new ≡ drop count self.old }
@@ -63,7 +63,7 @@ impl<const N: usize> Held<N> {
         }
     }
 
-    /// Lets the last bytes go.
+    /// Removes the last `count` bytes.
     pub(crate) fn take_back(&mut self, count: usize)
         requires { count ≤ length self.old }
         ensures { self.new ≡ take (length self.old - count) self.old }
@@ -75,7 +75,7 @@ impl<const N: usize> Held<N> {
         }
     }
 
-    /// Takes the piece where it fits behind what waits, and returns whether it did.
+    /// Appends the piece if it fits after the queued bytes, and returns whether it did.
     pub(crate) fn push(&mut self, piece: &[u8]) -> bool
         ensures taken { IsTrue result → self.new ≡ self.old ++ piece.now }
         ensures refused { IsFalse result → self.new ≡ self.old }
@@ -91,7 +91,7 @@ impl<const N: usize> Held<N> {
         true
     }
 
-    /// Moves the first bytes into the buffer, as many as it takes and at most so many, and returns how many.
+    /// Moves the first bytes into the buffer, at most `most` and as many as it holds, and returns how many.
     pub(crate) fn pop_into(&mut self, buffer: &mut [u8], most: usize) -> usize
         ensures count { result ≡ min most (min (length self.old) (length buffer.old)) }
         ensures bytes { self.old ≡ take result buffer.new ++ self.new }
@@ -103,7 +103,7 @@ impl<const N: usize> Held<N> {
         count
     }
 
-    /// Reads once, where no byte waits.
+    /// Reads once if the queue is empty.
     pub(crate) fn fill<R: Read>(&mut self, reader: &mut R) -> io::Result<()>
         ensures bytes { Keeps (prepend_known self.old (R.remaining reader.old)) (prepend_known self.new (R.remaining reader.new)) }
         ensures end { OnOk result (self.new ≡ [] → IsAtEnd (R.remaining reader.new)) }
@@ -115,7 +115,7 @@ impl<const N: usize> Held<N> {
         Ok(())
     }
 
-    /// Writes once of the bytes that wait, of which there has to be one. What is not taken waits on.
+    /// Writes queued bytes with one write call, and removes those that were written. The queue must not be empty.
     pub(crate) fn write_some<W: Write>(&mut self, writer: &mut W) -> io::Result<()>
         requires not_empty { 0 < length self.old }
         ensures bytes { Keeps (append_known (W.contents writer.old) self.old) (append_known (W.contents writer.new) self.new) }
@@ -130,7 +130,7 @@ impl<const N: usize> Held<N> {
         Ok(())
     }
 
-    /// Writes out the bytes that wait. What a failure leaves unwritten waits on.
+    /// Writes out the queued bytes. On an error the unwritten bytes stay queued.
     pub(crate) fn write_to<W: Write>(&mut self, writer: &mut W) -> io::Result<()>
         ensures bytes { Keeps (append_known (W.contents writer.old) self.old) (append_known (W.contents writer.new) self.new) }
         ensures ok { OnOk result (self.new ≡ []) }

@@ -1,4 +1,4 @@
-//! A reader that reads much at once and gives it out in pieces.
+//! A reader that reads many bytes at once and returns them in pieces.
 ghost use Rattle.std.specs.Prelude.{◌≡◌, ◌<◌, []};
 ghost use Rattle.std.specs.Io.KnownBytes.{prepend_known};
 
@@ -8,15 +8,15 @@ use std::cell::Cell;
 use std::io::{self, Read};
 use std::str::from_utf8;
 
-/// How many bytes of the array are given out apart, as the last ones, if no whole character ends it. A filter that
-/// holds back at most three bytes, as an incomplete sequence, writes something when it reads these.
+/// The number of last bytes that are returned separately if no whole character ends the array. A filter that holds back
+/// at most three bytes, as an incomplete sequence, writes something when it reads these.
 const LAST: usize = 4;
 
-/// How many of the last bytes are given out apart, and what of them is due.
+/// Returns how many of the last bytes are returned separately, and what of them is due.
 ///
-/// If a whole character ends the bytes, the filter writes it last and holds nothing back. Of more than one byte, only
-/// its first one is given out with the bytes before it: that settles all of these, and the other bytes then make one
-/// piece.
+/// If a whole character ends the bytes, the filter writes it last and holds nothing back. If it has more than one byte,
+/// only its first byte is returned with the bytes before it. Then the parts of these are final, and the other bytes of
+/// the character make one piece.
 fn last_ones(bytes: &[u8]) -> (usize, Due) {
     for count in 1..LAST + 1 {
         let start = bytes.len().saturating_sub(count);
@@ -29,8 +29,8 @@ fn last_ones(bytes: &[u8]) -> (usize, Due) {
     (LAST, Due::Each)
 }
 
-/// Fills an array by one read, and gives its bytes out: apart those behind which the next read may wait. It tells the
-/// writer with each read what of it is due.
+/// Fills an array with one read, and returns its bytes in pieces. Returns separately the bytes after which the next
+/// read may block. With each read it sets for the writer what of it is due.
 #[derive(Drop)]
 pub(crate) struct ReadAhead<'a, R, const N: usize> {
     inner: R,
@@ -39,7 +39,7 @@ pub(crate) struct ReadAhead<'a, R, const N: usize> {
 }
 
 impl<'a, R, const N: usize> ReadAhead<'a, R, N> {
-    /// Reads ahead of what is asked for, of this reader.
+    /// Returns a reader that reads ahead from `inner`.
     pub(crate) fn new(inner: R, due: &'a Cell<Due>) -> ReadAhead<'a, R, N>
         requires { 0 < N }
         ensures inner { result.inner ≡ inner }
@@ -56,7 +56,7 @@ impl<'a, R, const N: usize> ReadAhead<'a, R, N> {
 impl<R: Read, const N: usize> Read for ReadAhead<'_, R, N> {
     ghost remaining = { λ r. prepend_known r.held (R.remaining r.inner) };
 
-    /// Reads what waits in the array, which one read of the reader inside fills where it is empty.
+    /// Reads the bytes in the array. If it is empty, one read of the inner reader fills it.
     fn read(&mut self, buffer: &mut [u8]) -> io::Result<usize> {
         self.held.fill(&mut self.inner)?;
         let (apart, due) = last_ones(self.held.as_slice());

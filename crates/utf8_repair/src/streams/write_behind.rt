@@ -1,4 +1,4 @@
-//! A writer that gathers pieces and writes much at once.
+//! A writer that buffers pieces and writes many bytes at once.
 ghost use Rattle.std.specs.Prelude.{◌≡◌, ◌++◌, ◌-◌, ◌<◌, ◌≤◌, true, false, List, ℕ, [], length, take, IfOk, OnOk, OnErr};
 ghost use Rattle.std.specs.Io.KnownBytes.{Keeps, append_known};
 
@@ -7,8 +7,8 @@ use super::held::Held;
 use std::cell::Cell;
 use std::io::{self, Write};
 
-/// Compresses what is written in an array, and writes it out when that is full, at a flush, and with each piece that is
-/// due: by one write, as far as the writer inside takes it. What is never flushed is lost.
+/// Buffers what is written in an array. Writes the array out when it is full, at a flush, and with each piece that is
+/// due: with one write, as far as the inner writer takes it. What is never flushed is lost.
 #[derive(Drop)]
 pub(crate) struct WriteBehind<'a, W, const N: usize> {
     inner: W,
@@ -17,7 +17,7 @@ pub(crate) struct WriteBehind<'a, W, const N: usize> {
 }
 
 impl<'a, W, const N: usize> WriteBehind<'a, W, N> {
-    /// Compresses what is to be written to this writer.
+    /// Returns a writer that buffers what it writes to `inner`.
     pub(crate) fn new(inner: W, due: &'a Cell<Due>) -> WriteBehind<'a, W, N>
         requires { 0 < N }
         ensures inner { result.inner ≡ inner }
@@ -32,8 +32,8 @@ impl<'a, W, const N: usize> WriteBehind<'a, W, N> {
 }
 
 impl<W: Write, const N: usize> WriteBehind<'_, W, N> {
-    /// Takes the piece behind what waits, and returns whether it did: where it is longer than the array, it doesn't, and
-    /// nothing waits.
+    /// Appends the piece to the buffered bytes, and returns whether it did. If the piece is longer than the array, it
+    /// isn't appended, and nothing is left in the buffer.
     fn gather(&mut self, piece: &[u8]) -> io::Result<bool>
         ensures taken { IfOk result (λ taken. taken ≡ true → (front : List ℕ) × (self.new.held ≡ front ++ piece.now)
             × Keeps (append_known (W.contents self.old.inner) self.old.held) (append_known (W.contents self.new.inner) front)) }
@@ -49,8 +49,8 @@ impl<W: Write, const N: usize> WriteBehind<'_, W, N> {
         Ok(self.held.push(piece))
     }
 
-    /// Writes out what waits, of which the last bytes, so many, are a piece, until some of this is taken, and returns how
-    /// many. What is not taken of the piece doesn't wait on.
+    /// Writes out the buffered bytes, whose last `count` are a piece, until some of the piece is written. Returns how
+    /// many bytes of the piece were written. The rest of the piece is removed from the buffer.
     fn send(&mut self, count: usize) -> io::Result<usize>
         requires { (0 < count) × (count ≤ length self.old.held) }
         ensures ok { IfOk result (λ n. (n ≤ count) × Keeps
@@ -78,8 +78,8 @@ impl<W: Write, const N: usize> WriteBehind<'_, W, N> {
 impl<W: Write, const N: usize> Write for WriteBehind<'_, W, N> {
     ghost contents = { λ w. append_known (W.contents w.inner) w.held };
 
-    /// Takes the piece, behind what waits, and sends both at once where the piece is due. A failure of the writer inside
-    /// leaves the piece untaken.
+    /// Buffers the piece, and writes out all buffered bytes at once if the piece is due. On an error of the inner
+    /// writer, no byte of the piece is written or buffered.
     fn write(&mut self, piece: &[u8]) -> io::Result<usize> {
         if !self.gather(piece)? {
             return self.inner.write(piece);
@@ -90,7 +90,7 @@ impl<W: Write, const N: usize> Write for WriteBehind<'_, W, N> {
         Ok(piece.len())
     }
 
-    /// Writes out what waits, and flushes the writer inside.
+    /// Writes out the buffered bytes, and flushes the inner writer.
     fn flush(&mut self) -> io::Result<()>
         ensures bytes { Keeps (append_known (W.contents self.old.inner) self.old.held) (append_known (W.contents self.new.inner) self.new.held) }
         ensures ok { OnOk result (self.new.held ≡ []) }
