@@ -6,11 +6,11 @@ use Rattle.encoding_c.specs.declared.repair.Buffer.{Buffer}
 abbrev pub buffer_contents : Buffer → Option (List ℕ)
 buffer_contents b = Some (take b.written b.room.now)
 
--- whether a write found no room
+-- whether a write found no space
 abbrev pub buffer_failed : Buffer → Bool
 buffer_failed b = b.failed
 
--- the same memory is filled, further, and what is behind it is as it was
+-- the same memory, with at least as much written, and the rest unchanged
 pub record BufferKeeps (old new : Buffer) : Type 0 where
   pub memory : new.room.ghost_name ≡ old.room.ghost_name
   pub further : old.written ≤ new.written

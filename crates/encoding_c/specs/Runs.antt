@@ -1,4 +1,4 @@
--- How a run is told whose decoder or encoder lies in the caller's storage.
+-- The numbers that a run in C returns. Its decoder or encoder is in the caller's storage.
 use Rattle.std.specs.Prelude.{◌≡◌, ℕ, List, Option, MatchOption}
 use Rattle.encoding_text.specs.declared.decoder.DecoderResult.{DecoderResult}
 use Rattle.encoding_text.specs.declared.utf_8.encoder.EncoderResult.{EncoderResult}
@@ -10,11 +10,11 @@ use Rattle.encoding_c.specs.declared.encoder.EncodingEncoded.{EncodingEncoded}
 use Rattle.encoding_c.specs.declared.runs.EncodingOutcome.{EncodingOutcome}
 use Rattle.encoding_c.specs.States.{StandsFor, Holds, IsTold, IsToldEncoded, IsDone}
 
--- the two numbers that tell what the last call of a decoder's run returned: 3 and 0 where it made none
+-- the two numbers for the result of a decoder's last call: 3 and 0 if there was none
 abbrev pub IsToldLast : Option DecoderResult → ℕ → ℕ → Type 0
 IsToldLast last result malformed = MatchOption last ((result ≡ 3) × (malformed ≡ 0)) (λ ended. IsTold ended result malformed)
 
--- the same of an encoder's run, in one number
+-- the number for the result of an encoder's last call: 3 if there was none
 abbrev pub IsToldLastEncoded : Option EncoderResult → ℕ → Type 0
 IsToldLastEncoded last result = MatchOption last (result ≡ 3) (λ ended. IsToldEncoded ended result)
 

@@ -1,4 +1,4 @@
--- What the storage of a decoder and of an encoder stands for between two calls, and how a call in it is told.
+-- What the storage of a decoder or an encoder represents between two calls, and the numbers that a call returns.
 use Rattle.std.specs.Prelude.{◌≡◌, ℕ, ◌-◌, ◌<◌, ◌≤◌, List, [], ◌∷◌, ◌++◌, length, take, slice_index}
 use Rattle.encoding_definitions.specs.Pending.{IsPending}
 use Rattle.encoding_definitions.specs.Utf16.{IsHighSurrogate}
@@ -12,25 +12,26 @@ use Rattle.encoding_c.specs.declared.decoder.EncodingUtf8Decoder.{EncodingUtf8De
 use Rattle.encoding_c.specs.declared.decoder.EncodingPiece.{EncodingPiece}
 use Rattle.encoding_c.specs.declared.encoder.EncodingUtf8Encoder.{EncodingUtf8Encoder}
 
--- the storage holds what a call may leave there: up to three bytes that may be pending
+-- the storage holds what a call may leave there: at most three bytes that may be pending
 abbrev pub IsLeft : EncodingUtf8Decoder → Type 0
 IsLeft state = (state.count ≤ 3) × IsPending (take state.count state.pending)
 
--- the pending bytes that the storage stands for: those that a call left there, and else none
+-- the pending bytes that the storage represents: those that a call left there, and otherwise none
 pub record StandsFor (state : EncodingUtf8Decoder) (p : List ℕ) : Type 0 where
   pub left : IsLeft state → p ≡ take state.count state.pending
   pub other : ¬ (IsLeft state) → p ≡ []
 
--- the code units that the storage of an encoder stands for: a high surrogate, and else none
+-- the code units that the storage of an encoder represents: a pending surrogate, and otherwise none
 pub record Holds (state : EncodingUtf8Encoder) (held : List ℕ) : Type 0 where
   pub high : IsHighSurrogate state.held → held ≡ state.held ∷ []
   pub other : ¬ (IsHighSurrogate state.held) → held ≡ []
 
--- the last one of the units, if there is one, and else the one from before
+-- the last one of the units, or `before` if there are none
 abbrev pub IsLastOf : List ℕ → ℕ → ℕ → Type 0
 IsLastOf src before unit = (0 < length src → unit ≡ slice_index src (length src - 1)) × (length src ≡ 0 → unit ≡ before)
 
--- the unit to keep if one is held: after InputEmpty the last one of the source, if there is one, and else the one from before
+-- the unit to keep if a surrogate is pending: after InputEmpty the last unit of the source, or `before` if there is
+-- none
 abbrev pub IsKept : EncoderResult → List ℕ → ℕ → ℕ → Type 0
 IsKept encoder.InputEmpty src before unit = IsLastOf src before unit
 IsKept encoder.OutputFull src before unit = unit ≡ before
@@ -39,26 +40,26 @@ IsKept encoder.OutputFull src before unit = unit ≡ before
 abbrev pub EndsWith : List ℕ → List ℕ → Type 0
 EndsWith xs q = (front : List ℕ) × (xs ≡ front ++ q)
 
--- the two numbers that tell what ended a call of a decoder
+-- the two numbers for what ended a call of a decoder
 abbrev pub IsTold : DecoderResult → ℕ → ℕ → Type 0
 IsTold decoder.InputEmpty result malformed = (result ≡ 0) × (malformed ≡ 0)
 IsTold decoder.OutputFull result malformed = (result ≡ 1) × (malformed ≡ 0)
 IsTold (decoder.Malformed k second) result malformed = (result ≡ 2) × (malformed ≡ k)
 
--- the same of an encoder, in one number
+-- the number for what ended a call of an encoder
 abbrev pub IsToldEncoded : EncoderResult → ℕ → Type 0
 IsToldEncoded encoder.InputEmpty result = result ≡ 0
 IsToldEncoded encoder.OutputFull result = result ≡ 1
 
--- the numbers that tell what a borrowed call returns
+-- the numbers for what a borrowed call returns
 abbrev pub IsToldPiece : Piece → EncodingPiece → Type 0
 IsToldPiece (piece.Text t) told = (told.kind ≡ 0) × (told.character ≡ 0) × (told.malformed ≡ 0)
 IsToldPiece (piece.Char c) told = (told.kind ≡ 1) × (told.character ≡ c) × (told.malformed ≡ 0)
 IsToldPiece (piece.Malformed k) told = (told.kind ≡ 2) × (told.character ≡ 0) × (told.malformed ≡ k)
 IsToldPiece piece.InputEmpty told = (told.kind ≡ 3) × (told.character ≡ 0) × (told.malformed ≡ 0)
 
--- What is done in the storage of a decoder or an encoder, of whatever kind: what holds of what the storage stands for
--- before it, of what was done and of what the storage stands for after it, and how what was done is told.
+-- An operation in the storage of a decoder or an encoder. A relation holds of what the storage represents before it,
+-- what was done, and what the storage represents after it. Numbers represent what was done.
 pub record IsDone {Storage Done : Type 0} (Stands : Storage → List ℕ → Type 0) (AreTold : Done → Type 0) (before after : Storage) (Says : List ℕ → Done → List ℕ → Type 0) : Type 0 where
   pub p : List ℕ
   pub done : Done

@@ -1,4 +1,4 @@
-//! ASCII prefixes: where they end, and their copies.
+//! ASCII prefixes: their lengths, and copies of them. The rest of `dst` is unchanged.
 
 ghost use Rattle.std.specs.Prelude.{◌≡◌, take, length, IfSome, IfNone};
 ghost use Rattle.std.specs.Str.{IsAscii};
@@ -9,7 +9,7 @@ ghost use Rattle.encoding_c.specs.Fronts.{IsFrontOf};
 use crate::status::EncodingPrefix;
 use encoding_text::ascii;
 
-/// The front up to the byte that was found, or of so many bytes where none was.
+/// Returns the prefix before the byte that was found, or the prefix of `length` bytes if none was.
 fn front_of_bytes(found: Option<(u8, usize)>, length: usize) -> EncodingPrefix
     ensures some { IfSome found (λ it. (result.other ≡ it.0) × (result.length ≡ it.1)) }
     ensures none { IfNone found ((result.other ≡ 0) × (result.length ≡ length)) }
@@ -23,7 +23,7 @@ fn front_of_bytes(found: Option<(u8, usize)>, length: usize) -> EncodingPrefix
     }
 }
 
-/// Where the longest ASCII prefix ends, and the first byte behind it.
+/// Returns the length of the longest ASCII prefix, and the first byte after it.
 #[unsafe(no_mangle)]
 pub extern "C" fn encoding_text_validate_ascii(bytes: &[u8]) -> EncodingPrefix
     ensures { IsFrontOf bytes.now result }
@@ -31,7 +31,7 @@ pub extern "C" fn encoding_text_validate_ascii(bytes: &[u8]) -> EncodingPrefix
     front_of_bytes(ascii::validate_ascii(bytes), bytes.len())
 }
 
-/// The length in bytes of the longest ASCII prefix.
+/// Returns the length of the longest ASCII prefix, in bytes.
 #[unsafe(no_mangle)]
 pub extern "C" fn encoding_text_ascii_valid_up_to(bytes: &[u8]) -> usize
     ensures { IsLongestFront IsAscii bytes.now result }
@@ -39,7 +39,7 @@ pub extern "C" fn encoding_text_ascii_valid_up_to(bytes: &[u8]) -> usize
     ascii::ascii_valid_up_to(bytes)
 }
 
-/// The length in bytes of the longest ASCII prefix without escape and shift bytes.
+/// Returns the length of the longest ASCII prefix without escape and shift bytes, in bytes.
 #[unsafe(no_mangle)]
 pub extern "C" fn encoding_text_iso_2022_jp_ascii_valid_up_to(bytes: &[u8]) -> usize
     ensures { IsLongestFront IsIso2022JpAscii bytes.now result }
@@ -47,7 +47,7 @@ pub extern "C" fn encoding_text_iso_2022_jp_ascii_valid_up_to(bytes: &[u8]) -> u
     ascii::iso_2022_jp_ascii_valid_up_to(bytes)
 }
 
-/// Copies the longest ASCII prefix, over the shorter length of the two. Behind what is written `dst` is as before.
+/// Copies the longest ASCII prefix, up to the shorter of the two lengths.
 #[unsafe(no_mangle)]
 pub extern "C" fn encoding_text_ascii_to_ascii(src: &[u8], dst: &mut [u8]) -> EncodingPrefix
     ensures found { IsFrontOf (take (length dst.old) src.now) result }
@@ -56,8 +56,7 @@ pub extern "C" fn encoding_text_ascii_to_ascii(src: &[u8], dst: &mut [u8]) -> En
     front_of_bytes(ascii::ascii_to_ascii(src, dst), src.len().min(dst.len()))
 }
 
-/// Copies the longest ASCII prefix, each byte as a code unit, over the shorter length of the two. Behind what is written
-/// `dst` is as before.
+/// Copies the longest ASCII prefix, each byte as a code unit, up to the shorter of the two lengths.
 #[unsafe(no_mangle)]
 pub extern "C" fn encoding_text_ascii_to_basic_latin(src: &[u8], dst: &mut [u16]) -> EncodingPrefix
     ensures found { IsFrontOf (take (length dst.old) src.now) result }
@@ -69,8 +68,7 @@ pub extern "C" fn encoding_text_ascii_to_basic_latin(src: &[u8], dst: &mut [u16]
     )
 }
 
-/// Copies the longest ASCII prefix of code units, each as a byte, over the shorter length of the two. Behind what is
-/// written `dst` is as before.
+/// Copies the longest ASCII prefix of code units, each as a byte, up to the shorter of the two lengths.
 #[unsafe(no_mangle)]
 pub extern "C" fn encoding_text_basic_latin_to_ascii(src: &[u16], dst: &mut [u8]) -> EncodingPrefix
     ensures found { IsFrontOf (take (length dst.old) src.now) result }

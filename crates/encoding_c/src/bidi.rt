@@ -1,4 +1,4 @@
-//! Right-to-left characters in whole buffers, and the checks for Latin1 and for them in one.
+//! Checks of whole buffers for right-to-left characters, and for Latin1 and right-to-left characters at once.
 
 ghost use Rattle.std.specs.Prelude.{◌≡◌, ◌↔◌, IsTrue, IsUtf8};
 ghost use Rattle.std.specs.Char.{IsScalar};
@@ -9,7 +9,7 @@ ghost use Rattle.encoding_c.specs.Status.{Tells, Chooses};
 use crate::status::{BIDI, LATIN1, LEFT_TO_RIGHT, NO, REFUSED_ANSWER, YES, as_text};
 use encoding_text::mem::{self, Latin1Bidi};
 
-/// Whether the scalar value is right-to-left: `REFUSED_ANSWER` where the number is no scalar value.
+/// Returns whether the scalar value is right-to-left: `REFUSED_ANSWER` if the number is no scalar value.
 #[unsafe(no_mangle)]
 pub extern "C" fn encoding_text_mem_is_char_bidi(c: u32) -> u8
     ensures { Tells (IsScalar c) (IsRightToLeft c) result }
@@ -21,7 +21,7 @@ pub extern "C" fn encoding_text_mem_is_char_bidi(c: u32) -> u8
     }
 }
 
-/// Whether the code unit is a right-to-left character, or the high surrogate of one.
+/// Returns whether the code unit is a right-to-left character, or the high surrogate of one.
 #[unsafe(no_mangle)]
 pub extern "C" fn encoding_text_mem_is_utf16_code_unit_bidi(u: u16) -> bool
     ensures { IsTrue result ↔ IsRightToLeftUnit u }
@@ -29,7 +29,7 @@ pub extern "C" fn encoding_text_mem_is_utf16_code_unit_bidi(u: u16) -> bool
     mem::is_utf16_code_unit_bidi(u)
 }
 
-/// Whether the bytes are not well-formed UTF-8, or one of their characters is right-to-left.
+/// Returns whether the bytes are ill-formed UTF-8, or one of their characters is right-to-left.
 #[unsafe(no_mangle)]
 pub extern "C" fn encoding_text_mem_is_utf8_bidi(buffer: &[u8]) -> bool
     ensures { IsTrue result ↔ IsBidiBytes buffer.now }
@@ -37,7 +37,7 @@ pub extern "C" fn encoding_text_mem_is_utf8_bidi(buffer: &[u8]) -> bool
     mem::is_utf8_bidi(buffer)
 }
 
-/// Whether a character of the text is right-to-left: `REFUSED_ANSWER` where the bytes are no text.
+/// Returns whether a character of the text is right-to-left: `REFUSED_ANSWER` if the bytes are ill-formed.
 #[unsafe(no_mangle)]
 pub extern "C" fn encoding_text_mem_is_str_bidi(buffer: &[u8]) -> u8
     ensures { Tells (IsUtf8 buffer.now) (IsBidiText buffer.now) result }
@@ -49,7 +49,7 @@ pub extern "C" fn encoding_text_mem_is_str_bidi(buffer: &[u8]) -> u8
     }
 }
 
-/// Whether a character of the code units is right-to-left, or a lone high surrogate may be half of one.
+/// Returns whether a character of the code units is right-to-left, or an unpaired high surrogate may be half of one.
 #[unsafe(no_mangle)]
 pub extern "C" fn encoding_text_mem_is_utf16_bidi(buffer: &[u16]) -> bool
     ensures { IsTrue result ↔ IsBidiUnits buffer.now }
@@ -57,7 +57,7 @@ pub extern "C" fn encoding_text_mem_is_utf16_bidi(buffer: &[u16]) -> bool
     mem::is_utf16_bidi(buffer)
 }
 
-/// Whether the bytes are Latin1 in UTF-8, and else whether they are right-to-left or no UTF-8.
+/// Returns whether the bytes are Latin1 in UTF-8, and if not, whether they are right-to-left or ill-formed.
 #[unsafe(no_mangle)]
 pub extern "C" fn encoding_text_mem_check_utf8_for_latin1_and_bidi(buffer: &[u8]) -> u8
     ensures { Chooses (IsUtf8Latin1 buffer.now) (IsBidiBytes buffer.now) result }
@@ -69,7 +69,8 @@ pub extern "C" fn encoding_text_mem_check_utf8_for_latin1_and_bidi(buffer: &[u8]
     }
 }
 
-/// Whether the text is Latin1, and else whether it is right-to-left: `REFUSED_ANSWER` where the bytes are no text.
+/// Returns whether the text is Latin1, and if not, whether it is right-to-left: `REFUSED_ANSWER` if the bytes are
+/// ill-formed.
 #[unsafe(no_mangle)]
 pub extern "C" fn encoding_text_mem_check_str_for_latin1_and_bidi(buffer: &[u8]) -> u8
     ensures text { IsUtf8 buffer.now → Chooses (IsUtf8Latin1 buffer.now) (IsBidiText buffer.now) result }
@@ -85,7 +86,7 @@ pub extern "C" fn encoding_text_mem_check_str_for_latin1_and_bidi(buffer: &[u8])
     }
 }
 
-/// Whether the code units are Latin1, and else whether they are right-to-left.
+/// Returns whether the code units are Latin1, and if not, whether they are right-to-left.
 #[unsafe(no_mangle)]
 pub extern "C" fn encoding_text_mem_check_utf16_for_latin1_and_bidi(buffer: &[u16]) -> u8
     ensures { Chooses (IsLatin1 buffer.now) (IsBidiUnits buffer.now) result }

@@ -1,4 +1,4 @@
-//! The repair of a stream by blocks: what is pending between two of them lies in the caller's storage of a decoder.
+//! Repairs a stream by blocks. The caller's storage of a decoder keeps the pending bytes of a block.
 
 ghost use Rattle.std.specs.Prelude.{◌≡◌, ℕ, List, length};
 ghost use Rattle.encoding_definitions.specs.Fronts.{WritesFront};
@@ -9,8 +9,8 @@ ghost use Rattle.encoding_c.specs.States.{StandsFor};
 use crate::decoder::{EncodingUtf8Decoder, pending_count, restored, stored};
 use encoding_runs::repair::repair_block;
 
-/// What a call did with a block: how much it read and wrote, how many broken parts became U+FFFD, and whether all of the
-/// block was read and, after the last one, nothing is pending.
+/// What a call did with a block: how much it read and wrote, and how many malformed sequences it replaced. It is
+/// finished if the whole block was read and, if it was the last, nothing is pending.
 #[repr(C)]
 #[derive(Clone, Copy)]
 pub struct EncodingRepairedBlock {
@@ -20,8 +20,8 @@ pub struct EncodingRepairedBlock {
     pub finished: bool,
 }
 
-/// Writes the next block of a stream with U+FFFD for each broken part. `last` says that no block follows. Behind what is
-/// written `dst` is as before.
+/// Writes the next block of a stream with U+FFFD for each malformed sequence. `last` says that no block follows. The
+/// rest of `dst` is unchanged.
 #[unsafe(no_mangle)]
 pub extern "C" fn encoding_text_repair_block(
     decoder: &mut EncodingUtf8Decoder,

@@ -1,11 +1,11 @@
-//! Where the broken parts of UTF-8 are.
+//! Finds malformed sequences in UTF-8.
 
 ghost use Rattle.std.specs.Prelude.{◌≡◌, ◌<◌, ◌↔◌, length, IsUtf8};
 ghost use Rattle.encoding_runs.specs.BrokenParts.{IsNextBroken};
 
 use encoding_runs::broken::next_broken;
 
-/// How many bytes stand before a broken part, and how many it has.
+/// The index of a malformed sequence, and its length in bytes.
 #[repr(C)]
 #[derive(Clone, Copy)]
 pub struct EncodingBrokenPart {
@@ -13,7 +13,8 @@ pub struct EncodingBrokenPart {
     pub length: usize,
 }
 
-/// The first broken part: all before it is text. Where `src` is well-formed it has no bytes, and stands behind all of it.
+/// Returns the first malformed sequence. The bytes before it are well-formed. If all of `src` is well-formed, the
+/// length is 0 and the index is the length of `src`.
 #[unsafe(no_mangle)]
 pub extern "C" fn encoding_text_next_broken(src: &[u8]) -> EncodingBrokenPart
     ensures some { 0 < result.length → IsNextBroken src.now result.place result.length }

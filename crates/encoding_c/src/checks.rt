@@ -9,7 +9,7 @@ ghost use Rattle.encoding_c.specs.Status.{Tells};
 use crate::status::{NO, REFUSED, REFUSED_ANSWER, YES, as_text};
 use encoding_text::mem;
 
-/// Whether each byte is ASCII.
+/// Returns whether each byte is ASCII.
 #[unsafe(no_mangle)]
 pub extern "C" fn encoding_text_mem_is_ascii(buffer: &[u8]) -> bool
     ensures { IsTrue result ↔ IsAscii buffer.now }
@@ -17,7 +17,7 @@ pub extern "C" fn encoding_text_mem_is_ascii(buffer: &[u8]) -> bool
     mem::is_ascii(buffer)
 }
 
-/// Whether each code unit is ASCII.
+/// Returns whether each code unit is ASCII.
 #[unsafe(no_mangle)]
 pub extern "C" fn encoding_text_mem_is_basic_latin(buffer: &[u16]) -> bool
     ensures { IsTrue result ↔ IsAscii buffer.now }
@@ -25,7 +25,7 @@ pub extern "C" fn encoding_text_mem_is_basic_latin(buffer: &[u16]) -> bool
     mem::is_basic_latin(buffer)
 }
 
-/// Whether the bytes are well-formed UTF-8 whose scalar values are each up to U+00FF.
+/// Returns whether the bytes are well-formed UTF-8 of scalar values up to U+00FF.
 #[unsafe(no_mangle)]
 pub extern "C" fn encoding_text_mem_is_utf8_latin1(buffer: &[u8]) -> bool
     ensures { IsTrue result ↔ IsUtf8Latin1 buffer.now }
@@ -33,7 +33,7 @@ pub extern "C" fn encoding_text_mem_is_utf8_latin1(buffer: &[u8]) -> bool
     mem::is_utf8_latin1(buffer)
 }
 
-/// Whether the scalar values of the text are each up to U+00FF: `REFUSED_ANSWER` where the bytes are no text.
+/// Returns whether the scalar values of the text are each up to U+00FF: `REFUSED_ANSWER` if the bytes are ill-formed.
 #[unsafe(no_mangle)]
 pub extern "C" fn encoding_text_mem_is_str_latin1(buffer: &[u8]) -> u8
     ensures { Tells (IsUtf8 buffer.now) (IsUtf8Latin1 buffer.now) result }
@@ -45,7 +45,7 @@ pub extern "C" fn encoding_text_mem_is_str_latin1(buffer: &[u8]) -> u8
     }
 }
 
-/// Whether each code unit is up to 0x00FF.
+/// Returns whether each code unit is up to 0x00FF.
 #[unsafe(no_mangle)]
 pub extern "C" fn encoding_text_mem_is_utf16_latin1(buffer: &[u16]) -> bool
     ensures { IsTrue result ↔ IsLatin1 buffer.now }
@@ -53,7 +53,7 @@ pub extern "C" fn encoding_text_mem_is_utf16_latin1(buffer: &[u16]) -> bool
     mem::is_utf16_latin1(buffer)
 }
 
-/// The length in bytes of the longest prefix that is the UTF-8 of scalar values up to U+00FF.
+/// Returns the length in bytes of the longest prefix that is the UTF-8 of scalar values up to U+00FF.
 #[unsafe(no_mangle)]
 pub extern "C" fn encoding_text_mem_utf8_latin1_up_to(buffer: &[u8]) -> usize
     ensures { IsLongestFront IsUtf8Latin1 buffer.now result }
@@ -61,8 +61,8 @@ pub extern "C" fn encoding_text_mem_utf8_latin1_up_to(buffer: &[u8]) -> usize
     mem::utf8_latin1_up_to(buffer)
 }
 
-/// The length in bytes of the longest prefix of a text that is the UTF-8 of scalar values up to U+00FF: `REFUSED` where the
-/// bytes are no text.
+/// Returns the length in bytes of the longest prefix of a text that is the UTF-8 of scalar values up to U+00FF. Returns
+/// `REFUSED` if the bytes are ill-formed.
 #[unsafe(no_mangle)]
 pub extern "C" fn encoding_text_mem_str_latin1_up_to(buffer: &[u8]) -> usize
     ensures text { IsUtf8 buffer.now → IsLongestFront IsUtf8Latin1 buffer.now result }

@@ -1,4 +1,4 @@
-//! Conversions of whole buffers.
+//! Conversions of whole buffers. The rest of `dst` is unchanged.
 
 ghost use Rattle.std.specs.Prelude.{◌≡◌, ◌*◌, ◌%◌, ◌<◌, ◌≤◌, ℕ, List, [], ◌∷◌, take, length, map, encode_utf8, encode_utf8_all, IsUtf8};
 ghost use Rattle.std.specs.List.{flat_map};
@@ -14,7 +14,7 @@ use crate::status::{EncodingCounts, REFUSED, REFUSED_COUNTS, as_text};
 use encoding_text::mem;
 use encoding_text::utf_8::convert_utf8_to_utf16_up_to_invalid;
 
-/// Copies the longest ASCII prefix. Behind what is written `dst` is as before. `REFUSED` where `dst` is shorter than `src`.
+/// Copies the longest ASCII prefix, and returns its length. Returns `REFUSED` if `dst` is shorter than `src`.
 #[unsafe(no_mangle)]
 pub extern "C" fn encoding_text_mem_copy_ascii_to_ascii(src: &[u8], dst: &mut [u8]) -> usize
     ensures front { length src.now ≤ length dst.old → IsLongestFront IsAscii src.now result }
@@ -27,8 +27,8 @@ pub extern "C" fn encoding_text_mem_copy_ascii_to_ascii(src: &[u8], dst: &mut [u
     mem::copy_ascii_to_ascii(src, dst)
 }
 
-/// Copies the longest ASCII prefix, each byte as a code unit. Behind what is written `dst` is as before. `REFUSED` where
-/// `dst` is shorter than `src`.
+/// Copies the longest ASCII prefix, each byte as a code unit, and returns its length. Returns `REFUSED` if `dst` is
+/// shorter than `src`.
 #[unsafe(no_mangle)]
 pub extern "C" fn encoding_text_mem_copy_ascii_to_basic_latin(src: &[u8], dst: &mut [u16]) -> usize
     ensures front { length src.now ≤ length dst.old → IsLongestFront IsAscii src.now result }
@@ -41,8 +41,8 @@ pub extern "C" fn encoding_text_mem_copy_ascii_to_basic_latin(src: &[u8], dst: &
     mem::copy_ascii_to_basic_latin(src, dst)
 }
 
-/// Copies the longest ASCII prefix of code units, each as a byte. Behind what is written `dst` is as before. `REFUSED`
-/// where `dst` is shorter than `src`.
+/// Copies the longest ASCII prefix of code units, each as a byte, and returns its length. Returns `REFUSED` if `dst` is
+/// shorter than `src`.
 #[unsafe(no_mangle)]
 pub extern "C" fn encoding_text_mem_copy_basic_latin_to_ascii(src: &[u16], dst: &mut [u8]) -> usize
     ensures front { length src.now ≤ length dst.old → IsLongestFront IsAscii src.now result }
@@ -55,8 +55,8 @@ pub extern "C" fn encoding_text_mem_copy_basic_latin_to_ascii(src: &[u16], dst: 
     mem::copy_basic_latin_to_ascii(src, dst)
 }
 
-/// Writes each byte as a code unit, and returns how many. Behind what is written `dst` is as before. `REFUSED` where `dst`
-/// is shorter than `src`.
+/// Writes each byte as a code unit, and returns the number of code units written. Returns `REFUSED` if `dst` is shorter
+/// than `src`.
 #[unsafe(no_mangle)]
 pub extern "C" fn encoding_text_mem_convert_latin1_to_utf16(src: &[u8], dst: &mut [u16]) -> usize
     ensures written { length src.now ≤ length dst.old
@@ -70,7 +70,7 @@ pub extern "C" fn encoding_text_mem_convert_latin1_to_utf16(src: &[u8], dst: &mu
     src.len()
 }
 
-/// Writes the UTF-8 of the longest prefix of Latin1 whose UTF-8 fits. Behind what is written `dst` is as before.
+/// Writes the UTF-8 of the longest prefix of Latin1 whose UTF-8 fits.
 #[unsafe(no_mangle)]
 pub extern "C" fn encoding_text_mem_convert_latin1_to_utf8_partial(
     src: &[u8],
@@ -84,8 +84,8 @@ pub extern "C" fn encoding_text_mem_convert_latin1_to_utf8_partial(
     EncodingCounts { read, written }
 }
 
-/// Writes the UTF-8 of each byte as a character, and returns its length. Behind what is written `dst` is as before.
-/// `REFUSED` where `dst` is less than twice as long as `src`.
+/// Writes the UTF-8 of each byte as a character, and returns its length. Returns `REFUSED` if `dst` is less than twice
+/// as long as `src`.
 #[unsafe(no_mangle)]
 pub extern "C" fn encoding_text_mem_convert_latin1_to_utf8(src: &[u8], dst: &mut [u8]) -> usize
     ensures written { 2 * length src.now ≤ length dst.old → WritesFront dst.old dst.new result (encode_utf8_all src.now) }
@@ -97,8 +97,8 @@ pub extern "C" fn encoding_text_mem_convert_latin1_to_utf8(src: &[u8], dst: &mut
     mem::convert_latin1_to_utf8(src, dst)
 }
 
-/// Writes the scalar value of each character of Latin1 text in UTF-8 as a byte, and returns how many. Behind what is
-/// written `dst` is as before. `REFUSED` where `dst` is shorter than `src`, or `src` isn't the UTF-8 of Latin1 text.
+/// Writes the scalar value of each character of Latin1 text in UTF-8 as a byte, and returns the number of bytes
+/// written. Returns `REFUSED` if `dst` is shorter than `src`, or `src` isn't the UTF-8 of Latin1 text.
 #[unsafe(no_mangle)]
 pub extern "C" fn encoding_text_mem_convert_utf8_to_latin1_lossy(
     src: &[u8],
@@ -114,8 +114,8 @@ pub extern "C" fn encoding_text_mem_convert_utf8_to_latin1_lossy(
     mem::convert_utf8_to_latin1_lossy(src, dst)
 }
 
-/// Writes the low eight bits of each code unit as a byte, and returns how many. Behind what is written `dst` is as before.
-/// `REFUSED` where `dst` is shorter than `src`.
+/// Writes the low eight bits of each code unit as a byte, and returns the number of bytes written. Returns `REFUSED` if
+/// `dst` is shorter than `src`.
 #[unsafe(no_mangle)]
 pub extern "C" fn encoding_text_mem_convert_utf16_to_latin1_lossy(
     src: &[u16],
@@ -132,8 +132,8 @@ pub extern "C" fn encoding_text_mem_convert_utf16_to_latin1_lossy(
     src.len()
 }
 
-/// Converts bytes to UTF-16 with U+FFFD for each broken part, and returns how many code units were written. Behind what is
-/// written `dst` is as before. `REFUSED` where `dst` isn't longer than `src`.
+/// Converts bytes to UTF-16 with U+FFFD for each malformed sequence, and returns the number of code units written.
+/// Returns `REFUSED` if `dst` isn't longer than `src`.
 #[unsafe(no_mangle)]
 pub extern "C" fn encoding_text_mem_convert_utf8_to_utf16(src: &[u8], dst: &mut [u16]) -> usize
     ensures written { length src.now < length dst.old → (parts : List Part) × ArePartsOf src.now parts
@@ -146,8 +146,8 @@ pub extern "C" fn encoding_text_mem_convert_utf8_to_utf16(src: &[u8], dst: &mut 
     mem::convert_utf8_to_utf16(src, dst)
 }
 
-/// Converts a text to UTF-16, and returns how many code units were written. Behind what is written `dst` is as before.
-/// `REFUSED` where `dst` is shorter than `src`, or the bytes are no text.
+/// Converts a text to UTF-16, and returns the number of code units written. Returns `REFUSED` if `dst` is shorter than
+/// `src`, or the bytes are ill-formed.
 #[unsafe(no_mangle)]
 pub extern "C" fn encoding_text_mem_convert_str_to_utf16(src: &[u8], dst: &mut [u16]) -> usize
     ensures written { length src.now ≤ length dst.old → IsUtf8 src.now
@@ -164,8 +164,8 @@ pub extern "C" fn encoding_text_mem_convert_str_to_utf16(src: &[u8], dst: &mut [
     }
 }
 
-/// Converts the longest well-formed prefix to UTF-16. `read` is its length, and so the length of `src` exactly where all of
-/// it is well-formed. Behind what is written `dst` is as before. `REFUSED` twice where `dst` is shorter than `src`.
+/// Converts the longest well-formed prefix to UTF-16. `read` is its length: the length of `src` if and only if all of
+/// it is well-formed. Returns `REFUSED` for both counts if `dst` is shorter than `src`.
 #[unsafe(no_mangle)]
 pub extern "C" fn encoding_text_mem_convert_utf8_to_utf16_without_replacement(
     src: &[u8],
@@ -183,8 +183,8 @@ pub extern "C" fn encoding_text_mem_convert_utf8_to_utf16_without_replacement(
     EncodingCounts { read, written }
 }
 
-/// Converts the first characters of `src` from UTF-16 to UTF-8, as many as fit, with U+FFFD for each surrogate that is in
-/// no pair. Behind what is written `dst` is as before.
+/// Converts the longest prefix of whole characters that fits from UTF-16 to UTF-8, with U+FFFD for each unpaired
+/// surrogate.
 #[unsafe(no_mangle)]
 pub extern "C" fn encoding_text_mem_convert_utf16_to_utf8_partial(
     src: &[u16],
@@ -197,8 +197,8 @@ pub extern "C" fn encoding_text_mem_convert_utf16_to_utf8_partial(
     EncodingCounts { read, written }
 }
 
-/// Converts all of `src` from UTF-16 to UTF-8, and returns how many bytes were written. Behind what is written `dst` is as
-/// before. `REFUSED` where `dst` is less than three times as long as `src`.
+/// Converts all of `src` from UTF-16 to UTF-8, and returns the number of bytes written. Returns `REFUSED` if `dst` is
+/// less than three times as long as `src`.
 #[unsafe(no_mangle)]
 pub extern "C" fn encoding_text_mem_convert_utf16_to_utf8(src: &[u16], dst: &mut [u8]) -> usize
     ensures all { 3 * length src.now ≤ length dst.old → IsUtf8OfUnits src.now (take result dst.new) }

@@ -1,4 +1,4 @@
-//! The streaming decoder: Encoding Standard, section 8.1.1. Between two calls it lies in the caller's storage.
+//! The streaming decoder: Encoding Standard, section 8.1.1. Between two calls it is in the caller's storage.
 
 ghost use Rattle.std.specs.Prelude.{◌≡◌, ℕ, ◌<◌, ◌≤◌, ◌↔◌, ◌⊎◌, List, [], ◌++◌, length, take, slice_index, min, encode_utf8, IsTrue};
 ghost use Rattle.std.specs.Char.Escape.{encode_utf16};
@@ -8,8 +8,8 @@ ghost use Rattle.encoding_c.specs.States.{StandsFor, EndsWith, IsTold, DecoderCa
 
 use encoding_text::decoder::{DecoderResult, Piece, Utf8Decoder};
 
-/// A decoder between two calls: the pending bytes, and how many they are. What is behind them has no meaning. A count and
-/// first bytes that are no beginning of a character are taken for a decoder with nothing pending.
+/// A decoder between two calls: the pending bytes, and their count. The bytes after these have no meaning. A count and
+/// bytes that are no incomplete sequence represent a decoder with nothing pending.
 #[repr(C)]
 #[derive(Clone, Copy)]
 pub struct EncodingUtf8Decoder {
@@ -17,7 +17,7 @@ pub struct EncodingUtf8Decoder {
     pub count: u8,
 }
 
-/// What a decode call returns: how much it read and wrote, what ended it, and how many bytes a broken part has.
+/// What a decode call returns: how much it read and wrote, what ended it, and the length of the malformed sequence.
 #[repr(C)]
 #[derive(Clone, Copy)]
 pub struct EncodingDecoded {
@@ -27,7 +27,8 @@ pub struct EncodingDecoded {
     pub malformed: u8,
 }
 
-/// What a borrowed call returns: how much it read, the character, what it found, and how many bytes a broken part has.
+/// What a borrowed call returns: how much it read, the character, the kind of piece, and the length of the malformed
+/// sequence.
 #[repr(C)]
 #[derive(Clone, Copy)]
 pub struct EncodingPiece {
@@ -40,14 +41,14 @@ pub struct EncodingPiece {
 /// The most bytes that may be pending.
 const MOST: u8 = 3;
 
-/// Whether all of the source was read.
+/// Returns whether all of the source was read.
 fn is_all_read(piece: &Piece) -> bool
     ensures { IsTrue result ↔ (piece.now ≡ Piece.InputEmpty) }
 {
     matches!(piece, Piece::InputEmpty)
 }
 
-/// The decoder that the storage stands for, where it stands for pending bytes.
+/// Returns the decoder that the storage represents, if its count isn't 0.
 #[inline(never)]
 #[tactic(auto, using(crate::proofs::DecoderLemmas::held_again))]
 fn restored_pending(state: EncodingUtf8Decoder) -> Utf8Decoder
@@ -67,7 +68,7 @@ fn restored_pending(state: EncodingUtf8Decoder) -> Utf8Decoder
     Utf8Decoder::new_inner()
 }
 
-/// The decoder that the storage stands for: mostly nothing is pending, and then no call is needed.
+/// Returns the decoder that the storage represents. In most calls nothing is pending, and then no call is needed.
 #[inline(always)]
 pub(crate) fn restored(state: EncodingUtf8Decoder) -> Utf8Decoder
     ensures stands { StandsFor state result }
@@ -80,7 +81,7 @@ pub(crate) fn restored(state: EncodingUtf8Decoder) -> Utf8Decoder
     restored_pending(state)
 }
 
-/// How many bytes are pending.
+/// Returns the number of pending bytes.
 pub(crate) fn pending_count(decoder: &Utf8Decoder) -> usize
     ensures count { result ≡ length decoder.now }
     ensures few { result ≤ 3 }
@@ -95,7 +96,7 @@ pub(crate) fn pending_count(decoder: &Utf8Decoder) -> usize
     }
 }
 
-/// The byte at this place of the pending bytes and then the read ones, or 0 behind them.
+/// Returns the byte at an index of the pending bytes followed by the read ones, or 0 after the last of them.
 fn byte_at(pending: &[u8], read: &[u8], place: usize) -> u8
     ensures { result ≡ slice_index (pending.now ++ read.now) place }
 {
@@ -106,7 +107,8 @@ fn byte_at(pending: &[u8], read: &[u8], place: usize) -> u8
     if behind < read.len() { read[behind] } else { 0 }
 }
 
-/// The storage of a decoder whose pending bytes end these: those that were pending before its call, and the read ones.
+/// Returns the storage of a decoder. Its pending bytes are the last ones of `pending`, the bytes pending before its
+/// call, followed by `read`.
 pub(crate) fn stored(decoder: &Utf8Decoder, pending: &[u8], read: &[u8]) -> EncodingUtf8Decoder
     requires ends { EndsWith (pending.now ++ read.now) decoder.now }
     requires few { length pending.now ≤ 3 }
@@ -130,14 +132,14 @@ pub(crate) fn stored(decoder: &Utf8Decoder, pending: &[u8], read: &[u8]) -> Enco
     }
 }
 
-/// What ended a call, and how many bytes a broken part has that did.
+/// What ended a call, and the length of the malformed sequence if it was one.
 #[derive(Clone, Copy)]
 pub(crate) struct Ended {
     pub(crate) result: u8,
     pub(crate) malformed: u8,
 }
 
-/// What ended a call in numbers.
+/// Returns what ended a call as numbers.
 pub(crate) fn numbers(ended: &DecoderResult) -> Ended
     ensures { IsTold ended.now result.result result.malformed }
 {
@@ -149,7 +151,7 @@ pub(crate) fn numbers(ended: &DecoderResult) -> Ended
     Ended { result, malformed }
 }
 
-/// What the call returns in numbers.
+/// Returns the result of a call as numbers.
 fn decoded(ended: DecoderResult, read: usize, written: usize) -> EncodingDecoded
     ensures told { IsTold ended result.result result.malformed }
     ensures counts { (result.read ≡ read) × (result.written ≡ written) }
@@ -163,7 +165,7 @@ fn decoded(ended: DecoderResult, read: usize, written: usize) -> EncodingDecoded
     }
 }
 
-/// Makes a decoder with nothing pending.
+/// Initializes a decoder with nothing pending.
 #[unsafe(no_mangle)]
 pub extern "C" fn encoding_text_utf8_decoder_new(decoder: &mut EncodingUtf8Decoder)
     ensures { StandsFor decoder.new [] }
@@ -174,7 +176,7 @@ pub extern "C" fn encoding_text_utf8_decoder_new(decoder: &mut EncodingUtf8Decod
     };
 }
 
-/// Whether nothing is pending.
+/// Returns whether nothing is pending.
 #[unsafe(no_mangle)]
 pub extern "C" fn encoding_text_utf8_decoder_in_neutral_state(decoder: &EncodingUtf8Decoder) -> bool
     ensures { (p : List ℕ) × StandsFor decoder.now p × (IsTrue result ↔ (p ≡ [])) }
@@ -182,8 +184,8 @@ pub extern "C" fn encoding_text_utf8_decoder_in_neutral_state(decoder: &Encoding
     restored(*decoder).in_neutral_state()
 }
 
-/// How many UTF-16 code units hold all that the next `byte_length` bytes may become, also with U+FFFD for each report:
-/// `usize::MAX` where that number is no less.
+/// Returns the length in code units of a destination that is large enough for the next `byte_length` bytes in UTF-16,
+/// also with U+FFFD for each report. Returns `usize::MAX` if that length isn't less.
 #[unsafe(no_mangle)]
 pub extern "C" fn encoding_text_utf8_decoder_max_utf16_buffer_length(
     decoder: &EncodingUtf8Decoder,
@@ -198,8 +200,8 @@ pub extern "C" fn encoding_text_utf8_decoder_max_utf16_buffer_length(
     }
 }
 
-/// How many bytes hold all that the next `byte_length` bytes may become, where nothing is written for reports:
-/// `usize::MAX` where that number is no less.
+/// Returns the length in bytes of a destination that is large enough for the next `byte_length` bytes in UTF-8, if
+/// nothing is written for reports. Returns `usize::MAX` if that length isn't less.
 #[unsafe(no_mangle)]
 pub extern "C" fn encoding_text_utf8_decoder_max_utf8_buffer_length_without_replacement(
     decoder: &EncodingUtf8Decoder,
@@ -214,8 +216,8 @@ pub extern "C" fn encoding_text_utf8_decoder_max_utf8_buffer_length_without_repl
     }
 }
 
-/// How many bytes hold all that the next `byte_length` bytes may become, with U+FFFD for each report: `usize::MAX` where
-/// that number is no less.
+/// Returns the length in bytes of a destination that is large enough for the next `byte_length` bytes in UTF-8, with
+/// U+FFFD for each report. Returns `usize::MAX` if that length isn't less.
 #[unsafe(no_mangle)]
 pub extern "C" fn encoding_text_utf8_decoder_max_utf8_buffer_length(
     decoder: &EncodingUtf8Decoder,
@@ -231,7 +233,7 @@ pub extern "C" fn encoding_text_utf8_decoder_max_utf8_buffer_length(
     }
 }
 
-/// Decodes the next bytes to UTF-16. `last` says that none will follow `src`. Behind what is written `dst` is as before.
+/// Decodes the next bytes to UTF-16. `last` says that no byte follows `src`. The rest of `dst` is unchanged.
 #[unsafe(no_mangle)]
 pub extern "C" fn encoding_text_utf8_decoder_decode_to_utf16(
     decoder: &mut EncodingUtf8Decoder,
@@ -253,7 +255,7 @@ pub extern "C" fn encoding_text_utf8_decoder_decode_to_utf16(
     decoded(ended, read, written)
 }
 
-/// Decodes the next bytes to UTF-8. `last` says that none will follow `src`. Behind what is written `dst` is as before.
+/// Decodes the next bytes to UTF-8. `last` says that no byte follows `src`. The rest of `dst` is unchanged.
 #[unsafe(no_mangle)]
 pub extern "C" fn encoding_text_utf8_decoder_decode_to_utf8(
     decoder: &mut EncodingUtf8Decoder,
@@ -276,7 +278,7 @@ pub extern "C" fn encoding_text_utf8_decoder_decode_to_utf8(
     decoded(ended, read, written)
 }
 
-/// Decodes the next bytes without a destination: what they begin with, and how many of them were read.
+/// Decodes the next bytes without a destination. Returns the first piece, and how many bytes were read.
 #[unsafe(no_mangle)]
 pub extern "C" fn encoding_text_utf8_decoder_decode_borrowed(
     decoder: &mut EncodingUtf8Decoder,

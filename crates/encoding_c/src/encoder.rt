@@ -1,4 +1,4 @@
-//! The streaming encoder: Encoding Standard, section 8.1.2. Between two calls it lies in the caller's storage.
+//! The streaming encoder: Encoding Standard, section 8.1.2. Between two calls it is in the caller's storage.
 
 ghost use Rattle.std.specs.Prelude.{◌≡◌, ℕ, ◌+◌, ◌*◌, ◌<◌, ◌≤◌, ◌↔◌, List, [], ◌∷◌, length, take, min, IsTrue, IsUtf8};
 ghost use Rattle.encoding_definitions.specs.Fronts.{WritesFront};
@@ -9,8 +9,8 @@ ghost use Rattle.encoding_c.specs.States.{Holds, IsLastOf, IsKept, IsToldEncoded
 use crate::status::{REFUSED_ANSWER, as_text};
 use encoding_text::utf_8::{EncoderResult, Utf8Encoder};
 
-/// An encoder between two calls: the high surrogate that it holds. What is no high surrogate is taken for an encoder that
-/// holds nothing.
+/// An encoder between two calls: its pending surrogate. A value that is no high surrogate represents an encoder with
+/// none.
 #[repr(C)]
 #[derive(Clone, Copy)]
 pub struct EncodingUtf8Encoder {
@@ -26,14 +26,14 @@ pub struct EncodingEncoded {
     pub result: u8,
 }
 
-/// Whether the code unit is a high surrogate.
+/// Returns whether the code unit is a high surrogate.
 fn is_high_surrogate(unit: u16) -> bool
     ensures { IsTrue result ↔ IsHighSurrogate unit }
 {
     0xD800 <= unit && unit <= 0xDBFF
 }
 
-/// The encoder that the storage stands for.
+/// Returns the encoder that the storage represents.
 pub(crate) fn restored(state: EncodingUtf8Encoder) -> Utf8Encoder
     ensures holds { Holds state result }
     ensures unit { 0 < length result → result ≡ state.held ∷ [] }
@@ -45,7 +45,7 @@ pub(crate) fn restored(state: EncodingUtf8Encoder) -> Utf8Encoder
     encoder
 }
 
-/// Whether a code unit is held.
+/// Returns whether a surrogate is pending.
 fn is_holding(encoder: &Utf8Encoder) -> bool
     ensures holding { IsTrue result ↔ (0 < length encoder.now) }
     ensures held { IsHeld encoder.now }
@@ -56,7 +56,7 @@ fn is_holding(encoder: &Utf8Encoder) -> bool
     }
 }
 
-/// The storage of an encoder that holds this unit, if it holds one.
+/// Returns the storage of an encoder. `unit` is its pending surrogate, if it has one.
 pub(crate) fn stored(encoder: &Utf8Encoder, unit: u16) -> EncodingUtf8Encoder
     requires { 0 < length encoder.now → encoder.now ≡ unit ∷ [] }
     ensures { Holds result encoder.now }
@@ -65,7 +65,7 @@ pub(crate) fn stored(encoder: &Utf8Encoder, unit: u16) -> EncodingUtf8Encoder
     EncodingUtf8Encoder { held }
 }
 
-/// The last of the code units, or the one from before where there are none.
+/// Returns the last of the code units, or `before` if there are none.
 pub(crate) fn last_of(src: &[u16], before: u16) -> u16
     ensures { IsLastOf src.now before result }
 {
@@ -76,7 +76,7 @@ pub(crate) fn last_of(src: &[u16], before: u16) -> u16
     }
 }
 
-/// The code unit that is held after a call, if one is.
+/// Returns the code unit that is pending after a call, if one is.
 fn unit_to_keep(ended: &EncoderResult, src: &[u16], before: u16) -> u16
     ensures { IsKept ended.now src.now before result }
 {
@@ -86,7 +86,7 @@ fn unit_to_keep(ended: &EncoderResult, src: &[u16], before: u16) -> u16
     }
 }
 
-/// What ended the call as a number.
+/// Returns what ended a call as a number.
 pub(crate) fn number(ended: &EncoderResult) -> u8
     ensures { IsToldEncoded ended.now result }
 {
@@ -96,7 +96,7 @@ pub(crate) fn number(ended: &EncoderResult) -> u8
     }
 }
 
-/// Makes an encoder that holds nothing.
+/// Initializes an encoder without a pending surrogate.
 #[unsafe(no_mangle)]
 pub extern "C" fn encoding_text_utf8_encoder_new(encoder: &mut EncodingUtf8Encoder)
     ensures { Holds encoder.new [] }
@@ -104,8 +104,8 @@ pub extern "C" fn encoding_text_utf8_encoder_new(encoder: &mut EncodingUtf8Encod
     *encoder = EncodingUtf8Encoder { held: 0 };
 }
 
-/// How many bytes hold all that `u16_length` code units and what is held may become: `usize::MAX` where that number is no
-/// less.
+/// Returns the length in bytes of a destination that is large enough for the pending surrogate and `u16_length` code
+/// units. Returns `usize::MAX` if that length isn't less.
 #[unsafe(no_mangle)]
 pub extern "C" fn encoding_text_utf8_encoder_max_buffer_length_from_utf16_without_replacement(
     encoder: &EncodingUtf8Encoder,
@@ -120,8 +120,8 @@ pub extern "C" fn encoding_text_utf8_encoder_max_buffer_length_from_utf16_withou
     }
 }
 
-/// How many bytes hold all that a text of `byte_length` bytes and what is held may become: `usize::MAX` where that number
-/// is no less.
+/// Returns the length in bytes of a destination that is large enough for the pending surrogate and a text of
+/// `byte_length` bytes. Returns `usize::MAX` if that length isn't less.
 #[unsafe(no_mangle)]
 pub extern "C" fn encoding_text_utf8_encoder_max_buffer_length_from_utf8_without_replacement(
     encoder: &EncodingUtf8Encoder,
@@ -136,8 +136,7 @@ pub extern "C" fn encoding_text_utf8_encoder_max_buffer_length_from_utf8_without
     }
 }
 
-/// Encodes the held code unit and then those of `src`. `last` marks the last call. Behind what is written `dst` is as
-/// before.
+/// Encodes the pending surrogate, then `src`. `last` marks the last call. The rest of `dst` is unchanged.
 #[unsafe(no_mangle)]
 pub extern "C" fn encoding_text_utf8_encoder_encode_from_utf16(
     encoder: &mut EncodingUtf8Encoder,
@@ -163,8 +162,8 @@ pub extern "C" fn encoding_text_utf8_encoder_encode_from_utf16(
     }
 }
 
-/// Encodes U+FFFD for a held code unit and then the text. Behind what is written `dst` is as before. `REFUSED_ANSWER` where the
-/// bytes are no text: then nothing is read or written.
+/// Encodes U+FFFD for a pending surrogate, then the text. The rest of `dst` is unchanged. Returns `REFUSED_ANSWER` if
+/// the bytes are ill-formed: then nothing is read or written.
 #[unsafe(no_mangle)]
 pub extern "C" fn encoding_text_utf8_encoder_encode_from_utf8(
     encoder: &mut EncodingUtf8Encoder,

@@ -1,4 +1,5 @@
-//! Calls on bytes that their caller knows to be a text, as a language does that has a type for it: nothing tests that here.
+//! Calls on bytes that the caller knows to be well-formed, as in a language with a type for such text. Nothing checks
+//! it here.
 
 ghost use Rattle.std.specs.Prelude.{◌≡◌, ◌<◌, ◌≤◌, ◌↔◌, IsTrue, IsUtf8, length};
 ghost use Rattle.std.specs.List.{flat_map};
@@ -13,7 +14,7 @@ use crate::status::{BIDI, LATIN1, LEFT_TO_RIGHT, REFUSED};
 use encoding_text::mem::{self, Latin1Bidi};
 use std::str::from_utf8_unchecked;
 
-/// Whether the scalar values of the text are each up to U+00FF.
+/// Returns whether the scalar values of the text are each up to U+00FF.
 #[unsafe(no_mangle)]
 pub extern "C" fn encoding_text_mem_is_str_latin1_unchecked(buffer: &[u8]) -> bool
     requires text { IsUtf8 buffer.now }
@@ -22,7 +23,7 @@ pub extern "C" fn encoding_text_mem_is_str_latin1_unchecked(buffer: &[u8]) -> bo
     mem::is_str_latin1(unsafe { from_utf8_unchecked(buffer) })
 }
 
-/// The length in bytes of the text's longest prefix of scalar values up to U+00FF.
+/// Returns the length in bytes of the text's longest prefix of scalar values up to U+00FF.
 #[unsafe(no_mangle)]
 pub extern "C" fn encoding_text_mem_str_latin1_up_to_unchecked(buffer: &[u8]) -> usize
     requires text { IsUtf8 buffer.now }
@@ -31,7 +32,7 @@ pub extern "C" fn encoding_text_mem_str_latin1_up_to_unchecked(buffer: &[u8]) ->
     mem::str_latin1_up_to(unsafe { from_utf8_unchecked(buffer) })
 }
 
-/// Whether a character of the text is right-to-left.
+/// Returns whether a character of the text is right-to-left.
 #[unsafe(no_mangle)]
 pub extern "C" fn encoding_text_mem_is_str_bidi_unchecked(buffer: &[u8]) -> bool
     requires text { IsUtf8 buffer.now }
@@ -40,7 +41,7 @@ pub extern "C" fn encoding_text_mem_is_str_bidi_unchecked(buffer: &[u8]) -> bool
     mem::is_str_bidi(unsafe { from_utf8_unchecked(buffer) })
 }
 
-/// Whether the text is Latin1, and else whether it is right-to-left.
+/// Returns whether the text is Latin1, and if not, whether it is right-to-left.
 #[unsafe(no_mangle)]
 pub extern "C" fn encoding_text_mem_check_str_for_latin1_and_bidi_unchecked(buffer: &[u8]) -> u8
     requires text { IsUtf8 buffer.now }
@@ -53,8 +54,8 @@ pub extern "C" fn encoding_text_mem_check_str_for_latin1_and_bidi_unchecked(buff
     }
 }
 
-/// Converts a text to UTF-16, and returns how many code units were written. Behind what is written `dst` is as before.
-/// `REFUSED` where `dst` is shorter than `src`.
+/// Converts a text to UTF-16, and returns the number of code units written. The rest of `dst` is unchanged. Returns
+/// `REFUSED` if `dst` is shorter than `src`.
 #[unsafe(no_mangle)]
 pub extern "C" fn encoding_text_mem_convert_str_to_utf16_unchecked(
     src: &[u8],

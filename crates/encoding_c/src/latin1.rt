@@ -1,4 +1,4 @@
-//! Latin1 to UTF-8 and back into a room that holds just the text.
+//! Latin1 to UTF-8 and back, into a destination as long as the text. The rest of `dst` is unchanged.
 
 ghost use Rattle.std.specs.Prelude.{◌≡◌, ◌<◌, ◌≤◌, length, encode_utf8_all};
 ghost use Rattle.std.specs.Str.{chars};
@@ -8,8 +8,7 @@ ghost use Rattle.encoding_definitions.specs.Latin1.{IsUtf8Latin1};
 use crate::status::REFUSED;
 use encoding_text::mem;
 
-/// Writes the text whose characters are the bytes, and returns its length. Behind what is written `dst` is as before.
-/// `REFUSED` where `dst` is shorter than that text.
+/// Writes the text whose characters are the bytes, and returns its length. Returns `REFUSED` if `dst` is shorter.
 #[unsafe(no_mangle)]
 pub extern "C" fn encoding_text_mem_decode_latin1(src: &[u8], dst: &mut [u8]) -> usize
     ensures written { length (encode_utf8_all src.now) ≤ length dst.old
@@ -23,8 +22,8 @@ pub extern "C" fn encoding_text_mem_decode_latin1(src: &[u8], dst: &mut [u8]) ->
     written
 }
 
-/// Writes the scalar value of each character of Latin1 text in UTF-8 as a byte, and returns how many. Behind what is
-/// written `dst` is as before. `REFUSED` where `dst` is shorter than that, or `src` isn't the UTF-8 of Latin1 text.
+/// Writes the scalar value of each character of Latin1 text in UTF-8 as a byte, and returns the number of bytes
+/// written. Returns `REFUSED` if `dst` is shorter than that, or `src` isn't the UTF-8 of Latin1 text.
 #[unsafe(no_mangle)]
 pub extern "C" fn encoding_text_mem_encode_latin1(src: &[u8], dst: &mut [u8]) -> usize
     ensures written { IsUtf8Latin1 src.now → length (chars src.now) ≤ length dst.old

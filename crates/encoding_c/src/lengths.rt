@@ -1,4 +1,4 @@
-//! How long a text is in another encoding, exactly.
+//! The exact length of a text in another encoding.
 
 ghost use Rattle.std.specs.Prelude.{◌≡◌, ℕ, List, length, encode_utf8_all};
 ghost use Rattle.std.specs.Str.{chars};
@@ -9,7 +9,7 @@ ghost use Rattle.encoding_definitions.specs.Utf16.{IsUtf8OfUnits};
 use crate::status::REFUSED;
 use encoding_text::mem;
 
-/// The number of code units of the bytes in UTF-16, with U+FFFD for each broken part.
+/// Returns the number of code units of the bytes in UTF-16, with U+FFFD for each malformed sequence.
 #[unsafe(no_mangle)]
 pub extern "C" fn encoding_text_mem_utf16_length_from_utf8(src: &[u8]) -> usize
     ensures { (parts : List Part) × ArePartsOf src.now parts × (result ≡ length (repaired_utf16 parts)) }
@@ -17,7 +17,7 @@ pub extern "C" fn encoding_text_mem_utf16_length_from_utf8(src: &[u8]) -> usize
     mem::utf16_length_from_utf8(src)
 }
 
-/// The number of bytes of the code units in UTF-8, with U+FFFD for each surrogate that is in no pair.
+/// Returns the number of bytes of the code units in UTF-8, with U+FFFD for each unpaired surrogate.
 #[unsafe(no_mangle)]
 pub extern "C" fn encoding_text_mem_utf8_length_from_utf16(src: &[u16]) -> usize
     ensures { (text : List ℕ) × IsUtf8OfUnits src.now text × (result ≡ length text) }
@@ -25,7 +25,7 @@ pub extern "C" fn encoding_text_mem_utf8_length_from_utf16(src: &[u16]) -> usize
     mem::utf8_length_from_utf16(src)
 }
 
-/// The number of bytes of the UTF-8 of each byte as a character.
+/// Returns the number of bytes of the UTF-8 of each byte as a character.
 #[unsafe(no_mangle)]
 pub extern "C" fn encoding_text_mem_utf8_length_from_latin1(src: &[u8]) -> usize
     ensures { result ≡ length (encode_utf8_all src.now) }
@@ -33,7 +33,7 @@ pub extern "C" fn encoding_text_mem_utf8_length_from_latin1(src: &[u8]) -> usize
     mem::utf8_length_from_latin1(src)
 }
 
-/// The number of characters of Latin1 text in UTF-8. `REFUSED` where `src` isn't the UTF-8 of Latin1 text.
+/// Returns the number of characters of Latin1 text in UTF-8. Returns `REFUSED` if `src` isn't the UTF-8 of Latin1 text.
 #[unsafe(no_mangle)]
 pub extern "C" fn encoding_text_mem_latin1_length_from_utf8(src: &[u8]) -> usize
     ensures characters { IsUtf8Latin1 src.now → result ≡ length (chars src.now) }

@@ -1,11 +1,12 @@
-//! The calls of `encoding_text`, the runs, the search for broken parts and the repair for C and C++, as a static library.
-//! `include/encoding_text.h` says each function once more in C's words.
+//! The calls of `encoding_text`, the runs, the search for malformed sequences and the repair for C and C++, as a static
+//! library. `include/encoding_text.h` documents each function in terms of C.
 //!
-//! A slice is a pointer and then its length. Where the length is 0 C may hand over `NULL`: the compiler puts an address in
-//! its place before the body begins, so that no slice here is `NULL`.
+//! A slice is a pointer, followed by its length. If the length is 0, C may pass `NULL`: the compiler replaces it by an
+//! address before the body begins, so that no slice here is `NULL`.
 //!
-//! What a contract of `encoding_text` asks of its caller, and a caller in C can break, is tested here: then nothing is read
-//! or written, and the result is one that no other call has. The calls of `known_texts` alone hand the condition on.
+//! A function here checks each precondition of `encoding_text` that a caller in C can violate. If one is violated,
+//! nothing is read or written, and the result is one that no other call returns. Only the calls of `known_texts` leave
+//! the precondition to the caller.
 #![tactic(auto)]
 
 pub mod ascii;

@@ -1,4 +1,4 @@
-//! The repair of UTF-8 into a buffer.
+//! Repairs UTF-8 into a buffer.
 
 ghost use Rattle.std.specs.Prelude.{◌≡◌, ◌*◌, ◌<◌, ◌≤◌, ℕ, List, true, length, refl};
 ghost use Rattle.std.proofs.Common.{◌∙◌, arith};
@@ -8,7 +8,7 @@ ghost use Rattle.encoding_runs.specs.Repairs.{IsRepairedWith};
 use crate::status::REFUSED;
 use encoding_runs::repair::{Sink, repair_slice};
 
-/// How many bytes were written, and how many broken parts became U+FFFD.
+/// The number of bytes written, and of malformed sequences replaced by U+FFFD.
 #[repr(C)]
 #[derive(Clone, Copy)]
 pub struct EncodingRepaired {
@@ -16,7 +16,7 @@ pub struct EncodingRepaired {
     pub replaced: u64,
 }
 
-/// A buffer that is filled from its front on.
+/// A buffer that is filled from its start.
 #[derive(Drop)]
 struct Buffer<'a> {
     room: &'a mut [u8],
@@ -43,12 +43,12 @@ impl<'a> Sink for Buffer<'a> {
       behind = λ n within. after.behind n within ∙ before.behind n (Prim.omega arith);
     } };
 
-    /// Whether a write found no room.
+    /// Returns whether a write found no space.
     fn failed(&self) -> bool {
         self.failed
     }
 
-    /// Takes as many of the bytes as there is room for.
+    /// Writes the bytes that fit.
     fn write(&mut self, bytes: &[u8]) -> Option<usize> {
         let free = self.room.len() - self.written;
         let count = free.min(bytes.len());
@@ -63,8 +63,9 @@ impl<'a> Sink for Buffer<'a> {
     }
 }
 
-/// Writes `src` with U+FFFD for each broken part, and returns how many bytes that are and how many parts were broken.
-/// Behind what is written `dst` is as before. `REFUSED` bytes where `dst` is less than three times as long as `src`.
+/// Writes `src` with U+FFFD for each malformed sequence, and returns the number of bytes written and of malformed
+/// sequences. The rest of `dst` is unchanged. Returns `REFUSED` bytes if `dst` is less than three times as long as
+/// `src`.
 #[unsafe(no_mangle)]
 pub extern "C" fn encoding_text_repair_slice(src: &[u8], dst: &mut [u8]) -> EncodingRepaired
     ensures written { 3 * length src.now ≤ length dst.old

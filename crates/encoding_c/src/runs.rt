@@ -1,5 +1,5 @@
-//! Runs: a source that goes through a decoder or an encoder in pieces of any length, into rooms of any length. The decoder
-//! and the encoder lie in the caller's storage.
+//! Runs: calls of a decoder or an encoder over a source, in pieces of any length and into output space of any length.
+//! The decoder or encoder is in the caller's storage.
 
 ghost use Rattle.std.specs.Prelude.{◌≡◌, ◌+◌, ◌*◌, ◌<◌, ◌≤◌, length, encode_utf8};
 ghost use Rattle.std.specs.Char.Escape.{encode_utf16};
@@ -16,17 +16,17 @@ use encoding_runs::run::{Outcome, Report, Turn, run_from_utf16, run_to_utf8, run
 use encoding_text::decoder::DecoderResult;
 use encoding_text::utf_8::EncoderResult;
 
-/// The last call's answer where there was no call.
+/// The result of the last call if there was no call.
 const NO_CALL: u8 = 3;
 
-/// What tells that there was no call.
+/// The two numbers for no call.
 const NO_CALL_ENDED: Ended = Ended {
     result: NO_CALL,
     malformed: 0,
 };
 
-/// What a run of a decoder did: how much it read and wrote, how many broken parts it reported, what ended its last call,
-/// and how many bytes a broken part has that did.
+/// What a run of a decoder did: how much it read and wrote, how many malformed sequences it reported, what ended its
+/// last call, and the length of the malformed sequence if that did.
 #[repr(C)]
 #[derive(Clone, Copy)]
 pub struct EncodingOutcome {
@@ -37,7 +37,7 @@ pub struct EncodingOutcome {
     pub malformed: u8,
 }
 
-/// What there is to tell where a turn has no place for a report.
+/// What a run returns if there are fewer reports than turns.
 const REFUSED_RUN: EncodingOutcome = EncodingOutcome {
     read: 0,
     written: 0,
@@ -46,7 +46,7 @@ const REFUSED_RUN: EncodingOutcome = EncodingOutcome {
     malformed: 0,
 };
 
-/// What a decoder's run did in numbers.
+/// Returns what a decoder's run did as numbers.
 fn told(outcome: &Outcome) -> EncodingOutcome
     ensures last { IsToldLast outcome.now.result result.result result.malformed }
     ensures counts { (result.read ≡ outcome.now.read) × (result.written ≡ outcome.now.written)
@@ -65,7 +65,7 @@ fn told(outcome: &Outcome) -> EncodingOutcome
     }
 }
 
-/// What an encoder's last call returned as a number.
+/// Returns the result of an encoder's last call as a number.
 fn last_number(last: &Option<EncoderResult>) -> u8
     ensures { IsToldLastEncoded last.now result }
 {
@@ -75,8 +75,9 @@ fn last_number(last: &Option<EncoderResult>) -> u8
     }
 }
 
-/// Decodes a source to UTF-16 by one call for each turn, whatever they return. Behind what is written `dst` and `reports`
-/// are as before. `REFUSED_ANSWER` where there are fewer places for reports than turns: then nothing is read or written.
+/// Decodes a source to UTF-16 with one call for each turn, regardless of their results. The rest of `dst` and of
+/// `reports` is unchanged. Returns `REFUSED_ANSWER` if `reports` is shorter than `turns`: then nothing is read or
+/// written.
 #[unsafe(no_mangle)]
 pub extern "C" fn encoding_text_run_to_utf16(
     decoder: &mut EncodingUtf8Decoder,
@@ -103,7 +104,7 @@ pub extern "C" fn encoding_text_run_to_utf16(
     told(&outcome)
 }
 
-/// Decodes a source to UTF-8 by one call for each turn, as `encoding_text_run_to_utf16` does to UTF-16.
+/// Decodes a source to UTF-8 with one call for each turn, as `encoding_text_run_to_utf16` does to UTF-16.
 #[unsafe(no_mangle)]
 pub extern "C" fn encoding_text_run_to_utf8(
     decoder: &mut EncodingUtf8Decoder,
@@ -130,7 +131,7 @@ pub extern "C" fn encoding_text_run_to_utf8(
     told(&outcome)
 }
 
-/// Encodes a source by one call for each turn, whatever they return. Behind what is written `dst` is as before.
+/// Encodes a source with one call for each turn, regardless of their results. The rest of `dst` is unchanged.
 #[unsafe(no_mangle)]
 pub extern "C" fn encoding_text_run_from_utf16(
     encoder: &mut EncodingUtf8Encoder,

@@ -1,14 +1,14 @@
-//! What functions for C return: numbers that C knows, and a result that says that a condition was not met. The condition
-//! that most have.
+//! What functions for C return: numbers for C, and results that say that a condition isn't met. Also the condition that
+//! most functions have.
 
 ghost use Rattle.std.specs.Prelude.{◌≡◌, IfSome, IfNone, IsUtf8};
 
 use encoding_text::utf_8::utf8_valid_up_to;
 
-/// What a length is where a condition was not met: no slice is so long.
+/// The value of a length if a condition isn't met: no slice has this length.
 pub const REFUSED: usize = usize::MAX;
 
-/// What any other number is where a condition was not met.
+/// The value of any other number if a condition isn't met.
 pub const REFUSED_ANSWER: u8 = u8::MAX;
 
 /// No.
@@ -23,10 +23,10 @@ pub const LATIN1: u8 = 0;
 /// It is neither Latin1 nor right-to-left.
 pub const LEFT_TO_RIGHT: u8 = 1;
 
-/// It is right-to-left, and no Latin1.
+/// It is right-to-left, and not Latin1.
 pub const BIDI: u8 = 2;
 
-/// How many code units or bytes of the source were read, and how many of the destination written.
+/// The number of code units or bytes of the source that were read, and of the destination that were written.
 #[repr(C)]
 #[derive(Clone, Copy)]
 pub struct EncodingCounts {
@@ -34,13 +34,13 @@ pub struct EncodingCounts {
     pub written: usize,
 }
 
-/// What counts are where a condition was not met.
+/// The value of both counts if a condition isn't met.
 pub(crate) const REFUSED_COUNTS: EncodingCounts = EncodingCounts {
     read: REFUSED,
     written: REFUSED,
 };
 
-/// How long the ASCII prefix is, and the first code unit or byte behind it: 0 where there is none.
+/// The length of an ASCII prefix, and the first code unit or byte after it, 0 if there is none.
 #[repr(C)]
 #[derive(Clone, Copy)]
 pub struct EncodingPrefix {
@@ -48,7 +48,7 @@ pub struct EncodingPrefix {
     pub other: u16,
 }
 
-/// The bytes as a text, if they are well-formed.
+/// Returns the bytes as a text if they are well-formed.
 pub(crate) fn as_text<'a>(bytes: &'a [u8]) -> Option<&'a str>
     ensures some { IfSome result (λ text. IsUtf8 bytes.now × (text.now ≡ bytes.now)) }
     ensures none { IfNone result (¬ (IsUtf8 bytes.now)) }

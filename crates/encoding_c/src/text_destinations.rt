@@ -1,5 +1,5 @@
-//! Conversions into the front of a text, which is well-formed before the call and after it. `REFUSED` where it isn't
-//! before, or where it is too short.
+//! Conversions into a prefix of a text, which is well-formed before the call and after it. Returns `REFUSED` if it
+//! isn't before, or if it is too short. The rest of `dst`, after the bytes that become zero, is unchanged.
 
 ghost use Rattle.std.specs.Prelude.{◌≡◌, ◌*◌, ◌<◌, ◌≤◌, ◌↔◌, [], ◌∷◌, length, take, encode_utf8, encode_utf8_all, IsTrue, IsUtf8};
 ghost use Rattle.encoding_definitions.specs.Clearing.{WritesAndClears};
@@ -10,15 +10,15 @@ use crate::status::{EncodingCounts, REFUSED, REFUSED_COUNTS};
 use encoding_text::mem;
 use encoding_text::utf_8::utf8_valid_up_to;
 
-/// Whether the bytes are well-formed.
+/// Returns whether the bytes are well-formed.
 fn is_text(bytes: &[u8]) -> bool
     ensures { IsTrue result ↔ IsUtf8 bytes.now }
 {
     utf8_valid_up_to(bytes) == bytes.len()
 }
 
-/// Converts the first characters of `src` from UTF-16 to UTF-8, as many as fit. Then the continuation bytes directly
-/// behind what is written become zero, and behind those `dst` is as before. `REFUSED` twice where `dst` is no text.
+/// Converts the longest prefix of whole characters that fits from UTF-16 to UTF-8. The continuation bytes directly
+/// after what is written become zero. Returns `REFUSED` for both counts if `dst` is ill-formed.
 #[unsafe(no_mangle)]
 pub extern "C" fn encoding_text_mem_convert_utf16_to_str_partial(
     src: &[u16],
@@ -38,9 +38,8 @@ pub extern "C" fn encoding_text_mem_convert_utf16_to_str_partial(
     EncodingCounts { read, written }
 }
 
-/// Converts all of `src` from UTF-16 to UTF-8, and returns how many bytes were written. Then the continuation bytes
-/// directly behind become zero, and behind those `dst` is as before. `REFUSED` where `dst` is no text, or less than three
-/// times as long as `src`.
+/// Converts all of `src` from UTF-16 to UTF-8, and returns the number of bytes written. The continuation bytes directly
+/// after these become zero. Returns `REFUSED` if `dst` is ill-formed, or less than three times as long as `src`.
 #[unsafe(no_mangle)]
 pub extern "C" fn encoding_text_mem_convert_utf16_to_str(src: &[u16], dst: &mut [u8]) -> usize
     ensures all { IsUtf8 dst.old → 3 * length src.now ≤ length dst.old → IsUtf8OfUnits src.now (take result dst.new) }
@@ -56,9 +55,9 @@ pub extern "C" fn encoding_text_mem_convert_utf16_to_str(src: &[u16], dst: &mut 
     mem::convert_utf16_to_str(src, dst)
 }
 
-/// Writes the UTF-8 of the longest prefix of Latin1 whose UTF-8 fits. Then the sixteen bytes behind what is written, or
-/// all where there are fewer, and the continuation bytes directly behind those become zero. Behind all these `dst` is as
-/// before. `REFUSED` twice where `dst` is no text.
+/// Writes the UTF-8 of the longest prefix of Latin1 whose UTF-8 fits. The next sixteen bytes, or all if there are
+/// fewer, and the continuation bytes directly after those become zero. Returns `REFUSED` for both counts if `dst` is
+/// ill-formed.
 #[unsafe(no_mangle)]
 pub extern "C" fn encoding_text_mem_convert_latin1_to_str_partial(
     src: &[u8],
@@ -79,9 +78,9 @@ pub extern "C" fn encoding_text_mem_convert_latin1_to_str_partial(
     EncodingCounts { read, written }
 }
 
-/// Writes the UTF-8 of each byte as a character, and returns its length. Then the sixteen bytes behind it, or all where
-/// there are fewer, and the continuation bytes directly behind those become zero. Behind all these `dst` is as before.
-/// `REFUSED` where `dst` is no text, or less than twice as long as `src`.
+/// Writes the UTF-8 of each byte as a character, and returns its length. The next sixteen bytes, or all if there are
+/// fewer, and the continuation bytes directly after those become zero. Returns `REFUSED` if `dst` is ill-formed, or
+/// less than twice as long as `src`.
 #[unsafe(no_mangle)]
 pub extern "C" fn encoding_text_mem_convert_latin1_to_str(src: &[u8], dst: &mut [u8]) -> usize
     ensures written { IsUtf8 dst.old → 2 * length src.now ≤ length dst.old

@@ -1,4 +1,5 @@
-//! UTF-8: where it ends, its conversion to UTF-16, and the two halves of the conversion from UTF-16.
+//! UTF-8: its longest well-formed prefix, its conversion to UTF-16, and the two halves of the conversion from UTF-16.
+//! The rest of `dst` is unchanged.
 
 ghost use Rattle.std.specs.Prelude.{◌≡◌, ◌+◌, ◌<◌, ◌≤◌, ◌⊎◌, take, length, IsUtf8};
 ghost use Rattle.std.specs.Char.Escape.{encode_utf16};
@@ -9,7 +10,7 @@ ghost use Rattle.encoding_definitions.specs.Utf16.{IsUtf8OfFront, IsUtf8OfLonges
 use crate::status::{EncodingCounts, REFUSED_COUNTS};
 use encoding_text::utf_8;
 
-/// The length in bytes of the longest prefix that is well-formed UTF-8.
+/// Returns the length in bytes of the longest prefix that is well-formed UTF-8.
 #[unsafe(no_mangle)]
 pub extern "C" fn encoding_text_utf8_valid_up_to(src: &[u8]) -> usize
     ensures { IsLongestFront IsUtf8 src.now result }
@@ -17,8 +18,7 @@ pub extern "C" fn encoding_text_utf8_valid_up_to(src: &[u8]) -> usize
     utf_8::utf8_valid_up_to(src)
 }
 
-/// Of the characters of the longest well-formed prefix, reads and writes as UTF-16 the most that fit. Behind what is
-/// written `dst` is as before.
+/// Converts as many characters of the longest well-formed prefix to UTF-16 as fit.
 #[unsafe(no_mangle)]
 pub extern "C" fn encoding_text_convert_utf8_to_utf16_up_to_invalid(
     src: &[u8],
@@ -30,8 +30,8 @@ pub extern "C" fn encoding_text_convert_utf8_to_utf16_up_to_invalid(
     EncodingCounts { read, written }
 }
 
-/// The UTF-8 of a prefix of whole characters: all is read, or at most three bytes are free. Behind what is written `dst`
-/// is as before.
+/// Converts a prefix of whole characters from UTF-16 to UTF-8. All of `src` is read, or at most three bytes of `dst`
+/// are left.
 #[unsafe(no_mangle)]
 pub extern "C" fn encoding_text_convert_utf16_to_utf8_partial_inner(
     src: &[u16],
@@ -45,8 +45,8 @@ pub extern "C" fn encoding_text_convert_utf16_to_utf8_partial_inner(
     EncodingCounts { read, written }
 }
 
-/// The most first characters that fit into at most three bytes. Behind what is written `dst` is as before. `REFUSED`
-/// twice where `src` is empty or `dst` longer than three bytes.
+/// Converts the longest prefix of whole characters that fits into at most three bytes. Returns `REFUSED` for both
+/// counts if `src` is empty or `dst` is longer than three bytes.
 #[unsafe(no_mangle)]
 pub extern "C" fn encoding_text_convert_utf16_to_utf8_partial_tail(
     src: &[u16],
