@@ -10,8 +10,8 @@ use std::io::{ErrorKind, Read, Write};
 
 pub const TEXT: &[u8] = b"thirty-nine bytes, and each a lone one.";
 
-/// Whether the program, over arrays of eight, writes all that its peer gives, so many bytes a read, by short writes, and
-/// nothing is missing when the peer is read again.
+/// Returns whether the program, over arrays of eight, writes all bytes of its peer. Reads have `step` bytes and writes
+/// at most `taken`, and at each read all bytes due have been written.
 fn writes_what_is_due(step: usize, taken: usize) -> bool {
     let (due, arrived) = (Cell::new(Due::Each), Cell::new(0));
     let mut peer = Peer::new(TEXT, step, &arrived);
@@ -32,7 +32,7 @@ fn writes_what_is_due_before_it_waits(rt: HostRuntime) {
     }
 }
 
-/// Whether all arrives once where one write below fails or takes nothing, and who writes tries again.
+/// Returns whether all bytes arrive if one inner write fails or writes nothing, and the caller tries again.
 fn loses_nothing(fault: Option<ErrorKind>, calls: usize, step: usize, due: Due) -> bool {
     let (due, arrived) = (Cell::new(due), Cell::new(0));
     let mut flaky = Flaky::new(step, calls, fault, &arrived);
@@ -64,7 +64,7 @@ fn keeps_what_a_failed_write_leaves(rt: HostRuntime) {
     }
 }
 
-/// A piece longer than the array goes through behind what waits.
+/// A piece longer than the array is written through, after the buffered bytes.
 #[test]
 fn passes_long_pieces_through(rt: HostRuntime) {
     let (due, arrived) = (Cell::new(Due::Nothing), Cell::new(0));
@@ -77,7 +77,7 @@ fn passes_long_pieces_through(rt: HostRuntime) {
     assert!(rt; flaky.written().ends_with(TEXT));
 }
 
-/// Whether a run over both arrays ends with the status, and its writer inside took this text and no more.
+/// Returns whether a run over both arrays returns the status, and its inner writer received exactly this text.
 fn serves(reader: Input<'_>, writer: &mut Output, text: &[u8], status: u8) -> bool {
     let due = Cell::new(Due::Each);
     let mut errors = Output::that_takes_all();

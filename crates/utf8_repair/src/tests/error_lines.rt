@@ -16,8 +16,8 @@ const LINES: [(u8, &[u8]); 5] = [
     (6, NO_ARGUMENTS),
 ];
 
-/// Has the line of a status said: by a run that ends with it, but for 5 and 6, with which no run over memory ends.
-/// Returns whether it ended so.
+/// Writes the line of a status: by a run that ends with it, or directly for 5 and 6, which no run over memory returns.
+/// Returns whether the status was returned.
 fn is_said(status: u8, errors: &mut Flaky<'_>) -> bool {
     let mut writer = Output::that_takes_all();
     let returned = match status {
@@ -38,8 +38,8 @@ fn is_said(status: u8, errors: &mut Flaky<'_>) -> bool {
     returned == status
 }
 
-/// Whether the line arrives up to the write that fails or takes no byte, and not a byte of it behind that, though the
-/// stream would take the rest.
+/// Returns whether the line arrives up to the write that fails or writes no byte, and no byte of it after that, though
+/// the stream would take the rest.
 fn stops_at(status: u8, line: &[u8], step: usize, calls: usize, fault: Option<ErrorKind>) -> bool {
     let arrived = Cell::new(0);
     let mut errors = Flaky::new(step, calls, fault, &arrived);

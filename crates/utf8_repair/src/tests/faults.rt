@@ -1,4 +1,4 @@
-//! Faults of the streams behind the arrays: each comes out once, where it happened, and is not tried again.
+//! Errors of the inner streams: each is returned once, by the call in which it happens, and that call isn't repeated.
 
 use super::buffers::TEXT;
 use super::slow_peers::{Arrived, Counted, FailsOnce};
@@ -8,10 +8,11 @@ use crate::streams::{Due, ReadAhead, WriteBehind};
 use std::cell::Cell;
 use std::io::{ErrorKind, Read, Write};
 
-/// An interrupted call is one that failed.
+/// An interrupted call is a failed one.
 const KINDS: [ErrorKind; 2] = [ErrorKind::Other, ErrorKind::Interrupted];
 
-/// An array of 64 has room behind what a read gave, and yet the reader inside is not read again before that is given out.
+/// An array of 64 has space after the bytes of one read, but the inner reader isn't read again before these are
+/// returned.
 #[test]
 fn reads_once_and_passes_on_the_fault(rt: HostRuntime) {
     for kind in KINDS {
@@ -29,7 +30,7 @@ fn reads_once_and_passes_on_the_fault(rt: HostRuntime) {
     }
 }
 
-/// The run ends with the fault, also where the reader would then end.
+/// The run ends with the error, even if the reader would then be at its end.
 #[test]
 fn serves_up_to_a_read_fault(rt: HostRuntime) {
     for kind in KINDS {
@@ -54,8 +55,8 @@ fn passes_on_a_fault_of_a_flush(rt: HostRuntime) {
     assert!(rt; output.written() == b"two".as_slice() && output.flushes == 1);
 }
 
-/// Whether a piece that is due fails with the first write inside, and leaves what waits; and the same piece, written
-/// again, then leaves with that by one write.
+/// Returns whether a piece that is due fails with the first inner write, and the buffered bytes stay. The same piece,
+/// written again, must then leave with these by one write.
 fn fails_once(kind: ErrorKind, due: Due) -> bool {
     let (mark, arrived) = (Cell::new(Due::Nothing), Arrived::none());
     let mut inner = Counted::of(Output::that_takes_all(), &arrived).that_fails_at(0, kind);
@@ -70,7 +71,7 @@ fn fails_once(kind: ErrorKind, due: Due) -> bool {
     waits && fault && asked && again && inner.written() == b"twoone".as_slice()
 }
 
-/// Whether the same holds of a flush, and of a piece that is longer than the array.
+/// Returns whether the same holds of a flush, and of a piece that is longer than the array.
 fn fails_once_elsewhere(kind: ErrorKind) -> bool {
     let (mark, arrived) = (Cell::new(Due::Nothing), Arrived::none());
     let mut inner = Counted::of(Output::that_takes_all(), &arrived).that_fails_at(0, kind);
@@ -97,7 +98,7 @@ fn tries_no_write_twice(rt: HostRuntime) {
     }
 }
 
-/// A write that takes some of the piece is the last one: the fault of the next comes with the next piece.
+/// A write that takes some of the piece is the last one: the error of the next is returned for the next piece.
 #[test]
 fn tells_what_a_short_write_took(rt: HostRuntime) {
     for kind in KINDS {
@@ -115,7 +116,7 @@ fn tells_what_a_short_write_took(rt: HostRuntime) {
     }
 }
 
-/// A run that an interruption ends: the flush alone writes what waits, and the piece is not written.
+/// A run that an interruption ends: only the flush writes the buffered bytes, and the piece is not written.
 #[test]
 fn serves_up_to_an_interruption(rt: HostRuntime) {
     for kind in KINDS {
@@ -131,7 +132,7 @@ fn serves_up_to_an_interruption(rt: HostRuntime) {
     }
 }
 
-/// Whether pieces that are due arrive at once, each one, also behind one that is longer than the array.
+/// Each piece that is due arrives at once, also after one that is longer than the array.
 #[test]
 fn sends_each_piece_that_is_due(rt: HostRuntime) {
     let (due, arrived) = (Cell::new(Due::Each), Arrived::none());
@@ -146,7 +147,7 @@ fn sends_each_piece_that_is_due(rt: HostRuntime) {
     assert!(rt; arrived.writes.get() == 7);
 }
 
-/// A piece that is not due waits for the one that is, and both leave by one write.
+/// A piece that is not due waits for one that is, and both leave by one write.
 #[test]
 fn gathers_up_to_the_piece_that_is_due(rt: HostRuntime) {
     let (due, arrived) = (Cell::new(Due::UpTo(b'\n')), Arrived::none());

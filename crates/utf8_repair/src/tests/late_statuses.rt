@@ -1,5 +1,5 @@
-//! Statuses that come late: of input longer than every buffer by far, where no stream fails, and of a flush that fails
-//! behind the arrays of the program.
+//! Late statuses: of input far longer than every buffer, if no stream fails, and of a flush that fails below the arrays
+//! of the program.
 
 use super::patterns::{PatternInput, PatternOutput};
 use super::serve_rows::{CUTS, ROWS, WRITE_FAULT};
@@ -9,10 +9,10 @@ use crate::streams::{Due, ROOM, ReadAhead, WriteBehind};
 use std::cell::Cell;
 use std::io::{ErrorKind, Read, Write};
 
-/// How many bytes the long input has: the pattern 250,000 times, more than 3 MiB.
+/// The length of the long input in bytes: the pattern 250,000 times, more than 3 MiB.
 const LENGTH: usize = 13 * 250_000;
 
-/// Whether a run over these streams, behind the arrays of the program, ends with the status and says its line.
+/// Returns whether a run over these streams, through the arrays of the program, returns the status and writes its line.
 fn ends_with<R: Read, W: Write>(reader: &mut R, writer: &mut W, status: u8, line: &[u8]) -> bool {
     let due = Cell::new(Due::Each);
     let mut errors = Output::that_takes_all();
@@ -21,7 +21,7 @@ fn ends_with<R: Read, W: Write>(reader: &mut R, writer: &mut W, status: u8, line
     serve(0, &mut ahead, &mut behind, &mut errors) == status && errors.written() == line
 }
 
-/// Whether all of the input is written repaired, with the status and no line.
+/// Returns whether the repaired text of all input is written, with the status and no line.
 fn is_served(input: PatternInput, status: u8) -> bool {
     let mut reader = input;
     let mut writer = PatternOutput::that_takes(usize::MAX);
@@ -37,7 +37,7 @@ fn tells_no_fault_of_long_input(rt: HostRuntime) {
     assert!(rt; is_served(PatternInput::of(LENGTH, None).repaired(), 0));
 }
 
-/// The flush of the stream inside fails, once all is written: whatever the engine returned, that is a write fault.
+/// The flush of the inner stream fails after all was written. That is a write fault for any result of the engine.
 #[test]
 fn tells_a_flush_that_fails_behind_the_arrays(rt: HostRuntime) {
     for row in &ROWS {

@@ -1,4 +1,4 @@
-//! What came by one read leaves by one write, before the next read.
+//! The bytes of one read are written by one write, before the next read.
 
 use super::slow_peers::{Arrived, Counted, Lengths, Lines, Row, Typist};
 use super::streams::Output;
@@ -6,7 +6,7 @@ use crate::service::serve;
 use crate::streams::{Due, ROOM, ReadAhead, WriteBehind};
 use std::cell::Cell;
 
-/// One read leaves by one write, but for the last four bytes where no whole character ends them: they may hold up to
+/// One read leaves by one write, except for the last four bytes if no whole character ends them: they may have up to
 /// five parts.
 const ROWS: [Row; 33] = [
     Row {
@@ -176,7 +176,7 @@ const ROWS: [Row; 33] = [
     },
 ];
 
-/// The cut that the last row ends with is broken by the end of the input.
+/// The incomplete sequence at the end of the last row is malformed once the input ends.
 #[test]
 fn answers_what_is_typed_by_one_write(rt: HostRuntime) {
     let (due, arrived) = (Cell::new(Due::Each), Arrived::none());
@@ -200,7 +200,7 @@ fn answers_what_is_typed_by_one_write(rt: HostRuntime) {
     assert!(rt; rest == b"\xEF\xBF\xBD".as_slice());
 }
 
-/// How a line ends, and how many bytes more that is when it is repaired.
+/// The end of a line, and how many bytes longer the line is once repaired.
 const ENDS: [(&[u8], usize); 6] = [
     (b"\n", 0),
     (b"\xE2\x98\x83\n", 0),
@@ -210,13 +210,13 @@ const ENDS: [(&[u8], usize); 6] = [
     (b"\xE2\x98\xFF\n", 3),
 ];
 
-/// Lengths about the ends of rounds, of a whole write to a pipe, and of the arrays.
+/// Lengths near the ends of rounds, of a whole write to a pipe, and of the arrays.
 const LENGTHS: [usize; 16] = [
     1022, 1023, 1024, 1025, 1026, 2047, 2048, 2049, 4094, 4095, 4096, 4097, 65_532, 65_533, 65_535,
     65_536,
 ];
 
-/// Whether each of three lines, which come by one read each, leaves by one write, whatever its end.
+/// Returns whether each of three lines, which arrive by one read each, leaves by one write, with any of the ends.
 fn leaves_lines_whole(length: usize) -> bool {
     let mut all = true;
     for (end, more) in &ENDS {
@@ -244,7 +244,7 @@ fn writes_each_line_at_once(rt: HostRuntime) {
     }
 }
 
-/// A line that three broken parts make longer than the array leaves by two writes.
+/// A line that three malformed sequences make longer than the array leaves by two writes.
 #[test]
 fn writes_a_longer_line_in_two(rt: HostRuntime) {
     let due = Cell::new(Due::Each);

@@ -1,4 +1,4 @@
-//! Long input, past each round of the engine and each array: streams of a pattern, as they are and behind the arrays of
+//! Long input, past each round of the engine and each array: streams of a pattern, directly and through the arrays of
 //! the program.
 
 use super::patterns::{PatternInput, PatternOutput};
@@ -9,15 +9,15 @@ use crate::streams::{Due, ROOM, ReadAhead, WriteBehind};
 use std::cell::Cell;
 use std::io::{ErrorKind, Read, Write};
 
-/// How many bytes of the pattern the streams give: their end stands behind a broken part.
+/// The number of bytes of the pattern that the streams yield. They end in an incomplete sequence.
 const LENGTH: usize = 200_000;
 
-/// How many bytes an output takes before its fault: up to and about the ends of rounds and of arrays, and almost all.
+/// How many bytes an output takes before its error: near the ends of rounds and of arrays, and almost all.
 const PLACES: [usize; 12] = [
     0, 1, 1023, 1024, 1025, 65_535, 65_536, 65_537, 131_072, 131_073, 196_609, 199_996,
 ];
 
-/// Whether a run returns the status, and says its line whole.
+/// Returns whether a run returns the status and writes its whole line.
 fn run_is<R: Read, W: Write>(reader: &mut R, writer: &mut W, status: u8, line: &[u8]) -> bool {
     let mut errors = Output::that_takes_all();
     serve(0, reader, writer, &mut errors) == status
@@ -25,7 +25,7 @@ fn run_is<R: Read, W: Write>(reader: &mut R, writer: &mut W, status: u8, line: &
         && errors.flushes == 0
 }
 
-/// Whether a run behind the program's arrays returns the status, and says its line whole.
+/// Returns whether a run through the program's arrays returns the status and writes its whole line.
 fn run_over_arrays_is(
     reader: &mut PatternInput,
     writer: &mut PatternOutput,
@@ -38,7 +38,7 @@ fn run_over_arrays_is(
     run_is(&mut ahead, &mut behind, status, line)
 }
 
-/// Whether the output took so many bytes of the text, was then flushed, once, and was not written to after its fault.
+/// Returns whether the output took the first `count` bytes of the text, then one flush, and no write after its error.
 fn took(writer: &PatternOutput, count: usize) -> bool {
     writer.same
         && writer.taken == count
@@ -47,8 +47,8 @@ fn took(writer: &PatternOutput, count: usize) -> bool {
         && writer.flushed_at == count
 }
 
-/// Whether a run over both streams, and one behind the arrays, writes so much of the text, and asks once behind the
-/// last byte.
+/// Returns whether a run over both streams, and one through the arrays, writes `count` bytes of the text after the
+/// letters, and reads once after the last byte.
 fn serves(letters: usize, fault: Option<ErrorKind>, count: usize, status: u8, line: &[u8]) -> bool {
     let length = LENGTH.saturating_add(letters);
     let mut reader = PatternInput::of(length, fault).behind_letters(letters);
@@ -65,8 +65,8 @@ fn serves(letters: usize, fault: Option<ErrorKind>, count: usize, status: u8, li
         && far.asked_behind == 1
 }
 
-/// As the letters in front are none, one and so on, each place of the pattern stands across each 1,024 bytes, and each
-/// 65,536: its characters and its broken part.
+/// With zero letters, one and so on before it, each index of the pattern falls on each multiple of 1,024 and of 65,536
+/// bytes: in its characters and in its malformed sequence.
 #[test]
 fn repairs_long_streams(rt: HostRuntime) {
     for letters in 0..13 {
@@ -74,7 +74,7 @@ fn repairs_long_streams(rt: HostRuntime) {
     }
 }
 
-/// The beginning of a character at the end is not written.
+/// The incomplete sequence at the end is not written.
 #[test]
 fn reports_late_read_faults(rt: HostRuntime) {
     for kind in [ErrorKind::Other, ErrorKind::Interrupted] {
@@ -85,7 +85,7 @@ fn reports_late_read_faults(rt: HostRuntime) {
     }
 }
 
-/// Text that is long and well-formed comes out as it went in.
+/// Long well-formed text is unchanged.
 #[test]
 fn leaves_a_long_text(rt: HostRuntime) {
     let mut reader = PatternInput::of(LENGTH, None).repaired();
@@ -97,7 +97,7 @@ fn leaves_a_long_text(rt: HostRuntime) {
     assert!(rt; reader.asked_behind == 1 && far.asked_behind == 1);
 }
 
-/// Whether a run stops at the fault of the output, which would take the rest, and no more than a round was read ahead.
+/// Returns whether a run stops at the error of the output, which would take the rest, at most one round ahead.
 fn stops_at(taken: usize) -> bool {
     let mut reader = PatternInput::of(LENGTH, None);
     let mut writer = PatternOutput::that_takes(taken);
@@ -107,8 +107,8 @@ fn stops_at(taken: usize) -> bool {
         && reader.asked_behind == 0
 }
 
-/// Whether a run behind the arrays stops there as well, and no more than an array was read ahead. The flush alone tries
-/// the bytes that wait once more.
+/// Returns whether a run through the arrays stops there too, at most one array ahead. Only the flush tries to write the
+/// buffered bytes once more.
 fn stops_over_arrays_at(taken: usize) -> bool {
     let mut reader = PatternInput::of(LENGTH, None);
     let mut writer = PatternOutput::that_takes(taken);

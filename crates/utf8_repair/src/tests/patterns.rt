@@ -1,18 +1,18 @@
-//! Long streams of a pattern, which keep none of its bytes. A round's end falls into a character or into a broken part.
+//! Long streams of a pattern that store none of its bytes. A round can end in a character or in a malformed sequence.
 
 use std::io::{Error, ErrorKind, Read, Result, Write};
 
-/// A letter, U+2603, a letter, three bytes that begin a character, a letter, and U+1F4A9.
+/// A letter, U+2603, a letter, an incomplete sequence of three bytes, a letter, and U+1F4A9.
 pub const PATTERN: [u8; 13] = [
     0x61, 0xE2, 0x98, 0x83, 0x62, 0xF0, 0x9F, 0x92, 0x63, 0xF0, 0x9F, 0x92, 0xA9,
 ];
 
-/// What comes of a period once it is repaired.
+/// The repaired text of the pattern.
 pub const REPAIRED: [u8; 13] = [
     0x61, 0xE2, 0x98, 0x83, 0x62, 0xEF, 0xBF, 0xBD, 0x63, 0xF0, 0x9F, 0x92, 0xA9,
 ];
 
-/// Returns the byte at a place of so many letters and a pattern, over and over, behind them.
+/// Returns the byte at index `at` of a stream: first the letters, then the pattern over and over.
 fn byte_at(letters: usize, pattern: &[u8; 13], at: usize) -> u8 {
     match at.checked_sub(letters) {
         Some(place) => pattern[place % 13],
@@ -20,21 +20,21 @@ fn byte_at(letters: usize, pattern: &[u8; 13], at: usize) -> u8 {
     }
 }
 
-/// Gives the pattern over and over, as many bytes as are asked for, up to a length, and then ends or fails.
+/// Yields the pattern over and over, as many bytes as are requested, up to a length. Then it ends or fails.
 #[derive(Drop)]
 pub struct PatternInput {
     letters: usize,
     pattern: [u8; 13],
     length: usize,
     fault: Option<ErrorKind>,
-    /// How many bytes it gave.
+    /// The number of bytes that it yielded.
     pub given: usize,
-    /// How often it was read after its last byte.
+    /// The number of reads after its last byte.
     pub asked_behind: usize,
 }
 
 impl PatternInput {
-    /// Returns an input that gives so many bytes, and then fails where there is a fault.
+    /// Returns an input of `length` bytes, which then fails if there is a `fault`.
     pub fn of(length: usize, fault: Option<ErrorKind>) -> PatternInput {
         PatternInput {
             letters: 0,
@@ -46,14 +46,14 @@ impl PatternInput {
         }
     }
 
-    /// Returns the input, which now gives so many letters first.
+    /// Returns the input with this many letters before the pattern.
     pub fn behind_letters(self, letters: usize) -> PatternInput {
         let mut input = self;
         input.letters = letters;
         input
     }
 
-    /// Returns the input, which now gives the repaired pattern.
+    /// Returns the input with the repaired pattern.
     pub fn repaired(self) -> PatternInput {
         let mut input = self;
         input.pattern = REPAIRED;
@@ -80,26 +80,26 @@ impl Read for PatternInput {
     }
 }
 
-/// Takes so many bytes and fails then once, and compares what it takes with the repaired pattern.
+/// Takes a number of bytes and then fails once. Compares what it takes with the repaired pattern.
 #[derive(Drop)]
 pub struct PatternOutput {
     letters: usize,
     takes: usize,
     failed: bool,
-    /// How many bytes it took.
+    /// The number of bytes that it took.
     pub taken: usize,
     /// Whether they were those of the repaired pattern.
     pub same: bool,
-    /// How often it was written to after its fault.
+    /// The number of writes after its error.
     pub asked_behind: usize,
-    /// How often it was flushed.
+    /// The number of flushes.
     pub flushes: usize,
-    /// How many bytes it had taken when it was last flushed.
+    /// The number of bytes that it had taken at its last flush.
     pub flushed_at: usize,
 }
 
 impl PatternOutput {
-    /// Returns an output that takes so many bytes, fails once, and takes all from then on.
+    /// Returns an output that takes `takes` bytes, fails once, and takes all bytes from then on.
     pub fn that_takes(takes: usize) -> PatternOutput {
         PatternOutput {
             letters: 0,
@@ -113,7 +113,7 @@ impl PatternOutput {
         }
     }
 
-    /// Returns the output, which now compares the first bytes with so many letters.
+    /// Returns the output, comparing with this many letters before the pattern.
     pub fn behind_letters(self, letters: usize) -> PatternOutput {
         let mut output = self;
         output.letters = letters;

@@ -1,23 +1,23 @@
-//! Streams in memory that share a count of what has arrived.
+//! Streams in memory that share a count of the bytes that have arrived.
 ghost use Rattle.std.specs.Prelude.{◌≤◌};
 
 use std::cell::Cell;
 use std::io::{Error, ErrorKind, Read, Result, Write};
 
-/// Gives its bytes, so many a read. Counts the reads at which what was due had not arrived: all that it gave, but
-/// for an unfinished group of four at its end.
+/// Yields its bytes, `step` with each read. Counts the reads before which some bytes due had not arrived. All bytes are
+/// due, except an incomplete group of four at the end.
 #[derive(Drop)]
 pub struct Peer<'a> {
     rest: &'a [u8],
     step: usize,
     given: usize,
     arrived: &'a Cell<usize>,
-    /// How many reads found something missing.
+    /// The number of reads that found bytes missing.
     pub late: usize,
 }
 
 impl<'a> Peer<'a> {
-    /// Returns a peer that gives these bytes, so many a read.
+    /// Returns a peer that yields these bytes, `step` with each read.
     pub fn new(bytes: &'a [u8], step: usize, arrived: &'a Cell<usize>) -> Peer<'a> {
         Peer {
             rest: bytes,
@@ -43,7 +43,7 @@ impl Read for Peer<'_> {
     }
 }
 
-/// Holds at most 64 bytes, takes so many a write, and fails at one of its calls, or there takes none.
+/// Holds at most 64 bytes, takes at most `step` with each write, and fails or takes none at one call.
 #[derive(Drop)]
 pub struct Flaky<'a> {
     bytes: [u8; 64],
@@ -56,7 +56,7 @@ pub struct Flaky<'a> {
 }
 
 impl<'a> Flaky<'a> {
-    /// Returns a writer that takes so many bytes a write, and fails once so many calls were made.
+    /// Returns a writer that takes at most `step` bytes with each write, and fails once after `calls_left` calls.
     pub fn new(
         step: usize,
         calls_left: usize,

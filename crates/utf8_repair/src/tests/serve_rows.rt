@@ -5,7 +5,7 @@ use crate::service::{report, serve};
 use std::io::{ErrorKind, Read};
 use std::test::Fail;
 
-/// What a run reads, what it is to write, and its status.
+/// The input of a run, its expected output, and its status.
 pub struct Row {
     pub input: &'static [u8],
     pub output: &'static [u8],
@@ -62,7 +62,7 @@ pub const FAULTS: [Option<ErrorKind>; 3] = [
     Some(ErrorKind::Interrupted),
 ];
 
-/// Whether a run ends with the status and its line, and flushes its writer once, behind all that it wrote.
+/// Returns whether a run returns the status and writes its line, and flushes its writer once, after all that it wrote.
 fn run_is<R: Read>(
     reader: &mut R,
     writer: &mut Output,
@@ -96,7 +96,7 @@ fn repairs(rt: HostRuntime) {
     }
 }
 
-/// Whether a run with so many arguments asks neither stream, and says how it is used.
+/// Returns whether a run with this many arguments uses neither stream, and writes the usage.
 fn is_refused(arguments: usize) -> bool {
     let mut reader = Input::of(b"a", 1);
     let mut writer = Output::that_takes_all();
@@ -115,7 +115,7 @@ fn refuses_arguments(rt: HostRuntime) {
     }
 }
 
-/// What a reader gives before it fails, and the settled text of that.
+/// The bytes that a reader yields before it fails, and the text of their final parts.
 pub struct Cut {
     pub input: &'static [u8],
     pub settled: &'static [u8],
@@ -140,7 +140,7 @@ pub const CUTS: [Cut; 4] = [
     },
 ];
 
-/// The read behind the bytes fails, and is the last one.
+/// The read after the bytes fails, and is the last one.
 #[test]
 fn reports_read_faults(rt: HostRuntime) {
     for kind in [ErrorKind::Other, ErrorKind::Interrupted] {
@@ -157,7 +157,7 @@ fn reports_read_faults(rt: HostRuntime) {
     }
 }
 
-/// The writer takes so many bytes in all, and then fails or takes none.
+/// The writer takes a number of bytes in total, and then fails or takes none.
 #[test]
 fn reports_write_faults(rt: HostRuntime) {
     let input = [0xE2, 0x98, 0x83, 0xFF];
@@ -181,7 +181,7 @@ fn reports_write_faults(rt: HostRuntime) {
     }
 }
 
-/// A flush that fails is a write fault in place of what the engine returned.
+/// A flush that fails is a write fault, whatever the engine returned.
 #[test]
 fn reports_flush_faults(rt: HostRuntime) {
     for row in &ROWS {
@@ -204,21 +204,21 @@ fn reports_flush_faults(rt: HostRuntime) {
     }
 }
 
-/// Whether the line of the status is this one.
+/// Returns whether the line of the status is this one.
 fn line_is(status: u8, line: &[u8]) -> bool {
     let mut errors = Output::that_takes_all();
     report(status, &mut errors);
     errors.written() == line
 }
 
-/// No run over memory reads as many bytes as the limit allows, so the lines stand here.
+/// No run over memory reads as many bytes as the limit, so this compares the lines directly.
 #[test]
 fn says_each_line(rt: HostRuntime) {
     assert!(rt; line_is(0, b"") && line_is(1, b"") && line_is(2, USAGE) && line_is(3, READ_FAULT));
     assert!(rt; line_is(4, WRITE_FAULT) && line_is(5, LIMIT) && line_is(6, NO_ARGUMENTS));
 }
 
-/// Whether a run returns the status, and its line stops where the error stream does.
+/// Returns whether a run returns the status, and its line stops where the error stream does.
 fn stops_at(
     arguments: usize,
     taken: usize,
@@ -245,7 +245,7 @@ fn ignores_faults_of_the_error_stream(rt: HostRuntime) {
     }
 }
 
-/// Whether the runs of all rows, of all cuts and with an argument are as they are to be.
+/// Returns whether the runs of all rows, of all cuts and with an argument are as expected.
 fn all_runs_are() -> bool {
     let mut all = is_refused(1);
     for row in &ROWS {
@@ -264,8 +264,8 @@ fn all_runs_are() -> bool {
     all
 }
 
-/// Every request for memory is refused while they run. They run once before, so that the stack has its pages: it can't
-/// grow where memory is used up.
+/// Each allocation fails while they run. They run once before, to map the pages of the stack: it can't grow without
+/// memory.
 #[test]
 fn takes_no_memory(rt: HostRuntime) -> Result<(), Fail> {
     assert!(rt; all_runs_are());

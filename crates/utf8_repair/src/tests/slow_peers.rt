@@ -1,10 +1,10 @@
-//! A peer that types, one row a read, and a writer that counts its calls. They share what has arrived.
+//! A peer that types, one row with each read, and a writer that counts its calls. They share what has arrived.
 
 use super::streams::Output;
 use std::cell::Cell;
 use std::io::{Error, ErrorKind, Read, Result, Write};
 
-/// How many bytes have arrived, and by how many writes.
+/// The number of bytes that have arrived, and of the writes that brought them.
 #[derive(Drop)]
 pub struct Arrived {
     pub bytes: Cell<usize>,
@@ -12,7 +12,7 @@ pub struct Arrived {
 }
 
 impl Arrived {
-    /// Returns that nothing has arrived.
+    /// Returns the counts before anything has arrived.
     pub fn none() -> Arrived {
         Arrived {
             bytes: Cell::new(0),
@@ -21,23 +21,24 @@ impl Arrived {
     }
 }
 
-/// What one read gives, what of it and of the rows before it is then due, and by how many writes at most.
+/// The bytes of one read, which of these and of earlier rows are due then, and the most writes for them.
 pub struct Row {
     pub input: &'static [u8],
     pub due: &'static [u8],
     pub writes: usize,
 }
 
-/// Gives one row a read. At each read it sees whether all that is due has arrived, by as few writes as are allowed.
+/// Yields one row with each read. At each read it checks that all bytes due have arrived, with at most the allowed
+/// writes.
 #[derive(Drop)]
 pub struct Typist<'a> {
     rows: &'a [Row],
     arrived: &'a Arrived,
     due: usize,
     most: usize,
-    /// How many reads found something missing.
+    /// The number of reads that found bytes missing.
     pub late: usize,
-    /// How many rows left by too many writes.
+    /// The number of rows that left by too many writes.
     pub torn: usize,
 }
 
@@ -75,7 +76,7 @@ impl Read for Typist<'_> {
     }
 }
 
-/// Takes what its output takes, counts what arrives, and fails once, at the call that has this number.
+/// Takes what its output takes, counts what arrives, and fails once, at the call with a given number.
 #[derive(Drop)]
 pub struct Counted<'a> {
     output: Output,
@@ -95,7 +96,7 @@ impl<'a> Counted<'a> {
         }
     }
 
-    /// Returns the writer, which now fails once, at the call that has this number, from 0 on.
+    /// Returns the writer, which fails once, at the call with this number, counted from 0.
     pub fn that_fails_at(self, call: usize, kind: ErrorKind) -> Counted<'a> {
         let mut writer = self;
         writer.fails_at = call;
@@ -127,12 +128,12 @@ impl Write for Counted<'_> {
     }
 }
 
-/// Gives its bytes by one read, fails at the next, and ends then.
+/// Yields its bytes with one read, fails at the next, and then ends.
 #[derive(Drop)]
 pub struct FailsOnce<'a> {
     bytes: &'a [u8],
     kind: ErrorKind,
-    /// How often it was read.
+    /// The number of its reads.
     asked: &'a Cell<usize>,
 }
 
@@ -157,7 +158,7 @@ impl Read for FailsOnce<'_> {
     }
 }
 
-/// Gives lines of a length, one a read: letters, and then the bytes of its end.
+/// Yields lines of one length, one with each read: letters, then the bytes of its end.
 #[derive(Drop)]
 pub struct Lines {
     length: usize,
@@ -166,7 +167,7 @@ pub struct Lines {
 }
 
 impl Lines {
-    /// Returns a reader of so many lines, each of this length and with this end.
+    /// Returns a reader of `left` lines, each of this length and with this end.
     pub fn of(length: usize, end: &'static [u8], left: usize) -> Lines {
         Lines { length, end, left }
     }
@@ -189,7 +190,7 @@ impl Read for Lines {
     }
 }
 
-/// Takes all that is written, and counts the writes: those of one length, and others.
+/// Takes all bytes, and counts the writes: those of one length, and others.
 #[derive(Drop)]
 pub struct Lengths {
     length: usize,

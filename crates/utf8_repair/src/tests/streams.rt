@@ -1,22 +1,22 @@
-//! Streams over arrays, which take no memory and fail where they are told to.
+//! Streams over arrays, which allocate no memory and fail on request.
 ghost use Rattle.std.specs.Prelude.{◌≤◌};
 
 use std::io::{Error, ErrorKind, Read, Result, Write};
 
-/// Gives its bytes, so many a read, and then ends or fails.
+/// Yields its bytes, at most `step` with each read, and then ends or fails.
 #[derive(Drop)]
 pub struct Input<'a> {
     rest: &'a [u8],
     step: usize,
     fault: Option<ErrorKind>,
-    /// How often it was read.
+    /// The number of its reads.
     pub asked: usize,
-    /// How often it was read after its last byte.
+    /// The number of reads after its last byte.
     pub asked_behind: usize,
 }
 
 impl<'a> Input<'a> {
-    /// Returns an input that gives these bytes, so many a read, and ends.
+    /// Returns an input that yields these bytes, at most `step` with each read, and ends.
     pub fn of(bytes: &'a [u8], step: usize) -> Input<'a> {
         Input {
             rest: bytes,
@@ -27,7 +27,7 @@ impl<'a> Input<'a> {
         }
     }
 
-    /// Returns an input that gives these bytes, one a read, and then fails.
+    /// Returns an input that yields these bytes, one with each read, and then fails.
     pub fn that_fails(bytes: &'a [u8], fault: ErrorKind) -> Input<'a> {
         Input {
             rest: bytes,
@@ -59,7 +59,7 @@ impl Read for Input<'_> {
 /// The most bytes that an [`Output`] holds.
 pub const ROOM: usize = 2048;
 
-/// Takes so many bytes a call and so many in all, and then fails, or takes none where it has no fault.
+/// Takes at most `step` bytes with each call and `takes` in total. Then it fails, or takes none if it has no fault.
 #[derive(Drop)]
 pub struct Output {
     bytes: [u8; ROOM],
@@ -68,17 +68,17 @@ pub struct Output {
     takes: usize,
     fault: Option<ErrorKind>,
     flushable: bool,
-    /// How often it was written to.
+    /// The number of its writes.
     pub asked: usize,
-    /// How often it was flushed.
+    /// The number of its flushes.
     pub flushes: usize,
-    /// How many bytes it had taken when it was last flushed.
+    /// The number of bytes that it had taken at its last flush.
     pub flushed_at: usize,
     ghost within: { count ≤ 2048 },
 }
 
 impl Output {
-    /// Returns an output that takes so many bytes in all, and then fails, or takes none where there is no fault.
+    /// Returns an output that takes `takes` bytes in total. Then it fails, or takes none if there is no fault.
     pub fn that_takes(takes: usize, fault: Option<ErrorKind>) -> Output {
         Output {
             bytes: [0x71; ROOM],
@@ -98,14 +98,14 @@ impl Output {
         Output::that_takes(ROOM, None)
     }
 
-    /// Returns an output that takes all bytes, at most so many a call.
+    /// Returns an output that takes all bytes, at most `step` with each call.
     pub fn by_steps_of(step: usize) -> Output {
         let mut output = Output::that_takes_all();
         output.step = step;
         output
     }
 
-    /// Returns an output that takes all bytes, and fails where it is flushed.
+    /// Returns an output that takes all bytes, and fails when it is flushed.
     pub fn that_cannot_flush() -> Output {
         let mut output = Output::that_takes_all();
         output.flushable = false;
