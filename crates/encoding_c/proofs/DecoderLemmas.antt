@@ -1,4 +1,5 @@
--- What is kept of a decoder between two calls: its pending bytes end those that it had and those that it read.
+-- What is kept of a decoder between two calls: its pending bytes are the last of those pending before and those it
+-- read.
 use Rattle.std.proofs.Common.{◌≡◌, ℕ, ◌+◌, ◌-◌, ◌≤◌, inl, inr, Bool, false, true≢false, List, [], ◌∷◌, ◌++◌, length, take, slice_index, refl, sym, ap, ◌∙◌, arith, encode_utf8_all}
 use Rattle.std.proofs.lemmas.List.{append-nil, take_all, get_or-append-add}
 use Rattle.encoding_definitions.specs.Pending.{IsPending}
@@ -42,7 +43,7 @@ borrowed_ends p src last piece.InputEmpty read q a =
 pub borrowed_call_ends : (p src : List ℕ) (last : Bool) (returned : Piece) (read : ℕ) (q : List ℕ) → IsBorrowedCall p src last returned read q → (read ≤ length src) × EndsWith (p ++ take read src) q
 borrowed_call_ends p src last returned read q c = borrowed_ends p src last returned read q c.answer
 
--- pending bytes that are handed to a new decoder are pending in it
+-- pending bytes that a new decoder reads are pending in it
 pub held_again : (src : List ℕ) → IsPending src → (returned : Piece) (read : ℕ) (q : List ℕ) → IsBorrowedCall [] src false returned read q → returned ≡ piece.InputEmpty
 held_again src pending returned read q call = said returned (same_piece [] src false returned piece.InputEmpty read (length src) q src call again).0
   where

@@ -1,4 +1,5 @@
--- What is kept of an encoder between two calls: the unit that it holds is the last one of the source, or the one from before.
+-- What is kept of an encoder between two calls: its pending surrogate is the last unit of the source, or the one
+-- before.
 use Rattle.std.proofs.Common.{◌≡◌, ℕ, ◌+◌, ◌-◌, ◌<◌, ◌≤◌, inl, inr, Bool, List, [], ◌∷◌, ◌++◌, length, slice_index, refl, sym, ap, ◌∙◌, arith}
 use Rattle.std.proofs.lemmas.Bool.{cases_lt}
 use Rattle.std.proofs.lemmas.List.{length-append, append-nil, get_or-append-add}
@@ -7,7 +8,7 @@ use Rattle.encoding_c.specs.States.{IsKept}
 use Rattle.encoding_text.specs.declared.utf_8.encoder.EncoderResult.{EncoderResult}
 use Rattle.encoding_text.specs.declared.utf_8.encoder.EncoderResult.TheVariants.{InputEmpty, OutputFull}
 
--- the unit that is left open is the last one of the held one and the source
+-- the unit left pending is the last one of the pending surrogate before and the source
 last_unit : (held src front left_open : List ℕ) (before unit : ℕ) → held ++ src ≡ front ++ left_open → IsHeld left_open → (0 < length held → held ≡ before ∷ [])
     → IsKept InputEmpty src before unit → 0 < length left_open → left_open ≡ unit ∷ []
 last_unit held src front [] before unit e h one kept some = absurd (omega (arith, some))

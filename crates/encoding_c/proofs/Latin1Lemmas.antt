@@ -6,7 +6,7 @@ use Rattle.encoding_definitions.specs.Fronts.{FitsLongest}
 use Rattle.encoding_definitions.proofs.LongestFronts.FittingLemmas.{length-front}
 use Rattle.encoding_definitions.proofs.Sequences.EncodingLemmas.{flat_map-encode_utf8}
 
--- the longest front that fits is then all
+-- the longest prefix that fits is then all of it
 pub latin1_fits_all : (xs : List ℕ) (room read : ℕ) (out : List ℕ) → length (encode_utf8_all xs) ≤ room
     → FitsLongest (λ b. b ∷ []) encode_utf8 xs room read out → out ≡ encode_utf8_all xs
 latin1_fits_all xs room read out l f =

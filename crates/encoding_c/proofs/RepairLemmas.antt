@@ -1,4 +1,4 @@
--- How long a repaired text is: at most three times as long as its bytes.
+-- A repaired text is at most three times as long as its bytes.
 use Rattle.std.proofs.Common.{◌≡◌, ◌≢◌, ℕ, ◌*◌, ◌<◌, ◌≤◌, List, [], ◌∷◌, length, refl, ap, arith, encode_utf8}
 use Rattle.std.proofs.lemmas.List.{length-append}
 use Rattle.encoding_definitions.specs.Parts.{Part, Character, Broken, ArePartsOf, repaired_text}
@@ -16,7 +16,7 @@ length-repaired bs (Broken x ∷ parts) (after, f, more) =
     let three : length (encode_utf8 0xFFFD) ≡ 3 = refl in
     omega (arith, ap length h.0, h.1, length-append x after, length-append (encode_utf8 0xFFFD) (repaired_text parts), three, length-repaired after parts more)
 
--- what stops before its end is shorter than that
+-- a proper prefix of it is shorter than that
 pub stops_short : (bs text out : List ℕ) → IsRepaired bs text → IsProperFront out text → length out < 3 * length bs
 stops_short bs text out (parts, are, e) (rest, some, whole) =
     omega (arith, ap length e, length-repaired bs parts are, ap length whole, length-append out rest, not_empty rest some)

@@ -1,4 +1,4 @@
--- Right-to-left scalar values are the same by themselves, in UTF-8 and in UTF-16.
+-- A scalar value, its UTF-8 and its UTF-16 agree on whether it is right-to-left.
 use Rattle.std.proofs.Common.{ℕ, inl, inr, List, encode_utf8_all, refl, subst}
 use Rattle.std.specs.Prelude.{Any, IsTrue, map, ◌↔◌}
 use Rattle.std.specs.Char.Escape.{encode_utf16}

@@ -1,4 +1,4 @@
--- The repair of a block: what is written after each call of the decoder, and what calls on blocks give in a row.
+-- The repair of a block: what is written after each call of the decoder, and what successive calls on blocks yield.
 use Rattle.std.proofs.Common.{◌≡◌, ℕ, ◌+◌, ◌-◌, ◌*◌, ◌<◌, ◌≤◌, ◌↔◌, inl, inr, Bool, true, false, List, [], ◌∷◌, ◌++◌, length, map, take, drop, encode_utf8, refl, sym, ap, ◌∙◌, arith, subst, true≢false}
 use Rattle.std.specs.Prelude.{Any}
 use Rattle.std.specs.Char.{IsScalar}
@@ -27,7 +27,7 @@ use Rattle.encoding_runs.specs.DecoderCalls.{AreGivenInSequence, GiveTheParts}
 use Rattle.encoding_runs.specs.Repairs.{IsRepairedWith}
 use Rattle.encoding_runs.proofs.ChainLemmas.{chain_gives, gives_then}
 
--- parts are given, and the text of all but the reported ones among them is written
+-- parts are yielded, and the text of all except the reported ones among them is written
 pub record BlockText (p src : List ℕ) (last : Bool) (old new : List ℕ) (read written replaced : ℕ) (q : List ℕ) (reported : List Part) : Type 0 where
   pub parts : List Part
   pub given : Gives p src last (parts ++ reported) read q
@@ -39,7 +39,7 @@ pub record BlockText (p src : List ℕ) (last : Bool) (old new : List ℕ) (read
 abbrev pub BlockDone : List ℕ → List ℕ → Bool → List ℕ → List ℕ → ℕ → ℕ → ℕ → List ℕ → Type 0
 BlockDone p src last old new read written replaced q = BlockText p src last old new read written replaced q []
 
--- a call of the decoder on what is left, into what is left
+-- a call of the decoder on the rest of the source, into the rest of the destination
 abbrev pub DecodesRest : List ℕ → List ℕ → Bool → List ℕ → List ℕ → ℕ → ℕ → DecoderResult → ℕ → ℕ → List ℕ → Type 0
 DecodesRest q src last new sub read written result bytes units t =
     Decodes encode_utf8 4 q (drop read src) (take (length new - written) (drop written new)) sub last result bytes units t
@@ -124,7 +124,7 @@ module _ (p src : List ℕ) (last : Bool) (old new sub : List ℕ) (read written
       let all : read + bytes ≡ length src = omega (arith, call.answer.0, length-drop read src, d.given.within) in
       ended p src last old _ _ _ replaced true t reported h b is ((λ _. (all, call.answer.2)), λ _. refl) (λ e. absurd (true≢false e))
 
-  -- the space that is left isn't enough
+  -- the space left isn't enough
   pub block_full : DecodesRest q src last new sub read written OutputFull bytes units t → EndedBy false
   block_full (out, w, call) =
       let (reported, is, b) = block_more p src last old new sub read written replaced q bytes units t OutputFull d (out, w, call) in
@@ -155,7 +155,7 @@ module _ (p src : List ℕ) (last : Bool) (old new sub : List ℕ) (read written
             omega (arith, at_end (omega (arith, nothing, length-drop read src)), w.count, space, same, ap length (call.out_is ∙ ap (flat_map encode_utf8) no_characters))
       ]
 
--- U+FFFD for the part that is reported
+-- U+FFFD for the reported part
 pub block_replaced : (p src : List ℕ) (last : Bool) (old new sub : List ℕ) (read written replaced n k second : ℕ) (q : List ℕ) (reported : List Part)
     → BlockText p src last old new read written replaced q reported → IsReported (Malformed k second) reported
     → WritesFront (take (length new - written) (drop written new)) sub n (encode_utf8 0xFFFD)
@@ -171,8 +171,8 @@ block_replaced p src last old new sub read written replaced n k second q reporte
       three = omega (arith, b.three, w.count, length-encode 0xFFFD);
     }
 
--- ---- calls in a row
--- what a call on a block gives
+-- ---- successive calls
+-- what a call on a block yields
 abbrev AreRepairedParts : ℕ → RepairedBlock → List ℕ → List Part → Type 0
 AreRepairedParts room block out parts = (out ≡ repaired_text parts) × (block.replaced ≡ count_broken parts)
 

@@ -1,4 +1,5 @@
--- Where the next broken part is, and that those found in turn are the broken ones among the parts.
+-- The index of the next malformed sequence, and that those found one after another are the malformed ones among the
+-- parts.
 use Rattle.std.proofs.Common.{◌≡◌, ℕ, ◌+◌, ◌<◌, ◌≤◌, ◌↔◌, inl, inr, true, List, [], ◌∷◌, ◌++◌, length, map, take, drop, slice_index, encode_utf8, encode_utf8_all, refl, sym, ap, ◌∙◌, arith, subst, take-add}
 use Rattle.std.specs.Str.{all_scalars, IsUtf8, chars}
 use Rattle.std.proofs.lemmas.Bool.{cases_lt, and_from}
@@ -17,15 +18,15 @@ use Rattle.encoding_text.proofs.LongestFronts.ConvertingLemmas.{cut_behind}
 use Rattle.encoding_text.proofs.Calls.CallPartsLemmas.{broken_first}
 use Rattle.encoding_runs.specs.BrokenParts.{IsNextBroken, AreFoundInTurn, broken_places}
 
--- ---- a few bytes tell what all would
--- at most three bytes are broken
+-- ---- a few bytes determine what all would
+-- a malformed sequence has at most three bytes
 broken_length : (x rest : List ℕ) → IsBroken x rest true → length x ≤ 3
 broken_length x [] (inl (b, e, n)) = omega (arith, ap length e)
 broken_length x [] (inr (o, l)) = length-IsBeginning x o
 broken_length x (y ∷ ys) (inl (b, e, n)) = omega (arith, ap length e)
 broken_length x (y ∷ ys) (inr (o, s)) = length-IsBeginning x o
 
--- the next byte tells what all behind it would
+-- the next byte determines what all bytes after it would
 told_by_next : (x r : List ℕ) (k n : ℕ) → k < n → n ≤ length r → IsBroken x (drop k (take n r)) true → IsBroken x (drop k r) true
 told_by_next x r k n more within b =
     let front : drop k (take n r) ≡ slice_index r k ∷ drop (k + 1) (take n r) =
@@ -39,8 +40,8 @@ told x r k n few within short b = elim (cases_lt n 4) [
   | inr g ↦ told_by_next x r k n (omega arith) within b
 ]
 
--- ---- the next broken part
--- a broken part behind characters
+-- ---- the next malformed sequence
+-- a malformed sequence after characters
 pub broken_behind : (bs : List ℕ) (place size : ℕ) → place + size ≤ length bs → IsUtf8 (take place bs)
     → IsFirstPart (drop place bs) (Broken (take size (drop place bs))) (drop size (drop place bs)) → IsNextBroken bs place size
 broken_behind bs place size within (cs, (h, e)) f = record {
@@ -57,7 +58,7 @@ broken_behind bs place size within (cs, (h, e)) f = record {
         (subst (λ xs. StartsWith xs (map Character cs) (drop place bs)) whole (StartsWith-characters cs (drop place bs) h))
         (StartsWith-one (drop place bs) (Broken (take size (drop place bs))) (drop size (drop place bs)) f)
 
--- what a call on the first few bytes behind the longest front reports
+-- what a call on the first few bytes after the longest well-formed prefix reports
 pub reported_next : (bs : List ℕ) (place n k read : ℕ) (q : List ℕ) → IsLongestFront IsUtf8 bs place → n ≤ length (drop place bs) → (n < 4 → n ≡ length (drop place bs))
     → IsBorrowedCall [] (take n (drop place bs)) true (Malformed k) read q → IsNextBroken bs place k
 reported_next bs place n k read q front within short call =
@@ -104,8 +105,8 @@ none_is_text bs place n read returned q front within short call none =
     let nothing = none_left bs place n read returned q front within call none in
     subst IsUtf8 (take_all place bs (omega (arith, length-drop place bs, short (omega (arith, nothing)), nothing))) front.kind
 
--- ---- all parts of bytes whose next broken part is known
--- the characters, the broken part, and the parts of what is left
+-- ---- all parts of bytes whose next malformed sequence is known
+-- the characters, the malformed sequence, and the parts of what is left
 pub record AreSplit (bs : List ℕ) (parts : List Part) (place size : ℕ) : Type 0 where
   pub characters : List ℕ
   pub broken : List ℕ
@@ -149,13 +150,13 @@ next_size bs place size next =
     let long = length-take size (drop place bs) in
     (omega (arith, last.0, long), omega (arith, last.1, long, next.within, length-drop place bs))
 
--- ---- those found in turn
+-- ---- those found one after another
 broken_places-characters : (at : ℕ) (cs : List ℕ) (ps : List Part) → broken_places at (map Character cs ++ ps) ≡ broken_places (at + length (encode_utf8_all cs)) ps
 broken_places-characters at [] ps = ap (λ n. broken_places n ps) (omega arith)
 broken_places-characters at (c ∷ cs) ps =
     broken_places-characters (at + length (encode_utf8 c)) cs ps ∙ ap (λ n. broken_places n ps) (omega (arith, length-append (encode_utf8 c) (encode_utf8_all cs)))
 
--- they are the broken ones
+-- they are the malformed ones
 found_are : (found : List (ℕ × ℕ)) (at : ℕ) (bs : List ℕ) (parts : List Part) → ArePartsOf bs parts → AreFoundInTurn at bs found → found ≡ broken_places at parts
 found_are [] at bs parts are (cs, (h, e)) =
     let all : ArePartsOf bs (map Character cs) =
@@ -169,7 +170,7 @@ found_are ((place, size) ∷ found) at bs parts are (before, stands, next, more)
     rw s.long (ap (λ xs. (place, size) ∷ xs) rest) in
     two ∙ sym (ap (broken_places at) (s.are ∙ append_assoc (map Character s.characters) (Broken s.broken ∷ []) s.others) ∙ broken_places-characters at s.characters (Broken s.broken ∷ s.others) ∙ one)
 
--- and the broken ones are they: behind so many characters a broken part is found, and behind it those that are found there
+-- and the malformed ones are they: one is found after these characters, and the others after it
 broken_found : (at : ℕ) (cs bs x after : List ℕ) (found : List (ℕ × ℕ)) → all_scalars cs ≡ true → IsFirstPart bs (Broken x) after
     → AreFoundInTurn (at + length (encode_utf8_all cs) + length x) after found
     → AreFoundInTurn at (encode_utf8_all cs ++ bs) ((at + length (encode_utf8_all cs), length x) ∷ found)

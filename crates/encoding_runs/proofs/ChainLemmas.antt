@@ -1,4 +1,4 @@
--- A chain of a decoder's calls gives what one call gives: the first parts of what was pending and of the bytes.
+-- A chain of a decoder's calls yields what one call yields: the first parts of the pending bytes and the source.
 use Rattle.std.proofs.Common.{◌≡◌, ℕ, zero, suc, ◌+◌, ◌≤◌, ◌⊎◌, inl, inr, Bool, true, false, List, [], ◌∷◌, ◌++◌, length, take, drop, refl, sym, ap, ◌∙◌, arith, subst}
 use Rattle.std.specs.Prelude.{Any}
 use Rattle.std.specs.List.{flat_map}
@@ -14,8 +14,8 @@ use Rattle.encoding_definitions.proofs.Decomposition.DecompositionLemmas.{Starts
 use Rattle.encoding_runs.specs.Calls.{CallRelation, Call, IsChain, read_in_all, pending_after, some_last}
 use Rattle.encoding_runs.specs.DecoderCalls.{AreGivenInSequence, GiveTheParts}
 
--- ---- one call, among all the bytes that are unread
--- what is behind a piece follows it
+-- ---- one call, among all unread bytes
+-- a piece and the bytes after it are all bytes
 piece_bytes : (p b : List ℕ) (n : ℕ) → p ++ take n b ++ drop n b ≡ p ++ b
 piece_bytes p b n = append_assoc p (take n b) (drop n b) ∙ ap (λ xs. p ++ xs) (take-append-drop n b)
 
@@ -44,7 +44,7 @@ of_piece p b n last parts read q g whole = record {
   whatever_follows = first_whatever_follows p b n last parts read q g;
 }
 
--- what a call gives, and what the next one gives of the rest
+-- what a call yields, and what the next one yields of the rest
 pub gives_then : (p src : List ℕ) (last next both : Bool) (ps qs : List Part) (r s : ℕ) (q t : List ℕ) → (both ≡ false → (last ≡ false) × (next ≡ false)) → Gives p src last ps r q
     → Gives q (drop r src) next qs s t → Gives p src both (ps ++ qs) (r + s) t
 gives_then p src last next both ps qs r s q t none g h = record {
@@ -57,14 +57,14 @@ gives_then p src last next both ps qs r s q t none g h = record {
       (StartsWith-append (p ++ src ++ more) ps (q ++ drop r src ++ more) qs (t ++ drop s (drop r src) ++ more) (g.whatever_follows (none e).0 more) (h.whatever_follows (none e).1 more));
 }
 
--- the bytes of what is given, and those that are pending then, are those that were pending and those read
+-- the bytes of the parts, then the pending ones, are the bytes pending before and the bytes read
 pub given_bytes : (p src : List ℕ) (parts : List Part) (read : ℕ) (q : List ℕ) → StartsWith (p ++ src) parts (q ++ drop read src)
     → flat_map bytes_of parts ++ q ≡ p ++ take read src
 given_bytes p src parts read q s =
     sym (append_cancel_right (p ++ take read src) (flat_map bytes_of parts ++ q) (drop read src)
     (piece_bytes p src read ∙ StartsWith-bytes (p ++ src) parts (q ++ drop read src) s ∙ sym (append_assoc (flat_map bytes_of parts) q (drop read src))))
 
--- a decode call that is marked last and returns `InputEmpty` reads all and leaves nothing pending
+-- a decode call marked last that returns `InputEmpty` reads all and leaves nothing pending
 pub decoded_empty : {A : Type 0} (encode : ℕ → List A) (need : ℕ) (p src : List ℕ) (room : ℕ) (last : Bool) (result : DecoderResult) (read : ℕ) (out : List A) (q : List ℕ)
     → IsCall encode need p src room last result read out q → last ≡ true → result ≡ InputEmpty → (read ≡ length src) × (q ≡ [])
 decoded_empty encode need p src room last result read out q call marked e =
@@ -79,7 +79,7 @@ any_parts P x xs (suc k, y, l, e, h) = inr (k, y, omega (arith, l), e, h)
 pub none_of_nil : {X : Type 0} (P : X → Type 0) → Any P [] → ⊥
 none_of_nil P (k, y, l, e, h) = omega (arith, l)
 
--- ---- the chain, of calls that each give first parts
+-- ---- the chain, of calls that each yield first parts
 module _ {Form Result A : Type 0} (Does : CallRelation Form Result A) (AreGiven : Form → Result → List A → List Part → Type 0)
     (gives : (p src : List ℕ) (form : Form) (last : Bool) (result : Result) (read : ℕ) (out : List A) (q : List ℕ) → Does p src form last result read out q
     → (parts : List Part) × AreGiven form result out parts × Gives p src last parts read q) where
@@ -100,14 +100,14 @@ module _ {Form Result A : Type 0} (Does : CallRelation Form Result A) (AreGiven 
             (of_piece p b call.piece call.last first call.read call.pending g whole) rest.front;
       }
 
-  -- with nothing pending and nothing unread calls give nothing
+  -- with nothing pending and nothing unread, calls yield nothing
   nothing_left : (p b : List ℕ) (calls : List (Call Form Result A)) → p ≡ [] → length b ≡ 0 → IsChain Does p b calls → (read_in_all calls ≡ 0) × (pending_after p calls ≡ [])
   nothing_left p b calls e n c =
       let given = chain_given p b calls (inl e) c in
       let bytes = given_bytes p b given.parts (read_in_all calls) (pending_after p calls) given.front.first in
       (omega (arith, given.front.within), nil_from_length _ (omega (arith, ap length bytes, ap length e, length-append p (take (read_in_all calls) b), length-append (flat_map bytes_of given.parts) (pending_after p calls), length-take (read_in_all calls) b)))
 
-  -- ---- to the end of the bytes, by a call that is marked last and reads all, leaving nothing pending
+  -- ---- to the end of the bytes, by a call marked last that reads all and leaves nothing pending
   module _ (IsInputEmpty : Result → Type 0)
       (ends : (p src : List ℕ) (form : Form) (last : Bool) (result : Result) (read : ℕ) (out : List A) (q : List ℕ) → Does p src form last result read out q
       → last ≡ true → IsInputEmpty result → (read ≡ length src) × (q ≡ [])) where

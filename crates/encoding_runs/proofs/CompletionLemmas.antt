@@ -1,4 +1,4 @@
--- With turns enough that each get on, and room enough, a run comes to the end of its source.
+-- With enough turns that each make progress, and enough space, a run reaches the end of its source.
 use Rattle.std.proofs.Common.{◌≡◌, ℕ, ◌+◌, ◌-◌, ◌*◌, ◌<◌, ◌≤◌, ◌⊎◌, inl, inr, Bool, true, ◌&&◌, List, [], ◌∷◌, length, map, take, drop, encode_utf8, encode_utf8_all, Option, Some, refl, sym, ap, arith, subst}
 use lib.Utf8.{scalar}
 use Rattle.std.specs.Char.{IsScalar}
@@ -17,7 +17,7 @@ use Rattle.encoding_runs.specs.Calls.{Call, IsChain}
 use Rattle.encoding_runs.specs.Runs.{AreOfTurns, EachGetsOn}
 use Rattle.encoding_runs.proofs.TurnLemmas.{turn_call}
 
--- a turn gets on
+-- a turn makes progress
 abbrev pub GoesOn : ℕ → Turn → Type 0
 GoesOn need turn = (1 ≤ turn.take) × (need ≤ turn.room) × (turn.last ≡ true)
 
@@ -32,7 +32,7 @@ module _ {A : Type 0} (encode : ℕ → List A) (need : ℕ) (some : 0 < need) (
       omega (arith, short_output cs both.1, short c both.0, length-append (encode c) (flat_map encode cs), length-append (encode_utf8 c) (encode_utf8_all cs))
 
   -- ---- one call
-  -- it reads a byte, or reports what was pending, or all was read before and it comes to the end
+  -- it reads a byte, or reports pending bytes, or all was read before and it reaches the end
   abbrev GetsOn : List ℕ → List ℕ → DecoderResult → ℕ → List ℕ → Type 0
   GetsOn p unread result read q = (0 < read) ⊎ (((q ≡ []) × (0 < length p)) ⊎ ((result ≡ InputEmpty) × (q ≡ []) × (length unread ≡ 0)))
 
@@ -53,7 +53,7 @@ module _ {A : Type 0} (encode : ℕ → List A) (need : ℕ) (some : 0 < need) (
     | inr h ↦ let c = counts short_output (Malformed k second) call in inr (inl (call.answer.5, omega (arith, (c.reported (k, second, refl)).0)))
   ]
 
-  -- what is left of the room suffices for what is left of the bytes
+  -- the space left is enough for the bytes left
   room_after : (p unread : List ℕ) (room : ℕ) (turn : Turn) (last : Bool) (result : DecoderResult) (read : ℕ) (out : List A) (q : List ℕ)
       → length unread + (need - 1) + length p ≤ room → IsCall encode need p (take turn.take unread) (room_of turn room) last result read out q
       → (read ≤ length unread) × (length (drop read unread) + (need - 1) + length q ≤ room - length out)
@@ -63,7 +63,7 @@ module _ {A : Type 0} (encode : ℕ → List A) (need : ℕ) (some : 0 < need) (
       (inside, omega (arith, l, inside, c.split, length-drop read unread))
 
   -- ---- all calls
-  -- turns enough are left, where one more is counted for pending bytes; or the end is reached
+  -- enough turns are left, with one more counted for pending bytes; or the end is reached
   abbrev Reaches : List ℕ → ℕ → ℕ → Option DecoderResult → Type 0
   Reaches p unread turns before = ((w : ℕ) × (0 < length p → 1 ≤ w) × (2 * unread + w + 1 ≤ turns)) ⊎ ((unread ≡ 0) × (length p ≡ 0) × (before ≡ Some InputEmpty))
 

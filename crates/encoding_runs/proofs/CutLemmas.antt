@@ -1,4 +1,4 @@
--- Bytes cut where the settled parts of the first piece leave no rest.
+-- Bytes cut where the final parts of the first piece leave no rest.
 use Rattle.std.proofs.Common.{◌≡◌, ℕ, ◌+◌, ◌<◌, ◌≤◌, inl, inr, List, [], ◌∷◌, ◌++◌, length, sym, ap, ◌∙◌, arith, subst}
 use Rattle.std.proofs.lemmas.List.{length-append}
 use Rattle.std.specs.List.{flat_map}
@@ -11,7 +11,7 @@ use Rattle.encoding_definitions.proofs.Sequences.SequenceLemmas.{HasOpenShape, H
 use Rattle.encoding_definitions.proofs.Decomposition.PartsLemmas.{fronts_nest}
 use Rattle.encoding_definitions.proofs.Decomposition.DecompositionLemmas.{StartsWith-append, StartsWith-bytes, same_parts, settled_stay, settled_front, repaired_text-append, count_broken-append}
 
--- the settled text begins the repaired text of all bytes that begin so
+-- the text of the final parts is a prefix of the repaired text of any continuation
 pub settled_text : (bs rest more : List ℕ) (parts all : List Part) → AreSettled bs parts rest → ArePartsOf (bs ++ more) all
     → (text : List ℕ) × (repaired_text all ≡ repaired_text parts ++ text)
 settled_text bs rest more parts all s h =
@@ -31,7 +31,7 @@ pub cut_counts : (bs more : List ℕ) (parts others all : List Part) → AreSett
     → count_broken all ≡ count_broken parts + count_broken others
 cut_counts bs more parts others all s h a = ap count_broken (cut_parts bs more parts others all s h a) ∙ count_broken-append parts others
 
--- ---- behind an ASCII byte
+-- ---- after an ASCII byte
 open_above : (front : List ℕ) (b : ℕ) → HasOpenShape (front ++ b ∷ []) → 128 ≤ b
 open_above [] b h = omega (arith, h.0)
 open_above (a ∷ []) b h = let s = second_more a b h.0 h.1 h.2 in omega (arith, above a b s.2)
@@ -42,7 +42,7 @@ open_above (a ∷ c ∷ []) b h = h.3.0
 open_above (a ∷ c ∷ d ∷ []) b h = absurd h
 open_above (a ∷ c ∷ d ∷ e ∷ more) b h = absurd h
 
--- no beginning ends with it
+-- no incomplete sequence ends with it
 no_beginning : (bs xs rest : List ℕ) (b : ℕ) → b < 128 → bs ++ b ∷ [] ≡ xs ++ rest → IsBeginning rest → ⊥
 no_beginning bs xs rest b low e o = elim (fronts_nest bs (b ∷ []) xs rest e) [
   | inl (t, f, g) ↦ last t g

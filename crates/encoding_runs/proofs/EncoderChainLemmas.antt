@@ -1,4 +1,4 @@
--- A chain of encoder calls writes the first parts of what was held and its source.
+-- A chain of encoder calls writes the first parts of the pending surrogate and its source.
 use Rattle.std.proofs.Common.{◌≡◌, ℕ, ◌≤◌, ◌⊎◌, inl, inr, Bool, true, false, List, [], ◌∷◌, ◌++◌, length, take, drop, refl, sym, ap, ◌∙◌, arith, subst}
 use Rattle.std.specs.Prelude.{Any}
 use Rattle.std.specs.List.{flat_map}
@@ -18,7 +18,7 @@ use Rattle.encoding_runs.specs.EncoderCalls.{EncodesFirstParts}
 use Rattle.encoding_runs.proofs.ChainLemmas.{any_parts, none_of_nil}
 
 -- ---- one call on the first unread units
--- the units behind its piece are units that follow it
+-- the units after its piece are a continuation of it
 call_first : (held unread more : List ℕ) (call : Call ℕ EncoderResult ℕ) (c : IsEncoderCall held (take call.piece unread) call.form call.last call.result call.read call.out call.pending)
     → (call.last ≡ true → length unread ≤ call.piece) → AreUnits unread → AreUnits more → (call.last ≡ true → more ≡ [])
     → StartsWith16 (held ++ (unread ++ more)) (parts_written _ _ _ _ _ _ _ _ c) (call.pending ++ (drop call.read unread ++ more))
@@ -45,7 +45,7 @@ no_more : (last : Bool) (more : List ℕ) → (more ≡ []) ⊎ (last ≡ false)
 no_more last more (inl e) t = e
 no_more last more (inr f) t = let clash : true ≡ false = sym t ∙ f in absurd (cc (clash))
 
--- they are the first parts, also where units follow, if no call is marked last
+-- they are the first parts, and if no call is marked last, for any continuation
 chain_first : (calls : List (Call ℕ EncoderResult ℕ)) (held unread more : List ℕ) (chain : IsChain IsEncoderCall held unread calls) → IsHeld held → AreUnits unread → AreUnits more → (more ≡ []) ⊎ (some_last calls ≡ false)
     → StartsWith16 (held ++ (unread ++ more)) (chain_parts calls held unread chain) (pending_after held calls ++ (drop (read_in_all calls) unread ++ more))
 unfolding chain_parts
@@ -79,7 +79,7 @@ chain_held (call ∷ calls) held unread (c, reaches, chain) h = chain_held calls
 abbrev pub Ends : Call ℕ EncoderResult ℕ → Type 0
 Ends call = (call.last ≡ true) × (call.result ≡ InputEmpty)
 
--- nothing is left behind a call that is marked last and returns `InputEmpty`
+-- nothing is left after a call that is marked last and returns `InputEmpty`
 chain_ends : (calls : List (Call ℕ EncoderResult ℕ)) (held unread : List ℕ) → IsChain IsEncoderCall held unread calls → Any Ends calls → AreUnits unread → pending_after held calls ++ drop (read_in_all calls) unread ≡ []
 chain_ends [] held unread chain s a = absurd (none_of_nil Ends s)
 chain_ends (call ∷ calls) held unread (c, reaches, chain) s a =

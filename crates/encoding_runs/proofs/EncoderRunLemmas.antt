@@ -1,4 +1,4 @@
--- A run of an encoder: what it writes, and turns enough for all of the source.
+-- A run of an encoder: what it writes, and enough turns for all of the source.
 use Rattle.std.proofs.Common.{◌≡◌, ℕ, ◌+◌, ◌-◌, ◌*◌, ◌<◌, ◌≤◌, ◌⊎◌, inl, inr, suc, Bool, true, List, [], ◌∷◌, ◌++◌, length, map, take, drop, Option, Some, None, refl, sym, ap, ◌∙◌, arith, subst}
 use Rattle.std.specs.Prelude.{min, Any}
 use Rattle.std.specs.List.{AllByRecursion, last_or}
@@ -44,8 +44,8 @@ module _ (held unread left sub : List ℕ) (turn : Turn) (piece room : ℕ) (las
   pub turn_rest : WritesFront left (sub ++ drop room left) written (take written (sub ++ drop room left))
   turn_rest = written_front _ _ _ _ (WritesFront_within left sub room written (take written sub) w)
 
--- ---- turns enough
--- nothing is unread and the last call returned `InputEmpty`, or as many turns are to come as the units need
+-- ---- enough turns
+-- nothing is unread and the last call returned `InputEmpty`, or as many turns are left as the units need
 abbrev ComesToEnd : List ℕ → List ℕ → ℕ → Option EncoderResult → Type 0
 ComesToEnd held unread turns before = ((length unread ≡ 0) × (before ≡ Some InputEmpty)) ⊎ (2 * length unread + length held < turns)
 
@@ -53,7 +53,7 @@ module _ (held unread : List ℕ) (left : ℕ) (turn : Turn) (call : Call ℕ En
     (c : IsEncoderCall held (take call.piece unread) call.form call.last call.result call.read call.out call.pending) (piece : call.piece ≡ turn.take) (room : call.form ≡ room_of turn left)
     (last : call.last ≡ is_marked_last turn (length unread)) (take_one : 1 ≤ turn.take) (has_room : 4 ≤ turn.room) (to_be_last : turn.last ≡ true)
     (enough : 3 * (length unread + length held) ≤ left) where
-  -- the room that is left is enough for what is left
+  -- the space left is enough for what is left
   still_enough : 3 * (length (drop call.read unread) + length call.pending) ≤ left - length call.out
   still_enough = omega (arith, room_left _ _ _ _ _ _ _ _ c, length-drop call.read unread, read_within _ _ _ _ _ _ _ _ c, length-take call.piece unread)
 
@@ -62,7 +62,7 @@ module _ (held unread : List ℕ) (left : ℕ) (turn : Turn) (call : Call ℕ En
       let on = gets_on _ _ _ _ _ _ _ _ c (omega (arith, length-take call.piece unread, piece)) (λ small. omega (arith, small, room, length-take call.piece unread, at_most_one_held held c.held_before)) in
       omega (arith, on, length-drop call.read unread, read_within _ _ _ _ _ _ _ _ c, length-take call.piece unread)
 
-  -- with nothing unread it is marked last and comes to the end
+  -- with nothing unread it is marked last and reaches the end
   ends : length unread ≡ 0 → Ends call
   ends none = (
     last ∙ marked turn (length unread) to_be_last (omega arith),
@@ -107,7 +107,7 @@ turns_end (turn ∷ turns) (call ∷ calls) held unread left (c, reaches, chain)
   | inr none ↦ (0, call, omega arith, refl, ends held unread left turn call c p r l one has_room to_be_last enough (omega arith))
 ]
 
--- ---- turns enough for a source
+-- ---- enough turns for a source
 module _ (held src : List ℕ) (turns : List Turn) (room : ℕ) (calls : List (Call ℕ EncoderResult ℕ)) (h : IsHeld held) where
   pub chain_completes : IsChain IsEncoderCall held src calls → AreOfTurns (length src) room turns calls
       → Completes InputEmpty (λ n held. 3 * (n + held)) 4 held src turns room (last_or None (map (λ call. call.result) calls))

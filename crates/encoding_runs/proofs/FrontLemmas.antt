@@ -1,11 +1,11 @@
--- What an engine that wrote all that was due holds.
+-- What the output has once the engine wrote all of the text due.
 use Rattle.std.proofs.Common.{◌≡◌, ℕ, List, [], length, refl, sym, ap, ◌∙◌, arith, subst}
 use Rattle.std.proofs.lemmas.List.{append-nil, take_all}
 use Rattle.encoding_definitions.specs.Parts.{Part, StartsWith, ArePartsOf, repaired_text}
 use Rattle.encoding_definitions.proofs.Decomposition.DecompositionLemmas.{has_settled, parts_split, repaired_text-append}
 use Rattle.encoding_runs.specs.Repairs.{IsRepaired, IsSettledText, IsFront, HoldsRounds}
 
--- the settled text of all of the bytes
+-- the text of the final parts of all bytes
 holds_all : (bs out text : List ℕ) → IsSettledText bs text → IsFront text out → (rounds : HoldsRounds bs out) × (rounds.before ≡ length bs)
 holds_all bs out text s front = (
   record {
@@ -19,7 +19,7 @@ holds_all bs out text s front = (
   refl,
 )
 
--- the settled text begins it
+-- the text of the final parts is a prefix of the repaired text
 begins_with_settled : (bs : List ℕ) (ps : List Part) (rest : List ℕ) (all : List Part) → StartsWith bs ps rest → ArePartsOf bs all → IsFront (repaired_text ps) (repaired_text all)
 begins_with_settled bs ps rest all s are =
     let (others, same, more) = parts_split bs ps rest all s are in

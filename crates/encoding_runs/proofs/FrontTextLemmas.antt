@@ -1,4 +1,4 @@
--- The front of a source, repaired into an array step by step, and written then.
+-- A prefix of a source, repaired into an array step by step, and then written.
 use Rattle.std.proofs.Common.{◌≡◌, ℕ, ◌+◌, ◌<◌, ◌≤◌, Bool, false, inl, List, [], ◌∷◌, ◌++◌, length, take, drop, slice_index, Option, add-zero, refl, sym, ap, ◌∙◌, arith, subst}
 use Rattle.std.specs.Io.KnownBytes.{Appends}
 use Rattle.std.proofs.lemmas.List.{append_assoc, drop-drop, drop-append-le, length-append, length-drop, length-take, take-append-drop, take-append-le, take-take, take_all}
@@ -20,7 +20,7 @@ use Rattle.encoding_runs.specs.Steps.Fronts.{RepairsFirst}
 use Rattle.encoding_runs.proofs.SettledLemmas.{AreFirst-trans}
 use Rattle.encoding_runs.proofs.RepairLemmas.{text_parts, GivesPiece, piece_gives, nothing_pending, wrote_then, wrote_piece, stopped_in, stopped_then}
 
--- more of it, behind what the array holds
+-- more of it, after what the array holds
 pub first_behind : (src array tail : List ℕ) (k read written n more_read more_written m : ℕ) → RepairsFirst src array read written n
     → RepairsFirst (drop read src) tail more_read more_written m → RepairsFirst src (put_mid written k array tail) (read + more_read) (written + more_written) (n + m)
 first_behind src array tail k read written n more_read more_written m r s = record {
@@ -44,13 +44,13 @@ first_behind src array tail k read written n more_read more_written m r s = reco
     size : length front ≡ written
     size = omega (arith, length-take written array, r.fits)
 
--- characters alone behind it
+-- only characters after it
 pub text_behind : (src array tail : List ℕ) (k read written n more more_written : ℕ) → RepairsFirst src array read written n → RepairsFirst (drop read src) tail more more_written 0
     → RepairsFirst src (put_mid written k array tail) (read + more) (written + more_written) n
 text_behind src array tail k read written n more more_written r s = rw (add-zero n) at (first_behind src array tail k read written n more more_written 0 r s)
 
 -- ---- one step
--- the ASCII bytes before a place, of those that were copied
+-- the ASCII bytes before an index, of those that were copied
 pub ascii_copied : (src array rest : List ℕ) (n m : ℕ) → n ≤ m → m ≤ length src → BelowUpTo 0x80 src n → array ≡ take m src ++ rest → RepairsFirst src array n n 0
 ascii_copied src array rest n m short within below placed =
     let t = text_parts src n (IsUtf8-from_ascii (take n src) (Each-take (λ b. b < 0x80) (omega arith) src n below)) in
@@ -105,7 +105,7 @@ piece_first src array rest most piece read q short call none placed = record {
     first : AreFirst false src g.parts (drop read src)
     first = rw (behind, whole) at (window_first (take most src) (drop most src) g.parts (q ++ drop read (take most src)) g.first)
 
--- a byte that is a broken part
+-- a byte that is a malformed sequence
 pub lone_first : (src array rest : List ℕ) → 0 < length src → IsBroken (take 1 src) (drop 1 src) false → array ≡ 0xEF ∷ 0xBF ∷ 0xBD ∷ rest → RepairsFirst src array 1 3 1
 lone_first src array rest some broken placed =
     let call : IsBorrowedCall [] src false (Malformed 1) 1 [] =
@@ -113,7 +113,7 @@ lone_first src array rest some broken placed =
     let all = subst (λ xs. IsBorrowedCall [] xs false (Malformed 1) 1 []) (sym (take_all (length src) src (omega arith))) call in
     piece_first src array rest (length src) (Malformed 1) 1 [] (omega arith) all refl placed
 
--- these bytes are written for a piece, and n broken parts replaced
+-- these bytes are written for a piece, and n malformed sequences replaced
 abbrev pub IsWrittenFor : Piece → List ℕ → ℕ → Type 0
 IsWrittenFor (Text t) bytes n = (bytes ≡ t.now) × (n ≡ 0)
 IsWrittenFor (Char c) bytes n = ⊥
@@ -132,25 +132,25 @@ piece_written src array rest bytes most (Malformed k) read q n short call (same,
 piece_written src array rest bytes most InputEmpty read q n short call never placed = absurd never
 
 -- ---- written
--- such first parts of the last bytes too
+-- first parts for any continuation are first parts of the last bytes too
 any_first : (last : Bool) (bs : List ℕ) (parts : List Part) (rest : List ℕ) → AreFirst false bs parts rest → AreFirst last bs parts rest
 any_first last bs parts rest f = record { starts = f.starts; whatever_follows = λ e. f.whatever_follows refl }
 
--- all of the front is
+-- all of the prefix is written
 pub wrote_front : (last : Bool) (bs rest array : List ℕ) (old new now : Option (List ℕ)) (n read written m : ℕ) → WritesParts last bs rest old new n → RepairsFirst rest array read written m
     → Appends new now (take written array) → WritesParts last bs (drop read rest) old now (n + m)
 wrote_front last bs rest array old new now n read written m w r a =
     wrote_then last bs rest (drop read rest) old new now n m w
     (record { parts = r.parts; first = any_first last rest r.parts (drop read rest) r.first; bytes = subst (Appends new now) r.text a; broken = r.broken })
 
--- some of it is
+-- some of it is written
 pub stopped_front : (last : Bool) (bs rest array : List ℕ) (old new now : Option (List ℕ)) (n read written m k : ℕ) → WritesParts last bs rest old new n → RepairsFirst rest array read written m
     → k < length (take written array) → Appends new now (take k (take written array)) → StopsInParts last bs old now
 stopped_front last bs rest array old new now n read written m k w r short a =
     stopped_then last bs rest old new now n w (stopped_in last rest r.parts (drop read rest) (take written array) new now k (any_first last rest r.parts (drop read rest) r.first) r.text short a)
 
--- ---- a piece, and the front behind it
--- nothing is pending behind a piece
+-- ---- a piece, and the prefix after it
+-- nothing is pending after a piece
 wrote_alone : (last : Bool) (bs p rest x : List ℕ) (old new mid : Option (List ℕ)) (n : ℕ) (piece : Piece) (read : ℕ) (q : List ℕ) → WritesParts last bs (p ++ rest) old new n
     → IsBorrowedCall p rest last piece read q → (piece ≡ InputEmpty → ⊥) → Appends new mid (text_of piece) → x ≡ drop read rest → WritesParts last bs x old mid (n + broken_of piece)
 wrote_alone last bs p rest x old new mid n piece read q w call some a is =

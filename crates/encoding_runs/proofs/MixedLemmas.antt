@@ -1,4 +1,4 @@
--- Calls of any form in a row give first parts, and calls that are asked the same answer the same.
+-- Successive calls of any form yield first parts, and calls with the same arguments return the same.
 use Rattle.std.proofs.Common.{◌≡◌, ℕ, ◌+◌, Bool, true, List, [], ◌∷◌, ◌++◌, length, take, drop, encode_utf8, sym, ap, ◌∙◌, subst, arith}
 use Rattle.std.specs.Char.Escape.{encode_utf16}
 use Rattle.std.specs.List.{AllZip, flat_map}
@@ -17,7 +17,7 @@ use Rattle.encoding_runs.specs.DecoderCalls.{GivesFirstParts, GiveTheParts}
 use Rattle.encoding_runs.specs.MixedCalls.{Form, ToUtf16, ToUtf8, Borrowed, Answer, Decoded, Handed, IsMixedCall, AreGiven, IsInputEmpty, AnswersAgree, AreAskedTheSame, AnswerTheSame}
 use Rattle.encoding_runs.proofs.ChainLemmas.{decoded_empty, given_bytes, chain_gives}
 
--- ---- what calls give
+-- ---- what calls yield
 mixed_gives : (p src : List ℕ) (form : Form) (last : Bool) (answer : Answer) (read : ℕ) (out q : List ℕ) → IsMixedCall p src form last answer read out q
     → (parts : List Part) × AreGiven form answer out parts × Gives p src last parts read q
 mixed_gives p src (ToUtf16 room) last (Decoded r) read out q call = decoded_gives encode_utf16 2 p src room last r read out q call
@@ -27,7 +27,7 @@ mixed_gives p src (ToUtf16 room) last (Handed returned) read out q call = absurd
 mixed_gives p src (ToUtf8 room) last (Handed returned) read out q call = absurd call
 mixed_gives p src Borrowed last (Decoded r) read out q call = absurd call
 
--- marked last, with `InputEmpty`, a call reads all and leaves nothing pending
+-- a call marked last that returns `InputEmpty` reads all and leaves nothing pending
 mixed_empty : (p src : List ℕ) (form : Form) (last : Bool) (answer : Answer) (read : ℕ) (out q : List ℕ) → IsMixedCall p src form last answer read out q
     → last ≡ true → IsInputEmpty answer → (read ≡ length src) × (q ≡ [])
 mixed_empty p src (ToUtf16 room) last (Decoded r) read out q call marked e = decoded_empty encode_utf16 2 p src room last r read out q call marked e
@@ -54,7 +54,7 @@ one_call_gives p src form last answer read out q call =
           subst (StartsWith (p ++ src) parts) rest front.first;
     }
 
--- a call that gives all of the parts reads all and leaves nothing pending
+-- a call that yields all parts reads all and leaves nothing pending
 all_read : (p src : List ℕ) (form : Form) (last : Bool) (answer : Answer) (read : ℕ) (out q : List ℕ) → GivesFirstParts AreGiven IsInputEmpty p src form last answer read out q
     → last ≡ true → IsInputEmpty answer → (read ≡ length src) × (q ≡ [])
 all_read p src form last answer read out q g marked e =
@@ -65,7 +65,7 @@ all_read p src form last answer read out q g marked e =
     omega (arith, all, first, length-append bytes [], length-append bytes (q ++ drop read src), length-append q (drop read src)) in
     (omega (arith, sizes, length-drop read src, g.front.within), nil_from_length q (omega (arith, sizes)))
 
--- what calls in a row give follows from what each gives
+-- what successive calls yield follows from what each yields
 pub mixed_parts : (p b : List ℕ) (calls : List (Call Form Answer ℕ)) → IsPending p → IsChain IsMixedCall p b calls → GiveTheParts AreGiven IsInputEmpty p b calls
 mixed_parts =
     chain_gives IsMixedCall AreGiven
@@ -73,7 +73,7 @@ mixed_parts =
     IsInputEmpty
     (λ p src form last answer read out q call. all_read p src form last answer read out q (one_call_gives p src form last answer read out q call))
 
--- ---- the same answers
+-- ---- the same results
 abbrev Agree : Answer → ℕ → List ℕ → List ℕ → Answer → ℕ → List ℕ → List ℕ → Type 0
 Agree answer read out q answer' read' out' q' = AnswersAgree answer answer' × (read ≡ read') × (out ≡ out') × (q ≡ q')
 

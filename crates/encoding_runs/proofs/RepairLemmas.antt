@@ -1,4 +1,4 @@
--- What stands written when the text of so many first parts is, and when a write fails in the middle of one.
+-- What is written after the text of first parts, and if a write fails in the middle of one.
 use Rattle.std.proofs.Common.{◌≡◌, ℕ, ◌+◌, ◌<◌, ◌≤◌, Bool, true, false, List, [], ◌∷◌, ◌++◌, length, map, take, drop, Option, inl, inr, encode_utf8, encode_utf8_all, refl, sym, ap, ◌∙◌, arith, subst}
 use Rattle.std.specs.Io.KnownBytes.{Appends}
 use Rattle.std.proofs.KnownBytes.{Appends-trans}
@@ -19,7 +19,7 @@ use Rattle.encoding_runs.specs.Repairs.{IsProperFront, WritesRepaired, Stops}
 use Rattle.encoding_runs.specs.Steps.Writing.{text_of, broken_of, AreFirst, WritesParts, StopsInParts}
 use Rattle.encoding_runs.proofs.SettledLemmas.{AreFirst-trans, AreFirst-more}
 
--- what a call that hands out parts of its source gives
+-- what a borrowed call yields
 pub record GivesPiece (p src : List ℕ) (last : Bool) (piece : Piece) (read : ℕ) (q : List ℕ) : Type 0 where
   pub parts : List Part
   pub first : AreFirst last (p ++ src) parts (q ++ drop read src)
@@ -43,7 +43,7 @@ piece_gives p src last piece read q call =
     record { parts = parts; first = record { starts = g.first; whatever_follows = g.whatever_follows }; text = t.0; broken = t.1 }
 
 -- ---- what is written
--- more parts are written behind them
+-- more parts are written after them
 pub wrote_then : (last : Bool) (bs mid rest : List ℕ) (old new now : Option (List ℕ)) (n m : ℕ) → WritesParts last bs mid old new n → WritesParts last mid rest new now m → WritesParts last bs rest old now (n + m)
 wrote_then last bs mid rest old new now n m w v = record {
   parts = w.parts ++ v.parts;
@@ -52,12 +52,12 @@ wrote_then last bs mid rest old new now n m w v = record {
   broken = omega (arith, w.broken, v.broken, count_broken-append w.parts v.parts);
 }
 
--- a front of the text of more parts
+-- a proper prefix of the text of more parts
 pub front_behind : (ps qs : List Part) (out : List ℕ) → IsProperFront out (repaired_text qs) → IsProperFront (repaired_text ps ++ out) (repaired_text (ps ++ qs))
 front_behind ps qs out (left, some, whole) =
     (left, some, repaired_text-append ps qs ∙ ap (λ xs. repaired_text ps ++ xs) whole ∙ sym (append_assoc (repaired_text ps) out left))
 
--- less than the text of more parts is written, and of all of them
+-- a proper prefix of the text of first parts is written
 pub stopped_in : (last : Bool) (bs : List ℕ) (parts : List Part) (rest text : List ℕ) (old new : Option (List ℕ)) (k : ℕ) → AreFirst last bs parts rest → text ≡ repaired_text parts → k < length text → Appends old new (take k text)
     → StopsInParts last bs old new
 stopped_in last bs parts rest text old new k f e short a = record {
@@ -79,21 +79,21 @@ stopped_then last bs mid old new now n w s = record {
   bytes = Appends-trans _ _ _ _ _ w.bytes s.bytes;
 }
 
--- one more piece is
+-- one more piece is written
 pub wrote_piece : (last : Bool) (bs p src : List ℕ) (old new now : Option (List ℕ)) (n : ℕ) (piece : Piece) (read : ℕ) (q : List ℕ) → WritesParts last bs (p ++ src) old new n
     → IsBorrowedCall p src last piece read q → Appends new now (text_of piece) → WritesParts last bs (q ++ drop read src) old now (n + broken_of piece)
 wrote_piece last bs p src old new now n piece read q w call a =
     let g = piece_gives p src last piece read q call in
     wrote_then last bs (p ++ src) (q ++ drop read src) old new now n (broken_of piece) w (record { parts = g.parts; first = g.first; bytes = subst (Appends new now) (sym g.text) a; broken = sym g.broken })
 
--- behind a piece nothing is pending
+-- nothing is pending after a piece
 pub nothing_pending : (p src : List ℕ) (last : Bool) (piece : Piece) (read : ℕ) (q : List ℕ) → IsBorrowedCall p src last piece read q → (piece ≡ InputEmpty → ⊥) → q ≡ []
 nothing_pending p src last (Text t) read q call n = call.answer.1
 nothing_pending p src last (Char c) read q call n = call.answer.1
 nothing_pending p src last (Malformed k) read q call n = call.answer.2
 nothing_pending p src last InputEmpty read q call n = absurd (n refl)
 
--- one more piece is, and no byte follows it
+-- one more piece is written, and no byte follows it
 pub wrote_last : (last : Bool) (bs p src : List ℕ) (old new now : Option (List ℕ)) (n : ℕ) (piece : Piece) (read : ℕ) (q : List ℕ) → WritesParts last bs (p ++ src) old new n
     → IsBorrowedCall p src last piece read q → (piece ≡ InputEmpty → ⊥) → Appends new now (text_of piece) → length src ≤ read
     → WritesParts last bs q old now (n + broken_of piece) × (q ≡ [])
@@ -103,14 +103,14 @@ wrote_last last bs p src old new now n piece read q w call some a all =
       nothing_pending p src last piece read q call some,
     )
 
--- some of its text is, and not all of it
+-- a proper prefix of its text is written
 pub stopped_piece : (last : Bool) (bs p src : List ℕ) (old new now : Option (List ℕ)) (n : ℕ) (piece : Piece) (read : ℕ) (q : List ℕ) (k : ℕ) → WritesParts last bs (p ++ src) old new n
     → IsBorrowedCall p src last piece read q → k < length (text_of piece) → Appends new now (take k (text_of piece)) → StopsInParts last bs old now
 stopped_piece last bs p src old new now n piece read q k w call short a =
     let g = piece_gives p src last piece read q call in
     stopped_then last bs (p ++ src) old new now n w (stopped_in last (p ++ src) g.parts (q ++ drop read src) (text_of piece) new now k g.first (sym g.text) short a)
 
--- the count stays below the number of bytes
+-- the count is at most the number of bytes
 pub wrote_count : (last : Bool) (bs rest : List ℕ) (old new : Option (List ℕ)) (n : ℕ) → WritesParts last bs rest old new n → n + length rest ≤ length bs
 wrote_count last bs rest old new n w = omega (arith, w.broken, count_broken-bytes bs w.parts rest w.first.starts)
 
@@ -118,7 +118,7 @@ wrote_count last bs rest old new n w = omega (arith, w.broken, count_broken-byte
 pub wrote_all : (last : Bool) (bs : List ℕ) (old new : Option (List ℕ)) (n : ℕ) → WritesParts last bs [] old new n → WritesRepaired bs old new n
 wrote_all last bs old new n w = (repaired_text w.parts, (w.parts, w.first.starts, refl, w.broken), w.bytes)
 
--- a front of a text is one of what begins with the text
+-- a proper prefix of a text is one of any longer text
 pub longer_front : (out text more : List ℕ) → IsProperFront out text → IsProperFront out (text ++ more)
 longer_front out text more (left, some, whole) =
     (left ++ more, (λ none. some (no_items left more none)), ap (λ xs. xs ++ more) whole ∙ append_assoc out left more)
@@ -138,7 +138,7 @@ stopped_all last bs old new s =
       s.bytes,
     )
 
--- ---- a well-formed front, and then the rest
+-- ---- a well-formed prefix, and then the rest
 pub record TextParts (bs : List ℕ) (n : ℕ) : Type 0 where
   pub parts : List Part
   pub first : (last : Bool) → AreFirst last bs parts (drop n bs)
@@ -178,7 +178,7 @@ wrote_rest bs rest old new now n w v = wrote_all true bs old now n (subst (Write
 pub stopped_rest : (bs rest : List ℕ) (old new now : Option (List ℕ)) → WritesParts true bs rest old new 0 → StopsInParts true rest new now → Stops bs old now
 stopped_rest bs rest old new now w s = stopped_all true bs old now (stopped_then true bs rest old new now 0 w s)
 
--- ---- more bytes behind those that stay
+-- ---- more bytes after parts that no continuation changes
 pub wrote_behind : (last : Bool) (bs mid more rest : List ℕ) (old new now : Option (List ℕ)) (n m : ℕ) → WritesParts false bs mid old new n
     → WritesParts last (mid ++ more) rest new now m → WritesParts last (bs ++ more) rest old now (n + m)
 wrote_behind last bs mid more rest old new now n m w v = record {

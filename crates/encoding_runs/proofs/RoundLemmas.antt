@@ -1,4 +1,4 @@
--- The rounds of the engine, one behind the other, up to the end or a fault.
+-- The rounds of the engine, one after the other, up to the end or a failure.
 use Rattle.std.proofs.Common.{◌≡◌, ℕ, ◌+◌, ◌<◌, ◌≤◌, Bool, true, false, List, [], ◌++◌, length, Option, refl, sym, ap, ◌∙◌, arith, subst}
 use Rattle.std.specs.Io.KnownBytes.{Keeps, IsAtEnd}
 use Rattle.std.proofs.KnownBytes.{Appends-trans, Consumes-trans, Consumes-kept}
@@ -12,7 +12,7 @@ use Rattle.encoding_runs.specs.Steps.Rounds.{ReadsRound, Reaches}
 use Rattle.encoding_runs.proofs.SettledLemmas.{settled_first, settled_behind, AreFirst-more}
 use Rattle.encoding_runs.proofs.RepairLemmas.{wrote_all, wrote_behind, front_behind, longer_front}
 
--- ---- before a read, or where it fails
+-- ---- before a read, or if it fails
 is_settled : (bs p : List ℕ) (old new : Option (List ℕ)) (n : ℕ) → (w : WritesParts false bs p old new n) → IsPending p → IsSettledText bs (repaired_text w.parts)
 is_settled bs p old new n w still = (w.parts, p, settled_first bs w.parts p w.first still, refl)
 
@@ -21,8 +21,8 @@ pub stopped_reading : (unread mid left old new : Option (List ℕ)) (read n : �
 stopped_reading unread mid left old new read n p r k =
     (r.input, sym r.count, (Consumes-kept _ _ _ _ r.consumed k, (repaired_text r.wrote.parts, is_settled _ _ _ _ _ r.wrote r.still_open, r.wrote.bytes)))
 
--- ---- where a write fails
--- what was to be written of the bytes, as first parts of them and more
+-- ---- if a write fails
+-- the text due for the bytes is that of these first parts and more
 due : (last : Bool) (bs : List ℕ) (ps : List Part) (rest : List ℕ) → AreFirst last bs ps rest → (qs : List Part) × IsDue bs last (repaired_text (ps ++ qs))
 due true bs ps rest f =
     let others = has_parts rest in
@@ -83,7 +83,7 @@ stopped_writing unread mid left old new now read n p room bytes last before afte
     at_end true e t = omega (arith, length-append r.input bytes, ap length (b.at_end e).0)
     at_end false e t = absurd (let no : false ≡ true = sym going ∙ sym (b.going_on e).1 ∙ t in cc)
 
--- ---- a round that gave bytes, and one that gave none
+-- ---- a round that read bytes, and one that read none
 pub reaches_next : (unread mid left old new now : Option (List ℕ)) (read n : ℕ) (p : List ℕ) (room : ℕ) (bytes : List ℕ) (last before after : Bool) (m : ℕ) (q : List ℕ)
     → Reaches unread mid old new read n p → ReadsRound room bytes last mid left before after → WritesParts last (p ++ bytes) q new now m → IsPending q → 0 < length bytes
     → Reaches unread left old now (read + length bytes) (n + m) q × (after ≡ before)

@@ -1,4 +1,4 @@
--- What the calls of a run give, one after another: the first parts of the bytes, written and reported.
+-- What the calls of a run yield in sequence: the first parts of the bytes, written and reported.
 use Rattle.std.proofs.Common.{◌≡◌, ℕ, ◌+◌, List, [], ◌∷◌, ◌++◌, length, map, refl, sym, ap, ◌∙◌, arith, subst}
 use Rattle.std.specs.List.{flat_map}
 use Rattle.std.proofs.lemmas.Grind.{flat_map-append}
@@ -56,7 +56,7 @@ module _ {A : Type 0} (encode : ℕ → List A) where
   reports_of-reported place OutputFull reported e = ap (reports_of encode place) e
   reports_of-reported place (Malformed k second) reported (x, e, size) = ap (reports_of encode place) e ∙ ap (λ n. record { place = place; length = n } ∷ []) size
 
-  -- ---- what a call gives
+  -- ---- what a call yields
   given_characters : (cs : List ℕ) (answer : DecoderResult) (reported : List Part) → IsReported answer reported → characters_of (map Character cs ++ reported) ≡ cs
   given_characters cs answer reported r =
       characters_of-append (map Character cs) reported ∙ ap (λ xs. xs ++ characters_of reported) (characters_of-characters cs)
@@ -70,7 +70,7 @@ module _ {A : Type 0} (encode : ℕ → List A) where
       ∙ ap (λ xs. reports_of encode (place + length (flat_map encode xs)) reported) (characters_of-characters cs)
       ∙ reports_of-reported (place + length (flat_map encode cs)) answer reported r
 
-  -- ---- what calls give in sequence
+  -- ---- what calls yield in sequence
   abbrev Decoded : ℕ → DecoderResult → List A → List Part → Type 0
   Decoded room = AreDecoded encode
 

@@ -1,4 +1,4 @@
--- First parts that stay whatever follows, one behind the other, and the settled parts.
+-- First parts for any continuation, one after the other, and the final parts.
 use Rattle.std.proofs.Common.{◌≡◌, ℕ, Bool, false, List, [], ◌∷◌, ◌++◌, refl, sym, ap, ◌∙◌, subst}
 use Rattle.std.proofs.lemmas.List.{append-nil, append_assoc}
 use Rattle.encoding_definitions.specs.Sequence.{IsBeginning}
@@ -8,7 +8,7 @@ use Rattle.encoding_definitions.proofs.Decomposition.PartsLemmas.{part_bytes}
 use Rattle.encoding_definitions.proofs.Decomposition.DecompositionLemmas.{StartsWith-append, settled_stay, has_settled}
 use Rattle.encoding_runs.specs.Steps.Writing.{AreFirst}
 
--- parts behind parts
+-- parts after parts
 pub AreFirst-trans : (last : Bool) (bs : List ℕ) (ps : List Part) (mid : List ℕ) (qs : List Part) (rest : List ℕ) → AreFirst last bs ps mid → AreFirst last mid qs rest
     → AreFirst last bs (ps ++ qs) rest
 AreFirst-trans last bs ps mid qs rest f g = record {
@@ -16,7 +16,7 @@ AreFirst-trans last bs ps mid qs rest f g = record {
   whatever_follows = λ e more. StartsWith-append (bs ++ more) ps (mid ++ more) qs (rest ++ more) (f.whatever_follows e more) (g.whatever_follows e more);
 }
 
--- behind those that stay, more bytes with their parts
+-- after first parts for any continuation, more bytes with their parts
 pub AreFirst-more : (last : Bool) (bs : List ℕ) (ps : List Part) (mid more : List ℕ) (qs : List Part) (rest : List ℕ) → AreFirst false bs ps mid
     → AreFirst last (mid ++ more) qs rest → AreFirst last (bs ++ more) (ps ++ qs) rest
 AreFirst-more last bs ps mid more qs rest f g = record {
@@ -26,14 +26,15 @@ AreFirst-more last bs ps mid more qs rest f g = record {
       StartsWith-append ((bs ++ more) ++ others) ps ((mid ++ more) ++ others) qs (rest ++ others) there (g.whatever_follows e others);
 }
 
--- ---- the settled parts
--- behind the parts in front of a last broken one stand its bytes and what follows, and no character begins these
+-- ---- the final parts
+-- no character begins the bytes of a last malformed sequence with what follows
 last_part : (bs more : List ℕ) (front : List Part) (x : List ℕ) → StartsWith bs (front ++ Broken x ∷ []) more
     → (mid : List ℕ) × (mid ≡ x ++ more) × BeginsWithNoCharacter mid
 last_part bs more [] x (after, f, e) = (bs, (part_bytes bs (Broken x) after f).0 ∙ ap (λ xs. x ++ xs) e, f.0)
 last_part bs more (p ∷ front) x (after, f, s) = last_part after more front x s
 
--- parts that stay whatever follows are the settled ones: a last beginning would not stay before the bytes that end it
+-- first parts for any continuation are final: a last incomplete sequence would not be a part before the bytes that
+-- complete it
 pub settled_first : (bs : List ℕ) (ps : List Part) (rest : List ℕ) → AreFirst false bs ps rest → IsPending rest → AreSettled bs ps rest
 settled_first bs ps rest f p = record { starts = f.starts; still_open = p; closed = closed }
   where
@@ -48,7 +49,7 @@ settled_first bs ps rest f p = record { starts = f.starts; still_open = p; close
 pub first_settled : (bs : List ℕ) (ps : List Part) (rest : List ℕ) → AreSettled bs ps rest → AreFirst false bs ps rest
 first_settled bs ps rest s = record { starts = s.starts; whatever_follows = λ _ more. settled_stay bs ps rest more s.starts s.closed }
 
--- parts that stay begin the settled parts
+-- first parts for any continuation are a prefix of the final parts
 pub settled_behind : (bs : List ℕ) (ps : List Part) (mid : List ℕ) → AreFirst false bs ps mid
     → (qs : List Part) × (rest : List ℕ) × AreSettled bs (ps ++ qs) rest
 settled_behind bs ps mid f =

@@ -1,4 +1,4 @@
--- A run goes on by one call more, of the next turn.
+-- A run continues by one more call, of the next turn.
 use Rattle.std.proofs.Common.{◌≡◌, ℕ, ◌+◌, ◌-◌, ◌≤◌, Bool, true, List, [], ◌∷◌, ◌++◌, length, map, take, drop, Option, None, Some, refl, sym, ap, ◌∙◌, arith, subst}
 use Rattle.std.specs.List.{last_or}
 use Rattle.std.proofs.lemmas.Bool.Decides.{nat_tests}
@@ -18,7 +18,7 @@ use Rattle.encoding_runs.specs.Calls.{CallRelation, Call, IsChain, read_in_all, 
 use Rattle.encoding_runs.specs.Runs.{AreOfTurns, IsRun}
 use Rattle.encoding_runs.specs.Steps.Reports.{report_of, reports_of_calls, IsReportedRun}
 
--- what a call wrote into a front of the destination
+-- what a call wrote into a prefix of the destination
 pub WritesFront_within : {A : Type 0} (old sub : List A) (room n : ℕ) (out : List A) → WritesFront (take room old) sub n out → WritesFront old (sub ++ drop room old) n out
 WritesFront_within old sub room n out w = record {
   count = w.count;
@@ -27,7 +27,7 @@ WritesFront_within old sub room n out w = record {
       ∙ ap (λ xs. out ++ xs) (sym (drop-append-le n (take room old) (drop room old) w.fits) ∙ ap (drop n) (take-append-drop room old));
 }
 
--- a turn's mark is on a piece that has all that is unread
+-- a turn that is marked last takes all that is unread
 marked : (turn : Turn) (unread : ℕ) → is_marked_last turn unread ≡ true → unread ≤ turn.take
 marked turn unread e = grind (arith, nat_tests)
 
@@ -59,7 +59,7 @@ module _ {Result A : Type 0} (Does : CallRelation ℕ Result A) where
     result_push [] before = refl
     result_push (c ∷ calls) before = result_push calls (Some c.result)
 
-    -- the call is one on what the calls before it left
+    -- the call starts with what the calls before it left
     abbrev IsNext : List ℕ → List ℕ → List (Call ℕ Result A) → Type 0
     IsNext p unread calls =
         Does (pending_after p calls) (take call.piece (drop (read_in_all calls) unread)) call.form call.last call.result call.read call.out call.pending
@@ -93,7 +93,7 @@ module _ {Result A : Type 0} (Does : CallRelation ℕ Result A) where
           (l ∙ ap (is_marked_last turn) {x = unread - read_in_all (c ∷ calls)} {y = unread - c.read - read_in_all calls} (omega arith)),
     )
 
-  -- the run of the turns so far, and the call of the next one on what is unread, into what is left of the destination
+  -- the run of the turns so far, and the call of the next one on the unread source, into the rest of the destination
   pub run_push : (p src : List ℕ) (turns : List Turn) (old mid : List A) (read written : ℕ) (result : Option Result) (q : List ℕ) (turn : Turn) (sub out : List A) (r : Result) (more count : ℕ) (after : List ℕ)
       → IsRun Does p src turns old mid read written result q → WritesFront (take (length mid - written) (drop written mid)) sub count out
       → Does q (take turn.take (take (length src - read) (drop read src))) (room_of turn (length (take (length mid - written) (drop written mid))))
@@ -129,7 +129,7 @@ module _ {Result A : Type 0} (Does : CallRelation ℕ Result A) where
       }
 
 -- ---- the reports
--- a result is one report at most
+-- a result is at most one report
 pub one_report : (result : DecoderResult) (place : ℕ) → length (report_of result place) ≤ 1
 one_report InputEmpty place = omega arith
 one_report OutputFull place = omega arith
@@ -146,7 +146,7 @@ module _ {A : Type 0} where
       ap (λ rs. report_of c.result there ++ rs) (reports_push there calls call ∙ ap (λ n. reports_of_calls there calls ++ report_of call.result n) size)
       ∙ sym (append_assoc (report_of c.result there) (reports_of_calls there calls) (report_of call.result (place + length (c.out ++ output_of calls) + length call.out)))
 
-  -- the run goes on, and the report of the call goes into the places that are left
+  -- the run continues, and the report of the call is written after the others
   pub reported_push : (encode : ℕ → List A) (need : ℕ) (p src : List ℕ) (turns : List Turn) (old mid : List A) (old_reports mid_reports : List Report) (outcome : Outcome) (q : List ℕ) (turn : Turn)
       (sub out : List A) (places : List Report) (result : DecoderResult) (read written reports : ℕ) (after : List ℕ)
       → IsReportedRun encode need p src turns old mid old_reports mid_reports outcome q

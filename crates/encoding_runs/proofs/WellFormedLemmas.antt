@@ -1,4 +1,4 @@
--- Bytes are well-formed exactly where none of their parts is broken.
+-- Bytes are well-formed if and only if none of their parts is malformed.
 use Rattle.std.proofs.Common.{◌≡◌, ◌↔◌, ℕ, List, [], ◌∷◌, map, encode_utf8, encode_utf8_all, ap, ◌∙◌, arith, subst}
 use Rattle.std.specs.List.{flat_map}
 use Rattle.std.specs.Str.{IsUtf8}

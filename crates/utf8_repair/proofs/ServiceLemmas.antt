@@ -1,4 +1,4 @@
--- The clauses of a run: what is written whatever the engine returned, and behind the flush.
+-- The clauses of a run: what is written for any result of the engine, and after the flush.
 use Rattle.std.proofs.Common.{◌≡◌, ◌≢◌, ℕ, ◌<◌, ◌≤◌, Bool, true, false, List, [], length, Option, Result, Ok, Err, IfOk, OnOk, OnErr, refl, sym, append-nil}
 use Rattle.std.specs.Result.{IsOkAnd}
 use Rattle.std.specs.Io.KnownBytes.{Keeps, IsAtEnd}
@@ -17,7 +17,7 @@ pub both : (P : ℕ → Type 0) (Q : Repaired → Type 0) (outcome : Result Repa
 both P Q (Ok repaired) q p = (repaired, p, q)
 both P Q (Err fault) q p = absurd p
 
--- ---- a prefix of the text that was due: all of it, or less
+-- ---- a prefix of the text due: all of it, or less
 repaired_due : (bs : List ℕ) (old new : Option (List ℕ)) (n : ℕ) → WritesRepaired bs old new n → WritesPrefixOfDue bs true old new
 repaired_due bs old new n (text, (parts, are, is, broken), a) =
     let (rounds, all) = holds_repaired bs text (parts, are, is) in
@@ -34,7 +34,7 @@ stopped_due bs ended old new (text, out, due, less, bytes, rounds, at_end) = (te
 unseen : (left : Option (List ℕ)) → false ≡ true → IsAtEnd left
 unseen left e = absurd (let no : false ≡ true = e in cc)
 
--- whatever it is, a prefix of the text that was due is written
+-- a prefix of the text due is written for any result
 pub prefix_written : (outcome : Result Repaired RepairFault) (most : ℕ) (ended : Bool) (unread left old new : Option (List ℕ))
     → IfOk outcome (λ (repaired : Repaired). (bs : List ℕ) × (repaired.read ≡ length bs) × (length bs < most) × RepairsAll bs unread left old new repaired.replaced × (ended ≡ true))
     → (outcome ≡ Err Read → (bs : List ℕ) × (length bs < most) × RepairsSettled bs unread left old new)
@@ -46,12 +46,12 @@ prefix_written (Err Read) most ended unread left old new all read write limit = 
 prefix_written (Err Write) most ended unread left old new all read write limit = let (bs, less, (consumed, end, s)) = write refl in (bs, ended, (consumed, end, stopped_due bs ended old new s))
 prefix_written (Err Limit) most ended unread left old new all read write limit = let (bs, size, (consumed, w)) = limit refl in (bs, false, (consumed, unseen left, settled_due bs old new w))
 
--- the same, of streams that tell the same
+-- the same, of streams with the same known bytes
 pub prefix_of : (a b c d unread left old new : Option (List ℕ)) → unread ≡ a → left ≡ b → old ≡ c → new ≡ d
     → ((bs : List ℕ) × (ended : Bool) × RepairsPrefix bs ended a b c d) → (bs : List ℕ) × (ended : Bool) × RepairsPrefix bs ended unread left old new
 prefix_of a b c d unread left old new first second third fourth (bs, ended, prefix) = (bs, ended, rw (first, second, third, fourth) prefix)
 
--- ---- behind a flush
+-- ---- after a flush
 pub all_kept : (bs : List ℕ) (unread left old new now : Option (List ℕ)) (n : ℕ) → RepairsAll bs unread left old new n → Keeps new now → RepairsAll bs unread left old now n
 all_kept bs unread left old new now n (consumed, end, (text, is, a)) k = (consumed, end, (text, is, Appends-kept _ _ _ _ a k))
 

@@ -1,11 +1,11 @@
--- What a writer holds behind what waits, where the last bytes are a piece of which some are taken back.
+-- What a writer has buffered, if the last bytes are a piece and some of these are removed.
 use Rattle.std.proofs.Common.{◌≡◌, ℕ, ◌+◌, ◌-◌, ◌≤◌, List, ◌++◌, None, Some, Result, Ok, Err, IfOk, OnErr, Option, length, take, arith, sym, ap, ◌∙◌, subst, append_assoc, append-nil}
 use Rattle.std.proofs.Math.Seq.{take-append-add}
 use Rattle.std.proofs.lemmas.List.{length-append}
 use Rattle.std.proofs.KnownBytes.{Keeps-trans}
 use Rattle.std.specs.Io.KnownBytes.{Keeps, Appends, WriteAppends, append_known}
 
--- a list less its last ones, which are some of the second half
+-- a list without its last items, all of the second half
 pub less_the_last : (xs ys : List ℕ) (left : ℕ) → left ≤ length ys → take (length (xs ++ ys) - left) (xs ++ ys) ≡ xs ++ take (length ys - left) ys
 less_the_last xs ys left small =
     let count : length (xs ++ ys) - left ≡ length xs + (length ys - left) = omega (arith, length-append xs ys, small) in
@@ -18,7 +18,7 @@ kept_less_the_last (Some x) None old new left was is kept = absurd kept
 kept_less_the_last (Some x) (Some y) old new left was is kept =
     sym (less_the_last y new left is) ∙ ap (λ l. take (length l - left) l) kept ∙ less_the_last x old left was
 
--- ---- of what is kept the last bytes are taken back
+-- ---- the last buffered bytes are removed
 pub taken_back : (a b : Option (List ℕ)) (old waits now : List ℕ) (count left : ℕ) → count ≡ left → left ≤ length old → left ≤ length waits
     → now ≡ take (length waits - left) waits → Keeps (append_known a old) (append_known b waits)
     → Keeps (append_known a (take (length old - count) old)) (append_known b now)
@@ -26,7 +26,7 @@ taken_back a b old waits now count left same was is back kept =
     subst (λ n. Keeps (append_known a (take (length old - n) old)) (append_known b now)) (sym same)
     (subst (λ l. Keeps (append_known a (take (length old - left) old)) (append_known b l)) (sym back) (kept_less_the_last a b old waits left was is kept))
 
--- ---- a piece behind what waits
+-- ---- a piece after the buffered bytes
 appended : (a b new : Option (List ℕ)) (front bs : List ℕ) → Keeps a (append_known b front) → Keeps (append_known b (front ++ bs)) new → Appends a new bs
 appended None b new front bs kept sent = tt
 appended (Some x) None new front bs kept sent = absurd kept

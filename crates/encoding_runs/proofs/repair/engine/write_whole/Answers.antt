@@ -4,7 +4,7 @@ use Rattle.std.proofs.KnownBytes.{Appends-trans}
 use Rattle.std.proofs.lemmas.List.{length-drop, take_rest}
 use Rattle.encoding_runs.proofs.repair.engine.write_whole.Goals as goal
 
--- a front of what stands behind the first bytes is one of all of them
+-- the first bytes and a prefix of the others are a prefix of all bytes
 stopped : {A F : Type 0} (write : F) (failed : Type 0) (bytes : List ℕ) (count : ℕ) (old mid new : Option (List ℕ)) (r : Result A F) → count ≤ length bytes → Appends old mid (take count bytes)
     → IfErr r (λ fault. (fault ≡ write) × failed × (n : ℕ) × (n < length (drop count bytes)) × Appends mid new (take n (drop count bytes)))
     → IfErr r (λ fault. (fault ≡ write) × failed × (n : ℕ) × (n < length bytes) × Appends old new (take n bytes))

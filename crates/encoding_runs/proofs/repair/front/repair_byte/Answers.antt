@@ -8,7 +8,7 @@ use Rattle.encoding_runs.proofs.FrontTextLemmas.{ascii_first, lone_first}
 use Rattle.encoding_runs.proofs.repair.front.repair_byte.Goals as goal
 use Rattle.encoding_runs.proofs.repair.front.repair_byte.Goals.{then-lead-lt-ASCII_END, else-lead-lt-ASCII_END}
 
--- three bytes put first
+-- three bytes written at the start
 three_set : (xs : List ℕ) (a b c : ℕ) → 3 ≤ length xs → slice_set (slice_set (slice_set xs 0 a) 1 b) 2 c ≡ a ∷ b ∷ c ∷ drop 3 xs
 three_set [] a b c room = absurd (omega (arith, room))
 three_set (x ∷ []) a b c room = absurd (omega (arith, room))

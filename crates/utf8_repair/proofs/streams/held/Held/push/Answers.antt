@@ -3,7 +3,7 @@ use Rattle.std.proofs.lemmas.List.{drop-append-le}
 use Rattle.std.proofs.lemmas.Slice.{take-put_mid}
 use Rattle.utf8_repair.proofs.streams.held.Held.push.Goals as goal
 
--- an array in which nothing waits has room behind it
+-- an empty queue has space for `N` bytes
 pub returns-then-piece-self-clause-room : goal.returns-then-piece-self-clause-room
 returns-then-piece-self-clause-room g c = λ none fits.
     let held = c.self.inside in
