@@ -185,7 +185,7 @@ pub extern "C" fn encoding_text_utf8_decoder_in_neutral_state(decoder: &Encoding
 }
 
 /// Returns the length in code units of a destination that is large enough for the next `byte_length` bytes in UTF-16,
-/// also with U+FFFD for each report. Returns `usize::MAX` if that length isn't less.
+/// also with U+FFFD for each report. Returns `usize::MAX` if the length reaches or exceeds it.
 #[unsafe(no_mangle)]
 pub extern "C" fn encoding_text_utf8_decoder_max_utf16_buffer_length(
     decoder: &EncodingUtf8Decoder,
@@ -201,7 +201,7 @@ pub extern "C" fn encoding_text_utf8_decoder_max_utf16_buffer_length(
 }
 
 /// Returns the length in bytes of a destination that is large enough for the next `byte_length` bytes in UTF-8, if
-/// nothing is written for reports. Returns `usize::MAX` if that length isn't less.
+/// nothing is written for reports. Returns `usize::MAX` if the length reaches or exceeds it.
 #[unsafe(no_mangle)]
 pub extern "C" fn encoding_text_utf8_decoder_max_utf8_buffer_length_without_replacement(
     decoder: &EncodingUtf8Decoder,
@@ -217,7 +217,7 @@ pub extern "C" fn encoding_text_utf8_decoder_max_utf8_buffer_length_without_repl
 }
 
 /// Returns the length in bytes of a destination that is large enough for the next `byte_length` bytes in UTF-8, with
-/// U+FFFD for each report. Returns `usize::MAX` if that length isn't less.
+/// U+FFFD for each report. Returns `usize::MAX` if the length reaches or exceeds it.
 #[unsafe(no_mangle)]
 pub extern "C" fn encoding_text_utf8_decoder_max_utf8_buffer_length(
     decoder: &EncodingUtf8Decoder,

@@ -105,7 +105,7 @@ pub extern "C" fn encoding_text_utf8_encoder_new(encoder: &mut EncodingUtf8Encod
 }
 
 /// Returns the length in bytes of a destination that is large enough for the pending surrogate and `u16_length` code
-/// units. Returns `usize::MAX` if that length isn't less.
+/// units. Returns `usize::MAX` if the length reaches or exceeds it.
 #[unsafe(no_mangle)]
 pub extern "C" fn encoding_text_utf8_encoder_max_buffer_length_from_utf16_without_replacement(
     encoder: &EncodingUtf8Encoder,
@@ -121,7 +121,7 @@ pub extern "C" fn encoding_text_utf8_encoder_max_buffer_length_from_utf16_withou
 }
 
 /// Returns the length in bytes of a destination that is large enough for the pending surrogate and a text of
-/// `byte_length` bytes. Returns `usize::MAX` if that length isn't less.
+/// `byte_length` bytes. Returns `usize::MAX` if the length reaches or exceeds it.
 #[unsafe(no_mangle)]
 pub extern "C" fn encoding_text_utf8_encoder_max_buffer_length_from_utf8_without_replacement(
     encoder: &EncodingUtf8Encoder,
@@ -162,8 +162,8 @@ pub extern "C" fn encoding_text_utf8_encoder_encode_from_utf16(
     }
 }
 
-/// Encodes U+FFFD for a pending surrogate, then the text. The rest of `dst` is unchanged. Returns `REFUSED_ANSWER` if
-/// the bytes are ill-formed: then nothing is read or written.
+/// Encodes U+FFFD for a pending surrogate, then the text. The rest of `dst` is unchanged. `result` is `REFUSED_ANSWER`
+/// if the bytes are ill-formed: then nothing is read or written.
 #[unsafe(no_mangle)]
 pub extern "C" fn encoding_text_utf8_encoder_encode_from_utf8(
     encoder: &mut EncodingUtf8Encoder,

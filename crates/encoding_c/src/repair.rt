@@ -64,7 +64,7 @@ impl<'a> Sink for Buffer<'a> {
 }
 
 /// Writes `src` with U+FFFD for each malformed sequence, and returns the number of bytes written and of malformed
-/// sequences. The rest of `dst` is unchanged. Returns `REFUSED` bytes if `dst` is less than three times as long as
+/// sequences. The rest of `dst` is unchanged. `written` is `REFUSED` if `dst` is less than three times as long as
 /// `src`.
 #[unsafe(no_mangle)]
 pub extern "C" fn encoding_text_repair_slice(src: &[u8], dst: &mut [u8]) -> EncodingRepaired

@@ -76,7 +76,7 @@ fn last_number(last: &Option<EncoderResult>) -> u8
 }
 
 /// Decodes a source to UTF-16 with one call for each turn, regardless of their results. The rest of `dst` and of
-/// `reports` is unchanged. Returns `REFUSED_ANSWER` if `reports` is shorter than `turns`: then nothing is read or
+/// `reports` is unchanged. `result` is `REFUSED_ANSWER` if `reports` is shorter than `turns`: then nothing is read or
 /// written.
 #[unsafe(no_mangle)]
 pub extern "C" fn encoding_text_run_to_utf16(
