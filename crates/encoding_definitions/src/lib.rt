@@ -1,3 +1,3 @@
-//! What the contracts of all crates cite: the definitions of the Unicode and Encoding Standards, in `specs/`, and the lemmas
-//! about them alone, in `proofs/`. There is no code here.
+//! The definitions of the Unicode and Encoding Standards that the contracts of all crates cite, in `specs/`, and the
+//! lemmas about them, in `proofs/`. There is no code here.
 #![tactic(auto)]

@@ -1,4 +1,5 @@
-//! ASCII prefixes of bytes and of UTF-16 code units: where they end, and their copies.
+//! ASCII prefixes of bytes and of UTF-16 code units: their lengths and their copies. A copy leaves the rest of `dst`
+//! unchanged.
 
 ghost use Rattle.std.specs.Prelude.{take, length};
 ghost use Rattle.std.specs.Str.{IsAscii};
@@ -22,7 +23,7 @@ const SHIFT_OUT: u8 = 0x0E;
 /// The byte that switches back.
 const SHIFT_IN: u8 = 0x0F;
 
-/// The first byte that isn't ASCII, and its place. `None` if all bytes are ASCII.
+/// Returns the first byte that isn't ASCII and its index, or `None` if all bytes are ASCII.
 #[inline(always)]
 pub fn validate_ascii(bytes: &[u8]) -> Option<(u8, usize)>
     ensures { IsFirstOther bytes.now result }
@@ -35,7 +36,7 @@ pub fn validate_ascii(bytes: &[u8]) -> Option<(u8, usize)>
     }
 }
 
-/// The number of bytes in the longest ASCII prefix.
+/// Returns the length of the longest ASCII prefix.
 #[inline(always)]
 pub fn ascii_valid_up_to(bytes: &[u8]) -> usize
     ensures { IsLongestFront IsAscii bytes.now result }
@@ -46,7 +47,7 @@ pub fn ascii_valid_up_to(bytes: &[u8]) -> usize
     }
 }
 
-/// How many of the bytes of a stride come before the first that isn't ASCII, or is an escape or shift byte.
+/// Returns how many bytes of a stride come before the first that isn't ASCII, or is an escape or shift byte.
 #[inline(always)]
 fn iso_2022_jp_ascii_run(stride: &[u8; STRIDE]) -> usize
     ensures { IsLongestFront IsIso2022JpAscii stride.now result }
@@ -62,8 +63,8 @@ fn iso_2022_jp_ascii_run(stride: &[u8; STRIDE]) -> usize
     }
 }
 
-/// The number of bytes in the longest ASCII prefix without an escape byte, 0x1B, or a shift byte, 0x0E or 0x0F. Encoding
-/// Standard, section 12.2.1: the bytes that the ISO-2022-JP decoder gives back as they are.
+/// Returns the length of the longest ASCII prefix without an escape byte, 0x1B, or a shift byte, 0x0E or 0x0F. Encoding
+/// Standard, section 12.2.1: the bytes that the ISO-2022-JP decoder returns unchanged.
 pub fn iso_2022_jp_ascii_valid_up_to(bytes: &[u8]) -> usize
     ensures { IsLongestFront IsIso2022JpAscii bytes.now result }
 {
@@ -85,8 +86,8 @@ pub fn iso_2022_jp_ascii_valid_up_to(bytes: &[u8]) -> usize
     bytes.len()
 }
 
-/// Copies the longest ASCII prefix, over the shorter length of the two, and returns the first byte there that isn't
-/// ASCII with its place, or `None`. Behind what is written `dst` is as before.
+/// Copies the longest ASCII prefix, up to the shorter of the two lengths. Returns the first byte within that length
+/// that isn't ASCII and its index, or `None`.
 #[inline(always)]
 pub fn ascii_to_ascii(src: &[u8], dst: &mut [u8]) -> Option<(u8, usize)>
     ensures found { IsFirstOther (take (length dst.old) src.now) result }
@@ -101,8 +102,8 @@ pub fn ascii_to_ascii(src: &[u8], dst: &mut [u8]) -> Option<(u8, usize)>
     }
 }
 
-/// Copies the longest ASCII prefix, each byte as a UTF-16 code unit, over the shorter length of the two, and returns the
-/// first byte there that isn't ASCII with its place, or `None`. Behind what is written `dst` is as before.
+/// Copies the longest ASCII prefix, each byte as a UTF-16 code unit, up to the shorter of the two lengths. Returns the
+/// first byte within that length that isn't ASCII and its index, or `None`.
 #[inline(always)]
 pub fn ascii_to_basic_latin(src: &[u8], dst: &mut [u16]) -> Option<(u8, usize)>
     ensures found { IsFirstOther (take (length dst.old) src.now) result }
@@ -117,8 +118,8 @@ pub fn ascii_to_basic_latin(src: &[u8], dst: &mut [u16]) -> Option<(u8, usize)>
     }
 }
 
-/// Copies the longest ASCII prefix of UTF-16 code units, each as a byte, over the shorter length of the two, and returns
-/// the first code unit there that isn't ASCII with its place, or `None`. Behind what is written `dst` is as before.
+/// Copies the longest ASCII prefix of UTF-16 code units, each as a byte, up to the shorter of the two lengths. Returns
+/// the first code unit within that length that isn't ASCII and its index, or `None`.
 #[inline(always)]
 pub fn basic_latin_to_ascii(src: &[u16], dst: &mut [u8]) -> Option<(u16, usize)>
     ensures found { IsFirstOther (take (length dst.old) src.now) result }

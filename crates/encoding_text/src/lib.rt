@@ -1,5 +1,5 @@
-//! The text encodings of the Unicode and Encoding Standards, call by call: each says by its contract
-//! what it reads, what it writes and what it returns.
+//! The text encodings of the Unicode and Encoding Standards. The contract of each call says what it reads, what it
+//! writes and what it returns.
 #![tactic(auto)]
 
 pub mod ascii;

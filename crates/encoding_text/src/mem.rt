@@ -1,4 +1,4 @@
-//! Checks and conversions of text that lies in memory as a whole: ASCII, Latin1, UTF-8 and UTF-16.
+//! Checks and conversions of whole texts in memory: ASCII, Latin1, UTF-8 and UTF-16.
 
 mod bidi;
 mod borrowed;

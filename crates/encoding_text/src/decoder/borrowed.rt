@@ -1,4 +1,4 @@
-//! One call of a decoder that hands out parts of its source.
+//! One call of a decoder that borrows from its source.
 ghost use Rattle.std.specs.Prelude.{◌≡◌, ◌≢◌, ℕ, []};
 ghost use Rattle.encoding_definitions.specs.Sequence.{IsBeginning};
 ghost use Rattle.encoding_text.specs.Decoding.{IsBorrowedCall};
@@ -8,7 +8,7 @@ use super::{DecoderResult, Piece};
 use crate::utf_8::utf8_valid_up_to;
 use encoding_kernels::scalars::scalar_of_sequence;
 
-/// The piece that says how a call without output ended.
+/// Returns the piece for what ended a call without output.
 fn piece_at_end<'a>(end: DecoderResult) -> Piece<'a>
     requires { end ≢ DecoderResult.OutputFull }
     ensures all_read { end ≡ DecoderResult.InputEmpty → result ≡ Piece.InputEmpty }
@@ -21,7 +21,7 @@ fn piece_at_end<'a>(end: DecoderResult) -> Piece<'a>
     }
 }
 
-/// Decodes the prefix of `src` behind the pending bytes: the piece, and how many bytes were read.
+/// Decodes the start of `src` after the pending bytes. Returns the piece and how many bytes were read.
 #[inline(always)]
 pub(crate) fn decode_borrowed<'a>(
     pending: &mut Pending,
@@ -37,13 +37,13 @@ pub(crate) fn decode_borrowed<'a>(
     }
 }
 
-/// Decodes the prefix of `src` with nothing pending: the piece, and how many bytes were read.
+/// Decodes the start of `src` with nothing pending. Returns the piece and how many bytes were read.
 #[inline(always)]
 fn borrow_front<'a>(pending: &mut Pending, src: &'a [u8], last: bool) -> (Piece<'a>, usize)
     requires neutral { pending.old ≡ [] }
     ensures { IsBorrowedCall [] src.now last result.0 result.1 pending.new }
 {
-    // broken parts often follow at once, and one byte shows that
+    // a malformed sequence often comes next, and one byte shows it
     if !src.is_empty() && is_lone(src) {
         return (Piece::Malformed(1), 1);
     }
@@ -61,7 +61,7 @@ fn borrow_front<'a>(pending: &mut Pending, src: &'a [u8], last: bool) -> (Piece<
     (piece_at_end(end), read)
 }
 
-/// Decodes the prefix of `src` behind a beginning: the piece, and how many bytes were read.
+/// Decodes the start of `src` after an incomplete sequence. Returns the piece and how many bytes were read.
 #[inline(never)]
 fn resume_borrowed<'a>(pending: &mut Pending, src: &'a [u8], last: bool) -> (Piece<'a>, usize)
     requires unfinished { IsBeginning pending.old }

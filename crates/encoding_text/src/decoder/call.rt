@@ -1,4 +1,4 @@
-//! One call of a decoder, to bytes or to code units.
+//! One call of a decoder, to bytes or to code units. It leaves the rest of `dst` unchanged.
 ghost use Rattle.std.specs.Prelude.{◌≡◌, []};
 ghost use Rattle.encoding_definitions.specs.Sequence.{IsBeginning};
 ghost use Rattle.encoding_text.specs.Decoding.{Decodes};
@@ -7,8 +7,8 @@ use super::DecoderResult;
 use super::pending::{Pending, Resumed};
 use crate::utf_8::CodeUnit;
 
-/// Decodes `src` behind the pending bytes, and returns what ended the call, how many bytes it read and how many code
-/// units it wrote. Behind what is written `dst` is as before.
+/// Decodes `src` after the pending bytes. Returns what ended the call, how many bytes it read and how many code units
+/// it wrote.
 #[inline(always)]
 pub(crate) fn decode<U: CodeUnit>(
     pending: &mut Pending,
@@ -47,7 +47,7 @@ fn decode_neutral<U: CodeUnit>(
     (result, read + more, written)
 }
 
-/// Decodes `src` behind a beginning, and returns what `decode` does.
+/// Decodes `src` after an incomplete sequence, and returns what `decode` does.
 #[inline(never)]
 fn decode_pending<U: CodeUnit>(
     pending: &mut Pending,

@@ -1,4 +1,4 @@
-//! The bytes of an unfinished character.
+//! The pending bytes of a decoder.
 ghost use Rattle.std.specs.Prelude.{◌≡◌, ◌≢◌, ℕ, ◌<◌, ◌≤◌, ◌↔◌, Bool, false, List, [], length, take, drop, IsTrue};
 ghost use Rattle.encoding_definitions.specs.Sequence.{IsBeginning};
 ghost use Rattle.encoding_definitions.specs.Parts.{BeginsWithNoCharacter};
@@ -10,36 +10,36 @@ use super::DecoderResult;
 use encoding_kernels::sequence::{begins_several, is_continuation, is_second, sequence_length};
 use std::marker::Model;
 
-/// Nothing, or the beginning of a sequence.
+/// None, or an incomplete sequence.
 #[derive(Drop)]
 pub(crate) struct Pending {
     bytes: [u8; 4],
     count: usize,
 }
 
-/// What one more byte makes of a beginning.
+/// What one more byte makes of an incomplete sequence.
 #[derive(Drop)]
 pub(crate) enum Pushed {
-    /// A longer beginning.
+    /// A longer incomplete sequence.
     Longer,
-    /// A sequence: these bytes, so many of them.
+    /// A well-formed sequence: these bytes, and its length.
     Whole([u8; 4], usize),
-    /// Neither: the byte was not taken.
+    /// Neither: the byte was not read.
     Stuck,
 }
 
-/// What a source makes of a beginning.
+/// What a source makes of an incomplete sequence.
 #[derive(Drop)]
 pub(crate) enum Resumed {
-    /// A longer beginning: the source ended first.
+    /// A longer incomplete sequence: the source ended first.
     Ended,
-    /// A sequence: these bytes, so many of them.
+    /// A well-formed sequence: these bytes, and its length.
     Whole([u8; 4], usize),
-    /// A broken part of so many bytes.
+    /// A malformed sequence of this length.
     Stuck(usize),
 }
 
-/// Whether the byte may stand behind so many bytes of a sequence that begins with `lead`.
+/// Returns whether the byte may follow the first `count` bytes of a sequence that starts with `lead`.
 fn goes_on(lead: u8, count: usize, byte: u8) -> bool
     ensures { IsTrue result ↔ GoesOn lead count byte }
 {
@@ -50,8 +50,8 @@ fn goes_on(lead: u8, count: usize, byte: u8) -> bool
     }
 }
 
-/// Whether the first byte alone is a broken part, whatever follows the bytes: it begins nothing, or the next byte goes
-/// on with nothing.
+/// Returns whether the first byte is a malformed sequence by itself, with any bytes after these: it starts no sequence,
+/// or the next byte doesn't continue one.
 #[inline]
 pub(crate) fn is_lone(bytes: &[u8]) -> bool
     requires some { 0 < length bytes.now }
@@ -77,7 +77,7 @@ impl Pending {
     ghost use Rattle.encoding_text.specs.Steps.Resuming.{Pushes, Resumes};
     ghost use Rattle.encoding_text.specs.Steps.Ending.{AnswersAllRead, AnswersNoCharacter};
 
-    /// Nothing.
+    /// Returns no bytes.
     pub(crate) fn none() -> Pending
         ensures { result ≡ [] }
     {
@@ -87,7 +87,7 @@ impl Pending {
         }
     }
 
-    /// The beginning, which is then pending.
+    /// Returns the incomplete sequence as pending bytes.
     pub(crate) fn hold(beginning: &[u8]) -> Pending
         requires beginning { IsBeginning beginning.now }
         ensures { result ≡ beginning.now }
@@ -98,7 +98,7 @@ impl Pending {
         Pending { bytes, count }
     }
 
-    /// Whether nothing is pending.
+    /// Returns whether nothing is pending.
     pub(crate) fn is_empty(&self) -> bool
         ensures empty { IsTrue result ↔ (self.now ≡ []) }
         ensures pending { IsPending self.now }
@@ -106,7 +106,7 @@ impl Pending {
         self.count == 0
     }
 
-    /// How many bytes are pending.
+    /// Returns how many bytes are pending.
     pub(crate) fn len(&self) -> usize
         ensures length { result ≡ length self.now }
         ensures within { result ≤ 3 }
@@ -115,7 +115,7 @@ impl Pending {
         self.count
     }
 
-    /// Takes one more byte if it goes on with the beginning, and returns what it makes of it.
+    /// Adds one more byte if it continues the incomplete sequence, and returns what it makes of it.
     fn push(&mut self, byte: u8) -> Pushed
         requires unfinished { self.old ≢ [] }
         ensures { Pushes self.old byte result self.new }
@@ -134,7 +134,7 @@ impl Pending {
         Pushed::Longer
     }
 
-    /// Takes bytes of the source as long as they go on with the beginning, and returns what they make of it and how
+    /// Reads bytes of the source as long as they continue the incomplete sequence. Returns what they make of it and how
     /// many they are.
     #[inline(never)]
     pub(crate) fn resume(&mut self, src: &[u8]) -> (Resumed, usize)
@@ -155,8 +155,8 @@ impl Pending {
         (Resumed::Ended, src.len())
     }
 
-    /// Ends a call whose source was read to its end, and returns what ended it: where no more will come, pending
-    /// bytes are a broken part.
+    /// Ends a call that read all of its source, and returns what ended it. If no more bytes come, pending bytes are a
+    /// malformed sequence.
     pub(crate) fn end(&mut self, last: bool) -> DecoderResult
         ensures { AnswersAllRead self.old last result self.new }
     {
@@ -168,8 +168,8 @@ impl Pending {
         DecoderResult::Malformed(count as u8, 0)
     }
 
-    /// Ends a call before the first byte of `rest` that no character takes: reads the broken part, or holds a
-    /// beginning that more bytes may go on with. Returns what ended the call and how many bytes were read.
+    /// Ends a call before `rest`, which starts with no character: reads the malformed sequence, or keeps an incomplete
+    /// sequence as pending. Returns what ended the call and how many bytes were read.
     #[inline]
     pub(crate) fn end_before(&mut self, rest: &[u8], last: bool) -> (DecoderResult, usize)
         requires neutral { self.old ≡ [] }
@@ -183,8 +183,8 @@ impl Pending {
         self.end_in_beginning(rest, last)
     }
 
-    /// Ends a call before a first byte that begins several, but no character: reads the broken part, or holds a beginning
-    /// that more bytes may go on with. Out of line: most broken parts are one byte.
+    /// Ends a call as `end_before` does if the first byte starts a sequence of several. Out of line: most malformed
+    /// sequences are one byte.
     #[inline(never)]
     fn end_in_beginning(&mut self, rest: &[u8], last: bool) -> (DecoderResult, usize)
         requires not_empty { 0 < length rest.now }

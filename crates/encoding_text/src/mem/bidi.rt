@@ -1,4 +1,4 @@
-//! Whether text has characters that are written from right to left, and whether it is Latin1.
+//! Checks of text for right-to-left characters and for Latin1.
 
 ghost use Rattle.std.specs.Prelude.{◌≡◌, ◌<◌, ◌≤◌, ◌↔◌, ◌⊎◌, ℕ, length, IsTrue, IsFalse};
 ghost use Rattle.std.specs.Str.{IsUtf8};
@@ -20,10 +20,10 @@ use encoding_kernels::strides::{STRIDE, UNIT_STRIDE, front_of_bytes_below, front
 /// The first right-to-left scalar value.
 const FIRST: u32 = 0x0590;
 
-/// How many bytes are validated before they are looked at.
+/// How many bytes are validated before they are checked.
 const PIECE: usize = 4096;
 
-/// What is known of a text at a glance: whether it is Latin1, and else whether right-to-left characters are in it.
+/// Whether a text is Latin1, and if not, whether it has right-to-left characters.
 #[derive(Debug, PartialEq, Eq, Drop)]
 pub enum Latin1Bidi {
     Latin1 = 0,
@@ -31,7 +31,7 @@ pub enum Latin1Bidi {
     Bidi = 2,
 }
 
-/// Whether the scalar value is right-to-left.
+/// Returns whether the scalar value is right-to-left.
 fn is_right_to_left(scalar: u32) -> bool
     ensures { IsTrue result ↔ IsRightToLeft scalar }
 {
@@ -47,14 +47,14 @@ fn is_right_to_left(scalar: u32) -> bool
     }
 }
 
-/// Whether the character is right-to-left.
+/// Returns whether the character is right-to-left.
 pub fn is_char_bidi(c: char) -> bool
     ensures { IsTrue result ↔ IsRightToLeft c }
 {
     is_right_to_left(u32::from(c))
 }
 
-/// Whether the UTF-16 code unit is the high surrogate of right-to-left characters.
+/// Returns whether the UTF-16 code unit is the high surrogate of right-to-left characters.
 fn is_high_half(u: u16) -> bool
     ensures { IsTrue result ↔ (IsInRange 0xD802 0xD803 u ⊎ IsInRange 0xD83A 0xD83B u) }
 {
@@ -64,7 +64,7 @@ fn is_high_half(u: u16) -> bool
     }
 }
 
-/// Whether the UTF-16 code unit is a right-to-left character, or the high surrogate of one.
+/// Returns whether the UTF-16 code unit is a right-to-left character, or the high surrogate of one.
 pub fn is_utf16_code_unit_bidi(u: u16) -> bool
     ensures { IsTrue result ↔ IsRightToLeftUnit u }
 {
@@ -78,7 +78,7 @@ pub fn is_utf16_code_unit_bidi(u: u16) -> bool
     is_right_to_left(unit)
 }
 
-/// Whether the one character that these bytes spell is right-to-left.
+/// Returns whether the one character that these bytes encode is right-to-left.
 fn is_sequence_bidi(bytes: &[u8]) -> bool
     requires { IsSequence bytes.now }
     ensures { IsTrue result ↔ IsBidiText bytes.now }
@@ -86,7 +86,7 @@ fn is_sequence_bidi(bytes: &[u8]) -> bool
     is_right_to_left(scalar_of_sequence(bytes))
 }
 
-/// Whether right-to-left characters may begin with the byte.
+/// Returns whether right-to-left characters may start with the byte.
 fn may_begin(lead: u8) -> bool
     ensures { IsFalse result → (third : ℕ) → second_end lead (mark_lead third) ≡ 0 }
 {
@@ -96,7 +96,7 @@ fn may_begin(lead: u8) -> bool
     }
 }
 
-/// Whether a right-to-left character stands at the place.
+/// Returns whether a right-to-left character starts at the index.
 fn stands_at(bytes: &[u8], at: usize) -> bool
     requires { at < length bytes.now }
     ensures { IsTrue result ↔ StandsRightToLeft bytes.now at }
@@ -110,7 +110,7 @@ fn stands_at(bytes: &[u8], at: usize) -> bool
     is_sequence_bidi(&bytes[at..at + length])
 }
 
-/// Whether a right-to-left character stands at one of the places.
+/// Returns whether a right-to-left character starts at one of the indices.
 fn stands_between(bytes: &[u8], from: usize, to: usize) -> bool
     requires { (from ≤ to) × (to ≤ length bytes.now) }
     ensures found { IsTrue result → (k : ℕ) × (k < length bytes.now) × StandsRightToLeft bytes.now k }
@@ -124,7 +124,7 @@ fn stands_between(bytes: &[u8], from: usize, to: usize) -> bool
     false
 }
 
-/// Whether a character of the well-formed text is right-to-left.
+/// Returns whether a character of the well-formed text is right-to-left.
 fn is_text_bidi(bytes: &[u8]) -> bool
     requires { IsUtf8 bytes.now }
     ensures { IsTrue result ↔ IsBidiText bytes.now }
@@ -140,14 +140,14 @@ fn is_text_bidi(bytes: &[u8]) -> bool
     false
 }
 
-/// Whether a character of the text is right-to-left.
+/// Returns whether a character of the text is right-to-left.
 pub fn is_str_bidi(buffer: &str) -> bool
     ensures { IsTrue result ↔ IsBidiText buffer.now }
 {
     is_text_bidi(buffer.as_bytes())
 }
 
-/// Whether the bytes are not well-formed UTF-8, or one of their characters is right-to-left.
+/// Returns whether the bytes are not well-formed UTF-8, or one of their characters is right-to-left.
 pub fn is_utf8_bidi(buffer: &[u8]) -> bool
     ensures { IsTrue result ↔ IsBidiBytes buffer.now }
 {
@@ -156,7 +156,7 @@ pub fn is_utf8_bidi(buffer: &[u8]) -> bool
         let length = PIECE.min(buffer.len() - at);
         let piece = &buffer[at..at + length];
         let front = utf8_valid_up_to(piece);
-        // in front of the next piece a character may be cut, of which up to three bytes are here
+        // the end of a piece may cut a character after up to three bytes
         let cut = if length == PIECE { 3 } else { 0 };
         if length - front > cut {
             return true;
@@ -169,7 +169,8 @@ pub fn is_utf8_bidi(buffer: &[u8]) -> bool
     false
 }
 
-/// Whether a character of the UTF-16 code units is right-to-left, or a lone high surrogate may be half of one.
+/// Returns whether a character of the UTF-16 code units is right-to-left, or an unpaired high surrogate may be half of
+/// one.
 pub fn is_utf16_bidi(buffer: &[u16]) -> bool
     ensures { IsTrue result ↔ IsBidiUnits buffer.now }
 {
@@ -186,15 +187,15 @@ pub fn is_utf16_bidi(buffer: &[u16]) -> bool
     false
 }
 
-/// The number of code units in the longest prefix that is Latin1.
+/// Returns the length of the longest prefix that is Latin1.
 fn utf16_latin1_up_to(buffer: &[u16]) -> usize
     ensures { IsLongestFront IsLatin1 buffer.now result }
 {
     front_of_units_below(buffer, LATIN1_END)
 }
 
-/// Returns `Latin1` where the bytes are the UTF-8 of scalar values up to U+00FF, else `Bidi` where `is_utf8_bidi` holds,
-/// and else `LeftToRight`.
+/// Returns `Latin1` if the bytes are the UTF-8 of scalar values up to U+00FF, otherwise `Bidi` if `is_utf8_bidi` holds,
+/// and otherwise `LeftToRight`.
 pub fn check_utf8_for_latin1_and_bidi(buffer: &[u8]) -> Latin1Bidi
     ensures { Classifies (IsUtf8Latin1 buffer.now) (IsBidiBytes buffer.now) result }
 {
@@ -209,8 +210,8 @@ pub fn check_utf8_for_latin1_and_bidi(buffer: &[u8]) -> Latin1Bidi
     }
 }
 
-/// Returns `Latin1` where the scalar values of the text are each up to U+00FF, else `Bidi` where `is_str_bidi` holds,
-/// and else `LeftToRight`.
+/// Returns `Latin1` if the scalar values of the text are each up to U+00FF, otherwise `Bidi` if `is_str_bidi` holds,
+/// and otherwise `LeftToRight`.
 pub fn check_str_for_latin1_and_bidi(buffer: &str) -> Latin1Bidi
     ensures { Classifies (IsUtf8Latin1 buffer.now) (IsBidiText buffer.now) result }
 {
@@ -225,7 +226,7 @@ pub fn check_str_for_latin1_and_bidi(buffer: &str) -> Latin1Bidi
     }
 }
 
-/// Returns `Latin1` where each UTF-16 code unit is up to 0x00FF, else `Bidi` where `is_utf16_bidi` holds, and else
+/// Returns `Latin1` if each UTF-16 code unit is up to 0x00FF, otherwise `Bidi` if `is_utf16_bidi` holds, and otherwise
 /// `LeftToRight`.
 pub fn check_utf16_for_latin1_and_bidi(buffer: &[u16]) -> Latin1Bidi
     ensures { Classifies (IsLatin1 buffer.now) (IsBidiUnits buffer.now) result }

@@ -1,4 +1,4 @@
-//! Conversions from and to Latin1 that borrow their input where it is ASCII.
+//! Conversions from and to Latin1 that borrow their input if it is ASCII.
 
 ghost use Rattle.std.specs.Prelude.{◌≡◌, ◌+◌, ◌-◌, ◌*◌, ◌≤◌, length, take, encode_utf8_all, IfOk};
 ghost use Rattle.std.specs.Str.{IsAscii, chars};
@@ -14,23 +14,24 @@ use std::alloc::{AllocError, Global};
 /// A text that is borrowed or owned.
 #[derive(Debug, PartialEq, Eq, Drop)]
 pub enum CowStr<'a> {
-    /// The text of the input, which takes no memory.
+    /// The text of the input. Nothing is allocated.
     Borrowed(&'a str),
-    /// A text of its own.
+    /// An allocated text.
     Owned(String),
 }
 
 /// Bytes that are borrowed or owned.
 #[derive(Debug, PartialEq, Eq, Drop)]
 pub enum CowBytes<'a> {
-    /// The bytes of the input, which take no memory.
+    /// The bytes of the input. Nothing is allocated.
     Borrowed(&'a [u8]),
-    /// Bytes of their own.
+    /// Allocated bytes.
     Owned(Vec<u8>),
 }
 
-/// The text whose characters are the bytes: borrowed exactly if they are ASCII, and then no memory is taken. Otherwise
-/// the text is owned, and `AllocError` says that its one growth was refused or would pass `usize`.
+/// Returns the text whose characters are the bytes. It is borrowed if and only if they are ASCII, and then nothing is
+/// allocated. Otherwise the text is owned; `AllocError` means that its one allocation failed or would exceed
+/// `usize::MAX`.
 pub fn decode_latin1<'a>(alloc: Global, bytes: &'a [u8]) -> Result<CowStr<'a>, AllocError>
     ensures { DecodesLatin1 bytes.now result }
 {
@@ -41,8 +42,8 @@ pub fn decode_latin1<'a>(alloc: Global, bytes: &'a [u8]) -> Result<CowStr<'a>, A
     Ok(CowStr::Owned(utf8_of_latin1(alloc, bytes, front)?))
 }
 
-/// The scalar values of Latin1 text as bytes: borrowed exactly if they are ASCII, and then no memory is taken.
-/// Otherwise the bytes are owned, and `AllocError` says that their one growth was refused.
+/// Returns the scalar values of Latin1 text as bytes. They are borrowed if and only if they are ASCII, and then nothing
+/// is allocated. Otherwise they are owned; `AllocError` means that their one allocation failed.
 pub fn encode_latin1_lossy<'a>(alloc: Global, string: &'a str) -> Result<CowBytes<'a>, AllocError>
     requires latin1 { IsUtf8Latin1 string.now }
     ensures encoded { EncodesLatin1 string.now result }
@@ -55,7 +56,7 @@ pub fn encode_latin1_lossy<'a>(alloc: Global, string: &'a str) -> Result<CowByte
     Ok(CowBytes::Owned(latin1_of_utf8(alloc, text, front)?))
 }
 
-/// ASCII bytes as a text.
+/// Returns ASCII bytes as a text.
 fn ascii_text<'a>(bytes: &'a [u8]) -> &'a str
     requires { IsAscii bytes.now }
     ensures { result.now ≡ bytes.now }
@@ -63,7 +64,7 @@ fn ascii_text<'a>(bytes: &'a [u8]) -> &'a str
     unsafe { std::str::from_utf8_unchecked(bytes) }
 }
 
-/// The text whose characters are the bytes, of which those before `front` are ASCII.
+/// Returns the text whose characters are the bytes. The first `front` bytes are ASCII.
 fn utf8_of_latin1(alloc: Global, bytes: &[u8], front: usize) -> Result<String, AllocError>
     requires within { front ≤ length bytes.now }
     requires ascii { IsAscii (take front bytes.now) }
@@ -82,8 +83,8 @@ fn utf8_of_latin1(alloc: Global, bytes: &[u8], front: usize) -> Result<String, A
     Ok(unsafe { String::from_utf8_unchecked(text) })
 }
 
-/// Writes the UTF-8 of bytes as characters, of which it copies those before `front`, which are ASCII, and returns how
-/// many bytes it wrote. Behind what is written `dst` is as before.
+/// Writes the UTF-8 of the bytes as characters, and returns its length. Copies the first `front` bytes, which are
+/// ASCII. The rest of `dst` is unchanged.
 fn write_utf8_of_latin1(bytes: &[u8], front: usize, dst: &mut [u8]) -> usize
     requires within { front ≤ length bytes.now }
     requires ascii { IsAscii (take front bytes.now) }
@@ -94,7 +95,7 @@ fn write_utf8_of_latin1(bytes: &[u8], front: usize, dst: &mut [u8]) -> usize
     front + latin1::convert_latin1_to_utf8(&bytes[front..], &mut dst[front..])
 }
 
-/// The scalar values of Latin1 text in UTF-8, of which the bytes before `front` are ASCII.
+/// Returns the scalar values of Latin1 text in UTF-8. The first `front` bytes are ASCII.
 fn latin1_of_utf8(alloc: Global, text: &[u8], front: usize) -> Result<Vec<u8>, AllocError>
     requires latin1 { IsUtf8Latin1 text.now }
     requires within { front ≤ length text.now }
@@ -108,8 +109,8 @@ fn latin1_of_utf8(alloc: Global, text: &[u8], front: usize) -> Result<Vec<u8>, A
     Ok(bytes)
 }
 
-/// Writes the scalar values of Latin1 text, of which it copies the bytes before `front`, which are ASCII, and returns
-/// how many bytes it wrote. Behind what is written `dst` is as before.
+/// Writes the scalar values of Latin1 text in UTF-8, and returns how many bytes it wrote. Copies the first `front`
+/// bytes, which are ASCII. The rest of `dst` is unchanged.
 fn write_latin1_of_utf8(text: &[u8], front: usize, dst: &mut [u8]) -> usize
     requires latin1 { IsUtf8Latin1 text.now }
     requires within { front ≤ length text.now }

@@ -1,4 +1,4 @@
-//! Whether text is ASCII or Latin1, and how far.
+//! Checks of text for ASCII and Latin1, and the lengths of such prefixes.
 
 ghost use Rattle.std.specs.Prelude.{◌<◌, ◌≤◌, ◌↔◌, length, take, IsTrue};
 ghost use Rattle.std.specs.Str.{IsAscii};
@@ -20,42 +20,42 @@ pub(super) const LATIN1_END: u16 = 0x100;
 /// The first byte of U+0080 to U+00BF; that of U+00C0 to U+00FF is one more.
 const LATIN1_LEAD: u8 = 0xC2;
 
-/// Whether each byte is ASCII.
+/// Returns whether each byte is ASCII.
 pub fn is_ascii(buffer: &[u8]) -> bool
     ensures { IsTrue result ↔ IsAscii buffer.now }
 {
     are_all_bytes_below(buffer, ASCII_END)
 }
 
-/// Whether each UTF-16 code unit is ASCII.
+/// Returns whether each UTF-16 code unit is ASCII.
 pub fn is_basic_latin(buffer: &[u16]) -> bool
     ensures { IsTrue result ↔ IsAscii buffer.now }
 {
     are_all_units_below(buffer, BASIC_LATIN_END)
 }
 
-/// Whether the bytes are well-formed UTF-8 whose scalar values are each up to U+00FF.
+/// Returns whether the bytes are well-formed UTF-8 whose scalar values are each up to U+00FF.
 pub fn is_utf8_latin1(buffer: &[u8]) -> bool
     ensures { IsTrue result ↔ IsUtf8Latin1 buffer.now }
 {
     utf8_latin1_up_to(buffer) == buffer.len()
 }
 
-/// Whether the scalar values of the text are each up to U+00FF.
+/// Returns whether the scalar values of the text are each up to U+00FF.
 pub fn is_str_latin1(buffer: &str) -> bool
     ensures { IsTrue result ↔ IsUtf8Latin1 buffer.now }
 {
     str_latin1_up_to(buffer) == buffer.len()
 }
 
-/// Whether each UTF-16 code unit is up to 0x00FF.
+/// Returns whether each UTF-16 code unit is up to 0x00FF.
 pub fn is_utf16_latin1(buffer: &[u16]) -> bool
     ensures { IsTrue result ↔ IsLatin1 buffer.now }
 {
     are_all_units_below(buffer, LATIN1_END)
 }
 
-/// The number of bytes in the longest prefix that is the UTF-8 of scalar values up to U+00FF.
+/// Returns the length of the longest prefix that is the UTF-8 of scalar values up to U+00FF.
 #[inline]
 pub fn utf8_latin1_up_to(buffer: &[u8]) -> usize
     ensures { IsLongestFront IsUtf8Latin1 buffer.now result }
@@ -64,15 +64,15 @@ pub fn utf8_latin1_up_to(buffer: &[u8]) -> usize
         return longest_latin1(buffer, 0);
     }
     let run = run_of_bytes_below::<STRIDE>(buffer, 0, ASCII_END);
-    // most other text ends here
+    // most text that isn't Latin1 ends here
     if run < STRIDE && buffer[run] >= BEYOND_LATIN1 {
         return run;
     }
     longest_latin1(buffer, run)
 }
 
-/// How far an ASCII prefix goes on from where its first stride has it: behind a whole stride, or from the beginning.
-/// Elsewhere it ends at once.
+/// Returns the length of an ASCII prefix whose first `from` bytes are known to be ASCII. Searches on from the start or
+/// after a whole stride; at any other `from` the prefix ends.
 #[inline(always)]
 fn ascii_front(bytes: &[u8], from: usize) -> usize
     requires { (from ≤ length bytes.now) × BelowUpTo 0x80 bytes.now from }
@@ -86,7 +86,7 @@ fn ascii_front(bytes: &[u8], from: usize) -> usize
     }
 }
 
-/// How far the bytes are Latin1 in UTF-8, by an ASCII prefix that goes on from a place and whole blocks.
+/// Returns the length of a prefix that is Latin1 in UTF-8: an ASCII prefix, known up to `from`, and whole blocks.
 #[tactic(auto, using(encoding_kernels::proofs::Paired::PairsLemmas::ascii_latin1))]
 #[inline(always)]
 fn latin1_front(bytes: &[u8], from: usize) -> usize
@@ -103,15 +103,15 @@ fn latin1_front(bytes: &[u8], from: usize) -> usize
     latin1_blocks(bytes, front + 1)
 }
 
-/// Whether a Latin1 character of two bytes begins with the byte.
+/// Returns whether a Latin1 character of two bytes starts with the byte.
 fn is_latin1_lead(byte: u8) -> bool
     ensures { IsTrue result → (0xC2 ≤ byte) × (byte < 0xC4) }
 {
     byte == 0xC2 || byte == 0xC3
 }
 
-/// The length of the longest prefix that is Latin1 in UTF-8, by its whole blocks and then singly, behind ASCII up to a place.
-/// Out of line.
+/// Returns the length of the longest prefix that is Latin1 in UTF-8, by whole blocks and then by characters. The first
+/// `from` bytes are ASCII. Out of line.
 #[inline(never)]
 fn longest_latin1(buffer: &[u8], from: usize) -> usize
     requires { (from ≤ length buffer.now) × BelowUpTo 0x80 buffer.now from }
@@ -136,7 +136,7 @@ fn longest_latin1(buffer: &[u8], from: usize) -> usize
     read
 }
 
-/// The number of bytes in the longest prefix of the text whose scalar values are each up to U+00FF.
+/// Returns the length in bytes of the longest prefix of the text whose scalar values are each up to U+00FF.
 pub fn str_latin1_up_to(buffer: &str) -> usize
     ensures { IsLongestFront IsUtf8Latin1 buffer.now result }
 {

@@ -1,4 +1,4 @@
-//! Copies of the ASCII prefix.
+//! Copies of the ASCII prefix. A copy leaves the rest of `dst` unchanged.
 
 ghost use Rattle.std.specs.Prelude.{◌≤◌, take, length};
 ghost use Rattle.std.specs.Str.{IsAscii};
@@ -6,8 +6,7 @@ ghost use Rattle.encoding_definitions.specs.Fronts.{IsLongestFront, WritesFront}
 
 use crate::ascii;
 
-/// Copies the longest ASCII prefix and returns its length. `dst` is no shorter than `src`. Behind what is written `dst`
-/// is as before.
+/// Copies the longest ASCII prefix and returns its length. `dst` is at least as long as `src`.
 pub fn copy_ascii_to_ascii(src: &[u8], dst: &mut [u8]) -> usize
     requires room { length src.now ≤ length dst.old }
     ensures front { IsLongestFront IsAscii src.now result }
@@ -19,8 +18,8 @@ pub fn copy_ascii_to_ascii(src: &[u8], dst: &mut [u8]) -> usize
     }
 }
 
-/// Copies the longest ASCII prefix, each byte as a UTF-16 code unit, and returns its length. `dst` is no shorter than
-/// `src`. Behind what is written `dst` is as before.
+/// Copies the longest ASCII prefix, each byte as a UTF-16 code unit, and returns its length. `dst` is at least as long
+/// as `src`.
 pub fn copy_ascii_to_basic_latin(src: &[u8], dst: &mut [u16]) -> usize
     requires room { length src.now ≤ length dst.old }
     ensures front { IsLongestFront IsAscii src.now result }
@@ -32,8 +31,8 @@ pub fn copy_ascii_to_basic_latin(src: &[u8], dst: &mut [u16]) -> usize
     }
 }
 
-/// Copies the longest ASCII prefix of UTF-16 code units, each as a byte, and returns its length. `dst` is no shorter than
-/// `src`. Behind what is written `dst` is as before.
+/// Copies the longest ASCII prefix of UTF-16 code units, each as a byte, and returns its length. `dst` is at least as
+/// long as `src`.
 pub fn copy_basic_latin_to_ascii(src: &[u16], dst: &mut [u8]) -> usize
     requires room { length src.now ≤ length dst.old }
     ensures front { IsLongestFront IsAscii src.now result }

@@ -1,5 +1,5 @@
 //! Conversions from and to Latin1, in which each byte is the scalar value of its character. Infra Standard: isomorphic
-//! decode and encode.
+//! decode and encode. A conversion leaves the rest of `dst` unchanged.
 
 ghost use Rattle.std.specs.Prelude.{◌≡◌, ◌*◌, ◌%◌, ◌<◌, ◌≤◌, ◌⊎◌, [], ◌∷◌, take, length, map, encode_utf8, encode_utf8_all};
 ghost use Rattle.std.specs.Str.{chars};
@@ -13,16 +13,16 @@ use encoding_kernels::strides::{
 use encoding_kernels::utf8_to_latin1::latin1_of;
 use std::simd::prelude::*;
 
-/// The bytes that a character from U+0080 to U+00FF takes in UTF-8.
+/// The length in UTF-8 of a character from U+0080 to U+00FF.
 const HIGH_LENGTH: usize = 2;
 
-/// Writes each byte as a UTF-16 code unit. `dst` is no shorter than `src`. Behind what is written `dst` is as before.
+/// Writes each byte as a UTF-16 code unit. `dst` is at least as long as `src`.
 pub fn convert_latin1_to_utf16(src: &[u8], dst: &mut [u16])
     requires room { length src.now ≤ length dst.old }
     ensures written { WritesFront dst.old dst.new (length src.now) src.now }
 {
     let mut at = 0;
-    // four at a time, in the order of their places: as many bytes in one vector are stored out of order
+    // four at a time, stored in order: one vector of as many bytes is stored out of order
     while src.len() - at >= 4 * STRIDE {
         unpack::<STRIDE>(src, dst, at);
         unpack::<STRIDE>(src, dst, at + STRIDE);
@@ -39,10 +39,11 @@ pub fn convert_latin1_to_utf16(src: &[u8], dst: &mut [u16])
     }
 }
 
-/// Writes the UTF-8 of an ASCII prefix of `src` and of blocks of sixteen bytes behind it, and returns how many bytes
-/// these are and how many it wrote. Behind what is written `dst` is as before.
+/// Writes the UTF-8 of an ASCII prefix of `src` and of the blocks of 16 bytes after it. Returns how many bytes it read
+/// and how many it wrote.
 ///
-/// Four blocks share one test for ASCII: where ASCII and others stand mixed, a mispredicted branch costs more than a block.
+/// Four blocks share one test for ASCII: if ASCII and other bytes are mixed, a mispredicted branch costs more than a
+/// block.
 fn convert_latin1_blocks(src: &[u8], dst: &mut [u8]) -> (usize, usize)
     ensures within { result.0 ≤ length src.now }
     ensures written { WritesFront dst.old dst.new result.1 (encode_utf8_all (take result.0 src.now)) }
@@ -69,8 +70,8 @@ fn convert_latin1_blocks(src: &[u8], dst: &mut [u8]) -> (usize, usize)
     (read, written)
 }
 
-/// Writes the UTF-8 of the longest prefix of `src` whose UTF-8 fits into `dst`, and returns how many bytes it read and
-/// how many it wrote: Encoding Standard, `encodeInto`. Behind what is written `dst` is as before.
+/// Writes the UTF-8 of the longest prefix of `src` whose UTF-8 fits into `dst`. Returns how many bytes it read and how
+/// many it wrote. Encoding Standard, `encodeInto`.
 pub fn convert_latin1_to_utf8_partial(src: &[u8], dst: &mut [u8]) -> (usize, usize)
     ensures front { FitsLongest (λ b. b ∷ []) encode_utf8 src.now (length dst.old) result.0
         (encode_utf8_all (take result.0 src.now)) }
@@ -99,7 +100,7 @@ pub fn convert_latin1_to_utf8_partial(src: &[u8], dst: &mut [u8]) -> (usize, usi
 }
 
 /// Writes the UTF-8 of each byte as a character, and returns how many bytes it wrote. `dst` is at least twice as long
-/// as `src`. Behind what is written `dst` is as before.
+/// as `src`.
 pub fn convert_latin1_to_utf8(src: &[u8], dst: &mut [u8]) -> usize
     requires room { 2 * length src.now ≤ length dst.old }
     ensures written { WritesFront dst.old dst.new result (encode_utf8_all src.now) }
@@ -108,7 +109,7 @@ pub fn convert_latin1_to_utf8(src: &[u8], dst: &mut [u8]) -> usize
     written
 }
 
-/// How many of sixteen bytes stand before a character that is cut at their end, by the last of them.
+/// Returns how many of 16 bytes are before a character that is cut at their end, by the last of them.
 #[inline(always)]
 fn whole_length(last: u8) -> usize
     ensures { ((result ≡ 15) × (0xC0 ≤ last)) ⊎ ((result ≡ 16) × (last < 0xC0)) }
@@ -117,7 +118,7 @@ fn whole_length(last: u8) -> usize
 }
 
 /// Writes the scalar value of each character of Latin1 text in UTF-8 as a byte, and returns how many bytes it wrote.
-/// `dst` holds that many, which `latin1_length_from_utf8` counts. Behind what is written `dst` is as before.
+/// `dst` has at least that length, which `latin1_length_from_utf8` returns.
 pub fn convert_utf8_to_latin1(src: &[u8], dst: &mut [u8]) -> usize
     requires room { length (chars src.now) ≤ length dst.old }
     requires latin1 { IsUtf8Latin1 src.now }
@@ -152,7 +153,7 @@ pub fn convert_utf8_to_latin1(src: &[u8], dst: &mut [u8]) -> usize
 }
 
 /// Writes the scalar value of each character of Latin1 text in UTF-8 as a byte, and returns how many bytes it wrote.
-/// `dst` is no shorter than `src`. Behind what is written `dst` is as before.
+/// `dst` is at least as long as `src`.
 #[tactic(auto, using(encoding_kernels::proofs::Sums::TextLemmas::chars_total))]
 pub fn convert_utf8_to_latin1_lossy(src: &[u8], dst: &mut [u8]) -> usize
     requires room { length src.now ≤ length dst.old }
@@ -162,8 +163,7 @@ pub fn convert_utf8_to_latin1_lossy(src: &[u8], dst: &mut [u8]) -> usize
     convert_utf8_to_latin1(src, dst)
 }
 
-/// Writes the low eight bits of each UTF-16 code unit as a byte. `dst` is no shorter than `src`. Behind what is written
-/// `dst` is as before.
+/// Writes the low eight bits of each UTF-16 code unit as a byte. `dst` is at least as long as `src`.
 pub fn convert_utf16_to_latin1_lossy(src: &[u16], dst: &mut [u8])
     requires room { length src.now ≤ length dst.old }
     ensures written { WritesFront dst.old dst.new (length src.now) (map (λ unit. unit % 0x100) src.now) }

@@ -1,4 +1,4 @@
-//! Lone surrogates in UTF-16: how far code units are valid, and their repair in place.
+//! Unpaired surrogates in UTF-16: the longest valid prefix, and repair in place.
 
 ghost use Rattle.std.specs.Prelude.{◌-◌, ◌≤◌, length, drop};
 ghost use Rattle.encoding_definitions.specs.Fronts.{IsLongestFront};
@@ -8,11 +8,11 @@ ghost use Rattle.encoding_definitions.specs.Utf16.{AreUnits};
 use encoding_kernels::pair_blocks::paired_front;
 use encoding_kernels::surrogates::{is_high_surrogate, is_low_surrogate, is_surrogate};
 
-/// What stands in place of a lone surrogate.
+/// What replaces an unpaired surrogate.
 const REPLACEMENT_UNIT: u16 = 0xFFFD;
 
-/// The number of code units in the longest prefix that has no lone surrogate among its parts: the place of the first
-/// lone surrogate, or the length of `buffer`.
+/// Returns the length of the longest prefix without an unpaired surrogate: the index of the first one, or the length of
+/// `buffer`.
 pub fn utf16_valid_up_to(buffer: &[u16]) -> usize
     ensures { IsLongestFront IsValidUtf16 buffer.now result }
 {
@@ -31,7 +31,8 @@ pub fn utf16_valid_up_to(buffer: &[u16]) -> usize
     at
 }
 
-/// The place of the first lone surrogate among the code units from this place on, or the length of `units`.
+/// Returns the index of the first unpaired surrogate among the code units from index `from` on, or the length of
+/// `units`.
 fn next_lone(units: &[u16], from: usize) -> usize
     requires { from ≤ length units.now }
     ensures behind { from ≤ result }
@@ -41,7 +42,7 @@ fn next_lone(units: &[u16], from: usize) -> usize
     from + utf16_valid_up_to(&units[from..])
 }
 
-/// Writes U+FFFD in place of each lone surrogate. All other code units stay as before.
+/// Replaces each unpaired surrogate by U+FFFD. All other code units are unchanged.
 pub fn ensure_utf16_validity(buffer: &mut [u16])
     ensures { AreRepairedUnits buffer.old buffer.new }
 {

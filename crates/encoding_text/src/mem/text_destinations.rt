@@ -1,4 +1,4 @@
-//! Conversions into the front of a text, which is well-formed before the call and after it.
+//! Conversions into the start of a text, which is well-formed before the call and after it.
 
 ghost use Rattle.std.specs.Prelude.{◌≡◌, ◌*◌, ◌≤◌, [], ◌∷◌, length, take, encode_utf8, encode_utf8_all};
 ghost use Rattle.std.specs.Str.{IsUtf8};
@@ -11,14 +11,14 @@ use crate::mem::latin1::{convert_latin1_to_utf8, convert_latin1_to_utf8_partial}
 use crate::utf_8::encoding::convert_utf16_to_utf8_partial;
 use encoding_kernels::sequence::is_continuation;
 
-/// How many bytes behind what is written the conversions from Latin1 set to zero, whatever they were.
+/// How many bytes after the output the conversions from Latin1 always set to zero.
 const LATIN1_ZEROS: usize = 16;
 
-/// Converts the first characters of `src` from UTF-16 to UTF-8, as many as fit into `dst`, and returns how many
-/// units it read and how many bytes it wrote: `convert_utf16_to_utf8_partial`, into a text.
+/// Converts the first characters of `src` from UTF-16 to UTF-8, as many as fit into `dst`. Returns how many code units
+/// it read and how many bytes it wrote: `convert_utf16_to_utf8_partial`, into a text.
 ///
-/// `dst` is well-formed before and after. The continuation bytes directly behind what is written become zero, and
-/// behind those `dst` is as before.
+/// `dst` is well-formed before and after. The continuation bytes directly after the output become zero, and the rest of
+/// `dst` is unchanged.
 pub fn convert_utf16_to_str_partial(src: &[u16], dst: &mut [u8]) -> (usize, usize)
     requires text { IsUtf8 dst.old }
     ensures longest { IsUtf8OfLongestFront src.now (length dst.old) result.0 (take result.1 dst.new) }
@@ -32,10 +32,10 @@ pub fn convert_utf16_to_str_partial(src: &[u16], dst: &mut [u8]) -> (usize, usiz
 }
 
 /// Converts all of `src` from UTF-16 to UTF-8, and returns how many bytes it wrote: `convert_utf16_to_utf8`, into a
-/// text. `dst` has at least three bytes for each unit of `src`.
+/// text. `dst` has at least three bytes for each code unit of `src`.
 ///
-/// `dst` is well-formed before and after. The continuation bytes directly behind what is written become zero, and
-/// behind those `dst` is as before.
+/// `dst` is well-formed before and after. The continuation bytes directly after the output become zero, and the rest of
+/// `dst` is unchanged.
 pub fn convert_utf16_to_str(src: &[u16], dst: &mut [u8]) -> usize
     requires room { 3 * length src.now ≤ length dst.old }
     requires text { IsUtf8 dst.old }
@@ -48,11 +48,11 @@ pub fn convert_utf16_to_str(src: &[u16], dst: &mut [u8]) -> usize
     end
 }
 
-/// Writes the UTF-8 of the longest prefix of `src` whose UTF-8 fits into `dst`, and returns how many bytes were read
-/// and how many were written: `convert_latin1_to_utf8_partial`, into a text.
+/// Writes the UTF-8 of the longest prefix of `src` whose UTF-8 fits into `dst`. Returns how many bytes it read and how
+/// many it wrote: `convert_latin1_to_utf8_partial`, into a text.
 ///
-/// `dst` is well-formed before and after. The sixteen bytes behind what is written, or all where there are fewer, and
-/// then the continuation bytes directly behind those become zero. Behind all these `dst` is as before.
+/// `dst` is well-formed before and after. The 16 bytes after the output, or all if there are fewer, and then the
+/// continuation bytes directly after those become zero. The rest of `dst` is unchanged.
 pub fn convert_latin1_to_str_partial(src: &[u8], dst: &mut [u8]) -> (usize, usize)
     requires text { IsUtf8 dst.old }
     ensures front { FitsLongest (λ b. b ∷ []) encode_utf8 src.now (length dst.old) result.0
@@ -65,11 +65,11 @@ pub fn convert_latin1_to_str_partial(src: &[u8], dst: &mut [u8]) -> (usize, usiz
     (read, written)
 }
 
-/// Writes the UTF-8 of each byte as a character, and returns how many bytes were written: `convert_latin1_to_utf8`,
-/// into a text. `dst` is at least twice as long as `src`.
+/// Writes the UTF-8 of each byte as a character, and returns how many bytes it wrote: `convert_latin1_to_utf8`, into a
+/// text. `dst` is at least twice as long as `src`.
 ///
-/// `dst` is well-formed before and after. The sixteen bytes behind what is written, or all where there are fewer, and
-/// then the continuation bytes directly behind those become zero. Behind all these `dst` is as before.
+/// `dst` is well-formed before and after. The 16 bytes after the output, or all if there are fewer, and then the
+/// continuation bytes directly after those become zero. The rest of `dst` is unchanged.
 pub fn convert_latin1_to_str(src: &[u8], dst: &mut [u8]) -> usize
     requires room { 2 * length src.now ≤ length dst.old }
     requires text { IsUtf8 dst.old }
@@ -81,8 +81,8 @@ pub fn convert_latin1_to_str(src: &[u8], dst: &mut [u8]) -> usize
     end
 }
 
-/// Sets the first `zeros` bytes to zero, or all where there are fewer, and then the continuation bytes directly
-/// behind those. It reads no byte behind the first that is no continuation byte.
+/// Sets the first `zeros` bytes to zero, or all if there are fewer, and then the continuation bytes directly after
+/// those. It reads no byte after the first that is no continuation byte.
 #[inline(never)]
 fn clear(bytes: &mut [u8], zeros: usize)
     ensures { bytes.new ≡ clear_front zeros bytes.old }

@@ -1,4 +1,4 @@
-//! From UTF-8 to UTF-16, whole buffers.
+//! From UTF-8 to UTF-16, whole buffers. A conversion leaves the rest of `dst` unchanged.
 
 ghost use Rattle.std.specs.Prelude.{◌≡◌, ℕ, ◌<◌, ◌≤◌, ◌↔◌, List, length, IfSome, IsSome};
 ghost use Rattle.std.specs.List.{flat_map};
@@ -12,10 +12,10 @@ use crate::decoder::{DecoderResult, Utf8Decoder};
 use crate::utf_8::convert_utf8_to_utf16_up_to_invalid;
 use encoding_kernels::utf8_to_utf16::convert_valid_utf8_to_utf16;
 
-/// Converts bytes to UTF-16, with U+FFFD for each broken part, and returns how many code units it wrote: Encoding
-/// Standard, UTF-8 decode without BOM.
+/// Converts bytes to UTF-16, with U+FFFD for each malformed sequence, and returns how many code units it wrote.
+/// Encoding Standard, UTF-8 decode without BOM.
 ///
-/// `dst` holds at least one code unit more than `src` has bytes. Behind what is written `dst` is as before.
+/// `dst` has at least one code unit more than `src` has bytes.
 pub fn convert_utf8_to_utf16(src: &[u8], dst: &mut [u16]) -> usize
     requires room { length src.now < length dst.old }
     ensures { (parts : List Part) × ArePartsOf src.now parts × WritesFront dst.old dst.new result (repaired_utf16 parts) }
@@ -44,7 +44,7 @@ pub fn convert_utf8_to_utf16(src: &[u8], dst: &mut [u16]) -> usize
 
 /// Converts a text to UTF-16, and returns how many code units it wrote.
 ///
-/// `dst` holds at least as many code units as `src` has bytes. Behind what is written `dst` is as before.
+/// `dst` has at least as many code units as `src` has bytes.
 pub fn convert_str_to_utf16(src: &str, dst: &mut [u16]) -> usize
     requires room { length src.now ≤ length dst.old }
     ensures { WritesFront dst.old dst.new result (flat_map encode_utf16 (chars src.now)) }
@@ -52,10 +52,10 @@ pub fn convert_str_to_utf16(src: &str, dst: &mut [u16]) -> usize
     convert_valid_utf8_to_utf16(src.as_bytes(), dst)
 }
 
-/// Converts bytes to UTF-16, and returns how many code units it wrote where they are well-formed, else `None`.
+/// Converts bytes to UTF-16. Returns how many code units it wrote if the bytes are well-formed, and otherwise `None`.
 ///
-/// Just the characters of the longest well-formed prefix are written. `dst` holds at least as many code units as `src`
-/// has bytes. Behind what is written `dst` is as before.
+/// Only the characters of the longest well-formed prefix are written. `dst` has at least as many code units as `src`
+/// has bytes.
 pub fn convert_utf8_to_utf16_without_replacement(src: &[u8], dst: &mut [u16]) -> Option<usize>
     requires room { length src.now ≤ length dst.old }
     ensures whole { IsSome result ↔ IsUtf8 src.now }

@@ -1,4 +1,4 @@
-//! From UTF-8 to UTF-16, and its twin from UTF-8 to UTF-8.
+//! From UTF-8 to UTF-16, and its twin from UTF-8 to UTF-8. A conversion leaves the rest of `dst` unchanged.
 ghost use Rattle.std.specs.Prelude.{◌≡◌, ℕ, ◌<◌, ◌≤◌, List, length, encode_utf8, IfSome, IfNone};
 ghost use Rattle.std.specs.Char.{IsScalar};
 ghost use Rattle.std.specs.Char.Escape.{encode_utf16};
@@ -12,7 +12,7 @@ use encoding_kernels::scalars::{scalar_of_sequence, write_utf16};
 use encoding_kernels::strides::copy_front;
 use encoding_kernels::utf8_to_utf16::{convert_ascii_front, convert_valid_utf8_to_utf16};
 
-/// The most bytes that are validated before they are converted: so many stay in the nearest cache.
+/// The most bytes that are validated before they are converted: they stay in the nearest cache.
 const PIECE: usize = 4096;
 
 /// What text is converted to: bytes of UTF-8, or code units of UTF-16.
@@ -20,16 +20,16 @@ pub(crate) trait CodeUnit: Copy {
     // a scalar value in these code units
     ghost encode: { ℕ → List Self };
 
-    // the most code units that a character takes: the room that a call needs to get on
+    // the most code units that a character takes: the space that a call needs to make progress
     ghost need: { ℕ };
 
-    /// The most code units that a character takes.
+    /// Returns the most code units that a character takes.
     fn needed_room() -> usize
         ensures room { result ≡ need }
         ensures holds_any { (c : ℕ) → IsScalar c → length (encode c) ≤ need };
 
-    /// Converts UTF-8 up to the first byte that no character takes, or as far as whole characters fit, and returns
-    /// how many bytes it read and how many code units it wrote. Behind what is written `dst` is as before.
+    /// Converts UTF-8 up to the first byte that is in no character, or as far as whole characters fit. Returns how many
+    /// bytes it read and how many code units it wrote.
     fn convert_up_to_invalid(src: &[u8], dst: &mut [Self]) -> (usize, usize)
         ensures { ConvertsFront encode src.now dst.old dst.new result.0 result.1 };
 }
@@ -66,9 +66,8 @@ impl CodeUnit for u8 {
     }
 }
 
-/// Converts UTF-8 to UTF-16 up to the first byte that no character takes, or as far as whole characters fit, and
-/// returns how many bytes it read and how many code units it wrote. `dst` may have any length. Behind what is written
-/// `dst` is as before.
+/// Converts UTF-8 to UTF-16 up to the first byte that is in no character, or as far as whole characters fit. Returns
+/// how many bytes it read and how many code units it wrote. `dst` may have any length.
 pub fn convert_utf8_to_utf16_up_to_invalid(src: &[u8], dst: &mut [u16]) -> (usize, usize)
     ensures { ConvertsLongest encode_utf16 src.now dst.old dst.new result.0 result.1 }
 {
@@ -84,8 +83,8 @@ pub fn convert_utf8_to_utf16_up_to_invalid(src: &[u8], dst: &mut [u16]) -> (usiz
     (read, written)
 }
 
-/// Converts UTF-8 by well-formed pieces whose UTF-16 fits whatever it is, and returns how many bytes it read and how
-/// many code units it wrote. Behind what is written `dst` is as before.
+/// Converts UTF-8 by well-formed pieces that are short enough for their UTF-16 to fit. Returns how many bytes it read
+/// and how many code units it wrote.
 ///
 /// The test for ASCII is its validation, so ASCII before a piece is read once.
 fn convert_texts(src: &[u8], dst: &mut [u16]) -> (usize, usize)
@@ -110,10 +109,10 @@ fn convert_texts(src: &[u8], dst: &mut [u16]) -> (usize, usize)
     }
 }
 
-/// Copies UTF-8 up to the first byte that no character takes, or as far as whole characters fit, and returns how many
-/// bytes it read and how many it wrote, which is the same. Behind what is written `dst` is as before.
+/// Copies UTF-8 up to the first byte that is in no character, or as far as whole characters fit. Returns how many bytes
+/// it read and how many it wrote, which is the same.
 ///
-/// The characters that fit are those of the prefix that is as long as the room.
+/// The characters that fit are those of the prefix that is as long as `dst`.
 fn copy_utf8_up_to_invalid(src: &[u8], dst: &mut [u8]) -> (usize, usize)
     ensures { ConvertsFront encode_utf8 src.now dst.old dst.new result.0 result.1 }
 {

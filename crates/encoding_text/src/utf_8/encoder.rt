@@ -1,4 +1,4 @@
-//! The encoder: it holds a high surrogate from one call to the next.
+//! The encoder, which keeps a pending surrogate from one call to the next. A call leaves the rest of `dst` unchanged.
 ghost use Rattle.std.specs.Prelude.{◌≡◌, ◌+◌, ◌*◌, ◌≤◌, false, [], ◌∷◌, length, take, drop, encode_utf8, IsTrue};
 ghost use Rattle.std.specs.Option.{SomeIff};
 ghost use Rattle.std.specs.Str.{chars};
@@ -16,14 +16,15 @@ use std::marker::Model;
 /// What ended a call of an encoder.
 #[derive(Debug, PartialEq, Eq, Drop)]
 pub enum EncoderResult {
-    /// All of the source is read, and all that was due is written. After a last call nothing is held.
+    /// All of the source was read, and all of it was written except a pending surrogate. After a last call nothing is
+    /// pending.
     InputEmpty,
-    /// The next character doesn't fit into what is left of the destination.
+    /// The next character doesn't fit into the space that is left.
     OutputFull,
 }
 
-/// An encoder to UTF-8: Encoding Standard, section 8.1. Contracts see it as the list of the code units that it
-/// holds: none, or the high surrogate that ended an earlier call and waits for its low half.
+/// An encoder to UTF-8: Encoding Standard, section 8.1. Contracts see it as the list of its pending code units: none,
+/// or the pending surrogate, which is a high surrogate that ended an earlier call.
 #[derive(Drop)]
 pub struct Utf8Encoder {
     held: Option<u16>,
@@ -41,15 +42,15 @@ impl Model for Utf8Encoder {
 }
 
 impl Utf8Encoder {
-    /// A new encoder, which holds nothing.
+    /// Returns an encoder with nothing pending.
     pub fn new_inner() -> Utf8Encoder
         ensures { result ≡ [] }
     {
         Utf8Encoder { held: None }
     }
 
-    /// How many bytes a destination has to hold so that a call from `u16_length` UTF-16 code units doesn't meet its end:
-    /// `None` where that number passes `usize::MAX`.
+    /// Returns the length in bytes of a destination that is large enough for a call with `u16_length` UTF-16 code
+    /// units. `None` if the length exceeds `usize::MAX`.
     pub fn max_buffer_length_from_utf16_without_replacement(
         &self,
         u16_length: usize,
@@ -61,8 +62,8 @@ impl Utf8Encoder {
         u16_length.checked_add(self.held_count())?.checked_mul(3)
     }
 
-    /// How many bytes a destination has to hold so that a call from a text of `byte_length` bytes doesn't meet its end:
-    /// `None` where that number passes `usize::MAX`.
+    /// Returns the length in bytes of a destination that is large enough for a call with a text of `byte_length` bytes.
+    /// `None` if the length exceeds `usize::MAX`.
     pub fn max_buffer_length_from_utf8_without_replacement(
         &self,
         byte_length: usize,
@@ -74,7 +75,7 @@ impl Utf8Encoder {
         byte_length.checked_add(3 * self.held_count())
     }
 
-    /// How many code units are held.
+    /// Returns how many code units are pending.
     fn held_count(&self) -> usize
         ensures count { result ≡ length self.now }
         ensures held { IsHeld self.now }
@@ -85,13 +86,13 @@ impl Utf8Encoder {
         }
     }
 
-    /// Encodes `src`, with the code unit that is held in front of it, into `dst`, and returns what ended the call,
-    /// how many code units of `src` it read and how many bytes it wrote. `last` marks the last call.
+    /// Encodes the pending surrogate, if there is one, followed by `src`. Returns what ended the call, how many code
+    /// units of `src` it read and how many bytes it wrote. `last` marks the last call.
     ///
-    /// A high surrogate that ends a call not marked last is held, for the low one may follow in the next call. Any
-    /// other surrogate that is in no pair becomes U+FFFD (Unicode Standard, section 3.9, UTF-16). No character is
-    /// written in part. At `OutputFull` with nothing written nothing is read, and what was held stays; with something
-    /// written nothing is held. Behind what is written `dst` is as before.
+    /// A high surrogate that ends a call not marked last becomes pending, since its low surrogate may come in the next
+    /// call. Any other unpaired surrogate becomes U+FFFD (Unicode Standard, section 3.9, UTF-16). No character is
+    /// written in part. At `OutputFull` with nothing written, nothing is read and the pending surrogate stays pending;
+    /// with something written, nothing is pending.
     pub fn encode_from_utf16_raw(
         &mut self,
         src: &[u16],
@@ -120,7 +121,7 @@ impl Utf8Encoder {
         (result, taken + read, first + written)
     }
 
-    /// `encode_from_utf16_raw` while nothing is held.
+    /// `encode_from_utf16_raw` with nothing pending.
     fn encode_fresh(
         &mut self,
         src: &[u16],
@@ -144,12 +145,11 @@ impl Utf8Encoder {
         (EncoderResult::InputEmpty, src.len(), written)
     }
 
-    /// Encodes U+FFFD for the code unit that is held, if there is one, and then `src` into `dst`, and returns what
-    /// ended the call, how many bytes of `src` it read and how many bytes it wrote. Whether the call is the last has
-    /// no effect.
+    /// Encodes U+FFFD for the pending surrogate, if there is one, and then `src`. Returns what ended the call, how many
+    /// bytes of `src` it read and how many bytes it wrote. Whether the call is the last has no effect.
     ///
-    /// U+FFFD is written for it also where `src` is empty, and it stays held only where that didn't fit. No character
-    /// is written in part. Behind what is written `dst` is as before.
+    /// Writes U+FFFD for a pending surrogate even if `src` is empty; it stays pending only if U+FFFD doesn't fit. No
+    /// character is written in part.
     pub fn encode_from_utf8_raw(
         &mut self,
         src: &str,
@@ -176,7 +176,7 @@ impl Utf8Encoder {
     }
 }
 
-/// How many of the code units are due: all but a high surrogate that ends a call not marked last.
+/// Returns how many of the code units can be written: all except a high surrogate that ends a call not marked last.
 fn due_length(src: &[u16], last: bool) -> usize
     ensures within { result ≤ length src.now }
     ensures held { IsHeld (drop result src.now) }
@@ -194,8 +194,8 @@ fn due_length(src: &[u16], last: bool) -> usize
     }
 }
 
-/// What the first part of the code units counts as, where a high surrogate stands in front of `src`, and how many
-/// code units of `src` that part takes.
+/// Returns the scalar value that is written for the first part of `high` followed by `src`, and how many code units of
+/// `src` that part takes.
 fn first_with_held(high: u16, src: &[u16]) -> (u32, usize)
     requires { IsHighSurrogate high }
     ensures first { IsFirstScalar (high ∷ src.now) result.0 }
@@ -208,7 +208,7 @@ fn first_with_held(high: u16, src: &[u16]) -> (u32, usize)
     (REPLACEMENT, 0)
 }
 
-/// Encodes the text while nothing is held, and returns what ended the call and how many bytes it read and wrote.
+/// Encodes the text with nothing pending. Returns what ended the call and how many bytes it read and wrote.
 fn encode_text(src: &str, dst: &mut [u8]) -> (EncoderResult, usize)
     ensures call { IsEncoderTextCall [] src.now (length dst.old) result.0 result.1 (take result.1 dst.new) [] }
     ensures within { result.1 ≤ length src.now }
@@ -221,7 +221,7 @@ fn encode_text(src: &str, dst: &mut [u8]) -> (EncoderResult, usize)
     (EncoderResult::InputEmpty, read)
 }
 
-/// Copies the first characters of the text, as many as fit into `dst`, and returns how many bytes those are.
+/// Copies the first characters of the text, as many as fit into `dst`, and returns their length in bytes.
 fn copy_text(src: &str, dst: &mut [u8]) -> usize
     ensures longest { FitsLongest encode_utf8 encode_utf8 (chars src.now) (length dst.old) result (take result src.now) }
     ensures within { result ≤ length src.now }

@@ -1,4 +1,4 @@
-//! UTF-16 to UTF-8, into a destination of any size.
+//! UTF-16 to UTF-8, into a destination of any length. A conversion leaves the rest of `dst` unchanged.
 ghost use Rattle.std.specs.Prelude.{◌≡◌, ◌+◌, ◌<◌, ◌≤◌, ◌⊎◌, length, take, drop};
 ghost use Rattle.encoding_definitions.specs.Fronts.{WritesFront};
 ghost use Rattle.encoding_definitions.specs.Utf16.{IsUtf8OfFront, IsUtf8OfLongestFront};
@@ -11,13 +11,13 @@ use encoding_kernels::surrogates::{
 };
 use encoding_kernels::utf16_blocks::{convert_blocks, convert_paired_blocks};
 
-/// What a lone surrogate counts as.
+/// The scalar value that is written for an unpaired surrogate.
 pub(super) const REPLACEMENT: u32 = 0xFFFD;
 
 /// The most bytes that a character has in UTF-8.
 const LONGEST: usize = 4;
 
-/// What the first part of the code units from this place on counts as.
+/// Returns the scalar value that is written for the first part of the code units from index `at` on.
 #[inline(always)]
 fn scalar_at(src: &[u16], at: usize) -> u32
     requires { at < length src.now }
@@ -36,12 +36,12 @@ fn scalar_at(src: &[u16], at: usize) -> u32
     REPLACEMENT
 }
 
-/// The characters that go one by one where there were no blocks twice in a row.
+/// How many characters to convert one at a time after two attempts at blocks in a row failed.
 const MANY_SINGLES: usize = 32;
 
-/// How many characters go one by one behind so many code units in blocks, and so many in blocks with pairs, where so
-/// many are left: none behind the latter, else one, which is what ended blocks, and many where not even eight code units
-/// went before it again, so that text without blocks isn't looked through twice.
+/// Returns how many characters to convert one at a time before trying blocks again. None after blocks with surrogate
+/// pairs made progress. `MANY_SINGLES` if fewer than eight units are left, or if two attempts in a row converted fewer
+/// than eight: text without blocks is not scanned twice. Otherwise one: the character that stopped the blocks.
 #[inline(always)]
 fn singles_behind(units: usize, paired: usize, left: usize, in_vain: bool) -> usize
     ensures { paired ≡ 0 → 0 < result }
@@ -58,12 +58,11 @@ fn singles_behind(units: usize, paired: usize, left: usize, in_vain: bool) -> us
     1
 }
 
-/// Converts the first characters of `src` from UTF-16 to UTF-8, while at least four bytes of `dst` are free, and
-/// returns how many code units it read and how many bytes it wrote. A surrogate that is in no pair becomes U+FFFD
-/// (Unicode Standard, section 3.9, UTF-16).
+/// Converts the first characters of `src` from UTF-16 to UTF-8, while at least four bytes of `dst` are free. Returns
+/// how many code units it read and how many bytes it wrote. An unpaired surrogate becomes U+FFFD (Unicode Standard,
+/// section 3.9, UTF-16).
 ///
-/// Either all of `src` is read, or at most three bytes are free: `convert_utf16_to_utf8_partial_tail` then fills
-/// those. Behind what is written `dst` is as before.
+/// Either all of `src` is read, or at most three bytes are free, which `convert_utf16_to_utf8_partial_tail` then fills.
 pub fn convert_utf16_to_utf8_partial_inner(src: &[u16], dst: &mut [u8]) -> (usize, usize)
     ensures front { IsUtf8OfFront src.now result.0 (take result.1 dst.new) }
     ensures rest { WritesFront dst.old dst.new result.1 (take result.1 dst.new) }
@@ -104,9 +103,9 @@ pub fn convert_utf16_to_utf8_partial_inner(src: &[u16], dst: &mut [u8]) -> (usiz
     (read, written)
 }
 
-/// Converts the first characters of `src` from UTF-16 to UTF-8, as many as fit into the at most three bytes of
-/// `dst`, and returns how many code units it read and how many bytes it wrote. A surrogate that is in no pair becomes
-/// U+FFFD. `src` isn't empty. Behind what is written `dst` is as before.
+/// Converts the first characters of `src` from UTF-16 to UTF-8, as many as fit into the at most three bytes of `dst`.
+/// Returns how many code units it read and how many bytes it wrote. An unpaired surrogate becomes U+FFFD. `src` isn't
+/// empty.
 pub fn convert_utf16_to_utf8_partial_tail(src: &[u16], dst: &mut [u8]) -> (usize, usize)
     requires not_empty { 0 < length src.now }
     requires at_most_three { length dst.old ≤ 3 }
@@ -127,11 +126,11 @@ pub fn convert_utf16_to_utf8_partial_tail(src: &[u16], dst: &mut [u8]) -> (usize
     (read, written)
 }
 
-/// Converts the first characters of `src` from UTF-16 to UTF-8, as many as fit into `dst`, and returns how many code
-/// units it read and how many bytes it wrote: Encoding Standard, `encodeInto`.
+/// Converts the first characters of `src` from UTF-16 to UTF-8, as many as fit into `dst`. Returns how many code units
+/// it read and how many bytes it wrote. Encoding Standard, `encodeInto`.
 ///
-/// A surrogate that is in no pair counts as U+FFFD, also where it ends `src`: nothing is held from one call to the
-/// next. No character is written in part. Behind what is written `dst` is as before.
+/// An unpaired surrogate becomes U+FFFD, even at the end of `src`: no surrogate is kept for the next call. No character
+/// is written in part.
 pub fn convert_utf16_to_utf8_partial(src: &[u16], dst: &mut [u8]) -> (usize, usize)
     ensures longest { IsUtf8OfLongestFront src.now (length dst.old) result.0 (take result.1 dst.new) }
     ensures within { result.0 ≤ length src.now }

@@ -1,11 +1,12 @@
-//! Which second bytes go with which first bytes, as bits of a table, and the two formulas that decide sequences of three
-//! and of four bytes by it.
+//! A table whose bits say which second bytes may follow which first bytes, and the two formulas that decide sequences
+//! of three and of four bytes by it.
 ghost use Rattle.std.specs.Prelude.{◌≡◌, ◌≢◌, ◌↔◌, ◌+◌, ◌≤◌, [], ◌∷◌};
 ghost use Rattle.encoding_definitions.specs.Sequence.{IsSequence};
 ghost use Rattle.encoding_definitions.specs.Table.{of_three, of_four};
 
-/// An entry for each second byte, and behind these one for each first byte from 0x80 on, of bits above the two lowest. A
-/// byte may stand second behind a first one of three or four bytes exactly where their entries have no bit in common.
+/// An entry for each second byte, followed by one for each first byte from 0x80 on. The two lowest bits of each are
+/// zero. A byte may follow the first byte of a sequence of three or four if and only if their entries have no bit in
+/// common.
 pub struct Utf8Data {
     pub table: [u8; 384],
 }
@@ -47,8 +48,8 @@ pub const UTF8_DATA: Utf8Data = Utf8Data {
     ],
 };
 
-/// What the table says of four bytes: the first three, or all of them, are well-formed exactly where their formula has
-/// one value, and it never has that value for a first byte that no sequence of so many bytes begins with.
+/// What the table says of four bytes. The first three, or all of them, are well-formed if and only if their formula has
+/// one certain value. It never has that value for a first byte of 0x80 to 0xC1 (three bytes) or from 0xF5 on (four).
 pub fn law_table(lead: u8, second: u8, third: u8, fourth: u8)
     ensures three { 0xE0 ≤ lead → lead ≤ 0xEF
         → (of_three UTF8_DATA.table lead second third ≡ 2) ↔ IsSequence (lead ∷ second ∷ third ∷ []) }

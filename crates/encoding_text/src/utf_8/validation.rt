@@ -1,4 +1,4 @@
-//! Where bytes stop being UTF-8.
+//! The longest prefix of bytes that is well-formed UTF-8.
 ghost use Rattle.std.specs.Prelude.{◌<◌, ◌≤◌, ◌↔◌, ◌⊎◌, [], ◌∷◌, length, take, slice_index, IfSome, IfNone, IsTrue};
 ghost use Rattle.std.specs.Str.{IsUtf8};
 ghost use Rattle.encoding_definitions.specs.Sequence.{IsSequence};
@@ -11,7 +11,7 @@ use encoding_kernels::blocks::well_formed_blocks;
 use encoding_kernels::sequence::{is_continuation, is_second};
 use encoding_kernels::strides::ASCII_END;
 
-/// Whether three bytes are one character, for a first byte that begins neither one, two nor four.
+/// Returns whether three bytes are one character, for a first byte that starts no character of one, two or four.
 #[inline(always)]
 fn is_three(lead: u8, second: u8, third: u8) -> bool
     requires leads { ((0x80 ≤ lead) × (lead ≤ 0xC1)) ⊎ ((0xE0 ≤ lead) × (lead ≤ 0xEF)) }
@@ -21,7 +21,7 @@ fn is_three(lead: u8, second: u8, third: u8) -> bool
     (UTF8_DATA.table[second as usize] & UTF8_DATA.table[lead as usize + 0x80]) | (third >> 6) == 2
 }
 
-/// Whether four bytes are one character, for a first byte that begins no fewer.
+/// Returns whether four bytes are one character, for a first byte that starts no shorter one.
 #[inline(always)]
 fn is_four(lead: u8, second: u8, third: u8, fourth: u8) -> bool
     requires leads { 0xF0 ≤ lead }
@@ -32,7 +32,8 @@ fn is_four(lead: u8, second: u8, third: u8, fourth: u8) -> bool
     u16::from(common) | u16::from(third >> 6) | (u16::from(fourth & 0xC0) << 2) == 0x202
 }
 
-/// The length of the character that begins three bytes or fewer, where one does and the first byte isn't ASCII.
+/// Returns the length of the character at the start of at most three bytes, if there is one. The first byte isn't
+/// ASCII.
 #[inline(never)]
 fn tail_length(bytes: &[u8]) -> Option<usize>
     requires short { length bytes.now < 4 }
@@ -59,7 +60,7 @@ fn tail_length(bytes: &[u8]) -> Option<usize>
     None
 }
 
-/// The length of the character that begins the bytes, where one does.
+/// Returns the length of the character at the start of the bytes, if there is one.
 #[inline(always)]
 pub fn character_length(bytes: &[u8]) -> Option<usize>
     ensures length { IfSome result (λ n. (0 < n) × (n ≤ length bytes.now) × IsSequence (take n bytes.now)) }
@@ -90,11 +91,11 @@ pub fn character_length(bytes: &[u8]) -> Option<usize>
     Some(4)
 }
 
-/// The length in bytes of the longest prefix of `src` that is well-formed UTF-8: the place of the first byte
-/// that no character takes, or the length of `src`.
+/// Returns the length in bytes of the longest prefix of `src` that is well-formed UTF-8: the index of the first byte
+/// that is in no character, or the length of `src`.
 ///
-/// Unicode Standard, section 3.9, UTF-8: the bytes of a character are in one of the nine rows of Table 3-7, Well-Formed
-/// UTF-8 Byte Sequences. The first byte tells how many there are and which may stand second; so no byte of an
+/// Unicode Standard, section 3.9, UTF-8: the bytes of a character match one of the nine rows of Table 3-7, Well-Formed
+/// UTF-8 Byte Sequences. The first byte determines the length and which second bytes are allowed. So no byte of an
 /// overlong form, of an encoded surrogate or above U+10FFFF is in the prefix.
 pub fn utf8_valid_up_to(src: &[u8]) -> usize
     ensures { IsLongestFront IsUtf8 src.now result }
