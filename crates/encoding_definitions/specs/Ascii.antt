@@ -1,14 +1,15 @@
--- ASCII fronts of bytes and of UTF-16 code units: the longest fronts that are ASCII by std's `IsAscii`, each below 0x80.
+-- ASCII prefixes of bytes and of UTF-16 code units: the longest prefixes that are ASCII by std's `IsAscii`, each below
+-- 0x80.
 use Rattle.std.specs.Prelude.{◌≡◌, ◌≢◌, ℕ, ◌<◌, List, length, slice_index, slice_get, Option, Some, None}
 use Rattle.std.specs.Str.{IsAscii}
 use Rattle.encoding_definitions.specs.Fronts.{IsLongestFront}
 
--- the answer is the first unit that isn't ASCII with its place, or none where all are ASCII
+-- the result is the first unit that isn't ASCII and its index, or none if all are ASCII
 abbrev pub IsFirstOther : List ℕ → Option (ℕ × ℕ) → Type 0
 IsFirstOther xs None = IsAscii xs
 IsFirstOther xs (Some (unit, place)) = (slice_get xs place ≡ Some unit) × IsLongestFront IsAscii xs place
 
--- by that answer, how long the ASCII front is
+-- the length of the ASCII prefix, by that result
 abbrev pub front_length : List ℕ → Option (ℕ × ℕ) → ℕ
 front_length xs None = length xs
 front_length xs (Some (unit, place)) = place

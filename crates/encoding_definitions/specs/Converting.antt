@@ -6,14 +6,14 @@ use Rattle.std.specs.Char.Escape.{encode_utf16}
 use Rattle.std.specs.List.{flat_map}
 use Rattle.encoding_definitions.specs.Fronts.{IsLongestFront, FitsLongest, WritesFront}
 
--- the characters of the longest well-formed front
+-- the characters of the longest well-formed prefix
 pub record IsText (bs scalars : List ℕ) : Type 0 where
   pub valid : ℕ
   pub front : IsLongestFront IsUtf8 bs valid
   pub are_scalars : all_scalars scalars ≡ true
   pub spelled : encode_utf8_all scalars ≡ take valid bs
 
--- of the characters of the longest well-formed front of src, the longest front that fits is read and written
+-- of the characters of the longest well-formed prefix of src, the longest prefix that fits is read and written
 pub record ConvertsLongest {A : Type 0} (encode : ℕ → List A) (src : List ℕ) (old new : List A) (read written : ℕ) : Type 0 where
   pub scalars : List ℕ
   pub text : IsText src scalars
@@ -21,10 +21,10 @@ pub record ConvertsLongest {A : Type 0} (encode : ℕ → List A) (src : List �
   pub longest : FitsLongest encode_utf8 encode scalars (length old) read out
   pub writes : WritesFront old new written out
 
--- a character whose output is no longer than the room begins the bytes
+-- the bytes start with a character whose output is no longer than `room`
 abbrev pub FittingBegins : {A : Type 0} → (ℕ → List A) → List ℕ → ℕ → Type 0
 FittingBegins encode bs room = (c : ℕ) × (rest : List ℕ) × IsScalar c × (bs ≡ encode_utf8 c ++ rest) × (length (encode c) ≤ room)
 
--- the characters of the longest well-formed front of src are written in UTF-16
+-- the characters of the longest well-formed prefix of src are written in UTF-16
 abbrev pub WritesText : List ℕ → List ℕ → List ℕ → ℕ → Type 0
 WritesText src old new written = (scalars : List ℕ) × IsText src scalars × WritesFront old new written (flat_map encode_utf16 scalars)

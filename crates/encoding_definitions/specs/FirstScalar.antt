@@ -1,4 +1,4 @@
--- Steps of a conversion from UTF-16: the scalar value that the first part of the code units counts as.
+-- Steps of a conversion from UTF-16: the scalar value that is written for the first part of the code units.
 use Rattle.std.specs.Prelude.{◌≡◌, ℕ, List, [], ◌∷◌, ◌++◌, length, drop, ◌⊎◌}
 use Rattle.std.specs.Char.{IsScalar}
 use Rattle.std.specs.Char.Escape.{encode_utf16}
@@ -14,7 +14,7 @@ abbrev pub IsFirstPart16 : List ℕ → Part16 → List ℕ → Type 0
 IsFirstPart16 us (Character16 c) rest = IsScalar c × (us ≡ encode_utf16 c ++ rest)
 IsFirstPart16 us (Lone u) rest = (IsHighSurrogate u ⊎ IsLowSurrogate u) × (us ≡ u ∷ rest) × (IsHighSurrogate u → BeginsLow rest → ⊥)
 
--- the first part of the units counts as the scalar value, and takes as many units as the UTF-16 of that has
+-- the scalar value is written for the first part of the units, and its UTF-16 has as many units as the part
 pub record IsFirstScalar (us : List ℕ) (scalar : ℕ) : Type 0 where
   pub part : Part16
   pub counts : scalar_of part ≡ scalar

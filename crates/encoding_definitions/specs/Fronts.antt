@@ -1,15 +1,15 @@
--- Longest fronts: of a kind, and of the characters that fit into a room.
+-- Longest prefixes: of a kind, and of the characters that fit into a destination.
 use Rattle.std.specs.Prelude.{◌≡◌, ℕ, ◌+◌, ◌<◌, ◌≤◌, List, ◌++◌, length, take, drop}
 use Rattle.std.specs.List.{flat_map}
 
--- n is the greatest length of a front of xs that is of the kind
+-- n is the greatest length of a prefix of xs that is of the kind
 pub record IsLongestFront {A : Type 0} (IsKind : List A → Type 0) (xs : List A) (n : ℕ) : Type 0 where
   pub within : n ≤ length xs
   pub kind : IsKind (take n xs)
   pub longest : (m : ℕ) → m ≤ length xs → IsKind (take m xs) → m ≤ n
 
--- Of the characters in order, each with the source that it takes and the output that it writes, the greatest
--- number of first ones whose joined output is no longer than the room: read is what they take, and out is that
+-- The longest prefix of the characters whose joined output is no longer than `room`. Each character has the source that
+-- it takes and the output that it writes. `read` is the length of the source that the prefix takes, and `out` is its
 -- output. Encoding Standard, `encodeInto`.
 pub record FitsLongest {C A : Type 0} (source : C → List ℕ) (output : C → List A) (characters : List C) (room read : ℕ) (out : List A) : Type 0 where
   pub count : ℕ
@@ -19,7 +19,7 @@ pub record FitsLongest {C A : Type 0} (source : C → List ℕ) (output : C → 
   pub fits : length out ≤ room
   pub longest : count < length characters → room < length (flat_map output (take (count + 1) characters))
 
--- the first places of a destination, so many of them, hold out, and behind them it is as before
+-- the first `written` items of a destination are `out`, and the rest is unchanged
 pub record WritesFront {A : Type 0} (old new : List A) (written : ℕ) (out : List A) : Type 0 where
   pub count : written ≡ length out
   pub fits : written ≤ length old

@@ -1,4 +1,4 @@
--- The one decomposition of bytes into characters and broken parts: Encoding Standard, UTF-8 decoder.
+-- The one decomposition of bytes into characters and malformed sequences: Encoding Standard, UTF-8 decoder.
 use Rattle.std.specs.Prelude.{◌≡◌, ℕ, suc, ◌≤◌, List, [], ◌∷◌, ◌++◌, length, ◌⊎◌, encode_utf8}
 use Rattle.std.specs.Char.{IsScalar}
 use Rattle.std.specs.Char.Escape.{encode_utf16}
@@ -6,7 +6,8 @@ use Rattle.std.specs.List.{flat_map}
 use Rattle.encoding_definitions.specs.Sequence.{IsSequence, IsBeginning}
 use Rattle.encoding_definitions.specs.Pending.{IsPending}
 
--- a character, by its scalar, or the bytes of a broken part
+-- A character, by its scalar value, or the bytes of a malformed sequence. That is Unicode's maximal subpart of an
+-- ill-formed subsequence (D93b), and one decoder error of the Encoding Standard.
 pub data Part : Type 0 where
   Character : ℕ → Part
   Broken : List ℕ → Part
@@ -16,23 +17,23 @@ abbrev pub bytes_of : Part → List ℕ
 bytes_of (Character c) = encode_utf8 c
 bytes_of (Broken bytes) = bytes
 
--- the scalars of the characters among the parts
+-- the scalar values of the characters among the parts
 abbrev pub characters_of : List Part → List ℕ
 characters_of [] = []
 characters_of (Character c ∷ parts) = c ∷ characters_of parts
 characters_of (Broken bytes ∷ parts) = characters_of parts
 
--- no character begins the bytes
+-- the bytes start with no character
 abbrev pub BeginsWithNoCharacter : List ℕ → Type 0
 BeginsWithNoCharacter bs = (front rest : List ℕ) → bs ≡ front ++ rest → IsSequence front → ⊥
 
--- front is the longest beginning that begins the bytes, and rest follows it
+-- the bytes are `front` followed by `rest`, and `front` is the longest incomplete sequence that they start with
 pub record IsLongestBeginning (bs front rest : List ℕ) : Type 0 where
   pub whole : bs ≡ front ++ rest
   pub beginning : IsBeginning front
   pub longest : (longer more : List ℕ) → bs ≡ longer ++ more → IsBeginning longer → length longer ≤ length front
 
--- no beginning begins the bytes, of which front is the first and rest the others
+-- the bytes start with no incomplete sequence: `front` is the first of them, and `rest` the others
 pub record IsLoneByte (bs front rest : List ℕ) : Type 0 where
   pub whole : bs ≡ front ++ rest
   pub one : length front ≡ 1
@@ -52,12 +53,12 @@ StartsWith bs (part ∷ parts) rest = (after : List ℕ) × IsFirstPart bs part 
 abbrev pub ArePartsOf : List ℕ → List Part → Type 0
 ArePartsOf bs parts = StartsWith bs parts []
 
--- the scalar that is written for a part
+-- the scalar value that is written for a part
 abbrev pub repaired_scalar : Part → ℕ
 repaired_scalar (Character c) = c
 repaired_scalar (Broken bytes) = 0xFFFD
 
--- the text of parts, with U+FFFD for each broken one
+-- the text of parts, with U+FFFD for each malformed sequence
 abbrev pub repaired_text : List Part → List ℕ
 repaired_text parts = flat_map (λ part. encode_utf8 (repaired_scalar part)) parts
 
@@ -65,13 +66,14 @@ repaired_text parts = flat_map (λ part. encode_utf8 (repaired_scalar part)) par
 abbrev pub repaired_utf16 : List Part → List ℕ
 repaired_utf16 parts = flat_map (λ part. encode_utf16 (repaired_scalar part)) parts
 
--- how many parts are broken
+-- how many parts are malformed sequences
 abbrev pub count_broken : List Part → ℕ
 count_broken [] = 0
 count_broken (Character c ∷ parts) = count_broken parts
 count_broken (Broken bytes ∷ parts) = suc (count_broken parts)
 
--- The parts that no further byte can change: all but a last one that is still a beginning, which is then the rest.
+-- The final parts, which no further byte can change: all except a last one that is still an incomplete sequence. That
+-- is then the rest.
 pub record AreSettled (bs : List ℕ) (parts : List Part) (rest : List ℕ) : Type 0 where
   pub starts : StartsWith bs parts rest
   pub still_open : IsPending rest

@@ -3,7 +3,7 @@ use Rattle.std.specs.Prelude.{ℕ, ◌<◌, ◌≤◌, Bool, true, false, ◌&&�
 use Rattle.std.specs.List.{list_any}
 use Rattle.std.specs.Str.Lossy.{second_byte_min, second_byte_max}
 
--- the nine rows of the table: of each byte of a sequence, the least and the greatest value
+-- the nine rows of the table: for each byte of a sequence, the least and the greatest value
 abbrev pub rows : List (List (ℕ × ℕ))
 rows = ((0x00, 0x7F) ∷ [])
     ∷ ((0xC2, 0xDF) ∷ (0x80, 0xBF) ∷ [])
@@ -16,29 +16,29 @@ rows = ((0x00, 0x7F) ∷ [])
     ∷ ((0xF4, 0xF4) ∷ (0x80, 0x8F) ∷ (0x80, 0xBF) ∷ (0x80, 0xBF) ∷ [])
     ∷ []
 
--- the bytes are of these ranges, one for one
+-- the bytes are in these ranges, one for one
 abbrev pub in_row : List (ℕ × ℕ) → List ℕ → Bool
 in_row [] [] = true
 in_row [] (b ∷ bs) = false
 in_row (range ∷ row) [] = false
 in_row (range ∷ row) (b ∷ bs) = (nat_le range.0 b && nat_le b range.1) && in_row row bs
 
--- a well-formed sequence: the bytes of one character, which are in one of the rows
+-- a well-formed sequence: the bytes of one character, which match one of the rows
 abbrev pub IsSequence : List ℕ → Type 0
 IsSequence bs = IsTrue (list_any (λ row. in_row row bs) rows)
 
--- the bytes that stand behind the first of a sequence
+-- a byte after the first of a sequence
 abbrev pub IsContinuation : ℕ → Type 0
 IsContinuation b = (0x80 ≤ b) × (b ≤ 0xBF)
 
--- b may stand second behind the first byte of a sequence of several
+-- b may follow a, the first byte of a sequence of several
 abbrev pub IsSecond : ℕ → ℕ → Type 0
 IsSecond a b = (0xC2 ≤ a) × (a ≤ 0xF4) × (second_byte_min a ≤ b) × (b ≤ second_byte_max a)
 
--- a front of a well-formed sequence, neither empty nor the whole of it
+-- an incomplete sequence: a prefix of a well-formed sequence, neither empty nor the whole of it
 abbrev pub IsBeginning : List ℕ → Type 0
 IsBeginning bs = (0 < length bs) × (rest : List ℕ) × (0 < length rest) × IsSequence (bs ++ rest)
 
--- the byte begins neither a sequence of its own nor a longer one: a continuation byte, or one that UTF-8 never has
+-- the byte starts no sequence, neither of one byte nor of several: a continuation byte, or one that UTF-8 never has
 abbrev pub BeginsNothing : ℕ → Type 0
 BeginsNothing b = (IsSequence (b ∷ []) ⊎ IsBeginning (b ∷ [])) → ⊥

@@ -1,11 +1,11 @@
--- The formulas that decide sequences of three and of four bytes by a table of 384 entries: one for each second byte, and
--- behind these one for each first byte from 0x80 on.
+-- The formulas that decide sequences of three and of four bytes by a table of 384 entries: one for each second byte,
+-- followed by one for each first byte from 0x80 on.
 use Rattle.std.specs.Prelude.{ℕ, ◌+◌, ◌*◌, ◌/◌, ◌^◌, List, slice_index, bit_and, bit_or}
 
 -- the first three bytes, in eight bits
 abbrev pub of_three : List ℕ → ℕ → ℕ → ℕ → ℕ
 of_three table lead second third = bit_or (bit_and (slice_index table second) (slice_index table (lead + 0x80))) (third / 2 ^ 6)
 
--- and above them, in sixteen bits, the two highest of the fourth
+-- in sixteen bits, the same with the two highest bits of the fourth byte above them
 abbrev pub of_four : List ℕ → ℕ → ℕ → ℕ → ℕ → ℕ
 of_four table lead second third fourth = bit_or (of_three table lead second third) (bit_and fourth 0xC0 * 2 ^ 2)

@@ -1,4 +1,5 @@
--- The one decomposition of UTF-16 code units into characters and lone surrogates: Unicode Standard, section 3.9, UTF-16.
+-- The one decomposition of UTF-16 code units into characters and unpaired surrogates: Unicode Standard, section 3.9,
+-- UTF-16.
 use Rattle.std.specs.Prelude.{◌≡◌, ℕ, ◌<◌, ◌≤◌, List, [], ◌∷◌, ◌++◌, length, take, ◌⊎◌, slice_index, encode_utf8}
 use Rattle.std.specs.Char.{IsScalar}
 use Rattle.std.specs.Char.Escape.{encode_utf16}
@@ -15,7 +16,7 @@ IsHighSurrogate u = (0xD800 ≤ u) × (u ≤ 0xDBFF)
 abbrev pub IsLowSurrogate : ℕ → Type 0
 IsLowSurrogate u = (0xDC00 ≤ u) × (u ≤ 0xDFFF)
 
--- a character, by its scalar value, or a surrogate that is in no pair
+-- a character, by its scalar value, or an unpaired surrogate
 pub data Part16 : Type 0 where
   Character16 : ℕ → Part16
   Lone : ℕ → Part16
@@ -25,7 +26,7 @@ abbrev pub units_of : Part16 → List ℕ
 units_of (Character16 c) = encode_utf16 c
 units_of (Lone u) = u ∷ []
 
--- the scalar value that a part counts as
+-- the scalar value that is written for a part
 abbrev pub scalar_of : Part16 → ℕ
 scalar_of (Character16 c) = c
 scalar_of (Lone u) = 0xFFFD
@@ -34,7 +35,7 @@ scalar_of (Lone u) = 0xFFFD
 abbrev pub utf8_of : Part16 → List ℕ
 utf8_of part = encode_utf8 (scalar_of part)
 
--- a part is what its name says
+-- the number is a scalar value, or a surrogate
 abbrev pub IsPart16 : Part16 → Type 0
 IsPart16 (Character16 c) = IsScalar c
 IsPart16 (Lone u) = IsHighSurrogate u ⊎ IsLowSurrogate u
@@ -45,7 +46,7 @@ MayPrecede (Lone u) (Lone v) = IsHighSurrogate u → IsLowSurrogate v → ⊥
 MayPrecede (Character16 c) q = Unit {0}
 MayPrecede (Lone u) (Character16 c) = Unit {0}
 
--- each is a part, and no lone high surrogate is directly followed by a lone low one
+-- each is a part, and no unpaired high surrogate is directly followed by an unpaired low one
 abbrev pub ArePaired : List Part16 → Type 0
 ArePaired [] = Unit {0}
 ArePaired (p ∷ []) = IsPart16 p
@@ -55,13 +56,13 @@ ArePaired (p ∷ q ∷ ps) = IsPart16 p × MayPrecede p q × ArePaired (q ∷ ps
 abbrev pub ArePartsOf16 : List ℕ → List Part16 → Type 0
 ArePartsOf16 us ps = ArePaired ps × (flat_map units_of ps ≡ us)
 
--- the first parts of the code units, and the rest behind them, whose parts are the others
+-- the first parts of the code units, and the rest of the units, whose parts are the others
 pub record StartsWith16 (us : List ℕ) (first : List Part16) (rest : List ℕ) : Type 0 where
   pub others : List Part16
   pub whole : ArePartsOf16 us (first ++ others)
   pub behind : ArePartsOf16 rest others
 
--- out is the UTF-8 of the first parts of the units, which take the first read units
+-- out is the UTF-8 of the first parts of the units, which take the first `read` units
 pub record IsUtf8OfFront (us : List ℕ) (read : ℕ) (out : List ℕ) : Type 0 where
   pub parts : List Part16
   pub are_parts : ArePartsOf16 us parts
@@ -70,7 +71,8 @@ pub record IsUtf8OfFront (us : List ℕ) (read : ℕ) (out : List ℕ) : Type 0 
   pub taken : read ≡ length (flat_map units_of (take count parts))
   pub written : out ≡ flat_map utf8_of (take count parts)
 
--- out is the UTF-8 of the most first parts of the units whose UTF-8 fits into the room, and read are their units
+-- out is the UTF-8 of the longest prefix of the parts whose UTF-8 fits into `room` bytes, and they take the first
+-- `read` units
 pub record IsUtf8OfLongestFront (us : List ℕ) (room read : ℕ) (out : List ℕ) : Type 0 where
   pub parts : List Part16
   pub are_parts : ArePartsOf16 us parts

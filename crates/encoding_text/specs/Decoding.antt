@@ -1,4 +1,4 @@
--- What a conversion and a decode call may answer: Encoding Standard, UTF-8 decoder.
+-- What a conversion and a decode call may return: Encoding Standard, UTF-8 decoder.
 use Rattle.std.specs.Prelude.{◌≡◌, ◌≢◌, ℕ, ◌+◌, ◌-◌, ◌*◌, ◌<◌, ◌≤◌, Bool, true, List, [], ◌∷◌, ◌++◌, length, take, drop, ◌⊎◌, encode_utf8, encode_utf8_all}
 use Rattle.std.specs.Str.{all_scalars, IsUtf8}
 use Rattle.std.specs.Char.{IsScalar}
@@ -12,14 +12,14 @@ use Rattle.encoding_text.specs.declared.decoder.DecoderResult.TheVariants.{Input
 use Rattle.encoding_text.specs.declared.decoder.Piece.{Piece}
 use Rattle.encoding_text.specs.declared.decoder.Piece.TheVariants as piece
 
--- x is a broken part, with these bytes unread behind it
+-- x is a malformed sequence, with these bytes unread after it
 abbrev pub IsBroken : List ℕ → List ℕ → Bool → Type 0
 IsBroken x [] last = ((b : ℕ) × (x ≡ b ∷ []) × BeginsNothing b) ⊎ (IsBeginning x × (last ≡ true))
 IsBroken x (y ∷ ys) last = ((b : ℕ) × (x ≡ b ∷ []) × BeginsNothing b)
     ⊎ (IsBeginning x × ((IsSequence (x ++ y ∷ []) ⊎ IsBeginning (x ++ y ∷ [])) → ⊥))
 
--- What one call answers, with the need (2 code units, 4 bytes): p is pending before it, and q after it. cs are the
--- characters that it wrote, and left is the room that they left.
+-- What one call returns: p is pending before it, and q after it. `need` is the most code units of a character: 2 code
+-- units, or 4 bytes. `cs` are the characters that it wrote, and `left` is the space after them.
 abbrev pub Answers : {A : Type 0} → (ℕ → List A) → ℕ → List ℕ → List ℕ → Bool → DecoderResult → ℕ → List ℕ → ℕ → List ℕ → Type 0
 Answers encode need p src last InputEmpty read cs left q =
     (read ≡ length src) × (p ++ src ≡ encode_utf8_all cs ++ q) × (last ≡ true → q ≡ []) × (q ≢ [] → 0 < read → need ≤ left)
@@ -31,7 +31,7 @@ Answers encode need p src last (Malformed k second) read cs left q =
     (x : List ℕ) × (second ≡ 0) × (read ≤ length src) × (p ++ take read src ≡ encode_utf8_all cs ++ x) × (length x ≡ k) × (q ≡ [])
     × IsBroken x (drop read src) last × (0 < length src → need ≤ left)
 
--- one call: it reads so much of src and writes out
+-- one call, which reads the first `read` bytes of src and writes `out`
 pub record IsCall {A : Type 0} (encode : ℕ → List A) (need : ℕ) (p src : List ℕ) (room : ℕ) (last : Bool) (result : DecoderResult) (read : ℕ) (out : List A) (q : List ℕ) : Type 0 where
   pub scalars : List ℕ
   pub are_scalars : all_scalars scalars ≡ true
@@ -42,7 +42,7 @@ pub record IsCall {A : Type 0} (encode : ℕ → List A) (need : ℕ) (p src : L
   pub answer : Answers encode need p src last result read scalars (room - length out) q
   pub pending_needs_room : p ≢ [] → 0 < read → need ≤ room
 
--- What a call that hands out parts of its source returns: p is pending before it, and q after it.
+-- What a call that borrows from its source returns: p is pending before it, and q after it.
 abbrev pub AnswersBorrowed : List ℕ → List ℕ → Bool → Piece → ℕ → List ℕ → Type 0
 AnswersBorrowed p src last (piece.Text t) read q =
     (p ≡ []) × (q ≡ []) × (0 < read) × (t.now ≡ take read src) × IsLongestFront IsUtf8 src read
@@ -58,33 +58,33 @@ pub record IsBorrowedCall (p src : List ℕ) (last : Bool) (returned : Piece) (r
   pub pending : IsPending q
   pub answer : AnswersBorrowed p src last returned read q
 
--- The numbers of the queries: how long a destination holds all that n bytes, behind so many pending ones, may become.
+-- The numbers of the queries: the length of a destination for the output of n bytes, after `pending` pending ones.
 abbrev pub utf16_room : ℕ → ℕ → ℕ
 utf16_room n pending = n + 1 + pending
 
 abbrev pub utf8_room : ℕ → ℕ → ℕ
 utf8_room n pending = n + 3 + pending
 
--- the same with U+FFFD for each broken part
+-- the same with U+FFFD for each malformed sequence
 abbrev pub utf8_room_replacing : ℕ → ℕ → ℕ
 utf8_room_replacing n pending = 3 * (n + pending) + 3
 
--- A room of the number for m bytes, of which src is the first piece, suffices: the call doesn't end for want of it,
--- and what is left of it is the number for the bytes that are left.
+-- A destination of the queried length for m bytes, of which src is the first piece, is large enough: the call doesn't
+-- return `OutputFull`, and the space after its output is the queried length for the bytes that are left.
 abbrev pub Suffices : (ℕ → ℕ → ℕ) → List ℕ → List ℕ → ℕ → DecoderResult → ℕ → ℕ → List ℕ → Type 0
 Suffices query p src room result read written q =
     (m : ℕ) → length src ≤ m → query m (length p) ≤ room → (result ≢ OutputFull) × (written + query (m - read) (length q) ≤ room)
 
--- a broken part is reported
+-- a malformed sequence is reported
 abbrev pub IsReport : DecoderResult → Type 0
 IsReport result = (k : ℕ) × (second : ℕ) × (result ≡ Malformed k second)
 
--- the same room suffices where U+FFFD, so many code units, is written for each report
+-- the same length is large enough if U+FFFD, of `replacement` code units, is written for each report
 abbrev pub SufficesReplacing : (ℕ → ℕ → ℕ) → ℕ → List ℕ → List ℕ → ℕ → DecoderResult → ℕ → ℕ → List ℕ → Type 0
 SufficesReplacing query replacement p src room result read written q =
     (m : ℕ) → length src ≤ m → query m (length p) ≤ room → IsReport result → written + replacement + query (m - read) (length q) ≤ room
 
--- one call into a destination, which behind the output is as before
+-- one call into a destination, whose rest is unchanged
 abbrev pub Decodes : {A : Type 0} → (ℕ → List A) → ℕ → List ℕ → List ℕ → List A → List A → Bool → DecoderResult → ℕ → ℕ → List ℕ → Type 0
 Decodes {A} encode need p src old new last result read written q =
     (out : List A) × WritesFront old new written out × IsCall encode need p src (length old) last result read out q

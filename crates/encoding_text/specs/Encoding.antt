@@ -1,4 +1,4 @@
--- What one call of the encoder may answer. What it holds is nothing, or the high surrogate that ended an earlier call.
+-- What one call of the encoder may return. Its pending surrogate is the high surrogate that ended an earlier call.
 use Rattle.std.specs.Prelude.{◌≡◌, ℕ, ◌+◌, ◌<◌, Bool, true, false, Option, Some, None, List, [], ◌∷◌, ◌++◌, length, map, encode_utf8}
 use Rattle.std.specs.List.{flat_map}
 use Rattle.std.specs.Str.{chars}
@@ -7,13 +7,13 @@ use Rattle.encoding_definitions.specs.Utf16.{Part16, Character16, Lone, units_of
 use Rattle.encoding_text.specs.declared.utf_8.encoder.EncoderResult.{EncoderResult}
 use Rattle.encoding_text.specs.declared.utf_8.encoder.EncoderResult.TheVariants.{InputEmpty, OutputFull}
 
--- nothing, or one high surrogate
+-- none, or one high surrogate
 abbrev pub IsHeld : List ℕ → Type 0
 IsHeld [] = Unit {0}
 IsHeld (u ∷ []) = IsHighSurrogate u
 IsHeld (u ∷ v ∷ us) = ⊥
 
--- the held units as a list
+-- the pending surrogate as a list
 abbrev pub held_units : Option ℕ → List ℕ
 held_units None = []
 held_units (Some u) = u ∷ []
@@ -22,8 +22,8 @@ held_units (Some u) = u ∷ []
 abbrev pub EndsHigh : List ℕ → Type 0
 EndsHigh us = (front : List ℕ) × (u : ℕ) × (us ≡ front ++ u ∷ []) × IsHighSurrogate u
 
--- Which parts of the units are due, and which unit stays open: a high surrogate that ends a call not marked last
--- waits for the unit behind it.
+-- Which parts of the units are to be written, and which unit stays pending: a high surrogate that ends a call not
+-- marked last, since the next unit may complete its pair.
 pub record AreDue (us : List ℕ) (last : Bool) (due : List Part16) (left_open : List ℕ) : Type 0 where
   pub front : List ℕ
   pub whole : us ≡ front ++ left_open
@@ -32,7 +32,7 @@ pub record AreDue (us : List ℕ) (last : Bool) (due : List Part16) (left_open :
   pub last_opens_none : last ≡ true → left_open ≡ []
   pub waits : last ≡ false → EndsHigh us → length left_open ≡ 1
 
--- what a call answers and holds afterwards, once so many units of the parts due were taken
+-- what a call returns, and what is pending after it, if it took `taken` units of the parts to be written
 abbrev pub EncoderAnswers : List ℕ → List ℕ → List Part16 → List ℕ → ℕ → EncoderResult → ℕ → List ℕ → Type 0
 EncoderAnswers held src due left_open taken InputEmpty read after =
     (taken ≡ length (flat_map units_of due)) × (read ≡ length src) × (after ≡ left_open)
@@ -41,7 +41,8 @@ EncoderAnswers held src due left_open taken OutputFull read after =
     × (taken ≡ 0 → (read ≡ 0) × (after ≡ held))
     × (0 < taken → (read + length held ≡ taken) × (after ≡ []))
 
--- One call from UTF-16: of the parts due of the held unit and the source, the most that fit into the room are written.
+-- One call from UTF-16: of the parts of the pending surrogate and the source that are to be written, the longest prefix
+-- that fits into `room` bytes is written.
 pub record IsEncoderCall (held src : List ℕ) (room : ℕ) (last : Bool) (result : EncoderResult) (read : ℕ) (out after : List ℕ) : Type 0 where
   pub held_before : IsHeld held
   pub held_after : IsHeld after
@@ -52,7 +53,7 @@ pub record IsEncoderCall (held src : List ℕ) (room : ℕ) (last : Bool) (resul
   pub longest : FitsLongest units_of utf8_of due room taken out
   pub answer : EncoderAnswers held src due left_open taken result read after
 
--- the characters due in a call from a text: U+FFFD for a held unit, then those of the text
+-- the characters to be written in a call from a text: U+FFFD for a pending surrogate, then those of the text
 abbrev pub due_with_text : List ℕ → List ℕ → List Part16
 due_with_text held text = map Lone held ++ map Character16 (chars text)
 
@@ -61,14 +62,14 @@ abbrev pub text_bytes_of : Part16 → List ℕ
 text_bytes_of (Character16 c) = encode_utf8 c
 text_bytes_of (Lone u) = []
 
--- what a call from a text answers and holds afterwards
+-- what a call from a text returns, and what is pending after it
 abbrev pub TextAnswers : List ℕ → List ℕ → List Part16 → List ℕ → EncoderResult → ℕ → List ℕ → Type 0
 TextAnswers held text due out InputEmpty read after = (out ≡ flat_map utf8_of due) × (read ≡ length text) × (after ≡ [])
 TextAnswers held text due out OutputFull read after =
     (length out < length (flat_map utf8_of due)) × (out ≡ [] → (read ≡ 0) × (after ≡ held)) × (0 < length out → after ≡ [])
 
--- One call from a text: of the characters due the most that fit into the room are written, and read are their bytes
--- of the text.
+-- One call from a text: of the characters to be written, the longest prefix that fits into `room` bytes is written, and
+-- `read` is the length of what it takes of the text.
 pub record IsEncoderTextCall (held text : List ℕ) (room : ℕ) (result : EncoderResult) (read : ℕ) (out after : List ℕ) : Type 0 where
   pub held_before : IsHeld held
   pub held_after : IsHeld after

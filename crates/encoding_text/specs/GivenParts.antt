@@ -1,4 +1,4 @@
--- Which parts a call of a decoder gives, by its answer.
+-- Which parts a call of a decoder yields, by its result.
 use Rattle.std.specs.Prelude.{◌≡◌, ℕ, true, List, [], ◌∷◌, ◌++◌, length, map}
 use Rattle.std.specs.Str.{all_scalars, chars}
 use Rattle.std.specs.List.{flat_map}
@@ -8,7 +8,7 @@ use Rattle.encoding_text.specs.declared.decoder.DecoderResult.TheVariants.{Input
 use Rattle.encoding_text.specs.declared.decoder.Piece.{Piece}
 use Rattle.encoding_text.specs.declared.decoder.Piece.TheVariants as piece
 
--- the parts that are reported: a broken one of so many bytes, or none
+-- the parts that are reported: a malformed sequence of k bytes, or none
 abbrev pub IsReported : DecoderResult → List Part → Type 0
 IsReported InputEmpty parts = parts ≡ []
 IsReported OutputFull parts = parts ≡ []
@@ -19,7 +19,7 @@ abbrev pub AreDecoded : {A : Type 0} → (ℕ → List A) → DecoderResult → 
 AreDecoded encode result out parts = (cs : List ℕ) × (reported : List Part) × (all_scalars cs ≡ true) × (out ≡ flat_map encode cs)
     × IsReported result reported × (parts ≡ map Character cs ++ reported)
 
--- the characters of the text, the character, or the broken part of so many bytes
+-- the characters of the text, the character, or the malformed sequence of k bytes
 abbrev pub AreBorrowed : Piece → List Part → Type 0
 AreBorrowed (piece.Text t) parts = parts ≡ map Character (chars t.now)
 AreBorrowed (piece.Char c) parts = parts ≡ Character c ∷ []

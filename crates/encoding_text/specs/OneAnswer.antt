@@ -1,17 +1,17 @@
--- That a call has exactly one answer.
+-- A call has exactly one result.
 use Rattle.std.specs.Prelude.{◌≡◌, ℕ, Bool, List}
 use Rattle.encoding_text.specs.Decoding.{IsCall, IsBorrowedCall}
 use Rattle.encoding_text.specs.declared.decoder.DecoderResult.{DecoderResult}
 use Rattle.encoding_text.specs.declared.decoder.Piece.{Piece}
 use Rattle.encoding_text.specs.declared.decoder.Piece.TheVariants.{Text, Char, Malformed, InputEmpty}
 
--- of a decode call: an answer, and any answer is that one
+-- of a decode call: there is a result, and any result is that one
 abbrev pub HasOneAnswer : {A : Type 0} → (ℕ → List A) → ℕ → List ℕ → List ℕ → ℕ → Bool → Type 0
 HasOneAnswer {A} encode need p src room last = (result : DecoderResult) × (read : ℕ) × (out : List A) × (q : List ℕ) × IsCall encode need p src room last result read out q
     × ((result' : DecoderResult) (read' : ℕ) (out' : List A) (q' : List ℕ) → IsCall encode need p src room last result' read' out' q'
     → (result ≡ result') × (read ≡ read') × (out ≡ out') × (q ≡ q'))
 
--- the two pieces say the same: of a text that it has the same bytes, wherever it lies
+-- the two pieces are the same: two texts if their bytes are, in different memory or not
 abbrev pub SayTheSame : Piece → Piece → Type 0
 SayTheSame (Text t) (Text u) = t.now ≡ u.now
 SayTheSame (Char c) (Char d) = c ≡ d

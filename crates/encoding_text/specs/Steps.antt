@@ -1,4 +1,4 @@
--- What private functions say of their steps. No contract that is handed to users cites these.
+-- What private functions promise of their steps. No public contract cites these.
 pub mod Resuming
 pub mod Ending
 pub mod Converting

@@ -1,4 +1,4 @@
--- Steps of a conversion from UTF-8: the longest front that fits, seen from its end.
+-- Steps of a conversion from UTF-8: the longest prefix that fits, by what comes after it.
 use Rattle.std.specs.Prelude.{◌≡◌, ℕ, ◌-◌, ◌≤◌, true, List, length, take, drop, encode_utf8_all}
 use Rattle.std.specs.Str.{all_scalars}
 use Rattle.std.specs.List.{flat_map}
@@ -13,7 +13,7 @@ pub record Converted {A : Type 0} (encode : ℕ → List A) (src : List ℕ) (ol
   pub spelled : encode_utf8_all scalars ≡ take read src
   pub writes : WritesFront old new written (flat_map encode scalars)
 
--- whole characters are read and written, and none begins what is left that would fit
+-- whole characters are read and written, and the rest doesn't start with a character that would fit
 pub record ConvertsFront {A : Type 0} (encode : ℕ → List A) (src : List ℕ) (old new : List A) (read written : ℕ) : Type 0 where
   pub scalars : List ℕ
   pub are_scalars : all_scalars scalars ≡ true

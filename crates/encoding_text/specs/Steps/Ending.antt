@@ -1,4 +1,4 @@
--- Steps of the decoder: what ends a call whose source is read, or whose next bytes no character begins.
+-- Steps of the decoder: what ends a call that has read its source, or whose next bytes start with no character.
 use Rattle.std.specs.Prelude.{◌≡◌, ℕ, ◌≤◌, Bool, true, false, List, [], length, take, drop}
 use Rattle.encoding_definitions.specs.Sequence.{IsBeginning}
 use Rattle.encoding_definitions.specs.Pending.{IsPending}
@@ -6,13 +6,14 @@ use Rattle.encoding_text.specs.Decoding.{IsBroken}
 use Rattle.encoding_text.specs.declared.decoder.DecoderResult.{DecoderResult}
 use Rattle.encoding_text.specs.declared.decoder.DecoderResult.TheVariants.{InputEmpty, OutputFull, Malformed}
 
--- what a call answers where all of its source is read, with p pending
+-- what a call that has read all of its source returns, with p pending
 abbrev pub AnswersAllRead : List ℕ → Bool → DecoderResult → List ℕ → Type 0
 AnswersAllRead p last InputEmpty q = (q ≡ p) × (last ≡ true → p ≡ []) × IsPending p
 AnswersAllRead p last OutputFull q = ⊥
 AnswersAllRead p last (Malformed k second) q = (second ≡ 0) × (k ≡ length p) × (q ≡ []) × IsBeginning p × (last ≡ true)
 
--- what a call answers where no character begins the bytes that are left: the broken part, or a beginning that stays pending
+-- what a call returns if the bytes that are left start with no character: a malformed sequence is read, or an
+-- incomplete sequence stays pending
 abbrev pub AnswersNoCharacter : List ℕ → Bool → DecoderResult → ℕ → List ℕ → Type 0
 AnswersNoCharacter rest last InputEmpty read q = (read ≡ length rest) × (q ≡ rest) × IsBeginning rest × (last ≡ false)
 AnswersNoCharacter rest last OutputFull read q = ⊥

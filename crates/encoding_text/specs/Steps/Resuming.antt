@@ -6,21 +6,21 @@ use Rattle.encoding_text.specs.declared.decoder.pending.Pushed.TheVariants as pu
 use Rattle.encoding_text.specs.declared.decoder.pending.Resumed.{Resumed}
 use Rattle.encoding_text.specs.declared.decoder.pending.Resumed.TheVariants as resume
 
--- the byte b may stand behind so many bytes of a sequence that begins with lead
+-- the byte b may follow the first `count` bytes of a sequence that starts with lead
 abbrev pub GoesOn : ℕ → ℕ → ℕ → Type 0
 GoesOn lead count b = (count ≡ 1 → IsSecond lead b) × (count ≢ 1 → IsContinuation b)
 
--- the byte b goes on with the beginning x no more
+-- the byte b doesn't continue the incomplete sequence x
 abbrev pub IsStuck : List ℕ → ℕ → Type 0
 IsStuck x b = (IsSequence (x ++ b ∷ []) ⊎ IsBeginning (x ++ b ∷ [])) → ⊥
 
--- one byte behind p: a longer beginning, a whole sequence, or neither
+-- one byte after p: a longer incomplete sequence, a whole sequence, or neither
 abbrev pub Pushes : List ℕ → ℕ → Pushed → List ℕ → Type 0
 Pushes p b push.Longer q = q ≡ p ++ b ∷ []
 Pushes p b (push.Whole bytes n) q = (n ≤ 4) × (length bytes ≡ 4) × (take n bytes ≡ p ++ b ∷ []) × IsSequence (p ++ b ∷ []) × (q ≡ [])
 Pushes p b push.Stuck q = IsStuck p b × (q ≡ p)
 
--- the bytes of the source behind p, up to the one that ends the sequence or goes on with it no more
+-- the bytes of the source after p, up to the one that ends the sequence or doesn't continue it
 abbrev pub Resumes : List ℕ → List ℕ → Resumed → ℕ → List ℕ → Type 0
 Resumes p src resume.Ended read q = (read ≡ length src) × (q ≡ p ++ src)
 Resumes p src (resume.Whole bytes n) read q =
