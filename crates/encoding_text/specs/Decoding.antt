@@ -69,8 +69,8 @@ utf8_room n pending = n + 3 + pending
 abbrev pub utf8_room_replacing : ℕ → ℕ → ℕ
 utf8_room_replacing n pending = 3 * (n + pending) + 3
 
--- A destination of the queried length for m bytes, of which src is the first piece, is large enough: the call doesn't
--- return `OutputFull`, and the space after its output is the queried length for the bytes that are left.
+-- A destination of the queried length for m bytes that start with src is large enough: the call doesn't return
+-- `OutputFull`, and the space after its output is at least the queried length for the bytes that are left.
 abbrev pub Suffices : (ℕ → ℕ → ℕ) → List ℕ → List ℕ → ℕ → DecoderResult → ℕ → ℕ → List ℕ → Type 0
 Suffices query p src room result read written q =
     (m : ℕ) → length src ≤ m → query m (length p) ≤ room → (result ≢ OutputFull) × (written + query (m - read) (length q) ≤ room)

@@ -1,4 +1,4 @@
--- An item of a kind in a list: at its place, and in a list that is joined from two.
+-- An item of a kind in a list: by its index, and in a list that is joined from two.
 use Rattle.std.proofs.Common.{ℕ, zero, suc, ◌<◌, ◌⊎◌, inl, inr, List, [], ◌∷◌, ◌++◌, length, slice_index, refl, sym, arith, subst}
 use Rattle.std.specs.Prelude.{Any}
 

@@ -22,7 +22,7 @@ HasOne cs = Any IsRightToLeft cs
 pub text_of_bidi : (bs : List ℕ) → IsBidiText bs → IsUtf8 bs
 text_of_bidi bs b = (b.0, (b.1, b.2))
 
--- any scalar values that spell the text have one that is right-to-left
+-- of any scalar values whose UTF-8 is the text, one is right-to-left
 pub bidi_scalars : (bs cs : List ℕ) → encode_utf8_all cs ≡ bs → IsBidiText bs → Any IsRightToLeft cs
 bidi_scalars bs cs e b = subst HasOne (encodes_same b.0 cs (b.2 ∙ sym e)) b.3
 
@@ -71,14 +71,14 @@ latin1_not_bidi bs (cs, l, e) b =
 pub text_of_latin1 : (bs : List ℕ) → IsUtf8Latin1 bs → IsUtf8 bs
 text_of_latin1 bs (cs, l, e) = (cs, (scalars_of_latin1 cs l, e))
 
--- ---- a front and the rest
+-- ---- a prefix and the rest
 pub rest_text : (bs : List ℕ) (at : ℕ) → IsUtf8 bs → at ≤ length bs → IsUtf8 (take at bs) → IsUtf8 (drop at bs)
 rest_text bs at u l v = IsUtf8-drop bs at u (IsCharBoundary-from_take bs at u l v)
 
 whole_text : (bs : List ℕ) (at : ℕ) → IsUtf8 (take at bs) → IsUtf8 (drop at bs) → IsUtf8 bs
 whole_text bs at u v = subst IsUtf8 (take-append-drop at bs) (IsUtf8-append (take at bs) (drop at bs) u v)
 
--- a right-to-left character at a place of a text
+-- a right-to-left character at an index of a text
 pub found_in_text : (bs : List ℕ) (at n : ℕ) → IsUtf8 bs → at ≤ length bs → IsUtf8 (take at bs) → IsBidiText (take n (drop at bs)) → IsBidiText bs
 found_in_text bs at n u l v b =
     let rest = rest_text bs at u l v in
@@ -99,11 +99,11 @@ decide_text bs = by_test (is_utf8 bs) refl
     by_test true e = inl (IsUtf8-from_is_utf8 bs e)
     by_test false e = inr (λ u. let t = is_utf8-from_IsUtf8 bs u in cc)
 
--- a right-to-left character at a place of bytes
+-- a right-to-left character at an index of bytes
 pub found_in_bytes : (bs : List ℕ) (at n : ℕ) → at ≤ length bs → IsUtf8 (take at bs) → IsBidiText (take n (drop at bs)) → IsBidiBytes bs
 found_in_bytes bs at n l v b = elim (decide_text bs) [ inl u ↦ inr (found_in_text bs at n u l v b) | inr ill ↦ inl ill ]
 
--- ---- a Latin1 front and the rest
+-- ---- a Latin1 prefix and the rest
 pub text_whole : (bs : List ℕ) (n : ℕ) → IsUtf8Latin1 (take n bs) → IsBidiText (drop n bs) → IsBidiText bs
 text_whole bs n h b = subst IsBidiText (take-append-drop n bs) (bidi_behind (take n bs) (drop n bs) (text_of_latin1 (take n bs) h) b)
 
@@ -128,7 +128,7 @@ begins_some : (xs cs : List ℕ) → all_scalars cs ≡ true → encode_utf8_all
 begins_some xs [] s e l n = omega (arith, ap length e)
 begins_some xs (c ∷ cs) s e l n = n (encode_utf8 c) (encode_utf8_all cs) (sym e) (IsSequence-encode c (both (scalar c) (all_scalars cs) s).0)
 
--- where no character begins what is left, the bytes are no text
+-- if the rest starts with no character, the bytes are not well-formed
 pub stuck_no_text : (bs : List ℕ) (at : ℕ) → at < length bs → IsUtf8 (take at bs) → BeginsWithNoCharacter (drop at bs) → IsUtf8 bs → ⊥
 stuck_no_text bs at l v n u =
     let rest = rest_text bs at u (omega arith) v in begins_some (drop at bs) rest.0 rest.1.0 rest.1.1 (omega (arith, length-drop at bs)) n

@@ -54,7 +54,7 @@ pub unit_high : (u : ℕ) → IsInRange 0xD802 0xD803 u ⊎ IsInRange 0xD83A 0xD
 unit_high u (inl h) = unit_first u h
 unit_high u (inr h) = unit_second u h
 
--- a unit below U+0590 is none
+-- a unit below U+0590 is not right-to-left
 pub unit_low_none : (u : ℕ) → u < 0x590 → IsRightToLeftUnit u → ⊥
 unit_low_none u l r = elim (unit_form u r) [
   | inl h ↦ omega (arith, right_to_left_from u h)
@@ -132,7 +132,7 @@ bidi_at us k a l r =
 pub bidi_place : (us : List ℕ) → IsBidiUnits us → (k : ℕ) × (k < length us) × IsRightToLeftUnit (slice_index us k)
 bidi_place us (ps, a, r) = Any-place IsRightToLeftUnit us (subst (λ xs. Any IsRightToLeftUnit xs) a.1 (all_units ps r))
 
--- ---- a Latin1 front and the rest
+-- ---- a Latin1 prefix and the rest
 pub bidi_rest : (us : List ℕ) (n : ℕ) → AreUnits us → IsLatin1 (take n us) → IsBidiUnits us → IsBidiUnits (drop n us)
 bidi_rest us n a h b =
     let found = bidi_place us b in

@@ -9,8 +9,8 @@ use Rattle.encoding_definitions.specs.Utf16.{Part16, Character16, Lone, units_of
 use Rattle.encoding_definitions.specs.FirstScalar.{BeginsLow, IsFirstPart16}
 use Rattle.encoding_definitions.proofs.CodeUnits.Utf16Lemmas.{ArePartsOf16-cons, first_of_parts, tail_paired, parts_unique, rest_parts, length-units_of, length-utf8_of, none_left}
 
--- ---- units behind parts
--- no part that ends these has its low half there
+-- ---- units after parts
+-- the last part is no high surrogate with its low surrogate there
 abbrev pub NoPairAcross : List Part16 → List ℕ → Type 0
 NoPairAcross parts rest = (front : List Part16) (u : ℕ) → parts ≡ front ++ Lone u ∷ [] → IsHighSurrogate u → BeginsLow rest → ⊥
 
@@ -18,7 +18,7 @@ begins_low_front : (xs ys : List ℕ) → 0 < length xs → BeginsLow (xs ++ ys)
 begins_low_front [] ys s b = absurd (omega arith)
 begins_low_front (x ∷ xs) ys s b = b
 
--- the part is the first also of more units
+-- the part is also the first of more units
 first_of_more : (us : List ℕ) (p : Part16) (rest more : List ℕ) → IsFirstPart16 us p rest → ((u : ℕ) → p ≡ Lone u → IsHighSurrogate u → BeginsLow (rest ++ more) → ⊥)
     → IsFirstPart16 (us ++ more) p (rest ++ more)
 first_of_more us (Character16 c) rest more (s, e) n = (s, ap (λ xs. xs ++ more) e ∙ append_assoc (encode_utf16 c) rest more)
@@ -31,7 +31,7 @@ apart_here p (q ∷ ps) more a n u e h b =
     let first : IsFirstPart16 (flat_map units_of (Lone u ∷ q ∷ ps)) (Lone u) (flat_map units_of (q ∷ ps)) = first_of_parts (Lone u) (q ∷ ps) (subst (λ x. ArePaired (x ∷ q ∷ ps)) e a) in
     first.2 h (begins_low_front (flat_map units_of (q ∷ ps)) more (omega (arith, length-units_of q, length-append (units_of q) (flat_map units_of ps))) b)
 
--- parts, and behind them the parts of further units
+-- parts, followed by the parts of further units
 pub parts_behind : (ps : List Part16) (more : List ℕ) (others : List Part16) → ArePaired ps → NoPairAcross ps more → ArePartsOf16 more others
     → ArePartsOf16 (flat_map units_of ps ++ more) (ps ++ others)
 parts_behind [] more others a n m = m
@@ -41,7 +41,7 @@ parts_behind (p ∷ ps) more others a n m =
     (parts_behind ps more others (tail_paired p ps a) (λ front u e. n (p ∷ front) u (ap (λ qs. p ∷ qs) e)) m)
 
 -- ---- first parts
--- so many parts are the first ones
+-- the first n parts are first parts
 pub StartsWith16-take : (us : List ℕ) (ps : List Part16) (n : ℕ) → ArePartsOf16 us ps → StartsWith16 us (take n ps) (drop (length (flat_map units_of (take n ps))) us)
 StartsWith16-take us ps n a = record {
   others = drop n ps;
@@ -52,7 +52,7 @@ StartsWith16-take us ps n a = record {
 pub StartsWith16-nil : (us : List ℕ) (all : List Part16) → ArePartsOf16 us all → StartsWith16 us [] us
 StartsWith16-nil us all a = record { others = all; whole = a; behind = a }
 
--- first parts, and behind them the first ones of the rest
+-- first parts, followed by the first parts of the rest
 pub StartsWith16-append : (us : List ℕ) (ps : List Part16) (mid : List ℕ) (qs : List Part16) (rest : List ℕ) → StartsWith16 us ps mid → StartsWith16 mid qs rest → StartsWith16 us (ps ++ qs) rest
 StartsWith16-append us ps mid qs rest s t = record {
   others = t.others;
@@ -64,19 +64,19 @@ StartsWith16-append us ps mid qs rest s t = record {
 pub StartsWith16-units : (us : List ℕ) (ps : List Part16) (rest : List ℕ) → StartsWith16 us ps rest → flat_map units_of ps ++ rest ≡ us
 StartsWith16-units us ps rest s = ap (λ xs. flat_map units_of ps ++ xs) (sym s.behind.1) ∙ sym (flat_map-append units_of ps s.others) ∙ s.whole.1
 
--- where nothing is left they are all the parts
+-- if nothing is left, they are all the parts
 pub StartsWith16-all : (us : List ℕ) (ps : List Part16) (rest : List ℕ) → rest ≡ [] → StartsWith16 us ps rest → ArePartsOf16 us ps
 StartsWith16-all us ps rest e s =
     subst (ArePartsOf16 us) (ap (λ xs. ps ++ xs) (none_left s.others (ap length (s.behind.1 ∙ e))) ∙ append-nil ps) s.whole
 
--- of what is held and read, the units of the parts and those that are held then
+-- what was pending and what is read are the units of the parts and what is pending afterwards
 pub StartsWith16-read : (held src : List ℕ) (ps : List Part16) (after : List ℕ) (read : ℕ) → StartsWith16 (held ++ src) ps (after ++ drop read src) → flat_map units_of ps ++ after ≡ held ++ take read src
 StartsWith16-read held src ps after read s =
     append_cancel_right (flat_map units_of ps ++ after) (held ++ take read src) (drop read src)
     (append_assoc (flat_map units_of ps) after (drop read src) ∙ StartsWith16-units (held ++ src) ps (after ++ drop read src) s
     ∙ ap (λ xs. held ++ xs) (sym (take-append-drop read src)) ∙ sym (append_assoc held (take read src) (drop read src)))
 
--- ---- with four bytes of room the first part fits
+-- ---- with four bytes of space the first part fits
 pub first_fits : (parts : List Part16) (room read : ℕ) (out : List ℕ) → 0 < length (flat_map units_of parts) → 4 ≤ room → FitsLongest units_of utf8_of parts room read out → 0 < read
 first_fits [] room read out s l f = absurd (omega arith)
 first_fits (p ∷ parts) room read out s l f = by_count f.count refl

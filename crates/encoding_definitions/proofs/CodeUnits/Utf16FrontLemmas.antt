@@ -1,4 +1,4 @@
--- The UTF-8 of a front of the parts of units: walked part by part, and joined from two fronts.
+-- The UTF-8 of a prefix of the parts of units: walked part by part, and joined from two prefixes.
 use Rattle.std.proofs.Common.{◌≡◌, ℕ, ◌+◌, ◌-◌, ◌*◌, ◌<◌, ◌≤◌, ◌⊎◌, inl, inr, get_or, List, [], ◌∷◌, ◌++◌, length, take, drop, encode_utf8, refl, sym, ap, ◌∙◌, arith, subst, append_assoc}
 use Rattle.std.specs.List.{flat_map}
 use Rattle.std.specs.Char.{len_utf8}
@@ -17,7 +17,7 @@ use Rattle.encoding_definitions.proofs.LongestFronts.FittingLemmas.{FitsLongest-
 use Rattle.encoding_definitions.proofs.CodeUnits.Utf16Lemmas.{parts_of, parts_of-nil, parts_of-first, parts_exist, rest_parts, none_left, parts_unique, length-utf8_of_all, length-units_of, first_pair, first_unit, first_single}
 
 -- ---- walking
--- the parts done take the first read units, and what is left has the others
+-- the parts done take the first `read` units, and the rest of the units has the others
 pub record Walked (us : List ℕ) (read : ℕ) (done : List Part16) : Type 0 where
   pub whole : parts_of us ≡ done ++ parts_of (drop read us)
   pub taken : length (flat_map units_of done) ≡ read
@@ -32,7 +32,7 @@ Walked_push us read done p n w e f = record {
 front_of : (us : List ℕ) (read : ℕ) (done : List Part16) → Walked us read done → take (length done) (parts_of us) ≡ done
 front_of us read done w = ap (take (length done)) w.whole ∙ take_at done (parts_of (drop read us)) (length done) refl
 
--- what was walked is a front
+-- what was walked is a prefix
 pub walked_front : (us : List ℕ) (read : ℕ) (done : List Part16) → AreUnits us → Walked us read done → IsUtf8OfFront us read (flat_map utf8_of done)
 walked_front us read done a w = record {
   parts = parts_of us;
@@ -55,7 +55,7 @@ walked_all us room read done a w l h =
           (subst (λ n. FitsLongest units_of utf8_of done room n (flat_map utf8_of done)) w.taken (FitsLongest-all units_of utf8_of done room h));
     }
 
--- the next part doesn't fit any more
+-- the next part doesn't fit
 pub walked_stop : (us : List ℕ) (room read : ℕ) (done : List Part16) (p : Part16) (rest : List ℕ) → AreUnits us → Walked us read done → IsFirstPart16 (drop read us) p rest
     → length (flat_map utf8_of done) ≤ room → room < length (flat_map utf8_of done) + length (utf8_of p)
     → IsUtf8OfLongestFront us room read (flat_map utf8_of done)
@@ -70,11 +70,11 @@ walked_stop us room read done p rest a w f h l =
     }
 
 -- ---- joining
--- the parts behind a front of the parts
+-- the parts after a prefix of the parts
 behind_front : (us : List ℕ) (read : ℕ) (out : List ℕ) (f : IsUtf8OfFront us read out) → ArePartsOf16 (drop read us) (drop f.count f.parts)
 behind_front us read out f = subst (λ n. ArePartsOf16 (drop n us) (drop f.count f.parts)) (sym f.taken) (rest_parts us f.parts f.count f.are_parts)
 
--- a front that is all
+-- a prefix that is all
 pub front_all : (us : List ℕ) (room read : ℕ) (out : List ℕ) → IsUtf8OfFront us read out → read ≡ length us → length out ≤ room → IsUtf8OfLongestFront us room read out
 front_all us room read out f e h =
     let rest = behind_front us read out f in
@@ -90,7 +90,7 @@ front_all us room read out f e h =
           (FitsLongest-all units_of utf8_of f.parts room (subst (λ xs. length xs ≤ room) (sym written) h)));
     }
 
--- a front, and the longest fitting front of what is left
+-- a prefix, and the longest fitting prefix of the rest
 pub front_then : (us : List ℕ) (room read more : ℕ) (out extra : List ℕ) → IsUtf8OfFront us read out → length out ≤ room
     → IsUtf8OfLongestFront (drop read us) (room - length out) more extra → IsUtf8OfLongestFront us room (read + more) (out ++ extra)
 front_then us room read more out extra f h t =
@@ -110,8 +110,8 @@ front_then us room read more out extra f h t =
           (subst (λ xs. FitsLongest units_of utf8_of (done ++ drop f.count f.parts) room (length (flat_map units_of done) + more) (xs ++ extra)) (sym f.written) joined));
     }
 
--- ---- room for all
--- with three bytes of room for each unit all parts fit
+-- ---- space for all
+-- with three bytes of space for each unit all parts fit
 pub all_fit : (ps : List Part16) (room read : ℕ) (out : List ℕ) → 3 * length (flat_map units_of ps) ≤ room → FitsLongest units_of utf8_of ps room read out
     → (read ≡ length (flat_map units_of ps)) × (out ≡ flat_map utf8_of ps)
 all_fit ps room read out h f = elim (cases_lt f.count (length ps)) [
@@ -126,7 +126,7 @@ room_for_all us room read out h f =
     let all = all_fit f.parts room read out (omega (arith, h, long)) f.longest in
     (all.0 ∙ long, record { parts = f.parts; are_parts = f.are_parts; written = all.1 })
 
--- ---- the scalar value that the units at a place begin with
+-- ---- the scalar value of the first part of the units from an index on
 module _ (us : List ℕ) (at : ℕ) where
   scalar_here : (p : Part16) (scalar n : ℕ) → scalar_of p ≡ scalar → length (encode_utf16 scalar) ≡ n → IsFirstPart16 (drop at us) p (drop (at + n) us) → IsFirstScalar (drop at us) scalar
   scalar_here p scalar n e l f = record {
@@ -154,7 +154,7 @@ module _ (us : List ℕ) (at : ℕ) where
       scalar_here (Character16 c) c 2 refl (ap length (two_units c (omega arith)))
       (subst (λ xs. IsFirstPart16 xs (Character16 c) (drop (at + 2) us)) (sym whole) (first_pair _ _ _ p))
 
-  -- a surrogate that is in no pair
+  -- an unpaired surrogate
   pub scalar_of_lone : at < length us → 0xD800 ≤ get_or us at 0 → get_or us at 0 ≤ 0xDFFF → (at + 1 < length us → IsPair (get_or us at 0) (get_or us (at + 1) 0) → ⊥) → IsFirstScalar (drop at us) 0xFFFD
   scalar_of_lone h l k n =
       let apart : IsPair (get_or us at 0) (get_or (drop (at + 1) us) 0 0) → ⊥ = λ p.
@@ -192,13 +192,13 @@ module _ (us : List ℕ) (read : ℕ) (done : List Part16) (scalar n : ℕ) (w :
       let here = length_first (drop read us) f.part (drop (length (encode_utf16 scalar)) (drop read us)) f.first in
       omega (arith, here, length-units_of f.part, units_counted (drop read us) scalar f, length-drop read us)
 
-  -- the next character doesn't fit any more
+  -- the next character doesn't fit
   pub step_stops : (room : ℕ) → AreUnits us → length (flat_map utf8_of done) ≤ room → room < length (flat_map utf8_of done) + len_utf8 scalar
       → IsUtf8OfLongestFront us room read (flat_map utf8_of done)
   step_stops room a h l =
       walked_stop us room read done f.part _ a w f.first h (omega (arith, l, length-encode scalar, ap (λ c. length (encode_utf8 c)) f.counts))
 
--- a front was converted, and then the longest fitting front of what was left into what was left of the destination
+-- a prefix was converted, and then the longest fitting prefix of the rest into the rest of the destination
 module _ (us old mid sub : List ℕ) (read written more extra : ℕ)
     (f : IsUtf8OfFront us read (take written mid)) (w : WritesFront old mid written (take written mid))
     (t : IsUtf8OfLongestFront (take (length us - read) (drop read us)) (length (take (length mid - written) (drop written mid))) more (take extra sub))

@@ -1,4 +1,4 @@
--- The parts of UTF-16 code units: there is one list of them for each list of units, found from the left.
+-- The parts of UTF-16 code units: each list of units has exactly one list of them, found from the left.
 use Rattle.std.proofs.Common.{◌≡◌, ℕ, zero, suc, ◌+◌, ◌-◌, ◌*◌, ◌/◌, ◌%◌, ◌<◌, ◌≤◌, ◌⊎◌, inl, inr, true, false, cond, ◌&&◌, List, [], ◌∷◌, ◌++◌, length, take, drop, get_or, encode_utf8, refl, sym, ap, ◌∙◌, arith, subst}
 use Rattle.std.specs.Prelude.{nat_le, nat_lt}
 use Rattle.std.specs.Char.{IsScalar}
@@ -18,7 +18,7 @@ use Rattle.encoding_definitions.specs.Utf16.{AreUnits, IsHighSurrogate, IsLowSur
 use Rattle.encoding_definitions.specs.FirstScalar.{BeginsLow, IsFirstPart16}
 
 -- ---- the parts, from the left
--- the part that is a unit in no pair
+-- the part of a unit that is in no pair
 abbrev single : ℕ → Part16
 single u = cond (nat_le 0xD800 u && nat_lt u 0xE000) (Lone u) (Character16 u)
 
@@ -62,7 +62,7 @@ halves c l s =
     let below : c < 1114112 = elim (scalar_cases c s) [ inl h ↦ omega arith | inr h ↦ h.1 ] in
     (0xD800 + (c - 0x10000) / 0x400, 0xDC00 + (c - 0x10000) % 0x400, (omega arith, omega arith, omega arith, omega arith), two_units c l, omega arith)
 
--- what begins with this first part has the parts of the rest behind it
+-- the parts of units with this first part are it and the parts of the rest
 pub parts_of-first : (us : List ℕ) (p : Part16) (rest : List ℕ) → IsFirstPart16 us p rest → parts_of us ≡ p ∷ parts_of rest
 parts_of-first us (Character16 c) rest (s, e) = elim (cases_lt c 0x10000) [
   | inl l ↦ ap parts_of (e ∙ ap (λ xs. xs ++ rest) (one_unit c l)) ∙ parts_of_single c rest (not_high c s) ∙ ap (λ p. p ∷ parts_of rest) (single_character c s)
@@ -79,7 +79,7 @@ parts_of-first us (Lone u) rest (s, e, n) =
     apart u [] s n p = omega (arith, p.2)
     apart u (v ∷ vs) s n p = n (p.0, omega arith) (p.2, omega arith)
 
--- ---- adding and taking away the first part
+-- ---- adding and removing the first part
 pub ArePartsOf16-cons : (us : List ℕ) (p : Part16) (rest : List ℕ) (ps : List Part16) → IsFirstPart16 us p rest → ArePartsOf16 rest ps → ArePartsOf16 us (p ∷ ps)
 ArePartsOf16-cons us (Character16 c) rest [] (s, e) (a, f) = (s, ap (λ xs. encode_utf16 c ++ xs) f ∙ sym e)
 ArePartsOf16-cons us (Character16 c) rest (q ∷ ps) (s, e) (a, f) = ((s, tt, a), ap (λ xs. encode_utf16 c ++ xs) f ∙ sym e)
@@ -95,7 +95,7 @@ pub head_part : (p : Part16) (ps : List Part16) → ArePaired (p ∷ ps) → IsP
 head_part p [] a = a
 head_part p (q ∷ ps) a = a.0
 
--- a character begins with no low surrogate
+-- the UTF-16 of a character doesn't start with a low surrogate
 character_not_low : (c : ℕ) (rest : List ℕ) → IsScalar c → BeginsLow (encode_utf16 c ++ rest) → ⊥
 character_not_low c rest s b = elim (cases_lt c 0x10000) [
   | inl l ↦ let low : IsLowSurrogate c = subst (λ xs. BeginsLow (xs ++ rest)) (one_unit c l) b in elim (scalar_cases c s) [ inl h ↦ omega arith | inr h ↦ omega arith ]
@@ -142,7 +142,7 @@ pub first_unit : (u : ℕ) (rest : List ℕ) → u < 0x10000 → (u < 0xD800) �
 first_unit u rest l (inl h) = (low_scalar u h, ap (λ xs. xs ++ rest) (sym (one_unit u l)))
 first_unit u rest l (inr h) = (high_scalar u (omega arith) (omega arith), ap (λ xs. xs ++ rest) (sym (one_unit u l)))
 
--- the first part of units whose first is a surrogate, and in no pair
+-- the first part of units whose first is an unpaired surrogate
 pub first_single : (u : ℕ) (rest : List ℕ) → 0xD800 ≤ u → u ≤ 0xDFFF → (IsPair u (get_or rest 0 0) → ⊥) → IsFirstPart16 (u ∷ rest) (Lone u) rest
 first_single u rest l h n = (elim (cases_lt u 0xDC00) [ inl x ↦ inl (l, omega arith) | inr x ↦ inr (x, h) ], refl, apart u rest n)
   where
@@ -193,7 +193,7 @@ rest_paired zero ps a = a
 rest_paired (suc n) [] a = tt
 rest_paired (suc n) (p ∷ ps) a = rest_paired n ps (tail_paired p ps a)
 
--- the parts behind a first number of parts are those of the units behind theirs
+-- the parts after the first n are those of the units after theirs
 pub rest_parts : (us : List ℕ) (ps : List Part16) (n : ℕ) → ArePartsOf16 us ps → ArePartsOf16 (drop (length (flat_map units_of (take n ps))) us) (drop n ps)
 rest_parts us ps n (a, e) =
     let whole : flat_map units_of (take n ps) ++ flat_map units_of (drop n ps) ≡ us =

@@ -1,4 +1,4 @@
--- Writing the UTF-8 of a scalar value at the front of a destination.
+-- Writing the UTF-8 of a scalar value at the start of a destination.
 use Rattle.std.proofs.Common.{◌≡◌, ℕ, ◌+◌, ◌/◌, ◌%◌, ◌<◌, ◌≤◌, List, [], length, set, encode_utf8, bit_and, bit_or, refl, sym, arith}
 use Rattle.std.proofs.lemmas.Grind.{common_steps}
 use Rattle.std.specs.Char.{len_utf8}
@@ -43,7 +43,7 @@ three_bytes c h = (lead_three (c / 4096) (omega arith), last_six (c / 64), last_
 pub four_bytes : (c : ℕ) → c < 1114112 → (bit_or 240 (c / 262144) ≡ 240 + c / 262144) × (bit_or 128 (bit_and (c / 4096) 63) ≡ 128 + c / 4096 % 64) × (bit_or 128 (bit_and (c / 64) 63) ≡ 128 + c / 64 % 64) × (bit_or 128 (bit_and c 63) ≡ 128 + c % 64)
 four_bytes c h = (lead_four (c / 262144) (omega arith), last_six (c / 4096), last_six (c / 64), last_six c)
 
--- the room that the length of the UTF-8 asks for
+-- the space that the length of the UTF-8 needs
 pub room_two : (c n : ℕ) → 128 ≤ c → len_utf8 c ≤ n → 1 < n
 room_two c n l h = grind (arith, nat_tests)
 

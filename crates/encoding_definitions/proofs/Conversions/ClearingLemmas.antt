@@ -1,4 +1,4 @@
--- A text whose front is overwritten and that is cleared behind it is well-formed.
+-- A text whose prefix is overwritten, and that is cleared after it, is well-formed.
 use Rattle.std.proofs.Common.{◌≡◌, ℕ, suc, ◌+◌, ◌-◌, ◌<◌, inl, inr, ◌&&◌, List, [], ◌∷◌, ◌++◌, length, take, drop, get_or, refl, sym, ap, ◌∙◌, arith, nat_le, IsUtf8, append_assoc, subst}
 use Rattle.std.specs.Prelude.{replicate}
 use Rattle.std.proofs.lemmas.Bool.{and_from, le-leb, cond-true, cond-false, cases_Bool, cases_lt, both_ways}
@@ -15,7 +15,7 @@ use Rattle.encoding_definitions.proofs.LongestFronts.FittingLemmas.{written_is}
 clear_more : (b : ℕ) (bs : List ℕ) → IsContinuation b → clear_continuation (b ∷ bs) ≡ 0 ∷ clear_continuation bs
 clear_more b bs c = cond-true (nat_le 0x80 b && nat_le b 0xBF) _ _ (and_from _ _ (le-leb _ _ c.0) (le-leb _ _ c.1))
 
--- ---- the loop, at a place behind bytes that are zero
+-- ---- the loop, at an index after bytes that are zero
 pub clear_next : (bs : List ℕ) (at : ℕ) → at < length bs → IsContinuation (get_or bs at 0)
     → replicate at 0 ++ clear_continuation (drop at bs) ≡ replicate (at + 1) 0 ++ clear_continuation (drop (at + 1) bs)
 clear_next bs at h c =
@@ -23,13 +23,13 @@ clear_next bs at h c =
     ap (λ xs. replicate at 0 ++ clear_continuation xs) (drop_more bs at 0 h) ∙ ap (λ xs. replicate at 0 ++ xs) (clear_more (get_or bs at 0) (drop (at + 1) bs) c)
     ∙ sym (append_assoc (replicate at 0) (0 ∷ []) rest) ∙ ap (λ xs. xs ++ rest) (replicate_more at 0)
 
--- the first byte behind them
+-- the first byte after them
 pub byte_behind : (bs : List ℕ) (at : ℕ) → get_or (replicate at 0 ++ drop at bs) at 0 ≡ get_or bs at 0
 byte_behind bs at =
     get_or-append_right (replicate at 0) (drop at bs) at at 0 (length-replicate {A = ℕ} at 0) (omega arith) ∙ get_or-drop at bs (at - at) 0
     ∙ ap (λ n. get_or bs n 0) {x = at + (at - at)} {y = at} (omega arith)
 
--- ---- the bytes that are cleared, and what is behind them
+-- ---- the bytes that are cleared, and what follows them
 record IsCleared (bs : List ℕ) : Type 0 where
   count : ℕ
   cleared : clear_continuation bs ≡ replicate count 0 ++ drop count bs
@@ -59,7 +59,7 @@ IsUtf8-zeros n = IsUtf8-from_ascii (replicate n 0) (λ i. elim (cases_lt i n) [
   | inr h ↦ rw (get_or_past {X = ℕ} (replicate n 0) i 0 (omega (arith, length-replicate {A = ℕ} n 0))) (omega arith)
 ])
 
--- a text behind any place, once the continuation bytes in front of it are cleared
+-- a text after any index, once the continuation bytes at its start are cleared
 IsUtf8-continuation : (bs : List ℕ) (n : ℕ) → IsUtf8 bs → IsUtf8 (clear_continuation (drop n bs))
 IsUtf8-continuation bs n u =
     let c = IsCleared-from (drop n bs) in
@@ -76,13 +76,13 @@ IsUtf8-continuation bs n u =
     ] in
     rw (c.cleared, drop-drop) (IsUtf8-append _ _ (IsUtf8-zeros c.count) behind)
 
--- a text, overwritten in front by whole characters and cleared behind them
+-- a text, overwritten at the start by whole characters and cleared after them
 pub IsUtf8-cleared : (old out : List ℕ) (zeros : ℕ) → IsUtf8 old → IsUtf8 out → IsUtf8 (out ++ clear_front zeros (drop (length out) old))
 IsUtf8-cleared old out zeros u v =
     let rest : IsUtf8 (clear_continuation (drop zeros (drop (length out) old))) = rw drop-drop (IsUtf8-continuation old (length out + zeros) u) in
     IsUtf8-append _ _ v (IsUtf8-append _ _ (IsUtf8-zeros _) rest)
 
--- ---- a call wrote into the front, and what is behind it was cleared
+-- ---- a call wrote a prefix, and what follows it was cleared
 module _ (old mid sub : List ℕ) (zeros written : ℕ) (out : List ℕ) (w : WritesFront old mid written out)
     (c : sub ≡ clear_front zeros (take (length mid - written) (drop written mid))) where
   pub clears_behind : WritesAndClears zeros old (put_mid written (length mid - written) mid sub) written out

@@ -11,7 +11,7 @@ IsUtf8-part : (p : Part16) (ps : List Part16) → ArePaired (p ∷ ps) → IsUtf
 IsUtf8-part (Character16 c) ps a = IsUtf8-encode c (first_of_parts (Character16 c) ps a).0
 IsUtf8-part (Lone u) ps a = IsUtf8-encode 0xFFFD (high_scalar 0xFFFD (omega arith) (omega arith))
 
--- that of the first ones
+-- that of the first n parts
 IsUtf8-parts : (n : ℕ) (ps : List Part16) → ArePaired ps → IsUtf8 (flat_map utf8_of (take n ps))
 IsUtf8-parts zero ps a = IsUtf8-nil
 IsUtf8-parts (suc n) [] a = IsUtf8-nil

@@ -1,4 +1,4 @@
--- The one list of parts of bytes: it exists, it is one, and its settled parts stay whatever follows.
+-- The one list of parts of bytes: it exists, it is the only one, and its final parts stay for any bytes that follow.
 use Rattle.std.proofs.Common.{◌≡◌, ℕ, zero, suc, ◌+◌, ◌≤◌, inl, inr, true, List, [], ◌∷◌, ◌++◌, length, map, encode_utf8, encode_utf8_all, refl, sym, ap, ◌∙◌, arith, subst}
 use Rattle.std.specs.List.{flat_map}
 use Rattle.std.specs.Str.{all_scalars}
@@ -17,7 +17,7 @@ StartsWith-append bs (p ∷ ps) mid qs rest (after, f, more) s = (after, f, Star
 pub StartsWith-one : (bs : List ℕ) (part : Part) (rest : List ℕ) → IsFirstPart bs part rest → StartsWith bs (part ∷ []) rest
 StartsWith-one bs part rest f = (rest, f, refl)
 
--- the parts' bytes, joined, begin the bytes
+-- the bytes start with the joined bytes of the parts
 pub StartsWith-bytes : (bs : List ℕ) (ps : List Part) (rest : List ℕ) → StartsWith bs ps rest → bs ≡ flat_map bytes_of ps ++ rest
 StartsWith-bytes bs [] rest e = e
 StartsWith-bytes bs (p ∷ ps) rest (after, f, more) =
@@ -46,7 +46,7 @@ no_first_part part rest f =
     let bytes = part_bytes [] part rest f in
     omega (arith, ap length bytes.0, length-append (bytes_of part) rest, bytes.1)
 
--- first parts are a front of all the parts, and what is left has the other parts
+-- first parts are a prefix of all the parts, and the rest has the other parts
 pub parts_split : (bs : List ℕ) (ps : List Part) (rest : List ℕ) (all : List Part) → StartsWith bs ps rest → ArePartsOf bs all
     → (more : List Part) × (all ≡ ps ++ more) × ArePartsOf rest more
 parts_split bs [] rest all e h = (all, refl, subst (λ xs. ArePartsOf xs all) e h)
@@ -65,21 +65,21 @@ same_parts bs ps qs h k =
     let split = parts_split bs ps [] qs h k in
     sym (split.1 ∙ ap (λ xs. ps ++ xs) (no_parts split.0 split.2) ∙ append-nil ps)
 
--- ---- the settled parts
--- no last part is a beginning that is all of what is left
+-- ---- the final parts
+-- if no bytes are left, the last part is no incomplete sequence
 abbrev IsClosed : List Part → List ℕ → Type 0
 IsClosed ps rest = rest ≡ [] → (front : List Part) (x : List ℕ) → ps ≡ front ++ Broken x ∷ [] → IsBeginning x → ⊥
 
 closed_tail : (p : Part) (ps : List Part) (rest : List ℕ) → IsClosed (p ∷ ps) rest → IsClosed ps rest
 closed_tail p ps rest c e front x same b = c e (p ∷ front) x (ap (λ xs. p ∷ xs) same) b
 
--- where nothing follows a part, it is the last
+-- if nothing follows a part, it is the last
 closed_head : (p : Part) (ps : List Part) (after rest : List ℕ) → StartsWith after ps rest → IsClosed (p ∷ ps) rest
     → after ≡ [] → (x : List ℕ) → p ≡ Broken x → IsBeginning x → ⊥
 closed_head p [] after rest s c e x same b = c (sym s ∙ e) [] x (ap (λ q. q ∷ []) same) b
 closed_head p (q ∷ ps) after rest (then', f, s) c e x same b = no_first_part q then' (subst (λ xs. IsFirstPart xs q then') e f)
 
--- they are the first parts whatever follows
+-- they are the first parts for any bytes that follow
 pub settled_stay : (bs : List ℕ) (ps : List Part) (rest more : List ℕ) → StartsWith bs ps rest → IsClosed ps rest → StartsWith (bs ++ more) ps (rest ++ more)
 settled_stay bs [] rest more e c = ap (λ xs. xs ++ more) e
 settled_stay bs (p ∷ ps) rest more (after, f, s) c =
@@ -98,7 +98,7 @@ StartsWith-characters (c ∷ cs) rest h =
     let parts = and_parts _ _ h in
     (encode_utf8_all cs ++ rest, (parts.0, append_assoc (encode_utf8 c) (encode_utf8_all cs) rest), StartsWith-characters cs rest parts.1)
 
--- ---- the text of parts and the number of broken ones
+-- ---- the text of parts and the number of malformed sequences
 pub repaired_text-append : (ps qs : List Part) → repaired_text (ps ++ qs) ≡ repaired_text ps ++ repaired_text qs
 repaired_text-append [] qs = refl
 repaired_text-append (p ∷ ps) qs =
@@ -117,7 +117,7 @@ pub count_broken-characters : (cs : List ℕ) → count_broken (map Character cs
 count_broken-characters [] = refl
 count_broken-characters (c ∷ cs) = count_broken-characters cs
 
--- no more parts are broken than there are bytes
+-- there are no more malformed sequences than bytes
 pub count_broken-bytes : (bs : List ℕ) (ps : List Part) (rest : List ℕ) → StartsWith bs ps rest → count_broken ps + length rest ≤ length bs
 count_broken-bytes bs [] rest e = omega (arith, ap length e)
 count_broken-bytes bs (Character c ∷ ps) rest (after, f, s) =
@@ -127,7 +127,7 @@ count_broken-bytes bs (Broken x ∷ ps) rest (after, f, s) =
     let bytes = part_bytes bs (Broken x) after f in
     omega (arith, count_broken-bytes after ps rest s, ap length bytes.0, length-append x after, bytes.1)
 
--- ---- each list of bytes has settled parts
+-- ---- each list of bytes has final parts
 abbrev HasSettled : List ℕ → Type 0
 HasSettled bs = (ps : List Part) × (rest : List ℕ) × AreSettled bs ps rest
 
@@ -140,7 +140,7 @@ head_part p q ps qs e = cc
 tail_parts : (p q : Part) (ps qs : List Part) → p ∷ ps ≡ q ∷ qs → ps ≡ qs
 tail_parts p q ps qs e = cc
 
--- a part in front of settled ones is settled, unless it is a beginning that is all
+-- a part before final ones is final, unless it is an incomplete sequence that is all
 settled_more : (bs : List ℕ) (p : Part) (after : List ℕ) (ps : List Part) (rest : List ℕ) → IsFirstPart bs p after → AreSettled after ps rest
     → (after ≡ [] → (x : List ℕ) → p ≡ Broken x → IsBeginning x → ⊥) → AreSettled bs (p ∷ ps) rest
 settled_more bs p after ps rest f s stays = record { starts = (after, f, s.starts); still_open = s.still_open; closed = closed }
@@ -151,7 +151,7 @@ settled_more bs p after ps rest f s stays = record { starts = (after, f, s.start
         stays (none ∙ e) x (head_part p (Broken x) ps [] same) b
     closed e (q ∷ front) x same b = s.closed e front x (tail_parts p q ps (front ++ Broken x ∷ []) same) b
 
--- nothing is settled of a beginning
+-- nothing of an incomplete sequence is final
 settled_none : (bs x : List ℕ) → bs ≡ x ++ [] → IsBeginning x → HasSettled bs
 settled_none bs x e b = (
   [],

@@ -42,7 +42,7 @@ three_more a b c d more l h s t = let r = second_range a b s in rw (utf8_error_l
 lone : (a : ℕ) (more : List ℕ) → ((0xC2 ≤ a) × (a ≤ 0xF4) → ⊥) → utf8_invalid_len (a ∷ more) ≡ 1
 lone a more n = rw (utf8_error_len_some (a ∷ more) (omega arith)) (grind (arith, nat_tests))
 
--- ---- std counts the bytes of a broken part as we do
+-- ---- std counts the bytes of a malformed sequence as we do
 open_len : (x rest : List ℕ) → IsBeginning x → ((y : ℕ) (ys : List ℕ) → rest ≡ y ∷ ys → IsStuck x y) → HasOpenShape x → utf8_invalid_len (x ++ rest) ≡ length x
 open_len [] rest b n h = absurd h
 open_len (a ∷ []) [] b n h = one_end a h.0 h.1
@@ -68,7 +68,7 @@ invalid_len bs x rest (n, inr l) =
 
 -- ---- the whole text
 
--- characters, and behind them a broken part
+-- characters, followed by a malformed sequence
 lossy_broken : (cs bs x rest : List ℕ) → all_scalars cs ≡ true → IsFirstPart bs (Broken x) rest
     → utf8_lossy (encode_utf8_all cs ++ bs) ≡ encode_utf8_all cs ++ (replacement_bytes ++ utf8_lossy rest)
 lossy_broken cs bs x rest h f =

@@ -1,4 +1,4 @@
--- The first part of bytes: there is one, there is only one, and when it stays the first whatever follows.
+-- The first part of bytes: there is one, there is only one, and when it stays the first for any bytes that follow.
 use Rattle.std.proofs.Common.{◌≡◌, ℕ, ◌<◌, ◌≤◌, ◌⊎◌, inl, inr, List, [], ◌∷◌, ◌++◌, length, encode_utf8, refl, sym, ap, ◌∙◌, arith, subst, drop, take}
 use Rattle.std.proofs.lemmas.List.{length-append, append-nil, append_assoc, take_at, drop_at}
 use Rattle.std.proofs.lemmas.Str.{encode_same, length-encode, len_utf8_bounds}
@@ -7,7 +7,7 @@ use Rattle.encoding_definitions.specs.Parts.{Part, Character, Broken, bytes_of, 
 use Rattle.encoding_definitions.proofs.Sequences.SequenceLemmas.{decide_sequence, decide_beginning, IsBeginning-front, IsSequence-front}
 use Rattle.encoding_definitions.proofs.Sequences.EncodingLemmas.{scalar_of_sequence, IsSequence-encode, sequence_ends}
 
--- of two fronts of one list, one begins the other
+-- of two prefixes of one list, one is a prefix of the other
 abbrev Nest : List ℕ → List ℕ → List ℕ → List ℕ → Type 0
 Nest a r b s = ((t : List ℕ) × (b ≡ a ++ t) × (r ≡ t ++ s)) ⊎ ((t : List ℕ) × (a ≡ b ++ t) × (s ≡ t ++ r))
 
@@ -30,13 +30,13 @@ fronts_nest (x ∷ a) r (y ∷ b) s e = both_more x y a r b s (head_same x y _ _
 push_cons : (x : List ℕ) (y : ℕ) (ys : List ℕ) → x ++ (y ∷ ys) ≡ (x ++ y ∷ []) ++ ys
 push_cons x y ys = sym (append_assoc x (y ∷ []) ys)
 
--- no sequence begins a beginning
+-- no sequence is a prefix of an incomplete sequence
 pub no_sequence_in_beginning : (front more : List ℕ) → IsBeginning (front ++ more) → IsSequence front → ⊥
 no_sequence_in_beginning front more b s =
     let none : length (more ++ b.1) ≡ 0 = ap length (sequence_ends front (more ++ b.1) s (subst IsSequence (append_assoc front more b.1) b.3)) in
     omega (arith, length-append more b.1, b.2)
 
--- the byte y doesn't go on with the beginning x
+-- the byte y doesn't continue the incomplete sequence x
 abbrev pub IsStuck : List ℕ → ℕ → Type 0
 IsStuck x y = (IsSequence (x ++ y ∷ []) ⊎ IsBeginning (x ++ y ∷ [])) → ⊥
 
@@ -55,7 +55,7 @@ stuck_beginning x y ys (z ∷ t) more n e s =
 
 -- ---- what the first part is
 
--- a beginning that the next byte doesn't go on
+-- an incomplete sequence that the next byte doesn't continue
 pub first_stuck : (x : List ℕ) (y : ℕ) (ys : List ℕ) → IsBeginning x → IsStuck x y → IsFirstPart (x ++ (y ∷ ys)) (Broken x) (y ∷ ys)
 first_stuck x y ys b n = (none, inl (record { whole = refl; beginning = b; longest = longest }))
   where
@@ -71,7 +71,7 @@ first_stuck x y ys b n = (none, inl (record { whole = refl; beginning = b; longe
       | inr (t, f, g) ↦ omega (arith, ap length f, length-append longer t)
     ]
 
--- a beginning that is all
+-- an incomplete sequence that is all
 pub first_open : (x : List ℕ) → IsBeginning x → IsFirstPart x (Broken x) []
 first_open x b = (none, inl (record { whole = sym (append-nil x); beginning = b; longest = longest }))
   where
@@ -81,7 +81,7 @@ first_open x b = (none, inl (record { whole = sym (append-nil x); beginning = b;
     longest : (longer more : List ℕ) → x ≡ longer ++ more → IsBeginning longer → length longer ≤ length x
     longest longer more e l = omega (arith, ap length e, length-append longer more)
 
--- a byte that begins nothing
+-- a byte that starts no sequence
 pub first_lone : (b : ℕ) (ys : List ℕ) → BeginsNothing b → IsFirstPart (b ∷ ys) (Broken (b ∷ [])) ys
 first_lone b ys n = (none, inr (record { whole = refl; one = refl; none = lone }))
   where
@@ -152,7 +152,7 @@ same_first_part bs (Character c) r (Broken b) s (h, e) (n, k) = absurd (n (encod
 same_first_part bs (Broken a) r (Character d) s (n, k) (h, e) = absurd (n (encode_utf8 d) s e (IsSequence-encode d h))
 same_first_part bs (Broken a) r (Broken b) s (n, k) (m, l) = let both = same_broken bs a r b s k l in (ap Broken both.0, both.1)
 
--- ---- it stays the first, whatever follows, unless it is a beginning that is all
+-- ---- it stays the first for any bytes that follow, unless it is an incomplete sequence that is all
 begins_nothing : (b : ℕ) (ys : List ℕ) → BeginsWithNoCharacter (b ∷ ys) → ((longer more : List ℕ) → b ∷ ys ≡ longer ++ more → IsBeginning longer → ⊥) → BeginsNothing b
 begins_nothing b ys n m (inl s) = n (b ∷ []) ys refl s
 begins_nothing b ys n m (inr l) = m (b ∷ []) ys refl l

@@ -1,4 +1,4 @@
--- Latin1 text in UTF-8: its characters are of one byte below 0x80 or of two, of which the first is 0xC2 or 0xC3.
+-- Latin1 text in UTF-8: its characters are of one byte below 0x80, or of two with the first 0xC2 or 0xC3.
 use Rattle.std.proofs.Common.{◌≡◌, ℕ, suc, zero, ◌+◌, ◌-◌, ◌*◌, ◌/◌, ◌%◌, ◌<◌, ◌≤◌, inl, inr, List, [], ◌∷◌, ◌++◌, length, take, drop, slice_index, encode_utf8, encode_utf8_all, IsUtf8, refl, sym, ap, ◌∙◌, arith, subst, append_assoc, take-add, true}
 use Rattle.std.specs.Str.{all_scalars, chars}
 use Rattle.std.proofs.str.Laws.{two, three, four}
@@ -9,7 +9,7 @@ use lib.Utf8.{scalar, low_scalar}
 use Rattle.encoding_definitions.specs.Fronts.{IsLongestFront}
 use Rattle.encoding_definitions.specs.Latin1.{IsLatin1, IsUtf8Latin1}
 
--- a Latin1 character begins the bytes
+-- the bytes start with a Latin1 character
 abbrev pub BeginsLatin1 : List ℕ → Type 0
 BeginsLatin1 bs = (c : ℕ) × (c ≤ 0xFF) × (rest : List ℕ) × (bs ≡ encode_utf8 c ++ rest)
 
@@ -55,7 +55,7 @@ two_bytes a b l h m n =
     let last : 128 + c % 64 ≡ b = omega arith in
     two c (omega arith) (omega arith) ∙ rw (lead, last) refl
 
--- what begins with a Latin1 character, by its bytes
+-- what starts with a Latin1 character, by its bytes
 latin1_bytes : (bs : List ℕ) → BeginsLatin1 bs → (0 < length bs) × (slice_index bs 0 < 0xC4)
     × (0x80 ≤ slice_index bs 0 → (0xC2 ≤ slice_index bs 0) × (1 < length bs) × (0x80 ≤ slice_index bs 1) × (slice_index bs 1 ≤ 0xBF))
 latin1_bytes bs (c, l, rest, e) = elim (cases_lt c 128) [
@@ -65,7 +65,7 @@ latin1_bytes bs (c, l, rest, e) = elim (cases_lt c 128) [
       rw same (omega arith, omega arith, λ q. (omega arith, omega arith, omega arith, omega arith))
 ]
 
--- ---- fronts
+-- ---- prefixes
 pub split_front : (ds cs : List ℕ) (rest : List ℕ) → encode_utf8_all cs ≡ encode_utf8_all ds ++ rest → (es : List ℕ) × (cs ≡ ds ++ es) × (encode_utf8_all es ≡ rest)
 split_front [] cs rest e = (cs, refl, e)
 split_front (d ∷ ds) cs rest e =
@@ -81,7 +81,7 @@ begins (d ∷ ds) es rest h e l = begins ds es rest (IsLatin1-rest d (ds ++ es) 
 BeginsLatin1-front : (xs ys : List ℕ) → BeginsLatin1 xs → BeginsLatin1 (xs ++ ys)
 BeginsLatin1-front xs ys (c, l, rest, e) = (c, l, rest ++ ys, ap (λ zs. zs ++ ys) e ∙ append_assoc (encode_utf8 c) rest ys)
 
--- a Latin1 front behind which no Latin1 character begins is the longest
+-- a Latin1 prefix followed by no Latin1 character is the longest
 pub latin1_front : (bs : List ℕ) (n : ℕ) → n ≤ length bs → IsUtf8Latin1 (take n bs) → ¬ (BeginsLatin1 (drop n bs)) → IsLongestFront IsUtf8Latin1 bs n
 latin1_front bs n l h stop = record {
   within = l;
@@ -132,7 +132,7 @@ latin1_stop bs i l h stop = latin1_front bs i l h (λ b.
     let more = known.2 (omega (arith, found.0)) in
     found.1 (omega (arith, more.0)) (omega (arith, known.1)) (omega (arith, length-drop i bs, more.1)) (omega (arith, more.2)) (omega (arith, more.3)))
 
--- ---- well-formed text, of which each byte before a place is below 0xC4, and the one there isn't
+-- ---- well-formed text: each byte before an index is below 0xC4, and the byte at the index isn't
 record Stops (n : ℕ) (bs : List ℕ) : Type 0 where
   pub within : n ≤ length bs
   pub low : (k : ℕ) → k < n → slice_index bs k < 0xC4
@@ -155,7 +155,7 @@ stops_two c (suc (suc n)) rest l p h more =
     let after : Stops n rest = record { within = omega (arith, h.within); low = λ k q. h.low (suc (suc k)) (omega arith); high = λ q. h.high (omega arith) } in
     subst (λ xs. IsUtf8Latin1 (xs ++ take n rest)) (two c l p) (IsUtf8Latin1-cons c (take n rest) (omega (arith, h.low 0 (omega arith))) (more n after))
 
--- of a character from U+0800 on no byte is taken
+-- the prefix has no byte of a character from U+0800 on
 stops_more : (bs : List ℕ) (n a : ℕ) (rest : List ℕ) → bs ≡ a ∷ rest → 0xC4 ≤ a → Stops n bs → IsUtf8Latin1 (take n bs)
 stops_more bs zero a rest e l h = IsUtf8Latin1-nil
 stops_more bs (suc n) a rest e l h = absurd (let first : slice_index bs 0 ≡ a = ap (λ xs. slice_index xs 0) e in omega (arith, h.low 0 (omega arith)))

@@ -1,4 +1,4 @@
--- Longest fitting fronts, one behind the other and of characters seen as others, and what a destination holds in front.
+-- Longest fitting prefixes, one after the other and of characters seen as others, and the prefix that was written.
 use Rattle.std.proofs.Common.{◌≡◌, ℕ, zero, suc, ◌+◌, ◌-◌, ◌<◌, ◌≤◌, List, [], ◌∷◌, ◌++◌, length, take, drop, refl, sym, ap, ◌∙◌, arith, subst}
 use Rattle.std.specs.Prelude.{map}
 use Rattle.std.specs.List.{flat_map}
@@ -19,7 +19,7 @@ module _ {C A : Type 0} (f : C → List A) where
 
 -- ---- fitting
 module _ {C A : Type 0} (source : C → List ℕ) (output : C → List A) where
-  -- the longest fitting front of those behind some that fit, with these in front
+  -- characters that fit, followed by the longest fitting prefix of the rest
   pub FitsLongest-after : (done rest : List C) (room read : ℕ) (out : List A) → length (flat_map output done) ≤ room
       → FitsLongest source output rest (room - length (flat_map output done)) read out
       → FitsLongest source output (done ++ rest) room (length (flat_map source done) + read) (flat_map output done ++ out)
@@ -42,7 +42,7 @@ module _ {C A : Type 0} (source : C → List ℕ) (output : C → List A) where
             (subst (λ xs. room < length xs) (sym (flat_map-append output done (take (f.count + 1) rest))) (omega (arith, less, long))));
       }
 
-  -- the longest fitting front of those behind one that fits, with this one in front
+  -- one character that fits, followed by the longest fitting prefix of the rest
   pub FitsLongest-cons : (c : C) (rest : List C) (room read : ℕ) (out : List A) → length (output c) ≤ room
       → FitsLongest source output rest (room - length (output c)) read out
       → FitsLongest source output (c ∷ rest) room (length (source c) + read) (output c ++ out)
@@ -69,7 +69,7 @@ module _ {C D A : Type 0} (source : D → List ℕ) (output : D → List A) (v :
     longest = λ l. subst (λ xs. room < length xs) (sym (front_map output (f.count + 1) cs)) (f.longest (omega (arith, l, length-map cs v)));
   }
 
--- ---- what a destination holds in front
+-- ---- the prefix of a destination that was written
 module _ {A : Type 0} (old new : List A) (n : ℕ) (out : List A) (w : WritesFront old new n out) where
   pub written_is : out ≡ take n new
   written_is = sym (take_at out (drop n old) n (sym w.count)) ∙ ap (take n) (sym w.placed)

@@ -1,4 +1,4 @@
--- Writing at the end of what was written, and when a front of characters is the longest that fits.
+-- Writing at the end of what was written, and when a prefix of characters is the longest that fits.
 use Rattle.std.proofs.Common.{◌≡◌, ℕ, ◌+◌, ◌-◌, ◌<◌, ◌≤◌, List, [], ◌∷◌, ◌++◌, length, take, drop, get_or, set, refl, sym, ap, ◌∙◌, arith, append_assoc, subst, take-add}
 use Rattle.std.specs.List.{flat_map}
 use Rattle.std.proofs.lemmas.List.{append-nil, take-append-drop, drop_more, set_at, length_push, length-set, drop_at, take_at, take_all, take_rest, drop_all, drop-drop, length-append, length-drop, length-take-le, take-append-le, take-take}
@@ -18,7 +18,7 @@ module _ {A : Type 0} where
   pub WritesFront-length : (old new : List A) (n : ℕ) (out : List A) → WritesFront old new n out → length new ≡ length old
   WritesFront-length old new n out w = omega (arith, ap length w.placed, length-append out (drop n old), length-drop n old, w.count, w.fits)
 
-  -- one more item, at the place behind what was written
+  -- one more item, at the index after what was written
   pub WritesFront_push : (old new : List A) (n : ℕ) (out : List A) (b : A) → WritesFront old new n out → n < length new → WritesFront old (set new n b) (n + 1) (out ++ b ∷ [])
   WritesFront_push old new n out b w l =
       let long : length new ≡ length old = WritesFront-length old new n out w in
@@ -52,7 +52,7 @@ module _ {A : Type 0} where
       let second = WritesFront_push _ _ _ _ d first (omega (arith, length-set (set (set new n a) (n + 1) b) (n + 2) c, length-set (set new n a) (n + 1) b, length-set new n a)) in
       WritesFront-same _ _ _ _ _ _ second (omega arith) (append_assoc out (a ∷ b ∷ c ∷ []) (d ∷ []))
 
-  -- so many more items at once
+  -- m more items at once
   pub WritesFront_put : (old new after : List A) (n m : ℕ) (out more : List A) → WritesFront old new n out → m ≡ length more → n + m ≤ length new
       → after ≡ take n new ++ (more ++ drop (n + m) new) → WritesFront old after (n + m) (out ++ more)
   WritesFront_put old new after n m out more w e l put =
@@ -66,7 +66,7 @@ module _ {A : Type 0} where
         placed = put ∙ (λ i. front i ++ (more ++ rest i)) ∙ sym (append_assoc out more (drop (n + m) old));
       }
 
-  -- of a list, so many items from a place on that may be before the end of those that were written
+  -- m items of a list, from an index that may be before the end of those that were written
   pub WritesFront_again : (old new after xs : List A) (n at m : ℕ) → WritesFront old new n (take n xs) → at ≤ n → n ≤ at + m → at + m ≤ length xs → at + m ≤ length new
       → after ≡ take at new ++ (take m (drop at xs) ++ drop (at + m) new) → WritesFront old after (at + m) (take (at + m) xs)
   WritesFront_again old new after xs n at m w l more within room put =
@@ -81,7 +81,7 @@ module _ {A : Type 0} where
             ∙ ap (λ ys. ys ++ drop (at + m) old) (sym (take-add at m xs));
       }
 
-  -- a call wrote into the part behind what was written
+  -- a call wrote into the rest of the destination
   pub WritesFront_after : (old new : List A) (n : ℕ) (out sub : List A) (m : ℕ) (more : List A) → WritesFront old new n out
       → WritesFront (take (length new - n) (drop n new)) sub m more → WritesFront old (put_mid n (length new - n) new sub) (n + m) (out ++ more)
   WritesFront_after old new n out sub m more w v =
@@ -97,12 +97,12 @@ module _ {A : Type 0} where
         placed = rw (front, none, part, append-nil, drop-drop) (sym (append_assoc out more (drop (n + m) old)));
       }
 
-  -- a call left that part as it was
+  -- a call left that rest unchanged
   pub put_mid-same : (xs : List A) (n : ℕ) → put_mid n (length xs - n) xs (take (length xs - n) (drop n xs)) ≡ xs
   put_mid-same xs n = ap (λ ys. take n xs ++ ys) (take-append-drop (length xs - n) (drop n xs)) ∙ take-append-drop n xs
 
 -- ---- of a kind
--- where the longest front is not the whole list, the whole is not of the kind
+-- if the longest prefix is not the whole list, the whole is not of the kind
 pub front_not_whole : {A : Type 0} (K : List A → Type 0) (xs : List A) (n : ℕ) → IsLongestFront K xs n → (n ≡ length xs → ⊥) → K xs → ⊥
 front_not_whole K xs n f ne k = ne (omega (arith, f.within, f.longest (length xs) (omega arith) (subst K (sym (take_all (length xs) xs (omega arith))) k)))
 
@@ -122,7 +122,7 @@ module _ {C A : Type 0} (source : C → List ℕ) (output : C → List A) where
         longest = λ l. absurd (omega arith);
       }
 
-  -- those before one that doesn't fit any more
+  -- those before one that doesn't fit
   pub FitsLongest-stop : (done : List C) (c : C) (more : List C) (room : ℕ) → length (flat_map output done) ≤ room
       → room < length (flat_map output done) + length (output c)
       → FitsLongest source output (done ++ c ∷ more) room (length (flat_map source done)) (flat_map output done)

@@ -1,4 +1,4 @@
--- The longest well-formed front, character by character.
+-- The longest well-formed prefix, character by character.
 use Rattle.std.proofs.Common.{◌≡◌, ℕ, ◌+◌, ◌<◌, ◌≤◌, inl, inr, List, length, take, drop, encode_utf8, refl, sym, ap, ◌∙◌, arith, subst, take-add}
 use Rattle.std.specs.Str.{IsUtf8, StartsWithNoChar}
 use Rattle.std.proofs.lemmas.Bool.{cases_lt}
@@ -21,7 +21,7 @@ IsUtf8_more bs at n u s = subst IsUtf8 (sym (take-add at n bs)) (IsUtf8-append _
 pub starts_with_none : (bs : List ℕ) → BeginsWithNoCharacter bs → StartsWithNoChar bs
 starts_with_none bs n = λ c rest s e. n (encode_utf8 c) rest e (IsSequence-encode c s)
 
--- the front ends where no character begins what is left
+-- the prefix is the longest if the rest starts with no character
 pub IsLongestFront-utf8 : (bs : List ℕ) (at : ℕ) → at ≤ length bs → IsUtf8 (take at bs) → BeginsWithNoCharacter (drop at bs) → IsLongestFront IsUtf8 bs at
 IsLongestFront-utf8 bs at l u n = record { within = l; kind = u; longest = longest }
   where
@@ -31,7 +31,7 @@ IsLongestFront-utf8 bs at l u n = record { within = l; kind = u; longest = longe
       | inr p ↦ p
     ]
 
--- no character begins what is behind the longest front
+-- the rest after the longest prefix starts with no character
 pub no_character_after : (bs : List ℕ) (n : ℕ) → IsLongestFront IsUtf8 bs n → BeginsWithNoCharacter (drop n bs)
 no_character_after bs n l front rest e s =
     let long : 0 < length front = omega (arith, IsSequence-some front s) in

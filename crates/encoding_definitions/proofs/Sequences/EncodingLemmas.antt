@@ -33,7 +33,7 @@ same_three a b c x y z e f g = rw (e, f, g) refl
 same_four : (a b c d x y z w : ℕ) → a ≡ x → b ≡ y → c ≡ z → d ≡ w → ◌≡◌ {A = List ℕ} (a ∷ b ∷ c ∷ d ∷ []) (x ∷ y ∷ z ∷ w ∷ [])
 same_four a b c d x y z w e f g h = rw (e, f, g, h) refl
 
--- what is known of the second byte behind the first of three, and of four, as one number
+-- bounds of the second byte after the first of three, and of four, as one number
 pub second_three : (a b : ℕ) → 0xE0 ≤ a → a ≤ 0xEF → IsTrue (is_second a b) → (128 ≤ b) × (b < 192) × (32 ≤ (a - 224) * 64 + (b - 128))
     × (((a - 224) * 64 + (b - 128) < 864) ⊎ (896 ≤ (a - 224) * 64 + (b - 128)))
 second_three a b l h s = grind (arith, nat_tests)
@@ -99,7 +99,7 @@ shape_scalar c h =
 pub IsSequence-encode : (c : ℕ) → IsScalar c → IsSequence (encode_utf8 c)
 IsSequence-encode c h = IsSequence-HasShape _ (shape_scalar c h)
 
--- no sequence begins another
+-- no sequence is a proper prefix of another
 pub sequence_ends : (bs rest : List ℕ) → IsSequence bs → IsSequence (bs ++ rest) → rest ≡ []
 sequence_ends bs rest s t =
     let c = scalar_of_sequence bs s in

@@ -18,7 +18,7 @@ low_three a l h = let e : bit_and a 0x07 ≡ a % 8 = grind (arith, common_steps)
 low_six : (b : ℕ) → 0x80 ≤ b → b ≤ 0xBF → bit_and b 0x3F ≡ b - 128
 low_six b l h = let e : bit_and b 0x3F ≡ b % 64 = grind (arith, common_steps) in omega arith
 
--- the words joined by `|` stand side by side
+-- the words joined by `|` have no bits in common
 join_two : (x y : ℕ) → x < 32 → y < 64 → bit_or (x * 64 % 4294967296) y ≡ x * 64 + y
 join_two x y l h = let e : x * 64 % 4294967296 ≡ x * 64 = omega arith in rw e (or_shifted x 6 y h)
 

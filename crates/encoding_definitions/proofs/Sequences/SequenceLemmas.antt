@@ -1,4 +1,4 @@
--- Which bytes are sequences and which are beginnings, and what follows from the rows of the table.
+-- Which bytes are well-formed sequences and which are incomplete ones, and what follows from the rows of the table.
 use Rattle.std.proofs.Common.{◌≡◌, ◌≢◌, ℕ, suc, ◌+◌, ◌<◌, ◌≤◌, ◌⊎◌, inl, inr, Bool, true, false, ◌&&◌, ◌||◌, List, [], ◌∷◌, ◌++◌, length, refl, sym, ap, arith, subst, nat_le, slice_index, if◌then◌else◌, ◌==◌, ◌↔◌}
 use Rattle.std.proofs.lemmas.Bool.{and_parts, and_from, or_cases, or_left, or_right, true≢false, cases_Bool, both_ways, leb-true, le-leb, eq-eqb, cond_both, cases_lt}
 use Rattle.std.proofs.lemmas.Bool.Decides.{nat_tests}
@@ -13,8 +13,8 @@ use Rattle.encoding_definitions.specs.Sequence.{rows, in_row, IsContinuation, Is
 abbrev in_some_row : List (List (ℕ × ℕ)) → List ℕ → Bool
 in_some_row table bs = list_any (λ row. in_row row bs) table
 
--- ---- beginnings, by a test on the rows
--- the bytes are of the first ranges of the row, and a range is left
+-- ---- incomplete sequences, by a test on the rows
+-- the bytes are in the first ranges of the row, and a range is left
 abbrev pub begins_row : List (ℕ × ℕ) → List ℕ → Bool
 begins_row [] bs = false
 begins_row (range ∷ row) [] = true
@@ -49,7 +49,7 @@ begins_some_row-front (row ∷ more) bs rest h e = elim (or_cases _ _ e) [
   | inr q ↦ or_right _ _ (begins_some_row-front more bs rest h q)
 ]
 
--- the least bytes that make the row whole
+-- the least bytes that complete the row
 row-filled : (row : List (ℕ × ℕ)) → ranges_hold row ≡ true → (rest : List ℕ) × (length rest ≡ length row) × (in_row row rest ≡ true)
 row-filled [] e = ([], refl, refl)
 row-filled (range ∷ row) e =
@@ -79,7 +79,7 @@ begins_some_row-IsBeginning bs h = begins_some_row-front rows bs h.1 h.2 h.3
 pub IsBeginning-begins_some_row : (bs : List ℕ) → 0 < length bs → begins_some_row rows bs ≡ true → IsBeginning bs
 IsBeginning-begins_some_row bs h e = let found = begins_some_row-rest rows bs refl e in (h, found.0, found.1, found.2)
 
--- ---- each list is a beginning or not
+-- ---- each list is an incomplete sequence or not
 pub decide_sequence : (bs : List ℕ) → IsSequence bs ⊎ (IsSequence bs → ⊥)
 decide_sequence bs = elim (cases_Bool (in_some_row rows bs)) [ inl e ↦ inl e | inr e ↦ inr (both_ways _ e) ]
 
@@ -89,7 +89,7 @@ decide_beginning bs h = elim (cases_Bool (begins_some_row rows bs)) [
   | inr e ↦ inr (λ b. both_ways _ e (begins_some_row-IsBeginning bs b))
 ]
 
--- ---- fronts of sequences and of beginnings
+-- ---- prefixes of well-formed and of incomplete sequences
 pub IsBeginning-front : (front more : List ℕ) → 0 < length front → IsBeginning (front ++ more) → IsBeginning front
 IsBeginning-front front more h b = (h, more ++ b.1, omega (arith, length-append more b.1, b.2), subst IsSequence (append_assoc front more b.1) b.3)
 
@@ -97,7 +97,7 @@ pub IsSequence-front : (front more : List ℕ) → 0 < length front → 0 < leng
 IsSequence-front front more h k s = (h, more, k, s)
 
 -- ---- sequences by their bytes
--- b may stand second behind a, the first of three or four bytes
+-- b may follow a, the first of three or four bytes
 abbrev pub is_second : ℕ → ℕ → Bool
 is_second a b = nat_le (second_byte_min a) b && nat_le b (second_byte_max a)
 
@@ -110,7 +110,7 @@ HasShape (a ∷ b ∷ c ∷ []) = (0xE0 ≤ a) × (a ≤ 0xEF) × IsTrue (is_sec
 HasShape (a ∷ b ∷ c ∷ d ∷ []) = (0xF0 ≤ a) × (a ≤ 0xF4) × IsTrue (is_second a b) × IsContinuation c × IsContinuation d
 HasShape (a ∷ b ∷ c ∷ d ∷ e ∷ more) = ⊥
 
--- the bytes of a beginning
+-- the bytes of an incomplete sequence
 abbrev pub HasOpenShape : List ℕ → Type 0
 HasOpenShape [] = ⊥
 HasOpenShape (a ∷ []) = (0xC2 ≤ a) × (a ≤ 0xF4)
@@ -145,7 +145,7 @@ IsSequence-some (b ∷ bs) s = omega arith
 pub length-IsSequence : (bs : List ℕ) → IsSequence bs → length bs ≤ 4
 length-IsSequence bs s = in_some_row-length 4 rows bs refl s
 
--- the rows of that length alone
+-- only the rows of that length
 abbrev rows_of : ℕ → List (List (ℕ × ℕ)) → List (List (ℕ × ℕ))
 rows_of n [] = []
 rows_of n (row ∷ more) = if length row == n then row ∷ rows_of n more else rows_of n more
@@ -235,7 +235,7 @@ IsSequence-HasShape (a ∷ b ∷ c ∷ []) h = sequence_three a b c h
 IsSequence-HasShape (a ∷ b ∷ c ∷ d ∷ []) h = sequence_four a b c d h
 IsSequence-HasShape (a ∷ b ∷ c ∷ d ∷ e ∷ more) h = absurd h
 
--- ---- beginnings by their bytes
+-- ---- incomplete sequences by their bytes
 opens : (bs rest : List ℕ) → 0 < length bs → 0 < length rest → HasShape (bs ++ rest) → HasOpenShape bs
 opens [] rest h k s = absurd (omega arith)
 opens (a ∷ []) [] h k s = absurd (omega arith)
@@ -257,7 +257,7 @@ opens (a ∷ b ∷ c ∷ d ∷ e ∷ more) rest h k s = absurd s
 pub HasOpenShape-IsBeginning : (bs : List ℕ) → IsBeginning bs → HasOpenShape bs
 HasOpenShape-IsBeginning bs b = opens bs b.1 b.0 b.2 (HasShape-IsSequence _ b.3)
 
--- some byte may stand second
+-- some byte may be the second
 is_second-least : (a : ℕ) → IsTrue (is_second a (second_byte_min a))
 is_second-least a = grind (arith, nat_tests)
 
@@ -300,7 +300,7 @@ pub length-IsBeginning : (bs : List ℕ) → IsBeginning bs → length bs ≤ 3
 length-IsBeginning bs b = (length-HasOpenShape bs (HasOpenShape-IsBeginning bs b)).1
 
 -- ---- sequences by the bytes of a longer list
--- what is read of bytes that begin with a sequence
+-- what is read of bytes that start with a sequence
 abbrev pub Reads : List ℕ → Type 0
 Reads bs = (0 < length bs)
     × (0x80 ≤ slice_index bs 0 → (1 < length bs) × IsSecond (slice_index bs 0) (slice_index bs 1))
@@ -330,7 +330,7 @@ second_from a b (l, h, m, n) = and_from _ _ (le-leb _ _ m) (le-leb _ _ n)
 pub second_two_from : (a b : ℕ) → IsSecond a b → a < 0xE0 → IsContinuation b
 second_two_from a b s l = grind (arith, nat_tests)
 
--- ---- a beginning that the next byte goes on with
+-- ---- an incomplete sequence that the next byte continues
 pub second_goes_on : (a b : ℕ) → IsSecond a b → IsSequence (a ∷ b ∷ []) ⊎ IsBeginning (a ∷ b ∷ [])
 second_goes_on a b s = elim (cases_lt a 0xE0) [
   | inl l ↦ inl (IsSequence-HasShape (a ∷ b ∷ []) (s.0, omega arith, second_two_from a b s l))
@@ -347,7 +347,7 @@ third_goes_on a b c h t = elim (cases_lt a 0xF0) [
 pub begins_by_range : (a : ℕ) → IsBeginning (a ∷ []) ↔ ((0xC2 ≤ a) × (a ≤ 0xF4))
 begins_by_range a = (HasOpenShape-IsBeginning (a ∷ []), IsBeginning-HasOpenShape (a ∷ []))
 
--- the length of those that begin with a byte that several bytes begin with
+-- the length of sequences whose first byte starts sequences of several
 pub length_by_first : (a n : ℕ) → 0xC2 ≤ a → a ≤ 0xF4 → ((rest : List ℕ) → IsSequence (a ∷ rest) → n ≡ 1 + length rest)
     → (a < 0xE0 → n ≡ 2) × (0xE0 ≤ a → a < 0xF0 → n ≡ 3) × (0xF0 ≤ a → n ≡ 4)
 length_by_first a n l h all = (

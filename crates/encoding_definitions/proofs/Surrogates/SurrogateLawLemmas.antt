@@ -1,4 +1,4 @@
--- What repaired units are: valid, of the same scalar values, and changed at the places of lone surrogates alone.
+-- What repaired units are: valid, of the same scalar values, and changed only at the indices of unpaired surrogates.
 use Rattle.std.proofs.Common.{◌≡◌, ℕ, zero, suc, ◌+◌, List, [], ◌∷◌, ◌++◌, length, slice_index, refl, sym, ap, ◌∙◌, arith, subst, true}
 use Rattle.std.specs.Prelude.{map}
 use Rattle.std.specs.Char.Escape.{encode_utf16}
@@ -26,20 +26,20 @@ scalars_paired [] a = refl
 scalars_paired (Character16 c ∷ ps) a = and_from (scalar c) (all_scalars (map scalar_of ps)) (head_part (Character16 c) ps a) (scalars_paired ps (tail_paired (Character16 c) ps a))
 scalars_paired (Lone u ∷ ps) a = and_from (scalar 0xFFFD) (all_scalars (map scalar_of ps)) refl (scalars_paired ps (tail_paired (Lone u) ps a))
 
--- they are the UTF-16 of the scalar values that the parts count as
+-- they are the UTF-16 of the scalar values that are written for the parts
 pub repaired_is : (old new : List ℕ) (r : AreRepairedUnits old new) → (all_scalars (map scalar_of r.parts) ≡ true) × (flat_map encode_utf16 (map scalar_of r.parts) ≡ new)
 repaired_is old new r = (scalars_paired r.parts r.are_parts.0, sym (repaired-encode r.parts) ∙ sym r.placed)
 
 pub repaired_valid : (old new : List ℕ) → AreRepairedUnits old new → IsValidUtf16 new
 repaired_valid old new r = let all = repaired_is old new r in valid-encode (map scalar_of r.parts) new all.0 all.1
 
--- valid units stay
+-- valid units are unchanged
 pub valid_stays : (old new : List ℕ) → IsValidUtf16 old → AreRepairedUnits old new → new ≡ old
 valid_stays old new v r =
     let same : r.parts ≡ map Character16 v.0 = parts_unique old r.parts (map Character16 v.0) r.are_parts v.1 in
     r.placed ∙ ap (flat_map repaired_units) same ∙ repaired_characters v.0 ∙ (scalars_of_valid old v).1
 
--- what the repaired units count as is what the old ones do
+-- the scalar values of the repaired units are those written for the old ones
 pub repaired_counts : (old new : List ℕ) (parts others : List Part16) → AreRepairedUnits old new → ArePartsOf16 old parts → ArePartsOf16 new others
     → map scalar_of others ≡ map scalar_of parts
 repaired_counts old new parts others r a b =
@@ -59,7 +59,7 @@ repaired_exist us a = (flat_map repaired_units (parts_of us), record { parts = p
 pub repaired_twice : (old new again : List ℕ) → AreRepairedUnits old new → AreRepairedUnits new again → again ≡ new
 repaired_twice old new again r s = valid_stays new again (repaired_valid old new r) s
 
--- ---- the places
+-- ---- the indices
 length-repaired : (ps : List Part16) → length (flat_map repaired_units ps) ≡ length (flat_map units_of ps)
 length-repaired [] = refl
 length-repaired (Character16 c ∷ ps) =

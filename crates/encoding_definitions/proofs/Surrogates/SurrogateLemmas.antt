@@ -1,4 +1,4 @@
--- Lone surrogates: the longest front without one, and the units that are left once each is replaced at its place.
+-- Unpaired surrogates: the longest prefix without one, and the units that are left once each is replaced.
 use Rattle.std.proofs.Common.{◌≡◌, ℕ, suc, ◌+◌, ◌-◌, ◌<◌, ◌≤◌, ◌⊎◌, inl, inr, List, [], ◌∷◌, ◌++◌, length, take, drop, get_or, set, refl, sym, ap, ◌∙◌, arith, subst, append_assoc, take-add, true}
 use Rattle.std.specs.Prelude.{map}
 use Rattle.std.specs.Char.{IsScalar}
@@ -51,7 +51,7 @@ valid_character us at n c rest v e f =
     let front : take n (drop at us) ≡ encode_utf16 c = ap (take n) f.1 ∙ take_at (encode_utf16 c) rest n e in
     subst IsValidUtf16 (ap (λ xs. take at us ++ xs) (sym front) ∙ sym (take-add at n us)) (valid_push (take at us) c v f.0)
 
--- ---- what begins the units at a place
+-- ---- what the units from an index on start with
 module _ (us : List ℕ) (at : ℕ) where
   here : at < length us → drop at us ≡ get_or us at 0 ∷ drop (at + 1) us
   here l = drop_more us at 0 l
@@ -67,7 +67,7 @@ module _ (us : List ℕ) (at : ℕ) where
       here (omega arith) ∙ ap (λ xs. get_or us at 0 ∷ xs) (drop_more us (at + 1) 0 l ∙ ap (λ n. get_or us (at + 1) 0 ∷ drop n us) {x = at + 1 + 1} {y = at + 2} (omega arith)) in
       subst (λ xs. IsFirstPart16 xs (Character16 c) (drop (at + 2) us)) (sym whole) (first_pair _ _ _ p)
 
-  -- a unit that stands in no pair
+  -- a unit that is in no pair
   next_apart : (at + 1 < length us → IsPair (get_or us at 0) (get_or us (at + 1) 0) → ⊥) → IsPair (get_or us at 0) (get_or (drop (at + 1) us) 0 0) → ⊥
   next_apart n p =
       let next : get_or (drop (at + 1) us) 0 0 ≡ get_or us (at + 1) 0 = get_or-drop (at + 1) us 0 0 ∙ ap (λ k. get_or us k 0) {x = at + 1 + 0} {y = at + 1} (omega arith) in
@@ -92,7 +92,7 @@ valid_more_two us at l v p =
     let c = surrogate_pair_char (get_or us at 0) (get_or us (at + 1) 0) in
     valid_character us at 2 c _ v (ap length (two_units c (omega arith))) (pair_here us at l p)
 
--- ---- the parts of a front and the rest
+-- ---- the parts of a prefix and the rest
 pub parts_of-characters : (cs rest : List ℕ) → all_scalars cs ≡ true → parts_of (flat_map encode_utf16 cs ++ rest) ≡ map Character16 cs ++ parts_of rest
 parts_of-characters [] rest s = refl
 parts_of-characters (c ∷ cs) rest s =
@@ -106,7 +106,7 @@ no_lone (c ∷ cs) [] u more e = cc
 no_lone [] (d ∷ ds) u more e = cc
 no_lone (c ∷ cs) (d ∷ ds) u more e = no_lone cs ds u more (cc)
 
--- a lone surrogate ends each valid front
+-- an unpaired surrogate ends each valid prefix
 valid_ends : (xs : List ℕ) (u : ℕ) (rest more : List ℕ) → IsValidUtf16 xs → IsFirstPart16 rest (Lone u) more → IsValidUtf16 (xs ++ rest) → ⊥
 valid_ends xs u rest more v f w =
     let had = scalars_of_valid xs v in
@@ -144,7 +144,7 @@ valid_stop us at l v stop = record {
               omega (arith, p.2, past)
         ]
 
--- where a longest valid front ends before the units do, a lone surrogate stands
+-- if a longest valid prefix ends before the units do, an unpaired surrogate follows it
 pub lone_behind : (us : List ℕ) (at : ℕ) → AreUnits us → IsLongestFront IsValidUtf16 us at → at < length us → IsFirstPart16 (drop at us) (Lone (get_or us at 0)) (drop (at + 1) us)
 lone_behind us at a f l = elim (cases_lt (get_or us at 0) 0xD800) [
   | inl p ↦ absurd (one (λ q _. omega arith))
@@ -157,7 +157,8 @@ lone_behind us at a f l = elim (cases_lt (get_or us at 0) 0xD800) [
     one : (0xD800 ≤ get_or us at 0 → get_or us at 0 ≤ 0xDFFF → ⊥) → ⊥
     one n = omega (arith, f.longest (at + 1) (omega arith) (valid_more_one us at l (a at) f.kind n))
 
--- ---- the repair, so far: the parts before a place are repaired, what is behind is as before, and a lone surrogate stands there
+-- ---- the repair up to an index
+-- the parts before the index are repaired, and the rest is unchanged and starts with an unpaired surrogate
 pub record Repaired (us buffer : List ℕ) (at : ℕ) (done : List Part16) : Type 0 where
   pub within : at ≤ length us
   pub same_length : length buffer ≡ length us
@@ -170,7 +171,7 @@ pub repaired_characters : (cs : List ℕ) → flat_map repaired_units (map Chara
 repaired_characters [] = refl
 repaired_characters (c ∷ cs) = ap (λ us. encode_utf16 c ++ us) (repaired_characters cs)
 
--- the valid front behind what was repaired
+-- the valid prefix after what was repaired
 module _ (us buffer : List ℕ) (at n : ℕ) (done : List Part16) (a : AreUnits us) (l : at ≤ length us) (same : length buffer ≡ length us)
     (w : Walked us at done) (front : take at buffer ≡ flat_map repaired_units done) (rest : drop at buffer ≡ drop at us)
     (f : IsLongestFront IsValidUtf16 (drop at us) n) where
@@ -208,7 +209,7 @@ repair_starts us at a f = (
       (walk_on us us 0 (at - 0) [] a (omega arith) refl (record { whole = refl; taken = refl }) refl refl f),
 )
 
--- one lone surrogate is replaced, and then comes a valid front
+-- one unpaired surrogate is replaced, and a valid prefix follows
 pub repair_goes_on : (us buffer : List ℕ) (at next : ℕ) (done : List Part16) → AreUnits us → Repaired us buffer at done → at < length us → at + 1 ≤ next
     → IsLongestFront IsValidUtf16 (drop (at + 1) (set buffer at 0xFFFD)) (next - (at + 1))
     → (all : List Part16) × Repaired us (set buffer at 0xFFFD) next all

@@ -1,4 +1,4 @@
--- Calls without a destination: where a byte doesn't go on with what is pending, and what each call gives.
+-- Calls without a destination: when a byte doesn't continue what is pending, and what each call yields.
 use Rattle.std.proofs.Common.{◌≡◌, ℕ, inl, inr, Bool, List, [], ◌∷◌, ◌++◌, map, take, drop, encode_utf8, encode_utf8_all, refl, sym, ap, ◌∙◌, arith}
 use Rattle.std.specs.Str.{chars}
 use Rattle.std.proofs.lemmas.Bool.{and_from}
@@ -29,7 +29,7 @@ borrowed_stuck p src q last k read begins (short, count, o, b, more, next, stuck
   );
 }
 
--- ---- what a call gives
+-- ---- what a call yields
 abbrev HasGiven : List ℕ → List ℕ → Bool → Piece → ℕ → List ℕ → Type 0
 HasGiven p src last returned read q = (parts : List Part) × AreBorrowed returned parts × Gives p src last parts read q
 

@@ -1,4 +1,4 @@
--- How a call ends: with the source, with a broken part, or for want of room.
+-- How a call ends: with the source, with a malformed sequence, or for lack of space.
 use Rattle.std.proofs.Common.{◌≡◌, ◌≢◌, ℕ, ◌+◌, ◌<◌, ◌≤◌, inl, inr, Bool, List, [], ◌∷◌, ◌++◌, length, take, drop, slice_index, refl, sym, ap, ◌∙◌, arith, subst, take-add}
 use Rattle.std.proofs.lemmas.Bool.{cases_Bool}
 use Rattle.std.proofs.lemmas.List.{length-append, length-drop, length-take, take-append-drop, drop-drop, take_all, drop_all, take_more}
@@ -13,7 +13,7 @@ use Rattle.encoding_text.specs.declared.decoder.pending.Resumed.TheVariants.{End
 use Rattle.encoding_definitions.proofs.Sequences.SequenceLemmas.{length-IsBeginning}
 use Rattle.encoding_text.proofs.Calls.PendingLemmas.{pending_beginning}
 
--- ---- broken parts
+-- ---- malformed sequences
 pub broken_lone : (b : ℕ) (rest : List ℕ) (last : Bool) → BeginsNothing b → IsBroken (b ∷ []) rest last
 broken_lone b [] last n = inl (b, refl, n)
 broken_lone b (y ∷ ys) last n = inl (b, refl, n)
@@ -21,7 +21,7 @@ broken_lone b (y ∷ ys) last n = inl (b, refl, n)
 pub broken_stuck : (x rest : List ℕ) (last : Bool) (b : ℕ) (more : List ℕ) → rest ≡ b ∷ more → IsBeginning x → IsStuck x b → IsBroken x rest last
 broken_stuck x rest last b more e o s = subst (λ xs. IsBroken x xs last) (sym e) (inr (o, s))
 
--- ---- before the first byte that no character takes
+-- ---- before the first byte that is in no character
 pub take_one : (r : List ℕ) → 0 < length r → take 1 r ≡ slice_index r 0 ∷ []
 take_one r h = take_more r 0 0 h
 

@@ -1,4 +1,4 @@
--- What a call wrote and reported are the first parts of the bytes that it was given.
+-- What a call wrote and reported are the first parts of the bytes that it was passed.
 use Rattle.std.proofs.Common.{◌≡◌, ℕ, ◌-◌, ◌≤◌, inl, inr, Bool, true, false, List, [], ◌∷◌, ◌++◌, length, map, take, drop, encode_utf8_all, refl, sym, ap, ◌∙◌, arith, subst}
 use Rattle.std.specs.Str.{all_scalars}
 use Rattle.std.proofs.lemmas.List.{append-nil, append_assoc, length-append, take-append-drop, take_all}
@@ -14,7 +14,7 @@ use Rattle.encoding_definitions.proofs.Decomposition.PartsLemmas.{first_lone, fi
 use Rattle.encoding_definitions.proofs.Decomposition.DecompositionLemmas.{StartsWith-characters, StartsWith-append, StartsWith-one}
 use Rattle.encoding_text.proofs.Calls.DecodeLemmas.{broken_some}
 
--- ---- a broken part is the first part of itself and the unread bytes behind it
+-- ---- a malformed sequence is the first part of itself followed by the unread bytes
 lone_first : (x rest : List ℕ) (b : ℕ) → x ≡ b ∷ [] → BeginsNothing b → IsFirstPart (x ++ rest) (Broken x) rest
 lone_first x rest b e n = subst (λ xs. IsFirstPart (xs ++ rest) (Broken xs) rest) (sym e) (first_lone b rest n)
 
@@ -24,7 +24,7 @@ broken_first x [] last (inr (o, l)) = subst (λ xs. IsFirstPart xs (Broken x) []
 broken_first x (y ∷ ys) last (inl (b, e, n)) = lone_first x (y ∷ ys) b e n
 broken_first x (y ∷ ys) last (inr (o, s)) = first_stuck x y ys o s
 
--- two broken parts of the same bytes are one
+-- two malformed sequences of the same bytes are one
 pub same_broken : (x rest x' rest' : List ℕ) (last : Bool) → IsBroken x rest last → IsBroken x' rest' last → x ++ rest ≡ x' ++ rest' → (x ≡ x') × (rest ≡ rest')
 same_broken x rest x' rest' last b b' e =
     let first' = subst (λ xs. IsFirstPart xs (Broken x') rest') (sym e) (broken_first x' rest' last b') in
@@ -44,7 +44,7 @@ pending_not_broken q x rest last (inr o) ended b e =
     whole x [] e n (inr (begins, l)) = omega (arith, o.0, ap length (ended l))
     whole x (y ∷ ys) e n b = omega (arith, ap length n)
 
--- and stays one whatever follows, where the source isn't the last
+-- it stays one for any bytes that follow, if the source isn't the last
 broken_stays : (x rest more : List ℕ) → IsBroken x rest false → IsBroken x (rest ++ more) false
 broken_stays x [] [] b = b
 broken_stays x [] (z ∷ more) (inl lone) = inl lone
@@ -52,7 +52,7 @@ broken_stays x [] (z ∷ more) (inr (o, e)) = absurd (let no : false ≡ true = 
 broken_stays x (y ∷ ys) more b = b
 
 -- ---- the bytes of a call, split
--- The bytes that follow what the call wrote: a broken part that it reports, with these bytes unread behind it, or else
+-- The bytes after what the call wrote: a malformed sequence that it reports, with these bytes unread after it, or else
 -- what stays pending.
 abbrev pub FollowsOutput : List ℕ → Bool → DecoderResult → List ℕ → List ℕ → Type 0
 FollowsOutput unread last InputEmpty q y = y ≡ q
@@ -64,14 +64,14 @@ follows_stays unread more InputEmpty q y e = e
 follows_stays unread more OutputFull q y e = e
 follows_stays unread more (Malformed k second) q y (zero, size, none, broken) = (zero, size, none, broken_stays y unread more broken)
 
--- the characters of what the call read, and those bytes behind them
+-- the characters of what the call read, and those bytes after them
 pub call_read : {A : Type 0} (encode : ℕ → List A) (need : ℕ) (p src : List ℕ) (last : Bool) (result : DecoderResult) (read : ℕ) (cs : List ℕ) (left : ℕ) (q : List ℕ)
     → Answers encode need p src last result read cs left q → (y : List ℕ) × FollowsOutput (drop read src) last result q y × (p ++ take read src ≡ encode_utf8_all cs ++ y) × (read ≤ length src)
 call_read encode need p src last InputEmpty read cs left q (all, whole, ended, room) = (q, refl, ap (λ xs. p ++ xs) (take_all read src (omega (arith, all))) ∙ whole, omega (arith, all))
 call_read encode need p src last OutputFull read cs left q (short, whole, little, none, held) = (q, refl, whole, omega (arith, short))
 call_read encode need p src last (Malformed k second) read cs left q (x, zero, within, whole, size, none, broken, room) = (x, (zero, size, none, broken), whole, within)
 
--- all the bytes that it was given
+-- all the bytes that it was passed
 pub call_bytes : (p src cs y : List ℕ) (read : ℕ) → p ++ take read src ≡ encode_utf8_all cs ++ y → p ++ src ≡ encode_utf8_all cs ++ (y ++ drop read src)
 call_bytes p src cs y read e =
     ap (λ xs. p ++ xs) (sym (take-append-drop read src)) ∙ sym (append_assoc p (take read src) (drop read src)) ∙ ap (λ xs. xs ++ drop read src) e
@@ -97,7 +97,7 @@ reported_first unread last (Malformed k second) q y (zero, size, none, broken) =
     let first = StartsWith-one (y ++ unread) (Broken y) unread (broken_first y unread last broken) in
     ((y, refl, size), subst (λ xs. StartsWith (y ++ unread) (Broken y ∷ []) (xs ++ unread)) (sym none) first)
 
--- behind the characters that it wrote
+-- after the characters that it wrote
 given_first : (bs cs y unread q : List ℕ) (last : Bool) (result : DecoderResult) → all_scalars cs ≡ true → bs ≡ encode_utf8_all cs ++ (y ++ unread)
     → FollowsOutput unread last result q y → StartsWith bs (map Character cs ++ reported_parts result y) (q ++ unread)
 given_first bs cs y unread q last result h e f =
@@ -106,7 +106,7 @@ given_first bs cs y unread q last result h e f =
     (StartsWith-append (encode_utf8_all cs ++ behind) (map Character cs) behind (reported_parts result y) (q ++ unread) (StartsWith-characters cs behind h)
     (reported_first unread last result q y f).1)
 
--- the characters of what was read, and what follows them, are given
+-- the characters of what was read, and what follows them, are yielded
 pub gives_from : (p src : List ℕ) (last : Bool) (result : DecoderResult) (read : ℕ) (cs q y : List ℕ) → read ≤ length src → IsPending q → all_scalars cs ≡ true
     → FollowsOutput (drop read src) last result q y → p ++ take read src ≡ encode_utf8_all cs ++ y → Gives p src last (map Character cs ++ reported_parts result y) read q
 gives_from p src last result read cs q y within pending scalars follows e = record {
@@ -130,7 +130,7 @@ gives_from p src last result read cs q y within pending scalars follows e = reco
         (given_first (p ++ src ++ more) cs y (unread ++ more) q false result scalars longer
         (follows_stays unread more result q y (subst (λ b. FollowsOutput unread b result q y) f follows)))
 
--- a call gives the characters that it wrote, and then the broken part that it reports
+-- a call yields the characters that it wrote, and then the malformed sequence that it reports
 pub decoded_gives : {A : Type 0} (encode : ℕ → List A) (need : ℕ) (p src : List ℕ) (room : ℕ) (last : Bool) (result : DecoderResult) (read : ℕ) (out : List A) (q : List ℕ)
     → IsCall encode need p src room last result read out q → (parts : List Part) × AreDecoded encode result out parts × Gives p src last parts read q
 decoded_gives encode need p src room last result read out q call =

@@ -1,4 +1,4 @@
--- That a call answers as the definition has it: with nothing pending, with a beginning, and both in a row.
+-- A call meets its definition: with nothing pending, with an incomplete sequence, and both in a row.
 use Rattle.std.proofs.Common.{◌≡◌, ◌≢◌, ℕ, ◌+◌, ◌-◌, ◌<◌, ◌≤◌, inl, inr, Bool, true, false, List, [], ◌∷◌, ◌++◌, length, take, drop, encode_utf8, encode_utf8_all, refl, sym, ap, ◌∙◌, arith, subst, take-add}
 use Rattle.std.specs.Char.{IsScalar}
 use Rattle.std.specs.List.{flat_map}
@@ -22,7 +22,7 @@ use Rattle.encoding_definitions.proofs.Sequences.EncodingLemmas.{scalar_of_seque
 use Rattle.encoding_definitions.proofs.LongestFronts.FrontsLemmas.{WritesFront-nil, WritesFront-length, WritesFront_after}
 use Rattle.encoding_text.proofs.Calls.CallLemmas.{broken_stuck}
 
--- what no broken part is
+-- no malformed sequence is empty
 pub broken_some : (x rest : List ℕ) (last : Bool) → IsBroken x rest last → 0 < length x
 broken_some x [] last (inl (b, e, n)) = omega (arith, ap length e)
 broken_some x [] last (inr (o, l)) = o.0
@@ -31,7 +31,7 @@ broken_some x (y ∷ ys) last (inr (o, s)) = o.0
 
 module _ {A : Type 0} (encode : ℕ → List A) (need : ℕ) where
   -- ---- with nothing pending
-  -- the characters of a front are written
+  -- the characters of a prefix are written
   front_call : {src q : List ℕ} {old new : List A} {read read' written : ℕ} {last : Bool} {result : DecoderResult} (d : ConvertsFront encode src old new read written) → IsPending q
       → Answers encode need [] src last result read' d.scalars (length old - length (flat_map encode d.scalars)) q → Decodes encode need [] src old new last result read' written q
   front_call d pending answer = (
@@ -91,7 +91,7 @@ module _ {A : Type 0} (encode : ℕ → List A) (need : ℕ) where
         λ _. omega (arith, l, d.writes.count),
       )
 
-  -- ---- with a beginning pending
+  -- ---- with an incomplete sequence pending
   -- no character is written
   pub silent_call : {p src q : List ℕ} {room read : ℕ} {last : Bool} {result : DecoderResult} → IsPending p → IsPending q → (p ≢ [] → 0 < read → need ≤ room)
       → Answers encode need p src last result read [] (room - 0) q → IsCall encode need p src room last result read [] q
@@ -204,16 +204,16 @@ module _ {A : Type 0} (encode : ℕ → List A) (need : ℕ) where
         pending_needs_room = λ some _. enough some;
       }
 
--- where a character takes no more than the need
+-- if each character takes at most `need` code units
 module _ {A : Type 0} (encode : ℕ → List A) (need : ℕ) (fits : (c : ℕ) → IsScalar c → length (encode c) ≤ need) where
-  -- with room for any character, none begins what is left
+  -- with space for any character, the rest starts with none
   pub no_character_fits : (src : List ℕ) (old new : List A) (read written : ℕ) → ConvertsFront encode src old new read written → need ≤ length old - written → BeginsWithNoCharacter (drop read src)
   no_character_fits src old new read written d l front rest e s =
       let c = scalar_of_sequence front s in
       d.stops (c.0, rest, c.1, e ∙ ap (λ xs. xs ++ rest) (sym c.2), omega (arith, fits c.0 c.1, l))
 
-  -- ---- a character that was pending, and the call for what is behind it
-  -- the bytes of one character convert to just that character
+  -- ---- a character that was pending, and the call for what follows it
+  -- the bytes of one character convert to exactly that character
   one_character : (s : List ℕ) (c : ℕ) (old new : List A) (read written : ℕ) → IsScalar c → encode_utf8 c ≡ s → need ≤ length old → ConvertsFront encode s old new read written
       → WritesFront old new written (encode c)
   one_character s c old new read written h e l d = just d.scalars refl

@@ -1,4 +1,4 @@
--- For pending bytes, source, room and mark a decode call has an answer.
+-- For any pending bytes, source, space and mark a decode call has a result.
 use Rattle.std.proofs.Common.{◌≡◌, ◌≢◌, ℕ, ◌+◌, ◌-◌, ◌<◌, ◌≤◌, ◌⊎◌, inl, inr, Bool, true, false, List, [], ◌∷◌, ◌++◌, length, encode_utf8, encode_utf8_all, refl, sym, ap, ◌∙◌, arith, subst}
 use Rattle.std.specs.Char.{IsScalar}
 use Rattle.std.specs.Str.{all_scalars}
@@ -21,7 +21,7 @@ use Rattle.encoding_text.proofs.Calls.DecodeLemmas.{silent_call, call_behind}
 pub length-encode-some : (c : ℕ) → 0 < length (encode_utf8 c)
 length-encode-some c = omega (arith, length-encode c, len_utf8_bounds c)
 
--- no character's bytes begin a beginning, or nothing
+-- pending bytes don't start with a character
 pub no_character_pending : (c : ℕ) (rest q : List ℕ) → IsScalar c → IsPending q → q ≡ encode_utf8 c ++ rest → ⊥
 no_character_pending c rest q h (inl n) e = omega (arith, ap length (sym n ∙ e), length-append (encode_utf8 c) rest, length-encode-some c)
 no_character_pending c rest q h (inr b) e = no_sequence_in_beginning (encode_utf8 c) rest (subst IsBeginning e b) (IsSequence-encode c h)
@@ -31,7 +31,7 @@ no_characters_pending [] rest q h pending e = refl
 no_characters_pending (c ∷ cs) rest q h pending e =
     absurd (no_character_pending c (encode_utf8_all cs ++ rest) q (and_parts _ _ h).0 pending (e ∙ append_assoc (encode_utf8 c) (encode_utf8_all cs) rest))
 
--- ---- there is an answer
+-- ---- there is a result
 pub broken_or_open : (x after : List ℕ) (last : Bool) → IsFirstPart (x ++ after) (Broken x) after → IsBroken x after last ⊎ ((after ≡ []) × IsBeginning x × (last ≡ false))
 broken_or_open x [] last (n, inl l) = elim (cases_Bool last) [ inl t ↦ inl (inr (l.beginning, t)) | inr f ↦ inr (refl, l.beginning, f) ]
 broken_or_open x (y ∷ ys) last (n, inl l) = inl (inr (l.beginning, stuck_part (x ++ (y ∷ ys)) x y ys n l))
@@ -42,7 +42,7 @@ module _ {A : Type 0} (encode : ℕ → List A) (need : ℕ) (last : Bool) where
   abbrev HasCall : List ℕ → List ℕ → ℕ → Type 0
   HasCall p src room = (result : DecoderResult) × (read : ℕ) × (out : List A) × (q : List ℕ) × IsCall encode need p src room last result read out q
 
-  -- no room for the next character
+  -- no space for the next character
   full_call : (p src : List ℕ) (room : ℕ) → IsPending p → 0 < length src → room < need → (p ≡ [] → FittingBegins encode src room → ⊥) → HasCall p src room
   full_call p src room pending some short none = (
     OutputFull,
@@ -53,7 +53,7 @@ module _ {A : Type 0} (encode : ℕ → List A) (need : ℕ) (last : Bool) where
         (some, append-nil p, omega arith, (λ n f. none n (subst (λ k. FittingBegins encode src k) (omega arith) f)), λ _. (refl, refl)),
   )
 
-  -- the bytes t end the broken part x
+  -- the bytes t end the malformed sequence x
   report_call : (p src t x after : List ℕ) (room : ℕ) → IsPending p → x ≡ p ++ t → src ≡ t ++ after → IsBroken x after last → (0 < length src → need ≤ room) → HasCall p src room
   report_call p src t x after room before e f broken enough =
       let cut = cut_behind src t after f in (
@@ -65,7 +65,7 @@ module _ {A : Type 0} (encode : ℕ → List A) (need : ℕ) (last : Bool) where
             (x, refl, cut.0, ap (λ xs. p ++ xs) cut.1 ∙ sym e, refl, refl, subst (λ xs. IsBroken x xs last) (sym cut.2) broken, (λ some. omega (arith, enough some))),
       )
 
-  -- all is read, and a beginning is left
+  -- all is read, and an incomplete sequence is left
   open_call : (p src x : List ℕ) (room : ℕ) → IsPending p → p ++ src ≡ x → IsBeginning x → last ≡ false → (0 < length src → need ≤ room) → HasCall p src room
   open_call p src x room before e o more enough = (
     InputEmpty,
@@ -112,7 +112,7 @@ module _ {A : Type 0} (encode : ℕ → List A) (need : ℕ) (last : Bool) where
           | inr enough ↦ broken_call [] src x x after room (inl refl) refl bytes.0 (subst (λ xs. IsFirstPart xs (Broken x) after) bytes.0 f) (λ _. enough)
         ]
 
-    -- with a beginning pending, by the first part of it and the source
+    -- with an incomplete sequence pending, by the first part of it and the source
     resumed_call : (p src : List ℕ) (room : ℕ) (part : Part) (after : List ℕ) → IsBeginning p → need ≤ room → IsFirstPart (p ++ src) part after → HasCall p src room
     resumed_call p src room (Character c) after b enough (h, e) = elim (fronts_nest p src (encode_utf8 c) after e) [
       | inl (t, f, g) ↦

@@ -1,4 +1,4 @@
--- Broken parts of one byte, by that byte and the next.
+-- Malformed sequences of one byte, by that byte and the next.
 use Rattle.std.proofs.Common.{ℕ, ◌<◌, ◌≤◌, ◌⊎◌, inl, inr, Bool, List, [], ◌∷◌, ◌++◌, length, take, drop, slice_index, sym, arith, subst}
 use Rattle.std.proofs.lemmas.List.{drop_more}
 use Rattle.std.proofs.lemmas.Bool.{cases_lt}
@@ -12,12 +12,12 @@ use Rattle.encoding_text.proofs.Calls.CallLemmas.{broken_lone, broken_stuck, tak
 second_continues : (a b : ℕ) → IsSecond a b → IsContinuation b
 second_continues a b s = grind (arith, nat_tests)
 
--- the second byte of a sequence or of a beginning
+-- the second byte of a well-formed or an incomplete sequence
 second_of : (a b : ℕ) → IsSequence (a ∷ b ∷ []) ⊎ IsBeginning (a ∷ b ∷ []) → IsContinuation b
 second_of a b (inl s) = (HasShape-IsSequence (a ∷ b ∷ []) s).2
 second_of a b (inr o) = let h = HasOpenShape-IsBeginning (a ∷ b ∷ []) o in second_continues a b (second_more a b h.0 h.1 h.2)
 
--- a byte that begins nothing
+-- a byte that starts no sequence
 pub lone_byte : (r : List ℕ) (last : Bool) → 0 < length r → 0x80 ≤ slice_index r 0 → (IsBeginning (slice_index r 0 ∷ []) → ⊥) → IsBroken (take 1 r) (drop 1 r) last
 lone_byte r last h l n = subst (λ xs. IsBroken xs (drop 1 r) last) (sym (take_one r h)) (broken_lone (slice_index r 0) (drop 1 r) last nothing)
   where
@@ -25,13 +25,13 @@ lone_byte r last h l n = subst (λ xs. IsBroken xs (drop 1 r) last) (sym (take_o
     nothing (inl s) = omega (arith, l, HasShape-IsSequence (slice_index r 0 ∷ []) s)
     nothing (inr o) = n o
 
--- a byte that begins several, and behind it no continuation byte
+-- a byte that starts sequences of several, followed by no continuation byte
 pub lone_beginning : (r : List ℕ) (last : Bool) → 1 < length r → IsBeginning (slice_index r 0 ∷ []) → (IsContinuation (slice_index r 1) → ⊥) → IsBroken (take 1 r) (drop 1 r) last
 lone_beginning r last h o n =
     broken_stuck (take 1 r) (drop 1 r) last (slice_index r 1) (drop 2 r) (drop_more r 1 0 h) (begins_before r (omega arith) o)
     (λ g. n (second_of (slice_index r 0) (slice_index r 1) (subst (λ xs. IsSequence (xs ++ slice_index r 1 ∷ []) ⊎ IsBeginning (xs ++ slice_index r 1 ∷ [])) (take_one r (omega arith)) g)))
 
--- where no character begins, the first byte isn't ASCII
+-- if the bytes start with no character, the first isn't ASCII
 pub not_ascii : (r : List ℕ) → 0 < length r → BeginsWithNoCharacter r → 0x80 ≤ slice_index r 0
 not_ascii r h none = elim (cases_lt (slice_index r 0) 0x80) [
   | inl l ↦ absurd (none (slice_index r 0 ∷ []) (drop 1 r) (drop_more r 0 0 h) (IsSequence-HasShape (slice_index r 0 ∷ []) (omega arith)))

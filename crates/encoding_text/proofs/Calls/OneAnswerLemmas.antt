@@ -1,4 +1,4 @@
--- For given pending bytes, source, room and mark a decode call has exactly one answer.
+-- For any pending bytes, source, space and mark a decode call has exactly one result.
 use Rattle.std.proofs.Common.{◌≡◌, ◌≢◌, ℕ, zero, suc, ◌+◌, ◌-◌, ◌<◌, ◌≤◌, ◌⊎◌, inl, inr, Bool, true, List, [], ◌∷◌, ◌++◌, length, take, drop, encode_utf8, encode_utf8_all, refl, sym, ap, ◌∙◌, arith, subst}
 use Rattle.std.specs.Char.{IsScalar}
 use Rattle.std.specs.Char.Escape.{encode_utf16}
@@ -18,8 +18,9 @@ use Rattle.encoding_definitions.proofs.Sequences.EncodingLemmas.{IsSequence-enco
 use Rattle.encoding_text.proofs.Calls.HasAnswerLemmas.{length-encode-some, no_character_pending, no_characters_pending, has_answer}
 use Rattle.encoding_text.proofs.Calls.CallPartsLemmas.{broken_first, same_broken, pending_not_broken, FollowsOutput, call_read, call_bytes}
 
--- ---- characters that begin the same bytes
--- cs are all the characters of cs', and z the same bytes behind them, or else cs' has more of them, of which the first begins z
+-- ---- characters at the start of the same bytes
+-- either cs are all the characters of cs', with the same bytes z after them;
+-- or cs' has more of them, and z starts with the first of these
 abbrev Continues : List ℕ → List ℕ → List ℕ → List ℕ → Type 0
 Continues cs z cs' z' = (c : ℕ) × (more : List ℕ) × (cs' ≡ cs ++ c ∷ more) × (z ≡ encode_utf8 c ++ (encode_utf8_all more ++ z'))
 
@@ -40,7 +41,7 @@ compare (c ∷ cs) z (d ∷ cs') z' e =
     (sym (append_assoc (encode_utf8 c) (encode_utf8_all cs) z) ∙ e ∙ append_assoc (encode_utf8 d) (encode_utf8_all cs') z') in
     one_more c d cs z cs' z' same.0 (compare cs z cs' z' same.1)
 
--- no characters' bytes end where a beginning, or nothing, ends
+-- there are no characters before bytes that are no shorter than the whole
 no_characters : (cs q p : List ℕ) → p ≡ encode_utf8_all cs ++ q → length p ≤ length q → cs ≡ []
 no_characters [] q p e l = refl
 no_characters (c ∷ cs) q p e l = absurd (omega (arith, ap length e, length-append (encode_utf8 c ++ encode_utf8_all cs) q, length-append (encode_utf8 c) (encode_utf8_all cs), length-encode-some c))
@@ -50,7 +51,7 @@ head_scalar [] c more h = (and_parts _ _ h).0
 head_scalar (b ∷ cs) c more h = head_scalar cs c more (and_parts _ _ h).1
 
 -- ---- where a call ends
--- its answer, with the bytes y behind the characters of what it read
+-- its result, with the bytes y after the characters of what it read
 record Ended {A : Type 0} (encode : ℕ → List A) (need : ℕ) (p src : List ℕ) (last : Bool) (result : DecoderResult) (read : ℕ) (cs : List ℕ) (left : ℕ) (q y : List ℕ) : Type 0 where
   pub pending : IsPending q
   pub answer : Answers encode need p src last result read cs left q
@@ -65,7 +66,7 @@ wrote_some p src cs more y zero c pending h e =
 wrote_some p src cs more y (suc read) c pending h e = omega arith
 
 module _ {A : Type 0} (encode : ℕ → List A) (need : ℕ) (p src : List ℕ) (last : Bool) where
-  -- no character begins what is behind, for which the room would suffice
+  -- the rest starts with no character that would fit
   no_more : (result : DecoderResult) (read : ℕ) (cs : List ℕ) (room : ℕ) (q y : List ℕ) (c : ℕ) (rest : List ℕ) → IsScalar c
       → Ended encode need p src last result read cs (room - length (flat_map encode cs)) q y → (p ≢ [] → need ≤ room)
       → length (flat_map encode cs) + length (encode c) ≤ room → y ++ drop read src ≡ encode_utf8 c ++ rest → ⊥
@@ -202,7 +203,7 @@ module _ {A : Type 0} (encode : ℕ → List A) (need : ℕ) (p src : List ℕ) 
           | inr (inr more) ↦ absurd (not_continued result' result read' read out' out q' q d'.0 d.0 pending call' call d'.1 d.1 more)
         ]
 
--- ---- there is only one answer
+-- ---- there is only one result
 pub one_answer : {A : Type 0} (encode : ℕ → List A) (need : ℕ) (p src : List ℕ) (room : ℕ) (last : Bool) (result result' : DecoderResult) (read read' : ℕ) (out out' : List A) (q q' : List ℕ)
     → IsPending p → IsCall encode need p src room last result read out q → IsCall encode need p src room last result' read' out' q'
     → (result ≡ result') × (read ≡ read') × (out ≡ out') × (q ≡ q')

@@ -1,4 +1,4 @@
--- For given pending bytes, source and mark a call without a destination has exactly one answer.
+-- For any pending bytes, source and mark a call without a destination has exactly one result.
 use Rattle.std.proofs.Common.{◌≡◌, ℕ, ◌<◌, ◌≤◌, inl, inr, Bool, true, false, List, [], ◌∷◌, ◌++◌, length, take, drop, encode_utf8, encode_utf8_all, refl, sym, ap, ◌∙◌, arith, subst}
 use Rattle.std.specs.Borrow.{Bor}
 use Rattle.std.specs.Char.{IsScalar}
@@ -21,12 +21,12 @@ use Rattle.encoding_text.proofs.Calls.CallPartsLemmas.{broken_first, same_broken
 use Rattle.encoding_text.proofs.Calls.HasAnswerLemmas.{length-encode-some, no_character_pending, broken_or_open}
 use Rattle.encoding_text.proofs.LongestFronts.ConvertingLemmas.{cut_behind, leading}
 
--- ---- there is an answer
+-- ---- there is a result
 module _ (last : Bool) where
   abbrev HasPiece : List ℕ → List ℕ → Type 0
   HasPiece p src = (returned : Piece) × (read : ℕ) × (q : List ℕ) × IsBorrowedCall p src last returned read q
 
-  -- the bytes t end the broken part that is first, or the source ends it
+  -- the bytes t end the malformed sequence that is first, or the source ends it
   broken_piece : (p src t after : List ℕ) → IsPending p → src ≡ t ++ after → IsFirstPart ((p ++ t) ++ after) (Broken (p ++ t)) after → HasPiece p src
   broken_piece p src t after pending e first =
       let cut = cut_behind src t after e in
@@ -87,7 +87,7 @@ module _ (last : Bool) where
         },
       )
 
-  -- with a beginning pending
+  -- with an incomplete sequence pending
   resumed_piece : (p src : List ℕ) → IsBeginning p → ((part : Part) × (after : List ℕ) × IsFirstPart (p ++ src) part after) → HasPiece p src
   resumed_piece p src b (Character c, after, (h, e)) = elim (fronts_nest p src (encode_utf8 c) after e) [
     | inl (t, f, g) ↦
@@ -124,7 +124,7 @@ module _ (p src : List ℕ) (last : Bool) where
   split : (read : ℕ) → p ++ src ≡ (p ++ take read src) ++ drop read src
   split read = ap (λ xs. p ++ xs) (sym (take-append-drop read src)) ∙ sym (append_assoc p (take read src) (drop read src))
 
-  -- a character begins the bytes
+  -- the bytes start with a character
   abbrev Begins : Type 0
   Begins = (c : ℕ) × (rest : List ℕ) × IsScalar c × (p ++ src ≡ encode_utf8 c ++ rest)
 
@@ -137,7 +137,7 @@ module _ (p src : List ℕ) (last : Bool) where
     ap (λ xs. xs ++ src) n ∙ sym (take-append-drop read src) ∙ ap (λ xs. xs ++ drop read src) (sym e) ∙ append_assoc (encode_utf8 c) (encode_utf8_all cs) (drop read src),
   )
 
-  -- it reports no broken part
+  -- it reports no malformed sequence
   not_broken : (k read : ℕ) (q : List ℕ) → Begins → Call (Malformed k) read q → ⊥
   not_broken k read q (c, rest, h, e) call =
       (broken_first (p ++ take read src) (drop read src) last call.answer.3).0 (encode_utf8 c) rest (sym (split read) ∙ e) (IsSequence-encode c h)

@@ -1,4 +1,4 @@
--- One more byte behind a beginning.
+-- One more byte after an incomplete sequence.
 use Rattle.std.proofs.Common.{◌≡◌, ◌≢◌, ℕ, ◌+◌, ◌<◌, ◌≤◌, ◌⊎◌, inl, inr, List, [], ◌∷◌, ◌++◌, length, take, drop, set, slice_index, refl, sym, ap, ◌∙◌, arith, subst}
 use Rattle.std.proofs.lemmas.List.{take_more_set, drop_more, nil_from_length, take_at, length-take, length-set, length-append, get_or-take, get_or-set_other}
 use Rattle.std.proofs.lemmas.Bool.{cases_lt}
@@ -8,7 +8,7 @@ use Rattle.encoding_text.specs.Steps.Resuming.{GoesOn}
 use Rattle.encoding_text.specs.Steps.Resuming.{IsStuck}
 use Rattle.encoding_definitions.proofs.Sequences.SequenceLemmas.{HasShape, HasOpenShape, HasShape-IsSequence, IsSequence-HasShape, HasOpenShape-IsBeginning, IsBeginning-HasOpenShape, length-IsBeginning, second_two, second_more, second_from, second_two_from, length_by_first}
 
--- how long the sequences are that begin with this byte
+-- the length of the sequences that start with this byte
 abbrev pub SequenceLength : ℕ → ℕ → Type 0
 SequenceLength lead n = (rest : List ℕ) → IsSequence (lead ∷ rest) → n ≡ 1 + length rest
 
@@ -30,7 +30,7 @@ goes_on_longer (a ∷ c ∷ []) b h s = (λ e. absurd (omega arith), λ _. s.3)
 goes_on_longer (a ∷ c ∷ d ∷ []) b h s = absurd s
 goes_on_longer (a ∷ c ∷ d ∷ e ∷ more) b h s = absurd h
 
--- a byte that makes a sequence or a longer beginning goes on
+-- a byte that makes a well-formed or a longer incomplete sequence continues it
 pub goes_on : (p : List ℕ) (b : ℕ) → IsBeginning p → IsSequence (p ++ b ∷ []) ⊎ IsBeginning (p ++ b ∷ []) → GoesOn (slice_index p 0) (length p) b
 goes_on p b o (inl s) = goes_on_whole p b (HasOpenShape-IsBeginning p o) (HasShape-IsSequence _ s)
 goes_on p b o (inr l) = goes_on_longer p b (HasOpenShape-IsBeginning p o) (HasOpenShape-IsBeginning _ l)
@@ -79,7 +79,7 @@ whole_sequence p b n o g l e = IsSequence-HasShape _ (whole_shape p b n (HasOpen
 pub longer_beginning : (p : List ℕ) (b n : ℕ) → IsBeginning p → GoesOn (slice_index p 0) (length p) b → SequenceLength (slice_index p 0) n → length p + 1 ≢ n → IsBeginning (p ++ b ∷ [])
 longer_beginning p b n o g l e = IsBeginning-HasOpenShape _ (longer_shape p b n (HasOpenShape-IsBeginning p o) g l e)
 
--- ---- in an array of four bytes, of which so many are pending
+-- ---- in an array of four bytes, with the first `count` pending
 module _ (bytes : List ℕ) (count b : ℕ) (p : List ℕ) (is : p ≡ take count bytes) (four : length bytes ≡ 4) (within : count ≤ 3) (some : p ≢ []) (pending : IsPending p) where
   long : length p ≡ count
   long = omega (arith, ap length is, length-take count bytes)
@@ -117,12 +117,12 @@ module _ (bytes : List ℕ) (count b : ℕ) (p : List ℕ) (is : p ≡ take coun
       let o : IsBeginning (p ++ b ∷ []) = longer_beginning p b n begins (same_goes_on g) (subst (λ a. SequenceLength a n) kept l) (λ f. e (omega (arith, long))) in
       (omega (arith, length-IsBeginning (p ++ b ∷ []) o, length-append p (b ∷ []), long), subst IsPending (sym longer) (inr o))
 
--- ---- bytes held in an array
+-- ---- bytes in an array
 pub held : (bs rest : List ℕ) → take (length bs) (bs ++ rest) ≡ bs
 held bs rest = take_at bs rest (length bs) refl
 
--- ---- after so many bytes of the source
--- p is seen in an array, as what was pending and the bytes read behind it, and the next byte doesn't go on with it
+-- ---- after the first bytes of the source
+-- p is in an array, as what was pending followed by the bytes read, and the next byte doesn't continue it
 pub resumed_stuck : (old src bytes p : List ℕ) (read count : ℕ) → p ≡ old ++ take read src → take count bytes ≡ p → length bytes ≡ 4 → count ≤ 3 → IsPending (take count bytes)
     → old ≢ [] → read < length src → IsStuck p (slice_index src read)
     → (read < length src) × (count ≡ length old + read) × IsBeginning (old ++ take read src)

@@ -1,4 +1,4 @@
--- What follows from one call: it gets on, and the queried room suffices.
+-- What follows from one call: it makes progress, and a destination of the queried length is large enough.
 use Rattle.std.proofs.Common.{◌≡◌, ◌≢◌, ℕ, ◌+◌, ◌-◌, ◌<◌, ◌≤◌, ◌⊎◌, inl, inr, Bool, true, List, [], ◌++◌, length, take, encode_utf8, encode_utf8_all, refl, sym, ap, ◌∙◌, arith}
 use Rattle.std.specs.Char.Escape.{encode_utf16}
 use Rattle.std.specs.Str.{all_scalars}
@@ -13,7 +13,7 @@ use Rattle.encoding_text.proofs.Calls.DecodeLemmas.{broken_some}
 use Rattle.encoding_text.proofs.Calls.HasAnswerLemmas.{no_characters_pending}
 use Rattle.encoding_text.proofs.Calls.CallPartsLemmas.{FollowsOutput, call_read}
 
--- what was pending and what was read, against what was written, a broken part and what is pending then
+-- the lengths of what was pending and read, against those of the output, a malformed sequence and what is pending then
 pub record Counts (p src : List ℕ) (room need : ℕ) (result : DecoderResult) (read written : ℕ) (q : List ℕ) : Type 0 where
   pub within : read ≤ length src
   pub split : written + length q ≤ length p + read
@@ -27,7 +27,7 @@ behind_output unread last OutputFull q y e = (omega (arith, ap length e), λ (k,
 behind_output unread last (Malformed k second) q y (zero, size, none, broken) = (omega (arith, ap length none), λ r. (broken_some y unread last broken, ap length none))
 
 module _ {A : Type 0} {encode : ℕ → List A} {need : ℕ} {p src : List ℕ} {room : ℕ} {last : Bool} {read : ℕ} {out : List A} {q : List ℕ} where
-  -- with an unread byte and room for any character a call gets on
+  -- with an unread byte and space for any character a call makes progress
   pub progress : (result : DecoderResult) → IsCall encode need p src room last result read out q → 0 < length src → need ≤ room → (0 < read) ⊎ IsReport result
   progress InputEmpty call some l = inl (omega (arith, call.answer.0))
   progress (Malformed k second) call some l = inr (k, second, refl)
@@ -39,7 +39,7 @@ module _ {A : Type 0} {encode : ℕ → List A} {need : ℕ} {p src : List ℕ} 
         absurd (omega (arith, call.answer.2, ap length (call.out_is ∙ ap (flat_map encode) none)))
   ]
 
-  -- room is left where more would come
+  -- a full call leaves bytes unread, and less space than any character may need
   full_left : (result : DecoderResult) → IsCall encode need p src room last result read out q → result ≡ OutputFull → (read < length src) × (room - length out < need)
   full_left InputEmpty call e = cc
   full_left OutputFull call e = (call.answer.0, call.answer.2)
@@ -58,15 +58,15 @@ module _ {A : Type 0} {encode : ℕ → List A} {need : ℕ} {p src : List ℕ} 
 pub length-utf8 : (cs : List ℕ) → all_scalars cs ≡ true → length (flat_map encode_utf8 cs) ≤ length (encode_utf8_all cs)
 length-utf8 cs h = omega (arith, ap length (flat_map-encode_utf8 cs))
 
--- ---- with room for one code unit more than there are bytes, and nothing pending
--- the call doesn't end for want of room, and at a report there is room for U+FFFD, the bytes left and one more
+-- ---- nothing pending, and space for one code unit more than there are bytes
+-- the call isn't full, and a report leaves space for U+FFFD, the bytes left and one more
 pub keeps_room : (src old new : List ℕ) (last : Bool) (result : DecoderResult) (read written : ℕ) (q : List ℕ) → Decodes encode_utf16 2 [] src old new last result read written q
     → length src < length old → (result ≢ OutputFull) × (IsReport result → written + 1 + (length src - read) < length old)
 keeps_room src old new last result read written q (out, w, call) l =
     let b = counts length-utf16 result call in
     (λ e. let f = b.full e in omega (arith, f.0, f.1, b.split, b.within, w.count), λ r. omega (arith, (b.reported r).0, b.within, w.count))
 
--- ---- the queried room suffices
+-- ---- the queried length is large enough
 module _ {p src old new : List ℕ} {last : Bool} {result : DecoderResult} {read written : ℕ} {q : List ℕ} where
   pub utf16_suffices : Decodes encode_utf16 2 p src old new last result read written q → Suffices utf16_room p src (length old) result read written q
   utf16_suffices (out, w, call) m h l =

@@ -1,4 +1,4 @@
--- One call of the encoder: what is due, and a call that begins with the held unit.
+-- One call of the encoder: what is to be written, and a call that starts with the pending surrogate.
 use Rattle.std.proofs.Common.{◌≡◌, ℕ, suc, ◌+◌, ◌-◌, ◌*◌, ◌<◌, ◌≤◌, ◌⊎◌, inl, inr, Bool, true, false, List, [], ◌∷◌, ◌++◌, length, take, drop, get_or, encode_utf8, refl, sym, ap, ◌∙◌, arith, subst, append_assoc}
 use Rattle.std.specs.Char.{len_utf8}
 use Rattle.std.specs.Char.Escape.{encode_utf16}
@@ -22,8 +22,8 @@ use Rattle.encoding_definitions.proofs.LongestFronts.FittingLemmas.{FitsLongest-
 use Rattle.encoding_definitions.proofs.CodeUnits.Utf16FrontLemmas.{all_fit, units_counted}
 use Rattle.encoding_kernels.proofs.Latin.AsciiLemmas.{Each-take}
 
--- ---- which unit stays open
--- the units from this place on stay open
+-- ---- which unit stays pending
+-- the units from this index on stay pending
 pub record LeavesOpen (us : List ℕ) (last : Bool) (n : ℕ) : Type 0 where
   pub within : n ≤ length us
   pub held : IsHeld (drop n us)
@@ -79,7 +79,7 @@ AreUnits-front us n a = Each-take (λ u. u < 0x10000) (omega arith) us n (λ k _
 pub AreUnits-behind : (us : List ℕ) (n : ℕ) → AreUnits us → AreUnits (drop n us)
 AreUnits-behind us n a k = omega (arith, get_or-drop n us k 0, a (n + k))
 
--- the parts in front of that place are due
+-- the parts before that index are to be written
 open_due : (us : List ℕ) (last : Bool) (n : ℕ) (due : List Part16) → LeavesOpen us last n → ArePartsOf16 (take n us) due → AreDue us last due (drop n us)
 open_due us last n due l a = record {
   front = take n us;
@@ -90,7 +90,7 @@ open_due us last n due l a = record {
   waits = λ e h. omega (arith, l.waits e h, length-drop n us);
 }
 
--- ---- nothing held
+-- ---- nothing pending
 module _ (src : List ℕ) (room : ℕ) (last : Bool) (n read : ℕ) (out : List ℕ) (l : LeavesOpen src last n) (f : IsUtf8OfLongestFront (take n src) room read out) where
   pub fresh_full : read < n → IsEncoderCall [] src room last OutputFull read out []
   fresh_full h = record {
@@ -104,7 +104,7 @@ module _ (src : List ℕ) (room : ℕ) (last : Bool) (n read : ℕ) (out : List 
     answer = (omega (arith, h, ap length f.are_parts.1, length-take-le n src l.within), (λ e. (e, refl)), (λ p. (omega arith, refl)));
   }
 
--- ---- a unit held
+-- ---- a pending surrogate
 first_units : (us : List ℕ) (p : Part16) (rest : List ℕ) → IsFirstPart16 us p rest → us ≡ units_of p ++ rest
 first_units us (Character16 c) rest h = h.1
 first_units us (Lone u) rest h = h.1
@@ -113,7 +113,7 @@ begins_low_append : (xs ys : List ℕ) → BeginsLow xs → BeginsLow (xs ++ ys)
 begins_low_append [] ys b = absurd b
 begins_low_append (x ∷ xs) ys b = b
 
--- the part is the first also of fewer units
+-- the part is also the first of fewer units
 first_of_fewer : (us : List ℕ) (p : Part16) (rest front more : List ℕ) → IsFirstPart16 us p rest → rest ≡ front ++ more → IsFirstPart16 (units_of p ++ front) p front
 first_of_fewer us (Character16 c) rest front more h e = (h.0, refl)
 first_of_fewer us (Lone u) rest front more h e = (h.0, refl, (λ k b. h.2 k (subst BeginsLow (sym e) (begins_low_append front more b))))
@@ -129,7 +129,7 @@ AreDue-cons us p rest last due left_open f d n = record {
   waits = λ e h. d.waits e (n e h);
 }
 
--- units behind the first end with a high surrogate where all do
+-- the units after the first end with a high surrogate if all do
 ends_high_tail : (a b : ℕ) (xs : List ℕ) → EndsHigh (a ∷ b ∷ xs) → EndsHigh (b ∷ xs)
 ends_high_tail a b xs ([], u, e, h) = absurd (omega (arith, ap length e))
 ends_high_tail a b xs (x ∷ front, u, e, h) = (front, u, ap (drop 1) e, h)
@@ -150,7 +150,7 @@ ends_behind us (Character16 c) rest f n h = elim (cases_lt c 0x10000) [
       behind_pair two.0 two.1 rest two.2.2 (subst EndsHigh (f.1 ∙ ap (λ xs. xs ++ rest) two.3) h)
 ]
 
--- the first part of the held unit and the source
+-- the first part of the pending surrogate and the source
 pub held_first : (u : ℕ) (src : List ℕ) (scalar t : ℕ) (f : IsFirstScalar (u ∷ src) scalar) → t + 1 ≡ length (encode_utf16 scalar) → IsFirstPart16 (u ∷ src) f.part (drop t src)
 held_first u src scalar t f e =
     let behind : drop (length (encode_utf16 scalar)) (u ∷ src) ≡ drop t src = ap (λ n. drop n (u ∷ src)) {x = length (encode_utf16 scalar)} {y = suc t} (omega arith) in
@@ -189,7 +189,7 @@ module _ (u : ℕ) (src : List ℕ) (room : ℕ) (last : Bool) (p : Part16) (t :
     (λ k. elim (cases_lt 0 taken) [ inl l ↦ (omega (arith, (z l).0), (z l).1) | inr l ↦ let none : taken ≡ 0 = omega arith in (omega (arith, (y none).0), (y none).1) ]),
   )
 
-  -- its first part is written, and then a call that holds nothing
+  -- its first part is written, and then comes a call with nothing pending
   pub held_then : (r : EncoderResult) (read : ℕ) (out after : List ℕ) → length (utf8_of p) ≤ room → IsEncoderCall [] (drop t src) (room - length (utf8_of p)) last r read out after
       → IsEncoderCall (u ∷ []) src room last r (t + read) (utf8_of p ++ out) after
   held_then r read out after l c = record {
@@ -203,7 +203,7 @@ module _ (u : ℕ) (src : List ℕ) (room : ℕ) (last : Bool) (p : Part16) (t :
     answer = answers_behind c.due c.left_open c.taken r read after c.answer;
   }
 
--- ---- room for all
+-- ---- space for all
 pub enough_room : (held src : List ℕ) (room : ℕ) (last : Bool) (r : EncoderResult) (read : ℕ) (out after : List ℕ) → 3 * (length src + length held) ≤ room
     → IsEncoderCall held src room last r read out after → r ≡ InputEmpty
 enough_room held src room last InputEmpty read out after h c = refl
@@ -213,7 +213,7 @@ enough_room held src room last OutputFull read out after h c =
     sym (length-append held src) ∙ ap length c.are_due.whole ∙ length-append c.are_due.front c.left_open in
     absurd (omega (arith, (all_fit c.due room c.taken out (omega arith) c.longest).0, c.answer.0))
 
--- ---- the calls as the encoder makes them, where what is held is a unit
+-- ---- the calls as the encoder makes them, with a pending surrogate
 pub none_there : (is_empty : Bool) (n : ℕ) → is_empty ≡ (n == 0) → is_empty ≡ true → n ≡ 0
 none_there is_empty n e f = grind (arith, nat_tests)
 
@@ -225,7 +225,7 @@ some_there is_empty last n e (inr h) f = some_when n (sym e ∙ h)
     some_when n e = grind (arith, nat_tests)
 
 module _ (held src : List ℕ) (u room : ℕ) (last : Bool) (e : held ≡ u ∷ []) (high : IsHighSurrogate u) where
-  -- of an empty source or of more, the first part begins with the held unit
+  -- the source may be empty, and the first part starts with the pending surrogate
   pub call_full : (scalar t : ℕ) (f : IsFirstScalar (u ∷ src) scalar) → t + 1 ≡ length (encode_utf16 scalar) → (last ≡ false → 0 < length src) → AreUnits src → room < len_utf8 scalar
       → IsEncoderCall held src room last OutputFull 0 [] held
   call_full scalar t f g n a l =

@@ -1,4 +1,4 @@
--- What a call of the encoder wrote is the UTF-8 of the first parts of what it held and was given, and how far it gets.
+-- A call of the encoder writes the UTF-8 of the first parts of what was pending and passed, and makes progress.
 use Rattle.std.proofs.Common.{◌≡◌, ℕ, zero, suc, ◌+◌, ◌*◌, ◌<◌, ◌≤◌, inl, inr, Bool, true, false, List, [], ◌∷◌, ◌++◌, length, take, drop, refl, sym, ap, ◌∙◌, arith, subst}
 use Rattle.std.specs.List.{flat_map}
 use Rattle.std.proofs.lemmas.Bool.{cases_lt}
@@ -13,7 +13,7 @@ use Rattle.encoding_definitions.proofs.CodeUnits.Utf16Lemmas.{parts_of, parts_ex
 use Rattle.encoding_definitions.proofs.CodeUnits.FirstPartsLemmas.{NoPairAcross, parts_behind, StartsWith16-take, first_fits}
 use Rattle.encoding_text.proofs.CodeUnits.EncoderLemmas.{enough_room}
 
--- ---- the parts due stay parts
+-- ---- the parts to be written stay parts
 -- a high surrogate that ends the parts ends their units
 ends_high : (us : List ℕ) (due : List Part16) (front : List Part16) (u : ℕ) → flat_map units_of due ≡ us → due ≡ front ++ Lone u ∷ [] → IsHighSurrogate u → EndsHigh us
 ends_high us due front u e f h =
@@ -63,7 +63,7 @@ module _ (held src : List ℕ) (room : ℕ) (last : Bool) (r : EncoderResult) (r
   all_units : length held + length src ≡ length c.are_due.front + length c.left_open
   all_units = sym (length-append held src) ∙ ap length c.are_due.whole ∙ length-append c.are_due.front c.left_open
 
-  -- behind the units of what it wrote lie those that it holds then and has not read
+  -- after the units of what it wrote come those that are pending then and those that it has not read
   come_to : (read ≤ length src) × (drop c.taken (held ++ src) ≡ after ++ drop read src)
   come_to = by_result r c.answer
     where
@@ -89,7 +89,7 @@ module _ (held src : List ℕ) (room : ℕ) (last : Bool) (r : EncoderResult) (r
   rest_is : drop c.taken (held ++ src) ≡ after ++ drop read src
   rest_is = come_to.1
 
-  -- they are the first parts whatever follows, which is nothing where the call is marked last
+  -- they are the first parts for any units that follow, and none do if the call is marked last
   pub written_first : (behind : List ℕ) → AreUnits behind → (last ≡ true → behind ≡ []) → StartsWith16 (held ++ src ++ behind) parts_written (after ++ drop read src ++ behind)
   written_first behind a n =
       let open_behind : List ℕ = c.left_open ++ behind in
@@ -105,17 +105,17 @@ module _ (held src : List ℕ) (room : ℕ) (last : Bool) (r : EncoderResult) (r
       ∙ drop-append-le c.taken (held ++ src) behind (omega (arith, taken_within, all_units, length-append held src)) ∙ ap (λ xs. xs ++ behind) rest_is in
       rw (first, rest) at (StartsWith16-take (held ++ src ++ behind) (c.due ++ parts_of open_behind) c.longest.count all)
 
-  -- the units that it read and held, those of the parts, and those that it holds then
+  -- the units that it read and that were pending are those of the parts and those pending then
   units_split : length (flat_map units_of parts_written) + length after ≡ length held + read
   units_split =
       let left = length-drop c.taken (held ++ src) in
       omega (arith, left, ap length rest_is, length-append held src, length-append after (drop read src), length-drop read src, read_within, c.longest.taken, taken_within, all_units)
 
-  -- what it writes leaves three bytes of room for each unit that is left, where there were as many for each
+  -- the output leaves three bytes for each unit that is left, if there were as many for each
   pub room_left : length out + 3 * length after ≤ 3 * (length held + read)
   room_left = omega (arith, units_split, length-utf8_of_all parts_written, ap length c.longest.written)
 
-  -- with a unit to read, and room for the first part, it reads or writes
+  -- with a unit to read, and space for the first part, it reads or writes
   pub gets_on : 0 < length src → (room < 4 → 3 * (length src + length held) ≤ room) → length after < 2 * read + length held
   gets_on some enough = by_result r c.answer refl
     where
@@ -127,7 +127,7 @@ module _ (held src : List ℕ) (room : ℕ) (last : Bool) (r : EncoderResult) (r
             omega (arith, (z first).0, ap length (z first).1)
       ]
 
-  -- where it is marked last and returns `InputEmpty`, nothing is unread or held
+  -- if it is marked last and returns `InputEmpty`, nothing is unread or pending
   pub all_encoded : last ≡ true → r ≡ InputEmpty → (read ≡ length src) × (after ≡ [])
   all_encoded l e = by_result r e c.answer
     where

@@ -1,4 +1,4 @@
--- One call of the encoder from a text: the characters that fit, and a call that begins with the held unit.
+-- One call of the encoder from a text: the characters that fit, and a call that starts with the pending surrogate.
 use Rattle.std.proofs.Common.{◌≡◌, ℕ, ◌+◌, ◌-◌, ◌*◌, ◌<◌, ◌≤◌, inl, inr, List, [], ◌∷◌, ◌++◌, length, take, drop, encode_utf8, encode_utf8_all, refl, sym, ap, ◌∙◌, arith, subst}
 use Rattle.std.specs.Prelude.{map}
 use Rattle.std.specs.Char.{len_utf8}
@@ -17,10 +17,10 @@ use Rattle.encoding_definitions.proofs.LongestFronts.FrontsLemmas.{FitsLongest-a
 use Rattle.encoding_definitions.proofs.LongestFronts.FittingLemmas.{FitsLongest-cons, FitsLongest-map, length-front, written_is, written_front}
 use borrow.Rule.Slice.PartMut.{put_mid}
 
--- ---- the front of a text up to the last place where it may be cut
+-- ---- the prefix of a text up to the last character boundary that fits
 module _ (text : List ℕ) (room n : ℕ) (u : IsUtf8 text) (b : IsCharBoundary text n) (within : n ≤ room)
     (nearest : (i : ℕ) → n < i → i ≤ room → IsCharBoundary text i → ⊥) where
-  -- the characters in front of that place
+  -- the characters before that boundary
   abbrev front : List ℕ
   front = chars (take n text)
 
@@ -53,7 +53,7 @@ module _ (text : List ℕ) (room n : ℕ) (u : IsUtf8 text) (b : IsCharBoundary 
   pub text_front : FitsLongest encode_utf8 encode_utf8 (chars text) room n (take n text)
   text_front = rw (front_length, front_text, whole_text) at (front_fits (chars (drop n text)) refl)
 
--- ---- the characters due
+-- ---- the characters to be written
 text_bytes : (cs : List ℕ) → flat_map utf8_of (map Character16 cs) ≡ encode_utf8_all cs
 text_bytes [] = refl
 text_bytes (c ∷ cs) = ap (λ xs. encode_utf8 c ++ xs) (text_bytes cs)
@@ -83,7 +83,7 @@ module _ (text : List ℕ) (room n : ℕ) (out : List ℕ) (u : IsUtf8 text) (f 
         answer = (omega (arith, long, ap length (due_bytes text u)), (λ x. (omega (arith, long, ap length x), refl)), (λ x. refl));
       }
 
--- ---- a unit held
+-- ---- a pending surrogate
 module _ (held text : List ℕ) (h room : ℕ) (e : held ≡ h ∷ []) (high : IsHighSurrogate h) where
   pub text_waits : room < len_utf8 0xFFFD → IsEncoderTextCall held text room OutputFull 0 [] held
   text_waits l = subst (λ xs. IsEncoderTextCall xs text room OutputFull 0 [] xs) (sym e) (record {
@@ -111,7 +111,7 @@ module _ (held text : List ℕ) (h room : ℕ) (e : held ≡ h ∷ []) (high : I
         (λ k. refl),
       )
 
--- ---- room for all
+-- ---- space for all
 units_bytes : (held : List ℕ) (ps : List Part16) → length (flat_map utf8_of (map Lone held ++ ps)) ≡ 3 * length held + length (flat_map utf8_of ps)
 units_bytes [] ps = omega arith
 units_bytes (h ∷ held) ps = omega (arith, units_bytes held ps, length-append (encode_utf8 0xFFFD) (flat_map utf8_of (map Lone held ++ ps)), length-encode 0xFFFD)

@@ -15,7 +15,7 @@ use Rattle.encoding_definitions.proofs.Decomposition.DecompositionLemmas.{Starts
 use Rattle.encoding_definitions.proofs.LongestFronts.FrontsLemmas.{WritesFront-length, WritesFront-same, WritesFront_after, WritesFront_push}
 use Rattle.encoding_text.proofs.Calls.DecodeLemmas.{broken_some}
 
--- the text of the first parts is written, up to the bytes from read on
+-- the text of the first parts is written, and `read` is the length of their bytes
 pub record Repaired (src old new : List ℕ) (read written : ℕ) : Type 0 where
   pub within : read ≤ length src
   pub parts : List Part
@@ -29,7 +29,7 @@ utf16_characters (c ∷ cs) = ap (λ xs. encode_utf16 c ++ xs) (utf16_characters
 utf16-append : (ps qs : List Part) → repaired_utf16 (ps ++ qs) ≡ repaired_utf16 ps ++ repaired_utf16 qs
 utf16-append ps qs = flat_map-append (λ part. encode_utf16 (repaired_scalar part)) ps qs
 
--- the characters of a call stand behind
+-- the characters of a call follow it
 characters_behind : (src old new sub : List ℕ) (read written more units : ℕ) (cs rest : List ℕ) (out : List ℕ) → Repaired src old new read written → all_scalars cs ≡ true
     → out ≡ flat_map encode_utf16 cs → drop read src ≡ encode_utf8_all cs ++ rest → WritesFront (take (length new - written) (drop written new)) sub units out
     → (parts : List Part) × StartsWith src parts rest × WritesFront old (put_mid written (length new - written) new sub) (written + units) (repaired_utf16 parts)
@@ -49,7 +49,7 @@ repaired_all src old new sub read written more units q r (out, w, call) =
     let a = call.answer in
     characters_behind src old new sub read written more units call.scalars [] out r call.are_scalars call.out_is (a.1 ∙ ap (λ xs. encode_utf8_all call.scalars ++ xs) (a.2 refl)) w
 
--- a call that reports, and U+FFFD behind its characters
+-- a call that reports, and U+FFFD after its characters
 pub repaired_more : (src old new sub : List ℕ) (read written k second more units : ℕ) (q : List ℕ) → Repaired src old new read written
     → Decodes encode_utf16 2 [] (drop read src) (take (length new - written) (drop written new)) sub true (Malformed k second) more units q
     → written + units < length old
@@ -78,7 +78,7 @@ reads_some src old new k second more units q (out, w, call) =
     let a = call.answer in
     (omega (arith, ap length a.3, length-append (encode_utf8_all call.scalars) a.0, length-take more src, broken_some a.0 _ true a.6), a.2, a.5)
 
--- how much of the destination is left behind such a call
+-- how much of the destination is left after such a call
 pub repaired_length : (new sub : List ℕ) (written units : ℕ) (out : List ℕ) → WritesFront (take (length new - written) (drop written new)) sub units out → written ≤ length new
     → length (put_mid written (length new - written) new sub) ≡ length new
 repaired_length new sub written units out w l =

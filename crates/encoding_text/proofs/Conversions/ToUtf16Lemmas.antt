@@ -1,4 +1,4 @@
--- Whole buffers in UTF-16: where the destination is as long as the source, all characters fit.
+-- Whole buffers in UTF-16: if the destination is as long as the source, all characters fit.
 use Rattle.std.proofs.Common.{◌≡◌, ℕ, ◌+◌, ◌≤◌, List, length, take, encode_utf8, encode_utf8_all, sym, ap, ◌∙◌, arith, subst, inl, inr}
 use Rattle.std.specs.Char.Escape.{encode_utf16}
 use Rattle.std.specs.Str.{IsUtf8}
@@ -14,7 +14,7 @@ use Rattle.encoding_definitions.proofs.Sequences.EncodingLemmas.{length-utf16}
 text_length : (src cs : List ℕ) → (t : IsText src cs) → length (encode_utf8_all cs) ≡ t.valid
 text_length src cs t = ap length t.spelled ∙ omega (arith, length-take t.valid src, t.front.within)
 
--- all characters of the well-formed front fit
+-- all characters of the well-formed prefix fit
 pub whole_fits : (src old new : List ℕ) (read written : ℕ) → (d : ConvertsLongest encode_utf16 src old new read written) → length src ≤ length old
     → (read ≡ d.text.valid) × WritesFront old new written (flat_map encode_utf16 d.scalars)
 whole_fits src old new read written d l = elim (cases_lt d.longest.count (length d.scalars)) [
@@ -26,7 +26,7 @@ whole_fits src old new read written d l = elim (cases_lt d.longest.count (length
       (taken ∙ ap length (flat_map-encode_utf8 d.scalars) ∙ text_length src d.scalars d.text, subst (λ xs. WritesFront old new written xs) out d.writes)
 ]
 
--- of bytes, which are a text exactly if all of them are read
+-- of bytes, which are a text if and only if all of them are read
 pub text_front : (src old new : List ℕ) (read written : ℕ) → ConvertsLongest encode_utf16 src old new read written → length src ≤ length old → WritesText src old new written
 text_front src old new read written d l = (d.scalars, d.text, (whole_fits src old new read written d l).1)
 

@@ -1,4 +1,4 @@
--- The bytes that the ISO-2022-JP decoder gives back as they are, by strides.
+-- The bytes that the ISO-2022-JP decoder returns unchanged, by strides.
 use Rattle.std.proofs.Common.{◌≡◌, ◌≢◌, ℕ, ◌+◌, ◌-◌, ◌<◌, ◌≤◌, Bool, true, false, ◌||◌, eqb, leb, w8, bit_or, replicate, inl, inr, List, length, length-drop, length-take-le, take, drop, slice_index, sym, ap, arith, subst, ◌∙◌}
 use Rattle.std.proofs.lemmas.Bool.{cases_lt}
 use Rattle.std.proofs.lemmas.Bool.Decides.{nat_tests}
@@ -14,14 +14,14 @@ use Rattle.encoding_kernels.proofs.Latin.AsciiLemmas.{Each-at, front_before, beh
 abbrev pub IsOwn : ℕ → Type 0
 IsOwn b = (b < 0x80) × (b ≢ 0x1B) × (b ≢ 0x0E) × (b ≢ 0x0F)
 
--- each byte before a place is such a one
+-- each byte before an index is such a one
 abbrev pub AreOwn : List ℕ → ℕ → Type 0
 AreOwn xs place = (k : ℕ) → k < place → IsOwn (slice_index xs k)
 
 zero_own : IsOwn 0
 zero_own = (omega arith, λ e. omega arith, λ e. omega arith, λ e. omega arith)
 
--- what a lane is asked
+-- the lane predicate
 abbrev pub is_other : ℕ → Bool
 is_other b = (leb 0x80 b || eqb b 0x1B) || (eqb b 0x0E || eqb b 0x0F)
 
@@ -42,12 +42,12 @@ own b e = (grind (arith, nat_tests), λ h. grind (arith, nat_tests), λ h. grind
 other : (b : ℕ) → is_other b ≡ true → ¬ (IsOwn b)
 other b e h = grind (arith, nat_tests)
 
--- the first lane that passes ends the front
+-- the first lane that passes ends the prefix
 pub run_of_own : (xs : List ℕ) (n run : ℕ) → length xs ≡ n → IsFirstSet n run (λ k. is_other (slice_index xs k)) → IsLongestFront IsIso2022JpAscii xs run
 run_of_own xs n run long first =
     front_before IsOwn zero_own xs run (omega (arith, first.within)) (λ k l. own _ (first.before k l)) (λ short. other _ (first.found (omega arith)))
 
--- behind bytes that are such ones, a stride's front goes on
+-- after bytes that are such ones, the prefix of a stride follows
 module _ (at n run : ℕ) (xs stride : List ℕ) (is : stride ≡ take n (drop at xs)) (within : at + n ≤ length xs) (before : AreOwn xs at) (front : IsLongestFront IsIso2022JpAscii stride run) where
   long : length stride ≡ n
   long = ap length is ∙ length-take-le n (drop at xs) (omega (arith, within, length-drop at xs))

@@ -1,4 +1,4 @@
--- Conversions from and to Latin1: the longest fitting front of bytes, and the bits of characters.
+-- Conversions from and to Latin1: the longest fitting prefix of bytes, and the bits of characters.
 use Rattle.std.proofs.Common.{◌≡◌, ℕ, zero, suc, ◌+◌, ◌-◌, ◌*◌, ◌/◌, ◌%◌, ◌<◌, ◌≤◌, ◌⊎◌, inl, inr, List, [], ◌∷◌, ◌++◌, length, take, drop, take-add, set, slice_index, map, bit_and, bit_or, encode_utf8, encode_utf8_all, IsUtf8, refl, sym, ap, ◌∙◌, arith, subst}
 use Rattle.std.specs.List.{flat_map}
 use Rattle.std.specs.Str.{chars, IsAscii}
@@ -25,7 +25,7 @@ singles : (xs : List ℕ) → length (flat_map (λ (b : ℕ). b ∷ []) xs) ≡ 
 singles [] = refl
 singles (x ∷ xs) = omega (arith, singles xs)
 
--- the bytes from i on don't fit any more
+-- the bytes from i on don't fit
 pub latin1_fits_stop : (xs : List ℕ) (i room : ℕ) → i < length xs → length (encode_utf8_all (take i xs)) ≤ room
     → room < length (encode_utf8_all (take i xs)) + length (encode_utf8 (slice_index xs i))
     → FitsLongest (λ b. b ∷ []) encode_utf8 xs room i (encode_utf8_all (take i xs))
@@ -67,7 +67,7 @@ latin1_bytes_two c l h =
     let last : bit_or 0x80 (bit_and c 0x3F) ≡ 128 + c % 64 = grind (arith, common_steps) in
     two c l (omega arith) ∙ rw (lead, last) refl
 
--- with two bytes of room for each byte the longest front that fits is all
+-- with two bytes of space for each byte the longest prefix that fits is all
 pub latin1_fits_twice : (xs : List ℕ) (room read : ℕ) (out : List ℕ) → ((i : ℕ) → slice_index xs i < 256) → 2 * length xs ≤ room
     → FitsLongest (λ b. b ∷ []) encode_utf8 xs room read out → out ≡ encode_utf8_all xs
 latin1_fits_twice xs room read out h l f =
@@ -88,7 +88,7 @@ or_low n l = grind (arith, common_steps)
 or_high : (n : ℕ) → n < 64 → bit_or 192 n ≡ 192 + n
 or_high n l = grind (arith, common_steps)
 
--- the two bits that the first byte has for the scalar value, and the six of the second
+-- the scalar value's two bits in the first byte, and its six in the second
 pub character_of_two : (a b c : ℕ) → 128 ≤ c → c < 256 → a ≡ 192 + c / 64 → b ≡ 128 + c % 64 → bit_or (a * 64 % 256) (bit_and b 63) ≡ c
 character_of_two a b c l h e f =
     let six : bit_and b 63 ≡ c % 64 = omega (arith, low_six b) in
@@ -101,7 +101,7 @@ pub WritesFront_low : (old new xs : List ℕ) (n b : ℕ) → WritesFront old ne
     → WritesFront old (set new n b) (n + 1) (map (λ (unit : ℕ). unit % 0x100) (take (n + 1) xs))
 WritesFront_low old new xs n b w l m e = rw (map_more (λ (unit : ℕ). unit % 0x100) xs n 0 l, sym e) (WritesFront_push old new n _ b w m)
 
--- so many more units at once
+-- m more units at once
 pub WritesFront_low_block : (old new after xs : List ℕ) (n m : ℕ) → WritesFront old new n (map (λ (unit : ℕ). unit % 0x100) (take n xs)) → n + m ≤ length xs → n + m ≤ length new
     → after ≡ take n new ++ (map (λ (unit : ℕ). unit % 0x100) (take m (drop n xs)) ++ drop (n + m) new) → WritesFront old after (n + m) (map (λ (unit : ℕ). unit % 0x100) (take (n + m) xs))
 WritesFront_low_block old new after xs n m w l k put =
@@ -109,7 +109,7 @@ WritesFront_low_block old new after xs n m w l k put =
     let short : length (map low (take m (drop n xs))) ≡ m = length-map (take m (drop n xs)) low ∙ length-take-le m (drop n xs) (omega (arith, length-drop n xs)) in
     rw (take-add n m xs, map-append low (take n xs) (take m (drop n xs))) (WritesFront_put old new after n m (map low (take n xs)) (map low (take m (drop n xs))) w (sym short) k put)
 
--- ---- behind an ASCII front, which is its own text
+-- ---- after an ASCII prefix, which is its own UTF-8
 pub ascii_utf8_front : (bs : List ℕ) (n : ℕ) → IsAscii (take n bs) → take n bs ++ encode_utf8_all (take (length bs - n) (drop n bs)) ≡ encode_utf8_all bs
 ascii_utf8_front bs n h =
     let rest : encode_utf8_all (take (length bs - n) (drop n bs)) ≡ encode_utf8_all (drop n bs) = ap encode_utf8_all (take_rest bs n) in
@@ -131,7 +131,7 @@ ascii_chars_front bs n h =
     let whole = chars-append (take n bs) (drop n bs) (IsUtf8-from_ascii (take n bs) h) in
     rw rest (ap (λ xs. xs ++ chars (drop n bs)) (sym front) ∙ sym whole ∙ ap chars (take-append-drop n bs))
 
--- a front was copied, and a call wrote behind it
+-- a prefix was copied, and a call wrote after it
 pub written_behind : (bs old front sub : List ℕ) (n m : ℕ) (more : List ℕ) → n ≤ length bs → n ≤ length old → front ≡ take n bs
     → WritesFront (take (length (front ++ drop n old) - n) (drop n (front ++ drop n old))) sub m more
     → WritesFront old (put_mid n (length (front ++ drop n old) - n) (front ++ drop n old) sub) (n + m) (take n bs ++ more)
@@ -145,7 +145,7 @@ pub IsUtf8-bytes : (xs : List ℕ) → ((i : ℕ) → slice_index xs i < 256) �
 IsUtf8-bytes xs h = (xs, (scalars_of_latin1 xs (λ i. omega (arith, h i)), refl))
 
 -- ---- ASCII within Latin1 text
--- each of so many next bytes is ASCII, and a character
+-- each of the next n bytes is ASCII, and a character
 pub ascii_run : (src cs : List ℕ) (i j n : ℕ) → IsLatin1 cs → drop i src ≡ encode_utf8_all (drop j cs) → j ≤ length cs → i + n ≤ length src → ((k : ℕ) → k < n → slice_index src (i + k) < 0x80)
     → (j + n ≤ length cs) × (take n (drop i src) ≡ take n (drop j cs)) × (drop (i + n) src ≡ encode_utf8_all (drop (j + n) cs))
 ascii_run src cs i j zero low rest within room ascii =
@@ -163,7 +163,7 @@ ascii_run src cs i j (suc n) low rest within room ascii =
     ∙ sym (take_more (drop j cs) n 0 (omega (arith, next.0, length-drop j cs))) in
     (omega (arith, next.0), subst (λ m. take m (drop i src) ≡ take m (drop j cs)) one bytes, ap (λ k. drop k src) (sym at) ∙ next.2 ∙ ap (λ k. encode_utf8_all (drop k cs)) to)
 
--- from the beginning on
+-- from the start on
 pub ascii_front : (src cs : List ℕ) (n : ℕ) → IsLatin1 cs → src ≡ encode_utf8_all cs → n ≤ length src → BelowUpTo 0x80 src n
     → (take n src ≡ take n cs) × (drop n src ≡ encode_utf8_all (drop n cs))
 ascii_front src cs n low text within ascii =
@@ -171,7 +171,7 @@ ascii_front src cs n low text within ascii =
     let run = ascii_run src cs 0 0 n low text (omega arith) (omega arith) (λ k l. let same : 0 + k ≡ k = omega arith in rw same (ascii k l)) in
     (run.1, ap (λ k. drop k src) (sym zero_more) ∙ run.2 ∙ ap (λ k. encode_utf8_all (drop k cs)) zero_more)
 
--- and was copied behind the characters before it
+-- and was copied after the characters before it
 module _ (src cs old new sub : List ℕ) (i j n : ℕ) (low : IsLatin1 cs) (rest : drop i src ≡ encode_utf8_all (drop j cs)) (w : WritesFront old new j (take j cs))
     (within : n ≤ length (take (length src - i) (drop i src))) (ascii : BelowUpTo 0x80 (take (length src - i) (drop i src)) n)
     (v : WritesFront (take (length new - j) (drop j new)) sub n (take n (take (length src - i) (drop i src)))) where
@@ -183,8 +183,8 @@ module _ (src cs old new sub : List ℕ) (i j n : ℕ) (low : IsLatin1 cs) (rest
       let text = ap (λ xs. take j cs ++ take n xs) (take_rest src i) ∙ ap (λ xs. take j cs ++ xs) part.1 ∙ sym (take-add j n cs) in
       (part.2, WritesFront-same _ _ _ _ _ _ (WritesFront_after old new j (take j cs) sub n _ w v) refl text)
 
--- ---- blocks of sixteen bytes of Latin1 text
--- no two bytes that begin two stand side by side
+-- ---- blocks of 16 bytes of Latin1 text
+-- no two bytes in a row start a character of two bytes
 pub begins_apart : (src cs : List ℕ) (i j : ℕ) → IsLatin1 cs → drop i src ≡ encode_utf8_all (drop j cs) → i + 16 ≤ length src
     → (k : ℕ) → (slice_index (chunk i 16 src) k < 0xC0) ⊎ (slice_index (chunk i 16 src) (k + 1) < 0xC0)
 begins_apart src cs i j low rest room k = elim (cases_lt k 15) [

@@ -1,4 +1,5 @@
--- Converting character by character, and that whole characters up to one that doesn't fit are the longest front that fits, both ways.
+-- Converting character by character: whole characters up to one that doesn't fit are the longest prefix that fits, and
+-- the converse.
 use Rattle.std.proofs.Common.{◌≡◌, ℕ, zero, suc, ◌+◌, ◌-◌, ◌<◌, ◌≤◌, ◌⊎◌, inl, inr, true, List, [], ◌∷◌, ◌++◌, length, take, drop, encode_utf8, encode_utf8_all, refl, sym, ap, ◌∙◌, arith, subst, take-add}
 use lib.Utf8.{scalar}
 use Rattle.std.specs.Char.{IsScalar}
@@ -21,7 +22,7 @@ use Rattle.encoding_definitions.proofs.LongestFronts.FittingLemmas.{flat_map_pus
 use Rattle.encoding_definitions.proofs.LongestFronts.Utf8Lemmas.{IsLongestFront-utf8, no_character_after}
 use Rattle.encoding_definitions.proofs.Decomposition.DecompositionLemmas.{has_parts}
 
--- a list, cut behind its first items
+-- a list, cut after its first items
 pub cut_behind : {X : Type 0} (xs front back : List X) → xs ≡ front ++ back → (length front ≤ length xs) × (take (length front) xs ≡ front) × (drop (length front) xs ≡ back)
 cut_behind xs front back e = (
   omega (arith, ap length e, length-append front back),
@@ -29,7 +30,7 @@ cut_behind xs front back e = (
   ap (drop (length front)) e ∙ drop_at front back (length front) refl,
 )
 
--- the characters that begin bytes, up to where none does
+-- the characters at the start of bytes, up to a rest that starts with none
 pub leading : (bs : List ℕ) (ps : List Part) → ArePartsOf bs ps → (cs : List ℕ) × (rest : List ℕ) × (all_scalars cs ≡ true) × (bs ≡ encode_utf8_all cs ++ rest) × BeginsWithNoCharacter rest
 leading bs [] e = ([], [], refl, e, λ front rest f s. omega (arith, ap length f, length-append front rest, IsSequence-some front s))
 leading bs (Character c ∷ ps) (after, (s, e), more) =
@@ -67,7 +68,7 @@ module _ {A : Type 0} (encode : ℕ → List A) where
   pub converted_room : {src : List ℕ} {old new : List A} {read written : ℕ} → Converted encode src old new read written → written ≤ length new
   converted_room {src} {old} {new} {read} {written} d = omega (arith, d.writes.fits, WritesFront-length old new written (flat_map encode d.scalars) d.writes)
 
-  -- where no character that fits begins what is left
+  -- the rest starts with no character that fits
   converted_stops : {src : List ℕ} {old new : List A} {read written : ℕ} → Converted encode src old new read written → (FittingBegins encode (drop read src) (length old - written) → ⊥)
       → ConvertsFront encode src old new read written
   converted_stops d n = record { scalars = d.scalars; are_scalars = d.are_scalars; within = d.within; spelled = d.spelled; writes = d.writes; stops = n }
@@ -81,8 +82,8 @@ module _ {A : Type 0} (encode : ℕ → List A) where
   converted_full src old new read written c rest d s e l =
       converted_stops d (λ (b, more, t, f, g). let same = encode_same b c more rest (sym f ∙ e) in omega (arith, l, g, ap (λ k. length (encode k)) same.0))
 
-  -- ---- the longest front that fits
-  -- all the characters of the well-formed front: those that were read, and more
+  -- ---- the longest prefix that fits
+  -- all the characters of the well-formed prefix: those that were read, and more
   whole_text : (src cs : List ℕ) (read : ℕ) → all_scalars cs ≡ true → read ≤ length src → encode_utf8_all cs ≡ take read src
       → (more : List ℕ) × IsText src (cs ++ more) × (rest : List ℕ) × (all_scalars more ≡ true) × (drop read src ≡ encode_utf8_all more ++ rest)
   whole_text src cs read h within e =
@@ -129,7 +130,7 @@ module _ {A : Type 0} (encode : ℕ → List A) where
         writes = d.writes;
       }
 
-  -- ---- and back: where the longest front that fits ends, no character that fits begins what is left
+  -- ---- the converse: no character that fits follows the longest prefix that fits
   scalars_split : (n : ℕ) (cs : List ℕ) → all_scalars cs ≡ true → (all_scalars (take n cs) ≡ true) × (all_scalars (drop n cs) ≡ true)
   scalars_split zero cs h = (refl, h)
   scalars_split (suc n) [] h = (refl, refl)
@@ -172,7 +173,7 @@ module _ {A : Type 0} (encode : ℕ → List A) where
             (subst (λ xs. FittingBegins encode xs (length old - written)) back f);
       }
 
--- ---- to UTF-8 itself: the front that is as long as the room
+-- ---- to UTF-8 itself: the prefix whose bytes fit
 pub copied_front : (src old new : List ℕ) (room n : ℕ) → room ≤ length src → room ≤ length old → (length src ≤ room) ⊎ (length old ≤ room) → IsLongestFront IsUtf8 (take room src) n
     → new ≡ take n src ++ drop n old → ConvertsFront encode_utf8 src old new n n
 copied_front src old new room n short within all l e =
@@ -201,7 +202,7 @@ copied_front src old new room n short within all l e =
         let longer = l.longest (n + k) (omega (arith, length-take room src, fits, short)) (subst IsUtf8 (sym (take-take (n + k) room src fits)) more) in
         omega arith
 
--- ---- a call that didn't fit left the destination as it was
+-- ---- a call that didn't fit left the destination unchanged
 pub converted_unfit : {A : Type 0} (encode : ℕ → List A) (src : List ℕ) (old new sub : List A) (read written c n : ℕ) → Converted encode src old new read written → IsScalar c
     → encode_utf8 c ≡ take n (drop read src) → sub ≡ take (length new - written) (drop written new) → length (take (length new - written) (drop written new)) < length (encode c)
     → ConvertsFront encode src old (put_mid written (length new - written) new sub) read written

@@ -1,4 +1,4 @@
--- Longest fronts that may be the whole list, and the ASCII front before the first other unit.
+-- Longest prefixes that may be the whole list, and the ASCII prefix before the first other unit.
 use Rattle.std.proofs.Common.{◌≡◌, ℕ, ◌≤◌, List, length, take, eqb, sym, ◌∙◌, arith, subst, Option, Some, None}
 use Rattle.std.specs.Prelude.{IsTrue, ◌↔◌}
 use Rattle.std.specs.Str.{IsAscii}
@@ -7,14 +7,14 @@ use Rattle.std.proofs.lemmas.List.{take_all}
 use Rattle.encoding_definitions.specs.Ascii.{IsFirstOther, front_length}
 use Rattle.encoding_definitions.specs.Fronts.{IsLongestFront, WritesFront}
 
--- the longest front is as long as the list exactly if the whole is of the kind
+-- the longest prefix is as long as the list if and only if the whole is of the kind
 pub whole_by_length : {A : Type 0} (K : List A → Type 0) (xs : List A) (n : ℕ) → IsLongestFront K xs n → IsTrue (eqb n (length xs)) ↔ K xs
 whole_by_length K xs n f = (
   λ e. subst K (take_all n xs (omega (arith, eqb-true n (length xs) e))) f.kind,
   λ k. eq-eqb n (length xs) (omega (arith, f.within, f.longest (length xs) (omega arith) (subst K (sym (take_all (length xs) xs (omega arith))) k))),
 )
 
--- over no less room, the longest ASCII front ends at the first other unit
+-- if the list fits, its longest ASCII prefix ends at the first other unit
 pub front_of_first : (xs : List ℕ) (room : ℕ) (first : Option (ℕ × ℕ)) → length xs ≤ room → IsFirstOther (take room xs) first → IsLongestFront IsAscii xs (front_length xs first)
 front_of_first xs room None l ascii = record {
   within = omega arith;
@@ -23,6 +23,6 @@ front_of_first xs room None l ascii = record {
 }
 front_of_first xs room (Some (unit, place)) l found = subst (λ ys. IsLongestFront IsAscii ys place) (take_all room xs l) found.1
 
--- over no less room, all units are written
+-- if the list fits, all units are written
 pub written_of_room : (xs old new : List ℕ) (room : ℕ) → length xs ≤ room → WritesFront old new (length (take room xs)) (take (length (take room xs)) xs) → WritesFront old new (length xs) (take (length xs) xs)
 written_of_room xs old new room l w = subst (λ ys. WritesFront old new (length ys) (take (length ys) xs)) (take_all room xs l) w

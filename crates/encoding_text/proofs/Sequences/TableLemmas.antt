@@ -41,7 +41,7 @@ common_is a b l h s =
     let f : entry_at (a + 0x80) ≡ lead_entry ((a + 0x80) - 0x80) = grind (arith, nat_tests) in
     rw (entry_is b (omega arith), entry_is (a + 0x80) (omega arith), e, f, back) refl
 
--- none where b may stand second, and else one above the two lowest
+-- none if b may follow a, and otherwise one above the two lowest
 abbrev Tells : ℕ → ℕ → Type 0
 Tells a b = ((common a b ≡ 0) × IsTrue (is_second a b)) ⊎ ((4 ≤ common a b) × (IsTrue (is_second a b) → ⊥))
 
@@ -77,7 +77,7 @@ module _ (a b c : ℕ) (s : b < 256) (t : c < 256) where
   pub three_never : 0x80 ≤ a → a ≤ 0xC1 → of_three UTF8_DATA.table a b c ≢ 2
   three_never l h = rw (common_is a b l (omega arith) s) (or_two (common a b) (c / 64) (some_low a b h s))
 
--- ---- the formula for four bytes: the two high bits of the fourth stand above the others
+-- ---- the formula for four bytes: the two high bits of the fourth are above the others
 high_bits : (m d : ℕ) → m < 256 → d < 256 → bit_or m (bit_and d 0xC0 * 2 ^ 2) ≡ d / 64 * 256 + m
 high_bits m d l h =
     let high : bit_and d 0xC0 ≡ (d / 64) % 4 * 64 = and_high d 2 6 in

@@ -12,7 +12,7 @@ loop-at-init c =
     let ascii = ascii_text c.args.buffer.now c.ascii_valid_up_to-at.result front.within (below_front _ _ front) in
     record { within = front.within; text = ascii.0; none = ascii.1 }
 
--- a text at the front of a piece is no longer than it
+-- a text at the start of a piece is no longer than it
 inside : (m n : ℕ) (bs : List ℕ) → IsLongestFront IsUtf8 (take m bs) n → n ≤ m
 inside m n bs f = omega (arith, f.within, length-take m bs)
 

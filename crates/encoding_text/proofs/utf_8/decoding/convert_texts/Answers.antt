@@ -9,7 +9,7 @@ use Rattle.encoding_text.specs.Steps.Converting.{Converted}
 use Rattle.encoding_text.proofs.LongestFronts.ConvertingLemmas.{converted_room, converted_text}
 use Rattle.encoding_text.proofs.utf_8.decoding.convert_texts.Goals as goal
 
--- a piece of what is left, and the text at its front, are sliced
+-- a piece of what is left, and the text at its start, are sliced
 text_behind : (src old new sub : List ℕ) (read written room valid units : ℕ) → Converted encode_utf16 src old new read written → IsLongestFront IsUtf8 (take (read + room - read) (drop read src)) valid
     → WritesFront (take (length new - written) (drop written new)) sub units (flat_map encode_utf16 (chars (take (read + valid - read) (drop read src))))
     → Converted encode_utf16 src old (put_mid written (length new - written) new sub) (read + valid) (written + units)
