@@ -58,7 +58,7 @@ pub record IsBorrowedCall (p src : List ℕ) (last : Bool) (returned : Piece) (r
   pub pending : IsPending q
   pub answer : AnswersBorrowed p src last returned read q
 
--- The numbers of the queries: the length of a destination for the output of n bytes, after `pending` pending ones.
+-- The numbers of the queries: the length of a destination for n bytes that follow `pending` pending ones.
 abbrev pub utf16_room : ℕ → ℕ → ℕ
 utf16_room n pending = n + 1 + pending
 

@@ -11,7 +11,7 @@ HasOneAnswer {A} encode need p src room last = (result : DecoderResult) × (read
     × ((result' : DecoderResult) (read' : ℕ) (out' : List A) (q' : List ℕ) → IsCall encode need p src room last result' read' out' q'
     → (result ≡ result') × (read ≡ read') × (out ≡ out') × (q ≡ q'))
 
--- the two pieces are the same: two texts if their bytes are, in different memory or not
+-- the two pieces are equal: two texts if they have the same bytes, at any addresses
 abbrev pub SayTheSame : Piece → Piece → Type 0
 SayTheSame (Text t) (Text u) = t.now ≡ u.now
 SayTheSame (Char c) (Char d) = c ≡ d

@@ -109,7 +109,7 @@ pub fn convert_latin1_to_utf8(src: &[u8], dst: &mut [u8]) -> usize
     written
 }
 
-/// Returns how many of 16 bytes are before a character that is cut at their end, by the last of them.
+/// Returns how many of 16 bytes come before a character that is cut at their end. `last` is the last of them.
 #[inline(always)]
 fn whole_length(last: u8) -> usize
     ensures { ((result ≡ 15) × (0xC0 ≤ last)) ⊎ ((result ≡ 16) × (last < 0xC0)) }

@@ -42,7 +42,7 @@ fn next_lone(units: &[u16], from: usize) -> usize
     from + utf16_valid_up_to(&units[from..])
 }
 
-/// Replaces each unpaired surrogate by U+FFFD. All other code units are unchanged.
+/// Replaces each unpaired surrogate with U+FFFD. All other code units are unchanged.
 pub fn ensure_utf16_validity(buffer: &mut [u16])
     ensures { AreRepairedUnits buffer.old buffer.new }
 {
