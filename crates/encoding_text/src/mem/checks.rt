@@ -71,8 +71,8 @@ pub fn utf8_latin1_up_to(buffer: &[u8]) -> usize
     longest_latin1(buffer, run)
 }
 
-/// Returns the length of an ASCII prefix whose first `from` bytes are known to be ASCII. Searches on from the start or
-/// after a whole stride; at any other `from` the prefix ends.
+/// Returns the length of an ASCII prefix whose first `from` bytes are known to be ASCII. Searches further if
+/// `from` is 0 or a whole stride, and otherwise returns `from`.
 #[inline(always)]
 fn ascii_front(bytes: &[u8], from: usize) -> usize
     requires { (from ≤ length bytes.now) × BelowUpTo 0x80 bytes.now from }
