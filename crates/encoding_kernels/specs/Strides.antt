@@ -1,25 +1,26 @@
--- Parts of a list whose units are below a bound.
+-- Ranges of a list whose units are below a bound.
 use Rattle.std.specs.Prelude.{ℕ, ◌+◌, ◌<◌, ◌≤◌, List, length, take, slice_index}
 use Rattle.encoding_definitions.specs.Fronts.{WritesFront}
 use Rattle.encoding_kernels.specs.Places.{PassBetween, IsRun}
 
--- each unit from one place up to another is below the bound
+-- each unit in `from..to` is below the bound
 abbrev pub BelowBetween : ℕ → List ℕ → ℕ → ℕ → Type 0
 BelowBetween bound xs = PassBetween (λ k. slice_index xs k < bound)
 
--- each of the n units from a place on is below the bound
+-- each of the n units from `at` on is below the bound
 abbrev pub AllBelow : ℕ → List ℕ → ℕ → ℕ → Type 0
 AllBelow bound xs at n = BelowBetween bound xs at (at + n)
 
--- each unit before the place is below the bound
+-- each unit before the index is below the bound
 abbrev pub BelowUpTo : ℕ → List ℕ → ℕ → Type 0
 BelowUpTo bound xs place = (k : ℕ) → k < place → slice_index xs k < bound
 
--- of the n units from a place on, so many first ones are below the bound, and the next, if there is one, isn't
+-- `IsRun` for the units below the bound
 abbrev pub IsRunBelow : ℕ → List ℕ → ℕ → ℕ → ℕ → Type 0
 IsRunBelow bound xs = IsRun (λ k. slice_index xs k < bound)
 
--- the units from one place up to another, numbers of them, are ASCII and copied to the same places: a front that is ASCII and written up to the one is so up to the other
+-- the units in `from..to`, as `numbers`, are ASCII and copied to the same indices: if a prefix up to `from` is ASCII
+-- and written, so is the one up to `to`
 pub record CopiesAscii {A : Type 0} (numbers : List ℕ) (src old new : List A) (from to : ℕ) : Type 0 where
   pub within : (to ≤ length src) × (to ≤ length old)
   pub ascii : BelowUpTo 0x80 numbers from → BelowUpTo 0x80 numbers to

@@ -1,4 +1,4 @@
--- The code units of well-formed UTF-8 by its bytes: which bytes a code unit ends with, and which unit that is.
+-- The code units of well-formed UTF-8 by its bytes: with which bytes a code unit ends, and which unit that is.
 use Rattle.std.specs.Prelude.{◌≡◌, ℕ, zero, suc, ◌+◌, ◌*◌, ◌/◌, ◌%◌, ◌<◌, ◌≤◌, Bool, true, ◌&&◌, if◌then◌else◌, nat_lt, nat_le, ◌==◌, List, [], ◌∷◌, ◌++◌, length, take, drop, replicate, slice_index, bit_or, encode_utf8_all}
 use Rattle.std.specs.Str.{all_scalars, IsUtf8, chars}
 use Rattle.std.specs.Char.Escape.{encode_utf16}
@@ -11,16 +11,16 @@ keep [] us = []
 keep (m ∷ ms) [] = []
 keep (m ∷ ms) (u ∷ us) = (if m then u ∷ [] else []) ++ keep ms us
 
--- of so many places from one on, those whose bit is set in the mask
+-- of the n indices from `at` on, those whose bit is set in the mask
 unfoldable pub places_from : ℕ → ℕ → ℕ → List ℕ
 places_from zero at mask = []
 places_from (suc n) at mask = (if mask % 2 == 1 then at ∷ [] else []) ++ places_from n (at + 1) (mask / 2)
 
--- the places of eight lanes whose bit is set, and zeros behind them
+-- the indices of eight lanes whose bit is set, followed by zeros
 unfoldable pub compressed_places : ℕ → List ℕ
 compressed_places mask = take 8 (places_from 8 0 mask ++ replicate 8 0)
 
--- the two bytes of each of these lanes
+-- the indices of the two bytes of each of these lanes
 unfoldable pub bytes_at : List ℕ → List ℕ
 bytes_at [] = []
 bytes_at (k ∷ ks) = (2 * k) ∷ (2 * k + 1) ∷ bytes_at ks
@@ -28,14 +28,15 @@ bytes_at (k ∷ ks) = (2 * k) ∷ (2 * k + 1) ∷ bytes_at ks
 unfoldable pub byte_places : ℕ → List ℕ
 byte_places mask = bytes_at (compressed_places mask)
 
--- the elements whose mark is set stand in front, so many; of the rest the first `reach` places may have changed
+-- the `count` elements whose mark is set are written at the start; of the rest, only indices below `reach` may have
+-- changed
 pub record WritesCompressed (marks : List Bool) (us old new : List ℕ) (count reach : ℕ) : Type 0 where
   pub counted : count ≡ length (keep marks us)
   pub placed : take count new ≡ keep marks us
   pub behind : drop reach new ≡ drop reach old
 
 -- ---- the code unit that ends with a byte
--- whether one ends with the byte b behind a
+-- whether one ends with the byte b after a
 abbrev pub ends_unit : ℕ → ℕ → Bool
 ends_unit a b = nat_lt b 0xC0 && nat_lt a 0xE0
 
@@ -43,22 +44,22 @@ ends_unit a b = nat_lt b 0xC0 && nat_lt a 0xE0
 abbrev pub low_bits : ℕ → ℕ → ℕ
 low_bits a b = a % 64 * 64 + b % 64
 
--- the upper byte of the unit that ends behind y and a, where it is no surrogate
+-- the upper byte of the unit that ends after y and a, if it is no surrogate
 abbrev pub upper_of : ℕ → ℕ → ℕ
 upper_of y a = (if nat_le 0xE0 y then y % 16 * 16 else 0) + a % 64 / 4
 
--- the unit that ends with the byte b behind x, y and a: a sequence of four ends its two units with its last two bytes
+-- the unit that ends with the byte b after x, y and a: a sequence of four ends its two units with its last two bytes
 abbrev pub unit_at : ℕ → ℕ → ℕ → ℕ → ℕ
 unit_at x y a b = if nat_lt b 0x80 then b
     else (if nat_le 0xF0 y then 0xD7C0 + (y % 8 * 256 + low_bits a b / 16)
     else (if nat_le 0xF0 x then bit_or (upper_of y a) 0xDC * 0x100 + low_bits a b % 0x100
     else (if nat_le 0xE0 y then y % 16 * 4096 + low_bits a b else low_bits a b)))
 
--- the same of the byte at a place, with zeros before the first
+-- the same for the byte at index k, with zeros before the first
 abbrev pub unit_lane : List ℕ → ℕ → ℕ
 unit_lane bs k = unit_at (slice_index (0 ∷ 0 ∷ 0 ∷ bs) k) (slice_index (0 ∷ 0 ∷ bs) k) (slice_index (0 ∷ bs) k) (slice_index bs k)
 
--- of each byte, behind x, y and a
+-- the same for each byte, after x, y and a
 unfoldable pub units_behind : ℕ → ℕ → ℕ → List ℕ → List ℕ
 units_behind x y a [] = []
 units_behind x y a (b ∷ bs) = unit_at x y a b ∷ units_behind y a b bs
@@ -67,7 +68,7 @@ unfoldable pub ends_behind : ℕ → List ℕ → List Bool
 ends_behind a [] = []
 ends_behind a (b ∷ bs) = ends_unit a b ∷ ends_behind b bs
 
--- a character of three bytes begins with the byte, where one begins
+-- if a character begins with the byte, it has three bytes
 abbrev pub BeginsThree : ℕ → Type 0
 BeginsThree b = (0xE0 ≤ b) × (b < 0xF0)
 
@@ -76,12 +77,12 @@ abbrev pub triple_unit : ℕ → ℕ → ℕ → ℕ
 triple_unit a b c = a % 16 * 4096 + low_bits b c
 
 -- ---- text
--- how many code units the text has
+-- the number of code units in the UTF-16 of the text
 unfoldable pub units_in : List ℕ → ℕ
 units_in text = length (flat_map encode_utf16 (chars text))
 
--- Of the text some first characters are read, n bytes, and their code units written in front, so many; of the
--- destination the first `reach` places may have changed, and no other.
+-- The first characters of the text, `read` bytes, are converted to `written` code units at the start of the
+-- destination. Of the rest of the destination only indices below `reach` may have changed.
 pub record WritesUtf16 (src old new : List ℕ) (read written reach : ℕ) : Type 0 where
   pub taken : List ℕ
   pub are_scalars : all_scalars taken ≡ true

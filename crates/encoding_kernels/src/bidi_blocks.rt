@@ -1,4 +1,4 @@
-//! Right-to-left characters by blocks: that none begins in a block is seen by one test of vectors.
+//! Right-to-left characters by blocks: one test of vectors shows that none begins in a block.
 ghost use Rattle.std.specs.Prelude.{◌≡◌, false, ◌+◌, ◌-◌, ◌≤◌, length, slice_index};
 ghost use Rattle.encoding_kernels.specs.BidiBlocks.{second_end, mark_lead, may_begin, IsClear, NoneStands, NoneRightToLeft, may_be_right_to_left};
 ghost use Rattle.encoding_kernels.specs.Lanes.{HasLanes};
@@ -14,11 +14,12 @@ pub const FIRST_UNIT: u16 = 0x0590;
 /// The first byte of U+0580 to U+05BF. Lesser characters begin with lesser bytes.
 pub const FIRST_LEAD: u8 = 0xD6;
 
-/// The first byte of U+2000 to U+2FFF, general punctuation among them, in which the right-to-left marks are U+200F,
+/// The first byte of U+2000 to U+2FFF, which include general punctuation. The right-to-left marks in it are U+200F,
 /// U+202B, U+202E and U+2067.
 const PUNCTUATION_LEAD: u8 = 0xE2;
 
-/// The first byte of a right-to-left mark that ends with the lane; else 0xF0, with which others begin in any case.
+/// Returns, for each lane, the first byte of a right-to-left mark if one may end with it; else 0xF0, with which other
+/// right-to-left characters begin in any case.
 #[inline(always)]
 fn mark_leads<const N: usize>(third: Simd<u8, N>) -> Simd<u8, N>
     ensures { HasLanes N result (λ k. mark_lead (slice_index third.entry k)) }
@@ -30,7 +31,8 @@ fn mark_leads<const N: usize>(third: Simd<u8, N>) -> Simd<u8, N>
     ends_mark.select(Simd::splat(PUNCTUATION_LEAD), Simd::splat(0xF0))
 }
 
-/// Below this number is the second byte of a right-to-left character that begins with the lane; 0 where there is none.
+/// Returns, for each lane, an exclusive bound of the second byte of the right-to-left characters that begin with it; 0
+/// if there are none.
 #[inline(always)]
 fn second_ends<const N: usize>(first: Simd<u8, N>, third: Simd<u8, N>) -> Simd<u8, N>
     ensures { HasLanes N result (λ k. second_end (slice_index first.entry k) (mark_lead (slice_index third.entry k))) }
@@ -52,7 +54,7 @@ fn second_ends<const N: usize>(first: Simd<u8, N>, third: Simd<u8, N>) -> Simd<u
             .select(Simd::splat(0x82), none)
 }
 
-/// Places of bytes with which no right-to-left character begins: those of lesser characters and of punctuation.
+/// Indices of bytes that begin no right-to-left character: those of lesser characters and of punctuation.
 #[derive(Drop)]
 struct LowBytes<'a> {
     bytes: &'a [u8],
@@ -74,7 +76,7 @@ impl<'a, const N: usize> Places<N> for LowBytes<'a> {
     }
 }
 
-/// Places of bytes at which no right-to-left character can stand.
+/// Indices of bytes at which no right-to-left character can begin.
 #[derive(Drop)]
 struct ClearBytes<'a> {
     bytes: &'a [u8],
@@ -95,7 +97,8 @@ impl<'a, const N: usize> Places<N> for ClearBytes<'a> {
     }
 }
 
-/// Goes on from a place by blocks at which no right-to-left character can stand, and returns where that ends.
+/// Skips blocks of bytes from `from` on in which no right-to-left character can begin, and returns the index that it
+/// reaches.
 pub fn skip_clear(bytes: &[u8], from: usize) -> usize
     requires { from ≤ length bytes.now }
     ensures within { (from ≤ result) × (result ≤ length bytes.now) }
@@ -105,7 +108,7 @@ pub fn skip_clear(bytes: &[u8], from: usize) -> usize
     let low = LowBytes { bytes };
     let mut at = from;
     while bytes.len() - at >= BLOCK + 2 && all::<BLOCK, BLOCK, _>(&test, at) {
-        // of the same bytes, whose vectors are at hand
+        // the same bytes, whose vectors are already loaded
         let is_low = all::<BLOCK, BLOCK, _>(&low, at);
         at += BLOCK;
         if is_low {
@@ -118,7 +121,8 @@ pub fn skip_clear(bytes: &[u8], from: usize) -> usize
     reach::<STRIDE, STRIDE, _>(&test, at, bytes.len() - 2)
 }
 
-/// Places of code units that aren't right-to-left, by ranges and marks that hold those and some more.
+/// Indices of code units that aren't right-to-left, by ranges and marks that hold all right-to-left units and some
+/// more.
 #[derive(Drop)]
 struct ClearUnits<'a> {
     units: &'a [u16],
@@ -142,7 +146,7 @@ impl<'a, const N: usize> Places<N> for ClearUnits<'a> {
     }
 }
 
-/// Goes on from a place by blocks of code units that aren't right-to-left, and returns where that ends.
+/// Skips blocks of code units from `from` on that aren't right-to-left, and returns the index that it reaches.
 pub fn skip_clear_units(units: &[u16], from: usize) -> usize
     requires { from ≤ length units.now }
     ensures within { (from ≤ result) × (result ≤ length units.now) }

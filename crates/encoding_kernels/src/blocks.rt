@@ -1,4 +1,4 @@
-//! Well-formed UTF-8, by blocks of 64 bytes, and at most 64 bytes by two overlapping vectors.
+//! Validates UTF-8 by blocks of 64 bytes, and at most 64 bytes by two overlapping vectors.
 ghost use Rattle.std.specs.Prelude.{◌+◌, ◌<◌, ◌≤◌, length, take, IsTrue};
 ghost use Rattle.std.specs.Str.{IsUtf8};
 ghost use Rattle.encoding_kernels.specs.Following.{FollowTo};
@@ -12,7 +12,7 @@ use crate::strides::{
     run_of_bytes_below,
 };
 
-/// How many of the 64 bytes from `at` on come before the first that may not stand behind the three before it.
+/// Returns how many of the 64 bytes from `at` on precede the first that may not follow the three before it.
 #[inline(always)]
 fn clean_of_64(src: &[u8], at: usize) -> usize
     requires { (3 ≤ at) × (at + 64 ≤ length src.now) }
@@ -31,7 +31,7 @@ fn clean_of_64(src: &[u8], at: usize) -> usize
     32 + zeros(second)
 }
 
-/// How many of the 256 bytes from `at` on come before the first that may not stand behind the three before it.
+/// Returns how many of the 256 bytes from `at` on precede the first that may not follow the three before it.
 #[tactic(auto, using(crate::proofs::Validation::FollowingLemmas::FollowTo_less))]
 #[inline(always)]
 fn clean_of_256(src: &[u8], at: usize) -> usize
@@ -50,7 +50,7 @@ fn clean_of_256(src: &[u8], at: usize) -> usize
     256
 }
 
-/// How many bytes may each stand behind those before it, up to the first that may not or to the 64th.
+/// Returns the length, at most 64, of a prefix whose bytes may each follow those before it.
 #[inline(always)]
 fn clean_of_first_64(src: &[u8]) -> usize
     requires { 35 ≤ length src.now }
@@ -70,7 +70,7 @@ fn clean_of_first_64(src: &[u8]) -> usize
     last + zeros(second)
 }
 
-/// How many of at least sixteen bytes may each stand behind those before it, up to the first that may not or to the 32nd.
+/// Returns the length, at most 32, of a prefix whose bytes may each follow those before it.
 #[inline(always)]
 fn clean_of_first_32(src: &[u8]) -> usize
     requires { 16 ≤ length src.now }
@@ -85,7 +85,7 @@ fn clean_of_first_32(src: &[u8]) -> usize
     last + zeros(faults(src, last))
 }
 
-/// `at`, or the beginning of the character that is cut before it.
+/// Returns `at`, or the start of the character that is cut there.
 fn back(src: &[u8], at: usize) -> usize
     requires { (at ≤ length src.now) × FollowTo src.now at }
     ensures { (result ≤ at) × IsUtf8 (take result src.now) }
@@ -105,8 +105,8 @@ fn back(src: &[u8], at: usize) -> usize
     at
 }
 
-/// Whether each of the 256 bytes from `at` on is ASCII. Fewer among other characters aren't worth a branch that the text
-/// decides.
+/// Returns whether the 256 bytes from `at` on are ASCII. A shorter run among other characters isn't worth a branch that
+/// depends on the text.
 #[inline(always)]
 fn are_256_ascii(src: &[u8], at: usize) -> bool
     requires { (at + 256 ≤ length src.now) × (at + 256 < 18446744073709551616) }
@@ -119,8 +119,8 @@ fn are_256_ascii(src: &[u8], at: usize) -> bool
     all::<BLOCK, FOUR_BLOCKS, _>(&ascii, at)
 }
 
-/// Goes from a place on by 64 bytes while they are ASCII, and returns where that ends. Out of line: what it sets up would
-/// stand in the loop over blocks.
+/// Skips blocks of 64 ASCII bytes from `from` on, and returns the index that it reaches. Out of line, since its setup
+/// would otherwise be in the loop over blocks.
 #[inline(never)]
 fn skip_ascii(src: &[u8], from: usize) -> usize
     requires { from ≤ length src.now }
@@ -134,8 +134,8 @@ fn skip_ascii(src: &[u8], from: usize) -> usize
     skip::<64, 64, _>(&ascii, from, src.len())
 }
 
-/// How many bytes may each stand behind those before it, where those before `from` do, by 64 at a time. The last 64 may
-/// begin before `from`.
+/// Extends a prefix of `from` bytes that may each follow those before it, 64 at a time, and returns its length. The
+/// last 64 may begin before `from`.
 #[tactic(auto, using(crate::proofs::Validation::FollowingLemmas::FollowTo_less))]
 #[inline(always)]
 fn finish(src: &[u8], from: usize) -> usize
@@ -157,8 +157,8 @@ fn finish(src: &[u8], from: usize) -> usize
     last + clean_of_64(src, last)
 }
 
-/// How many bytes may each stand behind those before it, where those before `from` do. Out of line: where the loop lies,
-/// and so its speed, depends on no caller's code.
+/// Extends a prefix of `from` bytes that may each follow those before it, and returns its length. Out of line, so that
+/// the address of the loop, and so its speed, doesn't depend on the caller.
 #[inline(never)]
 fn following(src: &[u8], from: usize) -> usize
     requires long { 64 ≤ length src.now }
@@ -185,7 +185,7 @@ fn following(src: &[u8], from: usize) -> usize
     finish(src, at)
 }
 
-/// Whether all of at most 64 bytes are ASCII, by two loads.
+/// Returns whether at most 64 bytes are all ASCII, by two loads.
 #[inline(always)]
 fn is_short_ascii(src: &[u8]) -> bool
     requires { (16 ≤ length src.now) × (length src.now ≤ 64) }
@@ -201,7 +201,8 @@ fn is_short_ascii(src: &[u8]) -> bool
     }
 }
 
-/// The length of the ASCII prefix. One mask finds its end among the first 64 bytes, without a branch that the text decides.
+/// Returns the length of the ASCII prefix. One mask finds its end among the first 64 bytes, without a branch that
+/// depends on the text.
 #[inline(always)]
 fn ascii_front(src: &[u8]) -> usize
     requires { 64 ≤ length src.now }
@@ -215,13 +216,13 @@ fn ascii_front(src: &[u8]) -> usize
     front_behind_stride(src, ASCII_END)
 }
 
-/// Whether two bytes show that no character of several bytes begins there.
+/// Returns whether the first two bytes show that no character of several bytes begins here.
 #[inline(always)]
 fn is_broken(bytes: &[u8]) -> bool {
     bytes.len() < 2 || !begins_several(bytes[0]) || !is_continuation(bytes[1])
 }
 
-/// The length of a well-formed prefix of at most 64 bytes.
+/// Returns the length of a well-formed prefix of at most 64 bytes.
 #[tactic(auto, using(crate::proofs::Validation::FollowingLemmas::IsUtf8_ascii_front))]
 #[inline(always)]
 fn well_formed_short(src: &[u8]) -> usize
@@ -239,7 +240,7 @@ fn well_formed_short(src: &[u8]) -> usize
     back(src, clean)
 }
 
-/// The length of a well-formed prefix of at least 64 bytes.
+/// Returns the length of a well-formed prefix of at least 64 bytes.
 #[tactic(auto, using(crate::proofs::Validation::FollowingLemmas::IsUtf8_ascii_front, crate::proofs::Validation::FollowingLemmas::FollowTo_less, crate::proofs::Validation::FollowingLemmas::FollowTo_ascii_front))]
 #[inline(always)]
 fn well_formed_long(src: &[u8]) -> usize
@@ -247,15 +248,15 @@ fn well_formed_long(src: &[u8]) -> usize
     ensures { (result ≤ length src.now) × IsUtf8 (take result src.now) }
 {
     let front = ascii_front(src);
-    // broken bytes often stand together, and a block costs more than two bytes
+    // malformed sequences often cluster, and a block costs more than two bytes
     if front == src.len() || is_broken(&src[front..]) {
         return front;
     }
-    // from a multiple of 64 on, so that the length alone decides how often the loops go round
+    // from a multiple of 64 on, so that only the length decides how often the loops iterate
     back(src, following(src, front / BLOCK * BLOCK))
 }
 
-/// The length of a well-formed prefix, by whole blocks.
+/// Returns the length of a well-formed prefix, by whole blocks.
 #[inline(always)]
 pub fn well_formed_blocks(src: &[u8]) -> usize
     requires long { 16 ≤ length src.now }

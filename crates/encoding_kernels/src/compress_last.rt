@@ -1,4 +1,4 @@
-//! Which bytes are kept of four lanes of four bytes, the last ones of each, looked up by a mask.
+//! Looks up by a mask which bytes are kept of four lanes of four bytes: the last ones of each.
 
 ghost use Rattle.std.specs.Prelude.{◌≡◌, ℕ, ◌+◌, ◌*◌, ◌<◌, Bool, List, length, take, slice_index};
 ghost use Rattle.std.specs.Simd.Lanes.{mask_l};
@@ -6,8 +6,8 @@ ghost use Rattle.encoding_kernels.specs.EncodeLanes.{last_places};
 
 use std::simd::prelude::*;
 
-/// A table that is made lane by lane, from the last on: before the places that are kept behind a lane stand those of its
-/// last three bytes, its last one, its last two, or its last one, as its two bits tell. Each row has four words.
+/// Builds the table lane by lane, last lane first. Each row lists the indices of the lane's last three bytes, its last
+/// one, its last two, or its last one, by its two bits, followed by those of later lanes. A row has four words.
 macro_rules! rows {
     ([] $($row:expr),*) => {
         [$(
@@ -27,11 +27,11 @@ macro_rules! rows {
     };
 }
 
-/// For each mask of four lanes the places of the bytes that are kept: of a lane the last one where the first of its bits is
-/// set, else the last two where the second is, else the last three. Behind them are zeros.
+/// For each mask of four lanes, the indices of the bytes that are kept: of a lane the last one if the first of its bits
+/// is set, else the last two if the second is, else the last three. Zeros follow.
 const LAST: [u32; 1024] = rows!([15u128 11u128 7u128 3u128] 0u128);
 
-/// A word of the table.
+/// Returns a word of the table.
 #[inline(always)]
 fn last_word(at: usize) -> u32
     requires { at < 1024 }
@@ -40,7 +40,7 @@ fn last_word(at: usize) -> u32
     LAST[at]
 }
 
-/// The places that a mask keeps, with zeros behind them.
+/// Returns the indices that a mask keeps, followed by zeros.
 #[inline(always)]
 pub(crate) fn last_by(mask: usize) -> u8x16
     requires { mask < 256 }

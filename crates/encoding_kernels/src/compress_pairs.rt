@@ -1,4 +1,4 @@
-//! Which bytes are kept of eight pairs of bytes, looked up by a mask.
+//! Looks up by a mask which bytes are kept of eight pairs of bytes.
 
 ghost use Rattle.std.specs.Prelude.{◌≡◌, ℕ, ◌+◌, ◌*◌, ◌<◌, ◌≤◌, Bool, List, length, map, take, slice_index};
 ghost use Rattle.std.specs.Simd.Lanes.{mask_l};
@@ -6,8 +6,8 @@ ghost use Rattle.encoding_kernels.specs.EncodeLanes.{kept_places};
 
 use std::simd::prelude::*;
 
-/// A table that is made pair by pair, from the last on: before the places that are kept behind a pair stands that of its
-/// first byte, or those of both, as its bit tells. Each row has four words.
+/// Builds the table pair by pair, last pair first. Each row lists the index of the pair's first byte, or those of both
+/// bytes, by its bit, followed by those of later pairs. A row has four words.
 macro_rules! rows {
     ([] $($row:expr),*) => {
         [$(
@@ -25,11 +25,11 @@ macro_rules! rows {
     };
 }
 
-/// For each mask of eight pairs of bytes the places of the bytes that are kept: the first of each pair, and the second of
-/// those whose bit is set. Behind them are zeros.
+/// For each mask of eight pairs of bytes, the indices of the bytes that are kept: the first of each pair, and the
+/// second if its bit is set. Zeros follow.
 const PLACES: [u32; 1024] = rows!([14u128 12u128 10u128 8u128 6u128 4u128 2u128 0u128] 0u128);
 
-/// A word of the table.
+/// Returns a word of the table.
 #[inline(always)]
 fn places_word(at: usize) -> u32
     requires { at < 1024 }
@@ -38,7 +38,7 @@ fn places_word(at: usize) -> u32
     PLACES[at]
 }
 
-/// The places that a mask keeps, with zeros behind them.
+/// Returns the indices that a mask keeps, followed by zeros.
 #[inline(always)]
 fn places_by(mask: usize) -> u8x16
     requires { mask < 256 }
@@ -56,7 +56,7 @@ fn places_by(mask: usize) -> u8x16
     .to_le_bytes()
 }
 
-/// The bytes of eight pairs that a mask keeps, in the first ones of the vector, and how many these are.
+/// Returns the bytes of eight pairs that a mask keeps, at the start of the vector, and their number.
 #[inline(always)]
 pub(crate) fn keep_pairs(pairs: u8x16, mask: usize) -> (u8x16, usize)
     requires { mask < 256 }

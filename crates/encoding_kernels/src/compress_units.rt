@@ -1,4 +1,4 @@
-//! The kept lanes of a vector, moved to its front: their places are looked up by the mask of those that are kept.
+//! Moves the kept lanes of a vector to its start. Their indices are looked up by the mask of those that are kept.
 
 ghost use Rattle.std.specs.Prelude.{◌≡◌, ◌<◌, map, slice_index};
 ghost use Rattle.encoding_kernels.specs.Units.{compressed_places, byte_places};
@@ -6,8 +6,8 @@ ghost use Rattle.encoding_kernels.specs.Units.{compressed_places, byte_places};
 use std::simd::Simd;
 use std::simd::prelude::*;
 
-/// A table that is made lane by lane, from the last on: of the places that are kept behind a lane a row as they are, and a
-/// row with the lane before them.
+/// Builds the table lane by lane, last lane first. Each row of later kept lanes yields two: the row itself, and the
+/// lane followed by it.
 macro_rules! rows {
     ([] $($row:expr),*) => { [$($row),*] };
     ([$last:literal $($before:literal)*] $($row:expr),*) => {
@@ -15,10 +15,10 @@ macro_rules! rows {
     };
 }
 
-/// For each mask of eight lanes the places of those that are kept: the first in the lowest byte, and zeros behind them.
+/// For each mask of eight lanes, the indices of those that are kept, the first in the lowest byte. Zeros follow.
 const COMPRESSED: [u64; 256] = rows!([7 6 5 4 3 2 1 0] 0);
 
-/// The places of the two bytes of each kept lane, in order.
+/// Returns the indices of the two bytes of each kept lane, in order.
 #[inline(always)]
 fn compress_places(mask: usize) -> u8x16
     requires { mask < 256 }
@@ -30,7 +30,7 @@ fn compress_places(mask: usize) -> u8x16
     (places * u16x8::splat(0x0202) + u16x8::splat(0x0100)).to_le_bytes()
 }
 
-/// The kept lanes, in order, and behind them the first lane.
+/// Returns the kept lanes, in order, followed by copies of the first lane.
 #[inline(always)]
 pub(crate) fn compress(lanes: u16x8, mask: usize) -> u16x8
     requires { mask < 256 }

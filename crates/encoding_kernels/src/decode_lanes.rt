@@ -1,5 +1,5 @@
-//! The code unit that ends with each of sixteen bytes of UTF-8, by the three bytes before it: the lower byte of each in
-//! one vector and the upper in another, which are then joined.
+//! The code unit that ends with each of sixteen bytes of UTF-8, by the three bytes before it. The lower byte of each is
+//! in one vector and the upper in another, which are then joined.
 ghost use Rattle.std.specs.Prelude.{◌≡◌, ℕ, ◌+◌, ◌-◌, ◌*◌, ◌/◌, ◌%◌, ◌<◌, ◌≤◌, [], ◌∷◌, Bool, false, List, ◌++◌, take, drop, replicate, slice_index, IsTrue};
 ghost use Rattle.std.specs.Simd.Lanes.{mask_l};
 ghost use Rattle.encoding_kernels.specs.Lanes.{HasLanes};
@@ -7,7 +7,7 @@ ghost use Rattle.encoding_kernels.specs.Units.{ends_behind, low_bits, triple_uni
 
 use std::simd::prelude::*;
 
-/// The bytes one place before, with a zero before the first.
+/// Returns for each lane the byte one lane before, and zero before the first.
 #[inline(always)]
 fn one_before(block: u8x16) -> u8x16
     ensures { HasLanes 16 result (λ k. slice_index (0 ∷ block) k) }
@@ -20,7 +20,7 @@ fn one_before(block: u8x16) -> u8x16
     )
 }
 
-/// The bytes two places before.
+/// Returns for each lane the byte two lanes before.
 #[inline(always)]
 fn two_before(block: u8x16) -> u8x16
     ensures { HasLanes 16 result (λ k. slice_index (0 ∷ 0 ∷ block) k) }
@@ -33,7 +33,7 @@ fn two_before(block: u8x16) -> u8x16
     )
 }
 
-/// The bytes three places before.
+/// Returns for each lane the byte three lanes before.
 #[inline(always)]
 fn three_before(block: u8x16) -> u8x16
     ensures { HasLanes 16 result (λ k. slice_index (0 ∷ 0 ∷ 0 ∷ block) k) }
@@ -46,7 +46,7 @@ fn three_before(block: u8x16) -> u8x16
     )
 }
 
-/// Whether each byte is below the bound.
+/// Returns whether each byte is below the bound.
 #[inline(always)]
 fn is_below(block: u8x16, bound: u8) -> bool
     ensures { IsTrue result → (k : ℕ) → k < 16 → slice_index block k < bound }
@@ -54,7 +54,7 @@ fn is_below(block: u8x16, bound: u8) -> bool
     block.simd_ge(u8x16::splat(bound)).to_bitmask() == 0
 }
 
-/// The last eight bits of those that each byte and the one before it hold, six each.
+/// Returns the last eight of the twelve bits that each byte and the one before it hold, six each.
 #[inline(always)]
 fn lower_bits(block: u8x16) -> u8x16
     ensures { HasLanes 16 result (λ k. low_bits (slice_index (0 ∷ block) k) (slice_index block k) % 0x100) }
@@ -62,7 +62,7 @@ fn lower_bits(block: u8x16) -> u8x16
     (one_before(block) << u8x16::splat(6)) + (block & u8x16::splat(0x3F))
 }
 
-/// The four bits above them, and above these the four of a byte that begins three and stands two places before.
+/// Returns the four bits above those, and above these the four of a byte that begins three and is two lanes before.
 #[inline(always)]
 fn upper_bits(block: u8x16) -> u8x16
     ensures { HasLanes 16 result (λ k. upper_of (slice_index (0 ∷ 0 ∷ block) k) (slice_index (0 ∷ block) k)) }
@@ -74,7 +74,7 @@ fn upper_bits(block: u8x16) -> u8x16
     above + ((one_before(block) >> u8x16::splat(2)) & u8x16::splat(0x0F))
 }
 
-/// The first eight lanes, and the last, each of a lower and an upper byte.
+/// Joins a lower and an upper byte for each lane, and returns the first eight and the last eight.
 #[inline(always)]
 pub(crate) fn join_bytes(lower: u8x16, upper: u8x16) -> (u16x8, u16x8)
     ensures first { HasLanes 8 result.0 (λ k. slice_index lower k + 0x100 * slice_index upper k) }
@@ -91,7 +91,7 @@ pub(crate) fn join_bytes(lower: u8x16, upper: u8x16) -> (u16x8, u16x8)
     (u16x8::from_le_bytes(first), u16x8::from_le_bytes(last))
 }
 
-/// The code unit that ends with each byte, where no character has four bytes.
+/// Returns the code unit that ends with each byte, if no character has four bytes.
 #[inline(always)]
 fn short_units(block: u8x16) -> (u16x8, u16x8)
     requires { (k : ℕ) → k < 16 → slice_index block k < 0xF0 }
@@ -103,7 +103,7 @@ fn short_units(block: u8x16) -> (u16x8, u16x8)
     join_bytes(lower, upper)
 }
 
-/// The last eight bits of the ten of a high surrogate that each byte ends, without what is added to them.
+/// Returns the last eight of the ten bits of a high surrogate that each byte ends, without what is added to them.
 #[inline(always)]
 fn high_bits(block: u8x16) -> u8x16
     ensures { HasLanes 16 result (λ k. low_bits (slice_index (0 ∷ block) k) (slice_index block k) / 0x10) }
@@ -111,7 +111,7 @@ fn high_bits(block: u8x16) -> u8x16
     (one_before(block) << u8x16::splat(2)) + ((block >> u8x16::splat(4)) & u8x16::splat(3))
 }
 
-/// The lower byte of the code unit that ends with each byte.
+/// Returns the lower byte of the code unit that ends with each byte.
 #[inline(always)]
 fn lower_bytes(block: u8x16) -> u8x16
     ensures { HasLanes 16 result (λ k. unit_lane block k % 0x100) }
@@ -123,7 +123,7 @@ fn lower_bytes(block: u8x16) -> u8x16
     block.simd_lt(u8x16::splat(0x80)).select(block, longer)
 }
 
-/// The upper byte of it.
+/// Returns the upper byte of the code unit that ends with each byte.
 #[inline(always)]
 fn upper_bytes(block: u8x16) -> u8x16
     ensures { HasLanes 16 result (λ k. unit_lane block k / 0x100) }
@@ -144,7 +144,7 @@ fn upper_bytes(block: u8x16) -> u8x16
         .select(u8x16::splat(0), longer)
 }
 
-/// The code unit that ends with each byte: the first eight, and the last.
+/// Returns the code unit that ends with each byte: the first eight, and the last eight.
 #[inline(always)]
 pub(crate) fn code_units(block: u8x16) -> (u16x8, u16x8)
     ensures { (result.0 ≡ take 8 (units_behind 0 0 0 block)) × (result.1 ≡ drop 8 (units_behind 0 0 0 block)) }
@@ -155,7 +155,7 @@ pub(crate) fn code_units(block: u8x16) -> (u16x8, u16x8)
     join_bytes(lower_bytes(block), upper_bytes(block))
 }
 
-/// Of the first bytes, up to the end, a bit for each that ends a code unit.
+/// Returns a bit for each of the first `end` bytes that ends a code unit.
 #[inline(always)]
 pub(crate) fn unit_ends(block: u8x16, end: usize) -> usize
     requires { end ≤ 16 }
@@ -165,7 +165,7 @@ pub(crate) fn unit_ends(block: u8x16, end: usize) -> usize
     ends.to_bitmask() as usize & ((1 << end) - 1)
 }
 
-/// The code units of five characters of three bytes, and three more lanes.
+/// Returns the code units of five characters of three bytes, and three more lanes.
 #[inline(always)]
 pub(crate) fn triple_units(block: u8x16) -> u16x8
     ensures { HasLanes 8 result (λ k. triple_unit

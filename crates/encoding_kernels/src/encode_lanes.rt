@@ -1,4 +1,5 @@
-//! The UTF-8 of vectors of code units: which of their bytes it keeps is looked up by a mask.
+//! The UTF-8 of vectors of code units, whose kept bytes are looked up by a mask. After what it writes, a `write_`
+//! function leaves `dst` unchanged, and a `store_` function may change up to sixteen bytes.
 
 ghost use Rattle.std.specs.Prelude.{◌≡◌, ℕ, ◌+◌, ◌*◌, ◌<◌, ◌≤◌, ◌++◌, nat_le, length, map, take, drop, slice_index, encode_utf8_all, IsTrue};
 ghost use Rattle.std.specs.Simd.Lanes.{mask_l};
@@ -8,7 +9,7 @@ use crate::compress_pairs::keep_pairs;
 use crate::strides::LANES;
 use std::simd::prelude::*;
 
-/// Eight code units in two bytes each: the UTF-8 of each, and no matter what behind that of one byte.
+/// Returns two bytes for each of eight code units: its UTF-8. A unit of one byte has an arbitrary second one.
 #[tactic(auto, using(crate::proofs::Lanes::EncodeLanesLemmas::words_spell))]
 #[inline(always)]
 fn both_bytes(units: u16x8) -> u8x16
@@ -22,7 +23,7 @@ fn both_bytes(units: u16x8) -> u8x16
     takes_two.select(both, units).to_le_bytes()
 }
 
-/// The mask of the code units that aren't ASCII.
+/// Returns the mask of the code units that aren't ASCII.
 #[inline(always)]
 pub(crate) fn mask_of_others(units: u16x8) -> usize
     ensures small { result < 256 }
@@ -31,7 +32,7 @@ pub(crate) fn mask_of_others(units: u16x8) -> usize
     units.simd_ge(u16x8::splat(0x80)).to_bitmask() as usize
 }
 
-/// The UTF-8 of eight code units below U+0800, in the first bytes of the vector, and how many these are.
+/// Returns the UTF-8 of eight code units below U+0800, at the start of the vector, and its length.
 #[inline(always)]
 fn encode_short(units: u16x8) -> (u8x16, usize)
     requires { (k : ℕ) → slice_index units k < 0x800 }
@@ -42,8 +43,8 @@ fn encode_short(units: u16x8) -> (u8x16, usize)
     keep_pairs(both_bytes(units), mask_of_others(units))
 }
 
-/// Writes first bytes of two vectors, so many of each, one behind the other. Behind them `dst` is as before, though 32
-/// bytes are stored.
+/// Writes the first `count` bytes of `first`, followed by the first `more` of `second`. Stores 32 bytes, the others as
+/// `dst` has them.
 #[inline(always)]
 pub(crate) fn write_both(
     dst: &mut [u8],
@@ -67,8 +68,7 @@ pub(crate) fn write_both(
         .copy_to_slice(&mut dst[next..]);
 }
 
-/// Stores two vectors of which first bytes count, so many of each, one behind the other. Of what stands behind these no
-/// more than sixteen bytes are changed.
+/// Stores the first `count` bytes of `first`, followed by the first `more` of `second`.
 #[inline(always)]
 pub(crate) fn store_two(
     dst: &mut [u8],
@@ -87,8 +87,8 @@ pub(crate) fn store_two(
     second.copy_to_slice(&mut dst[at + count..]);
 }
 
-/// Stores the UTF-8 of twice eight code units below U+0800, and returns how many bytes that is and what stood in the
-/// sixteen places behind them, which may be changed.
+/// Stores the UTF-8 of twice eight code units below U+0800. Returns its length and the sixteen bytes that were after
+/// it, which may be changed.
 #[tactic(auto, using(crate::proofs::Lanes::SpillsLemmas::spills_mended))]
 #[inline(always)]
 pub(crate) fn store_short(first: u16x8, second: u16x8, dst: &mut [u8], at: usize) -> (usize, u8x16)
@@ -108,7 +108,7 @@ pub(crate) fn store_short(first: u16x8, second: u16x8, dst: &mut [u8], at: usize
     (all, kept)
 }
 
-/// Whether each of the eight code units is from U+0800 on, and no surrogate.
+/// Returns whether each of the eight code units is from U+0800 on, and no surrogate.
 #[tactic(auto, using(crate::proofs::Lanes::LongLemmas::all_long))]
 #[inline(always)]
 pub(crate) fn are_long(units: u16x8) -> bool
@@ -120,8 +120,8 @@ pub(crate) fn are_long(units: u16x8) -> bool
     !others.any()
 }
 
-/// The UTF-8 of eight code units from U+0800 on, which is three bytes for each, in two vectors. The first two bytes of each
-/// make a word and the last one another, so that no lane is wider than a code unit.
+/// Returns the UTF-8 of eight code units from U+0800 on, three bytes for each, in two vectors. The first two bytes of
+/// each make a word and the last one another, so that no lane is wider than a code unit.
 #[tactic(auto, using(crate::proofs::Lanes::LongLemmas::long_spelled))]
 #[inline(always)]
 fn encode_long(units: u16x8) -> (u8x16, u8x8)
@@ -141,7 +141,7 @@ fn encode_long(units: u16x8) -> (u8x16, u8x8)
     (first, both.shuffle(lasts, [11, 26, 12, 13, 28, 14, 15, 30]))
 }
 
-/// Writes the UTF-8 of eight code units from U+0800 on, which is 24 bytes. Behind them `dst` is as before.
+/// Writes the UTF-8 of eight code units from U+0800 on, which is 24 bytes.
 #[inline(always)]
 pub(crate) fn write_long(units: u16x8, dst: &mut [u8], at: usize)
     requires room { at + 24 ≤ length dst.old }
@@ -154,8 +154,7 @@ pub(crate) fn write_long(units: u16x8, dst: &mut [u8], at: usize)
     second.copy_to_slice(&mut dst[at + 16..]);
 }
 
-/// Stores the UTF-8 of twice eight code units from U+0800 on, and returns how many bytes that is and what stands in the
-/// sixteen places behind them.
+/// Stores the UTF-8 of twice eight code units from U+0800 on. Returns its length and the sixteen bytes after it.
 #[inline(always)]
 pub(crate) fn store_long(first: u16x8, second: u16x8, dst: &mut [u8], at: usize) -> (usize, u8x16)
     requires room { at + 64 ≤ length dst.old }

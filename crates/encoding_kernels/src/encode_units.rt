@@ -1,4 +1,5 @@
-//! The UTF-8 of code units that are no surrogates, by vectors: each has four bytes, of which a table tells the kept ones.
+//! The UTF-8 of code units that are no surrogates, by vectors: each has four bytes, and a table selects the kept ones.
+//! After what it writes, a `write_` function leaves `dst` unchanged.
 
 ghost use Rattle.std.specs.Prelude.{◌≡◌, ℕ, ◌+◌, ◌*◌, ◌/◌, ◌%◌, ◌<◌, ◌≤◌, List, ◌++◌, length, take, drop, replicate, slice_index, encode_utf8_all, IsTrue};
 ghost use Rattle.std.specs.Simd.Lanes.{mask_l};
@@ -9,10 +10,10 @@ use crate::encode_lanes::{store_two, write_both};
 use crate::places::run_before;
 use std::simd::prelude::*;
 
-/// The least code unit of three bytes.
+/// The least code unit whose UTF-8 has three bytes.
 const LONG: u16 = 0x800;
 
-/// Whether none of the eight code units is a surrogate.
+/// Returns whether none of the eight code units is a surrogate.
 #[tactic(auto, using(crate::proofs::Lanes::PlainLemmas::all_plain))]
 #[inline(always)]
 pub(crate) fn are_plain(units: u16x8) -> bool
@@ -22,7 +23,7 @@ pub(crate) fn are_plain(units: u16x8) -> bool
     !tops.simd_eq(u16x8::splat(0xD800)).any()
 }
 
-/// How many of the eight code units come before the first surrogate.
+/// Returns how many of the eight code units precede the first surrogate.
 #[inline(always)]
 pub(crate) fn plain_front(units: u16x8) -> usize
     ensures within { result ≤ 8 }
@@ -32,7 +33,7 @@ pub(crate) fn plain_front(units: u16x8) -> usize
     run_before::<8>(tops.simd_eq(u16x8::splat(0xD800)).to_bitmask())
 }
 
-/// Two bits for each of eight code units: whether it is ASCII, and whether it is below U+0800.
+/// Returns two bits for each of eight code units: whether it is ASCII, and whether it is below U+0800.
 #[inline(always)]
 fn mask_of_classes(units: u16x8) -> usize
     ensures small { result < 0x10000 }
@@ -50,8 +51,8 @@ fn mask_of_classes(units: u16x8) -> usize
         .to_bitmask() as usize
 }
 
-/// Two words for each of eight code units, of which the last bytes are its UTF-8: the upper byte of the first word, and
-/// both of the second.
+/// Returns two words for each of eight code units. The last of three bytes are its UTF-8: the upper byte of the first
+/// word, and both of the second.
 #[inline(always)]
 fn two_words(units: u16x8) -> (u16x8, u16x8)
     ensures long { (length result.0 ≡ 8) × (length result.1 ≡ 8) }
@@ -72,7 +73,8 @@ fn two_words(units: u16x8) -> (u16x8, u16x8)
     (first, second)
 }
 
-/// Eight code units in four bytes each, of which the last ones are the UTF-8 of each: the first four, and the others.
+/// Returns four bytes for each of eight code units, the last of which are its UTF-8: first those of the first four
+/// units.
 #[inline(always)]
 fn four_bytes(units: u16x8) -> (u8x16, u8x16)
     ensures long { (length result.0 ≡ 16) × (length result.1 ≡ 16) }
@@ -87,7 +89,7 @@ fn four_bytes(units: u16x8) -> (u8x16, u8x16)
     (first.to_le_bytes(), second.to_le_bytes())
 }
 
-/// The UTF-8 of four code units, of which each has four bytes, in the first bytes of the vector, and how many these are.
+/// Returns the UTF-8 of four code units, given in four bytes each, at the start of the vector, and its length.
 #[inline(always)]
 fn encode_four(bytes: u8x16, mask: usize) -> (u8x16, usize)
     requires { mask < 0x100 }
@@ -102,8 +104,8 @@ fn encode_four(bytes: u8x16, mask: usize) -> (u8x16, usize)
     (bytes.swizzle_dyn(last_by(mask)), count)
 }
 
-/// The UTF-8 of eight code units: that of the first four in the first bytes of a vector, and how many these are, and that
-/// of the others in another.
+/// Returns the UTF-8 of eight code units: that of the first four at the start of a vector, with its length, and that of
+/// the others in the same way.
 #[inline(always)]
 fn encode_eight(units: u16x8) -> (u8x16, usize, u8x16, usize)
     ensures long { (length result.0 ≡ 16) × (length result.2 ≡ 16) }
@@ -118,8 +120,7 @@ fn encode_eight(units: u16x8) -> (u8x16, usize, u8x16, usize)
     (bytes, count, other, more)
 }
 
-/// Writes the UTF-8 of eight code units, and returns how many bytes that is. Behind them `dst` is as before, though up to
-/// 28 bytes are stored.
+/// Writes the UTF-8 of eight code units, and returns its length. Stores up to 28 bytes, the others as `dst` has them.
 #[inline(always)]
 pub(crate) fn write_eight(units: u16x8, dst: &mut [u8], at: usize) -> usize
     requires room { at + 32 ≤ length dst.old }
@@ -132,7 +133,7 @@ pub(crate) fn write_eight(units: u16x8, dst: &mut [u8], at: usize) -> usize
     count + more
 }
 
-/// The first of eight code units, so many, and zeros behind them.
+/// Returns the first `first` of eight code units, followed by zeros.
 #[inline(always)]
 fn with_zeros(units: u16x8, first: usize) -> u16x8
     requires { first ≤ 8 }
@@ -144,8 +145,8 @@ fn with_zeros(units: u16x8, first: usize) -> u16x8
         .select(units, u16x8::splat(0))
 }
 
-/// Writes the UTF-8 of the first of eight code units, so many, and returns how many bytes that is. Behind them `dst` is as
-/// before: the zeros of the other ones are stored, and what stood there is written back.
+/// Writes the UTF-8 of the first `first` of eight code units, and returns its length. The zeros of the others are
+/// stored too, and what was there is written back.
 #[inline(always)]
 pub(crate) fn write_first_of_eight(units: u16x8, first: usize, dst: &mut [u8], at: usize) -> usize
     requires room { at + 32 ≤ length dst.old }
@@ -162,8 +163,8 @@ pub(crate) fn write_first_of_eight(units: u16x8, first: usize, dst: &mut [u8], a
     written
 }
 
-/// Stores the UTF-8 of twice eight code units, and returns how many bytes that is and what stood in the sixteen places
-/// behind them, which may be changed.
+/// Stores the UTF-8 of twice eight code units. Returns its length and the sixteen bytes that were after it, which may
+/// be changed.
 #[inline(always)]
 pub(crate) fn store_sixteen(
     first: u16x8,

@@ -1,5 +1,5 @@
-//! The bytes of UTF-8 that may not stand behind those before them, found by vectors: Keiser and Lemire, "Validating UTF-8 In
-//! Less Than One Instruction Per Byte", with the bytes before by loads of their own, so that a block carries no state.
+//! Finds by vectors the bytes of UTF-8 that may not follow those before them: Keiser and Lemire, "Validating UTF-8 In
+//! Less Than One Instruction Per Byte". The previous bytes are loaded separately, so that a block carries no state.
 ghost use Rattle.std.specs.Prelude.{◌≡◌, ℕ, ◌+◌, ◌<◌, ◌≤◌, length, slice_index, IsTrue};
 ghost use Rattle.encoding_kernels.specs.Following.{IsZeroTo, Follows, FollowsAt};
 
@@ -7,25 +7,26 @@ use crate::places::run_before;
 use std::simd::Simd;
 use std::simd::prelude::*;
 
-/// The faults that the upper half of the byte before leaves open, a bit each; twice, once for each sixteen lanes.
+/// The errors that the high nibble of the previous byte leaves possible, a bit each; twice, once for each sixteen
+/// lanes.
 const FIRST_HIGH: [u8; 32] = [
     2, 2, 2, 2, 2, 2, 2, 2, 128, 128, 128, 128, 33, 1, 21, 73, 2, 2, 2, 2, 2, 2, 2, 2, 128, 128,
     128, 128, 33, 1, 21, 73,
 ];
 
-/// The faults that its lower half leaves open.
+/// The errors that the low nibble of the previous byte leaves possible.
 const FIRST_LOW: [u8; 32] = [
     231, 163, 131, 131, 139, 203, 203, 203, 203, 203, 203, 203, 203, 219, 203, 203, 231, 163, 131,
     131, 139, 203, 203, 203, 203, 203, 203, 203, 203, 219, 203, 203,
 ];
 
-/// The faults that the upper half of the byte itself leaves open.
+/// The errors that the high nibble of the byte itself leaves possible.
 const SECOND_HIGH: [u8; 32] = [
     1, 1, 1, 1, 1, 1, 1, 1, 230, 174, 186, 186, 1, 1, 1, 1, 1, 1, 1, 1, 1, 1, 1, 1, 230, 174, 186,
     186, 1, 1, 1, 1,
 ];
 
-/// Zero in each lane whose byte may stand behind the three before it.
+/// Returns zero in each lane whose byte may follow the three before it.
 #[inline(always)]
 fn faults_of(fourth: u8x16, third: u8x16, second: u8x16, block: u8x16) -> u8x16
     ensures length { length result ≡ 16 }
@@ -41,7 +42,7 @@ fn faults_of(fourth: u8x16, third: u8x16, second: u8x16, block: u8x16) -> u8x16
     (goes_on & u8x16::splat(0x80)) ^ pairs
 }
 
-/// Zero in each of 32 lanes whose byte may stand behind the three before it.
+/// Returns zero in each of 32 lanes whose byte may follow the three before it.
 #[inline(always)]
 fn faults_of_32(fourth: u8x32, third: u8x32, second: u8x32, block: u8x32) -> u8x32
     ensures length { length result ≡ 32 }
@@ -57,7 +58,7 @@ fn faults_of_32(fourth: u8x32, third: u8x32, second: u8x32, block: u8x32) -> u8x
     (goes_on & u8x32::splat(0x80)) ^ pairs
 }
 
-/// Zero in each lane whose byte, of the sixteen from `at` on, may stand behind the three before it.
+/// Returns, for the sixteen bytes from `at` on, zero in each lane whose byte may follow the three before it.
 #[inline(always)]
 pub(crate) fn faults(src: &[u8], at: usize) -> u8x16
     requires { (3 ≤ at) × (at + 16 ≤ length src.now) }
@@ -72,7 +73,7 @@ pub(crate) fn faults(src: &[u8], at: usize) -> u8x16
     )
 }
 
-/// Zero in each lane whose byte, of the 32 from `at` on, may stand behind the three before it.
+/// Returns, for the 32 bytes from `at` on, zero in each lane whose byte may follow the three before it.
 #[inline(always)]
 pub(crate) fn faults_32(src: &[u8], at: usize) -> u8x32
     requires { (3 ≤ at) × (at + 32 ≤ length src.now) }
@@ -87,7 +88,7 @@ pub(crate) fn faults_32(src: &[u8], at: usize) -> u8x32
     )
 }
 
-/// Zero in each lane whose byte, of the first sixteen, may stand behind those before it.
+/// Returns, for the first sixteen bytes, zero in each lane whose byte may follow those before it.
 #[inline(always)]
 pub(crate) fn first_faults(src: &[u8]) -> u8x16
     requires { 16 ≤ length src.now }
@@ -119,7 +120,7 @@ pub(crate) fn first_faults(src: &[u8]) -> u8x16
     )
 }
 
-/// Zero in each lane whose byte, of the first 32, may stand behind those before it.
+/// Returns, for the first 32 bytes, zero in each lane whose byte may follow those before it.
 #[inline(always)]
 pub(crate) fn first_faults_32(src: &[u8]) -> u8x32
     requires { 32 ≤ length src.now }
@@ -154,7 +155,7 @@ pub(crate) fn first_faults_32(src: &[u8]) -> u8x32
     )
 }
 
-/// Whether each lane is zero.
+/// Returns whether each lane is zero.
 #[inline(always)]
 pub(crate) fn is_zero(lanes: u8x32) -> bool
     ensures { IsTrue result → IsZeroTo lanes 32 }
@@ -162,7 +163,7 @@ pub(crate) fn is_zero(lanes: u8x32) -> bool
     lanes.simd_ne(u8x32::splat(0)).to_bitmask() == 0
 }
 
-/// How many lanes stand before the first that isn't zero.
+/// Returns how many lanes precede the first that isn't zero.
 #[inline(always)]
 pub(crate) fn zeros<const N: usize>(lanes: Simd<u8, N>) -> usize
     requires { N ≤ 64 }

@@ -1,5 +1,4 @@
-//! The UTF-8 of sixteen bytes of Latin1: both bytes of each are computed, and which of them are kept is looked up by a
-//! mask.
+//! The UTF-8 of sixteen bytes of Latin1: both bytes of each are computed, and the kept ones are looked up by a mask.
 
 ghost use Rattle.std.specs.Prelude.{◌≡◌, ℕ, ◌+◌, ◌*◌, ◌<◌, ◌≤◌, ◌++◌, List, nat_le, length, map, take, drop, slice_index, encode_utf8_all};
 ghost use Rattle.std.specs.Simd.Lanes.{mask_l};
@@ -10,7 +9,8 @@ use crate::decode_lanes::join_bytes;
 use crate::encode_lanes::write_both;
 use std::simd::prelude::*;
 
-/// Sixteen bytes of Latin1 in two bytes each, by eight: the UTF-8 of each, and no matter what behind that of one byte.
+/// Returns two bytes for each of sixteen bytes of Latin1, by eight: its UTF-8. A byte that is ASCII has an arbitrary
+/// second one.
 #[inline(always)]
 fn both_bytes(block: u8x16) -> (u8x16, u8x16)
     ensures long { (length result.0 ≡ 16) × (length result.1 ≡ 16) }
@@ -26,7 +26,7 @@ fn both_bytes(block: u8x16) -> (u8x16, u8x16)
     (low.to_le_bytes(), high.to_le_bytes())
 }
 
-/// The mask of the bytes that aren't ASCII.
+/// Returns the mask of the bytes that aren't ASCII.
 #[inline(always)]
 fn mask_of_others(block: u8x16) -> usize
     ensures { result ≡ mask_l (map (nat_le 0x80) block) }
@@ -34,7 +34,7 @@ fn mask_of_others(block: u8x16) -> usize
     block.simd_ge(u8x16::splat(0x80)).to_bitmask() as usize
 }
 
-/// Writes the UTF-8 of sixteen bytes of Latin1, and returns how many bytes that is. Behind them `dst` is as before.
+/// Writes the UTF-8 of sixteen bytes of Latin1, and returns its length. The rest of `dst` is unchanged.
 #[inline(always)]
 pub fn write_latin1(block: u8x16, dst: &mut [u8], at: usize) -> usize
     requires room { at + 32 ≤ length dst.old }

@@ -1,5 +1,5 @@
-//! How long a text is in another encoding, with no test of whether it is well-formed: a sum over its places, of each by
-//! its unit and those behind it, in pieces that go by vectors.
+//! The length of a text in another encoding, without a test of whether it is well-formed. It is a sum over the indices,
+//! each term decided by the unit there and those after it, and vectors compute it piece by piece.
 ghost use Rattle.std.specs.Prelude.{◌≡◌, ◌+◌, ◌*◌, ◌<◌, ◌≤◌, ℕ, List, length, drop, slice_index, encode_utf8_all};
 ghost use Rattle.std.specs.Str.{chars};
 ghost use Rattle.encoding_definitions.specs.Latin1.{IsUtf8Latin1};
@@ -9,16 +9,16 @@ ghost use Rattle.encoding_kernels.specs.Lengths.{total, one_from, goes_second, j
 
 use crate::strides::{ASCII_END, are_bytes_below};
 
-/// The places of a piece: a sum over them fits into a byte.
+/// The number of indices in a piece: a sum over them fits into a byte.
 const PIECE: usize = 64;
 
-/// The places of a lesser piece.
+/// The number of indices in a shorter piece.
 const SHORT_PIECE: usize = 16;
 
-/// The least byte that begins a character of several.
+/// The least byte that begins a character of several bytes.
 const LEADS: u8 = 0xC0;
 
-/// How many of the N bytes from a place on are no less than this.
+/// Counts those of the N bytes from `at` on that are at least `least`.
 #[tactic(auto, using(crate::proofs::Sums::TotalLemmas::from_next, crate::proofs::Sums::TotalLemmas::bool_byte_most))]
 #[inline(always)]
 fn piece_from<const N: usize>(bytes: &[u8], at: usize, least: u8) -> usize
@@ -33,7 +33,7 @@ fn piece_from<const N: usize>(bytes: &[u8], at: usize, least: u8) -> usize
     usize::from(count)
 }
 
-/// How many bytes are no less than this.
+/// Counts the bytes that are at least `least`.
 #[tactic(auto, using(crate::proofs::Sums::TotalLemmas::from_next, crate::proofs::Sums::TotalLemmas::bool_byte_most, crate::proofs::Sums::TotalLemmas::total_end))]
 #[inline(always)]
 fn count_from(bytes: &[u8], least: u8) -> usize
@@ -57,7 +57,7 @@ fn count_from(bytes: &[u8], least: u8) -> usize
     count
 }
 
-/// The number of bytes that the UTF-8 of each byte as a character has.
+/// Returns the length in bytes of the UTF-8 of the bytes as Latin1.
 #[tactic(auto, using(crate::proofs::Sums::TextLemmas::latin1_total))]
 pub fn utf8_length_of_latin1(bytes: &[u8]) -> usize
     ensures { result ≡ length (encode_utf8_all bytes.now) }
@@ -65,7 +65,7 @@ pub fn utf8_length_of_latin1(bytes: &[u8]) -> usize
     bytes.len() + count_from(bytes, ASCII_END)
 }
 
-/// The number of characters of Latin1 text in UTF-8.
+/// Returns the number of characters of Latin1 text in UTF-8.
 #[tactic(auto, using(crate::proofs::Sums::TextLemmas::chars_total))]
 pub fn latin1_length_of_utf8(text: &[u8]) -> usize
     requires { IsUtf8Latin1 text.now }
@@ -74,19 +74,19 @@ pub fn latin1_length_of_utf8(text: &[u8]) -> usize
     text.len() - count_from(text, LEADS)
 }
 
-/// Whether the byte may stand second behind this first one of several, with no branch.
+/// Returns, without a branch, whether `second` may be the second byte of several that begin with `lead`.
 #[inline(always)]
 fn joins(lead: u8, second: u8) -> bool
     ensures { result ≡ goes_second lead second }
 {
-    // the one first byte of three and of four that may not stand before such a second byte
+    // the only first bytes of three and of four that may not precede this second byte
     let of_three = if second < 0xA0 { 0xE0 } else { 0xED };
     let of_four = if second < 0x90 { 0xF0 } else { 0xF4 };
     let begins = (lead >= 0xC2) & (lead <= 0xF4) & (lead != of_three) & (lead != of_four);
     begins & (second >= 0x80) & (second < 0xC0)
 }
 
-/// How many of two bytes are the second and the third of what the one before them begins, with no branch.
+/// Counts, without a branch, how many of `second` and `third` continue the sequence that `lead` begins.
 #[inline(always)]
 fn joined_behind(lead: u8, second: u8, third: u8) -> u8
     ensures joined { result ≡ joined_by lead second third }
@@ -97,7 +97,7 @@ fn joined_behind(lead: u8, second: u8, third: u8) -> u8
     u8::from(both) + u8::from(goes_on)
 }
 
-/// The sum over N places from one on.
+/// Returns the sum over the N indices from `at` on.
 #[tactic(auto, using(crate::proofs::Sums::TotalLemmas::joined_next))]
 #[inline(always)]
 fn piece_joined<const N: usize>(bytes: &[u8], at: usize) -> usize
@@ -112,7 +112,7 @@ fn piece_joined<const N: usize>(bytes: &[u8], at: usize) -> usize
     usize::from(sum)
 }
 
-/// The byte at a place, and zero behind the last.
+/// Returns the byte at an index, and zero past the last.
 #[inline(always)]
 fn byte_at(bytes: &[u8], at: usize) -> u8
     ensures { result ≡ slice_index bytes.now at }
@@ -120,7 +120,7 @@ fn byte_at(bytes: &[u8], at: usize) -> u8
     if at < bytes.len() { bytes[at] } else { 0 }
 }
 
-/// The sum over a piece from a place on: nothing goes on with ASCII.
+/// Returns the sum over a piece from `at` on. It is zero for ASCII, which no byte continues.
 #[tactic(auto, using(crate::proofs::Sums::TotalLemmas::ascii_joined))]
 #[inline(always)]
 fn piece_joined_or_ascii(bytes: &[u8], at: usize) -> usize
@@ -134,8 +134,8 @@ fn piece_joined_or_ascii(bytes: &[u8], at: usize) -> usize
     piece_joined::<PIECE>(bytes, at)
 }
 
-/// How many bytes are the second or the third of what an earlier one begins. The fourth of a character isn't counted,
-/// since that has two code units.
+/// Counts the bytes that are the second or the third of a sequence that an earlier one begins. The fourth isn't
+/// counted, since a character of four bytes has two code units.
 #[tactic(auto, using(crate::proofs::Sums::TotalLemmas::joined_next, crate::proofs::Sums::TotalLemmas::total_end))]
 #[inline(never)]
 fn count_joined(bytes: &[u8]) -> usize
@@ -160,14 +160,15 @@ fn count_joined(bytes: &[u8]) -> usize
     sum
 }
 
-/// The number of code units that the UTF-16 of bytes has, with U+FFFD for each broken part.
+/// Returns the number of code units in the UTF-16 of the bytes, with U+FFFD for each malformed sequence.
 pub fn utf16_length_of_utf8(bytes: &[u8]) -> usize
     ensures { (parts : List Part) × ArePartsOf bytes.now parts × (result ≡ length (repaired_utf16 parts)) }
 {
     bytes.len() - count_joined(bytes)
 }
 
-/// How many bytes the UTF-8 of a code unit has beyond one, with no branch: none of the first of a pair, two of the other.
+/// Returns, without a branch, how many bytes beyond one the UTF-8 of a code unit has: none for the first unit of a
+/// pair, and two for the second.
 #[inline(always)]
 fn bytes_beyond(unit: u16, next: u16) -> u8
     ensures beyond { result ≡ beyond_one unit next }
@@ -177,7 +178,7 @@ fn bytes_beyond(unit: u16, next: u16) -> u8
     u8::from(single & (unit >= 0x80)) + u8::from(single & (unit >= 0x800))
 }
 
-/// The sum over N places from one on.
+/// Returns the sum over the N indices from `at` on.
 #[tactic(auto, using(crate::proofs::Sums::TotalLemmas::beyond_next))]
 #[inline(always)]
 fn piece_beyond<const N: usize>(units: &[u16], at: usize) -> usize
@@ -192,7 +193,7 @@ fn piece_beyond<const N: usize>(units: &[u16], at: usize) -> usize
     usize::from(sum)
 }
 
-/// The code unit at a place, and zero behind the last.
+/// Returns the code unit at an index, and zero past the last.
 #[inline(always)]
 fn unit_at(units: &[u16], at: usize) -> u16
     ensures { result ≡ slice_index units.now at }
@@ -200,7 +201,7 @@ fn unit_at(units: &[u16], at: usize) -> u16
     if at < units.len() { units[at] } else { 0 }
 }
 
-/// How many bytes the UTF-8 of code units has beyond one for each.
+/// Returns how many bytes the UTF-8 of the code units has beyond one for each.
 #[tactic(auto, using(crate::proofs::Sums::TotalLemmas::beyond_next, crate::proofs::Sums::TotalLemmas::total_end))]
 #[inline(never)]
 fn count_beyond(units: &[u16]) -> usize
@@ -224,7 +225,7 @@ fn count_beyond(units: &[u16]) -> usize
     sum
 }
 
-/// The number of bytes that the UTF-8 of code units has, with U+FFFD for each lone surrogate.
+/// Returns the number of bytes in the UTF-8 of the code units, with U+FFFD for each unpaired surrogate.
 pub fn utf8_length_of_units(units: &[u16]) -> usize
     ensures { (text : List ℕ) × IsUtf8OfUnits units.now text × (result ≡ length text) }
 {

@@ -1,5 +1,5 @@
-//! The private steps of the text encodings, by vectors and by single units. Nothing here is promised to users:
-//! `encoding_text` stands on these contracts and hands none of them on.
+//! Private steps of the text encodings, by vectors and by single units. Nothing here is promised to users:
+//! `encoding_text` relies on these contracts and exposes none of them.
 #![tactic(auto)]
 
 pub mod bidi_blocks;

@@ -1,5 +1,5 @@
-//! Pairs by blocks: code units without a lone surrogate, and Latin1 in UTF-8. Each unit is judged by itself and the one
-//! before it, which is read by a load of its own, so that a block carries no state and the last one may overlap.
+//! Pairs by blocks: code units without an unpaired surrogate, and Latin1 in UTF-8. Each unit is judged by itself and
+//! the one before it, which is loaded separately, so that a block carries no state and the last one may overlap.
 ghost use Rattle.std.specs.Prelude.{◌≡◌, false, ◌+◌, ◌-◌, ◌<◌, ◌≤◌, length, take, slice_index, IsTrue};
 ghost use Rattle.encoding_definitions.specs.Utf16.{IsLowSurrogate};
 ghost use Rattle.encoding_definitions.specs.Latin1.{IsUtf8Latin1};
@@ -12,16 +12,16 @@ use crate::surrogates::{is_high_surrogate, is_low_surrogate};
 use std::simd::Simd;
 use std::simd::prelude::*;
 
-/// How many blocks behind one with surrogates are tested for pairs at once.
+/// The number of blocks after one with surrogates that are tested for pairs at once.
 const PAIRED_BLOCKS: usize = 8;
 
-/// The least byte that stands before a continuation byte.
+/// The least byte that precedes a continuation byte.
 const LEADS: u8 = 0xC0;
 
 /// The first byte of U+0100. All bytes of lesser characters are less, and greater characters begin with no lesser byte.
 pub const BEYOND_LATIN1: u8 = 0xC4;
 
-/// Pairs of code units that stand side by side: the second is a low surrogate exactly where the first is a high one.
+/// Pairs of adjacent code units: the second is a low surrogate if and only if the first is a high one.
 #[derive(Drop)]
 struct UnitPairs<'a> {
     units: &'a [u16],
@@ -43,7 +43,7 @@ impl<'a, const N: usize> Places<N> for UnitPairs<'a> {
     }
 }
 
-/// Whether none of the code units of a block is a surrogate, by one test.
+/// Returns whether none of the code units of a block is a surrogate, by one test.
 #[inline(always)]
 fn has_no_surrogate(block: &[u16]) -> bool
     requires { length block.now ≡ 64 }
@@ -58,7 +58,7 @@ fn has_no_surrogate(block: &[u16]) -> bool
     !lowest.simd_lt(Simd::splat(0x800)).any()
 }
 
-/// `at`, or the place before it where a pair is cut there.
+/// Returns `at`, or the index before it if a pair is cut at `at`.
 #[tactic(auto, using(crate::proofs::Paired::PairsLemmas::valid_whole, crate::proofs::Paired::PairsLemmas::valid_cut))]
 #[inline(always)]
 fn before_cut_pair(units: &[u16], at: usize) -> usize
@@ -72,7 +72,8 @@ fn before_cut_pair(units: &[u16], at: usize) -> usize
     }
 }
 
-/// How far a low surrogate stands exactly behind each high one, by whole blocks, behind a first code unit that isn't low.
+/// Returns the length of a prefix of one code unit, which isn't a low surrogate, and whole blocks. In it a unit is a
+/// low surrogate if and only if it follows a high one.
 #[inline(always)]
 fn paired_blocks(units: &[u16]) -> usize
     requires some { 0 < length units.now }
@@ -82,7 +83,7 @@ fn paired_blocks(units: &[u16]) -> usize
 {
     let (blocks, _) = units[1..].as_chunks::<UNIT_BLOCK>();
     let mut at = 1;
-    // surrogates seldom come alone: behind a block with some the next ones are tested for pairs at once
+    // surrogates cluster: the blocks after one with some are tested for pairs at once
     let mut expected = 0;
     for block in blocks {
         if 0 < expected || is_high_surrogate(units[at - 1]) || !has_no_surrogate(block) {
@@ -100,7 +101,7 @@ fn paired_blocks(units: &[u16]) -> usize
     at
 }
 
-/// How far the code units have no lone surrogate, by whole blocks and strides.
+/// Returns the length of a prefix without an unpaired surrogate, by whole blocks and strides.
 #[inline(always)]
 pub fn paired_front(units: &[u16]) -> usize
     ensures { (result ≤ length units.now) × IsValidUtf16 (take result units.now) }
@@ -113,7 +114,7 @@ pub fn paired_front(units: &[u16]) -> usize
     before_cut_pair(units, last + 1)
 }
 
-/// Pairs of bytes that stand side by side: the second may stand in Latin1 behind the first.
+/// Pairs of adjacent bytes: the second may follow the first in the UTF-8 of Latin1.
 #[derive(Drop)]
 struct BytePairs<'a> {
     bytes: &'a [u8],
@@ -137,7 +138,7 @@ impl<'a, const N: usize> Places<N> for BytePairs<'a> {
     }
 }
 
-/// `at`, or the beginning of the character that is cut there.
+/// Returns `at`, or the start of the character that is cut there.
 #[tactic(auto, using(crate::proofs::Paired::PairsLemmas::latin1_whole, crate::proofs::Paired::PairsLemmas::latin1_cut))]
 #[inline(always)]
 fn before_cut_character(bytes: &[u8], at: usize) -> usize
@@ -147,7 +148,8 @@ fn before_cut_character(bytes: &[u8], at: usize) -> usize
     if bytes[at - 1] >= LEADS { at - 1 } else { at }
 }
 
-/// How far the bytes are Latin1 in UTF-8, by whole blocks behind a prefix. Out of line: most other text ends before it.
+/// Returns the length of a prefix that is Latin1 in UTF-8, by whole blocks after `from`. Out of line, since most other
+/// text ends before it.
 #[inline(never)]
 pub fn latin1_blocks(bytes: &[u8], from: usize) -> usize
     requires { (0 < from) × (from ≤ length bytes.now) × FitLatin1 bytes.now 0 from }

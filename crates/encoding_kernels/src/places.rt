@@ -1,22 +1,22 @@
-//! Places that pass a test, many at a time by vectors.
+//! Scans for indices that pass a test, many at a time by vectors.
 
 ghost use Rattle.std.specs.Prelude.{◌≡◌, ℕ, ◌+◌, ◌*◌, ◌<◌, ◌≤◌, ◌↔◌, ◌⊎◌, IsTrue};
 ghost use lib.Count.{count_trailing_zeros};
 ghost use Rattle.encoding_kernels.specs.Places.{PassBetween, IsRun, Marks};
 
-/// A test of each of a number of places, by N at a time.
+/// A test of each index below a count, N at a time.
 pub(crate) trait Places<const N: usize> {
     ghost count: { Self → ℕ };
 
     ghost passes: { Self → ℕ → Type 0 };
 
-    /// The mask of those of N places that fail.
+    /// Returns the mask of those of the N indices from `at` on that fail.
     fn failing(&self, at: usize) -> u64
         requires { (at + N ≤ count self.now) × (0 < N) × (N ≤ 64) }
         ensures { Marks (passes self.now) at N result };
 }
 
-/// Whether each of 4 * N places from one on passes, by one test.
+/// Returns whether each of the 4 * N indices from `at` on passes, by one test.
 #[inline(always)]
 fn all_of_four<const N: usize, T: Places<N>>(test: &T, at: usize) -> bool
     requires { (at + 4 * N ≤ T.count test.now) × (at + 4 * N < 18446744073709551616) × (0 < N) × (N ≤ 64) }
@@ -27,7 +27,7 @@ fn all_of_four<const N: usize, T: Places<N>>(test: &T, at: usize) -> bool
     front & back
 }
 
-/// Whether each of the W places from one on passes, by one test of one, four or eight vectors.
+/// Returns whether each of the W indices from `at` on passes, by one test of one, four or eight vectors.
 #[inline(always)]
 pub(crate) fn all<const N: usize, const W: usize, T: Places<N>>(test: &T, at: usize) -> bool
     requires within { (at + W ≤ T.count test.now) × (at + W < 18446744073709551616) × (0 < N) × (N ≤ 64) }
@@ -43,7 +43,7 @@ pub(crate) fn all<const N: usize, const W: usize, T: Places<N>>(test: &T, at: us
     }
 }
 
-/// How many of N places come before the first that fails, by the mask of those that do.
+/// Returns how many of N indices precede the first that fails, by the mask of those that do.
 #[inline(always)]
 pub(crate) fn run_before<const N: usize>(failing: u64) -> usize
     ensures none { failing ≡ 0 → result ≡ N }
@@ -56,7 +56,7 @@ pub(crate) fn run_before<const N: usize>(failing: u64) -> usize
     }
 }
 
-/// How many of the N places from one on come before the first that fails.
+/// Returns how many of the N indices from `at` on precede the first that fails.
 #[inline(always)]
 pub(crate) fn run<const N: usize, T: Places<N>>(test: &T, at: usize) -> usize
     requires { (at + N ≤ T.count test.now) × (0 < N) × (N ≤ 64) }
@@ -65,7 +65,8 @@ pub(crate) fn run<const N: usize, T: Places<N>>(test: &T, at: usize) -> usize
     run_before::<N>(test.failing(at))
 }
 
-/// Goes from a place on, no farther than to an end, by W at a time while they pass, and returns where that ends.
+/// Skips W indices at a time from `from` on, no farther than `end`, while they pass, and returns the index that it
+/// reaches.
 #[inline(always)]
 pub(crate) fn skip<const N: usize, const W: usize, T: Places<N>>(
     test: &T,
@@ -81,7 +82,7 @@ pub(crate) fn skip<const N: usize, const W: usize, T: Places<N>>(
     if end < W {
         return from;
     }
-    // a loop that compares with a bound takes an instruction less than one that subtracts
+    // a loop that compares with a bound takes one instruction less than one that subtracts
     let mut at = from;
     while at <= end - W && all::<N, W, T>(test, at) {
         at += W;
@@ -89,7 +90,7 @@ pub(crate) fn skip<const N: usize, const W: usize, T: Places<N>>(
     at
 }
 
-/// As far as `skip` goes, or to the end, where the last W before it, which may begin sooner, pass too.
+/// Skips as far as `skip`, or to `end` if the last W indices before it pass too. These may overlap the ones before.
 #[inline(always)]
 pub(crate) fn reach<const N: usize, const W: usize, T: Places<N>>(
     test: &T,
@@ -109,7 +110,8 @@ pub(crate) fn reach<const N: usize, const W: usize, T: Places<N>>(
     at
 }
 
-/// The first place before an end that fails, behind a place before which all pass, by N at a time. The last N may begin before it.
+/// Returns the first index before `end` that fails, or `end`, given that all before `from` pass. Scans N indices at a
+/// time, and the last N may overlap the ones before.
 #[inline(always)]
 pub(crate) fn find<const N: usize, T: Places<N>>(test: &T, from: usize, end: usize) -> usize
     requires room { (N ≤ end) × (end ≤ T.count test.now) × (0 < N) × (N ≤ 64) }

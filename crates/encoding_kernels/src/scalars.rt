@@ -1,4 +1,4 @@
-//! Single scalar values: their UTF-8 and their UTF-16, read and written.
+//! Reads and writes the UTF-8 and the UTF-16 of single scalar values. The rest of `dst` is unchanged.
 
 ghost use Rattle.std.specs.Prelude.{◌≡◌, ◌<◌, ◌≤◌, length, encode_utf8, IfSome, IfNone};
 ghost use Rattle.std.specs.Char.{IsScalar, len_utf8};
@@ -6,7 +6,7 @@ ghost use Rattle.std.specs.Char.Escape.{encode_utf16};
 ghost use Rattle.encoding_definitions.specs.Sequence.{IsSequence};
 ghost use Rattle.encoding_definitions.specs.Fronts.{WritesFront};
 
-/// The scalar value that the bytes spell.
+/// Returns the scalar value that the bytes encode.
 #[inline(always)]
 pub fn scalar_of_sequence(bytes: &[u8]) -> u32
     requires sequence { IsSequence bytes.now }
@@ -27,7 +27,8 @@ pub fn scalar_of_sequence(bytes: &[u8]) -> u32
     }
 }
 
-/// Writes the UTF-16 of the scalar value at the front, if it fits, and returns how many code units that are.
+/// Writes the UTF-16 of the scalar value to the start of `dst`, and returns its length, or returns `None` if it doesn't
+/// fit.
 #[inline(always)]
 pub fn write_utf16(scalar: u32, dst: &mut [u16]) -> Option<usize>
     requires scalar { IsScalar scalar }
@@ -50,7 +51,7 @@ pub fn write_utf16(scalar: u32, dst: &mut [u16]) -> Option<usize>
     Some(2)
 }
 
-/// How many code units the UTF-16 of a scalar value has.
+/// Returns the number of code units in the UTF-16 of a scalar value.
 #[inline(always)]
 pub fn utf16_length(scalar: u32) -> usize
     ensures { result ≡ length (encode_utf16 scalar) }
@@ -58,7 +59,7 @@ pub fn utf16_length(scalar: u32) -> usize
     if scalar < 0x10000 { 1 } else { 2 }
 }
 
-/// How many bytes the UTF-8 of a scalar value has.
+/// Returns the number of bytes in the UTF-8 of a scalar value.
 #[inline(always)]
 pub fn utf8_length(scalar: u32) -> usize
     ensures { result ≡ len_utf8 scalar }
@@ -71,7 +72,7 @@ pub fn utf8_length(scalar: u32) -> usize
     }
 }
 
-/// Writes the UTF-8 of a scalar value, and returns how many bytes that are. Behind what is written `dst` is as before.
+/// Writes the UTF-8 of a scalar value to the start of `dst`, and returns its length.
 #[inline(always)]
 pub fn write_scalar(scalar: u32, dst: &mut [u8]) -> usize
     requires scalar { scalar < 0x110000 }

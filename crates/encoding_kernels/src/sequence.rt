@@ -1,15 +1,16 @@
-//! The bytes of one well-formed UTF-8 sequence, each seen alone: the nine rows of the Unicode Standard, Table 3-7.
+//! Tests of the bytes of one well-formed UTF-8 sequence, one byte at a time: the nine rows of the Unicode Standard,
+//! Table 3-7.
 ghost use Rattle.std.specs.Prelude.{◌≡◌, ℕ, ◌+◌, ◌↔◌, List, [], ◌∷◌, length, IsTrue};
 ghost use Rattle.encoding_definitions.specs.Sequence.{IsSequence, IsBeginning, IsSecond, IsContinuation};
 
-/// Whether a sequence of several bytes begins with the byte.
+/// Returns whether the byte begins a sequence of several bytes.
 pub fn begins_several(byte: u8) -> bool
     ensures { IsTrue result ↔ IsBeginning (byte ∷ []) }
 {
     0xC2 <= byte && byte <= 0xF4
 }
 
-/// Whether the byte may stand second behind this first one of several.
+/// Returns whether the byte may be the second of a sequence of several that begins with `lead`.
 pub fn is_second(lead: u8, byte: u8) -> bool
     ensures { IsTrue result ↔ IsSecond lead byte }
 {
@@ -24,15 +25,15 @@ pub fn is_second(lead: u8, byte: u8) -> bool
     least <= byte && byte <= greatest
 }
 
-/// Whether the byte may stand behind the second byte of a sequence.
+/// Returns whether the byte is a continuation byte, which may follow the second byte of a sequence.
 pub fn is_continuation(byte: u8) -> bool
     ensures { IsTrue result ↔ IsContinuation byte }
 {
     byte & 0xC0 == 0x80
 }
 
-/// Whether the first byte begins several, and the second may go on: by one test, since on random bytes a branch for each
-/// costs more than the test.
+/// Returns whether `lead` begins several bytes and `second` is a continuation byte. Uses one test, since on random
+/// bytes a branch for each costs more.
 #[inline(always)]
 pub fn begin_several(lead: u8, second: u8) -> bool
     ensures { IsTrue result ↔ IsBeginning (lead ∷ []) × IsContinuation second }
@@ -41,7 +42,7 @@ pub fn begin_several(lead: u8, second: u8) -> bool
     second & mask == 0x80
 }
 
-/// The length of the sequences that begin with the byte.
+/// Returns the length of the sequences that begin with the byte.
 pub fn sequence_length(lead: u8) -> usize
     ensures { (rest : List ℕ) → IsSequence (lead ∷ rest) → result ≡ 1 + length rest }
 {

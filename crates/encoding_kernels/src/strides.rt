@@ -1,4 +1,4 @@
-//! Slices by vectors: how many first units are below a bound.
+//! Scans slices by vectors for the longest prefix of units below a bound.
 mod ascii_copies;
 mod copies;
 
@@ -13,28 +13,28 @@ pub use copies::{copy_front, pack_lower, unpack, write_first};
 use std::simd::Simd;
 use std::simd::prelude::*;
 
-/// The bytes of a block.
+/// The number of bytes in a block.
 pub const BLOCK: usize = 64;
 
-/// The bytes of four blocks.
+/// The number of bytes in four blocks.
 pub(crate) const FOUR_BLOCKS: usize = 256;
 
-/// The bytes of eight blocks.
+/// The number of bytes in eight blocks.
 const EIGHT_BLOCKS: usize = 512;
 
-/// The units of a stride, a vector of bytes.
+/// The number of units in a stride, a vector of bytes.
 pub const STRIDE: usize = 16;
 
-/// The units of half a stride.
+/// The number of units in half a stride.
 pub const HALF_STRIDE: usize = 8;
 
-/// The UTF-16 code units that one test covers.
+/// The number of UTF-16 code units that one test covers.
 pub(crate) const UNIT_BLOCK: usize = 64;
 
-/// The UTF-16 code units of a text shorter than a block that one test covers.
+/// The number of UTF-16 code units that one test covers in a text shorter than a block.
 pub const HALF_UNIT_BLOCK: usize = 32;
 
-/// The UTF-16 code units of a vector.
+/// The number of UTF-16 code units in a vector.
 pub const UNIT_STRIDE: usize = 8;
 
 /// The least byte that isn't ASCII.
@@ -83,7 +83,7 @@ impl<'a, const N: usize> Places<N> for UnitsBelow<'a> {
     }
 }
 
-/// Whether each of the N bytes from a place on is below the bound.
+/// Returns whether each of the N bytes from `at` on is below the bound.
 #[inline(always)]
 pub fn are_bytes_below<const N: usize>(bytes: &[u8], at: usize, bound: u8) -> bool
     requires { (at + N ≤ length bytes.now) × (0 < N) × (N ≤ 64) }
@@ -92,7 +92,7 @@ pub fn are_bytes_below<const N: usize>(bytes: &[u8], at: usize, bound: u8) -> bo
     all::<N, N, _>(&BytesBelow { bytes, bound }, at)
 }
 
-/// Whether each of the N UTF-16 code units from a place on is below the bound.
+/// Returns whether each of the N UTF-16 code units from `at` on is below the bound.
 #[inline(always)]
 pub(crate) fn are_units_below<const N: usize>(units: &[u16], at: usize, bound: u16) -> bool
     requires { (at + N ≤ length units.now) × (0 < N) × (N ≤ 64) }
@@ -101,7 +101,7 @@ pub(crate) fn are_units_below<const N: usize>(units: &[u16], at: usize, bound: u
     all::<N, N, _>(&UnitsBelow { units, bound }, at)
 }
 
-/// How many of the N bytes from a place on come before the first that isn't below the bound.
+/// Returns how many of the N bytes from `at` on precede the first that isn't below the bound.
 #[inline(always)]
 pub fn run_of_bytes_below<const N: usize>(bytes: &[u8], at: usize, bound: u8) -> usize
     requires { (at + N ≤ length bytes.now) × (0 < N) × (N ≤ 64) }
@@ -110,7 +110,8 @@ pub fn run_of_bytes_below<const N: usize>(bytes: &[u8], at: usize, bound: u8) ->
     run::<N, _>(&BytesBelow { bytes, bound }, at)
 }
 
-/// How many bytes come before the first that isn't below the bound. That this is among the first ones is seen first.
+/// Returns the length of the longest prefix of bytes below `bound`. Checks the first vector separately, since most
+/// prefixes end there.
 #[inline(always)]
 pub fn front_of_bytes_below(bytes: &[u8], bound: u8) -> usize
     ensures within { result ≤ length bytes.now }
@@ -127,7 +128,7 @@ pub fn front_of_bytes_below(bytes: &[u8], bound: u8) -> usize
     front_behind_stride(bytes, bound)
 }
 
-/// How many bytes come before the first that isn't below the bound, where those of the first stride are.
+/// Returns the length of the longest prefix of bytes below the bound, given that those of the first stride are.
 #[inline(always)]
 pub fn front_behind_stride(bytes: &[u8], bound: u8) -> usize
     requires { (16 ≤ length bytes.now) × BelowUpTo bound bytes.now 16 }
@@ -143,7 +144,7 @@ pub fn front_behind_stride(bytes: &[u8], bound: u8) -> usize
     find::<BLOCK, _>(&test, by_blocks, bytes.len())
 }
 
-/// How many bytes of a short text come before the first that isn't below the bound.
+/// Returns the length of the longest prefix of bytes below the bound, in a text shorter than a stride.
 #[inline(always)]
 fn short_front_of_bytes_below(bytes: &[u8], bound: u8) -> usize
     ensures within { result ≤ length bytes.now }
@@ -160,7 +161,7 @@ fn short_front_of_bytes_below(bytes: &[u8], bound: u8) -> usize
     at
 }
 
-/// Whether each byte is below the bound. The first ones, which most often decide it, are looked at alone.
+/// Returns whether each byte is below the bound. Checks the first vector separately, since it most often decides.
 #[inline(always)]
 pub fn are_all_bytes_below(bytes: &[u8], bound: u8) -> bool
     ensures { IsTrue result ↔ EachIndex bytes.now (λ k. slice_index bytes.now k < bound) }
@@ -181,7 +182,7 @@ pub fn are_all_bytes_below(bytes: &[u8], bound: u8) -> bool
     end == bytes.len()
 }
 
-/// How many UTF-16 code units come before the first that isn't below the bound.
+/// Returns the length of the longest prefix of UTF-16 code units below the bound.
 #[inline(always)]
 pub fn front_of_units_below(units: &[u16], bound: u16) -> usize
     ensures within { result ≤ length units.now }
@@ -194,7 +195,8 @@ pub fn front_of_units_below(units: &[u16], bound: u16) -> usize
     skip::<1, 1, _>(&test, by_strides, units.len())
 }
 
-/// Whether each UTF-16 code unit is below the bound. The first ones, which most often decide it, are looked at alone.
+/// Returns whether each UTF-16 code unit is below the bound. Checks the first vector separately, since it most often
+/// decides.
 #[inline(always)]
 pub fn are_all_units_below(units: &[u16], bound: u16) -> bool
     ensures { IsTrue result ↔ EachIndex units.now (λ k. slice_index units.now k < bound) }

@@ -1,4 +1,4 @@
-//! The UTF-8 of code units below U+0800 and of pairs of surrogates, by vectors: each half of a pair has two of its four
+//! The UTF-8 of code units below U+0800 and of surrogate pairs, by vectors: each half of a pair yields two of its four
 //! bytes.
 
 ghost use Rattle.std.specs.Prelude.{◌≡◌, ℕ, ◌+◌, ◌*◌, ◌<◌, ◌≤◌, ◌⊎◌, ◌++◌, length, take, drop, slice_index, IsTrue};
@@ -10,8 +10,8 @@ use crate::encode_lanes::{mask_of_others, write_both};
 use crate::surrogates::{is_high_surrogate, is_low_surrogate};
 use std::simd::prelude::*;
 
-/// Whether each of the sixteen code units from a place on is below U+0800 or a half of a pair, of which the last may be
-/// cut.
+/// Returns whether each of the sixteen code units from `at` on is below U+0800 or a half of a pair. The last pair may
+/// be cut.
 #[inline(always)]
 pub(crate) fn are_short_or_paired(src: &[u16], at: usize) -> bool
     requires { at + 17 ≤ length src.now }
@@ -29,8 +29,8 @@ pub(crate) fn are_short_or_paired(src: &[u16], at: usize) -> bool
     !faults.any()
 }
 
-/// Eight code units in two bytes each, each behind the one in the other vector: their bytes, and no matter what behind
-/// that of one byte.
+/// Returns two bytes for each of eight code units, which follow the units in `before`. A unit of one byte has an
+/// arbitrary second one.
 #[inline(always)]
 fn bytes_of_halves(units: u16x8, before: u16x8) -> u8x16
     requires { (k : ℕ) → k < 8 → IsShortOrHalf (slice_index units k) }
@@ -53,8 +53,8 @@ fn bytes_of_halves(units: u16x8, before: u16x8) -> u8x16
     all.to_le_bytes()
 }
 
-/// The bytes of eight code units, each behind the one in the other vector, in the first bytes of the vector, and how
-/// many these are.
+/// Returns the UTF-8 of eight code units, which follow the units in `before`, at the start of the vector, and its
+/// length.
 #[inline(always)]
 fn encode_halves(units: u16x8, before: u16x8) -> (u8x16, usize)
     requires { (k : ℕ) → k < 8 → IsShortOrHalf (slice_index units k) }
@@ -66,7 +66,7 @@ fn encode_halves(units: u16x8, before: u16x8) -> (u8x16, usize)
     keep_pairs(bytes_of_halves(units, before), mask_of_others(units))
 }
 
-/// One if the code unit at the place is a high surrogate, and else zero.
+/// Returns 1 if the code unit at `at` is a high surrogate, and else 0.
 #[inline(always)]
 fn cut_halves(src: &[u16], at: usize) -> usize
     requires { at < length src.now }
@@ -76,8 +76,8 @@ fn cut_halves(src: &[u16], at: usize) -> usize
     if is_high_surrogate(src[at]) { 1 } else { 0 }
 }
 
-/// Writes the UTF-8 of sixteen code units below U+0800 or in pairs, or of fifteen where the last is the high half of a
-/// pair, and returns how many code units and how many bytes these are. Behind them `dst` is as before.
+/// Writes the UTF-8 of sixteen code units below U+0800 or in pairs, or of fifteen if the last is a high surrogate.
+/// Returns how many code units and how many bytes these are. The rest of `dst` is unchanged.
 #[inline(always)]
 pub(crate) fn write_short_or_paired(
     src: &[u16],

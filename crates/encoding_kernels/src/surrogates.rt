@@ -1,10 +1,10 @@
-//! Single surrogates, and pairs of them: Unicode Standard, section 3.9, UTF-16.
+//! Surrogates and surrogate pairs: Unicode Standard, section 3.9, UTF-16.
 
 ghost use Rattle.std.specs.Prelude.{◌≡◌, ◌≤◌, ◌↔◌, IsTrue};
 ghost use Rattle.std.specs.Char.Utf16.{surrogate_pair_char};
 ghost use Rattle.encoding_definitions.specs.Utf16.{IsHighSurrogate, IsLowSurrogate};
 
-/// Whether the code unit is a surrogate.
+/// Returns whether the code unit is a surrogate.
 #[inline(always)]
 pub fn is_surrogate(unit: u16) -> bool
     ensures { IsTrue result ↔ ((0xD800 ≤ unit) × (unit ≤ 0xDFFF)) }
@@ -12,7 +12,7 @@ pub fn is_surrogate(unit: u16) -> bool
     unit & 0xF800 == 0xD800
 }
 
-/// Whether the code unit is a high surrogate, the first of a pair.
+/// Returns whether the code unit is a high surrogate, the first of a pair.
 #[inline(always)]
 pub fn is_high_surrogate(unit: u16) -> bool
     ensures { IsTrue result ↔ IsHighSurrogate unit }
@@ -20,7 +20,7 @@ pub fn is_high_surrogate(unit: u16) -> bool
     unit & 0xFC00 == 0xD800
 }
 
-/// Whether the code unit is a low surrogate, the second of a pair.
+/// Returns whether the code unit is a low surrogate, the second of a pair.
 #[inline(always)]
 pub fn is_low_surrogate(unit: u16) -> bool
     ensures { IsTrue result ↔ IsLowSurrogate unit }
@@ -28,7 +28,7 @@ pub fn is_low_surrogate(unit: u16) -> bool
     unit & 0xFC00 == 0xDC00
 }
 
-/// The scalar value of a pair of surrogates.
+/// Returns the scalar value of a surrogate pair.
 #[inline(always)]
 pub fn pair_scalar(high: u16, low: u16) -> u32
     requires high { IsHighSurrogate high }

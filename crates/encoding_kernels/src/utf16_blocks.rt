@@ -1,4 +1,6 @@
-//! UTF-8 of code units by blocks: sixteen of one class, or eight of any without a surrogate.
+//! UTF-8 of code units by blocks: sixteen of one class, or eight of any without a surrogate. A conversion of blocks
+//! returns how many code units it read and how many bytes it wrote. Except in `convert_sixteen`, the rest of `dst` is
+//! unchanged.
 
 ghost use Rattle.std.specs.Prelude.{◌≡◌, ◌+◌, ◌<◌, ◌≤◌, ◌⊎◌, ◌++◌, length, take, drop, encode_utf8_all, IsTrue};
 ghost use Rattle.encoding_definitions.specs.Fronts.{WritesFront};
@@ -15,20 +17,20 @@ use crate::surrogate_pairs::{are_short_or_paired, write_short_or_paired};
 use crate::surrogates::is_surrogate;
 use std::simd::prelude::*;
 
-/// The bytes that a block of sixteen code units may store, and those behind it that are kept.
+/// The number of bytes that a block of sixteen code units may store, with those after it that are kept.
 const ROOM: usize = 64;
 
-/// The blocks of ASCII in a row behind which strides of 32 are tried.
+/// The number of consecutive blocks of ASCII after which strides of 32 are tried.
 const ASCII_BLOCKS: usize = 8;
 
-/// The bytes of eight code units above which most of the next ones are taken to be beyond ASCII too.
+/// The number of bytes for eight code units above which most of the next ones are taken to be beyond ASCII too.
 const FEW_BYTES: usize = 16;
 
-/// The blocks behind one that isn't ASCII that go without a test for ASCII: text seldom changes to long ASCII there,
-/// and a test that comes out now one way and now the other costs more than it saves.
+/// The number of blocks after one that isn't ASCII that aren't tested for ASCII. Text seldom changes to long ASCII
+/// there, and a test with varying outcomes costs more than it saves.
 const BLOCKS_BEHIND: usize = 8;
 
-/// Converts so many ASCII code units from a place on, to as many bytes.
+/// Converts the N ASCII code units from `at` on, to as many bytes.
 #[inline(always)]
 fn convert_ascii<const N: usize>(src: &[u16], at: usize, dst: &mut [u8], to: usize)
     requires room { (at + N ≤ length src.now) × (to + N ≤ length dst.old) }
@@ -42,8 +44,7 @@ fn convert_ascii<const N: usize>(src: &[u16], at: usize, dst: &mut [u8], to: usi
     bytes.copy_to_slice(&mut dst[to..]);
 }
 
-/// Converts eight code units from a place on, if none is a surrogate, and returns how many code units it read, eight or
-/// none, and how many bytes it wrote. Behind these `dst` is as before.
+/// Converts the eight code units from `at` on, or none if one is a surrogate.
 #[inline(always)]
 fn convert_eight(src: &[u16], at: usize, dst: &mut [u8], to: usize) -> (usize, usize)
     requires room { (at + 8 ≤ length src.now) × (to + 32 ≤ length dst.old) }
@@ -61,9 +62,8 @@ fn convert_eight(src: &[u16], at: usize, dst: &mut [u8], to: usize) -> (usize, u
     (0, 0)
 }
 
-/// Converts blocks from the beginning of `src` on while most of them are ASCII, and returns how many code units these
-/// are and how many bytes it wrote: sixteen that are ASCII, or eight of any class but surrogates. It also ends behind a
-/// long run of ASCII. Behind what is written `dst` is as before.
+/// Converts blocks from the start of `src` while most of them are ASCII: sixteen units that are ASCII, or eight of any
+/// class but surrogates. Also ends after a long run of ASCII.
 #[inline(always)]
 fn convert_sparse_blocks(src: &[u16], dst: &mut [u8]) -> (usize, usize)
     ensures { WritesPlain src.now dst.old dst.new result.0 result.1 }
@@ -105,7 +105,7 @@ fn convert_sparse_blocks(src: &[u16], dst: &mut [u8]) -> (usize, usize)
     (read, written)
 }
 
-/// Whether none of the sixteen code units from a place on is a surrogate.
+/// Returns whether none of the sixteen code units from `at` on is a surrogate.
 #[inline(always)]
 fn are_sixteen_plain(src: &[u16], at: usize) -> bool
     requires { at + 16 ≤ length src.now }
@@ -119,9 +119,9 @@ fn are_sixteen_plain(src: &[u16], at: usize) -> bool
     are_plain(first) & are_plain(second)
 }
 
-/// Converts sixteen code units without a surrogate from a place on, and returns how many bytes these take, what stood in
-/// the sixteen places behind them, and whether all are from U+0800 on, for which they are tested only where that is told
-/// to be likely.
+/// Converts the sixteen code units from `at` on, which have no surrogate. Returns how many bytes it wrote, and the
+/// sixteen bytes that were after them, which may be changed. Also returns the next `is_long_likely`: whether it was set
+/// and all units are from U+0800 on, or all are below. They are tested for that only if it was set.
 #[inline(always)]
 fn convert_sixteen(
     src: &[u16],
@@ -151,9 +151,8 @@ fn convert_sixteen(
     (bytes, kept, false)
 }
 
-/// Converts blocks of sixteen code units from the beginning of `src` on while most are beyond ASCII and none is a
-/// surrogate, and returns how many code units these are and how many bytes it wrote. A block stores more than counts:
-/// what stood behind it is written back behind the last one alone, so that there too `dst` is as before.
+/// Converts blocks of sixteen code units from the start of `src` while most are beyond ASCII and none is a surrogate. A
+/// block may change bytes after its own: only after the last one are they written back.
 #[inline(always)]
 fn convert_dense_blocks(src: &[u16], dst: &mut [u8]) -> (usize, usize)
     ensures { WritesPlain src.now dst.old dst.new result.0 result.1 }
@@ -188,8 +187,7 @@ fn convert_dense_blocks(src: &[u16], dst: &mut [u8]) -> (usize, usize)
     (read, written)
 }
 
-/// Converts those of the first eight code units that come before a surrogate, if there are eight, and returns how many
-/// these are and how many bytes it wrote. Behind these `dst` is as before.
+/// Converts those of the first eight code units that precede a surrogate, if there are eight.
 #[inline(always)]
 fn convert_first_eight(src: &[u16], dst: &mut [u8]) -> (usize, usize)
     ensures { WritesPlain src.now dst.old dst.new result.0 result.1 }
@@ -202,10 +200,10 @@ fn convert_first_eight(src: &[u16], dst: &mut [u8]) -> (usize, usize)
     (first, write_first_of_eight(units, first, dst, 0))
 }
 
-/// Converts the ASCII at the beginning of `src`, and if no surrogate ends it, blocks that are mostly ASCII, and what comes
-/// before a surrogate of eight more; if all eight do, also blocks that mostly aren't ASCII. Returns how many code units
-/// these are, how many bytes it wrote, and whether all eight did: if not, a surrogate is next, or the end of either is
-/// near. Behind what is written `dst` is as before.
+/// Converts the ASCII prefix of `src`. If no surrogate ends it, also converts blocks that are mostly ASCII, and those
+/// of eight more units that precede a surrogate. If all eight do, also converts blocks that mostly aren't ASCII.
+/// Returns how many code units it read, how many bytes it wrote, and whether all eight did. If not, a surrogate is
+/// next, or the end of `src` or `dst` is near.
 #[inline(always)]
 fn convert_some_blocks(src: &[u16], dst: &mut [u8]) -> (usize, usize, bool)
     ensures some { IsTrue result.2 → 0 < result.0 }
@@ -229,8 +227,8 @@ fn convert_some_blocks(src: &[u16], dst: &mut [u8]) -> (usize, usize, bool)
     (read + dense, written + many, true)
 }
 
-/// Converts blocks of code units from the beginning of `src` on, none of which has a surrogate, and returns how many code
-/// units these are and how many bytes it wrote. Behind what is written `dst` is as before.
+/// Converts blocks of code units from the start of `src` that have no surrogate. Returns how many code units it read
+/// and how many bytes it wrote.
 pub fn convert_blocks(src: &[u16], dst: &mut [u8]) -> (usize, usize)
     ensures { WritesPlain src.now dst.old dst.new result.0 result.1 }
 {
@@ -247,9 +245,8 @@ pub fn convert_blocks(src: &[u16], dst: &mut [u8]) -> (usize, usize)
     (read, written)
 }
 
-/// Converts blocks of code units from the beginning of `src` on while they have pairs of surrogates and are below
-/// U+0800 beside these, and returns how many code units these are and how many bytes it wrote. Behind these `dst` is as
-/// before.
+/// Converts blocks of code units from the start of `src` while they have surrogate pairs and their other units are
+/// below U+0800. Returns how many code units it read and how many bytes it wrote.
 pub fn convert_paired_blocks(src: &[u16], dst: &mut [u8]) -> (usize, usize)
     ensures front { IsUtf8OfFront src.now result.0 (take result.1 dst.new) }
     ensures rest { WritesFront dst.old dst.new result.1 (take result.1 dst.new) }

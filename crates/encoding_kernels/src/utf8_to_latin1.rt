@@ -1,4 +1,4 @@
-//! Latin1 of sixteen bytes of UTF-8: which bytes of pairs are kept is looked up by a mask, as in the other direction.
+//! Latin1 of sixteen bytes of UTF-8: the kept bytes of pairs are looked up by a mask, as in the other direction.
 
 ghost use Rattle.std.specs.Prelude.{◌≡◌, ℕ, ◌+◌, ◌*◌, ◌<◌, ◌≤◌, ◌⊎◌, ◌∷◌, length, take, slice_index};
 ghost use Rattle.std.specs.Simd.Lanes.{mask_l};
@@ -7,7 +7,7 @@ ghost use Rattle.encoding_kernels.specs.EncodeLanes.{EndsPair, all_ended, both_e
 use crate::compress_pairs::keep_pairs;
 use std::simd::prelude::*;
 
-/// Sixteen bytes in pairs: for each pair the Latin1 bytes that its bytes end, and no matter what behind one alone.
+/// Returns for each pair of bytes the Latin1 bytes that its bytes end. If they end one, the second is arbitrary.
 #[tactic(auto, using(crate::proofs::Lanes::EndsLemmas::pairs_end))]
 #[inline(always)]
 fn ended_pairs(block: u8x16) -> u8x16
@@ -29,7 +29,7 @@ fn ended_pairs(block: u8x16) -> u8x16
     begins.select(words >> u16x8::splat(8), words).to_le_bytes()
 }
 
-/// The mask of the pairs of bytes that each end a byte of Latin1.
+/// Returns the mask of the pairs of bytes that each end a byte of Latin1.
 #[tactic(auto, using(crate::proofs::Lanes::EndsLemmas::mask_ends, crate::proofs::Lanes::EndsLemmas::mask_small))]
 #[inline(always)]
 fn mask_of_ends(block: u8x16) -> usize
@@ -41,8 +41,8 @@ fn mask_of_ends(block: u8x16) -> usize
     (first & words.simd_lt(u16x8::splat(0xC000))).to_bitmask() as usize
 }
 
-/// The Latin1 of sixteen bytes of UTF-8 from the beginning of a character on, in the first bytes of the vector, and how
-/// many these are. No two bytes that begin two stand side by side.
+/// Returns the Latin1 of sixteen bytes of UTF-8 that start with a character, at the start of the vector, and its
+/// length. No two adjacent bytes both begin a character of two bytes.
 #[inline(always)]
 pub fn latin1_of(block: u8x16) -> (u8x16, usize)
     requires { (k : ℕ) → (slice_index block k < 0xC0) ⊎ (slice_index block (k + 1) < 0xC0) }

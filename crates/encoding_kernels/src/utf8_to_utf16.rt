@@ -1,8 +1,9 @@
-//! UTF-16 of well-formed UTF-8, sixteen bytes at a time: of the code units that end with each byte those that are one
-//! are moved together.
+//! UTF-16 of well-formed UTF-8, sixteen bytes at a time. A code unit is computed for each byte as if it ended there,
+//! and those that do are moved together.
 //!
-//! What a block stores behind its own code units is overwritten by those of the bytes that follow, since these have at
-//! least a third as many: a block is stored only where so many places are still due.
+//! A block may store units after its own. Those of the bytes that follow overwrite them, since these have at least a
+//! third as many: a block is stored only if that many units are still to be written. After the UTF-16 of a whole text
+//! or of an ASCII prefix, `dst` is unchanged.
 ghost use Rattle.std.specs.Prelude.{◌≡◌, ℕ, ◌+◌, ◌-◌, ◌/◌, ◌%◌, ◌<◌, ◌≤◌, [], ◌∷◌, ◌*◌, ◌^◌, Bool, false, List, ◌++◌, length, take, drop, replicate, slice_index, IsTrue};
 ghost use Rattle.std.specs.List.{flat_map};
 ghost use Rattle.std.specs.Str.{IsUtf8, IsCharBoundary, chars};
@@ -20,25 +21,25 @@ use crate::strides::{ASCII_END, LANES as BYTE_LANES, STRIDE, are_bytes_below, co
 use std::simd::Simd;
 use std::simd::prelude::*;
 
-/// The greatest byte at each place that leaves no character cut at the end of sixteen.
+/// The greatest byte at each index that leaves no character cut at the end of sixteen.
 const LAST: [u8; 16] = [
     255, 255, 255, 255, 255, 255, 255, 255, 255, 255, 255, 255, 255, 0xEF, 0xDF, 0xBF,
 ];
 
-/// The places of the lanes of a vector.
+/// The indices of the lanes of a vector.
 const LANES: [u16; 8] = [0, 1, 2, 3, 4, 5, 6, 7];
 
-/// The bits that tell whether a byte begins three, at every third place.
+/// The bits that show whether a byte begins three, at every third index.
 const LEAD_BITS: [u8; 16] = [
     0xF0, 0, 0, 0xF0, 0, 0, 0xF0, 0, 0, 0xF0, 0, 0, 0xF0, 0, 0, 0,
 ];
 
-/// What they are where it does.
+/// Their values if it does.
 const LEADS: [u8; 16] = [
     0xE0, 0, 0, 0xE0, 0, 0, 0xE0, 0, 0, 0xE0, 0, 0, 0xE0, 0, 0, 0,
 ];
 
-/// Writes the units whose bit is set, in order, and returns how many these are.
+/// Writes the units whose bit is set, in order, and returns their number.
 #[inline(always)]
 fn write_compressed(first: u16x8, last: u16x8, kept: usize, dst: &mut [u16]) -> usize
     requires { (kept < 2 ^ 16) × (16 ≤ length dst.old) }
@@ -53,7 +54,7 @@ fn write_compressed(first: u16x8, last: u16x8, kept: usize, dst: &mut [u16]) -> 
     count + last_kept.count_ones() as usize
 }
 
-/// Writes the units whose bit is set, in order, and no others. Returns how many these are.
+/// Writes the units whose bit is set, in order, and no others. Returns their number.
 #[inline(always)]
 fn write_compressed_exact(first: u16x8, last: u16x8, kept: usize, dst: &mut [u16]) -> usize
     requires { (kept < 2 ^ 16) × (16 ≤ length dst.old) }
@@ -73,7 +74,7 @@ fn write_compressed_exact(first: u16x8, last: u16x8, kept: usize, dst: &mut [u16
     count + more
 }
 
-/// Where the last whole character of the first sixteen bytes ends, or 0.
+/// Returns the end of the last whole character of the first sixteen bytes, or 0.
 #[inline(always)]
 fn whole_end(src: &[u8]) -> usize
     requires { (16 < length src.now) × IsUtf8 src.now }
@@ -90,7 +91,7 @@ fn whole_end(src: &[u8]) -> usize
     end
 }
 
-/// Writes the UTF-16 of the first bytes, up to the end of a character, and returns how many code units these are.
+/// Writes the UTF-16 of the first `end` bytes, up to the end of a character, and returns its length in code units.
 #[inline(always)]
 fn write_block(src: &[u8], end: usize, kept: usize, dst: &mut [u16]) -> usize
     requires room { (16 ≤ length src.now) × (16 ≤ length dst.old) }
@@ -103,8 +104,8 @@ fn write_block(src: &[u8], end: usize, kept: usize, dst: &mut [u16]) -> usize
     write_compressed(first, last, kept, dst)
 }
 
-/// Writes the UTF-16 of the first bytes, up to the end of a character, and nothing behind it, where fewer than sixteen
-/// places may be left. Returns how many code units these are.
+/// Writes the UTF-16 of the first `end` bytes, up to the end of a character, and nothing after it, even if `dst` has
+/// fewer than sixteen units. Returns its length in code units.
 #[inline(always)]
 fn write_block_in_any_room(src: &[u8], end: usize, kept: usize, dst: &mut [u16]) -> usize
     requires room { (16 ≤ length src.now) × (end ≤ length dst.old) }
@@ -123,7 +124,7 @@ fn write_block_in_any_room(src: &[u8], end: usize, kept: usize, dst: &mut [u16])
     count
 }
 
-/// Whether the text begins with five characters of three bytes.
+/// Returns whether the text begins with five characters of three bytes.
 #[inline(always)]
 fn begins_triples(src: &[u8]) -> bool
     requires { 16 ≤ length src.now }
@@ -145,7 +146,7 @@ fn write_triples(src: &[u8], dst: &mut [u16])
     triple_units(u8x16::from_slice(src)).copy_to_slice(dst);
 }
 
-/// Writes the UTF-16 of the first five characters, of three bytes each, and nothing behind it.
+/// Writes the UTF-16 of the first five characters, of three bytes each, and nothing after it.
 #[inline(always)]
 fn write_triples_exact(src: &[u8], dst: &mut [u16])
     requires room { (16 ≤ length src.now) × (5 ≤ length dst.old) }
@@ -158,7 +159,8 @@ fn write_triples_exact(src: &[u8], dst: &mut [u16])
     dst[..5].copy_from_slice(&units[..5]);
 }
 
-/// Whether eight places are due behind the first half of a block: for the second half, and a third of the bytes left.
+/// Returns whether at least eight units follow those of the first half of a block: those of the second half, and a
+/// third of the bytes left.
 #[inline(always)]
 fn is_due(kept: usize, left: usize) -> bool
     ensures { IsTrue result → 8 ≤ count_ones (kept / 2 ^ 8) + left / 3 }
@@ -166,7 +168,7 @@ fn is_due(kept: usize, left: usize) -> bool
     left >= 24 || (kept >> 8).count_ones() as usize + left / 3 >= 8
 }
 
-/// Writes the UTF-16 of the first character, and returns how many bytes and code units these are.
+/// Writes the UTF-16 of the first character, and returns how many bytes it read and how many code units it wrote.
 #[inline(always)]
 fn write_character(src: &[u8], dst: &mut [u16]) -> (usize, usize)
     requires room { (0 < length src.now) × (length src.now ≤ length dst.old) }
@@ -182,8 +184,8 @@ fn write_character(src: &[u8], dst: &mut [u16]) -> (usize, usize)
     (length, units)
 }
 
-/// Writes the UTF-16 of some first characters, and returns how many bytes and code units these are. What is due behind
-/// them may have changed too.
+/// Writes the UTF-16 of some first characters, and returns how many bytes it read and how many code units it wrote.
+/// Units that the rest of the text overwrites may have changed too.
 #[inline(always)]
 fn write_some(src: &[u8], dst: &mut [u16]) -> (usize, usize)
     requires room { (16 < length src.now) × (length src.now ≤ length dst.old) }
@@ -214,8 +216,7 @@ fn write_some(src: &[u8], dst: &mut [u16]) -> (usize, usize)
     (end, write_block_in_any_room(src, end, kept, dst))
 }
 
-/// Writes the UTF-16 of a text of a few bytes, and returns how many code units these are. Behind what is written
-/// `dst` is as before.
+/// Writes the UTF-16 of a text of a few bytes, and returns its length in code units.
 #[inline(always)]
 fn write_few(src: &[u8], dst: &mut [u16]) -> usize
     requires room { length src.now ≤ length dst.old }
@@ -232,8 +233,8 @@ fn write_few(src: &[u8], dst: &mut [u16]) -> usize
     written
 }
 
-/// The bytes of a text of eight to sixteen, and zeros behind them: its first eight, and of its last eight those behind
-/// these. By loads alone, since a load of what two stores left would stall on store forwarding.
+/// Returns a text of eight to sixteen bytes, followed by zeros: its first eight, and those of its last eight after
+/// these. Uses only loads, since a load of what two stores wrote would stall on store forwarding.
 #[inline(always)]
 fn with_zeros(src: &[u8]) -> u8x16
     requires { (8 ≤ length src.now) × (length src.now ≤ 16) }
@@ -250,8 +251,7 @@ fn with_zeros(src: &[u8]) -> u8x16
     lanes.simd_lt(count).select(bytes, u8x16::splat(0))
 }
 
-/// Writes the UTF-16 of a text of eight to sixteen bytes, and returns how many code units these are. Behind what is
-/// written `dst` is as before.
+/// Writes the UTF-16 of a text of eight to sixteen bytes, and returns its length in code units.
 #[inline(never)]
 fn write_tail(src: &[u8], dst: &mut [u16]) -> usize
     requires room { (8 ≤ length src.now) × (length src.now ≤ 16) × (length src.now ≤ length dst.old) }
@@ -263,7 +263,7 @@ fn write_tail(src: &[u8], dst: &mut [u16]) -> usize
     write_block_in_any_room(&block, src.len(), kept, dst)
 }
 
-/// Writes the UTF-16 of an ASCII prefix by strides, and returns how long it is. Behind it `dst` is as before.
+/// Writes the UTF-16 of an ASCII prefix by strides, and returns its length.
 #[inline(always)]
 pub fn convert_ascii_front(src: &[u8], dst: &mut [u16]) -> usize
     ensures within { (result ≤ length src.now) × (result ≤ length dst.old) }
@@ -273,7 +273,7 @@ pub fn convert_ascii_front(src: &[u8], dst: &mut [u16]) -> usize
     copy_vectors::<STRIDE, u16, u8>(src, dst, 0)
 }
 
-/// Writes the UTF-16 of a text, and returns how many code units these are. Behind what is written `dst` is as before.
+/// Writes the UTF-16 of a text, and returns its length in code units.
 pub fn convert_valid_utf8_to_utf16(src: &[u8], dst: &mut [u16]) -> usize
     requires room { length src.now ≤ length dst.old }
     requires text { IsUtf8 src.now }

@@ -1,4 +1,4 @@
-//! Copies of ASCII as far as it goes, to units of the same width, of a greater or of a lesser one.
+//! Copies an ASCII prefix to units of the same width, a greater or a lesser one. The rest of `dst` is unchanged.
 
 ghost use Rattle.std.specs.Prelude.{◌≡◌, ℕ, ◌+◌, ◌<◌, ◌≤◌, List, ◌++◌, length, take, drop, slice_index, refl};
 ghost use Rattle.encoding_kernels.specs.Places.{Marks};
@@ -10,16 +10,16 @@ use crate::places::{Places, run_before};
 use std::simd::Simd;
 use std::simd::prelude::*;
 
-/// Units of which ASCII is written as units of D.
+/// Units whose ASCII is written as units of D.
 pub trait AsciiAs<D>: Copy {
-    // units by their numbers
+    // the units as numbers
     ghost numbers: { List Self → List ℕ };
 
-    // units as they are written
+    // the units as they are written
     ghost written: { List Self → List D };
 
-    /// Writes the first of sixteen units from a place on, which are ASCII, so many. Behind them `dst` is as before, though
-    /// sixteen are stored.
+    /// Writes the first `count` of the sixteen units from `at` on, which are ASCII. Stores sixteen, the others as `dst`
+    /// has them.
     fn write_first(src: &[Self], dst: &mut [D], at: usize, count: usize)
         requires within { (at + 16 ≤ length src.now) × (at + 16 ≤ length dst.old) × (count ≤ 16) }
         requires ascii { AllBelow 0x80 (numbers src.now) at count }
@@ -28,21 +28,21 @@ pub trait AsciiAs<D>: Copy {
     ghost as_many: { (xs : List Self) → length (written xs) ≡ length xs };
 }
 
-/// Units of which ASCII is tested and written as units of D by N at a time.
+/// Units whose ASCII is tested and written as units of D, N at a time.
 pub trait AsciiVectors<const N: usize, D>: AsciiAs<D> {
-    /// The mask of those of N units that aren't ASCII.
+    /// Returns the mask of those of the N units from `at` on that aren't ASCII.
     fn others(src: &[Self], at: usize) -> u64
         requires { (at + N ≤ length src.now) × (0 < N) × (N ≤ 64) }
         ensures { Marks (λ k. slice_index (Self.numbers src.now) k < 0x80) at N result };
 
-    /// Writes N units from a place on, which are ASCII.
+    /// Writes the N units from `at` on, which are ASCII.
     fn write(src: &[Self], dst: &mut [D], at: usize)
         requires within { (at + N ≤ length src.now) × (at + N ≤ length dst.old) }
         requires ascii { AllBelow 0x80 (Self.numbers src.now) at N }
         ensures { dst.new ≡ take at dst.old ++ (take N (drop at (Self.written src.now)) ++ drop (at + N) dst.old) };
 }
 
-/// Copies units, N at a time, from a place on while they are ASCII, and returns where that ends.
+/// Copies units, N at a time, from `from` on while they are ASCII, and returns the index that it reaches.
 #[inline(always)]
 pub(crate) fn copy_vectors<const N: usize, D, S: AsciiVectors<N, D>>(
     src: &[S],
@@ -66,8 +66,8 @@ pub(crate) fn copy_vectors<const N: usize, D, S: AsciiVectors<N, D>>(
     at
 }
 
-/// Copies the units from a place on up to the first that isn't ASCII, where that is among the next sixteen or fewer are
-/// left, and returns where that ends. The last sixteen may begin before the place.
+/// Copies the units from `from` on up to the first that isn't ASCII, and returns the index that it reaches. That unit
+/// is among the next sixteen, or fewer are left. The last sixteen may begin before `from`.
 #[inline(always)]
 fn copy_last<D, S: AsciiVectors<1, D> + AsciiVectors<16, D>>(
     src: &[S],
@@ -91,8 +91,8 @@ fn copy_last<D, S: AsciiVectors<1, D> + AsciiVectors<16, D>>(
     at + run
 }
 
-/// Copies the units before the first that isn't ASCII, by N at a time first, over the shorter length of the two, and
-/// returns how many. That it is among the first ones is seen before all.
+/// Copies the longest ASCII prefix that fits, by N units at a time first, and returns its length. Checks the first
+/// vector separately, since most prefixes end there.
 #[inline(always)]
 pub fn copy_ascii_front<
     const N: usize,
@@ -112,7 +112,7 @@ pub fn copy_ascii_front<
     copy_last::<D, S>(src, dst, by_strides)
 }
 
-/// Copies bytes, N at a time, from a place on while they are ASCII, and returns where that ends.
+/// Copies bytes, N at a time, from `from` on while they are ASCII, and returns the index that it reaches.
 #[inline(always)]
 pub fn copy_ascii<const N: usize>(src: &[u8], dst: &mut [u8], from: usize) -> usize
     requires { (from ≤ length src.now) × (from ≤ length dst.old) × (0 < N) × (N ≤ 64) }

@@ -1,4 +1,4 @@
-//! Copies by vectors.
+//! Copies by vectors. The rest of `dst` is unchanged.
 
 ghost use Rattle.std.specs.Prelude.{◌≡◌, ◌+◌, ◌%◌, ◌<◌, ◌≤◌, ◌++◌, length, map, take, drop};
 ghost use Rattle.encoding_definitions.specs.Fronts.{WritesFront};
@@ -7,13 +7,13 @@ use super::{HALF_STRIDE, STRIDE};
 use std::simd::Simd;
 use std::simd::prelude::*;
 
-/// The most bytes that are copied by strides.
+/// The greatest number of bytes that are copied by strides.
 const MOST_STRIDES: usize = 256;
 
-/// The places of the lanes of a stride.
+/// The indices of the lanes of a stride.
 pub(crate) const LANES: [u8; STRIDE] = [0, 1, 2, 3, 4, 5, 6, 7, 8, 9, 10, 11, 12, 13, 14, 15];
 
-/// Writes the N bytes from a place on to the same place.
+/// Copies the N bytes from `at` on to the same index.
 #[inline(always)]
 pub(super) fn copy<const N: usize>(src: &[u8], dst: &mut [u8], at: usize)
     requires { (at + N ≤ length src.now) × (at + N ≤ length dst.old) }
@@ -22,7 +22,7 @@ pub(super) fn copy<const N: usize>(src: &[u8], dst: &mut [u8], at: usize)
     Simd::<u8, N>::from_slice(&src[at..]).copy_to_slice(&mut dst[at..]);
 }
 
-/// Writes the bytes at the front, N at a time. The last stride may begin before the one before it ends.
+/// Copies `src` to the start of `dst`, N bytes at a time. The last stride may overlap the one before it.
 #[inline(always)]
 fn copy_by_strides<const N: usize>(src: &[u8], dst: &mut [u8])
     requires { (0 < N) × (N ≤ 64) × (N ≤ length src.now) × (length src.now ≤ length dst.old) }
@@ -37,7 +37,7 @@ fn copy_by_strides<const N: usize>(src: &[u8], dst: &mut [u8])
     copy::<N>(src, dst, last);
 }
 
-/// Writes the bytes at the front. Few are not worth a PLT call of the C library.
+/// Copies `src` to the start of `dst`. A few bytes are not worth a PLT call of the C library.
 #[inline]
 pub fn copy_front(src: &[u8], dst: &mut [u8])
     requires { length src.now ≤ length dst.old }
@@ -54,7 +54,7 @@ pub fn copy_front(src: &[u8], dst: &mut [u8])
     }
 }
 
-/// Writes the N bytes from a place on to the same place, each as a UTF-16 code unit.
+/// Copies the N bytes from `at` on to the same index, each as a UTF-16 code unit.
 #[inline(always)]
 pub fn unpack<const N: usize>(src: &[u8], dst: &mut [u16], at: usize)
     requires { (at + N ≤ length src.now) × (at + N ≤ length dst.old) }
@@ -64,7 +64,7 @@ pub fn unpack<const N: usize>(src: &[u8], dst: &mut [u16], at: usize)
     units.copy_to_slice(&mut dst[at..]);
 }
 
-/// Writes the lower byte of each of a stride of UTF-16 code units to a place.
+/// Writes the lower byte of each of N UTF-16 code units from `at` on.
 #[inline(always)]
 pub fn pack_lower<const N: usize>(stride: &[u16; N], dst: &mut [u8], at: usize)
     requires { at + N ≤ length dst.old }
@@ -74,7 +74,7 @@ pub fn pack_lower<const N: usize>(stride: &[u16; N], dst: &mut [u8], at: usize)
     lower.cast::<u8>().copy_to_slice(&mut dst[at..]);
 }
 
-/// Writes the first bytes of a vector, so many. Behind them `dst` is as before, though sixteen bytes are stored.
+/// Writes the first `count` bytes of a vector from `at` on. Stores sixteen bytes, the others as `dst` has them.
 #[inline(always)]
 pub fn write_first(dst: &mut [u8], at: usize, bytes: u8x16, count: usize)
     requires room { at + 16 ≤ length dst.old }
@@ -86,7 +86,7 @@ pub fn write_first(dst: &mut [u8], at: usize, bytes: u8x16, count: usize)
     is_kept.select(bytes, behind).copy_to_slice(&mut dst[at..]);
 }
 
-/// Writes the first code units of a vector, so many. Behind them `dst` is as before, though sixteen are stored.
+/// Writes the first `count` code units of a vector from `at` on. Stores sixteen, the others as `dst` has them.
 #[inline(always)]
 pub(super) fn write_first_units(dst: &mut [u16], at: usize, units: u16x16, count: usize)
     requires room { at + 16 ≤ length dst.old }
