@@ -1,4 +1,4 @@
--- Units some of which come in pairs, as a rule on each and the one before it, with zero before the first.
+-- Units that may come in pairs, as a rule on each and the one before it, with zero before the first.
 use Rattle.std.specs.Prelude.{ℕ, ◌<◌, ◌≤◌, ◌↔◌, Bool, not, ◌||◌, if◌then◌else◌, nat_eq, nat_le, List, ◌∷◌, slice_index, bit_and}
 use Rattle.encoding_definitions.specs.Sequence.{IsContinuation}
 use Rattle.encoding_definitions.specs.Utf16.{IsHighSurrogate, IsLowSurrogate}

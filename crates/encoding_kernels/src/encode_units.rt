@@ -51,8 +51,8 @@ fn mask_of_classes(units: u16x8) -> usize
         .to_bitmask() as usize
 }
 
-/// Returns two words for each of eight code units. The last of three bytes are its UTF-8: the upper byte of the first
-/// word, and both of the second.
+/// Returns two words for each of eight code units. Its UTF-8 is the last one, two or three of these bytes: the upper
+/// byte of the first word, and both of the second.
 #[inline(always)]
 fn two_words(units: u16x8) -> (u16x8, u16x8)
     ensures long { (length result.0 ≡ 8) × (length result.1 ≡ 8) }
@@ -73,8 +73,8 @@ fn two_words(units: u16x8) -> (u16x8, u16x8)
     (first, second)
 }
 
-/// Returns four bytes for each of eight code units, the last of which are its UTF-8: first those of the first four
-/// units.
+/// Returns four bytes for each of eight code units, whose last ones are its UTF-8: those of the first four units, and
+/// those of the others.
 #[inline(always)]
 fn four_bytes(units: u16x8) -> (u8x16, u8x16)
     ensures long { (length result.0 ≡ 16) × (length result.1 ≡ 16) }

@@ -1,4 +1,5 @@
--- Places of bytes where right-to-left characters stand: of a text with one there is such a place, and the first three bytes tell where there is none.
+-- Indices of bytes at which there are right-to-left characters: a text with one has such an index, and the first three
+-- bytes show if there is none.
 use Rattle.std.proofs.Common.{◌≡◌, ℕ, ◌+◌, ◌-◌, ◌/◌, ◌%◌, ◌<◌, ◌≤◌, ◌⊎◌, inl, inr, List, [], ◌∷◌, ◌++◌, length, take, drop, slice_index, encode_utf8, encode_utf8_all, IsUtf8, refl, sym, ap, ◌∙◌, arith, subst, take-add, Bool, true, false, cond, ◌&&◌, leb, ltb, eqb, bit_or}
 use Rattle.std.specs.Prelude.{Any}
 use Rattle.std.specs.Str.{all_scalars}
@@ -91,11 +92,11 @@ ends_are a d l =
     for_both (λ mark. ends_lane a mark ≡ second_end a mark)
     (eqb-true _ _ (agree_below_at (same 0xE2) (λ x. true) 256 a refl l)) (eqb-true _ _ (agree_below_at (same 0xF0) (λ x. true) 256 a refl l)) d
 
--- where no second byte is below the number of the first
+-- if no second byte is below the bound of the first
 pub none_clear : (bs : List ℕ) (from to : ℕ) → PassBetween (IsClear bs) from to → NoneStands bs from to
 none_clear bs from to clear = record { each = λ k l m s. omega (arith, second_below bs k s, clear k l m) }
 
--- ---- places where none stands
+-- ---- indices at which there is none
 low_end : (a d : ℕ) → a < 0xD6 → second_end a (mark_lead d) ≡ 0
 low_end a d l = for_both (λ mark. second_end a mark ≡ 0) (grind (arith, nat_tests)) (grind (arith, nat_tests)) d
 
@@ -117,7 +118,7 @@ none_joined bs a b d p q = record { each = λ k from to s. elim (cases_lt k b) [
 some_bytes : (c : ℕ) → IsRightToLeft c → 2 ≤ length (encode_utf8 c)
 some_bytes c r = grind (arith, nat_tests, length-encode c, right_to_left_from c r)
 
--- ---- the character at a place
+-- ---- the character at an index
 pub stands_spelled : (bs : List ℕ) (at n : ℕ) → IsSequence (take n (drop at bs)) → IsBidiText (take n (drop at bs)) → StandsRightToLeft bs at
 stands_spelled bs at n q b =
     let c = scalar_of_sequence (take n (drop at bs)) q in
@@ -174,12 +175,12 @@ place_in (c ∷ cs) s a =
 pub place_of_bidi : (bs : List ℕ) → IsBidiText bs → (k : ℕ) × (k < length bs) × StandsRightToLeft bs k
 place_of_bidi bs b = subst (λ xs. (k : ℕ) × (k < length xs) × StandsRightToLeft xs k) b.2 (place_in b.0 b.1 b.3)
 
--- ---- a piece of bytes behind a front without any
+-- ---- a piece of bytes after a prefix without any
 module _ (bs piece : List ℕ) (at m : ℕ) (is : piece ≡ take m (drop at bs)) where
   front_of : (n : ℕ) → n ≤ m → take n piece ≡ take n (drop at bs)
   front_of n l = ap (take n) is ∙ take-take n m (drop at bs) l
 
-  -- where no character begins behind a longest front of the piece, none begins what is left
+  -- if no character follows the longest prefix of the piece, none begins the rest of the bytes
   nothing_begins : (n : ℕ) → (4 ≤ m - n) ⊎ (length (drop at bs) ≤ m) → IsLongestFront IsUtf8 piece n → n ≤ m → BeginsWithNoCharacter (drop (at + n) bs)
   nothing_begins n long f le front rest e q =
       let k = length front in
@@ -213,6 +214,6 @@ module _ (bs piece : List ℕ) (at m : ℕ) (is : piece ≡ take m (drop at bs))
     pub piece_found : at ≤ length bs → IsBidiText (take n piece) → IsBidiBytes bs
     piece_found l b = found_in_bytes bs at n l v (subst IsBidiText (front_of n within) b)
 
--- ---- an ASCII front
+-- ---- an ASCII prefix
 pub ascii_text : (bs : List ℕ) (n : ℕ) → n ≤ length bs → BelowUpTo 0x80 bs n → IsUtf8 (take n bs) × (IsBidiText (take n bs) → ⊥)
 ascii_text bs n l low = let latin1 = ascii_latin1 bs n l low in (text_of_latin1 (take n bs) latin1, latin1_not_bidi (take n bs) latin1)

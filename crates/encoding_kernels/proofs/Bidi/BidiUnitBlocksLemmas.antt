@@ -1,4 +1,4 @@
--- Code units of which none is right-to-left, by ranges that hold all of those.
+-- Code units that aren't right-to-left, by ranges that hold all those that are.
 use Rattle.std.proofs.Common.{◌≡◌, ℕ, ◌+◌, ◌^◌, ◌<◌, ◌≤◌, ◌⊎◌, inl, inr, false, ◌||◌, List, slice_index, arith, subst}
 use Rattle.std.specs.Prelude.{nat_eq}
 use Rattle.std.proofs.lemmas.Bool.{cases_lt, ltb-false, or_parts}
@@ -36,7 +36,7 @@ not_right_to_left u l e r =
 pub units_clear : (us : List ℕ) (from to : ℕ) → ((k : ℕ) → slice_index us k < 2 ^ 16) → PassBetween (λ k. may_be_right_to_left (slice_index us k) ≡ false) from to → NoneRightToLeft us from to
 units_clear us from to units none = record { each = λ k l m r. not_right_to_left (slice_index us k) (units k) (none k l m) r }
 
--- ---- parts
+-- ---- ranges of units
 pub units_low : (us : List ℕ) (from to : ℕ) → BelowBetween 0x590 us from to → NoneRightToLeft us from to
 units_low us from to low = record { each = λ k l m r. unit_low_none (slice_index us k) (low k l m) r }
 

@@ -1,4 +1,4 @@
--- Code units below U+0800 and pairs: each is a character, whose UTF-8 is joined from the bytes of its units.
+-- Code units below U+0800 and surrogate pairs: each is a character, whose UTF-8 is joined from the bytes of its units.
 use Rattle.std.proofs.Common.{◌≡◌, ℕ, zero, suc, ◌+◌, ◌-◌, ◌<◌, ◌≤◌, ◌⊎◌, inl, inr, List, [], ◌∷◌, ◌++◌, length, take, drop, take-append-drop, drop-drop, get_or, encode_utf8, sym, ap, ◌∙◌, arith, subst, append_assoc}
 use Rattle.std.specs.List.{flat_map}
 use Rattle.std.specs.Char.Utf16.{surrogate_pair_char}
@@ -126,7 +126,7 @@ module _ (us : List ℕ) (units : AreUnits us) where
         | inr (inr h) ↦ absurd (p.whole (omega arith) h)
       ]
 
-  -- of sixteen all, or all but one that is cut
+  -- all of sixteen, or all but one that is cut
   pub goes_block : (n at : ℕ) (done : List Part16) → Walked us at done → at + 16 ≤ length us → AreShortOrPaired us at 16
       → ((n ≡ 15) × IsHighSurrogate (get_or us (at + 15) 0)) ⊎ ((n ≡ 16) × (IsHighSurrogate (get_or us (at + 15) 0) → ⊥)) → Goes at n done
   goes_block n at done w room p (inl (e, h)) =
@@ -144,7 +144,7 @@ module _ (us : List ℕ) (units : AreUnits us) where
       let place : at + 16 - 1 ≡ at + 15 = omega arith in
       subst (λ k. Goes at k done) (sym e) (goes 16 at done w room p (λ l last. h (subst (λ k. IsHighSurrogate (get_or us k 0)) place last)))
 
-  -- ---- a front of what is left
+  -- ---- a prefix of what is left
   pub record GoesOn (read n : ℕ) (done : List Part16) (out : List ℕ) : Type 0 where
     pub all : List Part16
     pub walked : Walked us (read + n) all

@@ -1,4 +1,5 @@
--- Blocks of code units that are no surrogates: each is a character, and their UTF-8 is joined from what the blocks write.
+-- Blocks of code units that are no surrogates: each is a character, and their UTF-8 is joined from what the blocks
+-- write.
 use Rattle.std.proofs.Common.{◌≡◌, ℕ, suc, ◌+◌, ◌-◌, ◌<◌, ◌≤◌, ◌⊎◌, inl, inr, List, [], ◌∷◌, ◌++◌, map, length, set, take, drop, take-add, drop-drop, length-take, length-take-le, length-append, get_or, encode_utf8_all, refl, sym, ap, ◌∙◌, arith, subst, append_assoc}
 use Rattle.std.specs.List.{flat_map}
 use Rattle.std.specs.Str.{IsAscii}
@@ -41,7 +42,7 @@ utf8_plain : (us : List ℕ) → flat_map utf8_of (map Character16 us) ≡ encod
 utf8_plain [] = refl
 utf8_plain (u ∷ us) = ap (λ xs. utf8_of (Character16 u) ++ xs) (utf8_plain us)
 
--- a front of what is left was converted by blocks
+-- a prefix of what is left was converted by blocks
 module _ (us : List ℕ) (read n : ℕ) (done : List Part16) (a : AreUnits us) where
   left : List ℕ
   left = take (length us - read) (drop read us)
@@ -85,7 +86,7 @@ module _ (us old new : List ℕ) (read written : ℕ) (done : List Part16) (w : 
       WritesFront-same _ _ _ _ _ _ (WritesFront_push old new written (flat_map utf8_of done) (get_or us read 0) v room) refl
       (ap (λ xs. flat_map utf8_of done ++ xs) (sym (encode_ascii (get_or us read 0) ascii)) ∙ sym (step_written us read done (get_or us read 0) 1 w counts_as))
 
--- ---- one block more
+-- ---- one more block
 pub encodes_more : (us : List ℕ) (n m : ℕ) → encode_utf8_all (take n us) ++ encode_utf8_all (take m (drop n us)) ≡ encode_utf8_all (take (n + m) us)
 encodes_more us n m = sym (encodes-append (take n us) (take m (drop n us))) ∙ ap encode_utf8_all (sym (take-add n m us))
 
@@ -111,7 +112,7 @@ first_plain us n few h = Each-take IsPlain (λ r. omega (arith, r.0)) us n (λ k
 pub plain_then : (us : List ℕ) (n m : ℕ) → ArePlain (take n us) → ArePlain (take m (drop n us)) → ArePlain (take (n + m) us)
 plain_then us n m p q = plain_more us n p m (λ k l. let same = get_or-drop n us k 0 in let front = get_or-take m (drop n us) k 0 l in λ r. q k (omega (arith, same, front, r.0), omega (arith, same, front, r.1)))
 
--- what sixteen below U+0800 are in two vectors of eight
+-- sixteen units below U+0800, as two vectors of eight
 pub short_lanes : (us : List ℕ) (n : ℕ) → n + 16 ≤ length us → AllBelow 0x800 us n 16 → (k : ℕ) → (get_or (chunk n 8 us) k 0 < 0x800) × (get_or (chunk (n + 8) 8 us) k 0 < 0x800)
 short_lanes us n room h k = (lane n (omega arith) (omega arith), lane (n + 8) (omega arith) (omega arith))
   where
@@ -139,7 +140,7 @@ ascii_block us at n below = encodes-IsAscii (take n (drop at us)) (Each-take (λ
 pub sixteen_plain : (us : List ℕ) (at : ℕ) → ((k : ℕ) → k < 8 → IsPlain (get_or (chunk at 8 us) k 0)) → ((k : ℕ) → k < 8 → IsPlain (get_or (chunk (at + 8) 8 us) k 0)) → ArePlain (take 16 (drop at us))
 sixteen_plain us at p q = plain_then (drop at us) 8 8 (eight_plain us at p) (rw (drop-drop 8 at us) (eight_plain us (at + 8) q))
 
--- so many more are converted
+-- k more units are converted
 pub plain_put : {us old new after : List ℕ} {n written : ℕ} → WritesPlain us old new n written → (k m : ℕ) → n + k ≤ length us → ArePlain (take k (drop n us)) → m ≡ length (encode_utf8_all (take k (drop n us)))
     → written + m ≤ length new → after ≡ take written new ++ (encode_utf8_all (take k (drop n us)) ++ drop (written + m) new) → WritesPlain us old after (n + k) (written + m)
 plain_put {us} {old} {new} {after} {n} {written} w k m inside plain count room put = record {
@@ -148,7 +149,7 @@ plain_put {us} {old} {new} {after} {n} {written} w k m inside plain count room p
   written = written_eight us old new after n written w.written k m count room put;
 }
 
--- what is left was converted as far as some blocks go
+-- some blocks of what is left were converted
 pub plain_left : {us old new sub : List ℕ} {read written n m : ℕ} → WritesPlain us old new read written
     → WritesPlain (take (length us - read) (drop read us)) (take (length new - written) (drop written new)) sub n m
     → WritesPlain us old (put_mid written (length new - written) new sub) (read + n) (written + m)
@@ -159,7 +160,7 @@ plain_left {us} {old} {new} {sub} {read} {written} {n} {m} w v = record {
       (ap (λ xs. encode_utf8_all (take read us) ++ encode_utf8_all (take n xs)) (take_rest us read) ∙ encodes_more us read n);
 }
 
--- an ASCII front of all
+-- an ASCII prefix of all
 pub plain_front : {us old new : List ℕ} {m : ℕ} → CopiesAscii us us old new 0 m → WritesPlain us old new m m
 plain_front {us} {old} {new} {m} copies =
     let below : BelowUpTo 0x80 us m = copies.ascii (λ k l. absurd (omega arith)) in
@@ -169,7 +170,7 @@ plain_front {us} {old} {new} {m} copies =
       written = WritesFront-same _ _ _ _ _ _ (copies.copied old (WritesFront-nil old)) refl (sym (encodes-IsAscii (take m us) (Each-take (λ u. u < 0x80) (omega arith) us m below)));
     }
 
--- an ASCII front of what is left
+-- an ASCII prefix of what is left
 module _ (us : List ℕ) (n m : ℕ) (below : BelowUpTo 0x80 (take (length us - n) (drop n us)) m) where
   ascii_at : (k : ℕ) → k < m → get_or us (n + k) 0 < 0x80
   ascii_at k l = let same = get_or-drop n us k 0 in omega (arith, same, ap (λ xs. get_or xs k 0) (take_rest us n), below k l)

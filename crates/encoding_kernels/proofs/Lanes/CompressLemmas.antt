@@ -1,4 +1,4 @@
--- The kept lanes of a vector, moved to its front by a table of their places.
+-- The kept lanes of a vector, moved to its start by a table of their indices.
 use Rattle.std.proofs.Common.{◌≡◌, ℕ, zero, suc, ◌+◌, ◌-◌, ◌*◌, ◌/◌, ◌%◌, ◌^◌, ◌<◌, ◌≤◌, ◌==◌, Bool, true, false, ◌&&◌, cond, if◌then◌else◌, leb, ltb, eqb, List, [], ◌∷◌, ◌++◌, map, length, take, drop, get_or, replicate, bit_and, refl, sym, ap, ◌∙◌, arith, subst, w8, w16, append_assoc}
 use Rattle.std.specs.List.{range_with_len}
 use Rattle.std.specs.Int.RustNames.{count_ones}
@@ -19,7 +19,7 @@ use Rattle.encoding_kernels.proofs.Lanes.LaneLemmas.{HasLanes-itself, HasLanes-n
 use Rattle.encoding_kernels.specs.Units.{keep, places_from, compressed_places, bytes_at, byte_places, WritesCompressed}
 
 -- ---- the table
--- the bytes that are made of a word
+-- the bytes made of a word
 abbrev pub word_bytes : ℕ → List ℕ
 word_bytes word = digits_l 256 16 (number_l 65536 (zip2 (λ a b. (a + b) % 2 ^ 16) (zip2 (λ a b. a * b % 2 ^ 16) (map (λ x. x) (digits_l 256 8 (number_l (2 ^ 64) (word ∷ [])))) (replicate 8 0x0202)) (replicate 8 0x0100)))
 
@@ -93,7 +93,7 @@ module _ (us : List ℕ) (eight : length us ≡ 8) (fit : Each1 (λ x. x < 65536
   picked_long : length picked ≡ 16
   picked_long = length-swz_l w8 16 bytes 0 (byte_places m) ∙ bytes_long m l
 
-  -- a byte that is picked, by its place
+  -- a byte that is picked, by its index
   picked_at : (i k : ℕ) → i < 16 → get_or (byte_places m) i 0 ≡ k → k < 16 → get_or picked i 0 ≡ get_or bytes k 0
   picked_at i k h e s =
       let is : 16 * ((0 + i) / 16) + get_or (byte_places m) i 0 ≡ k = omega (arith, e) in
@@ -137,7 +137,7 @@ mask_pad : (xs : List Bool) (n : ℕ) → mask_l (xs ++ replicate n false) ≡ m
 mask_pad [] n = mask_none n
 mask_pad (x ∷ xs) n = ap (λ m. cond x 1 0 + 2 * m) (mask_pad xs n)
 
--- the marks before a place
+-- the marks before an index
 pub mask_front : (xs : List Bool) (n e : ℕ) → e ≤ length xs → bit_and (mask_l xs) (2 ^ e - 1) ≡ mask_l (take e xs ++ replicate n false)
 mask_front xs n e h =
     let long : length (take e xs) ≡ e = length-take-le e xs h in
@@ -208,7 +208,7 @@ keep_pad [] us n = keep_none n us
 keep_pad (m ∷ ms) [] n = refl
 keep_pad (m ∷ ms) (u ∷ us) n = ap (λ xs. (if m then u ∷ [] else []) ++ xs) (keep_pad ms us n)
 
--- what is gathered begins with the kept elements
+-- the result begins with the kept elements
 compressed_keep : (ms : List Bool) (us : List ℕ) → length ms ≡ 8 → length us ≡ 8 → (tail : List ℕ) × (map (λ k. get_or us k 0) (compressed_places (mask_l ms)) ≡ keep ms us ++ tail)
 unfolding compressed_places
 compressed_keep ms us p q =
@@ -223,7 +223,7 @@ compressed_keep ms us p q =
           ∙ ap (λ n. take n (kept ++ zeros)) room ∙ take-append-add kept zeros (8 - length kept),
     )
 
--- ---- both halves, one behind what is kept of the other
+-- ---- both halves, the second after what is kept of the first
 module _ (ms : List Bool) (us old low_us high_us first second : List ℕ) (kept : ℕ) (low_us_is : low_us ≡ take 8 us) (high_us_is : high_us ≡ drop 8 us) (marks_long : length ms ≡ 16) (long : length us ≡ 16) (room : 16 ≤ length old) (is : kept ≡ mask_l ms)
     (first_is : first ≡ map (λ k. get_or low_us k 0) (compressed_places (bit_and kept 255)))
     (second_is : second ≡ map (λ k. get_or high_us k 0) (compressed_places (kept / 256))) where
@@ -294,7 +294,7 @@ module _ (ms : List Bool) (us old low_us high_us first second : List ℕ) (kept 
   abbrev more : ℕ
   more = length high_kept
 
-  -- with whatever is stored behind what is kept of the first
+  -- with any vector stored after what is kept of the first
   stored : (z : List ℕ) → length z ≡ 8 → put_chunk count half_put z ≡ low_kept ++ (z ++ drop (count + 8) old)
   stored z eight =
       let start : 0 + count ≡ count = omega arith in
@@ -330,7 +330,7 @@ module _ (ms : List Bool) (us old low_us high_us first second : List ℕ) (kept 
         behind = subst (λ n. drop n (put_chunk (count_ones (bit_and kept 255)) half_put second) ≡ drop n old) {x = count + 8} (omega (arith, low_count)) (ap (drop (count + 8)) same ∙ kept_behind);
       }
 
-  -- the same, where the second store keeps what stood behind its own
+  -- the same if the second store keeps what follows its own units
   abbrev alone : List ℕ
   alone = sel_l (map (top 15) (zip2 (compared w16 ltb) (range_with_len 0 8) (replicate 8 (count_ones (kept / 256))))) second (take 8 (drop (count_ones (bit_and kept 255)) old))
 

@@ -1,4 +1,4 @@
--- The UTF-8 of code units below U+0800, from both bytes of each and the places that are kept.
+-- The UTF-8 of code units below U+0800, from both bytes of each and the indices that are kept.
 use Rattle.std.proofs.Common.{◌≡◌, ℕ, suc, ◌+◌, ◌*◌, ◌/◌, ◌%◌, ◌^◌, ◌<◌, ◌≤◌, Bool, true, false, cond, List, [], ◌∷◌, ◌++◌, map, length, take, get_or, encode_utf8_all, bit_and, replicate, refl, sym, ap, ◌∙◌, arith, subst, w16}
 use Rattle.std.specs.Prelude.{nat_le}
 use Rattle.std.proofs.lemmas.Bool.Decides.{nat_tests}
@@ -19,7 +19,7 @@ use Rattle.encoding_kernels.proofs.Lanes.LaneLemmas.{HasLanes-itself, HasLanes-s
 use Rattle.encoding_kernels.proofs.Lanes.TestLemmas.{chosen_by, tests_of}
 use Rattle.encoding_kernels.proofs.Lanes.WordLemmas.{bytes_of, bytes_lanes}
 
--- ---- how many places are kept
+-- ---- how many indices are kept
 ones-none : count_ones 0 ≡ 0
 unfolding count_ones
 ones-none = refl
@@ -28,7 +28,7 @@ kept_long : (at : ℕ) (bs : List Bool) → length (kept_places at bs) ≡ lengt
 kept_long at [] = omega (arith, ones-none)
 kept_long at (b ∷ bs) = let rest = kept_long (at + 2) bs in grind (arith, nat_tests, rest, ones-mask_l_cons b bs)
 
--- ---- what stands at them
+-- ---- the bytes at these indices
 pub kept_step : (get : ℕ → ℕ) (at : ℕ) (b : Bool) (ks spelled rest : List ℕ) → cond b (get at ∷ get (at + 1) ∷ []) (get at ∷ []) ≡ spelled → map get ks ≡ rest
     → map get (cond b (at ∷ (at + 1) ∷ []) (at ∷ []) ++ ks) ≡ spelled ++ rest
 kept_step get at false ks spelled rest e r = ap (λ xs. get at ∷ xs) r ∙ ap (λ xs. xs ++ rest) e
@@ -45,14 +45,14 @@ kept_spell get (u ∷ us) at h =
     subst (λ j. EncodesTo (get_or us k 0) (get j) (get (j + 1))) e (h (suc k) (omega arith)) in
     kept_step get at (nat_le 0x80 u) _ _ _ here (kept_spell get us (at + 2) more)
 
--- places looked up in a vector
+-- a lookup of indices in a vector
 pub looked_up : (bytes places : List ℕ) → length places ≡ 16 → ((k : ℕ) → k < 16 → get_or places k 0 < 16) → swz_l w8 16 bytes 0 places ≡ map (λ j. get_or bytes j 0) places
 looked_up bytes places long small =
     let lanes = HasLanes-swizzle bytes (HasLanes-itself 16 places long) small in
     same_number_lists (swz_l w8 16 bytes 0 places) (map (λ j. get_or bytes j 0) places) (omega (arith, lanes.long, length-map places (λ j. get_or bytes j 0))) (λ k l.
     lanes.each k (omega (arith, lanes.long)) ∙ sym (get_or-map (λ j. get_or bytes j 0) places k 0 0 (omega (arith, lanes.long))))
 
--- the bytes at the places that the mask keeps
+-- the bytes at the indices that the mask keeps
 pub compressed : (tests : List Bool) (bytes places : List ℕ) (mask : ℕ) → length tests ≡ 8 → length places ≡ 16 → ((k : ℕ) → k < 16 → get_or places k 0 < 16) → mask ≡ mask_l tests
     → take (length (kept_places 0 tests)) places ≡ kept_places 0 tests → take (8 + count_ones mask) (swz_l w8 16 bytes 0 places) ≡ map (λ j. get_or bytes j 0) (kept_places 0 tests)
 compressed tests bytes places mask l long small m kept =
@@ -61,7 +61,7 @@ compressed tests bytes places mask l long small m kept =
     ap (λ n. take n (swz_l w8 16 bytes 0 places)) count ∙ ap (take (length (kept_places 0 tests))) (looked_up bytes places long small)
     ∙ take-map get (length (kept_places 0 tests)) places ∙ ap (map get) kept
 
--- which are the UTF-8 of eight units
+-- these are the UTF-8 of eight units
 pub spelled_short : (us bytes : List ℕ) → length us ≡ 8 → ((k : ℕ) → k < 8 → EncodesTo (get_or us k 0) (get_or bytes (2 * k) 0) (get_or bytes (2 * k + 1) 0))
     → map (λ j. get_or bytes j 0) (kept_places 0 (map (nat_le 0x80) us)) ≡ encode_utf8_all us
 spelled_short us bytes l spells =

@@ -20,7 +20,7 @@ use Rattle.encoding_kernels.proofs.Latin.EndedLemmas.{PairAt, pairs_kept, both_e
 low_half : (a b : ℕ) → a < 256 → bit_and (a + 256 * b) 0xFF ≡ a
 low_half a b l = let mask : bit_and (a + 256 * b) 0xFF ≡ (a + 256 * b) % 2 ^ 8 = and_mask (a + 256 * b) 8 in omega arith
 
--- ---- the byte that x ends behind p
+-- ---- the byte that x ends after p
 abbrev end_of : ℕ → ℕ → ℕ
 end_of p x = cond (nat_le 0x80 x) ((p * 2 ^ 6 % 2 ^ 8 + bit_and x 0x3F) % 2 ^ 8) x
 
@@ -77,7 +77,7 @@ module _ (bs : List ℕ) (long : length bs ≡ 16) (fits : Each1 (Fits w8) bs) w
       let is = ends_lanes.each k in_lanes in
       omega (arith, is, end_small (get_or (0 ∷ bs) k 0) (get_or bs k 0) (byte k in_lanes)))
 
-  -- what stands before the second byte of a pair
+  -- the byte before the second of a pair
   first_before : (k : ℕ) → get_or (0 ∷ bs) (2 * k + 1) 0 ≡ get_or bs (2 * k) 0
   first_before k = let place : 2 * k + 1 - 1 ≡ 2 * k = omega arith in one_before bs (2 * k + 1) (omega arith) ∙ ap (λ j. get_or bs j 0) place
 

@@ -1,4 +1,4 @@
--- What the operations on vectors hold at each lane, and what the masks of vectors tell of it.
+-- The value of each lane after the operations on vectors, and what the mask of a vector says about its lanes.
 use Rattle.std.proofs.Common.{◌≡◌, ℕ, suc, ◌+◌, ◌-◌, ◌*◌, ◌/◌, ◌^◌, ◌%◌, ◌<◌, ◌≤◌, Bool, true, false, not, cond, ltb, inl, inr, List, [], ◌∷◌, map, length, get_or, replicate, refl, sym, ap, ◌∙◌, arith, subst, map-id, ◌++◌, take, drop, length-take-le, length-append, length-drop, get_or-take, get_or-drop, append_assoc, drop-drop}
 use Rattle.std.proofs.lemmas.Bool.{cond-true, cond-false, cases_lt, lt-ltb, le-ltb, not-true, not-false}
 use Rattle.std.proofs.lemmas.Grind.{same_number_lists}
@@ -38,11 +38,11 @@ HasLanes-itself n a long = record { long = long; each = λ k l. refl }
 pub HasLanes-numbers : (n : ℕ) → HasLanes n (range_with_len 0 n) (λ k. k)
 HasLanes-numbers n = record { long = length-range_with_len 0 n; each = λ k l. let e : 0 + k ≡ k = omega arith in get_or-range_with_len 0 n k 0 l ∙ e }
 
--- what two functions give below a bound, where all of it computes to the same
+-- two functions have the same values below a bound, if all of them compute to the same
 pub same_below : {X : Type 0} (f g : ℕ → X) (d : X) (n : ℕ) → map f (range_with_len 0 n) ≡ map g (range_with_len 0 n) → (k : ℕ) → k < n → f k ≡ g k
 same_below f g d n e k l = sym (get_or-map-range_with_len f 0 n k k d l (omega arith)) ∙ ap (λ xs. get_or xs k d) e ∙ get_or-map-range_with_len g 0 n k k d l (omega arith)
 
--- a stride read whole
+-- a stride, read whole
 pub HasLanes-whole : (n : ℕ) (xs : List ℕ) → length xs ≡ n → HasLanes n (chunk 0 n xs) (λ k. get_or xs k 0)
 HasLanes-whole n xs long = subst (λ ys. HasLanes n ys (λ k. get_or xs k 0)) (sym (whole_chunk n xs long)) (HasLanes-itself n xs long)
 
@@ -77,7 +77,7 @@ swizzle_ok {js} {f} p small =
     SwzOk-from_below w8 16 1 16 0 js (omega arith) (omega (arith, p.long))
     (Each1-from_get_or (λ j. j < 16) js 0 (λ k l. let in_js : k < 16 = omega (arith, p.long) in omega (arith, p.each k in_js, small k in_js)))
 
--- a comparison: all bits of the lane are set where it holds
+-- a comparison: all bits of the lane are set if it holds
 abbrev pub compared : Width → (ℕ → ℕ → Bool) → ℕ → ℕ → ℕ
 compared w t a b = cond (t a b) (2 ^ bits w - 1) 0
 
@@ -100,7 +100,7 @@ mask_of h lanes = mask_l (map (top h) lanes) % 2 ^ 64
 pub mask_is : (h n : ℕ) (a : List ℕ) → length a ≡ n → n ≤ 64 → mask_of h a ≡ mask_l (map (top h) a)
 mask_is h n a long few = mask_l-mod (map (top h) a) 64 (omega (arith, length-map a (top h), long))
 
--- where no lane passes p, no bit is set
+-- if no lane passes p, no bit is set
 empty_mask : {X : Type 0} (p : X → Bool) (xs : List X) (d : X) → ((k : ℕ) → k < length xs → p (get_or xs k d) ≡ false) → mask_l (map p xs) ≡ 0
 empty_mask p [] d h = refl
 empty_mask p (x ∷ xs) d h =
@@ -126,7 +126,7 @@ module _ (h : ℕ) {n : ℕ} {a : List ℕ} {f : ℕ → ℕ} (lanes : HasLanes 
         found = λ l. sym (at_lane r l) ∙ ap (λ j. top h (get_or a j 0)) e ∙ not-false _ (prefix_len_stops (λ x. not (top h x)) a 0 (omega (arith, e, lanes.long)));
       }
 
-  -- where `mask.to_bitmask()` is 0
+  -- if `mask.to_bitmask()` is 0
   pub first_none : mask_of h a ≡ 0 → IsFirstSet n n (λ k. top h (f k))
   first_none none = first_set n (sym (leading_from_mask_l (top h) a (sym (mask_is h n a lanes.long few) ∙ none) ∙ lanes.long))
 
@@ -134,8 +134,8 @@ module _ (h : ℕ) {n : ℕ} {a : List ℕ} {f : ℕ → ℕ} (lanes : HasLanes 
   pub no_bit_from : ((k : ℕ) → k < n → top h (f k) ≡ false) → mask_of h a ≡ 0
   no_bit_from p = mask_is h n a lanes.long few ∙ empty_mask (top h) a 0 (λ k l. at_lane k (omega (arith, lanes.long)) ∙ p k (omega (arith, lanes.long)))
 
--- ---- a store of which only the first lanes count
--- the first so many lanes of one vector, and behind them those of another
+-- ---- a store whose first lanes count
+-- the first `count` lanes of one vector, followed by those of another
 pub firsts_are : (n count : ℕ) (lanes behind z : List ℕ) → length lanes ≡ n → length behind ≡ n → count ≤ n
     → HasLanes n z (λ k. cond (ltb k count) (get_or lanes k 0) (get_or behind k 0)) → z ≡ take count lanes ++ drop count behind
 firsts_are n count lanes behind z p q few h =

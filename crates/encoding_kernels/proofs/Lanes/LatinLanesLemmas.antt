@@ -1,4 +1,4 @@
--- The UTF-8 of sixteen bytes of Latin1: both bytes of each, and which halves of them are kept.
+-- The UTF-8 of sixteen bytes of Latin1: both bytes of each, and which of them are kept.
 use Rattle.std.proofs.Common.{◌≡◌, ℕ, ◌+◌, ◌*◌, ◌/◌, ◌%◌, ◌^◌, ◌<◌, Bool, cond, leb, List, ◌++◌, map, length, take, drop, get_or, get_or-take, get_or-drop, length-drop, length-take-le, encode_utf8_all, bit_and, replicate, sym, ap, ◌∙◌, arith, subst, w8}
 use Rattle.std.specs.Prelude.{nat_le}
 use Rattle.std.proofs.lemmas.Bool.Decides.{nat_tests}
@@ -69,7 +69,7 @@ module _ (v : List ℕ) (long : length v ≡ 16) (others : ℕ) (is : others ≡
   high_others : others / 256 ≡ mask_l (map (nat_le 0x80) (drop 8 v))
   high_others = ap (λ m. m / 256) is ∙ high_half (map (nat_le 0x80) v) marks_long ∙ ap mask_l (drop-map (nat_le 0x80) 8 v)
 
-  -- what both halves spell, where what is kept of their pairs is known by any tests
+  -- the UTF-8 of both halves, given what any tests keep of their pairs
   pub latin_spelled : (low high first second : List ℕ) (count more : ℕ) → ((k : ℕ) → k < 8 → EncodesTo (get_or v k 0) (get_or low (2 * k) 0) (get_or low (2 * k + 1) 0))
       → ((k : ℕ) → k < 8 → EncodesTo (get_or v (8 + k) 0) (get_or high (2 * k) 0) (get_or high (2 * k + 1) 0))
       → ((tests : List Bool) → length tests ≡ 8 → bit_and others 255 ≡ mask_l tests → take count first ≡ map (λ k. get_or low k 0) (kept_places 0 tests))

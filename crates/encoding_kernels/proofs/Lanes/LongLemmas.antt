@@ -1,4 +1,4 @@
--- The UTF-8 of code units from U+0800 on, of four bytes each.
+-- The UTF-8 of code units from U+0800 on, of three bytes each.
 use Rattle.std.proofs.Common.{◌≡◌, ℕ, zero, suc, ◌+◌, ◌-◌, ◌*◌, ◌/◌, ◌%◌, ◌^◌, ◌<◌, ◌≤◌, eqb, IsTrue, not, List, [], ◌∷◌, ◌++◌, map, length, get_or, encode_utf8, encode_utf8_all, bit_and, bit_or, replicate, refl, sym, ap, ◌∙◌, arith, subst, w16, take, drop, length-append, length-take-le, append_assoc, Fits}
 use Rattle.std.proofs.lemmas.Bool.{eqb-false, or_parts}
 use Rattle.std.proofs.lemmas.Simd.{Each1-get_or, length-put_chunk}
@@ -29,7 +29,7 @@ all_long us long fit t k l =
     (omega arith, λ r. surrogate (omega (arith, r.0, r.1)))
 
 -- ---- the bytes
--- of so many code units the first two bytes, and the last one sixteen places on
+-- for n code units the indices of the first two bytes, and of the last one, which is sixteen after the first
 abbrev pub three_places : ℕ → ℕ → List ℕ
 three_places at zero = []
 three_places at (suc n) = at ∷ (at + 1) ∷ (at + 16) ∷ three_places (at + 2) n
@@ -99,7 +99,7 @@ long_spelled us long fit high =
     (get_or-append_right both lasts 16 (0 + 2 * k + 16) 0 (omega arith) (omega arith) ∙ ap (λ j. get_or lasts j 0) third ∙ (last k in_lanes).0)
     (word_bytes (get_or us k 0) (high k in_lanes) (Each1-get_or (Fits w16) us k 0 l fit).fits))
 
--- ---- two stores, one behind the other
+-- ---- two stores, one after the other
 pub two_puts : (at n m : ℕ) (xs first second : List ℕ) → at + (n + m) ≤ length xs → length first ≡ n → length second ≡ m
     → put_chunk (at + n) (put_chunk at xs first) second ≡ take at xs ++ ((first ++ second) ++ drop (at + (n + m)) xs)
 two_puts at n m xs first second room p q =

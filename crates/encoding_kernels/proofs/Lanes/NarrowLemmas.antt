@@ -16,18 +16,18 @@ module _ (n : ℕ) (units : List ℕ) (long : length units ≡ n) where
   unfolding lower
   lower_lanes = HasLanes-same (HasLanes-zip2 bit_and (HasLanes-itself n units long) (HasLanes-splat n 0xFF)) (λ k l. and_mask (get_or units k 0) 8)
 
-  -- `& 0xFF` leaves what a byte holds
+  -- after `& 0xFF` each unit fits into a byte
   pub lower_fit : Each1 (Fits w8) (zip2 bit_and units (replicate n 0xFF))
   unfolding lower
   lower_fit = Each1-from_get_or (Fits w8) lower 0 (λ k l. record { fits = omega (arith, lower_lanes.each k (omega (arith, lower_lanes.long))) })
 
-  -- which is the lower byte
+  -- that is the lower byte
   pub lower_are : map (λ x. x) (zip2 bit_and units (replicate n 0xFF)) ≡ map (λ unit. unit % 0x100) units
   unfolding lower
   lower_are = map-id lower ∙ same_number_lists lower (map (λ unit. unit % 0x100) units) (omega (arith, lower_lanes.long, length-map units (λ unit. unit % 0x100))) (λ k l.
       lower_lanes.each k (omega (arith, lower_lanes.long)) ∙ sym (get_or-map (λ unit. unit % 0x100) units k 0 0 (omega (arith, long, lower_lanes.long))))
 
-  -- and the units that are bytes as they are
+  -- units that are bytes are unchanged
   pub lower_same : (count : ℕ) → count ≤ n → ((k : ℕ) → k < count → get_or units k 0 < 0x100) → take count (map (λ x. x) (zip2 bit_and units (replicate n 0xFF))) ≡ take count units
   unfolding lower
   lower_same count few small =

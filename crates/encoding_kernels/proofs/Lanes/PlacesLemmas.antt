@@ -1,4 +1,4 @@
--- Each table of kept places has, for each mask of eight tests, the places that the tests keep.
+-- Each table of kept indices has, for each mask of eight tests, the indices that the tests keep.
 use Rattle.std.proofs.Common.{◌≡◌, ℕ, zero, suc, ◌+◌, ◌*◌, ◌^◌, ◌<◌, Bool, true, false, ◌&&◌, ◌==◌, eqb-true, List, [], ◌∷◌, ap, ◌∙◌, length, take, get_or, refl, sym, arith, subst, inl, inr}
 use Rattle.std.proofs.lemmas.Bool.{and_parts, cases_lt, ltb-true, false≢true}
 use Rattle.std.specs.Simd.Lanes.{mask_l, number_l, digits_l}
@@ -7,7 +7,7 @@ use Rattle.encoding_kernels.specs.EncodeLanes.{kept_places, last_places}
 use Rattle.encoding_kernels.specs.declared.compress_pairs.TheConstants.{PLACES}
 use Rattle.encoding_kernels.specs.declared.compress_last.TheConstants.{LAST}
 
--- the sixteen places of a mask
+-- the sixteen indices of a mask
 abbrev pub row : List ℕ → ℕ → List ℕ
 row table mask = digits_l 256 16 (number_l (2 ^ 32) (get_or table (4 * mask) 0 ∷ get_or table (4 * mask + 1) 0 ∷ get_or table (4 * mask + 2) 0 ∷ get_or table (4 * mask + 3) 0 ∷ []))
 
@@ -23,7 +23,7 @@ all_tests_at (suc n) holds e [] l = absurd (omega arith)
 all_tests_at (suc n) holds e (false ∷ bs) l = all_tests_at n (λ xs. holds (false ∷ xs)) (and_parts _ _ e).0 bs (omega arith)
 all_tests_at (suc n) holds e (true ∷ bs) l = all_tests_at n (λ xs. holds (true ∷ xs)) (and_parts _ _ e).1 bs (omega arith)
 
--- ---- what the table has for one
+-- ---- the entry of the table for one list of tests
 abbrev same : List ℕ → List ℕ → Bool
 same [] [] = true
 same [] (y ∷ ys) = false

@@ -1,4 +1,4 @@
--- The UTF-8 of code units in four bytes each, of which the last ones are kept.
+-- The UTF-8 of code units in four bytes each, whose last ones are kept.
 use Rattle.std.proofs.Common.{◌≡◌, ℕ, suc, ◌+◌, ◌-◌, ◌*◌, ◌/◌, ◌%◌, ◌^◌, ◌<◌, ◌≤◌, IsTrue, Bool, true, false, not, eqb, cond, inl, inr, replicate, Fits, w16, List, [], ◌∷◌, ◌++◌, map, length, take, drop, get_or, encode_utf8_all, bit_and, refl, sym, ap, ◌∙◌, arith, subst, w8, leb, ltb, length-take-le, take-append-drop, get_or-drop}
 use Rattle.std.specs.Prelude.{nat_lt}
 use Rattle.std.proofs.lemmas.Bool.{cases_lt, eqb-false, ltb-true, lt-ltb}
@@ -39,14 +39,14 @@ module _ (us : List ℕ) (long : length us ≡ 8) (fit : Each1 (Fits w16) us) wh
   pub all_plain : IsTrue (not (not (eqb (mask_of 15 (surrogates us)) 0))) → (k : ℕ) → k < 8 → (0xD800 ≤ get_or us k 0) × (get_or us k 0 ≤ 0xDFFF) → ⊥
   all_plain t k l = plain_lane k l ((none_passes tests (omega arith)).0 t k l)
 
-  -- before the first that is one, as the mask tells
+  -- the units before the first surrogate, by the mask
   pub before_first : (r : ℕ) → (mask_of 15 (surrogates us) ≡ 0 → r ≡ 8) → (0 < mask_of 15 (surrogates us) → r ≡ count_trailing_zeros 64 (mask_of 15 (surrogates us)))
       → (r ≤ 8) × ((k : ℕ) → k < r → (0xD800 ≤ get_or us k 0) × (get_or us k 0 ≤ 0xDFFF) → ⊥)
   before_first r none some =
       let first = run_is_first tests (omega arith) r none some in
       (first.within, λ k l. plain_lane k (omega (arith, first.within)) (first.before k l))
 
--- ---- the first ones alone
+-- ---- only the first ones
 abbrev pub first_lanes : ℕ → List ℕ → List ℕ
 first_lanes n us = sel_l (map (top 15) (zip2 (compared w16 ltb) (0 ∷ 1 ∷ 2 ∷ 3 ∷ 4 ∷ 5 ∷ 6 ∷ 7 ∷ []) (replicate 8 n))) us (replicate 8 0)
 
@@ -90,7 +90,7 @@ both_masks us mask long e =
     let low : bit_and mask 0xFF ≡ mask % 2 ^ 8 = and_mask mask 8 in
     (omega (arith, low, whole, small), omega (arith, whole, small))
 
--- ---- how many places are kept
+-- ---- how many indices are kept
 ones-none : count_ones 0 ≡ 0
 unfolding count_ones
 ones-none = refl
@@ -106,7 +106,7 @@ last_long at (u ∷ us) =
     let count : 3 + 3 * length us ≡ 3 * suc (length us) = omega arith in
     step ∙ count
 
--- ---- what stands at them
+-- ---- the bytes at these indices
 last_step : (get : ℕ → ℕ) (at : ℕ) (a s : Bool) (ks spelled rest : List ℕ)
     → cond a (get (at + 3) ∷ []) (cond s (get (at + 2) ∷ get (at + 3) ∷ []) (get (at + 1) ∷ get (at + 2) ∷ get (at + 3) ∷ [])) ≡ spelled → map get ks ≡ rest
     → map get (cond a ((at + 3) ∷ []) (cond s ((at + 2) ∷ (at + 3) ∷ []) ((at + 1) ∷ (at + 2) ∷ (at + 3) ∷ [])) ++ ks) ≡ spelled ++ rest
@@ -238,7 +238,7 @@ words_small us long k l =
     let lead : lead_word (get_or us k 0) < 0x10000 = omega arith in
     (subst (λ x. x < 0x10000) (sym ((lead_lanes us long).each k l)) lead, subst (λ x. x < 0x10000) (sym ((rest_lanes us long).each k l)) (rest_small (get_or us k 0)))
 
--- both words of four code units, side by side
+-- both words of four code units, next to each other
 module _ (us lead rest ks : List ℕ) (f : ℕ → ℕ) (half : (k : ℕ) → k < 4 → f k < 8) (leads : length lead ≡ 8) (rests : length rest ≡ 8) (small : (k : ℕ) → k < 8 → (get_or lead k 0 < 0x10000) × (get_or rest k 0 < 0x10000))
     (long : length ks ≡ 8) (evens : map (λ k. get_or ks (2 * k) 0) (range_with_len 0 4) ≡ map f (range_with_len 0 4)) (odds : map (λ k. get_or ks (2 * k + 1) 0) (range_with_len 0 4) ≡ map (λ k. 8 + f k) (range_with_len 0 4)) where
   abbrev words : List ℕ

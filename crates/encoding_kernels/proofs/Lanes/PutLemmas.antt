@@ -1,4 +1,4 @@
--- A vector that is put in a list at a place, and one that is read from a whole stride.
+-- A vector that is stored in a list at an index, and one that is read from a whole stride.
 use Rattle.std.proofs.Common.{◌≡◌, ℕ, ◌+◌, ◌≤◌, List, ◌++◌, length, take, drop, drop-drop, take-add, length-take-le, length-append, map, map-id, sym, ap, ◌∙◌, arith, append_assoc}
 use Rattle.std.proofs.lemmas.List.{take_all, take_at, drop_at, take-append-le}
 use Rattle.std.proofs.lemmas.Simd.{put_chunk_is, length-chunk}
@@ -10,15 +10,15 @@ put_is at n xs ys long room =
     let rest : drop (length ys) (drop at xs) ≡ drop (at + n) xs = drop-drop (length ys) at xs ∙ ap (λ m. drop (at + m) xs) long in
     put_chunk_is at xs ys (omega arith) ∙ ap (λ zs. take at xs ++ (ys ++ zs)) rest
 
--- a stride read whole
+-- a stride, read whole
 pub whole_chunk : {X : Type 0} (n : ℕ) (stride : List X) → length stride ≡ n → chunk 0 n stride ≡ stride
 whole_chunk n stride long = take_all n stride (omega (arith, long))
 
--- of a vector read from the same place of another list, each lane cast to what holds it
+-- a vector read from the same index of another list, each lane cast to what holds it
 pub put_same_place : {X : Type 0} (at n : ℕ) (xs ys : List X) → at + n ≤ length ys → at + n ≤ length xs → put_chunk at xs (map (λ x. x) (chunk at n ys)) ≡ take at xs ++ (take n (drop at ys) ++ drop (at + n) xs)
 put_same_place at n xs ys within room = ap (put_chunk at xs) (map-id (chunk at n ys)) ∙ put_is at n xs (chunk at n ys) (length-chunk at n ys within) room
 
--- a vector that is put, of which first lanes count: what stands before their end, and a vector's width behind it
+-- a stored vector whose first lanes count: the list before their end, and from a vector's width after it
 pub put_front : (w : ℕ) (xs ys : List ℕ) (at n : ℕ) → length ys ≡ w → n ≤ w → at + w ≤ length xs
     → (take (at + n) (put_chunk at xs ys) ≡ take at xs ++ take n ys) × (drop (at + n + w) (put_chunk at xs ys) ≡ drop (at + n + w) xs)
 put_front w xs ys at n long few room =

@@ -1,4 +1,4 @@
--- Vectors stored of which first bytes count, and what stood behind these put back.
+-- Stored vectors whose first bytes count, and what was after these written back.
 use Rattle.std.proofs.Common.{◌≡◌, ℕ, ◌+◌, ◌≤◌, List, ◌++◌, length, take, drop, drop-drop, length-take-le, length-append, length-drop, sym, ap, ◌∙◌, arith, append_assoc}
 use Rattle.std.proofs.lemmas.List.{take_at}
 use Rattle.std.proofs.lemmas.Simd.{length-put_chunk, chunk-drop}
@@ -15,7 +15,7 @@ store_spills xs ys at n long few room =
     let parts = put_front 16 xs ys at n long few room in
     record { counted = length-take-le n ys (omega arith); front = parts.0; behind = parts.1; long = length-put_chunk at xs ys }
 
--- one behind the other
+-- one after the other
 pub spills_then : (a b c : List ℕ) (at n m : ℕ) (xs ys : List ℕ) → Spills a b at n xs → Spills b c (at + n) m ys → Spills a c at (n + m) (xs ++ ys)
 spills_then a b c at n m xs ys p q =
     let place : at + (n + m) ≡ at + n + m = omega arith in
@@ -28,12 +28,12 @@ spills_then a b c at n m xs ys p q =
       long = q.long ∙ p.long;
     }
 
--- what stood behind put back
+-- what was after them is written back
 pub spills_mended : (old new : List ℕ) (at n : ℕ) (out : List ℕ) → Spills old new at n out → mended new (at + n) (chunk (at + n) 16 old) ≡ take at old ++ (out ++ drop (at + n) old)
 spills_mended old new at n out p =
     (λ i. p.front i ++ (chunk (at + n) 16 old ++ p.behind i)) ∙ ap (λ zs. (take at old ++ out) ++ zs) (sym (chunk-drop (at + n) 16 old)) ∙ append_assoc (take at old) out (drop (at + n) old)
 
--- one block more, of sixteen bytes at least
+-- one more block, of sixteen bytes at least
 pub mended_put : (old d e s t out more : List ℕ) (w c : ℕ) → WritesFront old (mended d w s) w out → length s ≡ 16 → w + 16 ≤ length d → c ≡ length more → 16 ≤ c → w + c ≤ length d
     → mended e (w + c) t ≡ take w d ++ (more ++ drop (w + c) d) → WritesFront old (mended e (w + c) t) (w + c) (out ++ more)
 mended_put old d e s t out more w c v long room count most fits put =
@@ -44,7 +44,7 @@ mended_put old d e s t out more w c v long room count most fits put =
     let whole : length (mended d w s) ≡ length d = omega (arith, start, long, length-append (take w d) (s ++ drop (w + 16) d), length-append s (drop (w + 16) d), length-drop (w + 16) d) in
     WritesFront_put old (mended d w s) (mended e (w + c) t) w c out more v count (omega (arith, whole)) (put ∙ (λ i. sym front i ++ (more ++ sym behind i)))
 
--- what is written and no more
+-- a write that changes nothing after it
 pub exact_spills : (old new out : List ℕ) (at n : ℕ) → length out ≡ n → at + n ≤ length old → new ≡ take at old ++ (out ++ drop (at + n) old) → Spills old new at n out
 exact_spills old new out at n count room put =
     let start : length (take at old) ≡ at = length-take-le at old (omega arith) in

@@ -1,4 +1,4 @@
--- Two stores of which only the first bytes count: the second covers what the first writes too much.
+-- Two stores whose first bytes count: the second overwrites the excess of the first.
 use Rattle.std.proofs.Common.{◌≡◌, ℕ, ◌+◌, ◌≤◌, List, ◌++◌, length, take, drop, length-take-le, length-append, length-drop, get_or, cond, ltb, sym, ap, ◌∙◌, arith, append_assoc}
 use Rattle.std.proofs.lemmas.List.{take_at, drop_at}
 use Rattle.std.proofs.lemmas.Simd.{length-put_chunk, length-chunk, chunk-drop}
@@ -13,13 +13,13 @@ use Rattle.encoding_kernels.proofs.Lanes.PutLemmas.{put_front, put_is}
 use Rattle.encoding_kernels.proofs.Lanes.TestLemmas.{chosen_by, tests_of}
 use Rattle.encoding_kernels.proofs.Lanes.LaneLemmas.{HasLanes-itself, HasLanes-numbers, HasLanes-splat, compared, put_firsts}
 
--- the first so many lanes of one vector, and behind them what stands at a place
+-- the first `count` lanes of one vector, followed by what the list has after them
 pub firsts_over : (w : Width) (at count : ℕ) (xs lanes : List ℕ) → at + 16 ≤ length xs → length lanes ≡ 16
     → HasLanes 16 (sel_l (map (top (hbits w)) (zip2 (compared w ltb) (range_with_len 0 16) (replicate 16 count))) lanes (chunk at 16 xs)) (λ k. cond (ltb k count) (get_or lanes k 0) (get_or (chunk at 16 xs) k 0))
 firsts_over w at count xs lanes room long =
     chosen_by (tests_of w ltb (HasLanes-numbers 16) (HasLanes-splat 16 count)) (HasLanes-itself 16 lanes long) (HasLanes-itself 16 (chunk at 16 xs) (length-chunk at 16 xs room))
 
--- which are so put
+-- storing these lanes
 pub put_first : (w : Width) (at count : ℕ) (xs lanes : List ℕ) → at + 16 ≤ length xs → length lanes ≡ 16 → count ≤ 16
     → put_chunk at xs (sel_l (map (top (hbits w)) (zip2 (compared w ltb) (range_with_len 0 16) (replicate 16 count))) lanes (chunk at 16 xs)) ≡ take at xs ++ (take count lanes ++ drop (at + count) xs)
 put_first w at count xs lanes room long few = put_firsts at 16 count xs lanes _ room long few (firsts_over w at count xs lanes room long)
@@ -27,7 +27,7 @@ put_first w at count xs lanes room long few = put_firsts at 16 count xs lanes _ 
 module _ (at count more : ℕ) (xs first second z : List ℕ) (room : at + 32 ≤ length xs) (few : count ≤ 16) (long : length first ≡ 16)
     (less : more ≤ 16) (also : length second ≡ 16)
     (lanes : HasLanes 16 z (λ k. cond (ltb k more) (get_or second k 0) (get_or (chunk (at + count) 16 xs) k 0))) where
-  -- the second store alone
+  -- only the second store
   second_alone : z ++ drop (at + count + 16) xs ≡ take more second ++ drop (at + count + more) xs
   second_alone =
       let front : length (take (at + count) xs) ≡ at + count = length-take-le (at + count) xs (omega arith) in
@@ -45,7 +45,7 @@ module _ (at count more : ℕ) (xs first second z : List ℕ) (room : at + 32 �
       ∙ append_assoc (take at xs) (take count first) (take more second ++ drop (at + (count + more)) xs)
       ∙ ap (λ ys. take at xs ++ ys) (sym (append_assoc (take count first) (take more second) (drop (at + (count + more)) xs)))
 
--- behind a front some bytes were stored too, and what stood there is put back
+-- some bytes were also stored after a prefix, and what was there is written back
 pub put_back : (old new out more : List ℕ) (at n m : ℕ) → length out ≡ n → length more ≡ m → m ≤ 8 → at + n + 8 ≤ length old
     → new ≡ take at old ++ ((out ++ more) ++ drop (at + (n + m)) old) → put_chunk (at + n) new (chunk (at + n) 8 old) ≡ take at old ++ (out ++ drop (at + n) old)
 put_back old new out more at n m count rest few room put =

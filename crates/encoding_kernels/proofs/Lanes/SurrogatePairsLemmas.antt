@@ -17,7 +17,7 @@ use Rattle.encoding_kernels.specs.SurrogatePairs.{IsShortOrHalf, AreShortOrPaire
 use Rattle.encoding_kernels.proofs.Lanes.WordLemmas.{bytes_of, bytes_lanes}
 use Rattle.encoding_kernels.proofs.Lanes.EncodeLanesLemmas.{both, EncodesTo-word, kept_step}
 
--- ---- what is joined
+-- ---- concatenation
 pub joined-same : (f g : ℕ → List ℕ) (i j n : ℕ) → ((k : ℕ) → k < n → f (i + k) ≡ g (j + k)) → joined f i n ≡ joined g j n
 unfolding joined
 joined-same f g i j zero h = refl
@@ -57,7 +57,7 @@ joined_before_last f i n count bytes e fits two =
     ap (take (count - 2)) (sym (take-append-drop count bytes) ∙ ap (λ xs. xs ++ drop count bytes) whole ∙ append_assoc front (f (i + n)) (drop count bytes))
     ∙ take_at front (f (i + n) ++ drop count bytes) (count - 2) long
 
--- ---- what stands at the places that are kept
+-- ---- the bytes at the kept indices
 pub kept_join : (get : ℕ → ℕ) (f : ℕ → List ℕ) (us : List ℕ) (at i : ℕ)
     → ((k : ℕ) → k < length us → cond (nat_le 0x80 (get_or us k 0)) (get (at + 2 * k) ∷ get (at + 2 * k + 1) ∷ []) (get (at + 2 * k) ∷ []) ≡ f (i + k))
     → map get (kept_places at (map (nat_le 0x80) us)) ≡ joined f i (length us)
@@ -132,7 +132,7 @@ half_before p q u h n =
 half_long : (p u : ℕ) → IsHighSurrogate u → length (half_bytes p u) ≡ 2
 half_long p u h = grind (arith, nat_tests)
 
--- the lanes, each moved on by one
+-- the lanes, each moved by one
 abbrev pub moved : List ℕ → List ℕ
 moved xs = pick_l 0 (xs ++ xs) (0 ∷ 0 ∷ 1 ∷ 2 ∷ 3 ∷ 4 ∷ 5 ∷ 6 ∷ [])
 

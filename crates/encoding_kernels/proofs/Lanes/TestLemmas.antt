@@ -1,4 +1,4 @@
--- Masks as tests of lanes: joined, chosen by, and what holds where no lane passes.
+-- Masks as tests of lanes: combined, used to select, and what holds if no lane passes.
 use Rattle.std.proofs.Common.{◌≡◌, ℕ, ◌-◌, ◌^◌, ◌+◌, ◌<◌, ◌≤◌, ◌↔◌, IsTrue, Bool, true, false, not, cond, ◌&&◌, ◌||◌, eqb, leb, inl, inr, List, length, get_or, map, replicate, bit_and, bit_or, bit_xor, refl, sym, ap, ◌∙◌, arith, subst}
 use Rattle.std.proofs.lemmas.Bool.{cases_lt, false≢true, leb-false, lt-leb, eqb-true, eq-eqb, not-true, not-false, not_from_false, not_from_true}
 use Rattle.std.specs.Int.Bits.{and_self, and_zero_l, and_zero_r, or_self, or_zero_l, or_zero_r, xor_self, xor_zero_l, xor_zero_r}
@@ -62,7 +62,7 @@ module _ {w : Width} {n : ℕ} {a : List ℕ} {t : ℕ → Bool} where
   pub chosen_by : {b c : List ℕ} {f g : ℕ → ℕ} → HasTests w n a t → HasLanes n b f → HasLanes n c g → HasLanes n (sel_l (map (top (hbits w)) a) b c) (λ k. cond (t k) (f k) (g k))
   chosen_by {b} {c} {f} {g} p q r = HasLanes-same (HasLanes-select (hbits w) p.lanes q r) (λ k l. ap (λ x. cond x (f k) (g k)) (top_compared w (t k)))
 
-  -- `mask.to_bitmask()`: where it is 0, no lane passes, and else its lowest bit is the first that does
+  -- `mask.to_bitmask()`: if it is 0, no lane passes, and else its lowest bit is the first that does
   pub none_is_first : HasTests w n a t → n ≤ 64 → mask_of (hbits w) a ≡ 0 → IsFirstSet n n t
   none_is_first p few none = of_tests w (first_none (hbits w) p.lanes few none)
 
@@ -78,14 +78,14 @@ module _ {w : Width} {n : ℕ} {a : List ℕ} {t : ℕ → Bool} where
       let is = mask_is (hbits w) n a p.lanes.long few in
       of_tests w (first_set (hbits w) p.lanes few _ (ap (count_trailing_zeros 64) is ∙ trailing_mask_l (top (hbits w)) 64 a (omega (arith, p.lanes.long)) (omega (arith, is))))
 
-  -- both, as a run tells it
+  -- both, for the length of a run
   pub run_is_first : HasTests w n a t → n ≤ 64 → (r : ℕ) → (mask_of (hbits w) a ≡ 0 → r ≡ n) → (0 < mask_of (hbits w) a → r ≡ count_trailing_zeros 64 (mask_of (hbits w) a)) → IsFirstSet n r t
   run_is_first p few r none some = elim (cases_lt 0 (mask_of (hbits w) a)) [
     | inl l ↦ subst (λ k. IsFirstSet n k t) (sym (some l)) (lowest_is_first p few l)
     | inr l ↦ let e : mask_of (hbits w) a ≡ 0 = omega arith in subst (λ k. IsFirstSet n k t) (sym (none e)) (none_is_first p few e)
   ]
 
-  -- of the places from one on, whose tests the lanes are
+  -- `Marks` for the indices from `at` on, whose tests the lanes are
   pub marks_of : (P : ℕ → Type 0) (at : ℕ) → HasTests w n a t → n ≤ 64 → ((k : ℕ) → k < n → (t k ≡ false) ↔ P (at + k)) → Marks P at n (mask_of (hbits w) a)
   marks_of P at p few is =
       let there = λ (k : ℕ) (from : at ≤ k) (l : k - at < n) (e : t (k - at) ≡ false). subst P {x = at + (k - at)} {y = k} (omega arith) ((is (k - at) l).0 e) in
@@ -103,12 +103,12 @@ module _ {w : Width} {n : ℕ} {a : List ℕ} {t : ℕ → Bool} where
             };
       }
 
--- those that are below a bound
+-- `Marks` for the units below a bound
 pub marks_below : (w : Width) (n at bound : ℕ) (xs : List ℕ) → at + n ≤ length xs → n ≤ 64 → Marks (λ k. get_or xs k 0 < bound) at n (mask_of (hbits w) (zip2 (compared w leb) (replicate n bound) (chunk at n xs)))
 marks_below w n at bound xs room few =
     marks_of (λ k. get_or xs k 0 < bound) at (tests_of w leb (HasLanes-splat n bound) (HasLanes-load at n xs room)) few (λ k l. (leb-false bound _, lt-leb bound _))
 
--- two tests under one
+-- two tests in one
 pub and_both : (a b : Bool) → IsTrue (a && b) → IsTrue a × IsTrue b
 and_both true b t = (refl, t)
 and_both false b t = absurd (cc)

@@ -1,4 +1,4 @@
--- The lower and the upper byte of the code unit that ends with each byte, and the vectors that both are joined to.
+-- The lower and the upper byte of the code unit that ends with each byte, and the vectors into which they are joined.
 use Rattle.std.proofs.Common.{◌≡◌, ℕ, zero, suc, ◌+◌, ◌-◌, ◌*◌, ◌/◌, ◌%◌, ◌^◌, ◌<◌, cond, leb, ltb, List, [], ◌∷◌, ◌++◌, map, length, take, drop, get_or, bit_and, bit_or, sym, ap, ◌∙◌, arith, w8, Fits, length-take-le, length-drop, get_or-take, get_or-drop}
 use Rattle.std.specs.Int.Bits.{or_zero_r}
 use Rattle.std.specs.List.{range_with_len}
@@ -43,7 +43,7 @@ upper_lane x y a b small =
     let high = high_is y (low_bits a b / 0x10) (high_small a b) in
     grind (arith, nat_tests, three, high, or_zero_r (upper_of y a))
 
--- where no character has four bytes
+-- if no character has four bytes
 module _ (x y a b : ℕ) (X : x < 0xF0) (Y : y < 0xF0) (small : b < 256) where
   short_is : unit_at x y a b ≡ cond (ltb b 0x80) b (cond (leb 0xE0 y) (y % 16 * 4096 + low_bits a b) (low_bits a b))
   short_is = ap (cond (ltb b 0x80) b) (cond-false (leb 0xF0 y) _ _ (lt-leb _ _ Y) ∙ cond-false (leb 0xF0 x) _ _ (lt-leb _ _ X))

@@ -1,4 +1,4 @@
--- The vectors that hold the code unit that ends with each byte, and a mark where one does.
+-- The vectors that hold the code unit that ends with each byte, and a mark if one does.
 use Rattle.std.proofs.Common.{◌≡◌, ℕ, zero, suc, ◌+◌, ◌-◌, ◌*◌, ◌%◌, ◌^◌, ◌<◌, ◌≤◌, Bool, true, false, ◌&&◌, cond, ltb, List, [], ◌∷◌, ◌++◌, map, length, take, get_or, replicate, bit_and, refl, sym, ap, ◌∙◌, arith, subst, w8, Fits}
 use Rattle.std.specs.List.{range_with_len}
 use Rattle.std.specs.Simd.Lanes.{zip2, pick_l, mask_l, top, Each1}
@@ -17,13 +17,13 @@ use Rattle.encoding_kernels.proofs.Lanes.CompressLemmas.{mask_front}
 abbrev lanes_from : List ℕ → ℕ → List ℕ
 lanes_from v n = pick_l 0 v (range_with_len 0 n)
 
--- behind zeros, as a shuffle gives them
+-- the lanes after zeros, as a shuffle yields them
 pub behind_lanes : (zs v : List ℕ) (n k : ℕ) → k < length zs + n → get_or (zs ++ lanes_from v n) k 0 ≡ get_or (zs ++ v) k 0
 behind_lanes [] v n k l = get_or-map-range_with_len (λ j. get_or v j 0) 0 n k k 0 (omega arith) (omega arith)
 behind_lanes (z ∷ zs) v n zero l = refl
 behind_lanes (z ∷ zs) v n (suc k) l = behind_lanes zs v n k (omega arith)
 
--- bytes below a bound, and zeros before them
+-- bytes below a bound, with a zero before them
 pub behind_below : (n : ℕ) (v : List ℕ) → 0 < n → ((k : ℕ) → k < 16 → get_or v k 0 < n) → (k : ℕ) → k < 16 → get_or (0 ∷ v) k 0 < n
 behind_below n v h b zero l = h
 behind_below n v h b (suc k) l = b k (omega arith)

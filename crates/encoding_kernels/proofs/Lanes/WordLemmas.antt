@@ -1,4 +1,4 @@
--- Words of two bytes: those that bytes make, and their bytes.
+-- Words of two bytes: the words that bytes make, and the bytes of words.
 use Rattle.std.proofs.Common.{◌≡◌, ℕ, ◌+◌, ◌*◌, ◌/◌, ◌%◌, ◌^◌, ◌<◌, List, [], ◌∷◌, length, take, drop, get_or, refl, ap, ◌∙◌, arith}
 use Rattle.std.proofs.lemmas.List.{drop_more}
 use Rattle.std.proofs.lemmas.Simd.{get_or_wider, get_or_narrower, Each1-from_get_or}

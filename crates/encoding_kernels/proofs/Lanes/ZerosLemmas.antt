@@ -1,4 +1,4 @@
--- A vector of a short text with zeros behind it, out of its first eight bytes and its last eight.
+-- A vector of a short text followed by zeros, from its first eight bytes and its last eight.
 use Rattle.std.proofs.Common.{◌≡◌, ℕ, ◌+◌, ◌-◌, ◌^◌, ◌%◌, ◌<◌, ◌≤◌, List, ◌++◌, length, length-append, length-drop, take, drop, replicate, map, get_or, get_or-take, get_or-drop, cond, ltb, bit_and, inl, inr, refl, sym, ap, ◌∙◌, arith, w8}
 use Rattle.std.proofs.lemmas.Bool.{cases_lt, cond-true, cond-false, lt-ltb, le-ltb}
 use Rattle.std.proofs.lemmas.Bool.Decides.{nat_tests}
@@ -15,7 +15,7 @@ use Rattle.encoding_kernels.proofs.Lanes.TestLemmas.{chosen_by, tests_of}
 abbrev numbers : List ℕ
 numbers = range_with_len 0 16
 
--- where the byte k stands among the first eight and the last eight of n
+-- the index of byte k among the first eight and the last eight of n
 abbrev later : ℕ → ℕ → ℕ
 later n k = bit_and ((k + (16 + (2 ^ 8 - n)) % 2 ^ 8) % 2 ^ 8) 15
 
@@ -53,7 +53,7 @@ module _ (xs : List ℕ) (least : 8 ≤ length xs) (most : length xs ≤ 16) whe
   first_long : length (take 8 xs) ≡ 8
   first_long = length-take-le 8 xs least
 
-  -- one of the first eight, and one behind them
+  -- one of the first eight, and one after them
   early : (k : ℕ) → k < 8 → get_or both (place n k) 0 ≡ get_or xs k 0
   early k l =
       let here : place n k ≡ k = cond-true _ _ _ (lt-ltb k 8 l) in

@@ -1,4 +1,4 @@
--- Fronts whose units are each of a kind, of which the ASCII front is one, and copies of a front.
+-- Prefixes whose units are each of a kind, such as the ASCII prefix, and copies of a prefix.
 use Rattle.std.proofs.Common.{◌≡◌, ℕ, ◌+◌, ◌<◌, ◌≤◌, inl, inr, List, length, ◌++◌, take, drop, take-add, length-take-le, length-drop, set, slice_index, sym, ap, ◌∙◌, arith, subst, Some}
 use Rattle.std.specs.Str.{IsAscii}
 use Rattle.std.proofs.lemmas.Bool.{cases_lt}
@@ -9,7 +9,7 @@ use Rattle.encoding_definitions.specs.Fronts.{IsLongestFront, WritesFront}
 use Rattle.encoding_kernels.specs.Strides.{AllBelow, BelowUpTo, IsRunBelow, CopiesAscii}
 use Rattle.encoding_definitions.proofs.LongestFronts.FrontsLemmas.{WritesFront_push, WritesFront_put, WritesFront_again}
 
--- ---- fronts of units that are each of a kind, which holds of the 0 past the end too
+-- ---- prefixes of units that are each of a kind, which the 0 past the end is too
 module _ (P : ℕ → Type 0) (at_zero : P 0) where
   pub Each-take : (xs : List ℕ) (n : ℕ) → ((k : ℕ) → k < n → P (slice_index xs k)) → (i : ℕ) → P (slice_index (take n xs) i)
   Each-take xs n h i = elim (cases_lt i n) [
@@ -20,7 +20,7 @@ module _ (P : ℕ → Type 0) (at_zero : P 0) where
   pub Each-at : (xs : List ℕ) (n k : ℕ) → k < n → ((i : ℕ) → P (slice_index (take n xs) i)) → P (slice_index xs k)
   Each-at xs n k l h = rw (get_or-take n xs k 0 l) at (h k)
 
-  -- the front ends at the first unit that isn't of the kind
+  -- the prefix ends at the first unit that isn't of the kind
   pub front_before : (xs : List ℕ) (n : ℕ) → n ≤ length xs → ((k : ℕ) → k < n → P (slice_index xs k)) → (n < length xs → ¬ (P (slice_index xs n)))
       → IsLongestFront (λ ys. (i : ℕ) → P (slice_index ys i)) xs n
   front_before xs n l h s = record {
@@ -29,7 +29,7 @@ module _ (P : ℕ → Type 0) (at_zero : P 0) where
     longest = λ m b e. elim (cases_lt n m) [ inl p ↦ absurd (s (omega arith) (Each-at xs m n p e)) | inr p ↦ p ];
   }
 
-  -- the unit behind the front isn't of the kind
+  -- the unit after the prefix isn't of the kind
   pub behind_front : (xs : List ℕ) (n : ℕ) → IsLongestFront (λ ys. (i : ℕ) → P (slice_index ys i)) xs n → n < length xs → ¬ (P (slice_index xs n))
   behind_front xs n f l p =
       let whole : (k : ℕ) → k < n + 1 → P (slice_index xs k) = λ k b. elim (cases_lt k n) [
@@ -40,15 +40,15 @@ module _ (P : ℕ → Type 0) (at_zero : P 0) where
       omega arith
 
 -- ---- ASCII
--- the ASCII front ends at the first unit from 0x80 on
+-- the ASCII prefix ends at the first unit from 0x80 on
 pub ascii_front_at : (xs : List ℕ) (n : ℕ) → n < length xs → ((k : ℕ) → k < n → slice_index xs k < 0x80) → 0x80 ≤ slice_index xs n → IsLongestFront IsAscii xs n
 ascii_front_at xs n l h s = front_before (λ b. b < 0x80) (omega arith) xs n (omega arith) h (λ _ low. omega arith)
 
--- what the longest ASCII front says of its units
+-- the units of the longest ASCII prefix are below 0x80
 pub below_front : (xs : List ℕ) (n : ℕ) → IsLongestFront IsAscii xs n → BelowUpTo 0x80 xs n
 below_front xs n f k l = Each-at (λ b. b < 0x80) (omega arith) xs n k l f.kind
 
--- the first other unit, over so many places
+-- the first other unit among the first `room` units
 pub IsFirstOther-at : (xs : List ℕ) (room n : ℕ) → n < length xs → n < room → ((k : ℕ) → k < n → slice_index xs k < 0x80) → 0x80 ≤ slice_index xs n
     → IsFirstOther (take room xs) (Some (slice_index xs n, n))
 IsFirstOther-at xs room n l m h s =
@@ -64,18 +64,18 @@ pub WritesFront_copy : (old new xs : List ℕ) (n b : ℕ) → WritesFront old n
     → WritesFront old (set new n b) (n + 1) (take (n + 1) xs)
 WritesFront_copy old new xs n b w l m e = rw (take_more xs n 0 l, sym e) (WritesFront_push old new n (take n xs) b w m)
 
--- so many more units are copied
+-- m more units are copied
 pub WritesFront_block : {A : Type 0} (old new after xs : List A) (n m : ℕ) → WritesFront old new n (take n xs) → n + m ≤ length xs → n + m ≤ length new
     → after ≡ take n new ++ (take m (drop n xs) ++ drop (n + m) new) → WritesFront old after (n + m) (take (n + m) xs)
 WritesFront_block old new after xs n m w l k put =
     let short : length (take m (drop n xs)) ≡ m = length-take-le m (drop n xs) (omega (arith, length-drop n xs)) in
     rw (take-add n m xs) (WritesFront_put old new after n m (take n xs) (take m (drop n xs)) w (sym short) k put)
 
--- a run from no later place on passes the places below the bound
+-- a run from the same or an earlier index on passes the indices below the bound
 pub run_passes : (bound from at n run : ℕ) (xs : List ℕ) → BelowUpTo bound xs from → from ≤ at + n → IsRunBelow bound xs at n run → from ≤ at + run
 run_passes bound from at n run xs below l r = elim (cases_lt (at + run) from) [ inl p ↦ absurd (r.stops (omega arith) (below (at + run) p)) | inr p ↦ p ]
 
--- ---- copies, by the numbers of the units and by what is written of them
+-- ---- copies, by the units as numbers and as they are written
 -- n more units
 pub copies_more : {A : Type 0} (numbers : List ℕ) (src old new after : List A) (from at n : ℕ) → CopiesAscii numbers src old new from at → at + n ≤ length src → at + n ≤ length old
     → length new ≡ length old → AllBelow 0x80 numbers at n → after ≡ take at new ++ (take n (drop at src) ++ drop (at + n) new) → CopiesAscii numbers src old after from (at + n)
@@ -85,7 +85,7 @@ copies_more numbers src old new after from at n done l m same ascii put = record
   copied = λ first w. WritesFront_block first new after src at n (done.copied first w) l (omega arith) put;
 }
 
--- a run from no later place on
+-- a run from the same or an earlier index on
 pub copies_run : {A : Type 0} (numbers : List ℕ) (src old new : List A) (from at run : ℕ) → BelowUpTo 0x80 numbers from → at ≤ from → from ≤ at + 16 → at + 16 ≤ length src → at + 16 ≤ length old
     → IsRunBelow 0x80 numbers at 16 run → new ≡ take at old ++ (take run (drop at src) ++ drop (at + run) old) → CopiesAscii numbers src old new from (at + run)
 copies_run numbers src old new from at run below near far l m r put =

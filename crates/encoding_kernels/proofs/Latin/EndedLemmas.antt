@@ -1,4 +1,4 @@
--- Latin1 text in UTF-8 byte by byte: where characters begin, and which byte of Latin1 each byte ends.
+-- Latin1 text in UTF-8 byte by byte: the bytes with which characters begin, and the byte of Latin1 that each byte ends.
 use Rattle.std.proofs.Common.{◌≡◌, ℕ, zero, suc, ◌+◌, ◌*◌, ◌/◌, ◌%◌, ◌<◌, ◌≤◌, inl, inr, cond, ◌&&◌, List, [], ◌∷◌, ◌++◌, map, length, take, drop, get_or, encode_utf8_all, refl, sym, ap, ◌∙◌, arith, subst, append_assoc}
 use Rattle.std.specs.Prelude.{nat_lt}
 use Rattle.std.proofs.str.Laws.{two}
@@ -9,7 +9,7 @@ use Rattle.encoding_definitions.specs.Latin1.{IsLatin1}
 use Rattle.encoding_kernels.specs.EncodeLanes.{ended, all_ended, both_end, kept_places}
 use Rattle.encoding_kernels.proofs.Lanes.EncodeLanesLemmas.{kept_step}
 
--- a byte that goes on with a character
+-- a byte that continues a character
 abbrev pub GoesOnWith : ℕ → Type 0
 GoesOnWith x = (0x80 ≤ x) × (x < 0xC0)
 
@@ -50,7 +50,7 @@ is_two c cs l h = ap (λ xs. xs ++ encode_utf8_all cs) (two c l (omega arith))
 tail_low : (c : ℕ) (cs : List ℕ) → IsLatin1 (c ∷ cs) → IsLatin1 cs
 tail_low c cs low k = low (suc k)
 
--- a text begins with no byte that goes on
+-- a text begins with no byte that continues a character
 begins : (cs : List ℕ) → IsLatin1 cs → GoesOnWith (get_or (encode_utf8_all cs) 0 0) → ⊥
 begins [] low g = omega (arith, g.0)
 begins (c ∷ cs) low g = elim (cases_lt c 0x80) [
@@ -58,7 +58,7 @@ begins (c ∷ cs) low g = elim (cases_lt c 0x80) [
   | inr l ↦ let same = ap (λ xs. get_or xs 0 0) (is_two c cs l (omega (arith, low 0))) in omega (arith, same, g.1)
 ]
 
--- what stands behind a byte
+-- the byte y that follows a byte x
 pub record NextIs (x y : ℕ) : Type 0 where
   pub behind_first : 0xC0 ≤ x → GoesOnWith y
   pub behind_last : x < 0xC0 → GoesOnWith y → ⊥
@@ -82,7 +82,7 @@ nexts (c ∷ cs) low = elim (cases_lt c 0x80) [
     both rest l (suc zero) = record { behind_first = λ h. absurd (omega arith); behind_last = λ _. begins cs (tail_low c cs low) }
     both rest l (suc (suc k)) = rest k
 
--- ---- a front that ends between characters
+-- ---- a prefix that ends between characters
 abbrev pub Splits : List ℕ → ℕ → ℕ → List ℕ → Type 0
 Splits cs p k bs = (drop k bs ≡ encode_utf8_all (drop (length (all_ended p (take k bs))) cs)) × (take (length (all_ended p (take k bs))) cs ≡ all_ended p (take k bs))
 
@@ -113,7 +113,7 @@ splits (c ∷ cs) low p k n = elim (cases_lt c 0x80) [
           ap (λ xs. take (length xs) (c ∷ cs)) out ∙ ap (λ xs. c ∷ xs) rest.1 ∙ sym out,
         )
 
--- a byte at the end that ends none
+-- a last byte that ends none
 pub ended_without : (xs : List ℕ) (p x : ℕ) → 0xC0 ≤ x → all_ended p (xs ++ x ∷ []) ≡ all_ended p xs
 ended_without [] p x l = ap (λ ys. ys ++ []) (ended_none p x l)
 ended_without (y ∷ ys) p x l = ap (λ zs. ended p y ++ zs) (ended_without ys y x l)

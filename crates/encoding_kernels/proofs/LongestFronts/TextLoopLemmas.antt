@@ -1,4 +1,5 @@
--- Writing the UTF-16 of a text character by character and block by block: what is due behind, and how far a loop has come.
+-- Writing the UTF-16 of a text character by character and block by block: what is still to be written, and the progress
+-- of a loop.
 use Rattle.std.proofs.Common.{◌≡◌, append_assoc, ℕ, ◌+◌, ◌-◌, ◌*◌, ◌/◌, ◌<◌, ◌≤◌, inl, inr, true, List, [], ◌∷◌, ◌++◌, length, take, drop, get_or, encode_utf8, encode_utf8_all, refl, sym, ap, ◌∙◌, arith, subst, take-add}
 use lib.Utf8.{scalar}
 use Rattle.std.specs.Char.{IsScalar}
@@ -68,7 +69,7 @@ puts_character src old new n k c b s e w =
 pub character_fits : (src : List ℕ) (n c room : ℕ) → Begins src n → IsScalar c → encode_utf8 c ≡ take n src → length src ≤ room → room < length (encode_utf16 c) → ⊥
 character_fits src n c room b s e l full = omega (arith, length-encode_utf16-utf8 c s, ap length e, length-take n src, b.within)
 
--- ---- what is due
+-- ---- what is still to be written
 units_of : (cs src : List ℕ) → IsUtf8 src → encode_utf8_all cs ≡ src → units_in src ≡ length (flat_map encode_utf16 cs)
 unfolding units_in
 units_of cs src u e = ap (λ ds. length (flat_map encode_utf16 ds)) (sym (chars_from_encodes cs src u e))
@@ -83,7 +84,7 @@ units_third (c ∷ cs) h =
     unit_third : (c : ℕ) → IsScalar c → length (encode_utf8 c) ≤ 3 * length (encode_utf16 c)
     unit_third c s = grind (arith, nat_tests, length-encode c)
 
--- what is due then
+-- the code units of a text are those written and those of the rest
 units_split : (src old new : List ℕ) (n k reach : ℕ) → IsUtf8 src → WritesUtf16 src old new n k reach → units_in src ≡ k + units_in (drop n src)
 units_split src old new n k reach u p =
     let more = p.rest.0 in
@@ -107,7 +108,7 @@ reaches src old new n k reach most l p =
       behind = past new ∙ ap (drop (most - reach)) p.behind ∙ sym (past old);
     }
 
--- eight places are due behind all but the later code units
+-- eight units are still to be written after all but the `later` ones
 pub due_block : (src old new : List ℕ) (n k later : ℕ) → IsUtf8 src → 8 ≤ later + (length src - n) / 3 → WritesUtf16 src old new n k (k + 8 - later) → WritesUtf16 src old new n k (units_in src)
 due_block src old new n k later u l p =
     let more = p.rest in
@@ -117,7 +118,7 @@ due_block src old new n k later u l p =
 pub due_exact : (src old new : List ℕ) (n k : ℕ) → IsUtf8 src → WritesUtf16 src old new n k k → WritesUtf16 src old new n k (units_in src)
 due_exact src old new n k u p = reaches src old new n k k (units_in src) (omega (arith, units_split src old new n k k u p)) p
 
--- the front of the strides, where the first bytes are ASCII
+-- the prefix that strides copy, if the first bytes are ASCII
 pub due_ascii : (src old new : List ℕ) (n m : ℕ) → IsUtf8 src → m ≤ length src → length src ≤ length old → AllBelow 0x80 src 0 m → n ≤ length src
     → (BelowUpTo 0x80 src 0 → BelowUpTo 0x80 src n) → ((first : List ℕ) → WritesFront first old 0 [] → WritesFront first new n (take n src))
     → (n + m ≤ length src → n + m ≤ length old → AllBelow 0x80 src n m → ⊥) → WritesUtf16 src old new n n (units_in src)
@@ -128,11 +129,11 @@ due_ascii src old new n m u long room first within ascii copied stops =
     ] in
     due_exact src old new n n u (puts_ascii src old new n u some within (ascii (λ k l. absurd (omega arith))) (copied old (WritesFront-nil old)))
 
--- of five characters of three bytes eight places are due where three bytes more follow each of three
+-- five characters of three bytes and nine more bytes have at least eight units
 pub due_triples : (src old new : List ℕ) → IsUtf8 src → 24 ≤ length src → WritesUtf16 src old new 15 5 8 → WritesUtf16 src old new 15 5 (units_in src)
 due_triples src old new u l p = due_block src old new 15 5 5 u (omega arith) p
 
--- ---- as far as a loop has come
+-- ---- the progress of a loop
 pub record Putting (src old new : List ℕ) (read written : ℕ) : Type 0 where
   pub done : List ℕ
   pub are_scalars : all_scalars done ≡ true
@@ -174,7 +175,7 @@ putting_more src old new sub read written n k room d p =
     drop_past : (xs ys : List ℕ) (j : ℕ) → drop (length xs + j) (xs ++ ys) ≡ drop j ys
     drop_past xs ys j = sym (drop-drop j (length xs) (xs ++ ys)) ∙ ap (drop j) (drop_at xs ys (length xs) refl)
 
--- the rest of the text is written behind it
+-- the rest of the text is written after it
 pub putting_rest : (src old new sub : List ℕ) (read written k : ℕ) → IsUtf8 src → length src ≤ length old → length new ≡ length old → Putting src old new read written
     → WritesFront (take (length new - written) (drop written new)) sub k (flat_map encode_utf16 (chars (drop read src)))
     → WritesFront old (put_mid written (length new - written) new sub) (written + k) (flat_map encode_utf16 (chars src))

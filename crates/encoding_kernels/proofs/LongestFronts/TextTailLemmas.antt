@@ -1,4 +1,4 @@
--- The end of a text: a block of it with zeros behind it, and code units that are copied from a block of their own.
+-- The end of a text: a block of it followed by zeros, and code units that are copied from a block of their own.
 use Rattle.std.proofs.Common.{◌≡◌, ℕ, zero, suc, ◌≤◌, List, [], ◌∷◌, ◌++◌, length, take, drop, replicate, refl, sym, ap, ◌∙◌, arith}
 use Rattle.std.specs.Char.Escape.{encode_utf16}
 use Rattle.std.specs.Str.{IsUtf8, chars}
@@ -26,7 +26,7 @@ module _ {src old new : List ℕ} {n k reach : ℕ} (p : WritesUtf16 src old new
   pub puts_long : length (take k new) ≡ k
   puts_long = ap length p.placed ∙ sym p.counted
 
-  -- the code units copied to other places
+  -- the code units copied to another list
   pub puts_alone : (places : List ℕ) → WritesUtf16 src places (take k new ++ drop k places) n k k
   puts_alone places = record {
     taken = p.taken;
@@ -39,7 +39,7 @@ module _ {src old new : List ℕ} {n k reach : ℕ} (p : WritesUtf16 src old new
     behind = drop_at (take k new) (drop k places) k puts_long;
   }
 
--- a whole text, at the front of a block
+-- a whole text, at the start of a block
 pub puts_whole : (src block old new : List ℕ) (n k : ℕ) → IsUtf8 src → take n block ≡ src → n ≤ length old → WritesUtf16 block old new n k k → WritesFront old new k (flat_map encode_utf16 (chars src))
 puts_whole src block old new n k u front room p =
     let units : flat_map encode_utf16 p.taken ≡ flat_map encode_utf16 (chars src) = ap (flat_map encode_utf16) (chars_from_encodes p.taken src u (p.spelled ∙ front)) in

@@ -1,4 +1,4 @@
--- UTF-16 of a text by its bytes, and writing it front by front.
+-- UTF-16 of a text by its bytes, and writing it prefix by prefix.
 use Rattle.std.proofs.Common.{◌≡◌, ℕ, zero, suc, ◌+◌, ◌-◌, ◌*◌, ◌/◌, ◌%◌, ◌^◌, ◌<◌, ◌≤◌, inl, inr, Bool, true, false, ◌&&◌, if◌then◌else◌, leb, ltb, List, [], ◌∷◌, ◌++◌, length, take, drop, get_or, replicate, bit_or, encode_utf8, encode_utf8_all, refl, sym, ap, ◌∙◌, arith, subst, take-add}
 use lib.Utf8.{scalar, scalar_cases}
 use Rattle.std.specs.Char.{IsScalar}
@@ -150,7 +150,7 @@ front_units zero x y a bs = refl
 front_units (suc n) x y a [] = refl
 front_units (suc n) x y a (b ∷ bs) = ap (λ us. (if ends_unit a b then unit_at x y a b ∷ [] else []) ++ us) (front_units n y a b bs)
 
--- the marks of sixteen bytes up to an end, of which the mask is made
+-- the marks of the sixteen bytes before `end`, from which the mask is made
 abbrev marks_to : List ℕ → ℕ → List Bool
 marks_to src end = take end (ends_behind 0 (take 16 src)) ++ replicate (16 - end) false
 
@@ -299,7 +299,7 @@ triples (suc n) src u b =
 abbrev pub triple_lanes : List ℕ → ℕ → ℕ
 triple_lanes v k = triple_unit (get_or v (get_or (0 ∷ 3 ∷ 6 ∷ 9 ∷ 12 ∷ 12 ∷ 12 ∷ 12 ∷ []) k 0) 0) (get_or v (get_or (1 ∷ 4 ∷ 7 ∷ 10 ∷ 13 ∷ 13 ∷ 13 ∷ 13 ∷ []) k 0) 0) (get_or v (get_or (2 ∷ 5 ∷ 8 ∷ 11 ∷ 14 ∷ 14 ∷ 14 ∷ 14 ∷ []) k 0) 0)
 
--- of five in a block
+-- of five characters in a block
 lanes_in : (v : List ℕ) (k : ℕ) → k < 5 → triple_lanes v k ≡ triple_unit (get_or v (3 * k) 0) (get_or v (3 * k + 1) 0) (get_or v (3 * k + 2) 0)
 lanes_in v = same_below (triple_lanes v) (λ k. triple_unit (get_or v (3 * k) 0) (get_or v (3 * k + 1) 0) (get_or v (3 * k + 2) 0)) 0 5 refl
 

@@ -1,4 +1,5 @@
--- Units of which some come in pairs: a front in which each second stands behind a first, and each first before a second, is whole but for a last first.
+-- Units that may come in pairs: if each second unit follows a first one, and each first one precedes a second one, a
+-- prefix is whole, except for a first unit at its end.
 use Rattle.std.proofs.Common.{◌≡◌, ℕ, zero, suc, ◌+◌, ◌-◌, ◌^◌, ◌<◌, ◌≤◌, ◌↔◌, ◌⊎◌, inl, inr, Bool, true, false, not, cond, ◌||◌, ◌&&◌, eqb, leb, ltb, List, [], ◌∷◌, length, take, slice_index, bit_and, ◌%◌, drop, refl, sym, ap, ◌∙◌, arith, subst}
 use Rattle.std.proofs.lemmas.Bool.{cases_lt, agree_below_at}
 use Rattle.std.proofs.lemmas.List.{get_or_past}
@@ -23,7 +24,7 @@ module _ (First Second IsWhole : ℕ → Type 0) (us : List ℕ) (n : ℕ)
     (decided : (u : ℕ) → First u ⊎ (First u → ⊥)) (not_zero : First 0 → ⊥) (not_both : (u : ℕ) → First u → Second u → ⊥) (start : IsWhole 0)
     (one : (k : ℕ) → k < n → IsWhole k → (First (slice_index us k) → ⊥) → (Second (slice_index us k) → ⊥) → IsWhole (k + 1))
     (two : (k : ℕ) → k + 1 < n → IsWhole k → First (slice_index us k) → Second (slice_index us (k + 1)) → IsWhole (k + 2)) where
-  -- all before k is whole, and no first is left; or one is
+  -- all before k is whole, and no first unit is left; or one is
   abbrev Walked : ℕ → Type 0
   Walked k = (IsWhole k × (First (slice_index (0 ∷ us) k) → ⊥)) ⊎ ((j : ℕ) × (k ≡ j + 1) × IsWhole j × First (slice_index us j))
 
@@ -46,14 +47,14 @@ module _ (First Second IsWhole : ℕ → Type 0) (us : List ℕ) (n : ℕ)
     last_is : slice_index (0 ∷ us) n ≡ slice_index us (n - 1)
     last_is = ap (λ i. slice_index (0 ∷ us) i) {x = n} {y = n - 1 + 1} (omega arith) ∙ before_next us (n - 1)
 
-    -- no first is left at the end
+    -- no first unit is left at the end
     whole_front : (First (slice_index us (n - 1)) → ⊥) → IsWhole n
     whole_front none = elim (walk n (omega arith)) [
       | inl w ↦ w.0
       | inr w ↦ let at : w.0 ≡ n - 1 = omega (arith, w.1) in absurd (none (subst (λ i. First (slice_index us i)) at w.3))
     ]
 
-    -- one is
+    -- one is left
     cut_front : First (slice_index us (n - 1)) → IsWhole (n - 1)
     cut_front f = elim (walk n (omega arith)) [
       | inl w ↦ absurd (w.1 (subst First (sym last_is) f))
@@ -91,11 +92,11 @@ module _ (us : List ℕ) (n : ℕ) (within : n ≤ length us) (some : 0 < n) (un
 pub paired_joined : (us : List ℕ) (a b from to : ℕ) → PairUp us a b → PairUp us from to → from ≤ b → PairUp us a to
 paired_joined us a b from to p q l = record { each = λ k h m. elim (cases_lt k b) [ inl i ↦ p.each k h i | inr i ↦ q.each k (omega arith) m ] }
 
--- two tests that give one answer
+-- two tests with one result
 same_lane : (a b : Bool) (P Q : Type 0) → (a ≡ true) ↔ P → (b ≡ true) ↔ Q → cond a (not b) b ≡ false → P ↔ Q
 same_lane a b P Q p q e = let same = same_tests a b e in (λ x. q.0 (sym same ∙ p.1 x), λ y. p.0 (same ∙ q.1 y))
 
--- pairs that stand side by side without a fault, as the rule on each unit and the one before it
+-- adjacent pairs without an error, as the rule on each unit and the one before it
 pub pairs_up : (us : List ℕ) (from to at end : ℕ) → from < at → end ≤ to + 1 → ((k : ℕ) → slice_index us k < 2 ^ 16) → PassBetween (λ k. pair_fault (slice_index us (k + 1)) (slice_index us k) ≡ false) from to
     → PairUp us at end
 pairs_up us from to at end o p units none = record {
@@ -109,7 +110,7 @@ pairs_up us from to at end o p units none = record {
 }
 
 -- ---- blocks without a surrogate
--- a unit less the least surrogate, in sixteen bits
+-- a unit minus the least surrogate, in sixteen bits
 abbrev pub above_least : ℕ → ℕ
 above_least u = (u + (2 ^ 16 - 0xD800)) % 2 ^ 16
 
@@ -122,7 +123,7 @@ four_from a b c d x h = (grind (arith, nat_tests), grind (arith, nat_tests), gri
 far_from_least : (u : ℕ) → u < 2 ^ 16 → 0x800 ≤ above_least u → 0xD800 ≤ u → u ≤ 0xDFFF → ⊥
 far_from_least u l h from to = omega arith
 
--- four vectors of sixteen by the least of each four
+-- four vectors of sixteen, by the least of each four lanes
 pub none_in_block : (us : List ℕ) → length us ≡ 64 → ((k : ℕ) → slice_index us k < 2 ^ 16)
     → ((k : ℕ) → k < 16 → ltb (least_of (least_of (above_least (slice_index us (0 + k))) (above_least (slice_index us (16 + k))))
     (least_of (above_least (slice_index us (32 + k))) (above_least (slice_index us (48 + k))))) 0x800 ≡ false)
@@ -146,7 +147,8 @@ none_in_block us long units none k from to =
       ]
     ]
 
--- where no unit of a block is a surrogate, and the one before it isn't a high one, a low one stands exactly behind each high one
+-- if no unit of a block is a surrogate, and the one before it isn't a high one, a unit of it is a low one if and only
+-- if it follows a high one
 pub paired_clear : (us block : List ℕ) (at n : ℕ) → block ≡ take n (drop at us) → 0 < at → HaveNoSurrogate block → (IsHighSurrogate (slice_index us (at - 1)) → ⊥)
     → PairUp us at (at + n)
 paired_clear us block at n is some none before = record {
@@ -200,7 +202,7 @@ before_below : (bs : List ℕ) (n k : ℕ) → BelowUpTo 0x80 bs n → k ≤ n �
 before_below bs n zero low l = omega arith
 before_below bs n (suc k) low l = low k (omega arith)
 
--- an ASCII front
+-- an ASCII prefix
 pub ascii_fits : (bs : List ℕ) (n : ℕ) → BelowUpTo 0x80 bs n → FitLatin1 bs 0 n
 ascii_fits bs n low = record {
   each = λ k from to.

@@ -1,4 +1,4 @@
--- The sums of whole texts: they lead to the lengths in another encoding.
+-- The sums over whole texts are the lengths in another encoding.
 use Rattle.std.proofs.Common.{◌≡◌, ℕ, suc, ◌+◌, ◌/◌, ◌%◌, ◌<◌, ◌≤◌, inl, inr, false, cond, List, [], ◌∷◌, ◌++◌, length, slice_index, nat_le, encode_utf8, encode_utf8_all, refl, sym, ap, ◌∙◌, arith, subst}
 use Rattle.std.specs.Char.{IsScalar, len_utf8}
 use Rattle.std.specs.Char.Escape.{encode_utf16}
@@ -57,7 +57,7 @@ chars_total bs h =
     let text = latin1_chars bs h in
     subst (λ xs. length (chars bs) + total (one_from 0xC0) xs ≡ length xs) text.1 (leads_total (chars bs) text.0)
 
--- ---- UTF-8: what each byte is joined by
+-- ---- UTF-8: the bytes that continue each byte
 low_third : (a c : ℕ) → a < 0xE0 → goes_third a c ≡ false
 low_third a c l = grind (arith, nat_tests)
 
@@ -73,7 +73,7 @@ joins_one a b c s n = grind (arith, nat_tests)
 joins_two : (a b c : ℕ) → IsSecond a b → 0xE0 ≤ a → IsContinuation c → joined_by a b c ≡ 2
 joins_two a b c s l t = grind (arith, nat_tests)
 
--- nothing is joined to a byte that begins none of several
+-- nothing continues a byte that begins no sequence of several
 low_lead : (a b c : ℕ) → a < 0xC2 → joined_by a b c ≡ 0
 low_lead a b c l = joins_none a b c (λ s. omega (arith, s.0))
 
@@ -97,8 +97,8 @@ shape_total (a ∷ b ∷ c ∷ d ∷ e ∷ more) rest h = absurd h
 units_of_character : (c : ℕ) → IsScalar c → length (encode_utf16 c) ≡ 1 + bool_byte (nat_le 4 (length (encode_utf8 c)))
 units_of_character c s = grind (arith, nat_tests, length-encode c)
 
--- ---- broken parts
--- no byte of rest goes on with the beginning x
+-- ---- malformed sequences
+-- no byte of rest continues the incomplete sequence x
 abbrev IsStuckBefore : List ℕ → List ℕ → Type 0
 IsStuckBefore x rest = (y : ℕ) (ys : List ℕ) → rest ≡ y ∷ ys → IsStuck x y
 

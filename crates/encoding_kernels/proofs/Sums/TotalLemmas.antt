@@ -1,4 +1,4 @@
--- Sums over the places of a list: one place more, and what its first bytes or code units give.
+-- Sums over the indices of a list: one more index, and the terms of its first bytes or code units.
 use Rattle.std.proofs.Common.{Bool, ◌≡◌, ℕ, zero, suc, ◌+◌, ◌<◌, ◌≤◌, List, [], ◌∷◌, length, drop, slice_index, nat_le, refl, ap, ◌∙◌, arith}
 use Rattle.std.proofs.lemmas.List.{get_or-drop}
 use Rattle.std.proofs.lemmas.Bool.Decides.{nat_tests}
@@ -6,7 +6,7 @@ use mir.Val.{bool_byte}
 use Rattle.encoding_kernels.specs.Strides.{AllBelow}
 use Rattle.encoding_kernels.specs.Lengths.{total, one_from, joined, joined_by, beyond, beyond_one}
 
--- the sum from a place on, by what is there
+-- the sum from an index on, by the term at that index
 pub total_next : (f : List ℕ → ℕ) (xs : List ℕ) (i : ℕ) → i < length xs → total f (drop i xs) ≡ f (drop i xs) + total f (drop (i + 1) xs)
 unfolding total
 total_next f xs i l =
@@ -32,8 +32,7 @@ there xs i k = get_or-drop i xs k 0
 here : (xs : List ℕ) (i : ℕ) → slice_index (drop i xs) 0 ≡ slice_index xs i
 here xs i = let e : i + 0 ≡ i = omega arith in there xs i 0 ∙ ap (slice_index xs) e
 
--- one byte more of those that are no less than a least one, of those that stand behind what they go on with, and one
--- code unit more
+-- one more byte for `one_from`, one more for `joined`, and one more code unit for `beyond`
 module _ (xs : List ℕ) (i next : ℕ) (p : next ≡ i + 1) (l : i < length xs) where
   pub from_next : (least : ℕ) → total (one_from least) (drop i xs) ≡ bool_byte (nat_le least (slice_index xs i)) + total (one_from least) (drop next xs)
   from_next least = rw p (total_next (one_from least) xs i l ∙ (λ k. bool_byte (nat_le least (here xs i k)) + total (one_from least) (drop (i + 1) xs)))
@@ -47,7 +46,7 @@ module _ (xs : List ℕ) (i next : ℕ) (p : next ≡ i + 1) (l : i < length xs)
 pub bool_byte_most : (b : Bool) → bool_byte b ≤ 1
 bool_byte_most b = grind (arith, nat_tests)
 
--- nothing is joined to ASCII
+-- nothing continues ASCII
 none_joined : (a b c : ℕ) → a < 0xC2 → joined_by a b c ≡ 0
 none_joined a b c l = grind (arith, nat_tests)
 

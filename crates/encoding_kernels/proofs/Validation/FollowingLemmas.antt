@@ -1,4 +1,4 @@
--- Bytes that follow one another up to a place where no character is cut are well-formed.
+-- Bytes that follow each other are well-formed up to an index at which no character is cut.
 use Rattle.std.proofs.Common.{◌≡◌, ℕ, zero, suc, ◌+◌, ◌-◌, ◌<◌, ◌≤◌, inl, inr, List, [], ◌∷◌, ◌++◌, length, take, drop, get_or, replicate, refl, sym, ap, ◌∙◌, arith, subst}
 use Rattle.std.specs.Str.{IsUtf8}
 use Rattle.std.proofs.lemmas.Bool.{cases_lt}
@@ -17,7 +17,7 @@ use Rattle.encoding_kernels.specs.Following.{Follows, FollowsAt, FollowTo, IsClo
 second_most : (a b : ℕ) → IsSecond a b → b ≤ 0xBF
 second_most a b s = grind (arith, nat_tests)
 
--- the bytes from a place on
+-- the bytes from an index on
 module _ (bs : List ℕ) (at : ℕ) where
   take_one : at < length bs → take 1 (drop at bs) ≡ get_or bs at 0 ∷ []
   take_one h = ap (take 1) (drop-cons bs at 0 h)
@@ -35,7 +35,7 @@ module _ (bs : List ℕ) (at : ℕ) where
       ∙ ap (λ r. get_or bs at 0 ∷ get_or bs (suc at) 0 ∷ take 2 r) (drop-cons bs (suc (suc at)) 0 (omega arith))
       ∙ ap (λ r. get_or bs at 0 ∷ get_or bs (suc at) 0 ∷ get_or bs (suc (suc at)) 0 ∷ take 1 r) (drop-cons bs (suc (suc (suc at))) 0 h)
 
--- a character further, which is closed again
+-- one character more, after which none is cut
 abbrev IsStep : List ℕ → ℕ → ℕ → Type 0
 IsStep bs n at = (k : ℕ) × (0 < k) × (at + k ≤ n) × IsClosedAt bs (at + k) × IsSequence (take k (drop at bs))
 
@@ -89,7 +89,7 @@ module _ (bs : List ℕ) (n at : ℕ) (within : n ≤ length bs) (end : IsClosed
         | inr lead ↦ second_byte lead l
       ]
 
--- from a well-formed front on: the bytes behind it follow one another, and no character is cut at either end
+-- from a well-formed prefix on: the bytes after it follow each other, and no character is cut at either end
 pub IsUtf8_following : (bs : List ℕ) (n : ℕ) → n ≤ length bs → IsClosedAt bs n → (fuel at : ℕ) → n ≤ at + fuel → at ≤ n
     → ((i : ℕ) → at ≤ i → i < n → FollowsAt bs i) → IsClosedAt bs at → IsUtf8 (take at bs) → IsUtf8 (take n bs)
 IsUtf8_following bs n within end zero at room le follows closed front = let e : at ≡ n = omega arith in subst (λ k. IsUtf8 (take k bs)) e front
@@ -100,7 +100,7 @@ IsUtf8_following bs n within end (suc fuel) at room le follows closed front = el
   | inr g ↦ let e : at ≡ n = omega arith in subst (λ k. IsUtf8 (take k bs)) e front
 ]
 
--- ---- the bytes before, by their places
+-- ---- the bytes before, by their indices
 pub one_before : (bs : List ℕ) (n : ℕ) → 1 ≤ n → get_or (0 ∷ bs) n 0 ≡ get_or bs (n - 1) 0
 one_before bs n h = get_or-append_right (0 ∷ []) bs 1 n 0 refl h
 
@@ -128,7 +128,7 @@ FollowsAt-loads n bs at i h l f =
 abbrev pub shifted : ℕ → List ℕ → ℕ → List ℕ
 shifted n bs k = pick_l 0 (replicate n 0 ++ take n bs) (range_with_len k n)
 
--- the lanes as long as the zeros: so many of these stay
+-- n lanes from index k on, of n zeros followed by n bytes
 module _ (n : ℕ) (bs : List ℕ) (long : n ≤ length bs) where
   shifted_at : (k i : ℕ) → k ≤ n → i < n → get_or (shifted n bs k) i 0 ≡ get_or (drop k (replicate n 0 ++ take n bs)) i 0
   shifted_at k i h l =
@@ -136,7 +136,7 @@ module _ (n : ℕ) (bs : List ℕ) (long : n ≤ length bs) where
       let room : k + n ≤ length all = omega (arith, length-append (replicate n 0) (take n bs), length-replicate {A = ℕ} n 0, length-take n bs) in
       ap (λ xs. get_or xs i 0) (pick_l-range_with_len 0 all k n room) ∙ get_or-chunk k n all i 0 l ∙ sym (get_or-drop k all i 0)
 
-  -- bytes behind zeros, in a front and in the whole
+  -- bytes after zeros, in a prefix and in the whole
   front_one : (i : ℕ) → i < n → get_or (0 ∷ take n bs) i 0 ≡ get_or (0 ∷ bs) i 0
   front_one zero l = refl
   front_one (suc i) l = get_or-take n bs i 0 (omega arith)
@@ -158,7 +158,7 @@ module _ (n : ℕ) (bs : List ℕ) (long : n ≤ length bs) where
       let a = shifted_at one i few.2 l ∙ ap (λ xs. get_or xs i 0) e1 ∙ front_one i l in
       moved x y a (get_or-take n bs i 0 l) f
 
--- ---- further
+-- ---- more bytes
 pub FollowTo-more : (bs : List ℕ) (at n : ℕ) → FollowTo bs at → ((i : ℕ) → i < n → FollowsAt bs (at + i)) → FollowTo bs (at + n)
 FollowTo-more bs at n front more = record {
   each = λ i l. elim (cases_lt i at) [
@@ -218,12 +218,12 @@ FollowTo-ascii bs at to front c ascii = record {
   ];
 }
 
--- a front of the whole
+-- a prefix of the whole
 pub FollowTo_ascii_front : (bs : List ℕ) (n : ℕ) → ((i : ℕ) → i < n → get_or bs i 0 < 0x80) → FollowTo bs n
 FollowTo_ascii_front bs n ascii = FollowTo-ascii bs 0 n (FollowTo-none bs) (IsClosedAt-start bs) (record { each = λ i _ l. ascii i l })
 
--- ---- where no character is cut
--- before a byte that goes on with none
+-- ---- indices at which no character is cut
+-- before a byte that continues no character
 closed_before : (bs : List ℕ) (i : ℕ) → FollowsAt bs i → 0xC0 ≤ get_or bs i 0 → IsClosedAt bs i
 closed_before bs i f h =
     let x : get_or (0 ∷ 0 ∷ 0 ∷ bs) i 0 < 0xF0 = elim (cases_lt (get_or (0 ∷ 0 ∷ 0 ∷ bs) i 0) 0xF0) [ inl l ↦ l | inr g ↦ (let s = f.fourth g in absurd (omega arith)) ] in
@@ -234,7 +234,7 @@ closed_before bs i f h =
 pub IsClosedAt_tests : (bs : List ℕ) (at : ℕ) → 3 ≤ at → get_or bs (at - 1) 0 < 0xC0 → get_or bs (at - 2) 0 < 0xE0 → get_or bs (at - 3) 0 < 0xF0 → IsClosedAt bs at
 IsClosedAt_tests bs at h a y x = (omega (arith, three_before bs at h), omega (arith, two_before bs at (omega arith)), omega (arith, one_before bs at (omega arith)))
 
--- behind three bytes of ASCII
+-- after three bytes of ASCII
 pub IsClosedAt-behind_ascii : (bs : List ℕ) (from at : ℕ) → from + 3 ≤ at → AsciiBetween bs from at → IsClosedAt bs at
 IsClosedAt-behind_ascii bs from at h ascii =
     let a = ascii.each (at - 1) (omega arith) (omega arith) in
@@ -249,7 +249,7 @@ IsUtf8_closed bs n within f c = IsUtf8_following bs n within c n 0 (omega arith)
 pub IsUtf8_before : (bs : List ℕ) (n i : ℕ) → n ≤ length bs → i < n → FollowTo bs n → 0xC0 ≤ get_or bs i 0 → IsUtf8 (take i bs)
 IsUtf8_before bs n i within l f h = IsUtf8_closed bs i (omega arith) (FollowTo_less bs n i (omega arith) f) (closed_before bs i (f.each i l) h)
 
--- a front of ASCII
+-- an ASCII prefix
 pub IsUtf8_ascii_front : (bs : List ℕ) (n : ℕ) → n ≤ length bs → ((i : ℕ) → i < n → get_or bs i 0 < 0x80) → IsUtf8 (take n bs)
 IsUtf8_ascii_front bs n within ascii =
     IsUtf8_closed bs n within (FollowTo_ascii_front bs n ascii) (IsClosedAt-ascii bs 0 n (omega arith) (IsClosedAt-start bs) (record { each = λ i _ l. ascii i l }))

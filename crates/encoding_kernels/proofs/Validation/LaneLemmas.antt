@@ -13,7 +13,7 @@ use Rattle.encoding_kernels.proofs.Validation.PairLemmas.{lane, lane_follows}
 use Rattle.encoding_kernels.proofs.Lanes.LaneLemmas.{HasLanes-itself, HasLanes-same, HasLanes-splat, HasLanes-zip2, compared}
 use Rattle.encoding_kernels.proofs.Lanes.TestLemmas.{chosen_by, tests_of}
 
--- so many bytes: sixteen, or two times sixteen
+-- n bytes: sixteen, or two times sixteen
 abbrev pub IsLanes : ℕ → List ℕ → Type 0
 IsLanes n v = (length v ≡ n) × Each1 (Fits w8) v
 
@@ -23,7 +23,7 @@ IsWidth n = (n ≡ 16) ⊎ (n ≡ 32)
 byte : (n : ℕ) (v : List ℕ) → IsLanes n v → (i : ℕ) → i < n → get_or v i 0 < 256
 byte n v is i l = (Each1-get_or (Fits w8) v i 0 (omega (arith, is.0)) is.1).fits
 
--- ---- look-ups
+-- ---- lookups
 module _ (n : ℕ) (w : IsWidth n) {js : List ℕ} {f : ℕ → ℕ} (places : HasLanes n js f) (small : (k : ℕ) → k < n → f k < 16) where
   places_ok : SwzOk w8 16 n 0 js
   places_ok =
@@ -33,7 +33,7 @@ module _ (n : ℕ) (w : IsWidth n) {js : List ℕ} {f : ℕ → ℕ} (places : H
         | inr e ↦ SwzOk-from_below w8 16 2 n 0 js e (omega (arith, places.long)) below
       ]
 
-  -- in a table whose second copy holds what the first does
+  -- in a table whose second half equals the first
   looked_up : (t : List ℕ) → t ≡ take 16 t ++ take 16 t → length t ≡ 32 → HasLanes n (swz_l w8 16 (chunk 0 n t) 0 js) (λ k. get_or t (f k) 0)
   looked_up t doubled whole = record {
     long = length-swz_l w8 16 (chunk 0 n t) 0 js ∙ places.long;
@@ -56,7 +56,7 @@ module _ (n : ℕ) (w : IsWidth n) {js : List ℕ} {f : ℕ → ℕ} (places : H
         ];
   }
 
--- the halves of a byte
+-- the nibbles of a byte
 abbrev shifted_down : ℕ → ℕ → ℕ
 shifted_down a b = a / 2 ^ b
 
@@ -83,7 +83,7 @@ module _ (n : ℕ) (w : IsWidth n) (v : List ℕ) (is : IsLanes n v) where
 abbrev wrapping_less : ℕ → ℕ → ℕ
 wrapping_less a b = (a + (2 ^ 8 - b)) % 2 ^ 8
 
--- the greater of each lane and its fellow
+-- the greater of each two lanes
 abbrev greater : List ℕ → List ℕ → List ℕ
 greater xs ys = sel_l (map (top 7) (zip2 (compared w8 ltb) xs ys)) ys xs
 

@@ -1,4 +1,4 @@
--- What the mask of a vector says of its lanes that are zero, and the lanes of a disjunction.
+-- What the mask of a vector says about its lanes that are zero, and the lanes of a disjunction.
 use Rattle.std.proofs.Common.{◌≡◌, ℕ, ◌<◌, ◌≤◌, not, eqb, false, List, length, get_or, replicate, bit_or, arith, w8}
 use Rattle.std.proofs.lemmas.Bool.Decides.{nat_tests}
 use Rattle.std.proofs.lemmas.Nat.{le_or_l, le_or_r}

@@ -1,4 +1,4 @@
--- What the three look-ups tell of two neighbouring bytes, and what a lane that is zero tells of four.
+-- What the three lookups say about two adjacent bytes, and what a lane that is zero says about four.
 use Rattle.std.proofs.Common.{◌≡◌, ℕ, ◌+◌, ◌-◌, ◌*◌, ◌/◌, ◌<◌, ◌≤◌, ◌⊎◌, inl, inr, Bool, true, ◌&&◌, ◌||◌, ◌==◌, if◌then◌else◌, sym, false, map, [], get_or, bit_and, bit_or, bit_xor, refl, arith, nat_le, nat_lt, eq-eqb}
 use Rattle.std.proofs.lemmas.Bool.{and_parts, cases_lt, true≢false}
 use Rattle.std.proofs.lemmas.Bool.Decides.{nat_tests}
@@ -11,24 +11,24 @@ use Rattle.encoding_definitions.proofs.Sequences.SequenceLemmas.{is_second}
 use Rattle.encoding_kernels.proofs.Lanes.LaneLemmas.{same_below}
 
 -- ---- two bytes
--- the faults that the tables leave of a byte a and a byte behind it whose upper half is h
+-- the errors that the tables leave for a byte a and a following byte with the high nibble h
 abbrev pub pair : ℕ → ℕ → ℕ
 pair a h = bit_and (bit_and (get_or FIRST_HIGH (a / 16) 0) (get_or FIRST_LOW (bit_and a 15) 0)) (get_or SECOND_HIGH h 0)
 
--- Each byte with the upper half h may stand behind a, where no sequence was open before a: the least and the greatest
--- of the sixteen stand second behind a first byte, or no continuation byte stands behind another byte.
+-- If no sequence was open before a, each byte with the high nibble h may follow a: the least and the greatest of the
+-- sixteen may be second after a first byte, or no continuation byte follows another byte.
 abbrev clear : ℕ → ℕ → Bool
 clear a h = if nat_lt a 0xC0 then (nat_lt h 8 || nat_le 12 h) else ((nat_le 0xC2 a && nat_le a 0xF4) && (is_second a (16 * h) && is_second a (16 * h + 15)))
 
--- a continuation byte behind a byte that is no first byte of several
+-- a continuation byte after a byte that is no first byte of several
 abbrev continues : ℕ → ℕ → Bool
 continues a h = nat_lt a 0xC0 && (nat_le 8 h && nat_lt h 12)
 
--- what the tables tell by no fault, and by the bit of two continuation bytes alone
+-- what the tables say if there is no error, and if the only bit is that of two continuation bytes
 abbrev told : ℕ → ℕ → Bool
 told a h = (if bit_xor 0 (pair a h) == 0 then clear a h else true) && (if bit_xor 0x80 (pair a h) == 0 then continues a h else true)
 
--- of all 256 bytes, with all 16 halves of the byte behind them
+-- of all 256 bytes, with all 16 high nibbles of the following byte
 is_told : (a h : ℕ) → a < 256 → h < 16 → told a h ≡ true
 is_told a h l k = same_below (told a) (λ _. true) true 16 (same_below (λ x. map (told x) (range_with_len 0 16)) (λ _. map (λ _. true) (range_with_len 0 16)) [] 256 refl a l) h k
 
@@ -42,7 +42,7 @@ is_clear a h l k e = where_tested _ _ (and_parts _ _ (is_told a h l k)).0 (eq-eq
 is_continued : (a h : ℕ) → a < 256 → h < 16 → bit_xor 0x80 (pair a h) ≡ 0 → continues a h ≡ true
 is_continued a h l k e = where_tested _ _ (and_parts _ _ (is_told a h l k)).1 (eq-eqb _ _ e)
 
--- the same of a byte b with that upper half
+-- the same for a byte b with that high nibble
 second_behind : (a b : ℕ) → 0xC0 ≤ a → clear a (b / 16) ≡ true → IsSecond a b
 second_behind a b l e = grind (arith, nat_tests)
 
@@ -53,7 +53,7 @@ later_behind : (a b : ℕ) → continues a (b / 16) ≡ true → (a < 0xC0) × I
 later_behind a b e = grind (arith, nat_tests)
 
 -- ---- four bytes
--- the lane of b behind x, y and a
+-- the lane of b after x, y and a
 abbrev pub lane : ℕ → ℕ → ℕ → ℕ → ℕ
 lane x y a b = bit_xor (bit_and (bit_or (y - 0x60) (x - 0x70)) 0x80) (pair a (b / 16))
 
@@ -64,7 +64,7 @@ bit_7_unset u v k l = omega (arith, and_pow (bit_or u v) 7, bit_at_or u v 7)
 bit_7_set : (u v : ℕ) → u < 256 → v < 256 → (0x80 ≤ u) ⊎ (0x80 ≤ v) → bit_and (bit_or u v) 0x80 ≡ 0x80
 bit_7_set u v k l s = omega (arith, and_pow (bit_or u v) 7, bit_at_or u v 7)
 
--- no sequence of three or four goes on
+-- no sequence of three or four bytes continues
 behind_a_whole : (x y a b : ℕ) → x < 0xF0 → y < 0xE0 → clear a (b / 16) ≡ true → Follows x y a b
 behind_a_whole x y a b p q e = record {
   second = λ l. second_behind a b l e;

@@ -5,7 +5,7 @@ use mir.Val.{bool_byte}
 use Rattle.encoding_definitions.specs.Sequence.{IsBeginning, IsContinuation}
 use Rattle.encoding_kernels.proofs.sequence.begin_several.Goals as goal
 
--- where a mask tells whether something holds, one test tells whether the byte goes on, too
+-- if a mask says whether something holds, one test also decides whether the byte continues a sequence
 masked : (A : Type 0) (b : Bool) (second : ℕ) → second < 256 → (IsTrue b ↔ A) → IsTrue (nat_eq (bit_and second (bool_byte b * 192)) 128) ↔ A × IsContinuation second
 masked A true second small same =
     let high : bit_and second 192 ≡ second / 64 * 64 = and_high_mask 8 6 (omega arith) second small in
