@@ -11,7 +11,7 @@ use std::simd::prelude::*;
 /// The first right-to-left code unit.
 pub const FIRST_UNIT: u16 = 0x0590;
 
-/// The first byte of U+0580 to U+05BF. Lesser characters begin with lesser bytes.
+/// The first byte of U+0580 to U+05BF. Characters below these begin with smaller bytes.
 pub const FIRST_LEAD: u8 = 0xD6;
 
 /// The first byte of U+2000 to U+2FFF, which include general punctuation. The right-to-left marks in it are U+200F,
@@ -54,7 +54,7 @@ fn second_ends<const N: usize>(first: Simd<u8, N>, third: Simd<u8, N>) -> Simd<u
             .select(Simd::splat(0x82), none)
 }
 
-/// Indices of bytes that begin no right-to-left character: those of lesser characters and of punctuation.
+/// Indices of bytes that begin no right-to-left character: those below `FIRST_LEAD`, and those of punctuation.
 #[derive(Drop)]
 struct LowBytes<'a> {
     bytes: &'a [u8],

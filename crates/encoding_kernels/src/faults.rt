@@ -7,8 +7,8 @@ use crate::places::run_before;
 use std::simd::Simd;
 use std::simd::prelude::*;
 
-/// The errors that the high nibble of the previous byte leaves possible, a bit each; twice, once for each sixteen
-/// lanes.
+/// A bit for each error that the high nibble of the previous byte leaves possible. The table is stored twice, once for
+/// each sixteen lanes.
 const FIRST_HIGH: [u8; 32] = [
     2, 2, 2, 2, 2, 2, 2, 2, 128, 128, 128, 128, 33, 1, 21, 73, 2, 2, 2, 2, 2, 2, 2, 2, 128, 128,
     128, 128, 33, 1, 21, 73,

@@ -18,7 +18,8 @@ const PAIRED_BLOCKS: usize = 8;
 /// The least byte that precedes a continuation byte.
 const LEADS: u8 = 0xC0;
 
-/// The first byte of U+0100. All bytes of lesser characters are less, and greater characters begin with no lesser byte.
+/// The first byte of U+0100. All bytes of the characters below it are smaller, and those above begin with no smaller
+/// byte.
 pub const BEYOND_LATIN1: u8 = 0xC4;
 
 /// Pairs of adjacent code units: the second is a low surrogate if and only if the first is a high one.

@@ -17,13 +17,13 @@ use crate::surrogate_pairs::{are_short_or_paired, write_short_or_paired};
 use crate::surrogates::is_surrogate;
 use std::simd::prelude::*;
 
-/// The number of bytes that a block of sixteen code units may store, with those after it that are kept.
+/// The number of bytes that a block of sixteen code units may store, including those after it that are kept.
 const ROOM: usize = 64;
 
 /// The number of consecutive blocks of ASCII after which strides of 32 are tried.
 const ASCII_BLOCKS: usize = 8;
 
-/// The number of bytes for eight code units above which most of the next ones are taken to be beyond ASCII too.
+/// The length of the UTF-8 of eight code units above which most of the next ones are taken to be beyond ASCII too.
 const FEW_BYTES: usize = 16;
 
 /// The number of blocks after one that isn't ASCII that aren't tested for ASCII. Text seldom changes to long ASCII
@@ -200,10 +200,10 @@ fn convert_first_eight(src: &[u16], dst: &mut [u8]) -> (usize, usize)
     (first, write_first_of_eight(units, first, dst, 0))
 }
 
-/// Converts the ASCII prefix of `src`. If no surrogate ends it, also converts blocks that are mostly ASCII, and those
-/// of eight more units that precede a surrogate. If all eight do, also converts blocks that mostly aren't ASCII.
-/// Returns how many code units it read, how many bytes it wrote, and whether all eight did. If not, a surrogate is
-/// next, or the end of `src` or `dst` is near.
+/// Converts the ASCII prefix of `src`. If no surrogate ends it, also converts blocks that are mostly ASCII and, of
+/// eight more units, those before a surrogate. If all eight are converted, also converts blocks that mostly aren't
+/// ASCII. Returns how many code units it read, how many bytes it wrote, and whether it converted all eight. If not, a
+/// surrogate is next, or the end of `src` or `dst` is near.
 #[inline(always)]
 fn convert_some_blocks(src: &[u16], dst: &mut [u8]) -> (usize, usize, bool)
     ensures some { IsTrue result.2 → 0 < result.0 }

@@ -39,7 +39,7 @@ const LEADS: [u8; 16] = [
     0xE0, 0, 0, 0xE0, 0, 0, 0xE0, 0, 0, 0xE0, 0, 0, 0xE0, 0, 0, 0,
 ];
 
-/// Writes the units whose bit is set, in order, and returns their number.
+/// Writes the units whose bit is set, in order, and returns their number. Up to eight units after them may change.
 #[inline(always)]
 fn write_compressed(first: u16x8, last: u16x8, kept: usize, dst: &mut [u16]) -> usize
     requires { (kept < 2 ^ 16) × (16 ≤ length dst.old) }

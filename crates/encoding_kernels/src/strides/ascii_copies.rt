@@ -1,4 +1,4 @@
-//! Copies an ASCII prefix to units of the same width, a greater or a lesser one. The rest of `dst` is unchanged.
+//! Copies an ASCII prefix to units of the same, a greater or a smaller width. The rest of `dst` is unchanged.
 
 ghost use Rattle.std.specs.Prelude.{◌≡◌, ℕ, ◌+◌, ◌<◌, ◌≤◌, List, ◌++◌, length, take, drop, slice_index, refl};
 ghost use Rattle.encoding_kernels.specs.Places.{Marks};
