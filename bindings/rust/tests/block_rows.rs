@@ -91,6 +91,10 @@ fn empty_last_block() {
         assert!(repair_block(&mut decoder, &[0xE2, 0x98], &mut [0x71; 4], false).finished);
         let pending = repair_block(&mut decoder, &[], &mut dst[..room], true);
         let is_long = room >= 3;
-        assert_eq!((pending.written, pending.finished), (if is_long { 3 } else { 0 }, is_long), "{room}");
+        assert_eq!(
+            (pending.written, pending.finished),
+            (if is_long { 3 } else { 0 }, is_long),
+            "{room}"
+        );
     }
 }
