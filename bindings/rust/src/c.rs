@@ -1,5 +1,5 @@
-//! The functions of `include/encoding_text.h` over slices and texts. Everything in the crate that isn't checked by the
-//! compiler stands in this module and in `c::texts`: the calls themselves, and what their promises allow at once.
+//! The functions of `include/encoding_text.h` over slices and texts. All unsafe code of the crate is in this module and
+//! in `c::texts`: the calls themselves, and what follows directly from their promises.
 #![allow(unsafe_code)]
 
 mod texts;
@@ -7,7 +7,7 @@ mod texts;
 use core::sync::atomic::{AtomicU8, Ordering};
 pub(crate) use texts::*;
 
-/// How many elements were read, and how many written.
+/// The number of elements read, and of elements written.
 #[repr(C)]
 pub(crate) struct Counts {
     pub(crate) read: usize,
@@ -21,14 +21,14 @@ impl From<Counts> for (usize, usize) {
     }
 }
 
-/// The length of an ASCII prefix, and the element behind it, 0 where there is none.
+/// The length of an ASCII prefix, and the element after it, or 0 if there is none.
 #[repr(C)]
 pub(crate) struct Front {
     pub(crate) length: usize,
     pub(crate) other: u16,
 }
 
-/// A decoder between two calls: the pending bytes, and how many they are.
+/// A decoder between two calls: the pending bytes and their number.
 #[repr(C)]
 #[derive(Clone, Debug, Default)]
 pub(crate) struct Decoder {
@@ -45,8 +45,8 @@ pub(crate) struct Decoded {
 }
 
 impl Decoded {
-    /// What ended the call. It is read as the one byte that the library has just written: four bytes at once, as the
-    /// compiler reads a plain one here, wait until that is in the cache, for some 4 ns.
+    /// Returns why the call ended. The field is read as the one byte that the library has just written. A plain read is
+    /// compiled to a load of four bytes here, which waits some 4 ns for the store to reach the cache.
     #[inline]
     pub(crate) fn result(&self) -> u8 {
         self.result.load(Ordering::Relaxed)
@@ -61,7 +61,7 @@ pub(crate) struct Piece {
     pub(crate) malformed: u8,
 }
 
-/// An encoder between two calls: the high surrogate that waits for its low half, or 0.
+/// An encoder between two calls: the pending high surrogate, or 0.
 #[repr(C)]
 #[derive(Clone, Debug, Default)]
 pub(crate) struct Encoder {
@@ -69,7 +69,7 @@ pub(crate) struct Encoder {
 }
 
 impl Encoder {
-    /// Whether a unit may be held: 0 is none.
+    /// Returns whether a surrogate may be pending: 0 is none.
     #[inline]
     pub(crate) fn may_hold(&self) -> bool {
         self.held != 0
@@ -83,7 +83,7 @@ pub(crate) struct Encoded {
     pub(crate) result: u8,
 }
 
-/// How many bytes stand before the first broken part, and how many it has, 0 where there is none.
+/// The index of the first malformed sequence and its length, 0 if there is none.
 #[repr(C)]
 pub(crate) struct BrokenPart {
     pub(crate) place: usize,
@@ -97,7 +97,7 @@ pub(crate) struct Repaired {
     replaced: u64,
 }
 
-/// In place of a length, where a condition isn't met.
+/// Returned instead of a length if a condition isn't met.
 pub(crate) const REFUSED: usize = usize::MAX;
 pub(crate) const YES: u8 = 1;
 pub(crate) const LATIN1: u8 = 0;
@@ -108,8 +108,8 @@ pub(crate) const PIECE_TEXT: u8 = 0;
 pub(crate) const PIECE_CHAR: u8 = 1;
 pub(crate) const PIECE_MALFORMED: u8 = 2;
 
-/// The answer of a query of so many elements, each of which asks for `step` more. The library has one number for all that
-/// are no less than `usize::MAX`, and that number itself is an answer.
+/// Returns the length that a query reports for `length` elements, each of which adds `step`. The library reports
+/// `usize::MAX` both for that number and for any greater one; these become `Some` and `None`.
 #[inline]
 pub(crate) fn room(length: usize, step: usize, query: impl Fn(usize) -> usize) -> Option<usize> {
     let room = query(length);
@@ -117,7 +117,7 @@ pub(crate) fn room(length: usize, step: usize, query: impl Fn(usize) -> usize) -
     is_met.then_some(room)
 }
 
-/// Declares functions by what they take, and wraps each over references under its own name.
+/// Declares functions by the types of their arguments, and wraps each over references under its own name.
 macro_rules! functions {
     (
         value { $($value:ident($number:ty) -> $property:ty;)* }
@@ -161,19 +161,19 @@ macro_rules! functions {
         })*
         $(#[inline]
         pub(crate) fn $slice(src: &[$unit]) -> $answer {
-            // SAFETY: it reads so many elements from the pointer on, which are those of the slice.
+            // SAFETY: it reads `src_length` elements from the pointer on, which are those of the slice.
             unsafe { raw::$slice(src.as_ptr(), src.len()) }
         })*
         $(#[inline]
         pub(crate) fn $text(src: &str) -> $told {
-            // SAFETY: it reads so many bytes from the pointer on, which are those of the text; it asks that they are
-            // well-formed, and those of a `str` are.
+            // SAFETY: it reads `src_length` bytes from the pointer on, which are those of the text. It requires them to
+            // be well-formed, and those of a `str` are.
             unsafe { raw::$text(src.as_ptr(), src.len()) }
         })*
         $(#[inline]
         pub(crate) fn $conversion(src: &[$from], dst: &mut [$to]) -> $counts {
-            // SAFETY: it reads the elements of the first slice, and reads and writes those of the second, which is
-            // borrowed alone and so overlaps nothing; any elements that it writes are valid.
+            // SAFETY: it reads the elements of the first slice, and reads and writes those of the second, whose borrow
+            // is unique and so overlaps nothing. Any elements that it writes are valid.
             unsafe { raw::$conversion(src.as_ptr(), src.len(), dst.as_mut_ptr(), dst.len()) }
         })*
         $(#[inline]
@@ -183,8 +183,9 @@ macro_rules! functions {
         })*
         $(#[inline]
         pub(crate) fn $step(state: &mut $stepped, src: &[$read], dst: &mut [$write], last: bool) -> $ended {
-            // SAFETY: state and destination are borrowed alone, so no two of the three overlap; the state is laid out as
-            // the header says, and it reads and writes elements within the slices, of which any are valid.
+            // SAFETY: the borrows of state and destination are unique, so no two of the three overlap. The state is
+            // laid out as the header says. It reads and writes elements within the slices, and any values of these are
+            // valid.
             unsafe { raw::$step(state, src.as_ptr(), src.len(), dst.as_mut_ptr(), dst.len(), last) }
         })*
     };
@@ -254,8 +255,8 @@ functions! {
 
 #[inline]
 pub(crate) fn encoding_text_mem_convert_str_to_utf16_unchecked(src: &str, dst: &mut [u16]) -> usize {
-    // SAFETY: it reads the bytes of the text, which are well-formed as it asks, and reads and writes the elements of the
-    // slice, which is borrowed alone and so overlaps nothing; any code units are valid.
+    // SAFETY: it reads the bytes of the text, which are well-formed as it requires, and reads and writes the elements
+    // of the slice, whose borrow is unique and so overlaps nothing. Any code units are valid.
     unsafe {
         raw::encoding_text_mem_convert_str_to_utf16_unchecked(src.as_ptr(), src.len(), dst.as_mut_ptr(), dst.len())
     }
@@ -263,7 +264,7 @@ pub(crate) fn encoding_text_mem_convert_str_to_utf16_unchecked(src: &str, dst: &
 
 #[inline]
 pub(crate) fn encoding_text_mem_ensure_utf16_validity(buffer: &mut [u16]) {
-    // SAFETY: it reads and writes the elements of the slice, which is borrowed alone; any code units are valid.
+    // SAFETY: it reads and writes the elements of the slice, whose borrow is unique. Any code units are valid.
     unsafe { raw::encoding_text_mem_ensure_utf16_validity(buffer.as_mut_ptr(), buffer.len()) }
 }
 
@@ -275,6 +276,7 @@ pub(crate) fn encoding_text_utf8_decoder_in_neutral_state(decoder: &Decoder) -> 
 
 #[inline]
 pub(crate) fn encoding_text_utf8_decoder_decode_borrowed(decoder: &mut Decoder, src: &[u8], last: bool) -> Piece {
-    // SAFETY: it reads the slice, and reads and writes the decoder, which is borrowed alone and laid out as the header says.
+    // SAFETY: it reads the slice, and reads and writes the decoder, whose borrow is unique and which is laid out as the
+    // header says.
     unsafe { raw::encoding_text_utf8_decoder_decode_borrowed(decoder, src.as_ptr(), src.len(), last) }
 }

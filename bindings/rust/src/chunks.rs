@@ -1,11 +1,11 @@
-//! The parts of bytes, one after another: text, and what is broken behind it.
+//! The chunks of bytes: text, and the malformed sequence after it.
 
 use crate::c;
 use core::iter::FusedIterator;
 use core::ops::Range;
 
-/// The place of the first broken part of bytes, of one to three of them, or `None` where all are well-formed: all before
-/// it is. Bytes that begin a character at the end are a broken part.
+/// Returns the range of the first malformed sequence, of one to three bytes, or `None` if all bytes are well-formed.
+/// All bytes before it are well-formed. An incomplete sequence at the end counts as malformed.
 ///
 /// [Proved](crate::promises#broken-parts).
 ///
@@ -21,7 +21,8 @@ pub fn next_broken(bytes: &[u8]) -> Option<Range<usize>> {
     (part.length > 0).then(|| part.place..part.place + part.length)
 }
 
-/// A well-formed stretch, and the broken part behind it, as [`Utf8Chunks`] gives them. Either may be empty, not both.
+/// A well-formed stretch and the malformed sequence after it, as yielded by [`Utf8Chunks`]. Either may be empty, but
+/// not both.
 #[derive(Clone, Copy, Debug, PartialEq, Eq)]
 pub struct Utf8Chunk<'a> {
     valid: &'a str,
@@ -29,14 +30,14 @@ pub struct Utf8Chunk<'a> {
 }
 
 impl<'a> Utf8Chunk<'a> {
-    /// The well-formed stretch, as long as there is any.
+    /// Returns the well-formed stretch, which is as long as possible.
     #[must_use]
     #[inline]
     pub fn valid(&self) -> &'a str {
         self.valid
     }
 
-    /// One broken part of one to three bytes, or nothing at the end of the bytes.
+    /// Returns one malformed sequence of one to three bytes, or nothing at the end of the bytes.
     #[must_use]
     #[inline]
     pub fn invalid(&self) -> &'a [u8] {
@@ -44,17 +45,17 @@ impl<'a> Utf8Chunk<'a> {
     }
 }
 
-/// The chunks of bytes, made by [`utf8_chunks`].
+/// An iterator over the chunks of bytes, made by [`utf8_chunks`].
 #[derive(Clone, Debug)]
 pub struct Utf8Chunks<'a> {
     rest: &'a [u8],
 }
 
-/// Iterates over the well-formed stretches of bytes and the broken parts between them, without copying: as the method
-/// `utf8_chunks` of byte slices in `std` does.
+/// Iterates over the well-formed stretches of bytes and the malformed sequences between them, without copying, as the
+/// method `utf8_chunks` of byte slices in `std` does.
 ///
-/// Each stretch and the broken part behind it are found by a call that is [proved](crate::promises#broken-parts); that the
-/// next chunk begins behind them is done by the crate.
+/// Each stretch and the malformed sequence after it are found by a call that is [proved](crate::promises#broken-parts).
+/// The crate starts the next chunk at its end.
 ///
 /// ```
 /// let chunks: Vec<_> = encoding_text::utf8_chunks(b"a\xE2\x98Z").map(|chunk| (chunk.valid(), chunk.invalid())).collect();

@@ -2,16 +2,17 @@
 
 use crate::c;
 
-/// What ended a call of a decoder.
+/// Why a call of a decoder ended.
 #[must_use]
 #[derive(Clone, Copy, Debug, PartialEq, Eq)]
 pub enum DecoderResult {
-    /// All of the source was read. After a last call nothing is pending: a beginning at its end is reported before.
+    /// All of the source was read. After a call marked last nothing is pending: an incomplete sequence at its end is
+    /// reported first.
     InputEmpty,
-    /// The room that is left may not hold the next character: hand in more.
+    /// The rest of the destination may be too short for the next character. Call again with more space.
     OutputFull,
-    /// A broken part of so many bytes, one to three, ends what was read, and nothing is pending. The second number, of
-    /// bytes read behind it, is always 0 here; decoders of other encodings have one.
+    /// A malformed sequence, whose length (one to three bytes) is the first number, ends what was read, and nothing is
+    /// pending. The second number, of bytes read after it, is always 0 here; decoders of other encodings use it.
     Malformed(u8, u8),
 }
 
@@ -28,21 +29,21 @@ fn ended(decoded: &c::Decoded) -> DecoderResult {
 #[must_use]
 #[derive(Clone, Copy, Debug, PartialEq, Eq)]
 pub enum Piece<'a> {
-    /// The longest well-formed prefix of the source, as a part of the source itself.
+    /// The longest well-formed prefix of the source, borrowed from it.
     Text(&'a str),
-    /// The character that the pending bytes begin and the read ones end.
+    /// The character that the pending bytes and the read ones form.
     Char(char),
-    /// A broken part of so many bytes, one to three: the pending bytes, and then the read ones.
+    /// A malformed sequence of this length, one to three bytes: the pending bytes and then the read ones.
     Malformed(u8),
     /// All of the source was read.
     InputEmpty,
 }
 
-/// A decoder of UTF-8 that comes in pieces. Between calls it holds the bytes that begin a character whose other bytes have
-/// not come yet, at most three: the pending bytes.
+/// A decoder of UTF-8 that comes in pieces. Between calls it keeps an incomplete sequence of at most three bytes: the
+/// pending bytes.
 ///
-/// Fed any bytes in any pieces into any rooms it gives the characters and the broken parts of those bytes, each once and in
-/// their order; a broken part is reported, and the caller writes U+FFFD for it or gives up.
+/// Fed any bytes in any pieces into any rooms it yields the characters and the malformed sequences of those bytes, each
+/// once and in order. It reports each malformed sequence; the caller writes U+FFFD for it or stops.
 ///
 /// ```
 /// use encoding_text::{DecoderResult, Utf8Decoder};
@@ -58,14 +59,14 @@ pub struct Utf8Decoder {
 }
 
 impl Utf8Decoder {
-    /// A decoder with nothing pending.
+    /// Creates a decoder with nothing pending.
     #[must_use]
     #[inline]
     pub fn new_inner() -> Utf8Decoder {
         Utf8Decoder::default()
     }
 
-    /// Whether nothing is pending.
+    /// Returns whether nothing is pending.
     ///
     /// [Proved](crate::promises#decoder).
     #[must_use]
@@ -74,8 +75,8 @@ impl Utf8Decoder {
         c::encoding_text_utf8_decoder_in_neutral_state(&self.state)
     }
 
-    /// How many code units hold all that the next `byte_length` bytes may become, in any pieces, also with U+FFFD written for
-    /// each report. `None` where that number passes `usize::MAX`.
+    /// Returns how many code units hold the output for the next `byte_length` bytes, in any pieces, even with U+FFFD
+    /// for each report. Returns `None` if that number is above `usize::MAX`.
     ///
     /// [Proved](crate::promises#decoder).
     #[must_use]
@@ -86,8 +87,8 @@ impl Utf8Decoder {
         })
     }
 
-    /// How many bytes hold all that the next `byte_length` bytes may become, in any pieces, where nothing is written for
-    /// reports. `None` where that number passes `usize::MAX`.
+    /// Returns how many bytes hold the output for the next `byte_length` bytes, in any pieces, with nothing written for
+    /// reports. Returns `None` if that number is above `usize::MAX`.
     ///
     /// [Proved](crate::promises#decoder).
     #[must_use]
@@ -98,8 +99,8 @@ impl Utf8Decoder {
         })
     }
 
-    /// How many bytes hold all that the next `byte_length` bytes may become, in any pieces, also with U+FFFD written for each
-    /// report. `None` where that number passes `usize::MAX`.
+    /// Returns how many bytes hold the output for the next `byte_length` bytes, in any pieces, even with U+FFFD for
+    /// each report. Returns `None` if that number is above `usize::MAX`.
     ///
     /// [Proved](crate::promises#decoder).
     #[must_use]
@@ -110,12 +111,12 @@ impl Utf8Decoder {
         })
     }
 
-    /// Decodes to UTF-16, and returns what ended the call, how many bytes of `src` it read and how many code units it wrote.
-    /// `last` says that no bytes will follow `src`.
+    /// Decodes to UTF-16. Returns why the call ended, the number of bytes of `src` read and the number of code units
+    /// written. `last` says that no bytes follow `src`.
     ///
-    /// A broken part is reported and nothing is written for it: hand in the unread bytes again. After a report the decoder is
-    /// as a new one. With at least two code units of room and an unread byte a call reads a byte or reports. Behind what is
-    /// written `dst` is as before.
+    /// Nothing is written for a malformed sequence: it is reported, and the decoder is as a new one. Pass the unread
+    /// bytes again. If `dst` has at least two code units and `src` a byte, the call reads a byte or reports. The rest
+    /// of `dst` is unchanged.
     ///
     /// [Proved](crate::promises#decoder).
     #[inline]
@@ -124,12 +125,12 @@ impl Utf8Decoder {
         (ended(&decoded), decoded.read, decoded.written)
     }
 
-    /// Decodes to UTF-8, and returns what ended the call, how many bytes of `src` it read and how many bytes it wrote. `last`
-    /// says that no bytes will follow `src`.
+    /// Decodes to UTF-8. Returns why the call ended, the number of bytes of `src` read and the number of bytes written.
+    /// `last` says that no bytes follow `src`.
     ///
-    /// A broken part is reported and nothing is written for it: hand in the unread bytes again. After a report the decoder is
-    /// as a new one. With at least four bytes of room and an unread byte a call reads a byte or reports. Behind what is
-    /// written `dst` is as before.
+    /// Nothing is written for a malformed sequence: it is reported, and the decoder is as a new one. Pass the unread
+    /// bytes again. If `dst` has at least four bytes and `src` one, the call reads a byte or reports. The rest of `dst`
+    /// is unchanged.
     ///
     /// [Proved](crate::promises#decoder).
     #[inline]
@@ -138,13 +139,13 @@ impl Utf8Decoder {
         (ended(&decoded), decoded.read, decoded.written)
     }
 
-    /// Decodes without a destination: what was found, and how many bytes of `src` were read. `last` says that no bytes will
-    /// follow `src`.
+    /// Decodes without a destination. Returns what was found and the number of bytes of `src` read. `last` says that no
+    /// bytes follow `src`.
     ///
-    /// With nothing pending, and a character at the front, it is the longest well-formed prefix, which isn't copied. Else it
-    /// is the character or the broken part that the pending bytes and those of `src` begin with, or
-    /// [`Piece::InputEmpty`] where all is read first: then the pending bytes and the read ones are pending now, and none are
-    /// in a call marked last. Hand in the unread bytes again.
+    /// If nothing is pending and `src` starts with a character, it finds the longest well-formed prefix, which isn't
+    /// copied. Otherwise it finds the character or the malformed sequence at the start of the pending bytes and `src`.
+    /// If these end first, it returns [`Piece::InputEmpty`], and all of them are pending now; after a call marked last
+    /// none are. Pass the unread bytes again.
     ///
     /// [Proved](crate::promises#decoder).
     ///

@@ -1,10 +1,10 @@
-//! ASCII, Latin1, UTF-8 and UTF-16, under the names and signatures of `encoding_rs`, over a C library whose every function
-//! is proved to do what the Unicode and Encoding Standards say.
+//! ASCII, Latin1, UTF-8 and UTF-16, under the names and signatures of `encoding_rs`, over a C library. Every function
+//! of that library is proved to do what the Unicode and Encoding Standards say.
 //!
 //! - [`mem`]: checks and conversions of whole buffers;
-//! - [`ascii`] and [`utf_8`]: the calls below it;
-//! - [`Utf8Decoder`] and [`Utf8Encoder`]: streams in any pieces into any rooms;
-//! - [`repair`], [`repair_to`], [`utf8_chunks`] and [`next_broken`]: bytes that should be UTF-8 and may be broken;
+//! - [`ascii`] and [`utf_8`]: the calls it is built on;
+//! - [`Utf8Decoder`] and [`Utf8Encoder`]: streams in any pieces, into destinations of any length;
+//! - [`repair`], [`repair_to`], [`utf8_chunks`] and [`next_broken`]: bytes that may be malformed UTF-8;
 //! - [`Repair`] and [`DecodeUtf16`]: the same over a reader.
 //!
 //! ```
@@ -25,26 +25,26 @@
 //!
 //! # What is proved
 //!
-//! The library is proved; this crate isn't. [`promises`] says call by call what is promised, where, and what the crate adds.
-//! Unsafe code stands in one private module alone, which makes the calls.
+//! The library is proved; this crate isn't. [`promises`] says for each call what is promised, where, and what the crate
+//! adds. All unsafe code is in the one private module that makes the calls.
 //!
 //! # What a call costs
 //!
-//! At most 2 ns more than the function of C (`cargo bench`, and `bench/calls` of the repository, measure it). Nothing looks
-//! whether a `&str` is well-formed.
+//! At most 2 ns more than the C function (measured by `cargo bench`, and by `bench/calls` of the repository). A `&str`
+//! is not validated again.
 //!
 //! # Features
 //!
 //! - `std` (default, with `alloc`): [`repair_to`], [`Repair`], [`DecodeUtf16`];
 //! - `alloc`: [`repair`], [`mem::decode_latin1`], [`mem::encode_latin1_lossy`];
-//! - without both the crate has no memory but its caller's, and needs `core` and the three functions of C that copy and set
-//!   memory.
+//! - without both the crate allocates nothing. It needs `core` and the three functions of C that copy and set memory.
 //!
 //! # Where the library is
 //!
-//! In the folder that `ENCODING_TEXT_LIB_DIR` names, else where `pkg-config` finds it, else `make` builds it at the top of the
-//! repository by its toolchain. When a program starts, it takes its build for x86-64-v3 where the processor runs that, else the
-//! one for x86-64-v2, as it always does with `ENCODING_TEXT_CPU=x86-64-v2` in the environment.
+//! `build.rs` takes the library from the folder that `ENCODING_TEXT_LIB_DIR` names, else from `pkg-config`. Otherwise
+//! `make` builds it at the top of the repository with its toolchain. When a program starts, the library selects its
+//! build for x86-64-v3 if the processor runs that, else the one for x86-64-v2. `ENCODING_TEXT_CPU=x86-64-v2` in the
+//! environment always selects the latter.
 
 #![no_std]
 #![deny(unsafe_op_in_unsafe_fn, missing_docs, unsafe_code)]

@@ -1,13 +1,13 @@
-//! Whole buffers of text in memory: checks and conversions between UTF-8, UTF-16 and Latin1, under the names, signatures
-//! and panics of the module `mem` of `encoding_rs`.
+//! Checks and conversions of whole buffers between UTF-8, UTF-16 and Latin1, under the names, signatures and panics of
+//! the module `mem` of `encoding_rs`.
 //!
-//! "Latin1" is U+0000 to U+00FF, each as the byte of its number. A "broken part" is what the UTF-8 decoder of the Encoding
-//! Standard reports as one error, a "lone surrogate" one that is in no pair. Lengths and counts are in elements: bytes for
-//! `u8` and `str`, code units for `u16`.
+//! "Latin1" is U+0000 to U+00FF, each as the byte of its number. A "malformed sequence" is what the UTF-8 decoder of
+//! the Encoding Standard reports as one error. An "unpaired surrogate" is one that is in no pair. Lengths and counts
+//! are in elements: bytes for `u8` and `str`, code units for `u16`.
 //!
-//! The calls are those of the library, each with its [promise](crate::promises#mem). The crate adds tests of lengths,
-//! which panic before anything is written, and what a call names beside that. What is behind the written prefix of a
-//! destination is as before, but in the calls into a `str`, which say what they clear.
+//! The calls are those of the library, each with its [promise](crate::promises#mem). The crate adds checks of lengths,
+//! which panic before anything is written, and whatever else a call names. Past what is written, a destination is
+//! unchanged, except in the calls into a `str`, which say what they clear.
 
 mod bidi;
 mod checks;
@@ -27,7 +27,7 @@ pub use latin1::*;
 pub use owned::*;
 pub use to_utf16::*;
 
-/// Panics where a destination is shorter than its source, before anything is written.
+/// Panics if a destination is shorter than its source, before anything is written.
 #[inline]
 #[track_caller]
 fn assert_as_long<S, D>(src: &[S], dst: &[D]) {
@@ -39,7 +39,8 @@ fn assert_as_long<S, D>(src: &[S], dst: &[D]) {
     );
 }
 
-/// Panics where a destination has fewer bytes than so many for each element of its source, before anything is written.
+/// Panics if a destination has fewer than `bytes_each` bytes for each element of its source, before anything is
+/// written.
 #[inline]
 #[track_caller]
 fn assert_room(src_length: usize, bytes_each: usize, dst_length: usize) {

@@ -1,15 +1,15 @@
-//! What is promised of each call, where, and what the crate adds to it unproved. There is no code here.
+//! What is promised of each call, where, and what the crate adds without a proof. This module has no code.
 //!
-//! A promise is a contract: a statement about all arguments in the source of the library, by definitions in the words of the
-//! Unicode and Encoding Standards, without which the toolchain refuses to build it. The library is called through C
-//! functions of the same contracts, which test their conditions first (`encoding_c`). `docs/PROMISES.md` of the repository
-//! says each promise in a line, beside the call's name, and at its end what is only tested and what is trusted; the links
-//! below lead to its tables from documentation that was built in the repository.
+//! A promise is a contract: a statement about all arguments in the source of the library, with definitions in the words
+//! of the Unicode and Encoding Standards. The toolchain refuses to build the library without it. The library is called
+//! through C functions of the same contracts, which check their conditions first (`encoding_c`). `docs/PROMISES.md` of
+//! the repository has one line for each promise, next to the call's name. At its end it says what is only tested and
+//! what is trusted. The links below lead to its tables if the documentation was built in the repository.
 //!
-//! Of all calls it is proved that they return, that they touch no memory but their arguments, and that what is behind the
-//! written prefix of a destination is as before. The crate adds to all that slices, texts and results of C are turned into
-//! one another: lengths, layouts, which numbers stand for which variants, and that a `str` is well-formed where a call asks
-//! for that. So much is read and tested, and not proved.
+//! All calls are proved to return, to touch no memory except their arguments, and to leave a destination unchanged past
+//! what they write. The crate converts between slices, texts and results of C: it relies on lengths, layouts, the
+//! numbers of variants, and on a `str` being well-formed if a call requires that. This is reviewed and tested, but not
+//! proved.
 //!
 //! # `ascii`
 //!
@@ -18,7 +18,7 @@
 //! | Calls of [`ascii`](crate::ascii) | Proved | The crate's own |
 //! |---|---|---|
 //! | `ascii_valid_up_to`, `iso_2022_jp_ascii_valid_up_to` | all that is said | nothing |
-//! | `validate_ascii`, `ascii_to_ascii`, `ascii_to_basic_latin`, `basic_latin_to_ascii` | what is copied, the length of the prefix, the element behind it | an `Option` of the last two |
+//! | `validate_ascii`, `ascii_to_ascii`, `ascii_to_basic_latin`, `basic_latin_to_ascii` | what is copied, the length of the prefix, the element after it | an `Option` of the last two |
 //! | `ASCII_MASK`, `MAX_STRIDE_SIZE` | nothing | the numbers |
 //!
 //! # `mem`
@@ -29,14 +29,14 @@
 //! |---|---|---|
 //! | `is_ascii`, `is_basic_latin`, `is_utf8_latin1`, `is_utf16_latin1`, `utf8_latin1_up_to`, `utf16_valid_up_to`, `ensure_utf16_validity` | all that is said | nothing |
 //! | `is_char_bidi`, `is_utf16_code_unit_bidi`, `is_utf8_bidi`, `is_utf16_bidi`, `check_utf8_for_latin1_and_bidi`, `check_utf16_for_latin1_and_bidi` | all that is said | nothing |
-//! | `is_str_latin1`, `str_latin1_up_to`, `is_str_bidi`, `check_str_for_latin1_and_bidi` | all that is said, of a well-formed source | nothing |
-//! | `copy_ascii_to_ascii`, `copy_ascii_to_basic_latin`, `copy_basic_latin_to_ascii`, `convert_utf8_to_utf16`, `convert_utf8_to_utf16_without_replacement`, `convert_latin1_to_utf16`, `convert_latin1_to_utf8`, `convert_utf16_to_utf8`, `convert_utf16_to_latin1_lossy` | what is written, and how much, into a destination that is long enough | the test that it is, which panics before anything is written |
-//! | `convert_str_to_utf16` | the same, of a well-formed source | that test |
+//! | `is_str_latin1`, `str_latin1_up_to`, `is_str_bidi`, `check_str_for_latin1_and_bidi` | all that is said, if the source is well-formed | nothing |
+//! | `copy_ascii_to_ascii`, `copy_ascii_to_basic_latin`, `copy_basic_latin_to_ascii`, `convert_utf8_to_utf16`, `convert_utf8_to_utf16_without_replacement`, `convert_latin1_to_utf16`, `convert_latin1_to_utf8`, `convert_utf16_to_utf8`, `convert_utf16_to_latin1_lossy` | what is written, and how much, into a destination that is long enough | the check that it is, which panics before anything is written |
+//! | `convert_str_to_utf16` | the same, if the source is well-formed | that check |
 //! | `convert_latin1_to_utf8_partial`, `convert_utf16_to_utf8_partial` | all that is said | nothing |
-//! | `convert_utf16_to_str_partial`, `convert_latin1_to_str_partial` | what is written, and how much | what is cleared behind it, and that the destination is text then |
-//! | `convert_utf16_to_str`, `convert_latin1_to_str` | what is written, and how much, into a destination that is long enough | that test, and the same |
-//! | `convert_utf8_to_latin1_lossy` | what is written, and how much, where the source is Latin1 in UTF-8 and the destination long enough | that test, and what becomes of another source |
-//! | `decode_latin1`, `encode_latin1_lossy` | the ASCII prefix, and what the rest becomes | the allocation, that the two are joined, and what becomes of a text beyond Latin1 |
+//! | `convert_utf16_to_str_partial`, `convert_latin1_to_str_partial` | what is written, and how much | what is cleared after it, and that the destination is text then |
+//! | `convert_utf16_to_str`, `convert_latin1_to_str` | what is written, and how much, into a destination that is long enough | that check, and the same |
+//! | `convert_utf8_to_latin1_lossy` | what is written, and how much, if the source is Latin1 in UTF-8 and the destination long enough | that check, and the result for any other source |
+//! | `decode_latin1`, `encode_latin1_lossy` | the ASCII prefix, and the conversion of the rest | the allocation, joining the two, and the result for a text that is not Latin1 |
 //!
 //! # `utf_8`
 //!
@@ -45,7 +45,7 @@
 //! | Calls of [`utf_8`](crate::utf_8) | Proved | The crate's own |
 //! |---|---|---|
 //! | `utf8_valid_up_to`, `convert_utf8_to_utf16_up_to_invalid`, `convert_utf16_to_utf8_partial_inner` | all that is said | nothing |
-//! | `convert_utf16_to_utf8_partial_tail` | what is written, and how much, where its conditions are met | the test that they are, which panics |
+//! | `convert_utf16_to_utf8_partial_tail` | what is written, and how much, if its conditions are met | the check that they are, which panics |
 //! | `UTF8_DATA` | nothing: the library has a table of its own | the table |
 //!
 //! # Decoder
@@ -54,9 +54,9 @@
 //!
 //! | Calls of [`Utf8Decoder`](crate::Utf8Decoder) | Proved | The crate's own |
 //! |---|---|---|
-//! | `new_inner` | nothing pending, where a decoder is all zero | that it is |
+//! | `new_inner` | nothing pending, if a decoder is all zero | that it is |
 //! | `in_neutral_state`, `decode_to_utf16_raw`, `decode_to_utf8_raw`, `decode_borrowed` | all that is said | nothing |
-//! | `max_utf16_buffer_length`, `max_utf8_buffer_length`, `max_utf8_buffer_length_without_replacement` | the number | that `usize::MAX` as an answer is told from a greater one |
+//! | `max_utf16_buffer_length`, `max_utf8_buffer_length`, `max_utf8_buffer_length_without_replacement` | the number | distinguishing `usize::MAX` as a result from a greater number |
 //!
 //! # Encoder
 //!
@@ -64,10 +64,10 @@
 //!
 //! | Calls of [`Utf8Encoder`](crate::Utf8Encoder) | Proved | The crate's own |
 //! |---|---|---|
-//! | `new_inner` | nothing held, where an encoder is all zero | that it is |
+//! | `new_inner` | nothing pending, if an encoder is all zero | that it is |
 //! | `encode_from_utf16_raw` | all that is said | nothing |
-//! | `encode_from_utf8_raw` | U+FFFD for what is held | the copy of the text |
-//! | `max_buffer_length_from_utf16_without_replacement`, `max_buffer_length_from_utf8_without_replacement` | the number | that `usize::MAX` as an answer is told from a greater one |
+//! | `encode_from_utf8_raw` | U+FFFD for the pending surrogate | the copy of the text |
+//! | `max_buffer_length_from_utf16_without_replacement`, `max_buffer_length_from_utf8_without_replacement` | the number | distinguishing `usize::MAX` as a result from a greater number |
 //!
 //! # Broken parts
 //!
@@ -75,8 +75,8 @@
 //!
 //! | Calls | Proved | The crate's own |
 //! |---|---|---|
-//! | [`next_broken`](crate::next_broken) | the place and length of the first broken part | an `Option` of them |
-//! | [`utf8_chunks`](crate::utf8_chunks) | each chunk, of the bytes behind the one before | that they are handed in so; `law_next_broken` says what comes of it |
+//! | [`next_broken`](crate::next_broken) | the index and length of the first malformed sequence | an `Option` of them |
+//! | [`utf8_chunks`](crate::utf8_chunks) | each chunk, of the bytes after the previous one | passing these bytes; `law_next_broken` says what follows from it |
 //!
 //! # Repair
 //!
@@ -84,15 +84,15 @@
 //!
 //! | Calls | Proved | The crate's own |
 //! |---|---|---|
-//! | [`repair`](crate::repair()) | the well-formed prefix, and the repaired rest | the allocation, and that the two are joined |
-//! | [`repair_to`](crate::repair_to) | each chunk, as above | that they are written in their order, with U+FFFD for each broken part |
+//! | [`repair`](crate::repair()) | the well-formed prefix, and the repaired rest | the allocation, and joining the two |
+//! | [`repair_to`](crate::repair_to) | each chunk, as above | writing them in order, with U+FFFD for each malformed sequence |
 //!
 //! # Streams
 //!
 //! The [promises](../../../../../../docs/PROMISES.md#encoding_textdecoder) of one call of the decoder, and
-//! [laws](../../../../../../docs/PROMISES.md#encoding_runslaws) about any list of them: whatever the pieces and rooms, the
-//! characters and broken parts come out that the whole has.
+//! [laws](../../../../../../docs/PROMISES.md#encoding_runslaws) about any sequence of calls: in any pieces and rooms,
+//! they yield the characters and malformed sequences of the whole.
 //!
 //! | Readers | Proved | The crate's own |
 //! |---|---|---|
-//! | [`Repair`](crate::Repair), [`DecodeUtf16`](crate::DecodeUtf16) | the calls of the decoder that they make | the loop that hands the reader's bytes to it, each once and in order, and what it gives to the caller |
+//! | [`Repair`](crate::Repair), [`DecodeUtf16`](crate::DecodeUtf16) | the calls of the decoder that they make | the loop that passes the reader's bytes to it, each once and in order, and what it returns to the caller |

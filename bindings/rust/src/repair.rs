@@ -1,4 +1,4 @@
-//! Bytes as text, with U+FFFD for each broken part.
+//! Bytes as text, with U+FFFD for each malformed sequence.
 
 #[cfg(feature = "std")]
 use crate::utf8_chunks;
@@ -8,12 +8,12 @@ use std::io::{self, Write};
 use crate::c;
 use alloc::borrow::Cow;
 
-/// The bytes as text, with U+FFFD for each broken part: borrowed exactly where all are well-formed. It is what
-/// `String::from_utf8_lossy` gives.
+/// Converts bytes to text, with U+FFFD for each malformed sequence: borrowed if and only if all are well-formed. The
+/// result is that of `String::from_utf8_lossy`.
 ///
-/// What it says is [proved](crate::promises#repair) of the two calls that it makes, one for the longest well-formed prefix
-/// and one for what is behind it; that they are joined is done by the crate. An owned result takes one allocation, three
-/// times as long as what is behind that prefix, and gives back what is too much. Only with the feature `alloc`.
+/// The text is [proved](crate::promises#repair) by the two calls made, one for the longest well-formed prefix and one
+/// for the rest; the crate joins them. An owned result takes one allocation, of three times the length of the rest, and
+/// releases what it doesn't need. Requires the feature `alloc`.
 ///
 /// ```
 /// use std::borrow::Cow;
@@ -29,11 +29,11 @@ pub fn repair(bytes: &[u8]) -> Cow<'_, str> {
     Cow::Owned(c::repair_behind(front, &bytes[front.len()..]))
 }
 
-/// How many bytes wait for the sink at most. A stretch that is longer is handed over where it is.
+/// How many bytes are buffered for the sink at most. A longer stretch is written directly.
 #[cfg(feature = "std")]
 const ROOM: usize = 4096;
 
-/// Bytes that wait to be written together.
+/// Bytes that are buffered to be written together.
 #[cfg(feature = "std")]
 struct Together<'a, W: ?Sized> {
     sink: &'a mut W,
@@ -65,15 +65,15 @@ impl<W: Write + ?Sized> Together<'_, W> {
     }
 }
 
-/// Writes the bytes as text, with U+FFFD for each broken part, and returns how many parts were broken. It takes no memory,
-/// and doesn't flush the sink.
+/// Writes the bytes as text, with U+FFFD for each malformed sequence, and returns the number of malformed sequences.
+/// Allocates nothing, and doesn't flush the sink.
 ///
-/// Each well-formed stretch and each broken part is found by a call that is [proved](crate::promises#repair); that they are
-/// written one after another is done by the crate. Only with the feature `std`.
+/// Each well-formed stretch and each malformed sequence is found by a call that is [proved](crate::promises#repair);
+/// the crate writes them in order. Requires the feature `std`.
 ///
 /// # Errors
 ///
-/// Those of the sink's `write_all`. A prefix of the text was written then, less than all.
+/// Those of the sink's `write_all`. In that case a proper prefix of the text was written.
 ///
 /// ```
 /// let mut text = Vec::new();

@@ -5,18 +5,18 @@ use std::fmt;
 use std::io::{self, Read};
 use std::vec::Vec;
 
-/// How many bytes are asked of a reader at once, where nothing else is said.
+/// How many bytes are requested from a reader at once by default.
 const BLOCK: usize = 8192;
 
-/// What text is written in: bytes of UTF-8, or code units of UTF-16.
+/// A unit of the text that is written: a byte of UTF-8, or a code unit of UTF-16.
 trait Unit: Copy + Default + 'static {
     /// U+FFFD.
     const REPLACEMENT: &'static [Self];
 
-    /// Whether the unit isn't the first of its character.
+    /// Returns whether the unit isn't the first of its character.
     fn is_behind_first(self) -> bool;
 
-    /// One call of the decoder.
+    /// Makes one call of the decoder.
     fn decode(decoder: &mut Utf8Decoder, src: &[u8], dst: &mut [Self], last: bool) -> (DecoderResult, usize, usize);
 }
 
@@ -48,10 +48,10 @@ impl Unit for u16 {
     }
 }
 
-/// Room for any character: with so many units a call of the decoder with an unread byte reads or reports.
+/// A length that fits any character: with this many units and an unread byte, a call of the decoder reads or reports.
 const ANY_CHARACTER: usize = 4;
 
-/// Characters that wait until a buffer takes them: what such a room took, and U+FFFD.
+/// Characters that wait for the caller's buffer: those decoded into `ANY_CHARACTER` units, and U+FFFD.
 #[derive(Default)]
 struct Waiting<U> {
     units: [U; ANY_CHARACTER + 3],
@@ -64,7 +64,7 @@ impl<U: Unit> Waiting<U> {
         self.start == self.end
     }
 
-    /// Puts units behind those that wait.
+    /// Appends units to those that wait.
     fn push(&mut self, units: &[U]) {
         if self.is_empty() {
             (self.start, self.end) = (0, 0);
@@ -74,8 +74,8 @@ impl<U: Unit> Waiting<U> {
         self.end = end;
     }
 
-    /// Hands over the characters that fit, and returns how many units they are. A character is cut only where it doesn't fit
-    /// and `may_cut` says that the buffer is all that the caller has.
+    /// Moves the characters that fit into the buffer, and returns the number of units. A character is cut only if it
+    /// doesn't fit and `may_cut` says that the buffer is all that the caller has.
     fn hand_over(&mut self, buffer: &mut [U], may_cut: bool) -> usize {
         let units = &self.units[self.start..self.end];
         let most = units.len().min(buffer.len());
@@ -88,7 +88,7 @@ impl<U: Unit> Waiting<U> {
     }
 }
 
-/// The characters of a reader's bytes, and U+FFFD for each broken part of them.
+/// The characters of a reader's bytes, with U+FFFD for each malformed sequence.
 struct Decoding<R, U> {
     reader: R,
     block: Vec<u8>,
@@ -114,7 +114,8 @@ impl<R, U: Unit> Decoding<R, U> {
         }
     }
 
-    /// One call of the decoder on what was read and is unread: what ended it, and how many units it wrote.
+    /// Makes one call of the decoder on the unread bytes of the block. Returns why it ended and the number of units
+    /// written.
     fn step(&mut self, room: &mut [U]) -> (DecoderResult, usize) {
         let src = &self.block[self.start..self.end];
         let (result, read, written) = U::decode(&mut self.decoder, src, room, self.is_ended);
@@ -122,13 +123,13 @@ impl<R, U: Unit> Decoding<R, U> {
         (result, written)
     }
 
-    /// Makes U+FFFD wait for a broken part.
+    /// Queues U+FFFD for a malformed sequence.
     fn replace(&mut self) {
         self.replaced += 1;
         self.waiting.push(U::REPLACEMENT);
     }
 
-    /// Makes the next characters wait, where the caller's buffer is too short for one.
+    /// Queues the next characters, if the caller's buffer is too short for one.
     fn decode_apart(&mut self) {
         let mut units = [U::default(); ANY_CHARACTER];
         let (result, count) = self.step(&mut units);
@@ -140,7 +141,7 @@ impl<R, U: Unit> Decoding<R, U> {
 }
 
 impl<R: Read, U: Unit> Decoding<R, U> {
-    /// Asks the reader for more once all is read. Where it fails nothing is lost.
+    /// Asks the reader for more after all is read. If it fails nothing is lost.
     fn fill(&mut self) -> io::Result<()> {
         let count = self.reader.read(&mut self.block)?;
         (self.start, self.end) = (0, count);
@@ -148,7 +149,7 @@ impl<R: Read, U: Unit> Decoding<R, U> {
         Ok(())
     }
 
-    /// Writes whole characters into the buffer, and asks the reader only while there is none.
+    /// Writes whole characters into the buffer. Asks the reader only if there is none to write.
     fn read(&mut self, buffer: &mut [U]) -> io::Result<usize> {
         let mut written = 0;
         if buffer.is_empty() {
@@ -183,33 +184,33 @@ macro_rules! reader {
         }
 
         impl<R> $name<R> {
-            /// Over this reader, of which 8,192 bytes are asked at once.
+            /// Creates a reader over this one, which is asked for 8,192 bytes at once.
             pub fn new(reader: R) -> Self {
                 Self::with_capacity(BLOCK, reader)
             }
 
-            /// Over this reader, of which so many bytes are asked at once, at least one.
+            /// Creates a reader over this one, which is asked for `capacity` bytes at once, at least one.
             pub fn with_capacity(capacity: usize, reader: R) -> Self {
                 $name { decoding: Decoding::new(capacity, reader) }
             }
 
-            /// How many broken parts were replaced so far.
+            /// Returns how many malformed sequences were replaced so far.
             #[must_use]
             pub fn replaced(&self) -> u64 {
                 self.decoding.replaced
             }
 
-            /// The reader inside.
+            /// Returns the inner reader.
             pub fn get_ref(&self) -> &R {
                 &self.decoding.reader
             }
 
-            /// The reader inside. What is read from it directly is missing from the text.
+            /// Returns the inner reader. What is read from it directly is missing from the text.
             pub fn get_mut(&mut self) -> &mut R {
                 &mut self.decoding.reader
             }
 
-            /// Gives back the reader inside. What was read from it and isn't handed over yet is lost.
+            /// Returns the inner reader. What was read from it and isn't returned yet is lost.
             pub fn into_inner(self) -> R {
                 self.decoding.reader
             }
@@ -227,14 +228,15 @@ macro_rules! reader {
 }
 
 reader! {
-    /// A reader of well-formed UTF-8: what the reader inside gives, with U+FFFD for each broken part.
+    /// A reader of well-formed UTF-8: the bytes of the inner reader, with U+FFFD for each malformed sequence.
     ///
-    /// Each read gives whole characters; one is cut only where the caller's buffer is shorter than it. The reader inside is
-    /// asked only while there is no character to give, and not again once it gave no byte. Where it fails, also by an
-    /// interruption, the failure is handed on and nothing is lost. Only with the feature `std`.
+    /// Each read returns whole characters; a character is cut only if the caller's buffer is shorter. The inner reader
+    /// is asked only if there is no character to return, and not again after it returned no byte. Its errors, even an
+    /// interruption, are passed on, and nothing is lost. Requires the feature `std`.
     ///
-    /// Each call of the decoder, and that such calls in any pieces and rooms give the text of the whole, is
-    /// [proved](crate::promises#streams); the loop around them, the block of bytes and the characters that wait are the crate's.
+    /// Each call of the decoder is [proved](crate::promises#streams), and so is that such calls, in any pieces and
+    /// rooms, yield the text of the whole. The loop around them, the block of bytes and the characters that wait are
+    /// the crate's.
     ///
     /// ```
     /// use std::io::Read;
@@ -255,14 +257,15 @@ impl<R: Read> Read for Repair<R> {
 }
 
 reader! {
-    /// A reader of UTF-16: what the reader inside gives as UTF-8, with U+FFFD for each broken part.
+    /// A reader of UTF-16: the inner reader's UTF-8, with U+FFFD for each malformed sequence.
     ///
-    /// Each read gives whole characters; a pair of surrogates is cut only where the caller's buffer has room for one code
-    /// unit. The reader inside is asked only while there is no character to give, and not again once it gave no byte. Where
-    /// it fails, also by an interruption, the failure is handed on and nothing is lost. Only with the feature `std`.
+    /// Each read returns whole characters; a surrogate pair is cut only if the caller's buffer has one code unit. The
+    /// inner reader is asked only if there is no character to return, and not again after it returned no byte. Its
+    /// errors, even an interruption, are passed on, and nothing is lost. Requires the feature `std`.
     ///
-    /// Each call of the decoder, and that such calls in any pieces and rooms give the text of the whole, is
-    /// [proved](crate::promises#streams); the loop around them, the block of bytes and the characters that wait are the crate's.
+    /// Each call of the decoder is [proved](crate::promises#streams), and so is that such calls, in any pieces and
+    /// rooms, yield the text of the whole. The loop around them, the block of bytes and the characters that wait are
+    /// the crate's.
     ///
     /// ```
     /// let mut reader = encoding_text::DecodeUtf16::new(&b"a\xF0\x9F\x98\x80\xFF"[..]);
@@ -276,11 +279,12 @@ reader! {
 }
 
 impl<R: Read> DecodeUtf16<R> {
-    /// Writes the next code units into the buffer, and returns how many: none where the buffer is empty or the text at its end.
+    /// Writes the next code units into the buffer, and returns their number: 0 if the buffer is empty or the text has
+    /// ended.
     ///
     /// # Errors
     ///
-    /// Those of the reader inside. Nothing was written then.
+    /// Those of the inner reader. In that case nothing was written.
     #[inline]
     pub fn read(&mut self, buffer: &mut [u16]) -> io::Result<usize> {
         self.decoding.read(buffer)

@@ -1,5 +1,5 @@
-//! UTF-8 as such: its longest well-formed prefix, conversions up to the first broken part, the table of second bytes, and
-//! the streaming encoder; under the names of the module `utf_8` of `encoding_rs`.
+//! The longest well-formed prefix of UTF-8, conversions up to the first malformed sequence, the table of second bytes,
+//! and the streaming encoder, under the names of the module `utf_8` of `encoding_rs`.
 
 mod encoder;
 mod table;
@@ -10,7 +10,7 @@ pub use table::{Utf8Data, UTF8_DATA};
 
 use crate::c;
 
-/// The length in bytes of the longest well-formed prefix (Unicode Standard, section 3.9, Table 3-7).
+/// Returns the length in bytes of the longest well-formed prefix (Unicode Standard, section 3.9, Table 3-7).
 ///
 /// [Proved](crate::promises#utf_8).
 ///
@@ -23,8 +23,8 @@ pub fn utf8_valid_up_to(src: &[u8]) -> usize {
     c::encoding_text_utf8_valid_up_to(src)
 }
 
-/// Of the characters of the longest well-formed prefix, reads and writes as UTF-16 the most that fit. Returns how many
-/// bytes were read and how many code units written.
+/// Converts to UTF-16 as many characters of the longest well-formed prefix as fit. Returns the number of bytes read and
+/// the number of code units written.
 ///
 /// [Proved](crate::promises#utf_8).
 #[inline]
@@ -32,8 +32,8 @@ pub fn convert_utf8_to_utf16_up_to_invalid(src: &[u8], dst: &mut [u16]) -> (usiz
     c::encoding_text_convert_utf8_to_utf16_up_to_invalid(src, dst).into()
 }
 
-/// Writes the UTF-8 of a prefix of whole characters, with U+FFFD for each lone surrogate: then all is read, or at most
-/// three bytes are free. Returns how many code units were read and how many bytes written.
+/// Writes the UTF-8 of a prefix of whole characters, with U+FFFD for each unpaired surrogate, until all is read or at
+/// most three bytes are free. Returns the number of code units read and the number of bytes written.
 ///
 /// [Proved](crate::promises#utf_8).
 #[inline]
@@ -41,14 +41,14 @@ pub fn convert_utf16_to_utf8_partial_inner(src: &[u16], dst: &mut [u8]) -> (usiz
     c::encoding_text_convert_utf16_to_utf8_partial_inner(src, dst).into()
 }
 
-/// Writes the UTF-8 of the most first characters that fit into at most three bytes, with U+FFFD for each lone surrogate.
-/// Returns how many code units were read and how many bytes written.
+/// Writes the UTF-8 of as many whole characters as fit into at most three bytes, with U+FFFD for each unpaired
+/// surrogate. Returns the number of code units read and the number of bytes written.
 ///
 /// [Proved](crate::promises#utf_8).
 ///
 /// # Panics
 ///
-/// Where `src` is empty, or `dst` has more than three bytes.
+/// If `src` is empty, or `dst` has more than three bytes.
 #[inline]
 pub fn convert_utf16_to_utf8_partial_tail(src: &[u16], dst: &mut [u8]) -> (usize, usize) {
     assert!(!src.is_empty(), "the source is empty");

@@ -1,12 +1,12 @@
-//! What the promises of the library allow without a second look: bytes that it found well-formed are a `&str`, and what it
-//! wrote is text, or the new end of a vector.
+//! What the promises of the library allow without another check: bytes that it found well-formed are a `&str`, and
+//! bytes that it wrote are text, or extend a vector.
 
 use super::*;
 use crate::decoder::Piece as Decodable;
 #[cfg(feature = "alloc")]
 use alloc::{string::String, vec::Vec};
 
-/// The longest well-formed prefix.
+/// Returns the longest well-formed prefix.
 #[cfg(feature = "alloc")]
 #[inline]
 pub(crate) fn utf8_front(src: &[u8]) -> &str {
@@ -15,16 +15,17 @@ pub(crate) fn utf8_front(src: &[u8]) -> &str {
     unsafe { core::str::from_utf8_unchecked(front) }
 }
 
-/// The text before the first broken part, and that part; it is empty where all is text.
+/// Returns the text before the first malformed sequence, and that sequence, which is empty if all is text.
 #[inline]
 pub(crate) fn first_chunk(src: &[u8]) -> (&str, &[u8]) {
     let broken = encoding_text_next_broken(src);
     let (front, rest) = src.split_at(broken.place);
-    // SAFETY: what `encoding_text_next_broken` finds before a broken part, or where there is none, is well-formed UTF-8.
+    // SAFETY: what `encoding_text_next_broken` finds before a malformed sequence, or if there is none, is well-formed
+    // UTF-8.
     (unsafe { core::str::from_utf8_unchecked(front) }, &rest[..broken.length])
 }
 
-/// The longest ASCII prefix.
+/// Returns the longest ASCII prefix.
 #[cfg(feature = "alloc")]
 #[inline]
 pub(crate) fn ascii_front(src: &[u8]) -> &str {
@@ -33,18 +34,18 @@ pub(crate) fn ascii_front(src: &[u8]) -> &str {
     unsafe { core::str::from_utf8_unchecked(front) }
 }
 
-/// Decodes without a destination, and returns what it found and how many bytes it read.
+/// Decodes without a destination. Returns what it found and the number of bytes read.
 #[inline]
 pub(crate) fn decode_borrowed<'a>(decoder: &mut Decoder, src: &'a [u8], last: bool) -> (Decodable<'a>, usize) {
     let piece = encoding_text_utf8_decoder_decode_borrowed(decoder, src, last);
     let found = match piece.kind {
         PIECE_TEXT => {
             let front = &src[..piece.read];
-            // SAFETY: of this kind are calls that read a well-formed prefix of the source, and nothing else.
+            // SAFETY: a call of this kind reads a well-formed prefix of the source, and nothing else.
             Decodable::Text(unsafe { core::str::from_utf8_unchecked(front) })
         }
         PIECE_CHAR => {
-            // SAFETY: of this kind are calls that give a character, as its scalar value.
+            // SAFETY: a call of this kind returns the scalar value of a character.
             Decodable::Char(unsafe { char::from_u32_unchecked(piece.character) })
         }
         PIECE_MALFORMED => Decodable::Malformed(piece.malformed),
@@ -53,29 +54,30 @@ pub(crate) fn decode_borrowed<'a>(decoder: &mut Decoder, src: &'a [u8], last: bo
     (found, piece.read)
 }
 
-/// Converts into the front of a text, and sets the continuation bytes that have lost their first byte to zero.
+/// Converts into a prefix of a text, and sets the continuation bytes that have lost their first byte to zero.
 #[inline]
 pub(crate) fn convert_utf16_to_str_partial(src: &[u16], dst: &mut str) -> (usize, usize) {
-    // SAFETY: the conversion writes the UTF-8 of whole characters and leaves what is behind it as it was; what is left of
-    // a character there are continuation bytes, and these become zero before the borrow ends.
+    // SAFETY: the conversion writes the UTF-8 of whole characters and leaves the rest unchanged. What is left of a cut
+    // character there are continuation bytes, and these become zero before the borrow ends.
     let bytes = unsafe { dst.as_bytes_mut() };
     let counts = encoding_text_mem_convert_utf16_to_utf8_partial(src, bytes);
     clear(&mut bytes[counts.written..], 0);
     counts.into()
 }
 
-/// Converts into the front of a text, and sets sixteen bytes behind that, and the continuation bytes behind those, to zero.
+/// Converts into a prefix of a text, and sets the sixteen bytes after that, and the continuation bytes that follow, to
+/// zero.
 #[inline]
 pub(crate) fn convert_latin1_to_str_partial(src: &[u8], dst: &mut str) -> (usize, usize) {
-    // SAFETY: the conversion writes the UTF-8 of whole characters and leaves what is behind it as it was; what is left of
-    // a character behind the bytes set to zero are continuation bytes, and these become zero before the borrow ends.
+    // SAFETY: the conversion writes the UTF-8 of whole characters and leaves the rest unchanged. What is left of a cut
+    // character after the bytes set to zero are continuation bytes, and these become zero before the borrow ends.
     let bytes = unsafe { dst.as_bytes_mut() };
     let counts = encoding_text_mem_convert_latin1_to_utf8_partial(src, bytes);
     clear(&mut bytes[counts.written..], crate::ascii::MAX_STRIDE_SIZE);
     counts.into()
 }
 
-/// Sets the first so many bytes to zero, all where there are fewer, and the continuation bytes directly behind those.
+/// Sets the first `zeros` bytes to zero, or all if there are fewer, and the continuation bytes that follow.
 #[inline]
 fn clear(bytes: &mut [u8], zeros: usize) {
     let (first, rest) = bytes.split_at_mut(zeros.min(bytes.len()));
@@ -89,12 +91,12 @@ fn clear(bytes: &mut [u8], zeros: usize) {
 #[cfg(feature = "alloc")]
 type Conversion<R> = unsafe extern "C" fn(*const u8, usize, *mut u8, usize) -> R;
 
-/// Converts bytes into room behind the end of a vector, which grows by what is written, and returns what the conversion
-/// returned. Where that is a refusal, the vector is as before.
+/// Converts bytes into `room` bytes past the end of a vector, which grows by what is written. Returns what the
+/// conversion returned. If that is a refusal, the vector is unchanged.
 ///
 /// # Safety
 ///
-/// The conversion is a function of the library, and `length` gives how many bytes it wrote.
+/// The conversion is a function of the library, and `length` returns the number of bytes that it wrote.
 #[cfg(feature = "alloc")]
 unsafe fn append<R>(
     src: &[u8],
@@ -105,25 +107,25 @@ unsafe fn append<R>(
 ) -> R {
     to.reserve_exact(room);
     let spare = to.spare_capacity_mut();
-    // SAFETY: it reads the elements of the slice, and works within the spare room, which is the vector's alone. What it
-    // returns and writes is promised for any bytes that may lie in the room before.
+    // SAFETY: it reads the elements of the slice, and works within the spare capacity, which only the vector uses. What
+    // it returns and writes is promised for any bytes that were there before.
     let result = unsafe { convert(src.as_ptr(), src.len(), spare.as_mut_ptr().cast(), spare.len()) };
     let written = length(&result);
     if written != REFUSED {
-        // SAFETY: so many bytes at the front of the spare room are written now.
+        // SAFETY: the first `written` bytes of the spare capacity are initialized now.
         unsafe { to.set_len(to.len() + written) };
     }
     result
 }
 
-/// The text whose characters are the bytes, of which so many first ones are ASCII.
+/// Returns the text whose characters are the bytes, the first `ascii` of them ASCII.
 #[cfg(feature = "alloc")]
 pub(crate) fn latin1_to_string(bytes: &[u8], ascii: usize) -> String {
     let (front, rest) = bytes.split_at(ascii);
     let room = rest.len().saturating_mul(2);
     let mut text = Vec::with_capacity(ascii.saturating_add(room));
     text.extend_from_slice(front);
-    // SAFETY: it is a function of the library, and returns how many bytes it wrote.
+    // SAFETY: it is a function of the library, and returns the number of bytes that it wrote.
     unsafe {
         append(
             rest,
@@ -133,17 +135,18 @@ pub(crate) fn latin1_to_string(bytes: &[u8], ascii: usize) -> String {
             |written| *written,
         )
     };
-    // SAFETY: the vector is ASCII, and behind that the UTF-8 of characters.
+    // SAFETY: the vector is ASCII followed by the UTF-8 of characters.
     unsafe { String::from_utf8_unchecked(text) }
 }
 
-/// The Latin1 of a text, of which so many first bytes are ASCII; none where the text isn't all Latin1.
+/// Returns the Latin1 of a text whose first `ascii` bytes are ASCII, or `None` if the text isn't all Latin1.
 #[cfg(feature = "alloc")]
 pub(crate) fn utf8_to_latin1(text: &str, ascii: usize) -> Option<Vec<u8>> {
     let (front, rest) = text.as_bytes().split_at(ascii);
     let mut latin1 = Vec::with_capacity(text.len());
     latin1.extend_from_slice(front);
-    // SAFETY: it is a function of the library, and returns how many bytes it wrote, or that it refuses the source.
+    // SAFETY: it is a function of the library, and returns the number of bytes that it wrote, or that it refuses the
+    // source.
     let written = unsafe {
         append(
             rest,
@@ -156,19 +159,19 @@ pub(crate) fn utf8_to_latin1(text: &str, ascii: usize) -> Option<Vec<u8>> {
     (written != REFUSED).then_some(latin1)
 }
 
-/// The well-formed prefix, and behind it the rest with U+FFFD for each broken part.
+/// Returns the well-formed prefix followed by the rest, with U+FFFD for each malformed sequence.
 #[cfg(feature = "alloc")]
 pub(crate) fn repair_behind(front: &str, rest: &[u8]) -> String {
     let room = rest.len().saturating_mul(3);
     let mut text = Vec::with_capacity(front.len().saturating_add(room));
     text.extend_from_slice(front.as_bytes());
-    // SAFETY: it is a function of the library, which tells how many bytes it wrote.
+    // SAFETY: it is a function of the library, and returns the number of bytes that it wrote.
     unsafe {
         append(rest, &mut text, room, raw::encoding_text_repair_slice, |repaired| {
             repaired.written
         })
     };
     text.shrink_to_fit();
-    // SAFETY: the vector is a text, and behind that what a repair writes, which is well-formed.
+    // SAFETY: the vector is a text followed by what a repair writes, which is well-formed.
     unsafe { String::from_utf8_unchecked(text) }
 }

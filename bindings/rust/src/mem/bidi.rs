@@ -1,18 +1,18 @@
-//! Whether text may need the Unicode Bidirectional Algorithm: whether it holds a right-to-left character, of a block of a
-//! right-to-left script or a control that makes what follows right-to-left.
+//! Whether text may need the Unicode Bidirectional Algorithm: whether it contains a right-to-left character. These are
+//! the characters of the blocks of right-to-left scripts, and the controls that make what follows right-to-left.
 
 use crate::c;
 
-/// How much of Unicode a buffer takes.
+/// The smallest of three classes that contains a buffer.
 #[must_use]
 #[derive(Clone, Copy, Debug, PartialEq, Eq, Hash)]
 #[repr(C)]
 pub enum Latin1Bidi {
-    /// All of it is up to U+00FF.
+    /// All characters are up to U+00FF.
     Latin1 = 0,
-    /// Something is beyond U+00FF, and nothing is right-to-left.
+    /// A character is above U+00FF, and none is right-to-left.
     LeftToRight = 1,
-    /// Something is right-to-left, or, in UTF-8, broken.
+    /// A character is right-to-left, or UTF-8 is malformed.
     Bidi = 2,
 }
 
@@ -25,7 +25,7 @@ fn class(answer: u8) -> Latin1Bidi {
     }
 }
 
-/// Whether the character is right-to-left.
+/// Returns whether the character is right-to-left.
 ///
 /// [Proved](crate::promises#mem).
 ///
@@ -39,7 +39,7 @@ pub fn is_char_bidi(c: char) -> bool {
     c::encoding_text_mem_is_char_bidi(u32::from(c)) == c::YES
 }
 
-/// Whether the code unit is a right-to-left character, or the first of two that may be one.
+/// Returns whether the code unit is a right-to-left character, or a high surrogate that may start one.
 ///
 /// [Proved](crate::promises#mem).
 #[must_use]
@@ -48,7 +48,7 @@ pub fn is_utf16_code_unit_bidi(u: u16) -> bool {
     c::encoding_text_mem_is_utf16_code_unit_bidi(u)
 }
 
-/// Whether the bytes hold a right-to-left character or aren't well-formed UTF-8.
+/// Returns whether the bytes contain a right-to-left character or aren't well-formed UTF-8.
 ///
 /// [Proved](crate::promises#mem).
 #[must_use]
@@ -57,16 +57,16 @@ pub fn is_utf8_bidi(buffer: &[u8]) -> bool {
     c::encoding_text_mem_is_utf8_bidi(buffer)
 }
 
-/// Whether the text holds a right-to-left character.
+/// Returns whether the text contains a right-to-left character.
 ///
-/// [Proved](crate::promises#mem). Nothing looks whether the text is well-formed.
+/// [Proved](crate::promises#mem). The text is not validated again.
 #[must_use]
 #[inline]
 pub fn is_str_bidi(buffer: &str) -> bool {
     c::encoding_text_mem_is_str_bidi_unchecked(buffer)
 }
 
-/// Whether the code units hold a right-to-left character, or a lone high surrogate that may begin one.
+/// Returns whether the code units contain a right-to-left character, or an unpaired high surrogate that may start one.
 ///
 /// [Proved](crate::promises#mem).
 #[must_use]
@@ -75,7 +75,7 @@ pub fn is_utf16_bidi(buffer: &[u16]) -> bool {
     c::encoding_text_mem_is_utf16_bidi(buffer)
 }
 
-/// [`Latin1Bidi::Latin1`] where [`is_utf8_latin1`](super::is_utf8_latin1) holds, else [`Latin1Bidi::Bidi`] where
+/// Returns [`Latin1Bidi::Latin1`] if [`is_utf8_latin1`](super::is_utf8_latin1) holds, else [`Latin1Bidi::Bidi`] if
 /// [`is_utf8_bidi`] does, else [`Latin1Bidi::LeftToRight`].
 ///
 /// [Proved](crate::promises#mem).
@@ -84,10 +84,10 @@ pub fn check_utf8_for_latin1_and_bidi(buffer: &[u8]) -> Latin1Bidi {
     class(c::encoding_text_mem_check_utf8_for_latin1_and_bidi(buffer))
 }
 
-/// [`Latin1Bidi::Latin1`] where [`is_str_latin1`](super::is_str_latin1) holds, else [`Latin1Bidi::Bidi`] where
+/// Returns [`Latin1Bidi::Latin1`] if [`is_str_latin1`](super::is_str_latin1) holds, else [`Latin1Bidi::Bidi`] if
 /// [`is_str_bidi`] does, else [`Latin1Bidi::LeftToRight`].
 ///
-/// [Proved](crate::promises#mem). Nothing looks whether the text is well-formed.
+/// [Proved](crate::promises#mem). The text is not validated again.
 ///
 /// ```
 /// use encoding_text::mem::{check_str_for_latin1_and_bidi, Latin1Bidi};
@@ -100,7 +100,7 @@ pub fn check_str_for_latin1_and_bidi(buffer: &str) -> Latin1Bidi {
     class(c::encoding_text_mem_check_str_for_latin1_and_bidi_unchecked(buffer))
 }
 
-/// [`Latin1Bidi::Latin1`] where [`is_utf16_latin1`](super::is_utf16_latin1) holds, else [`Latin1Bidi::Bidi`] where
+/// Returns [`Latin1Bidi::Latin1`] if [`is_utf16_latin1`](super::is_utf16_latin1) holds, else [`Latin1Bidi::Bidi`] if
 /// [`is_utf16_bidi`] does, else [`Latin1Bidi::LeftToRight`].
 ///
 /// [Proved](crate::promises#mem).

@@ -1,8 +1,8 @@
-//! Which of the smaller ranges a buffer keeps to, and whether UTF-16 is well-formed.
+//! Whether a buffer is within ASCII or Latin1, and whether UTF-16 is well-formed.
 
 use crate::c;
 
-/// Whether each byte is below 0x80.
+/// Returns whether each byte is below 0x80.
 ///
 /// [Proved](crate::promises#mem).
 #[must_use]
@@ -11,7 +11,7 @@ pub fn is_ascii(buffer: &[u8]) -> bool {
     c::encoding_text_mem_is_ascii(buffer)
 }
 
-/// Whether each code unit is below 0x80.
+/// Returns whether each code unit is below 0x80.
 ///
 /// [Proved](crate::promises#mem).
 #[must_use]
@@ -20,7 +20,7 @@ pub fn is_basic_latin(buffer: &[u16]) -> bool {
     c::encoding_text_mem_is_basic_latin(buffer)
 }
 
-/// Whether the bytes are well-formed UTF-8 of characters up to U+00FF alone.
+/// Returns whether the bytes are well-formed UTF-8 with no character above U+00FF.
 ///
 /// [Proved](crate::promises#mem).
 #[must_use]
@@ -29,16 +29,16 @@ pub fn is_utf8_latin1(buffer: &[u8]) -> bool {
     c::encoding_text_mem_is_utf8_latin1(buffer)
 }
 
-/// Whether each character is up to U+00FF.
+/// Returns whether each character is up to U+00FF.
 ///
-/// [Proved](crate::promises#mem). Nothing looks whether the text is well-formed.
+/// [Proved](crate::promises#mem). The text is not validated again.
 #[must_use]
 #[inline]
 pub fn is_str_latin1(buffer: &str) -> bool {
     c::encoding_text_mem_is_str_latin1_unchecked(buffer)
 }
 
-/// Whether each code unit is up to 0x00FF.
+/// Returns whether each code unit is up to 0x00FF.
 ///
 /// [Proved](crate::promises#mem).
 #[must_use]
@@ -47,7 +47,7 @@ pub fn is_utf16_latin1(buffer: &[u16]) -> bool {
     c::encoding_text_mem_is_utf16_latin1(buffer)
 }
 
-/// The length in bytes of the longest prefix that is well-formed UTF-8 of characters up to U+00FF.
+/// Returns the length in bytes of the longest prefix that is well-formed UTF-8 of characters up to U+00FF.
 ///
 /// [Proved](crate::promises#mem).
 #[must_use]
@@ -56,16 +56,16 @@ pub fn utf8_latin1_up_to(buffer: &[u8]) -> usize {
     c::encoding_text_mem_utf8_latin1_up_to(buffer)
 }
 
-/// The length in bytes of the longest prefix of characters up to U+00FF.
+/// Returns the length in bytes of the longest prefix of characters up to U+00FF.
 ///
-/// [Proved](crate::promises#mem). Nothing looks whether the text is well-formed.
+/// [Proved](crate::promises#mem). The text is not validated again.
 #[must_use]
 #[inline]
 pub fn str_latin1_up_to(buffer: &str) -> usize {
     c::encoding_text_mem_str_latin1_up_to_unchecked(buffer)
 }
 
-/// The place of the first lone surrogate, or the length where there is none.
+/// Returns the index of the first unpaired surrogate, or the length if there is none.
 ///
 /// [Proved](crate::promises#mem).
 ///
@@ -80,7 +80,7 @@ pub fn utf16_valid_up_to(buffer: &[u16]) -> usize {
     c::encoding_text_mem_utf16_valid_up_to(buffer)
 }
 
-/// Replaces each lone surrogate by U+FFFD, and nothing else.
+/// Replaces each unpaired surrogate with U+FFFD, and changes nothing else.
 ///
 /// [Proved](crate::promises#mem).
 ///

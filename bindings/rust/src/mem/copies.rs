@@ -9,7 +9,7 @@ use crate::c;
 ///
 /// # Panics
 ///
-/// Where `dst` is shorter than `src`.
+/// If `dst` is shorter than `src`.
 #[inline]
 pub fn copy_ascii_to_ascii(src: &[u8], dst: &mut [u8]) -> usize {
     assert_as_long(src, dst);
@@ -22,7 +22,7 @@ pub fn copy_ascii_to_ascii(src: &[u8], dst: &mut [u8]) -> usize {
 ///
 /// # Panics
 ///
-/// Where `dst` has fewer code units than `src` has bytes.
+/// If `dst` has fewer code units than `src` has bytes.
 #[inline]
 pub fn copy_ascii_to_basic_latin(src: &[u8], dst: &mut [u16]) -> usize {
     assert_as_long(src, dst);
@@ -35,7 +35,7 @@ pub fn copy_ascii_to_basic_latin(src: &[u8], dst: &mut [u16]) -> usize {
 ///
 /// # Panics
 ///
-/// Where `dst` has fewer bytes than `src` has code units.
+/// If `dst` has fewer bytes than `src` has code units.
 #[inline]
 pub fn copy_basic_latin_to_ascii(src: &[u16], dst: &mut [u8]) -> usize {
     assert_as_long(src, dst);

@@ -3,8 +3,8 @@
 use super::assert_room;
 use crate::c;
 
-/// Converts the most first characters whose UTF-8 fits, with U+FFFD for each lone surrogate, and returns how many code
-/// units were read and how many bytes written (Encoding Standard, `encodeInto`).
+/// Converts as many whole characters as fit, with U+FFFD for each unpaired surrogate. Returns the number of code units
+/// read and the number of bytes written (Encoding Standard, `encodeInto`).
 ///
 /// [Proved](crate::promises#mem).
 #[inline]
@@ -12,23 +12,23 @@ pub fn convert_utf16_to_utf8_partial(src: &[u16], dst: &mut [u8]) -> (usize, usi
     c::encoding_text_mem_convert_utf16_to_utf8_partial(src, dst).into()
 }
 
-/// Converts all, with U+FFFD for each lone surrogate, and returns how many bytes were written.
+/// Converts all code units, with U+FFFD for each unpaired surrogate, and returns the number of bytes written.
 ///
 /// [Proved](crate::promises#mem).
 ///
 /// # Panics
 ///
-/// Where `dst` has fewer than three bytes for each code unit of `src`.
+/// If `dst` has fewer than three bytes for each code unit of `src`.
 #[inline]
 pub fn convert_utf16_to_utf8(src: &[u16], dst: &mut [u8]) -> usize {
     assert_room(src.len(), 3, dst.len());
     c::encoding_text_mem_convert_utf16_to_utf8(src, dst)
 }
 
-/// [`convert_utf16_to_utf8_partial`] into a text, whose continuation bytes directly behind what is written become zero.
+/// [`convert_utf16_to_utf8_partial`] into a text. The continuation bytes directly after what is written become zero.
 ///
-/// What is written is [proved](crate::promises#mem); that the text is cleared behind it is done by the crate, which so
-/// doesn't look through the destination.
+/// What is written is [proved](crate::promises#mem). The crate clears the bytes after it, so the destination is not
+/// scanned.
 ///
 /// ```
 /// let mut text = String::from("☃☃");
@@ -40,13 +40,13 @@ pub fn convert_utf16_to_str_partial(src: &[u16], dst: &mut str) -> (usize, usize
     c::convert_utf16_to_str_partial(src, dst)
 }
 
-/// [`convert_utf16_to_utf8`] into a text, whose continuation bytes directly behind what is written become zero.
+/// [`convert_utf16_to_utf8`] into a text. The continuation bytes directly after what is written become zero.
 ///
-/// What is written is [proved](crate::promises#mem); that the text is cleared behind it is done by the crate.
+/// What is written is [proved](crate::promises#mem). The crate clears the bytes after it.
 ///
 /// # Panics
 ///
-/// Where `dst` has fewer than three bytes for each code unit of `src`.
+/// If `dst` has fewer than three bytes for each code unit of `src`.
 #[inline]
 pub fn convert_utf16_to_str(src: &[u16], dst: &mut str) -> usize {
     assert_room(src.len(), 3, dst.len());

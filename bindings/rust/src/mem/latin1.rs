@@ -3,8 +3,8 @@
 use super::{assert_as_long, assert_room, utf8_latin1_up_to};
 use crate::c;
 
-/// Writes the UTF-8 of the longest prefix of Latin1 whose UTF-8 fits, and returns how many bytes were read and how many
-/// written.
+/// Writes the UTF-8 of the longest prefix of Latin1 whose UTF-8 fits. Returns the number of bytes read and the number
+/// of bytes written.
 ///
 /// [Proved](crate::promises#mem).
 #[inline]
@@ -12,44 +12,44 @@ pub fn convert_latin1_to_utf8_partial(src: &[u8], dst: &mut [u8]) -> (usize, usi
     c::encoding_text_mem_convert_latin1_to_utf8_partial(src, dst).into()
 }
 
-/// Writes the UTF-8 of each byte as a character, and returns how many bytes were written.
+/// Writes the UTF-8 of each byte as a character, and returns the number of bytes written.
 ///
 /// [Proved](crate::promises#mem).
 ///
 /// # Panics
 ///
-/// Where `dst` has fewer than two bytes for each byte of `src`.
+/// If `dst` has fewer than two bytes for each byte of `src`.
 #[inline]
 pub fn convert_latin1_to_utf8(src: &[u8], dst: &mut [u8]) -> usize {
     assert_room(src.len(), 2, dst.len());
     c::encoding_text_mem_convert_latin1_to_utf8(src, dst)
 }
 
-/// [`convert_latin1_to_utf8_partial`] into a text, of which the sixteen bytes behind what is written (all, where there are
-/// fewer) and then the continuation bytes directly behind those become zero.
+/// [`convert_latin1_to_utf8_partial`] into a text. The sixteen bytes after what is written (all, if there are fewer)
+/// and the continuation bytes directly after those become zero.
 ///
-/// What is written is [proved](crate::promises#mem); that the text is cleared behind it is done by the crate, which so
-/// doesn't look through the destination.
+/// What is written is [proved](crate::promises#mem). The crate clears the bytes after it, so the destination is not
+/// scanned.
 #[inline]
 pub fn convert_latin1_to_str_partial(src: &[u8], dst: &mut str) -> (usize, usize) {
     c::convert_latin1_to_str_partial(src, dst)
 }
 
-/// [`convert_latin1_to_utf8`] into a text, of which the sixteen bytes behind what is written (all, where there are fewer)
-/// and then the continuation bytes directly behind those become zero.
+/// [`convert_latin1_to_utf8`] into a text. The sixteen bytes after what is written (all, if there are fewer) and the
+/// continuation bytes directly after those become zero.
 ///
-/// What is written is [proved](crate::promises#mem); that the text is cleared behind it is done by the crate.
+/// What is written is [proved](crate::promises#mem). The crate clears the bytes after it.
 ///
 /// # Panics
 ///
-/// Where `dst` has fewer than two bytes for each byte of `src`.
+/// If `dst` has fewer than two bytes for each byte of `src`.
 #[inline]
 pub fn convert_latin1_to_str(src: &[u8], dst: &mut str) -> usize {
     assert_room(src.len(), 2, dst.len());
     convert_latin1_to_str_partial(src, dst).1
 }
 
-/// Panics where debug assertions are enabled (and no fuzzing is): a source is no text of Latin1 in UTF-8.
+/// Panics because a source is not Latin1 in UTF-8, if debug assertions are enabled and `cfg(fuzzing)` isn't.
 #[cold]
 #[track_caller]
 pub(super) fn refuse_beyond_latin1(up_to: usize) {
@@ -58,14 +58,14 @@ pub(super) fn refuse_beyond_latin1(up_to: usize) {
     }
 }
 
-/// Writes each character of Latin1 in UTF-8 as a byte, and returns how many bytes were written.
+/// Writes each character of Latin1 in UTF-8 as a byte, and returns the number of bytes written.
 ///
-/// [Proved](crate::promises#mem) for Latin1. What becomes of anything else is decided by the crate: without debug
-/// assertions the longest prefix of Latin1 is converted alone.
+/// [Proved](crate::promises#mem) for Latin1. For any other source the crate decides: without debug assertions only the
+/// longest prefix of Latin1 is converted.
 ///
 /// # Panics
 ///
-/// Where `dst` is shorter than `src`; and where `src` isn't the UTF-8 of characters up to U+00FF, if debug assertions are
+/// If `dst` is shorter than `src`. If `src` isn't the UTF-8 of characters up to U+00FF, and debug assertions are
 /// enabled for this crate and `cfg(fuzzing)` isn't.
 ///
 /// ```
@@ -85,13 +85,13 @@ pub fn convert_utf8_to_latin1_lossy(src: &[u8], dst: &mut [u8]) -> usize {
     written
 }
 
-/// Writes the low eight bits of each code unit: UTF-16 to Latin1, where each is up to 0x00FF.
+/// Writes the low eight bits of each code unit: converts UTF-16 to Latin1 if each unit is up to 0x00FF.
 ///
-/// [Proved](crate::promises#mem), also for code units beyond Latin1.
+/// [Proved](crate::promises#mem), even for code units above 0x00FF.
 ///
 /// # Panics
 ///
-/// Where `dst` has fewer bytes than `src` has code units.
+/// If `dst` has fewer bytes than `src` has code units.
 #[inline]
 pub fn convert_utf16_to_latin1_lossy(src: &[u16], dst: &mut [u8]) {
     assert_as_long(src, dst);

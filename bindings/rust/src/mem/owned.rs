@@ -1,14 +1,14 @@
-//! Conversions that borrow ASCII and own anything else.
+//! Conversions that borrow ASCII and allocate for anything else.
 
 use super::latin1::refuse_beyond_latin1;
 use super::str_latin1_up_to;
 use crate::c;
 use alloc::borrow::Cow;
 
-/// The text whose characters are the bytes: borrowed where they are ASCII, else owned, by one allocation.
+/// Returns the text whose characters are the bytes: borrowed if they are ASCII, else owned, with one allocation.
 ///
-/// What it says is [proved](crate::promises#mem) of the two calls that it makes, one for the ASCII prefix and one for the
-/// rest; that they are joined is done by the crate. Only with the feature `alloc`.
+/// The text is [proved](crate::promises#mem) by the two calls made, one for the ASCII prefix and one for the rest; the
+/// crate joins them. Requires the feature `alloc`.
 ///
 /// ```
 /// use encoding_text::mem::decode_latin1;
@@ -23,15 +23,15 @@ pub fn decode_latin1(bytes: &[u8]) -> Cow<'_, str> {
     Cow::Owned(c::latin1_to_string(bytes, front.len()))
 }
 
-/// The characters of a text of Latin1 as bytes: borrowed where they are ASCII, else owned, by one allocation.
+/// Returns the characters of a text of Latin1 as bytes: borrowed if they are ASCII, else owned, with one allocation.
 ///
-/// What it says is [proved](crate::promises#mem) of the two calls that it makes, one for the ASCII prefix and one for the
-/// rest; that they are joined is done by the crate, and what becomes of a text beyond Latin1: without debug assertions its
-/// longest prefix of Latin1 is converted alone. Only with the feature `alloc`.
+/// The bytes are [proved](crate::promises#mem) by the two calls made, one for the ASCII prefix and one for the rest;
+/// the crate joins them. It also decides about a text that is not Latin1: without debug assertions only its longest
+/// prefix of Latin1 is converted. Requires the feature `alloc`.
 ///
 /// # Panics
 ///
-/// Where a character is beyond U+00FF, if debug assertions are enabled for this crate and `cfg(fuzzing)` isn't.
+/// If a character is above U+00FF, and debug assertions are enabled for this crate and `cfg(fuzzing)` isn't.
 ///
 /// ```
 /// use encoding_text::mem::encode_latin1_lossy;

@@ -3,14 +3,14 @@
 use super::assert_as_long;
 use crate::c;
 
-/// Converts to UTF-16 with U+FFFD for each broken part, and returns how many code units were written (Encoding Standard,
-/// "UTF-8 decode without BOM").
+/// Converts to UTF-16 with U+FFFD for each malformed sequence, and returns the number of code units written (Encoding
+/// Standard, "UTF-8 decode without BOM").
 ///
 /// [Proved](crate::promises#mem).
 ///
 /// # Panics
 ///
-/// Where `dst` doesn't have at least one code unit more than `src` has bytes.
+/// If `dst` doesn't have at least one code unit more than `src` has bytes.
 ///
 /// ```
 /// let mut units = [0; 6];
@@ -28,27 +28,27 @@ pub fn convert_utf8_to_utf16(src: &[u8], dst: &mut [u16]) -> usize {
     c::encoding_text_mem_convert_utf8_to_utf16(src, dst)
 }
 
-/// Converts a text to UTF-16, and returns how many code units were written.
+/// Converts a text to UTF-16, and returns the number of code units written.
 ///
-/// [Proved](crate::promises#mem). Nothing looks whether the text is well-formed.
+/// [Proved](crate::promises#mem). The text is not validated again.
 ///
 /// # Panics
 ///
-/// Where `dst` has fewer code units than `src` has bytes.
+/// If `dst` has fewer code units than `src` has bytes.
 #[inline]
 pub fn convert_str_to_utf16(src: &str, dst: &mut [u16]) -> usize {
     assert_as_long(src.as_bytes(), dst);
     c::encoding_text_mem_convert_str_to_utf16_unchecked(src, dst)
 }
 
-/// Converts to UTF-16, and returns how many code units were written, or `None` where the source isn't well-formed: then
-/// the UTF-16 of its longest well-formed prefix is written.
+/// Converts to UTF-16, and returns the number of code units written. If the source isn't well-formed, writes the UTF-16
+/// of its longest well-formed prefix and returns `None`.
 ///
 /// [Proved](crate::promises#mem).
 ///
 /// # Panics
 ///
-/// Where `dst` has fewer code units than `src` has bytes.
+/// If `dst` has fewer code units than `src` has bytes.
 #[inline]
 pub fn convert_utf8_to_utf16_without_replacement(src: &[u8], dst: &mut [u16]) -> Option<usize> {
     assert_as_long(src, dst);
@@ -56,13 +56,13 @@ pub fn convert_utf8_to_utf16_without_replacement(src: &[u8], dst: &mut [u16]) ->
     (counts.read == src.len()).then_some(counts.written)
 }
 
-/// Writes each byte as a code unit: Latin1 to UTF-16.
+/// Writes each byte as a code unit: converts Latin1 to UTF-16.
 ///
 /// [Proved](crate::promises#mem).
 ///
 /// # Panics
 ///
-/// Where `dst` has fewer code units than `src` has bytes.
+/// If `dst` has fewer code units than `src` has bytes.
 #[inline]
 pub fn convert_latin1_to_utf16(src: &[u8], dst: &mut [u16]) {
     assert_as_long(src, dst);

@@ -2,16 +2,16 @@
 
 use crate::c;
 
-/// What ended a call of an encoder.
+/// Why a call of an encoder ended.
 #[must_use]
 #[derive(Clone, Copy, Debug, PartialEq, Eq)]
 pub enum EncoderResult {
-    /// All of the source is read, and all that was due is written. After a last call nothing is held.
+    /// All of the source is read, and all of its output is written. After a call marked last nothing is pending.
     InputEmpty,
-    /// The next character doesn't fit into what is left of the destination.
+    /// The next character doesn't fit into the rest of the destination.
     OutputFull,
-    /// A character that the encoding doesn't have: no encoder to UTF-8 returns it. It is here for the encoders of
-    /// `encoding_rs`, whose results have this type.
+    /// A character that the encoding doesn't have. No encoder to UTF-8 returns it; the encoders of `encoding_rs`, whose
+    /// results have this type, do.
     Unmappable(char),
 }
 
@@ -24,8 +24,8 @@ fn ended(result: u8) -> EncoderResult {
     }
 }
 
-/// An encoder to UTF-8 that takes UTF-16 cut anywhere. Between calls it holds the high surrogate that ended a call not
-/// marked last, whose low half may follow.
+/// An encoder to UTF-8 that takes UTF-16 cut anywhere. Between calls it keeps the high surrogate that ended a call not
+/// marked last, since its low half may follow: the pending surrogate.
 ///
 /// ```
 /// use encoding_text::{EncoderResult, Utf8Encoder};
@@ -41,15 +41,15 @@ pub struct Utf8Encoder {
 }
 
 impl Utf8Encoder {
-    /// A new encoder, which holds nothing.
+    /// Creates an encoder with nothing pending.
     #[must_use]
     #[inline]
     pub fn new_inner() -> Utf8Encoder {
         Utf8Encoder::default()
     }
 
-    /// How many bytes hold all that `u16_length` code units and what is held may become: three for each. `None` where
-    /// that number passes `usize::MAX`.
+    /// Returns how many bytes hold the output for `u16_length` code units and the pending surrogate: three for each.
+    /// Returns `None` if that number is above `usize::MAX`.
     ///
     /// [Proved](crate::promises#encoder).
     #[must_use]
@@ -60,8 +60,8 @@ impl Utf8Encoder {
         })
     }
 
-    /// How many bytes hold all that a text of `byte_length` bytes and what is held may become: one for each, and three for
-    /// what is held. `None` where that number passes `usize::MAX`.
+    /// Returns how many bytes hold the output for a text of `byte_length` bytes and the pending surrogate: one for each
+    /// byte, and three for the surrogate. Returns `None` if that number is above `usize::MAX`.
     ///
     /// [Proved](crate::promises#encoder).
     #[must_use]
@@ -72,9 +72,9 @@ impl Utf8Encoder {
         })
     }
 
-    /// Encodes what is held and then the code units: the most characters that fit, with U+FFFD for each lone surrogate, but
-    /// a high one that ends a call not marked last, which is held. Returns what ended the call, how many code units were
-    /// read and how many bytes written. `last` says that no code units will follow.
+    /// Encodes the pending surrogate and then as many whole characters as fit, with U+FFFD for each unpaired surrogate.
+    /// A high surrogate that ends a call not marked last becomes pending instead. Returns why the call ended, the
+    /// number of code units read and the number of bytes written. `last` says that no code units follow.
     ///
     /// [Proved](crate::promises#encoder).
     #[inline]
@@ -83,12 +83,12 @@ impl Utf8Encoder {
         (ended(encoded.result), encoded.read, encoded.written)
     }
 
-    /// Writes U+FFFD for what is held and then the most characters of the text that fit. Returns what ended the call, and
-    /// how many bytes of the text were read and how many bytes written. `last` has no effect: a text never ends within a
-    /// character, and what is held is due at once.
+    /// Writes U+FFFD for the pending surrogate and then as many whole characters of the text as fit. Returns why the
+    /// call ended, the number of bytes of the text read and the number of bytes written. `last` has no effect: a text
+    /// never ends within a character, and U+FFFD is written at once.
     ///
-    /// The U+FFFD is written by a call that is [proved](crate::promises#encoder). The text is copied by the crate, unproved:
-    /// the library's own call takes bytes, and would first see to it that they are text.
+    /// The U+FFFD is written by a call that is [proved](crate::promises#encoder). The crate copies the text, unproved:
+    /// the library's own call takes bytes, and would validate them first.
     #[inline]
     pub fn encode_from_utf8_raw(&mut self, src: &str, dst: &mut [u8], _last: bool) -> (EncoderResult, usize, usize) {
         let mut written = 0;

@@ -1,7 +1,8 @@
-//! Which second bytes go with which first bytes, as bits of a table.
+//! Which second bytes may follow which first bytes, as bits of a table.
 
-/// An entry for each second byte, and behind these one for each first byte from 0x80 on, of bits above the two lowest. A
-/// byte may stand second behind a first one of three or four bytes exactly where their entries have no bit in common.
+/// An entry for each second byte, followed by one for each first byte from 0x80 on. An entry uses the bits above the
+/// two lowest. A byte may follow the first byte of a sequence of three or four if and only if their entries have no bit
+/// in common.
 #[repr(align(64))]
 pub struct Utf8Data {
     /// The entries.
@@ -10,14 +11,14 @@ pub struct Utf8Data {
 
 /// The entries, which the crate computes from the ranges of second bytes in Table 3-7 of the Unicode Standard.
 ///
-/// They are tested beside well-formedness, and not proved: the library has a table of its own.
+/// They are tested against well-formedness, and not proved: the library has a table of its own.
 pub static UTF8_DATA: Utf8Data = Utf8Data { table: entries() };
 
-/// No first byte of several.
+/// Not the first byte of a sequence.
 const NEVER: u8 = 0x04;
-/// Behind it stands any continuation byte.
+/// Any continuation byte may follow.
 const ANY: u8 = 0x08;
-/// Of the first bytes behind which fewer may stand.
+/// These and the next: first bytes that fewer bytes may follow.
 const E0: u8 = 0x10;
 const ED: u8 = 0x20;
 const F0: u8 = 0x40;
