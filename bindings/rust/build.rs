@@ -1,5 +1,5 @@
-//! Finds the static library: in `ENCODING_TEXT_LIB_DIR`, else by `pkg-config`, else `make` builds it at the top of the
-//! repository.
+//! Finds the static library: in `ENCODING_TEXT_LIB_DIR`, else with `pkg-config`. Otherwise `make` builds it at the top
+//! of the repository.
 use std::env;
 use std::path::{Path, PathBuf};
 use std::process::{Command, Stdio};
@@ -33,12 +33,12 @@ fn link(folder: &Path) {
     println!("cargo::rustc-link-lib=static=encoding_text");
 }
 
-/// Whether the library would be for the machine that builds it, as those are that are found without being named.
+/// Returns whether the target is the machine that builds: libraries that are found without being named are for it.
 fn is_native() -> bool {
     env::var_os("TARGET") == env::var_os("HOST")
 }
 
-/// The folder that `pkg-config` tells for this version of the library or a later one of its kind.
+/// Returns the folder that `pkg-config` reports for this version of the library or a later compatible one.
 fn installed() -> Option<PathBuf> {
     for variable in ["PKG_CONFIG", "PKG_CONFIG_PATH", "PKG_CONFIG_LIBDIR"] {
         println!("cargo::rerun-if-env-changed={variable}");
@@ -54,7 +54,8 @@ fn installed() -> Option<PathBuf> {
     (is_native() && told.status.success() && folder.join(FILE).is_file()).then_some(folder)
 }
 
-/// The folder `build` of the repository, after `make`, which does nothing where the library is there and no source is newer.
+/// Returns the folder `build` of the repository, after `make`, which does nothing if the library is newer than its
+/// sources.
 fn built() -> Option<PathBuf> {
     let crate_folder = PathBuf::from(env::var_os("CARGO_MANIFEST_DIR")?);
     let top = crate_folder.join("../..").canonicalize().ok()?;

@@ -1,21 +1,21 @@
-//! What a call costs in Rust beside the function of C under it, called as a program in C calls it, and what a text costs
-//! whose type says that it is well-formed: `cargo bench` prints nanoseconds a call, the best of interleaved passes. The
-//! status is 1 where a call costs more than `BOUND` more.
-#![allow(unused_must_use)] // results are handed to `black_box` alone
+//! Measures what a call costs in Rust compared with the C function under it, called as a C program calls it, and what
+//! is saved by a type that says that a text is well-formed. `cargo bench` prints nanoseconds per call, the best of
+//! interleaved passes. The status is 1 if a call costs more than `BOUND` more.
+#![allow(unused_must_use)] // results are passed only to `black_box`
 
 use encoding_text::{ascii, mem, utf_8, Utf8Decoder, Utf8Encoder};
 use std::hint::black_box;
 use std::process::ExitCode;
 use std::time::Instant;
 
-/// Nanoseconds that a call may cost more than in C.
+/// How many nanoseconds a call may cost more than in C.
 const BOUND: f64 = 2.0;
 const PASSES: usize = 3000;
-/// Most calls are done so soon that nothing hides what is round them.
+/// A length that most calls finish so fast that nothing hides the cost around them.
 const SHORT: usize = 16;
 const LONG: usize = 1 << 16;
 
-/// The functions of `encoding_text.h`, as a program in C declares them.
+/// The functions of `encoding_text.h`, as a C program declares them.
 mod c {
     #[repr(C)]
     pub struct Counts(usize, usize);
@@ -113,7 +113,7 @@ mod c {
     }
 }
 
-/// Nanoseconds a call over so many calls.
+/// Returns nanoseconds per call, over `times` calls.
 #[inline(never)]
 fn pass(times: u32, call: &mut impl FnMut()) -> f64 {
     let start = Instant::now();
@@ -123,7 +123,7 @@ fn pass(times: u32, call: &mut impl FnMut()) -> f64 {
     start.elapsed().as_secs_f64() * 1e9 / f64::from(times)
 }
 
-/// The best of interleaved passes of two.
+/// Returns the best of interleaved passes of the two.
 fn best(times: u32, mut one: impl FnMut(), mut other: impl FnMut()) -> (f64, f64) {
     let mut best = (f64::INFINITY, f64::INFINITY);
     for _ in 0..PASSES {
@@ -133,7 +133,7 @@ fn best(times: u32, mut one: impl FnMut(), mut other: impl FnMut()) -> (f64, f64
     best
 }
 
-/// What is read and where it is written.
+/// The sources and the destinations.
 struct Buffers {
     bytes: Vec<u8>,
     units: Vec<u16>,
@@ -153,13 +153,13 @@ impl Buffers {
     }
 }
 
-/// Times rows of a call in Rust, and the one in C of a function and its arguments, and hands each to a closure.
+/// Times rows, each a call in Rust and the C function with its arguments, and passes each to a closure.
 macro_rules! rows {
     ($told:expr, $times:expr; $($name:literal: $rust:expr, $function:ident($($argument:expr),*);)*) => {$({
         let (rust, c) = best(
             $times,
             || { black_box($rust); },
-            // SAFETY: the arguments are pointers to buffers and the lengths of these, and no two overlap; texts are
+            // SAFETY: the arguments are pointers to buffers and their lengths, and no two overlap. Texts are
             // well-formed, and states are laid out as the header says.
             || { black_box(unsafe { c::$function($($argument),*) }); },
         );
@@ -167,7 +167,7 @@ macro_rules! rows {
     })*};
 }
 
-/// Each shape of a call on little: how many nanoseconds it costs more in Rust at most.
+/// Times each shape of a call on a short source, and returns the most nanoseconds that one costs more in Rust.
 fn short_calls() -> f64 {
     let mut most = f64::NEG_INFINITY;
     let mut tell = |name: &str, rust: f64, c: f64| {
@@ -235,7 +235,7 @@ fn short_calls() -> f64 {
     most
 }
 
-/// The calls on a text, beside those of C, which has no type for one and looks through it first.
+/// Times the calls on a text, compared with those of C, which has no type for one and validates it first.
 fn texts() {
     let Buffers {
         bytes: b,

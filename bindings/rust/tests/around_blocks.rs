@@ -1,14 +1,15 @@
-//! Conversions over the seams of blocks: one character or broken part among others of one kind, at each place.
+//! Conversions over the boundaries of blocks: one character or malformed sequence among others of one kind, at each
+//! index.
 mod common;
 
 use common::rows::{around, assert_written, items, Item, Unit};
 use encoding_text::mem::*;
 
-/// How often the filler stands in a text.
+/// How often the filler is in a text.
 const FILLERS_IN_TEXT: usize = 38;
 
-/// Makes texts of each of the edges at each place among each of the fillers, and what is to be written of them; counts
-/// edges among fillers.
+/// Builds texts with each of the edges at each index among each of the fillers, and their expected output. Returns the
+/// number of pairs of an edge and a filler.
 fn at_each_place<S: Unit, D: Unit>(fillers: &str, edges: &str, holds: impl Fn(&[S], &[D])) -> usize {
     let fillers: Vec<Item<S, D>> = items(fillers);
     let edges: Vec<Item<S, D>> = items(edges);
@@ -24,7 +25,7 @@ fn at_each_place<S: Unit, D: Unit>(fillers: &str, edges: &str, holds: impl Fn(&[
     fillers.len() * edges.len()
 }
 
-/// Code units that stand round another, and their UTF-8: of one length, and of each.
+/// Code units that surround another, and their UTF-8: of one length, and of each.
 const UNIT_FILLERS: &str = "\
 0061 | 61
 0430 | D0 B0
@@ -57,7 +58,7 @@ fn units_at_each_place() {
     assert_eq!(count, 5 * 11);
 }
 
-/// Bytes as characters that stand round another, and their UTF-8.
+/// Bytes as characters that surround another, and their UTF-8.
 const LATIN1_FILLERS: &str = "\
 61 | 61
 E4 | C3 A4";
@@ -86,7 +87,7 @@ fn latin1_at_each_place() {
     assert_eq!(count, 2 * 6);
 }
 
-/// Characters that stand round another, in UTF-8 and UTF-16.
+/// Characters that surround another, in UTF-8 and UTF-16.
 const FILLERS: &str = "\
 61 | 0061
 D0 B0 | 0430
@@ -105,7 +106,7 @@ EF BF BF | FFFF
 F0 90 80 80 | D800 DC00
 F4 8F BF BF | DBFF DFFF";
 
-/// Broken parts, with U+FFFD for each.
+/// Malformed sequences, with U+FFFD for each.
 const BROKEN: &str = "\
 FF | FFFD
 80 | FFFD
@@ -114,14 +115,14 @@ F0 9F 92 | FFFD
 C0 AF | FFFD FFFD
 ED A0 80 | FFFD FFFD FFFD";
 
-/// The bytes come to the code units.
+/// Asserts that the bytes convert to the code units.
 fn assert_bytes_convert(bytes: &[u8], units: &[u16]) {
     let mut dst = [0x71; 200];
     assert_eq!(convert_utf8_to_utf16(bytes, &mut dst), units.len());
     assert_written(units, 0, &dst);
 }
 
-/// The bytes, as a text, come to the code units in a destination of as many places as it has bytes.
+/// Asserts that the bytes, as a text, convert to the code units in a destination with one code unit for each byte.
 fn assert_text_converts(bytes: &[u8], units: &[u16]) {
     let text = std::str::from_utf8(bytes).unwrap();
     let mut dst = [0x71; 200];

@@ -1,4 +1,4 @@
-//! The calls of `ascii` beside `std`.
+//! The calls of `ascii` compared with `std`.
 mod common;
 
 use common::*;

@@ -23,7 +23,7 @@ fn finds_the_front() {
     assert!(!is_basic_latin(&[0x61, 0xA0]));
 }
 
-/// Prefixes of ISO-2022-JP end also before an escape byte and the two shift bytes.
+/// Prefixes of ISO-2022-JP also end before an escape byte and the two shift bytes.
 #[test]
 fn finds_the_front_of_iso_2022_jp() {
     assert_eq!(iso_2022_jp_ascii_valid_up_to(&[0x61, 0x1B, 0x62]), 1);
@@ -33,7 +33,7 @@ fn finds_the_front_of_iso_2022_jp() {
     assert_eq!(iso_2022_jp_ascii_valid_up_to(&[0x80]), 0);
 }
 
-/// Each copy stops at the first unit that isn't ASCII and leaves what is behind.
+/// Each copy stops at the first unit that isn't ASCII, and the rest is unchanged.
 #[test]
 fn copies_the_front() {
     let mut bytes = [0; 3];
@@ -47,7 +47,7 @@ fn copies_the_front() {
     assert_eq!(narrow, [0x61, 0, 0]);
 }
 
-/// The copies go over the shorter length of the two.
+/// The copies end at the shorter of the two lengths.
 #[test]
 fn copies_what_there_is_room_for() {
     let mut bytes = [0; 2];

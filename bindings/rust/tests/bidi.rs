@@ -1,4 +1,4 @@
-//! The right-to-left checks of `mem`, beside the ranges stated here.
+//! The right-to-left checks of `mem`, compared with the ranges listed here.
 mod common;
 
 use common::*;
@@ -47,7 +47,7 @@ fn every_character() {
     }
 }
 
-/// Each character alone, by all checks: no unit of a pair behind its first says so.
+/// Each character by itself, with all checks: no low surrogate counts as right-to-left.
 #[test]
 fn every_character_alone() {
     for c in '\0'..=char::MAX {
@@ -75,7 +75,7 @@ const ENDS: [u16; 39] = [
     0xDC00, 0xDFFF, 0xE000, 0xFB1C, 0xFB1D, 0xFDFF, 0xFE00, 0xFE6F, 0xFE70, 0xFEFE, 0xFEFF,
 ];
 
-/// Whether two code units are valid, right-to-left and repaired as their parts are.
+/// Returns whether two code units are valid, right-to-left and repaired as their parts are.
 #[test]
 fn every_two_ends() {
     for a in ENDS {

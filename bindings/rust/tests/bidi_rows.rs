@@ -1,4 +1,4 @@
-//! Right-to-left characters, code units and texts, and the checks for Latin1 before them, beside rows that state each.
+//! Right-to-left characters, code units and texts, and the checks for Latin1 before them, compared with rows.
 mod common;
 
 use common::class_of;
@@ -32,16 +32,16 @@ const LEFT_TO_RIGHT: [char; 7] = [
     '\u{FEFF}',
 ];
 
-/// How many letters stand on either side of a character.
+/// How many letters are on either side of a character.
 const LETTERS: [usize; 8] = [0, 1, 7, 8, 15, 16, 17, 33];
 
-/// The text of the characters between so many letters on either side.
+/// Returns the text of the characters with this many letters on either side.
 fn between_letters(letters: usize, characters: &str) -> String {
     let letters = "a".repeat(letters);
     format!("{letters}{characters}{letters}")
 }
 
-/// Looks whether all checks of the text say so.
+/// Asserts the result of all checks of the text.
 fn assert_text(text: &str, is_bidi: bool, class: Latin1Bidi) {
     let bytes = text.as_bytes();
     let units: Vec<u16> = text.encode_utf16().collect();
@@ -53,7 +53,7 @@ fn assert_text(text: &str, is_bidi: bool, class: Latin1Bidi) {
     assert_eq!(check_utf16_for_latin1_and_bidi(&units), class, "{text:?}");
 }
 
-/// Looks whether the checks of the character, and of texts in which it stands between letters, say so.
+/// Asserts the result of the checks of the character, and of texts that have it between letters.
 fn assert_character(c: char, is_bidi: bool) {
     assert_eq!(is_char_bidi(c), is_bidi, "{c:?}");
     let class = class_of(c <= '\u{FF}', is_bidi);
@@ -73,7 +73,7 @@ fn characters_between_letters() {
     }
 }
 
-/// Code units that are right-to-left characters, or the first of two that may be one.
+/// Code units that are right-to-left characters, or high surrogates that may start one.
 const RIGHT_TO_LEFT_UNITS: [u16; 16] = [
     0x0590, 0x061C, 0x08FF, 0x200F, 0x202B, 0x202E, 0x2067, 0xFB50, 0xFDFF, 0xFE70, 0xFEFE, 0xFB1D, 0xD802, 0xD803,
     0xD83A, 0xD83B,
@@ -81,7 +81,7 @@ const RIGHT_TO_LEFT_UNITS: [u16; 16] = [
 
 const LEFT_TO_RIGHT_UNITS: [u16; 8] = [0x0061, 0x03B1, 0x3041, 0xFE00, 0x202C, 0xFEFF, 0x0062, 0xD801];
 
-/// Looks whether the checks of the code unit, and of units in which it stands among letters, say so.
+/// Asserts the result of the checks of the code unit, and of code units that have it among letters.
 fn assert_unit(unit: u16, is_bidi: bool) {
     for at in 0..41 {
         let mut units = [0x61; 41];
@@ -110,7 +110,7 @@ fn one_of_several() {
     }
 }
 
-/// A high surrogate decides for its pair, and alone.
+/// A high surrogate decides for its pair, and also if it is unpaired.
 const HALVES: [(&[u16], bool); 4] = [
     (&[0xD802, 0xDC00], true),
     (&[0xD801, 0xDC00], false),
@@ -127,7 +127,7 @@ fn halves_of_pairs() {
 
 const ILL_FORMED: [[u8; 2]; 5] = [[0xC3, 0x61], [0x61, 0xC3], [0xED, 0xA0], [0x80, 0x61], [0x61, 0xFF]];
 
-/// Bytes that aren't well-formed are right-to-left, and so not Latin1.
+/// Bytes that aren't well-formed count as right-to-left, and so not as Latin1.
 #[test]
 fn ill_formed_bytes_are_right_to_left() {
     for bytes in ILL_FORMED {

@@ -1,10 +1,11 @@
-//! The repair of a stream by blocks: whatever the blocks and the rooms, what is written is the text of the whole.
+//! The repair of a stream by blocks: for any blocks and rooms, the text of the whole is written.
 #[path = "common/runs.rs"]
 mod runs;
 
 use runs::{repair_block, Decoder};
 
-/// a, U+20AC, U+1F4A9, then a truncated sequence of three bytes, two of an overlong form and three of a surrogate.
+/// a, U+20AC, U+1F4A9, then a truncated sequence of three bytes, two bytes of an overlong form and three of a
+/// surrogate.
 const BYTES: [u8; 16] = [
     0x61, 0xE2, 0x82, 0xAC, 0xF0, 0x9F, 0x92, 0xA9, 0xF0, 0x9F, 0x92, 0xC0, 0x80, 0xED, 0xA0, 0x80,
 ];
@@ -12,13 +13,13 @@ const BYTES: [u8; 16] = [
 /// Its text: Encoding Standard, UTF-8 decode without BOM.
 const TEXT: &str = "a€💩\u{FFFD}\u{FFFD}\u{FFFD}\u{FFFD}\u{FFFD}\u{FFFD}";
 
-/// How many parts are broken.
+/// The number of malformed sequences.
 const BROKEN: usize = 6;
 
-/// How often the bytes stand in the stream.
+/// How often the stream repeats the bytes.
 const TIMES: usize = 40;
 
-/// Looks whether blocks of so many bytes, each into so much room, come to the text.
+/// Asserts that blocks of `block` bytes, each into `room` bytes, yield the text.
 fn assert_repaired(stream: &[u8], text: &str, block: usize, room: usize) {
     let mut decoder = Decoder::default();
     let (mut read, mut replaced, mut written) = (0, 0, Vec::new());
@@ -55,7 +56,7 @@ fn blocks_and_rooms() {
     assert_eq!(count, 8 * 9);
 }
 
-/// Too little room for a call: nothing is read or written, and the decoder stays as it is.
+/// If the destination is too short for a call, nothing is read or written, and the decoder is unchanged.
 #[test]
 fn little_room() {
     let mut decoder = Decoder::default();
@@ -69,7 +70,7 @@ fn little_room() {
     assert_eq!(dst, [0xEF, 0xBF, 0xBD, 0x71]);
 }
 
-/// Text that fits is finished, also if no byte is left for more.
+/// Text that fits is finished, even if no byte is left for more.
 #[test]
 fn text_that_fits() {
     for room in 3..7 {
@@ -80,7 +81,7 @@ fn text_that_fits() {
     }
 }
 
-/// An empty last block is finished in any space if nothing is pending, and else if U+FFFD fits.
+/// An empty last block is finished in any space if nothing is pending, and otherwise if U+FFFD fits.
 #[test]
 fn empty_last_block() {
     for room in 0..=3 {

@@ -1,4 +1,4 @@
-//! Where `next_broken` finds broken parts, one behind the other.
+//! The indices at which `next_broken` finds malformed sequences, one after the other.
 mod common;
 
 use common::rows::{fields, named};
@@ -6,12 +6,12 @@ use common::vectors::{length_of, vectors};
 use encoding_text::next_broken;
 use std::ops::Range;
 
-/// A letter, U+2603, a letter, three bytes that begin a character, a letter, and U+1F4A9.
+/// A letter, U+2603, a letter, three bytes of an incomplete sequence, a letter, and U+1F4A9.
 const PATTERN: [u8; 13] = [
     0x61, 0xE2, 0x98, 0x83, 0x62, 0xF0, 0x9F, 0x92, 0x63, 0xF0, 0x9F, 0x92, 0xA9,
 ];
 
-/// Each broken part, found in turn.
+/// Returns each malformed sequence, found in turn.
 fn found_in_turn(bytes: &[u8]) -> Vec<Range<usize>> {
     let mut found = Vec::new();
     let mut at = 0;
@@ -39,7 +39,8 @@ fn finds_those_of_vectors() {
     assert_eq!(vectors.len(), 104);
 }
 
-/// Bytes, and the place and the length of each broken part: Unicode Standard, Tables 3-8 to 3-11, and ends of input.
+/// Bytes, and the index and the length of each malformed sequence: Unicode Standard, Tables 3-8 to 3-11, and ends of
+/// input.
 const ROWS: &str = "\
 C0 AF E0 80 BF F0 81 82 41 | 0+1 1+1 2+1 3+1 4+1 5+1 6+1 7+1
 ED A0 80 ED BF BF ED AF 41 | 0+1 1+1 2+1 3+1 4+1 5+1 6+1 7+1
@@ -52,7 +53,7 @@ F0 91 92 41 42 43 44 | 0+3
 61 62 C3 A4 63 |
 |";
 
-/// The broken part that a word names by its place and its length.
+/// Returns the malformed sequence that a word names by its index and its length.
 fn broken(word: &str) -> Range<usize> {
     let (place, length) = word.split_once('+').unwrap();
     let place = place.parse().unwrap();
@@ -69,7 +70,7 @@ fn finds_those_of_rows() {
     assert_eq!(ROWS.lines().count(), 10);
 }
 
-/// Looks whether the first broken part is found of bytes that stand behind so many letters and begin with it.
+/// Asserts that the first malformed sequence is found if the bytes, which begin with it, follow this many letters.
 fn assert_found_behind(letters: usize, bytes: &[u8], length: usize) {
     let all = [&vec![b'a'; letters], bytes].concat();
     assert_eq!(
@@ -79,7 +80,7 @@ fn assert_found_behind(letters: usize, bytes: &[u8], length: usize) {
     );
 }
 
-/// At each place of a block, and behind more than 64 KiB.
+/// At each index of a block, and after more than 64 KiB.
 #[test]
 fn finds_it_behind_letters() {
     for letters in 0..200 {
@@ -90,7 +91,7 @@ fn finds_it_behind_letters() {
     assert_found_behind(100_000, &[0xE2, 0x98], 2);
 }
 
-/// Of a period of thirteen bytes three are broken, behind the fifth.
+/// Three bytes of a period of thirteen, the sixth to the eighth, are a malformed sequence.
 #[test]
 fn finds_those_of_long_input() {
     let wanted = (0..8000).map(|period| 13 * period + 5..13 * period + 8);

@@ -1,4 +1,4 @@
-//! The decoder over random pieces into random rooms, beside `std` on the whole.
+//! The decoder over random pieces into random rooms, compared with `std` on the whole.
 mod common;
 
 use common::*;
@@ -7,7 +7,7 @@ use encoding_text::{DecoderResult, Utf8Decoder};
 
 const ROUNDS: usize = 4000;
 
-/// The characters of bytes, and for each broken part its length.
+/// Returns the characters of bytes, and the length of each malformed sequence.
 fn parts(bytes: &[u8]) -> Vec<Result<char, u8>> {
     let mut parts = Vec::new();
     for chunk in bytes.utf8_chunks() {
@@ -19,7 +19,7 @@ fn parts(bytes: &[u8]) -> Vec<Result<char, u8>> {
     parts
 }
 
-/// Cuts bytes at random places; the last piece is marked, and may be empty.
+/// Cuts bytes at random indices. The last piece is marked, and may be empty.
 fn pieces<'a>(random: &mut Random, bytes: &'a [u8]) -> Vec<(&'a [u8], bool)> {
     let mut pieces = Vec::new();
     let mut rest = bytes;
@@ -127,7 +127,7 @@ fn borrowed() {
     }
 }
 
-/// A destination of the queried length holds the rest of a stream, with U+FFFD for each report where the query says so.
+/// A destination of the queried length holds the rest of a stream, with U+FFFD for each report if the query says so.
 #[test]
 fn queried_rooms_suffice() {
     let mut random = Random::new(44);

@@ -10,7 +10,7 @@ use encoding_text::{DecoderResult, Utf8Decoder};
 trait Output: Unit {
     fn decode(decoder: &mut Utf8Decoder, src: &[u8], dst: &mut [Self], last: bool) -> (DecoderResult, usize, usize);
 
-    /// Puts a character behind others.
+    /// Appends a character.
     fn push(text: &mut Vec<Self>, character: char);
 }
 
@@ -34,10 +34,10 @@ impl Output for u16 {
     }
 }
 
-/// What decoding delivers: bytes or code units, and for each report how many of them stood before it, and its length.
+/// What decoding yields: bytes or code units, and for each report the number of them before it, and its length.
 type Delivered<U> = (Vec<U>, Vec<(usize, u8)>);
 
-/// What decoding is to deliver.
+/// Returns what decoding has to yield.
 fn wanted<U: Output>(vector: &Vector) -> Delivered<U> {
     let (mut text, mut reports) = (Vec::new(), Vec::new());
     for part in &vector.parts {
@@ -49,7 +49,7 @@ fn wanted<U: Output>(vector: &Vector) -> Delivered<U> {
     (text, reports)
 }
 
-/// What decoding delivers, where the unread bytes are handed in again after each report. Then all is read, and nothing
+/// Returns what decoding yields, if the unread bytes are passed again after each report. Then all is read, and nothing
 /// is pending.
 fn decoded<U: Output>(vector: &Vector) -> Delivered<U> {
     let mut decoder = Utf8Decoder::new_inner();
@@ -93,8 +93,8 @@ fn parts_take_all_bytes() {
     assert_eq!(vectors.len(), 104);
 }
 
-/// What the pieces of a vector deliver, where the unread bytes are handed in, at most so many a call and the last of
-/// them marked so. Then all is read.
+/// Returns what the pieces of a vector yield, if at most `most` unread bytes are passed in each call, and the last of
+/// them is marked. Then all is read.
 fn in_pieces(vector: &Vector, most: usize) -> Delivered<u8> {
     let mut decoder = Utf8Decoder::new_inner();
     let mut unread = &vector.bytes[..];

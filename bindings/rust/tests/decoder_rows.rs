@@ -6,10 +6,10 @@ use common::vectors::part;
 use encoding_text::decoder::Piece;
 use encoding_text::{DecoderResult, Utf8Decoder};
 
-/// What a call returns: the result, how many bytes it read, and how many units it wrote.
+/// What a call returns: the result, the number of bytes read, and the number of units written.
 type Told = (DecoderResult, usize, usize);
 
-/// The number that a field is, in decimal digits. The greatest one is `MAX`, and one below it `MAX - 1`.
+/// Parses a number in decimal digits. The greatest one is `MAX`, and one below it `MAX - 1`.
 fn number(field: &str) -> usize {
     match field.strip_prefix("MAX - ") {
         Some(less) => usize::MAX - less.parse::<usize>().unwrap(),
@@ -18,12 +18,12 @@ fn number(field: &str) -> usize {
     }
 }
 
-/// The length that a field is, or none.
+/// Parses a length, or none.
 fn length(field: &str) -> Option<usize> {
     (field != "None").then(|| number(field))
 }
 
-/// Whether a field marks its call as the last one.
+/// Returns whether a field marks its call as the last one.
 fn is_last(field: &str) -> bool {
     match field {
         "last" => true,
@@ -32,12 +32,12 @@ fn is_last(field: &str) -> bool {
     }
 }
 
-/// The length of the broken part that a field names.
+/// Returns the length of the malformed sequence that a field names.
 fn broken(field: &str) -> u8 {
     field.strip_prefix("Malformed ").unwrap().parse().unwrap()
 }
 
-/// The result that a field names.
+/// Returns the result that a field names.
 fn result_of(field: &str) -> DecoderResult {
     match field {
         "InputEmpty" => DecoderResult::InputEmpty,
@@ -46,7 +46,7 @@ fn result_of(field: &str) -> DecoderResult {
     }
 }
 
-/// The piece that a field names; a text has these bytes.
+/// Returns the piece that a field names; a text has these bytes.
 fn piece_of<'a>(field: &str, text: &'a [u8]) -> Piece<'a> {
     if field.starts_with("Text ") {
         return Piece::Text(std::str::from_utf8(text).unwrap());
@@ -58,7 +58,7 @@ fn piece_of<'a>(field: &str, text: &'a [u8]) -> Piece<'a> {
     }
 }
 
-/// Looks whether the call of a row returns so, writes the units that end the row, and leaves what is behind them.
+/// Asserts that the call of a row has its result and writes the units that end the row, and that the rest is unchanged.
 fn assert_writes<U: Unit>(
     row: &str,
     call: &[&str],
@@ -77,7 +77,7 @@ fn assert_writes<U: Unit>(
     assert_eq!(dst, wanted, "{row}");
 }
 
-/// Looks whether the call without a destination returns the piece of a row, and reads so much.
+/// Asserts that the call without a destination returns the piece of a row and the number of bytes read.
 fn assert_piece(row: &str, call: &[&str], decoder: &mut Utf8Decoder) {
     let [src, last, piece, read] = call[..] else {
         panic!("{row} is no such call");
@@ -88,7 +88,7 @@ fn assert_piece(row: &str, call: &[&str], decoder: &mut Utf8Decoder) {
     assert_eq!(told, (piece_of(piece, &text), number(read)), "{row}");
 }
 
-/// Looks whether the queries return so: of the length, the most code units, bytes, and bytes with replacements.
+/// Asserts the results of the queries: for this length, the most code units, bytes, and bytes with replacements.
 fn assert_queries(row: &str, query: &[&str], decoder: &Utf8Decoder) {
     let [queried, units, bytes, replacing] = query[..] else {
         panic!("{row} is no query");
@@ -102,7 +102,7 @@ fn assert_queries(row: &str, query: &[&str], decoder: &Utf8Decoder) {
     assert_eq!(told, [units, bytes, replacing].map(length), "{row}");
 }
 
-/// Makes the calls of a table one after another, and returns how many rows it has. A row `new` begins a new decoder.
+/// Makes the calls of a table one after another, and returns the number of rows. A row `new` starts a new decoder.
 fn held(rows: &str) -> usize {
     let mut decoder = Utf8Decoder::new_inner();
     for row in rows.lines() {
@@ -121,8 +121,8 @@ fn held(rows: &str) -> usize {
     rows.lines().count()
 }
 
-/// Calls: source, room, mark, result, bytes read, code units written. Where bytes stay pending, the next calls show
-/// which. Bytes that begin like a byte order mark are decoded as any others. 6148914691236517205 is a third of `MAX`.
+/// Calls: source, room, mark, result, bytes read, code units written. If bytes stay pending, the next calls show which.
+/// A byte order mark is decoded like any other character. 6148914691236517205 is a third of `MAX`.
 const ROWS: &str = "\
 new
 utf16 | C3 A4 61 | 1 | more | OutputFull | 2 | 00E4
@@ -302,7 +302,7 @@ fn borrowed_rows_hold() {
 }
 
 /// Of a queried length three bytes take no code unit, and what is left is the query's number for the last byte. `61`
-/// takes a byte, and the four that are left are the query's number for no byte more.
+/// takes a byte, and the four that are left are the query's number for zero bytes.
 #[test]
 fn what_is_left_suffices() {
     let mut decoder = Utf8Decoder::new_inner();
@@ -326,8 +326,8 @@ fn what_is_left_suffices() {
     assert!(needed <= Some(bytes[1..].len()));
 }
 
-/// U+FFFD, written behind a report, takes three bytes of a queried length, and five are left where three are enough. It
-/// takes one code unit, and one is left where one is enough.
+/// U+FFFD, written after a report, takes three bytes of a queried length, and five are left, though three are enough.
+/// It takes one code unit, and one is left, which is enough.
 #[test]
 fn a_replacement_leaves_enough_room() {
     let mut decoder = Utf8Decoder::new_inner();

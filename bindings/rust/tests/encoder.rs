@@ -1,4 +1,4 @@
-//! The encoder over random pieces into random rooms, beside `std` on the whole.
+//! The encoder over random pieces into random rooms, compared with `std` on the whole.
 mod common;
 
 use common::*;
@@ -6,7 +6,7 @@ use encoding_text::{EncoderResult, Utf8Encoder};
 
 const ROUNDS: usize = 4000;
 
-/// Encodes code units in random pieces, the last of them marked where `last` says so.
+/// Encodes code units in random pieces, the last of them marked if `last` says so.
 fn encode(random: &mut Random, encoder: &mut Utf8Encoder, units: &[u16], last: bool) -> Vec<u8> {
     let mut encoded = Vec::new();
     let mut rest = units;
@@ -43,7 +43,7 @@ fn from_utf16() {
     }
 }
 
-/// Code units and texts by turns: what is held before a text becomes U+FFFD.
+/// Code units and texts in turn: a surrogate that is pending before a text becomes U+FFFD.
 #[test]
 fn from_texts_between() {
     let mut random = Random::new(52);

@@ -1,4 +1,4 @@
-//! The encoder on its vectors, into rooms round those that they need, and with and without a held unit.
+//! The encoder on its vectors, into rooms about as long as their UTF-8, and with and without a pending surrogate.
 mod common;
 #[path = "common/runs.rs"]
 mod runs;
@@ -7,7 +7,7 @@ use common::rows::{fields, named, Unit};
 use common::{characters, vectors};
 use encoding_text::{EncoderResult, Utf8Encoder};
 
-/// An encoder that holds what a field says: none, or D83D.
+/// Returns an encoder whose pending surrogate is that of a field: none, or D83D.
 fn encoder_at(held: &str) -> Utf8Encoder {
     let mut encoder = Utf8Encoder::new_inner();
     match held {
@@ -21,7 +21,8 @@ fn encoder_at(held: &str) -> Utf8Encoder {
     encoder
 }
 
-/// Whether an encoder holds what a field says: the query at 0 tells how many units, and a low surrogate then which.
+/// Returns whether the pending surrogate of an encoder is that of a field. The query at 0 shows whether there is one,
+/// and a low surrogate then shows which.
 fn holds(mut encoder: Utf8Encoder, held: &str) -> bool {
     let room = encoder.max_buffer_length_from_utf16_without_replacement(0);
     let (low, pair) = match held {
@@ -35,7 +36,7 @@ fn holds(mut encoder: Utf8Encoder, held: &str) -> bool {
     room == Some(3) && written == 4 && dst == pair
 }
 
-/// What a call is to return, to write, and to leave held.
+/// What a call has to return, to write, and to leave pending.
 struct Wanted<'a> {
     result: EncoderResult,
     read: usize,
@@ -43,7 +44,7 @@ struct Wanted<'a> {
     held: &'a str,
 }
 
-/// Looks whether a call into so much room does what is wanted, and leaves what is behind that.
+/// Asserts that a call into `room` bytes does what is expected, and that the rest is unchanged.
 fn assert_call(
     row: &str,
     mut encoder: Utf8Encoder,
@@ -63,7 +64,7 @@ fn assert_call(
     assert!(holds(encoder, wanted.held), "{row}");
 }
 
-/// Code units and their UTF-8, with the row that they stand in.
+/// Code units and their UTF-8, with their row.
 struct Source {
     row: &'static str,
     units: Vec<u16>,
@@ -82,7 +83,8 @@ fn sources(rows: &'static str) -> Vec<Source> {
     rows.lines().map(source).collect()
 }
 
-/// Looks whether a new encoder reads all of a source, writes these bytes with ample room, and holds this then.
+/// Asserts that a new encoder reads all of a source, writes these bytes into a long destination, and leaves this
+/// surrogate pending.
 fn assert_encodes(source: &Source, last: bool, bytes: &[u8], held: &str) {
     let wanted = Wanted {
         result: EncoderResult::InputEmpty,
@@ -95,7 +97,7 @@ fn assert_encodes(source: &Source, last: bool, bytes: &[u8], held: &str) {
     });
 }
 
-/// The same is written marked last or not, but for a high surrogate that ends a call not marked last.
+/// The same is written whether marked last or not, except for a high surrogate that ends a call not marked last.
 #[test]
 fn encodes_vectors() {
     let vectors = sources(vectors::UNITS);
@@ -110,8 +112,8 @@ fn encodes_vectors() {
     assert_eq!(vectors.len(), 16);
 }
 
-/// Looks whether a new encoder reads so many units of a source into so much room, writes so many of its bytes, and holds
-/// nothing then.
+/// Asserts that a new encoder reads `units` units of a source into `room` bytes, writes the expected prefix of its
+/// bytes, and leaves nothing pending.
 fn assert_encodes_into(source: &Source, room: usize, result: EncoderResult, (units, bytes): (usize, usize)) {
     let wanted = Wanted {
         result,
@@ -124,13 +126,13 @@ fn assert_encodes_into(source: &Source, room: usize, result: EncoderResult, (uni
     });
 }
 
-/// How many units and how many bytes stand before the last character, as `std` has it.
+/// Returns the number of units and the number of bytes before the last character, by `std`.
 fn before_the_last(source: &Source) -> (usize, usize) {
     let (units, character) = *characters(&source.units).last().unwrap();
     (source.units.len() - units, source.bytes.len() - character.len_utf8())
 }
 
-/// Looks whether all is written into 64 bytes that hold 0, 1, 2 and so on, which those behind keep.
+/// Asserts that all is written into 64 bytes that contain 0, 1, 2 and so on, and that the rest of these is unchanged.
 fn assert_keeps_what_is_behind(source: &Source) {
     let mut dst: [u8; 64] = std::array::from_fn(|place| place as u8);
     let mut wanted = dst;
@@ -141,7 +143,7 @@ fn assert_keeps_what_is_behind(source: &Source) {
     assert_eq!(dst, wanted, "{}", source.row);
 }
 
-/// Exactly the size is enough for all, and one byte less for all characters but the last.
+/// Exactly the length is enough for all, and one byte less for all characters but the last.
 #[test]
 fn writes_what_fits() {
     let limits = sources(vectors::LIMITS);
@@ -155,7 +157,7 @@ fn writes_what_fits() {
     assert_eq!(limits.len(), 34);
 }
 
-/// The room that a query tells is enough for its units.
+/// The length that a query returns is enough for its units.
 #[test]
 fn three_bytes_a_unit() {
     let mut encoder = Utf8Encoder::new_inner();
@@ -170,7 +172,7 @@ fn three_bytes_a_unit() {
     );
 }
 
-/// An empty text is read whatever the mark.
+/// An empty text is read with either mark.
 #[test]
 fn empty_text() {
     let wanted = Wanted {
@@ -182,8 +184,8 @@ fn empty_text() {
     assert_text("no text", "none", "", 0, &wanted);
 }
 
-/// Code units: held before, source, room, mark, result, units read, bytes written, held after. Texts, with either mark:
-/// held before, text, room, result, bytes read, bytes written, held after.
+/// Code units: pending before, source, room, mark, result, units read, bytes written, pending after. Texts, with either
+/// mark: pending before, text, room, result, bytes read, bytes written, pending after.
 const ROWS: &str = "\
 units | none | 0063 D83D DCA9 | 4 | more | OutputFull | 1 | 63 | none
 units | none | 0063 D83D DCA9 | 4 | last | OutputFull | 1 | 63 | none
@@ -209,7 +211,7 @@ text | D83D | a | 4 | InputEmpty | 1 | EF BF BD 61 | none
 text | D83D | a | 3 | OutputFull | 0 | EF BF BD | none
 text | D83D | | 2 | OutputFull | 0 | | D83D";
 
-/// What the last fields of a row say: the result, how much is read, and what is held then; and the bytes that are
+/// Parses the last fields of a row: the result, how much is read, and what is pending then; and the bytes that are
 /// written.
 fn wanted<'a>(row: &str, [result, read, held]: [&'a str; 3], bytes: &'a [u8]) -> Wanted<'a> {
     Wanted {
@@ -224,8 +226,8 @@ fn wanted<'a>(row: &str, [result, read, held]: [&'a str; 3], bytes: &'a [u8]) ->
     }
 }
 
-/// Looks whether the call on a text does what is wanted, with either mark: the crate's, and the library's, which the
-/// crate's doesn't make.
+/// Asserts that the call on a text does what is expected, with either mark: the crate's call, and the library's, which
+/// the crate's doesn't use.
 fn assert_text(row: &str, before: &str, text: &str, room: usize, wanted: &Wanted) {
     for last in [false, true] {
         assert_call(row, encoder_at(before), room, wanted, |encoder, dst| {
@@ -283,7 +285,7 @@ fn a_pair_cut_between_calls() {
     assert_eq!(dst, [0xF0, 0x9F, 0x92, 0xA9]);
 }
 
-/// Looks whether the queries return so: of the length, the most bytes for so many units, and for a text of so many bytes.
+/// Asserts the results of the queries: the most bytes for `length` units, and for a text of `length` bytes.
 fn assert_queries(held: &str, length: usize, from_utf16: Option<usize>, from_utf8: Option<usize>) {
     let encoder = encoder_at(held);
     let answers = (

@@ -8,7 +8,7 @@ use common::vectors::{LIMITS, UNITS};
 use encoding_text::EncoderResult;
 use runs::*;
 
-/// Source, turns, room of the destination, how much is read, the last answer, output, and what is held then.
+/// Source, turns, room of the destination, how much is read, the last result, output, and what is pending then.
 const ROWS: &str = "\
 D83D DCA9 0062 | 4 1 4 last | 10 | 3 | empty | F0 9F 92 A9 62 | none
 D83D DCA9 | 3 1 3 last | 10 | 1 | full | | D83D
@@ -18,7 +18,7 @@ D83D D83D | 3 1 4 last | 6 | 2 | empty | EF BF BD EF BF BD | none
 D83D | 1 1 0 more | 0 | 1 | empty | | D83D
 D83D | | 6 | 0 | none | | none";
 
-/// The last answer that a field names.
+/// Returns the last result that a field names.
 fn answer(field: &str) -> Option<EncoderResult> {
     match field {
         "none" => None,
@@ -28,13 +28,13 @@ fn answer(field: &str) -> Option<EncoderResult> {
     }
 }
 
-/// The held unit that a field names.
+/// Returns the pending surrogate that a field names.
 fn held(field: &str) -> Option<u16> {
     (field != "none").then(|| u16::named(field))
 }
 
-/// Looks whether the run of a row comes so far, writes the bytes of the row, leaves what is behind them, and holds this
-/// then.
+/// Asserts that the run of a row reads as much as it says, writes its bytes, leaves the rest unchanged, and has this
+/// surrogate pending.
 fn assert_row_holds(row: &str) {
     let row_fields: Vec<&str> = row.split('|').map(str::trim).collect();
     let [src, turns, room, read, last, bytes, unit] = row_fields[..] else {
@@ -58,7 +58,7 @@ fn rows_hold() {
     assert_eq!(ROWS.lines().count(), 7);
 }
 
-/// Looks whether turns that each take so many code units write the UTF-8 of all of them into three bytes for each.
+/// Asserts that turns that each take `take` code units write the UTF-8 of all of them into three bytes for each.
 fn assert_encoded(units: &[u16], bytes: &[u8], take: usize) {
     let mut encoder = Encoder::default();
     let mut dst = [0x71; 64];
@@ -80,7 +80,7 @@ fn assert_encoded_by_turns(units: &[u16], bytes: &[u8]) {
     }
 }
 
-/// Looks whether the rows hold by turns, and returns how many they are.
+/// Asserts that the rows hold by turns, and returns the number of rows.
 fn held_by_turns(rows: &str) -> usize {
     for (units, bytes) in rows.lines().map(fields) {
         assert_encoded_by_turns(&named::<u16>(units), &named::<u8>(bytes));
@@ -98,7 +98,7 @@ fn limits_by_turns() {
     assert_eq!(held_by_turns(LIMITS), 34);
 }
 
-/// The units whose UTF-8 takes all of the room.
+/// The units whose UTF-8 fills the destination.
 #[test]
 fn three_bytes_a_unit_by_turns() {
     let units = [0x2C9F, 0x2CA9, 0x2CA3, 0x2C9F];

@@ -1,8 +1,8 @@
-//! Classes of Latin1 and right-to-left text at every length up to 256, of which more and more leaves Latin1.
+//! Classes of Latin1 and right-to-left text at every length up to 256, with a growing prefix above Latin1.
 
 use encoding_text::mem::*;
 
-/// Looks whether the checks of the code units, of their text and of its bytes find this class.
+/// Asserts that the checks of the code units, of their text and of its bytes find this class.
 fn assert_class(units: &[u16], class: Latin1Bidi) {
     let text = String::from_utf16(units).unwrap();
     assert_eq!(check_utf16_for_latin1_and_bidi(units), class, "{units:x?}");

@@ -1,5 +1,5 @@
-//! Each conversion of whole buffers, and each call of the decoder and the encoder, over every length, from each of sixteen
-//! places, with another character at every place, beside rows that state each character in both encodings.
+//! Each conversion of whole buffers, and each call of the decoder and the encoder: over every length, from each of
+//! sixteen offsets, with another character at every index. Rows list each character in both encodings.
 mod common;
 
 use common::rows::{items, items_backwards, Unit};
@@ -9,7 +9,7 @@ use encoding_text::mem::*;
 use encoding_text::utf_8::convert_utf8_to_utf16_up_to_invalid;
 use encoding_text::{DecoderResult, EncoderResult, Utf8Decoder, Utf8Encoder};
 
-/// A letter, and characters that stand round another, in UTF-8 and UTF-16.
+/// A letter, and characters that surround another, in UTF-8 and UTF-16.
 const LETTER: &str = "62 | 0062";
 const FILLERS: &str = "\
 61 | 0061
@@ -27,20 +27,20 @@ EF BF BF | FFFF
 F0 90 80 80 | D800 DC00
 F4 8F BF BF | DBFF DFFF";
 
-/// Broken parts of UTF-8, and U+FFFD for each.
+/// Malformed sequences of UTF-8, and U+FFFD for each.
 const BROKEN: &str = "\
 80 | FFFD
 E2 98 | FFFD
 F0 9F 92 | FFFD
 ED A0 80 | FFFD FFFD FFFD";
 
-/// U+FFFD in UTF-8, and lone surrogates.
+/// U+FFFD in UTF-8, and unpaired surrogates.
 const LONE: &str = "\
 EF BF BD | D800
 EF BF BD | DFFF
 EF BF BD EF BF BD | DE00 D83D";
 
-/// Characters in UTF-8 that stand round another, as they come out.
+/// Characters in UTF-8 that surround another, as they are written.
 const WHOLE_LETTER: &str = "62 | 62";
 const WHOLE_FILLERS: &str = "\
 61 | 61
@@ -55,7 +55,7 @@ C2 80 | C2 80
 EF BF BF | EF BF BF
 F4 8F BF BF | F4 8F BF BF";
 
-/// Broken parts, and U+FFFD for each.
+/// Malformed sequences, and U+FFFD for each.
 const REPAIRED: &str = "\
 80 | EF BF BD
 E2 98 | EF BF BD
@@ -94,7 +94,7 @@ const LOW_BITS: &str = "\
 80 | 0080
 FF | D8FF";
 
-/// What rows say: a letter, the characters that stand round others, and the others.
+/// Parses rows: a letter, the characters that surround others, and the others.
 fn items_of<S: Unit, D: Unit>(letter: &str, fillers: &str, others: &str) -> Items<S, D> {
     Items {
         letter: items(letter).remove(0),
@@ -103,7 +103,7 @@ fn items_of<S: Unit, D: Unit>(letter: &str, fillers: &str, others: &str) -> Item
     }
 }
 
-/// The same of rows that are read backwards.
+/// Parses the same rows backwards.
 fn items_back<S: Unit, D: Unit>(letter: &str, fillers: &str, others: &str) -> Items<S, D> {
     Items {
         letter: items_backwards(letter).remove(0),
@@ -174,7 +174,7 @@ fn from_latin1_to_utf8() {
     assert_eq!(held(&bytes, into_room(2, 0), whole), 12);
 }
 
-/// Sixteen bytes behind what is written become zero, or as many as there are.
+/// Sixteen bytes after what is written become zero, or all if there are fewer.
 #[test]
 fn from_latin1_into_text() {
     let bytes = items_of(WHOLE_LETTER, "61 | 61\nE4 | C3 A4", LATIN1);
@@ -212,14 +212,14 @@ fn to_latin1_and_from_it() {
 /// How many calls a source takes at most: one for each report, and the last.
 const CALLS: usize = 4;
 
-/// Writes units at a place, and returns the place behind them.
+/// Writes units at an index, and returns the index after them.
 fn put<D: Unit>(dst: &mut [D], at: usize, units: &[D]) -> usize {
     dst[at..at + units.len()].copy_from_slice(units);
     at + units.len()
 }
 
-/// What calls read and wrote, with U+FFFD written for each report, until one ends as it is to: with all read, or without
-/// room.
+/// Returns what calls read and wrote, with U+FFFD written for each report, until one ends as expected: after reading
+/// all, or with a full destination.
 fn decode<D: Unit>(
     src: &[u8],
     dst: &mut [D],
@@ -244,7 +244,7 @@ fn decode<D: Unit>(
     panic!("more reports than broken parts");
 }
 
-/// Calls of `decode_to_utf16_raw` marked last.
+/// Makes calls of `decode_to_utf16_raw` marked last.
 fn decode_to_utf16(src: &[u8], dst: &mut [u16]) -> (usize, usize) {
     let mut decoder = Utf8Decoder::new_inner();
     decode(src, dst, &[0xFFFD], |src, dst| {
@@ -252,7 +252,7 @@ fn decode_to_utf16(src: &[u8], dst: &mut [u16]) -> (usize, usize) {
     })
 }
 
-/// Calls of `decode_to_utf8_raw` marked last.
+/// Makes calls of `decode_to_utf8_raw` marked last.
 fn decode_to_utf8(src: &[u8], dst: &mut [u8]) -> (usize, usize) {
     let mut decoder = Utf8Decoder::new_inner();
     decode(src, dst, "\u{FFFD}".as_bytes(), |src, dst| {
@@ -260,7 +260,8 @@ fn decode_to_utf8(src: &[u8], dst: &mut [u8]) -> (usize, usize) {
     })
 }
 
-/// Calls of `decode_borrowed` marked last, whose texts are copied, with U+FFFD written for each broken part.
+/// Makes calls of `decode_borrowed` marked last. Their texts are copied, with U+FFFD written for each malformed
+/// sequence.
 fn decode_borrowed(src: &[u8], dst: &mut [u8]) -> (usize, usize) {
     let mut decoder = Utf8Decoder::new_inner();
     let (mut read, mut written) = (0, 0);
@@ -277,14 +278,14 @@ fn decode_borrowed(src: &[u8], dst: &mut [u8]) -> (usize, usize) {
     panic!("more pieces than texts and broken parts");
 }
 
-/// `encode_from_utf16_raw`, marked last.
+/// Calls `encode_from_utf16_raw`, marked last.
 fn encode_from_utf16(src: &[u16], dst: &mut [u8]) -> (usize, usize) {
     let (result, read, written) = Utf8Encoder::new_inner().encode_from_utf16_raw(src, dst, true);
     assert_eq!(result == EncoderResult::InputEmpty, read == src.len());
     (read, written)
 }
 
-/// `encode_from_utf8_raw`, marked last.
+/// Calls `encode_from_utf8_raw`, marked last.
 fn encode_from_utf8(src: &[u8], dst: &mut [u8]) -> (usize, usize) {
     let (result, read, written) = Utf8Encoder::new_inner().encode_from_utf8_raw(text(src), dst, true);
     assert_eq!(result == EncoderResult::InputEmpty, read == src.len());

@@ -1,4 +1,5 @@
-//! Streams cut everywhere: the decoder's vectors and the encoder's over every cut and into every small room.
+//! Streams cut everywhere: the decoder's vectors and the encoder's with every set of cuts and into every short
+//! destination.
 mod common;
 
 use common::rows::{items, Item};
@@ -31,7 +32,8 @@ const FORMS: [[Form; 3]; 9] = [
 /// How many calls a piece takes at most.
 const CALLS: usize = 32;
 
-/// The pieces of a list: cut at each place that has a bit, the lowest for the one before the first. The last is marked.
+/// Returns the pieces of a list: cut at each index whose bit is set, the lowest for a cut before the first item. The
+/// last is marked.
 fn pieces<T>(all: &[T], cuts: u32) -> impl Iterator<Item = (&[T], bool)> {
     let mut places: Vec<usize> = (0..=all.len()).filter(|place| cuts >> place & 1 == 1).collect();
     let last = places.len();
@@ -40,7 +42,7 @@ fn pieces<T>(all: &[T], cuts: u32) -> impl Iterator<Item = (&[T], bool)> {
     (0..=last).map(move |i| (&all[places[i]..places[i + 1]], i == last))
 }
 
-/// Calls of a decoder in a chain, and what they delivered.
+/// Calls of a decoder in a chain, and what they yielded.
 struct Chain {
     decoder: Utf8Decoder,
     forms: [Form; 3],
@@ -50,7 +52,7 @@ struct Chain {
 }
 
 impl Chain {
-    /// Notes a result, and returns whether it is `InputEmpty`.
+    /// Records a result, and returns whether it is `InputEmpty`.
     fn ends(&mut self, result: DecoderResult) -> bool {
         if let DecoderResult::Malformed(length, behind) = result {
             self.delivered.push(Err(length + behind));
@@ -58,8 +60,8 @@ impl Chain {
         result == DecoderResult::InputEmpty
     }
 
-    /// Makes the next call, of the form whose turn it is, into so much room or, where that is not enough, what any
-    /// character needs. Returns how many bytes are read, and whether the call ended with `InputEmpty`.
+    /// Makes the next call, of the form whose turn it is, into `room` units or, if that is not enough, into as many as
+    /// any character takes. Returns the number of bytes read, and whether the call ended with `InputEmpty`.
     fn call(&mut self, src: &[u8], last: bool, enough: bool) -> (usize, bool) {
         let form = self.forms[self.calls % 3];
         self.calls += 1;
@@ -99,8 +101,8 @@ impl Chain {
         }
     }
 
-    /// Hands in a piece until `InputEmpty` is returned, when all of it is read. A call that gets nowhere is followed by one
-    /// with enough room.
+    /// Passes a piece until `InputEmpty` is returned, when all of it is read. A call that makes no progress is followed
+    /// by one with enough room.
     fn hand_in(&mut self, piece: &[u8], last: bool) {
         let mut unread = piece;
         let mut stuck = false;
@@ -118,7 +120,7 @@ impl Chain {
     }
 }
 
-/// Looks whether the bytes, cut so, come in these parts, and nothing is pending then.
+/// Asserts that the bytes, with these cuts, yield these parts, and that nothing is pending then.
 fn assert_delivered(bytes: &[u8], cuts: u32, room: usize, forms: [Form; 3], parts: &[Part]) {
     let mut chain = Chain {
         decoder: Utf8Decoder::new_inner(),
@@ -134,7 +136,7 @@ fn assert_delivered(bytes: &[u8], cuts: u32, room: usize, forms: [Form; 3], part
     assert!(chain.decoder.in_neutral_state(), "{bytes:x?}, {cuts:b}, {room}");
 }
 
-/// All sets of cuts: so also each cut in two, each in three, and one byte a piece.
+/// All sets of cuts, so also each cut in two, each in three, and one byte per piece.
 #[test]
 fn of_the_decoder() {
     let vectors = vectors();
@@ -150,7 +152,8 @@ fn of_the_decoder() {
     assert_eq!(vectors.len(), 104);
 }
 
-/// Hands in code units until all are read: each call's bytes go on with what is wanted, which is left without them.
+/// Passes code units until all are read. Each call's bytes are the next of those expected, which are removed from
+/// these.
 fn encode(encoder: &mut Utf8Encoder, piece: &[u16], last: bool, room: usize, wanted: &mut &[u8]) {
     let mut unread = piece;
     let mut stuck = false;
@@ -172,7 +175,7 @@ fn encode(encoder: &mut Utf8Encoder, piece: &[u16], last: bool, room: usize, wan
     panic!("no end after {CALLS} calls");
 }
 
-/// Looks whether an encoder writes these bytes for code units that are cut so, and holds nothing then.
+/// Asserts that an encoder writes these bytes for code units with these cuts, and has nothing pending then.
 fn assert_encoded(mut encoder: Utf8Encoder, units: &[u16], cuts: u32, room: usize, bytes: &[u8]) {
     let mut wanted = bytes;
     for (piece, last) in pieces(units, cuts) {
@@ -182,7 +185,7 @@ fn assert_encoded(mut encoder: Utf8Encoder, units: &[u16], cuts: u32, room: usiz
     assert_eq!(encoder.max_buffer_length_from_utf16_without_replacement(0), Some(0));
 }
 
-/// From a new encoder, and from one that holds D83D.
+/// From a new encoder, and from one with D83D pending.
 #[test]
 fn of_the_encoder() {
     let sources: Vec<Item<u16, u8>> = [UNITS, LIMITS].into_iter().flat_map(items).collect();

@@ -1,6 +1,6 @@
-//! Exact lengths in another encoding: one character or broken part among others of one kind, at each place of a text
-//! that is longer than a piece and what is left behind pieces. The crate has no calls for them, so the functions of the
-//! library are declared here.
+//! Exact lengths in another encoding: one character or malformed sequence among others of one kind, at each index of a
+//! text that is longer than a piece and its remainder. The crate has no calls for them, so the functions of the library
+//! are declared here.
 mod common;
 
 use common::rows::{around, fields, named, Unit};
@@ -14,29 +14,29 @@ extern "C" {
 }
 
 fn utf16_length_from_utf8(src: &[u8]) -> usize {
-    // SAFETY: it reads so many bytes from the pointer on, which are those of the slice, and takes any.
+    // SAFETY: it reads as many bytes from the pointer on as the slice has, and takes any.
     unsafe { encoding_text_mem_utf16_length_from_utf8(src.as_ptr(), src.len()) }
 }
 
 fn utf8_length_from_utf16(src: &[u16]) -> usize {
-    // SAFETY: it reads so many code units from the pointer on, which are those of the slice, and takes any.
+    // SAFETY: it reads as many code units from the pointer on as the slice has, and takes any.
     unsafe { encoding_text_mem_utf8_length_from_utf16(src.as_ptr(), src.len()) }
 }
 
 fn utf8_length_from_latin1(src: &[u8]) -> usize {
-    // SAFETY: it reads so many bytes from the pointer on, which are those of the slice, and takes any.
+    // SAFETY: it reads as many bytes from the pointer on as the slice has, and takes any.
     unsafe { encoding_text_mem_utf8_length_from_latin1(src.as_ptr(), src.len()) }
 }
 
 fn latin1_length_from_utf8(src: &[u8]) -> usize {
-    // SAFETY: it reads so many bytes from the pointer on, which are those of the slice, and refuses what isn't Latin1.
+    // SAFETY: it reads as many bytes from the pointer on as the slice has, and refuses what isn't Latin1.
     unsafe { encoding_text_mem_latin1_length_from_utf8(src.as_ptr(), src.len()) }
 }
 
-/// How often the filler stands in a text.
+/// How often the filler is in a text.
 const FILLERS_IN_TEXT: usize = 90;
 
-/// What rows say: units, and the length that they have in the other encoding.
+/// Parses rows: units, and their length in the other encoding.
 fn lengths<T: Unit>(rows: &str) -> Vec<(Vec<T>, usize)> {
     let length = |row| {
         let (units, length) = fields(row);
@@ -45,8 +45,8 @@ fn lengths<T: Unit>(rows: &str) -> Vec<(Vec<T>, usize)> {
     rows.lines().map(length).collect()
 }
 
-/// Looks whether texts of each of the edges at each place among each of the fillers have the lengths of their parts;
-/// counts edges among fillers.
+/// Asserts that texts with each of the edges at each index among each of the fillers have the sum of the lengths of
+/// their parts. Returns the number of pairs of an edge and a filler.
 fn at_each_place<T: Unit>(fillers: &str, edges: &str, length_of: fn(&[T]) -> usize) -> usize {
     let (fillers, edges) = (lengths::<T>(fillers), lengths::<T>(edges));
     for (filler, filler_length) in &fillers {
@@ -61,14 +61,14 @@ fn at_each_place<T: Unit>(fillers: &str, edges: &str, length_of: fn(&[T]) -> usi
     fillers.len() * edges.len()
 }
 
-/// Bytes that stand round others, and their number of code units.
+/// Bytes that surround others, and their number of code units.
 const BYTE_FILLERS: &str = "\
 61 | 1
 D0 B0 | 1
 E4 B8 80 | 1
 F0 9F 98 80 | 2";
 
-/// Characters and broken parts, and their number of code units: Encoding Standard, UTF-8 decoder.
+/// Characters and malformed sequences, and their number of code units: Encoding Standard, UTF-8 decoder.
 const BYTE_EDGES: &str = "\
 7F | 1
 C2 80 | 1
@@ -97,14 +97,14 @@ fn code_units_of_bytes() {
     assert_eq!(utf16_length_from_utf8(&[]), 0);
 }
 
-/// Code units that stand round others, and their number of bytes.
+/// Code units that surround others, and their number of bytes.
 const UNIT_FILLERS: &str = "\
 0061 | 1
 0430 | 2
 4E00 | 3
 D83D DE00 | 4";
 
-/// Characters and lone surrogates, and their number of bytes: Unicode Standard, section 3.9, with U+FFFD for the
+/// Characters and unpaired surrogates, and their number of bytes: Unicode Standard, section 3.9, with U+FFFD for the
 /// latter.
 const UNIT_EDGES: &str = "\
 007F | 1
@@ -126,7 +126,7 @@ fn bytes_of_code_units() {
     assert_eq!(utf8_length_from_utf16(&[]), 0);
 }
 
-/// Bytes that stand round another, and the length of the UTF-8 of each.
+/// Bytes that surround another, and the length of the UTF-8 of each.
 const LATIN1_FILLERS: [(u8, usize); 2] = [(0x61, 1), (0xE4, 2)];
 
 /// Bytes at the edges of lengths and of first bytes, and the UTF-8 of each.
@@ -137,7 +137,7 @@ const LATIN1_EDGES: [(u8, &[u8]); 4] = [
     (0xFF, &[0xC3, 0xBF]),
 ];
 
-/// Each byte, at each place of so many of another, has its UTF-8 beside theirs; and its UTF-8 among letters is Latin1
+/// Each byte, at each index among others, adds the length of its UTF-8 to theirs; and its UTF-8 among letters is Latin1
 /// with one character for each byte.
 #[test]
 fn latin1_and_its_utf8() {
@@ -160,7 +160,7 @@ fn latin1_and_its_utf8() {
     assert_latin1_of_length(&[], 0);
 }
 
-/// Looks whether the text is Latin1 in UTF-8 and has so many characters.
+/// Asserts that the text is Latin1 in UTF-8 and has `length` characters.
 fn assert_latin1_of_length(text: &[u8], length: usize) {
     assert!(is_utf8_latin1(text), "{text:x?}");
     assert_eq!(latin1_length_from_utf8(text), length, "{text:x?}");

@@ -1,22 +1,22 @@
-//! Slices of every length at every alignment, with another unit at every place: scans and copies of ASCII, Latin1 to
-//! UTF-16 and back, and where text breaks.
+//! Slices of every length at every alignment, with another unit at every index: scans and copies of ASCII, Latin1 to
+//! UTF-16 and back, and the end of the well-formed prefix.
 
 use encoding_text::ascii::*;
 use encoding_text::mem::*;
 use encoding_text::utf_8::utf8_valid_up_to;
 
-/// The longest slice. It stands between units that no call may read or write, at least 15 on either side.
+/// The longest slice. It is between units that no call may read or write, at least 15 on either side.
 const LONGEST: usize = 130;
 
-/// What a slice stands in.
+/// The length of the array around a slice.
 const ROOM: usize = 160;
 
-/// What a place of the slice holds, from 0x20 to 0x5F.
+/// Returns the element at an index of the slice, from 0x20 to 0x5F.
 fn letter(place: usize) -> u8 {
     0x20 + (place & 0x3F) as u8
 }
 
-/// A slice of letters at a start, with one other unit, and such units around it.
+/// Returns a slice of letters at a start, with one other unit, and such units around it.
 fn with_other<T: Copy + From<u8>>(start: usize, length: usize, place: usize, other: T, around: T) -> [T; ROOM] {
     let mut units = [around; ROOM];
     for (at, unit) in units[start..start + length].iter_mut().enumerate() {
@@ -25,12 +25,12 @@ fn with_other<T: Copy + From<u8>>(start: usize, length: usize, place: usize, oth
     units
 }
 
-/// So many letters at a start, and 0x71 everywhere else.
+/// Returns `count` letters at a start, and 0x71 everywhere else.
 fn letters<T: Copy + From<u8>>(start: usize, count: usize) -> [T; ROOM] {
     with_other(start, count, ROOM, 0x71.into(), 0x71.into())
 }
 
-/// Whether the scans and copies of bytes stop at the other byte.
+/// Returns whether the scans and copies of bytes stop at the other byte.
 fn bytes_stop(start: usize, length: usize, other: usize) -> bool {
     let slice = start..start + length;
     let bytes = with_other(start, length, other, 0xAA, 0xC3);
@@ -59,13 +59,13 @@ fn bytes_stop(start: usize, length: usize, other: usize) -> bool {
 /// Bytes that end a prefix of ISO-2022-JP.
 const ENDS: [u8; 4] = [0x0E, 0x0F, 0x1B, 0x80];
 
-/// Whether a prefix of ISO-2022-JP stops at such a byte, of which each comes to stand at each place.
+/// Returns whether a prefix of ISO-2022-JP stops at such a byte. Each of them is put at each index.
 fn iso_2022_jp_stops(start: usize, length: usize, other: usize) -> bool {
     let bytes = with_other(start, length, other, ENDS[start & 3], 0xC3);
     iso_2022_jp_ascii_valid_up_to(&bytes[start..start + length]) == other.min(length)
 }
 
-/// Whether the scans and the copy of code units stop at the other one.
+/// Returns whether the scans and the copy of code units stop at the other one.
 fn units_stop(start: usize, length: usize, other: usize) -> bool {
     let slice = start..start + length;
     let units = with_other(start, length, other, 0xAA, 0xDC00);
@@ -86,7 +86,7 @@ fn units_stop(start: usize, length: usize, other: usize) -> bool {
         && bytes == letters::<u8>(start, front)
 }
 
-/// Whether Latin1 comes back from UTF-16 as it was, and the units behind it are as before.
+/// Returns whether Latin1 to UTF-16 and back yields the same bytes, and the rest of each destination is unchanged.
 fn latin1_comes_back(start: usize, length: usize, other: usize) -> bool {
     let slice = start..start + length;
     let bytes = with_other(start, length, other, 0xAA, 0xC3);
@@ -112,10 +112,11 @@ fn each_length_alignment_and_place() {
     }
 }
 
-/// Lengths round those that checks and scans cover by one test.
+/// Lengths around those that checks and scans cover with one test.
 const LONG: [usize; 9] = [255, 256, 257, 511, 512, 513, 1023, 1024, 1025];
 
-/// Whether the check and the scan of so many letters, between bytes that are no ASCII, stop at the other byte.
+/// Returns whether the check and the scan of `length` letters, between bytes that are not ASCII, stop at the other
+/// byte.
 fn long_letters_stop(length: usize, other: usize) -> bool {
     let mut bytes = [0xC3; 1040];
     for (at, byte) in bytes.iter_mut().enumerate().skip(1).take(length) {
@@ -137,7 +138,7 @@ fn each_place_of_long_letters() {
 /// A character of each length.
 const CHARACTERS: [&[u8]; 4] = [&[0x61], &[0xC3, 0xA4], &[0xE2, 0x98, 0x83], &[0xF0, 0x9F, 0x92, 0xA9]];
 
-/// Whether so many letters, then such characters, are valid up to the byte that breaks them.
+/// Returns whether `letters` letters, then such characters, are valid up to the malformed byte.
 fn is_valid_up_to_break(letters: usize, character: &[u8], length: usize, broken: usize) -> bool {
     let mut text = [0; ROOM];
     for (place, byte) in text.iter_mut().enumerate() {
@@ -167,7 +168,7 @@ fn each_length_of_text_and_break() {
     }
 }
 
-/// The units from one on to 0x7F, of which then the first one, two and so on become 0xA0, are ASCII where none does.
+/// The units from one on to 0x7F are ASCII, and no more once the first one, two and so on are 0xA0.
 #[test]
 fn each_end_of_ascii() {
     for start in 0..0x80 {
@@ -180,8 +181,8 @@ fn each_end_of_ascii() {
     }
 }
 
-/// The units from one on to 0xFF, of which then the first ones become 0x100, 0x101 and so on, are Latin1 where none does:
-/// as units, as a text and as its bytes.
+/// The units from one on to 0xFF are Latin1, and no more once the first ones are 0x100, 0x101 and so on: as units, as a
+/// text and as its bytes.
 #[test]
 fn each_end_of_latin1() {
     for start in 0..0x100 {

@@ -1,15 +1,15 @@
-//! Checks of bytes and texts beside plain loops: one sequence among others of one kind at each place, over each length,
-//! seen from each of sixteen places on.
+//! Checks of bytes and texts compared with plain loops: one sequence among others of one kind at each index, over each
+//! length, from each of sixteen offsets.
 mod common;
 
 use common::{class_of, front, is_right_to_left};
 use encoding_text::mem::*;
 use encoding_text::utf_8::utf8_valid_up_to;
 
-/// What the texts stand in.
+/// The length of the array around the texts.
 const ROOM: usize = 232;
 
-/// The length of the longest prefix that is the UTF-8 of scalar values up to U+00FF.
+/// Returns the length of the longest prefix that is the UTF-8 of scalar values up to U+00FF.
 fn latin1_front(src: &[u8]) -> usize {
     let mut front = 0;
     let mut is_open = false;
@@ -26,13 +26,13 @@ fn latin1_front(src: &[u8]) -> usize {
     front
 }
 
-/// Whether the calls on Latin1 prefixes of bytes agree with a plain loop.
+/// Returns whether the calls on Latin1 prefixes of bytes agree with a plain loop.
 fn fronts_agree(src: &[u8]) -> bool {
     let latin1 = latin1_front(src);
     utf8_latin1_up_to(src) == latin1 && is_utf8_latin1(src) == (latin1 == src.len())
 }
 
-/// Whether the calls on UTF-8 agree with std and a loop over its characters.
+/// Returns whether the calls on UTF-8 agree with `std` and a loop over its characters.
 fn texts_agree(src: &[u8]) -> bool {
     match std::str::from_utf8(src) {
         Ok(text) => {
@@ -55,12 +55,13 @@ fn texts_agree(src: &[u8]) -> bool {
     }
 }
 
-/// Puts a sequence at a place.
+/// Writes a sequence at an index.
 fn put(room: &mut [u8], place: usize, sequence: &[u8]) {
     room[place..place + sequence.len()].copy_from_slice(sequence);
 }
 
-/// Whether all calls agree, with the sequence at each place of so many bytes, where a character of `others` begins.
+/// Returns whether all calls agree, with the sequence at each index of `length` bytes at which a character of `others`
+/// starts.
 fn agree_at_each_place(room: &[u8; ROOM], from: usize, length: usize, step: usize, sequence: &[u8]) -> bool {
     (0..length).step_by(step).all(|place| {
         let mut seen = *room;
@@ -70,8 +71,8 @@ fn agree_at_each_place(room: &[u8; ROOM], from: usize, length: usize, step: usiz
     })
 }
 
-/// Whether all calls agree, with the sequence at each place of each length below a bound, in a room that the others fill
-/// over and over from a place on.
+/// Returns whether all calls agree, with the sequence at each index of each length below a bound, in an array that
+/// repeats the others from an offset on.
 fn agree_over_lengths(from: usize, bound: usize, others: char, sequence: &[u8]) -> bool {
     let mut room = [0; ROOM];
     for part in room[from..].chunks_mut(others.len_utf8()) {
@@ -81,7 +82,7 @@ fn agree_over_lengths(from: usize, bound: usize, others: char, sequence: &[u8]) 
     (0..bound).all(|length| agree_at_each_place(&room, from, length, others.len_utf8(), sequence))
 }
 
-/// U+0590, and a byte that no character begins with, among letters, from each place on.
+/// U+0590, and a byte that is never leading, among letters, from each offset on.
 #[test]
 fn from_each_place_on() {
     for from in 0..16 {
@@ -134,7 +135,7 @@ fn among_longer_characters() {
     }
 }
 
-/// Whether the calls on UTF-8 agree, with the sequence at a place of a long text that begins with U+00E4.
+/// Returns whether the calls on UTF-8 agree, with the sequence at an index of a long text that starts with U+00E4.
 fn agree_in_long_text(place: usize, sequence: &[u8]) -> bool {
     let mut text = [b'a'; 8300];
     put(&mut text, 0, &[0xC3, 0xA4]);
@@ -142,7 +143,7 @@ fn agree_in_long_text(place: usize, sequence: &[u8]) -> bool {
     texts_agree(&text)
 }
 
-/// Where a text is validated piece by piece.
+/// A text that is validated piece by piece.
 #[test]
 fn over_the_seam_of_pieces() {
     for place in 4088..4100 {
@@ -154,11 +155,11 @@ fn over_the_seam_of_pieces() {
     }
 }
 
-/// The length of a text that goes over to letters and back.
+/// The length of a text that changes to letters and back.
 const LONG: usize = 900;
 
-/// Whether the longest prefix ends as std says, whole and with a broken byte at each place: characters of two bytes,
-/// then so many letters from a place on, then such characters again.
+/// Returns whether the longest prefix ends as with `std`, well-formed and with a malformed byte at each index:
+/// characters of two bytes, then `letters` letters from an index on, then such characters again.
 fn ends_at_each_break(from: usize, letters: usize) -> bool {
     let mut text = [0xA9; LONG];
     for place in (0..LONG).step_by(2) {

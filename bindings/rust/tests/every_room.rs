@@ -1,6 +1,6 @@
-//! Conversions into rooms round the seams of blocks, from and to each of sixteen places: UTF-8 with each vector among
-//! characters of one kind, at each place, by conversions and by the decoder; code units and Latin1 to UTF-8, and Latin1
-//! back. Each beside a walk over the characters.
+//! Conversions into destinations whose length is near a boundary of blocks, from and to each of sixteen offsets. UTF-8
+//! with each vector among characters of one kind, at each index, by conversions and by the decoder; code units and
+//! Latin1 to UTF-8, and Latin1 back. Each is compared with a walk over the characters.
 mod common;
 
 use common::rows::{around, assert_written, fields, named, Unit};
@@ -10,26 +10,26 @@ use encoding_text::utf_8::convert_utf8_to_utf16_up_to_invalid;
 use encoding_text::{DecoderResult, Utf8Decoder};
 use std::fmt::Debug;
 
-/// Characters that stand round a vector.
+/// Characters that surround a vector.
 const FILLERS: [char; 4] = ['a', '\u{430}', '\u{4E00}', '\u{1F600}'];
 
-/// How many bytes the characters round a vector have.
+/// How many bytes the characters around a vector have.
 const LENGTH: usize = 72;
 
-/// How far rooms are from what a text needs; one more and one less are tried as well.
+/// The distances of rooms from the length that a text needs. One more and one less are tried as well.
 const GAPS: [usize; 7] = [0, 8, 16, 24, 32, 48, 64];
 
 fn gaps() -> impl Iterator<Item = usize> {
     GAPS.into_iter().flat_map(|gap| [gap.saturating_sub(1), gap, gap + 1])
 }
 
-/// Units, what is written of the characters before the first broken part, and how many of both there are up to the end
-/// of each of them.
+/// Units, the output for the characters before the first malformed sequence, and how many of both there are up to the
+/// end of each character.
 struct Text<S, D> {
     units: Vec<S>,
     written: Vec<D>,
     ends: Vec<(usize, usize)>,
-    /// The length of the first broken part; none has no byte.
+    /// The length of the first malformed sequence, or 0 if there is none.
     broken: usize,
 }
 
@@ -58,19 +58,19 @@ impl<S: Unit, D: Unit> Text<S, D> {
         }
     }
 
-    /// The end of the longest prefix that `fits`.
+    /// Returns the end of the longest prefix that `fits`.
     fn front(&self, fits: impl Fn(usize, usize) -> bool) -> (usize, usize) {
         let longest = self.ends.iter().rev().find(|end| fits(end.0, end.1));
         longest.copied().unwrap_or((0, 0))
     }
 
-    /// The end of the longest prefix of which so many units can be written.
+    /// Returns the end of the longest prefix whose output fits into `room` units.
     fn front_into(&self, room: usize) -> (usize, usize) {
         self.front(|_, written| written <= room)
     }
 }
 
-/// Where the source and the destination begin, and the room.
+/// The offsets of the source and the destination, and the room.
 #[derive(Clone, Copy, Debug)]
 struct Place {
     from: usize,
@@ -78,7 +78,7 @@ struct Place {
     room: usize,
 }
 
-/// The next of the 256 places, with this room.
+/// Returns the next of the 256 pairs of offsets, with this room.
 fn next_place(turn: &mut usize, room: usize) -> Place {
     *turn += 1;
     Place {
@@ -88,8 +88,8 @@ fn next_place(turn: &mut usize, room: usize) -> Place {
     }
 }
 
-/// Looks whether a call answers so and writes this into the room, and nothing round it. The two units stand before and
-/// behind the source.
+/// Asserts that a call returns this result and writes this into the room, and nothing around it. The two units are
+/// before and after the source.
 fn assert_call<S: Unit, D: Unit, A: PartialEq + Debug>(
     (src, round): (&[S], [S; 2]),
     place: Place,
@@ -106,11 +106,11 @@ fn assert_call<S: Unit, D: Unit, A: PartialEq + Debug>(
     assert_written(wanted, place.to, &dst);
 }
 
-/// Bytes that begin a character stand round bytes.
+/// Bytes that start a character surround bytes.
 const ROUND_BYTES: [u8; 2] = [0xC3, 0xC3];
 
-/// What ends a call marked last that read this prefix and has so much room left, of which the next part may need so
-/// much, and how many bytes it read.
+/// Returns why a call marked last ends that read this prefix and has `left` units left, if the next part may need
+/// `need`, and the number of bytes read.
 fn ended(text: &Text<u8, u16>, front: usize, left: usize, need: usize) -> (DecoderResult, usize) {
     if front == text.units.len() {
         (DecoderResult::InputEmpty, front)
@@ -122,7 +122,7 @@ fn ended(text: &Text<u8, u16>, front: usize, left: usize, need: usize) -> (Decod
     }
 }
 
-/// The conversion to UTF-16 writes the longest prefix into the room.
+/// Asserts that the conversion to UTF-16 writes the longest prefix into the room.
 fn assert_converts(text: &Text<u8, u16>, place: Place) {
     let front = text.front_into(place.room);
     let wanted = (front, &text.written[..front.1]);
@@ -134,7 +134,7 @@ fn assert_converts(text: &Text<u8, u16>, place: Place) {
     );
 }
 
-/// A decoder's call to UTF-16 does, and ends so.
+/// Asserts that a decoder's call to UTF-16 does, and its result.
 fn assert_decodes_to_utf16(text: &Text<u8, u16>, place: Place) {
     let (read, written) = text.front_into(place.room);
     let (result, all) = ended(text, read, place.room - written, 2);
@@ -147,7 +147,7 @@ fn assert_decodes_to_utf16(text: &Text<u8, u16>, place: Place) {
     });
 }
 
-/// A decoder's call to UTF-8 does.
+/// Asserts that a decoder's call to UTF-8 does.
 fn assert_decodes_to_utf8(text: &Text<u8, u16>, place: Place) {
     let (front, _) = text.front(|read, _| read <= place.room);
     let (result, all) = ended(text, front, place.room - front, 4);
@@ -160,7 +160,7 @@ fn assert_decodes_to_utf8(text: &Text<u8, u16>, place: Place) {
     });
 }
 
-/// A text without a broken part is written whole into a room no smaller than its length.
+/// Asserts that a well-formed text is written whole into a room no smaller than its length.
 fn assert_text_converts(text: &Text<u8, u16>, place: Place) {
     let wanted = (text.written.len(), text.written.as_slice());
     assert_call((&text.units, ROUND_BYTES), place, wanted, |src, dst| {
@@ -168,7 +168,7 @@ fn assert_text_converts(text: &Text<u8, u16>, place: Place) {
     });
 }
 
-/// The calls hold into rooms that are so much more and so much less than what is needed.
+/// Asserts that the calls hold into rooms that are `gap` more and `gap` less than what is needed.
 fn assert_rooms(text: &Text<u8, u16>, gap: usize, turn: &mut usize) {
     let (bytes, units) = text.front_into(usize::MAX);
     let (less, more) = (units.saturating_sub(gap), units + gap);
@@ -206,7 +206,7 @@ fn push_row(text: &mut Text<u8, u16>, row: &str) {
     assert!(rest.is_empty() && text.units.ends_with(&bytes), "{row}");
 }
 
-/// How many characters stand round a vector, at most one for each byte.
+/// Returns how many characters surround a vector, at most one for each byte.
 fn count_of(filler: char) -> usize {
     LENGTH / filler.len_utf8()
 }
@@ -234,8 +234,8 @@ fn vectors_into_each_room() {
     assert_eq!(count, 52);
 }
 
-/// How many code units the character takes that begins with the first of two, and how many bytes in UTF-8. A surrogate
-/// in no pair counts as U+FFFD.
+/// Returns the number of code units and of UTF-8 bytes of the character that starts with the first of two units. An
+/// unpaired surrogate counts as U+FFFD.
 fn lengths_of(unit: u16, next: Option<&u16>) -> (usize, usize) {
     match (unit, next) {
         (0..=0x7F, _) => (1, 1),
@@ -245,7 +245,7 @@ fn lengths_of(unit: u16, next: Option<&u16>) -> (usize, usize) {
     }
 }
 
-/// Code units with their UTF-8, character by character.
+/// Returns code units with their UTF-8, character by character.
 fn text_of(units: &[u16], bytes: &[u8]) -> Text<u16, u8> {
     let mut text = Text::new();
     let (mut units, mut bytes) = (units, bytes);
@@ -258,7 +258,7 @@ fn text_of(units: &[u16], bytes: &[u8]) -> Text<u16, u8> {
     text
 }
 
-/// The longest prefix of code units is written into the room. Halves of pairs stand round the source.
+/// Asserts that the longest prefix of code units is written into the room. Halves of pairs surround the source.
 fn assert_units_convert(text: &Text<u16, u8>, place: Place) {
     let front = text.front_into(place.room);
     let wanted = (front, &text.written[..front.1]);
@@ -321,7 +321,7 @@ fn runs_into_each_room() {
     }
 }
 
-/// The longest prefix of Latin1 is written into the room.
+/// Asserts that the longest prefix of Latin1 is written into the room.
 fn assert_latin1_converts(text: &Text<u8, u8>, place: Place) {
     let front = text.front_into(place.room);
     let wanted = (front, &text.written[..front.1]);
@@ -333,7 +333,7 @@ fn assert_latin1_converts(text: &Text<u8, u8>, place: Place) {
     );
 }
 
-/// The bytes come back into a room no smaller than their UTF-8.
+/// Asserts that the bytes are converted back into a room no smaller than their UTF-8.
 fn assert_latin1_comes_back(text: &Text<u8, u8>, place: Place) {
     let wanted = (LENGTH, text.units.as_slice());
     assert_call((&text.written, ROUND_BYTES), place, wanted, |src, dst| {

@@ -1,4 +1,5 @@
-//! All sequences of three and four bytes at the edges of the ranges of UTF-8, through all calls that read bytes, beside std.
+//! All sequences of three and four bytes at the edges of the ranges of UTF-8, with all calls that read bytes, compared
+//! with `std`.
 #![cfg(feature = "std")]
 mod common;
 
@@ -14,10 +15,10 @@ const EDGES: [u8; 25] = [
     0xF0, 0xF1, 0xF3, 0xF4, 0xF5, 0xFF,
 ];
 
-/// A character, or how many bytes are none.
+/// A character, or the length of a malformed sequence.
 type Part = Result<char, u8>;
 
-/// The parts of bytes, as std has them.
+/// Returns the parts of bytes, by `std`.
 fn parts(bytes: &[u8]) -> Vec<Part> {
     let mut parts = Vec::new();
     for chunk in bytes.utf8_chunks() {
@@ -29,7 +30,7 @@ fn parts(bytes: &[u8]) -> Vec<Part> {
     parts
 }
 
-/// Notes what a call returned, and returns whether that is `InputEmpty`.
+/// Records what a call returned, and returns whether that is `InputEmpty`.
 fn told(result: DecoderResult, parts: &mut Vec<Part>) -> bool {
     if let DecoderResult::Malformed(length, behind) = result {
         parts.push(Err(length + behind));
@@ -37,7 +38,8 @@ fn told(result: DecoderResult, parts: &mut Vec<Part>) -> bool {
     result == DecoderResult::InputEmpty
 }
 
-/// The parts that a decoder delivers of pieces of so many bytes, by calls that write bytes, code units or nothing.
+/// Returns the parts that a decoder yields of pieces of `length` bytes, with calls that write bytes, code units or
+/// nothing.
 fn decoded(bytes: &[u8], length: usize) -> [Vec<Part>; 3] {
     let mut delivered = [const { Vec::new() }; 3];
     for (form, parts) in delivered.iter_mut().enumerate() {
@@ -81,7 +83,7 @@ fn decoded(bytes: &[u8], length: usize) -> [Vec<Part>; 3] {
     delivered
 }
 
-/// Looks whether all calls treat the bytes as std does.
+/// Asserts that all calls treat the bytes as `std` does.
 fn check(bytes: &[u8]) {
     let text = String::from_utf8_lossy(bytes);
     let parts = parts(bytes);

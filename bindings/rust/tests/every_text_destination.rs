@@ -1,15 +1,15 @@
-//! Conversions into the front of a text of each length up to what the source may need, full of characters of one
-//! length: one unit between letters, behind each number of them; what they write and clear, and that a text is left.
+//! Conversions into a text of each length up to what the source may need, full of characters of one length: one unit
+//! between letters, after each number of them. What they write and clear, and that a text is left.
 #[path = "common/text_destinations.rs"]
 mod text_destinations;
 
 use std::fmt::Debug;
 use text_destinations::{Calls, FROM_LATIN1, FROM_UTF16};
 
-/// What fills a text before a call, again and again.
+/// What fills a text before a call, repeated.
 const FILLINGS: [&str; 4] = ["q", "\u{E4}", "\u{2603}", "\u{1F4A9}"];
 
-/// Code units, and the characters that they count as.
+/// Code units, and the characters that they become.
 const UNITS: [(u16, &str); 5] = [
     (0x00CA, "\u{CA}"),
     (0x00E4, "\u{E4}"),
@@ -27,13 +27,13 @@ const BYTES: [(u8, &str); 5] = [
     (0xFF, "\u{FF}"),
 ];
 
-/// The most letters `a` that stand before a unit or a byte of these.
+/// The most letters `a` before a unit or a byte of these.
 const BEFORE: usize = 69;
 
-/// How many letters `b` stand behind it.
+/// How many letters `b` are after it.
 const BEHIND: usize = 40;
 
-/// How much is read and how many bytes are written of letters, a character of this size and letters.
+/// Returns how much is read and how many bytes are written of letters, a character of this length and letters.
 fn front(letters: usize, size: usize, room: usize) -> (usize, usize) {
     if room < letters {
         return (room, room);
@@ -47,8 +47,8 @@ fn front(letters: usize, size: usize, room: usize) -> (usize, usize) {
     }
 }
 
-/// The bytes of a text into whose front this is written: behind it so many become zero, then those that continue a
-/// character, and the rest is as it was.
+/// Returns the bytes of a text after this is written at its start: the next `zeros` bytes become zero, then those that
+/// continue a character, and the rest is unchanged.
 fn cleared(written: &[u8], zeros: usize, old: &str) -> Vec<u8> {
     let mut bytes = old.as_bytes().to_vec();
     let (front, rest) = bytes.split_at_mut(written.len());
@@ -62,15 +62,15 @@ fn cleared(written: &[u8], zeros: usize, old: &str) -> Vec<u8> {
     bytes
 }
 
-/// Looks whether a text holds what was written, what was there is cleared behind it, and it still is a text.
+/// Asserts that a text contains what was written, that it is cleared after that, and that it still is a text.
 fn assert_is_cleared(new: &[u8], written: &str, zeros: usize, old: &str) {
     let wanted = cleared(written.as_bytes(), zeros, old);
     assert_eq!(new, wanted, "{written:?} into {old:?}");
     assert!(std::str::from_utf8(new).is_ok(), "{written:?} into {old:?}");
 }
 
-/// Looks whether the unit behind each number of letters converts so, where the text is at most what the source may
-/// need.
+/// Asserts that the unit after each number of letters converts to this character, if the text is at most what the
+/// source may need.
 fn assert_converts<S: Copy + Debug + From<u8>>(calls: &Calls<S>, unit: S, character: &str, old: &str) {
     let source = [&[S::from(b'a'); BEFORE][..], &[unit], &[S::from(b'b'); BEHIND]].concat();
     let text = format!("{}{character}{}", "a".repeat(BEFORE), "b".repeat(BEHIND));
@@ -95,7 +95,7 @@ fn assert_converts<S: Copy + Debug + From<u8>>(calls: &Calls<S>, unit: S, charac
     }
 }
 
-/// Looks whether each unit converts so into a text of each number of these characters.
+/// Asserts that each unit converts into a text of each number of these characters.
 fn assert_converts_into<S: Copy + Debug + From<u8>>(calls: &Calls<S>, units: &[(S, &str)], filling: &str) {
     let most = calls.most * (BEFORE + 1 + BEHIND);
     for (unit, character) in units {

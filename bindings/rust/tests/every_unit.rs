@@ -1,12 +1,13 @@
-//! Checks of code units, and their repair, beside plain loops: one or two among others of one kind at each place, over
-//! each length, seen from each of sixteen places on; and lone surrogates and pairs at each place of long code units, over
-//! the seams of blocks of 64, and of the blocks that are tested for pairs behind one with surrogates.
+//! Checks of code units, and their repair, compared with plain loops: one or two among others of one kind at each
+//! index, over each length, from each of sixteen offsets. And unpaired surrogates and pairs at each index of long
+//! sources, over the boundaries of blocks of 64, and of the blocks that are checked for pairs after one with
+//! surrogates.
 mod common;
 
 use common::{class_of, is_unit_right_to_left};
 use encoding_text::mem::*;
 
-/// What the code units stand in.
+/// The length of the array around the code units.
 const ROOM: usize = 160;
 
 fn is_high(unit: u16) -> bool {
@@ -17,7 +18,7 @@ fn is_low(unit: u16) -> bool {
     unit & 0xFC00 == 0xDC00
 }
 
-/// Whether the code unit at a place is a surrogate that stands in no pair.
+/// Returns whether the code unit at an index is an unpaired surrogate.
 fn is_lone(src: &[u16], place: usize) -> bool {
     let unit = src[place];
     if is_high(unit) {
@@ -27,12 +28,12 @@ fn is_lone(src: &[u16], place: usize) -> bool {
     }
 }
 
-/// Where the first of them is, or the length.
+/// Returns the index of the first of them, or the length.
 fn first_lone(src: &[u16]) -> usize {
     (0..src.len()).find(|place| is_lone(src, *place)).unwrap_or(src.len())
 }
 
-/// Whether all checks agree with plain loops.
+/// Returns whether all checks agree with plain loops.
 fn units_agree(src: &[u16]) -> bool {
     let is_latin1 = src.iter().all(|unit| *unit < 0x100);
     let is_bidi = src.iter().any(|unit| is_unit_right_to_left(*unit));
@@ -43,7 +44,8 @@ fn units_agree(src: &[u16]) -> bool {
         && check_utf16_for_latin1_and_bidi(src) == class_of(is_latin1, is_bidi)
 }
 
-/// Whether the repair of so many code units replaces what is lone among them, and nothing else in the room.
+/// Returns whether the repair of `length` code units replaces the unpaired surrogates among them, and nothing else in
+/// the array.
 fn repair_agrees(room: &[u16], from: usize, length: usize) -> bool {
     let end = from + length;
     let mut repaired = room.to_vec();
@@ -55,7 +57,7 @@ fn repair_agrees(room: &[u16], from: usize, length: usize) -> bool {
         && repaired[end..] == room[end..]
 }
 
-/// Whether all calls agree, with the two at each place of so many code units.
+/// Returns whether all calls agree, with the two at each index of `length` code units.
 fn agree_at_each_place(from: usize, length: usize, others: [u16; 2], two: [u16; 2]) -> bool {
     let mut room = [0; ROOM];
     for (place, unit) in room.iter_mut().enumerate() {
@@ -68,7 +70,7 @@ fn agree_at_each_place(from: usize, length: usize, others: [u16; 2], two: [u16; 
     })
 }
 
-/// Whether all calls agree, with the two at each place of each length.
+/// Returns whether all calls agree, with the two at each index of each length.
 fn agree_over_lengths(from: usize, others: [u16; 2], two: [u16; 2]) -> bool {
     (0..131).all(|length| agree_at_each_place(from, length, others, two))
 }
@@ -93,7 +95,7 @@ fn each_edge_among_letters() {
     }
 }
 
-/// Ideographs, pairs, and pairs that begin with their second half.
+/// Ideographs, pairs, and pairs with their halves swapped.
 #[test]
 fn among_other_units() {
     for others in [[0x6F22, 0x5B57], [0xD83D, 0xDE00], [0xDE00, 0xD83D]] {
@@ -103,13 +105,13 @@ fn among_other_units() {
     }
 }
 
-/// The most code units: more than a block with surrogates, the eight behind it and one more.
+/// The most code units: more than a block with surrogates, the eight after it and one more.
 const LONGEST: usize = 10 * 64 + 3;
 
-/// What they stand in.
+/// The length of the array around them.
 const LONG_ROOM: usize = LONGEST + 8;
 
-/// Letters, a pair among letters, and pairs, the first of them at the first place or behind it: the unit at a place.
+/// Letters, a pair among letters, and pairs, the first of them at index 0 or 1: the unit at an index.
 const OTHERS: [fn(usize) -> u16; 4] = [
     |_| 0x61,
     |place| match place {
@@ -125,8 +127,8 @@ const OTHERS: [fn(usize) -> u16; 4] = [
     },
 ];
 
-/// Whether validity ends at the first lone surrogate of so many code units, and the repair replaces just the lone ones
-/// among them, with these at each place.
+/// Returns whether validity ends at the first unpaired surrogate of `length` code units, and the repair replaces only
+/// the unpaired ones, with these at each index.
 fn agree_at_each_long_place(others: fn(usize) -> u16, length: usize, units: &[u16]) -> bool {
     let room: [u16; LONG_ROOM] = std::array::from_fn(others);
     (0..length).all(|place| {

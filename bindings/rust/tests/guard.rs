@@ -1,5 +1,5 @@
-//! Every call between pages that may not be touched: sources and destinations end at one, or begin behind one, so that a
-//! byte read or written outside of them ends the test.
+//! Every call between pages that may not be accessed: sources and destinations end at one, or start after one, so that
+//! a byte read or written outside of them ends the test.
 #![cfg(all(target_os = "linux", feature = "std"))]
 mod common;
 
@@ -20,12 +20,12 @@ const ROOM: usize = 2 * PAGE;
 const READ_AND_WRITE: i32 = 3;
 const PRIVATE_AND_ANONYMOUS: i32 = 0x22;
 
-/// Two pages between two that may not be touched.
+/// Two pages between two that may not be accessed.
 struct Fenced(*mut u8);
 
 impl Fenced {
     fn new() -> Fenced {
-        // SAFETY: new memory is asked for, and its two middle pages are made readable and writable.
+        // SAFETY: new memory is requested, and its two middle pages are made readable and writable.
         unsafe {
             let start = mmap(ptr::null_mut(), ROOM + 2 * PAGE, 0, PRIVATE_AND_ANONYMOUS, -1, 0);
             assert_ne!(start as isize, -1);
@@ -34,12 +34,12 @@ impl Fenced {
         }
     }
 
-    /// So many elements at the end of the pages, or at their beginning.
+    /// Returns `length` elements at the end of the pages, or at their start.
     fn slice<T: Copy + Default>(&mut self, length: usize, at_end: bool) -> &mut [T] {
         let size = length * size_of::<T>();
         assert!(size <= ROOM);
         let offset = if at_end { ROOM - size } else { 0 };
-        // SAFETY: they lie within the two pages, which the borrow holds alone, and any bytes are valid numbers; the size of
+        // SAFETY: they are within the two pages, whose borrow is unique, and any bytes are valid numbers. The length of
         // two pages and that of the elements are multiples of their alignment.
         unsafe { std::slice::from_raw_parts_mut(self.0.add(PAGE + offset).cast(), length) }
     }
@@ -53,12 +53,12 @@ impl Fenced {
 
 impl Drop for Fenced {
     fn drop(&mut self) {
-        // SAFETY: it is the memory that `new` asked for, and nobody borrows it.
+        // SAFETY: it is the memory that `new` requested, and nobody borrows it.
         unsafe { munmap(self.0, ROOM + 2 * PAGE) };
     }
 }
 
-/// Calls over a source and a destination in pages of their own, from and to both ends.
+/// Makes calls over a source and a destination in pages of their own, from and to both ends.
 fn between(random: &mut Random, rounds: usize, call: impl Fn(&mut Random, &mut Fenced, &mut Fenced, bool, bool)) {
     let (mut src, mut dst) = (Fenced::new(), Fenced::new());
     for round in 0..rounds {

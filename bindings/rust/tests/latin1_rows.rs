@@ -47,7 +47,7 @@ fn converts_what_fits() {
     assert_eq!((answer, one), ((0, 0), [0x71]));
 }
 
-/// The low eight bits of each code unit are written, and nothing behind them.
+/// The low eight bits of each code unit are written, and nothing after them.
 #[test]
 fn keeps_the_low_bits_of_units() {
     let mut three = [0x71; 3];
@@ -58,12 +58,12 @@ fn keeps_the_low_bits_of_units() {
     assert_written(&[0x00], 0, &sixteen);
 }
 
-/// The bytes from 0x00 to 0xFF.
+/// Returns the bytes from 0x00 to 0xFF.
 fn latin1() -> [u8; 256] {
     std::array::from_fn(|byte| byte as u8)
 }
 
-/// The UTF-8 of U+0000 to U+00FF, by the table of UTF-8.
+/// Returns the UTF-8 of U+0000 to U+00FF, by the table of UTF-8.
 fn latin1_in_utf8() -> Vec<u8> {
     let two_bytes = |byte: u8| [0xC0 + byte / 64, 0x80 + byte % 64];
     (0x00..0x80).chain((0x80..=0xFF).flat_map(two_bytes)).collect()

@@ -1,4 +1,4 @@
-//! The checks and conversions of `mem` beside `std`, on random and damaged text.
+//! The checks and conversions of `mem` compared with `std`, on random and damaged text.
 mod common;
 
 use common::*;
@@ -148,7 +148,8 @@ fn from_latin1() {
     }
 }
 
-/// What a text is behind a conversion into it: so many bytes become zero, and then the continuation bytes that follow.
+/// Returns a text after a conversion into it: `zeros` bytes after what is written become zero, and then the
+/// continuation bytes that follow.
 fn behind(before: &str, written: usize, zeros: usize) -> Vec<u8> {
     let mut after = before.as_bytes()[written..].to_vec();
     let zeros = zeros.min(after.len());

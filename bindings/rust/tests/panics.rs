@@ -1,10 +1,11 @@
-//! Every condition at its bound: where it is met a call returns, one short of it panics and writes nothing.
+//! Every condition at its bound: if it is met a call returns, and one short of it the call panics and writes nothing.
 use encoding_text::mem::*;
 use encoding_text::utf_8::convert_utf16_to_utf8_partial_tail;
 use std::fmt::Debug;
 use std::panic::{catch_unwind, AssertUnwindSafe};
 
-/// Calls with destinations of up to so many elements: those shorter than `needed` panic and stay as they are.
+/// Makes calls with destinations of up to a number of elements. Those shorter than `needed` panic and leave them
+/// unchanged.
 fn bound<T: Copy + Debug + PartialEq, R>(element: T, needed: usize, call: impl Fn(&mut [T]) -> R) {
     for length in 0..needed + 3 {
         let mut dst = vec![element; length];
@@ -60,7 +61,7 @@ fn tail() {
     }
 }
 
-/// Beyond Latin1: a panic with debug assertions, else the longest prefix of Latin1.
+/// A source that is not Latin1: a panic with debug assertions, else the longest prefix of Latin1.
 #[test]
 fn beyond_latin1() {
     for (bytes, latin1) in [

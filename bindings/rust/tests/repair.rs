@@ -1,4 +1,4 @@
-//! Repair and chunks beside `std`.
+//! Repair and chunks compared with `std`.
 #![cfg(feature = "std")]
 mod common;
 
@@ -7,7 +7,7 @@ use encoding_text::{next_broken, repair, repair_to, utf8_chunks};
 use std::borrow::Cow;
 use std::io::{self, Write};
 
-/// What is longer than any array on the way, and broken here and there or nearly everywhere.
+/// Returns bytes that are longer than any buffer in between, and malformed at a few indices or nearly everywhere.
 fn long(random: &mut Random) -> Vec<u8> {
     let mut bytes: Vec<u8> = (0..40).flat_map(|_| random.text(8).into_bytes()).collect();
     let step = [3, 50, 4000][random.below(3)];
@@ -49,7 +49,7 @@ fn random_bytes() {
     }
 }
 
-/// A sink that takes so many bytes, a few at a time, and then fails.
+/// A sink that takes a number of bytes, a few at a time, and then fails.
 struct Failing {
     taken: Vec<u8>,
     most: usize,

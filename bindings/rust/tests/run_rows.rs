@@ -11,7 +11,7 @@ use runs::*;
 /// The run that writes bytes, or code units.
 type Run<U> = fn(&mut Decoder, &[u8], &[Turn], &mut [U], &mut [Report]) -> Outcome;
 
-/// Source, turns, room of the destination, how much is read, the last answer, output, reports.
+/// Source, turns, room of the destination, how much is read, the last result, output, reports.
 const ROWS: &str = "\
 new
 utf16 | F0 9F 92 A9 C2 7F | 14 1 2 last | 7 | 6 | empty | D83D DCA9 007F | 2 1
@@ -40,7 +40,7 @@ neutral
 utf16 | FF 61 FF 62 | 3 4 4 last | 5 | 4 | empty | 0061 0062 | 0 1 1 1
 utf16 | F4 8F BF FF | 10 1 2 last | 5 | 4 | empty |  | 0 3 0 1";
 
-/// The last answer that a field names.
+/// Returns the last result that a field names.
 fn answer(field: &str) -> Option<DecoderResult> {
     match field {
         "none" => None,
@@ -53,7 +53,7 @@ fn answer(field: &str) -> Option<DecoderResult> {
     }
 }
 
-/// The reports that a field names, each by its place and its length.
+/// Returns the reports that a field names, each by its offset and its length.
 fn reports_of(field: &str) -> Vec<Report> {
     let words: Vec<&str> = field.split_whitespace().collect();
     let report = |pair: &[&str]| Report {
@@ -63,8 +63,8 @@ fn reports_of(field: &str) -> Vec<Report> {
     words.chunks(2).map(report).collect()
 }
 
-/// Looks whether the run of a row comes so far, writes the text and the reports that end the row, and leaves what is
-/// behind them.
+/// Asserts that the run of a row reads as much as it says, writes the text and the reports that end the row, and leaves
+/// the rest unchanged.
 fn assert_runs<U: Unit>(run: Run<U>, decoder: &mut Decoder, row: &str) {
     let row_fields: Vec<&str> = row.split('|').map(str::trim).collect();
     let [_, src, turns, room, read, last, text, told] = row_fields[..] else {
@@ -85,7 +85,7 @@ fn assert_runs<U: Unit>(run: Run<U>, decoder: &mut Decoder, row: &str) {
     assert!(behind.iter().all(|report| *report == UNREPORTED), "{row}");
 }
 
-/// A row `new` begins a new decoder, and the next rows go on with it.
+/// A row `new` starts a new decoder, and the next rows continue with it.
 #[test]
 fn rows_hold() {
     let mut decoder = Decoder::default();
@@ -104,7 +104,7 @@ fn rows_hold() {
     assert_eq!(count, 26);
 }
 
-/// Looks whether turns of so many bytes come to the end of the bytes, and deliver this text and these reports.
+/// Asserts that turns of `take` bytes read all of the bytes, and yield this text and these reports.
 fn assert_delivered<U: Unit>(run: Run<U>, bytes: &[u8], take: usize, text: &[U], told: &[Report]) {
     let turns = turns_for(bytes.len(), take, 16);
     let mut reports = vec![UNREPORTED; turns.len()];
@@ -117,7 +117,7 @@ fn assert_delivered<U: Unit>(run: Run<U>, bytes: &[u8], take: usize, text: &[U],
     assert_eq!(&reports[..outcome.reports], told, "{bytes:x?}, {take}");
 }
 
-/// Looks whether the run delivers the parts of each vector, written as these units.
+/// Asserts that the run yields the parts of each vector, written as these units.
 fn assert_vectors_run<U: Unit>(run: Run<U>, units: fn(char) -> Vec<U>) {
     let vectors = vectors();
     for Vector { bytes, parts, .. } in &vectors {

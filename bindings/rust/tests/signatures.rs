@@ -1,4 +1,4 @@
-//! Each function has the type that programs written for the original give it, and the types what they derive there.
+//! Each function has the type that programs written for the original expect, and the types have its derived traits.
 #![allow(clippy::type_complexity)]
 use encoding_text::{ascii, mem, utf_8};
 
@@ -101,7 +101,7 @@ fn states() {
         utf_8::Utf8Encoder::encode_from_utf8_raw;
 }
 
-/// Numbers, so that a Latin1Bidi may go to C; and that results may be compared, printed and sent to other threads.
+/// Numbers, so that a `Latin1Bidi` may be passed to C. Results may be compared, printed and sent to other threads.
 #[test]
 fn derived() {
     use encoding_text::{DecoderResult, EncoderResult, Utf8Decoder, Utf8Encoder};

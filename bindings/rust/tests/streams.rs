@@ -1,4 +1,5 @@
-//! `Repair` and `DecodeUtf16` over readers that give random pieces, fail and are interrupted, into buffers of any length.
+//! `Repair` and `DecodeUtf16` over readers that return random pieces, fail and are interrupted, into buffers of any
+//! length.
 #![cfg(feature = "std")]
 mod common;
 
@@ -6,7 +7,8 @@ use common::*;
 use encoding_text::{DecodeUtf16, Repair};
 use std::io::{self, Read};
 
-/// Gives bytes in random pieces, with interruptions and other failures between them, and counts what it is asked behind the end.
+/// Returns bytes in random pieces, with interruptions and other errors between them, and counts the reads after the
+/// end.
 struct Pieces<'a> {
     random: Random,
     rest: &'a [u8],
@@ -59,7 +61,7 @@ fn repair() {
                 continue;
             };
             assert_eq!(buffer.written(count), &wanted.as_bytes()[at..at + count]);
-            // a character is cut only where it is longer than the buffer
+            // a character is cut only if it is longer than the buffer
             let is_cut = !wanted.is_char_boundary(at + count);
             let next = (at + 1..=wanted.len())
                 .find(|end| wanted.is_char_boundary(*end))

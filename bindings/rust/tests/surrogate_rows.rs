@@ -1,4 +1,4 @@
-//! Lone surrogates in UTF-16: where code units stop being valid, and their repair in place, by rows that state each.
+//! Unpaired surrogates in UTF-16: how many code units are valid, and their repair in place, by rows.
 
 use encoding_text::mem::{ensure_utf16_validity, utf16_valid_up_to};
 
@@ -18,7 +18,7 @@ fn finds_the_first_lone_surrogate() {
     assert_eq!(utf16_valid_up_to(&[]), 0);
 }
 
-/// Lone surrogates at places 1 and 13, and a pair at 5.
+/// Unpaired surrogates at indices 1 and 13, and a pair at 5.
 #[test]
 fn repairs_each_at_its_place() {
     let mut units = [0; 31];

@@ -1,11 +1,11 @@
-//! Conversions into the front of a text, beside rows that state what they write and what they clear behind it.
+//! Conversions into a text, compared with rows that list what they write and what they clear after it.
 #[path = "common/text_destinations.rs"]
 mod text_destinations;
 
 use std::fmt::Debug;
 use text_destinations::{Calls, FROM_LATIN1, FROM_UTF16};
 
-/// Looks whether the calls that stop at the end read and write so much, and what they leave of the text of these bytes.
+/// Asserts how much the calls that stop at the end read and write, and what they leave of the text of these bytes.
 fn assert_leaves<S: Debug>(calls: &[Calls<S>], src: &[S], text: &[u8], told: (usize, usize), wanted: &[u8]) {
     for calls in calls {
         let mut dst = text.to_vec();
@@ -19,7 +19,7 @@ fn assert_leaves<S: Debug>(calls: &[Calls<S>], src: &[S], text: &[u8], told: (us
     }
 }
 
-/// Code units, the bytes of a text before, what is read and written, and the bytes of the text then.
+/// Code units, the bytes of a text before, the numbers read and written, and the bytes of the text after.
 type Row = (&'static [u16], &'static [u8], (usize, usize), &'static [u8]);
 
 const UNITS: [Row; 3] = [
@@ -45,7 +45,7 @@ fn rows_of_units() {
     }
 }
 
-/// Sixteen bytes behind what is written become zero, all where there are fewer, and what continues a character there.
+/// Sixteen bytes after what is written become zero, or all if there are fewer, and what continues a character there.
 #[test]
 fn rows_of_latin1() {
     let mut behind_two = [0x00; 20];

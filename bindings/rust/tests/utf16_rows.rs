@@ -1,5 +1,5 @@
 //! UTF-16 to UTF-8 and back on a text with characters of one to four bytes, and on short rows: whole, bounded, the two
-//! halves of the bounded conversion, and broken bytes.
+//! halves of the bounded conversion, and malformed bytes.
 mod common;
 
 use common::characters;
@@ -75,7 +75,7 @@ fn converts_a_text_to_utf8_in_two() {
     assert_written(&BYTES[21..], 0, &second);
 }
 
-/// Looks whether a destination begins with these bytes, and is as before behind them.
+/// Asserts that a destination starts with these bytes, and is unchanged after them.
 fn assert_begins(row: &str, bytes: &[u8], dst: &[u8]) {
     let (written, behind) = dst.split_at(bytes.len());
     assert_eq!(written, bytes, "{row}");
@@ -124,7 +124,7 @@ DCA9 0061 0061 0061 0061 | EF BF BD 61 61 61 61
 D83D DCA9 0076 2603 0077 00B6 0078 0079 007A 007A | \
 61 62 63 64 65 66 67 68 69 6A 6B 6C 6D 6E 6F 70 71 72 73 74 75 F0 9F 92 A9 76 E2 98 83 77 C2 B6 78 79 7A 7A";
 
-/// Whether so many units are a prefix of whole characters, and so many bytes its UTF-8.
+/// Returns whether the first `read` units are whole characters, and the first `written` bytes their UTF-8.
 fn is_front(units: &[u16], read: usize, written: usize) -> bool {
     let (mut end, mut length) = (0, 0);
     for (units, character) in characters(units) {
@@ -136,7 +136,7 @@ fn is_front(units: &[u16], read: usize, written: usize) -> bool {
     (end, length) == (read, written)
 }
 
-/// Looks whether the inner half writes a prefix of whole characters, and reads all or leaves at most three bytes free.
+/// Asserts that the inner half writes a prefix of whole characters, and reads all or leaves at most three bytes free.
 /// Which characters it leaves is open.
 fn assert_inner(row: &str, units: &[u16], bytes: &[u8], room: usize) {
     let mut dst = [u8::UNWRITTEN; 40];
@@ -179,7 +179,7 @@ fn replaces_broken_parts() {
     assert_eq!((written, dst), (3, [0x0061, 0xFFFD, 0xFFFD, 0x71, 0x71, 0x71]));
 }
 
-/// The longest well-formed prefix is written also where the bytes are refused.
+/// The longest well-formed prefix is written even if the bytes are refused.
 #[test]
 fn refuses_broken_parts() {
     let mut dst = [0x71; 4];

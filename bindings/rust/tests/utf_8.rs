@@ -1,4 +1,4 @@
-//! The calls of `utf_8` beside `std`.
+//! The calls of `utf_8` compared with `std`.
 mod common;
 
 use common::*;
@@ -13,7 +13,7 @@ fn fronts() {
     }
 }
 
-/// Every two bytes, and every lead with edges behind it.
+/// Every two bytes, and every lead byte followed by edges.
 #[test]
 fn short_sequences() {
     const EDGES: [u8; 12] = [0x00, 0x7F, 0x80, 0x8F, 0x90, 0x9F, 0xA0, 0xBF, 0xC0, 0xC2, 0xED, 0xFF];
@@ -86,7 +86,7 @@ fn partial() {
     }
 }
 
-/// Entries without a common bit stand for sequences, of three bytes and of four.
+/// Entries without a common bit mean sequences, of three bytes and of four.
 #[test]
 fn table() {
     let table = &UTF8_DATA.table;

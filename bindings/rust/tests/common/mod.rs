@@ -1,4 +1,4 @@
-//! Random text, damaged text and code units, always the same: a generator with a fixed seed.
+//! Random text, damaged text and code units, from a generator with a fixed seed.
 #![allow(dead_code)]
 
 pub mod rows;
@@ -10,7 +10,8 @@ use encoding_text::mem::Latin1Bidi;
 /// Splitmix64.
 pub struct Random(u64);
 
-/// Characters at the edges of what takes one, two, three and four bytes, of what is Latin1, and of right-to-left blocks.
+/// Characters at the edges of the ranges that take one, two, three and four bytes, of Latin1, and of right-to-left
+/// blocks.
 const EDGES: [char; 32] = [
     '\0',
     '\u{1B}',
@@ -59,18 +60,18 @@ impl Random {
         z ^ (z >> 31)
     }
 
-    /// A number below the bound, 0 where that is 0.
+    /// Returns a number below the bound, or 0 if that is 0.
     pub fn below(&mut self, bound: usize) -> usize {
         (self.next() % bound.max(1) as u64) as usize
     }
 
-    /// A number up to the bound, small ones far more often.
+    /// Returns a number up to the bound, small ones far more often.
     pub fn length(&mut self, most: usize) -> usize {
         let bound = 1 << self.below(usize::BITS as usize - most.leading_zeros() as usize + 1);
         self.below(bound).min(most)
     }
 
-    /// Text of runs of one kind: ASCII, Latin1, two, three or four bytes a character, edges.
+    /// Returns text of runs of one kind: ASCII, Latin1, two, three or four bytes a character, edges.
     pub fn text(&mut self, most_runs: usize) -> String {
         let mut text = String::new();
         for _ in 0..self.below(most_runs + 1) {
@@ -91,13 +92,13 @@ impl Random {
         text
     }
 
-    /// Text of Latin1, half of it ASCII.
+    /// Returns text of Latin1, half of it ASCII.
     pub fn latin1(&mut self) -> Vec<u8> {
         let bound = if self.below(2) == 0 { 0x80 } else { 0x100 };
         (0..self.length(300)).map(|_| self.below(bound) as u8).collect()
     }
 
-    /// Well-formed bytes, damaged ones, or random ones.
+    /// Returns well-formed, damaged or random bytes.
     pub fn bytes(&mut self) -> Vec<u8> {
         let mut bytes = self.text(4).into_bytes();
         match self.below(4) {
@@ -117,7 +118,7 @@ impl Random {
         bytes
     }
 
-    /// Code units of text, now and then with lone surrogates.
+    /// Returns code units of text, sometimes with unpaired surrogates.
     pub fn units(&mut self) -> Vec<u16> {
         let mut units: Vec<u16> = self.text(4).encode_utf16().collect();
         if self.below(2) == 0 {
@@ -130,7 +131,7 @@ impl Random {
     }
 }
 
-/// A destination of so many elements between others, which are looked at when it is dropped.
+/// A destination of a given length between other elements, which are checked when it is dropped.
 pub struct Framed<T: Copy + PartialEq + std::fmt::Debug> {
     all: Vec<T>,
     before: Vec<T>,
@@ -140,7 +141,7 @@ pub struct Framed<T: Copy + PartialEq + std::fmt::Debug> {
 }
 
 impl<T: Copy + PartialEq + std::fmt::Debug> Framed<T> {
-    /// Random elements everywhere, made by the function.
+    /// Creates a destination with random elements everywhere, made by the function.
     pub fn new(random: &mut Random, length: usize, element: impl Fn(u64) -> T) -> Framed<T> {
         let start = random.below(40);
         let all: Vec<T> = (0..start + length + 40).map(|_| element(random.next())).collect();
@@ -157,7 +158,7 @@ impl<T: Copy + PartialEq + std::fmt::Debug> Framed<T> {
         &mut self.all[self.start..self.end]
     }
 
-    /// What so many elements at the front are now; those behind it have to be as before.
+    /// Returns the first `count` elements. Those after them have to be unchanged.
     pub fn written(&mut self, count: usize) -> &[T] {
         assert!(count <= self.end - self.start);
         self.kept_from = self.start + count;
@@ -190,7 +191,7 @@ pub fn units_of(random: &mut Random, length: usize) -> Framed<u16> {
     Framed::new(random, length, |drawn| drawn as u16)
 }
 
-/// The well-formed prefix by `std`.
+/// Returns the well-formed prefix by `std`.
 pub fn front(bytes: &[u8]) -> &str {
     match std::str::from_utf8(bytes) {
         Ok(text) => text,
@@ -198,7 +199,7 @@ pub fn front(bytes: &[u8]) -> &str {
     }
 }
 
-/// The place of the first lone surrogate, or the length, by `std`.
+/// Returns the index of the first unpaired surrogate, or the length, by `std`.
 pub fn valid_units(units: &[u16]) -> usize {
     char::decode_utf16(units.iter().copied())
         .map_while(|it| it.ok())
@@ -206,7 +207,7 @@ pub fn valid_units(units: &[u16]) -> usize {
         .sum()
 }
 
-/// How much is read and what is written where the most first characters fit into so many bytes.
+/// Returns how much is read and the text that is written if as many characters as fit go into `room` bytes.
 pub fn longest(characters: impl IntoIterator<Item = (usize, char)>, room: usize) -> (usize, String) {
     let mut read = 0;
     let mut text = String::new();
@@ -220,25 +221,26 @@ pub fn longest(characters: impl IntoIterator<Item = (usize, char)>, room: usize)
     (read, text)
 }
 
-/// The characters of code units with U+FFFD for each lone surrogate, and how many units each has.
+/// Returns the characters of code units with U+FFFD for each unpaired surrogate, and the number of units of each.
 pub fn characters(units: &[u16]) -> Vec<(usize, char)> {
     char::decode_utf16(units.iter().copied())
         .map(|it| it.map_or((1, '\u{FFFD}'), |character| (character.len_utf16(), character)))
         .collect()
 }
 
-/// The blocks of right-to-left scripts, and the controls that make what follows right-to-left.
+/// Returns whether the character is in a block of a right-to-left script, or a control that makes what follows
+/// right-to-left.
 pub fn is_right_to_left(c: char) -> bool {
     matches!(c, '\u{590}'..='\u{8FF}' | '\u{FB1D}'..='\u{FDFF}' | '\u{FE70}'..='\u{FEFE}' | '\u{10800}'..='\u{10FFF}'
         | '\u{1E800}'..='\u{1EFFF}' | '\u{200F}' | '\u{202B}' | '\u{202E}' | '\u{2067}')
 }
 
-/// A character of one code unit, or a high surrogate of the two ranges beyond those.
+/// Returns whether the unit is a right-to-left character, or a high surrogate of the two ranges above U+FFFF.
 pub fn is_unit_right_to_left(u: u16) -> bool {
     char::from_u32(u.into()).is_some_and(is_right_to_left) || matches!(u, 0xD802 | 0xD803 | 0xD83A | 0xD83B)
 }
 
-/// The class of a text that is Latin1, and one that is right-to-left or broken.
+/// Returns the class of a text by whether it is Latin1 and whether it is right-to-left or malformed.
 pub fn class_of(is_latin1: bool, is_bidi: bool) -> Latin1Bidi {
     match (is_latin1, is_bidi) {
         (true, _) => Latin1Bidi::Latin1,

@@ -1,19 +1,19 @@
-//! Rows of text: fields between bars, of words between spaces, which are hexadecimal; and the units that stand round a
-//! source and round what is written.
+//! Rows of text: fields between bars, of words between spaces, which are hexadecimal. And the units that surround a
+//! source and what is written.
 use std::fmt::Debug;
 
 /// A byte or a code unit.
 pub trait Unit: Copy + PartialEq + Debug {
-    /// Begins a character.
+    /// Starts a character.
     const BEFORE: Self;
-    /// Ends a character that is cut short.
+    /// Ends a truncated character.
     const BEHIND: Self;
     /// Fills a destination. No row writes it.
     const UNWRITTEN: Self;
-    /// Stands behind what is written into a text.
+    /// Follows what is written into a text.
     const ZERO: Self;
 
-    /// The unit that a word names.
+    /// Returns the unit that a word names.
     fn named(word: &str) -> Self;
 }
 
@@ -39,23 +39,23 @@ impl Unit for u16 {
     }
 }
 
-/// A character or a broken part: the units that are read and those that are written.
+/// A character or a malformed sequence: the units that are read and those that are written.
 pub struct Item<S, D> {
     pub read: Vec<S>,
     pub written: Vec<D>,
 }
 
-/// The two fields of a row.
+/// Returns the two fields of a row.
 pub fn fields(row: &str) -> (&str, &str) {
     row.split_once('|').unwrap()
 }
 
-/// The bytes or code units that a field names.
+/// Returns the bytes or code units that a field names.
 pub fn named<T: Unit>(field: &str) -> Vec<T> {
     field.split_whitespace().map(T::named).collect()
 }
 
-/// What rows of two fields say: what is read, and what is written.
+/// Parses rows of two fields: what is read, and what is written.
 pub fn items<S: Unit, D: Unit>(rows: &str) -> Vec<Item<S, D>> {
     let item = |row| {
         let (read, written) = fields(row);
@@ -67,7 +67,7 @@ pub fn items<S: Unit, D: Unit>(rows: &str) -> Vec<Item<S, D>> {
     rows.lines().map(item).collect()
 }
 
-/// What rows of two fields say, read backwards: what is written, and what is read.
+/// Parses rows of two fields backwards: what is written, and what is read.
 pub fn items_backwards<S: Unit, D: Unit>(rows: &str) -> Vec<Item<S, D>> {
     let turned = |item: Item<D, S>| Item {
         read: item.written,
@@ -76,7 +76,7 @@ pub fn items_backwards<S: Unit, D: Unit>(rows: &str) -> Vec<Item<S, D>> {
     items(rows).into_iter().map(turned).collect()
 }
 
-/// So many fillers, with so many of them before the edge and the others behind it.
+/// Returns `count` fillers, with `before` of them before the edge and the others after it.
 pub fn around<T: Copy>(filler: &[T], count: usize, before: usize, edge: &[T]) -> Vec<T> {
     (0..=count)
         .flat_map(|i| if i == before { edge } else { filler })
@@ -84,7 +84,7 @@ pub fn around<T: Copy>(filler: &[T], count: usize, before: usize, edge: &[T]) ->
         .collect()
 }
 
-/// Looks whether these units begin at a place, and what is unwritten stands before and behind them.
+/// Asserts that these units are at index `at`, and that what is unwritten is before and after them.
 pub fn assert_written<T: Unit>(wanted: &[T], at: usize, dst: &[T]) {
     let (before, rest) = dst.split_at(at);
     let (written, behind) = rest.split_at(wanted.len());

@@ -1,5 +1,5 @@
-//! The calls of `include/encoding_text.h` that the crate doesn't make, over slices: runs, with the turns that rows name,
-//! the repair of a stream by blocks, and the encoder's call on a text.
+//! The calls of `include/encoding_text.h` that the crate doesn't make, over slices: runs, with the turns that rows
+//! name, the repair of a stream by blocks, and the encoder's call on a text.
 #![allow(dead_code)]
 
 use encoding_text::{DecoderResult, EncoderResult};
@@ -12,14 +12,14 @@ pub struct Decoder {
     count: u8,
 }
 
-/// An encoder between two calls. By default nothing is held.
+/// An encoder between two calls. By default nothing is pending.
 #[repr(C)]
 #[derive(Default)]
 pub struct Encoder {
     held: u16,
 }
 
-/// One call of a run: how much it takes, its room, and whether it is marked last where it takes all that is left.
+/// One call of a run: how much it takes, its room, and whether it is marked last if it takes all that is left.
 #[repr(C)]
 #[derive(Clone, Copy)]
 pub struct Turn {
@@ -28,7 +28,7 @@ pub struct Turn {
     pub last: bool,
 }
 
-/// A broken part of a run: how many elements were written before it, and how many bytes it has.
+/// A malformed sequence of a run: the number of elements written before it, and its length in bytes.
 #[repr(C)]
 #[derive(Clone, Copy, Debug, PartialEq)]
 pub struct Report {
@@ -36,7 +36,7 @@ pub struct Report {
     pub length: u8,
 }
 
-/// What a place for a report is filled with. No row reports it.
+/// What the array of reports is filled with. No row reports it.
 pub const UNREPORTED: Report = Report {
     place: 0x71,
     length: 0x71,
@@ -126,7 +126,7 @@ extern "C" {
 }
 
 impl Decoder {
-    /// Whether nothing is pending.
+    /// Returns whether nothing is pending.
     pub fn in_neutral_state(&self) -> bool {
         // SAFETY: it reads the decoder, which is laid out as the header says.
         unsafe { encoding_text_utf8_decoder_in_neutral_state(self) }
@@ -134,21 +134,21 @@ impl Decoder {
 }
 
 impl Encoder {
-    /// An encoder that holds this unit, or nothing.
+    /// Creates an encoder with this pending surrogate, or none.
     pub fn that_holds(unit: Option<u16>) -> Encoder {
         Encoder {
             held: unit.unwrap_or(0),
         }
     }
 
-    /// The unit that is held: where the field is no high surrogate, there is none.
+    /// Returns the pending surrogate: none if the field is no high surrogate.
     pub fn held(&self) -> Option<u16> {
         matches!(self.held, 0xD800..=0xDBFF).then_some(self.held)
     }
 }
 
 impl Outcome {
-    /// What ended the last call, `None` where there was none.
+    /// Returns why the last call ended, or `None` if there was none.
     pub fn ended(&self) -> Option<DecoderResult> {
         match (self.result, self.malformed) {
             (INPUT_EMPTY, 0) => Some(DecoderResult::InputEmpty),
@@ -161,7 +161,7 @@ impl Outcome {
 }
 
 impl Encoded {
-    /// What ended the last call, `None` where there was none.
+    /// Returns why the last call ended, or `None` if there was none.
     pub fn ended(&self) -> Option<EncoderResult> {
         match self.result {
             INPUT_EMPTY => Some(EncoderResult::InputEmpty),
@@ -172,8 +172,8 @@ impl Encoded {
     }
 }
 
-/// The turns that a field names: between commas how many there are of a kind, and then their take, their room and their
-/// mark.
+/// Returns the turns that a field names, between commas: how many there are of a kind, and then their take, their room
+/// and their mark.
 pub fn turns_of(field: &str) -> Vec<Turn> {
     let mut turns = Vec::new();
     for kind in field.split(',').filter(|kind| !kind.is_empty()) {
@@ -191,7 +191,7 @@ pub fn turns_of(field: &str) -> Vec<Turn> {
     turns
 }
 
-/// Turns that suffice for a source of this length, each with so much of it and so much room.
+/// Returns enough turns for a source of this length, each with this take and this room.
 pub fn turns_for(length: usize, take: usize, room: usize) -> Vec<Turn> {
     let last = true;
     vec![Turn { take, room, last }; 2 * length + 2]
@@ -206,9 +206,9 @@ pub fn run_to_utf16(
     reports: &mut [Report],
 ) -> Outcome {
     assert!(reports.len() >= turns.len());
-    // SAFETY: each turn has a place for its report. The decoder, the destination and the reports are borrowed alone, so
-    // they overlap nothing; all are laid out as the header says, it reads and writes within the slices, and any numbers
-    // that it writes are valid.
+    // SAFETY: each turn has an entry for its report. The borrows of the decoder, the destination and the reports are
+    // unique, so they overlap nothing, and all are laid out as the header says. It reads and writes within the slices,
+    // and any numbers that it writes are valid.
     unsafe {
         encoding_text_run_to_utf16(
             decoder,
@@ -251,8 +251,8 @@ pub fn run_to_utf8(
 
 /// Encodes by one call for each turn.
 pub fn run_from_utf16(encoder: &mut Encoder, src: &[u16], turns: &[Turn], dst: &mut [u8]) -> Encoded {
-    // SAFETY: the encoder and the destination are borrowed alone, so they overlap nothing; all are laid out as the
-    // header says, it reads and writes within the slices, and any numbers that it writes are valid.
+    // SAFETY: the borrows of the encoder and the destination are unique, so they overlap nothing, and all are laid out
+    // as the header says. It reads and writes within the slices, and any numbers that it writes are valid.
     unsafe {
         encoding_text_run_from_utf16(
             encoder,
@@ -266,22 +266,23 @@ pub fn run_from_utf16(encoder: &mut Encoder, src: &[u16], turns: &[Turn], dst: &
     }
 }
 
-/// Writes the next block of a stream with U+FFFD for each broken part.
+/// Writes the next block of a stream with U+FFFD for each malformed sequence.
 pub fn repair_block(decoder: &mut Decoder, src: &[u8], dst: &mut [u8], last: bool) -> RepairedBlock {
-    // SAFETY: the decoder and the destination are borrowed alone, so they overlap nothing; the decoder is laid out as
-    // the header says, it reads and writes within the slices, any bytes that it writes are valid, and `finished` is a
-    // bool in C, so 0 or 1.
+    // SAFETY: the borrows of the decoder and the destination are unique, so they overlap nothing, and the decoder is
+    // laid out as the header says. It reads and writes within the slices, and any bytes that it writes are valid.
+    // `finished` is a bool in C, so 0 or 1.
     unsafe { encoding_text_repair_block(decoder, src.as_ptr(), src.len(), dst.as_mut_ptr(), dst.len(), last) }
 }
 
-/// Encodes a text behind the held unit: what ended the call, how many bytes it read, and how many it wrote.
+/// Encodes the pending surrogate and a text. Returns why the call ended, the number of bytes read, and the number of
+/// bytes written.
 pub fn encode_from_utf8(
     encoder: &mut Encoder,
     text: &str,
     dst: &mut [u8],
     last: bool,
 ) -> (EncoderResult, usize, usize) {
-    // SAFETY: as for `run_from_utf16`; it also refuses a source that is no text.
+    // SAFETY: as for `run_from_utf16`. It also refuses a source that is no text.
     let encoded = unsafe {
         encoding_text_utf8_encoder_encode_from_utf8(
             encoder,

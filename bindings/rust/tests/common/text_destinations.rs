@@ -1,5 +1,5 @@
-//! Conversions into the front of a text, over its bytes: those of the crate, which clears behind what is written by
-//! itself, and those of `include/encoding_text.h`, which the crate doesn't call.
+//! Conversions into a prefix of a text, over its bytes: those of the crate, which clears what follows by itself, and
+//! those of `include/encoding_text.h`, which the crate doesn't call.
 #![allow(dead_code)]
 
 use encoding_text::mem::*;
@@ -7,15 +7,15 @@ use std::str::from_utf8_mut;
 
 /// Calls that convert units of one kind into a text.
 pub struct Calls<S> {
-    /// Whose they are.
+    /// Who defines them.
     pub owner: &'static str,
-    /// Converts the most first characters that fit, and returns how much is read and written.
+    /// Converts as many whole characters as fit, and returns how much is read and written.
     pub partial: fn(&[S], &mut [u8]) -> (usize, usize),
-    /// Converts all, and returns how many bytes are written.
+    /// Converts all, and returns the number of bytes written.
     pub whole: fn(&[S], &mut [u8]) -> usize,
-    /// The most bytes that a unit becomes.
+    /// The most bytes that one unit becomes.
     pub most: usize,
-    /// How many bytes behind what is written become zero, beside those that continued a character.
+    /// How many bytes after what is written become zero, before any that continued a character.
     pub zeros: usize,
 }
 
@@ -53,7 +53,7 @@ pub const FROM_LATIN1: [Calls<u8>; 2] = [
     },
 ];
 
-/// How many elements were read, and how many written.
+/// The number of elements read, and of elements written.
 #[repr(C)]
 struct Counts {
     read: usize,
@@ -94,15 +94,15 @@ extern "C" {
 }
 
 fn library_utf16_to_str_partial(src: &[u16], dst: &mut [u8]) -> (usize, usize) {
-    // SAFETY: it reads the elements of the first slice, and reads and writes those of the second, which is borrowed
-    // alone and so overlaps nothing; it refuses a destination that is no text, and any bytes that it writes are valid.
+    // SAFETY: it reads the elements of the first slice, and reads and writes those of the second, whose borrow is
+    // unique and so overlaps nothing. It refuses a destination that is no text, and any bytes that it writes are valid.
     unsafe {
         encoding_text_mem_convert_utf16_to_str_partial(src.as_ptr(), src.len(), dst.as_mut_ptr(), dst.len()).into()
     }
 }
 
 fn library_utf16_to_str(src: &[u16], dst: &mut [u8]) -> usize {
-    // SAFETY: as above; it also refuses a destination that is too short.
+    // SAFETY: as above. It also refuses a destination that is too short.
     unsafe { encoding_text_mem_convert_utf16_to_str(src.as_ptr(), src.len(), dst.as_mut_ptr(), dst.len()) }
 }
 
@@ -114,6 +114,6 @@ fn library_latin1_to_str_partial(src: &[u8], dst: &mut [u8]) -> (usize, usize) {
 }
 
 fn library_latin1_to_str(src: &[u8], dst: &mut [u8]) -> usize {
-    // SAFETY: as above; it also refuses a destination that is too short.
+    // SAFETY: as above. It also refuses a destination that is too short.
     unsafe { encoding_text_mem_convert_latin1_to_str(src.as_ptr(), src.len(), dst.as_mut_ptr(), dst.len()) }
 }

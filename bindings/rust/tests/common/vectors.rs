@@ -1,10 +1,10 @@
-//! Sequences and what they are: UTF-8 by its parts, UTF-8 decoder of the Encoding Standard; and code units by their UTF-8.
+//! Sequences and their parts, by the UTF-8 decoder of the Encoding Standard, and code units with their UTF-8.
 use super::rows::{fields, named};
 
-/// A character, or how many bytes are none.
+/// A character, or the length of a malformed sequence.
 pub type Part = Result<char, u8>;
 
-/// The character that a word such as `U+00E4` names, or else the length behind `?`.
+/// Returns the character that a word such as `U+00E4` names, or else the length after `?`.
 pub fn part(word: &str) -> Part {
     match word.strip_prefix("U+") {
         Some(scalar) => Ok(char::from_u32(u32::from_str_radix(scalar, 16).unwrap()).unwrap()),
@@ -12,12 +12,12 @@ pub fn part(word: &str) -> Part {
     }
 }
 
-/// How many bytes a part takes.
+/// Returns the number of bytes of a part.
 pub fn length_of(part: &Part) -> usize {
     part.map_or_else(usize::from, char::len_utf8)
 }
 
-/// Bytes and their parts, with the row that they stand in.
+/// Bytes and their parts, with their row.
 pub struct Vector {
     pub row: &'static str,
     pub bytes: Vec<u8>,
@@ -25,7 +25,7 @@ pub struct Vector {
 }
 
 impl Vector {
-    /// The vector of a row, with `61` in front and a text behind it.
+    /// Returns the vector of a row, with `61` before it and a text after it.
     fn of(row: &'static str, behind: &str) -> Vector {
         let (bytes, words) = fields(row);
         let mut parts = vec![Ok('a')];
@@ -39,7 +39,7 @@ impl Vector {
     }
 }
 
-/// The rows of [`BYTES`] as vectors: each with `61` in front, once alone and once with `5A` behind.
+/// Returns the rows of [`BYTES`] as vectors: each with `61` before it, once without and once with `5A` after it.
 pub fn vectors() -> Vec<Vector> {
     BYTES
         .lines()
@@ -47,7 +47,7 @@ pub fn vectors() -> Vec<Vector> {
         .collect()
 }
 
-/// Bytes and their parts: characters by their scalar values, and `?` with the length of what is none.
+/// Bytes and their parts: characters by their scalar values, and `?` with the length of a malformed sequence.
 pub const BYTES: &str = "\
 |
 C3 A4 | U+00E4
@@ -102,7 +102,7 @@ F4 8F BF BF | U+10FFFF
 F4 90 80 80 | ?1 ?1 ?1 ?1
 F4 8F BF FF | ?3 ?1";
 
-/// Code units at the edges of lengths and of surrogates, and their UTF-8, with U+FFFD for a surrogate in no pair.
+/// Code units at the edges of lengths and of surrogates, and their UTF-8, with U+FFFD for an unpaired surrogate.
 pub const UNITS: &str = "\
 |
 0000 | 00
@@ -121,7 +121,7 @@ D800 DC00 | F0 90 80 80
 DBFF DFFF | F4 8F BF BF
 DC00 DEDE | EF BF BD EF BF BD";
 
-/// Characters of each length in front of each other: code units, and their UTF-8.
+/// Characters of each length before one another: code units, and their UTF-8.
 pub const LIMITS: &str = "\
 0062 | 62
 00A7 | C2 A7

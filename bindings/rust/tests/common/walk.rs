@@ -1,33 +1,33 @@
-//! Conversions beside a reference that grows by one character: over every length, from each of sixteen places, with
-//! another character at every place, and with units round the source and the destination that are none of theirs.
+//! Conversions compared with a reference that grows by one character: over every length, from each of sixteen offsets,
+//! with another character at every index. Other units surround the source and the destination.
 use super::rows::{Item, Unit};
 
 /// The most units of a source.
 const LONGEST: usize = 130;
 
-/// What a source and a destination stand in: three units for each of the longest source, and sixteen more before and
-/// behind.
+/// The length of the array around a source or a destination: three units for each of the longest source, and sixteen
+/// more before and after.
 const ROOM: usize = 3 * LONGEST + 48;
 
-/// The room that a destination has.
+/// The length of a destination.
 #[derive(Clone, Copy)]
 pub enum Room {
-    /// So many times as many units as the source has, and so many more.
+    /// A multiple of the number of units of the source, and a number added.
     Times(usize, usize),
-    /// As many as are written of all.
+    /// Exactly as many units as are written.
     Exact,
-    /// One less, so that the last character has no room.
+    /// One unit less, so that the last character doesn't fit.
     Short,
 }
 
-/// How a call is made: the room, and how many units behind what is written become zero.
+/// How a call is made: the room, and how many units after what is written become zero.
 #[derive(Clone, Copy)]
 pub struct Way {
     room: Room,
     zeros: usize,
 }
 
-/// Into as much room as is needed.
+/// Into exactly as much room as is needed.
 pub const EXACT: Way = Way {
     room: Room::Exact,
     zeros: 0,
@@ -39,7 +39,7 @@ pub const SHORT: Way = Way {
     zeros: 0,
 };
 
-/// The way into so many times as many units as the source has, and so many more.
+/// Returns the way into `times` units for each of the source, and `more`.
 pub fn into_room(times: usize, more: usize) -> Way {
     Way {
         room: Room::Times(times, more),
@@ -48,13 +48,13 @@ pub fn into_room(times: usize, more: usize) -> Way {
 }
 
 impl Way {
-    /// The way, on which now so many units behind what is written become zero.
+    /// Returns the way with `zeros` units that become zero after what is written.
     pub fn with_zeros(self, zeros: usize) -> Way {
         Way { zeros, ..self }
     }
 }
 
-/// Characters of which texts are made: a letter of one unit, those that stand round others, and these others. A call is
+/// Characters that texts are made of: a letter of one unit, those that surround others, and these others. A call is
 /// tried with each of the others among each of the fillers.
 pub struct Items<S, D> {
     pub letter: Item<S, D>,
@@ -62,8 +62,8 @@ pub struct Items<S, D> {
     pub others: Vec<Item<S, D>>,
 }
 
-/// A source, what is to be written of it, and the units of both before its last character; and what the source and the
-/// destination stand in, the latter also as it is before a call.
+/// A source, its expected output, and the units of both before its last character. Also the arrays around the source
+/// and the destination, the latter also as it is before a call.
 struct Text<S, D> {
     src: Vec<S>,
     wanted: Vec<D>,
@@ -91,8 +91,8 @@ impl<S: Unit, D: Unit> Text<S, D> {
         self.wanted.extend_from_slice(&item.written);
     }
 
-    /// Makes it a text of so many units, with the other character at a place if it ends within them. Letters stand where
-    /// a filler has no room. The next call is from the first place.
+    /// Makes it a text of `length` units, with the other character at an index if it ends within them. Letters fill the
+    /// space that is too short for a filler. The next call is from the first offset.
     fn fill(&mut self, [letter, filler, other]: [&Item<S, D>; 3], length: usize, place: usize) {
         self.src.clear();
         self.wanted.clear();
@@ -111,7 +111,7 @@ impl<S: Unit, D: Unit> Text<S, D> {
         self.source.fill(S::BEHIND);
     }
 
-    /// How many units are to be read and written into this room, and how many units it is.
+    /// Returns how many units have to be read and written into this room, and how many units it has.
     fn told(&self, room: Room) -> ((usize, usize), usize) {
         let (read, written) = (self.src.len(), self.wanted.len());
         match room {
@@ -121,7 +121,8 @@ impl<S: Unit, D: Unit> Text<S, D> {
         }
     }
 
-    /// Whether the destination has what is wanted at a place, then so many zeros, and is as before all round.
+    /// Returns whether the destination has the expected output at an index, then `zeros` zeros, and is unchanged around
+    /// them.
     fn is_written(&self, to: usize, written: usize, zeros: usize) -> bool {
         let (before, rest) = self.destination.split_at(to);
         let (front, behind) = rest.split_at(written);
@@ -132,9 +133,9 @@ impl<S: Unit, D: Unit> Text<S, D> {
             && left == &self.unwritten[..left.len()]
     }
 
-    /// Whether the call from one place to another reads and writes what it is to, and nothing else. It returns how many
-    /// units it read and how many it wrote. Each call on a text is from a place behind that of the one before, so that
-    /// nothing of that stands behind the source.
+    /// Returns whether the call from one offset to another reads and writes exactly the expected units, and how many
+    /// these are. Each call on a text is from a greater offset than the one before, so that none of its copies follows
+    /// the source.
     fn converts(
         &mut self,
         from: usize,
@@ -154,8 +155,8 @@ impl<S: Unit, D: Unit> Text<S, D> {
     }
 }
 
-/// Looks whether the call holds over each length, with the other character at each place, from each of sixteen places to
-/// one of sixteen.
+/// Asserts that the call holds over each length, with the other character at each index, from each of sixteen offsets
+/// to one of sixteen.
 fn assert_holds_among<S: Unit, D: Unit>(
     items: [&Item<S, D>; 3],
     way: Way,
@@ -176,7 +177,7 @@ fn assert_holds_among<S: Unit, D: Unit>(
     }
 }
 
-/// Looks whether the call holds with each of the others among each of the fillers, and returns how many these are.
+/// Asserts that the call holds with each of the others among each of the fillers, and returns how many these are.
 pub fn held<S: Unit, D: Unit>(
     items: &Items<S, D>,
     way: Way,
