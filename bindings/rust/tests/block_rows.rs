@@ -1,4 +1,4 @@
-//! The repair of a stream by blocks: for any blocks and rooms, the text of the whole is written.
+//! The repair of a stream by blocks: for blocks and destinations of any length, the text of the whole is written.
 #[path = "common/runs.rs"]
 mod runs;
 

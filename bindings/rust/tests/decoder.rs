@@ -1,4 +1,4 @@
-//! The decoder over random pieces into random rooms, compared with `std` on the whole.
+//! The decoder over random pieces into destinations of random length, compared with `std` on the whole.
 mod common;
 
 use common::*;

@@ -1,4 +1,4 @@
-//! The encoder over random pieces into random rooms, compared with `std` on the whole.
+//! The encoder over random pieces into destinations of random length, compared with `std` on the whole.
 mod common;
 
 use common::*;

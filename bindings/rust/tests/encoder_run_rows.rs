@@ -8,7 +8,7 @@ use common::vectors::{LIMITS, UNITS};
 use encoding_text::EncoderResult;
 use runs::*;
 
-/// Source, turns, room of the destination, how much is read, the last result, output, and what is pending then.
+/// Source, turns, length of the destination, how much is read, the last result, output, and what is pending then.
 const ROWS: &str = "\
 D83D DCA9 0062 | 4 1 4 last | 10 | 3 | empty | F0 9F 92 A9 62 | none
 D83D DCA9 | 3 1 3 last | 10 | 1 | full | | D83D

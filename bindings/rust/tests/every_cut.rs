@@ -102,7 +102,7 @@ impl Chain {
     }
 
     /// Passes a piece until `InputEmpty` is returned, when all of it is read. A call that makes no progress is followed
-    /// by one with enough room.
+    /// by one with enough space.
     fn hand_in(&mut self, piece: &[u8], last: bool) {
         let mut unread = piece;
         let mut stuck = false;

@@ -16,7 +16,7 @@ const FILLERS: [char; 4] = ['a', '\u{430}', '\u{4E00}', '\u{1F600}'];
 /// How many bytes the characters around a vector have.
 const LENGTH: usize = 72;
 
-/// The distances of rooms from the length that a text needs. One more and one less are tried as well.
+/// How far the length of a destination is from what a text needs. One more and one less are tried as well.
 const GAPS: [usize; 7] = [0, 8, 16, 24, 32, 48, 64];
 
 fn gaps() -> impl Iterator<Item = usize> {
@@ -70,7 +70,7 @@ impl<S: Unit, D: Unit> Text<S, D> {
     }
 }
 
-/// The offsets of the source and the destination, and the room.
+/// The offsets of the source and the destination, and the length of the latter.
 #[derive(Clone, Copy, Debug)]
 struct Place {
     from: usize,
@@ -78,7 +78,7 @@ struct Place {
     room: usize,
 }
 
-/// Returns the next of the 256 pairs of offsets, with this room.
+/// Returns the next of the 256 pairs of offsets, with this length of the destination.
 fn next_place(turn: &mut usize, room: usize) -> Place {
     *turn += 1;
     Place {
@@ -88,7 +88,7 @@ fn next_place(turn: &mut usize, room: usize) -> Place {
     }
 }
 
-/// Asserts that a call returns this result and writes this into the room, and nothing around it. The two units are
+/// Asserts that a call returns this result and writes this into the destination, and nothing around it. The two units are
 /// before and after the source.
 fn assert_call<S: Unit, D: Unit, A: PartialEq + Debug>(
     (src, round): (&[S], [S; 2]),
@@ -122,7 +122,7 @@ fn ended(text: &Text<u8, u16>, front: usize, left: usize, need: usize) -> (Decod
     }
 }
 
-/// Asserts that the conversion to UTF-16 writes the longest prefix into the room.
+/// Asserts that the conversion to UTF-16 writes the longest prefix that fits.
 fn assert_converts(text: &Text<u8, u16>, place: Place) {
     let front = text.front_into(place.room);
     let wanted = (front, &text.written[..front.1]);
@@ -160,7 +160,7 @@ fn assert_decodes_to_utf8(text: &Text<u8, u16>, place: Place) {
     });
 }
 
-/// Asserts that a well-formed text is written whole into a room no smaller than its length.
+/// Asserts that a well-formed text is written whole into a destination no shorter than it.
 fn assert_text_converts(text: &Text<u8, u16>, place: Place) {
     let wanted = (text.written.len(), text.written.as_slice());
     assert_call((&text.units, ROUND_BYTES), place, wanted, |src, dst| {
@@ -168,7 +168,7 @@ fn assert_text_converts(text: &Text<u8, u16>, place: Place) {
     });
 }
 
-/// Asserts that the calls hold into rooms that are `gap` more and `gap` less than what is needed.
+/// Asserts that the calls hold into destinations that are `gap` more and `gap` less than what is needed.
 fn assert_rooms(text: &Text<u8, u16>, gap: usize, turn: &mut usize) {
     let (bytes, units) = text.front_into(usize::MAX);
     let (less, more) = (units.saturating_sub(gap), units + gap);
@@ -258,7 +258,7 @@ fn text_of(units: &[u16], bytes: &[u8]) -> Text<u16, u8> {
     text
 }
 
-/// Asserts that the longest prefix of code units is written into the room. Halves of pairs surround the source.
+/// Asserts that the longest prefix of code units that fits is written. Halves of pairs surround the source.
 fn assert_units_convert(text: &Text<u16, u8>, place: Place) {
     let front = text.front_into(place.room);
     let wanted = (front, &text.written[..front.1]);
@@ -321,7 +321,7 @@ fn runs_into_each_room() {
     }
 }
 
-/// Asserts that the longest prefix of Latin1 is written into the room.
+/// Asserts that the longest prefix of Latin1 that fits is written.
 fn assert_latin1_converts(text: &Text<u8, u8>, place: Place) {
     let front = text.front_into(place.room);
     let wanted = (front, &text.written[..front.1]);
@@ -333,7 +333,7 @@ fn assert_latin1_converts(text: &Text<u8, u8>, place: Place) {
     );
 }
 
-/// Asserts that the bytes are converted back into a room no smaller than their UTF-8.
+/// Asserts that the bytes are converted back into a destination no shorter than their UTF-8.
 fn assert_latin1_comes_back(text: &Text<u8, u8>, place: Place) {
     let wanted = (LENGTH, text.units.as_slice());
     assert_call((&text.written, ROUND_BYTES), place, wanted, |src, dst| {

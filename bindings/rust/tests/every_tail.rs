@@ -1,4 +1,4 @@
-//! Bounded conversions into each room: how much fits, and that the rest is unchanged.
+//! Bounded conversions into destinations of each length: how much fits, and that the rest is unchanged.
 
 use encoding_text::mem::{convert_latin1_to_utf8_partial, convert_utf16_to_utf8_partial};
 use std::fmt::Debug;
@@ -17,7 +17,7 @@ fn longest_front(letters: usize, size: usize, length: usize, room: usize) -> (us
     (written - more, written)
 }
 
-/// Asserts that as much is read and written as fits into each room, of up to a number of bytes for each unit, and that
+/// Asserts that as much is read and written as fits into a destination of each length, up to a number of bytes for each unit, and that
 /// `q` stays after it. A unit that has this length in UTF-8 is after letters and before forty letters.
 fn assert_tails_stay<S: Copy + Debug + From<u8>>(
     (unit, size): (S, usize),
@@ -40,7 +40,7 @@ fn assert_tails_stay<S: Copy + Debug + From<u8>>(
     }
 }
 
-/// A byte that becomes two, after letters and before forty letters, into each room.
+/// A byte that becomes two, after letters and before forty letters, into destinations of each length.
 #[test]
 fn latin1_tails_stay() {
     for high in [0x80, 0xA0, 0xCA, 0xE4, 0xFF] {
@@ -48,7 +48,7 @@ fn latin1_tails_stay() {
     }
 }
 
-/// A unit of two or three bytes after letters and before forty letters, into each room.
+/// A unit of two or three bytes after letters and before forty letters, into destinations of each length.
 #[test]
 fn utf16_tails_stay() {
     for unit in [(0x00CA, 2), (0x00E4, 2), (0x4E00, 3), (0xD83D, 3), (0xDCA9, 3)] {

@@ -11,7 +11,7 @@ use runs::*;
 /// The run that writes bytes, or code units.
 type Run<U> = fn(&mut Decoder, &[u8], &[Turn], &mut [U], &mut [Report]) -> Outcome;
 
-/// Source, turns, room of the destination, how much is read, the last result, output, reports.
+/// Source, turns, length of the destination, how much is read, the last result, output, reports.
 const ROWS: &str = "\
 new
 utf16 | F0 9F 92 A9 C2 7F | 14 1 2 last | 7 | 6 | empty | D83D DCA9 007F | 2 1

@@ -85,7 +85,7 @@ fn assert_begins(row: &str, bytes: &[u8], dst: &[u8]) {
     );
 }
 
-/// Units, room, units read, bytes written.
+/// Units, `room`, units read, bytes written.
 const TAILS: &str = "\
 D83D DCA9 | 3 | 0 |
 D83D 0062 | 3 | 1 | EF BF BD

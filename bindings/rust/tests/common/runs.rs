@@ -19,7 +19,7 @@ pub struct Encoder {
     held: u16,
 }
 
-/// One call of a run: how much it takes, its room, and whether it is marked last if it takes all that is left.
+/// One call of a run: its `take`, its `room`, and whether it is marked last if it takes all that is left.
 #[repr(C)]
 #[derive(Clone, Copy)]
 pub struct Turn {
@@ -191,7 +191,7 @@ pub fn turns_of(field: &str) -> Vec<Turn> {
     turns
 }
 
-/// Returns enough turns for a source of this length, each with this take and this room.
+/// Returns enough turns for a source of this length, each with this `take` and this `room`.
 pub fn turns_for(length: usize, take: usize, room: usize) -> Vec<Turn> {
     let last = true;
     vec![Turn { take, room, last }; 2 * length + 2]

@@ -20,14 +20,14 @@ pub enum Room {
     Short,
 }
 
-/// How a call is made: the room, and how many units after what is written become zero.
+/// How a call is made: the length of the destination, and how many units after what is written become zero.
 #[derive(Clone, Copy)]
 pub struct Way {
     room: Room,
     zeros: usize,
 }
 
-/// Into exactly as much room as is needed.
+/// Into exactly as many units as are needed.
 pub const EXACT: Way = Way {
     room: Room::Exact,
     zeros: 0,
@@ -111,7 +111,7 @@ impl<S: Unit, D: Unit> Text<S, D> {
         self.source.fill(S::BEHIND);
     }
 
-    /// Returns how many units have to be read and written into this room, and how many units it has.
+    /// Returns how many units have to be read and written into this destination, and how many it has.
     fn told(&self, room: Room) -> ((usize, usize), usize) {
         let (read, written) = (self.src.len(), self.wanted.len());
         match room {
