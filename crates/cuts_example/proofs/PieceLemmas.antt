@@ -19,12 +19,12 @@ pub AllByRecursion-push : {X : Type 0} (P : X → Type 0) (xs : List X) (x : X) 
 AllByRecursion-push P [] x h p = (p, tt)
 AllByRecursion-push P (y ∷ ys) x h p = (h.0, AllByRecursion-push P ys x h.1 p)
 
--- what is cut off goes behind the pieces before it
+-- what is cut off is appended to the pieces before it
 pub flat_map-push : {X : Type 0} (f : X → List ℕ) (xs : List X) (x : X) (rest others bytes : List ℕ) → flat_map f xs ++ rest ≡ bytes → f x ++ others ≡ rest → flat_map f (xs ++ x ∷ []) ++ others ≡ bytes
 flat_map-push f xs x rest others bytes h e =
     ap (λ t. t ++ others) (sym (flat_map_more f [] xs x)) ∙ append_assoc (flat_map f xs) (f x) others ∙ ap (λ t. flat_map f xs ++ t) e ∙ h
 
--- no more parts are broken than there are bytes
+-- there are no more malformed sequences than bytes
 pub replaced_within : (pieces : List (List ℕ)) (repaired : List RepairedPiece) → AllZip IsRepairOf pieces repaired
     → sum_by (λ piece. piece.replaced) repaired ≤ length (flat_map (λ piece. piece) pieces)
 replaced_within [] [] h = omega arith
@@ -47,7 +47,7 @@ all_joined law (p ∷ q ∷ ps) (r ∷ rs) cut h =
     subst (IsRepairedWith _ _) (sym (sum_by-cons (λ (piece : RepairedPiece). piece.replaced) r rs))
     (law p _ r.text.items _ r.replaced _ cut.0 h.0 (all_joined law (q ∷ ps) rs cut.1 h.1))
 
--- ---- broken parts of what stands behind others
+-- ---- malformed sequences of bytes after others
 behind_more : (parts : List Part) (n at m : ℕ) → n + at ≡ m → broken_places m parts ≡ behind n (broken_places at parts)
 behind_more [] n at m e = refl
 behind_more (Character c ∷ parts) n at m e = behind_more parts n _ _ (omega arith)

@@ -1,5 +1,5 @@
-//! Bytes that are cut behind ASCII bytes, such as line ends, and whose pieces are repaired apart, in any order and on as
-//! many machines as there are: joined, their texts are what one repair of all the bytes writes.
+//! Bytes are cut after ASCII bytes, such as line ends, and their pieces are repaired separately, in any order and on
+//! any number of machines. Joined, their texts are what one repair of all the bytes writes.
 #![tactic(auto)]
 
 ghost use Rattle.std.specs.Prelude.{◌≡◌, ℕ, ◌+◌, ◌-◌, ◌<◌, ◌≤◌, ◌^◌, min, List, ◌++◌, length, take, map, sum_by, slice_index, IfOk};
@@ -12,18 +12,18 @@ use encoding_runs::laws::{law_cuts, law_next_broken, law_parts};
 use encoding_runs::repair::{Watch, repair_slice};
 use std::alloc::{AllocError, Global};
 
-/// A piece that was repaired, or several that were joined.
+/// A repaired piece, or several that were joined.
 #[derive(Drop)]
 pub struct RepairedPiece {
     /// Its text, in UTF-8.
     pub text: Vec<u8>,
-    /// For how many broken parts it has U+FFFD.
+    /// The number of malformed sequences replaced by U+FFFD.
     pub replaced: u64,
 }
 
-/// Behind nothing, and behind an ASCII byte, bytes may be cut: what is repaired apart joins to what is repaired at once,
-/// and its broken parts add up. Those of the whole are those of the piece and then, so many bytes further on as it has,
-/// those of what follows: so they are found apart too.
+/// Bytes may be cut at the start and after an ASCII byte: the repairs of the two sides join to the repair of the whole,
+/// and their malformed sequences add up. Those of the whole are those of the piece, followed by those of the rest,
+/// whose offsets grow by the length of the piece. So they can also be found separately.
 pub fn law_cut()
     ensures broken { (piece more : List ℕ) (found others : List (ℕ × ℕ)) → MayBeCutBehind piece
         → AreBrokenPartsOf piece found → AreBrokenPartsOf more others
@@ -35,8 +35,8 @@ pub fn law_cut()
     law_cuts();
 }
 
-/// The place and the length, in bytes, of each broken part, in order: as many as a repair counts. An `Err` says that
-/// memory was refused.
+/// Returns the offset and the length, in bytes, of each malformed sequence, in order: as many as a repair counts. An
+/// `Err` means that an allocation failed.
 pub fn broken_places(alloc: Global, bytes: &[u8]) -> Result<Vec<(usize, usize)>, AllocError>
     ensures found { IfOk result (λ found. AreBrokenPartsOf bytes.now found.items) }
     ensures count { (text : List ℕ) (n : ℕ) → IsRepairedWith bytes.now text n
@@ -53,7 +53,8 @@ pub fn broken_places(alloc: Global, bytes: &[u8]) -> Result<Vec<(usize, usize)>,
     Ok(found)
 }
 
-/// How long the first piece is: at least so many bytes, up to and with the next ASCII byte, or all where none comes.
+/// Returns the length of the first piece: at least `least` bytes, up to and including the next ASCII byte, or all if
+/// there is none.
 fn cut_length(bytes: &[u8], least: usize) -> usize
     requires { 0 < least }
     ensures within { result ≤ length bytes.now }
@@ -71,8 +72,8 @@ fn cut_length(bytes: &[u8], least: usize) -> usize
     bytes.len()
 }
 
-/// Cuts bytes into pieces, each but the last of at least so many bytes, and up to the next ASCII byte. An `Err` says that
-/// memory was refused.
+/// Cuts bytes into pieces, each but the last of at least `least` bytes, up to the next ASCII byte. An `Err` means that
+/// an allocation failed.
 pub fn cut<'a>(alloc: Global, bytes: &'a [u8], least: usize) -> Result<Vec<&'a [u8]>, AllocError>
     requires { 0 < least }
     ensures whole { IfOk result (λ pieces. flat_map (λ piece. piece.now) pieces.items ≡ bytes.now) }
@@ -88,7 +89,7 @@ pub fn cut<'a>(alloc: Global, bytes: &'a [u8], least: usize) -> Result<Vec<&'a [
     Ok(pieces)
 }
 
-/// Repairs a piece. An `Err` says that memory was refused.
+/// Repairs a piece. An `Err` means that an allocation failed.
 pub fn repair_piece(alloc: Global, piece: &[u8]) -> Result<RepairedPiece, AllocError>
     ensures { IfOk result (λ repaired. IsRepairOf piece.now repaired) }
 {
@@ -99,8 +100,8 @@ pub fn repair_piece(alloc: Global, piece: &[u8]) -> Result<RepairedPiece, AllocE
     }
 }
 
-/// Joins repaired pieces in the order of their bytes, whoever repaired them and when: of whatever pieces they are the
-/// repairs, what comes out is the repair of the bytes that these make up. An `Err` says that memory was refused.
+/// Joins repaired pieces in the order of their bytes, whoever repaired them and when. The result is the repair of the
+/// bytes that the pieces make up. An `Err` means that an allocation failed.
 pub fn join(alloc: Global, repaired: &[RepairedPiece]) -> Result<RepairedPiece, AllocError>
     requires counted { sum_by (λ piece. piece.replaced) repaired.now < 2 ^ 64 }
     ensures { (pieces : List (List ℕ)) → AreCut pieces → AllZip IsRepairOf pieces repaired.now
@@ -118,7 +119,7 @@ pub fn join(alloc: Global, repaired: &[RepairedPiece]) -> Result<RepairedPiece, 
     Ok(whole)
 }
 
-/// Repairs bytes in pieces of at least so many bytes, each apart. An `Err` says that memory was refused.
+/// Repairs bytes in pieces of at least `least` bytes, each separately. An `Err` means that an allocation failed.
 pub fn repair_apart(alloc: Global, bytes: &[u8], least: usize) -> Result<RepairedPiece, AllocError>
     requires { 0 < least }
     ensures { IfOk result (λ whole. IsRepairOf bytes.now whole) }

@@ -1,4 +1,4 @@
--- A call that goes on where another ended.
+-- A call that continues another.
 use Rattle.std.proofs.Common.{◌≡◌, ◌≢◌, ℕ, ◌+◌, ◌-◌, ◌<◌, ◌≤◌, inl, inr, Bool, true, false, ◌||◌, nat_lt, List, [], ◌∷◌, ◌++◌, length, take, drop, encode_utf8, encode_utf8_all, refl, sym, ap, subst, ◌∙◌, arith, append-nil, append_assoc, length-append}
 use Rattle.std.specs.List.{flat_map}
 use Rattle.std.specs.Str.{all_scalars}
@@ -29,7 +29,7 @@ lt_from : (n : ℕ) → true ≡ nat_lt 0 n → 0 < n
 lt_from n e = grind (arith, nat_tests)
 
 module _ {A : Type 0} (encode : ℕ → List A) (query : ℕ → ℕ → ℕ) where
-  -- the second call says that it replaced nothing, or something
+  -- the second call reports that it replaced nothing, or something
   pub Writes_then : (old mid new : State) (src : List ℕ) (dst dst' sub : List A) (last : Bool) (read written r w : ℕ) (replaced again both : Bool) → (replaced || again) ≡ both
       → Writes encode query old src dst dst' last read written replaced mid
       → Writes encode query mid (take (length src - read) (drop read src)) (take (length dst' - written) (drop written dst')) sub last r w again new
@@ -70,7 +70,7 @@ module _ {A : Type 0} (encode : ℕ → List A) (query : ℕ → ℕ → ℕ) wh
         (λ m l. lt_of_not-le (λ h. omega (arith, first.suffices m l h, short (m - read) (omega (arith, l, ap length unread, length-drop read src)), room, first.writes.fits))),
       )
 
-  -- what a call gives, with U+FFFD for the part that it reports
+  -- what a call yields, with U+FFFD for the malformed sequence that it reports
   gives_of_call : (need : ℕ) (p src : List ℕ) (dst dst' : List A) (last : Bool) (result : DecoderResult) (read written : ℕ) (q : List ℕ) (made : IsReportingCall encode need query p src dst dst' last result read written q)
       → (more : List ℕ) → (last ≡ true → more ≡ []) → GivesText encode (p ++ (src ++ more)) (q ++ (drop read src ++ more)) (made.out ++ written_for encode result) (is_report encode result)
   gives_of_call need p src dst dst' last result read written q made more none =
@@ -100,7 +100,7 @@ module _ {A : Type 0} (encode : ℕ → List A) (query : ℕ → ℕ → ℕ) wh
     suffices = λ m l h. omega (arith, ap length same, made.suffices_replacing m l h (k, second, is));
   }
 
-  -- with a broken part fewer bytes are left
+  -- after a malformed sequence fewer bytes are left
   pub shrinks : (p src : List ℕ) (dst dst' : List A) (last : Bool) (read written : ℕ) (replaced : Bool) (q : List ℕ) → replaced ≡ true
       → Writes encode query (Decoding p) src dst dst' last read written replaced (Decoding q) → length q + (length src - read) < length p + length src
   shrinks p src dst dst' last read written replaced q e w =
@@ -108,8 +108,8 @@ module _ {A : Type 0} (encode : ℕ → List A) (query : ℕ → ℕ → ℕ) wh
       let some : 0 < count_broken g.parts = lt_from (count_broken g.parts) (sym e ∙ g.broken) in
       omega (arith, some, count_broken-bytes _ g.parts _ g.first, length-append p (src ++ []), length-append src [], length-append q (drop read src ++ []), length-append (drop read src) [], length-drop read src)
 
-  -- ---- behind what was read of a mark
-  -- the call that follows, where the state after the mark is that of what is pending
+  -- ---- a call after the mark was read
+  -- the call that follows, if the state after the mark is that of what is pending
   pub sniffed_call : (need : ℕ) (old mid new : State) (src : List ℕ) (dst dst' : List A) (last : Bool) (result : CoderResult) (k r w : ℕ) (replaced : Bool) → k ≤ length src
       → ((more : List ℕ) → (last ≡ true → more ≡ []) → left mid (drop k src ++ more) ≡ left old (src ++ more))
       → length (held mid) + (length src - k) ≤ length (held old) + length src → ((n p m q : ℕ) → n + p ≤ m + q → query n p ≤ query m q)
@@ -149,7 +149,7 @@ module _ {A : Type 0} (encode : ℕ → List A) (query : ℕ → ℕ → ℕ) wh
         (λ m l. omega (arith, less m l, short (m - k) (omega (arith, l, size)))),
       )
 
--- ---- U+FFFD has room
+-- ---- U+FFFD fits
 at_end : (p x cs : List ℕ) (last : Bool) → IsPending p → all_scalars cs ≡ true → p ≡ encode_utf8_all cs ++ x → IsBroken x [] last → (cs ≡ []) × (last ≡ true) × (p ≢ [])
 at_end p [] cs last h scalars e (inl (b, one, nothing)) = absurd (omega (arith, ap length one))
 at_end p [] cs last h scalars e (inr (begins, marked)) = absurd (omega (arith, begins.0))
@@ -159,7 +159,7 @@ at_end p (y ∷ ys) (c ∷ cs) last (inr begins) scalars e broken =
 at_end p (y ∷ ys) [] last (inr begins) scalars e (inl (b, one, nothing)) = absurd (nothing (inr (subst IsBeginning (e ∙ one) begins)))
 at_end p (y ∷ ys) [] last (inr begins) scalars e (inr (also, marked)) = (refl, marked, λ none. omega (arith, ap length none, begins.0))
 
--- a call that reports leaves room for U+FFFD, where a call on no source had it
+-- after a call that reports U+FFFD fits, if it did before a call on no source
 pub replacement_fits : {A : Type 0} (encode : ℕ → List A) (need units : ℕ) (p src : List ℕ) (room : ℕ) (last : Bool) (result : DecoderResult) (k second read : ℕ) (out : List A) (q : List ℕ) → IsCall encode need p src room last result read out q
     → result ≡ raw.Malformed k second → units ≤ need → (last ≡ true → length src ≡ 0 → p ≢ [] → units ≤ room) → units ≤ room - length out
 replacement_fits encode need units p [] room last result k second read out q call is little had =

@@ -1,4 +1,4 @@
--- The parts that one call gives, and their text with U+FFFD for each broken one.
+-- The parts that one call yields, and their text with U+FFFD for each malformed sequence.
 use Rattle.std.proofs.Common.{◌≡◌, ℕ, ◌+◌, Bool, true, false, ◌||◌, nat_lt, List, [], ◌∷◌, ◌++◌, drop, map, refl, sym, ap, subst, ◌∙◌, arith, append-nil, append_assoc}
 use Rattle.std.proofs.lemmas.Bool.Decides.{nat_tests}
 use Rattle.std.proofs.lemmas.Grind.{flat_map-append}
@@ -11,7 +11,7 @@ use Rattle.encoding_text.specs.declared.decoder.DecoderResult.{DecoderResult}
 use Rattle.encoding_text.specs.declared.decoder.DecoderResult.TheVariants.{InputEmpty, OutputFull, Malformed}
 use Rattle.decoder_example.specs.Marked.{GivesText}
 
--- the parts that a call gives are the first ones whatever follows, where anything may
+-- the parts that a call yields are the first ones for any following bytes, if any may follow
 pub first_parts : (p src : List ℕ) (last : Bool) (parts : List Part) (read : ℕ) (q more : List ℕ) → Gives p src last parts read q → (last ≡ true → more ≡ [])
     → StartsWith (p ++ (src ++ more)) parts (q ++ (drop read src ++ more))
 first_parts p src false parts read q more given none =
@@ -31,7 +31,7 @@ module _ {A : Type 0} (encode : ℕ → List A) where
   text-characters [] = refl
   text-characters (c ∷ cs) = ap (λ xs. encode c ++ xs) (text-characters cs)
 
-  -- what is written for a part that is reported
+  -- what is written for a malformed sequence that is reported
   abbrev pub written_for : DecoderResult → List A
   written_for InputEmpty = []
   written_for OutputFull = []
@@ -47,7 +47,7 @@ module _ {A : Type 0} (encode : ℕ → List A) where
   reported_text OutputFull parts e = rw e (refl, refl)
   reported_text (Malformed k second) parts (x, e, size) = rw e (append-nil (encode 0xFFFD), refl)
 
-  -- the text of what a call gives is what it wrote, and U+FFFD for what it reported
+  -- the text of what a call yields is what it wrote, and U+FFFD for what it reported
   pub decoded_text : (result : DecoderResult) (out : List A) (parts : List Part) → AreDecoded encode result out parts
       → (out ++ written_for result ≡ text parts) × (is_report result ≡ nat_lt 0 (count_broken parts))
   decoded_text result out parts (cs, reported, scalars, is_out, is, e) =

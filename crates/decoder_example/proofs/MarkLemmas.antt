@@ -1,4 +1,4 @@
--- Bytes that begin with the mark, and bytes that don't.
+-- Bytes that start with the mark, and bytes that don't.
 use Rattle.std.proofs.Common.{◌≡◌, ℕ, zero, suc, ◌+◌, ◌<◌, inl, inr, Bool, true, false, List, [], ◌∷◌, ◌++◌, length, take, drop, if◌then◌else◌, nat_eq, refl, sym, ap, subst, ◌∙◌, arith, append-nil, append_assoc, length-append, take-append-drop}
 use Rattle.std.proofs.lemmas.Bool.{both_ways}
 use Rattle.std.proofs.lemmas.Bool.Decides.{Decides-eqb}
@@ -14,7 +14,7 @@ use Rattle.encoding_text.specs.declared.decoder.Piece.{Piece}
 use Rattle.encoding_text.specs.declared.decoder.Piece.TheVariants.{InputEmpty}
 use Rattle.decoder_example.specs.Marked.{mark, without_mark}
 
--- one begins the other
+-- one is a prefix of the other
 pub starts : (bytes front : List ℕ) → starts_with nat_eq bytes front ≡ true → bytes ≡ front ++ drop (length front) bytes
 starts bytes front = (starts_is Decides-eqb bytes front (starts_with nat_eq bytes front) refl).0
 
@@ -35,7 +35,7 @@ module _ (n : ℕ) (short : n < 3) (src : List ℕ) where
   joined : (rest : List ℕ) → take n mark ++ (drop n mark ++ rest) ≡ mark ++ rest
   joined rest = sym (append_assoc (take n mark) (drop n mark) rest) ∙ ap (λ bs. bs ++ rest) (take-append-drop n mark)
 
-  -- the mark is whole
+  -- the mark is complete
   pub mark_whole : (missing more : List ℕ) → missing ≡ drop n mark → starts_with nat_eq src missing ≡ true
       → drop (length missing) src ++ more ≡ without_mark (take n mark ++ (src ++ more))
   mark_whole missing more e begins =
@@ -43,7 +43,7 @@ module _ (n : ℕ) (short : n < 3) (src : List ℕ) where
       let whole : src ≡ drop n mark ++ rest = starts src missing begins ∙ ap (λ bs. bs ++ rest) e in
       sym (without_mark-mark _ (rest ++ more) (ap (λ bs. take n mark ++ (bs ++ more)) whole ∙ ap (λ bs. take n mark ++ bs) (append_assoc (drop n mark) rest more) ∙ joined (rest ++ more)))
 
-  -- it has begun, and isn't whole
+  -- it is incomplete
   pub mark_begun : (missing : List ℕ) → missing ≡ drop n mark → starts_with nat_eq src missing ≡ false → starts_with nat_eq missing src ≡ true
       → (n + length src < 3) × (take (n + length src) mark ≡ take n mark ++ src)
   mark_begun missing e differs begins =
@@ -80,7 +80,7 @@ module _ (n : ℕ) (short : n < 3) (src : List ℕ) where
         | inr (t, s, r) ↦ starts_not src missing t differs s
       ]
 
--- what begins the mark begins a character
+-- a prefix of the mark is an incomplete sequence
 IsPending-mark : (n : ℕ) → n < 3 → IsPending (take n mark)
 IsPending-mark zero short = inl refl
 IsPending-mark (suc n) short = inr (

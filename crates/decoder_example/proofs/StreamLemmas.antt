@@ -1,4 +1,4 @@
--- What calls in a row give.
+-- What calls in sequence yield.
 use Rattle.std.proofs.Common.{◌≡◌, ℕ, ◌≤◌, inl, Bool, true, false, List, [], ◌∷◌, ◌++◌, length, take, drop, encode_utf8_all, refl, sym, ap, subst, ◌∙◌, arith, append-nil, length-append, take-append-drop}
 use Rattle.std.proofs.lemmas.List.{take_at, drop-append-le, drop_all, nil_from_length, length-take}
 use Rattle.std.specs.List.{flat_map, list_any}
@@ -32,7 +32,7 @@ calls_give encode need query state unread (call ∷ calls) ((dst, dst', out, doe
     GivesText-append encode _ _ _ _ _ _ _ first (calls_give encode need query call.after (drop call.read unread) calls made)
 
 -- ---- the decoder inside
--- all that was read and may go on is settled
+-- all that was read, if more may follow, is final
 pub settled_calls : ((bs rest : List ℕ) (parts : List Part) → StartsWith bs parts rest → IsPending rest → ((more : List ℕ) → StartsWith (bs ++ more) parts (rest ++ more)) → AreSettled bs parts rest)
     → (p stream : List ℕ) (calls : List (Call Form Answer ℕ)) (given : GiveTheParts AreGiven IsInputEmpty p stream calls) → some_last calls ≡ false → length stream ≤ read_in_all calls
     → AreSettled (p ++ stream) given.parts (pending_after p calls)
@@ -42,13 +42,13 @@ settled_calls settled_are p stream calls given unmarked all =
     settled_are (p ++ stream) q given.parts (subst (StartsWith (p ++ stream) given.parts) none given.front.first) given.front.pending
     (λ more. subst (λ bs. StartsWith (p ++ stream ++ more) given.parts (bs ++ more)) none (given.front.whatever_follows unmarked more))
 
--- nothing is pending where the bytes of the parts are the whole stream
+-- nothing is pending if the bytes of the parts are the whole stream
 pub none_left : (stream : List ℕ) (calls : List (Call Form Answer ℕ)) (given : GiveTheParts AreGiven IsInputEmpty [] stream calls) → flat_map bytes_of given.parts ≡ stream → pending_after [] calls ≡ []
 none_left stream calls given joined =
     let q = pending_after [] calls in
     nil_from_length q (omega (arith, ap length given.bytes, ap length joined, length-append (flat_map bytes_of given.parts) q, length-take (read_in_all calls) stream))
 
--- the one answer to a call on a text, where the room holds it
+-- the one result of a call on a text that fits
 pub takes_whole : {A : Type 0} (encode : ℕ → List A) (need : ℕ) (cs : List ℕ) (out : List A) (q : List ℕ) (room read : ℕ) (last : Bool) (result : DecoderResult) → all_scalars cs ≡ true
     → length (flat_map encode cs) ≤ room → HasOneAnswer encode need [] (encode_utf8_all cs) room last → IsCall encode need [] (encode_utf8_all cs) room last result read out q
     → TakesWhole encode cs result read out q

@@ -1,4 +1,4 @@
--- Calls of a decoder in a row, over one stream.
+-- Calls of a decoder in sequence, over one stream.
 use Rattle.std.specs.Prelude.{◌≡◌, ℕ, Bool, true, List, [], ◌∷◌, ◌++◌, length, take, drop, encode_utf8_all}
 use Rattle.std.specs.List.{flat_map}
 use Rattle.encoding_definitions.specs.Parts.{Part, ArePartsOf, AreSettled, repaired_text, repaired_utf16}
@@ -11,8 +11,8 @@ use Rattle.decoder_example.specs.declared.CoderResult.{CoderResult}
 use Rattle.decoder_example.specs.Marked.{State}
 use Rattle.decoder_example.specs.Calls.{IsReplacingCall}
 
--- one of them: at most how many of the unread bytes it is handed, whether it is marked last, what ends it, how many bytes
--- it reads, what it writes, whether U+FFFD stands for any, and what is held after it
+-- one of them: the most unread bytes that it takes, whether it is marked last, what ends it, how many bytes it reads,
+-- what it writes, whether that has U+FFFD for any, and what is kept after it
 pub record Made (A : Type 0) : Type 0 where
   pub piece : ℕ
   pub last : Bool
@@ -22,7 +22,7 @@ pub record Made (A : Type 0) : Type 0 where
   pub replaced : Bool
   pub after : State
 
--- each is handed the first unread bytes, and one that is marked last all of them, and any destination
+-- each is passed the first unread bytes, and one that is marked last all of them, and any destination
 abbrev pub AreMade : {A : Type 0} → (ℕ → List A) → ℕ → (ℕ → ℕ → ℕ) → State → List ℕ → List (Made A) → Type 0
 AreMade encode need query state unread [] = Unit {0}
 AreMade {A} encode need query state unread (call ∷ calls) =
@@ -30,7 +30,7 @@ AreMade {A} encode need query state unread (call ∷ calls) =
     × IsReplacingCall encode need query state (take call.piece unread) dst dst' call.last call.result call.read (length call.out) call.replaced call.after)
     × (call.last ≡ true → drop call.piece unread ≡ []) × AreMade encode need query call.after (drop call.read unread) calls
 
--- what is held after them
+-- what is kept after them
 abbrev pub state_after : {A : Type 0} → State → List (Made A) → State
 state_after state [] = state
 state_after state (call ∷ calls) = state_after call.after calls
@@ -40,8 +40,8 @@ abbrev pub unread_after : {A : Type 0} → List ℕ → List (Made A) → List �
 unread_after unread [] = unread
 unread_after unread (call ∷ calls) = unread_after (drop call.read unread) calls
 
--- The calls give, in sequence, the settled parts of what was pending and of the stream, whose text begins that of both and
--- of anything behind them, in UTF-8 and in UTF-16.
+-- The calls yield, in sequence, the final parts of what was pending and of the stream. Their text is a prefix of the
+-- text of both and of anything after them, in UTF-8 and in UTF-16.
 pub record GiveWhatStays (p stream : List ℕ) (calls : List (Call Form Answer ℕ)) : Type 0 where
   pub parts : List Part
   pub given : AreGivenInSequence AreGiven calls parts

@@ -1,6 +1,6 @@
-//! A decoder of UTF-8 whose stream may begin with a byte order mark: it drops the mark, however that is cut, and writes
-//! U+FFFD for each broken part. Its calls have the shape of those of the crate `encoding_rs`. Encoding Standard, UTF-8
-//! decode.
+//! A decoder of UTF-8 for streams that may start with a byte order mark: it drops the mark, however that is cut, and
+//! writes U+FFFD for each malformed sequence. Its calls have the form of those of the crate `encoding_rs`. Encoding
+//! Standard, UTF-8 decode.
 #![tactic(auto)]
 
 mod streams;
@@ -18,12 +18,12 @@ use encoding_text::decoder::{DecoderResult, Utf8Decoder};
 use std::marker::Model;
 pub use streams::{law_calls, law_given_stays, law_next_stream, law_whole_text};
 
-/// What ended a call.
+/// Why a call ended.
 #[derive(Debug, PartialEq, Eq, Drop)]
 pub enum CoderResult {
     /// All of the source was read.
     InputEmpty,
-    /// The room that is left may not hold what comes next: hand in more.
+    /// The rest of the destination may be too short for what comes next. Call again with more space.
     OutputFull,
 }
 
@@ -38,10 +38,10 @@ trait CodeUnit: Copy {
     // the most code units that a character takes
     ghost need: { ℕ };
 
-    // what is queried for so many bytes, behind so many that are held
+    // the queried length for this many bytes, after this many that are kept
     ghost query: { ℕ → ℕ → ℕ };
 
-    /// The decoder's call that writes them.
+    /// Makes the decoder's call that writes them.
     fn decode(
         decoder: &mut Utf8Decoder,
         src: &[u8],
@@ -88,7 +88,7 @@ impl CodeUnit for u8 {
     }
 }
 
-/// Writes code units to the first places.
+/// Writes code units at the start of `dst`.
 fn put<U: Copy>(dst: &mut [U], units: &[U])
     requires fits { length units.now ≤ length dst.old }
     ensures { WritesFront dst.old dst.new (length units.now) units.now }
@@ -96,8 +96,8 @@ fn put<U: Copy>(dst: &mut [U], units: &[U])
     dst[..units.len()].copy_from_slice(units);
 }
 
-/// Makes one call, and writes U+FFFD for the broken part that it reports: then nothing ended the call but this part.
-/// Returns how many bytes were read and how many code units written.
+/// Makes one call, and writes U+FFFD for the malformed sequence that it reports. Returns why the call ended, or `None` after
+/// a report, the number of bytes read and the number of code units written.
 fn decode_part<U: CodeUnit>(
     decoder: &mut Utf8Decoder,
     src: &[u8],
@@ -113,7 +113,7 @@ fn decode_part<U: CodeUnit>(
     ensures ends { IfSome result.0 (λ r. Ends U.encode U.need U.query (Decoding decoder.old) src.now (length dst.old)
         last r result.1 result.2 (Decoding decoder.new)) }
 {
-    // With nothing to read a call reports the pending part into any room.
+    // With nothing to read a call reports the pending bytes into any destination.
     if last && src.is_empty() && dst.len() < replacement.len() && !decoder.in_neutral_state() {
         return (Some(CoderResult::OutputFull), 0, 0);
     }
@@ -128,8 +128,8 @@ fn decode_part<U: CodeUnit>(
     }
 }
 
-/// Decodes, with U+FFFD for each broken part: what ended the call, how many bytes were read and how many code units
-/// written, and whether any part was broken.
+/// Decodes, with U+FFFD for each malformed sequence. Returns why the call ended, the number of bytes read, the number
+/// of code units written, and whether any sequence was malformed.
 fn decode_parts<U: CodeUnit>(
     decoder: &mut Utf8Decoder,
     src: &[u8],
@@ -163,10 +163,10 @@ fn decode_parts<U: CodeUnit>(
     }
 }
 
-/// A decoder of a stream that may begin with a byte order mark.
+/// A decoder of a stream that may start with a byte order mark.
 #[derive(Drop)]
 pub struct Decoder {
-    // how many bytes of the mark were read, where nothing else was
+    // how many bytes of the mark were read, if nothing else was
     sniffed: Option<usize>,
     decoder: Utf8Decoder,
 }
@@ -183,7 +183,7 @@ impl Model for Decoder {
 }
 
 impl Decoder {
-    /// A decoder of a new stream, which drops the mark that may begin it.
+    /// Creates a decoder of a new stream, which drops a mark at its start.
     pub fn new() -> Decoder
         ensures { result ≡ Sniffing [] }
     {
@@ -193,7 +193,7 @@ impl Decoder {
         }
     }
 
-    /// A decoder of a new stream, of which a mark is a part.
+    /// Creates a decoder of a new stream, which decodes a mark like any other character.
     pub fn new_without_bom_handling() -> Decoder
         ensures { result ≡ Decoding [] }
     {
@@ -203,8 +203,8 @@ impl Decoder {
         }
     }
 
-    /// Reads what of the mark begins `src`, as long as all that was read may be the mark. Once that isn't so any more, what
-    /// was taken for the mark's beginning is pending.
+    /// Reads the bytes of `src` that continue the mark, as long as all that was read may be the mark. Once it isn't,
+    /// what was taken for the start of the mark is pending.
     fn sniff(&mut self, src: &[u8], last: bool) -> usize
         ensures within { result ≤ length src.now }
         ensures left { (more : List ℕ) → (last ≡ true → more ≡ [])
@@ -258,12 +258,13 @@ impl Decoder {
         (result, sniffed + read, written, replaced)
     }
 
-    /// Decodes to UTF-16, with U+FFFD for each broken part: what ended the call, how many bytes of `src` it read, how many
-    /// code units it wrote, and whether a part was broken. `last` says that no bytes will follow `src`.
+    /// Decodes to UTF-16, with U+FFFD for each malformed sequence. Returns why the call ended, the number of bytes of
+    /// `src` read, the number of code units written, and whether any sequence was malformed. `last` says that no bytes
+    /// follow `src`.
     ///
-    /// Hand in the unread bytes again: over all calls the code units are the UTF-16 of the repaired text of the stream less
-    /// its mark, however it is cut and whatever the rooms, once a call marked last returns `InputEmpty`. With two code
-    /// units of room left a call reads on. Behind what is written `dst` is as before.
+    /// Pass the unread bytes again. Once a call marked last returns `InputEmpty`, the code units of all calls are the
+    /// UTF-16 of the repaired text of the stream without its mark, in any pieces and destinations. If two code units
+    /// are left, a call reads on. The rest of `dst` is unchanged.
     pub fn decode_to_utf16(
         &mut self,
         src: &[u8],
@@ -276,12 +277,13 @@ impl Decoder {
         self.decode(src, dst, last, &[0xFFFD])
     }
 
-    /// Decodes to UTF-8, with U+FFFD for each broken part: what ended the call, how many bytes of `src` it read and how
-    /// many it wrote, and whether a part was broken. `last` says that no bytes will follow `src`.
+    /// Decodes to UTF-8, with U+FFFD for each malformed sequence. Returns why the call ended, the number of bytes of
+    /// `src` read, the number of bytes written, and whether any sequence was malformed. `last` says that no bytes
+    /// follow `src`.
     ///
-    /// Hand in the unread bytes again: over all calls the bytes are the repaired text of the stream less its mark, however
-    /// it is cut and whatever the rooms, once a call marked last returns `InputEmpty`. With four bytes of room left a call
-    /// reads on. Behind what is written `dst` is as before.
+    /// Pass the unread bytes again. Once a call marked last returns `InputEmpty`, the bytes of all calls are the
+    /// repaired text of the stream without its mark, in any pieces and destinations. If four bytes are left, a call
+    /// reads on. The rest of `dst` is unchanged.
     pub fn decode_to_utf8(
         &mut self,
         src: &[u8],
@@ -294,8 +296,8 @@ impl Decoder {
         self.decode(src, dst, last, &[0xEF, 0xBF, 0xBD])
     }
 
-    /// How many UTF-16 code units a destination has to hold so that the next `byte_length` bytes, in any pieces, never
-    /// meet its end: `None` where that number passes `usize::MAX`.
+    /// Returns the length in UTF-16 code units of a destination that is long enough for the next `byte_length` bytes,
+    /// in any pieces. Returns `None` if that number is above `usize::MAX`.
     pub fn max_utf16_buffer_length(&self, byte_length: usize) -> Option<usize>
         ensures { SomeIff result (utf16_room byte_length (length (held self.now)) ≤ usize.MAX)
             (utf16_room byte_length (length (held self.now))) }
@@ -305,8 +307,8 @@ impl Decoder {
             .max_utf16_buffer_length(byte_length.checked_add(sniffed)?)
     }
 
-    /// How many bytes a destination has to hold so that the next `byte_length` bytes, in any pieces, never meet its end
-    /// as UTF-8: `None` where that number passes `usize::MAX`.
+    /// Returns the length in bytes of a destination that is long enough for the UTF-8 of the next `byte_length` bytes,
+    /// in any pieces. Returns `None` if that number is above `usize::MAX`.
     pub fn max_utf8_buffer_length(&self, byte_length: usize) -> Option<usize>
         ensures { SomeIff result (utf8_room_replacing byte_length (length (held self.now)) ≤ usize.MAX)
             (utf8_room_replacing byte_length (length (held self.now))) }

@@ -1,4 +1,4 @@
--- Blocks of code units, one after another, and what is written of them.
+-- Blocks of code units in sequence, and what is written for them.
 use Rattle.std.proofs.Common.{◌≡◌, ℕ, Bool, true, false, List, [], ◌∷◌, ◌++◌, length, take, drop, refl, sym, ap, subst, ◌∙◌, arith, append-nil, append_assoc}
 use Rattle.std.proofs.lemmas.Grind.{flat_map-append}
 use Rattle.std.proofs.lemmas.List.{take_all, drop_all}
@@ -42,7 +42,7 @@ module _ (one : (us : List ℕ) (parts others : List Part16) → ArePartsOf16 us
     behind = t.behind;
   }
 
-  -- what is written of the blocks before, and then of one more
+  -- what is written for the blocks before, and then for one more
   pub written_on : (units out held block more_out after new : List ℕ) (last : Bool) → WritesBlock [] units false out held → WritesBlock held block last more_out after → AreUnits block → new ≡ out ++ more_out
       → WritesBlock [] (units ++ block) last new after
   written_on units out held block more_out after new last w b us e = record {

@@ -1,4 +1,4 @@
--- Pieces of bytes, one after another, and what is written of them.
+-- Pieces of bytes in sequence, and what is written for them.
 use Rattle.std.proofs.Common.{◌≡◌, ℕ, ◌+◌, ◌<◌, Bool, true, false, List, [], ◌++◌, length, take, drop, get_or, map, refl, sym, ap, subst, ◌∙◌, arith, append-nil, append_assoc}
 use Rattle.std.specs.List.{flat_map}
 use Rattle.std.specs.Char.Escape.{encode_utf16}
@@ -23,7 +23,7 @@ pub utf16-characters : (cs : List ℕ) → repaired_utf16 (map Character cs) ≡
 utf16-characters cs = flat_map-map (λ part. encode_utf16 (repaired_scalar part)) Character cs
 
 -- ---- the calls over one piece
--- the parts that the calls up to here give, and their text
+-- the parts that the calls so far yield, and their text
 pub record AreGivenUpTo (p b : List ℕ) (last : Bool) (out : List ℕ) (read : ℕ) (q : List ℕ) : Type 0 where
   pub parts : List Part
   pub written : out ≡ repaired_utf16 parts
@@ -53,7 +53,7 @@ given_on one_call p b last out read q returned more r new g call text =
       };
     }
 
--- where all is read, what is written is that of the whole piece
+-- if all is read, what is written is that of the whole piece
 pub piece_written : (p b : List ℕ) (last : Bool) (out : List ℕ) (read : ℕ) (q : List ℕ) → AreGivenUpTo p b last out read q → read ≡ length b → (last ≡ true → q ≡ []) → WritesPiece p b last out q
 piece_written p b last out read q g e none =
     let rest : q ++ drop read b ≡ q = ap (λ xs. q ++ xs) (drop_all read b (omega (arith, e))) ∙ append-nil q in
@@ -69,7 +69,7 @@ piece_written p b last out read q g e none =
 pub flat_map-take : {X : Type 0} (f : X → List ℕ) (xs : List X) (i : ℕ) (d : X) → i < length xs → flat_map f (take i xs) ++ f (get_or xs i d) ≡ flat_map f (take (i + 1) xs)
 flat_map-take f xs i d h = flat_map_more f [] (take i xs) (get_or xs i d) ∙ sym (ap (flat_map f) (take_more xs i d h))
 
--- what is written of the pieces before, and then of one more
+-- what is written for the pieces before, and then for one more
 pub taken_on : (bytes out q piece block r : List ℕ) (last : Bool) → WritesPiece [] bytes false out q → WritesPiece q piece last block r → WritesPiece [] (bytes ++ piece) last (out ++ block) r
 taken_on bytes out q piece block r last t w = record {
   parts = t.parts ++ w.parts;

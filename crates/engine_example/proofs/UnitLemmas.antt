@@ -1,4 +1,4 @@
--- What repaired code units are the UTF-16 of, and the UTF-8 that is written of them.
+-- What repaired code units are the UTF-16 of, and the UTF-8 that is written for them.
 use Rattle.std.proofs.Common.{◌≡◌, ℕ, List, [], ◌∷◌, map, refl, sym, ap, ◌∙◌, encode_utf8}
 use Rattle.std.specs.List.{flat_map}
 use Rattle.std.specs.Char.Utf16.{utf16_lossy_chars}
@@ -15,7 +15,7 @@ pub lossy_is : ((old new : List ℕ) (parts : List Part16) → AreRepairedUnits 
     → (old new : List ℕ) → AreRepairedUnits old new → (v : IsValidUtf16 new) → v.0 ≡ utf16_lossy_chars old
 lossy_is law old new r v = sym (scalars_are v.0) ∙ law old new (map Character16 v.0) r v.1
 
--- where parts count as the same scalar values, they are written the same
+-- if parts have the same scalar values, the same is written for them
 pub written_same : (us vs out : List ℕ) (parts : List Part16) → ArePartsOf16 vs parts → (w : IsUtf8OfUnits us out) → map scalar_of w.parts ≡ map scalar_of parts → IsUtf8OfUnits vs out
 written_same us vs out parts are w e = record {
   parts = parts;

@@ -4,22 +4,22 @@ use Rattle.std.specs.List.{flat_map}
 use Rattle.encoding_definitions.specs.Parts.{Part, StartsWith, ArePartsOf, repaired_utf16}
 use Rattle.encoding_definitions.specs.Utf16.{AreUnits, Part16, utf8_of, ArePartsOf16, StartsWith16}
 
--- What is written of a block is the UTF-8 of the first parts of what was held and of it, whatever follows, and of all of
--- them where it is the last.
+-- What is written for a block is the UTF-8 of the first parts of the pending surrogate and the block, for any following
+-- units, and of all of them if it is the last.
 pub record WritesBlock (held block : List ℕ) (last : Bool) (out after : List ℕ) : Type 0 where
   pub parts : List Part16
   pub written : out ≡ flat_map utf8_of parts
   pub all : last ≡ true → ArePartsOf16 (held ++ block) parts
   pub whatever_follows : last ≡ false → (more : List ℕ) → AreUnits more → StartsWith16 (held ++ block ++ more) parts (after ++ more)
 
--- What is written of a piece is the repaired UTF-16 of the first parts of what was pending and of it, whatever follows, and
--- of all of them where it is the last.
+-- What is written for a piece is the repaired UTF-16 of the first parts of the pending bytes and the piece, for any
+-- following bytes, and of all of them if it is the last.
 pub record WritesPiece (pending piece : List ℕ) (last : Bool) (out after : List ℕ) : Type 0 where
   pub parts : List Part
   pub written : out ≡ repaired_utf16 parts
   pub all : last ≡ true → ArePartsOf (pending ++ piece) parts
   pub whatever_follows : last ≡ false → (more : List ℕ) → StartsWith (pending ++ piece ++ more) parts (after ++ more)
 
--- units are the UTF-16 of the bytes with U+FFFD for each broken part
+-- units are the UTF-16 of the bytes with U+FFFD for each malformed sequence
 abbrev pub IsRepairedUtf16 : List ℕ → List ℕ → Type 0
 IsRepairedUtf16 bs units = (parts : List Part) × ArePartsOf bs parts × (units ≡ repaired_utf16 parts)

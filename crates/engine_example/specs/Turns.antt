@@ -6,7 +6,7 @@ use Rattle.encoding_runs.specs.declared.run.turns.Turn.{Turn}
 use Rattle.encoding_runs.specs.Calls.{Call, IsChain}
 use Rattle.encoding_runs.specs.Runs.{AreOfTurns, EachGetsOn}
 
--- the turns are enough for all of the code units, and so is the room
+-- the turns are enough for all of the code units, and so is the destination
 pub record AreEnough (units : List ℕ) (turns : List Turn) (room : ℕ) (calls : List (Call ℕ EncoderResult ℕ)) : Type 0 where
   pub chain : IsChain IsEncoderCall [] units calls
   pub of_turns : AreOfTurns (length units) room turns calls

@@ -1,5 +1,5 @@
-//! A text that an engine holds in UTF-16, in blocks that may cut it anywhere, also between the surrogates of a pair: its
-//! UTF-8 is that of all the code units in a row. And back: UTF-8 that comes in pieces, cut anywhere, as such blocks.
+//! A text that an engine keeps in UTF-16, in blocks that may cut it anywhere, even within a surrogate pair: its UTF-8
+//! is that of all the code units in sequence. And back: UTF-8 in pieces, cut anywhere, as such blocks.
 #![tactic(auto)]
 
 ghost use Rattle.std.specs.Prelude.{◌≡◌, ℕ, List, ◌++◌, IfOk, OnOk, IsUtf8};
@@ -19,8 +19,8 @@ use std::alloc::{AllocError, Global};
 pub mod turns;
 pub mod units;
 
-/// Appends the UTF-8 of a block behind what the encoder holds; `last` says that no block follows. An `Err` says that
-/// memory was refused.
+/// Appends the UTF-8 of the pending surrogate and a block. `last` says that no block follows. An `Err` means that an
+/// allocation failed.
 fn append_block(
     encoder: &mut Utf8Encoder,
     block: &[u16],
@@ -45,8 +45,8 @@ fn append_block(
     Ok(())
 }
 
-/// The UTF-8 of all blocks in a row, with U+FFFD for each surrogate that is in no pair. An `Err` says that memory was
-/// refused.
+/// Returns the UTF-8 of all blocks in sequence, with U+FFFD for each unpaired surrogate. An `Err` means that an
+/// allocation failed.
 pub fn utf8_of_blocks(alloc: Global, blocks: &[Vec<u16>]) -> Result<Vec<u8>, AllocError>
     ensures { IfOk result (λ bytes. IsUtf8OfUnits (flat_map (λ block. block.items) blocks.now) bytes.items) }
 {
@@ -60,7 +60,7 @@ pub fn utf8_of_blocks(alloc: Global, blocks: &[Vec<u16>]) -> Result<Vec<u8>, All
     Ok(bytes)
 }
 
-/// Appends a text in UTF-16. An `Err` says that memory was refused.
+/// Appends a text in UTF-16. An `Err` means that an allocation failed.
 fn append_text(block: &mut Vec<u16>, text: &str) -> Result<(), AllocError>
     ensures { OnOk result (block.new.items ≡ block.old.items ++ flat_map encode_utf16 (chars text.now)) }
 {
@@ -71,8 +71,8 @@ fn append_text(block: &mut Vec<u16>, text: &str) -> Result<(), AllocError>
     Ok(())
 }
 
-/// The next piece of UTF-8 as a block, with U+FFFD for each broken part; `last` says that no piece follows. An `Err`
-/// says that memory was refused.
+/// Returns the next piece of UTF-8 as a block, with U+FFFD for each malformed sequence. `last` says that no piece
+/// follows. An `Err` means that an allocation failed.
 fn block_of_piece(
     alloc: Global,
     decoder: &mut Utf8Decoder,
@@ -82,7 +82,7 @@ fn block_of_piece(
     ensures { IfOk result (λ block. WritesPiece decoder.old piece.now last block.items decoder.new) }
 {
     law_mixed_calls();
-    // Before the first call nothing else says that what is pending is nothing or a beginning.
+    // Before the first call this is all that says that no bytes, or an incomplete sequence, are pending.
     let _neutral = decoder.in_neutral_state();
     let mut block = Vec::new(alloc);
     let mut read = 0;
@@ -98,7 +98,8 @@ fn block_of_piece(
     }
 }
 
-/// UTF-8 in pieces as blocks of UTF-16, one for each piece and one behind them. An `Err` says that memory was refused.
+/// Returns UTF-8 in pieces as blocks of UTF-16, one for each piece and one at the end. An `Err` means that an
+/// allocation failed.
 pub fn blocks_of_utf8(alloc: Global, pieces: &[&[u8]]) -> Result<Vec<Vec<u16>>, AllocError>
     ensures { IfOk result (λ blocks. IsRepairedUtf16 (flat_map (λ piece. piece.now) pieces.now)
         (flat_map (λ block. block.items) blocks.items)) }
@@ -112,8 +113,8 @@ pub fn blocks_of_utf8(alloc: Global, pieces: &[&[u8]]) -> Result<Vec<Vec<u16>>, 
     Ok(blocks)
 }
 
-/// What goes to UTF-16 and from there to UTF-8 is the repaired text of the bytes, and is these themselves where they are
-/// well-formed.
+/// Converting to UTF-16 and back to UTF-8 yields the repaired text of the bytes, which is the bytes themselves if they
+/// are well-formed.
 pub fn law_there_and_back()
     ensures repaired { (bs units out : List ℕ) → IsRepairedUtf16 bs units → IsUtf8OfUnits units out → IsRepaired bs out }
     ensures stays { (bs units out : List ℕ) → IsUtf8 bs → IsRepairedUtf16 bs units → IsUtf8OfUnits units out → out ≡ bs }

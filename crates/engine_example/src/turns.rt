@@ -1,4 +1,4 @@
-//! Code units that go through an encoder by turns, each with a small piece and a small room.
+//! An encoder run by turns, each with a small piece and a small destination.
 
 ghost use Rattle.std.specs.Prelude.{◌≡◌, ℕ, List, length, map, IfOk, Some, None};
 ghost use Rattle.std.specs.List.{last_or};
@@ -18,10 +18,10 @@ use std::alloc::{AllocError, Global};
 /// The code units that a turn takes.
 const PIECE: usize = 7;
 
-/// The bytes that a turn has room for: four or more, so that each character fits.
+/// The bytes that a turn may write: four or more, so that each character fits.
 const ROOM: usize = 16;
 
-/// So many turns. An `Err` says that memory was refused.
+/// Returns `count` turns. An `Err` means that an allocation failed.
 fn small_turns(alloc: Global, count: usize) -> Result<Vec<Turn>, AllocError>
     ensures count { IfOk result (λ turns. length turns.items ≡ count) }
     ensures each { IfOk result (λ turns. EachGetsOn 4 turns.items) }
@@ -37,8 +37,8 @@ fn small_turns(alloc: Global, count: usize) -> Result<Vec<Turn>, AllocError>
     Ok(turns)
 }
 
-/// The UTF-8 of the code units, by one call for each of enough turns, with U+FFFD for each unpaired surrogate. An `Err`
-/// says that memory was refused.
+/// Returns the UTF-8 of the code units, with one call for each of enough turns, and U+FFFD for each unpaired surrogate.
+/// An `Err` means that an allocation failed.
 pub fn utf8_by_turns(alloc: Global, units: &[u16]) -> Result<Vec<u8>, AllocError>
     ensures { IfOk result (λ bytes. IsUtf8OfUnits units.now bytes.items) }
 {
@@ -58,8 +58,8 @@ pub fn utf8_by_turns(alloc: Global, units: &[u16]) -> Result<Vec<u8>, AllocError
     Ok(bytes)
 }
 
-/// If turns are enough for all of the code units, the last call returns `InputEmpty`, and the bytes are those of any other
-/// such turns, however these cut the code units and the room.
+/// If turns are enough for all of the code units, the last call returns `InputEmpty`. The bytes are those of any other
+/// such turns, however these cut the code units and the destination.
 pub fn law_turns()
     ensures ends { (units : List ℕ) (turns : List Turn) (room : ℕ) (calls : List (Call ℕ EncoderResult ℕ))
         → AreEnough units turns room calls → last_or None (map (λ call. call.result) calls) ≡ Some InputEmpty }

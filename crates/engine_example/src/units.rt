@@ -1,5 +1,5 @@
-//! The code units of a text in a row: whether they are a text, their repair, their UTF-8 through a small room, and whether
-//! a character of them is right-to-left.
+//! The code units of a text in sequence: whether they are a text, their repair, their UTF-8 through a small buffer, and
+//! whether a character of them is right-to-left.
 
 ghost use Rattle.std.specs.Prelude.{◌≡◌, ◌↔◌, List, ℕ, Any, IfOk, IsTrue, encode_utf8_all, false};
 ghost use Rattle.std.specs.Char.Escape.{encode_utf16};
@@ -22,7 +22,8 @@ use std::alloc::{AllocError, Global};
 /// The bytes that `utf8_of_units` writes at once: four or more, so that each character fits.
 const ROOM: usize = 64;
 
-/// Whether the code units are the UTF-16 of a text. Then `String::from_utf16` returns that text, and else an error.
+/// Returns whether the code units are the UTF-16 of a text. If so, `String::from_utf16` returns that text, and
+/// otherwise an error.
 pub fn is_text(units: &[u16]) -> bool
     ensures text { IsTrue result ↔ ((cs : List ℕ) × IsTrue (all_scalars cs) × (units.now ≡ flat_map encode_utf16 cs)) }
     ensures paired { IsTrue result ↔ (has_unpaired_surrogate units.now ≡ false) }
@@ -31,8 +32,8 @@ pub fn is_text(units: &[u16]) -> bool
     utf16_valid_up_to(units) == units.len()
 }
 
-/// Writes U+FFFD in place of each surrogate that is in no pair. The code units are then the UTF-16 of the text that
-/// `String::from_utf16_lossy` makes of them, each place in it is where it was, and a second repair changes nothing.
+/// Replaces each unpaired surrogate with U+FFFD. The code units are then the UTF-16 of the text that
+/// `String::from_utf16_lossy` returns for them, no index changes, and a second repair changes nothing.
 pub fn repair_units(units: &mut [u16])
     ensures repaired { AreRepairedUnits units.old units.new }
     ensures text { units.new ≡ flat_map encode_utf16 (utf16_lossy_chars units.old) }
@@ -45,7 +46,7 @@ pub fn repair_units(units: &mut [u16])
     ensure_utf16_validity(units);
 }
 
-/// Whether `kept` is still the repaired text of these code units. An `Err` says that memory was refused.
+/// Returns whether `kept` is still the repaired text of these code units. An `Err` means that an allocation failed.
 pub fn is_repaired(alloc: Global, units: &[u16], kept: &[u16]) -> Result<bool, AllocError>
     ensures { IfOk result (λ is. IsTrue is ↔ AreRepairedUnits units.now kept.now) }
 {
@@ -56,8 +57,8 @@ pub fn is_repaired(alloc: Global, units: &[u16], kept: &[u16]) -> Result<bool, A
     Ok(repaired.as_slice() == kept)
 }
 
-/// The UTF-8 of the code units, written in turns into one small room: that of `String::from_utf16_lossy`. An `Err` says
-/// that memory was refused.
+/// Returns the UTF-8 of the code units, written in turns into one small buffer: that of `String::from_utf16_lossy`. An
+/// `Err` means that an allocation failed.
 pub fn utf8_of_units(alloc: Global, units: &[u16]) -> Result<Vec<u8>, AllocError>
     ensures { IfOk result (λ bytes. bytes.items ≡ encode_utf8_all (utf16_lossy_chars units.now)) }
 {
@@ -74,8 +75,8 @@ pub fn utf8_of_units(alloc: Global, units: &[u16]) -> Result<Vec<u8>, AllocError
     Ok(bytes)
 }
 
-/// Whether a character of the code units is right-to-left. They are repaired first: a lone high surrogate might be half
-/// of such a character.
+/// Returns whether a character of the code units is right-to-left. They are repaired first: an unpaired high surrogate
+/// might be half of such a character.
 pub fn has_right_to_left(units: &mut [u16]) -> bool
     ensures repaired { AreRepairedUnits units.old units.new }
     ensures right_to_left { IsTrue result ↔ Any IsRightToLeft (utf16_lossy_chars units.old) }
@@ -86,7 +87,7 @@ pub fn has_right_to_left(units: &mut [u16]) -> bool
     is_utf16_bidi(units)
 }
 
-/// Whether a character of the text is right-to-left: the same as of its UTF-16.
+/// Returns whether a character of the text is right-to-left: the same as for its UTF-16.
 pub fn text_has_right_to_left(text: &str) -> bool
     ensures { IsTrue result ↔ Any IsRightToLeft (chars text.now) }
 {
@@ -94,7 +95,7 @@ pub fn text_has_right_to_left(text: &str) -> bool
     is_str_bidi(text)
 }
 
-/// Code units may be repaired before they go to UTF-8, or not: the bytes are the same.
+/// Code units may be repaired before they are converted to UTF-8, or not: the bytes are the same.
 pub fn law_repair_first()
     ensures { (units repaired out : List ℕ) → AreRepairedUnits units repaired
         → IsUtf8OfUnits units out ↔ IsUtf8OfUnits repaired out }

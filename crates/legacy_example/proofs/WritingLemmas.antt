@@ -1,4 +1,4 @@
--- Runs of bytes, written behind what was written of those before.
+-- Runs of bytes, written after what was written for those before.
 use Rattle.std.proofs.Common.{◌≡◌, ℕ, ◌+◌, ◌-◌, ◌*◌, ◌<◌, ◌≤◌, List, [], ◌∷◌, ◌++◌, length, take, drop, take-add, map, slice_index, encode_utf8_all, refl, sym, ap, ◌∙◌, arith}
 use Rattle.std.specs.Str.{IsAscii}
 use Rattle.std.proofs.lemmas.List.{map-append, map_more, take_rest, length-take-le, length-drop}
@@ -9,7 +9,7 @@ use Rattle.encoding_definitions.proofs.LongestFronts.FrontsLemmas.{WritesFront-l
 use Rattle.legacy_example.specs.Windows1252.{scalar_of, AreBytes}
 use Rattle.legacy_example.proofs.IndexLemmas.{ascii_same, bytes_within}
 
--- a run that Latin1 has in the same place
+-- a run of bytes that have the same characters in Latin1
 run_behind : (src : List ℕ) (at run : ℕ) → map scalar_of (take run (drop at src)) ≡ take run (drop at src)
     → map scalar_of (take at src) ++ take run (drop at src) ≡ map scalar_of (take (at + run) src)
 run_behind src at run same = sym (ap (map scalar_of) (take-add at run src) ∙ map-append scalar_of (take at src) (take run (drop at src)) ∙ ap (λ xs. map scalar_of (take at src) ++ xs) same)
@@ -26,12 +26,12 @@ pub byte_bytes_behind : (src : List ℕ) (at : ℕ) → at < length src
     → encode_utf8_all (map scalar_of (take at src)) ++ encode_utf8_all (scalar_of (slice_index src at) ∷ []) ≡ encode_utf8_all (map scalar_of (take (at + 1) src))
 byte_bytes_behind src at l = sym (encodes-append (map scalar_of (take at src)) (scalar_of (slice_index src at) ∷ [])) ∙ ap encode_utf8_all (byte_behind src at l)
 
--- the ASCII front
+-- the ASCII prefix
 pub ascii_bytes : (bs : List ℕ) → IsAscii bs → bs ≡ encode_utf8_all (map scalar_of bs)
 ascii_bytes bs h = sym (encodes-IsAscii bs h) ∙ ap encode_utf8_all (ascii_same bs h)
 
 -- ---- into a destination
--- a run behind what was written of the bytes before it
+-- a run after what was written for the bytes before it
 pub units_run : (src old dst sub : List ℕ) (at run : ℕ) → WritesFront old dst at (map scalar_of (take at src)) → run ≤ length (take (length src - at) (drop at src))
     → map scalar_of (take run (take (length src - at) (drop at src))) ≡ take run (take (length src - at) (drop at src))
     → WritesFront (take (length dst - at) (drop at dst)) sub (length (take (at + run - at) (drop at src))) (take (at + run - at) (drop at src))

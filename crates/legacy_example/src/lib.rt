@@ -1,5 +1,5 @@
-//! windows-1252 to UTF-16 and to UTF-8: ASCII, and the bytes whose characters Latin1 has at the same place, by the calls
-//! for these, and the 32 other bytes by their table. Encoding Standard, section 9.1, single-byte decoder.
+//! windows-1252 to UTF-16 and to UTF-8. ASCII, and the bytes that have the same characters in Latin1, use the calls for
+//! these, and the 32 other bytes use a table. Encoding Standard, section 9.1, single-byte decoder.
 #![tactic(auto)]
 
 ghost use Rattle.std.specs.Prelude.{◌≡◌, ℕ, ◌*◌, ◌≤◌, List, length, take, map, slice_index, encode_utf8_all};
@@ -14,14 +14,14 @@ use encoding_text::mem::{
     copy_ascii_to_basic_latin,
 };
 
-/// The code units of the bytes from 0x80 to 0x9F; all other bytes are those of Latin1.
+/// The code units of the bytes from 0x80 to 0x9F. All other bytes are as in Latin1.
 const OTHERS: [u16; 32] = [
     0x20AC, 0x0081, 0x201A, 0x0192, 0x201E, 0x2026, 0x2020, 0x2021, 0x02C6, 0x2030, 0x0160, 0x2039,
     0x0152, 0x008D, 0x017D, 0x008F, 0x0090, 0x2018, 0x2019, 0x201C, 0x201D, 0x2022, 0x2013, 0x2014,
     0x02DC, 0x2122, 0x0161, 0x203A, 0x0153, 0x009D, 0x017E, 0x0178,
 ];
 
-/// The code unit of a byte.
+/// Returns the code unit of a byte.
 #[tactic(auto, using(crate::proofs::IndexLemmas::scalar_other, crate::proofs::IndexLemmas::scalar_latin1))]
 fn code_unit(byte: u8) -> u16
     ensures { result ≡ scalar_of byte }
@@ -33,7 +33,7 @@ fn code_unit(byte: u8) -> u16
     }
 }
 
-/// How many bytes come before the first of those that Latin1 has other characters for.
+/// Returns the length of the longest prefix of bytes that have the same characters in Latin1.
 fn latin1_length(bytes: &[u8]) -> usize
     ensures within { result ≤ length bytes.now }
     ensures same { map scalar_of (take result bytes.now) ≡ take result bytes.now }
@@ -53,8 +53,8 @@ pub fn law_nothing_is_lost()
     law_sequences();
 }
 
-/// Writes the characters of windows-1252 as UTF-16, one code unit each. `dst` is no shorter than `src`. Behind what is
-/// written `dst` is as before.
+/// Writes the characters of windows-1252 as UTF-16, one code unit each. `dst` is no shorter than `src`. The rest of
+/// `dst` is unchanged.
 pub fn windows_1252_to_utf16(src: &[u8], dst: &mut [u16])
     requires room { length src.now ≤ length dst.old }
     ensures written { WritesFront dst.old dst.new (length src.now) (flat_map encode_utf16 (map scalar_of src.now)) }
@@ -72,8 +72,8 @@ pub fn windows_1252_to_utf16(src: &[u8], dst: &mut [u16])
     }
 }
 
-/// Writes the characters of windows-1252 as UTF-8, and returns how many bytes it wrote. `dst` has at least three bytes
-/// for each byte of `src`. Behind what is written `dst` is as before.
+/// Writes the characters of windows-1252 as UTF-8, and returns the number of bytes written. `dst` has at least three
+/// bytes for each byte of `src`. The rest of `dst` is unchanged.
 pub fn windows_1252_to_utf8(src: &[u8], dst: &mut [u8]) -> usize
     requires room { 3 * length src.now ≤ length dst.old }
     ensures written { WritesFront dst.old dst.new result (encode_utf8_all (map scalar_of src.now)) }

@@ -1,4 +1,4 @@
--- A block of a stream, of which a call repaired the front.
+-- A block of a stream whose prefix was repaired by a call.
 use Rattle.std.proofs.Common.{◌≡◌, ◌≢◌, ℕ, ◌<◌, ◌≤◌, true, false, Bool, List, [], ◌∷◌, ◌++◌, length, take, drop, Option, refl, sym, ap, subst, ◌∙◌, arith, length-append}
 use Rattle.std.proofs.lemmas.List.{take_all, take_at, drop_all, nil_from_length, length-drop}
 use Rattle.std.specs.Str.{IsUtf8}
@@ -17,7 +17,7 @@ pub some_length : (bs : List ℕ) → bs ≢ [] → 0 < length bs
 some_length [] some = absurd (some refl)
 some_length (b ∷ bs) some = omega arith
 
--- what was written stands in front
+-- what was written is a prefix
 pub written_front : (dst dst' : List ℕ) (written : ℕ) (out : List ℕ) → WritesFront dst dst' written out → take written dst' ≡ out
 written_front dst dst' written out writes = ap (take written) writes.placed ∙ take_at out _ written (sym writes.count)
 
@@ -46,7 +46,7 @@ module _ (p block : List ℕ) (room : ℕ) (last : Bool) (result : RepairedBlock
         let given : Gives p (take (length block) block) last repair.parts read q = subst (λ bs. Gives p bs last repair.parts read q) (sym whole) repair.given in
         rw (nothing, left) (Consumes-given exist lossy known p block (length block) last repair.parts read q out given (λ marked. (drop_all (length block) block (omega arith), (end marked).1)) repair.text)
 
-    -- the last one writes nothing only where no text is left
+    -- the last one writes nothing only if no text is left
     pub repaired_all : last ≡ true → 7 ≤ room → length out ≡ 0 → IsAtEnd (text_from held q rest known)
     repaired_all marked enough none =
         let (all, empty) = finished result.finished refl enough none in

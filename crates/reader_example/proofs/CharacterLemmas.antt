@@ -1,4 +1,4 @@
--- Where a read cuts a character.
+-- How a read cuts a character.
 use Rattle.std.proofs.Common.{◌≡◌, ◌≢◌, ℕ, min, List, [], ◌∷◌, ◌++◌, length, take, sym, ap, subst, ◌∙◌, arith, length-append}
 use Rattle.std.proofs.lemmas.List.{length-take}
 use Rattle.reader_example.specs.Reading.{GivesCharacters}
@@ -13,7 +13,7 @@ module _ (IsText IsCharacter : List ℕ → Type 0) (empty : IsText []) (text : 
     filled : new ≢ [] → length (take count dst) ≡ room
     filled some = omega (arith, some_length new some, ap length units, length-append (take count dst) new, length-take count dst, moved, size)
 
-    -- of what was held before, or else of a character that was decoded
+    -- from what was kept before, or else from a character that was decoded
     pub gives_held : (old : List ℕ) → (old ≢ [] → old ≡ held) → (old ≡ [] → held ≢ [] → IsCharacter held) → GivesCharacters IsText IsCharacter old room (take count dst) new
     gives_held old same one = record {
       rest = λ some. sym units ∙ sym (same some);

@@ -1,4 +1,4 @@
--- What a call without a destination gives of at most one byte.
+-- What a call without a destination yields for at most one byte.
 use Rattle.std.proofs.Common.{◌≡◌, ◌≢◌, ℕ, ◌≤◌, true, Bool, List, [], ◌∷◌, ◌++◌, length, encode_utf8, encode_utf8_all, refl, sym, ap, subst, ◌∙◌, arith, append-nil, length-append}
 use Rattle.std.proofs.lemmas.Bool.{and_parts}
 use Rattle.std.proofs.lemmas.List.{length-take}
@@ -25,7 +25,7 @@ text_of_parts p src last (Char c) read q parts call are = sym (ap repaired_text 
 text_of_parts p src last (Malformed k) read q parts call (x, are, size) = sym (ap repaired_text are ∙ append-nil (encode_utf8 0xFFFD))
 text_of_parts p src last InputEmpty read q parts call are = sym (ap repaired_text are)
 
--- the text is that of the parts that the call gives
+-- the text is that of the parts that the call yields
 pub text_given : ((p src : List ℕ) (form : Form) (last : Bool) (answer : Answer) (read : ℕ) (out q : List ℕ) → IsMixedCall p src form last answer read out q
     → GivesFirstParts AreGiven IsInputEmpty p src form last answer read out q)
     → (p src : List ℕ) (last : Bool) (piece : Piece) (read : ℕ) (q : List ℕ) → IsBorrowedCall p src last piece read q
@@ -34,7 +34,7 @@ text_given one_call p src last piece read q made =
     let first = one_call p src Borrowed last (Handed piece) read [] q (made, refl) in
     (first.parts, first.front, text_of_parts p src last piece read q first.parts made first.given)
 
--- where it is none, all was read
+-- if it is none, all was read
 pub none_given : (p src : List ℕ) (last : Bool) (piece : Piece) (read : ℕ) (q : List ℕ) → IsBorrowedCall p src last piece read q → text_for piece ≡ [] → (read ≡ length src) × (q ≡ p ++ src) × (last ≡ true → q ≡ [])
 none_given p src last (Text text) read q call none =
     let (neutral, empty, some, bytes, front) = call.answer in
@@ -58,7 +58,7 @@ module _ (each : (c : ℕ) → IsScalar c → IsSequence (encode_utf8 c)) where
   one_character (c ∷ d ∷ cs) scalars some short =
       absurd (omega (arith, short, length-append (encode_utf8 c) (encode_utf8 d ++ encode_utf8_all cs), length-append (encode_utf8 d) (encode_utf8_all cs), length-encode c, len_utf8_bounds c, length-encode d, len_utf8_bounds d))
 
-  -- else it is one character
+  -- otherwise it is one character
   pub one_given : (p src : List ℕ) (last : Bool) (piece : Piece) (read : ℕ) (q : List ℕ) → IsBorrowedCall p src last piece read q → length src ≤ 1 → text_for piece ≢ [] → IsSequence (text_for piece)
   one_given p src last (Text text) read q call short some =
       let (neutral, empty, positive, bytes, front) = call.answer in

@@ -1,4 +1,4 @@
--- The text that is left behind what was given.
+-- The text that is left after what was returned.
 use Rattle.std.proofs.Common.{◌≡◌, ℕ, true, Bool, List, [], ◌∷◌, ◌++◌, length, take, drop, Option, None, Some, encode_utf8, refl, sym, ap, ◌∙◌, arith, append_assoc, take-append-drop, length-append}
 use Rattle.std.proofs.lemmas.List.{drop-append-le}
 use Rattle.std.proofs.lemmas.Str.{length-encode, len_utf8_bounds, IsUtf8-append, IsUtf8-encode, IsUtf8-nil}
@@ -41,13 +41,13 @@ module _ (exist : (bs : List ℕ) → (parts : List Part) × ArePartsOf bs parts
   pub lossy-nil : utf8_lossy [] ≡ []
   lossy-nil = sym (lossy [] [] refl)
 
-  -- the text begins with that of the first parts
+  -- the text starts with that of the first parts
   lossy-behind : (bs : List ℕ) (parts : List Part) (rest : List ℕ) → StartsWith bs parts rest → utf8_lossy bs ≡ repaired_text parts ++ utf8_lossy rest
   lossy-behind bs parts rest first =
       let (others, are) = exist rest in
       sym (lossy bs (parts ++ others) (StartsWith-append bs parts rest others [] first are)) ∙ repaired_text-append parts others ∙ ap (λ text. repaired_text parts ++ text) (lossy rest others are)
 
-  -- of a call on the first so many bytes of a block, which may be the last
+  -- of a call on the first bytes of a block, which may be the last
   given_text : (p block : List ℕ) (count : ℕ) (last : Bool) (parts : List Part) (read : ℕ) (q more : List ℕ) → Gives p (take count block) last parts read q → (last ≡ true → drop count block ++ more ≡ [])
       → utf8_lossy (p ++ (block ++ more)) ≡ repaired_text parts ++ utf8_lossy (q ++ (drop read block ++ more))
   given_text p block count last parts read q more given end =
@@ -59,14 +59,14 @@ module _ (exist : (bs : List ℕ) → (parts : List Part) × ArePartsOf bs parts
       sym (append_assoc (drop read front) back more) ∙ ap (λ bs. bs ++ more) (sym (drop-append-le read front back given.within) ∙ ap (drop read) whole) in
       ap (λ bs. utf8_lossy (p ++ bs)) (sym before) ∙ lossy-behind _ parts _ (first_parts p front last parts read q (back ++ more) given end) ∙ ap (λ bs. repaired_text parts ++ utf8_lossy (q ++ bs)) after
 
-  -- what a call gives is taken from the text that is left
+  -- what a call yields is taken from the text that is left
   pub Consumes-given : (known : Option (List ℕ)) (p block : List ℕ) (count : ℕ) (last : Bool) (parts : List Part) (read : ℕ) (q out : List ℕ) → Gives p (take count block) last parts read q
       → (last ≡ true → (drop count block ≡ []) × IsAtEnd known) → out ≡ repaired_text parts → Consumes (text_from [] p block known) (text_from [] q (drop read block) known) out
   Consumes-given None p block count last parts read q out given end text = tt
   Consumes-given (Some more) p block count last parts read q out given end text =
       given_text p block count last parts read q more given (λ marked. ap (λ bs. bs ++ more) (end marked).0 ∙ (end marked).1) ∙ ap (λ bs. bs ++ utf8_lossy (q ++ (drop read block ++ more))) (sym text)
 
-  -- or is held
+  -- or is kept
   pub Keeps-given : (known : Option (List ℕ)) (p block : List ℕ) (count : ℕ) (last : Bool) (parts : List Part) (read : ℕ) (q held : List ℕ) → Gives p (take count block) last parts read q
       → (last ≡ true → (drop count block ≡ []) × IsAtEnd known) → held ≡ repaired_text parts → Keeps (text_from [] p block known) (text_from held q (drop read block) known)
   Keeps-given None p block count last parts read q held given end text = tt

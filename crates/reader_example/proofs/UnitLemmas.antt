@@ -18,7 +18,7 @@ use Rattle.reader_example.specs.Reading.{GivesCharacters, IsUtf16Character, unit
 abbrev pub utf16_of : List ℕ → List ℕ
 utf16_of text = flat_map encode_utf16 (chars text)
 
--- into four bytes no character is cut
+-- a destination of four bytes cuts no character
 pub uncut : {E : Type 0} (result : Result ℕ E) (held held' dst : List ℕ) (room : ℕ) → 4 ≤ room → held ≡ []
     → IfOk result (λ n. GivesCharacters IsUtf8 IsSequence held room (take n dst) held') → OnErr result (held' ≡ held) → held' ≡ []
 uncut (Ok n) held [] dst room enough none given err = refl
@@ -33,7 +33,7 @@ Consumes-units None known' text u e = tt
 Consumes-units (Some all) None text u e = absurd e
 Consumes-units (Some all) (Some rest) text u e = ap (flat_map encode_utf16) (ap chars e ∙ chars-append text rest u) ∙ flat_map-append encode_utf16 (chars text) (chars rest)
 
--- or held
+-- or kept
 pub Keeps-units : (known known' : Option (List ℕ)) (text : List ℕ) → IsUtf8 text → Consumes known known' text → Keeps (units_from [] known) (units_from (utf16_of text) known')
 Keeps-units None known' text u e = tt
 Keeps-units (Some all) None text u e = absurd e

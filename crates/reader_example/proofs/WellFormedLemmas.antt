@@ -1,4 +1,4 @@
--- Blocks of a stream, of which none had a broken part yet.
+-- Blocks of a stream with no malformed sequence so far.
 use Rattle.std.proofs.Common.{◌≡◌, ◌↔◌, ℕ, ◌<◌, ◌≤◌, true, false, Bool, List, [], ◌∷◌, ◌++◌, length, map, drop, encode_utf8, encode_utf8_all, inl, Option, None, Some, IfSome, IsTrue, refl, sym, ap, subst, ◌∙◌, arith, append-nil, length-append}
 use Rattle.std.specs.Prelude.{Any}
 use Rattle.std.specs.List.{flat_map}
@@ -19,12 +19,12 @@ use Rattle.encoding_runs.proofs.RepairLemmas.{pending_length}
 abbrev Ends : Call ℕ RepairedBlock ℕ → Type 0
 Ends call = (call.last ≡ true) × (call.result.finished ≡ true)
 
--- Calls on what is unread, behind the calls made so far, are calls over the whole stream, with no more parts replaced.
+-- Calls on what is unread, after the calls made so far, are calls over the whole stream, with no more parts replaced.
 abbrev GoesOn : List ℕ → List ℕ → List ℕ → Type 0
 GoesOn bytes p unread = IsPending p × ((others : List (Call ℕ RepairedBlock ℕ)) → IsChain IsBlockRepair p unread others
     → (all : List (Call ℕ RepairedBlock ℕ)) × IsChain IsBlockRepair [] bytes all × (replaced_in_all all ≡ replaced_in_all others) × (Any Ends others → Any Ends all))
 
--- the same of the known bytes of a reader, from its beginning and from here
+-- the same of the known bytes of a reader, from its start and from here
 abbrev pub NoneBroken : Option (List ℕ) → List ℕ → Option (List ℕ) → Type 0
 NoneBroken None p now = Unit {0}
 NoneBroken (Some bytes) p None = ⊥
@@ -34,7 +34,7 @@ pub none_yet : (known : Option (List ℕ)) → NoneBroken known [] known
 none_yet None = tt
 none_yet (Some bytes) = (inl refl, λ others chain. (others, chain, refl, λ some. some))
 
--- ---- parts of which none is broken
+-- ---- parts with no malformed sequence
 unbroken_text : (parts : List Part) → count_broken parts ≡ 0 → repaired_text parts ≡ flat_map bytes_of parts
 unbroken_text [] none = refl
 unbroken_text (Character c ∷ parts) none = ap (λ bs. encode_utf8 c ++ bs) (unbroken_text parts none)
@@ -54,7 +54,7 @@ module _ (p block : List ℕ) (room : ℕ) (last : Bool) (result : RepairedBlock
     chain,
   )
 
-  -- into this room it is finished
+  -- with this length it is finished
   finished : IsPending p → result.replaced ≤ 0 → length block ≤ 1024 → 1034 ≤ room → result.finished ≡ true
   finished pending none short enough = go result.finished refl
     where
@@ -88,7 +88,7 @@ module _ (p block : List ℕ) (room : ℕ) (last : Bool) (result : RepairedBlock
             (calls, are, omega (arith, count, none), λ some. ends (Any-there Ends call others some)),
       )
 
-  -- a broken part is in all the bytes
+  -- a malformed sequence is in all the bytes
   pub some_broken : ((p b : List ℕ) (calls : List (Call ℕ RepairedBlock ℕ)) → (calls ≡ [] → IsPending p) → IsChain IsBlockRepair p b calls → RepairTheParts p b calls)
       → ((bs : List ℕ) → (parts : List Part) × ArePartsOf bs parts) → ((bs : List ℕ) (parts : List Part) → ArePartsOf bs parts → IsUtf8 bs ↔ (count_broken parts ≡ 0))
       → (known before after : Option (List ℕ)) → NoneBroken known p before → Consumes before after block → (last ≡ true → IsAtEnd after) → 0 < result.replaced → IfSome known (λ bytes. IsTrue false ↔ IsUtf8 bytes)
@@ -104,7 +104,7 @@ module _ (p block : List ℕ) (room : ℕ) (last : Bool) (result : RepairedBlock
         λ well. absurd (omega (arith, some, count, first.replaced, count_broken-append first.parts others, (unbroken bytes (first.parts ++ others) whole).0 well)),
       )
 
-  -- and none is where all is read
+  -- and none is if all is read
   pub all_whole : ((b : List ℕ) (calls : List (Call ℕ RepairedBlock ℕ)) → IsChain IsBlockRepair [] b calls → Any Ends calls → IsRepairedWith b (output_of calls) (replaced_in_all calls))
       → ((bs : List ℕ) (parts : List Part) → ArePartsOf bs parts → IsUtf8 bs ↔ (count_broken parts ≡ 0))
       → (known before after : Option (List ℕ)) → NoneBroken known p before → Consumes before after block → last ≡ true → IsAtEnd after → result.replaced ≤ 0 → length block ≤ 1024 → 1034 ≤ room → IfSome known (λ bytes. IsTrue true ↔ IsUtf8 bytes)

@@ -1,4 +1,4 @@
--- What a reader has left to give, and where it cuts a character.
+-- What a reader has left to return, and how it cuts a character.
 use Rattle.std.specs.Prelude.{◌≡◌, ◌≢◌, ℕ, List, [], ◌++◌, length, Option, option_map, encode_utf8}
 use Rattle.std.specs.Char.{IsScalar}
 use Rattle.std.specs.Char.Escape.{encode_utf16}
@@ -10,8 +10,8 @@ use Rattle.encoding_text.specs.declared.decoder.Piece.TheVariants.{Text, Char, M
 use Rattle.reader_example.specs.declared.utf16_reader.Utf16Reader.{Utf16Reader}
 use Rattle.reader_example.specs.declared.utf8_reader.Utf8Reader.{Utf8Reader}
 
--- What is held of a character, and then the repaired text of the bytes that are pending, of those that are unread and of
--- those to come, where these are known.
+-- The kept rest of a character, followed by the repaired text of the pending bytes, the unread bytes, and those to
+-- come, if these are known.
 abbrev pub text_from : List ℕ → List ℕ → List ℕ → Option (List ℕ) → Option (List ℕ)
 text_from held pending unread known = option_map (λ bytes. held ++ utf8_lossy (pending ++ (unread ++ bytes))) known
 
@@ -19,11 +19,11 @@ text_from held pending unread known = option_map (λ bytes. held ++ utf8_lossy (
 abbrev pub text_left : {R : Type 0} → (R → Option (List ℕ)) → Utf8Reader R → Option (List ℕ)
 text_left remaining r = text_from r.held r.decoder r.block (remaining r.inner)
 
--- what it holds of a character whose front was given
+-- the rest of a character whose first bytes were returned
 abbrev pub held_of : {R : Type 0} → Utf8Reader R → List ℕ
 held_of r = r.held
 
--- The same in UTF-16, of which a reader holds the second half of a pair.
+-- The same in UTF-16, of which a reader keeps the second half of a pair.
 abbrev pub units_from : List ℕ → Option (List ℕ) → Option (List ℕ)
 units_from held text = option_map (λ bytes. held ++ flat_map encode_utf16 (chars bytes)) text
 
@@ -37,16 +37,16 @@ half_of r = r.held
 abbrev pub IsUtf16Character : List ℕ → Type 0
 IsUtf16Character units = (c : ℕ) × IsScalar c × (units ≡ encode_utf16 c)
 
--- What a read gives, in front of what is held after it, with so much room. Of a character that was cut before these are
--- what was held of it; else they are whole characters, or, where a part is held, one character that is longer than the
--- room. A part is held only where the room is full.
+-- What a read returns, before what is kept after it, into `room` units. If a character was cut before, these are from
+-- its rest. Otherwise they are whole characters, or, if a rest is kept, one character that doesn't fit. A rest is kept
+-- only if the destination is full.
 pub record GivesCharacters (IsText IsCharacter : List ℕ → Type 0) (held : List ℕ) (room : ℕ) (given held' : List ℕ) : Type 0 where
   pub rest : held ≢ [] → given ++ held' ≡ held
   pub whole : held ≡ [] → IsText (given ++ held')
   pub one : held ≡ [] → held' ≢ [] → IsCharacter (given ++ held')
   pub full : held' ≢ [] → length given ≡ room
 
--- the text of what a call without a destination hands out
+-- the text of what a call without a destination returns
 abbrev pub text_for : Piece → List ℕ
 text_for (Text text) = text.now
 text_for (Char c) = encode_utf8 c

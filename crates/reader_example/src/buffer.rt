@@ -1,4 +1,4 @@
-//! A buffer of fixed length: what was put into it, less what was taken from its front.
+//! A buffer of fixed length: what was put into it, without what was consumed.
 ghost use Rattle.std.specs.Prelude.{◌≡◌, ◌<◌, ◌≤◌, [], List, ℕ, ◌++◌, length, take, drop, min, OnOk};
 ghost use Rattle.std.specs.Io.KnownBytes.{Consumes, IsAtEnd};
 
@@ -25,7 +25,7 @@ impl<T: Copy, const N: usize> Model for Buffer<T, N> {
 }
 
 impl<T: Copy, const N: usize> Buffer<T, N> {
-    /// A buffer of nothing, whose room is filled with `unit`.
+    /// Creates an empty buffer, filled with `unit`.
     pub(crate) fn new(unit: T) -> Buffer<T, N>
         ensures { result ≡ [] }
     {
@@ -36,7 +36,7 @@ impl<T: Copy, const N: usize> Buffer<T, N> {
         }
     }
 
-    /// What is in it.
+    /// Returns its contents.
     pub(crate) fn unread(&self) -> &[T]
         ensures value { result.now ≡ self.now }
         ensures fits { length result.now ≤ N }
@@ -45,7 +45,7 @@ impl<T: Copy, const N: usize> Buffer<T, N> {
         &units[self.begin..self.end]
     }
 
-    /// Takes so many units from its front.
+    /// Removes its first `count` units.
     pub(crate) fn consume(&mut self, count: usize)
         requires { count ≤ length self.old }
         ensures { self.new ≡ drop count self.old }
@@ -53,7 +53,7 @@ impl<T: Copy, const N: usize> Buffer<T, N> {
         self.begin += count;
     }
 
-    /// Puts these units in place of what is in it.
+    /// Replaces its contents with these units.
     pub(crate) fn hold(&mut self, units: &[T])
         requires { length units.now ≤ N }
         ensures { self.new ≡ units.now }
@@ -63,7 +63,7 @@ impl<T: Copy, const N: usize> Buffer<T, N> {
         self.end = units.len();
     }
 
-    /// Moves as much of it as fits to the front of `dst`, and returns how much.
+    /// Moves as much of its contents as fits to the start of `dst`, and returns the number of units.
     pub(crate) fn give(&mut self, dst: &mut [T]) -> usize
         ensures count { result ≡ min (length dst.old) (length self.old) }
         ensures room { length dst.new ≡ length dst.old }
@@ -78,7 +78,7 @@ impl<T: Copy, const N: usize> Buffer<T, N> {
 }
 
 impl<const N: usize> Buffer<u8, N> {
-    /// Reads once, where nothing is in it.
+    /// Reads once, if it is empty.
     pub(crate) fn fill<R: Read>(&mut self, reader: &mut R) -> io::Result<()>
         requires empty { self.old ≡ [] }
         requires room { 0 < N }

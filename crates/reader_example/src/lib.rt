@@ -1,5 +1,5 @@
-//! Readers that decode: over any reader of bytes one of UTF-8, and one of UTF-16. Both give the repaired text of what the
-//! one inside gives: each maximal broken part becomes U+FFFD. Encoding Standard, UTF-8 decode without BOM.
+//! Readers that decode: over any reader of bytes one of UTF-8, and one of UTF-16. Both return the repaired text of the
+//! inner reader's bytes: each malformed sequence becomes U+FFFD. Encoding Standard, UTF-8 decode without BOM.
 #![tactic(auto)]
 
 mod buffer;

@@ -18,14 +18,14 @@ use std::{io, str};
 /// How many bytes of text are read at a time.
 const BLOCK: usize = 1024;
 
-/// Into so many bytes no character is cut.
+/// A destination of this many bytes cuts no character.
 const ROOM: usize = 4;
 
-/// Gives, in UTF-16, the repaired text of what `inner` gives.
+/// Returns, in UTF-16, the repaired text of the bytes of `inner`.
 #[derive(Drop)]
 pub struct Utf16Reader<R> {
     inner: Utf8Reader<R>,
-    // the second half of a pair that is longer than the room it was given into
+    // the second half of a pair, if it didn't fit
     held: Buffer<u16, 4>,
     ghost whole: { inner.held ≡ [] },
 }
@@ -33,7 +33,7 @@ pub struct Utf16Reader<R> {
 impl<R: Read> Utf16Reader<R> {
     ghost use Rattle.reader_example.specs.Reading.{units_left, half_of, IsUtf16Character, GivesCharacters};
 
-    /// A reader of the text of what `inner` gives.
+    /// Creates a reader of the text of the bytes of `inner`.
     pub fn new(inner: R) -> Utf16Reader<R>
         ensures units { units_left R.remaining result
             ≡ option_map (λ bytes. flat_map encode_utf16 (chars (utf8_lossy bytes))) (R.remaining inner) }
@@ -45,7 +45,7 @@ impl<R: Read> Utf16Reader<R> {
         }
     }
 
-    /// Reads text into `bytes`, whole characters, and converts it. Meets the end where there is none.
+    /// Reads text into `bytes`, whole characters, and converts it. Returns 0 at the end.
     fn decode(&mut self, bytes: &mut [u8], dst: &mut [u16]) -> io::Result<usize>
         requires bytes { 4 ≤ length bytes.old }
         requires room { length bytes.old ≤ length dst.old }
@@ -61,7 +61,7 @@ impl<R: Read> Utf16Reader<R> {
         Ok(convert_str_to_utf16(text, dst))
     }
 
-    /// Decodes one character, which is held, or meets the end.
+    /// Decodes one character, which is kept, or reaches the end.
     fn hold(&mut self) -> io::Result<()>
         requires held { self.old.held ≡ [] }
         ensures units { Keeps (units_left R.remaining self.old) (units_left R.remaining self.new) }
@@ -79,11 +79,11 @@ impl<R: Read> Utf16Reader<R> {
         Ok(())
     }
 
-    /// Gives the next code units of the text, as long as there are any and `dst` has room, and returns how many: none is
-    /// the end, or no room. After an error of the reader inside, which is handed on, nothing is lost: what was read before
-    /// stays for the next call.
+    /// Returns the next code units of the text, as long as there are any and `dst` isn't full, and their number: 0 at
+    /// the end, or if `dst` is empty. After an error of the inner reader, which is passed on, nothing is lost: what was
+    /// read before is kept for the next call.
     ///
-    /// No pair is cut unless `dst` has room for one code unit alone: then the next call gives the second.
+    /// No pair is cut unless `dst` has only one code unit: then the next call returns the second.
     pub fn read(&mut self, dst: &mut [u16]) -> io::Result<usize>
         ensures bound { ReadsAtMost result dst.new }
         ensures units { ReadConsumes (units_left R.remaining self.old) (units_left R.remaining self.new) result dst.new }

@@ -1,4 +1,4 @@
-//! A reader of text: what another gives, as well-formed UTF-8.
+//! A reader of text: the bytes of another reader, as well-formed UTF-8.
 ghost use Rattle.std.specs.Prelude.{◌≡◌, ◌≢◌, ◌↔◌, ◌<◌, ◌≤◌, [], length, take, true, false, IfOk, OnOk, OnErr, IsTrue, option_map};
 ghost use Rattle.std.specs.Io.{ReadsAtMost};
 ghost use Rattle.std.specs.Io.KnownBytes.{Keeps, ReadConsumes, IsAtEnd};
@@ -17,13 +17,13 @@ use std::io::Read;
 /// How many bytes are read at a time.
 const BLOCK: usize = 1024;
 
-/// With so much room a call of `repair_block` gets on.
+/// With this many bytes to write into, a call of `repair_block` makes progress.
 const ROOM: usize = 7;
 
-/// What stands for a broken part: the UTF-8 of U+FFFD.
+/// The UTF-8 of U+FFFD, which replaces a malformed sequence.
 const REPLACEMENT: [u8; 3] = [0xEF, 0xBF, 0xBD];
 
-/// Holds the text of a piece: U+FFFD for a broken part.
+/// Keeps the text of a piece: U+FFFD for a malformed sequence.
 fn hold_piece(held: &mut Buffer<u8, 4>, piece: Piece<'_>)
     requires { length (text_for piece) ≤ 4 }
     ensures { held.new ≡ text_for piece.entry }
@@ -39,21 +39,21 @@ fn hold_piece(held: &mut Buffer<u8, 4>, piece: Piece<'_>)
     }
 }
 
-/// Gives the repaired text of what `inner` gives: each maximal broken part of it becomes U+FFFD.
+/// Returns the repaired text of the bytes of `inner`: each malformed sequence becomes U+FFFD.
 #[derive(Drop)]
 pub struct Utf8Reader<R> {
     inner: R,
     decoder: Utf8Decoder,
-    // what was read and not decoded
+    // what was read and is not decoded yet
     block: Buffer<u8, BLOCK>,
-    // what is left of a character that is longer than the room it was given into
+    // the rest of a character that didn't fit
     held: Buffer<u8, 4>,
 }
 
 impl<R: Read> Utf8Reader<R> {
     ghost use Rattle.reader_example.specs.Reading.{text_left, held_of};
 
-    /// A reader of the text of what `inner` gives.
+    /// Creates a reader of the text of the bytes of `inner`.
     pub fn new(inner: R) -> Utf8Reader<R>
         ensures text { text_left R.remaining result ≡ option_map utf8_lossy (R.remaining inner) }
         ensures held { held_of result ≡ [] }
@@ -66,7 +66,7 @@ impl<R: Read> Utf8Reader<R> {
         }
     }
 
-    /// Reads where all that was read is decoded, and returns whether that met the end.
+    /// Reads if all that was read is decoded, and returns whether that reached the end.
     fn fill(&mut self) -> io::Result<bool>
         ensures text { Keeps (text_left R.remaining self.old) (text_left R.remaining self.new) }
         ensures same { (self.new.decoder ≡ self.old.decoder) × (self.new.held ≡ self.old.held) }
@@ -79,7 +79,7 @@ impl<R: Read> Utf8Reader<R> {
         Ok(self.block.unread().is_empty())
     }
 
-    /// Decodes into `dst` what gives some text, whole characters, or meets the end.
+    /// Decodes into `dst` until there is some text, in whole characters, or the end.
     fn decode(&mut self, dst: &mut [u8]) -> io::Result<usize>
         requires room { 7 ≤ length dst.old }
         requires held { self.old.held ≡ [] }
@@ -99,7 +99,7 @@ impl<R: Read> Utf8Reader<R> {
         }
     }
 
-    /// Decodes the next byte, or what is pending at the end. What that gives, a character or nothing, is held.
+    /// Decodes the next byte, or what is pending at the end. The result, a character or nothing, is kept.
     fn decode_byte(&mut self, last: bool)
         requires held { self.old.held ≡ [] }
         requires ended { IsTrue last ↔ (self.old.block ≡ []) }
@@ -120,7 +120,7 @@ impl<R: Read> Utf8Reader<R> {
         self.block.consume(read);
     }
 
-    /// Decodes what gives one character, which is held, or meets the end.
+    /// Decodes one character, which is kept, or reaches the end.
     fn hold(&mut self) -> io::Result<()>
         requires held { self.old.held ≡ [] }
         ensures text { Keeps (text_left R.remaining self.old) (text_left R.remaining self.new) }
@@ -137,7 +137,7 @@ impl<R: Read> Utf8Reader<R> {
         }
     }
 
-    /// Decodes one character into `dst`, and returns how long it is: 0 at the end.
+    /// Decodes one character into `dst`, and returns its length: 0 at the end.
     pub(crate) fn character(&mut self, dst: &mut [u8]) -> io::Result<usize>
         requires room { 4 ≤ length dst.old }
         requires held { self.old.held ≡ [] }
@@ -156,10 +156,10 @@ impl<R: Read> Read for Utf8Reader<R> {
 
     ghost remaining = { text_left R.remaining };
 
-    /// Gives the next of the text, as long as there is any and `dst` has room. After an error of the reader inside, which
-    /// is handed on, nothing is lost: what was read before stays for the next call.
+    /// Returns the next of the text, as long as there is any and `dst` isn't full. After an error of the inner reader,
+    /// which is passed on, nothing is lost: what was read before is kept for the next call.
     ///
-    /// No character is cut unless it is longer than `dst`: then the next calls give the rest of it.
+    /// No character is cut unless it is longer than `dst`: then the next calls return the rest of it.
     fn read(&mut self, dst: &mut [u8]) -> io::Result<usize>
         ensures bound { ReadsAtMost result dst.new }
         ensures bytes { ReadConsumes (text_left R.remaining self.old) (text_left R.remaining self.new) result dst.new }

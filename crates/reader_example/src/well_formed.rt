@@ -1,4 +1,4 @@
-//! Whether what a reader gives is text as it stands.
+//! Whether the bytes of a reader are well-formed text.
 ghost use Rattle.std.specs.Prelude.{◌↔◌, IfOk, IfSome, IsTrue};
 ghost use Rattle.std.specs.Io.KnownBytes.{IsAtEnd};
 ghost use Rattle.std.specs.Str.{IsUtf8};
@@ -12,11 +12,11 @@ use std::io::{Error, ErrorKind, Read};
 /// How many bytes are read at a time.
 const BLOCK: usize = 1024;
 
-/// With so much room a block, behind three pending bytes, is finished where none of it is broken.
+/// A block, after three pending bytes, is finished in this many bytes if none of it is malformed.
 const ROOM: usize = 1034;
 
-/// Whether all that a reader gives is well-formed UTF-8, in constant memory: it reads to the end, or no further than the
-/// block that shows the first broken part. An error is the reader's, or says that no end came in
+/// Returns whether all bytes of a reader are well-formed UTF-8, in constant memory. Reads to the end, or up to the end
+/// of the block with the first malformed sequence. An error is the reader's, or means that no end was reached in
 /// `u64::MAX` reads.
 pub fn is_well_formed<R: Read>(reader: &mut R) -> io::Result<bool>
     ensures answer { IfOk result (λ answer. IfSome (R.remaining reader.old) (λ bytes. IsTrue answer ↔ IsUtf8 bytes)) }

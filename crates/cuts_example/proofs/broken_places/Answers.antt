@@ -4,7 +4,7 @@ use Rattle.encoding_definitions.specs.Parts.{Part, ArePartsOf}
 use Rattle.encoding_runs.specs.BrokenParts.{IsNextBroken, AreFoundInTurn}
 use Rattle.cuts_example.proofs.broken_places.Goals as goal
 
--- one more, behind those that were found
+-- one more, after those that were found
 one_more : (bytes : List ℕ) (read place size : ℕ) (found more : List (ℕ × ℕ)) → IsNextBroken (take (length bytes - read) (drop read bytes)) place size
     → ((others : List (ℕ × ℕ)) → AreFoundInTurn read (drop read bytes) others → AreFoundInTurn 0 bytes (found ++ others))
     → more ≡ found ++ (read + place, size) ∷ []

@@ -2,7 +2,7 @@ use Rattle.std.proofs.Common.{ℕ, ◌-◌, ◌≤◌, List, ◌++◌, length, d
 use Rattle.encoding_runs.specs.BrokenParts.{AreFoundInTurn}
 use Rattle.cuts_example.proofs.broken_places.Given as goal
 
--- what is found in turn behind what was read follows what was found
+-- what is found in turn after what was read follows what was found
 abbrev pub invariant-loop-place : goal.invariant-loop-place
 invariant-loop-place l = record {
   within : l.read ≤ length l.bytes;

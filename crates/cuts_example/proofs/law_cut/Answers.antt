@@ -8,7 +8,7 @@ use Rattle.cuts_example.proofs.law_cut.Goals as goal
 
 pub returns : goal.returns
 returns c =
-    -- the parts of a piece are settled
+    -- the parts of a piece are final
     let settled : (piece : List ℕ) (parts : List Part) → MayBeCutBehind piece → ArePartsOf piece parts → AreSettled piece parts [] = λ piece parts may are.
     let (all, rest, s) = c.law_parts.ensures.settled_exist piece in
     let none : rest ≡ [] = elim may [

@@ -25,7 +25,7 @@ loop-piece-preserved c =
     one_more c.deref-piece-items.result.now c.loop-piece.piece-index _ c.loop-piece.repaired.items c.push.new.self.items c.in_ok-repair_piece.field-0
     (omega arith) c.loop-piece.invariant c.in_ok-repair_piece.ensures c.in_ok-push.ensures.items
 
--- behind the loop each piece is repaired
+-- after the loop each piece is repaired
 all_repaired : (items pieces : List (Bor (List ℕ))) (i : ℕ) (repaired joined : List RepairedPiece) → AllZip IsRepairOf (map bytes_of (take i items)) repaired
     → length items ≤ i → items ≡ pieces → joined ≡ repaired → AllZip IsRepairOf (map bytes_of pieces) joined
 all_repaired items pieces i repaired joined each end e f =

@@ -12,7 +12,7 @@ use Rattle.legacy_example.specs.Windows1252.{index, scalar_of, AreBytes}
 use Rattle.legacy_example.proofs.IndexLemmas.{high, scalar_low, scalar_below}
 use Rattle.legacy_example.proofs.law_nothing_is_lost.Goals as goal
 
--- the first place of a number
+-- the first index of a number
 place : List ℕ → ℕ → ℕ
 place [] c = 0
 place (x ∷ xs) c = if nat_eq x c then 0 else suc (place xs c)
