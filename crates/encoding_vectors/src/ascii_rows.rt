@@ -14,7 +14,7 @@ fn masks_each_byte(rt: HostRuntime) {
     assert!(rt; ASCII_MASK == 0x8080_8080_8080_8080);
 }
 
-/// Whether prefixes end before the first byte from 0x80 on.
+/// Returns whether prefixes end before the first byte from 0x80 on.
 fn fronts_end() -> bool {
     ascii_valid_up_to(b"") == 0
         && ascii_valid_up_to(b"ab") == 2
@@ -29,7 +29,7 @@ fn finds_the_front(rt: HostRuntime) {
     assert!(rt; fronts_end());
 }
 
-/// Whether prefixes of ISO-2022-JP end also before an escape byte and the two shift bytes.
+/// Returns whether prefixes of ISO-2022-JP also end before an escape byte and the two shift bytes.
 fn iso_2022_jp_fronts_end() -> bool {
     iso_2022_jp_ascii_valid_up_to(&[0x61, 0x1B, 0x62]) == 1
         && iso_2022_jp_ascii_valid_up_to(&[0x61, 0x62]) == 2
@@ -43,7 +43,7 @@ fn finds_the_front_of_iso_2022_jp(rt: HostRuntime) {
     assert!(rt; iso_2022_jp_fronts_end());
 }
 
-/// Whether each copy stops at the first unit that isn't ASCII and leaves what follows.
+/// Returns whether each copy stops at the first unit that isn't ASCII, and the rest is unchanged.
 fn fronts_are_copied() -> bool {
     let mut bytes = [0; 3];
     let mut units = [0; 3];
@@ -61,7 +61,7 @@ fn copies_the_front(rt: HostRuntime) {
     assert!(rt; fronts_are_copied());
 }
 
-/// Whether the copies go over the shorter length of the two.
+/// Returns whether the copies end at the shorter of the two lengths.
 fn shorter_lengths_are_copied() -> bool {
     let mut bytes = [0; 2];
     let mut units = [0; 4];
@@ -76,7 +76,7 @@ fn copies_what_there_is_room_for(rt: HostRuntime) {
     assert!(rt; shorter_lengths_are_copied());
 }
 
-/// 0x40, 0x41 and so on, with 0xAA at a place.
+/// Returns 0x40, 0x41 and so on, with 0xAA at index `i`.
 fn letters_with_other_at(i: usize) -> [u8; 32] {
     let mut src = [0u8; 32];
     for j in 0..32 {
@@ -85,7 +85,7 @@ fn letters_with_other_at(i: usize) -> [u8; 32] {
     src
 }
 
-/// The bytes as code units.
+/// Returns the bytes as code units.
 fn widened(src: &[u8; 32]) -> [u16; 32] {
     let mut wide = [0u16; 32];
     for j in 0..32 {
@@ -94,7 +94,7 @@ fn widened(src: &[u8; 32]) -> [u16; 32] {
     wide
 }
 
-/// Whether the items before a place are those of the source, and all others are zero.
+/// Returns whether the items before an index are those of the source, and all others are zero.
 fn is_front_of(bytes: &[u8; 32], src: &[u8; 32], end: usize) -> bool {
     (0..32usize).all(|j| bytes[j] == if j < end { src[j] } else { 0 })
 }
@@ -128,7 +128,7 @@ fn scans_stop_at_each_place(rt: HostRuntime) {
     }
 }
 
-/// Whether the checks tell the units from i to 0x7F, of which those before j become 0xA0, from ASCII.
+/// Returns whether the checks distinguish the units from i to 0x7F, with 0xA0 for those before j, from ASCII.
 fn are_told_apart(i: usize, j: usize) -> bool {
     let mut bytes = [0u8; 128];
     let mut units = [0u16; 128];
@@ -140,7 +140,7 @@ fn are_told_apart(i: usize, j: usize) -> bool {
     i <= 128 && is_ascii(&bytes[i..]) == (j <= i) && is_basic_latin(&units[i..]) == (j <= i)
 }
 
-/// The units from i to 0x7F, of which then the first one, two and so on become 0xA0.
+/// The units from i to 0x7F, with 0xA0 for the first one, two and so on.
 #[test]
 fn checks_at_all_lengths(rt: HostRuntime) {
     for i in 0..128 {

@@ -36,7 +36,7 @@ const LEFT_TO_RIGHT: [char; 7] = [
     '\u{FEFF}',
 ];
 
-/// The text of the characters between `letters` letters on either side.
+/// Returns the text of the characters with `letters` letters on either side.
 fn between_letters(alloc: Global, letters: usize, characters: &str) -> Result<String, Fail> {
     let mut text = String::new(alloc);
     for _ in 0..letters {
@@ -49,7 +49,7 @@ fn between_letters(alloc: Global, letters: usize, characters: &str) -> Result<St
     Ok(text)
 }
 
-/// The UTF-16 of the text.
+/// Returns the UTF-16 of the text.
 fn units_of(alloc: Global, text: &str) -> Result<Vec<u16>, Fail> {
     let mut units = Vec::new(alloc);
     for c in text.chars() {
@@ -58,7 +58,7 @@ fn units_of(alloc: Global, text: &str) -> Result<Vec<u16>, Fail> {
     Ok(units)
 }
 
-/// Whether all checks of the text say so.
+/// Returns whether all checks of the text have these results.
 fn text_is(alloc: Global, text: &str, bidi: bool, class: Latin1Bidi) -> Result<bool, Fail> {
     let units = units_of(alloc, text)?;
     Ok(
@@ -82,7 +82,7 @@ fn class_of(c: char, bidi: bool) -> Latin1Bidi {
     }
 }
 
-/// Whether the checks of the character, and of texts in which it stands between letters, say so.
+/// Returns whether the checks of the character, and of texts that have it between letters, have this result.
 fn character_is(alloc: Global, c: char, bidi: bool) -> Result<bool, Fail> {
     let mut bytes = [0; 4];
     let character = c.encode_utf8(&mut bytes);
@@ -105,7 +105,7 @@ fn characters_between_letters(rt: HostRuntime) -> Result<(), Fail> {
     Ok(())
 }
 
-/// Whether the checks of the code unit, and of units in which it stands between letters, say so.
+/// Returns whether the checks of the code unit, and of units that have it between letters, have this result.
 fn unit_is(unit: u16, bidi: bool) -> bool {
     let mut units = [0x61; 41];
     for at in 0..41 {
@@ -143,7 +143,7 @@ fn one_of_several(rt: HostRuntime) -> Result<(), Fail> {
     Ok(())
 }
 
-/// Whether a high surrogate decides for its pair, and also unpaired.
+/// Returns whether a high surrogate decides for its pair, and also if it is unpaired.
 fn high_surrogates_decide() -> bool {
     is_utf16_bidi(&[0xD802, 0xDC00])
         && !is_utf16_bidi(&[0xD801, 0xDC00])
@@ -156,7 +156,7 @@ fn halves_of_pairs(rt: HostRuntime) {
     assert!(rt; high_surrogates_decide());
 }
 
-/// Whether the bytes are right-to-left and so not Latin1.
+/// Returns whether the bytes count as right-to-left and so not as Latin1.
 fn is_ill_formed(bytes: &[u8]) -> bool {
     is_utf8_bidi(bytes) && check_utf8_for_latin1_and_bidi(bytes) == Latin1Bidi::Bidi
 }
@@ -174,7 +174,7 @@ fn ill_formed_bytes_are_right_to_left(rt: HostRuntime) {
     assert!(rt; holds);
 }
 
-/// Whether bytes are of their classes.
+/// Returns whether bytes are of their classes.
 fn bytes_are_told_apart() -> bool {
     check_utf8_for_latin1_and_bidi(&[0xC3]) == Latin1Bidi::Bidi
         && check_utf8_for_latin1_and_bidi(&[0xC4, 0x80]) == Latin1Bidi::LeftToRight
@@ -183,7 +183,7 @@ fn bytes_are_told_apart() -> bool {
         && check_utf8_for_latin1_and_bidi(&[]) == Latin1Bidi::Latin1
 }
 
-/// Whether code units are of their classes.
+/// Returns whether code units are of their classes.
 fn units_are_told_apart() -> bool {
     check_utf16_for_latin1_and_bidi(&[0x00FF]) == Latin1Bidi::Latin1
         && check_utf16_for_latin1_and_bidi(&[0x0100]) == Latin1Bidi::LeftToRight

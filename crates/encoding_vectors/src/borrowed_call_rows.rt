@@ -98,7 +98,7 @@ fn rows_hold(rt: HostRuntime) -> Result<(), Fail> {
     Ok(())
 }
 
-/// Whether the bytes stand next among those that are wanted, of which `came.0` came. They count then.
+/// Returns whether the bytes are the next of those expected, after `came.0` of them. They count then.
 fn come_next(wanted: &[u8], came: &mut (usize, usize), bytes: &[u8]) -> bool {
     let end = came.0.saturating_add(bytes.len());
     let next = wanted.get(came.0..end) == Some(bytes);
@@ -106,7 +106,7 @@ fn come_next(wanted: &[u8], came: &mut (usize, usize), bytes: &[u8]) -> bool {
     next
 }
 
-/// Whether a piece, made of these bytes, comes next: its bytes, or its report, of which `came.1` came.
+/// Returns whether a piece, made of these bytes, is the next one: its bytes, or its report, after `came.1` reports.
 fn piece_comes_next(
     wanted: &Delivered<u8>,
     came: &mut (usize, usize),
@@ -127,8 +127,8 @@ fn piece_comes_next(
     }
 }
 
-/// Hands in the unread bytes, at most `most` a call, with the last of them marked as the last: whether all is read, and the
-/// pieces are those that are wanted.
+/// Passes the unread bytes, at most `most` in each call, with the last of them marked as the last. Returns whether all
+/// is read, and the pieces are those expected.
 fn pieces_are(src: &[u8], most: usize, wanted: &Delivered<u8>) -> bool {
     let mut decoder = Utf8Decoder::new_inner();
     let mut unread = src;

@@ -1,16 +1,16 @@
-//! Results that borrow where they can, and memory that is refused.
+//! Results that borrow if they can, and allocations that fail.
 
 use encoding_text::mem::{CowBytes, CowStr, decode_latin1, encode_latin1_lossy, is_str_latin1};
 use std::alloc::{AllocError, Global};
 use std::test::Fail;
 use test_support::memory::exhaust;
 
-/// Whether the bytes are decoded to this.
+/// Returns whether the bytes are decoded to this.
 fn decodes_to(alloc: Global, bytes: &[u8], text: CowStr<'_>) -> bool {
     decode_latin1(alloc, bytes) == Ok(text)
 }
 
-/// Whether the text is encoded to this.
+/// Returns whether the text is encoded to this.
 fn encodes_to(alloc: Global, text: &str, bytes: CowBytes<'_>) -> bool {
     is_str_latin1(text) && encode_latin1_lossy(alloc, text) == Ok(bytes)
 }
@@ -32,8 +32,8 @@ fn owns_the_rest(rt: HostRuntime) -> Result<(), Fail> {
     Ok(())
 }
 
-/// Whether the bytes are decoded to this, or refused, where a block of so many bytes is all that is left, and none is
-/// left then.
+/// Returns whether the bytes are decoded to this, or the allocation fails, if a block of `spare` bytes is all that is
+/// left, and none is left then.
 fn decodes_with_spare(
     alloc: Global,
     bytes: &[u8],
@@ -49,7 +49,7 @@ fn decodes_with_spare(
     Ok(refused && text == *wanted)
 }
 
-/// Whether the text is encoded to this where a block of so many bytes is all that is left, and none is left then.
+/// Returns whether the text is encoded to this if a block of `spare` bytes is all that is left, and none is left then.
 fn encodes_with_spare(
     alloc: Global,
     text: &str,
@@ -82,7 +82,7 @@ fn the_first_request_is_refused(rt: HostRuntime) -> Result<(), Fail> {
     Ok(())
 }
 
-/// One block is left, which the one growth takes: a second request is refused.
+/// One block is left, which the one allocation takes: a second request fails.
 #[test]
 fn one_growth_is_made(rt: HostRuntime) -> Result<(), Fail> {
     let text = String::from_str(rt.alloc(), "aä")?;

@@ -1,4 +1,4 @@
-//! Decode calls in a chain: over any cuts, into any room, and in all forms.
+//! Decode calls in a chain: with any cuts, into any destination, and in all forms.
 
 use crate::parts::{Parts, broken};
 use encoding_text::decoder::{DecoderResult, Piece, Utf8Decoder};
@@ -11,12 +11,13 @@ pub enum Form {
     Borrowed,
 }
 
-/// How bytes are handed in.
+/// How bytes are passed.
 #[derive(Clone, Copy)]
 pub struct Way {
-    /// A bit for each place that is cut, the lowest for the one before the first byte.
+    /// A bit for each index that is cut at, the lowest for the one before the first byte.
     pub cuts: u32,
-    /// The room of a call. A call that makes no progress is followed by one with the room that any character needs.
+    /// The length of a call's destination. A call that makes no progress is followed by one into a destination that any
+    /// character fits.
     pub room: usize,
     /// The forms of the calls, in turn.
     pub forms: [Form; 3],
@@ -25,7 +26,7 @@ pub struct Way {
 /// How many calls a piece takes at most.
 const CALLS: usize = 32;
 
-/// Calls of a decoder, and what they delivered.
+/// Calls of a decoder, and what they yielded.
 #[derive(Drop)]
 struct Chain {
     decoder: Utf8Decoder,
@@ -34,7 +35,7 @@ struct Chain {
 }
 
 impl Chain {
-    /// Notes a result, and returns whether it is `InputEmpty`.
+    /// Records a result, and returns whether it is `InputEmpty`.
     fn ends(&mut self, outcome: &DecoderResult) -> bool {
         if let DecoderResult::Malformed(length, behind) = outcome {
             let length = usize::from(*length).saturating_add(usize::from(*behind));
@@ -43,14 +44,14 @@ impl Chain {
         *outcome == DecoderResult::InputEmpty
     }
 
-    /// Notes the characters of a text.
+    /// Records the characters of a text.
     fn note(&mut self, text: &str) {
         for character in text.chars() {
             self.delivered.push(u32::from(character));
         }
     }
 
-    /// Decodes to UTF-16. Returns how many bytes are read, and whether the call ended with `InputEmpty`: or `None` if
+    /// Decodes to UTF-16. Returns the number of bytes read, and whether the call ended with `InputEmpty`, or `None` if
     /// what is written is no text, or more was written.
     fn call_utf16(&mut self, src: &[u8], room: usize, last: bool) -> Option<(usize, bool)> {
         let mut dst = [0x71; 8];
@@ -63,8 +64,8 @@ impl Chain {
         unchanged.then_some((read, self.ends(&result)))
     }
 
-    /// Decodes to UTF-8. Returns how many bytes are read, and whether the call ended with `InputEmpty`: or `None` if what
-    /// is written is no text, or more was written.
+    /// Decodes to UTF-8. Returns the number of bytes read, and whether the call ended with `InputEmpty`, or `None` if
+    /// what is written is no text, or more was written.
     fn call_utf8(&mut self, src: &[u8], room: usize, last: bool) -> Option<(usize, bool)> {
         let mut dst = [0x71; 8];
         let space = dst.get_mut(..room)?;
@@ -74,8 +75,8 @@ impl Chain {
         unchanged.then_some((read, self.ends(&result)))
     }
 
-    /// Decodes without a destination. A text is what was read. Returns how many bytes are read, and whether the call
-    /// ended with `InputEmpty`: or `None` if the piece is no text.
+    /// Decodes without a destination. A text is what was read. Returns the number of bytes read, and whether the call
+    /// ended with `InputEmpty`, or `None` if the piece is no text.
     fn call_borrowed(&mut self, src: &[u8], last: bool) -> Option<(usize, bool)> {
         let (piece, read) = self.decoder.decode_borrowed_raw(src, last);
         let mut ended = false;
@@ -89,7 +90,8 @@ impl Chain {
         Some((read, ended))
     }
 
-    /// Makes the next call, of the form whose turn it is, into the room of the way, or into enough of it.
+    /// Makes the next call, of the form whose turn it is, into a destination of the way's length, or one that is long
+    /// enough.
     fn call(&mut self, src: &[u8], last: bool, way: &Way, enough: bool) -> Option<(usize, bool)> {
         let form = way.forms[self.calls % 3];
         self.calls = self.calls.saturating_add(1);
@@ -100,7 +102,7 @@ impl Chain {
         }
     }
 
-    /// Hands in a piece until `InputEmpty` is returned: whether all of it is read then.
+    /// Passes a piece until `InputEmpty` is returned. Returns whether all of it is read then.
     fn reads(&mut self, piece: &[u8], last: bool, way: &Way) -> bool {
         let mut unread = piece;
         let mut stuck = false;
@@ -122,7 +124,7 @@ impl Chain {
     }
 }
 
-/// Whether the bytes, handed in so, are decoded to these parts, and nothing is pending then.
+/// Returns whether the bytes, passed this way, are decoded to these parts, and nothing is pending then.
 pub fn decodes_to(bytes: &[u8], way: &Way, parts: &Parts) -> bool {
     let mut chain = Chain {
         decoder: Utf8Decoder::new_inner(),

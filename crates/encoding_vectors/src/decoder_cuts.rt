@@ -1,4 +1,5 @@
-//! The decoder's vectors over every cut and into every small room, through calls of each form and of all in turn.
+//! The decoder's vectors with every set of cuts and into every short destination, through calls of each form and of all
+//! in turn.
 
 use crate::decoder_chains::Form::{Borrowed, Utf8, Utf16};
 use crate::decoder_chains::{Form, Way, decodes_to};
@@ -19,7 +20,7 @@ const FORMS: [[Form; 3]; 9] = [
     [Borrowed, Utf8, Utf16],
 ];
 
-/// Returns how many sets of cuts there are: of the places before the first byte, between two, and after the last.
+/// Returns the number of sets of cuts: before the first byte, between two, and after the last.
 fn cut_sets(vector: &Vector) -> u32 {
     let mut sets = 2u32;
     for _ in &vector.bytes {
@@ -28,7 +29,8 @@ fn cut_sets(vector: &Vector) -> u32 {
     sets
 }
 
-/// Whether the vector, cut so, comes in its parts into this room, whatever the forms of the calls.
+/// Returns whether the vector, with these cuts, yields its parts with destinations of this length, in all forms of the
+/// calls.
 fn comes_in_parts(vector: &Vector, parts: &Parts, cuts: u32, room: usize) -> bool {
     FORMS.iter().all(|forms| {
         let way = Way {
@@ -40,7 +42,7 @@ fn comes_in_parts(vector: &Vector, parts: &Parts, cuts: u32, room: usize) -> boo
     })
 }
 
-/// All sets of cuts: so also each cut in two, each in three, and one byte a piece.
+/// All sets of cuts, so also each cut in two, each in three, and one byte per piece.
 #[test]
 fn every_cut_and_room(rt: HostRuntime) -> Result<(), Fail> {
     let vectors = vectors(rt.alloc())?;

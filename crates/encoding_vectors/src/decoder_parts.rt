@@ -6,12 +6,13 @@ use encoding_text::decoder::{DecoderResult, Utf8Decoder};
 use std::alloc::{AllocError, Global};
 use std::test::Fail;
 
-/// Whether the report that follows those that came has this length, after the code units that came.
+/// Returns whether the next report has this length, after as many code units as came.
 fn report_is(wanted: &[(usize, usize)], came: (usize, usize), length: u8) -> bool {
     wanted.get(came.1) == Some(&(came.0, usize::from(length)))
 }
 
-/// Decodes, and hands in the unread bytes again after each report: whether all is read, and that delivers what is wanted.
+/// Decodes, and passes the unread bytes again after each report. Returns whether all is read, and that yields what is
+/// expected.
 fn decodes<U: Output>(
     alloc: Global,
     src: &[u8],
@@ -49,7 +50,7 @@ fn decodes<U: Output>(
     Ok(false)
 }
 
-/// Whether decoding to UTF-16 and to UTF-8 delivers what a vector expects.
+/// Returns whether decoding to UTF-16 and to UTF-8 yields what a vector expects.
 fn is_delivered(alloc: Global, vector: &Vector) -> Result<bool, AllocError> {
     let units = delivered::<u16>(alloc, vector)?;
     let bytes = delivered::<u8>(alloc, vector)?;

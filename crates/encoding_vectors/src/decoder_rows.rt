@@ -6,8 +6,8 @@ use encoding_text::decoder::{DecoderResult, Piece, Utf8Decoder};
 use std::alloc::Global;
 use std::test::Fail;
 
-/// A call of a row: the source, the room and whether it is marked last, then the name of the result and how much is
-/// read.
+/// A call of a row: the source, the length of the destination and whether it is marked last, then the name of the
+/// result and how much is read.
 #[derive(Drop)]
 struct Call<'a> {
     src: Vec<u8>,
@@ -17,7 +17,7 @@ struct Call<'a> {
     read: usize,
 }
 
-/// Whether a field names this result.
+/// Returns whether a field names this result.
 fn is_result(outcome: &DecoderResult, field: &str) -> bool {
     match outcome {
         DecoderResult::InputEmpty => field == "InputEmpty",
@@ -44,7 +44,8 @@ fn call_of<'a>(alloc: Global, row: &mut &'a str) -> Result<Call<'a>, Fail> {
     })
 }
 
-/// Whether the call of a row returns so, writes the code units that end the row, and leaves what follows.
+/// Returns whether the call of a row has its result and writes the code units that end the row, and the rest is
+/// unchanged.
 fn to_utf16_is(alloc: Global, decoder: &mut Utf8Decoder, row: &str) -> Result<bool, Fail> {
     let mut row = row;
     let call = call_of(alloc, &mut row)?;
@@ -57,7 +58,7 @@ fn to_utf16_is(alloc: Global, decoder: &mut Utf8Decoder, row: &str) -> Result<bo
     Ok(is_result(&result, call.result) && read == call.read && are_written(&out, &dst, written))
 }
 
-/// Whether the call of a row returns so, writes the bytes that end the row, and leaves what follows.
+/// Returns whether the call of a row has its result and writes the bytes that end the row, and the rest is unchanged.
 fn to_utf8_is(alloc: Global, decoder: &mut Utf8Decoder, row: &str) -> Result<bool, Fail> {
     let mut row = row;
     let call = call_of(alloc, &mut row)?;
@@ -70,7 +71,8 @@ fn to_utf8_is(alloc: Global, decoder: &mut Utf8Decoder, row: &str) -> Result<boo
     Ok(is_result(&result, call.result) && read == call.read && are_written(&out, &dst, written))
 }
 
-/// Whether the queries return so: of the length, the most code units, bytes, and bytes with replacements.
+/// Returns whether the queries have these results: for this length, the most code units, bytes, and bytes with
+/// replacements.
 fn queries_are(decoder: &Utf8Decoder, row: &str) -> Result<bool, Fail> {
     let mut row = row;
     let length = number_of(field(&mut row))?;
@@ -105,7 +107,7 @@ fn piece_of<'a>(field: &str, text: &'a [u8]) -> Result<Piece<'a>, Fail> {
     }
 }
 
-/// Whether the call without a destination returns the piece of a row, and reads as much as the row says.
+/// Returns whether the call without a destination returns the piece of a row, and reads as much as the row says.
 fn piece_is(alloc: Global, decoder: &mut Utf8Decoder, row: &str) -> Result<bool, Fail> {
     let mut row = row;
     let source = field(&mut row);
@@ -119,7 +121,7 @@ fn piece_is(alloc: Global, decoder: &mut Utf8Decoder, row: &str) -> Result<bool,
     Ok(call.0 == wanted && call.1 == read)
 }
 
-/// Makes the calls of a table one after another. A row `new` begins a new decoder.
+/// Makes the calls of a table one after another. A row `new` starts a new decoder.
 pub fn row_holds(alloc: Global, decoder: &mut Utf8Decoder, row: &str) -> Result<bool, Fail> {
     let mut rest = row;
     match field(&mut rest) {
@@ -137,10 +139,10 @@ pub fn row_holds(alloc: Global, decoder: &mut Utf8Decoder, row: &str) -> Result<
     }
 }
 
-/// Calls: source, room, mark, result, bytes read, code units written. If bytes stay pending, the next calls show
-/// which. Bytes that begin like a byte order mark are decoded as any others. 6148914691236517205 is a third of `MAX`.
-/// In the last rows a call into a queried length leaves enough for what is left: after `61`, and U+FFFD for the report, five
-/// bytes of nine, where three are enough; one code unit of three, where one is.
+/// Calls: source, `room`, mark, result, bytes read, code units written. If bytes stay pending, the next calls show
+/// which. A byte order mark is decoded like any other character. 6148914691236517205 is a third of `MAX`. In the last
+/// rows a call into a queried length leaves enough for the rest. After `61`, and U+FFFD for the report, five bytes of
+/// nine are left, and three are enough; of three code units one is left, which is enough.
 const ROWS: &str = "\
 new
 utf16 | C3 A4 61 | 1 | more | OutputFull | 2 | 00E4

@@ -1,4 +1,4 @@
-//! The decoder's vectors: bytes, and the parts that they are. UTF-8 decoder of the Encoding Standard.
+//! The decoder's vectors: bytes, and their parts. UTF-8 decoder of the Encoding Standard.
 
 use crate::outputs::Output;
 use crate::texts::{bytes_of, field};
@@ -6,14 +6,14 @@ use Expected::{Broken, Character};
 use std::alloc::{AllocError, Global};
 use std::test::Fail;
 
-/// A part that is expected: a character, or so many bytes that are none.
+/// An expected part: a character, or the length of a malformed sequence.
 #[derive(Drop)]
 pub enum Expected {
     Character(char),
     Broken(usize),
 }
 
-/// Bytes and the parts that are expected of them, with the row that they stand in.
+/// Bytes and their expected parts, with their row.
 #[derive(Drop)]
 pub struct Vector {
     pub row: &'static str,
@@ -21,10 +21,10 @@ pub struct Vector {
     pub parts: Vec<Expected>,
 }
 
-/// What decoding delivers: the code units, and for each report how many of them stood before it, and its length.
+/// What decoding yields: the code units, and for each report the number of them before it, and its length.
 pub type Delivered<U> = (Vec<U>, Vec<(usize, usize)>);
 
-/// Bytes and their parts: characters by their scalar values, and `?` with the length of what is none.
+/// Bytes and their parts: characters by their scalar values, and `?` with the length of a malformed sequence.
 const ROWS: &str = "\
 |
 C3 A4 | U+00E4
@@ -79,7 +79,7 @@ F4 8F BF BF | U+10FFFF
 F4 90 80 80 | ?1 ?1 ?1 ?1
 F4 8F BF FF | ?3 ?1";
 
-/// Returns the vectors: each row with `61` in front, once alone and once with `5A` behind.
+/// Returns the vectors: each row with `61` before it, once without and once with `5A` after it.
 pub fn vectors(alloc: Global) -> Result<Vec<Vector>, Fail> {
     let mut vectors = Vec::new(alloc);
     for row in ROWS.lines() {
@@ -89,7 +89,7 @@ pub fn vectors(alloc: Global) -> Result<Vec<Vector>, Fail> {
     Ok(vectors)
 }
 
-/// Returns the vector of a row, with letters behind it.
+/// Returns the vector of a row, with letters after it.
 fn vector_of(alloc: Global, row: &'static str, behind: &[u8]) -> Result<Vector, Fail> {
     let mut rest = row;
     let bytes = framed_bytes(alloc, &bytes_of(alloc, field(&mut rest))?, behind)?;
@@ -135,7 +135,7 @@ pub fn scalar_of(word: &str) -> Result<char, Fail> {
     Ok(char::from_u32(u32::from_str_radix(digits, 16)?).ok_or("no scalar value")?)
 }
 
-/// Returns the repaired text: the characters, and U+FFFD for each broken part.
+/// Returns the repaired text: the characters, and U+FFFD for each malformed sequence.
 pub fn repaired_text(alloc: Global, vector: &Vector) -> Result<Vec<u8>, AllocError> {
     let mut text = Vec::new(alloc);
     for part in &vector.parts {
@@ -149,7 +149,7 @@ pub fn repaired_text(alloc: Global, vector: &Vector) -> Result<Vec<u8>, AllocErr
     Ok(text)
 }
 
-/// Returns what decoding is to deliver.
+/// Returns what decoding has to yield.
 pub fn delivered<U: Output>(alloc: Global, vector: &Vector) -> Result<Delivered<U>, AllocError> {
     let mut text = Vec::new(alloc);
     let mut reports = Vec::new(alloc);
@@ -162,7 +162,7 @@ pub fn delivered<U: Output>(alloc: Global, vector: &Vector) -> Result<Delivered<
     Ok((text, reports))
 }
 
-/// Returns how many bytes a part takes.
+/// Returns the number of bytes of a part.
 pub fn length_of(part: &Expected) -> usize {
     match part {
         Character(scalar) => scalar.len_utf8(),

@@ -1,12 +1,13 @@
-//! Broken parts close together and far apart, in input longer than the array that the engine gathers its text in.
+//! Malformed sequences close together and far apart, in input longer than the array that the engine gathers its text
+//! in.
 
 use encoding_runs::repair::{Repaired, Watch, repair, repair_slice};
 use std::alloc::{AllocError, Global};
 use std::test::Fail;
 use test_support::streams::Input;
 
-/// Bytes, and the text that they are repaired to. No row begins with a continuation byte, so each is what it is
-/// whatever stands before it.
+/// Bytes, and the text that they are repaired to. No row starts with a continuation byte, so its parts don't depend on
+/// the bytes before it.
 const PARTS: [(&[u8], &[u8], u64); 12] = [
     (b"a", b"a", 0),
     (&[0xFF], b"\xEF\xBF\xBD", 1),
@@ -26,7 +27,7 @@ const PARTS: [(&[u8], &[u8], u64); 12] = [
     (&[0xF5, 0xBF], b"\xEF\xBF\xBD\xEF\xBF\xBD", 2),
 ];
 
-/// Input, its text, and how many of its parts are broken.
+/// Input, its text, and the number of its malformed sequences.
 #[derive(Drop)]
 struct Example {
     bytes: Vec<u8>,
@@ -34,8 +35,8 @@ struct Example {
     replaced: u64,
 }
 
-/// Returns so many letters, and then so many parts, each behind so many letters. A part follows another by a step that
-/// goes on, so that each comes to stand beside each.
+/// Returns `front` letters, and then `count` parts, each after `between` letters. A growing step leads from a part to
+/// the next, so that each comes next to each.
 fn example_of(
     alloc: Global,
     front: usize,
@@ -68,14 +69,14 @@ fn push_letters(example: &mut Example, count: usize) -> Result<(), AllocError> {
     Ok(())
 }
 
-/// Whether a slice is repaired so.
+/// Returns whether a slice is repaired to its text.
 fn repairs_slice(alloc: Global, example: &Example) -> bool {
     let mut output = Vec::new(alloc);
     let replaced = repair_slice(&example.bytes, &mut Watch::new(&mut output));
     replaced == Ok(example.replaced) && output == example.text
 }
 
-/// Whether a stream is, which gives so many bytes a read.
+/// Returns whether a stream is, which returns `step` bytes per read.
 fn repairs_stream(alloc: Global, example: &Example, step: usize) -> bool {
     let mut output = Vec::new(alloc);
     let mut input = Input::of(&example.bytes, step);
@@ -91,8 +92,8 @@ fn repairs_stream(alloc: Global, example: &Example, step: usize) -> bool {
     repaired == Ok(expected) && output == example.text
 }
 
-/// The letters in front move what follows over each seam: of the array, of a round, and of the bytes that are looked at
-/// together.
+/// The letters at the start move what follows over each boundary: of the array, of a round, and of the bytes that are
+/// checked together.
 fn repairs_behind_letters(alloc: Global, count: usize, between: usize) -> Result<bool, AllocError> {
     for front in 0..20 {
         let example = example_of(alloc, front, count, between)?;
@@ -124,7 +125,7 @@ fn repairs_parts_far_apart(rt: HostRuntime) -> Result<(), Fail> {
     Ok(())
 }
 
-/// Each byte is a broken part, or each but the last.
+/// Each byte is a malformed sequence, or each but the last.
 #[test]
 fn repairs_broken_bytes_alone(rt: HostRuntime) -> Result<(), Fail> {
     for count in [1020usize, 1021, 1022, 1023, 1024, 1025, 1026, 2048, 5000] {
@@ -142,7 +143,8 @@ fn repairs_broken_bytes_alone(rt: HostRuntime) -> Result<(), Fail> {
     Ok(())
 }
 
-/// Broken bytes stand alone in ASCII, each so far behind the one before it, and a character of two bytes ends that.
+/// Single malformed bytes in ASCII, each at a fixed distance from the one before it. A character of two bytes ends
+/// that.
 #[test]
 fn repairs_broken_bytes_in_ascii(rt: HostRuntime) -> Result<(), Fail> {
     for between in 0..70 {

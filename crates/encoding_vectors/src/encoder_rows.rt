@@ -1,4 +1,4 @@
-//! The encoder while it holds nothing: vectors and limits.
+//! The encoder while nothing is pending: vectors and limits.
 
 use crate::encoder_vectors::{Source, limits, vectors};
 use crate::held_units::holds;
@@ -6,7 +6,8 @@ use crate::texts::are_written;
 use encoding_text::utf_8::{EncoderResult, Utf8Encoder};
 use std::test::Fail;
 
-/// Whether a new encoder reads all units of a source, writes these bytes with ample room, and holds this then.
+/// Returns whether a new encoder reads all units of a source, writes these bytes into a long destination, and has this
+/// pending then.
 fn encodes(source: &Source, last: bool, bytes: &[u8], held: &str) -> bool {
     let mut encoder = Utf8Encoder::new_inner();
     let mut dst = [0x71; 64];
@@ -17,7 +18,8 @@ fn encodes(source: &Source, last: bool, bytes: &[u8], held: &str) -> bool {
         && holds(encoder, held)
 }
 
-/// Whether the same is written marked last or not, but for a high surrogate that ends a call not marked last.
+/// Returns whether the same is written marked last or not, except for a high surrogate that ends a call not marked
+/// last.
 fn is_encoded(source: &Source) -> bool {
     let ends_high = source.units.as_slice() == [0xD800].as_slice();
     encodes(source, true, &source.bytes, "none")
@@ -38,7 +40,8 @@ fn encodes_vectors(rt: HostRuntime) -> Result<(), Fail> {
     Ok(())
 }
 
-/// Whether a new encoder writes the first `bytes` bytes of a source into the room, reads `units` units, and holds nothing then.
+/// Returns whether a new encoder writes the first `bytes` bytes of a source, reads `units` units, and has nothing
+/// pending then.
 fn encodes_into(
     source: &Source,
     room: usize,
@@ -55,7 +58,7 @@ fn encodes_into(
     result == wanted && read == units && are_written(front, &dst, written) && holds(encoder, "none")
 }
 
-/// Into exactly its size.
+/// Into exactly the length of its UTF-8.
 fn fits_exactly(source: &Source) -> bool {
     let size = source.bytes.len();
     encodes_into(
@@ -79,7 +82,7 @@ fn leaves_the_last(source: &Source) -> bool {
     )
 }
 
-/// Into 64 bytes that hold 0, 1, 2 and so on. Those after the written bytes keep their values.
+/// Into 64 bytes that contain 0, 1, 2 and so on. Those after the written bytes are unchanged.
 fn keeps_what_is_behind(source: &Source) -> bool {
     let mut dst = [0; 64];
     for i in 0..64 {
@@ -107,7 +110,7 @@ fn writes_what_fits(rt: HostRuntime) -> Result<(), Fail> {
     Ok(())
 }
 
-/// Whether a query's room is enough for its units.
+/// Returns whether the length that a query returns is enough for its units.
 fn three_bytes_are_enough() -> bool {
     let mut encoder = Utf8Encoder::new_inner();
     let mut dst = [0; 12];
@@ -126,7 +129,7 @@ fn three_bytes_a_unit(rt: HostRuntime) {
     assert!(rt; three_bytes_are_enough());
 }
 
-/// Whether an empty text is read whatever the mark.
+/// Returns whether an empty text is read with either mark.
 fn reads_no_text(last: bool) -> bool {
     let answer = Utf8Encoder::new_inner().encode_from_utf8_raw("", &mut [], last);
     answer == (EncoderResult::InputEmpty, 0, 0)

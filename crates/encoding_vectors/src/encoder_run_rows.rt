@@ -1,4 +1,4 @@
-//! Runs of an encoder: worked rows, and the encoder's sources by turns of few code units.
+//! Runs of an encoder: rows, and the encoder's sources by turns of few code units.
 
 use crate::encoder_vectors::{limits, vectors};
 use crate::held_units::holds;
@@ -9,7 +9,7 @@ use encoding_text::utf_8::{EncoderResult, Utf8Encoder};
 use std::alloc::Global;
 use std::test::Fail;
 
-/// Source, turns, room of the destination, how much is read, the last answer, output, and what is held then.
+/// Source, turns, length of the destination, how much is read, the last result, output, and what is pending then.
 const ROWS: &str = "\
 D83D DCA9 0062 | 4 1 4 last | 10 | 3 | empty | F0 9F 92 A9 62 | none
 D83D DCA9 | 3 1 3 last | 10 | 1 | full | | D83D
@@ -19,7 +19,7 @@ D83D D83D | 3 1 4 last | 6 | 2 | empty | EF BF BD EF BF BD | none
 D83D | 1 1 0 more | 0 | 1 | empty | | D83D
 D83D | | 6 | 0 | none | | none";
 
-/// Returns the last answer that a field names.
+/// Returns the last result that a field names.
 fn result_of(field: &str) -> Result<Option<EncoderResult>, Fail> {
     match field {
         "none" => Ok(None),
@@ -29,7 +29,8 @@ fn result_of(field: &str) -> Result<Option<EncoderResult>, Fail> {
     }
 }
 
-/// Whether the run of a row reads as much, writes the bytes of the row, leaves what follows, and holds this then.
+/// Returns whether the run of a row reads as much, writes the bytes of the row, leaves the rest unchanged, and has this
+/// pending then.
 fn row_holds(alloc: Global, row: &str) -> Result<bool, Fail> {
     let mut row = row;
     let src = units_of(alloc, field(&mut row))?;
@@ -64,7 +65,7 @@ fn rows_hold(rt: HostRuntime) -> Result<(), Fail> {
     Ok(())
 }
 
-/// Whether turns of `take` code units each write the UTF-8 of all of them into three bytes for each.
+/// Returns whether turns of `take` code units each write the UTF-8 of all of them into three bytes for each.
 fn encodes_by_turns(alloc: Global, units: &[u16], bytes: &[u8], take: usize) -> Result<bool, Fail> {
     let length = units.len();
     let turns = turns_for(alloc, length, take, 4)?;
@@ -119,7 +120,7 @@ fn limits_by_turns(rt: HostRuntime) -> Result<(), Fail> {
     Ok(())
 }
 
-/// The units whose UTF-8 takes all of the room.
+/// The units whose UTF-8 fills the destination.
 #[test]
 fn three_bytes_a_unit_by_turns(rt: HostRuntime) -> Result<(), Fail> {
     let units = [0x2C9F, 0x2CA9, 0x2CA3, 0x2C9F];

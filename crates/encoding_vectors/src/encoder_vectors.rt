@@ -4,7 +4,7 @@ use crate::texts::{bytes_of, field, number_of, units_of};
 use std::alloc::Global;
 use std::test::Fail;
 
-/// Code units and their UTF-8, with the row that they stand in, and how many of both stand before the last character.
+/// Code units and their UTF-8, with their row, and how many of both are before the last character.
 #[derive(Drop)]
 pub struct Source {
     pub row: &'static str,
@@ -14,7 +14,7 @@ pub struct Source {
     pub front_bytes: usize,
 }
 
-/// Code units, their UTF-8, and how many of both stand before the last character.
+/// Code units, their UTF-8, and how many of both are before the last character.
 const VECTORS: &str = "\
 | | 0 | 0
 0000 | 00 | 0 | 0
@@ -33,7 +33,7 @@ D800 DC00 | F0 90 80 80 | 0 | 0
 DBFF DFFF | F4 8F BF BF | 0 | 0
 DC00 DEDE | EF BF BD EF BF BD | 1 | 3";
 
-/// Characters of each length before each other: code units, their UTF-8, and how many of both come before the last.
+/// Characters of each length before one another: code units, their UTF-8, and how many of both are before the last.
 const LIMITS: &str = "\
 0062 | 62 | 0 | 0
 00A7 | C2 A7 | 0 | 0
@@ -70,8 +70,8 @@ D83D DE0E D83D DCA9 | F0 9F 98 8E F0 9F 92 A9 | 2 | 4
 0063 00B6 DCA9 | 63 C2 B6 EF BF BD | 2 | 3
 263A DCA9 | E2 98 BA EF BF BD | 1 | 3";
 
-/// Returns how many code units the character takes that begins with the first of two, and how many bytes in UTF-8. A
-/// surrogate in no pair counts as U+FFFD.
+/// Returns the number of code units and of UTF-8 bytes of the character that starts with the first of two units. An
+/// unpaired surrogate counts as U+FFFD.
 pub fn lengths_of(unit: u16, next: Option<&u16>) -> (usize, usize) {
     match (unit, next) {
         (0..=0x7F, _) => (1, 1),
@@ -86,7 +86,7 @@ pub fn vectors(alloc: Global) -> Result<Vec<Source>, Fail> {
     sources_of(alloc, VECTORS)
 }
 
-/// Returns the sources whose rooms are tried.
+/// Returns the sources that are tried with destinations of different lengths.
 pub fn limits(alloc: Global) -> Result<Vec<Source>, Fail> {
     sources_of(alloc, LIMITS)
 }

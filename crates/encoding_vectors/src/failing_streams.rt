@@ -1,5 +1,5 @@
-//! Streams that give and take few bytes a call, and that fail at each place: the vectors, and long input with broken
-//! parts over the ends of rounds.
+//! Streams that take or return few bytes per call, and that fail at each offset: the vectors, and long input with
+//! malformed sequences over the ends of rounds.
 
 use crate::decoder_vectors::vectors;
 use crate::parts::{Parts, settled_length};
@@ -13,7 +13,7 @@ use test_support::streams::{Compared, Input};
 /// How many bytes are read at a time at most.
 const ROUND: usize = 1024;
 
-/// How many bytes a read gives, and a write takes.
+/// How many bytes a read returns, and a write takes.
 const STEPS: [(usize, usize); 4] = [(1, 1), (1, 10_000), (10_000, 1), (10_000, 10_000)];
 
 /// Bytes that are repaired, and their text.
@@ -25,8 +25,8 @@ struct Case<'a> {
 }
 
 impl Case<'_> {
-    /// Whether a repair of what a reader gives returns so, and writes so much of the text and nothing else, and asks
-    /// neither stream again once it has failed.
+    /// Returns whether a repair of a reader's bytes has this result, writes the expected prefix of the text and nothing
+    /// else, and asks neither stream again after it has failed.
     fn repairs_to(
         &self,
         reader: &mut Input<'_>,
@@ -51,7 +51,7 @@ impl Case<'_> {
             && reader.asked_behind == behind
     }
 
-    /// Whether all is repaired, with so many parts replaced.
+    /// Returns whether all is repaired, with `replaced` parts replaced.
     fn is_repaired(&self, replaced: u64) -> bool {
         let mut reader = Input::of(self.bytes, self.steps.0);
         let mut writer = Compared::with(self.text, self.steps.1);
@@ -60,7 +60,8 @@ impl Case<'_> {
         self.repairs_to(&mut reader, &mut writer, u64::MAX, outcome, self.text.len())
     }
 
-    /// Whether the settled text of so many bytes is written where the next read fails, and where these are the limit.
+    /// Returns whether the final text of the first `place` bytes is written if the next read fails, and if these are
+    /// the limit.
     fn stops_reading_at(&self, place: usize, kind: ErrorKind) -> bool {
         let front = self.bytes.get(..place).unwrap_or(&[]);
         let settled = settled_length(front);
@@ -87,8 +88,8 @@ impl Case<'_> {
             && reader.asked_behind == 0
     }
 
-    /// Whether a repair stops where the writer took so many bytes, and what was settled before the last read was
-    /// written before it.
+    /// Returns whether a repair stops if the writer stops after `place` bytes, and what was final before the last read
+    /// was written before it.
     fn stops_writing_at(&self, place: usize, fault: Option<ErrorKind>) -> bool {
         let mut reader = Input::of(self.bytes, self.steps.0);
         let mut writer = Compared::with(self.text, self.steps.1).that_takes(place, fault);
@@ -106,7 +107,7 @@ impl Case<'_> {
         stops && settled_length(self.bytes.get(..given).unwrap_or(&[])) <= place
     }
 
-    /// Whether it stops at each place from one to another, whatever stream fails, and however.
+    /// Returns whether it stops at each offset in a range, whichever stream fails, and however.
     fn stops_between(&self, start: usize, end: usize) -> bool {
         (start..end).all(|place| {
             let reads = place > self.bytes.len()
@@ -121,8 +122,8 @@ impl Case<'_> {
     }
 }
 
-/// Whether bytes are repaired to what std makes of them by streams of all kinds, and stop at each place from one to
-/// another.
+/// Returns whether bytes are repaired to what `std` makes of them by streams of all kinds, and stop at each offset in a
+/// range.
 fn holds(
     alloc: Global,
     bytes: &[u8],
@@ -158,7 +159,7 @@ fn vectors_at_each_place(rt: HostRuntime) -> Result<(), Fail> {
     Ok(())
 }
 
-/// Parts: characters and broken ones.
+/// Parts: characters and malformed sequences.
 const PARTS: &str = "\
 FF
 C3
@@ -168,7 +169,7 @@ ED A0 80
 E2 98 83
 F0 9F 92 A9";
 
-/// Returns 5,000 letters with a part at a place and 1,024 bytes behind it.
+/// Returns 5,000 letters with a part at an offset and 1,024 bytes after it.
 fn long_input(alloc: Global, part: &[u8], place: usize) -> Result<Vec<u8>, AllocError> {
     let mut input = Vec::new(alloc);
     for _ in 0..5000 {

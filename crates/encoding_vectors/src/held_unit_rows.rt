@@ -1,4 +1,4 @@
-//! The encoder with and without a held unit: worked rows, and the queries.
+//! The encoder with and without a pending surrogate: rows, and the queries.
 
 use crate::held_units::holds;
 use crate::texts::{are_written, bytes_of, field, number_of, units_of};
@@ -6,7 +6,7 @@ use encoding_text::utf_8::{EncoderResult, Utf8Encoder};
 use std::alloc::Global;
 use std::test::Fail;
 
-/// Returns an encoder that holds what a field says: none, or D83D.
+/// Returns an encoder whose pending surrogate is that of a field: none, or D83D.
 fn encoder_at(held: &str) -> Utf8Encoder {
     let mut encoder = Utf8Encoder::new_inner();
     if held == "D83D" {
@@ -23,7 +23,7 @@ fn result_of(field: &str) -> Result<EncoderResult, Fail> {
     }
 }
 
-/// What a call of a row is to return and to write.
+/// What a call of a row has to return and to write.
 #[derive(Drop)]
 struct Wanted {
     result: EncoderResult,
@@ -41,15 +41,15 @@ fn wanted_of(alloc: Global, row: &mut &str) -> Result<Wanted, Fail> {
     })
 }
 
-/// Whether a call returned this, wrote these bytes, and left what follows.
+/// Returns whether a call returned this, wrote these bytes, and left the rest unchanged.
 fn is_wanted(wanted: &Wanted, answer: (EncoderResult, usize, usize), dst: &[u8]) -> bool {
     answer.0 == wanted.result
         && answer.1 == wanted.read
         && are_written(&wanted.bytes, dst, answer.2)
 }
 
-/// Code units: held before, source, room, mark, result, units read, bytes written, held after. Texts, with either mark:
-/// held before, text, room, result, bytes read, bytes written, held after.
+/// Code units: pending before, source, `room`, mark, result, units read, bytes written, pending after. Texts, with
+/// either mark: pending before, text, `room`, result, bytes read, bytes written, pending after.
 const ROWS: &str = "\
 units | none | 0063 D83D DCA9 | 4 | more | OutputFull | 1 | 63 | none
 units | none | 0063 D83D DCA9 | 4 | last | OutputFull | 1 | 63 | none
@@ -75,7 +75,7 @@ text | D83D | a | 4 | InputEmpty | 1 | EF BF BD 61 | none
 text | D83D | a | 3 | OutputFull | 0 | EF BF BD | none
 text | D83D | | 2 | OutputFull | 0 | | D83D";
 
-/// Whether a call over units into this room does what is wanted, and the encoder holds this then.
+/// Returns whether a call over units does what is expected, and the encoder has this pending then.
 fn units_are(
     mut encoder: Utf8Encoder,
     units: &[u16],
@@ -110,7 +110,7 @@ fn units_row_holds(alloc: Global, row: &str) -> Result<bool, Fail> {
     ))
 }
 
-/// Whether a call over a text does.
+/// Returns whether a call over a text does.
 fn text_is(
     mut encoder: Utf8Encoder,
     text: &str,
@@ -175,7 +175,7 @@ fn a_pair_cut_between_calls(rt: HostRuntime) {
     assert!(rt; dst == [0xF0, 0x9F, 0x92, 0xA9]);
 }
 
-/// Whether the queries return so: the most bytes for `length` units, and for a text of `length` bytes.
+/// Returns whether the queries have these results: the most bytes for `length` units, and for a text of `length` bytes.
 fn queries_are(
     encoder: &Utf8Encoder,
     length: usize,

@@ -1,8 +1,9 @@
-//! What an encoder holds.
+//! The pending surrogate of an encoder.
 
 use encoding_text::utf_8::Utf8Encoder;
 
-/// Whether an encoder holds what a field says: the query at 0 tells how many units, and a low surrogate then which.
+/// Returns whether the pending surrogate of an encoder is that of a field. The query at 0 shows whether there is one,
+/// and a low surrogate then shows which.
 pub fn holds(mut encoder: Utf8Encoder, held: &str) -> bool {
     let room = encoder.max_buffer_length_from_utf16_without_replacement(0);
     let mut dst = [0; 4];

@@ -16,7 +16,7 @@ fn text_from_units(alloc: Global, units: &[u16]) -> Result<String, Fail> {
     Ok(text)
 }
 
-/// Whether all checks of the code units, and of their text, say so.
+/// Returns whether all checks of the code units, and of their text, have these results.
 fn units_are(alloc: Global, units: &[u16], latin1: bool, class: Latin1Bidi) -> Result<bool, Fail> {
     let text = text_from_units(alloc, units)?;
     Ok(
@@ -29,8 +29,8 @@ fn units_are(alloc: Global, units: &[u16], latin1: bool, class: Latin1Bidi) -> R
     )
 }
 
-/// Whether the units from `start` to 0xFF are Latin1, and no more once the first one, two and so on are 0x100, 0x101 and
-/// so on.
+/// Returns whether the units from `start` to 0xFF are Latin1, and no more once the first one, two and so on are 0x100,
+/// 0x101 and so on.
 fn classes_change(alloc: Global, start: usize) -> Result<bool, Fail> {
     let mut units = [0u16; 256];
     for i in 0..256 {

@@ -46,7 +46,7 @@ fn finds_the_front(rt: HostRuntime) -> Result<(), Fail> {
     Ok(())
 }
 
-/// Whether only whole characters are written.
+/// Returns whether only whole characters are written.
 fn what_fits_is_converted() -> bool {
     let mut two = [0x00, 0x02];
     let mut one = [0x71];
@@ -61,7 +61,7 @@ fn converts_what_fits(rt: HostRuntime) {
     assert!(rt; what_fits_is_converted());
 }
 
-/// Whether the low eight bits of each code unit are written, and nothing after them.
+/// Returns whether the low eight bits of each code unit are written, and nothing after them.
 fn low_bits_are_kept() -> bool {
     let mut three = [0x71; 3];
     convert_utf16_to_latin1_lossy(&[0x0100, 0x01E4], &mut three);

@@ -1,5 +1,5 @@
-//! Tests alone: each public call of `encoding_text` and `encoding_runs`; worked rows and published vectors; every place of
-//! a fault, and long input and long results, for the calls that take streams or memory. `docs/ROWS.md` has every row.
+//! Tests only: each public call of `encoding_text` and `encoding_runs`; rows and published vectors; every offset at
+//! which a stream or an allocation may fail, and long input and long results. `docs/ROWS.md` has every row.
 #![tactic(auto)]
 
 #[cfg(test)]

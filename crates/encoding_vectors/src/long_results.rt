@@ -1,12 +1,12 @@
-//! Long results of Latin1: borrowed without memory, owned in the memory of one growth, with nothing left behind, and
-//! memory that is refused and can be had again.
+//! Long results of Latin1: borrowed without memory, owned with one allocation and no leak, and failed allocations,
+//! whose memory is available again.
 
 use encoding_text::mem::{CowBytes, CowStr, decode_latin1, encode_latin1_lossy, is_str_latin1};
 use std::alloc::{AllocError, Global};
 use std::test::Fail;
 use test_support::memory::exhaust;
 
-/// Returns the text whose characters are the bytes, as std makes it.
+/// Returns the text whose characters are the bytes, by `std`.
 fn text_of(alloc: Global, bytes: &[u8]) -> Result<String, AllocError> {
     let mut text = String::new(alloc);
     for byte in bytes {
@@ -15,7 +15,7 @@ fn text_of(alloc: Global, bytes: &[u8]) -> Result<String, AllocError> {
     Ok(text)
 }
 
-/// Whether the bytes are decoded to their text, which is owned and has this capacity.
+/// Returns whether the bytes are decoded to their text, which is owned and has this capacity.
 fn is_decoded(alloc: Global, bytes: &[u8], capacity: usize) -> Result<bool, AllocError> {
     let text = text_of(alloc, bytes)?;
     match decode_latin1(alloc, bytes)? {
@@ -24,7 +24,7 @@ fn is_decoded(alloc: Global, bytes: &[u8], capacity: usize) -> Result<bool, Allo
     }
 }
 
-/// Whether the text of the bytes is encoded to them, and they are owned, and have the capacity of their text.
+/// Returns whether the text of the bytes is encoded to them, and they are owned, and have the capacity of their text.
 fn is_encoded(alloc: Global, bytes: &[u8]) -> Result<bool, AllocError> {
     let text = text_of(alloc, bytes)?;
     if !is_str_latin1(&text) {
@@ -38,7 +38,7 @@ fn is_encoded(alloc: Global, bytes: &[u8]) -> Result<bool, AllocError> {
     }
 }
 
-/// Returns so many letters, and so many other bytes, from the first one up to FF and from 00 again.
+/// Returns letters, and then other bytes, from the first one up to FF and from 00 again.
 fn mixed(
     alloc: Global,
     letters: usize,
@@ -55,7 +55,7 @@ fn mixed(
     Ok(bytes)
 }
 
-/// Letters, others and the first of them, and the capacity: a byte for each in the ASCII prefix, two for each behind it.
+/// Letters, others and the first of them, and the capacity: a byte for each in the ASCII prefix, two for each after it.
 #[test]
 fn one_growth_for_long_results(rt: HostRuntime) -> Result<(), Fail> {
     for (letters, others, first, capacity) in [
@@ -74,8 +74,8 @@ fn one_growth_for_long_results(rt: HostRuntime) -> Result<(), Fail> {
     Ok(())
 }
 
-/// Whether both calls are refused where all that is left is a block of so many bytes, and it can be had again then, and
-/// nothing else. The block is longer than those that an allocator keeps apart for requests of just their length.
+/// Returns whether both calls fail if all that is left is a block of `length` bytes, which is available again then, and
+/// nothing else. The block is longer than those that an allocator reserves for requests of exactly their length.
 fn leaves_a_block(alloc: Global, bytes: &[u8], length: usize) -> Result<bool, AllocError> {
     let text = text_of(alloc, bytes)?;
     if !is_str_latin1(&text) {
@@ -93,8 +93,8 @@ fn leaves_a_block(alloc: Global, bytes: &[u8], length: usize) -> Result<bool, Al
     Ok(refused && again.is_ok() && other.is_err())
 }
 
-/// Letters, others and the first of them, the block, and the capacity. The block is shorter than what the calls ask
-/// for, and longer than the ASCII prefix. With memory again both succeed.
+/// Letters, others and the first of them, the block, and the capacity. The block is shorter than what the calls
+/// request, and longer than the ASCII prefix. With memory again both succeed.
 #[test]
 fn a_refusal_leaves_the_memory(rt: HostRuntime) -> Result<(), Fail> {
     for (letters, others, first, length, capacity) in [
@@ -113,7 +113,7 @@ fn a_refusal_leaves_the_memory(rt: HostRuntime) -> Result<(), Fail> {
     Ok(())
 }
 
-/// Letters, of which none takes memory, where none is left.
+/// Letters need no memory, even if none is left.
 #[test]
 fn long_letters_take_no_memory(rt: HostRuntime) -> Result<(), Fail> {
     for length in [1, 10_000, 10_001, 100_000] {
@@ -123,7 +123,7 @@ fn long_letters_take_no_memory(rt: HostRuntime) -> Result<(), Fail> {
     Ok(())
 }
 
-/// Whether both calls lend their input where no memory is left.
+/// Returns whether both calls borrow their input if no memory is left.
 fn are_borrowed(alloc: Global, bytes: &[u8]) -> Result<bool, AllocError> {
     let text = text_of(alloc, bytes)?;
     if !is_str_latin1(&text) {
@@ -154,7 +154,7 @@ fn leave_two(alloc: Global, length: usize) -> Result<TwoBlocks, AllocError> {
 }
 
 impl TwoBlocks {
-    /// Whether so many of the blocks can be had, and no further one.
+    /// Returns whether exactly `count` of the blocks can be allocated.
     fn are_left(&self, alloc: Global, count: usize) -> bool {
         let first = Vec::<u8>::with_capacity(alloc, self.length);
         let second = Vec::<u8>::with_capacity(alloc, self.length);
@@ -163,7 +163,7 @@ impl TwoBlocks {
     }
 }
 
-/// Whether decoding takes one block of two, and gives it back with its text.
+/// Returns whether decoding takes one block of two, and releases it with its text.
 fn decoding_takes_one(alloc: Global, bytes: &[u8], length: usize) -> Result<bool, AllocError> {
     let blocks = leave_two(alloc, length)?;
     let before = blocks.are_left(alloc, 2);
@@ -175,7 +175,7 @@ fn decoding_takes_one(alloc: Global, bytes: &[u8], length: usize) -> Result<bool
     Ok(before && during && behind)
 }
 
-/// Whether encoding takes one block of two, and gives it back with its bytes.
+/// Returns whether encoding takes one block of two, and releases it with its bytes.
 fn encoding_takes_one(alloc: Global, bytes: &[u8], length: usize) -> Result<bool, AllocError> {
     let text = text_of(alloc, bytes)?;
     if !is_str_latin1(&text) {
@@ -191,8 +191,8 @@ fn encoding_takes_one(alloc: Global, bytes: &[u8], length: usize) -> Result<bool
     Ok(before && during && behind)
 }
 
-/// Letters, others and the first of them, and the capacity, which is the length of either block. More than once, so that
-/// what each call left behind would add up.
+/// Letters, others and the first of them, and the capacity, which is the length of either block. More than once, so
+/// that leaks would add up.
 #[test]
 fn a_success_leaves_nothing_behind(rt: HostRuntime) -> Result<(), Fail> {
     for (letters, others, first, length) in [

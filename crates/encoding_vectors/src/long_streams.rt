@@ -6,13 +6,14 @@ use std::io::ErrorKind;
 use std::test::Fail;
 use test_support::patterns::{PATTERN, PatternInput, PatternOutput, REPAIRED};
 
-/// How many bytes the streams give: their end stands behind a broken part.
+/// How many bytes the streams return: they end after a malformed sequence.
 const LENGTH: usize = 200_000;
 
-/// How many of their parts are broken.
+/// The number of their malformed sequences.
 const BROKEN: u64 = 15_385;
 
-/// Whether a repair of the whole pattern returns so, with so much of it written and all of it, or less, read.
+/// Returns whether a repair of the whole pattern has this result, with this much of it written and all of it, or less,
+/// read.
 fn repairs_to(
     reader: &mut PatternInput,
     writer: &mut PatternOutput,
@@ -39,7 +40,7 @@ fn repairs_a_long_stream(rt: HostRuntime) {
     assert!(rt; reader.asked_behind == 1);
 }
 
-/// The beginning of a character at the end is not written.
+/// An incomplete sequence before the read error is not written.
 #[test]
 fn stops_at_a_late_read_fault(rt: HostRuntime) {
     for kind in [ErrorKind::Other, ErrorKind::Interrupted] {
@@ -67,7 +68,7 @@ fn stops_at_a_late_write_fault(rt: HostRuntime) {
     }
 }
 
-/// Returns so many bytes of a pattern.
+/// Returns the first `length` bytes of a repeated pattern.
 fn bytes_of(alloc: Global, pattern: &[u8; 13], length: usize) -> Result<Vec<u8>, AllocError> {
     let mut bytes = Vec::with_capacity(alloc, length)?;
     for i in 0..length {
@@ -85,7 +86,7 @@ fn repairs_a_long_slice(rt: HostRuntime) -> Result<(), Fail> {
     Ok(())
 }
 
-/// Whether a watched stream takes a piece in one call.
+/// Returns whether a watched stream takes a piece in one call.
 fn takes_at_once(piece: &[u8]) -> bool {
     let mut writer = PatternOutput::that_takes(usize::MAX);
     let mut sink = Watch::new(&mut writer);
@@ -97,7 +98,7 @@ fn takes_at_once(piece: &[u8]) -> bool {
     taken == Some(piece.len()) && !sink.failed() && writer.same && writer.taken == piece.len()
 }
 
-/// Whether a watched stream gives a piece in one call.
+/// Returns whether a watched stream returns a piece in one call.
 fn gives_at_once(buffer: &mut [u8]) -> bool {
     let mut reader = PatternInput::of(LENGTH, None);
     let mut source = Watch::new(&mut reader);

@@ -125,7 +125,7 @@ fn it_is_left_to_right(rt: HostRuntime) {
     assert!(rt; check_utf16_for_latin1_and_bidi(&UNITS) == Latin1Bidi::LeftToRight);
 }
 
-/// Its surrogates stand in a pair, and are repaired once one of them is gone.
+/// Its surrogates are a pair, and are repaired once one of them is missing.
 #[test]
 fn its_surrogates(rt: HostRuntime) {
     let mut units = UNITS;

@@ -15,7 +15,7 @@ pub trait Output: Unit {
         last: bool,
     ) -> (DecoderResult, usize, usize);
 
-    /// Puts a character after others.
+    /// Appends a character.
     fn push(text: &mut Vec<Self>, scalar: char) -> Result<(), AllocError>;
 
     /// Returns the bytes or code units that a field names.

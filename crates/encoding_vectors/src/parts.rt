@@ -2,7 +2,7 @@
 
 use crate::decoder_vectors::{Expected, Vector};
 
-/// The ranges of the bytes of each row; where a row has fewer bytes, a range of no byte stands.
+/// The ranges of the bytes of each row. If a row has fewer bytes, empty ranges follow.
 const SEQUENCES: [[(u8, u8); 4]; 9] = [
     [(0x00, 0x7F), (1, 0), (1, 0), (1, 0)],
     [(0xC2, 0xDF), (0x80, 0xBF), (1, 0), (1, 0)],
@@ -15,15 +15,15 @@ const SEQUENCES: [[(u8, u8); 4]; 9] = [
     [(0xF4, 0xF4), (0x80, 0x8F), (0x80, 0xBF), (0x80, 0xBF)],
 ];
 
-/// The number of a broken part is this and its length. No scalar value is so large.
+/// The number of a malformed sequence is this and its length. It is greater than any scalar value.
 const BROKEN: u32 = 0x11_0000;
 
-/// Returns the number of a broken part.
+/// Returns the number of a malformed sequence.
 pub fn broken(length: usize) -> u32 {
     BROKEN.saturating_add(u32::try_from(length).unwrap_or(u32::MAX))
 }
 
-/// Parts in order, each by its number: a scalar value, or that of a broken part.
+/// Parts in order, each by its number: a scalar value, or that of a malformed sequence.
 #[derive(PartialEq, Drop)]
 pub struct Parts {
     numbers: [u32; 16],
@@ -74,7 +74,7 @@ impl Parts {
         parts
     }
 
-    /// Returns how many parts are broken.
+    /// Returns the number of malformed sequences.
     pub fn broken_count(&self) -> u64 {
         let mut count = 0u64;
         for number in &self.numbers {
@@ -86,18 +86,18 @@ impl Parts {
     }
 }
 
-/// The part that bytes begin with.
+/// The first part of bytes.
 #[derive(Drop)]
 struct Part {
     /// Its number.
     number: u32,
     /// How many bytes it takes.
     length: usize,
-    /// Whether it is broken for want of bytes behind it: more bytes may make a character of it.
+    /// Whether it is an incomplete sequence at the end: more bytes may complete a character.
     is_open: bool,
 }
 
-/// Returns how many bytes in front lie in the ranges of a row, one after another.
+/// Returns how many of the first bytes are in the ranges of a row, one after another.
 fn matched(ranges: &[(u8, u8); 4], bytes: &[u8]) -> usize {
     let mut count = 0usize;
     for (at, range) in ranges.iter().enumerate() {
@@ -110,12 +110,12 @@ fn matched(ranges: &[(u8, u8); 4], bytes: &[u8]) -> usize {
     count
 }
 
-/// Returns how many bytes the sequences of a row have.
+/// Returns the length of the sequences of a row.
 fn length_of(ranges: &[(u8, u8); 4]) -> usize {
     ranges.iter().filter(|range| range.0 <= range.1).count()
 }
 
-/// Returns the scalar value of a sequence, as std reads it.
+/// Returns the scalar value of a sequence, by `std`.
 fn scalar_of(sequence: &[u8]) -> u32 {
     let mut scalar = 0;
     if let Ok(text) = std::str::from_utf8(sequence) {
@@ -126,7 +126,7 @@ fn scalar_of(sequence: &[u8]) -> u32 {
     scalar
 }
 
-/// Returns the part that the bytes begin with: a sequence of the table, or as many bytes as begin one, or a byte.
+/// Returns the first part of the bytes: a sequence of the table, or the longest prefix of one, or a byte.
 fn first_part(bytes: &[u8]) -> Part {
     let mut longest = 0;
     for ranges in &SEQUENCES {
@@ -147,7 +147,7 @@ fn first_part(bytes: &[u8]) -> Part {
     }
 }
 
-/// Returns how long the text of the settled parts of bytes is: of all parts but an open one.
+/// Returns the length of the text of the final parts of bytes: of all parts but an open one.
 pub fn settled_length(bytes: &[u8]) -> usize {
     let (mut length, mut next) = (0usize, 0);
     for at in 0..bytes.len() {

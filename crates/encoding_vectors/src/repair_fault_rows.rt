@@ -1,5 +1,5 @@
-//! `repair` over a reader that gives one byte a read, with a fault at each place: what is written, and how often the
-//! reader is asked.
+//! `repair` over a reader that returns one byte per read, with an error at each offset: what is written, and how often
+//! the reader is asked.
 
 use crate::repair_stream_rows::{outcome_of, repairs_to};
 use crate::texts::{bytes_of, field, number_of};
@@ -8,9 +8,9 @@ use std::io::ErrorKind;
 use std::test::Fail;
 use test_support::streams::{Input, Output};
 
-/// The input; how many bytes the reader gives before it fails, or that it ends; how many bytes the writer takes before
-/// it fails, or that it takes all; what is returned: a fault, or how many bytes were read and how many parts replaced;
-/// what was written; and how often the reader was asked.
+/// The input; how many bytes the reader returns before it fails, or that it ends; how many bytes the writer takes
+/// before it fails, or that it takes all; what is returned: an error, or the number of bytes read and of parts
+/// replaced; what was written; and how often the reader was asked.
 const ROWS: &str = "\
 E2 98 83 FF | 0 | all | Read | | 1
 E2 98 83 FF | 1 | all | Read | | 2
@@ -33,7 +33,7 @@ E2 98 83 FF | ends | all | 4 1 | E2 98 83 EF BF BD | 5
 61 62 | ends | 1 | Write | 61 | 2
 61 62 | ends | all | 2 0 | 61 62 | 3";
 
-/// Whether a row holds where the reader fails so, and where the writer does, or takes no byte.
+/// Returns whether a row holds if the reader fails with this error, and the writer does, or takes no byte.
 fn row_holds(
     alloc: Global,
     row: &str,

@@ -13,7 +13,7 @@ fn is_broken(part: &Expected) -> bool {
     matches!(part, Expected::Broken(_))
 }
 
-/// Returns how many parts are broken.
+/// Returns the number of malformed sequences.
 pub fn broken_count(vector: &Vector) -> u64 {
     let mut count = 0u64;
     for part in &vector.parts {
@@ -24,7 +24,7 @@ pub fn broken_count(vector: &Vector) -> u64 {
     count
 }
 
-/// Returns the length of the characters before the first broken part.
+/// Returns the length of the characters before the first malformed sequence.
 fn valid_length(vector: &Vector) -> usize {
     let mut length = 0usize;
     for part in &vector.parts {
@@ -36,13 +36,15 @@ fn valid_length(vector: &Vector) -> usize {
     length
 }
 
-/// Whether the bytes are repaired to the text, with so many parts replaced, by a writer that takes so many bytes a call.
+/// Returns whether the bytes are repaired to the text, with `replaced` parts replaced, by a writer that takes `step`
+/// bytes per call.
 fn repairs_to(bytes: &[u8], text: &[u8], replaced: u64, step: usize) -> bool {
     let mut output = Output::by_steps_of(step);
     repair_slice(bytes, &mut Watch::new(&mut output)) == Ok(replaced) && output.written() == text
 }
 
-/// Whether a vector's bytes are repaired, whatever the writer takes a call, and the end of their text is found.
+/// Returns whether a vector's bytes are repaired, however many bytes the writer takes per call, and the end of their
+/// text is found.
 fn is_repaired(alloc: Global, vector: &Vector) -> Result<bool, AllocError> {
     let text = repaired_text(alloc, vector)?;
     let replaced = broken_count(vector);
@@ -98,7 +100,7 @@ fn repairs_rows(rt: HostRuntime) -> Result<(), Fail> {
     Ok(())
 }
 
-/// Whether the repair stops with a writer that takes so many bytes of the text in all, which has these then.
+/// Returns whether the repair stops with a writer that takes `taken` bytes of the text in all, which has these then.
 fn stops_at(bytes: &[u8], text: &[u8], taken: usize, fault: Option<ErrorKind>) -> bool {
     let mut output = Output::that_takes(taken, fault);
     let mut sink = Watch::new(&mut output);
@@ -108,7 +110,7 @@ fn stops_at(bytes: &[u8], text: &[u8], taken: usize, fault: Option<ErrorKind>) -
         && text.get(..taken) == Some(output.written())
 }
 
-/// Whether it stops so wherever a writer fails, or takes none.
+/// Returns whether it stops at each offset at which a writer fails, or takes none.
 fn stops(bytes: &[u8], text: &[u8]) -> bool {
     (0..text.len()).all(|taken| {
         stops_at(bytes, text, taken, None)
@@ -117,7 +119,7 @@ fn stops(bytes: &[u8], text: &[u8]) -> bool {
     })
 }
 
-/// A writer that takes so many bytes in all has these, and the repair stops.
+/// A writer that takes a number of bytes in all has these, and the repair stops.
 #[test]
 fn stops_where_the_writer_does(rt: HostRuntime) {
     assert!(rt; stops(&[0x61, 0xFF], &[0x61, 0xEF, 0xBF, 0xBD]));
@@ -130,7 +132,7 @@ fn stops_where_the_writer_does(rt: HostRuntime) {
     );
 }
 
-/// Whether a write takes so many bytes, and the sink has failed then exactly where it took none.
+/// Returns whether a write takes `taken` bytes, and the sink has failed then if and only if it took none.
 fn writes(sink: &mut Watch<'_, Output>, bytes: &[u8], taken: Option<usize>) -> bool {
     !bytes.is_empty() && sink.write(bytes) == taken && sink.failed() == taken.is_none()
 }

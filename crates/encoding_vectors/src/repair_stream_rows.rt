@@ -9,8 +9,8 @@ use std::io::{ErrorKind, Read};
 use std::test::Fail;
 use test_support::streams::{Endless, Input, Output, ROOM};
 
-/// The bytes that the reader gives; whether it ends behind them or fails; the limit; what is returned: a fault, or how
-/// many bytes were read and how many parts replaced; and what was written.
+/// The bytes that the reader returns; whether it ends after them or fails; the limit; what is returned: an error, or
+/// the number of bytes read and of parts replaced; and what was written.
 const ROWS: &str = "\
  | ends | 100 | 0 0 |
 61 E2 98 5A | ends | 100 | 4 1 | 61 EF BF BD 5A
@@ -34,7 +34,7 @@ E2 98 E2 | ends | 9 | 3 2 | EF BF BD EF BF BD
 E2 98 E2 | fails | 9 | Read | EF BF BD
 ED A0 80 | fails | 9 | Read | EF BF BD EF BF BD EF BF BD";
 
-/// Returns what a field names: a fault, or two numbers.
+/// Returns what a field names: an error, or two numbers.
 pub fn outcome_of(field: &str) -> Result<Result<Repaired, RepairFault>, Fail> {
     if field == "Read" {
         return Ok(Err(RepairFault::Read));
@@ -52,7 +52,8 @@ pub fn outcome_of(field: &str) -> Result<Result<Repaired, RepairFault>, Fail> {
     }))
 }
 
-/// Whether a repair returns so and writes this text, and its streams failed exactly on their faults.
+/// Returns whether a repair has this result and writes this text, and its streams failed if and only if it reports
+/// their errors.
 pub fn repairs_to<R: Read>(
     reader: &mut R,
     writer: &mut Output,
@@ -69,7 +70,7 @@ pub fn repairs_to<R: Read>(
     failed && returned == outcome && writer.written() == text && writer.flushes == 0
 }
 
-/// Whether a row holds over a reader that gives so many bytes a call, and a writer that takes so many.
+/// Returns whether a row holds over a reader that returns `step` bytes per call, and a writer that takes `taken`.
 fn row_holds(alloc: Global, row: &str, step: usize, taken: usize) -> Result<bool, Fail> {
     let mut fields = row;
     let input = bytes_of(alloc, field(&mut fields))?;
@@ -86,7 +87,7 @@ fn row_holds(alloc: Global, row: &str, step: usize, taken: usize) -> Result<bool
     Ok(repairs_to(&mut reader, &mut writer, limit, outcome, &text))
 }
 
-/// Whether it holds whatever the steps.
+/// Returns whether it holds with each of the steps.
 fn row_holds_by_steps(alloc: Global, row: &str) -> Result<bool, Fail> {
     let mut holds = true;
     for step in [1, 2, ROOM] {
@@ -108,7 +109,7 @@ fn rows_hold(rt: HostRuntime) -> Result<(), Fail> {
     Ok(())
 }
 
-/// Whether a vector's bytes are repaired to its text, over a reader that gives so many bytes a call.
+/// Returns whether a vector's bytes are repaired to its text, over a reader that returns `step` bytes per call.
 fn is_repaired(vector: &Vector, text: &[u8], step: usize) -> bool {
     let mut reader = Input::of(&vector.bytes, step);
     let outcome = Ok(Repaired {
@@ -138,7 +139,8 @@ fn repairs_vectors(rt: HostRuntime) -> Result<(), Fail> {
     Ok(())
 }
 
-/// Whether so many bytes `61` and these behind are repaired to the same with this text behind, over the end of a round.
+/// Returns whether `before` bytes `61` and these after them are repaired to the same with this text after it, over the
+/// end of a round.
 fn long_repairs_to(before: usize, behind: &[u8], text_behind: &[u8], replaced: u64) -> bool {
     let mut input = [0x61; 1040];
     let mut text = [0x61; 1040];
@@ -164,7 +166,7 @@ fn long_repairs_to(before: usize, behind: &[u8], text_behind: &[u8], replaced: u
     )
 }
 
-/// Whether characters and broken parts at the end of a round come whole.
+/// Returns whether characters and malformed sequences at the end of a round are not cut.
 fn ends_of_rounds_hold() -> bool {
     long_repairs_to(1023, &[0xE2, 0x98, 0x83], &[0xE2, 0x98, 0x83], 0)
         && long_repairs_to(1022, &[0xF0, 0x9F], &[0xEF, 0xBF, 0xBD], 1)
@@ -183,7 +185,7 @@ fn repairs_over_the_end_of_a_round(rt: HostRuntime) {
     assert!(rt; ends_of_rounds_hold());
 }
 
-/// Whether a repair whose writer takes so many bytes in all stops there.
+/// Returns whether a repair whose writer takes `taken` bytes in all stops there.
 fn stops_at(input: &[u8], text: &[u8], taken: usize, fault: Option<ErrorKind>) -> bool {
     let mut reader = Input::of(input, ROOM);
     let mut writer = Output::that_takes(taken, fault);
@@ -199,7 +201,7 @@ fn stops_at(input: &[u8], text: &[u8], taken: usize, fault: Option<ErrorKind>) -
     }
 }
 
-/// Whether it stops so wherever the writer does.
+/// Returns whether it stops at each offset at which the writer does.
 fn stops(input: &[u8], text: &[u8], fault: Option<ErrorKind>) -> bool {
     (0..text.len()).all(|taken| stops_at(input, text, taken, fault))
 }
@@ -213,7 +215,7 @@ fn stops_where_the_writer_does(rt: HostRuntime) {
     }
 }
 
-/// Whether a repair with this limit of an endless stream asks so often, and writes as much as the limit.
+/// Returns whether a repair with this limit of an endless stream reads `asked` times, and writes as much as the limit.
 fn asks(limit: u64, asked: usize) -> bool {
     let mut reader = Endless { asked: 0 };
     let mut writer = Output::that_takes_all();
@@ -227,13 +229,13 @@ fn asks(limit: u64, asked: usize) -> bool {
         && writer.written().len() as u64 == limit
 }
 
-/// The reader is asked for at most 1,024 bytes and what the limit leaves, and not at all once that is nothing.
+/// The reader is asked for at most 1,024 bytes and the rest of the limit, and not at all once that is nothing.
 #[test]
 fn asks_within_the_limit(rt: HostRuntime) {
     assert!(rt; asks(0, 0) && asks(1, 1) && asks(1024, 1) && asks(1025, 2) && asks(2000, 2));
 }
 
-/// Whether a read into so much room gives so many bytes, and the end is seen then or not.
+/// Returns whether a read into a buffer of this length returns this many bytes, and whether the end is seen then.
 fn reads(
     source: &mut Watch<'_, Input<'_>>,
     room: usize,
@@ -247,7 +249,7 @@ fn reads(
         && source.failed() == given.is_none()
 }
 
-/// A read of no byte into some room sees the end, and a read into no room doesn't.
+/// A read of no byte into a nonempty buffer sees the end, and a read into an empty one doesn't.
 fn the_end_is_seen() -> bool {
     let mut input = Input::of(b"abc", ROOM);
     let mut source = Watch::new(&mut input);
@@ -267,7 +269,7 @@ fn watches_the_end(rt: HostRuntime) {
     assert!(rt; the_end_is_seen());
 }
 
-/// A read that fails gives nothing, and is a failure from then on.
+/// A read that fails returns nothing, and counts as failed from then on.
 fn a_fault_is_seen(kind: ErrorKind) -> bool {
     let mut input = Input::that_fails(b"a", kind);
     let mut source = Watch::new(&mut input);

@@ -10,7 +10,7 @@ use encoding_text::decoder::{DecoderResult, Utf8Decoder};
 use std::alloc::{AllocError, Global};
 use std::test::Fail;
 
-/// Returns the last answer that a field names.
+/// Returns the last result that a field names.
 fn result_of(field: &str) -> Result<Option<DecoderResult>, Fail> {
     match field {
         "none" => Ok(None),
@@ -23,8 +23,8 @@ fn result_of(field: &str) -> Result<Option<DecoderResult>, Fail> {
     }
 }
 
-/// Returns the turns that a field names: between commas how many there are of a kind, and then their take, their room
-/// and their mark.
+/// Returns the turns that a field names, between commas: how many there are of a kind, and then their `take`, their
+/// `room` and their mark.
 pub fn turns_of(alloc: Global, field: &str) -> Result<Vec<Turn>, Fail> {
     let mut turns = Vec::new(alloc);
     for kind in field.split(',') {
@@ -48,7 +48,7 @@ pub fn turns_of(alloc: Global, field: &str) -> Result<Vec<Turn>, Fail> {
     Ok(turns)
 }
 
-/// Returns `count` places for reports.
+/// Returns `count` entries for reports.
 fn places(alloc: Global, count: usize) -> Result<Vec<Report>, AllocError> {
     let mut reports = Vec::new(alloc);
     for _ in 0..count {
@@ -60,8 +60,8 @@ fn places(alloc: Global, count: usize) -> Result<Vec<Report>, AllocError> {
     Ok(reports)
 }
 
-/// Whether the reports are those that a field names, each by its place and its length, and the places after them are
-/// unchanged.
+/// Returns whether the reports are those that a field names, each by its offset and its length, and the entries after
+/// them are unchanged.
 fn are_reported(field: &str, reports: &[Report], count: usize) -> Result<bool, Fail> {
     let mut words = field.split_whitespace();
     for (i, report) in reports.iter().enumerate() {
@@ -91,7 +91,7 @@ struct Run {
     result: Option<DecoderResult>,
 }
 
-/// Returns the run that begins a row, and leaves its output and its reports.
+/// Returns the run at the start of a row, and leaves its output and its reports.
 fn run_of(alloc: Global, row: &mut &str) -> Result<Run, Fail> {
     Ok(Run {
         src: bytes_of(alloc, field(row))?,
@@ -102,7 +102,7 @@ fn run_of(alloc: Global, row: &mut &str) -> Result<Run, Fail> {
     })
 }
 
-/// Whether a run read and wrote as much and returned this.
+/// Returns whether a run read and wrote as much and returned this.
 fn came_to(run: &Run, outcome: &Outcome, written: usize) -> bool {
     outcome.read == run.read && outcome.written == written && outcome.result == run.result
 }
@@ -144,7 +144,7 @@ impl Written for u16 {
     }
 }
 
-/// Makes a run: how many reports there are, if it reads as much, writes this text and leaves what follows.
+/// Makes a run. Returns the number of reports, if it reads as much, writes this text and leaves the rest unchanged.
 fn reports_of<U: Written>(
     alloc: Global,
     decoder: &mut Utf8Decoder,
@@ -167,8 +167,8 @@ fn reports_of<U: Written>(
     }
 }
 
-/// Whether the run of a row reads as much, writes the text and the reports that end the row, and leaves what
-/// follows.
+/// Returns whether the run of a row reads as much, writes the text and the reports that end the row, and leaves the
+/// rest unchanged.
 fn run_is<U: Written>(alloc: Global, decoder: &mut Utf8Decoder, row: &str) -> Result<bool, Fail> {
     let mut row = row;
     let run = run_of(alloc, &mut row)?;
@@ -180,7 +180,7 @@ fn run_is<U: Written>(alloc: Global, decoder: &mut Utf8Decoder, row: &str) -> Re
     }
 }
 
-/// Whether a row holds. A row `new` begins a new decoder.
+/// Returns whether a row holds. A row `new` starts a new decoder.
 fn holds(alloc: Global, decoder: &mut Utf8Decoder, row: &str) -> Result<bool, Fail> {
     let mut rest = row;
     match field(&mut rest) {
@@ -196,7 +196,7 @@ fn holds(alloc: Global, decoder: &mut Utf8Decoder, row: &str) -> Result<bool, Fa
     }
 }
 
-/// Source, turns, room of the destination, how much is read, the last answer, output, reports.
+/// Source, turns, length of the destination, how much is read, the last result, output, reports.
 const ROWS: &str = "\
 new
 utf16 | F0 9F 92 A9 C2 7F | 14 1 2 last | 7 | 6 | empty | D83D DCA9 007F | 2 1
@@ -237,7 +237,7 @@ fn rows_hold(rt: HostRuntime) -> Result<(), Fail> {
     Ok(())
 }
 
-/// Returns turns that suffice for a source of this length, each with `take` of its bytes and this room.
+/// Returns enough turns for a source of this length, each with `take` of its bytes and this `room`.
 pub fn turns_for(
     alloc: Global,
     length: usize,
@@ -255,7 +255,7 @@ pub fn turns_for(
     Ok(turns)
 }
 
-/// Returns the reports of a run, if it came to the end of `length` bytes.
+/// Returns the reports of a run, if it reached the end of `length` bytes.
 fn reported(
     alloc: Global,
     outcome: &Outcome,
@@ -275,7 +275,7 @@ fn reported(
     Ok(Some(lengths))
 }
 
-/// Decodes by turns of `take` bytes: what that delivers, if it comes to the end.
+/// Decodes by turns of `take` bytes. Returns what that yields, if it reaches the end.
 fn run_by<U: Written>(
     alloc: Global,
     src: &[u8],
@@ -297,7 +297,7 @@ fn run_by<U: Written>(
     }
 }
 
-/// Whether a vector decodes by turns of one byte and of all.
+/// Returns whether a vector decodes by turns of one byte and of all.
 fn runs<U: Written>(alloc: Global, vector: &Vector) -> Result<bool, AllocError> {
     let want = Some(delivered::<U>(alloc, vector)?);
     Ok(run_by(alloc, &vector.bytes, 1)? == want && run_by(alloc, &vector.bytes, 16)? == want)

@@ -1,11 +1,11 @@
-//! Surrogates after 0 to 70 letters, so that they stand at each place of a block.
+//! Surrogates after 0 to 70 letters, so that they are at each index of a block.
 
 use crate::texts::{field, units_of};
 use encoding_text::mem::{ensure_utf16_validity, utf16_valid_up_to};
 use std::alloc::Global;
 use std::test::Fail;
 
-/// Code units, whether they are valid or end what is, and what the repair makes of them.
+/// Code units, whether they are valid or end what is, and their repair.
 const ROWS: &str = "\
 D83D | end | FFFD
 DCA9 | end | FFFD
@@ -28,7 +28,7 @@ fn framed(before: usize, units: &[u16]) -> [u16; 112] {
     framed
 }
 
-/// Whether a row holds after `before` letters and before forty others.
+/// Returns whether a row holds after `before` letters and before forty others.
 fn row_holds(alloc: Global, row: &str, before: usize) -> Result<bool, Fail> {
     let mut row = row;
     let units = units_of(alloc, field(&mut row))?;

@@ -1,4 +1,4 @@
-//! Unpaired surrogates in UTF-16: where code units stop being valid, and their repair in place.
+//! Unpaired surrogates in UTF-16: how many code units are valid, and their repair in place.
 
 use encoding_text::mem::{ensure_utf16_validity, utf16_valid_up_to};
 
@@ -38,7 +38,7 @@ fn finds_the_first_unpaired_surrogate(rt: HostRuntime) {
     assert!(rt; utf16_valid_up_to(&[]) == 0);
 }
 
-/// Unpaired surrogates at places 1 and 13, and a pair at 5.
+/// Unpaired surrogates at indices 1 and 13, and a pair at 5.
 #[test]
 fn repairs_each_at_its_place(rt: HostRuntime) {
     let mut units = [0; 31];
@@ -53,7 +53,7 @@ fn repairs_each_at_its_place(rt: HostRuntime) {
     assert!(rt; units == want);
 }
 
-/// Whether the repair of these three code units gives those.
+/// Returns whether the repair of these three code units yields those.
 fn repairs(mut units: [u16; 3], want: [u16; 3]) -> bool {
     ensure_utf16_validity(&mut units);
     units == want

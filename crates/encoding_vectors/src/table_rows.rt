@@ -4,7 +4,7 @@ use crate::texts::{bytes_of, field};
 use encoding_text::utf_8::{UTF8_DATA, law_table};
 use std::test::Fail;
 
-// the first and the last place of each range of entries, and the entry there
+// the first and the last index of each range of entries, and the entry there
 const RANGES: [(usize, usize, u8); 15] = [
     (0x000, 0x07F, 252),
     (0x080, 0x08F, 84),
@@ -23,7 +23,7 @@ const RANGES: [(usize, usize, u8); 15] = [
     (0x175, 0x17F, 4),
 ];
 
-/// The entry of the range that the place is in.
+/// Returns the entry of the range that the index is in.
 fn entry_at(place: usize) -> Option<u8> {
     let range = RANGES
         .iter()
@@ -41,7 +41,7 @@ fn each_entry_is_that_of_its_range(rt: HostRuntime) {
     assert!(rt; count == 384);
 }
 
-// a first byte and those behind it, and what the formula for so many bytes gives
+// a first byte and those after it, and what the formula for this many bytes yields
 const FORMULAS: &str = "\
 E0 A0 80 | 2
 E0 9F BF | 12

@@ -19,7 +19,7 @@ latin1 | | 71 71 71 71 | 0 | 0 | 00 00 00 00
 latin1 | | 71 71 71 71 71 71 71 71 71 71 71 71 71 71 71 E2 98 83 71 | 0 | 0 \
 | 00 00 00 00 00 00 00 00 00 00 00 00 00 00 00 00 00 00 71";
 
-/// Makes the call of a row, or returns `None` if the destination holds no text or is too short.
+/// Makes the call of a row, or returns `None` if the destination is no text or too short.
 fn converted(kind: &str, bytes: &[u8], units: &[u16], dst: &mut [u8]) -> Option<(usize, usize)> {
     if !is_text(dst) {
         return None;

@@ -20,7 +20,7 @@ impl Unit for u16 {
     const UNWRITTEN: u16 = 0x71;
 }
 
-/// Returns the next field of a row, and leaves the fields behind it.
+/// Returns the next field of a row, and leaves the fields after it.
 pub fn field<'a>(row: &mut &'a str) -> &'a str {
     match row.split_once('|') {
         Some((first, rest)) => {
@@ -53,7 +53,7 @@ pub fn units_of(alloc: Global, field: &str) -> Result<Vec<u16>, Fail> {
     Ok(units)
 }
 
-/// Returns the number that a field is, in decimal digits. The greatest one is `MAX`, and one below it `MAX - 1`.
+/// Parses a number in decimal digits. The greatest one is `MAX`, and one below it `MAX - 1`.
 pub fn number_of(field: &str) -> Result<usize, Fail> {
     if field == "MAX" {
         return Ok(usize::MAX);
@@ -64,12 +64,13 @@ pub fn number_of(field: &str) -> Result<usize, Fail> {
     }
 }
 
-/// Whether these bytes or code units begin a destination that was filled with `71`, and `71` stands behind so many.
+/// Returns whether these bytes or code units start a destination that was filled with `71`, which is unchanged after
+/// the first `written`.
 pub fn are_written<U: Unit>(text: &[U], dst: &[U], written: usize) -> bool {
     dst.get(..written) == Some(text) && dst.iter().skip(written).all(|unit| *unit == U::UNWRITTEN)
 }
 
-/// Whether bytes are well-formed, by std.
+/// Returns whether bytes are well-formed, by `std`.
 pub fn is_text(bytes: &[u8]) -> bool
     ensures { IsTrue result ↔ IsUtf8 bytes.now }
 {

@@ -21,7 +21,7 @@ fn replaces_malformed_sequences(rt: HostRuntime) {
     assert!(rt; written == 3 && dst == [0x0061, 0xFFFD, 0xFFFD, 0x71, 0x71, 0x71]);
 }
 
-/// The longest well-formed prefix is written also if the bytes are refused.
+/// The longest well-formed prefix is written even if the bytes are refused.
 #[test]
 fn refuses_malformed_sequences(rt: HostRuntime) {
     let mut dst = [0x71; 4];

@@ -1,4 +1,5 @@
-//! Bounded conversions into each room: how much fits, and that what follows stays, or is cleared in a text.
+//! Bounded conversions into destinations of each length: how much fits, and that the rest is unchanged, or is cleared
+//! in a text.
 
 use crate::texts::is_text;
 use encoding_text::mem::{
@@ -6,7 +7,7 @@ use encoding_text::mem::{
     convert_utf16_to_str, convert_utf16_to_str_partial, convert_utf16_to_utf8_partial,
 };
 
-/// Returns how many units are read and bytes written, if the unit after `letters` letters has this size in UTF-8,
+/// Returns the number of units read and bytes written, if the unit after `letters` letters has this length in UTF-8,
 /// and all others are letters.
 fn longest_front(letters: usize, size: usize, length: usize, room: usize) -> (usize, usize) {
     if room < letters {
@@ -20,7 +21,7 @@ fn longest_front(letters: usize, size: usize, length: usize, room: usize) -> (us
     (written.saturating_sub(more), written)
 }
 
-/// Whether zeros follow the written bytes, as many of them as there is room for, and `q` follows these.
+/// Returns whether zeros follow the written bytes, as many of them as fit, and `q` follows these.
 fn is_cleared(dst: &[u8], written: usize, zeros: usize, room: usize) -> bool {
     let end = written.saturating_add(zeros).min(room);
     dst.iter()
@@ -29,7 +30,7 @@ fn is_cleared(dst: &[u8], written: usize, zeros: usize, room: usize) -> bool {
         .all(|(i, byte)| *byte == if i < end { 0 } else { b'q' })
 }
 
-/// Whether what fits of the bytes is written, and `q` stays after it.
+/// Returns whether the bytes that fit are written, and `q` stays after them.
 fn latin1_tail_stays(src: &[u8], letters: usize, room: usize) -> bool {
     let mut dst = [b'q'; 220];
     let Some(part) = dst.get_mut(..room) else {
@@ -39,7 +40,8 @@ fn latin1_tail_stays(src: &[u8], letters: usize, room: usize) -> bool {
     told == longest_front(letters, 2, src.len(), room) && is_cleared(&dst, told.1, 0, room)
 }
 
-/// Whether a text takes the same, with sixteen zeros after it; all of it into the greatest room.
+/// Returns whether a text takes the same, followed by sixteen zeros. Makes the call that converts all if the
+/// destination is long enough.
 fn latin1_clears(src: &[u8], letters: usize, room: usize) -> bool {
     let mut dst = [b'q'; 220];
     let Some(part) = dst.get_mut(..room) else {
@@ -57,7 +59,7 @@ fn latin1_clears(src: &[u8], letters: usize, room: usize) -> bool {
         && is_cleared(&dst, told.1, 16, room)
 }
 
-/// A byte of two after letters and before forty letters, into each room.
+/// A byte that becomes two, after letters and before forty letters, into destinations of each length.
 #[test]
 fn latin1_tails_stay(rt: HostRuntime) {
     for high in [0x80, 0xA0, 0xCA, 0xE4, 0xFF] {
@@ -76,7 +78,7 @@ fn latin1_tails_stay(rt: HostRuntime) {
     }
 }
 
-/// Whether what fits of the units is written, and `q` stays after it.
+/// Returns whether the units that fit are written, and `q` stays after them.
 fn utf16_tail_stays(src: &[u16], letters: usize, size: usize, room: usize) -> bool {
     let mut dst = [b'q'; 330];
     let Some(part) = dst.get_mut(..room) else {
@@ -86,7 +88,8 @@ fn utf16_tail_stays(src: &[u16], letters: usize, size: usize, room: usize) -> bo
     told == longest_front(letters, size, src.len(), room) && is_cleared(&dst, told.1, 0, room)
 }
 
-/// Whether a text takes the same, with nothing to clear in letters; all of it into the greatest room.
+/// Returns whether a text takes the same, with nothing to clear in letters. Makes the call that converts all if the
+/// destination is long enough.
 fn utf16_text_stays(src: &[u16], letters: usize, size: usize, room: usize) -> bool {
     let mut dst = [b'q'; 330];
     let Some(part) = dst.get_mut(..room) else {
@@ -104,7 +107,7 @@ fn utf16_text_stays(src: &[u16], letters: usize, size: usize, room: usize) -> bo
         && is_cleared(&dst, told.1, 0, room)
 }
 
-/// A unit of two or three bytes after letters and before forty letters, into each room.
+/// A unit of two or three bytes after letters and before forty letters, into destinations of each length.
 #[test]
 fn utf16_tails_stay(rt: HostRuntime) {
     for (unit, size) in [

@@ -20,7 +20,7 @@ fn converts_a_text_in_two(rt: HostRuntime) {
     assert!(rt; written == 15 && are_written(&BYTES[21..], &second, written));
 }
 
-/// Units, room, units read, bytes written.
+/// Units, `room`, units read, bytes written.
 const TAILS: &str = "\
 D83D DCA9 | 3 | 0 |
 D83D 0062 | 3 | 1 | EF BF BD
@@ -69,7 +69,7 @@ DCA9 0061 0061 0061 0061 | EF BF BD 61 61 61 61
 D83D DCA9 0076 2603 0077 00B6 0078 0079 007A 007A | \
 61 62 63 64 65 66 67 68 69 6A 6B 6C 6D 6E 6F 70 71 72 73 74 75 F0 9F 92 A9 76 E2 98 83 77 C2 B6 78 79 7A 7A";
 
-/// Whether the first `read` units are whole characters, and their UTF-8 has `written` bytes.
+/// Returns whether the first `read` units are whole characters, and their UTF-8 has `written` bytes.
 fn is_front(units: &[u16], read: usize, written: usize) -> bool {
     let (mut end, mut length) = (0usize, 0usize);
     for at in 0..read.min(units.len()) {
@@ -82,8 +82,8 @@ fn is_front(units: &[u16], read: usize, written: usize) -> bool {
     end == read && length == written
 }
 
-/// Whether the inner half writes a prefix of whole characters, and reads all or leaves at most three bytes free. Which
-/// characters it leaves is open.
+/// Returns whether the inner half writes a prefix of whole characters, and reads all or leaves at most three bytes
+/// free. Which characters it leaves is open.
 fn inner_is_right(units: &[u16], bytes: &[u8], room: usize) -> bool {
     let mut dst = [0x71; 40];
     let Some(part) = dst.get_mut(..room) else {
@@ -98,7 +98,7 @@ fn inner_is_right(units: &[u16], bytes: &[u8], room: usize) -> bool {
         && are_written(front, &dst, written)
 }
 
-/// Whether the inner half is right into each room.
+/// Returns whether the inner half is right into destinations of each length.
 fn inner_row_holds(alloc: Global, row: &str) -> Result<bool, Fail> {
     let mut row = row;
     let units = units_of(alloc, field(&mut row))?;

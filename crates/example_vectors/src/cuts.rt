@@ -1,9 +1,10 @@
-//! Bytes in pieces of each length, apart and joined, and the places of their broken parts.
+//! Bytes in pieces of each length, repaired separately and joined, and the offsets of their malformed sequences.
 
 use cuts_example::{broken_places, repair_apart};
 use std::test::Fail;
 
-/// Bytes, their text by the Encoding Standard's UTF-8 decoder, and the places and lengths of their broken parts.
+/// Bytes, their text by the Encoding Standard's UTF-8 decoder, and the offsets and lengths of their malformed
+/// sequences.
 const ROWS: [(&[u8], &str, &[(usize, usize)]); 5] = [
     (b"", "", &[]),
     (b"plain\ntext\n", "plain\ntext\n", &[]),

@@ -1,9 +1,9 @@
-//! Byte order marks and broken parts, over every cut of their bytes, whatever the rooms.
+//! Byte order marks and malformed sequences, with every cut of their bytes, into destinations of different lengths.
 
 use decoder_example::{CoderResult, Decoder};
 use std::test::Fail;
 
-/// Bytes of a stream, its text by the Encoding Standard's UTF-8 decode, the UTF-16 of that, and whether U+FFFD stands
+/// Bytes of a stream, its text by the Encoding Standard's UTF-8 decode, the UTF-16 of that, and whether it has U+FFFD
 /// for some of the bytes.
 const ROWS: [(&[u8], &str, &[u16], bool); 8] = [
     (b"", "", &[], false),

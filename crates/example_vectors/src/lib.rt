@@ -1,4 +1,4 @@
-//! Tests alone: the examples on known rows, and on texts longer than each buffer.
+//! Tests only: the examples on known rows, and on texts longer than each buffer.
 #![tactic(auto)]
 
 #[cfg(test)]

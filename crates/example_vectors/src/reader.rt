@@ -1,11 +1,11 @@
-//! Readers of UTF-8 and of UTF-16, into each room and past faults.
+//! Readers of UTF-8 and of UTF-16, into destinations of each length and past errors.
 
 use reader_example::{Utf8Reader, Utf16Reader, is_well_formed, read_text};
 use std::io::{Error, ErrorKind, Read};
 use std::test::Fail;
 use std::{io, str};
 
-/// Gives its bytes, so many a read, and fails at each second read.
+/// Returns its bytes, `step` per read, and fails at each second read.
 #[derive(Drop)]
 struct Faulty<'a> {
     rest: &'a [u8],

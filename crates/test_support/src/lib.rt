@@ -1,4 +1,4 @@
-//! What tests of several crates share: streams over arrays, long streams of a pattern, and memory that is used up.
+//! What tests of several crates share: streams over arrays, long streams of a pattern, and exhausted memory.
 #![tactic(auto)]
 
 pub mod memory;

@@ -1,8 +1,8 @@
-//! Memory that is used up.
+//! Exhausted memory.
 
 use std::alloc::{AllocError, Global};
 
-/// Takes memory until none is left, in ever smaller blocks, and returns them. The last ones are the smallest.
+/// Allocates memory until none is left, in ever smaller blocks, and returns them. The last ones are the smallest.
 pub fn exhaust(alloc: Global) -> Result<Vec<Vec<u8>>, AllocError> {
     let mut held = Vec::with_capacity(alloc, 1_000_000)?;
     let mut size: usize = 1 << 46;

@@ -1,18 +1,18 @@
-//! Long streams of a pattern, which keep none of its bytes. A round's end falls into a character or into a broken part.
+//! Long streams of a pattern, which keep none of its bytes. A round ends within a character or a malformed sequence.
 
 use std::io::{Error, ErrorKind, Read, Result, Write};
 
-/// A letter, U+2603, a letter, three bytes that begin a character, a letter, and U+1F4A9.
+/// A letter, U+2603, a letter, three bytes of an incomplete sequence, a letter, and U+1F4A9.
 pub const PATTERN: [u8; 13] = [
     0x61, 0xE2, 0x98, 0x83, 0x62, 0xF0, 0x9F, 0x92, 0x63, 0xF0, 0x9F, 0x92, 0xA9,
 ];
 
-/// What comes of a period once it is repaired.
+/// A repaired period.
 pub const REPAIRED: [u8; 13] = [
     0x61, 0xE2, 0x98, 0x83, 0x62, 0xEF, 0xBF, 0xBD, 0x63, 0xF0, 0x9F, 0x92, 0xA9,
 ];
 
-/// Returns the byte at a place of so many letters and a pattern, over and over, behind them.
+/// Returns the byte at an offset of letters followed by a repeated pattern.
 fn byte_at(letters: usize, pattern: &[u8; 13], at: usize) -> u8 {
     match at.checked_sub(letters) {
         Some(place) => pattern[place % 13],
@@ -20,21 +20,21 @@ fn byte_at(letters: usize, pattern: &[u8; 13], at: usize) -> u8 {
     }
 }
 
-/// Gives the pattern over and over, as many bytes as are asked for, up to a length, and then ends or fails.
+/// Returns the repeated pattern, as many bytes as are requested, up to a length, and then ends or fails.
 #[derive(Drop)]
 pub struct PatternInput {
     letters: usize,
     pattern: [u8; 13],
     length: usize,
     fault: Option<ErrorKind>,
-    /// How many bytes it gave.
+    /// How many bytes it returned.
     pub given: usize,
     /// How often it was read after its last byte.
     pub asked_behind: usize,
 }
 
 impl PatternInput {
-    /// Returns an input that gives so many bytes, and then fails where there is a fault.
+    /// Returns an input that returns `length` bytes, and then fails if there is an error.
     pub fn of(length: usize, fault: Option<ErrorKind>) -> PatternInput {
         PatternInput {
             letters: 0,
@@ -46,14 +46,14 @@ impl PatternInput {
         }
     }
 
-    /// Returns the input, which now gives so many letters first.
+    /// Returns the input with this many letters first.
     pub fn behind_letters(self, letters: usize) -> PatternInput {
         let mut input = self;
         input.letters = letters;
         input
     }
 
-    /// Returns the input, which now gives the repaired pattern.
+    /// Returns the input with the repaired pattern.
     pub fn repaired(self) -> PatternInput {
         let mut input = self;
         input.pattern = REPAIRED;
@@ -80,7 +80,7 @@ impl Read for PatternInput {
     }
 }
 
-/// Takes so many bytes and fails then once, and compares what it takes with the repaired pattern.
+/// Takes a number of bytes and then fails once, and compares what it takes with the repaired pattern.
 #[derive(Drop)]
 pub struct PatternOutput {
     letters: usize,
@@ -90,7 +90,7 @@ pub struct PatternOutput {
     pub taken: usize,
     /// Whether they were those of the repaired pattern.
     pub same: bool,
-    /// How often it was written to after its fault.
+    /// How often it was written to after its error.
     pub asked_behind: usize,
     /// How often it was flushed.
     pub flushes: usize,
@@ -99,7 +99,7 @@ pub struct PatternOutput {
 }
 
 impl PatternOutput {
-    /// Returns an output that takes so many bytes, fails once, and takes all from then on.
+    /// Returns an output that takes `takes` bytes, fails once, and takes all from then on.
     pub fn that_takes(takes: usize) -> PatternOutput {
         PatternOutput {
             letters: 0,
@@ -113,7 +113,7 @@ impl PatternOutput {
         }
     }
 
-    /// Returns the output, which now compares the first bytes with so many letters.
+    /// Returns the output, which compares the first bytes with this many letters.
     pub fn behind_letters(self, letters: usize) -> PatternOutput {
         let mut output = self;
         output.letters = letters;

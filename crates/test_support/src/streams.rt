@@ -1,9 +1,9 @@
-//! Streams over arrays, which take no memory and fail where they are told to.
+//! Streams over arrays, which allocate no memory and fail at given offsets.
 ghost use Rattle.std.specs.Prelude.{◌≤◌};
 
 use std::io::{Error, ErrorKind, Read, Result, Write};
 
-/// Gives its bytes, so many a read, and then ends or fails.
+/// Returns its bytes, `step` per read, and then ends or fails.
 #[derive(Drop)]
 pub struct Input<'a> {
     rest: &'a [u8],
@@ -16,7 +16,7 @@ pub struct Input<'a> {
 }
 
 impl<'a> Input<'a> {
-    /// Returns an input that gives these bytes, so many a read, and ends.
+    /// Returns an input that returns these bytes, `step` per read, and ends.
     pub fn of(bytes: &'a [u8], step: usize) -> Input<'a> {
         Input {
             rest: bytes,
@@ -27,7 +27,7 @@ impl<'a> Input<'a> {
         }
     }
 
-    /// Returns an input that gives these bytes, one a read, and then fails.
+    /// Returns an input that returns these bytes, one per read, and then fails.
     pub fn that_fails(bytes: &'a [u8], fault: ErrorKind) -> Input<'a> {
         Input {
             rest: bytes,
@@ -38,7 +38,7 @@ impl<'a> Input<'a> {
         }
     }
 
-    /// Returns the input, which now gives so many bytes a read.
+    /// Returns the input with `step` bytes per read.
     pub fn by_steps_of(self, step: usize) -> Input<'a> {
         let mut input = self;
         input.step = step;
@@ -80,10 +80,10 @@ impl Read for Endless {
     }
 }
 
-/// The most bytes that an [`Output`] holds.
+/// The most bytes that an [`Output`] takes.
 pub const ROOM: usize = 2048;
 
-/// Takes so many bytes a call and so many in all, and then fails, or takes none where it has no fault.
+/// Takes a number of bytes per call and a number in all, and then fails, or takes none if it has no error.
 #[derive(Drop)]
 pub struct Output {
     bytes: [u8; ROOM],
@@ -102,7 +102,7 @@ pub struct Output {
 }
 
 impl Output {
-    /// Returns an output that takes so many bytes in all, and then fails, or takes none where there is no fault.
+    /// Returns an output that takes `takes` bytes in all, and then fails, or takes none if there is no error.
     pub fn that_takes(takes: usize, fault: Option<ErrorKind>) -> Output {
         Output {
             bytes: [0x71; ROOM],
@@ -122,14 +122,14 @@ impl Output {
         Output::that_takes(ROOM, None)
     }
 
-    /// Returns an output that takes all bytes, at most so many a call.
+    /// Returns an output that takes all bytes, at most `step` per call.
     pub fn by_steps_of(step: usize) -> Output {
         let mut output = Output::that_takes_all();
         output.step = step;
         output
     }
 
-    /// Returns an output that takes all bytes, and fails where it is flushed.
+    /// Returns an output that takes all bytes, and fails if it is flushed.
     pub fn that_cannot_flush() -> Output {
         let mut output = Output::that_takes_all();
         output.flushable = false;
@@ -169,8 +169,8 @@ impl Write for Output {
     }
 }
 
-/// Compares what it takes with a text, and keeps none of it. Takes so many bytes a call and so many in all, and then
-/// fails, or takes none where it has no fault.
+/// Compares what it takes with a text, and keeps none of it. Takes a number of bytes per call and a number in all, and
+/// then fails, or takes none if it has no error.
 #[derive(Drop)]
 pub struct Compared<'a> {
     rest: &'a [u8],
@@ -182,12 +182,12 @@ pub struct Compared<'a> {
     pub taken: usize,
     /// Whether they were those of the text.
     pub same: bool,
-    /// How often it was written to once it had stopped.
+    /// How often it was written to after it had stopped.
     pub asked_behind: usize,
 }
 
 impl<'a> Compared<'a> {
-    /// Returns an output that takes all bytes, at most so many a call, and compares them with the text.
+    /// Returns an output that takes all bytes, at most `step` per call, and compares them with the text.
     pub fn with(text: &'a [u8], step: usize) -> Compared<'a> {
         Compared {
             rest: text,
@@ -201,7 +201,7 @@ impl<'a> Compared<'a> {
         }
     }
 
-    /// Returns the output, which now takes so many bytes in all, and then fails, or takes none where there is no fault.
+    /// Returns the output, which takes `takes` bytes in all, and then fails, or takes none if there is no error.
     pub fn that_takes(self, takes: usize, fault: Option<ErrorKind>) -> Compared<'a> {
         let mut output = self;
         output.left = takes;
