@@ -1,6 +1,6 @@
-"""Prints Markdown tables of what `bench simdutf` prints, of several runs, of which the best throughput counts:
+"""Prints Markdown tables from the output of several runs of `bench simdutf`; the best throughput counts:
 python3 beside.py V2.tsv... -- V3.tsv..., ours built for x86-64-v2 and for x86-64-v3. A cell has the ratios of both to
-the kernel of the same width, bold where one is below the goal; behind the tables these cells stand by themselves."""
+the kernel of the same width, bold if one is below the goal. After the tables these cells are listed again."""
 import sys
 
 GOALS = {64: 0.95, 4096: 1.0, 1048576: 1.0}
@@ -8,7 +8,7 @@ SIZES = {64: "64 bytes", 4096: "4 KiB", 1048576: "1 MiB"}
 
 
 def best_of(names):
-    """Returns by row, kind and size the best throughputs of ours and of simdutf."""
+    """Returns the best throughputs of ours and of simdutf, by row, kind and size."""
     best = {}
     for name in names:
         for line in list(open(name))[1:]:
@@ -19,7 +19,7 @@ def best_of(names):
 
 
 def spread(files):
-    """Prints how far the ratios of a place lie apart in the runs of one build."""
+    """Prints how much the ratios of a cell differ between the runs of one build."""
     runs = [{place: ours / theirs for place, (ours, theirs) in best_of([name]).items()} for name in files]
     if len(runs) > 1:
         apart = sorted(max(run[place] for run in runs) / min(run[place] for run in runs) - 1 for place in runs[0])

@@ -1,5 +1,5 @@
-//! Links a static library that `make` leaves: `build/CPU/` has it where CPU, an environment variable, names processors,
-//! and else `build/`. Tells the program which processors it is built for.
+//! Links a static library that `make` built: from `build/CPU/` if CPU, an environment variable, names processors, and
+//! else from `build/`. Passes to the program which processors it is built for.
 use std::path::Path;
 use std::{env, fs};
 

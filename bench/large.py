@@ -1,5 +1,5 @@
-"""Prints the Markdown table of 1 MiB in docs/PERFORMANCE.md from what bench/table leaves: python3 large.py. A dash
-stands where the call ends at the first bytes."""
+"""Prints the Markdown table of 1 MiB in docs/PERFORMANCE.md from the output of bench/table: python3 large.py. A dash
+means that the call ends at the first bytes."""
 import pathlib
 
 CALLS = [

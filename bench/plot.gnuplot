@@ -1,6 +1,6 @@
-# Ratios of our throughput to that of the best peer, a row of the table each, a point a kind of text: of the values named
-# by `values`, those of `size` bytes, to `picture`. No background and middle tones, so that light and dark pages can have
-# it. Where a call ends at the first bytes (above 250 GB/s of source) there is no point.
+# Plots the ratios of our throughput to that of the best peer, one line for each row of the table and one point for each
+# kind of text: from the file `values`, those of `size` bytes, to `picture`. It has no background and middle tones, so
+# that it suits light and dark pages. A call that ends at the first bytes (above 250 GB/s of source) has no point.
 set terminal svg noenhanced size 1000,1120 font 'sans-serif,13'
 set encoding utf8
 set output picture
@@ -22,7 +22,7 @@ set rmargin at screen 0.985
 set tmargin at screen 0.92
 set bmargin at screen 0.055
 set key at screen 0.94, 0.97 horizontal maxrows 2 Left reverse textcolor rgb tone samplen 1 width 1
-# names as people say them, no blank in them that parts words
+# readable names, with no spaces, which would separate words
 names = system("awk -F'\t' 'NR > 1 && !seen[$1]++ { print $1 }' " . values . " | sed 's/^convert_//; s/iso_2022_jp/ISO-2022-JP/; s/ascii/ASCII/g; s/utf/UTF-/g; s/basic_latin/Basic_Latin/g; s/latin1/Latin1/g; s/str/text/; s/bidi/right-to-left/; s/[_ ]/\302\240/g'")
 count = words(names)
 set yrange [count + 0.6 : 0.4]

@@ -1,4 +1,4 @@
-"""Reads UTF-8 and writes it with U+FFFD for what is broken, a MiB at a time: what bench/filters compares with."""
+"""Reads UTF-8 and writes it with U+FFFD for each malformed sequence, a MiB at a time: what bench/filters compares with."""
 import codecs
 import sys
 

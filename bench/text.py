@@ -1,5 +1,5 @@
-"""Writes so many MiB of a kind of text, for bench/filters: python3 text.py KIND MIB. A MiB is made at random, the same
-one on each run, and written again and again; random bytes are new in each MiB."""
+"""Writes MIB MiB of a kind of text, for bench/filters: python3 text.py KIND MIB. One MiB is made at random, the same one
+on each run, and repeated; random bytes are new in each MiB."""
 import random
 import sys
 
@@ -29,7 +29,7 @@ KINDS = {
     "HTML": [(ELEMENTS, 1)],
 }
 
-# A kind with one byte in a hundred broken, and the kind.
+# A kind with one malformed byte in a hundred, and the kind.
 BROKEN = {"broken": "Latin", "broken-ASCII": "ASCII"}
 
 
@@ -42,7 +42,7 @@ def text_of(groups):
 
 
 def broken(text):
-    """Returns the text with one byte in a hundred broken."""
+    """Returns the text with one malformed byte in a hundred."""
     text = bytearray(text)
     for _ in range(len(text) // 100):
         text[random.randrange(len(text))] = 0xFF

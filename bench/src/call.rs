@@ -1,10 +1,10 @@
-//! How a peer is called: as ours is, through an address, by a function that isn't inlined where it is called.
+//! How a peer is called: as ours is, through an address, by a function that isn't inlined into its caller.
 //!
-//! simdutf is called in a shared library, which goes through an address; so ours and all others do too (module `ffi`),
+//! simdutf is called in a shared library, which goes through an address. So ours and all others are too (module `ffi`),
 //! since that costs some nanoseconds on processors that guard indirect jumps. A peer in Rust is called here through a
-//! function that gets the same slices and has the peer's body inlined into itself where that can be: one call each, and
-//! what a caller knows of the arguments helps none. Where it can't be, that is a jump more, which made no difference
-//! that could be measured.
+//! function that gets the same slices and has the peer's body inlined if possible. This is one call each, and nothing
+//! that the caller knows of the arguments helps. If the body can't be inlined, that is one more jump, which made no
+//! measurable difference.
 
 use std::hint::black_box;
 

@@ -1,4 +1,4 @@
-//! The functions of `encoding_text.h`, and each of them over slices. Those of slices alone are called through an
+//! The functions of `encoding_text.h`, and each of them over slices. Those that take only slices are called through an
 //! address, as their peers are (module `call`).
 
 use std::hint::black_box;
@@ -22,7 +22,7 @@ pub struct Front {
 }
 
 impl Front {
-    /// The front of so many elements of the slice.
+    /// Returns the prefix of this length of the slice.
     pub fn of<T: Copy + Into<u16>>(slice: &[T], length: usize) -> Front {
         Front { length, other: slice.get(length).map_or(0, |it| (*it).into()) }
     }

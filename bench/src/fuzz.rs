@@ -1,5 +1,5 @@
-//! Compares whole outputs on random and damaged texts, in random rooms: ours with each peer's, and what lies behind
-//! ours with what was there before.
+//! Compares whole outputs on random and damaged texts, in destinations of random length: ours with each peer's, and the
+//! rest of ours with what was there before.
 
 use crate::kinds::{Random, Source};
 use crate::room::Room;
@@ -8,10 +8,10 @@ use crate::texts;
 use std::process;
 use std::slice::from_ref;
 
-/// What destinations hold before: a text with characters of each length.
+/// What destinations contain before a call: a text with characters of each length.
 const TEXT: &str = "q\u{E9}\u{2603}\u{1F600}";
 
-/// Runs so many cases, each by a seed of its own: `bench fuzz 1 SEED` runs one again. A difference ends the run.
+/// Runs `count` cases, each with a seed of its own: `bench fuzz 1 SEED` runs one again. A difference ends the run.
 pub fn fuzz(count: u64, seed: u64) {
     for case in 0..count {
         let seed = seed.wrapping_add(case);
@@ -30,13 +30,13 @@ pub fn fuzz(count: u64, seed: u64) {
     println!("{count} texts from seed {seed} on: every row as its peers");
 }
 
-/// How much room the bounded calls get: half of the time so little that it is often too short.
+/// Returns the length of a bounded call's destination: half of the time one that is often too short.
 fn limit(length: usize, random: &mut Random) -> usize {
     let most = [length, length, length / 3, 40][random.below(4) as usize];
     random.below(most as u32 + 1) as usize
 }
 
-/// Runs each engine of the row, and says which one gives something else.
+/// Runs each engine of the row, and reports which one has another result.
 fn compare(row: &Row, source: &Source, fresh: &Room, ours: &mut Room, theirs: &mut Room) -> Result<(), String> {
     ours.refill(fresh);
     (row.engines[0].1)(from_ref(source), ours, 1);
@@ -63,7 +63,7 @@ fn tell(row: &Row, source: &Source, fresh: &Room, fault: &str, seed: u64) {
     println!("bench fuzz 1 {seed}");
 }
 
-/// What the row reads, in hex.
+/// Returns what the row reads, in hexadecimal.
 fn hex(row: &Row, source: &Source) -> String {
     let of_bytes = |bytes: &[u8]| bytes.iter().map(|b| format!("{b:02x}")).collect::<Vec<_>>().join(" ");
     let of_units = |units: &[u16]| units.iter().map(|u| format!("{u:04x}")).collect::<Vec<_>>().join(" ");

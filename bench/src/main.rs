@@ -1,22 +1,22 @@
-//! Measures each row of the public surface beside std, `encoding_rs`, `simdutf8` and simdutf, all in one run,
-//! interleaved, and compares what they give.
+//! Measures each row of the public surface compared with std, `encoding_rs`, `simdutf8` and simdutf, all in one run,
+//! interleaved, and compares their results.
 //!
 //! - `bench` prints a table of ratios, ours to the best peer, with our throughput in GB/s of source, and writes the
 //!   same to `build/bench.tsv`. Before timing, each engine's whole output is compared with ours, and a difference ends
 //!   the run.
-//! - `bench simdutf` measures ours and simdutf's kernel of the same width alone, where simdutf has the call, and prints
+//! - `bench simdutf` measures only ours and simdutf's kernel of the same width, if simdutf has the call, and prints
 //!   their throughputs.
-//! - `bench ROW KIND SIZE ENGINE TIMES` runs one engine alone, for counters of instructions; `bench --list` prints what
+//! - `bench ROW KIND SIZE ENGINE TIMES` runs only one engine, for counters of instructions; `bench --list` prints what
 //!   there is at 64 KiB, with the length of the source.
 //! - `bench calls` compares the Rust crate with C on each row that is one call, and prints what one costs on sixteen
-//!   letters in both; the status is 1 where Rust takes 2 ns more.
-//! - `bench fuzz COUNT [SEED]` compares whole outputs on so many random and damaged texts.
+//!   letters in both; the status is 1 if Rust takes 2 ns more.
+//! - `bench fuzz COUNT [SEED]` compares whole outputs on COUNT random and damaged texts.
 //!
-//! Like is measured with like. Ours are called as functions of a library for C, and each peer through a function that
-//! isn't inlined either, all through an address (module `call`). C has no type for a text, so where a row takes or
-//! gives one (`str` in its name, and `encode_from_utf8`) each engine begins with bytes and validates them, ours
-//! in its function for C, a peer by `std::str::from_utf8` (module `rows`). A row whose call tells the element behind a front asks peers
-//! for that too.
+//! All engines are measured alike. Ours are called as functions of a library for C, and each peer through a function
+//! that isn't inlined either, all through an address (module `call`). C has no type for a text. If a row takes or
+//! returns one (`str` in its name, and `encode_from_utf8`), each engine starts with bytes and validates them: ours in
+//! its function for C, a peer by `std::str::from_utf8` (module `rows`). If a row's call returns the element after a
+//! prefix, peers have to find that too.
 
 mod call;
 mod ffi;

@@ -9,17 +9,17 @@ use std::slice::from_ref;
 use std::time::Instant;
 use std::{env, fs, process};
 
-/// How many interleaved passes there are, unless PASSES, an environment variable, says it: the best of each engine
+/// How many interleaved passes there are, unless PASSES, an environment variable, sets it. The best of each engine
 /// counts.
 const PASSES: usize = 9;
 
-/// How much source an engine is given in one pass at first, in bytes.
+/// How many bytes of source an engine is given in one pass at first.
 const VOLUME: usize = 1 << 20;
 
 /// How long a pass takes at least, in seconds.
 const LEAST: f64 = 1e-3;
 
-/// A destination full of letters, long enough for each source.
+/// Returns a destination full of letters, long enough for each source.
 fn room(sources: &[Source]) -> Room {
     Room::of(sources.iter().max_by_key(|source| source.bytes.len()).expect("a source"), "q")
 }
@@ -44,7 +44,7 @@ pub fn seconds(engine: &Engine, sources: &[Source], room: &mut Room, times: u64)
     start.elapsed().as_secs_f64()
 }
 
-/// How often an engine is called in one pass: each source as often as all others.
+/// Returns how often an engine is called in one pass: each source as often as all others.
 pub fn times(engine: &Engine, sources: &[Source], room: &mut Room, length: usize) -> u64 {
     let mut rounds = (VOLUME / length.max(1)).max(1) as u64;
     while seconds(engine, sources, room, rounds * sources.len() as u64) < LEAST {
@@ -53,7 +53,7 @@ pub fn times(engine: &Engine, sources: &[Source], room: &mut Room, length: usize
     rounds * sources.len() as u64
 }
 
-/// The best throughput of each engine, in GB/s of source.
+/// Returns the best throughput of each engine, in GB/s of source.
 fn measure(row: &Row, sources: &[Source], engines: &[&Engine]) -> Vec<f64> {
     let passes = env::var("PASSES").map_or(PASSES, |passes| passes.parse().expect("PASSES is a number"));
     let length: usize = sources.iter().map(|source| row.length(source)).sum();
@@ -62,7 +62,7 @@ fn measure(row: &Row, sources: &[Source], engines: &[&Engine]) -> Vec<f64> {
     let mut best = vec![0.0_f64; engines.len()];
     for _ in 0..passes {
         for ((engine, times), best) in engines.iter().zip(&times).zip(&mut best) {
-            // A shorter run first: what the engine before left in caches and vector units doesn't count.
+            // A shorter run first, so that what the engine before left in caches and vector units doesn't count.
             seconds(engine, sources, &mut room, times / 4 + 1);
             let seconds = seconds(engine, sources, &mut room, *times);
             *best = best.max(length as f64 * (*times as f64 / sources.len() as f64) / seconds / 1e9);
@@ -71,7 +71,8 @@ fn measure(row: &Row, sources: &[Source], engines: &[&Engine]) -> Vec<f64> {
     best
 }
 
-/// The sources of a place of the table, all engines compared on each; none where the row isn't measured.
+/// Returns the sources of a cell of the table, after comparing all engines on each, or `None` if the row isn't
+/// measured.
 fn compared(row: &Row, kind: Kind, size: usize) -> Option<Vec<Source>> {
     let sources = sources(kind, size);
     if !sources.iter().all(|source| row.is_measured(source)) {
@@ -81,10 +82,10 @@ fn compared(row: &Row, kind: Kind, size: usize) -> Option<Vec<Source>> {
     Some(sources)
 }
 
-/// Above so many GB/s of source, a call has ended at its first bytes.
+/// Above this many GB/s of source, a call has ended at its first bytes.
 const SOON: f64 = 250.0;
 
-/// Compares and measures one place of the table: returns what is printed there.
+/// Compares and measures one cell of the table, and returns what is printed there.
 fn cell(row: &Row, kind: Kind, size: usize, values: &mut String) -> String {
     let Some(sources) = compared(row, kind, size) else {
         return String::new();
@@ -118,8 +119,8 @@ pub fn table() {
 /// What the comparison with simdutf has: short texts, those that stay in caches, long ones.
 const BESIDE: [usize; 3] = [64, 4 << 10, 1 << 20];
 
-/// Whether the comparison with simdutf has the kind: well-formed texts, of which ASCII alone where the call ends at the
-/// first byte beyond it, and none of a row on Latin1 that would be of one character.
+/// Returns whether the comparison with simdutf has the kind: well-formed texts, only ASCII if the call ends at the
+/// first byte above it, and for rows on Latin1 none of a single repeated character.
 fn is_beside(row: &Row, kind: Kind) -> bool {
     let is_latin1 = matches!(row.reads, Reads::Latin1 | Reads::Latin1Text | Reads::Latin1Units);
     match kind {
@@ -130,7 +131,7 @@ fn is_beside(row: &Row, kind: Kind) -> bool {
     }
 }
 
-/// Prints the throughputs of ours and of simdutf's kernel, its best call: a line a place, told by tabs.
+/// Prints the throughputs of ours and of simdutf's kernel, its best call: one line for each cell, with tabs.
 pub fn beside_simdutf() {
     println!("row\tkind\tsize\tours\tsimdutf");
     for row in ROWS {
@@ -154,7 +155,7 @@ pub fn alone(row: &str, kind: &str, size: usize, engine: &str, times: u64) {
     let row = ROWS.iter().find(|it| it.name == row).expect("no such row");
     let kind = *KINDS.iter().find(|it| it.name() == kind).expect("no such kind");
     let engine = row.engines.iter().find(|it| it.0 == engine).expect("no such engine");
-    // One text, so that a run more of it costs the same each time.
+    // One text, so that each more run of it costs the same.
     let source = source(kind, size, 0);
     seconds(engine, from_ref(&source), &mut Room::of(&source, "q"), times);
 }

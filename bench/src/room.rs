@@ -1,23 +1,23 @@
-//! Where an engine leaves what it gives, and how that is compared with what another gives.
+//! Where an engine writes its results, and how these are compared with another's.
 
 use crate::ffi::{Counts, Front, REFUSED};
 use crate::kinds::Source;
 
-/// Destinations with what was there before, and what a call says.
+/// Destinations with what was there before, and what a call returns.
 #[derive(Clone)]
 pub struct Room {
     pub bytes: Vec<u8>,
     pub units: Vec<u16>,
     /// How long a destination the bounded calls get.
     pub limit: usize,
-    /// What a call says beside how much it wrote: a front and the element behind it, how much it read, yes or no.
+    /// What a call returns besides how much it wrote: a prefix and the element after it, how much it read, yes or no.
     pub told: [usize; 2],
     /// How much it wrote.
     pub written: usize,
 }
 
 impl Room {
-    /// A room that no row fills. It holds a text, which the rows that write into texts ask for.
+    /// Creates destinations that no row fills. They contain a text, which the rows that write into texts require.
     pub fn of(source: &Source, text: &str) -> Room {
         let length = source.bytes.len().max(source.units.len()).max(source.latin1.len()) + 16;
         let mut bytes = text.as_bytes().repeat(3 * length / text.len());
@@ -25,7 +25,7 @@ impl Room {
         Room { limit: bytes.len(), bytes, units: vec![0x7171; length], told: [0, 0], written: 0 }
     }
 
-    /// Makes it as another room is.
+    /// Makes it a copy of another.
     pub fn refill(&mut self, fresh: &Room) {
         self.bytes.clone_from(&fresh.bytes);
         self.units.clone_from(&fresh.units);
@@ -34,48 +34,48 @@ impl Room {
         self.written = fresh.written;
     }
 
-    /// The destination of a bounded call that writes bytes.
+    /// Returns the destination of a bounded call that writes bytes.
     pub fn bounded_bytes(&mut self) -> &mut [u8] {
         let length = self.limit.min(self.bytes.len());
         &mut self.bytes[..length]
     }
 
-    /// The destination of a bounded call that writes code units.
+    /// Returns the destination of a bounded call that writes code units.
     pub fn bounded_units(&mut self) -> &mut [u16] {
         let length = self.limit.min(self.units.len());
         &mut self.units[..length]
     }
 
-    /// The destination of a call into a text: so short, since all of it is validated before.
+    /// Returns the destination of a call into a text. It is no longer than `length`, since all of it is validated first.
     pub fn text(&mut self, length: usize) -> &mut [u8] {
         let length = length.min(self.limit).min(self.bytes.len());
         &mut self.bytes[..length]
     }
 
-    /// Keeps what a call says of a front.
+    /// Records the prefix that a call returns.
     pub fn tell_front(&mut self, front: Front) {
         self.told = [front.length, front.other.into()];
     }
 
-    /// Keeps what a call says of a front that it copied.
+    /// Records the prefix that a call returns and has copied.
     pub fn tell_copied(&mut self, front: Front) {
         self.written = front.length;
         self.tell_front(front);
     }
 
-    /// Keeps how much a call read and wrote.
+    /// Records how much a call read and wrote.
     pub fn tell_counts(&mut self, counts: impl Into<Counts>) {
         let counts = counts.into();
         self.told[0] = counts.read;
         self.written = counts.written;
     }
 
-    /// Where what was written ends.
+    /// Returns where what was written ends.
     fn end(&self) -> usize {
         if self.written == REFUSED { 0 } else { self.written }
     }
 
-    /// Whether both say the same and wrote the same. What lies behind that is free in some peers.
+    /// Returns whether both returned the same and wrote the same. Some peers may overwrite what is after that.
     pub fn agrees(&self, theirs: &Room) -> bool {
         self.told == theirs.told
             && self.written == theirs.written
@@ -83,7 +83,7 @@ impl Room {
             && same_front(&self.units, &theirs.units, self.end())
     }
 
-    /// Whether all is as before behind what was written.
+    /// Returns whether all is unchanged after what was written.
     pub fn keeps(&self, before: &Room) -> bool {
         same_rest(&self.bytes, &before.bytes, self.end()) && same_rest(&self.units, &before.units, self.end())
     }

@@ -1,6 +1,6 @@
 //! The rows of the public surface, each with the engines that have it: ours first.
 //!
-//! Rows on texts begin with bytes for each engine: C has no type for a text, so our functions validate what they get,
+//! Rows on texts start with bytes for each engine: C has no type for a text, so our functions validate what they get,
 //! and peers validate it by `std::str::from_utf8` before their own call. So do the rows that write into a text.
 
 use crate::call::{in_place, one, two};
@@ -24,10 +24,10 @@ pub enum Reads {
     Latin1Units,
 }
 
-/// An engine's name, and how it runs the row so many times, on the sources in turn.
+/// An engine's name, and the function that runs the row a number of times, on the sources in turn.
 pub type Engine = (&'static str, fn(&[Source], &mut Room, u64));
 
-/// The loop stands around each engine's own call, so that no other call lies in it.
+/// Calls `run` in a loop. Each engine's own call has its own loop, so that no other call is in it.
 pub fn in_turn(sources: &[Source], room: &mut Room, times: u64, run: impl Fn(&Source, &mut Room)) {
     for source in sources.iter().cycle().take(times as usize) {
         run(black_box(source), room);
@@ -46,11 +46,11 @@ const STD: &str = "std";
 const CRATE: &str = "encoding_rs";
 const SIMD: &str = "simdutf8";
 
-/// simdutf by its plain calls, which say no more than that a text is ill-formed, and by those that say where.
+/// simdutf by its plain calls, which only report that a text is ill-formed, and by those that report where.
 pub const SIMDUTF: &str = "simdutf";
 pub const SIMDUTF_ERRORS: &str = "simdutf with errors";
 
-/// Where the longest well-formed front ends.
+/// Returns the length of the longest well-formed prefix.
 fn std_valid_up_to(src: &[u8]) -> usize {
     str::from_utf8(src).map_or_else(|error| error.valid_up_to(), str::len)
 }
@@ -66,7 +66,7 @@ fn put(text: &str, dst: &mut [u8]) -> usize {
     text.len()
 }
 
-/// Writes the most characters of the longest well-formed front that fit as UTF-16, and returns how much was read and
+/// Writes as UTF-16 as many characters of the longest well-formed prefix as fit, and returns how much was read and
 /// written.
 fn std_front_to_utf16(src: &[u8], dst: &mut [u16]) -> (usize, usize) {
     let front = str::from_utf8(&src[..std_valid_up_to(src)]).unwrap();
@@ -81,7 +81,7 @@ fn std_front_to_utf16(src: &[u8], dst: &mut [u16]) -> (usize, usize) {
     (read, written)
 }
 
-/// The same. The crate's call asks for room and tells no place: without room it is std's.
+/// The same. The crate's call requires a longer destination and returns no index: if it is too short this is std's.
 fn crate_front_to_utf16(src: &[u8], dst: &mut [u16]) -> (usize, usize) {
     if dst.len() < src.len() {
         return std_front_to_utf16(src, dst);
@@ -95,9 +95,9 @@ fn crate_front_to_utf16(src: &[u8], dst: &mut [u16]) -> (usize, usize) {
     }
 }
 
-// What simdutf has no call for, on ill-formed texts, the crate does after it has refused: it is the quickest there.
+// What simdutf has no call for, on ill-formed texts, the crate does after it has refused: it is the fastest there.
 
-/// Where the longest well-formed front ends, by the plain call where it can say it.
+/// Returns the length of the longest well-formed prefix, by the plain call if it suffices.
 fn simdutf_valid_up_to(src: &[u8]) -> usize {
     if simdutf::validate_utf8(src) { src.len() } else { simdutf::validate_utf8_with_errors(src).count }
 }
@@ -107,20 +107,21 @@ fn simdutf_utf16_valid_up_to(src: &[u16]) -> usize {
     if simdutf::validate_utf16le(src) { src.len() } else { simdutf::validate_utf16le_with_errors(src).count }
 }
 
-/// How much a call with errors wrote, and where it found none.
+/// Returns how much a call with errors wrote, if it found none.
 fn counted(call: Counted) -> Option<usize> {
     (call.error == 0).then_some(call.count)
 }
 
-/// How much a plain call wrote, and where it found no error: an empty text it doesn't refuse.
+/// Returns how much a plain call wrote, if it found no error: it doesn't refuse an empty text.
 fn plain(length: usize, written: usize) -> Option<usize> {
     (length == 0 || written > 0).then_some(written)
 }
 
-/// A call to UTF-16, and how much it wrote, where it found no error.
+/// A call to UTF-16, which returns how much it wrote if it found no error.
 type ToUtf16 = fn(&[u8], &mut [u16]) -> Option<usize>;
 
-/// The front as UTF-16. simdutf asks for room and tells no place: without room it is std's.
+/// Converts the prefix to UTF-16. simdutf requires a longer destination and returns no index: if it is too short this
+/// is std's.
 fn simdutf_front_to_utf16(src: &[u8], dst: &mut [u16], convert: ToUtf16) -> (usize, usize) {
     if dst.len() < src.len() {
         return std_front_to_utf16(src, dst);
@@ -466,17 +467,17 @@ pub const ROWS: &[Row] = rows! {
 };
 
 impl Row {
-    /// Whether the row is measured on the source: rows on texts aren't on broken ones, which they refuse.
+    /// Returns whether the row is measured on the source: rows on texts aren't on malformed ones, which they refuse.
     pub fn is_measured(&self, source: &Source) -> bool {
         source.well_formed || self.reads != Reads::Text
     }
 
-    /// Whether the call clears behind what it writes, so that its destination stays a text.
+    /// Returns whether the call clears what follows, so that its destination stays a text.
     pub fn clears(&self) -> bool {
         self.name.ends_with("to_str_partial")
     }
 
-    /// How many bytes of source a run of the row reads.
+    /// Returns how many bytes of source a run of the row reads.
     pub fn length(&self, source: &Source) -> usize {
         match self.reads {
             Reads::Bytes | Reads::Text => source.bytes.len(),

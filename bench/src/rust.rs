@@ -1,5 +1,5 @@
-//! The rows by the Rust crate over the same library, and what a call costs more there than in C. Where a row reads a text
-//! the crate is given a `&str`, and C looks through the bytes.
+//! The rows by the Rust crate over the same library, and what a call costs more there than in C. If a row reads a text
+//! the crate is given a `&str`, and C validates the bytes.
 
 use crate::ffi::{self, Front, REFUSED};
 use crate::kinds::{sources, Source, KINDS, SIZES};
@@ -10,31 +10,31 @@ use encoding_text::{ascii, mem, repair_to, utf_8};
 use std::slice::from_ref;
 use std::{process, str};
 
-/// How many interleaved passes there are, each a thousandth of a usual one: some of so many aren't disturbed.
+/// How many interleaved passes there are, each a thousandth of a usual one: with this many, some aren't disturbed.
 const PASSES: usize = 2000;
 
-/// Nanoseconds that a call may cost more than in C.
+/// How many nanoseconds a call may cost more than in C.
 const BOUND: f64 = 2.0;
 
-/// A front of so many elements as it is told in C.
+/// Returns a prefix as C returns it.
 fn told<T: Into<u16>>(found: Option<(T, usize)>, most: usize) -> Front {
     found.map_or(Front { length: most, other: 0 }, |(other, length)| Front { length, other: other.into() })
 }
 
-/// The source as a text, which rows on texts get alone.
+/// Returns the source as a text. Only rows on texts get one.
 fn text(source: &Source) -> &str {
     assert!(source.well_formed);
     // SAFETY: it is well-formed.
     unsafe { str::from_utf8_unchecked(&source.bytes) }
 }
 
-/// The destination as a text.
+/// Returns the destination as a text.
 fn into_text(bytes: &mut [u8]) -> &mut str {
-    // SAFETY: a room holds letters, and what the rows that write into it write and clear is text.
+    // SAFETY: destinations contain letters, and what the rows that write into a text write and clear is text.
     unsafe { str::from_utf8_unchecked_mut(bytes) }
 }
 
-/// Engines by the call of each: as in the table, the loop stands round the call itself.
+/// Defines engines by the call of each: as in the table, the loop is around the call itself.
 macro_rules! engines {
     ($(($name:literal, |$source:ident, $room:ident| $call:expr)),* $(,)?) => {
         &[$(($name, |sources, room, times| {
@@ -122,7 +122,7 @@ const RUST: &[Engine] = engines![
     }),
 ];
 
-/// Whether `repair_to` writes what `repair_slice` does.
+/// Returns whether `repair_to` writes what `repair_slice` does.
 fn repairs_alike(source: &Source) -> bool {
     let mut room = Room::of(source, "q");
     let repaired = ffi::encoding_text_repair_slice(&source.bytes, &mut room.bytes);
@@ -131,7 +131,7 @@ fn repairs_alike(source: &Source) -> bool {
     text == room.bytes[..repaired.written] && replaced == repaired.replaced
 }
 
-/// Both engines give the same on each kind of text.
+/// Asserts that both engines have the same results on each kind of text.
 fn compare(row: &Row, engine: &Engine) {
     for (kind, size) in KINDS.iter().flat_map(|kind| SIZES[..4].iter().map(move |size| (*kind, *size))) {
         for source in &sources(kind, size) {
@@ -148,7 +148,7 @@ fn compare(row: &Row, engine: &Engine) {
     }
 }
 
-/// Prints what each row costs in C and in Rust on sixteen letters, in nanoseconds; the status is 1 where one costs more
+/// Prints what each row costs in C and in Rust on sixteen letters, in nanoseconds. The status is 1 if one costs more
 /// than the bound more.
 pub fn calls() {
     let sources = &sources(KINDS[0], SIZES[0])[..1];

@@ -1,14 +1,14 @@
-//! simdutf's kernels, out of Debian's `libnode108`, which exports them: by their own symbols, so without the public
+//! simdutf's kernels, from Debian's `libnode108`, which exports them: by their own symbols, so without the public
 //! functions' choice of a kernel.
 
 use std::ffi::{c_char, c_int, c_void, CStr, CString};
 use std::sync::OnceLock;
 use std::{env, process};
 
-/// The library, where `bench/setup` has unpacked it.
+/// The library, at the path to which `bench/setup` has unpacked it.
 const LIBRARY: &str = concat!(env!("CARGO_MANIFEST_DIR"), "/.cargo/libnode108/usr/lib/x86_64-linux-gnu/libnode.so.108");
 
-/// What a call with errors says: no error is 0, and the count is where the error is, or how much was written.
+/// What a call with errors returns: no error is 0, and the count is the index of the error, or how much was written.
 #[repr(C)]
 pub struct Counted {
     pub error: c_int,
@@ -28,7 +28,7 @@ fn ends(why: &str) -> ! {
     process::exit(1);
 }
 
-/// The kernel whose vectors are as wide as those of ours, or the one that SIMDUTF names.
+/// Returns the kernel whose vectors are as wide as those of ours, or the one that SIMDUTF names.
 pub fn kernel() -> String {
     let has_avx2 = match crate::CPU {
         "x86-64-v3" => true,
@@ -41,7 +41,7 @@ pub fn kernel() -> String {
 /// What the calls take first. They read no member of it.
 static OBJECT: usize = 0;
 
-/// The address of a kernel's function: its arguments are named as compilers do.
+/// Returns the address of a kernel's function, whose arguments are given by their mangled types.
 fn address(function: &str, arguments: &str) -> *mut c_void {
     let name = CString::new(LIBRARY).unwrap();
     let library = unsafe { dlopen(name.as_ptr(), NOW) };
@@ -58,7 +58,7 @@ fn address(function: &str, arguments: &str) -> *mut c_void {
     found
 }
 
-/// Declares functions of one slice, or of a source and a destination with room enough, and wraps each over slices.
+/// Declares functions of one slice, or of a source and a destination that is long enough, and wraps each over slices.
 macro_rules! calls {
     (one { $($one:ident($kind:ty: $spelt:literal) -> $result:ty;)* }
      two { $($two:ident($from:ty, $to:ty: $names:literal) -> $counted:ty;)* }) => {

@@ -22,7 +22,7 @@ impl Room {
     }
 }
 
-/// The pieces of a source, the last one marked.
+/// Returns the pieces of a source, the last one marked.
 fn pieces(source: &Source) -> impl Iterator<Item = (&[u8], bool)> {
     let mut pieces = source.bytes.chunks(source.piece).peekable();
     std::iter::from_fn(move || {
@@ -101,7 +101,7 @@ pub fn crate_decode_to_utf8(source: &Source, room: &mut Room) {
     }
 }
 
-/// Cuts a slice into pieces of at most so many elements, none where `is_whole` says no of the elements on both sides.
+/// Cuts a slice into pieces of at most `length` elements, but not between elements for which `is_whole` returns false.
 fn whole_pieces<T: Copy>(all: &[T], length: usize, is_whole: fn(T, T) -> bool) -> impl Iterator<Item = &[T]> {
     let mut rest = all;
     std::iter::from_fn(move || {
@@ -116,7 +116,7 @@ fn whole_pieces<T: Copy>(all: &[T], length: usize, is_whole: fn(T, T) -> bool) -
     })
 }
 
-// The crate holds no surrogate between calls: both get pieces that don't cut a pair.
+// The crate keeps no surrogate between calls: both get pieces that don't cut a pair.
 fn pieces_of_units(source: &Source) -> impl Iterator<Item = &[u16]> {
     whole_pieces(&source.units, (source.piece / 2).max(2), |before, _| !(0xD800..0xDC00).contains(&before))
 }

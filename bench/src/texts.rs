@@ -16,7 +16,7 @@ const SCALARS: [u32; 40] = [
     0xFFFD, 0xFFFF, 0x10000, 0x107FF, 0x10800, 0x10FFF, 0x11000, 0x1E800, 0x1EFFF, 0x10FFFF,
 ];
 
-/// Code units at such edges, surrogates above all.
+/// Code units at such edges, mostly surrogates.
 const UNITS: [u16; 26] = [
     0x00, 0x41, 0x7F, 0x80, 0xFF, 0x100, 0x590, 0x7FF, 0x800, 0x8FF, 0x200F, 0x202B, 0xD7FF, 0xD800, 0xD802, 0xD803,
     0xD83A, 0xD83B, 0xDBFF, 0xDC00, 0xDFFF, 0xE000, 0xFB1D, 0xFEFE, 0xFFFD, 0xFFFF,
@@ -26,23 +26,23 @@ fn one_of<T: Copy>(items: &[T], random: &mut Random) -> T {
     items[random.below(items.len() as u32) as usize]
 }
 
-/// A place in a list of that length, its end too.
+/// Returns an index in a list of that length, its end included.
 fn place(length: usize, random: &mut Random) -> usize {
     random.below(length as u32 + 1) as usize
 }
 
-/// How long a text is to be: 0 to 300, and sometimes up to 5,000.
+/// Returns how long a text has to be: 0 to 300, and sometimes up to 5,000.
 fn length(random: &mut Random) -> usize {
     let most = if random.below(64) == 0 { 5_000 } else { 300 };
     place(most, random)
 }
 
-/// How many changes a text gets: none, one above all, or some.
+/// Returns how many changes a text gets: mostly one, none, or some.
 fn changes(random: &mut Random) -> usize {
     [0, 1, 1, 1, 2, 3, 8][random.below(7) as usize]
 }
 
-/// A source: a text, its code units damaged by themselves, and its bytes as Latin1.
+/// Returns a source: a text, its code units damaged separately, and its bytes as Latin1.
 pub fn source(random: &mut Random) -> Source {
     let length = length(random);
     let bytes = if random.below(3) == 0 { whole(length, random) } else { damaged(length, random) };
@@ -59,7 +59,7 @@ pub fn source(random: &mut Random) -> Source {
     source
 }
 
-/// A well-formed text: one of a kind, or characters at random, with some more put in anywhere.
+/// Returns a well-formed text: one of a kind, or characters at random, with some more inserted anywhere.
 fn whole(length: usize, random: &mut Random) -> Vec<u8> {
     let mut characters: Vec<char> = match random.below(2) {
         0 => text(one_of(&KINDS, random), length, random).chars().collect(),
@@ -71,7 +71,7 @@ fn whole(length: usize, random: &mut Random) -> Vec<u8> {
     characters.iter().collect::<String>().into_bytes()
 }
 
-/// A text joined from others and changed anywhere.
+/// Returns a text joined from others and changed anywhere.
 fn damaged(length: usize, random: &mut Random) -> Vec<u8> {
     let mut bytes = plain(length, random);
     if random.below(4) == 0 {
@@ -83,7 +83,7 @@ fn damaged(length: usize, random: &mut Random) -> Vec<u8> {
     bytes
 }
 
-/// A text of a kind, or bytes or sequences at random.
+/// Returns a text of a kind, or bytes or sequences at random.
 fn plain(length: usize, random: &mut Random) -> Vec<u8> {
     match random.below(8) {
         0 => (0..length).map(|_| random.below(256) as u8).collect(),
@@ -93,7 +93,7 @@ fn plain(length: usize, random: &mut Random) -> Vec<u8> {
     }
 }
 
-/// Runs of letters, characters at edges and of any kind, cut ones and edge bytes, joined.
+/// Returns runs of letters, characters at edges and of any kind, cut ones and edge bytes, joined.
 fn sequences(length: usize, random: &mut Random) -> Vec<u8> {
     let mut bytes = Vec::new();
     while bytes.len() < length {
@@ -110,7 +110,7 @@ fn sequences(length: usize, random: &mut Random) -> Vec<u8> {
     bytes
 }
 
-/// A character near an edge, or any below a random bound.
+/// Returns a character near an edge, or any below a random bound.
 fn character(random: &mut Random) -> char {
     let scalar = match random.below(2) {
         0 => one_of(&SCALARS, random).wrapping_add(random.below(3)).wrapping_sub(1),
@@ -122,7 +122,7 @@ fn character(random: &mut Random) -> char {
     char::from_u32(scalar).unwrap_or('\u{FFFD}')
 }
 
-/// Joins a front of the text and the rest of another.
+/// Joins a prefix of the text and the rest of another.
 fn join(bytes: &mut Vec<u8>, length: usize, random: &mut Random) {
     bytes.truncate(place(bytes.len(), random));
     let other = plain(length, random);
