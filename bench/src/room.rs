@@ -46,7 +46,7 @@ impl Room {
         &mut self.units[..length]
     }
 
-    /// Returns the destination of a call into a text. It is no longer than `length`, since all of it is validated first.
+    /// Returns the destination of a call into a text: at most `length` bytes, since all of it is validated first.
     pub fn text(&mut self, length: usize) -> &mut [u8] {
         let length = length.min(self.limit).min(self.bytes.len());
         &mut self.bytes[..length]

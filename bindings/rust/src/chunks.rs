@@ -55,7 +55,7 @@ pub struct Utf8Chunks<'a> {
 /// method `utf8_chunks` of byte slices in `std` does.
 ///
 /// Each stretch and the malformed sequence after it are found by a call that is [proved](crate::promises#broken-parts).
-/// The crate starts the next chunk at its end.
+/// The crate starts the next chunk after them.
 ///
 /// ```
 /// let chunks: Vec<_> = encoding_text::utf8_chunks(b"a\xE2\x98Z").map(|chunk| (chunk.valid(), chunk.invalid())).collect();

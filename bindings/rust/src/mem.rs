@@ -6,7 +6,7 @@
 //! are in elements: bytes for `u8` and `str`, code units for `u16`.
 //!
 //! The calls are those of the library, each with its [promise](crate::promises#mem). The crate adds checks of lengths,
-//! which panic before anything is written, and whatever else a call names. Past what is written, a destination is
+//! which panic before anything is written, and what else a call names. Past what is written, a destination is
 //! unchanged, except in the calls into a `str`, which say what they clear.
 
 mod bidi;

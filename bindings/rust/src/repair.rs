@@ -73,7 +73,7 @@ impl<W: Write + ?Sized> Together<'_, W> {
 ///
 /// # Errors
 ///
-/// Those of the sink's `write_all`. In that case a proper prefix of the text was written.
+/// Returns the errors of the sink's `write_all`. A proper prefix of the text has been written then.
 ///
 /// ```
 /// let mut text = Vec::new();

@@ -234,9 +234,9 @@ reader! {
     /// is asked only if there is no character to return, and not again after it returned no byte. Its errors, even an
     /// interruption, are passed on, and nothing is lost. Requires the feature `std`.
     ///
-    /// Each call of the decoder is [proved](crate::promises#streams), and so is that such calls, in any pieces and
-    /// rooms, yield the text of the whole. The loop around them, the block of bytes and the characters that wait are
-    /// the crate's.
+    /// Each call of the decoder is [proved](crate::promises#streams), and also that such calls yield the text of the
+    /// whole, in any pieces and rooms. The loop around them, the block of bytes and the characters that wait are the
+    /// crate's.
     ///
     /// ```
     /// use std::io::Read;
@@ -263,9 +263,9 @@ reader! {
     /// inner reader is asked only if there is no character to return, and not again after it returned no byte. Its
     /// errors, even an interruption, are passed on, and nothing is lost. Requires the feature `std`.
     ///
-    /// Each call of the decoder is [proved](crate::promises#streams), and so is that such calls, in any pieces and
-    /// rooms, yield the text of the whole. The loop around them, the block of bytes and the characters that wait are
-    /// the crate's.
+    /// Each call of the decoder is [proved](crate::promises#streams), and also that such calls yield the text of the
+    /// whole, in any pieces and rooms. The loop around them, the block of bytes and the characters that wait are the
+    /// crate's.
     ///
     /// ```
     /// let mut reader = encoding_text::DecodeUtf16::new(&b"a\xF0\x9F\x98\x80\xFF"[..]);
@@ -284,7 +284,7 @@ impl<R: Read> DecodeUtf16<R> {
     ///
     /// # Errors
     ///
-    /// Those of the inner reader. In that case nothing was written.
+    /// Returns the errors of the inner reader. Nothing has been written then.
     #[inline]
     pub fn read(&mut self, buffer: &mut [u16]) -> io::Result<usize> {
         self.decoding.read(buffer)

@@ -48,7 +48,7 @@ pub fn convert_utf16_to_utf8_partial_inner(src: &[u16], dst: &mut [u8]) -> (usiz
 ///
 /// # Panics
 ///
-/// If `src` is empty, or `dst` has more than three bytes.
+/// Panics if `src` is empty, or `dst` has more than three bytes.
 #[inline]
 pub fn convert_utf16_to_utf8_partial_tail(src: &[u16], dst: &mut [u8]) -> (usize, usize) {
     assert!(!src.is_empty(), "the source is empty");

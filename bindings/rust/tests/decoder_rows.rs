@@ -121,8 +121,8 @@ fn held(rows: &str) -> usize {
     rows.lines().count()
 }
 
-/// Calls: source, `room`, mark, result, bytes read, code units written. If bytes stay pending, the next calls show which.
-/// A byte order mark is decoded like any other character. 6148914691236517205 is a third of `MAX`.
+/// Calls: source, `room`, mark, result, bytes read, code units written. If bytes stay pending, the next calls show
+/// which. A byte order mark is decoded like any other character. 6148914691236517205 is a third of `MAX`.
 const ROWS: &str = "\
 new
 utf16 | C3 A4 61 | 1 | more | OutputFull | 2 | 00E4

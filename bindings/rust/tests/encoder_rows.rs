@@ -1,4 +1,5 @@
-//! The encoder on its vectors, into destinations about as long as their UTF-8, and with and without a pending surrogate.
+//! The encoder on its vectors, into destinations about as long as their UTF-8, and with and without a pending
+//! surrogate.
 mod common;
 #[path = "common/runs.rs"]
 mod runs;
@@ -184,8 +185,8 @@ fn empty_text() {
     assert_text("no text", "none", "", 0, &wanted);
 }
 
-/// Code units: pending before, source, `room`, mark, result, units read, bytes written, pending after. Texts, with either
-/// mark: pending before, text, `room`, result, bytes read, bytes written, pending after.
+/// Code units: pending before, source, `room`, mark, result, units read, bytes written, pending after. Texts, with
+/// either mark: pending before, text, `room`, result, bytes read, bytes written, pending after.
 const ROWS: &str = "\
 units | none | 0063 D83D DCA9 | 4 | more | OutputFull | 1 | 63 | none
 units | none | 0063 D83D DCA9 | 4 | last | OutputFull | 1 | 63 | none

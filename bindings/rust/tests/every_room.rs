@@ -88,8 +88,8 @@ fn next_place(turn: &mut usize, room: usize) -> Place {
     }
 }
 
-/// Asserts that a call returns this result and writes this into the destination, and nothing around it. The two units are
-/// before and after the source.
+/// Asserts that a call returns this result and writes this into the destination, and nothing around it. The two units
+/// are before and after the source.
 fn assert_call<S: Unit, D: Unit, A: PartialEq + Debug>(
     (src, round): (&[S], [S; 2]),
     place: Place,

@@ -17,8 +17,8 @@ fn longest_front(letters: usize, size: usize, length: usize, room: usize) -> (us
     (written - more, written)
 }
 
-/// Asserts that as much is read and written as fits into a destination of each length, up to a number of bytes for each unit, and that
-/// `q` stays after it. A unit that has this length in UTF-8 is after letters and before forty letters.
+/// Asserts that as much is read and written as fits into a destination of each length, up to a number of bytes for each
+/// unit, and that `q` stays after it. A unit that has this length in UTF-8 is after letters and before forty letters.
 fn assert_tails_stay<S: Copy + Debug + From<u8>>(
     (unit, size): (S, usize),
     bytes_each: usize,

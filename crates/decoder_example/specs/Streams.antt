@@ -11,8 +11,8 @@ use Rattle.decoder_example.specs.declared.CoderResult.{CoderResult}
 use Rattle.decoder_example.specs.Marked.{State}
 use Rattle.decoder_example.specs.Calls.{IsReplacingCall}
 
--- one of them: the most unread bytes that it takes, whether it is marked last, what ends it, how many bytes it reads,
--- what it writes, whether that has U+FFFD for any, and what is kept after it
+-- one of them: the most unread bytes that it takes, and whether it is marked last; what ends it, how many bytes it
+-- reads, what it writes, whether that has U+FFFD for any, and what is kept after it
 pub record Made (A : Type 0) : Type 0 where
   pub piece : ℕ
   pub last : Bool

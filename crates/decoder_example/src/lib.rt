@@ -96,8 +96,8 @@ fn put<U: Copy>(dst: &mut [U], units: &[U])
     dst[..units.len()].copy_from_slice(units);
 }
 
-/// Makes one call, and writes U+FFFD for the malformed sequence that it reports. Returns why the call ended, or `None` after
-/// a report, the number of bytes read and the number of code units written.
+/// Makes one call, and writes U+FFFD for the malformed sequence that it reports. Returns why the call ended, or `None`
+/// after a report, the number of bytes read and the number of code units written.
 fn decode_part<U: CodeUnit>(
     decoder: &mut Utf8Decoder,
     src: &[u8],

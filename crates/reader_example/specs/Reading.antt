@@ -23,7 +23,7 @@ text_left remaining r = text_from r.held r.decoder r.block (remaining r.inner)
 abbrev pub held_of : {R : Type 0} → Utf8Reader R → List ℕ
 held_of r = r.held
 
--- The same in UTF-16, of which a reader keeps the second half of a pair.
+-- The same in UTF-16: a reader keeps the second half of a pair.
 abbrev pub units_from : List ℕ → Option (List ℕ) → Option (List ℕ)
 units_from held text = option_map (λ bytes. held ++ flat_map encode_utf16 (chars bytes)) text
 

@@ -3,7 +3,7 @@
 
 use crate::c;
 
-/// The smallest of three classes that contains a buffer.
+/// The result of the checks for Latin1 and right-to-left characters.
 #[must_use]
 #[derive(Clone, Copy, Debug, PartialEq, Eq, Hash)]
 #[repr(C)]

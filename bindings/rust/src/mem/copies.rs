@@ -9,7 +9,7 @@ use crate::c;
 ///
 /// # Panics
 ///
-/// If `dst` is shorter than `src`.
+/// Panics if `dst` is shorter than `src`.
 #[inline]
 pub fn copy_ascii_to_ascii(src: &[u8], dst: &mut [u8]) -> usize {
     assert_as_long(src, dst);
@@ -22,7 +22,7 @@ pub fn copy_ascii_to_ascii(src: &[u8], dst: &mut [u8]) -> usize {
 ///
 /// # Panics
 ///
-/// If `dst` has fewer code units than `src` has bytes.
+/// Panics if `dst` has fewer code units than `src` has bytes.
 #[inline]
 pub fn copy_ascii_to_basic_latin(src: &[u8], dst: &mut [u16]) -> usize {
     assert_as_long(src, dst);
@@ -35,7 +35,7 @@ pub fn copy_ascii_to_basic_latin(src: &[u8], dst: &mut [u16]) -> usize {
 ///
 /// # Panics
 ///
-/// If `dst` has fewer bytes than `src` has code units.
+/// Panics if `dst` has fewer bytes than `src` has code units.
 #[inline]
 pub fn copy_basic_latin_to_ascii(src: &[u16], dst: &mut [u8]) -> usize {
     assert_as_long(src, dst);

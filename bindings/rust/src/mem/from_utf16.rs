@@ -18,7 +18,7 @@ pub fn convert_utf16_to_utf8_partial(src: &[u16], dst: &mut [u8]) -> (usize, usi
 ///
 /// # Panics
 ///
-/// If `dst` has fewer than three bytes for each code unit of `src`.
+/// Panics if `dst` has fewer than three bytes for each code unit of `src`.
 #[inline]
 pub fn convert_utf16_to_utf8(src: &[u16], dst: &mut [u8]) -> usize {
     assert_room(src.len(), 3, dst.len());
@@ -46,7 +46,7 @@ pub fn convert_utf16_to_str_partial(src: &[u16], dst: &mut str) -> (usize, usize
 ///
 /// # Panics
 ///
-/// If `dst` has fewer than three bytes for each code unit of `src`.
+/// Panics if `dst` has fewer than three bytes for each code unit of `src`.
 #[inline]
 pub fn convert_utf16_to_str(src: &[u16], dst: &mut str) -> usize {
     assert_room(src.len(), 3, dst.len());

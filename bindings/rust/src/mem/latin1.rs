@@ -18,7 +18,7 @@ pub fn convert_latin1_to_utf8_partial(src: &[u8], dst: &mut [u8]) -> (usize, usi
 ///
 /// # Panics
 ///
-/// If `dst` has fewer than two bytes for each byte of `src`.
+/// Panics if `dst` has fewer than two bytes for each byte of `src`.
 #[inline]
 pub fn convert_latin1_to_utf8(src: &[u8], dst: &mut [u8]) -> usize {
     assert_room(src.len(), 2, dst.len());
@@ -42,7 +42,7 @@ pub fn convert_latin1_to_str_partial(src: &[u8], dst: &mut str) -> (usize, usize
 ///
 /// # Panics
 ///
-/// If `dst` has fewer than two bytes for each byte of `src`.
+/// Panics if `dst` has fewer than two bytes for each byte of `src`.
 #[inline]
 pub fn convert_latin1_to_str(src: &[u8], dst: &mut str) -> usize {
     assert_room(src.len(), 2, dst.len());
@@ -65,8 +65,8 @@ pub(super) fn refuse_beyond_latin1(up_to: usize) {
 ///
 /// # Panics
 ///
-/// If `dst` is shorter than `src`. If `src` isn't the UTF-8 of characters up to U+00FF, and debug assertions are
-/// enabled for this crate and `cfg(fuzzing)` isn't.
+/// Panics if `dst` is shorter than `src`. If debug assertions are enabled for this crate and `cfg(fuzzing)` isn't, panics
+/// also if `src` isn't the UTF-8 of characters up to U+00FF.
 ///
 /// ```
 /// let mut bytes = [0; 3];
@@ -91,7 +91,7 @@ pub fn convert_utf8_to_latin1_lossy(src: &[u8], dst: &mut [u8]) -> usize {
 ///
 /// # Panics
 ///
-/// If `dst` has fewer bytes than `src` has code units.
+/// Panics if `dst` has fewer bytes than `src` has code units.
 #[inline]
 pub fn convert_utf16_to_latin1_lossy(src: &[u16], dst: &mut [u8]) {
     assert_as_long(src, dst);

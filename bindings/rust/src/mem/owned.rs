@@ -31,7 +31,7 @@ pub fn decode_latin1(bytes: &[u8]) -> Cow<'_, str> {
 ///
 /// # Panics
 ///
-/// If a character is above U+00FF, and debug assertions are enabled for this crate and `cfg(fuzzing)` isn't.
+/// If debug assertions are enabled for this crate and `cfg(fuzzing)` isn't, panics if a character is above U+00FF.
 ///
 /// ```
 /// use encoding_text::mem::encode_latin1_lossy;

@@ -10,7 +10,7 @@ use crate::c;
 ///
 /// # Panics
 ///
-/// If `dst` doesn't have at least one code unit more than `src` has bytes.
+/// Panics if `dst` doesn't have at least one code unit more than `src` has bytes.
 ///
 /// ```
 /// let mut units = [0; 6];
@@ -34,7 +34,7 @@ pub fn convert_utf8_to_utf16(src: &[u8], dst: &mut [u16]) -> usize {
 ///
 /// # Panics
 ///
-/// If `dst` has fewer code units than `src` has bytes.
+/// Panics if `dst` has fewer code units than `src` has bytes.
 #[inline]
 pub fn convert_str_to_utf16(src: &str, dst: &mut [u16]) -> usize {
     assert_as_long(src.as_bytes(), dst);
@@ -48,7 +48,7 @@ pub fn convert_str_to_utf16(src: &str, dst: &mut [u16]) -> usize {
 ///
 /// # Panics
 ///
-/// If `dst` has fewer code units than `src` has bytes.
+/// Panics if `dst` has fewer code units than `src` has bytes.
 #[inline]
 pub fn convert_utf8_to_utf16_without_replacement(src: &[u8], dst: &mut [u16]) -> Option<usize> {
     assert_as_long(src, dst);
@@ -62,7 +62,7 @@ pub fn convert_utf8_to_utf16_without_replacement(src: &[u8], dst: &mut [u16]) ->
 ///
 /// # Panics
 ///
-/// If `dst` has fewer code units than `src` has bytes.
+/// Panics if `dst` has fewer code units than `src` has bytes.
 #[inline]
 pub fn convert_latin1_to_utf16(src: &[u8], dst: &mut [u16]) {
     assert_as_long(src, dst);

@@ -18,7 +18,7 @@ pub static UTF8_DATA: Utf8Data = Utf8Data { table: entries() };
 const NEVER: u8 = 0x04;
 /// Any continuation byte may follow.
 const ANY: u8 = 0x08;
-/// These and the next: first bytes that fewer bytes may follow.
+/// This and the next three: first bytes that only some continuation bytes may follow.
 const E0: u8 = 0x10;
 const ED: u8 = 0x20;
 const F0: u8 = 0x40;
