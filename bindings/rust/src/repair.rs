@@ -11,9 +11,9 @@ use alloc::borrow::Cow;
 /// Converts bytes to text, with U+FFFD for each malformed sequence: borrowed if and only if all are well-formed. The
 /// result is that of `String::from_utf8_lossy`.
 ///
-/// The text is [proved](crate::promises#repair) by the two calls made, one for the longest well-formed prefix and one
-/// for the rest; the crate joins them. An owned result takes one allocation, of three times the length of the rest, and
-/// releases what it doesn't need. Requires the feature `alloc`.
+/// Both calls that it makes, one for the longest well-formed prefix and one for the rest, are
+/// [proved](crate::promises#repair); the crate joins their results. An owned result takes one allocation, of the length
+/// of the prefix plus three times that of the rest, and releases what it doesn't need. Requires the feature `alloc`.
 ///
 /// ```
 /// use std::borrow::Cow;

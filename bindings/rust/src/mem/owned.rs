@@ -7,8 +7,8 @@ use alloc::borrow::Cow;
 
 /// Returns the text whose characters are the bytes: borrowed if they are ASCII, else owned, with one allocation.
 ///
-/// The text is [proved](crate::promises#mem) by the two calls made, one for the ASCII prefix and one for the rest; the
-/// crate joins them. Requires the feature `alloc`.
+/// Both calls that it makes, one for the ASCII prefix and one for the rest, are [proved](crate::promises#mem); the crate
+/// joins their results. Requires the feature `alloc`.
 ///
 /// ```
 /// use encoding_text::mem::decode_latin1;
@@ -25,9 +25,9 @@ pub fn decode_latin1(bytes: &[u8]) -> Cow<'_, str> {
 
 /// Returns the characters of a text of Latin1 as bytes: borrowed if they are ASCII, else owned, with one allocation.
 ///
-/// The bytes are [proved](crate::promises#mem) by the two calls made, one for the ASCII prefix and one for the rest;
-/// the crate joins them. It also decides about a text that is not Latin1: without debug assertions only its longest
-/// prefix of Latin1 is converted. Requires the feature `alloc`.
+/// Both calls that it makes, one for the ASCII prefix and one for the rest, are [proved](crate::promises#mem); the crate
+/// joins their results. It also decides about a text that is not Latin1: without debug assertions only its longest prefix
+/// of Latin1 is converted. Requires the feature `alloc`.
 ///
 /// # Panics
 ///

@@ -14,7 +14,7 @@ pub struct Utf8Data {
 /// They are tested against well-formedness, and not proved: the library has a table of its own.
 pub static UTF8_DATA: Utf8Data = Utf8Data { table: entries() };
 
-/// Not the first byte of a sequence.
+/// Not the first byte of a sequence of several bytes.
 const NEVER: u8 = 0x04;
 /// Any continuation byte may follow.
 const ANY: u8 = 0x08;
