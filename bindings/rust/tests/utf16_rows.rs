@@ -124,7 +124,7 @@ DCA9 0061 0061 0061 0061 | EF BF BD 61 61 61 61
 D83D DCA9 0076 2603 0077 00B6 0078 0079 007A 007A | \
 61 62 63 64 65 66 67 68 69 6A 6B 6C 6D 6E 6F 70 71 72 73 74 75 F0 9F 92 A9 76 E2 98 83 77 C2 B6 78 79 7A 7A";
 
-/// Returns whether the first `read` units are whole characters, and the first `written` bytes their UTF-8.
+/// Returns whether the first `read` units are whole characters, whose UTF-8 has `written` bytes.
 fn is_front(units: &[u16], read: usize, written: usize) -> bool {
     let (mut end, mut length) = (0, 0);
     for (units, character) in characters(units) {

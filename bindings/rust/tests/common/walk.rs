@@ -133,9 +133,9 @@ impl<S: Unit, D: Unit> Text<S, D> {
             && left == &self.unwritten[..left.len()]
     }
 
-    /// Returns whether the call from one offset to another reads and writes exactly the expected units, and how many
-    /// these are. Each call on a text is from a greater offset than the one before, so that none of its copies follows
-    /// the source.
+    /// Returns whether the call from one offset to another reads and writes exactly the expected units and returns their
+    /// numbers. Each call on a text is from a greater offset than the one before, so that no rest of an earlier copy
+    /// follows the source.
     fn converts(
         &mut self,
         from: usize,
