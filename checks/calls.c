@@ -1,7 +1,7 @@
 /*
- * Calls every function of encoding_text.h on its happy path and on each refused condition at its bounds, and compares
- * each result and the whole memory round each destination. It is C99 and C++17. It prints each miss, and ends with a
- * line `N passed, M failed`.
+ * Calls every function of encoding_text.h with its preconditions met, and with each one violated at its bounds.
+ * Compares each result, and the memory in and around each destination. C99 and C++17. Prints each failure; the last
+ * line is `N passed, M failed`.
  */
 #include "check.h"
 #include "empty.h"
@@ -201,7 +201,7 @@ static void lengths(void)
     /* a, U+20AC, U+1F4A9, a truncated sequence of three bytes, an overlong form of two, a surrogate of three */
     const uint8_t bytes[] = {0x61, 0xE2, 0x82, 0xAC, 0xF0, 0x9F, 0x92, 0xA9, 0xF0, 0x9F, 0x92, 0xC0, 0x80, 0xED, 0xA0,
                              0x80};
-    /* a, U+00E4, U+20AC, a pair, two lone surrogates */
+    /* a, U+00E4, U+20AC, a pair, two unpaired surrogates */
     const uint16_t units[] = {0x61, 0xE4, 0x20AC, 0xD83D, 0xDCA9, 0xDCA9, 0xD83D};
 
     CHECK(encoding_text_mem_utf16_length_from_utf8(ALL(bytes)) == 10);
@@ -290,7 +290,7 @@ static void utf16_into_texts(void)
     CHECK(bytes_are(BYTES("\xE2\x98\x83\0")));
 }
 
-/* Sixteen bytes behind the two that are written become zero, and then the two that are left of U+2603. */
+/* The sixteen bytes after the two that are written become zero, and then the two that are left of U+2603. */
 #define CLEARED "\xC3\xA4\0\0\0\0\0\0\0\0\0\0\0\0\0\0\0\0\0\0"
 
 static void latin1_into_texts(void)
@@ -340,7 +340,7 @@ static void repair(void)
 
 static void repair_by_blocks(void)
 {
-    /* a and the beginning of U+1F4A9; the rest of it is missing, a byte that begins nothing, b, a cut sequence of three */
+    /* a, U+1F4A9 without its fourth byte, a byte that begins nothing, b, a truncated sequence of three */
     const uint8_t first[] = {0x61, 0xF0, 0x9F};
     const uint8_t second[] = {0x92, 0xFF, 0x62, 0xE2, 0x98};
     encoding_text_utf8_decoder decoder;

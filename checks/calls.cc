@@ -1,4 +1,4 @@
-// The same calls from C++, and with vectors that have no elements: what data() gives may be NULL.
+// The same calls from C++, and with empty vectors, whose data() may return NULL.
 #include <vector>
 
 #include "calls.c"

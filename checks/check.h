@@ -1,6 +1,5 @@
 /*
- * How the checks of the C library count, and how they look at a result and at the whole memory round a destination. C99 and
- * C++17.
+ * Counts the checks of the C library, and compares results and the memory in and around a destination. C99 and C++17.
  */
 #ifndef CHECK_H
 #define CHECK_H
@@ -26,19 +25,19 @@ static void check(bool holds, const char *what, const char *file, int line)
 
 #define CHECK(condition) check(condition, #condition, __FILE__, __LINE__)
 
-/* An array and its length; the bytes of a string and how many they are. */
+/* An array and its length; the bytes of a string and their number. */
 #define ALL(array) (array), sizeof(array) / sizeof((array)[0])
 #define BYTES(string) (string), sizeof(string) - 1
 
-/* The two destinations lie between other memory, which no call may change. */
+/* Each destination is surrounded by memory that no call may change. */
 #define BEFORE 16
 #define ROOM 64
 #define BEHIND 16
 static uint8_t byte_memory[BEFORE + ROOM + BEHIND];
 static uint16_t unit_memory[BEFORE + ROOM + BEHIND];
 
-/* What stands at a place until a call writes there: ASCII, so that a destination of bytes is well-formed, and at no two
- * places near one another the same. */
+/* The element at an index before a call. A byte is ASCII, so that a destination of bytes is well-formed. Elements near
+ * one another differ. */
 static uint8_t byte_before(size_t place)
 {
     return (uint8_t)('A' + place % 26);
@@ -49,7 +48,7 @@ static uint16_t unit_before(size_t place)
     return (uint16_t)(0x4100 + place);
 }
 
-/* The destinations as they are before a call. */
+/* The destinations with their contents before a call. */
 static uint8_t *fresh_bytes(void)
 {
     for (size_t i = 0; i < sizeof byte_memory; i++) {
@@ -66,7 +65,7 @@ static uint16_t *fresh_units(void)
     return unit_memory + BEFORE;
 }
 
-/* The destination with these bytes at that place. */
+/* The destination with these bytes at that index. */
 static uint8_t *bytes_with(size_t place, const char *bytes, size_t length)
 {
     uint8_t *destination = fresh_bytes();
@@ -74,7 +73,7 @@ static uint8_t *bytes_with(size_t place, const char *bytes, size_t length)
     return destination;
 }
 
-/* Whether these bytes stand at that place of the destination, and all round them is as it was. */
+/* Whether the destination has these bytes at that index, and all bytes around them are unchanged. */
 static bool bytes_stand(size_t place, const char *wanted, size_t length)
 {
     size_t begin = BEFORE + place;
@@ -87,13 +86,13 @@ static bool bytes_stand(size_t place, const char *wanted, size_t length)
     return true;
 }
 
-/* Whether these bytes begin the destination, and all round them is as it was. */
+/* Whether the destination begins with these bytes, and all bytes around them are unchanged. */
 static bool bytes_are(const char *wanted, size_t length)
 {
     return bytes_stand(0, wanted, length);
 }
 
-/* Whether so many code units begin the destination, and all round them is as it was. */
+/* Whether the destination begins with these `length` code units, and all around them are unchanged. */
 static bool units_are(size_t length, ...)
 {
     va_list wanted;

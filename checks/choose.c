@@ -1,21 +1,20 @@
 /*
- * Binds each function of encoding_text.h to one of two builds, that for x86-64-v2 or that for x86-64-v3, when a program
- * starts or loads the library. No proof covers this file; checks/join compiles it into the library.
+ * Binds each function of encoding_text.h to its build for x86-64-v2 or for x86-64-v3, by an indirect function (IFUNC),
+ * when a program starts or loads the library. No proof covers this file; checks/join compiles it into the library.
  *
- * What runs here runs before the program and before the C library is ready: so it calls nothing, takes no stack
- * protector, and reads nothing that a relocation could still have to write, but for two addresses that are NULL until
- * then.
+ * These resolvers run before the program and before the C library is ready. So they call nothing, have no stack
+ * protector, and read nothing that a relocation may still have to write, except two addresses that are NULL until then.
  */
 #include <cpuid.h>
 #include <stddef.h>
 
 typedef void function(void);
 
-/* The environment: of a static program from its start, of another once the C library is ready. */
+/* The environment: in a static program from its start, in a dynamic one once the C library is ready. */
 extern char **environ __attribute__((weak));
 
-/* Where the kernel put the number of arguments of a program that the dynamic linker started: behind it stand the
- * arguments, NULL, and the environment. */
+/* The address at which the kernel put the number of arguments of a dynamically linked program. The arguments, NULL and
+ * the environment follow it. */
 extern void *__libc_stack_end __attribute__((weak));
 
 static char **environment(void)
@@ -30,7 +29,7 @@ static char **environment(void)
     return NULL;
 }
 
-/* Whether ENCODING_TEXT_CPU asks for the build that each processor runs. */
+/* Whether ENCODING_TEXT_CPU asks for the build for x86-64-v2. */
 static int asks_for_v2(void)
 {
     static const char wanted[] = "ENCODING_TEXT_CPU=x86-64-v2";
@@ -48,7 +47,7 @@ static int asks_for_v2(void)
     return 0;
 }
 
-/* Whether the processor has what x86-64-v3 adds (psABI, table 3.1), and the system keeps the registers of AVX. */
+/* Whether the processor has what x86-64-v3 adds (psABI, table 3.1), and the system saves the AVX registers. */
 static int runs_v3(void)
 {
     const unsigned leaf_1 = bit_FMA | bit_MOVBE | bit_OSXSAVE | bit_AVX | bit_F16C;
@@ -75,10 +74,10 @@ static int runs_v3(void)
     return (c & bit_LZCNT) != 0;
 }
 
-/* The same answer at each call; the processor is asked at the first. */
+/* Returns the same at each call; only the first one queries the processor. */
 static int takes_v3(void)
 {
-    static int answer; /* 0 until asked, then 2 or 3 */
+    static int answer; /* 0 until the first call, then 2 or 3 */
     int known = __atomic_load_n(&answer, __ATOMIC_RELAXED);
 
     if (known == 0) {

@@ -1,6 +1,6 @@
 /*
- * Prints the place of each function in the file that it was found in, as nm prints it: chosen LIBRARY NAME.. looks into a
- * shared library, and chosen '' NAME.. into the program itself.
+ * Prints the address of each function within its file, in the format of nm. `chosen LIBRARY NAME..` looks the names up
+ * in a shared library, `chosen '' NAME..` in the program itself.
  */
 #define _GNU_SOURCE
 #include <dlfcn.h>

@@ -1,6 +1,5 @@
 /*
- * Each function over buffers without elements, whose pointers may be NULL: the source, the destination, or both. C99 and
- * C++17.
+ * Calls each function with an empty source, an empty destination, or both, whose pointers may be NULL. C99 and C++17.
  */
 #ifndef EMPTY_H
 #define EMPTY_H
@@ -31,7 +30,7 @@ static void checks_of_no_elements(const uint8_t *bytes, const uint16_t *units)
     CHECK(encoding_text_mem_check_str_for_latin1_and_bidi_unchecked(bytes, 0) == ENCODING_TEXT_LATIN1);
 }
 
-/* Into a destination of so many elements, which may be none too. */
+/* With a destination of `room` elements, which may be 0. */
 static void sources_of_no_elements(const uint8_t *bytes, const uint16_t *units, uint8_t *to_bytes, uint16_t *to_units,
                                    size_t room)
 {
@@ -96,7 +95,7 @@ static void destinations_of_no_elements(uint8_t *to_bytes, uint16_t *to_units)
     CHECK(repaired_is(encoding_text_repair_slice(ALL(bytes), to_bytes, 0), ENCODING_TEXT_REFUSED, 0));
 }
 
-/* The Latin1 calls into a text clear the whole of a short destination. */
+/* The Latin1 calls into a text clear all of a short destination. */
 static void texts_of_no_elements(const uint8_t *bytes, uint8_t *to_bytes)
 {
     CHECK(counts_are(encoding_text_mem_convert_latin1_to_str_partial(bytes, 0, to_bytes, 0), 0, 0));

@@ -1,12 +1,12 @@
 /*
- * Runs of the decoder and of the encoder: what they come to doesn't depend on the turns. C99 and C++17.
+ * Runs of the decoder and of the encoder, whose results don't depend on the turns. C99 and C++17.
  */
 #ifndef RUNS_H
 #define RUNS_H
 
 #include "streaming.h"
 
-/* Places for reports, and turns that are each alike. */
+/* An array for reports, and one of equal turns. */
 #define MOST_TURNS 24
 static encoding_text_report report_memory[MOST_TURNS];
 static encoding_text_turn turn_memory[MOST_TURNS];
@@ -20,7 +20,7 @@ static encoding_text_report *fresh_reports(void)
     return report_memory;
 }
 
-/* Whether these are the first reports, by their places and then lengths, and the places behind are as they were. */
+/* Whether these are the first reports, each a place and a length, and the elements after them are unchanged. */
 static bool reports_are(size_t count, ...)
 {
     va_list wanted;
@@ -101,7 +101,7 @@ static void runs_that_go_on(void)
 
 static void runs_from_utf16(void)
 {
-    /* a, U+1F4A9, a lone low surrogate, b, a lone high one */
+    /* a, U+1F4A9, an unpaired low surrogate, b, an unpaired high one */
     const uint16_t units[] = {0x61, 0xD83D, 0xDCA9, 0xDCA9, 0x62, 0xD83D};
     const encoding_text_turn turns[] = {{1, 9, false}, {1, 9, false}, {9, 0, true}};
     encoding_text_utf8_encoder encoder;

@@ -1,5 +1,5 @@
 /*
- * Calls of the streaming decoder and encoder, and how their states lie in the caller's storage. C99 and C++17.
+ * Calls of the streaming decoder and encoder, and the layout of their states in the caller's storage. C99 and C++17.
  */
 #ifndef STREAMING_H
 #define STREAMING_H
@@ -27,7 +27,7 @@ static encoding_text_utf8_decoder decoder_with(uint8_t first, uint8_t second, ui
     return decoder;
 }
 
-/* Whether these bytes are pending. Where some are, both fields of the storage tell it. */
+/* Whether these bytes are pending. If there are any, both fields of the storage have to show them. */
 static bool pending_are(const encoding_text_utf8_decoder *decoder, const char *wanted, size_t length)
 {
     if (encoding_text_utf8_decoder_in_neutral_state(decoder)) {
@@ -36,7 +36,7 @@ static bool pending_are(const encoding_text_utf8_decoder *decoder, const char *w
     return decoder->count == length && memcmp(decoder->pending, wanted, length) == 0;
 }
 
-/* Whether the storage is taken for a new decoder: a character is decoded as if nothing came before it. */
+/* Whether the storage acts as a new decoder: a character is decoded as if nothing came before it. */
 static bool is_new_decoder(encoding_text_utf8_decoder decoder)
 {
     const uint8_t snowman[] = {0xE2, 0x98, 0x83};
@@ -154,7 +154,7 @@ static void borrowed_calls(void)
     CHECK(pending_are(&decoder, "", 0));
 }
 
-/* Whether the storage is taken for a new encoder: a low surrogate finds no high one. */
+/* Whether the storage acts as a new encoder: a low surrogate is unpaired. */
 static bool is_new_encoder(encoding_text_utf8_encoder encoder)
 {
     const uint16_t low[] = {0xDCA9};
@@ -243,7 +243,7 @@ static void encoder_calls_from_text(void)
     const uint8_t broken[] = {0x61, 0xC3};
     const bool marks[] = {false, true};
 
-    /* whether the call is marked last has no effect */
+    /* `last` has no effect */
     for (size_t i = 0; i < 2; i++) {
         encoding_text_utf8_encoder encoder = encoder_with(0);
         CHECK(encoded_is(encoding_text_utf8_encoder_encode_from_utf8(&encoder, ALL(text), fresh_bytes(), 2, marks[i]),

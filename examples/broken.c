@@ -1,9 +1,9 @@
-/* Prints line and column of each part of a text that is no UTF-8, with its bytes, and how many there are:
+/* Prints the line, column and bytes of each malformed sequence of UTF-8, and how many there are:
  *
  *     cc broken.c $(pkg-config --cflags --libs encoding_text) && ./a.out < text
  *
- * No broken part goes over a line's end, so each line is searched for itself. Columns count characters from 1 on, a
- * broken part as one. */
+ * No malformed sequence crosses the end of a line, so each line is searched separately. Columns count characters from
+ * 1, and a malformed sequence as one. */
 #define _POSIX_C_SOURCE 200809L
 #include <encoding_text.h>
 #include <stdio.h>
@@ -24,7 +24,7 @@ int main(void)
                 break;
             }
             for (; part.place > 0; part.place--) {
-                column += (*at++ & 0xC0) != 0x80; /* no continuation byte: a character begins */
+                column += (*at++ & 0xC0) != 0x80; /* not a continuation byte: a character begins */
             }
             printf("line %zu, column %zu:", line_number, column++);
             for (; part.length > 0; part.length--) {

@@ -1,4 +1,5 @@
-// Decodes UTF-8 as it comes, in blocks, into a std::u16string, with U+FFFD for each broken part, and counts:
+// Decodes UTF-8 from standard input, in blocks, into a std::u16string, with U+FFFD for each malformed sequence, and
+// prints the number of code units and of malformed sequences:
 //
 //     c++ decode.cc $(pkg-config --cflags --libs encoding_text) && ./a.out < text
 #include <encoding_text.h>
@@ -11,7 +12,7 @@ struct Decoder {
     std::u16string text;
     std::size_t broken = 0;
 
-    // Appends what the next bytes become; `last` says that none will follow.
+    // Decodes the next bytes and appends the result; `last` says that no more follow.
     void decode(const unsigned char *bytes, std::size_t length, bool last)
     {
         std::size_t at = text.size();

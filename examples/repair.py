@@ -1,4 +1,4 @@
-"""Repairs UTF-8 by the shared library: python3 repair.py < damaged > mended"""
+"""Repairs UTF-8 with the shared library: python3 repair.py < damaged > repaired"""
 
 import ctypes
 import sys
@@ -19,7 +19,7 @@ library.encoding_text_repair_slice.argtypes = [
 
 
 def repair(source):
-    """Returns the bytes with U+FFFD for each broken part, and how many parts were broken."""
+    """Returns the bytes with U+FFFD for each malformed sequence, and the number of these."""
     room = ctypes.create_string_buffer(3 * len(source))
     done = library.encoding_text_repair_slice(source, len(source), room, len(room))
     return ctypes.string_at(room, done.written), done.replaced

@@ -516,8 +516,8 @@ typedef struct {
 /** Writes the next block of a stream with U+FFFD for each malformed sequence. `last` says that no block follows. The
  * decoder is new before the first block, and keeps the pending bytes between blocks. If the call isn't finished, fewer
  * than four bytes are free: call again with the unread bytes and more space. Four bytes are enough to make progress.
- * However the stream is split into blocks and spaces, the output is the repaired stream. @return how much was read and
- * written */
+ * However the stream is split into blocks and spaces, the output is the repaired stream.
+ * @return how much was read and written */
 encoding_text_repaired_block encoding_text_repair_block(encoding_text_utf8_decoder *decoder, const uint8_t *src,
                                                         size_t src_length, uint8_t *dst, size_t dst_length, bool last);
 
