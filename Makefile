@@ -1,15 +1,15 @@
 # Builds, checks and installs the libraries for C, their header, and the program utf8_repair.
 #
-#   make                        build/libencoding_text.a, the shared library beside it and build/utf8_repair, proved as
-#                               they are built; each library holds a build for x86-64-v2 and one for x86-64-v3, which has
-#                               AVX2, and takes what the processor runs; what the toolchain prints goes to build/logs
-#   make CPU=x86-64-v3          a build for these processors alone; likewise CPU=x86-64-v2 and CPU=x86-64
-#   make check                  C and C++ programs call each function of each build, also with sanitizers and under
-#                               valgrind, and the examples run against what `make install` puts into an empty folder
-#   make install PREFIX=/usr    what was built last: libraries, header, files for pkg-config and CMake, program, manual
-#                               page; LIBDIR, INCLUDEDIR and DESTDIR change where
-#   make uninstall PREFIX=/usr  takes all of it away
-#   make doc                    HTML pages of the header and of the Rust crate into build/doc; nothing is built for them
+#   make                        Proves and builds build/libencoding_text.a, the shared library and build/utf8_repair.
+#                               Each library holds a build for x86-64-v2 and one for x86-64-v3 (with AVX2), and selects
+#                               one at load time. The toolchain's output is in build/logs.
+#   make CPU=x86-64-v3          Builds only for these processors; likewise CPU=x86-64-v2 and CPU=x86-64.
+#   make check                  Calls each function of each build from C and C++, also with sanitizers and under
+#                               valgrind. Builds and runs the examples with what `make install` puts into an empty folder.
+#   make install PREFIX=/usr    Installs the last build: libraries, header, files for pkg-config and CMake, program,
+#                               manual page. LIBDIR, INCLUDEDIR and DESTDIR change the folders.
+#   make uninstall PREFIX=/usr  Removes all of it.
+#   make doc                    Writes HTML pages of the header and of the Rust crate to build/doc. Needs no build.
 ASKED := $(CPU)
 CPU ?= both
 CPUS = both x86-64 x86-64-v2 x86-64-v3
@@ -34,7 +34,7 @@ LIBRARIES = encoding_definitions encoding_kernels encoding_text encoding_runs en
 SOURCES = $(foreach name,$(LIBRARIES),$(wildcard crates/$(name)/src/*.rt crates/$(name)/src/*/*.rt))
 BUILT = libencoding_text.a $(SHARED) utf8_repair
 
-# What takes long, in order: the first step proves all that the others stand on.
+# The long steps, in order. The first one proves all that the others depend on.
 ifeq ($(CPU),both)
 STEPS = x86-64-v2/library x86-64-v3/library x86-64-v2/program
 else
@@ -42,7 +42,7 @@ STEPS = $(CPU)/library $(CPU)/program
 endif
 progress = checks/progress '$(STEPS)'
 
-# need(a command, what to do): ends with a line where it isn't there
+# need(a command, what to do): fails with a message if the command is missing
 need = $(if $(shell command -v $(firstword $(1)) 2> /dev/null),,$(error $(firstword $(1)) is not there: $(2)))
 need_rt = $(call need,rt,put the toolchain's folder bin on the PATH)
 need_cc = $(call need,$(CC),install a C compiler (checks/setup does on Debian) or name yours by CC=)
@@ -50,14 +50,14 @@ need_binutils = $(foreach tool,$(LD) $(OBJCOPY) $(AR),$(call need,$(tool),instal
 
 all: tools $(BUILT:%=build/%) build/libencoding_text.so
 
-# Asked for first: the proofs take long.
+# Checked first, since the proofs take long.
 tools:
 	$(need_cc)$(if $(filter both,$(CPU)),$(need_binutils))
 
 cxx:
 	$(call need,$(CXX),install a C++ compiler (checks/setup does on Debian) or name yours by CXX=)
 
-# What is in build/ itself is of one CPU, whose name stands in build/cpu.
+# The files directly in build/ are for one CPU, whose name is in build/cpu.
 $(BUILT:%=build/%): build/%: build/$(CPU)/% build/cpu
 	cp $< $@
 
@@ -67,10 +67,10 @@ build/cpu: FORCE | $(BUILT:%=build/$(CPU)/%)
 build/libencoding_text.so: | build/$(SHARED)
 	ln -sf $(SHARED) $@
 
-# The functions for C are many and small: each of several processes would read all that they stand on.
+# One job, since the functions for C are many and small: each process would read all that they depend on.
 library = cd crates/encoding_runs && rt lib && cd ../encoding_c && rt lib --jobs 1 --cpu=x86$*
 
-# The same proofs stand for each CPU: where one build is there, another is compiled alone.
+# All CPUs share the proofs, so a second build is only compiled.
 build/x86%/libencoding_text.a: $(SOURCES)
 	$(need_rt)
 	@mkdir -p $(@D)
@@ -83,7 +83,7 @@ build/x86%/utf8_repair: $(SOURCES)
 	@$(progress) x86$*/program '1 min' sh -c 'cd crates/utf8_repair && rt run --cpu=x86$* < /dev/null'
 	cp crates/utf8_repair/out/utf8_repair $@
 
-# A pipe bounds the program before its processor does, so it isn't built twice.
+# Pipes limit the program's speed before the processor does, so one build is enough.
 build/both/utf8_repair: build/x86-64-v2/utf8_repair
 	@mkdir -p $(@D)
 	cp $< $@

@@ -1,6 +1,7 @@
-"""Repairs random bytes with the built program, and compares what comes out with what Python makes of them:
-checks/random_bytes.py PROGRAM MIB. Prints the program's status, "same" or the place of the first other byte, and whether
-it took more memory between the first MiB and the last: more than SLACK, which the kernel's count may be off by."""
+"""Repairs random bytes with the built program, and compares its output with Python's: checks/random_bytes.py PROGRAM MIB
+
+Prints the program's status, "same" or the offset of the first difference, and whether its memory grew between the first
+MiB and the last: by more than SLACK, the inaccuracy of the kernel's count."""
 import codecs
 import random
 import subprocess
@@ -12,20 +13,20 @@ SLACK = 512  # KiB
 
 
 def chunks(count):
-    """Gives so many MiB of random bytes, the same ones each time."""
+    """Yields `count` MiB of random bytes, the same ones each time."""
     source = random.Random(20)
     for _ in range(count):
         yield source.randbytes(MIB)
 
 
 def most_memory(process):
-    """Returns how many KiB of memory a process took so far at most."""
+    """Returns the peak memory of a process, in KiB."""
     with open(f"/proc/{process.pid}/status") as lines:
         return next(int(line.split()[1]) for line in lines if line.startswith("VmHWM:"))
 
 
 def feed(process, count, memory):
-    """Writes all to the program."""
+    """Writes the input to the program, and appends its peak memory after each chunk."""
     try:
         for chunk in chunks(count):
             process.stdin.write(chunk)
@@ -36,7 +37,7 @@ def feed(process, count, memory):
 
 
 def texts(count):
-    """Gives what Python makes of the same bytes."""
+    """Yields Python's repair of the same bytes."""
     decoder = codecs.getincrementaldecoder("utf-8")("replace")
     for chunk in chunks(count):
         yield decoder.decode(chunk).encode()
@@ -44,7 +45,7 @@ def texts(count):
 
 
 def first_difference(process, count):
-    """Returns the place of the first byte that differs, or None."""
+    """Returns the offset of the first byte that differs, or None."""
     place = 0
     for text in texts(count):
         got = process.stdout.read(len(text))
