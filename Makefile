@@ -5,7 +5,7 @@
 #                               one at load time. The toolchain's output is in build/logs.
 #   make CPU=x86-64-v3          Builds only for these processors; likewise CPU=x86-64-v2 and CPU=x86-64.
 #   make check                  Calls each function of each build from C and C++, also with sanitizers and under
-#                               valgrind. Builds and runs the examples with what `make install` puts into an empty folder.
+#                               valgrind. Runs the examples with what `make install` puts into an empty folder.
 #   make install PREFIX=/usr    Installs the last build: libraries, header, files for pkg-config and CMake, program,
 #                               manual page. LIBDIR, INCLUDEDIR and DESTDIR change the folders.
 #   make uninstall PREFIX=/usr  Removes all of it.

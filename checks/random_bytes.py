@@ -1,4 +1,4 @@
-"""Repairs random bytes with the built program, and compares its output with Python's: checks/random_bytes.py PROGRAM MIB
+"""Repairs random bytes with the program, and compares its output with Python's: checks/random_bytes.py PROGRAM MIB
 
 Prints the program's status, "same" or the offset of the first difference, and whether its memory grew between the first
 MiB and the last: by more than SLACK, the inaccuracy of the kernel's count."""

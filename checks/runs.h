@@ -20,7 +20,7 @@ static encoding_text_report *fresh_reports(void)
     return report_memory;
 }
 
-/* Whether these are the first reports, each a place and a length, and the elements after them are unchanged. */
+/* Whether these are the first reports, each as `place` and `length`, and the elements after them are unchanged. */
 static bool reports_are(size_t count, ...)
 {
     va_list wanted;

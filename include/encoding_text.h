@@ -142,7 +142,7 @@ size_t encoding_text_mem_str_latin1_up_to(const uint8_t *buffer, size_t buffer_l
 /** @return the index of the first unpaired surrogate, or buffer_length if there is none */
 size_t encoding_text_mem_utf16_valid_up_to(const uint16_t *buffer, size_t buffer_length);
 
-/** Replaces each unpaired surrogate by 0xFFFD. @param buffer the code units, changed in place */
+/** Replaces each unpaired surrogate by 0xFFFD. @param buffer the code units */
 void encoding_text_mem_ensure_utf16_validity(uint16_t *buffer, size_t buffer_length);
 
 /** @return whether a scalar value is right-to-left: ENCODING_TEXT_NO or ENCODING_TEXT_YES; ENCODING_TEXT_REFUSED_ANSWER
@@ -273,7 +273,7 @@ size_t encoding_text_mem_latin1_length_from_utf8(const uint8_t *src, size_t src_
 
 /* ---- Whole buffers: text destinations ----------------------------------------------------------------------------- */
 
-/** Converts as the function with `utf8` in place of `str` does. The destination is a text before and after the call.
+/** Converts as the function with `utf8` instead of `str` does. The destination is a text before and after the call.
  * The two from UTF-16 set the continuation bytes directly after what is written to zero. The two from Latin1 set the
  * next sixteen bytes, or all that are left, to zero, and then the continuation bytes directly after these.
  * @return what the function with `utf8` returns; ENCODING_TEXT_REFUSED (twice in the counts) if dst isn't well-formed,
@@ -488,8 +488,8 @@ typedef struct {
 } encoding_text_broken_part;
 
 /** @return the first malformed sequence of src (Encoding Standard, UTF-8 decoder): all bytes before it are well-formed.
- * If src is well-formed, `length` is 0 and `place` is src_length. Called again with the bytes from place + length on,
- * it finds the next one. An incomplete sequence at the end of src is malformed. */
+ * If src is well-formed, `length` is 0 and `place` is src_length. Called again with the bytes from `place` + `length`
+ * on, it finds the next one. An incomplete sequence at the end of src is malformed. */
 encoding_text_broken_part encoding_text_next_broken(const uint8_t *src, size_t src_length);
 
 /* ---- Repair -------------------------------------------------------------------------------------------------------- */
