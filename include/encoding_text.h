@@ -12,8 +12,8 @@
  *
  * Arguments
  * - A source is `src` and its length, a destination `dst` and its length. Lengths are in elements: bytes for uint8_t,
- *   UTF-16 code units for uint16_t. Each buffer has at most PTRDIFF_MAX bytes.
- * - A pointer may be NULL if it has a length and that is 0 (`data()` of an empty std::vector may return NULL). No other
+ *   UTF-16 code units for uint16_t. Each array has at most PTRDIFF_MAX bytes.
+ * - A pointer with a length may be NULL if the length is 0 (`data()` of an empty std::vector may return NULL). No other
  *   pointer is NULL.
  * - A pointer is aligned for its type. A destination, an array of reports, a decoder and an encoder overlap no other
  *   argument.
@@ -22,8 +22,8 @@
  * - After the call the elements past those reported as written are unchanged. Only the `_to_str` functions clear some.
  *
  * Violated preconditions
- * - A call that violates a precondition on lengths or contents changes nothing in memory. It returns a value that no
- *   other call of the function returns:
+ * - A function checks its preconditions on lengths and contents. If one is violated, it changes nothing in memory, and
+ *   returns a value that no other call of the function returns:
  *   - a size_t is ENCODING_TEXT_REFUSED, a uint8_t is ENCODING_TEXT_REFUSED_ANSWER;
  *   - in encoding_text_counts, `read` and `written` are ENCODING_TEXT_REFUSED;
  *   - in encoding_text_encoded and encoding_text_outcome, `result` is ENCODING_TEXT_REFUSED_ANSWER, and the rest 0;
@@ -33,7 +33,7 @@
  * - Preconditions on pointers aren't checked either, nor is the limit of PTRDIFF_MAX bytes.
  *
  * Threads and memory
- * - Calls on different storage may run at once. A decoder or an encoder is used by one thread at a time.
+ * - Calls on different storage may run at once, in any threads. One thread at a time uses a decoder or an encoder.
  * - No function allocates memory. Between calls, only a decoder or an encoder keeps state, in the caller's storage.
  *
  * On glibc, the library holds a build for x86-64-v2 and one for x86-64-v3 (with AVX2), and selects one when it is
