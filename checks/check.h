@@ -31,10 +31,10 @@ static void check(bool holds, const char *what, const char *file, int line)
 
 /* Each destination is surrounded by memory that no call may change. */
 #define BEFORE 16
-#define ROOM 64
-#define BEHIND 16
-static uint8_t byte_memory[BEFORE + ROOM + BEHIND];
-static uint16_t unit_memory[BEFORE + ROOM + BEHIND];
+#define DST_LENGTH 64
+#define AFTER 16
+static uint8_t byte_memory[BEFORE + DST_LENGTH + AFTER];
+static uint16_t unit_memory[BEFORE + DST_LENGTH + AFTER];
 
 /* The element at an index before a call. A byte is ASCII, so that a destination of bytes is well-formed. Elements near
  * one another differ. */
@@ -59,7 +59,7 @@ static uint8_t *fresh_bytes(void)
 
 static uint16_t *fresh_units(void)
 {
-    for (size_t i = 0; i < BEFORE + ROOM + BEHIND; i++) {
+    for (size_t i = 0; i < BEFORE + DST_LENGTH + AFTER; i++) {
         unit_memory[i] = unit_before(i);
     }
     return unit_memory + BEFORE;
@@ -98,7 +98,7 @@ static bool units_are(size_t length, ...)
     va_list wanted;
     bool are = true;
     va_start(wanted, length);
-    for (size_t i = 0; i < BEFORE + ROOM + BEHIND; i++) {
+    for (size_t i = 0; i < BEFORE + DST_LENGTH + AFTER; i++) {
         bool inside = i >= BEFORE && i - BEFORE < length;
         int unit = inside ? va_arg(wanted, int) : unit_before(i);
         are = are && unit_memory[i] == unit;
@@ -117,55 +117,59 @@ static bool no_units_written(void)
     return units_are(0);
 }
 
-static bool front_is(encoding_text_prefix front, size_t length, uint16_t other)
+static bool prefix_is(encoding_text_prefix prefix, size_t length, uint16_t other)
 {
-    return front.length == length && front.other == other;
+    return prefix.length == length && prefix.other == other;
 }
 
-static bool counts_are(encoding_text_counts counts, size_t read, size_t written)
+static bool counts_are(encoding_text_progress progress, size_t read, size_t written)
 {
-    return counts.read == read && counts.written == written;
+    return progress.read == read && progress.written == written;
 }
 
-static bool are_refused(encoding_text_counts counts)
+static bool are_invalid(encoding_text_progress progress)
 {
-    return counts_are(counts, ENCODING_TEXT_REFUSED, ENCODING_TEXT_REFUSED);
+    return counts_are(progress, ENCODING_TEXT_INVALID_ARGUMENT, ENCODING_TEXT_INVALID_ARGUMENT);
 }
 
-static bool decoded_is(encoding_text_decoded decoded, size_t read, size_t written, uint8_t result, uint8_t malformed)
+static bool decoded_is(encoding_text_decode_result decoded, size_t read, size_t written, uint8_t result,
+                       uint8_t malformed_length)
 {
     return decoded.read == read && decoded.written == written && decoded.result == result
-        && decoded.malformed == malformed;
+        && decoded.malformed_length == malformed_length;
 }
 
-static bool piece_is(encoding_text_piece piece, size_t read, uint32_t character, uint8_t kind, uint8_t malformed)
+static bool piece_is(encoding_text_piece piece, size_t read, uint32_t character, uint8_t kind,
+                     uint8_t malformed_length)
 {
-    return piece.read == read && piece.character == character && piece.kind == kind && piece.malformed == malformed;
+    return piece.read == read && piece.character == character && piece.kind == kind
+        && piece.malformed_length == malformed_length;
 }
 
-static bool encoded_is(encoding_text_encoded encoded, size_t read, size_t written, uint8_t result)
+static bool encoded_is(encoding_text_encode_result encoded, size_t read, size_t written, uint8_t result)
 {
     return encoded.read == read && encoded.written == written && encoded.result == result;
 }
 
-static bool outcome_is(encoding_text_outcome outcome, size_t read, size_t written, size_t reports, uint8_t result,
-                       uint8_t malformed)
+static bool outcome_is(encoding_text_decode_run_result outcome, size_t read, size_t written, size_t reports,
+                       uint8_t result, uint8_t malformed_length)
 {
     return outcome.read == read && outcome.written == written && outcome.reports == reports && outcome.result == result
-        && outcome.malformed == malformed;
+        && outcome.malformed_length == malformed_length;
 }
 
-static bool broken_is(encoding_text_broken_part part, size_t place, size_t length)
+static bool malformed_is(encoding_text_malformed_sequence malformed, size_t place, size_t length)
 {
-    return part.place == place && part.length == length;
+    return malformed.place == place && malformed.length == length;
 }
 
-static bool repaired_is(encoding_text_repaired repaired, size_t written, uint64_t replaced)
+static bool repaired_is(encoding_text_repair_result repaired, size_t written, uint64_t replaced)
 {
     return repaired.written == written && repaired.replaced == replaced;
 }
 
-static bool block_is(encoding_text_repaired_block block, size_t read, size_t written, size_t replaced, bool finished)
+static bool block_is(encoding_text_repair_block_result block, size_t read, size_t written, size_t replaced,
+                     bool finished)
 {
     return block.read == read && block.written == written && block.replaced == replaced && block.finished == finished;
 }

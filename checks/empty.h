@@ -8,20 +8,18 @@
 
 static void checks_of_no_elements(const uint8_t *bytes, const uint16_t *units)
 {
-    CHECK(front_is(encoding_text_validate_ascii(bytes, 0), 0, 0));
+    CHECK(prefix_is(encoding_text_validate_ascii(bytes, 0), 0, 0));
     CHECK(encoding_text_ascii_valid_up_to(bytes, 0) == 0 && encoding_text_iso_2022_jp_ascii_valid_up_to(bytes, 0) == 0);
     CHECK(encoding_text_mem_is_ascii(bytes, 0) && encoding_text_mem_is_basic_latin(units, 0));
     CHECK(encoding_text_mem_is_utf8_latin1(bytes, 0) && encoding_text_mem_is_utf16_latin1(units, 0));
-    CHECK(encoding_text_mem_is_str_latin1(bytes, 0) == ENCODING_TEXT_YES);
     CHECK(encoding_text_mem_utf8_latin1_up_to(bytes, 0) == 0 && encoding_text_mem_str_latin1_up_to(bytes, 0) == 0);
     CHECK(encoding_text_mem_utf16_valid_up_to(units, 0) == 0 && encoding_text_utf8_valid_up_to(bytes, 0) == 0);
-    CHECK(broken_is(encoding_text_next_broken(bytes, 0), 0, 0));
+    CHECK(malformed_is(encoding_text_next_malformed(bytes, 0), 0, 0));
     CHECK(encoding_text_mem_utf16_length_from_utf8(bytes, 0) == 0);
     CHECK(encoding_text_mem_utf8_length_from_utf16(units, 0) == 0);
     CHECK(encoding_text_mem_utf8_length_from_latin1(bytes, 0) == 0);
     CHECK(encoding_text_mem_latin1_length_from_utf8(bytes, 0) == 0);
     CHECK(!encoding_text_mem_is_utf8_bidi(bytes, 0) && !encoding_text_mem_is_utf16_bidi(units, 0));
-    CHECK(encoding_text_mem_is_str_bidi(bytes, 0) == ENCODING_TEXT_NO);
     CHECK(encoding_text_mem_check_utf8_for_latin1_and_bidi(bytes, 0) == ENCODING_TEXT_LATIN1);
     CHECK(encoding_text_mem_check_str_for_latin1_and_bidi(bytes, 0) == ENCODING_TEXT_LATIN1);
     CHECK(encoding_text_mem_check_utf16_for_latin1_and_bidi(units, 0) == ENCODING_TEXT_LATIN1);
@@ -34,9 +32,9 @@ static void checks_of_no_elements(const uint8_t *bytes, const uint16_t *units)
 static void sources_of_no_elements(const uint8_t *bytes, const uint16_t *units, uint8_t *to_bytes, uint16_t *to_units,
                                    size_t room)
 {
-    CHECK(front_is(encoding_text_ascii_to_ascii(bytes, 0, to_bytes, room), 0, 0));
-    CHECK(front_is(encoding_text_ascii_to_basic_latin(bytes, 0, to_units, room), 0, 0));
-    CHECK(front_is(encoding_text_basic_latin_to_ascii(units, 0, to_bytes, room), 0, 0));
+    CHECK(prefix_is(encoding_text_ascii_to_ascii(bytes, 0, to_bytes, room), 0, 0));
+    CHECK(prefix_is(encoding_text_ascii_to_basic_latin(bytes, 0, to_units, room), 0, 0));
+    CHECK(prefix_is(encoding_text_basic_latin_to_ascii(units, 0, to_bytes, room), 0, 0));
     CHECK(encoding_text_mem_copy_ascii_to_ascii(bytes, 0, to_bytes, room) == 0);
     CHECK(encoding_text_mem_copy_ascii_to_basic_latin(bytes, 0, to_units, room) == 0);
     CHECK(encoding_text_mem_copy_basic_latin_to_ascii(units, 0, to_bytes, room) == 0);
@@ -47,7 +45,8 @@ static void sources_of_no_elements(const uint8_t *bytes, const uint16_t *units, 
     CHECK(encoding_text_mem_encode_latin1(bytes, 0, to_bytes, room) == 0);
     CHECK(encoding_text_mem_convert_utf8_to_latin1_lossy(bytes, 0, to_bytes, room) == 0);
     CHECK(encoding_text_mem_convert_utf16_to_latin1_lossy(units, 0, to_bytes, room) == 0);
-    CHECK(encoding_text_mem_convert_utf8_to_utf16(bytes, 0, to_units, room) == (room == 0 ? ENCODING_TEXT_REFUSED : 0));
+    CHECK(encoding_text_mem_convert_utf8_to_utf16(bytes, 0, to_units, room)
+          == (room == 0 ? ENCODING_TEXT_INVALID_ARGUMENT : 0));
     CHECK(encoding_text_mem_convert_str_to_utf16(bytes, 0, to_units, room) == 0);
     CHECK(encoding_text_mem_convert_str_to_utf16_unchecked(bytes, 0, to_units, room) == 0);
     CHECK(counts_are(encoding_text_mem_convert_utf8_to_utf16_without_replacement(bytes, 0, to_units, room), 0, 0));
@@ -57,7 +56,7 @@ static void sources_of_no_elements(const uint8_t *bytes, const uint16_t *units, 
     CHECK(encoding_text_mem_convert_utf16_to_str(units, 0, to_bytes, room) == 0);
     CHECK(counts_are(encoding_text_convert_utf8_to_utf16_up_to_invalid(bytes, 0, to_units, room), 0, 0));
     CHECK(counts_are(encoding_text_convert_utf16_to_utf8_partial_inner(units, 0, to_bytes, room), 0, 0));
-    CHECK(are_refused(encoding_text_convert_utf16_to_utf8_partial_tail(units, 0, to_bytes, room)));
+    CHECK(are_invalid(encoding_text_convert_utf16_to_utf8_partial_tail(units, 0, to_bytes, room)));
     CHECK(repaired_is(encoding_text_repair_slice(bytes, 0, to_bytes, room), 0, 0));
 }
 
@@ -67,32 +66,32 @@ static void destinations_of_no_elements(uint8_t *to_bytes, uint16_t *to_units)
     const uint16_t units[] = {0x61, 0x62};
 
     encoding_text_mem_ensure_utf16_validity(to_units, 0);
-    CHECK(front_is(encoding_text_ascii_to_ascii(ALL(bytes), to_bytes, 0), 0, 0));
-    CHECK(front_is(encoding_text_ascii_to_basic_latin(ALL(bytes), to_units, 0), 0, 0));
-    CHECK(front_is(encoding_text_basic_latin_to_ascii(ALL(units), to_bytes, 0), 0, 0));
-    CHECK(encoding_text_mem_copy_ascii_to_ascii(ALL(bytes), to_bytes, 0) == ENCODING_TEXT_REFUSED);
-    CHECK(encoding_text_mem_copy_ascii_to_basic_latin(ALL(bytes), to_units, 0) == ENCODING_TEXT_REFUSED);
-    CHECK(encoding_text_mem_copy_basic_latin_to_ascii(ALL(units), to_bytes, 0) == ENCODING_TEXT_REFUSED);
-    CHECK(encoding_text_mem_convert_latin1_to_utf16(ALL(bytes), to_units, 0) == ENCODING_TEXT_REFUSED);
+    CHECK(prefix_is(encoding_text_ascii_to_ascii(ALL(bytes), to_bytes, 0), 0, 0));
+    CHECK(prefix_is(encoding_text_ascii_to_basic_latin(ALL(bytes), to_units, 0), 0, 0));
+    CHECK(prefix_is(encoding_text_basic_latin_to_ascii(ALL(units), to_bytes, 0), 0, 0));
+    CHECK(encoding_text_mem_copy_ascii_to_ascii(ALL(bytes), to_bytes, 0) == ENCODING_TEXT_INVALID_ARGUMENT);
+    CHECK(encoding_text_mem_copy_ascii_to_basic_latin(ALL(bytes), to_units, 0) == ENCODING_TEXT_INVALID_ARGUMENT);
+    CHECK(encoding_text_mem_copy_basic_latin_to_ascii(ALL(units), to_bytes, 0) == ENCODING_TEXT_INVALID_ARGUMENT);
+    CHECK(encoding_text_mem_convert_latin1_to_utf16(ALL(bytes), to_units, 0) == ENCODING_TEXT_INVALID_ARGUMENT);
     CHECK(counts_are(encoding_text_mem_convert_latin1_to_utf8_partial(ALL(bytes), to_bytes, 0), 0, 0));
-    CHECK(encoding_text_mem_convert_latin1_to_utf8(ALL(bytes), to_bytes, 0) == ENCODING_TEXT_REFUSED);
-    CHECK(encoding_text_mem_decode_latin1(ALL(bytes), to_bytes, 0) == ENCODING_TEXT_REFUSED);
-    CHECK(encoding_text_mem_encode_latin1(ALL(bytes), to_bytes, 0) == ENCODING_TEXT_REFUSED);
-    CHECK(encoding_text_mem_convert_utf8_to_latin1_lossy(ALL(bytes), to_bytes, 0) == ENCODING_TEXT_REFUSED);
-    CHECK(encoding_text_mem_convert_utf16_to_latin1_lossy(ALL(units), to_bytes, 0) == ENCODING_TEXT_REFUSED);
-    CHECK(encoding_text_mem_convert_utf8_to_utf16(ALL(bytes), to_units, 0) == ENCODING_TEXT_REFUSED);
-    CHECK(encoding_text_mem_convert_str_to_utf16(ALL(bytes), to_units, 0) == ENCODING_TEXT_REFUSED);
-    CHECK(are_refused(encoding_text_mem_convert_utf8_to_utf16_without_replacement(ALL(bytes), to_units, 0)));
+    CHECK(encoding_text_mem_convert_latin1_to_utf8(ALL(bytes), to_bytes, 0) == ENCODING_TEXT_INVALID_ARGUMENT);
+    CHECK(encoding_text_mem_decode_latin1(ALL(bytes), to_bytes, 0) == ENCODING_TEXT_INVALID_ARGUMENT);
+    CHECK(encoding_text_mem_encode_latin1(ALL(bytes), to_bytes, 0) == ENCODING_TEXT_INVALID_ARGUMENT);
+    CHECK(encoding_text_mem_convert_utf8_to_latin1_lossy(ALL(bytes), to_bytes, 0) == ENCODING_TEXT_INVALID_ARGUMENT);
+    CHECK(encoding_text_mem_convert_utf16_to_latin1_lossy(ALL(units), to_bytes, 0) == ENCODING_TEXT_INVALID_ARGUMENT);
+    CHECK(encoding_text_mem_convert_utf8_to_utf16(ALL(bytes), to_units, 0) == ENCODING_TEXT_INVALID_ARGUMENT);
+    CHECK(encoding_text_mem_convert_str_to_utf16(ALL(bytes), to_units, 0) == ENCODING_TEXT_INVALID_ARGUMENT);
+    CHECK(are_invalid(encoding_text_mem_convert_utf8_to_utf16_without_replacement(ALL(bytes), to_units, 0)));
     CHECK(counts_are(encoding_text_mem_convert_utf16_to_utf8_partial(ALL(units), to_bytes, 0), 0, 0));
-    CHECK(encoding_text_mem_convert_utf16_to_utf8(ALL(units), to_bytes, 0) == ENCODING_TEXT_REFUSED);
+    CHECK(encoding_text_mem_convert_utf16_to_utf8(ALL(units), to_bytes, 0) == ENCODING_TEXT_INVALID_ARGUMENT);
     CHECK(counts_are(encoding_text_mem_convert_utf16_to_str_partial(ALL(units), to_bytes, 0), 0, 0));
-    CHECK(encoding_text_mem_convert_utf16_to_str(ALL(units), to_bytes, 0) == ENCODING_TEXT_REFUSED);
+    CHECK(encoding_text_mem_convert_utf16_to_str(ALL(units), to_bytes, 0) == ENCODING_TEXT_INVALID_ARGUMENT);
     CHECK(counts_are(encoding_text_mem_convert_latin1_to_str_partial(ALL(bytes), to_bytes, 0), 0, 0));
-    CHECK(encoding_text_mem_convert_latin1_to_str(ALL(bytes), to_bytes, 0) == ENCODING_TEXT_REFUSED);
+    CHECK(encoding_text_mem_convert_latin1_to_str(ALL(bytes), to_bytes, 0) == ENCODING_TEXT_INVALID_ARGUMENT);
     CHECK(counts_are(encoding_text_convert_utf8_to_utf16_up_to_invalid(ALL(bytes), to_units, 0), 0, 0));
     CHECK(counts_are(encoding_text_convert_utf16_to_utf8_partial_inner(ALL(units), to_bytes, 0), 0, 0));
     CHECK(counts_are(encoding_text_convert_utf16_to_utf8_partial_tail(ALL(units), to_bytes, 0), 0, 0));
-    CHECK(repaired_is(encoding_text_repair_slice(ALL(bytes), to_bytes, 0), ENCODING_TEXT_REFUSED, 0));
+    CHECK(repaired_is(encoding_text_repair_slice(ALL(bytes), to_bytes, 0), ENCODING_TEXT_INVALID_ARGUMENT, 0));
 }
 
 /* The Latin1 calls into a text clear all of a short destination. */
@@ -146,12 +145,12 @@ static void encoder_calls_of_no_elements(const uint8_t *bytes, const uint16_t *u
                      0, 0, ENCODING_TEXT_OUTPUT_FULL));
     CHECK(encoded_is(encoding_text_utf8_encoder_encode_from_utf8(&encoder, ALL(letters), to_bytes, 0, true),
                      0, 0, ENCODING_TEXT_OUTPUT_FULL));
-    encoder.held = 0xD83D;
+    encoder.surrogate = 0xD83D;
     CHECK(encoded_is(encoding_text_utf8_encoder_encode_from_utf16(&encoder, units, 0, to_bytes, 0, true),
                      0, 0, ENCODING_TEXT_OUTPUT_FULL));
     CHECK(encoded_is(encoding_text_utf8_encoder_encode_from_utf16(&encoder, units, 0, fresh_bytes(), 4, false),
                      0, 0, ENCODING_TEXT_INPUT_EMPTY));
-    CHECK(no_bytes_written() && encoder.held == 0xD83D);
+    CHECK(no_bytes_written() && encoder.surrogate == 0xD83D);
     CHECK(encoded_is(encoding_text_utf8_encoder_encode_from_utf8(&encoder, bytes, 0, fresh_bytes(), 4, false),
                      0, 3, ENCODING_TEXT_INPUT_EMPTY));
     CHECK(bytes_are(BYTES("\xEF\xBF\xBD")) && is_new_encoder(encoder));
@@ -168,9 +167,9 @@ static void runs_of_no_elements(const uint8_t *bytes, const uint16_t *units, uin
     CHECK(outcome_is(encoding_text_run_to_utf8(&decoder, bytes, 0, NULL, 0, to_bytes, 0, NULL, 0), 0, 0, 0,
                      ENCODING_TEXT_NO_CALL, 0));
     CHECK(outcome_is(encoding_text_run_to_utf16(&decoder, bytes, 0, turn, 1, to_units, 0, NULL, 0), 0, 0, 0,
-                     ENCODING_TEXT_REFUSED_ANSWER, 0));
+                     ENCODING_TEXT_INVALID_ARGUMENT_U8, 0));
     CHECK(outcome_is(encoding_text_run_to_utf8(&decoder, bytes, 0, turn, 1, to_bytes, 0, NULL, 0), 0, 0, 0,
-                     ENCODING_TEXT_REFUSED_ANSWER, 0));
+                     ENCODING_TEXT_INVALID_ARGUMENT_U8, 0));
     CHECK(pending_are(&decoder, BYTES("\xE2\x98")));
     CHECK(outcome_is(encoding_text_run_to_utf16(&decoder, bytes, 0, turn, 1, to_units, 0, fresh_reports(), 1), 0, 0, 1,
                      ENCODING_TEXT_MALFORMED, 2));
@@ -181,7 +180,7 @@ static void runs_of_no_elements(const uint8_t *bytes, const uint16_t *units, uin
                      ENCODING_TEXT_NO_CALL));
     CHECK(encoded_is(encoding_text_run_from_utf16(&encoder, units, 0, turn, 1, to_bytes, 0), 0, 0,
                      ENCODING_TEXT_OUTPUT_FULL));
-    CHECK(reports_are(0) && encoder.held == 0xD83D);
+    CHECK(reports_are(0) && encoder.surrogate == 0xD83D);
 }
 
 static void buffers_of_no_elements(const uint8_t *bytes, const uint16_t *units, uint8_t *to_bytes, uint16_t *to_units)

@@ -69,7 +69,7 @@ static void runs_that_go_on(void)
 {
     const uint8_t first[] = {0x61, 0xE2};
     const uint8_t second[] = {0x98, 0x83, 0x62};
-    const uint8_t broken[] = {0x61, 0xFF, 0x62};
+    const uint8_t malformed[] = {0x61, 0xFF, 0x62};
     const encoding_text_turn turns[] = {{1, 9, false}, {2, 9, false}, {9, 0, true}};
     encoding_text_utf8_decoder decoder;
 
@@ -81,20 +81,20 @@ static void runs_that_go_on(void)
                      ENCODING_TEXT_NO_CALL, 0));
     CHECK(no_units_written() && pending_are(&decoder, BYTES("\xE2")));
     CHECK(outcome_is(encoding_text_run_to_utf16(&decoder, ALL(second), turns, 3, fresh_units(), 9, fresh_reports(), 2),
-                     0, 0, 0, ENCODING_TEXT_REFUSED_ANSWER, 0));
+                     0, 0, 0, ENCODING_TEXT_INVALID_ARGUMENT_U8, 0));
     CHECK(no_units_written() && reports_are(0) && pending_are(&decoder, BYTES("\xE2")));
     CHECK(outcome_is(encoding_text_run_to_utf8(&decoder, ALL(second), turns, 3, fresh_bytes(), 9, fresh_reports(), 2),
-                     0, 0, 0, ENCODING_TEXT_REFUSED_ANSWER, 0));
+                     0, 0, 0, ENCODING_TEXT_INVALID_ARGUMENT_U8, 0));
     CHECK(no_bytes_written() && reports_are(0) && pending_are(&decoder, BYTES("\xE2")));
     CHECK(outcome_is(encoding_text_run_to_utf8(&decoder, ALL(second), turns, 2, fresh_bytes(), 9, fresh_reports(), 2),
                      3, 4, 0, ENCODING_TEXT_INPUT_EMPTY, 0));
     CHECK(bytes_are(BYTES("\xE2\x98\x83" "b")) && reports_are(0) && pending_are(&decoder, "", 0));
     CHECK(outcome_is(encoding_text_run_to_utf8(&decoder, ALL(second), NULL, 0, fresh_bytes(), 9, NULL, 0), 0, 0, 0,
                      ENCODING_TEXT_NO_CALL, 0));
-    CHECK(outcome_is(encoding_text_run_to_utf16(&decoder, ALL(broken), turns, 2, fresh_units(), 9, fresh_reports(), 9),
+    CHECK(outcome_is(encoding_text_run_to_utf16(&decoder, ALL(malformed), turns, 2, fresh_units(), 9, fresh_reports(), 9),
                      2, 1, 1, ENCODING_TEXT_MALFORMED, 1));
     CHECK(units_are(1, 0x61) && reports_are(1, 1, 1));
-    CHECK(outcome_is(encoding_text_run_to_utf8(&decoder, ALL(broken), turns, 3, fresh_bytes(), 9, fresh_reports(), 9),
+    CHECK(outcome_is(encoding_text_run_to_utf8(&decoder, ALL(malformed), turns, 3, fresh_bytes(), 9, fresh_reports(), 9),
                      2, 1, 1, ENCODING_TEXT_OUTPUT_FULL, 0));
     CHECK(bytes_are(BYTES("a")) && reports_are(1, 1, 1) && pending_are(&decoder, "", 0));
 }
@@ -115,10 +115,10 @@ static void runs_from_utf16(void)
     encoding_text_utf8_encoder_new(&encoder);
     CHECK(encoded_is(encoding_text_run_from_utf16(&encoder, ALL(units), turns, 2, fresh_bytes(), 9), 2, 1,
                      ENCODING_TEXT_INPUT_EMPTY));
-    CHECK(bytes_are(BYTES("a")) && encoder.held == 0xD83D);
+    CHECK(bytes_are(BYTES("a")) && encoder.surrogate == 0xD83D);
     CHECK(encoded_is(encoding_text_run_from_utf16(&encoder, ALL(units), NULL, 0, fresh_bytes(), 9), 0, 0,
                      ENCODING_TEXT_NO_CALL));
-    CHECK(no_bytes_written() && encoder.held == 0xD83D);
+    CHECK(no_bytes_written() && encoder.surrogate == 0xD83D);
     CHECK(encoded_is(encoding_text_run_from_utf16(&encoder, units + 2, 3, turns, 3, fresh_bytes(), 9), 2, 7,
                      ENCODING_TEXT_OUTPUT_FULL));
     CHECK(bytes_are(BYTES("\xF0\x9F\x92\xA9\xEF\xBF\xBD")) && is_new_encoder(encoder));

@@ -9,12 +9,12 @@
 typedef struct {
     char first;
     encoding_text_utf8_decoder decoder;
-} behind_a_char_decoder;
+} after_a_char_decoder;
 
 typedef struct {
     char first;
     encoding_text_utf8_encoder encoder;
-} behind_a_char_encoder;
+} after_a_char_encoder;
 
 /* The storage with these bytes and this count. */
 static encoding_text_utf8_decoder decoder_with(uint8_t first, uint8_t second, uint8_t third, uint8_t count)
@@ -54,7 +54,7 @@ static void decoder_storage(void)
     encoding_text_utf8_decoder decoder;
 
     CHECK(sizeof decoder == ENCODING_TEXT_DECODER_SIZE);
-    CHECK(offsetof(behind_a_char_decoder, decoder) == ENCODING_TEXT_DECODER_ALIGNMENT);
+    CHECK(offsetof(after_a_char_decoder, decoder) == ENCODING_TEXT_DECODER_ALIGNMENT);
     memset(&decoder, 0, sizeof decoder);
     CHECK(is_new_decoder(decoder));
     memset(&decoder, 0xFF, sizeof decoder);
@@ -165,10 +165,10 @@ static bool is_new_encoder(encoding_text_utf8_encoder encoder)
         && bytes_are(BYTES("\xEF\xBF\xBD"));
 }
 
-static encoding_text_utf8_encoder encoder_with(uint16_t held)
+static encoding_text_utf8_encoder encoder_with(uint16_t surrogate)
 {
     encoding_text_utf8_encoder encoder;
-    encoder.held = held;
+    encoder.surrogate = surrogate;
     return encoder;
 }
 
@@ -178,10 +178,10 @@ static void encoder_storage(void)
     encoding_text_utf8_encoder encoder;
 
     CHECK(sizeof encoder == ENCODING_TEXT_ENCODER_SIZE);
-    CHECK(offsetof(behind_a_char_encoder, encoder) == ENCODING_TEXT_ENCODER_ALIGNMENT);
+    CHECK(offsetof(after_a_char_encoder, encoder) == ENCODING_TEXT_ENCODER_ALIGNMENT);
     memset(&encoder, 0, sizeof encoder);
     CHECK(is_new_encoder(encoder));
-    encoder.held = 0xD83D;
+    encoder.surrogate = 0xD83D;
     encoding_text_utf8_encoder_new(&encoder);
     CHECK(is_new_encoder(encoder));
     CHECK(is_new_encoder(encoder_with(0x61)) && is_new_encoder(encoder_with(0xD7FF)));
@@ -189,7 +189,7 @@ static void encoder_storage(void)
     encoding_text_utf8_encoder_new(&encoder);
     CHECK(encoded_is(encoding_text_utf8_encoder_encode_from_utf16(&encoder, units, 1, fresh_bytes(), 9, false), 1, 0,
                      ENCODING_TEXT_INPUT_EMPTY));
-    CHECK(no_bytes_written() && encoder.held == 0xD83D);
+    CHECK(no_bytes_written() && encoder.surrogate == 0xD83D);
     CHECK(encoded_is(encoding_text_utf8_encoder_encode_from_utf16(&encoder, units + 1, 1, fresh_bytes(), 9, false), 1,
                      4,
                      ENCODING_TEXT_INPUT_EMPTY));
@@ -215,23 +215,23 @@ static void encoder_lengths(void)
 static void encoder_calls_from_utf16(void)
 {
     const uint16_t units[] = {0xE4, 0x2603, 0x20AC};
-    const uint16_t lone[] = {0x61, 0xD83D};
+    const uint16_t unpaired[] = {0x61, 0xD83D};
     encoding_text_utf8_encoder encoder;
 
     encoding_text_utf8_encoder_new(&encoder);
     CHECK(encoded_is(encoding_text_utf8_encoder_encode_from_utf16(&encoder, ALL(units), fresh_bytes(), 7, true), 2, 5,
                      ENCODING_TEXT_OUTPUT_FULL));
     CHECK(bytes_are(BYTES("\xC3\xA4\xE2\x98\x83")));
-    CHECK(encoded_is(encoding_text_utf8_encoder_encode_from_utf16(&encoder, ALL(lone), fresh_bytes(), 4, true), 2, 4,
+    CHECK(encoded_is(encoding_text_utf8_encoder_encode_from_utf16(&encoder, ALL(unpaired), fresh_bytes(), 4, true), 2, 4,
                      ENCODING_TEXT_INPUT_EMPTY));
     CHECK(bytes_are(BYTES("a\xEF\xBF\xBD")) && is_new_encoder(encoder));
-    encoder.held = 0xD83D;
+    encoder.surrogate = 0xD83D;
     CHECK(encoded_is(encoding_text_utf8_encoder_encode_from_utf16(&encoder, ALL(units), fresh_bytes(), 2, true), 0, 0,
                      ENCODING_TEXT_OUTPUT_FULL));
-    CHECK(no_bytes_written() && encoder.held == 0xD83D);
+    CHECK(no_bytes_written() && encoder.surrogate == 0xD83D);
     CHECK(encoded_is(encoding_text_utf8_encoder_encode_from_utf16(&encoder, units, 0, fresh_bytes(), 9, false), 0, 0,
                      ENCODING_TEXT_INPUT_EMPTY));
-    CHECK(no_bytes_written() && encoder.held == 0xD83D);
+    CHECK(no_bytes_written() && encoder.surrogate == 0xD83D);
     CHECK(encoded_is(encoding_text_utf8_encoder_encode_from_utf16(&encoder, units, 0, fresh_bytes(), 9, true), 0, 3,
                      ENCODING_TEXT_INPUT_EMPTY));
     CHECK(bytes_are(BYTES("\xEF\xBF\xBD")) && is_new_encoder(encoder));
@@ -240,7 +240,7 @@ static void encoder_calls_from_utf16(void)
 static void encoder_calls_from_text(void)
 {
     const uint8_t text[] = {0x61, 0xC3, 0xA4};
-    const uint8_t broken[] = {0x61, 0xC3};
+    const uint8_t malformed[] = {0x61, 0xC3};
     const bool marks[] = {false, true};
 
     /* `last` has no effect */
@@ -250,20 +250,20 @@ static void encoder_calls_from_text(void)
                          1, 1,
                          ENCODING_TEXT_OUTPUT_FULL));
         CHECK(bytes_are(BYTES("a")));
-        encoder.held = 0xD83D;
-        CHECK(encoded_is(encoding_text_utf8_encoder_encode_from_utf8(&encoder, ALL(broken), fresh_bytes(), 9, marks[i]),
+        encoder.surrogate = 0xD83D;
+        CHECK(encoded_is(encoding_text_utf8_encoder_encode_from_utf8(&encoder, ALL(malformed), fresh_bytes(), 9, marks[i]),
                          0, 0,
-                         ENCODING_TEXT_REFUSED_ANSWER));
-        CHECK(no_bytes_written() && encoder.held == 0xD83D);
+                         ENCODING_TEXT_INVALID_ARGUMENT_U8));
+        CHECK(no_bytes_written() && encoder.surrogate == 0xD83D);
         CHECK(encoded_is(encoding_text_utf8_encoder_encode_from_utf8(&encoder, ALL(text), fresh_bytes(), 2, marks[i]),
                          0, 0,
                          ENCODING_TEXT_OUTPUT_FULL));
-        CHECK(no_bytes_written() && encoder.held == 0xD83D);
+        CHECK(no_bytes_written() && encoder.surrogate == 0xD83D);
         CHECK(encoded_is(encoding_text_utf8_encoder_encode_from_utf8(&encoder, ALL(text), fresh_bytes(), 6, marks[i]),
                          3, 6,
                          ENCODING_TEXT_INPUT_EMPTY));
         CHECK(bytes_are(BYTES("\xEF\xBF\xBD" "a\xC3\xA4")) && is_new_encoder(encoder));
-        encoder.held = 0xD83D;
+        encoder.surrogate = 0xD83D;
         CHECK(encoded_is(encoding_text_utf8_encoder_encode_from_utf8(&encoder, text, 0, fresh_bytes(), 9, marks[i]), 0,
                          3,
                          ENCODING_TEXT_INPUT_EMPTY));

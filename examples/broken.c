@@ -12,29 +12,29 @@
 int main(void)
 {
     char *line = NULL;
-    size_t room = 0, line_number = 0, broken = 0;
+    size_t room = 0, line_number = 0, count = 0;
     ssize_t length;
     while ((length = getline(&line, &room, stdin)) > 0) {
         const uint8_t *at = (const uint8_t *)line, *end = at + length;
         size_t column = 1;
         line_number++;
         for (;;) {
-            encoding_text_broken_part part = encoding_text_next_broken(at, (size_t)(end - at));
-            if (part.length == 0) {
+            encoding_text_malformed_sequence malformed = encoding_text_next_malformed(at, (size_t)(end - at));
+            if (malformed.length == 0) {
                 break;
             }
-            for (; part.place > 0; part.place--) {
+            for (; malformed.place > 0; malformed.place--) {
                 column += (*at++ & 0xC0) != 0x80; /* not a continuation byte: a character begins */
             }
             printf("line %zu, column %zu:", line_number, column++);
-            for (; part.length > 0; part.length--) {
+            for (; malformed.length > 0; malformed.length--) {
                 printf(" %02X", *at++);
             }
             putchar('\n');
-            broken++;
+            count++;
         }
     }
-    printf("%zu broken\n", broken);
+    printf("%zu broken\n", count);
     free(line);
     return !feof(stdin);
 }

@@ -10,14 +10,14 @@
 struct Decoder {
     encoding_text_utf8_decoder state = {};
     std::u16string text;
-    std::size_t broken = 0;
+    std::size_t malformed = 0;
 
     // Decodes the next bytes and appends the result; `last` says that no more follow.
     void decode(const unsigned char *bytes, std::size_t length, bool last)
     {
         std::size_t at = text.size();
         text.resize(at + encoding_text_utf8_decoder_max_utf16_buffer_length(&state, length));
-        encoding_text_decoded done;
+        encoding_text_decode_result done;
         do {
             uint16_t *room = reinterpret_cast<uint16_t *>(&text[at]);
             done = encoding_text_utf8_decoder_decode_to_utf16(&state, bytes, length, room, text.size() - at, last);
@@ -26,7 +26,7 @@ struct Decoder {
             at += done.written;
             if (done.result == ENCODING_TEXT_MALFORMED) {
                 text[at++] = u'\uFFFD';
-                broken++;
+                malformed++;
             }
         } while (done.result == ENCODING_TEXT_MALFORMED);
         text.resize(at);
@@ -42,6 +42,6 @@ int main()
         decoder.decode(block, length, false);
     }
     decoder.decode(nullptr, 0, true);
-    std::printf("%zu code units, %zu for a broken part\n", decoder.text.size(), decoder.broken);
+    std::printf("%zu code units, %zu for a broken part\n", decoder.text.size(), decoder.malformed);
     return std::ferror(stdin) != 0;
 }

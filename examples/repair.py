@@ -4,12 +4,12 @@ import ctypes
 import sys
 
 
-class Repaired(ctypes.Structure):
+class RepairResult(ctypes.Structure):
     _fields_ = [("written", ctypes.c_size_t), ("replaced", ctypes.c_uint64)]
 
 
 library = ctypes.CDLL("libencoding_text.so.0")
-library.encoding_text_repair_slice.restype = Repaired
+library.encoding_text_repair_slice.restype = RepairResult
 library.encoding_text_repair_slice.argtypes = [
     ctypes.c_char_p,
     ctypes.c_size_t,
@@ -26,6 +26,6 @@ def repair(source):
 
 
 if __name__ == "__main__":
-    mended, replaced = repair(sys.stdin.buffer.read())
-    sys.stdout.buffer.write(mended)
+    repaired, replaced = repair(sys.stdin.buffer.read())
+    sys.stdout.buffer.write(repaired)
     print(f"{replaced} broken parts", file=sys.stderr)

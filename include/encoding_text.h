@@ -22,12 +22,13 @@
  * - After the call the elements past those reported as written are unchanged. Only the `_to_str` functions clear some.
  *
  * Violated preconditions
- * - A function checks its preconditions on lengths and contents. If one is violated, it changes nothing in memory, and
- *   returns a value that no other call of the function returns:
- *   - a size_t is ENCODING_TEXT_REFUSED, a uint8_t is ENCODING_TEXT_REFUSED_ANSWER;
- *   - in encoding_text_counts, `read` and `written` are ENCODING_TEXT_REFUSED;
- *   - in encoding_text_encoded and encoding_text_outcome, `result` is ENCODING_TEXT_REFUSED_ANSWER, and the rest 0;
- *   - in encoding_text_repaired, `written` is ENCODING_TEXT_REFUSED and `replaced` is 0.
+ * - A function checks its preconditions on lengths and contents. If one is violated, the function changes nothing in
+ *   memory. It returns a value that no other call of the function returns:
+ *   - a size_t is ENCODING_TEXT_INVALID_ARGUMENT, a uint8_t is ENCODING_TEXT_INVALID_ARGUMENT_U8;
+ *   - in encoding_text_progress, `read` and `written` are ENCODING_TEXT_INVALID_ARGUMENT;
+ *   - in encoding_text_encode_result and encoding_text_decode_run_result, `result` is
+ *     ENCODING_TEXT_INVALID_ARGUMENT_U8, and the rest is 0;
+ *   - in encoding_text_repair_result, `written` is ENCODING_TEXT_INVALID_ARGUMENT and `replaced` is 0.
  * - Functions that return void, bool or another structure check no precondition.
  * - The `_unchecked` functions don't check that a source is well-formed. If it isn't, the behaviour is undefined.
  * - Preconditions on pointers aren't checked either, nor is the limit of PTRDIFF_MAX bytes.
@@ -36,14 +37,21 @@
  * - Calls on different storage may run at once, in any threads. One thread at a time uses a decoder or an encoder.
  * - No function allocates memory. Between calls, only a decoder or an encoder keeps state, in the caller's storage.
  *
- * On glibc, the library holds a build for x86-64-v2 and one for x86-64-v3 (with AVX2), and selects one when it is
- * loaded: the second if the processor supports it, unless ENCODING_TEXT_CPU=x86-64-v2 is in the environment. A library
- * made by `make CPU=x86-64-v3` or the like, or without glibc, holds one build and ignores the variable. If the
- * processor supports no build of the library, the program ends with SIGILL.
+ * Processors
+ * - On glibc, the library holds a build for x86-64-v2 and one for x86-64-v3 (with AVX2). It selects one at load time.
+ * - It selects the second if the processor supports it and ENCODING_TEXT_CPU=x86-64-v2 isn't in the environment.
+ * - A library made by `make CPU=x86-64-v3` or the like, or without glibc, holds one build and ignores the variable.
+ * - If the processor supports no build of the library, the program ends with SIGILL.
  *
- * Not available from C: `decode_latin1` and `encode_latin1_lossy`, which may allocate (the functions of these names
- * here write to the caller's destination); the constants `UTF8_DATA` and `ASCII_MASK`; the repair of a reader into a
- * writer (`repair`, `Watch`); and the laws, which are theorems.
+ * Not available from C
+ * - `is_str_latin1` and `is_str_bidi`: call encoding_text_mem_is_utf8_latin1 and encoding_text_mem_is_utf8_bidi. For a
+ *   text they return the same.
+ * - `is_char_bidi`: call encoding_text_mem_is_utf8_bidi with the UTF-8 of the scalar value.
+ * - `decode_latin1` and `encode_latin1_lossy`, which may allocate. The functions of these names here write to the
+ *   caller's destination.
+ * - The constants `UTF8_DATA` and `ASCII_MASK`.
+ * - The repair of a reader into a writer (`repair`, `Watch`).
+ * - The laws, which are theorems.
  */
 #ifndef ENCODING_TEXT_H
 #define ENCODING_TEXT_H
@@ -63,24 +71,20 @@ extern "C" {
 #define ENCODING_TEXT_VERSION \
     (10000 * ENCODING_TEXT_VERSION_MAJOR + 100 * ENCODING_TEXT_VERSION_MINOR + ENCODING_TEXT_VERSION_PATCH)
 
-/** Returned if a precondition is violated: ENCODING_TEXT_REFUSED is a size_t, the other one a uint8_t. */
-#define ENCODING_TEXT_REFUSED SIZE_MAX
-#define ENCODING_TEXT_REFUSED_ANSWER UINT8_MAX
-
-/** Returned by functions that answer yes or no and have a precondition: bool has no third value. */
-#define ENCODING_TEXT_NO 0
-#define ENCODING_TEXT_YES 1
+/** Returned if a precondition is violated: the first as a size_t, the second as a uint8_t. */
+#define ENCODING_TEXT_INVALID_ARGUMENT SIZE_MAX
+#define ENCODING_TEXT_INVALID_ARGUMENT_U8 UINT8_MAX
 
 /** Returned by the encoding_text_mem_check_ functions. */
 #define ENCODING_TEXT_LATIN1 0
 #define ENCODING_TEXT_LEFT_TO_RIGHT 1
 #define ENCODING_TEXT_BIDI 2
 
-/** How many elements were read and written. */
+/** How much a call read and wrote. */
 typedef struct {
     size_t read;    /**< elements of the source */
     size_t written; /**< elements of the destination */
-} encoding_text_counts;
+} encoding_text_progress;
 
 /** The longest ASCII prefix, and the element that ends it. */
 typedef struct {
@@ -128,15 +132,11 @@ bool encoding_text_mem_is_basic_latin(const uint16_t *buffer, size_t buffer_leng
 bool encoding_text_mem_is_utf8_latin1(const uint8_t *buffer, size_t buffer_length);
 bool encoding_text_mem_is_utf16_latin1(const uint16_t *buffer, size_t buffer_length);
 
-/** @return whether a text is Latin1: ENCODING_TEXT_NO or ENCODING_TEXT_YES; ENCODING_TEXT_REFUSED_ANSWER if the buffer
- * isn't well-formed */
-uint8_t encoding_text_mem_is_str_latin1(const uint8_t *buffer, size_t buffer_length);
-
 /** @return the length in bytes of the longest prefix that is the UTF-8 of scalar values up to U+00FF */
 size_t encoding_text_mem_utf8_latin1_up_to(const uint8_t *buffer, size_t buffer_length);
 
-/** @return the length in bytes of the longest prefix of a text with scalar values up to U+00FF; ENCODING_TEXT_REFUSED
- * if the buffer isn't well-formed */
+/** @return the length in bytes of the longest prefix of a text with scalar values up to U+00FF;
+ * ENCODING_TEXT_INVALID_ARGUMENT if the buffer isn't well-formed */
 size_t encoding_text_mem_str_latin1_up_to(const uint8_t *buffer, size_t buffer_length);
 
 /** @return the index of the first unpaired surrogate, or buffer_length if there is none */
@@ -145,25 +145,17 @@ size_t encoding_text_mem_utf16_valid_up_to(const uint16_t *buffer, size_t buffer
 /** Replaces each unpaired surrogate by 0xFFFD. @param buffer the code units */
 void encoding_text_mem_ensure_utf16_validity(uint16_t *buffer, size_t buffer_length);
 
-/** @return whether a scalar value is right-to-left: ENCODING_TEXT_NO or ENCODING_TEXT_YES; ENCODING_TEXT_REFUSED_ANSWER
- * if the number is no scalar value */
-uint8_t encoding_text_mem_is_char_bidi(uint32_t c);
-
 /** @return whether a code unit is a right-to-left scalar value, or the high surrogate of one */
 bool encoding_text_mem_is_utf16_code_unit_bidi(uint16_t u);
 
 /** @return whether the buffer isn't well-formed or has a right-to-left scalar value */
 bool encoding_text_mem_is_utf8_bidi(const uint8_t *buffer, size_t buffer_length);
 
-/** @return whether a text has a right-to-left scalar value: ENCODING_TEXT_NO or ENCODING_TEXT_YES;
- * ENCODING_TEXT_REFUSED_ANSWER if the buffer isn't well-formed */
-uint8_t encoding_text_mem_is_str_bidi(const uint8_t *buffer, size_t buffer_length);
-
 /** @return whether the buffer has a right-to-left scalar value, or an unpaired high surrogate that could begin one */
 bool encoding_text_mem_is_utf16_bidi(const uint16_t *buffer, size_t buffer_length);
 
 /** @return ENCODING_TEXT_LATIN1 if the buffer is Latin1, else ENCODING_TEXT_BIDI if the `_bidi` function of the same
- * type says yes, else ENCODING_TEXT_LEFT_TO_RIGHT. For `str`, ENCODING_TEXT_REFUSED_ANSWER if the buffer isn't
+ * type returns true, else ENCODING_TEXT_LEFT_TO_RIGHT. For `str`, ENCODING_TEXT_INVALID_ARGUMENT_U8 if the buffer isn't
  * well-formed. */
 uint8_t encoding_text_mem_check_utf8_for_latin1_and_bidi(const uint8_t *buffer, size_t buffer_length);
 uint8_t encoding_text_mem_check_str_for_latin1_and_bidi(const uint8_t *buffer, size_t buffer_length);
@@ -171,7 +163,7 @@ uint8_t encoding_text_mem_check_utf16_for_latin1_and_bidi(const uint16_t *buffer
 
 /* ---- Whole buffers: conversions ----------------------------------------------------------------------------------- */
 
-/** Copies the longest ASCII prefix. @return its length; ENCODING_TEXT_REFUSED if dst_length < src_length */
+/** Copies the longest ASCII prefix. @return its length; ENCODING_TEXT_INVALID_ARGUMENT if dst_length < src_length */
 size_t encoding_text_mem_copy_ascii_to_ascii(const uint8_t *src, size_t src_length, uint8_t *dst, size_t dst_length);
 size_t encoding_text_mem_copy_ascii_to_basic_latin(const uint8_t *src, size_t src_length, uint16_t *dst,
                                                    size_t dst_length);
@@ -179,68 +171,70 @@ size_t encoding_text_mem_copy_basic_latin_to_ascii(const uint16_t *src, size_t s
                                                    size_t dst_length);
 
 /** Converts Latin1 to UTF-16.
- * @return the number of code units written; ENCODING_TEXT_REFUSED if dst_length < src_length */
+ * @return the number of code units written; ENCODING_TEXT_INVALID_ARGUMENT if dst_length < src_length */
 size_t encoding_text_mem_convert_latin1_to_utf16(const uint8_t *src, size_t src_length, uint16_t *dst,
                                                  size_t dst_length);
 
 /** Converts the longest prefix of Latin1 whose UTF-8 fits (Encoding Standard, encodeInto).
  * @return how much was read and written */
-encoding_text_counts encoding_text_mem_convert_latin1_to_utf8_partial(const uint8_t *src, size_t src_length,
-                                                                      uint8_t *dst, size_t dst_length);
+encoding_text_progress encoding_text_mem_convert_latin1_to_utf8_partial(const uint8_t *src, size_t src_length,
+                                                                        uint8_t *dst, size_t dst_length);
 
 /** Converts Latin1 to UTF-8.
- * @return the number of bytes written; ENCODING_TEXT_REFUSED if dst_length < 2 * src_length */
+ * @return the number of bytes written; ENCODING_TEXT_INVALID_ARGUMENT if dst_length < 2 * src_length */
 size_t encoding_text_mem_convert_latin1_to_utf8(const uint8_t *src, size_t src_length, uint8_t *dst, size_t dst_length);
 
 /** Converts Latin1 to UTF-8, into a destination that may be exactly as long as the result.
- * @return the number of bytes written; ENCODING_TEXT_REFUSED if dst_length <
+ * @return the number of bytes written; ENCODING_TEXT_INVALID_ARGUMENT if dst_length <
  * encoding_text_mem_utf8_length_from_latin1(src, src_length) */
 size_t encoding_text_mem_decode_latin1(const uint8_t *src, size_t src_length, uint8_t *dst, size_t dst_length);
 
 /** Converts a Latin1 text from UTF-8, one byte for each character.
- * @return the number of bytes written; ENCODING_TEXT_REFUSED if dst_length < src_length, or if src isn't a Latin1
- * text */
+ * @return the number of bytes written; ENCODING_TEXT_INVALID_ARGUMENT if dst_length < src_length, or if src isn't a
+ * Latin1 text */
 size_t encoding_text_mem_convert_utf8_to_latin1_lossy(const uint8_t *src, size_t src_length, uint8_t *dst,
                                                       size_t dst_length);
 
 /** Converts a Latin1 text from UTF-8, into a destination that may be exactly as long as the result.
- * @return the number of bytes written; ENCODING_TEXT_REFUSED if src isn't a Latin1 text, or if dst_length <
+ * @return the number of bytes written; ENCODING_TEXT_INVALID_ARGUMENT if src isn't a Latin1 text, or if dst_length <
  * encoding_text_mem_latin1_length_from_utf8(src, src_length) */
 size_t encoding_text_mem_encode_latin1(const uint8_t *src, size_t src_length, uint8_t *dst, size_t dst_length);
 
 /** Writes the low eight bits of each code unit.
- * @return the number of bytes written; ENCODING_TEXT_REFUSED if dst_length < src_length */
+ * @return the number of bytes written; ENCODING_TEXT_INVALID_ARGUMENT if dst_length < src_length */
 size_t encoding_text_mem_convert_utf16_to_latin1_lossy(const uint16_t *src, size_t src_length, uint8_t *dst,
                                                        size_t dst_length);
 
 /** Converts to UTF-16, with U+FFFD for each malformed sequence (Encoding Standard, UTF-8 decode without BOM).
- * @return the number of code units written; ENCODING_TEXT_REFUSED if dst_length <= src_length */
+ * @return the number of code units written; ENCODING_TEXT_INVALID_ARGUMENT if dst_length <= src_length */
 size_t encoding_text_mem_convert_utf8_to_utf16(const uint8_t *src, size_t src_length, uint16_t *dst, size_t dst_length);
 
 /** Converts a text to UTF-16.
- * @return the number of code units written; ENCODING_TEXT_REFUSED if dst_length < src_length, or if src isn't
+ * @return the number of code units written; ENCODING_TEXT_INVALID_ARGUMENT if dst_length < src_length, or if src isn't
  * well-formed */
 size_t encoding_text_mem_convert_str_to_utf16(const uint8_t *src, size_t src_length, uint16_t *dst, size_t dst_length);
 
 /** Converts the longest well-formed prefix to UTF-16.
  * @return its length as `read`, which is src_length if and only if src is well-formed, and the number of code units
- * written; ENCODING_TEXT_REFUSED twice if dst_length < src_length */
-encoding_text_counts encoding_text_mem_convert_utf8_to_utf16_without_replacement(const uint8_t *src, size_t src_length,
-    uint16_t *dst, size_t dst_length);
+ * written; ENCODING_TEXT_INVALID_ARGUMENT as both if dst_length < src_length */
+encoding_text_progress encoding_text_mem_convert_utf8_to_utf16_without_replacement(const uint8_t *src,
+                                                                                   size_t src_length, uint16_t *dst,
+                                                                                   size_t dst_length);
 
 /** Converts the longest prefix of whole characters whose UTF-8 fits, with U+FFFD for each unpaired surrogate (Encoding
  * Standard, encodeInto). @return how much was read and written */
-encoding_text_counts encoding_text_mem_convert_utf16_to_utf8_partial(const uint16_t *src, size_t src_length,
-                                                                     uint8_t *dst, size_t dst_length);
+encoding_text_progress encoding_text_mem_convert_utf16_to_utf8_partial(const uint16_t *src, size_t src_length,
+                                                                       uint8_t *dst, size_t dst_length);
 
 /** Converts all of src, with U+FFFD for each unpaired surrogate.
- * @return the number of bytes written; ENCODING_TEXT_REFUSED if dst_length < 3 * src_length */
+ * @return the number of bytes written; ENCODING_TEXT_INVALID_ARGUMENT if dst_length < 3 * src_length */
 size_t encoding_text_mem_convert_utf16_to_utf8(const uint16_t *src, size_t src_length, uint8_t *dst, size_t dst_length);
 
 /* ---- Whole buffers: texts that the caller knows to be well-formed -------------------------------------------------- */
 
 /** For languages whose types guarantee a text. If it is ill-formed, the behaviour is undefined.
- * @return what the function without `_unchecked` returns, which checks first that the text is well-formed */
+ * @return what the function without `_unchecked` returns for a text; for `is_str_latin1` and `is_str_bidi`, what
+ * encoding_text_mem_is_utf8_latin1 and encoding_text_mem_is_utf8_bidi return */
 bool encoding_text_mem_is_str_latin1_unchecked(const uint8_t *buffer, size_t buffer_length);
 size_t encoding_text_mem_str_latin1_up_to_unchecked(const uint8_t *buffer, size_t buffer_length);
 bool encoding_text_mem_is_str_bidi_unchecked(const uint8_t *buffer, size_t buffer_length);
@@ -267,7 +261,7 @@ size_t encoding_text_mem_utf8_length_from_utf16(const uint16_t *src, size_t src_
 size_t encoding_text_mem_utf8_length_from_latin1(const uint8_t *src, size_t src_length);
 
 /** @return the number of bytes that encoding_text_mem_encode_latin1 writes for src, one for each character;
- * ENCODING_TEXT_REFUSED if src isn't a Latin1 text */
+ * ENCODING_TEXT_INVALID_ARGUMENT if src isn't a Latin1 text */
 size_t encoding_text_mem_latin1_length_from_utf8(const uint8_t *src, size_t src_length);
 
 
@@ -276,14 +270,14 @@ size_t encoding_text_mem_latin1_length_from_utf8(const uint8_t *src, size_t src_
 /** Converts as the function with `utf8` instead of `str` does. The destination is a text before and after the call.
  * The two from UTF-16 set the continuation bytes directly after what is written to zero. The two from Latin1 set the
  * next sixteen bytes, or all that are left, to zero, and then the continuation bytes directly after these.
- * @return what the function with `utf8` returns; ENCODING_TEXT_REFUSED (twice in the counts) if dst isn't well-formed,
- * if dst_length < 3 * src_length (`convert_utf16_to_str`), or if dst_length < 2 * src_length
+ * @return what the function with `utf8` returns; ENCODING_TEXT_INVALID_ARGUMENT (as `read` and `written` of a progress)
+ * if dst isn't well-formed, if dst_length < 3 * src_length (`convert_utf16_to_str`), or if dst_length < 2 * src_length
  * (`convert_latin1_to_str`) */
-encoding_text_counts encoding_text_mem_convert_utf16_to_str_partial(const uint16_t *src, size_t src_length,
-                                                                    uint8_t *dst, size_t dst_length);
+encoding_text_progress encoding_text_mem_convert_utf16_to_str_partial(const uint16_t *src, size_t src_length,
+                                                                      uint8_t *dst, size_t dst_length);
 size_t encoding_text_mem_convert_utf16_to_str(const uint16_t *src, size_t src_length, uint8_t *dst, size_t dst_length);
-encoding_text_counts encoding_text_mem_convert_latin1_to_str_partial(const uint8_t *src, size_t src_length,
-                                                                     uint8_t *dst, size_t dst_length);
+encoding_text_progress encoding_text_mem_convert_latin1_to_str_partial(const uint8_t *src, size_t src_length,
+                                                                       uint8_t *dst, size_t dst_length);
 size_t encoding_text_mem_convert_latin1_to_str(const uint8_t *src, size_t src_length, uint8_t *dst, size_t dst_length);
 
 /* ---- UTF-8 -------------------------------------------------------------------------------------------------------- */
@@ -293,18 +287,18 @@ size_t encoding_text_utf8_valid_up_to(const uint8_t *src, size_t src_length);
 
 /** Converts the characters of the longest well-formed prefix to UTF-16, as many as fit.
  * @return how much was read and written */
-encoding_text_counts encoding_text_convert_utf8_to_utf16_up_to_invalid(const uint8_t *src, size_t src_length,
-                                                                       uint16_t *dst, size_t dst_length);
+encoding_text_progress encoding_text_convert_utf8_to_utf16_up_to_invalid(const uint8_t *src, size_t src_length,
+                                                                         uint16_t *dst, size_t dst_length);
 
 /** Converts a prefix of whole characters to UTF-8. Either all of src is read, or at most three bytes of dst are free.
  * @return how much was read and written */
-encoding_text_counts encoding_text_convert_utf16_to_utf8_partial_inner(const uint16_t *src, size_t src_length,
-                                                                       uint8_t *dst, size_t dst_length);
+encoding_text_progress encoding_text_convert_utf16_to_utf8_partial_inner(const uint16_t *src, size_t src_length,
+                                                                         uint8_t *dst, size_t dst_length);
 
 /** Converts the longest prefix of whole characters whose UTF-8 fits.
- * @return how much was read and written; ENCODING_TEXT_REFUSED twice if src_length is 0 or dst_length > 3 */
-encoding_text_counts encoding_text_convert_utf16_to_utf8_partial_tail(const uint16_t *src, size_t src_length,
-                                                                      uint8_t *dst, size_t dst_length);
+ * @return how much was read and written; ENCODING_TEXT_INVALID_ARGUMENT as both if src_length is 0 or dst_length > 3 */
+encoding_text_progress encoding_text_convert_utf16_to_utf8_partial_tail(const uint16_t *src, size_t src_length,
+                                                                        uint8_t *dst, size_t dst_length);
 
 /* ---- The streaming decoder (Encoding Standard, section 8.1.1) ------------------------------------------------------ */
 
@@ -326,11 +320,11 @@ typedef struct {
 
 /** The result of a decode call. */
 typedef struct {
-    size_t read;       /**< elements of the source */
-    size_t written;    /**< elements of the destination */
-    uint8_t result;    /**< ENCODING_TEXT_INPUT_EMPTY, ENCODING_TEXT_OUTPUT_FULL or ENCODING_TEXT_MALFORMED */
-    uint8_t malformed; /**< length in bytes of the malformed sequence reported, 1 to 3, or 0 if none is */
-} encoding_text_decoded;
+    size_t read;              /**< elements of the source */
+    size_t written;           /**< elements of the destination */
+    uint8_t result;           /**< ENCODING_TEXT_INPUT_EMPTY, ENCODING_TEXT_OUTPUT_FULL or ENCODING_TEXT_MALFORMED */
+    uint8_t malformed_length; /**< length in bytes of the malformed sequence reported, 1 to 3, or 0 if none is */
+} encoding_text_decode_result;
 
 /** Initialises a decoder, with nothing pending. @param decoder storage with any contents */
 void encoding_text_utf8_decoder_new(encoding_text_utf8_decoder *decoder);
@@ -350,12 +344,12 @@ size_t encoding_text_utf8_decoder_max_utf8_buffer_length(const encoding_text_utf
 /** Decodes the next bytes. A malformed sequence is reported, and nothing is written for it: call again with the unread
  * bytes. If dst has space for two code units (four bytes in UTF-8) and src isn't empty, the call reads or reports.
  * @return how much was read and written, and what ended the call */
-encoding_text_decoded encoding_text_utf8_decoder_decode_to_utf16(encoding_text_utf8_decoder *decoder,
-                                                                 const uint8_t *src, size_t src_length, uint16_t *dst,
-                                                                 size_t dst_length, bool last);
-encoding_text_decoded encoding_text_utf8_decoder_decode_to_utf8(encoding_text_utf8_decoder *decoder, const uint8_t *src,
-                                                                size_t src_length, uint8_t *dst, size_t dst_length,
-                                                                bool last);
+encoding_text_decode_result encoding_text_utf8_decoder_decode_to_utf16(encoding_text_utf8_decoder *decoder,
+                                                                       const uint8_t *src, size_t src_length,
+                                                                       uint16_t *dst, size_t dst_length, bool last);
+encoding_text_decode_result encoding_text_utf8_decoder_decode_to_utf8(encoding_text_utf8_decoder *decoder,
+                                                                      const uint8_t *src, size_t src_length,
+                                                                      uint8_t *dst, size_t dst_length, bool last);
 
 /* The `kind` of a piece. */
 #define ENCODING_TEXT_PIECE_TEXT 0        /**< the first `read` bytes of src are its longest well-formed prefix */
@@ -365,10 +359,10 @@ encoding_text_decoded encoding_text_utf8_decoder_decode_to_utf8(encoding_text_ut
 
 /** The result of a borrowed call. */
 typedef struct {
-    size_t read;        /**< bytes of the source */
-    uint32_t character; /**< the scalar value of ENCODING_TEXT_PIECE_CHAR, or 0 with another kind */
-    uint8_t kind;       /**< one of the four above */
-    uint8_t malformed;  /**< length in bytes of the malformed sequence, 1 to 3, or 0 with another kind */
+    size_t read;              /**< bytes of the source */
+    uint32_t character;       /**< the scalar value of ENCODING_TEXT_PIECE_CHAR, or 0 with another kind */
+    uint8_t kind;             /**< one of the four above */
+    uint8_t malformed_length; /**< length in bytes of the malformed sequence, 1 to 3, or 0 with another kind */
 } encoding_text_piece;
 
 /** Decodes the next bytes without a destination. @return the first piece of them */
@@ -380,20 +374,20 @@ encoding_text_piece encoding_text_utf8_decoder_decode_borrowed(encoding_text_utf
 #define ENCODING_TEXT_ENCODER_SIZE 2      /**< of encoding_text_utf8_encoder, in bytes */
 #define ENCODING_TEXT_ENCODER_ALIGNMENT 2 /**< of encoding_text_utf8_encoder, in bytes */
 
-/** The state of an encoder between calls, in the caller's storage. If `held` isn't a high surrogate (for example in
+/** The state of an encoder between calls, in the caller's storage. If `surrogate` isn't a high surrogate (for example in
  * storage that is all zero), no surrogate is pending, as in a new encoder. */
 typedef struct {
-    uint16_t held; /**< the pending surrogate: a high one that ended a call, and whose low one may follow */
+    uint16_t surrogate; /**< the pending surrogate: a high one that ended a call, and whose low one may follow */
 } encoding_text_utf8_encoder;
 
 /** The result of an encode call. `result` is ENCODING_TEXT_INPUT_EMPTY if all of src is read, and all but a pending
- * surrogate is written; ENCODING_TEXT_OUTPUT_FULL if the next character doesn't fit; or ENCODING_TEXT_REFUSED_ANSWER if
- * a text isn't well-formed. */
+ * surrogate is written. It is ENCODING_TEXT_OUTPUT_FULL if the next character doesn't fit, and
+ * ENCODING_TEXT_INVALID_ARGUMENT_U8 if a text isn't well-formed. */
 typedef struct {
     size_t read;    /**< elements of the source */
     size_t written; /**< bytes of the destination */
     uint8_t result; /**< what ended the call */
-} encoding_text_encoded;
+} encoding_text_encode_result;
 
 /** Initialises an encoder, with no surrogate pending. @param encoder storage with any contents */
 void encoding_text_utf8_encoder_new(encoding_text_utf8_encoder *encoder);
@@ -408,17 +402,17 @@ size_t encoding_text_utf8_encoder_max_buffer_length_from_utf8_without_replacemen
 /** Encodes the next code units. A high surrogate at the end of a call that isn't marked last stays pending, since its
  * low surrogate may follow. Any other unpaired surrogate becomes U+FFFD. Only whole characters are written.
  * @return how much was read and written, and what ended the call */
-encoding_text_encoded encoding_text_utf8_encoder_encode_from_utf16(encoding_text_utf8_encoder *encoder,
-                                                                   const uint16_t *src, size_t src_length, uint8_t *dst,
-                                                                   size_t dst_length, bool last);
+encoding_text_encode_result encoding_text_utf8_encoder_encode_from_utf16(encoding_text_utf8_encoder *encoder,
+                                                                         const uint16_t *src, size_t src_length,
+                                                                         uint8_t *dst, size_t dst_length, bool last);
 
 /** Writes U+FFFD for a pending surrogate, then the text; `read` counts only bytes of the text. `last` has no effect:
  * any call writes U+FFFD, even if the text is empty, and the surrogate stays pending only if U+FFFD doesn't fit. If src
  * isn't well-formed, the surrogate stays pending.
  * @return how much was read and written, and what ended the call */
-encoding_text_encoded encoding_text_utf8_encoder_encode_from_utf8(encoding_text_utf8_encoder *encoder,
-                                                                  const uint8_t *src, size_t src_length, uint8_t *dst,
-                                                                  size_t dst_length, bool last);
+encoding_text_encode_result encoding_text_utf8_encoder_encode_from_utf8(encoding_text_utf8_encoder *encoder,
+                                                                        const uint8_t *src, size_t src_length,
+                                                                        uint8_t *dst, size_t dst_length, bool last);
 
 /* ---- Runs: a source in pieces of any length, a destination in spaces of any length --------------------------------- */
 
@@ -438,14 +432,14 @@ typedef struct {
 } encoding_text_report;
 
 /** The result of a run of a decoder. `result` is that of its last call, ENCODING_TEXT_NO_CALL without turns, or
- * ENCODING_TEXT_REFUSED_ANSWER if reports_length < turns_length. */
+ * ENCODING_TEXT_INVALID_ARGUMENT_U8 if reports_length < turns_length. */
 typedef struct {
-    size_t read;       /**< bytes of the source */
-    size_t written;    /**< elements of the destination */
-    size_t reports;    /**< the number of malformed sequences reported */
-    uint8_t result;    /**< what ended the last call */
-    uint8_t malformed; /**< length in bytes of the malformed sequence that did, or 0 if none did */
-} encoding_text_outcome;
+    size_t read;              /**< bytes of the source */
+    size_t written;           /**< elements of the destination */
+    size_t reports;           /**< the number of malformed sequences reported */
+    uint8_t result;           /**< what ended the last call */
+    uint8_t malformed_length; /**< length in bytes of the malformed sequence that did, or 0 if none did */
+} encoding_text_decode_run_result;
 
 /** Decodes src with one call for each turn, regardless of the results. A call gets the next unread bytes and the rest
  * of dst, each limited by its turn. Characters are written to dst, and malformed sequences to `reports`, which has an
@@ -458,14 +452,14 @@ typedef struct {
  * encoding_text_utf8_decoder_max_utf16_buffer_length
  * (encoding_text_utf8_decoder_max_utf8_buffer_length_without_replacement) returns.
  * @return how much was read, written and reported, and what ended the last call */
-encoding_text_outcome encoding_text_run_to_utf16(encoding_text_utf8_decoder *decoder, const uint8_t *src,
-                                                 size_t src_length, const encoding_text_turn *turns,
-                                                 size_t turns_length, uint16_t *dst, size_t dst_length,
-                                                 encoding_text_report *reports, size_t reports_length);
-encoding_text_outcome encoding_text_run_to_utf8(encoding_text_utf8_decoder *decoder, const uint8_t *src,
-                                                size_t src_length, const encoding_text_turn *turns,
-                                                size_t turns_length, uint8_t *dst, size_t dst_length,
-                                                encoding_text_report *reports, size_t reports_length);
+encoding_text_decode_run_result encoding_text_run_to_utf16(encoding_text_utf8_decoder *decoder, const uint8_t *src,
+                                                           size_t src_length, const encoding_text_turn *turns,
+                                                           size_t turns_length, uint16_t *dst, size_t dst_length,
+                                                           encoding_text_report *reports, size_t reports_length);
+encoding_text_decode_run_result encoding_text_run_to_utf8(encoding_text_utf8_decoder *decoder, const uint8_t *src,
+                                                          size_t src_length, const encoding_text_turn *turns,
+                                                          size_t turns_length, uint8_t *dst, size_t dst_length,
+                                                          encoding_text_report *reports, size_t reports_length);
 
 /** Encodes src with one call for each turn, regardless of the results. A piece is counted in code units. However the
  * turns split src, what is written is the UTF-8 of the first characters of the pending surrogate and src together, with
@@ -475,9 +469,9 @@ encoding_text_outcome encoding_text_run_to_utf8(encoding_text_utf8_decoder *deco
  * `last` set. For that, dst_length has to be what
  * encoding_text_utf8_encoder_max_buffer_length_from_utf16_without_replacement returns.
  * @return how much was read and written, and what ended the last call: ENCODING_TEXT_NO_CALL without turns */
-encoding_text_encoded encoding_text_run_from_utf16(encoding_text_utf8_encoder *encoder, const uint16_t *src,
-                                                   size_t src_length, const encoding_text_turn *turns,
-                                                   size_t turns_length, uint8_t *dst, size_t dst_length);
+encoding_text_encode_result encoding_text_run_from_utf16(encoding_text_utf8_encoder *encoder, const uint16_t *src,
+                                                         size_t src_length, const encoding_text_turn *turns,
+                                                         size_t turns_length, uint8_t *dst, size_t dst_length);
 
 /* ---- Malformed sequences ------------------------------------------------------------------------------------------- */
 
@@ -485,25 +479,25 @@ encoding_text_encoded encoding_text_run_from_utf16(encoding_text_utf8_encoder *e
 typedef struct {
     size_t place;  /**< its index in src */
     size_t length; /**< its length in bytes, 1 to 3 */
-} encoding_text_broken_part;
+} encoding_text_malformed_sequence;
 
 /** @return the first malformed sequence of src (Encoding Standard, UTF-8 decoder): all bytes before it are well-formed.
  * If src is well-formed, `length` is 0 and `place` is src_length. Called again with the bytes from `place` + `length`
  * on, it finds the next one. An incomplete sequence at the end of src is malformed. */
-encoding_text_broken_part encoding_text_next_broken(const uint8_t *src, size_t src_length);
+encoding_text_malformed_sequence encoding_text_next_malformed(const uint8_t *src, size_t src_length);
 
 /* ---- Repair -------------------------------------------------------------------------------------------------------- */
 
 /** The result of a repair. */
 typedef struct {
-    size_t written;    /**< bytes; ENCODING_TEXT_REFUSED if dst_length < 3 * src_length */
+    size_t written;    /**< bytes; ENCODING_TEXT_INVALID_ARGUMENT if dst_length < 3 * src_length */
     uint64_t replaced; /**< the number of malformed sequences */
-} encoding_text_repaired;
+} encoding_text_repair_result;
 
 /** Writes src with U+FFFD for each malformed sequence.
  * @return the number of bytes written, and the number of malformed sequences */
-encoding_text_repaired encoding_text_repair_slice(const uint8_t *src, size_t src_length, uint8_t *dst,
-                                                  size_t dst_length);
+encoding_text_repair_result encoding_text_repair_slice(const uint8_t *src, size_t src_length, uint8_t *dst,
+                                                       size_t dst_length);
 
 /** The result of a call on a block of a stream. */
 typedef struct {
@@ -511,15 +505,16 @@ typedef struct {
     size_t written;  /**< bytes of the destination */
     size_t replaced; /**< the number of malformed sequences that U+FFFD was written for */
     bool finished;   /**< whether all of the block was read and, after the last one, nothing is pending */
-} encoding_text_repaired_block;
+} encoding_text_repair_block_result;
 
 /** Writes the next block of a stream with U+FFFD for each malformed sequence. `last` says that no block follows. The
  * decoder is new before the first block, and keeps the pending bytes between blocks. If the call isn't finished, fewer
  * than four bytes are free: call again with the unread bytes and more space. Four bytes are enough to make progress.
  * However the stream is split into blocks and spaces, the output is the repaired stream.
  * @return how much was read and written */
-encoding_text_repaired_block encoding_text_repair_block(encoding_text_utf8_decoder *decoder, const uint8_t *src,
-                                                        size_t src_length, uint8_t *dst, size_t dst_length, bool last);
+encoding_text_repair_block_result encoding_text_repair_block(encoding_text_utf8_decoder *decoder, const uint8_t *src,
+                                                             size_t src_length, uint8_t *dst, size_t dst_length,
+                                                             bool last);
 
 #ifdef __cplusplus
 }

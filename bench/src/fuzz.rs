@@ -41,7 +41,7 @@ fn compare(row: &Row, source: &Source, fresh: &Room, ours: &mut Room, theirs: &m
     ours.refill(fresh);
     (row.engines[0].1)(from_ref(source), ours, 1);
     if !row.clears() && !ours.keeps(fresh) {
-        return Err("ours changes what lies behind its output".into());
+        return Err("ours changes what follows its output".into());
     }
     for (name, run) in &row.engines[1..] {
         theirs.refill(fresh);
@@ -49,8 +49,8 @@ fn compare(row: &Row, source: &Source, fresh: &Room, ours: &mut Room, theirs: &m
         let same = ours.agrees(theirs) && (!row.clears() || ours.bytes == theirs.bytes);
         if !same {
             return Err(format!(
-                "{name} gives something else: {:?} and {} written, ours {:?} and {}",
-                theirs.told, theirs.written, ours.told, ours.written
+                "{name} returns something else: {:?} and {} written, ours {:?} and {}",
+                theirs.reported, theirs.written, ours.reported, ours.written
             ));
         }
     }

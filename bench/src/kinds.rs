@@ -38,8 +38,8 @@ pub enum Kind {
     Prose,
     Html,
     CjkWithAscii,
-    BrokenAscii,
-    BrokenLatin,
+    MalformedAscii,
+    MalformedLatin,
 }
 
 pub const KINDS: [Kind; 10] = [
@@ -51,8 +51,8 @@ pub const KINDS: [Kind; 10] = [
     Kind::Prose,
     Kind::Html,
     Kind::CjkWithAscii,
-    Kind::BrokenAscii,
-    Kind::BrokenLatin,
+    Kind::MalformedAscii,
+    Kind::MalformedLatin,
 ];
 
 pub const SIZES: [usize; 5] = [16, 64, 4 << 10, 64 << 10, 1 << 20];
@@ -75,13 +75,13 @@ impl Kind {
             Kind::Prose => "prose",
             Kind::Html => "HTML",
             Kind::CjkWithAscii => "CJK+ASCII",
-            Kind::BrokenAscii => "broken ASCII",
-            Kind::BrokenLatin => "broken Latin",
+            Kind::MalformedAscii => "broken ASCII",
+            Kind::MalformedLatin => "broken Latin",
         }
     }
 
-    fn is_broken(self) -> bool {
-        matches!(self, Kind::BrokenAscii | Kind::BrokenLatin)
+    fn is_malformed(self) -> bool {
+        matches!(self, Kind::MalformedAscii | Kind::MalformedLatin)
     }
 
     /// Appends a character, a word or an element to a text.
@@ -103,7 +103,7 @@ impl Kind {
 
     fn character(self, random: &mut Random) -> char {
         match self {
-            Kind::Latin | Kind::BrokenLatin if random.below(20) == 0 => beyond_ascii(random),
+            Kind::Latin | Kind::MalformedLatin if random.below(20) == 0 => beyond_ascii(random),
             Kind::Cyrillic if random.below(7) == 0 => ' ',
             Kind::Cyrillic => cyrillic(random),
             Kind::Cjk => ideograph(random),
@@ -191,7 +191,7 @@ pub fn source(kind: Kind, size: usize, which: u64) -> Source {
     let mut units: Vec<u16> = text.encode_utf16().collect();
     let latin1: Vec<u8> = text.chars().map(|c| if (c as u32) < 0x100 { c as u8 } else { 0xE4 }).collect();
     let mut bytes = text.into_bytes();
-    if kind.is_broken() {
+    if kind.is_malformed() {
         for _ in 0..bytes.len().div_ceil(100) {
             let place = random.below(bytes.len() as u32) as usize;
             bytes[place] = 0xFF;

@@ -47,7 +47,7 @@ fn main() {
         ["calls"] => rust::calls(),
         ["fuzz", count] => fuzz::fuzz(number(count), 1),
         ["fuzz", count, seed] => fuzz::fuzz(number(count), number(seed)),
-        [row, kind, size, engine, times] => measure::alone(row, kind, number(size) as usize, engine, number(times)),
+        [row, kind, size, engine, times] => measure::single(row, kind, number(size) as usize, engine, number(times)),
         _ => usage(),
     }
 }

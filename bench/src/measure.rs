@@ -32,7 +32,7 @@ fn compare(row: &Row, kind: Kind, source: &Source) {
         let mut theirs = room(source);
         run(source, &mut theirs, 1);
         if !ours.agrees(&theirs) {
-            eprintln!("{}: {} of {} bytes: {name} gives something else", row.name, kind.name(), source[0].bytes.len());
+            eprintln!("{}: {} of {} bytes: {name} returns something else", row.name, kind.name(), source[0].bytes.len());
             process::exit(1);
         }
     }
@@ -125,7 +125,7 @@ fn is_beside(row: &Row, kind: Kind) -> bool {
     let is_latin1 = matches!(row.reads, Reads::Latin1 | Reads::Latin1Text | Reads::Latin1Units);
     match kind {
         Kind::Ascii => true,
-        Kind::BrokenAscii | Kind::BrokenLatin => false,
+        Kind::MalformedAscii | Kind::MalformedLatin => false,
         Kind::Latin | Kind::Prose | Kind::Html => !row.name.contains("ascii"),
         _ => !row.name.contains("ascii") && !is_latin1,
     }
@@ -151,7 +151,7 @@ pub fn beside_simdutf() {
     }
 }
 
-pub fn alone(row: &str, kind: &str, size: usize, engine: &str, times: u64) {
+pub fn single(row: &str, kind: &str, size: usize, engine: &str, times: u64) {
     let row = ROWS.iter().find(|it| it.name == row).expect("no such row");
     let kind = *KINDS.iter().find(|it| it.name() == kind).expect("no such kind");
     let engine = row.engines.iter().find(|it| it.0 == engine).expect("no such engine");

@@ -1,6 +1,6 @@
 //! Where an engine writes its results, and how these are compared with another's.
 
-use crate::ffi::{Counts, Front, REFUSED};
+use crate::ffi::{Progress, Prefix, INVALID_ARGUMENT};
 use crate::kinds::Source;
 
 /// Destinations with what was there before, and what a call returns.
@@ -11,7 +11,7 @@ pub struct Room {
     /// How long a destination the bounded calls get.
     pub limit: usize,
     /// What a call returns besides how much it wrote: a prefix and the element after it, how much it read, yes or no.
-    pub told: [usize; 2],
+    pub reported: [usize; 2],
     /// How much it wrote.
     pub written: usize,
 }
@@ -22,7 +22,7 @@ impl Room {
         let length = source.bytes.len().max(source.units.len()).max(source.latin1.len()) + 16;
         let mut bytes = text.as_bytes().repeat(3 * length / text.len());
         bytes.resize(3 * length, b'q');
-        Room { limit: bytes.len(), bytes, units: vec![0x7171; length], told: [0, 0], written: 0 }
+        Room { limit: bytes.len(), bytes, units: vec![0x7171; length], reported: [0, 0], written: 0 }
     }
 
     /// Makes it a copy of another.
@@ -30,7 +30,7 @@ impl Room {
         self.bytes.clone_from(&fresh.bytes);
         self.units.clone_from(&fresh.units);
         self.limit = fresh.limit;
-        self.told = fresh.told;
+        self.reported = fresh.reported;
         self.written = fresh.written;
     }
 
@@ -53,34 +53,34 @@ impl Room {
     }
 
     /// Records the prefix that a call returns.
-    pub fn tell_front(&mut self, front: Front) {
-        self.told = [front.length, front.other.into()];
+    pub fn tell_prefix(&mut self, prefix: Prefix) {
+        self.reported = [prefix.length, prefix.other.into()];
     }
 
     /// Records the prefix that a call returns and has copied.
-    pub fn tell_copied(&mut self, front: Front) {
-        self.written = front.length;
-        self.tell_front(front);
+    pub fn tell_copied(&mut self, prefix: Prefix) {
+        self.written = prefix.length;
+        self.tell_prefix(prefix);
     }
 
     /// Records how much a call read and wrote.
-    pub fn tell_counts(&mut self, counts: impl Into<Counts>) {
+    pub fn tell_counts(&mut self, counts: impl Into<Progress>) {
         let counts = counts.into();
-        self.told[0] = counts.read;
+        self.reported[0] = counts.read;
         self.written = counts.written;
     }
 
     /// Returns where what was written ends.
     fn end(&self) -> usize {
-        if self.written == REFUSED { 0 } else { self.written }
+        if self.written == INVALID_ARGUMENT { 0 } else { self.written }
     }
 
     /// Returns whether both returned the same and wrote the same. Some peers may overwrite what is after that.
     pub fn agrees(&self, theirs: &Room) -> bool {
-        self.told == theirs.told
+        self.reported == theirs.reported
             && self.written == theirs.written
-            && same_front(&self.bytes, &theirs.bytes, self.end())
-            && same_front(&self.units, &theirs.units, self.end())
+            && same_prefix(&self.bytes, &theirs.bytes, self.end())
+            && same_prefix(&self.units, &theirs.units, self.end())
     }
 
     /// Returns whether all is unchanged after what was written.
@@ -89,7 +89,7 @@ impl Room {
     }
 }
 
-fn same_front<T: PartialEq>(ours: &[T], theirs: &[T], length: usize) -> bool {
+fn same_prefix<T: PartialEq>(ours: &[T], theirs: &[T], length: usize) -> bool {
     let length = length.min(ours.len());
     ours[..length] == theirs[..length]
 }

@@ -1,10 +1,11 @@
 //! The rows of the public surface, each with the engines that have it: ours first.
 //!
 //! Rows on texts start with bytes for each engine: C has no type for a text, so our functions validate what they get,
-//! and peers validate it by `std::str::from_utf8` before their own call. So do the rows that write into a text.
+//! or the row does before an `_unchecked` one, and peers validate it by `std::str::from_utf8` before their own call. So
+//! do the rows that write into a text.
 
 use crate::call::{in_place, one, two};
-use crate::ffi::{self, Front, REFUSED, REFUSED_ANSWER};
+use crate::ffi::{self, Prefix, INVALID_ARGUMENT, INVALID_ARGUMENT_U8};
 use crate::kinds::Source;
 use crate::room::Room;
 use crate::simdutf::{self, Counted};
@@ -50,6 +51,15 @@ const SIMD: &str = "simdutf8";
 pub const SIMDUTF: &str = "simdutf";
 pub const SIMDUTF_ERRORS: &str = "simdutf with errors";
 
+/// Returns what a function without a check of its own returns for a text, or `INVALID_ARGUMENT_U8`.
+fn checked(src: &[u8], unchecked: fn(&[u8]) -> bool) -> u8 {
+    if ffi::encoding_text_utf8_valid_up_to(src) == src.len() {
+        unchecked(src).into()
+    } else {
+        INVALID_ARGUMENT_U8
+    }
+}
+
 /// Returns the length of the longest well-formed prefix.
 fn std_valid_up_to(src: &[u8]) -> usize {
     str::from_utf8(src).map_or_else(|error| error.valid_up_to(), str::len)
@@ -68,10 +78,10 @@ fn put(text: &str, dst: &mut [u8]) -> usize {
 
 /// Writes as UTF-16 as many characters of the longest well-formed prefix as fit, and returns how much was read and
 /// written.
-fn std_front_to_utf16(src: &[u8], dst: &mut [u16]) -> (usize, usize) {
-    let front = str::from_utf8(&src[..std_valid_up_to(src)]).unwrap();
+fn std_prefix_to_utf16(src: &[u8], dst: &mut [u16]) -> (usize, usize) {
+    let prefix = str::from_utf8(&src[..std_valid_up_to(src)]).unwrap();
     let (mut read, mut written) = (0, 0);
-    for character in front.chars() {
+    for character in prefix.chars() {
         if dst.len() - written < character.len_utf16() {
             break;
         }
@@ -82,9 +92,9 @@ fn std_front_to_utf16(src: &[u8], dst: &mut [u16]) -> (usize, usize) {
 }
 
 /// The same. The crate's call requires a longer destination and returns no index: if it is too short this is std's.
-fn crate_front_to_utf16(src: &[u8], dst: &mut [u16]) -> (usize, usize) {
+fn crate_prefix_to_utf16(src: &[u8], dst: &mut [u16]) -> (usize, usize) {
     if dst.len() < src.len() {
-        return std_front_to_utf16(src, dst);
+        return std_prefix_to_utf16(src, dst);
     }
     match mem::convert_utf8_to_utf16_without_replacement(src, dst) {
         Some(written) => (src.len(), written),
@@ -122,11 +132,11 @@ type ToUtf16 = fn(&[u8], &mut [u16]) -> Option<usize>;
 
 /// Converts the prefix to UTF-16. simdutf requires a longer destination and returns no index: if it is too short this
 /// is std's.
-fn simdutf_front_to_utf16(src: &[u8], dst: &mut [u16], convert: ToUtf16) -> (usize, usize) {
+fn simdutf_prefix_to_utf16(src: &[u8], dst: &mut [u16], convert: ToUtf16) -> (usize, usize) {
     if dst.len() < src.len() {
-        return std_front_to_utf16(src, dst);
+        return std_prefix_to_utf16(src, dst);
     }
-    convert(src, dst).map_or_else(|| crate_front_to_utf16(src, dst), |written| (src.len(), written))
+    convert(src, dst).map_or_else(|| crate_prefix_to_utf16(src, dst), |written| (src.len(), written))
 }
 
 fn simdutf_to_utf16(src: &[u8], dst: &mut [u16]) -> Option<usize> {
@@ -153,54 +163,54 @@ macro_rules! rows {
 
 pub const ROWS: &[Row] = rows! {
     "validate_ascii", Bytes:
-        OURS => |s, r| r.tell_front(ffi::encoding_text_validate_ascii(&s.bytes)),
-        STD => |s, r| r.tell_front(one(|src| {
-            Front::of(src, src.iter().position(|b| *b >= 0x80).unwrap_or(src.len()))
+        OURS => |s, r| r.tell_prefix(ffi::encoding_text_validate_ascii(&s.bytes)),
+        STD => |s, r| r.tell_prefix(one(|src| {
+            Prefix::of(src, src.iter().position(|b| *b >= 0x80).unwrap_or(src.len()))
         }, &s.bytes)),
-        CRATE => |s, r| r.tell_front(one(|src| Front::of(src, Encoding::ascii_valid_up_to(src)), &s.bytes)),
-        SIMDUTF => |s, r| r.tell_front(Front::of(&s.bytes, simdutf::validate_ascii_with_errors(&s.bytes).count));
+        CRATE => |s, r| r.tell_prefix(one(|src| Prefix::of(src, Encoding::ascii_valid_up_to(src)), &s.bytes)),
+        SIMDUTF => |s, r| r.tell_prefix(Prefix::of(&s.bytes, simdutf::validate_ascii_with_errors(&s.bytes).count));
     "ascii_valid_up_to", Bytes:
-        OURS => |s, r| r.told[0] = ffi::encoding_text_ascii_valid_up_to(&s.bytes),
-        CRATE => |s, r| r.told[0] = one(Encoding::ascii_valid_up_to, &s.bytes),
-        SIMDUTF => |s, r| r.told[0] = simdutf::validate_ascii_with_errors(&s.bytes).count;
+        OURS => |s, r| r.reported[0] = ffi::encoding_text_ascii_valid_up_to(&s.bytes),
+        CRATE => |s, r| r.reported[0] = one(Encoding::ascii_valid_up_to, &s.bytes),
+        SIMDUTF => |s, r| r.reported[0] = simdutf::validate_ascii_with_errors(&s.bytes).count;
     "iso_2022_jp_ascii_valid_up_to", Bytes:
-        OURS => |s, r| r.told[0] = ffi::encoding_text_iso_2022_jp_ascii_valid_up_to(&s.bytes),
-        CRATE => |s, r| r.told[0] = one(Encoding::iso_2022_jp_ascii_valid_up_to, &s.bytes);
+        OURS => |s, r| r.reported[0] = ffi::encoding_text_iso_2022_jp_ascii_valid_up_to(&s.bytes),
+        CRATE => |s, r| r.reported[0] = one(Encoding::iso_2022_jp_ascii_valid_up_to, &s.bytes);
     "ascii_to_ascii", Bytes:
         OURS => |s, r| {
-            let front = ffi::encoding_text_ascii_to_ascii(&s.bytes, r.bounded_bytes());
-            r.tell_copied(front)
+            let prefix = ffi::encoding_text_ascii_to_ascii(&s.bytes, r.bounded_bytes());
+            r.tell_copied(prefix)
         },
         CRATE => |s, r| {
-            let front = two(|src, dst| {
+            let prefix = two(|src, dst| {
                 let src = &src[..src.len().min(dst.len())];
-                Front::of(src, mem::copy_ascii_to_ascii(src, dst))
+                Prefix::of(src, mem::copy_ascii_to_ascii(src, dst))
             }, &s.bytes, r.bounded_bytes());
-            r.tell_copied(front)
+            r.tell_copied(prefix)
         };
     "ascii_to_basic_latin", Bytes:
         OURS => |s, r| {
-            let front = ffi::encoding_text_ascii_to_basic_latin(&s.bytes, r.bounded_units());
-            r.tell_copied(front)
+            let prefix = ffi::encoding_text_ascii_to_basic_latin(&s.bytes, r.bounded_units());
+            r.tell_copied(prefix)
         },
         CRATE => |s, r| {
-            let front = two(|src, dst| {
+            let prefix = two(|src, dst| {
                 let src = &src[..src.len().min(dst.len())];
-                Front::of(src, mem::copy_ascii_to_basic_latin(src, dst))
+                Prefix::of(src, mem::copy_ascii_to_basic_latin(src, dst))
             }, &s.bytes, r.bounded_units());
-            r.tell_copied(front)
+            r.tell_copied(prefix)
         };
     "basic_latin_to_ascii", Units:
         OURS => |s, r| {
-            let front = ffi::encoding_text_basic_latin_to_ascii(&s.units, r.bounded_bytes());
-            r.tell_copied(front)
+            let prefix = ffi::encoding_text_basic_latin_to_ascii(&s.units, r.bounded_bytes());
+            r.tell_copied(prefix)
         },
         CRATE => |s, r| {
-            let front = two(|src, dst| {
+            let prefix = two(|src, dst| {
                 let src = &src[..src.len().min(dst.len())];
-                Front::of(src, mem::copy_basic_latin_to_ascii(src, dst))
+                Prefix::of(src, mem::copy_basic_latin_to_ascii(src, dst))
             }, &s.units, r.bounded_bytes());
-            r.tell_copied(front)
+            r.tell_copied(prefix)
         };
     "copy_ascii_to_ascii", Bytes:
         OURS => |s, r| r.written = ffi::encoding_text_mem_copy_ascii_to_ascii(&s.bytes, &mut r.bytes),
@@ -212,39 +222,39 @@ pub const ROWS: &[Row] = rows! {
         OURS => |s, r| r.written = ffi::encoding_text_mem_copy_basic_latin_to_ascii(&s.units, &mut r.bytes),
         CRATE => |s, r| r.written = two(mem::copy_basic_latin_to_ascii, &s.units, &mut r.bytes);
     "is_ascii", Bytes:
-        OURS => |s, r| r.told[0] = ffi::encoding_text_mem_is_ascii(&s.bytes).into(),
-        STD => |s, r| r.told[0] = one(<[u8]>::is_ascii, &s.bytes).into(),
-        CRATE => |s, r| r.told[0] = one(mem::is_ascii, &s.bytes).into(),
-        SIMDUTF => |s, r| r.told[0] = simdutf::validate_ascii(&s.bytes).into();
+        OURS => |s, r| r.reported[0] = ffi::encoding_text_mem_is_ascii(&s.bytes).into(),
+        STD => |s, r| r.reported[0] = one(<[u8]>::is_ascii, &s.bytes).into(),
+        CRATE => |s, r| r.reported[0] = one(mem::is_ascii, &s.bytes).into(),
+        SIMDUTF => |s, r| r.reported[0] = simdutf::validate_ascii(&s.bytes).into();
     "is_basic_latin", Units:
-        OURS => |s, r| r.told[0] = ffi::encoding_text_mem_is_basic_latin(&s.units).into(),
-        CRATE => |s, r| r.told[0] = one(mem::is_basic_latin, &s.units).into();
+        OURS => |s, r| r.reported[0] = ffi::encoding_text_mem_is_basic_latin(&s.units).into(),
+        CRATE => |s, r| r.reported[0] = one(mem::is_basic_latin, &s.units).into();
     "is_utf8_latin1", Bytes:
-        OURS => |s, r| r.told[0] = ffi::encoding_text_mem_is_utf8_latin1(&s.bytes).into(),
-        CRATE => |s, r| r.told[0] = one(mem::is_utf8_latin1, &s.bytes).into();
+        OURS => |s, r| r.reported[0] = ffi::encoding_text_mem_is_utf8_latin1(&s.bytes).into(),
+        CRATE => |s, r| r.reported[0] = one(mem::is_utf8_latin1, &s.bytes).into();
     "is_str_latin1", Text:
-        OURS => |s, r| r.told[0] = ffi::encoding_text_mem_is_str_latin1(&s.bytes).into(),
-        CRATE => |s, r| r.told[0] = one(|src| match str::from_utf8(src) {
+        OURS => |s, r| r.reported[0] = checked(&s.bytes, ffi::encoding_text_mem_is_str_latin1_unchecked).into(),
+        CRATE => |s, r| r.reported[0] = one(|src| match str::from_utf8(src) {
             Ok(text) => mem::is_str_latin1(text).into(),
-            Err(_) => REFUSED_ANSWER,
+            Err(_) => INVALID_ARGUMENT_U8,
         }, &s.bytes).into();
     "is_utf16_latin1", Units:
-        OURS => |s, r| r.told[0] = ffi::encoding_text_mem_is_utf16_latin1(&s.units).into(),
-        CRATE => |s, r| r.told[0] = one(mem::is_utf16_latin1, &s.units).into();
+        OURS => |s, r| r.reported[0] = ffi::encoding_text_mem_is_utf16_latin1(&s.units).into(),
+        CRATE => |s, r| r.reported[0] = one(mem::is_utf16_latin1, &s.units).into();
     "utf8_latin1_up_to", Bytes:
-        OURS => |s, r| r.told[0] = ffi::encoding_text_mem_utf8_latin1_up_to(&s.bytes),
-        CRATE => |s, r| r.told[0] = one(mem::utf8_latin1_up_to, &s.bytes);
+        OURS => |s, r| r.reported[0] = ffi::encoding_text_mem_utf8_latin1_up_to(&s.bytes),
+        CRATE => |s, r| r.reported[0] = one(mem::utf8_latin1_up_to, &s.bytes);
     "str_latin1_up_to", Text:
-        OURS => |s, r| r.told[0] = ffi::encoding_text_mem_str_latin1_up_to(&s.bytes),
-        CRATE => |s, r| r.told[0] = one(|src| match str::from_utf8(src) {
+        OURS => |s, r| r.reported[0] = ffi::encoding_text_mem_str_latin1_up_to(&s.bytes),
+        CRATE => |s, r| r.reported[0] = one(|src| match str::from_utf8(src) {
             Ok(text) => mem::str_latin1_up_to(text),
-            Err(_) => REFUSED,
+            Err(_) => INVALID_ARGUMENT,
         }, &s.bytes);
     "utf16_valid_up_to", Units:
-        OURS => |s, r| r.told[0] = ffi::encoding_text_mem_utf16_valid_up_to(&s.units),
-        CRATE => |s, r| r.told[0] = one(mem::utf16_valid_up_to, &s.units),
-        SIMDUTF => |s, r| r.told[0] = simdutf_utf16_valid_up_to(&s.units),
-        SIMDUTF_ERRORS => |s, r| r.told[0] = simdutf::validate_utf16le_with_errors(&s.units).count;
+        OURS => |s, r| r.reported[0] = ffi::encoding_text_mem_utf16_valid_up_to(&s.units),
+        CRATE => |s, r| r.reported[0] = one(mem::utf16_valid_up_to, &s.units),
+        SIMDUTF => |s, r| r.reported[0] = simdutf_utf16_valid_up_to(&s.units),
+        SIMDUTF_ERRORS => |s, r| r.reported[0] = simdutf::validate_utf16le_with_errors(&s.units).count;
     "ensure_utf16_validity", Units:
         OURS => |s, r| {
             r.written = s.units.len();
@@ -257,29 +267,29 @@ pub const ROWS: &[Row] = rows! {
             in_place(mem::ensure_utf16_validity, &mut r.units[..s.units.len()]);
         };
     "is_utf8_bidi", Bytes:
-        OURS => |s, r| r.told[0] = ffi::encoding_text_mem_is_utf8_bidi(&s.bytes).into(),
-        CRATE => |s, r| r.told[0] = one(mem::is_utf8_bidi, &s.bytes).into();
+        OURS => |s, r| r.reported[0] = ffi::encoding_text_mem_is_utf8_bidi(&s.bytes).into(),
+        CRATE => |s, r| r.reported[0] = one(mem::is_utf8_bidi, &s.bytes).into();
     "is_str_bidi", Text:
-        OURS => |s, r| r.told[0] = ffi::encoding_text_mem_is_str_bidi(&s.bytes).into(),
-        CRATE => |s, r| r.told[0] = one(|src| match str::from_utf8(src) {
+        OURS => |s, r| r.reported[0] = checked(&s.bytes, ffi::encoding_text_mem_is_str_bidi_unchecked).into(),
+        CRATE => |s, r| r.reported[0] = one(|src| match str::from_utf8(src) {
             Ok(text) => mem::is_str_bidi(text).into(),
-            Err(_) => REFUSED_ANSWER,
+            Err(_) => INVALID_ARGUMENT_U8,
         }, &s.bytes).into();
     "is_utf16_bidi", Units:
-        OURS => |s, r| r.told[0] = ffi::encoding_text_mem_is_utf16_bidi(&s.units).into(),
-        CRATE => |s, r| r.told[0] = one(mem::is_utf16_bidi, &s.units).into();
+        OURS => |s, r| r.reported[0] = ffi::encoding_text_mem_is_utf16_bidi(&s.units).into(),
+        CRATE => |s, r| r.reported[0] = one(mem::is_utf16_bidi, &s.units).into();
     "check_utf8_for_latin1_and_bidi", Bytes:
-        OURS => |s, r| r.told[0] = ffi::encoding_text_mem_check_utf8_for_latin1_and_bidi(&s.bytes).into(),
-        CRATE => |s, r| r.told[0] = one(mem::check_utf8_for_latin1_and_bidi, &s.bytes) as usize;
+        OURS => |s, r| r.reported[0] = ffi::encoding_text_mem_check_utf8_for_latin1_and_bidi(&s.bytes).into(),
+        CRATE => |s, r| r.reported[0] = one(mem::check_utf8_for_latin1_and_bidi, &s.bytes) as usize;
     "check_str_for_latin1_and_bidi", Text:
-        OURS => |s, r| r.told[0] = ffi::encoding_text_mem_check_str_for_latin1_and_bidi(&s.bytes).into(),
-        CRATE => |s, r| r.told[0] = one(|src| match str::from_utf8(src) {
+        OURS => |s, r| r.reported[0] = ffi::encoding_text_mem_check_str_for_latin1_and_bidi(&s.bytes).into(),
+        CRATE => |s, r| r.reported[0] = one(|src| match str::from_utf8(src) {
             Ok(text) => mem::check_str_for_latin1_and_bidi(text) as u8,
-            Err(_) => REFUSED_ANSWER,
+            Err(_) => INVALID_ARGUMENT_U8,
         }, &s.bytes).into();
     "check_utf16_for_latin1_and_bidi", Units:
-        OURS => |s, r| r.told[0] = ffi::encoding_text_mem_check_utf16_for_latin1_and_bidi(&s.units).into(),
-        CRATE => |s, r| r.told[0] = one(mem::check_utf16_for_latin1_and_bidi, &s.units) as usize;
+        OURS => |s, r| r.reported[0] = ffi::encoding_text_mem_check_utf16_for_latin1_and_bidi(&s.units).into(),
+        CRATE => |s, r| r.reported[0] = one(mem::check_utf16_for_latin1_and_bidi, &s.units) as usize;
     "convert_latin1_to_utf16", Latin1:
         OURS => |s, r| r.written = ffi::encoding_text_mem_convert_latin1_to_utf16(&s.latin1, &mut r.units),
         CRATE => |s, r| {
@@ -329,7 +339,7 @@ pub const ROWS: &[Row] = rows! {
         OURS => |s, r| r.written = ffi::encoding_text_mem_convert_str_to_utf16(&s.bytes, &mut r.units),
         STD => |s, r| r.written = two(|src, dst: &mut [u16]| {
             let Ok(text) = str::from_utf8(src) else {
-                return REFUSED;
+                return INVALID_ARGUMENT;
             };
             let mut written = 0;
             for unit in text.encode_utf16() {
@@ -340,15 +350,15 @@ pub const ROWS: &[Row] = rows! {
         }, &s.bytes, &mut r.units),
         CRATE => |s, r| r.written = two(|src, dst| match str::from_utf8(src) {
             Ok(text) => mem::convert_str_to_utf16(text, dst),
-            Err(_) => REFUSED,
+            Err(_) => INVALID_ARGUMENT,
         }, &s.bytes, &mut r.units),
         SIMDUTF => |s, r| {
             let written = simdutf_to_utf16(&s.bytes, &mut r.units);
-            r.written = written.unwrap_or(REFUSED);
+            r.written = written.unwrap_or(INVALID_ARGUMENT);
         },
         SIMDUTF_ERRORS => |s, r| {
             let written = simdutf_to_utf16_with_errors(&s.bytes, &mut r.units);
-            r.written = written.unwrap_or(REFUSED);
+            r.written = written.unwrap_or(INVALID_ARGUMENT);
         };
     "convert_utf8_to_utf16_without_replacement", Text:
         OURS => |s, r| {
@@ -356,15 +366,15 @@ pub const ROWS: &[Row] = rows! {
             r.tell_counts(counts)
         },
         CRATE => |s, r| {
-            let counts = two(crate_front_to_utf16, &s.bytes, &mut r.units);
+            let counts = two(crate_prefix_to_utf16, &s.bytes, &mut r.units);
             r.tell_counts(counts)
         },
         SIMDUTF => |s, r| {
-            let counts = simdutf_front_to_utf16(&s.bytes, &mut r.units, simdutf_to_utf16);
+            let counts = simdutf_prefix_to_utf16(&s.bytes, &mut r.units, simdutf_to_utf16);
             r.tell_counts(counts)
         },
         SIMDUTF_ERRORS => |s, r| {
-            let counts = simdutf_front_to_utf16(&s.bytes, &mut r.units, simdutf_to_utf16_with_errors);
+            let counts = simdutf_prefix_to_utf16(&s.bytes, &mut r.units, simdutf_to_utf16_with_errors);
             r.tell_counts(counts)
         };
     "convert_utf16_to_utf8_partial", Units:
@@ -396,7 +406,7 @@ pub const ROWS: &[Row] = rows! {
         CRATE => |s, r| {
             let counts = two(|src, dst| match str::from_utf8_mut(dst) {
                 Ok(text) => mem::convert_utf16_to_str_partial(src, text),
-                Err(_) => (REFUSED, REFUSED),
+                Err(_) => (INVALID_ARGUMENT, INVALID_ARGUMENT),
             }, &s.units, r.text(3 * s.units.len()));
             r.tell_counts(counts)
         };
@@ -408,36 +418,36 @@ pub const ROWS: &[Row] = rows! {
         CRATE => |s, r| {
             let counts = two(|src, dst| match str::from_utf8_mut(dst) {
                 Ok(text) => mem::convert_latin1_to_str_partial(src, text),
-                Err(_) => (REFUSED, REFUSED),
+                Err(_) => (INVALID_ARGUMENT, INVALID_ARGUMENT),
             }, &s.latin1, r.text(2 * s.latin1.len()));
             r.tell_counts(counts)
         };
     "utf8_valid_up_to", Bytes:
-        OURS => |s, r| r.told[0] = ffi::encoding_text_utf8_valid_up_to(&s.bytes),
-        STD => |s, r| r.told[0] = one(std_valid_up_to, &s.bytes),
-        CRATE => |s, r| r.told[0] = one(Encoding::utf8_valid_up_to, &s.bytes),
-        SIMD => |s, r| r.told[0] = one(simd_valid_up_to, &s.bytes),
-        SIMDUTF => |s, r| r.told[0] = simdutf_valid_up_to(&s.bytes),
-        SIMDUTF_ERRORS => |s, r| r.told[0] = simdutf::validate_utf8_with_errors(&s.bytes).count;
+        OURS => |s, r| r.reported[0] = ffi::encoding_text_utf8_valid_up_to(&s.bytes),
+        STD => |s, r| r.reported[0] = one(std_valid_up_to, &s.bytes),
+        CRATE => |s, r| r.reported[0] = one(Encoding::utf8_valid_up_to, &s.bytes),
+        SIMD => |s, r| r.reported[0] = one(simd_valid_up_to, &s.bytes),
+        SIMDUTF => |s, r| r.reported[0] = simdutf_valid_up_to(&s.bytes),
+        SIMDUTF_ERRORS => |s, r| r.reported[0] = simdutf::validate_utf8_with_errors(&s.bytes).count;
     "convert_utf8_to_utf16_up_to_invalid", Text:
         OURS => |s, r| {
             let counts = ffi::encoding_text_convert_utf8_to_utf16_up_to_invalid(&s.bytes, r.bounded_units());
             r.tell_counts(counts)
         },
         STD => |s, r| {
-            let counts = two(std_front_to_utf16, &s.bytes, r.bounded_units());
+            let counts = two(std_prefix_to_utf16, &s.bytes, r.bounded_units());
             r.tell_counts(counts)
         },
         CRATE => |s, r| {
-            let counts = two(crate_front_to_utf16, &s.bytes, r.bounded_units());
+            let counts = two(crate_prefix_to_utf16, &s.bytes, r.bounded_units());
             r.tell_counts(counts)
         },
         SIMDUTF => |s, r| {
-            let counts = simdutf_front_to_utf16(&s.bytes, r.bounded_units(), simdutf_to_utf16);
+            let counts = simdutf_prefix_to_utf16(&s.bytes, r.bounded_units(), simdutf_to_utf16);
             r.tell_counts(counts)
         },
         SIMDUTF_ERRORS => |s, r| {
-            let counts = simdutf_front_to_utf16(&s.bytes, r.bounded_units(), simdutf_to_utf16_with_errors);
+            let counts = simdutf_prefix_to_utf16(&s.bytes, r.bounded_units(), simdutf_to_utf16_with_errors);
             r.tell_counts(counts)
         };
     "decode_to_utf16, 4 KiB a call", Bytes:

@@ -1,7 +1,7 @@
 //! The rows by the Rust crate over the same library, and what a call costs more there than in C. If a row reads a text
 //! the crate is given a `&str`, and C validates the bytes.
 
-use crate::ffi::{self, Front, REFUSED};
+use crate::ffi::{self, Prefix, INVALID_ARGUMENT};
 use crate::kinds::{sources, Source, KINDS, SIZES};
 use crate::measure::{seconds, times};
 use crate::room::Room;
@@ -17,8 +17,8 @@ const PASSES: usize = 2000;
 const BOUND: f64 = 2.0;
 
 /// Returns a prefix as C returns it.
-fn told<T: Into<u16>>(found: Option<(T, usize)>, most: usize) -> Front {
-    found.map_or(Front { length: most, other: 0 }, |(other, length)| Front { length, other: other.into() })
+fn reported<T: Into<u16>>(found: Option<(T, usize)>, most: usize) -> Prefix {
+    found.map_or(Prefix { length: most, other: 0 }, |(other, length)| Prefix { length, other: other.into() })
 }
 
 /// Returns the source as a text. Only rows on texts get one.
@@ -45,41 +45,41 @@ macro_rules! engines {
 
 /// The rows that are one call, by their names.
 const RUST: &[Engine] = engines![
-    ("validate_ascii", |s, r| r.tell_front(told(ascii::validate_ascii(&s.bytes), s.bytes.len()))),
-    ("ascii_valid_up_to", |s, r| r.told[0] = ascii::ascii_valid_up_to(&s.bytes)),
-    ("iso_2022_jp_ascii_valid_up_to", |s, r| r.told[0] = ascii::iso_2022_jp_ascii_valid_up_to(&s.bytes)),
+    ("validate_ascii", |s, r| r.tell_prefix(reported(ascii::validate_ascii(&s.bytes), s.bytes.len()))),
+    ("ascii_valid_up_to", |s, r| r.reported[0] = ascii::ascii_valid_up_to(&s.bytes)),
+    ("iso_2022_jp_ascii_valid_up_to", |s, r| r.reported[0] = ascii::iso_2022_jp_ascii_valid_up_to(&s.bytes)),
     ("ascii_to_ascii", |s, r| {
         let most = s.bytes.len().min(r.bounded_bytes().len());
         let found = ascii::ascii_to_ascii(&s.bytes, r.bounded_bytes());
-        r.tell_copied(told(found, most))
+        r.tell_copied(reported(found, most))
     }),
     ("ascii_to_basic_latin", |s, r| {
         let most = s.bytes.len().min(r.bounded_units().len());
         let found = ascii::ascii_to_basic_latin(&s.bytes, r.bounded_units());
-        r.tell_copied(told(found, most))
+        r.tell_copied(reported(found, most))
     }),
     ("basic_latin_to_ascii", |s, r| {
         let most = s.units.len().min(r.bounded_bytes().len());
         let found = ascii::basic_latin_to_ascii(&s.units, r.bounded_bytes());
-        r.tell_copied(told(found, most))
+        r.tell_copied(reported(found, most))
     }),
     ("copy_ascii_to_ascii", |s, r| r.written = mem::copy_ascii_to_ascii(&s.bytes, &mut r.bytes)),
     ("copy_ascii_to_basic_latin", |s, r| r.written = mem::copy_ascii_to_basic_latin(&s.bytes, &mut r.units)),
     ("copy_basic_latin_to_ascii", |s, r| r.written = mem::copy_basic_latin_to_ascii(&s.units, &mut r.bytes)),
-    ("is_ascii", |s, r| r.told[0] = mem::is_ascii(&s.bytes).into()),
-    ("is_basic_latin", |s, r| r.told[0] = mem::is_basic_latin(&s.units).into()),
-    ("is_utf8_latin1", |s, r| r.told[0] = mem::is_utf8_latin1(&s.bytes).into()),
-    ("is_str_latin1", |s, r| r.told[0] = mem::is_str_latin1(text(s)).into()),
-    ("is_utf16_latin1", |s, r| r.told[0] = mem::is_utf16_latin1(&s.units).into()),
-    ("utf8_latin1_up_to", |s, r| r.told[0] = mem::utf8_latin1_up_to(&s.bytes)),
-    ("str_latin1_up_to", |s, r| r.told[0] = mem::str_latin1_up_to(text(s))),
-    ("utf16_valid_up_to", |s, r| r.told[0] = mem::utf16_valid_up_to(&s.units)),
-    ("is_utf8_bidi", |s, r| r.told[0] = mem::is_utf8_bidi(&s.bytes).into()),
-    ("is_str_bidi", |s, r| r.told[0] = mem::is_str_bidi(text(s)).into()),
-    ("is_utf16_bidi", |s, r| r.told[0] = mem::is_utf16_bidi(&s.units).into()),
-    ("check_utf8_for_latin1_and_bidi", |s, r| r.told[0] = mem::check_utf8_for_latin1_and_bidi(&s.bytes) as usize),
-    ("check_str_for_latin1_and_bidi", |s, r| r.told[0] = mem::check_str_for_latin1_and_bidi(text(s)) as usize),
-    ("check_utf16_for_latin1_and_bidi", |s, r| r.told[0] = mem::check_utf16_for_latin1_and_bidi(&s.units) as usize),
+    ("is_ascii", |s, r| r.reported[0] = mem::is_ascii(&s.bytes).into()),
+    ("is_basic_latin", |s, r| r.reported[0] = mem::is_basic_latin(&s.units).into()),
+    ("is_utf8_latin1", |s, r| r.reported[0] = mem::is_utf8_latin1(&s.bytes).into()),
+    ("is_str_latin1", |s, r| r.reported[0] = mem::is_str_latin1(text(s)).into()),
+    ("is_utf16_latin1", |s, r| r.reported[0] = mem::is_utf16_latin1(&s.units).into()),
+    ("utf8_latin1_up_to", |s, r| r.reported[0] = mem::utf8_latin1_up_to(&s.bytes)),
+    ("str_latin1_up_to", |s, r| r.reported[0] = mem::str_latin1_up_to(text(s))),
+    ("utf16_valid_up_to", |s, r| r.reported[0] = mem::utf16_valid_up_to(&s.units)),
+    ("is_utf8_bidi", |s, r| r.reported[0] = mem::is_utf8_bidi(&s.bytes).into()),
+    ("is_str_bidi", |s, r| r.reported[0] = mem::is_str_bidi(text(s)).into()),
+    ("is_utf16_bidi", |s, r| r.reported[0] = mem::is_utf16_bidi(&s.units).into()),
+    ("check_utf8_for_latin1_and_bidi", |s, r| r.reported[0] = mem::check_utf8_for_latin1_and_bidi(&s.bytes) as usize),
+    ("check_str_for_latin1_and_bidi", |s, r| r.reported[0] = mem::check_str_for_latin1_and_bidi(text(s)) as usize),
+    ("check_utf16_for_latin1_and_bidi", |s, r| r.reported[0] = mem::check_utf16_for_latin1_and_bidi(&s.units) as usize),
     ("convert_latin1_to_utf16", |s, r| {
         mem::convert_latin1_to_utf16(&s.latin1, &mut r.units);
         r.written = s.latin1.len();
@@ -100,7 +100,7 @@ const RUST: &[Engine] = engines![
     ("convert_str_to_utf16", |s, r| r.written = mem::convert_str_to_utf16(text(s), &mut r.units)),
     ("convert_utf8_to_utf16_without_replacement", |s, r| {
         let written = mem::convert_utf8_to_utf16_without_replacement(&s.bytes, &mut r.units);
-        r.tell_counts((s.bytes.len(), written.unwrap_or(REFUSED)))
+        r.tell_counts((s.bytes.len(), written.unwrap_or(INVALID_ARGUMENT)))
     }),
     ("convert_utf16_to_utf8_partial", |s, r| {
         let counts = mem::convert_utf16_to_utf8_partial(&s.units, r.bounded_bytes());
@@ -115,7 +115,7 @@ const RUST: &[Engine] = engines![
         let counts = mem::convert_latin1_to_str_partial(&s.latin1, into_text(r.text(2 * s.latin1.len())));
         r.tell_counts(counts)
     }),
-    ("utf8_valid_up_to", |s, r| r.told[0] = utf_8::utf8_valid_up_to(&s.bytes)),
+    ("utf8_valid_up_to", |s, r| r.reported[0] = utf_8::utf8_valid_up_to(&s.bytes)),
     ("convert_utf8_to_utf16_up_to_invalid", |s, r| {
         let counts = utf_8::convert_utf8_to_utf16_up_to_invalid(&s.bytes, r.bounded_units());
         r.tell_counts(counts)
@@ -140,7 +140,7 @@ fn compare(row: &Row, engine: &Engine) {
                 (row.engines[0].1)(from_ref(source), &mut ours, 1);
                 (engine.1)(from_ref(source), &mut theirs, 1);
                 if !ours.agrees(&theirs) || !repairs_alike(source) {
-                    eprintln!("{}: {} of {size} bytes: Rust gives something else", row.name, kind.name());
+                    eprintln!("{}: {} of {size} bytes: Rust returns something else", row.name, kind.name());
                     process::exit(1);
                 }
             }

@@ -110,8 +110,8 @@ fn whole_pieces<T: Copy>(all: &[T], length: usize, is_whole: fn(T, T) -> bool) -
         }
         let most = rest.len().min(length);
         let end = (1..=most).rev().find(|end| *end == rest.len() || is_whole(rest[end - 1], rest[*end]));
-        let (piece, behind) = rest.split_at(end.unwrap_or(most));
-        rest = behind;
+        let (piece, following) = rest.split_at(end.unwrap_or(most));
+        rest = following;
         Some(piece)
     })
 }
@@ -164,8 +164,8 @@ pub fn encode_from_utf8(source: &Source, room: &mut Room) {
             let call = encoder.from_utf8(piece, room.free_bytes(), true);
             room.written += call.written;
             piece = &piece[call.read..];
-            if call.result == ffi::REFUSED_ANSWER {
-                room.told[0] = ffi::REFUSED_ANSWER.into();
+            if call.result == ffi::INVALID_ARGUMENT_U8 {
+                room.reported[0] = ffi::INVALID_ARGUMENT_U8.into();
                 return;
             }
             if call.result == ffi::INPUT_EMPTY {
@@ -181,7 +181,7 @@ pub fn crate_encode_from_utf8(source: &Source, room: &mut Room) {
     room.written = 0;
     for piece in pieces_of_text(source) {
         let Ok(mut text) = str::from_utf8(piece) else {
-            room.told[0] = ffi::REFUSED_ANSWER.into();
+            room.reported[0] = ffi::INVALID_ARGUMENT_U8.into();
             return;
         };
         loop {

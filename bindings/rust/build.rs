@@ -45,13 +45,13 @@ fn installed() -> Option<PathBuf> {
     }
     let program = env::var_os("PKG_CONFIG").unwrap_or_else(|| "pkg-config".into());
     let version = env::var("CARGO_PKG_VERSION").ok()?;
-    let told = Command::new(program)
+    let reported = Command::new(program)
         .args(["--variable=libdir", &format!("encoding_text >= {version}")])
         .stderr(Stdio::null())
         .output()
         .ok()?;
-    let folder = PathBuf::from(String::from_utf8(told.stdout).ok()?.trim_end());
-    (is_native() && told.status.success() && folder.join(FILE).is_file()).then_some(folder)
+    let folder = PathBuf::from(String::from_utf8(reported.stdout).ok()?.trim_end());
+    (is_native() && reported.status.success() && folder.join(FILE).is_file()).then_some(folder)
 }
 
 /// Returns the folder `build` of the repository, after `make`, which does nothing if the library is newer than its

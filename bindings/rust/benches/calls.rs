@@ -18,19 +18,19 @@ const LONG: usize = 1 << 16;
 /// The functions of `encoding_text.h`, as a C program declares them.
 mod c {
     #[repr(C)]
-    pub struct Counts(usize, usize);
+    pub struct Progress(usize, usize);
     #[repr(C)]
-    pub struct Front(usize, u16);
+    pub struct Prefix(usize, u16);
     #[repr(C)]
     pub struct Decoder([u8; 3], u8);
     #[repr(C)]
-    pub struct Decoded(usize, usize, u8, u8);
+    pub struct DecodeResult(usize, usize, u8, u8);
     #[repr(C)]
     pub struct Piece(usize, u32, u8, u8);
     #[repr(C)]
     pub struct Encoder(u16);
     #[repr(C)]
-    pub struct Encoded(usize, usize, u8);
+    pub struct EncodeResult(usize, usize, u8);
 
     impl Decoder {
         pub const NEW: Decoder = Decoder([0; 3], 0);
@@ -51,30 +51,30 @@ mod c {
 
     declare! {
         from {
-            encoding_text_validate_ascii(u8) -> Front;
+            encoding_text_validate_ascii(u8) -> Prefix;
             encoding_text_ascii_valid_up_to(u8) -> usize;
             encoding_text_mem_is_ascii(u8) -> bool;
-            encoding_text_mem_is_str_latin1(u8) -> u8;
-            encoding_text_mem_is_str_bidi(u8) -> u8;
+            encoding_text_mem_is_str_latin1_unchecked(u8) -> bool;
+            encoding_text_mem_is_str_bidi_unchecked(u8) -> bool;
             encoding_text_mem_check_str_for_latin1_and_bidi(u8) -> u8;
             encoding_text_mem_check_utf16_for_latin1_and_bidi(u16) -> u8;
             encoding_text_mem_utf16_valid_up_to(u16) -> usize;
             encoding_text_utf8_valid_up_to(u8) -> usize;
         }
         into {
-            encoding_text_ascii_to_basic_latin(u8, u16) -> Front;
+            encoding_text_ascii_to_basic_latin(u8, u16) -> Prefix;
             encoding_text_mem_copy_ascii_to_ascii(u8, u8) -> usize;
             encoding_text_mem_convert_latin1_to_utf8(u8, u8) -> usize;
             encoding_text_mem_convert_utf8_to_latin1_lossy(u8, u8) -> usize;
             encoding_text_mem_convert_utf16_to_latin1_lossy(u16, u8) -> usize;
             encoding_text_mem_convert_utf8_to_utf16(u8, u16) -> usize;
             encoding_text_mem_convert_str_to_utf16(u8, u16) -> usize;
-            encoding_text_mem_convert_utf8_to_utf16_without_replacement(u8, u16) -> Counts;
-            encoding_text_mem_convert_utf16_to_utf8_partial(u16, u8) -> Counts;
+            encoding_text_mem_convert_utf8_to_utf16_without_replacement(u8, u16) -> Progress;
+            encoding_text_mem_convert_utf16_to_utf8_partial(u16, u8) -> Progress;
             encoding_text_mem_convert_utf16_to_utf8(u16, u8) -> usize;
             encoding_text_mem_convert_utf16_to_str(u16, u8) -> usize;
             encoding_text_mem_convert_latin1_to_str(u8, u8) -> usize;
-            encoding_text_convert_utf8_to_utf16_up_to_invalid(u8, u16) -> Counts;
+            encoding_text_convert_utf8_to_utf16_up_to_invalid(u8, u16) -> Progress;
         }
     }
 
@@ -87,7 +87,7 @@ mod c {
             dst: *mut u16,
             dst_length: usize,
             last: bool,
-        ) -> Decoded;
+        ) -> DecodeResult;
         pub fn encoding_text_utf8_decoder_decode_borrowed(
             decoder: *mut Decoder,
             src: *const u8,
@@ -101,7 +101,7 @@ mod c {
             dst: *mut u8,
             dst_length: usize,
             last: bool,
-        ) -> Encoded;
+        ) -> EncodeResult;
         pub fn encoding_text_utf8_encoder_encode_from_utf8(
             encoder: *mut Encoder,
             src: *const u8,
@@ -109,7 +109,7 @@ mod c {
             dst: *mut u8,
             dst_length: usize,
             last: bool,
-        ) -> Encoded;
+        ) -> EncodeResult;
     }
 }
 
@@ -155,7 +155,7 @@ impl Buffers {
 
 /// Times rows, each a call in Rust and the C function with its arguments, and passes each to a closure.
 macro_rules! rows {
-    ($told:expr, $times:expr; $($name:literal: $rust:expr, $function:ident($($argument:expr),*);)*) => {$({
+    ($reported:expr, $times:expr; $($name:literal: $rust:expr, $function:ident($($argument:expr),*);)*) => {$({
         let (rust, c) = best(
             $times,
             || { black_box($rust); },
@@ -163,7 +163,7 @@ macro_rules! rows {
             // well-formed, and states are laid out as the header says.
             || { black_box(unsafe { c::$function($($argument),*) }); },
         );
-        $told($name, rust, c);
+        $reported($name, rust, c);
     })*};
 }
 
@@ -252,8 +252,8 @@ fn texts() {
     println!("\n{title:44} {:>8} {:>8}", "Rust", "C");
     let tell = |name: &str, rust: f64, c: f64| println!("{name:44} {rust:8.0} {c:8.0}");
     rows! { tell, 2;
-        "is_str_latin1": mem::is_str_latin1(black_box(t)), encoding_text_mem_is_str_latin1(black_box(bp), n);
-        "is_str_bidi": mem::is_str_bidi(black_box(t)), encoding_text_mem_is_str_bidi(black_box(bp), n);
+        "is_str_latin1": mem::is_str_latin1(black_box(t)), encoding_text_mem_is_str_latin1_unchecked(black_box(bp), n);
+        "is_str_bidi": mem::is_str_bidi(black_box(t)), encoding_text_mem_is_str_bidi_unchecked(black_box(bp), n);
         "check_str_for_latin1_and_bidi": mem::check_str_for_latin1_and_bidi(black_box(t)),
             encoding_text_mem_check_str_for_latin1_and_bidi(black_box(bp), n);
         "convert_str_to_utf16": mem::convert_str_to_utf16(black_box(t), &mut tu),

@@ -4,6 +4,6 @@ use std::io;
 fn main() -> io::Result<()> {
     let mut text = encoding_text::Repair::new(io::stdin().lock());
     io::copy(&mut text, &mut io::stdout().lock())?;
-    eprintln!("{} broken", text.replaced());
+    eprintln!("{} malformed sequences", text.replaced());
     Ok(())
 }

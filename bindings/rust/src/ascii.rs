@@ -14,14 +14,14 @@ pub const MAX_STRIDE_SIZE: usize = 16;
 
 /// Returns the code unit after a prefix, which is never 0, and its index.
 #[inline]
-fn unit_behind(front: c::Front) -> Option<(u16, usize)> {
-    (front.other != 0).then_some((front.other, front.length))
+fn unit_after(prefix: c::Prefix) -> Option<(u16, usize)> {
+    (prefix.other != 0).then_some((prefix.other, prefix.length))
 }
 
 /// Returns the byte after a prefix, and its index.
 #[inline]
-fn byte_behind(front: c::Front) -> Option<(u8, usize)> {
-    unit_behind(front).map(|(byte, place)| (byte as u8, place))
+fn byte_after(prefix: c::Prefix) -> Option<(u8, usize)> {
+    unit_after(prefix).map(|(byte, place)| (byte as u8, place))
 }
 
 /// Returns the first byte from 0x80 on and its index, or `None` if all bytes are ASCII.
@@ -30,7 +30,7 @@ fn byte_behind(front: c::Front) -> Option<(u8, usize)> {
 #[must_use]
 #[inline]
 pub fn validate_ascii(bytes: &[u8]) -> Option<(u8, usize)> {
-    byte_behind(c::encoding_text_validate_ascii(bytes))
+    byte_after(c::encoding_text_validate_ascii(bytes))
 }
 
 /// Returns the length in bytes of the longest ASCII prefix.
@@ -62,7 +62,7 @@ pub fn iso_2022_jp_ascii_valid_up_to(bytes: &[u8]) -> usize {
 /// [Proved](crate::promises#ascii).
 #[inline]
 pub fn ascii_to_ascii(src: &[u8], dst: &mut [u8]) -> Option<(u8, usize)> {
-    byte_behind(c::encoding_text_ascii_to_ascii(src, dst))
+    byte_after(c::encoding_text_ascii_to_ascii(src, dst))
 }
 
 /// Copies the longest ASCII prefix of the first `min(src.len(), dst.len())` bytes, each as a code unit. Returns the
@@ -71,7 +71,7 @@ pub fn ascii_to_ascii(src: &[u8], dst: &mut [u8]) -> Option<(u8, usize)> {
 /// [Proved](crate::promises#ascii).
 #[inline]
 pub fn ascii_to_basic_latin(src: &[u8], dst: &mut [u16]) -> Option<(u8, usize)> {
-    byte_behind(c::encoding_text_ascii_to_basic_latin(src, dst))
+    byte_after(c::encoding_text_ascii_to_basic_latin(src, dst))
 }
 
 /// Copies the longest ASCII prefix of the first `min(src.len(), dst.len())` code units, each as a byte. Returns the
@@ -86,5 +86,5 @@ pub fn ascii_to_basic_latin(src: &[u8], dst: &mut [u16]) -> Option<(u8, usize)> 
 /// ```
 #[inline]
 pub fn basic_latin_to_ascii(src: &[u16], dst: &mut [u8]) -> Option<(u16, usize)> {
-    unit_behind(c::encoding_text_basic_latin_to_ascii(src, dst))
+    unit_after(c::encoding_text_basic_latin_to_ascii(src, dst))
 }

@@ -9,21 +9,21 @@ pub(crate) use texts::*;
 
 /// The number of elements read, and of elements written.
 #[repr(C)]
-pub(crate) struct Counts {
+pub(crate) struct Progress {
     pub(crate) read: usize,
     pub(crate) written: usize,
 }
 
-impl From<Counts> for (usize, usize) {
+impl From<Progress> for (usize, usize) {
     #[inline]
-    fn from(counts: Counts) -> (usize, usize) {
-        (counts.read, counts.written)
+    fn from(progress: Progress) -> (usize, usize) {
+        (progress.read, progress.written)
     }
 }
 
 /// The length of an ASCII prefix, and the element after it, or 0 if there is none.
 #[repr(C)]
-pub(crate) struct Front {
+pub(crate) struct Prefix {
     pub(crate) length: usize,
     pub(crate) other: u16,
 }
@@ -37,14 +37,14 @@ pub(crate) struct Decoder {
 }
 
 #[repr(C)]
-pub(crate) struct Decoded {
+pub(crate) struct DecodeResult {
     pub(crate) read: usize,
     pub(crate) written: usize,
     result: AtomicU8,
-    pub(crate) malformed: u8,
+    pub(crate) malformed_length: u8,
 }
 
-impl Decoded {
+impl DecodeResult {
     /// Returns why the call ended. The field is read as the one byte that the library has just written. A plain read is
     /// compiled to a load of four bytes here, which waits some 4 ns for the store to reach the cache.
     #[inline]
@@ -58,26 +58,26 @@ pub(crate) struct Piece {
     pub(crate) read: usize,
     pub(crate) character: u32,
     pub(crate) kind: u8,
-    pub(crate) malformed: u8,
+    pub(crate) malformed_length: u8,
 }
 
 /// An encoder between two calls: the pending high surrogate, or 0.
 #[repr(C)]
 #[derive(Clone, Debug, Default)]
 pub(crate) struct Encoder {
-    held: u16,
+    surrogate: u16,
 }
 
 impl Encoder {
     /// Returns whether a surrogate may be pending: 0 is none.
     #[inline]
     pub(crate) fn may_hold(&self) -> bool {
-        self.held != 0
+        self.surrogate != 0
     }
 }
 
 #[repr(C)]
-pub(crate) struct Encoded {
+pub(crate) struct EncodeResult {
     pub(crate) read: usize,
     pub(crate) written: usize,
     pub(crate) result: u8,
@@ -85,21 +85,20 @@ pub(crate) struct Encoded {
 
 /// The index of the first malformed sequence and its length, 0 if there is none.
 #[repr(C)]
-pub(crate) struct BrokenPart {
+pub(crate) struct MalformedSequence {
     pub(crate) place: usize,
     pub(crate) length: usize,
 }
 
 #[cfg(feature = "alloc")]
 #[repr(C)]
-pub(crate) struct Repaired {
+pub(crate) struct RepairResult {
     written: usize,
     replaced: u64,
 }
 
-/// Returned instead of a length if a condition isn't met.
-pub(crate) const REFUSED: usize = usize::MAX;
-pub(crate) const YES: u8 = 1;
+/// Returned instead of a length if a precondition is violated.
+pub(crate) const INVALID_ARGUMENT: usize = usize::MAX;
 pub(crate) const LATIN1: u8 = 0;
 pub(crate) const LEFT_TO_RIGHT: u8 = 1;
 pub(crate) const INPUT_EMPTY: u8 = 0;
@@ -122,7 +121,7 @@ macro_rules! functions {
     (
         value { $($value:ident($number:ty) -> $property:ty;)* }
         slice { $($slice:ident($unit:ty) -> $answer:ty;)* }
-        text { $($text:ident() -> $told:ty;)* }
+        text { $($text:ident() -> $reported:ty;)* }
         conversion { $($conversion:ident($from:ty, $to:ty) -> $counts:ty;)* }
         query { $($query:ident($queried:ty);)* }
         step { $($step:ident($stepped:ty, $read:ty, $write:ty) -> $ended:ty;)* }
@@ -132,7 +131,7 @@ macro_rules! functions {
             extern "C" {
                 $(pub(super) fn $value(number: $number) -> $property;)*
                 $(pub(super) fn $slice(src: *const $unit, src_length: usize) -> $answer;)*
-                $(pub(super) fn $text(src: *const u8, src_length: usize) -> $told;)*
+                $(pub(super) fn $text(src: *const u8, src_length: usize) -> $reported;)*
                 $(pub(super) fn $conversion(
                     src: *const $from, src_length: usize, dst: *mut $to, dst_length: usize,
                 ) -> $counts;)*
@@ -151,7 +150,7 @@ macro_rules! functions {
                 #[cfg(feature = "alloc")]
                 pub(super) fn encoding_text_repair_slice(
                     src: *const u8, src_length: usize, dst: *mut u8, dst_length: usize,
-                ) -> Repaired;
+                ) -> RepairResult;
             }
         }
         $(#[inline]
@@ -165,7 +164,7 @@ macro_rules! functions {
             unsafe { raw::$slice(src.as_ptr(), src.len()) }
         })*
         $(#[inline]
-        pub(crate) fn $text(src: &str) -> $told {
+        pub(crate) fn $text(src: &str) -> $reported {
             // SAFETY: it reads `src_length` bytes from the pointer on, which are those of the text. It requires them to
             // be well-formed, and those of a `str` are.
             unsafe { raw::$text(src.as_ptr(), src.len()) }
@@ -193,11 +192,10 @@ macro_rules! functions {
 
 functions! {
     value {
-        encoding_text_mem_is_char_bidi(u32) -> u8;
         encoding_text_mem_is_utf16_code_unit_bidi(u16) -> bool;
     }
     slice {
-        encoding_text_validate_ascii(u8) -> Front;
+        encoding_text_validate_ascii(u8) -> Prefix;
         encoding_text_ascii_valid_up_to(u8) -> usize;
         encoding_text_iso_2022_jp_ascii_valid_up_to(u8) -> usize;
         encoding_text_mem_is_ascii(u8) -> bool;
@@ -211,7 +209,7 @@ functions! {
         encoding_text_mem_check_utf8_for_latin1_and_bidi(u8) -> u8;
         encoding_text_mem_check_utf16_for_latin1_and_bidi(u16) -> u8;
         encoding_text_utf8_valid_up_to(u8) -> usize;
-        encoding_text_next_broken(u8) -> BrokenPart;
+        encoding_text_next_malformed(u8) -> MalformedSequence;
     }
     text {
         encoding_text_mem_is_str_latin1_unchecked() -> bool;
@@ -220,24 +218,24 @@ functions! {
         encoding_text_mem_check_str_for_latin1_and_bidi_unchecked() -> u8;
     }
     conversion {
-        encoding_text_ascii_to_ascii(u8, u8) -> Front;
-        encoding_text_ascii_to_basic_latin(u8, u16) -> Front;
-        encoding_text_basic_latin_to_ascii(u16, u8) -> Front;
+        encoding_text_ascii_to_ascii(u8, u8) -> Prefix;
+        encoding_text_ascii_to_basic_latin(u8, u16) -> Prefix;
+        encoding_text_basic_latin_to_ascii(u16, u8) -> Prefix;
         encoding_text_mem_copy_ascii_to_ascii(u8, u8) -> usize;
         encoding_text_mem_copy_ascii_to_basic_latin(u8, u16) -> usize;
         encoding_text_mem_copy_basic_latin_to_ascii(u16, u8) -> usize;
         encoding_text_mem_convert_latin1_to_utf16(u8, u16) -> usize;
-        encoding_text_mem_convert_latin1_to_utf8_partial(u8, u8) -> Counts;
+        encoding_text_mem_convert_latin1_to_utf8_partial(u8, u8) -> Progress;
         encoding_text_mem_convert_latin1_to_utf8(u8, u8) -> usize;
         encoding_text_mem_convert_utf8_to_latin1_lossy(u8, u8) -> usize;
         encoding_text_mem_convert_utf16_to_latin1_lossy(u16, u8) -> usize;
         encoding_text_mem_convert_utf8_to_utf16(u8, u16) -> usize;
-        encoding_text_mem_convert_utf8_to_utf16_without_replacement(u8, u16) -> Counts;
-        encoding_text_mem_convert_utf16_to_utf8_partial(u16, u8) -> Counts;
+        encoding_text_mem_convert_utf8_to_utf16_without_replacement(u8, u16) -> Progress;
+        encoding_text_mem_convert_utf16_to_utf8_partial(u16, u8) -> Progress;
         encoding_text_mem_convert_utf16_to_utf8(u16, u8) -> usize;
-        encoding_text_convert_utf8_to_utf16_up_to_invalid(u8, u16) -> Counts;
-        encoding_text_convert_utf16_to_utf8_partial_inner(u16, u8) -> Counts;
-        encoding_text_convert_utf16_to_utf8_partial_tail(u16, u8) -> Counts;
+        encoding_text_convert_utf8_to_utf16_up_to_invalid(u8, u16) -> Progress;
+        encoding_text_convert_utf16_to_utf8_partial_inner(u16, u8) -> Progress;
+        encoding_text_convert_utf16_to_utf8_partial_tail(u16, u8) -> Progress;
     }
     query {
         encoding_text_utf8_decoder_max_utf16_buffer_length(Decoder);
@@ -247,9 +245,9 @@ functions! {
         encoding_text_utf8_encoder_max_buffer_length_from_utf8_without_replacement(Encoder);
     }
     step {
-        encoding_text_utf8_decoder_decode_to_utf16(Decoder, u8, u16) -> Decoded;
-        encoding_text_utf8_decoder_decode_to_utf8(Decoder, u8, u8) -> Decoded;
-        encoding_text_utf8_encoder_encode_from_utf16(Encoder, u16, u8) -> Encoded;
+        encoding_text_utf8_decoder_decode_to_utf16(Decoder, u8, u16) -> DecodeResult;
+        encoding_text_utf8_decoder_decode_to_utf8(Decoder, u8, u8) -> DecodeResult;
+        encoding_text_utf8_encoder_encode_from_utf16(Encoder, u16, u8) -> EncodeResult;
     }
 }
 

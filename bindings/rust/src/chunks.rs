@@ -10,14 +10,14 @@ use core::ops::Range;
 /// [Proved](crate::promises#broken-parts).
 ///
 /// ```
-/// use encoding_text::next_broken;
-/// assert_eq!(next_broken(b"a\xE2\x98Z"), Some(1..3));
-/// assert_eq!(next_broken("né".as_bytes()), None);
+/// use encoding_text::next_malformed;
+/// assert_eq!(next_malformed(b"a\xE2\x98Z"), Some(1..3));
+/// assert_eq!(next_malformed("né".as_bytes()), None);
 /// ```
 #[must_use]
 #[inline]
-pub fn next_broken(bytes: &[u8]) -> Option<Range<usize>> {
-    let part = c::encoding_text_next_broken(bytes);
+pub fn next_malformed(bytes: &[u8]) -> Option<Range<usize>> {
+    let part = c::encoding_text_next_malformed(bytes);
     (part.length > 0).then(|| part.place..part.place + part.length)
 }
 

@@ -17,11 +17,11 @@ pub enum DecoderResult {
 }
 
 #[inline]
-fn ended(decoded: &c::Decoded) -> DecoderResult {
+fn ended(decoded: &c::DecodeResult) -> DecoderResult {
     match decoded.result() {
         c::INPUT_EMPTY => DecoderResult::InputEmpty,
         c::OUTPUT_FULL => DecoderResult::OutputFull,
-        _ => DecoderResult::Malformed(decoded.malformed, 0),
+        _ => DecoderResult::Malformed(decoded.malformed_length, 0),
     }
 }
 

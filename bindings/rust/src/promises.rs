@@ -28,7 +28,8 @@
 //! | Calls of [`mem`](crate::mem) | Proved | The crate's own |
 //! |---|---|---|
 //! | `is_ascii`, `is_basic_latin`, `is_utf8_latin1`, `is_utf16_latin1`, `utf8_latin1_up_to`, `utf16_valid_up_to`, `ensure_utf16_validity` | all that is said | nothing |
-//! | `is_char_bidi`, `is_utf16_code_unit_bidi`, `is_utf8_bidi`, `is_utf16_bidi`, `check_utf8_for_latin1_and_bidi`, `check_utf16_for_latin1_and_bidi` | all that is said | nothing |
+//! | `is_char_bidi` | whether the UTF-8 of the character is right-to-left | that UTF-8, by `char::encode_utf8` |
+//! | `is_utf16_code_unit_bidi`, `is_utf8_bidi`, `is_utf16_bidi`, `check_utf8_for_latin1_and_bidi`, `check_utf16_for_latin1_and_bidi` | all that is said | nothing |
 //! | `is_str_latin1`, `str_latin1_up_to`, `is_str_bidi`, `check_str_for_latin1_and_bidi` | all that is said, if the source is well-formed | nothing |
 //! | `copy_ascii_to_ascii`, `copy_ascii_to_basic_latin`, `copy_basic_latin_to_ascii`, `convert_utf8_to_utf16`, `convert_utf8_to_utf16_without_replacement`, `convert_latin1_to_utf16`, `convert_latin1_to_utf8`, `convert_utf16_to_utf8`, `convert_utf16_to_latin1_lossy` | what is written, and how much, into a destination that is long enough | the check that it is, which panics before anything is written |
 //! | `convert_str_to_utf16` | the same, if the source is well-formed | that check |
@@ -75,8 +76,8 @@
 //!
 //! | Calls | Proved | The crate's own |
 //! |---|---|---|
-//! | [`next_broken`](crate::next_broken) | the index and length of the first malformed sequence | an `Option` of them |
-//! | [`utf8_chunks`](crate::utf8_chunks) | each chunk, of the bytes after the previous one | passing these bytes; `law_next_broken` says what follows from it |
+//! | [`next_malformed`](crate::next_malformed) | the index and length of the first malformed sequence | an `Option` of them |
+//! | [`utf8_chunks`](crate::utf8_chunks) | each chunk, of the bytes after the previous one | passing these bytes; `law_next_malformed` says what follows from it |
 //!
 //! # Repair
 //!

@@ -22,22 +22,22 @@ use alloc::borrow::Cow;
 /// ```
 #[must_use]
 pub fn repair(bytes: &[u8]) -> Cow<'_, str> {
-    let front = c::utf8_front(bytes);
-    if front.len() == bytes.len() {
-        return Cow::Borrowed(front);
+    let prefix = c::utf8_prefix(bytes);
+    if prefix.len() == bytes.len() {
+        return Cow::Borrowed(prefix);
     }
-    Cow::Owned(c::repair_behind(front, &bytes[front.len()..]))
+    Cow::Owned(c::repair_after(prefix, &bytes[prefix.len()..]))
 }
 
 /// How many bytes are buffered for the sink at most. A longer stretch is written directly.
 #[cfg(feature = "std")]
-const ROOM: usize = 4096;
+const DST_LENGTH: usize = 4096;
 
 /// Bytes that are buffered to be written together.
 #[cfg(feature = "std")]
 struct Together<'a, W: ?Sized> {
     sink: &'a mut W,
-    room: [u8; ROOM],
+    room: [u8; DST_LENGTH],
     length: usize,
 }
 
@@ -53,10 +53,10 @@ impl<W: Write + ?Sized> Together<'_, W> {
     }
 
     fn push(&mut self, bytes: &[u8]) -> io::Result<()> {
-        if bytes.len() > ROOM - self.length {
+        if bytes.len() > DST_LENGTH - self.length {
             self.send()?;
         }
-        if bytes.len() > ROOM {
+        if bytes.len() > DST_LENGTH {
             return self.sink.write_all(bytes);
         }
         self.room[self.length..self.length + bytes.len()].copy_from_slice(bytes);
@@ -85,17 +85,17 @@ impl<W: Write + ?Sized> Together<'_, W> {
 pub fn repair_to<W: Write + ?Sized>(bytes: &[u8], sink: &mut W) -> io::Result<u64> {
     let mut together = Together {
         sink,
-        room: [0; ROOM],
+        room: [0; DST_LENGTH],
         length: 0,
     };
-    let mut broken = 0;
+    let mut malformed = 0;
     for chunk in utf8_chunks(bytes) {
         together.push(chunk.valid().as_bytes())?;
         if !chunk.invalid().is_empty() {
             together.push("\u{FFFD}".as_bytes())?;
-            broken += 1;
+            malformed += 1;
         }
     }
     together.send()?;
-    Ok(broken)
+    Ok(malformed)
 }

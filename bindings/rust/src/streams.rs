@@ -14,7 +14,7 @@ trait Unit: Copy + Default + 'static {
     const REPLACEMENT: &'static [Self];
 
     /// Returns whether the unit isn't the first of its character.
-    fn is_behind_first(self) -> bool;
+    fn is_after_first(self) -> bool;
 
     /// Makes one call of the decoder.
     fn decode(decoder: &mut Utf8Decoder, src: &[u8], dst: &mut [Self], last: bool) -> (DecoderResult, usize, usize);
@@ -24,7 +24,7 @@ impl Unit for u8 {
     const REPLACEMENT: &'static [u8] = &[0xEF, 0xBF, 0xBD];
 
     #[inline]
-    fn is_behind_first(self) -> bool {
+    fn is_after_first(self) -> bool {
         self & 0xC0 == 0x80
     }
 
@@ -38,7 +38,7 @@ impl Unit for u16 {
     const REPLACEMENT: &'static [u16] = &[0xFFFD];
 
     #[inline]
-    fn is_behind_first(self) -> bool {
+    fn is_after_first(self) -> bool {
         self & 0xFC00 == 0xDC00
     }
 
@@ -79,7 +79,7 @@ impl<U: Unit> Waiting<U> {
     fn hand_over(&mut self, buffer: &mut [U], may_cut: bool) -> usize {
         let units = &self.units[self.start..self.end];
         let most = units.len().min(buffer.len());
-        let is_end = |&count: &usize| count == units.len() || !units[count].is_behind_first();
+        let is_end = |&count: &usize| count == units.len() || !units[count].is_after_first();
         let whole = (1..=most).rev().find(is_end);
         let count = whole.unwrap_or(if may_cut { most } else { 0 });
         buffer[..count].copy_from_slice(&units[..count]);

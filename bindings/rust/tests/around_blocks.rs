@@ -107,7 +107,7 @@ F0 90 80 80 | D800 DC00
 F4 8F BF BF | DBFF DFFF";
 
 /// Malformed sequences, with U+FFFD for each.
-const BROKEN: &str = "\
+const MALFORMED: &str = "\
 FF | FFFD
 80 | FFFD
 E2 98 | FFFD
@@ -140,7 +140,7 @@ fn characters_at_each_place() {
 }
 
 #[test]
-fn broken_parts_at_each_place() {
-    let count = at_each_place(FILLERS, BROKEN, assert_bytes_convert);
+fn malformed_parts_at_each_place() {
+    let count = at_each_place(FILLERS, MALFORMED, assert_bytes_convert);
     assert_eq!(count, 4 * 6);
 }

@@ -5,7 +5,7 @@ use common::*;
 use encoding_text::ascii::*;
 
 #[test]
-fn fronts() {
+fn prefixes() {
     let mut random = Random::new(21);
     for _ in 0..4000 {
         let bytes = random.bytes();

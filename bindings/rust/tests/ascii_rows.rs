@@ -10,7 +10,7 @@ fn masks_each_byte() {
 
 /// Prefixes end before the first byte from 0x80 on.
 #[test]
-fn finds_the_front() {
+fn finds_the_prefix() {
     assert_eq!(ascii_valid_up_to(b""), 0);
     assert_eq!(ascii_valid_up_to(b"ab"), 2);
     assert_eq!(ascii_valid_up_to(&[0x61, 0x80]), 1);
@@ -25,7 +25,7 @@ fn finds_the_front() {
 
 /// Prefixes of ISO-2022-JP also end before an escape byte and the two shift bytes.
 #[test]
-fn finds_the_front_of_iso_2022_jp() {
+fn finds_the_prefix_of_iso_2022_jp() {
     assert_eq!(iso_2022_jp_ascii_valid_up_to(&[0x61, 0x1B, 0x62]), 1);
     assert_eq!(iso_2022_jp_ascii_valid_up_to(&[0x61, 0x62]), 2);
     assert_eq!(iso_2022_jp_ascii_valid_up_to(&[0x0E]), 0);
@@ -35,7 +35,7 @@ fn finds_the_front_of_iso_2022_jp() {
 
 /// Each copy stops at the first unit that isn't ASCII, and the rest is unchanged.
 #[test]
-fn copies_the_front() {
+fn copies_the_prefix() {
     let mut bytes = [0; 3];
     assert_eq!(copy_ascii_to_ascii(&[0x61, 0x62, 0xE4], &mut bytes), 2);
     assert_eq!(bytes, [0x61, 0x62, 0]);

@@ -5,7 +5,7 @@ use common::*;
 use encoding_text::mem::*;
 
 fn check(bytes: &[u8]) {
-    let text = front(bytes);
+    let text = prefix(bytes);
     let is_bidi = text.chars().any(is_right_to_left);
     let is_latin1 = text.chars().all(|c| c <= '\u{FF}');
     let is_text = text.len() == bytes.len();
@@ -26,7 +26,7 @@ fn check(bytes: &[u8]) {
 fn check_units(units: &[u16]) {
     let is_bidi = char::decode_utf16(units.iter().copied()).any(|it| match it {
         Ok(c) => is_right_to_left(c),
-        Err(lone) => is_unit_right_to_left(lone.unpaired_surrogate()),
+        Err(unpaired) => is_unit_right_to_left(unpaired.unpaired_surrogate()),
     });
     let is_latin1 = units.iter().all(|u| *u < 0x100);
     assert_eq!(is_utf16_bidi(units), is_bidi, "{units:x?}");
@@ -49,7 +49,7 @@ fn every_character() {
 
 /// Each character by itself, with all checks: no low surrogate counts as right-to-left.
 #[test]
-fn every_character_alone() {
+fn every_character_separately() {
     for c in '\0'..=char::MAX {
         let text = c.to_string();
         let units: Vec<u16> = text.encode_utf16().collect();
@@ -83,12 +83,12 @@ fn every_two_ends() {
             let mut units = [a, b];
             check_units(&units);
             let repaired: Vec<u16> = String::from_utf16_lossy(&units).encode_utf16().collect();
-            let front = units
+            let prefix = units
                 .iter()
                 .zip(&repaired)
-                .position(|(unit, mended)| unit != mended)
+                .position(|(unit, repaired)| unit != repaired)
                 .unwrap_or(2);
-            assert_eq!(utf16_valid_up_to(&units), front, "{units:x?}");
+            assert_eq!(utf16_valid_up_to(&units), prefix, "{units:x?}");
             ensure_utf16_validity(&mut units);
             assert_eq!(units[..], repaired, "{a:x}, {b:x}");
         }

@@ -14,7 +14,7 @@ const BYTES: [u8; 16] = [
 const TEXT: &str = "a€💩\u{FFFD}\u{FFFD}\u{FFFD}\u{FFFD}\u{FFFD}\u{FFFD}";
 
 /// The number of malformed sequences.
-const BROKEN: usize = 6;
+const MALFORMED: usize = 6;
 
 /// How often the stream repeats the bytes.
 const TIMES: usize = 40;
@@ -28,13 +28,13 @@ fn assert_repaired(stream: &[u8], text: &str, block: usize, room: usize) {
         let last = end == stream.len();
         let mut dst = [0x71; 64];
         let done = repair_block(&mut decoder, &stream[read..end], &mut dst[..room], last);
-        let (front, behind) = dst.split_at(done.written);
-        assert!(behind.iter().all(|byte| *byte == 0x71), "{block}, {room}");
-        written.extend_from_slice(front);
+        let (prefix, following) = dst.split_at(done.written);
+        assert!(following.iter().all(|byte| *byte == 0x71), "{block}, {room}");
+        written.extend_from_slice(prefix);
         read += done.read;
         replaced += done.replaced;
         if last && done.finished {
-            assert_eq!((read, replaced), (stream.len(), BROKEN * TIMES), "{block}, {room}");
+            assert_eq!((read, replaced), (stream.len(), MALFORMED * TIMES), "{block}, {room}");
             assert_eq!(written, text.as_bytes(), "{block}, {room}");
             return;
         }

@@ -24,9 +24,9 @@ fn pieces<'a>(random: &mut Random, bytes: &'a [u8]) -> Vec<(&'a [u8], bool)> {
     let mut pieces = Vec::new();
     let mut rest = bytes;
     while !rest.is_empty() {
-        let (piece, behind) = rest.split_at(1 + random.length(rest.len() - 1));
+        let (piece, following) = rest.split_at(1 + random.length(rest.len() - 1));
         pieces.push((piece, false));
-        rest = behind;
+        rest = following;
     }
     match pieces.last_mut() {
         Some(piece) if random.below(2) == 0 => piece.1 = true,
@@ -35,9 +35,9 @@ fn pieces<'a>(random: &mut Random, bytes: &'a [u8]) -> Vec<(&'a [u8], bool)> {
     pieces
 }
 
-fn told(result: DecoderResult, parts: &mut Vec<Result<char, u8>>) {
-    if let DecoderResult::Malformed(count, behind) = result {
-        assert_eq!(behind, 0);
+fn reported(result: DecoderResult, parts: &mut Vec<Result<char, u8>>) {
+    if let DecoderResult::Malformed(count, following) = result {
+        assert_eq!(following, 0);
         parts.push(Err(count));
     }
 }
@@ -57,7 +57,7 @@ fn to_utf16() {
                 let (result, read, written) = decoder.decode_to_utf16_raw(rest, dst.dst(), last);
                 let units = dst.written(written);
                 found.extend(char::decode_utf16(units.iter().copied()).map(|it| Ok(it.unwrap())));
-                told(result, &mut found);
+                reported(result, &mut found);
                 assert!(rest.is_empty() || read > 0 || matches!(result, DecoderResult::Malformed(..)));
                 rest = &rest[read..];
                 if result == DecoderResult::InputEmpty {
@@ -85,7 +85,7 @@ fn to_utf8() {
                 let mut dst = bytes_of(&mut random, room);
                 let (result, read, written) = decoder.decode_to_utf8_raw(rest, dst.dst(), last);
                 found.extend(std::str::from_utf8(dst.written(written)).unwrap().chars().map(Ok));
-                told(result, &mut found);
+                reported(result, &mut found);
                 assert!(rest.is_empty() || read > 0 || matches!(result, DecoderResult::Malformed(..)));
                 rest = &rest[read..];
                 if result == DecoderResult::InputEmpty {

@@ -103,12 +103,12 @@ fn in_pieces(vector: &Vector, most: usize) -> Delivered<u8> {
         let handed = &unread[..most.min(unread.len())];
         let last = handed.len() == unread.len();
         let (piece, read) = decoder.decode_borrowed(handed, last);
-        let front = &handed[..read];
+        let prefix = &handed[..read];
         unread = &unread[read..];
         match piece {
             Piece::Text(piece) => {
-                assert_eq!(piece.as_bytes(), front, "{}", vector.row);
-                text.extend_from_slice(front);
+                assert_eq!(piece.as_bytes(), prefix, "{}", vector.row);
+                text.extend_from_slice(prefix);
             }
             Piece::Char(character) => u8::push(&mut text, character),
             Piece::Malformed(length) => reports.push((text.len(), length)),

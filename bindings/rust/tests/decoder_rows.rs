@@ -7,7 +7,7 @@ use encoding_text::decoder::Piece;
 use encoding_text::{DecoderResult, Utf8Decoder};
 
 /// What a call returns: the result, the number of bytes read, and the number of units written.
-type Told = (DecoderResult, usize, usize);
+type Reported = (DecoderResult, usize, usize);
 
 /// Parses a number in decimal digits. The greatest one is `MAX`, and one below it `MAX - 1`.
 fn number(field: &str) -> usize {
@@ -33,7 +33,7 @@ fn is_last(field: &str) -> bool {
 }
 
 /// Returns the length of the malformed sequence that a field names.
-fn broken(field: &str) -> u8 {
+fn malformed(field: &str) -> u8 {
     field.strip_prefix("Malformed ").unwrap().parse().unwrap()
 }
 
@@ -42,7 +42,7 @@ fn result_of(field: &str) -> DecoderResult {
     match field {
         "InputEmpty" => DecoderResult::InputEmpty,
         "OutputFull" => DecoderResult::OutputFull,
-        _ => DecoderResult::Malformed(broken(field), 0),
+        _ => DecoderResult::Malformed(malformed(field), 0),
     }
 }
 
@@ -54,7 +54,7 @@ fn piece_of<'a>(field: &str, text: &'a [u8]) -> Piece<'a> {
     match field {
         "InputEmpty" => Piece::InputEmpty,
         _ if field.starts_with("U+") => Piece::Char(part(field).unwrap()),
-        _ => Piece::Malformed(broken(field)),
+        _ => Piece::Malformed(malformed(field)),
     }
 }
 
@@ -63,7 +63,7 @@ fn assert_writes<U: Unit>(
     row: &str,
     call: &[&str],
     decoder: &mut Utf8Decoder,
-    decode: fn(&mut Utf8Decoder, &[u8], &mut [U], bool) -> Told,
+    decode: fn(&mut Utf8Decoder, &[u8], &mut [U], bool) -> Reported,
 ) {
     let [src, room, last, result, read, written] = call[..] else {
         panic!("{row} is no such call");
@@ -72,8 +72,8 @@ fn assert_writes<U: Unit>(
     let mut dst = [U::UNWRITTEN; 16];
     let mut wanted = dst;
     wanted[..units.len()].copy_from_slice(&units);
-    let told = decode(decoder, &named(src), &mut dst[..number(room)], is_last(last));
-    assert_eq!(told, (result_of(result), number(read), units.len()), "{row}");
+    let reported = decode(decoder, &named(src), &mut dst[..number(room)], is_last(last));
+    assert_eq!(reported, (result_of(result), number(read), units.len()), "{row}");
     assert_eq!(dst, wanted, "{row}");
 }
 
@@ -84,8 +84,8 @@ fn assert_piece(row: &str, call: &[&str], decoder: &mut Utf8Decoder) {
     };
     let src = named(src);
     let text = named(piece.strip_prefix("Text ").unwrap_or(""));
-    let told = decoder.decode_borrowed(&src, is_last(last));
-    assert_eq!(told, (piece_of(piece, &text), number(read)), "{row}");
+    let reported = decoder.decode_borrowed(&src, is_last(last));
+    assert_eq!(reported, (piece_of(piece, &text), number(read)), "{row}");
 }
 
 /// Asserts the results of the queries: for this length, the most code units, bytes, and bytes with replacements.
@@ -94,16 +94,16 @@ fn assert_queries(row: &str, query: &[&str], decoder: &Utf8Decoder) {
         panic!("{row} is no query");
     };
     let queried = number(queried);
-    let told = [
+    let reported = [
         decoder.max_utf16_buffer_length(queried),
         decoder.max_utf8_buffer_length_without_replacement(queried),
         decoder.max_utf8_buffer_length(queried),
     ];
-    assert_eq!(told, [units, bytes, replacing].map(length), "{row}");
+    assert_eq!(reported, [units, bytes, replacing].map(length), "{row}");
 }
 
 /// Makes the calls of a table one after another, and returns the number of rows. A row `new` starts a new decoder.
-fn held(rows: &str) -> usize {
+fn checked_rows(rows: &str) -> usize {
     let mut decoder = Utf8Decoder::new_inner();
     for row in rows.lines() {
         let fields: Vec<&str> = row.split('|').map(str::trim).collect();
@@ -212,7 +212,7 @@ lengths | 6148914691236517205 | 6148914691236517206 | 6148914691236517208 | None
 
 #[test]
 fn rows_hold() {
-    assert_eq!(held(ROWS), 85);
+    assert_eq!(checked_rows(ROWS), 85);
 }
 
 /// Calls: source, mark, piece, bytes read; those of the other forms are as in the rows above.
@@ -298,7 +298,7 @@ neutral";
 
 #[test]
 fn borrowed_rows_hold() {
-    assert_eq!(held(BORROWED_ROWS), 78);
+    assert_eq!(checked_rows(BORROWED_ROWS), 78);
 }
 
 /// Of a queried length three bytes take no code unit, and what is left is the query's number for the last byte. `61`
@@ -308,8 +308,8 @@ fn what_is_left_suffices() {
     let mut decoder = Utf8Decoder::new_inner();
     let mut units = [0x71; 5];
     assert_eq!(decoder.max_utf16_buffer_length(4), Some(units.len()));
-    let told = decoder.decode_to_utf16_raw(&[0xF0, 0x9F, 0x92], &mut units, false);
-    assert_eq!(told, (DecoderResult::InputEmpty, 3, 0));
+    let reported = decoder.decode_to_utf16_raw(&[0xF0, 0x9F, 0x92], &mut units, false);
+    assert_eq!(reported, (DecoderResult::InputEmpty, 3, 0));
     assert_eq!(units, [0x71; 5]);
     let needed = decoder.max_utf16_buffer_length(1);
     assert_eq!(needed, Some(5));
@@ -318,8 +318,8 @@ fn what_is_left_suffices() {
     let mut decoder = Utf8Decoder::new_inner();
     let mut bytes = [0x71; 5];
     assert_eq!(decoder.max_utf8_buffer_length_without_replacement(2), Some(bytes.len()));
-    let told = decoder.decode_to_utf8_raw(&[0x61, 0xC3], &mut bytes, false);
-    assert_eq!(told, (DecoderResult::InputEmpty, 2, 1));
+    let reported = decoder.decode_to_utf8_raw(&[0x61, 0xC3], &mut bytes, false);
+    assert_eq!(reported, (DecoderResult::InputEmpty, 2, 1));
     assert_eq!(bytes, [0x61, 0x71, 0x71, 0x71, 0x71]);
     let needed = decoder.max_utf8_buffer_length_without_replacement(0);
     assert_eq!(needed, Some(4));
@@ -333,8 +333,8 @@ fn a_replacement_leaves_enough_room() {
     let mut decoder = Utf8Decoder::new_inner();
     let mut bytes = [0x71; 9];
     assert_eq!(decoder.max_utf8_buffer_length(2), Some(bytes.len()));
-    let told = decoder.decode_to_utf8_raw(&[0x61, 0xFF], &mut bytes, true);
-    assert_eq!(told, (DecoderResult::Malformed(1, 0), 2, 1));
+    let reported = decoder.decode_to_utf8_raw(&[0x61, 0xFF], &mut bytes, true);
+    assert_eq!(reported, (DecoderResult::Malformed(1, 0), 2, 1));
     bytes[1..4].copy_from_slice(&[0xEF, 0xBF, 0xBD]);
     assert_eq!(bytes, [0x61, 0xEF, 0xBF, 0xBD, 0x71, 0x71, 0x71, 0x71, 0x71]);
     let needed = decoder.max_utf8_buffer_length(0);
@@ -344,8 +344,8 @@ fn a_replacement_leaves_enough_room() {
     let mut decoder = Utf8Decoder::new_inner();
     let mut units = [0x71; 3];
     assert_eq!(decoder.max_utf16_buffer_length(2), Some(units.len()));
-    let told = decoder.decode_to_utf16_raw(&[0x61, 0xFF], &mut units, true);
-    assert_eq!(told, (DecoderResult::Malformed(1, 0), 2, 1));
+    let reported = decoder.decode_to_utf16_raw(&[0x61, 0xFF], &mut units, true);
+    assert_eq!(reported, (DecoderResult::Malformed(1, 0), 2, 1));
     units[1] = 0xFFFD;
     assert_eq!(units, [0x61, 0xFFFD, 0x71]);
     let needed = decoder.max_utf16_buffer_length(0);

@@ -11,8 +11,8 @@ fn encode(random: &mut Random, encoder: &mut Utf8Encoder, units: &[u16], last: b
     let mut encoded = Vec::new();
     let mut rest = units;
     loop {
-        let (piece, behind) = rest.split_at(random.length(rest.len()));
-        rest = behind;
+        let (piece, following) = rest.split_at(random.length(rest.len()));
+        rest = following;
         let is_last = last && rest.is_empty();
         let mut unread = piece;
         loop {
@@ -61,16 +61,16 @@ fn from_texts_between() {
             wanted += &text;
             let mut rest = text.as_str();
             loop {
-                let held = encoder.max_buffer_length_from_utf8_without_replacement(0).unwrap();
+                let surrogate = encoder.max_buffer_length_from_utf8_without_replacement(0).unwrap();
                 let room = random.length(40);
                 let mut dst = bytes_of(&mut random, room);
                 let (result, read, written) = encoder.encode_from_utf8_raw(rest, dst.dst(), false);
                 encoded.extend_from_slice(dst.written(written));
                 let fits = (0..=rest.len())
-                    .filter(|end| rest.is_char_boundary(*end) && held + end <= room)
+                    .filter(|end| rest.is_char_boundary(*end) && surrogate + end <= room)
                     .max();
                 assert_eq!(read, fits.unwrap_or(0));
-                assert_eq!(written, if fits.is_some() { held + read } else { 0 });
+                assert_eq!(written, if fits.is_some() { surrogate + read } else { 0 });
                 assert_eq!(result == EncoderResult::InputEmpty, fits == Some(rest.len()));
                 rest = &rest[read..];
                 if result == EncoderResult::InputEmpty {
@@ -90,7 +90,7 @@ fn queries() {
         holding.encode_from_utf16_raw(&[0xD83D], &mut [], false),
         (EncoderResult::InputEmpty, 1, 0)
     );
-    for (encoder, held) in [(new, 0), (holding, 1)] {
+    for (encoder, surrogate) in [(new, 0), (holding, 1)] {
         for n in [
             0,
             1,
@@ -102,11 +102,11 @@ fn queries() {
             usize::MAX - 2,
             usize::MAX,
         ] {
-            let units = n.checked_add(held).and_then(|n| n.checked_mul(3));
+            let units = n.checked_add(surrogate).and_then(|n| n.checked_mul(3));
             assert_eq!(encoder.max_buffer_length_from_utf16_without_replacement(n), units);
             assert_eq!(
                 encoder.max_buffer_length_from_utf8_without_replacement(n),
-                n.checked_add(3 * held)
+                n.checked_add(3 * surrogate)
             );
         }
     }

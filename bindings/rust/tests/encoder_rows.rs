@@ -9,28 +9,28 @@ use common::{characters, vectors};
 use encoding_text::{EncoderResult, Utf8Encoder};
 
 /// Returns an encoder whose pending surrogate is that of a field: none, or D83D.
-fn encoder_at(held: &str) -> Utf8Encoder {
+fn encoder_at(surrogate: &str) -> Utf8Encoder {
     let mut encoder = Utf8Encoder::new_inner();
-    match held {
+    match surrogate {
         "none" => {}
         "D83D" => {
             let answer = encoder.encode_from_utf16_raw(&[0xD83D], &mut [], false);
             assert_eq!(answer, (EncoderResult::InputEmpty, 1, 0));
         }
-        _ => panic!("{held}"),
+        _ => panic!("{surrogate}"),
     }
     encoder
 }
 
 /// Returns whether the pending surrogate of an encoder is that of a field. The query at 0 shows whether there is one,
 /// and a low surrogate then shows which.
-fn holds(mut encoder: Utf8Encoder, held: &str) -> bool {
+fn holds(mut encoder: Utf8Encoder, surrogate: &str) -> bool {
     let room = encoder.max_buffer_length_from_utf16_without_replacement(0);
-    let (low, pair) = match held {
+    let (low, pair) = match surrogate {
         "none" => return room == Some(0),
         "D83D" => (0xDCA9, [0xF0, 0x9F, 0x92, 0xA9]),
         "D800" => (0xDC00, [0xF0, 0x90, 0x80, 0x80]),
-        _ => panic!("{held}"),
+        _ => panic!("{surrogate}"),
     };
     let mut dst = [0; 4];
     let (_, _, written) = encoder.encode_from_utf16_raw(&[low], &mut dst, true);
@@ -42,7 +42,7 @@ struct Wanted<'a> {
     result: EncoderResult,
     read: usize,
     bytes: &'a [u8],
-    held: &'a str,
+    surrogate: &'a str,
 }
 
 /// Asserts that a call into `room` bytes does what is expected, and that the rest is unchanged.
@@ -56,13 +56,13 @@ fn assert_call(
     let mut dst = [u8::UNWRITTEN; 64];
     let answer = call(&mut encoder, &mut dst[..room]);
     assert_eq!(answer, (wanted.result, wanted.read, wanted.bytes.len()), "{row}");
-    let (written, behind) = dst.split_at(wanted.bytes.len());
+    let (written, following) = dst.split_at(wanted.bytes.len());
     assert_eq!(written, wanted.bytes, "{row}");
     assert!(
-        behind.iter().all(|byte| *byte == u8::UNWRITTEN),
-        "{row}, behind: {behind:x?}"
+        following.iter().all(|byte| *byte == u8::UNWRITTEN),
+        "{row}, after: {following:x?}"
     );
-    assert!(holds(encoder, wanted.held), "{row}");
+    assert!(holds(encoder, wanted.surrogate), "{row}");
 }
 
 /// Code units and their UTF-8, with their row.
@@ -86,12 +86,12 @@ fn sources(rows: &'static str) -> Vec<Source> {
 
 /// Asserts that a new encoder reads all of a source, writes these bytes into a long destination, and leaves this
 /// surrogate pending.
-fn assert_encodes(source: &Source, last: bool, bytes: &[u8], held: &str) {
+fn assert_encodes(source: &Source, last: bool, bytes: &[u8], surrogate: &str) {
     let wanted = Wanted {
         result: EncoderResult::InputEmpty,
         read: source.units.len(),
         bytes,
-        held,
+        surrogate,
     };
     assert_call(source.row, Utf8Encoder::new_inner(), 64, &wanted, |encoder, dst| {
         encoder.encode_from_utf16_raw(&source.units, dst, last)
@@ -120,7 +120,7 @@ fn assert_encodes_into(source: &Source, room: usize, result: EncoderResult, (uni
         result,
         read: units,
         bytes: &source.bytes[..bytes],
-        held: "none",
+        surrogate: "none",
     };
     assert_call(source.row, Utf8Encoder::new_inner(), room, &wanted, |encoder, dst| {
         encoder.encode_from_utf16_raw(&source.units, dst, true)
@@ -134,7 +134,7 @@ fn before_the_last(source: &Source) -> (usize, usize) {
 }
 
 /// Asserts that all is written into 64 bytes that contain 0, 1, 2 and so on, and that the rest of these is unchanged.
-fn assert_keeps_what_is_behind(source: &Source) {
+fn assert_keeps_what_is_after(source: &Source) {
     let mut dst: [u8; 64] = std::array::from_fn(|place| place as u8);
     let mut wanted = dst;
     wanted[..source.bytes.len()].copy_from_slice(&source.bytes);
@@ -153,7 +153,7 @@ fn writes_what_fits() {
         let all = (source.units.len(), size);
         assert_encodes_into(source, size, EncoderResult::InputEmpty, all);
         assert_encodes_into(source, size - 1, EncoderResult::OutputFull, before_the_last(source));
-        assert_keeps_what_is_behind(source);
+        assert_keeps_what_is_after(source);
     }
     assert_eq!(limits.len(), 34);
 }
@@ -180,7 +180,7 @@ fn empty_text() {
         result: EncoderResult::InputEmpty,
         read: 0,
         bytes: &[],
-        held: "none",
+        surrogate: "none",
     };
     assert_text("no text", "none", "", 0, &wanted);
 }
@@ -214,7 +214,7 @@ text | D83D | | 2 | OutputFull | 0 | | D83D";
 
 /// Parses the last fields of a row: the result, how much is read, and what is pending then; and the bytes that are
 /// written.
-fn wanted<'a>(row: &str, [result, read, held]: [&'a str; 3], bytes: &'a [u8]) -> Wanted<'a> {
+fn wanted<'a>(row: &str, [result, read, surrogate]: [&'a str; 3], bytes: &'a [u8]) -> Wanted<'a> {
     Wanted {
         result: match result {
             "InputEmpty" => EncoderResult::InputEmpty,
@@ -223,7 +223,7 @@ fn wanted<'a>(row: &str, [result, read, held]: [&'a str; 3], bytes: &'a [u8]) ->
         },
         read: read.parse().unwrap(),
         bytes,
-        held,
+        surrogate,
     }
 }
 
@@ -238,23 +238,27 @@ fn assert_text(row: &str, before: &str, text: &str, room: usize, wanted: &Wanted
         let mut dst = [u8::UNWRITTEN; 64];
         let answer = runs::encode_from_utf8(&mut encoder, text, &mut dst[..room], last);
         assert_eq!(answer, (wanted.result, wanted.read, wanted.bytes.len()), "{row}");
-        let (written, behind) = dst.split_at(wanted.bytes.len());
+        let (written, following) = dst.split_at(wanted.bytes.len());
         assert_eq!(written, wanted.bytes, "{row}");
-        assert!(behind.iter().all(|byte| *byte == u8::UNWRITTEN), "{row}");
-        assert_eq!(encoder.held(), (wanted.held == "D83D").then_some(0xD83D), "{row}");
+        assert!(following.iter().all(|byte| *byte == u8::UNWRITTEN), "{row}");
+        assert_eq!(
+            encoder.surrogate(),
+            (wanted.surrogate == "D83D").then_some(0xD83D),
+            "{row}"
+        );
     }
 }
 
 #[test]
-fn rows_with_and_without_a_held_unit() {
+fn rows_with_and_without_a_pending_unit() {
     let mut count = 0;
     for row in ROWS.lines() {
         let fields: Vec<&str> = row.split('|').map(str::trim).collect();
-        let [.., result, read, bytes, held] = fields[..] else {
+        let [.., result, read, bytes, surrogate] = fields[..] else {
             panic!("{row}");
         };
         let bytes = named(bytes);
-        let wanted = wanted(row, [result, read, held], &bytes);
+        let wanted = wanted(row, [result, read, surrogate], &bytes);
         match fields[..fields.len() - 4] {
             ["units", before, units, room, mark @ ("more" | "last")] => {
                 let units: Vec<u16> = named(units);
@@ -287,13 +291,13 @@ fn a_pair_cut_between_calls() {
 }
 
 /// Asserts the results of the queries: the most bytes for `length` units, and for a text of `length` bytes.
-fn assert_queries(held: &str, length: usize, from_utf16: Option<usize>, from_utf8: Option<usize>) {
-    let encoder = encoder_at(held);
+fn assert_queries(surrogate: &str, length: usize, from_utf16: Option<usize>, from_utf8: Option<usize>) {
+    let encoder = encoder_at(surrogate);
     let answers = (
         encoder.max_buffer_length_from_utf16_without_replacement(length),
         encoder.max_buffer_length_from_utf8_without_replacement(length),
     );
-    assert_eq!(answers, (from_utf16, from_utf8), "{held}, {length}");
+    assert_eq!(answers, (from_utf16, from_utf8), "{surrogate}, {length}");
 }
 
 #[test]

@@ -29,7 +29,7 @@ fn answer(field: &str) -> Option<EncoderResult> {
 }
 
 /// Returns the pending surrogate that a field names.
-fn held(field: &str) -> Option<u16> {
+fn surrogate(field: &str) -> Option<u16> {
     (field != "none").then(|| u16::named(field))
 }
 
@@ -46,10 +46,10 @@ fn assert_row_holds(row: &str) {
     let outcome = run_from_utf16(&mut encoder, &named::<u16>(src), &turns_of(turns), space);
     assert_eq!(outcome.read, read.parse().unwrap(), "{row}");
     assert_eq!(outcome.ended(), answer(last), "{row}");
-    let (written, behind) = dst.split_at(outcome.written);
+    let (written, following) = dst.split_at(outcome.written);
     assert_eq!(written, named::<u8>(bytes), "{row}");
-    assert!(behind.iter().all(|byte| *byte == 0x71), "{row}");
-    assert_eq!(encoder.held(), held(unit), "{row}");
+    assert!(following.iter().all(|byte| *byte == 0x71), "{row}");
+    assert_eq!(encoder.surrogate(), surrogate(unit), "{row}");
 }
 
 #[test]
@@ -67,10 +67,10 @@ fn assert_encoded(units: &[u16], bytes: &[u8], take: usize) {
     let ended = (outcome.read, outcome.ended());
     let end = (units.len(), Some(EncoderResult::InputEmpty));
     assert_eq!(ended, end, "{units:x?}, {take}");
-    let (written, behind) = dst.split_at(outcome.written);
+    let (written, following) = dst.split_at(outcome.written);
     assert_eq!(written, bytes, "{units:x?}, {take}");
-    assert!(behind.iter().all(|byte| *byte == 0x71), "{units:x?}, {take}");
-    assert_eq!(encoder.held(), None, "{units:x?}, {take}");
+    assert!(following.iter().all(|byte| *byte == 0x71), "{units:x?}, {take}");
+    assert_eq!(encoder.surrogate(), None, "{units:x?}, {take}");
 }
 
 /// By turns of one code unit, of two and of three.
@@ -81,7 +81,7 @@ fn assert_encoded_by_turns(units: &[u16], bytes: &[u8]) {
 }
 
 /// Asserts that the rows hold by turns, and returns the number of rows.
-fn held_by_turns(rows: &str) -> usize {
+fn pending_by_turns(rows: &str) -> usize {
     for (units, bytes) in rows.lines().map(fields) {
         assert_encoded_by_turns(&named::<u16>(units), &named::<u8>(bytes));
     }
@@ -90,12 +90,12 @@ fn held_by_turns(rows: &str) -> usize {
 
 #[test]
 fn vectors_by_turns() {
-    assert_eq!(held_by_turns(UNITS), 16);
+    assert_eq!(pending_by_turns(UNITS), 16);
 }
 
 #[test]
 fn limits_by_turns() {
-    assert_eq!(held_by_turns(LIMITS), 34);
+    assert_eq!(pending_by_turns(LIMITS), 34);
 }
 
 /// The units whose UTF-8 fills the destination.

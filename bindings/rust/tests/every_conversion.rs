@@ -3,7 +3,7 @@
 mod common;
 
 use common::rows::{items, items_backwards, Unit};
-use common::walk::{held, into_room, Items, EXACT, SHORT};
+use common::walk::{assert_each_holds, into_room, Items, EXACT, SHORT};
 use encoding_text::decoder::Piece;
 use encoding_text::mem::*;
 use encoding_text::utf_8::convert_utf8_to_utf16_up_to_invalid;
@@ -28,14 +28,14 @@ F0 90 80 80 | D800 DC00
 F4 8F BF BF | DBFF DFFF";
 
 /// Malformed sequences of UTF-8, and U+FFFD for each.
-const BROKEN: &str = "\
+const MALFORMED: &str = "\
 80 | FFFD
 E2 98 | FFFD
 F0 9F 92 | FFFD
 ED A0 80 | FFFD FFFD FFFD";
 
 /// U+FFFD in UTF-8, and unpaired surrogates.
-const LONE: &str = "\
+const UNPAIRED: &str = "\
 EF BF BD | D800
 EF BF BD | DFFF
 EF BF BD EF BF BD | DE00 D83D";
@@ -123,36 +123,42 @@ fn text_mut(bytes: &mut [u8]) -> &mut str {
 #[test]
 fn from_utf8_to_utf16() {
     let characters = items_of(LETTER, FILLERS, CHARACTERS);
-    let broken = items_of(LETTER, FILLERS, BROKEN);
+    let malformed = items_of(LETTER, FILLERS, MALFORMED);
     let repairing = |src: &[u8], dst: &mut [u16]| (src.len(), convert_utf8_to_utf16(src, dst));
     let refusing = |src: &[u8], dst: &mut [u16]| {
         let written = convert_utf8_to_utf16_without_replacement(src, dst);
         (src.len(), written.unwrap())
     };
-    assert_eq!(held(&characters, into_room(1, 1), repairing), 28);
-    assert_eq!(held(&broken, into_room(1, 1), repairing), 16);
-    assert_eq!(held(&characters, into_room(1, 0), refusing), 28);
+    assert_eq!(assert_each_holds(&characters, into_room(1, 1), repairing), 28);
+    assert_eq!(assert_each_holds(&malformed, into_room(1, 1), repairing), 16);
+    assert_eq!(assert_each_holds(&characters, into_room(1, 0), refusing), 28);
 }
 
 #[test]
 fn from_text_to_utf16() {
     let characters = items_of(LETTER, FILLERS, CHARACTERS);
     let from_text = |src: &[u8], dst: &mut [u16]| (src.len(), convert_str_to_utf16(text(src), dst));
-    assert_eq!(held(&characters, into_room(1, 0), from_text), 28);
-    assert_eq!(held(&characters, EXACT, convert_utf8_to_utf16_up_to_invalid), 28);
-    assert_eq!(held(&characters, SHORT, convert_utf8_to_utf16_up_to_invalid), 28);
+    assert_eq!(assert_each_holds(&characters, into_room(1, 0), from_text), 28);
+    assert_eq!(
+        assert_each_holds(&characters, EXACT, convert_utf8_to_utf16_up_to_invalid),
+        28
+    );
+    assert_eq!(
+        assert_each_holds(&characters, SHORT, convert_utf8_to_utf16_up_to_invalid),
+        28
+    );
 }
 
 #[test]
 fn from_utf16_to_utf8() {
     let characters = items_back(LETTER, FILLERS, CHARACTERS);
-    let lone = items_back(LETTER, FILLERS, LONE);
+    let unpaired = items_back(LETTER, FILLERS, UNPAIRED);
     let whole = |src: &[u16], dst: &mut [u8]| (src.len(), convert_utf16_to_utf8(src, dst));
-    assert_eq!(held(&characters, EXACT, convert_utf16_to_utf8_partial), 28);
-    assert_eq!(held(&characters, SHORT, convert_utf16_to_utf8_partial), 28);
-    assert_eq!(held(&lone, EXACT, convert_utf16_to_utf8_partial), 12);
-    assert_eq!(held(&characters, into_room(3, 0), whole), 28);
-    assert_eq!(held(&lone, into_room(3, 0), whole), 12);
+    assert_eq!(assert_each_holds(&characters, EXACT, convert_utf16_to_utf8_partial), 28);
+    assert_eq!(assert_each_holds(&characters, SHORT, convert_utf16_to_utf8_partial), 28);
+    assert_eq!(assert_each_holds(&unpaired, EXACT, convert_utf16_to_utf8_partial), 12);
+    assert_eq!(assert_each_holds(&characters, into_room(3, 0), whole), 28);
+    assert_eq!(assert_each_holds(&unpaired, into_room(3, 0), whole), 12);
 }
 
 #[test]
@@ -160,18 +166,18 @@ fn from_utf16_into_text() {
     let characters = items_back(LETTER, FILLERS, CHARACTERS);
     let partial = |src: &[u16], dst: &mut [u8]| convert_utf16_to_str_partial(src, text_mut(dst));
     let whole = |src: &[u16], dst: &mut [u8]| (src.len(), convert_utf16_to_str(src, text_mut(dst)));
-    assert_eq!(held(&characters, EXACT, partial), 28);
-    assert_eq!(held(&characters, SHORT, partial), 28);
-    assert_eq!(held(&characters, into_room(3, 0), whole), 28);
+    assert_eq!(assert_each_holds(&characters, EXACT, partial), 28);
+    assert_eq!(assert_each_holds(&characters, SHORT, partial), 28);
+    assert_eq!(assert_each_holds(&characters, into_room(3, 0), whole), 28);
 }
 
 #[test]
 fn from_latin1_to_utf8() {
     let bytes = items_of(WHOLE_LETTER, "61 | 61\nE4 | C3 A4", LATIN1);
     let whole = |src: &[u8], dst: &mut [u8]| (src.len(), convert_latin1_to_utf8(src, dst));
-    assert_eq!(held(&bytes, EXACT, convert_latin1_to_utf8_partial), 12);
-    assert_eq!(held(&bytes, SHORT, convert_latin1_to_utf8_partial), 12);
-    assert_eq!(held(&bytes, into_room(2, 0), whole), 12);
+    assert_eq!(assert_each_holds(&bytes, EXACT, convert_latin1_to_utf8_partial), 12);
+    assert_eq!(assert_each_holds(&bytes, SHORT, convert_latin1_to_utf8_partial), 12);
+    assert_eq!(assert_each_holds(&bytes, into_room(2, 0), whole), 12);
 }
 
 /// Sixteen bytes after what is written become zero, or all if there are fewer.
@@ -181,10 +187,10 @@ fn from_latin1_into_text() {
     let more = into_room(2, 9).with_zeros(16);
     let partial = |src: &[u8], dst: &mut [u8]| convert_latin1_to_str_partial(src, text_mut(dst));
     let whole = |src: &[u8], dst: &mut [u8]| (src.len(), convert_latin1_to_str(src, text_mut(dst)));
-    assert_eq!(held(&bytes, EXACT, partial), 12);
-    assert_eq!(held(&bytes, SHORT.with_zeros(16), partial), 12);
-    assert_eq!(held(&bytes, more, partial), 12);
-    assert_eq!(held(&bytes, more, whole), 12);
+    assert_eq!(assert_each_holds(&bytes, EXACT, partial), 12);
+    assert_eq!(assert_each_holds(&bytes, SHORT.with_zeros(16), partial), 12);
+    assert_eq!(assert_each_holds(&bytes, more, partial), 12);
+    assert_eq!(assert_each_holds(&bytes, more, whole), 12);
 }
 
 #[test]
@@ -204,9 +210,9 @@ fn to_latin1_and_from_it() {
         convert_utf16_to_latin1_lossy(src, dst);
         (src.len(), src.len())
     };
-    assert_eq!(held(&texts, into_room(1, 0), to_latin1), 12);
-    assert_eq!(held(&bytes, EXACT, to_units), 8);
-    assert_eq!(held(&units, EXACT, from_units), 8);
+    assert_eq!(assert_each_holds(&texts, into_room(1, 0), to_latin1), 12);
+    assert_eq!(assert_each_holds(&bytes, EXACT, to_units), 8);
+    assert_eq!(assert_each_holds(&units, EXACT, from_units), 8);
 }
 
 /// How many calls a source takes at most: one for each report, and the last.
@@ -231,8 +237,8 @@ fn decode<D: Unit>(
         let (result, more, units) = call(&src[read..], &mut dst[written..]);
         (read, written) = (read + more, written + units);
         match result {
-            DecoderResult::Malformed(_, behind) => {
-                assert_eq!(behind, 0);
+            DecoderResult::Malformed(_, following) => {
+                assert_eq!(following, 0);
                 written = put(dst, written, replacement);
             }
             _ => {
@@ -295,30 +301,30 @@ fn encode_from_utf8(src: &[u8], dst: &mut [u8]) -> (usize, usize) {
 #[test]
 fn decoding_to_utf16() {
     let characters = items_of(LETTER, FILLERS, CHARACTERS);
-    let broken = items_of(LETTER, FILLERS, BROKEN);
-    assert_eq!(held(&characters, EXACT, decode_to_utf16), 28);
-    assert_eq!(held(&characters, SHORT, decode_to_utf16), 28);
-    assert_eq!(held(&broken, into_room(1, 1), decode_to_utf16), 16);
+    let malformed = items_of(LETTER, FILLERS, MALFORMED);
+    assert_eq!(assert_each_holds(&characters, EXACT, decode_to_utf16), 28);
+    assert_eq!(assert_each_holds(&characters, SHORT, decode_to_utf16), 28);
+    assert_eq!(assert_each_holds(&malformed, into_room(1, 1), decode_to_utf16), 16);
 }
 
 #[test]
 fn decoding_to_utf8() {
     let characters = items_of(WHOLE_LETTER, WHOLE_FILLERS, WHOLE);
-    let broken = items_of(WHOLE_LETTER, WHOLE_FILLERS, REPAIRED);
-    assert_eq!(held(&characters, EXACT, decode_to_utf8), 16);
-    assert_eq!(held(&characters, SHORT, decode_to_utf8), 16);
-    assert_eq!(held(&broken, into_room(3, 3), decode_to_utf8), 16);
-    assert_eq!(held(&broken, into_room(3, 3), decode_borrowed), 16);
+    let malformed = items_of(WHOLE_LETTER, WHOLE_FILLERS, REPAIRED);
+    assert_eq!(assert_each_holds(&characters, EXACT, decode_to_utf8), 16);
+    assert_eq!(assert_each_holds(&characters, SHORT, decode_to_utf8), 16);
+    assert_eq!(assert_each_holds(&malformed, into_room(3, 3), decode_to_utf8), 16);
+    assert_eq!(assert_each_holds(&malformed, into_room(3, 3), decode_borrowed), 16);
 }
 
 #[test]
 fn encoding() {
     let units = items_back(LETTER, FILLERS, CHARACTERS);
-    let lone = items_back(LETTER, FILLERS, LONE);
+    let unpaired = items_back(LETTER, FILLERS, UNPAIRED);
     let texts = items_of(WHOLE_LETTER, WHOLE_FILLERS, WHOLE);
-    assert_eq!(held(&units, EXACT, encode_from_utf16), 28);
-    assert_eq!(held(&units, SHORT, encode_from_utf16), 28);
-    assert_eq!(held(&lone, EXACT, encode_from_utf16), 12);
-    assert_eq!(held(&texts, EXACT, encode_from_utf8), 16);
-    assert_eq!(held(&texts, SHORT, encode_from_utf8), 16);
+    assert_eq!(assert_each_holds(&units, EXACT, encode_from_utf16), 28);
+    assert_eq!(assert_each_holds(&units, SHORT, encode_from_utf16), 28);
+    assert_eq!(assert_each_holds(&unpaired, EXACT, encode_from_utf16), 12);
+    assert_eq!(assert_each_holds(&texts, EXACT, encode_from_utf8), 16);
+    assert_eq!(assert_each_holds(&texts, SHORT, encode_from_utf8), 16);
 }

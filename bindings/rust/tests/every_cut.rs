@@ -54,8 +54,8 @@ struct Chain {
 impl Chain {
     /// Records a result, and returns whether it is `InputEmpty`.
     fn ends(&mut self, result: DecoderResult) -> bool {
-        if let DecoderResult::Malformed(length, behind) = result {
-            self.delivered.push(Err(length + behind));
+        if let DecoderResult::Malformed(length, following) = result {
+            self.delivered.push(Err(length + following));
         }
         result == DecoderResult::InputEmpty
     }
@@ -105,16 +105,16 @@ impl Chain {
     /// by one with enough space.
     fn hand_in(&mut self, piece: &[u8], last: bool) {
         let mut unread = piece;
-        let mut stuck = false;
+        let mut rejected = false;
         for _ in 0..CALLS {
             let count = self.delivered.len();
-            let (read, ended) = self.call(unread, last, stuck);
+            let (read, ended) = self.call(unread, last, rejected);
             unread = &unread[read..];
             if ended {
                 assert!(unread.is_empty());
                 return;
             }
-            stuck = read == 0 && self.delivered.len() == count;
+            rejected = read == 0 && self.delivered.len() == count;
         }
         panic!("no end after {CALLS} calls");
     }
@@ -156,21 +156,21 @@ fn of_the_decoder() {
 /// these.
 fn encode(encoder: &mut Utf8Encoder, piece: &[u16], last: bool, room: usize, wanted: &mut &[u8]) {
     let mut unread = piece;
-    let mut stuck = false;
+    let mut rejected = false;
     for _ in 0..CALLS {
         let mut dst = [0x71; 8];
-        let space = &mut dst[..if stuck { 4 } else { room }];
+        let space = &mut dst[..if rejected { 4 } else { room }];
         let (result, read, written) = encoder.encode_from_utf16_raw(unread, space, last);
-        let (front, behind) = wanted.split_at(written);
-        assert_eq!(&dst[..written], front);
+        let (prefix, following) = wanted.split_at(written);
+        assert_eq!(&dst[..written], prefix);
         assert!(dst[written..].iter().all(|byte| *byte == 0x71));
         unread = &unread[read..];
-        *wanted = behind;
+        *wanted = following;
         if result == EncoderResult::InputEmpty {
             assert!(unread.is_empty());
             return;
         }
-        stuck = read == 0 && written == 0;
+        rejected = read == 0 && written == 0;
     }
     panic!("no end after {CALLS} calls");
 }
@@ -191,14 +191,14 @@ fn of_the_encoder() {
     let sources: Vec<Item<u16, u8>> = [UNITS, LIMITS].into_iter().flat_map(items).collect();
     assert_eq!(sources.len(), 50);
     for Item { read: units, written } in &sources {
-        let behind_a_unit = String::from_utf16_lossy(&[&[0xD83D], &units[..]].concat());
+        let after_a_unit = String::from_utf16_lossy(&[&[0xD83D], &units[..]].concat());
         for cuts in 0..2 << units.len() {
             for room in 0..6 {
                 assert_encoded(Utf8Encoder::new_inner(), units, cuts, room, written);
                 let mut encoder = Utf8Encoder::new_inner();
-                let held = encoder.encode_from_utf16_raw(&[0xD83D], &mut [], false);
-                assert_eq!(held, (EncoderResult::InputEmpty, 1, 0));
-                assert_encoded(encoder, units, cuts, room, behind_a_unit.as_bytes());
+                let surrogate = encoder.encode_from_utf16_raw(&[0xD83D], &mut [], false);
+                assert_eq!(surrogate, (EncoderResult::InputEmpty, 1, 0));
+                assert_encoded(encoder, units, cuts, room, after_a_unit.as_bytes());
             }
         }
     }

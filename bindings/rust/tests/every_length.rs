@@ -9,7 +9,7 @@ use encoding_text::utf_8::utf8_valid_up_to;
 const LONGEST: usize = 130;
 
 /// The length of the array around a slice.
-const ROOM: usize = 160;
+const DST_LENGTH: usize = 160;
 
 /// Returns the element at an index of the slice, from 0x20 to 0x5F.
 fn letter(place: usize) -> u8 {
@@ -17,8 +17,8 @@ fn letter(place: usize) -> u8 {
 }
 
 /// Returns a slice of letters at a start, with one other unit, and such units around it.
-fn with_other<T: Copy + From<u8>>(start: usize, length: usize, place: usize, other: T, around: T) -> [T; ROOM] {
-    let mut units = [around; ROOM];
+fn with_other<T: Copy + From<u8>>(start: usize, length: usize, place: usize, other: T, around: T) -> [T; DST_LENGTH] {
+    let mut units = [around; DST_LENGTH];
     for (at, unit) in units[start..start + length].iter_mut().enumerate() {
         *unit = if at == place { other } else { letter(at).into() };
     }
@@ -26,8 +26,8 @@ fn with_other<T: Copy + From<u8>>(start: usize, length: usize, place: usize, oth
 }
 
 /// Returns `count` letters at a start, and 0x71 everywhere else.
-fn letters<T: Copy + From<u8>>(start: usize, count: usize) -> [T; ROOM] {
-    with_other(start, count, ROOM, 0x71.into(), 0x71.into())
+fn letters<T: Copy + From<u8>>(start: usize, count: usize) -> [T; DST_LENGTH] {
+    with_other(start, count, DST_LENGTH, 0x71.into(), 0x71.into())
 }
 
 /// Returns whether the scans and copies of bytes stop at the other byte.
@@ -36,24 +36,24 @@ fn bytes_stop(start: usize, length: usize, other: usize) -> bool {
     let bytes = with_other(start, length, other, 0xAA, 0xC3);
     let src = &bytes[slice.clone()];
     let found = (other < length).then_some((0xAA, other));
-    let mut narrow = [0x71; ROOM];
+    let mut narrow = [0x71; DST_LENGTH];
     let copied = ascii_to_ascii(src, &mut narrow[slice.clone()]);
-    let mut wide = [0x71; ROOM];
+    let mut wide = [0x71; DST_LENGTH];
     let widened = ascii_to_basic_latin(src, &mut wide[slice.clone()]);
-    let mut also = [0x71; ROOM];
-    let mut also_wide = [0x71; ROOM];
-    let front = other.min(length);
-    copy_ascii_to_ascii(src, &mut also[slice.clone()]) == front
-        && copy_ascii_to_basic_latin(src, &mut also_wide[slice.clone()]) == front
+    let mut also = [0x71; DST_LENGTH];
+    let mut also_wide = [0x71; DST_LENGTH];
+    let prefix = other.min(length);
+    copy_ascii_to_ascii(src, &mut also[slice.clone()]) == prefix
+        && copy_ascii_to_basic_latin(src, &mut also_wide[slice.clone()]) == prefix
         && also == narrow
         && also_wide == wide
         && validate_ascii(src) == found
-        && ascii_valid_up_to(src) == front
+        && ascii_valid_up_to(src) == prefix
         && is_ascii(src) == (other >= length)
         && copied == found
         && widened == found
-        && narrow == letters::<u8>(start, front)
-        && wide == letters::<u16>(start, front)
+        && narrow == letters::<u8>(start, prefix)
+        && wide == letters::<u16>(start, prefix)
 }
 
 /// Bytes that end a prefix of ISO-2022-JP.
@@ -70,29 +70,29 @@ fn units_stop(start: usize, length: usize, other: usize) -> bool {
     let slice = start..start + length;
     let units = with_other(start, length, other, 0xAA, 0xDC00);
     let above = with_other(start, length, other, 0x100, 0xDC00);
-    let alone = with_other(start, length, other, 0xD83D, 0xDC00);
+    let single = with_other(start, length, other, 0xD83D, 0xDC00);
     let src = &units[slice.clone()];
     let found = (other < length).then_some((0xAA, other));
-    let mut bytes = [0x71; ROOM];
-    let mut also = [0x71; ROOM];
-    let front = other.min(length);
+    let mut bytes = [0x71; DST_LENGTH];
+    let mut also = [0x71; DST_LENGTH];
+    let prefix = other.min(length);
     basic_latin_to_ascii(src, &mut bytes[slice.clone()]) == found
-        && copy_basic_latin_to_ascii(src, &mut also[slice.clone()]) == front
+        && copy_basic_latin_to_ascii(src, &mut also[slice.clone()]) == prefix
         && also == bytes
         && is_basic_latin(src) == (other >= length)
         && is_utf16_latin1(src)
         && is_utf16_latin1(&above[slice.clone()]) == (other >= length)
-        && utf16_valid_up_to(&alone[slice]) == front
-        && bytes == letters::<u8>(start, front)
+        && utf16_valid_up_to(&single[slice]) == prefix
+        && bytes == letters::<u8>(start, prefix)
 }
 
 /// Returns whether Latin1 to UTF-16 and back yields the same bytes, and the rest of each destination is unchanged.
 fn latin1_comes_back(start: usize, length: usize, other: usize) -> bool {
     let slice = start..start + length;
     let bytes = with_other(start, length, other, 0xAA, 0xC3);
-    let mut units = [0xDC00; ROOM];
+    let mut units = [0xDC00; DST_LENGTH];
     convert_latin1_to_utf16(&bytes[slice.clone()], &mut units[slice.clone()]);
-    let mut back = [0xC3; ROOM];
+    let mut back = [0xC3; DST_LENGTH];
     convert_utf16_to_latin1_lossy(&units[slice.clone()], &mut back[slice]);
     units == with_other::<u16>(start, length, other, 0xAA, 0xDC00) && back == bytes
 }
@@ -139,17 +139,17 @@ fn each_place_of_long_letters() {
 const CHARACTERS: [&[u8]; 4] = [&[0x61], &[0xC3, 0xA4], &[0xE2, 0x98, 0x83], &[0xF0, 0x9F, 0x92, 0xA9]];
 
 /// Returns whether `letters` letters, then such characters, are valid up to the malformed byte.
-fn is_valid_up_to_break(letters: usize, character: &[u8], length: usize, broken: usize) -> bool {
-    let mut text = [0; ROOM];
+fn is_valid_up_to_break(letters: usize, character: &[u8], length: usize, malformed: usize) -> bool {
+    let mut text = [0; DST_LENGTH];
     for (place, byte) in text.iter_mut().enumerate() {
         *byte = match place.checked_sub(letters) {
-            _ if place == broken => 0xFF,
+            _ if place == malformed => 0xFF,
             None => 0x61,
-            Some(behind) if place < length => character[behind % character.len()],
+            Some(following) if place < length => character[following % character.len()],
             Some(_) => 0xC3,
         };
     }
-    let end = broken.min(length);
+    let end = malformed.min(length);
     let left = end.saturating_sub(letters) % character.len();
     utf8_valid_up_to(&text[..length]) == end - left
 }
@@ -158,10 +158,10 @@ fn is_valid_up_to_break(letters: usize, character: &[u8], length: usize, broken:
 fn each_length_of_text_and_break() {
     for length in 0..=LONGEST {
         for letters in 0..20 {
-            for broken in 0..=length {
+            for malformed in 0..=length {
                 for character in CHARACTERS {
-                    let holds = is_valid_up_to_break(letters, character, length, broken);
-                    assert!(holds, "{length}, {letters}, {broken}, {character:x?}");
+                    let holds = is_valid_up_to_break(letters, character, length, malformed);
+                    assert!(holds, "{length}, {letters}, {malformed}, {character:x?}");
                 }
             }
         }
@@ -192,15 +192,15 @@ fn each_end_of_latin1() {
                 .map(|unit| if unit < end { other(unit) } else { unit })
                 .collect();
             let text = String::from_utf16(&units).unwrap();
-            let front = if end == start { text.len() } else { 0 };
+            let prefix = if end == start { text.len() } else { 0 };
             let seen = (
                 is_utf16_latin1(&units),
                 is_str_latin1(&text),
                 is_utf8_latin1(text.as_bytes()),
             );
             assert_eq!(seen, (end == start, end == start, end == start), "{start}, {end}");
-            assert_eq!(str_latin1_up_to(&text), front, "{start}, {end}");
-            assert_eq!(utf8_latin1_up_to(text.as_bytes()), front, "{start}, {end}");
+            assert_eq!(str_latin1_up_to(&text), prefix, "{start}, {end}");
+            assert_eq!(utf8_latin1_up_to(text.as_bytes()), prefix, "{start}, {end}");
         }
     }
 }

@@ -2,33 +2,33 @@
 //! length, from each of sixteen offsets.
 mod common;
 
-use common::{class_of, front, is_right_to_left};
+use common::{class_of, is_right_to_left, prefix};
 use encoding_text::mem::*;
 use encoding_text::utf_8::utf8_valid_up_to;
 
 /// The length of the array around the texts.
-const ROOM: usize = 232;
+const DST_LENGTH: usize = 232;
 
 /// Returns the length of the longest prefix that is the UTF-8 of scalar values up to U+00FF.
-fn latin1_front(src: &[u8]) -> usize {
-    let mut front = 0;
+fn latin1_prefix_len(src: &[u8]) -> usize {
+    let mut prefix = 0;
     let mut is_open = false;
     for (i, byte) in src.iter().enumerate() {
         match (is_open, *byte) {
             (false, 0..0x80) | (true, 0x80..0xC0) => {
-                front = i + 1;
+                prefix = i + 1;
                 is_open = false;
             }
             (false, 0xC2 | 0xC3) => is_open = true,
-            _ => return front,
+            _ => return prefix,
         }
     }
-    front
+    prefix
 }
 
 /// Returns whether the calls on Latin1 prefixes of bytes agree with a plain loop.
-fn fronts_agree(src: &[u8]) -> bool {
-    let latin1 = latin1_front(src);
+fn prefixes_agree(src: &[u8]) -> bool {
+    let latin1 = latin1_prefix_len(src);
     utf8_latin1_up_to(src) == latin1 && is_utf8_latin1(src) == (latin1 == src.len())
 }
 
@@ -36,7 +36,7 @@ fn fronts_agree(src: &[u8]) -> bool {
 fn texts_agree(src: &[u8]) -> bool {
     match std::str::from_utf8(src) {
         Ok(text) => {
-            let latin1 = latin1_front(src);
+            let latin1 = latin1_prefix_len(src);
             let is_bidi = text.chars().any(is_right_to_left);
             let class = class_of(latin1 == src.len(), is_bidi);
             utf8_valid_up_to(src) == src.len()
@@ -62,19 +62,19 @@ fn put(room: &mut [u8], place: usize, sequence: &[u8]) {
 
 /// Returns whether all calls agree, with the sequence at each index of `length` bytes at which a character of `others`
 /// starts.
-fn agree_at_each_place(room: &[u8; ROOM], from: usize, length: usize, step: usize, sequence: &[u8]) -> bool {
+fn agree_at_each_place(room: &[u8; DST_LENGTH], from: usize, length: usize, step: usize, sequence: &[u8]) -> bool {
     (0..length).step_by(step).all(|place| {
         let mut seen = *room;
         put(&mut seen, from + place, sequence);
         let src = &seen[from..from + length];
-        fronts_agree(src) && texts_agree(src)
+        prefixes_agree(src) && texts_agree(src)
     })
 }
 
 /// Returns whether all calls agree, with the sequence at each index of each length below a bound, in an array that
 /// repeats the others from an offset on.
 fn agree_over_lengths(from: usize, bound: usize, others: char, sequence: &[u8]) -> bool {
-    let mut room = [0; ROOM];
+    let mut room = [0; DST_LENGTH];
     for part in room[from..].chunks_mut(others.len_utf8()) {
         let length = part.len();
         part.copy_from_slice(&others.encode_utf8(&mut [0; 4]).as_bytes()[..length]);
@@ -170,7 +170,7 @@ fn ends_at_each_break(from: usize, letters: usize) -> bool {
         && (0..LONG).all(|place| {
             let mut seen = text;
             seen[place] = 0xFF;
-            utf8_valid_up_to(&seen) == front(&seen).len()
+            utf8_valid_up_to(&seen) == prefix(&seen).len()
         })
 }
 

@@ -30,7 +30,7 @@ struct Text<S, D> {
     written: Vec<D>,
     ends: Vec<(usize, usize)>,
     /// The length of the first malformed sequence, or 0 if there is none.
-    broken: usize,
+    malformed: usize,
 }
 
 impl<S: Unit, D: Unit> Text<S, D> {
@@ -39,34 +39,34 @@ impl<S: Unit, D: Unit> Text<S, D> {
             units: Vec::new(),
             written: Vec::new(),
             ends: Vec::new(),
-            broken: 0,
+            malformed: 0,
         }
     }
 
     fn push(&mut self, units: &[S], written: &[D]) {
         self.units.extend_from_slice(units);
-        if self.broken == 0 {
+        if self.malformed == 0 {
             self.written.extend_from_slice(written);
             self.ends.push((self.units.len(), self.written.len()));
         }
     }
 
-    fn push_broken(&mut self, units: &[S]) {
+    fn push_malformed(&mut self, units: &[S]) {
         self.units.extend_from_slice(units);
-        if self.broken == 0 {
-            self.broken = units.len();
+        if self.malformed == 0 {
+            self.malformed = units.len();
         }
     }
 
     /// Returns the end of the longest prefix that `fits`.
-    fn front(&self, fits: impl Fn(usize, usize) -> bool) -> (usize, usize) {
+    fn prefix(&self, fits: impl Fn(usize, usize) -> bool) -> (usize, usize) {
         let longest = self.ends.iter().rev().find(|end| fits(end.0, end.1));
         longest.copied().unwrap_or((0, 0))
     }
 
     /// Returns the end of the longest prefix whose output fits into `room` units.
-    fn front_into(&self, room: usize) -> (usize, usize) {
-        self.front(|_, written| written <= room)
+    fn prefix_into(&self, room: usize) -> (usize, usize) {
+        self.prefix(|_, written| written <= room)
     }
 }
 
@@ -111,21 +111,21 @@ const ROUND_BYTES: [u8; 2] = [0xC3, 0xC3];
 
 /// Returns why a call marked last ends that read this prefix and has `left` units left, if the next part may need
 /// `need`, and the number of bytes read.
-fn ended(text: &Text<u8, u16>, front: usize, left: usize, need: usize) -> (DecoderResult, usize) {
-    if front == text.units.len() {
-        (DecoderResult::InputEmpty, front)
+fn ended(text: &Text<u8, u16>, prefix: usize, left: usize, need: usize) -> (DecoderResult, usize) {
+    if prefix == text.units.len() {
+        (DecoderResult::InputEmpty, prefix)
     } else if left < need {
-        (DecoderResult::OutputFull, front)
+        (DecoderResult::OutputFull, prefix)
     } else {
-        let result = DecoderResult::Malformed(text.broken as u8, 0);
-        (result, front + text.broken)
+        let result = DecoderResult::Malformed(text.malformed as u8, 0);
+        (result, prefix + text.malformed)
     }
 }
 
 /// Asserts that the conversion to UTF-16 writes the longest prefix that fits.
 fn assert_converts(text: &Text<u8, u16>, place: Place) {
-    let front = text.front_into(place.room);
-    let wanted = (front, &text.written[..front.1]);
+    let prefix = text.prefix_into(place.room);
+    let wanted = (prefix, &text.written[..prefix.1]);
     assert_call(
         (&text.units, ROUND_BYTES),
         place,
@@ -136,7 +136,7 @@ fn assert_converts(text: &Text<u8, u16>, place: Place) {
 
 /// Asserts that a decoder's call to UTF-16 does, and its result.
 fn assert_decodes_to_utf16(text: &Text<u8, u16>, place: Place) {
-    let (read, written) = text.front_into(place.room);
+    let (read, written) = text.prefix_into(place.room);
     let (result, all) = ended(text, read, place.room - written, 2);
     let wanted = ((result, all, written), &text.written[..written]);
     assert_call((&text.units, ROUND_BYTES), place, wanted, |src, dst| {
@@ -149,9 +149,9 @@ fn assert_decodes_to_utf16(text: &Text<u8, u16>, place: Place) {
 
 /// Asserts that a decoder's call to UTF-8 does.
 fn assert_decodes_to_utf8(text: &Text<u8, u16>, place: Place) {
-    let (front, _) = text.front(|read, _| read <= place.room);
-    let (result, all) = ended(text, front, place.room - front, 4);
-    let wanted = ((result, all, front), &text.units[..front]);
+    let (prefix, _) = text.prefix(|read, _| read <= place.room);
+    let (result, all) = ended(text, prefix, place.room - prefix, 4);
+    let wanted = ((result, all, prefix), &text.units[..prefix]);
     assert_call((&text.units, ROUND_BYTES), place, wanted, |src, dst| {
         let mut decoder = Utf8Decoder::new_inner();
         let answer = decoder.decode_to_utf8_raw(src, dst, true);
@@ -170,7 +170,7 @@ fn assert_text_converts(text: &Text<u8, u16>, place: Place) {
 
 /// Asserts that the calls hold into destinations that are `gap` more and `gap` less than what is needed.
 fn assert_rooms(text: &Text<u8, u16>, gap: usize, turn: &mut usize) {
-    let (bytes, units) = text.front_into(usize::MAX);
+    let (bytes, units) = text.prefix_into(usize::MAX);
     let (less, more) = (units.saturating_sub(gap), units + gap);
     let (less_bytes, more_bytes) = (bytes.saturating_sub(gap), bytes + gap);
     assert_converts(text, next_place(turn, less));
@@ -179,7 +179,7 @@ fn assert_rooms(text: &Text<u8, u16>, gap: usize, turn: &mut usize) {
     assert_decodes_to_utf16(text, next_place(turn, more));
     assert_decodes_to_utf8(text, next_place(turn, less_bytes));
     assert_decodes_to_utf8(text, next_place(turn, more_bytes));
-    if text.broken == 0 {
+    if text.malformed == 0 {
         assert_text_converts(text, next_place(turn, more_bytes));
     }
 }
@@ -199,7 +199,7 @@ fn push_row(text: &mut Text<u8, u16>, row: &str) {
     for part in parts.split_whitespace().map(vectors::part) {
         match part {
             Ok(character) => push_character(text, character),
-            Err(length) => text.push_broken(&rest[..length.into()]),
+            Err(length) => text.push_malformed(&rest[..length.into()]),
         }
         rest = &rest[vectors::length_of(&part)..];
     }
@@ -249,8 +249,8 @@ fn lengths_of(unit: u16, next: Option<&u16>) -> (usize, usize) {
 fn text_of(units: &[u16], bytes: &[u8]) -> Text<u16, u8> {
     let mut text = Text::new();
     let (mut units, mut bytes) = (units, bytes);
-    while let [first, behind @ ..] = units {
-        let (read, written) = lengths_of(*first, behind.first());
+    while let [first, following @ ..] = units {
+        let (read, written) = lengths_of(*first, following.first());
         text.push(&units[..read], &bytes[..written]);
         (units, bytes) = (&units[read..], &bytes[written..]);
     }
@@ -260,8 +260,8 @@ fn text_of(units: &[u16], bytes: &[u8]) -> Text<u16, u8> {
 
 /// Asserts that the longest prefix of code units that fits is written. Halves of pairs surround the source.
 fn assert_units_convert(text: &Text<u16, u8>, place: Place) {
-    let front = text.front_into(place.room);
-    let wanted = (front, &text.written[..front.1]);
+    let prefix = text.prefix_into(place.room);
+    let wanted = (prefix, &text.written[..prefix.1]);
     assert_call(
         (&text.units, [0xD83D, 0xDC00]),
         place,
@@ -323,8 +323,8 @@ fn runs_into_each_room() {
 
 /// Asserts that the longest prefix of Latin1 that fits is written.
 fn assert_latin1_converts(text: &Text<u8, u8>, place: Place) {
-    let front = text.front_into(place.room);
-    let wanted = (front, &text.written[..front.1]);
+    let prefix = text.prefix_into(place.room);
+    let wanted = (prefix, &text.written[..prefix.1]);
     assert_call(
         (&text.units, [0xE4, 0xE4]),
         place,

@@ -31,9 +31,9 @@ fn parts(bytes: &[u8]) -> Vec<Part> {
 }
 
 /// Records what a call returned, and returns whether that is `InputEmpty`.
-fn told(result: DecoderResult, parts: &mut Vec<Part>) -> bool {
-    if let DecoderResult::Malformed(length, behind) = result {
-        parts.push(Err(length + behind));
+fn reported(result: DecoderResult, parts: &mut Vec<Part>) -> bool {
+    if let DecoderResult::Malformed(length, following) = result {
+        parts.push(Err(length + following));
     }
     result == DecoderResult::InputEmpty
 }
@@ -53,13 +53,13 @@ fn decoded(bytes: &[u8], length: usize) -> [Vec<Part>; 3] {
                         let mut dst = [0; 8];
                         let (result, read, written) = decoder.decode_to_utf8_raw(unread, &mut dst, last);
                         parts.extend(std::str::from_utf8(&dst[..written]).unwrap().chars().map(Ok));
-                        (read, told(result, parts))
+                        (read, reported(result, parts))
                     }
                     1 => {
                         let mut dst = [0; 8];
                         let (result, read, written) = decoder.decode_to_utf16_raw(unread, &mut dst, last);
                         parts.extend(char::decode_utf16(dst[..written].iter().copied()).map(|it| Ok(it.unwrap())));
-                        (read, told(result, parts))
+                        (read, reported(result, parts))
                     }
                     _ => {
                         let (piece, read) = decoder.decode_borrowed(unread, last);
@@ -87,10 +87,10 @@ fn decoded(bytes: &[u8], length: usize) -> [Vec<Part>; 3] {
 fn check(bytes: &[u8]) {
     let text = String::from_utf8_lossy(bytes);
     let parts = parts(bytes);
-    let broken = parts.iter().filter(|part| part.is_err()).count();
-    let mut mended = Vec::new();
-    assert_eq!(repair_to(bytes, &mut mended).unwrap(), broken as u64, "{bytes:x?}");
-    assert!(mended == text.as_bytes() && repair(bytes) == text, "{bytes:x?}");
+    let malformed = parts.iter().filter(|part| part.is_err()).count();
+    let mut repaired = Vec::new();
+    assert_eq!(repair_to(bytes, &mut repaired).unwrap(), malformed as u64, "{bytes:x?}");
+    assert!(repaired == text.as_bytes() && repair(bytes) == text, "{bytes:x?}");
     for length in [1, bytes.len()] {
         assert!(
             decoded(bytes, length).iter().all(|delivered| *delivered == parts),

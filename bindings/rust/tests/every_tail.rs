@@ -5,7 +5,7 @@ use std::fmt::Debug;
 
 /// Returns the number of units read and bytes written, if the unit after `letters` letters has this length in UTF-8,
 /// and all others are letters.
-fn longest_front(letters: usize, size: usize, length: usize, room: usize) -> (usize, usize) {
+fn longest_prefix(letters: usize, size: usize, length: usize, room: usize) -> (usize, usize) {
     if room < letters {
         return (room, room);
     }
@@ -32,7 +32,7 @@ fn assert_tails_stay<S: Copy + Debug + From<u8>>(
         for room in 0..=bytes_each * length {
             let mut dst = [b'q'; 330];
             let (read, written) = convert(&src[..length], &mut dst[..room]);
-            let wanted = longest_front(letters, size, length, room);
+            let wanted = longest_prefix(letters, size, length, room);
             assert_eq!((read, written), wanted, "{unit:x?}, {letters}, {room}");
             let stays = dst[written..].iter().all(|byte| *byte == b'q');
             assert!(stays, "{unit:x?}, {letters}, {room}");

@@ -31,18 +31,18 @@ const BYTES: [(u8, &str); 5] = [
 const BEFORE: usize = 69;
 
 /// How many letters `b` are after it.
-const BEHIND: usize = 40;
+const AFTER: usize = 40;
 
 /// Returns how much is read and how many bytes are written of letters, a character of this length and letters.
-fn front(letters: usize, size: usize, room: usize) -> (usize, usize) {
+fn prefix(letters: usize, size: usize, room: usize) -> (usize, usize) {
     if room < letters {
         return (room, room);
     }
     match (room - letters).checked_sub(size) {
         None => (letters, letters),
         Some(left) => {
-            let behind = left.min(BEHIND);
-            (letters + 1 + behind, letters + size + behind)
+            let following = left.min(AFTER);
+            (letters + 1 + following, letters + size + following)
         }
     }
 }
@@ -51,10 +51,10 @@ fn front(letters: usize, size: usize, room: usize) -> (usize, usize) {
 /// continue a character, and the rest is unchanged.
 fn cleared(written: &[u8], zeros: usize, old: &str) -> Vec<u8> {
     let mut bytes = old.as_bytes().to_vec();
-    let (front, rest) = bytes.split_at_mut(written.len());
-    front.copy_from_slice(written);
-    for (behind, byte) in rest.iter_mut().enumerate() {
-        if behind >= zeros && !matches!(byte, 0x80..=0xBF) {
+    let (prefix, rest) = bytes.split_at_mut(written.len());
+    prefix.copy_from_slice(written);
+    for (following, byte) in rest.iter_mut().enumerate() {
+        if following >= zeros && !matches!(byte, 0x80..=0xBF) {
             break;
         }
         *byte = 0;
@@ -72,24 +72,24 @@ fn assert_is_cleared(new: &[u8], written: &str, zeros: usize, old: &str) {
 /// Asserts that the unit after each number of letters converts to this character, if the text is at most what the
 /// source may need.
 fn assert_converts<S: Copy + Debug + From<u8>>(calls: &Calls<S>, unit: S, character: &str, old: &str) {
-    let source = [&[S::from(b'a'); BEFORE][..], &[unit], &[S::from(b'b'); BEHIND]].concat();
-    let text = format!("{}{character}{}", "a".repeat(BEFORE), "b".repeat(BEHIND));
+    let source = [&[S::from(b'a'); BEFORE][..], &[unit], &[S::from(b'b'); AFTER]].concat();
+    let text = format!("{}{character}{}", "a".repeat(BEFORE), "b".repeat(AFTER));
     for letters in 0..=BEFORE {
         let src = &source[BEFORE - letters..];
         let text = &text[BEFORE - letters..];
         let most = calls.most * src.len();
         let owner = calls.owner;
         if old.len() <= most {
-            let wanted = front(letters, character.len(), old.len());
+            let wanted = prefix(letters, character.len(), old.len());
             let mut dst = old.as_bytes().to_vec();
-            let told = (calls.partial)(src, &mut dst);
-            assert_eq!(told, wanted, "{unit:x?} behind {letters} into {old:?}, {owner}");
-            assert_is_cleared(&dst, &text[..told.1], calls.zeros, old);
+            let reported = (calls.partial)(src, &mut dst);
+            assert_eq!(reported, wanted, "{unit:x?} after {letters} into {old:?}, {owner}");
+            assert_is_cleared(&dst, &text[..reported.1], calls.zeros, old);
         }
         if old.len() == most {
             let mut dst = old.as_bytes().to_vec();
-            let told = (calls.whole)(src, &mut dst);
-            assert_eq!(told, text.len(), "{unit:x?} behind {letters} into {old:?}, {owner}");
+            let reported = (calls.whole)(src, &mut dst);
+            assert_eq!(reported, text.len(), "{unit:x?} after {letters} into {old:?}, {owner}");
             assert_is_cleared(&dst, text, calls.zeros, old);
         }
     }
@@ -97,7 +97,7 @@ fn assert_converts<S: Copy + Debug + From<u8>>(calls: &Calls<S>, unit: S, charac
 
 /// Asserts that each unit converts into a text of each number of these characters.
 fn assert_converts_into<S: Copy + Debug + From<u8>>(calls: &Calls<S>, units: &[(S, &str)], filling: &str) {
-    let most = calls.most * (BEFORE + 1 + BEHIND);
+    let most = calls.most * (BEFORE + 1 + AFTER);
     for (unit, character) in units {
         for count in 0..=most / filling.len() {
             assert_converts(calls, *unit, character, &filling.repeat(count));

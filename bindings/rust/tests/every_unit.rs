@@ -8,7 +8,7 @@ use common::{class_of, is_unit_right_to_left};
 use encoding_text::mem::*;
 
 /// The length of the array around the code units.
-const ROOM: usize = 160;
+const DST_LENGTH: usize = 160;
 
 fn is_high(unit: u16) -> bool {
     unit & 0xFC00 == 0xD800
@@ -19,7 +19,7 @@ fn is_low(unit: u16) -> bool {
 }
 
 /// Returns whether the code unit at an index is an unpaired surrogate.
-fn is_lone(src: &[u16], place: usize) -> bool {
+fn is_malformed_byte(src: &[u16], place: usize) -> bool {
     let unit = src[place];
     if is_high(unit) {
         !src.get(place + 1).is_some_and(|next| is_low(*next))
@@ -29,15 +29,17 @@ fn is_lone(src: &[u16], place: usize) -> bool {
 }
 
 /// Returns the index of the first of them, or the length.
-fn first_lone(src: &[u16]) -> usize {
-    (0..src.len()).find(|place| is_lone(src, *place)).unwrap_or(src.len())
+fn first_unpaired(src: &[u16]) -> usize {
+    (0..src.len())
+        .find(|place| is_malformed_byte(src, *place))
+        .unwrap_or(src.len())
 }
 
 /// Returns whether all checks agree with plain loops.
 fn units_agree(src: &[u16]) -> bool {
     let is_latin1 = src.iter().all(|unit| *unit < 0x100);
     let is_bidi = src.iter().any(|unit| is_unit_right_to_left(*unit));
-    utf16_valid_up_to(src) == first_lone(src)
+    utf16_valid_up_to(src) == first_unpaired(src)
         && is_basic_latin(src) == src.iter().all(|unit| *unit < 0x80)
         && is_utf16_latin1(src) == is_latin1
         && is_utf16_bidi(src) == is_bidi
@@ -51,7 +53,13 @@ fn repair_agrees(room: &[u16], from: usize, length: usize) -> bool {
     let mut repaired = room.to_vec();
     ensure_utf16_validity(&mut repaired[from..end]);
     let src = &room[from..end];
-    let wanted = |place| if is_lone(src, place) { 0xFFFD } else { src[place] };
+    let wanted = |place| {
+        if is_malformed_byte(src, place) {
+            0xFFFD
+        } else {
+            src[place]
+        }
+    };
     repaired[..from] == room[..from]
         && (0..length).all(|place| repaired[from + place] == wanted(place))
         && repaired[end..] == room[end..]
@@ -59,7 +67,7 @@ fn repair_agrees(room: &[u16], from: usize, length: usize) -> bool {
 
 /// Returns whether all calls agree, with the two at each index of `length` code units.
 fn agree_at_each_place(from: usize, length: usize, others: [u16; 2], two: [u16; 2]) -> bool {
-    let mut room = [0; ROOM];
+    let mut room = [0; DST_LENGTH];
     for (place, unit) in room.iter_mut().enumerate() {
         *unit = others[place & 1];
     }
@@ -109,7 +117,7 @@ fn among_other_units() {
 const LONGEST: usize = 10 * 64 + 3;
 
 /// The length of the array around them.
-const LONG_ROOM: usize = LONGEST + 8;
+const LONG_DST_LENGTH: usize = LONGEST + 8;
 
 /// Letters, a pair among letters, and pairs, the first of them at index 0 or 1: the unit at an index.
 const OTHERS: [fn(usize) -> u16; 4] = [
@@ -130,11 +138,11 @@ const OTHERS: [fn(usize) -> u16; 4] = [
 /// Returns whether validity ends at the first unpaired surrogate of `length` code units, and the repair replaces only
 /// the unpaired ones, with these at each index.
 fn agree_at_each_long_place(others: fn(usize) -> u16, length: usize, units: &[u16]) -> bool {
-    let room: [u16; LONG_ROOM] = std::array::from_fn(others);
+    let room: [u16; LONG_DST_LENGTH] = std::array::from_fn(others);
     (0..length).all(|place| {
         let mut seen = room;
         seen[place..place + units.len()].copy_from_slice(units);
-        utf16_valid_up_to(&seen[..length]) == first_lone(&seen[..length]) && repair_agrees(&seen, 0, length)
+        utf16_valid_up_to(&seen[..length]) == first_unpaired(&seen[..length]) && repair_agrees(&seen, 0, length)
     })
 }
 

@@ -3,7 +3,7 @@
 #![cfg(all(target_os = "linux", feature = "std"))]
 mod common;
 
-use common::{front, Random};
+use common::{prefix, Random};
 use encoding_text::{ascii::*, mem::*, utf_8::*};
 use encoding_text::{repair, repair_to, utf8_chunks, DecodeUtf16, Repair, Utf8Decoder};
 use std::io::Read;
@@ -16,7 +16,7 @@ extern "C" {
 }
 
 const PAGE: usize = 4096;
-const ROOM: usize = 2 * PAGE;
+const DST_LENGTH: usize = 2 * PAGE;
 const READ_AND_WRITE: i32 = 3;
 const PRIVATE_AND_ANONYMOUS: i32 = 0x22;
 
@@ -27,9 +27,9 @@ impl Fenced {
     fn new() -> Fenced {
         // SAFETY: new memory is requested, and its two middle pages are made readable and writable.
         unsafe {
-            let start = mmap(ptr::null_mut(), ROOM + 2 * PAGE, 0, PRIVATE_AND_ANONYMOUS, -1, 0);
+            let start = mmap(ptr::null_mut(), DST_LENGTH + 2 * PAGE, 0, PRIVATE_AND_ANONYMOUS, -1, 0);
             assert_ne!(start as isize, -1);
-            assert_eq!(mprotect(start.add(PAGE), ROOM, READ_AND_WRITE), 0);
+            assert_eq!(mprotect(start.add(PAGE), DST_LENGTH, READ_AND_WRITE), 0);
             Fenced(start)
         }
     }
@@ -37,8 +37,8 @@ impl Fenced {
     /// Returns `length` elements at the end of the pages, or at their start.
     fn slice<T: Copy + Default>(&mut self, length: usize, at_end: bool) -> &mut [T] {
         let size = length * size_of::<T>();
-        assert!(size <= ROOM);
-        let offset = if at_end { ROOM - size } else { 0 };
+        assert!(size <= DST_LENGTH);
+        let offset = if at_end { DST_LENGTH - size } else { 0 };
         // SAFETY: they are within the two pages, whose borrow is unique, and any bytes are valid numbers. The length of
         // two pages and that of the elements are multiples of their alignment.
         unsafe { std::slice::from_raw_parts_mut(self.0.add(PAGE + offset).cast(), length) }
@@ -54,7 +54,7 @@ impl Fenced {
 impl Drop for Fenced {
     fn drop(&mut self) {
         // SAFETY: it is the memory that `new` requested, and nobody borrows it.
-        unsafe { munmap(self.0, ROOM + 2 * PAGE) };
+        unsafe { munmap(self.0, DST_LENGTH + 2 * PAGE) };
     }
 }
 
@@ -72,7 +72,7 @@ fn bytes() {
         let bytes = random.bytes();
         let bytes = src.copy(&bytes, at_end);
         let n = bytes.len();
-        let text = front(bytes);
+        let text = prefix(bytes);
         let _ = (
             validate_ascii(bytes),
             ascii_valid_up_to(bytes),
@@ -157,7 +157,7 @@ fn texts() {
         convert_utf16_to_str_partial(src.copy(&units, at_end), into);
         convert_latin1_to_str_partial(src.copy(&latin1, at_end), into);
         let text = src.copy(before.as_bytes(), at_end);
-        let text = front(text);
+        let text = prefix(text);
         let room = random.below(before.len() + 20);
         let _ = Utf8Encoder::new_inner().encode_from_utf8_raw(text, dst.slice(room, to_end), true);
     });
@@ -178,7 +178,7 @@ fn owned_and_streams() {
             bytes.len()
         );
         assert_eq!(decode_latin1(bytes).chars().count(), bytes.len());
-        let latin1 = &front(bytes)[..utf8_latin1_up_to(bytes)];
+        let latin1 = &prefix(bytes)[..utf8_latin1_up_to(bytes)];
         assert_eq!(encode_latin1_lossy(latin1).len(), latin1.chars().count());
         let room = 1 + random.below(40);
         let mut reader = Repair::with_capacity(1 + random.below(99), bytes);

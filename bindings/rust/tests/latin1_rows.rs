@@ -5,7 +5,7 @@ use common::rows::{assert_written, fields, named};
 use encoding_text::mem::*;
 
 /// Bytes, and the length of their prefix that is the UTF-8 of Latin1 text; or bytes that are no text, so not Latin1.
-const FRONTS: &str = "\
+const PREFIXES: &str = "\
 | 0
 61 C3 FF | 1
 C3 A4 C4 80 | 2
@@ -18,12 +18,12 @@ C3 FF | ill-formed
 61 C3 FF | ill-formed";
 
 #[test]
-fn finds_the_front() {
+fn finds_the_prefix() {
     let mut count = 0;
-    for row in FRONTS.lines() {
-        let (bytes, front) = fields(row);
+    for row in PREFIXES.lines() {
+        let (bytes, prefix) = fields(row);
         let bytes: Vec<u8> = named(bytes);
-        match front.trim() {
+        match prefix.trim() {
             "ill-formed" => assert!(!is_utf8_latin1(&bytes), "{row}"),
             length => assert_eq!(utf8_latin1_up_to(&bytes), length.parse::<usize>().unwrap(), "{row}"),
         }

@@ -10,7 +10,7 @@ fn is_latin1(text: &str) -> bool {
     text.chars().all(|c| c <= '\u{FF}')
 }
 
-fn latin1_front(text: &str) -> usize {
+fn latin1_prefix_len(text: &str) -> usize {
     text.find(|c| c > '\u{FF}').unwrap_or(text.len())
 }
 
@@ -19,13 +19,13 @@ fn checks_of_bytes() {
     let mut random = Random::new(1);
     for _ in 0..ROUNDS {
         let bytes = random.bytes();
-        let text = front(&bytes);
+        let text = prefix(&bytes);
         let is_text = text.len() == bytes.len();
         assert_eq!(is_ascii(&bytes), bytes.is_ascii());
         assert_eq!(is_utf8_latin1(&bytes), is_text && is_latin1(text));
-        assert_eq!(utf8_latin1_up_to(&bytes), latin1_front(text));
+        assert_eq!(utf8_latin1_up_to(&bytes), latin1_prefix_len(text));
         assert_eq!(is_str_latin1(text), is_latin1(text));
-        assert_eq!(str_latin1_up_to(text), latin1_front(text));
+        assert_eq!(str_latin1_up_to(text), latin1_prefix_len(text));
     }
 }
 
@@ -37,9 +37,9 @@ fn checks_of_units() {
         assert_eq!(is_basic_latin(&units), units.iter().all(|u| *u < 0x80));
         assert_eq!(is_utf16_latin1(&units), units.iter().all(|u| *u < 0x100));
         assert_eq!(utf16_valid_up_to(&units), valid_units(&units));
-        let mended: Vec<u16> = String::from_utf16_lossy(&units).encode_utf16().collect();
+        let repaired: Vec<u16> = String::from_utf16_lossy(&units).encode_utf16().collect();
         ensure_utf16_validity(&mut units);
-        assert_eq!(units, mended);
+        assert_eq!(units, repaired);
     }
 }
 
@@ -76,7 +76,7 @@ fn to_utf16() {
     let mut random = Random::new(4);
     for _ in 0..ROUNDS {
         let bytes = random.bytes();
-        let text = front(&bytes);
+        let text = prefix(&bytes);
         let repaired: Vec<u16> = String::from_utf8_lossy(&bytes).encode_utf16().collect();
         let units: Vec<u16> = text.encode_utf16().collect();
         let more = random.below(40);
@@ -150,7 +150,7 @@ fn from_latin1() {
 
 /// Returns a text after a conversion into it: `zeros` bytes after what is written become zero, and then the
 /// continuation bytes that follow.
-fn behind(before: &str, written: usize, zeros: usize) -> Vec<u8> {
+fn following(before: &str, written: usize, zeros: usize) -> Vec<u8> {
     let mut after = before.as_bytes()[written..].to_vec();
     let zeros = zeros.min(after.len());
     let end = (zeros..after.len())
@@ -171,7 +171,7 @@ fn into_text() {
         assert_eq!(convert_utf16_to_str_partial(&units, &mut dst), (read, text.len()));
         assert_eq!(
             dst.as_bytes(),
-            [text.as_bytes(), &behind(&before, text.len(), 0)].concat()
+            [text.as_bytes(), &following(&before, text.len(), 0)].concat()
         );
         assert!(std::str::from_utf8(dst.as_bytes()).is_ok());
         if 3 * units.len() <= before.len() {
@@ -184,7 +184,7 @@ fn into_text() {
         assert_eq!(convert_latin1_to_str_partial(&latin1, &mut dst), (read, text.len()));
         assert_eq!(
             dst.as_bytes(),
-            [text.as_bytes(), &behind(&before, text.len(), 16)].concat()
+            [text.as_bytes(), &following(&before, text.len(), 16)].concat()
         );
         assert!(std::str::from_utf8(dst.as_bytes()).is_ok());
         if 2 * latin1.len() <= before.len() {

@@ -3,7 +3,7 @@
 mod common;
 
 use common::*;
-use encoding_text::{next_broken, repair, repair_to, utf8_chunks};
+use encoding_text::{next_malformed, repair, repair_to, utf8_chunks};
 use std::borrow::Cow;
 use std::io::{self, Write};
 
@@ -24,16 +24,16 @@ fn check(bytes: &[u8]) {
     match (&repaired, &wanted) {
         (Cow::Borrowed(text), Cow::Borrowed(_)) => assert_eq!(text.as_ptr(), bytes.as_ptr()),
         (Cow::Owned(text), Cow::Owned(_)) => assert!(text.capacity() <= text.len() + 64),
-        _ => panic!("{bytes:x?} is borrowed by one alone"),
+        _ => panic!("{bytes:x?} is borrowed by only one of the two"),
     }
     let chunks = || utf8_chunks(bytes).map(|chunk| (chunk.valid(), chunk.invalid()));
     assert!(chunks().eq(bytes.utf8_chunks().map(|chunk| (chunk.valid(), chunk.invalid()))));
-    let broken = chunks().filter(|(_, invalid)| !invalid.is_empty()).count();
+    let malformed = chunks().filter(|(_, invalid)| !invalid.is_empty()).count();
     let first = bytes.utf8_chunks().next().filter(|chunk| !chunk.invalid().is_empty());
     let place = first.map(|chunk| chunk.valid().len()..chunk.valid().len() + chunk.invalid().len());
-    assert_eq!(next_broken(bytes), place);
+    assert_eq!(next_malformed(bytes), place);
     let mut text = Vec::new();
-    assert_eq!(repair_to(bytes, &mut text).unwrap(), broken as u64);
+    assert_eq!(repair_to(bytes, &mut text).unwrap(), malformed as u64);
     assert_eq!(text, wanted.as_bytes());
 }
 
@@ -71,7 +71,7 @@ impl Write for Failing {
 }
 
 #[test]
-fn a_failing_sink_has_a_front() {
+fn a_failing_sink_has_a_prefix() {
     let mut random = Random::new(62);
     for _ in 0..200 {
         let bytes = random.bytes();

@@ -9,7 +9,7 @@ use encoding_text::DecoderResult;
 use runs::*;
 
 /// The run that writes bytes, or code units.
-type Run<U> = fn(&mut Decoder, &[u8], &[Turn], &mut [U], &mut [Report]) -> Outcome;
+type Run<U> = fn(&mut Decoder, &[u8], &[Turn], &mut [U], &mut [Report]) -> DecodeRunResult;
 
 /// Source, turns, length of the destination, how much is read, the last result, output, reports.
 const ROWS: &str = "\
@@ -67,22 +67,22 @@ fn reports_of(field: &str) -> Vec<Report> {
 /// the rest unchanged.
 fn assert_runs<U: Unit>(run: Run<U>, decoder: &mut Decoder, row: &str) {
     let row_fields: Vec<&str> = row.split('|').map(str::trim).collect();
-    let [_, src, turns, room, read, last, text, told] = row_fields[..] else {
+    let [_, src, turns, room, read, last, text, returned] = row_fields[..] else {
         panic!("no run: {row}");
     };
-    let (turns, text, told) = (turns_of(turns), named::<U>(text), reports_of(told));
+    let (turns, text, returned) = (turns_of(turns), named::<U>(text), reports_of(returned));
     let mut dst = [U::UNWRITTEN; 8];
     let space = &mut dst[..room.parse().unwrap()];
     let mut reports = vec![UNREPORTED; turns.len() + 1];
     let outcome = run(decoder, &named::<u8>(src), &turns, space, &mut reports);
     assert_eq!(outcome.read, read.parse().unwrap(), "{row}");
     assert_eq!(outcome.ended(), answer(last), "{row}");
-    let (written, behind) = dst.split_at(outcome.written);
+    let (written, following) = dst.split_at(outcome.written);
     assert_eq!(written, text, "{row}");
-    assert!(behind.iter().all(|unit| *unit == U::UNWRITTEN), "{row}");
-    let (reported, behind) = reports.split_at(outcome.reports);
-    assert_eq!(reported, told, "{row}");
-    assert!(behind.iter().all(|report| *report == UNREPORTED), "{row}");
+    assert!(following.iter().all(|unit| *unit == U::UNWRITTEN), "{row}");
+    let (reported, following) = reports.split_at(outcome.reports);
+    assert_eq!(reported, returned, "{row}");
+    assert!(following.iter().all(|report| *report == UNREPORTED), "{row}");
 }
 
 /// A row `new` starts a new decoder, and the next rows continue with it.
@@ -105,7 +105,7 @@ fn rows_hold() {
 }
 
 /// Asserts that turns of `take` bytes read all of the bytes, and yield this text and these reports.
-fn assert_delivered<U: Unit>(run: Run<U>, bytes: &[u8], take: usize, text: &[U], told: &[Report]) {
+fn assert_delivered<U: Unit>(run: Run<U>, bytes: &[u8], take: usize, text: &[U], returned: &[Report]) {
     let turns = turns_for(bytes.len(), take, 16);
     let mut reports = vec![UNREPORTED; turns.len()];
     let mut dst = [U::UNWRITTEN; 16];
@@ -114,25 +114,25 @@ fn assert_delivered<U: Unit>(run: Run<U>, bytes: &[u8], take: usize, text: &[U],
     let end = (bytes.len(), Some(DecoderResult::InputEmpty));
     assert_eq!(ended, end, "{bytes:x?}, {take}");
     assert_eq!(&dst[..outcome.written], text, "{bytes:x?}, {take}");
-    assert_eq!(&reports[..outcome.reports], told, "{bytes:x?}, {take}");
+    assert_eq!(&reports[..outcome.reports], returned, "{bytes:x?}, {take}");
 }
 
 /// Asserts that the run yields the parts of each vector, written as these units.
 fn assert_vectors_run<U: Unit>(run: Run<U>, units: fn(char) -> Vec<U>) {
     let vectors = vectors();
     for Vector { bytes, parts, .. } in &vectors {
-        let (mut text, mut told) = (Vec::new(), Vec::new());
+        let (mut text, mut returned) = (Vec::new(), Vec::new());
         for part in parts {
             match *part {
                 Ok(character) => text.extend(units(character)),
-                Err(length) => told.push(Report {
+                Err(length) => returned.push(Report {
                     place: text.len(),
                     length,
                 }),
             }
         }
-        assert_delivered(run, bytes, 1, &text, &told);
-        assert_delivered(run, bytes, 16, &text, &told);
+        assert_delivered(run, bytes, 1, &text, &returned);
+        assert_delivered(run, bytes, 16, &text, &returned);
     }
     assert_eq!(vectors.len(), 104);
 }

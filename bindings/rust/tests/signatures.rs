@@ -3,7 +3,7 @@
 use encoding_text::{ascii, mem, utf_8};
 
 type Check<T> = fn(&[T]) -> bool;
-type Front<T> = fn(&[T]) -> usize;
+type Prefix<T> = fn(&[T]) -> usize;
 type Convert<S, D, R> = fn(&[S], &mut [D]) -> R;
 type Counts = (usize, usize);
 type Found<T> = Option<(T, usize)>;
@@ -13,7 +13,7 @@ fn ascii_functions() {
     let _: usize = ascii::ASCII_MASK;
     let _: usize = ascii::MAX_STRIDE_SIZE;
     let _: fn(&[u8]) -> Found<u8> = ascii::validate_ascii;
-    let _: [Front<u8>; 2] = [ascii::ascii_valid_up_to, ascii::iso_2022_jp_ascii_valid_up_to];
+    let _: [Prefix<u8>; 2] = [ascii::ascii_valid_up_to, ascii::iso_2022_jp_ascii_valid_up_to];
     let _: Convert<u8, u8, Found<u8>> = ascii::ascii_to_ascii;
     let _: Convert<u8, u16, Found<u8>> = ascii::ascii_to_basic_latin;
     let _: Convert<u16, u8, Found<u16>> = ascii::basic_latin_to_ascii;
@@ -23,7 +23,7 @@ fn ascii_functions() {
 fn utf_8_functions() {
     let _: &'static utf_8::Utf8Data = &utf_8::UTF8_DATA;
     let _: &[u8; 384] = &utf_8::UTF8_DATA.table;
-    let _: Front<u8> = utf_8::utf8_valid_up_to;
+    let _: Prefix<u8> = utf_8::utf8_valid_up_to;
     let _: Convert<u8, u16, Counts> = utf_8::convert_utf8_to_utf16_up_to_invalid;
     let _: [Convert<u16, u8, Counts>; 2] = [
         utf_8::convert_utf16_to_utf8_partial_inner,
@@ -41,8 +41,8 @@ fn checks_of_mem() {
     let _: fn(&[u8]) -> mem::Latin1Bidi = mem::check_utf8_for_latin1_and_bidi;
     let _: fn(&str) -> mem::Latin1Bidi = mem::check_str_for_latin1_and_bidi;
     let _: fn(&[u16]) -> mem::Latin1Bidi = mem::check_utf16_for_latin1_and_bidi;
-    let _: Front<u16> = mem::utf16_valid_up_to;
-    let _: Front<u8> = mem::utf8_latin1_up_to;
+    let _: Prefix<u16> = mem::utf16_valid_up_to;
+    let _: Prefix<u8> = mem::utf8_latin1_up_to;
     let _: fn(&str) -> usize = mem::str_latin1_up_to;
     let _: fn(&mut [u16]) = mem::ensure_utf16_validity;
 }

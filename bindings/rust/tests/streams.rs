@@ -12,7 +12,7 @@ use std::io::{self, Read};
 struct Pieces<'a> {
     random: Random,
     rest: &'a [u8],
-    asked_behind: usize,
+    asked_after: usize,
 }
 
 impl Read for Pieces<'_> {
@@ -22,7 +22,7 @@ impl Read for Pieces<'_> {
             1 => return Err(io::Error::other("broken for now")),
             _ => {}
         }
-        self.asked_behind += usize::from(self.rest.is_empty());
+        self.asked_after += usize::from(self.rest.is_empty());
         let count = 1 + self.random.length(buffer.len().max(1) - 1);
         let (piece, rest) = self.rest.split_at(count.min(self.rest.len()));
         buffer[..piece.len()].copy_from_slice(piece);
@@ -31,7 +31,7 @@ impl Read for Pieces<'_> {
     }
 }
 
-fn broken(bytes: &[u8]) -> u64 {
+fn malformed(bytes: &[u8]) -> u64 {
     bytes.utf8_chunks().filter(|chunk| !chunk.invalid().is_empty()).count() as u64
 }
 
@@ -43,7 +43,7 @@ fn repair() {
         let pieces = Pieces {
             random: Random::new(random.next()),
             rest: &bytes,
-            asked_behind: 0,
+            asked_after: 0,
         };
         let mut reader = Repair::with_capacity(random.length(600), pieces);
         let most = 1 + random.length(300);
@@ -76,9 +76,9 @@ fn repair() {
             }
         }
         assert_eq!(at, wanted.len());
-        assert_eq!(reader.replaced(), broken(&bytes));
+        assert_eq!(reader.replaced(), malformed(&bytes));
         assert_eq!(reader.read(&mut [0; 9]).unwrap(), 0);
-        assert_eq!(reader.into_inner().asked_behind, 1);
+        assert_eq!(reader.into_inner().asked_after, 1);
     }
 }
 
@@ -90,7 +90,7 @@ fn decode_utf16() {
         let pieces = Pieces {
             random: Random::new(random.next()),
             rest: &bytes,
-            asked_behind: 0,
+            asked_after: 0,
         };
         let mut reader = DecodeUtf16::with_capacity(random.length(600), pieces);
         let most = 1 + random.length(300);
@@ -116,8 +116,8 @@ fn decode_utf16() {
             }
         }
         assert_eq!(at, wanted.len());
-        assert_eq!(reader.replaced(), broken(&bytes));
-        assert_eq!(reader.get_ref().asked_behind, 1);
+        assert_eq!(reader.replaced(), malformed(&bytes));
+        assert_eq!(reader.get_ref().asked_after, 1);
     }
 }
 
@@ -131,7 +131,7 @@ fn long_streams() {
     let mut reader = Repair::new(&bytes[..]);
     reader.read_to_string(&mut text).unwrap();
     assert_eq!(text, wanted);
-    assert_eq!(reader.replaced(), broken(&bytes));
+    assert_eq!(reader.replaced(), malformed(&bytes));
     let mut units = vec![0; bytes.len()];
     let mut reader = DecodeUtf16::new(&bytes[..]);
     let mut written = 0;

@@ -3,7 +3,7 @@
 use encoding_text::mem::{ensure_utf16_validity, utf16_valid_up_to};
 
 /// Code units, and how many of them are valid.
-const FRONTS: [([u16; 16], usize); 4] = [
+const PREFIXES: [([u16; 16], usize); 4] = [
     ([0, 0, 0, 0, 0, 0, 0, 0, 0, 0, 0, 0, 0x2603, 0xD83D, 0xDCA9, 0x00B6], 16),
     ([0, 0, 0, 0, 0, 0, 0, 0, 0, 0, 0, 0, 0, 0x2603, 0xD83D, 0x00B6], 14),
     ([0, 0, 0, 0, 0, 0, 0, 0, 0, 0, 0, 0, 0, 0x2603, 0xDCA9, 0x00B6], 14),
@@ -11,8 +11,8 @@ const FRONTS: [([u16; 16], usize); 4] = [
 ];
 
 #[test]
-fn finds_the_first_lone_surrogate() {
-    for (units, valid) in FRONTS {
+fn finds_the_first_unpaired_surrogate() {
+    for (units, valid) in PREFIXES {
         assert_eq!(utf16_valid_up_to(&units), valid, "{units:x?}");
     }
     assert_eq!(utf16_valid_up_to(&[]), 0);

@@ -6,12 +6,12 @@ use std::fmt::Debug;
 use text_destinations::{Calls, FROM_LATIN1, FROM_UTF16};
 
 /// Asserts how much the calls that stop at the end read and write, and what they leave of the text of these bytes.
-fn assert_leaves<S: Debug>(calls: &[Calls<S>], src: &[S], text: &[u8], told: (usize, usize), wanted: &[u8]) {
+fn assert_leaves<S: Debug>(calls: &[Calls<S>], src: &[S], text: &[u8], reported: (usize, usize), wanted: &[u8]) {
     for calls in calls {
         let mut dst = text.to_vec();
         assert_eq!(
             (calls.partial)(src, &mut dst),
-            told,
+            reported,
             "{src:x?} into {text:x?}, {}",
             calls.owner
         );
@@ -35,8 +35,8 @@ const UNITS: [Row; 3] = [
 
 #[test]
 fn rows_of_units() {
-    for (src, text, told, wanted) in UNITS {
-        assert_leaves(&FROM_UTF16, src, text, told, wanted);
+    for (src, text, reported, wanted) in UNITS {
+        assert_leaves(&FROM_UTF16, src, text, reported, wanted);
     }
     for calls in &FROM_UTF16 {
         let mut dst = [0xE2, 0x98, 0x83];
@@ -48,14 +48,14 @@ fn rows_of_units() {
 /// Sixteen bytes after what is written become zero, or all if there are fewer, and what continues a character there.
 #[test]
 fn rows_of_latin1() {
-    let mut behind_two = [0x00; 20];
-    behind_two[..2].copy_from_slice(&[0xC3, 0xA4]);
-    behind_two[18..].fill(0x71);
+    let mut after_two = [0x00; 20];
+    after_two[..2].copy_from_slice(&[0xC3, 0xA4]);
+    after_two[18..].fill(0x71);
     let mut text = [0x71; 19];
     text[15..18].copy_from_slice(&[0xE2, 0x98, 0x83]);
-    let mut behind_none = [0x00; 19];
-    behind_none[18] = 0x71;
-    assert_leaves(&FROM_LATIN1, &[0xE4], &[0x71; 20], (1, 2), &behind_two);
+    let mut after_none = [0x00; 19];
+    after_none[18] = 0x71;
+    assert_leaves(&FROM_LATIN1, &[0xE4], &[0x71; 20], (1, 2), &after_two);
     assert_leaves(&FROM_LATIN1, &[], &[0x71; 4], (0, 0), &[0x00; 4]);
-    assert_leaves(&FROM_LATIN1, &[], &text, (0, 0), &behind_none);
+    assert_leaves(&FROM_LATIN1, &[], &text, (0, 0), &after_none);
 }

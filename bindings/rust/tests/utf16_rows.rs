@@ -77,11 +77,11 @@ fn converts_a_text_to_utf8_in_two() {
 
 /// Asserts that a destination starts with these bytes, and is unchanged after them.
 fn assert_begins(row: &str, bytes: &[u8], dst: &[u8]) {
-    let (written, behind) = dst.split_at(bytes.len());
+    let (written, following) = dst.split_at(bytes.len());
     assert_eq!(written, bytes, "{row}");
     assert!(
-        behind.iter().all(|byte| *byte == u8::UNWRITTEN),
-        "{row}, behind: {behind:x?}"
+        following.iter().all(|byte| *byte == u8::UNWRITTEN),
+        "{row}, after: {following:x?}"
     );
 }
 
@@ -125,7 +125,7 @@ D83D DCA9 0076 2603 0077 00B6 0078 0079 007A 007A | \
 61 62 63 64 65 66 67 68 69 6A 6B 6C 6D 6E 6F 70 71 72 73 74 75 F0 9F 92 A9 76 E2 98 83 77 C2 B6 78 79 7A 7A";
 
 /// Returns whether the first `read` units are whole characters, whose UTF-8 has `written` bytes.
-fn is_front(units: &[u16], read: usize, written: usize) -> bool {
+fn is_prefix(units: &[u16], read: usize, written: usize) -> bool {
     let (mut end, mut length) = (0, 0);
     for (units, character) in characters(units) {
         if end < read {
@@ -142,7 +142,7 @@ fn assert_inner(row: &str, units: &[u16], bytes: &[u8], room: usize) {
     let mut dst = [u8::UNWRITTEN; 40];
     let (read, written) = convert_utf16_to_utf8_partial_inner(units, &mut dst[..room]);
     assert!(read == units.len() || room <= written + 3, "{row}, {room}: {written}");
-    assert!(is_front(units, read, written), "{row}, {room}: {read}, {written}");
+    assert!(is_prefix(units, read, written), "{row}, {room}: {read}, {written}");
     assert_begins(row, &bytes[..written], &dst);
 }
 
@@ -152,7 +152,7 @@ fn inner_fills_all_but_three_bytes() {
     for row in SOURCES.lines() {
         let (units, bytes) = fields(row);
         let (units, bytes): (Vec<u16>, Vec<u8>) = (named(units), named(bytes));
-        assert!(is_front(&units, units.len(), bytes.len()), "{row}");
+        assert!(is_prefix(&units, units.len(), bytes.len()), "{row}");
         for room in 0..=40 {
             assert_inner(row, &units, &bytes, room);
         }
@@ -173,7 +173,7 @@ fn converts_what_fits() {
 }
 
 #[test]
-fn replaces_broken_parts() {
+fn replaces_malformed_parts() {
     let mut dst = [0x71; 6];
     let written = convert_utf8_to_utf16(&[0x61, 0xF0, 0x9F, 0x92, 0xC2], &mut dst);
     assert_eq!((written, dst), (3, [0x0061, 0xFFFD, 0xFFFD, 0x71, 0x71, 0x71]));
@@ -181,7 +181,7 @@ fn replaces_broken_parts() {
 
 /// The longest well-formed prefix is written even if the bytes are refused.
 #[test]
-fn refuses_broken_parts() {
+fn refuses_malformed_parts() {
     let mut dst = [0x71; 4];
     let answer = convert_utf8_to_utf16_without_replacement(&[0x61, 0xC3, 0xA4, 0xFF], &mut dst);
     assert_eq!((answer, dst), (None, [0x0061, 0x00E4, 0x71, 0x71]));

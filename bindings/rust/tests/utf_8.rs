@@ -5,11 +5,11 @@ use common::*;
 use encoding_text::utf_8::*;
 
 #[test]
-fn fronts() {
+fn prefixes() {
     let mut random = Random::new(31);
     for _ in 0..4000 {
         let bytes = random.bytes();
-        assert_eq!(utf8_valid_up_to(&bytes), front(&bytes).len());
+        assert_eq!(utf8_valid_up_to(&bytes), prefix(&bytes).len());
     }
 }
 
@@ -19,11 +19,11 @@ fn short_sequences() {
     const EDGES: [u8; 12] = [0x00, 0x7F, 0x80, 0x8F, 0x90, 0x9F, 0xA0, 0xBF, 0xC0, 0xC2, 0xED, 0xFF];
     for first in 0..=u8::MAX {
         for second in 0..=u8::MAX {
-            assert_eq!(utf8_valid_up_to(&[first, second]), front(&[first, second]).len());
+            assert_eq!(utf8_valid_up_to(&[first, second]), prefix(&[first, second]).len());
             for third in EDGES {
                 for fourth in EDGES {
                     let bytes = [first, second, third, fourth];
-                    assert_eq!(utf8_valid_up_to(&bytes), front(&bytes).len(), "{bytes:x?}");
+                    assert_eq!(utf8_valid_up_to(&bytes), prefix(&bytes).len(), "{bytes:x?}");
                 }
             }
         }
@@ -38,7 +38,7 @@ fn to_utf16_up_to_invalid() {
         let room = random.below(bytes.len() + 8);
         let mut units = Vec::new();
         let mut read = 0;
-        for c in front(&bytes).chars().take_while(|c| {
+        for c in prefix(&bytes).chars().take_while(|c| {
             read += c.len_utf16();
             read <= room
         }) {

@@ -1,1 +1,1 @@
-pub mod PieceLemmas
+pub mod CutPieceLemmas

@@ -1,32 +1,32 @@
 -- Bytes that are cut such that their pieces can be repaired separately.
 use Rattle.std.specs.Prelude.{◌≡◌, ℕ, ◌+◌, ◌<◌, List, [], ◌∷◌, ◌++◌, ◌⊎◌, map}
 use Rattle.encoding_definitions.specs.Parts.{Part, ArePartsOf}
-use Rattle.encoding_runs.specs.BrokenParts.{broken_places}
-use Rattle.encoding_runs.specs.Repairs.{IsRepairedWith}
+use Rattle.encoding_runs.specs.MalformedSequences.{malformed_indices}
+use Rattle.encoding_runs.specs.Repairs.{IsLossyDecodeWith}
 use Rattle.cuts_example.specs.declared.RepairedPiece.{RepairedPiece}
 
 -- the last of the bytes is ASCII
 abbrev pub EndsWithAscii : List ℕ → Type 0
-EndsWithAscii bs = (front : List ℕ) × (b : ℕ) × (b < 0x80) × (bs ≡ front ++ b ∷ [])
+EndsWithAscii bs = (prefix : List ℕ) × (b : ℕ) × (b < 0x80) × (bs ≡ prefix ++ b ∷ [])
 
 -- no bytes, or bytes that end with ASCII
-abbrev pub MayBeCutBehind : List ℕ → Type 0
-MayBeCutBehind bs = (bs ≡ []) ⊎ EndsWithAscii bs
+abbrev pub MayBeCutAfter : List ℕ → Type 0
+MayBeCutAfter bs = (bs ≡ []) ⊎ EndsWithAscii bs
 
 -- after each piece but the last the bytes may be cut
 abbrev pub AreCut : List (List ℕ) → Type 0
 AreCut [] = Unit {0}
 AreCut (piece ∷ []) = Unit {0}
-AreCut (piece ∷ next ∷ pieces) = MayBeCutBehind piece × AreCut (next ∷ pieces)
+AreCut (piece ∷ next ∷ pieces) = MayBeCutAfter piece × AreCut (next ∷ pieces)
 
 -- it has the repaired text of the bytes, and counts their malformed sequences
 abbrev pub IsRepairOf : List ℕ → RepairedPiece → Type 0
-IsRepairOf bs repaired = IsRepairedWith bs repaired.text.items repaired.replaced
+IsRepairOf bs repaired = IsLossyDecodeWith bs repaired.text.items repaired.replaced
 
 -- the offset and the length of each malformed sequence of the bytes, in order
-abbrev pub AreBrokenPartsOf : List ℕ → List (ℕ × ℕ) → Type 0
-AreBrokenPartsOf bs found = (parts : List Part) × ArePartsOf bs parts × (found ≡ broken_places 0 parts)
+abbrev pub AreMalformedSequencesOf : List ℕ → List (ℕ × ℕ) → Type 0
+AreMalformedSequencesOf bs found = (parts : List Part) × ArePartsOf bs parts × (found ≡ malformed_indices 0 parts)
 
 -- the same offsets and lengths with n bytes before them
-abbrev pub behind : ℕ → List (ℕ × ℕ) → List (ℕ × ℕ)
-behind n found = map (λ part. (n + part.0, part.1)) found
+abbrev pub following : ℕ → List (ℕ × ℕ) → List (ℕ × ℕ)
+following n found = map (λ part. (n + part.0, part.1)) found

@@ -4,11 +4,11 @@
 
 ghost use Rattle.std.specs.Prelude.{◌≡◌, ℕ, ◌+◌, ◌-◌, ◌<◌, ◌≤◌, ◌^◌, min, List, ◌++◌, length, take, map, sum_by, slice_index, IfOk};
 ghost use Rattle.std.specs.List.{flat_map, AllZip};
-ghost use Rattle.encoding_runs.specs.Repairs.{IsRepairedWith};
-ghost use Rattle.cuts_example.specs.Cuts.{EndsWithAscii, MayBeCutBehind, AreCut, IsRepairOf, AreBrokenPartsOf, behind};
+ghost use Rattle.encoding_runs.specs.Repairs.{IsLossyDecodeWith};
+ghost use Rattle.cuts_example.specs.Cuts.{EndsWithAscii, MayBeCutAfter, AreCut, IsRepairOf, AreMalformedSequencesOf, following};
 
-use encoding_runs::broken::{BrokenPart, next_broken};
-use encoding_runs::laws::{law_cuts, law_next_broken, law_parts};
+use encoding_runs::laws::{law_cuts, law_next_malformed, law_parts};
+use encoding_runs::malformed::{MalformedSequence, next_malformed};
 use encoding_runs::repair::{Watch, repair_slice};
 use std::alloc::{AllocError, Global};
 
@@ -25,11 +25,11 @@ pub struct RepairedPiece {
 /// and their malformed sequences add up. Those of the whole are those of the piece, followed by those of the rest,
 /// whose offsets grow by the length of the piece. So they can also be found separately.
 pub fn law_cut()
-    ensures broken { (piece more : List ℕ) (found others : List (ℕ × ℕ)) → MayBeCutBehind piece
-        → AreBrokenPartsOf piece found → AreBrokenPartsOf more others
-        → AreBrokenPartsOf (piece ++ more) (found ++ behind (length piece) others) }
-    ensures repaired { (piece more text others : List ℕ) (n m : ℕ) → MayBeCutBehind piece → IsRepairedWith piece text n
-        → IsRepairedWith more others m → IsRepairedWith (piece ++ more) (text ++ others) (n + m) }
+    ensures malformed { (piece more : List ℕ) (found others : List (ℕ × ℕ)) → MayBeCutAfter piece
+        → AreMalformedSequencesOf piece found → AreMalformedSequencesOf more others
+        → AreMalformedSequencesOf (piece ++ more) (found ++ following (length piece) others) }
+    ensures repaired { (piece more text others : List ℕ) (n m : ℕ) → MayBeCutAfter piece → IsLossyDecodeWith piece text n
+        → IsLossyDecodeWith more others m → IsLossyDecodeWith (piece ++ more) (text ++ others) (n + m) }
 {
     law_parts();
     law_cuts();
@@ -37,16 +37,16 @@ pub fn law_cut()
 
 /// Returns the offset and the length, in bytes, of each malformed sequence, in order: as many as a repair counts. An
 /// `Err` means that an allocation failed.
-pub fn broken_places(alloc: Global, bytes: &[u8]) -> Result<Vec<(usize, usize)>, AllocError>
-    ensures found { IfOk result (λ found. AreBrokenPartsOf bytes.now found.items) }
-    ensures count { (text : List ℕ) (n : ℕ) → IsRepairedWith bytes.now text n
+pub fn malformed_indices(alloc: Global, bytes: &[u8]) -> Result<Vec<(usize, usize)>, AllocError>
+    ensures found { IfOk result (λ found. AreMalformedSequencesOf bytes.now found.items) }
+    ensures malformed_count { (text : List ℕ) (n : ℕ) → IsLossyDecodeWith bytes.now text n
         → IfOk result (λ found. length found.items ≡ n) }
 {
     law_parts();
-    law_next_broken();
+    law_next_malformed();
     let mut found = Vec::new(alloc);
     let mut read = 0;
-    while let Some(BrokenPart { place, length }) = next_broken(&bytes[read..]) {
+    while let Some(MalformedSequence { place, length }) = next_malformed(&bytes[read..]) {
         found.push((read + place, length))?;
         read += place + length;
     }
@@ -59,7 +59,7 @@ fn cut_length(bytes: &[u8], least: usize) -> usize
     requires { 0 < least }
     ensures within { result ≤ length bytes.now }
     ensures least { min least (length bytes.now) ≤ result }
-    ensures first { (k : ℕ) → least ≤ k → k < result → 0x80 ≤ slice_index bytes.now (k - 1) }
+    ensures earliest { (k : ℕ) → least ≤ k → k < result → 0x80 ≤ slice_index bytes.now (k - 1) }
     ensures ascii { result < length bytes.now → EndsWithAscii (take result bytes.now) }
 {
     let mut length = least;

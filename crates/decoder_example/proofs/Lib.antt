@@ -1,4 +1,4 @@
-pub mod GivenLemmas
-pub mod CallLemmas
+pub mod YieldedLemmas
+pub mod ReplacingCallLemmas
 pub mod MarkLemmas
-pub mod StreamLemmas
+pub mod MarkedStreamLemmas

@@ -7,19 +7,19 @@ use Rattle.std.proofs.lemmas.Slice.Eq.{starts_is}
 use Rattle.std.specs.List.{starts_with}
 use Rattle.encoding_definitions.specs.Sequence.{IsSequence}
 use Rattle.encoding_definitions.specs.Pending.{IsPending}
-use Rattle.encoding_definitions.proofs.Decomposition.PartsLemmas.{fronts_nest}
-use Rattle.encoding_text.specs.Decoding.{IsBorrowedCall}
-use Rattle.encoding_text.specs.OneAnswer.{HasOnePiece}
+use Rattle.encoding_definitions.proofs.Decomposition.PartsLemmas.{prefixes_nest}
+use Rattle.encoding_text.specs.Decoding.{BorrowedDecodeStep}
+use Rattle.encoding_text.specs.OneResult.{HasOnePiece}
 use Rattle.encoding_text.specs.declared.decoder.Piece.{Piece}
 use Rattle.encoding_text.specs.declared.decoder.Piece.TheVariants.{InputEmpty}
 use Rattle.decoder_example.specs.Marked.{mark, without_mark}
 
 -- one is a prefix of the other
-pub starts : (bytes front : List ℕ) → starts_with nat_eq bytes front ≡ true → bytes ≡ front ++ drop (length front) bytes
-starts bytes front = (starts_is Decides-eqb bytes front (starts_with nat_eq bytes front) refl).0
+pub starts : (bytes prefix : List ℕ) → starts_with nat_eq bytes prefix ≡ true → bytes ≡ prefix ++ drop (length prefix) bytes
+starts bytes prefix = (starts_is Decides-eqb bytes prefix (starts_with nat_eq bytes prefix) refl).0
 
-pub starts_not : (bytes front rest : List ℕ) → starts_with nat_eq bytes front ≡ false → bytes ≡ front ++ rest → ⊥
-starts_not bytes front rest differs e = both_ways _ differs ((starts_is Decides-eqb bytes front (starts_with nat_eq bytes front) refl).1 rest e)
+pub starts_not : (bytes prefix rest : List ℕ) → starts_with nat_eq bytes prefix ≡ false → bytes ≡ prefix ++ rest → ⊥
+starts_not bytes prefix rest differs e = both_ways _ differs ((starts_is Decides-eqb bytes prefix (starts_with nat_eq bytes prefix) refl).1 rest e)
 
 pub without_mark-mark : (bytes rest : List ℕ) → bytes ≡ mark ++ rest → without_mark bytes ≡ rest
 without_mark-mark bytes rest e = rw e refl
@@ -75,7 +75,7 @@ module _ (n : ℕ) (short : n < 3) (src : List ℕ) where
       longer true l (b ∷ bs) rest m w = omega (arith, ap length (sym (end l) ∙ w))
 
       other : (rest : List ℕ) → src ++ more ≡ missing ++ rest → ⊥
-      other rest w = elim (fronts_nest src more missing rest w) [
+      other rest w = elim (prefixes_nest src more missing rest w) [
         | inl (t, m, r) ↦ longer last refl t rest m r
         | inr (t, s, r) ↦ starts_not src missing t differs s
       ]
@@ -91,7 +91,7 @@ IsPending-mark (suc n) short = inr (
 )
 
 -- and is pending after a call without a destination
-pub mark_pending : (n : ℕ) (src : List ℕ) (returned : Piece) (read : ℕ) (q : List ℕ) → n < 3 → src ≡ take n mark → HasOnePiece [] src false → IsBorrowedCall [] src false returned read q → q ≡ take n mark
+pub mark_pending : (n : ℕ) (src : List ℕ) (returned : Piece) (read : ℕ) (q : List ℕ) → n < 3 → src ≡ take n mark → HasOnePiece [] src false → BorrowedDecodeStep [] src false returned read q → q ≡ take n mark
 mark_pending n src returned read q short e (piece, length', pending, call, one) made =
-    let held : IsBorrowedCall [] src false InputEmpty (length src) src = record { pending_before = inl refl; pending = subst IsPending (sym e) (IsPending-mark n short); answer = (refl, refl, λ marked. absurd (both_ways _ refl marked)) } in
+    let held : BorrowedDecodeStep [] src false InputEmpty (length src) src = record { pending_before = inl refl; pending = subst IsPending (sym e) (IsPending-mark n short); answer = (refl, refl, λ marked. absurd (both_ways _ refl marked)) } in
     sym (one returned read q made).2 ∙ (one InputEmpty (length src) src held).2 ∙ e

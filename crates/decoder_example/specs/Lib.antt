@@ -1,3 +1,3 @@
 pub mod Marked
-pub mod Calls
-pub mod Streams
+pub mod ReplacingCalls
+pub mod MarkedStreams

@@ -1,7 +1,7 @@
 -- Streams that may start with the byte order mark of UTF-8, and what of them is left to be decoded.
 use Rattle.std.specs.Prelude.{◌≡◌, ℕ, Bool, List, [], ◌∷◌, ◌++◌, drop, take, nat_eq, nat_lt, if◌then◌else◌, Option, None, Some}
 use Rattle.std.specs.List.{flat_map, starts_with}
-use Rattle.encoding_definitions.specs.Parts.{Part, StartsWith, repaired_scalar, count_broken}
+use Rattle.encoding_definitions.specs.Parts.{Part, StartsWith, lossy_scalar, malformed_count}
 
 -- the UTF-8 of U+FEFF
 abbrev pub mark : List ℕ
@@ -32,8 +32,8 @@ left (Sniffing bytes) unread = without_mark (bytes ++ unread)
 left (Decoding bytes) unread = bytes ++ unread
 
 -- the code units are the text of the first parts of the bytes, with U+FFFD for each malformed sequence, if there is any
-pub record GivesText {A : Type 0} (encode : ℕ → List A) (bytes rest : List ℕ) (out : List A) (replaced : Bool) : Type 0 where
+pub record YieldsText {A : Type 0} (encode : ℕ → List A) (bytes rest : List ℕ) (out : List A) (replaced : Bool) : Type 0 where
   pub parts : List Part
   pub first : StartsWith bytes parts rest
-  pub text : out ≡ flat_map (λ part. encode (repaired_scalar part)) parts
-  pub broken : replaced ≡ nat_lt 0 (count_broken parts)
+  pub text : out ≡ flat_map (λ part. encode (lossy_scalar part)) parts
+  pub malformed : replaced ≡ nat_lt 0 (malformed_count parts)

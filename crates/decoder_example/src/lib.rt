@@ -8,15 +8,15 @@ mod streams;
 ghost use Rattle.std.specs.Prelude.{◌≡◌, ℕ, ◌+◌, ◌-◌, ◌<◌, ◌≤◌, Bool, true, false, List, [], ◌++◌, length, drop, encode_utf8, IfSome};
 ghost use Rattle.std.specs.Option.{SomeIff, is_none};
 ghost use Rattle.std.specs.Char.Escape.{encode_utf16};
-ghost use Rattle.encoding_definitions.specs.Fronts.{WritesFront};
-ghost use Rattle.encoding_text.specs.Decoding.{utf16_room, utf8_room_replacing};
+ghost use Rattle.encoding_definitions.specs.Prefixes.{WritesPrefix};
+ghost use Rattle.encoding_text.specs.Decoding.{max_utf16_length, max_utf8_length_with_replacement};
 ghost use Rattle.decoder_example.specs.Marked.{State, Decoding, Sniffing, held, left};
-ghost use Rattle.decoder_example.specs.Calls.{Ends, IsReplacingCall, IsReportingCall, Writes};
+ghost use Rattle.decoder_example.specs.ReplacingCalls.{Ends, IsReplacingCall, IsReportingCall, Writes};
 
 use encoding_runs::laws::law_mixed_calls;
 use encoding_text::decoder::{DecoderResult, Utf8Decoder};
 use std::marker::Model;
-pub use streams::{law_calls, law_given_stays, law_next_stream, law_whole_text};
+pub use streams::{law_calls, law_next_stream, law_whole_text, law_yielded_stays};
 
 /// Why a call ended.
 #[derive(Debug, PartialEq, Eq, Drop)]
@@ -57,7 +57,7 @@ impl CodeUnit for u16 {
 
     ghost need = { 2 };
 
-    ghost query = { utf16_room };
+    ghost query = { max_utf16_length };
 
     fn decode(
         decoder: &mut Utf8Decoder,
@@ -75,7 +75,7 @@ impl CodeUnit for u8 {
 
     ghost need = { 4 };
 
-    ghost query = { utf8_room_replacing };
+    ghost query = { max_utf8_length_with_replacement };
 
     fn decode(
         decoder: &mut Utf8Decoder,
@@ -91,7 +91,7 @@ impl CodeUnit for u8 {
 /// Writes code units at the start of `dst`.
 fn put<U: Copy>(dst: &mut [U], units: &[U])
     requires fits { length units.now ≤ length dst.old }
-    ensures { WritesFront dst.old dst.new (length units.now) units.now }
+    ensures { WritesPrefix dst.old dst.new (length units.now) units.now }
 {
     dst[..units.len()].copy_from_slice(units);
 }
@@ -271,7 +271,7 @@ impl Decoder {
         dst: &mut [u16],
         last: bool,
     ) -> (CoderResult, usize, usize, bool)
-        ensures { IsReplacingCall encode_utf16 2 utf16_room self.old src.now dst.old dst.new last result.0 result.1
+        ensures { IsReplacingCall encode_utf16 2 max_utf16_length self.old src.now dst.old dst.new last result.0 result.1
             result.2 result.3 self.new }
     {
         self.decode(src, dst, last, &[0xFFFD])
@@ -290,7 +290,7 @@ impl Decoder {
         dst: &mut [u8],
         last: bool,
     ) -> (CoderResult, usize, usize, bool)
-        ensures { IsReplacingCall encode_utf8 4 utf8_room_replacing self.old src.now dst.old dst.new last result.0
+        ensures { IsReplacingCall encode_utf8 4 max_utf8_length_with_replacement self.old src.now dst.old dst.new last result.0
             result.1 result.2 result.3 self.new }
     {
         self.decode(src, dst, last, &[0xEF, 0xBF, 0xBD])
@@ -299,8 +299,8 @@ impl Decoder {
     /// Returns the length in UTF-16 code units of a destination that is long enough for the next `byte_length` bytes,
     /// in any pieces. Returns `None` if that number is above `usize::MAX`.
     pub fn max_utf16_buffer_length(&self, byte_length: usize) -> Option<usize>
-        ensures { SomeIff result (utf16_room byte_length (length (held self.now)) ≤ usize.MAX)
-            (utf16_room byte_length (length (held self.now))) }
+        ensures { SomeIff result (max_utf16_length byte_length (length (held self.now)) ≤ usize.MAX)
+            (max_utf16_length byte_length (length (held self.now))) }
     {
         let sniffed = self.sniffed.unwrap_or(0);
         self.decoder
@@ -310,8 +310,8 @@ impl Decoder {
     /// Returns the length in bytes of a destination that is long enough for the UTF-8 of the next `byte_length` bytes,
     /// in any pieces. Returns `None` if that number is above `usize::MAX`.
     pub fn max_utf8_buffer_length(&self, byte_length: usize) -> Option<usize>
-        ensures { SomeIff result (utf8_room_replacing byte_length (length (held self.now)) ≤ usize.MAX)
-            (utf8_room_replacing byte_length (length (held self.now))) }
+        ensures { SomeIff result (max_utf8_length_with_replacement byte_length (length (held self.now)) ≤ usize.MAX)
+            (max_utf8_length_with_replacement byte_length (length (held self.now))) }
     {
         let sniffed = self.sniffed.unwrap_or(0);
         self.decoder

@@ -4,12 +4,12 @@ ghost use Rattle.std.specs.Char.Escape.{encode_utf16};
 ghost use Rattle.std.specs.List.{AllZip, flat_map, list_any};
 ghost use Rattle.std.specs.Str.{all_scalars};
 ghost use Rattle.encoding_definitions.specs.Pending.{IsPending};
-ghost use Rattle.encoding_text.specs.Decoding.{IsCall, utf16_room, utf8_room_replacing};
+ghost use Rattle.encoding_text.specs.Decoding.{DecodeStep, max_utf16_length, max_utf8_length_with_replacement};
 ghost use Rattle.encoding_text.specs.declared.decoder.DecoderResult.{DecoderResult};
 ghost use Rattle.encoding_runs.specs.Calls.{Call, IsChain, read_in_all, pending_after, some_last};
-ghost use Rattle.encoding_runs.specs.MixedCalls.{Form, Answer, IsMixedCall, IsInputEmpty, AreAskedTheSame, AnswerTheSame};
-ghost use Rattle.decoder_example.specs.Marked.{State, GivesText, left};
-ghost use Rattle.decoder_example.specs.Streams.{AreMade, Made, GiveWhatStays, TakesWhole, state_after, unread_after};
+ghost use Rattle.encoding_runs.specs.MixedCalls.{Form, CallResult, MixedDecodeStep, IsInputEmpty, AreAskedTheSame, ReturnTheSame};
+ghost use Rattle.decoder_example.specs.Marked.{State, YieldsText, left};
+ghost use Rattle.decoder_example.specs.MarkedStreams.{AreMade, Made, YieldFinalParts, TakesWhole, state_after, unread_after};
 
 use encoding_runs::laws::{law_mixed_calls, law_parts};
 
@@ -18,20 +18,20 @@ use encoding_runs::laws::{law_mixed_calls, law_parts};
 /// U+FFFD is written for a part if a call says so. What is left is kept or unread: nothing, once a call marked last
 /// returns `InputEmpty`.
 pub fn law_calls()
-    ensures utf16 { (state : State) (stream : List ℕ) (calls : List (Made ℕ)) → AreMade encode_utf16 2 utf16_room state stream calls
-        → GivesText encode_utf16 (left state stream) (left (state_after state calls) (unread_after stream calls))
+    ensures utf16 { (state : State) (stream : List ℕ) (calls : List (Made ℕ)) → AreMade encode_utf16 2 max_utf16_length state stream calls
+        → YieldsText encode_utf16 (left state stream) (left (state_after state calls) (unread_after stream calls))
         (flat_map (λ call. call.out) calls) (list_any (λ call. call.replaced) calls) }
-    ensures utf8 { (state : State) (stream : List ℕ) (calls : List (Made ℕ)) → AreMade encode_utf8 4 utf8_room_replacing state stream calls
-        → GivesText encode_utf8 (left state stream) (left (state_after state calls) (unread_after stream calls))
+    ensures utf8 { (state : State) (stream : List ℕ) (calls : List (Made ℕ)) → AreMade encode_utf8 4 max_utf8_length_with_replacement state stream calls
+        → YieldsText encode_utf8 (left state stream) (left (state_after state calls) (unread_after stream calls))
         (flat_map (λ call. call.out) calls) (list_any (λ call. call.replaced) calls) }
 {}
 
 /// Calls that read all of a stream so far, of which more may follow, yield exactly its final parts: no more are known
 /// yet. Their text is never taken back, in UTF-8 or in UTF-16: it is a prefix of the text of the whole, for any
 /// following bytes.
-pub fn law_given_stays()
-    ensures { (pending stream : List ℕ) (calls : List (Call Form Answer ℕ)) → IsPending pending → IsChain IsMixedCall pending stream calls
-        → some_last calls ≡ false → length stream ≤ read_in_all calls → GiveWhatStays pending stream calls }
+pub fn law_yielded_stays()
+    ensures { (pending stream : List ℕ) (calls : List (Call Form CallResult ℕ)) → IsPending pending → IsChain MixedDecodeStep pending stream calls
+        → some_last calls ≡ false → length stream ≤ read_in_all calls → YieldFinalParts pending stream calls }
 {
     law_mixed_calls();
     law_parts();
@@ -40,9 +40,9 @@ pub fn law_given_stays()
 /// A decoder at the end of a stream can be used for the next one: the calls that a new decoder may get have the same
 /// results.
 pub fn law_next_stream()
-    ensures { (stream next : List ℕ) (calls others news : List (Call Form Answer ℕ)) → IsChain IsMixedCall [] stream calls
-        → Any (λ call. (call.last ≡ true) × IsInputEmpty call.result) calls → IsChain IsMixedCall (pending_after [] calls) next others
-        → IsChain IsMixedCall [] next news → AllZip AreAskedTheSame others news → AllZip AnswerTheSame others news }
+    ensures { (stream next : List ℕ) (calls others news : List (Call Form CallResult ℕ)) → IsChain MixedDecodeStep [] stream calls
+        → Any (λ call. (call.last ≡ true) × IsInputEmpty call.result) calls → IsChain MixedDecodeStep (pending_after [] calls) next others
+        → IsChain MixedDecodeStep [] next news → AllZip AreAskedTheSame others news → AllZip ReturnTheSame others news }
 {
     law_mixed_calls();
     law_parts();
@@ -53,11 +53,11 @@ pub fn law_next_stream()
 pub fn law_whole_text()
     ensures utf16 { (scalars out pending : List ℕ) (room read : ℕ) (last : Bool) (result : DecoderResult) → IsTrue (all_scalars scalars)
         → length (flat_map encode_utf16 scalars) ≤ room
-        → IsCall encode_utf16 2 [] (encode_utf8_all scalars) room last result read out pending
+        → DecodeStep encode_utf16 2 [] (encode_utf8_all scalars) room last result read out pending
         → TakesWhole encode_utf16 scalars result read out pending }
     ensures utf8 { (scalars out pending : List ℕ) (room read : ℕ) (last : Bool) (result : DecoderResult) → IsTrue (all_scalars scalars)
         → length (encode_utf8_all scalars) ≤ room
-        → IsCall encode_utf8 4 [] (encode_utf8_all scalars) room last result read out pending
+        → DecodeStep encode_utf8 4 [] (encode_utf8_all scalars) room last result read out pending
         → TakesWhole encode_utf8 scalars result read out pending }
 {
     law_mixed_calls();

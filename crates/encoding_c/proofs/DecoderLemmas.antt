@@ -3,24 +3,24 @@
 use Rattle.std.proofs.Common.{◌≡◌, ℕ, ◌+◌, ◌-◌, ◌≤◌, inl, inr, Bool, false, true≢false, List, [], ◌∷◌, ◌++◌, length, take, slice_index, refl, sym, ap, ◌∙◌, arith, encode_utf8_all}
 use Rattle.std.proofs.lemmas.List.{append-nil, take_all, get_or-append-add}
 use Rattle.encoding_definitions.specs.Pending.{IsPending}
-use Rattle.encoding_text.specs.OneAnswer.{SayTheSame}
-use Rattle.encoding_text.specs.Decoding.{Answers, Decodes, AnswersBorrowed, IsBorrowedCall}
+use Rattle.encoding_text.specs.OneResult.{AreSamePiece}
+use Rattle.encoding_text.specs.Decoding.{IsDecodeResult, DecodeStepInto, IsBorrowedResult, BorrowedDecodeStep}
 use Rattle.encoding_text.specs.declared.decoder.DecoderResult.{DecoderResult}
 use Rattle.encoding_text.specs.declared.decoder.DecoderResult.TheVariants.{InputEmpty, OutputFull, Malformed}
 use Rattle.encoding_text.specs.declared.decoder.Piece.{Piece}
 use Rattle.encoding_text.specs.declared.decoder.Piece.TheVariants as piece
-use Rattle.encoding_definitions.proofs.Sequences.SequenceLemmas.{length-IsBeginning}
+use Rattle.encoding_definitions.proofs.Sequences.SequenceLemmas.{length-IsIncomplete}
 use Rattle.encoding_text.proofs.Calls.OnePieceLemmas.{same_piece}
 use Rattle.encoding_c.specs.States.{EndsWith}
 
 -- at most three bytes are pending
 pub few_pending : (p : List ℕ) → IsPending p → length p ≤ 3
 few_pending p (inl e) = omega (arith, ap length e)
-few_pending p (inr b) = length-IsBeginning p b
+few_pending p (inr b) = length-IsIncomplete p b
 
 -- a call of a decoder with a destination
 module _ {A : Type 0} (encode : ℕ → List A) (need : ℕ) (p src : List ℕ) (last : Bool) where
-  answer_ends : (result : DecoderResult) (read : ℕ) (cs : List ℕ) (left : ℕ) (q : List ℕ) → Answers encode need p src last result read cs left q
+  answer_ends : (result : DecoderResult) (read : ℕ) (cs : List ℕ) (left : ℕ) (q : List ℕ) → IsDecodeResult encode need p src last result read cs left q
       → (read ≤ length src) × EndsWith (p ++ take read src) q
   answer_ends InputEmpty read cs left q a =
       (omega (arith, a.0), (encode_utf8_all cs, ap (λ n. p ++ take n src) a.0 ∙ ap (λ xs. p ++ xs) (take_all (length src) src (omega arith)) ∙ a.1))
@@ -28,44 +28,44 @@ module _ {A : Type 0} (encode : ℕ → List A) (need : ℕ) (p src : List ℕ) 
   answer_ends (Malformed k second) read cs left q (x, s, w, e, n, none, b, room) =
       (w, (p ++ take read src, sym (append-nil (p ++ take read src)) ∙ ap (λ xs. (p ++ take read src) ++ xs) (sym none)))
 
-  pub call_ends : (old new : List A) (result : DecoderResult) (read written : ℕ) (q : List ℕ) → Decodes encode need p src old new last result read written q
+  pub call_ends : (old new : List A) (result : DecoderResult) (read written : ℕ) (q : List ℕ) → DecodeStepInto encode need p src old new last result read written q
       → (read ≤ length src) × EndsWith (p ++ take read src) q
   call_ends old new result read written q (out, w, c) = answer_ends result read c.scalars (length old - length out) q c.answer
 
 -- a call without a destination
-borrowed_ends : (p src : List ℕ) (last : Bool) (returned : Piece) (read : ℕ) (q : List ℕ) → AnswersBorrowed p src last returned read q → (read ≤ length src) × EndsWith (p ++ take read src) q
+borrowed_ends : (p src : List ℕ) (last : Bool) (returned : Piece) (read : ℕ) (q : List ℕ) → IsBorrowedResult p src last returned read q → (read ≤ length src) × EndsWith (p ++ take read src) q
 borrowed_ends p src last (piece.Text t) read q a = (a.4.within, (p ++ take read src, sym (append-nil (p ++ take read src)) ∙ ap (λ xs. (p ++ take read src) ++ xs) (sym a.1)))
 borrowed_ends p src last (piece.Char c) read q a = (a.2, (p ++ take read src, sym (append-nil (p ++ take read src)) ∙ ap (λ xs. (p ++ take read src) ++ xs) (sym a.1)))
 borrowed_ends p src last (piece.Malformed k) read q a = (a.0, (p ++ take read src, sym (append-nil (p ++ take read src)) ∙ ap (λ xs. (p ++ take read src) ++ xs) (sym a.2)))
 borrowed_ends p src last piece.InputEmpty read q a =
     (omega (arith, a.0), ([], ap (λ n. p ++ take n src) a.0 ∙ ap (λ xs. p ++ xs) (take_all (length src) src (omega arith)) ∙ sym a.1))
 
-pub borrowed_call_ends : (p src : List ℕ) (last : Bool) (returned : Piece) (read : ℕ) (q : List ℕ) → IsBorrowedCall p src last returned read q → (read ≤ length src) × EndsWith (p ++ take read src) q
+pub borrowed_call_ends : (p src : List ℕ) (last : Bool) (returned : Piece) (read : ℕ) (q : List ℕ) → BorrowedDecodeStep p src last returned read q → (read ≤ length src) × EndsWith (p ++ take read src) q
 borrowed_call_ends p src last returned read q c = borrowed_ends p src last returned read q c.answer
 
 -- pending bytes that a new decoder reads are pending in it
-pub held_again : (src : List ℕ) → IsPending src → (returned : Piece) (read : ℕ) (q : List ℕ) → IsBorrowedCall [] src false returned read q → returned ≡ piece.InputEmpty
-held_again src pending returned read q call = said returned (same_piece [] src false returned piece.InputEmpty read (length src) q src call again).0
+pub pending_again : (src : List ℕ) → IsPending src → (returned : Piece) (read : ℕ) (q : List ℕ) → BorrowedDecodeStep [] src false returned read q → returned ≡ piece.InputEmpty
+pending_again src pending returned read q call = said returned (same_piece [] src false returned piece.InputEmpty read (length src) q src call again).0
   where
-    again : IsBorrowedCall [] src false piece.InputEmpty (length src) src
+    again : BorrowedDecodeStep [] src false piece.InputEmpty (length src) src
     again = record { pending_before = inl refl; pending = pending; answer = (refl, refl, λ e. absurd (true≢false (sym e))) }
 
-    said : (r : Piece) → SayTheSame r piece.InputEmpty → r ≡ piece.InputEmpty
+    said : (r : Piece) → AreSamePiece r piece.InputEmpty → r ≡ piece.InputEmpty
     said (piece.Text t) s = absurd s
     said (piece.Char c) s = absurd s
     said (piece.Malformed k) s = absurd s
     said piece.InputEmpty s = refl
 
 -- the last bytes, one after another
-pub compress_last : (xs front q : List ℕ) (a b c n : ℕ) → xs ≡ front ++ q → length q ≤ 3 → n ≡ length front → a ≡ slice_index xs n → b ≡ slice_index xs (n + 1) → c ≡ slice_index xs (n + 2)
+pub compress_last : (xs prefix q : List ℕ) (a b c n : ℕ) → xs ≡ prefix ++ q → length q ≤ 3 → n ≡ length prefix → a ≡ slice_index xs n → b ≡ slice_index xs (n + 1) → c ≡ slice_index xs (n + 2)
     → take (length q) (a ∷ b ∷ c ∷ []) ≡ q
-compress_last xs front q a b c n e few at f g h = three q few (f ∙ ap (slice_index xs) (zero n) ∙ here 0) (g ∙ here 1) (h ∙ here 2)
+compress_last xs prefix q a b c n e few at f g h = three q few (f ∙ ap (slice_index xs) (zero n) ∙ here 0) (g ∙ here 1) (h ∙ here 2)
   where
     zero : (m : ℕ) → m ≡ m + 0
     zero m = omega arith
 
     here : (k : ℕ) → slice_index xs (n + k) ≡ slice_index q k
-    here k = ap (λ ys. slice_index ys (n + k)) e ∙ ap (λ m. slice_index (front ++ q) (m + k)) at ∙ get_or-append-add front q k 0
+    here k = ap (λ ys. slice_index ys (n + k)) e ∙ ap (λ m. slice_index (prefix ++ q) (m + k)) at ∙ get_or-append-add prefix q k 0
 
     three : (ys : List ℕ) → length ys ≤ 3 → a ≡ slice_index ys 0 → b ≡ slice_index ys 1 → c ≡ slice_index ys 2 → take (length ys) (a ∷ b ∷ c ∷ []) ≡ ys
     three [] few f g h = refl

@@ -1,4 +1,4 @@
 pub mod DecoderLemmas
-pub mod EncoderLemmas
-pub mod RepairLemmas
-pub mod Latin1Lemmas
+pub mod EncoderStateLemmas
+pub mod BufferRepairLemmas
+pub mod Latin1ResultLemmas

@@ -14,4 +14,4 @@ buffer_failed b = b.failed
 pub record BufferKeeps (old new : Buffer) : Type 0 where
   pub memory : new.room.ghost_name ≡ old.room.ghost_name
   pub further : old.written ≤ new.written
-  pub behind : (n : ℕ) → new.written ≤ n → drop n new.room.now ≡ drop n old.room.now
+  pub following : (n : ℕ) → new.written ≤ n → drop n new.room.now ≡ drop n old.room.now

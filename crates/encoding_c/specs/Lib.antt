@@ -1,5 +1,5 @@
-pub mod Fronts
+pub mod AsciiPrefix
 pub mod Status
 pub mod States
 pub mod Buffers
-pub mod Runs
+pub mod RunCodes

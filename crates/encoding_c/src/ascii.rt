@@ -3,16 +3,16 @@
 ghost use Rattle.std.specs.Prelude.{◌≡◌, take, length, IfSome, IfNone};
 ghost use Rattle.std.specs.Str.{IsAscii};
 ghost use Rattle.encoding_definitions.specs.Ascii.{IsIso2022JpAscii};
-ghost use Rattle.encoding_definitions.specs.Fronts.{IsLongestFront, WritesFront};
-ghost use Rattle.encoding_c.specs.Fronts.{IsFrontOf};
+ghost use Rattle.encoding_definitions.specs.Prefixes.{IsLongestPrefix, WritesPrefix};
+ghost use Rattle.encoding_c.specs.AsciiPrefix.{IsPrefixOf};
 
 use crate::status::EncodingPrefix;
 use encoding_text::ascii;
 
 /// Returns the prefix before the byte that was found, or the prefix of `length` bytes if none was.
-fn front_of_bytes(found: Option<(u8, usize)>, length: usize) -> EncodingPrefix
-    ensures some { IfSome found (λ it. (result.other ≡ it.0) × (result.length ≡ it.1)) }
-    ensures none { IfNone found ((result.other ≡ 0) × (result.length ≡ length)) }
+fn prefix_of_bytes(found: Option<(u8, usize)>, length: usize) -> EncodingPrefix
+    ensures if_some { IfSome found (λ it. (result.other ≡ it.0) × (result.length ≡ it.1)) }
+    ensures if_none { IfNone found ((result.other ≡ 0) × (result.length ≡ length)) }
 {
     match found {
         Some((byte, place)) => EncodingPrefix {
@@ -26,15 +26,15 @@ fn front_of_bytes(found: Option<(u8, usize)>, length: usize) -> EncodingPrefix
 /// Returns the length of the longest ASCII prefix, and the first byte after it.
 #[unsafe(no_mangle)]
 pub extern "C" fn encoding_text_validate_ascii(bytes: &[u8]) -> EncodingPrefix
-    ensures { IsFrontOf bytes.now result }
+    ensures { IsPrefixOf bytes.now result }
 {
-    front_of_bytes(ascii::validate_ascii(bytes), bytes.len())
+    prefix_of_bytes(ascii::validate_ascii(bytes), bytes.len())
 }
 
 /// Returns the length of the longest ASCII prefix, in bytes.
 #[unsafe(no_mangle)]
 pub extern "C" fn encoding_text_ascii_valid_up_to(bytes: &[u8]) -> usize
-    ensures { IsLongestFront IsAscii bytes.now result }
+    ensures { IsLongestPrefix IsAscii bytes.now result }
 {
     ascii::ascii_valid_up_to(bytes)
 }
@@ -42,7 +42,7 @@ pub extern "C" fn encoding_text_ascii_valid_up_to(bytes: &[u8]) -> usize
 /// Returns the length of the longest ASCII prefix without escape and shift bytes, in bytes.
 #[unsafe(no_mangle)]
 pub extern "C" fn encoding_text_iso_2022_jp_ascii_valid_up_to(bytes: &[u8]) -> usize
-    ensures { IsLongestFront IsIso2022JpAscii bytes.now result }
+    ensures { IsLongestPrefix IsIso2022JpAscii bytes.now result }
 {
     ascii::iso_2022_jp_ascii_valid_up_to(bytes)
 }
@@ -50,19 +50,19 @@ pub extern "C" fn encoding_text_iso_2022_jp_ascii_valid_up_to(bytes: &[u8]) -> u
 /// Copies the longest ASCII prefix, up to the shorter of the two lengths.
 #[unsafe(no_mangle)]
 pub extern "C" fn encoding_text_ascii_to_ascii(src: &[u8], dst: &mut [u8]) -> EncodingPrefix
-    ensures found { IsFrontOf (take (length dst.old) src.now) result }
-    ensures copied { WritesFront dst.old dst.new result.length (take result.length src.now) }
+    ensures found { IsPrefixOf (take (length dst.old) src.now) result }
+    ensures copied { WritesPrefix dst.old dst.new result.length (take result.length src.now) }
 {
-    front_of_bytes(ascii::ascii_to_ascii(src, dst), src.len().min(dst.len()))
+    prefix_of_bytes(ascii::ascii_to_ascii(src, dst), src.len().min(dst.len()))
 }
 
 /// Copies the longest ASCII prefix, each byte as a code unit, up to the shorter of the two lengths.
 #[unsafe(no_mangle)]
 pub extern "C" fn encoding_text_ascii_to_basic_latin(src: &[u8], dst: &mut [u16]) -> EncodingPrefix
-    ensures found { IsFrontOf (take (length dst.old) src.now) result }
-    ensures copied { WritesFront dst.old dst.new result.length (take result.length src.now) }
+    ensures found { IsPrefixOf (take (length dst.old) src.now) result }
+    ensures copied { WritesPrefix dst.old dst.new result.length (take result.length src.now) }
 {
-    front_of_bytes(
+    prefix_of_bytes(
         ascii::ascii_to_basic_latin(src, dst),
         src.len().min(dst.len()),
     )
@@ -71,8 +71,8 @@ pub extern "C" fn encoding_text_ascii_to_basic_latin(src: &[u8], dst: &mut [u16]
 /// Copies the longest ASCII prefix of code units, each as a byte, up to the shorter of the two lengths.
 #[unsafe(no_mangle)]
 pub extern "C" fn encoding_text_basic_latin_to_ascii(src: &[u16], dst: &mut [u8]) -> EncodingPrefix
-    ensures found { IsFrontOf (take (length dst.old) src.now) result }
-    ensures copied { WritesFront dst.old dst.new result.length (take result.length src.now) }
+    ensures found { IsPrefixOf (take (length dst.old) src.now) result }
+    ensures copied { WritesPrefix dst.old dst.new result.length (take result.length src.now) }
 {
     let room = src.len().min(dst.len());
     match ascii::basic_latin_to_ascii(src, dst) {

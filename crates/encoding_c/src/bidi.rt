@@ -1,25 +1,12 @@
 //! Checks of whole buffers for right-to-left characters, and for Latin1 and right-to-left characters at once.
 
 ghost use Rattle.std.specs.Prelude.{◌≡◌, ◌↔◌, IsTrue, IsUtf8};
-ghost use Rattle.std.specs.Char.{IsScalar};
 ghost use Rattle.encoding_definitions.specs.Latin1.{IsLatin1, IsUtf8Latin1};
-ghost use Rattle.encoding_definitions.specs.Bidi.{IsRightToLeft, IsRightToLeftUnit, IsBidiUnits, IsBidiText, IsBidiBytes};
-ghost use Rattle.encoding_c.specs.Status.{Tells, Chooses};
+ghost use Rattle.encoding_definitions.specs.Bidi.{IsRightToLeftUnit, IsBidiUnits, IsBidiText, IsBidiBytes};
+ghost use Rattle.encoding_c.specs.Status.{IsChoice};
 
-use crate::status::{BIDI, LATIN1, LEFT_TO_RIGHT, NO, REFUSED_ANSWER, YES, as_text};
+use crate::status::{BIDI, INVALID_ARGUMENT_U8, LATIN1, LEFT_TO_RIGHT, as_text};
 use encoding_text::mem::{self, Latin1Bidi};
-
-/// Returns whether the scalar value is right-to-left: `REFUSED_ANSWER` if the number is no scalar value.
-#[unsafe(no_mangle)]
-pub extern "C" fn encoding_text_mem_is_char_bidi(c: u32) -> u8
-    ensures { Tells (IsScalar c) (IsRightToLeft c) result }
-{
-    match char::from_u32(c) {
-        Some(character) if mem::is_char_bidi(character) => YES,
-        Some(_) => NO,
-        None => REFUSED_ANSWER,
-    }
-}
 
 /// Returns whether the code unit is a right-to-left character, or the high surrogate of one.
 #[unsafe(no_mangle)]
@@ -37,18 +24,6 @@ pub extern "C" fn encoding_text_mem_is_utf8_bidi(buffer: &[u8]) -> bool
     mem::is_utf8_bidi(buffer)
 }
 
-/// Returns whether a character of the text is right-to-left: `REFUSED_ANSWER` if the bytes are ill-formed.
-#[unsafe(no_mangle)]
-pub extern "C" fn encoding_text_mem_is_str_bidi(buffer: &[u8]) -> u8
-    ensures { Tells (IsUtf8 buffer.now) (IsBidiText buffer.now) result }
-{
-    match as_text(buffer) {
-        Some(text) if mem::is_str_bidi(text) => YES,
-        Some(_) => NO,
-        None => REFUSED_ANSWER,
-    }
-}
-
 /// Returns whether a character of the code units is right-to-left, or an unpaired high surrogate may be half of one.
 #[unsafe(no_mangle)]
 pub extern "C" fn encoding_text_mem_is_utf16_bidi(buffer: &[u16]) -> bool
@@ -60,7 +35,7 @@ pub extern "C" fn encoding_text_mem_is_utf16_bidi(buffer: &[u16]) -> bool
 /// Returns whether the bytes are Latin1 in UTF-8, and if not, whether they are right-to-left or ill-formed.
 #[unsafe(no_mangle)]
 pub extern "C" fn encoding_text_mem_check_utf8_for_latin1_and_bidi(buffer: &[u8]) -> u8
-    ensures { Chooses (IsUtf8Latin1 buffer.now) (IsBidiBytes buffer.now) result }
+    ensures { IsChoice (IsUtf8Latin1 buffer.now) (IsBidiBytes buffer.now) result }
 {
     match mem::check_utf8_for_latin1_and_bidi(buffer) {
         Latin1Bidi::Latin1 => LATIN1,
@@ -69,15 +44,15 @@ pub extern "C" fn encoding_text_mem_check_utf8_for_latin1_and_bidi(buffer: &[u8]
     }
 }
 
-/// Returns whether the text is Latin1, and if not, whether it is right-to-left: `REFUSED_ANSWER` if the bytes are
+/// Returns whether the text is Latin1, and if not, whether it is right-to-left: `INVALID_ARGUMENT_U8` if the bytes are
 /// ill-formed.
 #[unsafe(no_mangle)]
 pub extern "C" fn encoding_text_mem_check_str_for_latin1_and_bidi(buffer: &[u8]) -> u8
-    ensures text { IsUtf8 buffer.now → Chooses (IsUtf8Latin1 buffer.now) (IsBidiText buffer.now) result }
-    ensures refused { ¬ (IsUtf8 buffer.now) → result ≡ u8.MAX }
+    ensures text { IsUtf8 buffer.now → IsChoice (IsUtf8Latin1 buffer.now) (IsBidiText buffer.now) result }
+    ensures invalid_argument { ¬ (IsUtf8 buffer.now) → result ≡ u8.MAX }
 {
     let Some(text) = as_text(buffer) else {
-        return REFUSED_ANSWER;
+        return INVALID_ARGUMENT_U8;
     };
     match mem::check_str_for_latin1_and_bidi(text) {
         Latin1Bidi::Latin1 => LATIN1,
@@ -89,7 +64,7 @@ pub extern "C" fn encoding_text_mem_check_str_for_latin1_and_bidi(buffer: &[u8])
 /// Returns whether the code units are Latin1, and if not, whether they are right-to-left.
 #[unsafe(no_mangle)]
 pub extern "C" fn encoding_text_mem_check_utf16_for_latin1_and_bidi(buffer: &[u16]) -> u8
-    ensures { Chooses (IsLatin1 buffer.now) (IsBidiUnits buffer.now) result }
+    ensures { IsChoice (IsLatin1 buffer.now) (IsBidiUnits buffer.now) result }
 {
     match mem::check_utf16_for_latin1_and_bidi(buffer) {
         Latin1Bidi::Latin1 => LATIN1,

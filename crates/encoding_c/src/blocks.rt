@@ -1,10 +1,10 @@
 //! Repairs a stream by blocks. The caller's storage of a decoder keeps the pending bytes of a block.
 
 ghost use Rattle.std.specs.Prelude.{◌≡◌, ℕ, List, length};
-ghost use Rattle.encoding_definitions.specs.Fronts.{WritesFront};
+ghost use Rattle.encoding_definitions.specs.Prefixes.{WritesPrefix};
 ghost use Rattle.encoding_runs.specs.Blocks.{IsBlockRepair};
 ghost use Rattle.encoding_runs.specs.declared.repair.blocks.RepairedBlock.{RepairedBlock};
-ghost use Rattle.encoding_c.specs.States.{StandsFor};
+ghost use Rattle.encoding_c.specs.States.{Represents};
 
 use crate::decoder::{EncodingUtf8Decoder, pending_count, restored, stored};
 use encoding_runs::repair::repair_block;
@@ -13,7 +13,7 @@ use encoding_runs::repair::repair_block;
 /// finished if the whole block was read and, if it was the last, nothing is pending.
 #[repr(C)]
 #[derive(Clone, Copy)]
-pub struct EncodingRepairedBlock {
+pub struct EncodingRepairBlockResult {
     pub read: usize,
     pub written: usize,
     pub replaced: usize,
@@ -28,18 +28,22 @@ pub extern "C" fn encoding_text_repair_block(
     src: &[u8],
     dst: &mut [u8],
     last: bool,
-) -> EncodingRepairedBlock
+) -> EncodingRepairBlockResult
     ensures { (p : List ℕ) × (q : List ℕ) × (out : List ℕ) × (block : RepairedBlock)
-        × StandsFor decoder.old p × StandsFor decoder.new q × WritesFront dst.old dst.new result.written out
+        × Represents decoder.old p × Represents decoder.new q × WritesPrefix dst.old dst.new result.written out
         × IsBlockRepair p src.now (length dst.old) last block result.read out q
         × (block.replaced ≡ result.replaced) × (block.finished ≡ result.finished) }
 {
     let before = *decoder;
     let mut inner = restored(before);
-    let held = pending_count(&inner);
+    let pending_length = pending_count(&inner);
     let block = repair_block(&mut inner, src, dst, last);
-    *decoder = stored(&inner, &before.pending[..held], &src[..block.read]);
-    EncodingRepairedBlock {
+    *decoder = stored(
+        &inner,
+        &before.pending[..pending_length],
+        &src[..block.read],
+    );
+    EncodingRepairBlockResult {
         read: block.read,
         written: block.written,
         replaced: block.replaced,

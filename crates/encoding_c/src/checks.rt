@@ -2,11 +2,10 @@
 
 ghost use Rattle.std.specs.Prelude.{◌≡◌, ◌≢◌, ◌↔◌, IsTrue, IsUtf8};
 ghost use Rattle.std.specs.Str.{IsAscii};
-ghost use Rattle.encoding_definitions.specs.Fronts.{IsLongestFront};
+ghost use Rattle.encoding_definitions.specs.Prefixes.{IsLongestPrefix};
 ghost use Rattle.encoding_definitions.specs.Latin1.{IsLatin1, IsUtf8Latin1};
-ghost use Rattle.encoding_c.specs.Status.{Tells};
 
-use crate::status::{NO, REFUSED, REFUSED_ANSWER, YES, as_text};
+use crate::status::{INVALID_ARGUMENT, as_text};
 use encoding_text::mem;
 
 /// Returns whether each byte is ASCII.
@@ -33,18 +32,6 @@ pub extern "C" fn encoding_text_mem_is_utf8_latin1(buffer: &[u8]) -> bool
     mem::is_utf8_latin1(buffer)
 }
 
-/// Returns whether the scalar values of the text are each up to U+00FF: `REFUSED_ANSWER` if the bytes are ill-formed.
-#[unsafe(no_mangle)]
-pub extern "C" fn encoding_text_mem_is_str_latin1(buffer: &[u8]) -> u8
-    ensures { Tells (IsUtf8 buffer.now) (IsUtf8Latin1 buffer.now) result }
-{
-    match as_text(buffer) {
-        Some(text) if mem::is_str_latin1(text) => YES,
-        Some(_) => NO,
-        None => REFUSED_ANSWER,
-    }
-}
-
 /// Returns whether each code unit is up to 0x00FF.
 #[unsafe(no_mangle)]
 pub extern "C" fn encoding_text_mem_is_utf16_latin1(buffer: &[u16]) -> bool
@@ -56,20 +43,20 @@ pub extern "C" fn encoding_text_mem_is_utf16_latin1(buffer: &[u16]) -> bool
 /// Returns the length in bytes of the longest prefix that is the UTF-8 of scalar values up to U+00FF.
 #[unsafe(no_mangle)]
 pub extern "C" fn encoding_text_mem_utf8_latin1_up_to(buffer: &[u8]) -> usize
-    ensures { IsLongestFront IsUtf8Latin1 buffer.now result }
+    ensures { IsLongestPrefix IsUtf8Latin1 buffer.now result }
 {
     mem::utf8_latin1_up_to(buffer)
 }
 
 /// Returns the length in bytes of the longest prefix of a text that is the UTF-8 of scalar values up to U+00FF. Returns
-/// `REFUSED` if the bytes are ill-formed.
+/// `INVALID_ARGUMENT` if the bytes are ill-formed.
 #[unsafe(no_mangle)]
 pub extern "C" fn encoding_text_mem_str_latin1_up_to(buffer: &[u8]) -> usize
-    ensures text { IsUtf8 buffer.now → IsLongestFront IsUtf8Latin1 buffer.now result }
-    ensures refused { ¬ (IsUtf8 buffer.now) → result ≡ usize.MAX }
+    ensures text { IsUtf8 buffer.now → IsLongestPrefix IsUtf8Latin1 buffer.now result }
+    ensures invalid_argument { ¬ (IsUtf8 buffer.now) → result ≡ usize.MAX }
 {
     match as_text(buffer) {
         Some(text) => mem::str_latin1_up_to(text),
-        None => REFUSED,
+        None => INVALID_ARGUMENT,
     }
 }

@@ -3,8 +3,8 @@
 ghost use Rattle.std.specs.Prelude.{◌≡◌, ℕ, ◌<◌, ◌≤◌, ◌↔◌, ◌⊎◌, List, [], ◌++◌, length, take, slice_index, min, encode_utf8, IsTrue};
 ghost use Rattle.std.specs.Char.Escape.{encode_utf16};
 ghost use Rattle.encoding_definitions.specs.Pending.{IsPending};
-ghost use Rattle.encoding_text.specs.Decoding.{Decodes, IsBorrowedCall, Suffices, SufficesReplacing, utf16_room, utf8_room, utf8_room_replacing};
-ghost use Rattle.encoding_c.specs.States.{StandsFor, EndsWith, IsTold, DecoderCall, PieceCall};
+ghost use Rattle.encoding_text.specs.Decoding.{DecodeStepInto, BorrowedDecodeStep, Suffices, SufficesReplacing, max_utf16_length, max_utf8_length, max_utf8_length_with_replacement};
+ghost use Rattle.encoding_c.specs.States.{Represents, EndsWith, IsCodeOf, DecoderCall, PieceCall};
 
 use encoding_text::decoder::{DecoderResult, Piece, Utf8Decoder};
 
@@ -20,11 +20,11 @@ pub struct EncodingUtf8Decoder {
 /// What a decode call returns: how much it read and wrote, what ended it, and the length of the malformed sequence.
 #[repr(C)]
 #[derive(Clone, Copy)]
-pub struct EncodingDecoded {
+pub struct EncodingDecodeResult {
     pub read: usize,
     pub written: usize,
     pub result: u8,
-    pub malformed: u8,
+    pub malformed_length: u8,
 }
 
 /// What a borrowed call returns: how much it read, the character, the kind of piece, and the length of the malformed
@@ -35,11 +35,11 @@ pub struct EncodingPiece {
     pub read: usize,
     pub character: u32,
     pub kind: u8,
-    pub malformed: u8,
+    pub malformed_length: u8,
 }
 
 /// The most bytes that may be pending.
-const MOST: u8 = 3;
+const MAX_PENDING: u8 = 3;
 
 /// Returns whether all of the source was read.
 fn is_all_read(piece: &Piece) -> bool
@@ -50,13 +50,13 @@ fn is_all_read(piece: &Piece) -> bool
 
 /// Returns the decoder that the storage represents, if its count isn't 0.
 #[inline(never)]
-#[tactic(auto, using(crate::proofs::DecoderLemmas::held_again))]
+#[tactic(auto, using(crate::proofs::DecoderLemmas::pending_again))]
 fn restored_pending(state: EncodingUtf8Decoder) -> Utf8Decoder
-    ensures stands { StandsFor state result }
-    ensures front { result ≡ take (length result) state.pending }
-    ensures few { length result ≤ 3 }
+    ensures stands { Represents state result }
+    ensures prefix { result ≡ take (length result) state.pending }
+    ensures at_most_three { length result ≤ 3 }
 {
-    if state.count > MOST {
+    if state.count > MAX_PENDING {
         return Utf8Decoder::new_inner();
     }
     let mut decoder = Utf8Decoder::new_inner();
@@ -71,9 +71,9 @@ fn restored_pending(state: EncodingUtf8Decoder) -> Utf8Decoder
 /// Returns the decoder that the storage represents. In most calls nothing is pending, and then no call is needed.
 #[inline(always)]
 pub(crate) fn restored(state: EncodingUtf8Decoder) -> Utf8Decoder
-    ensures stands { StandsFor state result }
-    ensures front { result ≡ take (length result) state.pending }
-    ensures few { length result ≤ 3 }
+    ensures stands { Represents state result }
+    ensures prefix { result ≡ take (length result) state.pending }
+    ensures at_most_three { length result ≤ 3 }
 {
     if state.count == 0 {
         return Utf8Decoder::new_inner();
@@ -83,8 +83,8 @@ pub(crate) fn restored(state: EncodingUtf8Decoder) -> Utf8Decoder
 
 /// Returns the number of pending bytes.
 pub(crate) fn pending_count(decoder: &Utf8Decoder) -> usize
-    ensures count { result ≡ length decoder.now }
-    ensures few { result ≤ 3 }
+    ensures pending_length { result ≡ length decoder.now }
+    ensures at_most_three { result ≤ 3 }
     ensures pending { IsPending decoder.now }
 {
     if decoder.in_neutral_state() {
@@ -103,16 +103,20 @@ fn byte_at(pending: &[u8], read: &[u8], place: usize) -> u8
     if place < pending.len() {
         return pending[place];
     }
-    let behind = place - pending.len();
-    if behind < read.len() { read[behind] } else { 0 }
+    let following = place - pending.len();
+    if following < read.len() {
+        read[following]
+    } else {
+        0
+    }
 }
 
 /// Returns the storage of a decoder. Its pending bytes are the last ones of `pending`, the bytes pending before its
 /// call, followed by `read`.
 pub(crate) fn stored(decoder: &Utf8Decoder, pending: &[u8], read: &[u8]) -> EncodingUtf8Decoder
     requires ends { EndsWith (pending.now ++ read.now) decoder.now }
-    requires few { length pending.now ≤ 3 }
-    ensures { StandsFor result decoder.now }
+    requires at_most_three { length pending.now ≤ 3 }
+    ensures { Represents result decoder.now }
 {
     let count = pending_count(decoder);
     if count == 0 {
@@ -136,39 +140,45 @@ pub(crate) fn stored(decoder: &Utf8Decoder, pending: &[u8], read: &[u8]) -> Enco
 #[derive(Clone, Copy)]
 pub(crate) struct Ended {
     pub(crate) result: u8,
-    pub(crate) malformed: u8,
+    pub(crate) malformed_length: u8,
 }
 
 /// Returns what ended a call as numbers.
 pub(crate) fn numbers(ended: &DecoderResult) -> Ended
-    ensures { IsTold ended.now result.result result.malformed }
+    ensures { IsCodeOf ended.now result.result result.malformed_length }
 {
-    let (result, malformed) = match *ended {
+    let (result, malformed_length) = match *ended {
         DecoderResult::InputEmpty => (0, 0),
         DecoderResult::OutputFull => (1, 0),
         DecoderResult::Malformed(count, _) => (2, count),
     };
-    Ended { result, malformed }
+    Ended {
+        result,
+        malformed_length,
+    }
 }
 
 /// Returns the result of a call as numbers.
-fn decoded(ended: DecoderResult, read: usize, written: usize) -> EncodingDecoded
-    ensures told { IsTold ended result.result result.malformed }
+fn decoded(ended: DecoderResult, read: usize, written: usize) -> EncodingDecodeResult
+    ensures reported { IsCodeOf ended result.result result.malformed_length }
     ensures counts { (result.read ≡ read) × (result.written ≡ written) }
 {
-    let Ended { result, malformed } = numbers(&ended);
-    EncodingDecoded {
+    let Ended {
+        result,
+        malformed_length,
+    } = numbers(&ended);
+    EncodingDecodeResult {
         read,
         written,
         result,
-        malformed,
+        malformed_length,
     }
 }
 
 /// Initializes a decoder with nothing pending.
 #[unsafe(no_mangle)]
 pub extern "C" fn encoding_text_utf8_decoder_new(decoder: &mut EncodingUtf8Decoder)
-    ensures { StandsFor decoder.new [] }
+    ensures { Represents decoder.new [] }
 {
     *decoder = EncodingUtf8Decoder {
         pending: [0; 3],
@@ -179,7 +189,7 @@ pub extern "C" fn encoding_text_utf8_decoder_new(decoder: &mut EncodingUtf8Decod
 /// Returns whether nothing is pending.
 #[unsafe(no_mangle)]
 pub extern "C" fn encoding_text_utf8_decoder_in_neutral_state(decoder: &EncodingUtf8Decoder) -> bool
-    ensures { (p : List ℕ) × StandsFor decoder.now p × (IsTrue result ↔ (p ≡ [])) }
+    ensures { (p : List ℕ) × Represents decoder.now p × (IsTrue result ↔ (p ≡ [])) }
 {
     restored(*decoder).in_neutral_state()
 }
@@ -191,7 +201,7 @@ pub extern "C" fn encoding_text_utf8_decoder_max_utf16_buffer_length(
     decoder: &EncodingUtf8Decoder,
     byte_length: usize,
 ) -> usize
-    ensures { (p : List ℕ) × StandsFor decoder.now p × (result ≡ min (utf16_room byte_length (length p)) usize.MAX) }
+    ensures { (p : List ℕ) × Represents decoder.now p × (result ≡ min (max_utf16_length byte_length (length p)) usize.MAX) }
 {
     let inner = restored(*decoder);
     match inner.max_utf16_buffer_length(byte_length) {
@@ -207,7 +217,7 @@ pub extern "C" fn encoding_text_utf8_decoder_max_utf8_buffer_length_without_repl
     decoder: &EncodingUtf8Decoder,
     byte_length: usize,
 ) -> usize
-    ensures { (p : List ℕ) × StandsFor decoder.now p × (result ≡ min (utf8_room byte_length (length p)) usize.MAX) }
+    ensures { (p : List ℕ) × Represents decoder.now p × (result ≡ min (max_utf8_length byte_length (length p)) usize.MAX) }
 {
     let inner = restored(*decoder);
     match inner.max_utf8_buffer_length_without_replacement(byte_length) {
@@ -223,8 +233,8 @@ pub extern "C" fn encoding_text_utf8_decoder_max_utf8_buffer_length(
     decoder: &EncodingUtf8Decoder,
     byte_length: usize,
 ) -> usize
-    ensures { (p : List ℕ) × StandsFor decoder.now p
-        × (result ≡ min (utf8_room_replacing byte_length (length p)) usize.MAX) }
+    ensures { (p : List ℕ) × Represents decoder.now p
+        × (result ≡ min (max_utf8_length_with_replacement byte_length (length p)) usize.MAX) }
 {
     let inner = restored(*decoder);
     match inner.max_utf8_buffer_length(byte_length) {
@@ -240,18 +250,18 @@ pub extern "C" fn encoding_text_utf8_decoder_decode_to_utf16(
     src: &[u8],
     dst: &mut [u16],
     last: bool,
-) -> EncodingDecoded
-    ensures call { DecoderCall decoder.old decoder.new result.result result.malformed (λ p ended q.
-        Decodes encode_utf16 2 p src.now dst.old dst.new last ended result.read result.written q
-        × Suffices utf16_room p src.now (length dst.old) ended result.read result.written q
-        × SufficesReplacing utf16_room 1 p src.now (length dst.old) ended result.read result.written q) }
+) -> EncodingDecodeResult
+    ensures call { DecoderCall decoder.old decoder.new result.result result.malformed_length (λ p ended q.
+        DecodeStepInto encode_utf16 2 p src.now dst.old dst.new last ended result.read result.written q
+        × Suffices max_utf16_length p src.now (length dst.old) ended result.read result.written q
+        × SufficesReplacing max_utf16_length 1 p src.now (length dst.old) ended result.read result.written q) }
     ensures progress { 0 < length src.now → 2 ≤ length dst.old → (0 < result.read) ⊎ (result.result ≡ 2) }
 {
     let before = *decoder;
     let mut inner = restored(before);
-    let held = pending_count(&inner);
+    let pending_length = pending_count(&inner);
     let (ended, read, written) = inner.decode_to_utf16_raw(src, dst, last);
-    *decoder = stored(&inner, &before.pending[..held], &src[..read]);
+    *decoder = stored(&inner, &before.pending[..pending_length], &src[..read]);
     decoded(ended, read, written)
 }
 
@@ -262,19 +272,19 @@ pub extern "C" fn encoding_text_utf8_decoder_decode_to_utf8(
     src: &[u8],
     dst: &mut [u8],
     last: bool,
-) -> EncodingDecoded
-    ensures call { DecoderCall decoder.old decoder.new result.result result.malformed (λ p ended q.
-        Decodes encode_utf8 4 p src.now dst.old dst.new last ended result.read result.written q
-        × Suffices utf8_room p src.now (length dst.old) ended result.read result.written q
-        × Suffices utf8_room_replacing p src.now (length dst.old) ended result.read result.written q
-        × SufficesReplacing utf8_room_replacing 3 p src.now (length dst.old) ended result.read result.written q) }
+) -> EncodingDecodeResult
+    ensures call { DecoderCall decoder.old decoder.new result.result result.malformed_length (λ p ended q.
+        DecodeStepInto encode_utf8 4 p src.now dst.old dst.new last ended result.read result.written q
+        × Suffices max_utf8_length p src.now (length dst.old) ended result.read result.written q
+        × Suffices max_utf8_length_with_replacement p src.now (length dst.old) ended result.read result.written q
+        × SufficesReplacing max_utf8_length_with_replacement 3 p src.now (length dst.old) ended result.read result.written q) }
     ensures progress { 0 < length src.now → 4 ≤ length dst.old → (0 < result.read) ⊎ (result.result ≡ 2) }
 {
     let before = *decoder;
     let mut inner = restored(before);
-    let held = pending_count(&inner);
+    let pending_length = pending_count(&inner);
     let (ended, read, written) = inner.decode_to_utf8_raw(src, dst, last);
-    *decoder = stored(&inner, &before.pending[..held], &src[..read]);
+    *decoder = stored(&inner, &before.pending[..pending_length], &src[..read]);
     decoded(ended, read, written)
 }
 
@@ -285,14 +295,14 @@ pub extern "C" fn encoding_text_utf8_decoder_decode_borrowed(
     src: &[u8],
     last: bool,
 ) -> EncodingPiece
-    ensures { PieceCall decoder.old decoder.new result (λ p returned q. IsBorrowedCall p src.now last returned result.read q) }
+    ensures { PieceCall decoder.old decoder.new result (λ p returned q. BorrowedDecodeStep p src.now last returned result.read q) }
 {
     let before = *decoder;
     let mut inner = restored(before);
-    let held = pending_count(&inner);
+    let pending_length = pending_count(&inner);
     let (piece, read) = inner.decode_borrowed_raw(src, last);
-    *decoder = stored(&inner, &before.pending[..held], &src[..read]);
-    let (kind, character, malformed) = match piece {
+    *decoder = stored(&inner, &before.pending[..pending_length], &src[..read]);
+    let (kind, character, malformed_length) = match piece {
         Piece::Text(_) => (0, 0, 0),
         Piece::Char(character) => (1, u32::from(character), 0),
         Piece::Malformed(count) => (2, 0, count),
@@ -302,6 +312,6 @@ pub extern "C" fn encoding_text_utf8_decoder_decode_borrowed(
         read,
         character,
         kind,
-        malformed,
+        malformed_length,
     }
 }

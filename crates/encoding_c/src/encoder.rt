@@ -1,12 +1,12 @@
 //! The streaming encoder: Encoding Standard, section 8.1.2. Between two calls it is in the caller's storage.
 
 ghost use Rattle.std.specs.Prelude.{◌≡◌, ℕ, ◌+◌, ◌*◌, ◌<◌, ◌≤◌, ◌↔◌, List, [], ◌∷◌, length, take, min, IsTrue, IsUtf8};
-ghost use Rattle.encoding_definitions.specs.Fronts.{WritesFront};
+ghost use Rattle.encoding_definitions.specs.Prefixes.{WritesPrefix};
 ghost use Rattle.encoding_definitions.specs.Utf16.{IsHighSurrogate};
-ghost use Rattle.encoding_text.specs.Encoding.{IsHeld, IsEncoderCall, IsEncoderTextCall};
-ghost use Rattle.encoding_c.specs.States.{Holds, IsLastOf, IsKept, IsToldEncoded, EncoderCall};
+ghost use Rattle.encoding_text.specs.Encoding.{IsPendingSurrogate, EncodeStep, TextEncodeStep};
+ghost use Rattle.encoding_c.specs.States.{RepresentsEncoder, IsLastOf, IsPendingUnit, IsEncodeCodeOf, EncoderCall};
 
-use crate::status::{REFUSED_ANSWER, as_text};
+use crate::status::{INVALID_ARGUMENT_U8, as_text};
 use encoding_text::utf_8::{EncoderResult, Utf8Encoder};
 
 /// An encoder between two calls: its pending surrogate. A value that is no high surrogate represents an encoder with
@@ -14,13 +14,13 @@ use encoding_text::utf_8::{EncoderResult, Utf8Encoder};
 #[repr(C)]
 #[derive(Clone, Copy)]
 pub struct EncodingUtf8Encoder {
-    pub held: u16,
+    pub surrogate: u16,
 }
 
 /// What an encode call returns: how much it read and wrote, and what ended it.
 #[repr(C)]
 #[derive(Clone, Copy)]
-pub struct EncodingEncoded {
+pub struct EncodingEncodeResult {
     pub read: usize,
     pub written: usize,
     pub result: u8,
@@ -35,12 +35,12 @@ fn is_high_surrogate(unit: u16) -> bool
 
 /// Returns the encoder that the storage represents.
 pub(crate) fn restored(state: EncodingUtf8Encoder) -> Utf8Encoder
-    ensures holds { Holds state result }
-    ensures unit { 0 < length result → result ≡ state.held ∷ [] }
+    ensures holds { RepresentsEncoder state result }
+    ensures unit { 0 < length result → result ≡ state.surrogate ∷ [] }
 {
     let mut encoder = Utf8Encoder::new_inner();
-    if is_high_surrogate(state.held) {
-        encoder.encode_from_utf16_raw(&[state.held], &mut [], false);
+    if is_high_surrogate(state.surrogate) {
+        encoder.encode_from_utf16_raw(&[state.surrogate], &mut [], false);
     }
     encoder
 }
@@ -48,7 +48,7 @@ pub(crate) fn restored(state: EncodingUtf8Encoder) -> Utf8Encoder
 /// Returns whether a surrogate is pending.
 fn is_holding(encoder: &Utf8Encoder) -> bool
     ensures holding { IsTrue result ↔ (0 < length encoder.now) }
-    ensures held { IsHeld encoder.now }
+    ensures surrogate { IsPendingSurrogate encoder.now }
 {
     match encoder.max_buffer_length_from_utf16_without_replacement(0) {
         Some(room) => room > 0,
@@ -59,10 +59,10 @@ fn is_holding(encoder: &Utf8Encoder) -> bool
 /// Returns the storage of an encoder. `unit` is its pending surrogate, if it has one.
 pub(crate) fn stored(encoder: &Utf8Encoder, unit: u16) -> EncodingUtf8Encoder
     requires { 0 < length encoder.now → encoder.now ≡ unit ∷ [] }
-    ensures { Holds result encoder.now }
+    ensures { RepresentsEncoder result encoder.now }
 {
-    let held = if is_holding(encoder) { unit } else { 0 };
-    EncodingUtf8Encoder { held }
+    let surrogate = if is_holding(encoder) { unit } else { 0 };
+    EncodingUtf8Encoder { surrogate }
 }
 
 /// Returns the last of the code units, or `before` if there are none.
@@ -78,7 +78,7 @@ pub(crate) fn last_of(src: &[u16], before: u16) -> u16
 
 /// Returns the code unit that is pending after a call, if one is.
 fn unit_to_keep(ended: &EncoderResult, src: &[u16], before: u16) -> u16
-    ensures { IsKept ended.now src.now before result }
+    ensures { IsPendingUnit ended.now src.now before result }
 {
     match ended {
         EncoderResult::OutputFull => before,
@@ -88,7 +88,7 @@ fn unit_to_keep(ended: &EncoderResult, src: &[u16], before: u16) -> u16
 
 /// Returns what ended a call as a number.
 pub(crate) fn number(ended: &EncoderResult) -> u8
-    ensures { IsToldEncoded ended.now result }
+    ensures { IsEncodeCodeOf ended.now result }
 {
     match ended {
         EncoderResult::InputEmpty => 0,
@@ -99,9 +99,9 @@ pub(crate) fn number(ended: &EncoderResult) -> u8
 /// Initializes an encoder without a pending surrogate.
 #[unsafe(no_mangle)]
 pub extern "C" fn encoding_text_utf8_encoder_new(encoder: &mut EncodingUtf8Encoder)
-    ensures { Holds encoder.new [] }
+    ensures { RepresentsEncoder encoder.new [] }
 {
-    *encoder = EncodingUtf8Encoder { held: 0 };
+    *encoder = EncodingUtf8Encoder { surrogate: 0 };
 }
 
 /// Returns the length in bytes of a destination that is large enough for the pending surrogate and `u16_length` code
@@ -111,7 +111,7 @@ pub extern "C" fn encoding_text_utf8_encoder_max_buffer_length_from_utf16_withou
     encoder: &EncodingUtf8Encoder,
     u16_length: usize,
 ) -> usize
-    ensures { (held : List ℕ) × Holds encoder.now held × (result ≡ min (3 * (u16_length + length held)) usize.MAX) }
+    ensures { (surrogate : List ℕ) × RepresentsEncoder encoder.now surrogate × (result ≡ min (3 * (u16_length + length surrogate)) usize.MAX) }
 {
     let inner = restored(*encoder);
     match inner.max_buffer_length_from_utf16_without_replacement(u16_length) {
@@ -127,7 +127,7 @@ pub extern "C" fn encoding_text_utf8_encoder_max_buffer_length_from_utf8_without
     encoder: &EncodingUtf8Encoder,
     byte_length: usize,
 ) -> usize
-    ensures { (held : List ℕ) × Holds encoder.now held × (result ≡ min (byte_length + 3 * length held) usize.MAX) }
+    ensures { (surrogate : List ℕ) × RepresentsEncoder encoder.now surrogate × (result ≡ min (byte_length + 3 * length surrogate) usize.MAX) }
 {
     let inner = restored(*encoder);
     match inner.max_buffer_length_from_utf8_without_replacement(byte_length) {
@@ -143,54 +143,54 @@ pub extern "C" fn encoding_text_utf8_encoder_encode_from_utf16(
     src: &[u16],
     dst: &mut [u8],
     last: bool,
-) -> EncodingEncoded
-    ensures call { EncoderCall encoder.old encoder.new result.result (λ held ended later.
-        IsEncoderCall held src.now (length dst.old) last ended result.read (take result.written dst.new) later
-        × (3 * (length src.now + length held) ≤ length dst.old → ended ≡ EncoderResult.InputEmpty)) }
+) -> EncodingEncodeResult
+    ensures call { EncoderCall encoder.old encoder.new result.result (λ surrogate ended later.
+        EncodeStep surrogate src.now (length dst.old) last ended result.read (take result.written dst.new) later
+        × (3 * (length src.now + length surrogate) ≤ length dst.old → ended ≡ EncoderResult.InputEmpty)) }
     ensures within { result.read ≤ length src.now }
-    ensures rest { WritesFront dst.old dst.new result.written (take result.written dst.new) }
+    ensures unchanged_after { WritesPrefix dst.old dst.new result.written (take result.written dst.new) }
 {
     let before = *encoder;
     let mut inner = restored(before);
     let (ended, read, written) = inner.encode_from_utf16_raw(src, dst, last);
-    let unit = unit_to_keep(&ended, src, before.held);
+    let unit = unit_to_keep(&ended, src, before.surrogate);
     *encoder = stored(&inner, unit);
-    EncodingEncoded {
+    EncodingEncodeResult {
         read,
         written,
         result: number(&ended),
     }
 }
 
-/// Encodes U+FFFD for a pending surrogate, then the text. The rest of `dst` is unchanged. `result` is `REFUSED_ANSWER`
-/// if the bytes are ill-formed: then nothing is read or written.
+/// Encodes U+FFFD for a pending surrogate, then the text. The rest of `dst` is unchanged. `result` is
+/// `INVALID_ARGUMENT_U8` if the bytes are ill-formed: then nothing is read or written.
 #[unsafe(no_mangle)]
 pub extern "C" fn encoding_text_utf8_encoder_encode_from_utf8(
     encoder: &mut EncodingUtf8Encoder,
     src: &[u8],
     dst: &mut [u8],
     last: bool,
-) -> EncodingEncoded
-    ensures call { IsUtf8 src.now → EncoderCall encoder.old encoder.new result.result (λ held ended later.
-        IsEncoderTextCall held src.now (length dst.old) ended result.read (take result.written dst.new) later
-        × (length src.now + 3 * length held ≤ length dst.old → ended ≡ EncoderResult.InputEmpty)) }
+) -> EncodingEncodeResult
+    ensures call { IsUtf8 src.now → EncoderCall encoder.old encoder.new result.result (λ surrogate ended later.
+        TextEncodeStep surrogate src.now (length dst.old) ended result.read (take result.written dst.new) later
+        × (length src.now + 3 * length surrogate ≤ length dst.old → ended ≡ EncoderResult.InputEmpty)) }
     ensures within { result.read ≤ length src.now }
-    ensures rest { WritesFront dst.old dst.new result.written (take result.written dst.new) }
-    ensures refused { ¬ (IsUtf8 src.now) → (result.result ≡ u8.MAX) × (result.read ≡ 0) × (result.written ≡ 0)
+    ensures unchanged_after { WritesPrefix dst.old dst.new result.written (take result.written dst.new) }
+    ensures invalid_argument { ¬ (IsUtf8 src.now) → (result.result ≡ u8.MAX) × (result.read ≡ 0) × (result.written ≡ 0)
         × (encoder.new ≡ encoder.old) }
 {
     let Some(text) = as_text(src) else {
-        return EncodingEncoded {
+        return EncodingEncodeResult {
             read: 0,
             written: 0,
-            result: REFUSED_ANSWER,
+            result: INVALID_ARGUMENT_U8,
         };
     };
     let before = *encoder;
     let mut inner = restored(before);
     let (ended, read, written) = inner.encode_from_utf8_raw(text, dst, last);
-    *encoder = stored(&inner, before.held);
-    EncodingEncoded {
+    *encoder = stored(&inner, before.surrogate);
+    EncodingEncodeResult {
         read,
         written,
         result: number(&ended),

@@ -6,11 +6,11 @@ ghost use Rattle.std.specs.List.{flat_map};
 ghost use Rattle.std.specs.Str.{chars};
 ghost use Rattle.std.specs.Char.Escape.{encode_utf16};
 ghost use Rattle.encoding_definitions.specs.Bidi.{IsBidiText};
-ghost use Rattle.encoding_definitions.specs.Fronts.{IsLongestFront, WritesFront};
+ghost use Rattle.encoding_definitions.specs.Prefixes.{IsLongestPrefix, WritesPrefix};
 ghost use Rattle.encoding_definitions.specs.Latin1.{IsUtf8Latin1};
-ghost use Rattle.encoding_c.specs.Status.{Chooses};
+ghost use Rattle.encoding_c.specs.Status.{IsChoice};
 
-use crate::status::{BIDI, LATIN1, LEFT_TO_RIGHT, REFUSED};
+use crate::status::{BIDI, INVALID_ARGUMENT, LATIN1, LEFT_TO_RIGHT};
 use encoding_text::mem::{self, Latin1Bidi};
 use std::str::from_utf8_unchecked;
 
@@ -27,7 +27,7 @@ pub extern "C" fn encoding_text_mem_is_str_latin1_unchecked(buffer: &[u8]) -> bo
 #[unsafe(no_mangle)]
 pub extern "C" fn encoding_text_mem_str_latin1_up_to_unchecked(buffer: &[u8]) -> usize
     requires text { IsUtf8 buffer.now }
-    ensures { IsLongestFront IsUtf8Latin1 buffer.now result }
+    ensures { IsLongestPrefix IsUtf8Latin1 buffer.now result }
 {
     mem::str_latin1_up_to(unsafe { from_utf8_unchecked(buffer) })
 }
@@ -45,7 +45,7 @@ pub extern "C" fn encoding_text_mem_is_str_bidi_unchecked(buffer: &[u8]) -> bool
 #[unsafe(no_mangle)]
 pub extern "C" fn encoding_text_mem_check_str_for_latin1_and_bidi_unchecked(buffer: &[u8]) -> u8
     requires text { IsUtf8 buffer.now }
-    ensures { Chooses (IsUtf8Latin1 buffer.now) (IsBidiText buffer.now) result }
+    ensures { IsChoice (IsUtf8Latin1 buffer.now) (IsBidiText buffer.now) result }
 {
     match mem::check_str_for_latin1_and_bidi(unsafe { from_utf8_unchecked(buffer) }) {
         Latin1Bidi::Latin1 => LATIN1,
@@ -55,7 +55,7 @@ pub extern "C" fn encoding_text_mem_check_str_for_latin1_and_bidi_unchecked(buff
 }
 
 /// Converts a text to UTF-16, and returns the number of code units written. The rest of `dst` is unchanged. Returns
-/// `REFUSED` if `dst` is shorter than `src`.
+/// `INVALID_ARGUMENT` if `dst` is shorter than `src`.
 #[unsafe(no_mangle)]
 pub extern "C" fn encoding_text_mem_convert_str_to_utf16_unchecked(
     src: &[u8],
@@ -63,11 +63,11 @@ pub extern "C" fn encoding_text_mem_convert_str_to_utf16_unchecked(
 ) -> usize
     requires text { IsUtf8 src.now }
     ensures written { length src.now ≤ length dst.old
-        → WritesFront dst.old dst.new result (flat_map encode_utf16 (chars src.now)) }
-    ensures refused { length dst.old < length src.now → (result ≡ usize.MAX) × (dst.new ≡ dst.old) }
+        → WritesPrefix dst.old dst.new result (flat_map encode_utf16 (chars src.now)) }
+    ensures invalid_argument { length dst.old < length src.now → (result ≡ usize.MAX) × (dst.new ≡ dst.old) }
 {
     if dst.len() < src.len() {
-        return REFUSED;
+        return INVALID_ARGUMENT;
     }
     mem::convert_str_to_utf16(unsafe { from_utf8_unchecked(src) }, dst)
 }

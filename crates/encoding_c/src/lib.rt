@@ -12,7 +12,6 @@
 pub mod ascii;
 pub mod bidi;
 pub mod blocks;
-pub mod broken;
 pub mod checks;
 pub mod conversions;
 pub mod decoder;
@@ -20,6 +19,7 @@ pub mod encoder;
 pub mod known_texts;
 pub mod latin1;
 pub mod lengths;
+pub mod malformed;
 pub mod repair;
 pub mod runs;
 pub mod status;

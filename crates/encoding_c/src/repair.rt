@@ -2,16 +2,16 @@
 
 ghost use Rattle.std.specs.Prelude.{◌≡◌, ◌*◌, ◌<◌, ◌≤◌, ℕ, List, true, length, refl};
 ghost use Rattle.std.proofs.Common.{◌∙◌, arith};
-ghost use Rattle.encoding_definitions.specs.Fronts.{WritesFront};
-ghost use Rattle.encoding_runs.specs.Repairs.{IsRepairedWith};
+ghost use Rattle.encoding_definitions.specs.Prefixes.{WritesPrefix};
+ghost use Rattle.encoding_runs.specs.Repairs.{IsLossyDecodeWith};
 
-use crate::status::REFUSED;
+use crate::status::INVALID_ARGUMENT;
 use encoding_runs::repair::{Sink, repair_slice};
 
 /// The number of bytes written, and of malformed sequences replaced by U+FFFD.
 #[repr(C)]
 #[derive(Clone, Copy)]
-pub struct EncodingRepaired {
+pub struct EncodingRepairResult {
     pub written: usize,
     pub replaced: u64,
 }
@@ -35,12 +35,12 @@ impl<'a> Sink for Buffer<'a> {
 
     ghost keeps = { λ old new. BufferKeeps old new };
 
-    ghost keeps_itself = { λ b. record { memory = refl; further = Prim.omega arith; behind = λ _ _. refl } };
+    ghost keeps_itself = { λ b. record { memory = refl; further = Prim.omega arith; following = λ _ _. refl } };
 
     ghost keeps_on = { λ first second third before after. record {
       memory = after.memory ∙ before.memory;
       further = Prim.omega arith;
-      behind = λ n within. after.behind n within ∙ before.behind n (Prim.omega arith);
+      following = λ n within. after.following n within ∙ before.following n (Prim.omega arith);
     } };
 
     /// Returns whether a write found no space.
@@ -64,18 +64,18 @@ impl<'a> Sink for Buffer<'a> {
 }
 
 /// Writes `src` with U+FFFD for each malformed sequence, and returns the number of bytes written and of malformed
-/// sequences. The rest of `dst` is unchanged. `written` is `REFUSED` if `dst` is less than three times as long as
-/// `src`.
+/// sequences. The rest of `dst` is unchanged. `written` is `INVALID_ARGUMENT` if `dst` is less than three times as long
+/// as `src`.
 #[unsafe(no_mangle)]
-pub extern "C" fn encoding_text_repair_slice(src: &[u8], dst: &mut [u8]) -> EncodingRepaired
+pub extern "C" fn encoding_text_repair_slice(src: &[u8], dst: &mut [u8]) -> EncodingRepairResult
     ensures written { 3 * length src.now ≤ length dst.old
-        → (text : List ℕ) × IsRepairedWith src.now text result.replaced × WritesFront dst.old dst.new result.written text }
-    ensures refused { length dst.old < 3 * length src.now
+        → (text : List ℕ) × IsLossyDecodeWith src.now text result.replaced × WritesPrefix dst.old dst.new result.written text }
+    ensures invalid_argument { length dst.old < 3 * length src.now
         → (result.written ≡ usize.MAX) × (result.replaced ≡ 0) × (dst.new ≡ dst.old) }
 {
     if dst.len() / 3 < src.len() {
-        return EncodingRepaired {
-            written: REFUSED,
+        return EncodingRepairResult {
+            written: INVALID_ARGUMENT,
             replaced: 0,
         };
     }
@@ -85,7 +85,7 @@ pub extern "C" fn encoding_text_repair_slice(src: &[u8], dst: &mut [u8]) -> Enco
         failed: false,
     };
     match repair_slice(src, &mut buffer) {
-        Ok(replaced) => EncodingRepaired {
+        Ok(replaced) => EncodingRepairResult {
             written: buffer.written,
             replaced,
         },

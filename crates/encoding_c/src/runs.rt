@@ -3,15 +3,15 @@
 
 ghost use Rattle.std.specs.Prelude.{◌≡◌, ◌+◌, ◌*◌, ◌<◌, ◌≤◌, length, encode_utf8};
 ghost use Rattle.std.specs.Char.Escape.{encode_utf16};
-ghost use Rattle.encoding_text.specs.Decoding.{utf16_room, utf8_room};
+ghost use Rattle.encoding_text.specs.Decoding.{max_utf16_length, max_utf8_length};
 ghost use Rattle.encoding_runs.specs.Runs.{Completes};
 ghost use Rattle.encoding_runs.specs.DecoderRuns.{Delivers};
 ghost use Rattle.encoding_runs.specs.EncoderRuns.{EncodesByTurns};
-ghost use Rattle.encoding_c.specs.Runs.{IsToldLast, IsToldLastEncoded, DecoderRun, EncoderRun};
+ghost use Rattle.encoding_c.specs.RunCodes.{IsLastCodeOf, IsLastEncodeCodeOf, DecoderRun, EncoderRun};
 
 use crate::decoder::{self, EncodingUtf8Decoder, Ended, pending_count};
-use crate::encoder::{self, EncodingEncoded, EncodingUtf8Encoder};
-use crate::status::REFUSED_ANSWER;
+use crate::encoder::{self, EncodingEncodeResult, EncodingUtf8Encoder};
+use crate::status::INVALID_ARGUMENT_U8;
 use encoding_runs::run::{Outcome, Report, Turn, run_from_utf16, run_to_utf8, run_to_utf16};
 use encoding_text::decoder::DecoderResult;
 use encoding_text::utf_8::EncoderResult;
@@ -22,52 +22,55 @@ const NO_CALL: u8 = 3;
 /// The two numbers for no call.
 const NO_CALL_ENDED: Ended = Ended {
     result: NO_CALL,
-    malformed: 0,
+    malformed_length: 0,
 };
 
 /// What a run of a decoder did: how much it read and wrote, how many malformed sequences it reported, what ended its
 /// last call, and the length of the malformed sequence if that did.
 #[repr(C)]
 #[derive(Clone, Copy)]
-pub struct EncodingOutcome {
+pub struct EncodingDecodeRunResult {
     pub read: usize,
     pub written: usize,
     pub reports: usize,
     pub result: u8,
-    pub malformed: u8,
+    pub malformed_length: u8,
 }
 
 /// What a run returns if there are fewer reports than turns.
-const REFUSED_RUN: EncodingOutcome = EncodingOutcome {
+const INVALID_ARGUMENT_RUN: EncodingDecodeRunResult = EncodingDecodeRunResult {
     read: 0,
     written: 0,
     reports: 0,
-    result: REFUSED_ANSWER,
-    malformed: 0,
+    result: INVALID_ARGUMENT_U8,
+    malformed_length: 0,
 };
 
 /// Returns what a decoder's run did as numbers.
-fn told(outcome: &Outcome) -> EncodingOutcome
-    ensures last { IsToldLast outcome.now.result result.result result.malformed }
+fn reported(outcome: &Outcome) -> EncodingDecodeRunResult
+    ensures last { IsLastCodeOf outcome.now.result result.result result.malformed_length }
     ensures counts { (result.read ≡ outcome.now.read) × (result.written ≡ outcome.now.written)
         × (result.reports ≡ outcome.now.reports) }
 {
-    let Ended { result, malformed } = match &outcome.result {
+    let Ended {
+        result,
+        malformed_length,
+    } = match &outcome.result {
         Some(ended) => decoder::numbers(ended),
         None => NO_CALL_ENDED,
     };
-    EncodingOutcome {
+    EncodingDecodeRunResult {
         read: outcome.read,
         written: outcome.written,
         reports: outcome.reports,
         result,
-        malformed,
+        malformed_length,
     }
 }
 
 /// Returns the result of an encoder's last call as a number.
 fn last_number(last: &Option<EncoderResult>) -> u8
-    ensures { IsToldLastEncoded last.now result }
+    ensures { IsLastEncodeCodeOf last.now result }
 {
     match last {
         Some(ended) => encoder::number(ended),
@@ -76,8 +79,8 @@ fn last_number(last: &Option<EncoderResult>) -> u8
 }
 
 /// Decodes a source to UTF-16 with one call for each turn, regardless of their results. The rest of `dst` and of
-/// `reports` is unchanged. `result` is `REFUSED_ANSWER` if `reports` is shorter than `turns`: then nothing is read or
-/// written.
+/// `reports` is unchanged. `result` is `INVALID_ARGUMENT_U8` if `reports` is shorter than `turns`: then nothing is read
+/// or written.
 #[unsafe(no_mangle)]
 pub extern "C" fn encoding_text_run_to_utf16(
     decoder: &mut EncodingUtf8Decoder,
@@ -85,23 +88,27 @@ pub extern "C" fn encoding_text_run_to_utf16(
     turns: &[Turn],
     dst: &mut [u16],
     reports: &mut [Report],
-) -> EncodingOutcome
+) -> EncodingDecodeRunResult
     ensures run { length turns.now ≤ length reports.old → DecoderRun decoder.old decoder.new result (λ p outcome q.
         Delivers encode_utf16 2 p src.now turns.now dst.old dst.new reports.old reports.new outcome q
-        × Completes DecoderResult.InputEmpty utf16_room 2 p src.now turns.now (length dst.old) outcome.result) }
-    ensures refused { length reports.old < length turns.now
-        → (result.result ≡ u8.MAX) × (result.malformed ≡ 0) × (result.read ≡ 0) × (result.written ≡ 0)
+        × Completes DecoderResult.InputEmpty max_utf16_length 2 p src.now turns.now (length dst.old) outcome.result) }
+    ensures invalid_argument { length reports.old < length turns.now
+        → (result.result ≡ u8.MAX) × (result.malformed_length ≡ 0) × (result.read ≡ 0) × (result.written ≡ 0)
         × (result.reports ≡ 0) × (decoder.new ≡ decoder.old) × (dst.new ≡ dst.old) × (reports.new ≡ reports.old) }
 {
     if reports.len() < turns.len() {
-        return REFUSED_RUN;
+        return INVALID_ARGUMENT_RUN;
     }
     let before = *decoder;
     let mut inner = decoder::restored(before);
-    let held = pending_count(&inner);
+    let pending_length = pending_count(&inner);
     let outcome = run_to_utf16(&mut inner, src, turns, dst, reports);
-    *decoder = decoder::stored(&inner, &before.pending[..held], &src[..outcome.read]);
-    told(&outcome)
+    *decoder = decoder::stored(
+        &inner,
+        &before.pending[..pending_length],
+        &src[..outcome.read],
+    );
+    reported(&outcome)
 }
 
 /// Decodes a source to UTF-8 with one call for each turn, as `encoding_text_run_to_utf16` does to UTF-16.
@@ -112,23 +119,27 @@ pub extern "C" fn encoding_text_run_to_utf8(
     turns: &[Turn],
     dst: &mut [u8],
     reports: &mut [Report],
-) -> EncodingOutcome
+) -> EncodingDecodeRunResult
     ensures run { length turns.now ≤ length reports.old → DecoderRun decoder.old decoder.new result (λ p outcome q.
         Delivers encode_utf8 4 p src.now turns.now dst.old dst.new reports.old reports.new outcome q
-        × Completes DecoderResult.InputEmpty utf8_room 4 p src.now turns.now (length dst.old) outcome.result) }
-    ensures refused { length reports.old < length turns.now
-        → (result.result ≡ u8.MAX) × (result.malformed ≡ 0) × (result.read ≡ 0) × (result.written ≡ 0)
+        × Completes DecoderResult.InputEmpty max_utf8_length 4 p src.now turns.now (length dst.old) outcome.result) }
+    ensures invalid_argument { length reports.old < length turns.now
+        → (result.result ≡ u8.MAX) × (result.malformed_length ≡ 0) × (result.read ≡ 0) × (result.written ≡ 0)
         × (result.reports ≡ 0) × (decoder.new ≡ decoder.old) × (dst.new ≡ dst.old) × (reports.new ≡ reports.old) }
 {
     if reports.len() < turns.len() {
-        return REFUSED_RUN;
+        return INVALID_ARGUMENT_RUN;
     }
     let before = *decoder;
     let mut inner = decoder::restored(before);
-    let held = pending_count(&inner);
+    let pending_length = pending_count(&inner);
     let outcome = run_to_utf8(&mut inner, src, turns, dst, reports);
-    *decoder = decoder::stored(&inner, &before.pending[..held], &src[..outcome.read]);
-    told(&outcome)
+    *decoder = decoder::stored(
+        &inner,
+        &before.pending[..pending_length],
+        &src[..outcome.read],
+    );
+    reported(&outcome)
 }
 
 /// Encodes a source with one call for each turn, regardless of their results. The rest of `dst` is unchanged.
@@ -138,18 +149,18 @@ pub extern "C" fn encoding_text_run_from_utf16(
     src: &[u16],
     turns: &[Turn],
     dst: &mut [u8],
-) -> EncodingEncoded
-    ensures { EncoderRun encoder.old encoder.new result (λ held outcome later.
-        EncodesByTurns held src.now turns.now dst.old dst.new outcome later
-        × Completes EncoderResult.InputEmpty (λ n held. 3 * (n + held)) 4 held src.now turns.now (length dst.old)
+) -> EncodingEncodeResult
+    ensures { EncoderRun encoder.old encoder.new result (λ surrogate outcome later.
+        EncodesByTurns surrogate src.now turns.now dst.old dst.new outcome later
+        × Completes EncoderResult.InputEmpty (λ n pending. 3 * (n + pending)) 4 surrogate src.now turns.now (length dst.old)
         outcome.result) }
 {
     let before = *encoder;
     let mut inner = encoder::restored(before);
     let outcome = run_from_utf16(&mut inner, src, turns, dst);
-    let unit = encoder::last_of(&src[..outcome.read], before.held);
+    let unit = encoder::last_of(&src[..outcome.read], before.surrogate);
     *encoder = encoder::stored(&inner, unit);
-    EncodingEncoded {
+    EncodingEncodeResult {
         read: outcome.read,
         written: outcome.written,
         result: last_number(&outcome.result),

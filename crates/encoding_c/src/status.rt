@@ -1,21 +1,15 @@
-//! What functions for C return: numbers for C, and results that say that a condition isn't met. Also the condition that
-//! most functions have.
+//! What functions for C return: numbers for C, and results that report a violated precondition. Also the precondition
+//! that most functions have.
 
 ghost use Rattle.std.specs.Prelude.{◌≡◌, IfSome, IfNone, IsUtf8};
 
 use encoding_text::utf_8::utf8_valid_up_to;
 
-/// The value of a length if a condition isn't met: no slice has this length.
-pub const REFUSED: usize = usize::MAX;
+/// The value of a length if a precondition is violated: no slice has this length.
+pub const INVALID_ARGUMENT: usize = usize::MAX;
 
-/// The value of any other number if a condition isn't met.
-pub const REFUSED_ANSWER: u8 = u8::MAX;
-
-/// No.
-pub const NO: u8 = 0;
-
-/// Yes.
-pub const YES: u8 = 1;
+/// The value of any other number if a precondition is violated.
+pub const INVALID_ARGUMENT_U8: u8 = u8::MAX;
 
 /// The buffer is Latin1.
 pub const LATIN1: u8 = 0;
@@ -29,15 +23,15 @@ pub const BIDI: u8 = 2;
 /// The number of code units or bytes of the source that were read, and of the destination that were written.
 #[repr(C)]
 #[derive(Clone, Copy)]
-pub struct EncodingCounts {
+pub struct EncodingProgress {
     pub read: usize,
     pub written: usize,
 }
 
-/// The value of both counts if a condition isn't met.
-pub(crate) const REFUSED_COUNTS: EncodingCounts = EncodingCounts {
-    read: REFUSED,
-    written: REFUSED,
+/// The value of both counts if a precondition is violated.
+pub(crate) const INVALID_ARGUMENT_PROGRESS: EncodingProgress = EncodingProgress {
+    read: INVALID_ARGUMENT,
+    written: INVALID_ARGUMENT,
 };
 
 /// The length of an ASCII prefix, and the first code unit or byte after it, 0 if there is none.
@@ -50,8 +44,8 @@ pub struct EncodingPrefix {
 
 /// Returns the bytes as a text if they are well-formed.
 pub(crate) fn as_text<'a>(bytes: &'a [u8]) -> Option<&'a str>
-    ensures some { IfSome result (λ text. IsUtf8 bytes.now × (text.now ≡ bytes.now)) }
-    ensures none { IfNone result (¬ (IsUtf8 bytes.now)) }
+    ensures if_some { IfSome result (λ text. IsUtf8 bytes.now × (text.now ≡ bytes.now)) }
+    ensures if_none { IfNone result (¬ (IsUtf8 bytes.now)) }
 {
     if utf8_valid_up_to(bytes) == bytes.len() {
         Some(unsafe { std::str::from_utf8_unchecked(bytes) })

@@ -1,6 +1,6 @@
 //! Unpaired surrogates in UTF-16.
 
-ghost use Rattle.encoding_definitions.specs.Fronts.{IsLongestFront};
+ghost use Rattle.encoding_definitions.specs.Prefixes.{IsLongestPrefix};
 ghost use Rattle.encoding_definitions.specs.Surrogates.{IsValidUtf16, AreRepairedUnits};
 
 use encoding_text::mem;
@@ -8,7 +8,7 @@ use encoding_text::mem;
 /// Returns the index of the first unpaired surrogate, or the length of `buffer`.
 #[unsafe(no_mangle)]
 pub extern "C" fn encoding_text_mem_utf16_valid_up_to(buffer: &[u16]) -> usize
-    ensures { IsLongestFront IsValidUtf16 buffer.now result }
+    ensures { IsLongestPrefix IsValidUtf16 buffer.now result }
 {
     mem::utf16_valid_up_to(buffer)
 }

@@ -1,12 +1,12 @@
-//! Conversions into a prefix of a text, which is well-formed before the call and after it. Returns `REFUSED` if it
-//! isn't before, or if it is too short. The rest of `dst`, after the bytes that become zero, is unchanged.
+//! Conversions into a prefix of a text, which is well-formed before the call and after it. Returns `INVALID_ARGUMENT`
+//! if it isn't before, or if it is too short. The rest of `dst`, after the bytes that become zero, is unchanged.
 
 ghost use Rattle.std.specs.Prelude.{◌≡◌, ◌*◌, ◌<◌, ◌≤◌, ◌↔◌, [], ◌∷◌, length, take, encode_utf8, encode_utf8_all, IsTrue, IsUtf8};
 ghost use Rattle.encoding_definitions.specs.Clearing.{WritesAndClears};
-ghost use Rattle.encoding_definitions.specs.Fronts.{FitsLongest};
-ghost use Rattle.encoding_definitions.specs.Utf16.{IsUtf8OfLongestFront, IsUtf8OfUnits};
+ghost use Rattle.encoding_definitions.specs.Prefixes.{IsLongestFittingPrefix};
+ghost use Rattle.encoding_definitions.specs.Utf16.{IsUtf8OfLongestPrefix, IsUtf8OfUnits};
 
-use crate::status::{EncodingCounts, REFUSED, REFUSED_COUNTS};
+use crate::status::{EncodingProgress, INVALID_ARGUMENT, INVALID_ARGUMENT_PROGRESS};
 use encoding_text::mem;
 use encoding_text::utf_8::utf8_valid_up_to;
 
@@ -18,69 +18,70 @@ fn is_text(bytes: &[u8]) -> bool
 }
 
 /// Converts the longest prefix of whole characters that fits from UTF-16 to UTF-8. The continuation bytes directly
-/// after what is written become zero. Returns `REFUSED` for both counts if `dst` is ill-formed.
+/// after what is written become zero. Returns `INVALID_ARGUMENT` for both counts if `dst` is ill-formed.
 #[unsafe(no_mangle)]
 pub extern "C" fn encoding_text_mem_convert_utf16_to_str_partial(
     src: &[u16],
     dst: &mut [u8],
-) -> EncodingCounts
+) -> EncodingProgress
     ensures longest { IsUtf8 dst.old
-        → IsUtf8OfLongestFront src.now (length dst.old) result.read (take result.written dst.new) }
-    ensures rest { IsUtf8 dst.old → WritesAndClears 0 dst.old dst.new result.written (take result.written dst.new) }
+        → IsUtf8OfLongestPrefix src.now (length dst.old) result.read (take result.written dst.new) }
+    ensures unchanged_after { IsUtf8 dst.old → WritesAndClears 0 dst.old dst.new result.written (take result.written dst.new) }
     ensures text { IsUtf8 dst.old → IsUtf8 dst.new }
-    ensures refused { ¬ (IsUtf8 dst.old)
+    ensures invalid_argument { ¬ (IsUtf8 dst.old)
         → (result.read ≡ usize.MAX) × (result.written ≡ usize.MAX) × (dst.new ≡ dst.old) }
 {
     if !is_text(dst) {
-        return REFUSED_COUNTS;
+        return INVALID_ARGUMENT_PROGRESS;
     }
     let (read, written) = mem::convert_utf16_to_str_partial(src, dst);
-    EncodingCounts { read, written }
+    EncodingProgress { read, written }
 }
 
 /// Converts all of `src` from UTF-16 to UTF-8, and returns the number of bytes written. The continuation bytes directly
-/// after these become zero. Returns `REFUSED` if `dst` is ill-formed, or less than three times as long as `src`.
+/// after these become zero. Returns `INVALID_ARGUMENT` if `dst` is ill-formed, or less than three times as long as
+/// `src`.
 #[unsafe(no_mangle)]
 pub extern "C" fn encoding_text_mem_convert_utf16_to_str(src: &[u16], dst: &mut [u8]) -> usize
     ensures all { IsUtf8 dst.old → 3 * length src.now ≤ length dst.old → IsUtf8OfUnits src.now (take result dst.new) }
-    ensures rest { IsUtf8 dst.old → 3 * length src.now ≤ length dst.old
+    ensures unchanged_after { IsUtf8 dst.old → 3 * length src.now ≤ length dst.old
         → WritesAndClears 0 dst.old dst.new result (take result dst.new) }
     ensures text { IsUtf8 dst.old → IsUtf8 dst.new }
     ensures too_short { length dst.old < 3 * length src.now → (result ≡ usize.MAX) × (dst.new ≡ dst.old) }
     ensures other { ¬ (IsUtf8 dst.old) → (result ≡ usize.MAX) × (dst.new ≡ dst.old) }
 {
     if dst.len() / 3 < src.len() || !is_text(dst) {
-        return REFUSED;
+        return INVALID_ARGUMENT;
     }
     mem::convert_utf16_to_str(src, dst)
 }
 
 /// Writes the UTF-8 of the longest prefix of Latin1 whose UTF-8 fits. The next sixteen bytes, or all if there are
-/// fewer, and the continuation bytes directly after those become zero. Returns `REFUSED` for both counts if `dst` is
-/// ill-formed.
+/// fewer, and the continuation bytes directly after those become zero. Returns `INVALID_ARGUMENT` for both counts if
+/// `dst` is ill-formed.
 #[unsafe(no_mangle)]
 pub extern "C" fn encoding_text_mem_convert_latin1_to_str_partial(
     src: &[u8],
     dst: &mut [u8],
-) -> EncodingCounts
-    ensures front { IsUtf8 dst.old → FitsLongest (λ b. b ∷ []) encode_utf8 src.now (length dst.old) result.read
+) -> EncodingProgress
+    ensures prefix { IsUtf8 dst.old → IsLongestFittingPrefix (λ b. b ∷ []) encode_utf8 src.now (length dst.old) result.read
         (encode_utf8_all (take result.read src.now)) }
     ensures written { IsUtf8 dst.old
         → WritesAndClears 16 dst.old dst.new result.written (encode_utf8_all (take result.read src.now)) }
     ensures text { IsUtf8 dst.old → IsUtf8 dst.new }
-    ensures refused { ¬ (IsUtf8 dst.old)
+    ensures invalid_argument { ¬ (IsUtf8 dst.old)
         → (result.read ≡ usize.MAX) × (result.written ≡ usize.MAX) × (dst.new ≡ dst.old) }
 {
     if !is_text(dst) {
-        return REFUSED_COUNTS;
+        return INVALID_ARGUMENT_PROGRESS;
     }
     let (read, written) = mem::convert_latin1_to_str_partial(src, dst);
-    EncodingCounts { read, written }
+    EncodingProgress { read, written }
 }
 
 /// Writes the UTF-8 of each byte as a character, and returns its length. The next sixteen bytes, or all if there are
-/// fewer, and the continuation bytes directly after those become zero. Returns `REFUSED` if `dst` is ill-formed, or
-/// less than twice as long as `src`.
+/// fewer, and the continuation bytes directly after those become zero. Returns `INVALID_ARGUMENT` if `dst` is
+/// ill-formed, or less than twice as long as `src`.
 #[unsafe(no_mangle)]
 pub extern "C" fn encoding_text_mem_convert_latin1_to_str(src: &[u8], dst: &mut [u8]) -> usize
     ensures written { IsUtf8 dst.old → 2 * length src.now ≤ length dst.old
@@ -90,7 +91,7 @@ pub extern "C" fn encoding_text_mem_convert_latin1_to_str(src: &[u8], dst: &mut 
     ensures other { ¬ (IsUtf8 dst.old) → (result ≡ usize.MAX) × (dst.new ≡ dst.old) }
 {
     if dst.len() / 2 < src.len() || !is_text(dst) {
-        return REFUSED;
+        return INVALID_ARGUMENT;
     }
     mem::convert_latin1_to_str(src, dst)
 }

@@ -3,17 +3,17 @@
 
 ghost use Rattle.std.specs.Prelude.{◌≡◌, ◌+◌, ◌<◌, ◌≤◌, ◌⊎◌, take, length, IsUtf8};
 ghost use Rattle.std.specs.Char.Escape.{encode_utf16};
-ghost use Rattle.encoding_definitions.specs.Fronts.{IsLongestFront, WritesFront};
-ghost use Rattle.encoding_definitions.specs.Converting.{ConvertsLongest};
-ghost use Rattle.encoding_definitions.specs.Utf16.{IsUtf8OfFront, IsUtf8OfLongestFront};
+ghost use Rattle.encoding_definitions.specs.Prefixes.{IsLongestPrefix, WritesPrefix};
+ghost use Rattle.encoding_definitions.specs.Converting.{ConvertsMaximal};
+ghost use Rattle.encoding_definitions.specs.Utf16.{IsUtf8OfPrefix, IsUtf8OfLongestPrefix};
 
-use crate::status::{EncodingCounts, REFUSED_COUNTS};
+use crate::status::{EncodingProgress, INVALID_ARGUMENT_PROGRESS};
 use encoding_text::utf_8;
 
 /// Returns the length in bytes of the longest prefix that is well-formed UTF-8.
 #[unsafe(no_mangle)]
 pub extern "C" fn encoding_text_utf8_valid_up_to(src: &[u8]) -> usize
-    ensures { IsLongestFront IsUtf8 src.now result }
+    ensures { IsLongestPrefix IsUtf8 src.now result }
 {
     utf_8::utf8_valid_up_to(src)
 }
@@ -23,11 +23,11 @@ pub extern "C" fn encoding_text_utf8_valid_up_to(src: &[u8]) -> usize
 pub extern "C" fn encoding_text_convert_utf8_to_utf16_up_to_invalid(
     src: &[u8],
     dst: &mut [u16],
-) -> EncodingCounts
-    ensures { ConvertsLongest encode_utf16 src.now dst.old dst.new result.read result.written }
+) -> EncodingProgress
+    ensures { ConvertsMaximal encode_utf16 src.now dst.old dst.new result.read result.written }
 {
     let (read, written) = utf_8::convert_utf8_to_utf16_up_to_invalid(src, dst);
-    EncodingCounts { read, written }
+    EncodingProgress { read, written }
 }
 
 /// Converts a prefix of whole characters from UTF-16 to UTF-8. All of `src` is read, or at most three bytes of `dst`
@@ -36,32 +36,32 @@ pub extern "C" fn encoding_text_convert_utf8_to_utf16_up_to_invalid(
 pub extern "C" fn encoding_text_convert_utf16_to_utf8_partial_inner(
     src: &[u16],
     dst: &mut [u8],
-) -> EncodingCounts
-    ensures front { IsUtf8OfFront src.now result.read (take result.written dst.new) }
-    ensures rest { WritesFront dst.old dst.new result.written (take result.written dst.new) }
+) -> EncodingProgress
+    ensures prefix { IsUtf8OfPrefix src.now result.read (take result.written dst.new) }
+    ensures unchanged_after { WritesPrefix dst.old dst.new result.written (take result.written dst.new) }
     ensures filled { (result.read ≡ length src.now) ⊎ (length dst.old < result.written + 4) }
 {
     let (read, written) = utf_8::convert_utf16_to_utf8_partial_inner(src, dst);
-    EncodingCounts { read, written }
+    EncodingProgress { read, written }
 }
 
-/// Converts the longest prefix of whole characters that fits into at most three bytes. Returns `REFUSED` for both
-/// counts if `src` is empty or `dst` is longer than three bytes.
+/// Converts the longest prefix of whole characters that fits into at most three bytes. Returns `INVALID_ARGUMENT` for
+/// both counts if `src` is empty or `dst` is longer than three bytes.
 #[unsafe(no_mangle)]
 pub extern "C" fn encoding_text_convert_utf16_to_utf8_partial_tail(
     src: &[u16],
     dst: &mut [u8],
-) -> EncodingCounts
+) -> EncodingProgress
     ensures longest { 0 < length src.now → length dst.old < 4
-        → IsUtf8OfLongestFront src.now (length dst.old) result.read (take result.written dst.new) }
-    ensures rest { 0 < length src.now → length dst.old < 4
-        → WritesFront dst.old dst.new result.written (take result.written dst.new) }
-    ensures refused { (length src.now ≡ 0) ⊎ (4 ≤ length dst.old)
+        → IsUtf8OfLongestPrefix src.now (length dst.old) result.read (take result.written dst.new) }
+    ensures unchanged_after { 0 < length src.now → length dst.old < 4
+        → WritesPrefix dst.old dst.new result.written (take result.written dst.new) }
+    ensures invalid_argument { (length src.now ≡ 0) ⊎ (4 ≤ length dst.old)
         → (result.read ≡ usize.MAX) × (result.written ≡ usize.MAX) × (dst.new ≡ dst.old) }
 {
     if src.is_empty() || dst.len() > 3 {
-        return REFUSED_COUNTS;
+        return INVALID_ARGUMENT_PROGRESS;
     }
     let (read, written) = utf_8::convert_utf16_to_utf8_partial_tail(src, dst);
-    EncodingCounts { read, written }
+    EncodingProgress { read, written }
 }

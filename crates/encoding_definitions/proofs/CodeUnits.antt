@@ -1,4 +1,4 @@
 pub mod Utf16Lemmas
 pub mod FirstPartsLemmas
-pub mod Utf16FrontLemmas
+pub mod Utf16PrefixLemmas
 pub mod Utf8WriteLemmas

@@ -1,6 +1,6 @@
 pub mod Sequences
 pub mod Decomposition
-pub mod LongestFronts
+pub mod LongestPrefixes
 pub mod CodeUnits
 pub mod Latin
 pub mod Bidi

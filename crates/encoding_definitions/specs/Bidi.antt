@@ -3,7 +3,7 @@ use Rattle.std.specs.Prelude.{◌≡◌, ℕ, List, [], ◌∷◌, ◌⊎◌, An
 use Rattle.std.specs.Str.{all_scalars, IsUtf8}
 use Rattle.std.specs.Char.Escape.{encode_utf16}
 use Rattle.std.specs.Int.{IsInRange}
-use Rattle.encoding_definitions.specs.Utf16.{Part16, Character16, Lone, IsHighSurrogate, ArePartsOf16}
+use Rattle.encoding_definitions.specs.Utf16.{Part16, Character16, Unpaired, IsHighSurrogate, ArePartsOf16}
 
 -- the scalar values: right-to-left scripts with their marks and forms, and the controls for right-to-left text
 abbrev pub IsRightToLeft : ℕ → Type 0
@@ -17,7 +17,7 @@ IsRightToLeftUnit u = (c : ℕ) × (low : ℕ) × IsRightToLeft c × ((encode_ut
 -- a part of code units: such a character, or an unpaired high surrogate that may be half of one
 abbrev pub IsRightToLeftPart : Part16 → Type 0
 IsRightToLeftPart (Character16 c) = IsRightToLeft c
-IsRightToLeftPart (Lone u) = IsHighSurrogate u × IsRightToLeftUnit u
+IsRightToLeftPart (Unpaired u) = IsHighSurrogate u × IsRightToLeftUnit u
 
 -- code units with such a part
 abbrev pub IsBidiUnits : List ℕ → Type 0

@@ -7,12 +7,12 @@ clear_continuation [] = []
 clear_continuation (b ∷ bs) = if nat_le 0x80 b && nat_le b 0xBF then 0 ∷ clear_continuation bs else b ∷ bs
 
 -- the bytes, with the first n set to zero, or all if there are fewer, and then the continuation bytes after these
-abbrev pub clear_front : ℕ → List ℕ → List ℕ
-clear_front n bs = replicate (min n (length bs)) 0 ++ clear_continuation (drop n bs)
+abbrev pub cleared_prefix : ℕ → List ℕ → List ℕ
+cleared_prefix n bs = replicate (min n (length bs)) 0 ++ clear_continuation (drop n bs)
 
 -- The first `written` bytes of a text are `out`. After them the first n bytes are set to zero and then the continuation
 -- bytes, and the rest is unchanged.
 pub record WritesAndClears (n : ℕ) (old new : List ℕ) (written : ℕ) (out : List ℕ) : Type 0 where
   pub count : written ≡ length out
   pub fits : written ≤ length old
-  pub placed : new ≡ out ++ clear_front n (drop written old)
+  pub placed : new ≡ out ++ cleared_prefix n (drop written old)

@@ -2,8 +2,8 @@ pub mod Sequence
 pub mod Table
 pub mod Pending
 pub mod Parts
-pub mod Giving
-pub mod Fronts
+pub mod Yielding
+pub mod Prefixes
 pub mod Converting
 pub mod Ascii
 pub mod Latin1

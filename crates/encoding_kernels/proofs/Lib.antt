@@ -1,8 +1,8 @@
 pub mod Validation
 pub mod Lanes
-pub mod Latin
-pub mod LongestFronts
-pub mod CodeUnits
+pub mod LatinBlocks
+pub mod PrefixLoops
+pub mod UnitBlocks
 pub mod Paired
-pub mod Bidi
+pub mod BidiBlocks
 pub mod Sums

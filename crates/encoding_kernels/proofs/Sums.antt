@@ -1,2 +1,2 @@
 pub mod TotalLemmas
-pub mod TextLemmas
+pub mod TextSumLemmas

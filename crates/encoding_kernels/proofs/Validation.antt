@@ -1,4 +1,4 @@
 pub mod FollowingLemmas
-pub mod LaneLemmas
+pub mod ValidationLaneLemmas
 pub mod MaskLemmas
 pub mod PairLemmas

@@ -8,27 +8,27 @@ abbrev pub ends_mark : ℕ → Bool
 ends_mark d = ((nat_eq d 0x8F || nat_eq d 0xA7) || nat_eq d 0xAB) || nat_eq d 0xAE
 
 -- the first byte of such a mark if it ends with this byte; else 0xF0, with which others begin in any case
-abbrev pub mark_lead : ℕ → ℕ
-mark_lead d = if ends_mark d then 0xE2 else 0xF0
+abbrev pub rtl_mark_lead : ℕ → ℕ
+rtl_mark_lead d = if ends_mark d then 0xE2 else 0xF0
 
 -- an exclusive bound of the second byte of a right-to-left character with this first byte, 0 if there is none
-abbrev pub second_end : ℕ → ℕ → ℕ
-second_end a mark = (if nat_le 0xD6 a && nat_le a 0xDF then 0xFF else
+abbrev pub rtl_second_end : ℕ → ℕ → ℕ
+rtl_second_end a mark = (if nat_le 0xD6 a && nat_le a 0xDF then 0xFF else
     (if nat_eq a 0xE0 then 0xA4 else
     (if nat_eq a 0xEF then 0xBC else
     (if nat_eq a 0xF0 then 0x9F else
     (if nat_eq a mark then 0x82 else 0)))))
 
 -- by three bytes, no right-to-left character can begin at index k
-abbrev pub IsClear : List ℕ → ℕ → Type 0
-IsClear bs k = second_end (slice_index bs k) (mark_lead (slice_index bs (k + 2))) ≤ slice_index bs (k + 1)
+abbrev pub HasNoRtlAt : List ℕ → ℕ → Type 0
+HasNoRtlAt bs k = rtl_second_end (slice_index bs k) (rtl_mark_lead (slice_index bs (k + 2))) ≤ slice_index bs (k + 1)
 
 -- a right-to-left character may begin with this byte
-abbrev pub may_begin : ℕ → ℕ → Bool
-may_begin a mark = let high = nat_le 0xD6 a in let punctuation = nat_eq a 0xE2 in (if high then not punctuation else punctuation) || nat_eq a mark
+abbrev pub may_start_rtl : ℕ → ℕ → Bool
+may_start_rtl a mark = let high = nat_le 0xD6 a in let punctuation = nat_eq a 0xE2 in (if high then not punctuation else punctuation) || nat_eq a mark
 
 -- the bytes have a right-to-left character at this index
-pub record StandsRightToLeft (bs : List ℕ) (at : ℕ) : Type 0 where
+pub record RtlAt (bs : List ℕ) (at : ℕ) : Type 0 where
   pub character : ℕ
   pub rest : List ℕ
   pub scalar : IsScalar character
@@ -36,8 +36,8 @@ pub record StandsRightToLeft (bs : List ℕ) (at : ℕ) : Type 0 where
   pub spelled : drop at bs ≡ encode_utf8 character ++ rest
 
 -- no right-to-left character is at an index in `from..to`
-pub record NoneStands (bs : List ℕ) (from to : ℕ) : Type 0 where
-  pub each : (k : ℕ) → from ≤ k → k < to → StandsRightToLeft bs k → ⊥
+pub record NoRtlIn (bs : List ℕ) (from to : ℕ) : Type 0 where
+  pub each : (k : ℕ) → from ≤ k → k < to → RtlAt bs k → ⊥
 
 -- none of the code units in `from..to` is right-to-left
 pub record NoneRightToLeft (us : List ℕ) (from to : ℕ) : Type 0 where

@@ -1,6 +1,6 @@
 -- Steps of a conversion to UTF-8 by vectors: code units in two bytes each, and which of these are kept.
 use Rattle.std.specs.Prelude.{◌≡◌, ℕ, ◌+◌, ◌*◌, ◌%◌, ◌<◌, ◌⊎◌, ◌&&◌, nat_lt, ◌≤◌, Bool, nat_le, List, [], ◌∷◌, ◌++◌, if◌then◌else◌, encode_utf8, encode_utf8_all, slice_index, length, take, drop}
-use Rattle.encoding_definitions.specs.Fronts.{WritesFront}
+use Rattle.encoding_definitions.specs.Prefixes.{WritesPrefix}
 
 -- of two bytes for each test, from index `at` on, the index of the first, and that of the second if the test holds
 abbrev pub kept_places : ℕ → List Bool → List ℕ
@@ -12,17 +12,17 @@ abbrev pub EncodesTo : ℕ → ℕ → ℕ → Type 0
 EncodesTo unit x y = (if nat_le 0x80 unit then x ∷ y ∷ [] else x ∷ []) ≡ encode_utf8 unit
 
 -- none of the code units is a surrogate
-abbrev pub ArePlain : List ℕ → Type 0
-ArePlain us = (k : ℕ) → (0xD800 ≤ slice_index us k) × (slice_index us k ≤ 0xDFFF) → ⊥
+abbrev pub AreBmpScalars : List ℕ → Type 0
+AreBmpScalars us = (k : ℕ) → (0xD800 ≤ slice_index us k) × (slice_index us k ≤ 0xDFFF) → ⊥
 
 -- the Latin1 byte that the byte x ends as UTF-8 after p, if it ends one
-abbrev pub ended : ℕ → ℕ → List ℕ
-ended p x = if nat_lt x 0x80 then x ∷ [] else (if nat_lt x 0xC0 then ((p * 64 + x % 64) % 256) ∷ [] else [])
+abbrev pub latin1_ended : ℕ → ℕ → List ℕ
+latin1_ended p x = if nat_lt x 0x80 then x ∷ [] else (if nat_lt x 0xC0 then ((p * 64 + x % 64) % 256) ∷ [] else [])
 
 -- the Latin1 bytes that these bytes end after p
-abbrev pub all_ended : ℕ → List ℕ → List ℕ
-all_ended p [] = []
-all_ended p (x ∷ xs) = ended p x ++ all_ended x xs
+abbrev pub all_latin1_ended : ℕ → List ℕ → List ℕ
+all_latin1_ended p [] = []
+all_latin1_ended p (x ∷ xs) = latin1_ended p x ++ all_latin1_ended x xs
 
 -- for each pair of bytes, whether both end a byte
 abbrev pub both_end : List ℕ → List Bool
@@ -32,7 +32,7 @@ both_end (a ∷ b ∷ xs) = (nat_lt a 0xC0 && nat_lt b 0xC0) ∷ both_end xs
 
 -- after p, a and b end the bytes x and y, or only x
 abbrev pub EndsPair : ℕ → ℕ → ℕ → ℕ → ℕ → Type 0
-EndsPair p a b x y = (a < 0xC0) ⊎ (b < 0xC0) → (if nat_lt a 0xC0 && nat_lt b 0xC0 then x ∷ y ∷ [] else x ∷ []) ≡ ended p a ++ ended a b
+EndsPair p a b x y = (a < 0xC0) ⊎ (b < 0xC0) → (if nat_lt a 0xC0 && nat_lt b 0xC0 then x ∷ y ∷ [] else x ∷ []) ≡ latin1_ended p a ++ latin1_ended a b
 
 -- of four bytes for each two tests, from index `at` on, the last one if the first test holds, else the last two if the
 -- second does, else the last three
@@ -42,27 +42,27 @@ last_places at (b ∷ []) = []
 last_places at (ascii ∷ short ∷ bs) = (if ascii then (at + 3) ∷ [] else (if short then (at + 2) ∷ (at + 3) ∷ [] else (at + 1) ∷ (at + 2) ∷ (at + 3) ∷ [])) ++ last_places (at + 4) bs
 
 -- for each code unit, whether it is ASCII, and whether it is below U+0800
-abbrev pub classes : List ℕ → List Bool
-classes [] = []
-classes (u ∷ us) = nat_lt u 0x80 ∷ nat_lt u 0x800 ∷ classes us
+abbrev pub length_classes : List ℕ → List Bool
+length_classes [] = []
+length_classes (u ∷ us) = nat_lt u 0x80 ∷ nat_lt u 0x800 ∷ length_classes us
 
 -- the UTF-8 of the code unit is the last one, two or three of these bytes
 abbrev pub EncodesLast : ℕ → ℕ → ℕ → ℕ → Type 0
 EncodesLast unit x y z = (if nat_lt unit 0x80 then z ∷ [] else (if nat_lt unit 0x800 then y ∷ z ∷ [] else x ∷ y ∷ z ∷ [])) ≡ encode_utf8 unit
 
 -- the list with the sixteen elements from `at` on replaced by what was kept of them
-abbrev pub mended : List ℕ → ℕ → List ℕ → List ℕ
-mended xs at kept = take at xs ++ (kept ++ drop (at + 16) xs)
+abbrev pub spliced : List ℕ → ℕ → List ℕ → List ℕ
+spliced xs at kept = take at xs ++ (kept ++ drop (at + 16) xs)
 
 -- `count` bytes are written at `at`, and after them at most sixteen bytes are changed
 pub record Spills (old new : List ℕ) (at count : ℕ) (out : List ℕ) : Type 0 where
   pub counted : length out ≡ count
-  pub front : take (at + count) new ≡ take at old ++ out
-  pub behind : drop (at + count + 16) new ≡ drop (at + count + 16) old
+  pub prefix : take (at + count) new ≡ take at old ++ out
+  pub following : drop (at + count + 16) new ≡ drop (at + count + 16) old
   pub long : length new ≡ length old
 
 -- the first `read` code units are no surrogates, and their UTF-8 is written at the start
-pub record WritesPlain (us old new : List ℕ) (read count : ℕ) : Type 0 where
+pub record WritesBmp (us old new : List ℕ) (read count : ℕ) : Type 0 where
   pub within : read ≤ length us
-  pub plain : ArePlain (take read us)
-  pub written : WritesFront old new count (encode_utf8_all (take read us))
+  pub plain : AreBmpScalars (take read us)
+  pub written : WritesPrefix old new count (encode_utf8_all (take read us))

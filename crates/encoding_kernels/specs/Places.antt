@@ -7,7 +7,7 @@ abbrev pub PassBetween : (ℕ → Type 0) → ℕ → ℕ → Type 0
 PassBetween P from to = (k : ℕ) → from ≤ k → k < to → P k
 
 -- the first `run` of the n indices from `at` on pass, and the next, if there is one, doesn't
-pub record IsRun (P : ℕ → Type 0) (at n run : ℕ) : Type 0 where
+pub record IsPassRun (P : ℕ → Type 0) (at n run : ℕ) : Type 0 where
   pub within : run ≤ n
   pub pass : PassBetween P at (at + run)
   pub stops : run < n → P (at + run) → ⊥
@@ -16,4 +16,4 @@ pub record IsRun (P : ℕ → Type 0) (at n run : ℕ) : Type 0 where
 -- doesn't
 pub record Marks (P : ℕ → Type 0) (at n mask : ℕ) : Type 0 where
   pub none : (mask ≡ 0) ↔ PassBetween P at (at + n)
-  pub lowest : 0 < mask → IsRun P at n (count_trailing_zeros 64 mask)
+  pub lowest : 0 < mask → IsPassRun P at n (count_trailing_zeros 64 mask)

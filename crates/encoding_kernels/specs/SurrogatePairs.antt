@@ -3,12 +3,12 @@ use Rattle.std.specs.Prelude.{◌≡◌, ℕ, zero, suc, ◌+◌, ◌-◌, ◌*�
 use Rattle.encoding_definitions.specs.Utf16.{IsHighSurrogate, IsLowSurrogate}
 
 -- the code unit is below U+0800, or a surrogate
-abbrev pub IsShortOrHalf : ℕ → Type 0
-IsShortOrHalf u = (u < 0x800) ⊎ ((0xD800 ≤ u) × (u ≤ 0xDFFF))
+abbrev pub IsTwoByteOrHalf : ℕ → Type 0
+IsTwoByteOrHalf u = (u < 0x800) ⊎ ((0xD800 ≤ u) × (u ≤ 0xDFFF))
 
 -- each of the n code units from `at` on is such a unit, and is a low surrogate if and only if it follows a high one
-pub record AreShortOrPaired (us : List ℕ) (at n : ℕ) : Type 0 where
-  pub each : (k : ℕ) → at ≤ k → k < at + n → IsShortOrHalf (slice_index us k)
+pub record AreTwoByteOrPaired (us : List ℕ) (at n : ℕ) : Type 0 where
+  pub each : (k : ℕ) → at ≤ k → k < at + n → IsTwoByteOrHalf (slice_index us k)
   pub whole : 0 < n → IsLowSurrogate (slice_index us at) → ⊥
   pub paired : (k : ℕ) → at ≤ k → k + 1 < at + n → IsHighSurrogate (slice_index us k) ↔ IsLowSurrogate (slice_index us (k + 1))
 
@@ -23,10 +23,10 @@ abbrev pub EncodesHalf : ℕ → ℕ → ℕ → ℕ → Type 0
 EncodesHalf p u x y = (if nat_le 0x80 u then x ∷ y ∷ [] else x ∷ []) ≡ half_bytes p u
 
 -- the values of f at the n indices from `at` on, concatenated
-unfoldable pub joined : (ℕ → List ℕ) → ℕ → ℕ → List ℕ
-joined f at zero = []
-joined f at (suc n) = f at ++ joined f (at + 1) n
+unfoldable pub concatenated : (ℕ → List ℕ) → ℕ → ℕ → List ℕ
+concatenated f at zero = []
+concatenated f at (suc n) = f at ++ concatenated f (at + 1) n
 
 -- the bytes of the n code units from `at` on
 abbrev pub halves_from : List ℕ → ℕ → ℕ → List ℕ
-halves_from us at n = joined (λ k. half_bytes (slice_index us (k - 1)) (slice_index us k)) at n
+halves_from us at n = concatenated (λ k. half_bytes (slice_index us (k - 1)) (slice_index us k)) at n

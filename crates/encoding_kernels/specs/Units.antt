@@ -33,7 +33,7 @@ byte_places mask = bytes_at (compressed_places mask)
 pub record WritesCompressed (marks : List Bool) (us old new : List ℕ) (count reach : ℕ) : Type 0 where
   pub counted : count ≡ length (keep marks us)
   pub placed : take count new ≡ keep marks us
-  pub behind : drop reach new ≡ drop reach old
+  pub following : drop reach new ≡ drop reach old
 
 -- ---- the code unit that ends with a byte
 -- whether one ends with the byte b after a
@@ -60,13 +60,13 @@ abbrev pub unit_lane : List ℕ → ℕ → ℕ
 unit_lane bs k = unit_at (slice_index (0 ∷ 0 ∷ 0 ∷ bs) k) (slice_index (0 ∷ 0 ∷ bs) k) (slice_index (0 ∷ bs) k) (slice_index bs k)
 
 -- the same for each byte, after x, y and a
-unfoldable pub units_behind : ℕ → ℕ → ℕ → List ℕ → List ℕ
-units_behind x y a [] = []
-units_behind x y a (b ∷ bs) = unit_at x y a b ∷ units_behind y a b bs
+unfoldable pub units_after : ℕ → ℕ → ℕ → List ℕ → List ℕ
+units_after x y a [] = []
+units_after x y a (b ∷ bs) = unit_at x y a b ∷ units_after y a b bs
 
-unfoldable pub ends_behind : ℕ → List ℕ → List Bool
-ends_behind a [] = []
-ends_behind a (b ∷ bs) = ends_unit a b ∷ ends_behind b bs
+unfoldable pub ends_after : ℕ → List ℕ → List Bool
+ends_after a [] = []
+ends_after a (b ∷ bs) = ends_unit a b ∷ ends_after b bs
 
 -- if a character begins with the byte, it has three bytes
 abbrev pub BeginsThree : ℕ → Type 0
@@ -91,4 +91,4 @@ pub record WritesUtf16 (src old new : List ℕ) (read written reach : ℕ) : Typ
   pub rest : IsUtf8 (drop read src)
   pub counted : written ≡ length (flat_map encode_utf16 taken)
   pub placed : take written new ≡ flat_map encode_utf16 taken
-  pub behind : drop reach new ≡ drop reach old
+  pub following : drop reach new ≡ drop reach old

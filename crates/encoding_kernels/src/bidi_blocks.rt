@@ -1,6 +1,6 @@
 //! Right-to-left characters by blocks: one test of vectors shows that none begins in a block.
 ghost use Rattle.std.specs.Prelude.{◌≡◌, false, ◌+◌, ◌-◌, ◌≤◌, length, slice_index};
-ghost use Rattle.encoding_kernels.specs.BidiBlocks.{second_end, mark_lead, may_begin, IsClear, NoneStands, NoneRightToLeft, may_be_right_to_left};
+ghost use Rattle.encoding_kernels.specs.BidiBlocks.{rtl_second_end, rtl_mark_lead, may_start_rtl, HasNoRtlAt, NoRtlIn, NoneRightToLeft, may_be_right_to_left};
 ghost use Rattle.encoding_kernels.specs.Lanes.{HasLanes};
 
 use crate::places::{Places, all, reach, skip};
@@ -22,7 +22,7 @@ const PUNCTUATION_LEAD: u8 = 0xE2;
 /// right-to-left characters begin in any case.
 #[inline(always)]
 fn mark_leads<const N: usize>(third: Simd<u8, N>) -> Simd<u8, N>
-    ensures { HasLanes N result (λ k. mark_lead (slice_index third.entry k)) }
+    ensures { HasLanes N result (λ k. rtl_mark_lead (slice_index third.entry k)) }
 {
     let ends_mark = third.simd_eq(Simd::splat(0x8F))
         | third.simd_eq(Simd::splat(0xA7))
@@ -35,7 +35,7 @@ fn mark_leads<const N: usize>(third: Simd<u8, N>) -> Simd<u8, N>
 /// if there are none.
 #[inline(always)]
 fn second_ends<const N: usize>(first: Simd<u8, N>, third: Simd<u8, N>) -> Simd<u8, N>
-    ensures { HasLanes N result (λ k. second_end (slice_index first.entry k) (mark_lead (slice_index third.entry k))) }
+    ensures { HasLanes N result (λ k. rtl_second_end (slice_index first.entry k) (rtl_mark_lead (slice_index third.entry k))) }
 {
     let none = Simd::splat(0);
     let hebrew = first.simd_ge(Simd::splat(FIRST_LEAD)) & first.simd_lt(Simd::splat(0xE0));
@@ -63,7 +63,7 @@ struct LowBytes<'a> {
 impl<'a, const N: usize> Places<N> for LowBytes<'a> {
     ghost count = { λ s. length s.bytes.now - 2 };
 
-    ghost passes = { λ s k. may_begin (slice_index s.bytes.now k) (mark_lead (slice_index s.bytes.now (k + 2))) ≡ false };
+    ghost passes = { λ s k. may_start_rtl (slice_index s.bytes.now k) (rtl_mark_lead (slice_index s.bytes.now (k + 2))) ≡ false };
 
     #[inline(always)]
     fn failing(&self, at: usize) -> u64 {
@@ -85,7 +85,7 @@ struct ClearBytes<'a> {
 impl<'a, const N: usize> Places<N> for ClearBytes<'a> {
     ghost count = { λ s. length s.bytes.now - 2 };
 
-    ghost passes = { λ s k. IsClear s.bytes.now k };
+    ghost passes = { λ s k. HasNoRtlAt s.bytes.now k };
 
     #[inline(always)]
     fn failing(&self, at: usize) -> u64 {
@@ -102,7 +102,7 @@ impl<'a, const N: usize> Places<N> for ClearBytes<'a> {
 pub fn skip_clear(bytes: &[u8], from: usize) -> usize
     requires { from ≤ length bytes.now }
     ensures within { (from ≤ result) × (result ≤ length bytes.now) }
-    ensures none { NoneStands bytes.now from result }
+    ensures no_rtl { NoRtlIn bytes.now from result }
 {
     let test = ClearBytes { bytes };
     let low = LowBytes { bytes };
@@ -150,7 +150,7 @@ impl<'a, const N: usize> Places<N> for ClearUnits<'a> {
 pub fn skip_clear_units(units: &[u16], from: usize) -> usize
     requires { from ≤ length units.now }
     ensures within { (from ≤ result) × (result ≤ length units.now) }
-    ensures none { NoneRightToLeft units.now from result }
+    ensures no_rtl { NoneRightToLeft units.now from result }
 {
     let test = ClearUnits { units };
     let low = UnitsBelow {

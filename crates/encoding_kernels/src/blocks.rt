@@ -1,15 +1,14 @@
 //! Validates UTF-8 by blocks of 64 bytes, and at most 64 bytes by two overlapping vectors.
 ghost use Rattle.std.specs.Prelude.{◌+◌, ◌<◌, ◌≤◌, length, take, IsTrue};
 ghost use Rattle.std.specs.Str.{IsUtf8};
-ghost use Rattle.encoding_kernels.specs.Following.{FollowTo};
+ghost use Rattle.encoding_kernels.specs.Following.{ValidUpTo};
 ghost use Rattle.encoding_kernels.specs.Strides.{BelowBetween, BelowUpTo};
 
 use crate::faults::{faults, faults_32, first_faults, first_faults_32, is_zero, zeros};
 use crate::places::{all, skip};
 use crate::sequence::{begins_several, is_continuation};
 use crate::strides::{
-    ASCII_END, BLOCK, BytesBelow, FOUR_BLOCKS, are_bytes_below, front_behind_stride,
-    run_of_bytes_below,
+    ASCII_END, BLOCK, BytesBelow, FOUR_BLOCKS, are_bytes_below, prefix_after_stride, run_len_below,
 };
 
 /// Returns how many of the 64 bytes from `at` on precede the first that may not follow the three before it.
@@ -17,7 +16,7 @@ use crate::strides::{
 fn clean_of_64(src: &[u8], at: usize) -> usize
     requires { (3 ≤ at) × (at + 64 ≤ length src.now) }
     ensures within { result ≤ 64 }
-    ensures follow { FollowTo src.now at → FollowTo src.now (at + result) }
+    ensures follow { ValidUpTo src.now at → ValidUpTo src.now (at + result) }
 {
     let first = faults_32(src, at);
     let second = faults_32(src, at + 32);
@@ -32,12 +31,12 @@ fn clean_of_64(src: &[u8], at: usize) -> usize
 }
 
 /// Returns how many of the 256 bytes from `at` on precede the first that may not follow the three before it.
-#[tactic(auto, using(crate::proofs::Validation::FollowingLemmas::FollowTo_less))]
+#[tactic(auto, using(crate::proofs::Validation::FollowingLemmas::ValidUpTo_less))]
 #[inline(always)]
 fn clean_of_256(src: &[u8], at: usize) -> usize
     requires { (3 ≤ at) × (at + 256 ≤ length src.now) }
     ensures within { result ≤ 256 }
-    ensures follow { FollowTo src.now at → FollowTo src.now (at + result) }
+    ensures follow { ValidUpTo src.now at → ValidUpTo src.now (at + result) }
 {
     let mut blocks = 0;
     while blocks < 4 {
@@ -55,7 +54,7 @@ fn clean_of_256(src: &[u8], at: usize) -> usize
 fn clean_of_first_64(src: &[u8]) -> usize
     requires { 35 ≤ length src.now }
     ensures within { result ≤ length src.now }
-    ensures follow { FollowTo src.now result }
+    ensures follow { ValidUpTo src.now result }
 {
     let last = (src.len() - 32).min(32);
     let first = first_faults_32(src);
@@ -75,7 +74,7 @@ fn clean_of_first_64(src: &[u8]) -> usize
 fn clean_of_first_32(src: &[u8]) -> usize
     requires { 16 ≤ length src.now }
     ensures within { result ≤ length src.now }
-    ensures follow { FollowTo src.now result }
+    ensures follow { ValidUpTo src.now result }
 {
     let clean = zeros(first_faults(src));
     if clean < 16 || src.len() < 19 {
@@ -87,7 +86,7 @@ fn clean_of_first_32(src: &[u8]) -> usize
 
 /// Returns `at`, or the start of the character that is cut there.
 fn back(src: &[u8], at: usize) -> usize
-    requires { (at ≤ length src.now) × FollowTo src.now at }
+    requires { (at ≤ length src.now) × ValidUpTo src.now at }
     ensures { (result ≤ at) × IsUtf8 (take result src.now) }
 {
     if at < 3 {
@@ -136,11 +135,11 @@ fn skip_ascii(src: &[u8], from: usize) -> usize
 
 /// Extends a prefix of `from` bytes that may each follow those before it, 64 at a time, and returns its length. The
 /// last 64 may begin before `from`.
-#[tactic(auto, using(crate::proofs::Validation::FollowingLemmas::FollowTo_less))]
+#[tactic(auto, using(crate::proofs::Validation::FollowingLemmas::ValidUpTo_less))]
 #[inline(always)]
 fn finish(src: &[u8], from: usize) -> usize
-    requires { (64 ≤ from) × (from ≤ length src.now) × FollowTo src.now from }
-    ensures { (result ≤ length src.now) × FollowTo src.now result }
+    requires { (64 ≤ from) × (from ≤ length src.now) × ValidUpTo src.now from }
+    ensures { (result ≤ length src.now) × ValidUpTo src.now result }
 {
     let mut at = from;
     while src.len() - at >= BLOCK {
@@ -161,9 +160,9 @@ fn finish(src: &[u8], from: usize) -> usize
 /// the address of the loop, and so its speed, doesn't depend on the caller.
 #[inline(never)]
 fn following(src: &[u8], from: usize) -> usize
-    requires long { 64 ≤ length src.now }
-    requires front { (from ≤ length src.now) × FollowTo src.now from }
-    ensures { (result ≤ length src.now) × FollowTo src.now result }
+    requires three_byte { 64 ≤ length src.now }
+    requires prefix { (from ≤ length src.now) × ValidUpTo src.now from }
+    ensures { (result ≤ length src.now) × ValidUpTo src.now result }
 {
     let mut at = from;
     if at < BLOCK {
@@ -204,26 +203,26 @@ fn is_short_ascii(src: &[u8]) -> bool
 /// Returns the length of the ASCII prefix. One mask finds its end among the first 64 bytes, without a branch that
 /// depends on the text.
 #[inline(always)]
-fn ascii_front(src: &[u8]) -> usize
+fn ascii_prefix_len(src: &[u8]) -> usize
     requires { 64 ≤ length src.now }
     ensures within { result ≤ length src.now }
     ensures below { BelowUpTo ASCII_END src.now result }
 {
-    let run = run_of_bytes_below::<BLOCK>(src, 0, ASCII_END);
+    let run = run_len_below::<BLOCK>(src, 0, ASCII_END);
     if run < BLOCK {
         return run;
     }
-    front_behind_stride(src, ASCII_END)
+    prefix_after_stride(src, ASCII_END)
 }
 
 /// Returns whether the first two bytes show that no character of several bytes begins here.
 #[inline(always)]
-fn is_broken(bytes: &[u8]) -> bool {
+fn is_malformed(bytes: &[u8]) -> bool {
     bytes.len() < 2 || !begins_several(bytes[0]) || !is_continuation(bytes[1])
 }
 
 /// Returns the length of a well-formed prefix of at most 64 bytes.
-#[tactic(auto, using(crate::proofs::Validation::FollowingLemmas::IsUtf8_ascii_front))]
+#[tactic(auto, using(crate::proofs::Validation::FollowingLemmas::IsUtf8_ascii_prefix))]
 #[inline(always)]
 fn well_formed_short(src: &[u8]) -> usize
     requires { (16 ≤ length src.now) × (length src.now ≤ 64) }
@@ -241,25 +240,25 @@ fn well_formed_short(src: &[u8]) -> usize
 }
 
 /// Returns the length of a well-formed prefix of at least 64 bytes.
-#[tactic(auto, using(crate::proofs::Validation::FollowingLemmas::IsUtf8_ascii_front, crate::proofs::Validation::FollowingLemmas::FollowTo_less, crate::proofs::Validation::FollowingLemmas::FollowTo_ascii_front))]
+#[tactic(auto, using(crate::proofs::Validation::FollowingLemmas::IsUtf8_ascii_prefix, crate::proofs::Validation::FollowingLemmas::ValidUpTo_less, crate::proofs::Validation::FollowingLemmas::ValidUpTo_ascii_prefix))]
 #[inline(always)]
 fn well_formed_long(src: &[u8]) -> usize
     requires { 64 ≤ length src.now }
     ensures { (result ≤ length src.now) × IsUtf8 (take result src.now) }
 {
-    let front = ascii_front(src);
+    let prefix = ascii_prefix_len(src);
     // malformed sequences often cluster, and a block costs more than two bytes
-    if front == src.len() || is_broken(&src[front..]) {
-        return front;
+    if prefix == src.len() || is_malformed(&src[prefix..]) {
+        return prefix;
     }
     // from a multiple of 64 on, so that only the length decides how often the loops iterate
-    back(src, following(src, front / BLOCK * BLOCK))
+    back(src, following(src, prefix / BLOCK * BLOCK))
 }
 
 /// Returns the length of a well-formed prefix, by whole blocks.
 #[inline(always)]
 pub fn well_formed_blocks(src: &[u8]) -> usize
-    requires long { 16 ≤ length src.now }
+    requires three_byte { 16 ≤ length src.now }
     ensures { (result ≤ length src.now) × IsUtf8 (take result src.now) }
 {
     if src.len() <= BLOCK {

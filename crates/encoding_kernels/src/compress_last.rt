@@ -29,22 +29,22 @@ macro_rules! rows {
 
 /// For each mask of four lanes, the indices of the bytes that are kept: of a lane the last one if the first of its bits
 /// is set, else the last two if the second is, else the last three. Zeros follow.
-const LAST: [u32; 1024] = rows!([15u128 11u128 7u128 3u128] 0u128);
+const LAST_BYTES_TABLE: [u32; 1024] = rows!([15u128 11u128 7u128 3u128] 0u128);
 
 /// Returns a word of the table.
 #[inline(always)]
 fn last_word(at: usize) -> u32
     requires { at < 1024 }
-    ensures { result ≡ slice_index LAST at }
+    ensures { result ≡ slice_index LAST_BYTES_TABLE at }
 {
-    LAST[at]
+    LAST_BYTES_TABLE[at]
 }
 
 /// Returns the indices that a mask keeps, followed by zeros.
 #[inline(always)]
 pub(crate) fn last_by(mask: usize) -> u8x16
     requires { mask < 256 }
-    ensures long { length result ≡ 16 }
+    ensures lane_count { length result ≡ 16 }
     ensures within { (k : ℕ) → k < 16 → slice_index result k < 16 }
     ensures kept { (tests : List Bool) → length tests ≡ 8 → mask ≡ mask_l tests
         → take (length (last_places 0 tests)) result ≡ last_places 0 tests }

@@ -42,7 +42,7 @@ fn places_word(at: usize) -> u32
 #[inline(always)]
 fn places_by(mask: usize) -> u8x16
     requires { mask < 256 }
-    ensures long { length result ≡ 16 }
+    ensures lane_count { length result ≡ 16 }
     ensures within { (k : ℕ) → k < 16 → slice_index result k < 16 }
     ensures kept { (tests : List Bool) → length tests ≡ 8 → mask ≡ mask_l tests
         → take (length (kept_places 0 tests)) result ≡ kept_places 0 tests }
@@ -60,8 +60,8 @@ fn places_by(mask: usize) -> u8x16
 #[inline(always)]
 pub(crate) fn keep_pairs(pairs: u8x16, mask: usize) -> (u8x16, usize)
     requires { mask < 256 }
-    ensures long { length result.0 ≡ 16 }
-    ensures count { (8 ≤ result.1) × (result.1 ≤ 16) }
+    ensures lane_count { length result.0 ≡ 16 }
+    ensures out_length { (8 ≤ result.1) × (result.1 ≤ 16) }
     ensures kept { (tests : List Bool) → length tests ≡ 8 → mask ≡ mask_l tests
         → take result.1 result.0 ≡ map (λ k. slice_index pairs k) (kept_places 0 tests) }
 {

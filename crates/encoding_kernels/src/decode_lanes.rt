@@ -3,7 +3,7 @@
 ghost use Rattle.std.specs.Prelude.{◌≡◌, ℕ, ◌+◌, ◌-◌, ◌*◌, ◌/◌, ◌%◌, ◌<◌, ◌≤◌, [], ◌∷◌, Bool, false, List, ◌++◌, take, drop, replicate, slice_index, IsTrue};
 ghost use Rattle.std.specs.Simd.Lanes.{mask_l};
 ghost use Rattle.encoding_kernels.specs.Lanes.{HasLanes};
-ghost use Rattle.encoding_kernels.specs.Units.{ends_behind, low_bits, triple_unit, unit_lane, units_behind, upper_of};
+ghost use Rattle.encoding_kernels.specs.Units.{ends_after, low_bits, triple_unit, unit_lane, units_after, upper_of};
 
 use std::simd::prelude::*;
 
@@ -77,7 +77,7 @@ fn upper_bits(block: u8x16) -> u8x16
 /// Joins a lower and an upper byte for each lane, and returns the first eight and the last eight.
 #[inline(always)]
 pub(crate) fn join_bytes(lower: u8x16, upper: u8x16) -> (u16x8, u16x8)
-    ensures first { HasLanes 8 result.0 (λ k. slice_index lower k + 0x100 * slice_index upper k) }
+    ensures lanes { HasLanes 8 result.0 (λ k. slice_index lower k + 0x100 * slice_index upper k) }
     ensures last { HasLanes 8 result.1 (λ k. slice_index lower (8 + k) + 0x100 * slice_index upper (8 + k)) }
 {
     let first = lower.shuffle(
@@ -95,7 +95,7 @@ pub(crate) fn join_bytes(lower: u8x16, upper: u8x16) -> (u16x8, u16x8)
 #[inline(always)]
 fn short_units(block: u8x16) -> (u16x8, u16x8)
     requires { (k : ℕ) → k < 16 → slice_index block k < 0xF0 }
-    ensures { (result.0 ≡ take 8 (units_behind 0 0 0 block)) × (result.1 ≡ drop 8 (units_behind 0 0 0 block)) }
+    ensures { (result.0 ≡ take 8 (units_after 0 0 0 block)) × (result.1 ≡ drop 8 (units_after 0 0 0 block)) }
 {
     let is_ascii = block.simd_lt(u8x16::splat(0x80));
     let lower = is_ascii.select(block, lower_bits(block));
@@ -147,7 +147,7 @@ fn upper_bytes(block: u8x16) -> u8x16
 /// Returns the code unit that ends with each byte: the first eight, and the last eight.
 #[inline(always)]
 pub(crate) fn code_units(block: u8x16) -> (u16x8, u16x8)
-    ensures { (result.0 ≡ take 8 (units_behind 0 0 0 block)) × (result.1 ≡ drop 8 (units_behind 0 0 0 block)) }
+    ensures { (result.0 ≡ take 8 (units_after 0 0 0 block)) × (result.1 ≡ drop 8 (units_after 0 0 0 block)) }
 {
     if is_below(block, 0xF0) {
         return short_units(block);
@@ -159,7 +159,7 @@ pub(crate) fn code_units(block: u8x16) -> (u16x8, u16x8)
 #[inline(always)]
 pub(crate) fn unit_ends(block: u8x16, end: usize) -> usize
     requires { end ≤ 16 }
-    ensures { result ≡ mask_l (take end (ends_behind 0 block) ++ replicate (16 - end) false) }
+    ensures { result ≡ mask_l (take end (ends_after 0 block) ++ replicate (16 - end) false) }
 {
     let ends = block.simd_lt(u8x16::splat(0xC0)) & one_before(block).simd_lt(u8x16::splat(0xE0));
     ends.to_bitmask() as usize & ((1 << end) - 1)

@@ -3,7 +3,7 @@
 
 ghost use Rattle.std.specs.Prelude.{◌≡◌, ℕ, ◌+◌, ◌*◌, ◌/◌, ◌%◌, ◌<◌, ◌≤◌, List, ◌++◌, length, take, drop, replicate, slice_index, encode_utf8_all, IsTrue};
 ghost use Rattle.std.specs.Simd.Lanes.{mask_l};
-ghost use Rattle.encoding_kernels.specs.EncodeLanes.{EncodesLast, classes, mended};
+ghost use Rattle.encoding_kernels.specs.EncodeLanes.{EncodesLast, length_classes, spliced};
 
 use crate::compress_last::last_by;
 use crate::encode_lanes::{store_two, write_both};
@@ -16,7 +16,7 @@ const LONG: u16 = 0x800;
 /// Returns whether none of the eight code units is a surrogate.
 #[tactic(auto, using(crate::proofs::Lanes::PlainLemmas::all_plain))]
 #[inline(always)]
-pub(crate) fn are_plain(units: u16x8) -> bool
+pub(crate) fn are_non_surrogate(units: u16x8) -> bool
     ensures { IsTrue result → (k : ℕ) → k < 8 → (0xD800 ≤ slice_index units k) × (slice_index units k ≤ 0xDFFF) → ⊥ }
 {
     let tops = units & u16x8::splat(0xF800);
@@ -25,7 +25,7 @@ pub(crate) fn are_plain(units: u16x8) -> bool
 
 /// Returns how many of the eight code units precede the first surrogate.
 #[inline(always)]
-pub(crate) fn plain_front(units: u16x8) -> usize
+pub(crate) fn non_surrogate_prefix(units: u16x8) -> usize
     ensures within { result ≤ 8 }
     ensures plain { (k : ℕ) → k < result → (0xD800 ≤ slice_index units k) × (slice_index units k ≤ 0xDFFF) → ⊥ }
 {
@@ -36,16 +36,16 @@ pub(crate) fn plain_front(units: u16x8) -> usize
 /// Returns two bits for each of eight code units: whether it is ASCII, and whether it is below U+0800.
 #[inline(always)]
 fn mask_of_classes(units: u16x8) -> usize
-    ensures small { result < 0x10000 }
-    ensures mask { result ≡ mask_l (classes units) }
+    ensures upper_bound { result < 0x10000 }
+    ensures mask { result ≡ mask_l (length_classes units) }
 {
     let below = units
         .simd_lt(u16x8::splat(LONG))
         .select(u16x8::splat(0xFF00), u16x8::splat(0));
-    let classes = units
+    let length_classes = units
         .simd_lt(u16x8::splat(0x80))
         .select(u16x8::splat(0xFFFF), below);
-    classes
+    length_classes
         .to_le_bytes()
         .simd_ge(u8x16::splat(0x80))
         .to_bitmask() as usize
@@ -55,8 +55,8 @@ fn mask_of_classes(units: u16x8) -> usize
 /// byte of the first word, and both of the second.
 #[inline(always)]
 fn two_words(units: u16x8) -> (u16x8, u16x8)
-    ensures long { (length result.0 ≡ 8) × (length result.1 ≡ 8) }
-    ensures small { (k : ℕ) → k < 8 → (slice_index result.0 k < 0x10000) × (slice_index result.1 k < 0x10000) }
+    ensures lane_count { (length result.0 ≡ 8) × (length result.1 ≡ 8) }
+    ensures upper_bound { (k : ℕ) → k < 8 → (slice_index result.0 k < 0x10000) × (slice_index result.1 k < 0x10000) }
     ensures spelled { (k : ℕ) → k < 8 → EncodesLast (slice_index units k)
         (slice_index result.0 k / 0x100) (slice_index result.1 k % 0x100) (slice_index result.1 k / 0x100) }
 {
@@ -77,8 +77,8 @@ fn two_words(units: u16x8) -> (u16x8, u16x8)
 /// those of the others.
 #[inline(always)]
 fn four_bytes(units: u16x8) -> (u8x16, u8x16)
-    ensures long { (length result.0 ≡ 16) × (length result.1 ≡ 16) }
-    ensures first { (k : ℕ) → k < 4 → EncodesLast (slice_index units k)
+    ensures lane_count { (length result.0 ≡ 16) × (length result.1 ≡ 16) }
+    ensures first_half { (k : ℕ) → k < 4 → EncodesLast (slice_index units k)
         (slice_index result.0 (4 * k + 1)) (slice_index result.0 (4 * k + 2)) (slice_index result.0 (4 * k + 3)) }
     ensures second { (k : ℕ) → k < 4 → EncodesLast (slice_index units (4 + k))
         (slice_index result.1 (4 * k + 1)) (slice_index result.1 (4 * k + 2)) (slice_index result.1 (4 * k + 3)) }
@@ -93,9 +93,9 @@ fn four_bytes(units: u16x8) -> (u8x16, u8x16)
 #[inline(always)]
 fn encode_four(bytes: u8x16, mask: usize) -> (u8x16, usize)
     requires { mask < 0x100 }
-    ensures long { length result.0 ≡ 16 }
-    ensures count { (4 ≤ result.1) × (result.1 ≤ 12) }
-    ensures spelled { (us : List ℕ) → length us ≡ 4 → mask ≡ mask_l (classes us)
+    ensures lane_count { length result.0 ≡ 16 }
+    ensures out_length { (4 ≤ result.1) × (result.1 ≤ 12) }
+    ensures spelled { (us : List ℕ) → length us ≡ 4 → mask ≡ mask_l (length_classes us)
         → ((k : ℕ) → k < 4 → EncodesLast (slice_index us k)
         (slice_index bytes (4 * k + 1)) (slice_index bytes (4 * k + 2)) (slice_index bytes (4 * k + 3)))
         → take result.1 result.0 ≡ encode_utf8_all us }
@@ -108,8 +108,8 @@ fn encode_four(bytes: u8x16, mask: usize) -> (u8x16, usize)
 /// the others in the same way.
 #[inline(always)]
 fn encode_eight(units: u16x8) -> (u8x16, usize, u8x16, usize)
-    ensures long { (length result.0 ≡ 16) × (length result.2 ≡ 16) }
-    ensures first { (4 ≤ result.1) × (result.1 ≤ 12) }
+    ensures lane_count { (length result.0 ≡ 16) × (length result.2 ≡ 16) }
+    ensures first_length { (4 ≤ result.1) × (result.1 ≤ 12) }
     ensures second { (4 ≤ result.3) × (result.3 ≤ 12) }
     ensures spelled { take result.1 result.0 ++ take result.3 result.2 ≡ encode_utf8_all units }
 {
@@ -123,9 +123,9 @@ fn encode_eight(units: u16x8) -> (u8x16, usize, u8x16, usize)
 /// Writes the UTF-8 of eight code units, and returns its length. Stores up to 28 bytes, the others as `dst` has them.
 #[inline(always)]
 pub(crate) fn write_eight(units: u16x8, dst: &mut [u8], at: usize) -> usize
-    requires room { at + 32 ≤ length dst.old }
-    ensures most { result ≤ 24 }
-    ensures count { result ≡ length (encode_utf8_all units) }
+    requires dst_length { at + 32 ≤ length dst.old }
+    ensures length_bound { result ≤ 24 }
+    ensures out_length { result ≡ length (encode_utf8_all units) }
     ensures written { dst.new ≡ take at dst.old ++ (encode_utf8_all units ++ drop (at + result) dst.old) }
 {
     let (bytes, count, other, more) = encode_eight(units);
@@ -149,17 +149,17 @@ fn with_zeros(units: u16x8, first: usize) -> u16x8
 /// stored too, and what was there is written back.
 #[inline(always)]
 pub(crate) fn write_first_of_eight(units: u16x8, first: usize, dst: &mut [u8], at: usize) -> usize
-    requires room { at + 32 ≤ length dst.old }
-    requires first { first ≤ 8 }
-    ensures most { result ≤ 24 }
-    ensures count { result ≡ length (encode_utf8_all (take first units)) }
+    requires dst_length { at + 32 ≤ length dst.old }
+    requires at_most_eight { first ≤ 8 }
+    ensures length_bound { result ≤ 24 }
+    ensures out_length { result ≡ length (encode_utf8_all (take first units)) }
     ensures written { dst.new ≡ take at dst.old ++ (encode_utf8_all (take first units) ++ drop (at + result) dst.old) }
 {
     let (bytes, count, other, more) = encode_eight(with_zeros(units, first));
     let written = count + more - (8 - first);
-    let behind = u8x8::from_slice(&dst[at + written..]);
+    let following = u8x8::from_slice(&dst[at + written..]);
     write_both(dst, at, bytes, count, other, more);
-    behind.copy_to_slice(&mut dst[at + written..]);
+    following.copy_to_slice(&mut dst[at + written..]);
     written
 }
 
@@ -172,11 +172,11 @@ pub(crate) fn store_sixteen(
     dst: &mut [u8],
     at: usize,
 ) -> (usize, u8x16)
-    requires room { at + 64 ≤ length dst.old }
-    ensures most { (16 ≤ result.0) × (result.0 ≤ 48) }
-    ensures count { result.0 ≡ length (encode_utf8_all first ++ encode_utf8_all second) }
+    requires dst_length { at + 64 ≤ length dst.old }
+    ensures length_bound { (16 ≤ result.0) × (result.0 ≤ 48) }
+    ensures out_length { result.0 ≡ length (encode_utf8_all first ++ encode_utf8_all second) }
     ensures kept { length result.1 ≡ 16 }
-    ensures written { mended dst.new (at + result.0) result.1
+    ensures written { spliced dst.new (at + result.0) result.1
         ≡ take at dst.old ++ ((encode_utf8_all first ++ encode_utf8_all second) ++ drop (at + result.0) dst.old) }
 {
     let (bytes, count, other, more) = encode_eight(first);

@@ -1,7 +1,7 @@
 //! Finds by vectors the bytes of UTF-8 that may not follow those before them: Keiser and Lemire, "Validating UTF-8 In
 //! Less Than One Instruction Per Byte". The previous bytes are loaded separately, so that a block carries no state.
 ghost use Rattle.std.specs.Prelude.{◌≡◌, ℕ, ◌+◌, ◌<◌, ◌≤◌, length, slice_index, IsTrue};
-ghost use Rattle.encoding_kernels.specs.Following.{IsZeroTo, Follows, FollowsAt};
+ghost use Rattle.encoding_kernels.specs.Following.{IsZeroTo, IsValidAfter, IsValidAt};
 
 use crate::places::run_before;
 use std::simd::Simd;
@@ -9,19 +9,19 @@ use std::simd::prelude::*;
 
 /// A bit for each error that the high nibble of the previous byte leaves possible. The table is stored twice, once for
 /// each sixteen lanes.
-const FIRST_HIGH: [u8; 32] = [
+const BYTE_1_HIGH: [u8; 32] = [
     2, 2, 2, 2, 2, 2, 2, 2, 128, 128, 128, 128, 33, 1, 21, 73, 2, 2, 2, 2, 2, 2, 2, 2, 128, 128,
     128, 128, 33, 1, 21, 73,
 ];
 
 /// The errors that the low nibble of the previous byte leaves possible.
-const FIRST_LOW: [u8; 32] = [
+const BYTE_1_LOW: [u8; 32] = [
     231, 163, 131, 131, 139, 203, 203, 203, 203, 203, 203, 203, 203, 219, 203, 203, 231, 163, 131,
     131, 139, 203, 203, 203, 203, 203, 203, 203, 203, 219, 203, 203,
 ];
 
 /// The errors that the high nibble of the byte itself leaves possible.
-const SECOND_HIGH: [u8; 32] = [
+const BYTE_2_HIGH: [u8; 32] = [
     1, 1, 1, 1, 1, 1, 1, 1, 230, 174, 186, 186, 1, 1, 1, 1, 1, 1, 1, 1, 1, 1, 1, 1, 230, 174, 186,
     186, 1, 1, 1, 1,
 ];
@@ -31,12 +31,12 @@ const SECOND_HIGH: [u8; 32] = [
 fn faults_of(fourth: u8x16, third: u8x16, second: u8x16, block: u8x16) -> u8x16
     ensures length { length result ≡ 16 }
     ensures lanes { (i : ℕ) → i < 16 → slice_index result i ≡ 0
-        → Follows (slice_index fourth i) (slice_index third i) (slice_index second i) (slice_index block i) }
+        → IsValidAfter (slice_index fourth i) (slice_index third i) (slice_index second i) (slice_index block i) }
 {
     let four = u8x16::splat(4);
-    let pairs = u8x16::from_slice(&FIRST_HIGH).swizzle_dyn(second >> four)
-        & u8x16::from_slice(&FIRST_LOW).swizzle_dyn(second & u8x16::splat(15))
-        & u8x16::from_slice(&SECOND_HIGH).swizzle_dyn(block >> four);
+    let pairs = u8x16::from_slice(&BYTE_1_HIGH).swizzle_dyn(second >> four)
+        & u8x16::from_slice(&BYTE_1_LOW).swizzle_dyn(second & u8x16::splat(15))
+        & u8x16::from_slice(&BYTE_2_HIGH).swizzle_dyn(block >> four);
     let goes_on = third.saturating_sub(u8x16::splat(0x60))
         | fourth.saturating_sub(u8x16::splat(0x70));
     (goes_on & u8x16::splat(0x80)) ^ pairs
@@ -47,12 +47,12 @@ fn faults_of(fourth: u8x16, third: u8x16, second: u8x16, block: u8x16) -> u8x16
 fn faults_of_32(fourth: u8x32, third: u8x32, second: u8x32, block: u8x32) -> u8x32
     ensures length { length result ≡ 32 }
     ensures lanes { (i : ℕ) → i < 32 → slice_index result i ≡ 0
-        → Follows (slice_index fourth i) (slice_index third i) (slice_index second i) (slice_index block i) }
+        → IsValidAfter (slice_index fourth i) (slice_index third i) (slice_index second i) (slice_index block i) }
 {
     let four = u8x32::splat(4);
-    let pairs = u8x32::from_slice(&FIRST_HIGH).swizzle_dyn_within::<16>(second >> four)
-        & u8x32::from_slice(&FIRST_LOW).swizzle_dyn_within::<16>(second & u8x32::splat(15))
-        & u8x32::from_slice(&SECOND_HIGH).swizzle_dyn_within::<16>(block >> four);
+    let pairs = u8x32::from_slice(&BYTE_1_HIGH).swizzle_dyn_within::<16>(second >> four)
+        & u8x32::from_slice(&BYTE_1_LOW).swizzle_dyn_within::<16>(second & u8x32::splat(15))
+        & u8x32::from_slice(&BYTE_2_HIGH).swizzle_dyn_within::<16>(block >> four);
     let goes_on = third.saturating_sub(u8x32::splat(0x60))
         | fourth.saturating_sub(u8x32::splat(0x70));
     (goes_on & u8x32::splat(0x80)) ^ pairs
@@ -63,7 +63,7 @@ fn faults_of_32(fourth: u8x32, third: u8x32, second: u8x32, block: u8x32) -> u8x
 pub(crate) fn faults(src: &[u8], at: usize) -> u8x16
     requires { (3 ≤ at) × (at + 16 ≤ length src.now) }
     ensures length { length result ≡ 16 }
-    ensures lanes { (i : ℕ) → i < 16 → slice_index result i ≡ 0 → FollowsAt src.now (at + i) }
+    ensures lanes { (i : ℕ) → i < 16 → slice_index result i ≡ 0 → IsValidAt src.now (at + i) }
 {
     faults_of(
         u8x16::from_slice(&src[at - 3..]),
@@ -78,7 +78,7 @@ pub(crate) fn faults(src: &[u8], at: usize) -> u8x16
 pub(crate) fn faults_32(src: &[u8], at: usize) -> u8x32
     requires { (3 ≤ at) × (at + 32 ≤ length src.now) }
     ensures length { length result ≡ 32 }
-    ensures lanes { (i : ℕ) → i < 32 → slice_index result i ≡ 0 → FollowsAt src.now (at + i) }
+    ensures lanes { (i : ℕ) → i < 32 → slice_index result i ≡ 0 → IsValidAt src.now (at + i) }
 {
     faults_of_32(
         u8x32::from_slice(&src[at - 3..]),
@@ -93,7 +93,7 @@ pub(crate) fn faults_32(src: &[u8], at: usize) -> u8x32
 pub(crate) fn first_faults(src: &[u8]) -> u8x16
     requires { 16 ≤ length src.now }
     ensures length { length result ≡ 16 }
-    ensures lanes { (i : ℕ) → i < 16 → slice_index result i ≡ 0 → FollowsAt src.now i }
+    ensures lanes { (i : ℕ) → i < 16 → slice_index result i ≡ 0 → IsValidAt src.now i }
 {
     let block = u8x16::from_slice(src);
     let zero = u8x16::splat(0);
@@ -125,7 +125,7 @@ pub(crate) fn first_faults(src: &[u8]) -> u8x16
 pub(crate) fn first_faults_32(src: &[u8]) -> u8x32
     requires { 32 ≤ length src.now }
     ensures length { length result ≡ 32 }
-    ensures lanes { (i : ℕ) → i < 32 → slice_index result i ≡ 0 → FollowsAt src.now i }
+    ensures lanes { (i : ℕ) → i < 32 → slice_index result i ≡ 0 → IsValidAt src.now i }
 {
     let block = u8x32::from_slice(src);
     let zero = u8x32::splat(0);

@@ -13,8 +13,8 @@ use std::simd::prelude::*;
 /// second one.
 #[inline(always)]
 fn both_bytes(block: u8x16) -> (u8x16, u8x16)
-    ensures long { (length result.0 ≡ 16) × (length result.1 ≡ 16) }
-    ensures first { (k : ℕ) → k < 8
+    ensures lane_count { (length result.0 ≡ 16) × (length result.1 ≡ 16) }
+    ensures first_half { (k : ℕ) → k < 8
         → EncodesTo (slice_index block k) (slice_index result.0 (2 * k)) (slice_index result.0 (2 * k + 1)) }
     ensures last { (k : ℕ) → k < 8
         → EncodesTo (slice_index block (8 + k)) (slice_index result.1 (2 * k)) (slice_index result.1 (2 * k + 1)) }
@@ -37,9 +37,9 @@ fn mask_of_others(block: u8x16) -> usize
 /// Writes the UTF-8 of sixteen bytes of Latin1, and returns its length. The rest of `dst` is unchanged.
 #[inline(always)]
 pub fn write_latin1(block: u8x16, dst: &mut [u8], at: usize) -> usize
-    requires room { at + 32 ≤ length dst.old }
-    ensures most { result ≤ 32 }
-    ensures count { result ≡ length (encode_utf8_all block) }
+    requires dst_length { at + 32 ≤ length dst.old }
+    ensures length_bound { result ≤ 32 }
+    ensures out_length { result ≡ length (encode_utf8_all block) }
     ensures written { dst.new ≡ take at dst.old ++ (encode_utf8_all block ++ drop (at + result) dst.old) }
 {
     let others = mask_of_others(block);

@@ -13,10 +13,10 @@ use std::simd::Simd;
 use std::simd::prelude::*;
 
 /// The number of blocks after one with surrogates that are tested for pairs at once.
-const PAIRED_BLOCKS: usize = 8;
+const PAIRED_BLOCKS_BEFORE_RETEST: usize = 8;
 
 /// The least byte that precedes a continuation byte.
-const LEADS: u8 = 0xC0;
+const LEAST_LEAD: u8 = 0xC0;
 
 /// The first byte of U+0100. All bytes of the characters below it are smaller, and those above begin with no smaller
 /// byte.
@@ -77,8 +77,8 @@ fn before_cut_pair(units: &[u16], at: usize) -> usize
 /// low surrogate if and only if it follows a high one.
 #[inline(always)]
 fn paired_blocks(units: &[u16]) -> usize
-    requires some { 0 < length units.now }
-    requires first { IsLowSurrogate (slice_index units.now 0) → ⊥ }
+    requires not_empty { 0 < length units.now }
+    requires starts_whole { IsLowSurrogate (slice_index units.now 0) → ⊥ }
     ensures within { (0 < result) × (result ≤ length units.now) }
     ensures paired { PairUp units.now 0 result }
 {
@@ -92,7 +92,7 @@ fn paired_blocks(units: &[u16]) -> usize
                 return at;
             }
             expected = if expected == 0 {
-                PAIRED_BLOCKS
+                PAIRED_BLOCKS_BEFORE_RETEST
             } else {
                 expected - 1
             };
@@ -104,7 +104,7 @@ fn paired_blocks(units: &[u16]) -> usize
 
 /// Returns the length of a prefix without an unpaired surrogate, by whole blocks and strides.
 #[inline(always)]
-pub fn paired_front(units: &[u16]) -> usize
+pub fn paired_prefix_len(units: &[u16]) -> usize
     ensures { (result ≤ length units.now) × IsValidUtf16 (take result units.now) }
 {
     if units.is_empty() || is_low_surrogate(units[0]) {
@@ -133,7 +133,7 @@ impl<'a, const N: usize> Places<N> for BytePairs<'a> {
         let before = Simd::<u8, N>::from_slice(&bytes[at..]);
         let follows = (block & Simd::splat(0xC0)).simd_eq(Simd::splat(0x80));
         let overlong = (block & Simd::splat(0xFE)).simd_eq(Simd::splat(0xC0));
-        let faults = (follows ^ before.simd_ge(Simd::splat(LEADS)))
+        let faults = (follows ^ before.simd_ge(Simd::splat(LEAST_LEAD)))
             | (overlong | block.simd_ge(Simd::splat(BEYOND_LATIN1)));
         faults.to_bitmask()
     }
@@ -146,7 +146,11 @@ fn before_cut_character(bytes: &[u8], at: usize) -> usize
     requires { (0 < at) × (at ≤ length bytes.now) × FitLatin1 bytes.now 0 at }
     ensures { (result ≤ at) × IsUtf8Latin1 (take result bytes.now) }
 {
-    if bytes[at - 1] >= LEADS { at - 1 } else { at }
+    if bytes[at - 1] >= LEAST_LEAD {
+        at - 1
+    } else {
+        at
+    }
 }
 
 /// Returns the length of a prefix that is Latin1 in UTF-8, by whole blocks after `from`. Out of line, since most other

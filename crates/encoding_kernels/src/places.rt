@@ -2,7 +2,7 @@
 
 ghost use Rattle.std.specs.Prelude.{◌≡◌, ℕ, ◌+◌, ◌*◌, ◌<◌, ◌≤◌, ◌↔◌, ◌⊎◌, IsTrue};
 ghost use lib.Count.{count_trailing_zeros};
-ghost use Rattle.encoding_kernels.specs.Places.{PassBetween, IsRun, Marks};
+ghost use Rattle.encoding_kernels.specs.Places.{PassBetween, IsPassRun, Marks};
 
 /// A test of each index below a count, N at a time.
 pub(crate) trait Places<const N: usize> {
@@ -22,9 +22,9 @@ fn all_of_four<const N: usize, T: Places<N>>(test: &T, at: usize) -> bool
     requires { (at + 4 * N ≤ T.count test.now) × (at + 4 * N < 18446744073709551616) × (0 < N) × (N ≤ 64) }
     ensures { IsTrue result ↔ PassBetween (T.passes test.now) at (at + 4 * N) }
 {
-    let front = (test.failing(at) == 0) & (test.failing(at + N) == 0);
+    let prefix = (test.failing(at) == 0) & (test.failing(at + N) == 0);
     let back = (test.failing(at + 2 * N) == 0) & (test.failing(at + 3 * N) == 0);
-    front & back
+    prefix & back
 }
 
 /// Returns whether each of the W indices from `at` on passes, by one test of one, four or eight vectors.
@@ -46,8 +46,8 @@ pub(crate) fn all<const N: usize, const W: usize, T: Places<N>>(test: &T, at: us
 /// Returns how many of N indices precede the first that fails, by the mask of those that do.
 #[inline(always)]
 pub(crate) fn run_before<const N: usize>(failing: u64) -> usize
-    ensures none { failing ≡ 0 → result ≡ N }
-    ensures some { 0 < failing → result ≡ count_trailing_zeros 64 failing }
+    ensures none_failing { failing ≡ 0 → result ≡ N }
+    ensures first_failing { 0 < failing → result ≡ count_trailing_zeros 64 failing }
 {
     if failing == 0 {
         N
@@ -60,7 +60,7 @@ pub(crate) fn run_before<const N: usize>(failing: u64) -> usize
 #[inline(always)]
 pub(crate) fn run<const N: usize, T: Places<N>>(test: &T, at: usize) -> usize
     requires { (at + N ≤ T.count test.now) × (0 < N) × (N ≤ 64) }
-    ensures { IsRun (T.passes test.now) at N result }
+    ensures { IsPassRun (T.passes test.now) at N result }
 {
     run_before::<N>(test.failing(at))
 }
@@ -114,7 +114,7 @@ pub(crate) fn reach<const N: usize, const W: usize, T: Places<N>>(
 /// time, and the last N may overlap the ones before.
 #[inline(always)]
 pub(crate) fn find<const N: usize, T: Places<N>>(test: &T, from: usize, end: usize) -> usize
-    requires room { (N ≤ end) × (end ≤ T.count test.now) × (0 < N) × (N ≤ 64) }
+    requires dst_length { (N ≤ end) × (end ≤ T.count test.now) × (0 < N) × (N ≤ 64) }
     requires from { (from ≤ end) × PassBetween (T.passes test.now) 0 from }
     ensures within { result ≤ end }
     ensures pass { PassBetween (T.passes test.now) 0 result }

@@ -4,11 +4,11 @@ ghost use Rattle.std.specs.Prelude.{◌≡◌, ◌<◌, ◌≤◌, length, encod
 ghost use Rattle.std.specs.Char.{IsScalar, len_utf8};
 ghost use Rattle.std.specs.Char.Escape.{encode_utf16};
 ghost use Rattle.encoding_definitions.specs.Sequence.{IsSequence};
-ghost use Rattle.encoding_definitions.specs.Fronts.{WritesFront};
+ghost use Rattle.encoding_definitions.specs.Prefixes.{WritesPrefix};
 
 /// Returns the scalar value that the bytes encode.
 #[inline(always)]
-pub fn scalar_of_sequence(bytes: &[u8]) -> u32
+pub fn decode_utf8_scalar(bytes: &[u8]) -> u32
     requires sequence { IsSequence bytes.now }
     ensures scalar { IsScalar result }
     ensures spelled { encode_utf8 result ≡ bytes.now }
@@ -32,7 +32,7 @@ pub fn scalar_of_sequence(bytes: &[u8]) -> u32
 #[inline(always)]
 pub fn write_utf16(scalar: u32, dst: &mut [u16]) -> Option<usize>
     requires scalar { IsScalar scalar }
-    ensures written { IfSome result (λ n. WritesFront dst.old dst.new n (encode_utf16 scalar)) }
+    ensures written { IfSome result (λ n. WritesPrefix dst.old dst.new n (encode_utf16 scalar)) }
     ensures unfit { IfNone result ((length dst.old < length (encode_utf16 scalar)) × (dst.new ≡ dst.old)) }
 {
     if scalar < 0x10000 {
@@ -76,8 +76,8 @@ pub fn utf8_length(scalar: u32) -> usize
 #[inline(always)]
 pub fn write_scalar(scalar: u32, dst: &mut [u8]) -> usize
     requires scalar { scalar < 0x110000 }
-    requires room { len_utf8 scalar ≤ length dst.old }
-    ensures { WritesFront dst.old dst.new result (encode_utf8 scalar) }
+    requires dst_length { len_utf8 scalar ≤ length dst.old }
+    ensures { WritesPrefix dst.old dst.new result (encode_utf8 scalar) }
 {
     if scalar < 0x80 {
         dst[0] = scalar as u8;

@@ -1,11 +1,11 @@
 //! Tests of the bytes of one well-formed UTF-8 sequence, one byte at a time: the nine rows of the Unicode Standard,
 //! Table 3-7.
 ghost use Rattle.std.specs.Prelude.{◌≡◌, ℕ, ◌+◌, ◌↔◌, List, [], ◌∷◌, length, IsTrue};
-ghost use Rattle.encoding_definitions.specs.Sequence.{IsSequence, IsBeginning, IsSecond, IsContinuation};
+ghost use Rattle.encoding_definitions.specs.Sequence.{IsSequence, IsIncomplete, IsSecond, IsContinuation};
 
 /// Returns whether the byte begins a sequence of several bytes.
 pub fn begins_several(byte: u8) -> bool
-    ensures { IsTrue result ↔ IsBeginning (byte ∷ []) }
+    ensures { IsTrue result ↔ IsIncomplete (byte ∷ []) }
 {
     0xC2 <= byte && byte <= 0xF4
 }
@@ -35,8 +35,8 @@ pub fn is_continuation(byte: u8) -> bool
 /// Returns whether `lead` begins several bytes and `second` is a continuation byte. Uses one test, since on random
 /// bytes a branch for each costs more.
 #[inline(always)]
-pub fn begin_several(lead: u8, second: u8) -> bool
-    ensures { IsTrue result ↔ IsBeginning (lead ∷ []) × IsContinuation second }
+pub fn is_lead_with_continuation(lead: u8, second: u8) -> bool
+    ensures { IsTrue result ↔ IsIncomplete (lead ∷ []) × IsContinuation second }
 {
     let mask = u8::from(begins_several(lead)) * 0xC0;
     second & mask == 0x80

@@ -7,9 +7,9 @@ ghost use Rattle.encoding_kernels.specs.Strides.{AllBelow, BelowUpTo, IsRunBelow
 
 use crate::places::{Places, all, find, reach, run, skip};
 pub(crate) use ascii_copies::copy_vectors;
-pub use ascii_copies::{AsciiAs, AsciiVectors, copy_ascii, copy_ascii_front};
+pub use ascii_copies::{AsciiAs, AsciiVectors, copy_ascii, copy_ascii_prefix};
 pub(crate) use copies::LANES;
-pub use copies::{copy_front, pack_lower, unpack, write_first};
+pub use copies::{copy_prefix, pack_lower, unpack, write_first};
 use std::simd::Simd;
 use std::simd::prelude::*;
 
@@ -103,7 +103,7 @@ pub(crate) fn are_units_below<const N: usize>(units: &[u16], at: usize, bound: u
 
 /// Returns how many of the N bytes from `at` on precede the first that isn't below the bound.
 #[inline(always)]
-pub fn run_of_bytes_below<const N: usize>(bytes: &[u8], at: usize, bound: u8) -> usize
+pub fn run_len_below<const N: usize>(bytes: &[u8], at: usize, bound: u8) -> usize
     requires { (at + N ≤ length bytes.now) × (0 < N) × (N ≤ 64) }
     ensures { IsRunBelow bound bytes.now at N result }
 {
@@ -113,24 +113,24 @@ pub fn run_of_bytes_below<const N: usize>(bytes: &[u8], at: usize, bound: u8) ->
 /// Returns the length of the longest prefix of bytes below `bound`. Checks the first vector separately, since most
 /// prefixes end there.
 #[inline(always)]
-pub fn front_of_bytes_below(bytes: &[u8], bound: u8) -> usize
+pub fn prefix_len_below(bytes: &[u8], bound: u8) -> usize
     ensures within { result ≤ length bytes.now }
     ensures below { BelowUpTo bound bytes.now result }
     ensures stops { result < length bytes.now → bound ≤ slice_index bytes.now result }
 {
     if bytes.len() < STRIDE {
-        return short_front_of_bytes_below(bytes, bound);
+        return short_prefix_len_below(bytes, bound);
     }
-    let run = run_of_bytes_below::<STRIDE>(bytes, 0, bound);
+    let run = run_len_below::<STRIDE>(bytes, 0, bound);
     if run < STRIDE {
         return run;
     }
-    front_behind_stride(bytes, bound)
+    prefix_after_stride(bytes, bound)
 }
 
 /// Returns the length of the longest prefix of bytes below the bound, given that those of the first stride are.
 #[inline(always)]
-pub fn front_behind_stride(bytes: &[u8], bound: u8) -> usize
+pub fn prefix_after_stride(bytes: &[u8], bound: u8) -> usize
     requires { (16 ≤ length bytes.now) × BelowUpTo bound bytes.now 16 }
     ensures within { result ≤ length bytes.now }
     ensures below { BelowUpTo bound bytes.now result }
@@ -146,7 +146,7 @@ pub fn front_behind_stride(bytes: &[u8], bound: u8) -> usize
 
 /// Returns the length of the longest prefix of bytes below the bound, in a text shorter than a stride.
 #[inline(always)]
-fn short_front_of_bytes_below(bytes: &[u8], bound: u8) -> usize
+fn short_prefix_len_below(bytes: &[u8], bound: u8) -> usize
     ensures within { result ≤ length bytes.now }
     ensures below { BelowUpTo bound bytes.now result }
     ensures stops { result < length bytes.now → bound ≤ slice_index bytes.now result }
@@ -163,11 +163,11 @@ fn short_front_of_bytes_below(bytes: &[u8], bound: u8) -> usize
 
 /// Returns whether each byte is below the bound. Checks the first vector separately, since it most often decides.
 #[inline(always)]
-pub fn are_all_bytes_below(bytes: &[u8], bound: u8) -> bool
+pub fn all_below(bytes: &[u8], bound: u8) -> bool
     ensures { IsTrue result ↔ EachIndex bytes.now (λ k. slice_index bytes.now k < bound) }
 {
     if bytes.len() < STRIDE {
-        return short_front_of_bytes_below(bytes, bound) == bytes.len();
+        return short_prefix_len_below(bytes, bound) == bytes.len();
     }
     let test = BytesBelow { bytes, bound };
     if !all::<STRIDE, STRIDE, _>(&test, 0) {
@@ -184,7 +184,7 @@ pub fn are_all_bytes_below(bytes: &[u8], bound: u8) -> bool
 
 /// Returns the length of the longest prefix of UTF-16 code units below the bound.
 #[inline(always)]
-pub fn front_of_units_below(units: &[u16], bound: u16) -> usize
+pub fn units_prefix_len_below(units: &[u16], bound: u16) -> usize
     ensures within { result ≤ length units.now }
     ensures below { BelowUpTo bound units.now result }
     ensures stops { result < length units.now → bound ≤ slice_index units.now result }

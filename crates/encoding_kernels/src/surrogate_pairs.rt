@@ -3,7 +3,7 @@
 
 ghost use Rattle.std.specs.Prelude.{◌≡◌, ℕ, ◌+◌, ◌*◌, ◌<◌, ◌≤◌, ◌⊎◌, ◌++◌, length, take, drop, slice_index, IsTrue};
 ghost use Rattle.encoding_definitions.specs.Utf16.{IsHighSurrogate};
-ghost use Rattle.encoding_kernels.specs.SurrogatePairs.{AreShortOrPaired, IsShortOrHalf, EncodesHalf, half_bytes, joined, halves_from};
+ghost use Rattle.encoding_kernels.specs.SurrogatePairs.{AreTwoByteOrPaired, IsTwoByteOrHalf, EncodesHalf, half_bytes, concatenated, halves_from};
 
 use crate::compress_pairs::keep_pairs;
 use crate::encode_lanes::{mask_of_others, write_both};
@@ -13,9 +13,9 @@ use std::simd::prelude::*;
 /// Returns whether each of the sixteen code units from `at` on is below U+0800 or a half of a pair. The last pair may
 /// be cut.
 #[inline(always)]
-pub(crate) fn are_short_or_paired(src: &[u16], at: usize) -> bool
+pub(crate) fn are_two_byte_or_paired(src: &[u16], at: usize) -> bool
     requires { at + 17 ≤ length src.now }
-    ensures { IsTrue result → AreShortOrPaired src.now at 16 }
+    ensures { IsTrue result → AreTwoByteOrPaired src.now at 16 }
 {
     if is_low_surrogate(src[at]) {
         return false;
@@ -33,8 +33,8 @@ pub(crate) fn are_short_or_paired(src: &[u16], at: usize) -> bool
 /// arbitrary second one.
 #[inline(always)]
 fn bytes_of_halves(units: u16x8, before: u16x8) -> u8x16
-    requires { (k : ℕ) → k < 8 → IsShortOrHalf (slice_index units k) }
-    ensures long { length result ≡ 16 }
+    requires { (k : ℕ) → k < 8 → IsTwoByteOrHalf (slice_index units k) }
+    ensures lane_count { length result ≡ 16 }
     ensures bytes { (k : ℕ) → k < 8 → EncodesHalf (slice_index before k) (slice_index units k)
         (slice_index result (2 * k)) (slice_index result (2 * k + 1)) }
 {
@@ -57,11 +57,11 @@ fn bytes_of_halves(units: u16x8, before: u16x8) -> u8x16
 /// length.
 #[inline(always)]
 fn encode_halves(units: u16x8, before: u16x8) -> (u8x16, usize)
-    requires { (k : ℕ) → k < 8 → IsShortOrHalf (slice_index units k) }
-    ensures long { length result.0 ≡ 16 }
-    ensures count { (8 ≤ result.1) × (result.1 ≤ 16) }
+    requires { (k : ℕ) → k < 8 → IsTwoByteOrHalf (slice_index units k) }
+    ensures lane_count { length result.0 ≡ 16 }
+    ensures out_length { (8 ≤ result.1) × (result.1 ≤ 16) }
     ensures spelled { take result.1 result.0
-        ≡ joined (λ k. half_bytes (slice_index before k) (slice_index units k)) 0 8 }
+        ≡ concatenated (λ k. half_bytes (slice_index before k) (slice_index units k)) 0 8 }
 {
     keep_pairs(bytes_of_halves(units, before), mask_of_others(units))
 }
@@ -79,18 +79,18 @@ fn cut_halves(src: &[u16], at: usize) -> usize
 /// Writes the UTF-8 of sixteen code units below U+0800 or in pairs, or of fifteen if the last is a high surrogate.
 /// Returns how many code units and how many bytes these are. The rest of `dst` is unchanged.
 #[inline(always)]
-pub(crate) fn write_short_or_paired(
+pub(crate) fn write_two_byte_or_paired(
     src: &[u16],
     at: usize,
     dst: &mut [u8],
     to: usize,
 ) -> (usize, usize)
-    requires room { (at + 16 ≤ length src.now) × (to + 32 ≤ length dst.old) }
-    requires paired { AreShortOrPaired src.now at 16 }
+    requires dst_length { (at + 16 ≤ length src.now) × (to + 32 ≤ length dst.old) }
+    requires paired { AreTwoByteOrPaired src.now at 16 }
     ensures units { ((result.0 ≡ 15) × IsHighSurrogate (slice_index src.now (at + 15)))
         ⊎ ((result.0 ≡ 16) × (IsHighSurrogate (slice_index src.now (at + 15)) → ⊥)) }
-    ensures count { result.1 ≡ length (halves_from src.now at result.0) }
-    ensures most { result.1 ≤ 32 }
+    ensures out_length { result.1 ≡ length (halves_from src.now at result.0) }
+    ensures length_bound { result.1 ≤ 32 }
     ensures written { dst.new ≡ take to dst.old
         ++ (halves_from src.now at result.0 ++ drop (to + result.1) dst.old) }
 {

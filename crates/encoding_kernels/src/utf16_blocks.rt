@@ -3,41 +3,41 @@
 //! unchanged.
 
 ghost use Rattle.std.specs.Prelude.{◌≡◌, ◌+◌, ◌<◌, ◌≤◌, ◌⊎◌, ◌++◌, length, take, drop, encode_utf8_all, IsTrue};
-ghost use Rattle.encoding_definitions.specs.Fronts.{WritesFront};
-ghost use Rattle.encoding_definitions.specs.Utf16.{IsUtf8OfFront};
-ghost use Rattle.encoding_kernels.specs.EncodeLanes.{ArePlain, WritesPlain, mended};
+ghost use Rattle.encoding_definitions.specs.Prefixes.{WritesPrefix};
+ghost use Rattle.encoding_definitions.specs.Utf16.{IsUtf8OfPrefix};
+ghost use Rattle.encoding_kernels.specs.EncodeLanes.{AreBmpScalars, WritesBmp, spliced};
 ghost use Rattle.encoding_kernels.specs.Strides.{AllBelow};
 
-use crate::encode_lanes::{are_long, store_long, store_short};
+use crate::encode_lanes::{are_three_byte, store_three_byte, store_two_byte};
 use crate::encode_units::{
-    are_plain, plain_front, store_sixteen, write_eight, write_first_of_eight,
+    are_non_surrogate, non_surrogate_prefix, store_sixteen, write_eight, write_first_of_eight,
 };
-use crate::strides::{HALF_STRIDE, STRIDE, are_units_below, copy_ascii_front};
-use crate::surrogate_pairs::{are_short_or_paired, write_short_or_paired};
+use crate::strides::{HALF_STRIDE, STRIDE, are_units_below, copy_ascii_prefix};
+use crate::surrogate_pairs::{are_two_byte_or_paired, write_two_byte_or_paired};
 use crate::surrogates::is_surrogate;
 use std::simd::prelude::*;
 
 /// The number of bytes that a block of sixteen code units may store, including those after it that are kept.
-const ROOM: usize = 64;
+const BLOCK_DST_LENGTH: usize = 64;
 
 /// The number of consecutive blocks of ASCII after which strides of 32 are tried.
-const ASCII_BLOCKS: usize = 8;
+const SPARSE_ASCII_LIMIT: usize = 8;
 
 /// The length of the UTF-8 of eight code units above which most of the next ones are taken to be beyond ASCII too.
-const FEW_BYTES: usize = 16;
+const SPARSE_OUTPUT_LIMIT: usize = 16;
 
 /// The number of blocks after one that isn't ASCII that aren't tested for ASCII. Text seldom changes to long ASCII
 /// there, and a test with varying outcomes costs more than it saves.
-const BLOCKS_BEHIND: usize = 8;
+const BLOCKS_BEFORE_RETEST: usize = 8;
 
 /// Converts the N ASCII code units from `at` on, to as many bytes.
 #[inline(always)]
 fn convert_ascii<const N: usize>(src: &[u16], at: usize, dst: &mut [u8], to: usize)
-    requires room { (at + N ≤ length src.now) × (to + N ≤ length dst.old) }
+    requires dst_length { (at + N ≤ length src.now) × (to + N ≤ length dst.old) }
     requires lanes { (0 < N) × (N ≤ 64) }
     requires ascii { AllBelow 0x80 src.now at N }
-    ensures plain { ArePlain (take N (drop at src.now)) }
-    ensures count { length (encode_utf8_all (take N (drop at src.now))) ≡ N }
+    ensures plain { AreBmpScalars (take N (drop at src.now)) }
+    ensures out_length { length (encode_utf8_all (take N (drop at src.now))) ≡ N }
     ensures written { dst.new ≡ take to dst.old ++ (encode_utf8_all (take N (drop at src.now)) ++ drop (to + N) dst.old) }
 {
     let bytes = Simd::<u16, N>::from_slice(&src[at..]).cast::<u8>();
@@ -47,16 +47,16 @@ fn convert_ascii<const N: usize>(src: &[u16], at: usize, dst: &mut [u8], to: usi
 /// Converts the eight code units from `at` on, or none if one is a surrogate.
 #[inline(always)]
 fn convert_eight(src: &[u16], at: usize, dst: &mut [u8], to: usize) -> (usize, usize)
-    requires room { (at + 8 ≤ length src.now) × (to + 32 ≤ length dst.old) }
+    requires dst_length { (at + 8 ≤ length src.now) × (to + 32 ≤ length dst.old) }
     ensures eight { (result.0 ≡ 8) ⊎ ((result.0 ≡ 0) × (result.1 ≡ 0)) }
-    ensures plain { ArePlain (take result.0 (drop at src.now)) }
-    ensures count { result.1 ≡ length (encode_utf8_all (take result.0 (drop at src.now))) }
-    ensures most { result.1 ≤ 24 }
+    ensures plain { AreBmpScalars (take result.0 (drop at src.now)) }
+    ensures out_length { result.1 ≡ length (encode_utf8_all (take result.0 (drop at src.now))) }
+    ensures length_bound { result.1 ≤ 24 }
     ensures written { dst.new ≡ take to dst.old
         ++ (encode_utf8_all (take result.0 (drop at src.now)) ++ drop (to + result.1) dst.old) }
 {
     let units = u16x8::from_slice(&src[at..]);
-    if are_plain(units) {
+    if are_non_surrogate(units) {
         return (8, write_eight(units, dst, to));
     }
     (0, 0)
@@ -66,16 +66,16 @@ fn convert_eight(src: &[u16], at: usize, dst: &mut [u8], to: usize) -> (usize, u
 /// class but surrogates. Also ends after a long run of ASCII.
 #[inline(always)]
 fn convert_sparse_blocks(src: &[u16], dst: &mut [u8]) -> (usize, usize)
-    ensures { WritesPlain src.now dst.old dst.new result.0 result.1 }
+    ensures { WritesBmp src.now dst.old dst.new result.0 result.1 }
 {
     let mut read = 0;
     let mut written = 0;
     let mut blocks = 0;
     let mut last = 0;
     while src.len() - read >= STRIDE
-        && dst.len() - written >= ROOM
-        && blocks < ASCII_BLOCKS
-        && last <= FEW_BYTES
+        && dst.len() - written >= BLOCK_DST_LENGTH
+        && blocks < SPARSE_ASCII_LIMIT
+        && last <= SPARSE_OUTPUT_LIMIT
     {
         if are_units_below::<8>(src, read, 0x80) {
             if are_units_below::<8>(src, read + 8, 0x80) {
@@ -109,14 +109,14 @@ fn convert_sparse_blocks(src: &[u16], dst: &mut [u8]) -> (usize, usize)
 #[inline(always)]
 fn are_sixteen_plain(src: &[u16], at: usize) -> bool
     requires { at + 16 ≤ length src.now }
-    ensures { IsTrue result → ArePlain (take 16 (drop at src.now)) }
+    ensures { IsTrue result → AreBmpScalars (take 16 (drop at src.now)) }
 {
     if are_units_below::<16>(src, at, 0x800) {
         return true;
     }
     let first = u16x8::from_slice(&src[at..]);
     let second = u16x8::from_slice(&src[at + 8..]);
-    are_plain(first) & are_plain(second)
+    are_non_surrogate(first) & are_non_surrogate(second)
 }
 
 /// Converts the sixteen code units from `at` on, which have no surrogate. Returns how many bytes it wrote, and the
@@ -130,21 +130,21 @@ fn convert_sixteen(
     to: usize,
     is_long_likely: bool,
 ) -> (usize, u8x16, bool)
-    requires room { (at + 16 ≤ length src.now) × (to + 64 ≤ length dst.old) }
-    ensures count { result.0 ≡ length (encode_utf8_all (take 16 (drop at src.now))) }
-    ensures most { (16 ≤ result.0) × (result.0 ≤ 48) }
+    requires dst_length { (at + 16 ≤ length src.now) × (to + 64 ≤ length dst.old) }
+    ensures out_length { result.0 ≡ length (encode_utf8_all (take 16 (drop at src.now))) }
+    ensures length_bound { (16 ≤ result.0) × (result.0 ≤ 48) }
     ensures kept { length result.1 ≡ 16 }
-    ensures written { mended dst.new (to + result.0) result.1
+    ensures written { spliced dst.new (to + result.0) result.1
         ≡ take to dst.old ++ (encode_utf8_all (take 16 (drop at src.now)) ++ drop (to + result.0) dst.old) }
 {
     let first = u16x8::from_slice(&src[at..]);
     let second = u16x8::from_slice(&src[at + 8..]);
     if are_units_below::<16>(src, at, 0x800) {
-        let (bytes, kept) = store_short(first, second, dst, to);
+        let (bytes, kept) = store_two_byte(first, second, dst, to);
         return (bytes, kept, is_long_likely);
     }
-    if is_long_likely && are_long(first) & are_long(second) {
-        let (bytes, kept) = store_long(first, second, dst, to);
+    if is_long_likely && are_three_byte(first) & are_three_byte(second) {
+        let (bytes, kept) = store_three_byte(first, second, dst, to);
         return (bytes, kept, true);
     }
     let (bytes, kept) = store_sixteen(first, second, dst, to);
@@ -155,22 +155,22 @@ fn convert_sixteen(
 /// block may change bytes after its own: only after the last one are they written back.
 #[inline(always)]
 fn convert_dense_blocks(src: &[u16], dst: &mut [u8]) -> (usize, usize)
-    ensures { WritesPlain src.now dst.old dst.new result.0 result.1 }
+    ensures { WritesBmp src.now dst.old dst.new result.0 result.1 }
 {
-    if dst.len() < ROOM {
+    if dst.len() < BLOCK_DST_LENGTH {
         return (0, 0);
     }
     let mut read = 0;
     let mut written = 0;
-    let mut behind = u8x16::from_slice(dst);
+    let mut following = u8x16::from_slice(dst);
     let mut untested = 0;
     let mut is_long_likely = true;
-    while src.len() - read >= STRIDE && dst.len() - written >= ROOM {
+    while src.len() - read >= STRIDE && dst.len() - written >= BLOCK_DST_LENGTH {
         if untested == 0 {
             if are_units_below::<16>(src, read, 0x80) {
                 break;
             }
-            untested = BLOCKS_BEHIND;
+            untested = BLOCKS_BEFORE_RETEST;
             is_long_likely = true;
         }
         if !are_sixteen_plain(src, read) {
@@ -179,24 +179,24 @@ fn convert_dense_blocks(src: &[u16], dst: &mut [u8]) -> (usize, usize)
         let (bytes, kept, is_long) = convert_sixteen(src, read, dst, written, is_long_likely);
         read += STRIDE;
         written += bytes;
-        behind = kept;
+        following = kept;
         untested -= 1;
         is_long_likely = is_long;
     }
-    behind.copy_to_slice(&mut dst[written..]);
+    following.copy_to_slice(&mut dst[written..]);
     (read, written)
 }
 
 /// Converts those of the first eight code units that precede a surrogate, if there are eight.
 #[inline(always)]
 fn convert_first_eight(src: &[u16], dst: &mut [u8]) -> (usize, usize)
-    ensures { WritesPlain src.now dst.old dst.new result.0 result.1 }
+    ensures { WritesBmp src.now dst.old dst.new result.0 result.1 }
 {
     if src.len() < HALF_STRIDE || dst.len() < 32 {
         return (0, 0);
     }
     let units = u16x8::from_slice(src);
-    let first = plain_front(units);
+    let first = non_surrogate_prefix(units);
     (first, write_first_of_eight(units, first, dst, 0))
 }
 
@@ -206,10 +206,10 @@ fn convert_first_eight(src: &[u16], dst: &mut [u8]) -> (usize, usize)
 /// surrogate is next, or the end of `src` or `dst` is near.
 #[inline(always)]
 fn convert_some_blocks(src: &[u16], dst: &mut [u8]) -> (usize, usize, bool)
-    ensures some { IsTrue result.2 → 0 < result.0 }
-    ensures plain { WritesPlain src.now dst.old dst.new result.0 result.1 }
+    ensures progress { IsTrue result.2 → 0 < result.0 }
+    ensures plain { WritesBmp src.now dst.old dst.new result.0 result.1 }
 {
-    let mut read = copy_ascii_front::<32, u8, u16>(src, dst);
+    let mut read = copy_ascii_prefix::<32, u8, u16>(src, dst);
     let mut written = read;
     if read < src.len() && is_surrogate(src[read]) {
         return (read, written, false);
@@ -230,7 +230,7 @@ fn convert_some_blocks(src: &[u16], dst: &mut [u8]) -> (usize, usize, bool)
 /// Converts blocks of code units from the start of `src` that have no surrogate. Returns how many code units it read
 /// and how many bytes it wrote.
 pub fn convert_blocks(src: &[u16], dst: &mut [u8]) -> (usize, usize)
-    ensures { WritesPlain src.now dst.old dst.new result.0 result.1 }
+    ensures { WritesBmp src.now dst.old dst.new result.0 result.1 }
 {
     let mut read = 0;
     let mut written = 0;
@@ -248,8 +248,8 @@ pub fn convert_blocks(src: &[u16], dst: &mut [u8]) -> (usize, usize)
 /// Converts blocks of code units from the start of `src` while they have surrogate pairs and their other units are
 /// below U+0800. Returns how many code units it read and how many bytes it wrote.
 pub fn convert_paired_blocks(src: &[u16], dst: &mut [u8]) -> (usize, usize)
-    ensures front { IsUtf8OfFront src.now result.0 (take result.1 dst.new) }
-    ensures rest { WritesFront dst.old dst.new result.1 (take result.1 dst.new) }
+    ensures prefix { IsUtf8OfPrefix src.now result.0 (take result.1 dst.new) }
+    ensures unchanged_after { WritesPrefix dst.old dst.new result.1 (take result.1 dst.new) }
     ensures within { result.0 ≤ length src.now }
 {
     let mut read = 0;
@@ -257,9 +257,9 @@ pub fn convert_paired_blocks(src: &[u16], dst: &mut [u8]) -> (usize, usize)
     while src.len() - read > STRIDE
         && dst.len() - written >= 32
         && !are_units_below::<16>(src, read, 0x800)
-        && are_short_or_paired(src, read)
+        && are_two_byte_or_paired(src, read)
     {
-        let (units, bytes) = write_short_or_paired(src, read, dst, written);
+        let (units, bytes) = write_two_byte_or_paired(src, read, dst, written);
         read += units;
         written += bytes;
     }

@@ -2,7 +2,7 @@
 
 ghost use Rattle.std.specs.Prelude.{◌≡◌, ℕ, ◌+◌, ◌*◌, ◌<◌, ◌≤◌, ◌⊎◌, ◌∷◌, length, take, slice_index};
 ghost use Rattle.std.specs.Simd.Lanes.{mask_l};
-ghost use Rattle.encoding_kernels.specs.EncodeLanes.{EndsPair, all_ended, both_end};
+ghost use Rattle.encoding_kernels.specs.EncodeLanes.{EndsPair, all_latin1_ended, both_end};
 
 use crate::compress_pairs::keep_pairs;
 use std::simd::prelude::*;
@@ -11,7 +11,7 @@ use std::simd::prelude::*;
 #[tactic(auto, using(crate::proofs::Lanes::EndsLemmas::pairs_end))]
 #[inline(always)]
 fn ended_pairs(block: u8x16) -> u8x16
-    ensures long { length result ≡ 16 }
+    ensures lane_count { length result ≡ 16 }
     ensures pairs { (k : ℕ) → k < 8 → EndsPair (slice_index (0 ∷ block) (2 * k)) (slice_index block (2 * k))
         (slice_index block (2 * k + 1)) (slice_index result (2 * k)) (slice_index result (2 * k + 1)) }
 {
@@ -33,7 +33,7 @@ fn ended_pairs(block: u8x16) -> u8x16
 #[tactic(auto, using(crate::proofs::Lanes::EndsLemmas::mask_ends, crate::proofs::Lanes::EndsLemmas::mask_small))]
 #[inline(always)]
 fn mask_of_ends(block: u8x16) -> usize
-    ensures small { result < 256 }
+    ensures upper_bound { result < 256 }
     ensures mask { result ≡ mask_l (both_end block) }
 {
     let words = u16x8::from_le_bytes(block);
@@ -46,9 +46,9 @@ fn mask_of_ends(block: u8x16) -> usize
 #[inline(always)]
 pub fn latin1_of(block: u8x16) -> (u8x16, usize)
     requires { (k : ℕ) → (slice_index block k < 0xC0) ⊎ (slice_index block (k + 1) < 0xC0) }
-    ensures long { length result.0 ≡ 16 }
-    ensures count { result.1 ≤ 16 }
-    ensures ended { take result.1 result.0 ≡ all_ended 0 block }
+    ensures lane_count { length result.0 ≡ 16 }
+    ensures out_length { result.1 ≤ 16 }
+    ensures latin1_ended { take result.1 result.0 ≡ all_latin1_ended 0 block }
 {
     keep_pairs(ended_pairs(block), mask_of_ends(block))
 }

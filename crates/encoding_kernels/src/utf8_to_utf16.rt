@@ -10,19 +10,19 @@ ghost use Rattle.std.specs.Str.{IsUtf8, IsCharBoundary, chars};
 ghost use Rattle.std.specs.Char.Escape.{encode_utf16};
 ghost use Rattle.std.specs.Int.RustNames.{count_ones};
 ghost use Rattle.std.specs.Simd.Lanes.{mask_l};
-ghost use Rattle.encoding_definitions.specs.Fronts.{WritesFront};
-ghost use Rattle.encoding_kernels.specs.Units.{BeginsThree, WritesCompressed, WritesUtf16, ends_behind, units_in};
+ghost use Rattle.encoding_definitions.specs.Prefixes.{WritesPrefix};
+ghost use Rattle.encoding_kernels.specs.Units.{BeginsThree, WritesCompressed, WritesUtf16, ends_after, units_in};
 
 use crate::compress_units::compress;
 use crate::decode_lanes::{code_units, triple_units, unit_ends};
-use crate::scalars::{scalar_of_sequence, write_utf16};
+use crate::scalars::{decode_utf8_scalar, write_utf16};
 use crate::sequence::{is_continuation, sequence_length};
 use crate::strides::{ASCII_END, LANES as BYTE_LANES, STRIDE, are_bytes_below, copy_vectors};
 use std::simd::Simd;
 use std::simd::prelude::*;
 
 /// The greatest byte at each index that leaves no character cut at the end of sixteen.
-const LAST: [u8; 16] = [
+const LAST_UNCUT: [u8; 16] = [
     255, 255, 255, 255, 255, 255, 255, 255, 255, 255, 255, 255, 255, 0xEF, 0xDF, 0xBF,
 ];
 
@@ -35,7 +35,7 @@ const LEAD_BITS: [u8; 16] = [
 ];
 
 /// Their values if it does.
-const LEADS: [u8; 16] = [
+const LEAD_VALUES: [u8; 16] = [
     0xE0, 0, 0, 0xE0, 0, 0, 0xE0, 0, 0, 0xE0, 0, 0, 0xE0, 0, 0, 0,
 ];
 
@@ -65,11 +65,11 @@ fn write_compressed_exact(first: u16x8, last: u16x8, kept: usize, dst: &mut [u16
     let last_kept = kept >> 8;
     let count = first_kept.count_ones() as usize;
     let more = last_kept.count_ones() as usize;
-    let behind = u16x8::from_slice(&dst[count..]);
+    let following = u16x8::from_slice(&dst[count..]);
     compress(first, first_kept).copy_to_slice(dst);
     let is_kept = u16x8::from_array(LANES).simd_lt(u16x8::splat(more as u16));
     is_kept
-        .select(compress(last, last_kept), behind)
+        .select(compress(last, last_kept), following)
         .copy_to_slice(&mut dst[count..]);
     count + more
 }
@@ -81,7 +81,7 @@ fn whole_end(src: &[u8]) -> usize
     ensures { (result ≤ 16) × IsCharBoundary src.now result }
 {
     let cut = u8x16::from_slice(src)
-        .saturating_sub(u8x16::from_array(LAST))
+        .saturating_sub(u8x16::from_array(LAST_UNCUT))
         .simd_ne(u8x16::splat(0))
         .to_bitmask();
     let end = (cut | 0x10000).trailing_zeros() as usize;
@@ -94,10 +94,10 @@ fn whole_end(src: &[u8]) -> usize
 /// Writes the UTF-16 of the first `end` bytes, up to the end of a character, and returns its length in code units.
 #[inline(always)]
 fn write_block(src: &[u8], end: usize, kept: usize, dst: &mut [u16]) -> usize
-    requires room { (16 ≤ length src.now) × (16 ≤ length dst.old) }
+    requires dst_length { (16 ≤ length src.now) × (16 ≤ length dst.old) }
     requires text { IsUtf8 src.now }
     requires end { (end ≤ 16) × IsCharBoundary src.now end }
-    requires kept { kept ≡ mask_l (take end (ends_behind 0 (take 16 src.now)) ++ replicate (16 - end) false) }
+    requires kept { kept ≡ mask_l (take end (ends_after 0 (take 16 src.now)) ++ replicate (16 - end) false) }
     ensures { WritesUtf16 src.now dst.old dst.new end result (result + 8 - count_ones (kept / 2 ^ 8)) }
 {
     let (first, last) = code_units(u8x16::from_slice(src));
@@ -108,10 +108,10 @@ fn write_block(src: &[u8], end: usize, kept: usize, dst: &mut [u16]) -> usize
 /// fewer than sixteen units. Returns its length in code units.
 #[inline(always)]
 fn write_block_in_any_room(src: &[u8], end: usize, kept: usize, dst: &mut [u16]) -> usize
-    requires room { (16 ≤ length src.now) × (end ≤ length dst.old) }
+    requires dst_length { (16 ≤ length src.now) × (end ≤ length dst.old) }
     requires text { IsUtf8 src.now }
     requires end { (end ≤ 16) × IsCharBoundary src.now end }
-    requires kept { kept ≡ mask_l (take end (ends_behind 0 (take 16 src.now)) ++ replicate (16 - end) false) }
+    requires kept { kept ≡ mask_l (take end (ends_after 0 (take 16 src.now)) ++ replicate (16 - end) false) }
     ensures { WritesUtf16 src.now dst.old dst.new end result result }
 {
     if dst.len() >= 16 {
@@ -131,14 +131,14 @@ fn begins_triples(src: &[u8]) -> bool
     ensures { IsTrue result → (k : ℕ) → k < 5 → BeginsThree (slice_index src.now (3 * k)) }
 {
     let leads = u8x16::from_slice(src) & u8x16::from_array(LEAD_BITS);
-    !leads.simd_ne(u8x16::from_array(LEADS)).any()
+    !leads.simd_ne(u8x16::from_array(LEAD_VALUES)).any()
 }
 
 /// Writes the UTF-16 of the first five characters, of three bytes each.
-#[tactic(auto, using(crate::proofs::LongestFronts::TextUnitsLemmas::puts_triples))]
+#[tactic(auto, using(crate::proofs::PrefixLoops::TextUnitsLemmas::puts_triples))]
 #[inline(always)]
 fn write_triples(src: &[u8], dst: &mut [u16])
-    requires room { (16 ≤ length src.now) × (8 ≤ length dst.old) }
+    requires dst_length { (16 ≤ length src.now) × (8 ≤ length dst.old) }
     requires text { IsUtf8 src.now }
     requires triples { (k : ℕ) → k < 5 → BeginsThree (slice_index src.now (3 * k)) }
     ensures { WritesUtf16 src.now dst.old dst.new 15 5 8 }
@@ -149,7 +149,7 @@ fn write_triples(src: &[u8], dst: &mut [u16])
 /// Writes the UTF-16 of the first five characters, of three bytes each, and nothing after it.
 #[inline(always)]
 fn write_triples_exact(src: &[u8], dst: &mut [u16])
-    requires room { (16 ≤ length src.now) × (5 ≤ length dst.old) }
+    requires dst_length { (16 ≤ length src.now) × (5 ≤ length dst.old) }
     requires text { IsUtf8 src.now }
     requires triples { (k : ℕ) → k < 5 → BeginsThree (slice_index src.now (3 * k)) }
     ensures { WritesUtf16 src.now dst.old dst.new 15 5 5 }
@@ -171,13 +171,13 @@ fn is_due(kept: usize, left: usize) -> bool
 /// Writes the UTF-16 of the first character, and returns how many bytes it read and how many code units it wrote.
 #[inline(always)]
 fn write_character(src: &[u8], dst: &mut [u16]) -> (usize, usize)
-    requires room { (0 < length src.now) × (length src.now ≤ length dst.old) }
+    requires dst_length { (0 < length src.now) × (length src.now ≤ length dst.old) }
     requires text { IsUtf8 src.now }
-    ensures some { 0 < result.0 }
+    ensures progress { 0 < result.0 }
     ensures written { WritesUtf16 src.now dst.old dst.new result.0 result.1 result.1 }
 {
     let length = sequence_length(src[0]);
-    let scalar = scalar_of_sequence(&src[..length]);
+    let scalar = decode_utf8_scalar(&src[..length]);
     let Some(units) = write_utf16(scalar, dst) else {
         unreachable!();
     };
@@ -188,14 +188,14 @@ fn write_character(src: &[u8], dst: &mut [u16]) -> (usize, usize)
 /// Units that the rest of the text overwrites may have changed too.
 #[inline(always)]
 fn write_some(src: &[u8], dst: &mut [u16]) -> (usize, usize)
-    requires room { (16 < length src.now) × (length src.now ≤ length dst.old) }
+    requires dst_length { (16 < length src.now) × (length src.now ≤ length dst.old) }
     requires text { IsUtf8 src.now }
-    ensures some { 0 < result.0 }
+    ensures progress { 0 < result.0 }
     ensures written { WritesUtf16 src.now dst.old dst.new result.0 result.1 (units_in src.now) }
 {
     if are_bytes_below::<16>(src, 0, ASCII_END) {
-        let front = copy_vectors::<16, u16, u8>(src, dst, 0);
-        return (front, front);
+        let prefix = copy_vectors::<16, u16, u8>(src, dst, 0);
+        return (prefix, prefix);
     }
     if begins_triples(src) {
         if src.len() >= 24 {
@@ -219,9 +219,9 @@ fn write_some(src: &[u8], dst: &mut [u16]) -> (usize, usize)
 /// Writes the UTF-16 of a text of a few bytes, and returns its length in code units.
 #[inline(always)]
 fn write_few(src: &[u8], dst: &mut [u16]) -> usize
-    requires room { length src.now ≤ length dst.old }
+    requires dst_length { length src.now ≤ length dst.old }
     requires text { IsUtf8 src.now }
-    ensures { WritesFront dst.old dst.new result (flat_map encode_utf16 (chars src.now)) }
+    ensures { WritesPrefix dst.old dst.new result (flat_map encode_utf16 (chars src.now)) }
 {
     let mut read = 0;
     let mut written = 0;
@@ -245,8 +245,8 @@ fn with_zeros(src: &[u8]) -> u8x16
     let first = u8x8::from_slice(src);
     let last = u8x8::from_slice(&src[src.len() - 8..]);
     let both = first.shuffle(last, [0, 1, 2, 3, 4, 5, 6, 7, 8, 9, 10, 11, 12, 13, 14, 15]);
-    let behind = (lanes + (u8x16::splat(16) - count)) & u8x16::splat(15);
-    let places = lanes.simd_lt(u8x16::splat(8)).select(lanes, behind);
+    let following = (lanes + (u8x16::splat(16) - count)) & u8x16::splat(15);
+    let places = lanes.simd_lt(u8x16::splat(8)).select(lanes, following);
     let bytes = both.swizzle_dyn(places);
     lanes.simd_lt(count).select(bytes, u8x16::splat(0))
 }
@@ -254,9 +254,9 @@ fn with_zeros(src: &[u8]) -> u8x16
 /// Writes the UTF-16 of a text of eight to sixteen bytes, and returns its length in code units.
 #[inline(never)]
 fn write_tail(src: &[u8], dst: &mut [u16]) -> usize
-    requires room { (8 ≤ length src.now) × (length src.now ≤ 16) × (length src.now ≤ length dst.old) }
+    requires dst_length { (8 ≤ length src.now) × (length src.now ≤ 16) × (length src.now ≤ length dst.old) }
     requires text { IsUtf8 src.now }
-    ensures { WritesFront dst.old dst.new result (flat_map encode_utf16 (chars src.now)) }
+    ensures { WritesPrefix dst.old dst.new result (flat_map encode_utf16 (chars src.now)) }
 {
     let block = with_zeros(src).to_array();
     let kept = unit_ends(u8x16::from_slice(&block), src.len());
@@ -265,19 +265,19 @@ fn write_tail(src: &[u8], dst: &mut [u16]) -> usize
 
 /// Writes the UTF-16 of an ASCII prefix by strides, and returns its length.
 #[inline(always)]
-pub fn convert_ascii_front(src: &[u8], dst: &mut [u16]) -> usize
+pub fn convert_ascii_prefix(src: &[u8], dst: &mut [u16]) -> usize
     ensures within { (result ≤ length src.now) × (result ≤ length dst.old) }
     ensures text { IsUtf8 (take result src.now) }
-    ensures written { WritesFront dst.old dst.new result (flat_map encode_utf16 (chars (take result src.now))) }
+    ensures written { WritesPrefix dst.old dst.new result (flat_map encode_utf16 (chars (take result src.now))) }
 {
     copy_vectors::<STRIDE, u16, u8>(src, dst, 0)
 }
 
 /// Writes the UTF-16 of a text, and returns its length in code units.
 pub fn convert_valid_utf8_to_utf16(src: &[u8], dst: &mut [u16]) -> usize
-    requires room { length src.now ≤ length dst.old }
+    requires dst_length { length src.now ≤ length dst.old }
     requires text { IsUtf8 src.now }
-    ensures { WritesFront dst.old dst.new result (flat_map encode_utf16 (chars src.now)) }
+    ensures { WritesPrefix dst.old dst.new result (flat_map encode_utf16 (chars src.now)) }
 {
     let mut read = 0;
     let mut written = 0;

@@ -7,32 +7,32 @@ use Rattle.std.proofs.lemmas.Bool.{cases_lt}
 use Rattle.std.proofs.lemmas.List.{append-nil, append_assoc, drop-drop, length-append, length-drop, take_rest}
 use Rattle.std.proofs.lemmas.Str.{length-encode, len_utf8_bounds}
 use borrow.Rule.Slice.PartMut.{put_mid}
-use Rattle.encoding_definitions.specs.Parts.{Part, Character, Broken, repaired_text, count_broken}
+use Rattle.encoding_definitions.specs.Parts.{Part, Character, IllFormed, lossy_utf8, malformed_count}
 use Rattle.encoding_definitions.specs.Pending.{IsPending}
-use Rattle.encoding_definitions.specs.Giving.{Gives}
-use Rattle.encoding_definitions.specs.Fronts.{WritesFront}
-use Rattle.encoding_definitions.proofs.LongestFronts.FrontsLemmas.{WritesFront-same, WritesFront-length, WritesFront_after}
-use Rattle.encoding_definitions.proofs.Decomposition.DecompositionLemmas.{repaired_text-append, repaired_text-characters, count_broken-append, count_broken-characters}
+use Rattle.encoding_definitions.specs.Yielding.{Yields}
+use Rattle.encoding_definitions.specs.Prefixes.{WritesPrefix}
+use Rattle.encoding_definitions.proofs.LongestPrefixes.PrefixesLemmas.{WritesPrefix-same, WritesPrefix-length, WritesPrefix_after}
+use Rattle.encoding_definitions.proofs.Decomposition.DecompositionLemmas.{lossy_utf8-append, lossy_utf8-characters, malformed_count-append, malformed_count-characters}
 use Rattle.encoding_definitions.proofs.Sequences.EncodingLemmas.{flat_map-encode_utf8}
-use Rattle.encoding_text.specs.Decoding.{Decodes}
-use Rattle.encoding_text.specs.GivenParts.{IsReported}
+use Rattle.encoding_text.specs.Decoding.{DecodeStepInto}
+use Rattle.encoding_text.specs.YieldedParts.{IsReported}
 use Rattle.encoding_text.specs.declared.decoder.DecoderResult.{DecoderResult}
 use Rattle.encoding_text.specs.declared.decoder.DecoderResult.TheVariants.{InputEmpty, OutputFull, Malformed}
-use Rattle.encoding_text.proofs.Calls.CallPartsLemmas.{decoded_gives}
-use Rattle.encoding_text.proofs.Calls.HasAnswerLemmas.{no_characters_pending}
+use Rattle.encoding_text.proofs.Calls.CallPartsLemmas.{decoded_yields}
+use Rattle.encoding_text.proofs.Calls.HasResultLemmas.{no_characters_pending}
 use Rattle.encoding_runs.specs.declared.repair.blocks.RepairedBlock.{RepairedBlock}
 use Rattle.encoding_runs.specs.Blocks.{IsBlockRepair, WantsSpace, RepairTheParts, replaced_in_all}
 use Rattle.encoding_runs.specs.Calls.{Call, IsChain, output_of}
-use Rattle.encoding_runs.specs.DecoderCalls.{AreGivenInSequence, GiveTheParts}
-use Rattle.encoding_runs.specs.Repairs.{IsRepairedWith}
-use Rattle.encoding_runs.proofs.ChainLemmas.{chain_gives, gives_then}
+use Rattle.encoding_runs.specs.DecoderCalls.{AreYieldedInSequence, YieldTheParts}
+use Rattle.encoding_runs.specs.Repairs.{IsLossyDecodeWith}
+use Rattle.encoding_runs.proofs.ChainLemmas.{chain_yields, yields_then}
 
 -- parts are yielded, and the text of all except the reported ones among them is written
 pub record BlockText (p src : List ℕ) (last : Bool) (old new : List ℕ) (read written replaced : ℕ) (q : List ℕ) (reported : List Part) : Type 0 where
   pub parts : List Part
-  pub given : Gives p src last (parts ++ reported) read q
-  pub writes : WritesFront old new written (repaired_text parts)
-  pub broken : replaced ≡ count_broken parts
+  pub yielded : Yields p src last (parts ++ reported) read q
+  pub writes : WritesPrefix old new written (lossy_utf8 parts)
+  pub malformed : replaced ≡ malformed_count parts
   pub three : 3 * replaced ≤ written
 
 -- the text of all is written
@@ -42,7 +42,7 @@ BlockDone p src last old new read written replaced q = BlockText p src last old 
 -- a call of the decoder on the rest of the source, into the rest of the destination
 abbrev pub DecodesRest : List ℕ → List ℕ → Bool → List ℕ → List ℕ → ℕ → ℕ → DecoderResult → ℕ → ℕ → List ℕ → Type 0
 DecodesRest q src last new sub read written result bytes units t =
-    Decodes encode_utf8 4 q (drop read src) (take (length new - written) (drop written new)) sub last result bytes units t
+    DecodeStepInto encode_utf8 4 q (drop read src) (take (length new - written) (drop written new)) sub last result bytes units t
 
 module _ (p src : List ℕ) (last : Bool) (old new sub : List ℕ) (read written replaced : ℕ) (q : List ℕ) (bytes units : ℕ) (t : List ℕ) where
   abbrev after : List ℕ
@@ -52,18 +52,18 @@ module _ (p src : List ℕ) (last : Bool) (old new sub : List ℕ) (read written
   pub block_more : (result : DecoderResult) → BlockDone p src last old new read written replaced q → DecodesRest q src last new sub read written result bytes units t
       → (reported : List Part) × IsReported result reported × BlockText p src last old after (read + bytes) (written + units) replaced t reported
   block_more result d (out, w, call) =
-      let (more, (cs, reported, scalars, out_is, is, are), g) = decoded_gives encode_utf8 4 q (drop read src) _ last result bytes out t call in
+      let (more, (cs, reported, scalars, out_is, is, are), g) = decoded_yields encode_utf8 4 q (drop read src) _ last result bytes out t call in
       let done = d.parts in
-      let before : Gives p src last done read q = subst (λ ps. Gives p src last ps read q) (append-nil done) d.given in
+      let before : Yields p src last done read q = subst (λ ps. Yields p src last ps read q) (append-nil done) d.yielded in
       let whole : done ++ more ≡ (done ++ map Character cs) ++ reported = ap (λ ps. done ++ ps) are ∙ sym (append_assoc done (map Character cs) reported) in (
         reported,
         is,
         record {
           parts = done ++ map Character cs;
-          given = subst (λ ps. Gives p src last ps (read + bytes) t) whole (gives_then p src last last last done more read bytes q t (λ e. (e, e)) before g);
-          writes = WritesFront-same _ _ _ _ _ _ (WritesFront_after old new written (repaired_text done) sub units out d.writes w) refl
-              (ap (λ xs. repaired_text done ++ xs) (out_is ∙ flat_map-encode_utf8 cs ∙ sym (repaired_text-characters cs)) ∙ sym (repaired_text-append done (map Character cs)));
-          broken = omega (arith, d.broken, count_broken-append done (map Character cs), count_broken-characters cs);
+          yielded = subst (λ ps. Yields p src last ps (read + bytes) t) whole (yields_then p src last last last done more read bytes q t (λ e. (e, e)) before g);
+          writes = WritesPrefix-same _ _ _ _ _ _ (WritesPrefix_after old new written (lossy_utf8 done) sub units out d.writes w) refl
+              (ap (λ xs. lossy_utf8 done ++ xs) (out_is ∙ flat_map-encode_utf8 cs ∙ sym (lossy_utf8-characters cs)) ∙ sym (lossy_utf8-append done (map Character cs)));
+          malformed = omega (arith, d.malformed, malformed_count-append done (map Character cs), malformed_count-characters cs);
           three = omega (arith, d.three);
         },
       )
@@ -71,34 +71,34 @@ module _ (p src : List ℕ) (last : Bool) (old new sub : List ℕ) (read written
 -- ---- what ends a call
 -- what a call on a block did
 abbrev pub Ended : List ℕ → List ℕ → Bool → List ℕ → List ℕ → ℕ → ℕ → ℕ → Bool → List ℕ → Type 0
-Ended p src last old new read written replaced finished q = (out : List ℕ) × WritesFront old new written out
+Ended p src last old new read written replaced finished q = (out : List ℕ) × WritesPrefix old new written out
     × IsBlockRepair p src (length old) last (record { read = read; written = written; replaced = replaced; finished = finished }) read out q
 
 ended : (p src : List ℕ) (last : Bool) (old new : List ℕ) (read written replaced : ℕ) (finished : Bool) (q : List ℕ) (reported : List Part) → IsPending p
     → BlockText p src last old new read written replaced q reported → reported ≡ [] → (finished ≡ true) ↔ ((read ≡ length src) × (last ≡ true → q ≡ []))
     → (finished ≡ false → WantsSpace src read (length old - written) q) → Ended p src last old new read written replaced finished q
 ended p src last old new read written replaced finished q reported h b none is_end is_full = (
-  repaired_text b.parts,
+  lossy_utf8 b.parts,
   b.writes,
   record {
     parts = b.parts;
     was_pending = h;
-    given = subst (λ ps. Gives p src last ps read q) (ap (λ ps. b.parts ++ ps) none ∙ append-nil b.parts) b.given;
+    yielded = subst (λ ps. Yields p src last ps read q) (ap (λ ps. b.parts ++ ps) none ∙ append-nil b.parts) b.yielded;
     text = refl;
     fits = omega (arith, b.writes.count, b.writes.fits);
-    replaced = b.broken;
+    replaced = b.malformed;
     finished = is_end;
     full = λ e. subst (λ n. WantsSpace src read (length old - n) q) b.writes.count (is_full e);
   },
 )
 
 -- all was read, and U+FFFD for what is pending doesn't fit
-pub block_stuck : (p src : List ℕ) (last : Bool) (old new : List ℕ) (read written replaced : ℕ) (finished : Bool) (q : List ℕ) → IsPending p
+pub block_rejected : (p src : List ℕ) (last : Bool) (old new : List ℕ) (read written replaced : ℕ) (finished : Bool) (q : List ℕ) → IsPending p
     → BlockDone p src last old new read written replaced q → length src - read ≡ 0 → length new - written < 3 → (finished ≡ true) ↔ (last ≡ true → q ≡ [])
     → Ended p src last old new read written replaced finished q
-block_stuck p src last old new read written replaced finished q h d all few is_end =
-    let whole : read ≡ length src = omega (arith, all, d.given.within) in
-    let left : length old - written < 3 = omega (arith, few, WritesFront-length _ _ _ _ d.writes) in
+block_rejected p src last old new read written replaced finished q h d all few is_end =
+    let whole : read ≡ length src = omega (arith, all, d.yielded.within) in
+    let left : length old - written < 3 = omega (arith, few, WritesPrefix-length _ _ _ _ d.writes) in
     ended p src last old new read written replaced finished q [] h d refl ((λ e. (whole, is_end.0 e)), λ e. is_end.1 e.1)
     (λ e. record { few = omega (arith, left); at_end = λ _. left; next = λ _ (c, rest, scalar, begins, l). no_fitting c rest scalar begins whole })
   where
@@ -115,20 +115,20 @@ module _ (p src : List ℕ) (last : Bool) (old new sub : List ℕ) (read written
   EndedBy finished = Ended p src last old dst (read + bytes) (written + units) replaced finished t
 
   size : length (take (length new - written) (drop written new)) ≡ length old - written
-  size = ap length (take_rest new written) ∙ length-drop written new ∙ ap (λ n. n - written) (WritesFront-length _ _ _ _ d.writes)
+  size = ap length (take_rest new written) ∙ length-drop written new ∙ ap (λ n. n - written) (WritesPrefix-length _ _ _ _ d.writes)
 
   -- all was read
   pub block_finished : DecodesRest q src last new sub read written InputEmpty bytes units t → EndedBy true
   block_finished (out, w, call) =
       let (reported, is, b) = block_more p src last old new sub read written replaced q bytes units t InputEmpty d (out, w, call) in
-      let all : read + bytes ≡ length src = omega (arith, call.answer.0, length-drop read src, d.given.within) in
+      let all : read + bytes ≡ length src = omega (arith, call.answer.0, length-drop read src, d.yielded.within) in
       ended p src last old _ _ _ replaced true t reported h b is ((λ _. (all, call.answer.2)), λ _. refl) (λ e. absurd (true≢false e))
 
   -- the space left isn't enough
   pub block_full : DecodesRest q src last new sub read written OutputFull bytes units t → EndedBy false
   block_full (out, w, call) =
       let (reported, is, b) = block_more p src last old new sub read written replaced q bytes units t OutputFull d (out, w, call) in
-      let (some, whole, few, none, held) = call.answer in
+      let (some, whole, few, none, kept) = call.answer in
       let unread : read + bytes ≡ length src → ⊥ = λ all. omega (arith, all, some, length-drop read src) in
       let left : length (take (length new - written) (drop written new)) - length out ≡ length old - (written + units) = omega (arith, size, w.count) in
       ended p src last old _ _ _ replaced false t reported h b is ((λ e. absurd (true≢false (sym e))), λ e. absurd (unread e.0)) (λ _. record {
@@ -142,10 +142,10 @@ module _ (p src : List ℕ) (last : Bool) (old new sub : List ℕ) (read written
       → 3 ≤ length (take (length dst - (written + units)) (drop (written + units) dst))
   block_fits k second (out, w, call) at_end =
       let (reported, is, b) = block_more p src last old new sub read written replaced q bytes units t (Malformed k second) d (out, w, call) in
-      let (x, zero, within, whole, count, none, broken, enough) = call.answer in
+      let (x, zero, within, whole, count, none, malformed, enough) = call.answer in
       let space : length (take (length dst - (written + units)) (drop (written + units) dst)) ≡ length old - (written + units) =
-      ap length (take_rest dst (written + units)) ∙ length-drop (written + units) dst ∙ ap (λ n. n - (written + units)) (WritesFront-length _ _ _ _ b.writes) in
-      let same = WritesFront-length _ _ _ _ d.writes in
+      ap length (take_rest dst (written + units)) ∙ length-drop (written + units) dst ∙ ap (λ n. n - (written + units)) (WritesPrefix-length _ _ _ _ b.writes) in
+      let same = WritesPrefix-length _ _ _ _ d.writes in
       elim (cases_lt 0 (length (drop read src))) [
         | inl some ↦ omega (arith, enough some, size, w.count, space)
         | inr nothing ↦
@@ -158,35 +158,35 @@ module _ (p src : List ℕ) (last : Bool) (old new sub : List ℕ) (read written
 -- U+FFFD for the reported part
 pub block_replaced : (p src : List ℕ) (last : Bool) (old new sub : List ℕ) (read written replaced n k second : ℕ) (q : List ℕ) (reported : List Part)
     → BlockText p src last old new read written replaced q reported → IsReported (Malformed k second) reported
-    → WritesFront (take (length new - written) (drop written new)) sub n (encode_utf8 0xFFFD)
+    → WritesPrefix (take (length new - written) (drop written new)) sub n (encode_utf8 0xFFFD)
     → BlockDone p src last old (put_mid written (length new - written) new sub) read (written + n) (replaced + 1) q
 block_replaced p src last old new sub read written replaced n k second q reported b (x, is, size) w =
-    let whole : b.parts ++ reported ≡ (b.parts ++ Broken x ∷ []) ++ [] = ap (λ ps. b.parts ++ ps) is ∙ sym (append-nil (b.parts ++ Broken x ∷ [])) in
+    let whole : b.parts ++ reported ≡ (b.parts ++ IllFormed x ∷ []) ++ [] = ap (λ ps. b.parts ++ ps) is ∙ sym (append-nil (b.parts ++ IllFormed x ∷ [])) in
     record {
-      parts = b.parts ++ Broken x ∷ [];
-      given = subst (λ ps. Gives p src last ps read q) whole b.given;
-      writes = WritesFront-same _ _ _ _ _ _ (WritesFront_after old new written (repaired_text b.parts) sub n (encode_utf8 0xFFFD) b.writes w) refl
-          (ap (λ xs. repaired_text b.parts ++ xs) (sym (append-nil (encode_utf8 0xFFFD))) ∙ sym (repaired_text-append b.parts (Broken x ∷ [])));
-      broken = omega (arith, b.broken, count_broken-append b.parts (Broken x ∷ []));
+      parts = b.parts ++ IllFormed x ∷ [];
+      yielded = subst (λ ps. Yields p src last ps read q) whole b.yielded;
+      writes = WritesPrefix-same _ _ _ _ _ _ (WritesPrefix_after old new written (lossy_utf8 b.parts) sub n (encode_utf8 0xFFFD) b.writes w) refl
+          (ap (λ xs. lossy_utf8 b.parts ++ xs) (sym (append-nil (encode_utf8 0xFFFD))) ∙ sym (lossy_utf8-append b.parts (IllFormed x ∷ [])));
+      malformed = omega (arith, b.malformed, malformed_count-append b.parts (IllFormed x ∷ []));
       three = omega (arith, b.three, w.count, length-encode 0xFFFD);
     }
 
 -- ---- successive calls
 -- what a call on a block yields
 abbrev AreRepairedParts : ℕ → RepairedBlock → List ℕ → List Part → Type 0
-AreRepairedParts room block out parts = (out ≡ repaired_text parts) × (block.replaced ≡ count_broken parts)
+AreRepairedParts room block out parts = (out ≡ lossy_utf8 parts) × (block.replaced ≡ malformed_count parts)
 
-sequence_text : (calls : List (Call ℕ RepairedBlock ℕ)) (parts : List Part) → AreGivenInSequence AreRepairedParts calls parts
-    → (output_of calls ≡ repaired_text parts) × (replaced_in_all calls ≡ count_broken parts)
-sequence_text [] parts e = (ap repaired_text (sym e), ap count_broken (sym e))
+sequence_text : (calls : List (Call ℕ RepairedBlock ℕ)) (parts : List Part) → AreYieldedInSequence AreRepairedParts calls parts
+    → (output_of calls ≡ lossy_utf8 parts) × (replaced_in_all calls ≡ malformed_count parts)
+sequence_text [] parts e = (ap lossy_utf8 (sym e), ap malformed_count (sym e))
 sequence_text (call ∷ calls) parts (first, others, (text, count), more, whole) =
     let rest = sequence_text calls others more in (
-      (λ i. text i ++ rest.0 i) ∙ sym (repaired_text-append first others) ∙ ap repaired_text (sym whole),
-      omega (arith, count, rest.1, count_broken-append first others, ap count_broken whole),
+      (λ i. text i ++ rest.0 i) ∙ sym (lossy_utf8-append first others) ∙ ap lossy_utf8 (sym whole),
+      omega (arith, count, rest.1, malformed_count-append first others, ap malformed_count whole),
     )
 
-blocks_give : (p b : List ℕ) (calls : List (Call ℕ RepairedBlock ℕ)) → IsPending p → IsChain IsBlockRepair p b calls → GiveTheParts AreRepairedParts (λ block. block.finished ≡ true) p b calls
-blocks_give = chain_gives IsBlockRepair AreRepairedParts (λ p src room last block read out q call. (call.parts, (call.text, call.replaced), call.given)) (λ block. block.finished ≡ true)
+blocks_give : (p b : List ℕ) (calls : List (Call ℕ RepairedBlock ℕ)) → IsPending p → IsChain IsBlockRepair p b calls → YieldTheParts AreRepairedParts (λ block. block.finished ≡ true) p b calls
+blocks_give = chain_yields IsBlockRepair AreRepairedParts (λ p src room last block read out q call. (call.parts, (call.text, call.replaced), call.yielded)) (λ block. block.finished ≡ true)
     (λ p src room last block read out q call marked e. ((call.finished.0 e).0, (call.finished.0 e).1 marked))
 
 -- what was pending before the first call
@@ -194,15 +194,15 @@ pending_before : (p b : List ℕ) (calls : List (Call ℕ RepairedBlock ℕ)) �
 pending_before p b [] h c = h refl
 pending_before p b (call ∷ calls) h c = c.0.was_pending
 
-pub blocks_front : (p b : List ℕ) (calls : List (Call ℕ RepairedBlock ℕ)) → (calls ≡ [] → IsPending p) → IsChain IsBlockRepair p b calls → RepairTheParts p b calls
-blocks_front p b calls h c =
-    let given = blocks_give p b calls (pending_before p b calls h c) c in
-    let text = sequence_text calls given.parts given.in_sequence in
-    record { parts = given.parts; front = given.front; text = text.0; replaced = text.1 }
+pub blocks_prefix : (p b : List ℕ) (calls : List (Call ℕ RepairedBlock ℕ)) → (calls ≡ [] → IsPending p) → IsChain IsBlockRepair p b calls → RepairTheParts p b calls
+blocks_prefix p b calls h c =
+    let yielded = blocks_give p b calls (pending_before p b calls h c) c in
+    let text = sequence_text calls yielded.parts yielded.in_sequence in
+    record { parts = yielded.parts; prefix = yielded.prefix; text = text.0; replaced = text.1 }
 
 pub blocks_whole : (b : List ℕ) (calls : List (Call ℕ RepairedBlock ℕ)) → IsChain IsBlockRepair [] b calls
-    → Any (λ call. (call.last ≡ true) × (call.result.finished ≡ true)) calls → IsRepairedWith b (output_of calls) (replaced_in_all calls)
+    → Any (λ call. (call.last ≡ true) × (call.result.finished ≡ true)) calls → IsLossyDecodeWith b (output_of calls) (replaced_in_all calls)
 blocks_whole b calls c some =
-    let given = blocks_give [] b calls (inl refl) c in
-    let text = sequence_text calls given.parts given.in_sequence in
-    (given.parts, given.all some, text.0, text.1)
+    let yielded = blocks_give [] b calls (inl refl) c in
+    let text = sequence_text calls yielded.parts yielded.in_sequence in
+    (yielded.parts, yielded.all some, text.0, text.1)

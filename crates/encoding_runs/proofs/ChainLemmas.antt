@@ -6,13 +6,13 @@ use Rattle.std.proofs.lemmas.Bool.{or_parts}
 use Rattle.std.proofs.lemmas.List.{append_assoc, append_cancel_right, length-append, length-drop, length-take, take-append-drop, take_all, drop-append-le, drop-drop, nil_from_length}
 use Rattle.encoding_definitions.specs.Pending.{IsPending}
 use Rattle.encoding_definitions.specs.Parts.{Part, bytes_of, StartsWith}
-use Rattle.encoding_definitions.specs.Giving.{Gives}
-use Rattle.encoding_text.specs.Decoding.{IsCall}
+use Rattle.encoding_definitions.specs.Yielding.{Yields}
+use Rattle.encoding_text.specs.Decoding.{DecodeStep}
 use Rattle.encoding_text.specs.declared.decoder.DecoderResult.{DecoderResult}
 use Rattle.encoding_text.specs.declared.decoder.DecoderResult.TheVariants.{InputEmpty}
 use Rattle.encoding_definitions.proofs.Decomposition.DecompositionLemmas.{StartsWith-append, StartsWith-bytes}
 use Rattle.encoding_runs.specs.Calls.{CallRelation, Call, IsChain, read_in_all, pending_after, some_last}
-use Rattle.encoding_runs.specs.DecoderCalls.{AreGivenInSequence, GiveTheParts}
+use Rattle.encoding_runs.specs.DecoderCalls.{AreYieldedInSequence, YieldTheParts}
 
 -- ---- one call, among all unread bytes
 -- a piece and the bytes after it are all bytes
@@ -22,53 +22,53 @@ piece_bytes p b n = append_assoc p (take n b) (drop n b) ∙ ap (λ xs. p ++ xs)
 unread_bytes : (q b : List ℕ) (n r : ℕ) → r ≤ length (take n b) → q ++ drop r (take n b) ++ drop n b ≡ q ++ drop r b
 unread_bytes q b n r h = append_assoc q (drop r (take n b)) (drop n b) ∙ ap (λ xs. q ++ xs) (sym (drop-append-le r (take n b) (drop n b) h) ∙ ap (drop r) (take-append-drop n b))
 
-first_of_all : (p b : List ℕ) (n : ℕ) (last : Bool) (parts : List Part) (read : ℕ) (q : List ℕ) → Gives p (take n b) last parts read q → (last ≡ true → length b ≤ n)
+first_of_all : (p b : List ℕ) (n : ℕ) (last : Bool) (parts : List Part) (read : ℕ) (q : List ℕ) → Yields p (take n b) last parts read q → (last ≡ true → length b ≤ n)
     → StartsWith (p ++ b) parts (q ++ drop read b)
 first_of_all p b n true parts read q g whole = subst (λ xs. StartsWith (p ++ xs) parts (q ++ drop read xs)) (take_all n b (whole refl)) g.first
-first_of_all p b n false parts read q g whole = rw (piece_bytes p b n, unread_bytes q b n read g.within) at (g.whatever_follows refl (drop n b))
+first_of_all p b n false parts read q g whole = rw (piece_bytes p b n, unread_bytes q b n read g.within) at (g.stable refl (drop n b))
 
-first_whatever_follows : (p b : List ℕ) (n : ℕ) (last : Bool) (parts : List Part) (read : ℕ) (q : List ℕ) → Gives p (take n b) last parts read q → last ≡ false
+first_stable : (p b : List ℕ) (n : ℕ) (last : Bool) (parts : List Part) (read : ℕ) (q : List ℕ) → Yields p (take n b) last parts read q → last ≡ false
     → (more : List ℕ) → StartsWith (p ++ b ++ more) parts (q ++ drop read b ++ more)
-first_whatever_follows p b n last parts read q g e more =
-    let front = p ++ take n b in
+first_stable p b n last parts read q g e more =
+    let prefix = p ++ take n b in
     let back = q ++ drop read (take n b) in
-    subst (λ xs. StartsWith xs parts (q ++ drop read b ++ more)) (sym (append_assoc front (drop n b) more) ∙ ap (λ xs. xs ++ more) (piece_bytes p b n))
-    (subst (λ xs. StartsWith (front ++ (drop n b ++ more)) parts xs) (sym (append_assoc back (drop n b) more) ∙ ap (λ xs. xs ++ more) (unread_bytes q b n read g.within))
-    (g.whatever_follows e (drop n b ++ more)))
+    subst (λ xs. StartsWith xs parts (q ++ drop read b ++ more)) (sym (append_assoc prefix (drop n b) more) ∙ ap (λ xs. xs ++ more) (piece_bytes p b n))
+    (subst (λ xs. StartsWith (prefix ++ (drop n b ++ more)) parts xs) (sym (append_assoc back (drop n b) more) ∙ ap (λ xs. xs ++ more) (unread_bytes q b n read g.within))
+    (g.stable e (drop n b ++ more)))
 
-of_piece : (p b : List ℕ) (n : ℕ) (last : Bool) (parts : List Part) (read : ℕ) (q : List ℕ) → Gives p (take n b) last parts read q → (last ≡ true → length b ≤ n) → Gives p b last parts read q
+of_piece : (p b : List ℕ) (n : ℕ) (last : Bool) (parts : List Part) (read : ℕ) (q : List ℕ) → Yields p (take n b) last parts read q → (last ≡ true → length b ≤ n) → Yields p b last parts read q
 of_piece p b n last parts read q g whole = record {
   within = omega (arith, g.within, length-take n b);
   first = first_of_all p b n last parts read q g whole;
   pending = g.pending;
-  whatever_follows = first_whatever_follows p b n last parts read q g;
+  stable = first_stable p b n last parts read q g;
 }
 
 -- what a call yields, and what the next one yields of the rest
-pub gives_then : (p src : List ℕ) (last next both : Bool) (ps qs : List Part) (r s : ℕ) (q t : List ℕ) → (both ≡ false → (last ≡ false) × (next ≡ false)) → Gives p src last ps r q
-    → Gives q (drop r src) next qs s t → Gives p src both (ps ++ qs) (r + s) t
-gives_then p src last next both ps qs r s q t none g h = record {
+pub yields_then : (p src : List ℕ) (last next both : Bool) (ps qs : List Part) (r s : ℕ) (q t : List ℕ) → (both ≡ false → (last ≡ false) × (next ≡ false)) → Yields p src last ps r q
+    → Yields q (drop r src) next qs s t → Yields p src both (ps ++ qs) (r + s) t
+yields_then p src last next both ps qs r s q t none g h = record {
   within = omega (arith, g.within, h.within, length-drop r src);
   first = subst (λ xs. StartsWith (p ++ src) (ps ++ qs) (t ++ xs)) (drop-drop s r src)
       (StartsWith-append (p ++ src) ps (q ++ drop r src) qs (t ++ drop s (drop r src)) g.first h.first);
   pending = h.pending;
-  whatever_follows = λ e more.
+  stable = λ e more.
       subst (λ xs. StartsWith (p ++ src ++ more) (ps ++ qs) (t ++ xs ++ more)) (drop-drop s r src)
-      (StartsWith-append (p ++ src ++ more) ps (q ++ drop r src ++ more) qs (t ++ drop s (drop r src) ++ more) (g.whatever_follows (none e).0 more) (h.whatever_follows (none e).1 more));
+      (StartsWith-append (p ++ src ++ more) ps (q ++ drop r src ++ more) qs (t ++ drop s (drop r src) ++ more) (g.stable (none e).0 more) (h.stable (none e).1 more));
 }
 
 -- the bytes of the parts, then the pending ones, are the bytes pending before and the bytes read
-pub given_bytes : (p src : List ℕ) (parts : List Part) (read : ℕ) (q : List ℕ) → StartsWith (p ++ src) parts (q ++ drop read src)
+pub yielded_bytes : (p src : List ℕ) (parts : List Part) (read : ℕ) (q : List ℕ) → StartsWith (p ++ src) parts (q ++ drop read src)
     → flat_map bytes_of parts ++ q ≡ p ++ take read src
-given_bytes p src parts read q s =
+yielded_bytes p src parts read q s =
     sym (append_cancel_right (p ++ take read src) (flat_map bytes_of parts ++ q) (drop read src)
     (piece_bytes p src read ∙ StartsWith-bytes (p ++ src) parts (q ++ drop read src) s ∙ sym (append_assoc (flat_map bytes_of parts) q (drop read src))))
 
 -- a decode call marked last that returns `InputEmpty` reads all and leaves nothing pending
 pub decoded_empty : {A : Type 0} (encode : ℕ → List A) (need : ℕ) (p src : List ℕ) (room : ℕ) (last : Bool) (result : DecoderResult) (read : ℕ) (out : List A) (q : List ℕ)
-    → IsCall encode need p src room last result read out q → last ≡ true → result ≡ InputEmpty → (read ≡ length src) × (q ≡ [])
+    → DecodeStep encode need p src room last result read out q → last ≡ true → result ≡ InputEmpty → (read ≡ length src) × (q ≡ [])
 decoded_empty encode need p src room last result read out q call marked e =
-    let empty = subst (λ x. IsCall encode need p src room last x read out q) e call in
+    let empty = subst (λ x. DecodeStep encode need p src room last x read out q) e call in
     (empty.answer.0, empty.answer.2 marked)
 
 -- ---- some of several
@@ -80,32 +80,32 @@ pub none_of_nil : {X : Type 0} (P : X → Type 0) → Any P [] → ⊥
 none_of_nil P (k, y, l, e, h) = omega (arith, l)
 
 -- ---- the chain, of calls that each yield first parts
-module _ {Form Result A : Type 0} (Does : CallRelation Form Result A) (AreGiven : Form → Result → List A → List Part → Type 0)
-    (gives : (p src : List ℕ) (form : Form) (last : Bool) (result : Result) (read : ℕ) (out : List A) (q : List ℕ) → Does p src form last result read out q
-    → (parts : List Part) × AreGiven form result out parts × Gives p src last parts read q) where
+module _ {Form Result A : Type 0} (Does : CallRelation Form Result A) (AreYielded : Form → Result → List A → List Part → Type 0)
+    (yields : (p src : List ℕ) (form : Form) (last : Bool) (result : Result) (read : ℕ) (out : List A) (q : List ℕ) → Does p src form last result read out q
+    → (parts : List Part) × AreYielded form result out parts × Yields p src last parts read q) where
   record Given (p b : List ℕ) (calls : List (Call Form Result A)) : Type 0 where
     pub parts : List Part
-    pub in_sequence : AreGivenInSequence AreGiven calls parts
-    pub front : Gives p b (some_last calls) parts (read_in_all calls) (pending_after p calls)
+    pub in_sequence : AreYieldedInSequence AreYielded calls parts
+    pub prefix : Yields p b (some_last calls) parts (read_in_all calls) (pending_after p calls)
 
-  chain_given : (p b : List ℕ) (calls : List (Call Form Result A)) → IsPending p → IsChain Does p b calls → Given p b calls
-  chain_given p b [] h c = record { parts = []; in_sequence = refl; front = record { within = omega arith; first = refl; pending = h; whatever_follows = λ e more. refl } }
-  chain_given p b (call ∷ calls) h (does, whole, c) =
-      let (first, are, g) = gives p (take call.piece b) call.form call.last call.result call.read call.out call.pending does in
-      let rest = chain_given call.pending (drop call.read b) calls g.pending c in
+  chain_yielded : (p b : List ℕ) (calls : List (Call Form Result A)) → IsPending p → IsChain Does p b calls → Given p b calls
+  chain_yielded p b [] h c = record { parts = []; in_sequence = refl; prefix = record { within = omega arith; first = refl; pending = h; stable = λ e more. refl } }
+  chain_yielded p b (call ∷ calls) h (does, whole, c) =
+      let (first, are, g) = yields p (take call.piece b) call.form call.last call.result call.read call.out call.pending does in
+      let rest = chain_yielded call.pending (drop call.read b) calls g.pending c in
       record {
         parts = first ++ rest.parts;
         in_sequence = (first, rest.parts, are, rest.in_sequence, refl);
-        front = gives_then p b call.last (some_last calls) _ first rest.parts call.read (read_in_all calls) call.pending _ (or_parts call.last (some_last calls))
-            (of_piece p b call.piece call.last first call.read call.pending g whole) rest.front;
+        prefix = yields_then p b call.last (some_last calls) _ first rest.parts call.read (read_in_all calls) call.pending _ (or_parts call.last (some_last calls))
+            (of_piece p b call.piece call.last first call.read call.pending g whole) rest.prefix;
       }
 
   -- with nothing pending and nothing unread, calls yield nothing
   nothing_left : (p b : List ℕ) (calls : List (Call Form Result A)) → p ≡ [] → length b ≡ 0 → IsChain Does p b calls → (read_in_all calls ≡ 0) × (pending_after p calls ≡ [])
   nothing_left p b calls e n c =
-      let given = chain_given p b calls (inl e) c in
-      let bytes = given_bytes p b given.parts (read_in_all calls) (pending_after p calls) given.front.first in
-      (omega (arith, given.front.within), nil_from_length _ (omega (arith, ap length bytes, ap length e, length-append p (take (read_in_all calls) b), length-append (flat_map bytes_of given.parts) (pending_after p calls), length-take (read_in_all calls) b)))
+      let yielded = chain_yielded p b calls (inl e) c in
+      let bytes = yielded_bytes p b yielded.parts (read_in_all calls) (pending_after p calls) yielded.prefix.first in
+      (omega (arith, yielded.prefix.within), nil_from_length _ (omega (arith, ap length bytes, ap length e, length-append p (take (read_in_all calls) b), length-append (flat_map bytes_of yielded.parts) (pending_after p calls), length-take (read_in_all calls) b)))
 
   -- ---- to the end of the bytes, by a call marked last that reads all and leaves nothing pending
   module _ (IsInputEmpty : Result → Type 0)
@@ -117,7 +117,7 @@ module _ {Form Result A : Type 0} (Does : CallRelation Form Result A) (AreGiven 
     chain_ends : (p b : List ℕ) (calls : List (Call Form Result A)) → IsChain Does p b calls → Any Ends calls → (read_in_all calls ≡ length b) × (pending_after p calls ≡ [])
     chain_ends p b [] c some = absurd (none_of_nil Ends some)
     chain_ends p b (call ∷ calls) (does, whole, c) some =
-        let (first, are, g) = gives p (take call.piece b) call.form call.last call.result call.read call.out call.pending does in
+        let (first, are, g) = yields p (take call.piece b) call.form call.last call.result call.read call.out call.pending does in
         elim (any_parts Ends call calls some) [
           | inl (last, empty) ↦
               let all = ends p (take call.piece b) call.form call.last call.result call.read call.out call.pending does last empty in
@@ -128,18 +128,18 @@ module _ {Form Result A : Type 0} (Does : CallRelation Form Result A) (AreGiven 
               (omega (arith, rest.0, g.within, length-take call.piece b, length-drop call.read b), rest.1)
         ]
 
-    pub chain_gives : (p b : List ℕ) (calls : List (Call Form Result A)) → IsPending p → IsChain Does p b calls → GiveTheParts AreGiven IsInputEmpty p b calls
-    chain_gives p b calls h c =
-        let given = chain_given p b calls h c in
+    pub chain_yields : (p b : List ℕ) (calls : List (Call Form Result A)) → IsPending p → IsChain Does p b calls → YieldTheParts AreYielded IsInputEmpty p b calls
+    chain_yields p b calls h c =
+        let yielded = chain_yielded p b calls h c in
         let q = pending_after p calls in
         record {
-          parts = given.parts;
-          in_sequence = given.in_sequence;
-          front = given.front;
-          bytes = given_bytes p b given.parts (read_in_all calls) q given.front.first;
+          parts = yielded.parts;
+          in_sequence = yielded.in_sequence;
+          prefix = yielded.prefix;
+          bytes = yielded_bytes p b yielded.parts (read_in_all calls) q yielded.prefix.first;
           all = λ some.
               let end = chain_ends p b calls c some in
               let none : q ++ drop (read_in_all calls) b ≡ [] =
               nil_from_length _ (omega (arith, length-append q (drop (read_in_all calls) b), ap length end.1, end.0, length-drop (read_in_all calls) b)) in
-              subst (λ xs. StartsWith (p ++ b) given.parts xs) none given.front.first;
+              subst (λ xs. StartsWith (p ++ b) yielded.parts xs) none yielded.prefix.first;
         }

@@ -7,14 +7,14 @@ use Rattle.std.specs.List.{AllByRecursion, flat_map, last_or}
 use Rattle.std.proofs.lemmas.Bool.{and_parts, cases_lt, le-leb}
 use Rattle.std.proofs.lemmas.List.{length-append, length-drop, length-take}
 use Rattle.std.proofs.lemmas.List.Elements.{recursion_from_All}
-use Rattle.encoding_text.specs.Decoding.{IsCall}
+use Rattle.encoding_text.specs.Decoding.{DecodeStep}
 use Rattle.encoding_text.specs.declared.decoder.DecoderResult.{DecoderResult}
 use Rattle.encoding_text.specs.declared.decoder.DecoderResult.TheVariants.{InputEmpty, OutputFull, Malformed}
 use Rattle.encoding_text.proofs.Calls.RoomLemmas.{counts, progress}
 use Rattle.encoding_runs.specs.declared.run.turns.Turn.{Turn}
 use Rattle.encoding_runs.specs.Turns.{room_of, is_marked_last}
 use Rattle.encoding_runs.specs.Calls.{Call, IsChain}
-use Rattle.encoding_runs.specs.Runs.{AreOfTurns, EachGetsOn}
+use Rattle.encoding_runs.specs.Runs.{AreOfTurns, EachMakesProgress}
 use Rattle.encoding_runs.proofs.TurnLemmas.{turn_call}
 
 -- a turn makes progress
@@ -38,7 +38,7 @@ module _ {A : Type 0} (encode : ℕ → List A) (need : ℕ) (some : 0 < need) (
 
   gets_on : (p unread : List ℕ) (room : ℕ) (turn : Turn) (result : DecoderResult) (read : ℕ) (out : List A) (q : List ℕ)
       → 1 ≤ turn.take → need ≤ turn.room → turn.last ≡ true → length unread + (need - 1) + length p ≤ room
-      → IsCall encode need p (take turn.take unread) (room_of turn room) (is_marked_last turn (length unread)) result read out q → GetsOn p unread result read q
+      → DecodeStep encode need p (take turn.take unread) (room_of turn room) (is_marked_last turn (length unread)) result read out q → GetsOn p unread result read q
   gets_on p unread room turn InputEmpty read out q one wide last l call = elim (cases_lt 0 (length unread)) [
     | inl h ↦ inl (omega (arith, call.answer.0, length-take turn.take unread))
     | inr h ↦ inr (inr (refl, call.answer.2 (marked turn (length unread) last (omega arith)), omega arith))
@@ -55,7 +55,7 @@ module _ {A : Type 0} (encode : ℕ → List A) (need : ℕ) (some : 0 < need) (
 
   -- the space left is enough for the bytes left
   room_after : (p unread : List ℕ) (room : ℕ) (turn : Turn) (last : Bool) (result : DecoderResult) (read : ℕ) (out : List A) (q : List ℕ)
-      → length unread + (need - 1) + length p ≤ room → IsCall encode need p (take turn.take unread) (room_of turn room) last result read out q
+      → length unread + (need - 1) + length p ≤ room → DecodeStep encode need p (take turn.take unread) (room_of turn room) last result read out q
       → (read ≤ length unread) × (length (drop read unread) + (need - 1) + length q ≤ room - length out)
   room_after p unread room turn last result read out q l call =
       let c = counts short_output result call in
@@ -77,14 +77,14 @@ module _ {A : Type 0} (encode : ℕ → List A) (need : ℕ) (some : 0 < need) (
   reaches_on p unread q turns before result read inside (inr (inr (e, none, h))) (inr r) = inr (omega (arith, h), ap length none, ap (λ x. Some x) e)
 
   reaches : (p unread : List ℕ) (room : ℕ) (turns : List Turn) (calls : List (Call ℕ DecoderResult A)) (before : Option DecoderResult) → Reaches p (length unread) (length turns) before
-      → AllByRecursion (GoesOn need) turns → length unread + (need - 1) + length p ≤ room → IsChain (IsCall encode need) p unread calls → AreOfTurns (length unread) room turns calls
+      → AllByRecursion (GoesOn need) turns → length unread + (need - 1) + length p ≤ room → IsChain (DecodeStep encode need) p unread calls → AreOfTurns (length unread) room turns calls
       → last_or before (map (λ call. call.result) calls) ≡ Some InputEmpty
   reaches p unread room [] [] before (inl (w, h, l)) each m c t = absurd (omega (arith, l))
   reaches p unread room [] [] before (inr (all, nil, e)) each m c t = e
   reaches p unread room [] (call ∷ calls) before r each m c t = absurd t
   reaches p unread room (turn ∷ turns) [] before r each m c t = absurd t
   reaches p unread room (turn ∷ turns) (call ∷ calls) before r ((one, wide, last), each) m (does, whole, c) (e, f, g, t) =
-      let is_call = turn_call (IsCall encode need) p unread room turn call does e f g in
+      let is_call = turn_call (DecodeStep encode need) p unread room turn call does e f g in
       let on = gets_on p unread room turn call.result call.read call.out call.pending one wide last m is_call in
       let left = room_after p unread room turn (is_marked_last turn (length unread)) call.result call.read call.out call.pending m is_call in
       let next = reaches_on p unread call.pending (length turns) before call.result call.read left.0 on (subst (λ n. Reaches p (length unread) n before) (omega arith) r) in
@@ -93,8 +93,8 @@ module _ {A : Type 0} (encode : ℕ → List A) (need : ℕ) (some : 0 < need) (
       (subst (λ n. Reaches call.pending n (length turns) (Some call.result)) (sym fewer) next) each left.1 c
       (subst (λ n. AreOfTurns n (room - length call.out) turns calls) (sym fewer) t)
 
-  pub completes : (p src : List ℕ) (room : ℕ) (turns : List Turn) (calls : List (Call ℕ DecoderResult A)) (before : Option DecoderResult) → 2 * length src + 2 ≤ length turns → EachGetsOn need turns
-      → length src + (need - 1) + length p ≤ room → IsChain (IsCall encode need) p src calls → AreOfTurns (length src) room turns calls
+  pub completes : (p src : List ℕ) (room : ℕ) (turns : List Turn) (calls : List (Call ℕ DecoderResult A)) (before : Option DecoderResult) → 2 * length src + 2 ≤ length turns → EachMakesProgress need turns
+      → length src + (need - 1) + length p ≤ room → IsChain (DecodeStep encode need) p src calls → AreOfTurns (length src) room turns calls
       → last_or before (map (λ call. call.result) calls) ≡ Some InputEmpty
   completes p src room turns calls before l each m c t =
       reaches p src room turns calls before (inl (1, (λ _. omega arith), omega (arith, l))) (recursion_from_All (GoesOn need) turns each) m c t

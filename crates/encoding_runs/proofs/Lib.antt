@@ -1,8 +1,8 @@
-pub mod SettledLemmas
+pub mod FinalLemmas
 pub mod RepairLemmas
-pub mod FrontTextLemmas
+pub mod PrefixTextLemmas
 pub mod RoundLemmas
-pub mod FrontLemmas
+pub mod PrefixLemmas
 pub mod RepeatLemmas
 pub mod EncoderChainLemmas
 pub mod EncoderRunLemmas
@@ -14,5 +14,5 @@ pub mod CompletionLemmas
 pub mod BidiLawLemmas
 pub mod CutLemmas
 pub mod MixedLemmas
-pub mod BrokenLemmas
+pub mod MalformedLemmas
 pub mod BlockLemmas

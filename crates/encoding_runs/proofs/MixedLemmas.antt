@@ -5,86 +5,86 @@ use Rattle.std.specs.List.{AllZip, flat_map}
 use Rattle.std.proofs.lemmas.List.{drop_all, length-append, length-drop, nil_from_length}
 use Rattle.encoding_definitions.specs.Pending.{IsPending}
 use Rattle.encoding_definitions.specs.Parts.{Part, StartsWith, bytes_of}
-use Rattle.encoding_definitions.specs.Giving.{Gives}
+use Rattle.encoding_definitions.specs.Yielding.{Yields}
 use Rattle.encoding_definitions.proofs.Decomposition.DecompositionLemmas.{StartsWith-bytes}
-use Rattle.encoding_text.specs.Decoding.{IsBorrowedCall}
-use Rattle.encoding_text.proofs.Calls.CallPartsLemmas.{decoded_gives}
-use Rattle.encoding_text.proofs.Calls.BorrowedLemmas.{borrowed_gives}
-use Rattle.encoding_text.proofs.Calls.OneAnswerLemmas.{one_answer}
+use Rattle.encoding_text.specs.Decoding.{BorrowedDecodeStep}
+use Rattle.encoding_text.proofs.Calls.CallPartsLemmas.{decoded_yields}
+use Rattle.encoding_text.proofs.Calls.BorrowedLemmas.{borrowed_yields}
+use Rattle.encoding_text.proofs.Calls.OneResultLemmas.{one_result}
 use Rattle.encoding_text.proofs.Calls.OnePieceLemmas.{same_piece}
 use Rattle.encoding_runs.specs.Calls.{Call, IsChain}
-use Rattle.encoding_runs.specs.DecoderCalls.{GivesFirstParts, GiveTheParts}
-use Rattle.encoding_runs.specs.MixedCalls.{Form, ToUtf16, ToUtf8, Borrowed, Answer, Decoded, Handed, IsMixedCall, AreGiven, IsInputEmpty, AnswersAgree, AreAskedTheSame, AnswerTheSame}
-use Rattle.encoding_runs.proofs.ChainLemmas.{decoded_empty, given_bytes, chain_gives}
+use Rattle.encoding_runs.specs.DecoderCalls.{YieldsFirstParts, YieldTheParts}
+use Rattle.encoding_runs.specs.MixedCalls.{Form, ToUtf16, ToUtf8, Borrowed, CallResult, Decoded, Handed, MixedDecodeStep, AreYielded, IsInputEmpty, ResultsAgree, AreAskedTheSame, ReturnTheSame}
+use Rattle.encoding_runs.proofs.ChainLemmas.{decoded_empty, yielded_bytes, chain_yields}
 
 -- ---- what calls yield
-mixed_gives : (p src : List ℕ) (form : Form) (last : Bool) (answer : Answer) (read : ℕ) (out q : List ℕ) → IsMixedCall p src form last answer read out q
-    → (parts : List Part) × AreGiven form answer out parts × Gives p src last parts read q
-mixed_gives p src (ToUtf16 room) last (Decoded r) read out q call = decoded_gives encode_utf16 2 p src room last r read out q call
-mixed_gives p src (ToUtf8 room) last (Decoded r) read out q call = decoded_gives encode_utf8 4 p src room last r read out q call
-mixed_gives p src Borrowed last (Handed returned) read out q call = borrowed_gives p src last returned read q call.0
-mixed_gives p src (ToUtf16 room) last (Handed returned) read out q call = absurd call
-mixed_gives p src (ToUtf8 room) last (Handed returned) read out q call = absurd call
-mixed_gives p src Borrowed last (Decoded r) read out q call = absurd call
+mixed_yields : (p src : List ℕ) (form : Form) (last : Bool) (answer : CallResult) (read : ℕ) (out q : List ℕ) → MixedDecodeStep p src form last answer read out q
+    → (parts : List Part) × AreYielded form answer out parts × Yields p src last parts read q
+mixed_yields p src (ToUtf16 room) last (Decoded r) read out q call = decoded_yields encode_utf16 2 p src room last r read out q call
+mixed_yields p src (ToUtf8 room) last (Decoded r) read out q call = decoded_yields encode_utf8 4 p src room last r read out q call
+mixed_yields p src Borrowed last (Handed returned) read out q call = borrowed_yields p src last returned read q call.0
+mixed_yields p src (ToUtf16 room) last (Handed returned) read out q call = absurd call
+mixed_yields p src (ToUtf8 room) last (Handed returned) read out q call = absurd call
+mixed_yields p src Borrowed last (Decoded r) read out q call = absurd call
 
 -- a call marked last that returns `InputEmpty` reads all and leaves nothing pending
-mixed_empty : (p src : List ℕ) (form : Form) (last : Bool) (answer : Answer) (read : ℕ) (out q : List ℕ) → IsMixedCall p src form last answer read out q
+mixed_empty : (p src : List ℕ) (form : Form) (last : Bool) (answer : CallResult) (read : ℕ) (out q : List ℕ) → MixedDecodeStep p src form last answer read out q
     → last ≡ true → IsInputEmpty answer → (read ≡ length src) × (q ≡ [])
 mixed_empty p src (ToUtf16 room) last (Decoded r) read out q call marked e = decoded_empty encode_utf16 2 p src room last r read out q call marked e
 mixed_empty p src (ToUtf8 room) last (Decoded r) read out q call marked e = decoded_empty encode_utf8 4 p src room last r read out q call marked e
 mixed_empty p src Borrowed last (Handed returned) read out q call marked e =
-    let empty = subst (λ x. IsBorrowedCall p src last x read q) e call.0 in
+    let empty = subst (λ x. BorrowedDecodeStep p src last x read q) e call.0 in
     (empty.answer.0, empty.answer.2 marked)
 mixed_empty p src (ToUtf16 room) last (Handed returned) read out q call marked e = absurd call
 mixed_empty p src (ToUtf8 room) last (Handed returned) read out q call marked e = absurd call
 mixed_empty p src Borrowed last (Decoded r) read out q call marked e = absurd call
 
-pub one_call_gives : (p src : List ℕ) (form : Form) (last : Bool) (answer : Answer) (read : ℕ) (out q : List ℕ) → IsMixedCall p src form last answer read out q
-    → GivesFirstParts AreGiven IsInputEmpty p src form last answer read out q
-one_call_gives p src form last answer read out q call =
-    let (parts, given, front) = mixed_gives p src form last answer read out q call in
+pub one_call_yields : (p src : List ℕ) (form : Form) (last : Bool) (answer : CallResult) (read : ℕ) (out q : List ℕ) → MixedDecodeStep p src form last answer read out q
+    → YieldsFirstParts AreYielded IsInputEmpty p src form last answer read out q
+one_call_yields p src form last answer read out q call =
+    let (parts, yielded, prefix) = mixed_yields p src form last answer read out q call in
     record {
       parts = parts;
-      given = given;
-      front = front;
-      bytes = given_bytes p src parts read q front.first;
+      yielded = yielded;
+      prefix = prefix;
+      bytes = yielded_bytes p src parts read q prefix.first;
       all = λ marked e.
           let (whole, none) = mixed_empty p src form last answer read out q call marked e in
           let rest : q ++ drop read src ≡ [] = ap (λ xs. xs ++ drop read src) none ∙ drop_all read src (omega (arith, whole)) in
-          subst (StartsWith (p ++ src) parts) rest front.first;
+          subst (StartsWith (p ++ src) parts) rest prefix.first;
     }
 
 -- a call that yields all parts reads all and leaves nothing pending
-all_read : (p src : List ℕ) (form : Form) (last : Bool) (answer : Answer) (read : ℕ) (out q : List ℕ) → GivesFirstParts AreGiven IsInputEmpty p src form last answer read out q
+all_read : (p src : List ℕ) (form : Form) (last : Bool) (answer : CallResult) (read : ℕ) (out q : List ℕ) → YieldsFirstParts AreYielded IsInputEmpty p src form last answer read out q
     → last ≡ true → IsInputEmpty answer → (read ≡ length src) × (q ≡ [])
 all_read p src form last answer read out q g marked e =
     let bytes : List ℕ = flat_map bytes_of g.parts in
     let all = ap length (StartsWith-bytes (p ++ src) g.parts [] (g.all marked e)) in
-    let first = ap length (StartsWith-bytes (p ++ src) g.parts (q ++ drop read src) g.front.first) in
+    let first = ap length (StartsWith-bytes (p ++ src) g.parts (q ++ drop read src) g.prefix.first) in
     let sizes : length q + length (drop read src) ≡ 0 =
     omega (arith, all, first, length-append bytes [], length-append bytes (q ++ drop read src), length-append q (drop read src)) in
-    (omega (arith, sizes, length-drop read src, g.front.within), nil_from_length q (omega (arith, sizes)))
+    (omega (arith, sizes, length-drop read src, g.prefix.within), nil_from_length q (omega (arith, sizes)))
 
 -- what successive calls yield follows from what each yields
-pub mixed_parts : (p b : List ℕ) (calls : List (Call Form Answer ℕ)) → IsPending p → IsChain IsMixedCall p b calls → GiveTheParts AreGiven IsInputEmpty p b calls
+pub mixed_parts : (p b : List ℕ) (calls : List (Call Form CallResult ℕ)) → IsPending p → IsChain MixedDecodeStep p b calls → YieldTheParts AreYielded IsInputEmpty p b calls
 mixed_parts =
-    chain_gives IsMixedCall AreGiven
-    (λ p src form last answer read out q call. let g = one_call_gives p src form last answer read out q call in (g.parts, g.given, g.front))
+    chain_yields MixedDecodeStep AreYielded
+    (λ p src form last answer read out q call. let g = one_call_yields p src form last answer read out q call in (g.parts, g.yielded, g.prefix))
     IsInputEmpty
-    (λ p src form last answer read out q call. all_read p src form last answer read out q (one_call_gives p src form last answer read out q call))
+    (λ p src form last answer read out q call. all_read p src form last answer read out q (one_call_yields p src form last answer read out q call))
 
 -- ---- the same results
-abbrev Agree : Answer → ℕ → List ℕ → List ℕ → Answer → ℕ → List ℕ → List ℕ → Type 0
-Agree answer read out q answer' read' out' q' = AnswersAgree answer answer' × (read ≡ read') × (out ≡ out') × (q ≡ q')
+abbrev Agree : CallResult → ℕ → List ℕ → List ℕ → CallResult → ℕ → List ℕ → List ℕ → Type 0
+Agree answer read out q answer' read' out' q' = ResultsAgree answer answer' × (read ≡ read') × (out ≡ out') × (q ≡ q')
 
-mixed_agree : (p src : List ℕ) (form : Form) (last : Bool) (answer answer' : Answer) (read read' : ℕ) (out out' q q' : List ℕ)
-    → IsMixedCall p src form last answer read out q → IsMixedCall p src form last answer' read' out' q' → Agree answer read out q answer' read' out' q'
+mixed_agree : (p src : List ℕ) (form : Form) (last : Bool) (answer answer' : CallResult) (read read' : ℕ) (out out' q q' : List ℕ)
+    → MixedDecodeStep p src form last answer read out q → MixedDecodeStep p src form last answer' read' out' q' → Agree answer read out q answer' read' out' q'
 mixed_agree p src (ToUtf16 room) last (Decoded r) (Decoded r') read read' out out' q q' call call' =
-    one_answer encode_utf16 2 p src room last r r' read read' out out' q q' call.pending_before call call'
+    one_result encode_utf16 2 p src room last r r' read read' out out' q q' call.pending_before call call'
 mixed_agree p src (ToUtf16 room) last (Decoded r) (Handed returned) read read' out out' q q' call call' = absurd call'
 mixed_agree p src (ToUtf16 room) last (Handed returned) answer' read read' out out' q q' call call' = absurd call
 mixed_agree p src (ToUtf8 room) last (Decoded r) (Decoded r') read read' out out' q q' call call' =
-    one_answer encode_utf8 4 p src room last r r' read read' out out' q q' call.pending_before call call'
+    one_result encode_utf8 4 p src room last r r' read read' out out' q q' call.pending_before call call'
 mixed_agree p src (ToUtf8 room) last (Decoded r) (Handed returned) read read' out out' q q' call call' = absurd call'
 mixed_agree p src (ToUtf8 room) last (Handed returned) answer' read read' out out' q q' call call' = absurd call
 mixed_agree p src Borrowed last (Handed returned) (Handed returned') read read' out out' q q' call call' =
@@ -93,13 +93,13 @@ mixed_agree p src Borrowed last (Handed returned) (Handed returned') read read' 
 mixed_agree p src Borrowed last (Handed returned) (Decoded r) read read' out out' q q' call call' = absurd call'
 mixed_agree p src Borrowed last (Decoded r) answer' read read' out out' q q' call call' = absurd call
 
-pub same_answers : (p b : List ℕ) (calls others : List (Call Form Answer ℕ)) → IsChain IsMixedCall p b calls → IsChain IsMixedCall p b others
-    → AllZip AreAskedTheSame calls others → AllZip AnswerTheSame calls others
-same_answers p b [] [] c d e = tt
-same_answers p b [] (other ∷ others) c d e = absurd e
-same_answers p b (call ∷ calls) [] c d e = absurd e
-same_answers p b (call ∷ calls) (other ∷ others) (does, whole, c) (does', whole', d) ((form, piece, last), e) =
+pub same_results : (p b : List ℕ) (calls others : List (Call Form CallResult ℕ)) → IsChain MixedDecodeStep p b calls → IsChain MixedDecodeStep p b others
+    → AllZip AreAskedTheSame calls others → AllZip ReturnTheSame calls others
+same_results p b [] [] c d e = tt
+same_results p b [] (other ∷ others) c d e = absurd e
+same_results p b (call ∷ calls) [] c d e = absurd e
+same_results p b (call ∷ calls) (other ∷ others) (does, whole, c) (does', whole', d) ((form, piece, last), e) =
     let asked = rw (sym form, sym piece, sym last) at does' in
     let same = mixed_agree p (take call.piece b) call.form call.last call.result other.result call.read other.read call.out other.out call.pending other.pending does asked in
     let rest = rw (sym same.3, sym same.1) at d in
-    (same, same_answers call.pending (drop call.read b) calls others c rest e)
+    (same, same_results call.pending (drop call.read b) calls others c rest e)

@@ -4,28 +4,28 @@ use Rattle.std.specs.List.{flat_map}
 use Rattle.std.proofs.lemmas.Grind.{flat_map-append}
 use Rattle.std.proofs.lemmas.List.{append-nil, length-append}
 use Rattle.encoding_definitions.specs.Pending.{IsPending}
-use Rattle.encoding_definitions.specs.Parts.{Part, Character, Broken, characters_of}
-use Rattle.encoding_text.specs.Decoding.{IsCall}
+use Rattle.encoding_definitions.specs.Parts.{Part, Character, IllFormed, characters_of}
+use Rattle.encoding_text.specs.Decoding.{DecodeStep}
 use Rattle.encoding_text.specs.declared.decoder.DecoderResult.{DecoderResult}
 use Rattle.encoding_text.specs.declared.decoder.DecoderResult.TheVariants.{InputEmpty, OutputFull, Malformed}
-use Rattle.encoding_text.specs.GivenParts.{AreDecoded, IsReported}
-use Rattle.encoding_text.proofs.Calls.CallPartsLemmas.{decoded_gives}
-use Rattle.encoding_definitions.proofs.LongestFronts.FrontsLemmas.{WritesFront-same}
+use Rattle.encoding_text.specs.YieldedParts.{AreDecoded, IsReported}
+use Rattle.encoding_text.proofs.Calls.CallPartsLemmas.{decoded_yields}
+use Rattle.encoding_definitions.proofs.LongestPrefixes.PrefixesLemmas.{WritesPrefix-same}
 use Rattle.encoding_runs.specs.declared.run.turns.Turn.{Turn}
 use Rattle.encoding_runs.specs.declared.run.decoding.Report.{Report}
 use Rattle.encoding_runs.specs.declared.run.decoding.Outcome.{Outcome}
 use Rattle.encoding_runs.specs.Calls.{Call, output_of}
-use Rattle.encoding_runs.specs.DecoderCalls.{AreGivenInSequence}
+use Rattle.encoding_runs.specs.DecoderCalls.{AreYieldedInSequence}
 use Rattle.encoding_runs.specs.DecoderRuns.{reports_of, Delivers}
 use Rattle.encoding_runs.specs.Steps.Reports.{report_of, reports_of_calls, IsReportedRun}
-use Rattle.encoding_runs.proofs.ChainLemmas.{decoded_empty, chain_gives}
+use Rattle.encoding_runs.proofs.ChainLemmas.{decoded_empty, chain_yields}
 use Rattle.encoding_runs.proofs.RepairLemmas.{pending_length}
 
 -- ---- the characters and the reports of parts
 characters_of-append : (ps qs : List Part) → characters_of (ps ++ qs) ≡ characters_of ps ++ characters_of qs
 characters_of-append [] qs = refl
 characters_of-append (Character c ∷ ps) qs = ap (λ xs. c ∷ xs) (characters_of-append ps qs)
-characters_of-append (Broken x ∷ ps) qs = characters_of-append ps qs
+characters_of-append (IllFormed x ∷ ps) qs = characters_of-append ps qs
 
 characters_of-characters : (cs : List ℕ) → characters_of (map Character cs) ≡ cs
 characters_of-characters [] = refl
@@ -45,7 +45,7 @@ module _ {A : Type 0} (encode : ℕ → List A) where
       omega (arith, length-append (encode c) (flat_map encode (characters_of ps))) in
       reports_of-append (place + length (encode c)) ps qs
       ∙ ap (λ n. reports_of encode (place + length (encode c)) ps ++ reports_of encode n qs) size
-  reports_of-append place (Broken x ∷ ps) qs = ap (λ rs. record { place = place; length = length x } ∷ rs) (reports_of-append place ps qs)
+  reports_of-append place (IllFormed x ∷ ps) qs = ap (λ rs. record { place = place; length = length x } ∷ rs) (reports_of-append place ps qs)
 
   reports_of-characters : (place : ℕ) (cs : List ℕ) → reports_of encode place (map Character cs) ≡ []
   reports_of-characters place [] = refl
@@ -57,14 +57,14 @@ module _ {A : Type 0} (encode : ℕ → List A) where
   reports_of-reported place (Malformed k second) reported (x, e, size) = ap (reports_of encode place) e ∙ ap (λ n. record { place = place; length = n } ∷ []) size
 
   -- ---- what a call yields
-  given_characters : (cs : List ℕ) (answer : DecoderResult) (reported : List Part) → IsReported answer reported → characters_of (map Character cs ++ reported) ≡ cs
-  given_characters cs answer reported r =
+  yielded_characters : (cs : List ℕ) (answer : DecoderResult) (reported : List Part) → IsReported answer reported → characters_of (map Character cs ++ reported) ≡ cs
+  yielded_characters cs answer reported r =
       characters_of-append (map Character cs) reported ∙ ap (λ xs. xs ++ characters_of reported) (characters_of-characters cs)
       ∙ ap (λ xs. cs ++ xs) (no_characters_reported answer reported r) ∙ append-nil cs
 
-  given_reports : (place : ℕ) (cs : List ℕ) (answer : DecoderResult) (reported : List Part) → IsReported answer reported
+  yielded_reports : (place : ℕ) (cs : List ℕ) (answer : DecoderResult) (reported : List Part) → IsReported answer reported
       → reports_of encode place (map Character cs ++ reported) ≡ report_of answer (place + length (flat_map encode cs))
-  given_reports place cs answer reported r =
+  yielded_reports place cs answer reported r =
       reports_of-append place (map Character cs) reported
       ∙ ap (λ rs. rs ++ reports_of encode (place + length (flat_map encode (characters_of (map Character cs)))) reported) (reports_of-characters place cs)
       ∙ ap (λ xs. reports_of encode (place + length (flat_map encode xs)) reported) (characters_of-characters cs)
@@ -74,23 +74,23 @@ module _ {A : Type 0} (encode : ℕ → List A) where
   abbrev Decoded : ℕ → DecoderResult → List A → List Part → Type 0
   Decoded room = AreDecoded encode
 
-  given_output : (calls : List (Call ℕ DecoderResult A)) (parts : List Part) → AreGivenInSequence Decoded calls parts → output_of calls ≡ flat_map encode (characters_of parts)
-  given_output [] parts e = sym (ap (λ xs. flat_map encode (characters_of xs)) e)
-  given_output (call ∷ calls) parts (first, others, (cs, reported, scalars, out, is, e), given, whole) =
+  yielded_output : (calls : List (Call ℕ DecoderResult A)) (parts : List Part) → AreYieldedInSequence Decoded calls parts → output_of calls ≡ flat_map encode (characters_of parts)
+  yielded_output [] parts e = sym (ap (λ xs. flat_map encode (characters_of xs)) e)
+  yielded_output (call ∷ calls) parts (first, others, (cs, reported, scalars, out, is, e), yielded, whole) =
       let here : call.out ≡ flat_map encode (characters_of first) =
-      out ∙ ap (flat_map encode) (sym (ap characters_of e ∙ given_characters cs call.result reported is)) in
-      (λ i. here i ++ given_output calls others given i) ∙ sym (flat_map-append encode (characters_of first) (characters_of others))
+      out ∙ ap (flat_map encode) (sym (ap characters_of e ∙ yielded_characters cs call.result reported is)) in
+      (λ i. here i ++ yielded_output calls others yielded i) ∙ sym (flat_map-append encode (characters_of first) (characters_of others))
       ∙ ap (flat_map encode) (sym (ap characters_of whole ∙ characters_of-append first others))
 
-  given_places : (place : ℕ) (calls : List (Call ℕ DecoderResult A)) (parts : List Part) → AreGivenInSequence Decoded calls parts → reports_of_calls place calls ≡ reports_of encode place parts
-  given_places place [] parts e = sym (ap (reports_of encode place) e)
-  given_places place (call ∷ calls) parts (first, others, (cs, reported, scalars, out, is, e), given, whole) =
+  yielded_places : (place : ℕ) (calls : List (Call ℕ DecoderResult A)) (parts : List Part) → AreYieldedInSequence Decoded calls parts → reports_of_calls place calls ≡ reports_of encode place parts
+  yielded_places place [] parts e = sym (ap (reports_of encode place) e)
+  yielded_places place (call ∷ calls) parts (first, others, (cs, reported, scalars, out, is, e), yielded, whole) =
       let there = place + length call.out in
       let here : call.out ≡ flat_map encode (characters_of first) =
-      out ∙ ap (flat_map encode) (sym (ap characters_of e ∙ given_characters cs call.result reported is)) in
+      out ∙ ap (flat_map encode) (sym (ap characters_of e ∙ yielded_characters cs call.result reported is)) in
       let one : report_of call.result there ≡ reports_of encode place first =
-      ap (λ xs. report_of call.result (place + length xs)) out ∙ sym (ap (reports_of encode place) e ∙ given_reports place cs call.result reported is) in
-      (λ i. one i ++ given_places there calls others given i)
+      ap (λ xs. report_of call.result (place + length xs)) out ∙ sym (ap (reports_of encode place) e ∙ yielded_reports place cs call.result reported is) in
+      (λ i. one i ++ yielded_places there calls others yielded i)
       ∙ ap (λ xs. reports_of encode place first ++ reports_of encode (place + length xs) others) here
       ∙ sym (ap (reports_of encode place) whole ∙ reports_of-append place first others)
 
@@ -99,11 +99,11 @@ module _ {A : Type 0} (encode : ℕ → List A) where
       → IsReportedRun encode need p src turns old new old_reports new_reports outcome q → Delivers encode need p src turns old new old_reports new_reports outcome q
   delivers need p src turns old new old_reports new_reports outcome q h reported =
       let run = reported.run in
-      let given = chain_gives (IsCall encode need) Decoded (decoded_gives encode need) (λ result. result ≡ InputEmpty) (decoded_empty encode need) p src run.calls h run.chain in
+      let yielded = chain_yields (DecodeStep encode need) Decoded (decoded_yields encode need) (λ result. result ≡ InputEmpty) (decoded_empty encode need) p src run.calls h run.chain in
       record {
         run = run;
-        given = given;
-        characters = WritesFront-same _ _ _ _ _ _ run.writes refl (given_output run.calls given.parts given.in_sequence);
-        broken = WritesFront-same _ _ _ _ _ _ reported.reports refl (given_places 0 run.calls given.parts given.in_sequence);
-        at_most_three = pending_length q (subst IsPending (sym run.leaves) given.front.pending);
+        yielded = yielded;
+        characters = WritesPrefix-same _ _ _ _ _ _ run.writes refl (yielded_output run.calls yielded.parts yielded.in_sequence);
+        malformed = WritesPrefix-same _ _ _ _ _ _ reported.reports refl (yielded_places 0 run.calls yielded.parts yielded.in_sequence);
+        at_most_three = pending_length q (subst IsPending (sym run.leaves) yielded.prefix.pending);
       }

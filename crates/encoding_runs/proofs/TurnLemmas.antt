@@ -5,11 +5,11 @@ use Rattle.std.proofs.lemmas.Bool.Decides.{nat_tests}
 use Rattle.std.proofs.lemmas.Grind.{flat_map-append}
 use Rattle.std.proofs.lemmas.List.{append-nil, append_assoc, length-append, length-drop, length-take, take-append-drop, take_rest, drop-append-le, drop-drop}
 use borrow.Rule.Slice.PartMut.{put_mid}
-use Rattle.encoding_definitions.specs.Fronts.{WritesFront}
-use Rattle.encoding_text.specs.Decoding.{IsCall}
+use Rattle.encoding_definitions.specs.Prefixes.{WritesPrefix}
+use Rattle.encoding_text.specs.Decoding.{DecodeStep}
 use Rattle.encoding_text.specs.declared.decoder.DecoderResult.{DecoderResult}
 use Rattle.encoding_text.specs.declared.decoder.DecoderResult.TheVariants.{InputEmpty, OutputFull, Malformed}
-use Rattle.encoding_definitions.proofs.LongestFronts.FrontsLemmas.{WritesFront-length, WritesFront-same, WritesFront_after}
+use Rattle.encoding_definitions.proofs.LongestPrefixes.PrefixesLemmas.{WritesPrefix-length, WritesPrefix-same, WritesPrefix_after}
 use Rattle.encoding_runs.specs.declared.run.turns.Turn.{Turn}
 use Rattle.encoding_runs.specs.Turns.{room_of, is_marked_last}
 use Rattle.encoding_runs.specs.declared.run.decoding.Report.{Report}
@@ -19,8 +19,8 @@ use Rattle.encoding_runs.specs.Runs.{AreOfTurns, IsRun}
 use Rattle.encoding_runs.specs.Steps.Reports.{report_of, reports_of_calls, IsReportedRun}
 
 -- what a call wrote into a prefix of the destination
-pub WritesFront_within : {A : Type 0} (old sub : List A) (room n : ℕ) (out : List A) → WritesFront (take room old) sub n out → WritesFront old (sub ++ drop room old) n out
-WritesFront_within old sub room n out w = record {
+pub WritesPrefix_within : {A : Type 0} (old sub : List A) (room n : ℕ) (out : List A) → WritesPrefix (take room old) sub n out → WritesPrefix old (sub ++ drop room old) n out
+WritesPrefix_within old sub room n out w = record {
   count = w.count;
   fits = omega (arith, w.fits, length-take room old);
   placed = ap (λ xs. xs ++ drop room old) w.placed ∙ append_assoc out (drop n (take room old)) (drop room old)
@@ -95,14 +95,14 @@ module _ {Result A : Type 0} (Does : CallRelation ℕ Result A) where
 
   -- the run of the turns so far, and the call of the next one on the unread source, into the rest of the destination
   pub run_push : (p src : List ℕ) (turns : List Turn) (old mid : List A) (read written : ℕ) (result : Option Result) (q : List ℕ) (turn : Turn) (sub out : List A) (r : Result) (more count : ℕ) (after : List ℕ)
-      → IsRun Does p src turns old mid read written result q → WritesFront (take (length mid - written) (drop written mid)) sub count out
+      → IsRun Does p src turns old mid read written result q → WritesPrefix (take (length mid - written) (drop written mid)) sub count out
       → Does q (take turn.take (take (length src - read) (drop read src))) (room_of turn (length (take (length mid - written) (drop written mid))))
       (is_marked_last turn (length (take (length src - read) (drop read src)))) r more out after
       → IsRun Does p src (turns ++ turn ∷ []) old (put_mid written (length mid - written) mid sub) (read + more) (written + count) (Some r) after
   run_push p src turns old mid read written result q turn sub out r more count after run writes does =
       let unread : take (length src - read) (drop read src) ≡ drop (read_in_all run.calls) src = take_rest src read ∙ ap (λ n. drop n src) run.reads in
       let left : length (take (length mid - written) (drop written mid)) ≡ length old - written =
-      ap length (take_rest mid written) ∙ length-drop written mid ∙ omega (arith, WritesFront-length _ _ _ _ run.writes) in
+      ap length (take_rest mid written) ∙ length-drop written mid ∙ omega (arith, WritesPrefix-length _ _ _ _ run.writes) in
       let call : Call ℕ Result A = record {
         form = room_of turn (length old - written);
         piece = turn.take;
@@ -123,7 +123,7 @@ module _ {Result A : Type 0} (Does : CallRelation ℕ Result A) where
             (ap (λ n. room_of turn (length old - n)) run.writes.count)
             (ap (λ n. is_marked_last turn (length src - n)) run.reads);
         reads = omega (arith, run.reads, read_push call run.calls);
-        writes = WritesFront-same _ _ _ _ _ _ (WritesFront_after old mid written (output_of run.calls) sub count out run.writes writes) refl (sym (output_push call run.calls));
+        writes = WritesPrefix-same _ _ _ _ _ _ (WritesPrefix_after old mid written (output_of run.calls) sub count out run.writes writes) refl (sym (output_push call run.calls));
         returns = sym (result_push call run.calls None);
         leaves = sym (pending_push call run.calls p);
       }
@@ -150,18 +150,18 @@ module _ {A : Type 0} where
   pub reported_push : (encode : ℕ → List A) (need : ℕ) (p src : List ℕ) (turns : List Turn) (old mid : List A) (old_reports mid_reports : List Report) (outcome : Outcome) (q : List ℕ) (turn : Turn)
       (sub out : List A) (places : List Report) (result : DecoderResult) (read written reports : ℕ) (after : List ℕ)
       → IsReportedRun encode need p src turns old mid old_reports mid_reports outcome q
-      → WritesFront (take (length mid - outcome.written) (drop outcome.written mid)) sub written out
-      → IsCall encode need q (take turn.take (take (length src - outcome.read) (drop outcome.read src))) (room_of turn (length (take (length mid - outcome.written) (drop outcome.written mid))))
+      → WritesPrefix (take (length mid - outcome.written) (drop outcome.written mid)) sub written out
+      → DecodeStep encode need q (take turn.take (take (length src - outcome.read) (drop outcome.read src))) (room_of turn (length (take (length mid - outcome.written) (drop outcome.written mid))))
       (is_marked_last turn (length (take (length src - outcome.read) (drop outcome.read src)))) result read out after
-      → WritesFront (take (length mid_reports - outcome.reports) (drop outcome.reports mid_reports)) places reports (report_of result (outcome.written + written))
+      → WritesPrefix (take (length mid_reports - outcome.reports) (drop outcome.reports mid_reports)) places reports (report_of result (outcome.written + written))
       → IsReportedRun encode need p src (turns ++ turn ∷ []) old (put_mid outcome.written (length mid - outcome.written) mid sub) old_reports
       (put_mid outcome.reports (length mid_reports - outcome.reports) mid_reports places)
       (record { read = outcome.read + read; written = outcome.written + written; reports = outcome.reports + reports; result = Some result }) after
   unfolding run_push
   reported_push encode need p src turns old mid old_reports mid_reports outcome q turn sub out places result read written reports after before writes is_call reported =
       let calls : List (Call ℕ DecoderResult A) = before.run.calls in record {
-        run = run_push (IsCall encode need) p src turns old mid outcome.read outcome.written outcome.result q turn sub out result read written after before.run writes is_call;
-        reports = WritesFront-same _ _ _ _ _ _
-            (WritesFront_after old_reports mid_reports outcome.reports (reports_of_calls 0 calls) places reports (report_of result (outcome.written + written)) before.reports reported) refl
+        run = run_push (DecodeStep encode need) p src turns old mid outcome.read outcome.written outcome.result q turn sub out result read written after before.run writes is_call;
+        reports = WritesPrefix-same _ _ _ _ _ _
+            (WritesPrefix_after old_reports mid_reports outcome.reports (reports_of_calls 0 calls) places reports (report_of result (outcome.written + written)) before.reports reported) refl
             (ap (λ n. reports_of_calls 0 calls ++ report_of result n) (omega (arith, before.run.writes.count, writes.count)) ∙ sym (reports_push 0 calls _));
       }

@@ -4,18 +4,18 @@ use Rattle.std.specs.List.{flat_map}
 use Rattle.std.specs.Str.{IsUtf8}
 use Rattle.std.proofs.lemmas.List.{append-nil}
 use Rattle.std.proofs.lemmas.Str.{IsUtf8-nil, IsUtf8-append, IsUtf8-encode}
-use Rattle.encoding_definitions.specs.Parts.{Part, Character, Broken, StartsWith, ArePartsOf, bytes_of, count_broken}
-use Rattle.encoding_definitions.proofs.Decomposition.DecompositionLemmas.{StartsWith-characters, same_parts, parts-bytes, count_broken-characters}
+use Rattle.encoding_definitions.specs.Parts.{Part, Character, IllFormed, StartsWith, ArePartsOf, bytes_of, malformed_count}
+use Rattle.encoding_definitions.proofs.Decomposition.DecompositionLemmas.{StartsWith-characters, same_parts, parts-bytes, malformed_count-characters}
 
-none_broken : (bs : List ℕ) (parts : List Part) → ArePartsOf bs parts → IsUtf8 bs → count_broken parts ≡ 0
-none_broken bs parts are (cs, (scalars, spelled)) =
+none_malformed : (bs : List ℕ) (parts : List Part) → ArePartsOf bs parts → IsUtf8 bs → malformed_count parts ≡ 0
+none_malformed bs parts are (cs, (scalars, spelled)) =
     let characters : ArePartsOf bs (map Character cs) = subst (λ xs. ArePartsOf xs (map Character cs)) (append-nil (encode_utf8_all cs) ∙ spelled) (StartsWith-characters cs [] scalars) in
-    ap count_broken (same_parts bs parts (map Character cs) are characters) ∙ count_broken-characters cs
+    ap malformed_count (same_parts bs parts (map Character cs) are characters) ∙ malformed_count-characters cs
 
-unbroken : (bs : List ℕ) (parts : List Part) (rest : List ℕ) → StartsWith bs parts rest → count_broken parts ≡ 0 → IsUtf8 (flat_map bytes_of parts)
-unbroken bs [] rest h none = IsUtf8-nil
-unbroken bs (Character c ∷ parts) rest (after, first, h) none = IsUtf8-append (encode_utf8 c) (flat_map bytes_of parts) (IsUtf8-encode c first.0) (unbroken after parts rest h none)
-unbroken bs (Broken bytes ∷ parts) rest h none = absurd (omega (arith, none))
+no_malformed : (bs : List ℕ) (parts : List Part) (rest : List ℕ) → StartsWith bs parts rest → malformed_count parts ≡ 0 → IsUtf8 (flat_map bytes_of parts)
+no_malformed bs [] rest h none = IsUtf8-nil
+no_malformed bs (Character c ∷ parts) rest (after, first, h) none = IsUtf8-append (encode_utf8 c) (flat_map bytes_of parts) (IsUtf8-encode c first.0) (no_malformed after parts rest h none)
+no_malformed bs (IllFormed bytes ∷ parts) rest h none = absurd (omega (arith, none))
 
-pub well_formed : (bs : List ℕ) (parts : List Part) → ArePartsOf bs parts → IsUtf8 bs ↔ (count_broken parts ≡ 0)
-well_formed bs parts are = (none_broken bs parts are, λ none. subst IsUtf8 (parts-bytes bs parts are) (unbroken bs parts [] are none))
+pub well_formed : (bs : List ℕ) (parts : List Part) → ArePartsOf bs parts → IsUtf8 bs ↔ (malformed_count parts ≡ 0)
+well_formed bs parts are = (none_malformed bs parts are, λ none. subst IsUtf8 (parts-bytes bs parts are) (no_malformed bs parts [] are none))

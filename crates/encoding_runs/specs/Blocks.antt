@@ -1,8 +1,8 @@
 -- The repair of a stream by blocks: one call on the next bytes, and successive calls.
 use Rattle.std.specs.Prelude.{◌≡◌, ◌↔◌, ℕ, ◌+◌, ◌-◌, ◌<◌, ◌≤◌, Bool, true, false, List, [], ◌∷◌, length, drop, encode_utf8}
-use Rattle.encoding_definitions.specs.Parts.{Part, repaired_text, count_broken}
+use Rattle.encoding_definitions.specs.Parts.{Part, lossy_utf8, malformed_count}
 use Rattle.encoding_definitions.specs.Converting.{FittingBegins}
-use Rattle.encoding_definitions.specs.Giving.{Gives}
+use Rattle.encoding_definitions.specs.Yielding.{Yields}
 use Rattle.encoding_definitions.specs.Pending.{IsPending}
 use Rattle.encoding_runs.specs.declared.repair.blocks.RepairedBlock.{RepairedBlock}
 use Rattle.encoding_runs.specs.Calls.{Call, read_in_all, output_of, pending_after, some_last}
@@ -21,10 +21,10 @@ pub record WantsSpace (src : List ℕ) (read left : ℕ) (q : List ℕ) : Type 0
 pub record IsBlockRepair (p src : List ℕ) (room : ℕ) (last : Bool) (block : RepairedBlock) (read : ℕ) (out q : List ℕ) : Type 0 where
   pub parts : List Part
   pub was_pending : IsPending p
-  pub given : Gives p src last parts read q
-  pub text : out ≡ repaired_text parts
+  pub yielded : Yields p src last parts read q
+  pub text : out ≡ lossy_utf8 parts
   pub fits : length out ≤ room
-  pub replaced : block.replaced ≡ count_broken parts
+  pub replaced : block.replaced ≡ malformed_count parts
   pub finished : (block.finished ≡ true) ↔ ((read ≡ length src) × (last ≡ true → q ≡ []))
   pub full : block.finished ≡ false → WantsSpace src read (room - length out) q
 
@@ -37,6 +37,6 @@ replaced_in_all (call ∷ calls) = call.result.replaced + replaced_in_all calls
 -- marked last, it is a prefix for any continuation of b. Once a call marked last is finished, it is all parts.
 pub record RepairTheParts (p b : List ℕ) (calls : List (Call ℕ RepairedBlock ℕ)) : Type 0 where
   pub parts : List Part
-  pub front : Gives p b (some_last calls) parts (read_in_all calls) (pending_after p calls)
-  pub text : output_of calls ≡ repaired_text parts
-  pub replaced : replaced_in_all calls ≡ count_broken parts
+  pub prefix : Yields p b (some_last calls) parts (read_in_all calls) (pending_after p calls)
+  pub text : output_of calls ≡ lossy_utf8 parts
+  pub replaced : replaced_in_all calls ≡ malformed_count parts

@@ -1,6 +1,6 @@
 pub mod Repairs
 pub mod Streams
-pub mod BrokenParts
+pub mod MalformedSequences
 pub mod Blocks
 pub mod Repeats
 pub mod Calls

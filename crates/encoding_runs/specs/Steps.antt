@@ -1,5 +1,5 @@
 -- What private functions say of their steps. No public contract cites these.
 pub mod Writing
 pub mod Rounds
-pub mod Fronts
+pub mod RepairedPrefixes
 pub mod Reports

@@ -4,30 +4,30 @@ ghost use Rattle.std.specs.Char.{IsScalar};
 ghost use Rattle.std.specs.List.{flat_map};
 ghost use Rattle.std.specs.Str.Lossy.{utf8_lossy};
 ghost use Rattle.encoding_definitions.specs.Sequence.{IsSequence};
-ghost use Rattle.encoding_definitions.specs.Parts.{Part, StartsWith, ArePartsOf, AreSettled, bytes_of, count_broken, repaired_text};
+ghost use Rattle.encoding_definitions.specs.Parts.{Part, StartsWith, ArePartsOf, AreFinal, bytes_of, malformed_count, lossy_utf8};
 ghost use Rattle.encoding_definitions.specs.Pending.{IsPending};
-ghost use Rattle.encoding_text.specs.OneAnswer.{HasOneAnswer, HasOnePiece};
+ghost use Rattle.encoding_text.specs.OneResult.{HasOneResult, HasOnePiece};
 ghost use Rattle.std.specs.Char.Escape.{encode_utf16};
 ghost use Rattle.std.specs.Char.Utf16.{utf16_lossy_chars, has_unpaired_surrogate};
 ghost use Rattle.std.specs.Str.{all_scalars, chars};
-ghost use Rattle.encoding_definitions.specs.Utf16.{AreUnits, Part16, Character16, ArePartsOf16, IsUtf8OfLongestFront, IsUtf8OfUnits, scalar_of, utf8_of};
-ghost use Rattle.encoding_text.specs.Encoding.{IsHeld, IsEncoderCall};
+ghost use Rattle.encoding_definitions.specs.Utf16.{AreCodeUnits, Part16, Character16, ArePartsOf16, IsUtf8OfLongestPrefix, IsUtf8OfUnits, scalar_of_part16, utf8_of_part16};
+ghost use Rattle.encoding_text.specs.Encoding.{IsPendingSurrogate, EncodeStep};
 ghost use Rattle.encoding_definitions.specs.Bidi.{IsRightToLeft, IsBidiBytes, IsBidiUnits};
-ghost use Rattle.encoding_definitions.specs.Surrogates.{IsValidUtf16, AreRepairedUnits, ChangesLone};
+ghost use Rattle.encoding_definitions.specs.Surrogates.{IsValidUtf16, AreRepairedUnits, ReplacesUnpaired};
 ghost use Rattle.encoding_runs.specs.Repeats.{WritesInTurn};
 ghost use Rattle.std.specs.List.{AllZip, last_or};
 ghost use Rattle.encoding_text.specs.declared.utf_8.encoder.EncoderResult.{EncoderResult};
 ghost use Rattle.encoding_text.specs.declared.utf_8.encoder.EncoderResult.TheVariants as encoded;
 ghost use Rattle.encoding_runs.specs.Calls.{Call, IsChain, read_in_all, output_of, pending_after};
-ghost use Rattle.encoding_runs.specs.DecoderCalls.{GivesFirstParts, GiveTheParts};
-ghost use Rattle.encoding_runs.specs.MixedCalls.{Form, Answer, IsMixedCall, AreGiven, IsInputEmpty, AreAskedTheSame, AnswerTheSame};
+ghost use Rattle.encoding_runs.specs.DecoderCalls.{YieldsFirstParts, YieldTheParts};
+ghost use Rattle.encoding_runs.specs.MixedCalls.{Form, CallResult, MixedDecodeStep, AreYielded, IsInputEmpty, AreAskedTheSame, ReturnTheSame};
 ghost use Rattle.encoding_runs.specs.EncoderCalls.{EncodesFirstParts};
 ghost use Rattle.encoding_runs.specs.declared.run.turns.Turn.{Turn};
-ghost use Rattle.encoding_runs.specs.Runs.{AreOfTurns, EachGetsOn, Completes};
+ghost use Rattle.encoding_runs.specs.Runs.{AreOfTurns, EachMakesProgress, Completes};
 ghost use Rattle.encoding_runs.specs.declared.repair.blocks.RepairedBlock.{RepairedBlock};
 ghost use Rattle.encoding_runs.specs.Blocks.{IsBlockRepair, RepairTheParts, replaced_in_all};
-ghost use Rattle.encoding_runs.specs.Repairs.{IsRepairedWith};
-ghost use Rattle.encoding_runs.specs.BrokenParts.{IsNextBroken, AreFoundInTurn, broken_places};
+ghost use Rattle.encoding_runs.specs.Repairs.{IsLossyDecodeWith};
+ghost use Rattle.encoding_runs.specs.MalformedSequences.{IsNextMalformed, AreFoundInTurn, malformed_indices};
 
 /// The well-formed sequences are exactly the UTF-8 of the scalar values, one for each. None is a proper prefix of
 /// another. Unicode Standard, Table 3-7.
@@ -49,41 +49,41 @@ pub fn law_parts()
     ensures exist { (bs : List ℕ) → (parts : List Part) × ArePartsOf bs parts }
     ensures one { (bs : List ℕ) (parts others : List Part) → ArePartsOf bs parts → ArePartsOf bs others → parts ≡ others }
     ensures joined { (bs : List ℕ) (parts : List Part) → ArePartsOf bs parts → flat_map bytes_of parts ≡ bs }
-    ensures well_formed { (bs : List ℕ) (parts : List Part) → ArePartsOf bs parts → IsUtf8 bs ↔ (count_broken parts ≡ 0) }
-    ensures settled_exist { (bs : List ℕ) → (parts : List Part) × (rest : List ℕ) × AreSettled bs parts rest }
-    ensures settled_stay { (bs rest more : List ℕ) (parts all : List Part) → AreSettled bs parts rest
+    ensures well_formed { (bs : List ℕ) (parts : List Part) → ArePartsOf bs parts → IsUtf8 bs ↔ (malformed_count parts ≡ 0) }
+    ensures final_exist { (bs : List ℕ) → (parts : List Part) × (rest : List ℕ) × AreFinal bs parts rest }
+    ensures final_stay { (bs rest more : List ℕ) (parts all : List Part) → AreFinal bs parts rest
         → ArePartsOf (bs ++ more) all → (others : List Part) × (all ≡ parts ++ others) }
-    ensures settled_are { (bs rest : List ℕ) (parts : List Part) → StartsWith bs parts rest → IsPending rest
-        → ((more : List ℕ) → StartsWith (bs ++ more) parts (rest ++ more)) → AreSettled bs parts rest }
-    ensures settled_text { (bs rest more : List ℕ) (parts all : List Part) → AreSettled bs parts rest
-        → ArePartsOf (bs ++ more) all → (text : List ℕ) × (repaired_text all ≡ repaired_text parts ++ text) }
-    ensures lossy { (bs : List ℕ) (parts : List Part) → ArePartsOf bs parts → repaired_text parts ≡ utf8_lossy bs }
+    ensures final_are { (bs rest : List ℕ) (parts : List Part) → StartsWith bs parts rest → IsPending rest
+        → ((more : List ℕ) → StartsWith (bs ++ more) parts (rest ++ more)) → AreFinal bs parts rest }
+    ensures final_text { (bs rest more : List ℕ) (parts all : List Part) → AreFinal bs parts rest
+        → ArePartsOf (bs ++ more) all → (text : List ℕ) × (lossy_utf8 all ≡ lossy_utf8 parts ++ text) }
+    ensures lossy { (bs : List ℕ) (parts : List Part) → ArePartsOf bs parts → lossy_utf8 parts ≡ utf8_lossy bs }
 {}
 
 /// Bytes may be cut where the final parts of the first piece leave no rest: the parts of the whole are those of the
 /// first piece, then those of the second. So the pieces can be repaired separately: their repaired texts join, and
 /// their counts of malformed sequences add up. Bytes that end with an ASCII byte leave no rest.
 pub fn law_cuts()
-    ensures parts { (bs more : List ℕ) (parts others all : List Part) → AreSettled bs parts []
+    ensures parts { (bs more : List ℕ) (parts others all : List Part) → AreFinal bs parts []
         → ArePartsOf more others → ArePartsOf (bs ++ more) all → all ≡ parts ++ others }
-    ensures texts { (bs more : List ℕ) (parts others all : List Part) → AreSettled bs parts []
+    ensures texts { (bs more : List ℕ) (parts others all : List Part) → AreFinal bs parts []
         → ArePartsOf more others → ArePartsOf (bs ++ more) all
-        → repaired_text all ≡ repaired_text parts ++ repaired_text others }
-    ensures counts { (bs more : List ℕ) (parts others all : List Part) → AreSettled bs parts []
+        → lossy_utf8 all ≡ lossy_utf8 parts ++ lossy_utf8 others }
+    ensures counts { (bs more : List ℕ) (parts others all : List Part) → AreFinal bs parts []
         → ArePartsOf more others → ArePartsOf (bs ++ more) all
-        → count_broken all ≡ count_broken parts + count_broken others }
-    ensures behind_ascii { (bs rest : List ℕ) (b : ℕ) (parts : List Part) → b < 128
-        → AreSettled (bs ++ b ∷ []) parts rest → rest ≡ [] }
+        → malformed_count all ≡ malformed_count parts + malformed_count others }
+    ensures after_ascii { (bs rest : List ℕ) (b : ℕ) (parts : List Part) → b < 128
+        → AreFinal (bs ++ b ∷ []) parts rest → rest ≡ [] }
 {}
 
-/// Repeated calls of `next_broken`, each on the bytes after the sequence found before, find exactly the malformed
+/// Repeated calls of `next_malformed`, each on the bytes after the sequence found before, find exactly the malformed
 /// sequences among the parts of the bytes: each with its index and length, in order. Each has one to three bytes.
 /// Encoding Standard, UTF-8 decoder.
-pub fn law_next_broken()
-    ensures size { (bs : List ℕ) (place size : ℕ) → IsNextBroken bs place size → (0 < size) × (size ≤ 3) }
+pub fn law_next_malformed()
+    ensures size { (bs : List ℕ) (place size : ℕ) → IsNextMalformed bs place size → (0 < size) × (size ≤ 3) }
     ensures found { (bs : List ℕ) (parts : List Part) (found : List (ℕ × ℕ)) → ArePartsOf bs parts
-        → AreFoundInTurn 0 bs found ↔ (found ≡ broken_places 0 parts) }
-    ensures count { (bs : List ℕ) (parts : List Part) → ArePartsOf bs parts → length (broken_places 0 parts) ≡ count_broken parts }
+        → AreFoundInTurn 0 bs found ↔ (found ≡ malformed_indices 0 parts) }
+    ensures malformed_count { (bs : List ℕ) (parts : List Part) → ArePartsOf bs parts → length (malformed_indices 0 parts) ≡ malformed_count parts }
 {}
 
 /// Calls of `repair_block` over one stream write the repaired text of the first parts of the stream, and count the
@@ -93,11 +93,11 @@ pub fn law_next_broken()
 /// repaired text of the whole stream, and the count is that of its malformed sequences. Encoding Standard, UTF-8 decode
 /// without BOM.
 pub fn law_block_repair()
-    ensures front { (p b : List ℕ) (calls : List (Call ℕ RepairedBlock ℕ)) → (calls ≡ [] → IsPending p)
+    ensures prefix { (p b : List ℕ) (calls : List (Call ℕ RepairedBlock ℕ)) → (calls ≡ [] → IsPending p)
         → IsChain IsBlockRepair p b calls → RepairTheParts p b calls }
     ensures whole { (b : List ℕ) (calls : List (Call ℕ RepairedBlock ℕ)) → IsChain IsBlockRepair [] b calls
         → Any (λ call. (call.last ≡ true) × (call.result.finished ≡ true)) calls
-        → IsRepairedWith b (output_of calls) (replaced_in_all calls) }
+        → IsLossyDecodeWith b (output_of calls) (replaced_in_all calls) }
 {}
 
 /// For given pending bytes, source, `last` and, with a destination, space, each call of a decoder has exactly one
@@ -110,30 +110,30 @@ pub fn law_block_repair()
 /// the pending bytes, so a neutral decoder returns the same as a new one from any list of calls. Encoding Standard,
 /// UTF-8 decoder.
 pub fn law_mixed_calls()
-    ensures one_utf16 { (p src : List ℕ) (room : ℕ) (last : Bool) → IsPending p → HasOneAnswer encode_utf16 2 p src room last }
-    ensures one_utf8 { (p src : List ℕ) (room : ℕ) (last : Bool) → IsPending p → HasOneAnswer encode_utf8 4 p src room last }
+    ensures one_utf16 { (p src : List ℕ) (room : ℕ) (last : Bool) → IsPending p → HasOneResult encode_utf16 2 p src room last }
+    ensures one_utf8 { (p src : List ℕ) (room : ℕ) (last : Bool) → IsPending p → HasOneResult encode_utf8 4 p src room last }
     ensures one_piece { (p src : List ℕ) (last : Bool) → IsPending p → HasOnePiece p src last }
-    ensures one_call { (p src : List ℕ) (form : Form) (last : Bool) (answer : Answer) (read : ℕ) (out q : List ℕ)
-        → IsMixedCall p src form last answer read out q
-        → GivesFirstParts AreGiven IsInputEmpty p src form last answer read out q }
-    ensures mixed { (p b : List ℕ) (calls : List (Call Form Answer ℕ)) → IsPending p → IsChain IsMixedCall p b calls
-        → GiveTheParts AreGiven IsInputEmpty p b calls }
-    ensures same { (p b : List ℕ) (calls others : List (Call Form Answer ℕ)) → IsChain IsMixedCall p b calls
-        → IsChain IsMixedCall p b others → AllZip AreAskedTheSame calls others → AllZip AnswerTheSame calls others }
+    ensures one_call { (p src : List ℕ) (form : Form) (last : Bool) (answer : CallResult) (read : ℕ) (out q : List ℕ)
+        → MixedDecodeStep p src form last answer read out q
+        → YieldsFirstParts AreYielded IsInputEmpty p src form last answer read out q }
+    ensures mixed { (p b : List ℕ) (calls : List (Call Form CallResult ℕ)) → IsPending p → IsChain MixedDecodeStep p b calls
+        → YieldTheParts AreYielded IsInputEmpty p b calls }
+    ensures same { (p b : List ℕ) (calls others : List (Call Form CallResult ℕ)) → IsChain MixedDecodeStep p b calls
+        → IsChain MixedDecodeStep p b others → AllZip AreAskedTheSame calls others → AllZip ReturnTheSame calls others }
 {}
 
 /// UTF-16 code units have exactly one list of parts. With U+FFFD for each unpaired surrogate, they are those of std's
 /// lossy decoding. The parts of the UTF-16 of scalar values are these scalar values, so text converted to UTF-16 and
 /// back to UTF-8 is the same, byte for byte. Unicode Standard, section 3.9, UTF-16.
 pub fn law_utf16_round_trip()
-    ensures exist { (us : List ℕ) → AreUnits us → (parts : List Part16) × ArePartsOf16 us parts }
+    ensures exist { (us : List ℕ) → AreCodeUnits us → (parts : List Part16) × ArePartsOf16 us parts }
     ensures one { (us : List ℕ) (parts others : List Part16) → ArePartsOf16 us parts → ArePartsOf16 us others → parts ≡ others }
-    ensures lossy { (us : List ℕ) (parts : List Part16) → ArePartsOf16 us parts → map scalar_of parts ≡ utf16_lossy_chars us }
+    ensures lossy { (us : List ℕ) (parts : List Part16) → ArePartsOf16 us parts → map scalar_of_part16 parts ≡ utf16_lossy_chars us }
     ensures characters { (cs : List ℕ) → IsTrue (all_scalars cs) → ArePartsOf16 (flat_map encode_utf16 cs) (map Character16 cs) }
     ensures scalars { (cs : List ℕ) (parts : List Part16) → IsTrue (all_scalars cs)
-        → ArePartsOf16 (flat_map encode_utf16 cs) parts → map scalar_of parts ≡ cs }
+        → ArePartsOf16 (flat_map encode_utf16 cs) parts → map scalar_of_part16 parts ≡ cs }
     ensures text { (bs : List ℕ) (parts : List Part16) → IsUtf8 bs
-        → ArePartsOf16 (flat_map encode_utf16 (chars bs)) parts → flat_map utf8_of parts ≡ bs }
+        → ArePartsOf16 (flat_map encode_utf16 (chars bs)) parts → flat_map utf8_of_part16 parts ≡ bs }
 {}
 
 /// Repeated conversion of the longest fitting prefix of the remaining code units, until all are read, writes the UTF-8
@@ -141,9 +141,9 @@ pub fn law_utf16_round_trip()
 /// one is read. Encoding Standard, `encodeInto`.
 pub fn law_partial_repeats()
     ensures joined { (us : List ℕ) (parts : List Part16) (rooms out : List ℕ) → ArePartsOf16 us parts
-        → WritesInTurn us rooms out → out ≡ encode_utf8_all (map scalar_of parts) }
+        → WritesInTurn us rooms out → out ≡ encode_utf8_all (map scalar_of_part16 parts) }
     ensures progress { (us out : List ℕ) (room read : ℕ) → 0 < length us → 4 ≤ room
-        → IsUtf8OfLongestFront us room read out → 0 < read }
+        → IsUtf8OfLongestPrefix us room read out → 0 < read }
 {}
 
 /// Calls of an encoder over one source write the UTF-8 of the first parts of the pending surrogate and the source, for
@@ -155,17 +155,17 @@ pub fn law_partial_repeats()
 /// number of code units of the source. Let each turn take at least one code unit, have at least four bytes of space and
 /// have `last` set. Then the last call returns `InputEmpty`, and the UTF-8 of all parts is written.
 pub fn law_encoder_cuts()
-    ensures first_parts { (held src : List ℕ) (calls : List (Call ℕ EncoderResult ℕ)) → IsHeld held → AreUnits src
-        → IsChain IsEncoderCall held src calls
-        → EncodesFirstParts held src calls (read_in_all calls) (output_of calls) (pending_after held calls) }
-    ensures completes { (held src : List ℕ) (turns : List Turn) (room : ℕ) (calls : List (Call ℕ EncoderResult ℕ))
-        → IsHeld held → IsChain IsEncoderCall held src calls → AreOfTurns (length src) room turns calls
-        → Completes encoded.InputEmpty (λ n held. 3 * (n + held)) 4 held src turns room
+    ensures first_parts { (surrogate src : List ℕ) (calls : List (Call ℕ EncoderResult ℕ)) → IsPendingSurrogate surrogate → AreCodeUnits src
+        → IsChain EncodeStep surrogate src calls
+        → EncodesFirstParts surrogate src calls (read_in_all calls) (output_of calls) (pending_after surrogate calls) }
+    ensures completes { (surrogate src : List ℕ) (turns : List Turn) (room : ℕ) (calls : List (Call ℕ EncoderResult ℕ))
+        → IsPendingSurrogate surrogate → IsChain EncodeStep surrogate src calls → AreOfTurns (length src) room turns calls
+        → Completes encoded.InputEmpty (λ n pending. 3 * (n + pending)) 4 surrogate src turns room
         (last_or None (map (λ call. call.result) calls)) }
-    ensures whole { (held src : List ℕ) (turns : List Turn) (room : ℕ) (calls : List (Call ℕ EncoderResult ℕ))
-        → IsHeld held → AreUnits src → IsChain IsEncoderCall held src calls → AreOfTurns (length src) room turns calls
-        → 2 * length src + 2 ≤ length turns → EachGetsOn 4 turns → 3 * (length src + length held) ≤ room
-        → IsUtf8OfUnits (held ++ src) (output_of calls) }
+    ensures whole { (surrogate src : List ℕ) (turns : List Turn) (room : ℕ) (calls : List (Call ℕ EncoderResult ℕ))
+        → IsPendingSurrogate surrogate → AreCodeUnits src → IsChain EncodeStep surrogate src calls → AreOfTurns (length src) room turns calls
+        → 2 * length src + 2 ≤ length turns → EachMakesProgress 4 turns → 3 * (length src + length surrogate) ≤ room
+        → IsUtf8OfUnits (surrogate ++ src) (output_of calls) }
 {}
 
 /// Scalar values, their UTF-8 and their UTF-16 agree on whether they contain a right-to-left character.
@@ -182,15 +182,15 @@ pub fn law_bidi_agrees()
 pub fn law_surrogate_repair()
     ensures spelled { (us : List ℕ) → IsValidUtf16 us
         ↔ ((cs : List ℕ) × IsTrue (all_scalars cs) × (us ≡ flat_map encode_utf16 cs)) }
-    ensures paired { (us : List ℕ) → AreUnits us → IsValidUtf16 us ↔ (has_unpaired_surrogate us ≡ false) }
-    ensures exist { (us : List ℕ) → AreUnits us → (new : List ℕ) × AreRepairedUnits us new }
+    ensures paired { (us : List ℕ) → AreCodeUnits us → IsValidUtf16 us ↔ (has_unpaired_surrogate us ≡ false) }
+    ensures exist { (us : List ℕ) → AreCodeUnits us → (new : List ℕ) × AreRepairedUnits us new }
     ensures one { (old new other : List ℕ) → AreRepairedUnits old new → AreRepairedUnits old other → new ≡ other }
-    ensures places { (old new : List ℕ) → AreRepairedUnits old new → ChangesLone old new }
+    ensures places { (old new : List ℕ) → AreRepairedUnits old new → ReplacesUnpaired old new }
     ensures valid { (old new : List ℕ) → AreRepairedUnits old new → IsValidUtf16 new }
     ensures twice { (old new again : List ℕ) → AreRepairedUnits old new → AreRepairedUnits new again → again ≡ new }
     ensures counts { (old new : List ℕ) (parts others : List Part16) → AreRepairedUnits old new → ArePartsOf16 old parts
-        → ArePartsOf16 new others → map scalar_of others ≡ map scalar_of parts }
+        → ArePartsOf16 new others → map scalar_of_part16 others ≡ map scalar_of_part16 parts }
     ensures lossy { (old new : List ℕ) (parts : List Part16) → AreRepairedUnits old new → ArePartsOf16 new parts
-        → map scalar_of parts ≡ utf16_lossy_chars old }
+        → map scalar_of_part16 parts ≡ utf16_lossy_chars old }
     ensures stays { (old new : List ℕ) → IsValidUtf16 old → AreRepairedUnits old new → new ≡ old }
 {}

@@ -2,7 +2,7 @@
 //! the definitions.
 #![tactic(auto)]
 
-pub mod broken;
 pub mod laws;
+pub mod malformed;
 pub mod repair;
 pub mod run;

@@ -1,7 +1,7 @@
 //! Repairs UTF-8: writes the text of the input, with U+FFFD for each malformed sequence.
 mod blocks;
+mod dense;
 mod engine;
-mod front;
 mod streams;
 
 pub use blocks::{RepairedBlock, repair_block};

@@ -2,9 +2,9 @@ pub mod BorrowedLemmas
 pub mod CallLemmas
 pub mod CallPartsLemmas
 pub mod DecodeLemmas
-pub mod HasAnswerLemmas
-pub mod LoneByteLemmas
-pub mod OneAnswerLemmas
+pub mod HasResultLemmas
+pub mod SingleByteLemmas
+pub mod OneResultLemmas
 pub mod OnePieceLemmas
 pub mod PendingLemmas
 pub mod RoomLemmas

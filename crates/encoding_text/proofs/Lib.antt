@@ -1,6 +1,6 @@
 pub mod Calls
-pub mod CodeUnits
-pub mod LongestFronts
-pub mod Latin
-pub mod Sequences
-pub mod Conversions
+pub mod EncoderSteps
+pub mod PrefixConversions
+pub mod LatinConversions
+pub mod DecoderSequences
+pub mod RepairingConversions

@@ -3,9 +3,9 @@ use Rattle.std.specs.Prelude.{◌≡◌, ◌≢◌, ℕ, ◌+◌, ◌-◌, ◌*�
 use Rattle.std.specs.Str.{all_scalars, IsUtf8}
 use Rattle.std.specs.Char.{IsScalar}
 use Rattle.std.specs.List.{flat_map}
-use Rattle.encoding_definitions.specs.Sequence.{IsSequence, IsBeginning, BeginsNothing}
+use Rattle.encoding_definitions.specs.Sequence.{IsSequence, IsIncomplete, IsNeverLeading}
 use Rattle.encoding_definitions.specs.Pending.{IsPending}
-use Rattle.encoding_definitions.specs.Fronts.{IsLongestFront, WritesFront}
+use Rattle.encoding_definitions.specs.Prefixes.{IsLongestPrefix, WritesPrefix}
 use Rattle.encoding_definitions.specs.Converting.{FittingBegins}
 use Rattle.encoding_text.specs.declared.decoder.DecoderResult.{DecoderResult}
 use Rattle.encoding_text.specs.declared.decoder.DecoderResult.TheVariants.{InputEmpty, OutputFull, Malformed}
@@ -13,61 +13,61 @@ use Rattle.encoding_text.specs.declared.decoder.Piece.{Piece}
 use Rattle.encoding_text.specs.declared.decoder.Piece.TheVariants as piece
 
 -- x is a malformed sequence, with these bytes unread after it
-abbrev pub IsBroken : List ℕ → List ℕ → Bool → Type 0
-IsBroken x [] last = ((b : ℕ) × (x ≡ b ∷ []) × BeginsNothing b) ⊎ (IsBeginning x × (last ≡ true))
-IsBroken x (y ∷ ys) last = ((b : ℕ) × (x ≡ b ∷ []) × BeginsNothing b)
-    ⊎ (IsBeginning x × ((IsSequence (x ++ y ∷ []) ⊎ IsBeginning (x ++ y ∷ [])) → ⊥))
+abbrev pub IsMalformed : List ℕ → List ℕ → Bool → Type 0
+IsMalformed x [] last = ((b : ℕ) × (x ≡ b ∷ []) × IsNeverLeading b) ⊎ (IsIncomplete x × (last ≡ true))
+IsMalformed x (y ∷ ys) last = ((b : ℕ) × (x ≡ b ∷ []) × IsNeverLeading b)
+    ⊎ (IsIncomplete x × ((IsSequence (x ++ y ∷ []) ⊎ IsIncomplete (x ++ y ∷ [])) → ⊥))
 
 -- What one call returns: p is pending before it, and q after it. `need` is the most code units of a character: 2 code
 -- units, or 4 bytes. `cs` are the characters that it wrote, and `left` is the space after them.
-abbrev pub Answers : {A : Type 0} → (ℕ → List A) → ℕ → List ℕ → List ℕ → Bool → DecoderResult → ℕ → List ℕ → ℕ → List ℕ → Type 0
-Answers encode need p src last InputEmpty read cs left q =
+abbrev pub IsDecodeResult : {A : Type 0} → (ℕ → List A) → ℕ → List ℕ → List ℕ → Bool → DecoderResult → ℕ → List ℕ → ℕ → List ℕ → Type 0
+IsDecodeResult encode need p src last InputEmpty read cs left q =
     (read ≡ length src) × (p ++ src ≡ encode_utf8_all cs ++ q) × (last ≡ true → q ≡ []) × (q ≢ [] → 0 < read → need ≤ left)
-Answers encode need p src last OutputFull read cs left q =
+IsDecodeResult encode need p src last OutputFull read cs left q =
     (read < length src) × (p ++ take read src ≡ encode_utf8_all cs ++ q) × (left < need)
     × (q ≡ [] → FittingBegins encode (drop read src) left → ⊥)
     × (q ≢ [] → (read ≡ 0) × (q ≡ p))
-Answers encode need p src last (Malformed k second) read cs left q =
+IsDecodeResult encode need p src last (Malformed k second) read cs left q =
     (x : List ℕ) × (second ≡ 0) × (read ≤ length src) × (p ++ take read src ≡ encode_utf8_all cs ++ x) × (length x ≡ k) × (q ≡ [])
-    × IsBroken x (drop read src) last × (0 < length src → need ≤ left)
+    × IsMalformed x (drop read src) last × (0 < length src → need ≤ left)
 
 -- one call, which reads the first `read` bytes of src and writes `out`
-pub record IsCall {A : Type 0} (encode : ℕ → List A) (need : ℕ) (p src : List ℕ) (room : ℕ) (last : Bool) (result : DecoderResult) (read : ℕ) (out : List A) (q : List ℕ) : Type 0 where
+pub record DecodeStep {A : Type 0} (encode : ℕ → List A) (need : ℕ) (p src : List ℕ) (room : ℕ) (last : Bool) (result : DecoderResult) (read : ℕ) (out : List A) (q : List ℕ) : Type 0 where
   pub scalars : List ℕ
   pub are_scalars : all_scalars scalars ≡ true
   pub out_is : out ≡ flat_map encode scalars
   pub fits : length out ≤ room
   pub pending_before : IsPending p
   pub pending : IsPending q
-  pub answer : Answers encode need p src last result read scalars (room - length out) q
+  pub answer : IsDecodeResult encode need p src last result read scalars (room - length out) q
   pub pending_needs_room : p ≢ [] → 0 < read → need ≤ room
 
 -- What a call that borrows from its source returns: p is pending before it, and q after it.
-abbrev pub AnswersBorrowed : List ℕ → List ℕ → Bool → Piece → ℕ → List ℕ → Type 0
-AnswersBorrowed p src last (piece.Text t) read q =
-    (p ≡ []) × (q ≡ []) × (0 < read) × (t.now ≡ take read src) × IsLongestFront IsUtf8 src read
-AnswersBorrowed p src last (piece.Char c) read q =
+abbrev pub IsBorrowedResult : List ℕ → List ℕ → Bool → Piece → ℕ → List ℕ → Type 0
+IsBorrowedResult p src last (piece.Text t) read q =
+    (p ≡ []) × (q ≡ []) × (0 < read) × (t.now ≡ take read src) × IsLongestPrefix IsUtf8 src read
+IsBorrowedResult p src last (piece.Char c) read q =
     (p ≢ []) × (q ≡ []) × (read ≤ length src) × IsScalar c × (p ++ take read src ≡ encode_utf8 c)
-AnswersBorrowed p src last (piece.Malformed k) read q =
-    (read ≤ length src) × (length (p ++ take read src) ≡ k) × (q ≡ []) × IsBroken (p ++ take read src) (drop read src) last
-AnswersBorrowed p src last piece.InputEmpty read q = (read ≡ length src) × (q ≡ p ++ src) × (last ≡ true → q ≡ [])
+IsBorrowedResult p src last (piece.Malformed k) read q =
+    (read ≤ length src) × (length (p ++ take read src) ≡ k) × (q ≡ []) × IsMalformed (p ++ take read src) (drop read src) last
+IsBorrowedResult p src last piece.InputEmpty read q = (read ≡ length src) × (q ≡ p ++ src) × (last ≡ true → q ≡ [])
 
 -- one such call
-pub record IsBorrowedCall (p src : List ℕ) (last : Bool) (returned : Piece) (read : ℕ) (q : List ℕ) : Type 0 where
+pub record BorrowedDecodeStep (p src : List ℕ) (last : Bool) (returned : Piece) (read : ℕ) (q : List ℕ) : Type 0 where
   pub pending_before : IsPending p
   pub pending : IsPending q
-  pub answer : AnswersBorrowed p src last returned read q
+  pub answer : IsBorrowedResult p src last returned read q
 
 -- The numbers of the queries: the length of a destination for n bytes that follow `pending` pending ones.
-abbrev pub utf16_room : ℕ → ℕ → ℕ
-utf16_room n pending = n + 1 + pending
+abbrev pub max_utf16_length : ℕ → ℕ → ℕ
+max_utf16_length n pending = n + 1 + pending
 
-abbrev pub utf8_room : ℕ → ℕ → ℕ
-utf8_room n pending = n + 3 + pending
+abbrev pub max_utf8_length : ℕ → ℕ → ℕ
+max_utf8_length n pending = n + 3 + pending
 
 -- the same with U+FFFD for each malformed sequence
-abbrev pub utf8_room_replacing : ℕ → ℕ → ℕ
-utf8_room_replacing n pending = 3 * (n + pending) + 3
+abbrev pub max_utf8_length_with_replacement : ℕ → ℕ → ℕ
+max_utf8_length_with_replacement n pending = 3 * (n + pending) + 3
 
 -- A destination of the queried length for m bytes that start with src is large enough: the call doesn't return
 -- `OutputFull`, and the space after its output is at least the queried length for the bytes that are left.
@@ -85,6 +85,6 @@ SufficesReplacing query replacement p src room result read written q =
     (m : ℕ) → length src ≤ m → query m (length p) ≤ room → IsReport result → written + replacement + query (m - read) (length q) ≤ room
 
 -- one call into a destination, whose rest is unchanged
-abbrev pub Decodes : {A : Type 0} → (ℕ → List A) → ℕ → List ℕ → List ℕ → List A → List A → Bool → DecoderResult → ℕ → ℕ → List ℕ → Type 0
-Decodes {A} encode need p src old new last result read written q =
-    (out : List A) × WritesFront old new written out × IsCall encode need p src (length old) last result read out q
+abbrev pub DecodeStepInto : {A : Type 0} → (ℕ → List A) → ℕ → List ℕ → List ℕ → List A → List A → Bool → DecoderResult → ℕ → ℕ → List ℕ → Type 0
+DecodeStepInto {A} encode need p src old new last result read written q =
+    (out : List A) × WritesPrefix old new written out × DecodeStep encode need p src (length old) last result read out q

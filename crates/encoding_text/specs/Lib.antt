@@ -1,6 +1,6 @@
 pub mod Decoding
-pub mod OneAnswer
-pub mod GivenParts
+pub mod OneResult
+pub mod YieldedParts
 pub mod Encoding
 pub mod Borrowed
 pub mod Classes

@@ -1,4 +1,4 @@
 -- What private functions promise of their steps. No public contract cites these.
 pub mod Resuming
 pub mod Ending
-pub mod Converting
+pub mod ConversionSteps

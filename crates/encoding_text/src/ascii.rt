@@ -3,11 +3,11 @@
 
 ghost use Rattle.std.specs.Prelude.{take, length};
 ghost use Rattle.std.specs.Str.{IsAscii};
-ghost use Rattle.encoding_definitions.specs.Ascii.{IsFirstOther, front_length, IsIso2022JpAscii};
-ghost use Rattle.encoding_definitions.specs.Fronts.{IsLongestFront, WritesFront};
+ghost use Rattle.encoding_definitions.specs.Ascii.{IsFirstOther, prefix_length_by, IsIso2022JpAscii};
+ghost use Rattle.encoding_definitions.specs.Prefixes.{IsLongestPrefix, WritesPrefix};
 
 use encoding_kernels::strides::{
-    ASCII_END, BLOCK, HALF_UNIT_BLOCK, STRIDE, copy_ascii_front, front_of_bytes_below,
+    ASCII_END, BLOCK, HALF_UNIT_BLOCK, STRIDE, copy_ascii_prefix, prefix_len_below,
 };
 use std::simd::prelude::*;
 
@@ -28,9 +28,9 @@ const SHIFT_IN: u8 = 0x0F;
 pub fn validate_ascii(bytes: &[u8]) -> Option<(u8, usize)>
     ensures { IsFirstOther bytes.now result }
 {
-    let front = front_of_bytes_below(bytes, ASCII_END);
-    if front < bytes.len() {
-        Some((bytes[front], front))
+    let prefix = prefix_len_below(bytes, ASCII_END);
+    if prefix < bytes.len() {
+        Some((bytes[prefix], prefix))
     } else {
         None
     }
@@ -39,7 +39,7 @@ pub fn validate_ascii(bytes: &[u8]) -> Option<(u8, usize)>
 /// Returns the length of the longest ASCII prefix.
 #[inline(always)]
 pub fn ascii_valid_up_to(bytes: &[u8]) -> usize
-    ensures { IsLongestFront IsAscii bytes.now result }
+    ensures { IsLongestPrefix IsAscii bytes.now result }
 {
     match validate_ascii(bytes) {
         Some((_, place)) => place,
@@ -50,7 +50,7 @@ pub fn ascii_valid_up_to(bytes: &[u8]) -> usize
 /// Returns how many bytes of a stride come before the first that isn't ASCII, or is an escape or shift byte.
 #[inline(always)]
 fn iso_2022_jp_ascii_run(stride: &[u8; STRIDE]) -> usize
-    ensures { IsLongestFront IsIso2022JpAscii stride.now result }
+    ensures { IsLongestPrefix IsIso2022JpAscii stride.now result }
 {
     let bytes = u8x16::from_slice(stride);
     let shifts = bytes.simd_eq(u8x16::splat(SHIFT_OUT)) | bytes.simd_eq(u8x16::splat(SHIFT_IN));
@@ -66,7 +66,7 @@ fn iso_2022_jp_ascii_run(stride: &[u8; STRIDE]) -> usize
 /// Returns the length of the longest ASCII prefix without an escape byte, 0x1B, or a shift byte, 0x0E or 0x0F. Encoding
 /// Standard, section 12.2.1: the bytes that the ISO-2022-JP decoder returns unchanged.
 pub fn iso_2022_jp_ascii_valid_up_to(bytes: &[u8]) -> usize
-    ensures { IsLongestFront IsIso2022JpAscii bytes.now result }
+    ensures { IsLongestPrefix IsIso2022JpAscii bytes.now result }
 {
     let (strides, _) = bytes.as_chunks::<STRIDE>();
     let mut at = 0;
@@ -91,12 +91,12 @@ pub fn iso_2022_jp_ascii_valid_up_to(bytes: &[u8]) -> usize
 #[inline(always)]
 pub fn ascii_to_ascii(src: &[u8], dst: &mut [u8]) -> Option<(u8, usize)>
     ensures found { IsFirstOther (take (length dst.old) src.now) result }
-    ensures copied { let n = front_length (take (length dst.old) src.now) result in
-        WritesFront dst.old dst.new n (take n src.now) }
+    ensures copied { let n = prefix_length_by (take (length dst.old) src.now) result in
+        WritesPrefix dst.old dst.new n (take n src.now) }
 {
-    let front = copy_ascii_front::<BLOCK, u8, u8>(src, dst);
-    if front < src.len() && front < dst.len() {
-        Some((src[front], front))
+    let prefix = copy_ascii_prefix::<BLOCK, u8, u8>(src, dst);
+    if prefix < src.len() && prefix < dst.len() {
+        Some((src[prefix], prefix))
     } else {
         None
     }
@@ -107,12 +107,12 @@ pub fn ascii_to_ascii(src: &[u8], dst: &mut [u8]) -> Option<(u8, usize)>
 #[inline(always)]
 pub fn ascii_to_basic_latin(src: &[u8], dst: &mut [u16]) -> Option<(u8, usize)>
     ensures found { IsFirstOther (take (length dst.old) src.now) result }
-    ensures copied { let n = front_length (take (length dst.old) src.now) result in
-        WritesFront dst.old dst.new n (take n src.now) }
+    ensures copied { let n = prefix_length_by (take (length dst.old) src.now) result in
+        WritesPrefix dst.old dst.new n (take n src.now) }
 {
-    let front = copy_ascii_front::<BLOCK, u16, u8>(src, dst);
-    if front < src.len() && front < dst.len() {
-        Some((src[front], front))
+    let prefix = copy_ascii_prefix::<BLOCK, u16, u8>(src, dst);
+    if prefix < src.len() && prefix < dst.len() {
+        Some((src[prefix], prefix))
     } else {
         None
     }
@@ -123,12 +123,12 @@ pub fn ascii_to_basic_latin(src: &[u8], dst: &mut [u16]) -> Option<(u8, usize)>
 #[inline(always)]
 pub fn basic_latin_to_ascii(src: &[u16], dst: &mut [u8]) -> Option<(u16, usize)>
     ensures found { IsFirstOther (take (length dst.old) src.now) result }
-    ensures copied { let n = front_length (take (length dst.old) src.now) result in
-        WritesFront dst.old dst.new n (take n src.now) }
+    ensures copied { let n = prefix_length_by (take (length dst.old) src.now) result in
+        WritesPrefix dst.old dst.new n (take n src.now) }
 {
-    let front = copy_ascii_front::<HALF_UNIT_BLOCK, u8, u16>(src, dst);
-    if front < src.len() && front < dst.len() {
-        Some((src[front], front))
+    let prefix = copy_ascii_prefix::<HALF_UNIT_BLOCK, u8, u16>(src, dst);
+    if prefix < src.len() && prefix < dst.len() {
+        Some((src[prefix], prefix))
     } else {
         None
     }

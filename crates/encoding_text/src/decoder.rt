@@ -1,4 +1,5 @@
-//! The streaming UTF-8 decoder: Encoding Standard, section 8.1.1. A call leaves the rest of `dst` unchanged.
+//! The streaming UTF-8 decoder: Encoding Standard, section 8.1.1. The elements of `dst` past those
+//! reported as written are unchanged.
 mod borrowed;
 mod call;
 mod pending;
@@ -16,17 +17,19 @@ use std::marker::Model;
 /// What ended a call of a decoder.
 #[derive(Debug, PartialEq, Eq, Drop)]
 pub enum DecoderResult {
-    /// All of the source was read. After a last call nothing is pending: an incomplete sequence at its end is reported
-    /// first.
+    /// All of the source was read. If `last` was set, nothing is pending: an incomplete sequence at the end of the
+    /// input was returned as `Malformed` before.
     InputEmpty,
-    /// The space that is left may not hold the next character: call again with more.
+    /// The remaining space might be too small for the next character. Call again with the unread rest of the source and
+    /// a larger or emptied destination.
     OutputFull,
-    /// A malformed sequence ends what was read, and nothing is pending. The first number is its length, one to three
-    /// bytes. The second, of bytes read after it, is always 0.
+    /// A malformed sequence ends where this call stopped reading, and nothing is pending. The first number is the length
+    /// of the sequence, one to three bytes, some of which an earlier call may have read. The second is the number of
+    /// bytes read after the sequence, which is always 0.
     Malformed(u8, u8),
 }
 
-/// What a borrowed call of a decoder returns.
+/// What `decode_borrowed_raw` returns.
 #[derive(Debug, PartialEq, Eq, Drop)]
 pub enum Piece<'a> {
     /// The longest well-formed prefix of the source, borrowed from it.
@@ -39,8 +42,8 @@ pub enum Piece<'a> {
     InputEmpty,
 }
 
-/// A decoder of UTF-8 that comes in pieces. Its pending bytes, which it keeps between calls, are none or an incomplete
-/// sequence of at most three bytes.
+/// A streaming UTF-8 decoder, whose input may be split at any byte. Its pending bytes, which it keeps between calls,
+/// are none or an incomplete sequence of at most three bytes.
 #[derive(Drop)]
 pub struct Utf8Decoder {
     pending: Pending,
@@ -53,7 +56,7 @@ impl Model for Utf8Decoder {
 }
 
 impl Utf8Decoder {
-    ghost use Rattle.encoding_text.specs.Decoding.{Decodes, IsBorrowedCall, IsReport, Suffices, SufficesReplacing, utf16_room, utf8_room, utf8_room_replacing};
+    ghost use Rattle.encoding_text.specs.Decoding.{DecodeStepInto, BorrowedDecodeStep, IsReport, Suffices, SufficesReplacing, max_utf16_length, max_utf8_length, max_utf8_length_with_replacement};
 
     /// Returns a decoder with nothing pending.
     pub fn new_inner() -> Utf8Decoder
@@ -73,28 +76,30 @@ impl Utf8Decoder {
     }
 
     /// Returns the length in UTF-16 code units of a destination that is large enough for the next `byte_length` bytes,
-    /// however they are split into calls, including U+FFFD for each report. `None` if the length exceeds `usize::MAX`.
+    /// however they are split into calls, if U+FFFD is written for each malformed sequence. `None` if the length
+    /// exceeds `usize::MAX`.
     pub fn max_utf16_buffer_length(&self, byte_length: usize) -> Option<usize>
-        ensures { SomeIff result (utf16_room byte_length (length self.now) ≤ usize.MAX)
-            (utf16_room byte_length (length self.now)) }
+        ensures { SomeIff result (max_utf16_length byte_length (length self.now) ≤ usize.MAX)
+            (max_utf16_length byte_length (length self.now)) }
     {
         byte_length.checked_add(1)?.checked_add(self.pending.len())
     }
 
     /// Returns the length in bytes of a destination that is large enough for the next `byte_length` bytes, however they
-    /// are split into calls, if nothing is written for reports. `None` if the length exceeds `usize::MAX`.
+    /// are split into calls, if nothing is written for malformed sequences. `None` if the length exceeds `usize::MAX`.
     pub fn max_utf8_buffer_length_without_replacement(&self, byte_length: usize) -> Option<usize>
-        ensures { SomeIff result (utf8_room byte_length (length self.now) ≤ usize.MAX)
-            (utf8_room byte_length (length self.now)) }
+        ensures { SomeIff result (max_utf8_length byte_length (length self.now) ≤ usize.MAX)
+            (max_utf8_length byte_length (length self.now)) }
     {
         byte_length.checked_add(3)?.checked_add(self.pending.len())
     }
 
     /// Returns the length in bytes of a destination that is large enough for the next `byte_length` bytes, however they
-    /// are split into calls, including U+FFFD for each report. `None` if the length exceeds `usize::MAX`.
+    /// are split into calls, if U+FFFD is written for each malformed sequence. `None` if the length exceeds
+    /// `usize::MAX`.
     pub fn max_utf8_buffer_length(&self, byte_length: usize) -> Option<usize>
-        ensures { SomeIff result (utf8_room_replacing byte_length (length self.now) ≤ usize.MAX)
-            (utf8_room_replacing byte_length (length self.now)) }
+        ensures { SomeIff result (max_utf8_length_with_replacement byte_length (length self.now) ≤ usize.MAX)
+            (max_utf8_length_with_replacement byte_length (length self.now)) }
     {
         byte_length
             .checked_add(self.pending.len())?
@@ -105,9 +110,9 @@ impl Utf8Decoder {
     /// Decodes to UTF-16. Returns what ended the call, how many bytes of `src` it read and how many code units it
     /// wrote. `last` says that no bytes follow `src`.
     ///
-    /// A malformed sequence is reported and nothing is written for it. To continue, write U+FFFD and pass the unread
-    /// bytes again. After a report the decoder is like a new one. If `dst` has at least two code units and `src` isn't
-    /// empty, a call reads a byte or reports.
+    /// A malformed sequence is returned as `Malformed` and nothing is written for it. To continue, write U+FFFD and
+    /// pass the unread bytes again: the decoder is in its initial state. If `dst` has at least two code units and `src`
+    /// isn't empty, a call reads at least one byte or returns `Malformed`.
     #[inline(always)]
     pub fn decode_to_utf16_raw(
         &mut self,
@@ -115,12 +120,13 @@ impl Utf8Decoder {
         dst: &mut [u16],
         last: bool,
     ) -> (DecoderResult, usize, usize)
-        ensures call { Decodes encode_utf16 2 self.old src.now dst.old dst.new last result.0 result.1 result.2 self.new }
+        ensures call { DecodeStepInto encode_utf16 2 self.old src.now dst.old dst.new last result.0 result.1 result.2 self.new }
         ensures progress { 0 < length src.now → 2 ≤ length dst.old → (0 < result.1) ⊎ IsReport result.0 }
 
-        // A destination of the queried length is large enough for this piece, and the rest of it for the next pieces.
-        ensures suffices { Suffices utf16_room self.old src.now (length dst.old) result.0 result.1 result.2 self.new }
-        ensures suffices_replacing { SufficesReplacing utf16_room 1 self.old src.now (length dst.old)
+        // If `dst` has the length of `max_utf16_buffer_length`, the call doesn't return `OutputFull`, and the space left is
+        // enough for the rest of the bytes asked about, also after U+FFFD is written.
+        ensures suffices { Suffices max_utf16_length self.old src.now (length dst.old) result.0 result.1 result.2 self.new }
+        ensures suffices_replacing { SufficesReplacing max_utf16_length 1 self.old src.now (length dst.old)
             result.0 result.1 result.2 self.new }
     {
         decode::<u16>(&mut self.pending, src, dst, last)
@@ -129,9 +135,9 @@ impl Utf8Decoder {
     /// Decodes to UTF-8. Returns what ended the call, how many bytes of `src` it read and how many bytes it wrote.
     /// `last` says that no bytes follow `src`.
     ///
-    /// A malformed sequence is reported and nothing is written for it. To continue, write U+FFFD and pass the unread
-    /// bytes again. After a report the decoder is like a new one. If `dst` has at least four bytes and `src` isn't
-    /// empty, a call reads a byte or reports.
+    /// A malformed sequence is returned as `Malformed` and nothing is written for it. To continue, write U+FFFD and
+    /// pass the unread bytes again: the decoder is in its initial state. If `dst` has at least four bytes and `src`
+    /// isn't empty, a call reads at least one byte or returns `Malformed`.
     #[inline(always)]
     pub fn decode_to_utf8_raw(
         &mut self,
@@ -139,29 +145,31 @@ impl Utf8Decoder {
         dst: &mut [u8],
         last: bool,
     ) -> (DecoderResult, usize, usize)
-        ensures call { Decodes encode_utf8 4 self.old src.now dst.old dst.new last result.0 result.1 result.2 self.new }
+        ensures call { DecodeStepInto encode_utf8 4 self.old src.now dst.old dst.new last result.0 result.1 result.2 self.new }
         ensures progress { 0 < length src.now → 4 ≤ length dst.old → (0 < result.1) ⊎ IsReport result.0 }
 
-        // A destination of the queried length is large enough for this piece, and the rest of it for the next pieces.
-        ensures suffices { Suffices utf8_room self.old src.now (length dst.old) result.0 result.1 result.2 self.new }
-        ensures suffices_between_reports { Suffices utf8_room_replacing self.old src.now (length dst.old)
+        // If `dst` has the length of a query, the call doesn't return `OutputFull`, and the space left is enough for the
+        // rest of the bytes asked about: after U+FFFD is written, with `max_utf8_buffer_length` only.
+        ensures suffices { Suffices max_utf8_length self.old src.now (length dst.old) result.0 result.1 result.2 self.new }
+        ensures suffices_between_reports { Suffices max_utf8_length_with_replacement self.old src.now (length dst.old)
             result.0 result.1 result.2 self.new }
-        ensures suffices_replacing { SufficesReplacing utf8_room_replacing 3 self.old src.now (length dst.old)
+        ensures suffices_replacing { SufficesReplacing max_utf8_length_with_replacement 3 self.old src.now (length dst.old)
             result.0 result.1 result.2 self.new }
     {
         decode::<u8>(&mut self.pending, src, dst, last)
     }
 
-    /// Decodes without a destination. Returns the next piece and how many bytes of `src` it read. `last` says that no
-    /// bytes follow `src`.
+    /// Decodes without copying. Returns the next piece of output and how many bytes of `src` were read. `last` says
+    /// that no bytes follow `src`.
     ///
     /// If nothing is pending and `src` starts with a character, the piece is the longest well-formed prefix, borrowed
-    /// from `src`. Otherwise it is the first part, a character or a malformed sequence, of the pending bytes followed
-    /// by `src`. It is `InputEmpty` if all is read first: these bytes are then pending, and after a last call none are.
-    /// Pass the unread bytes again. Nothing is allocated.
+    /// from `src`. Otherwise the piece is the first character or malformed sequence of the bytes that are pending or in
+    /// `src`. If `src` ends before that character or sequence is complete, or there are no bytes, the piece is
+    /// `InputEmpty`, and the bytes are pending. With `last` set, an incomplete sequence is a malformed one, so after
+    /// `InputEmpty` nothing is pending. Call again with the unread rest of `src` until all is read. Nothing is allocated.
     #[inline(always)]
     pub fn decode_borrowed_raw<'a>(&mut self, src: &'a [u8], last: bool) -> (Piece<'a>, usize)
-        ensures { IsBorrowedCall self.old src.now last result.0 result.1 self.new }
+        ensures { BorrowedDecodeStep self.old src.now last result.0 result.1 self.new }
     {
         decode_borrowed(&mut self.pending, src, last)
     }

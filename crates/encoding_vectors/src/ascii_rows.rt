@@ -15,7 +15,7 @@ fn masks_each_byte(rt: HostRuntime) {
 }
 
 /// Returns whether prefixes end before the first byte from 0x80 on.
-fn fronts_end() -> bool {
+fn prefixes_end() -> bool {
     ascii_valid_up_to(b"") == 0
         && ascii_valid_up_to(b"ab") == 2
         && ascii_valid_up_to(&[0x61, 0x80]) == 1
@@ -25,12 +25,12 @@ fn fronts_end() -> bool {
 }
 
 #[test]
-fn finds_the_front(rt: HostRuntime) {
-    assert!(rt; fronts_end());
+fn finds_the_prefix(rt: HostRuntime) {
+    assert!(rt; prefixes_end());
 }
 
 /// Returns whether prefixes of ISO-2022-JP also end before an escape byte and the two shift bytes.
-fn iso_2022_jp_fronts_end() -> bool {
+fn iso_2022_jp_prefixes_end() -> bool {
     iso_2022_jp_ascii_valid_up_to(&[0x61, 0x1B, 0x62]) == 1
         && iso_2022_jp_ascii_valid_up_to(&[0x61, 0x62]) == 2
         && iso_2022_jp_ascii_valid_up_to(&[0x0E]) == 0
@@ -39,12 +39,12 @@ fn iso_2022_jp_fronts_end() -> bool {
 }
 
 #[test]
-fn finds_the_front_of_iso_2022_jp(rt: HostRuntime) {
-    assert!(rt; iso_2022_jp_fronts_end());
+fn finds_the_prefix_of_iso_2022_jp(rt: HostRuntime) {
+    assert!(rt; iso_2022_jp_prefixes_end());
 }
 
 /// Returns whether each copy stops at the first unit that isn't ASCII, and the rest is unchanged.
-fn fronts_are_copied() -> bool {
+fn prefixes_are_copied() -> bool {
     let mut bytes = [0; 3];
     let mut units = [0; 3];
     let mut narrow = [0; 3];
@@ -57,8 +57,8 @@ fn fronts_are_copied() -> bool {
 }
 
 #[test]
-fn copies_the_front(rt: HostRuntime) {
-    assert!(rt; fronts_are_copied());
+fn copies_the_prefix(rt: HostRuntime) {
+    assert!(rt; prefixes_are_copied());
 }
 
 /// Returns whether the copies end at the shorter of the two lengths.
@@ -95,14 +95,14 @@ fn widened(src: &[u8; 32]) -> [u16; 32] {
 }
 
 /// Returns whether the items before an index are those of the source, and all others are zero.
-fn is_front_of(bytes: &[u8; 32], src: &[u8; 32], end: usize) -> bool {
+fn is_prefix_of(bytes: &[u8; 32], src: &[u8; 32], end: usize) -> bool {
     (0..32usize).all(|j| bytes[j] == if j < end { src[j] } else { 0 })
 }
 
 fn stops_at(i: usize) -> bool {
     let src = letters_with_other_at(i);
     let mut bytes = [0u8; 32];
-    ascii_to_ascii(&src, &mut bytes) == Some((0xAA, i)) && is_front_of(&bytes, &src, i)
+    ascii_to_ascii(&src, &mut bytes) == Some((0xAA, i)) && is_prefix_of(&bytes, &src, i)
 }
 
 fn stops_unpacking_at(i: usize) -> bool {
@@ -117,7 +117,7 @@ fn stops_packing_at(i: usize) -> bool {
     let src = letters_with_other_at(i);
     let mut bytes = [0u8; 32];
     let answer = basic_latin_to_ascii(&widened(&src), &mut bytes);
-    answer == Some((0xAA, i)) && is_front_of(&bytes, &src, i)
+    answer == Some((0xAA, i)) && is_prefix_of(&bytes, &src, i)
 }
 
 #[test]
@@ -129,7 +129,7 @@ fn scans_stop_at_each_place(rt: HostRuntime) {
 }
 
 /// Returns whether the checks distinguish the units from i to 0x7F, with 0xA0 for those before j, from ASCII.
-fn are_told_apart(i: usize, j: usize) -> bool {
+fn are_distinguished(i: usize, j: usize) -> bool {
     let mut bytes = [0u8; 128];
     let mut units = [0u16; 128];
     for at in 0..128 {
@@ -144,7 +144,7 @@ fn are_told_apart(i: usize, j: usize) -> bool {
 #[test]
 fn checks_at_all_lengths(rt: HostRuntime) {
     for i in 0..128 {
-        let apart = (i..129usize).all(|j| are_told_apart(i, j));
+        let apart = (i..129usize).all(|j| are_distinguished(i, j));
         assert!(rt; apart, "{i}");
     }
 }

@@ -175,7 +175,7 @@ fn ill_formed_bytes_are_right_to_left(rt: HostRuntime) {
 }
 
 /// Returns whether bytes are of their classes.
-fn bytes_are_told_apart() -> bool {
+fn bytes_are_distinguished() -> bool {
     check_utf8_for_latin1_and_bidi(&[0xC3]) == Latin1Bidi::Bidi
         && check_utf8_for_latin1_and_bidi(&[0xC4, 0x80]) == Latin1Bidi::LeftToRight
         && check_utf8_for_latin1_and_bidi(&[0xC3, 0xBF]) == Latin1Bidi::Latin1
@@ -184,7 +184,7 @@ fn bytes_are_told_apart() -> bool {
 }
 
 /// Returns whether code units are of their classes.
-fn units_are_told_apart() -> bool {
+fn units_are_distinguished() -> bool {
     check_utf16_for_latin1_and_bidi(&[0x00FF]) == Latin1Bidi::Latin1
         && check_utf16_for_latin1_and_bidi(&[0x0100]) == Latin1Bidi::LeftToRight
         && check_utf16_for_latin1_and_bidi(&[0x05D0]) == Latin1Bidi::Bidi
@@ -193,6 +193,6 @@ fn units_are_told_apart() -> bool {
 
 #[test]
 fn classes(rt: HostRuntime) {
-    assert!(rt; bytes_are_told_apart());
-    assert!(rt; units_are_told_apart());
+    assert!(rt; bytes_are_distinguished());
+    assert!(rt; units_are_distinguished());
 }

@@ -111,10 +111,10 @@ fn piece_comes_next(
     wanted: &Delivered<u8>,
     came: &mut (usize, usize),
     piece: &Piece<'_>,
-    front: &[u8],
+    prefix: &[u8],
 ) -> bool {
     match piece {
-        Piece::Text(text) => text.as_bytes() == front && come_next(&wanted.0, came, front),
+        Piece::Text(text) => text.as_bytes() == prefix && come_next(&wanted.0, came, prefix),
         Piece::Char(scalar) => {
             come_next(&wanted.0, came, scalar.encode_utf8(&mut [0; 4]).as_bytes())
         }
@@ -137,11 +137,11 @@ fn pieces_are(src: &[u8], most: usize, wanted: &Delivered<u8>) -> bool {
         let handed = unread.get(..most).unwrap_or(unread);
         let last = handed.len() == unread.len();
         let (piece, read) = decoder.decode_borrowed_raw(handed, last);
-        let (Some(rest), Some(front)) = (unread.get(read..), handed.get(..read)) else {
+        let (Some(rest), Some(prefix)) = (unread.get(read..), handed.get(..read)) else {
             return false;
         };
         unread = rest;
-        if !piece_comes_next(wanted, &mut came, &piece, front) {
+        if !piece_comes_next(wanted, &mut came, &piece, prefix) {
             return false;
         }
         if last && matches!(piece, Piece::InputEmpty) {

@@ -41,11 +41,11 @@ fn decodes_with_spare(
     wanted: &Result<CowStr<'_>, AllocError>,
 ) -> Result<bool, AllocError> {
     let block = Vec::<u8>::with_capacity(alloc, spare)?;
-    let held = exhaust(alloc)?;
+    let taken = exhaust(alloc)?;
     drop(block);
     let text = decode_latin1(alloc, bytes);
     let refused = Vec::<u8>::with_capacity(alloc, 1).is_err();
-    drop(held);
+    drop(taken);
     Ok(refused && text == *wanted)
 }
 
@@ -60,11 +60,11 @@ fn encodes_with_spare(
         return Ok(false);
     }
     let block = Vec::<u8>::with_capacity(alloc, spare)?;
-    let held = exhaust(alloc)?;
+    let taken = exhaust(alloc)?;
     drop(block);
     let bytes = encode_latin1_lossy(alloc, text);
     let refused = Vec::<u8>::with_capacity(alloc, 1).is_err();
-    drop(held);
+    drop(taken);
     Ok(refused && bytes == *wanted)
 }
 

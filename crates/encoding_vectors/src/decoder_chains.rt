@@ -1,6 +1,6 @@
 //! Decode calls in a chain: with any cuts, into any destination, and in all forms.
 
-use crate::parts::{Parts, broken};
+use crate::parts::{Parts, malformed};
 use encoding_text::decoder::{DecoderResult, Piece, Utf8Decoder};
 
 /// The form of a decode call.
@@ -37,9 +37,9 @@ struct Chain {
 impl Chain {
     /// Records a result, and returns whether it is `InputEmpty`.
     fn ends(&mut self, outcome: &DecoderResult) -> bool {
-        if let DecoderResult::Malformed(length, behind) = outcome {
-            let length = usize::from(*length).saturating_add(usize::from(*behind));
-            self.delivered.push(broken(length));
+        if let DecoderResult::Malformed(length, following) = outcome {
+            let length = usize::from(*length).saturating_add(usize::from(*following));
+            self.delivered.push(malformed(length));
         }
         *outcome == DecoderResult::InputEmpty
     }
@@ -84,7 +84,7 @@ impl Chain {
             Piece::Text(text) if src.get(..read) == Some(text.as_bytes()) => self.note(text),
             Piece::Text(_) => return None,
             Piece::Char(character) => self.delivered.push(u32::from(character)),
-            Piece::Malformed(length) => self.delivered.push(broken(usize::from(length))),
+            Piece::Malformed(length) => self.delivered.push(malformed(usize::from(length))),
             Piece::InputEmpty => ended = true,
         }
         Some((read, ended))
@@ -105,10 +105,10 @@ impl Chain {
     /// Passes a piece until `InputEmpty` is returned. Returns whether all of it is read then.
     fn reads(&mut self, piece: &[u8], last: bool, way: &Way) -> bool {
         let mut unread = piece;
-        let mut stuck = false;
+        let mut rejected = false;
         for _ in 0..CALLS {
             let count = self.delivered.count;
-            let Some((read, ended)) = self.call(unread, last, way, stuck) else {
+            let Some((read, ended)) = self.call(unread, last, way, rejected) else {
                 return false;
             };
             let Some(rest) = unread.get(read..) else {
@@ -117,7 +117,7 @@ impl Chain {
             if ended {
                 return rest.is_empty();
             }
-            stuck = read == 0 && self.delivered.count == count;
+            rejected = read == 0 && self.delivered.count == count;
             unread = rest;
         }
         false
@@ -136,13 +136,14 @@ pub fn decodes_to(bytes: &[u8], way: &Way, parts: &Parts) -> bool {
     for place in 0..bytes.len().saturating_add(1) {
         let start = bytes.len().saturating_sub(rest.len());
         if cuts % 2 == 1 {
-            let (Some(piece), Some(behind)) = (bytes.get(start..place), bytes.get(place..)) else {
+            let (Some(piece), Some(following)) = (bytes.get(start..place), bytes.get(place..))
+            else {
                 return false;
             };
             if !chain.reads(piece, false, way) {
                 return false;
             }
-            rest = behind;
+            rest = following;
         }
         cuts /= 2;
     }

@@ -25,10 +25,10 @@ fn decodes<U: Output>(
         let mut dst = unwritten(alloc, 16)?;
         let (result, read, written) = U::decode(&mut decoder, unread, &mut dst, true);
         let end = written.saturating_add(came.0);
-        let (Some(rest), Some(front)) = (unread.get(read..), dst.get(..written)) else {
+        let (Some(rest), Some(prefix)) = (unread.get(read..), dst.get(..written)) else {
             return Ok(false);
         };
-        if wanted.0.get(came.0..end) != Some(front) {
+        if wanted.0.get(came.0..end) != Some(prefix) {
             return Ok(false);
         }
         unread = rest;

@@ -1,6 +1,6 @@
 //! Single calls of the decoder, and the queries of buffer lengths.
 
-use crate::decoder_vectors::scalar_of;
+use crate::decoder_vectors::scalar_of_part16;
 use crate::texts::{are_written, bytes_of, field, number_of, units_of};
 use encoding_text::decoder::{DecoderResult, Piece, Utf8Decoder};
 use std::alloc::Global;
@@ -103,7 +103,7 @@ fn piece_of<'a>(field: &str, text: &'a [u8]) -> Result<Piece<'a>, Fail> {
         "Malformed 1" => Ok(Piece::Malformed(1)),
         "Malformed 2" => Ok(Piece::Malformed(2)),
         "Malformed 3" => Ok(Piece::Malformed(3)),
-        _ => Ok(Piece::Char(scalar_of(field)?)),
+        _ => Ok(Piece::Char(scalar_of_part16(field)?)),
     }
 }
 

@@ -2,7 +2,7 @@
 
 use crate::outputs::Output;
 use crate::texts::{bytes_of, field};
-use Expected::{Broken, Character};
+use Expected::{Character, IllFormed};
 use std::alloc::{AllocError, Global};
 use std::test::Fail;
 
@@ -10,7 +10,7 @@ use std::test::Fail;
 #[derive(Drop)]
 pub enum Expected {
     Character(char),
-    Broken(usize),
+    IllFormed(usize),
 }
 
 /// Bytes and their expected parts, with their row.
@@ -90,30 +90,30 @@ pub fn vectors(alloc: Global) -> Result<Vec<Vector>, Fail> {
 }
 
 /// Returns the vector of a row, with letters after it.
-fn vector_of(alloc: Global, row: &'static str, behind: &[u8]) -> Result<Vector, Fail> {
+fn vector_of(alloc: Global, row: &'static str, following: &[u8]) -> Result<Vector, Fail> {
     let mut rest = row;
-    let bytes = framed_bytes(alloc, &bytes_of(alloc, field(&mut rest))?, behind)?;
-    let parts = framed_parts(alloc, rest, behind)?;
+    let bytes = framed_bytes(alloc, &bytes_of(alloc, field(&mut rest))?, following)?;
+    let parts = framed_parts(alloc, rest, following)?;
     Ok(Vector { row, bytes, parts })
 }
 
 /// Returns `61`, the bytes, and the letters.
-fn framed_bytes(alloc: Global, bytes: &[u8], behind: &[u8]) -> Result<Vec<u8>, AllocError> {
+fn framed_bytes(alloc: Global, bytes: &[u8], following: &[u8]) -> Result<Vec<u8>, AllocError> {
     let mut framed = Vec::new(alloc);
     framed.push(b'a')?;
     framed.extend_from_slice(bytes)?;
-    framed.extend_from_slice(behind)?;
+    framed.extend_from_slice(following)?;
     Ok(framed)
 }
 
 /// Returns the parts of the same.
-fn framed_parts(alloc: Global, words: &str, behind: &[u8]) -> Result<Vec<Expected>, Fail> {
+fn framed_parts(alloc: Global, words: &str, following: &[u8]) -> Result<Vec<Expected>, Fail> {
     let mut parts = Vec::new(alloc);
     parts.push(Character('a'))?;
     for word in words.split_whitespace() {
         parts.push(part_of(word)?)?;
     }
-    for letter in behind {
+    for letter in following {
         parts.push(Character(char::from(*letter)))?;
     }
     Ok(parts)
@@ -122,28 +122,28 @@ fn framed_parts(alloc: Global, words: &str, behind: &[u8]) -> Result<Vec<Expecte
 /// Returns the part that a word names.
 fn part_of(word: &str) -> Result<Expected, Fail> {
     match word {
-        "?1" => Ok(Broken(1)),
-        "?2" => Ok(Broken(2)),
-        "?3" => Ok(Broken(3)),
-        _ => Ok(Character(scalar_of(word)?)),
+        "?1" => Ok(IllFormed(1)),
+        "?2" => Ok(IllFormed(2)),
+        "?3" => Ok(IllFormed(3)),
+        _ => Ok(Character(scalar_of_part16(word)?)),
     }
 }
 
 /// Returns the scalar value that a word such as `U+00E4` names.
-pub fn scalar_of(word: &str) -> Result<char, Fail> {
+pub fn scalar_of_part16(word: &str) -> Result<char, Fail> {
     let digits = word.strip_prefix("U+").ok_or("no scalar value")?;
     Ok(char::from_u32(u32::from_str_radix(digits, 16)?).ok_or("no scalar value")?)
 }
 
 /// Returns the repaired text: the characters, and U+FFFD for each malformed sequence.
-pub fn repaired_text(alloc: Global, vector: &Vector) -> Result<Vec<u8>, AllocError> {
+pub fn lossy_utf8(alloc: Global, vector: &Vector) -> Result<Vec<u8>, AllocError> {
     let mut text = Vec::new(alloc);
     for part in &vector.parts {
         match part {
             Character(scalar) => {
                 text.extend_from_slice(scalar.encode_utf8(&mut [0; 4]).as_bytes())?;
             }
-            Broken(_) => text.extend_from_slice(&[0xEF, 0xBF, 0xBD])?,
+            IllFormed(_) => text.extend_from_slice(&[0xEF, 0xBF, 0xBD])?,
         }
     }
     Ok(text)
@@ -156,7 +156,7 @@ pub fn delivered<U: Output>(alloc: Global, vector: &Vector) -> Result<Delivered<
     for part in &vector.parts {
         match part {
             Character(scalar) => U::push(&mut text, *scalar)?,
-            Broken(length) => reports.push((text.len(), *length))?,
+            IllFormed(length) => reports.push((text.len(), *length))?,
         }
     }
     Ok((text, reports))
@@ -166,6 +166,6 @@ pub fn delivered<U: Output>(alloc: Global, vector: &Vector) -> Result<Delivered<
 pub fn length_of(part: &Expected) -> usize {
     match part {
         Character(scalar) => scalar.len_utf8(),
-        Broken(length) => *length,
+        IllFormed(length) => *length,
     }
 }

@@ -35,11 +35,11 @@ struct Example {
     replaced: u64,
 }
 
-/// Returns `front` letters, and then `count` parts, each after `between` letters. A growing step leads from a part to
+/// Returns `prefix` letters, and then `count` parts, each after `between` letters. A growing step leads from a part to
 /// the next, so that each comes next to each.
 fn example_of(
     alloc: Global,
-    front: usize,
+    prefix: usize,
     count: usize,
     between: usize,
 ) -> Result<Example, AllocError> {
@@ -48,7 +48,7 @@ fn example_of(
         text: Vec::new(alloc),
         replaced: 0,
     };
-    push_letters(&mut example, front)?;
+    push_letters(&mut example, prefix)?;
     for i in 0..count {
         push_letters(&mut example, between)?;
         let turn = i / PARTS.len();
@@ -94,9 +94,9 @@ fn repairs_stream(alloc: Global, example: &Example, step: usize) -> bool {
 
 /// The letters at the start move what follows over each boundary: of the array, of a round, and of the bytes that are
 /// checked together.
-fn repairs_behind_letters(alloc: Global, count: usize, between: usize) -> Result<bool, AllocError> {
-    for front in 0..20 {
-        let example = example_of(alloc, front, count, between)?;
+fn repairs_after_letters(alloc: Global, count: usize, between: usize) -> Result<bool, AllocError> {
+    for prefix in 0..20 {
+        let example = example_of(alloc, prefix, count, between)?;
         let repaired = repairs_slice(alloc, &example)
             && repairs_stream(alloc, &example, usize::MAX)
             && repairs_stream(alloc, &example, 1021);
@@ -109,7 +109,7 @@ fn repairs_behind_letters(alloc: Global, count: usize, between: usize) -> Result
 
 #[test]
 fn repairs_parts_close_together(rt: HostRuntime) -> Result<(), Fail> {
-    assert!(rt; repairs_behind_letters(rt.alloc(), 3000, 0)?);
+    assert!(rt; repairs_after_letters(rt.alloc(), 3000, 0)?);
     Ok(())
 }
 
@@ -118,7 +118,7 @@ fn repairs_parts_far_apart(rt: HostRuntime) -> Result<(), Fail> {
     for between in [7, 8, 9, 15, 100, 1000] {
         let count = 9000 / between;
         assert!(rt;
-            repairs_behind_letters(rt.alloc(), count, between)?,
+            repairs_after_letters(rt.alloc(), count, between)?,
             "{between}"
         );
     }
@@ -127,7 +127,7 @@ fn repairs_parts_far_apart(rt: HostRuntime) -> Result<(), Fail> {
 
 /// Each byte is a malformed sequence, or each but the last.
 #[test]
-fn repairs_broken_bytes_alone(rt: HostRuntime) -> Result<(), Fail> {
+fn repairs_single_malformed_bytes(rt: HostRuntime) -> Result<(), Fail> {
     for count in [1020usize, 1021, 1022, 1023, 1024, 1025, 1026, 2048, 5000] {
         let mut example = example_of(rt.alloc(), 0, 0, 0)?;
         for _ in 0..count {
@@ -146,7 +146,7 @@ fn repairs_broken_bytes_alone(rt: HostRuntime) -> Result<(), Fail> {
 /// Single malformed bytes in ASCII, each at a fixed distance from the one before it. A character of two bytes ends
 /// that.
 #[test]
-fn repairs_broken_bytes_in_ascii(rt: HostRuntime) -> Result<(), Fail> {
+fn repairs_malformed_bytes_in_ascii(rt: HostRuntime) -> Result<(), Fail> {
     for between in 0..70 {
         let mut example = example_of(rt.alloc(), 3, 0, 0)?;
         for _ in 0..40 {

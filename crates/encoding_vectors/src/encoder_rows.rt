@@ -1,21 +1,21 @@
 //! The encoder while nothing is pending: vectors and limits.
 
 use crate::encoder_vectors::{Source, limits, vectors};
-use crate::held_units::holds;
+use crate::pending_units::holds;
 use crate::texts::are_written;
 use encoding_text::utf_8::{EncoderResult, Utf8Encoder};
 use std::test::Fail;
 
 /// Returns whether a new encoder reads all units of a source, writes these bytes into a long destination, and has this
 /// pending then.
-fn encodes(source: &Source, last: bool, bytes: &[u8], held: &str) -> bool {
+fn encodes(source: &Source, last: bool, bytes: &[u8], surrogate: &str) -> bool {
     let mut encoder = Utf8Encoder::new_inner();
     let mut dst = [0x71; 64];
     let (result, read, written) = encoder.encode_from_utf16_raw(&source.units, &mut dst, last);
     result == EncoderResult::InputEmpty
         && read == source.units.len()
         && are_written(bytes, &dst, written)
-        && holds(encoder, held)
+        && holds(encoder, surrogate)
 }
 
 /// Returns whether the same is written marked last or not, except for a high surrogate that ends a call not marked
@@ -51,11 +51,14 @@ fn encodes_into(
 ) -> bool {
     let mut encoder = Utf8Encoder::new_inner();
     let mut dst = [0x71; 64];
-    let (Some(room), Some(front)) = (dst.get_mut(..room), source.bytes.get(..bytes)) else {
+    let (Some(room), Some(prefix)) = (dst.get_mut(..room), source.bytes.get(..bytes)) else {
         return false;
     };
     let (result, read, written) = encoder.encode_from_utf16_raw(&source.units, room, true);
-    result == wanted && read == units && are_written(front, &dst, written) && holds(encoder, "none")
+    result == wanted
+        && read == units
+        && are_written(prefix, &dst, written)
+        && holds(encoder, "none")
 }
 
 /// Into exactly the length of its UTF-8.
@@ -77,13 +80,13 @@ fn leaves_the_last(source: &Source) -> bool {
         source,
         room,
         EncoderResult::OutputFull,
-        source.front_units,
-        source.front_bytes,
+        source.prefix_units,
+        source.prefix_bytes,
     )
 }
 
 /// Into 64 bytes that contain 0, 1, 2 and so on. Those after the written bytes are unchanged.
-fn keeps_what_is_behind(source: &Source) -> bool {
+fn keeps_what_is_after(source: &Source) -> bool {
     let mut dst = [0; 64];
     for i in 0..64 {
         dst[i] = i as u8;
@@ -103,7 +106,7 @@ fn keeps_what_is_behind(source: &Source) -> bool {
 fn writes_what_fits(rt: HostRuntime) -> Result<(), Fail> {
     let limits = limits(rt.alloc())?;
     for source in &limits {
-        let fits = fits_exactly(source) && leaves_the_last(source) && keeps_what_is_behind(source);
+        let fits = fits_exactly(source) && leaves_the_last(source) && keeps_what_is_after(source);
         assert!(rt; fits, "{}", source.row);
     }
     assert!(rt; limits.len() == 34);

@@ -10,8 +10,8 @@ pub struct Source {
     pub row: &'static str,
     pub units: Vec<u16>,
     pub bytes: Vec<u8>,
-    pub front_units: usize,
-    pub front_bytes: usize,
+    pub prefix_units: usize,
+    pub prefix_bytes: usize,
 }
 
 /// Code units, their UTF-8, and how many of both are before the last character.
@@ -103,13 +103,13 @@ fn source_of(alloc: Global, row: &'static str) -> Result<Source, Fail> {
     let mut rest = row;
     let units = units_of(alloc, field(&mut rest))?;
     let bytes = bytes_of(alloc, field(&mut rest))?;
-    let front_units = number_of(field(&mut rest))?;
-    let front_bytes = number_of(field(&mut rest))?;
+    let prefix_units = number_of(field(&mut rest))?;
+    let prefix_bytes = number_of(field(&mut rest))?;
     Ok(Source {
         row,
         units,
         bytes,
-        front_units,
-        front_bytes,
+        prefix_units,
+        prefix_bytes,
     })
 }

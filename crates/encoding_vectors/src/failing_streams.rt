@@ -2,7 +2,7 @@
 //! malformed sequences over the ends of rounds.
 
 use crate::decoder_vectors::vectors;
-use crate::parts::{Parts, settled_length};
+use crate::parts::{Parts, final_length};
 use crate::texts::bytes_of;
 use encoding_runs::repair::{RepairFault, Repaired, Watch, repair};
 use std::alloc::{AllocError, Global};
@@ -40,15 +40,15 @@ impl Case<'_> {
             &mut Watch::new(&mut *writer),
             limit,
         );
-        let behind = match returned {
+        let following = match returned {
             Ok(_) | Err(RepairFault::Read) => 1,
-            Err(_) => reader.asked_behind.min(1),
+            Err(_) => reader.asked_after.min(1),
         };
         returned == outcome
             && writer.same
             && writer.taken == written
-            && writer.asked_behind == 0
-            && reader.asked_behind == behind
+            && writer.asked_after == 0
+            && reader.asked_after == following
     }
 
     /// Returns whether all is repaired, with `replaced` parts replaced.
@@ -63,29 +63,29 @@ impl Case<'_> {
     /// Returns whether the final text of the first `place` bytes is written if the next read fails, and if these are
     /// the limit.
     fn stops_reading_at(&self, place: usize, kind: ErrorKind) -> bool {
-        let front = self.bytes.get(..place).unwrap_or(&[]);
-        let settled = settled_length(front);
-        let mut reader = Input::that_fails(front, kind).by_steps_of(self.steps.0);
+        let prefix = self.bytes.get(..place).unwrap_or(&[]);
+        let final_text = final_length(prefix);
+        let mut reader = Input::that_fails(prefix, kind).by_steps_of(self.steps.0);
         let mut writer = Compared::with(self.text, self.steps.1);
         let fails = self.repairs_to(
             &mut reader,
             &mut writer,
             u64::MAX,
             Err(RepairFault::Read),
-            settled,
+            final_text,
         );
         let mut reader = Input::of(self.bytes, self.steps.0);
         let mut writer = Compared::with(self.text, self.steps.1);
-        let limit = front.len() as u64;
+        let limit = prefix.len() as u64;
         fails
             && self.repairs_to(
                 &mut reader,
                 &mut writer,
                 limit,
                 Err(RepairFault::Limit),
-                settled,
+                final_text,
             )
-            && reader.asked_behind == 0
+            && reader.asked_after == 0
     }
 
     /// Returns whether a repair stops if the writer stops after `place` bytes, and what was final before the last read
@@ -101,10 +101,10 @@ impl Case<'_> {
             place,
         );
         let earlier = reader.asked.saturating_sub(1);
-        let given = earlier
+        let yielded = earlier
             .saturating_mul(self.steps.0.min(ROUND))
             .min(self.bytes.len());
-        stops && settled_length(self.bytes.get(..given).unwrap_or(&[])) <= place
+        stops && final_length(self.bytes.get(..yielded).unwrap_or(&[])) <= place
     }
 
     /// Returns whether it stops at each offset in a range, whichever stream fails, and however.
@@ -148,7 +148,7 @@ fn holds(
 fn vectors_at_each_place(rt: HostRuntime) -> Result<(), Fail> {
     let vectors = vectors(rt.alloc())?;
     for vector in &vectors {
-        let replaced = Parts::of_vector(vector).broken_count();
+        let replaced = Parts::of_vector(vector).malformed_count();
         assert!(rt;
             holds(rt.alloc(), &vector.bytes, replaced, 0, 20)?,
             "{}",
@@ -192,7 +192,7 @@ fn rounds_at_each_place(rt: HostRuntime) -> Result<(), Fail> {
     let mut count = 0u32;
     for row in PARTS.lines() {
         let part = bytes_of(rt.alloc(), row)?;
-        let replaced = Parts::of(&part).broken_count().saturating_mul(2);
+        let replaced = Parts::of(&part).malformed_count().saturating_mul(2);
         for place in 1021..1028 {
             let input = long_input(rt.alloc(), &part, place)?;
             for (start, end) in [(1018, 1034), (2042, 2058), (4998, 5002)] {

@@ -11,7 +11,7 @@ use std::alloc::Global;
 use std::test::Fail;
 
 /// Bytes, and the length of their prefix that is the UTF-8 of Latin1 text; or bytes that are no text, so not Latin1.
-const FRONTS: &str = "\
+const PREFIXES: &str = "\
 | 0
 61 C3 FF | 1
 C3 A4 C4 80 | 2
@@ -23,7 +23,7 @@ FF | ill-formed
 C3 FF | ill-formed
 61 C3 FF | ill-formed";
 
-fn front_is(alloc: Global, row: &str) -> Result<bool, Fail> {
+fn prefix_is(alloc: Global, row: &str) -> Result<bool, Fail> {
     let mut row = row;
     let bytes = bytes_of(alloc, field(&mut row))?;
     match field(&mut row) {
@@ -33,10 +33,10 @@ fn front_is(alloc: Global, row: &str) -> Result<bool, Fail> {
 }
 
 #[test]
-fn finds_the_front(rt: HostRuntime) -> Result<(), Fail> {
+fn finds_the_prefix(rt: HostRuntime) -> Result<(), Fail> {
     let mut count = 0u32;
-    for row in FRONTS.lines() {
-        assert!(rt; front_is(rt.alloc(), row)?, "{row}");
+    for row in PREFIXES.lines() {
+        assert!(rt; prefix_is(rt.alloc(), row)?, "{row}");
         count = count.saturating_add(1);
     }
     assert!(rt; count == 10);

@@ -31,10 +31,6 @@ mod encoder_vectors;
 #[cfg(test)]
 mod failing_streams;
 #[cfg(test)]
-mod held_unit_rows;
-#[cfg(test)]
-mod held_units;
-#[cfg(test)]
 mod latin1_checks;
 #[cfg(test)]
 mod latin1_rows;
@@ -48,6 +44,10 @@ mod mixed_text;
 mod outputs;
 #[cfg(test)]
 mod parts;
+#[cfg(test)]
+mod pending_unit_rows;
+#[cfg(test)]
+mod pending_units;
 #[cfg(test)]
 mod repair_fault_rows;
 #[cfg(test)]

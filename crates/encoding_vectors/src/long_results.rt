@@ -82,13 +82,13 @@ fn leaves_a_block(alloc: Global, bytes: &[u8], length: usize) -> Result<bool, Al
         return Ok(false);
     }
     let block = Vec::<u8>::with_capacity(alloc, length)?;
-    let held = exhaust(alloc)?;
+    let taken = exhaust(alloc)?;
     drop(block);
     let decoded = decode_latin1(alloc, bytes);
     let encoded = encode_latin1_lossy(alloc, &text);
     let again = Vec::<u8>::with_capacity(alloc, length);
     let other = Vec::<u8>::with_capacity(alloc, 1);
-    drop(held);
+    drop(taken);
     let refused = decoded == Err(AllocError) && encoded == Err(AllocError);
     Ok(refused && again.is_ok() && other.is_err())
 }
@@ -129,17 +129,17 @@ fn are_borrowed(alloc: Global, bytes: &[u8]) -> Result<bool, AllocError> {
     if !is_str_latin1(&text) {
         return Ok(false);
     }
-    let held = exhaust(alloc)?;
+    let taken = exhaust(alloc)?;
     let decoded = decode_latin1(alloc, bytes);
     let encoded = encode_latin1_lossy(alloc, &text);
-    drop(held);
+    drop(taken);
     Ok(decoded == Ok(CowStr::Borrowed(&text)) && encoded == Ok(CowBytes::Borrowed(bytes)))
 }
 
 /// Two blocks of a length, all memory that is left.
 #[derive(Drop)]
 struct TwoBlocks {
-    held: Vec<Vec<u8>>,
+    taken: Vec<Vec<u8>>,
     length: usize,
 }
 
@@ -147,10 +147,10 @@ struct TwoBlocks {
 fn leave_two(alloc: Global, length: usize) -> Result<TwoBlocks, AllocError> {
     let first = Vec::<u8>::with_capacity(alloc, length)?;
     let second = Vec::<u8>::with_capacity(alloc, length)?;
-    let held = exhaust(alloc)?;
+    let taken = exhaust(alloc)?;
     drop(first);
     drop(second);
-    Ok(TwoBlocks { held, length })
+    Ok(TwoBlocks { taken, length })
 }
 
 impl TwoBlocks {
@@ -170,9 +170,9 @@ fn decoding_takes_one(alloc: Global, bytes: &[u8], length: usize) -> Result<bool
     let decoded = decode_latin1(alloc, bytes);
     let during = decoded.is_ok() && blocks.are_left(alloc, 1);
     drop(decoded);
-    let behind = blocks.are_left(alloc, 2);
+    let following = blocks.are_left(alloc, 2);
     drop(blocks);
-    Ok(before && during && behind)
+    Ok(before && during && following)
 }
 
 /// Returns whether encoding takes one block of two, and releases it with its bytes.
@@ -186,15 +186,15 @@ fn encoding_takes_one(alloc: Global, bytes: &[u8], length: usize) -> Result<bool
     let encoded = encode_latin1_lossy(alloc, &text);
     let during = encoded.is_ok() && blocks.are_left(alloc, 1);
     drop(encoded);
-    let behind = blocks.are_left(alloc, 2);
+    let following = blocks.are_left(alloc, 2);
     drop(blocks);
-    Ok(before && during && behind)
+    Ok(before && during && following)
 }
 
 /// Letters, others and the first of them, and the capacity, which is the length of either block. More than once, so
 /// that leaks would add up.
 #[test]
-fn a_success_leaves_nothing_behind(rt: HostRuntime) -> Result<(), Fail> {
+fn a_success_leaves_nothing_after(rt: HostRuntime) -> Result<(), Fail> {
     for (letters, others, first, length) in [
         (1500, 100, 0x80, 1700),
         (0, 2500, 0x80, 5000),

@@ -10,7 +10,7 @@ use test_support::patterns::{PATTERN, PatternInput, PatternOutput, REPAIRED};
 const LENGTH: usize = 200_000;
 
 /// The number of their malformed sequences.
-const BROKEN: u64 = 15_385;
+const MALFORMED: u64 = 15_385;
 
 /// Returns whether a repair of the whole pattern has this result, with this much of it written and all of it, or less,
 /// read.
@@ -25,7 +25,7 @@ fn repairs_to(
         &mut Watch::new(&mut *writer),
         u64::MAX,
     );
-    returned == outcome && writer.same && writer.taken == written && writer.asked_behind == 0
+    returned == outcome && writer.same && writer.taken == written && writer.asked_after == 0
 }
 
 #[test]
@@ -34,10 +34,10 @@ fn repairs_a_long_stream(rt: HostRuntime) {
     let mut writer = PatternOutput::that_takes(usize::MAX);
     let outcome = Ok(Repaired {
         read: LENGTH as u64,
-        replaced: BROKEN,
+        replaced: MALFORMED,
     });
     assert!(rt; repairs_to(&mut reader, &mut writer, outcome, LENGTH));
-    assert!(rt; reader.asked_behind == 1);
+    assert!(rt; reader.asked_after == 1);
 }
 
 /// An incomplete sequence before the read error is not written.
@@ -47,7 +47,7 @@ fn stops_at_a_late_read_fault(rt: HostRuntime) {
         let mut reader = PatternInput::of(LENGTH, Some(kind));
         let mut writer = PatternOutput::that_takes(usize::MAX);
         let stops = repairs_to(&mut reader, &mut writer, Err(RepairFault::Read), LENGTH - 3);
-        assert!(rt; stops && reader.asked_behind == 1);
+        assert!(rt; stops && reader.asked_after == 1);
     }
 }
 
@@ -60,9 +60,9 @@ fn stops_at_a_late_write_fault(rt: HostRuntime) {
         let mut reader = PatternInput::of(LENGTH, None);
         let mut writer = PatternOutput::that_takes(taken);
         let stops = repairs_to(&mut reader, &mut writer, Err(RepairFault::Write), taken);
-        let ahead = reader.given.saturating_sub(taken);
+        let ahead = reader.yielded.saturating_sub(taken);
         assert!(rt;
-            stops && ahead <= 1027 && reader.asked_behind == 0,
+            stops && ahead <= 1027 && reader.asked_after == 0,
             "{taken}"
         );
     }
@@ -82,7 +82,7 @@ fn repairs_a_long_slice(rt: HostRuntime) -> Result<(), Fail> {
     let bytes = bytes_of(rt.alloc(), &PATTERN, LENGTH)?;
     let mut writer = PatternOutput::that_takes(usize::MAX);
     let returned = repair_slice(&bytes, &mut Watch::new(&mut writer));
-    assert!(rt; returned == Ok(BROKEN) && writer.same && writer.taken == LENGTH);
+    assert!(rt; returned == Ok(MALFORMED) && writer.same && writer.taken == LENGTH);
     Ok(())
 }
 
@@ -99,7 +99,7 @@ fn takes_at_once(piece: &[u8]) -> bool {
 }
 
 /// Returns whether a watched stream returns a piece in one call.
-fn gives_at_once(buffer: &mut [u8]) -> bool {
+fn yields_at_once(buffer: &mut [u8]) -> bool {
     let mut reader = PatternInput::of(LENGTH, None);
     let mut source = Watch::new(&mut reader);
     source.read(buffer) == Some(buffer.len()) && !source.failed() && !source.ended()
@@ -110,7 +110,7 @@ fn gives_at_once(buffer: &mut [u8]) -> bool {
 fn watches_a_large_piece(rt: HostRuntime) -> Result<(), Fail> {
     let mut bytes = bytes_of(rt.alloc(), &REPAIRED, 100_000)?;
     assert!(rt; takes_at_once(&bytes));
-    let same = gives_at_once(&mut bytes) && bytes == bytes_of(rt.alloc(), &PATTERN, 100_000)?;
+    let same = yields_at_once(&mut bytes) && bytes == bytes_of(rt.alloc(), &PATTERN, 100_000)?;
     assert!(rt; same);
     Ok(())
 }

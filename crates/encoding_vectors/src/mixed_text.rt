@@ -1,7 +1,7 @@
 //! A text with characters of one to four bytes through each call that takes it whole.
 
 use crate::texts::{are_written, is_text};
-use encoding_runs::broken::next_broken;
+use encoding_runs::malformed::next_malformed;
 use encoding_runs::repair::repair_block;
 use encoding_runs::run::{Report, Turn, run_from_utf16, run_to_utf8, run_to_utf16};
 use encoding_text::decoder::{DecoderResult, Piece, Utf8Decoder};
@@ -163,8 +163,8 @@ fn runs_take_it(rt: HostRuntime) {
 }
 
 #[test]
-fn nothing_is_broken(rt: HostRuntime) {
-    assert!(rt; next_broken(&BYTES) == None);
+fn nothing_is_malformed(rt: HostRuntime) {
+    assert!(rt; next_malformed(&BYTES) == None);
     let mut bytes = [0x71; 44];
     let done = repair_block(&mut Utf8Decoder::new_inner(), &BYTES, &mut bytes, true);
     assert!(rt; done.finished && done.read == 36 && done.replaced == 0);

@@ -16,11 +16,11 @@ const SEQUENCES: [[(u8, u8); 4]; 9] = [
 ];
 
 /// The number of a malformed sequence is this and its length. It is greater than any scalar value.
-const BROKEN: u32 = 0x11_0000;
+const MALFORMED: u32 = 0x11_0000;
 
 /// Returns the number of a malformed sequence.
-pub fn broken(length: usize) -> u32 {
-    BROKEN.saturating_add(u32::try_from(length).unwrap_or(u32::MAX))
+pub fn malformed(length: usize) -> u32 {
+    MALFORMED.saturating_add(u32::try_from(length).unwrap_or(u32::MAX))
 }
 
 /// Parts in order, each by its number: a scalar value, or that of a malformed sequence.
@@ -54,7 +54,7 @@ impl Parts {
         for part in &vector.parts {
             parts.push(match part {
                 Expected::Character(scalar) => u32::from(*scalar),
-                Expected::Broken(length) => broken(*length),
+                Expected::IllFormed(length) => malformed(*length),
             });
         }
         parts
@@ -75,10 +75,10 @@ impl Parts {
     }
 
     /// Returns the number of malformed sequences.
-    pub fn broken_count(&self) -> u64 {
+    pub fn malformed_count(&self) -> u64 {
         let mut count = 0u64;
         for number in &self.numbers {
-            if *number >= BROKEN {
+            if *number >= MALFORMED {
                 count = count.saturating_add(1);
             }
         }
@@ -116,7 +116,7 @@ fn length_of(ranges: &[(u8, u8); 4]) -> usize {
 }
 
 /// Returns the scalar value of a sequence, by `std`.
-fn scalar_of(sequence: &[u8]) -> u32 {
+fn scalar_of_part16(sequence: &[u8]) -> u32 {
     let mut scalar = 0;
     if let Ok(text) = std::str::from_utf8(sequence) {
         for character in text.chars() {
@@ -133,7 +133,7 @@ fn first_part(bytes: &[u8]) -> Part {
         let count = matched(ranges, bytes);
         if count == length_of(ranges) {
             return Part {
-                number: scalar_of(bytes.get(..count).unwrap_or(&[])),
+                number: scalar_of_part16(bytes.get(..count).unwrap_or(&[])),
                 length: count,
                 is_open: false,
             };
@@ -141,14 +141,14 @@ fn first_part(bytes: &[u8]) -> Part {
         longest = longest.max(count);
     }
     Part {
-        number: broken(longest.max(1)),
+        number: malformed(longest.max(1)),
         length: longest.max(1),
         is_open: longest > 0 && longest == bytes.len(),
     }
 }
 
 /// Returns the length of the text of the final parts of bytes: of all parts but an open one.
-pub fn settled_length(bytes: &[u8]) -> usize {
+pub fn final_length(bytes: &[u8]) -> usize {
     let (mut length, mut next) = (0usize, 0);
     for at in 0..bytes.len() {
         if at == next {
@@ -156,7 +156,7 @@ pub fn settled_length(bytes: &[u8]) -> usize {
             next = at.saturating_add(part.length);
             length = length.saturating_add(if part.is_open {
                 0
-            } else if part.number >= BROKEN {
+            } else if part.number >= MALFORMED {
                 3
             } else {
                 part.length

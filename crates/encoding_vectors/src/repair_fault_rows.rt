@@ -42,16 +42,16 @@ fn row_holds(
 ) -> Result<bool, Fail> {
     let mut fields = row;
     let input = bytes_of(alloc, field(&mut fields))?;
-    let given = field(&mut fields);
+    let yielded = field(&mut fields);
     let taken = field(&mut fields);
     let outcome = outcome_of(field(&mut fields))?;
     let text = bytes_of(alloc, field(&mut fields))?;
     let asked = number_of(field(&mut fields))?;
-    let mut reader = if given == "ends" {
+    let mut reader = if yielded == "ends" {
         Input::of(&input, 1)
     } else {
-        let front = input.get(..number_of(given)?).ok_or("no front")?;
-        Input::that_fails(front, unread)
+        let prefix = input.get(..number_of(yielded)?).ok_or("no prefix")?;
+        Input::that_fails(prefix, unread)
     };
     let mut writer = if taken == "all" {
         Output::that_takes_all()

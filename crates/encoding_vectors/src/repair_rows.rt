@@ -1,23 +1,23 @@
 //! What `repair_slice`, `utf8_valid_up_to` and `Watch` return.
 
-use crate::decoder_vectors::{Expected, Vector, length_of, repaired_text, vectors};
+use crate::decoder_vectors::{Expected, Vector, length_of, lossy_utf8, vectors};
 use crate::texts::{bytes_of, field};
 use encoding_runs::repair::{RepairFault, Sink, Watch, repair_slice};
 use encoding_text::utf_8::utf8_valid_up_to;
 use std::alloc::{AllocError, Global};
 use std::io::ErrorKind;
 use std::test::Fail;
-use test_support::streams::{Output, ROOM};
+use test_support::streams::{OUTPUT_CAPACITY, Output};
 
-fn is_broken(part: &Expected) -> bool {
-    matches!(part, Expected::Broken(_))
+fn is_malformed(part: &Expected) -> bool {
+    matches!(part, Expected::IllFormed(_))
 }
 
 /// Returns the number of malformed sequences.
-pub fn broken_count(vector: &Vector) -> u64 {
+pub fn malformed_count(vector: &Vector) -> u64 {
     let mut count = 0u64;
     for part in &vector.parts {
-        if is_broken(part) {
+        if is_malformed(part) {
             count = count.saturating_add(1);
         }
     }
@@ -28,7 +28,7 @@ pub fn broken_count(vector: &Vector) -> u64 {
 fn valid_length(vector: &Vector) -> usize {
     let mut length = 0usize;
     for part in &vector.parts {
-        if is_broken(part) {
+        if is_malformed(part) {
             return length;
         }
         length = length.saturating_add(length_of(part));
@@ -46,12 +46,12 @@ fn repairs_to(bytes: &[u8], text: &[u8], replaced: u64, step: usize) -> bool {
 /// Returns whether a vector's bytes are repaired, however many bytes the writer takes per call, and the end of their
 /// text is found.
 fn is_repaired(alloc: Global, vector: &Vector) -> Result<bool, AllocError> {
-    let text = repaired_text(alloc, vector)?;
-    let replaced = broken_count(vector);
+    let text = lossy_utf8(alloc, vector)?;
+    let replaced = malformed_count(vector);
     Ok(
         repairs_to(&vector.bytes, &text, replaced, 1)
             && repairs_to(&vector.bytes, &text, replaced, 2)
-            && repairs_to(&vector.bytes, &text, replaced, ROOM)
+            && repairs_to(&vector.bytes, &text, replaced, OUTPUT_CAPACITY)
             && utf8_valid_up_to(&vector.bytes) == valid_length(vector),
     )
 }
@@ -86,7 +86,7 @@ fn row_holds(alloc: Global, row: &str) -> Result<bool, Fail> {
     let bytes = bytes_of(alloc, field(&mut rest))?;
     let text = bytes_of(alloc, field(&mut rest))?;
     let replaced = field(&mut rest).parse::<u64>()?;
-    Ok(repairs_to(&bytes, &text, replaced, ROOM))
+    Ok(repairs_to(&bytes, &text, replaced, OUTPUT_CAPACITY))
 }
 
 #[test]

@@ -1,13 +1,13 @@
 //! What `repair` reads, writes and returns, and a watched stream as a source.
 
-use crate::decoder_vectors::{Vector, repaired_text, vectors};
-use crate::repair_rows::broken_count;
+use crate::decoder_vectors::{Vector, lossy_utf8, vectors};
+use crate::repair_rows::malformed_count;
 use crate::texts::{bytes_of, field, number_of};
 use encoding_runs::repair::{RepairFault, Repaired, Sink, Source, Watch, repair};
 use std::alloc::Global;
 use std::io::{ErrorKind, Read};
 use std::test::Fail;
-use test_support::streams::{Endless, Input, Output, ROOM};
+use test_support::streams::{Endless, Input, OUTPUT_CAPACITY, Output};
 
 /// The bytes that the reader returns; whether it ends after them or fails; the limit; what is returned: an error, or
 /// the number of bytes read and of parts replaced; and what was written.
@@ -90,8 +90,8 @@ fn row_holds(alloc: Global, row: &str, step: usize, taken: usize) -> Result<bool
 /// Returns whether it holds with each of the steps.
 fn row_holds_by_steps(alloc: Global, row: &str) -> Result<bool, Fail> {
     let mut holds = true;
-    for step in [1, 2, ROOM] {
-        for taken in [1, 2, ROOM] {
+    for step in [1, 2, OUTPUT_CAPACITY] {
+        for taken in [1, 2, OUTPUT_CAPACITY] {
             holds = holds && row_holds(alloc, row, step, taken)?;
         }
     }
@@ -114,7 +114,7 @@ fn is_repaired(vector: &Vector, text: &[u8], step: usize) -> bool {
     let mut reader = Input::of(&vector.bytes, step);
     let outcome = Ok(Repaired {
         read: vector.bytes.len() as u64,
-        replaced: broken_count(vector),
+        replaced: malformed_count(vector),
     });
     repairs_to(
         &mut reader,
@@ -129,8 +129,8 @@ fn is_repaired(vector: &Vector, text: &[u8], step: usize) -> bool {
 fn repairs_vectors(rt: HostRuntime) -> Result<(), Fail> {
     let vectors = vectors(rt.alloc())?;
     for vector in &vectors {
-        let text = repaired_text(rt.alloc(), vector)?;
-        let holds = [1, 2, ROOM]
+        let text = lossy_utf8(rt.alloc(), vector)?;
+        let holds = [1, 2, OUTPUT_CAPACITY]
             .iter()
             .all(|step| is_repaired(vector, &text, *step));
         assert!(rt; holds, "{}", vector.row);
@@ -141,17 +141,17 @@ fn repairs_vectors(rt: HostRuntime) -> Result<(), Fail> {
 
 /// Returns whether `before` bytes `61` and these after them are repaired to the same with this text after it, over the
 /// end of a round.
-fn long_repairs_to(before: usize, behind: &[u8], text_behind: &[u8], replaced: u64) -> bool {
+fn long_repairs_to(before: usize, following: &[u8], text_after: &[u8], replaced: u64) -> bool {
     let mut input = [0x61; 1040];
     let mut text = [0x61; 1040];
-    let length = before.saturating_add(behind.len());
-    let text_length = before.saturating_add(text_behind.len());
-    if before > 1024 || behind.len() > 16 || text_behind.len() > 16 {
+    let length = before.saturating_add(following.len());
+    let text_length = before.saturating_add(text_after.len());
+    if before > 1024 || following.len() > 16 || text_after.len() > 16 {
         return false;
     }
-    input[before..length].copy_from_slice(behind);
-    text[before..text_length].copy_from_slice(text_behind);
-    let mut reader = Input::of(&input[..length], ROOM);
+    input[before..length].copy_from_slice(following);
+    text[before..text_length].copy_from_slice(text_after);
+    let mut reader = Input::of(&input[..length], OUTPUT_CAPACITY);
     let mut writer = Output::that_takes_all();
     let outcome = Ok(Repaired {
         read: length as u64,
@@ -187,15 +187,15 @@ fn repairs_over_the_end_of_a_round(rt: HostRuntime) {
 
 /// Returns whether a repair whose writer takes `taken` bytes in all stops there.
 fn stops_at(input: &[u8], text: &[u8], taken: usize, fault: Option<ErrorKind>) -> bool {
-    let mut reader = Input::of(input, ROOM);
+    let mut reader = Input::of(input, OUTPUT_CAPACITY);
     let mut writer = Output::that_takes(taken, fault);
     match text.get(..taken) {
-        Some(front) => repairs_to(
+        Some(prefix) => repairs_to(
             &mut reader,
             &mut writer,
             100,
             Err(RepairFault::Write),
-            front,
+            prefix,
         ),
         None => false,
     }
@@ -239,19 +239,19 @@ fn asks_within_the_limit(rt: HostRuntime) {
 fn reads(
     source: &mut Watch<'_, Input<'_>>,
     room: usize,
-    given: Option<usize>,
+    yielded: Option<usize>,
     ended: bool,
 ) -> bool {
     let mut buffer = [0; 8];
     let room = room.min(8);
-    source.read(&mut buffer[..room]) == given
+    source.read(&mut buffer[..room]) == yielded
         && source.ended() == ended
-        && source.failed() == given.is_none()
+        && source.failed() == yielded.is_none()
 }
 
 /// A read of no byte into a nonempty buffer sees the end, and a read into an empty one doesn't.
 fn the_end_is_seen() -> bool {
-    let mut input = Input::of(b"abc", ROOM);
+    let mut input = Input::of(b"abc", OUTPUT_CAPACITY);
     let mut source = Watch::new(&mut input);
     !source.failed()
         && !source.ended()

@@ -3,7 +3,7 @@
 use encoding_text::mem::{ensure_utf16_validity, utf16_valid_up_to};
 
 // code units, and how many of them are valid
-const FRONTS: [([u16; 16], usize); 4] = [
+const PREFIXES: [([u16; 16], usize); 4] = [
     (
         [
             0, 0, 0, 0, 0, 0, 0, 0, 0, 0, 0, 0, 0x2603, 0xD83D, 0xDCA9, 0x00B6,
@@ -32,7 +32,7 @@ const FRONTS: [([u16; 16], usize); 4] = [
 
 #[test]
 fn finds_the_first_unpaired_surrogate(rt: HostRuntime) {
-    for row in &FRONTS {
+    for row in &PREFIXES {
         assert!(rt; utf16_valid_up_to(&row.0) == row.1, "not {}", row.1);
     }
     assert!(rt; utf16_valid_up_to(&[]) == 0);

@@ -45,9 +45,9 @@ fn row_holds(alloc: Global, row: &str) -> Result<bool, Fail> {
         Vec::new(alloc)
     };
     let mut dst = bytes_of(alloc, field(&mut row))?;
-    let told = (number_of(field(&mut row))?, number_of(field(&mut row))?);
+    let reported = (number_of(field(&mut row))?, number_of(field(&mut row))?);
     let left = bytes_of(alloc, row)?;
-    Ok(converted(kind, &bytes, &units, &mut dst) == Some(told) && dst == left)
+    Ok(converted(kind, &bytes, &units, &mut dst) == Some(reported) && dst == left)
 }
 
 #[test]

@@ -9,7 +9,7 @@ use encoding_text::mem::{
 
 /// Returns the number of units read and bytes written, if the unit after `letters` letters has this length in UTF-8,
 /// and all others are letters.
-fn longest_front(letters: usize, size: usize, length: usize, room: usize) -> (usize, usize) {
+fn longest_prefix(letters: usize, size: usize, length: usize, room: usize) -> (usize, usize) {
     if room < letters {
         return (room, room);
     }
@@ -36,8 +36,8 @@ fn latin1_tail_stays(src: &[u8], letters: usize, room: usize) -> bool {
     let Some(part) = dst.get_mut(..room) else {
         return false;
     };
-    let told = convert_latin1_to_utf8_partial(src, part);
-    told == longest_front(letters, 2, src.len(), room) && is_cleared(&dst, told.1, 0, room)
+    let reported = convert_latin1_to_utf8_partial(src, part);
+    reported == longest_prefix(letters, 2, src.len(), room) && is_cleared(&dst, reported.1, 0, room)
 }
 
 /// Returns whether a text takes the same, followed by sixteen zeros. Makes the call that converts all if the
@@ -50,13 +50,13 @@ fn latin1_clears(src: &[u8], letters: usize, room: usize) -> bool {
     if !is_text(part) {
         return false;
     }
-    let told = match src.len().checked_mul(2) {
+    let reported = match src.len().checked_mul(2) {
         Some(most) if most <= part.len() => (src.len(), convert_latin1_to_str(src, part)),
         _ => convert_latin1_to_str_partial(src, part),
     };
     is_text(part)
-        && told == longest_front(letters, 2, src.len(), room)
-        && is_cleared(&dst, told.1, 16, room)
+        && reported == longest_prefix(letters, 2, src.len(), room)
+        && is_cleared(&dst, reported.1, 16, room)
 }
 
 /// A byte that becomes two, after letters and before forty letters, into destinations of each length.
@@ -84,8 +84,9 @@ fn utf16_tail_stays(src: &[u16], letters: usize, size: usize, room: usize) -> bo
     let Some(part) = dst.get_mut(..room) else {
         return false;
     };
-    let told = convert_utf16_to_utf8_partial(src, part);
-    told == longest_front(letters, size, src.len(), room) && is_cleared(&dst, told.1, 0, room)
+    let reported = convert_utf16_to_utf8_partial(src, part);
+    reported == longest_prefix(letters, size, src.len(), room)
+        && is_cleared(&dst, reported.1, 0, room)
 }
 
 /// Returns whether a text takes the same, with nothing to clear in letters. Makes the call that converts all if the
@@ -98,13 +99,13 @@ fn utf16_text_stays(src: &[u16], letters: usize, size: usize, room: usize) -> bo
     if !is_text(part) {
         return false;
     }
-    let told = match src.len().checked_mul(3) {
+    let reported = match src.len().checked_mul(3) {
         Some(most) if most <= part.len() => (src.len(), convert_utf16_to_str(src, part)),
         _ => convert_utf16_to_str_partial(src, part),
     };
     is_text(part)
-        && told == longest_front(letters, size, src.len(), room)
-        && is_cleared(&dst, told.1, 0, room)
+        && reported == longest_prefix(letters, size, src.len(), room)
+        && is_cleared(&dst, reported.1, 0, room)
 }
 
 /// A unit of two or three bytes after letters and before forty letters, into destinations of each length.

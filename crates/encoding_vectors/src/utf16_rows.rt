@@ -27,22 +27,22 @@ D83D 0062 | 3 | 1 | EF BF BD
 0061 00E4 | 2 | 1 | 61
 2603 | 2 | 0 |";
 
-fn tail_is(units: &[u16], room: usize, front: usize, bytes: &[u8]) -> bool {
+fn tail_is(units: &[u16], room: usize, prefix: usize, bytes: &[u8]) -> bool {
     if room > 3 || units.is_empty() {
         return false;
     }
     let mut dst = [0x71; 3];
     let (read, written) = convert_utf16_to_utf8_partial_tail(units, &mut dst[..room]);
-    read == front && are_written(bytes, &dst, written)
+    read == prefix && are_written(bytes, &dst, written)
 }
 
 fn tail_row_holds(alloc: Global, row: &str) -> Result<bool, Fail> {
     let mut row = row;
     let source = field(&mut row);
     let room = number_of(field(&mut row))?;
-    let front = number_of(field(&mut row))?;
+    let prefix = number_of(field(&mut row))?;
     let units = units_of(alloc, source)?;
-    Ok(tail_is(&units, room, front, &bytes_of(alloc, row)?))
+    Ok(tail_is(&units, room, prefix, &bytes_of(alloc, row)?))
 }
 
 #[test]
@@ -70,7 +70,7 @@ D83D DCA9 0076 2603 0077 00B6 0078 0079 007A 007A | \
 61 62 63 64 65 66 67 68 69 6A 6B 6C 6D 6E 6F 70 71 72 73 74 75 F0 9F 92 A9 76 E2 98 83 77 C2 B6 78 79 7A 7A";
 
 /// Returns whether the first `read` units are whole characters, and their UTF-8 has `written` bytes.
-fn is_front(units: &[u16], read: usize, written: usize) -> bool {
+fn is_prefix(units: &[u16], read: usize, written: usize) -> bool {
     let (mut end, mut length) = (0usize, 0usize);
     for at in 0..read.min(units.len()) {
         if at == end {
@@ -90,12 +90,12 @@ fn inner_is_right(units: &[u16], bytes: &[u8], room: usize) -> bool {
         return false;
     };
     let (read, written) = convert_utf16_to_utf8_partial_inner(units, part);
-    let Some(front) = bytes.get(..written) else {
+    let Some(prefix) = bytes.get(..written) else {
         return false;
     };
     (read == units.len() || room <= written.saturating_add(3))
-        && is_front(units, read, written)
-        && are_written(front, &dst, written)
+        && is_prefix(units, read, written)
+        && are_written(prefix, &dst, written)
 }
 
 /// Returns whether the inner half is right into destinations of each length.
@@ -103,7 +103,7 @@ fn inner_row_holds(alloc: Global, row: &str) -> Result<bool, Fail> {
     let mut row = row;
     let units = units_of(alloc, field(&mut row))?;
     let bytes = bytes_of(alloc, field(&mut row))?;
-    let mut holds = is_front(&units, units.len(), bytes.len());
+    let mut holds = is_prefix(&units, units.len(), bytes.len());
     for room in 0..=40 {
         holds = holds && inner_is_right(&units, &bytes, room);
     }

@@ -1,4 +1,4 @@
-pub mod BlockLemmas
-pub mod PieceLemmas
+pub mod EngineBlockLemmas
+pub mod EnginePieceLemmas
 pub mod RoundTripLemmas
-pub mod UnitLemmas
+pub mod EngineUnitLemmas

@@ -1,2 +1,2 @@
-pub mod Blocks
-pub mod Turns
+pub mod CutBlocks
+pub mod SmallTurns

@@ -6,9 +6,9 @@ ghost use Rattle.std.specs.Prelude.{◌≡◌, ℕ, List, ◌++◌, IfOk, OnOk, 
 ghost use Rattle.std.specs.Char.Escape.{encode_utf16};
 ghost use Rattle.std.specs.Str.{chars};
 ghost use Rattle.std.specs.List.{flat_map};
-ghost use Rattle.encoding_definitions.specs.Utf16.{AreUnits, IsUtf8OfUnits};
-ghost use Rattle.encoding_runs.specs.Repairs.{IsRepaired};
-ghost use Rattle.engine_example.specs.Blocks.{WritesBlock, WritesPiece, IsRepairedUtf16};
+ghost use Rattle.encoding_definitions.specs.Utf16.{AreCodeUnits, IsUtf8OfUnits};
+ghost use Rattle.encoding_runs.specs.Repairs.{IsLossyDecodeOf};
+ghost use Rattle.engine_example.specs.CutBlocks.{WritesBlock, WritesPiece, IsRepairedUtf16};
 
 use encoding_runs::laws::{law_encoder_cuts, law_mixed_calls, law_parts, law_utf16_round_trip};
 use encoding_text::decoder::{Piece, Utf8Decoder};
@@ -27,7 +27,7 @@ fn append_block(
     last: bool,
     bytes: &mut Vec<u8>,
 ) -> Result<(), AllocError>
-    ensures units { AreUnits block.now }
+    ensures units { AreCodeUnits block.now }
     ensures written { OnOk result ((out : List ℕ) × (bytes.new.items ≡ bytes.old.items ++ out)
         × WritesBlock encoder.old block.now last out encoder.new) }
 {
@@ -116,7 +116,7 @@ pub fn blocks_of_utf8(alloc: Global, pieces: &[&[u8]]) -> Result<Vec<Vec<u16>>, 
 /// Converting to UTF-16 and back to UTF-8 yields the repaired text of the bytes, which is the bytes themselves if they
 /// are well-formed.
 pub fn law_there_and_back()
-    ensures repaired { (bs units out : List ℕ) → IsRepairedUtf16 bs units → IsUtf8OfUnits units out → IsRepaired bs out }
+    ensures repaired { (bs units out : List ℕ) → IsRepairedUtf16 bs units → IsUtf8OfUnits units out → IsLossyDecodeOf bs out }
     ensures stays { (bs units out : List ℕ) → IsUtf8 bs → IsRepairedUtf16 bs units → IsUtf8OfUnits units out → out ≡ bs }
 {
     law_parts();

@@ -2,13 +2,13 @@
 
 ghost use Rattle.std.specs.Prelude.{◌≡◌, ℕ, List, length, map, IfOk, Some, None};
 ghost use Rattle.std.specs.List.{last_or};
-ghost use Rattle.encoding_definitions.specs.Utf16.{AreUnits, IsUtf8OfUnits};
+ghost use Rattle.encoding_definitions.specs.Utf16.{AreCodeUnits, IsUtf8OfUnits};
 ghost use Rattle.encoding_text.specs.declared.utf_8.encoder.EncoderResult.{EncoderResult};
 ghost use Rattle.encoding_text.specs.declared.utf_8.encoder.EncoderResult.TheVariants.{InputEmpty};
 ghost use Rattle.encoding_runs.specs.declared.run.turns.Turn.{Turn};
 ghost use Rattle.encoding_runs.specs.Calls.{Call, output_of};
-ghost use Rattle.encoding_runs.specs.Runs.{EachGetsOn};
-ghost use Rattle.engine_example.specs.Turns.{AreEnough};
+ghost use Rattle.encoding_runs.specs.Runs.{EachMakesProgress};
+ghost use Rattle.engine_example.specs.SmallTurns.{AreEnough};
 
 use encoding_runs::laws::{law_encoder_cuts, law_utf16_round_trip};
 use encoding_runs::run::{Turn, run_from_utf16};
@@ -16,21 +16,21 @@ use encoding_text::utf_8::Utf8Encoder;
 use std::alloc::{AllocError, Global};
 
 /// The code units that a turn takes.
-const PIECE: usize = 7;
+const TURN_LENGTH: usize = 7;
 
 /// The bytes that a turn may write: four or more, so that each character fits.
-const ROOM: usize = 16;
+const DST_LENGTH: usize = 16;
 
 /// Returns `count` turns. An `Err` means that an allocation failed.
 fn small_turns(alloc: Global, count: usize) -> Result<Vec<Turn>, AllocError>
-    ensures count { IfOk result (λ turns. length turns.items ≡ count) }
-    ensures each { IfOk result (λ turns. EachGetsOn 4 turns.items) }
+    ensures turn_count { IfOk result (λ turns. length turns.items ≡ count) }
+    ensures each { IfOk result (λ turns. EachMakesProgress 4 turns.items) }
 {
     let mut turns = Vec::new(alloc);
     for _ in 0..count {
         turns.push(Turn {
-            take: PIECE,
-            room: ROOM,
+            take: TURN_LENGTH,
+            room: DST_LENGTH,
             last: true,
         })?;
     }
@@ -64,7 +64,7 @@ pub fn law_turns()
     ensures ends { (units : List ℕ) (turns : List Turn) (room : ℕ) (calls : List (Call ℕ EncoderResult ℕ))
         → AreEnough units turns room calls → last_or None (map (λ call. call.result) calls) ≡ Some InputEmpty }
     ensures same { (units : List ℕ) (turns others : List Turn) (room more : ℕ)
-        (calls again : List (Call ℕ EncoderResult ℕ)) → AreUnits units → AreEnough units turns room calls
+        (calls again : List (Call ℕ EncoderResult ℕ)) → AreCodeUnits units → AreEnough units turns room calls
         → AreEnough units others more again → output_of calls ≡ output_of again }
 {
     law_encoder_cuts();

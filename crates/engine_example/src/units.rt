@@ -7,7 +7,7 @@ ghost use Rattle.std.specs.Char.Utf16.{utf16_lossy_chars, has_unpaired_surrogate
 ghost use Rattle.std.specs.List.{flat_map};
 ghost use Rattle.std.specs.Str.{all_scalars, chars};
 ghost use Rattle.encoding_definitions.specs.Bidi.{IsRightToLeft};
-ghost use Rattle.encoding_definitions.specs.Surrogates.{IsValidUtf16, AreRepairedUnits, ChangesLone};
+ghost use Rattle.encoding_definitions.specs.Surrogates.{IsValidUtf16, AreRepairedUnits, ReplacesUnpaired};
 ghost use Rattle.encoding_definitions.specs.Utf16.{IsUtf8OfUnits};
 
 use encoding_runs::laws::{
@@ -20,7 +20,7 @@ use encoding_text::mem::{
 use std::alloc::{AllocError, Global};
 
 /// The bytes that `utf8_of_units` writes at once: four or more, so that each character fits.
-const ROOM: usize = 64;
+const DST_LENGTH: usize = 64;
 
 /// Returns whether the code units are the UTF-16 of a text. If so, `String::from_utf16` returns that text, and
 /// otherwise an error.
@@ -38,7 +38,7 @@ pub fn repair_units(units: &mut [u16])
     ensures repaired { AreRepairedUnits units.old units.new }
     ensures text { units.new ≡ flat_map encode_utf16 (utf16_lossy_chars units.old) }
     ensures valid { IsValidUtf16 units.new }
-    ensures places { ChangesLone units.old units.new }
+    ensures places { ReplacesUnpaired units.old units.new }
     ensures stays { IsValidUtf16 units.old → units.new ≡ units.old }
     ensures twice { AreRepairedUnits units.new units.new }
 {
@@ -64,7 +64,7 @@ pub fn utf8_of_units(alloc: Global, units: &[u16]) -> Result<Vec<u8>, AllocError
 {
     law_partial_repeats();
     law_utf16_round_trip();
-    let mut room = [0; ROOM];
+    let mut room = [0; DST_LENGTH];
     let mut bytes = Vec::new(alloc);
     let mut read = 0;
     while read < units.len() {

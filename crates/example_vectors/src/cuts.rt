@@ -1,6 +1,6 @@
 //! Bytes in pieces of each length, repaired separately and joined, and the offsets of their malformed sequences.
 
-use cuts_example::{broken_places, repair_apart};
+use cuts_example::{malformed_indices, repair_apart};
 use std::test::Fail;
 
 /// Bytes, their text by the Encoding Standard's UTF-8 decoder, and the offsets and lengths of their malformed
@@ -24,7 +24,7 @@ const ROWS: [(&[u8], &str, &[(usize, usize)]); 5] = [
 #[test]
 fn repairs_in_pieces_of_each_length(rt: HostRuntime) -> Result<(), Fail> {
     for (bytes, text, places) in &ROWS {
-        let found = broken_places(rt.alloc(), bytes)?;
+        let found = malformed_indices(rt.alloc(), bytes)?;
         assert!(rt; found.as_slice() == *places, "broken parts of {text}");
         for least in 1..14 {
             let whole = repair_apart(rt.alloc(), bytes, least)?;
@@ -45,7 +45,7 @@ fn repairs_a_long_text(rt: HostRuntime) -> Result<(), Fail> {
     let mut text = Vec::new(rt.alloc());
     text.resize(70_000, b'a')?;
     text.extend_from_slice("\u{FFFD}".as_bytes())?;
-    let found = broken_places(rt.alloc(), &bytes)?;
+    let found = malformed_indices(rt.alloc(), &bytes)?;
     assert!(rt;
         found.as_slice() == [(70_000, 1)].as_slice(),
         "the last byte is broken"

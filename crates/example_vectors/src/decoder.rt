@@ -45,11 +45,11 @@ const ROWS: [(&[u8], &str, &[u16], bool); 8] = [
 fn decodes_to_utf16_at_each_cut(rt: HostRuntime) -> Result<(), Fail> {
     for (bytes, text, units, replaced) in &ROWS {
         for cut in 0..bytes.len() + 1 {
-            let (front, back) = bytes.split_at(cut);
+            let (prefix, back) = bytes.split_at(cut);
             let mut decoder = Decoder::new();
             let mut room = [0; 32];
-            let (_, read, written, before) = decoder.decode_to_utf16(front, &mut room, false);
-            let (result, more, count, behind) = decoder.decode_to_utf16(
+            let (_, read, written, before) = decoder.decode_to_utf16(prefix, &mut room, false);
+            let (result, more, count, following) = decoder.decode_to_utf16(
                 back,
                 &mut room[written..],
                 true,
@@ -59,7 +59,7 @@ fn decodes_to_utf16_at_each_cut(rt: HostRuntime) -> Result<(), Fail> {
                 "{text} cut at {cut}"
             );
             assert!(rt;
-                &room[..written + count] == *units && (before || behind) == *replaced,
+                &room[..written + count] == *units && (before || following) == *replaced,
                 "{text} cut at {cut}"
             );
         }

@@ -63,7 +63,7 @@ fn replaces_surrogates_in_no_pair(rt: HostRuntime) -> Result<(), Fail> {
     let bytes = utf8_of_blocks(rt.alloc(), &blocks)?;
     assert!(rt;
         bytes.as_slice() == "a\u{FFFD}\u{1F4A9}\u{FFFD}\u{FFFD}".as_bytes(),
-        "cut and lone surrogates"
+        "cut and unpaired surrogates"
     );
     Ok(())
 }

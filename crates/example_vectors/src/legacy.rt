@@ -25,7 +25,7 @@ const ROWS: [(&[u8], &str); 5] = [
 ];
 
 #[test]
-fn decodes_rows_in_front_of_each_other(rt: HostRuntime) -> Result<(), Fail> {
+fn decodes_concatenated_rows(rt: HostRuntime) -> Result<(), Fail> {
     for (first, first_text) in &ROWS {
         for (second, second_text) in &ROWS {
             let mut bytes = Vec::new(rt.alloc());

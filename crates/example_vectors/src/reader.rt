@@ -87,7 +87,7 @@ fn reads_texts_longer_than_each_buffer(rt: HostRuntime) -> Result<(), Fail> {
 }
 
 #[test]
-fn gives_utf8_into_each_room_past_faults(rt: HostRuntime) -> Result<(), Fail> {
+fn yields_utf8_into_each_room_past_faults(rt: HostRuntime) -> Result<(), Fail> {
     for (bytes, text, _) in &ROWS {
         for step in 1..6 {
             for room in 1..9 {
@@ -96,18 +96,18 @@ fn gives_utf8_into_each_room_past_faults(rt: HostRuntime) -> Result<(), Fail> {
                     step,
                     fails: false,
                 });
-                let mut given = Vec::new(rt.alloc());
+                let mut yielded = Vec::new(rt.alloc());
                 let mut buffer = [0; 8];
                 for _ in 0..48 {
                     if let Ok(count) = reader.read(&mut buffer[..room]) {
-                        given.extend_from_slice(&buffer[..count])?;
+                        yielded.extend_from_slice(&buffer[..count])?;
                         assert!(rt;
                             room < 4 || str::from_utf8(&buffer[..count]).is_ok(),
                             "{text} cut into {room}"
                         );
                     }
                 }
-                assert!(rt; given.as_slice() == text.as_bytes(), "{text} into {room}");
+                assert!(rt; yielded.as_slice() == text.as_bytes(), "{text} into {room}");
             }
         }
     }
@@ -115,7 +115,7 @@ fn gives_utf8_into_each_room_past_faults(rt: HostRuntime) -> Result<(), Fail> {
 }
 
 #[test]
-fn gives_utf16_into_each_room_past_faults(rt: HostRuntime) -> Result<(), Fail> {
+fn yields_utf16_into_each_room_past_faults(rt: HostRuntime) -> Result<(), Fail> {
     for (bytes, text, units) in &ROWS {
         for step in 1..6 {
             for room in 1..7 {
@@ -124,14 +124,14 @@ fn gives_utf16_into_each_room_past_faults(rt: HostRuntime) -> Result<(), Fail> {
                     step,
                     fails: false,
                 });
-                let mut given = Vec::new(rt.alloc());
+                let mut yielded = Vec::new(rt.alloc());
                 let mut buffer = [0; 6];
                 for _ in 0..48 {
                     if let Ok(count) = reader.read(&mut buffer[..room]) {
-                        given.extend_from_slice(&buffer[..count])?;
+                        yielded.extend_from_slice(&buffer[..count])?;
                     }
                 }
-                assert!(rt; given.as_slice() == *units, "{text} into {room}");
+                assert!(rt; yielded.as_slice() == *units, "{text} into {room}");
             }
         }
     }

@@ -13,7 +13,7 @@ use Rattle.std.proofs.lemmas.List.FromFn.{get_or-map-range_with_len}
 use Rattle.std.proofs.lemmas.Str.{length-encode}
 use lib.Utf8.{scalar, low_scalar}
 use Rattle.encoding_definitions.specs.Utf16.{Part16, ArePartsOf16, IsUtf8OfUnits}
-use Rattle.encoding_definitions.specs.Utf16.{scalar_of as part_scalar}
+use Rattle.encoding_definitions.specs.Utf16.{scalar_of_part16 as part_scalar}
 use Rattle.legacy_example.specs.Windows1252.{index, scalar_of, AreBytes}
 use Rattle.legacy_example.specs.declared.TheConstants.{OTHERS}
 
@@ -28,8 +28,8 @@ high xs b h = grind (arith, nat_tests)
 index_is : index ≡ OTHERS ++ map (λ c. c) (range_with_len 0xA0 96)
 index_is = refl
 
-behind_is : drop 32 index ≡ map (λ c. c) (range_with_len 0xA0 96)
-behind_is = refl
+after_is : drop 32 index ≡ map (λ c. c) (range_with_len 0xA0 96)
+after_is = refl
 
 pub scalar_low : (b : ℕ) → b < 0x80 → scalar_of b ≡ b
 scalar_low b h = low index b h
@@ -40,7 +40,7 @@ scalar_other b l h = sym (high index b l ∙ ap (λ xs. slice_index xs (b - 0x80
 pub scalar_latin1 : (b : ℕ) → 0xA0 ≤ b → b < 0x100 → scalar_of b ≡ b
 scalar_latin1 b l h =
     let place : 32 + (b - 0xA0) ≡ b - 0x80 = omega arith in
-    high index b (omega arith) ∙ ap (λ k. slice_index index k) (sym place) ∙ sym (get_or-drop 32 index (b - 0xA0) 0) ∙ ap (λ xs. slice_index xs (b - 0xA0)) behind_is
+    high index b (omega arith) ∙ ap (λ k. slice_index index k) (sym place) ∙ sym (get_or-drop 32 index (b - 0xA0) 0) ∙ ap (λ xs. slice_index xs (b - 0xA0)) after_is
     ∙ get_or-map-range_with_len (λ c. c) 0xA0 96 (b - 0xA0) b 0 (omega arith) (omega arith)
 
 pub scalar_below : (b : ℕ) → b < 0x100 → scalar_of b < 0xD800

@@ -5,7 +5,7 @@
 ghost use Rattle.std.specs.Prelude.{◌≡◌, ℕ, ◌*◌, ◌≤◌, List, length, take, map, slice_index, encode_utf8_all};
 ghost use Rattle.std.specs.Char.Escape.{encode_utf16};
 ghost use Rattle.std.specs.List.{flat_map};
-ghost use Rattle.encoding_definitions.specs.Fronts.{WritesFront};
+ghost use Rattle.encoding_definitions.specs.Prefixes.{WritesPrefix};
 ghost use Rattle.legacy_example.specs.Windows1252.{scalar_of, AreBytes};
 
 use encoding_runs::laws::{law_sequences, law_utf16_round_trip};
@@ -56,8 +56,8 @@ pub fn law_nothing_is_lost()
 /// Writes the characters of windows-1252 as UTF-16, one code unit each. `dst` is no shorter than `src`. The rest of
 /// `dst` is unchanged.
 pub fn windows_1252_to_utf16(src: &[u8], dst: &mut [u16])
-    requires room { length src.now ≤ length dst.old }
-    ensures written { WritesFront dst.old dst.new (length src.now) (flat_map encode_utf16 (map scalar_of src.now)) }
+    requires dst_length { length src.now ≤ length dst.old }
+    ensures written { WritesPrefix dst.old dst.new (length src.now) (flat_map encode_utf16 (map scalar_of src.now)) }
 {
     let mut at = copy_ascii_to_basic_latin(src, dst);
     loop {
@@ -75,8 +75,8 @@ pub fn windows_1252_to_utf16(src: &[u8], dst: &mut [u16])
 /// Writes the characters of windows-1252 as UTF-8, and returns the number of bytes written. `dst` has at least three
 /// bytes for each byte of `src`. The rest of `dst` is unchanged.
 pub fn windows_1252_to_utf8(src: &[u8], dst: &mut [u8]) -> usize
-    requires room { 3 * length src.now ≤ length dst.old }
-    ensures written { WritesFront dst.old dst.new result (encode_utf8_all (map scalar_of src.now)) }
+    requires dst_length { 3 * length src.now ≤ length dst.old }
+    ensures written { WritesPrefix dst.old dst.new result (encode_utf8_all (map scalar_of src.now)) }
 {
     law_utf16_round_trip();
     let mut read = copy_ascii_to_ascii(src, dst);

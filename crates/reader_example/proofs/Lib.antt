@@ -1,7 +1,7 @@
 pub mod BufferLemmas
-pub mod TextLemmas
-pub mod PieceLemmas
-pub mod BlockLemmas
+pub mod ReaderTextLemmas
+pub mod ReaderPieceLemmas
+pub mod ReaderBlockLemmas
 pub mod CharacterLemmas
-pub mod UnitLemmas
-pub mod WellFormedLemmas
+pub mod ReaderUnitLemmas
+pub mod ReaderWellFormedLemmas

@@ -40,11 +40,11 @@ IsUtf16Character units = (c : ℕ) × IsScalar c × (units ≡ encode_utf16 c)
 -- What a read returns, before what is kept after it, into `room` units. If a character was cut before, these are from
 -- its rest. Otherwise they are whole characters, or, if a rest is kept, one character that doesn't fit. A rest is kept
 -- only if the destination is full.
-pub record GivesCharacters (IsText IsCharacter : List ℕ → Type 0) (held : List ℕ) (room : ℕ) (given held' : List ℕ) : Type 0 where
-  pub rest : held ≢ [] → given ++ held' ≡ held
-  pub whole : held ≡ [] → IsText (given ++ held')
-  pub one : held ≡ [] → held' ≢ [] → IsCharacter (given ++ held')
-  pub full : held' ≢ [] → length given ≡ room
+pub record YieldsCharacters (IsText IsCharacter : List ℕ → Type 0) (held : List ℕ) (room : ℕ) (yielded held' : List ℕ) : Type 0 where
+  pub rest : held ≢ [] → yielded ++ held' ≡ held
+  pub whole : held ≡ [] → IsText (yielded ++ held')
+  pub one : held ≡ [] → held' ≢ [] → IsCharacter (yielded ++ held')
+  pub full : held' ≢ [] → length yielded ≡ room
 
 -- the text of what a call without a destination returns
 abbrev pub text_for : Piece → List ℕ

@@ -65,8 +65,8 @@ impl<T: Copy, const N: usize> Buffer<T, N> {
 
     /// Moves as much of its contents as fits to the start of `dst`, and returns the number of units.
     pub(crate) fn give(&mut self, dst: &mut [T]) -> usize
-        ensures count { result ≡ min (length dst.old) (length self.old) }
-        ensures room { length dst.new ≡ length dst.old }
+        ensures copied_length { result ≡ min (length dst.old) (length self.old) }
+        ensures dst_length { length dst.new ≡ length dst.old }
         ensures bytes { self.old ≡ take result dst.new ++ self.new }
     {
         let unread = self.unread();
@@ -81,7 +81,7 @@ impl<const N: usize> Buffer<u8, N> {
     /// Reads once, if it is empty.
     pub(crate) fn fill<R: Read>(&mut self, reader: &mut R) -> io::Result<()>
         requires empty { self.old ≡ [] }
-        requires room { 0 < N }
+        requires dst_length { 0 < N }
         ensures bytes { Consumes (R.remaining reader.old) (R.remaining reader.new) self.new }
         ensures end { OnOk result (self.new ≡ [] → IsAtEnd (R.remaining reader.new)) }
     {

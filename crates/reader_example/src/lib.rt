@@ -17,7 +17,7 @@ pub use utf8_reader::Utf8Reader;
 pub use utf16_reader::Utf16Reader;
 pub use well_formed::is_well_formed;
 
-/// Reads all that a reader gives, as text. An error is the reader's, or says that memory was refused.
+/// Reads everything from a reader as text. Fails with the reader's error, or if an allocation fails.
 pub fn read_text<R: Read + Drop>(alloc: Global, inner: R) -> io::Result<String>
     ensures { IfOk result (λ text. IfSome (R.remaining inner) (λ bytes. string_bytes text ≡ utf8_lossy bytes)) }
 {

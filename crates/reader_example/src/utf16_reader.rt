@@ -19,7 +19,7 @@ use std::{io, str};
 const BLOCK: usize = 1024;
 
 /// A destination of this many bytes cuts no character.
-const ROOM: usize = 4;
+const BLOCK_LENGTH: usize = 4;
 
 /// Returns, in UTF-16, the repaired text of the bytes of `inner`.
 #[derive(Drop)]
@@ -31,7 +31,7 @@ pub struct Utf16Reader<R> {
 }
 
 impl<R: Read> Utf16Reader<R> {
-    ghost use Rattle.reader_example.specs.Reading.{units_left, half_of, IsUtf16Character, GivesCharacters};
+    ghost use Rattle.reader_example.specs.Reading.{units_left, half_of, IsUtf16Character, YieldsCharacters};
 
     /// Creates a reader of the text of the bytes of `inner`.
     pub fn new(inner: R) -> Utf16Reader<R>
@@ -48,7 +48,7 @@ impl<R: Read> Utf16Reader<R> {
     /// Reads text into `bytes`, whole characters, and converts it. Returns 0 at the end.
     fn decode(&mut self, bytes: &mut [u8], dst: &mut [u16]) -> io::Result<usize>
         requires bytes { 4 ≤ length bytes.old }
-        requires room { length bytes.old ≤ length dst.old }
+        requires dst_length { length bytes.old ≤ length dst.old }
         requires held { self.old.held ≡ [] }
         ensures bound { ReadsAtMost result dst.new }
         ensures units { ReadConsumes (units_left R.remaining self.old) (units_left R.remaining self.new) result dst.new }
@@ -70,10 +70,10 @@ impl<R: Read> Utf16Reader<R> {
         ensures err { OnErr result (self.new.held ≡ []) }
     {
         law_sequences();
-        let mut bytes = [0; ROOM];
+        let mut bytes = [0; BLOCK_LENGTH];
         let count = self.inner.character(&mut bytes)?;
         let character = unsafe { str::from_utf8_unchecked(&bytes[..count]) };
-        let mut units = [0; ROOM];
+        let mut units = [0; BLOCK_LENGTH];
         let count = convert_str_to_utf16(character, &mut units);
         self.held.hold(&units[..count]);
         Ok(())
@@ -87,7 +87,7 @@ impl<R: Read> Utf16Reader<R> {
     pub fn read(&mut self, dst: &mut [u16]) -> io::Result<usize>
         ensures bound { ReadsAtMost result dst.new }
         ensures units { ReadConsumes (units_left R.remaining self.old) (units_left R.remaining self.new) result dst.new }
-        ensures characters { IfOk result (λ n. GivesCharacters IsValidUtf16 IsUtf16Character
+        ensures characters { IfOk result (λ n. YieldsCharacters IsValidUtf16 IsUtf16Character
             (half_of self.old) (length dst.old) (take n dst.new) (half_of self.new)) }
         ensures err { OnErr result (half_of self.new ≡ half_of self.old) }
     {
@@ -95,7 +95,7 @@ impl<R: Read> Utf16Reader<R> {
             return Ok(0);
         }
         if self.held.unread().is_empty() {
-            if dst.len() >= ROOM {
+            if dst.len() >= BLOCK_LENGTH {
                 let mut bytes = [0; BLOCK];
                 let room = dst.len().min(BLOCK);
                 return self.decode(&mut bytes[..room], dst);

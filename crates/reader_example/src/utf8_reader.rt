@@ -18,10 +18,10 @@ use std::io::Read;
 const BLOCK: usize = 1024;
 
 /// With this many bytes to write into, a call of `repair_block` makes progress.
-const ROOM: usize = 7;
+const BLOCK_LENGTH: usize = 7;
 
 /// The UTF-8 of U+FFFD, which replaces a malformed sequence.
-const REPLACEMENT: [u8; 3] = [0xEF, 0xBF, 0xBD];
+const REPLACEMENT_UTF8: [u8; 3] = [0xEF, 0xBF, 0xBD];
 
 /// Keeps the text of a piece: U+FFFD for a malformed sequence.
 fn hold_piece(held: &mut Buffer<u8, 4>, piece: Piece<'_>)
@@ -34,7 +34,7 @@ fn hold_piece(held: &mut Buffer<u8, 4>, piece: Piece<'_>)
             let mut sequence = [0; 4];
             held.hold(character.encode_utf8(&mut sequence).as_bytes());
         }
-        Piece::Malformed(_) => held.hold(&REPLACEMENT),
+        Piece::Malformed(_) => held.hold(&REPLACEMENT_UTF8),
         Piece::InputEmpty => held.hold(&[]),
     }
 }
@@ -81,7 +81,7 @@ impl<R: Read> Utf8Reader<R> {
 
     /// Decodes into `dst` until there is some text, in whole characters, or the end.
     fn decode(&mut self, dst: &mut [u8]) -> io::Result<usize>
-        requires room { 7 ≤ length dst.old }
+        requires dst_length { 7 ≤ length dst.old }
         requires held { self.old.held ≡ [] }
         ensures bound { ReadsAtMost result dst.new }
         ensures bytes { ReadConsumes (text_left R.remaining self.old) (text_left R.remaining self.new) result dst.new }
@@ -139,7 +139,7 @@ impl<R: Read> Utf8Reader<R> {
 
     /// Decodes one character into `dst`, and returns its length: 0 at the end.
     pub(crate) fn character(&mut self, dst: &mut [u8]) -> io::Result<usize>
-        requires room { 4 ≤ length dst.old }
+        requires dst_length { 4 ≤ length dst.old }
         requires held { self.old.held ≡ [] }
         ensures bound { ReadsAtMost result dst.new }
         ensures bytes { ReadConsumes (text_left R.remaining self.old) (text_left R.remaining self.new) result dst.new }
@@ -152,7 +152,7 @@ impl<R: Read> Utf8Reader<R> {
 }
 
 impl<R: Read> Read for Utf8Reader<R> {
-    ghost use Rattle.reader_example.specs.Reading.{text_left, held_of, GivesCharacters};
+    ghost use Rattle.reader_example.specs.Reading.{text_left, held_of, YieldsCharacters};
 
     ghost remaining = { text_left R.remaining };
 
@@ -164,14 +164,14 @@ impl<R: Read> Read for Utf8Reader<R> {
         ensures bound { ReadsAtMost result dst.new }
         ensures bytes { ReadConsumes (text_left R.remaining self.old) (text_left R.remaining self.new) result dst.new }
         ensures characters { IfOk result (λ n.
-            GivesCharacters IsUtf8 IsSequence (held_of self.old) (length dst.old) (take n dst.new) (held_of self.new)) }
+            YieldsCharacters IsUtf8 IsSequence (held_of self.old) (length dst.old) (take n dst.new) (held_of self.new)) }
         ensures err { OnErr result (held_of self.new ≡ held_of self.old) }
     {
         if dst.is_empty() {
             return Ok(0);
         }
         if self.held.unread().is_empty() {
-            if dst.len() >= ROOM {
+            if dst.len() >= BLOCK_LENGTH {
                 return self.decode(dst);
             }
             self.hold()?;

@@ -13,7 +13,7 @@ use std::io::{Error, ErrorKind, Read};
 const BLOCK: usize = 1024;
 
 /// A block, after three pending bytes, is finished in this many bytes if none of it is malformed.
-const ROOM: usize = 1034;
+const BLOCK_LENGTH: usize = 1034;
 
 /// Returns whether all bytes of a reader are well-formed UTF-8, in constant memory. Reads to the end, or up to the end
 /// of the block with the first malformed sequence. An error is the reader's, or means that no end was reached in
@@ -26,7 +26,7 @@ pub fn is_well_formed<R: Read>(reader: &mut R) -> io::Result<bool>
     law_parts();
     let mut decoder = Utf8Decoder::new_inner();
     let mut block = [0; BLOCK];
-    let mut text = [0; ROOM];
+    let mut text = [0; BLOCK_LENGTH];
     for _ in 0..u64::MAX {
         let count = reader.read(&mut block)?;
         let last = count == 0;

@@ -12,7 +12,7 @@ pub struct Input<'a> {
     /// How often it was read.
     pub asked: usize,
     /// How often it was read after its last byte.
-    pub asked_behind: usize,
+    pub asked_after: usize,
 }
 
 impl<'a> Input<'a> {
@@ -23,7 +23,7 @@ impl<'a> Input<'a> {
             step,
             fault: None,
             asked: 0,
-            asked_behind: 0,
+            asked_after: 0,
         }
     }
 
@@ -34,7 +34,7 @@ impl<'a> Input<'a> {
             step: 1,
             fault: Some(fault),
             asked: 0,
-            asked_behind: 0,
+            asked_after: 0,
         }
     }
 
@@ -50,7 +50,7 @@ impl Read for Input<'_> {
     fn read(&mut self, buffer: &mut [u8]) -> Result<usize> {
         self.asked = self.asked.saturating_add(1);
         if self.rest.is_empty() {
-            self.asked_behind = self.asked_behind.saturating_add(1);
+            self.asked_after = self.asked_after.saturating_add(1);
             if let Some(kind) = self.fault {
                 return Err(Error::from(kind));
             }
@@ -81,12 +81,12 @@ impl Read for Endless {
 }
 
 /// The most bytes that an [`Output`] takes.
-pub const ROOM: usize = 2048;
+pub const OUTPUT_CAPACITY: usize = 2048;
 
 /// Takes a number of bytes per call and a number in all, and then fails, or takes none if it has no error.
 #[derive(Drop)]
 pub struct Output {
-    bytes: [u8; ROOM],
+    bytes: [u8; OUTPUT_CAPACITY],
     count: usize,
     step: usize,
     takes: usize,
@@ -105,9 +105,9 @@ impl Output {
     /// Returns an output that takes `takes` bytes in all, and then fails, or takes none if there is no error.
     pub fn that_takes(takes: usize, fault: Option<ErrorKind>) -> Output {
         Output {
-            bytes: [0x71; ROOM],
+            bytes: [0x71; OUTPUT_CAPACITY],
             count: 0,
-            step: ROOM,
+            step: OUTPUT_CAPACITY,
             takes,
             fault,
             flushable: true,
@@ -119,7 +119,7 @@ impl Output {
 
     /// Returns an output that takes all bytes.
     pub fn that_takes_all() -> Output {
-        Output::that_takes(ROOM, None)
+        Output::that_takes(OUTPUT_CAPACITY, None)
     }
 
     /// Returns an output that takes all bytes, at most `step` per call.
@@ -145,7 +145,7 @@ impl Output {
 impl Write for Output {
     fn write(&mut self, bytes: &[u8]) -> Result<usize> {
         self.asked = self.asked.saturating_add(1);
-        let room = self.takes.min(ROOM).saturating_sub(self.count);
+        let room = self.takes.min(OUTPUT_CAPACITY).saturating_sub(self.count);
         let taken = bytes.len().min(room).min(self.step);
         if taken == 0 {
             if let Some(kind) = self.fault {
@@ -183,7 +183,7 @@ pub struct Compared<'a> {
     /// Whether they were those of the text.
     pub same: bool,
     /// How often it was written to after it had stopped.
-    pub asked_behind: usize,
+    pub asked_after: usize,
 }
 
 impl<'a> Compared<'a> {
@@ -197,7 +197,7 @@ impl<'a> Compared<'a> {
             stopped: false,
             taken: 0,
             same: true,
-            asked_behind: 0,
+            asked_after: 0,
         }
     }
 
@@ -213,7 +213,7 @@ impl<'a> Compared<'a> {
 impl Write for Compared<'_> {
     fn write(&mut self, bytes: &[u8]) -> Result<usize> {
         if self.stopped {
-            self.asked_behind = self.asked_behind.saturating_add(1);
+            self.asked_after = self.asked_after.saturating_add(1);
         }
         let count = bytes.len().min(self.step).min(self.left);
         if count == 0 {

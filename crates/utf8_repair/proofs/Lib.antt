@@ -1,2 +1,2 @@
 pub mod ServiceLemmas
-pub mod StreamLemmas
+pub mod ByteStreamLemmas

@@ -1,21 +1,21 @@
 -- What a run does to its reader and its writer, by their known bytes before and after it.
 use Rattle.std.specs.Prelude.{◌≡◌, ℕ, nat_eq, Bool, true, List, [], length, take, Option, if◌then◌else◌, codes}
 use Rattle.std.specs.Io.KnownBytes.{Appends, Consumes, IsAtEnd}
-use Rattle.encoding_runs.specs.Repairs.{IsDue, IsFront, HoldsRounds}
+use Rattle.encoding_runs.specs.Repairs.{IsPendingOutput, IsPrefix, HoldsRounds}
 
 -- A prefix of the text due was written: a proper prefix if a write failed, and all of it if only the flush did. It has
 -- at least the text of the final parts of all except the last bytes, and of all bytes once the end was seen.
-abbrev pub WritesPrefixOfDue : List ℕ → Bool → Option (List ℕ) → Option (List ℕ) → Type 0
-WritesPrefixOfDue bs ended old new = (text : List ℕ) × (out : List ℕ) × IsDue bs ended text × IsFront out text × Appends old new out
+abbrev pub WritesPrefixOfPendingOutput : List ℕ → Bool → Option (List ℕ) → Option (List ℕ) → Type 0
+WritesPrefixOfPendingOutput bs ended old new = (text : List ℕ) × (out : List ℕ) × IsPendingOutput bs ended text × IsPrefix out text × Appends old new out
     × (rounds : HoldsRounds bs out) × (ended ≡ true → rounds.before ≡ length bs)
 
 -- these bytes were read, with nothing left if their end was seen, and a prefix of the text due was written
 abbrev pub RepairsPrefix : List ℕ → Bool → Option (List ℕ) → Option (List ℕ) → Option (List ℕ) → Option (List ℕ) → Type 0
-RepairsPrefix bs ended unread left old new = Consumes unread left bs × (ended ≡ true → IsAtEnd left) × WritesPrefixOfDue bs ended old new
+RepairsPrefix bs ended unread left old new = Consumes unread left bs × (ended ≡ true → IsAtEnd left) × WritesPrefixOfPendingOutput bs ended old new
 
 -- a prefix of the text was written: nothing, some, or all of it
-abbrev pub WritesFrontOf : List ℕ → Option (List ℕ) → Option (List ℕ) → Type 0
-WritesFrontOf text old new = (n : ℕ) × Appends old new (take n text)
+abbrev pub WritesPrefixOf : List ℕ → Option (List ℕ) → Option (List ℕ) → Type 0
+WritesPrefixOf text old new = (n : ℕ) × Appends old new (take n text)
 
 -- the line of a status, in ASCII
 abbrev pub line_of : ℕ → List ℕ

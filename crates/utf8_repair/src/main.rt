@@ -11,7 +11,7 @@ use service::{NO_ARGUMENTS, report};
 use std::cell::Cell;
 use std::env;
 use std::process::ExitCode;
-use streams::{Due, ROOM, ReadAhead, WriteBehind};
+use streams::{BufferedWriter, FlushPolicy, PIPE_CAPACITY, ReadAhead};
 
 /// Serves the standard streams, each through an array: they are unbuffered, and each of their calls is a system call.
 fn main(rt: HostRuntime) -> ExitCode {
@@ -21,8 +21,8 @@ fn main(rt: HostRuntime) -> ExitCode {
         return ExitCode::from(NO_ARGUMENTS);
     };
     let count = arguments.count().saturating_sub(1);
-    let due = Cell::new(Due::Each);
-    let mut reader: ReadAhead<'_, _, ROOM> = ReadAhead::new(rt.stdin(), &due);
-    let mut writer: WriteBehind<'_, _, ROOM> = WriteBehind::new(rt.stdout(), &due);
+    let due = Cell::new(FlushPolicy::Each);
+    let mut reader: ReadAhead<'_, _, PIPE_CAPACITY> = ReadAhead::new(rt.stdin(), &due);
+    let mut writer: BufferedWriter<'_, _, PIPE_CAPACITY> = BufferedWriter::new(rt.stdout(), &due);
     ExitCode::from(serve(count, &mut reader, &mut writer, &mut errors))
 }

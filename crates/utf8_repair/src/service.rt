@@ -1,8 +1,8 @@
 //! One run of the program, over any three streams.
 ghost use Rattle.std.specs.Prelude.{◌≡◌, ℕ, ◌<◌, ◌≤◌, ◌↔◌, Bool, false, List, length, IsTrue, OnOk, OnErr};
 ghost use Rattle.std.specs.Result.{IsOkAnd};
-ghost use Rattle.encoding_runs.specs.Repairs.{RepairsAll, RepairsFront, RepairsSettled};
-ghost use Rattle.utf8_repair.specs.Service.{RepairsPrefix, WritesFrontOf, line_of};
+ghost use Rattle.encoding_runs.specs.Repairs.{RepairsAll, RepairsProperPrefix, RepairsFinal};
+ghost use Rattle.utf8_repair.specs.Service.{RepairsPrefix, WritesPrefixOf, line_of};
 
 use encoding_runs::repair::{RepairFault, Repaired, Sink, Source, Watch, repair};
 use std::io::{self, Read, Write};
@@ -55,13 +55,13 @@ fn repair_source<R: Source, W: Sink>(source: &mut R, sink: &mut W) -> u8
         × RepairsAll bytes (R.remaining source.old) (R.remaining source.new)
         (W.contents sink.old) (W.contents sink.new) n }
     ensures read_fault { result ≡ 3 → (bytes : List ℕ)
-        × RepairsSettled bytes (R.remaining source.old) (R.remaining source.new)
+        × RepairsFinal bytes (R.remaining source.old) (R.remaining source.new)
         (W.contents sink.old) (W.contents sink.new) }
     ensures write_fault { result ≡ 4 → R.has_ended source.old ≡ false → (bytes : List ℕ) × (ended : Bool)
-        × RepairsFront bytes ended (R.remaining source.old) (R.remaining source.new)
+        × RepairsProperPrefix bytes ended (R.remaining source.old) (R.remaining source.new)
         (W.contents sink.old) (W.contents sink.new) }
     ensures limit { result ≡ 5 → (bytes : List ℕ) × (length bytes ≡ u64.MAX)
-        × RepairsSettled bytes (R.remaining source.old) (R.remaining source.new)
+        × RepairsFinal bytes (R.remaining source.old) (R.remaining source.new)
         (W.contents sink.old) (W.contents sink.new) }
     ensures prefix { R.has_ended source.old ≡ false → (bytes : List ℕ) × (ended : Bool)
         × RepairsPrefix bytes ended (R.remaining source.old) (R.remaining source.new)
@@ -86,10 +86,10 @@ fn repair_stream<R: Read, W: Write>(reader: &mut R, writer: &mut W) -> u8
         × RepairsAll bytes (R.remaining reader.old) (R.remaining reader.new)
         (W.contents writer.old) (W.contents writer.new) n }
     ensures read_fault { result ≡ 3 → (bytes : List ℕ)
-        × RepairsSettled bytes (R.remaining reader.old) (R.remaining reader.new)
+        × RepairsFinal bytes (R.remaining reader.old) (R.remaining reader.new)
         (W.contents writer.old) (W.contents writer.new) }
     ensures limit { result ≡ 5 → (bytes : List ℕ) × (length bytes ≡ u64.MAX)
-        × RepairsSettled bytes (R.remaining reader.old) (R.remaining reader.new)
+        × RepairsFinal bytes (R.remaining reader.old) (R.remaining reader.new)
         (W.contents writer.old) (W.contents writer.new) }
     ensures prefix { (bytes : List ℕ) × (ended : Bool)
         × RepairsPrefix bytes ended (R.remaining reader.old) (R.remaining reader.new)
@@ -101,7 +101,7 @@ fn repair_stream<R: Read, W: Write>(reader: &mut R, writer: &mut W) -> u8
 }
 
 /// Returns the status of a run after its flush: 4 if the flush failed, and otherwise `status`.
-fn status_behind(status: u8, flushed: io::Result<()>) -> u8
+fn status_after(status: u8, flushed: io::Result<()>) -> u8
     ensures failed { OnErr flushed (result ≡ 4) }
     ensures flushed { OnOk flushed (result ≡ status) }
 {
@@ -120,17 +120,17 @@ fn repair_and_flush<R: Read, W: Write>(reader: &mut R, writer: &mut W) -> u8
         × RepairsAll bytes (R.remaining reader.old) (R.remaining reader.new)
         (W.contents writer.old) (W.contents writer.new) n }
     ensures read_fault { result ≡ 3 → (bytes : List ℕ)
-        × RepairsSettled bytes (R.remaining reader.old) (R.remaining reader.new)
+        × RepairsFinal bytes (R.remaining reader.old) (R.remaining reader.new)
         (W.contents writer.old) (W.contents writer.new) }
     ensures write_fault { result ≡ 4 → (bytes : List ℕ) × (ended : Bool)
         × RepairsPrefix bytes ended (R.remaining reader.old) (R.remaining reader.new)
         (W.contents writer.old) (W.contents writer.new) }
     ensures limit { result ≡ 5 → (bytes : List ℕ) × (length bytes ≡ u64.MAX)
-        × RepairsSettled bytes (R.remaining reader.old) (R.remaining reader.new)
+        × RepairsFinal bytes (R.remaining reader.old) (R.remaining reader.new)
         (W.contents writer.old) (W.contents writer.new) }
 {
     let status = repair_stream(reader, writer);
-    status_behind(status, writer.flush())
+    status_after(status, writer.flush())
 }
 
 /// Returns the line of a status, empty if it has none.
@@ -149,7 +149,7 @@ fn line_of(status: u8) -> &'static [u8]
 
 /// Writes the text, up to the first write that fails or writes no byte.
 fn write_line<E: Write>(text: &[u8], errors: &mut E)
-    ensures { WritesFrontOf text.now (E.contents errors.old) (E.contents errors.new) }
+    ensures { WritesPrefixOf text.now (E.contents errors.old) (E.contents errors.new) }
 {
     let mut at = 0;
     while at < text.len() {
@@ -162,7 +162,7 @@ fn write_line<E: Write>(text: &[u8], errors: &mut E)
 
 /// Writes the line of the status, if it has one.
 pub(crate) fn report<E: Write>(status: u8, errors: &mut E)
-    ensures line { WritesFrontOf (line_of status) (E.contents errors.old) (E.contents errors.new) }
+    ensures line { WritesPrefixOf (line_of status) (E.contents errors.old) (E.contents errors.new) }
     ensures silent { status ≤ 1 → errors.new ≡ errors.old }
 {
     let line = line_of(status);
@@ -200,15 +200,15 @@ pub fn serve<R: Read, W: Write, E: Write>(
         × RepairsAll bytes (R.remaining reader.old) (R.remaining reader.new)
         (W.contents writer.old) (W.contents writer.new) n }
     ensures read_fault { result ≡ 3 → (bytes : List ℕ)
-        × RepairsSettled bytes (R.remaining reader.old) (R.remaining reader.new)
+        × RepairsFinal bytes (R.remaining reader.old) (R.remaining reader.new)
         (W.contents writer.old) (W.contents writer.new) }
     ensures write_fault { result ≡ 4 → (bytes : List ℕ) × (ended : Bool)
         × RepairsPrefix bytes ended (R.remaining reader.old) (R.remaining reader.new)
         (W.contents writer.old) (W.contents writer.new) }
     ensures limit { result ≡ 5 → (bytes : List ℕ) × (length bytes ≡ u64.MAX)
-        × RepairsSettled bytes (R.remaining reader.old) (R.remaining reader.new)
+        × RepairsFinal bytes (R.remaining reader.old) (R.remaining reader.new)
         (W.contents writer.old) (W.contents writer.new) }
-    ensures line { WritesFrontOf (line_of result) (E.contents errors.old) (E.contents errors.new) }
+    ensures line { WritesPrefixOf (line_of result) (E.contents errors.old) (E.contents errors.new) }
     ensures silent { result ≤ 1 → errors.new ≡ errors.old }
 {
     if arguments > 0 {

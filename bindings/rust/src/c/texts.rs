@@ -9,29 +9,29 @@ use alloc::{string::String, vec::Vec};
 /// Returns the longest well-formed prefix.
 #[cfg(feature = "alloc")]
 #[inline]
-pub(crate) fn utf8_front(src: &[u8]) -> &str {
-    let front = &src[..encoding_text_utf8_valid_up_to(src)];
+pub(crate) fn utf8_prefix(src: &[u8]) -> &str {
+    let prefix = &src[..encoding_text_utf8_valid_up_to(src)];
     // SAFETY: `encoding_text_utf8_valid_up_to` returns the length of a prefix that is well-formed UTF-8.
-    unsafe { core::str::from_utf8_unchecked(front) }
+    unsafe { core::str::from_utf8_unchecked(prefix) }
 }
 
 /// Returns the text before the first malformed sequence, and that sequence, which is empty if all is text.
 #[inline]
 pub(crate) fn first_chunk(src: &[u8]) -> (&str, &[u8]) {
-    let broken = encoding_text_next_broken(src);
-    let (front, rest) = src.split_at(broken.place);
-    // SAFETY: what `encoding_text_next_broken` finds before a malformed sequence, or if there is none, is well-formed
-    // UTF-8.
-    (unsafe { core::str::from_utf8_unchecked(front) }, &rest[..broken.length])
+    let part = encoding_text_next_malformed(src);
+    let (prefix, rest) = src.split_at(part.place);
+    // SAFETY: what `encoding_text_next_malformed` finds before a malformed sequence, or if there is none, is
+    // well-formed UTF-8.
+    (unsafe { core::str::from_utf8_unchecked(prefix) }, &rest[..part.length])
 }
 
 /// Returns the longest ASCII prefix.
 #[cfg(feature = "alloc")]
 #[inline]
-pub(crate) fn ascii_front(src: &[u8]) -> &str {
-    let front = &src[..encoding_text_ascii_valid_up_to(src)];
+pub(crate) fn ascii_prefix_len(src: &[u8]) -> &str {
+    let prefix = &src[..encoding_text_ascii_valid_up_to(src)];
     // SAFETY: `encoding_text_ascii_valid_up_to` returns the length of a prefix of bytes below 0x80, each a character.
-    unsafe { core::str::from_utf8_unchecked(front) }
+    unsafe { core::str::from_utf8_unchecked(prefix) }
 }
 
 /// Decodes without a destination. Returns what it found and the number of bytes read.
@@ -40,15 +40,15 @@ pub(crate) fn decode_borrowed<'a>(decoder: &mut Decoder, src: &'a [u8], last: bo
     let piece = encoding_text_utf8_decoder_decode_borrowed(decoder, src, last);
     let found = match piece.kind {
         PIECE_TEXT => {
-            let front = &src[..piece.read];
+            let prefix = &src[..piece.read];
             // SAFETY: a call of this kind reads a well-formed prefix of the source, and nothing else.
-            Decodable::Text(unsafe { core::str::from_utf8_unchecked(front) })
+            Decodable::Text(unsafe { core::str::from_utf8_unchecked(prefix) })
         }
         PIECE_CHAR => {
             // SAFETY: a call of this kind returns the scalar value of a character.
             Decodable::Char(unsafe { char::from_u32_unchecked(piece.character) })
         }
-        PIECE_MALFORMED => Decodable::Malformed(piece.malformed),
+        PIECE_MALFORMED => Decodable::Malformed(piece.malformed_length),
         _ => Decodable::InputEmpty,
     };
     (found, piece.read)
@@ -92,7 +92,7 @@ fn clear(bytes: &mut [u8], zeros: usize) {
 type Conversion<R> = unsafe extern "C" fn(*const u8, usize, *mut u8, usize) -> R;
 
 /// Converts bytes into `room` bytes past the end of a vector, which grows by what is written. Returns what the
-/// conversion returned. If that is a refusal, the vector is unchanged.
+/// conversion returned. If that is `INVALID_ARGUMENT`, the vector is unchanged.
 ///
 /// # Safety
 ///
@@ -111,7 +111,7 @@ unsafe fn append<R>(
     // it returns and writes is promised for any bytes that were there before.
     let result = unsafe { convert(src.as_ptr(), src.len(), spare.as_mut_ptr().cast(), spare.len()) };
     let written = length(&result);
-    if written != REFUSED {
+    if written != INVALID_ARGUMENT {
         // SAFETY: the first `written` bytes of the spare capacity are initialized now.
         unsafe { to.set_len(to.len() + written) };
     }
@@ -121,10 +121,10 @@ unsafe fn append<R>(
 /// Returns the text whose characters are the bytes, the first `ascii` of them ASCII.
 #[cfg(feature = "alloc")]
 pub(crate) fn latin1_to_string(bytes: &[u8], ascii: usize) -> String {
-    let (front, rest) = bytes.split_at(ascii);
+    let (prefix, rest) = bytes.split_at(ascii);
     let room = rest.len().saturating_mul(2);
     let mut text = Vec::with_capacity(ascii.saturating_add(room));
-    text.extend_from_slice(front);
+    text.extend_from_slice(prefix);
     // SAFETY: it is a function of the library, and returns the number of bytes that it wrote.
     unsafe {
         append(
@@ -142,11 +142,10 @@ pub(crate) fn latin1_to_string(bytes: &[u8], ascii: usize) -> String {
 /// Returns the Latin1 of a text whose first `ascii` bytes are ASCII, or `None` if the text isn't all Latin1.
 #[cfg(feature = "alloc")]
 pub(crate) fn utf8_to_latin1(text: &str, ascii: usize) -> Option<Vec<u8>> {
-    let (front, rest) = text.as_bytes().split_at(ascii);
+    let (prefix, rest) = text.as_bytes().split_at(ascii);
     let mut latin1 = Vec::with_capacity(text.len());
-    latin1.extend_from_slice(front);
-    // SAFETY: it is a function of the library, and returns the number of bytes that it wrote, or that it refuses the
-    // source.
+    latin1.extend_from_slice(prefix);
+    // SAFETY: it is a function of the library, and returns the number of bytes that it wrote, or `INVALID_ARGUMENT`.
     let written = unsafe {
         append(
             rest,
@@ -156,15 +155,15 @@ pub(crate) fn utf8_to_latin1(text: &str, ascii: usize) -> Option<Vec<u8>> {
             |written| *written,
         )
     };
-    (written != REFUSED).then_some(latin1)
+    (written != INVALID_ARGUMENT).then_some(latin1)
 }
 
 /// Returns the well-formed prefix followed by the rest, with U+FFFD for each malformed sequence.
 #[cfg(feature = "alloc")]
-pub(crate) fn repair_behind(front: &str, rest: &[u8]) -> String {
+pub(crate) fn repair_after(prefix: &str, rest: &[u8]) -> String {
     let room = rest.len().saturating_mul(3);
-    let mut text = Vec::with_capacity(front.len().saturating_add(room));
-    text.extend_from_slice(front.as_bytes());
+    let mut text = Vec::with_capacity(prefix.len().saturating_add(room));
+    text.extend_from_slice(prefix.as_bytes());
     // SAFETY: it is a function of the library, and returns the number of bytes that it wrote.
     unsafe {
         append(rest, &mut text, room, raw::encoding_text_repair_slice, |repaired| {

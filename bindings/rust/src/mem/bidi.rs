@@ -36,7 +36,7 @@ fn class(answer: u8) -> Latin1Bidi {
 #[must_use]
 #[inline]
 pub fn is_char_bidi(c: char) -> bool {
-    c::encoding_text_mem_is_char_bidi(u32::from(c)) == c::YES
+    c::encoding_text_mem_is_utf8_bidi(c.encode_utf8(&mut [0; 4]).as_bytes())
 }
 
 /// Returns whether the code unit is a right-to-left character, or a high surrogate that may start one.

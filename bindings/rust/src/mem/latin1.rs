@@ -77,7 +77,7 @@ pub(super) fn refuse_beyond_latin1(up_to: usize) {
 pub fn convert_utf8_to_latin1_lossy(src: &[u8], dst: &mut [u8]) -> usize {
     assert_as_long(src, dst);
     let written = c::encoding_text_mem_convert_utf8_to_latin1_lossy(src, dst);
-    if written == c::REFUSED {
+    if written == c::INVALID_ARGUMENT {
         let up_to = utf8_latin1_up_to(src);
         refuse_beyond_latin1(up_to);
         return c::encoding_text_mem_convert_utf8_to_latin1_lossy(&src[..up_to], dst);

@@ -16,11 +16,11 @@ use alloc::borrow::Cow;
 /// ```
 #[must_use]
 pub fn decode_latin1(bytes: &[u8]) -> Cow<'_, str> {
-    let front = c::ascii_front(bytes);
-    if front.len() == bytes.len() {
-        return Cow::Borrowed(front);
+    let prefix = c::ascii_prefix_len(bytes);
+    if prefix.len() == bytes.len() {
+        return Cow::Borrowed(prefix);
     }
-    Cow::Owned(c::latin1_to_string(bytes, front.len()))
+    Cow::Owned(c::latin1_to_string(bytes, prefix.len()))
 }
 
 /// Returns the characters of a text of Latin1 as bytes: borrowed if they are ASCII, else owned, with one allocation.

@@ -177,7 +177,7 @@ impl<T: Copy + PartialEq + std::fmt::Debug> Drop for Framed<T> {
             assert_eq!(
                 self.all[self.kept_from..],
                 self.before[self.kept_from..],
-                "behind what is written"
+                "after what is written"
             );
         }
     }
@@ -192,7 +192,7 @@ pub fn units_of(random: &mut Random, length: usize) -> Framed<u16> {
 }
 
 /// Returns the well-formed prefix by `std`.
-pub fn front(bytes: &[u8]) -> &str {
+pub fn prefix(bytes: &[u8]) -> &str {
     match std::str::from_utf8(bytes) {
         Ok(text) => text,
         Err(error) => std::str::from_utf8(&bytes[..error.valid_up_to()]).unwrap(),

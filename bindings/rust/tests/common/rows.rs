@@ -7,7 +7,7 @@ pub trait Unit: Copy + PartialEq + Debug {
     /// Starts a character.
     const BEFORE: Self;
     /// Ends a truncated character.
-    const BEHIND: Self;
+    const AFTER: Self;
     /// Fills a destination. No row writes it.
     const UNWRITTEN: Self;
     /// Follows what is written into a text.
@@ -19,7 +19,7 @@ pub trait Unit: Copy + PartialEq + Debug {
 
 impl Unit for u8 {
     const BEFORE: u8 = 0xC3;
-    const BEHIND: u8 = 0x83;
+    const AFTER: u8 = 0x83;
     const UNWRITTEN: u8 = 0x71;
     const ZERO: u8 = 0;
 
@@ -30,7 +30,7 @@ impl Unit for u8 {
 
 impl Unit for u16 {
     const BEFORE: u16 = 0xD83D;
-    const BEHIND: u16 = 0xDCA9;
+    const AFTER: u16 = 0xDCA9;
     const UNWRITTEN: u16 = 0x71;
     const ZERO: u16 = 0;
 
@@ -87,8 +87,11 @@ pub fn around<T: Copy>(filler: &[T], count: usize, before: usize, edge: &[T]) ->
 /// Asserts that these units are at index `at`, and that what is unwritten is before and after them.
 pub fn assert_written<T: Unit>(wanted: &[T], at: usize, dst: &[T]) {
     let (before, rest) = dst.split_at(at);
-    let (written, behind) = rest.split_at(wanted.len());
+    let (written, following) = rest.split_at(wanted.len());
     assert_eq!(written, wanted);
     assert!(before.iter().all(|unit| *unit == T::UNWRITTEN), "before: {before:x?}");
-    assert!(behind.iter().all(|unit| *unit == T::UNWRITTEN), "behind: {behind:x?}");
+    assert!(
+        following.iter().all(|unit| *unit == T::UNWRITTEN),
+        "after: {following:x?}"
+    );
 }

@@ -16,7 +16,7 @@ pub struct Decoder {
 #[repr(C)]
 #[derive(Default)]
 pub struct Encoder {
-    held: u16,
+    surrogate: u16,
 }
 
 /// One call of a run: its `take`, its `room`, and whether it is marked last if it takes all that is left.
@@ -44,17 +44,17 @@ pub const UNREPORTED: Report = Report {
 
 /// What a run of a decoder did.
 #[repr(C)]
-pub struct Outcome {
+pub struct DecodeRunResult {
     pub read: usize,
     pub written: usize,
     pub reports: usize,
     result: u8,
-    malformed: u8,
+    malformed_length: u8,
 }
 
 /// What a run of an encoder did.
 #[repr(C)]
-pub struct Encoded {
+pub struct EncodeResult {
     pub read: usize,
     pub written: usize,
     result: u8,
@@ -86,7 +86,7 @@ extern "C" {
         dst_length: usize,
         reports: *mut Report,
         reports_length: usize,
-    ) -> Outcome;
+    ) -> DecodeRunResult;
     fn encoding_text_run_to_utf8(
         decoder: *mut Decoder,
         src: *const u8,
@@ -97,7 +97,7 @@ extern "C" {
         dst_length: usize,
         reports: *mut Report,
         reports_length: usize,
-    ) -> Outcome;
+    ) -> DecodeRunResult;
     fn encoding_text_run_from_utf16(
         encoder: *mut Encoder,
         src: *const u16,
@@ -106,7 +106,7 @@ extern "C" {
         turns_length: usize,
         dst: *mut u8,
         dst_length: usize,
-    ) -> Encoded;
+    ) -> EncodeResult;
     fn encoding_text_utf8_encoder_encode_from_utf8(
         encoder: *mut Encoder,
         src: *const u8,
@@ -114,7 +114,7 @@ extern "C" {
         dst: *mut u8,
         dst_length: usize,
         last: bool,
-    ) -> Encoded;
+    ) -> EncodeResult;
     fn encoding_text_repair_block(
         decoder: *mut Decoder,
         src: *const u8,
@@ -137,37 +137,37 @@ impl Encoder {
     /// Creates an encoder with this pending surrogate, or none.
     pub fn that_holds(unit: Option<u16>) -> Encoder {
         Encoder {
-            held: unit.unwrap_or(0),
+            surrogate: unit.unwrap_or(0),
         }
     }
 
     /// Returns the pending surrogate: none if the field is no high surrogate.
-    pub fn held(&self) -> Option<u16> {
-        matches!(self.held, 0xD800..=0xDBFF).then_some(self.held)
+    pub fn surrogate(&self) -> Option<u16> {
+        matches!(self.surrogate, 0xD800..=0xDBFF).then_some(self.surrogate)
     }
 }
 
-impl Outcome {
+impl DecodeRunResult {
     /// Returns why the last call ended, or `None` if there was none.
     pub fn ended(&self) -> Option<DecoderResult> {
-        match (self.result, self.malformed) {
+        match (self.result, self.malformed_length) {
             (INPUT_EMPTY, 0) => Some(DecoderResult::InputEmpty),
             (OUTPUT_FULL, 0) => Some(DecoderResult::OutputFull),
             (MALFORMED, length) => Some(DecoderResult::Malformed(length, 0)),
             (NO_CALL, 0) => None,
-            told => panic!("no answer: {told:?}"),
+            reported => panic!("no answer: {reported:?}"),
         }
     }
 }
 
-impl Encoded {
+impl EncodeResult {
     /// Returns why the last call ended, or `None` if there was none.
     pub fn ended(&self) -> Option<EncoderResult> {
         match self.result {
             INPUT_EMPTY => Some(EncoderResult::InputEmpty),
             OUTPUT_FULL => Some(EncoderResult::OutputFull),
             NO_CALL => None,
-            told => panic!("no answer: {told}"),
+            reported => panic!("no answer: {reported}"),
         }
     }
 }
@@ -204,7 +204,7 @@ pub fn run_to_utf16(
     turns: &[Turn],
     dst: &mut [u16],
     reports: &mut [Report],
-) -> Outcome {
+) -> DecodeRunResult {
     assert!(reports.len() >= turns.len());
     // SAFETY: each turn has an entry for its report. The borrows of the decoder, the destination and the reports are
     // unique, so they overlap nothing, and all are laid out as the header says. It reads and writes within the slices,
@@ -231,7 +231,7 @@ pub fn run_to_utf8(
     turns: &[Turn],
     dst: &mut [u8],
     reports: &mut [Report],
-) -> Outcome {
+) -> DecodeRunResult {
     assert!(reports.len() >= turns.len());
     // SAFETY: as for `run_to_utf16`.
     unsafe {
@@ -250,7 +250,7 @@ pub fn run_to_utf8(
 }
 
 /// Encodes by one call for each turn.
-pub fn run_from_utf16(encoder: &mut Encoder, src: &[u16], turns: &[Turn], dst: &mut [u8]) -> Encoded {
+pub fn run_from_utf16(encoder: &mut Encoder, src: &[u16], turns: &[Turn], dst: &mut [u8]) -> EncodeResult {
     // SAFETY: the borrows of the encoder and the destination are unique, so they overlap nothing, and all are laid out
     // as the header says. It reads and writes within the slices, and any numbers that it writes are valid.
     unsafe {

@@ -55,14 +55,14 @@ pub const FROM_LATIN1: [Calls<u8>; 2] = [
 
 /// The number of elements read, and of elements written.
 #[repr(C)]
-struct Counts {
+struct Progress {
     read: usize,
     written: usize,
 }
 
-impl From<Counts> for (usize, usize) {
-    fn from(counts: Counts) -> (usize, usize) {
-        (counts.read, counts.written)
+impl From<Progress> for (usize, usize) {
+    fn from(progress: Progress) -> (usize, usize) {
+        (progress.read, progress.written)
     }
 }
 
@@ -72,7 +72,7 @@ extern "C" {
         src_length: usize,
         dst: *mut u8,
         dst_length: usize,
-    ) -> Counts;
+    ) -> Progress;
     fn encoding_text_mem_convert_utf16_to_str(
         src: *const u16,
         src_length: usize,
@@ -84,7 +84,7 @@ extern "C" {
         src_length: usize,
         dst: *mut u8,
         dst_length: usize,
-    ) -> Counts;
+    ) -> Progress;
     fn encoding_text_mem_convert_latin1_to_str(
         src: *const u8,
         src_length: usize,

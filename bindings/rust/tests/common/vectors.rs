@@ -26,14 +26,14 @@ pub struct Vector {
 
 impl Vector {
     /// Returns the vector of a row, with `61` before it and a text after it.
-    fn of(row: &'static str, behind: &str) -> Vector {
+    fn of(row: &'static str, following: &str) -> Vector {
         let (bytes, words) = fields(row);
         let mut parts = vec![Ok('a')];
         parts.extend(words.split_whitespace().map(part));
-        parts.extend(behind.chars().map(Ok));
+        parts.extend(following.chars().map(Ok));
         Vector {
             row,
-            bytes: [b"a".to_vec(), named(bytes), behind.into()].concat(),
+            bytes: [b"a".to_vec(), named(bytes), following.into()].concat(),
             parts,
         }
     }

@@ -7,7 +7,7 @@ const LONGEST: usize = 130;
 
 /// The length of the array around a source or a destination: three units for each of the longest source, and sixteen
 /// more before and after.
-const ROOM: usize = 3 * LONGEST + 48;
+const DST_LENGTH: usize = 3 * LONGEST + 48;
 
 /// The length of a destination.
 #[derive(Clone, Copy)]
@@ -67,10 +67,10 @@ pub struct Items<S, D> {
 struct Text<S, D> {
     src: Vec<S>,
     wanted: Vec<D>,
-    front: (usize, usize),
-    source: [S; ROOM],
-    destination: [D; ROOM],
-    unwritten: [D; ROOM],
+    prefix: (usize, usize),
+    source: [S; DST_LENGTH],
+    destination: [D; DST_LENGTH],
+    unwritten: [D; DST_LENGTH],
 }
 
 impl<S: Unit, D: Unit> Text<S, D> {
@@ -78,15 +78,15 @@ impl<S: Unit, D: Unit> Text<S, D> {
         Text {
             src: Vec::new(),
             wanted: Vec::new(),
-            front: (0, 0),
-            source: [S::BEHIND; ROOM],
-            destination: [D::UNWRITTEN; ROOM],
-            unwritten: [D::UNWRITTEN; ROOM],
+            prefix: (0, 0),
+            source: [S::AFTER; DST_LENGTH],
+            destination: [D::UNWRITTEN; DST_LENGTH],
+            unwritten: [D::UNWRITTEN; DST_LENGTH],
         }
     }
 
     fn push(&mut self, item: &Item<S, D>) {
-        self.front = (self.src.len(), self.wanted.len());
+        self.prefix = (self.src.len(), self.wanted.len());
         self.src.extend_from_slice(&item.read);
         self.wanted.extend_from_slice(&item.written);
     }
@@ -96,7 +96,7 @@ impl<S: Unit, D: Unit> Text<S, D> {
     fn fill(&mut self, [letter, filler, other]: [&Item<S, D>; 3], length: usize, place: usize) {
         self.src.clear();
         self.wanted.clear();
-        self.front = (0, 0);
+        self.prefix = (0, 0);
         while self.src.len() < length {
             let at = self.src.len();
             let left = if at < place { place } else { length } - at;
@@ -108,16 +108,16 @@ impl<S: Unit, D: Unit> Text<S, D> {
                 self.push(letter);
             }
         }
-        self.source.fill(S::BEHIND);
+        self.source.fill(S::AFTER);
     }
 
     /// Returns how many units have to be read and written into this destination, and how many it has.
-    fn told(&self, room: Room) -> ((usize, usize), usize) {
+    fn reported(&self, room: Room) -> ((usize, usize), usize) {
         let (read, written) = (self.src.len(), self.wanted.len());
         match room {
             Room::Times(times, more) => ((read, written), read * times + more),
             Room::Exact => ((read, written), written),
-            Room::Short => (self.front, written.saturating_sub(1)),
+            Room::Short => (self.prefix, written.saturating_sub(1)),
         }
     }
 
@@ -125,10 +125,10 @@ impl<S: Unit, D: Unit> Text<S, D> {
     /// them.
     fn is_written(&self, to: usize, written: usize, zeros: usize) -> bool {
         let (before, rest) = self.destination.split_at(to);
-        let (front, behind) = rest.split_at(written);
-        let (cleared, left) = behind.split_at(zeros);
+        let (prefix, following) = rest.split_at(written);
+        let (cleared, left) = following.split_at(zeros);
         before == &self.unwritten[..to]
-            && front == &self.wanted[..written]
+            && prefix == &self.wanted[..written]
             && cleared.iter().all(|unit| *unit == D::ZERO)
             && left == &self.unwritten[..left.len()]
     }
@@ -143,13 +143,13 @@ impl<S: Unit, D: Unit> Text<S, D> {
         way: Way,
         call: impl FnOnce(&[S], &mut [D]) -> (usize, usize),
     ) -> bool {
-        let ((read, written), room) = self.told(way.room);
+        let ((read, written), room) = self.reported(way.room);
         self.source[..from].fill(S::BEFORE);
         let src = &mut self.source[from..from + self.src.len()];
         src.copy_from_slice(&self.src);
-        let told = call(src, &mut self.destination[to..to + room]);
+        let reported = call(src, &mut self.destination[to..to + room]);
         let zeros = way.zeros.min(room - written);
-        let holds = told == (read, written) && self.is_written(to, written, zeros);
+        let holds = reported == (read, written) && self.is_written(to, written, zeros);
         self.destination[to..to + written + zeros].fill(D::UNWRITTEN);
         holds
     }
@@ -178,7 +178,7 @@ fn assert_holds_among<S: Unit, D: Unit>(
 }
 
 /// Asserts that the call holds with each of the others among each of the fillers, and returns how many these are.
-pub fn held<S: Unit, D: Unit>(
+pub fn assert_each_holds<S: Unit, D: Unit>(
     items: &Items<S, D>,
     way: Way,
     mut call: impl FnMut(&[S], &mut [D]) -> (usize, usize),

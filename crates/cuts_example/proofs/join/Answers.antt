@@ -2,7 +2,7 @@ use Rattle.std.proofs.Common.{◌≡◌, take, ap, ◌∙◌, arith, sum_by}
 use Rattle.std.proofs.lemmas.Grind.{common_steps}
 use Rattle.std.specs.List.{flat_map}
 use Rattle.cuts_example.specs.declared.RepairedPiece.{RepairedPiece}
-use Rattle.cuts_example.proofs.PieceLemmas.{all_joined}
+use Rattle.cuts_example.proofs.CutPieceLemmas.{all_joined}
 use Rattle.cuts_example.proofs.join.Goals as goal
 
 pub returns : goal.returns

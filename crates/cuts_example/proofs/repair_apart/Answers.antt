@@ -7,7 +7,7 @@ use Rattle.std.specs.List.{AllZip, flat_map}
 use Rattle.std.specs.declared.alloc.AllocError.{AllocError}
 use Rattle.cuts_example.specs.declared.RepairedPiece.{RepairedPiece}
 use Rattle.cuts_example.specs.Cuts.{IsRepairOf}
-use Rattle.cuts_example.proofs.PieceLemmas.{replaced_within}
+use Rattle.cuts_example.proofs.CutPieceLemmas.{replaced_within}
 use Rattle.cuts_example.proofs.repair_apart.Goals as goal
 
 abbrev bytes_of : Bor (List ℕ) → List ℕ

@@ -2,9 +2,9 @@ use Rattle.std.proofs.Common.{◌≡◌, ◌≢◌, ◌≤◌, true, [], length,
 use Rattle.std.proofs.lemmas.Bool.{both_ways}
 use Rattle.std.proofs.lemmas.Bool.Decides.{nat_tests}
 use Rattle.std.proofs.lemmas.List.{take_rest, length-drop}
-use Rattle.encoding_definitions.proofs.LongestFronts.FrontsLemmas.{WritesFront-length}
-use Rattle.decoder_example.proofs.GivenLemmas.{written_for, is_report}
-use Rattle.decoder_example.proofs.CallLemmas.{Writes_whole, Writes_replaced, replacement_fits}
+use Rattle.encoding_definitions.proofs.LongestPrefixes.PrefixesLemmas.{WritesPrefix-length}
+use Rattle.decoder_example.proofs.YieldedLemmas.{written_for, is_report}
+use Rattle.decoder_example.proofs.ReplacingCallLemmas.{Writes_whole, Writes_replaced, replacement_fits}
 use Rattle.decoder_example.proofs.decode_part.Goals.{else-last-via-then-last+then-is_empty+then-dst-replacement+else-not-in_neutral_state, else-last-via-then-last+then-is_empty+else-dst-replacement, else-last-via-then-last+else-is_empty, else-last-via-else-last}
 use Rattle.decoder_example.proofs.decode_part.Goals as goal
 
@@ -24,7 +24,7 @@ put-requires g c =
         made.writes.count,
         ap length (take_rest c.decode-result.new.dst c.decode-result.result.2),
         length-drop c.decode-result.result.2 c.decode-result.new.dst,
-        WritesFront-length _ _ _ _ made.writes,
+        WritesPrefix-length _ _ _ _ made.writes,
       );
     }
 

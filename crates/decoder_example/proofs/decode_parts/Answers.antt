@@ -2,7 +2,7 @@ use Rattle.std.proofs.Common.{◌≡◌, true, ◌||◌, length, ap, ◌∙◌, 
 use Rattle.std.proofs.Math.Bool.{or-false, or-true}
 use Rattle.std.proofs.lemmas.List.{take_rest, length-drop}
 use Rattle.std.specs.Option.{is_none}
-use Rattle.decoder_example.proofs.CallLemmas.{Writes_then, Ends_after, shrinks}
+use Rattle.decoder_example.proofs.ReplacingCallLemmas.{Writes_then, Ends_after, shrinks}
 use Rattle.decoder_example.proofs.decode_parts.Goals as goal
 
 pub returns-in-Some : goal.returns-in-Some

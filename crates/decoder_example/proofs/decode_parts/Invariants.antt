@@ -1,6 +1,6 @@
 use Rattle.std.proofs.Common.{◌+◌, ◌-◌, length}
 use Rattle.decoder_example.specs.Marked.{Decoding}
-use Rattle.decoder_example.specs.Calls.{Writes}
+use Rattle.decoder_example.specs.ReplacingCalls.{Writes}
 use Rattle.decoder_example.proofs.decode_parts.Given as goal
 
 abbrev pub invariant-loop-result : goal.invariant-loop-result

@@ -35,13 +35,13 @@ joined_bidi xs ys u v a =
     let w = IsUtf8-append xs ys u v in
     (w.0, w.1.0, w.1.1, subst HasOne (sym (encodes_same w.0 (u.0 ++ v.0) (w.1.1 ∙ sym (joined_scalars xs ys u v)))) a)
 
-pub bidi_front : (xs ys : List ℕ) → IsBidiText xs → IsUtf8 ys → IsBidiText (xs ++ ys)
+pub bidi_prefix : (xs ys : List ℕ) → IsBidiText xs → IsUtf8 ys → IsBidiText (xs ++ ys)
 unfolding text_of_bidi
-bidi_front xs ys b v = joined_bidi xs ys (text_of_bidi xs b) v (Any-left IsRightToLeft b.0 v.0 b.3)
+bidi_prefix xs ys b v = joined_bidi xs ys (text_of_bidi xs b) v (Any-left IsRightToLeft b.0 v.0 b.3)
 
-pub bidi_behind : (xs ys : List ℕ) → IsUtf8 xs → IsBidiText ys → IsBidiText (xs ++ ys)
+pub bidi_after : (xs ys : List ℕ) → IsUtf8 xs → IsBidiText ys → IsBidiText (xs ++ ys)
 unfolding text_of_bidi
-bidi_behind xs ys u b = joined_bidi xs ys u (text_of_bidi ys b) (Any-right IsRightToLeft u.0 b.0 b.3)
+bidi_after xs ys u b = joined_bidi xs ys u (text_of_bidi ys b) (Any-right IsRightToLeft u.0 b.0 b.3)
 
 pub bidi_either : (xs ys : List ℕ) → IsUtf8 xs → IsUtf8 ys → IsBidiText (xs ++ ys) → IsBidiText xs ⊎ IsBidiText ys
 bidi_either xs ys u v b = elim (Any-append IsRightToLeft u.0 v.0 (bidi_scalars (xs ++ ys) (u.0 ++ v.0) (joined_scalars xs ys u v) b)) [
@@ -82,12 +82,12 @@ whole_text bs at u v = subst IsUtf8 (take-append-drop at bs) (IsUtf8-append (tak
 pub found_in_text : (bs : List ℕ) (at n : ℕ) → IsUtf8 bs → at ≤ length bs → IsUtf8 (take at bs) → IsBidiText (take n (drop at bs)) → IsBidiText bs
 found_in_text bs at n u l v b =
     let rest = rest_text bs at u l v in
-    let behind : IsUtf8 (drop n (drop at bs)) = after_front (drop at bs) n rest (text_of_bidi _ b) in
-    subst IsBidiText (take-append-drop at bs) (bidi_behind (take at bs) (drop at bs) v
-    (subst IsBidiText (take-append-drop n (drop at bs)) (bidi_front (take n (drop at bs)) (drop n (drop at bs)) b behind)))
+    let following : IsUtf8 (drop n (drop at bs)) = after_prefix (drop at bs) n rest (text_of_bidi _ b) in
+    subst IsBidiText (take-append-drop at bs) (bidi_after (take at bs) (drop at bs) v
+    (subst IsBidiText (take-append-drop n (drop at bs)) (bidi_prefix (take n (drop at bs)) (drop n (drop at bs)) b following)))
   where
-    after_front : (xs : List ℕ) (n : ℕ) → IsUtf8 xs → IsUtf8 (take n xs) → IsUtf8 (drop n xs)
-    after_front xs n u v = elim (cases_lt n (length xs)) [
+    after_prefix : (xs : List ℕ) (n : ℕ) → IsUtf8 xs → IsUtf8 (take n xs) → IsUtf8 (drop n xs)
+    after_prefix xs n u v = elim (cases_lt n (length xs)) [
       | inl l ↦ rest_text xs n u (omega arith) v
       | inr l ↦ subst IsUtf8 (sym (drop_all n xs l)) IsUtf8-nil
     ]
@@ -105,12 +105,12 @@ found_in_bytes bs at n l v b = elim (decide_text bs) [ inl u ↦ inr (found_in_t
 
 -- ---- a Latin1 prefix and the rest
 pub text_whole : (bs : List ℕ) (n : ℕ) → IsUtf8Latin1 (take n bs) → IsBidiText (drop n bs) → IsBidiText bs
-text_whole bs n h b = subst IsBidiText (take-append-drop n bs) (bidi_behind (take n bs) (drop n bs) (text_of_latin1 (take n bs) h) b)
+text_whole bs n h b = subst IsBidiText (take-append-drop n bs) (bidi_after (take n bs) (drop n bs) (text_of_latin1 (take n bs) h) b)
 
 pub text_rest : (bs : List ℕ) (n : ℕ) → n ≤ length bs → IsUtf8Latin1 (take n bs) → IsBidiText bs → IsBidiText (drop n bs)
 text_rest bs n l h b =
-    let front = text_of_latin1 (take n bs) h in
-    elim (bidi_either (take n bs) (drop n bs) front (rest_text bs n (text_of_bidi bs b) l front) (subst IsBidiText (sym (take-append-drop n bs)) b)) [
+    let prefix = text_of_latin1 (take n bs) h in
+    elim (bidi_either (take n bs) (drop n bs) prefix (rest_text bs n (text_of_bidi bs b) l prefix) (subst IsBidiText (sym (take-append-drop n bs)) b)) [
       | inl a ↦ absurd (latin1_not_bidi (take n bs) h a)
       | inr a ↦ a
     ]
@@ -129,6 +129,6 @@ begins_some xs [] s e l n = omega (arith, ap length e)
 begins_some xs (c ∷ cs) s e l n = n (encode_utf8 c) (encode_utf8_all cs) (sym e) (IsSequence-encode c (both (scalar c) (all_scalars cs) s).0)
 
 -- if the rest starts with no character, the bytes are not well-formed
-pub stuck_no_text : (bs : List ℕ) (at : ℕ) → at < length bs → IsUtf8 (take at bs) → BeginsWithNoCharacter (drop at bs) → IsUtf8 bs → ⊥
-stuck_no_text bs at l v n u =
+pub rejected_no_text : (bs : List ℕ) (at : ℕ) → at < length bs → IsUtf8 (take at bs) → BeginsWithNoCharacter (drop at bs) → IsUtf8 bs → ⊥
+rejected_no_text bs at l v n u =
     let rest = rest_text bs at u (omega arith) v in begins_some (drop at bs) rest.0 rest.1.0 rest.1.1 (omega (arith, length-drop at bs)) n

@@ -10,7 +10,7 @@ use Rattle.std.proofs.str.Utf16.{one_unit, two_units}
 use lib.Utf8.{scalar_cases}
 use Rattle.encoding_definitions.specs.Bidi.{IsRightToLeft, IsRightToLeftUnit, IsRightToLeftPart, IsBidiUnits}
 use Rattle.encoding_definitions.specs.Latin1.{IsLatin1}
-use Rattle.encoding_definitions.specs.Utf16.{AreUnits, Part16, Character16, Lone, units_of, IsPart16, ArePaired}
+use Rattle.encoding_definitions.specs.Utf16.{AreCodeUnits, Part16, Character16, Unpaired, units_of_part16, IsPart16, ArePaired}
 use Rattle.encoding_definitions.proofs.Bidi.AnyLemmas.{Any-here, Any-there, Any-none, Any-cons, Any-left, Any-right, Any-append, Any-at, Any-place}
 use Rattle.encoding_definitions.proofs.Bidi.BidiTextLemmas.{right_to_left_from}
 use Rattle.encoding_definitions.proofs.CodeUnits.Utf16Lemmas.{parts_of, parts_exist, tail_paired, head_part}
@@ -62,12 +62,12 @@ unit_low_none u l r = elim (unit_form u r) [
 ]
 
 -- ---- a part by its units
-part_units : (p : Part16) → IsRightToLeftPart p → Any IsRightToLeftUnit (units_of p)
+part_units : (p : Part16) → IsRightToLeftPart p → Any IsRightToLeftUnit (units_of_part16 p)
 part_units (Character16 c) r = elim (cases_lt c 0x10000) [
   | inl l ↦ subst (λ xs. Any IsRightToLeftUnit xs) (sym (one_unit c l)) (Any-here IsRightToLeftUnit c [] (unit_scalar c l r))
   | inr l ↦ subst (λ xs. Any IsRightToLeftUnit xs) (sym (two_units c l)) (Any-here IsRightToLeftUnit (0xD800 + (c - 0x10000) / 0x400) ((0xDC00 + (c - 0x10000) % 0x400) ∷ []) (c, 0xDC00 + (c - 0x10000) % 0x400, r, inr (two_units c l)))
 ]
-part_units (Lone u) r = Any-here IsRightToLeftUnit u [] r.1
+part_units (Unpaired u) r = Any-here IsRightToLeftUnit u [] r.1
 
 no_surrogate : (u : ℕ) → 0xD800 ≤ u → u ≤ 0xDFFF → IsRightToLeft u → ⊥
 no_surrogate u l h r = omega arith
@@ -87,7 +87,7 @@ low_none u l h (inl r) = no_surrogate u (omega arith) h r
 low_none u l h (inr (inl r)) = omega arith
 low_none u l h (inr (inr r)) = omega arith
 
-units_part : (p : Part16) → IsPart16 p → Any IsRightToLeftUnit (units_of p) → IsRightToLeftPart p
+units_part : (p : Part16) → IsPart16 p → Any IsRightToLeftUnit (units_of_part16 p) → IsRightToLeftPart p
 units_part (Character16 c) s a = elim (cases_lt c 0x10000) [
   | inl l ↦ elim (Any-cons IsRightToLeftUnit c [] (subst (λ xs. Any IsRightToLeftUnit xs) (one_unit c l) a)) [
     | inl r ↦ one_part c s (unit_form c r)
@@ -104,27 +104,27 @@ units_part (Character16 c) s a = elim (cases_lt c 0x10000) [
         ]
       ]
 ]
-units_part (Lone u) s a = elim (Any-cons IsRightToLeftUnit u [] a) [
+units_part (Unpaired u) s a = elim (Any-cons IsRightToLeftUnit u [] a) [
   | inl r ↦ elim s [ inl h ↦ (h, r) | inr h ↦ absurd (low_none u h.0 h.1 (unit_form u r)) ]
   | inr n ↦ absurd (Any-none IsRightToLeftUnit n)
 ]
 
-all_units : (ps : List Part16) → Any IsRightToLeftPart ps → Any IsRightToLeftUnit (flat_map units_of ps)
+all_units : (ps : List Part16) → Any IsRightToLeftPart ps → Any IsRightToLeftUnit (flat_map units_of_part16 ps)
 all_units [] a = absurd (Any-none IsRightToLeftPart a)
 all_units (p ∷ ps) a = elim (Any-cons IsRightToLeftPart p ps a) [
-  | inl r ↦ Any-left IsRightToLeftUnit (units_of p) (flat_map units_of ps) (part_units p r)
-  | inr b ↦ Any-right IsRightToLeftUnit (units_of p) (flat_map units_of ps) (all_units ps b)
+  | inl r ↦ Any-left IsRightToLeftUnit (units_of_part16 p) (flat_map units_of_part16 ps) (part_units p r)
+  | inr b ↦ Any-right IsRightToLeftUnit (units_of_part16 p) (flat_map units_of_part16 ps) (all_units ps b)
 ]
 
-all_parts : (ps : List Part16) → ArePaired ps → Any IsRightToLeftUnit (flat_map units_of ps) → Any IsRightToLeftPart ps
+all_parts : (ps : List Part16) → ArePaired ps → Any IsRightToLeftUnit (flat_map units_of_part16 ps) → Any IsRightToLeftPart ps
 all_parts [] s a = absurd (Any-none IsRightToLeftUnit a)
-all_parts (p ∷ ps) s a = elim (Any-append IsRightToLeftUnit (units_of p) (flat_map units_of ps) a) [
+all_parts (p ∷ ps) s a = elim (Any-append IsRightToLeftUnit (units_of_part16 p) (flat_map units_of_part16 ps) a) [
   | inl b ↦ Any-here IsRightToLeftPart p ps (units_part p (head_part p ps s) b)
   | inr b ↦ Any-there IsRightToLeftPart p ps (all_parts ps (tail_paired p ps s) b)
 ]
 
 -- ---- units with a right-to-left part are those with a right-to-left unit
-pub bidi_at : (us : List ℕ) (k : ℕ) → AreUnits us → k < length us → IsRightToLeftUnit (slice_index us k) → IsBidiUnits us
+pub bidi_at : (us : List ℕ) (k : ℕ) → AreCodeUnits us → k < length us → IsRightToLeftUnit (slice_index us k) → IsBidiUnits us
 bidi_at us k a l r =
     let parts = parts_exist us a in
     (parts_of us, parts, all_parts (parts_of us) parts.0 (subst (λ xs. Any IsRightToLeftUnit xs) (sym parts.1) (Any-at IsRightToLeftUnit us k l r)))
@@ -133,7 +133,7 @@ pub bidi_place : (us : List ℕ) → IsBidiUnits us → (k : ℕ) × (k < length
 bidi_place us (ps, a, r) = Any-place IsRightToLeftUnit us (subst (λ xs. Any IsRightToLeftUnit xs) a.1 (all_units ps r))
 
 -- ---- a Latin1 prefix and the rest
-pub bidi_rest : (us : List ℕ) (n : ℕ) → AreUnits us → IsLatin1 (take n us) → IsBidiUnits us → IsBidiUnits (drop n us)
+pub bidi_rest : (us : List ℕ) (n : ℕ) → AreCodeUnits us → IsLatin1 (take n us) → IsBidiUnits us → IsBidiUnits (drop n us)
 bidi_rest us n a h b =
     let found = bidi_place us b in
     let k = found.0 in
@@ -143,7 +143,7 @@ bidi_rest us n a h b =
           bidi_at (drop n us) (k - n) (λ j. subst (λ u. u < 0x10000) (sym (get_or-drop n us j 0)) (a (n + j))) (omega (arith, found.1, length-drop n us)) (subst IsRightToLeftUnit (sym same) found.2)
     ]
 
-pub bidi_whole : (us : List ℕ) (n : ℕ) → AreUnits us → IsBidiUnits (drop n us) → IsBidiUnits us
+pub bidi_whole : (us : List ℕ) (n : ℕ) → AreCodeUnits us → IsBidiUnits (drop n us) → IsBidiUnits us
 bidi_whole us n a b =
     let found = bidi_place (drop n us) b in
     bidi_at us (n + found.0) a (omega (arith, found.1, length-drop n us)) (subst IsRightToLeftUnit (get_or-drop n us found.0 0) found.2)

@@ -14,13 +14,13 @@ use Rattle.std.proofs.lemmas.Str.{length-encode, len_utf8_bounds}
 use Rattle.std.proofs.str.Utf16.{one_unit, two_units, pair_units, IsPair}
 use lib.Utf8.{low_scalar, scalar_cases}
 use Rattle.encoding_definitions.proofs.Sequences.EncodingLemmas.{high_scalar}
-use Rattle.encoding_definitions.specs.Utf16.{AreUnits, IsHighSurrogate, IsLowSurrogate, Part16, Character16, Lone, units_of, utf8_of, IsPart16, ArePaired, ArePartsOf16}
+use Rattle.encoding_definitions.specs.Utf16.{AreCodeUnits, IsHighSurrogate, IsLowSurrogate, Part16, Character16, Unpaired, units_of_part16, utf8_of_part16, IsPart16, ArePaired, ArePartsOf16}
 use Rattle.encoding_definitions.specs.FirstScalar.{BeginsLow, IsFirstPart16}
 
 -- ---- the parts, from the left
 -- the part of a unit that is in no pair
 abbrev single : ℕ → Part16
-single u = cond (nat_le 0xD800 u && nat_lt u 0xE000) (Lone u) (Character16 u)
+single u = cond (nat_le 0xD800 u && nat_lt u 0xE000) (Unpaired u) (Character16 u)
 
 -- the parts of units
 unfoldable pub parts_of : List ℕ → List Part16
@@ -53,8 +53,8 @@ single_character u s = elim (scalar_cases u s) [
   | inr r ↦ grind (arith, nat_tests)
 ]
 
-single_lone : (u : ℕ) → 0xD800 ≤ u → u ≤ 0xDFFF → single u ≡ Lone u
-single_lone u l h = grind (arith, nat_tests)
+single_unpaired : (u : ℕ) → 0xD800 ≤ u → u ≤ 0xDFFF → single u ≡ Unpaired u
+single_unpaired u l h = grind (arith, nat_tests)
 
 -- ---- a character's units
 pub halves : (c : ℕ) → 0x10000 ≤ c → IsScalar c → (u : ℕ) × (v : ℕ) × IsPair u v × (encode_utf16 c ≡ u ∷ v ∷ []) × (surrogate_pair_char u v ≡ c)
@@ -72,8 +72,8 @@ parts_of-first us (Character16 c) rest (s, e) = elim (cases_lt c 0x10000) [
   where
     not_high : (c : ℕ) → IsScalar c → IsPair c (get_or rest 0 0) → ⊥
     not_high c s p = elim (scalar_cases c s) [ inl h ↦ omega arith | inr h ↦ omega arith ]
-parts_of-first us (Lone u) rest (s, e, n) =
-    ap parts_of e ∙ parts_of_single u rest (apart u rest s n) ∙ ap (λ p. p ∷ parts_of rest) (elim s [ inl h ↦ single_lone u h.0 (omega arith) | inr h ↦ single_lone u (omega arith) h.1 ])
+parts_of-first us (Unpaired u) rest (s, e, n) =
+    ap parts_of e ∙ parts_of_single u rest (apart u rest s n) ∙ ap (λ p. p ∷ parts_of rest) (elim s [ inl h ↦ single_unpaired u h.0 (omega arith) | inr h ↦ single_unpaired u (omega arith) h.1 ])
   where
     apart : (u : ℕ) (rest : List ℕ) → IsHighSurrogate u ⊎ IsLowSurrogate u → (IsHighSurrogate u → BeginsLow rest → ⊥) → IsPair u (get_or rest 0 0) → ⊥
     apart u [] s n p = omega (arith, p.2)
@@ -83,9 +83,9 @@ parts_of-first us (Lone u) rest (s, e, n) =
 pub ArePartsOf16-cons : (us : List ℕ) (p : Part16) (rest : List ℕ) (ps : List Part16) → IsFirstPart16 us p rest → ArePartsOf16 rest ps → ArePartsOf16 us (p ∷ ps)
 ArePartsOf16-cons us (Character16 c) rest [] (s, e) (a, f) = (s, ap (λ xs. encode_utf16 c ++ xs) f ∙ sym e)
 ArePartsOf16-cons us (Character16 c) rest (q ∷ ps) (s, e) (a, f) = ((s, tt, a), ap (λ xs. encode_utf16 c ++ xs) f ∙ sym e)
-ArePartsOf16-cons us (Lone u) rest [] (s, e, n) (a, f) = (s, ap (λ xs. u ∷ xs) f ∙ sym e)
-ArePartsOf16-cons us (Lone u) rest (Character16 c ∷ ps) (s, e, n) (a, f) = ((s, tt, a), ap (λ xs. u ∷ xs) f ∙ sym e)
-ArePartsOf16-cons us (Lone u) rest (Lone v ∷ ps) (s, e, n) (a, f) = ((s, (λ h l. n h (subst BeginsLow f l)), a), ap (λ xs. u ∷ xs) f ∙ sym e)
+ArePartsOf16-cons us (Unpaired u) rest [] (s, e, n) (a, f) = (s, ap (λ xs. u ∷ xs) f ∙ sym e)
+ArePartsOf16-cons us (Unpaired u) rest (Character16 c ∷ ps) (s, e, n) (a, f) = ((s, tt, a), ap (λ xs. u ∷ xs) f ∙ sym e)
+ArePartsOf16-cons us (Unpaired u) rest (Unpaired v ∷ ps) (s, e, n) (a, f) = ((s, (λ h l. n h (subst BeginsLow f l)), a), ap (λ xs. u ∷ xs) f ∙ sym e)
 
 pub tail_paired : (p : Part16) (ps : List Part16) → ArePaired (p ∷ ps) → ArePaired ps
 tail_paired p [] a = tt
@@ -103,20 +103,20 @@ character_not_low c rest s b = elim (cases_lt c 0x10000) [
       let low : IsLowSurrogate two.0 = subst (λ xs. BeginsLow (xs ++ rest)) two.3 b in omega (arith, two.2)
 ]
 
-lone_apart : (u : ℕ) (ps : List Part16) → ArePaired (Lone u ∷ ps) → IsHighSurrogate u → BeginsLow (flat_map units_of ps) → ⊥
-lone_apart u [] a h b = b
-lone_apart u (Character16 c ∷ ps) a h b = character_not_low c (flat_map units_of ps) (head_part (Character16 c) ps a.2) b
-lone_apart u (Lone v ∷ ps) a h b = a.1 h b
+unpaired_apart : (u : ℕ) (ps : List Part16) → ArePaired (Unpaired u ∷ ps) → IsHighSurrogate u → BeginsLow (flat_map units_of_part16 ps) → ⊥
+unpaired_apart u [] a h b = b
+unpaired_apart u (Character16 c ∷ ps) a h b = character_not_low c (flat_map units_of_part16 ps) (head_part (Character16 c) ps a.2) b
+unpaired_apart u (Unpaired v ∷ ps) a h b = a.1 h b
 
-pub first_of_parts : (p : Part16) (ps : List Part16) → ArePaired (p ∷ ps) → IsFirstPart16 (flat_map units_of (p ∷ ps)) p (flat_map units_of ps)
+pub first_of_parts : (p : Part16) (ps : List Part16) → ArePaired (p ∷ ps) → IsFirstPart16 (flat_map units_of_part16 (p ∷ ps)) p (flat_map units_of_part16 ps)
 first_of_parts (Character16 c) ps a = (head_part (Character16 c) ps a, refl)
-first_of_parts (Lone u) ps a = (head_part (Lone u) ps a, refl, lone_apart u ps a)
+first_of_parts (Unpaired u) ps a = (head_part (Unpaired u) ps a, refl, unpaired_apart u ps a)
 
 -- ---- there is only one list of parts
-paired_parts_of : (ps : List Part16) → ArePaired ps → ps ≡ parts_of (flat_map units_of ps)
+paired_parts_of : (ps : List Part16) → ArePaired ps → ps ≡ parts_of (flat_map units_of_part16 ps)
 paired_parts_of [] a = sym parts_of-nil
 paired_parts_of (p ∷ ps) a =
-    ap (λ qs. p ∷ qs) (paired_parts_of ps (tail_paired p ps a)) ∙ sym (parts_of-first _ p (flat_map units_of ps) (first_of_parts p ps a))
+    ap (λ qs. p ∷ qs) (paired_parts_of ps (tail_paired p ps a)) ∙ sym (parts_of-first _ p (flat_map units_of_part16 ps) (first_of_parts p ps a))
 
 pub parts_are : (us : List ℕ) (ps : List Part16) → ArePartsOf16 us ps → ps ≡ parts_of us
 parts_are us ps (a, e) = paired_parts_of ps a ∙ ap parts_of e
@@ -125,8 +125,8 @@ pub parts_unique : (us : List ℕ) (ps qs : List Part16) → ArePartsOf16 us ps 
 parts_unique us ps qs a b = parts_are us ps a ∙ sym (parts_are us qs b)
 
 -- ---- there is one
-pub AreUnits-tail : (u : ℕ) (us : List ℕ) → AreUnits (u ∷ us) → AreUnits us
-AreUnits-tail u us a k = a (suc k)
+pub AreCodeUnits-tail : (u : ℕ) (us : List ℕ) → AreCodeUnits (u ∷ us) → AreCodeUnits us
+AreCodeUnits-tail u us a k = a (suc k)
 
 scalar_of_pair : (u v : ℕ) → IsPair u v → IsScalar (surrogate_pair_char u v)
 scalar_of_pair u v p = high_scalar (surrogate_pair_char u v) (omega arith) (omega arith)
@@ -143,7 +143,7 @@ first_unit u rest l (inl h) = (low_scalar u h, ap (λ xs. xs ++ rest) (sym (one_
 first_unit u rest l (inr h) = (high_scalar u (omega arith) (omega arith), ap (λ xs. xs ++ rest) (sym (one_unit u l)))
 
 -- the first part of units whose first is an unpaired surrogate
-pub first_single : (u : ℕ) (rest : List ℕ) → 0xD800 ≤ u → u ≤ 0xDFFF → (IsPair u (get_or rest 0 0) → ⊥) → IsFirstPart16 (u ∷ rest) (Lone u) rest
+pub first_single : (u : ℕ) (rest : List ℕ) → 0xD800 ≤ u → u ≤ 0xDFFF → (IsPair u (get_or rest 0 0) → ⊥) → IsFirstPart16 (u ∷ rest) (Unpaired u) rest
 first_single u rest l h n = (elim (cases_lt u 0xDC00) [ inl x ↦ inl (l, omega arith) | inr x ↦ inr (x, h) ], refl, apart u rest n)
   where
     apart : (u : ℕ) (rest : List ℕ) → (IsPair u (get_or rest 0 0) → ⊥) → IsHighSurrogate u → BeginsLow rest → ⊥
@@ -161,7 +161,7 @@ one_more u us l n h = elim (cases_lt u 0xD800) [
   | inl a ↦ more_parts (u ∷ us) (Character16 u) us (first_unit u us l (inl a)) h
   | inr a ↦ elim (cases_lt 0xDFFF u) [
     | inl b ↦ more_parts (u ∷ us) (Character16 u) us (first_unit u us l (inr b)) h
-    | inr b ↦ more_parts (u ∷ us) (Lone u) us (first_single u us a b n) h
+    | inr b ↦ more_parts (u ∷ us) (Unpaired u) us (first_single u us a b n) h
   ]
 ]
 
@@ -180,12 +180,12 @@ decide_pair u v = elim (cases_lt u 0xD800) [
   ]
 ]
 
-pub parts_exist : (us : List ℕ) → AreUnits us → ArePartsOf16 us (parts_of us)
-parts_exist [] a = (subst ArePaired (sym parts_of-nil) tt, ap (flat_map units_of) parts_of-nil)
-parts_exist (u ∷ []) a = one_more u [] (a 0) (λ p. omega (arith, p.2)) (parts_exist [] (AreUnits-tail u [] a))
+pub parts_exist : (us : List ℕ) → AreCodeUnits us → ArePartsOf16 us (parts_of us)
+parts_exist [] a = (subst ArePaired (sym parts_of-nil) tt, ap (flat_map units_of_part16) parts_of-nil)
+parts_exist (u ∷ []) a = one_more u [] (a 0) (λ p. omega (arith, p.2)) (parts_exist [] (AreCodeUnits-tail u [] a))
 parts_exist (u ∷ v ∷ us) a = elim (decide_pair u v) [
-  | inl p ↦ more_parts (u ∷ v ∷ us) (Character16 (surrogate_pair_char u v)) us (first_pair u v us p) (parts_exist us (AreUnits-tail v us (AreUnits-tail u (v ∷ us) a)))
-  | inr n ↦ one_more u (v ∷ us) (a 0) n (parts_exist (v ∷ us) (AreUnits-tail u (v ∷ us) a))
+  | inl p ↦ more_parts (u ∷ v ∷ us) (Character16 (surrogate_pair_char u v)) us (first_pair u v us p) (parts_exist us (AreCodeUnits-tail v us (AreCodeUnits-tail u (v ∷ us) a)))
+  | inr n ↦ one_more u (v ∷ us) (a 0) n (parts_exist (v ∷ us) (AreCodeUnits-tail u (v ∷ us) a))
 ]
 
 pub rest_paired : (n : ℕ) (ps : List Part16) → ArePaired ps → ArePaired (drop n ps)
@@ -194,27 +194,27 @@ rest_paired (suc n) [] a = tt
 rest_paired (suc n) (p ∷ ps) a = rest_paired n ps (tail_paired p ps a)
 
 -- the parts after the first n are those of the units after theirs
-pub rest_parts : (us : List ℕ) (ps : List Part16) (n : ℕ) → ArePartsOf16 us ps → ArePartsOf16 (drop (length (flat_map units_of (take n ps))) us) (drop n ps)
+pub rest_parts : (us : List ℕ) (ps : List Part16) (n : ℕ) → ArePartsOf16 us ps → ArePartsOf16 (drop (length (flat_map units_of_part16 (take n ps))) us) (drop n ps)
 rest_parts us ps n (a, e) =
-    let whole : flat_map units_of (take n ps) ++ flat_map units_of (drop n ps) ≡ us =
-    sym (flat_map-append units_of (take n ps) (drop n ps)) ∙ ap (flat_map units_of) (take-append-drop n ps) ∙ e in (
+    let whole : flat_map units_of_part16 (take n ps) ++ flat_map units_of_part16 (drop n ps) ≡ us =
+    sym (flat_map-append units_of_part16 (take n ps) (drop n ps)) ∙ ap (flat_map units_of_part16) (take-append-drop n ps) ∙ e in (
       rest_paired n ps a,
-      sym (drop_at (flat_map units_of (take n ps)) (flat_map units_of (drop n ps)) _ refl) ∙ ap (drop (length (flat_map units_of (take n ps)))) whole,
+      sym (drop_at (flat_map units_of_part16 (take n ps)) (flat_map units_of_part16 (drop n ps)) _ refl) ∙ ap (drop (length (flat_map units_of_part16 (take n ps)))) whole,
     )
 
 -- ---- lengths
 -- a part takes a unit
-pub length-units_of : (p : Part16) → 0 < length (units_of p)
-length-units_of (Lone u) = omega arith
-length-units_of (Character16 c) = elim (cases_lt c 0x10000) [
+pub length-units_of_part16 : (p : Part16) → 0 < length (units_of_part16 p)
+length-units_of_part16 (Unpaired u) = omega arith
+length-units_of_part16 (Character16 c) = elim (cases_lt c 0x10000) [
   | inl l ↦ omega (arith, ap length (one_unit c l))
   | inr l ↦ omega (arith, ap length (two_units c l))
 ]
 
 -- a part is written in one to three bytes for each of its units, and in four at most
-pub length-utf8_of : (p : Part16) → (0 < length (utf8_of p)) × (length (utf8_of p) ≤ 3 * length (units_of p)) × (length (utf8_of p) ≤ 4)
-length-utf8_of (Lone u) = (omega (arith, length-encode 0xFFFD), omega (arith, length-encode 0xFFFD), omega (arith, length-encode 0xFFFD))
-length-utf8_of (Character16 c) =
+pub length-utf8_of_part16 : (p : Part16) → (0 < length (utf8_of_part16 p)) × (length (utf8_of_part16 p) ≤ 3 * length (units_of_part16 p)) × (length (utf8_of_part16 p) ≤ 4)
+length-utf8_of_part16 (Unpaired u) = (omega (arith, length-encode 0xFFFD), omega (arith, length-encode 0xFFFD), omega (arith, length-encode 0xFFFD))
+length-utf8_of_part16 (Character16 c) =
     let bounds = len_utf8_bounds c in
     (omega (arith, length-encode c, bounds), three_each c, omega (arith, length-encode c, bounds))
   where
@@ -227,12 +227,12 @@ length-utf8_of (Character16 c) =
       | inr l ↦ omega (arith, ap length (two_units c l), len_utf8_bounds c, length-encode c)
     ]
 
-pub length-utf8_of_all : (ps : List Part16) → length (flat_map utf8_of ps) ≤ 3 * length (flat_map units_of ps)
+pub length-utf8_of_all : (ps : List Part16) → length (flat_map utf8_of_part16 ps) ≤ 3 * length (flat_map units_of_part16 ps)
 length-utf8_of_all [] = omega arith
 length-utf8_of_all (p ∷ ps) =
-    omega (arith, length-utf8_of_all ps, (length-utf8_of p).1, length-append (utf8_of p) (flat_map utf8_of ps), length-append (units_of p) (flat_map units_of ps))
+    omega (arith, length-utf8_of_all ps, (length-utf8_of_part16 p).1, length-append (utf8_of_part16 p) (flat_map utf8_of_part16 ps), length-append (units_of_part16 p) (flat_map units_of_part16 ps))
 
 -- no parts take no units
-pub none_left : (ps : List Part16) → length (flat_map units_of ps) ≡ 0 → ps ≡ []
+pub none_left : (ps : List Part16) → length (flat_map units_of_part16 ps) ≡ 0 → ps ≡ []
 none_left [] e = refl
-none_left (p ∷ ps) e = absurd (omega (arith, length-units_of p, length-append (units_of p) (flat_map units_of ps)))
+none_left (p ∷ ps) e = absurd (omega (arith, length-units_of_part16 p, length-append (units_of_part16 p) (flat_map units_of_part16 ps)))

@@ -5,11 +5,11 @@ use Rattle.std.proofs.lemmas.Bool.{and_from, le-leb, cond-true, cond-false, case
 use Rattle.std.proofs.lemmas.List.{append-nil, length-drop, length-take-le, take_at, take_rest, drop_at, drop-drop, drop_all, drop_more, get_or-append_right, get_or-drop, get_or-replicate, get_or_past, length-replicate, replicate_more}
 use Rattle.std.proofs.lemmas.Str.{IsUtf8-nil, IsUtf8-append, IsUtf8-drop, IsUtf8-from_ascii}
 use borrow.Rule.Slice.PartMut.{put_mid}
-use Rattle.encoding_definitions.specs.Clearing.{clear_continuation, clear_front, WritesAndClears}
-use Rattle.encoding_definitions.specs.Fronts.{WritesFront}
+use Rattle.encoding_definitions.specs.Clearing.{clear_continuation, cleared_prefix, WritesAndClears}
+use Rattle.encoding_definitions.specs.Prefixes.{WritesPrefix}
 use Rattle.encoding_definitions.specs.Sequence.{IsContinuation}
-use Rattle.encoding_definitions.proofs.LongestFronts.FrontsLemmas.{WritesFront-length}
-use Rattle.encoding_definitions.proofs.LongestFronts.FittingLemmas.{written_is}
+use Rattle.encoding_definitions.proofs.LongestPrefixes.PrefixesLemmas.{WritesPrefix-length}
+use Rattle.encoding_definitions.proofs.LongestPrefixes.FittingLemmas.{written_is}
 
 -- ---- one byte
 clear_more : (b : ℕ) (bs : List ℕ) → IsContinuation b → clear_continuation (b ∷ bs) ≡ 0 ∷ clear_continuation bs
@@ -24,8 +24,8 @@ clear_next bs at h c =
     ∙ sym (append_assoc (replicate at 0) (0 ∷ []) rest) ∙ ap (λ xs. xs ++ rest) (replicate_more at 0)
 
 -- the first byte after them
-pub byte_behind : (bs : List ℕ) (at : ℕ) → get_or (replicate at 0 ++ drop at bs) at 0 ≡ get_or bs at 0
-byte_behind bs at =
+pub byte_after : (bs : List ℕ) (at : ℕ) → get_or (replicate at 0 ++ drop at bs) at 0 ≡ get_or bs at 0
+byte_after bs at =
     get_or-append_right (replicate at 0) (drop at bs) at at 0 (length-replicate {A = ℕ} at 0) (omega arith) ∙ get_or-drop at bs (at - at) 0
     ∙ ap (λ n. get_or bs n 0) {x = at + (at - at)} {y = at} (omega arith)
 
@@ -64,7 +64,7 @@ IsUtf8-continuation : (bs : List ℕ) (n : ℕ) → IsUtf8 bs → IsUtf8 (clear_
 IsUtf8-continuation bs n u =
     let c = IsCleared-from (drop n bs) in
     let at : ℕ = n + c.count in
-    let behind : IsUtf8 (drop at bs) = elim (cases_lt at (length bs)) [
+    let following : IsUtf8 (drop at bs) = elim (cases_lt at (length bs)) [
       | inl h ↦ IsUtf8-drop bs at u (
         omega arith,
         λ _ high. elim (cases_lt (get_or bs at 0) 192) [
@@ -74,28 +74,28 @@ IsUtf8-continuation bs n u =
       )
       | inr h ↦ rw (drop_all at bs h) IsUtf8-nil
     ] in
-    rw (c.cleared, drop-drop) (IsUtf8-append _ _ (IsUtf8-zeros c.count) behind)
+    rw (c.cleared, drop-drop) (IsUtf8-append _ _ (IsUtf8-zeros c.count) following)
 
 -- a text, overwritten at the start by whole characters and cleared after them
-pub IsUtf8-cleared : (old out : List ℕ) (zeros : ℕ) → IsUtf8 old → IsUtf8 out → IsUtf8 (out ++ clear_front zeros (drop (length out) old))
+pub IsUtf8-cleared : (old out : List ℕ) (zeros : ℕ) → IsUtf8 old → IsUtf8 out → IsUtf8 (out ++ cleared_prefix zeros (drop (length out) old))
 IsUtf8-cleared old out zeros u v =
     let rest : IsUtf8 (clear_continuation (drop zeros (drop (length out) old))) = rw drop-drop (IsUtf8-continuation old (length out + zeros) u) in
     IsUtf8-append _ _ v (IsUtf8-append _ _ (IsUtf8-zeros _) rest)
 
 -- ---- a call wrote a prefix, and what follows it was cleared
-module _ (old mid sub : List ℕ) (zeros written : ℕ) (out : List ℕ) (w : WritesFront old mid written out)
-    (c : sub ≡ clear_front zeros (take (length mid - written) (drop written mid))) where
-  pub clears_behind : WritesAndClears zeros old (put_mid written (length mid - written) mid sub) written out
-  clears_behind =
-      let front : take written mid ≡ out = sym (written_is old mid written out w) in
+module _ (old mid sub : List ℕ) (zeros written : ℕ) (out : List ℕ) (w : WritesPrefix old mid written out)
+    (c : sub ≡ cleared_prefix zeros (take (length mid - written) (drop written mid))) where
+  pub clears_after : WritesAndClears zeros old (put_mid written (length mid - written) mid sub) written out
+  clears_after =
+      let prefix : take written mid ≡ out = sym (written_is old mid written out w) in
       let none : drop (length mid - written) (drop written mid) ≡ [] = drop_all (length mid - written) (drop written mid) (omega (arith, length-drop written mid)) in
       let rest : take (length mid - written) (drop written mid) ≡ drop written old =
       take_rest mid written ∙ ap (drop written) w.placed ∙ drop_at out (drop written old) written (sym w.count) in
-      let part : sub ≡ clear_front zeros (drop written old) = c ∙ ap (clear_front zeros) rest in
-      record { count = w.count; fits = w.fits; placed = rw (front, none, part, append-nil) refl }
+      let part : sub ≡ cleared_prefix zeros (drop written old) = c ∙ ap (cleared_prefix zeros) rest in
+      record { count = w.count; fits = w.fits; placed = rw (prefix, none, part, append-nil) refl }
 
   pub written_stays : take written (put_mid written (length mid - written) mid sub) ≡ take written mid
-  written_stays = take_at (take written mid) _ written (length-take-le written mid (omega (arith, WritesFront-length old mid written out w, w.fits)))
+  written_stays = take_at (take written mid) _ written (length-take-le written mid (omega (arith, WritesPrefix-length old mid written out w, w.fits)))
 
   pub text_stays : IsUtf8 old → IsUtf8 out → IsUtf8 (put_mid written (length mid - written) mid sub)
-  text_stays u v = subst IsUtf8 (sym clears_behind.placed) (subst (λ n. IsUtf8 (out ++ clear_front zeros (drop n old))) (sym w.count) (IsUtf8-cleared old out zeros u v))
+  text_stays u v = subst IsUtf8 (sym clears_after.placed) (subst (λ n. IsUtf8 (out ++ cleared_prefix zeros (drop n old))) (sym w.count) (IsUtf8-cleared old out zeros u v))

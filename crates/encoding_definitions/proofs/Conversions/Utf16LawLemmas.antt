@@ -11,7 +11,7 @@ use Rattle.std.proofs.lemmas.Str.{utf16_chars-nil, utf16_chars_lone, utf16_chars
 use Rattle.std.proofs.str.Laws.{both}
 use Rattle.std.proofs.str.Utf16.{one_unit, IsPair, lone_unit_char_low, lone_unit_char_high, lone_unit_char_surrogate}
 use lib.Utf8.{scalar_cases}
-use Rattle.encoding_definitions.specs.Utf16.{Part16, Character16, Lone, units_of, scalar_of, utf8_of, ArePaired, ArePartsOf16, IsHighSurrogate}
+use Rattle.encoding_definitions.specs.Utf16.{Part16, Character16, Unpaired, units_of_part16, scalar_of_part16, utf8_of_part16, ArePaired, ArePartsOf16, IsHighSurrogate}
 use Rattle.encoding_definitions.specs.FirstScalar.{BeginsLow, IsFirstPart16}
 use Rattle.encoding_definitions.proofs.CodeUnits.Utf16Lemmas.{parts_unique, halves, first_of_parts, tail_paired}
 
@@ -21,7 +21,7 @@ characters_paired [] h = tt
 characters_paired (c ∷ []) h = (both _ _ h).0
 characters_paired (c ∷ d ∷ cs) h = let parts = both _ _ h in (parts.0, tt, characters_paired (d ∷ cs) parts.1)
 
-characters_units : (cs : List ℕ) → flat_map units_of (map Character16 cs) ≡ flat_map encode_utf16 cs
+characters_units : (cs : List ℕ) → flat_map units_of_part16 (map Character16 cs) ≡ flat_map encode_utf16 cs
 characters_units [] = refl
 characters_units (c ∷ cs) = ap (λ us. encode_utf16 c ++ us) (characters_units cs)
 
@@ -29,18 +29,18 @@ characters_units (c ∷ cs) = ap (λ us. encode_utf16 c ++ us) (characters_units
 pub parts-encode : (cs : List ℕ) → IsTrue (all_scalars cs) → ArePartsOf16 (flat_map encode_utf16 cs) (map Character16 cs)
 parts-encode cs h = (characters_paired cs h, characters_units cs)
 
-scalars_back : (cs : List ℕ) → map scalar_of (map Character16 cs) ≡ cs
+scalars_back : (cs : List ℕ) → map scalar_of_part16 (map Character16 cs) ≡ cs
 scalars_back [] = refl
 scalars_back (c ∷ cs) = ap (λ xs. c ∷ xs) (scalars_back cs)
 
-pub scalars-encode : (cs : List ℕ) (parts : List Part16) → IsTrue (all_scalars cs) → ArePartsOf16 (flat_map encode_utf16 cs) parts → map scalar_of parts ≡ cs
-scalars-encode cs parts h a = ap (map scalar_of) (parts_unique _ parts (map Character16 cs) a (parts-encode cs h)) ∙ scalars_back cs
+pub scalars-encode : (cs : List ℕ) (parts : List Part16) → IsTrue (all_scalars cs) → ArePartsOf16 (flat_map encode_utf16 cs) parts → map scalar_of_part16 parts ≡ cs
+scalars-encode cs parts h a = ap (map scalar_of_part16) (parts_unique _ parts (map Character16 cs) a (parts-encode cs h)) ∙ scalars_back cs
 
-pub utf8_of_all : (parts : List Part16) → flat_map utf8_of parts ≡ encode_utf8_all (map scalar_of parts)
+pub utf8_of_all : (parts : List Part16) → flat_map utf8_of_part16 parts ≡ encode_utf8_all (map scalar_of_part16 parts)
 utf8_of_all [] = refl
-utf8_of_all (p ∷ parts) = ap (λ xs. utf8_of p ++ xs) (utf8_of_all parts)
+utf8_of_all (p ∷ parts) = ap (λ xs. utf8_of_part16 p ++ xs) (utf8_of_all parts)
 
-pub text_back : (bs : List ℕ) (parts : List Part16) → IsUtf8 bs → ArePartsOf16 (flat_map encode_utf16 (chars bs)) parts → flat_map utf8_of parts ≡ bs
+pub text_back : (bs : List ℕ) (parts : List Part16) → IsUtf8 bs → ArePartsOf16 (flat_map encode_utf16 (chars bs)) parts → flat_map utf8_of_part16 parts ≡ bs
 text_back bs parts u a = utf8_of_all parts ∙ ap encode_utf8_all (scalars-encode (chars bs) parts (scalars-chars bs u) a) ∙ encodes-chars bs u
 
 -- ---- std's characters of units
@@ -50,7 +50,7 @@ single_scalar c s = elim (scalar_cases c s) [ inl h ↦ lone_unit_char_low c h |
 -- the character, and none for an unpaired surrogate
 abbrev pub character_of : Part16 → Option ℕ
 character_of (Character16 c) = Some c
-character_of (Lone u) = None
+character_of (Unpaired u) = None
 
 chars_first : (us : List ℕ) (p : Part16) (rest : List ℕ) → IsFirstPart16 us p rest → utf16_chars us ≡ character_of p ∷ utf16_chars rest
 chars_first us (Character16 c) rest (s, e) = elim (cases_lt c 0x10000) [
@@ -61,7 +61,7 @@ chars_first us (Character16 c) rest (s, e) = elim (cases_lt c 0x10000) [
   where
     not_high : (c : ℕ) → IsScalar c → IsPair c (get_or rest 0 0) → ⊥
     not_high c s p = elim (scalar_cases c s) [ inl h ↦ omega arith | inr h ↦ omega arith ]
-chars_first us (Lone u) rest (s, e, n) =
+chars_first us (Unpaired u) rest (s, e, n) =
     ap utf16_chars e ∙ utf16_chars_lone u rest (apart u rest n)
     ∙ ap (λ o. o ∷ utf16_chars rest) (elim s [ inl h ↦ lone_unit_char_surrogate u h.0 (omega arith) | inr h ↦ lone_unit_char_surrogate u (omega arith) (omega (arith, h.1)) ])
   where
@@ -69,18 +69,18 @@ chars_first us (Lone u) rest (s, e, n) =
     apart u [] n p = omega (arith, p.2)
     apart u (v ∷ vs) n p = n (p.0, omega arith) (p.2, omega arith)
 
-chars_paired : (parts : List Part16) → ArePaired parts → map character_of parts ≡ utf16_chars (flat_map units_of parts)
+chars_paired : (parts : List Part16) → ArePaired parts → map character_of parts ≡ utf16_chars (flat_map units_of_part16 parts)
 chars_paired [] a = sym utf16_chars-nil
 chars_paired (p ∷ parts) a =
-    ap (λ os. character_of p ∷ os) (chars_paired parts (tail_paired p parts a)) ∙ sym (chars_first _ p (flat_map units_of parts) (first_of_parts p parts a))
+    ap (λ os. character_of p ∷ os) (chars_paired parts (tail_paired p parts a)) ∙ sym (chars_first _ p (flat_map units_of_part16 parts) (first_of_parts p parts a))
 
 pub characters_are : (us : List ℕ) (parts : List Part16) → ArePartsOf16 us parts → map character_of parts ≡ utf16_chars us
 characters_are us parts (a, e) = chars_paired parts a ∙ ap utf16_chars e
 
-lossy_characters : (parts : List Part16) → map scalar_of parts ≡ map (λ o. unwrap_or o 0xFFFD) (map character_of parts)
+lossy_characters : (parts : List Part16) → map scalar_of_part16 parts ≡ map (λ o. unwrap_or o 0xFFFD) (map character_of parts)
 lossy_characters [] = refl
 lossy_characters (Character16 c ∷ parts) = ap (λ cs. c ∷ cs) (lossy_characters parts)
-lossy_characters (Lone u ∷ parts) = ap (λ cs. 0xFFFD ∷ cs) (lossy_characters parts)
+lossy_characters (Unpaired u ∷ parts) = ap (λ cs. 0xFFFD ∷ cs) (lossy_characters parts)
 
-pub scalars_lossy : (us : List ℕ) (parts : List Part16) → ArePartsOf16 us parts → map scalar_of parts ≡ utf16_lossy_chars us
+pub scalars_lossy : (us : List ℕ) (parts : List Part16) → ArePartsOf16 us parts → map scalar_of_part16 parts ≡ utf16_lossy_chars us
 scalars_lossy us parts a = lossy_characters parts ∙ ap (map (λ o. unwrap_or o 0xFFFD)) (characters_are us parts a)

@@ -4,9 +4,9 @@ use Rattle.std.specs.List.{flat_map}
 use Rattle.std.specs.Str.{all_scalars}
 use Rattle.std.proofs.lemmas.Bool.{and_parts}
 use Rattle.std.proofs.lemmas.List.{length-append, append-nil, append_assoc}
-use Rattle.encoding_definitions.specs.Sequence.{IsBeginning}
-use Rattle.encoding_definitions.specs.Parts.{Part, Character, Broken, bytes_of, IsFirstPart, StartsWith, ArePartsOf, repaired_scalar, repaired_text, count_broken, AreSettled}
-use Rattle.encoding_definitions.proofs.Sequences.SequenceLemmas.{decide_beginning}
+use Rattle.encoding_definitions.specs.Sequence.{IsIncomplete}
+use Rattle.encoding_definitions.specs.Parts.{Part, Character, IllFormed, bytes_of, IsFirstPart, StartsWith, ArePartsOf, lossy_scalar, lossy_utf8, malformed_count, AreFinal}
+use Rattle.encoding_definitions.proofs.Sequences.SequenceLemmas.{decide_incomplete}
 use Rattle.encoding_definitions.proofs.Decomposition.PartsLemmas.{has_first_part, part_bytes, same_first_part, IsFirstPart-append}
 
 -- ---- runs of parts
@@ -68,27 +68,27 @@ same_parts bs ps qs h k =
 -- ---- the final parts
 -- if no bytes are left, the last part is no incomplete sequence
 abbrev IsClosed : List Part → List ℕ → Type 0
-IsClosed ps rest = rest ≡ [] → (front : List Part) (x : List ℕ) → ps ≡ front ++ Broken x ∷ [] → IsBeginning x → ⊥
+IsClosed ps rest = rest ≡ [] → (prefix : List Part) (x : List ℕ) → ps ≡ prefix ++ IllFormed x ∷ [] → IsIncomplete x → ⊥
 
 closed_tail : (p : Part) (ps : List Part) (rest : List ℕ) → IsClosed (p ∷ ps) rest → IsClosed ps rest
-closed_tail p ps rest c e front x same b = c e (p ∷ front) x (ap (λ xs. p ∷ xs) same) b
+closed_tail p ps rest c e prefix x same b = c e (p ∷ prefix) x (ap (λ xs. p ∷ xs) same) b
 
 -- if nothing follows a part, it is the last
 closed_head : (p : Part) (ps : List Part) (after rest : List ℕ) → StartsWith after ps rest → IsClosed (p ∷ ps) rest
-    → after ≡ [] → (x : List ℕ) → p ≡ Broken x → IsBeginning x → ⊥
+    → after ≡ [] → (x : List ℕ) → p ≡ IllFormed x → IsIncomplete x → ⊥
 closed_head p [] after rest s c e x same b = c (sym s ∙ e) [] x (ap (λ q. q ∷ []) same) b
 closed_head p (q ∷ ps) after rest (then', f, s) c e x same b = no_first_part q then' (subst (λ xs. IsFirstPart xs q then') e f)
 
 -- they are the first parts for any bytes that follow
-pub settled_stay : (bs : List ℕ) (ps : List Part) (rest more : List ℕ) → StartsWith bs ps rest → IsClosed ps rest → StartsWith (bs ++ more) ps (rest ++ more)
-settled_stay bs [] rest more e c = ap (λ xs. xs ++ more) e
-settled_stay bs (p ∷ ps) rest more (after, f, s) c =
-    (after ++ more, IsFirstPart-append bs p after more f (closed_head p ps after rest s c), settled_stay after ps rest more s (closed_tail p ps rest c))
+pub final_stay : (bs : List ℕ) (ps : List Part) (rest more : List ℕ) → StartsWith bs ps rest → IsClosed ps rest → StartsWith (bs ++ more) ps (rest ++ more)
+final_stay bs [] rest more e c = ap (λ xs. xs ++ more) e
+final_stay bs (p ∷ ps) rest more (after, f, s) c =
+    (after ++ more, IsFirstPart-append bs p after more f (closed_head p ps after rest s c), final_stay after ps rest more s (closed_tail p ps rest c))
 
-pub settled_front : (bs : List ℕ) (ps : List Part) (rest more : List ℕ) (all : List Part) → AreSettled bs ps rest → ArePartsOf (bs ++ more) all
+pub final_prefix : (bs : List ℕ) (ps : List Part) (rest more : List ℕ) (all : List Part) → AreFinal bs ps rest → ArePartsOf (bs ++ more) all
     → (others : List Part) × (all ≡ ps ++ others)
-settled_front bs ps rest more all s h =
-    let split = parts_split (bs ++ more) ps (rest ++ more) all (settled_stay bs ps rest more s.starts s.closed) h in
+final_prefix bs ps rest more all s h =
+    let split = parts_split (bs ++ more) ps (rest ++ more) all (final_stay bs ps rest more s.starts s.closed) h in
     (split.0, split.1)
 
 -- ---- characters in a row
@@ -99,40 +99,40 @@ StartsWith-characters (c ∷ cs) rest h =
     (encode_utf8_all cs ++ rest, (parts.0, append_assoc (encode_utf8 c) (encode_utf8_all cs) rest), StartsWith-characters cs rest parts.1)
 
 -- ---- the text of parts and the number of malformed sequences
-pub repaired_text-append : (ps qs : List Part) → repaired_text (ps ++ qs) ≡ repaired_text ps ++ repaired_text qs
-repaired_text-append [] qs = refl
-repaired_text-append (p ∷ ps) qs =
-    ap (λ xs. encode_utf8 (repaired_scalar p) ++ xs) (repaired_text-append ps qs) ∙ sym (append_assoc (encode_utf8 (repaired_scalar p)) (repaired_text ps) (repaired_text qs))
+pub lossy_utf8-append : (ps qs : List Part) → lossy_utf8 (ps ++ qs) ≡ lossy_utf8 ps ++ lossy_utf8 qs
+lossy_utf8-append [] qs = refl
+lossy_utf8-append (p ∷ ps) qs =
+    ap (λ xs. encode_utf8 (lossy_scalar p) ++ xs) (lossy_utf8-append ps qs) ∙ sym (append_assoc (encode_utf8 (lossy_scalar p)) (lossy_utf8 ps) (lossy_utf8 qs))
 
-pub count_broken-append : (ps qs : List Part) → count_broken (ps ++ qs) ≡ count_broken ps + count_broken qs
-count_broken-append [] qs = omega arith
-count_broken-append (Character c ∷ ps) qs = count_broken-append ps qs
-count_broken-append (Broken x ∷ ps) qs = omega (arith, count_broken-append ps qs)
+pub malformed_count-append : (ps qs : List Part) → malformed_count (ps ++ qs) ≡ malformed_count ps + malformed_count qs
+malformed_count-append [] qs = omega arith
+malformed_count-append (Character c ∷ ps) qs = malformed_count-append ps qs
+malformed_count-append (IllFormed x ∷ ps) qs = omega (arith, malformed_count-append ps qs)
 
-pub repaired_text-characters : (cs : List ℕ) → repaired_text (map Character cs) ≡ encode_utf8_all cs
-repaired_text-characters [] = refl
-repaired_text-characters (c ∷ cs) = ap (λ xs. encode_utf8 c ++ xs) (repaired_text-characters cs)
+pub lossy_utf8-characters : (cs : List ℕ) → lossy_utf8 (map Character cs) ≡ encode_utf8_all cs
+lossy_utf8-characters [] = refl
+lossy_utf8-characters (c ∷ cs) = ap (λ xs. encode_utf8 c ++ xs) (lossy_utf8-characters cs)
 
-pub count_broken-characters : (cs : List ℕ) → count_broken (map Character cs) ≡ 0
-count_broken-characters [] = refl
-count_broken-characters (c ∷ cs) = count_broken-characters cs
+pub malformed_count-characters : (cs : List ℕ) → malformed_count (map Character cs) ≡ 0
+malformed_count-characters [] = refl
+malformed_count-characters (c ∷ cs) = malformed_count-characters cs
 
 -- there are no more malformed sequences than bytes
-pub count_broken-bytes : (bs : List ℕ) (ps : List Part) (rest : List ℕ) → StartsWith bs ps rest → count_broken ps + length rest ≤ length bs
-count_broken-bytes bs [] rest e = omega (arith, ap length e)
-count_broken-bytes bs (Character c ∷ ps) rest (after, f, s) =
+pub malformed_count-bytes : (bs : List ℕ) (ps : List Part) (rest : List ℕ) → StartsWith bs ps rest → malformed_count ps + length rest ≤ length bs
+malformed_count-bytes bs [] rest e = omega (arith, ap length e)
+malformed_count-bytes bs (Character c ∷ ps) rest (after, f, s) =
     let bytes = part_bytes bs (Character c) after f in
-    omega (arith, count_broken-bytes after ps rest s, ap length bytes.0, length-append (encode_utf8 c) after)
-count_broken-bytes bs (Broken x ∷ ps) rest (after, f, s) =
-    let bytes = part_bytes bs (Broken x) after f in
-    omega (arith, count_broken-bytes after ps rest s, ap length bytes.0, length-append x after, bytes.1)
+    omega (arith, malformed_count-bytes after ps rest s, ap length bytes.0, length-append (encode_utf8 c) after)
+malformed_count-bytes bs (IllFormed x ∷ ps) rest (after, f, s) =
+    let bytes = part_bytes bs (IllFormed x) after f in
+    omega (arith, malformed_count-bytes after ps rest s, ap length bytes.0, length-append x after, bytes.1)
 
 -- ---- each list of bytes has final parts
-abbrev HasSettled : List ℕ → Type 0
-HasSettled bs = (ps : List Part) × (rest : List ℕ) × AreSettled bs ps rest
+abbrev HasFinal : List ℕ → Type 0
+HasFinal bs = (ps : List Part) × (rest : List ℕ) × AreFinal bs ps rest
 
-no_push : (front : List Part) (p : Part) → [] ≡ front ++ p ∷ [] → ⊥
-no_push front p e = omega (arith, ap length e, length-append front (p ∷ []))
+no_push : (prefix : List Part) (p : Part) → [] ≡ prefix ++ p ∷ [] → ⊥
+no_push prefix p e = omega (arith, ap length e, length-append prefix (p ∷ []))
 
 head_part : (p q : Part) (ps qs : List Part) → p ∷ ps ≡ q ∷ qs → p ≡ q
 head_part p q ps qs e = cc
@@ -141,44 +141,44 @@ tail_parts : (p q : Part) (ps qs : List Part) → p ∷ ps ≡ q ∷ qs → ps �
 tail_parts p q ps qs e = cc
 
 -- a part before final ones is final, unless it is an incomplete sequence that is all
-settled_more : (bs : List ℕ) (p : Part) (after : List ℕ) (ps : List Part) (rest : List ℕ) → IsFirstPart bs p after → AreSettled after ps rest
-    → (after ≡ [] → (x : List ℕ) → p ≡ Broken x → IsBeginning x → ⊥) → AreSettled bs (p ∷ ps) rest
-settled_more bs p after ps rest f s stays = record { starts = (after, f, s.starts); still_open = s.still_open; closed = closed }
+final_more : (bs : List ℕ) (p : Part) (after : List ℕ) (ps : List Part) (rest : List ℕ) → IsFirstPart bs p after → AreFinal after ps rest
+    → (after ≡ [] → (x : List ℕ) → p ≡ IllFormed x → IsIncomplete x → ⊥) → AreFinal bs (p ∷ ps) rest
+final_more bs p after ps rest f s stays = record { starts = (after, f, s.starts); still_open = s.still_open; closed = closed }
   where
     closed : IsClosed (p ∷ ps) rest
     closed e [] x same b =
-        let none : StartsWith after [] rest = subst (λ qs. StartsWith after qs rest) (tail_parts p (Broken x) ps [] same) s.starts in
-        stays (none ∙ e) x (head_part p (Broken x) ps [] same) b
-    closed e (q ∷ front) x same b = s.closed e front x (tail_parts p q ps (front ++ Broken x ∷ []) same) b
+        let none : StartsWith after [] rest = subst (λ qs. StartsWith after qs rest) (tail_parts p (IllFormed x) ps [] same) s.starts in
+        stays (none ∙ e) x (head_part p (IllFormed x) ps [] same) b
+    closed e (q ∷ prefix) x same b = s.closed e prefix x (tail_parts p q ps (prefix ++ IllFormed x ∷ []) same) b
 
 -- nothing of an incomplete sequence is final
-settled_none : (bs x : List ℕ) → bs ≡ x ++ [] → IsBeginning x → HasSettled bs
-settled_none bs x e b = (
+final_none : (bs x : List ℕ) → bs ≡ x ++ [] → IsIncomplete x → HasFinal bs
+final_none bs x e b = (
   [],
   bs,
   record {
     starts = refl;
-    still_open = inr (subst IsBeginning (sym (e ∙ append-nil x)) b);
-    closed = λ _ front y same c. no_push front (Broken y) same;
+    still_open = inr (subst IsIncomplete (sym (e ∙ append-nil x)) b);
+    closed = λ _ prefix y same c. no_push prefix (IllFormed y) same;
   },
 )
 
-settled_first : (bs : List ℕ) (p : Part) (after : List ℕ) → IsFirstPart bs p after → HasSettled after → HasSettled bs
-settled_first bs p (y ∷ ys) f s = (p ∷ s.0, s.1, settled_more bs p (y ∷ ys) s.0 s.1 f s.2 (λ e x same b. cc))
-settled_first bs (Character c) [] f s = (Character c ∷ s.0, s.1, settled_more bs (Character c) [] s.0 s.1 f s.2 (λ e x same b. cc))
-settled_first bs (Broken x) [] f s =
-    let bytes = part_bytes bs (Broken x) [] f in
-    elim (decide_beginning x bytes.1) [
-      | inl b ↦ settled_none bs x bytes.0 b
-      | inr n ↦ (Broken x ∷ s.0, s.1, settled_more bs (Broken x) [] s.0 s.1 f s.2 (λ e y same b. n (subst IsBeginning (sym (same_bytes x y same)) b)))
+final_first : (bs : List ℕ) (p : Part) (after : List ℕ) → IsFirstPart bs p after → HasFinal after → HasFinal bs
+final_first bs p (y ∷ ys) f s = (p ∷ s.0, s.1, final_more bs p (y ∷ ys) s.0 s.1 f s.2 (λ e x same b. cc))
+final_first bs (Character c) [] f s = (Character c ∷ s.0, s.1, final_more bs (Character c) [] s.0 s.1 f s.2 (λ e x same b. cc))
+final_first bs (IllFormed x) [] f s =
+    let bytes = part_bytes bs (IllFormed x) [] f in
+    elim (decide_incomplete x bytes.1) [
+      | inl b ↦ final_none bs x bytes.0 b
+      | inr n ↦ (IllFormed x ∷ s.0, s.1, final_more bs (IllFormed x) [] s.0 s.1 f s.2 (λ e y same b. n (subst IsIncomplete (sym (same_bytes x y same)) b)))
     ]
   where
-    same_bytes : (x y : List ℕ) → Broken x ≡ Broken y → x ≡ y
+    same_bytes : (x y : List ℕ) → IllFormed x ≡ IllFormed y → x ≡ y
     same_bytes x y e = cc
 
-settled_of : (bs : List ℕ) (ps : List Part) → ArePartsOf bs ps → HasSettled bs
-settled_of bs [] e = ([], [], record { starts = e; still_open = inl refl; closed = λ _ front x same b. no_push front (Broken x) same })
-settled_of bs (p ∷ ps) (after, f, s) = settled_first bs p after f (settled_of after ps s)
+final_of : (bs : List ℕ) (ps : List Part) → ArePartsOf bs ps → HasFinal bs
+final_of bs [] e = ([], [], record { starts = e; still_open = inl refl; closed = λ _ prefix x same b. no_push prefix (IllFormed x) same })
+final_of bs (p ∷ ps) (after, f, s) = final_first bs p after f (final_of after ps s)
 
-pub has_settled : (bs : List ℕ) → HasSettled bs
-has_settled bs = let all = has_parts bs in settled_of bs all.0 all.1
+pub has_final : (bs : List ℕ) → HasFinal bs
+has_final bs = let all = has_parts bs in final_of bs all.0 all.1

@@ -11,11 +11,11 @@ use Rattle.std.proofs.str.Faults.{valid_to}
 use Rattle.std.proofs.str.Lossy.{utf8_error_len_some}
 use Rattle.std.proofs.str.Laws.{scalars-append}
 use lib.Utf8.{encode}
-use Rattle.encoding_definitions.specs.Sequence.{IsBeginning, BeginsNothing, IsSecond, IsContinuation}
-use Rattle.encoding_definitions.specs.Parts.{Part, Character, Broken, BeginsWithNoCharacter, IsLongestBeginning, IsFirstPart, ArePartsOf, repaired_text}
-use Rattle.encoding_definitions.proofs.Sequences.SequenceLemmas.{HasOpenShape, HasOpenShape-IsBeginning, IsBeginning-HasOpenShape, second_more, second_goes_on, third_goes_on}
-use Rattle.encoding_definitions.proofs.LongestFronts.Utf8Lemmas.{starts_with_none}
-use Rattle.encoding_definitions.proofs.Decomposition.PartsLemmas.{IsStuck, stuck_part, lone_part, part_bytes}
+use Rattle.encoding_definitions.specs.Sequence.{IsIncomplete, IsNeverLeading, IsSecond, IsContinuation}
+use Rattle.encoding_definitions.specs.Parts.{Part, Character, IllFormed, BeginsWithNoCharacter, IsLongestIncomplete, IsFirstPart, ArePartsOf, lossy_utf8}
+use Rattle.encoding_definitions.proofs.Sequences.SequenceLemmas.{HasOpenShape, HasOpenShape-IsIncomplete, IsIncomplete-HasOpenShape, second_more, second_goes_on, third_goes_on}
+use Rattle.encoding_definitions.proofs.LongestPrefixes.Utf8Lemmas.{starts_with_none}
+use Rattle.encoding_definitions.proofs.Decomposition.PartsLemmas.{IsRejected, rejected_part, unpaired_part, part_bytes}
 
 -- the same range as a test
 second_range : (a b : ℕ) → IsSecond a b → is_in_range (second_byte_min a) (second_byte_max a) b ≡ true
@@ -39,11 +39,11 @@ three_end a b c l h s t = let r = second_range a b s in rw (utf8_error_len_some 
 three_more : (a b c d : ℕ) (more : List ℕ) → 0xF0 ≤ a → a ≤ 0xF4 → IsSecond a b → IsContinuation c → utf8_invalid_len (a ∷ b ∷ c ∷ d ∷ more) ≡ 3
 three_more a b c d more l h s t = let r = second_range a b s in rw (utf8_error_len_some (a ∷ b ∷ c ∷ d ∷ more) (omega arith)) (grind (arith, nat_tests))
 
-lone : (a : ℕ) (more : List ℕ) → ((0xC2 ≤ a) × (a ≤ 0xF4) → ⊥) → utf8_invalid_len (a ∷ more) ≡ 1
-lone a more n = rw (utf8_error_len_some (a ∷ more) (omega arith)) (grind (arith, nat_tests))
+unpaired : (a : ℕ) (more : List ℕ) → ((0xC2 ≤ a) × (a ≤ 0xF4) → ⊥) → utf8_invalid_len (a ∷ more) ≡ 1
+unpaired a more n = rw (utf8_error_len_some (a ∷ more) (omega arith)) (grind (arith, nat_tests))
 
 -- ---- std counts the bytes of a malformed sequence as we do
-open_len : (x rest : List ℕ) → IsBeginning x → ((y : ℕ) (ys : List ℕ) → rest ≡ y ∷ ys → IsStuck x y) → HasOpenShape x → utf8_invalid_len (x ++ rest) ≡ length x
+open_len : (x rest : List ℕ) → IsIncomplete x → ((y : ℕ) (ys : List ℕ) → rest ≡ y ∷ ys → IsRejected x y) → HasOpenShape x → utf8_invalid_len (x ++ rest) ≡ length x
 open_len [] rest b n h = absurd h
 open_len (a ∷ []) [] b n h = one_end a h.0 h.1
 open_len (a ∷ []) (y ∷ ys) b n h = one_more a y ys h.0 h.1 (λ s. n y ys refl (second_goes_on a y s))
@@ -53,33 +53,33 @@ open_len (a ∷ c ∷ d ∷ []) [] b n h = three_end a c d h.0 h.1 (second_more 
 open_len (a ∷ c ∷ d ∷ []) (y ∷ ys) b n h = three_more a c d y ys h.0 h.1 (second_more a c (omega arith) h.1 h.2) h.3
 open_len (a ∷ c ∷ d ∷ e ∷ more) rest b n h = absurd h
 
-stuck_behind : (bs x rest : List ℕ) → BeginsWithNoCharacter bs → IsLongestBeginning bs x rest → (y : ℕ) (ys : List ℕ) → rest ≡ y ∷ ys → IsStuck x y
-stuck_behind bs x rest n l y ys e = stuck_part bs x y ys n (subst (λ r. IsLongestBeginning bs x r) e l)
+rejected_after : (bs x rest : List ℕ) → BeginsWithNoCharacter bs → IsLongestIncomplete bs x rest → (y : ℕ) (ys : List ℕ) → rest ≡ y ∷ ys → IsRejected x y
+rejected_after bs x rest n l y ys e = rejected_part bs x y ys n (subst (λ r. IsLongestIncomplete bs x r) e l)
 
-lone_range : (a : ℕ) → BeginsNothing a → (0xC2 ≤ a) × (a ≤ 0xF4) → ⊥
-lone_range a n r = n (inr (IsBeginning-HasOpenShape (a ∷ []) r))
+unpaired_range : (a : ℕ) → IsNeverLeading a → (0xC2 ≤ a) × (a ≤ 0xF4) → ⊥
+unpaired_range a n r = n (inr (IsIncomplete-HasOpenShape (a ∷ []) r))
 
-invalid_len : (bs x rest : List ℕ) → IsFirstPart bs (Broken x) rest → utf8_invalid_len bs ≡ length x
+invalid_len : (bs x rest : List ℕ) → IsFirstPart bs (IllFormed x) rest → utf8_invalid_len bs ≡ length x
 invalid_len bs x rest (n, inl l) =
-    ap utf8_invalid_len l.whole ∙ open_len x rest l.beginning (stuck_behind bs x rest n l) (HasOpenShape-IsBeginning x l.beginning)
+    ap utf8_invalid_len l.whole ∙ open_len x rest l.incomplete (rejected_after bs x rest n l) (HasOpenShape-IsIncomplete x l.incomplete)
 invalid_len bs x rest (n, inr l) =
-    let one = lone_part bs x rest n l in
-    ap utf8_invalid_len (l.whole ∙ ap (λ xs. xs ++ rest) one.1) ∙ lone one.0 rest (lone_range one.0 one.2) ∙ sym (ap length one.1)
+    let one = unpaired_part bs x rest n l in
+    ap utf8_invalid_len (l.whole ∙ ap (λ xs. xs ++ rest) one.1) ∙ unpaired one.0 rest (unpaired_range one.0 one.2) ∙ sym (ap length one.1)
 
 -- ---- the whole text
 
 -- characters, followed by a malformed sequence
-lossy_broken : (cs bs x rest : List ℕ) → all_scalars cs ≡ true → IsFirstPart bs (Broken x) rest
+lossy_malformed : (cs bs x rest : List ℕ) → all_scalars cs ≡ true → IsFirstPart bs (IllFormed x) rest
     → utf8_lossy (encode_utf8_all cs ++ bs) ≡ encode_utf8_all cs ++ (replacement_bytes ++ utf8_lossy rest)
-lossy_broken cs bs x rest h f =
+lossy_malformed cs bs x rest h f =
     let text = encode_utf8_all cs in
     let n = length text in
-    let bytes = part_bytes bs (Broken x) rest f in
+    let bytes = part_bytes bs (IllFormed x) rest f in
     let short : n < length (text ++ bs) = omega (arith, length-append text bs, ap length bytes.0, length-append x rest, bytes.1) in
-    let front : take n (text ++ bs) ≡ text = take_at text bs n refl in
+    let prefix : take n (text ++ bs) ≡ text = take_at text bs n refl in
     let back : drop n (text ++ bs) ≡ bs = drop_at text bs n refl in
     let none : StartsWithNoChar (drop n (text ++ bs)) = subst StartsWithNoChar (sym back) (starts_with_none bs f.0) in
-    let utf8 : IsUtf8 (take n (text ++ bs)) = subst IsUtf8 (sym front) (cs, (h, refl)) in
+    let utf8 : IsUtf8 (take n (text ++ bs)) = subst IsUtf8 (sym prefix) (cs, (h, refl)) in
     let valid : utf8_valid_len (text ++ bs) ≡ n = utf8_valid_len-IsValidUpTo (text ++ bs) n (valid_to (text ++ bs) n short utf8 none) in
     let invalid : length x ≡ utf8_invalid_len (drop (utf8_valid_len (text ++ bs)) (text ++ bs)) =
     sym (ap (λ k. utf8_invalid_len (drop k (text ++ bs))) valid ∙ ap utf8_invalid_len back ∙ invalid_len bs x rest f) in
@@ -89,7 +89,7 @@ encoded : encode_utf8 0xFFFD ≡ replacement_bytes
 unfolding encode
 encoded = refl
 
-lossy_from : (cs bs : List ℕ) (ps : List Part) → all_scalars cs ≡ true → ArePartsOf bs ps → utf8_lossy (encode_utf8_all cs ++ bs) ≡ encode_utf8_all cs ++ repaired_text ps
+lossy_from : (cs bs : List ℕ) (ps : List Part) → all_scalars cs ≡ true → ArePartsOf bs ps → utf8_lossy (encode_utf8_all cs ++ bs) ≡ encode_utf8_all cs ++ lossy_utf8 ps
 lossy_from cs bs [] h e =
     let whole : encode_utf8_all cs ++ bs ≡ encode_utf8_all cs = ap (λ xs. encode_utf8_all cs ++ xs) e ∙ append-nil (encode_utf8_all cs) in
     ap utf8_lossy whole ∙ utf8_lossy-IsUtf8 (encode_utf8_all cs) (cs, (h, refl)) ∙ sym (append-nil (encode_utf8_all cs))
@@ -100,11 +100,11 @@ lossy_from cs bs (Character c ∷ ps) h (after, (s, e), more) =
     λ xs. ap (λ t. t ++ xs) text ∙ append_assoc (encode_utf8_all cs) (encode_utf8 c) xs in
     ap utf8_lossy (ap (λ xs. encode_utf8_all cs ++ xs) e ∙ sym (regroup after))
     ∙ lossy_from (cs ++ c ∷ []) after ps (scalars-append cs (c ∷ []) h (and_from _ _ s refl)) more
-    ∙ regroup (repaired_text ps)
-lossy_from cs bs (Broken x ∷ ps) h (after, f, more) =
-    lossy_broken cs bs x after h f
+    ∙ regroup (lossy_utf8 ps)
+lossy_from cs bs (IllFormed x ∷ ps) h (after, f, more) =
+    lossy_malformed cs bs x after h f
     ∙ ap (λ xs. encode_utf8_all cs ++ (replacement_bytes ++ xs)) (lossy_from [] after ps refl more)
-    ∙ ap (λ xs. encode_utf8_all cs ++ (xs ++ repaired_text ps)) (sym encoded)
+    ∙ ap (λ xs. encode_utf8_all cs ++ (xs ++ lossy_utf8 ps)) (sym encoded)
 
-pub repaired-utf8_lossy : (bs : List ℕ) (ps : List Part) → ArePartsOf bs ps → repaired_text ps ≡ utf8_lossy bs
+pub repaired-utf8_lossy : (bs : List ℕ) (ps : List Part) → ArePartsOf bs ps → lossy_utf8 ps ≡ utf8_lossy bs
 repaired-utf8_lossy bs ps h = sym (lossy_from [] bs ps refl h)

@@ -6,7 +6,7 @@ use Rattle.std.proofs.lemmas.Bool.{cases_lt, and_from, and_parts}
 use Rattle.std.proofs.lemmas.List.{append-nil, length-drop, length-take-le, take_more, drop_all, get_or-drop, take-append-drop, drop_more}
 use Rattle.std.proofs.lemmas.Str.{cons_from_encodes, encodes-append, encode_ascii, chars-encodes}
 use lib.Utf8.{scalar, low_scalar}
-use Rattle.encoding_definitions.specs.Fronts.{IsLongestFront}
+use Rattle.encoding_definitions.specs.Prefixes.{IsLongestPrefix}
 use Rattle.encoding_definitions.specs.Latin1.{IsLatin1, IsUtf8Latin1}
 
 -- the bytes start with a Latin1 character
@@ -25,9 +25,9 @@ IsLatin1-append : (xs ys : List ℕ) → IsLatin1 xs → IsLatin1 ys → IsLatin
 IsLatin1-append [] ys g h = h
 IsLatin1-append (x ∷ xs) ys g h = IsLatin1-cons x (xs ++ ys) (g 0) (IsLatin1-append xs ys (IsLatin1-rest x xs g) h)
 
-pub IsLatin1-behind : (xs ys : List ℕ) → IsLatin1 (xs ++ ys) → IsLatin1 ys
-IsLatin1-behind [] ys h = h
-IsLatin1-behind (x ∷ xs) ys h = IsLatin1-behind xs ys (IsLatin1-rest x (xs ++ ys) h)
+pub IsLatin1-following : (xs ys : List ℕ) → IsLatin1 (xs ++ ys) → IsLatin1 ys
+IsLatin1-following [] ys h = h
+IsLatin1-following (x ∷ xs) ys h = IsLatin1-following xs ys (IsLatin1-rest x (xs ++ ys) h)
 
 pub scalars_of_latin1 : (cs : List ℕ) → IsLatin1 cs → all_scalars cs ≡ true
 scalars_of_latin1 [] h = refl
@@ -66,11 +66,11 @@ latin1_bytes bs (c, l, rest, e) = elim (cases_lt c 128) [
 ]
 
 -- ---- prefixes
-pub split_front : (ds cs : List ℕ) (rest : List ℕ) → encode_utf8_all cs ≡ encode_utf8_all ds ++ rest → (es : List ℕ) × (cs ≡ ds ++ es) × (encode_utf8_all es ≡ rest)
-split_front [] cs rest e = (cs, refl, e)
-split_front (d ∷ ds) cs rest e =
+pub split_prefix : (ds cs : List ℕ) (rest : List ℕ) → encode_utf8_all cs ≡ encode_utf8_all ds ++ rest → (es : List ℕ) × (cs ≡ ds ++ es) × (encode_utf8_all es ≡ rest)
+split_prefix [] cs rest e = (cs, refl, e)
+split_prefix (d ∷ ds) cs rest e =
     let first = cons_from_encodes cs (encode_utf8_all ds ++ rest) d (e ∙ append_assoc (encode_utf8 d) (encode_utf8_all ds) rest) in
-    let more = split_front ds first.0 rest first.2 in
+    let more = split_prefix ds first.0 rest first.2 in
     (more.0, first.1 ∙ ap (λ xs. d ∷ xs) more.1, more.2)
 
 begins : (ds es rest : List ℕ) → IsLatin1 (ds ++ es) → encode_utf8_all es ≡ rest → 0 < length rest → BeginsLatin1 rest
@@ -78,21 +78,21 @@ begins [] [] rest h e l = absurd (omega (arith, ap length e))
 begins [] (c ∷ es) rest h e l = (c, h 0, encode_utf8_all es, sym e)
 begins (d ∷ ds) es rest h e l = begins ds es rest (IsLatin1-rest d (ds ++ es) h) e l
 
-BeginsLatin1-front : (xs ys : List ℕ) → BeginsLatin1 xs → BeginsLatin1 (xs ++ ys)
-BeginsLatin1-front xs ys (c, l, rest, e) = (c, l, rest ++ ys, ap (λ zs. zs ++ ys) e ∙ append_assoc (encode_utf8 c) rest ys)
+BeginsLatin1-prefix : (xs ys : List ℕ) → BeginsLatin1 xs → BeginsLatin1 (xs ++ ys)
+BeginsLatin1-prefix xs ys (c, l, rest, e) = (c, l, rest ++ ys, ap (λ zs. zs ++ ys) e ∙ append_assoc (encode_utf8 c) rest ys)
 
 -- a Latin1 prefix followed by no Latin1 character is the longest
-pub latin1_front : (bs : List ℕ) (n : ℕ) → n ≤ length bs → IsUtf8Latin1 (take n bs) → ¬ (BeginsLatin1 (drop n bs)) → IsLongestFront IsUtf8Latin1 bs n
-latin1_front bs n l h stop = record {
+pub latin1_prefix_len : (bs : List ℕ) (n : ℕ) → n ≤ length bs → IsUtf8Latin1 (take n bs) → ¬ (BeginsLatin1 (drop n bs)) → IsLongestPrefix IsUtf8Latin1 bs n
+latin1_prefix_len bs n l h stop = record {
   within = l;
   kind = h;
   longest = λ m b k. elim (cases_lt n m) [
     | inl p ↦
         let whole : take m bs ≡ take n bs ++ take (m - n) (drop n bs) = let e : m ≡ n + (m - n) = omega arith in ap (λ j. take j bs) e ∙ take-add n (m - n) bs in
-        let parts = split_front h.0 k.0 (take (m - n) (drop n bs)) (k.2 ∙ whole ∙ ap (λ xs. xs ++ take (m - n) (drop n bs)) (sym h.2)) in
+        let parts = split_prefix h.0 k.0 (take (m - n) (drop n bs)) (k.2 ∙ whole ∙ ap (λ xs. xs ++ take (m - n) (drop n bs)) (sym h.2)) in
         let long : length (take (m - n) (drop n bs)) ≡ m - n = length-take-le (m - n) (drop n bs) (omega (arith, length-drop n bs)) in
         let first = begins h.0 parts.0 (take (m - n) (drop n bs)) (subst IsLatin1 parts.1 k.1) parts.2 (omega arith) in
-        absurd (stop (subst BeginsLatin1 (take-append-drop (m - n) (drop n bs)) (BeginsLatin1-front _ (drop (m - n) (drop n bs)) first)))
+        absurd (stop (subst BeginsLatin1 (take-append-drop (m - n) (drop n bs)) (BeginsLatin1-prefix _ (drop (m - n) (drop n bs)) first)))
     | inr p ↦ p
   ];
 }
@@ -115,15 +115,15 @@ latin1_more_two bs i l h p q r s =
     let a = slice_index bs i in
     let b = slice_index bs (i + 1) in
     let more = IsUtf8Latin1-push (take i bs) ((a - 192) * 64 + (b - 128)) h (omega arith) in
-    let front : take (i + 2) bs ≡ take i bs ++ (a ∷ b ∷ []) =
+    let prefix : take (i + 2) bs ≡ take i bs ++ (a ∷ b ∷ []) =
     ap (λ j. take j bs) (let e : i + 2 ≡ (i + 1) + 1 = omega arith in e) ∙ take_more bs (i + 1) 0 l
     ∙ ap (λ xs. xs ++ b ∷ []) (take_more bs i 0 (omega arith)) ∙ append_assoc (take i bs) (a ∷ []) (b ∷ []) in
-    rw (front, sym (two_bytes a b p q r s)) more
+    rw (prefix, sym (two_bytes a b p q r s)) more
 
 pub latin1_stop : (bs : List ℕ) (i : ℕ) → i ≤ length bs → IsUtf8Latin1 (take i bs)
     → (i < length bs → (0x80 ≤ slice_index bs i) × (0xC2 ≤ slice_index bs i → slice_index bs i < 0xC4 → i + 1 < length bs → 0x80 ≤ slice_index bs (i + 1) → slice_index bs (i + 1) ≤ 0xBF → ⊥))
-    → IsLongestFront IsUtf8Latin1 bs i
-latin1_stop bs i l h stop = latin1_front bs i l h (λ b.
+    → IsLongestPrefix IsUtf8Latin1 bs i
+latin1_stop bs i l h stop = latin1_prefix_len bs i l h (λ b.
     let known = latin1_bytes (drop i bs) b in
     let here = at_drop_start bs i in
     let next = at_drop bs i 1 in
@@ -138,16 +138,16 @@ record Stops (n : ℕ) (bs : List ℕ) : Type 0 where
   pub low : (k : ℕ) → k < n → slice_index bs k < 0xC4
   pub high : n < length bs → 0xC4 ≤ slice_index bs n
 
-abbrev FrontOf : List ℕ → Type 0
-FrontOf bs = (m : ℕ) → Stops m bs → IsUtf8Latin1 (take m bs)
+abbrev PrefixOf : List ℕ → Type 0
+PrefixOf bs = (m : ℕ) → Stops m bs → IsUtf8Latin1 (take m bs)
 
-stops_one : (c n : ℕ) (rest : List ℕ) → c < 128 → Stops n (c ∷ rest) → FrontOf rest → IsUtf8Latin1 (take n (c ∷ rest))
+stops_one : (c n : ℕ) (rest : List ℕ) → c < 128 → Stops n (c ∷ rest) → PrefixOf rest → IsUtf8Latin1 (take n (c ∷ rest))
 stops_one c zero rest p h more = IsUtf8Latin1-nil
 stops_one c (suc n) rest p h more =
     let after : Stops n rest = record { within = omega (arith, h.within); low = λ k q. h.low (suc k) (omega arith); high = λ q. h.high (omega arith) } in
     subst (λ xs. IsUtf8Latin1 (xs ++ take n rest)) (encode_ascii c p) (IsUtf8Latin1-cons c (take n rest) (omega arith) (more n after))
 
-stops_two : (c n : ℕ) (rest : List ℕ) → 128 ≤ c → c < 2048 → Stops n ((192 + c / 64) ∷ (128 + c % 64) ∷ rest) → FrontOf rest
+stops_two : (c n : ℕ) (rest : List ℕ) → 128 ≤ c → c < 2048 → Stops n ((192 + c / 64) ∷ (128 + c % 64) ∷ rest) → PrefixOf rest
     → IsUtf8Latin1 (take n ((192 + c / 64) ∷ (128 + c % 64) ∷ rest))
 stops_two c zero rest l p h more = IsUtf8Latin1-nil
 stops_two c (suc zero) rest l p h more = absurd (omega (arith, h.high (omega arith)))
@@ -164,8 +164,8 @@ stops_text : (cs bs : List ℕ) (n : ℕ) → all_scalars cs ≡ true → encode
 stops_text [] bs n s e h = let none : n ≡ 0 = omega (arith, h.within, ap length e) in rw none IsUtf8Latin1-nil
 stops_text (c ∷ cs) bs n s e h =
     let rest = encode_utf8_all cs in
-    let more : FrontOf rest = λ m g. stops_text cs rest m (and_parts (scalar c) (all_scalars cs) s).1 refl g in
-    let start : (front : List ℕ) → encode_utf8 c ≡ front → bs ≡ front ++ rest = λ front q. sym e ∙ ap (λ xs. xs ++ rest) q in
+    let more : PrefixOf rest = λ m g. stops_text cs rest m (and_parts (scalar c) (all_scalars cs) s).1 refl g in
+    let start : (prefix : List ℕ) → encode_utf8 c ≡ prefix → bs ≡ prefix ++ rest = λ prefix q. sym e ∙ ap (λ xs. xs ++ rest) q in
     elim (cases_lt c 128) [
       | inl p ↦ let same = start (c ∷ []) (encode_ascii c p) in
           subst (λ xs. IsUtf8Latin1 (take n xs)) (sym same) (stops_one c n rest p (subst (Stops n) same h) more)
@@ -179,9 +179,9 @@ stops_text (c ∷ cs) bs n s e h =
       ]
     ]
 
-pub latin1_text_front : (bs : List ℕ) (n : ℕ) → IsUtf8 bs → n ≤ length bs → ((k : ℕ) → k < n → slice_index bs k < 0xC4) → (n < length bs → 0xC4 ≤ slice_index bs n)
-    → IsLongestFront IsUtf8Latin1 bs n
-latin1_text_front bs n u l low high =
+pub latin1_text_prefix : (bs : List ℕ) (n : ℕ) → IsUtf8 bs → n ≤ length bs → ((k : ℕ) → k < n → slice_index bs k < 0xC4) → (n < length bs → 0xC4 ≤ slice_index bs n)
+    → IsLongestPrefix IsUtf8Latin1 bs n
+latin1_text_prefix bs n u l low high =
     latin1_stop bs n l (stops_text u.0 bs n u.1.0 u.1.1 (record { within = l; low = low; high = high }))
     (λ p. (omega (arith, high p), λ q r s t v. omega (arith, high p)))
 
@@ -223,8 +223,8 @@ next_of_two src cs i j h e l p =
       | inl q ↦ let both = sym here ∙ next.1 ∙ ap (λ xs. xs ++ rest) (encode_ascii _ q) in
           let first : slice_index src i ≡ slice_index cs j = cc in absurd (omega arith)
       | inr q ↦ let both = sym here ∙ next.1 ∙ ap (λ xs. xs ++ rest) (two _ q (omega (arith, h j))) in
-          let behind : drop (i + 1) src ≡ (128 + slice_index cs j % 64) ∷ rest = cc in
-          let inside : i + 1 < length src = omega (arith, length-drop (i + 1) src, ap length behind) in
+          let following : drop (i + 1) src ≡ (128 + slice_index cs j % 64) ∷ rest = cc in
+          let inside : i + 1 < length src = omega (arith, length-drop (i + 1) src, ap length following) in
           let there = drop_more src (i + 1) 0 inside in
           let last : drop (i + 2) src ≡ drop ((i + 1) + 1) src = ap (λ k. drop k src) (let e : i + 2 ≡ (i + 1) + 1 = omega arith in e) in
           (next.0, inside, q, cc, cc, cc)

@@ -68,8 +68,8 @@ spells_shape (a ∷ b ∷ c ∷ []) h = (_, spells_three a b c h)
 spells_shape (a ∷ b ∷ c ∷ d ∷ []) h = (_, spells_four a b c d h)
 spells_shape (a ∷ b ∷ c ∷ d ∷ e ∷ more) h = absurd h
 
-pub scalar_of_sequence : (bs : List ℕ) → IsSequence bs → (c : ℕ) × IsScalar c × (encode_utf8 c ≡ bs)
-scalar_of_sequence bs s = let found = spells_shape bs (HasShape-IsSequence bs s) in (found.0, found.1.0, found.1.1)
+pub decode_utf8_scalar : (bs : List ℕ) → IsSequence bs → (c : ℕ) × IsScalar c × (encode_utf8 c ≡ bs)
+decode_utf8_scalar bs s = let found = spells_shape bs (HasShape-IsSequence bs s) in (found.0, found.1.0, found.1.1)
 
 last_bits : (n : ℕ) → IsContinuation (128 + n % 64)
 last_bits n = (omega arith, omega arith)
@@ -102,8 +102,8 @@ IsSequence-encode c h = IsSequence-HasShape _ (shape_scalar c h)
 -- no sequence is a proper prefix of another
 pub sequence_ends : (bs rest : List ℕ) → IsSequence bs → IsSequence (bs ++ rest) → rest ≡ []
 sequence_ends bs rest s t =
-    let c = scalar_of_sequence bs s in
-    let d = scalar_of_sequence (bs ++ rest) t in
+    let c = decode_utf8_scalar bs s in
+    let d = decode_utf8_scalar (bs ++ rest) t in
     (encode_same c.0 d.0 rest [] (ap (λ xs. xs ++ rest) c.2 ∙ sym d.2 ∙ sym (append-nil (encode_utf8 d.0)))).1
 
 -- ---- lengths

@@ -26,8 +26,8 @@ join_three : (x y z : ℕ) → x < 16 → y < 64 → z < 64 → bit_or (bit_or (
 join_three x y z l h k =
     let e : x * 4096 % 4294967296 ≡ x * 2 ^ 12 = omega arith in
     let f : y * 64 % 4294967296 ≡ y * 64 = omega arith in
-    let front : bit_or (x * 4096 % 4294967296) (y * 64 % 4294967296) ≡ (x * 64 + y) * 2 ^ 6 = rw (e, f) (or_shifted x 12 (y * 64) (omega arith) ∙ omega arith) in
-    ap (λ n. bit_or n z) front ∙ or_shifted (x * 64 + y) 6 z k ∙ omega arith
+    let prefix : bit_or (x * 4096 % 4294967296) (y * 64 % 4294967296) ≡ (x * 64 + y) * 2 ^ 6 = rw (e, f) (or_shifted x 12 (y * 64) (omega arith) ∙ omega arith) in
+    ap (λ n. bit_or n z) prefix ∙ or_shifted (x * 64 + y) 6 z k ∙ omega arith
 
 join_four : (x y z w : ℕ) → x < 8 → y < 64 → z < 64 → w < 64
     → bit_or (bit_or (bit_or (x * 262144 % 4294967296) (y * 4096 % 4294967296)) (z * 64 % 4294967296)) w ≡ x * 262144 + y * 4096 + z * 64 + w

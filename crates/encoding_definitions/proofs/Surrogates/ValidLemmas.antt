@@ -6,7 +6,7 @@ use Rattle.std.specs.Char.Utf16.{has_unpaired_surrogate}
 use Rattle.std.specs.List.{flat_map, list_any}
 use Rattle.std.specs.Str.{all_scalars}
 use Rattle.encoding_definitions.specs.Surrogates.{IsValidUtf16}
-use Rattle.encoding_definitions.specs.Utf16.{AreUnits, Part16, Character16, Lone, ArePartsOf16}
+use Rattle.encoding_definitions.specs.Utf16.{AreCodeUnits, Part16, Character16, Unpaired, ArePartsOf16}
 use Rattle.encoding_definitions.proofs.Surrogates.SurrogateLemmas.{scalars_of_valid, valid-encode}
 use Rattle.encoding_definitions.proofs.Conversions.Utf16LawLemmas.{character_of, characters_are}
 use Rattle.encoding_definitions.proofs.CodeUnits.Utf16Lemmas.{parts_of, parts_exist}
@@ -20,13 +20,13 @@ valid_spelled us = (
 all_characters : (parts : List Part16) → list_any (λ o. not (is_some o)) (map character_of parts) ≡ false → (cs : List ℕ) × (parts ≡ map Character16 cs)
 all_characters [] e = ([], refl)
 all_characters (Character16 c ∷ parts) e = let (cs, are) = all_characters parts e in (c ∷ cs, ap (λ ps. Character16 c ∷ ps) are)
-all_characters (Lone u ∷ parts) e = let clash : true ≡ false = e in absurd (cc (clash))
+all_characters (Unpaired u ∷ parts) e = let clash : true ≡ false = e in absurd (cc (clash))
 
 none_unpaired : (cs : List ℕ) → list_any (λ o. not (is_some o)) (map character_of (map Character16 cs)) ≡ false
 none_unpaired [] = refl
 none_unpaired (c ∷ cs) = none_unpaired cs
 
-pub valid_paired : (us : List ℕ) → AreUnits us → IsValidUtf16 us ↔ (has_unpaired_surrogate us ≡ false)
+pub valid_paired : (us : List ℕ) → AreCodeUnits us → IsValidUtf16 us ↔ (has_unpaired_surrogate us ≡ false)
 valid_paired us a = (
   (λ v. ap (list_any (λ o. not (is_some o))) (sym (characters_are us (map Character16 v.0) v.1)) ∙ none_unpaired v.0),
   (λ e.

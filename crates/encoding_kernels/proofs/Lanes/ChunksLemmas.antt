@@ -30,10 +30,10 @@ stride_is n from to xs d {i} {strides = strides} is are count place l =
     let part : List ℕ = take (to - from) (drop from xs) in
     let within : i * n + n ≤ length part = many n (length strides) i (length part) count l in
     let short : i * n + (to - from - i * n) ≡ to - from = omega (arith, within, length-take (to - from) (drop from xs)) in
-    let behind : drop (i * n) part ≡ take (to - from - i * n) (drop (i * n) (drop from xs)) =
+    let following : drop (i * n) part ≡ take (to - from - i * n) (drop (i * n) (drop from xs)) =
     ap (λ m. drop (i * n) (take m (drop from xs))) (sym short) ∙ drop-take (i * n) (to - from - i * n) (drop from xs) in
     whole_stride n part d is are count refl l
-    ∙ ap (take n) behind ∙ take-take n (to - from - i * n) (drop (i * n) (drop from xs)) (omega (arith, within, length-take (to - from) (drop from xs)))
+    ∙ ap (take n) following ∙ take-take n (to - from - i * n) (drop (i * n) (drop from xs)) (omega (arith, within, length-take (to - from) (drop from xs)))
     ∙ ap (take n) (drop-drop (i * n) from xs ∙ ap (λ m. drop m xs) (sym place))
 
 -- the units of a stride are those of the list from its index on

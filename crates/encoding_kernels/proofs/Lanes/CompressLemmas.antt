@@ -12,7 +12,7 @@ use Rattle.std.proofs.lemmas.Nat.{and_mask, mod_low, ones_le_self}
 use Rattle.std.proofs.lemmas.List.{length-map, length-append, length-take-le, length-drop, get_or-map, take-map, map-append, take-append-drop, take_at, drop_at, drop-drop, drop-append-le}
 use Rattle.std.proofs.lemmas.Simd.{SwzOk, SwzOk-from_below, swz_l, length-swz_l, get_or-swz_l_below, Each1-from_get_or, Each1-get_or, mask_l-lt, ones-mask_l_cons, length-put_chunk}
 use Rattle.encoding_kernels.specs.declared.compress_units.TheConstants.{COMPRESSED}
-use Rattle.encoding_kernels.proofs.Lanes.PutLemmas.{put_front, put_is}
+use Rattle.encoding_kernels.proofs.Lanes.PutLemmas.{put_prefix, put_is}
 use Rattle.encoding_kernels.proofs.Lanes.TestLemmas.{chosen_by, tests_of}
 use Rattle.encoding_kernels.proofs.Lanes.WordLemmas.{bytes_lanes, wide, wide_l}
 use Rattle.encoding_kernels.proofs.Lanes.LaneLemmas.{HasLanes-itself, HasLanes-numbers, HasLanes-splat, compared, firsts_are, same_below}
@@ -138,8 +138,8 @@ mask_pad [] n = mask_none n
 mask_pad (x ∷ xs) n = ap (λ m. cond x 1 0 + 2 * m) (mask_pad xs n)
 
 -- the marks before an index
-pub mask_front : (xs : List Bool) (n e : ℕ) → e ≤ length xs → bit_and (mask_l xs) (2 ^ e - 1) ≡ mask_l (take e xs ++ replicate n false)
-mask_front xs n e h =
+pub mask_prefix : (xs : List Bool) (n e : ℕ) → e ≤ length xs → bit_and (mask_l xs) (2 ^ e - 1) ≡ mask_l (take e xs ++ replicate n false)
+mask_prefix xs n e h =
     let long : length (take e xs) ≡ e = length-take-le e xs h in
     let whole : mask_l xs ≡ mask_l (drop e xs) * 2 ^ e + mask_l (take e xs) = ap mask_l (sym (take-append-drop e xs)) ∙ mask_append (take e xs) (drop e xs) ∙ ap (λ k. mask_l (drop e xs) * 2 ^ k + mask_l (take e xs)) long in
     let small : mask_l (take e xs) < 2 ^ e = subst (λ k. mask_l (take e xs) < 2 ^ k) long (mask_l-lt (take e xs)) in
@@ -298,10 +298,10 @@ module _ (ms : List Bool) (us old low_us high_us first second : List ℕ) (kept 
   stored : (z : List ℕ) → length z ≡ 8 → put_chunk count half_put z ≡ low_kept ++ (z ++ drop (count + 8) old)
   stored z eight =
       let start : 0 + count ≡ count = omega arith in
-      let parts = put_front 8 old first 0 count first_long low_few (omega (arith, room)) in
-      let front : take count half_put ≡ low_kept = ap (λ n. take n half_put) (sym start) ∙ parts.0 ∙ ap (take count) low_compressed.1 ∙ take_at low_kept low_compressed.0 count refl in
-      let behind : drop (count + 8) half_put ≡ drop (count + 8) old = ap (λ n. drop (n + 8) half_put) (sym start) ∙ parts.1 ∙ ap (λ n. drop (n + 8) old) start in
-      put_is count 8 half_put z eight (omega (arith, length-put_chunk 0 old first, low_few, room)) ∙ (λ i. front i ++ (z ++ behind i))
+      let parts = put_prefix 8 old first 0 count first_long low_few (omega (arith, room)) in
+      let prefix : take count half_put ≡ low_kept = ap (λ n. take n half_put) (sym start) ∙ parts.0 ∙ ap (take count) low_compressed.1 ∙ take_at low_kept low_compressed.0 count refl in
+      let following : drop (count + 8) half_put ≡ drop (count + 8) old = ap (λ n. drop (n + 8) half_put) (sym start) ∙ parts.1 ∙ ap (λ n. drop (n + 8) old) start in
+      put_is count 8 half_put z eight (omega (arith, length-put_chunk 0 old first, low_few, room)) ∙ (λ i. prefix i ++ (z ++ following i))
 
   abbrev both_put : List ℕ
   both_put = put_chunk count half_put second
@@ -309,15 +309,15 @@ module _ (ms : List Bool) (us old low_us high_us first second : List ℕ) (kept 
   whole : low_kept ++ high_kept ≡ keep ms us
   whole = sym (keep_split 8 ms us (marks_long ∙ sym long))
 
-  kept_front : take (count + more) both_put ≡ keep ms us
-  kept_front =
+  kept_prefix : take (count + more) both_put ≡ keep ms us
+  kept_prefix =
       let rest = high_compressed.0 ++ drop (count + 8) old in
       let split : both_put ≡ (low_kept ++ high_kept) ++ rest =
       stored second second_long ∙ ap (λ xs. low_kept ++ (xs ++ drop (count + 8) old)) high_compressed.1 ∙ ap (λ xs. low_kept ++ xs) (append_assoc high_kept high_compressed.0 (drop (count + 8) old)) ∙ sym (append_assoc low_kept high_kept rest) in
       ap (take (count + more)) split ∙ take_at (low_kept ++ high_kept) rest (count + more) (length-append low_kept high_kept) ∙ whole
 
-  kept_behind : drop (count + 8) both_put ≡ drop (count + 8) old
-  kept_behind = ap (drop (count + 8)) (stored second second_long ∙ sym (append_assoc low_kept second (drop (count + 8) old)))
+  kept_after : drop (count + 8) both_put ≡ drop (count + 8) old
+  kept_after = ap (drop (count + 8)) (stored second second_long ∙ sym (append_assoc low_kept second (drop (count + 8) old)))
       ∙ drop_at (low_kept ++ second) (drop (count + 8) old) (count + 8) (length-append low_kept second ∙ ap (λ n. count + n) second_long)
 
   pub writes_compressed : WritesCompressed ms us old (put_chunk (count_ones (bit_and kept 255)) (put_chunk 0 old first) second) (count_ones (bit_and kept 255) + count_ones (kept / 256)) (count_ones (bit_and kept 255) + count_ones (kept / 256) + 8 - count_ones (kept / 256))
@@ -326,50 +326,50 @@ module _ (ms : List Bool) (us old low_us high_us first second : List ℕ) (kept 
       let size : count_ones (bit_and kept 255) + count_ones (kept / 256) ≡ count + length high_kept = (λ i. low_count i + high_count i) in
       record {
         counted = size ∙ sym (length-append low_kept high_kept) ∙ ap length whole;
-        placed = (λ i. take (size i) (same i)) ∙ kept_front;
-        behind = subst (λ n. drop n (put_chunk (count_ones (bit_and kept 255)) half_put second) ≡ drop n old) {x = count + 8} (omega (arith, low_count)) (ap (drop (count + 8)) same ∙ kept_behind);
+        placed = (λ i. take (size i) (same i)) ∙ kept_prefix;
+        following = subst (λ n. drop n (put_chunk (count_ones (bit_and kept 255)) half_put second) ≡ drop n old) {x = count + 8} (omega (arith, low_count)) (ap (drop (count + 8)) same ∙ kept_after);
       }
 
   -- the same if the second store keeps what follows its own units
-  abbrev alone : List ℕ
-  alone = sel_l (map (top 15) (zip2 (compared w16 ltb) (range_with_len 0 8) (replicate 8 (count_ones (kept / 256))))) second (take 8 (drop (count_ones (bit_and kept 255)) old))
+  abbrev single : List ℕ
+  single = sel_l (map (top 15) (zip2 (compared w16 ltb) (range_with_len 0 8) (replicate 8 (count_ones (kept / 256))))) second (take 8 (drop (count_ones (bit_and kept 255)) old))
 
   more_few : more ≤ 8
   more_few = omega (arith, length-keep-le high_marks (drop 8 us), high_long)
 
-  abbrev behind : List ℕ
-  behind = take 8 (drop count old)
+  abbrev following : List ℕ
+  following = take 8 (drop count old)
 
-  behind_long : length behind ≡ 8
-  behind_long = length-take-le 8 (drop count old) (omega (arith, length-drop count old, room, low_few))
+  after_long : length following ≡ 8
+  after_long = length-take-le 8 (drop count old) (omega (arith, length-drop count old, room, low_few))
 
-  alone_is : alone ≡ high_kept ++ drop more behind
-  alone_is =
-      let chosen = chosen_by (tests_of w16 ltb (HasLanes-numbers 8) (HasLanes-splat 8 more)) (HasLanes-itself 8 second second_long) (HasLanes-itself 8 behind behind_long) in
+  single_is : single ≡ high_kept ++ drop more following
+  single_is =
+      let chosen = chosen_by (tests_of w16 ltb (HasLanes-numbers 8) (HasLanes-splat 8 more)) (HasLanes-itself 8 second second_long) (HasLanes-itself 8 following after_long) in
       (λ i. sel_l (map (top 15) (zip2 (compared w16 ltb) (range_with_len 0 8) (replicate 8 (high_count i)))) second (take 8 (drop (low_count i) old)))
-      ∙ firsts_are 8 more second behind _ second_long behind_long more_few chosen
-      ∙ ap (λ xs. xs ++ drop more behind) (ap (take more) high_compressed.1 ∙ take_at high_kept high_compressed.0 more refl)
+      ∙ firsts_are 8 more second following _ second_long after_long more_few chosen
+      ∙ ap (λ xs. xs ++ drop more following) (ap (take more) high_compressed.1 ∙ take_at high_kept high_compressed.0 more refl)
 
-  alone_long : length alone ≡ 8
-  alone_long = ap length alone_is ∙ omega (arith, length-append high_kept (drop more behind), length-drop more behind, behind_long, more_few)
+  single_long : length single ≡ 8
+  single_long = ap length single_is ∙ omega (arith, length-append high_kept (drop more following), length-drop more following, after_long, more_few)
 
-  behind_kept : drop more behind ++ drop 8 (drop count old) ≡ drop (count + more) old
-  behind_kept = sym (drop-append-le more behind (drop 8 (drop count old)) (omega (arith, behind_long, more_few))) ∙ ap (drop more) (take-append-drop 8 (drop count old)) ∙ drop-drop more count old
+  after_kept : drop more following ++ drop 8 (drop count old) ≡ drop (count + more) old
+  after_kept = sym (drop-append-le more following (drop 8 (drop count old)) (omega (arith, after_long, more_few))) ∙ ap (drop more) (take-append-drop 8 (drop count old)) ∙ drop-drop more count old
 
-  alone_put : put_chunk count half_put alone ≡ (low_kept ++ high_kept) ++ drop (count + more) old
-  alone_put =
-      stored alone alone_long ∙ (λ i. low_kept ++ (alone_is i ++ sym (drop-drop 8 count old) i))
-      ∙ ap (λ xs. low_kept ++ xs) (append_assoc high_kept (drop more behind) (drop 8 (drop count old)) ∙ ap (λ xs. high_kept ++ xs) behind_kept)
+  single_put : put_chunk count half_put single ≡ (low_kept ++ high_kept) ++ drop (count + more) old
+  single_put =
+      stored single single_long ∙ (λ i. low_kept ++ (single_is i ++ sym (drop-drop 8 count old) i))
+      ∙ ap (λ xs. low_kept ++ xs) (append_assoc high_kept (drop more following) (drop 8 (drop count old)) ∙ ap (λ xs. high_kept ++ xs) after_kept)
       ∙ sym (append_assoc low_kept high_kept (drop (count + more) old))
 
-  pub writes_compressed_exact : WritesCompressed ms us old (put_chunk (count_ones (bit_and kept 255)) (put_chunk 0 old first) alone) (count_ones (bit_and kept 255) + count_ones (kept / 256)) (count_ones (bit_and kept 255) + count_ones (kept / 256))
+  pub writes_compressed_exact : WritesCompressed ms us old (put_chunk (count_ones (bit_and kept 255)) (put_chunk 0 old first) single) (count_ones (bit_and kept 255) + count_ones (kept / 256)) (count_ones (bit_and kept 255) + count_ones (kept / 256))
   writes_compressed_exact =
-      let after = put_chunk (count_ones (bit_and kept 255)) half_put alone in
-      let is : after ≡ (low_kept ++ high_kept) ++ drop (count + more) old = ap (λ n. put_chunk n half_put alone) low_count ∙ alone_put in
+      let after = put_chunk (count_ones (bit_and kept 255)) half_put single in
+      let is : after ≡ (low_kept ++ high_kept) ++ drop (count + more) old = ap (λ n. put_chunk n half_put single) low_count ∙ single_put in
       let size : count_ones (bit_and kept 255) + count_ones (kept / 256) ≡ count + more = (λ i. low_count i + high_count i) in
       let both = low_kept ++ high_kept in
       record {
         counted = size ∙ sym (length-append low_kept high_kept) ∙ ap length whole;
         placed = (λ i. take (size i) (is i)) ∙ take_at both (drop (count + more) old) (count + more) (length-append low_kept high_kept) ∙ whole;
-        behind = (λ i. drop (size i) (is i)) ∙ drop_at both (drop (count + more) old) (count + more) (length-append low_kept high_kept) ∙ ap (λ n. drop n old) (sym size);
+        following = (λ i. drop (size i) (is i)) ∙ drop_at both (drop (count + more) old) (count + more) (length-append low_kept high_kept) ∙ ap (λ n. drop n old) (sym size);
       }

@@ -9,12 +9,12 @@ use Rattle.std.specs.List.{range_with_len}
 use Rattle.std.specs.Simd.Lanes.{mask_l, top, zip2, sel_l, pick_l, Each1}
 use lib.Dec.{leb}
 use Rattle.encoding_kernels.specs.Lanes.{HasLanes}
-use Rattle.encoding_kernels.specs.EncodeLanes.{kept_places, ended, all_ended, both_end, EndsPair}
+use Rattle.encoding_kernels.specs.EncodeLanes.{kept_places, latin1_ended, all_latin1_ended, both_end, EndsPair}
 use Rattle.encoding_kernels.proofs.Validation.FollowingLemmas.{one_before}
 use Rattle.encoding_kernels.proofs.Lanes.LaneLemmas.{HasLanes-itself, HasLanes-splat, HasLanes-zip2, HasLanes-same, compared, top_compared, mask_of}
 use Rattle.encoding_kernels.proofs.Lanes.TestLemmas.{chosen_by, tests_of, tests_and}
 use Rattle.encoding_kernels.proofs.Lanes.WordLemmas.{bytes_of, bytes_lanes, wide, wide_l}
-use Rattle.encoding_kernels.proofs.Latin.EndedLemmas.{PairAt, pairs_kept, both_end_long}
+use Rattle.encoding_kernels.proofs.LatinBlocks.EndedLemmas.{PairAt, pairs_kept, both_end_long}
 
 -- ---- two bytes as one number
 low_half : (a b : ℕ) → a < 256 → bit_and (a + 256 * b) 0xFF ≡ a
@@ -148,11 +148,11 @@ module _ (bs : List ℕ) (long : length bs ≡ 16) (fits : Each1 (Fits w8) bs) w
   -- ---- what is kept
   pub kept_ends : (bytes : List ℕ)
       → ((k : ℕ) → k < 8 → EndsPair (get_or (0 ∷ bs) (2 * k) 0) (get_or bs (2 * k) 0) (get_or bs (2 * k + 1) 0) (get_or bytes (2 * k) 0) (get_or bytes (2 * k + 1) 0))
-      → ((k : ℕ) → (get_or bs k 0 < 0xC0) ⊎ (get_or bs (k + 1) 0 < 0xC0)) → map (λ j. get_or bytes j 0) (kept_places 0 (both_end bs)) ≡ all_ended 0 bs
+      → ((k : ℕ) → (get_or bs k 0 < 0xC0) ⊎ (get_or bs (k + 1) 0 < 0xC0)) → map (λ j. get_or bytes j 0) (kept_places 0 (both_end bs)) ≡ all_latin1_ended 0 bs
   kept_ends bytes pairs apart =
       let get : ℕ → ℕ = λ j. get_or bytes j 0 in
       pairs_kept get 8 bs 0 0 (omega arith) (λ k l.
       let next : 2 * k + 1 ≡ suc (2 * k) = omega arith in
       let place : 2 * k ≡ 0 + 2 * k = omega arith in
       subst (λ j. PairAt get 0 bs j (2 * k)) place (subst (λ j. cond (nat_lt (get_or bs (2 * k) 0) 0xC0 && nat_lt (get_or bs j 0) 0xC0) (get (2 * k) ∷ get (2 * k + 1) ∷ []) (get (2 * k) ∷ [])
-      ≡ ended (get_or (0 ∷ bs) (2 * k) 0) (get_or bs (2 * k) 0) ++ ended (get_or bs (2 * k) 0) (get_or bs j 0)) next (pairs k l (apart (2 * k)))))
+      ≡ latin1_ended (get_or (0 ∷ bs) (2 * k) 0) (get_or bs (2 * k) 0) ++ latin1_ended (get_or bs (2 * k) 0) (get_or bs j 0)) next (pairs k l (apart (2 * k)))))

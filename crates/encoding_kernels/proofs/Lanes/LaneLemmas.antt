@@ -136,25 +136,25 @@ module _ (h : ℕ) {n : ℕ} {a : List ℕ} {f : ℕ → ℕ} (lanes : HasLanes 
 
 -- ---- a store whose first lanes count
 -- the first `count` lanes of one vector, followed by those of another
-pub firsts_are : (n count : ℕ) (lanes behind z : List ℕ) → length lanes ≡ n → length behind ≡ n → count ≤ n
-    → HasLanes n z (λ k. cond (ltb k count) (get_or lanes k 0) (get_or behind k 0)) → z ≡ take count lanes ++ drop count behind
-firsts_are n count lanes behind z p q few h =
-    let front : length (take count lanes) ≡ count = length-take-le count lanes (omega arith) in
-    same_number_lists z (take count lanes ++ drop count behind) (omega (arith, h.long, length-append (take count lanes) (drop count behind), length-drop count behind)) (λ k l.
+pub firsts_are : (n count : ℕ) (lanes following z : List ℕ) → length lanes ≡ n → length following ≡ n → count ≤ n
+    → HasLanes n z (λ k. cond (ltb k count) (get_or lanes k 0) (get_or following k 0)) → z ≡ take count lanes ++ drop count following
+firsts_are n count lanes following z p q few h =
+    let prefix : length (take count lanes) ≡ count = length-take-le count lanes (omega arith) in
+    same_number_lists z (take count lanes ++ drop count following) (omega (arith, h.long, length-append (take count lanes) (drop count following), length-drop count following)) (λ k l.
     let within : k < n = omega (arith, h.long) in
     h.each k within ∙ elim (cases_lt k count) [
-      | inl a ↦ cond-true _ _ _ (lt-ltb k count a) ∙ sym (get_or_append_left (take count lanes) (drop count behind) 0 k (omega arith) ∙ get_or-take count lanes k 0 a)
+      | inl a ↦ cond-true _ _ _ (lt-ltb k count a) ∙ sym (get_or_append_left (take count lanes) (drop count following) 0 k (omega arith) ∙ get_or-take count lanes k 0 a)
       | inr b ↦
           let back : count + (k - count) ≡ k = omega arith in
-          cond-false _ _ _ (le-ltb k count b) ∙ sym (get_or-append_right (take count lanes) (drop count behind) count k 0 front b ∙ get_or-drop count behind (k - count) 0 ∙ ap (λ j. get_or behind j 0) back)
+          cond-false _ _ _ (le-ltb k count b) ∙ sym (get_or-append_right (take count lanes) (drop count following) count k 0 prefix b ∙ get_or-drop count following (k - count) 0 ∙ ap (λ j. get_or following j 0) back)
     ])
 
 pub put_firsts : (at n count : ℕ) (xs lanes z : List ℕ) → at + n ≤ length xs → length lanes ≡ n → count ≤ n
     → HasLanes n z (λ k. cond (ltb k count) (get_or lanes k 0) (get_or (chunk at n xs) k 0)) → put_chunk at xs z ≡ take at xs ++ (take count lanes ++ drop (at + count) xs)
 put_firsts at n count xs lanes z room p few h =
     let long = length-chunk at n xs room in
-    let behind = chunk at n xs in
-    let is = firsts_are n count lanes behind z p long few h in
-    let rest : drop count behind ++ drop (at + n) xs ≡ drop (at + count) xs =
-    sym (drop-append-le count behind (drop (at + n) xs) (omega arith)) ∙ ap (drop count) (sym (chunk-drop at n xs)) ∙ drop-drop count at xs in
-    put_is at n xs z h.long room ∙ ap (λ ys. take at xs ++ (ys ++ drop (at + n) xs)) is ∙ ap (λ ys. take at xs ++ ys) (append_assoc (take count lanes) (drop count behind) (drop (at + n) xs) ∙ ap (λ ys. take count lanes ++ ys) rest)
+    let following = chunk at n xs in
+    let is = firsts_are n count lanes following z p long few h in
+    let rest : drop count following ++ drop (at + n) xs ≡ drop (at + count) xs =
+    sym (drop-append-le count following (drop (at + n) xs) (omega arith)) ∙ ap (drop count) (sym (chunk-drop at n xs)) ∙ drop-drop count at xs in
+    put_is at n xs z h.long room ∙ ap (λ ys. take at xs ++ (ys ++ drop (at + n) xs)) is ∙ ap (λ ys. take at xs ++ ys) (append_assoc (take count lanes) (drop count following) (drop (at + n) xs) ∙ ap (λ ys. take count lanes ++ ys) rest)

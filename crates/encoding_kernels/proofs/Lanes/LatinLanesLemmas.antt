@@ -77,8 +77,8 @@ module _ (v : List ℕ) (long : length v ≡ 16) (others : ℕ) (is : others ≡
   latin_spelled low high first second count more p q kept keeps =
       let low_long : length (take 8 v) ≡ 8 = length-take-le 8 v (omega (arith, long)) in
       let high_long : length (drop 8 v) ≡ 8 = omega (arith, long, length-drop 8 v) in
-      let front = kept (map (nat_le 0x80) (take 8 v)) (length-map (take 8 v) (nat_le 0x80) ∙ low_long) low_others
+      let prefix = kept (map (nat_le 0x80) (take 8 v)) (length-map (take 8 v) (nat_le 0x80) ∙ low_long) low_others
       ∙ spelled_short (take 8 v) low low_long (λ k l. subst (λ b. EncodesTo b (get_or low (2 * k) 0) (get_or low (2 * k + 1) 0)) (sym (get_or-take 8 v k 0 l)) (p k l)) in
       let back = keeps (map (nat_le 0x80) (drop 8 v)) (length-map (drop 8 v) (nat_le 0x80) ∙ high_long) high_others
       ∙ spelled_short (drop 8 v) high high_long (λ k l. subst (λ b. EncodesTo b (get_or high (2 * k) 0) (get_or high (2 * k + 1) 0)) (sym (get_or-drop 8 v k 0)) (q k l)) in
-      (λ i. front i ++ back i) ∙ sym (encodes-append (take 8 v) (drop 8 v)) ∙ ap encode_utf8_all (take-append-drop 8 v)
+      (λ i. prefix i ++ back i) ∙ sym (encodes-append (take 8 v) (drop 8 v)) ∙ ap encode_utf8_all (take-append-drop 8 v)

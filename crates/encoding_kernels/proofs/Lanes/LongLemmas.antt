@@ -103,12 +103,12 @@ long_spelled us long fit high =
 pub two_puts : (at n m : ℕ) (xs first second : List ℕ) → at + (n + m) ≤ length xs → length first ≡ n → length second ≡ m
     → put_chunk (at + n) (put_chunk at xs first) second ≡ take at xs ++ ((first ++ second) ++ drop (at + (n + m)) xs)
 two_puts at n m xs first second room p q =
-    let front : length (take at xs ++ first) ≡ at + n = omega (arith, length-append (take at xs) first, length-take-le at xs (omega arith)) in
+    let prefix : length (take at xs ++ first) ≡ at + n = omega (arith, length-append (take at xs) first, length-take-le at xs (omega arith)) in
     let once : put_chunk at xs first ≡ (take at xs ++ first) ++ drop (at + n) xs = put_is at n xs first p (omega arith) ∙ sym (append_assoc (take at xs) first (drop (at + n) xs)) in
     let place : at + n + m ≡ at + (n + m) = omega arith in
     put_is (at + n) m (put_chunk at xs first) second q (omega (arith, length-put_chunk at xs first))
     ∙ (λ i. take (at + n) (once i) ++ (second ++ drop (at + n + m) (once i)))
-    ∙ (λ i. take_at (take at xs ++ first) (drop (at + n) xs) (at + n) front i
-    ++ (second ++ (sym (drop-drop m (at + n) ((take at xs ++ first) ++ drop (at + n) xs)) ∙ ap (drop m) (drop_at (take at xs ++ first) (drop (at + n) xs) (at + n) front) ∙ drop-drop m (at + n) xs ∙ ap (λ k. drop k xs) place) i))
+    ∙ (λ i. take_at (take at xs ++ first) (drop (at + n) xs) (at + n) prefix i
+    ++ (second ++ (sym (drop-drop m (at + n) ((take at xs ++ first) ++ drop (at + n) xs)) ∙ ap (drop m) (drop_at (take at xs ++ first) (drop (at + n) xs) (at + n) prefix) ∙ drop-drop m (at + n) xs ∙ ap (λ k. drop k xs) place) i))
     ∙ append_assoc (take at xs) first (second ++ drop (at + (n + m)) xs)
     ∙ ap (λ ys. take at xs ++ ys) (sym (append_assoc first second (drop (at + (n + m)) xs)))

@@ -33,5 +33,5 @@ module _ (n : ℕ) (units : List ℕ) (long : length units ≡ n) where
   lower_same count few small =
       let short = length-take-le count lower (omega (arith, lower_lanes.long)) in
       ap (take count) (map-id lower) ∙ same_number_lists (take count lower) (take count units) (omega (arith, short, length-take-le count units (omega (arith, long)))) (λ k l.
-      let in_front : k < count = omega (arith, short) in
-      get_or-take count lower k 0 in_front ∙ rw (get_or-take count units k 0 in_front) (omega (arith, lower_lanes.each k (omega arith), small k in_front)))
+      let in_prefix : k < count = omega (arith, short) in
+      get_or-take count lower k 0 in_prefix ∙ rw (get_or-take count units k 0 in_prefix) (omega (arith, lower_lanes.each k (omega arith), small k in_prefix)))

@@ -5,7 +5,7 @@ use Rattle.std.specs.Simd.Lanes.{mask_l, number_l, digits_l}
 use lib.Dec.{ltb}
 use Rattle.encoding_kernels.specs.EncodeLanes.{kept_places, last_places}
 use Rattle.encoding_kernels.specs.declared.compress_pairs.TheConstants.{PLACES}
-use Rattle.encoding_kernels.specs.declared.compress_last.TheConstants.{LAST}
+use Rattle.encoding_kernels.specs.declared.compress_last.TheConstants.{LAST_BYTES_TABLE}
 
 -- the sixteen indices of a mask
 abbrev pub row : List ℕ → ℕ → List ℕ
@@ -67,7 +67,7 @@ pub record IsTable (table : List ℕ) (kept : List Bool → List ℕ) : Type 0 w
 pub kept_table : IsTable PLACES (kept_places 0)
 kept_table = record { keeps = refl; small = refl }
 
-pub last_table : IsTable LAST (last_places 0)
+pub last_table : IsTable LAST_BYTES_TABLE (last_places 0)
 last_table = record { keeps = refl; small = refl }
 
 -- ---- four words of a table

@@ -14,7 +14,7 @@ use Rattle.std.specs.List.{range_with_len}
 use lib.Count.{count_trailing_zeros}
 use Rattle.std.specs.Simd.Lanes.{mask_l, number_l, digits_l, pick_l, zip2, sel_l, top, Each1}
 use Rattle.encoding_kernels.specs.Lanes.{HasLanes}
-use Rattle.encoding_kernels.specs.EncodeLanes.{last_places, classes, EncodesLast}
+use Rattle.encoding_kernels.specs.EncodeLanes.{last_places, length_classes, EncodesLast}
 use Rattle.encoding_kernels.proofs.Lanes.CompressLemmas.{mask_append}
 use Rattle.encoding_kernels.proofs.Lanes.LaneLemmas.{HasLanes-itself, HasLanes-numbers, HasLanes-same, HasLanes-splat, HasLanes-zip2, compared, firsts_are, mask_of, same_below}
 use Rattle.encoding_kernels.proofs.Lanes.TestLemmas.{HasTests, tests_of, chosen, chosen_by, none_passes, run_is_first}
@@ -66,27 +66,27 @@ zeros_spelled n us = encodes-append (take n us) (drop n (replicate 8 0)) ∙ ap 
     ]
 
 -- ---- the classes
-pub classes_long : (us : List ℕ) → length (classes us) ≡ 2 * length us
+pub classes_long : (us : List ℕ) → length (length_classes us) ≡ 2 * length us
 classes_long [] = refl
 classes_long (u ∷ us) = omega (arith, classes_long us)
 
-classes-append : (us vs : List ℕ) → classes (us ++ vs) ≡ classes us ++ classes vs
-classes-append [] vs = refl
-classes-append (u ∷ us) vs = ap (λ bs. nat_lt u 0x80 ∷ nat_lt u 0x800 ∷ bs) (classes-append us vs)
+length_classes-append : (us vs : List ℕ) → length_classes (us ++ vs) ≡ length_classes us ++ length_classes vs
+length_classes-append [] vs = refl
+length_classes-append (u ∷ us) vs = ap (λ bs. nat_lt u 0x80 ∷ nat_lt u 0x800 ∷ bs) (length_classes-append us vs)
 
 ascii_short : (u : ℕ) → nat_lt u 0x80 ≡ true → nat_lt u 0x800 ≡ true
 ascii_short u e = lt-ltb u 0x800 (let l = ltb-true u 0x80 e in omega arith)
 
 -- the masks of the first four and of the others
-pub both_masks : (us : List ℕ) (mask : ℕ) → length us ≡ 8 → mask ≡ mask_l (classes us)
-    → (bit_and mask 0xFF ≡ mask_l (classes (take 4 us))) × (mask / 2 ^ 8 ≡ mask_l (classes (drop 4 us)))
+pub both_masks : (us : List ℕ) (mask : ℕ) → length us ≡ 8 → mask ≡ mask_l (length_classes us)
+    → (bit_and mask 0xFF ≡ mask_l (length_classes (take 4 us))) × (mask / 2 ^ 8 ≡ mask_l (length_classes (drop 4 us)))
 both_masks us mask long e =
-    let front = classes (take 4 us) in
-    let eight : length front ≡ 8 = omega (arith, classes_long (take 4 us), length-take-le 4 us (omega arith)) in
-    let split : mask_l (classes us) ≡ mask_l (classes (drop 4 us)) * 2 ^ length front + mask_l front =
-    ap (λ xs. mask_l (classes xs)) (sym (take-append-drop 4 us)) ∙ ap mask_l (classes-append (take 4 us) (drop 4 us)) ∙ mask_append front (classes (drop 4 us)) in
-    let whole : mask ≡ mask_l (classes (drop 4 us)) * 2 ^ 8 + mask_l front = e ∙ split ∙ ap (λ n. mask_l (classes (drop 4 us)) * 2 ^ n + mask_l front) eight in
-    let small : mask_l front < 2 ^ 8 = subst (λ n. mask_l front < 2 ^ n) eight (mask_l-lt front) in
+    let prefix = length_classes (take 4 us) in
+    let eight : length prefix ≡ 8 = omega (arith, classes_long (take 4 us), length-take-le 4 us (omega arith)) in
+    let split : mask_l (length_classes us) ≡ mask_l (length_classes (drop 4 us)) * 2 ^ length prefix + mask_l prefix =
+    ap (λ xs. mask_l (length_classes xs)) (sym (take-append-drop 4 us)) ∙ ap mask_l (length_classes-append (take 4 us) (drop 4 us)) ∙ mask_append prefix (length_classes (drop 4 us)) in
+    let whole : mask ≡ mask_l (length_classes (drop 4 us)) * 2 ^ 8 + mask_l prefix = e ∙ split ∙ ap (λ n. mask_l (length_classes (drop 4 us)) * 2 ^ n + mask_l prefix) eight in
+    let small : mask_l prefix < 2 ^ 8 = subst (λ n. mask_l prefix < 2 ^ n) eight (mask_l-lt prefix) in
     let low : bit_and mask 0xFF ≡ mask % 2 ^ 8 = and_mask mask 8 in
     (omega (arith, low, whole, small), omega (arith, whole, small))
 
@@ -99,10 +99,10 @@ long_step : (at : ℕ) (a s : Bool) (bs : List Bool) (n : ℕ) → (a ≡ true �
     → length (last_places at (a ∷ s ∷ bs)) + count_ones (mask_l (a ∷ s ∷ bs)) ≡ 3 + n
 long_step at a s bs n v e = grind (arith, nat_tests, v, e, ones-mask_l_cons a (s ∷ bs), ones-mask_l_cons s bs)
 
-last_long : (at : ℕ) (us : List ℕ) → length (last_places at (classes us)) + count_ones (mask_l (classes us)) ≡ 3 * length us
+last_long : (at : ℕ) (us : List ℕ) → length (last_places at (length_classes us)) + count_ones (mask_l (length_classes us)) ≡ 3 * length us
 last_long at [] = omega (arith, ones-none)
 last_long at (u ∷ us) =
-    let step = long_step at (nat_lt u 0x80) (nat_lt u 0x800) (classes us) (3 * length us) (ascii_short u) (last_long (at + 4) us) in
+    let step = long_step at (nat_lt u 0x80) (nat_lt u 0x800) (length_classes us) (3 * length us) (ascii_short u) (last_long (at + 4) us) in
     let count : 3 + 3 * length us ≡ 3 * suc (length us) = omega arith in
     step ∙ count
 
@@ -115,7 +115,7 @@ last_step get at false true ks spelled rest e r = ap (λ xs. get (at + 2) ∷ ge
 last_step get at false false ks spelled rest e r = ap (λ xs. get (at + 1) ∷ get (at + 2) ∷ get (at + 3) ∷ xs) r ∙ ap (λ xs. xs ++ rest) e
 
 last_spell : (get : ℕ → ℕ) (us : List ℕ) (at : ℕ) → ((k : ℕ) → k < length us → EncodesLast (get_or us k 0) (get (at + 4 * k + 1)) (get (at + 4 * k + 2)) (get (at + 4 * k + 3)))
-    → map get (last_places at (classes us)) ≡ encode_utf8_all us
+    → map get (last_places at (length_classes us)) ≡ encode_utf8_all us
 last_spell get [] at h = refl
 last_spell get (u ∷ us) at h =
     let first : at + 4 * 0 ≡ at = omega arith in
@@ -125,12 +125,12 @@ last_spell get (u ∷ us) at h =
     subst (λ j. EncodesLast (get_or us k 0) (get (j + 1)) (get (j + 2)) (get (j + 3))) e (h (suc k) (omega arith)) in
     last_step get at (nat_lt u 0x80) (nat_lt u 0x800) _ _ _ here (last_spell get us (at + 4) more)
 
-pub spelled_four : (us bytes places : List ℕ) (mask : ℕ) → length us ≡ 4 → length places ≡ 16 → ((k : ℕ) → k < 16 → get_or places k 0 < 16) → mask ≡ mask_l (classes us)
-    → take (length (last_places 0 (classes us))) places ≡ last_places 0 (classes us)
+pub spelled_four : (us bytes places : List ℕ) (mask : ℕ) → length us ≡ 4 → length places ≡ 16 → ((k : ℕ) → k < 16 → get_or places k 0 < 16) → mask ≡ mask_l (length_classes us)
+    → take (length (last_places 0 (length_classes us))) places ≡ last_places 0 (length_classes us)
     → ((k : ℕ) → k < 4 → EncodesLast (get_or us k 0) (get_or bytes (4 * k + 1) 0) (get_or bytes (4 * k + 2) 0) (get_or bytes (4 * k + 3) 0))
     → take (12 - count_ones mask) (swz_l w8 16 bytes 0 places) ≡ encode_utf8_all us
 spelled_four us bytes places mask l long small m kept spells =
-    let places_of = last_places 0 (classes us) in
+    let places_of = last_places 0 (length_classes us) in
     let count : 12 - count_ones mask ≡ length places_of = omega (arith, last_long 0 us, ap count_ones m) in
     let get : ℕ → ℕ = λ j. get_or bytes j 0 in
     ap (λ n. take n (swz_l w8 16 bytes 0 places)) count ∙ ap (take (length places_of)) (looked_up bytes places long small)
@@ -151,7 +151,7 @@ class_bytes a s v = (grind (arith, nat_tests, v), grind (arith, nat_tests, v))
 
 class_list : (us bs : List ℕ) → length bs ≡ 2 * length us
     → ((k : ℕ) → k < length us → (leb 0x80 (get_or bs (2 * k) 0) ≡ nat_lt (get_or us k 0) 0x80) × (leb 0x80 (get_or bs (2 * k + 1) 0) ≡ nat_lt (get_or us k 0) 0x800))
-    → map (leb 0x80) bs ≡ classes us
+    → map (leb 0x80) bs ≡ length_classes us
 class_list [] [] e h = refl
 class_list [] (b ∷ bs) e h = absurd (omega arith)
 class_list (u ∷ us) [] e h = absurd (omega arith)
@@ -168,7 +168,7 @@ class_list (u ∷ us) (a ∷ b ∷ bs) e h =
 class_small : (u : ℕ) → class_word u < 65536
 class_small u = pick (ltb u 0x80) 0xFFFF _ (omega arith) (pick (ltb u 0x800) 0xFF00 0 (omega arith) (omega arith))
 
-pub classes_are : (us words : List ℕ) → length us ≡ 8 → HasLanes 8 words (λ k. class_word (get_or us k 0)) → map (leb 0x80) (digits_l 256 16 (number_l 65536 words)) ≡ classes us
+pub classes_are : (us words : List ℕ) → length us ≡ 8 → HasLanes 8 words (λ k. class_word (get_or us k 0)) → map (leb 0x80) (digits_l 256 16 (number_l 65536 words)) ≡ length_classes us
 classes_are us words long lanes =
     let sixteen : length (bytes_of words) ≡ 2 * length us = omega (arith, long) in
     class_list us (bytes_of words) sixteen (λ k l.
@@ -179,7 +179,7 @@ classes_are us words long lanes =
 
 -- the mask of its bytes
 pub mask_is_classes : (us words : List ℕ) → length us ≡ 8 → HasLanes 8 words (λ k. class_word (get_or us k 0))
-    → mask_of 7 (zip2 (compared w8 leb) (replicate 16 0x80) (digits_l 256 16 (number_l 65536 words))) ≡ mask_l (classes us)
+    → mask_of 7 (zip2 (compared w8 leb) (replicate 16 0x80) (digits_l 256 16 (number_l 65536 words))) ≡ mask_l (length_classes us)
 mask_is_classes us words long lanes = mask_from w8 16 0x80 (digits_l 256 16 (number_l 65536 words)) refl (omega arith) ∙ ap mask_l (classes_are us words long lanes)
 
 -- ---- two words of a code unit

@@ -19,9 +19,9 @@ pub put_same_place : {X : Type 0} (at n : ℕ) (xs ys : List X) → at + n ≤ l
 put_same_place at n xs ys within room = ap (put_chunk at xs) (map-id (chunk at n ys)) ∙ put_is at n xs (chunk at n ys) (length-chunk at n ys within) room
 
 -- a stored vector whose first lanes count: the list before their end, and from a vector's width after it
-pub put_front : (w : ℕ) (xs ys : List ℕ) (at n : ℕ) → length ys ≡ w → n ≤ w → at + w ≤ length xs
+pub put_prefix : (w : ℕ) (xs ys : List ℕ) (at n : ℕ) → length ys ≡ w → n ≤ w → at + w ≤ length xs
     → (take (at + n) (put_chunk at xs ys) ≡ take at xs ++ take n ys) × (drop (at + n + w) (put_chunk at xs ys) ≡ drop (at + n + w) xs)
-put_front w xs ys at n long few room =
+put_prefix w xs ys at n long few room =
     let is : put_chunk at xs ys ≡ take at xs ++ (ys ++ drop (at + w) xs) = put_is at w xs ys long room in
     let start : length (take at xs) ≡ at = length-take-le at xs (omega arith) in
     let both : length (take at xs ++ ys) ≡ at + w = omega (arith, length-append (take at xs) ys) in (

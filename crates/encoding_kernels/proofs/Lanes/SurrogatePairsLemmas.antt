@@ -13,15 +13,15 @@ use Rattle.std.specs.Simd.Lanes.{chunk, pick_l}
 use Rattle.encoding_definitions.specs.Utf16.{IsHighSurrogate, IsLowSurrogate}
 use Rattle.encoding_kernels.specs.Lanes.{HasLanes}
 use Rattle.encoding_kernels.specs.EncodeLanes.{kept_places}
-use Rattle.encoding_kernels.specs.SurrogatePairs.{IsShortOrHalf, AreShortOrPaired, EncodesHalf, half_bytes, joined, halves_from}
+use Rattle.encoding_kernels.specs.SurrogatePairs.{IsTwoByteOrHalf, AreTwoByteOrPaired, EncodesHalf, half_bytes, concatenated, halves_from}
 use Rattle.encoding_kernels.proofs.Lanes.WordLemmas.{bytes_of, bytes_lanes}
 use Rattle.encoding_kernels.proofs.Lanes.EncodeLanesLemmas.{both, EncodesTo-word, kept_step}
 
 -- ---- concatenation
-pub joined-same : (f g : ℕ → List ℕ) (i j n : ℕ) → ((k : ℕ) → k < n → f (i + k) ≡ g (j + k)) → joined f i n ≡ joined g j n
-unfolding joined
-joined-same f g i j zero h = refl
-joined-same f g i j (suc n) h =
+pub concatenated-same : (f g : ℕ → List ℕ) (i j n : ℕ) → ((k : ℕ) → k < n → f (i + k) ≡ g (j + k)) → concatenated f i n ≡ concatenated g j n
+unfolding concatenated
+concatenated-same f g i j zero h = refl
+concatenated-same f g i j (suc n) h =
     let first : i + 0 ≡ i = omega arith in
     let other : j + 0 ≡ j = omega arith in
     let here : f i ≡ g j = ap f (sym first) ∙ h 0 (omega arith) ∙ ap g other in
@@ -29,39 +29,39 @@ joined-same f g i j (suc n) h =
     let from : i + 1 + k ≡ i + suc k = omega arith in
     let to : j + suc k ≡ j + 1 + k = omega arith in
     ap f from ∙ h (suc k) (omega arith) ∙ ap g to in
-    (λ x. here x ++ joined-same f g (i + 1) (j + 1) n more x)
+    (λ x. here x ++ concatenated-same f g (i + 1) (j + 1) n more x)
 
-pub joined-append : (f : ℕ → List ℕ) (i n m : ℕ) → joined f i (n + m) ≡ joined f i n ++ joined f (i + n) m
-unfolding joined
-joined-append f i zero m =
+pub concatenated-append : (f : ℕ → List ℕ) (i n m : ℕ) → concatenated f i (n + m) ≡ concatenated f i n ++ concatenated f (i + n) m
+unfolding concatenated
+concatenated-append f i zero m =
     let none : 0 + m ≡ m = omega arith in
     let start : i ≡ i + 0 = omega arith in
-    ap (joined f i) none ∙ ap (λ j. joined f j m) start
-joined-append f i (suc n) m =
+    ap (concatenated f i) none ∙ ap (λ j. concatenated f j m) start
+concatenated-append f i (suc n) m =
     let count : suc n + m ≡ suc (n + m) = omega arith in
     let place : i + 1 + n ≡ i + suc n = omega arith in
-    ap (joined f i) count ∙ ap (λ xs. f i ++ xs) (joined-append f (i + 1) n m ∙ ap (λ j. joined f (i + 1) n ++ joined f j m) place)
-    ∙ sym (append_assoc (f i) (joined f (i + 1) n) (joined f (i + suc n) m))
+    ap (concatenated f i) count ∙ ap (λ xs. f i ++ xs) (concatenated-append f (i + 1) n m ∙ ap (λ j. concatenated f (i + 1) n ++ concatenated f j m) place)
+    ∙ sym (append_assoc (f i) (concatenated f (i + 1) n) (concatenated f (i + suc n) m))
 
-joined_one : (f : ℕ → List ℕ) (i : ℕ) → joined f i 1 ≡ f i
-unfolding joined
+joined_one : (f : ℕ → List ℕ) (i : ℕ) → concatenated f i 1 ≡ f i
+unfolding concatenated
 joined_one f i = append-nil (f i)
 
 -- without the two bytes of the last
-pub joined_before_last : (f : ℕ → List ℕ) (i n count : ℕ) (bytes : List ℕ) → take count bytes ≡ joined f i (n + 1) → count ≤ length bytes → length (f (i + n)) ≡ 2
-    → take (count - 2) bytes ≡ joined f i n
+pub joined_before_last : (f : ℕ → List ℕ) (i n count : ℕ) (bytes : List ℕ) → take count bytes ≡ concatenated f i (n + 1) → count ≤ length bytes → length (f (i + n)) ≡ 2
+    → take (count - 2) bytes ≡ concatenated f i n
 joined_before_last f i n count bytes e fits two =
-    let front = joined f i n in
-    let whole : take count bytes ≡ front ++ f (i + n) = e ∙ joined-append f i n 1 ∙ ap (λ xs. front ++ xs) (joined_one f (i + n)) in
-    let long : length front ≡ count - 2 = omega (arith, ap length whole, length-append front (f (i + n)), two, length-take-le count bytes fits) in
-    ap (take (count - 2)) (sym (take-append-drop count bytes) ∙ ap (λ xs. xs ++ drop count bytes) whole ∙ append_assoc front (f (i + n)) (drop count bytes))
-    ∙ take_at front (f (i + n) ++ drop count bytes) (count - 2) long
+    let prefix = concatenated f i n in
+    let whole : take count bytes ≡ prefix ++ f (i + n) = e ∙ concatenated-append f i n 1 ∙ ap (λ xs. prefix ++ xs) (joined_one f (i + n)) in
+    let long : length prefix ≡ count - 2 = omega (arith, ap length whole, length-append prefix (f (i + n)), two, length-take-le count bytes fits) in
+    ap (take (count - 2)) (sym (take-append-drop count bytes) ∙ ap (λ xs. xs ++ drop count bytes) whole ∙ append_assoc prefix (f (i + n)) (drop count bytes))
+    ∙ take_at prefix (f (i + n) ++ drop count bytes) (count - 2) long
 
 -- ---- the bytes at the kept indices
 pub kept_join : (get : ℕ → ℕ) (f : ℕ → List ℕ) (us : List ℕ) (at i : ℕ)
     → ((k : ℕ) → k < length us → cond (nat_le 0x80 (get_or us k 0)) (get (at + 2 * k) ∷ get (at + 2 * k + 1) ∷ []) (get (at + 2 * k) ∷ []) ≡ f (i + k))
-    → map get (kept_places at (map (nat_le 0x80) us)) ≡ joined f i (length us)
-unfolding joined
+    → map get (kept_places at (map (nat_le 0x80) us)) ≡ concatenated f i (length us)
+unfolding concatenated
 kept_join get f [] at i h = refl
 kept_join get f (u ∷ us) at i h =
     let first : at + 2 * 0 ≡ at = omega arith in
@@ -75,14 +75,14 @@ kept_join get f (u ∷ us) at i h =
     kept_step get at (nat_le 0x80 u) _ _ _ here (kept_join get f us (at + 2) (i + 1) more)
 
 pub spelled_halves : (us ps bytes : List ℕ) → length us ≡ 8 → ((k : ℕ) → k < 8 → EncodesHalf (get_or ps k 0) (get_or us k 0) (get_or bytes (2 * k) 0) (get_or bytes (2 * k + 1) 0))
-    → map (λ j. get_or bytes j 0) (kept_places 0 (map (nat_le 0x80) us)) ≡ joined (λ k. half_bytes (get_or ps k 0) (get_or us k 0)) 0 8
+    → map (λ j. get_or bytes j 0) (kept_places 0 (map (nat_le 0x80) us)) ≡ concatenated (λ k. half_bytes (get_or ps k 0) (get_or us k 0)) 0 8
 spelled_halves us ps bytes l spells =
     let f : ℕ → List ℕ = λ k. half_bytes (get_or ps k 0) (get_or us k 0) in
     kept_join (λ j. get_or bytes j 0) f us 0 0 (λ k i.
     let e : 2 * k ≡ 0 + 2 * k = omega arith in
     let place : k ≡ 0 + k = omega arith in
     subst (λ j. cond (nat_le 0x80 (get_or us k 0)) (get_or bytes j 0 ∷ get_or bytes (j + 1) 0 ∷ []) (get_or bytes j 0 ∷ []) ≡ f (0 + k)) e (spells k (omega arith) ∙ ap f place))
-    ∙ ap (joined f 0) l
+    ∙ ap (concatenated f 0) l
 
 -- ---- both bytes of a half, in one number
 abbrev pub high_word : ℕ → ℕ
@@ -106,16 +106,16 @@ low_is p u =
     let last : bit_and u 0x3F ≡ u % 2 ^ 6 = and_mask u 6 in
     (omega arith, omega arith)
 
-pub EncodesTo-half : (p u : ℕ) → IsShortOrHalf u → EncodesHalf p u (half_word p u % 256) (half_word p u / 256)
+pub EncodesTo-half : (p u : ℕ) → IsTwoByteOrHalf u → EncodesHalf p u (half_word p u % 256) (half_word p u / 256)
 EncodesTo-half p u (inl l) = grind (arith, nat_tests, EncodesTo-word u l)
 EncodesTo-half p u (inr (l, h)) = let low = low_is p u in grind (arith, nat_tests, high_is u l, low)
 
-half_small : (p u : ℕ) → IsShortOrHalf u → half_word p u < 65536
+half_small : (p u : ℕ) → IsTwoByteOrHalf u → half_word p u < 65536
 half_small p u h =
     let small : u < 65536 = elim h [ inl l ↦ omega arith | inr r ↦ omega (arith, r.1) ] in
     grind (arith, nat_tests)
 
-pub halves_spell : (us ps words : List ℕ) (k : ℕ) → HasLanes 8 words (λ i. half_word (get_or ps i 0) (get_or us i 0)) → ((i : ℕ) → i < 8 → IsShortOrHalf (get_or us i 0)) → k < 8
+pub halves_spell : (us ps words : List ℕ) (k : ℕ) → HasLanes 8 words (λ i. half_word (get_or ps i 0) (get_or us i 0)) → ((i : ℕ) → i < 8 → IsTwoByteOrHalf (get_or us i 0)) → k < 8
     → EncodesHalf (get_or ps k 0) (get_or us k 0) (get_or (bytes_of words) (2 * k) 0) (get_or (bytes_of words) (2 * k + 1) 0)
 halves_spell us ps words k lanes each l =
     let p = get_or ps k 0 in
@@ -124,7 +124,7 @@ halves_spell us ps words k lanes each l =
     subst (λ x. EncodesHalf p u x (get_or (bytes_of words) (2 * k + 1) 0)) (sym bytes.0) (subst (λ y. EncodesHalf p u (half_word p u % 256) y) (sym bytes.1) (EncodesTo-half p u (each k l)))
 
 -- ---- two vectors of eight
-half_before : (p q u : ℕ) → IsShortOrHalf u → (IsLowSurrogate u → ⊥) → half_bytes p u ≡ half_bytes q u
+half_before : (p q u : ℕ) → IsTwoByteOrHalf u → (IsLowSurrogate u → ⊥) → half_bytes p u ≡ half_bytes q u
 half_before p q u h n =
     let first : u < 0xDC00 = elim (cases_lt u 0xDC00) [ inl l ↦ l | inr l ↦ elim h [ inl m ↦ omega arith | inr m ↦ absurd (n (l, m.1)) ] ] in
     grind (arith, nat_tests)
@@ -142,7 +142,7 @@ moved_lane xs j long l =
     ap (λ ys. get_or ys (suc j) 0) (pick_l_left 0 xs xs 8 (0 ∷ 0 ∷ 1 ∷ 2 ∷ 3 ∷ 4 ∷ 5 ∷ 6 ∷ []) long tt)
     ∙ get_or-map (λ k. get_or xs k 0) (range_with_len 0 7) j 0 0 l ∙ ap (λ k. get_or xs k 0) (get_or-range_with_len 0 7 j 0 l ∙ place)
 
-module _ (us : List ℕ) (at : ℕ) (room : at + 16 ≤ length us) (p : AreShortOrPaired us at 16) where
+module _ (us : List ℕ) (at : ℕ) (room : at + 16 ≤ length us) (p : AreTwoByteOrPaired us at 16) where
   abbrev half_at : ℕ → List ℕ
   half_at k = half_bytes (get_or us (k - 1) 0) (get_or us k 0)
 
@@ -173,17 +173,17 @@ module _ (us : List ℕ) (at : ℕ) (room : at + 16 ≤ length us) (p : AreShort
       let here : get_or (chunk (at + 8) 8 us) k 0 ≡ get_or us (at + 8 + k) 0 = get_or-chunk (at + 8) 8 us k 0 l in
       (λ i. half_bytes (before i) (here i))
 
-  first_joined : joined first_half 0 8 ≡ halves_from us at 8
-  first_joined = joined-same first_half half_at 0 at 8 (λ k l. let e : 0 + k ≡ k = omega arith in ap first_half e ∙ first_lane k l)
+  first_joined : concatenated first_half 0 8 ≡ halves_from us at 8
+  first_joined = concatenated-same first_half half_at 0 at 8 (λ k l. let e : 0 + k ≡ k = omega arith in ap first_half e ∙ first_lane k l)
 
-  second_joined : (n : ℕ) → n ≤ 8 → joined second_half 0 n ≡ halves_from us (at + 8) n
-  second_joined n few = joined-same second_half half_at 0 (at + 8) n (λ k l. let e : 0 + k ≡ k = omega arith in ap second_half e ∙ second_lane k (omega arith))
+  second_joined : (n : ℕ) → n ≤ 8 → concatenated second_half 0 n ≡ halves_from us (at + 8) n
+  second_joined n few = concatenated-same second_half half_at 0 (at + 8) n (λ k l. let e : 0 + k ≡ k = omega arith in ap second_half e ∙ second_lane k (omega arith))
 
-  joined_halves : (n : ℕ) (first second : List ℕ) → n ≤ 8 → first ≡ joined first_half 0 8 → second ≡ joined second_half 0 n → first ++ second ≡ halves_from us at (8 + n)
-  joined_halves n first second few e f = (λ i. (e ∙ first_joined) i ++ (f ∙ second_joined n few) i) ∙ sym (joined-append half_at at 8 n)
+  joined_halves : (n : ℕ) (first second : List ℕ) → n ≤ 8 → first ≡ concatenated first_half 0 8 → second ≡ concatenated second_half 0 n → first ++ second ≡ halves_from us at (8 + n)
+  joined_halves n first second few e f = (λ i. (e ∙ first_joined) i ++ (f ∙ second_joined n few) i) ∙ sym (concatenated-append half_at at 8 n)
 
   pub both_halves : (cut count more : ℕ) (bytes other : List ℕ) → ((cut ≡ 1) × IsHighSurrogate (get_or us (at + 15) 0)) ⊎ ((cut ≡ 0) × (IsHighSurrogate (get_or us (at + 15) 0) → ⊥))
-      → take count bytes ≡ joined first_half 0 8 → take more other ≡ joined second_half 0 8 → more ≤ length other
+      → take count bytes ≡ concatenated first_half 0 8 → take more other ≡ concatenated second_half 0 8 → more ≤ length other
       → take count bytes ++ take (more - 2 * cut) other ≡ halves_from us at (16 - cut)
   both_halves cut count more bytes other (inl (e, h)) first second fits =
       let less : more - 2 * cut ≡ more - 2 = omega arith in
@@ -218,21 +218,21 @@ half_test x l h =
     let q = eqb-true _ _ h in
     (omega arith, omega arith)
 
-short_or_half : (x : ℕ) → x < 2 ^ 16 → (b : Bool) → leb 0x800 x ≡ b → eqb (bit_and x 0xF800) 0xD800 ≡ b → IsShortOrHalf x
-short_or_half x l true e f = inr (half_test x l f)
-short_or_half x l false e f = inl (leb-false _ _ e)
+two_byte_or_half : (x : ℕ) → x < 2 ^ 16 → (b : Bool) → leb 0x800 x ≡ b → eqb (bit_and x 0xF800) 0xD800 ≡ b → IsTwoByteOrHalf x
+two_byte_or_half x l true e f = inr (half_test x l f)
+two_byte_or_half x l false e f = inl (leb-false _ _ e)
 
 abbrev pub half_fault : ℕ → ℕ → Bool
 half_fault x y = cond (eqb (bit_and x 0xFC00) 0xD800) (not (eqb (bit_and y 0xFC00) 0xDC00)) (eqb (bit_and y 0xFC00) 0xDC00)
     || cond (leb 0x800 x) (not (eqb (bit_and x 0xF800) 0xD800)) (eqb (bit_and x 0xF800) 0xD800)
 
 pub halves_lanes : (us : List ℕ) (at : ℕ) → ((k : ℕ) → get_or us k 0 < 2 ^ 16) → (IsLowSurrogate (get_or us at 0) → ⊥)
-    → ((k : ℕ) → k < 16 → half_fault (get_or us (at + k) 0) (get_or us (at + 1 + k) 0) ≡ false) → AreShortOrPaired us at 16
+    → ((k : ℕ) → k < 16 → half_fault (get_or us (at + k) 0) (get_or us (at + 1 + k) 0) ≡ false) → AreTwoByteOrPaired us at 16
 halves_lanes us at fit whole none = record {
   each = λ k from to.
       let x = get_or us k 0 in
       let same = same_tests (leb 0x800 x) (eqb (bit_and x 0xF800) 0xD800) (or_parts _ _ (clean k from to)).1 in
-      short_or_half x (fit k) (eqb (bit_and x 0xF800) 0xD800) same refl;
+      two_byte_or_half x (fit k) (eqb (bit_and x 0xF800) 0xD800) same refl;
   whole = λ l. whole;
   paired = λ k from to.
       let same = same_tests _ _ (or_parts _ _ (clean k from (omega arith))).0 in

@@ -9,7 +9,7 @@ use Rattle.std.proofs.lemmas.Grind.{same_number_lists}
 use Rattle.std.proofs.lemmas.Nat.{and_mask}
 use Rattle.std.proofs.lemmas.List.{length-map, get_or-map, get_or_append_left, get_or-append_right}
 use Rattle.encoding_kernels.specs.Lanes.{HasLanes}
-use Rattle.encoding_kernels.specs.Units.{low_bits, unit_at, unit_lane, units_behind, upper_of}
+use Rattle.encoding_kernels.specs.Units.{low_bits, unit_at, unit_lane, units_after, upper_of}
 use Rattle.encoding_kernels.proofs.Lanes.LaneLemmas.{same_below}
 use Rattle.encoding_kernels.proofs.Lanes.WordLemmas.{wide, wide_l}
 use Rattle.encoding_kernels.proofs.Lanes.UnitLanesLemmas.{length-units, units_at}
@@ -90,7 +90,7 @@ module _ (lower upper : List ℕ) (p : length lower ≡ 16) (e : Each1 (Fits w8)
 -- ---- both halves
 pub halves : (v lower upper first last : List ℕ) → length v ≡ 16 → HasLanes 16 lower (λ k. unit_lane v k % 0x100) → HasLanes 16 upper (λ k. unit_lane v k / 0x100)
     → HasLanes 8 first (λ k. get_or lower k 0 + 0x100 * get_or upper k 0) → HasLanes 8 last (λ k. get_or lower (8 + k) 0 + 0x100 * get_or upper (8 + k) 0)
-    → (first ≡ take 8 (units_behind 0 0 0 v)) × (last ≡ drop 8 (units_behind 0 0 0 v))
+    → (first ≡ take 8 (units_after 0 0 0 v)) × (last ≡ drop 8 (units_after 0 0 0 v))
 halves v lower upper first last long low high h g = (
   same_number_lists first (take 8 us) (omega (arith, h.long, length-take-le 8 us (omega (arith, size)))) (λ k l.
       let in_8 : k < 8 = omega (arith, h.long) in h.each k in_8 ∙ whole k (omega arith) ∙ sym (get_or-take 8 us k 0 in_8)),
@@ -99,7 +99,7 @@ halves v lower upper first last long low high h g = (
 )
   where
     us : List ℕ
-    us = units_behind 0 0 0 v
+    us = units_after 0 0 0 v
 
     size : length us ≡ 16
     size = length-units 0 0 0 v ∙ long

@@ -48,15 +48,15 @@ module _ (First Second IsWhole : ℕ → Type 0) (us : List ℕ) (n : ℕ)
     last_is = ap (λ i. slice_index (0 ∷ us) i) {x = n} {y = n - 1 + 1} (omega arith) ∙ before_next us (n - 1)
 
     -- no first unit is left at the end
-    whole_front : (First (slice_index us (n - 1)) → ⊥) → IsWhole n
-    whole_front none = elim (walk n (omega arith)) [
+    whole_prefix : (First (slice_index us (n - 1)) → ⊥) → IsWhole n
+    whole_prefix none = elim (walk n (omega arith)) [
       | inl w ↦ w.0
       | inr w ↦ let at : w.0 ≡ n - 1 = omega (arith, w.1) in absurd (none (subst (λ i. First (slice_index us i)) at w.3))
     ]
 
     -- one is left
-    cut_front : First (slice_index us (n - 1)) → IsWhole (n - 1)
-    cut_front f = elim (walk n (omega arith)) [
+    cut_prefix : First (slice_index us (n - 1)) → IsWhole (n - 1)
+    cut_prefix f = elim (walk n (omega arith)) [
       | inl w ↦ absurd (w.1 (subst First (sym last_is) f))
       | inr w ↦ let at : w.0 ≡ n - 1 = omega (arith, w.1) in subst IsWhole at w.2
     ]
@@ -82,11 +82,11 @@ module _ (us : List ℕ) (n : ℕ) (within : n ≤ length us) (some : 0 < n) (un
   one_pair_more k l v h m = valid_more_two us k (omega arith) v (h.0, omega (arith, h.1), m.0, omega (arith, m.1))
 
   pub valid_whole : (IsHighSurrogate (slice_index us (n - 1)) → ⊥) → IsValidUtf16 (take n us)
-  valid_whole = whole_front IsHighSurrogate IsLowSurrogate IsValidTo us n (λ k l. p.each k (omega arith) l) high_decided (λ h. omega (arith, h.0)) (λ u h l. omega (arith, h.1, l.0))
+  valid_whole = whole_prefix IsHighSurrogate IsLowSurrogate IsValidTo us n (λ k l. p.each k (omega arith) l) high_decided (λ h. omega (arith, h.0)) (λ u h l. omega (arith, h.1, l.0))
       valid_none one_unit_more one_pair_more some
 
   pub valid_cut : IsHighSurrogate (slice_index us (n - 1)) → IsValidUtf16 (take (n - 1) us)
-  valid_cut = cut_front IsHighSurrogate IsLowSurrogate IsValidTo us n (λ k l. p.each k (omega arith) l) high_decided (λ h. omega (arith, h.0)) (λ u h l. omega (arith, h.1, l.0))
+  valid_cut = cut_prefix IsHighSurrogate IsLowSurrogate IsValidTo us n (λ k l. p.each k (omega arith) l) high_decided (λ h. omega (arith, h.0)) (λ u h l. omega (arith, h.1, l.0))
       valid_none one_unit_more one_pair_more some
 
 pub paired_joined : (us : List ℕ) (a b from to : ℕ) → PairUp us a b → PairUp us from to → from ≤ b → PairUp us a to
@@ -188,11 +188,11 @@ module _ (bs : List ℕ) (n : ℕ) (within : n ≤ length bs) (some : 0 < n) (p 
   two_bytes_more k l v h m = let fits = p.each k (omega arith) (omega arith) in latin1_more_two bs k (omega arith) v (fits.lead h) fits.low m.0 m.1
 
   pub latin1_whole : (IsLead (slice_index bs (n - 1)) → ⊥) → IsUtf8Latin1 (take n bs)
-  latin1_whole = whole_front IsLead IsContinuation IsLatin1To bs n (λ k l. (p.each k (omega arith) l).follows) lead_decided (λ h. omega arith) (λ b h l. omega (arith, h, l.1))
+  latin1_whole = whole_prefix IsLead IsContinuation IsLatin1To bs n (λ k l. (p.each k (omega arith) l).follows) lead_decided (λ h. omega arith) (λ b h l. omega (arith, h, l.1))
       IsUtf8Latin1-nil one_byte_more two_bytes_more some
 
   pub latin1_cut : IsLead (slice_index bs (n - 1)) → IsUtf8Latin1 (take (n - 1) bs)
-  latin1_cut = cut_front IsLead IsContinuation IsLatin1To bs n (λ k l. (p.each k (omega arith) l).follows) lead_decided (λ h. omega arith) (λ b h l. omega (arith, h, l.1))
+  latin1_cut = cut_prefix IsLead IsContinuation IsLatin1To bs n (λ k l. (p.each k (omega arith) l).follows) lead_decided (λ h. omega arith) (λ b h l. omega (arith, h, l.1))
       IsUtf8Latin1-nil one_byte_more two_bytes_more some
 
 pub latin1_joined : (bs : List ℕ) (a b from to : ℕ) → FitLatin1 bs a b → FitLatin1 bs from to → from ≤ b → FitLatin1 bs a to

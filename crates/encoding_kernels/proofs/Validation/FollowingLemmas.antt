@@ -11,8 +11,8 @@ use Rattle.std.specs.List.{range_with_len}
 use lib.Lanes.{chunk, pick_l}
 use Rattle.encoding_definitions.specs.Sequence.{IsSequence, IsContinuation, IsSecond}
 use Rattle.encoding_definitions.proofs.Sequences.SequenceLemmas.{IsSequence-HasShape, second_from, second_two_from}
-use Rattle.encoding_definitions.proofs.LongestFronts.Utf8Lemmas.{IsUtf8_more}
-use Rattle.encoding_kernels.specs.Following.{Follows, FollowsAt, FollowTo, IsClosedAt, AsciiBetween}
+use Rattle.encoding_definitions.proofs.LongestPrefixes.Utf8Lemmas.{IsUtf8_more}
+use Rattle.encoding_kernels.specs.Following.{IsValidAfter, IsValidAt, ValidUpTo, IsClosedAt, AsciiBetween}
 
 second_most : (a b : ℕ) → IsSecond a b → b ≤ 0xBF
 second_most a b s = grind (arith, nat_tests)
@@ -39,7 +39,7 @@ module _ (bs : List ℕ) (at : ℕ) where
 abbrev IsStep : List ℕ → ℕ → ℕ → Type 0
 IsStep bs n at = (k : ℕ) × (0 < k) × (at + k ≤ n) × IsClosedAt bs (at + k) × IsSequence (take k (drop at bs))
 
-module _ (bs : List ℕ) (n at : ℕ) (within : n ≤ length bs) (end : IsClosedAt bs n) (follows : (i : ℕ) → at ≤ i → i < n → FollowsAt bs i) (closed : IsClosedAt bs at) where
+module _ (bs : List ℕ) (n at : ℕ) (within : n ≤ length bs) (end : IsClosedAt bs n) (follows : (i : ℕ) → at ≤ i → i < n → IsValidAt bs i) (closed : IsClosedAt bs at) where
   -- no character is cut before n, so the next byte is before n too
   next : (i : ℕ) → i ≤ n → (IsClosedAt bs i → ⊥) → i < n
   next i le cut = elim (cases_lt i n) [ inl l ↦ l | inr g ↦ (let e : n ≡ i = omega arith in absurd (cut (subst (IsClosedAt bs) e end))) ]
@@ -91,13 +91,13 @@ module _ (bs : List ℕ) (n at : ℕ) (within : n ≤ length bs) (end : IsClosed
 
 -- from a well-formed prefix on: the bytes after it follow each other, and no character is cut at either end
 pub IsUtf8_following : (bs : List ℕ) (n : ℕ) → n ≤ length bs → IsClosedAt bs n → (fuel at : ℕ) → n ≤ at + fuel → at ≤ n
-    → ((i : ℕ) → at ≤ i → i < n → FollowsAt bs i) → IsClosedAt bs at → IsUtf8 (take at bs) → IsUtf8 (take n bs)
-IsUtf8_following bs n within end zero at room le follows closed front = let e : at ≡ n = omega arith in subst (λ k. IsUtf8 (take k bs)) e front
-IsUtf8_following bs n within end (suc fuel) at room le follows closed front = elim (cases_lt at n) [
+    → ((i : ℕ) → at ≤ i → i < n → IsValidAt bs i) → IsClosedAt bs at → IsUtf8 (take at bs) → IsUtf8 (take n bs)
+IsUtf8_following bs n within end zero at room le follows closed prefix = let e : at ≡ n = omega arith in subst (λ k. IsUtf8 (take k bs)) e prefix
+IsUtf8_following bs n within end (suc fuel) at room le follows closed prefix = elim (cases_lt at n) [
   | inl l ↦
       let s = step bs n at within end follows closed l in
-      IsUtf8_following bs n within end fuel (at + s.0) (omega arith) s.2 (λ i h k. follows i (omega arith) k) s.3 (IsUtf8_more bs at s.0 front s.4)
-  | inr g ↦ let e : at ≡ n = omega arith in subst (λ k. IsUtf8 (take k bs)) e front
+      IsUtf8_following bs n within end fuel (at + s.0) (omega arith) s.2 (λ i h k. follows i (omega arith) k) s.3 (IsUtf8_more bs at s.0 prefix s.4)
+  | inr g ↦ let e : at ≡ n = omega arith in subst (λ k. IsUtf8 (take k bs)) e prefix
 ]
 
 -- ---- the bytes before, by their indices
@@ -110,14 +110,14 @@ two_before bs n h = get_or-append_right (0 ∷ 0 ∷ []) bs 2 n 0 refl h
 three_before : (bs : List ℕ) (n : ℕ) → 3 ≤ n → get_or (0 ∷ 0 ∷ 0 ∷ bs) n 0 ≡ get_or bs (n - 3) 0
 three_before bs n h = get_or-append_right (0 ∷ 0 ∷ 0 ∷ []) bs 3 n 0 refl h
 
-moved : {x y a b x2 y2 a2 b2 : ℕ} → x ≡ x2 → y ≡ y2 → a ≡ a2 → b ≡ b2 → Follows x y a b → Follows x2 y2 a2 b2
+moved : {x y a b x2 y2 a2 b2 : ℕ} → x ≡ x2 → y ≡ y2 → a ≡ a2 → b ≡ b2 → IsValidAfter x y a b → IsValidAfter x2 y2 a2 b2
 moved {x} {y} {a} {b} {x2} {y2} {a2} {b2} p q r s f =
-    subst (λ k. Follows k y2 a2 b2) p (subst (λ k. Follows x k a2 b2) q (subst (λ k. Follows x y k b2) r (subst (Follows x y a) s f)))
+    subst (λ k. IsValidAfter k y2 a2 b2) p (subst (λ k. IsValidAfter x k a2 b2) q (subst (λ k. IsValidAfter x y k b2) r (subst (IsValidAfter x y a) s f)))
 
 -- lanes of four loads
-pub FollowsAt-loads : (n : ℕ) (bs : List ℕ) (at i : ℕ) → 3 ≤ at → i < n → Follows (get_or (chunk (at - 3) n bs) i 0) (get_or (chunk (at - 2) n bs) i 0) (get_or (chunk (at - 1) n bs) i 0) (get_or (chunk at n bs) i 0)
-    → FollowsAt bs (at + i)
-FollowsAt-loads n bs at i h l f =
+pub IsValidAt-loads : (n : ℕ) (bs : List ℕ) (at i : ℕ) → 3 ≤ at → i < n → IsValidAfter (get_or (chunk (at - 3) n bs) i 0) (get_or (chunk (at - 2) n bs) i 0) (get_or (chunk (at - 1) n bs) i 0) (get_or (chunk at n bs) i 0)
+    → IsValidAt bs (at + i)
+IsValidAt-loads n bs at i h l f =
     let x : get_or (chunk (at - 3) n bs) i 0 ≡ get_or (0 ∷ 0 ∷ 0 ∷ bs) (at + i) 0 = get_or-chunk (at - 3) n bs i 0 l ∙ ap (λ k. get_or bs k 0) (omega arith) ∙ sym (three_before bs (at + i) (omega arith)) in
     let y : get_or (chunk (at - 2) n bs) i 0 ≡ get_or (0 ∷ 0 ∷ bs) (at + i) 0 = get_or-chunk (at - 2) n bs i 0 l ∙ ap (λ k. get_or bs k 0) (omega arith) ∙ sym (two_before bs (at + i) (omega arith)) in
     let a : get_or (chunk (at - 1) n bs) i 0 ≡ get_or (0 ∷ bs) (at + i) 0 = get_or-chunk (at - 1) n bs i 0 l ∙ ap (λ k. get_or bs k 0) (omega arith) ∙ sym (one_before bs (at + i) (omega arith)) in
@@ -137,53 +137,53 @@ module _ (n : ℕ) (bs : List ℕ) (long : n ≤ length bs) where
       ap (λ xs. get_or xs i 0) (pick_l-range_with_len 0 all k n room) ∙ get_or-chunk k n all i 0 l ∙ sym (get_or-drop k all i 0)
 
   -- bytes after zeros, in a prefix and in the whole
-  front_one : (i : ℕ) → i < n → get_or (0 ∷ take n bs) i 0 ≡ get_or (0 ∷ bs) i 0
-  front_one zero l = refl
-  front_one (suc i) l = get_or-take n bs i 0 (omega arith)
+  prefix_one : (i : ℕ) → i < n → get_or (0 ∷ take n bs) i 0 ≡ get_or (0 ∷ bs) i 0
+  prefix_one zero l = refl
+  prefix_one (suc i) l = get_or-take n bs i 0 (omega arith)
 
-  front_two : (i : ℕ) → i < n → get_or (0 ∷ 0 ∷ take n bs) i 0 ≡ get_or (0 ∷ 0 ∷ bs) i 0
-  front_two zero l = refl
-  front_two (suc i) l = front_one i (omega arith)
+  prefix_two : (i : ℕ) → i < n → get_or (0 ∷ 0 ∷ take n bs) i 0 ≡ get_or (0 ∷ 0 ∷ bs) i 0
+  prefix_two zero l = refl
+  prefix_two (suc i) l = prefix_one i (omega arith)
 
-  front_three : (i : ℕ) → i < n → get_or (0 ∷ 0 ∷ 0 ∷ take n bs) i 0 ≡ get_or (0 ∷ 0 ∷ 0 ∷ bs) i 0
-  front_three zero l = refl
-  front_three (suc i) l = front_two i (omega arith)
+  prefix_three : (i : ℕ) → i < n → get_or (0 ∷ 0 ∷ 0 ∷ take n bs) i 0 ≡ get_or (0 ∷ 0 ∷ 0 ∷ bs) i 0
+  prefix_three zero l = refl
+  prefix_three (suc i) l = prefix_two i (omega arith)
 
-  pub FollowsAt-first : (three two one i : ℕ) → (three ≤ n) × (two ≤ n) × (one ≤ n) → drop three (replicate n 0 ++ take n bs) ≡ 0 ∷ 0 ∷ 0 ∷ take n bs
+  pub IsValidAt-first : (three two one i : ℕ) → (three ≤ n) × (two ≤ n) × (one ≤ n) → drop three (replicate n 0 ++ take n bs) ≡ 0 ∷ 0 ∷ 0 ∷ take n bs
       → drop two (replicate n 0 ++ take n bs) ≡ 0 ∷ 0 ∷ take n bs → drop one (replicate n 0 ++ take n bs) ≡ 0 ∷ take n bs → i < n
-      → Follows (get_or (shifted n bs three) i 0) (get_or (shifted n bs two) i 0) (get_or (shifted n bs one) i 0) (get_or (take n bs) i 0) → FollowsAt bs i
-  FollowsAt-first three two one i few e3 e2 e1 l f =
-      let x = shifted_at three i few.0 l ∙ ap (λ xs. get_or xs i 0) e3 ∙ front_three i l in
-      let y = shifted_at two i few.1 l ∙ ap (λ xs. get_or xs i 0) e2 ∙ front_two i l in
-      let a = shifted_at one i few.2 l ∙ ap (λ xs. get_or xs i 0) e1 ∙ front_one i l in
+      → IsValidAfter (get_or (shifted n bs three) i 0) (get_or (shifted n bs two) i 0) (get_or (shifted n bs one) i 0) (get_or (take n bs) i 0) → IsValidAt bs i
+  IsValidAt-first three two one i few e3 e2 e1 l f =
+      let x = shifted_at three i few.0 l ∙ ap (λ xs. get_or xs i 0) e3 ∙ prefix_three i l in
+      let y = shifted_at two i few.1 l ∙ ap (λ xs. get_or xs i 0) e2 ∙ prefix_two i l in
+      let a = shifted_at one i few.2 l ∙ ap (λ xs. get_or xs i 0) e1 ∙ prefix_one i l in
       moved x y a (get_or-take n bs i 0 l) f
 
 -- ---- more bytes
-pub FollowTo-more : (bs : List ℕ) (at n : ℕ) → FollowTo bs at → ((i : ℕ) → i < n → FollowsAt bs (at + i)) → FollowTo bs (at + n)
-FollowTo-more bs at n front more = record {
+pub ValidUpTo-more : (bs : List ℕ) (at n : ℕ) → ValidUpTo bs at → ((i : ℕ) → i < n → IsValidAt bs (at + i)) → ValidUpTo bs (at + n)
+ValidUpTo-more bs at n prefix more = record {
   each = λ i l. elim (cases_lt i at) [
-    | inl k ↦ front.each i k
-    | inr g ↦ (let e : at + (i - at) ≡ i = omega arith in subst (FollowsAt bs) e (more (i - at) (omega arith)))
+    | inl k ↦ prefix.each i k
+    | inr g ↦ (let e : at + (i - at) ≡ i = omega arith in subst (IsValidAt bs) e (more (i - at) (omega arith)))
   ];
 }
 
-pub FollowTo-over : (bs : List ℕ) (at from n : ℕ) → from ≤ at → FollowTo bs at → ((i : ℕ) → i < n → FollowsAt bs (from + i)) → FollowTo bs (from + n)
-FollowTo-over bs at from n h front more = FollowTo-more bs from n (record { each = λ i l. front.each i (omega arith) }) more
+pub ValidUpTo-over : (bs : List ℕ) (at from n : ℕ) → from ≤ at → ValidUpTo bs at → ((i : ℕ) → i < n → IsValidAt bs (from + i)) → ValidUpTo bs (from + n)
+ValidUpTo-over bs at from n h prefix more = ValidUpTo-more bs from n (record { each = λ i l. prefix.each i (omega arith) }) more
 
 -- two blocks
-pub follows_two : (bs : List ℕ) (at : ℕ) → ((i : ℕ) → i < 32 → FollowsAt bs (at + i)) → ((i : ℕ) → i < 32 → FollowsAt bs (at + 32 + i)) → FollowTo bs at → FollowTo bs (at + 64)
-follows_two bs at a b front =
+pub follows_two : (bs : List ℕ) (at : ℕ) → ((i : ℕ) → i < 32 → IsValidAt bs (at + i)) → ((i : ℕ) → i < 32 → IsValidAt bs (at + 32 + i)) → ValidUpTo bs at → ValidUpTo bs (at + 64)
+follows_two bs at a b prefix =
     let e : at + 32 + 32 ≡ at + 64 = omega arith in
-    subst (FollowTo bs) e (FollowTo-more bs (at + 32) 32 (FollowTo-more bs at 32 front a) b)
+    subst (ValidUpTo bs) e (ValidUpTo-more bs (at + 32) 32 (ValidUpTo-more bs at 32 prefix a) b)
 
-pub FollowTo-none : (bs : List ℕ) → FollowTo bs 0
-FollowTo-none bs = record { each = λ i l. absurd (omega arith) }
+pub ValidUpTo-none : (bs : List ℕ) → ValidUpTo bs 0
+ValidUpTo-none bs = record { each = λ i l. absurd (omega arith) }
 
-pub FollowTo_less : (bs : List ℕ) (n m : ℕ) → m ≤ n → FollowTo bs n → FollowTo bs m
-FollowTo_less bs n m h f = record { each = λ i l. f.each i (omega arith) }
+pub ValidUpTo_less : (bs : List ℕ) (n m : ℕ) → m ≤ n → ValidUpTo bs n → ValidUpTo bs m
+ValidUpTo_less bs n m h f = record { each = λ i l. f.each i (omega arith) }
 
 -- ---- ASCII
-closed_follows : (bs : List ℕ) (i : ℕ) → IsClosedAt bs i → get_or bs i 0 < 0x80 → FollowsAt bs i
+closed_follows : (bs : List ℕ) (i : ℕ) → IsClosedAt bs i → get_or bs i 0 < 0x80 → IsValidAt bs i
 closed_follows bs i c l = record {
   second = λ h. absurd (omega arith);
   third = λ h. absurd (omega arith);
@@ -210,21 +210,21 @@ IsClosedAt-ascii bs at to h c ascii =
     let e : at + (to - at) ≡ to = omega arith in
     subst (IsClosedAt bs) e (closed_along bs (to - at) at c (λ i l. ascii.each (at + i) (omega arith) (omega arith)))
 
-pub FollowTo-ascii : (bs : List ℕ) (at to : ℕ) → FollowTo bs at → IsClosedAt bs at → AsciiBetween bs at to → FollowTo bs to
-FollowTo-ascii bs at to front c ascii = record {
+pub ValidUpTo-ascii : (bs : List ℕ) (at to : ℕ) → ValidUpTo bs at → IsClosedAt bs at → AsciiBetween bs at to → ValidUpTo bs to
+ValidUpTo-ascii bs at to prefix c ascii = record {
   each = λ i l. elim (cases_lt i at) [
-    | inl k ↦ front.each i k
+    | inl k ↦ prefix.each i k
     | inr g ↦ closed_follows bs i (IsClosedAt-ascii bs at i g c (record { each = λ j p q. ascii.each j p (omega arith) })) (ascii.each i g l)
   ];
 }
 
 -- a prefix of the whole
-pub FollowTo_ascii_front : (bs : List ℕ) (n : ℕ) → ((i : ℕ) → i < n → get_or bs i 0 < 0x80) → FollowTo bs n
-FollowTo_ascii_front bs n ascii = FollowTo-ascii bs 0 n (FollowTo-none bs) (IsClosedAt-start bs) (record { each = λ i _ l. ascii i l })
+pub ValidUpTo_ascii_prefix : (bs : List ℕ) (n : ℕ) → ((i : ℕ) → i < n → get_or bs i 0 < 0x80) → ValidUpTo bs n
+ValidUpTo_ascii_prefix bs n ascii = ValidUpTo-ascii bs 0 n (ValidUpTo-none bs) (IsClosedAt-start bs) (record { each = λ i _ l. ascii i l })
 
 -- ---- indices at which no character is cut
 -- before a byte that continues no character
-closed_before : (bs : List ℕ) (i : ℕ) → FollowsAt bs i → 0xC0 ≤ get_or bs i 0 → IsClosedAt bs i
+closed_before : (bs : List ℕ) (i : ℕ) → IsValidAt bs i → 0xC0 ≤ get_or bs i 0 → IsClosedAt bs i
 closed_before bs i f h =
     let x : get_or (0 ∷ 0 ∷ 0 ∷ bs) i 0 < 0xF0 = elim (cases_lt (get_or (0 ∷ 0 ∷ 0 ∷ bs) i 0) 0xF0) [ inl l ↦ l | inr g ↦ (let s = f.fourth g in absurd (omega arith)) ] in
     let y : get_or (0 ∷ 0 ∷ bs) i 0 < 0xE0 = elim (cases_lt (get_or (0 ∷ 0 ∷ bs) i 0) 0xE0) [ inl l ↦ l | inr g ↦ (let s = f.third g in absurd (omega arith)) ] in
@@ -235,21 +235,21 @@ pub IsClosedAt_tests : (bs : List ℕ) (at : ℕ) → 3 ≤ at → get_or bs (at
 IsClosedAt_tests bs at h a y x = (omega (arith, three_before bs at h), omega (arith, two_before bs at (omega arith)), omega (arith, one_before bs at (omega arith)))
 
 -- after three bytes of ASCII
-pub IsClosedAt-behind_ascii : (bs : List ℕ) (from at : ℕ) → from + 3 ≤ at → AsciiBetween bs from at → IsClosedAt bs at
-IsClosedAt-behind_ascii bs from at h ascii =
+pub IsClosedAt-after_ascii : (bs : List ℕ) (from at : ℕ) → from + 3 ≤ at → AsciiBetween bs from at → IsClosedAt bs at
+IsClosedAt-after_ascii bs from at h ascii =
     let a = ascii.each (at - 1) (omega arith) (omega arith) in
     let y = ascii.each (at - 2) (omega arith) (omega arith) in
     let x = ascii.each (at - 3) (omega arith) (omega arith) in
     IsClosedAt_tests bs at (omega arith) (omega arith) (omega arith) (omega arith)
 
-pub IsUtf8_closed : (bs : List ℕ) (n : ℕ) → n ≤ length bs → FollowTo bs n → IsClosedAt bs n → IsUtf8 (take n bs)
+pub IsUtf8_closed : (bs : List ℕ) (n : ℕ) → n ≤ length bs → ValidUpTo bs n → IsClosedAt bs n → IsUtf8 (take n bs)
 IsUtf8_closed bs n within f c = IsUtf8_following bs n within c n 0 (omega arith) (omega arith) (λ i _ l. f.each i l) (IsClosedAt-start bs) IsUtf8-nil
 
 -- before the first byte of a character
-pub IsUtf8_before : (bs : List ℕ) (n i : ℕ) → n ≤ length bs → i < n → FollowTo bs n → 0xC0 ≤ get_or bs i 0 → IsUtf8 (take i bs)
-IsUtf8_before bs n i within l f h = IsUtf8_closed bs i (omega arith) (FollowTo_less bs n i (omega arith) f) (closed_before bs i (f.each i l) h)
+pub IsUtf8_before : (bs : List ℕ) (n i : ℕ) → n ≤ length bs → i < n → ValidUpTo bs n → 0xC0 ≤ get_or bs i 0 → IsUtf8 (take i bs)
+IsUtf8_before bs n i within l f h = IsUtf8_closed bs i (omega arith) (ValidUpTo_less bs n i (omega arith) f) (closed_before bs i (f.each i l) h)
 
 -- an ASCII prefix
-pub IsUtf8_ascii_front : (bs : List ℕ) (n : ℕ) → n ≤ length bs → ((i : ℕ) → i < n → get_or bs i 0 < 0x80) → IsUtf8 (take n bs)
-IsUtf8_ascii_front bs n within ascii =
-    IsUtf8_closed bs n within (FollowTo_ascii_front bs n ascii) (IsClosedAt-ascii bs 0 n (omega arith) (IsClosedAt-start bs) (record { each = λ i _ l. ascii i l }))
+pub IsUtf8_ascii_prefix : (bs : List ℕ) (n : ℕ) → n ≤ length bs → ((i : ℕ) → i < n → get_or bs i 0 < 0x80) → IsUtf8 (take n bs)
+IsUtf8_ascii_prefix bs n within ascii =
+    IsUtf8_closed bs n within (ValidUpTo_ascii_prefix bs n ascii) (IsClosedAt-ascii bs 0 n (omega arith) (IsClosedAt-start bs) (record { each = λ i _ l. ascii i l }))

@@ -94,7 +94,7 @@ fn copy_last<D, S: AsciiVectors<1, D> + AsciiVectors<16, D>>(
 /// Copies the longest ASCII prefix that fits, by N units at a time first, and returns its length. Checks the first
 /// vector separately, since most prefixes end there.
 #[inline(always)]
-pub fn copy_ascii_front<
+pub fn copy_ascii_prefix<
     const N: usize,
     D,
     S: AsciiVectors<1, D> + AsciiVectors<16, D> + AsciiVectors<N, D>,

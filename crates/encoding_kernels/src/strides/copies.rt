@@ -1,7 +1,7 @@
 //! Copies by vectors. The rest of `dst` is unchanged.
 
 ghost use Rattle.std.specs.Prelude.{◌≡◌, ◌+◌, ◌%◌, ◌<◌, ◌≤◌, ◌++◌, length, map, take, drop};
-ghost use Rattle.encoding_definitions.specs.Fronts.{WritesFront};
+ghost use Rattle.encoding_definitions.specs.Prefixes.{WritesPrefix};
 
 use super::{HALF_STRIDE, STRIDE};
 use std::simd::Simd;
@@ -26,7 +26,7 @@ pub(super) fn copy<const N: usize>(src: &[u8], dst: &mut [u8], at: usize)
 #[inline(always)]
 fn copy_by_strides<const N: usize>(src: &[u8], dst: &mut [u8])
     requires { (0 < N) × (N ≤ 64) × (N ≤ length src.now) × (length src.now ≤ length dst.old) }
-    ensures { WritesFront dst.old dst.new (length src.now) src.now }
+    ensures { WritesPrefix dst.old dst.new (length src.now) src.now }
 {
     let last = src.len() - N;
     let mut at = 0;
@@ -39,9 +39,9 @@ fn copy_by_strides<const N: usize>(src: &[u8], dst: &mut [u8])
 
 /// Copies `src` to the start of `dst`. A few bytes are not worth a PLT call of the C library.
 #[inline]
-pub fn copy_front(src: &[u8], dst: &mut [u8])
+pub fn copy_prefix(src: &[u8], dst: &mut [u8])
     requires { length src.now ≤ length dst.old }
-    ensures { WritesFront dst.old dst.new (length src.now) src.now }
+    ensures { WritesPrefix dst.old dst.new (length src.now) src.now }
 {
     match src.len() {
         0 => {}
@@ -77,25 +77,29 @@ pub fn pack_lower<const N: usize>(stride: &[u16; N], dst: &mut [u8], at: usize)
 /// Writes the first `count` bytes of a vector from `at` on. Stores sixteen bytes, the others as `dst` has them.
 #[inline(always)]
 pub fn write_first(dst: &mut [u8], at: usize, bytes: u8x16, count: usize)
-    requires room { at + 16 ≤ length dst.old }
+    requires dst_length { at + 16 ≤ length dst.old }
     requires bytes { (count ≤ 16) × (length bytes ≡ 16) }
     ensures { dst.new ≡ take at dst.old ++ (take count bytes ++ drop (at + count) dst.old) }
 {
-    let behind = u8x16::from_slice(&dst[at..]);
+    let following = u8x16::from_slice(&dst[at..]);
     let is_kept = u8x16::from_array(LANES).simd_lt(u8x16::splat(count as u8));
-    is_kept.select(bytes, behind).copy_to_slice(&mut dst[at..]);
+    is_kept
+        .select(bytes, following)
+        .copy_to_slice(&mut dst[at..]);
 }
 
 /// Writes the first `count` code units of a vector from `at` on. Stores sixteen, the others as `dst` has them.
 #[inline(always)]
 pub(super) fn write_first_units(dst: &mut [u16], at: usize, units: u16x16, count: usize)
-    requires room { at + 16 ≤ length dst.old }
+    requires dst_length { at + 16 ≤ length dst.old }
     requires units { (count ≤ 16) × (length units ≡ 16) }
     ensures { dst.new ≡ take at dst.old ++ (take count units ++ drop (at + count) dst.old) }
 {
-    let behind = u16x16::from_slice(&dst[at..]);
+    let following = u16x16::from_slice(&dst[at..]);
     let is_kept = u8x16::from_array(LANES)
         .cast::<u16>()
         .simd_lt(u16x16::splat(count as u16));
-    is_kept.select(units, behind).copy_to_slice(&mut dst[at..]);
+    is_kept
+        .select(units, following)
+        .copy_to_slice(&mut dst[at..]);
 }

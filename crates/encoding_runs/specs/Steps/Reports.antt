@@ -1,7 +1,7 @@
 -- Steps of a run: the reports of its calls, in order.
 use Rattle.std.specs.Prelude.{ℕ, ◌+◌, List, [], ◌∷◌, ◌++◌, length}
-use Rattle.encoding_definitions.specs.Fronts.{WritesFront}
-use Rattle.encoding_text.specs.Decoding.{IsCall}
+use Rattle.encoding_definitions.specs.Prefixes.{WritesPrefix}
+use Rattle.encoding_text.specs.Decoding.{DecodeStep}
 use Rattle.encoding_text.specs.declared.decoder.DecoderResult.{DecoderResult}
 use Rattle.encoding_text.specs.declared.decoder.DecoderResult.TheVariants.{InputEmpty, OutputFull, Malformed}
 use Rattle.encoding_runs.specs.declared.run.turns.Turn.{Turn}
@@ -23,5 +23,5 @@ reports_of_calls place (call ∷ calls) = report_of call.result (place + length 
 
 -- a run that also wrote the reports of its calls; the rest of the reports is unchanged
 pub record IsReportedRun {A : Type 0} (encode : ℕ → List A) (need : ℕ) (p src : List ℕ) (turns : List Turn) (old new : List A) (old_reports new_reports : List Report) (outcome : Outcome) (q : List ℕ) : Type 0 where
-  pub run : IsRun (IsCall encode need) p src turns old new outcome.read outcome.written outcome.result q
-  pub reports : WritesFront old_reports new_reports outcome.reports (reports_of_calls 0 run.calls)
+  pub run : IsRun (DecodeStep encode need) p src turns old new outcome.read outcome.written outcome.result q
+  pub reports : WritesPrefix old_reports new_reports outcome.reports (reports_of_calls 0 run.calls)

@@ -1,6 +1,6 @@
 //! Repairs a stream by blocks. The caller provides each block and its destination.
 ghost use Rattle.std.specs.Prelude.{ℕ, List, length};
-ghost use Rattle.encoding_definitions.specs.Fronts.{WritesFront};
+ghost use Rattle.encoding_definitions.specs.Prefixes.{WritesPrefix};
 ghost use Rattle.encoding_runs.specs.Blocks.{IsBlockRepair};
 
 use encoding_kernels::scalars::write_scalar;
@@ -20,7 +20,7 @@ pub struct RepairedBlock {
 }
 
 /// The scalar value that replaces a malformed sequence.
-const REPLACEMENT: u32 = 0xFFFD;
+const REPLACEMENT_CHARACTER: u32 = 0xFFFD;
 
 /// The length of U+FFFD in UTF-8, in bytes.
 const REPLACEMENT_LENGTH: usize = 3;
@@ -39,7 +39,7 @@ pub fn repair_block(
     dst: &mut [u8],
     last: bool,
 ) -> RepairedBlock
-    ensures { (out : List ℕ) × WritesFront dst.old dst.new result.written out
+    ensures { (out : List ℕ) × WritesPrefix dst.old dst.new result.written out
         × IsBlockRepair decoder.old src.now (length dst.old) last result result.read out decoder.new }
 {
     // Without a call of the decoder no other clause says that the pending bytes are none or an incomplete sequence.
@@ -73,7 +73,7 @@ pub fn repair_block(
             }
             DecoderResult::OutputFull => return block,
             DecoderResult::Malformed(..) => {
-                block.written += write_scalar(REPLACEMENT, &mut dst[block.written..]);
+                block.written += write_scalar(REPLACEMENT_CHARACTER, &mut dst[block.written..]);
                 block.replaced += 1;
             }
         }

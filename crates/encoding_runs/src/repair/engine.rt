@@ -2,11 +2,11 @@
 ghost use Rattle.std.specs.Prelude.{◌≡◌, ◌≢◌, ℕ, ◌<◌, ◌≤◌, ◌↔◌, Bool, true, false, List, [], ◌++◌, length, take, IfOk, IfErr, IsTrue};
 ghost use Rattle.std.specs.Io.KnownBytes.{Appends, Keeps};
 ghost use Rattle.encoding_definitions.specs.Pending.{IsPending};
-ghost use Rattle.encoding_runs.specs.Repairs.{RepairsAll, RepairsFront, RepairsSettled, Stops, WritesRepaired};
+ghost use Rattle.encoding_runs.specs.Repairs.{RepairsAll, RepairsProperPrefix, RepairsFinal, Stops, WritesRepaired};
 ghost use Rattle.encoding_runs.specs.Steps.Rounds.{ReadsRound};
-ghost use Rattle.encoding_runs.specs.Steps.Writing.{StopsInParts, WritesParts, broken_of, text_of};
+ghost use Rattle.encoding_runs.specs.Steps.Writing.{StopsInParts, WritesParts, malformed_in, text_of};
 
-use super::front::{REPLACEMENT, repair_front};
+use super::dense::{REPLACEMENT_UTF8, repair_prefix};
 use super::streams::{Sink, Source};
 use encoding_text::decoder::{Piece, Utf8Decoder};
 use encoding_text::utf_8::utf8_valid_up_to;
@@ -33,10 +33,10 @@ pub struct Repaired {
 const ROUND: usize = 1024;
 
 /// The most bytes that wait for a write: U+FFFD for each byte of a round.
-const ROOM: usize = 3 * ROUND;
+const ROUND_OUTPUT: usize = 3 * ROUND;
 
 /// The most bytes that wait for a write if a slice is repaired. A short slice isn't worth the zeros of a long array.
-const SLICE_ROOM: usize = 192;
+const SLICE_OUTPUT: usize = 192;
 
 /// Writes all bytes, each once, with as many writes as needed. Out of line: most writers take all bytes at once.
 #[inline(never)]
@@ -80,7 +80,7 @@ fn write_whole<W: Sink>(writer: &mut W, bytes: &[u8]) -> Result<(), RepairFault>
 
 /// Writes text unchanged, a character, or U+FFFD for a malformed sequence. Returns the number of malformed sequences.
 fn write_piece<W: Sink>(writer: &mut W, piece: Piece<'_>) -> Result<u64, RepairFault>
-    ensures ok { IfOk result (λ replaced. (replaced ≡ broken_of piece.entry)
+    ensures ok { IfOk result (λ replaced. (replaced ≡ malformed_in piece.entry)
         × Appends (W.contents writer.old) (W.contents writer.new) (text_of piece.entry)
         × (W.has_failed writer.new ≡ W.has_failed writer.old)) }
     ensures err { IfErr result (λ fault. (fault ≡ RepairFault.Write) × (W.has_failed writer.new ≡ true)
@@ -95,7 +95,7 @@ fn write_piece<W: Sink>(writer: &mut W, piece: Piece<'_>) -> Result<u64, RepairF
             write_whole(writer, character.encode_utf8(&mut sequence).as_bytes())?;
         }
         Piece::Malformed(_) => {
-            write_whole(writer, &REPLACEMENT)?;
+            write_whole(writer, &REPLACEMENT_UTF8)?;
             return Ok(1);
         }
         Piece::InputEmpty => {}
@@ -134,10 +134,10 @@ fn write_parts<W: Sink>(
             return Ok(replaced);
         }
         rest = &rest[read..];
-        let front = repair_front(rest, array);
-        write_whole(writer, &array[..front.written])?;
-        replaced += front.replaced as u64;
-        rest = &rest[front.read..];
+        let prefix = repair_prefix(rest, array);
+        write_whole(writer, &array[..prefix.written])?;
+        replaced += prefix.replaced as u64;
+        rest = &rest[prefix.read..];
     }
 }
 
@@ -152,7 +152,7 @@ fn write_last_parts<W: Sink>(src: &[u8], writer: &mut W) -> Result<u64, RepairFa
     ensures keeps { W.keeps writer.old writer.new }
 {
     let mut decoder = Utf8Decoder::new_inner();
-    let mut array = [0; SLICE_ROOM];
+    let mut array = [0; SLICE_OUTPUT];
     write_parts(&mut decoder, src, true, &mut array, writer)
 }
 
@@ -232,14 +232,14 @@ pub fn repair<R: Source, W: Sink>(
         (W.contents writer.old) (W.contents writer.new) repaired.replaced
         × (R.has_ended reader.new ≡ true)) }
     ensures read_fault { result ≡ Err RepairFault.Read → (bytes : List ℕ) × (length bytes < limit)
-        × RepairsSettled bytes (R.remaining reader.old) (R.remaining reader.new)
+        × RepairsFinal bytes (R.remaining reader.old) (R.remaining reader.new)
         (W.contents writer.old) (W.contents writer.new) }
     ensures limit { result ≡ Err RepairFault.Limit → (bytes : List ℕ) × (length bytes ≡ limit)
-        × RepairsSettled bytes (R.remaining reader.old) (R.remaining reader.new)
+        × RepairsFinal bytes (R.remaining reader.old) (R.remaining reader.new)
         (W.contents writer.old) (W.contents writer.new) }
     ensures write_fault { result ≡ Err RepairFault.Write → R.has_ended reader.old ≡ false
         → (bytes : List ℕ) × (length bytes ≤ limit)
-        × RepairsFront bytes (R.has_ended reader.new) (R.remaining reader.old) (R.remaining reader.new)
+        × RepairsProperPrefix bytes (R.has_ended reader.new) (R.remaining reader.old) (R.remaining reader.new)
         (W.contents writer.old) (W.contents writer.new) }
     ensures reader_failed { R.has_failed reader.old ≡ false → W.has_failed writer.old ≡ false
         → (IsTrue (R.has_failed reader.new) ↔ (result ≡ Err RepairFault.Read)) }
@@ -250,7 +250,7 @@ pub fn repair<R: Source, W: Sink>(
 {
     let mut decoder = Utf8Decoder::new_inner();
     let mut buffer = [0; ROUND];
-    let mut array = [0; ROOM];
+    let mut array = [0; ROUND_OUTPUT];
     let (mut read, mut replaced) = (0, 0);
     while read < limit {
         let room = (limit - read).min(ROUND as u64) as usize;

@@ -2,8 +2,8 @@
 ghost use Rattle.std.specs.Prelude.{ℕ, ◌+◌, ◌-◌, ◌<◌, ◌≤◌, List, length, take, encode_utf8};
 ghost use Rattle.std.specs.Char.{IsScalar};
 ghost use Rattle.std.specs.Char.Escape.{encode_utf16};
-ghost use Rattle.encoding_definitions.specs.Fronts.{WritesFront};
-ghost use Rattle.encoding_text.specs.Decoding.{Decodes, IsCall, utf16_room, utf8_room};
+ghost use Rattle.encoding_definitions.specs.Prefixes.{WritesPrefix};
+ghost use Rattle.encoding_text.specs.Decoding.{DecodeStepInto, DecodeStep, max_utf16_length, max_utf8_length};
 ghost use Rattle.encoding_runs.specs.Turns.{room_of, is_marked_last};
 ghost use Rattle.encoding_runs.specs.Runs.{Completes};
 ghost use Rattle.encoding_runs.specs.DecoderRuns.{Delivers};
@@ -50,7 +50,7 @@ trait Decoded: Copy {
         dst: &mut [Self],
         last: bool,
     ) -> (DecoderResult, usize, usize)
-        ensures call { Decodes encode need decoder.old src.now dst.old dst.new last result.0 result.1 result.2
+        ensures call { DecodeStepInto encode need decoder.old src.now dst.old dst.new last result.0 result.1 result.2
             decoder.new };
 }
 
@@ -94,8 +94,8 @@ fn make_call<U: Decoded>(
     unread: &[u8],
     left: &mut [U],
 ) -> (DecoderResult, usize, usize)
-    ensures call { (out : List U) × WritesFront left.old left.new result.2 out
-        × IsCall U.encode U.need decoder.old (take turn.now.take unread.now) (room_of turn.now (length left.old))
+    ensures call { (out : List U) × WritesPrefix left.old left.new result.2 out
+        × DecodeStep U.encode U.need decoder.old (take turn.now.take unread.now) (room_of turn.now (length left.old))
         (is_marked_last turn.now (length unread.now)) result.0 result.1 out decoder.new }
 {
     let piece = turn.piece_length(unread.len());
@@ -110,8 +110,8 @@ fn make_call<U: Decoded>(
 
 /// Writes the report of a call's result, if it is one, at index 0, and returns the number of reports written.
 fn write_report(answer: &DecoderResult, place: usize, reports: &mut [Report]) -> usize
-    requires room { 0 < length reports.old }
-    ensures { WritesFront reports.old reports.new result (report_of answer.now place) }
+    requires dst_length { 0 < length reports.old }
+    ensures { WritesPrefix reports.old reports.new result (report_of answer.now place) }
 {
     match *answer {
         DecoderResult::Malformed(length, _) => {
@@ -132,7 +132,7 @@ fn run<U: Decoded>(
     reports: &mut [Report],
 ) -> Outcome
     requires places { length turns.now ≤ length reports.old }
-    requires some { 0 < U.need }
+    requires not_empty { 0 < U.need }
     requires short { (c : ℕ) → IsScalar c → length (U.encode c) ≤ length (encode_utf8 c) }
     ensures delivers { Delivers U.encode U.need decoder.old src.now turns.now dst.old dst.new reports.old reports.new
         result decoder.new }
@@ -184,7 +184,7 @@ pub fn run_to_utf16(
     requires places { length turns.now ≤ length reports.old }
     ensures delivers { Delivers encode_utf16 2 decoder.old src.now turns.now dst.old dst.new reports.old reports.new
         result decoder.new }
-    ensures completes { Completes DecoderResult.InputEmpty utf16_room 2 decoder.old src.now turns.now (length dst.old)
+    ensures completes { Completes DecoderResult.InputEmpty max_utf16_length 2 decoder.old src.now turns.now (length dst.old)
         result.result }
 {
     run::<u16>(decoder, src, turns, dst, reports)
@@ -205,7 +205,7 @@ pub fn run_to_utf8(
     requires places { length turns.now ≤ length reports.old }
     ensures delivers { Delivers encode_utf8 4 decoder.old src.now turns.now dst.old dst.new reports.old reports.new
         result decoder.new }
-    ensures completes { Completes DecoderResult.InputEmpty utf8_room 4 decoder.old src.now turns.now (length dst.old)
+    ensures completes { Completes DecoderResult.InputEmpty max_utf8_length 4 decoder.old src.now turns.now (length dst.old)
         result.result }
 {
     run::<u8>(decoder, src, turns, dst, reports)

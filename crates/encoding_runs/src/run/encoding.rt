@@ -1,7 +1,7 @@
 //! Runs of an encoder.
 ghost use Rattle.std.specs.Prelude.{◌+◌, ◌*◌, ◌≤◌, length, take};
-ghost use Rattle.encoding_definitions.specs.Fronts.{WritesFront};
-ghost use Rattle.encoding_text.specs.Encoding.{IsEncoderCall};
+ghost use Rattle.encoding_definitions.specs.Prefixes.{WritesPrefix};
+ghost use Rattle.encoding_text.specs.Encoding.{EncodeStep};
 ghost use Rattle.encoding_runs.specs.Turns.{room_of, is_marked_last};
 ghost use Rattle.encoding_runs.specs.Runs.{Completes};
 ghost use Rattle.encoding_runs.specs.EncoderRuns.{EncodesByTurns};
@@ -28,10 +28,10 @@ fn encode_turn(
     unread: &[u16],
     left: &mut [u8],
 ) -> (EncoderResult, usize, usize)
-    ensures call { IsEncoderCall encoder.old (take turn.now.take unread.now) (room_of turn.now (length left.old))
+    ensures call { EncodeStep encoder.old (take turn.now.take unread.now) (room_of turn.now (length left.old))
         (is_marked_last turn.now (length unread.now)) result.0 result.1 (take result.2 left.new) encoder.new }
     ensures within { result.1 ≤ length unread.now }
-    ensures rest { WritesFront left.old left.new result.2 (take result.2 left.new) }
+    ensures unchanged_after { WritesPrefix left.old left.new result.2 (take result.2 left.new) }
 {
     let piece = turn.piece_length(unread.len());
     let room = turn.room_of(left.len());
@@ -58,7 +58,7 @@ pub fn run_from_utf16(
     dst: &mut [u8],
 ) -> EncodeOutcome
     ensures delivers { EncodesByTurns encoder.old src.now turns.now dst.old dst.new result encoder.new }
-    ensures completes { Completes EncoderResult.InputEmpty (λ n held. 3 * (n + held)) 4 encoder.old src.now turns.now
+    ensures completes { Completes EncoderResult.InputEmpty (λ n pending. 3 * (n + pending)) 4 encoder.old src.now turns.now
         (length dst.old) result.result }
 {
     // Without turns no other contract says that at most one surrogate is pending.

@@ -1,18 +1,18 @@
 //! One call of a decoder that borrows from its source.
 ghost use Rattle.std.specs.Prelude.{◌≡◌, ◌≢◌, ℕ, []};
-ghost use Rattle.encoding_definitions.specs.Sequence.{IsBeginning};
-ghost use Rattle.encoding_text.specs.Decoding.{IsBorrowedCall};
+ghost use Rattle.encoding_definitions.specs.Sequence.{IsIncomplete};
+ghost use Rattle.encoding_text.specs.Decoding.{BorrowedDecodeStep};
 
-use super::pending::{Pending, Resumed, is_lone};
+use super::pending::{Pending, Resumed, is_malformed_byte};
 use super::{DecoderResult, Piece};
 use crate::utf_8::utf8_valid_up_to;
-use encoding_kernels::scalars::scalar_of_sequence;
+use encoding_kernels::scalars::decode_utf8_scalar;
 
 /// Returns the piece for what ended a call without output.
 fn piece_at_end<'a>(end: DecoderResult) -> Piece<'a>
     requires { end ≢ DecoderResult.OutputFull }
     ensures all_read { end ≡ DecoderResult.InputEmpty → result ≡ Piece.InputEmpty }
-    ensures broken { (k second : ℕ) → end ≡ DecoderResult.Malformed k second → result ≡ Piece.Malformed k }
+    ensures malformed { (k second : ℕ) → end ≡ DecoderResult.Malformed k second → result ≡ Piece.Malformed k }
 {
     match end {
         DecoderResult::InputEmpty => Piece::InputEmpty,
@@ -28,10 +28,10 @@ pub(crate) fn decode_borrowed<'a>(
     src: &'a [u8],
     last: bool,
 ) -> (Piece<'a>, usize)
-    ensures { IsBorrowedCall pending.old src.now last result.0 result.1 pending.new }
+    ensures { BorrowedDecodeStep pending.old src.now last result.0 result.1 pending.new }
 {
     if pending.is_empty() {
-        borrow_front(pending, src, last)
+        borrow_prefix(pending, src, last)
     } else {
         resume_borrowed(pending, src, last)
     }
@@ -39,12 +39,12 @@ pub(crate) fn decode_borrowed<'a>(
 
 /// Decodes the start of `src` with nothing pending. Returns the piece and how many bytes were read.
 #[inline(always)]
-fn borrow_front<'a>(pending: &mut Pending, src: &'a [u8], last: bool) -> (Piece<'a>, usize)
+fn borrow_prefix<'a>(pending: &mut Pending, src: &'a [u8], last: bool) -> (Piece<'a>, usize)
     requires neutral { pending.old ≡ [] }
-    ensures { IsBorrowedCall [] src.now last result.0 result.1 pending.new }
+    ensures { BorrowedDecodeStep [] src.now last result.0 result.1 pending.new }
 {
     // a malformed sequence often comes next, and one byte shows it
-    if !src.is_empty() && is_lone(src) {
+    if !src.is_empty() && is_malformed_byte(src) {
         return (Piece::Malformed(1), 1);
     }
     let length = utf8_valid_up_to(src);
@@ -64,14 +64,14 @@ fn borrow_front<'a>(pending: &mut Pending, src: &'a [u8], last: bool) -> (Piece<
 /// Decodes the start of `src` after an incomplete sequence. Returns the piece and how many bytes were read.
 #[inline(never)]
 fn resume_borrowed<'a>(pending: &mut Pending, src: &'a [u8], last: bool) -> (Piece<'a>, usize)
-    requires unfinished { IsBeginning pending.old }
-    ensures { IsBorrowedCall pending.old src.now last result.0 result.1 pending.new }
+    requires unfinished { IsIncomplete pending.old }
+    ensures { BorrowedDecodeStep pending.old src.now last result.0 result.1 pending.new }
 {
     match pending.resume(src) {
         (Resumed::Ended, read) => (piece_at_end(pending.end(last)), read),
-        (Resumed::Stuck(count), read) => (Piece::Malformed(count as u8), read),
-        (Resumed::Whole(bytes, count), read) => {
-            let scalar = scalar_of_sequence(&bytes[..count]);
+        (Resumed::Rejected(count), read) => (Piece::Malformed(count as u8), read),
+        (Resumed::Complete(bytes, count), read) => {
+            let scalar = decode_utf8_scalar(&bytes[..count]);
             (
                 Piece::Char(unsafe { char::from_u32_unchecked(scalar) }),
                 read,

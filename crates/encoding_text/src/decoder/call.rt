@@ -1,7 +1,7 @@
 //! One call of a decoder, to bytes or to code units. It leaves the rest of `dst` unchanged.
 ghost use Rattle.std.specs.Prelude.{◌≡◌, []};
-ghost use Rattle.encoding_definitions.specs.Sequence.{IsBeginning};
-ghost use Rattle.encoding_text.specs.Decoding.{Decodes};
+ghost use Rattle.encoding_definitions.specs.Sequence.{IsIncomplete};
+ghost use Rattle.encoding_text.specs.Decoding.{DecodeStepInto};
 
 use super::DecoderResult;
 use super::pending::{Pending, Resumed};
@@ -16,7 +16,7 @@ pub(crate) fn decode<U: CodeUnit>(
     dst: &mut [U],
     last: bool,
 ) -> (DecoderResult, usize, usize)
-    ensures { Decodes U.encode U.need pending.old src.now dst.old dst.new last result.0 result.1 result.2 pending.new }
+    ensures { DecodeStepInto U.encode U.need pending.old src.now dst.old dst.new last result.0 result.1 result.2 pending.new }
 {
     if pending.is_empty() {
         decode_neutral(pending, src, dst, last)
@@ -34,13 +34,13 @@ fn decode_neutral<U: CodeUnit>(
     last: bool,
 ) -> (DecoderResult, usize, usize)
     requires neutral { pending.old ≡ [] }
-    ensures { Decodes U.encode U.need [] src.now dst.old dst.new last result.0 result.1 result.2 pending.new }
+    ensures { DecodeStepInto U.encode U.need [] src.now dst.old dst.new last result.0 result.1 result.2 pending.new }
 {
     let (read, written) = U::convert_up_to_invalid(src, dst);
     if read == src.len() {
         return (DecoderResult::InputEmpty, read, written);
     }
-    if dst.len() - written < U::needed_room() {
+    if dst.len() - written < U::max_units_per_scalar() {
         return (DecoderResult::OutputFull, read, written);
     }
     let (result, more) = pending.end_before(&src[read..], last);
@@ -55,19 +55,19 @@ fn decode_pending<U: CodeUnit>(
     dst: &mut [U],
     last: bool,
 ) -> (DecoderResult, usize, usize)
-    requires unfinished { IsBeginning pending.old }
-    ensures { Decodes U.encode U.need pending.old src.now dst.old dst.new last result.0 result.1 result.2 pending.new }
+    requires unfinished { IsIncomplete pending.old }
+    ensures { DecodeStepInto U.encode U.need pending.old src.now dst.old dst.new last result.0 result.1 result.2 pending.new }
 {
     if src.is_empty() {
         return (pending.end(last), 0, 0);
     }
-    if dst.len() < U::needed_room() {
+    if dst.len() < U::max_units_per_scalar() {
         return (DecoderResult::OutputFull, 0, 0);
     }
     match pending.resume(src) {
         (Resumed::Ended, read) => (pending.end(last), read, 0),
-        (Resumed::Stuck(count), read) => (DecoderResult::Malformed(count as u8, 0), read, 0),
-        (Resumed::Whole(bytes, count), read) => {
+        (Resumed::Rejected(count), read) => (DecoderResult::Malformed(count as u8, 0), read, 0),
+        (Resumed::Complete(bytes, count), read) => {
             let (_, written) = U::convert_up_to_invalid(&bytes[..count], dst);
             let (result, more_read, more_written) = decode_neutral(
                 pending,

@@ -1,9 +1,9 @@
 //! The pending bytes of a decoder.
 ghost use Rattle.std.specs.Prelude.{◌≡◌, ◌≢◌, ℕ, ◌<◌, ◌≤◌, ◌↔◌, Bool, false, List, [], length, take, drop, IsTrue};
-ghost use Rattle.encoding_definitions.specs.Sequence.{IsBeginning};
+ghost use Rattle.encoding_definitions.specs.Sequence.{IsIncomplete};
 ghost use Rattle.encoding_definitions.specs.Parts.{BeginsWithNoCharacter};
 ghost use Rattle.encoding_definitions.specs.Pending.{IsPending};
-ghost use Rattle.encoding_text.specs.Decoding.{IsBroken};
+ghost use Rattle.encoding_text.specs.Decoding.{IsMalformed};
 ghost use Rattle.encoding_text.specs.Steps.Resuming.{GoesOn};
 
 use super::DecoderResult;
@@ -23,9 +23,9 @@ pub(crate) enum Pushed {
     /// A longer incomplete sequence.
     Longer,
     /// A well-formed sequence: these bytes, and its length.
-    Whole([u8; 4], usize),
+    Complete([u8; 4], usize),
     /// Neither: the byte was not read.
-    Stuck,
+    Rejected,
 }
 
 /// What a source makes of an incomplete sequence.
@@ -34,9 +34,9 @@ pub(crate) enum Resumed {
     /// A longer incomplete sequence: the source ended first.
     Ended,
     /// A well-formed sequence: these bytes, and its length.
-    Whole([u8; 4], usize),
+    Complete([u8; 4], usize),
     /// A malformed sequence of this length.
-    Stuck(usize),
+    Rejected(usize),
 }
 
 /// Returns whether the byte may follow the first `count` bytes of a sequence that starts with `lead`.
@@ -53,10 +53,10 @@ fn goes_on(lead: u8, count: usize, byte: u8) -> bool
 /// Returns whether the first byte is a malformed sequence by itself, with any bytes after these: it starts no sequence,
 /// or the next byte doesn't continue one.
 #[inline]
-pub(crate) fn is_lone(bytes: &[u8]) -> bool
-    requires some { 0 < length bytes.now }
-    ensures broken { (last : Bool) → IsTrue result → IsBroken (take 1 bytes.now) (drop 1 bytes.now) last }
-    ensures begins { BeginsWithNoCharacter bytes.now → result ≡ false → IsBeginning (take 1 bytes.now) }
+pub(crate) fn is_malformed_byte(bytes: &[u8]) -> bool
+    requires not_empty { 0 < length bytes.now }
+    ensures malformed { (last : Bool) → IsTrue result → IsMalformed (take 1 bytes.now) (drop 1 bytes.now) last }
+    ensures begins { BeginsWithNoCharacter bytes.now → result ≡ false → IsIncomplete (take 1 bytes.now) }
 {
     let lead = bytes[0];
     if begins_several(lead) {
@@ -75,7 +75,7 @@ impl Model for Pending {
 
 impl Pending {
     ghost use Rattle.encoding_text.specs.Steps.Resuming.{Pushes, Resumes};
-    ghost use Rattle.encoding_text.specs.Steps.Ending.{AnswersAllRead, AnswersNoCharacter};
+    ghost use Rattle.encoding_text.specs.Steps.Ending.{IsResultAtEnd, IsResultWithoutCharacter};
 
     /// Returns no bytes.
     pub(crate) fn none() -> Pending
@@ -88,13 +88,13 @@ impl Pending {
     }
 
     /// Returns the incomplete sequence as pending bytes.
-    pub(crate) fn hold(beginning: &[u8]) -> Pending
-        requires beginning { IsBeginning beginning.now }
-        ensures { result ≡ beginning.now }
+    pub(crate) fn hold(incomplete: &[u8]) -> Pending
+        requires incomplete { IsIncomplete incomplete.now }
+        ensures { result ≡ incomplete.now }
     {
-        let count = beginning.len();
+        let count = incomplete.len();
         let mut bytes = [0; 4];
-        bytes[..count].copy_from_slice(beginning);
+        bytes[..count].copy_from_slice(incomplete);
         Pending { bytes, count }
     }
 
@@ -121,14 +121,14 @@ impl Pending {
         ensures { Pushes self.old byte result self.new }
     {
         if !goes_on(self.bytes[0], self.count, byte) {
-            return Pushed::Stuck;
+            return Pushed::Rejected;
         }
         let mut bytes = self.bytes;
         bytes[self.count] = byte;
         let count = self.count + 1;
         if count == sequence_length(bytes[0]) {
             *self = Pending::none();
-            return Pushed::Whole(bytes, count);
+            return Pushed::Complete(bytes, count);
         }
         *self = Pending { bytes, count };
         Pushed::Longer
@@ -144,11 +144,14 @@ impl Pending {
         for (read, byte) in src.iter().enumerate() {
             match self.push(*byte) {
                 Pushed::Longer => {}
-                Pushed::Whole(bytes, count) => return (Resumed::Whole(bytes, count), read + 1),
-                Pushed::Stuck => {
+                Pushed::Complete(bytes, count) => return (
+                    Resumed::Complete(bytes, count),
+                    read + 1,
+                ),
+                Pushed::Rejected => {
                     let count = self.count;
                     *self = Pending::none();
-                    return (Resumed::Stuck(count), read);
+                    return (Resumed::Rejected(count), read);
                 }
             }
         }
@@ -158,7 +161,7 @@ impl Pending {
     /// Ends a call that read all of its source, and returns what ended it. If no more bytes come, pending bytes are a
     /// malformed sequence.
     pub(crate) fn end(&mut self, last: bool) -> DecoderResult
-        ensures { AnswersAllRead self.old last result self.new }
+        ensures { IsResultAtEnd self.old last result self.new }
     {
         if !last || self.count == 0 {
             return DecoderResult::InputEmpty;
@@ -175,28 +178,28 @@ impl Pending {
         requires neutral { self.old ≡ [] }
         requires not_empty { 0 < length rest.now }
         requires no_character { BeginsWithNoCharacter rest.now }
-        ensures { AnswersNoCharacter rest.now last result.0 result.1 self.new }
+        ensures { IsResultWithoutCharacter rest.now last result.0 result.1 self.new }
     {
-        if is_lone(rest) {
+        if is_malformed_byte(rest) {
             return (DecoderResult::Malformed(1, 0), 1);
         }
-        self.end_in_beginning(rest, last)
+        self.end_in_incomplete(rest, last)
     }
 
     /// Ends a call as `end_before` does if the first byte starts a sequence of several. Out of line: most malformed
     /// sequences are one byte.
     #[inline(never)]
-    fn end_in_beginning(&mut self, rest: &[u8], last: bool) -> (DecoderResult, usize)
+    fn end_in_incomplete(&mut self, rest: &[u8], last: bool) -> (DecoderResult, usize)
         requires not_empty { 0 < length rest.now }
         requires no_character { BeginsWithNoCharacter rest.now }
-        requires begins { IsBeginning (take 1 rest.now) }
-        ensures { AnswersNoCharacter rest.now last result.0 result.1 self.new }
+        requires begins { IsIncomplete (take 1 rest.now) }
+        ensures { IsResultWithoutCharacter rest.now last result.0 result.1 self.new }
     {
         *self = Pending::hold(&rest[..1]);
         match self.resume(&rest[1..]) {
             (Resumed::Ended, _) => (self.end(last), rest.len()),
-            (Resumed::Stuck(count), _) => (DecoderResult::Malformed(count as u8, 0), count),
-            (Resumed::Whole(..), _) => unreachable!(),
+            (Resumed::Rejected(count), _) => (DecoderResult::Malformed(count as u8, 0), count),
+            (Resumed::Complete(..), _) => unreachable!(),
         }
     }
 }

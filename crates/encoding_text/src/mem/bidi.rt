@@ -3,25 +3,25 @@
 ghost use Rattle.std.specs.Prelude.{◌≡◌, ◌<◌, ◌≤◌, ◌↔◌, ◌⊎◌, ℕ, length, IsTrue, IsFalse};
 ghost use Rattle.std.specs.Str.{IsUtf8};
 ghost use Rattle.std.specs.Int.{IsInRange};
-ghost use Rattle.encoding_definitions.specs.Fronts.{IsLongestFront};
+ghost use Rattle.encoding_definitions.specs.Prefixes.{IsLongestPrefix};
 ghost use Rattle.encoding_definitions.specs.Latin1.{IsLatin1, IsUtf8Latin1};
 ghost use Rattle.encoding_definitions.specs.Sequence.{IsSequence};
 ghost use Rattle.encoding_definitions.specs.Bidi.{IsRightToLeft, IsRightToLeftUnit, IsBidiUnits, IsBidiText, IsBidiBytes};
 ghost use Rattle.encoding_text.specs.Classes.{Classifies};
-ghost use Rattle.encoding_kernels.specs.BidiBlocks.{second_end, mark_lead, StandsRightToLeft, NoneStands};
+ghost use Rattle.encoding_kernels.specs.BidiBlocks.{rtl_second_end, rtl_mark_lead, RtlAt, NoRtlIn};
 
 use super::checks::{LATIN1_END, str_latin1_up_to, utf8_latin1_up_to};
 use crate::ascii::ascii_valid_up_to;
 use crate::utf_8::{character_length, utf8_valid_up_to};
 use encoding_kernels::bidi_blocks::{FIRST_LEAD, FIRST_UNIT, skip_clear, skip_clear_units};
-use encoding_kernels::scalars::scalar_of_sequence;
-use encoding_kernels::strides::{STRIDE, UNIT_STRIDE, front_of_bytes_below, front_of_units_below};
+use encoding_kernels::scalars::decode_utf8_scalar;
+use encoding_kernels::strides::{STRIDE, UNIT_STRIDE, prefix_len_below, units_prefix_len_below};
 
 /// The first right-to-left scalar value.
 const FIRST: u32 = 0x0590;
 
 /// How many bytes are validated before they are checked.
-const PIECE: usize = 4096;
+const VALIDATE_CHUNK: usize = 4096;
 
 /// Whether a text is Latin1, and if not, whether it has right-to-left characters.
 #[derive(Debug, PartialEq, Eq, Drop)]
@@ -83,12 +83,12 @@ fn is_sequence_bidi(bytes: &[u8]) -> bool
     requires { IsSequence bytes.now }
     ensures { IsTrue result ↔ IsBidiText bytes.now }
 {
-    is_right_to_left(scalar_of_sequence(bytes))
+    is_right_to_left(decode_utf8_scalar(bytes))
 }
 
 /// Returns whether right-to-left characters may start with the byte.
-fn may_begin(lead: u8) -> bool
-    ensures { IsFalse result → (third : ℕ) → second_end lead (mark_lead third) ≡ 0 }
+fn may_start_rtl(lead: u8) -> bool
+    ensures { IsFalse result → (third : ℕ) → rtl_second_end lead (rtl_mark_lead third) ≡ 0 }
 {
     match lead {
         0xD6..=0xE0 | 0xE2 | 0xEF | 0xF0 => true,
@@ -99,9 +99,9 @@ fn may_begin(lead: u8) -> bool
 /// Returns whether a right-to-left character starts at the index.
 fn stands_at(bytes: &[u8], at: usize) -> bool
     requires { at < length bytes.now }
-    ensures { IsTrue result ↔ StandsRightToLeft bytes.now at }
+    ensures { IsTrue result ↔ RtlAt bytes.now at }
 {
-    if !may_begin(bytes[at]) {
+    if !may_start_rtl(bytes[at]) {
         return false;
     }
     let Some(length) = character_length(&bytes[at..]) else {
@@ -113,8 +113,8 @@ fn stands_at(bytes: &[u8], at: usize) -> bool
 /// Returns whether a right-to-left character starts at one of the indices.
 fn stands_between(bytes: &[u8], from: usize, to: usize) -> bool
     requires { (from ≤ to) × (to ≤ length bytes.now) }
-    ensures found { IsTrue result → (k : ℕ) × (k < length bytes.now) × StandsRightToLeft bytes.now k }
-    ensures none { IsFalse result → NoneStands bytes.now from to }
+    ensures found { IsTrue result → (k : ℕ) × (k < length bytes.now) × RtlAt bytes.now k }
+    ensures no_rtl { IsFalse result → NoRtlIn bytes.now from to }
 {
     for at in from..to {
         if stands_at(bytes, at) {
@@ -129,7 +129,7 @@ fn is_text_bidi(bytes: &[u8]) -> bool
     requires { IsUtf8 bytes.now }
     ensures { IsTrue result ↔ IsBidiText bytes.now }
 {
-    let mut at = front_of_bytes_below(bytes, FIRST_LEAD);
+    let mut at = prefix_len_below(bytes, FIRST_LEAD);
     while at < bytes.len() {
         let from = skip_clear(bytes, at);
         at = from + STRIDE.min(bytes.len() - from);
@@ -153,18 +153,18 @@ pub fn is_utf8_bidi(buffer: &[u8]) -> bool
 {
     let mut at = ascii_valid_up_to(buffer);
     while at < buffer.len() {
-        let length = PIECE.min(buffer.len() - at);
+        let length = VALIDATE_CHUNK.min(buffer.len() - at);
         let piece = &buffer[at..at + length];
-        let front = utf8_valid_up_to(piece);
+        let prefix = utf8_valid_up_to(piece);
         // the end of a piece may cut a character after up to three bytes
-        let cut = if length == PIECE { 3 } else { 0 };
-        if length - front > cut {
+        let cut = if length == VALIDATE_CHUNK { 3 } else { 0 };
+        if length - prefix > cut {
             return true;
         }
-        if is_text_bidi(&piece[..front]) {
+        if is_text_bidi(&piece[..prefix]) {
             return true;
         }
-        at += front;
+        at += prefix;
     }
     false
 }
@@ -174,7 +174,7 @@ pub fn is_utf8_bidi(buffer: &[u8]) -> bool
 pub fn is_utf16_bidi(buffer: &[u16]) -> bool
     ensures { IsTrue result ↔ IsBidiUnits buffer.now }
 {
-    let mut at = front_of_units_below(buffer, FIRST_UNIT);
+    let mut at = units_prefix_len_below(buffer, FIRST_UNIT);
     while at < buffer.len() {
         let from = skip_clear_units(buffer, at);
         at = from + UNIT_STRIDE.min(buffer.len() - from);
@@ -189,9 +189,9 @@ pub fn is_utf16_bidi(buffer: &[u16]) -> bool
 
 /// Returns the length of the longest prefix that is Latin1.
 fn utf16_latin1_up_to(buffer: &[u16]) -> usize
-    ensures { IsLongestFront IsLatin1 buffer.now result }
+    ensures { IsLongestPrefix IsLatin1 buffer.now result }
 {
-    front_of_units_below(buffer, LATIN1_END)
+    units_prefix_len_below(buffer, LATIN1_END)
 }
 
 /// Returns `Latin1` if the bytes are the UTF-8 of scalar values up to U+00FF, otherwise `Bidi` if `is_utf8_bidi` holds,
@@ -199,11 +199,11 @@ fn utf16_latin1_up_to(buffer: &[u16]) -> usize
 pub fn check_utf8_for_latin1_and_bidi(buffer: &[u8]) -> Latin1Bidi
     ensures { Classifies (IsUtf8Latin1 buffer.now) (IsBidiBytes buffer.now) result }
 {
-    let front = utf8_latin1_up_to(buffer);
-    if front == buffer.len() {
+    let prefix = utf8_latin1_up_to(buffer);
+    if prefix == buffer.len() {
         return Latin1Bidi::Latin1;
     }
-    if is_utf8_bidi(&buffer[front..]) {
+    if is_utf8_bidi(&buffer[prefix..]) {
         Latin1Bidi::Bidi
     } else {
         Latin1Bidi::LeftToRight
@@ -215,11 +215,11 @@ pub fn check_utf8_for_latin1_and_bidi(buffer: &[u8]) -> Latin1Bidi
 pub fn check_str_for_latin1_and_bidi(buffer: &str) -> Latin1Bidi
     ensures { Classifies (IsUtf8Latin1 buffer.now) (IsBidiText buffer.now) result }
 {
-    let front = str_latin1_up_to(buffer);
-    if front == buffer.len() {
+    let prefix = str_latin1_up_to(buffer);
+    if prefix == buffer.len() {
         return Latin1Bidi::Latin1;
     }
-    if is_str_bidi(&buffer[front..]) {
+    if is_str_bidi(&buffer[prefix..]) {
         Latin1Bidi::Bidi
     } else {
         Latin1Bidi::LeftToRight
@@ -231,11 +231,11 @@ pub fn check_str_for_latin1_and_bidi(buffer: &str) -> Latin1Bidi
 pub fn check_utf16_for_latin1_and_bidi(buffer: &[u16]) -> Latin1Bidi
     ensures { Classifies (IsLatin1 buffer.now) (IsBidiUnits buffer.now) result }
 {
-    let front = utf16_latin1_up_to(buffer);
-    if front == buffer.len() {
+    let prefix = utf16_latin1_up_to(buffer);
+    if prefix == buffer.len() {
         return Latin1Bidi::Latin1;
     }
-    if is_utf16_bidi(&buffer[front..]) {
+    if is_utf16_bidi(&buffer[prefix..]) {
         Latin1Bidi::Bidi
     } else {
         Latin1Bidi::LeftToRight

@@ -4,7 +4,7 @@ ghost use Rattle.std.specs.Prelude.{◌≡◌, ◌+◌, ◌-◌, ◌*◌, ◌≤
 ghost use Rattle.std.specs.Str.{IsAscii, chars};
 ghost use Rattle.std.specs.String.{string_bytes};
 ghost use Rattle.encoding_text.specs.Borrowed.{DecodesLatin1, EncodesLatin1};
-ghost use Rattle.encoding_definitions.specs.Fronts.{WritesFront};
+ghost use Rattle.encoding_definitions.specs.Prefixes.{WritesPrefix};
 ghost use Rattle.encoding_definitions.specs.Latin1.{IsUtf8Latin1};
 
 use crate::ascii;
@@ -35,11 +35,11 @@ pub enum CowBytes<'a> {
 pub fn decode_latin1<'a>(alloc: Global, bytes: &'a [u8]) -> Result<CowStr<'a>, AllocError>
     ensures { DecodesLatin1 bytes.now result }
 {
-    let front = ascii::ascii_valid_up_to(bytes);
-    if front == bytes.len() {
+    let prefix = ascii::ascii_valid_up_to(bytes);
+    if prefix == bytes.len() {
         return Ok(CowStr::Borrowed(ascii_text(bytes)));
     }
-    Ok(CowStr::Owned(utf8_of_latin1(alloc, bytes, front)?))
+    Ok(CowStr::Owned(utf8_of_latin1(alloc, bytes, prefix)?))
 }
 
 /// Returns the scalar values of Latin1 text as bytes. They are borrowed if and only if they are ASCII, and then nothing
@@ -49,11 +49,11 @@ pub fn encode_latin1_lossy<'a>(alloc: Global, string: &'a str) -> Result<CowByte
     ensures encoded { EncodesLatin1 string.now result }
 {
     let text = string.as_bytes();
-    let front = ascii::ascii_valid_up_to(text);
-    if front == text.len() {
+    let prefix = ascii::ascii_valid_up_to(text);
+    if prefix == text.len() {
         return Ok(CowBytes::Borrowed(text));
     }
-    Ok(CowBytes::Owned(latin1_of_utf8(alloc, text, front)?))
+    Ok(CowBytes::Owned(latin1_of_utf8(alloc, text, prefix)?))
 }
 
 /// Returns ASCII bytes as a text.
@@ -64,60 +64,60 @@ fn ascii_text<'a>(bytes: &'a [u8]) -> &'a str
     unsafe { std::str::from_utf8_unchecked(bytes) }
 }
 
-/// Returns the text whose characters are the bytes. The first `front` bytes are ASCII.
-fn utf8_of_latin1(alloc: Global, bytes: &[u8], front: usize) -> Result<String, AllocError>
-    requires within { front ≤ length bytes.now }
-    requires ascii { IsAscii (take front bytes.now) }
+/// Returns the text whose characters are the bytes. The first `prefix` bytes are ASCII.
+fn utf8_of_latin1(alloc: Global, bytes: &[u8], prefix: usize) -> Result<String, AllocError>
+    requires within { prefix ≤ length bytes.now }
+    requires ascii { IsAscii (take prefix bytes.now) }
     ensures { IfOk result (λ text. string_bytes text ≡ encode_utf8_all bytes.now) }
 {
-    let Some(behind) = (bytes.len() - front).checked_mul(2) else {
+    let Some(following) = (bytes.len() - prefix).checked_mul(2) else {
         return Err(AllocError);
     };
-    let Some(room) = behind.checked_add(front) else {
+    let Some(room) = following.checked_add(prefix) else {
         return Err(AllocError);
     };
     let mut text = Vec::new(alloc);
     text.resize(room, 0)?;
-    let written = write_utf8_of_latin1(bytes, front, &mut text);
+    let written = write_utf8_of_latin1(bytes, prefix, &mut text);
     text.truncate(written);
     Ok(unsafe { String::from_utf8_unchecked(text) })
 }
 
-/// Writes the UTF-8 of the bytes as characters, and returns its length. Copies the first `front` bytes, which are
+/// Writes the UTF-8 of the bytes as characters, and returns its length. Copies the first `prefix` bytes, which are
 /// ASCII. The rest of `dst` is unchanged.
-fn write_utf8_of_latin1(bytes: &[u8], front: usize, dst: &mut [u8]) -> usize
-    requires within { front ≤ length bytes.now }
-    requires ascii { IsAscii (take front bytes.now) }
-    requires room { front + 2 * (length bytes.now - front) ≤ length dst.old }
-    ensures { WritesFront dst.old dst.new result (encode_utf8_all bytes.now) }
+fn write_utf8_of_latin1(bytes: &[u8], prefix: usize, dst: &mut [u8]) -> usize
+    requires within { prefix ≤ length bytes.now }
+    requires ascii { IsAscii (take prefix bytes.now) }
+    requires dst_length { prefix + 2 * (length bytes.now - prefix) ≤ length dst.old }
+    ensures { WritesPrefix dst.old dst.new result (encode_utf8_all bytes.now) }
 {
-    dst[..front].copy_from_slice(&bytes[..front]);
-    front + latin1::convert_latin1_to_utf8(&bytes[front..], &mut dst[front..])
+    dst[..prefix].copy_from_slice(&bytes[..prefix]);
+    prefix + latin1::convert_latin1_to_utf8(&bytes[prefix..], &mut dst[prefix..])
 }
 
-/// Returns the scalar values of Latin1 text in UTF-8. The first `front` bytes are ASCII.
-fn latin1_of_utf8(alloc: Global, text: &[u8], front: usize) -> Result<Vec<u8>, AllocError>
+/// Returns the scalar values of Latin1 text in UTF-8. The first `prefix` bytes are ASCII.
+fn latin1_of_utf8(alloc: Global, text: &[u8], prefix: usize) -> Result<Vec<u8>, AllocError>
     requires latin1 { IsUtf8Latin1 text.now }
-    requires within { front ≤ length text.now }
-    requires ascii { IsAscii (take front text.now) }
+    requires within { prefix ≤ length text.now }
+    requires ascii { IsAscii (take prefix text.now) }
     ensures { IfOk result (λ bytes. bytes.items ≡ chars text.now) }
 {
     let mut bytes = Vec::new(alloc);
     bytes.resize(text.len(), 0)?;
-    let written = write_latin1_of_utf8(text, front, &mut bytes);
+    let written = write_latin1_of_utf8(text, prefix, &mut bytes);
     bytes.truncate(written);
     Ok(bytes)
 }
 
-/// Writes the scalar values of Latin1 text in UTF-8, and returns how many bytes it wrote. Copies the first `front`
+/// Writes the scalar values of Latin1 text in UTF-8, and returns how many bytes it wrote. Copies the first `prefix`
 /// bytes, which are ASCII. The rest of `dst` is unchanged.
-fn write_latin1_of_utf8(text: &[u8], front: usize, dst: &mut [u8]) -> usize
+fn write_latin1_of_utf8(text: &[u8], prefix: usize, dst: &mut [u8]) -> usize
     requires latin1 { IsUtf8Latin1 text.now }
-    requires within { front ≤ length text.now }
-    requires ascii { IsAscii (take front text.now) }
-    requires room { length text.now ≤ length dst.old }
-    ensures { WritesFront dst.old dst.new result (chars text.now) }
+    requires within { prefix ≤ length text.now }
+    requires ascii { IsAscii (take prefix text.now) }
+    requires dst_length { length text.now ≤ length dst.old }
+    ensures { WritesPrefix dst.old dst.new result (chars text.now) }
 {
-    dst[..front].copy_from_slice(&text[..front]);
-    front + latin1::convert_utf8_to_latin1_lossy(&text[front..], &mut dst[front..])
+    dst[..prefix].copy_from_slice(&text[..prefix]);
+    prefix + latin1::convert_utf8_to_latin1_lossy(&text[prefix..], &mut dst[prefix..])
 }

@@ -2,7 +2,7 @@
 
 ghost use Rattle.std.specs.Prelude.{◌<◌, ◌≤◌, ◌↔◌, length, take, IsTrue};
 ghost use Rattle.std.specs.Str.{IsAscii};
-ghost use Rattle.encoding_definitions.specs.Fronts.{IsLongestFront};
+ghost use Rattle.encoding_definitions.specs.Prefixes.{IsLongestPrefix};
 ghost use Rattle.encoding_definitions.specs.Latin1.{IsLatin1, IsUtf8Latin1};
 ghost use Rattle.encoding_kernels.specs.Strides.{BelowUpTo};
 
@@ -10,8 +10,8 @@ use crate::ascii::ascii_valid_up_to;
 use encoding_kernels::pair_blocks::{BEYOND_LATIN1, latin1_blocks};
 use encoding_kernels::sequence::is_continuation;
 use encoding_kernels::strides::{
-    ASCII_END, BASIC_LATIN_END, STRIDE, are_all_bytes_below, are_all_units_below,
-    front_behind_stride, front_of_bytes_below, run_of_bytes_below,
+    ASCII_END, BASIC_LATIN_END, STRIDE, all_below, are_all_units_below, prefix_after_stride,
+    prefix_len_below, run_len_below,
 };
 
 /// The least UTF-16 code unit that isn't Latin1.
@@ -24,7 +24,7 @@ const LATIN1_LEAD: u8 = 0xC2;
 pub fn is_ascii(buffer: &[u8]) -> bool
     ensures { IsTrue result ↔ IsAscii buffer.now }
 {
-    are_all_bytes_below(buffer, ASCII_END)
+    all_below(buffer, ASCII_END)
 }
 
 /// Returns whether each UTF-16 code unit is ASCII.
@@ -58,12 +58,12 @@ pub fn is_utf16_latin1(buffer: &[u16]) -> bool
 /// Returns the length of the longest prefix that is the UTF-8 of scalar values up to U+00FF.
 #[inline]
 pub fn utf8_latin1_up_to(buffer: &[u8]) -> usize
-    ensures { IsLongestFront IsUtf8Latin1 buffer.now result }
+    ensures { IsLongestPrefix IsUtf8Latin1 buffer.now result }
 {
     if buffer.len() < STRIDE {
         return longest_latin1(buffer, 0);
     }
-    let run = run_of_bytes_below::<STRIDE>(buffer, 0, ASCII_END);
+    let run = run_len_below::<STRIDE>(buffer, 0, ASCII_END);
     // most text that isn't Latin1 ends here
     if run < STRIDE && buffer[run] >= BEYOND_LATIN1 {
         return run;
@@ -74,14 +74,14 @@ pub fn utf8_latin1_up_to(buffer: &[u8]) -> usize
 /// Returns the length of an ASCII prefix whose first `from` bytes are known to be ASCII. Searches further if
 /// `from` is 0 or a whole stride, and otherwise returns `from`.
 #[inline(always)]
-fn ascii_front(bytes: &[u8], from: usize) -> usize
+fn ascii_prefix_len(bytes: &[u8], from: usize) -> usize
     requires { (from ≤ length bytes.now) × BelowUpTo 0x80 bytes.now from }
     ensures within { result ≤ length bytes.now }
     ensures below { BelowUpTo 0x80 bytes.now result }
 {
     match from {
         0 => ascii_valid_up_to(bytes),
-        STRIDE => front_behind_stride(bytes, ASCII_END),
+        STRIDE => prefix_after_stride(bytes, ASCII_END),
         _ => from,
     }
 }
@@ -89,18 +89,18 @@ fn ascii_front(bytes: &[u8], from: usize) -> usize
 /// Returns the length of a prefix that is Latin1 in UTF-8: an ASCII prefix, known up to `from`, and whole blocks.
 #[tactic(auto, using(encoding_kernels::proofs::Paired::PairsLemmas::ascii_latin1))]
 #[inline(always)]
-fn latin1_front(bytes: &[u8], from: usize) -> usize
+fn latin1_prefix_len(bytes: &[u8], from: usize) -> usize
     requires { (from ≤ length bytes.now) × BelowUpTo 0x80 bytes.now from }
     ensures { (result ≤ length bytes.now) × IsUtf8Latin1 (take result bytes.now) }
 {
-    let front = ascii_front(bytes, from);
-    if front == bytes.len() {
-        return front;
+    let prefix = ascii_prefix_len(bytes, from);
+    if prefix == bytes.len() {
+        return prefix;
     }
-    if !is_latin1_lead(bytes[front]) {
-        return front;
+    if !is_latin1_lead(bytes[prefix]) {
+        return prefix;
     }
-    latin1_blocks(bytes, front + 1)
+    latin1_blocks(bytes, prefix + 1)
 }
 
 /// Returns whether a Latin1 character of two bytes starts with the byte.
@@ -115,9 +115,9 @@ fn is_latin1_lead(byte: u8) -> bool
 #[inline(never)]
 fn longest_latin1(buffer: &[u8], from: usize) -> usize
     requires { (from ≤ length buffer.now) × BelowUpTo 0x80 buffer.now from }
-    ensures { IsLongestFront IsUtf8Latin1 buffer.now result }
+    ensures { IsLongestPrefix IsUtf8Latin1 buffer.now result }
 {
-    let mut read = latin1_front(buffer, from);
+    let mut read = latin1_prefix_len(buffer, from);
     while read < buffer.len() {
         let byte = buffer[read];
         if byte < 0x80 {
@@ -138,8 +138,8 @@ fn longest_latin1(buffer: &[u8], from: usize) -> usize
 
 /// Returns the length in bytes of the longest prefix of the text whose scalar values are each up to U+00FF.
 pub fn str_latin1_up_to(buffer: &str) -> usize
-    ensures { IsLongestFront IsUtf8Latin1 buffer.now result }
+    ensures { IsLongestPrefix IsUtf8Latin1 buffer.now result }
 {
     let bytes = buffer.as_bytes();
-    front_of_bytes_below(bytes, BEYOND_LATIN1)
+    prefix_len_below(bytes, BEYOND_LATIN1)
 }

@@ -1,7 +1,7 @@
 //! From UTF-16 to UTF-8, into a destination that is always large enough.
 
 ghost use Rattle.std.specs.Prelude.{◌*◌, ◌≤◌, length, take};
-ghost use Rattle.encoding_definitions.specs.Fronts.{WritesFront};
+ghost use Rattle.encoding_definitions.specs.Prefixes.{WritesPrefix};
 ghost use Rattle.encoding_definitions.specs.Utf16.{IsUtf8OfUnits};
 
 pub use crate::utf_8::encoding::convert_utf16_to_utf8_partial;
@@ -11,9 +11,9 @@ pub use crate::utf_8::encoding::convert_utf16_to_utf8_partial;
 ///
 /// An unpaired surrogate becomes U+FFFD. The rest of `dst` is unchanged.
 pub fn convert_utf16_to_utf8(src: &[u16], dst: &mut [u8]) -> usize
-    requires room { 3 * length src.now ≤ length dst.old }
+    requires dst_length { 3 * length src.now ≤ length dst.old }
     ensures all { IsUtf8OfUnits src.now (take result dst.new) }
-    ensures rest { WritesFront dst.old dst.new result (take result dst.new) }
+    ensures unchanged_after { WritesPrefix dst.old dst.new result (take result dst.new) }
 {
     let (_, written) = convert_utf16_to_utf8_partial(src, dst);
     written

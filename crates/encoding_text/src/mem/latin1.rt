@@ -3,7 +3,7 @@
 
 ghost use Rattle.std.specs.Prelude.{◌≡◌, ◌*◌, ◌%◌, ◌<◌, ◌≤◌, ◌⊎◌, [], ◌∷◌, take, length, map, encode_utf8, encode_utf8_all};
 ghost use Rattle.std.specs.Str.{chars};
-ghost use Rattle.encoding_definitions.specs.Fronts.{FitsLongest, WritesFront};
+ghost use Rattle.encoding_definitions.specs.Prefixes.{IsLongestFittingPrefix, WritesPrefix};
 ghost use Rattle.encoding_definitions.specs.Latin1.{IsUtf8Latin1};
 
 use encoding_kernels::latin1_to_utf8::write_latin1;
@@ -18,8 +18,8 @@ const HIGH_LENGTH: usize = 2;
 
 /// Writes each byte as a UTF-16 code unit. `dst` is at least as long as `src`.
 pub fn convert_latin1_to_utf16(src: &[u8], dst: &mut [u16])
-    requires room { length src.now ≤ length dst.old }
-    ensures written { WritesFront dst.old dst.new (length src.now) src.now }
+    requires dst_length { length src.now ≤ length dst.old }
+    ensures written { WritesPrefix dst.old dst.new (length src.now) src.now }
 {
     let mut at = 0;
     // four at a time, stored in order: one vector of as many bytes is stored out of order
@@ -46,15 +46,15 @@ pub fn convert_latin1_to_utf16(src: &[u8], dst: &mut [u16])
 /// block.
 fn convert_latin1_blocks(src: &[u8], dst: &mut [u8]) -> (usize, usize)
     ensures within { result.0 ≤ length src.now }
-    ensures written { WritesFront dst.old dst.new result.1 (encode_utf8_all (take result.0 src.now)) }
+    ensures written { WritesPrefix dst.old dst.new result.1 (encode_utf8_all (take result.0 src.now)) }
 {
     let mut read = copy_ascii::<64>(src, dst, 0);
     let mut written = read;
     while src.len() - read >= 64 && dst.len() - written >= 128 {
         if are_bytes_below::<64>(src, read, ASCII_END) {
-            let front = copy_ascii::<64>(&src[read..], &mut dst[written..], 0);
-            read += front;
-            written += front;
+            let prefix = copy_ascii::<64>(&src[read..], &mut dst[written..], 0);
+            read += prefix;
+            written += prefix;
         } else {
             let end = read + 64;
             while read < end {
@@ -73,9 +73,9 @@ fn convert_latin1_blocks(src: &[u8], dst: &mut [u8]) -> (usize, usize)
 /// Writes the UTF-8 of the longest prefix of `src` whose UTF-8 fits into `dst`. Returns how many bytes it read and how
 /// many it wrote. Encoding Standard, `encodeInto`.
 pub fn convert_latin1_to_utf8_partial(src: &[u8], dst: &mut [u8]) -> (usize, usize)
-    ensures front { FitsLongest (λ b. b ∷ []) encode_utf8 src.now (length dst.old) result.0
+    ensures prefix { IsLongestFittingPrefix (λ b. b ∷ []) encode_utf8 src.now (length dst.old) result.0
         (encode_utf8_all (take result.0 src.now)) }
-    ensures written { WritesFront dst.old dst.new result.1 (encode_utf8_all (take result.0 src.now)) }
+    ensures written { WritesPrefix dst.old dst.new result.1 (encode_utf8_all (take result.0 src.now)) }
 {
     let (mut read, mut written) = convert_latin1_blocks(src, dst);
     while read < src.len() {
@@ -102,8 +102,8 @@ pub fn convert_latin1_to_utf8_partial(src: &[u8], dst: &mut [u8]) -> (usize, usi
 /// Writes the UTF-8 of each byte as a character, and returns how many bytes it wrote. `dst` is at least twice as long
 /// as `src`.
 pub fn convert_latin1_to_utf8(src: &[u8], dst: &mut [u8]) -> usize
-    requires room { 2 * length src.now ≤ length dst.old }
-    ensures written { WritesFront dst.old dst.new result (encode_utf8_all src.now) }
+    requires dst_length { 2 * length src.now ≤ length dst.old }
+    ensures written { WritesPrefix dst.old dst.new result (encode_utf8_all src.now) }
 {
     let (_, written) = convert_latin1_to_utf8_partial(src, dst);
     written
@@ -120,17 +120,17 @@ fn whole_length(last: u8) -> usize
 /// Writes the scalar value of each character of Latin1 text in UTF-8 as a byte, and returns how many bytes it wrote.
 /// `dst` has at least that length, which `latin1_length_from_utf8` returns.
 pub fn convert_utf8_to_latin1(src: &[u8], dst: &mut [u8]) -> usize
-    requires room { length (chars src.now) ≤ length dst.old }
+    requires dst_length { length (chars src.now) ≤ length dst.old }
     requires latin1 { IsUtf8Latin1 src.now }
-    ensures written { WritesFront dst.old dst.new result (chars src.now) }
+    ensures written { WritesPrefix dst.old dst.new result (chars src.now) }
 {
     let mut read = copy_ascii::<64>(src, dst, 0);
     let mut written = read;
     while src.len() - read >= 16 && dst.len() - written >= 16 {
         if are_bytes_below::<16>(src, read, ASCII_END) {
-            let front = copy_ascii::<16>(&src[read..], &mut dst[written..], 0);
-            read += front;
-            written += front;
+            let prefix = copy_ascii::<16>(&src[read..], &mut dst[written..], 0);
+            read += prefix;
+            written += prefix;
         } else {
             let (bytes, count) = latin1_of(u8x16::from_slice(&src[read..]));
             write_first(dst, written, bytes, count);
@@ -154,19 +154,19 @@ pub fn convert_utf8_to_latin1(src: &[u8], dst: &mut [u8]) -> usize
 
 /// Writes the scalar value of each character of Latin1 text in UTF-8 as a byte, and returns how many bytes it wrote.
 /// `dst` is at least as long as `src`.
-#[tactic(auto, using(encoding_kernels::proofs::Sums::TextLemmas::chars_total))]
+#[tactic(auto, using(encoding_kernels::proofs::Sums::TextSumLemmas::chars_total))]
 pub fn convert_utf8_to_latin1_lossy(src: &[u8], dst: &mut [u8]) -> usize
-    requires room { length src.now ≤ length dst.old }
+    requires dst_length { length src.now ≤ length dst.old }
     requires latin1 { IsUtf8Latin1 src.now }
-    ensures written { WritesFront dst.old dst.new result (chars src.now) }
+    ensures written { WritesPrefix dst.old dst.new result (chars src.now) }
 {
     convert_utf8_to_latin1(src, dst)
 }
 
 /// Writes the low eight bits of each UTF-16 code unit as a byte. `dst` is at least as long as `src`.
 pub fn convert_utf16_to_latin1_lossy(src: &[u16], dst: &mut [u8])
-    requires room { length src.now ≤ length dst.old }
-    ensures written { WritesFront dst.old dst.new (length src.now) (map (λ unit. unit % 0x100) src.now) }
+    requires dst_length { length src.now ≤ length dst.old }
+    ensures written { WritesPrefix dst.old dst.new (length src.now) (map (λ unit. unit % 0x100) src.now) }
 {
     let (strides, _) = src.as_chunks::<STRIDE>();
     let mut at = 0;

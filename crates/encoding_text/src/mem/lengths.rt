@@ -3,7 +3,7 @@
 ghost use Rattle.std.specs.Prelude.{◌≡◌, ℕ, List, length, encode_utf8_all};
 ghost use Rattle.std.specs.Str.{chars};
 ghost use Rattle.encoding_definitions.specs.Latin1.{IsUtf8Latin1};
-ghost use Rattle.encoding_definitions.specs.Parts.{Part, ArePartsOf, repaired_utf16};
+ghost use Rattle.encoding_definitions.specs.Parts.{Part, ArePartsOf, lossy_utf16};
 ghost use Rattle.encoding_definitions.specs.Utf16.{IsUtf8OfUnits};
 
 use encoding_kernels::lengths;
@@ -11,7 +11,7 @@ use encoding_kernels::lengths;
 /// Returns the length of the bytes in UTF-16 code units, with U+FFFD for each malformed sequence: what
 /// `convert_utf8_to_utf16` writes. Encoding Standard, UTF-8 decode without BOM.
 pub fn utf16_length_from_utf8(src: &[u8]) -> usize
-    ensures { (parts : List Part) × ArePartsOf src.now parts × (result ≡ length (repaired_utf16 parts)) }
+    ensures { (parts : List Part) × ArePartsOf src.now parts × (result ≡ length (lossy_utf16 parts)) }
 {
     lengths::utf16_length_of_utf8(src)
 }

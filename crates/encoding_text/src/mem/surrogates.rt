@@ -1,11 +1,11 @@
 //! Unpaired surrogates in UTF-16: the longest valid prefix, and repair in place.
 
 ghost use Rattle.std.specs.Prelude.{◌-◌, ◌≤◌, length, drop};
-ghost use Rattle.encoding_definitions.specs.Fronts.{IsLongestFront};
+ghost use Rattle.encoding_definitions.specs.Prefixes.{IsLongestPrefix};
 ghost use Rattle.encoding_definitions.specs.Surrogates.{IsValidUtf16, AreRepairedUnits};
-ghost use Rattle.encoding_definitions.specs.Utf16.{AreUnits};
+ghost use Rattle.encoding_definitions.specs.Utf16.{AreCodeUnits};
 
-use encoding_kernels::pair_blocks::paired_front;
+use encoding_kernels::pair_blocks::paired_prefix_len;
 use encoding_kernels::surrogates::{is_high_surrogate, is_low_surrogate, is_surrogate};
 
 /// What replaces an unpaired surrogate.
@@ -14,9 +14,9 @@ const REPLACEMENT_UNIT: u16 = 0xFFFD;
 /// Returns the length of the longest prefix without an unpaired surrogate: the index of the first one, or the length of
 /// `buffer`.
 pub fn utf16_valid_up_to(buffer: &[u16]) -> usize
-    ensures { IsLongestFront IsValidUtf16 buffer.now result }
+    ensures { IsLongestPrefix IsValidUtf16 buffer.now result }
 {
-    let mut at = paired_front(buffer);
+    let mut at = paired_prefix_len(buffer);
     while at < buffer.len() {
         let unit = buffer[at];
         if !is_surrogate(unit) {
@@ -33,11 +33,11 @@ pub fn utf16_valid_up_to(buffer: &[u16]) -> usize
 
 /// Returns the index of the first unpaired surrogate among the code units from index `from` on, or the length of
 /// `units`.
-fn next_lone(units: &[u16], from: usize) -> usize
+fn next_unpaired(units: &[u16], from: usize) -> usize
     requires { from ≤ length units.now }
-    ensures behind { from ≤ result }
-    ensures front { IsLongestFront IsValidUtf16 (drop from units.now) (result - from) }
-    ensures are_units { AreUnits units.now }
+    ensures following { from ≤ result }
+    ensures prefix { IsLongestPrefix IsValidUtf16 (drop from units.now) (result - from) }
+    ensures are_units { AreCodeUnits units.now }
 {
     from + utf16_valid_up_to(&units[from..])
 }
@@ -46,9 +46,9 @@ fn next_lone(units: &[u16], from: usize) -> usize
 pub fn ensure_utf16_validity(buffer: &mut [u16])
     ensures { AreRepairedUnits buffer.old buffer.new }
 {
-    let mut at = next_lone(buffer, 0);
+    let mut at = next_unpaired(buffer, 0);
     while at < buffer.len() {
         buffer[at] = REPLACEMENT_UNIT;
-        at = next_lone(buffer, at + 1);
+        at = next_unpaired(buffer, at + 1);
     }
 }

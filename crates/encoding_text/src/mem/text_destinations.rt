@@ -2,9 +2,9 @@
 
 ghost use Rattle.std.specs.Prelude.{◌≡◌, ◌*◌, ◌≤◌, [], ◌∷◌, length, take, encode_utf8, encode_utf8_all};
 ghost use Rattle.std.specs.Str.{IsUtf8};
-ghost use Rattle.encoding_definitions.specs.Clearing.{clear_front, WritesAndClears};
-ghost use Rattle.encoding_definitions.specs.Fronts.{FitsLongest};
-ghost use Rattle.encoding_definitions.specs.Utf16.{IsUtf8OfLongestFront, IsUtf8OfUnits};
+ghost use Rattle.encoding_definitions.specs.Clearing.{cleared_prefix, WritesAndClears};
+ghost use Rattle.encoding_definitions.specs.Prefixes.{IsLongestFittingPrefix};
+ghost use Rattle.encoding_definitions.specs.Utf16.{IsUtf8OfLongestPrefix, IsUtf8OfUnits};
 
 use crate::mem::from_utf16::convert_utf16_to_utf8;
 use crate::mem::latin1::{convert_latin1_to_utf8, convert_latin1_to_utf8_partial};
@@ -21,9 +21,9 @@ const LATIN1_ZEROS: usize = 16;
 /// `dst` is unchanged.
 pub fn convert_utf16_to_str_partial(src: &[u16], dst: &mut [u8]) -> (usize, usize)
     requires text { IsUtf8 dst.old }
-    ensures longest { IsUtf8OfLongestFront src.now (length dst.old) result.0 (take result.1 dst.new) }
+    ensures longest { IsUtf8OfLongestPrefix src.now (length dst.old) result.0 (take result.1 dst.new) }
     ensures within { result.0 ≤ length src.now }
-    ensures rest { WritesAndClears 0 dst.old dst.new result.1 (take result.1 dst.new) }
+    ensures unchanged_after { WritesAndClears 0 dst.old dst.new result.1 (take result.1 dst.new) }
     ensures text { IsUtf8 dst.new }
 {
     let (read, written) = convert_utf16_to_utf8_partial(src, dst);
@@ -37,10 +37,10 @@ pub fn convert_utf16_to_str_partial(src: &[u16], dst: &mut [u8]) -> (usize, usiz
 /// `dst` is well-formed before and after. The continuation bytes directly after the output become zero, and the rest of
 /// `dst` is unchanged.
 pub fn convert_utf16_to_str(src: &[u16], dst: &mut [u8]) -> usize
-    requires room { 3 * length src.now ≤ length dst.old }
+    requires dst_length { 3 * length src.now ≤ length dst.old }
     requires text { IsUtf8 dst.old }
     ensures all { IsUtf8OfUnits src.now (take result dst.new) }
-    ensures rest { WritesAndClears 0 dst.old dst.new result (take result dst.new) }
+    ensures unchanged_after { WritesAndClears 0 dst.old dst.new result (take result dst.new) }
     ensures text { IsUtf8 dst.new }
 {
     let end = convert_utf16_to_utf8(src, dst);
@@ -55,7 +55,7 @@ pub fn convert_utf16_to_str(src: &[u16], dst: &mut [u8]) -> usize
 /// continuation bytes directly after those become zero. The rest of `dst` is unchanged.
 pub fn convert_latin1_to_str_partial(src: &[u8], dst: &mut [u8]) -> (usize, usize)
     requires text { IsUtf8 dst.old }
-    ensures front { FitsLongest (λ b. b ∷ []) encode_utf8 src.now (length dst.old) result.0
+    ensures prefix { IsLongestFittingPrefix (λ b. b ∷ []) encode_utf8 src.now (length dst.old) result.0
         (encode_utf8_all (take result.0 src.now)) }
     ensures written { WritesAndClears 16 dst.old dst.new result.1 (encode_utf8_all (take result.0 src.now)) }
     ensures text { IsUtf8 dst.new }
@@ -71,7 +71,7 @@ pub fn convert_latin1_to_str_partial(src: &[u8], dst: &mut [u8]) -> (usize, usiz
 /// `dst` is well-formed before and after. The 16 bytes after the output, or all if there are fewer, and then the
 /// continuation bytes directly after those become zero. The rest of `dst` is unchanged.
 pub fn convert_latin1_to_str(src: &[u8], dst: &mut [u8]) -> usize
-    requires room { 2 * length src.now ≤ length dst.old }
+    requires dst_length { 2 * length src.now ≤ length dst.old }
     requires text { IsUtf8 dst.old }
     ensures written { WritesAndClears 16 dst.old dst.new result (encode_utf8_all src.now) }
     ensures text { IsUtf8 dst.new }
@@ -85,7 +85,7 @@ pub fn convert_latin1_to_str(src: &[u8], dst: &mut [u8]) -> usize
 /// those. It reads no byte after the first that is no continuation byte.
 #[inline(never)]
 fn clear(bytes: &mut [u8], zeros: usize)
-    ensures { bytes.new ≡ clear_front zeros bytes.old }
+    ensures { bytes.new ≡ cleared_prefix zeros bytes.old }
 {
     let mut at = zeros.min(bytes.len());
     bytes[..at].fill(0);

@@ -4,8 +4,8 @@ ghost use Rattle.std.specs.Prelude.{◌≡◌, ℕ, ◌<◌, ◌≤◌, ◌↔�
 ghost use Rattle.std.specs.List.{flat_map};
 ghost use Rattle.std.specs.Char.Escape.{encode_utf16};
 ghost use Rattle.std.specs.Str.{IsUtf8, chars};
-ghost use Rattle.encoding_definitions.specs.Parts.{Part, ArePartsOf, repaired_utf16};
-ghost use Rattle.encoding_definitions.specs.Fronts.{WritesFront};
+ghost use Rattle.encoding_definitions.specs.Parts.{Part, ArePartsOf, lossy_utf16};
+ghost use Rattle.encoding_definitions.specs.Prefixes.{WritesPrefix};
 ghost use Rattle.encoding_definitions.specs.Converting.{WritesText};
 
 use crate::decoder::{DecoderResult, Utf8Decoder};
@@ -17,8 +17,8 @@ use encoding_kernels::utf8_to_utf16::convert_valid_utf8_to_utf16;
 ///
 /// `dst` has at least one code unit more than `src` has bytes.
 pub fn convert_utf8_to_utf16(src: &[u8], dst: &mut [u16]) -> usize
-    requires room { length src.now < length dst.old }
-    ensures { (parts : List Part) × ArePartsOf src.now parts × WritesFront dst.old dst.new result (repaired_utf16 parts) }
+    requires dst_length { length src.now < length dst.old }
+    ensures { (parts : List Part) × ArePartsOf src.now parts × WritesPrefix dst.old dst.new result (lossy_utf16 parts) }
 {
     let mut decoder = Utf8Decoder::new_inner();
     let mut read = 0;
@@ -46,8 +46,8 @@ pub fn convert_utf8_to_utf16(src: &[u8], dst: &mut [u16]) -> usize
 ///
 /// `dst` has at least as many code units as `src` has bytes.
 pub fn convert_str_to_utf16(src: &str, dst: &mut [u16]) -> usize
-    requires room { length src.now ≤ length dst.old }
-    ensures { WritesFront dst.old dst.new result (flat_map encode_utf16 (chars src.now)) }
+    requires dst_length { length src.now ≤ length dst.old }
+    ensures { WritesPrefix dst.old dst.new result (flat_map encode_utf16 (chars src.now)) }
 {
     convert_valid_utf8_to_utf16(src.as_bytes(), dst)
 }
@@ -57,7 +57,7 @@ pub fn convert_str_to_utf16(src: &str, dst: &mut [u16]) -> usize
 /// Only the characters of the longest well-formed prefix are written. `dst` has at least as many code units as `src`
 /// has bytes.
 pub fn convert_utf8_to_utf16_without_replacement(src: &[u8], dst: &mut [u16]) -> Option<usize>
-    requires room { length src.now ≤ length dst.old }
+    requires dst_length { length src.now ≤ length dst.old }
     ensures whole { IsSome result ↔ IsUtf8 src.now }
     ensures text { (written : ℕ) × WritesText src.now dst.old dst.new written × IfSome result (λ n. n ≡ written) }
 {

@@ -3,17 +3,17 @@ ghost use Rattle.std.specs.Prelude.{◌≡◌, ℕ, ◌<◌, ◌≤◌, List, le
 ghost use Rattle.std.specs.Char.{IsScalar};
 ghost use Rattle.std.specs.Char.Escape.{encode_utf16};
 ghost use Rattle.encoding_definitions.specs.Sequence.{IsSequence};
-ghost use Rattle.encoding_definitions.specs.Fronts.{WritesFront};
-ghost use Rattle.encoding_definitions.specs.Converting.{ConvertsLongest};
-ghost use Rattle.encoding_text.specs.Steps.Converting.{Converted, ConvertsFront};
+ghost use Rattle.encoding_definitions.specs.Prefixes.{WritesPrefix};
+ghost use Rattle.encoding_definitions.specs.Converting.{ConvertsMaximal};
+ghost use Rattle.encoding_text.specs.Steps.ConversionSteps.{ConvertsSome, ConvertsUntilFull};
 
 use super::validation::{character_length, utf8_valid_up_to};
-use encoding_kernels::scalars::{scalar_of_sequence, write_utf16};
-use encoding_kernels::strides::copy_front;
-use encoding_kernels::utf8_to_utf16::{convert_ascii_front, convert_valid_utf8_to_utf16};
+use encoding_kernels::scalars::{decode_utf8_scalar, write_utf16};
+use encoding_kernels::strides::copy_prefix;
+use encoding_kernels::utf8_to_utf16::{convert_ascii_prefix, convert_valid_utf8_to_utf16};
 
 /// The most bytes that are validated before they are converted: they stay in the nearest cache.
-const PIECE: usize = 4096;
+const VALIDATE_CHUNK: usize = 4096;
 
 /// What text is converted to: bytes of UTF-8, or code units of UTF-16.
 pub(crate) trait CodeUnit: Copy {
@@ -24,14 +24,14 @@ pub(crate) trait CodeUnit: Copy {
     ghost need: { ℕ };
 
     /// Returns the most code units that a character takes.
-    fn needed_room() -> usize
-        ensures room { result ≡ need }
+    fn max_units_per_scalar() -> usize
+        ensures dst_length { result ≡ need }
         ensures holds_any { (c : ℕ) → IsScalar c → length (encode c) ≤ need };
 
     /// Converts UTF-8 up to the first byte that is in no character, or as far as whole characters fit. Returns how many
     /// bytes it read and how many code units it wrote.
     fn convert_up_to_invalid(src: &[u8], dst: &mut [Self]) -> (usize, usize)
-        ensures { ConvertsFront encode src.now dst.old dst.new result.0 result.1 };
+        ensures { ConvertsUntilFull encode src.now dst.old dst.new result.0 result.1 };
 }
 
 impl CodeUnit for u16 {
@@ -40,7 +40,7 @@ impl CodeUnit for u16 {
     ghost need = { 2 };
 
     #[inline]
-    fn needed_room() -> usize {
+    fn max_units_per_scalar() -> usize {
         2
     }
 
@@ -56,7 +56,7 @@ impl CodeUnit for u8 {
     ghost need = { 4 };
 
     #[inline]
-    fn needed_room() -> usize {
+    fn max_units_per_scalar() -> usize {
         4
     }
 
@@ -69,11 +69,11 @@ impl CodeUnit for u8 {
 /// Converts UTF-8 to UTF-16 up to the first byte that is in no character, or as far as whole characters fit. Returns
 /// how many bytes it read and how many code units it wrote. `dst` may have any length.
 pub fn convert_utf8_to_utf16_up_to_invalid(src: &[u8], dst: &mut [u16]) -> (usize, usize)
-    ensures { ConvertsLongest encode_utf16 src.now dst.old dst.new result.0 result.1 }
+    ensures { ConvertsMaximal encode_utf16 src.now dst.old dst.new result.0 result.1 }
 {
     let (mut read, mut written) = convert_texts(src, dst);
     while let Some(length) = character_length(&src[read..]) {
-        let scalar = scalar_of_sequence(&src[read..read + length]);
+        let scalar = decode_utf8_scalar(&src[read..read + length]);
         let Some(units) = write_utf16(scalar, &mut dst[written..]) else {
             break;
         };
@@ -88,15 +88,17 @@ pub fn convert_utf8_to_utf16_up_to_invalid(src: &[u8], dst: &mut [u16]) -> (usiz
 ///
 /// The test for ASCII is its validation, so ASCII before a piece is read once.
 fn convert_texts(src: &[u8], dst: &mut [u16]) -> (usize, usize)
-    ensures { Converted encode_utf16 src.now dst.old dst.new result.0 result.1 }
+    ensures { ConvertsSome encode_utf16 src.now dst.old dst.new result.0 result.1 }
 {
     let mut read = 0;
     let mut written = 0;
     loop {
-        let front = convert_ascii_front(&src[read..], &mut dst[written..]);
-        read += front;
-        written += front;
-        let room = (src.len() - read).min(dst.len() - written).min(PIECE);
+        let prefix = convert_ascii_prefix(&src[read..], &mut dst[written..]);
+        read += prefix;
+        written += prefix;
+        let room = (src.len() - read)
+            .min(dst.len() - written)
+            .min(VALIDATE_CHUNK);
         let valid = utf8_valid_up_to(&src[read..read + room]);
         if valid == 0 {
             return (read, written);
@@ -114,10 +116,10 @@ fn convert_texts(src: &[u8], dst: &mut [u16]) -> (usize, usize)
 ///
 /// The characters that fit are those of the prefix that is as long as `dst`.
 fn copy_utf8_up_to_invalid(src: &[u8], dst: &mut [u8]) -> (usize, usize)
-    ensures { ConvertsFront encode_utf8 src.now dst.old dst.new result.0 result.1 }
+    ensures { ConvertsUntilFull encode_utf8 src.now dst.old dst.new result.0 result.1 }
 {
     let room = src.len().min(dst.len());
     let length = utf8_valid_up_to(&src[..room]);
-    copy_front(&src[..length], dst);
+    copy_prefix(&src[..length], dst);
     (length, length)
 }

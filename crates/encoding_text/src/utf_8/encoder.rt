@@ -3,12 +3,12 @@ ghost use Rattle.std.specs.Prelude.{◌≡◌, ◌+◌, ◌*◌, ◌≤◌, fals
 ghost use Rattle.std.specs.Option.{SomeIff};
 ghost use Rattle.std.specs.Str.{chars};
 ghost use Rattle.std.specs.Char.Escape.{encode_utf16};
-ghost use Rattle.encoding_definitions.specs.Fronts.{FitsLongest, WritesFront};
+ghost use Rattle.encoding_definitions.specs.Prefixes.{IsLongestFittingPrefix, WritesPrefix};
 ghost use Rattle.encoding_definitions.specs.Utf16.{IsHighSurrogate};
 ghost use Rattle.encoding_definitions.specs.FirstScalar.{IsFirstScalar};
-ghost use Rattle.encoding_text.specs.Encoding.{IsHeld, EndsHigh, IsEncoderCall, IsEncoderTextCall};
+ghost use Rattle.encoding_text.specs.Encoding.{IsPendingSurrogate, EndsHigh, EncodeStep, TextEncodeStep};
 
-use crate::utf_8::encoding::{REPLACEMENT, convert_utf16_to_utf8_partial};
+use crate::utf_8::encoding::{REPLACEMENT_CHARACTER, convert_utf16_to_utf8_partial};
 use encoding_kernels::scalars::{utf8_length, write_scalar};
 use encoding_kernels::surrogates::{is_high_surrogate, is_low_surrogate, pair_scalar};
 use std::marker::Model;
@@ -27,18 +27,18 @@ pub enum EncoderResult {
 /// or the pending surrogate, which is a high surrogate that ended an earlier call.
 #[derive(Drop)]
 pub struct Utf8Encoder {
-    held: Option<u16>,
+    surrogate: Option<u16>,
 }
 
 impl Model for Utf8Encoder {
     ghost use Rattle.std.specs.Prelude.{List, ℕ};
-    ghost use Rattle.encoding_text.specs.Encoding.{held_units, IsHeld};
+    ghost use Rattle.encoding_text.specs.Encoding.{pending_units, IsPendingSurrogate};
 
     ghost Value = { List ℕ };
 
-    ghost view = { λ e. held_units e.held };
+    ghost view = { λ e. pending_units e.surrogate };
 
-    ghost invariant = { λ e. IsHeld (held_units e.held) };
+    ghost invariant = { λ e. IsPendingSurrogate (pending_units e.surrogate) };
 }
 
 impl Utf8Encoder {
@@ -46,7 +46,7 @@ impl Utf8Encoder {
     pub fn new_inner() -> Utf8Encoder
         ensures { result ≡ [] }
     {
-        Utf8Encoder { held: None }
+        Utf8Encoder { surrogate: None }
     }
 
     /// Returns the length in bytes of a destination that is large enough for a call with `u16_length` UTF-16 code
@@ -55,11 +55,11 @@ impl Utf8Encoder {
         &self,
         u16_length: usize,
     ) -> Option<usize>
-        ensures room { SomeIff result (3 * (u16_length + length self.now) ≤ usize.MAX)
+        ensures dst_length { SomeIff result (3 * (u16_length + length self.now) ≤ usize.MAX)
             (3 * (u16_length + length self.now)) }
-        ensures held { IsHeld self.now }
+        ensures surrogate { IsPendingSurrogate self.now }
     {
-        u16_length.checked_add(self.held_count())?.checked_mul(3)
+        u16_length.checked_add(self.pending_count())?.checked_mul(3)
     }
 
     /// Returns the length in bytes of a destination that is large enough for a call with a text of `byte_length` bytes.
@@ -68,19 +68,19 @@ impl Utf8Encoder {
         &self,
         byte_length: usize,
     ) -> Option<usize>
-        ensures room { SomeIff result (byte_length + 3 * length self.now ≤ usize.MAX)
+        ensures dst_length { SomeIff result (byte_length + 3 * length self.now ≤ usize.MAX)
             (byte_length + 3 * length self.now) }
-        ensures held { IsHeld self.now }
+        ensures surrogate { IsPendingSurrogate self.now }
     {
-        byte_length.checked_add(3 * self.held_count())
+        byte_length.checked_add(3 * self.pending_count())
     }
 
     /// Returns how many code units are pending.
-    fn held_count(&self) -> usize
-        ensures count { result ≡ length self.now }
-        ensures held { IsHeld self.now }
+    fn pending_count(&self) -> usize
+        ensures pending_length { result ≡ length self.now }
+        ensures surrogate { IsPendingSurrogate self.now }
     {
-        match self.held {
+        match self.surrogate {
             Some(_) => 1,
             None => 0,
         }
@@ -99,24 +99,24 @@ impl Utf8Encoder {
         dst: &mut [u8],
         last: bool,
     ) -> (EncoderResult, usize, usize)
-        ensures call { IsEncoderCall self.old src.now (length dst.old) last
+        ensures call { EncodeStep self.old src.now (length dst.old) last
             result.0 result.1 (take result.2 dst.new) self.new }
         ensures within { result.1 ≤ length src.now }
-        ensures rest { WritesFront dst.old dst.new result.2 (take result.2 dst.new) }
+        ensures unchanged_after { WritesPrefix dst.old dst.new result.2 (take result.2 dst.new) }
         ensures suffices { 3 * (length src.now + length self.old) ≤ length dst.old → result.0 ≡ EncoderResult.InputEmpty }
     {
-        let Some(high) = self.held else {
+        let Some(high) = self.surrogate else {
             return self.encode_fresh(src, dst, last);
         };
         if src.is_empty() && !last {
             return (EncoderResult::InputEmpty, 0, 0);
         }
-        let (scalar, taken) = first_with_held(high, src);
+        let (scalar, taken) = first_with_pending(high, src);
         if utf8_length(scalar) > dst.len() {
             return (EncoderResult::OutputFull, 0, 0);
         }
         let first = write_scalar(scalar, dst);
-        self.held = None;
+        self.surrogate = None;
         let (result, read, written) = self.encode_fresh(&src[taken..], &mut dst[first..], last);
         (result, taken + read, first + written)
     }
@@ -129,10 +129,10 @@ impl Utf8Encoder {
         last: bool,
     ) -> (EncoderResult, usize, usize)
         requires fresh { self.old ≡ [] }
-        ensures call { IsEncoderCall [] src.now (length dst.old) last
+        ensures call { EncodeStep [] src.now (length dst.old) last
             result.0 result.1 (take result.2 dst.new) self.new }
         ensures within { result.1 ≤ length src.now }
-        ensures rest { WritesFront dst.old dst.new result.2 (take result.2 dst.new) }
+        ensures unchanged_after { WritesPrefix dst.old dst.new result.2 (take result.2 dst.new) }
     {
         let due = due_length(src, last);
         let (read, written) = convert_utf16_to_utf8_partial(&src[..due], dst);
@@ -140,7 +140,7 @@ impl Utf8Encoder {
             return (EncoderResult::OutputFull, read, written);
         }
         if due < src.len() {
-            self.held = Some(src[due]);
+            self.surrogate = Some(src[due]);
         }
         (EncoderResult::InputEmpty, src.len(), written)
     }
@@ -156,21 +156,21 @@ impl Utf8Encoder {
         dst: &mut [u8],
         _last: bool,
     ) -> (EncoderResult, usize, usize)
-        ensures call { IsEncoderTextCall self.old src.now (length dst.old)
+        ensures call { TextEncodeStep self.old src.now (length dst.old)
             result.0 result.1 (take result.2 dst.new) self.new }
         ensures within { result.1 ≤ length src.now }
-        ensures rest { WritesFront dst.old dst.new result.2 (take result.2 dst.new) }
+        ensures unchanged_after { WritesPrefix dst.old dst.new result.2 (take result.2 dst.new) }
         ensures suffices { length src.now + 3 * length self.old ≤ length dst.old → result.0 ≡ EncoderResult.InputEmpty }
     {
-        let Some(_) = self.held else {
+        let Some(_) = self.surrogate else {
             let (result, read) = encode_text(src, dst);
             return (result, read, read);
         };
-        if utf8_length(REPLACEMENT) > dst.len() {
+        if utf8_length(REPLACEMENT_CHARACTER) > dst.len() {
             return (EncoderResult::OutputFull, 0, 0);
         }
-        let first = write_scalar(REPLACEMENT, dst);
-        self.held = None;
+        let first = write_scalar(REPLACEMENT_CHARACTER, dst);
+        self.surrogate = None;
         let (result, read) = encode_text(src, &mut dst[first..]);
         (result, read, first + read)
     }
@@ -179,7 +179,7 @@ impl Utf8Encoder {
 /// Returns how many of the code units can be written: all except a high surrogate that ends a call not marked last.
 fn due_length(src: &[u16], last: bool) -> usize
     ensures within { result ≤ length src.now }
-    ensures held { IsHeld (drop result src.now) }
+    ensures surrogate { IsPendingSurrogate (drop result src.now) }
     ensures last { IsTrue last → result ≡ length src.now }
     ensures waits { last ≡ false → EndsHigh src.now → result + 1 ≡ length src.now }
 {
@@ -196,23 +196,23 @@ fn due_length(src: &[u16], last: bool) -> usize
 
 /// Returns the scalar value that is written for the first part of `high` followed by `src`, and how many code units of
 /// `src` that part takes.
-fn first_with_held(high: u16, src: &[u16]) -> (u32, usize)
+fn first_with_pending(high: u16, src: &[u16]) -> (u32, usize)
     requires { IsHighSurrogate high }
-    ensures first { IsFirstScalar (high ∷ src.now) result.0 }
+    ensures scalar { IsFirstScalar (high ∷ src.now) result.0 }
     ensures taken { result.1 + 1 ≡ length (encode_utf16 result.0) }
     ensures within { result.1 ≤ length src.now }
 {
     if !src.is_empty() && is_low_surrogate(src[0]) {
         return (pair_scalar(high, src[0]), 1);
     }
-    (REPLACEMENT, 0)
+    (REPLACEMENT_CHARACTER, 0)
 }
 
 /// Encodes the text with nothing pending. Returns what ended the call and how many bytes it read and wrote.
 fn encode_text(src: &str, dst: &mut [u8]) -> (EncoderResult, usize)
-    ensures call { IsEncoderTextCall [] src.now (length dst.old) result.0 result.1 (take result.1 dst.new) [] }
+    ensures call { TextEncodeStep [] src.now (length dst.old) result.0 result.1 (take result.1 dst.new) [] }
     ensures within { result.1 ≤ length src.now }
-    ensures rest { WritesFront dst.old dst.new result.1 (take result.1 dst.new) }
+    ensures unchanged_after { WritesPrefix dst.old dst.new result.1 (take result.1 dst.new) }
 {
     let read = copy_text(src, dst);
     if read < src.len() {
@@ -223,9 +223,9 @@ fn encode_text(src: &str, dst: &mut [u8]) -> (EncoderResult, usize)
 
 /// Copies the first characters of the text, as many as fit into `dst`, and returns their length in bytes.
 fn copy_text(src: &str, dst: &mut [u8]) -> usize
-    ensures longest { FitsLongest encode_utf8 encode_utf8 (chars src.now) (length dst.old) result (take result src.now) }
+    ensures longest { IsLongestFittingPrefix encode_utf8 encode_utf8 (chars src.now) (length dst.old) result (take result src.now) }
     ensures within { result ≤ length src.now }
-    ensures rest { WritesFront dst.old dst.new result (take result src.now) }
+    ensures unchanged_after { WritesPrefix dst.old dst.new result (take result src.now) }
 {
     let count = src.floor_char_boundary(dst.len());
     dst[..count].copy_from_slice(&src.as_bytes()[..count]);

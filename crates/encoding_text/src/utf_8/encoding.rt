@@ -1,7 +1,7 @@
 //! UTF-16 to UTF-8, into a destination of any length. A conversion leaves the rest of `dst` unchanged.
 ghost use Rattle.std.specs.Prelude.{◌≡◌, ◌+◌, ◌<◌, ◌≤◌, ◌⊎◌, length, take, drop};
-ghost use Rattle.encoding_definitions.specs.Fronts.{WritesFront};
-ghost use Rattle.encoding_definitions.specs.Utf16.{IsUtf8OfFront, IsUtf8OfLongestFront};
+ghost use Rattle.encoding_definitions.specs.Prefixes.{WritesPrefix};
+ghost use Rattle.encoding_definitions.specs.Utf16.{IsUtf8OfPrefix, IsUtf8OfLongestPrefix};
 ghost use Rattle.encoding_definitions.specs.FirstScalar.{IsFirstScalar};
 
 use encoding_kernels::scalars::{utf8_length, utf16_length, write_scalar};
@@ -12,7 +12,7 @@ use encoding_kernels::surrogates::{
 use encoding_kernels::utf16_blocks::{convert_blocks, convert_paired_blocks};
 
 /// The scalar value that is written for an unpaired surrogate.
-pub(super) const REPLACEMENT: u32 = 0xFFFD;
+pub(super) const REPLACEMENT_CHARACTER: u32 = 0xFFFD;
 
 /// The most bytes that a character has in UTF-8.
 const LONGEST: usize = 4;
@@ -33,27 +33,27 @@ fn scalar_at(src: &[u16], at: usize) -> u32
             return pair_scalar(unit, next);
         }
     }
-    REPLACEMENT
+    REPLACEMENT_CHARACTER
 }
 
 /// How many characters to convert one at a time after two attempts at blocks in a row failed.
-const MANY_SINGLES: usize = 32;
+const SCALAR_BURST: usize = 32;
 
 /// Returns how many characters to convert one at a time before trying blocks again. None after blocks with surrogate
-/// pairs made progress. `MANY_SINGLES` if fewer than eight units are left, or if two attempts in a row converted fewer
+/// pairs made progress. `SCALAR_BURST` if fewer than eight units are left, or if two attempts in a row converted fewer
 /// than eight: text without blocks is not scanned twice. Otherwise one: the character that stopped the blocks.
 #[inline(always)]
-fn singles_behind(units: usize, paired: usize, left: usize, in_vain: bool) -> usize
+fn scalar_budget(units: usize, paired: usize, left: usize, last_block_failed: bool) -> usize
     ensures { paired ≡ 0 → 0 < result }
 {
     if left < HALF_STRIDE {
-        return MANY_SINGLES;
+        return SCALAR_BURST;
     }
     if paired > 0 {
         return 0;
     }
-    if units < HALF_STRIDE && in_vain {
-        return MANY_SINGLES;
+    if units < HALF_STRIDE && last_block_failed {
+        return SCALAR_BURST;
     }
     1
 }
@@ -64,19 +64,19 @@ fn singles_behind(units: usize, paired: usize, left: usize, in_vain: bool) -> us
 ///
 /// Either all of `src` is read, or at most three bytes are free, which `convert_utf16_to_utf8_partial_tail` then fills.
 pub fn convert_utf16_to_utf8_partial_inner(src: &[u16], dst: &mut [u8]) -> (usize, usize)
-    ensures front { IsUtf8OfFront src.now result.0 (take result.1 dst.new) }
-    ensures rest { WritesFront dst.old dst.new result.1 (take result.1 dst.new) }
+    ensures prefix { IsUtf8OfPrefix src.now result.0 (take result.1 dst.new) }
+    ensures unchanged_after { WritesPrefix dst.old dst.new result.1 (take result.1 dst.new) }
     ensures within { result.0 ≤ length src.now }
     ensures filled { (result.0 ≡ length src.now) ⊎ (length dst.old < result.1 + 4) }
 {
     let mut read = 0;
     let mut written = 0;
     let mut singles = if src.len() < HALF_STRIDE {
-        MANY_SINGLES
+        SCALAR_BURST
     } else {
         0
     };
-    let mut in_vain = false;
+    let mut last_block_failed = false;
     let end = dst.len().saturating_sub(LONGEST - 1);
     while read < src.len() && written < end {
         if singles == 0 {
@@ -86,8 +86,8 @@ pub fn convert_utf16_to_utf8_partial_inner(src: &[u16], dst: &mut [u8]) -> (usiz
             let (paired, extra) = convert_paired_blocks(&src[read..], &mut dst[written..]);
             read += paired;
             written += extra;
-            singles = singles_behind(units, paired, src.len() - read, in_vain);
-            in_vain = units | paired < HALF_STRIDE;
+            singles = scalar_budget(units, paired, src.len() - read, last_block_failed);
+            last_block_failed = units | paired < HALF_STRIDE;
         } else if src[read] < 0x80 {
             dst[written] = src[read] as u8;
             written += 1;
@@ -109,9 +109,9 @@ pub fn convert_utf16_to_utf8_partial_inner(src: &[u16], dst: &mut [u8]) -> (usiz
 pub fn convert_utf16_to_utf8_partial_tail(src: &[u16], dst: &mut [u8]) -> (usize, usize)
     requires not_empty { 0 < length src.now }
     requires at_most_three { length dst.old ≤ 3 }
-    ensures longest { IsUtf8OfLongestFront src.now (length dst.old) result.0 (take result.1 dst.new) }
+    ensures longest { IsUtf8OfLongestPrefix src.now (length dst.old) result.0 (take result.1 dst.new) }
     ensures within { result.0 ≤ length src.now }
-    ensures rest { WritesFront dst.old dst.new result.1 (take result.1 dst.new) }
+    ensures unchanged_after { WritesPrefix dst.old dst.new result.1 (take result.1 dst.new) }
 {
     let mut read = 0;
     let mut written = 0;
@@ -132,9 +132,9 @@ pub fn convert_utf16_to_utf8_partial_tail(src: &[u16], dst: &mut [u8]) -> (usize
 /// An unpaired surrogate becomes U+FFFD, even at the end of `src`: no surrogate is kept for the next call. No character
 /// is written in part.
 pub fn convert_utf16_to_utf8_partial(src: &[u16], dst: &mut [u8]) -> (usize, usize)
-    ensures longest { IsUtf8OfLongestFront src.now (length dst.old) result.0 (take result.1 dst.new) }
+    ensures longest { IsUtf8OfLongestPrefix src.now (length dst.old) result.0 (take result.1 dst.new) }
     ensures within { result.0 ≤ length src.now }
-    ensures rest { WritesFront dst.old dst.new result.1 (take result.1 dst.new) }
+    ensures unchanged_after { WritesPrefix dst.old dst.new result.1 (take result.1 dst.new) }
 {
     let (read, written) = convert_utf16_to_utf8_partial_inner(src, dst);
     if read == src.len() {

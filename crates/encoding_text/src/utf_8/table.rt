@@ -2,7 +2,7 @@
 //! of three and of four bytes by it.
 ghost use Rattle.std.specs.Prelude.{◌≡◌, ◌≢◌, ◌↔◌, ◌+◌, ◌≤◌, [], ◌∷◌};
 ghost use Rattle.encoding_definitions.specs.Sequence.{IsSequence};
-ghost use Rattle.encoding_definitions.specs.Table.{of_three, of_four};
+ghost use Rattle.encoding_definitions.specs.Table.{three_byte_formula, four_byte_formula};
 
 /// An entry for each second byte, followed by one for each first byte from 0x80 on. The two lowest bits of each are
 /// zero. A byte may follow the first byte of a sequence of three or four if and only if their entries have no bit in
@@ -52,10 +52,10 @@ pub const UTF8_DATA: Utf8Data = Utf8Data {
 /// one certain value. It never has that value for a first byte of 0x80 to 0xC1 (three bytes) or from 0xF5 on (four).
 pub fn law_table(lead: u8, second: u8, third: u8, fourth: u8)
     ensures three { 0xE0 ≤ lead → lead ≤ 0xEF
-        → (of_three UTF8_DATA.table lead second third ≡ 2) ↔ IsSequence (lead ∷ second ∷ third ∷ []) }
-    ensures low { 0x80 ≤ lead → lead ≤ 0xC1 → of_three UTF8_DATA.table lead second third ≢ 2 }
+        → (three_byte_formula UTF8_DATA.table lead second third ≡ 2) ↔ IsSequence (lead ∷ second ∷ third ∷ []) }
+    ensures low { 0x80 ≤ lead → lead ≤ 0xC1 → three_byte_formula UTF8_DATA.table lead second third ≢ 2 }
     ensures four { 0xF0 ≤ lead → lead ≤ 0xF4
-        → (of_four UTF8_DATA.table lead second third fourth ≡ 0x202)
+        → (four_byte_formula UTF8_DATA.table lead second third fourth ≡ 0x202)
         ↔ IsSequence (lead ∷ second ∷ third ∷ fourth ∷ []) }
-    ensures high { 0xF5 ≤ lead → of_four UTF8_DATA.table lead second third fourth ≢ 0x202 }
+    ensures high { 0xF5 ≤ lead → four_byte_formula UTF8_DATA.table lead second third fourth ≢ 0x202 }
 {}

@@ -3,7 +3,7 @@ ghost use Rattle.std.specs.Prelude.{◌<◌, ◌≤◌, ◌↔◌, ◌⊎◌, []
 ghost use Rattle.std.specs.Str.{IsUtf8};
 ghost use Rattle.encoding_definitions.specs.Sequence.{IsSequence};
 ghost use Rattle.encoding_definitions.specs.Parts.{BeginsWithNoCharacter};
-ghost use Rattle.encoding_definitions.specs.Fronts.{IsLongestFront};
+ghost use Rattle.encoding_definitions.specs.Prefixes.{IsLongestPrefix};
 
 use crate::ascii::ascii_valid_up_to;
 use crate::utf_8::table::{UTF8_DATA, law_table};
@@ -98,7 +98,7 @@ pub fn character_length(bytes: &[u8]) -> Option<usize>
 /// UTF-8 Byte Sequences. The first byte determines the length and which second bytes are allowed. So no byte of an
 /// overlong form, of an encoded surrogate or above U+10FFFF is in the prefix.
 pub fn utf8_valid_up_to(src: &[u8]) -> usize
-    ensures { IsLongestFront IsUtf8 src.now result }
+    ensures { IsLongestPrefix IsUtf8 src.now result }
 {
     let mut at = 0;
     if src.len() >= 16 {

@@ -1,6 +1,6 @@
 use Rattle.std.proofs.Common.{arith}
 use Rattle.std.proofs.lemmas.Grind.{common_steps}
-use Rattle.engine_example.proofs.BlockLemmas.{block_written}
+use Rattle.engine_example.proofs.EngineBlockLemmas.{block_written}
 use Rattle.engine_example.proofs.append_block.Goals as goal
 
 pub returns-clause-written : goal.returns-clause-written

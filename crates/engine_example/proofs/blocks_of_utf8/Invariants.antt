@@ -1,6 +1,6 @@
 use Rattle.std.proofs.Common.{false, [], take}
 use Rattle.std.specs.List.{flat_map}
-use Rattle.engine_example.specs.Blocks.{WritesPiece}
+use Rattle.engine_example.specs.CutBlocks.{WritesPiece}
 use Rattle.engine_example.proofs.blocks_of_utf8.Given as goal
 
 abbrev pub invariant-loop-piece : goal.invariant-loop-piece

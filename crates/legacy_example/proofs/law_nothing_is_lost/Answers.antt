@@ -7,7 +7,7 @@ use Rattle.std.proofs.lemmas.List.FromFn.{get_or-map-range_with_len}
 use Rattle.std.proofs.lemmas.Str.{length-encode, len_utf8_bounds}
 use lib.Utf8.{low_scalar}
 use Rattle.encoding_definitions.specs.Sequence.{IsSequence}
-use Rattle.encoding_definitions.proofs.Decomposition.PartsLemmas.{fronts_nest}
+use Rattle.encoding_definitions.proofs.Decomposition.PartsLemmas.{prefixes_nest}
 use Rattle.legacy_example.specs.Windows1252.{index, scalar_of, AreBytes}
 use Rattle.legacy_example.proofs.IndexLemmas.{high, scalar_low, scalar_below}
 use Rattle.legacy_example.proofs.law_nothing_is_lost.Goals as goal
@@ -40,7 +40,7 @@ byte_back b h = elim (cases_lt b 0x80) [
 -- where the UTF-8 of one scalar value ends
 same_end : ((bs rest : List ℕ) → IsSequence bs → IsSequence (bs ++ rest) → rest ≡ [])
     → (x xs y ys : List ℕ) → IsSequence x → IsSequence y → x ++ xs ≡ y ++ ys → (x ≡ y) × (xs ≡ ys)
-same_end none x xs y ys s t e = elim (fronts_nest x xs y ys e) [
+same_end none x xs y ys s t e = elim (prefixes_nest x xs y ys e) [
   | inl (more, f, g) ↦ let nothing = none x more s (subst IsSequence f t) in let whole = append-nil x in (cc, cc)
   | inr (more, f, g) ↦ let nothing = none y more t (subst IsSequence f s) in let whole = append-nil y in (cc, cc)
 ]

@@ -3,7 +3,7 @@ ghost use Rattle.std.specs.Prelude.{◌<◌, length, IsTrue};
 
 /// Which pieces are due. The reader sets it for the writer with each read.
 #[derive(Clone, Copy)]
-pub(crate) enum Due {
+pub(crate) enum FlushPolicy {
     /// No piece: more buffered bytes can be read.
     Nothing,
     /// The piece that ends with this byte, the last byte that was read, and all buffered bytes. The byte is ASCII, so
@@ -13,14 +13,14 @@ pub(crate) enum Due {
     Each,
 }
 
-impl Due {
+impl FlushPolicy {
     /// Returns whether this piece is due. An empty piece never is.
     pub(crate) fn has(self, piece: &[u8]) -> bool
         ensures { IsTrue result → 0 < length piece.now }
     {
         match (self, piece.last()) {
-            (Due::UpTo(end), Some(byte)) => *byte == end,
-            (Due::Each, Some(_)) => true,
+            (FlushPolicy::UpTo(end), Some(byte)) => *byte == end,
+            (FlushPolicy::Each, Some(_)) => true,
             _ => false,
         }
     }

@@ -79,7 +79,7 @@ impl<const N: usize> Held<N> {
     pub(crate) fn push(&mut self, piece: &[u8]) -> bool
         ensures taken { IsTrue result → self.new ≡ self.old ++ piece.now }
         ensures refused { IsFalse result → self.new ≡ self.old }
-        ensures room { self.old ≡ [] → length piece.now ≤ N → IsTrue result }
+        ensures dst_length { self.old ≡ [] → length piece.now ≤ N → IsTrue result }
     {
         if piece.len() > N - self.end {
             return false;
@@ -93,12 +93,12 @@ impl<const N: usize> Held<N> {
 
     /// Moves the first bytes into the buffer, at most `most` and as many as it holds, and returns how many.
     pub(crate) fn pop_into(&mut self, buffer: &mut [u8], most: usize) -> usize
-        ensures count { result ≡ min most (min (length self.old) (length buffer.old)) }
+        ensures copied_length { result ≡ min most (min (length self.old) (length buffer.old)) }
         ensures bytes { self.old ≡ take result buffer.new ++ self.new }
     {
         let count = most.min(self.len().min(buffer.len()));
-        let front = &self.as_slice()[..count];
-        buffer[..count].copy_from_slice(front);
+        let prefix = &self.as_slice()[..count];
+        buffer[..count].copy_from_slice(prefix);
         self.advance(count);
         count
     }

@@ -2,7 +2,7 @@
 ghost use Rattle.std.specs.Prelude.{◌≡◌, ◌<◌, []};
 ghost use Rattle.std.specs.Io.KnownBytes.{prepend_known};
 
-use super::due::Due;
+use super::due::FlushPolicy;
 use super::held::Held;
 use std::cell::Cell;
 use std::io::{self, Read};
@@ -10,23 +10,26 @@ use std::str::from_utf8;
 
 /// The number of last bytes that are returned separately if no whole character ends the array. A filter that holds back
 /// at most three bytes, as an incomplete sequence, writes something when it reads these.
-const LAST: usize = 4;
+const LAST_BYTES: usize = 4;
 
 /// Returns how many of the last bytes are returned separately, and what of them is due.
 ///
 /// If a whole character ends the bytes, the filter writes it last and holds nothing back. If it has more than one byte,
 /// only its first byte is returned with the bytes before it. Then the parts of these are final, and the other bytes of
 /// the character make one piece.
-fn last_ones(bytes: &[u8]) -> (usize, Due) {
-    for count in 1..LAST + 1 {
+fn last_ones(bytes: &[u8]) -> (usize, FlushPolicy) {
+    for count in 1..LAST_BYTES + 1 {
         let start = bytes.len().saturating_sub(count);
         match bytes.get(start..) {
-            Some([end]) if end.is_ascii() => return (1, Due::UpTo(*end)),
-            Some(character) if from_utf8(character).is_ok() => return (count - 1, Due::Each),
+            Some([end]) if end.is_ascii() => return (1, FlushPolicy::UpTo(*end)),
+            Some(character) if from_utf8(character).is_ok() => return (
+                count - 1,
+                FlushPolicy::Each,
+            ),
             _ => {}
         }
     }
-    (LAST, Due::Each)
+    (LAST_BYTES, FlushPolicy::Each)
 }
 
 /// Fills an array with one read, and returns its bytes in pieces. Returns separately the bytes after which the next
@@ -35,12 +38,12 @@ fn last_ones(bytes: &[u8]) -> (usize, Due) {
 pub(crate) struct ReadAhead<'a, R, const N: usize> {
     inner: R,
     held: Held<N>,
-    due: &'a Cell<Due>,
+    due: &'a Cell<FlushPolicy>,
 }
 
 impl<'a, R, const N: usize> ReadAhead<'a, R, N> {
     /// Returns a reader that reads ahead from `inner`.
-    pub(crate) fn new(inner: R, due: &'a Cell<Due>) -> ReadAhead<'a, R, N>
+    pub(crate) fn new(inner: R, due: &'a Cell<FlushPolicy>) -> ReadAhead<'a, R, N>
         requires { 0 < N }
         ensures inner { result.inner ≡ inner }
         ensures held { result.held ≡ [] }
@@ -61,8 +64,12 @@ impl<R: Read, const N: usize> Read for ReadAhead<'_, R, N> {
         self.held.fill(&mut self.inner)?;
         let (apart, due) = last_ones(self.held.as_slice());
         let ahead = self.held.len().saturating_sub(apart);
-        self.due.set(if ahead == 0 { due } else { Due::Nothing });
-        let most = if ahead == 0 { LAST } else { ahead };
+        self.due.set(if ahead == 0 {
+            due
+        } else {
+            FlushPolicy::Nothing
+        });
+        let most = if ahead == 0 { LAST_BYTES } else { ahead };
         Ok(self.held.pop_into(buffer, most))
     }
 }

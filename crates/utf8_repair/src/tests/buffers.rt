@@ -4,21 +4,21 @@ use super::peers::{Flaky, Peer};
 use super::serve_rows::FAULTS;
 use super::streams::{Input, Output};
 use crate::service::serve;
-use crate::streams::{Due, ReadAhead, WriteBehind};
+use crate::streams::{BufferedWriter, FlushPolicy, ReadAhead};
 use std::cell::Cell;
 use std::io::{ErrorKind, Read, Write};
 
-pub const TEXT: &[u8] = b"thirty-nine bytes, and each a lone one.";
+pub const TEXT: &[u8] = b"thirty-nine bytes, and each a real one.";
 
 /// Returns whether the program, over arrays of eight, writes all bytes of its peer. Reads have `step` bytes and writes
 /// at most `taken`, and at each read all bytes due have been written.
 fn writes_what_is_due(step: usize, taken: usize) -> bool {
-    let (due, arrived) = (Cell::new(Due::Each), Cell::new(0));
+    let (due, arrived) = (Cell::new(FlushPolicy::Each), Cell::new(0));
     let mut peer = Peer::new(TEXT, step, &arrived);
     let mut flaky = Flaky::new(taken, usize::MAX, None, &arrived);
     let mut errors = Output::that_takes_all();
     let mut reader: ReadAhead<'_, _, 8> = ReadAhead::new(&mut peer, &due);
-    let mut writer: WriteBehind<'_, _, 8> = WriteBehind::new(&mut flaky, &due);
+    let mut writer: BufferedWriter<'_, _, 8> = BufferedWriter::new(&mut flaky, &due);
     let status = serve(0, &mut reader, &mut writer, &mut errors);
     status == 0 && flaky.written() == TEXT && peer.late == 0
 }
@@ -33,10 +33,10 @@ fn writes_what_is_due_before_it_waits(rt: HostRuntime) {
 }
 
 /// Returns whether all bytes arrive if one inner write fails or writes nothing, and the caller tries again.
-fn loses_nothing(fault: Option<ErrorKind>, calls: usize, step: usize, due: Due) -> bool {
+fn loses_nothing(fault: Option<ErrorKind>, calls: usize, step: usize, due: FlushPolicy) -> bool {
     let (due, arrived) = (Cell::new(due), Cell::new(0));
     let mut flaky = Flaky::new(step, calls, fault, &arrived);
-    let mut writer: WriteBehind<'_, _, 8> = WriteBehind::new(&mut flaky, &due);
+    let mut writer: BufferedWriter<'_, _, 8> = BufferedWriter::new(&mut flaky, &due);
     let mut rest = TEXT;
     let mut failed: usize = 0;
     for _ in 0..50 {
@@ -56,7 +56,11 @@ fn keeps_what_a_failed_write_leaves(rt: HostRuntime) {
     for fault in FAULTS {
         for calls in 0..40 {
             for step in [1, 2, 3, 4, 7, 64] {
-                for due in [Due::Nothing, Due::Each, Due::UpTo(b'e')] {
+                for due in [
+                    FlushPolicy::Nothing,
+                    FlushPolicy::Each,
+                    FlushPolicy::UpTo(b'e'),
+                ] {
                     assert!(rt; loses_nothing(fault, calls, step, due), "{calls}, {step}");
                 }
             }
@@ -67,9 +71,9 @@ fn keeps_what_a_failed_write_leaves(rt: HostRuntime) {
 /// A piece longer than the array is written through, after the buffered bytes.
 #[test]
 fn passes_long_pieces_through(rt: HostRuntime) {
-    let (due, arrived) = (Cell::new(Due::Nothing), Cell::new(0));
+    let (due, arrived) = (Cell::new(FlushPolicy::Nothing), Cell::new(0));
     let mut flaky = Flaky::new(64, usize::MAX, None, &arrived);
-    let mut writer: WriteBehind<'_, _, 8> = WriteBehind::new(&mut flaky, &due);
+    let mut writer: BufferedWriter<'_, _, 8> = BufferedWriter::new(&mut flaky, &due);
     assert!(rt; writer.write(b"two").unwrap_or(0) == 3);
     assert!(rt; arrived.get() == 0);
     assert!(rt; writer.write(TEXT).unwrap_or(0) == TEXT.len());
@@ -79,11 +83,11 @@ fn passes_long_pieces_through(rt: HostRuntime) {
 
 /// Returns whether a run over both arrays returns the status, and its inner writer received exactly this text.
 fn serves(reader: Input<'_>, writer: &mut Output, text: &[u8], status: u8) -> bool {
-    let due = Cell::new(Due::Each);
+    let due = Cell::new(FlushPolicy::Each);
     let mut errors = Output::that_takes_all();
     let mut ahead: ReadAhead<'_, _, 8> = ReadAhead::new(reader, &due);
-    let mut behind: WriteBehind<'_, _, 8> = WriteBehind::new(&mut *writer, &due);
-    let returned = serve(0, &mut ahead, &mut behind, &mut errors);
+    let mut following: BufferedWriter<'_, _, 8> = BufferedWriter::new(&mut *writer, &due);
+    let returned = serve(0, &mut ahead, &mut following, &mut errors);
     returned == status && writer.written() == text
 }
 

@@ -60,7 +60,7 @@ fn says_a_line_in_pieces(rt: HostRuntime) {
 }
 
 #[test]
-fn says_nothing_behind_a_fault(rt: HostRuntime) {
+fn says_nothing_after_a_fault(rt: HostRuntime) {
     for (status, line) in LINES {
         for fault in FAULTS {
             for step in [1, 2, 5] {

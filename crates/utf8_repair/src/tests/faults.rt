@@ -4,7 +4,7 @@ use super::buffers::TEXT;
 use super::slow_peers::{Arrived, Counted, FailsOnce};
 use super::streams::Output;
 use crate::service::serve;
-use crate::streams::{Due, ReadAhead, WriteBehind};
+use crate::streams::{BufferedWriter, FlushPolicy, ReadAhead};
 use std::cell::Cell;
 use std::io::{ErrorKind, Read, Write};
 
@@ -16,8 +16,8 @@ const KINDS: [ErrorKind; 2] = [ErrorKind::Other, ErrorKind::Interrupted];
 #[test]
 fn reads_once_and_passes_on_the_fault(rt: HostRuntime) {
     for kind in KINDS {
-        let (due, asked) = (Cell::new(Due::Each), Cell::new(0));
-        let inner = FailsOnce::behind(TEXT, kind, &asked);
+        let (due, asked) = (Cell::new(FlushPolicy::Each), Cell::new(0));
+        let inner = FailsOnce::following(TEXT, kind, &asked);
         let mut reader: ReadAhead<'_, _, 64> = ReadAhead::new(inner, &due);
         let mut buffer = [0; 64];
         let first = reader.read(&mut buffer).unwrap_or(0);
@@ -34,22 +34,22 @@ fn reads_once_and_passes_on_the_fault(rt: HostRuntime) {
 #[test]
 fn serves_up_to_a_read_fault(rt: HostRuntime) {
     for kind in KINDS {
-        let (due, asked) = (Cell::new(Due::Each), Cell::new(0));
+        let (due, asked) = (Cell::new(FlushPolicy::Each), Cell::new(0));
         let mut writer = Output::that_takes_all();
         let mut errors = Output::that_takes_all();
-        let inner = FailsOnce::behind(TEXT, kind, &asked);
+        let inner = FailsOnce::following(TEXT, kind, &asked);
         let mut ahead: ReadAhead<'_, _, 64> = ReadAhead::new(inner, &due);
-        let mut behind: WriteBehind<'_, _, 64> = WriteBehind::new(&mut writer, &due);
-        assert!(rt; serve(0, &mut ahead, &mut behind, &mut errors) == 3);
+        let mut following: BufferedWriter<'_, _, 64> = BufferedWriter::new(&mut writer, &due);
+        assert!(rt; serve(0, &mut ahead, &mut following, &mut errors) == 3);
         assert!(rt; writer.written() == TEXT && asked.get() == 2);
     }
 }
 
 #[test]
 fn passes_on_a_fault_of_a_flush(rt: HostRuntime) {
-    let due = Cell::new(Due::Nothing);
+    let due = Cell::new(FlushPolicy::Nothing);
     let mut output = Output::that_cannot_flush();
-    let mut writer: WriteBehind<'_, _, 8> = WriteBehind::new(&mut output, &due);
+    let mut writer: BufferedWriter<'_, _, 8> = BufferedWriter::new(&mut output, &due);
     assert!(rt; writer.write(b"two").is_ok_and(|count| count == 3));
     assert!(rt; writer.flush().is_err());
     assert!(rt; output.written() == b"two".as_slice() && output.flushes == 1);
@@ -57,10 +57,10 @@ fn passes_on_a_fault_of_a_flush(rt: HostRuntime) {
 
 /// Returns whether a piece that is due fails with the first inner write, and the buffered bytes stay. The same piece,
 /// written again, must then leave with these by one write.
-fn fails_once(kind: ErrorKind, due: Due) -> bool {
-    let (mark, arrived) = (Cell::new(Due::Nothing), Arrived::none());
+fn fails_once(kind: ErrorKind, due: FlushPolicy) -> bool {
+    let (mark, arrived) = (Cell::new(FlushPolicy::Nothing), Arrived::none());
     let mut inner = Counted::of(Output::that_takes_all(), &arrived).that_fails_at(0, kind);
-    let mut writer: WriteBehind<'_, _, 8> = WriteBehind::new(&mut inner, &mark);
+    let mut writer: BufferedWriter<'_, _, 8> = BufferedWriter::new(&mut inner, &mark);
     let waits = writer.write(b"two").is_ok_and(|count| count == 3) && arrived.writes.get() == 0;
     mark.set(due);
     let fault = writer
@@ -73,9 +73,9 @@ fn fails_once(kind: ErrorKind, due: Due) -> bool {
 
 /// Returns whether the same holds of a flush, and of a piece that is longer than the array.
 fn fails_once_elsewhere(kind: ErrorKind) -> bool {
-    let (mark, arrived) = (Cell::new(Due::Nothing), Arrived::none());
+    let (mark, arrived) = (Cell::new(FlushPolicy::Nothing), Arrived::none());
     let mut inner = Counted::of(Output::that_takes_all(), &arrived).that_fails_at(0, kind);
-    let mut writer: WriteBehind<'_, _, 8> = WriteBehind::new(&mut inner, &mark);
+    let mut writer: BufferedWriter<'_, _, 8> = BufferedWriter::new(&mut inner, &mark);
     let waits = writer.write(b"two").is_ok_and(|count| count == 3);
     let fault = writer.flush().is_err_and(|error| error.kind() == kind);
     let asked = arrived.writes.get() == 1 && arrived.bytes.get() == 0;
@@ -83,7 +83,7 @@ fn fails_once_elsewhere(kind: ErrorKind) -> bool {
 
     let late = Arrived::none();
     let mut inner = Counted::of(Output::that_takes_all(), &late).that_fails_at(0, kind);
-    let mut writer: WriteBehind<'_, _, 8> = WriteBehind::new(&mut inner, &mark);
+    let mut writer: BufferedWriter<'_, _, 8> = BufferedWriter::new(&mut inner, &mark);
     let fault = writer.write(TEXT).is_err_and(|error| error.kind() == kind);
     flushed && fault && late.writes.get() == 1 && late.bytes.get() == 0
 }
@@ -91,7 +91,7 @@ fn fails_once_elsewhere(kind: ErrorKind) -> bool {
 #[test]
 fn tries_no_write_twice(rt: HostRuntime) {
     for kind in KINDS {
-        for due in [Due::Each, Due::UpTo(b'e')] {
+        for due in [FlushPolicy::Each, FlushPolicy::UpTo(b'e')] {
             assert!(rt; fails_once(kind, due));
         }
         assert!(rt; fails_once_elsewhere(kind));
@@ -102,11 +102,11 @@ fn tries_no_write_twice(rt: HostRuntime) {
 #[test]
 fn tells_what_a_short_write_took(rt: HostRuntime) {
     for kind in KINDS {
-        let (due, arrived) = (Cell::new(Due::Nothing), Arrived::none());
+        let (due, arrived) = (Cell::new(FlushPolicy::Nothing), Arrived::none());
         let mut inner = Counted::of(Output::by_steps_of(4), &arrived).that_fails_at(1, kind);
-        let mut writer: WriteBehind<'_, _, 8> = WriteBehind::new(&mut inner, &due);
+        let mut writer: BufferedWriter<'_, _, 8> = BufferedWriter::new(&mut inner, &due);
         assert!(rt; writer.write(b"two").is_ok_and(|count| count == 3));
-        due.set(Due::Each);
+        due.set(FlushPolicy::Each);
         assert!(rt;
             writer.write(b"one").is_ok_and(|count| count == 1) && arrived.writes.get() == 1
         );
@@ -120,13 +120,13 @@ fn tells_what_a_short_write_took(rt: HostRuntime) {
 #[test]
 fn serves_up_to_an_interruption(rt: HostRuntime) {
     for kind in KINDS {
-        let (due, arrived, asked) = (Cell::new(Due::Each), Arrived::none(), Cell::new(0));
+        let (due, arrived, asked) = (Cell::new(FlushPolicy::Each), Arrived::none(), Cell::new(0));
         let mut inner = Counted::of(Output::that_takes_all(), &arrived).that_fails_at(0, kind);
         let mut errors = Output::that_takes_all();
-        let reader = FailsOnce::behind(b"a\xFF\n", kind, &asked);
+        let reader = FailsOnce::following(b"a\xFF\n", kind, &asked);
         let mut ahead: ReadAhead<'_, _, 64> = ReadAhead::new(reader, &due);
-        let mut behind: WriteBehind<'_, _, 64> = WriteBehind::new(&mut inner, &due);
-        assert!(rt; serve(0, &mut ahead, &mut behind, &mut errors) == 4);
+        let mut following: BufferedWriter<'_, _, 64> = BufferedWriter::new(&mut inner, &due);
+        assert!(rt; serve(0, &mut ahead, &mut following, &mut errors) == 4);
         assert!(rt; arrived.writes.get() == 2 && asked.get() == 1);
         assert!(rt; inner.written() == b"a\xEF\xBF\xBD".as_slice());
     }
@@ -135,9 +135,9 @@ fn serves_up_to_an_interruption(rt: HostRuntime) {
 /// Each piece that is due arrives at once, also after one that is longer than the array.
 #[test]
 fn sends_each_piece_that_is_due(rt: HostRuntime) {
-    let (due, arrived) = (Cell::new(Due::Each), Arrived::none());
+    let (due, arrived) = (Cell::new(FlushPolicy::Each), Arrived::none());
     let mut inner = Counted::of(Output::that_takes_all(), &arrived);
-    let mut writer: WriteBehind<'_, _, 8> = WriteBehind::new(&mut inner, &due);
+    let mut writer: BufferedWriter<'_, _, 8> = BufferedWriter::new(&mut inner, &due);
     let mut total: usize = 0;
     for piece in [b"a".as_slice(), b"bc", TEXT, b"d", TEXT, TEXT, b"ef"] {
         assert!(rt; writer.write(piece).is_ok_and(|count| count == piece.len()));
@@ -150,9 +150,9 @@ fn sends_each_piece_that_is_due(rt: HostRuntime) {
 /// A piece that is not due waits for one that is, and both leave by one write.
 #[test]
 fn gathers_up_to_the_piece_that_is_due(rt: HostRuntime) {
-    let (due, arrived) = (Cell::new(Due::UpTo(b'\n')), Arrived::none());
+    let (due, arrived) = (Cell::new(FlushPolicy::UpTo(b'\n')), Arrived::none());
     let mut inner = Counted::of(Output::that_takes_all(), &arrived);
-    let mut writer: WriteBehind<'_, _, 8> = WriteBehind::new(&mut inner, &due);
+    let mut writer: BufferedWriter<'_, _, 8> = BufferedWriter::new(&mut inner, &due);
     for piece in [b"\xEF\xBF\xBD".as_slice(), b"", b"\na"] {
         assert!(rt; writer.write(piece).is_ok_and(|count| count == piece.len()));
         assert!(rt; arrived.writes.get() == 0);

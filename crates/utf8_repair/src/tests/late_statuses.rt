@@ -5,7 +5,7 @@ use super::patterns::{PatternInput, PatternOutput};
 use super::serve_rows::{CUTS, ROWS, WRITE_FAULT};
 use super::streams::{Input, Output};
 use crate::service::serve;
-use crate::streams::{Due, ROOM, ReadAhead, WriteBehind};
+use crate::streams::{BufferedWriter, FlushPolicy, OUTPUT_CAPACITY, ReadAhead};
 use std::cell::Cell;
 use std::io::{ErrorKind, Read, Write};
 
@@ -14,11 +14,14 @@ const LENGTH: usize = 13 * 250_000;
 
 /// Returns whether a run over these streams, through the arrays of the program, returns the status and writes its line.
 fn ends_with<R: Read, W: Write>(reader: &mut R, writer: &mut W, status: u8, line: &[u8]) -> bool {
-    let due = Cell::new(Due::Each);
+    let due = Cell::new(FlushPolicy::Each);
     let mut errors = Output::that_takes_all();
-    let mut ahead: ReadAhead<'_, _, ROOM> = ReadAhead::new(&mut *reader, &due);
-    let mut behind: WriteBehind<'_, _, ROOM> = WriteBehind::new(&mut *writer, &due);
-    serve(0, &mut ahead, &mut behind, &mut errors) == status && errors.written() == line
+    let mut ahead: ReadAhead<'_, _, OUTPUT_CAPACITY> = ReadAhead::new(&mut *reader, &due);
+    let mut following: BufferedWriter<'_, _, OUTPUT_CAPACITY> = BufferedWriter::new(
+        &mut *writer,
+        &due,
+    );
+    serve(0, &mut ahead, &mut following, &mut errors) == status && errors.written() == line
 }
 
 /// Returns whether the repaired text of all input is written, with the status and no line.
@@ -26,7 +29,7 @@ fn is_served(input: PatternInput, status: u8) -> bool {
     let mut reader = input;
     let mut writer = PatternOutput::that_takes(usize::MAX);
     ends_with(&mut reader, &mut writer, status, b"")
-        && reader.given == LENGTH
+        && reader.yielded == LENGTH
         && writer.taken == LENGTH
         && writer.same
 }
@@ -39,7 +42,7 @@ fn tells_no_fault_of_long_input(rt: HostRuntime) {
 
 /// The flush of the inner stream fails after all was written. That is a write fault for any result of the engine.
 #[test]
-fn tells_a_flush_that_fails_behind_the_arrays(rt: HostRuntime) {
+fn reports_a_flush_that_fails_after_the_arrays(rt: HostRuntime) {
     for row in &ROWS {
         let mut writer = Output::that_cannot_flush();
         let mut reader = Input::of(row.input, 2);
@@ -58,6 +61,6 @@ fn tells_a_flush_that_fails_behind_the_arrays(rt: HostRuntime) {
             "{:?}",
             cut.input
         );
-        assert!(rt; writer.written() == cut.settled && writer.flushes == 1);
+        assert!(rt; writer.written() == cut.final_text && writer.flushes == 1);
     }
 }

@@ -3,7 +3,7 @@
 use super::slow_peers::{Arrived, Counted, Lengths, Lines, Row, Typist};
 use super::streams::Output;
 use crate::service::serve;
-use crate::streams::{Due, ROOM, ReadAhead, WriteBehind};
+use crate::streams::{BufferedWriter, FlushPolicy, OUTPUT_CAPACITY, ReadAhead};
 use std::cell::Cell;
 
 /// One read leaves by one write, except for the last four bytes if no whole character ends them: they may have up to
@@ -179,13 +179,13 @@ const ROWS: [Row; 33] = [
 /// The incomplete sequence at the end of the last row is malformed once the input ends.
 #[test]
 fn answers_what_is_typed_by_one_write(rt: HostRuntime) {
-    let (due, arrived) = (Cell::new(Due::Each), Arrived::none());
+    let (due, arrived) = (Cell::new(FlushPolicy::Each), Arrived::none());
     let mut typist = Typist::of(&ROWS, &arrived);
     let mut writer = Counted::of(Output::that_takes_all(), &arrived);
     let mut errors = Output::that_takes_all();
     let mut ahead: ReadAhead<'_, _, 32> = ReadAhead::new(&mut typist, &due);
-    let mut behind: WriteBehind<'_, _, 32> = WriteBehind::new(&mut writer, &due);
-    let status = serve(0, &mut ahead, &mut behind, &mut errors);
+    let mut following: BufferedWriter<'_, _, 32> = BufferedWriter::new(&mut writer, &due);
+    let status = serve(0, &mut ahead, &mut following, &mut errors);
     assert!(rt; status == 1 && typist.late == 0, "{}", typist.late);
     assert!(rt; typist.torn == 0, "{}", typist.torn);
     let mut rest = writer.written();
@@ -221,13 +221,19 @@ fn leaves_lines_whole(length: usize) -> bool {
     let mut all = true;
     for (end, more) in &ENDS {
         let repaired = length.saturating_add(*more);
-        if end.len() <= length && repaired <= ROOM {
-            let due = Cell::new(Due::Each);
+        if end.len() <= length && repaired <= OUTPUT_CAPACITY {
+            let due = Cell::new(FlushPolicy::Each);
             let mut writer = Lengths::of(repaired);
             let mut errors = Output::that_takes_all();
-            let mut ahead: ReadAhead<'_, _, ROOM> = ReadAhead::new(Lines::of(length, end, 3), &due);
-            let mut behind: WriteBehind<'_, _, ROOM> = WriteBehind::new(&mut writer, &due);
-            let status = serve(0, &mut ahead, &mut behind, &mut errors);
+            let mut ahead: ReadAhead<'_, _, OUTPUT_CAPACITY> = ReadAhead::new(
+                Lines::of(length, end, 3),
+                &due,
+            );
+            let mut following: BufferedWriter<'_, _, OUTPUT_CAPACITY> = BufferedWriter::new(
+                &mut writer,
+                &due,
+            );
+            let status = serve(0, &mut ahead, &mut following, &mut errors);
             all = all && status <= 1 && writer.writes == 3 && writer.others == 0;
         }
     }
@@ -247,12 +253,15 @@ fn writes_each_line_at_once(rt: HostRuntime) {
 /// A line that three malformed sequences make longer than the array leaves by two writes.
 #[test]
 fn writes_a_longer_line_in_two(rt: HostRuntime) {
-    let due = Cell::new(Due::Each);
-    let mut writer = Lengths::of(ROOM);
+    let due = Cell::new(FlushPolicy::Each);
+    let mut writer = Lengths::of(OUTPUT_CAPACITY);
     let mut errors = Output::that_takes_all();
-    let lines = Lines::of(ROOM, b"\xFF\xFF\xFF\n", 1);
-    let mut ahead: ReadAhead<'_, _, ROOM> = ReadAhead::new(lines, &due);
-    let mut behind: WriteBehind<'_, _, ROOM> = WriteBehind::new(&mut writer, &due);
-    assert!(rt; serve(0, &mut ahead, &mut behind, &mut errors) == 1);
+    let lines = Lines::of(OUTPUT_CAPACITY, b"\xFF\xFF\xFF\n", 1);
+    let mut ahead: ReadAhead<'_, _, OUTPUT_CAPACITY> = ReadAhead::new(lines, &due);
+    let mut following: BufferedWriter<'_, _, OUTPUT_CAPACITY> = BufferedWriter::new(
+        &mut writer,
+        &due,
+    );
+    assert!(rt; serve(0, &mut ahead, &mut following, &mut errors) == 1);
     assert!(rt; writer.writes == 0 && writer.others == 2);
 }

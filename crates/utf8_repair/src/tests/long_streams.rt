@@ -5,7 +5,7 @@ use super::patterns::{PatternInput, PatternOutput};
 use super::serve_rows::{READ_FAULT, WRITE_FAULT};
 use super::streams::Output;
 use crate::service::serve;
-use crate::streams::{Due, ROOM, ReadAhead, WriteBehind};
+use crate::streams::{BufferedWriter, FlushPolicy, OUTPUT_CAPACITY, ReadAhead};
 use std::cell::Cell;
 use std::io::{ErrorKind, Read, Write};
 
@@ -32,17 +32,20 @@ fn run_over_arrays_is(
     status: u8,
     line: &[u8],
 ) -> bool {
-    let due = Cell::new(Due::Each);
-    let mut ahead: ReadAhead<'_, _, ROOM> = ReadAhead::new(&mut *reader, &due);
-    let mut behind: WriteBehind<'_, _, ROOM> = WriteBehind::new(&mut *writer, &due);
-    run_is(&mut ahead, &mut behind, status, line)
+    let due = Cell::new(FlushPolicy::Each);
+    let mut ahead: ReadAhead<'_, _, OUTPUT_CAPACITY> = ReadAhead::new(&mut *reader, &due);
+    let mut following: BufferedWriter<'_, _, OUTPUT_CAPACITY> = BufferedWriter::new(
+        &mut *writer,
+        &due,
+    );
+    run_is(&mut ahead, &mut following, status, line)
 }
 
 /// Returns whether the output took the first `count` bytes of the text, then one flush, and no write after its error.
 fn took(writer: &PatternOutput, count: usize) -> bool {
     writer.same
         && writer.taken == count
-        && writer.asked_behind == 0
+        && writer.asked_after == 0
         && writer.flushes == 1
         && writer.flushed_at == count
 }
@@ -51,18 +54,18 @@ fn took(writer: &PatternOutput, count: usize) -> bool {
 /// letters, and reads once after the last byte.
 fn serves(letters: usize, fault: Option<ErrorKind>, count: usize, status: u8, line: &[u8]) -> bool {
     let length = LENGTH.saturating_add(letters);
-    let mut reader = PatternInput::of(length, fault).behind_letters(letters);
-    let mut writer = PatternOutput::that_takes(usize::MAX).behind_letters(letters);
-    let alone = run_is(&mut reader, &mut writer, status, line);
-    let mut far = PatternInput::of(length, fault).behind_letters(letters);
-    let mut late = PatternOutput::that_takes(usize::MAX).behind_letters(letters);
+    let mut reader = PatternInput::of(length, fault).after_letters(letters);
+    let mut writer = PatternOutput::that_takes(usize::MAX).after_letters(letters);
+    let single = run_is(&mut reader, &mut writer, status, line);
+    let mut far = PatternInput::of(length, fault).after_letters(letters);
+    let mut late = PatternOutput::that_takes(usize::MAX).after_letters(letters);
     let count = count.saturating_add(letters);
-    alone
+    single
         && took(&writer, count)
-        && reader.asked_behind == 1
+        && reader.asked_after == 1
         && run_over_arrays_is(&mut far, &mut late, status, line)
         && took(&late, count)
-        && far.asked_behind == 1
+        && far.asked_after == 1
 }
 
 /// With zero letters, one and so on before it, each index of the pattern falls on each multiple of 1,024 and of 65,536
@@ -94,7 +97,7 @@ fn leaves_a_long_text(rt: HostRuntime) {
     let mut far = PatternInput::of(LENGTH, None).repaired();
     let mut late = PatternOutput::that_takes(usize::MAX);
     assert!(rt; run_over_arrays_is(&mut far, &mut late, 0, b"") && took(&late, LENGTH));
-    assert!(rt; reader.asked_behind == 1 && far.asked_behind == 1);
+    assert!(rt; reader.asked_after == 1 && far.asked_after == 1);
 }
 
 /// Returns whether a run stops at the error of the output, which would take the rest, at most one round ahead.
@@ -103,8 +106,8 @@ fn stops_at(taken: usize) -> bool {
     let mut writer = PatternOutput::that_takes(taken);
     run_is(&mut reader, &mut writer, 4, WRITE_FAULT)
         && took(&writer, taken)
-        && reader.given.saturating_sub(taken) <= 1027
-        && reader.asked_behind == 0
+        && reader.yielded.saturating_sub(taken) <= 1027
+        && reader.asked_after == 0
 }
 
 /// Returns whether a run through the arrays stops there too, at most one array ahead. Only the flush tries to write the
@@ -116,9 +119,9 @@ fn stops_over_arrays_at(taken: usize) -> bool {
         && writer.same
         && writer.flushes == 1
         && writer.flushed_at == writer.taken
-        && writer.asked_behind <= 1
-        && reader.given.saturating_sub(taken) <= ROOM + 3
-        && reader.asked_behind == 0
+        && writer.asked_after <= 1
+        && reader.yielded.saturating_sub(taken) <= OUTPUT_CAPACITY + 3
+        && reader.asked_after == 0
 }
 
 #[test]

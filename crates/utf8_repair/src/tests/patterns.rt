@@ -28,9 +28,9 @@ pub struct PatternInput {
     length: usize,
     fault: Option<ErrorKind>,
     /// The number of bytes that it yielded.
-    pub given: usize,
+    pub yielded: usize,
     /// The number of reads after its last byte.
-    pub asked_behind: usize,
+    pub asked_after: usize,
 }
 
 impl PatternInput {
@@ -41,13 +41,13 @@ impl PatternInput {
             pattern: PATTERN,
             length,
             fault,
-            given: 0,
-            asked_behind: 0,
+            yielded: 0,
+            asked_after: 0,
         }
     }
 
     /// Returns the input with this many letters before the pattern.
-    pub fn behind_letters(self, letters: usize) -> PatternInput {
+    pub fn after_letters(self, letters: usize) -> PatternInput {
         let mut input = self;
         input.letters = letters;
         input
@@ -63,19 +63,19 @@ impl PatternInput {
 
 impl Read for PatternInput {
     fn read(&mut self, buffer: &mut [u8]) -> Result<usize> {
-        let count = self.length.saturating_sub(self.given).min(buffer.len());
+        let count = self.length.saturating_sub(self.yielded).min(buffer.len());
         if count == 0 {
-            self.asked_behind = self.asked_behind.saturating_add(1);
+            self.asked_after = self.asked_after.saturating_add(1);
             if let Some(kind) = self.fault {
                 return Err(Error::from(kind));
             }
         }
-        let mut at = self.given;
+        let mut at = self.yielded;
         for byte in buffer.iter_mut() {
             *byte = byte_at(self.letters, &self.pattern, at);
             at = at.saturating_add(1);
         }
-        self.given = self.given.saturating_add(count);
+        self.yielded = self.yielded.saturating_add(count);
         Ok(count)
     }
 }
@@ -91,7 +91,7 @@ pub struct PatternOutput {
     /// Whether they were those of the repaired pattern.
     pub same: bool,
     /// The number of writes after its error.
-    pub asked_behind: usize,
+    pub asked_after: usize,
     /// The number of flushes.
     pub flushes: usize,
     /// The number of bytes that it had taken at its last flush.
@@ -107,14 +107,14 @@ impl PatternOutput {
             failed: false,
             taken: 0,
             same: true,
-            asked_behind: 0,
+            asked_after: 0,
             flushes: 0,
             flushed_at: 0,
         }
     }
 
     /// Returns the output, comparing with this many letters before the pattern.
-    pub fn behind_letters(self, letters: usize) -> PatternOutput {
+    pub fn after_letters(self, letters: usize) -> PatternOutput {
         let mut output = self;
         output.letters = letters;
         output
@@ -125,7 +125,7 @@ impl Write for PatternOutput {
     fn write(&mut self, bytes: &[u8]) -> Result<usize> {
         let mut count = bytes.len();
         if self.failed {
-            self.asked_behind = self.asked_behind.saturating_add(1);
+            self.asked_after = self.asked_after.saturating_add(1);
         } else {
             count = count.min(self.takes.saturating_sub(self.taken));
             if count == 0 {

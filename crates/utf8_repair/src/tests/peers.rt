@@ -10,7 +10,7 @@ use std::io::{Error, ErrorKind, Read, Result, Write};
 pub struct Peer<'a> {
     rest: &'a [u8],
     step: usize,
-    given: usize,
+    yielded: usize,
     arrived: &'a Cell<usize>,
     /// The number of reads that found bytes missing.
     pub late: usize,
@@ -22,7 +22,7 @@ impl<'a> Peer<'a> {
         Peer {
             rest: bytes,
             step,
-            given: 0,
+            yielded: 0,
             arrived,
             late: 0,
         }
@@ -31,14 +31,14 @@ impl<'a> Peer<'a> {
 
 impl Read for Peer<'_> {
     fn read(&mut self, buffer: &mut [u8]) -> Result<usize> {
-        if self.arrived.get() < self.given / 4 * 4 {
+        if self.arrived.get() < self.yielded / 4 * 4 {
             self.late = self.late.saturating_add(1);
         }
         let count = self.rest.len().min(self.step).min(buffer.len());
         let (now, later) = self.rest.split_at(count);
         buffer[..count].copy_from_slice(now);
         self.rest = later;
-        self.given = self.given.saturating_add(count);
+        self.yielded = self.yielded.saturating_add(count);
         Ok(count)
     }
 }

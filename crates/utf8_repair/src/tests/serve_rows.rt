@@ -1,6 +1,6 @@
 //! Runs over streams in memory.
 use super::memory::exhaust;
-use super::streams::{Input, Output, ROOM};
+use super::streams::{Input, OUTPUT_CAPACITY, Output};
 use crate::service::{report, serve};
 use std::io::{ErrorKind, Read};
 use std::test::Fail;
@@ -82,8 +82,8 @@ fn run_is<R: Read>(
 #[test]
 fn repairs(rt: HostRuntime) {
     for row in &ROWS {
-        for step in [1, 2, 3, 4, ROOM] {
-            for taken in [1, 2, ROOM] {
+        for step in [1, 2, 3, 4, OUTPUT_CAPACITY] {
+            for taken in [1, 2, OUTPUT_CAPACITY] {
                 let mut reader = Input::of(row.input, step);
                 let mut writer = Output::by_steps_of(taken);
                 assert!(rt;
@@ -118,25 +118,25 @@ fn refuses_arguments(rt: HostRuntime) {
 /// The bytes that a reader yields before it fails, and the text of their final parts.
 pub struct Cut {
     pub input: &'static [u8],
-    pub settled: &'static [u8],
+    pub final_text: &'static [u8],
 }
 
 pub const CUTS: [Cut; 4] = [
     Cut {
         input: b"",
-        settled: b"",
+        final_text: b"",
     },
     Cut {
         input: b"a",
-        settled: b"a",
+        final_text: b"a",
     },
     Cut {
         input: &[0x61, 0xE2, 0x98],
-        settled: b"a",
+        final_text: b"a",
     },
     Cut {
         input: &[0x61, 0xFF],
-        settled: &[0x61, 0xEF, 0xBF, 0xBD],
+        final_text: &[0x61, 0xEF, 0xBF, 0xBD],
     },
 ];
 
@@ -148,7 +148,7 @@ fn reports_read_faults(rt: HostRuntime) {
             let mut reader = Input::that_fails(cut.input, kind);
             let mut writer = Output::that_takes_all();
             assert!(rt;
-                run_is(&mut reader, &mut writer, cut.settled, 3, READ_FAULT),
+                run_is(&mut reader, &mut writer, cut.final_text, 3, READ_FAULT),
                 "{:?}",
                 cut.input
             );
@@ -197,7 +197,7 @@ fn reports_flush_faults(rt: HostRuntime) {
         let mut reader = Input::that_fails(cut.input, ErrorKind::Other);
         let mut writer = Output::that_cannot_flush();
         assert!(rt;
-            run_is(&mut reader, &mut writer, cut.settled, 4, WRITE_FAULT),
+            run_is(&mut reader, &mut writer, cut.final_text, 4, WRITE_FAULT),
             "{:?}",
             cut.input
         );
@@ -256,7 +256,7 @@ fn all_runs_are() -> bool {
     for cut in &CUTS {
         let mut reader = Input::that_fails(cut.input, ErrorKind::Other);
         let mut writer = Output::that_takes_all();
-        all = all && run_is(&mut reader, &mut writer, cut.settled, 3, READ_FAULT);
+        all = all && run_is(&mut reader, &mut writer, cut.final_text, 3, READ_FAULT);
         let mut reader = Input::of(cut.input, 2);
         let mut writer = Output::that_cannot_flush();
         all = all && serve(0, &mut reader, &mut writer, &mut Output::that_takes_all()) == 4;

@@ -139,7 +139,7 @@ pub struct FailsOnce<'a> {
 
 impl<'a> FailsOnce<'a> {
     /// Returns a reader of these bytes.
-    pub fn behind(bytes: &'a [u8], kind: ErrorKind, asked: &'a Cell<usize>) -> FailsOnce<'a> {
+    pub fn following(bytes: &'a [u8], kind: ErrorKind, asked: &'a Cell<usize>) -> FailsOnce<'a> {
         FailsOnce { bytes, kind, asked }
     }
 }

@@ -12,7 +12,7 @@ pub struct Input<'a> {
     /// The number of its reads.
     pub asked: usize,
     /// The number of reads after its last byte.
-    pub asked_behind: usize,
+    pub asked_after: usize,
 }
 
 impl<'a> Input<'a> {
@@ -23,7 +23,7 @@ impl<'a> Input<'a> {
             step,
             fault: None,
             asked: 0,
-            asked_behind: 0,
+            asked_after: 0,
         }
     }
 
@@ -34,7 +34,7 @@ impl<'a> Input<'a> {
             step: 1,
             fault: Some(fault),
             asked: 0,
-            asked_behind: 0,
+            asked_after: 0,
         }
     }
 }
@@ -43,7 +43,7 @@ impl Read for Input<'_> {
     fn read(&mut self, buffer: &mut [u8]) -> Result<usize> {
         self.asked = self.asked.saturating_add(1);
         if self.rest.is_empty() {
-            self.asked_behind = self.asked_behind.saturating_add(1);
+            self.asked_after = self.asked_after.saturating_add(1);
             if let Some(kind) = self.fault {
                 return Err(Error::from(kind));
             }
@@ -57,12 +57,12 @@ impl Read for Input<'_> {
 }
 
 /// The most bytes that an [`Output`] holds.
-pub const ROOM: usize = 2048;
+pub const OUTPUT_CAPACITY: usize = 2048;
 
 /// Takes at most `step` bytes with each call and `takes` in total. Then it fails, or takes none if it has no fault.
 #[derive(Drop)]
 pub struct Output {
-    bytes: [u8; ROOM],
+    bytes: [u8; OUTPUT_CAPACITY],
     count: usize,
     step: usize,
     takes: usize,
@@ -81,9 +81,9 @@ impl Output {
     /// Returns an output that takes `takes` bytes in total. Then it fails, or takes none if there is no fault.
     pub fn that_takes(takes: usize, fault: Option<ErrorKind>) -> Output {
         Output {
-            bytes: [0x71; ROOM],
+            bytes: [0x71; OUTPUT_CAPACITY],
             count: 0,
-            step: ROOM,
+            step: OUTPUT_CAPACITY,
             takes,
             fault,
             flushable: true,
@@ -95,7 +95,7 @@ impl Output {
 
     /// Returns an output that takes all bytes.
     pub fn that_takes_all() -> Output {
-        Output::that_takes(ROOM, None)
+        Output::that_takes(OUTPUT_CAPACITY, None)
     }
 
     /// Returns an output that takes all bytes, at most `step` with each call.
@@ -121,7 +121,7 @@ impl Output {
 impl Write for Output {
     fn write(&mut self, bytes: &[u8]) -> Result<usize> {
         self.asked = self.asked.saturating_add(1);
-        let room = self.takes.min(ROOM).saturating_sub(self.count);
+        let room = self.takes.min(OUTPUT_CAPACITY).saturating_sub(self.count);
         let taken = bytes.len().min(room).min(self.step);
         if taken == 0 {
             if let Some(kind) = self.fault {

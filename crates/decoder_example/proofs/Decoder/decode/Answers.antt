@@ -3,7 +3,7 @@ use Rattle.std.proofs.lemmas.Bool.{both_ways}
 use Rattle.std.specs.Prelude.{Option, None, Some}
 use Rattle.std.specs.Option.{is_some}
 use Rattle.decoder_example.specs.Marked.{Decoding, state_of}
-use Rattle.decoder_example.proofs.CallLemmas.{sniffed_call}
+use Rattle.decoder_example.proofs.ReplacingCallLemmas.{sniffed_call}
 use Rattle.decoder_example.proofs.Decoder.decode.Goals as goal
 
 decodes : (sniffed : Option ℕ) (pending : List ℕ) → is_some sniffed ≡ false → Decoding pending ≡ state_of sniffed pending

@@ -2,7 +2,7 @@ use Rattle.std.proofs.Common.{◌≡◌, ◌-◌, ◌<◌, IfSome, inl, [], ◌+
 use Rattle.std.proofs.lemmas.Bool.{both_ways}
 use Rattle.std.proofs.lemmas.List.{take_rest, drop_all}
 use Rattle.std.specs.List.{starts_with}
-use Rattle.encoding_text.specs.Decoding.{IsBorrowedCall}
+use Rattle.encoding_text.specs.Decoding.{BorrowedDecodeStep}
 use Rattle.decoder_example.specs.Marked.{Sniffing, mark, without_mark, left, state_of}
 use Rattle.decoder_example.proofs.MarkLemmas.{mark_whole, mark_begun, no_mark, mark_pending}
 use Rattle.decoder_example.proofs.Decoder.sniff.Goals.{else-not-last-via-then-not-last+else-starts_with-2, else-not-last-via-else-not-last}
@@ -35,7 +35,7 @@ returns-clause-left c = λ more end.
     let inside : (n < 3) × (c.self.inside.decoder ≡ []) = subst (λ o. IfSome o (λ k. (k < 3) × (c.self.inside.decoder ≡ []))) c.in-Some.is c.self.invariant in
     let state : Sniffing (take n mark) ≡ c.args.self.now = ap (λ s. state_of s c.self.inside.decoder) (sym c.in-Some.is) ∙ c.self.view_is in
     let made = c.decode_borrowed_raw in
-    let pending = mark_pending n (take n mark) made.result.0 made.result.1 made.new.self inside.0 refl (c.law_mixed_calls.ensures.one_piece [] (take n mark) false (inl refl)) (subst (λ p. IsBorrowedCall p (take n mark) false made.result.0 made.result.1 made.new.self) inside.1 made.ensures) in
+    let pending = mark_pending n (take n mark) made.result.0 made.result.1 made.new.self inside.0 refl (c.law_mixed_calls.ensures.one_piece [] (take n mark) false (inl refl)) (subst (λ p. BorrowedDecodeStep p (take n mark) false made.result.0 made.result.1 made.new.self) inside.1 made.ensures) in
     let neither : c.args.last ≡ false → starts_with nat_eq (take (length mark - n) (drop n mark)) src ≡ false = λ unmarked. elim c.else-not-last.branch [
       | else-not-last-via-then-not-last+else-starts_with-2 w ↦ sym w.starts_with-then-not-last.ensures.value ∙ w.if-starts_with-2.false
       | else-not-last-via-else-not-last w ↦ absurd (both_ways _ unmarked w.if-not-last.false)

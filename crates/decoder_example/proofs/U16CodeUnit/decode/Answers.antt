@@ -12,8 +12,8 @@ returns c =
       writes = writes;
       call = is_call;
       parts = first.parts;
-      decoded = first.given;
-      given = first.front;
+      decoded = first.yielded;
+      yielded = first.prefix;
       suffices = made.ensures.suffices;
       suffices_replacing = made.ensures.suffices_replacing;
     }

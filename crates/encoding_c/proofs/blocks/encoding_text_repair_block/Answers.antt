@@ -1,7 +1,7 @@
 use Rattle.std.proofs.Common.{◌≡◌, ◌++◌, take, ap, sym, ◌∙◌, subst}
 use Rattle.std.specs.List.{flat_map}
 use Rattle.encoding_definitions.specs.Parts.{bytes_of}
-use Rattle.encoding_runs.proofs.ChainLemmas.{given_bytes}
+use Rattle.encoding_runs.proofs.ChainLemmas.{yielded_bytes}
 use Rattle.encoding_c.specs.States.{EndsWith}
 use Rattle.encoding_c.proofs.blocks.encoding_text_repair_block.Goals as goal
 
@@ -11,7 +11,7 @@ stored-requires-clause-ends c =
     let read = c.repair_block-block.result.read in
     let q = c.repair_block-block.new.decoder in
     let r = c.repair_block-block.ensures.2 in
-    let front : take c.pending_count-held.result c.args.decoder.now.pending ≡ p =
-    ap (λ n. take n c.args.decoder.now.pending) c.pending_count-held.ensures.count ∙ sym c.restored-inner.ensures.front in
-    let ends : EndsWith (p ++ take read c.args.src.now) q = (flat_map bytes_of r.parts, sym (given_bytes p c.args.src.now r.parts read q r.given.first)) in
-    subst (λ xs. EndsWith (xs ++ take read c.args.src.now) q) (sym front) ends
+    let prefix : take c.pending_count-pending_length.result c.args.decoder.now.pending ≡ p =
+    ap (λ n. take n c.args.decoder.now.pending) c.pending_count-pending_length.ensures.pending_length ∙ sym c.restored-inner.ensures.prefix in
+    let ends : EndsWith (p ++ take read c.args.src.now) q = (flat_map bytes_of r.parts, sym (yielded_bytes p c.args.src.now r.parts read q r.yielded.first)) in
+    subst (λ xs. EndsWith (xs ++ take read c.args.src.now) q) (sym prefix) ends

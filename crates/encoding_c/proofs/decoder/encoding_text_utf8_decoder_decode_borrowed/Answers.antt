@@ -5,7 +5,7 @@ use Rattle.encoding_c.proofs.decoder.encoding_text_utf8_decoder_decode_borrowed.
 
 pub stored-requires-clause-ends : goal.stored-requires-clause-ends
 stored-requires-clause-ends c =
-    let front : take c.pending_count-held.result c.args.decoder.now.pending ≡ c.restored-inner.result =
-    ap (λ n. take n c.args.decoder.now.pending) c.pending_count-held.ensures.count ∙ sym c.restored-inner.ensures.front in
+    let prefix : take c.pending_count-pending_length.result c.args.decoder.now.pending ≡ c.restored-inner.result =
+    ap (λ n. take n c.args.decoder.now.pending) c.pending_count-pending_length.ensures.pending_length ∙ sym c.restored-inner.ensures.prefix in
     let ends = (borrowed_call_ends c.restored-inner.result c.args.src.now c.args.last _ _ _ c.decode_borrowed_raw-read.ensures).1 in
-    subst (λ xs. EndsWith (xs ++ take c.decode_borrowed_raw-read.result.1 c.args.src.now) c.decode_borrowed_raw-read.new.self) (sym front) ends
+    subst (λ xs. EndsWith (xs ++ take c.decode_borrowed_raw-read.result.1 c.args.src.now) c.decode_borrowed_raw-read.new.self) (sym prefix) ends

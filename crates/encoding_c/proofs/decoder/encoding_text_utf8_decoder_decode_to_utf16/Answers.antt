@@ -7,10 +7,10 @@ use Rattle.encoding_c.proofs.decoder.encoding_text_utf8_decoder_decode_to_utf16.
 pub stored-requires-clause-ends : goal.stored-requires-clause-ends
 stored-requires-clause-ends c =
     let s = c.decode_to_utf16_raw-ended.ensures in
-    let front : take c.pending_count-held.result c.args.decoder.now.pending ≡ c.restored-inner.result =
-    ap (λ n. take n c.args.decoder.now.pending) c.pending_count-held.ensures.count ∙ sym c.restored-inner.ensures.front in
+    let prefix : take c.pending_count-pending_length.result c.args.decoder.now.pending ≡ c.restored-inner.result =
+    ap (λ n. take n c.args.decoder.now.pending) c.pending_count-pending_length.ensures.pending_length ∙ sym c.restored-inner.ensures.prefix in
     let ends = (call_ends encode_utf16 2 c.restored-inner.result c.args.src.now c.args.last _ _ _ _ _ _ s.call).1 in
-    subst (λ xs. EndsWith (xs ++ take c.decode_to_utf16_raw-ended.result.1 c.args.src.now) c.decode_to_utf16_raw-ended.new.self) (sym front) ends
+    subst (λ xs. EndsWith (xs ++ take c.decode_to_utf16_raw-ended.result.1 c.args.src.now) c.decode_to_utf16_raw-ended.new.self) (sym prefix) ends
 
 pub returns-clause-call : goal.returns-clause-call
 returns-clause-call c =
@@ -22,6 +22,6 @@ returns-clause-call c =
       q = c.decode_to_utf16_raw-ended.new.self;
       stood = c.restored-inner.ensures.stands;
       stands = c.stored.ensures;
-      told = d.told;
+      reported = d.reported;
       says = rw (d.counts.0, d.counts.1) (s.call, s.suffices, s.suffices_replacing);
     }

@@ -1,6 +1,6 @@
 use Rattle.std.proofs.Common.{w8, bit_or, leb, ltb, eqb, slice_index, Fits, arith, ℕ}
 use Rattle.std.proofs.lemmas.Simd.{Each1-get_or}
-use Rattle.encoding_kernels.proofs.Bidi.BidiBlocksLemmas.{ends_are}
+use Rattle.encoding_kernels.proofs.BidiBlocks.BidiBlocksLemmas.{ends_are}
 use Rattle.encoding_kernels.proofs.Lanes.LaneLemmas.{HasLanes-itself, HasLanes-splat, HasLanes-zip2, HasLanes-same}
 use Rattle.encoding_kernels.proofs.Lanes.TestLemmas.{tests_of, tests_and, chosen}
 use Rattle.encoding_kernels.proofs.bidi_blocks.second_ends.Goals as goal

@@ -1,5 +1,5 @@
 use Rattle.std.proofs.Common.{◌+◌, arith, refl}
-use Rattle.encoding_kernels.proofs.Bidi.BidiBlocksLemmas.{none_joined, none_clear, none_low}
+use Rattle.encoding_kernels.proofs.BidiBlocks.BidiBlocksLemmas.{none_joined, none_clear, none_low}
 use Rattle.encoding_kernels.proofs.bidi_blocks.skip_clear.Goals as goal
 
 pub loop-at-preserved-then-is_low : goal.loop-at-preserved-then-is_low
@@ -21,7 +21,7 @@ loop-at-preserved c =
       none = none_joined bs c.args.from at (at + 64) c.loop-at.invariant.none (none_clear bs at (at + 64) (c.if-all.ensures.0 refl));
     }
 
-pub returns-clause-none : goal.returns-clause-none
-returns-clause-none c =
+pub returns-clause-no_rtl : goal.returns-clause-no_rtl
+returns-clause-no_rtl c =
     let bs = c.args.bytes.now in
     none_joined bs c.args.from c.loop-at.at _ c.loop-at.invariant.none (none_clear bs c.loop-at.at _ c.reach.ensures.pass)

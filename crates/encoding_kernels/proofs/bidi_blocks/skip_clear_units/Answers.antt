@@ -1,5 +1,5 @@
 use Rattle.std.proofs.Common.{◌+◌, arith, refl}
-use Rattle.encoding_kernels.proofs.Bidi.BidiUnitBlocksLemmas.{units_joined, units_clear, units_low}
+use Rattle.encoding_kernels.proofs.BidiBlocks.BidiUnitBlocksLemmas.{units_joined, units_clear, units_low}
 use Rattle.encoding_kernels.proofs.bidi_blocks.skip_clear_units.Goals as goal
 
 pub loop-at-preserved : goal.loop-at-preserved
@@ -12,8 +12,8 @@ loop-at-preserved c =
       none = units_joined us c.args.from (at + 32) (at + 32) _ block (units_low us (at + 32) _ c.skip-at.ensures.pass) (omega arith);
     }
 
-pub returns-clause-none : goal.returns-clause-none
-returns-clause-none c =
+pub returns-clause-no_rtl : goal.returns-clause-no_rtl
+returns-clause-no_rtl c =
     let us = c.args.units.now in
     let at = c.loop-at.at in
     units_joined us c.args.from at at _ c.loop-at.invariant.none (units_clear us at _ (λ k. (c.type_inv.units k).fits) c.reach.ensures.pass) (omega arith)

@@ -1,11 +1,11 @@
 use Rattle.std.proofs.Common.{◌-◌, ◌+◌, ◌*◌, ◌≤◌}
-use Rattle.encoding_kernels.specs.Following.{FollowTo}
+use Rattle.encoding_kernels.specs.Following.{ValidUpTo}
 use Rattle.encoding_kernels.proofs.blocks.clean_of_256.Given as goal
 
 abbrev pub invariant-loop-blocks : goal.invariant-loop-blocks
 invariant-loop-blocks l = record {
   within : l.blocks ≤ 4;
-  front : FollowTo l.src l.at → FollowTo l.src (l.at + 64 * l.blocks);
+  prefix : ValidUpTo l.src l.at → ValidUpTo l.src (l.at + 64 * l.blocks);
 }
 
 abbrev pub decreases-loop-blocks : goal.decreases-loop-blocks

@@ -1,12 +1,12 @@
 use Rattle.std.proofs.Common.{◌≤◌, ◌-◌, length}
-use Rattle.encoding_kernels.specs.Following.{FollowTo}
+use Rattle.encoding_kernels.specs.Following.{ValidUpTo}
 use Rattle.encoding_kernels.proofs.blocks.finish.Given as goal
 
 abbrev pub invariant-loop-at : goal.invariant-loop-at
 invariant-loop-at l = record {
   started : 64 ≤ l.at;
   within : l.at ≤ length l.src;
-  front : FollowTo l.src l.at;
+  prefix : ValidUpTo l.src l.at;
 }
 
 abbrev pub decreases-loop-at : goal.decreases-loop-at

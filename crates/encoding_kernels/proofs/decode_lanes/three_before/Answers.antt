@@ -1,6 +1,6 @@
 use Rattle.std.proofs.Common.{◌∷◌, [], refl}
-use Rattle.encoding_kernels.proofs.Lanes.UnitLanesLemmas.{behind_lanes}
+use Rattle.encoding_kernels.proofs.Lanes.UnitLanesLemmas.{after_lanes}
 use Rattle.encoding_kernels.proofs.decode_lanes.three_before.Goals as goal
 
 pub returns : goal.returns
-returns c = record { long = refl; each = behind_lanes (0 ∷ 0 ∷ 0 ∷ []) c.args.block 13 }
+returns c = record { long = refl; each = after_lanes (0 ∷ 0 ∷ 0 ∷ []) c.args.block 13 }

@@ -1,7 +1,7 @@
 use Rattle.std.proofs.Common.{◌≡◌, ◌<◌, ◌^◌, w16, ltb, length, arith, subst}
 use Rattle.std.specs.Simd.Lanes.{mask_l}
 use Rattle.std.proofs.lemmas.Simd.{mask_l-lt}
-use Rattle.encoding_kernels.specs.EncodeLanes.{classes}
+use Rattle.encoding_kernels.specs.EncodeLanes.{length_classes}
 use Rattle.encoding_kernels.proofs.Lanes.LaneLemmas.{HasLanes-itself, HasLanes-splat}
 use Rattle.encoding_kernels.proofs.Lanes.TestLemmas.{tests_of, chosen, chosen_by}
 use Rattle.encoding_kernels.proofs.Lanes.PlainLemmas.{mask_is_classes, classes_long}
@@ -14,8 +14,8 @@ returns-clause-mask c =
     let words = chosen_by (tests_of w16 ltb units (HasLanes-splat 8 0x80)) (HasLanes-splat 8 0xFFFF) below in
     mask_is_classes c.args.units _ c.fits-units.0 words
 
-pub returns-clause-small : goal.returns-clause-small
-returns-clause-small c =
-    let sixteen : length (classes c.args.units) ≡ 16 = omega (arith, classes_long c.args.units, c.fits-units.0) in
-    let small : mask_l (classes c.args.units) < 2 ^ 16 = subst (λ n. mask_l (classes c.args.units) < 2 ^ n) sixteen (mask_l-lt (classes c.args.units)) in
+pub returns-clause-upper_bound : goal.returns-clause-upper_bound
+returns-clause-upper_bound c =
+    let sixteen : length (length_classes c.args.units) ≡ 16 = omega (arith, classes_long c.args.units, c.fits-units.0) in
+    let small : mask_l (length_classes c.args.units) < 2 ^ 16 = subst (λ n. mask_l (length_classes c.args.units) < 2 ^ n) sixteen (mask_l-lt (length_classes c.args.units)) in
     omega (arith, small, returns-clause-mask c)

@@ -9,23 +9,23 @@ returns c =
     let call = c.encode_eight-count.ensures in
     let at = c.args.at in
     let dst = c.args.dst.now in
-    let front = encode_utf8_all (take c.args.first c.args.units) in
+    let prefix = encode_utf8_all (take c.args.first c.args.units) in
     let zeros : List ℕ = drop c.args.first (replicate 8 0) in
     let n = here.1 + here.3 - (8 - c.args.first) in
-    let whole : take here.1 here.0 ++ take here.3 here.2 ≡ front ++ zeros = call.spelled ∙ ap encode_utf8_all c.with_zeros.ensures ∙ zeros_spelled c.args.first c.args.units in
-    let count : n ≡ length front = omega (
+    let whole : take here.1 here.0 ++ take here.3 here.2 ≡ prefix ++ zeros = call.spelled ∙ ap encode_utf8_all c.with_zeros.ensures ∙ zeros_spelled c.args.first c.args.units in
+    let count : n ≡ length prefix = omega (
       arith,
       ap length whole,
       length-append (take here.1 here.0) (take here.3 here.2),
-      length-append front zeros,
+      length-append prefix zeros,
       length-drop {A = ℕ} c.args.first (replicate 8 0),
-      length-take-le here.1 here.0 (omega (arith, call.long, call.first)),
-      length-take-le here.3 here.2 (omega (arith, call.long, call.second)),
+      length-take-le here.1 here.0 (omega (arith, call.lane_count, call.first_length)),
+      length-take-le here.3 here.2 (omega (arith, call.lane_count, call.second)),
     ) in
-    let sum : here.1 + here.3 ≡ n + (8 - c.args.first) = omega (arith, call.first, call.second) in
+    let sum : here.1 + here.3 ≡ n + (8 - c.args.first) = omega (arith, call.first_length, call.second) in
     record {
-      most = omega (arith, call.first, call.second);
-      count = count;
-      written = put_back dst c.write_both.new.dst front zeros at n (8 - c.args.first) (sym count) (length-drop {A = ℕ} c.args.first (replicate 8 0)) (omega arith) (omega (arith, call.first, call.second))
+      length_bound = omega (arith, call.first_length, call.second);
+      out_length = count;
+      written = put_back dst c.write_both.new.dst prefix zeros at n (8 - c.args.first) (sym count) (length-drop {A = ℕ} c.args.first (replicate 8 0)) (omega arith) (omega (arith, call.first_length, call.second))
           (c.write_both.ensures ∙ (λ i. take at dst ++ (whole i ++ drop (at + sum i) dst)));
     }

@@ -1,5 +1,5 @@
 use Rattle.std.proofs.Common.{inr, refl}
-use Rattle.encoding_kernels.proofs.Validation.LaneLemmas.{high_places, low_places, lanes_follow, lanes_long}
+use Rattle.encoding_kernels.proofs.Validation.ValidationLaneLemmas.{high_places, low_places, lanes_follow, lanes_long}
 use Rattle.encoding_kernels.proofs.faults.faults_of_32.Goals as goal
 
 pub swizzle : goal.swizzle

@@ -1,21 +1,21 @@
 use Rattle.std.proofs.Common.{◌≡◌, ◌+◌, ◌-◌, ◌*◌, ◌≤◌, drop, length}
-use Rattle.encoding_kernels.specs.Lengths.{total, joined}
+use Rattle.encoding_kernels.specs.Lengths.{sum_over_suffixes, continuations}
 use Rattle.encoding_kernels.proofs.lengths.count_joined.Given as goal
 
 abbrev pub invariant-loop-at : goal.invariant-loop-at
-invariant-loop-at l = record { within : l.at ≤ length l.bytes; sum : l.sum + total joined (drop l.at l.bytes) ≡ total joined l.bytes; small : l.sum ≤ 2 * l.at }
+invariant-loop-at l = record { within : l.at ≤ length l.bytes; sum : l.sum + sum_over_suffixes continuations (drop l.at l.bytes) ≡ sum_over_suffixes continuations l.bytes; small : l.sum ≤ 2 * l.at }
 
 abbrev pub decreases-loop-at : goal.decreases-loop-at
 decreases-loop-at l = length l.bytes - l.at
 
 abbrev pub invariant-loop-at-2 : goal.invariant-loop-at-2
-invariant-loop-at-2 l = record { within : l.at ≤ length l.bytes; sum : l.sum + total joined (drop l.at l.bytes) ≡ total joined l.bytes; small : l.sum ≤ 2 * l.at }
+invariant-loop-at-2 l = record { within : l.at ≤ length l.bytes; sum : l.sum + sum_over_suffixes continuations (drop l.at l.bytes) ≡ sum_over_suffixes continuations l.bytes; small : l.sum ≤ 2 * l.at }
 
 abbrev pub decreases-loop-at-2 : goal.decreases-loop-at-2
 decreases-loop-at-2 l = length l.bytes - l.at
 
 abbrev pub invariant-loop-at-3 : goal.invariant-loop-at-3
-invariant-loop-at-3 l = record { within : l.at ≤ length l.bytes; sum : l.sum + total joined (drop l.at l.bytes) ≡ total joined l.bytes; small : l.sum ≤ 2 * l.at }
+invariant-loop-at-3 l = record { within : l.at ≤ length l.bytes; sum : l.sum + sum_over_suffixes continuations (drop l.at l.bytes) ≡ sum_over_suffixes continuations l.bytes; small : l.sum ≤ 2 * l.at }
 
 abbrev pub decreases-loop-at-3 : goal.decreases-loop-at-3
 decreases-loop-at-3 l = length l.bytes - l.at

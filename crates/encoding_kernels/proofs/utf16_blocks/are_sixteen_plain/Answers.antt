@@ -1,6 +1,6 @@
 use Rattle.std.proofs.Common.{refl}
 use Rattle.encoding_kernels.proofs.Lanes.TestLemmas.{and_both}
-use Rattle.encoding_kernels.proofs.CodeUnits.UnitBlocksLemmas.{plain_sixteen, sixteen_plain}
+use Rattle.encoding_kernels.proofs.UnitBlocks.UnitBlocksLemmas.{plain_sixteen, sixteen_plain}
 use Rattle.encoding_kernels.proofs.utf16_blocks.are_sixteen_plain.Goals as goal
 
 pub returns-then-are_units_below : goal.returns-then-are_units_below
@@ -8,5 +8,5 @@ returns-then-are_units_below c t = plain_sixteen c.args.src.now c.args.at ((c.if
 
 pub returns : goal.returns
 returns c t =
-    let both = and_both c.are_plain.result c.are_plain-2.result t in
-    sixteen_plain c.args.src.now c.args.at (c.are_plain.ensures both.0) (c.are_plain-2.ensures both.1)
+    let both = and_both c.are_non_surrogate.result c.are_non_surrogate-2.result t in
+    sixteen_plain c.args.src.now c.args.at (c.are_non_surrogate.ensures both.0) (c.are_non_surrogate-2.ensures both.1)

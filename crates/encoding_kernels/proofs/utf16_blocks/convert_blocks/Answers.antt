@@ -1,4 +1,4 @@
-use Rattle.encoding_kernels.proofs.CodeUnits.UnitBlocksLemmas.{plain_left}
+use Rattle.encoding_kernels.proofs.UnitBlocks.UnitBlocksLemmas.{plain_left}
 use Rattle.encoding_kernels.proofs.utf16_blocks.convert_blocks.Goals as goal
 
 pub loop-read-preserved : goal.loop-read-preserved

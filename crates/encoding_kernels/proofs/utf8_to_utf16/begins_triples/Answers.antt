@@ -1,6 +1,6 @@
 use Rattle.std.proofs.Common.{◌≡◌, ℕ, ◌*◌, ◌<◌, ◌&&◌, arith, bit_and, eqb, false, get_or, get_or-take, leb, length-take-le, ltb, not, refl, sym, take, ◌∙◌, w8}
 use Rattle.std.proofs.lemmas.Bool.{and_parts, leb-true, ltb-true, not-false}
-use Rattle.encoding_kernels.specs.declared.utf8_to_utf16.TheConstants.{LEAD_BITS, LEADS}
+use Rattle.encoding_kernels.specs.declared.utf8_to_utf16.TheConstants.{LEAD_BITS, LEAD_VALUES}
 use Rattle.encoding_kernels.specs.Lanes.{HasLanes}
 use Rattle.encoding_kernels.specs.Units.{BeginsThree}
 use Rattle.encoding_kernels.proofs.Lanes.LaneLemmas.{HasLanes-itself, HasLanes-zip2, same_below}
@@ -18,6 +18,6 @@ returns c t k l =
     let src = c.args.src.now in
     let block : HasLanes 16 (take 16 src) (λ j. get_or src j 0) = record { long = length-take-le 16 src c.requires; each = λ j h. get_or-take 16 src j 0 h } in
     let leads = HasLanes-zip2 bit_and block (HasLanes-itself 16 LEAD_BITS refl) in
-    let tests = tests_of w8 (λ a b. not (eqb a b)) leads (HasLanes-itself 16 LEADS refl) in
+    let tests = tests_of w8 (λ a b. not (eqb a b)) leads (HasLanes-itself 16 LEAD_VALUES refl) in
     let none = (none_passes tests (omega arith)).0 t (3 * k) (omega arith) in
-    three_from (get_or src (3 * k) 0) (c.type_inv.src (3 * k)).fits (sym (λ i. not (eqb (bit_and (get_or src (3 * k) 0) (same_below (λ j. get_or LEAD_BITS (3 * j) 0) (λ _. 0xF0) 0 5 refl k l i)) (same_below (λ j. get_or LEADS (3 * j) 0) (λ _. 0xE0) 0 5 refl k l i))) ∙ none)
+    three_from (get_or src (3 * k) 0) (c.type_inv.src (3 * k)).fits (sym (λ i. not (eqb (bit_and (get_or src (3 * k) 0) (same_below (λ j. get_or LEAD_BITS (3 * j) 0) (λ _. 0xF0) 0 5 refl k l i)) (same_below (λ j. get_or LEAD_VALUES (3 * j) 0) (λ _. 0xE0) 0 5 refl k l i))) ∙ none)

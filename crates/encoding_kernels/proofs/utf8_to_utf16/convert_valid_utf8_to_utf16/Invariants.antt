@@ -1,5 +1,5 @@
 use Rattle.std.proofs.Common.{◌-◌, length}
-use Rattle.encoding_kernels.proofs.LongestFronts.TextLoopLemmas.{Putting}
+use Rattle.encoding_kernels.proofs.PrefixLoops.TextLoopLemmas.{Putting}
 use Rattle.encoding_kernels.proofs.utf8_to_utf16.convert_valid_utf8_to_utf16.Given as goal
 
 abbrev pub invariant-loop-read : goal.invariant-loop-read

@@ -1,6 +1,6 @@
 use Rattle.std.proofs.Common.{arith, drop}
 use Rattle.std.proofs.lemmas.List.{take_rest}
-use Rattle.encoding_kernels.proofs.LongestFronts.TextLoopLemmas.{due_exact, putting_more, putting_all}
+use Rattle.encoding_kernels.proofs.PrefixLoops.TextLoopLemmas.{due_exact, putting_more, putting_all}
 use Rattle.encoding_kernels.proofs.utf8_to_utf16.write_few.Goals as goal
 
 pub loop-read-preserved : goal.loop-read-preserved
@@ -11,4 +11,4 @@ loop-read-preserved c =
     (due_exact (drop c.loop-read.read c.args.src.now) _ c.write_character-bytes.new.dst _ _ done.rest puts)
 
 pub returns : goal.returns
-returns c = putting_all c.args.src.now c.args.dst.now c.loop-read.dst c.loop-read.read c.loop-read.written c.requires.text c.requires.room (omega arith) c.loop-read.invariant
+returns c = putting_all c.args.src.now c.args.dst.now c.loop-read.dst c.loop-read.read c.loop-read.written c.requires.text c.requires.dst_length (omega arith) c.loop-read.invariant

@@ -1,5 +1,5 @@
 use Rattle.std.proofs.Common.{◌-◌, length}
-use Rattle.encoding_kernels.proofs.LongestFronts.TextLoopLemmas.{Putting}
+use Rattle.encoding_kernels.proofs.PrefixLoops.TextLoopLemmas.{Putting}
 use Rattle.encoding_kernels.proofs.utf8_to_utf16.write_few.Given as goal
 
 abbrev pub invariant-loop-read : goal.invariant-loop-read

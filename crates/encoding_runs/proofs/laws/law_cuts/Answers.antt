@@ -2,4 +2,4 @@ use Rattle.encoding_runs.proofs.CutLemmas.{cut_parts, cut_texts, cut_counts, asc
 use Rattle.encoding_runs.proofs.laws.law_cuts.Goals as goal
 
 pub returns : goal.returns
-returns c = record { parts = cut_parts; texts = cut_texts; counts = cut_counts; behind_ascii = ascii_settles }
+returns c = record { parts = cut_parts; texts = cut_texts; counts = cut_counts; after_ascii = ascii_settles }

@@ -1,7 +1,7 @@
-use Rattle.encoding_definitions.proofs.Decomposition.DecompositionLemmas.{has_parts, same_parts, parts-bytes, has_settled, settled_front}
+use Rattle.encoding_definitions.proofs.Decomposition.DecompositionLemmas.{has_parts, same_parts, parts-bytes, has_final, final_prefix}
 use Rattle.encoding_definitions.proofs.Decomposition.LossyLemmas.{repaired-utf8_lossy}
-use Rattle.encoding_runs.proofs.CutLemmas.{settled_text}
-use Rattle.encoding_runs.proofs.SettledLemmas.{settled_first}
+use Rattle.encoding_runs.proofs.CutLemmas.{final_text}
+use Rattle.encoding_runs.proofs.FinalLemmas.{final_first}
 use Rattle.encoding_runs.proofs.WellFormedLemmas.{well_formed}
 use Rattle.encoding_runs.proofs.laws.law_parts.Goals as goal
 
@@ -11,9 +11,9 @@ returns c = record {
   one = same_parts;
   joined = parts-bytes;
   well_formed = well_formed;
-  settled_exist = has_settled;
-  settled_stay = λ bs rest more parts all. settled_front bs parts rest more all;
-  settled_are = λ bs rest parts starts pending stays. settled_first bs parts rest (record { starts = starts; whatever_follows = λ _. stays }) pending;
-  settled_text = settled_text;
+  final_exist = has_final;
+  final_stay = λ bs rest more parts all. final_prefix bs parts rest more all;
+  final_are = λ bs rest parts starts pending stays. final_first bs parts rest (record { starts = starts; stable = λ _. stays }) pending;
+  final_text = final_text;
   lossy = repaired-utf8_lossy;
 }

@@ -1,9 +1,9 @@
 use Rattle.std.proofs.Common.{◌≡◌, length}
-use Rattle.encoding_runs.specs.Runs.{EachGetsOn}
+use Rattle.encoding_runs.specs.Runs.{EachMakesProgress}
 use Rattle.engine_example.proofs.turns.small_turns.Given as goal
 
 abbrev pub invariant-loop : goal.invariant-loop
 invariant-loop l = record {
   count : length l.turns.items ≡ l.counter;
-  each : EachGetsOn 4 l.turns.items;
+  each : EachMakesProgress 4 l.turns.items;
 }

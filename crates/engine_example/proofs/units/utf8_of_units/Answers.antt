@@ -22,8 +22,8 @@ loop-read-preserved c =
     let longest = rw (take_rest us read) at call.ensures.longest in (
       omega (arith, call.ensures.within, length-drop read us),
       λ rooms out w.
-          let behind = subst (λ xs. WritesInTurn xs rooms out) (sym (drop-drop call.result.0 read us)) w in
-          let (all, turns) = c.loop-read.invariant.1 (_ ∷ rooms) (first ++ out) (call.result.0, first, out, longest, behind, refl) in
+          let following = subst (λ xs. WritesInTurn xs rooms out) (sym (drop-drop call.result.0 read us)) w in
+          let (all, turns) = c.loop-read.invariant.1 (_ ∷ rooms) (first ++ out) (call.result.0, first, out, longest, following, refl) in
           (all, subst (WritesInTurn us all) (sym (append_assoc c.loop-read.bytes.items first out) ∙ ap (λ xs. xs ++ out) (sym c.in_ok-extend_from_slice.ensures.items)) turns),
     )
 

@@ -1,8 +1,8 @@
 use Rattle.std.proofs.Common.{◌==◌, refl, ap, arith}
 use Rattle.std.proofs.lemmas.Bool.{eqb-true}
 use Rattle.std.proofs.lemmas.Bool.Decides.{nat_tests}
-use Rattle.encoding_definitions.proofs.LongestFronts.FrontsLemmas.{WritesFront-length}
-use Rattle.reader_example.proofs.WellFormedLemmas.{none_yet, next, some_broken, all_whole}
+use Rattle.encoding_definitions.proofs.LongestPrefixes.PrefixesLemmas.{WritesPrefix-length}
+use Rattle.reader_example.proofs.ReaderWellFormedLemmas.{none_yet, next, some_malformed, all_whole}
 use Rattle.reader_example.proofs.well_formed.is_well_formed.Goals as goal
 
 pub loop-init : goal.loop-init
@@ -16,7 +16,7 @@ pub returns-then-repaired-gt0-clause-answer : goal.returns-then-repaired-gt0-cla
 returns-then-repaired-gt0-clause-answer g c =
     let (out, writes, repair) = c.repair_block-repaired.ensures in
     let read = c.in_ok-count.ensures in
-    some_broken _ _ _ _ _ _ _ _ repair c.law_block_repair.ensures.front c.law_parts.ensures.exist c.law_parts.ensures.well_formed _ _ _ c.loop.invariant.none read.bytes.0 (λ marked. read.bytes.1 (eqb-true _ _ marked) (omega (arith, c.loop.invariant.block, c.read.auto.buf))) c.if-repaired-gt0.true
+    some_malformed _ _ _ _ _ _ _ _ repair c.law_block_repair.ensures.prefix c.law_parts.ensures.exist c.law_parts.ensures.well_formed _ _ _ c.loop.invariant.none read.bytes.0 (λ marked. read.bytes.1 (eqb-true _ _ marked) (omega (arith, c.loop.invariant.block, c.read.auto.buf))) c.if-repaired-gt0.true
 
 pub returns-then-last-clause-answer : goal.returns-then-last-clause-answer
 returns-then-last-clause-answer g c =
@@ -31,5 +31,5 @@ loop-preserved g c =
     record {
       none = next _ _ _ _ _ _ _ _ repair _ _ _ c.loop.invariant.none read.bytes.0 (grind (arith, nat_tests, c.if-last.false)) c.if-repaired-gt0.false (omega (arith, read.bound, c.loop.invariant.block, c.read.auto.buf)) (omega (arith, c.loop.invariant.room));
       block = omega (arith, c.loop.invariant.block, c.read.auto.buf);
-      room = omega (arith, c.loop.invariant.room, WritesFront-length _ _ _ _ writes);
+      room = omega (arith, c.loop.invariant.room, WritesPrefix-length _ _ _ _ writes);
     }

@@ -10,6 +10,6 @@ returns-clause-keeps c =
     record {
       memory = refl;
       further = omega arith;
-      behind = λ n past. drop-put_mid at (end - at) c.args.self.now.room.now c.copy_from_slice.new.self n (omega arith) (omega arith)
+      following = λ n past. drop-put_mid at (end - at) c.args.self.now.room.now c.copy_from_slice.new.self n (omega arith) (omega arith)
           (omega (arith, c.copy_from_slice.ensures.len, length-take c.min-count.result c.args.bytes.now, length-drop at c.args.self.now.room.now, length-take end c.args.self.now.room.now));
     }

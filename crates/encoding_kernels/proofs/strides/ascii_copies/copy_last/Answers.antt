@@ -1,5 +1,5 @@
 use Rattle.std.proofs.Common.{arith, rules}
-use Rattle.encoding_kernels.proofs.Latin.AsciiLemmas.{copies_run}
+use Rattle.encoding_kernels.proofs.LatinBlocks.AsciiLemmas.{copies_run}
 use Rattle.encoding_kernels.proofs.strides.ascii_copies.copy_last.Goals as goal
 
 pub returns-clause-copies : goal.returns-clause-copies

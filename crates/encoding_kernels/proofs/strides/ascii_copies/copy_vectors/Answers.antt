@@ -1,5 +1,5 @@
 use Rattle.std.proofs.Common.{arith}
-use Rattle.encoding_kernels.proofs.Latin.AsciiLemmas.{copies_more}
+use Rattle.encoding_kernels.proofs.LatinBlocks.AsciiLemmas.{copies_more}
 use Rattle.encoding_kernels.proofs.strides.ascii_copies.copy_vectors.Goals as goal
 
 pub loop-at-preserved : goal.loop-at-preserved

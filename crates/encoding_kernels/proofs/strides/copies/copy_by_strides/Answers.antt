@@ -1,16 +1,16 @@
 use Rattle.std.proofs.Common.{◌≡◌, ◌+◌, ◌-◌, take, length, ap, ◌∙◌, arith}
 use Rattle.std.proofs.lemmas.List.{take_all}
-use Rattle.encoding_definitions.proofs.LongestFronts.FrontsLemmas.{WritesFront-length, WritesFront-same, WritesFront_again}
-use Rattle.encoding_kernels.proofs.Latin.AsciiLemmas.{WritesFront_block}
+use Rattle.encoding_definitions.proofs.LongestPrefixes.PrefixesLemmas.{WritesPrefix-length, WritesPrefix-same, WritesPrefix_again}
+use Rattle.encoding_kernels.proofs.LatinBlocks.AsciiLemmas.{WritesPrefix_block}
 use Rattle.encoding_kernels.proofs.strides.copies.copy_by_strides.Goals as goal
 
 pub loop-at-preserved : goal.loop-at-preserved
 loop-at-preserved g c =
     let copied = c.loop-at.invariant.copied in
-    let long = WritesFront-length _ _ _ _ copied in
+    let long = WritesPrefix-length _ _ _ _ copied in
     record {
       within = omega arith;
-      copied = WritesFront_block c.args.dst.now c.loop-at.dst c.copy.new.dst c.args.src.now c.loop-at.at g.row.N copied (omega arith) (omega (arith, long)) c.copy.ensures;
+      copied = WritesPrefix_block c.args.dst.now c.loop-at.dst c.copy.new.dst c.args.src.now c.loop-at.at g.row.N copied (omega arith) (omega (arith, long)) c.copy.ensures;
     }
 
 pub returns : goal.returns
@@ -19,5 +19,5 @@ returns g c =
     let last = length src - g.row.N in
     let copied = c.loop-at.invariant.copied in
     let end : last + g.row.N ≡ length src = omega arith in
-    let all = WritesFront_again c.args.dst.now c.loop-at.dst _ src c.loop-at.at last g.row.N copied (omega arith) (omega arith) (omega arith) (omega (arith, WritesFront-length _ _ _ _ copied)) c.copy-2.ensures in
-    WritesFront-same _ _ _ _ _ _ all end (ap (λ k. take k src) end ∙ take_all (length src) src (omega arith))
+    let all = WritesPrefix_again c.args.dst.now c.loop-at.dst _ src c.loop-at.at last g.row.N copied (omega arith) (omega arith) (omega arith) (omega (arith, WritesPrefix-length _ _ _ _ copied)) c.copy-2.ensures in
+    WritesPrefix-same _ _ _ _ _ _ all end (ap (λ k. take k src) end ∙ take_all (length src) src (omega arith))

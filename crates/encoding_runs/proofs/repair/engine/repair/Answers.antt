@@ -2,7 +2,7 @@ use Rattle.std.proofs.Common.{◌∙◌, arith}
 use Rattle.std.proofs.lemmas.Result.{err_from_is_err_and}
 use Rattle.std.proofs.lemmas.List.{length-append, length-take}
 use Rattle.std.proofs.KnownBytes.{Keeps-refl}
-use Rattle.encoding_runs.proofs.RepairLemmas.{wrote_behind, wrote_count}
+use Rattle.encoding_runs.proofs.RepairLemmas.{wrote_after, wrote_count}
 use Rattle.encoding_runs.proofs.RoundLemmas.{reaches_next, reaches_end, stopped_reading, stopped_writing}
 use Rattle.encoding_runs.proofs.repair.engine.repair.Goals as goal
 
@@ -27,7 +27,7 @@ pub overflow_add-replaced : goal.overflow_add-replaced
 overflow_add-replaced g c =
     let e = c.in_ok-round.ensures.ok in
     let reaches = c.loop-read.invariant.reaches in
-    let wrote = wrote_behind _ _ _ _ _ _ _ _ _ _ reaches.wrote e.4 in
+    let wrote = wrote_after _ _ _ _ _ _ _ _ _ _ reaches.wrote e.4 in
     omega (arith, wrote_count _ _ _ _ _ _ wrote, length-append reaches.input e.0, reaches.count, e.3.within, length-take c.min-room.result c.loop-read.buffer, c.min-room.ensures, c.ranges.limit)
 
 pub returns-then-round-eq0-clause-ok : goal.returns-then-round-eq0-clause-ok

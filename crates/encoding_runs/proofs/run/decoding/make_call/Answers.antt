@@ -1,8 +1,8 @@
 use Rattle.std.proofs.Common.{◌≡◌, length, take, ap, ◌∙◌, refl, arith}
 use Rattle.std.proofs.lemmas.List.{length-take, take_min}
-use Rattle.encoding_text.specs.Decoding.{IsCall}
+use Rattle.encoding_text.specs.Decoding.{DecodeStep}
 use Rattle.encoding_runs.specs.Turns.{room_of}
-use Rattle.encoding_runs.proofs.TurnLemmas.{WritesFront_within, same_call}
+use Rattle.encoding_runs.proofs.TurnLemmas.{WritesPrefix_within, same_call}
 use Rattle.encoding_runs.proofs.run.decoding.make_call.Goals as goal
 
 pub returns : goal.returns
@@ -15,8 +15,8 @@ returns g c =
     record {
       call = (
         d.0,
-        WritesFront_within left c.decode.new.dst c.room_of-room.result c.decode.result.2 d.0 d.1,
-        same_call (IsCall g.U.Decoded.encode g.U.Decoded.need) _ _ _ _ _ _ _ _ _ _ _ _ _ d.2 refl
+        WritesPrefix_within left c.decode.new.dst c.room_of-room.result c.decode.result.2 d.0 d.1,
+        same_call (DecodeStep g.U.Decoded.encode g.U.Decoded.need) _ _ _ _ _ _ _ _ _ _ _ _ _ d.2 refl
             (ap (λ n. take n unread) c.piece_length-piece.ensures ∙ take_min turn.take unread) room c.is_marked_last.ensures refl,
       );
     }

@@ -1,7 +1,7 @@
 use Rattle.std.proofs.Common.{◌∙◌, ℕ, ◌<◌, ◌+◌, ◌-◌, false, [], refl, length, take, drop, get_or, arith}
 use Rattle.std.proofs.lemmas.List.{length-drop, length-take, take_more, take_all}
 use Rattle.encoding_text.proofs.Calls.CallPartsLemmas.{call_within}
-use Rattle.encoding_definitions.proofs.LongestFronts.FrontsLemmas.{WritesFront-nil, WritesFront-length}
+use Rattle.encoding_definitions.proofs.LongestPrefixes.PrefixesLemmas.{WritesPrefix-nil, WritesPrefix-length}
 use Rattle.encoding_runs.specs.declared.run.turns.Turn.{Turn}
 use Rattle.encoding_runs.proofs.RunLemmas.{delivers}
 use Rattle.encoding_runs.proofs.TurnLemmas.{reported_push, one_report}
@@ -11,8 +11,8 @@ use Rattle.encoding_runs.proofs.run.decoding.run.Goals as goal
 pub loop-turn-init : goal.loop-turn-init
 loop-turn-init g c = record {
   run = record {
-    run = record { calls = []; chain = tt; of_turns = tt; reads = refl; writes = WritesFront-nil _; returns = refl; leaves = refl };
-    reports = WritesFront-nil _;
+    run = record { calls = []; chain = tt; of_turns = tt; reads = refl; writes = WritesPrefix-nil _; returns = refl; leaves = refl };
+    reports = WritesPrefix-nil _;
   };
   read = omega arith;
   written = omega arith;
@@ -34,7 +34,7 @@ loop-turn-preserved g c =
     record {
       run = rw (take_more turns at none inside) run;
       read = omega (arith, within, before.read, length-take {A = ℕ}, length-drop {A = ℕ});
-      written = omega (arith, run.run.writes.fits, WritesFront-length _ _ _ _ run.run.writes);
+      written = omega (arith, run.run.writes.fits, WritesPrefix-length _ _ _ _ run.run.writes);
       reports = omega (arith, before.reports, c.write_report.ensures.count, one_report c.make_call-answer.result.0 (c.loop-turn.outcome.written + c.make_call-answer.result.2));
     }
 
@@ -47,4 +47,4 @@ pub returns-clause-completes : goal.returns-clause-completes
 returns-clause-completes g c =
     let all = take_all c.loop-turn.turn-index c.args.turns.now (omega arith) in
     let run = (rw all at c.loop-turn.invariant.run).run in
-    λ l each m. run.returns ∙ completes _ _ c.requires.some c.requires.short _ _ _ _ _ _ l each m run.chain run.of_turns
+    λ l each m. run.returns ∙ completes _ _ c.requires.not_empty c.requires.short _ _ _ _ _ _ l each m run.chain run.of_turns

@@ -1,5 +1,5 @@
 use Rattle.std.proofs.lemmas.Bool.{both_ways}
-use Rattle.encoding_text.proofs.Calls.PendingLemmas.{pending_beginning}
+use Rattle.encoding_text.proofs.Calls.PendingLemmas.{pending_incomplete}
 use Rattle.encoding_text.proofs.decoder.call.decode.Goals as goal
 
 pub returns-then-is_empty : goal.returns-then-is_empty
@@ -7,7 +7,7 @@ returns-then-is_empty g c = rw (c.is_empty.ensures.empty.0 c.if-is_empty.true) c
 
 pub decode_pending-requires : goal.decode_pending-requires
 decode_pending-requires g c = record {
-  unfinished = pending_beginning _ (λ e. both_ways _ c.if-is_empty.false (c.is_empty.ensures.empty.1 e)) c.is_empty.ensures.pending;
+  unfinished = pending_incomplete _ (λ e. both_ways _ c.if-is_empty.false (c.is_empty.ensures.empty.1 e)) c.is_empty.ensures.pending;
 }
 
 pub returns-else-is_empty : goal.returns-else-is_empty

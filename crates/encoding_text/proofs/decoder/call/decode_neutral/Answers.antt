@@ -1,6 +1,6 @@
 use Rattle.std.proofs.Common.{arith}
 use Rattle.std.proofs.lemmas.List.{take_rest, length-drop}
-use Rattle.encoding_definitions.proofs.LongestFronts.FrontsLemmas.{WritesFront-length}
+use Rattle.encoding_definitions.proofs.LongestPrefixes.PrefixesLemmas.{WritesPrefix-length}
 use Rattle.encoding_text.proofs.Calls.DecodeLemmas.{all_read, full, ends, no_character_fits}
 use Rattle.encoding_text.proofs.decoder.call.decode_neutral.Goals as goal
 
@@ -9,8 +9,8 @@ returns-then-read-src g c = rw c.requires.neutral (all_read g.U.CodeUnit.encode 
 
 pub returns-then-dst-written : goal.returns-then-dst-written
 returns-then-dst-written g c =
-    let long = WritesFront-length _ _ _ _ c.convert_up_to_invalid-read.ensures.writes in
-    rw c.requires.neutral (full g.U.CodeUnit.encode g.U.CodeUnit.need _ _ _ _ _ _ c.convert_up_to_invalid-read.ensures c.if-read-src.false (omega (arith, c.if-dst-written.true, c.needed_room.ensures.room, long)))
+    let long = WritesPrefix-length _ _ _ _ c.convert_up_to_invalid-read.ensures.writes in
+    rw c.requires.neutral (full g.U.CodeUnit.encode g.U.CodeUnit.need _ _ _ _ _ _ c.convert_up_to_invalid-read.ensures c.if-read-src.false (omega (arith, c.if-dst-written.true, c.max_units_per_scalar.ensures.dst_length, long)))
 
 pub end_before-result-requires-clause-not_empty : goal.end_before-result-requires-clause-not_empty
 end_before-result-requires-clause-not_empty g c =
@@ -18,12 +18,12 @@ end_before-result-requires-clause-not_empty g c =
 
 pub end_before-result-requires-clause-no_character : goal.end_before-result-requires-clause-no_character
 end_before-result-requires-clause-no_character g c =
-    let front = c.convert_up_to_invalid-read.ensures in
-    let long = WritesFront-length _ _ _ _ front.writes in
-    rw take_rest (no_character_fits g.U.CodeUnit.encode g.U.CodeUnit.need c.needed_room.ensures.holds_any _ _ _ _ _ front (omega (arith, c.if-dst-written.false, c.needed_room.ensures.room, long)))
+    let prefix = c.convert_up_to_invalid-read.ensures in
+    let long = WritesPrefix-length _ _ _ _ prefix.writes in
+    rw take_rest (no_character_fits g.U.CodeUnit.encode g.U.CodeUnit.need c.max_units_per_scalar.ensures.holds_any _ _ _ _ _ prefix (omega (arith, c.if-dst-written.false, c.max_units_per_scalar.ensures.dst_length, long)))
 
 pub returns : goal.returns
 returns g c =
-    let front = c.convert_up_to_invalid-read.ensures in
-    let long = WritesFront-length _ _ _ _ front.writes in
-    ends g.U.CodeUnit.encode g.U.CodeUnit.need _ _ _ _ _ _ _ _ _ front (omega (arith, c.if-dst-written.false, c.needed_room.ensures.room, long)) (rw take_rest at c.end_before-result.ensures)
+    let prefix = c.convert_up_to_invalid-read.ensures in
+    let long = WritesPrefix-length _ _ _ _ prefix.writes in
+    ends g.U.CodeUnit.encode g.U.CodeUnit.need _ _ _ _ _ _ _ _ _ prefix (omega (arith, c.if-dst-written.false, c.max_units_per_scalar.ensures.dst_length, long)) (rw take_rest at c.end_before-result.ensures)

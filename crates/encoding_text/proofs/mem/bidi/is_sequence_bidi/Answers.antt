@@ -3,7 +3,7 @@ use Rattle.encoding_text.proofs.mem.bidi.is_sequence_bidi.Goals as goal
 
 pub returns : goal.returns
 returns c =
-    let spelled = c.scalar_of_sequence.ensures.spelled in (
-      λ e. character_bidi _ _ c.scalar_of_sequence.ensures.scalar spelled (c.is_right_to_left.ensures.0 e),
+    let spelled = c.decode_utf8_scalar.ensures.spelled in (
+      λ e. character_bidi _ _ c.decode_utf8_scalar.ensures.scalar spelled (c.is_right_to_left.ensures.0 e),
       λ b. c.is_right_to_left.ensures.1 (bidi_character _ _ spelled b),
     )

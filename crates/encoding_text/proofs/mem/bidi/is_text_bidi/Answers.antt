@@ -1,5 +1,5 @@
 use Rattle.std.proofs.Common.{arith, refl}
-use Rattle.encoding_kernels.proofs.Bidi.BidiBlocksLemmas.{none_joined, none_before, bidi_of_place, place_of_bidi}
+use Rattle.encoding_kernels.proofs.BidiBlocks.BidiBlocksLemmas.{none_joined, none_before, bidi_of_place, place_of_bidi}
 use Rattle.encoding_text.proofs.mem.bidi.is_text_bidi.Goals as goal
 
 pub returns-then-stands_between : goal.returns-then-stands_between
@@ -11,7 +11,7 @@ loop-at-preserved c =
     let place = c.skip_clear-from.result in
     record {
       within = omega (arith, c.min.ensures);
-      none = none_joined bs 0 place _ (none_joined bs 0 c.loop-at.at place c.loop-at.invariant.none c.skip_clear-from.ensures.none) (c.if-stands_between.ensures.none refl);
+      none = none_joined bs 0 place _ (none_joined bs 0 c.loop-at.at place c.loop-at.invariant.none c.skip_clear-from.ensures.no_rtl) (c.if-stands_between.ensures.no_rtl refl);
     }
 
 pub returns : goal.returns
@@ -21,4 +21,4 @@ returns c = (
 )
 
 pub loop-at-init : goal.loop-at-init
-loop-at-init c = let run = c.front_of_bytes_below-at.ensures in record { within = run.within; none = none_before c.args.bytes.now c.front_of_bytes_below-at.result run.below }
+loop-at-init c = let run = c.prefix_len_below-at.ensures in record { within = run.within; none = none_before c.args.bytes.now c.prefix_len_below-at.result run.below }

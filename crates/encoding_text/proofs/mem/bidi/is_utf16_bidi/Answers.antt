@@ -1,11 +1,11 @@
 use Rattle.std.proofs.Common.{◌+◌, arith, refl, subst}
 use Rattle.encoding_kernels.specs.BidiBlocks.{NoneRightToLeft}
 use Rattle.encoding_definitions.proofs.Bidi.BidiUnitsLemmas.{bidi_at, bidi_place}
-use Rattle.encoding_kernels.proofs.Bidi.BidiUnitBlocksLemmas.{units_joined, unit_none}
+use Rattle.encoding_kernels.proofs.BidiBlocks.BidiUnitBlocksLemmas.{units_joined, unit_none}
 use Rattle.encoding_text.proofs.mem.bidi.is_utf16_bidi.Goals as goal
 
 pub loop-i-init : goal.loop-i-init
-loop-i-init c = units_joined c.args.buffer.now 0 c.loop-at.at c.loop-at.at _ c.loop-at.invariant.none c.skip_clear_units-from.ensures.none (omega arith)
+loop-i-init c = units_joined c.args.buffer.now 0 c.loop-at.at c.loop-at.at _ c.loop-at.invariant.none c.skip_clear_units-from.ensures.no_rtl (omega arith)
 
 pub returns-then-is_utf16_code_unit_bidi : goal.returns-then-is_utf16_code_unit_bidi
 returns-then-is_utf16_code_unit_bidi c =

@@ -1,11 +1,11 @@
 use Rattle.std.proofs.Common.{◌+◌, ◌-◌, take, drop, arith, refl, subst}
 use Rattle.std.proofs.lemmas.List.{take_rest}
 use Rattle.encoding_definitions.specs.Sequence.{IsSequence}
-use Rattle.encoding_kernels.proofs.Bidi.BidiBlocksLemmas.{none_from_zero, no_character_stands, stands_spelled, spelled_stands}
+use Rattle.encoding_kernels.proofs.BidiBlocks.BidiBlocksLemmas.{none_from_zero, no_character_stands, stands_spelled, spelled_stands}
 use Rattle.encoding_text.proofs.mem.bidi.stands_at.Goals as goal
 
-pub returns-then-not-may_begin : goal.returns-then-not-may_begin
-returns-then-not-may_begin c = (λ e. absurd (cc), λ s. absurd (none_from_zero c.args.bytes.now c.args.at (c.if-not-may_begin.ensures refl) s))
+pub returns-then-not-may_start_rtl : goal.returns-then-not-may_start_rtl
+returns-then-not-may_start_rtl c = (λ e. absurd (cc), λ s. absurd (none_from_zero c.args.bytes.now c.args.at (c.if-not-may_start_rtl.ensures refl) s))
 
 pub returns-in_default : goal.returns-in_default
 returns-in_default c = (λ e. absurd (cc), λ s. absurd (no_character_stands c.args.bytes.now c.args.at (rw take_rest at c.in_default.ensures.no_character) s))

@@ -1,6 +1,6 @@
 use Rattle.std.proofs.Common.{arith, subst}
-use Rattle.encoding_kernels.specs.BidiBlocks.{NoneStands}
+use Rattle.encoding_kernels.specs.BidiBlocks.{NoRtlIn}
 use Rattle.encoding_text.proofs.mem.bidi.stands_between.Goals as goal
 
-pub returns-clause-none : goal.returns-clause-none
-returns-clause-none c = λ _. subst (NoneStands c.args.bytes.now c.args.from) {x = c.loop-at.at} {y = c.args.to} (omega arith) c.loop-at.invariant
+pub returns-clause-no_rtl : goal.returns-clause-no_rtl
+returns-clause-no_rtl c = λ _. subst (NoRtlIn c.args.bytes.now c.args.from) {x = c.loop-at.at} {y = c.args.to} (omega arith) c.loop-at.invariant

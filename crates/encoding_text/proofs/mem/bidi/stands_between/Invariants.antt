@@ -1,5 +1,5 @@
-use Rattle.encoding_kernels.specs.BidiBlocks.{NoneStands}
+use Rattle.encoding_kernels.specs.BidiBlocks.{NoRtlIn}
 use Rattle.encoding_text.proofs.mem.bidi.stands_between.Given as goal
 
 abbrev pub invariant-loop-at : goal.invariant-loop-at
-invariant-loop-at l = NoneStands l.bytes l.from l.at
+invariant-loop-at l = NoRtlIn l.bytes l.from l.at

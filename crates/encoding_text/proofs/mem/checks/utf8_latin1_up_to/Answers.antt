@@ -7,7 +7,7 @@ use Rattle.encoding_text.proofs.mem.checks.utf8_latin1_up_to.Goals as goal
 pub returns-then-buffer-run-ge-BEYOND_LATIN1 : goal.returns-then-buffer-run-ge-BEYOND_LATIN1
 returns-then-buffer-run-ge-BEYOND_LATIN1 c =
     let bytes = c.args.buffer.now in
-    let run = c.run_of_bytes_below-run.result in
+    let run = c.run_len_below-run.result in
     let high = c.if-buffer-run-ge-BEYOND_LATIN1.true in
-    let below : BelowUpTo 0x80 bytes run = λ k l. c.run_of_bytes_below-run.ensures.pass k (omega arith) (omega (arith, l)) in
+    let below : BelowUpTo 0x80 bytes run = λ k l. c.run_len_below-run.ensures.pass k (omega arith) (omega (arith, l)) in
     latin1_stop bytes run (omega arith) (ascii_latin1 bytes run (omega arith) below) (λ l. (omega (arith, high), λ p q r s t. omega (arith, high, q)))

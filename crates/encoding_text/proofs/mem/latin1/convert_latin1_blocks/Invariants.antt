@@ -1,11 +1,11 @@
 use Rattle.std.proofs.Common.{◌≡◌, ◌+◌, ◌-◌, ◌*◌, ◌%◌, ◌≤◌, length, take, encode_utf8_all}
-use Rattle.encoding_definitions.specs.Fronts.{WritesFront}
+use Rattle.encoding_definitions.specs.Prefixes.{WritesPrefix}
 use Rattle.encoding_text.proofs.mem.latin1.convert_latin1_blocks.Given as goal
 
 abbrev pub invariant-loop-read : goal.invariant-loop-read
 invariant-loop-read l = record {
   within : l.read ≤ length l.src;
-  written : WritesFront l.fn.dst l.dst l.written (encode_utf8_all (take l.read l.src));
+  written : WritesPrefix l.fn.dst l.dst l.written (encode_utf8_all (take l.read l.src));
 }
 
 abbrev pub decreases-loop-read : goal.decreases-loop-read
@@ -16,7 +16,7 @@ invariant-loop-read-else-are_bytes_below l = record {
   within : (l.read ≤ l.end) × (l.end ≤ length l.src);
   whole : (l.end - l.read) % 16 ≡ 0;
   room : l.written + 2 * (l.end - l.read) ≤ length l.dst;
-  written : WritesFront l.fn.dst l.dst l.written (encode_utf8_all (take l.read l.src));
+  written : WritesPrefix l.fn.dst l.dst l.written (encode_utf8_all (take l.read l.src));
 }
 
 abbrev pub decreases-loop-read-else-are_bytes_below : goal.decreases-loop-read-else-are_bytes_below
@@ -25,7 +25,7 @@ decreases-loop-read-else-are_bytes_below l = l.end - l.read
 abbrev pub invariant-loop-read-2 : goal.invariant-loop-read-2
 invariant-loop-read-2 l = record {
   within : l.read ≤ length l.src;
-  written : WritesFront l.fn.dst l.dst l.written (encode_utf8_all (take l.read l.src));
+  written : WritesPrefix l.fn.dst l.dst l.written (encode_utf8_all (take l.read l.src));
 }
 
 abbrev pub decreases-loop-read-2 : goal.decreases-loop-read-2

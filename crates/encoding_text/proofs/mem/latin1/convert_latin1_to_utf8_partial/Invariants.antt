@@ -1,11 +1,11 @@
 use Rattle.std.proofs.Common.{◌-◌, ◌≤◌, length, take, encode_utf8_all}
-use Rattle.encoding_definitions.specs.Fronts.{WritesFront}
+use Rattle.encoding_definitions.specs.Prefixes.{WritesPrefix}
 use Rattle.encoding_text.proofs.mem.latin1.convert_latin1_to_utf8_partial.Given as goal
 
 abbrev pub invariant-loop-read : goal.invariant-loop-read
 invariant-loop-read l = record {
   within : l.read ≤ length l.src;
-  written : WritesFront l.fn.dst l.dst l.written (encode_utf8_all (take l.read l.src));
+  written : WritesPrefix l.fn.dst l.dst l.written (encode_utf8_all (take l.read l.src));
 }
 
 abbrev pub decreases-loop-read : goal.decreases-loop-read

@@ -1,8 +1,8 @@
 use Rattle.std.proofs.Common.{◌≡◌, ℕ, [], ◌++◌, ◌+◌, ◌%◌, map, take, drop, length, ap, ◌∙◌, refl, arith, bit_and, slice_index}
 use Rattle.std.proofs.lemmas.Grind.{common_steps}
 use Rattle.encoding_kernels.proofs.Lanes.ChunksLemmas.{many, whole_stride}
-use Rattle.encoding_definitions.proofs.LongestFronts.FrontsLemmas.{WritesFront-length}
-use Rattle.encoding_text.proofs.Latin.Latin1ConversionLemmas.{WritesFront_low, WritesFront_low_block}
+use Rattle.encoding_definitions.proofs.LongestPrefixes.PrefixesLemmas.{WritesPrefix-length}
+use Rattle.encoding_text.proofs.LatinConversions.Latin1ConversionLemmas.{WritesPrefix_low, WritesPrefix_low_block}
 use Rattle.encoding_text.proofs.mem.latin1.convert_utf16_to_latin1_lossy.Goals as goal
 
 pub loop-stride-preserved : goal.loop-stride-preserved
@@ -16,11 +16,11 @@ loop-stride-preserved c =
     let put = c.pack_lower.ensures ∙ ap (λ xs. take at c.loop-stride.dst ++ (map (λ (unit : ℕ). unit % 0x100) xs ++ drop (at + 16) c.loop-stride.dst)) is in
     record {
       place = omega (arith, place);
-      copied = WritesFront_low_block c.args.dst.now c.loop-stride.dst c.pack_lower.new.dst src at 16 copied (omega (arith, place, within)) (omega (arith, place, within, WritesFront-length _ _ _ _ copied)) put;
+      copied = WritesPrefix_low_block c.args.dst.now c.loop-stride.dst c.pack_lower.new.dst src at 16 copied (omega (arith, place, within)) (omega (arith, place, within, WritesPrefix-length _ _ _ _ copied)) put;
     }
 
 pub loop-i-preserved : goal.loop-i-preserved
 loop-i-preserved c =
     let unit = slice_index c.args.src.now c.loop-i.i in
     let low : bit_and unit 255 ≡ unit % 0x100 = grind (arith, common_steps) in
-    WritesFront_low _ _ c.args.src.now c.loop-i.i _ c.loop-i.invariant c.loop-i-test.true (omega arith) low
+    WritesPrefix_low _ _ c.args.src.now c.loop-i.i _ c.loop-i.invariant c.loop-i-test.true (omega arith) low

@@ -2,10 +2,10 @@ use Rattle.std.proofs.Common.{◌≡◌, ◌+◌, ◌-◌, ◌<◌, arith, ap, s
 use Rattle.std.specs.Str.{chars}
 use Rattle.std.proofs.lemmas.List.{take_all, length-drop}
 use Rattle.std.proofs.lemmas.Str.{length-le-encodes}
-use Rattle.encoding_kernels.proofs.Latin.AsciiLemmas.{WritesFront_copy}
-use Rattle.encoding_definitions.proofs.LongestFronts.FrontsLemmas.{WritesFront-nil}
+use Rattle.encoding_kernels.proofs.LatinBlocks.AsciiLemmas.{WritesPrefix_copy}
+use Rattle.encoding_definitions.proofs.LongestPrefixes.PrefixesLemmas.{WritesPrefix-nil}
 use Rattle.encoding_definitions.proofs.Latin.Latin1Lemmas.{latin1_chars, next_of_one, next_of_two}
-use Rattle.encoding_text.proofs.Latin.Latin1ConversionLemmas.{character_of_two, ascii_on, ascii_front, begins_apart, block_on}
+use Rattle.encoding_text.proofs.LatinConversions.Latin1ConversionLemmas.{character_of_two, ascii_on, ascii_prefix_len, begins_apart, block_on}
 use Rattle.encoding_text.proofs.mem.latin1.convert_utf8_to_latin1.Goals as goal
 use Rattle.encoding_text.proofs.mem.latin1.convert_utf8_to_latin1.Goals.{then-byte-lt128, else-byte-lt128}
 
@@ -13,13 +13,13 @@ pub loop-read-init : goal.loop-read-init
 loop-read-init c =
     let src = c.args.src.now in
     let text = latin1_chars src c.requires.latin1 in
-    let front = c.copy_ascii-read.result in
+    let prefix = c.copy_ascii-read.result in
     let call = c.copy_ascii-read.ensures.copies in
-    let run = ascii_front src (chars src) front text.0 (sym text.1) call.within.0 (call.ascii (λ k l. absurd (omega arith))) in
+    let run = ascii_prefix_len src (chars src) prefix text.0 (sym text.1) call.within.0 (call.ascii (λ k l. absurd (omega arith))) in
     record {
       within = call.within.0;
       rest = run.1;
-      written = rw run.0 at (call.copied c.args.dst.now (WritesFront-nil c.args.dst.now));
+      written = rw run.0 at (call.copied c.args.dst.now (WritesPrefix-nil c.args.dst.now));
     }
 
 pub loop-read-preserved-then-are_bytes_below : goal.loop-read-preserved-then-are_bytes_below
@@ -29,10 +29,10 @@ loop-read-preserved-then-are_bytes_below c =
     let text = latin1_chars src c.requires.latin1 in
     let had = c.loop-read.invariant in
     let dst = c.loop-read.dst in
-    let call = c.copy_ascii-front.ensures.copies in
+    let call = c.copy_ascii-prefix.ensures.copies in
     let below = call.ascii (λ k l. absurd (omega arith)) in
-    let copied = call.copied _ (WritesFront-nil (take (length dst - c.loop-read.written) (drop c.loop-read.written dst))) in
-    let next = ascii_on src cs c.args.dst.now dst c.copy_ascii-front.new.dst c.loop-read.read c.loop-read.written c.copy_ascii-front.result text.0 had.rest had.written call.within.0 below copied had.within in
+    let copied = call.copied _ (WritesPrefix-nil (take (length dst - c.loop-read.written) (drop c.loop-read.written dst))) in
+    let next = ascii_on src cs c.args.dst.now dst c.copy_ascii-prefix.new.dst c.loop-read.read c.loop-read.written c.copy_ascii-prefix.result text.0 had.rest had.written call.within.0 below copied had.within in
     record { within = omega (arith, call.within.0); rest = next.0; written = next.1 }
 
 pub latin1_of-count-requires : goal.latin1_of-count-requires
@@ -49,8 +49,8 @@ loop-read-preserved c =
     let had = c.loop-read.invariant in
     let call = c.latin1_of-count.ensures in
     let whole = c.whole_length-read.ensures in
-    let next = block_on src cs c.args.dst.now _ c.write_first.new.dst c.loop-read.read c.loop-read.written c.latin1_of-count.result.1 c.whole_length-read.result text.0 had.rest had.written c.latin1_of-count.result.0 call.ended
-    (omega (arith, call.long, call.count)) (omega (arith, call.count)) c.write_first.ensures (omega arith) whole in
+    let next = block_on src cs c.args.dst.now _ c.write_first.new.dst c.loop-read.read c.loop-read.written c.latin1_of-count.result.1 c.whole_length-read.result text.0 had.rest had.written c.latin1_of-count.result.0 call.latin1_ended
+    (omega (arith, call.lane_count, call.out_length)) (omega (arith, call.out_length)) c.write_first.ensures (omega arith) whole in
     record { within = omega (arith, whole); rest = next.0; written = next.1 }
 
 pub bounds-dst-written : goal.bounds-dst-written
@@ -86,7 +86,7 @@ loop-read-2-preserved c =
           record {
             within = omega arith;
             rest = rw w.read-is next.2;
-            written = rw w.dst-is (WritesFront_copy _ _ cs j _ had.written next.0 room next.1);
+            written = rw w.dst-is (WritesPrefix_copy _ _ cs j _ had.written next.0 room next.1);
           }
       | else-byte-lt128 w ↦
           let next = next_of_two src cs i j text.0 had.rest c.loop-read-2-test.true w.if-byte-lt128.false in
@@ -95,7 +95,7 @@ loop-read-2-preserved c =
           record {
             within = omega (arith, next.1);
             rest = rw w.read-is next.5;
-            written = rw w.dst-is (WritesFront_copy _ _ cs j _ had.written next.0 room byte);
+            written = rw w.dst-is (WritesPrefix_copy _ _ cs j _ had.written next.0 room byte);
           }
     ]
 

@@ -1,7 +1,7 @@
 use Rattle.std.proofs.Common.{◌<◌, take, arith, IsUtf8, encode_utf8_all}
-use Rattle.encoding_kernels.proofs.Latin.AsciiLemmas.{Each-take}
-use Rattle.encoding_text.proofs.Latin.Latin1ConversionLemmas.{IsUtf8-bytes}
-use Rattle.encoding_definitions.proofs.Conversions.ClearingLemmas.{clears_behind, text_stays}
+use Rattle.encoding_kernels.proofs.LatinBlocks.AsciiLemmas.{Each-take}
+use Rattle.encoding_text.proofs.LatinConversions.Latin1ConversionLemmas.{IsUtf8-bytes}
+use Rattle.encoding_definitions.proofs.Conversions.ClearingLemmas.{clears_after, text_stays}
 use Rattle.encoding_text.proofs.mem.text_destinations.convert_latin1_to_str_partial.Goals as goal
 
 pub returns : goal.returns
@@ -11,7 +11,7 @@ returns c =
     let text : IsUtf8 (encode_utf8_all (take read c.args.src.now)) = IsUtf8-bytes (take read c.args.src.now)
     (λ i. Each-take (λ b. b < 256) (omega arith) c.args.src.now read (λ k _. omega (arith, c.type_inv.src k)) i) in
     record {
-      front = call.ensures.front;
-      written = clears_behind c.args.dst.now call.new.dst c.clear.new.bytes 16 _ _ call.ensures.written c.clear.ensures;
+      prefix = call.ensures.prefix;
+      written = clears_after c.args.dst.now call.new.dst c.clear.new.bytes 16 _ _ call.ensures.written c.clear.ensures;
       text = text_stays c.args.dst.now call.new.dst c.clear.new.bytes 16 _ _ call.ensures.written c.clear.ensures c.requires.text text;
     }

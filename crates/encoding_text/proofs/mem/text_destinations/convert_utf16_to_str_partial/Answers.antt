@@ -1,14 +1,14 @@
 use Rattle.encoding_definitions.proofs.Conversions.Utf16TextLemmas.{IsUtf8-longest}
-use Rattle.encoding_definitions.proofs.Conversions.ClearingLemmas.{clears_behind, written_stays, text_stays}
+use Rattle.encoding_definitions.proofs.Conversions.ClearingLemmas.{clears_after, written_stays, text_stays}
 use Rattle.encoding_text.proofs.mem.text_destinations.convert_utf16_to_str_partial.Goals as goal
 
 pub returns : goal.returns
 returns c =
     let call = c.convert_utf16_to_utf8_partial-read in
-    let same = written_stays c.args.dst.now call.new.dst c.clear.new.bytes 0 _ _ call.ensures.rest c.clear.ensures in
+    let same = written_stays c.args.dst.now call.new.dst c.clear.new.bytes 0 _ _ call.ensures.unchanged_after c.clear.ensures in
     record {
       longest = rw same call.ensures.longest;
       within = call.ensures.within;
-      rest = rw same (clears_behind c.args.dst.now call.new.dst c.clear.new.bytes 0 _ _ call.ensures.rest c.clear.ensures);
-      text = text_stays c.args.dst.now call.new.dst c.clear.new.bytes 0 _ _ call.ensures.rest c.clear.ensures c.requires.text (IsUtf8-longest _ _ _ _ call.ensures.longest);
+      unchanged_after = rw same (clears_after c.args.dst.now call.new.dst c.clear.new.bytes 0 _ _ call.ensures.unchanged_after c.clear.ensures);
+      text = text_stays c.args.dst.now call.new.dst c.clear.new.bytes 0 _ _ call.ensures.unchanged_after c.clear.ensures c.requires.text (IsUtf8-longest _ _ _ _ call.ensures.longest);
     }

@@ -1,8 +1,8 @@
 use Rattle.std.proofs.Common.{◌≡◌, ℕ, ◌+◌, ◌-◌, ◌<◌, ◌∙◌, ap, arith, refl, length, take, drop}
 use Rattle.std.proofs.lemmas.List.{take_rest, length-drop, length-set}
-use Rattle.encoding_definitions.proofs.LongestFronts.FrontsLemmas.{WritesFront-length}
+use Rattle.encoding_definitions.proofs.LongestPrefixes.PrefixesLemmas.{WritesPrefix-length}
 use Rattle.encoding_text.proofs.Calls.RoomLemmas.{keeps_room}
-use Rattle.encoding_text.proofs.Conversions.RepairingLemmas.{repaired_all, repaired_more, repaired_length, reads_some}
+use Rattle.encoding_text.proofs.RepairingConversions.RepairingLemmas.{repaired_all, repaired_more, repaired_length, reads_some}
 use Rattle.encoding_text.proofs.mem.to_utf16.convert_utf8_to_utf16.Goals as goal
 
 pub returns-in-InputEmpty : goal.returns-in-InputEmpty
@@ -46,7 +46,7 @@ loop-dst-preserved c =
     let repaired = c.loop-dst.invariant.repaired in
     let call = rw (take_rest c.args.src.now read, c.loop-dst.invariant.neutral, c.in-Malformed.is) at c.decode_to_utf16_raw-result.ensures.call in
     let some = reads_some _ _ _ _ _ _ _ _ call in
-    let whole = WritesFront-length _ _ _ _ repaired.writes in
+    let whole = WritesPrefix-length _ _ _ _ repaired.writes in
     let long = repaired_length dst c.decode_to_utf16_raw-result.new.dst written _ _ c.decode_to_utf16_raw-result.ensures.call.1 (omega (arith, room)) in
     let size : length (take (length dst - written) (drop written dst)) ≡ length dst - written = ap length (take_rest dst written) ∙ length-drop written dst in
     let left = (keeps_room _ _ _ _ _ _ _ _ call (omega (arith, room, size, length-drop read c.args.src.now))).1 (_, _, refl) in

@@ -1,10 +1,10 @@
 use Rattle.std.proofs.Common.{◌+◌, ◌<◌, ◌++◌, ◌∷◌, ◌-◌, [], map, take, drop, length, arith, refl, sym, subst}
-use Rattle.encoding_definitions.proofs.LongestFronts.FrontsLemmas.{WritesFront_after, WritesFront-same}
-use Rattle.encoding_definitions.proofs.LongestFronts.FittingLemmas.{written_is}
-use Rattle.encoding_definitions.proofs.CodeUnits.Utf16FrontLemmas.{step_walked, step_within, step_written, walked_front}
-use Rattle.encoding_kernels.proofs.CodeUnits.UnitBlocksLemmas.{ascii_parts, ascii_walked, ascii_written, blocks_walked, blocks_written}
-use Rattle.encoding_kernels.proofs.CodeUnits.PairedUnitsLemmas.{goes_on}
-use Rattle.encoding_definitions.specs.Utf16.{AreUnits, IsUtf8OfFront, Character16}
+use Rattle.encoding_definitions.proofs.LongestPrefixes.PrefixesLemmas.{WritesPrefix_after, WritesPrefix-same}
+use Rattle.encoding_definitions.proofs.LongestPrefixes.FittingLemmas.{written_is}
+use Rattle.encoding_definitions.proofs.CodeUnits.Utf16PrefixLemmas.{step_walked, step_within, step_written, walked_prefix}
+use Rattle.encoding_kernels.proofs.UnitBlocks.UnitBlocksLemmas.{ascii_parts, ascii_walked, ascii_written, blocks_walked, blocks_written}
+use Rattle.encoding_kernels.proofs.UnitBlocks.PairedUnitsLemmas.{goes_on}
+use Rattle.encoding_definitions.specs.Utf16.{AreCodeUnits, IsUtf8OfPrefix, Character16}
 use Rattle.encoding_text.proofs.utf_8.encoding.convert_utf16_to_utf8_partial_inner.Goals as goal
 
 pub loop-read-preserved-then-singles-eq0 : goal.loop-read-preserved-then-singles-eq0
@@ -14,17 +14,17 @@ loop-read-preserved-then-singles-eq0 c =
     let here = c.loop-read.invariant in
     let units = c.convert_blocks-units.result.0 in
     let call = c.convert_blocks-units.ensures in
-    let fit : AreUnits us = λ k. omega (arith, c.type_inv.src k) in
+    let fit : AreCodeUnits us = λ k. omega (arith, c.type_inv.src k) in
     let blocks = here.done ++ map Character16 (take units (take (length us - read) (drop read us))) in
     let walked = blocks_walked us read units here.done fit here.walked call.within call.plain in
-    let written = WritesFront-same _ _ _ _ _ _ (WritesFront_after _ _ _ _ _ _ _ here.written call.written) refl (blocks_written us read units here.done fit) in
+    let written = WritesPrefix-same _ _ _ _ _ _ (WritesPrefix_after _ _ _ _ _ _ _ here.written call.written) refl (blocks_written us read units here.done fit) in
     let next = c.convert_paired_blocks-paired.ensures in
-    let more = goes_on us fit (read + units) c.convert_paired_blocks-paired.result.0 blocks _ walked next.front in
+    let more = goes_on us fit (read + units) c.convert_paired_blocks-paired.result.0 blocks _ walked next.prefix in
     record {
       within = omega (arith, call.within, next.within);
       done = more.all;
       walked = more.walked;
-      written = WritesFront-same _ _ _ _ _ _ (WritesFront_after _ _ _ _ _ _ _ written next.rest) refl more.written;
+      written = WritesPrefix-same _ _ _ _ _ _ (WritesPrefix_after _ _ _ _ _ _ _ written next.unchanged_after) refl more.written;
     }
 
 pub loop-read-preserved-then-src-read-lt128 : goal.loop-read-preserved-then-src-read-lt128
@@ -47,18 +47,18 @@ loop-read-preserved c =
       within = step_within c.args.src.now _ here.done _ _ here.walked first c.utf16_length-read.ensures here.within;
       done = here.done ++ first.part ∷ [];
       walked = step_walked c.args.src.now _ here.done _ _ here.walked first c.utf16_length-read.ensures;
-      written = WritesFront-same _ _ _ _ _ _ (WritesFront_after _ _ _ _ _ _ _ here.written c.write_scalar-written.ensures) refl
+      written = WritesPrefix-same _ _ _ _ _ _ (WritesPrefix_after _ _ _ _ _ _ _ here.written c.write_scalar-written.ensures) refl
           (sym (step_written c.args.src.now _ here.done _ c.utf16_length-read.result here.walked first));
     }
 
-pub returns-else-written-end-clause-front : goal.returns-else-written-end-clause-front
-returns-else-written-end-clause-front c =
+pub returns-else-written-end-clause-prefix : goal.returns-else-written-end-clause-prefix
+returns-else-written-end-clause-prefix c =
     let here = c.loop-read.invariant in
-    subst (IsUtf8OfFront c.args.src.now c.loop-read.read) (written_is _ _ _ _ here.written)
-    (walked_front c.args.src.now c.loop-read.read here.done (λ k. omega (arith, c.type_inv.src k)) here.walked)
+    subst (IsUtf8OfPrefix c.args.src.now c.loop-read.read) (written_is _ _ _ _ here.written)
+    (walked_prefix c.args.src.now c.loop-read.read here.done (λ k. omega (arith, c.type_inv.src k)) here.walked)
 
-pub returns-after-loop-read-clause-front : goal.returns-after-loop-read-clause-front
-returns-after-loop-read-clause-front c =
+pub returns-after-loop-read-clause-prefix : goal.returns-after-loop-read-clause-prefix
+returns-after-loop-read-clause-prefix c =
     let here = c.loop-read.invariant in
-    subst (IsUtf8OfFront c.args.src.now c.loop-read.read) (written_is _ _ _ _ here.written)
-    (walked_front c.args.src.now c.loop-read.read here.done (λ k. omega (arith, c.type_inv.src k)) here.walked)
+    subst (IsUtf8OfPrefix c.args.src.now c.loop-read.read) (written_is _ _ _ _ here.written)
+    (walked_prefix c.args.src.now c.loop-read.read here.done (λ k. omega (arith, c.type_inv.src k)) here.walked)

@@ -1,7 +1,7 @@
 use Rattle.std.proofs.Common.{arith}
 use Rattle.std.proofs.lemmas.List.{take_rest, length-drop}
 use Rattle.std.proofs.lemmas.Str.{IsUtf8-nil, IsUtf8-from_ascii}
-use Rattle.encoding_definitions.proofs.LongestFronts.Utf8Lemmas.{IsUtf8_more, IsLongestFront-utf8}
+use Rattle.encoding_definitions.proofs.LongestPrefixes.Utf8Lemmas.{IsUtf8_more, IsLongestPrefix-utf8}
 use Rattle.encoding_text.proofs.utf_8.validation.utf8_valid_up_to.Goals as goal
 use Rattle.encoding_text.proofs.utf_8.validation.utf8_valid_up_to.Goals.{then-src-ge16, else-src-ge16+then-src-ge8+then-src-lt-ASCII_END, else-src-ge16+else-src-ge8}
 
@@ -9,8 +9,8 @@ pub loop-at-init : goal.loop-at-init
 loop-at-init c = elim c.if-src-ge16.branch [
   | then-src-ge16 w ↦ rw w.at-is (record { within = w.well_formed_blocks-at.ensures.0; text = w.well_formed_blocks-at.ensures.1 })
   | else-src-ge16+then-src-ge8+then-src-lt-ASCII_END w ↦
-      let front = w.ascii_valid_up_to-at in
-      rw w.at-is (record { within = front.ensures.within; text = IsUtf8-from_ascii _ front.ensures.kind })
+      let prefix = w.ascii_valid_up_to-at in
+      rw w.at-is (record { within = prefix.ensures.within; text = IsUtf8-from_ascii _ prefix.ensures.kind })
   | else-src-ge16+else-src-ge8 w ↦ rw w.at-is (record { within = omega arith; text = IsUtf8-nil })
 ]
 
@@ -24,4 +24,4 @@ loop-at-preserved c =
 
 pub returns-in_default : goal.returns-in_default
 returns-in_default c =
-    IsLongestFront-utf8 _ _ c.loop-at.invariant.within c.loop-at.invariant.text (rw take_rest at c.in_default.ensures.no_character)
+    IsLongestPrefix-utf8 _ _ c.loop-at.invariant.within c.loop-at.invariant.text (rw take_rest at c.in_default.ensures.no_character)

@@ -3,11 +3,11 @@ use Rattle.std.proofs.lemmas.Str.{IsUtf8-nil}
 use Rattle.std.specs.Str.{IsUtf8}
 use Rattle.std.specs.Io.KnownBytes.{Consumes}
 use Rattle.encoding_definitions.specs.Sequence.{IsSequence}
-use Rattle.encoding_definitions.proofs.LongestFronts.Utf8Lemmas.{IsUtf8-sequence}
+use Rattle.encoding_definitions.proofs.LongestPrefixes.Utf8Lemmas.{IsUtf8-sequence}
 use Rattle.reader_example.specs.Reading.{IsUtf16Character}
-use Rattle.reader_example.proofs.BlockLemmas.{some_length, written_front}
+use Rattle.reader_example.proofs.ReaderBlockLemmas.{some_length, written_prefix}
 use Rattle.reader_example.proofs.CharacterLemmas.{character_text}
-use Rattle.reader_example.proofs.UnitLemmas.{Keeps-units, no_units_left, no_units, some_text, one_character}
+use Rattle.reader_example.proofs.ReaderUnitLemmas.{Keeps-units, no_units_left, no_units, some_text, one_character}
 use Rattle.reader_example.proofs.utf16_reader.Utf16Reader.hold.Goals as goal
 
 pub from_utf8_unchecked-character-requires : goal.from_utf8_unchecked-character-requires
@@ -19,13 +19,13 @@ from_utf8_unchecked-character-requires g c =
 pub returns-clause-units : goal.returns-clause-units
 returns-clause-units g c =
     let text = c.from_utf8_unchecked-character in
-    let held = c.hold.ensures ∙ written_front _ _ _ _ c.convert_str_to_utf16-count.ensures in
+    let held = c.hold.ensures ∙ written_prefix _ _ _ _ c.convert_str_to_utf16-count.ensures in
     rw (c.requires.held, held) (Keeps-units _ _ text.result.now text.utf8 (subst (Consumes _ _) (sym text.ensures) c.in_ok-count.ensures.bytes.0))
 
 pub returns-clause-one : goal.returns-clause-one
 returns-clause-one g c = λ some.
     let text = c.from_utf8_unchecked-character in
-    let held = c.hold.ensures ∙ written_front _ _ _ _ c.convert_str_to_utf16-count.ensures in
+    let held = c.hold.ensures ∙ written_prefix _ _ _ _ c.convert_str_to_utf16-count.ensures in
     let read = c.in_ok-count.ensures in
     let bytes = some_text text.result.now (λ none. some (held ∙ none)) in
     subst IsUtf16Character (sym held)
@@ -34,7 +34,7 @@ returns-clause-one g c = λ some.
 pub returns-clause-end : goal.returns-clause-end
 returns-clause-end g c = λ none.
     let text = c.from_utf8_unchecked-character in
-    let held = c.hold.ensures ∙ written_front _ _ _ _ c.convert_str_to_utf16-count.ensures in
+    let held = c.hold.ensures ∙ written_prefix _ _ _ _ c.convert_str_to_utf16-count.ensures in
     let read = c.in_ok-count.ensures in
     let nothing = no_units text.result.now text.utf8 (sym held ∙ none) in
     rw none (no_units_left _ (read.bytes.1 (omega (arith, ap length nothing, ap length text.ensures, read.bound)) (omega arith)))

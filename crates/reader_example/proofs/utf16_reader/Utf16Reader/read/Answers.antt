@@ -3,9 +3,9 @@ use Rattle.std.proofs.lemmas.Bool.{both_ways, eqb-true}
 use Rattle.std.proofs.lemmas.List.{nil_from_length}
 use Rattle.encoding_definitions.specs.Surrogates.{IsValidUtf16}
 use Rattle.reader_example.specs.Reading.{IsUtf16Character, half_of}
-use Rattle.reader_example.proofs.CharacterLemmas.{gives_held}
-use Rattle.reader_example.proofs.UnitLemmas.{valid_nothing, valid_character}
-use Rattle.reader_example.proofs.utf16_reader.Utf16Reader.read.Goals.{then-is_empty-2+else-dst-ge-ROOM+in_ok-hold, else-is_empty-2}
+use Rattle.reader_example.proofs.CharacterLemmas.{yields_held}
+use Rattle.reader_example.proofs.ReaderUnitLemmas.{valid_nothing, valid_character}
+use Rattle.reader_example.proofs.utf16_reader.Utf16Reader.read.Goals.{then-is_empty-2+else-dst-ge-BLOCK_LENGTH+in_ok-hold, else-is_empty-2}
 use Rattle.reader_example.proofs.utf16_reader.Utf16Reader.read.Goals as goal
 
 pub returns-clause-characters : goal.returns-clause-characters
@@ -13,10 +13,10 @@ returns-clause-characters g c =
     let give = c.give.ensures in
     let held = c.args.self.now.held in
     elim c.if-is_empty-2.branch [
-      | then-is_empty-2+else-dst-ge-ROOM+in_ok-hold w ↦
+      | then-is_empty-2+else-dst-ge-BLOCK_LENGTH+in_ok-hold w ↦
           let none : held ≡ [] = nil_from_length held (ap length (sym c.unread.ensures.value) ∙ eqb-true _ _ (sym c.is_empty-2.ensures ∙ w.if-is_empty-2.true)) in
           let same = ap half_of w.self-is in
-          gives_held IsValidUtf16 IsUtf16Character valid_nothing valid_character c.if-is_empty-2.self.held _ _ _ _ give.bytes give.count give.room held (λ some. absurd (some none)) (λ _ some. subst IsUtf16Character (sym same) (w.hold.ensures.one (λ e. some (same ∙ e))))
+          yields_held IsValidUtf16 IsUtf16Character valid_nothing valid_character c.if-is_empty-2.self.held _ _ _ _ give.bytes give.copied_length give.dst_length held (λ some. absurd (some none)) (λ _ some. subst IsUtf16Character (sym same) (w.hold.ensures.one (λ e. some (same ∙ e))))
       | else-is_empty-2 w ↦
-          gives_held IsValidUtf16 IsUtf16Character valid_nothing valid_character c.if-is_empty-2.self.held _ _ _ _ give.bytes give.count give.room held (λ _. sym (ap half_of w.self-is)) (λ none. absurd (both_ways _ w.if-is_empty-2.false (c.is_empty-2.ensures ∙ ap (λ bs. length bs == 0) (c.unread.ensures.value ∙ none))))
+          yields_held IsValidUtf16 IsUtf16Character valid_nothing valid_character c.if-is_empty-2.self.held _ _ _ _ give.bytes give.copied_length give.dst_length held (λ _. sym (ap half_of w.self-is)) (λ none. absurd (both_ways _ w.if-is_empty-2.false (c.is_empty-2.ensures ∙ ap (λ bs. length bs == 0) (c.unread.ensures.value ∙ none))))
     ]

@@ -3,10 +3,10 @@ use Rattle.std.proofs.lemmas.Bool.{both_ways}
 use Rattle.std.proofs.lemmas.List.{nil_from_length}
 use Rattle.std.specs.Str.{IsUtf8}
 use Rattle.std.specs.Io.KnownBytes.{Consumes, IsAtEnd}
-use Rattle.encoding_definitions.proofs.LongestFronts.FrontsLemmas.{WritesFront-length}
+use Rattle.encoding_definitions.proofs.LongestPrefixes.PrefixesLemmas.{WritesPrefix-length}
 use Rattle.reader_example.specs.Reading.{text_left}
-use Rattle.reader_example.proofs.TextLemmas.{Keeps_then, Keeps-none}
-use Rattle.reader_example.proofs.BlockLemmas.{some_length, written_front, whole_characters, grows, repaired, repaired_all}
+use Rattle.reader_example.proofs.ReaderTextLemmas.{Keeps_then, Keeps-none}
+use Rattle.reader_example.proofs.ReaderBlockLemmas.{some_length, written_prefix, whole_characters, grows, repaired, repaired_all}
 use Rattle.reader_example.proofs.utf8_reader.Utf8Reader.decode.Goals.{then-last-via-then-last, then-last-via-else-last+then-repaired-gt0}
 use Rattle.reader_example.proofs.utf8_reader.Utf8Reader.decode.Goals as goal
 
@@ -18,8 +18,8 @@ returns-then-last-clause-bytes g c =
     let held = fill.same.1 ∙ c.loop-last.invariant.held in
     let known = g.R.Read.remaining self.inner in
     let end : c.in_ok-last.last ≡ true → (self.block ≡ []) × IsAtEnd known = λ marked. let none = fill.ended.0 marked in (none, fill.end none) in
-    let front = written_front _ _ _ out writes in (
-      subst (Consumes (text_left g.R.Read.remaining c.args.self.now) _) (sym front)
+    let prefix = written_prefix _ _ _ out writes in (
+      subst (Consumes (text_left g.R.Read.remaining c.args.self.now) _) (sym prefix)
           (Keeps_then _ _ _ out c.loop-last.invariant.text (Keeps_then _ _ _ out fill.text (repaired _ _ _ _ _ _ _ _ repair c.law_parts.ensures.exist c.law_parts.ensures.lossy known _ _ held c.consume.ensures end))),
       λ none room. elim c.then-last.branch [
         | then-last-via-then-last w ↦ repaired_all _ _ _ _ _ _ _ _ repair c.law_parts.ensures.exist c.law_parts.ensures.lossy known _ _ held c.consume.ensures end w.if-last.true c.loop-last.invariant.room (omega (arith, none, writes.count))
@@ -30,7 +30,7 @@ returns-then-last-clause-bytes g c =
 pub returns-then-last-clause-whole : goal.returns-then-last-clause-whole
 returns-then-last-clause-whole g c =
     let (out, writes, repair) = c.repair_block-repaired.ensures in
-    subst IsUtf8 (sym (written_front _ _ _ out writes)) (whole_characters _ _ _ _ _ _ _ _ repair)
+    subst IsUtf8 (sym (written_prefix _ _ _ out writes)) (whole_characters _ _ _ _ _ _ _ _ repair)
 
 pub loop-last-smaller : goal.loop-last-smaller
 loop-last-smaller g c =
@@ -52,5 +52,5 @@ loop-last-preserved g c =
       text = Keeps-none _ _ (subst (Consumes (text_left g.R.Read.remaining c.args.self.now) _) none
           (Keeps_then _ _ _ out c.loop-last.invariant.text (Keeps_then _ _ _ out fill.text (repaired _ _ _ _ _ _ _ _ repair c.law_parts.ensures.exist c.law_parts.ensures.lossy known _ _ held c.consume.ensures end))));
       held = held;
-      room = omega (arith, c.loop-last.invariant.room, WritesFront-length _ _ _ _ writes);
+      room = omega (arith, c.loop-last.invariant.room, WritesPrefix-length _ _ _ _ writes);
     }

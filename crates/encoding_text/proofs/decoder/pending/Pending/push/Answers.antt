@@ -1,13 +1,13 @@
 use Rattle.std.proofs.Common.{◌∙◌, refl, sym, subst}
 use Rattle.std.proofs.lemmas.Bool.{both_ways}
 use Rattle.encoding_definitions.specs.Pending.{IsPending}
-use Rattle.encoding_text.proofs.Calls.PendingLemmas.{pushed_stuck, pushed_whole, pushed_longer}
+use Rattle.encoding_text.proofs.Calls.PendingLemmas.{pushed_rejected, pushed_whole, pushed_longer}
 use Rattle.encoding_text.proofs.decoder.pending.Pending.push.Goals as goal
 
 pub returns-then-not-goes_on : goal.returns-then-not-goes_on
 returns-then-not-goes_on c =
     let inside = c.self.inside in (
-      pushed_stuck inside.bytes inside.count c.args.byte c.args.self.now (sym c.self.view_is) c.self.told c.self.invariant.0 c.requires.unfinished
+      pushed_rejected inside.bytes inside.count c.args.byte c.args.self.now (sym c.self.view_is) c.self.told c.self.invariant.0 c.requires.unfinished
           (subst IsPending c.self.view_is c.self.invariant.1) (λ g. both_ways _ c.if-not-goes_on.true (c.goes_on.ensures.1 g)),
       refl,
     )

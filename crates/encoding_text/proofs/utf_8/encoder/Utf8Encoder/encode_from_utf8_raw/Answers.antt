@@ -1,6 +1,6 @@
 use Rattle.std.proofs.Common.{◌≡◌, ◌∷◌, ◌∙◌, [], length, arith, rules, sym, ap, subst}
-use Rattle.encoding_text.specs.Encoding.{IsHeld, held_units}
-use Rattle.encoding_text.proofs.CodeUnits.EncoderTextLemmas.{text_waits, text_call, text_call_rest, enough_for_text}
+use Rattle.encoding_text.specs.Encoding.{IsPendingSurrogate, pending_units}
+use Rattle.encoding_text.proofs.EncoderSteps.EncoderTextLemmas.{text_waits, text_call, text_call_rest, enough_for_text}
 use Rattle.encoding_text.proofs.utf_8.encoder.Utf8Encoder.encode_from_utf8_raw.Goals as goal
 
 pub returns-in_default-clause-suffices : goal.returns-in_default-clause-suffices
@@ -9,19 +9,19 @@ returns-in_default-clause-suffices c = λ h.
 
 pub returns-then-utf8_length-dst-clause-call : goal.returns-then-utf8_length-dst-clause-call
 returns-then-utf8_length-dst-clause-call c =
-    let held : c.args.self.now ≡ c.in-Some.field-0 ∷ [] = sym c.self.view_is ∙ ap held_units c.in-Some.is in
-    let high = subst IsHeld (ap held_units c.in-Some.is) c.self.invariant in
-    text_waits c.args.self.now c.args.src.now c.in-Some.field-0 (length c.args.dst.now) held high (omega (arith, c.if-utf8_length-dst.true, c.utf8_length.ensures))
+    let surrogate : c.args.self.now ≡ c.in-Some.field-0 ∷ [] = sym c.self.view_is ∙ ap pending_units c.in-Some.is in
+    let high = subst IsPendingSurrogate (ap pending_units c.in-Some.is) c.self.invariant in
+    text_waits c.args.self.now c.args.src.now c.in-Some.field-0 (length c.args.dst.now) surrogate high (omega (arith, c.if-utf8_length-dst.true, c.utf8_length.ensures))
 
 pub returns : goal.returns
 returns c =
-    let held : c.args.self.now ≡ c.in-Some.field-0 ∷ [] = sym c.self.view_is ∙ ap held_units c.in-Some.is in
-    let high = subst IsHeld (ap held_units c.in-Some.is) c.self.invariant in
+    let surrogate : c.args.self.now ≡ c.in-Some.field-0 ∷ [] = sym c.self.view_is ∙ ap pending_units c.in-Some.is in
+    let high = subst IsPendingSurrogate (ap pending_units c.in-Some.is) c.self.invariant in
     let then = c.encode_text-result-2.ensures in
-    let whole = text_call c.args.self.now c.args.src.now _ _ _ c.in-Some.field-0 _ _ _ _ held high c.write_scalar-first.ensures then.call then.rest in
+    let whole = text_call c.args.self.now c.args.src.now _ _ _ c.in-Some.field-0 _ _ _ _ surrogate high c.write_scalar-first.ensures then.call then.unchanged_after in
     record {
       call = whole;
       within = search rules;
-      rest = text_call_rest c.args.self.now c.args.src.now _ _ _ c.in-Some.field-0 _ _ _ _ held high c.write_scalar-first.ensures then.call then.rest;
+      unchanged_after = text_call_rest c.args.self.now c.args.src.now _ _ _ c.in-Some.field-0 _ _ _ _ surrogate high c.write_scalar-first.ensures then.call then.unchanged_after;
       suffices = λ h. enough_for_text c.args.self.now c.args.src.now (length c.args.dst.now) _ _ _ _ c.utf8.src h whole;
     }

@@ -1,0 +1,55 @@
+-- Calls of a decoder in sequence, over one stream.
+use Rattle.std.specs.Prelude.{◌≡◌, ℕ, Bool, true, List, [], ◌∷◌, ◌++◌, length, take, drop, encode_utf8_all}
+use Rattle.std.specs.List.{flat_map}
+use Rattle.encoding_definitions.specs.Parts.{Part, ArePartsOf, AreFinal, lossy_utf8, lossy_utf16}
+use Rattle.encoding_text.specs.declared.decoder.DecoderResult.{DecoderResult}
+use Rattle.encoding_text.specs.declared.decoder.DecoderResult.TheVariants.{InputEmpty}
+use Rattle.encoding_runs.specs.Calls.{Call, pending_after}
+use Rattle.encoding_runs.specs.DecoderCalls.{AreYieldedInSequence}
+use Rattle.encoding_runs.specs.MixedCalls.{Form, CallResult, AreYielded}
+use Rattle.decoder_example.specs.declared.CoderResult.{CoderResult}
+use Rattle.decoder_example.specs.Marked.{State}
+use Rattle.decoder_example.specs.ReplacingCalls.{IsReplacingCall}
+
+-- one of them: the most unread bytes that it takes, and whether it is marked last; what ends it, how many bytes it
+-- reads, what it writes, whether that has U+FFFD for any, and what is kept after it
+pub record Made (A : Type 0) : Type 0 where
+  pub piece : ℕ
+  pub last : Bool
+  pub result : CoderResult
+  pub read : ℕ
+  pub out : List A
+  pub replaced : Bool
+  pub after : State
+
+-- each is passed the first unread bytes, and one that is marked last all of them, and any destination
+abbrev pub AreMade : {A : Type 0} → (ℕ → List A) → ℕ → (ℕ → ℕ → ℕ) → State → List ℕ → List (Made A) → Type 0
+AreMade encode need query state unread [] = Unit {0}
+AreMade {A} encode need query state unread (call ∷ calls) =
+    ((dst : List A) × (dst' : List A) × (call.out ≡ take (length call.out) dst')
+    × IsReplacingCall encode need query state (take call.piece unread) dst dst' call.last call.result call.read (length call.out) call.replaced call.after)
+    × (call.last ≡ true → drop call.piece unread ≡ []) × AreMade encode need query call.after (drop call.read unread) calls
+
+-- what is kept after them
+abbrev pub state_after : {A : Type 0} → State → List (Made A) → State
+state_after state [] = state
+state_after state (call ∷ calls) = state_after call.after calls
+
+-- what they leave unread
+abbrev pub unread_after : {A : Type 0} → List ℕ → List (Made A) → List ℕ
+unread_after unread [] = unread
+unread_after unread (call ∷ calls) = unread_after (drop call.read unread) calls
+
+-- The calls yield, in sequence, the final parts of what was pending and of the stream. Their text is a prefix of the
+-- text of both and of anything after them, in UTF-8 and in UTF-16.
+pub record YieldFinalParts (p stream : List ℕ) (calls : List (Call Form CallResult ℕ)) : Type 0 where
+  pub parts : List Part
+  pub yielded : AreYieldedInSequence AreYielded calls parts
+  pub are_final : AreFinal (p ++ stream) parts (pending_after p calls)
+  pub utf8 : (more : List ℕ) (all : List Part) → ArePartsOf (p ++ stream ++ more) all → (text : List ℕ) × (lossy_utf8 all ≡ lossy_utf8 parts ++ text)
+  pub utf16 : (more : List ℕ) (all : List Part) → ArePartsOf (p ++ stream ++ more) all → (units : List ℕ) × (lossy_utf16 all ≡ lossy_utf16 parts ++ units)
+
+-- all of a text is read and written, and nothing is pending
+abbrev pub TakesWhole : {A : Type 0} → (ℕ → List A) → List ℕ → DecoderResult → ℕ → List A → List ℕ → Type 0
+TakesWhole encode scalars result read out q =
+    (result ≡ InputEmpty) × (read ≡ length (encode_utf8_all scalars)) × (out ≡ flat_map encode scalars) × (q ≡ [])

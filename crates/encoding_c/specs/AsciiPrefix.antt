@@ -1,0 +1,11 @@
+-- What a function for C returns for the longest ASCII prefix.
+use Rattle.std.specs.Prelude.{◌≡◌, ℕ, ◌<◌, List, length, slice_get, Some}
+use Rattle.std.specs.Str.{IsAscii}
+use Rattle.encoding_definitions.specs.Prefixes.{IsLongestPrefix}
+use Rattle.encoding_c.specs.declared.status.EncodingPrefix.{EncodingPrefix}
+
+-- `length` is that of the longest ASCII prefix; `other` is the number after it, or 0, which is ASCII, if there is none
+pub record IsPrefixOf (xs : List ℕ) (prefix : EncodingPrefix) : Type 0 where
+  pub longest : IsLongestPrefix IsAscii xs prefix.length
+  pub following : prefix.length < length xs → slice_get xs prefix.length ≡ Some prefix.other
+  pub all : prefix.length ≡ length xs → prefix.other ≡ 0

@@ -1,3 +1,0 @@
-pub mod FrontsLemmas
-pub mod FittingLemmas
-pub mod Utf8Lemmas

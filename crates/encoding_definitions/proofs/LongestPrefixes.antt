@@ -1,0 +1,3 @@
+pub mod PrefixesLemmas
+pub mod FittingLemmas
+pub mod Utf8Lemmas

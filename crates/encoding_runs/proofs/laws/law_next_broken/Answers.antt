@@ -1,5 +1,0 @@
-use Rattle.encoding_runs.proofs.BrokenLemmas.{next_size, found_parts, found_count}
-use Rattle.encoding_runs.proofs.laws.law_next_broken.Goals as goal
-
-pub returns : goal.returns
-returns c = record { size = next_size; found = found_parts; count = λ bs parts are. found_count 0 parts }

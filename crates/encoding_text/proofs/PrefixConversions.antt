@@ -1,0 +1,2 @@
+pub mod ConvertingLemmas
+pub mod WholePrefixesLemmas

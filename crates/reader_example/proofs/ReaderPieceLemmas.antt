@@ -1,0 +1,72 @@
+-- What a call without a destination yields for at most one byte.
+use Rattle.std.proofs.Common.{◌≡◌, ◌≢◌, ℕ, ◌≤◌, true, Bool, List, [], ◌∷◌, ◌++◌, length, encode_utf8, encode_utf8_all, refl, sym, ap, subst, ◌∙◌, arith, append-nil, length-append}
+use Rattle.std.proofs.lemmas.Bool.{and_parts}
+use Rattle.std.proofs.lemmas.List.{length-take}
+use Rattle.std.proofs.lemmas.Str.{length-encode, len_utf8_bounds, encodes-chars}
+use Rattle.std.specs.Char.{IsScalar}
+use Rattle.std.specs.Str.{IsUtf8, all_scalars, chars}
+use Rattle.encoding_definitions.specs.Sequence.{IsSequence}
+use Rattle.encoding_definitions.specs.Parts.{Part, lossy_utf8}
+use Rattle.encoding_definitions.specs.Yielding.{Yields}
+use Rattle.encoding_definitions.proofs.Decomposition.DecompositionLemmas.{lossy_utf8-characters}
+use Rattle.encoding_text.specs.Decoding.{BorrowedDecodeStep}
+use Rattle.encoding_text.specs.YieldedParts.{AreBorrowed}
+use Rattle.encoding_text.specs.declared.decoder.Piece.{Piece}
+use Rattle.encoding_text.specs.declared.decoder.Piece.TheVariants.{Text, Char, Malformed, InputEmpty}
+use Rattle.encoding_runs.specs.DecoderCalls.{YieldsFirstParts}
+use Rattle.encoding_runs.specs.MixedCalls.{Form, Borrowed, CallResult, Handed, MixedDecodeStep, AreYielded, IsInputEmpty}
+use Rattle.reader_example.specs.Reading.{text_for}
+
+text_of_parts : (p src : List ℕ) (last : Bool) (piece : Piece) (read : ℕ) (q : List ℕ) (parts : List Part) → BorrowedDecodeStep p src last piece read q → AreBorrowed piece parts → text_for piece ≡ lossy_utf8 parts
+text_of_parts p src last (Text text) read q parts call are =
+    let (neutral, none, some, bytes, prefix) = call.answer in
+    sym (ap lossy_utf8 are ∙ lossy_utf8-characters (chars text.now) ∙ encodes-chars text.now (subst IsUtf8 (sym bytes) prefix.kind))
+text_of_parts p src last (Char c) read q parts call are = sym (ap lossy_utf8 are ∙ append-nil (encode_utf8 c))
+text_of_parts p src last (Malformed k) read q parts call (x, are, size) = sym (ap lossy_utf8 are ∙ append-nil (encode_utf8 0xFFFD))
+text_of_parts p src last InputEmpty read q parts call are = sym (ap lossy_utf8 are)
+
+-- the text is that of the parts that the call yields
+pub text_yielded : ((p src : List ℕ) (form : Form) (last : Bool) (answer : CallResult) (read : ℕ) (out q : List ℕ) → MixedDecodeStep p src form last answer read out q
+    → YieldsFirstParts AreYielded IsInputEmpty p src form last answer read out q)
+    → (p src : List ℕ) (last : Bool) (piece : Piece) (read : ℕ) (q : List ℕ) → BorrowedDecodeStep p src last piece read q
+    → (parts : List Part) × Yields p src last parts read q × (text_for piece ≡ lossy_utf8 parts)
+text_yielded one_call p src last piece read q made =
+    let first = one_call p src Borrowed last (Handed piece) read [] q (made, refl) in
+    (first.parts, first.prefix, text_of_parts p src last piece read q first.parts made first.yielded)
+
+-- if it is none, all was read
+pub none_yielded : (p src : List ℕ) (last : Bool) (piece : Piece) (read : ℕ) (q : List ℕ) → BorrowedDecodeStep p src last piece read q → text_for piece ≡ [] → (read ≡ length src) × (q ≡ p ++ src) × (last ≡ true → q ≡ [])
+none_yielded p src last (Text text) read q call none =
+    let (neutral, empty, some, bytes, prefix) = call.answer in
+    absurd (omega (arith, ap length none, ap length bytes, length-take read src, prefix.within, some))
+none_yielded p src last (Char c) read q call none = absurd (omega (arith, ap length none, length-encode c, len_utf8_bounds c))
+none_yielded p src last (Malformed k) read q call none = absurd (omega (arith, ap length none, length-encode 0xFFFD, len_utf8_bounds 0xFFFD))
+none_yielded p src last InputEmpty read q call none = call.answer
+
+pub short_text : (p src : List ℕ) (last : Bool) (piece : Piece) (read : ℕ) (q : List ℕ) → BorrowedDecodeStep p src last piece read q → length src ≤ 1 → length (text_for piece) ≤ 4
+short_text p src last (Text text) read q call short =
+    let (neutral, empty, some, bytes, prefix) = call.answer in
+    omega (arith, ap length bytes, length-take read src, prefix.within, short)
+short_text p src last (Char c) read q call short = omega (arith, length-encode c, len_utf8_bounds c)
+short_text p src last (Malformed k) read q call short = omega (arith, length-encode 0xFFFD, len_utf8_bounds 0xFFFD)
+short_text p src last InputEmpty read q call short = omega arith
+
+module _ (each : (c : ℕ) → IsScalar c → IsSequence (encode_utf8 c)) where
+  one_character : (cs : List ℕ) → all_scalars cs ≡ true → encode_utf8_all cs ≢ [] → length (encode_utf8_all cs) ≤ 1 → IsSequence (encode_utf8_all cs)
+  one_character [] scalars some short = absurd (some refl)
+  one_character (c ∷ []) scalars some short = subst IsSequence (sym (append-nil (encode_utf8 c))) (each c (and_parts _ _ scalars).0)
+  one_character (c ∷ d ∷ cs) scalars some short =
+      absurd (omega (arith, short, length-append (encode_utf8 c) (encode_utf8 d ++ encode_utf8_all cs), length-append (encode_utf8 d) (encode_utf8_all cs), length-encode c, len_utf8_bounds c, length-encode d, len_utf8_bounds d))
+
+  -- otherwise it is one character
+  pub one_yielded : (p src : List ℕ) (last : Bool) (piece : Piece) (read : ℕ) (q : List ℕ) → BorrowedDecodeStep p src last piece read q → length src ≤ 1 → text_for piece ≢ [] → IsSequence (text_for piece)
+  one_yielded p src last (Text text) read q call short some =
+      let (neutral, empty, positive, bytes, prefix) = call.answer in
+      let (cs, (scalars, spelled)) = prefix.kind in
+      let whole = spelled ∙ sym bytes in
+      subst IsSequence whole (one_character cs scalars (λ none. some (sym whole ∙ none)) (omega (arith, ap length spelled, length-take read src, prefix.within, short)))
+  one_yielded p src last (Char c) read q call short some =
+      let (pending, empty, within, scalar, spelled) = call.answer in
+      each c scalar
+  one_yielded p src last (Malformed k) read q call short some = each 0xFFFD refl
+  one_yielded p src last InputEmpty read q call short some = absurd (some refl)

@@ -1,0 +1,77 @@
+-- The text that is left after what was returned.
+use Rattle.std.proofs.Common.{◌≡◌, ℕ, true, Bool, List, [], ◌∷◌, ◌++◌, length, take, drop, Option, None, Some, encode_utf8, refl, sym, ap, ◌∙◌, arith, append_assoc, take-append-drop, length-append}
+use Rattle.std.proofs.lemmas.List.{drop-append-le}
+use Rattle.std.proofs.lemmas.Str.{length-encode, len_utf8_bounds, IsUtf8-append, IsUtf8-encode, IsUtf8-nil}
+use Rattle.std.specs.Str.{IsUtf8}
+use Rattle.std.specs.Str.Lossy.{utf8_lossy}
+use Rattle.std.specs.Io.KnownBytes.{Consumes, IsAtEnd, Keeps}
+use Rattle.encoding_definitions.specs.Parts.{Part, Character, IllFormed, StartsWith, ArePartsOf, lossy_utf8, lossy_scalar}
+use Rattle.encoding_definitions.specs.Yielding.{Yields}
+use Rattle.encoding_definitions.proofs.Decomposition.DecompositionLemmas.{StartsWith-append, lossy_utf8-append}
+use Rattle.decoder_example.proofs.YieldedLemmas.{first_parts}
+use Rattle.reader_example.specs.Reading.{text_from}
+
+-- ---- streams
+pub Keeps_then : (a b c : Option (List ℕ)) (bs : List ℕ) → Keeps a b → Consumes b c bs → Consumes a c bs
+Keeps_then None b c bs p q = tt
+Keeps_then (Some x) None c bs p q = absurd p
+Keeps_then (Some x) (Some y) None bs p q = absurd q
+Keeps_then (Some x) (Some y) (Some z) bs p q = sym p ∙ q
+
+pub Keeps-none : (a b : Option (List ℕ)) → Consumes a b [] → Keeps a b
+Keeps-none None b p = tt
+Keeps-none (Some x) None p = absurd p
+Keeps-none (Some x) (Some y) p = sym p
+
+-- ---- parts and their text
+pub no_text : (parts : List Part) → lossy_utf8 parts ≡ [] → parts ≡ []
+no_text [] e = refl
+no_text (part ∷ parts) e =
+    let c = lossy_scalar part in
+    absurd (omega (arith, ap length e, length-append (encode_utf8 c) (lossy_utf8 parts), length-encode c, len_utf8_bounds c))
+
+pub IsUtf8-repaired : (bs : List ℕ) (parts : List Part) (rest : List ℕ) → StartsWith bs parts rest → IsUtf8 (lossy_utf8 parts)
+IsUtf8-repaired bs [] rest h = IsUtf8-nil
+IsUtf8-repaired bs (Character c ∷ parts) rest (after, first, h) =
+    IsUtf8-append (encode_utf8 c) (lossy_utf8 parts) (IsUtf8-encode c first.0) (IsUtf8-repaired after parts rest h)
+IsUtf8-repaired bs (IllFormed bytes ∷ parts) rest (after, first, h) =
+    IsUtf8-append (encode_utf8 0xFFFD) (lossy_utf8 parts) (IsUtf8-encode 0xFFFD refl) (IsUtf8-repaired after parts rest h)
+
+module _ (exist : (bs : List ℕ) → (parts : List Part) × ArePartsOf bs parts) (lossy : (bs : List ℕ) (parts : List Part) → ArePartsOf bs parts → lossy_utf8 parts ≡ utf8_lossy bs) where
+  pub lossy-nil : utf8_lossy [] ≡ []
+  lossy-nil = sym (lossy [] [] refl)
+
+  -- the text starts with that of the first parts
+  lossy-following : (bs : List ℕ) (parts : List Part) (rest : List ℕ) → StartsWith bs parts rest → utf8_lossy bs ≡ lossy_utf8 parts ++ utf8_lossy rest
+  lossy-following bs parts rest first =
+      let (others, are) = exist rest in
+      sym (lossy bs (parts ++ others) (StartsWith-append bs parts rest others [] first are)) ∙ lossy_utf8-append parts others ∙ ap (λ text. lossy_utf8 parts ++ text) (lossy rest others are)
+
+  -- of a call on the first bytes of a block, which may be the last
+  yielded_text : (p block : List ℕ) (count : ℕ) (last : Bool) (parts : List Part) (read : ℕ) (q more : List ℕ) → Yields p (take count block) last parts read q → (last ≡ true → drop count block ++ more ≡ [])
+      → utf8_lossy (p ++ (block ++ more)) ≡ lossy_utf8 parts ++ utf8_lossy (q ++ (drop read block ++ more))
+  yielded_text p block count last parts read q more yielded end =
+      let prefix = take count block in
+      let back = drop count block in
+      let whole : prefix ++ back ≡ block = take-append-drop count block in
+      let before : prefix ++ (back ++ more) ≡ block ++ more = sym (append_assoc prefix back more) ∙ ap (λ bs. bs ++ more) whole in
+      let after : drop read prefix ++ (back ++ more) ≡ drop read block ++ more =
+      sym (append_assoc (drop read prefix) back more) ∙ ap (λ bs. bs ++ more) (sym (drop-append-le read prefix back yielded.within) ∙ ap (drop read) whole) in
+      ap (λ bs. utf8_lossy (p ++ bs)) (sym before) ∙ lossy-following _ parts _ (first_parts p prefix last parts read q (back ++ more) yielded end) ∙ ap (λ bs. lossy_utf8 parts ++ utf8_lossy (q ++ bs)) after
+
+  -- what a call yields is taken from the text that is left
+  pub Consumes-yielded : (known : Option (List ℕ)) (p block : List ℕ) (count : ℕ) (last : Bool) (parts : List Part) (read : ℕ) (q out : List ℕ) → Yields p (take count block) last parts read q
+      → (last ≡ true → (drop count block ≡ []) × IsAtEnd known) → out ≡ lossy_utf8 parts → Consumes (text_from [] p block known) (text_from [] q (drop read block) known) out
+  Consumes-yielded None p block count last parts read q out yielded end text = tt
+  Consumes-yielded (Some more) p block count last parts read q out yielded end text =
+      yielded_text p block count last parts read q more yielded (λ marked. ap (λ bs. bs ++ more) (end marked).0 ∙ (end marked).1) ∙ ap (λ bs. bs ++ utf8_lossy (q ++ (drop read block ++ more))) (sym text)
+
+  -- or is kept
+  pub Keeps-yielded : (known : Option (List ℕ)) (p block : List ℕ) (count : ℕ) (last : Bool) (parts : List Part) (read : ℕ) (q held : List ℕ) → Yields p (take count block) last parts read q
+      → (last ≡ true → (drop count block ≡ []) × IsAtEnd known) → held ≡ lossy_utf8 parts → Keeps (text_from [] p block known) (text_from held q (drop read block) known)
+  Keeps-yielded None p block count last parts read q held yielded end text = tt
+  Keeps-yielded (Some more) p block count last parts read q held yielded end text = sym (Consumes-yielded (Some more) p block count last parts read q held yielded end text)
+
+  pub no_text_left : (known : Option (List ℕ)) → IsAtEnd known → IsAtEnd (text_from [] [] [] known)
+  no_text_left None end = tt
+  no_text_left (Some more) end = ap utf8_lossy end ∙ lossy-nil

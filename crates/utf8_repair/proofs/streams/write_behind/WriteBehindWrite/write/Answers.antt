@@ -1,7 +1,0 @@
-use Rattle.utf8_repair.proofs.StreamLemmas.{sent_piece}
-use Rattle.utf8_repair.proofs.streams.write_behind.WriteBehindWrite.write.Goals as goal
-
-pub returns-then-has-clause-bytes : goal.returns-then-has-clause-bytes
-returns-then-has-clause-bytes g c =
-    let (front, is, kept) = c.in_ok-gather.ensures.taken c.if-not-branch.false in
-    sent_piece c.send.result _ _ _ front c.args.piece.now c.gather.new.self.held is kept c.send.ensures.ok c.send.ensures.err
