@@ -42,6 +42,6 @@ int main()
         decoder.decode(block, length, false);
     }
     decoder.decode(nullptr, 0, true);
-    std::printf("%zu code units, %zu for a broken part\n", decoder.text.size(), decoder.malformed);
+    std::printf("%zu code units, %zu for a malformed sequence\n", decoder.text.size(), decoder.malformed);
     return std::ferror(stdin) != 0;
 }

@@ -28,4 +28,4 @@ def repair(source):
 if __name__ == "__main__":
     repaired, replaced = repair(sys.stdin.buffer.read())
     sys.stdout.buffer.write(repaired)
-    print(f"{replaced} broken parts", file=sys.stderr)
+    print(f"{replaced} malformed sequences", file=sys.stderr)

@@ -1,4 +1,4 @@
-//! Repairs standard input to standard output, and tells on standard error how many parts were broken.
+//! Repairs standard input to standard output, and prints the number of malformed sequences to standard error.
 use std::io;
 
 fn main() -> io::Result<()> {

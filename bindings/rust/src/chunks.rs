@@ -7,7 +7,7 @@ use core::ops::Range;
 /// Returns the range of the first malformed sequence, of one to three bytes, or `None` if all bytes are well-formed.
 /// All bytes before it are well-formed. An incomplete sequence at the end counts as malformed.
 ///
-/// [Proved](crate::promises#broken-parts).
+/// [Proved](crate::promises#malformed-sequences).
 ///
 /// ```
 /// use encoding_text::next_malformed;
@@ -54,7 +54,7 @@ pub struct Utf8Chunks<'a> {
 /// Iterates over the well-formed stretches of bytes and the malformed sequences between them, without copying, as the
 /// method `utf8_chunks` of byte slices in `std` does.
 ///
-/// Each stretch and the malformed sequence after it are found by a call that is [proved](crate::promises#broken-parts).
+/// Each stretch and the malformed sequence after it are found by a call that is [proved](crate::promises#malformed-sequences).
 /// The crate starts the next chunk after them.
 ///
 /// ```

@@ -70,9 +70,9 @@
 //! | `encode_from_utf8_raw` | U+FFFD for the pending surrogate | the copy of the text |
 //! | `max_buffer_length_from_utf16_without_replacement`, `max_buffer_length_from_utf8_without_replacement` | the number | distinguishing `usize::MAX` as a result from a greater number |
 //!
-//! # Broken parts
+//! # Malformed sequences
 //!
-//! Their [promises](../../../../../../docs/PROMISES.md#encoding_runsbroken).
+//! Their [promises](../../../../../../docs/PROMISES.md#encoding_runsmalformed).
 //!
 //! | Calls | Proved | The crate's own |
 //! |---|---|---|

@@ -247,7 +247,7 @@ fn decode<D: Unit>(
             }
         }
     }
-    panic!("more reports than broken parts");
+    panic!("more reports than malformed sequences");
 }
 
 /// Makes calls of `decode_to_utf16_raw` marked last.
@@ -281,7 +281,7 @@ fn decode_borrowed(src: &[u8], dst: &mut [u8]) -> (usize, usize) {
             Piece::InputEmpty => return (read, written),
         }
     }
-    panic!("more pieces than texts and broken parts");
+    panic!("more pieces than texts and malformed sequences");
 }
 
 /// Calls `encode_from_utf16_raw`, marked last.

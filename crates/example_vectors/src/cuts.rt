@@ -25,7 +25,7 @@ const ROWS: [(&[u8], &str, &[(usize, usize)]); 5] = [
 fn repairs_in_pieces_of_each_length(rt: HostRuntime) -> Result<(), Fail> {
     for (bytes, text, places) in &ROWS {
         let found = malformed_indices(rt.alloc(), bytes)?;
-        assert!(rt; found.as_slice() == *places, "broken parts of {text}");
+        assert!(rt; found.as_slice() == *places, "malformed sequences of {text}");
         for least in 1..14 {
             let whole = repair_apart(rt.alloc(), bytes, least)?;
             assert!(rt;
@@ -48,7 +48,7 @@ fn repairs_a_long_text(rt: HostRuntime) -> Result<(), Fail> {
     let found = malformed_indices(rt.alloc(), &bytes)?;
     assert!(rt;
         found.as_slice() == [(70_000, 1)].as_slice(),
-        "the last byte is broken"
+        "the last byte is malformed"
     );
     let whole = repair_apart(rt.alloc(), &bytes, 1_000)?;
     assert!(rt; whole.text == text && whole.replaced == 1, "in pieces");

@@ -1,6 +1,6 @@
 /* Prints the line, column and bytes of each malformed sequence of UTF-8, and how many there are:
  *
- *     cc broken.c $(pkg-config --cflags --libs encoding_text) && ./a.out < text
+ *     cc malformed.c $(pkg-config --cflags --libs encoding_text) && ./a.out < text
  *
  * No malformed sequence crosses the end of a line, so each line is searched separately. Columns count characters from
  * 1, and a malformed sequence as one. */
@@ -34,7 +34,7 @@ int main(void)
             count++;
         }
     }
-    printf("%zu broken\n", count);
+    printf("%zu malformed\n", count);
     free(line);
     return !feof(stdin);
 }
