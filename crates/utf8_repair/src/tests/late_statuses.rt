@@ -5,7 +5,7 @@ use super::patterns::{PatternInput, PatternOutput};
 use super::serve_rows::{CUTS, ROWS, WRITE_FAULT};
 use super::streams::{Input, Output};
 use crate::service::serve;
-use crate::streams::{BufferedWriter, FlushPolicy, OUTPUT_CAPACITY, ReadAhead};
+use crate::streams::{BufferedWriter, FlushPolicy, PIPE_CAPACITY, ReadAhead};
 use std::cell::Cell;
 use std::io::{ErrorKind, Read, Write};
 
@@ -16,8 +16,8 @@ const LENGTH: usize = 13 * 250_000;
 fn ends_with<R: Read, W: Write>(reader: &mut R, writer: &mut W, status: u8, line: &[u8]) -> bool {
     let due = Cell::new(FlushPolicy::Each);
     let mut errors = Output::that_takes_all();
-    let mut ahead: ReadAhead<'_, _, OUTPUT_CAPACITY> = ReadAhead::new(&mut *reader, &due);
-    let mut following: BufferedWriter<'_, _, OUTPUT_CAPACITY> = BufferedWriter::new(
+    let mut ahead: ReadAhead<'_, _, PIPE_CAPACITY> = ReadAhead::new(&mut *reader, &due);
+    let mut following: BufferedWriter<'_, _, PIPE_CAPACITY> = BufferedWriter::new(
         &mut *writer,
         &due,
     );

@@ -3,7 +3,7 @@
 use super::slow_peers::{Arrived, Counted, Lengths, Lines, Row, Typist};
 use super::streams::Output;
 use crate::service::serve;
-use crate::streams::{BufferedWriter, FlushPolicy, OUTPUT_CAPACITY, ReadAhead};
+use crate::streams::{BufferedWriter, FlushPolicy, PIPE_CAPACITY, ReadAhead};
 use std::cell::Cell;
 
 /// One read leaves by one write, except for the last four bytes if no whole character ends them: they may have up to
@@ -221,15 +221,15 @@ fn leaves_lines_whole(length: usize) -> bool {
     let mut all = true;
     for (end, more) in &ENDS {
         let repaired = length.saturating_add(*more);
-        if end.len() <= length && repaired <= OUTPUT_CAPACITY {
+        if end.len() <= length && repaired <= PIPE_CAPACITY {
             let due = Cell::new(FlushPolicy::Each);
             let mut writer = Lengths::of(repaired);
             let mut errors = Output::that_takes_all();
-            let mut ahead: ReadAhead<'_, _, OUTPUT_CAPACITY> = ReadAhead::new(
+            let mut ahead: ReadAhead<'_, _, PIPE_CAPACITY> = ReadAhead::new(
                 Lines::of(length, end, 3),
                 &due,
             );
-            let mut following: BufferedWriter<'_, _, OUTPUT_CAPACITY> = BufferedWriter::new(
+            let mut following: BufferedWriter<'_, _, PIPE_CAPACITY> = BufferedWriter::new(
                 &mut writer,
                 &due,
             );
@@ -254,11 +254,11 @@ fn writes_each_line_at_once(rt: HostRuntime) {
 #[test]
 fn writes_a_longer_line_in_two(rt: HostRuntime) {
     let due = Cell::new(FlushPolicy::Each);
-    let mut writer = Lengths::of(OUTPUT_CAPACITY);
+    let mut writer = Lengths::of(PIPE_CAPACITY);
     let mut errors = Output::that_takes_all();
-    let lines = Lines::of(OUTPUT_CAPACITY, b"\xFF\xFF\xFF\n", 1);
-    let mut ahead: ReadAhead<'_, _, OUTPUT_CAPACITY> = ReadAhead::new(lines, &due);
-    let mut following: BufferedWriter<'_, _, OUTPUT_CAPACITY> = BufferedWriter::new(
+    let lines = Lines::of(PIPE_CAPACITY, b"\xFF\xFF\xFF\n", 1);
+    let mut ahead: ReadAhead<'_, _, PIPE_CAPACITY> = ReadAhead::new(lines, &due);
+    let mut following: BufferedWriter<'_, _, PIPE_CAPACITY> = BufferedWriter::new(
         &mut writer,
         &due,
     );

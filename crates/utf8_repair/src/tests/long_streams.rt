@@ -5,7 +5,7 @@ use super::patterns::{PatternInput, PatternOutput};
 use super::serve_rows::{READ_FAULT, WRITE_FAULT};
 use super::streams::Output;
 use crate::service::serve;
-use crate::streams::{BufferedWriter, FlushPolicy, OUTPUT_CAPACITY, ReadAhead};
+use crate::streams::{BufferedWriter, FlushPolicy, PIPE_CAPACITY, ReadAhead};
 use std::cell::Cell;
 use std::io::{ErrorKind, Read, Write};
 
@@ -33,8 +33,8 @@ fn run_over_arrays_is(
     line: &[u8],
 ) -> bool {
     let due = Cell::new(FlushPolicy::Each);
-    let mut ahead: ReadAhead<'_, _, OUTPUT_CAPACITY> = ReadAhead::new(&mut *reader, &due);
-    let mut following: BufferedWriter<'_, _, OUTPUT_CAPACITY> = BufferedWriter::new(
+    let mut ahead: ReadAhead<'_, _, PIPE_CAPACITY> = ReadAhead::new(&mut *reader, &due);
+    let mut following: BufferedWriter<'_, _, PIPE_CAPACITY> = BufferedWriter::new(
         &mut *writer,
         &due,
     );
@@ -120,7 +120,7 @@ fn stops_over_arrays_at(taken: usize) -> bool {
         && writer.flushes == 1
         && writer.flushed_at == writer.taken
         && writer.asked_after <= 1
-        && reader.yielded.saturating_sub(taken) <= OUTPUT_CAPACITY + 3
+        && reader.yielded.saturating_sub(taken) <= PIPE_CAPACITY + 3
         && reader.asked_after == 0
 }
 
