@@ -123,8 +123,8 @@ impl Utf8Decoder {
         ensures call { DecodeStepInto encode_utf16 2 self.old src.now dst.old dst.new last result.0 result.1 result.2 self.new }
         ensures progress { 0 < length src.now → 2 ≤ length dst.old → (0 < result.1) ⊎ IsReport result.0 }
 
-        // If `dst` has the length of `max_utf16_buffer_length`, the call doesn't return `OutputFull`, and the space left is
-        // enough for the rest of the bytes asked about, also after U+FFFD is written.
+        // If `dst` has the length that `max_utf16_buffer_length` returned for `byte_length` bytes, the call doesn't return
+        // `OutputFull`. The space left is enough for the rest of those bytes, even after the caller writes U+FFFD.
         ensures suffices { Suffices max_utf16_length self.old src.now (length dst.old) result.0 result.1 result.2 self.new }
         ensures suffices_replacing { SufficesReplacing max_utf16_length 1 self.old src.now (length dst.old)
             result.0 result.1 result.2 self.new }
@@ -148,8 +148,9 @@ impl Utf8Decoder {
         ensures call { DecodeStepInto encode_utf8 4 self.old src.now dst.old dst.new last result.0 result.1 result.2 self.new }
         ensures progress { 0 < length src.now → 4 ≤ length dst.old → (0 < result.1) ⊎ IsReport result.0 }
 
-        // If `dst` has the length of a query, the call doesn't return `OutputFull`, and the space left is enough for the
-        // rest of the bytes asked about: after U+FFFD is written, with `max_utf8_buffer_length` only.
+        // If `dst` has the length that either `max_utf8_buffer_length` method returned for `byte_length` bytes, the call
+        // doesn't return `OutputFull`, and the space left is enough for the rest of those bytes. If the length is from
+        // `max_utf8_buffer_length`, it is enough even after the caller writes U+FFFD.
         ensures suffices { Suffices max_utf8_length self.old src.now (length dst.old) result.0 result.1 result.2 self.new }
         ensures suffices_between_reports { Suffices max_utf8_length_with_replacement self.old src.now (length dst.old)
             result.0 result.1 result.2 self.new }
@@ -163,10 +164,12 @@ impl Utf8Decoder {
     /// that no bytes follow `src`.
     ///
     /// If nothing is pending and `src` starts with a character, the piece is the longest well-formed prefix, borrowed
-    /// from `src`. Otherwise the piece is the first character or malformed sequence of the bytes that are pending or in
-    /// `src`. If `src` ends before that character or sequence is complete, or there are no bytes, the piece is
-    /// `InputEmpty`, and the bytes are pending. With `last` set, an incomplete sequence is a malformed one, so after
-    /// `InputEmpty` nothing is pending. Call again with the unread rest of `src` until all is read. Nothing is allocated.
+    /// from `src`. Otherwise, the piece is the first character or malformed sequence of the pending bytes followed by
+    /// `src`. If these bytes end before it is complete, the result depends on `last`: if it is set, the piece is
+    /// `Malformed`, and otherwise the bytes become pending and the piece is `InputEmpty`. If there are no bytes at all,
+    /// the piece is `InputEmpty`.
+    ///
+    /// Call again with the unread rest of `src` until all is read. Nothing is allocated.
     #[inline(always)]
     pub fn decode_borrowed_raw<'a>(&mut self, src: &'a [u8], last: bool) -> (Piece<'a>, usize)
         ensures { BorrowedDecodeStep self.old src.now last result.0 result.1 self.new }
