@@ -148,9 +148,10 @@ impl Utf8Decoder {
         ensures call { DecodeStepInto encode_utf8 4 self.old src.now dst.old dst.new last result.0 result.1 result.2 self.new }
         ensures progress { 0 < length src.now → 4 ≤ length dst.old → (0 < result.1) ⊎ IsReport result.0 }
 
-        // If `dst` has the length that either `max_utf8_buffer_length` method returned for `byte_length` bytes, the call
-        // doesn't return `OutputFull`, and the space left is enough for the rest of those bytes. If the length is from
-        // `max_utf8_buffer_length`, it is enough even after the caller writes U+FFFD.
+        // If `dst` has the length that `max_utf8_buffer_length` or `max_utf8_buffer_length_without_replacement` returned
+        // for `byte_length` bytes, the call doesn't return `OutputFull`, and the space left is enough for the rest of
+        // those bytes. If `max_utf8_buffer_length` returned the length, the space left is enough even after the caller
+        // writes U+FFFD.
         ensures suffices { Suffices max_utf8_length self.old src.now (length dst.old) result.0 result.1 result.2 self.new }
         ensures suffices_between_reports { Suffices max_utf8_length_with_replacement self.old src.now (length dst.old)
             result.0 result.1 result.2 self.new }
@@ -164,10 +165,10 @@ impl Utf8Decoder {
     /// that no bytes follow `src`.
     ///
     /// If nothing is pending and `src` starts with a character, the piece is the longest well-formed prefix, borrowed
-    /// from `src`. Otherwise, the piece is the first character or malformed sequence of the pending bytes followed by
-    /// `src`. If these bytes end before it is complete, the result depends on `last`: if it is set, the piece is
-    /// `Malformed`, and otherwise the bytes become pending and the piece is `InputEmpty`. If there are no bytes at all,
-    /// the piece is `InputEmpty`.
+    /// from `src`. Otherwise, the pending bytes and `src` are read as one input, and the piece is the first character or
+    /// malformed sequence in it. If the input ends inside its first character, the result depends on `last`. If `last` is
+    /// set, the piece is `Malformed`. Otherwise, the bytes become pending and the piece is `InputEmpty`. If the input is
+    /// empty, the piece is `InputEmpty` too.
     ///
     /// Call again with the unread rest of `src` until all is read. Nothing is allocated.
     #[inline(always)]
