@@ -1,27 +1,24 @@
 -- Indices of bytes at which there are right-to-left characters: a text with one has such an index, and the first three
 -- bytes show if there is none.
-use Rattle.std.proofs.Common.{◌≡◌, ℕ, ◌+◌, ◌-◌, ◌/◌, ◌%◌, ◌<◌, ◌≤◌, ◌⊎◌, inl, inr, List, [], ◌∷◌, ◌++◌, length, take, drop, slice_index, encode_utf8, encode_utf8_all, IsUtf8, refl, sym, ap, ◌∙◌, arith, subst, take-add, Bool, true, false, cond, ◌&&◌, leb, ltb, eqb, bit_or}
+use Rattle.std.proofs.Common.{◌≡◌, ℕ, ◌+◌, ◌/◌, ◌%◌, ◌<◌, ◌≤◌, inl, inr, List, [], ◌∷◌, ◌++◌, length, take, drop, slice_index, encode_utf8, encode_utf8_all, IsUtf8, refl, sym, ap, ◌∙◌, arith, subst, take-add, Bool, true, false, cond, ◌&&◌, leb, ltb, eqb, bit_or}
 use Rattle.std.specs.Prelude.{Any}
 use Rattle.std.specs.Str.{all_scalars}
 use Rattle.std.proofs.str.Laws.{two, three, four, both}
 use Rattle.std.proofs.lemmas.Str.{encode_same, length-encode, IsUtf8-take, IsUtf8-append}
 use Rattle.std.proofs.lemmas.Bool.{cases_lt, eqb-true, agree_below_at}
 use Rattle.std.proofs.lemmas.Bool.Decides.{nat_tests}
-use Rattle.std.proofs.lemmas.List.{length-append, length-drop, drop_at, drop-drop, get_or-drop, take_at, take-append-drop, length-take, take-take}
+use Rattle.std.proofs.lemmas.List.{length-append, drop_at, drop-drop, get_or-drop, take_at, take-append-drop, take_all}
 use lib.Utf8.{scalar}
 use Rattle.encoding_definitions.specs.Bidi.{IsRightToLeft, IsBidiText, IsBidiBytes}
-use Rattle.encoding_definitions.specs.Prefixes.{IsLongestPrefix}
 use Rattle.encoding_definitions.specs.Parts.{BeginsWithNoCharacter}
 use Rattle.encoding_definitions.specs.Sequence.{IsSequence}
 use Rattle.encoding_kernels.specs.Places.{PassBetween}
 use Rattle.encoding_kernels.specs.Strides.{BelowUpTo}
 use Rattle.encoding_kernels.specs.BidiBlocks.{rtl_second_end, ends_mark, rtl_mark_lead, may_start_rtl, HasNoRtlAt, RtlAt, NoRtlIn}
 use Rattle.encoding_definitions.proofs.Bidi.AnyLemmas.{Any-none, Any-cons}
-use Rattle.encoding_definitions.proofs.Bidi.BidiTextLemmas.{right_to_left_from, character_bidi, bidi_character, found_in_text, found_in_bytes, bidi_either, rejected_no_text, text_of_latin1, latin1_not_bidi}
+use Rattle.encoding_definitions.proofs.Bidi.BidiTextLemmas.{right_to_left_from, character_bidi, bidi_character, found_in_text, bidi_after, bidi_either, rest_text, text_of_bidi, text_of_latin1, latin1_not_bidi}
 use Rattle.encoding_kernels.proofs.Paired.PairsLemmas.{ascii_latin1}
-use Rattle.encoding_definitions.proofs.LongestPrefixes.Utf8Lemmas.{IsUtf8-sequence}
-use Rattle.encoding_definitions.proofs.Sequences.SequenceLemmas.{IsSequence-some}
-use Rattle.encoding_definitions.proofs.Sequences.EncodingLemmas.{decode_utf8_scalar, IsSequence-encode, length-encode_utf8-le}
+use Rattle.encoding_definitions.proofs.Sequences.EncodingLemmas.{decode_utf8_scalar, IsSequence-encode}
 
 -- ---- the first three bytes
 end_hebrew : (a mark : ℕ) → 0xD6 ≤ a → a ≤ 0xDF → rtl_second_end a mark ≡ 0xFF
@@ -175,45 +172,38 @@ place_in (c ∷ cs) s a =
 pub place_of_bidi : (bs : List ℕ) → IsBidiText bs → (k : ℕ) × (k < length bs) × RtlAt bs k
 place_of_bidi bs b = subst (λ xs. (k : ℕ) × (k < length xs) × RtlAt xs k) b.2 (place_in b.0 b.1 b.3)
 
--- ---- a piece of bytes after a prefix without any
-module _ (bs piece : List ℕ) (at m : ℕ) (is : piece ≡ take m (drop at bs)) where
-  prefix_of : (n : ℕ) → n ≤ m → take n piece ≡ take n (drop at bs)
-  prefix_of n l = ap (take n) is ∙ take-take n m (drop at bs) l
+-- ---- a text without any
+abbrev pub IsLeftToRight : List ℕ → Type 0
+IsLeftToRight bs = IsUtf8 bs × (IsBidiText bs → ⊥)
 
-  -- if no character follows the longest prefix of the piece, none begins the rest of the bytes
-  nothing_begins : (n : ℕ) → (4 ≤ m - n) ⊎ (length (drop at bs) ≤ m) → IsLongestPrefix IsUtf8 piece n → n ≤ m → BeginsWithNoCharacter (drop (at + n) bs)
-  nothing_begins n long f le prefix rest e q =
-      let k = length prefix in
-      let c = decode_utf8_scalar prefix q in
-      let few : k ≤ 4 = omega (arith, length-encode_utf8-le c.0 c.1, ap length c.2) in
-      let inside : n + k ≤ length (drop at bs) = omega (arith, ap length e, length-append prefix rest, length-drop (at + n) bs, length-drop at bs, f.within, ap length is, length-take m (drop at bs)) in
-      let within : n + k ≤ m = elim long [ inl l ↦ omega arith | inr l ↦ omega arith ] in
-      let following : drop n (drop at bs) ≡ prefix ++ rest = drop-drop n at bs ∙ e in
-      let next : take k (drop n (drop at bs)) ≡ prefix = ap (take k) following ∙ take_at prefix rest k refl in
-      let more : take (n + k) piece ≡ take n piece ++ prefix =
-      prefix_of (n + k) within ∙ take-add n k (drop at bs) ∙ ap (λ xs. xs ++ take k (drop n (drop at bs))) (sym (prefix_of n le)) ∙ ap (λ xs. take n piece ++ xs) next in
-      let room : n + k ≤ length piece = omega (arith, ap length is, length-take m (drop at bs)) in
-      let text = subst IsUtf8 (sym more) (IsUtf8-append (take n piece) prefix f.kind (IsUtf8-sequence prefix q)) in
-      omega (arith, f.longest (n + k) room text, IsSequence-some prefix q)
+-- a longer prefix, by the text that follows
+pub left_to_right_more : (bs : List ℕ) (at n : ℕ) → IsLeftToRight (take at bs) → IsLeftToRight (take n (drop at bs)) → IsLeftToRight (take (at + n) bs)
+left_to_right_more bs at n v w = (
+  subst IsUtf8 (sym (take-add at n bs)) (IsUtf8-append (take at bs) (take n (drop at bs)) v.0 w.0),
+  λ b. elim (bidi_either (take at bs) (take n (drop at bs)) v.0 w.0 (subst IsBidiText (take-add at n bs) b)) [
+    | inl a ↦ v.1 a
+    | inr a ↦ w.1 a
+  ],
+)
 
-  module _ (n : ℕ) (within : n ≤ m) (v : IsUtf8 (take at bs)) where
-    pub piece_text : IsUtf8 (take n piece) → IsUtf8 (take (at + n) bs)
-    piece_text u = subst IsUtf8 (sym (take-add at n bs)) (IsUtf8-append (take at bs) (take n (drop at bs)) v (subst IsUtf8 (prefix_of n within) u))
+-- the bytes after such a prefix
+pub clear_whole : (bs : List ℕ) (n : ℕ) → n ≤ length bs → IsLeftToRight (take n bs) → IsBidiBytes (drop n bs) → IsBidiBytes bs
+clear_whole bs n l v (inl ill) = inl (λ u. ill (rest_text bs n u l v.0))
+clear_whole bs n l v (inr b) = inr (subst IsBidiText (take-append-drop n bs) (bidi_after (take n bs) (drop n bs) v.0 b))
 
-    pub piece_none : (IsBidiText (take at bs) → ⊥) → IsUtf8 (take n piece) → (IsBidiText (take n piece) → ⊥) → IsBidiText (take (at + n) bs) → ⊥
-    piece_none none u not b =
-        let w = subst IsUtf8 (prefix_of n within) u in
-        elim (bidi_either (take at bs) (take n (drop at bs)) v w (subst IsBidiText (take-add at n bs) b)) [
-          | inl a ↦ none a
-          | inr a ↦ not (subst IsBidiText (sym (prefix_of n within)) a)
-        ]
+pub clear_rest : (bs : List ℕ) (n : ℕ) → n ≤ length bs → IsLeftToRight (take n bs) → IsBidiBytes bs → IsBidiBytes (drop n bs)
+clear_rest bs n l v (inl ill) = inl (λ u. ill (subst IsUtf8 (take-append-drop n bs) (IsUtf8-append (take n bs) (drop n bs) v.0 u)))
+clear_rest bs n l v (inr b) =
+    let rest = rest_text bs n (text_of_bidi bs b) l v.0 in
+    elim (bidi_either (take n bs) (drop n bs) v.0 rest (subst IsBidiText (sym (take-append-drop n bs)) b)) [
+      | inl a ↦ absurd (v.1 a)
+      | inr a ↦ inr a
+    ]
 
-    pub not_text : (4 ≤ m - n) ⊎ (length (drop at bs) ≤ m) → IsLongestPrefix IsUtf8 piece n → at + n < length bs → IsUtf8 bs → ⊥
-    not_text long f l u = rejected_no_text bs (at + n) l (piece_text f.kind) (nothing_begins n long f within) u
-
-    pub piece_found : at ≤ length bs → IsBidiText (take n piece) → IsBidiBytes bs
-    piece_found l b = found_in_bytes bs at n l v (subst IsBidiText (prefix_of n within) b)
+pub clear_none : (bs : List ℕ) (n : ℕ) → length bs ≤ n → IsLeftToRight (take n bs) → IsBidiBytes bs → ⊥
+clear_none bs n l v (inl ill) = ill (subst IsUtf8 (take_all n bs l) v.0)
+clear_none bs n l v (inr b) = v.1 (subst IsBidiText (sym (take_all n bs l)) b)
 
 -- ---- an ASCII prefix
-pub ascii_text : (bs : List ℕ) (n : ℕ) → n ≤ length bs → BelowUpTo 0x80 bs n → IsUtf8 (take n bs) × (IsBidiText (take n bs) → ⊥)
+pub ascii_text : (bs : List ℕ) (n : ℕ) → n ≤ length bs → BelowUpTo 0x80 bs n → IsLeftToRight (take n bs)
 ascii_text bs n l low = let latin1 = ascii_latin1 bs n l low in (text_of_latin1 (take n bs) latin1, latin1_not_bidi (take n bs) latin1)

@@ -1,5 +1,5 @@
 -- Longest prefixes that may be the whole list, and the ASCII prefix before the first other unit.
-use Rattle.std.proofs.Common.{◌≡◌, ℕ, ◌≤◌, List, length, take, eqb, sym, ◌∙◌, arith, subst, Option, Some, None}
+use Rattle.std.proofs.Common.{ℕ, ◌≤◌, List, length, take, eqb, sym, ◌∙◌, arith, subst, Option, Some, None}
 use Rattle.std.specs.Prelude.{IsTrue, ◌↔◌}
 use Rattle.std.specs.Str.{IsAscii}
 use Rattle.std.proofs.lemmas.Bool.{eqb-true, eq-eqb}

@@ -1,6 +1,6 @@
 //! Checks of text for right-to-left characters and for Latin1.
 
-ghost use Rattle.std.specs.Prelude.{◌≡◌, ◌<◌, ◌≤◌, ◌↔◌, ◌⊎◌, ℕ, length, IsTrue, IsFalse};
+ghost use Rattle.std.specs.Prelude.{◌≡◌, ◌<◌, ◌≤◌, ◌↔◌, ◌⊎◌, ℕ, length, take, IfSome, IfNone, IsTrue, IsFalse};
 ghost use Rattle.std.specs.Str.{IsUtf8};
 ghost use Rattle.std.specs.Int.{IsInRange};
 ghost use Rattle.encoding_definitions.specs.Prefixes.{IsLongestPrefix};
@@ -147,26 +147,42 @@ pub fn is_str_bidi(buffer: &str) -> bool
     is_text_bidi(buffer.as_bytes())
 }
 
+/// Returns the length of a prefix that is well-formed and has no right-to-left character, by whole blocks: its ASCII, and
+/// a piece after it. Returns `None` if the piece has such a character.
+fn clear_prefix_len(bytes: &[u8]) -> Option<usize>
+    ensures clear { IfSome result (λ n. (n ≤ length bytes.now) × IsUtf8 (take n bytes.now) × (IsBidiText (take n bytes.now) → ⊥)) }
+    ensures found { IfNone result (IsBidiBytes bytes.now) }
+{
+    let prefix = ascii_valid_up_to(bytes);
+    let rest = &bytes[prefix..];
+    let valid = utf8_valid_up_to(&rest[..VALIDATE_CHUNK.min(rest.len())]);
+    if is_text_bidi(&rest[..valid]) {
+        return None;
+    }
+    Some(prefix + valid)
+}
+
 /// Returns whether the bytes are not well-formed UTF-8, or one of their characters is right-to-left.
 pub fn is_utf8_bidi(buffer: &[u8]) -> bool
     ensures { IsTrue result ↔ IsBidiBytes buffer.now }
 {
-    let mut at = ascii_valid_up_to(buffer);
-    while at < buffer.len() {
-        let length = VALIDATE_CHUNK.min(buffer.len() - at);
-        let piece = &buffer[at..at + length];
-        let prefix = utf8_valid_up_to(piece);
-        // the end of a piece may cut a character after up to three bytes
-        let cut = if length == VALIDATE_CHUNK { 3 } else { 0 };
-        if length - prefix > cut {
+    let mut rest = buffer;
+    loop {
+        let Some(clear) = clear_prefix_len(rest) else {
+            return true;
+        };
+        rest = &rest[clear..];
+        if rest.is_empty() {
+            return false;
+        }
+        let Some(length) = character_length(rest) else {
+            return true;
+        };
+        if is_sequence_bidi(&rest[..length]) {
             return true;
         }
-        if is_text_bidi(&piece[..prefix]) {
-            return true;
-        }
-        at += prefix;
+        rest = &rest[length..];
     }
-    false
 }
 
 /// Returns whether a character of the UTF-16 code units is right-to-left, or an unpaired high surrogate may be half of

@@ -1,47 +1,60 @@
-use Rattle.std.proofs.Common.{ℕ, ◌+◌, ◌-◌, ◌<◌, ◌≤◌, ◌⊎◌, inl, inr, List, length, take, drop, arith, refl, IsUtf8}
-use Rattle.std.proofs.lemmas.List.{length-drop, length-take}
-use Rattle.encoding_definitions.specs.Prefixes.{IsLongestPrefix}
-use Rattle.encoding_kernels.proofs.LatinBlocks.AsciiLemmas.{below_prefix}
-use Rattle.encoding_kernels.proofs.BidiBlocks.BidiBlocksLemmas.{ascii_text, not_text, piece_text, piece_none, piece_found}
+use Rattle.std.proofs.Common.{ℕ, ◌<◌, ◌≤◌, inl, length, take, drop, arith, refl, sym, ◌∙◌}
+use Rattle.std.proofs.lemmas.List.{take_rest, length-drop, length-take}
+use Rattle.std.proofs.lemmas.Bool.{eqb-true, eqb-false}
+use Rattle.std.proofs.lemmas.Str.{IsUtf8-nil}
+use Rattle.encoding_definitions.specs.Bidi.{IsBidiText}
+use Rattle.encoding_definitions.specs.Parts.{BeginsWithNoCharacter}
+use Rattle.encoding_definitions.specs.Sequence.{IsSequence}
+use Rattle.encoding_definitions.proofs.Bidi.BidiTextLemmas.{found_in_bytes, rejected_no_text}
+use Rattle.encoding_definitions.proofs.LongestPrefixes.Utf8Lemmas.{IsUtf8-sequence}
+use Rattle.encoding_kernels.proofs.BidiBlocks.BidiBlocksLemmas.{IsLeftToRight, clear_whole, clear_rest, clear_none}
 use Rattle.encoding_text.proofs.mem.bidi.is_utf8_bidi.Goals as goal
-use Rattle.encoding_text.proofs.mem.bidi.is_utf8_bidi.Goals.{then-length-eq-VALIDATE_CHUNK, else-length-eq-VALIDATE_CHUNK}
 
-pub loop-at-init : goal.loop-at-init
-loop-at-init c =
-    let prefix = c.ascii_valid_up_to-at.ensures in
-    let ascii = ascii_text c.args.buffer.now c.ascii_valid_up_to-at.result prefix.within (below_prefix _ _ prefix) in
-    record { within = prefix.within; text = ascii.0; none = ascii.1 }
+pub returns-in_default : goal.returns-in_default
+returns-in_default c = (λ _. c.loop-clear.invariant.0 c.in_default.ensures.found, λ _. refl)
 
--- a text at the start of a piece is no longer than it
-inside : (m n : ℕ) (bs : List ℕ) → IsLongestPrefix IsUtf8 (take m bs) n → n ≤ m
-inside m n bs f = omega (arith, f.within, length-take m bs)
+pub returns-then-is_empty : goal.returns-then-is_empty
+returns-then-is_empty c =
+    let r = c.loop-clear.rest.now in
+    let n = c.in-Some.clear in
+    let clear = c.in-Some.ensures.clear in
+    let none = eqb-true _ _ (sym c.is_empty.ensures ∙ c.if-is_empty.true) in
+    let whole : length r ≤ n = omega (arith, none, length-take {A = ℕ}, length-drop n r) in
+    (λ e. absurd (cc), λ b. absurd (clear_none r n whole (clear.1, clear.2) (c.loop-clear.invariant.1 b)))
 
-pub returns-then-is_text_bidi : goal.returns-then-is_text_bidi
-returns-then-is_text_bidi c =
-    let within = inside _ _ _ c.utf8_valid_up_to-prefix.ensures in
-    (λ e. piece_found c.args.buffer.now _ c.loop-at.at _ refl _ within c.loop-at.invariant.text c.loop-at.invariant.within ((c.if-is_text_bidi.ensures {u = tt}).0 refl), λ b. refl)
+pub returns-in_default-character_length : goal.returns-in_default-character_length
+returns-in_default-character_length c =
+    let r = c.loop-clear.rest.now in
+    let n = c.in-Some.clear in
+    let clear = c.in-Some.ensures.clear in
+    let none : BeginsWithNoCharacter (drop n r) = rw take_rest at c.in_default-character_length.ensures.no_character in
+    let left = eqb-false _ _ (sym c.is_empty.ensures ∙ c.if-is_empty.false) in
+    let some : 0 < length (drop n r) = omega (arith, left, length-take {A = ℕ}, length-drop n r) in
+    (λ _. c.loop-clear.invariant.0 (clear_whole r n clear.0 (clear.1, clear.2) (inl (rejected_no_text (drop n r) 0 some IsUtf8-nil none))), λ _. refl)
 
-pub loop-at-preserved : goal.loop-at-preserved
-loop-at-preserved c =
-    let f = c.utf8_valid_up_to-prefix.ensures in
-    let within = inside _ _ _ f in
-    record {
-      within = omega (arith, f.within, length-take {A = ℕ}, length-drop {A = ℕ});
-      text = piece_text c.args.buffer.now _ c.loop-at.at _ refl _ within c.loop-at.invariant.text f.kind;
-      none = piece_none c.args.buffer.now _ c.loop-at.at _ refl _ within c.loop-at.invariant.text c.loop-at.invariant.none f.kind
-          (λ b. let none = (c.if-is_text_bidi.ensures {u = tt}).1 b in cc);
-    }
+pub returns-then-is_sequence_bidi : goal.returns-then-is_sequence_bidi
+returns-then-is_sequence_bidi c =
+    let r = c.loop-clear.rest.now in
+    let n = c.in-Some.clear in
+    let clear = c.in-Some.ensures.clear in
+    let found : IsBidiText (take c.in-Some-character_length.length (drop n r)) = rw take_rest at (c.if-is_sequence_bidi.ensures {u = tt}).0 refl in
+    (λ _. c.loop-clear.invariant.0 (clear_whole r n clear.0 (clear.1, clear.2) (found_in_bytes (drop n r) 0 _ (omega arith) IsUtf8-nil found)), λ _. refl)
 
-pub returns-then-length-prefix : goal.returns-then-length-prefix
-returns-then-length-prefix c =
-    let bs = c.args.buffer.now in
-    let at = c.loop-at.at in
-    let m = at + c.min-length.result - at in
-    let n = c.utf8_valid_up_to-prefix.result in
-    let long : (4 ≤ m - n) ⊎ (length (drop at bs) ≤ m) = elim c.if-length-eq-VALIDATE_CHUNK.branch [
-      | then-length-eq-VALIDATE_CHUNK w ↦ inl (omega (arith, w.cut-is, c.if-length-prefix.true))
-      | else-length-eq-VALIDATE_CHUNK w ↦ inr (omega (arith, w.if-length-eq-VALIDATE_CHUNK.false, c.min-length.ensures, length-drop at bs))
-    ] in
-    let left : at + n < length bs = omega (arith, c.if-length-prefix.true, c.min-length.ensures) in
-    let f = c.utf8_valid_up_to-prefix.ensures in
-    (λ e. inl (not_text bs (take m (drop at bs)) at m refl n (inside m n _ f) c.loop-at.invariant.text long f left), λ b. refl)
+pub loop-clear-smaller : goal.loop-clear-smaller
+loop-clear-smaller c =
+    let r = c.loop-clear.rest.now in
+    omega (arith, c.in-Some.ensures.clear.0, c.in-Some-character_length.ensures.length, length-take {A = ℕ}, length-drop {A = ℕ})
+
+pub loop-clear-preserved : goal.loop-clear-preserved
+loop-clear-preserved c =
+    let r = c.loop-clear.rest.now in
+    let n = c.in-Some.clear in
+    let s = drop n r in
+    let k = c.in-Some-character_length.length in
+    let clear = c.in-Some.ensures.clear in
+    let found : (0 < k) × (k ≤ length s) × IsSequence (take k s) = rw take_rest at c.in-Some-character_length.ensures.length in
+    let none : IsBidiText (take k s) → ⊥ = λ b. let is = rw take_rest at (c.if-is_sequence_bidi.ensures {u = tt}).1 in absurd (let e = is b in cc) in
+    let step : IsLeftToRight (take k s) = (IsUtf8-sequence (take k s) found.2, none) in (
+      λ b. c.loop-clear.invariant.0 (clear_whole r n clear.0 (clear.1, clear.2) (clear_whole s k found.1 step (rw take_rest at (rw take_rest at b)))),
+      λ b. rw take_rest (rw take_rest (clear_rest s k found.1 step (clear_rest r n clear.0 (clear.1, clear.2) (c.loop-clear.invariant.1 b)))),
+    )

@@ -1,13 +1,9 @@
-use Rattle.std.proofs.Common.{◌-◌, ◌≤◌, length, take, IsUtf8}
-use Rattle.encoding_definitions.specs.Bidi.{IsBidiText}
+use Rattle.std.proofs.Common.{◌↔◌, length}
+use Rattle.encoding_definitions.specs.Bidi.{IsBidiBytes}
 use Rattle.encoding_text.proofs.mem.bidi.is_utf8_bidi.Given as goal
 
-abbrev pub invariant-loop-at : goal.invariant-loop-at
-invariant-loop-at l = record {
-  within : l.at ≤ length l.buffer;
-  text : IsUtf8 (take l.at l.buffer);
-  none : IsBidiText (take l.at l.buffer) → ⊥;
-}
+abbrev pub invariant-loop-clear : goal.invariant-loop-clear
+invariant-loop-clear l = IsBidiBytes l.rest ↔ IsBidiBytes l.buffer
 
-abbrev pub decreases-loop-at : goal.decreases-loop-at
-decreases-loop-at l = length l.buffer - l.at
+abbrev pub decreases-loop-clear : goal.decreases-loop-clear
+decreases-loop-clear l = length l.rest
