@@ -20,9 +20,9 @@ DESTDIR ?=
 CC ?= cc
 CXX ?= c++
 OBJCOPY ?= objcopy
-STRICT = -Wall -Wextra -Werror -pedantic -Iinclude
+STRICT = -Wall -Wextra -Werror -pedantic -Ic/include
 SANITIZE = -g -fsanitize=address,undefined -fno-sanitize-recover=all
-VERSION := $(shell awk '$$2 ~ /_VERSION_(MAJOR|MINOR|PATCH)$$/ {printf "%s%s", dot, $$3; dot = "."}' include/encoding_text.h)
+VERSION := $(shell awk '$$2 ~ /_VERSION_(MAJOR|MINOR|PATCH)$$/ {printf "%s%s", dot, $$3; dot = "."}' c/include/encoding_text.h)
 SHARED = libencoding_text.so.$(firstword $(subst ., ,$(VERSION)))
 export CC CXX LD AR OBJCOPY SHARED
 
@@ -40,13 +40,13 @@ STEPS = x86-64-v2/library x86-64-v3/library x86-64-v2/program
 else
 STEPS = $(CPU)/library $(CPU)/program
 endif
-progress = checks/progress '$(STEPS)'
+progress = tools/progress '$(STEPS)'
 
 # need(a command, what to do): fails with a message if the command is missing
 need = $(if $(shell command -v $(firstword $(1)) 2> /dev/null),,$(error $(firstword $(1)) is not there: $(2)))
 need_rt = $(call need,rt,put the toolchain's folder bin on the PATH)
-need_cc = $(call need,$(CC),install a C compiler (checks/setup does on Debian) or name yours by CC=)
-need_binutils = $(foreach tool,$(LD) $(OBJCOPY) $(AR),$(call need,$(tool),install binutils (checks/setup does on Debian)))
+need_cc = $(call need,$(CC),install a C compiler (tools/setup does on Debian) or name yours by CC=)
+need_binutils = $(foreach tool,$(LD) $(OBJCOPY) $(AR),$(call need,$(tool),install binutils (tools/setup does on Debian)))
 
 all: tools $(BUILT:%=build/%) build/libencoding_text.so
 
@@ -55,7 +55,7 @@ tools:
 	$(need_cc)$(if $(filter both,$(CPU)),$(need_binutils))
 
 cxx:
-	$(call need,$(CXX),install a C++ compiler (checks/setup does on Debian) or name yours by CXX=)
+	$(call need,$(CXX),install a C++ compiler (tools/setup does on Debian) or name yours by CXX=)
 
 # The files directly in build/ are for one CPU, whose name is in build/cpu.
 $(BUILT:%=build/%): build/%: build/$(CPU)/% build/cpu
@@ -88,13 +88,13 @@ build/both/utf8_repair: build/x86-64-v2/utf8_repair
 	@mkdir -p $(@D)
 	cp $< $@
 
-build/both/libencoding_text.a: build/x86-64-v2/libencoding_text.a build/x86-64-v3/libencoding_text.a build/names checks/choose.c checks/join
+build/both/libencoding_text.a: build/x86-64-v2/libencoding_text.a build/x86-64-v3/libencoding_text.a build/names c/choose.c c/join
 	$(need_cc)$(need_binutils)
 	@mkdir -p $(@D)
-	checks/join build/names build/x86-64-v2/libencoding_text.a build/x86-64-v3/libencoding_text.a $@
+	c/join build/names build/x86-64-v2/libencoding_text.a build/x86-64-v3/libencoding_text.a $@
 
 # The functions that the header declares.
-build/names: include/encoding_text.h
+build/names: c/include/encoding_text.h
 	$(need_cc)
 	@mkdir -p $(@D)
 	$(CC) -E -P $< | grep -o '\bencoding_text_[a-z0-9_]*(' | tr -d '(' | LC_ALL=C sort > $@
@@ -108,14 +108,14 @@ build/%/$(SHARED): build/%/libencoding_text.a build/exports
 	    -o $@ -Wl,--whole-archive $< -Wl,--no-whole-archive
 
 check: cxx all
-	STRICT='$(STRICT)' SANITIZE='$(SANITIZE)' checks/run
+	STRICT='$(STRICT)' SANITIZE='$(SANITIZE)' tests/c/run
 
 install uninstall:
 	$(if $(ASKED),$(if $(filter $(ASKED),$(shell cat build/cpu 2> /dev/null)),,$(error build/ isn't built for $(ASKED): run make CPU=$(ASKED) first)))
-	@PREFIX='$(PREFIX)' LIBDIR='$(LIBDIR)' INCLUDEDIR='$(INCLUDEDIR)' DESTDIR='$(DESTDIR)' VERSION=$(VERSION) checks/install $@
+	@PREFIX='$(PREFIX)' LIBDIR='$(LIBDIR)' INCLUDEDIR='$(INCLUDEDIR)' DESTDIR='$(DESTDIR)' VERSION=$(VERSION) c/install $@
 
 doc:
-	@checks/doc
+	@tools/doc
 
 clean:
 	rm -rf build

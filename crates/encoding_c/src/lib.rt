@@ -1,5 +1,5 @@
 //! The calls of `encoding_text`, the runs, the search for malformed sequences and the repair for C and C++, as a static
-//! library. `include/encoding_text.h` documents each function in terms of C.
+//! library. `c/include/encoding_text.h` documents each function in terms of C.
 //!
 //! A slice is a pointer, followed by its length. If the length is 0, C may pass `NULL`: the compiler replaces it by an
 //! address before the body begins, so that no slice here is `NULL`.

@@ -123,8 +123,9 @@ impl Utf8Decoder {
         ensures call { DecodeStepInto encode_utf16 2 self.old src.now dst.old dst.new last result.0 result.1 result.2 self.new }
         ensures progress { 0 < length src.now → 2 ≤ length dst.old → (0 < result.1) ⊎ IsReport result.0 }
 
-        // If `dst` has the length that `max_utf16_buffer_length` returned for `byte_length` bytes, the call doesn't return
-        // `OutputFull`. The space left is enough for the rest of those bytes, even after the caller writes U+FFFD.
+        // If `src` has at most `byte_length` bytes and `dst` has the length that `max_utf16_buffer_length(byte_length)`
+        // returned, the call doesn't return `OutputFull`. The space left is enough for the rest of the `byte_length`
+        // bytes, even after the caller writes U+FFFD.
         ensures suffices { Suffices max_utf16_length self.old src.now (length dst.old) result.0 result.1 result.2 self.new }
         ensures suffices_replacing { SufficesReplacing max_utf16_length 1 self.old src.now (length dst.old)
             result.0 result.1 result.2 self.new }
@@ -148,10 +149,10 @@ impl Utf8Decoder {
         ensures call { DecodeStepInto encode_utf8 4 self.old src.now dst.old dst.new last result.0 result.1 result.2 self.new }
         ensures progress { 0 < length src.now → 4 ≤ length dst.old → (0 < result.1) ⊎ IsReport result.0 }
 
-        // If `dst` has the length that `max_utf8_buffer_length` or `max_utf8_buffer_length_without_replacement` returned
-        // for `byte_length` bytes, the call doesn't return `OutputFull`, and the space left is enough for the rest of
-        // those bytes. If `max_utf8_buffer_length` returned the length, the space left is enough even after the caller
-        // writes U+FFFD.
+        // If `src` has at most `byte_length` bytes and `dst` has the length that `max_utf8_buffer_length(byte_length)` or
+        // `max_utf8_buffer_length_without_replacement(byte_length)` returned, the call doesn't return `OutputFull`. The
+        // space left is enough for the rest of the `byte_length` bytes. If `max_utf8_buffer_length` returned the length,
+        // the space left is enough even after the caller writes U+FFFD.
         ensures suffices { Suffices max_utf8_length self.old src.now (length dst.old) result.0 result.1 result.2 self.new }
         ensures suffices_between_reports { Suffices max_utf8_length_with_replacement self.old src.now (length dst.old)
             result.0 result.1 result.2 self.new }
