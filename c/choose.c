@@ -29,11 +29,10 @@ static char **environment(void)
     return NULL;
 }
 
-/* Whether ENCODING_TEXT_CPU asks for the build for x86-64-v2. */
-static int asks_for_v2(void)
+/* Whether ENCODING_TEXT_CPU asks for the build for x86-64-v2. `entry` is the first of the environment. */
+static int asks_for_v2(char *const *entry)
 {
     static const char wanted[] = "ENCODING_TEXT_CPU=x86-64-v2";
-    char **entry = environment();
 
     for (; entry != NULL && *entry != NULL; entry++) {
         size_t same = 0;
@@ -47,31 +46,49 @@ static int asks_for_v2(void)
     return 0;
 }
 
-/* Whether the processor has what x86-64-v3 adds (psABI, table 3.1), and the system saves the AVX registers. */
-static int runs_v3(void)
+/* What the processor and the system report. What they don't report is 0. */
+typedef struct {
+    unsigned leaf_1;          /* cpuid 1, ecx */
+    unsigned leaf_7;          /* cpuid 7, ebx */
+    unsigned leaf_0x80000001; /* cpuid 0x80000001, ecx */
+    unsigned saved;           /* xgetbv 0, eax: the registers that the system saves */
+} features;
+
+/* Whether these include all that x86-64-v3 adds (psABI, table 3.1), and the system saves the AVX registers. */
+static int include_v3(features found)
 {
     const unsigned leaf_1 = bit_FMA | bit_MOVBE | bit_OSXSAVE | bit_AVX | bit_F16C;
     const unsigned leaf_7 = bit_BMI | bit_AVX2 | bit_BMI2;
-    const unsigned kept = 1 << 1 | 1 << 2;
+    const unsigned saved = 1 << 1 | 1 << 2; /* the lower and the upper halves of the AVX registers */
+
+    return (found.leaf_1 & leaf_1) == leaf_1 && (found.leaf_7 & leaf_7) == leaf_7
+        && (found.leaf_0x80000001 & bit_LZCNT) != 0 && (found.saved & saved) == saved;
+}
+
+/* Asks for no leaf that the processor doesn't have, and for the saved registers only if xgetbv may be executed. */
+static features ask_processor(void)
+{
+    features found = {0, 0, 0, 0};
+    unsigned greatest = (unsigned)__get_cpuid_max(0, NULL);
     unsigned a, b, c, d;
 
-    if ((unsigned)__get_cpuid_max(0, NULL) < 7 || (unsigned)__get_cpuid_max(0x80000000, NULL) < 0x80000001) {
-        return 0;
+    if (greatest >= 1) {
+        __cpuid(1, a, b, c, d);
+        found.leaf_1 = c;
     }
-    __cpuid(1, a, b, c, d);
-    if ((c & leaf_1) != leaf_1) {
-        return 0;
+    if ((found.leaf_1 & bit_OSXSAVE) != 0) {
+        __asm__ volatile("xgetbv" : "=a"(a), "=d"(d) : "c"(0));
+        found.saved = a;
     }
-    __asm__ volatile("xgetbv" : "=a"(a), "=d"(d) : "c"(0));
-    if ((a & kept) != kept) {
-        return 0;
+    if (greatest >= 7) {
+        __cpuid_count(7, 0, a, b, c, d);
+        found.leaf_7 = b;
     }
-    __cpuid_count(7, 0, a, b, c, d);
-    if ((b & leaf_7) != leaf_7) {
-        return 0;
+    if ((unsigned)__get_cpuid_max(0x80000000, NULL) >= 0x80000001) {
+        __cpuid(0x80000001, a, b, c, d);
+        found.leaf_0x80000001 = c;
     }
-    __cpuid(0x80000001, a, b, c, d);
-    return (c & bit_LZCNT) != 0;
+    return found;
 }
 
 /* Returns the same at each call; only the first one queries the processor. */
@@ -81,7 +98,7 @@ static int takes_v3(void)
     int known = __atomic_load_n(&answer, __ATOMIC_RELAXED);
 
     if (known == 0) {
-        known = runs_v3() && !asks_for_v2() ? 3 : 2;
+        known = include_v3(ask_processor()) && !asks_for_v2(environment()) ? 3 : 2;
         __atomic_store_n(&answer, known, __ATOMIC_RELAXED);
     }
     return known == 3;

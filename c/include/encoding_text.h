@@ -504,7 +504,7 @@ typedef struct {
     size_t read;     /**< bytes of the block */
     size_t written;  /**< bytes of the destination */
     size_t replaced; /**< the number of malformed sequences that U+FFFD was written for */
-    bool finished;   /**< whether all of the block was read and, after the last one, nothing is pending */
+    bool finished;   /**< whether all of the block was read and, if it was marked last, nothing is pending */
 } encoding_text_repair_block_result;
 
 /** Writes the next block of a stream with U+FFFD for each malformed sequence. `last` says that no block follows. The

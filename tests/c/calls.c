@@ -355,6 +355,7 @@ static void version(void)
 int main(void)
 {
     version();
+    layouts();
     ascii_prefixes();
     latin1_checks();
     surrogates();

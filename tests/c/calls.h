@@ -41,6 +41,9 @@ void runs_from_utf16(void);
 /* empty.c */
 void buffers_of_no_elements(const uint8_t *bytes, const uint16_t *units, uint8_t *to_bytes, uint16_t *to_units);
 
+/* layout.c */
+void layouts(void);
+
 #ifdef __cplusplus
 /* vectors.cc */
 void vectors_of_no_elements();

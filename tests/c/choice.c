@@ -1,0 +1,107 @@
+/*
+ * Which build c/choose.c selects, over the features of a processor and over environments. It is compiled with an empty
+ * names.h, so no function is bound. C99 with GNU's extensions.
+ */
+#include <stdio.h>
+
+#include "../../c/choose.c"
+
+/* What x86-64-v3 adds, by the bits that Intel's and AMD's manuals give. */
+#define FMA (1u << 12)
+#define MOVBE (1u << 22)
+#define OSXSAVE (1u << 27)
+#define AVX (1u << 28)
+#define F16C (1u << 29)
+#define BMI1 (1u << 3)
+#define AVX2 (1u << 5)
+#define BMI2 (1u << 8)
+#define LZCNT (1u << 5)
+#define SSE_SAVED (1u << 1)
+#define AVX_SAVED (1u << 2)
+#define LEAF_1 (FMA | MOVBE | OSXSAVE | AVX | F16C)
+#define LEAF_7 (BMI1 | AVX2 | BMI2)
+#define SAVED (SSE_SAVED | AVX_SAVED)
+
+typedef struct {
+    const char *what;
+    features found;
+    int takes_v3;
+} processor;
+
+typedef struct {
+    const char *entry;
+    int asks;
+} setting;
+
+static int passed, failed;
+
+static void count(int holds, const char *what)
+{
+    if (holds) {
+        passed++;
+    } else {
+        failed++;
+        printf("%s: FAILED\n", what);
+    }
+}
+
+static void processors(void)
+{
+    const processor rows[] = {
+        {"all that x86-64-v3 adds", {LEAF_1, LEAF_7, LZCNT, SAVED}, 1},
+        {"all bits", {~0u, ~0u, ~0u, ~0u}, 1},
+        {"no leaf 1", {0, LEAF_7, LZCNT, SAVED}, 0},
+        {"no FMA", {LEAF_1 & ~FMA, LEAF_7, LZCNT, SAVED}, 0},
+        {"no MOVBE", {LEAF_1 & ~MOVBE, LEAF_7, LZCNT, SAVED}, 0},
+        {"no OSXSAVE", {LEAF_1 & ~OSXSAVE, LEAF_7, LZCNT, SAVED}, 0},
+        {"no AVX", {LEAF_1 & ~AVX, LEAF_7, LZCNT, SAVED}, 0},
+        {"no F16C", {LEAF_1 & ~F16C, LEAF_7, LZCNT, SAVED}, 0},
+        {"no leaf 7", {LEAF_1, 0, LZCNT, SAVED}, 0},
+        {"no BMI1", {LEAF_1, LEAF_7 & ~BMI1, LZCNT, SAVED}, 0},
+        {"no AVX2", {LEAF_1, LEAF_7 & ~AVX2, LZCNT, SAVED}, 0},
+        {"no BMI2", {LEAF_1, LEAF_7 & ~BMI2, LZCNT, SAVED}, 0},
+        {"no leaf 0x80000001", {LEAF_1, LEAF_7, 0, SAVED}, 0},
+        {"no LZCNT", {LEAF_1, LEAF_7, ~LZCNT, SAVED}, 0},
+        {"no register saved", {LEAF_1, LEAF_7, LZCNT, 0}, 0},
+        {"SSE registers saved", {LEAF_1, LEAF_7, LZCNT, SSE_SAVED}, 0},
+        {"upper halves of AVX registers saved", {LEAF_1, LEAF_7, LZCNT, AVX_SAVED}, 0},
+    };
+    for (size_t i = 0; i < sizeof rows / sizeof rows[0]; i++) {
+        count(include_v3(rows[i].found) == rows[i].takes_v3, rows[i].what);
+    }
+}
+
+static void settings(void)
+{
+    static const setting rows[] = {
+        {"ENCODING_TEXT_CPU=x86-64-v2", 1},
+        {"ENCODING_TEXT_CPU=x86-64-v20", 0},
+        {"ENCODING_TEXT_CPU=x86-64-v", 0},
+        {"ENCODING_TEXT_CPU=x86-64-v3", 0},
+        {"ENCODING_TEXT_CPU=", 0},
+        {"ENCODING_TEXT_CPU", 0},
+        {"encoding_text_cpu=x86-64-v2", 0},
+        {"AN_ENCODING_TEXT_CPU=x86-64-v2", 0},
+        {"", 0},
+    };
+    for (size_t i = 0; i < sizeof rows / sizeof rows[0]; i++) {
+        char *entry = (char *)rows[i].entry;
+        char *alone[] = {entry, NULL};
+        char *last[] = {(char *)"PATH=/usr/bin", entry, NULL};
+        char *first[] = {entry, (char *)"PATH=/usr/bin", NULL};
+        count(asks_for_v2(alone) == rows[i].asks, rows[i].entry);
+        count(asks_for_v2(last) == rows[i].asks, rows[i].entry);
+        count(asks_for_v2(first) == rows[i].asks, rows[i].entry);
+    }
+    char *none[] = {NULL};
+    count(!asks_for_v2(none) && !asks_for_v2(NULL), "no environment");
+}
+
+int main(void)
+{
+    processors();
+    settings();
+    count(takes_v3() == takes_v3(), "the same choice at each call");
+    printf("%d passed, %d failed\n", passed, failed);
+    return failed != 0;
+}
