@@ -210,10 +210,10 @@ const ENDS: [(&[u8], usize); 6] = [
     (b"\xE2\x98\xFF\n", 3),
 ];
 
-/// Lengths near the ends of rounds, of a whole write to a pipe, and of the arrays.
-const LENGTHS: [usize; 16] = [
-    1022, 1023, 1024, 1025, 1026, 2047, 2048, 2049, 4094, 4095, 4096, 4097, 65_532, 65_533, 65_535,
-    65_536,
+/// Lengths near the ends of rounds, of a whole write to a pipe, and of the arrays, and some between these.
+const LENGTHS: [usize; 21] = [
+    1022, 1023, 1024, 1025, 1026, 2047, 2048, 2049, 4094, 4095, 4096, 4097, 5000, 8191, 16_384,
+    32_768, 60_000, 65_532, 65_533, 65_535, 65_536,
 ];
 
 /// Returns whether each of three lines, which arrive by one read each, leaves by one write, with any of the ends.
