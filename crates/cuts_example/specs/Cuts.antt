@@ -1,6 +1,6 @@
 -- Bytes that are cut such that their pieces can be repaired separately.
 use Rattle.std.specs.Prelude.{◌≡◌, ℕ, ◌+◌, ◌<◌, List, [], ◌∷◌, ◌++◌, ◌⊎◌, map}
-use Rattle.encoding_definitions.specs.Parts.{Part, ArePartsOf}
+use Rattle.encoding_runs.specs.Parts.{Part, ArePartsOf}
 use Rattle.encoding_runs.specs.MalformedSequences.{malformed_indices}
 use Rattle.encoding_runs.specs.Repairs.{IsLossyDecodeWith}
 use Rattle.cuts_example.specs.declared.RepairedPiece.{RepairedPiece}

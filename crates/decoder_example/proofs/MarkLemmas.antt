@@ -5,9 +5,9 @@ use Rattle.std.proofs.lemmas.Bool.Decides.{Decides-eqb}
 use Rattle.std.proofs.lemmas.List.{take_at, drop_at, length-take, length-drop}
 use Rattle.std.proofs.lemmas.Slice.Eq.{starts_is}
 use Rattle.std.specs.List.{starts_with}
-use Rattle.encoding_definitions.specs.Sequence.{IsSequence}
-use Rattle.encoding_definitions.specs.Pending.{IsPending}
-use Rattle.encoding_definitions.proofs.Decomposition.PartsLemmas.{prefixes_nest}
+use Rattle.encoding_text.specs.Sequence.{IsSequence}
+use Rattle.encoding_text.specs.Pending.{IsPending}
+use Rattle.encoding_text.proofs.Decomposition.PartsLemmas.{prefixes_nest}
 use Rattle.encoding_text.specs.Decoding.{BorrowedDecodeStep}
 use Rattle.encoding_text.specs.OneResult.{HasOnePiece}
 use Rattle.encoding_text.specs.declared.decoder.Piece.{Piece}

@@ -3,8 +3,8 @@ use Rattle.std.proofs.Common.{◌≡◌, ℕ, ◌≤◌, inl, Bool, true, false,
 use Rattle.std.proofs.lemmas.List.{take_at, drop-append-le, drop_all, nil_from_length, length-take}
 use Rattle.std.specs.List.{flat_map, list_any}
 use Rattle.std.specs.Str.{all_scalars}
-use Rattle.encoding_definitions.specs.Pending.{IsPending}
-use Rattle.encoding_definitions.specs.Parts.{Part, StartsWith, AreFinal, bytes_of}
+use Rattle.encoding_text.specs.Pending.{IsPending}
+use Rattle.encoding_text.specs.Parts.{Part, StartsWith, AreFinal, bytes_of}
 use Rattle.encoding_text.specs.Decoding.{DecodeStep}
 use Rattle.encoding_text.specs.OneResult.{HasOneResult}
 use Rattle.encoding_text.specs.declared.decoder.DecoderResult.{DecoderResult}

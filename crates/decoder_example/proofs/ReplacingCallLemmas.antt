@@ -6,15 +6,15 @@ use Rattle.std.proofs.Math.Nat.{lt_of_not-le}
 use Rattle.std.proofs.lemmas.Bool.{and_parts}
 use Rattle.std.proofs.lemmas.Bool.Decides.{nat_tests}
 use Rattle.std.proofs.lemmas.List.{take_rest, drop-drop, length-drop}
-use Rattle.encoding_definitions.specs.Prefixes.{WritesPrefix}
-use Rattle.encoding_definitions.specs.Converting.{FittingBegins}
-use Rattle.encoding_definitions.specs.Sequence.{IsIncomplete}
-use Rattle.encoding_definitions.specs.Parts.{malformed_count}
-use Rattle.encoding_definitions.proofs.Decomposition.PartsLemmas.{no_sequence_in_incomplete}
-use Rattle.encoding_definitions.proofs.Sequences.EncodingLemmas.{IsSequence-encode}
-use Rattle.encoding_definitions.specs.Pending.{IsPending}
-use Rattle.encoding_definitions.proofs.Decomposition.DecompositionLemmas.{malformed_count-bytes}
-use Rattle.encoding_definitions.proofs.LongestPrefixes.PrefixesLemmas.{WritesPrefix-length, WritesPrefix_after}
+use Rattle.encoding_text.specs.Prefixes.{WritesPrefix}
+use Rattle.encoding_text.specs.Converting.{FittingBegins}
+use Rattle.encoding_text.specs.Sequence.{IsIncomplete}
+use Rattle.encoding_text.specs.Parts.{malformed_count}
+use Rattle.encoding_text.proofs.Decomposition.PartsLemmas.{no_sequence_in_incomplete}
+use Rattle.encoding_text.proofs.Sequences.EncodingLemmas.{IsSequence-encode}
+use Rattle.encoding_text.specs.Pending.{IsPending}
+use Rattle.encoding_text.proofs.Decomposition.DecompositionLemmas.{malformed_count-bytes}
+use Rattle.encoding_text.proofs.LongestPrefixes.PrefixesLemmas.{WritesPrefix-length, WritesPrefix_after}
 use borrow.Rule.Slice.PartMut.{put_mid}
 use Rattle.encoding_text.specs.Decoding.{IsMalformed, IsDecodeResult, DecodeStep}
 use Rattle.encoding_text.specs.declared.decoder.DecoderResult.{DecoderResult}

@@ -1,7 +1,7 @@
 -- Streams that may start with the byte order mark of UTF-8, and what of them is left to be decoded.
 use Rattle.std.specs.Prelude.{◌≡◌, ℕ, Bool, List, [], ◌∷◌, ◌++◌, drop, take, nat_eq, nat_lt, if◌then◌else◌, Option, None, Some}
 use Rattle.std.specs.List.{flat_map, starts_with}
-use Rattle.encoding_definitions.specs.Parts.{Part, StartsWith, lossy_scalar, malformed_count}
+use Rattle.encoding_text.specs.Parts.{Part, StartsWith, lossy_scalar, malformed_count}
 
 -- the UTF-8 of U+FEFF
 abbrev pub mark : List ℕ

@@ -1,7 +1,7 @@
 -- Calls of a decoder in sequence, over one stream.
 use Rattle.std.specs.Prelude.{◌≡◌, ℕ, Bool, true, List, [], ◌∷◌, ◌++◌, length, take, drop, encode_utf8_all}
 use Rattle.std.specs.List.{flat_map}
-use Rattle.encoding_definitions.specs.Parts.{Part, ArePartsOf, AreFinal, lossy_utf8, lossy_utf16}
+use Rattle.encoding_text.specs.Parts.{Part, ArePartsOf, AreFinal, lossy_utf8, lossy_utf16}
 use Rattle.encoding_text.specs.declared.decoder.DecoderResult.{DecoderResult}
 use Rattle.encoding_text.specs.declared.decoder.DecoderResult.TheVariants.{InputEmpty}
 use Rattle.encoding_runs.specs.Calls.{Call, pending_after}

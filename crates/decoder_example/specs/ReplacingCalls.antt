@@ -1,9 +1,9 @@
 -- What a call of a decoder that replaces malformed sequences does.
 use Rattle.std.specs.Prelude.{◌≡◌, ℕ, ◌+◌, ◌-◌, ◌<◌, ◌≤◌, Bool, true, List, [], ◌++◌, length, drop}
-use Rattle.encoding_definitions.specs.Prefixes.{WritesPrefix}
-use Rattle.encoding_definitions.specs.Converting.{FittingBegins}
-use Rattle.encoding_definitions.specs.Parts.{Part}
-use Rattle.encoding_definitions.specs.Yielding.{Yields}
+use Rattle.encoding_text.specs.Prefixes.{WritesPrefix}
+use Rattle.encoding_text.specs.Converting.{FittingBegins}
+use Rattle.encoding_text.specs.Parts.{Part}
+use Rattle.encoding_text.specs.Yielding.{Yields}
 use Rattle.encoding_text.specs.Decoding.{DecodeStep, Suffices, SufficesReplacing}
 use Rattle.encoding_text.specs.YieldedParts.{AreDecoded}
 use Rattle.encoding_text.specs.declared.decoder.DecoderResult.{DecoderResult}

@@ -8,7 +8,7 @@ mod streams;
 ghost use Rattle.std.specs.Prelude.{◌≡◌, ℕ, ◌+◌, ◌-◌, ◌<◌, ◌≤◌, Bool, true, false, List, [], ◌++◌, length, drop, encode_utf8, IfSome};
 ghost use Rattle.std.specs.Option.{SomeIff, is_none};
 ghost use Rattle.std.specs.Char.Escape.{encode_utf16};
-ghost use Rattle.encoding_definitions.specs.Prefixes.{WritesPrefix};
+ghost use Rattle.encoding_text.specs.Prefixes.{WritesPrefix};
 ghost use Rattle.encoding_text.specs.Decoding.{max_utf16_length, max_utf8_length_with_replacement};
 ghost use Rattle.decoder_example.specs.Marked.{State, Decoding, Sniffing, held, left};
 ghost use Rattle.decoder_example.specs.ReplacingCalls.{Ends, IsReplacingCall, IsReportingCall, Writes};

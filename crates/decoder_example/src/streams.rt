@@ -3,7 +3,7 @@ ghost use Rattle.std.specs.Prelude.{◌≡◌, ℕ, ◌≤◌, Bool, true, false
 ghost use Rattle.std.specs.Char.Escape.{encode_utf16};
 ghost use Rattle.std.specs.List.{AllZip, flat_map, list_any};
 ghost use Rattle.std.specs.Str.{all_scalars};
-ghost use Rattle.encoding_definitions.specs.Pending.{IsPending};
+ghost use Rattle.encoding_text.specs.Pending.{IsPending};
 ghost use Rattle.encoding_text.specs.Decoding.{DecodeStep, max_utf16_length, max_utf8_length_with_replacement};
 ghost use Rattle.encoding_text.specs.declared.decoder.DecoderResult.{DecoderResult};
 ghost use Rattle.encoding_runs.specs.Calls.{Call, IsChain, read_in_all, pending_after, some_last};

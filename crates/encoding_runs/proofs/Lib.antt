@@ -16,3 +16,6 @@ pub mod CutLemmas
 pub mod MixedLemmas
 pub mod MalformedLemmas
 pub mod BlockLemmas
+
+-- the lemmas on these terms
+pub use Rattle.encoding_definitions.proofs.Decomposition

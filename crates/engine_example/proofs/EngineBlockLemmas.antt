@@ -3,7 +3,7 @@ use Rattle.std.proofs.Common.{◌≡◌, ℕ, Bool, true, false, List, [], ◌�
 use Rattle.std.proofs.lemmas.Grind.{flat_map-append}
 use Rattle.std.proofs.lemmas.List.{take_all, drop_all}
 use Rattle.std.proofs.lemmas.List.Quantifiers.{Any-push}
-use Rattle.encoding_definitions.specs.Utf16.{AreCodeUnits, Part16, utf8_of_part16, ArePartsOf16, StartsWith16}
+use Rattle.encoding_text.specs.Utf16.{AreCodeUnits, Part16, utf8_of_part16, ArePartsOf16, StartsWith16}
 use Rattle.encoding_text.specs.Encoding.{IsPendingSurrogate, EncodeStep}
 use Rattle.encoding_text.specs.declared.utf_8.encoder.EncoderResult.{EncoderResult}
 use Rattle.encoding_text.specs.declared.utf_8.encoder.EncoderResult.TheVariants.{InputEmpty}

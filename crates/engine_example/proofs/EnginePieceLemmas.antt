@@ -5,10 +5,10 @@ use Rattle.std.specs.Char.Escape.{encode_utf16}
 use Rattle.std.proofs.lemmas.Grind.{flat_map-append}
 use Rattle.std.proofs.lemmas.List.Folds.{flat_map-map}
 use Rattle.std.proofs.lemmas.List.{take_more, drop_all, drop-drop, flat_map_more, length-drop}
-use Rattle.encoding_definitions.specs.Parts.{Part, Character, StartsWith, lossy_scalar, lossy_utf16}
-use Rattle.encoding_definitions.specs.Yielding.{Yields}
-use Rattle.encoding_definitions.specs.Pending.{IsPending}
-use Rattle.encoding_definitions.proofs.Decomposition.DecompositionLemmas.{StartsWith-append}
+use Rattle.encoding_text.specs.Parts.{Part, Character, StartsWith, lossy_scalar, lossy_utf16}
+use Rattle.encoding_text.specs.Yielding.{Yields}
+use Rattle.encoding_text.specs.Pending.{IsPending}
+use Rattle.encoding_text.proofs.Decomposition.DecompositionLemmas.{StartsWith-append}
 use Rattle.encoding_text.specs.Decoding.{BorrowedDecodeStep}
 use Rattle.encoding_text.specs.YieldedParts.{AreBorrowed}
 use Rattle.encoding_text.specs.declared.decoder.Piece.{Piece}

@@ -3,8 +3,8 @@ use Rattle.std.proofs.Common.{◌≡◌, ℕ, List, [], ◌∷◌, map, refl, sy
 use Rattle.std.specs.List.{flat_map}
 use Rattle.std.specs.Char.Utf16.{utf16_lossy_chars}
 use Rattle.std.proofs.lemmas.List.Folds.{flat_map-map}
-use Rattle.encoding_definitions.specs.Utf16.{Part16, Character16, ArePartsOf16, IsUtf8OfUnits, scalar_of_part16}
-use Rattle.encoding_definitions.specs.Surrogates.{IsValidUtf16, AreRepairedUnits}
+use Rattle.encoding_text.specs.Utf16.{Part16, Character16, ArePartsOf16, IsUtf8OfUnits, scalar_of_part16}
+use Rattle.encoding_text.specs.Surrogates.{IsValidUtf16, AreRepairedUnits}
 
 -- the characters that valid code units are the UTF-16 of
 scalars_are : (cs : List ℕ) → map scalar_of_part16 (map Character16 cs) ≡ cs

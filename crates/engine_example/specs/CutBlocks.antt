@@ -1,8 +1,8 @@
 -- Blocks of UTF-16 and pieces of UTF-8, each cut anywhere.
 use Rattle.std.specs.Prelude.{◌≡◌, ℕ, Bool, true, false, List, ◌++◌}
 use Rattle.std.specs.List.{flat_map}
-use Rattle.encoding_definitions.specs.Parts.{Part, StartsWith, ArePartsOf, lossy_utf16}
-use Rattle.encoding_definitions.specs.Utf16.{AreCodeUnits, Part16, utf8_of_part16, ArePartsOf16, StartsWith16}
+use Rattle.encoding_text.specs.Parts.{Part, StartsWith, ArePartsOf, lossy_utf16}
+use Rattle.encoding_text.specs.Utf16.{AreCodeUnits, Part16, utf8_of_part16, ArePartsOf16, StartsWith16}
 
 -- What is written for a block is the UTF-8 of the first parts of the pending surrogate and the block, for any following
 -- units, and of all of them if it is the last.

@@ -6,7 +6,7 @@ ghost use Rattle.std.specs.Prelude.{◌≡◌, ℕ, List, ◌++◌, IfOk, OnOk, 
 ghost use Rattle.std.specs.Char.Escape.{encode_utf16};
 ghost use Rattle.std.specs.Str.{chars};
 ghost use Rattle.std.specs.List.{flat_map};
-ghost use Rattle.encoding_definitions.specs.Utf16.{AreCodeUnits, IsUtf8OfUnits};
+ghost use Rattle.encoding_text.specs.Utf16.{AreCodeUnits, IsUtf8OfUnits};
 ghost use Rattle.encoding_runs.specs.Repairs.{IsLossyDecodeOf};
 ghost use Rattle.engine_example.specs.CutBlocks.{WritesBlock, WritesPiece, IsRepairedUtf16};
 

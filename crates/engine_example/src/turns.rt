@@ -2,7 +2,7 @@
 
 ghost use Rattle.std.specs.Prelude.{◌≡◌, ℕ, List, length, map, IfOk, Some, None};
 ghost use Rattle.std.specs.List.{last_or};
-ghost use Rattle.encoding_definitions.specs.Utf16.{AreCodeUnits, IsUtf8OfUnits};
+ghost use Rattle.encoding_text.specs.Utf16.{AreCodeUnits, IsUtf8OfUnits};
 ghost use Rattle.encoding_text.specs.declared.utf_8.encoder.EncoderResult.{EncoderResult};
 ghost use Rattle.encoding_text.specs.declared.utf_8.encoder.EncoderResult.TheVariants.{InputEmpty};
 ghost use Rattle.encoding_runs.specs.declared.run.turns.Turn.{Turn};

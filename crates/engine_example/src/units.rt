@@ -6,9 +6,9 @@ ghost use Rattle.std.specs.Char.Escape.{encode_utf16};
 ghost use Rattle.std.specs.Char.Utf16.{utf16_lossy_chars, has_unpaired_surrogate};
 ghost use Rattle.std.specs.List.{flat_map};
 ghost use Rattle.std.specs.Str.{all_scalars, chars};
-ghost use Rattle.encoding_definitions.specs.Bidi.{IsRightToLeft};
-ghost use Rattle.encoding_definitions.specs.Surrogates.{IsValidUtf16, AreRepairedUnits, ReplacesUnpaired};
-ghost use Rattle.encoding_definitions.specs.Utf16.{IsUtf8OfUnits};
+ghost use Rattle.encoding_text.specs.Bidi.{IsRightToLeft};
+ghost use Rattle.encoding_text.specs.Surrogates.{IsValidUtf16, AreRepairedUnits, ReplacesUnpaired};
+ghost use Rattle.encoding_text.specs.Utf16.{IsUtf8OfUnits};
 
 use encoding_runs::laws::{
     law_bidi_agrees, law_partial_repeats, law_surrogate_repair, law_utf16_round_trip,

@@ -12,8 +12,8 @@ use Rattle.std.proofs.lemmas.List.Sums.{AllPass-from_list_all}
 use Rattle.std.proofs.lemmas.List.FromFn.{get_or-map-range_with_len}
 use Rattle.std.proofs.lemmas.Str.{length-encode}
 use lib.Utf8.{scalar, low_scalar}
-use Rattle.encoding_definitions.specs.Utf16.{Part16, ArePartsOf16, IsUtf8OfUnits}
-use Rattle.encoding_definitions.specs.Utf16.{scalar_of_part16 as part_scalar}
+use Rattle.encoding_text.specs.Utf16.{Part16, ArePartsOf16, IsUtf8OfUnits}
+use Rattle.encoding_text.specs.Utf16.{scalar_of_part16 as part_scalar}
 use Rattle.legacy_example.specs.Windows1252.{index, scalar_of, AreBytes}
 use Rattle.legacy_example.specs.declared.TheConstants.{OTHERS}
 

@@ -5,7 +5,7 @@
 ghost use Rattle.std.specs.Prelude.{◌≡◌, ℕ, ◌*◌, ◌≤◌, List, length, take, map, slice_index, encode_utf8_all};
 ghost use Rattle.std.specs.Char.Escape.{encode_utf16};
 ghost use Rattle.std.specs.List.{flat_map};
-ghost use Rattle.encoding_definitions.specs.Prefixes.{WritesPrefix};
+ghost use Rattle.encoding_text.specs.Prefixes.{WritesPrefix};
 ghost use Rattle.legacy_example.specs.Windows1252.{scalar_of, AreBytes};
 
 use encoding_runs::laws::{law_sequences, law_utf16_round_trip};

@@ -4,9 +4,9 @@ use Rattle.std.proofs.lemmas.List.{take_all, take_at, drop_all, nil_from_length,
 use Rattle.std.specs.Str.{IsUtf8}
 use Rattle.std.specs.Str.Lossy.{utf8_lossy}
 use Rattle.std.specs.Io.KnownBytes.{Consumes, IsAtEnd}
-use Rattle.encoding_definitions.specs.Prefixes.{WritesPrefix}
-use Rattle.encoding_definitions.specs.Parts.{Part, ArePartsOf, StartsWith, lossy_utf8}
-use Rattle.encoding_definitions.specs.Yielding.{Yields}
+use Rattle.encoding_text.specs.Prefixes.{WritesPrefix}
+use Rattle.encoding_text.specs.Parts.{Part, ArePartsOf, StartsWith, lossy_utf8}
+use Rattle.encoding_text.specs.Yielding.{Yields}
 use Rattle.encoding_runs.specs.Blocks.{IsBlockRepair}
 use Rattle.encoding_runs.specs.declared.repair.blocks.RepairedBlock.{RepairedBlock}
 use Rattle.encoding_runs.proofs.RepairLemmas.{pending_length}

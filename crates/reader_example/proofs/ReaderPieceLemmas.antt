@@ -5,10 +5,10 @@ use Rattle.std.proofs.lemmas.List.{length-take}
 use Rattle.std.proofs.lemmas.Str.{length-encode, len_utf8_bounds, encodes-chars}
 use Rattle.std.specs.Char.{IsScalar}
 use Rattle.std.specs.Str.{IsUtf8, all_scalars, chars}
-use Rattle.encoding_definitions.specs.Sequence.{IsSequence}
-use Rattle.encoding_definitions.specs.Parts.{Part, lossy_utf8}
-use Rattle.encoding_definitions.specs.Yielding.{Yields}
-use Rattle.encoding_definitions.proofs.Decomposition.DecompositionLemmas.{lossy_utf8-characters}
+use Rattle.encoding_text.specs.Sequence.{IsSequence}
+use Rattle.encoding_text.specs.Parts.{Part, lossy_utf8}
+use Rattle.encoding_text.specs.Yielding.{Yields}
+use Rattle.encoding_text.proofs.Decomposition.DecompositionLemmas.{lossy_utf8-characters}
 use Rattle.encoding_text.specs.Decoding.{BorrowedDecodeStep}
 use Rattle.encoding_text.specs.YieldedParts.{AreBorrowed}
 use Rattle.encoding_text.specs.declared.decoder.Piece.{Piece}

@@ -5,9 +5,9 @@ use Rattle.std.proofs.lemmas.Str.{length-encode, len_utf8_bounds, IsUtf8-append,
 use Rattle.std.specs.Str.{IsUtf8}
 use Rattle.std.specs.Str.Lossy.{utf8_lossy}
 use Rattle.std.specs.Io.KnownBytes.{Consumes, IsAtEnd, Keeps}
-use Rattle.encoding_definitions.specs.Parts.{Part, Character, IllFormed, StartsWith, ArePartsOf, lossy_utf8, lossy_scalar}
-use Rattle.encoding_definitions.specs.Yielding.{Yields}
-use Rattle.encoding_definitions.proofs.Decomposition.DecompositionLemmas.{StartsWith-append, lossy_utf8-append}
+use Rattle.encoding_text.specs.Parts.{Part, Character, IllFormed, StartsWith, ArePartsOf, lossy_utf8, lossy_scalar}
+use Rattle.encoding_text.specs.Yielding.{Yields}
+use Rattle.encoding_text.proofs.Decomposition.DecompositionLemmas.{StartsWith-append, lossy_utf8-append}
 use Rattle.decoder_example.proofs.YieldedLemmas.{first_parts}
 use Rattle.reader_example.specs.Reading.{text_from}
 

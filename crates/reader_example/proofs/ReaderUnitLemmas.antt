@@ -8,11 +8,11 @@ use Rattle.std.specs.Char.Escape.{encode_utf16}
 use Rattle.std.specs.List.{flat_map}
 use Rattle.std.specs.Str.{IsUtf8, all_scalars, chars}
 use Rattle.std.specs.Io.KnownBytes.{Consumes, IsAtEnd, Keeps}
-use Rattle.encoding_definitions.specs.Sequence.{IsSequence}
-use Rattle.encoding_definitions.specs.Surrogates.{IsValidUtf16}
-use Rattle.encoding_definitions.specs.Utf16.{Character16, ArePartsOf16}
-use Rattle.encoding_definitions.proofs.Sequences.SequenceLemmas.{length-IsSequence}
-use Rattle.encoding_definitions.proofs.Surrogates.SurrogateLemmas.{valid-encode}
+use Rattle.encoding_text.specs.Sequence.{IsSequence}
+use Rattle.encoding_text.specs.Surrogates.{IsValidUtf16}
+use Rattle.encoding_text.specs.Utf16.{Character16, ArePartsOf16}
+use Rattle.encoding_text.proofs.Sequences.SequenceLemmas.{length-IsSequence}
+use Rattle.encoding_text.proofs.Surrogates.SurrogateLemmas.{valid-encode}
 use Rattle.reader_example.specs.Reading.{YieldsCharacters, IsUtf16Character, units_from}
 
 abbrev pub utf16_of : List ℕ → List ℕ

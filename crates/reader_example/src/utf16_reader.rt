@@ -6,7 +6,7 @@ ghost use Rattle.std.specs.Io.KnownBytes.{Keeps, ReadConsumes, IsAtEnd};
 ghost use Rattle.std.specs.List.{flat_map};
 ghost use Rattle.std.specs.Str.{chars};
 ghost use Rattle.std.specs.Str.Lossy.{utf8_lossy};
-ghost use Rattle.encoding_definitions.specs.Surrogates.{IsValidUtf16};
+ghost use Rattle.encoding_text.specs.Surrogates.{IsValidUtf16};
 
 use crate::buffer::Buffer;
 use crate::utf8_reader::Utf8Reader;

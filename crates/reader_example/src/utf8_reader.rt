@@ -4,7 +4,7 @@ ghost use Rattle.std.specs.Io.{ReadsAtMost};
 ghost use Rattle.std.specs.Io.KnownBytes.{Keeps, ReadConsumes, IsAtEnd};
 ghost use Rattle.std.specs.Str.{IsUtf8};
 ghost use Rattle.std.specs.Str.Lossy.{utf8_lossy};
-ghost use Rattle.encoding_definitions.specs.Sequence.{IsSequence};
+ghost use Rattle.encoding_text.specs.Sequence.{IsSequence};
 ghost use Rattle.reader_example.specs.Reading.{text_for};
 
 use crate::buffer::Buffer;

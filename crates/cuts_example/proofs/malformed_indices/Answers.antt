@@ -1,6 +1,6 @@
 use Rattle.std.proofs.Common.{◌≡◌, ℕ, ◌+◌, ◌-◌, List, [], ◌∷◌, ◌++◌, length, take, drop, append_assoc, append-nil, refl, ap, sym, subst, ◌∙◌, arith}
 use Rattle.std.proofs.lemmas.List.{take_rest, length-drop, drop-drop}
-use Rattle.encoding_definitions.specs.Parts.{Part, ArePartsOf}
+use Rattle.encoding_runs.specs.Parts.{Part, ArePartsOf}
 use Rattle.encoding_runs.specs.MalformedSequences.{IsNextMalformed, AreFoundInTurn}
 use Rattle.cuts_example.proofs.malformed_indices.Goals as goal
 

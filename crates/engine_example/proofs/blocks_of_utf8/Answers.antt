@@ -1,7 +1,7 @@
 use Rattle.std.proofs.Common.{◌≡◌, [], List, ℕ, Vec, Global, Bor, take, arith, refl, sym, subst, true, false, append-nil}
 use Rattle.std.proofs.lemmas.Grind.{common_steps}
 use Rattle.std.proofs.lemmas.List.{flat_map_more}
-use Rattle.encoding_definitions.specs.Parts.{ArePartsOf}
+use Rattle.encoding_text.specs.Parts.{ArePartsOf}
 use Rattle.engine_example.proofs.EnginePieceLemmas.{flat_map-take, taken_on}
 use Rattle.engine_example.proofs.blocks_of_utf8.Goals as goal
 

@@ -1,5 +1,5 @@
 use Rattle.std.proofs.Common.{subst, ◌∙◌}
-use Rattle.encoding_definitions.specs.Utf16.{ArePartsOf16}
+use Rattle.encoding_text.specs.Utf16.{ArePartsOf16}
 use Rattle.engine_example.proofs.RoundTripLemmas.{text_repaired, utf8_to_utf16}
 use Rattle.engine_example.proofs.law_there_and_back.Goals as goal
 

@@ -1,7 +1,7 @@
 use Rattle.std.proofs.Common.{◌≡◌, ◌+◌, ◌++◌, false, true, [], List, ℕ, Vec, Global, take, arith, refl, ap, subst, ◌∙◌, append-nil}
 use Rattle.std.proofs.lemmas.Grind.{common_steps}
 use Rattle.std.specs.List.{flat_map}
-use Rattle.encoding_definitions.specs.Utf16.{ArePartsOf16}
+use Rattle.encoding_text.specs.Utf16.{ArePartsOf16}
 use Rattle.engine_example.specs.CutBlocks.{WritesBlock}
 use Rattle.engine_example.proofs.EngineBlockLemmas.{written_on, none_written}
 use Rattle.engine_example.proofs.EnginePieceLemmas.{flat_map-take}

@@ -1,5 +1,5 @@
 use Rattle.std.proofs.Common.{◌-◌, ◌≤◌, length, take, map}
-use Rattle.encoding_definitions.specs.Prefixes.{WritesPrefix}
+use Rattle.encoding_text.specs.Prefixes.{WritesPrefix}
 use Rattle.legacy_example.specs.Windows1252.{scalar_of}
 use Rattle.legacy_example.proofs.windows_1252_to_utf16.Given as goal
 

@@ -1,6 +1,6 @@
 use Rattle.std.proofs.Common.{[], sym, ap, ◌∙◌, arith}
 use Rattle.std.specs.List.{flat_map}
-use Rattle.encoding_definitions.specs.Utf16.{utf8_of_part16}
+use Rattle.encoding_text.specs.Utf16.{utf8_of_part16}
 use Rattle.engine_example.proofs.turns.law_turns.Goals as goal
 
 pub returns-clause-ends : goal.returns-clause-ends

@@ -1,7 +1,7 @@
 use Rattle.std.proofs.Common.{◌≡◌, ◌+◌, ◌*◌, ◌≤◌, ◌++◌, length, take, ap, sym, subst, ◌∙◌, arith}
 use Rattle.std.proofs.lemmas.Grind.{common_steps}
 use Rattle.std.proofs.lemmas.List.{take_at}
-use Rattle.encoding_definitions.specs.Utf16.{IsUtf8OfUnits}
+use Rattle.encoding_text.specs.Utf16.{IsUtf8OfUnits}
 use Rattle.encoding_runs.specs.Calls.{output_of}
 use Rattle.encoding_runs.specs.Runs.{EachMakesProgress}
 use Rattle.engine_example.proofs.turns.utf8_by_turns.Goals as goal

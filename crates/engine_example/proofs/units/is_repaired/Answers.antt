@@ -2,7 +2,7 @@ use Rattle.std.proofs.Common.{◌≡◌, subst, sym, arith}
 use Rattle.std.proofs.lemmas.Bool.Decides.{Decides-eqb}
 use Rattle.std.proofs.lemmas.Grind.{common_steps}
 use Rattle.std.proofs.lemmas.Slice.Eq.{slice_eq-Decides}
-use Rattle.encoding_definitions.specs.Surrogates.{AreRepairedUnits}
+use Rattle.encoding_text.specs.Surrogates.{AreRepairedUnits}
 use Rattle.engine_example.proofs.units.is_repaired.Goals as goal
 
 pub returns : goal.returns

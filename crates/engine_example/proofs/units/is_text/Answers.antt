@@ -2,7 +2,7 @@ use Rattle.std.proofs.Common.{◌↔◌, ◌≤◌, length, nat_eq, sym, subst, 
 use Rattle.std.specs.Prelude.{IsTrue}
 use Rattle.std.proofs.lemmas.Bool.Decides.{nat_tests}
 use Rattle.std.proofs.lemmas.List.{take_all}
-use Rattle.encoding_definitions.specs.Surrogates.{IsValidUtf16}
+use Rattle.encoding_text.specs.Surrogates.{IsValidUtf16}
 use Rattle.engine_example.proofs.units.is_text.Goals as goal
 
 pub returns : goal.returns

@@ -1,5 +1,5 @@
 use Rattle.std.proofs.Common.{sym, map}
-use Rattle.encoding_definitions.specs.Utf16.{Character16}
+use Rattle.encoding_text.specs.Utf16.{Character16}
 use Rattle.engine_example.proofs.EngineUnitLemmas.{written_same}
 use Rattle.engine_example.proofs.units.law_repair_first.Goals as goal
 

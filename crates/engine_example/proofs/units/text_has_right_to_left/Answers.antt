@@ -2,7 +2,7 @@ use Rattle.std.proofs.Common.{◌↔◌, inl, inr, subst}
 use Rattle.std.specs.Prelude.{Any}
 use Rattle.std.specs.Str.{chars}
 use Rattle.std.proofs.lemmas.Str.{encodes-chars, scalars-chars}
-use Rattle.encoding_definitions.specs.Bidi.{IsRightToLeft, IsBidiBytes}
+use Rattle.encoding_text.specs.Bidi.{IsRightToLeft, IsBidiBytes}
 use Rattle.engine_example.proofs.units.text_has_right_to_left.Goals as goal
 
 pub returns : goal.returns

@@ -2,8 +2,8 @@ use Rattle.std.proofs.Common.{length, take, sym, ap, subst, ◌∙◌, arith}
 use Rattle.std.proofs.lemmas.Str.{IsUtf8-nil}
 use Rattle.std.specs.Str.{IsUtf8}
 use Rattle.std.specs.Io.KnownBytes.{Consumes}
-use Rattle.encoding_definitions.specs.Sequence.{IsSequence}
-use Rattle.encoding_definitions.proofs.LongestPrefixes.Utf8Lemmas.{IsUtf8-sequence}
+use Rattle.encoding_text.specs.Sequence.{IsSequence}
+use Rattle.encoding_text.proofs.LongestPrefixes.Utf8Lemmas.{IsUtf8-sequence}
 use Rattle.reader_example.specs.Reading.{IsUtf16Character}
 use Rattle.reader_example.proofs.ReaderBlockLemmas.{some_length, written_prefix}
 use Rattle.reader_example.proofs.CharacterLemmas.{character_text}

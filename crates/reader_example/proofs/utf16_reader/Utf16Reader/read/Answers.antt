@@ -1,7 +1,7 @@
 use Rattle.std.proofs.Common.{◌≡◌, [], ◌==◌, length, sym, ap, subst, ◌∙◌}
 use Rattle.std.proofs.lemmas.Bool.{both_ways, eqb-true}
 use Rattle.std.proofs.lemmas.List.{nil_from_length}
-use Rattle.encoding_definitions.specs.Surrogates.{IsValidUtf16}
+use Rattle.encoding_text.specs.Surrogates.{IsValidUtf16}
 use Rattle.reader_example.specs.Reading.{IsUtf16Character, half_of}
 use Rattle.reader_example.proofs.CharacterLemmas.{yields_held}
 use Rattle.reader_example.proofs.ReaderUnitLemmas.{valid_nothing, valid_character}

@@ -3,8 +3,8 @@ use Rattle.std.proofs.lemmas.Bool.{both_ways, eqb-true}
 use Rattle.std.proofs.lemmas.List.{nil_from_length}
 use Rattle.std.proofs.lemmas.Str.{IsUtf8-nil}
 use Rattle.std.specs.Str.{IsUtf8}
-use Rattle.encoding_definitions.proofs.LongestPrefixes.Utf8Lemmas.{IsUtf8-sequence}
-use Rattle.encoding_definitions.specs.Sequence.{IsSequence}
+use Rattle.encoding_text.proofs.LongestPrefixes.Utf8Lemmas.{IsUtf8-sequence}
+use Rattle.encoding_text.specs.Sequence.{IsSequence}
 use Rattle.reader_example.specs.Reading.{held_of}
 use Rattle.reader_example.proofs.CharacterLemmas.{yields_held}
 use Rattle.reader_example.proofs.utf8_reader.Utf8ReaderRead.read.Goals.{then-is_empty-2+else-dst-ge-BLOCK_LENGTH+in_ok-hold, else-is_empty-2}
