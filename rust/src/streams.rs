@@ -141,9 +141,15 @@ impl<R, U: Unit> Decoding<R, U> {
 }
 
 impl<R: Read, U: Unit> Decoding<R, U> {
-    /// Asks the reader for more after all is read. If it fails nothing is lost.
+    /// Asks the reader for more after all is read. If it fails nothing is lost. A count is tested before it is stored:
+    /// one that is too large would otherwise panic in every later read.
     fn fill(&mut self) -> io::Result<()> {
         let count = self.reader.read(&mut self.block)?;
+        let most = self.block.len();
+        assert!(
+            count <= most,
+            "the inner reader returned {count} bytes, more than the {most} requested"
+        );
         (self.start, self.end) = (0, count);
         self.is_ended = count == 0;
         Ok(())
@@ -238,6 +244,11 @@ reader! {
     /// whole, in any pieces and rooms. The loop around them, the block of bytes and the characters that wait are the
     /// crate's.
     ///
+    /// # Panics
+    ///
+    /// A read panics if the inner reader returns a greater count than was requested. Later reads go on as if that one
+    /// had failed.
+    ///
     /// ```
     /// use std::io::Read;
     /// let mut reader = encoding_text::Repair::new(&b"a\xE2\x98\x83\xE2\x98Z"[..]);
@@ -266,6 +277,11 @@ reader! {
     /// Each call of the decoder is [proved](crate::promises#streams), and also that such calls yield the text of the
     /// whole, in any pieces and rooms. The loop around them, the block of bytes and the characters that wait are the
     /// crate's.
+    ///
+    /// # Panics
+    ///
+    /// A read panics if the inner reader returns a greater count than was requested. Later reads go on as if that one
+    /// had failed.
     ///
     /// ```
     /// let mut reader = encoding_text::DecodeUtf16::new(&b"a\xF0\x9F\x98\x80\xFF"[..]);
