@@ -66,7 +66,7 @@ impl<W: Write + ?Sized> Together<'_, W> {
 }
 
 /// Writes the bytes as text, with U+FFFD for each malformed sequence, and returns the number of malformed sequences.
-/// Allocates nothing, and doesn't flush the sink.
+/// Allocates nothing, and doesn't flush the sink. What is short is written together, up to 4,096 bytes at once.
 ///
 /// Each well-formed stretch and each malformed sequence is found by a call that is [proved](crate::promises#repair);
 /// the crate writes them in order. Requires the feature `std`.
