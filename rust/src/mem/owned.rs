@@ -5,7 +5,8 @@ use super::str_latin1_up_to;
 use crate::c;
 use alloc::borrow::Cow;
 
-/// Returns the text whose characters are the bytes: borrowed if they are ASCII, else owned, with one allocation.
+/// Returns the text whose characters are the bytes: borrowed if they are ASCII, else owned, with one allocation, of the
+/// length of the ASCII prefix plus twice that of the rest.
 ///
 /// Both calls that it makes, one for the ASCII prefix and one for the rest, are [proved](crate::promises#mem); the crate
 /// joins their results. Requires the feature `alloc`.
@@ -23,7 +24,8 @@ pub fn decode_latin1(bytes: &[u8]) -> Cow<'_, str> {
     Cow::Owned(c::latin1_to_string(bytes, prefix.len()))
 }
 
-/// Returns the characters of a text of Latin1 as bytes: borrowed if they are ASCII, else owned, with one allocation.
+/// Returns the characters of a text of Latin1 as bytes: borrowed if they are ASCII, else owned, with one allocation, of
+/// the length of the text.
 ///
 /// Both calls that it makes, one for the ASCII prefix and one for the rest, are [proved](crate::promises#mem); the crate
 /// joins their results. It also decides about a text that is not Latin1: without debug assertions only its longest prefix
