@@ -86,10 +86,10 @@ static void settings(void)
     };
     for (size_t i = 0; i < sizeof rows / sizeof rows[0]; i++) {
         char *entry = (char *)rows[i].entry;
-        char *alone[] = {entry, NULL};
+        char *only[] = {entry, NULL};
         char *last[] = {(char *)"PATH=/usr/bin", entry, NULL};
         char *first[] = {entry, (char *)"PATH=/usr/bin", NULL};
-        count(asks_for_v2(alone) == rows[i].asks, rows[i].entry);
+        count(asks_for_v2(only) == rows[i].asks, rows[i].entry);
         count(asks_for_v2(last) == rows[i].asks, rows[i].entry);
         count(asks_for_v2(first) == rows[i].asks, rows[i].entry);
     }
