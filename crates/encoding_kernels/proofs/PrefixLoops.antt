@@ -1,3 +1,5 @@
 pub mod TextUnitsLemmas
 pub mod TextLoopLemmas
 pub mod TextTailLemmas
+pub mod StrideLoopLemmas
+pub mod StrideCopyLemmas

@@ -1,8 +1,9 @@
 //! Scans slices by vectors for the longest prefix of units below a bound.
 mod ascii_copies;
 mod copies;
+mod stride_copies;
 
-ghost use Rattle.std.specs.Prelude.{◌↔◌, ◌+◌, ◌<◌, ◌≤◌, length, slice_index, EachIndex, IsTrue};
+ghost use Rattle.std.specs.Prelude.{◌≡◌, ◌↔◌, ◌+◌, ◌<◌, ◌≤◌, length, slice_index, EachIndex, IsTrue};
 ghost use Rattle.encoding_kernels.specs.Strides.{AllBelow, BelowUpTo, IsRunBelow};
 
 use crate::places::{Places, all, find, reach, run, skip};
@@ -12,12 +13,13 @@ pub(crate) use copies::LANES;
 pub use copies::{copy_prefix, pack_lower, unpack, write_first};
 use std::simd::Simd;
 use std::simd::prelude::*;
+pub use stride_copies::{copy_first, copy_part, pack_first, pack_part, unpack_first, unpack_part};
 
 /// The number of bytes in a block.
 pub const BLOCK: usize = 64;
 
 /// The number of bytes in four blocks.
-pub(crate) const FOUR_BLOCKS: usize = 256;
+pub const FOUR_BLOCKS: usize = 256;
 
 /// The number of bytes in eight blocks.
 const EIGHT_BLOCKS: usize = 512;
@@ -25,11 +27,17 @@ const EIGHT_BLOCKS: usize = 512;
 /// The number of units in a stride, a vector of bytes.
 pub const STRIDE: usize = 16;
 
+/// The number of strides in a block.
+pub const FOUR: usize = 4;
+
+/// The number of strides in four blocks.
+pub const SIXTEEN: usize = 16;
+
 /// The number of units in half a stride.
 pub const HALF_STRIDE: usize = 8;
 
 /// The number of UTF-16 code units that one test covers.
-pub(crate) const UNIT_BLOCK: usize = 64;
+pub const UNIT_BLOCK: usize = 64;
 
 /// The number of UTF-16 code units that one test covers in a text shorter than a block.
 pub const HALF_UNIT_BLOCK: usize = 32;
@@ -94,11 +102,20 @@ pub fn are_bytes_below<const N: usize>(bytes: &[u8], at: usize, bound: u8) -> bo
 
 /// Returns whether each of the N UTF-16 code units from `at` on is below the bound.
 #[inline(always)]
-pub(crate) fn are_units_below<const N: usize>(units: &[u16], at: usize, bound: u16) -> bool
+pub fn are_units_below<const N: usize>(units: &[u16], at: usize, bound: u16) -> bool
     requires { (at + N ≤ length units.now) × (0 < N) × (N ≤ 64) }
     ensures { IsTrue result ↔ AllBelow bound units.now at N }
 {
     all::<N, N, _>(&UnitsBelow { units, bound }, at)
+}
+
+/// Returns whether each of the bytes of four blocks is below the bound, by one test.
+#[inline(always)]
+pub fn are_four_blocks_below(bytes: &[u8], bound: u8) -> bool
+    requires { length bytes.now ≡ 256 }
+    ensures { IsTrue result ↔ AllBelow bound bytes.now 0 256 }
+{
+    all::<BLOCK, FOUR_BLOCKS, _>(&BytesBelow { bytes, bound }, 0)
 }
 
 /// Returns how many of the N bytes from `at` on precede the first that isn't below the bound.
@@ -108,6 +125,15 @@ pub fn run_len_below<const N: usize>(bytes: &[u8], at: usize, bound: u8) -> usiz
     ensures { IsRunBelow bound bytes.now at N result }
 {
     run::<N, _>(&BytesBelow { bytes, bound }, at)
+}
+
+/// Returns how many of the N UTF-16 code units from `at` on precede the first that isn't below the bound.
+#[inline(always)]
+pub fn units_run_len_below<const N: usize>(units: &[u16], at: usize, bound: u16) -> usize
+    requires { (at + N ≤ length units.now) × (0 < N) × (N ≤ 64) }
+    ensures { IsRunBelow bound units.now at N result }
+{
+    run::<N, _>(&UnitsBelow { units, bound }, at)
 }
 
 /// Returns the length of the longest prefix of bytes below `bound`. Checks the first vector separately, since most

@@ -7,7 +7,9 @@ ghost use Rattle.encoding_definitions.specs.Ascii.{IsFirstOther, prefix_length_b
 ghost use Rattle.encoding_definitions.specs.Prefixes.{IsLongestPrefix, WritesPrefix};
 
 use encoding_kernels::strides::{
-    ASCII_END, BLOCK, HALF_UNIT_BLOCK, STRIDE, copy_ascii_prefix, prefix_len_below,
+    ASCII_END, BASIC_LATIN_END, BLOCK, FOUR, FOUR_BLOCKS, SIXTEEN, STRIDE, UNIT_BLOCK,
+    are_bytes_below, are_four_blocks_below, are_units_below, copy_first, copy_part, pack_first,
+    pack_part, run_len_below, units_run_len_below, unpack_first, unpack_part,
 };
 use std::simd::prelude::*;
 
@@ -28,12 +30,41 @@ const SHIFT_IN: u8 = 0x0F;
 pub fn validate_ascii(bytes: &[u8]) -> Option<(u8, usize)>
     ensures { IsFirstOther bytes.now result }
 {
-    let prefix = prefix_len_below(bytes, ASCII_END);
-    if prefix < bytes.len() {
-        Some((bytes[prefix], prefix))
-    } else {
-        None
+    let (strides, _) = bytes.as_chunks::<STRIDE>();
+    if let Some(first) = strides.first() {
+        let run = run_len_below::<STRIDE>(first, 0, ASCII_END);
+        if run < STRIDE {
+            return Some((bytes[run], run));
+        }
     }
+    let (sixteens, _) = strides.as_chunks::<SIXTEEN>();
+    let mut at = 0;
+    for sixteen in sixteens {
+        if !are_four_blocks_below(sixteen.as_flattened(), ASCII_END) {
+            break;
+        }
+        at += FOUR_BLOCKS;
+    }
+    let (fours, _) = strides.as_chunks::<FOUR>();
+    for i in at / BLOCK..fours.len() {
+        if !are_bytes_below::<BLOCK>(fours[i].as_flattened(), 0, ASCII_END) {
+            break;
+        }
+        at += BLOCK;
+    }
+    for i in at / STRIDE..strides.len() {
+        let run = run_len_below::<STRIDE>(&strides[i], 0, ASCII_END);
+        if run < STRIDE {
+            return Some((bytes[at + run], at + run));
+        }
+        at += STRIDE;
+    }
+    for i in at..bytes.len() {
+        if bytes[i] >= ASCII_END {
+            return Some((bytes[i], i));
+        }
+    }
+    None
 }
 
 /// Returns the length of the longest ASCII prefix.
@@ -41,10 +72,41 @@ pub fn validate_ascii(bytes: &[u8]) -> Option<(u8, usize)>
 pub fn ascii_valid_up_to(bytes: &[u8]) -> usize
     ensures { IsLongestPrefix IsAscii bytes.now result }
 {
-    match validate_ascii(bytes) {
-        Some((_, place)) => place,
-        None => bytes.len(),
+    let (strides, _) = bytes.as_chunks::<STRIDE>();
+    if let Some(first) = strides.first() {
+        let run = run_len_below::<STRIDE>(first, 0, ASCII_END);
+        if run < STRIDE {
+            return run;
+        }
     }
+    let (sixteens, _) = strides.as_chunks::<SIXTEEN>();
+    let mut at = 0;
+    for sixteen in sixteens {
+        if !are_four_blocks_below(sixteen.as_flattened(), ASCII_END) {
+            break;
+        }
+        at += FOUR_BLOCKS;
+    }
+    let (fours, _) = strides.as_chunks::<FOUR>();
+    for i in at / BLOCK..fours.len() {
+        if !are_bytes_below::<BLOCK>(fours[i].as_flattened(), 0, ASCII_END) {
+            break;
+        }
+        at += BLOCK;
+    }
+    for i in at / STRIDE..strides.len() {
+        let run = run_len_below::<STRIDE>(&strides[i], 0, ASCII_END);
+        if run < STRIDE {
+            return at + run;
+        }
+        at += STRIDE;
+    }
+    for i in at..bytes.len() {
+        if bytes[i] >= ASCII_END {
+            return i;
+        }
+    }
+    bytes.len()
 }
 
 /// Returns how many bytes of a stride come before the first that isn't ASCII, or is an escape or shift byte.
@@ -94,12 +156,41 @@ pub fn ascii_to_ascii(src: &[u8], dst: &mut [u8]) -> Option<(u8, usize)>
     ensures copied { let n = prefix_length_by (take (length dst.old) src.now) result in
         WritesPrefix dst.old dst.new n (take n src.now) }
 {
-    let prefix = copy_ascii_prefix::<BLOCK, u8, u8>(src, dst);
-    if prefix < src.len() && prefix < dst.len() {
-        Some((src[prefix], prefix))
-    } else {
-        None
+    let fitting = &src[..src.len().min(dst.len())];
+    let (strides, _) = fitting.as_chunks::<STRIDE>();
+    if let Some(first) = strides.first() {
+        let run = run_len_below::<STRIDE>(first, 0, ASCII_END);
+        if run < STRIDE {
+            copy_first(first, dst, 0, run);
+            return Some((fitting[run], run));
+        }
     }
+    let (fours, _) = strides.as_chunks::<FOUR>();
+    let mut at = 0;
+    for four in fours {
+        let block = four.as_flattened();
+        if !are_bytes_below::<BLOCK>(block, 0, ASCII_END) {
+            break;
+        }
+        copy_part::<BLOCK>(block, dst, at);
+        at += BLOCK;
+    }
+    for i in at / STRIDE..strides.len() {
+        let run = run_len_below::<STRIDE>(&strides[i], 0, ASCII_END);
+        if run < STRIDE {
+            copy_first(&strides[i], dst, at, run);
+            return Some((fitting[at + run], at + run));
+        }
+        copy_part::<STRIDE>(&strides[i], dst, at);
+        at += STRIDE;
+    }
+    for i in at..fitting.len() {
+        if fitting[i] >= ASCII_END {
+            return Some((fitting[i], i));
+        }
+        dst[i] = fitting[i];
+    }
+    None
 }
 
 /// Copies the longest ASCII prefix, each byte as a UTF-16 code unit, up to the shorter of the two lengths. Returns the
@@ -110,12 +201,41 @@ pub fn ascii_to_basic_latin(src: &[u8], dst: &mut [u16]) -> Option<(u8, usize)>
     ensures copied { let n = prefix_length_by (take (length dst.old) src.now) result in
         WritesPrefix dst.old dst.new n (take n src.now) }
 {
-    let prefix = copy_ascii_prefix::<BLOCK, u16, u8>(src, dst);
-    if prefix < src.len() && prefix < dst.len() {
-        Some((src[prefix], prefix))
-    } else {
-        None
+    let fitting = &src[..src.len().min(dst.len())];
+    let (strides, _) = fitting.as_chunks::<STRIDE>();
+    if let Some(first) = strides.first() {
+        let run = run_len_below::<STRIDE>(first, 0, ASCII_END);
+        if run < STRIDE {
+            unpack_first(first, dst, 0, run);
+            return Some((fitting[run], run));
+        }
     }
+    let (fours, _) = strides.as_chunks::<FOUR>();
+    let mut at = 0;
+    for four in fours {
+        let block = four.as_flattened();
+        if !are_bytes_below::<BLOCK>(block, 0, ASCII_END) {
+            break;
+        }
+        unpack_part::<BLOCK>(block, dst, at);
+        at += BLOCK;
+    }
+    for i in at / STRIDE..strides.len() {
+        let run = run_len_below::<STRIDE>(&strides[i], 0, ASCII_END);
+        if run < STRIDE {
+            unpack_first(&strides[i], dst, at, run);
+            return Some((fitting[at + run], at + run));
+        }
+        unpack_part::<STRIDE>(&strides[i], dst, at);
+        at += STRIDE;
+    }
+    for i in at..fitting.len() {
+        if fitting[i] >= ASCII_END {
+            return Some((fitting[i], i));
+        }
+        dst[i] = u16::from(fitting[i]);
+    }
+    None
 }
 
 /// Copies the longest ASCII prefix of UTF-16 code units, each as a byte, up to the shorter of the two lengths. Returns
@@ -126,10 +246,39 @@ pub fn basic_latin_to_ascii(src: &[u16], dst: &mut [u8]) -> Option<(u16, usize)>
     ensures copied { let n = prefix_length_by (take (length dst.old) src.now) result in
         WritesPrefix dst.old dst.new n (take n src.now) }
 {
-    let prefix = copy_ascii_prefix::<HALF_UNIT_BLOCK, u8, u16>(src, dst);
-    if prefix < src.len() && prefix < dst.len() {
-        Some((src[prefix], prefix))
-    } else {
-        None
+    let fitting = &src[..src.len().min(dst.len())];
+    let (strides, _) = fitting.as_chunks::<STRIDE>();
+    if let Some(first) = strides.first() {
+        let run = units_run_len_below::<STRIDE>(first, 0, BASIC_LATIN_END);
+        if run < STRIDE {
+            pack_first(first, dst, 0, run);
+            return Some((fitting[run], run));
+        }
     }
+    let (fours, _) = strides.as_chunks::<FOUR>();
+    let mut at = 0;
+    for four in fours {
+        let block = four.as_flattened();
+        if !are_units_below::<UNIT_BLOCK>(block, 0, BASIC_LATIN_END) {
+            break;
+        }
+        pack_part::<UNIT_BLOCK>(block, dst, at);
+        at += UNIT_BLOCK;
+    }
+    for i in at / STRIDE..strides.len() {
+        let run = units_run_len_below::<STRIDE>(&strides[i], 0, BASIC_LATIN_END);
+        if run < STRIDE {
+            pack_first(&strides[i], dst, at, run);
+            return Some((fitting[at + run], at + run));
+        }
+        pack_part::<STRIDE>(&strides[i], dst, at);
+        at += STRIDE;
+    }
+    for i in at..fitting.len() {
+        if fitting[i] >= BASIC_LATIN_END {
+            return Some((fitting[i], i));
+        }
+        dst[i] = fitting[i] as u8;
+    }
+    None
 }

@@ -5,7 +5,7 @@ use Rattle.std.proofs.lemmas.List.{drop-take, take-take, get_or-take, get_or-dro
 use Rattle.std.specs.Simd.{first_chunks}
 
 -- stride i of a list
-pub numbered : (n k : ℕ) (xs : List ℕ) (i : ℕ) (d : List ℕ) → i < k → get_or (first_chunks n k xs) i d ≡ take n (drop (i * n) xs)
+pub numbered : {X : Type 0} (n k : ℕ) (xs : List X) (i : ℕ) (d : List X) → i < k → get_or (first_chunks n k xs) i d ≡ take n (drop (i * n) xs)
 numbered n zero xs i d h = absurd (omega arith)
 numbered n (suc k) xs zero d h = let e : 0 * n ≡ 0 = omega arith in rw e refl
 numbered n (suc k) xs (suc i) d h =

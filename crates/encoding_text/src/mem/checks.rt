@@ -10,8 +10,9 @@ use crate::ascii::ascii_valid_up_to;
 use encoding_kernels::pair_blocks::{BEYOND_LATIN1, latin1_blocks};
 use encoding_kernels::sequence::is_continuation;
 use encoding_kernels::strides::{
-    ASCII_END, BASIC_LATIN_END, STRIDE, all_below, are_all_units_below, prefix_after_stride,
-    prefix_len_below, run_len_below,
+    ASCII_END, BASIC_LATIN_END, BLOCK, FOUR, FOUR_BLOCKS, SIXTEEN, STRIDE, UNIT_BLOCK,
+    are_all_units_below, are_bytes_below, are_four_blocks_below, are_units_below,
+    prefix_after_stride, prefix_len_below, run_len_below,
 };
 
 /// The least UTF-16 code unit that isn't Latin1.
@@ -24,14 +25,71 @@ const LATIN1_LEAD: u8 = 0xC2;
 pub fn is_ascii(buffer: &[u8]) -> bool
     ensures { IsTrue result ↔ IsAscii buffer.now }
 {
-    all_below(buffer, ASCII_END)
+    let (strides, _) = buffer.as_chunks::<STRIDE>();
+    if let Some(first) = strides.first() {
+        if !are_bytes_below::<STRIDE>(first, 0, ASCII_END) {
+            return false;
+        }
+    }
+    let (sixteens, _) = strides.as_chunks::<SIXTEEN>();
+    let mut at = 0;
+    for sixteen in sixteens {
+        if !are_four_blocks_below(sixteen.as_flattened(), ASCII_END) {
+            return false;
+        }
+        at += FOUR_BLOCKS;
+    }
+    let (fours, _) = strides.as_chunks::<FOUR>();
+    for i in at / BLOCK..fours.len() {
+        if !are_bytes_below::<BLOCK>(fours[i].as_flattened(), 0, ASCII_END) {
+            return false;
+        }
+        at += BLOCK;
+    }
+    for i in at / STRIDE..strides.len() {
+        if !are_bytes_below::<STRIDE>(&strides[i], 0, ASCII_END) {
+            return false;
+        }
+        at += STRIDE;
+    }
+    for i in at..buffer.len() {
+        if buffer[i] >= ASCII_END {
+            return false;
+        }
+    }
+    true
 }
 
 /// Returns whether each UTF-16 code unit is ASCII.
 pub fn is_basic_latin(buffer: &[u16]) -> bool
     ensures { IsTrue result ↔ IsAscii buffer.now }
 {
-    are_all_units_below(buffer, BASIC_LATIN_END)
+    let (strides, _) = buffer.as_chunks::<STRIDE>();
+    if let Some(first) = strides.first() {
+        if !are_units_below::<STRIDE>(first, 0, BASIC_LATIN_END) {
+            return false;
+        }
+    }
+    let (fours, _) = strides.as_chunks::<FOUR>();
+    let mut at = 0;
+    for four in fours {
+        if !are_units_below::<UNIT_BLOCK>(four.as_flattened(), 0, BASIC_LATIN_END) {
+            return false;
+        }
+        at += UNIT_BLOCK;
+    }
+    for i in at / STRIDE..strides.len() {
+        if !are_units_below::<STRIDE>(&strides[i], 0, BASIC_LATIN_END) {
+            return false;
+        }
+        at += STRIDE;
+    }
+    for i in at..buffer.len() {
+        if buffer[i] >= BASIC_LATIN_END {
+            return false;
+        }
+    }
+    true
 }
 
 /// Returns whether the bytes are well-formed UTF-8 whose scalar values are each up to U+00FF.
@@ -52,7 +110,32 @@ pub fn is_str_latin1(buffer: &str) -> bool
 pub fn is_utf16_latin1(buffer: &[u16]) -> bool
     ensures { IsTrue result ↔ IsLatin1 buffer.now }
 {
-    are_all_units_below(buffer, LATIN1_END)
+    let (strides, _) = buffer.as_chunks::<STRIDE>();
+    if let Some(first) = strides.first() {
+        if !are_units_below::<STRIDE>(first, 0, LATIN1_END) {
+            return false;
+        }
+    }
+    let (fours, _) = strides.as_chunks::<FOUR>();
+    let mut at = 0;
+    for four in fours {
+        if !are_units_below::<UNIT_BLOCK>(four.as_flattened(), 0, LATIN1_END) {
+            return false;
+        }
+        at += UNIT_BLOCK;
+    }
+    for i in at / STRIDE..strides.len() {
+        if !are_units_below::<STRIDE>(&strides[i], 0, LATIN1_END) {
+            return false;
+        }
+        at += STRIDE;
+    }
+    for i in at..buffer.len() {
+        if buffer[i] >= LATIN1_END {
+            return false;
+        }
+    }
+    true
 }
 
 /// Returns the length of the longest prefix that is the UTF-8 of scalar values up to U+00FF.

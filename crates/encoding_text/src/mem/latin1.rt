@@ -8,7 +8,7 @@ ghost use Rattle.encoding_definitions.specs.Latin1.{IsUtf8Latin1};
 
 use encoding_kernels::latin1_to_utf8::write_latin1;
 use encoding_kernels::strides::{
-    ASCII_END, STRIDE, are_bytes_below, copy_ascii, pack_lower, unpack, write_first,
+    ASCII_END, FOUR, STRIDE, are_bytes_below, copy_ascii, pack_lower, unpack_part, write_first,
 };
 use encoding_kernels::utf8_to_latin1::latin1_of;
 use std::simd::prelude::*;
@@ -21,17 +21,18 @@ pub fn convert_latin1_to_utf16(src: &[u8], dst: &mut [u16])
     requires dst_length { length src.now ≤ length dst.old }
     ensures written { WritesPrefix dst.old dst.new (length src.now) src.now }
 {
+    let (strides, _) = src.as_chunks::<STRIDE>();
+    let (fours, _) = strides.as_chunks::<FOUR>();
     let mut at = 0;
-    // four at a time, stored in order: one vector of as many bytes is stored out of order
-    while src.len() - at >= 4 * STRIDE {
-        unpack::<STRIDE>(src, dst, at);
-        unpack::<STRIDE>(src, dst, at + STRIDE);
-        unpack::<STRIDE>(src, dst, at + 2 * STRIDE);
-        unpack::<STRIDE>(src, dst, at + 3 * STRIDE);
-        at += 4 * STRIDE;
+    for four in fours {
+        // stored in order: one vector of as many bytes is stored out of order
+        for stride in four {
+            unpack_part::<STRIDE>(stride, dst, at);
+            at += STRIDE;
+        }
     }
-    while src.len() - at >= STRIDE {
-        unpack::<STRIDE>(src, dst, at);
+    for i in at / STRIDE..strides.len() {
+        unpack_part::<STRIDE>(&strides[i], dst, at);
         at += STRIDE;
     }
     for i in at..src.len() {

@@ -1,8 +1,87 @@
-use Rattle.std.proofs.Common.{arith, length}
-use Rattle.encoding_kernels.proofs.LatinBlocks.AsciiLemmas.{IsFirstOther-at}
+use Rattle.std.proofs.Common.{[], Some, None, take, slice_index, length, ◌+◌, ◌<◌, ◌≤◌, refl, arith}
+use Rattle.encoding_kernels.proofs.LatinBlocks.AsciiLemmas.{WritesPrefix_copy}
+use Rattle.encoding_definitions.proofs.LongestPrefixes.PrefixesLemmas.{WritesPrefix-length}
+use Rattle.encoding_kernels.proofs.PrefixLoops.StrideLoopLemmas.{first_part, stride_part, group_part, below_more}
+use Rattle.encoding_kernels.proofs.PrefixLoops.StrideCopyLemmas.{first_other_in, first_other_first, first_other_at, below_next, copied_part, copied_first, copied_start, fitting_room, found_fitting, found_none, copied_fitting, copied_all}
 use Rattle.encoding_text.proofs.ascii.ascii_to_ascii.Goals as goal
 
-pub returns-then-prefix-dst-clause-found : goal.returns-then-prefix-dst-clause-found
-returns-then-prefix-dst-clause-found c =
-    let prefix = c.copy_ascii_prefix-prefix in
-    IsFirstOther-at c.args.src.now (length c.args.dst.now) prefix.result (omega arith) (omega arith) (prefix.ensures.copies.ascii (λ k l. absurd (omega arith))) (prefix.ensures.stops (omega arith) (omega arith))
+pub returns-then-run-lt-STRIDE-clause-found : goal.returns-then-run-lt-STRIDE-clause-found
+returns-then-run-lt-STRIDE-clause-found c =
+    let xs = take c.min.result c.args.src.now in
+    let part = first_part 16 xs c.in-Some.first.now c.as_chunks.ensures.front c.as_chunks.ensures.front_len c.in-Some.ensures.value in
+    let found = first_other_first part c.run_len_below-run.ensures c.if-run-lt-STRIDE.true in
+    found_fitting c.args.src.now c.args.dst.now c.min.result c.min.ensures (Some (slice_index xs c.run_len_below-run.result, c.run_len_below-run.result)) found
+
+pub returns-then-run-lt-STRIDE-clause-copied : goal.returns-then-run-lt-STRIDE-clause-copied
+returns-then-run-lt-STRIDE-clause-copied c =
+    let xs = take c.min.result c.args.src.now in
+    let part = first_part 16 xs c.in-Some.first.now c.as_chunks.ensures.front c.as_chunks.ensures.front_len c.in-Some.ensures.value in
+    let room = fitting_room c.args.src.now c.args.dst.now c.min.result c.min.ensures in
+    let copied = copied_start part room c.run_len_below-run.result c.run_len_below-run.ensures.within c.copy_first.ensures in
+    copied_fitting c.args.src.now c.args.dst.now c.min.result c.min.ensures copied
+
+pub loop-four-preserved : goal.loop-four-preserved
+loop-four-preserved c =
+    let here = c.loop-four.invariant in
+    let xs = take c.min.result c.args.src.now in
+    let part = group_part 16 xs c.as_chunks.ensures.front c.as_chunks.ensures.front_len 4 [] c.as_chunks-2.ensures.front c.as_chunks-2.ensures.front_len c.loop-four-test.true c.as_flattened-block.ensures.value here.place in
+    let room = fitting_room c.args.src.now c.args.dst.now c.min.result c.min.ensures in
+    record {
+      place = omega (arith, here.place);
+      below = below_more part here.below 64 (omega arith) (c.if-not-are_bytes_below.ensures.0 refl);
+      copied = copied_part part here.copied room c.copy_part.ensures;
+    }
+
+pub returns-then-run-lt-STRIDE-2-clause-found : goal.returns-then-run-lt-STRIDE-2-clause-found
+returns-then-run-lt-STRIDE-2-clause-found c =
+    let here = c.loop-i.invariant in
+    let xs = take c.min.result c.args.src.now in
+    let part = stride_part 16 xs c.as_chunks.ensures.front c.as_chunks.ensures.front_len [] here.place c.loop-i-test.true in
+    let found = first_other_in part here.below c.run_len_below-run-in-loop-i.ensures c.if-run-lt-STRIDE-2.true in
+    found_fitting c.args.src.now c.args.dst.now c.min.result c.min.ensures (Some (slice_index xs (c.loop-i.at + c.run_len_below-run-in-loop-i.result), c.loop-i.at + c.run_len_below-run-in-loop-i.result)) found
+
+pub returns-then-run-lt-STRIDE-2-clause-copied : goal.returns-then-run-lt-STRIDE-2-clause-copied
+returns-then-run-lt-STRIDE-2-clause-copied c =
+    let here = c.loop-i.invariant in
+    let xs = take c.min.result c.args.src.now in
+    let part = stride_part 16 xs c.as_chunks.ensures.front c.as_chunks.ensures.front_len [] here.place c.loop-i-test.true in
+    let room = fitting_room c.args.src.now c.args.dst.now c.min.result c.min.ensures in
+    let copied = copied_first part here.copied room c.run_len_below-run-in-loop-i.result c.run_len_below-run-in-loop-i.ensures.within c.copy_first-then-run-lt-STRIDE-2.ensures in
+    copied_fitting c.args.src.now c.args.dst.now c.min.result c.min.ensures copied
+
+pub loop-i-preserved : goal.loop-i-preserved
+loop-i-preserved c =
+    let here = c.loop-i.invariant in
+    let xs = take c.min.result c.args.src.now in
+    let part = stride_part 16 xs c.as_chunks.ensures.front c.as_chunks.ensures.front_len [] here.place c.loop-i-test.true in
+    let run = c.run_len_below-run-in-loop-i.ensures in
+    let room = fitting_room c.args.src.now c.args.dst.now c.min.result c.min.ensures in
+    record {
+      place = omega (arith, here.place);
+      below = below_more part here.below 16 (omega arith) (λ k from to. run.pass k from (omega (arith, to, c.if-run-lt-STRIDE-2.false)));
+      copied = copied_part part here.copied room c.copy_part-in-loop-i.ensures;
+    }
+
+pub returns-then-fitting-i-ge-ASCII_END-clause-found : goal.returns-then-fitting-i-ge-ASCII_END-clause-found
+returns-then-fitting-i-ge-ASCII_END-clause-found c =
+    let xs = take c.min.result c.args.src.now in
+    let found = first_other_at xs c.loop-i-2.i c.loop-i-2-test.true c.loop-i-2.invariant.below c.if-fitting-i-ge-ASCII_END.true in
+    found_fitting c.args.src.now c.args.dst.now c.min.result c.min.ensures (Some (slice_index xs c.loop-i-2.i, c.loop-i-2.i)) found
+
+pub loop-i-2-preserved : goal.loop-i-2-preserved
+loop-i-2-preserved c =
+    let here = c.loop-i-2.invariant in
+    let xs = take c.min.result c.args.src.now in
+    let room = fitting_room c.args.src.now c.args.dst.now c.min.result c.min.ensures in
+    record {
+      below = below_next 0x80 xs c.loop-i-2.i here.below c.if-fitting-i-ge-ASCII_END.false;
+      copied = WritesPrefix_copy c.args.dst.now c.loop-i-2.dst xs c.loop-i-2.i _ here.copied c.loop-i-2-test.true (omega (arith, room, WritesPrefix-length _ _ _ _ here.copied)) refl;
+    }
+
+pub returns-clause-found : goal.returns-clause-found
+returns-clause-found c =
+    found_none c.args.src.now c.args.dst.now c.min.result c.min.ensures c.loop-i-2.i c.loop-i-2.invariant.below c.loop-i-2-test.false
+
+pub returns-clause-copied : goal.returns-clause-copied
+returns-clause-copied c =
+    copied_all c.args.src.now c.args.dst.now c.min.result c.min.ensures c.loop-i-2-test.false c.loop-i-2.invariant.copied

@@ -1,12 +1,32 @@
-use Rattle.std.proofs.Common.{inl, inr, length, arith}
-use Rattle.std.proofs.lemmas.Bool.{cases_lt}
-use Rattle.std.proofs.lemmas.List.{get_or_past}
+use Rattle.std.proofs.Common.{[], refl, arith}
+use Rattle.encoding_kernels.proofs.PrefixLoops.StrideLoopLemmas.{first_part, stride_part, group_part, below_more, part_below}
 use Rattle.encoding_text.proofs.mem.checks.is_basic_latin.Goals as goal
 
-pub returns : goal.returns
-returns c =
-    let units = c.args.buffer.now in
-    let below = c.are_all_units_below.ensures in (
-      λ e i. elim (cases_lt i (length units)) [ inl l ↦ below.0 e i l | inr past ↦ omega (arith, get_or_past units i 0 past) ],
-      λ ascii. below.1 (λ k _. ascii k),
-    )
+pub returns-then-not-are_units_below : goal.returns-then-not-are_units_below
+returns-then-not-are_units_below c =
+    let part = first_part 16 c.args.buffer.now c.in-Some.first.now c.as_chunks.ensures.front c.as_chunks.ensures.front_len c.in-Some.ensures.value in
+    (λ e. absurd (cc), λ h. c.if-not-are_units_below.ensures.1 (part_below part h))
+
+pub returns-then-not-are_units_below-2 : goal.returns-then-not-are_units_below-2
+returns-then-not-are_units_below-2 c =
+    let here = c.loop-four.invariant in
+    let part = group_part 16 c.args.buffer.now c.as_chunks.ensures.front c.as_chunks.ensures.front_len 4 [] c.as_chunks-2.ensures.front c.as_chunks-2.ensures.front_len c.loop-four-test.true c.as_flattened.ensures.value here.place in
+    (λ e. absurd (cc), λ h. c.if-not-are_units_below-2.ensures.1 (part_below part h))
+
+pub loop-four-preserved : goal.loop-four-preserved
+loop-four-preserved c =
+    let here = c.loop-four.invariant in
+    let part = group_part 16 c.args.buffer.now c.as_chunks.ensures.front c.as_chunks.ensures.front_len 4 [] c.as_chunks-2.ensures.front c.as_chunks-2.ensures.front_len c.loop-four-test.true c.as_flattened.ensures.value here.place in
+    record { place = omega (arith, here.place); below = below_more part here.below 64 (omega arith) (c.if-not-are_units_below-2.ensures.0 refl) }
+
+pub returns-then-not-are_units_below-3 : goal.returns-then-not-are_units_below-3
+returns-then-not-are_units_below-3 c =
+    let here = c.loop-i.invariant in
+    let part = stride_part 16 c.args.buffer.now c.as_chunks.ensures.front c.as_chunks.ensures.front_len [] here.place c.loop-i-test.true in
+    (λ e. absurd (cc), λ h. c.if-not-are_units_below-3.ensures.1 (part_below part h))
+
+pub loop-i-preserved : goal.loop-i-preserved
+loop-i-preserved c =
+    let here = c.loop-i.invariant in
+    let part = stride_part 16 c.args.buffer.now c.as_chunks.ensures.front c.as_chunks.ensures.front_len [] here.place c.loop-i-test.true in
+    record { place = omega (arith, here.place); below = below_more part here.below 16 (omega arith) (c.if-not-are_units_below-3.ensures.0 refl) }
