@@ -9,7 +9,7 @@ use crate::ascii::ascii_valid_up_to;
 use crate::utf_8::table::{UTF8_DATA, law_table};
 use encoding_kernels::blocks::well_formed_blocks;
 use encoding_kernels::sequence::{is_continuation, is_second};
-use encoding_kernels::strides::ASCII_END;
+use encoding_kernels::strides::STRIDE;
 
 /// Returns whether three bytes are one character, for a first byte that starts no character of one, two or four.
 #[inline(always)]
@@ -91,6 +91,18 @@ pub fn character_length(bytes: &[u8]) -> Option<usize>
     Some(4)
 }
 
+/// Returns the length of a well-formed prefix: the ASCII prefix, and the blocks of other text after it.
+#[inline(always)]
+fn well_formed_prefix(src: &[u8]) -> usize
+    ensures { (result ≤ length src.now) × IsUtf8 (take result src.now) }
+{
+    let ascii = ascii_valid_up_to(src);
+    if ascii == src.len() || src.len() < STRIDE {
+        return ascii;
+    }
+    well_formed_blocks(src, ascii)
+}
+
 /// Returns the length in bytes of the longest prefix of `src` that is well-formed UTF-8: the index of the first byte
 /// that is in no character, or the length of `src`.
 ///
@@ -101,16 +113,11 @@ pub fn utf8_valid_up_to(src: &[u8]) -> usize
     ensures { IsLongestPrefix IsUtf8 src.now result }
 {
     let mut at = 0;
-    if src.len() >= 16 {
-        at = well_formed_blocks(src);
-    } else if src.len() >= 8 && src[0] < ASCII_END {
-        at = ascii_valid_up_to(src);
-    }
-    while at < src.len() {
+    loop {
+        at += well_formed_prefix(&src[at..]);
         let Some(length) = character_length(&src[at..]) else {
-            break;
+            return at;
         };
         at += length;
     }
-    at
 }

@@ -1,13 +1,14 @@
-use Rattle.std.proofs.Common.{◌+◌, arith}
-use Rattle.encoding_kernels.proofs.Validation.FollowingLemmas.{ValidUpTo-ascii, ValidUpTo_less, IsClosedAt-after_ascii}
+use Rattle.std.proofs.Common.{arith}
+use Rattle.encoding_kernels.proofs.Validation.FollowingLemmas.{ValidUpTo_less}
 use Rattle.encoding_kernels.proofs.blocks.following.Goals as goal
+use Rattle.encoding_kernels.proofs.blocks.following.Goals.{then-at-lt-BLOCK+else-at-lt-BLOCK-2, else-at-lt-BLOCK+then-src-at-ge-BLOCK+else-clean-lt-BLOCK, else-at-lt-BLOCK+else-src-at-ge-BLOCK}
 
-pub loop-at-preserved-then-are_256_ascii : goal.loop-at-preserved-then-are_256_ascii
-loop-at-preserved-then-are_256_ascii c =
-    let bs = c.args.src.now in
-    let prefix = ValidUpTo_less bs _ (c.loop-at.at + 256) (omega (arith, c.if-clean-lt-FOUR_BLOCKS.false)) (c.clean_of_256-clean.ensures.follow c.loop-at.invariant.prefix) in
-    record {
-      started = omega (arith, c.skip_ascii-at.ensures.within);
-      within = c.skip_ascii-at.ensures.within.1;
-      prefix = ValidUpTo-ascii bs _ _ prefix (IsClosedAt-after_ascii bs c.loop-at.at _ (omega arith) (record { each = λ i h l. c.are_256_ascii.ensures c.if-are_256_ascii.true i (omega arith) (omega arith) })) (record { each = c.skip_ascii-at.ensures.below });
-    }
+pub loop-at-init : goal.loop-at-init
+loop-at-init c =
+    let whole = ValidUpTo_less c.args.src.now c.args.from in
+    elim c.if-at-lt-BLOCK.branch [
+      | then-at-lt-BLOCK+else-at-lt-BLOCK-2 w ↦ rw w.at-is (record { started = omega arith; within = w.clean_of_first_64-at.ensures.within; prefix = w.clean_of_first_64-at.ensures.follow })
+      | else-at-lt-BLOCK+then-src-at-ge-BLOCK+else-clean-lt-BLOCK w ↦
+          rw w.at-is (record { started = omega arith; within = omega (arith, w.clean_of_64-clean.ensures.within); prefix = w.clean_of_64-clean.ensures.follow (whole _ (omega arith) c.requires.prefix.1) })
+      | else-at-lt-BLOCK+else-src-at-ge-BLOCK w ↦ rw w.at-is (record { started = omega arith; within = omega arith; prefix = whole _ (omega arith) c.requires.prefix.1 })
+    ]

@@ -1,27 +1,25 @@
-use Rattle.std.proofs.Common.{arith}
+use Rattle.std.proofs.Common.{ℕ, ◌+◌, ◌-◌, ◌≤◌, List, length, drop, take, arith, subst, sym, take-add}
+use Rattle.std.specs.Str.{IsUtf8}
 use Rattle.std.proofs.lemmas.List.{take_rest, length-drop}
-use Rattle.std.proofs.lemmas.Str.{IsUtf8-nil, IsUtf8-from_ascii}
+use Rattle.std.proofs.lemmas.Str.{IsUtf8-append}
 use Rattle.encoding_definitions.proofs.LongestPrefixes.Utf8Lemmas.{IsUtf8_more, IsLongestPrefix-utf8}
 use Rattle.encoding_text.proofs.utf_8.validation.utf8_valid_up_to.Goals as goal
-use Rattle.encoding_text.proofs.utf_8.validation.utf8_valid_up_to.Goals.{then-src-ge16, else-src-ge16+then-src-ge8+then-src-lt-ASCII_END, else-src-ge16+else-src-ge8}
 
-pub loop-at-init : goal.loop-at-init
-loop-at-init c = elim c.if-src-ge16.branch [
-  | then-src-ge16 w ↦ rw w.at-is (record { within = w.well_formed_blocks-at.ensures.0; text = w.well_formed_blocks-at.ensures.1 })
-  | else-src-ge16+then-src-ge8+then-src-lt-ASCII_END w ↦
-      let prefix = w.ascii_valid_up_to-at in
-      rw w.at-is (record { within = prefix.ensures.within; text = IsUtf8-from_ascii _ prefix.ensures.kind })
-  | else-src-ge16+else-src-ge8 w ↦ rw w.at-is (record { within = omega arith; text = IsUtf8-nil })
-]
+-- a well-formed prefix of the rest after a well-formed prefix
+longer : (src : List ℕ) (at n : ℕ) → at ≤ length src → IsUtf8 (take at src) → (n ≤ length (take (length src - at) (drop at src))) × IsUtf8 (take n (take (length src - at) (drop at src)))
+    → (at + n ≤ length src) × IsUtf8 (take (at + n) src)
+longer src at n inside text more =
+    let rest = rw take_rest at more in
+    (omega (arith, rest.0, inside, length-drop at src), subst IsUtf8 (sym (take-add at n src)) (IsUtf8-append _ _ text rest.1))
 
-pub loop-at-preserved : goal.loop-at-preserved
-loop-at-preserved c =
+pub loop-length-preserved : goal.loop-length-preserved
+loop-length-preserved c =
+    let src = c.args.src.now in
+    let done = longer src c.loop-length.at _ c.loop-length.invariant.within c.loop-length.invariant.text c.well_formed_prefix-at.ensures in
     let found = rw take_rest at c.in-Some.ensures.length in
-    record {
-      within = omega (arith, found.1, length-drop c.loop-at.at c.args.src.now);
-      text = IsUtf8_more c.args.src.now c.loop-at.at c.in-Some.length c.loop-at.invariant.text found.2;
-    }
+    record { within = omega (arith, done.0, found.1, length-drop (c.loop-length.at + c.well_formed_prefix-at.result) src); text = IsUtf8_more src _ c.in-Some.length done.1 found.2 }
 
 pub returns-in_default : goal.returns-in_default
 returns-in_default c =
-    IsLongestPrefix-utf8 _ _ c.loop-at.invariant.within c.loop-at.invariant.text (rw take_rest at c.in_default.ensures.no_character)
+    let done = longer c.args.src.now c.loop-length.at _ c.loop-length.invariant.within c.loop-length.invariant.text c.well_formed_prefix-at.ensures in
+    IsLongestPrefix-utf8 _ _ done.0 done.1 (rw take_rest at c.in_default.ensures.no_character)
