@@ -2,8 +2,8 @@
 //! and those that do are moved together.
 //!
 //! A block may store units after its own. Those of the bytes that follow overwrite them, since these have at least a
-//! third as many: a block is stored only if that many units are still to be written. After the UTF-16 of a whole text
-//! or of an ASCII prefix, `dst` is unchanged.
+//! third as many: a block is stored only if that many units are still to be written. After the UTF-16 of a whole text,
+//! `dst` is unchanged. Runs of ASCII are the caller's.
 ghost use Rattle.std.specs.Prelude.{◌≡◌, ℕ, ◌+◌, ◌-◌, ◌/◌, ◌%◌, ◌<◌, ◌≤◌, [], ◌∷◌, ◌*◌, ◌^◌, Bool, false, List, ◌++◌, length, take, drop, replicate, slice_index, IsTrue};
 ghost use Rattle.std.specs.List.{flat_map};
 ghost use Rattle.std.specs.Str.{IsUtf8, IsCharBoundary, chars};
@@ -17,7 +17,7 @@ use crate::compress_units::compress;
 use crate::decode_lanes::{code_units, triple_units, unit_ends};
 use crate::scalars::{decode_utf8_scalar, write_utf16};
 use crate::sequence::{is_continuation, sequence_length};
-use crate::strides::{ASCII_END, LANES as BYTE_LANES, STRIDE, are_bytes_below, copy_vectors};
+use crate::strides::{ASCII_END, LANES as BYTE_LANES, STRIDE, are_bytes_below};
 use std::simd::Simd;
 use std::simd::prelude::*;
 
@@ -193,10 +193,6 @@ fn write_some(src: &[u8], dst: &mut [u16]) -> (usize, usize)
     ensures progress { 0 < result.0 }
     ensures written { WritesUtf16 src.now dst.old dst.new result.0 result.1 (units_in src.now) }
 {
-    if are_bytes_below::<16>(src, 0, ASCII_END) {
-        let prefix = copy_vectors::<16, u16, u8>(src, dst, 0);
-        return (prefix, prefix);
-    }
     if begins_triples(src) {
         if src.len() >= 24 {
             write_triples(src, dst);
@@ -263,31 +259,47 @@ fn write_tail(src: &[u8], dst: &mut [u16]) -> usize
     write_block_in_any_room(&block, src.len(), kept, dst)
 }
 
-/// Writes the UTF-16 of an ASCII prefix by strides, and returns its length.
-#[inline(always)]
-pub fn convert_ascii_prefix(src: &[u8], dst: &mut [u16]) -> usize
-    ensures within { (result ≤ length src.now) × (result ≤ length dst.old) }
-    ensures text { IsUtf8 (take result src.now) }
-    ensures written { WritesPrefix dst.old dst.new result (flat_map encode_utf16 (chars (take result src.now))) }
-{
-    copy_vectors::<STRIDE, u16, u8>(src, dst, 0)
-}
-
-/// Writes the UTF-16 of a text, and returns its length in code units.
-pub fn convert_valid_utf8_to_utf16(src: &[u8], dst: &mut [u16]) -> usize
-    requires dst_length { length src.now ≤ length dst.old }
+/// Writes the UTF-16 of a text up to a stride of ASCII, and returns how many bytes it read and how many code units it
+/// wrote. Units that the rest of the text overwrites may have changed too.
+#[inline(never)]
+fn write_blocks(src: &[u8], dst: &mut [u16]) -> (usize, usize)
+    requires dst_length { (0 < length src.now) × (length src.now ≤ length dst.old) }
     requires text { IsUtf8 src.now }
-    ensures { WritesPrefix dst.old dst.new result (flat_map encode_utf16 (chars src.now)) }
+    ensures progress { 0 < result.0 }
+    ensures written { WritesUtf16 src.now dst.old dst.new result.0 result.1 (units_in src.now) }
 {
     let mut read = 0;
     let mut written = 0;
-    while src.len() - read > 16 {
+    while src.len() - read > STRIDE {
         let (bytes, units) = write_some(&src[read..], &mut dst[written..]);
         read += bytes;
         written += units;
+        if src.len() - read > STRIDE && are_bytes_below::<STRIDE>(src, read, ASCII_END) {
+            return (read, written);
+        }
     }
     if src.len() - read < 8 {
-        return written + write_few(&src[read..], &mut dst[written..]);
+        let units = write_few(&src[read..], &mut dst[written..]);
+        return (src.len(), written + units);
     }
-    written + write_tail(&src[read..], &mut dst[written..])
+    let units = write_tail(&src[read..], &mut dst[written..]);
+    (src.len(), written + units)
+}
+
+/// Writes the UTF-16 of the text before a run of ASCII, and returns how many bytes it read and how many code units it
+/// wrote. Units that the rest of the text overwrites may have changed too.
+///
+/// A character before ASCII is written alone, since a block would end in the run.
+#[inline(always)]
+pub fn convert_valid_utf8_to_utf16(src: &[u8], dst: &mut [u16]) -> (usize, usize)
+    requires dst_length { (0 < length src.now) × (length src.now ≤ length dst.old) }
+    requires text { IsUtf8 src.now }
+    ensures progress { 0 < result.0 }
+    ensures written { WritesUtf16 src.now dst.old dst.new result.0 result.1 (units_in src.now) }
+{
+    let length = sequence_length(src[0]);
+    if length < src.len() && src[length] < ASCII_END {
+        return write_character(src, dst);
+    }
+    write_blocks(src, dst)
 }

@@ -282,3 +282,16 @@ pub fn basic_latin_to_ascii(src: &[u16], dst: &mut [u8]) -> Option<(u16, usize)>
     }
     None
 }
+
+/// Copies the longest ASCII prefix, each byte as a UTF-16 code unit, up to the shorter of the two lengths. Returns its
+/// length. Out of line, so that a loop that calls it needs few registers.
+#[inline(never)]
+pub(crate) fn copy_to_basic_latin(src: &[u8], dst: &mut [u16]) -> usize
+    ensures prefix { IsLongestPrefix IsAscii (take (length dst.old) src.now) result }
+    ensures copied { WritesPrefix dst.old dst.new result (take result src.now) }
+{
+    let Some((_, place)) = ascii_to_basic_latin(src, dst) else {
+        return src.len().min(dst.len());
+    };
+    place
+}

@@ -5,8 +5,8 @@ pub(crate) mod encoding;
 mod table;
 mod validation;
 
-pub(crate) use decoding::CodeUnit;
 pub use decoding::convert_utf8_to_utf16_up_to_invalid;
+pub(crate) use decoding::{CodeUnit, convert_text};
 pub use encoder::{EncoderResult, Utf8Encoder};
 pub use encoding::{convert_utf16_to_utf8_partial_inner, convert_utf16_to_utf8_partial_tail};
 pub use table::{UTF8_DATA, Utf8Data, law_table};

@@ -1,25 +1,23 @@
 -- Writing the UTF-16 of a text character by character and block by block: what is still to be written, and the progress
 -- of a loop.
-use Rattle.std.proofs.Common.{◌≡◌, append_assoc, ℕ, ◌+◌, ◌-◌, ◌*◌, ◌/◌, ◌<◌, ◌≤◌, inl, inr, true, List, [], ◌∷◌, ◌++◌, length, take, drop, get_or, encode_utf8, encode_utf8_all, refl, sym, ap, ◌∙◌, arith, subst, take-add}
+use Rattle.std.proofs.Common.{◌≡◌, append_assoc, ℕ, ◌+◌, ◌-◌, ◌*◌, ◌/◌, ◌<◌, ◌≤◌, true, List, [], ◌∷◌, ◌++◌, length, take, drop, get_or, encode_utf8, encode_utf8_all, refl, sym, ap, ◌∙◌, arith, subst, take-add}
 use lib.Utf8.{scalar}
 use Rattle.std.specs.Char.{IsScalar}
 use Rattle.std.specs.Char.Escape.{encode_utf16}
-use Rattle.std.specs.Str.{all_scalars, IsUtf8, chars}
+use Rattle.std.specs.Str.{all_scalars, IsAscii, IsUtf8, chars}
 use Rattle.std.specs.List.{flat_map}
 use Rattle.std.proofs.str.Laws.{scalars-append}
 use Rattle.std.proofs.Math.Seq.{drop-cons, take-append-add}
-use Rattle.std.proofs.lemmas.Bool.{cases_lt, and_parts, and_from}
+use Rattle.std.proofs.lemmas.Bool.{and_parts, and_from}
 use Rattle.std.proofs.lemmas.Bool.Decides.{nat_tests}
 use Rattle.std.proofs.lemmas.Grind.{flat_map-append}
 use Rattle.std.proofs.lemmas.List.{append-nil, length-append, length-drop, length-take, length-take-le, take-append-drop, take_at, take_all, take_rest, drop_at, drop_all, drop-drop, get_or_append_left}
-use Rattle.std.proofs.lemmas.Str.{encodes-append, chars_from_encodes, length-encode, len_utf8_bounds}
+use Rattle.std.proofs.lemmas.Str.{encodes-append, chars_from_encodes, length-encode, len_utf8_bounds, IsUtf8-nil}
 use borrow.Rule.Slice.PartMut.{put_mid}
 use Rattle.encoding_definitions.specs.Sequence.{IsSequence}
 use Rattle.encoding_definitions.specs.Prefixes.{WritesPrefix}
-use Rattle.encoding_kernels.specs.Strides.{AllBelow, BelowUpTo}
 use Rattle.encoding_kernels.specs.Units.{units_in, WritesUtf16}
 use Rattle.encoding_definitions.proofs.Sequences.EncodingLemmas.{IsSequence-encode, length-encode_utf16-utf8}
-use Rattle.encoding_definitions.proofs.LongestPrefixes.PrefixesLemmas.{WritesPrefix-nil}
 use Rattle.encoding_definitions.proofs.LongestPrefixes.FittingLemmas.{written_is}
 use Rattle.encoding_kernels.proofs.PrefixLoops.TextUnitsLemmas.{puts_ascii}
 use Rattle.encoding_definitions.proofs.Sequences.EncodingLemmas.{encodes_one, length-utf16}
@@ -118,16 +116,9 @@ due_block src old new n k later u l p =
 pub due_exact : (src old new : List ℕ) (n k : ℕ) → IsUtf8 src → WritesUtf16 src old new n k k → WritesUtf16 src old new n k (units_in src)
 due_exact src old new n k u p = reaches src old new n k k (units_in src) (omega (arith, units_split src old new n k k u p)) p
 
--- the prefix that strides copy, if the first bytes are ASCII
-pub due_ascii : (src old new : List ℕ) (n m : ℕ) → IsUtf8 src → m ≤ length src → length src ≤ length old → AllBelow 0x80 src 0 m → n ≤ length src
-    → (BelowUpTo 0x80 src 0 → BelowUpTo 0x80 src n) → ((first : List ℕ) → WritesPrefix first old 0 [] → WritesPrefix first new n (take n src))
-    → (n + m ≤ length src → n + m ≤ length old → AllBelow 0x80 src n m → ⊥) → WritesUtf16 src old new n n (units_in src)
-due_ascii src old new n m u long room first within ascii copied stops =
-    let some : 0 < n = elim (cases_lt 0 n) [
-      | inl p ↦ p
-      | inr p ↦ let e : 0 ≡ n = omega arith in absurd (stops (omega arith) (omega arith) (subst (λ k. AllBelow 0x80 src k m) e first))
-    ] in
-    due_exact src old new n n u (puts_ascii src old new n u some within (ascii (λ k l. absurd (omega arith))) (copied old (WritesPrefix-nil old)))
+-- an ASCII prefix
+pub due_ascii : (src old new : List ℕ) (n : ℕ) → IsUtf8 src → n ≤ length src → IsAscii (take n src) → WritesPrefix old new n (take n src) → WritesUtf16 src old new n n (units_in src)
+due_ascii src old new n u within ascii w = due_exact src old new n n u (puts_ascii src old new n u within ascii w)
 
 -- five characters of three bytes and nine more bytes have at least eight units
 pub due_triples : (src old new : List ℕ) → IsUtf8 src → 24 ≤ length src → WritesUtf16 src old new 15 5 8 → WritesUtf16 src old new 15 5 (units_in src)
@@ -211,3 +202,32 @@ putting_all src old new read written u room end d =
       fits = omega (arith, d.shorter, inside, room);
       placed = sym (take-append-drop written new) ∙ (λ i. (d.placed ∙ same) i ++ (ap (λ n. drop n new) (sym sum_over_suffixes) ∙ d.following ∙ ap (λ n. drop n old) sum_over_suffixes) i);
     }
+
+-- ---- where a loop stops
+pub putting_some : {src old new : List ℕ} {read written : ℕ} → Putting src old new read written → WritesUtf16 src old new read written (units_in src)
+putting_some d = record {
+  taken = d.done;
+  are_scalars = d.are_scalars;
+  within = d.within;
+  spelled = d.spelled;
+  rest = d.rest;
+  counted = d.counted;
+  placed = d.placed;
+  following = d.following;
+}
+
+-- the whole text
+pub puts_text : (src old new : List ℕ) (k : ℕ) → IsUtf8 src → WritesPrefix old new k (flat_map encode_utf16 (chars src)) → WritesUtf16 src old new (length src) k (units_in src)
+puts_text src old new k u w =
+    let units : flat_map encode_utf16 (chars src) ≡ flat_map encode_utf16 u.0 = ap (flat_map encode_utf16) (sym (chars_from_encodes u.0 src u u.1.1)) in
+    let count : k ≡ length (flat_map encode_utf16 u.0) = w.count ∙ ap length units in
+    due_exact src old new (length src) k u (record {
+      taken = u.0;
+      are_scalars = u.1.0;
+      within = omega arith;
+      spelled = u.1.1 ∙ sym (take_all (length src) src (omega arith));
+      rest = subst IsUtf8 (sym (drop_all (length src) src (omega arith))) IsUtf8-nil;
+      counted = count;
+      placed = sym (written_is old new k _ w) ∙ units;
+      following = ap (drop k) w.placed ∙ drop_at (flat_map encode_utf16 (chars src)) (drop k old) k (sym w.count);
+    })

@@ -12,16 +12,14 @@ use Rattle.std.proofs.lemmas.Bool.Decides.{nat_tests}
 use Rattle.std.proofs.lemmas.Grind.{same_number_lists}
 use Rattle.std.proofs.lemmas.Simd.{length-replicate, mask_l-lt, put_chunk_is}
 use Rattle.std.proofs.lemmas.List.{length-append, length-drop, length-take, length-take-le, take-append-drop, take_at, take-take, drop_at, drop-drop, get_or-drop, get_or-take, take-append-le}
-use Rattle.std.proofs.lemmas.Str.{IsUtf8-take, IsUtf8-drop, IsUtf8-from_ascii, IsCharBoundary-after_ascii, encodes-IsAscii, encodes_same, chars-IsAscii}
+use Rattle.std.proofs.lemmas.Str.{IsUtf8-take, IsUtf8-drop, IsUtf8-from_ascii, IsCharBoundary-after_ascii, IsCharBoundary-start, encodes-IsAscii, encodes_same, chars-IsAscii}
 use Rattle.encoding_definitions.specs.Prefixes.{WritesPrefix}
-use Rattle.encoding_kernels.specs.Strides.{BelowUpTo}
 use Rattle.encoding_kernels.specs.Lanes.{HasLanes}
 use Rattle.encoding_kernels.specs.Units.{BeginsThree, keep, ends_unit, low_bits, triple_unit, unit_at, units_after, ends_after, WritesCompressed, WritesUtf16}
 use Rattle.encoding_kernels.proofs.Lanes.CompressLemmas.{keep_pad}
 use Rattle.encoding_kernels.proofs.Lanes.LaneLemmas.{same_below}
 use Rattle.encoding_kernels.proofs.Lanes.UnitLanesLemmas.{length-ends}
 use Rattle.encoding_definitions.proofs.LongestPrefixes.FittingLemmas.{written_is}
-use Rattle.encoding_kernels.proofs.LatinBlocks.AsciiLemmas.{Each-take}
 
 -- ---- one byte: no code unit ends with it, or one does
 mark_off : (a b : ℕ) → (0xC0 ≤ b) → ends_unit a b ≡ false
@@ -191,27 +189,29 @@ ascii_units : (bs : List ℕ) → ((i : ℕ) → get_or bs i 0 < 128) → flat_m
 ascii_units [] h = refl
 ascii_units (b ∷ bs) h = (λ i. one_unit b (omega (arith, h 0)) i ++ ascii_units bs (λ k. h (suc k)) i)
 
--- an ASCII prefix is a text, and its own UTF-16
-pub ascii_text : (src : List ℕ) (n : ℕ) → n ≤ length src → BelowUpTo 0x80 src n → IsUtf8 (take n src) × (flat_map encode_utf16 (chars (take n src)) ≡ take n src)
-ascii_text src n within h =
-    let bs = take n src in
-    let ascii : IsAscii bs = Each-take (λ b. b < 0x80) (omega arith) src n h in
-    (IsUtf8-from_ascii bs ascii, ap (flat_map encode_utf16) (chars-IsAscii bs ascii) ∙ ascii_units bs ascii)
+-- ASCII is a text, and its own UTF-16
+pub ascii_text : (bs : List ℕ) → IsAscii bs → IsUtf8 bs × (flat_map encode_utf16 (chars bs) ≡ bs)
+ascii_text bs ascii = (IsUtf8-from_ascii bs ascii, ap (flat_map encode_utf16) (chars-IsAscii bs ascii) ∙ ascii_units bs ascii)
 
-pub puts_ascii : (src old new : List ℕ) (n : ℕ) → IsUtf8 src → 0 < n → n ≤ length src → BelowUpTo 0x80 src n → WritesPrefix old new n (take n src) → WritesUtf16 src old new n n n
-puts_ascii src old new n u some within h w =
+pub puts_ascii : (src old new : List ℕ) (n : ℕ) → IsUtf8 src → n ≤ length src → IsAscii (take n src) → WritesPrefix old new n (take n src) → WritesUtf16 src old new n n n
+puts_ascii src old new n u within ascii w =
     let bs = take n src in
-    let ascii : IsAscii bs = Each-take (λ b. b < 0x80) (omega arith) src n h in
     let text = IsUtf8-from_ascii bs ascii in
     let same : text.0 ≡ bs = encodes_same text.0 bs (text.1.1 ∙ sym (encodes-IsAscii bs ascii)) in
     let units : flat_map encode_utf16 text.0 ≡ bs = ap (flat_map encode_utf16) same ∙ ascii_units bs ascii in
-    let last : n - 1 + 1 ≡ n = omega arith in
+    let boundary : IsCharBoundary src n = elim (cases_lt 0 n) [
+      | inl some ↦
+          let last : n - 1 + 1 ≡ n = omega arith in
+          let before : get_or src (n - 1) 0 < 0x80 = subst (λ b. b < 0x80) (get_or-take n src (n - 1) 0 (omega arith)) (ascii (n - 1)) in
+          subst (IsCharBoundary src) last (IsCharBoundary-after_ascii src (n - 1) u (omega arith) before)
+      | inr none ↦ let first : 0 ≡ n = omega arith in subst (IsCharBoundary src) first (IsCharBoundary-start src u)
+    ] in
     record {
       taken = text.0;
       are_scalars = text.1.0;
       within = within;
       spelled = text.1.1;
-      rest = IsUtf8-drop src n u (subst (IsCharBoundary src) last (IsCharBoundary-after_ascii src (n - 1) u (omega arith) (h (n - 1) (omega arith))));
+      rest = IsUtf8-drop src n u boundary;
       counted = w.count ∙ ap length (sym units);
       placed = sym (written_is old new n bs w) ∙ sym units;
       following = ap (drop n) w.placed ∙ drop_at bs (drop n old) n (sym w.count);

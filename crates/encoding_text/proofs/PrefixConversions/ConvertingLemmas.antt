@@ -3,11 +3,12 @@
 use Rattle.std.proofs.Common.{◌≡◌, ℕ, zero, suc, ◌+◌, ◌-◌, ◌<◌, ◌≤◌, ◌⊎◌, inl, inr, true, List, [], ◌∷◌, ◌++◌, length, take, drop, encode_utf8, encode_utf8_all, refl, sym, ap, ◌∙◌, arith, subst, take-add}
 use lib.Utf8.{scalar}
 use Rattle.std.specs.Char.{IsScalar}
-use Rattle.std.specs.Str.{all_scalars, IsUtf8, chars}
+use Rattle.std.specs.Char.Escape.{encode_utf16}
+use Rattle.std.specs.Str.{all_scalars, IsAscii, IsUtf8, chars}
 use Rattle.std.specs.List.{flat_map}
 use Rattle.std.proofs.lemmas.Bool.{and_from, and_parts, cases_lt}
 use Rattle.std.proofs.lemmas.Grind.{flat_map-append}
-use Rattle.std.proofs.lemmas.List.{append-nil, append_assoc, length-append, length-drop, length-take, take_at, drop_at, take_rest, take-append-drop, take-take}
+use Rattle.std.proofs.lemmas.List.{append-nil, append_assoc, length-append, length-drop, length-take, take_at, take_all, drop_at, take_rest, take-append-drop, take-take}
 use Rattle.std.proofs.lemmas.Str.{encodes-append, encode_same, length-encode, len_utf8_bounds, IsUtf8-encode, IsUtf8-append, chars_from_encodes}
 use Rattle.std.proofs.str.Laws.{scalars-append}
 use borrow.Rule.Slice.PartMut.{put_mid}
@@ -21,6 +22,7 @@ use Rattle.encoding_definitions.proofs.LongestPrefixes.PrefixesLemmas.{WritesPre
 use Rattle.encoding_definitions.proofs.LongestPrefixes.FittingLemmas.{flat_map_push}
 use Rattle.encoding_definitions.proofs.LongestPrefixes.Utf8Lemmas.{IsLongestPrefix-utf8, no_character_after}
 use Rattle.encoding_definitions.proofs.Decomposition.DecompositionLemmas.{has_parts}
+use Rattle.encoding_kernels.proofs.PrefixLoops.TextUnitsLemmas.{ascii_text}
 
 -- a list, cut after its first items
 pub cut_after : {X : Type 0} (xs prefix back : List X) → xs ≡ prefix ++ back → (length prefix ≤ length xs) × (take (length prefix) xs ≡ prefix) × (drop (length prefix) xs ≡ back)
@@ -211,3 +213,24 @@ converted_unfit encode src old new sub read written c n d s e same l =
     let rest : drop read src ≡ encode_utf8 c ++ drop n (drop read src) = sym (take-append-drop n (drop read src)) ∙ ap (λ xs. xs ++ drop n (drop read src)) (sym e) in
     let room : length old - written < length (encode c) = omega (arith, l, ap length (take_rest new written), length-drop written new, WritesPrefix-length old new written (flat_map encode d.scalars) d.writes) in
     subst (λ xs. ConvertsUntilFull encode src old xs read written) (sym kept) (converted_full encode src old new read written c (drop n (drop read src)) d s rest room)
+
+-- ---- to UTF-16: an ASCII prefix more
+pub converted_ascii : (src old new sub : List ℕ) (read written n : ℕ) → ConvertsSome encode_utf16 src old new read written
+    → IsLongestPrefix IsAscii (take (length (take (length new - written) (drop written new))) (take (length src - read) (drop read src))) n
+    → WritesPrefix (take (length new - written) (drop written new)) sub n (take n (take (length src - read) (drop read src)))
+    → ConvertsSome encode_utf16 src old (put_mid written (length new - written) new sub) (read + n) (written + n)
+converted_ascii src old new sub read written n d p w =
+    let bytes = drop read src in
+    let room = length (take (length new - written) (drop written new)) in
+    let prefix : IsLongestPrefix IsAscii (take room bytes) n = subst (λ xs. IsLongestPrefix IsAscii (take room xs) n) (take_rest src read) p in
+    let within : n ≤ length (take room bytes) = prefix.within in
+    let ascii : IsAscii (take n bytes) = subst IsAscii (take-take n room bytes (omega (arith, within, length-take room bytes))) prefix.kind in
+    let text = ascii_text (take n bytes) ascii in
+    converted_text encode_utf16 src old new sub read written n n d text.0 (omega (arith, within, length-take room bytes))
+    (subst (λ xs. WritesPrefix (take (length new - written) (drop written new)) sub n xs) (ap (take n) (take_rest src read) ∙ sym text.1) w)
+
+-- the whole text
+pub converted_all : (src old new : List ℕ) (read written : ℕ) → IsUtf8 src → length src ≤ read → ConvertsSome encode_utf16 src old new read written
+    → WritesPrefix old new written (flat_map encode_utf16 (chars src))
+converted_all src old new read written u all d =
+    subst (λ cs. WritesPrefix old new written (flat_map encode_utf16 cs)) (chars_from_encodes d.scalars src u (d.spelled ∙ take_all read src all)) d.writes

@@ -9,8 +9,7 @@ ghost use Rattle.encoding_definitions.specs.Prefixes.{WritesPrefix};
 ghost use Rattle.encoding_definitions.specs.Converting.{WritesText};
 
 use crate::decoder::{DecoderResult, Utf8Decoder};
-use crate::utf_8::convert_utf8_to_utf16_up_to_invalid;
-use encoding_kernels::utf8_to_utf16::convert_valid_utf8_to_utf16;
+use crate::utf_8::{convert_text, convert_utf8_to_utf16_up_to_invalid};
 
 /// Converts bytes to UTF-16, with U+FFFD for each malformed sequence, and returns how many code units it wrote.
 /// Encoding Standard, UTF-8 decode without BOM.
@@ -49,7 +48,7 @@ pub fn convert_str_to_utf16(src: &str, dst: &mut [u16]) -> usize
     requires dst_length { length src.now ≤ length dst.old }
     ensures { WritesPrefix dst.old dst.new result (flat_map encode_utf16 (chars src.now)) }
 {
-    convert_valid_utf8_to_utf16(src.as_bytes(), dst)
+    convert_text(src.as_bytes(), dst)
 }
 
 /// Converts bytes to UTF-16. Returns how many code units it wrote if the bytes are well-formed, and otherwise `None`.

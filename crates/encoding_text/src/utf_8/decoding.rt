@@ -1,16 +1,19 @@
 //! From UTF-8 to UTF-16, and its twin from UTF-8 to UTF-8. A conversion leaves the rest of `dst` unchanged.
 ghost use Rattle.std.specs.Prelude.{◌≡◌, ℕ, ◌<◌, ◌≤◌, List, length, encode_utf8, IfSome, IfNone};
+ghost use Rattle.std.specs.List.{flat_map};
 ghost use Rattle.std.specs.Char.{IsScalar};
 ghost use Rattle.std.specs.Char.Escape.{encode_utf16};
+ghost use Rattle.std.specs.Str.{IsUtf8, chars};
 ghost use Rattle.encoding_definitions.specs.Sequence.{IsSequence};
 ghost use Rattle.encoding_definitions.specs.Prefixes.{WritesPrefix};
 ghost use Rattle.encoding_definitions.specs.Converting.{ConvertsMaximal};
 ghost use Rattle.encoding_text.specs.Steps.ConversionSteps.{ConvertsSome, ConvertsUntilFull};
 
 use super::validation::{character_length, utf8_valid_up_to};
+use crate::ascii::copy_to_basic_latin;
 use encoding_kernels::scalars::{decode_utf8_scalar, write_utf16};
 use encoding_kernels::strides::copy_prefix;
-use encoding_kernels::utf8_to_utf16::{convert_ascii_prefix, convert_valid_utf8_to_utf16};
+use encoding_kernels::utf8_to_utf16::convert_valid_utf8_to_utf16;
 
 /// The most bytes that are validated before they are converted: they stay in the nearest cache.
 const VALIDATE_CHUNK: usize = 4096;
@@ -66,48 +69,57 @@ impl CodeUnit for u8 {
     }
 }
 
-/// Converts UTF-8 to UTF-16 up to the first byte that is in no character, or as far as whole characters fit. Returns
-/// how many bytes it read and how many code units it wrote. `dst` may have any length.
-pub fn convert_utf8_to_utf16_up_to_invalid(src: &[u8], dst: &mut [u16]) -> (usize, usize)
-    ensures { ConvertsMaximal encode_utf16 src.now dst.old dst.new result.0 result.1 }
-{
-    let (mut read, mut written) = convert_texts(src, dst);
-    while let Some(length) = character_length(&src[read..]) {
-        let scalar = decode_utf8_scalar(&src[read..read + length]);
-        let Some(units) = write_utf16(scalar, &mut dst[written..]) else {
-            break;
-        };
-        read += length;
-        written += units;
-    }
-    (read, written)
-}
-
-/// Converts UTF-8 by well-formed pieces that are short enough for their UTF-16 to fit. Returns how many bytes it read
-/// and how many code units it wrote.
-///
-/// The test for ASCII is its validation, so ASCII before a piece is read once.
-fn convert_texts(src: &[u8], dst: &mut [u16]) -> (usize, usize)
-    ensures { ConvertsSome encode_utf16 src.now dst.old dst.new result.0 result.1 }
+/// Converts a text to UTF-16, and returns how many code units it wrote. A turn takes the ASCII prefix, and then other
+/// text up to a run of ASCII.
+#[inline(never)]
+pub(crate) fn convert_text(src: &[u8], dst: &mut [u16]) -> usize
+    requires dst_length { length src.now ≤ length dst.old }
+    requires text { IsUtf8 src.now }
+    ensures { WritesPrefix dst.old dst.new result (flat_map encode_utf16 (chars src.now)) }
 {
     let mut read = 0;
     let mut written = 0;
     loop {
-        let prefix = convert_ascii_prefix(&src[read..], &mut dst[written..]);
-        read += prefix;
-        written += prefix;
+        let ascii = copy_to_basic_latin(&src[read..], &mut dst[written..]);
+        read += ascii;
+        written += ascii;
+        if read == src.len() {
+            return written;
+        }
+        let (bytes, units) = convert_valid_utf8_to_utf16(&src[read..], &mut dst[written..]);
+        read += bytes;
+        written += units;
+    }
+}
+
+/// Converts UTF-8 to UTF-16 up to the first byte that is in no character, or as far as whole characters fit. Returns
+/// how many bytes it read and how many code units it wrote. `dst` may have any length.
+///
+/// A turn takes the ASCII prefix, then a well-formed piece that is short enough for its UTF-16 to fit, then one character.
+pub fn convert_utf8_to_utf16_up_to_invalid(src: &[u8], dst: &mut [u16]) -> (usize, usize)
+    ensures { ConvertsMaximal encode_utf16 src.now dst.old dst.new result.0 result.1 }
+{
+    let mut read = 0;
+    let mut written = 0;
+    loop {
+        let ascii = copy_to_basic_latin(&src[read..], &mut dst[written..]);
+        read += ascii;
+        written += ascii;
         let room = (src.len() - read)
             .min(dst.len() - written)
             .min(VALIDATE_CHUNK);
         let valid = utf8_valid_up_to(&src[read..read + room]);
-        if valid == 0 {
-            return (read, written);
-        }
-        written += convert_valid_utf8_to_utf16(&src[read..read + valid], &mut dst[written..]);
+        written += convert_text(&src[read..read + valid], &mut dst[written..]);
         read += valid;
-        if read == src.len() || valid + 3 < room {
+        let Some(length) = character_length(&src[read..]) else {
             return (read, written);
-        }
+        };
+        let scalar = decode_utf8_scalar(&src[read..read + length]);
+        let Some(units) = write_utf16(scalar, &mut dst[written..]) else {
+            return (read, written);
+        };
+        read += length;
+        written += units;
     }
 }
 

@@ -1,13 +1,7 @@
-use Rattle.std.proofs.Common.{◌/◌, ◌^◌, arith, refl}
+use Rattle.std.proofs.Common.{◌/◌, ◌^◌, refl}
 use Rattle.std.specs.Int.RustNames.{count_ones}
-use Rattle.encoding_kernels.proofs.PrefixLoops.TextLoopLemmas.{due_ascii, due_block, due_exact, due_triples}
+use Rattle.encoding_kernels.proofs.PrefixLoops.TextLoopLemmas.{due_block, due_exact, due_triples}
 use Rattle.encoding_kernels.proofs.utf8_to_utf16.write_some.Goals as goal
-
-pub returns-then-are_bytes_below-clause-written : goal.returns-then-are_bytes_below-clause-written
-returns-then-are_bytes_below-clause-written c =
-    let run = c.copy_vectors-prefix.ensures in
-    due_ascii c.args.src.now c.args.dst.now c.copy_vectors-prefix.new.dst c.copy_vectors-prefix.result 16 c.requires.text (omega arith) c.requires.dst_length.1
-    (c.if-are_bytes_below.ensures.0 refl) run.copies.within.0 run.copies.ascii run.copies.copied run.stops
 
 pub returns-then-src-ge24-clause-written : goal.returns-then-src-ge24-clause-written
 returns-then-src-ge24-clause-written c = due_triples c.args.src.now c.args.dst.now c.write_triples.new.dst c.requires.text c.if-src-ge24.true c.write_triples.ensures
