@@ -6,7 +6,7 @@ use Rattle.std.proofs.str.Laws.{two}
 use Rattle.std.proofs.lemmas.Bool.{cases_lt}
 use Rattle.std.proofs.lemmas.Grind.{common_steps}
 use Rattle.std.proofs.lemmas.List.{append-nil, length-append, length-map, length-drop, length-take, length-take-le, get_or-drop, get_or-take, get_or_past, drop-drop, take_all, take_more, take_rest, drop_more, take-append-drop, map_more, map-append}
-use Rattle.std.proofs.lemmas.Str.{encodes-append, encode_ascii, encodes-IsAscii, chars-IsAscii, chars-append, IsUtf8-from_ascii}
+use Rattle.std.proofs.lemmas.Str.{length-le-encodes, encodes-append, encode_ascii, encodes-IsAscii, chars-IsAscii, chars-append, IsUtf8-from_ascii}
 use borrow.Rule.Slice.PartMut.{put_mid}
 use Rattle.encoding_definitions.proofs.Sequences.EncodingLemmas.{flat_map-encode_utf8}
 use Rattle.encoding_definitions.specs.Prefixes.{IsLongestFittingPrefix, WritesPrefix}
@@ -17,6 +17,7 @@ use Rattle.std.specs.Simd.Lanes.{chunk}
 use Rattle.std.proofs.lemmas.Simd.{length-chunk}
 use Rattle.encoding_kernels.proofs.LatinBlocks.EndedLemmas.{GoesOnWith, NextIs, Splits, nexts, splits, ended_without}
 use Rattle.encoding_kernels.proofs.LatinBlocks.AsciiLemmas.{Each-take}
+use Rattle.encoding_kernels.proofs.UnitBlocks.UnitBlocksLemmas.{encodes_more}
 use Rattle.encoding_definitions.proofs.LongestPrefixes.PrefixesLemmas.{IsLongestFittingPrefix-stop, IsLongestFittingPrefix-all, WritesPrefix_push, WritesPrefix_after, WritesPrefix_put, WritesPrefix-same}
 use Rattle.encoding_definitions.proofs.Latin.Latin1Lemmas.{IsLatin1-following, next_of_one, split_prefix, scalars_of_latin1}
 
@@ -53,6 +54,9 @@ length_two c h = elim (cases_lt c 128) [
   | inr p ↦ rw (two c p (omega arith)) (omega arith)
 ]
 
+pub length_some : (c : ℕ) → 0 < length (encode_utf8 c)
+length_some c = omega (arith, length-le-encodes (c ∷ []), ap length (append-nil (encode_utf8 c)))
+
 twice : (xs : List ℕ) → ((i : ℕ) → slice_index xs i < 256) → length (encode_utf8_all xs) ≤ 2 * length xs
 twice [] h = omega arith
 twice (x ∷ xs) h = omega (arith, length-append (encode_utf8 x) (encode_utf8_all xs), length_two x (h 0), twice xs (λ i. h (suc i)))
@@ -66,6 +70,14 @@ latin1_bytes_two c l h =
     let lead : bit_or 0xC0 (c / 64) ≡ 192 + c / 64 = grind (arith, common_steps) in
     let last : bit_or 0x80 (bit_and c 0x3F) ≡ 128 + c % 64 = grind (arith, common_steps) in
     two c l (omega arith) ∙ rw (lead, last) refl
+
+-- a call converted n bytes of what is left
+pub latin1_after : (xs : List ℕ) (i n : ℕ) {old new sub : List ℕ} {j m : ℕ} → WritesPrefix old new j (encode_utf8_all (take i xs))
+    → WritesPrefix (take (length new - j) (drop j new)) sub m (encode_utf8_all (take n (take (length xs - i) (drop i xs))))
+    → WritesPrefix old (put_mid j (length new - j) new sub) (j + m) (encode_utf8_all (take (i + n) xs))
+latin1_after xs i n {old} {new} {sub} {j} {m} w v =
+    WritesPrefix-same _ _ _ _ _ _ (WritesPrefix_after old new j _ sub m _ w v) refl
+    (ap (λ ys. encode_utf8_all (take i xs) ++ encode_utf8_all (take n ys)) (take_rest xs i) ∙ encodes_more xs i n)
 
 -- with two bytes of space for each byte the longest prefix that fits is all
 pub latin1_fits_twice : (xs : List ℕ) (room read : ℕ) (out : List ℕ) → ((i : ℕ) → slice_index xs i < 256) → 2 * length xs ≤ room
@@ -162,14 +174,6 @@ ascii_run src cs i j (suc n) low rest within room ascii =
     take_more (drop i src) n 0 (omega (arith, length-drop i src)) ∙ (λ k. before.1 k ++ (get_or-drop i src n 0 ∙ next.1 ∙ sym (get_or-drop j cs n 0)) k ∷ [])
     ∙ sym (take_more (drop j cs) n 0 (omega (arith, next.0, length-drop j cs))) in
     (omega (arith, next.0), subst (λ m. take m (drop i src) ≡ take m (drop j cs)) one bytes, ap (λ k. drop k src) (sym at) ∙ next.2 ∙ ap (λ k. encode_utf8_all (drop k cs)) to)
-
--- from the start on
-pub ascii_prefix_len : (src cs : List ℕ) (n : ℕ) → IsLatin1 cs → src ≡ encode_utf8_all cs → n ≤ length src → BelowUpTo 0x80 src n
-    → (take n src ≡ take n cs) × (drop n src ≡ encode_utf8_all (drop n cs))
-ascii_prefix_len src cs n low text within ascii =
-    let zero_more : 0 + n ≡ n = omega arith in
-    let run = ascii_run src cs 0 0 n low text (omega arith) (omega arith) (λ k l. let same : 0 + k ≡ k = omega arith in rw same (ascii k l)) in
-    (run.1, ap (λ k. drop k src) (sym zero_more) ∙ run.2 ∙ ap (λ k. encode_utf8_all (drop k cs)) zero_more)
 
 -- and was copied after the characters before it
 module _ (src cs old new sub : List ℕ) (i j n : ℕ) (low : IsLatin1 cs) (rest : drop i src ≡ encode_utf8_all (drop j cs)) (w : WritesPrefix old new j (take j cs))

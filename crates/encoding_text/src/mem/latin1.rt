@@ -1,14 +1,15 @@
 //! Conversions from and to Latin1, in which each byte is the scalar value of its character. Infra Standard: isomorphic
 //! decode and encode. A conversion leaves the rest of `dst` unchanged.
 
-ghost use Rattle.std.specs.Prelude.{◌≡◌, ◌*◌, ◌%◌, ◌<◌, ◌≤◌, ◌⊎◌, [], ◌∷◌, take, length, map, encode_utf8, encode_utf8_all};
-ghost use Rattle.std.specs.Str.{chars};
+ghost use Rattle.std.specs.Prelude.{◌≡◌, ◌*◌, ◌%◌, ◌<◌, ◌≤◌, ◌⊎◌, [], ◌∷◌, take, length, map, slice_index, encode_utf8, encode_utf8_all};
+ghost use Rattle.std.specs.Str.{IsAscii, chars};
 ghost use Rattle.encoding_definitions.specs.Prefixes.{IsLongestFittingPrefix, WritesPrefix};
 ghost use Rattle.encoding_definitions.specs.Latin1.{IsUtf8Latin1};
 
+use crate::ascii;
 use encoding_kernels::latin1_to_utf8::write_latin1;
 use encoding_kernels::strides::{
-    ASCII_END, FOUR, STRIDE, are_bytes_below, copy_ascii, pack_lower, unpack_part, write_first,
+    ASCII_END, FOUR, STRIDE, are_bytes_below, pack_lower, unpack_part, write_first,
 };
 use encoding_kernels::utf8_to_latin1::latin1_of;
 use std::simd::prelude::*;
@@ -40,28 +41,41 @@ pub fn convert_latin1_to_utf16(src: &[u8], dst: &mut [u16])
     }
 }
 
-/// Writes the UTF-8 of an ASCII prefix of `src` and of the blocks of 16 bytes after it. Returns how many bytes it read
-/// and how many it wrote.
+/// Copies the longest ASCII prefix that fits, and returns its length.
+#[inline(always)]
+fn copy_ascii(src: &[u8], dst: &mut [u8]) -> usize
+    ensures within { (result ≤ length src.now) × (result ≤ length dst.old) }
+    ensures ascii { IsAscii (take result src.now) }
+    ensures stops { result < length src.now → result < length dst.old → 0x80 ≤ slice_index src.now result }
+    ensures copied { WritesPrefix dst.old dst.new result (take result src.now) }
+{
+    match ascii::ascii_to_ascii(src, dst) {
+        Some((_, place)) => place,
+        None => src.len().min(dst.len()),
+    }
+}
+
+/// Writes the UTF-8 of the ASCII prefix and of blocks of 16 bytes after it, until 64 bytes are ASCII. Returns how many
+/// bytes it read and how many it wrote. If none, the first isn't ASCII or one of the slices is empty.
 ///
 /// Four blocks share one test for ASCII: if ASCII and other bytes are mixed, a mispredicted branch costs more than a
 /// block.
+#[inline(always)]
 fn convert_latin1_blocks(src: &[u8], dst: &mut [u8]) -> (usize, usize)
     ensures within { result.0 ≤ length src.now }
+    ensures progress { 0 < length src.now → 0 < length dst.old → (0 < result.0) ⊎ (0x80 ≤ slice_index src.now 0) }
     ensures written { WritesPrefix dst.old dst.new result.1 (encode_utf8_all (take result.0 src.now)) }
 {
-    let mut read = copy_ascii::<64>(src, dst, 0);
+    let mut read = copy_ascii(src, dst);
     let mut written = read;
     while src.len() - read >= 64 && dst.len() - written >= 128 {
         if are_bytes_below::<64>(src, read, ASCII_END) {
-            let prefix = copy_ascii::<64>(&src[read..], &mut dst[written..], 0);
-            read += prefix;
-            written += prefix;
-        } else {
-            let end = read + 64;
-            while read < end {
-                written += write_latin1(u8x16::from_slice(&src[read..]), dst, written);
-                read += 16;
-            }
+            return (read, written);
+        }
+        let end = read + 64;
+        while read < end {
+            written += write_latin1(u8x16::from_slice(&src[read..]), dst, written);
+            read += 16;
         }
     }
     while src.len() - read >= 16 && dst.len() - written >= 32 {
@@ -78,24 +92,21 @@ pub fn convert_latin1_to_utf8_partial(src: &[u8], dst: &mut [u8]) -> (usize, usi
         (encode_utf8_all (take result.0 src.now)) }
     ensures written { WritesPrefix dst.old dst.new result.1 (encode_utf8_all (take result.0 src.now)) }
 {
-    let (mut read, mut written) = convert_latin1_blocks(src, dst);
-    while read < src.len() {
-        let byte = src[read];
-        if byte < 0x80 {
-            if written == dst.len() {
-                return (read, written);
-            }
-            dst[written] = byte;
-            written += 1;
-        } else {
+    let mut read = 0;
+    let mut written = 0;
+    while read < src.len() && written < dst.len() {
+        let (bytes, extra) = convert_latin1_blocks(&src[read..], &mut dst[written..]);
+        read += bytes;
+        written += extra;
+        if read < src.len() && src[read] >= ASCII_END {
             if dst.len() - written < HIGH_LENGTH {
                 return (read, written);
             }
-            dst[written] = 0xC0 | (byte >> 6);
-            dst[written + 1] = 0x80 | (byte & 0x3F);
+            dst[written] = 0xC0 | (src[read] >> 6);
+            dst[written + 1] = 0x80 | (src[read] & 0x3F);
+            read += 1;
             written += 2;
         }
-        read += 1;
     }
     (read, written)
 }
@@ -125,30 +136,26 @@ pub fn convert_utf8_to_latin1(src: &[u8], dst: &mut [u8]) -> usize
     requires latin1 { IsUtf8Latin1 src.now }
     ensures written { WritesPrefix dst.old dst.new result (chars src.now) }
 {
-    let mut read = copy_ascii::<64>(src, dst, 0);
-    let mut written = read;
-    while src.len() - read >= 16 && dst.len() - written >= 16 {
-        if are_bytes_below::<16>(src, read, ASCII_END) {
-            let prefix = copy_ascii::<16>(&src[read..], &mut dst[written..], 0);
-            read += prefix;
-            written += prefix;
-        } else {
+    let mut read = 0;
+    let mut written = 0;
+    while read < src.len() {
+        let prefix = copy_ascii(&src[read..], &mut dst[written..]);
+        read += prefix;
+        written += prefix;
+        while src.len() - read >= 16
+            && dst.len() - written >= 16
+            && !are_bytes_below::<16>(src, read, ASCII_END)
+        {
             let (bytes, count) = latin1_of(u8x16::from_slice(&src[read..]));
             write_first(dst, written, bytes, count);
             written += count;
             read += whole_length(src[read + 15]);
         }
-    }
-    while read < src.len() {
-        let byte = src[read];
-        if byte < 0x80 {
-            dst[written] = byte;
-            read += 1;
-        } else {
-            dst[written] = (byte << 6) | (src[read + 1] & 0x3F);
+        if read < src.len() && src[read] >= ASCII_END {
+            dst[written] = (src[read] << 6) | (src[read + 1] & 0x3F);
             read += 2;
+            written += 1;
         }
-        written += 1;
     }
     written
 }

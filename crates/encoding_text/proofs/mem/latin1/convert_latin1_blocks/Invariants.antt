@@ -4,29 +4,29 @@ use Rattle.encoding_text.proofs.mem.latin1.convert_latin1_blocks.Given as goal
 
 abbrev pub invariant-loop-read : goal.invariant-loop-read
 invariant-loop-read l = record {
-  within : l.read ≤ length l.src;
+  within : (l.initial.read ≤ l.read) × (l.read ≤ length l.src);
   written : WritesPrefix l.fn.dst l.dst l.written (encode_utf8_all (take l.read l.src));
 }
 
 abbrev pub decreases-loop-read : goal.decreases-loop-read
 decreases-loop-read l = length l.src - l.read
 
-abbrev pub invariant-loop-read-else-are_bytes_below : goal.invariant-loop-read-else-are_bytes_below
-invariant-loop-read-else-are_bytes_below l = record {
-  within : (l.read ≤ l.end) × (l.end ≤ length l.src);
+abbrev pub invariant-loop-read-2 : goal.invariant-loop-read-2
+invariant-loop-read-2 l = record {
+  within : (l.initial.read ≤ l.read) × (l.read ≤ l.end) × (l.end ≤ length l.src);
   whole : (l.end - l.read) % 16 ≡ 0;
   room : l.written + 2 * (l.end - l.read) ≤ length l.dst;
   written : WritesPrefix l.fn.dst l.dst l.written (encode_utf8_all (take l.read l.src));
 }
 
-abbrev pub decreases-loop-read-else-are_bytes_below : goal.decreases-loop-read-else-are_bytes_below
-decreases-loop-read-else-are_bytes_below l = l.end - l.read
+abbrev pub decreases-loop-read-2 : goal.decreases-loop-read-2
+decreases-loop-read-2 l = l.end - l.read
 
-abbrev pub invariant-loop-read-2 : goal.invariant-loop-read-2
-invariant-loop-read-2 l = record {
-  within : l.read ≤ length l.src;
+abbrev pub invariant-loop-read-3 : goal.invariant-loop-read-3
+invariant-loop-read-3 l = record {
+  within : (l.initial.read ≤ l.read) × (l.read ≤ length l.src);
   written : WritesPrefix l.fn.dst l.dst l.written (encode_utf8_all (take l.read l.src));
 }
 
-abbrev pub decreases-loop-read-2 : goal.decreases-loop-read-2
-decreases-loop-read-2 l = length l.src - l.read
+abbrev pub decreases-loop-read-3 : goal.decreases-loop-read-3
+decreases-loop-read-3 l = length l.src - l.read

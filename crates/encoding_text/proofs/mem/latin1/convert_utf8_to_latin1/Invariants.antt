@@ -15,7 +15,7 @@ decreases-loop-read l = length l.src - l.read
 
 abbrev pub invariant-loop-read-2 : goal.invariant-loop-read-2
 invariant-loop-read-2 l = record {
-  within : l.read ≤ length l.src;
+  within : (l.initial.read ≤ l.read) × (l.read ≤ length l.src);
   rest : drop l.read l.src ≡ encode_utf8_all (drop l.written (chars l.src));
   written : WritesPrefix l.fn.dst l.dst l.written (take l.written (chars l.src));
 }
