@@ -120,19 +120,6 @@ fn encode_eight(units: u16x8) -> (u8x16, usize, u8x16, usize)
     (bytes, count, other, more)
 }
 
-/// Writes the UTF-8 of eight code units, and returns its length. Stores up to 28 bytes, the others as `dst` has them.
-#[inline(always)]
-pub(crate) fn write_eight(units: u16x8, dst: &mut [u8], at: usize) -> usize
-    requires dst_length { at + 32 ≤ length dst.old }
-    ensures length_bound { result ≤ 24 }
-    ensures out_length { result ≡ length (encode_utf8_all units) }
-    ensures written { dst.new ≡ take at dst.old ++ (encode_utf8_all units ++ drop (at + result) dst.old) }
-{
-    let (bytes, count, other, more) = encode_eight(units);
-    write_both(dst, at, bytes, count, other, more);
-    count + more
-}
-
 /// Returns the first `first` of eight code units, followed by zeros.
 #[inline(always)]
 fn with_zeros(units: u16x8, first: usize) -> u16x8

@@ -42,49 +42,17 @@ utf8_plain : (us : List ℕ) → flat_map utf8_of_part16 (map Character16 us) �
 utf8_plain [] = refl
 utf8_plain (u ∷ us) = ap (λ xs. utf8_of_part16 (Character16 u) ++ xs) (utf8_plain us)
 
--- a prefix of what is left was converted by blocks
-module _ (us : List ℕ) (read n : ℕ) (done : List Part16) (a : AreCodeUnits us) where
-  left : List ℕ
-  left = take (length us - read) (drop read us)
+-- a prefix without surrogates was converted
+pub plain_walked : (us : List ℕ) (n : ℕ) → AreCodeUnits us → n ≤ length us → AreBmpScalars (take n us) → Walked us n (map Character16 (take n us))
+plain_walked us n a within plain =
+    let fit : AreCodeUnits (take n us) = Each-take (λ u. u < 0x10000) (omega arith) us n (λ k _. a k) in
+    record {
+      whole = ap parts_of (sym (take-append-drop n us)) ∙ parts_of_plain (take n us) (drop n us) plain fit;
+      taken = omega (arith, units_plain (take n us) fit, length-take-le n us within);
+    }
 
-  pub blocks_walked : Walked us read done → n ≤ length (take (length us - read) (drop read us)) → AreBmpScalars (take n (take (length us - read) (drop read us)))
-      → Walked us (read + n) (done ++ map Character16 (take n (take (length us - read) (drop read us))))
-  blocks_walked w within plain =
-      let xs : List ℕ = take n (take (length us - read) (drop read us)) in
-      let whole : drop read us ≡ xs ++ drop (read + n) us =
-      sym (take-append-drop n (drop read us)) ∙ (λ i. take n (sym (take_rest us read) i) ++ drop-drop n read us i) in
-      let fit : AreCodeUnits xs = Each-take (λ u. u < 0x10000) (omega arith) (take (length us - read) (drop read us)) n (λ k l.
-      let same = get_or-drop read us k 0 in subst (λ ys. get_or ys k 0 < 0x10000) (sym (take_rest us read)) (omega (arith, same, a (read + k)))) in
-      record {
-        whole = w.whole ∙ ap (λ ys. done ++ parts_of ys) whole ∙ ap (λ ps. done ++ ps) (parts_of_plain xs (drop (read + n) us) plain fit) ∙ sym (append_assoc done (map Character16 xs) (parts_of (drop (read + n) us)));
-        taken = ap length (flat_map-append units_of_part16 done (map Character16 xs)) ∙ length-append (flat_map units_of_part16 done) (flat_map units_of_part16 (map Character16 xs))
-            ∙ omega (arith, w.taken, units_plain xs fit, length-take-le n (take (length us - read) (drop read us)) within);
-      }
-
-  pub blocks_written : flat_map utf8_of_part16 done ++ encode_utf8_all (take n (take (length us - read) (drop read us)))
-      ≡ flat_map utf8_of_part16 (done ++ map Character16 (take n (take (length us - read) (drop read us))))
-  blocks_written =
-      let xs : List ℕ = take n (take (length us - read) (drop read us)) in
-      ap (λ ys. flat_map utf8_of_part16 done ++ ys) (sym (utf8_plain xs)) ∙ sym (flat_map-append utf8_of_part16 done (map Character16 xs))
-
--- an ASCII code unit
-module _ (us old new : List ℕ) (read written : ℕ) (done : List Part16) (w : Walked us read done) (v : WritesPrefix old new written (flat_map utf8_of_part16 done))
-    (inside : read < length us) (ascii : get_or us read 0 < 0x80) (room : written < length new) where
-  counts_as : IsFirstScalar (drop read us) (get_or us read 0)
-  counts_as = scalar_of_unit us read inside (omega arith) (λ l _. absurd (omega arith))
-
-  pub ascii_parts : List Part16
-  ascii_parts = done ++ counts_as.part ∷ []
-
-  pub ascii_walked : Walked us (read + 1) ascii_parts
-  unfolding ascii_parts
-  ascii_walked = step_walked us read done (get_or us read 0) 1 w counts_as (sym (ap length (one_unit (get_or us read 0) (omega arith))))
-
-  pub ascii_written : WritesPrefix old (set new written (get_or us read 0)) (written + 1) (flat_map utf8_of_part16 ascii_parts)
-  unfolding ascii_parts
-  ascii_written =
-      WritesPrefix-same _ _ _ _ _ _ (WritesPrefix_push old new written (flat_map utf8_of_part16 done) (get_or us read 0) v room) refl
-      (ap (λ xs. flat_map utf8_of_part16 done ++ xs) (sym (encode_ascii (get_or us read 0) ascii)) ∙ sym (step_written us read done (get_or us read 0) 1 w counts_as))
+pub plain_written : {us old new : List ℕ} {n m : ℕ} → WritesBmp us old new n m → WritesPrefix old new m (flat_map utf8_of_part16 (map Character16 (take n us)))
+plain_written {us} {old} {new} {n} {m} w = WritesPrefix-same _ _ _ _ _ _ w.written refl (sym (utf8_plain (take n us)))
 
 -- ---- one more block
 pub encodes_more : (us : List ℕ) (n m : ℕ) → encode_utf8_all (take n us) ++ encode_utf8_all (take m (drop n us)) ≡ encode_utf8_all (take (n + m) us)
@@ -132,22 +100,17 @@ module _ (us old new after : List ℕ) (n written : ℕ) (w : WritesPrefix old n
       → WritesPrefix old after (written + m) (encode_utf8_all (take (n + k) us))
   written_eight k m count room put = WritesPrefix-same _ _ _ _ _ _ (WritesPrefix_put old new after written m _ _ w count room put) refl (encodes_more us n k)
 
--- a block of ASCII
-pub ascii_block : (us : List ℕ) (at n : ℕ) → AllBelow 0x80 us at n → encode_utf8_all (take n (drop at us)) ≡ take n (drop at us)
-ascii_block us at n below = encodes-IsAscii (take n (drop at us)) (Each-take (λ u. u < 0x80) (omega arith) (drop at us) n (λ k l. let same = get_or-drop at us k 0 in omega (arith, same, below (at + k) (omega arith) (omega arith))))
-
 -- two vectors of eight
 pub sixteen_plain : (us : List ℕ) (at : ℕ) → ((k : ℕ) → k < 8 → IsBmpScalar (get_or (chunk at 8 us) k 0)) → ((k : ℕ) → k < 8 → IsBmpScalar (get_or (chunk (at + 8) 8 us) k 0)) → AreBmpScalars (take 16 (drop at us))
 sixteen_plain us at p q = plain_then (drop at us) 8 8 (eight_plain us at p) (rw (drop-drop 8 at us) (eight_plain us (at + 8) q))
 
--- k more units are converted
-pub plain_put : {us old new after : List ℕ} {n written : ℕ} → WritesBmp us old new n written → (k m : ℕ) → n + k ≤ length us → AreBmpScalars (take k (drop n us)) → m ≡ length (encode_utf8_all (take k (drop n us)))
-    → written + m ≤ length new → after ≡ take written new ++ (encode_utf8_all (take k (drop n us)) ++ drop (written + m) new) → WritesBmp us old after (n + k) (written + m)
-plain_put {us} {old} {new} {after} {n} {written} w k m inside plain count room put = record {
-  within = inside;
-  plain = plain_then us n k w.plain plain;
-  written = written_eight us old new after n written w.written k m count room put;
-}
+-- n units of what is left were converted
+pub written_left : (us : List ℕ) (read n : ℕ) {old new sub : List ℕ} {written m : ℕ} → WritesPrefix old new written (encode_utf8_all (take read us))
+    → WritesPrefix (take (length new - written) (drop written new)) sub m (encode_utf8_all (take n (take (length us - read) (drop read us))))
+    → WritesPrefix old (put_mid written (length new - written) new sub) (written + m) (encode_utf8_all (take (read + n) us))
+written_left us read n {old} {new} {sub} {written} {m} w v =
+    WritesPrefix-same _ _ _ _ _ _ (WritesPrefix_after old new written _ sub m _ w v) refl
+    (ap (λ xs. encode_utf8_all (take read us) ++ encode_utf8_all (take n xs)) (take_rest us read) ∙ encodes_more us read n)
 
 -- some blocks of what is left were converted
 pub plain_left : {us old new sub : List ℕ} {read written n m : ℕ} → WritesBmp us old new read written
@@ -156,32 +119,20 @@ pub plain_left : {us old new sub : List ℕ} {read written n m : ℕ} → Writes
 plain_left {us} {old} {new} {sub} {read} {written} {n} {m} w v = record {
   within = let inside : read ≤ length us = w.within in omega (arith, v.within, length-take (length us - read) (drop read us));
   plain = plain_then us read n w.plain (subst (λ xs. AreBmpScalars (take n xs)) (take_rest us read) v.plain);
-  written = WritesPrefix-same _ _ _ _ _ _ (WritesPrefix_after old new written _ sub m _ w.written v.written) refl
-      (ap (λ xs. encode_utf8_all (take read us) ++ encode_utf8_all (take n xs)) (take_rest us read) ∙ encodes_more us read n);
+  written = written_left us read n w.written v.written;
 }
 
--- an ASCII prefix of all
-pub non_surrogate_prefix : {us old new : List ℕ} {m : ℕ} → CopiesAscii us us old new 0 m → WritesBmp us old new m m
-non_surrogate_prefix {us} {old} {new} {m} copies =
-    let below : BelowUpTo 0x80 us m = copies.ascii (λ k l. absurd (omega arith)) in
-    record {
-      within = copies.within.0;
-      plain = Each-take IsBmpScalar (λ r. omega (arith, r.0)) us m (λ k l r. omega (arith, below k l, r.0));
-      written = WritesPrefix-same _ _ _ _ _ _ (copies.copied old (WritesPrefix-nil old)) refl (sym (encodes-IsAscii (take m us) (Each-take (λ u. u < 0x80) (omega arith) us m below)));
-    }
+-- an ASCII prefix was copied
+pub ascii_plain : {us old new : List ℕ} {n : ℕ} → n ≤ length us → IsAscii (take n us) → WritesPrefix old new n (take n us) → WritesBmp us old new n n
+ascii_plain {us} {old} {new} {n} within ascii w = record {
+  within = within;
+  plain = λ k r. omega (arith, ascii k, r.0);
+  written = WritesPrefix-same _ _ _ _ _ _ w refl (sym (encodes-IsAscii (take n us) ascii));
+}
 
--- an ASCII prefix of what is left
-module _ (us : List ℕ) (n m : ℕ) (below : BelowUpTo 0x80 (take (length us - n) (drop n us)) m) where
-  ascii_at : (k : ℕ) → k < m → get_or us (n + k) 0 < 0x80
-  ascii_at k l = let same = get_or-drop n us k 0 in omega (arith, same, ap (λ xs. get_or xs k 0) (take_rest us n), below k l)
-
-  ascii_spelled : take m (take (length us - n) (drop n us)) ≡ encode_utf8_all (take m (drop n us))
-  ascii_spelled =
-      let ascii : IsAscii (take m (drop n us)) = Each-take (λ u. u < 0x80) (omega arith) (drop n us) m (λ k l. let same = get_or-drop n us k 0 in omega (arith, same, ascii_at k l)) in
-      ap (take m) (take_rest us n) ∙ sym (encodes-IsAscii (take m (drop n us)) ascii)
-
-  pub written_ascii : (old new sub : List ℕ) (written : ℕ) → WritesPrefix old new written (encode_utf8_all (take n us))
-      → WritesPrefix (take (length new - written) (drop written new)) sub m (take m (take (length us - n) (drop n us)))
-      → WritesPrefix old (put_mid written (length new - written) new sub) (written + m) (encode_utf8_all (take (n + m) us))
-  written_ascii old new sub written w v =
-      WritesPrefix-same _ _ _ _ _ _ (WritesPrefix_after old new written _ sub m _ w v) refl (ap (λ xs. encode_utf8_all (take n us) ++ xs) ascii_spelled ∙ encodes_more us n m)
+-- an ASCII prefix of what is left was copied
+pub ascii_left : (us : List ℕ) (read n : ℕ) {old new sub : List ℕ} {written : ℕ} → WritesPrefix old new written (encode_utf8_all (take read us)) → IsAscii (take n (take (length us - read) (drop read us)))
+    → WritesPrefix (take (length new - written) (drop written new)) sub n (take n (take (length us - read) (drop read us)))
+    → WritesPrefix old (put_mid written (length new - written) new sub) (written + n) (encode_utf8_all (take (read + n) us))
+ascii_left us read n {old} {new} {sub} {written} w ascii v =
+    written_left us read n w (WritesPrefix-same _ _ _ _ _ _ v refl (sym (encodes-IsAscii (take n (take (length us - read) (drop read us))) ascii)))

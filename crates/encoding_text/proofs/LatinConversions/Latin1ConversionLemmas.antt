@@ -17,9 +17,8 @@ use Rattle.std.specs.Simd.Lanes.{chunk}
 use Rattle.std.proofs.lemmas.Simd.{length-chunk}
 use Rattle.encoding_kernels.proofs.LatinBlocks.EndedLemmas.{GoesOnWith, NextIs, Splits, nexts, splits, ended_without}
 use Rattle.encoding_kernels.proofs.LatinBlocks.AsciiLemmas.{Each-take}
-use Rattle.encoding_kernels.proofs.UnitBlocks.UnitBlocksLemmas.{encodes_more}
 use Rattle.encoding_definitions.proofs.LongestPrefixes.PrefixesLemmas.{IsLongestFittingPrefix-stop, IsLongestFittingPrefix-all, WritesPrefix_push, WritesPrefix_after, WritesPrefix_put, WritesPrefix-same}
-use Rattle.encoding_definitions.proofs.Latin.Latin1Lemmas.{IsLatin1-following, next_of_one, split_prefix, scalars_of_latin1}
+use Rattle.encoding_definitions.proofs.Latin.Latin1Lemmas.{IsLatin1-following, next_of_one, next_of_two, split_prefix, scalars_of_latin1}
 
 -- ---- fitting
 singles : (xs : List ℕ) → length (flat_map (λ (b : ℕ). b ∷ []) xs) ≡ length xs
@@ -70,14 +69,6 @@ latin1_bytes_two c l h =
     let lead : bit_or 0xC0 (c / 64) ≡ 192 + c / 64 = grind (arith, common_steps) in
     let last : bit_or 0x80 (bit_and c 0x3F) ≡ 128 + c % 64 = grind (arith, common_steps) in
     two c l (omega arith) ∙ rw (lead, last) refl
-
--- a call converted n bytes of what is left
-pub latin1_after : (xs : List ℕ) (i n : ℕ) {old new sub : List ℕ} {j m : ℕ} → WritesPrefix old new j (encode_utf8_all (take i xs))
-    → WritesPrefix (take (length new - j) (drop j new)) sub m (encode_utf8_all (take n (take (length xs - i) (drop i xs))))
-    → WritesPrefix old (put_mid j (length new - j) new sub) (j + m) (encode_utf8_all (take (i + n) xs))
-latin1_after xs i n {old} {new} {sub} {j} {m} w v =
-    WritesPrefix-same _ _ _ _ _ _ (WritesPrefix_after old new j _ sub m _ w v) refl
-    (ap (λ ys. encode_utf8_all (take i xs) ++ encode_utf8_all (take n ys)) (take_rest xs i) ∙ encodes_more xs i n)
 
 -- with two bytes of space for each byte the longest prefix that fits is all
 pub latin1_fits_twice : (xs : List ℕ) (room read : ℕ) (out : List ℕ) → ((i : ℕ) → slice_index xs i < 256) → 2 * length xs ≤ room
@@ -186,6 +177,13 @@ module _ (src cs old new sub : List ℕ) (i j n : ℕ) (low : IsLatin1 cs) (rest
       (λ k l. omega (arith, get_or-drop i src k 0, ap (λ xs. slice_index xs k) (take_rest src i), ascii k l)) in
       let text = ap (λ xs. take j cs ++ take n xs) (take_rest src i) ∙ ap (λ xs. take j cs ++ xs) part.1 ∙ sym (take-add j n cs) in
       (part.2, WritesPrefix-same _ _ _ _ _ _ (WritesPrefix_after old new j (take j cs) sub n _ w v) refl text)
+
+-- if a byte is left, a character is
+pub character_left : (src cs : List ℕ) (i j : ℕ) → IsLatin1 cs → drop i src ≡ encode_utf8_all (drop j cs) → i < length src → j < length cs
+character_left src cs i j low rest l = elim (cases_lt (slice_index src i) 128) [
+  | inl p ↦ (next_of_one src cs i j low rest l p).0
+  | inr p ↦ (next_of_two src cs i j low rest l p).0
+]
 
 -- ---- blocks of 16 bytes of Latin1 text
 -- no two bytes in a row start a character of two bytes

@@ -1,9 +1,9 @@
 -- Longest prefixes that may be the whole list, and the ASCII prefix before the first other unit.
-use Rattle.std.proofs.Common.{◌≡◌, ℕ, zero, suc, ◌+◌, ◌-◌, ◌<◌, ◌≤◌, inl, inr, List, length, take, drop, slice_index, ap, eqb, sym, ◌∙◌, arith, subst, Option, Some, None}
+use Rattle.std.proofs.Common.{ℕ, ◌+◌, ◌-◌, ◌<◌, ◌≤◌, inl, inr, List, ◌++◌, length, take, drop, slice_index, ap, eqb, sym, ◌∙◌, arith, subst, append_assoc, Option, Some, None}
 use Rattle.std.specs.Prelude.{IsTrue, ◌↔◌}
 use Rattle.std.specs.Str.{IsAscii}
 use Rattle.std.proofs.lemmas.Bool.{cases_lt, eqb-true, eq-eqb}
-use Rattle.std.proofs.lemmas.List.{take_all, take_rest, length-take, length-drop, get_or-take, get_or-drop}
+use Rattle.std.proofs.lemmas.List.{take_all, take_rest, take-append-drop, drop-append-le, length-take, length-drop, get_or-take, get_or-drop}
 use Rattle.encoding_definitions.specs.Ascii.{IsFirstOther, prefix_length_by}
 use Rattle.encoding_definitions.specs.Prefixes.{IsLongestPrefix, WritesPrefix}
 use Rattle.encoding_kernels.proofs.LatinBlocks.AsciiLemmas.{after_prefix}
@@ -35,10 +35,17 @@ other_at xs room unit place found l m = elim (cases_lt (slice_index xs place) 0x
   | inr p ↦ p
 ]
 
--- if an ASCII unit and room are left, the ASCII prefix of what is left isn't empty
-pub prefix_goes_on : (xs : List ℕ) (i room n : ℕ) → i < length xs → slice_index xs i < 0x80 → 0 < room
-    → (n < length (take (length xs - i) (drop i xs)) → n < room → 0x80 ≤ slice_index (take (length xs - i) (drop i xs)) n) → 0 < n
-prefix_goes_on xs i room zero l h r stops =
-    let here : i + 0 ≡ i = omega arith in
-    absurd (omega (arith, h, stops (omega (arith, ap length (take_rest xs i), length-drop i xs)) r, ap (λ ys. slice_index ys 0) (take_rest xs i), get_or-drop i xs 0 0, ap (slice_index xs) here))
-prefix_goes_on xs i room (suc n) l h r stops = omega arith
+-- the same after an ASCII prefix of what is left
+pub other_after : (xs old : List ℕ) (i j n : ℕ) → i + n < length xs → j + n < length old
+    → (n < length (take (length xs - i) (drop i xs)) → n < length (take (length old - j) (drop j old)) → 0x80 ≤ slice_index (take (length xs - i) (drop i xs)) n) → 0x80 ≤ slice_index xs (i + n)
+other_after xs old i j n l m stops =
+    omega (arith, stops (omega (arith, ap length (take_rest xs i), length-drop i xs)) (omega (arith, ap length (take_rest old j), length-drop j old)), ap (λ ys. slice_index ys n) (take_rest xs i), get_or-drop i xs n 0)
+
+-- if a prefix is written to the first `end` items, it is written
+pub written_within : {A : Type 0} (old sub : List A) (end n : ℕ) (out : List A) → WritesPrefix (take end old) sub n out → WritesPrefix old (sub ++ drop end old) n out
+written_within old sub end n out w = record {
+  count = w.count;
+  fits = omega (arith, w.fits, length-take end old);
+  placed = ap (λ xs. xs ++ drop end old) w.placed ∙ append_assoc out (drop n (take end old)) (drop end old)
+      ∙ ap (λ xs. out ++ xs) (sym (drop-append-le n (take end old) (drop end old) w.fits) ∙ ap (drop n) (take-append-drop end old));
+}

@@ -1,21 +1,25 @@
 //! Conversions from and to Latin1, in which each byte is the scalar value of its character. Infra Standard: isomorphic
 //! decode and encode. A conversion leaves the rest of `dst` unchanged.
 
-ghost use Rattle.std.specs.Prelude.{◌≡◌, ◌*◌, ◌%◌, ◌<◌, ◌≤◌, ◌⊎◌, [], ◌∷◌, take, length, map, slice_index, encode_utf8, encode_utf8_all};
+ghost use Rattle.std.specs.Prelude.{◌≡◌, ◌+◌, ◌*◌, ◌%◌, ◌<◌, ◌≤◌, ◌⊎◌, [], ◌∷◌, take, length, map, slice_index, encode_utf8, encode_utf8_all, IsTrue};
 ghost use Rattle.std.specs.Str.{IsAscii, chars};
 ghost use Rattle.encoding_definitions.specs.Prefixes.{IsLongestFittingPrefix, WritesPrefix};
 ghost use Rattle.encoding_definitions.specs.Latin1.{IsUtf8Latin1};
+ghost use Rattle.encoding_kernels.specs.Strides.{AllBelow};
 
 use crate::ascii;
 use encoding_kernels::latin1_to_utf8::write_latin1;
 use encoding_kernels::strides::{
-    ASCII_END, FOUR, STRIDE, are_bytes_below, pack_lower, unpack_part, write_first,
+    ASCII_END, BLOCK, FOUR, STRIDE, are_bytes_below, pack_lower, unpack_part, write_first,
 };
 use encoding_kernels::utf8_to_latin1::latin1_of;
 use std::simd::prelude::*;
 
 /// The length in UTF-8 of a character from U+0080 to U+00FF.
 const HIGH_LENGTH: usize = 2;
+
+/// The number of blocks of 16 bytes that one test for ASCII covers.
+const BLOCKS_BEFORE_RETEST: usize = 4;
 
 /// Writes each byte as a UTF-16 code unit. `dst` is at least as long as `src`.
 pub fn convert_latin1_to_utf16(src: &[u8], dst: &mut [u16])
@@ -55,32 +59,45 @@ fn copy_ascii(src: &[u8], dst: &mut [u8]) -> usize
     }
 }
 
-/// Writes the UTF-8 of the ASCII prefix and of blocks of 16 bytes after it, until 64 bytes are ASCII. Returns how many
-/// bytes it read and how many it wrote. If none, the first isn't ASCII or one of the slices is empty.
-///
-/// Four blocks share one test for ASCII: if ASCII and other bytes are mixed, a mispredicted branch costs more than a
-/// block.
+/// Returns whether the next bytes are ASCII: 64, or 16 if fewer than 64 are left. If ASCII and other bytes are mixed, a
+/// mispredicted branch costs more than a block, so that four blocks share this test.
+#[inline(always)]
+fn are_next_ascii(src: &[u8], at: usize) -> bool
+    requires { at + 16 ≤ length src.now }
+    ensures { IsTrue result → AllBelow 0x80 src.now at 16 }
+{
+    if src.len() - at >= BLOCK {
+        are_bytes_below::<BLOCK>(src, at, ASCII_END)
+    } else {
+        are_bytes_below::<STRIDE>(src, at, ASCII_END)
+    }
+}
+
+/// Writes the UTF-8 of blocks of 16 bytes, until the next ones are ASCII. Returns how many bytes it read and how many it
+/// wrote.
 #[inline(always)]
 fn convert_latin1_blocks(src: &[u8], dst: &mut [u8]) -> (usize, usize)
     ensures within { result.0 ≤ length src.now }
-    ensures progress { 0 < length src.now → 0 < length dst.old → (0 < result.0) ⊎ (0x80 ≤ slice_index src.now 0) }
     ensures written { WritesPrefix dst.old dst.new result.1 (encode_utf8_all (take result.0 src.now)) }
 {
-    let mut read = copy_ascii(src, dst);
-    let mut written = read;
-    while src.len() - read >= 64 && dst.len() - written >= 128 {
-        if are_bytes_below::<64>(src, read, ASCII_END) {
-            return (read, written);
-        }
-        let end = read + 64;
+    let mut read = 0;
+    let mut written = 0;
+    while src.len() - read >= BLOCK
+        && dst.len() - written >= 2 * BLOCK
+        && !are_next_ascii(src, read)
+    {
+        let end = read + BLOCK;
         while read < end {
             written += write_latin1(u8x16::from_slice(&src[read..]), dst, written);
-            read += 16;
+            read += STRIDE;
         }
     }
-    while src.len() - read >= 16 && dst.len() - written >= 32 {
+    while src.len() - read >= STRIDE
+        && dst.len() - written >= 2 * STRIDE
+        && !are_next_ascii(src, read)
+    {
         written += write_latin1(u8x16::from_slice(&src[read..]), dst, written);
-        read += 16;
+        read += STRIDE;
     }
     (read, written)
 }
@@ -94,19 +111,20 @@ pub fn convert_latin1_to_utf8_partial(src: &[u8], dst: &mut [u8]) -> (usize, usi
 {
     let mut read = 0;
     let mut written = 0;
-    while read < src.len() && written < dst.len() {
+    while read < src.len() {
         let (bytes, extra) = convert_latin1_blocks(&src[read..], &mut dst[written..]);
         read += bytes;
         written += extra;
-        if read < src.len() && src[read] >= ASCII_END {
-            if dst.len() - written < HIGH_LENGTH {
-                return (read, written);
-            }
-            dst[written] = 0xC0 | (src[read] >> 6);
-            dst[written + 1] = 0x80 | (src[read] & 0x3F);
-            read += 1;
-            written += 2;
+        let prefix = copy_ascii(&src[read..], &mut dst[written..]);
+        read += prefix;
+        written += prefix;
+        if read == src.len() || dst.len() - written < HIGH_LENGTH {
+            break;
         }
+        dst[written] = 0xC0 | (src[read] >> 6);
+        dst[written + 1] = 0x80 | (src[read] & 0x3F);
+        read += 1;
+        written += HIGH_LENGTH;
     }
     (read, written)
 }
@@ -139,19 +157,24 @@ pub fn convert_utf8_to_latin1(src: &[u8], dst: &mut [u8]) -> usize
     let mut read = 0;
     let mut written = 0;
     while read < src.len() {
-        let prefix = copy_ascii(&src[read..], &mut dst[written..]);
-        read += prefix;
-        written += prefix;
-        while src.len() - read >= 16
-            && dst.len() - written >= 16
-            && !are_bytes_below::<16>(src, read, ASCII_END)
-        {
+        let mut untested = 0;
+        while src.len() - read >= STRIDE && dst.len() - written >= STRIDE {
+            if untested == 0 {
+                if are_next_ascii(src, read) {
+                    break;
+                }
+                untested = BLOCKS_BEFORE_RETEST;
+            }
             let (bytes, count) = latin1_of(u8x16::from_slice(&src[read..]));
             write_first(dst, written, bytes, count);
             written += count;
             read += whole_length(src[read + 15]);
+            untested -= 1;
         }
-        if read < src.len() && src[read] >= ASCII_END {
+        let prefix = copy_ascii(&src[read..], &mut dst[written..]);
+        read += prefix;
+        written += prefix;
+        if read < src.len() {
             dst[written] = (src[read] << 6) | (src[read + 1] & 0x3F);
             read += 2;
             written += 1;

@@ -1,11 +1,13 @@
 //! UTF-16 to UTF-8, into a destination of any length. A conversion leaves the rest of `dst` unchanged.
-ghost use Rattle.std.specs.Prelude.{◌≡◌, ◌+◌, ◌<◌, ◌≤◌, ◌⊎◌, length, take, drop};
+ghost use Rattle.std.specs.Prelude.{◌≡◌, ◌+◌, ◌<◌, ◌≤◌, ◌⊎◌, ◌-◌, length, take, drop, slice_index, IsTrue};
+ghost use Rattle.std.specs.Str.{IsAscii};
 ghost use Rattle.encoding_definitions.specs.Prefixes.{WritesPrefix};
 ghost use Rattle.encoding_definitions.specs.Utf16.{IsUtf8OfPrefix, IsUtf8OfLongestPrefix};
 ghost use Rattle.encoding_definitions.specs.FirstScalar.{IsFirstScalar};
 
+use crate::ascii;
 use encoding_kernels::scalars::{utf8_length, utf16_length, write_scalar};
-use encoding_kernels::strides::HALF_STRIDE;
+use encoding_kernels::strides::{BASIC_LATIN_END, HALF_STRIDE};
 use encoding_kernels::surrogates::{
     is_high_surrogate, is_low_surrogate, is_surrogate, pair_scalar,
 };
@@ -36,26 +38,57 @@ fn scalar_at(src: &[u16], at: usize) -> u32
     REPLACEMENT_CHARACTER
 }
 
+/// Copies the longest ASCII prefix that leaves three bytes of `dst` free, and returns its length.
+#[inline(always)]
+fn copy_ascii(src: &[u16], dst: &mut [u8]) -> usize
+    ensures within { (result ≤ length src.now) × (result ≤ length dst.old - 3) }
+    ensures ascii { IsAscii (take result src.now) }
+    ensures stops { result < length src.now → result < length dst.old - 3 → 0x80 ≤ slice_index src.now result }
+    ensures copied { WritesPrefix dst.old dst.new result (take result src.now) }
+{
+    let room = dst.len().saturating_sub(LONGEST - 1);
+    match ascii::basic_latin_to_ascii(src, &mut dst[..room]) {
+        Some((_, place)) => place,
+        None => src.len().min(room),
+    }
+}
+
+/// Converts the ASCII prefix of `src` and blocks of other text after it. Returns how many code units it read, how many
+/// bytes it wrote, and whether to go on with the next ones at once. If not, a single character stopped the blocks, or
+/// the end of `src` or `dst` is near.
+#[inline(always)]
+fn convert_prefix_and_blocks(src: &[u16], dst: &mut [u8]) -> (usize, usize, bool)
+    ensures prefix { IsUtf8OfPrefix src.now result.0 (take result.1 dst.new) }
+    ensures unchanged_after { WritesPrefix dst.old dst.new result.1 (take result.1 dst.new) }
+    ensures within { result.0 ≤ length src.now }
+    ensures progress { IsTrue result.2 → 0 < result.0 }
+{
+    let prefix = copy_ascii(src, dst);
+    let (units, bytes) = convert_blocks(&src[prefix..], &mut dst[prefix..]);
+    let read = prefix + units;
+    let written = prefix + bytes;
+    if units > 0 && read < src.len() && src[read] < BASIC_LATIN_END {
+        return (read, written, true);
+    }
+    let (paired, extra) = convert_paired_blocks(&src[read..], &mut dst[written..]);
+    (read + paired, written + extra, paired > 0)
+}
+
 /// How many characters to convert one at a time after two attempts at blocks in a row failed.
 const SCALAR_BURST: usize = 32;
 
-/// Returns how many characters to convert one at a time before trying blocks again. None after blocks with surrogate
-/// pairs made progress. `SCALAR_BURST` if fewer than eight units are left, or if two attempts in a row converted fewer
-/// than eight: text without blocks is not scanned twice. Otherwise one: the character that stopped the blocks.
+/// Returns how many characters to convert one at a time before trying blocks again. `SCALAR_BURST` if fewer than eight
+/// units are left, or if two attempts in a row converted fewer than eight: text without blocks is not scanned twice.
+/// Otherwise one: the character that stopped the blocks.
 #[inline(always)]
-fn scalar_budget(units: usize, paired: usize, left: usize, last_block_failed: bool) -> usize
-    ensures { paired ≡ 0 → 0 < result }
+fn scalar_budget(left: usize, has_failed_twice: bool) -> usize
+    ensures { 0 < result }
 {
-    if left < HALF_STRIDE {
-        return SCALAR_BURST;
+    if left < HALF_STRIDE || has_failed_twice {
+        SCALAR_BURST
+    } else {
+        1
     }
-    if paired > 0 {
-        return 0;
-    }
-    if units < HALF_STRIDE && last_block_failed {
-        return SCALAR_BURST;
-    }
-    1
 }
 
 /// Converts the first characters of `src` from UTF-16 to UTF-8, while at least four bytes of `dst` are free. Returns
@@ -71,28 +104,22 @@ pub fn convert_utf16_to_utf8_partial_inner(src: &[u16], dst: &mut [u8]) -> (usiz
 {
     let mut read = 0;
     let mut written = 0;
-    let mut singles = if src.len() < HALF_STRIDE {
-        SCALAR_BURST
-    } else {
-        0
-    };
+    let mut singles = 0;
     let mut last_block_failed = false;
     let end = dst.len().saturating_sub(LONGEST - 1);
     while read < src.len() && written < end {
         if singles == 0 {
-            let (units, bytes) = convert_blocks(&src[read..], &mut dst[written..]);
+            let (units, bytes, goes_on) = convert_prefix_and_blocks(
+                &src[read..],
+                &mut dst[written..],
+            );
             read += units;
             written += bytes;
-            let (paired, extra) = convert_paired_blocks(&src[read..], &mut dst[written..]);
-            read += paired;
-            written += extra;
-            singles = scalar_budget(units, paired, src.len() - read, last_block_failed);
-            last_block_failed = units | paired < HALF_STRIDE;
-        } else if src[read] < 0x80 {
-            dst[written] = src[read] as u8;
-            written += 1;
-            read += 1;
-            singles -= 1;
+            if !goes_on {
+                let has_failed = units < HALF_STRIDE;
+                singles = scalar_budget(src.len() - read, has_failed && last_block_failed);
+                last_block_failed = has_failed;
+            }
         } else {
             let scalar = scalar_at(src, read);
             written += write_scalar(scalar, &mut dst[written..]);

@@ -1,15 +1,10 @@
-use Rattle.std.proofs.Common.{arith, take, sym}
-use Rattle.std.proofs.lemmas.Str.{encodes-IsAscii}
+use Rattle.std.proofs.Common.{arith}
+use Rattle.encoding_definitions.proofs.LongestPrefixes.PrefixesLemmas.{WritesPrefix-nil}
 use Rattle.encoding_kernels.proofs.UnitBlocks.UnitBlocksLemmas.{written_eight}
 use Rattle.encoding_text.proofs.mem.latin1.convert_latin1_blocks.Goals as goal
 
 pub loop-read-init : goal.loop-read-init
-loop-read-init c =
-    let call = c.copy_ascii-read.ensures in
-    record {
-      within = (omega arith, call.within.0);
-      written = rw (sym (encodes-IsAscii (take c.copy_ascii-read.result c.args.src.now) call.ascii)) at call.copied;
-    }
+loop-read-init c = record { within = omega arith; written = WritesPrefix-nil c.args.dst.now }
 
 pub loop-read-2-preserved : goal.loop-read-2-preserved
 loop-read-2-preserved c =
@@ -28,7 +23,7 @@ loop-read-3-preserved c =
     let here = c.loop-read-3.invariant in
     let call = c.write_latin1-written-in-loop-read-3.ensures in
     record {
-      within = (omega arith, omega arith);
+      within = omega arith;
       written = written_eight c.args.src.now c.args.dst.now _ c.write_latin1-written-in-loop-read-3.new.dst c.loop-read-3.read c.loop-read-3.written here.written 16 c.write_latin1-written-in-loop-read-3.result call.out_length
           (omega (arith, call.length_bound)) call.written;
     }

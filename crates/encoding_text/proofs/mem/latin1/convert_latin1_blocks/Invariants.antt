@@ -4,7 +4,7 @@ use Rattle.encoding_text.proofs.mem.latin1.convert_latin1_blocks.Given as goal
 
 abbrev pub invariant-loop-read : goal.invariant-loop-read
 invariant-loop-read l = record {
-  within : (l.initial.read ≤ l.read) × (l.read ≤ length l.src);
+  within : l.read ≤ length l.src;
   written : WritesPrefix l.fn.dst l.dst l.written (encode_utf8_all (take l.read l.src));
 }
 
@@ -24,7 +24,7 @@ decreases-loop-read-2 l = l.end - l.read
 
 abbrev pub invariant-loop-read-3 : goal.invariant-loop-read-3
 invariant-loop-read-3 l = record {
-  within : (l.initial.read ≤ l.read) × (l.read ≤ length l.src);
+  within : l.read ≤ length l.src;
   written : WritesPrefix l.fn.dst l.dst l.written (encode_utf8_all (take l.read l.src));
 }
 
