@@ -14,6 +14,7 @@ use crate::encode_units::{
 };
 use crate::strides::{BASIC_LATIN_END, HALF_STRIDE, STRIDE, are_units_below};
 use crate::surrogate_pairs::{are_two_byte_or_paired, write_two_byte_or_paired};
+use crate::surrogates::is_surrogate;
 use std::simd::prelude::*;
 
 /// The number of bytes that a block of sixteen code units may store, including those after it that are kept.
@@ -71,13 +72,16 @@ fn convert_sixteen(
     (bytes, kept, false)
 }
 
-/// Returns whether the next 64 code units are ASCII, if there are 64.
+/// Returns whether the next 64 code units are ASCII, if there are 64. Looks at the first one alone, since in most
+/// scripts it decides.
 #[inline(always)]
 fn are_next_ascii(src: &[u16], at: usize) -> bool
     requires { at ≤ length src.now }
     ensures { IsTrue result ↔ ((at + 64 ≤ length src.now) × AllBelow 0x80 src.now at 64) }
 {
-    src.len() - at >= TEST_LENGTH && are_units_below::<TEST_LENGTH>(src, at, BASIC_LATIN_END)
+    src.len() - at >= TEST_LENGTH
+        && src[at] < BASIC_LATIN_END
+        && are_units_below::<TEST_LENGTH>(src, at, BASIC_LATIN_END)
 }
 
 /// Converts blocks of sixteen code units from the start of `src`, until the next 64 are ASCII or a block has a
@@ -129,6 +133,14 @@ fn convert_first_eight(src: &[u16], dst: &mut [u8]) -> (usize, usize)
     (first, write_first_of_eight(units, first, dst, 0))
 }
 
+/// Returns whether a block may begin with the code unit: it is neither ASCII nor a surrogate.
+#[inline(always)]
+fn begins_block(unit: u16) -> bool
+    ensures { IsTrue result ↔ ((0x80 ≤ unit) × ((0xD800 ≤ unit) × (unit ≤ 0xDFFF) → ⊥)) }
+{
+    unit >= BASIC_LATIN_END && !is_surrogate(unit)
+}
+
 /// Converts blocks of code units from the start of `src` that have no surrogate, until ASCII is next. Of the last eight
 /// units, converts those before a surrogate. Returns how many code units it read and how many bytes it wrote.
 pub fn convert_blocks(src: &[u16], dst: &mut [u8]) -> (usize, usize)
@@ -136,11 +148,11 @@ pub fn convert_blocks(src: &[u16], dst: &mut [u8]) -> (usize, usize)
 {
     let mut read = 0;
     let mut written = 0;
-    while src.len() - read >= HALF_STRIDE && src[read] >= BASIC_LATIN_END {
+    while src.len() - read >= HALF_STRIDE && begins_block(src[read]) {
         let (dense, many) = convert_dense_blocks(&src[read..], &mut dst[written..]);
         read += dense;
         written += many;
-        if read == src.len() || src[read] < BASIC_LATIN_END {
+        if read == src.len() || !begins_block(src[read]) {
             break;
         }
         let (first, some) = convert_first_eight(&src[read..], &mut dst[written..]);

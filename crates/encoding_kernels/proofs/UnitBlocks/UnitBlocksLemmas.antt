@@ -1,25 +1,23 @@
 -- Blocks of code units that are no surrogates: each is a character, and their UTF-8 is joined from what the blocks
 -- write.
-use Rattle.std.proofs.Common.{◌≡◌, ℕ, suc, ◌+◌, ◌-◌, ◌<◌, ◌≤◌, ◌⊎◌, inl, inr, List, [], ◌∷◌, ◌++◌, map, length, set, take, drop, take-add, drop-drop, length-take, length-take-le, length-append, get_or, encode_utf8_all, refl, sym, ap, ◌∙◌, arith, subst, append_assoc}
+use Rattle.std.proofs.Common.{◌≡◌, ℕ, suc, ◌+◌, ◌-◌, ◌<◌, ◌≤◌, ◌⊎◌, inl, inr, List, [], ◌∷◌, ◌++◌, map, length, take, drop, take-add, drop-drop, length-take, length-take-le, length-append, get_or, encode_utf8_all, refl, sym, ap, ◌∙◌, arith, subst}
 use Rattle.std.specs.List.{flat_map}
 use Rattle.std.specs.Str.{IsAscii}
 use Rattle.std.specs.Simd.Lanes.{chunk}
 use Rattle.std.proofs.lemmas.Bool.{cases_lt}
 use Rattle.std.proofs.lemmas.List.{take-append-drop, take_rest, get_or-drop, get_or-take, get_or_past}
-use Rattle.std.proofs.lemmas.List.Concat.{flat_map-append}
 use Rattle.std.proofs.lemmas.Simd.{get_or-chunk, length-chunk}
-use Rattle.std.proofs.lemmas.Str.{encode_ascii, encodes-append, encodes-IsAscii}
+use Rattle.std.proofs.lemmas.Str.{encodes-append, encodes-IsAscii}
 use Rattle.std.proofs.str.Utf16.{one_unit}
 use borrow.Rule.Slice.PartMut.{put_mid}
 use Rattle.encoding_definitions.specs.Prefixes.{WritesPrefix}
-use Rattle.encoding_definitions.specs.Utf16.{AreCodeUnits, Part16, Character16, units_of_part16, utf8_of_part16}
-use Rattle.encoding_definitions.specs.FirstScalar.{IsFirstScalar}
+use Rattle.encoding_definitions.specs.Utf16.{AreCodeUnits, Character16, units_of_part16, utf8_of_part16}
 use Rattle.encoding_kernels.specs.EncodeLanes.{AreBmpScalars, WritesBmp}
-use Rattle.encoding_kernels.specs.Strides.{AllBelow, BelowUpTo, CopiesAscii}
+use Rattle.encoding_kernels.specs.Strides.{AllBelow}
 use Rattle.encoding_kernels.proofs.LatinBlocks.AsciiLemmas.{Each-take}
-use Rattle.encoding_definitions.proofs.LongestPrefixes.PrefixesLemmas.{WritesPrefix-nil, WritesPrefix_push, WritesPrefix-same, WritesPrefix_put, WritesPrefix_after}
+use Rattle.encoding_definitions.proofs.LongestPrefixes.PrefixesLemmas.{WritesPrefix-same, WritesPrefix_put, WritesPrefix_after}
 use Rattle.encoding_definitions.proofs.CodeUnits.Utf16Lemmas.{parts_of, parts_of-first, first_unit}
-use Rattle.encoding_definitions.proofs.CodeUnits.Utf16PrefixLemmas.{Walked, scalar_of_unit, step_walked, step_written}
+use Rattle.encoding_definitions.proofs.CodeUnits.Utf16PrefixLemmas.{Walked}
 
 -- ---- each is a character
 abbrev IsBmpScalar : ℕ → Type 0

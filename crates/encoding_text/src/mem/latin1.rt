@@ -82,10 +82,10 @@ fn convert_latin1_blocks(src: &[u8], dst: &mut [u8]) -> (usize, usize)
 {
     let mut read = 0;
     let mut written = 0;
-    while src.len() - read >= BLOCK
-        && dst.len() - written >= 2 * BLOCK
-        && !are_next_ascii(src, read)
-    {
+    while src.len() - read >= BLOCK && dst.len() - written >= 2 * BLOCK {
+        if are_bytes_below::<BLOCK>(src, read, ASCII_END) {
+            return (read, written);
+        }
         let end = read + BLOCK;
         while read < end {
             written += write_latin1(u8x16::from_slice(&src[read..]), dst, written);
@@ -94,7 +94,7 @@ fn convert_latin1_blocks(src: &[u8], dst: &mut [u8]) -> (usize, usize)
     }
     while src.len() - read >= STRIDE
         && dst.len() - written >= 2 * STRIDE
-        && !are_next_ascii(src, read)
+        && !are_bytes_below::<STRIDE>(src, read, ASCII_END)
     {
         written += write_latin1(u8x16::from_slice(&src[read..]), dst, written);
         read += STRIDE;
@@ -115,6 +115,9 @@ pub fn convert_latin1_to_utf8_partial(src: &[u8], dst: &mut [u8]) -> (usize, usi
         let (bytes, extra) = convert_latin1_blocks(&src[read..], &mut dst[written..]);
         read += bytes;
         written += extra;
+        if read == src.len() {
+            break;
+        }
         let prefix = copy_ascii(&src[read..], &mut dst[written..]);
         read += prefix;
         written += prefix;
