@@ -1,6 +1,5 @@
 pub mod FinalLemmas
 pub mod RepairLemmas
-pub mod PrefixTextLemmas
 pub mod RoundLemmas
 pub mod PrefixLemmas
 pub mod RepeatLemmas

@@ -86,23 +86,6 @@ wrote_piece last bs p src old new now n piece read q w call a =
     let g = piece_yields p src last piece read q call in
     wrote_then last bs (p ++ src) (q ++ drop read src) old new now n (malformed_in piece) w (record { parts = g.parts; first = g.first; bytes = subst (Appends new now) (sym g.text) a; malformed = sym g.malformed })
 
--- nothing is pending after a piece
-pub nothing_pending : (p src : List ℕ) (last : Bool) (piece : Piece) (read : ℕ) (q : List ℕ) → BorrowedDecodeStep p src last piece read q → (piece ≡ InputEmpty → ⊥) → q ≡ []
-nothing_pending p src last (Text t) read q call n = call.answer.1
-nothing_pending p src last (Char c) read q call n = call.answer.1
-nothing_pending p src last (Malformed k) read q call n = call.answer.2
-nothing_pending p src last InputEmpty read q call n = absurd (n refl)
-
--- one more piece is written, and no byte follows it
-pub wrote_last : (last : Bool) (bs p src : List ℕ) (old new now : Option (List ℕ)) (n : ℕ) (piece : Piece) (read : ℕ) (q : List ℕ) → WritesParts last bs (p ++ src) old new n
-    → BorrowedDecodeStep p src last piece read q → (piece ≡ InputEmpty → ⊥) → Appends new now (text_of piece) → length src ≤ read
-    → WritesParts last bs q old now (n + malformed_in piece) × (q ≡ [])
-wrote_last last bs p src old new now n piece read q w call some a all =
-    let rest : q ++ drop read src ≡ q = ap (λ xs. q ++ xs) (drop_all read src all) ∙ append-nil q in (
-      subst (λ xs. WritesParts last bs xs old now (n + malformed_in piece)) rest (wrote_piece last bs p src old new now n piece read q w call a),
-      nothing_pending p src last piece read q call some,
-    )
-
 -- a proper prefix of its text is written
 pub stopped_piece : (last : Bool) (bs p src : List ℕ) (old new now : Option (List ℕ)) (n : ℕ) (piece : Piece) (read : ℕ) (q : List ℕ) (k : ℕ) → WritesParts last bs (p ++ src) old new n
     → BorrowedDecodeStep p src last piece read q → k < length (text_of piece) → Appends new now (take k (text_of piece)) → StopsInParts last bs old now
@@ -137,46 +120,6 @@ stopped_all last bs old new s =
       subst (IsProperPrefix s.out) (sym (lossy_utf8-append s.parts others.0)) (longer_prefix s.out (lossy_utf8 s.parts) (lossy_utf8 others.0) s.less),
       s.bytes,
     )
-
--- ---- a well-formed prefix, and then the rest
-pub record TextParts (bs : List ℕ) (n : ℕ) : Type 0 where
-  pub parts : List Part
-  pub first : (last : Bool) → AreFirst last bs parts (drop n bs)
-  pub text : lossy_utf8 parts ≡ take n bs
-  pub malformed : malformed_count parts ≡ 0
-
-pub text_parts : (bs : List ℕ) (n : ℕ) → IsUtf8 (take n bs) → TextParts bs n
-text_parts bs n (cs, (scalars, spelled)) =
-    let whole : encode_utf8_all cs ++ drop n bs ≡ bs = ap (λ xs. xs ++ drop n bs) spelled ∙ take-append-drop n bs in
-    record {
-      parts = map Character cs;
-      first = λ last. record {
-        starts = subst (λ xs. StartsWith xs (map Character cs) (drop n bs)) whole (StartsWith-characters cs (drop n bs) scalars);
-        stable = λ _ more.
-            subst (λ xs. StartsWith xs (map Character cs) (drop n bs ++ more)) (sym (append_assoc (encode_utf8_all cs) (drop n bs) more) ∙ ap (λ xs. xs ++ more) whole)
-            (StartsWith-characters cs (drop n bs ++ more) scalars);
-      };
-      text = lossy_utf8-characters cs ∙ spelled;
-      malformed = malformed_count-characters cs;
-    }
-
-pub wrote_text : (bs : List ℕ) (n : ℕ) (old new : Option (List ℕ)) → IsUtf8 (take n bs) → Appends old new (take n bs) → WritesParts true bs (drop n bs) old new 0
-wrote_text bs n old new text a =
-    let t = text_parts bs n text in
-    record { parts = t.parts; first = t.first true; bytes = subst (Appends old new) (sym t.text) a; malformed = sym t.malformed }
-
-pub wrote_all_text : (bs : List ℕ) (n : ℕ) (old new : Option (List ℕ)) → length bs ≤ n → IsUtf8 (take n bs) → Appends old new (take n bs) → WritesRepaired bs old new 0
-wrote_all_text bs n old new all text a = wrote_all true bs old new 0 (subst (λ xs. WritesParts true bs xs old new 0) (drop_all n bs all) (wrote_text bs n old new text a))
-
-pub stopped_text : (bs : List ℕ) (n k : ℕ) (old new : Option (List ℕ)) → IsUtf8 (take n bs) → k < length (take n bs) → Appends old new (take k (take n bs)) → Stops bs old new
-stopped_text bs n k old new text short a =
-    let t = text_parts bs n text in stopped_all true bs old new (stopped_in true bs t.parts (drop n bs) (take n bs) old new k (t.first true) (sym t.text) short a)
-
-pub wrote_rest : (bs rest : List ℕ) (old new now : Option (List ℕ)) (n : ℕ) → WritesParts true bs rest old new 0 → WritesParts true rest [] new now n → WritesRepaired bs old now n
-wrote_rest bs rest old new now n w v = wrote_all true bs old now n (subst (WritesParts true bs [] old now) {x = 0 + n} {y = n} (omega arith) (wrote_then true bs rest [] old new now 0 n w v))
-
-pub stopped_rest : (bs rest : List ℕ) (old new now : Option (List ℕ)) → WritesParts true bs rest old new 0 → StopsInParts true rest new now → Stops bs old now
-stopped_rest bs rest old new now w s = stopped_all true bs old now (stopped_then true bs rest old new now 0 w s)
 
 -- ---- more bytes after parts that no continuation changes
 pub wrote_after : (last : Bool) (bs mid more rest : List ℕ) (old new now : Option (List ℕ)) (n m : ℕ) → WritesParts false bs mid old new n

@@ -1,6 +1,5 @@
 //! Repairs UTF-8: writes the text of the input, with U+FFFD for each malformed sequence.
 mod blocks;
-mod dense;
 mod engine;
 mod streams;
 

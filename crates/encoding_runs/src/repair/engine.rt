@@ -6,10 +6,8 @@ ghost use Rattle.encoding_runs.specs.Repairs.{RepairsAll, RepairsProperPrefix, R
 ghost use Rattle.encoding_runs.specs.Steps.Rounds.{ReadsRound};
 ghost use Rattle.encoding_runs.specs.Steps.Writing.{StopsInParts, WritesParts, malformed_in, text_of};
 
-use super::dense::{REPLACEMENT_UTF8, repair_prefix};
 use super::streams::{Sink, Source};
 use encoding_text::decoder::{Piece, Utf8Decoder};
-use encoding_text::utf_8::utf8_valid_up_to;
 
 /// Why a repair stopped.
 #[derive(Debug, PartialEq, Eq, Drop)]
@@ -32,11 +30,8 @@ pub struct Repaired {
 /// The most bytes of one read.
 const ROUND: usize = 1024;
 
-/// The most bytes that wait for a write: U+FFFD for each byte of a round.
-const ROUND_OUTPUT: usize = 3 * ROUND;
-
-/// The most bytes that wait for a write if a slice is repaired. A short slice isn't worth the zeros of a long array.
-const SLICE_OUTPUT: usize = 192;
+/// U+FFFD in UTF-8.
+const REPLACEMENT_UTF8: [u8; 3] = [0xEF, 0xBF, 0xBD];
 
 /// Writes all bytes, each once, with as many writes as needed. Out of line: most writers take all bytes at once.
 #[inline(never)]
@@ -79,6 +74,7 @@ fn write_whole<W: Sink>(writer: &mut W, bytes: &[u8]) -> Result<(), RepairFault>
 }
 
 /// Writes text unchanged, a character, or U+FFFD for a malformed sequence. Returns the number of malformed sequences.
+#[inline(always)]
 fn write_piece<W: Sink>(writer: &mut W, piece: Piece<'_>) -> Result<u64, RepairFault>
     ensures ok { IfOk result (λ replaced. (replaced ≡ malformed_in piece.entry)
         × Appends (W.contents writer.old) (W.contents writer.new) (text_of piece.entry)
@@ -109,7 +105,6 @@ fn write_parts<W: Sink>(
     decoder: &mut Utf8Decoder,
     src: &[u8],
     last: bool,
-    array: &mut [u8],
     writer: &mut W,
 ) -> Result<u64, RepairFault>
     requires unfinished { IsPending decoder.old }
@@ -129,31 +124,8 @@ fn write_parts<W: Sink>(
             return Ok(replaced);
         }
         replaced += write_piece(writer, piece)?;
-        // after a piece nothing is pending
-        if read == rest.len() {
-            return Ok(replaced);
-        }
         rest = &rest[read..];
-        let prefix = repair_prefix(rest, array);
-        write_whole(writer, &array[..prefix.written])?;
-        replaced += prefix.replaced as u64;
-        rest = &rest[prefix.read..];
     }
-}
-
-/// Decodes all of `src`, the last bytes, and writes the result. Returns the number of malformed sequences. Out of line:
-/// well-formed text needs neither a decoder nor an array.
-#[inline(never)]
-fn write_last_parts<W: Sink>(src: &[u8], writer: &mut W) -> Result<u64, RepairFault>
-    ensures ok { IfOk result (λ replaced. WritesParts true src.now [] (W.contents writer.old) (W.contents writer.new) replaced
-        × (W.has_failed writer.new ≡ W.has_failed writer.old)) }
-    ensures err { IfErr result (λ fault. (fault ≡ RepairFault.Write) × (W.has_failed writer.new ≡ true)
-        × StopsInParts true src.now (W.contents writer.old) (W.contents writer.new)) }
-    ensures keeps { W.keeps writer.old writer.new }
-{
-    let mut decoder = Utf8Decoder::new_inner();
-    let mut array = [0; SLICE_OUTPUT];
-    write_parts(&mut decoder, src, true, &mut array, writer)
 }
 
 /// Writes `src` with U+FFFD for each malformed sequence, and returns the number of malformed sequences.
@@ -169,12 +141,8 @@ pub fn repair_slice<W: Sink>(src: &[u8], writer: &mut W) -> Result<u64, RepairFa
         → (IsTrue (W.has_failed writer.new) ↔ (result ≡ Err RepairFault.Write)) }
     ensures keeps { W.keeps writer.old writer.new }
 {
-    let length = utf8_valid_up_to(src);
-    write_whole(writer, &src[..length])?;
-    if length == src.len() {
-        return Ok(0);
-    }
-    write_last_parts(&src[length..], writer)
+    let mut decoder = Utf8Decoder::new_inner();
+    write_parts(&mut decoder, src, true, writer)
 }
 
 /// Runs one round: reads once into the buffer, and writes the result of the pending bytes and of these. At the end it
@@ -183,7 +151,6 @@ fn repair_round<R: Source, W: Sink>(
     decoder: &mut Utf8Decoder,
     reader: &mut R,
     buffer: &mut [u8],
-    array: &mut [u8],
     writer: &mut W,
 ) -> Result<Repaired, RepairFault>
     requires unfinished { IsPending decoder.old }
@@ -208,7 +175,7 @@ fn repair_round<R: Source, W: Sink>(
     let Some(count) = reader.read(buffer) else {
         return Err(RepairFault::Read);
     };
-    let replaced = write_parts(decoder, &buffer[..count], count == 0, array, writer)?;
+    let replaced = write_parts(decoder, &buffer[..count], count == 0, writer)?;
     Ok(Repaired {
         read: count as u64,
         replaced,
@@ -250,17 +217,10 @@ pub fn repair<R: Source, W: Sink>(
 {
     let mut decoder = Utf8Decoder::new_inner();
     let mut buffer = [0; ROUND];
-    let mut array = [0; ROUND_OUTPUT];
     let (mut read, mut replaced) = (0, 0);
     while read < limit {
         let room = (limit - read).min(ROUND as u64) as usize;
-        let round = repair_round(
-            &mut decoder,
-            reader,
-            &mut buffer[..room],
-            &mut array,
-            writer,
-        )?;
+        let round = repair_round(&mut decoder, reader, &mut buffer[..room], writer)?;
         read += round.read;
         replaced += round.replaced;
         if round.read == 0 {
