@@ -37,20 +37,43 @@ fn copy_by_strides<const N: usize>(src: &[u8], dst: &mut [u8])
     copy::<N>(src, dst, last);
 }
 
-/// Copies `src` to the start of `dst`. A few bytes are not worth a PLT call of the C library.
+/// Copies one, two or three bytes to the start of `dst`. May copy a byte twice: a branch for each length costs more.
+#[inline(always)]
+fn copy_few(src: &[u8], dst: &mut [u8])
+    requires few { (0 < length src.now) × (length src.now ≤ 3) }
+    requires dst_length { length src.now ≤ length dst.old }
+    ensures { WritesPrefix dst.old dst.new (length src.now) src.now }
+{
+    let (middle, last) = (src.len() / 2, src.len() - 1);
+    dst[0] = src[0];
+    dst[middle] = src[middle];
+    dst[last] = src[last];
+}
+
+/// Copies `src`, of at least four bytes, to the start of `dst`.
 #[inline]
+fn copy_many(src: &[u8], dst: &mut [u8])
+    requires { length src.now ≤ length dst.old }
+    ensures { WritesPrefix dst.old dst.new (length src.now) src.now }
+{
+    match src.len() {
+        4..HALF_STRIDE => copy_by_strides::<4>(src, dst),
+        HALF_STRIDE..STRIDE => copy_by_strides::<HALF_STRIDE>(src, dst),
+        STRIDE..=MOST_STRIDES => copy_by_strides::<STRIDE>(src, dst),
+        _ => dst[..src.len()].copy_from_slice(src),
+    }
+}
+
+/// Copies `src` to the start of `dst`. A few bytes are not worth a PLT call of the C library.
+#[inline(always)]
 pub fn copy_prefix(src: &[u8], dst: &mut [u8])
     requires { length src.now ≤ length dst.old }
     ensures { WritesPrefix dst.old dst.new (length src.now) src.now }
 {
     match src.len() {
         0 => {}
-        1 => dst[0] = src[0],
-        2..4 => copy_by_strides::<2>(src, dst),
-        4..HALF_STRIDE => copy_by_strides::<4>(src, dst),
-        HALF_STRIDE..STRIDE => copy_by_strides::<HALF_STRIDE>(src, dst),
-        STRIDE..=MOST_STRIDES => copy_by_strides::<STRIDE>(src, dst),
-        _ => dst[..src.len()].copy_from_slice(src),
+        1..4 => copy_few(src, dst),
+        _ => copy_many(src, dst),
     }
 }
 

@@ -143,6 +143,7 @@ impl<'a, T: Write> Sink for Watch<'a, T> {
     }
 
     /// Writes to the stream. Whether its end was seen is unchanged.
+    #[inline(always)]
     fn write(&mut self, bytes: &[u8]) -> Option<usize>
         requires not_empty { 0 < length bytes.now }
         ensures bound { IfSome result (λ n. (0 < n) × (n ≤ length bytes.now)) }

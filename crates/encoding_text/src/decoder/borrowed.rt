@@ -1,12 +1,15 @@
 //! One call of a decoder that borrows from its source.
 ghost use Rattle.std.specs.Prelude.{◌≡◌, ◌≢◌, ℕ, []};
+ghost use Rattle.std.specs.Str.{IsUtf8};
 ghost use Rattle.encoding_definitions.specs.Sequence.{IsIncomplete};
+ghost use Rattle.encoding_definitions.specs.Prefixes.{IsLongestPrefix};
 ghost use Rattle.encoding_text.specs.Decoding.{BorrowedDecodeStep};
 
 use super::pending::{Pending, Resumed, is_malformed_byte};
 use super::{DecoderResult, Piece};
 use crate::utf_8::utf8_valid_up_to;
 use encoding_kernels::scalars::decode_utf8_scalar;
+use encoding_kernels::strides::{ASCII_END, STRIDE, run_len_below};
 
 /// Returns the piece for what ended a call without output.
 fn piece_at_end<'a>(end: DecoderResult) -> Piece<'a>
@@ -37,6 +40,21 @@ pub(crate) fn decode_borrowed<'a>(
     }
 }
 
+/// Returns the length of the longest well-formed prefix. Between malformed sequences this is often a few ASCII bytes,
+/// which one vector shows.
+#[inline(always)]
+fn well_formed_length(src: &[u8]) -> usize
+    ensures { IsLongestPrefix IsUtf8 src.now result }
+{
+    if src.len() > STRIDE {
+        let ascii = run_len_below::<STRIDE>(src, 0, ASCII_END);
+        if is_malformed_byte(&src[ascii..]) {
+            return ascii;
+        }
+    }
+    utf8_valid_up_to(src)
+}
+
 /// Decodes the start of `src` with nothing pending. Returns the piece and how many bytes were read.
 #[inline(always)]
 fn borrow_prefix<'a>(pending: &mut Pending, src: &'a [u8], last: bool) -> (Piece<'a>, usize)
@@ -47,7 +65,7 @@ fn borrow_prefix<'a>(pending: &mut Pending, src: &'a [u8], last: bool) -> (Piece
     if !src.is_empty() && is_malformed_byte(src) {
         return (Piece::Malformed(1), 1);
     }
-    let length = utf8_valid_up_to(src);
+    let length = well_formed_length(src);
     if length > 0 {
         return (
             Piece::Text(unsafe { std::str::from_utf8_unchecked(&src[..length]) }),

@@ -7,7 +7,9 @@ ghost use Rattle.encoding_text.specs.Decoding.{IsMalformed};
 ghost use Rattle.encoding_text.specs.Steps.Resuming.{GoesOn};
 
 use super::DecoderResult;
-use encoding_kernels::sequence::{begins_several, is_continuation, is_second, sequence_length};
+use encoding_kernels::sequence::{
+    begins_several, is_continuation, is_lead_with_continuation, is_second, sequence_length,
+};
 use std::marker::Model;
 
 /// None, or an incomplete sequence.
@@ -59,10 +61,13 @@ pub(crate) fn is_malformed_byte(bytes: &[u8]) -> bool
     ensures begins { BeginsWithNoCharacter bytes.now → result ≡ false → IsIncomplete (take 1 bytes.now) }
 {
     let lead = bytes[0];
-    if begins_several(lead) {
-        return bytes.len() > 1 && !is_continuation(bytes[1]);
+    if lead < 0x80 {
+        return false;
     }
-    lead >= 0x80
+    if bytes.len() == 1 {
+        return !begins_several(lead);
+    }
+    !is_lead_with_continuation(lead, bytes[1])
 }
 
 impl Model for Pending {

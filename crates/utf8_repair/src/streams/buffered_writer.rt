@@ -1,6 +1,6 @@
 //! A writer that buffers pieces and writes many bytes at once.
 ghost use Rattle.std.specs.Prelude.{◌≡◌, ◌++◌, ◌-◌, ◌<◌, ◌≤◌, true, false, List, ℕ, [], length, take, IfOk, OnOk, OnErr};
-ghost use Rattle.std.specs.Io.KnownBytes.{Keeps, append_known};
+ghost use Rattle.std.specs.Io.KnownBytes.{Keeps, WriteAppends, append_known};
 
 use super::due::FlushPolicy;
 use super::held::Held;
@@ -73,14 +73,14 @@ impl<W: Write, const N: usize> BufferedWriter<'_, W, N> {
         self.held.take_back(left);
         Ok(count - left)
     }
-}
 
-impl<W: Write, const N: usize> Write for BufferedWriter<'_, W, N> {
-    ghost contents = { λ w. append_known (W.contents w.inner) w.held };
-
-    /// Buffers the piece, and writes out all buffered bytes at once if the piece is due. On an error of the inner
-    /// writer, no byte of the piece is written or buffered.
-    fn write(&mut self, piece: &[u8]) -> io::Result<usize> {
+    /// Does what `write` does. Out of line: most pieces aren't due and fit after the buffered bytes.
+    #[inline(never)]
+    fn write_out(&mut self, piece: &[u8]) -> io::Result<usize>
+        ensures bound { IfOk result (λ n. n ≤ length piece.now) }
+        ensures bytes { WriteAppends (append_known (W.contents self.old.inner) self.old.held)
+            (append_known (W.contents self.new.inner) self.new.held) result piece.now }
+    {
         if !self.gather(piece)? {
             return self.inner.write(piece);
         }
@@ -88,6 +88,20 @@ impl<W: Write, const N: usize> Write for BufferedWriter<'_, W, N> {
             return self.send(piece.len());
         }
         Ok(piece.len())
+    }
+}
+
+impl<W: Write, const N: usize> Write for BufferedWriter<'_, W, N> {
+    ghost contents = { λ w. append_known (W.contents w.inner) w.held };
+
+    /// Buffers the piece, and writes out all buffered bytes at once if the piece is due. On an error of the inner
+    /// writer, no byte of the piece is written or buffered.
+    #[inline(always)]
+    fn write(&mut self, piece: &[u8]) -> io::Result<usize> {
+        if !self.due.get().has(piece) && self.held.push(piece) {
+            return Ok(piece.len());
+        }
+        self.write_out(piece)
     }
 
     /// Writes out the buffered bytes, and flushes the inner writer.

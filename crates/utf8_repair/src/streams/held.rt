@@ -3,6 +3,7 @@ ghost use Rattle.std.specs.Prelude.{◌≡◌, ℕ, ◌-◌, ◌<◌, ◌≤◌,
 ghost use Rattle.std.specs.Bool.{IsFalse};
 ghost use Rattle.std.specs.Io.KnownBytes.{Keeps, IsAtEnd, append_known, prepend_known};
 
+use encoding_kernels::strides::copy_prefix;
 use std::io::{self, Error, ErrorKind, Read, Write};
 use std::marker::Model;
 
@@ -76,6 +77,7 @@ impl<const N: usize> Held<N> {
     }
 
     /// Appends the piece if it fits after the queued bytes, and returns whether it did.
+    #[inline(always)]
     pub(crate) fn push(&mut self, piece: &[u8]) -> bool
         ensures taken { IsTrue result → self.new ≡ self.old ++ piece.now }
         ensures refused { IsFalse result → self.new ≡ self.old }
@@ -84,10 +86,9 @@ impl<const N: usize> Held<N> {
         if piece.len() > N - self.end {
             return false;
         }
-        let (at, end) = (self.end, self.end + piece.len());
         let bytes = &mut self.bytes[..];
-        bytes[at..end].copy_from_slice(piece);
-        self.end = end;
+        copy_prefix(piece, &mut bytes[self.end..]);
+        self.end += piece.len();
         true
     }
 

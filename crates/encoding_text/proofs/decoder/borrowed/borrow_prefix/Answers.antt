@@ -6,5 +6,5 @@ use Rattle.encoding_text.proofs.decoder.borrowed.borrow_prefix.Goals as goal
 
 pub end_before-end-requires-clause-no_character : goal.end_before-end-requires-clause-no_character
 end_before-end-requires-clause-no_character c =
-    let none : c.utf8_valid_up_to-length.result ≡ 0 = omega (arith, c.if-length-gt0.false) in
-    no_character_after c.args.src.now 0 (subst (IsLongestPrefix IsUtf8 c.args.src.now) none c.utf8_valid_up_to-length.ensures)
+    let none : c.well_formed_length-length.result ≡ 0 = omega (arith, c.if-length-gt0.false) in
+    no_character_after c.args.src.now 0 (subst (IsLongestPrefix IsUtf8 c.args.src.now) none c.well_formed_length-length.ensures)

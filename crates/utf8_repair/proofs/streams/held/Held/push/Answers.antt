@@ -1,6 +1,7 @@
-use Rattle.std.proofs.Common.{◌≡◌, ◌-◌, ◌++◌, length, take, drop, ap, ◌∙◌, arith, rules, length-take-le, length-drop}
-use Rattle.std.proofs.lemmas.List.{drop-append-le}
-use Rattle.std.proofs.lemmas.Slice.{take-put_mid}
+use Rattle.std.proofs.Common.{◌≡◌, ◌+◌, ◌-◌, ◌++◌, length, take, drop, ap, sym, ◌∙◌, arith, rules, length-take-le, length-drop}
+use Rattle.std.proofs.lemmas.List.{drop-append-le, take_at, take-append-drop}
+use Rattle.encoding_definitions.specs.Prefixes.{WritesPrefix}
+use Rattle.encoding_definitions.proofs.LongestPrefixes.PrefixesLemmas.{WritesPrefix_after}
 use Rattle.utf8_repair.proofs.streams.held.Held.push.Goals as goal
 
 -- an empty queue has space for `N` bytes
@@ -17,8 +18,11 @@ returns-then-piece-self-clause-dst_length g c = λ none fits.
 pub returns-clause-taken : goal.returns-clause-taken
 returns-clause-taken g c = λ _.
     let held = c.self.inside in
+    let piece = c.args.piece.now in
     let size : length held.bytes ≡ g.row.N = search rules in
-    let prefix = length-take-le held.end held.bytes (omega arith) in
-    let following = take-put_mid held.end _ held.bytes c.copy_from_slice.new.self _ (omega (arith, ap length c.copy_from_slice.ensures.after)) (omega arith) in
-    ap (drop held.start) following ∙ drop-append-le held.start (take held.end held.bytes) _ (omega arith)
-    ∙ ap (λ xs. xs ++ c.copy_from_slice.new.self) c.self.view_is ∙ ap (λ xs. c.args.self.now ++ xs) c.copy_from_slice.ensures.after
+    let prefix = take held.end held.bytes in
+    let ends : length prefix ≡ held.end = length-take-le held.end held.bytes (omega arith) in
+    let queued : WritesPrefix held.bytes held.bytes held.end prefix = record { count = sym ends; fits = omega arith; placed = sym (take-append-drop held.end held.bytes) } in
+    let all = WritesPrefix_after held.bytes held.bytes held.end prefix _ _ piece queued c.copy_prefix.ensures in
+    ap (λ xs. drop held.start (take (held.end + length piece) xs)) all.placed
+    ∙ ap (drop held.start) (take_at (prefix ++ piece) _ _ (sym all.count)) ∙ drop-append-le held.start prefix piece (omega arith) ∙ ap (λ xs. xs ++ piece) c.self.view_is
