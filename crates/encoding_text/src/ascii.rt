@@ -283,6 +283,21 @@ pub fn basic_latin_to_ascii(src: &[u16], dst: &mut [u8]) -> Option<(u16, usize)>
     None
 }
 
+/// Returns the length of the longest ASCII prefix, as `ascii_valid_up_to` does. One mask finds its end in the first
+/// block, without a branch that depends on the text: between other characters most prefixes end there.
+#[inline(always)]
+pub(crate) fn ascii_valid_up_to_by_block(bytes: &[u8]) -> usize
+    ensures { IsLongestPrefix IsAscii bytes.now result }
+{
+    if bytes.len() >= BLOCK {
+        let run = encoding_kernels::strides::run_len_below::<BLOCK>(bytes, 0, ASCII_END);
+        if run < BLOCK || bytes.len() == BLOCK {
+            return run;
+        }
+    }
+    ascii_valid_up_to(bytes)
+}
+
 /// Copies the longest ASCII prefix, each byte as a UTF-16 code unit, up to the shorter of the two lengths. Returns its
 /// length. Out of line, so that a loop that calls it needs few registers.
 #[inline(never)]

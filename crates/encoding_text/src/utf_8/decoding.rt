@@ -95,7 +95,8 @@ pub(crate) fn convert_text(src: &[u8], dst: &mut [u16]) -> usize
 /// Converts UTF-8 to UTF-16 up to the first byte that is in no character, or as far as whole characters fit. Returns
 /// how many bytes it read and how many code units it wrote. `dst` may have any length.
 ///
-/// A turn takes the ASCII prefix, then a well-formed piece that is short enough for its UTF-16 to fit, then one character.
+/// A turn takes the ASCII prefix, then a well-formed piece that is short enough for its UTF-16 to fit, then one
+/// character. The test for ASCII is its validation, so the ASCII before a piece is read once.
 pub fn convert_utf8_to_utf16_up_to_invalid(src: &[u8], dst: &mut [u16]) -> (usize, usize)
     ensures { ConvertsMaximal encode_utf16 src.now dst.old dst.new result.0 result.1 }
 {

@@ -5,7 +5,7 @@ ghost use Rattle.encoding_definitions.specs.Sequence.{IsSequence};
 ghost use Rattle.encoding_definitions.specs.Parts.{BeginsWithNoCharacter};
 ghost use Rattle.encoding_definitions.specs.Prefixes.{IsLongestPrefix};
 
-use crate::ascii::ascii_valid_up_to;
+use crate::ascii::ascii_valid_up_to_by_block;
 use crate::utf_8::table::{UTF8_DATA, law_table};
 use encoding_kernels::blocks::well_formed_blocks;
 use encoding_kernels::sequence::{is_continuation, is_second};
@@ -96,7 +96,7 @@ pub fn character_length(bytes: &[u8]) -> Option<usize>
 fn well_formed_prefix(src: &[u8]) -> usize
     ensures { (result ≤ length src.now) × IsUtf8 (take result src.now) }
 {
-    let ascii = ascii_valid_up_to(src);
+    let ascii = ascii_valid_up_to_by_block(src);
     if ascii == src.len() || src.len() < STRIDE {
         return ascii;
     }
