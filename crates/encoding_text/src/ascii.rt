@@ -305,6 +305,10 @@ pub(crate) fn copy_to_basic_latin(src: &[u8], dst: &mut [u16]) -> usize
     ensures prefix { IsLongestPrefix IsAscii (take (length dst.old) src.now) result }
     ensures copied { WritesPrefix dst.old dst.new result (take result src.now) }
 {
+    // a store of no bytes would delay a load of the units that are written next
+    if !src.is_empty() && src[0] >= ASCII_END {
+        return 0;
+    }
     let Some((_, place)) = ascii_to_basic_latin(src, dst) else {
         return src.len().min(dst.len());
     };
