@@ -167,6 +167,7 @@ pub fn convert_blocks(src: &[u16], dst: &mut [u8]) -> (usize, usize)
 
 /// Converts blocks of code units from the start of `src` while they have surrogate pairs and their other units are
 /// below U+0800. Returns how many code units it read and how many bytes it wrote.
+#[inline(never)]
 pub fn convert_paired_blocks(src: &[u16], dst: &mut [u8]) -> (usize, usize)
     ensures prefix { IsUtf8OfPrefix src.now result.0 (take result.1 dst.new) }
     ensures unchanged_after { WritesPrefix dst.old dst.new result.1 (take result.1 dst.new) }

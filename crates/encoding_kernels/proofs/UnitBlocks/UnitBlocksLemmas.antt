@@ -11,13 +11,14 @@ use Rattle.std.proofs.lemmas.Str.{encodes-append, encodes-IsAscii}
 use Rattle.std.proofs.str.Utf16.{one_unit}
 use borrow.Rule.Slice.PartMut.{put_mid}
 use Rattle.encoding_definitions.specs.Prefixes.{WritesPrefix}
-use Rattle.encoding_definitions.specs.Utf16.{AreCodeUnits, Character16, units_of_part16, utf8_of_part16}
+use Rattle.encoding_definitions.specs.Utf16.{AreCodeUnits, Character16, units_of_part16, utf8_of_part16, IsUtf8OfPrefix}
 use Rattle.encoding_kernels.specs.EncodeLanes.{AreBmpScalars, WritesBmp}
 use Rattle.encoding_kernels.specs.Strides.{AllBelow}
 use Rattle.encoding_kernels.proofs.LatinBlocks.AsciiLemmas.{Each-take}
 use Rattle.encoding_definitions.proofs.LongestPrefixes.PrefixesLemmas.{WritesPrefix-same, WritesPrefix_put, WritesPrefix_after}
 use Rattle.encoding_definitions.proofs.CodeUnits.Utf16Lemmas.{parts_of, parts_of-first, first_unit}
-use Rattle.encoding_definitions.proofs.CodeUnits.Utf16PrefixLemmas.{Walked}
+use Rattle.encoding_definitions.proofs.LongestPrefixes.FittingLemmas.{written_is}
+use Rattle.encoding_definitions.proofs.CodeUnits.Utf16PrefixLemmas.{Walked, walked_prefix}
 
 -- ---- each is a character
 abbrev IsBmpScalar : ℕ → Type 0
@@ -51,6 +52,9 @@ plain_walked us n a within plain =
 
 pub plain_written : {us old new : List ℕ} {n m : ℕ} → WritesBmp us old new n m → WritesPrefix old new m (flat_map utf8_of_part16 (map Character16 (take n us)))
 plain_written {us} {old} {new} {n} {m} w = WritesPrefix-same _ _ _ _ _ _ w.written refl (sym (utf8_plain (take n us)))
+
+pub plain_prefix : {us old new : List ℕ} {n m : ℕ} → AreCodeUnits us → WritesBmp us old new n m → IsUtf8OfPrefix us n (take m new)
+plain_prefix {us} {old} {new} {n} {m} a w = subst (IsUtf8OfPrefix us n) (written_is _ _ _ _ (plain_written w)) (walked_prefix us n _ a (plain_walked us n a w.within w.plain))
 
 -- ---- one more block
 pub encodes_more : (us : List ℕ) (n m : ℕ) → encode_utf8_all (take n us) ++ encode_utf8_all (take m (drop n us)) ≡ encode_utf8_all (take (n + m) us)

@@ -11,13 +11,13 @@ use borrow.Rule.Slice.PartMut.{put_mid}
 use Rattle.encoding_definitions.proofs.Sequences.EncodingLemmas.{flat_map-encode_utf8}
 use Rattle.encoding_definitions.specs.Prefixes.{IsLongestFittingPrefix, WritesPrefix}
 use Rattle.encoding_definitions.specs.Latin1.{IsLatin1, IsUtf8Latin1}
-use Rattle.encoding_kernels.specs.Strides.{BelowUpTo}
 use Rattle.encoding_kernels.specs.EncodeLanes.{all_latin1_ended}
 use Rattle.std.specs.Simd.Lanes.{chunk}
 use Rattle.std.proofs.lemmas.Simd.{length-chunk}
 use Rattle.encoding_kernels.proofs.LatinBlocks.EndedLemmas.{GoesOnWith, NextIs, Splits, nexts, splits, ended_without}
-use Rattle.encoding_kernels.proofs.LatinBlocks.AsciiLemmas.{Each-take}
-use Rattle.encoding_definitions.proofs.LongestPrefixes.PrefixesLemmas.{IsLongestFittingPrefix-stop, IsLongestFittingPrefix-all, WritesPrefix_push, WritesPrefix_after, WritesPrefix_put, WritesPrefix-same}
+use Rattle.encoding_kernels.proofs.LatinBlocks.AsciiLemmas.{Each-take, Each-at}
+use Rattle.encoding_definitions.proofs.LongestPrefixes.PrefixesLemmas.{IsLongestFittingPrefix-stop, IsLongestFittingPrefix-all, WritesPrefix-length, WritesPrefix_push, WritesPrefix_after, WritesPrefix_put, WritesPrefix-same}
+use Rattle.encoding_text.proofs.PrefixConversions.WholePrefixesLemmas.{other_after}
 use Rattle.encoding_definitions.proofs.Latin.Latin1Lemmas.{IsLatin1-following, next_of_one, next_of_two, split_prefix, scalars_of_latin1}
 
 -- ---- fitting
@@ -166,24 +166,33 @@ ascii_run src cs i j (suc n) low rest within room ascii =
     ∙ sym (take_more (drop j cs) n 0 (omega (arith, next.0, length-drop j cs))) in
     (omega (arith, next.0), subst (λ m. take m (drop i src) ≡ take m (drop j cs)) one bytes, ap (λ k. drop k src) (sym at) ∙ next.2 ∙ ap (λ k. encode_utf8_all (drop k cs)) to)
 
--- and was copied after the characters before it
-module _ (src cs old new sub : List ℕ) (i j n : ℕ) (low : IsLatin1 cs) (rest : drop i src ≡ encode_utf8_all (drop j cs)) (w : WritesPrefix old new j (take j cs))
-    (within : n ≤ length (take (length src - i) (drop i src))) (ascii : BelowUpTo 0x80 (take (length src - i) (drop i src)) n)
-    (v : WritesPrefix (take (length new - j) (drop j new)) sub n (take n (take (length src - i) (drop i src)))) where
-  pub ascii_on : i ≤ length src → (drop (i + n) src ≡ encode_utf8_all (drop (j + n) cs)) × WritesPrefix old (put_mid j (length new - j) new sub) (j + n) (take (j + n) cs)
-  ascii_on h =
-      let counted : j ≤ length cs = omega (arith, w.count, length-take j cs) in
-      let part = ascii_run src cs i j n low rest counted (omega (arith, within, ap length (take_rest src i), length-drop i src))
-      (λ k l. omega (arith, get_or-drop i src k 0, ap (λ xs. slice_index xs k) (take_rest src i), ascii k l)) in
-      let text = ap (λ xs. take j cs ++ take n xs) (take_rest src i) ∙ ap (λ xs. take j cs ++ xs) part.1 ∙ sym (take-add j n cs) in
-      (part.2, WritesPrefix-same _ _ _ _ _ _ (WritesPrefix_after old new j (take j cs) sub n _ w v) refl text)
-
 -- if a byte is left, a character is
-pub character_left : (src cs : List ℕ) (i j : ℕ) → IsLatin1 cs → drop i src ≡ encode_utf8_all (drop j cs) → i < length src → j < length cs
+character_left : (src cs : List ℕ) (i j : ℕ) → IsLatin1 cs → drop i src ≡ encode_utf8_all (drop j cs) → i < length src → j < length cs
 character_left src cs i j low rest l = elim (cases_lt (slice_index src i) 128) [
   | inl p ↦ (next_of_one src cs i j low rest l p).0
   | inr p ↦ (next_of_two src cs i j low rest l p).0
 ]
+
+-- an ASCII prefix of what is left was copied after the characters before it
+module _ (src cs old new sub : List ℕ) (i j n : ℕ) (low : IsLatin1 cs) (rest : drop i src ≡ encode_utf8_all (drop j cs)) (w : WritesPrefix old new j (take j cs))
+    (within : n ≤ length (take (length src - i) (drop i src))) (ascii : IsAscii (take n (take (length src - i) (drop i src))))
+    (v : WritesPrefix (take (length new - j) (drop j new)) sub n (take n (take (length src - i) (drop i src)))) (h : i ≤ length src) where
+  pub ascii_on : (drop (i + n) src ≡ encode_utf8_all (drop (j + n) cs)) × WritesPrefix old (put_mid j (length new - j) new sub) (j + n) (take (j + n) cs)
+  ascii_on =
+      let counted : j ≤ length cs = omega (arith, w.count, length-take j cs) in
+      let part = ascii_run src cs i j n low rest counted (omega (arith, within, ap length (take_rest src i), length-drop i src))
+      (λ k l. omega (arith, get_or-drop i src k 0, ap (λ xs. slice_index xs k) (take_rest src i), Each-at (λ b. b < 0x80) (omega arith) (take (length src - i) (drop i src)) n k l ascii)) in
+      let text = ap (λ xs. take j cs ++ take n xs) (take_rest src i) ∙ ap (λ xs. take j cs ++ xs) part.1 ∙ sym (take-add j n cs) in
+      (part.2, WritesPrefix-same _ _ _ _ _ _ (WritesPrefix_after old new j (take j cs) sub n _ w v) refl text)
+
+  -- if room is left for all characters, the next one has two bytes
+  pub two_after : i + n < length src → length cs ≤ length old
+      → (n < length (take (length src - i) (drop i src)) → n < length (take (length new - j) (drop j new)) → 0x80 ≤ slice_index (take (length src - i) (drop i src)) n)
+      → (j + n < length cs) × (i + n + 1 < length src) × (0x80 ≤ slice_index cs (j + n)) × (slice_index src (i + n) ≡ 192 + slice_index cs (j + n) / 64)
+      × (slice_index src (i + n + 1) ≡ 128 + slice_index cs (j + n) % 64) × (drop (i + n + 2) src ≡ encode_utf8_all (drop (j + n + 1) cs))
+  two_after l room stops =
+      let left = character_left src cs (i + n) (j + n) low ascii_on.0 l in
+      next_of_two src cs (i + n) (j + n) low ascii_on.0 l (other_after src new i j n l (omega (arith, left, room, WritesPrefix-length old new j (take j cs) w)) stops)
 
 -- ---- blocks of 16 bytes of Latin1 text
 -- no two bytes in a row start a character of two bytes

@@ -45,8 +45,9 @@ pub fn convert_latin1_to_utf16(src: &[u8], dst: &mut [u16])
     }
 }
 
-/// Copies the longest ASCII prefix that fits, and returns its length.
-#[inline(always)]
+/// Copies the longest ASCII prefix that fits, and returns its length. Out of line, so that the loops over blocks keep
+/// their constants in registers.
+#[inline(never)]
 fn copy_ascii(src: &[u8], dst: &mut [u8]) -> usize
     ensures within { (result ≤ length src.now) × (result ≤ length dst.old) }
     ensures ascii { IsAscii (take result src.now) }

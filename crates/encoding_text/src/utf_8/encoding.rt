@@ -1,8 +1,8 @@
 //! UTF-16 to UTF-8, into a destination of any length. A conversion leaves the rest of `dst` unchanged.
-ghost use Rattle.std.specs.Prelude.{◌≡◌, ◌+◌, ◌<◌, ◌≤◌, ◌⊎◌, ◌-◌, length, take, drop, slice_index, IsTrue};
+ghost use Rattle.std.specs.Prelude.{◌≡◌, ◌+◌, ◌<◌, ◌≤◌, ◌⊎◌, ◌-◌, ◌↔◌, length, take, drop, slice_index, IsTrue};
 ghost use Rattle.std.specs.Str.{IsAscii};
 ghost use Rattle.encoding_definitions.specs.Prefixes.{WritesPrefix};
-ghost use Rattle.encoding_definitions.specs.Utf16.{IsUtf8OfPrefix, IsUtf8OfLongestPrefix};
+ghost use Rattle.encoding_definitions.specs.Utf16.{IsHighSurrogate, IsLowSurrogate, IsUtf8OfPrefix, IsUtf8OfLongestPrefix};
 ghost use Rattle.encoding_definitions.specs.FirstScalar.{IsFirstScalar};
 
 use crate::ascii;
@@ -53,6 +53,18 @@ fn copy_ascii(src: &[u16], dst: &mut [u8]) -> usize
     }
 }
 
+/// Returns whether a surrogate pair is at index `at`.
+#[inline(always)]
+fn is_pair(src: &[u16], at: usize) -> bool
+    ensures { IsTrue result ↔ ((at + 1 < length src.now) × IsHighSurrogate (slice_index src.now at)
+        × IsLowSurrogate (slice_index src.now (at + 1))) }
+{
+    at < src.len()
+        && at + 1 < src.len()
+        && is_high_surrogate(src[at])
+        && is_low_surrogate(src[at + 1])
+}
+
 /// Converts the ASCII prefix of `src` and blocks of other text after it. Returns how many code units it read, how many
 /// bytes it wrote, and whether to go on with the next ones at once. If not, a single character stopped the blocks, or
 /// the end of `src` or `dst` is near.
@@ -69,6 +81,9 @@ fn convert_prefix_and_blocks(src: &[u16], dst: &mut [u8]) -> (usize, usize, bool
     let written = prefix + bytes;
     if units > 0 && read < src.len() && src[read] < BASIC_LATIN_END {
         return (read, written, true);
+    }
+    if !is_pair(src, read) {
+        return (read, written, false);
     }
     let (paired, extra) = convert_paired_blocks(&src[read..], &mut dst[written..]);
     (read + paired, written + extra, paired > 0)

@@ -1,13 +1,11 @@
-use Rattle.std.proofs.Common.{◌≡◌, ◌+◌, ◌-◌, ◌<◌, arith, ap, sym, take, length, slice_index, drop, encode_utf8_all}
+use Rattle.std.proofs.Common.{◌≡◌, ◌+◌, arith, ap, sym, take, length, slice_index, drop, encode_utf8_all}
 use Rattle.std.specs.Str.{chars}
 use Rattle.std.proofs.lemmas.List.{take_all, length-drop}
 use Rattle.std.proofs.lemmas.Str.{length-le-encodes}
-use Rattle.encoding_kernels.specs.Strides.{BelowUpTo}
-use Rattle.encoding_kernels.proofs.LatinBlocks.AsciiLemmas.{Each-at, WritesPrefix_copy}
+use Rattle.encoding_kernels.proofs.LatinBlocks.AsciiLemmas.{WritesPrefix_copy}
 use Rattle.encoding_definitions.proofs.LongestPrefixes.PrefixesLemmas.{WritesPrefix-nil, WritesPrefix-length}
-use Rattle.encoding_definitions.proofs.Latin.Latin1Lemmas.{latin1_chars, next_of_two}
-use Rattle.encoding_text.proofs.LatinConversions.Latin1ConversionLemmas.{character_of_two, character_left, ascii_on, begins_apart, block_on}
-use Rattle.encoding_text.proofs.PrefixConversions.WholePrefixesLemmas.{other_after}
+use Rattle.encoding_definitions.proofs.Latin.Latin1Lemmas.{latin1_chars}
+use Rattle.encoding_text.proofs.LatinConversions.Latin1ConversionLemmas.{character_of_two, ascii_on, two_after, begins_apart, block_on}
 use Rattle.encoding_text.proofs.mem.latin1.convert_utf8_to_latin1.Goals as goal
 
 pub loop-read-init : goal.loop-read-init
@@ -43,27 +41,7 @@ bounds-src-read-then-read-src-2 c =
     let n = c.copy_ascii-prefix.result in
     let had = c.loop-read-2.invariant in
     let call = c.copy_ascii-prefix.ensures in
-    let below : BelowUpTo 0x80 (take (length src - i) (drop i src)) n = λ k l. Each-at (λ b. b < 0x80) (omega arith) (take (length src - i) (drop i src)) n k l call.ascii in
-    let next = ascii_on src cs c.args.dst.now c.loop-read-2.dst c.copy_ascii-prefix.new.dst i j n text.0 had.rest had.written call.within.0 below call.copied had.within.1 in
-    let left = character_left src cs (i + n) (j + n) text.0 next.0 c.if-read-src.true in
-    let room : j + n < length c.loop-read-2.dst = omega (arith, left, c.requires.dst_length, WritesPrefix-length _ _ _ _ had.written) in
-    let other = other_after src c.loop-read-2.dst i j n c.if-read-src.true room call.stops in
-    let two = next_of_two src cs (i + n) (j + n) text.0 next.0 c.if-read-src.true other in
-    two.1
-
-pub bounds-dst-written : goal.bounds-dst-written
-bounds-dst-written c =
-    let src = c.args.src.now in
-    let cs = chars src in
-    let text = latin1_chars src c.requires.latin1 in
-    let i = c.loop-read-2.read in
-    let j = c.loop-read-2.written in
-    let n = c.copy_ascii-prefix.result in
-    let had = c.loop-read-2.invariant in
-    let call = c.copy_ascii-prefix.ensures in
-    let below : BelowUpTo 0x80 (take (length src - i) (drop i src)) n = λ k l. Each-at (λ b. b < 0x80) (omega arith) (take (length src - i) (drop i src)) n k l call.ascii in
-    let next = ascii_on src cs c.args.dst.now c.loop-read-2.dst c.copy_ascii-prefix.new.dst i j n text.0 had.rest had.written call.within.0 below call.copied had.within.1 in
-    omega (arith, character_left src cs (i + n) (j + n) text.0 next.0 c.if-read-src.true, c.requires.dst_length, WritesPrefix-length _ _ _ _ next.1)
+    (two_after src cs c.args.dst.now c.loop-read-2.dst c.copy_ascii-prefix.new.dst i j n text.0 had.rest had.written call.within.0 call.ascii call.copied had.within.1 c.if-read-src.true c.requires.dst_length call.stops).1
 
 pub loop-read-preserved-then-read-src : goal.loop-read-preserved-then-read-src
 loop-read-preserved-then-read-src c =
@@ -75,18 +53,27 @@ loop-read-preserved-then-read-src c =
     let n = c.copy_ascii-prefix.result in
     let had = c.loop-read-2.invariant in
     let call = c.copy_ascii-prefix.ensures in
-    let below : BelowUpTo 0x80 (take (length src - i) (drop i src)) n = λ k l. Each-at (λ b. b < 0x80) (omega arith) (take (length src - i) (drop i src)) n k l call.ascii in
-    let next = ascii_on src cs c.args.dst.now c.loop-read-2.dst c.copy_ascii-prefix.new.dst i j n text.0 had.rest had.written call.within.0 below call.copied had.within.1 in
-    let left = character_left src cs (i + n) (j + n) text.0 next.0 c.if-read-src.true in
-    let room : j + n < length c.loop-read-2.dst = omega (arith, left, c.requires.dst_length, WritesPrefix-length _ _ _ _ had.written) in
-    let other = other_after src c.loop-read-2.dst i j n c.if-read-src.true room call.stops in
-    let two = next_of_two src cs (i + n) (j + n) text.0 next.0 c.if-read-src.true other in
+    let next = ascii_on src cs c.args.dst.now c.loop-read-2.dst c.copy_ascii-prefix.new.dst i j n text.0 had.rest had.written call.within.0 call.ascii call.copied had.within.1 in
+    let two = two_after src cs c.args.dst.now c.loop-read-2.dst c.copy_ascii-prefix.new.dst i j n text.0 had.rest had.written call.within.0 call.ascii call.copied had.within.1 c.if-read-src.true c.requires.dst_length call.stops in
     let byte = character_of_two (slice_index src (i + n)) (slice_index src (i + n + 1)) (slice_index cs (j + n)) two.2 (omega (arith, text.0 (j + n))) two.3 two.4 in
     record {
       within = omega (arith, two.1);
       rest = two.5;
-      written = WritesPrefix_copy _ _ cs (j + n) _ next.1 two.0 (omega (arith, room, WritesPrefix-length _ _ _ _ had.written, WritesPrefix-length _ _ _ _ next.1)) byte;
+      written = WritesPrefix_copy _ _ cs (j + n) _ next.1 two.0 (omega (arith, two.0, c.requires.dst_length, WritesPrefix-length _ _ _ _ next.1)) byte;
     }
+
+pub bounds-dst-written : goal.bounds-dst-written
+bounds-dst-written c =
+    let src = c.args.src.now in
+    let cs = chars src in
+    let text = latin1_chars src c.requires.latin1 in
+    let i = c.loop-read-2.read in
+    let j = c.loop-read-2.written in
+    let n = c.copy_ascii-prefix.result in
+    let had = c.loop-read-2.invariant in
+    let call = c.copy_ascii-prefix.ensures in
+    let two = two_after src cs c.args.dst.now c.loop-read-2.dst c.copy_ascii-prefix.new.dst i j n text.0 had.rest had.written call.within.0 call.ascii call.copied had.within.1 c.if-read-src.true c.requires.dst_length call.stops in
+    omega (arith, two.0, c.requires.dst_length, WritesPrefix-length _ _ _ _ had.written)
 
 pub loop-read-preserved : goal.loop-read-preserved
 loop-read-preserved c =
@@ -98,8 +85,7 @@ loop-read-preserved c =
     let n = c.copy_ascii-prefix.result in
     let had = c.loop-read-2.invariant in
     let call = c.copy_ascii-prefix.ensures in
-    let below : BelowUpTo 0x80 (take (length src - i) (drop i src)) n = λ k l. Each-at (λ b. b < 0x80) (omega arith) (take (length src - i) (drop i src)) n k l call.ascii in
-    let next = ascii_on src cs c.args.dst.now c.loop-read-2.dst c.copy_ascii-prefix.new.dst i j n text.0 had.rest had.written call.within.0 below call.copied had.within.1 in
+    let next = ascii_on src cs c.args.dst.now c.loop-read-2.dst c.copy_ascii-prefix.new.dst i j n text.0 had.rest had.written call.within.0 call.ascii call.copied had.within.1 in
     record { within = omega (arith, call.within.0); rest = next.0; written = next.1 }
 
 pub returns : goal.returns

@@ -3,23 +3,29 @@ use Rattle.encoding_definitions.specs.Utf16.{AreCodeUnits, IsUtf8OfPrefix, Chara
 use Rattle.encoding_definitions.proofs.LongestPrefixes.PrefixesLemmas.{WritesPrefix_after, WritesPrefix-same}
 use Rattle.encoding_definitions.proofs.LongestPrefixes.FittingLemmas.{written_is, written_prefix}
 use Rattle.encoding_definitions.proofs.CodeUnits.Utf16PrefixLemmas.{walked_prefix}
-use Rattle.encoding_kernels.proofs.UnitBlocks.UnitBlocksLemmas.{ascii_plain, plain_left, plain_walked, plain_written}
+use Rattle.encoding_kernels.proofs.UnitBlocks.UnitBlocksLemmas.{ascii_plain, plain_left, plain_prefix, plain_walked, plain_written}
 use Rattle.encoding_kernels.proofs.UnitBlocks.PairedUnitsLemmas.{goes_on}
 use Rattle.encoding_text.proofs.utf_8.encoding.convert_prefix_and_blocks.Goals as goal
 
 pub returns-then-src-read-lt-BASIC_LATIN_END-clause-prefix : goal.returns-then-src-read-lt-BASIC_LATIN_END-clause-prefix
 returns-then-src-read-lt-BASIC_LATIN_END-clause-prefix c =
-    let us = c.args.src.now in
-    let fit : AreCodeUnits us = λ k. omega (arith, c.type_inv.src k) in
     let call = c.copy_ascii-prefix.ensures in
-    let blocks = plain_left (ascii_plain call.within.0 call.ascii call.copied) c.convert_blocks-units.ensures in
-    subst (IsUtf8OfPrefix us _) (written_is _ _ _ _ (plain_written blocks)) (walked_prefix us _ _ fit (plain_walked us _ fit blocks.within blocks.plain))
+    plain_prefix (λ k. omega (arith, c.type_inv.src k)) (plain_left (ascii_plain call.within.0 call.ascii call.copied) c.convert_blocks-units.ensures)
 
 pub returns-then-src-read-lt-BASIC_LATIN_END-clause-unchanged_after : goal.returns-then-src-read-lt-BASIC_LATIN_END-clause-unchanged_after
 returns-then-src-read-lt-BASIC_LATIN_END-clause-unchanged_after c =
     let call = c.copy_ascii-prefix.ensures in
-    let blocks = plain_left (ascii_plain call.within.0 call.ascii call.copied) c.convert_blocks-units.ensures in
-    written_prefix _ _ _ _ (plain_written blocks)
+    written_prefix _ _ _ _ (plain_written (plain_left (ascii_plain call.within.0 call.ascii call.copied) c.convert_blocks-units.ensures))
+
+pub returns-then-not-is_pair-clause-prefix : goal.returns-then-not-is_pair-clause-prefix
+returns-then-not-is_pair-clause-prefix c =
+    let call = c.copy_ascii-prefix.ensures in
+    plain_prefix (λ k. omega (arith, c.type_inv.src k)) (plain_left (ascii_plain call.within.0 call.ascii call.copied) c.convert_blocks-units.ensures)
+
+pub returns-then-not-is_pair-clause-unchanged_after : goal.returns-then-not-is_pair-clause-unchanged_after
+returns-then-not-is_pair-clause-unchanged_after c =
+    let call = c.copy_ascii-prefix.ensures in
+    written_prefix _ _ _ _ (plain_written (plain_left (ascii_plain call.within.0 call.ascii call.copied) c.convert_blocks-units.ensures))
 
 pub returns-clause-prefix : goal.returns-clause-prefix
 returns-clause-prefix c =
