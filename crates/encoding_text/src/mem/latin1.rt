@@ -18,7 +18,8 @@ use std::simd::prelude::*;
 /// The length in UTF-8 of a character from U+0080 to U+00FF.
 const HIGH_LENGTH: usize = 2;
 
-/// The number of blocks of 16 bytes that one test for ASCII covers.
+/// The number of blocks of 16 bytes that one test for ASCII covers: if ASCII and other bytes are mixed, a mispredicted
+/// branch costs more than a block.
 const BLOCKS_BEFORE_RETEST: usize = 4;
 
 /// Writes each byte as a UTF-16 code unit. `dst` is at least as long as `src`.
@@ -60,8 +61,7 @@ fn copy_ascii(src: &[u8], dst: &mut [u8]) -> usize
     }
 }
 
-/// Returns whether the next bytes are ASCII: 64, or 16 if fewer than 64 are left. If ASCII and other bytes are mixed, a
-/// mispredicted branch costs more than a block, so that four blocks share this test.
+/// Returns whether the next bytes are ASCII: 64, or 16 if fewer than 64 are left.
 #[inline(always)]
 fn are_next_ascii(src: &[u8], at: usize) -> bool
     requires { at + 16 ≤ length src.now }
@@ -74,8 +74,8 @@ fn are_next_ascii(src: &[u8], at: usize) -> bool
     }
 }
 
-/// Writes the UTF-8 of blocks of 16 bytes, until the next ones are ASCII. Returns how many bytes it read and how many it
-/// wrote.
+/// Writes the UTF-8 of blocks of 16 bytes, until the next ones are ASCII: 64, or 16 near the end. Returns how many bytes
+/// it read and how many it wrote.
 #[inline(always)]
 fn convert_latin1_blocks(src: &[u8], dst: &mut [u8]) -> (usize, usize)
     ensures within { result.0 ≤ length src.now }

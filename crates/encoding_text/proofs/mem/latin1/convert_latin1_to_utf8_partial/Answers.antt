@@ -14,7 +14,8 @@ loop-read-preserved c =
     let to = c.loop-read.written + c.convert_latin1_blocks-bytes.result.1 in
     let n = c.copy_ascii-prefix.result in
     let call = c.copy_ascii-prefix.ensures in
-    let blocks = written_left xs c.loop-read.read c.convert_latin1_blocks-bytes.result.0 c.loop-read.invariant.written c.convert_latin1_blocks-bytes.ensures.written in
+    let blocks = written_left xs c.loop-read.read c.convert_latin1_blocks-bytes.result.0
+    c.loop-read.invariant.written c.convert_latin1_blocks-bytes.ensures.written in
     let w = ascii_left xs at n blocks call.ascii call.copied in
     let b = slice_index xs (at + n) in
     let other = other_after xs _ at to n (omega arith) (omega (arith, WritesPrefix-length _ _ _ _ blocks, WritesPrefix-length _ _ _ _ w)) call.stops in
@@ -31,7 +32,8 @@ returns-after-loop-read-clause-prefix c =
 
 pub returns-then-read-src-clause-written : goal.returns-then-read-src-clause-written
 returns-then-read-src-clause-written c =
-    written_left c.args.src.now c.loop-read.read c.convert_latin1_blocks-bytes.result.0 c.loop-read.invariant.written c.convert_latin1_blocks-bytes.ensures.written
+    written_left c.args.src.now c.loop-read.read c.convert_latin1_blocks-bytes.result.0
+    c.loop-read.invariant.written c.convert_latin1_blocks-bytes.ensures.written
 
 pub returns-then-read-src-clause-prefix : goal.returns-then-read-src-clause-prefix
 returns-then-read-src-clause-prefix c =
@@ -43,8 +45,10 @@ returns-then-read-src-clause-prefix c =
 pub returns-then-read-src-2-clause-written : goal.returns-then-read-src-2-clause-written
 returns-then-read-src-2-clause-written c =
     let xs = c.args.src.now in
-    let blocks = written_left xs c.loop-read.read c.convert_latin1_blocks-bytes.result.0 c.loop-read.invariant.written c.convert_latin1_blocks-bytes.ensures.written in
-    ascii_left xs (c.loop-read.read + c.convert_latin1_blocks-bytes.result.0) c.copy_ascii-prefix.result blocks c.copy_ascii-prefix.ensures.ascii c.copy_ascii-prefix.ensures.copied
+    let blocks = written_left xs c.loop-read.read c.convert_latin1_blocks-bytes.result.0
+    c.loop-read.invariant.written c.convert_latin1_blocks-bytes.ensures.written in
+    ascii_left xs (c.loop-read.read + c.convert_latin1_blocks-bytes.result.0) c.copy_ascii-prefix.result blocks
+    c.copy_ascii-prefix.ensures.ascii c.copy_ascii-prefix.ensures.copied
 
 pub returns-then-read-src-2-clause-prefix : goal.returns-then-read-src-2-clause-prefix
 returns-then-read-src-2-clause-prefix c =
@@ -53,7 +57,8 @@ returns-then-read-src-2-clause-prefix c =
     let to = c.loop-read.written + c.convert_latin1_blocks-bytes.result.1 in
     let n = c.copy_ascii-prefix.result in
     let call = c.copy_ascii-prefix.ensures in
-    let blocks = written_left xs c.loop-read.read c.convert_latin1_blocks-bytes.result.0 c.loop-read.invariant.written c.convert_latin1_blocks-bytes.ensures.written in
+    let blocks = written_left xs c.loop-read.read c.convert_latin1_blocks-bytes.result.0
+    c.loop-read.invariant.written c.convert_latin1_blocks-bytes.ensures.written in
     let w = ascii_left xs at n blocks call.ascii call.copied in
     let long = WritesPrefix-length _ _ _ _ blocks in
     elim c.then-read-src-2.branch [

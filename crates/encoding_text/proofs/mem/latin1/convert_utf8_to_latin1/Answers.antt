@@ -41,7 +41,8 @@ bounds-src-read-then-read-src-2 c =
     let n = c.copy_ascii-prefix.result in
     let had = c.loop-read-2.invariant in
     let call = c.copy_ascii-prefix.ensures in
-    (two_after src cs c.args.dst.now c.loop-read-2.dst c.copy_ascii-prefix.new.dst i j n text.0 had.rest had.written call.within.0 call.ascii call.copied had.within.1 c.if-read-src.true c.requires.dst_length call.stops).1
+    (two_after src cs c.args.dst.now c.loop-read-2.dst c.copy_ascii-prefix.new.dst i j n
+    text.0 had.rest had.written call.within.0 call.ascii call.copied had.within.1 c.if-read-src.true c.requires.dst_length call.stops).1
 
 pub loop-read-preserved-then-read-src : goal.loop-read-preserved-then-read-src
 loop-read-preserved-then-read-src c =
@@ -53,8 +54,10 @@ loop-read-preserved-then-read-src c =
     let n = c.copy_ascii-prefix.result in
     let had = c.loop-read-2.invariant in
     let call = c.copy_ascii-prefix.ensures in
-    let next = ascii_on src cs c.args.dst.now c.loop-read-2.dst c.copy_ascii-prefix.new.dst i j n text.0 had.rest had.written call.within.0 call.ascii call.copied had.within.1 in
-    let two = two_after src cs c.args.dst.now c.loop-read-2.dst c.copy_ascii-prefix.new.dst i j n text.0 had.rest had.written call.within.0 call.ascii call.copied had.within.1 c.if-read-src.true c.requires.dst_length call.stops in
+    let next = ascii_on src cs c.args.dst.now c.loop-read-2.dst c.copy_ascii-prefix.new.dst i j n
+    text.0 had.rest had.written call.within.0 call.ascii call.copied had.within.1 in
+    let two = two_after src cs c.args.dst.now c.loop-read-2.dst c.copy_ascii-prefix.new.dst i j n
+    text.0 had.rest had.written call.within.0 call.ascii call.copied had.within.1 c.if-read-src.true c.requires.dst_length call.stops in
     let byte = character_of_two (slice_index src (i + n)) (slice_index src (i + n + 1)) (slice_index cs (j + n)) two.2 (omega (arith, text.0 (j + n))) two.3 two.4 in
     record {
       within = omega (arith, two.1);
@@ -72,7 +75,8 @@ bounds-dst-written c =
     let n = c.copy_ascii-prefix.result in
     let had = c.loop-read-2.invariant in
     let call = c.copy_ascii-prefix.ensures in
-    let two = two_after src cs c.args.dst.now c.loop-read-2.dst c.copy_ascii-prefix.new.dst i j n text.0 had.rest had.written call.within.0 call.ascii call.copied had.within.1 c.if-read-src.true c.requires.dst_length call.stops in
+    let two = two_after src cs c.args.dst.now c.loop-read-2.dst c.copy_ascii-prefix.new.dst i j n
+    text.0 had.rest had.written call.within.0 call.ascii call.copied had.within.1 c.if-read-src.true c.requires.dst_length call.stops in
     omega (arith, two.0, c.requires.dst_length, WritesPrefix-length _ _ _ _ had.written)
 
 pub loop-read-preserved : goal.loop-read-preserved
@@ -85,7 +89,8 @@ loop-read-preserved c =
     let n = c.copy_ascii-prefix.result in
     let had = c.loop-read-2.invariant in
     let call = c.copy_ascii-prefix.ensures in
-    let next = ascii_on src cs c.args.dst.now c.loop-read-2.dst c.copy_ascii-prefix.new.dst i j n text.0 had.rest had.written call.within.0 call.ascii call.copied had.within.1 in
+    let next = ascii_on src cs c.args.dst.now c.loop-read-2.dst c.copy_ascii-prefix.new.dst i j n
+    text.0 had.rest had.written call.within.0 call.ascii call.copied had.within.1 in
     record { within = omega (arith, call.within.0); rest = next.0; written = next.1 }
 
 pub returns : goal.returns
