@@ -1,11 +1,14 @@
 //! Repairs UTF-8 into a buffer.
 
-ghost use Rattle.std.specs.Prelude.{◌≡◌, ◌*◌, ◌<◌, ◌≤◌, ℕ, List, true, length, refl};
+ghost use Rattle.std.specs.Prelude.{◌≡◌, ◌+◌, ◌*◌, ◌<◌, ◌≤◌, ℕ, List, true, length, refl, IfSome};
+ghost use Rattle.std.specs.Io.KnownBytes.{Appends};
 ghost use Rattle.std.proofs.Common.{◌∙◌, arith};
 ghost use Rattle.encoding_definitions.specs.Prefixes.{WritesPrefix};
 ghost use Rattle.encoding_runs.specs.Repairs.{IsLossyDecodeWith};
+ghost use Rattle.encoding_runs.specs.Streams.{FailsOnNone, WriteMoves};
 
 use crate::status::INVALID_ARGUMENT;
+use encoding_kernels::strides::copy_prefix;
 use encoding_runs::repair::{Sink, repair_slice};
 
 /// The number of bytes written, and of malformed sequences replaced by U+FFFD.
@@ -24,6 +27,40 @@ struct Buffer<'a> {
     failed: bool,
     ghost within: { written ≤ length room.now },
     ghost full: { failed ≡ true → written ≡ length room.now },
+}
+
+impl<'a> Buffer<'a> {
+    ghost use Rattle.encoding_c.specs.Buffers.{buffer_contents, BufferKeeps};
+
+    /// Appends bytes that fit. A few are copied by a few instructions: a call would cost more.
+    #[inline(always)]
+    fn append(&mut self, bytes: &[u8])
+        requires fits { self.old.written + length bytes.now ≤ length self.old.room.now }
+        ensures bytes { Appends (buffer_contents self.old) (buffer_contents self.new) bytes.now }
+        ensures failed { self.new.failed ≡ self.old.failed }
+        ensures keeps { BufferKeeps self.old self.new }
+    {
+        copy_prefix(bytes, &mut self.room[self.written..]);
+        self.written += bytes.len();
+    }
+
+    /// Writes bytes that fill the buffer. Fails if there are none. Out of line: a destination of three times the source
+    /// is large enough.
+    #[inline(never)]
+    fn fill(&mut self, bytes: &[u8]) -> Option<usize>
+        requires fills { self.old.written + length bytes.now ≡ length self.old.room.now }
+        ensures bound { IfSome result (λ n. (0 < n) × (n ≤ length bytes.now)) }
+        ensures bytes { WriteMoves (buffer_contents self.old) (buffer_contents self.new) result bytes.now }
+        ensures failed { FailsOnNone result self.old.failed self.new.failed }
+        ensures keeps { BufferKeeps self.old self.new }
+    {
+        if bytes.is_empty() {
+            self.failed = true;
+            return None;
+        }
+        self.append(bytes);
+        Some(bytes.len())
+    }
 }
 
 impl<'a> Sink for Buffer<'a> {
@@ -49,17 +86,14 @@ impl<'a> Sink for Buffer<'a> {
     }
 
     /// Writes the bytes that fit.
+    #[inline(always)]
     fn write(&mut self, bytes: &[u8]) -> Option<usize> {
         let free = self.room.len() - self.written;
-        let count = free.min(bytes.len());
-        if count == 0 {
-            self.failed = true;
-            return None;
+        if bytes.len() > free {
+            return self.fill(&bytes[..free]);
         }
-        let end = self.written + count;
-        self.room[self.written..end].copy_from_slice(&bytes[..count]);
-        self.written = end;
-        Some(count)
+        self.append(bytes);
+        Some(bytes.len())
     }
 }
 
