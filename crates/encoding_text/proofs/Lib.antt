@@ -4,7 +4,6 @@ pub mod PrefixConversions
 pub mod LatinConversions
 pub mod DecoderSequences
 pub mod RepairingConversions
-
 -- the lemmas on these terms
 pub use Rattle.encoding_definitions.proofs.Bidi
 pub use Rattle.encoding_definitions.proofs.Decomposition

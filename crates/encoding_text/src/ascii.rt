@@ -1,15 +1,16 @@
 //! ASCII prefixes of bytes and of UTF-16 code units: their lengths and their copies. A copy leaves the rest of `dst`
 //! unchanged.
 
-ghost use Rattle.std.specs.Prelude.{take, length};
-ghost use Rattle.std.specs.Str.{IsAscii};
+ghost use Rattle.std.specs.Prelude.{◌≤◌, take, length};
+ghost use Rattle.std.specs.Str.{IsAscii, IsUtf8};
 ghost use Rattle.encoding_definitions.specs.Ascii.{IsFirstOther, prefix_length_by, IsIso2022JpAscii};
 ghost use Rattle.encoding_definitions.specs.Prefixes.{IsLongestPrefix, WritesPrefix};
+ghost use Rattle.encoding_kernels.specs.Units.{WritesUtf16, units_in};
 
 use encoding_kernels::strides::{
     ASCII_END, BASIC_LATIN_END, BLOCK, FOUR, FOUR_BLOCKS, SIXTEEN, STRIDE, UNIT_BLOCK,
     are_bytes_below, are_four_blocks_below, are_units_below, copy_first, copy_part, pack_first,
-    pack_part, run_len_below, units_run_len_below, unpack_first, unpack_part,
+    pack_part, run_len_below, units_run_len_below, unpack, unpack_first, unpack_part,
 };
 use std::simd::prelude::*;
 
@@ -290,7 +291,7 @@ pub(crate) fn ascii_valid_up_to_by_block(bytes: &[u8]) -> usize
     ensures { IsLongestPrefix IsAscii bytes.now result }
 {
     if bytes.len() >= BLOCK {
-        let run = encoding_kernels::strides::run_len_below::<BLOCK>(bytes, 0, ASCII_END);
+        let run = run_len_below::<BLOCK>(bytes, 0, ASCII_END);
         if run < BLOCK || bytes.len() == BLOCK {
             return run;
         }
@@ -313,4 +314,29 @@ pub(crate) fn copy_to_basic_latin(src: &[u8], dst: &mut [u16]) -> usize
         return src.len().min(dst.len());
     };
     place
+}
+
+/// The least length of a text whose UTF-16 has at least as many code units as a stride.
+const STRIDE_OF_TEXT: usize = 3 * STRIDE;
+
+/// Copies an ASCII prefix of a text, each byte as a UTF-16 code unit, and returns its length. `dst` is at least as long
+/// as `src`. Units that the UTF-16 of the rest of the text overwrites may have changed too.
+///
+/// A stride is stored whole, even if ASCII ends in it: to keep what follows, it would have to load what was just stored.
+#[inline(always)]
+pub(crate) fn copy_prefix_of_text(src: &[u8], dst: &mut [u16]) -> usize
+    requires dst_length { length src.now ≤ length dst.old }
+    requires text { IsUtf8 src.now }
+    ensures { WritesUtf16 src.now dst.old dst.new result result (units_in src.now) }
+{
+    let mut at = 0;
+    while at < BLOCK && src.len() - at >= STRIDE_OF_TEXT {
+        let run = run_len_below::<STRIDE>(src, at, ASCII_END);
+        unpack::<STRIDE>(src, dst, at);
+        at += run;
+        if run < STRIDE {
+            return at;
+        }
+    }
+    at + copy_to_basic_latin(&src[at..], &mut dst[at..])
 }

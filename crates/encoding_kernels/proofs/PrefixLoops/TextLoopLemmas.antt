@@ -1,6 +1,6 @@
 -- Writing the UTF-16 of a text character by character and block by block: what is still to be written, and the progress
 -- of a loop.
-use Rattle.std.proofs.Common.{◌≡◌, append_assoc, ℕ, ◌+◌, ◌-◌, ◌*◌, ◌/◌, ◌<◌, ◌≤◌, true, List, [], ◌∷◌, ◌++◌, length, take, drop, get_or, encode_utf8, encode_utf8_all, refl, sym, ap, ◌∙◌, arith, subst, take-add}
+use Rattle.std.proofs.Common.{◌≡◌, append_assoc, inl, inr, ℕ, ◌+◌, ◌-◌, ◌*◌, ◌/◌, ◌<◌, ◌≤◌, true, List, [], ◌∷◌, ◌++◌, length, take, drop, get_or, encode_utf8, encode_utf8_all, refl, sym, ap, ◌∙◌, arith, subst, take-add}
 use lib.Utf8.{scalar}
 use Rattle.std.specs.Char.{IsScalar}
 use Rattle.std.specs.Char.Escape.{encode_utf16}
@@ -8,10 +8,10 @@ use Rattle.std.specs.Str.{all_scalars, IsAscii, IsUtf8, chars}
 use Rattle.std.specs.List.{flat_map}
 use Rattle.std.proofs.str.Laws.{scalars-append}
 use Rattle.std.proofs.Math.Seq.{drop-cons, take-append-add}
-use Rattle.std.proofs.lemmas.Bool.{and_parts, and_from}
+use Rattle.std.proofs.lemmas.Bool.{and_parts, and_from, cases_lt}
 use Rattle.std.proofs.lemmas.Bool.Decides.{nat_tests}
 use Rattle.std.proofs.lemmas.Grind.{flat_map-append}
-use Rattle.std.proofs.lemmas.List.{append-nil, length-append, length-drop, length-take, length-take-le, take-append-drop, take_at, take_all, take_rest, drop_at, drop_all, drop-drop, get_or_append_left}
+use Rattle.std.proofs.lemmas.List.{append-nil, length-append, length-drop, length-take, length-take-le, take-take, take-append-drop, take_at, take_all, take_rest, drop_at, drop_all, drop-drop, get_or_append_left}
 use Rattle.std.proofs.lemmas.Str.{encodes-append, chars_from_encodes, length-encode, len_utf8_bounds, IsUtf8-nil}
 use borrow.Rule.Slice.PartMut.{put_mid}
 use Rattle.encoding_definitions.specs.Sequence.{IsSequence}
@@ -19,7 +19,9 @@ use Rattle.encoding_definitions.specs.Prefixes.{WritesPrefix}
 use Rattle.encoding_kernels.specs.Units.{units_in, WritesUtf16}
 use Rattle.encoding_definitions.proofs.Sequences.EncodingLemmas.{IsSequence-encode, length-encode_utf16-utf8}
 use Rattle.encoding_definitions.proofs.LongestPrefixes.FittingLemmas.{written_is}
-use Rattle.encoding_kernels.proofs.PrefixLoops.TextUnitsLemmas.{puts_ascii}
+use Rattle.encoding_kernels.proofs.PrefixLoops.TextUnitsLemmas.{puts_ascii, puts_prefix}
+use Rattle.encoding_kernels.specs.Strides.{BelowUpTo, IsRunBelow}
+use Rattle.encoding_kernels.proofs.LatinBlocks.AsciiLemmas.{Each-take}
 use Rattle.encoding_definitions.proofs.Sequences.EncodingLemmas.{encodes_one, length-utf16}
 
 -- ---- a character
@@ -231,3 +233,59 @@ puts_text src old new k u w =
       placed = sym (written_is old new k _ w) ∙ units;
       following = ap (drop k) w.placed ∙ drop_at (flat_map encode_utf16 (chars src)) (drop k old) k (sym w.count);
     })
+
+-- ---- the ASCII prefix of a text, by strides that are stored whole
+-- after an ASCII prefix, 48 bytes of a text have at least 16 code units
+stride_due : (src : List ℕ) (n : ℕ) → IsUtf8 src → n + 48 ≤ length src → BelowUpTo 0x80 src n → n + 16 ≤ units_in src
+stride_due src n u long low =
+    let p = puts_prefix src src src n n u (omega arith) (Each-take (λ b. b < 0x80) (omega arith) src n low) refl refl in
+    let more = p.rest in
+    omega (arith, units_split src src src n n n u p, units_of_part16 more.0 (drop n src) more more.1.1, units_third more.0 more.1.0, ap length more.1.1, length-drop n src)
+
+pub record Unpacked (src old new : List ℕ) (at : ℕ) : Type 0 where
+  pub within : at ≤ length src
+  pub same : length new ≡ length old
+  pub low : BelowUpTo 0x80 src at
+  pub copied : take at new ≡ take at src
+  pub following : drop (units_in src) new ≡ drop (units_in src) old
+
+pub unpacked_stride : (src old new after : List ℕ) (at run : ℕ) → IsUtf8 src → at + 48 ≤ length src → length src ≤ length old → Unpacked src old new at → IsRunBelow 0x80 src at 16 run
+    → after ≡ take at new ++ (take 16 (drop at src) ++ drop (at + 16) new) → Unpacked src old after (at + run)
+unpacked_stride src old new after at run u long room d r is =
+    let stride = take 16 (drop at src) in
+    let done = take at src ++ stride in
+    let due = stride_due src at u long d.low in
+    let size : length done ≡ at + 16 = omega (arith, length-append (take at src) stride, length-take at src, length-take 16 (drop at src), length-drop at src) in
+    let stored : after ≡ done ++ drop (at + 16) new = is ∙ (λ i. d.copied i ++ (stride ++ drop (at + 16) new)) ∙ sym (append_assoc (take at src) stride (drop (at + 16) new)) in
+    let whole : take (at + 16) after ≡ take (at + 16) src = ap (take (at + 16)) stored ∙ take_at done (drop (at + 16) new) (at + 16) size ∙ sym (take-add at 16 src) in
+    let within : run ≤ 16 = r.within in
+    let part = λ (xs : List ℕ). sym (take-take (at + run) (at + 16) xs (omega arith)) in
+    let reach : at + 16 + (units_in src - (at + 16)) ≡ units_in src = omega (arith, due) in
+    let past = λ (xs : List ℕ). ap (λ m. drop m xs) (sym reach) ∙ sym (drop-drop (units_in src - (at + 16)) (at + 16) xs) in
+    let kept : drop (at + 16) after ≡ drop (at + 16) new = ap (drop (at + 16)) stored ∙ drop_at done (drop (at + 16) new) (at + 16) size in
+    record {
+      within = omega (arith, within);
+      same = omega (arith, ap length stored, length-append done (drop (at + 16) new), size, length-drop (at + 16) new, d.same);
+      low = λ k l. elim (cases_lt k at) [ inl b ↦ d.low k b | inr b ↦ r.pass k b l ];
+      copied = part after ∙ ap (take (at + run)) whole ∙ sym (part src);
+      following = past after ∙ ap (drop (units_in src - (at + 16))) kept ∙ sym (past new) ∙ d.following;
+    }
+
+pub unpacked_prefix : (src old new : List ℕ) (at : ℕ) → IsUtf8 src → Unpacked src old new at → WritesUtf16 src old new at at (units_in src)
+unpacked_prefix src old new at u d = puts_prefix src old new at (units_in src) u d.within (Each-take (λ b. b < 0x80) (omega arith) src at d.low) d.copied d.following
+
+pub putting_prefix : (src old new : List ℕ) (at : ℕ) → IsUtf8 src → Unpacked src old new at → Putting src old new at at
+putting_prefix src old new at u d =
+    let p = unpacked_prefix src old new at u d in
+    record {
+      done = p.taken;
+      are_scalars = p.are_scalars;
+      within = p.within;
+      spelled = p.spelled;
+      rest = p.rest;
+      due = units_split src old new at at (units_in src) u p;
+      shorter = omega arith;
+      counted = p.counted;
+      placed = p.placed;
+      following = p.following;
+    }

@@ -193,8 +193,10 @@ ascii_units (b ∷ bs) h = (λ i. one_unit b (omega (arith, h 0)) i ++ ascii_uni
 pub ascii_text : (bs : List ℕ) → IsAscii bs → IsUtf8 bs × (flat_map encode_utf16 (chars bs) ≡ bs)
 ascii_text bs ascii = (IsUtf8-from_ascii bs ascii, ap (flat_map encode_utf16) (chars-IsAscii bs ascii) ∙ ascii_units bs ascii)
 
-pub puts_ascii : (src old new : List ℕ) (n : ℕ) → IsUtf8 src → n ≤ length src → IsAscii (take n src) → WritesPrefix old new n (take n src) → WritesUtf16 src old new n n n
-puts_ascii src old new n u within ascii w =
+-- an ASCII prefix is converted if it is copied
+pub puts_prefix : (src old new : List ℕ) (n reach : ℕ) → IsUtf8 src → n ≤ length src → IsAscii (take n src) → take n new ≡ take n src → drop reach new ≡ drop reach old
+    → WritesUtf16 src old new n n reach
+puts_prefix src old new n reach u within ascii copied following =
     let bs = take n src in
     let text = IsUtf8-from_ascii bs ascii in
     let same : text.0 ≡ bs = encodes_same text.0 bs (text.1.1 ∙ sym (encodes-IsAscii bs ascii)) in
@@ -212,10 +214,14 @@ puts_ascii src old new n u within ascii w =
       within = within;
       spelled = text.1.1;
       rest = IsUtf8-drop src n u boundary;
-      counted = w.count ∙ ap length (sym units);
-      placed = sym (written_is old new n bs w) ∙ sym units;
-      following = ap (drop n) w.placed ∙ drop_at bs (drop n old) n (sym w.count);
+      counted = sym (length-take-le n src within) ∙ ap length (sym units);
+      placed = copied ∙ sym units;
+      following = following;
     }
+
+pub puts_ascii : (src old new : List ℕ) (n : ℕ) → IsUtf8 src → n ≤ length src → IsAscii (take n src) → WritesPrefix old new n (take n src) → WritesUtf16 src old new n n n
+puts_ascii src old new n u within ascii w =
+    puts_prefix src old new n n u within ascii (sym (written_is old new n (take n src) w)) (ap (drop n) w.placed ∙ drop_at (take n src) (drop n old) n (sym w.count))
 
 -- ---- characters of three bytes
 record Triple (src : List ℕ) : Type 0 where

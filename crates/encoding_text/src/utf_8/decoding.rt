@@ -10,7 +10,7 @@ ghost use Rattle.encoding_definitions.specs.Converting.{ConvertsMaximal};
 ghost use Rattle.encoding_text.specs.Steps.ConversionSteps.{ConvertsSome, ConvertsUntilFull};
 
 use super::validation::{character_length, utf8_valid_up_to};
-use crate::ascii::copy_to_basic_latin;
+use crate::ascii::{copy_prefix_of_text, copy_to_basic_latin};
 use encoding_kernels::scalars::{decode_utf8_scalar, write_utf16};
 use encoding_kernels::strides::copy_prefix;
 use encoding_kernels::utf8_to_utf16::convert_valid_utf8_to_utf16;
@@ -80,7 +80,7 @@ pub(crate) fn convert_text(src: &[u8], dst: &mut [u16]) -> usize
     let mut read = 0;
     let mut written = 0;
     loop {
-        let ascii = copy_to_basic_latin(&src[read..], &mut dst[written..]);
+        let ascii = copy_prefix_of_text(&src[read..], &mut dst[written..]);
         read += ascii;
         written += ascii;
         if read == src.len() {

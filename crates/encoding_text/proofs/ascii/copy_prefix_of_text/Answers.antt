@@ -1,0 +1,39 @@
+use Rattle.std.proofs.Common.{ℕ, ◌+◌, ◌-◌, ◌≤◌, List, length, drop, take, arith, refl, subst}
+use Rattle.std.specs.Str.{IsAscii}
+use Rattle.std.proofs.lemmas.List.{take_rest, length-take, take-take}
+use borrow.Rule.Slice.PartMut.{put_mid}
+use Rattle.encoding_definitions.specs.Prefixes.{IsLongestPrefix, WritesPrefix}
+use Rattle.encoding_kernels.proofs.PrefixLoops.TextLoopLemmas.{Putting, due_ascii, putting_more, putting_prefix, putting_some, unpacked_prefix, unpacked_stride}
+use Rattle.encoding_text.proofs.ascii.copy_prefix_of_text.Goals as goal
+
+pub loop-at-init : goal.loop-at-init
+loop-at-init c = record { within = omega arith; same = refl; low = λ k l. absurd (omega arith); copied = refl; following = refl }
+
+pub returns-then-run-lt-STRIDE : goal.returns-then-run-lt-STRIDE
+returns-then-run-lt-STRIDE c =
+    let more = unpacked_stride _ _ _ _ _ _ c.requires.text (omega arith) c.requires.dst_length c.loop-at.invariant c.run_len_below-run.ensures c.unpack.ensures in
+    unpacked_prefix _ _ _ _ c.requires.text more
+
+pub loop-at-preserved : goal.loop-at-preserved
+loop-at-preserved c = unpacked_stride _ _ _ _ _ _ c.requires.text (omega arith) c.requires.dst_length c.loop-at.invariant c.run_len_below-run.ensures c.unpack.ensures
+
+-- an exact ASCII prefix more
+ascii_after : (src old new sub : List ℕ) (read written n : ℕ) → written ≤ length new → Putting src old new read written
+    → IsLongestPrefix IsAscii (take (length (take (length new - written) (drop written new))) (take (length src - read) (drop read src))) n
+    → WritesPrefix (take (length new - written) (drop written new)) sub n (take n (take (length src - read) (drop read src)))
+    → Putting src old (put_mid written (length new - written) new sub) (read + n) (written + n)
+ascii_after src old new sub read written n room d p w =
+    let bytes = drop read src in
+    let m = length (take (length new - written) (drop written new)) in
+    let prefix : IsLongestPrefix IsAscii (take m bytes) n = subst (λ xs. IsLongestPrefix IsAscii (take m xs) n) (take_rest src read) p in
+    let within : n ≤ length (take m bytes) = prefix.within in
+    let ascii : IsAscii (take n bytes) = subst IsAscii (take-take n m bytes (omega (arith, within, length-take m bytes))) prefix.kind in
+    let written_to : WritesPrefix (take (length new - written) (drop written new)) sub n (take n bytes) =
+    subst (λ xs. WritesPrefix (take (length new - written) (drop written new)) sub n (take n xs)) (take_rest src read) w in
+    putting_more src old new sub read written n n room d (due_ascii bytes _ sub n d.rest (omega (arith, within, length-take m bytes)) ascii written_to)
+
+pub returns : goal.returns
+returns c =
+    let d = putting_prefix _ _ _ _ c.requires.text c.loop-at.invariant in
+    let exact = c.copy_to_basic_latin.ensures in
+    putting_some (ascii_after _ _ _ _ _ _ _ (omega (arith, c.loop-at.invariant.within, c.loop-at.invariant.same, c.requires.dst_length)) d exact.prefix exact.copied)
