@@ -1,19 +1,16 @@
 //! Pairs by blocks: code units without an unpaired surrogate, and Latin1 in UTF-8. Each unit is judged by itself and
 //! the one before it, which is loaded separately, so that a block carries no state and the last one may overlap.
-ghost use Rattle.std.specs.Prelude.{◌≡◌, false, ◌+◌, ◌-◌, ◌<◌, ◌≤◌, length, take, slice_index, IsTrue};
-ghost use Rattle.encoding_definitions.specs.Utf16.{IsLowSurrogate};
+ghost use Rattle.std.specs.Prelude.{◌≡◌, false, ◌+◌, ◌-◌, ◌<◌, ◌≤◌, ◌↔◌, ◌∷◌, length, take, slice_index, IsTrue};
+ghost use Rattle.encoding_definitions.specs.Utf16.{IsHighSurrogate};
 ghost use Rattle.encoding_definitions.specs.Latin1.{IsUtf8Latin1};
 ghost use Rattle.encoding_kernels.specs.Pairs.{PairUp, HaveNoSurrogate, FitLatin1, pair_fault, latin1_fault};
 ghost use Rattle.encoding_definitions.specs.Surrogates.{IsValidUtf16};
 
 use crate::places::{Places, all, reach, skip};
-use crate::strides::{BLOCK, STRIDE, UNIT_BLOCK, UNIT_STRIDE};
+use crate::strides::{BLOCK, STRIDE};
 use crate::surrogates::{is_high_surrogate, is_low_surrogate};
 use std::simd::Simd;
 use std::simd::prelude::*;
-
-/// The number of blocks after one with surrogates that are tested for pairs at once.
-const PAIRED_BLOCKS_BEFORE_RETEST: usize = 8;
 
 /// The least byte that precedes a continuation byte.
 const LEAST_LEAD: u8 = 0xC0;
@@ -46,7 +43,7 @@ impl<'a, const N: usize> Places<N> for UnitPairs<'a> {
 
 /// Returns whether none of the code units of a block is a surrogate, by one test.
 #[inline(always)]
-fn has_no_surrogate(block: &[u16]) -> bool
+pub fn has_no_surrogate(block: &[u16]) -> bool
     requires { length block.now ≡ 64 }
     ensures { IsTrue result → HaveNoSurrogate block.now }
 {
@@ -59,60 +56,51 @@ fn has_no_surrogate(block: &[u16]) -> bool
     !lowest.simd_lt(Simd::splat(0x800)).any()
 }
 
-/// Returns `at`, or the index before it if a pair is cut at `at`.
-#[tactic(auto, using(crate::proofs::Paired::PairsLemmas::valid_whole, crate::proofs::Paired::PairsLemmas::valid_cut))]
+/// Returns whether the code unit before `at` is a high surrogate. None is before the first.
 #[inline(always)]
-fn before_cut_pair(units: &[u16], at: usize) -> usize
-    requires { (0 < at) × (at ≤ length units.now) × PairUp units.now 0 at }
+pub fn is_after_high_surrogate(units: &[u16], at: usize) -> bool
+    requires { at ≤ length units.now }
+    ensures { IsTrue result ↔ IsHighSurrogate (slice_index (0 ∷ units.now) at) }
+{
+    at > 0 && is_high_surrogate(units[at - 1])
+}
+
+/// Returns whether each of the N code units from `at` on is a low surrogate if and only if it follows a high one.
+///
+/// No unit is before the first, so that the test of the first N covers the unit after them too. If none is after them,
+/// it returns false.
+#[inline(always)]
+pub fn are_paired<const N: usize>(units: &[u16], at: usize) -> bool
+    requires { (at + N ≤ length units.now) × (0 < N) × (N ≤ 64) }
+    ensures { IsTrue result → PairUp units.now at (at + N) }
+{
+    if at > 0 {
+        return all::<N, N, _>(&UnitPairs { units }, at - 1);
+    }
+    if units.len() == N {
+        return false;
+    }
+    if is_low_surrogate(units[0]) {
+        return false;
+    }
+    all::<N, N, _>(&UnitPairs { units }, 0)
+}
+
+/// Returns `at`, or the index before it if a pair is cut at `at`.
+#[tactic(auto, using(crate::proofs::Paired::PairsLemmas::valid_start, crate::proofs::Paired::PairsLemmas::valid_whole, crate::proofs::Paired::PairsLemmas::valid_cut))]
+#[inline(always)]
+pub fn before_cut_pair(units: &[u16], at: usize) -> usize
+    requires { (at ≤ length units.now) × PairUp units.now 0 at }
     ensures { (result ≤ at) × IsValidUtf16 (take result units.now) }
 {
+    if at == 0 {
+        return at;
+    }
     if is_high_surrogate(units[at - 1]) {
         at - 1
     } else {
         at
     }
-}
-
-/// Returns the length of a prefix of one code unit, which isn't a low surrogate, and whole blocks. In it a unit is a
-/// low surrogate if and only if it follows a high one.
-#[inline(always)]
-fn paired_blocks(units: &[u16]) -> usize
-    requires not_empty { 0 < length units.now }
-    requires starts_whole { IsLowSurrogate (slice_index units.now 0) → ⊥ }
-    ensures within { (0 < result) × (result ≤ length units.now) }
-    ensures paired { PairUp units.now 0 result }
-{
-    let (blocks, _) = units[1..].as_chunks::<UNIT_BLOCK>();
-    let mut at = 1;
-    // surrogates cluster: the blocks after one with some are tested for pairs at once
-    let mut expected = 0;
-    for block in blocks {
-        if 0 < expected || is_high_surrogate(units[at - 1]) || !has_no_surrogate(block) {
-            if !all::<UNIT_BLOCK, UNIT_BLOCK, _>(&UnitPairs { units }, at - 1) {
-                return at;
-            }
-            expected = if expected == 0 {
-                PAIRED_BLOCKS_BEFORE_RETEST
-            } else {
-                expected - 1
-            };
-        }
-        at += UNIT_BLOCK;
-    }
-    at
-}
-
-/// Returns the length of a prefix without an unpaired surrogate, by whole blocks and strides.
-#[inline(always)]
-pub fn paired_prefix_len(units: &[u16]) -> usize
-    ensures { (result ≤ length units.now) × IsValidUtf16 (take result units.now) }
-{
-    if units.is_empty() || is_low_surrogate(units[0]) {
-        return 0;
-    }
-    let at = paired_blocks(units);
-    let last = reach::<UNIT_STRIDE, UNIT_STRIDE, _>(&UnitPairs { units }, at - 1, units.len() - 1);
-    before_cut_pair(units, last + 1)
 }
 
 /// Pairs of adjacent bytes: the second may follow the first in the UTF-8 of Latin1.

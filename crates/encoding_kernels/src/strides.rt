@@ -21,9 +21,6 @@ pub const BLOCK: usize = 64;
 /// The number of bytes in four blocks.
 pub const FOUR_BLOCKS: usize = 256;
 
-/// The number of bytes in eight blocks.
-const EIGHT_BLOCKS: usize = 512;
-
 /// The number of units in a stride, a vector of bytes.
 pub const STRIDE: usize = 16;
 
@@ -187,27 +184,6 @@ fn short_prefix_len_below(bytes: &[u8], bound: u8) -> usize
     at
 }
 
-/// Returns whether each byte is below the bound. Checks the first vector separately, since it most often decides.
-#[inline(always)]
-pub fn all_below(bytes: &[u8], bound: u8) -> bool
-    ensures { IsTrue result ↔ EachIndex bytes.now (λ k. slice_index bytes.now k < bound) }
-{
-    if bytes.len() < STRIDE {
-        return short_prefix_len_below(bytes, bound) == bytes.len();
-    }
-    let test = BytesBelow { bytes, bound };
-    if !all::<STRIDE, STRIDE, _>(&test, 0) {
-        return false;
-    }
-    let end = match bytes.len() {
-        EIGHT_BLOCKS.. => reach::<BLOCK, EIGHT_BLOCKS, _>(&test, 0, bytes.len()),
-        FOUR_BLOCKS.. => reach::<BLOCK, FOUR_BLOCKS, _>(&test, 0, bytes.len()),
-        BLOCK.. => reach::<BLOCK, BLOCK, _>(&test, 0, bytes.len()),
-        _ => reach::<STRIDE, STRIDE, _>(&test, 0, bytes.len()),
-    };
-    end == bytes.len()
-}
-
 /// Returns the length of the longest prefix of UTF-16 code units below the bound.
 #[inline(always)]
 pub fn units_prefix_len_below(units: &[u16], bound: u16) -> usize
@@ -219,25 +195,4 @@ pub fn units_prefix_len_below(units: &[u16], bound: u16) -> usize
     let by_blocks = skip::<HALF_UNIT_BLOCK, HALF_UNIT_BLOCK, _>(&test, 0, units.len());
     let by_strides = skip::<UNIT_STRIDE, UNIT_STRIDE, _>(&test, by_blocks, units.len());
     skip::<1, 1, _>(&test, by_strides, units.len())
-}
-
-/// Returns whether each UTF-16 code unit is below the bound. Checks the first vector separately, since it most often
-/// decides.
-#[inline(always)]
-pub fn are_all_units_below(units: &[u16], bound: u16) -> bool
-    ensures { IsTrue result ↔ EachIndex units.now (λ k. slice_index units.now k < bound) }
-{
-    let test = UnitsBelow { units, bound };
-    if units.len() < UNIT_STRIDE {
-        return skip::<1, 1, _>(&test, 0, units.len()) == units.len();
-    }
-    if !all::<UNIT_STRIDE, UNIT_STRIDE, _>(&test, 0) {
-        return false;
-    }
-    let end = match units.len() {
-        UNIT_BLOCK.. => reach::<UNIT_BLOCK, UNIT_BLOCK, _>(&test, 0, units.len()),
-        HALF_UNIT_BLOCK.. => reach::<HALF_UNIT_BLOCK, HALF_UNIT_BLOCK, _>(&test, 0, units.len()),
-        _ => reach::<UNIT_STRIDE, UNIT_STRIDE, _>(&test, 0, units.len()),
-    };
-    end == units.len()
 }

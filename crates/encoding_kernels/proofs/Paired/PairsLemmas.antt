@@ -89,6 +89,10 @@ module _ (us : List ℕ) (n : ℕ) (within : n ≤ length us) (some : 0 < n) (un
   valid_cut = cut_prefix IsHighSurrogate IsLowSurrogate IsValidTo us n (λ k l. p.each k (omega arith) l) high_decided (λ h. omega (arith, h.0)) (λ u h l. omega (arith, h.1, l.0))
       valid_none one_unit_more one_pair_more some
 
+-- no units
+pub valid_start : (us : List ℕ) (n : ℕ) → n ≡ 0 → IsValidUtf16 (take n us)
+valid_start us n e = subst (λ m. IsValidUtf16 (take m us)) (sym e) valid_none
+
 pub paired_joined : (us : List ℕ) (a b from to : ℕ) → PairUp us a b → PairUp us from to → from ≤ b → PairUp us a to
 paired_joined us a b from to p q l = record { each = λ k h m. elim (cases_lt k b) [ inl i ↦ p.each k h i | inr i ↦ q.each k (omega arith) m ] }
 
@@ -107,6 +111,16 @@ pairs_up us from to at end o p units none = record {
       let low = low_test (slice_index us k) (units k) in
       let high = high_test (slice_index us (k - 1)) (units (k - 1)) in
       subst (λ u. IsLowSurrogate (slice_index us k) ↔ IsHighSurrogate u) (sym last) (same_lane _ _ _ _ low high clean);
+}
+
+-- the same from the first unit on, which isn't a low surrogate
+pub pairs_start : (us : List ℕ) (end : ℕ) → (IsLowSurrogate (slice_index us 0) → ⊥) → PairUp us 1 end → PairUp us 0 end
+pairs_start us end first p = record {
+  each = λ k from to. elim (cases_lt 0 k) [
+    | inl l ↦ p.each k (omega arith) to
+    | inr l ↦ let e : 0 ≡ k = omega arith in
+        subst (λ j. IsLowSurrogate (slice_index us j) ↔ IsHighSurrogate (slice_index (0 ∷ us) j)) e (λ h. absurd (first h), λ h. absurd (omega (arith, h.0)))
+  ];
 }
 
 -- ---- blocks without a surrogate
@@ -149,22 +163,21 @@ none_in_block us long units none k from to =
 
 -- if no unit of a block is a surrogate, and the one before it isn't a high one, a unit of it is a low one if and only
 -- if it follows a high one
-pub paired_clear : (us block : List ℕ) (at n : ℕ) → block ≡ take n (drop at us) → 0 < at → HaveNoSurrogate block → (IsHighSurrogate (slice_index us (at - 1)) → ⊥)
-    → PairUp us at (at + n)
-paired_clear us block at n is some none before = record {
+pub paired_clear : (us block : List ℕ) (at n : ℕ) → block ≡ take n (drop at us) → HaveNoSurrogate block → (IsHighSurrogate (slice_index (0 ∷ us) at) → ⊥) → PairUp us at (at + n)
+paired_clear us block at n is none before = record {
   each = λ k from to.
-      let e : at + (k - at) ≡ k = omega arith in
-      let here : slice_index block (k - at) ≡ slice_index us k = unit_is 0 at n us block is (k - at) (omega arith) ∙ ap (slice_index us) e in
+      let in_block = λ (i : ℕ) (l : at ≤ i) (m : i < at + n).
+      let e : at + (i - at) ≡ i = omega arith in unit_is 0 at n us block is (i - at) (omega arith) ∙ ap (slice_index us) e in
+      let here = in_block k from to in
       let not_low : IsLowSurrogate (slice_index us k) → ⊥ = λ h. none (k - at) (omega (arith, here, h.0)) (omega (arith, here, h.1)) in
-      let last : slice_index (0 ∷ us) k ≡ slice_index us (k - 1) = ap (λ i. slice_index (0 ∷ us) i) {x = k} {y = k - 1 + 1} (omega arith) ∙ before_next us (k - 1) in
-      let not_high : IsHighSurrogate (slice_index us (k - 1)) → ⊥ = elim (cases_lt (k - 1) at) [
-        | inl l ↦ let at_start : k - 1 ≡ at - 1 = omega arith in λ h. before (subst (λ i. IsHighSurrogate (slice_index us i)) at_start h)
-        | inr l ↦
-            let within : at + (k - 1 - at) ≡ k - 1 = omega arith in
-            let there : slice_index block (k - 1 - at) ≡ slice_index us (k - 1) = unit_is 0 at n us block is (k - 1 - at) (omega arith) ∙ ap (slice_index us) within in
-            λ h. none (k - 1 - at) (omega (arith, there, h.0)) (omega (arith, there, h.1))
+      let not_high : IsHighSurrogate (slice_index (0 ∷ us) k) → ⊥ = elim (cases_lt at k) [
+        | inl l ↦
+            let there = in_block (k - 1) (omega arith) (omega arith) in
+            let last : slice_index (0 ∷ us) k ≡ slice_index us (k - 1) = ap (λ i. slice_index (0 ∷ us) i) {x = k} {y = k - 1 + 1} (omega arith) ∙ before_next us (k - 1) in
+            λ h. none (k - 1 - at) (omega (arith, there, last, h.0)) (omega (arith, there, last, h.1))
+        | inr l ↦ let e : k ≡ at = omega arith in λ h. before (subst (λ i. IsHighSurrogate (slice_index (0 ∷ us) i)) e h)
       ] in
-      (λ h. absurd (not_low h), λ h. absurd (not_high (subst IsHighSurrogate last h)));
+      (λ h. absurd (not_low h), λ h. absurd (not_high h));
 }
 
 -- ---- Latin1

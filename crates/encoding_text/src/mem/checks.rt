@@ -11,8 +11,8 @@ use encoding_kernels::pair_blocks::{BEYOND_LATIN1, latin1_blocks};
 use encoding_kernels::sequence::is_continuation;
 use encoding_kernels::strides::{
     ASCII_END, BASIC_LATIN_END, BLOCK, FOUR, FOUR_BLOCKS, SIXTEEN, STRIDE, UNIT_BLOCK,
-    are_all_units_below, are_bytes_below, are_four_blocks_below, are_units_below,
-    prefix_after_stride, prefix_len_below, run_len_below,
+    are_bytes_below, are_four_blocks_below, are_units_below, prefix_after_stride, prefix_len_below,
+    run_len_below,
 };
 
 /// The least UTF-16 code unit that isn't Latin1.

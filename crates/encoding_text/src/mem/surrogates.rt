@@ -1,22 +1,65 @@
 //! Unpaired surrogates in UTF-16: the longest valid prefix, and repair in place.
 
-ghost use Rattle.std.specs.Prelude.{◌-◌, ◌≤◌, length, drop};
+ghost use Rattle.std.specs.Prelude.{◌≡◌, ◌+◌, ◌-◌, ◌<◌, ◌≤◌, length, drop};
 ghost use Rattle.encoding_definitions.specs.Prefixes.{IsLongestPrefix};
 ghost use Rattle.encoding_definitions.specs.Surrogates.{IsValidUtf16, AreRepairedUnits};
 ghost use Rattle.encoding_definitions.specs.Utf16.{AreCodeUnits};
 
-use encoding_kernels::pair_blocks::paired_prefix_len;
+use encoding_kernels::pair_blocks::{
+    are_paired, before_cut_pair, has_no_surrogate, is_after_high_surrogate,
+};
+use encoding_kernels::strides::{FOUR, STRIDE, UNIT_BLOCK};
 use encoding_kernels::surrogates::{is_high_surrogate, is_low_surrogate, is_surrogate};
+
+/// The number of blocks after one with surrogates that are tested for pairs at once.
+const PAIRED_BLOCKS_BEFORE_RETEST: usize = 8;
 
 /// What replaces an unpaired surrogate.
 const REPLACEMENT_UNIT: u16 = 0xFFFD;
+
+/// Returns how many more blocks are tested for pairs at once, after a block with surrogates for which `expected` of them
+/// were left.
+#[inline(always)]
+fn blocks_before_retest(expected: usize) -> usize
+    ensures first { expected ≡ 0 → result ≡ 8 }
+    ensures next { 0 < expected → result + 1 ≡ expected }
+{
+    if expected == 0 {
+        PAIRED_BLOCKS_BEFORE_RETEST
+    } else {
+        expected - 1
+    }
+}
 
 /// Returns the length of the longest prefix without an unpaired surrogate: the index of the first one, or the length of
 /// `buffer`.
 pub fn utf16_valid_up_to(buffer: &[u16]) -> usize
     ensures { IsLongestPrefix IsValidUtf16 buffer.now result }
 {
-    let mut at = paired_prefix_len(buffer);
+    let (strides, _) = buffer.as_chunks::<STRIDE>();
+    let (fours, _) = strides.as_chunks::<FOUR>();
+    let mut at = 0;
+    // surrogates cluster: the blocks after one with some are tested for pairs at once
+    let mut expected = 0;
+    for four in fours {
+        if 0 < expected
+            || is_after_high_surrogate(buffer, at)
+            || !has_no_surrogate(four.as_flattened())
+        {
+            if !are_paired::<UNIT_BLOCK>(buffer, at) {
+                break;
+            }
+            expected = blocks_before_retest(expected);
+        }
+        at += UNIT_BLOCK;
+    }
+    for _i in at / STRIDE..strides.len() {
+        if !are_paired::<STRIDE>(buffer, at) {
+            break;
+        }
+        at += STRIDE;
+    }
+    at = before_cut_pair(buffer, at);
     while at < buffer.len() {
         let unit = buffer[at];
         if !is_surrogate(unit) {

@@ -1,4 +1,4 @@
-use Rattle.std.proofs.Common.{[], Some, None, take, slice_index, length, ◌+◌, ◌<◌, ◌≤◌, refl, arith}
+use Rattle.std.proofs.Common.{[], Some, take, slice_index, ◌+◌, refl, arith}
 use Rattle.encoding_kernels.proofs.LatinBlocks.AsciiLemmas.{WritesPrefix_copy}
 use Rattle.encoding_definitions.proofs.LongestPrefixes.PrefixesLemmas.{WritesPrefix-length}
 use Rattle.encoding_kernels.proofs.PrefixLoops.StrideLoopLemmas.{first_part, stride_part, group_part, below_more}

@@ -1,0 +1,19 @@
+use Rattle.std.proofs.Common.{◌≡◌, ◌+◌, ◌-◌, arith, subst}
+use Rattle.encoding_kernels.specs.Pairs.{PairUp}
+use Rattle.encoding_kernels.proofs.Paired.PairsLemmas.{pairs_up, pairs_start}
+use Rattle.encoding_kernels.proofs.pair_blocks.are_paired.Goals as goal
+
+pub returns-then-at-gt0 : goal.returns-then-at-gt0
+returns-then-at-gt0 g c t =
+    let at = c.args.at in
+    let n = g.row.N in
+    pairs_up c.args.units.now (at - 1) (at - 1 + n) at (at + n) (omega arith) (omega arith) (λ k. (c.type_inv.units k).fits) (c.all.ensures.0 t)
+
+pub returns : goal.returns
+returns g c t =
+    let us = c.args.units.now in
+    let n = g.row.N in
+    let start = pairs_start us n (λ h. cc ((c.if-is_low_surrogate.ensures {u = tt}).1 h)) (pairs_up us 0 n 1 n (omega arith) (omega arith) (λ k. (c.type_inv.units k).fits) (λ k from to. c.all-2.ensures.0 t k from (omega arith))) in
+    let e : n ≡ c.args.at + n = omega arith in
+    let first : 0 ≡ c.args.at = omega arith in
+    subst (λ m. PairUp us m (m + n)) first (subst (PairUp us 0) {x = n} {y = 0 + n} (omega arith) start)
