@@ -86,6 +86,23 @@ wrote_piece last bs p src old new now n piece read q w call a =
     let g = piece_yields p src last piece read q call in
     wrote_then last bs (p ++ src) (q ++ drop read src) old new now n (malformed_in piece) w (record { parts = g.parts; first = g.first; bytes = subst (Appends new now) (sym g.text) a; malformed = sym g.malformed })
 
+-- nothing is pending after a piece
+pub nothing_pending : (p src : List ℕ) (last : Bool) (piece : Piece) (read : ℕ) (q : List ℕ) → BorrowedDecodeStep p src last piece read q → (piece ≡ InputEmpty → ⊥) → q ≡ []
+nothing_pending p src last (Text t) read q call n = call.answer.1
+nothing_pending p src last (Char c) read q call n = call.answer.1
+nothing_pending p src last (Malformed k) read q call n = call.answer.2
+nothing_pending p src last InputEmpty read q call n = absurd (n refl)
+
+-- one more piece is written, and no byte follows it
+pub wrote_last : (last : Bool) (bs p src : List ℕ) (old new now : Option (List ℕ)) (n : ℕ) (piece : Piece) (read : ℕ) (q : List ℕ) → WritesParts last bs (p ++ src) old new n
+    → BorrowedDecodeStep p src last piece read q → (piece ≡ InputEmpty → ⊥) → Appends new now (text_of piece) → length src ≤ read
+    → WritesParts last bs q old now (n + malformed_in piece) × (q ≡ [])
+wrote_last last bs p src old new now n piece read q w call some a all =
+    let rest : q ++ drop read src ≡ q = ap (λ xs. q ++ xs) (drop_all read src all) ∙ append-nil q in (
+      subst (λ xs. WritesParts last bs xs old now (n + malformed_in piece)) rest (wrote_piece last bs p src old new now n piece read q w call a),
+      nothing_pending p src last piece read q call some,
+    )
+
 -- a proper prefix of its text is written
 pub stopped_piece : (last : Bool) (bs p src : List ℕ) (old new now : Option (List ℕ)) (n : ℕ) (piece : Piece) (read : ℕ) (q : List ℕ) (k : ℕ) → WritesParts last bs (p ++ src) old new n
     → BorrowedDecodeStep p src last piece read q → k < length (text_of piece) → Appends new now (take k (text_of piece)) → StopsInParts last bs old now

@@ -124,6 +124,10 @@ fn write_parts<W: Sink>(
             return Ok(replaced);
         }
         replaced += write_piece(writer, piece)?;
+        // after a piece nothing is pending
+        if read == rest.len() {
+            return Ok(replaced);
+        }
         rest = &rest[read..];
     }
 }

@@ -1,7 +1,7 @@
-use Rattle.std.proofs.Common.{◌∙◌, arith}
+use Rattle.std.proofs.Common.{◌∙◌, inl, arith}
 use Rattle.std.proofs.lemmas.Result.{err_from_is_err_and}
 use Rattle.std.proofs.lemmas.List.{take_rest, length-append}
-use Rattle.encoding_runs.proofs.RepairLemmas.{wrote_piece, stopped_piece, wrote_count, pending_length}
+use Rattle.encoding_runs.proofs.RepairLemmas.{wrote_piece, wrote_last, stopped_piece, wrote_count, pending_length}
 use Rattle.encoding_runs.proofs.repair.engine.write_parts.Goals as goal
 
 pub returns-in_err-replaced-clause-err : goal.returns-in_err-replaced-clause-err
@@ -24,3 +24,9 @@ loop-writer-preserved g c =
       failed = e.2 ∙ c.loop-writer.invariant.failed;
       keeps = g.met.W.Sink.keeps_on _ _ _ c.loop-writer.invariant.keeps c.in_ok-replaced.ensures.keeps;
     })
+
+pub returns-then-read-rest-clause-ok : goal.returns-then-read-rest-clause-ok
+returns-then-read-rest-clause-ok g c =
+    let e = c.in_ok-replaced.ensures.ok in
+    let wrote = wrote_last _ _ _ _ _ _ _ _ _ _ _ c.loop-writer.invariant.wrote c.decode_borrowed_raw-read.ensures c.in_default.not-InputEmpty e.1 (omega arith) in
+    rw e.0 (wrote.0, inl wrote.1, λ l. wrote.1, e.2 ∙ c.loop-writer.invariant.failed)
