@@ -302,6 +302,19 @@ pub(crate) fn ascii_valid_up_to_by_block(bytes: &[u8]) -> usize
 /// Copies the longest ASCII prefix, each byte as a UTF-16 code unit, up to the shorter of the two lengths. Returns its
 /// length. Out of line, so that a loop that calls it needs few registers.
 #[inline(never)]
+fn copy_some_to_basic_latin(src: &[u8], dst: &mut [u16]) -> usize
+    ensures prefix { IsLongestPrefix IsAscii (take (length dst.old) src.now) result }
+    ensures copied { WritesPrefix dst.old dst.new result (take result src.now) }
+{
+    match ascii_to_basic_latin(src, dst) {
+        Some((_, place)) => place,
+        None => src.len().min(dst.len()),
+    }
+}
+
+/// Copies the longest ASCII prefix, each byte as a UTF-16 code unit, up to the shorter of the two lengths. Returns its
+/// length.
+#[inline(always)]
 pub(crate) fn copy_to_basic_latin(src: &[u8], dst: &mut [u16]) -> usize
     ensures prefix { IsLongestPrefix IsAscii (take (length dst.old) src.now) result }
     ensures copied { WritesPrefix dst.old dst.new result (take result src.now) }
@@ -310,10 +323,7 @@ pub(crate) fn copy_to_basic_latin(src: &[u8], dst: &mut [u16]) -> usize
     if !src.is_empty() && src[0] >= ASCII_END {
         return 0;
     }
-    let Some((_, place)) = ascii_to_basic_latin(src, dst) else {
-        return src.len().min(dst.len());
-    };
-    place
+    copy_some_to_basic_latin(src, dst)
 }
 
 /// The least length of a text whose UTF-16 has at least as many code units as a stride.
@@ -330,13 +340,20 @@ pub(crate) fn copy_prefix_of_text(src: &[u8], dst: &mut [u16]) -> usize
     ensures { WritesUtf16 src.now dst.old dst.new result result (units_in src.now) }
 {
     let mut at = 0;
-    while at < BLOCK && src.len() - at >= STRIDE_OF_TEXT {
+    while at < BLOCK && src.len() - at >= STRIDE {
         let run = run_len_below::<STRIDE>(src, at, ASCII_END);
+        if run < STRIDE {
+            if src.len() - at < STRIDE_OF_TEXT {
+                break;
+            }
+            unpack::<STRIDE>(src, dst, at);
+            return at + run;
+        }
         unpack::<STRIDE>(src, dst, at);
         at += run;
-        if run < STRIDE {
-            return at;
-        }
+    }
+    if at == src.len() {
+        return at;
     }
     at + copy_to_basic_latin(&src[at..], &mut dst[at..])
 }

@@ -1,6 +1,6 @@
 -- Writing the UTF-16 of a text character by character and block by block: what is still to be written, and the progress
 -- of a loop.
-use Rattle.std.proofs.Common.{◌≡◌, append_assoc, inl, inr, ℕ, ◌+◌, ◌-◌, ◌*◌, ◌/◌, ◌<◌, ◌≤◌, true, List, [], ◌∷◌, ◌++◌, length, take, drop, get_or, encode_utf8, encode_utf8_all, refl, sym, ap, ◌∙◌, arith, subst, take-add}
+use Rattle.std.proofs.Common.{◌≡◌, append_assoc, inl, inr, ◌⊎◌, slice_index, ℕ, ◌+◌, ◌-◌, ◌*◌, ◌/◌, ◌<◌, ◌≤◌, true, List, [], ◌∷◌, ◌++◌, length, take, drop, get_or, encode_utf8, encode_utf8_all, refl, sym, ap, ◌∙◌, arith, subst, take-add}
 use lib.Utf8.{scalar}
 use Rattle.std.specs.Char.{IsScalar}
 use Rattle.std.specs.Char.Escape.{encode_utf16}
@@ -235,9 +235,12 @@ puts_text src old new k u w =
     })
 
 -- ---- the ASCII prefix of a text, by strides that are stored whole
--- after an ASCII prefix, 48 bytes of a text have at least 16 code units
-stride_due : (src : List ℕ) (n : ℕ) → IsUtf8 src → n + 48 ≤ length src → BelowUpTo 0x80 src n → n + 16 ≤ units_in src
-stride_due src n u long low =
+-- after an ASCII prefix, a stride of ASCII or 48 bytes of a text have at least 16 code units
+stride_due : (src : List ℕ) (n : ℕ) → IsUtf8 src → n + 16 ≤ length src → BelowUpTo 0x80 src n → BelowUpTo 0x80 src (n + 16) ⊎ (n + 48 ≤ length src) → n + 16 ≤ units_in src
+stride_due src n u long low (inl more) =
+    let p = puts_prefix src src src (n + 16) (n + 16) u long (Each-take (λ b. b < 0x80) (omega arith) src (n + 16) more) refl refl in
+    omega (arith, units_split src src src (n + 16) (n + 16) (n + 16) u p)
+stride_due src n u long low (inr left) =
     let p = puts_prefix src src src n n u (omega arith) (Each-take (λ b. b < 0x80) (omega arith) src n low) refl refl in
     let more = p.rest in
     omega (arith, units_split src src src n n n u p, units_of_part16 more.0 (drop n src) more more.1.1, units_third more.0 more.1.0, ap length more.1.1, length-drop n src)
@@ -249,12 +252,13 @@ pub record Unpacked (src old new : List ℕ) (at : ℕ) : Type 0 where
   pub copied : take at new ≡ take at src
   pub following : drop (units_in src) new ≡ drop (units_in src) old
 
-pub unpacked_stride : (src old new after : List ℕ) (at run : ℕ) → IsUtf8 src → at + 48 ≤ length src → length src ≤ length old → Unpacked src old new at → IsRunBelow 0x80 src at 16 run
-    → after ≡ take at new ++ (take 16 (drop at src) ++ drop (at + 16) new) → Unpacked src old after (at + run)
-unpacked_stride src old new after at run u long room d r is =
+pub unpacked_stride : (src old new after : List ℕ) (at run : ℕ) → IsUtf8 src → at + 16 ≤ length src → (run ≡ 16) ⊎ (at + 48 ≤ length src) → length src ≤ length old → Unpacked src old new at
+    → IsRunBelow 0x80 src at 16 run → after ≡ take at new ++ (take 16 (drop at src) ++ drop (at + 16) new) → Unpacked src old after (at + run)
+unpacked_stride src old new after at run u long left room d r is =
     let stride = take 16 (drop at src) in
     let done = take at src ++ stride in
-    let due = stride_due src at u long d.low in
+    let more : (k : ℕ) → k < at + run → slice_index src k < 0x80 = λ k l. elim (cases_lt k at) [ inl b ↦ d.low k b | inr b ↦ r.pass k b l ] in
+    let due = stride_due src at u long d.low (elim left [ inl e ↦ inl (λ k l. more k (omega (arith, e))) | inr e ↦ inr e ]) in
     let size : length done ≡ at + 16 = omega (arith, length-append (take at src) stride, length-take at src, length-take 16 (drop at src), length-drop at src) in
     let stored : after ≡ done ++ drop (at + 16) new = is ∙ (λ i. d.copied i ++ (stride ++ drop (at + 16) new)) ∙ sym (append_assoc (take at src) stride (drop (at + 16) new)) in
     let whole : take (at + 16) after ≡ take (at + 16) src = ap (take (at + 16)) stored ∙ take_at done (drop (at + 16) new) (at + 16) size ∙ sym (take-add at 16 src) in
@@ -266,7 +270,7 @@ unpacked_stride src old new after at run u long room d r is =
     record {
       within = omega (arith, within);
       same = omega (arith, ap length stored, length-append done (drop (at + 16) new), size, length-drop (at + 16) new, d.same);
-      low = λ k l. elim (cases_lt k at) [ inl b ↦ d.low k b | inr b ↦ r.pass k b l ];
+      low = more;
       copied = part after ∙ ap (take (at + run)) whole ∙ sym (part src);
       following = past after ∙ ap (drop (units_in src - (at + 16))) kept ∙ sym (past new) ∙ d.following;
     }

@@ -1,4 +1,4 @@
-use Rattle.std.proofs.Common.{ℕ, ◌+◌, ◌-◌, ◌≤◌, List, length, drop, take, arith, refl, subst}
+use Rattle.std.proofs.Common.{ℕ, ◌+◌, ◌-◌, ◌≤◌, List, length, drop, take, inl, inr, arith, refl, subst}
 use Rattle.std.specs.Str.{IsAscii}
 use Rattle.std.proofs.lemmas.List.{take_rest, length-take, take-take}
 use borrow.Rule.Slice.PartMut.{put_mid}
@@ -11,11 +11,12 @@ loop-at-init c = record { within = omega arith; same = refl; low = λ k l. absur
 
 pub returns-then-run-lt-STRIDE : goal.returns-then-run-lt-STRIDE
 returns-then-run-lt-STRIDE c =
-    let more = unpacked_stride _ _ _ _ _ _ c.requires.text (omega arith) c.requires.dst_length c.loop-at.invariant c.run_len_below-run.ensures c.unpack.ensures in
-    unpacked_prefix _ _ _ _ c.requires.text more
+    unpacked_prefix _ _ _ _ c.requires.text
+    (unpacked_stride _ _ _ _ _ _ c.requires.text (omega arith) (inr (omega arith)) c.requires.dst_length c.loop-at.invariant c.run_len_below-run.ensures c.unpack.ensures)
 
 pub loop-at-preserved : goal.loop-at-preserved
-loop-at-preserved c = unpacked_stride _ _ _ _ _ _ c.requires.text (omega arith) c.requires.dst_length c.loop-at.invariant c.run_len_below-run.ensures c.unpack.ensures
+loop-at-preserved c =
+    unpacked_stride _ _ _ _ _ _ c.requires.text (omega arith) (inl (omega arith)) c.requires.dst_length c.loop-at.invariant c.run_len_below-run.ensures c.unpack-in-loop-at.ensures
 
 -- an exact ASCII prefix more
 ascii_after : (src old new sub : List ℕ) (read written n : ℕ) → written ≤ length new → Putting src old new read written
@@ -31,6 +32,9 @@ ascii_after src old new sub read written n room d p w =
     let written_to : WritesPrefix (take (length new - written) (drop written new)) sub n (take n bytes) =
     subst (λ xs. WritesPrefix (take (length new - written) (drop written new)) sub n (take n xs)) (take_rest src read) w in
     putting_more src old new sub read written n n room d (due_ascii bytes _ sub n d.rest (omega (arith, within, length-take m bytes)) ascii written_to)
+
+pub returns-then-at-src : goal.returns-then-at-src
+returns-then-at-src c = unpacked_prefix _ _ _ _ c.requires.text c.loop-at.invariant
 
 pub returns : goal.returns
 returns c =
