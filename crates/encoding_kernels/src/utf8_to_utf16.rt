@@ -261,7 +261,7 @@ fn write_tail(src: &[u8], dst: &mut [u16]) -> usize
 
 /// Writes the UTF-16 of a text up to a stride of ASCII, and returns how many bytes it read and how many code units it
 /// wrote. Units that the rest of the text overwrites may have changed too.
-#[inline(always)]
+#[inline(never)]
 fn write_blocks(src: &[u8], dst: &mut [u16]) -> (usize, usize)
     requires dst_length { (0 < length src.now) × (length src.now ≤ length dst.old) }
     requires text { IsUtf8 src.now }

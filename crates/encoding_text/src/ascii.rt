@@ -291,9 +291,9 @@ pub(crate) fn ascii_valid_up_to_by_block(bytes: &[u8]) -> usize
     ensures { IsLongestPrefix IsAscii bytes.now result }
 {
     if bytes.len() >= BLOCK {
-        let run = run_len_below::<BLOCK>(bytes, 0, ASCII_END);
-        if run < BLOCK || bytes.len() == BLOCK {
-            return run;
+        let prefix = run_len_below::<BLOCK>(bytes, 0, ASCII_END);
+        if prefix < BLOCK || bytes.len() == BLOCK {
+            return prefix;
         }
     }
     ascii_valid_up_to(bytes)

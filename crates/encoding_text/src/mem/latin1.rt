@@ -113,12 +113,6 @@ pub fn convert_latin1_to_utf8_partial(src: &[u8], dst: &mut [u8]) -> (usize, usi
     let mut read = 0;
     let mut written = 0;
     while read < src.len() {
-        let (bytes, extra) = convert_latin1_blocks(&src[read..], &mut dst[written..]);
-        read += bytes;
-        written += extra;
-        if read == src.len() {
-            break;
-        }
         let prefix = copy_ascii(&src[read..], &mut dst[written..]);
         read += prefix;
         written += prefix;
@@ -129,6 +123,9 @@ pub fn convert_latin1_to_utf8_partial(src: &[u8], dst: &mut [u8]) -> (usize, usi
         dst[written + 1] = 0x80 | (src[read] & 0x3F);
         read += 1;
         written += HIGH_LENGTH;
+        let (bytes, extra) = convert_latin1_blocks(&src[read..], &mut dst[written..]);
+        read += bytes;
+        written += extra;
     }
     (read, written)
 }
@@ -161,6 +158,15 @@ pub fn convert_utf8_to_latin1(src: &[u8], dst: &mut [u8]) -> usize
     let mut read = 0;
     let mut written = 0;
     while read < src.len() {
+        let prefix = copy_ascii(&src[read..], &mut dst[written..]);
+        read += prefix;
+        written += prefix;
+        if read == src.len() {
+            break;
+        }
+        dst[written] = (src[read] << 6) | (src[read + 1] & 0x3F);
+        read += 2;
+        written += 1;
         let mut untested = 0;
         while src.len() - read >= STRIDE && dst.len() - written >= STRIDE {
             if untested == 0 {
@@ -174,14 +180,6 @@ pub fn convert_utf8_to_latin1(src: &[u8], dst: &mut [u8]) -> usize
             written += count;
             read += whole_length(src[read + 15]);
             untested -= 1;
-        }
-        let prefix = copy_ascii(&src[read..], &mut dst[written..]);
-        read += prefix;
-        written += prefix;
-        if read < src.len() {
-            dst[written] = (src[read] << 6) | (src[read + 1] & 0x3F);
-            read += 2;
-            written += 1;
         }
     }
     written
