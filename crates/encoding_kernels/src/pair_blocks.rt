@@ -1,13 +1,13 @@
 //! Pairs by blocks: code units without an unpaired surrogate, and Latin1 in UTF-8. Each unit is judged by itself and
 //! the one before it, which is loaded separately, so that a block carries no state and the last one may overlap.
-ghost use Rattle.std.specs.Prelude.{◌≡◌, false, ◌+◌, ◌-◌, ◌<◌, ◌≤◌, ◌↔◌, ◌∷◌, length, take, slice_index, IsTrue};
+ghost use Rattle.std.specs.Prelude.{◌≡◌, false, ◌+◌, ◌-◌, ◌*◌, ◌<◌, ◌≤◌, ◌↔◌, ◌∷◌, length, take, slice_index, IsTrue};
 ghost use Rattle.encoding_definitions.specs.Utf16.{IsHighSurrogate};
 ghost use Rattle.encoding_definitions.specs.Latin1.{IsUtf8Latin1};
 ghost use Rattle.encoding_kernels.specs.Pairs.{PairUp, HaveNoSurrogate, FitLatin1, pair_fault, latin1_fault};
 ghost use Rattle.encoding_definitions.specs.Surrogates.{IsValidUtf16};
 
-use crate::places::{Places, all, reach, skip};
-use crate::strides::{BLOCK, STRIDE};
+use crate::places::{Places, all, reach, run, skip};
+use crate::strides::{BLOCK, HALF_STRIDE, STRIDE};
 use crate::surrogates::{is_high_surrogate, is_low_surrogate};
 use std::simd::Simd;
 use std::simd::prelude::*;
@@ -65,25 +65,41 @@ pub fn is_after_high_surrogate(units: &[u16], at: usize) -> bool
     at > 0 && is_high_surrogate(units[at - 1])
 }
 
-/// Returns whether each of the N code units from `at` on is a low surrogate if and only if it follows a high one.
+/// Returns whether each of the N code units from `at` on is a low surrogate if and only if it follows a high one. H is
+/// half of N.
 ///
-/// No unit is before the first, so that the test of the first N covers the unit after them too. If none is after them,
-/// it returns false.
+/// No unit is before the first. So the first N have a pair of neighbors less, which two tests of H cover.
 #[inline(always)]
-pub fn are_paired<const N: usize>(units: &[u16], at: usize) -> bool
-    requires { (at + N ≤ length units.now) × (0 < N) × (N ≤ 64) }
+pub fn are_paired<const N: usize, const H: usize>(units: &[u16], at: usize) -> bool
+    requires within { (at + N ≤ length units.now) × (0 < N) × (N ≤ 64) }
+    requires half { N ≡ 2 * H }
     ensures { IsTrue result → PairUp units.now at (at + N) }
 {
+    let test = UnitPairs { units };
     if at > 0 {
-        return all::<N, N, _>(&UnitPairs { units }, at - 1);
-    }
-    if units.len() == N {
-        return false;
+        return all::<N, N, _>(&test, at - 1);
     }
     if is_low_surrogate(units[0]) {
         return false;
     }
-    all::<N, N, _>(&UnitPairs { units }, 0)
+    all::<H, H, _>(&test, 0) & all::<H, H, _>(&test, H - 1)
+}
+
+/// Returns how many of the units of the stride at `at` precede the first that is a low surrogate without following a
+/// high one, or follows a high one without being a low one. In the first stride it returns 0 if there is such a unit.
+#[inline(always)]
+pub fn paired_run(units: &[u16], at: usize) -> usize
+    requires { at + 16 ≤ length units.now }
+    ensures { (result ≤ 16) × PairUp units.now at (at + result) }
+{
+    if at > 0 {
+        return run::<STRIDE, _>(&UnitPairs { units }, at - 1);
+    }
+    if are_paired::<STRIDE, HALF_STRIDE>(units, 0) {
+        STRIDE
+    } else {
+        0
+    }
 }
 
 /// Returns `at`, or the index before it if a pair is cut at `at`.

@@ -6,9 +6,9 @@ ghost use Rattle.encoding_definitions.specs.Surrogates.{IsValidUtf16, AreRepaire
 ghost use Rattle.encoding_definitions.specs.Utf16.{AreCodeUnits};
 
 use encoding_kernels::pair_blocks::{
-    are_paired, before_cut_pair, has_no_surrogate, is_after_high_surrogate,
+    are_paired, before_cut_pair, has_no_surrogate, is_after_high_surrogate, paired_run,
 };
-use encoding_kernels::strides::{FOUR, STRIDE, UNIT_BLOCK};
+use encoding_kernels::strides::{FOUR, HALF_UNIT_BLOCK, STRIDE, UNIT_BLOCK};
 use encoding_kernels::surrogates::{is_high_surrogate, is_low_surrogate, is_surrogate};
 
 /// The number of blocks after one with surrogates that are tested for pairs at once.
@@ -46,7 +46,7 @@ pub fn utf16_valid_up_to(buffer: &[u16]) -> usize
             || is_after_high_surrogate(buffer, at)
             || !has_no_surrogate(four.as_flattened())
         {
-            if !are_paired::<UNIT_BLOCK>(buffer, at) {
+            if !are_paired::<UNIT_BLOCK, HALF_UNIT_BLOCK>(buffer, at) {
                 break;
             }
             expected = blocks_before_retest(expected);
@@ -54,10 +54,11 @@ pub fn utf16_valid_up_to(buffer: &[u16]) -> usize
         at += UNIT_BLOCK;
     }
     for _i in at / STRIDE..strides.len() {
-        if !are_paired::<STRIDE>(buffer, at) {
+        let run = paired_run(buffer, at);
+        at += run;
+        if run < STRIDE {
             break;
         }
-        at += STRIDE;
     }
     at = before_cut_pair(buffer, at);
     while at < buffer.len() {

@@ -7,24 +7,30 @@ use Rattle.encoding_text.proofs.ascii.basic_latin_to_ascii.Goals as goal
 
 pub returns-then-run-lt-STRIDE-clause-found : goal.returns-then-run-lt-STRIDE-clause-found
 returns-then-run-lt-STRIDE-clause-found c =
+    let strides = c.as_chunks.ensures in
     let xs = take c.min.result c.args.src.now in
-    let part = first_part 16 xs c.in-Some.first.now c.as_chunks.ensures.front c.as_chunks.ensures.front_len c.in-Some.ensures.value in
+    let part = first_part 16 xs c.in-Some.first.now strides.front strides.front_len c.in-Some.ensures.value in
     let found = first_other_first part c.units_run_len_below-run.ensures c.if-run-lt-STRIDE.true in
-    found_fitting c.args.src.now c.args.dst.now c.min.result c.min.ensures (Some (slice_index xs c.units_run_len_below-run.result, c.units_run_len_below-run.result)) found
+    found_fitting c.args.src.now c.args.dst.now c.min.result c.min.ensures
+    (Some (slice_index xs c.units_run_len_below-run.result, c.units_run_len_below-run.result)) found
 
 pub returns-then-run-lt-STRIDE-clause-copied : goal.returns-then-run-lt-STRIDE-clause-copied
 returns-then-run-lt-STRIDE-clause-copied c =
+    let strides = c.as_chunks.ensures in
     let xs = take c.min.result c.args.src.now in
-    let part = first_part 16 xs c.in-Some.first.now c.as_chunks.ensures.front c.as_chunks.ensures.front_len c.in-Some.ensures.value in
+    let part = first_part 16 xs c.in-Some.first.now strides.front strides.front_len c.in-Some.ensures.value in
     let room = fitting_room c.args.src.now c.args.dst.now c.min.result c.min.ensures in
     let copied = copied_start part room c.units_run_len_below-run.result c.units_run_len_below-run.ensures.within c.pack_first.ensures in
     copied_fitting c.args.src.now c.args.dst.now c.min.result c.min.ensures copied
 
 pub loop-four-preserved : goal.loop-four-preserved
 loop-four-preserved c =
+    let strides = c.as_chunks.ensures in
+    let groups = c.as_chunks-2.ensures in
     let here = c.loop-four.invariant in
     let xs = take c.min.result c.args.src.now in
-    let part = group_part 16 xs c.as_chunks.ensures.front c.as_chunks.ensures.front_len 4 [] c.as_chunks-2.ensures.front c.as_chunks-2.ensures.front_len c.loop-four-test.true c.as_flattened-block.ensures.value here.place in
+    let part = group_part 16 xs strides.front strides.front_len 4 [] groups.front groups.front_len
+    c.loop-four-test.true c.as_flattened-block.ensures.value here.place in
     let room = fitting_room c.args.src.now c.args.dst.now c.min.result c.min.ensures in
     record {
       place = omega (arith, here.place);
@@ -34,26 +40,31 @@ loop-four-preserved c =
 
 pub returns-then-run-lt-STRIDE-2-clause-found : goal.returns-then-run-lt-STRIDE-2-clause-found
 returns-then-run-lt-STRIDE-2-clause-found c =
+    let strides = c.as_chunks.ensures in
     let here = c.loop-i.invariant in
     let xs = take c.min.result c.args.src.now in
-    let part = stride_part 16 xs c.as_chunks.ensures.front c.as_chunks.ensures.front_len [] here.place c.loop-i-test.true in
+    let part = stride_part 16 xs strides.front strides.front_len [] here.place c.loop-i-test.true in
     let found = first_other_in part here.below c.units_run_len_below-run-in-loop-i.ensures c.if-run-lt-STRIDE-2.true in
-    found_fitting c.args.src.now c.args.dst.now c.min.result c.min.ensures (Some (slice_index xs (c.loop-i.at + c.units_run_len_below-run-in-loop-i.result), c.loop-i.at + c.units_run_len_below-run-in-loop-i.result)) found
+    found_fitting c.args.src.now c.args.dst.now c.min.result c.min.ensures
+    (Some (slice_index xs (c.loop-i.at + c.units_run_len_below-run-in-loop-i.result), c.loop-i.at + c.units_run_len_below-run-in-loop-i.result)) found
 
 pub returns-then-run-lt-STRIDE-2-clause-copied : goal.returns-then-run-lt-STRIDE-2-clause-copied
 returns-then-run-lt-STRIDE-2-clause-copied c =
+    let strides = c.as_chunks.ensures in
     let here = c.loop-i.invariant in
     let xs = take c.min.result c.args.src.now in
-    let part = stride_part 16 xs c.as_chunks.ensures.front c.as_chunks.ensures.front_len [] here.place c.loop-i-test.true in
+    let part = stride_part 16 xs strides.front strides.front_len [] here.place c.loop-i-test.true in
     let room = fitting_room c.args.src.now c.args.dst.now c.min.result c.min.ensures in
-    let copied = copied_first part here.copied room c.units_run_len_below-run-in-loop-i.result c.units_run_len_below-run-in-loop-i.ensures.within c.pack_first-then-run-lt-STRIDE-2.ensures in
+    let copied = copied_first part here.copied room c.units_run_len_below-run-in-loop-i.result c.units_run_len_below-run-in-loop-i.ensures.within
+    c.pack_first-then-run-lt-STRIDE-2.ensures in
     copied_fitting c.args.src.now c.args.dst.now c.min.result c.min.ensures copied
 
 pub loop-i-preserved : goal.loop-i-preserved
 loop-i-preserved c =
+    let strides = c.as_chunks.ensures in
     let here = c.loop-i.invariant in
     let xs = take c.min.result c.args.src.now in
-    let part = stride_part 16 xs c.as_chunks.ensures.front c.as_chunks.ensures.front_len [] here.place c.loop-i-test.true in
+    let part = stride_part 16 xs strides.front strides.front_len [] here.place c.loop-i-test.true in
     let run = c.units_run_len_below-run-in-loop-i.ensures in
     let room = fitting_room c.args.src.now c.args.dst.now c.min.result c.min.ensures in
     record {
@@ -75,7 +86,8 @@ loop-i-2-preserved c =
     let room = fitting_room c.args.src.now c.args.dst.now c.min.result c.min.ensures in
     record {
       below = below_next 0x80 xs c.loop-i-2.i here.below c.if-fitting-i-ge-BASIC_LATIN_END.false;
-      copied = WritesPrefix_copy c.args.dst.now c.loop-i-2.dst xs c.loop-i-2.i _ here.copied c.loop-i-2-test.true (omega (arith, room, WritesPrefix-length _ _ _ _ here.copied)) refl;
+      copied = WritesPrefix_copy c.args.dst.now c.loop-i-2.dst xs c.loop-i-2.i _
+          here.copied c.loop-i-2-test.true (omega (arith, room, WritesPrefix-length _ _ _ _ here.copied)) refl;
     }
 
 pub returns-clause-found : goal.returns-clause-found

@@ -4,29 +4,38 @@ use Rattle.encoding_text.proofs.mem.checks.is_basic_latin.Goals as goal
 
 pub returns-then-not-are_units_below : goal.returns-then-not-are_units_below
 returns-then-not-are_units_below c =
-    let part = first_part 16 c.args.buffer.now c.in-Some.first.now c.as_chunks.ensures.front c.as_chunks.ensures.front_len c.in-Some.ensures.value in
+    let strides = c.as_chunks.ensures in
+    let part = first_part 16 c.args.buffer.now c.in-Some.first.now strides.front strides.front_len c.in-Some.ensures.value in
     (λ e. absurd (cc), λ h. c.if-not-are_units_below.ensures.1 (part_below part h))
 
 pub returns-then-not-are_units_below-2 : goal.returns-then-not-are_units_below-2
 returns-then-not-are_units_below-2 c =
+    let strides = c.as_chunks.ensures in
+    let groups = c.as_chunks-2.ensures in
     let here = c.loop-four.invariant in
-    let part = group_part 16 c.args.buffer.now c.as_chunks.ensures.front c.as_chunks.ensures.front_len 4 [] c.as_chunks-2.ensures.front c.as_chunks-2.ensures.front_len c.loop-four-test.true c.as_flattened.ensures.value here.place in
+    let part = group_part 16 c.args.buffer.now strides.front strides.front_len 4 [] groups.front groups.front_len
+    c.loop-four-test.true c.as_flattened.ensures.value here.place in
     (λ e. absurd (cc), λ h. c.if-not-are_units_below-2.ensures.1 (part_below part h))
 
 pub loop-four-preserved : goal.loop-four-preserved
 loop-four-preserved c =
+    let strides = c.as_chunks.ensures in
+    let groups = c.as_chunks-2.ensures in
     let here = c.loop-four.invariant in
-    let part = group_part 16 c.args.buffer.now c.as_chunks.ensures.front c.as_chunks.ensures.front_len 4 [] c.as_chunks-2.ensures.front c.as_chunks-2.ensures.front_len c.loop-four-test.true c.as_flattened.ensures.value here.place in
+    let part = group_part 16 c.args.buffer.now strides.front strides.front_len 4 [] groups.front groups.front_len
+    c.loop-four-test.true c.as_flattened.ensures.value here.place in
     record { place = omega (arith, here.place); below = below_more part here.below 64 (omega arith) (c.if-not-are_units_below-2.ensures.0 refl) }
 
 pub returns-then-not-are_units_below-3 : goal.returns-then-not-are_units_below-3
 returns-then-not-are_units_below-3 c =
+    let strides = c.as_chunks.ensures in
     let here = c.loop-i.invariant in
-    let part = stride_part 16 c.args.buffer.now c.as_chunks.ensures.front c.as_chunks.ensures.front_len [] here.place c.loop-i-test.true in
+    let part = stride_part 16 c.args.buffer.now strides.front strides.front_len [] here.place c.loop-i-test.true in
     (λ e. absurd (cc), λ h. c.if-not-are_units_below-3.ensures.1 (part_below part h))
 
 pub loop-i-preserved : goal.loop-i-preserved
 loop-i-preserved c =
+    let strides = c.as_chunks.ensures in
     let here = c.loop-i.invariant in
-    let part = stride_part 16 c.args.buffer.now c.as_chunks.ensures.front c.as_chunks.ensures.front_len [] here.place c.loop-i-test.true in
+    let part = stride_part 16 c.args.buffer.now strides.front strides.front_len [] here.place c.loop-i-test.true in
     record { place = omega (arith, here.place); below = below_more part here.below 16 (omega arith) (c.if-not-are_units_below-3.ensures.0 refl) }

@@ -14,9 +14,11 @@ loop-stride-preserved c =
 
 pub loop-i-preserved : goal.loop-i-preserved
 loop-i-preserved c =
+    let strides = c.as_chunks.ensures in
     let here = c.loop-i.invariant in
-    let part = stride_part 16 c.args.src.now c.as_chunks.ensures.front c.as_chunks.ensures.front_len [] here.place c.loop-i-test.true in
+    let part = stride_part 16 c.args.src.now strides.front strides.front_len [] here.place c.loop-i-test.true in
     record { place = omega (arith, here.place); copied = copied_part part here.copied c.requires.dst_length c.unpack_part-in-loop-i.ensures }
 
 pub loop-i-2-preserved : goal.loop-i-2-preserved
-loop-i-2-preserved c = WritesPrefix_copy c.args.dst.now c.loop-i-2.dst c.args.src.now c.loop-i-2.i _ c.loop-i-2.invariant c.loop-i-2-test.true (omega arith) c.from.ensures
+loop-i-2-preserved c = WritesPrefix_copy c.args.dst.now c.loop-i-2.dst c.args.src.now c.loop-i-2.i _
+    c.loop-i-2.invariant c.loop-i-2-test.true (omega arith) c.from.ensures

@@ -16,8 +16,10 @@ loop-four-preserved c =
     let four : PairUp us at (at + 64) = elim c.if-expected-gt0.branch [
       | then-expected-gt0+else-not-are_paired w ↦ w.if-not-are_paired.ensures refl
       | else-expected-gt0+else-is_after_high_surrogate+else-not-has_no_surrogate w ↦
-          let part = group_part 16 us strides.front strides.front_len 4 [] fours.front fours.front_len c.loop-four-test.true w.as_flattened.ensures.value here.place in
-          paired_clear us w.as_flattened.result.now at 64 part.is (w.if-not-has_no_surrogate.ensures refl) (λ h. cc ((w.if-is_after_high_surrogate.ensures {u = tt}).1 h))
+          let part = group_part 16 us strides.front strides.front_len 4 [] fours.front fours.front_len
+          c.loop-four-test.true w.as_flattened.ensures.value here.place in
+          paired_clear us w.as_flattened.result.now at 64 part.is
+          (w.if-not-has_no_surrogate.ensures refl) (λ h. cc ((w.if-is_after_high_surrogate.ensures {u = tt}).1 h))
     ] in
     record { place = omega (arith, here.place); paired = paired_joined us 0 at at (at + 64) here.paired four (omega arith) }
 
