@@ -86,20 +86,24 @@ pub fn are_paired<const N: usize, const H: usize>(units: &[u16], at: usize) -> b
 }
 
 /// Returns how many of the units of the stride at `at` precede the first that is a low surrogate without following a
-/// high one, or follows a high one without being a low one. In the first stride it returns 0 if there is such a unit.
+/// high one, or follows a high one without being a low one.
 #[inline(always)]
 pub fn paired_run(units: &[u16], at: usize) -> usize
     requires { at + 16 ≤ length units.now }
     ensures { (result ≤ 16) × PairUp units.now at (at + result) }
 {
+    let test = UnitPairs { units };
     if at > 0 {
-        return run::<STRIDE, _>(&UnitPairs { units }, at - 1);
+        return run::<STRIDE, _>(&test, at - 1);
     }
-    if are_paired::<STRIDE, HALF_STRIDE>(units, 0) {
-        STRIDE
-    } else {
-        0
+    if is_low_surrogate(units[0]) {
+        return 0;
     }
+    let first = run::<HALF_STRIDE, _>(&test, 0);
+    if first < HALF_STRIDE {
+        return first + 1;
+    }
+    HALF_STRIDE + run::<HALF_STRIDE, _>(&test, HALF_STRIDE - 1)
 }
 
 /// Returns `at`, or the index before it if a pair is cut at `at`.

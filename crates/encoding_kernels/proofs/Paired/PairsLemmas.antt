@@ -114,7 +114,7 @@ pairs_up us from to at end o p units none = record {
 }
 
 -- the same from the first unit on, which isn't a low surrogate
-pub pairs_start : (us : List ℕ) (end : ℕ) → (IsLowSurrogate (slice_index us 0) → ⊥) → PairUp us 1 end → PairUp us 0 end
+pairs_start : (us : List ℕ) (end : ℕ) → (IsLowSurrogate (slice_index us 0) → ⊥) → PairUp us 1 end → PairUp us 0 end
 pairs_start us end first p = record {
   each = λ k from to. elim (cases_lt 0 k) [
     | inl l ↦ p.each k (omega arith) to
@@ -122,6 +122,13 @@ pairs_start us end first p = record {
         subst (λ j. IsLowSurrogate (slice_index us j) ↔ IsHighSurrogate (slice_index (0 ∷ us) j)) e (λ h. absurd (first h), λ h. absurd (omega (arith, h.0)))
   ];
 }
+
+-- the same for the first units of a text
+pub pairs_first : (us : List ℕ) (at end : ℕ) → at ≡ 0 → 0 < end → (IsLowSurrogate (slice_index us 0) → ⊥) → ((k : ℕ) → slice_index us k < 2 ^ 16)
+    → PassBetween (λ k. pair_fault (slice_index us (k + 1)) (slice_index us k) ≡ false) 0 (end - 1) → PairUp us at (at + end)
+pairs_first us at end at_start some first units none =
+    let start = pairs_start us end first (pairs_up us 0 (end - 1) 1 end (omega arith) (omega arith) units none) in
+    subst (λ m. PairUp us m (m + end)) (sym at_start) (subst (PairUp us 0) {x = end} {y = 0 + end} (omega arith) start)
 
 -- ---- blocks without a surrogate
 -- a unit minus the least surrogate, in sixteen bits

@@ -62,15 +62,6 @@ module _ (n : ℕ) (xs : List ℕ) {i : ℕ} {strides : List (List ℕ)} (are : 
           within = omega (arith, start, units_within);
         }
 
-    -- one of its strides
-    pub inner_part : {at j : ℕ} (e : List ℕ) → at ≡ i * (w * n) + j * n → j < w → IsPart n at xs (get_or (get_or groups i d) j e)
-    inner_part {at} {j} e place k =
-        let start : i * w * n + j * n ≡ at = omega (arith, place) in
-        record {
-          is = ap (λ ys. get_or ys j e) group_is ∙ numbered n w (drop (i * w * n) xs) j e k ∙ ap (take n) (drop-drop (j * n) (i * w * n) xs ∙ ap (λ m. drop m xs) start);
-          within = omega (arith, start, units_within, mul-le-mul_right {m = j + 1} {n = w} n (omega arith));
-        }
-
 -- the units of the first stride
 pub first_part : (n : ℕ) (xs stride : List ℕ) {strides : List (List ℕ)} → strides ≡ first_chunks n (length xs / n) xs → length strides ≡ length xs / n
     → Some stride ≡ slice_get strides 0 → IsPart n 0 xs stride

@@ -10,7 +10,7 @@ ghost use Rattle.encoding_kernels.specs.Strides.{AllBelow};
 use crate::ascii;
 use encoding_kernels::latin1_to_utf8::write_latin1;
 use encoding_kernels::strides::{
-    ASCII_END, BLOCK, FOUR, STRIDE, are_bytes_below, pack_lower, unpack_part, write_first,
+    ASCII_END, BLOCK, STRIDE, are_bytes_below, pack_lower, unpack_part, write_first,
 };
 use encoding_kernels::utf8_to_latin1::latin1_of;
 use std::simd::prelude::*;
@@ -28,17 +28,9 @@ pub fn convert_latin1_to_utf16(src: &[u8], dst: &mut [u16])
     ensures written { WritesPrefix dst.old dst.new (length src.now) src.now }
 {
     let (strides, _) = src.as_chunks::<STRIDE>();
-    let (fours, _) = strides.as_chunks::<FOUR>();
     let mut at = 0;
-    for four in fours {
-        // stored in order: one vector of as many bytes is stored out of order
-        for stride in four {
-            unpack_part::<STRIDE>(stride, dst, at);
-            at += STRIDE;
-        }
-    }
-    for i in at / STRIDE..strides.len() {
-        unpack_part::<STRIDE>(&strides[i], dst, at);
+    for stride in strides {
+        unpack_part::<STRIDE>(stride, dst, at);
         at += STRIDE;
     }
     for i in at..src.len() {

@@ -1,8 +1,7 @@
-use Rattle.std.proofs.Common.{◌≡◌, ◌+◌, ◌-◌, inl, inr, arith, subst}
+use Rattle.std.proofs.Common.{◌+◌, ◌-◌, inl, inr, arith}
 use Rattle.std.proofs.lemmas.Bool.{cases_lt}
-use Rattle.encoding_kernels.specs.Pairs.{PairUp}
 use Rattle.encoding_kernels.proofs.Lanes.TestLemmas.{and_both}
-use Rattle.encoding_kernels.proofs.Paired.PairsLemmas.{pairs_up, pairs_start}
+use Rattle.encoding_kernels.proofs.Paired.PairsLemmas.{pairs_up, pairs_first}
 use Rattle.encoding_kernels.proofs.pair_blocks.are_paired.Goals as goal
 
 pub returns-then-at-gt0 : goal.returns-then-at-gt0
@@ -13,14 +12,11 @@ returns-then-at-gt0 g c t =
 
 pub returns : goal.returns
 returns g c t =
-    let us = c.args.units.now in
-    let n = g.row.N in
     let half = c.requires.half in
     let halves = and_both c.all-2.result c.all-3.result t in
-    let inner = pairs_up us 0 (n - 1) 1 n (omega arith) (omega arith) (λ k. (c.type_inv.units k).fits) (λ k from to. elim (cases_lt k g.row.H) [
+    let not_low = c.if-is_low_surrogate.ensures {u = tt} in
+    pairs_first c.args.units.now c.args.at g.row.N (omega arith) (omega arith) (λ h. cc (not_low.1 h)) (λ k. (c.type_inv.units k).fits)
+    (λ k from to. elim (cases_lt k g.row.H) [
       | inl l ↦ c.all-2.ensures.0 halves.0 k from (omega arith)
       | inr l ↦ c.all-3.ensures.0 halves.1 k (omega arith) (omega (arith, half))
-    ]) in
-    let start = pairs_start us n (λ h. cc ((c.if-is_low_surrogate.ensures {u = tt}).1 h)) inner in
-    let first : 0 ≡ c.args.at = omega arith in
-    subst (λ m. PairUp us m (m + n)) first (subst (PairUp us 0) {x = n} {y = 0 + n} (omega arith) start)
+    ])
