@@ -135,6 +135,12 @@ ended p src last old new read written replaced finished q h b is_end is_full = (
   },
 )
 
+-- all was read, and nothing is pending
+pub block_whole : (p src : List ℕ) (last : Bool) (old new : List ℕ) (read written replaced : ℕ) (q : List ℕ) → IsPending p
+    → BlockDone p src last old new read written replaced q → read ≡ length src → q ≡ [] → Ended p src last old new read written replaced true q
+block_whole p src last old new read written replaced q h d all none =
+    ended p src last old new read written replaced true q h d ((λ _. (all, λ _. none)), λ _. refl) (λ e. absurd (true≢false e))
+
 -- no character fits into no space
 no_space : (bs : List ℕ) (left : ℕ) → left ≡ 0 → FittingBegins encode_utf8 bs left → ⊥
 no_space bs left none (c, rest, scalar, begins, l) = omega (arith, none, l, length-encode c, len_utf8_bounds c)

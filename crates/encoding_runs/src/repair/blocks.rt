@@ -118,5 +118,10 @@ pub fn repair_block(
         block.read += read;
         block.written += written;
         block.replaced += count_malformed(&piece);
+        // after a piece nothing is pending
+        if block.read == src.len() {
+            block.finished = true;
+            return block;
+        }
     }
 }

@@ -5,7 +5,8 @@ use Rattle.std.proofs.lemmas.List.{take_rest, length-drop}
 use borrow.Rule.Slice.PartMut.{put_mid}
 use Rattle.encoding_definitions.proofs.LongestPrefixes.PrefixesLemmas.{WritesPrefix-length, put_mid-same}
 use Rattle.encoding_text.proofs.EncoderSteps.EncoderLemmas.{none_there}
-use Rattle.encoding_runs.proofs.BlockLemmas.{block_full, block_pending, block_piece, block_read, decodes_first, some_text}
+use Rattle.encoding_runs.proofs.BlockLemmas.{block_full, block_pending, block_piece, block_read, block_whole, decodes_first, some_text}
+use Rattle.encoding_runs.proofs.RepairLemmas.{nothing_pending}
 use Rattle.encoding_runs.proofs.repair.blocks.repair_block.Goals.{then-is_empty, else-is_empty, then-is_empty-2, else-is_empty-2, then-last, else-last, else-left-need-via-then-left-need+else-not-in_neutral_state, else-left-need-via-else-left-need}
 use Rattle.encoding_runs.proofs.repair.blocks.repair_block.Goals as goal
 
@@ -84,6 +85,22 @@ loop-need-preserved c =
     ]) in
     let done = block_piece _ src _ _ _ read _ _ _ n _ _ _ c.loop-need.invariant.done first _ _ c.in-Some.ensures.if_some in
     rw c.count_malformed.ensures (record { done = done; within = omega (arith, done.writes.fits, WritesPrefix-length _ _ _ _ done.writes); unfinished = c.loop-need.invariant.unfinished })
+
+pub returns-then-block-src : goal.returns-then-block-src
+returns-then-block-src c =
+    let src = c.args.src.now in
+    let read = c.loop-need.block.read in
+    let n = c.min-most.result in
+    let size = unread src read in
+    let short : n ≤ length src - read = omega (arith, c.min-most.ensures, size) in
+    let call = rw (take_rest src read) at c.decode_borrowed_raw-read.ensures in
+    let first = decodes_first _ src c.args.last _ read n _ _ _ call short (elim c.if-last.branch [
+      | then-last w ↦ inl (w.if-last.true, w.decode_borrowed_raw-is ∙ ap (λ k. n == k) size)
+      | else-last w ↦ inr (w.if-last.false, w.decode_borrowed_raw-is ∙ w.if-last.false)
+    ]) in
+    let done = block_piece _ src _ _ _ read _ _ _ n _ _ _ c.loop-need.invariant.done first _ _ c.in-Some.ensures.if_some in
+    let none = nothing_pending _ _ _ _ _ _ call c.in_default.not-InputEmpty in
+    rw c.count_malformed.ensures (block_whole _ src _ _ _ _ _ _ _ c.in_neutral_state-neutral.ensures.pending done (omega (arith, c.if-block-src.true)) none)
 
 pub loop-need-smaller : goal.loop-need-smaller
 loop-need-smaller c =
