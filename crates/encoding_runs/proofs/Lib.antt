@@ -15,6 +15,5 @@ pub mod CutLemmas
 pub mod MixedLemmas
 pub mod MalformedLemmas
 pub mod BlockLemmas
-
 -- the lemmas on these terms
 pub use Rattle.encoding_definitions.proofs.Decomposition

@@ -12,7 +12,6 @@ pub mod Runs
 pub mod DecoderRuns
 pub mod EncoderRuns
 pub mod Steps
-
 -- the terms of the standards, so that a crate above needs no other to cite them
 pub use Rattle.encoding_definitions.specs.Sequence
 pub use Rattle.encoding_definitions.specs.Table
