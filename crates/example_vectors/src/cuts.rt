@@ -25,7 +25,10 @@ const ROWS: [(&[u8], &str, &[(usize, usize)]); 5] = [
 fn repairs_in_pieces_of_each_length(rt: HostRuntime) -> Result<(), Fail> {
     for (bytes, text, places) in &ROWS {
         let found = malformed_indices(rt.alloc(), bytes)?;
-        assert!(rt; found.as_slice() == *places, "malformed sequences of {text}");
+        assert!(rt;
+            found.as_slice() == *places,
+            "malformed sequences of {text}"
+        );
         for least in 1..14 {
             let whole = repair_apart(rt.alloc(), bytes, least)?;
             assert!(rt;
