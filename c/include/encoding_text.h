@@ -65,20 +65,20 @@ extern "C" {
 #endif
 
 /** The version of this header. encoding_text_version() returns that of the library, as one number. */
-#define ENCODING_TEXT_VERSION_MAJOR 0
-#define ENCODING_TEXT_VERSION_MINOR 1
-#define ENCODING_TEXT_VERSION_PATCH 0
 #define ENCODING_TEXT_VERSION \
     (10000 * ENCODING_TEXT_VERSION_MAJOR + 100 * ENCODING_TEXT_VERSION_MINOR + ENCODING_TEXT_VERSION_PATCH)
+#define ENCODING_TEXT_VERSION_MAJOR 0 /**< its first number */
+#define ENCODING_TEXT_VERSION_MINOR 1 /**< its second number */
+#define ENCODING_TEXT_VERSION_PATCH 0 /**< its third number */
 
-/** Returned if a precondition is violated: the first as a size_t, the second as a uint8_t. */
-#define ENCODING_TEXT_INVALID_ARGUMENT SIZE_MAX
-#define ENCODING_TEXT_INVALID_ARGUMENT_U8 UINT8_MAX
+/* Returned if a precondition is violated. */
+#define ENCODING_TEXT_INVALID_ARGUMENT SIZE_MAX     /**< a violated precondition, as a size_t */
+#define ENCODING_TEXT_INVALID_ARGUMENT_U8 UINT8_MAX /**< a violated precondition, as a uint8_t */
 
-/** Returned by the encoding_text_mem_check_ functions. */
-#define ENCODING_TEXT_LATIN1 0
-#define ENCODING_TEXT_LEFT_TO_RIGHT 1
-#define ENCODING_TEXT_BIDI 2
+/* Returned by the encoding_text_mem_check_ functions. */
+#define ENCODING_TEXT_LATIN1 0        /**< each scalar value or code unit is up to U+00FF */
+#define ENCODING_TEXT_LEFT_TO_RIGHT 1 /**< not Latin1, and nothing is right-to-left */
+#define ENCODING_TEXT_BIDI 2          /**< not Latin1, and something is right-to-left, or bytes are malformed */
 
 /** How much a call read and wrote. */
 typedef struct {
@@ -95,126 +95,181 @@ typedef struct {
 /** @return the version of the library: 10,000 times the first number, plus 100 times the second, plus the third */
 uint32_t encoding_text_version(void);
 
-/* ---- ASCII prefixes ------------------------------------------------------------------------------------------------- */
+/** @name ASCII prefixes
+ * @{ */
 
-/** @return the longest prefix of bytes below 0x80, and the byte after it */
+/** @param bytes,bytes_length the bytes.
+ * @return the longest prefix of bytes below 0x80, and the byte after it */
 encoding_text_prefix encoding_text_validate_ascii(const uint8_t *bytes, size_t bytes_length);
 
-/** @return the length of the longest prefix of bytes below 0x80 */
+/** @param bytes,bytes_length the bytes.
+ * @return the length of the longest prefix of bytes below 0x80 */
 size_t encoding_text_ascii_valid_up_to(const uint8_t *bytes, size_t bytes_length);
 
-/** @return the length of the longest prefix of bytes below 0x80 other than 0x1B, 0x0E and 0x0F: the bytes that the
+/** @param bytes,bytes_length the bytes.
+ * @return the length of the longest prefix of bytes below 0x80 other than 0x1B, 0x0E and 0x0F: the bytes that the
  * ISO-2022-JP decoder passes through (Encoding Standard, section 12.2.1) */
 size_t encoding_text_iso_2022_jp_ascii_valid_up_to(const uint8_t *bytes, size_t bytes_length);
 
-/** Copies the longest ASCII prefix of the first min(src_length, dst_length) elements. @return that prefix */
+/** Copies the longest ASCII prefix of the first min(src_length, dst_length) elements.
+ * @param src,src_length the source, in bytes.
+ * @param dst,dst_length the destination, in bytes.
+ * @return that prefix */
 encoding_text_prefix encoding_text_ascii_to_ascii(const uint8_t *src, size_t src_length, uint8_t *dst,
                                                  size_t dst_length);
 
 /** Copies the longest ASCII prefix of the first min(src_length, dst_length) bytes, each as a code unit.
+ * @param src,src_length the source, in bytes.
+ * @param dst,dst_length the destination, in code units.
  * @return that prefix */
 encoding_text_prefix encoding_text_ascii_to_basic_latin(const uint8_t *src, size_t src_length, uint16_t *dst,
                                                        size_t dst_length);
 
 /** Copies the longest ASCII prefix of the first min(src_length, dst_length) code units, each as a byte.
+ * @param src,src_length the source, in code units.
+ * @param dst,dst_length the destination, in bytes.
  * @return that prefix */
 encoding_text_prefix encoding_text_basic_latin_to_ascii(const uint16_t *src, size_t src_length, uint8_t *dst,
                                                        size_t dst_length);
 
-/* ---- Whole buffers: checks ---------------------------------------------------------------------------------------- */
+/** @} */
 
-/** @return whether each element is below 0x80 */
+/** @name Whole buffers: checks
+ * @{ */
+
+/** @param buffer,buffer_length the buffer.
+ * @return whether each element is below 0x80 */
 bool encoding_text_mem_is_ascii(const uint8_t *buffer, size_t buffer_length);
+/** @copydoc encoding_text_mem_is_ascii */
 bool encoding_text_mem_is_basic_latin(const uint16_t *buffer, size_t buffer_length);
 
-/** @return whether the buffer is Latin1: UTF-8 is well-formed with scalar values up to U+00FF, UTF-16 has code units up
+/** @param buffer,buffer_length the buffer.
+ * @return whether the buffer is Latin1: UTF-8 is well-formed with scalar values up to U+00FF, UTF-16 has code units up
  * to 0x00FF */
 bool encoding_text_mem_is_utf8_latin1(const uint8_t *buffer, size_t buffer_length);
+/** @copydoc encoding_text_mem_is_utf8_latin1 */
 bool encoding_text_mem_is_utf16_latin1(const uint16_t *buffer, size_t buffer_length);
 
-/** @return the length in bytes of the longest prefix that is the UTF-8 of scalar values up to U+00FF */
+/** @param buffer,buffer_length the buffer.
+ * @return the length in bytes of the longest prefix that is the UTF-8 of scalar values up to U+00FF */
 size_t encoding_text_mem_utf8_latin1_up_to(const uint8_t *buffer, size_t buffer_length);
 
-/** @return the length in bytes of the longest prefix of a text with scalar values up to U+00FF;
+/** @param buffer,buffer_length the buffer.
+ * @return the length in bytes of the longest prefix of a text with scalar values up to U+00FF;
  * ENCODING_TEXT_INVALID_ARGUMENT if the buffer isn't well-formed */
 size_t encoding_text_mem_str_latin1_up_to(const uint8_t *buffer, size_t buffer_length);
 
-/** @return the index of the first unpaired surrogate, or buffer_length if there is none */
+/** @param buffer,buffer_length the buffer.
+ * @return the index of the first unpaired surrogate, or buffer_length if there is none */
 size_t encoding_text_mem_utf16_valid_up_to(const uint16_t *buffer, size_t buffer_length);
 
-/** Replaces each unpaired surrogate by 0xFFFD. @param buffer the code units */
+/** Replaces each unpaired surrogate by 0xFFFD. @param buffer,buffer_length the code units */
 void encoding_text_mem_ensure_utf16_validity(uint16_t *buffer, size_t buffer_length);
 
-/** @return whether a code unit is a right-to-left scalar value, or the high surrogate of one */
+/** @param u a code unit.
+ * @return whether a code unit is a right-to-left scalar value, or the high surrogate of one */
 bool encoding_text_mem_is_utf16_code_unit_bidi(uint16_t u);
 
-/** @return whether the buffer isn't well-formed or has a right-to-left scalar value */
+/** @param buffer,buffer_length the buffer.
+ * @return whether the buffer isn't well-formed or has a right-to-left scalar value */
 bool encoding_text_mem_is_utf8_bidi(const uint8_t *buffer, size_t buffer_length);
 
-/** @return whether the buffer has a right-to-left scalar value, or an unpaired high surrogate that could begin one */
+/** @param buffer,buffer_length the buffer.
+ * @return whether the buffer has a right-to-left scalar value, or an unpaired high surrogate that could begin one */
 bool encoding_text_mem_is_utf16_bidi(const uint16_t *buffer, size_t buffer_length);
 
-/** @return ENCODING_TEXT_LATIN1 if the buffer is Latin1, else ENCODING_TEXT_BIDI if the `_bidi` function of the same
+/** @param buffer,buffer_length the buffer.
+ * @return ENCODING_TEXT_LATIN1 if the buffer is Latin1, else ENCODING_TEXT_BIDI if the `_bidi` function of the same
  * type returns true, else ENCODING_TEXT_LEFT_TO_RIGHT. For `str`, ENCODING_TEXT_INVALID_ARGUMENT_U8 if the buffer isn't
  * well-formed. */
 uint8_t encoding_text_mem_check_utf8_for_latin1_and_bidi(const uint8_t *buffer, size_t buffer_length);
+/** @copydoc encoding_text_mem_check_utf8_for_latin1_and_bidi */
 uint8_t encoding_text_mem_check_str_for_latin1_and_bidi(const uint8_t *buffer, size_t buffer_length);
+/** @copydoc encoding_text_mem_check_utf8_for_latin1_and_bidi */
 uint8_t encoding_text_mem_check_utf16_for_latin1_and_bidi(const uint16_t *buffer, size_t buffer_length);
 
-/* ---- Whole buffers: conversions ----------------------------------------------------------------------------------- */
+/** @} */
 
-/** Copies the longest ASCII prefix. @return its length; ENCODING_TEXT_INVALID_ARGUMENT if dst_length < src_length */
+/** @name Whole buffers: conversions
+ * @{ */
+
+/** Copies the longest ASCII prefix.
+ * @param src,src_length the source, in bytes.
+ * @param dst,dst_length the destination, in bytes.
+ * @return its length; ENCODING_TEXT_INVALID_ARGUMENT if dst_length < src_length */
 size_t encoding_text_mem_copy_ascii_to_ascii(const uint8_t *src, size_t src_length, uint8_t *dst, size_t dst_length);
+/** @copydoc encoding_text_mem_copy_ascii_to_ascii */
 size_t encoding_text_mem_copy_ascii_to_basic_latin(const uint8_t *src, size_t src_length, uint16_t *dst,
                                                    size_t dst_length);
+/** @copydoc encoding_text_mem_copy_ascii_to_ascii */
 size_t encoding_text_mem_copy_basic_latin_to_ascii(const uint16_t *src, size_t src_length, uint8_t *dst,
                                                    size_t dst_length);
 
 /** Converts Latin1 to UTF-16.
+ * @param src,src_length the source, in bytes.
+ * @param dst,dst_length the destination, in code units.
  * @return the number of code units written; ENCODING_TEXT_INVALID_ARGUMENT if dst_length < src_length */
 size_t encoding_text_mem_convert_latin1_to_utf16(const uint8_t *src, size_t src_length, uint16_t *dst,
                                                  size_t dst_length);
 
 /** Converts the longest prefix of Latin1 whose UTF-8 fits (Encoding Standard, encodeInto).
+ * @param src,src_length the source, in bytes.
+ * @param dst,dst_length the destination, in bytes.
  * @return how much was read and written */
 encoding_text_progress encoding_text_mem_convert_latin1_to_utf8_partial(const uint8_t *src, size_t src_length,
                                                                         uint8_t *dst, size_t dst_length);
 
 /** Converts Latin1 to UTF-8.
+ * @param src,src_length the source, in bytes.
+ * @param dst,dst_length the destination, in bytes.
  * @return the number of bytes written; ENCODING_TEXT_INVALID_ARGUMENT if dst_length < 2 * src_length */
 size_t encoding_text_mem_convert_latin1_to_utf8(const uint8_t *src, size_t src_length, uint8_t *dst, size_t dst_length);
 
 /** Converts Latin1 to UTF-8, into a destination that may be exactly as long as the result.
+ * @param src,src_length the source, in bytes.
+ * @param dst,dst_length the destination, in bytes.
  * @return the number of bytes written; ENCODING_TEXT_INVALID_ARGUMENT if dst_length <
  * encoding_text_mem_utf8_length_from_latin1(src, src_length) */
 size_t encoding_text_mem_decode_latin1(const uint8_t *src, size_t src_length, uint8_t *dst, size_t dst_length);
 
 /** Converts a Latin1 text from UTF-8, one byte for each character.
+ * @param src,src_length the source, in bytes.
+ * @param dst,dst_length the destination, in bytes.
  * @return the number of bytes written; ENCODING_TEXT_INVALID_ARGUMENT if dst_length < src_length, or if src isn't a
  * Latin1 text */
 size_t encoding_text_mem_convert_utf8_to_latin1_lossy(const uint8_t *src, size_t src_length, uint8_t *dst,
                                                       size_t dst_length);
 
 /** Converts a Latin1 text from UTF-8, into a destination that may be exactly as long as the result.
+ * @param src,src_length the source, in bytes.
+ * @param dst,dst_length the destination, in bytes.
  * @return the number of bytes written; ENCODING_TEXT_INVALID_ARGUMENT if src isn't a Latin1 text, or if dst_length <
  * encoding_text_mem_latin1_length_from_utf8(src, src_length) */
 size_t encoding_text_mem_encode_latin1(const uint8_t *src, size_t src_length, uint8_t *dst, size_t dst_length);
 
 /** Writes the low eight bits of each code unit.
+ * @param src,src_length the source, in code units.
+ * @param dst,dst_length the destination, in bytes.
  * @return the number of bytes written; ENCODING_TEXT_INVALID_ARGUMENT if dst_length < src_length */
 size_t encoding_text_mem_convert_utf16_to_latin1_lossy(const uint16_t *src, size_t src_length, uint8_t *dst,
                                                        size_t dst_length);
 
 /** Converts to UTF-16, with U+FFFD for each malformed sequence (Encoding Standard, UTF-8 decode without BOM).
+ * @param src,src_length the source, in bytes.
+ * @param dst,dst_length the destination, in code units.
  * @return the number of code units written; ENCODING_TEXT_INVALID_ARGUMENT if dst_length <= src_length */
 size_t encoding_text_mem_convert_utf8_to_utf16(const uint8_t *src, size_t src_length, uint16_t *dst, size_t dst_length);
 
 /** Converts a text to UTF-16.
+ * @param src,src_length the source, in bytes.
+ * @param dst,dst_length the destination, in code units.
  * @return the number of code units written; ENCODING_TEXT_INVALID_ARGUMENT if dst_length < src_length, or if src isn't
  * well-formed */
 size_t encoding_text_mem_convert_str_to_utf16(const uint8_t *src, size_t src_length, uint16_t *dst, size_t dst_length);
 
 /** Converts the longest well-formed prefix to UTF-16.
+ * @param src,src_length the source, in bytes.
+ * @param dst,dst_length the destination, in code units.
  * @return its length as `read`, which is src_length if and only if src is well-formed, and the number of code units
  * written; ENCODING_TEXT_INVALID_ARGUMENT as both if dst_length < src_length */
 encoding_text_progress encoding_text_mem_convert_utf8_to_utf16_without_replacement(const uint8_t *src,
@@ -222,85 +277,130 @@ encoding_text_progress encoding_text_mem_convert_utf8_to_utf16_without_replaceme
                                                                                    size_t dst_length);
 
 /** Converts the longest prefix of whole characters whose UTF-8 fits, with U+FFFD for each unpaired surrogate (Encoding
- * Standard, encodeInto). @return how much was read and written */
+ * Standard, encodeInto).
+ * @param src,src_length the source, in code units.
+ * @param dst,dst_length the destination, in bytes.
+ * @return how much was read and written */
 encoding_text_progress encoding_text_mem_convert_utf16_to_utf8_partial(const uint16_t *src, size_t src_length,
                                                                        uint8_t *dst, size_t dst_length);
 
 /** Converts all of src, with U+FFFD for each unpaired surrogate.
+ * @param src,src_length the source, in code units.
+ * @param dst,dst_length the destination, in bytes.
  * @return the number of bytes written; ENCODING_TEXT_INVALID_ARGUMENT if dst_length < 3 * src_length */
 size_t encoding_text_mem_convert_utf16_to_utf8(const uint16_t *src, size_t src_length, uint8_t *dst, size_t dst_length);
 
-/* ---- Whole buffers: texts that the caller knows to be well-formed -------------------------------------------------- */
+/** @} */
+
+/** @name Whole buffers: texts that the caller knows to be well-formed
+ * @{ */
 
 /** For languages whose types guarantee a text. If it is ill-formed, the behaviour is undefined.
+ * @param buffer,buffer_length the buffer.
  * @return what the function without `_unchecked` returns for a text; for `is_str_latin1` and `is_str_bidi`, what
  * encoding_text_mem_is_utf8_latin1 and encoding_text_mem_is_utf8_bidi return */
 bool encoding_text_mem_is_str_latin1_unchecked(const uint8_t *buffer, size_t buffer_length);
+/** @copydoc encoding_text_mem_is_str_latin1_unchecked */
 size_t encoding_text_mem_str_latin1_up_to_unchecked(const uint8_t *buffer, size_t buffer_length);
+/** @copydoc encoding_text_mem_is_str_latin1_unchecked */
 bool encoding_text_mem_is_str_bidi_unchecked(const uint8_t *buffer, size_t buffer_length);
+/** @copydoc encoding_text_mem_is_str_latin1_unchecked */
 uint8_t encoding_text_mem_check_str_for_latin1_and_bidi_unchecked(const uint8_t *buffer, size_t buffer_length);
+
+/** For languages whose types guarantee a text. If it is ill-formed, the behaviour is undefined.
+ * @param src,src_length the source, in bytes.
+ * @param dst,dst_length the destination, in code units.
+ * @return what the function without `_unchecked` returns for a text; for `is_str_latin1` and `is_str_bidi`, what
+ * encoding_text_mem_is_utf8_latin1 and encoding_text_mem_is_utf8_bidi return */
 size_t encoding_text_mem_convert_str_to_utf16_unchecked(const uint8_t *src, size_t src_length, uint16_t *dst,
                                                         size_t dst_length);
 
-/* ---- Whole buffers: lengths --------------------------------------------------------------------------------------- */
+/** @} */
+
+/** @name Whole buffers: lengths
+ * @{ */
 
 /** Counts without writing; src may be ill-formed. The function still requires a destination of src_length + 1 code
  * units, although it writes only these.
+ * @param src,src_length the source, in bytes.
  * @return the number of code units that encoding_text_mem_convert_utf8_to_utf16 writes for src: those of its
  * characters, and one for each malformed sequence */
 size_t encoding_text_mem_utf16_length_from_utf8(const uint8_t *src, size_t src_length);
 
 /** Measures the UTF-8 of UTF-16. A destination of this length lets encoding_text_mem_convert_utf16_to_utf8_partial
  * convert all of src.
+ * @param src,src_length the source, in code units.
  * @return the length in bytes of the UTF-8 of src, with U+FFFD (three bytes) for each unpaired surrogate */
 size_t encoding_text_mem_utf8_length_from_utf16(const uint16_t *src, size_t src_length);
 
 /** Measures the UTF-8 of Latin1. A destination of this length lets encoding_text_mem_convert_latin1_to_utf8_partial
  * convert all of src.
+ * @param src,src_length the source, in bytes.
  * @return the length in bytes of the UTF-8 of src */
 size_t encoding_text_mem_utf8_length_from_latin1(const uint8_t *src, size_t src_length);
 
-/** @return the number of bytes that encoding_text_mem_encode_latin1 writes for src, one for each character;
+/** @param src,src_length the source, in bytes.
+ * @return the number of bytes that encoding_text_mem_encode_latin1 writes for src, one for each character;
  * ENCODING_TEXT_INVALID_ARGUMENT if src isn't a Latin1 text */
 size_t encoding_text_mem_latin1_length_from_utf8(const uint8_t *src, size_t src_length);
 
+/** @} */
 
-/* ---- Whole buffers: text destinations ----------------------------------------------------------------------------- */
+/** @name Whole buffers: text destinations
+ * @{ */
 
 /** Converts as the function with `utf8` instead of `str` does. The destination is a text before and after the call.
  * The two from UTF-16 set the continuation bytes directly after what is written to zero. The two from Latin1 set the
  * next sixteen bytes, or all that are left, to zero, and then the continuation bytes directly after these.
+ * @param src,src_length the source, in code units.
+ * @param dst,dst_length the destination, in bytes.
  * @return what the function with `utf8` returns; ENCODING_TEXT_INVALID_ARGUMENT (as `read` and `written` of a progress)
  * if dst isn't well-formed, if dst_length < 3 * src_length (`convert_utf16_to_str`), or if dst_length < 2 * src_length
  * (`convert_latin1_to_str`) */
 encoding_text_progress encoding_text_mem_convert_utf16_to_str_partial(const uint16_t *src, size_t src_length,
                                                                       uint8_t *dst, size_t dst_length);
+/** @copydoc encoding_text_mem_convert_utf16_to_str_partial */
 size_t encoding_text_mem_convert_utf16_to_str(const uint16_t *src, size_t src_length, uint8_t *dst, size_t dst_length);
+/** @copydoc encoding_text_mem_convert_utf16_to_str_partial */
 encoding_text_progress encoding_text_mem_convert_latin1_to_str_partial(const uint8_t *src, size_t src_length,
                                                                        uint8_t *dst, size_t dst_length);
+/** @copydoc encoding_text_mem_convert_utf16_to_str_partial */
 size_t encoding_text_mem_convert_latin1_to_str(const uint8_t *src, size_t src_length, uint8_t *dst, size_t dst_length);
 
-/* ---- UTF-8 -------------------------------------------------------------------------------------------------------- */
+/** @} */
 
-/** @return the length in bytes of the longest well-formed prefix */
+/** @name UTF-8
+ * @{ */
+
+/** @param src,src_length the source, in bytes.
+ * @return the length in bytes of the longest well-formed prefix */
 size_t encoding_text_utf8_valid_up_to(const uint8_t *src, size_t src_length);
 
 /** Converts the characters of the longest well-formed prefix to UTF-16, as many as fit.
+ * @param src,src_length the source, in bytes.
+ * @param dst,dst_length the destination, in code units.
  * @return how much was read and written */
 encoding_text_progress encoding_text_convert_utf8_to_utf16_up_to_invalid(const uint8_t *src, size_t src_length,
                                                                          uint16_t *dst, size_t dst_length);
 
 /** Converts a prefix of whole characters to UTF-8. Either all of src is read, or at most three bytes of dst are free.
+ * @param src,src_length the source, in code units.
+ * @param dst,dst_length the destination, in bytes.
  * @return how much was read and written */
 encoding_text_progress encoding_text_convert_utf16_to_utf8_partial_inner(const uint16_t *src, size_t src_length,
                                                                          uint8_t *dst, size_t dst_length);
 
 /** Converts the longest prefix of whole characters whose UTF-8 fits.
+ * @param src,src_length the source, in code units.
+ * @param dst,dst_length the destination, in bytes.
  * @return how much was read and written; ENCODING_TEXT_INVALID_ARGUMENT as both if src_length is 0 or dst_length > 3 */
 encoding_text_progress encoding_text_convert_utf16_to_utf8_partial_tail(const uint16_t *src, size_t src_length,
                                                                         uint8_t *dst, size_t dst_length);
 
-/* ---- The streaming decoder (Encoding Standard, section 8.1.1) ------------------------------------------------------ */
+/** @} */
+
+/** @name The streaming decoder (Encoding Standard, section 8.1.1)
+ * @{ */
 
 #define ENCODING_TEXT_DECODER_SIZE 4      /**< of encoding_text_utf8_decoder, in bytes */
 #define ENCODING_TEXT_DECODER_ALIGNMENT 1 /**< of encoding_text_utf8_decoder, in bytes */
@@ -329,24 +429,34 @@ typedef struct {
 /** Initialises a decoder, with nothing pending. @param decoder storage with any contents */
 void encoding_text_utf8_decoder_new(encoding_text_utf8_decoder *decoder);
 
-/** @return whether nothing is pending */
+/** @param decoder the decoder, in the caller's storage.
+ * @return whether nothing is pending */
 bool encoding_text_utf8_decoder_in_neutral_state(const encoding_text_utf8_decoder *decoder);
 
-/** @return the length of a destination that is large enough for the next byte_length bytes, in any number of calls: in
+/** @param decoder the decoder, in the caller's storage.
+ * @param byte_length how many bytes will follow.
+ * @return the length of a destination that is large enough for the next byte_length bytes, in any number of calls: in
  * UTF-16 even if U+FFFD is written for each malformed sequence, in UTF-8 without that, and in UTF-8 with it. SIZE_MAX
  * if that length is SIZE_MAX or more. */
 size_t encoding_text_utf8_decoder_max_utf16_buffer_length(const encoding_text_utf8_decoder *decoder,
                                                           size_t byte_length);
+/** @copydoc encoding_text_utf8_decoder_max_utf16_buffer_length */
 size_t encoding_text_utf8_decoder_max_utf8_buffer_length_without_replacement(const encoding_text_utf8_decoder *decoder,
                                                                              size_t byte_length);
+/** @copydoc encoding_text_utf8_decoder_max_utf16_buffer_length */
 size_t encoding_text_utf8_decoder_max_utf8_buffer_length(const encoding_text_utf8_decoder *decoder, size_t byte_length);
 
 /** Decodes the next bytes. A malformed sequence is reported, and nothing is written for it: call again with the unread
  * bytes. If dst has space for two code units (four bytes in UTF-8) and src isn't empty, the call reads or reports.
+ * @param decoder the decoder, in the caller's storage.
+ * @param src,src_length the source, in bytes.
+ * @param dst,dst_length the destination, in code units.
+ * @param last whether no more will follow.
  * @return how much was read and written, and what ended the call */
 encoding_text_decode_result encoding_text_utf8_decoder_decode_to_utf16(encoding_text_utf8_decoder *decoder,
                                                                        const uint8_t *src, size_t src_length,
                                                                        uint16_t *dst, size_t dst_length, bool last);
+/** @copydoc encoding_text_utf8_decoder_decode_to_utf16 */
 encoding_text_decode_result encoding_text_utf8_decoder_decode_to_utf8(encoding_text_utf8_decoder *decoder,
                                                                       const uint8_t *src, size_t src_length,
                                                                       uint8_t *dst, size_t dst_length, bool last);
@@ -365,11 +475,18 @@ typedef struct {
     uint8_t malformed_length; /**< length in bytes of the malformed sequence, 1 to 3, or 0 with another kind */
 } encoding_text_piece;
 
-/** Decodes the next bytes without a destination. @return the first piece of them */
+/** Decodes the next bytes without a destination.
+ * @param decoder the decoder, in the caller's storage.
+ * @param src,src_length the source, in bytes.
+ * @param last whether no more will follow.
+ * @return the first piece of them */
 encoding_text_piece encoding_text_utf8_decoder_decode_borrowed(encoding_text_utf8_decoder *decoder, const uint8_t *src,
                                                                size_t src_length, bool last);
 
-/* ---- The streaming encoder (Encoding Standard, section 8.1.2) ------------------------------------------------------ */
+/** @} */
+
+/** @name The streaming encoder (Encoding Standard, section 8.1.2)
+ * @{ */
 
 #define ENCODING_TEXT_ENCODER_SIZE 2      /**< of encoding_text_utf8_encoder, in bytes */
 #define ENCODING_TEXT_ENCODER_ALIGNMENT 2 /**< of encoding_text_utf8_encoder, in bytes */
@@ -392,15 +509,26 @@ typedef struct {
 /** Initialises an encoder, with no surrogate pending. @param encoder storage with any contents */
 void encoding_text_utf8_encoder_new(encoding_text_utf8_encoder *encoder);
 
-/** @return the length in bytes of a destination that is large enough for the pending surrogate and the next u16_length
+/** @param encoder the encoder, in the caller's storage.
+ * @param u16_length how many code units will follow.
+ * @return the length in bytes of a destination that is large enough for the pending surrogate and the next u16_length
  * code units, or byte_length bytes of text. SIZE_MAX if that length is SIZE_MAX or more. */
 size_t encoding_text_utf8_encoder_max_buffer_length_from_utf16_without_replacement(
     const encoding_text_utf8_encoder *encoder, size_t u16_length);
+
+/** @param encoder the encoder, in the caller's storage.
+ * @param byte_length how many bytes will follow.
+ * @return the length in bytes of a destination that is large enough for the pending surrogate and the next u16_length
+ * code units, or byte_length bytes of text. SIZE_MAX if that length is SIZE_MAX or more. */
 size_t encoding_text_utf8_encoder_max_buffer_length_from_utf8_without_replacement(
     const encoding_text_utf8_encoder *encoder, size_t byte_length);
 
 /** Encodes the next code units. A high surrogate at the end of a call that isn't marked last stays pending, since its
  * low surrogate may follow. Any other unpaired surrogate becomes U+FFFD. Only whole characters are written.
+ * @param encoder the encoder, in the caller's storage.
+ * @param src,src_length the source, in code units.
+ * @param dst,dst_length the destination, in bytes.
+ * @param last whether no more will follow.
  * @return how much was read and written, and what ended the call */
 encoding_text_encode_result encoding_text_utf8_encoder_encode_from_utf16(encoding_text_utf8_encoder *encoder,
                                                                          const uint16_t *src, size_t src_length,
@@ -409,12 +537,19 @@ encoding_text_encode_result encoding_text_utf8_encoder_encode_from_utf16(encodin
 /** Writes U+FFFD for a pending surrogate, then the text; `read` counts only bytes of the text. `last` has no effect:
  * any call writes U+FFFD, even if the text is empty, and the surrogate stays pending only if U+FFFD doesn't fit. If src
  * isn't well-formed, the surrogate stays pending.
+ * @param encoder the encoder, in the caller's storage.
+ * @param src,src_length the source, in bytes.
+ * @param dst,dst_length the destination, in bytes.
+ * @param last whether no more will follow.
  * @return how much was read and written, and what ended the call */
 encoding_text_encode_result encoding_text_utf8_encoder_encode_from_utf8(encoding_text_utf8_encoder *encoder,
                                                                         const uint8_t *src, size_t src_length,
                                                                         uint8_t *dst, size_t dst_length, bool last);
 
-/* ---- Runs: a source in pieces of any length, a destination in spaces of any length --------------------------------- */
+/** @} */
+
+/** @name Runs: a source in pieces of any length, a destination in spaces of any length
+ * @{ */
 
 #define ENCODING_TEXT_NO_CALL 3 /**< the `result` of a run without turns */
 
@@ -451,11 +586,17 @@ typedef struct {
  * bytes in UTF-8) and has `last` set. For that, dst_length has to be what
  * encoding_text_utf8_decoder_max_utf16_buffer_length
  * (encoding_text_utf8_decoder_max_utf8_buffer_length_without_replacement) returns.
+ * @param decoder the decoder, in the caller's storage.
+ * @param src,src_length the source, in bytes.
+ * @param turns,turns_length the turns.
+ * @param dst,dst_length the destination, in code units.
+ * @param reports,reports_length the array for reports.
  * @return how much was read, written and reported, and what ended the last call */
 encoding_text_decode_run_result encoding_text_run_to_utf16(encoding_text_utf8_decoder *decoder, const uint8_t *src,
                                                            size_t src_length, const encoding_text_turn *turns,
                                                            size_t turns_length, uint16_t *dst, size_t dst_length,
                                                            encoding_text_report *reports, size_t reports_length);
+/** @copydoc encoding_text_run_to_utf16 */
 encoding_text_decode_run_result encoding_text_run_to_utf8(encoding_text_utf8_decoder *decoder, const uint8_t *src,
                                                           size_t src_length, const encoding_text_turn *turns,
                                                           size_t turns_length, uint8_t *dst, size_t dst_length,
@@ -468,12 +609,19 @@ encoding_text_decode_run_result encoding_text_run_to_utf8(encoding_text_utf8_dec
  * 2 * src_length + 2 turns reach the end of src if each takes at least one code unit, has space for four bytes and has
  * `last` set. For that, dst_length has to be what
  * encoding_text_utf8_encoder_max_buffer_length_from_utf16_without_replacement returns.
+ * @param encoder the encoder, in the caller's storage.
+ * @param src,src_length the source, in code units.
+ * @param turns,turns_length the turns.
+ * @param dst,dst_length the destination, in bytes.
  * @return how much was read and written, and what ended the last call: ENCODING_TEXT_NO_CALL without turns */
 encoding_text_encode_result encoding_text_run_from_utf16(encoding_text_utf8_encoder *encoder, const uint16_t *src,
                                                          size_t src_length, const encoding_text_turn *turns,
                                                          size_t turns_length, uint8_t *dst, size_t dst_length);
 
-/* ---- Malformed sequences ------------------------------------------------------------------------------------------- */
+/** @} */
+
+/** @name Malformed sequences
+ * @{ */
 
 /** A malformed sequence. */
 typedef struct {
@@ -481,12 +629,16 @@ typedef struct {
     size_t length; /**< its length in bytes, 1 to 3 */
 } encoding_text_malformed_sequence;
 
-/** @return the first malformed sequence of src (Encoding Standard, UTF-8 decoder): all bytes before it are well-formed.
+/** @param src,src_length the source, in bytes.
+ * @return the first malformed sequence of src (Encoding Standard, UTF-8 decoder): all bytes before it are well-formed.
  * If src is well-formed, `length` is 0 and `place` is src_length. Called again with the bytes from `place` + `length`
  * on, it finds the next one. An incomplete sequence at the end of src is malformed. */
 encoding_text_malformed_sequence encoding_text_next_malformed(const uint8_t *src, size_t src_length);
 
-/* ---- Repair -------------------------------------------------------------------------------------------------------- */
+/** @} */
+
+/** @name Repair
+ * @{ */
 
 /** The result of a repair. */
 typedef struct {
@@ -495,6 +647,8 @@ typedef struct {
 } encoding_text_repair_result;
 
 /** Writes src with U+FFFD for each malformed sequence.
+ * @param src,src_length the source, in bytes.
+ * @param dst,dst_length the destination, in bytes.
  * @return the number of bytes written, and the number of malformed sequences */
 encoding_text_repair_result encoding_text_repair_slice(const uint8_t *src, size_t src_length, uint8_t *dst,
                                                        size_t dst_length);
@@ -511,10 +665,16 @@ typedef struct {
  * decoder is new before the first block, and keeps the pending bytes between blocks. If the call isn't finished, fewer
  * than four bytes are free: call again with the unread bytes and more space. Four bytes are enough to make progress.
  * However the stream is split into blocks and spaces, the output is the repaired stream.
+ * @param decoder the decoder, in the caller's storage.
+ * @param src,src_length the source, in bytes.
+ * @param dst,dst_length the destination, in bytes.
+ * @param last whether no more will follow.
  * @return how much was read and written */
 encoding_text_repair_block_result encoding_text_repair_block(encoding_text_utf8_decoder *decoder, const uint8_t *src,
                                                              size_t src_length, uint8_t *dst, size_t dst_length,
                                                              bool last);
+
+/** @} */
 
 #ifdef __cplusplus
 }
