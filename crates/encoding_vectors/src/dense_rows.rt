@@ -1,5 +1,4 @@
-//! Malformed sequences close together and far apart, in input longer than the array that the engine gathers its text
-//! in.
+//! Malformed sequences close together and far apart, in input longer than a round of the engine.
 
 use encoding_runs::repair::{Repaired, Watch, repair, repair_slice};
 use std::alloc::{AllocError, Global};

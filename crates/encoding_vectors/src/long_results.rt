@@ -64,6 +64,7 @@ fn one_growth_for_long_results(rt: HostRuntime) -> Result<(), Fail> {
         (0, 5000, 0, 128 + 2 * 4872),
         (10_001, 1, 0xFF, 10_003),
         (0, 50_000, 0x80, 100_000),
+        (0, 1_048_589, 0x80, 2_097_178),
     ] {
         let bytes = mixed(rt.alloc(), letters, first, others)?;
         assert!(rt;
@@ -116,7 +117,7 @@ fn a_refusal_leaves_the_memory(rt: HostRuntime) -> Result<(), Fail> {
 /// Letters need no memory, even if none is left.
 #[test]
 fn long_letters_take_no_memory(rt: HostRuntime) -> Result<(), Fail> {
-    for length in [1, 10_000, 10_001, 100_000] {
+    for length in [1, 10_000, 10_001, 100_000, 1_048_589] {
         let bytes = mixed(rt.alloc(), length, 0, 0)?;
         assert!(rt; are_borrowed(rt.alloc(), &bytes)?, "{length}");
     }

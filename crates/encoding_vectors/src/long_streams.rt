@@ -100,17 +100,20 @@ fn takes_at_once(piece: &[u8]) -> bool {
 
 /// Returns whether a watched stream returns a piece in one call.
 fn yields_at_once(buffer: &mut [u8]) -> bool {
-    let mut reader = PatternInput::of(LENGTH, None);
+    let mut reader = PatternInput::of(buffer.len(), None);
     let mut source = Watch::new(&mut reader);
     source.read(buffer) == Some(buffer.len()) && !source.failed() && !source.ended()
 }
 
-/// A piece of 100,000 bytes goes through a watched stream in one call.
+/// A large piece goes through a watched stream in one call.
 #[test]
 fn watches_a_large_piece(rt: HostRuntime) -> Result<(), Fail> {
-    let mut bytes = bytes_of(rt.alloc(), &REPAIRED, 100_000)?;
-    assert!(rt; takes_at_once(&bytes));
-    let same = yields_at_once(&mut bytes) && bytes == bytes_of(rt.alloc(), &PATTERN, 100_000)?;
-    assert!(rt; same);
+    for length in [100_000, 1_048_589] {
+        let mut bytes = bytes_of(rt.alloc(), &REPAIRED, length)?;
+        assert!(rt; takes_at_once(&bytes), "{length}");
+        let yielded = yields_at_once(&mut bytes);
+        let wanted = bytes_of(rt.alloc(), &PATTERN, length)?;
+        assert!(rt; yielded && bytes == wanted, "{length}");
+    }
     Ok(())
 }
