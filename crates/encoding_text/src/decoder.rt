@@ -43,7 +43,7 @@ pub enum Piece<'a> {
 }
 
 /// A streaming UTF-8 decoder, whose input may be split at any byte. Its pending bytes, which it keeps between calls,
-/// are none or an incomplete sequence of at most three bytes.
+/// are none or an incomplete sequence of at most three bytes. In contracts a decoder is the list of these bytes.
 #[derive(Drop)]
 pub struct Utf8Decoder {
     pending: Pending,
@@ -76,8 +76,8 @@ impl Utf8Decoder {
     }
 
     /// Returns the length in UTF-16 code units of a destination that is large enough for the next `byte_length` bytes,
-    /// however they are split into calls, if U+FFFD is written for each malformed sequence. `None` if the length
-    /// exceeds `usize::MAX`.
+    /// however they are split into calls, if U+FFFD is written for each malformed sequence: `byte_length` plus one plus
+    /// the number of pending bytes. `None` if the length exceeds `usize::MAX`.
     pub fn max_utf16_buffer_length(&self, byte_length: usize) -> Option<usize>
         ensures { SomeIff result (max_utf16_length byte_length (length self.now) ≤ usize.MAX)
             (max_utf16_length byte_length (length self.now)) }
@@ -86,7 +86,8 @@ impl Utf8Decoder {
     }
 
     /// Returns the length in bytes of a destination that is large enough for the next `byte_length` bytes, however they
-    /// are split into calls, if nothing is written for malformed sequences. `None` if the length exceeds `usize::MAX`.
+    /// are split into calls, if nothing is written for malformed sequences: `byte_length` plus three plus the number of
+    /// pending bytes. `None` if the length exceeds `usize::MAX`.
     pub fn max_utf8_buffer_length_without_replacement(&self, byte_length: usize) -> Option<usize>
         ensures { SomeIff result (max_utf8_length byte_length (length self.now) ≤ usize.MAX)
             (max_utf8_length byte_length (length self.now)) }
@@ -95,8 +96,8 @@ impl Utf8Decoder {
     }
 
     /// Returns the length in bytes of a destination that is large enough for the next `byte_length` bytes, however they
-    /// are split into calls, if U+FFFD is written for each malformed sequence. `None` if the length exceeds
-    /// `usize::MAX`.
+    /// are split into calls, if U+FFFD is written for each malformed sequence: three times the sum of `byte_length`, the
+    /// number of pending bytes and one. `None` if the length exceeds `usize::MAX`.
     pub fn max_utf8_buffer_length(&self, byte_length: usize) -> Option<usize>
         ensures { SomeIff result (max_utf8_length_with_replacement byte_length (length self.now) ≤ usize.MAX)
             (max_utf8_length_with_replacement byte_length (length self.now)) }

@@ -132,7 +132,8 @@ fn write_parts<W: Sink>(
     }
 }
 
-/// Writes `src` with U+FFFD for each malformed sequence, and returns the number of malformed sequences.
+/// Writes `src` with U+FFFD for each malformed sequence, and returns the number of malformed sequences. To write into a
+/// `Vec<u8>` or another `Write`, pass `&mut Watch::new(&mut writer)`.
 ///
 /// Returns [`RepairFault::Write`] at the first write that fails or writes no byte. Then a proper prefix of the repaired
 /// text was written. Flushes nothing, and allocates no memory. Encoding Standard, UTF-8 decoder, with replacement.

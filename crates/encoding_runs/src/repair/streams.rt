@@ -66,7 +66,7 @@ pub trait Sink {
 }
 
 /// A stream that records whether it failed, and whether its end was seen. An error from the stream is a failure, and so
-/// is a write of no byte. A read of no byte into a non-empty buffer is the end.
+/// is a write of no byte. A read of no byte into a non-empty buffer is the end. The error itself is dropped.
 #[derive(Drop)]
 pub struct Watch<'a, T> {
     inner: &'a mut T,
