@@ -36,7 +36,7 @@ first_stable p b n last parts read q g e more =
     (subst (λ xs. StartsWith (prefix ++ (drop n b ++ more)) parts xs) (sym (append_assoc back (drop n b) more) ∙ ap (λ xs. xs ++ more) (unread_bytes q b n read g.within))
     (g.stable e (drop n b ++ more)))
 
-pub of_piece : (p b : List ℕ) (n : ℕ) (last : Bool) (parts : List Part) (read : ℕ) (q : List ℕ) → Yields p (take n b) last parts read q → (last ≡ true → length b ≤ n) → Yields p b last parts read q
+of_piece : (p b : List ℕ) (n : ℕ) (last : Bool) (parts : List Part) (read : ℕ) (q : List ℕ) → Yields p (take n b) last parts read q → (last ≡ true → length b ≤ n) → Yields p b last parts read q
 of_piece p b n last parts read q g whole = record {
   within = omega (arith, g.within, length-take n b);
   first = first_of_all p b n last parts read q g whole;

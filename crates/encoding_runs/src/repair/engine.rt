@@ -31,7 +31,7 @@ pub struct Repaired {
 const ROUND: usize = 1024;
 
 /// U+FFFD in UTF-8.
-pub(super) const REPLACEMENT_UTF8: [u8; 3] = [0xEF, 0xBF, 0xBD];
+const REPLACEMENT_UTF8: [u8; 3] = [0xEF, 0xBF, 0xBD];
 
 /// Writes all bytes, each once, with as many writes as needed. Out of line: most writers take all bytes at once.
 #[inline(never)]
