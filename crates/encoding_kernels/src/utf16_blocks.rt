@@ -20,10 +20,11 @@ use std::simd::prelude::*;
 /// The number of bytes that a block of sixteen code units may store, including those after it that are kept.
 const BLOCK_DST_LENGTH: usize = 64;
 
-/// The number of code units that one test for ASCII covers, and of blocks that follow without one. If ASCII and other
-/// units are mixed, a mispredicted branch costs more than a block.
+/// The number of code units that one test for ASCII covers. If ASCII and other units are mixed, a mispredicted branch
+/// costs more than a block.
 const TEST_LENGTH: usize = 64;
 
+/// The number of blocks that such a test covers: the next one comes after them.
 const BLOCKS_BEFORE_RETEST: usize = 4;
 
 /// Returns whether none of the sixteen code units from `at` on is a surrogate.
