@@ -154,16 +154,16 @@ fn encoders() {
         };
         let pending = named::<u16>(pending);
         let mut encoder = encoder_at(&pending);
-        let mut clones = [encoder.clone(), encoder.clone(), encoder.clone(), encoder_at(&[0xD800])];
-        clones[3].clone_from(&encoder);
+        let mut encoders = [encoder.clone(), encoder.clone(), encoder.clone(), encoder_at(&[0xD800])];
+        encoders[3].clone_from(&encoder);
         let text = if pending.is_empty() { "" } else { "\u{FFFD}" };
         for (rest, bytes, clone) in [(rest, bytes, 0), (other_rest, other_bytes, 1), (rest, bytes, 3)] {
-            let room = clones[clone].max_buffer_length_from_utf16_without_replacement(0);
+            let room = encoders[clone].max_buffer_length_from_utf16_without_replacement(0);
             assert_eq!(room, Some(3 * pending.len()), "clone {clone}, {row}");
-            let found = encoded(&mut clones[clone], &named::<u16>(rest));
+            let found = encoded(&mut encoders[clone], &named::<u16>(rest));
             assert_eq!(found, named::<u8>(bytes), "clone {clone}, {row}");
         }
-        let found = encoded_text(&mut clones[2]);
+        let found = encoded_text(&mut encoders[2]);
         assert_eq!(found, [text, "\u{2603}"].concat().as_bytes(), "{row}");
         let found = encoded(&mut encoder, &named::<u16>(other_rest));
         assert_eq!(found, named::<u8>(other_bytes), "{row}");
