@@ -1,6 +1,5 @@
 -- Ranges of a list whose units are below a bound.
-use Rattle.std.specs.Prelude.{ℕ, ◌+◌, ◌<◌, ◌≤◌, List, length, take, slice_index}
-use Rattle.encoding_definitions.specs.Prefixes.{WritesPrefix}
+use Rattle.std.specs.Prelude.{ℕ, ◌+◌, ◌<◌, List, slice_index}
 use Rattle.encoding_kernels.specs.Places.{PassBetween, IsPassRun}
 
 -- each unit in `from..to` is below the bound
@@ -18,10 +17,3 @@ BelowUpTo bound xs place = (k : ℕ) → k < place → slice_index xs k < bound
 -- `IsPassRun` for the units below the bound
 abbrev pub IsRunBelow : ℕ → List ℕ → ℕ → ℕ → ℕ → Type 0
 IsRunBelow bound xs = IsPassRun (λ k. slice_index xs k < bound)
-
--- the units in `from..to`, as `numbers`, are ASCII and copied to the same indices: if a prefix up to `from` is ASCII
--- and written, so is the one up to `to`
-pub record CopiesAscii {A : Type 0} (numbers : List ℕ) (src old new : List A) (from to : ℕ) : Type 0 where
-  pub within : (to ≤ length src) × (to ≤ length old)
-  pub ascii : BelowUpTo 0x80 numbers from → BelowUpTo 0x80 numbers to
-  pub copied : (first : List A) → WritesPrefix first old from (take from src) → WritesPrefix first new to (take to src)

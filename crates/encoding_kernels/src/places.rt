@@ -22,24 +22,22 @@ fn all_of_four<const N: usize, T: Places<N>>(test: &T, at: usize) -> bool
     requires { (at + 4 * N ≤ T.count test.now) × (at + 4 * N < 18446744073709551616) × (0 < N) × (N ≤ 64) }
     ensures { IsTrue result ↔ PassBetween (T.passes test.now) at (at + 4 * N) }
 {
-    let prefix = (test.failing(at) == 0) & (test.failing(at + N) == 0);
-    let back = (test.failing(at + 2 * N) == 0) & (test.failing(at + 3 * N) == 0);
-    prefix & back
+    let first_two = (test.failing(at) == 0) & (test.failing(at + N) == 0);
+    let last_two = (test.failing(at + 2 * N) == 0) & (test.failing(at + 3 * N) == 0);
+    first_two & last_two
 }
 
-/// Returns whether each of the W indices from `at` on passes, by one test of one, four or eight vectors.
+/// Returns whether each of the W indices from `at` on passes, by one test of one or four vectors.
 #[inline(always)]
 pub(crate) fn all<const N: usize, const W: usize, T: Places<N>>(test: &T, at: usize) -> bool
     requires within { (at + W ≤ T.count test.now) × (at + W < 18446744073709551616) × (0 < N) × (N ≤ 64) }
-    requires vectors { (W ≡ N) ⊎ (W ≡ 4 * N) ⊎ (W ≡ 8 * N) }
+    requires vectors { (W ≡ N) ⊎ (W ≡ 4 * N) }
     ensures { IsTrue result ↔ PassBetween (T.passes test.now) at (at + W) }
 {
     if W == N {
         test.failing(at) == 0
-    } else if W == 4 * N {
-        all_of_four(test, at)
     } else {
-        all_of_four(test, at) & all_of_four(test, at + 4 * N)
+        all_of_four(test, at)
     }
 }
 
@@ -74,7 +72,7 @@ pub(crate) fn skip<const N: usize, const W: usize, T: Places<N>>(
     end: usize,
 ) -> usize
     requires within { (from ≤ end) × (end ≤ T.count test.now) × (0 < N) × (N ≤ 64) }
-    requires vectors { (W ≡ N) ⊎ (W ≡ 4 * N) ⊎ (W ≡ 8 * N) }
+    requires vectors { (W ≡ N) ⊎ (W ≡ 4 * N) }
     ensures within { (from ≤ result) × (result ≤ end) }
     ensures pass { PassBetween (T.passes test.now) from result }
     ensures stops { result + W ≤ end → PassBetween (T.passes test.now) result (result + W) → ⊥ }
@@ -98,7 +96,7 @@ pub(crate) fn reach<const N: usize, const W: usize, T: Places<N>>(
     end: usize,
 ) -> usize
     requires within { (from ≤ end) × (end ≤ T.count test.now) × (0 < N) × (N ≤ 64) }
-    requires vectors { (W ≡ N) ⊎ (W ≡ 4 * N) ⊎ (W ≡ 8 * N) }
+    requires vectors { (W ≡ N) ⊎ (W ≡ 4 * N) }
     ensures within { (from ≤ result) × (result ≤ end) }
     ensures pass { PassBetween (T.passes test.now) from result }
     ensures whole { W ≤ end → PassBetween (T.passes test.now) 0 end → result ≡ end }

@@ -1,5 +1,4 @@
 //! Scans slices by vectors for the longest prefix of units below a bound.
-mod ascii_copies;
 mod copies;
 mod stride_copies;
 
@@ -7,8 +6,6 @@ ghost use Rattle.std.specs.Prelude.{◌≡◌, ◌↔◌, ◌+◌, ◌<◌, ◌�
 ghost use Rattle.encoding_kernels.specs.Strides.{AllBelow, BelowUpTo, IsRunBelow};
 
 use crate::places::{Places, all, find, reach, run, skip};
-pub(crate) use ascii_copies::copy_vectors;
-pub use ascii_copies::{AsciiAs, AsciiVectors, copy_ascii, copy_ascii_prefix};
 pub(crate) use copies::LANES;
 pub use copies::{copy_prefix, pack_lower, unpack, write_first};
 use std::simd::Simd;

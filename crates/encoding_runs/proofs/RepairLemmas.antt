@@ -1,5 +1,5 @@
 -- What is written after the text of first parts, and if a write fails in the middle of one.
-use Rattle.std.proofs.Common.{◌≡◌, ℕ, ◌+◌, ◌<◌, ◌≤◌, Bool, true, false, List, [], ◌∷◌, ◌++◌, length, map, take, drop, Option, inl, inr, encode_utf8, encode_utf8_all, refl, sym, ap, ◌∙◌, arith, subst}
+use Rattle.std.proofs.Common.{◌≡◌, ℕ, ◌+◌, ◌<◌, ◌≤◌, Bool, false, List, [], ◌∷◌, ◌++◌, length, take, drop, Option, inl, inr, encode_utf8, refl, sym, ap, ◌∙◌, arith, subst}
 use Rattle.std.specs.Io.KnownBytes.{Appends}
 use Rattle.std.proofs.KnownBytes.{Appends-trans}
 use Rattle.std.proofs.lemmas.List.{append-nil, append_assoc, drop_all, length-drop, take-append-drop}
@@ -8,13 +8,13 @@ use Rattle.std.proofs.lemmas.Str.{encodes-chars}
 use lib.Utf8.{encode}
 use Rattle.encoding_definitions.specs.Pending.{IsPending}
 use Rattle.encoding_definitions.proofs.Sequences.SequenceLemmas.{length-IsIncomplete}
-use Rattle.encoding_definitions.specs.Parts.{Part, Character, StartsWith, lossy_utf8, malformed_count}
+use Rattle.encoding_definitions.specs.Parts.{Part, lossy_utf8, malformed_count}
 use Rattle.encoding_text.specs.Decoding.{BorrowedDecodeStep}
 use Rattle.encoding_text.specs.YieldedParts.{AreBorrowed}
 use Rattle.encoding_text.specs.declared.decoder.Piece.{Piece}
 use Rattle.encoding_text.specs.declared.decoder.Piece.TheVariants.{Text, Char, Malformed, InputEmpty}
 use Rattle.encoding_text.proofs.Calls.BorrowedLemmas.{borrowed_yields}
-use Rattle.encoding_definitions.proofs.Decomposition.DecompositionLemmas.{StartsWith-append, StartsWith-characters, has_parts, lossy_utf8-append, lossy_utf8-characters, malformed_count-append, malformed_count-characters, malformed_count-bytes}
+use Rattle.encoding_definitions.proofs.Decomposition.DecompositionLemmas.{StartsWith-append, has_parts, lossy_utf8-append, lossy_utf8-characters, malformed_count-append, malformed_count-characters, malformed_count-bytes}
 use Rattle.encoding_runs.specs.Repairs.{IsProperPrefix, WritesRepaired, Stops}
 use Rattle.encoding_runs.specs.Steps.Writing.{text_of, malformed_in, AreFirst, WritesParts, StopsInParts}
 use Rattle.encoding_runs.proofs.FinalLemmas.{AreFirst-trans, AreFirst-more}

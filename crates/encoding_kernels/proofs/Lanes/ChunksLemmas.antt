@@ -1,7 +1,7 @@
 -- The strides of a range of a list, by their index in the list.
-use Rattle.std.proofs.Common.{◌≡◌, ℕ, zero, suc, ◌+◌, ◌-◌, ◌*◌, ◌/◌, ◌<◌, ◌≤◌, List, length, length-take, take, drop, drop-drop, get_or, slice_index, refl, sym, ap, ◌∙◌, arith}
+use Rattle.std.proofs.Common.{◌≡◌, ℕ, zero, suc, ◌+◌, ◌*◌, ◌/◌, ◌<◌, ◌≤◌, List, length, take, drop, drop-drop, get_or, slice_index, refl, sym, ap, ◌∙◌, arith}
 use Rattle.std.proofs.Math.Nat.{div-mul-le_self, mul-le-mul_right}
-use Rattle.std.proofs.lemmas.List.{drop-take, take-take, get_or-take, get_or-drop}
+use Rattle.std.proofs.lemmas.List.{get_or-take, get_or-drop}
 use Rattle.std.specs.Simd.{first_chunks}
 
 -- stride i of a list
@@ -21,20 +21,6 @@ pub whole_stride : (n : ℕ) (xs d : List ℕ) {i at : ℕ} {stride : List ℕ} 
     → length strides ≡ length xs / n → at ≡ i * n → i < length strides → stride ≡ take n (drop at xs)
 whole_stride n xs d {i} is are count place l =
     is ∙ ap (λ ys. get_or ys i d) are ∙ numbered n (length xs / n) xs i d (omega (arith, count, l)) ∙ ap (λ m. take n (drop m xs)) (sym place)
-
--- the same for the strides of `from..to`
-pub stride_is : (n from to : ℕ) (xs d : List ℕ) {i at : ℕ} {stride : List ℕ} {strides : List (List ℕ)} → stride ≡ get_or strides i d
-    → strides ≡ first_chunks n (length (take (to - from) (drop from xs)) / n) (take (to - from) (drop from xs))
-    → length strides ≡ length (take (to - from) (drop from xs)) / n → at ≡ from + i * n → i < length strides → stride ≡ take n (drop at xs)
-stride_is n from to xs d {i} {strides = strides} is are count place l =
-    let part : List ℕ = take (to - from) (drop from xs) in
-    let within : i * n + n ≤ length part = many n (length strides) i (length part) count l in
-    let short : i * n + (to - from - i * n) ≡ to - from = omega (arith, within, length-take (to - from) (drop from xs)) in
-    let following : drop (i * n) part ≡ take (to - from - i * n) (drop (i * n) (drop from xs)) =
-    ap (λ m. drop (i * n) (take m (drop from xs))) (sym short) ∙ drop-take (i * n) (to - from - i * n) (drop from xs) in
-    whole_stride n part d is are count refl l
-    ∙ ap (take n) following ∙ take-take n (to - from - i * n) (drop (i * n) (drop from xs)) (omega (arith, within, length-take (to - from) (drop from xs)))
-    ∙ ap (take n) (drop-drop (i * n) from xs ∙ ap (λ m. drop m xs) (sym place))
 
 -- the units of a stride are those of the list from its index on
 module _ (bound at n : ℕ) (xs stride : List ℕ) (is : stride ≡ take n (drop at xs)) where

@@ -1,13 +1,11 @@
 -- Prefixes whose units are each of a kind, such as the ASCII prefix, and copies of a prefix.
-use Rattle.std.proofs.Common.{◌≡◌, ℕ, ◌+◌, ◌<◌, ◌≤◌, inl, inr, List, length, ◌++◌, take, drop, take-add, length-take-le, length-drop, set, slice_index, sym, ap, ◌∙◌, arith, subst, Some}
+use Rattle.std.proofs.Common.{◌≡◌, ℕ, ◌+◌, ◌<◌, ◌≤◌, inl, inr, List, length, ◌++◌, take, drop, take-add, length-take-le, length-drop, set, slice_index, sym, arith, subst}
 use Rattle.std.specs.Str.{IsAscii}
 use Rattle.std.proofs.lemmas.Bool.{cases_lt}
 use Rattle.std.proofs.lemmas.List.{get_or-take, get_or_past, length-take, take_more}
-use Rattle.std.proofs.lemmas.Option.{slice_get-get_or}
-use Rattle.encoding_definitions.specs.Ascii.{IsFirstOther}
 use Rattle.encoding_definitions.specs.Prefixes.{IsLongestPrefix, WritesPrefix}
-use Rattle.encoding_kernels.specs.Strides.{AllBelow, BelowUpTo, IsRunBelow, CopiesAscii}
-use Rattle.encoding_definitions.proofs.LongestPrefixes.PrefixesLemmas.{WritesPrefix_push, WritesPrefix_put, WritesPrefix_again}
+use Rattle.encoding_kernels.specs.Strides.{BelowUpTo}
+use Rattle.encoding_definitions.proofs.LongestPrefixes.PrefixesLemmas.{WritesPrefix_push, WritesPrefix_put}
 
 -- ---- prefixes of units that are each of a kind, which the 0 past the end is too
 module _ (P : ℕ → Type 0) (at_zero : P 0) where
@@ -48,16 +46,6 @@ ascii_prefix_at xs n l h s = prefix_before (λ b. b < 0x80) (omega arith) xs n (
 pub below_prefix : (xs : List ℕ) (n : ℕ) → IsLongestPrefix IsAscii xs n → BelowUpTo 0x80 xs n
 below_prefix xs n f k l = Each-at (λ b. b < 0x80) (omega arith) xs n k l f.kind
 
--- the first other unit among the first `room` units
-pub IsFirstOther-at : (xs : List ℕ) (room n : ℕ) → n < length xs → n < room → ((k : ℕ) → k < n → slice_index xs k < 0x80) → 0x80 ≤ slice_index xs n
-    → IsFirstOther (take room xs) (Some (slice_index xs n, n))
-IsFirstOther-at xs room n l m h s =
-    let short : n < length (take room xs) = omega (arith, length-take room xs) in
-    let same : (k : ℕ) → k < room → slice_index (take room xs) k ≡ slice_index xs k = λ k b. get_or-take room xs k 0 b in (
-      slice_get-get_or (take room xs) n 0 short ∙ ap Some (same n m),
-      ascii_prefix_at (take room xs) n short (λ k b. rw (same k (omega arith)) (h k b)) (rw (same n m) s),
-    )
-
 -- ---- a loop over the units
 -- one more unit is copied
 pub WritesPrefix_copy : (old new xs : List ℕ) (n b : ℕ) → WritesPrefix old new n (take n xs) → n < length xs → n < length new → b ≡ slice_index xs n
@@ -70,28 +58,3 @@ pub WritesPrefix_block : {A : Type 0} (old new after xs : List A) (n m : ℕ) �
 WritesPrefix_block old new after xs n m w l k put =
     let short : length (take m (drop n xs)) ≡ m = length-take-le m (drop n xs) (omega (arith, length-drop n xs)) in
     rw (take-add n m xs) (WritesPrefix_put old new after n m (take n xs) (take m (drop n xs)) w (sym short) k put)
-
--- a run from the same or an earlier index on passes the indices below the bound
-pub run_passes : (bound from at n run : ℕ) (xs : List ℕ) → BelowUpTo bound xs from → from ≤ at + n → IsRunBelow bound xs at n run → from ≤ at + run
-run_passes bound from at n run xs below l r = elim (cases_lt (at + run) from) [ inl p ↦ absurd (r.stops (omega arith) (below (at + run) p)) | inr p ↦ p ]
-
--- ---- copies, by the units as numbers and as they are written
--- n more units
-pub copies_more : {A : Type 0} (numbers : List ℕ) (src old new after : List A) (from at n : ℕ) → CopiesAscii numbers src old new from at → at + n ≤ length src → at + n ≤ length old
-    → length new ≡ length old → AllBelow 0x80 numbers at n → after ≡ take at new ++ (take n (drop at src) ++ drop (at + n) new) → CopiesAscii numbers src old after from (at + n)
-copies_more numbers src old new after from at n done l m same ascii put = record {
-  within = (l, m);
-  ascii = λ h k b. elim (cases_lt k at) [ inl q ↦ done.ascii h k q | inr q ↦ ascii k q b ];
-  copied = λ first w. WritesPrefix_block first new after src at n (done.copied first w) l (omega arith) put;
-}
-
--- a run from the same or an earlier index on
-pub copies_run : {A : Type 0} (numbers : List ℕ) (src old new : List A) (from at run : ℕ) → BelowUpTo 0x80 numbers from → at ≤ from → from ≤ at + 16 → at + 16 ≤ length src → at + 16 ≤ length old
-    → IsRunBelow 0x80 numbers at 16 run → new ≡ take at old ++ (take run (drop at src) ++ drop (at + run) old) → CopiesAscii numbers src old new from (at + run)
-copies_run numbers src old new from at run below near far l m r put =
-    let more = run_passes 0x80 from at 16 run numbers below far r in
-    record {
-      within = (omega (arith, r.within), omega (arith, r.within));
-      ascii = λ h k b. elim (cases_lt k at) [ inl q ↦ h k (omega arith) | inr q ↦ r.pass k q b ];
-      copied = λ first w. WritesPrefix_again first old new src from at run w near more (omega (arith, r.within)) (omega (arith, r.within)) put;
-    }

@@ -234,14 +234,6 @@ closed_before bs i f h =
 pub IsClosedAt_tests : (bs : List ℕ) (at : ℕ) → 3 ≤ at → get_or bs (at - 1) 0 < 0xC0 → get_or bs (at - 2) 0 < 0xE0 → get_or bs (at - 3) 0 < 0xF0 → IsClosedAt bs at
 IsClosedAt_tests bs at h a y x = (omega (arith, three_before bs at h), omega (arith, two_before bs at (omega arith)), omega (arith, one_before bs at (omega arith)))
 
--- after three bytes of ASCII
-pub IsClosedAt-after_ascii : (bs : List ℕ) (from at : ℕ) → from + 3 ≤ at → AsciiBetween bs from at → IsClosedAt bs at
-IsClosedAt-after_ascii bs from at h ascii =
-    let a = ascii.each (at - 1) (omega arith) (omega arith) in
-    let y = ascii.each (at - 2) (omega arith) (omega arith) in
-    let x = ascii.each (at - 3) (omega arith) (omega arith) in
-    IsClosedAt_tests bs at (omega arith) (omega arith) (omega arith) (omega arith)
-
 pub IsUtf8_closed : (bs : List ℕ) (n : ℕ) → n ≤ length bs → ValidUpTo bs n → IsClosedAt bs n → IsUtf8 (take n bs)
 IsUtf8_closed bs n within f c = IsUtf8_following bs n within c n 0 (omega arith) (omega arith) (λ i _ l. f.each i l) (IsClosedAt-start bs) IsUtf8-nil
 

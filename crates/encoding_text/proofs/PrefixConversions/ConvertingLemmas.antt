@@ -8,7 +8,7 @@ use Rattle.std.specs.Str.{all_scalars, IsAscii, IsUtf8, chars}
 use Rattle.std.specs.List.{flat_map}
 use Rattle.std.proofs.lemmas.Bool.{and_from, and_parts, cases_lt}
 use Rattle.std.proofs.lemmas.Grind.{flat_map-append}
-use Rattle.std.proofs.lemmas.List.{append-nil, append_assoc, length-append, length-drop, length-take, take_at, take_all, drop_at, take_rest, take-append-drop, take-take}
+use Rattle.std.proofs.lemmas.List.{append-nil, append_assoc, length-append, length-drop, length-take, take_at, drop_at, take_rest, take-append-drop, take-take}
 use Rattle.std.proofs.lemmas.Str.{encodes-append, encode_same, length-encode, len_utf8_bounds, IsUtf8-encode, IsUtf8-append, chars_from_encodes}
 use Rattle.std.proofs.str.Laws.{scalars-append}
 use borrow.Rule.Slice.PartMut.{put_mid}
@@ -66,9 +66,6 @@ module _ {A : Type 0} (encode : ℕ → List A) where
       let text : IsUtf8 (take n (drop read src)) = (c ∷ [], (and_from _ _ s refl, spelled)) in
       let out : encode c ≡ flat_map encode (chars (take n (drop read src))) = sym (append-nil (encode c)) ∙ ap (flat_map encode) (chars_from_encodes (c ∷ []) _ text spelled) in
       converted_text src old new sub read written n m d text l (subst (λ xs. WritesPrefix (take (length new - written) (drop written new)) sub m xs) out w)
-
-  pub converted_room : {src : List ℕ} {old new : List A} {read written : ℕ} → ConvertsSome encode src old new read written → written ≤ length new
-  converted_room {src} {old} {new} {read} {written} d = omega (arith, d.writes.fits, WritesPrefix-length old new written (flat_map encode d.scalars) d.writes)
 
   -- the rest starts with no character that fits
   converted_stops : {src : List ℕ} {old new : List A} {read written : ℕ} → ConvertsSome encode src old new read written → (FittingBegins encode (drop read src) (length old - written) → ⊥)
@@ -228,9 +225,3 @@ converted_ascii src old new sub read written n d p w =
     let text = ascii_text (take n bytes) ascii in
     converted_text encode_utf16 src old new sub read written n n d text.0 (omega (arith, within, length-take room bytes))
     (subst (λ xs. WritesPrefix (take (length new - written) (drop written new)) sub n xs) (ap (take n) (take_rest src read) ∙ sym text.1) w)
-
--- the whole text
-pub converted_all : (src old new : List ℕ) (read written : ℕ) → IsUtf8 src → length src ≤ read → ConvertsSome encode_utf16 src old new read written
-    → WritesPrefix old new written (flat_map encode_utf16 (chars src))
-converted_all src old new read written u all d =
-    subst (λ cs. WritesPrefix old new written (flat_map encode_utf16 cs)) (chars_from_encodes d.scalars src u (d.spelled ∙ take_all read src all)) d.writes

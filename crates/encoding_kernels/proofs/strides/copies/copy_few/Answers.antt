@@ -1,5 +1,4 @@
 use Rattle.std.proofs.Common.{◌≡◌, ℕ, ◌/◌, ◌-◌, ◌<◌, ◌≤◌, List, [], ◌∷◌, ◌++◌, length, drop, slice_index, slice_set, refl, arith}
-use Rattle.encoding_definitions.specs.Prefixes.{WritesPrefix}
 use Rattle.encoding_kernels.proofs.strides.copies.copy_few.Goals as goal
 
 copied : (src dst : List ℕ) → 0 < length src → length src ≤ 3 → length src ≤ length dst
