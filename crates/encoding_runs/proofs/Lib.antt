@@ -13,6 +13,7 @@ pub mod CompletionLemmas
 pub mod BidiLawLemmas
 pub mod CutLemmas
 pub mod MixedLemmas
+pub mod WholeTextLemmas
 pub mod MalformedLemmas
 pub mod BlockLemmas
 -- the lemmas on these terms

@@ -1,9 +1,11 @@
 -- Calls of a decoder of any of its three forms.
-use Rattle.std.specs.Prelude.{◌≡◌, ℕ, Bool, List, [], encode_utf8}
+use Rattle.std.specs.Prelude.{◌≡◌, ℕ, ◌≤◌, Bool, List, [], length, encode_utf8}
 use Rattle.std.specs.Char.Escape.{encode_utf16}
+use Rattle.std.specs.List.{flat_map}
+use Rattle.std.specs.Str.{chars}
 use Rattle.encoding_definitions.specs.Parts.{Part}
 use Rattle.encoding_text.specs.YieldedParts.{AreDecoded, AreBorrowed}
-use Rattle.encoding_text.specs.Decoding.{DecodeStep, BorrowedDecodeStep}
+use Rattle.encoding_text.specs.Decoding.{DecodeStep, BorrowedDecodeStep, max_utf16_length, max_utf8_length}
 use Rattle.encoding_text.specs.OneResult.{AreSamePiece}
 use Rattle.encoding_text.specs.declared.decoder.DecoderResult.{DecoderResult}
 use Rattle.encoding_text.specs.declared.decoder.DecoderResult.TheVariants as result
@@ -55,3 +57,33 @@ AreAskedTheSame call other = (call.form ≡ other.form) × (call.piece ≡ other
 abbrev pub ReturnTheSame : Call Form CallResult ℕ → Call Form CallResult ℕ → Type 0
 ReturnTheSame call other =
     ResultsAgree call.result other.result × (call.read ≡ other.read) × (call.out ≡ other.out) × (call.pending ≡ other.pending)
+
+-- the text of the bytes fits into the space of the call
+abbrev pub TextFits : Form → List ℕ → Type 0
+TextFits (ToUtf16 room) src = length (flat_map encode_utf16 (chars src)) ≤ room
+TextFits (ToUtf8 room) src = length src ≤ room
+TextFits Borrowed src = Unit {0}
+
+-- the space of the call is at least the queried length for n bytes and nothing pending
+abbrev pub HasQueriedLength : Form → ℕ → Type 0
+HasQueriedLength (ToUtf16 room) n = max_utf16_length n 0 ≤ room
+HasQueriedLength (ToUtf8 room) n = max_utf8_length n 0 ≤ room
+HasQueriedLength Borrowed n = Unit {0}
+
+-- the piece is these bytes as a text, or `InputEmpty` if there are none
+abbrev pub IsWholePiece : Piece → List ℕ → Type 0
+IsWholePiece (piece.Text t) src = t.now ≡ src
+IsWholePiece (piece.Char c) src = ⊥
+IsWholePiece (piece.Malformed k) src = ⊥
+IsWholePiece piece.InputEmpty src = src ≡ []
+
+-- `InputEmpty` is returned and the text is written, or, without a destination, the text is returned
+abbrev pub IsWholeText : Form → List ℕ → CallResult → List ℕ → Type 0
+IsWholeText (ToUtf16 room) src (Decoded r) units = (r ≡ result.InputEmpty) × (units ≡ flat_map encode_utf16 (chars src))
+IsWholeText (ToUtf8 room) src (Decoded r) bytes = (r ≡ result.InputEmpty) × (bytes ≡ src)
+IsWholeText Borrowed src (Handed returned) out = IsWholePiece returned src
+IsWholeText _ src _ out = ⊥
+
+-- the call reads all of a text, and leaves nothing pending
+abbrev pub ReadsText : Form → List ℕ → CallResult → ℕ → List ℕ → List ℕ → Type 0
+ReadsText form src answer read out q = IsWholeText form src answer out × (read ≡ length src) × (q ≡ [])

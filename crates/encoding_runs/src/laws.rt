@@ -21,7 +21,7 @@ ghost use Rattle.encoding_text.specs.declared.utf_8.encoder.EncoderResult.{Encod
 ghost use Rattle.encoding_text.specs.declared.utf_8.encoder.EncoderResult.TheVariants as encoded;
 ghost use Rattle.encoding_runs.specs.Calls.{Call, IsChain, read_in_all, output_of, pending_after};
 ghost use Rattle.encoding_runs.specs.DecoderCalls.{YieldsFirstParts, YieldTheParts};
-ghost use Rattle.encoding_runs.specs.MixedCalls.{Form, CallResult, MixedDecodeStep, AreYielded, IsInputEmpty, AreAskedTheSame, ReturnTheSame};
+ghost use Rattle.encoding_runs.specs.MixedCalls.{Form, CallResult, MixedDecodeStep, AreYielded, IsInputEmpty, AreAskedTheSame, ReturnTheSame, TextFits, HasQueriedLength, ReadsText};
 ghost use Rattle.encoding_runs.specs.EncoderCalls.{EncodesFirstParts};
 ghost use Rattle.encoding_runs.specs.declared.run.turns.Turn.{Turn};
 ghost use Rattle.encoding_runs.specs.Runs.{AreOfTurns, EachMakesProgress, Completes};
@@ -45,7 +45,7 @@ pub fn law_sequences()
 /// The final parts are the first parts of the bytes followed by anything, so their text is a prefix of the repaired
 /// text of any continuation. First parts that stay so for any continuation, and leave nothing or an incomplete
 /// sequence, are the final parts. With U+FFFD for each malformed sequence the parts are the text that
-/// `String::from_utf8_lossy` makes. Encoding Standard, UTF-8 decoder.
+/// `String::from_utf8_lossy` makes, and any first parts are a well-formed text. Encoding Standard, UTF-8 decoder.
 pub fn law_parts()
     ensures exist { (bs : List ℕ) → (parts : List Part) × ArePartsOf bs parts }
     ensures one { (bs : List ℕ) (parts others : List Part) → ArePartsOf bs parts → ArePartsOf bs others → parts ≡ others }
@@ -59,6 +59,7 @@ pub fn law_parts()
     ensures final_text { (bs rest more : List ℕ) (parts all : List Part) → AreFinal bs parts rest
         → ArePartsOf (bs ++ more) all → (text : List ℕ) × (lossy_utf8 all ≡ lossy_utf8 parts ++ text) }
     ensures lossy { (bs : List ℕ) (parts : List Part) → ArePartsOf bs parts → lossy_utf8 parts ≡ utf8_lossy bs }
+    ensures repaired { (bs rest : List ℕ) (parts : List Part) → StartsWith bs parts rest → IsUtf8 (lossy_utf8 parts) }
 {}
 
 /// Bytes may be cut where the final parts of the first piece leave no rest: the parts of the whole are those of the
@@ -108,8 +109,12 @@ pub fn law_block_repair()
 /// Calls of the three forms may be mixed over one list of bytes, each starting with the first unread byte. In sequence
 /// they yield the first parts of the pending bytes and these bytes. If no call is marked last, they are the first parts
 /// for any continuation. Once a call marked last returns `InputEmpty`, they are all parts. The results depend only on
-/// the pending bytes, so a neutral decoder returns the same as a new one from any list of calls. Encoding Standard,
-/// UTF-8 decoder.
+/// the pending bytes, so a neutral decoder returns the same as a new one from any list of calls.
+///
+/// With nothing pending, one call reads all of a well-formed source whose text fits into its space, marked last or not.
+/// It returns `InputEmpty`, its output is the text, and nothing is pending after it. Without a destination it returns
+/// the text, if the source isn't empty. The text fits if the space has the queried length. Encoding Standard, UTF-8
+/// decoder.
 pub fn law_mixed_calls()
     ensures one_utf16 { (p src : List ℕ) (room : ℕ) (last : Bool) → IsPending p → HasOneResult encode_utf16 2 p src room last }
     ensures one_utf8 { (p src : List ℕ) (room : ℕ) (last : Bool) → IsPending p → HasOneResult encode_utf8 4 p src room last }
@@ -121,6 +126,10 @@ pub fn law_mixed_calls()
         → YieldTheParts AreYielded IsInputEmpty p b calls }
     ensures same { (p b : List ℕ) (calls others : List (Call Form CallResult ℕ)) → IsChain MixedDecodeStep p b calls
         → IsChain MixedDecodeStep p b others → AllZip AreAskedTheSame calls others → AllZip ReturnTheSame calls others }
+    ensures text { (src : List ℕ) (form : Form) (last : Bool) (answer : CallResult) (read : ℕ) (out q : List ℕ)
+        → IsUtf8 src → TextFits form src → MixedDecodeStep [] src form last answer read out q
+        → ReadsText form src answer read out q }
+    ensures queried { (src : List ℕ) (form : Form) → IsUtf8 src → HasQueriedLength form (length src) → TextFits form src }
 {}
 
 /// UTF-16 code units have exactly one list of parts. With U+FFFD for each unpaired surrogate, they are those of std's

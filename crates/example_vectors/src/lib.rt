@@ -10,6 +10,10 @@ mod engine;
 #[cfg(test)]
 mod legacy;
 #[cfg(test)]
+mod long;
+#[cfg(test)]
 mod reader;
+#[cfg(test)]
+mod reads;
 #[cfg(test)]
 mod units;

@@ -1,6 +1,7 @@
 use Rattle.encoding_text.proofs.Calls.OneResultLemmas.{one_utf8_result, one_utf16_result}
 use Rattle.encoding_text.proofs.Calls.OnePieceLemmas.{one_piece}
 use Rattle.encoding_runs.proofs.MixedLemmas.{one_call_yields, mixed_parts, same_results}
+use Rattle.encoding_runs.proofs.WholeTextLemmas.{reads_text, queried_fits}
 use Rattle.encoding_runs.proofs.laws.law_mixed_calls.Goals as goal
 
 pub returns : goal.returns
@@ -11,4 +12,6 @@ returns c = record {
   one_call = one_call_yields;
   mixed = mixed_parts;
   same = same_results;
+  text = reads_text;
+  queried = queried_fits;
 }

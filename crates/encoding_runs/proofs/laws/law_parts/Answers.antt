@@ -2,7 +2,7 @@ use Rattle.encoding_definitions.proofs.Decomposition.DecompositionLemmas.{has_pa
 use Rattle.encoding_definitions.proofs.Decomposition.LossyLemmas.{repaired-utf8_lossy}
 use Rattle.encoding_runs.proofs.CutLemmas.{final_text}
 use Rattle.encoding_runs.proofs.FinalLemmas.{final_first}
-use Rattle.encoding_runs.proofs.WellFormedLemmas.{well_formed}
+use Rattle.encoding_runs.proofs.WellFormedLemmas.{well_formed, repaired_utf8}
 use Rattle.encoding_runs.proofs.laws.law_parts.Goals as goal
 
 pub returns : goal.returns
@@ -16,4 +16,5 @@ returns c = record {
   final_are = λ bs rest parts starts pending stays. final_first bs parts rest (record { starts = starts; stable = λ _. stays }) pending;
   final_text = final_text;
   lossy = repaired-utf8_lossy;
+  repaired = repaired_utf8;
 }
