@@ -2,9 +2,9 @@
 //! any number of machines. Joined, their texts are what one repair of all the bytes writes.
 #![tactic(auto)]
 
-ghost use Rattle.std.specs.Prelude.{◌≡◌, ℕ, ◌+◌, ◌-◌, ◌<◌, ◌≤◌, ◌^◌, min, List, ◌++◌, length, take, map, sum_by, slice_index, IfOk};
+ghost use Rattle.std.specs.Prelude.{◌≡◌, ℕ, ◌+◌, ◌-◌, ◌<◌, ◌≤◌, ◌^◌, min, List, ◌++◌, length, take, map, sum_by, slice_index, string_bytes, IfOk};
 ghost use Rattle.std.specs.List.{flat_map, AllZip};
-ghost use Rattle.encoding_runs.specs.Repairs.{IsLossyDecodeWith};
+ghost use Rattle.encoding_runs.specs.Repairs.{IsLossyDecodeOf, IsLossyDecodeWith};
 ghost use Rattle.cuts_example.specs.Cuts.{EndsWithAscii, MayBeCutAfter, AreCut, IsRepairOf, AreMalformedSequencesOf, following};
 
 use encoding_runs::laws::{law_cuts, law_next_malformed, law_parts};
@@ -130,4 +130,15 @@ pub fn repair_apart(alloc: Global, bytes: &[u8], least: usize) -> Result<Repaire
         repaired.push(repair_piece(alloc, piece)?)?;
     }
     join(alloc, &repaired)
+}
+
+/// Repairs bytes in pieces of at least `least` bytes, and returns the text. An `Err` means that an allocation failed.
+pub fn text_of_pieces(alloc: Global, bytes: &[u8], least: usize) -> Result<String, AllocError>
+    requires { 0 < least }
+    ensures { IfOk result (λ text. IsLossyDecodeOf bytes.now (string_bytes text)) }
+{
+    law_parts();
+    let whole = repair_apart(alloc, bytes, least)?;
+    // A repaired text is well-formed, so no second look at it is needed.
+    Ok(unsafe { String::from_utf8_unchecked(whole.text) })
 }

@@ -39,6 +39,8 @@ mod long_results;
 #[cfg(test)]
 mod long_streams;
 #[cfg(test)]
+mod memory_requests;
+#[cfg(test)]
 mod mixed_text;
 #[cfg(test)]
 mod outputs;

@@ -71,6 +71,23 @@ fn append_text(block: &mut Vec<u16>, text: &str) -> Result<(), AllocError>
     Ok(())
 }
 
+/// Returns a text as one block, which one call of a decoder writes into a destination of the queried length. An `Err`
+/// means that the allocation failed or that this length would exceed `usize::MAX`.
+pub fn block_of_text(alloc: Global, text: &str) -> Result<Vec<u16>, AllocError>
+    ensures { IfOk result (λ block. block.items ≡ flat_map encode_utf16 (chars text.now)) }
+{
+    law_mixed_calls();
+    let mut decoder = Utf8Decoder::new_inner();
+    let Some(room) = decoder.max_utf16_buffer_length(text.len()) else {
+        return Err(AllocError);
+    };
+    let mut block = Vec::new(alloc);
+    block.resize(room, 0)?;
+    let (_, _, written) = decoder.decode_to_utf16_raw(text.as_bytes(), &mut block, true);
+    block.truncate(written);
+    Ok(block)
+}
+
 /// Returns the next piece of UTF-8 as a block, with U+FFFD for each malformed sequence. `last` says that no piece
 /// follows. An `Err` means that an allocation failed.
 fn block_of_piece(

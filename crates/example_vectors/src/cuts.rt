@@ -1,6 +1,6 @@
 //! Bytes in pieces of each length, repaired separately and joined, and the offsets of their malformed sequences.
 
-use cuts_example::{malformed_indices, repair_apart};
+use cuts_example::{malformed_indices, repair_apart, text_of_pieces};
 use std::test::Fail;
 
 /// Bytes, their text by the Encoding Standard's UTF-8 decoder, and the offsets and lengths of their malformed
@@ -35,6 +35,8 @@ fn repairs_in_pieces_of_each_length(rt: HostRuntime) -> Result<(), Fail> {
                 whole.text.as_slice() == text.as_bytes() && whole.replaced == places.len() as u64,
                 "{text} in pieces of {least}"
             );
+            let joined = text_of_pieces(rt.alloc(), bytes, least)?;
+            assert!(rt; joined.as_str() == *text, "{text} as a text of {least}");
         }
     }
     Ok(())

@@ -1,6 +1,6 @@
 //! Blocks of UTF-16 from pieces of UTF-8, and back.
 
-use engine_example::{blocks_of_utf8, utf8_of_blocks};
+use engine_example::{block_of_text, blocks_of_utf8, utf8_of_blocks};
 use std::test::Fail;
 
 /// UTF-8, and its code units by the Encoding Standard's UTF-8 decoder.
@@ -26,6 +26,8 @@ const ROWS: [(&[u8], &[u16], &str); 4] = [
 #[test]
 fn goes_there_and_back_in_pieces_of_each_length(rt: HostRuntime) -> Result<(), Fail> {
     for (bytes, units, text) in &ROWS {
+        let block = block_of_text(rt.alloc(), text)?;
+        assert!(rt; block.as_slice() == *units, "{text} as one block");
         for length in 1..12 {
             let mut pieces = Vec::new(rt.alloc());
             for piece in bytes.chunks(length) {

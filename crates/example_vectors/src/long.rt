@@ -1,11 +1,11 @@
 //! Each example on more than 1 MiB, which is longer than every buffer: copies of one row, whose result is as many copies
 //! of the row's.
 
-use cuts_example::{malformed_indices, repair_apart};
+use cuts_example::{malformed_indices, repair_apart, text_of_pieces};
 use decoder_example::{CoderResult, Decoder};
 use engine_example::turns::utf8_by_turns;
 use engine_example::units::{has_right_to_left, is_repaired, is_text, utf8_of_units};
-use engine_example::{blocks_of_utf8, utf8_of_blocks};
+use engine_example::{block_of_text, blocks_of_utf8, utf8_of_blocks};
 use legacy_example::{windows_1252_to_utf8, windows_1252_to_utf16};
 use reader_example::{Utf8Reader, Utf16Reader, is_well_formed, read_text};
 use std::alloc::{AllocError, Global};
@@ -51,6 +51,7 @@ fn units_of(alloc: Global, row: &[u16]) -> Result<Vec<u16>, AllocError> {
 fn repairs_in_pieces(rt: HostRuntime) -> Result<(), Fail> {
     let bytes = bytes_of(rt.alloc(), &BYTES)?;
     let text = bytes_of(rt.alloc(), TEXT.as_bytes())?;
+    let units = units_of(rt.alloc(), &UNITS)?;
     for least in [1_000, 1_048_589] {
         let whole = repair_apart(rt.alloc(), &bytes, least)?;
         assert!(rt;
@@ -58,6 +59,12 @@ fn repairs_in_pieces(rt: HostRuntime) -> Result<(), Fail> {
             "in pieces of {least}"
         );
     }
+    let joined = text_of_pieces(rt.alloc(), &bytes, 1_000)?;
+    assert!(rt; joined.as_bytes() == text.as_slice(), "as a text");
+    assert!(rt;
+        block_of_text(rt.alloc(), &joined)? == units,
+        "as one block"
+    );
     let found = malformed_indices(rt.alloc(), &bytes)?;
     assert!(rt; found.len() == COPIES, "as many malformed sequences");
     let mut place: usize = 5;
