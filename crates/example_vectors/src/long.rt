@@ -26,7 +26,7 @@ const TEXT: &str = "a\u{2603}b\u{FFFD}c\u{1F4A9}";
 /// The UTF-16 of that.
 const UNITS: [u16; 7] = [0x61, 0x2603, 0x62, 0xFFFD, 0x63, 0xD83D, 0xDCA9];
 
-/// The same code units with an unpaired surrogate in place of U+FFFD.
+/// The same code units, each U+FFFD replaced by an unpaired surrogate.
 const UNPAIRED: [u16; 7] = [0x61, 0x2603, 0x62, 0xD83D, 0x63, 0xD83D, 0xDCA9];
 
 /// Returns the copies of some bytes.
@@ -47,23 +47,30 @@ fn units_of(alloc: Global, row: &[u16]) -> Result<Vec<u16>, AllocError> {
     Ok(units)
 }
 
+/// Returns whether bytes in pieces of this length are repaired to the text, with a malformed sequence in each copy.
+fn are_repaired(alloc: Global, bytes: &[u8], text: &[u8], least: usize) -> Result<bool, AllocError>
+    requires { 0 < least }
+{
+    let whole = repair_apart(alloc, bytes, least)?;
+    let joined = text_of_pieces(alloc, bytes, least)?;
+    Ok(
+        whole.text.as_slice() == text
+            && whole.replaced == COPIES as u64
+            && joined.as_bytes() == text,
+    )
+}
+
 #[test]
 fn repairs_in_pieces(rt: HostRuntime) -> Result<(), Fail> {
     let bytes = bytes_of(rt.alloc(), &BYTES)?;
     let text = bytes_of(rt.alloc(), TEXT.as_bytes())?;
-    let units = units_of(rt.alloc(), &UNITS)?;
-    for least in [1_000, 1_048_589] {
-        let whole = repair_apart(rt.alloc(), &bytes, least)?;
-        assert!(rt;
-            whole.text == text && whole.replaced == COPIES as u64,
-            "in pieces of {least}"
-        );
-    }
-    let joined = text_of_pieces(rt.alloc(), &bytes, 1_000)?;
-    assert!(rt; joined.as_bytes() == text.as_slice(), "as a text");
     assert!(rt;
-        block_of_text(rt.alloc(), &joined)? == units,
-        "as one block"
+        are_repaired(rt.alloc(), &bytes, &text, 1_000)?,
+        "in pieces of 1,000"
+    );
+    assert!(rt;
+        are_repaired(rt.alloc(), &bytes, &text, 2_000_000)?,
+        "in one piece"
     );
     let found = malformed_indices(rt.alloc(), &bytes)?;
     assert!(rt; found.len() == COPIES, "as many malformed sequences");
@@ -136,25 +143,40 @@ fn reads_a_text(rt: HostRuntime) -> Result<(), Fail> {
     Ok(())
 }
 
+/// Returns whether bytes in pieces of this length become blocks of the code units, and these the text.
+fn are_converted(
+    alloc: Global,
+    bytes: &[u8],
+    units: &[u16],
+    text: &[u8],
+    length: usize,
+) -> Result<bool, AllocError>
+    requires { 0 < length }
+{
+    let mut pieces = Vec::new(alloc);
+    for piece in bytes.chunks(length) {
+        pieces.push(piece)?;
+    }
+    let blocks = blocks_of_utf8(alloc, &pieces)?;
+    let mut all = Vec::new(alloc);
+    for block in &blocks {
+        all.extend_from_slice(block)?;
+    }
+    let back = utf8_of_blocks(alloc, &blocks)?;
+    Ok(all.as_slice() == units && back.as_slice() == text)
+}
+
 #[test]
 fn converts_blocks(rt: HostRuntime) -> Result<(), Fail> {
     let bytes = bytes_of(rt.alloc(), &BYTES)?;
     let text = bytes_of(rt.alloc(), TEXT.as_bytes())?;
     let units = units_of(rt.alloc(), &UNITS)?;
-    for length in [1_000, bytes.len()] {
-        let mut pieces = Vec::new(rt.alloc());
-        for piece in bytes.chunks(length) {
-            pieces.push(piece)?;
-        }
-        let blocks = blocks_of_utf8(rt.alloc(), &pieces)?;
-        let mut all = Vec::new(rt.alloc());
-        for block in &blocks {
-            all.extend_from_slice(block)?;
-        }
-        assert!(rt; all == units, "blocks of pieces of {length}");
-        let back = utf8_of_blocks(rt.alloc(), &blocks)?;
-        assert!(rt; back == text, "and back");
-    }
+    let holds = are_converted(rt.alloc(), &bytes, &units, &text, 1_000)?;
+    assert!(rt; holds, "in pieces of 1,000");
+    let holds = are_converted(rt.alloc(), &bytes, &units, &text, 2_000_000)?;
+    assert!(rt; holds, "in one piece");
+    let whole = read_text(rt.alloc(), bytes.as_slice())?;
+    assert!(rt; block_of_text(rt.alloc(), &whole)? == units, "as one text");
     Ok(())
 }
 

@@ -1,6 +1,7 @@
 //! How often readers of text read the reader inside, and what they make of its errors.
 
 use reader_example::{Utf8Reader, Utf16Reader, is_well_formed, read_text};
+use std::alloc::Global;
 use std::io;
 use std::io::{Error, ErrorKind, Read};
 use std::test::Fail;
@@ -99,21 +100,33 @@ const UTF8_ROWS: [(&[u8], usize, Option<ErrorKind>, usize, &[(usize, usize)]); 1
     ),
 ];
 
+/// Returns how many reads were made in some calls into a destination, and the answer of the last call.
+fn utf8_answer(
+    bytes: &[u8],
+    step: usize,
+    fault: Option<ErrorKind>,
+    dst: &mut [u8],
+    calls: usize,
+) -> (usize, usize) {
+    let mut inner = Counted::of(bytes, step, fault);
+    let mut reader = Utf8Reader::new(&mut inner);
+    let mut answer = 0;
+    for _ in 0..calls {
+        answer = answer_of(reader.read(dst), fault);
+    }
+    drop(reader);
+    (inner.reads, answer)
+}
+
 #[test]
 fn counts_reads_to_utf8(rt: HostRuntime) {
     for (bytes, step, fault, room, answers) in &UTF8_ROWS {
+        let mut dst = [0; 8];
+        let (dst, _) = dst.split_at_mut((*room).min(8));
         for (earlier, wanted) in answers.iter().enumerate() {
-            let mut inner = Counted::of(bytes, *step, *fault);
-            let mut reader = Utf8Reader::new(&mut inner);
-            let mut buffer = [0; 8];
-            let room = (*room).min(8);
-            let mut answer = 0;
-            for _ in 0..earlier.saturating_add(1) {
-                answer = answer_of(reader.read(&mut buffer[..room]), *fault);
-            }
-            drop(reader);
+            let answer = utf8_answer(bytes, *step, *fault, dst, earlier.saturating_add(1));
             assert!(rt;
-                (inner.reads, answer) == *wanted,
+                answer == *wanted,
                 "{bytes:?}, {step} per read, into {room}, after {earlier} calls"
             );
         }
@@ -146,21 +159,33 @@ const UTF16_ROWS: [(&[u8], usize, Option<ErrorKind>, usize, &[(usize, usize)]); 
     ),
 ];
 
+/// The same for code units.
+fn utf16_answer(
+    bytes: &[u8],
+    step: usize,
+    fault: Option<ErrorKind>,
+    dst: &mut [u16],
+    calls: usize,
+) -> (usize, usize) {
+    let mut inner = Counted::of(bytes, step, fault);
+    let mut reader = Utf16Reader::new(&mut inner);
+    let mut answer = 0;
+    for _ in 0..calls {
+        answer = answer_of(reader.read(dst), fault);
+    }
+    drop(reader);
+    (inner.reads, answer)
+}
+
 #[test]
 fn counts_reads_to_utf16(rt: HostRuntime) {
     for (bytes, step, fault, room, answers) in &UTF16_ROWS {
+        let mut dst = [0; 8];
+        let (dst, _) = dst.split_at_mut((*room).min(8));
         for (earlier, wanted) in answers.iter().enumerate() {
-            let mut inner = Counted::of(bytes, *step, *fault);
-            let mut reader = Utf16Reader::new(&mut inner);
-            let mut buffer = [0; 8];
-            let room = (*room).min(8);
-            let mut answer = 0;
-            for _ in 0..earlier.saturating_add(1) {
-                answer = answer_of(reader.read(&mut buffer[..room]), *fault);
-            }
-            drop(reader);
+            let answer = utf16_answer(bytes, *step, *fault, dst, earlier.saturating_add(1));
             assert!(rt;
-                (inner.reads, answer) == *wanted,
+                answer == *wanted,
                 "{bytes:?}, {step} per read, into {room}, after {earlier} calls"
             );
         }
@@ -207,41 +232,48 @@ const KINDS: [ErrorKind; 10] = [
     ErrorKind::Other,
 ];
 
+/// Returns how many reads a check makes, and its answer: 0, or what a row has for its error.
+fn check_answer(fault: Option<ErrorKind>) -> (usize, usize) {
+    let mut inner = Counted::of(b"ab", 1, fault);
+    let answer = match is_well_formed(&mut inner) {
+        Ok(_) => 0,
+        Err(error) => answer_of(Err(error), fault),
+    };
+    (inner.reads, answer)
+}
+
+/// Returns how many reads a text takes, and its answer: its length, or what a row has for its error.
+fn text_answer(alloc: Global, fault: Option<ErrorKind>) -> (usize, usize) {
+    let mut inner = Counted::of(b"ab", 1, fault);
+    let answer = match read_text(alloc, &mut inner) {
+        Ok(text) => text.len(),
+        Err(error) => answer_of(Err(error), fault),
+    };
+    (inner.reads, answer)
+}
+
+/// std's `read_to_string` reads again after `Interrupted`: three reads for `a`, `b` and the end, each after one that
+/// fails.
 #[test]
 fn passes_on_each_kind_of_error(rt: HostRuntime) {
     for kind in KINDS {
         let fault = Some(kind);
-        for room in [1, 8] {
-            let mut inner = Counted::of(b"ab", 1, fault);
-            let answer = answer_of(Utf8Reader::new(&mut inner).read(&mut [0; 8][..room]), fault);
-            assert!(rt;
-                answer == FAILS && inner.reads == 1,
-                "UTF-8, {room}: {kind:?}"
-            );
-            let mut inner = Counted::of(b"ab", 1, fault);
-            let answer = answer_of(
-                Utf16Reader::new(&mut inner).read(&mut [0; 8][..room]),
-                fault,
-            );
-            assert!(rt;
-                answer == FAILS && inner.reads == 1,
-                "UTF-16, {room}: {kind:?}"
-            );
-        }
-        let mut inner = Counted::of(b"ab", 1, fault);
-        let checked = is_well_formed(&mut inner).map(|_| 0);
+        let small = utf8_answer(b"ab", 1, fault, &mut [0; 1], 1);
+        assert!(rt; small == (1, FAILS), "UTF-8 into 1: {kind:?}");
+        let large = utf8_answer(b"ab", 1, fault, &mut [0; 8], 1);
+        assert!(rt; large == (1, FAILS), "UTF-8 into 8: {kind:?}");
+        let small = utf16_answer(b"ab", 1, fault, &mut [0; 1], 1);
+        assert!(rt; small == (1, FAILS), "UTF-16 into 1: {kind:?}");
+        let large = utf16_answer(b"ab", 1, fault, &mut [0; 8], 1);
+        assert!(rt; large == (1, FAILS), "UTF-16 into 8: {kind:?}");
+        assert!(rt; check_answer(fault) == (1, FAILS), "a check: {kind:?}");
+        let wanted = if kind == ErrorKind::Interrupted {
+            (6, 2)
+        } else {
+            (1, FAILS)
+        };
         assert!(rt;
-            answer_of(checked, fault) == FAILS && inner.reads == 1,
-            "a check: {kind:?}"
-        );
-        // std's `read_to_string` reads again after `Interrupted`: three reads for `a`, `b` and the end, each after one
-        // that fails
-        let interrupted = kind == ErrorKind::Interrupted;
-        let (reads, wanted) = if interrupted { (6, 2) } else { (1, FAILS) };
-        let mut inner = Counted::of(b"ab", 1, fault);
-        let read = read_text(rt.alloc(), &mut inner).map(|text| text.len());
-        assert!(rt;
-            answer_of(read, fault) == wanted && inner.reads == reads,
+            text_answer(rt.alloc(), fault) == wanted,
             "a text: {kind:?}"
         );
     }
