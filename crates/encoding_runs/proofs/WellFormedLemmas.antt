@@ -1,10 +1,9 @@
 -- Bytes are well-formed if and only if none of their parts is malformed, and repaired text always is.
-use Rattle.std.proofs.Common.{◌≡◌, ◌↔◌, ℕ, List, [], ◌∷◌, map, encode_utf8, encode_utf8_all, ap, ◌∙◌, arith, subst}
+use Rattle.std.proofs.Common.{◌≡◌, ◌↔◌, ℕ, List, [], ◌∷◌, map, encode_utf8, encode_utf8_all, refl, ap, ◌∙◌, arith, subst}
 use Rattle.std.specs.List.{flat_map}
 use Rattle.std.specs.Str.{IsUtf8}
 use Rattle.std.proofs.lemmas.List.{append-nil}
 use Rattle.std.proofs.lemmas.Str.{IsUtf8-nil, IsUtf8-append, IsUtf8-encode}
-use Rattle.encoding_definitions.proofs.Sequences.EncodingLemmas.{high_scalar}
 use Rattle.encoding_definitions.specs.Parts.{Part, Character, IllFormed, StartsWith, ArePartsOf, bytes_of, lossy_utf8, malformed_count}
 use Rattle.encoding_definitions.proofs.Decomposition.DecompositionLemmas.{StartsWith-characters, same_parts, parts-bytes, malformed_count-characters}
 
@@ -23,6 +22,7 @@ well_formed bs parts are = (none_malformed bs parts are, λ none. subst IsUtf8 (
 
 pub repaired_utf8 : (bs rest : List ℕ) (parts : List Part) → StartsWith bs parts rest → IsUtf8 (lossy_utf8 parts)
 repaired_utf8 bs rest [] h = IsUtf8-nil
-repaired_utf8 bs rest (Character c ∷ parts) (after, first, h) = IsUtf8-append (encode_utf8 c) (lossy_utf8 parts) (IsUtf8-encode c first.0) (repaired_utf8 after rest parts h)
+repaired_utf8 bs rest (Character c ∷ parts) (after, first, h) =
+    IsUtf8-append (encode_utf8 c) (lossy_utf8 parts) (IsUtf8-encode c first.0) (repaired_utf8 after rest parts h)
 repaired_utf8 bs rest (IllFormed bytes ∷ parts) (after, first, h) =
-    IsUtf8-append (encode_utf8 0xFFFD) (lossy_utf8 parts) (IsUtf8-encode 0xFFFD (high_scalar 0xFFFD (omega arith) (omega arith))) (repaired_utf8 after rest parts h)
+    IsUtf8-append (encode_utf8 0xFFFD) (lossy_utf8 parts) (IsUtf8-encode 0xFFFD refl) (repaired_utf8 after rest parts h)

@@ -21,8 +21,8 @@ use Rattle.encoding_runs.specs.MixedCalls.{Form, ToUtf16, ToUtf8, Borrowed, Call
 use Rattle.encoding_runs.proofs.WellFormedLemmas.{well_formed}
 
 -- the one result of a decode call
-decodes_text : {A : Type 0} (encode : ℕ → List A) (need : ℕ) (src : List ℕ) (room : ℕ) (last : Bool) (r : DecoderResult) (read : ℕ) (out : List A) (q : List ℕ) → IsUtf8 src
-    → length (flat_map encode (chars src)) ≤ room → DecodeStep encode need [] src room last r read out q
+decodes_text : {A : Type 0} (encode : ℕ → List A) (need : ℕ) (src : List ℕ) (room : ℕ) (last : Bool) (r : DecoderResult) (read : ℕ) (out : List A) (q : List ℕ)
+    → IsUtf8 src → length (flat_map encode (chars src)) ≤ room → DecodeStep encode need [] src room last r read out q
     → (r ≡ result.InputEmpty) × (read ≡ length src) × (out ≡ flat_map encode (chars src)) × (q ≡ [])
 decodes_text encode need src room last r read out q text fits call =
     let whole : DecodeStep encode need [] src room last result.InputEmpty (length src) (flat_map encode (chars src)) [] = record {

@@ -1,19 +1,21 @@
--- Pieces of bytes in sequence, and what is written for them.
-use Rattle.std.proofs.Common.{◌≡◌, ℕ, ◌+◌, ◌<◌, Bool, true, false, List, [], ◌++◌, length, take, drop, get_or, map, refl, sym, ap, subst, ◌∙◌, arith, append-nil, append_assoc}
+-- Pieces of bytes in sequence, and what is written for them and for a whole text.
+use Rattle.std.proofs.Common.{◌≡◌, ℕ, ◌+◌, ◌<◌, ◌≤◌, Bool, true, false, List, [], ◌++◌, length, take, drop, get_or, map, refl, sym, ap, subst, ◌∙◌, arith, append-nil, append_assoc}
 use Rattle.std.specs.List.{flat_map}
 use Rattle.std.specs.Char.Escape.{encode_utf16}
 use Rattle.std.proofs.lemmas.Grind.{flat_map-append}
 use Rattle.std.proofs.lemmas.List.Folds.{flat_map-map}
-use Rattle.std.proofs.lemmas.List.{take_more, drop_all, drop-drop, flat_map_more, length-drop}
+use Rattle.std.specs.Str.{chars, IsUtf8}
+use Rattle.std.proofs.lemmas.List.{take_at, take_more, drop_all, drop-drop, flat_map_more, length-drop}
 use Rattle.encoding_text.specs.Parts.{Part, Character, StartsWith, lossy_scalar, lossy_utf16}
 use Rattle.encoding_text.specs.Yielding.{Yields}
 use Rattle.encoding_text.specs.Pending.{IsPending}
 use Rattle.encoding_text.proofs.Decomposition.DecompositionLemmas.{StartsWith-append}
-use Rattle.encoding_text.specs.Decoding.{BorrowedDecodeStep}
+use Rattle.encoding_text.specs.Decoding.{BorrowedDecodeStep, DecodeStepInto, max_utf16_length}
 use Rattle.encoding_text.specs.YieldedParts.{AreBorrowed}
+use Rattle.encoding_text.specs.declared.decoder.DecoderResult.{DecoderResult}
 use Rattle.encoding_text.specs.declared.decoder.Piece.{Piece}
 use Rattle.encoding_runs.specs.DecoderCalls.{YieldsFirstParts}
-use Rattle.encoding_runs.specs.MixedCalls.{Form, CallResult, Borrowed, Handed, MixedDecodeStep, AreYielded, IsInputEmpty}
+use Rattle.encoding_runs.specs.MixedCalls.{Form, CallResult, Borrowed, ToUtf16, Handed, Decoded, MixedDecodeStep, AreYielded, IsInputEmpty, TextFits, HasQueriedLength, ReadsText}
 use Rattle.engine_example.specs.CutBlocks.{WritesPiece}
 
 utf16-append : (ps qs : List Part) → lossy_utf16 (ps ++ qs) ≡ lossy_utf16 ps ++ lossy_utf16 qs
@@ -79,3 +81,15 @@ taken_on bytes out q piece block r last t w = record {
       (StartsWith-append _ t.parts _ w.parts _ (subst (StartsWith (bytes ++ (piece ++ more)) t.parts) (sym (append_assoc q piece more)) (t.stable refl (piece ++ more)))
       (w.stable e more));
 }
+
+-- ---- one call on a whole text, into a destination of the queried length
+pub text_written : ((src : List ℕ) (form : Form) (last : Bool) (answer : CallResult) (read : ℕ) (out q : List ℕ) → IsUtf8 src → TextFits form src
+    → MixedDecodeStep [] src form last answer read out q → ReadsText form src answer read out q)
+    → ((src : List ℕ) (form : Form) → IsUtf8 src → HasQueriedLength form (length src) → TextFits form src)
+    → (src old new : List ℕ) (last : Bool) (result : DecoderResult) (read written : ℕ) (q : List ℕ) → IsUtf8 src
+    → max_utf16_length (length src) 0 ≤ length old → DecodeStepInto encode_utf16 2 [] src old new last result read written q
+    → take written new ≡ flat_map encode_utf16 (chars src)
+text_written text queried src old new last result read written q is_text room (out, writes, call) =
+    let form = ToUtf16 (length old) in
+    let whole = text src form last (Decoded result) read out q is_text (queried src form is_text room) call in
+    ap (take written) writes.placed ∙ take_at out (drop written old) written (sym writes.count) ∙ whole.0.1

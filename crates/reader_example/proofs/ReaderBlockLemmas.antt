@@ -11,7 +11,7 @@ use Rattle.encoding_runs.specs.Blocks.{IsBlockRepair}
 use Rattle.encoding_runs.specs.declared.repair.blocks.RepairedBlock.{RepairedBlock}
 use Rattle.encoding_runs.proofs.RepairLemmas.{pending_length}
 use Rattle.reader_example.specs.Reading.{text_from}
-use Rattle.reader_example.proofs.ReaderTextLemmas.{Consumes-yielded, no_text_left, no_text, IsUtf8-repaired}
+use Rattle.reader_example.proofs.ReaderTextLemmas.{Consumes-yielded, no_text_left, no_text}
 
 pub some_length : (bs : List ℕ) → bs ≢ [] → 0 < length bs
 some_length [] some = absurd (some refl)
@@ -22,8 +22,8 @@ pub written_prefix : (dst dst' : List ℕ) (written : ℕ) (out : List ℕ) → 
 written_prefix dst dst' written out writes = ap (take written) writes.placed ∙ take_at out _ written (sym writes.count)
 
 module _ (p block : List ℕ) (room : ℕ) (last : Bool) (result : RepairedBlock) (read : ℕ) (out q : List ℕ) (repair : IsBlockRepair p block room last result read out q) where
-  pub whole_characters : IsUtf8 out
-  whole_characters = subst IsUtf8 (sym repair.text) (IsUtf8-repaired _ repair.parts _ repair.yielded.first)
+  pub whole_characters : ((bs rest : List ℕ) (parts : List Part) → StartsWith bs parts rest → IsUtf8 (lossy_utf8 parts)) → IsUtf8 out
+  whole_characters repaired_utf8 = subst IsUtf8 (sym repair.text) (repaired_utf8 _ _ repair.parts repair.yielded.first)
 
   finished : (b : Bool) → result.finished ≡ b → 7 ≤ room → length out ≡ 0 → (read ≡ length block) × (last ≡ true → q ≡ [])
   finished true e enough none = repair.finished.0 e

@@ -1,11 +1,10 @@
 -- The text that is left after what was returned.
 use Rattle.std.proofs.Common.{◌≡◌, ℕ, true, Bool, List, [], ◌∷◌, ◌++◌, length, take, drop, Option, None, Some, encode_utf8, refl, sym, ap, ◌∙◌, arith, append_assoc, take-append-drop, length-append}
 use Rattle.std.proofs.lemmas.List.{drop-append-le}
-use Rattle.std.proofs.lemmas.Str.{length-encode, len_utf8_bounds, IsUtf8-append, IsUtf8-encode, IsUtf8-nil}
-use Rattle.std.specs.Str.{IsUtf8}
+use Rattle.std.proofs.lemmas.Str.{length-encode, len_utf8_bounds}
 use Rattle.std.specs.Str.Lossy.{utf8_lossy}
 use Rattle.std.specs.Io.KnownBytes.{Consumes, IsAtEnd, Keeps}
-use Rattle.encoding_text.specs.Parts.{Part, Character, IllFormed, StartsWith, ArePartsOf, lossy_utf8, lossy_scalar}
+use Rattle.encoding_text.specs.Parts.{Part, StartsWith, ArePartsOf, lossy_utf8, lossy_scalar}
 use Rattle.encoding_text.specs.Yielding.{Yields}
 use Rattle.encoding_text.proofs.Decomposition.DecompositionLemmas.{StartsWith-append, lossy_utf8-append}
 use Rattle.decoder_example.proofs.YieldedLemmas.{first_parts}
@@ -29,13 +28,6 @@ no_text [] e = refl
 no_text (part ∷ parts) e =
     let c = lossy_scalar part in
     absurd (omega (arith, ap length e, length-append (encode_utf8 c) (lossy_utf8 parts), length-encode c, len_utf8_bounds c))
-
-pub IsUtf8-repaired : (bs : List ℕ) (parts : List Part) (rest : List ℕ) → StartsWith bs parts rest → IsUtf8 (lossy_utf8 parts)
-IsUtf8-repaired bs [] rest h = IsUtf8-nil
-IsUtf8-repaired bs (Character c ∷ parts) rest (after, first, h) =
-    IsUtf8-append (encode_utf8 c) (lossy_utf8 parts) (IsUtf8-encode c first.0) (IsUtf8-repaired after parts rest h)
-IsUtf8-repaired bs (IllFormed bytes ∷ parts) rest (after, first, h) =
-    IsUtf8-append (encode_utf8 0xFFFD) (lossy_utf8 parts) (IsUtf8-encode 0xFFFD refl) (IsUtf8-repaired after parts rest h)
 
 module _ (exist : (bs : List ℕ) → (parts : List Part) × ArePartsOf bs parts) (lossy : (bs : List ℕ) (parts : List Part) → ArePartsOf bs parts → lossy_utf8 parts ≡ utf8_lossy bs) where
   pub lossy-nil : utf8_lossy [] ≡ []

@@ -30,7 +30,7 @@ returns-then-last-clause-bytes g c =
 pub returns-then-last-clause-whole : goal.returns-then-last-clause-whole
 returns-then-last-clause-whole g c =
     let (out, writes, repair) = c.repair_block-repaired.ensures in
-    subst IsUtf8 (sym (written_prefix _ _ _ out writes)) (whole_characters _ _ _ _ _ _ _ _ repair)
+    subst IsUtf8 (sym (written_prefix _ _ _ out writes)) (whole_characters _ _ _ _ _ _ _ _ repair c.law_parts.ensures.repaired)
 
 pub loop-last-smaller : goal.loop-last-smaller
 loop-last-smaller g c =
