@@ -7,8 +7,10 @@
 #   make check                  Calls each function of each build from C and C++, also with sanitizers and under
 #                               valgrind. Runs the examples with what `make install` puts into an empty folder.
 #   make install PREFIX=/usr    Installs the last build: libraries, header, files for pkg-config and CMake, program,
-#                               manual page. LIBDIR, INCLUDEDIR and DESTDIR change the folders.
+#                               manual page, terms. LIBDIR, INCLUDEDIR and DESTDIR change the folders. RELOCATABLE=1
+#                               lets the file for pkg-config name folders relative to its own.
 #   make uninstall PREFIX=/usr  Removes all of it.
+#   make release                Writes packages of the last build to build/release. Needs what release/setup installs.
 #   make doc                    Writes HTML pages of the header and of the Rust crate to build/doc. Needs no build.
 ASKED := $(CPU)
 CPU ?= both
@@ -17,6 +19,7 @@ PREFIX ?= /usr/local
 LIBDIR ?= $(PREFIX)/lib
 INCLUDEDIR ?= $(PREFIX)/include
 DESTDIR ?=
+RELOCATABLE ?=
 CC ?= cc
 CXX ?= c++
 OBJCOPY ?= objcopy
@@ -24,14 +27,17 @@ STRICT = -Wall -Wextra -Werror -pedantic -Ic/include
 SANITIZE = -g -fsanitize=address,undefined -fno-sanitize-recover=all
 VERSION := $(shell awk '$$2 ~ /_VERSION_(MAJOR|MINOR|PATCH)$$/ {printf "%s%s", dot, $$3; dot = "."}' c/include/encoding_text.h)
 SHARED = libencoding_text.so.$(firstword $(subst ., ,$(VERSION)))
-export CC CXX LD AR OBJCOPY SHARED
+# The version node of the exported symbols. Before 1.0, a new minor number may change a layout.
+NODE = ENCODING_TEXT_$(basename $(VERSION))
+export CC CXX LD AR OBJCOPY SHARED VERSION NODE
 
 ifneq ($(words $(CPU)) $(words $(filter $(CPUS),$(CPU))),1 1)
 $(error CPU=$(CPU) is none of these: $(CPUS))
 endif
 
 LIBRARIES = encoding_definitions encoding_kernels encoding_text encoding_runs encoding_c utf8_repair
-SOURCES = $(foreach name,$(LIBRARIES),$(wildcard crates/$(name)/src/*.rt crates/$(name)/src/*/*.rt))
+FOLDERS = $(foreach name,$(LIBRARIES),$(foreach part,src specs proofs,$(wildcard crates/$(name)/$(part))))
+SOURCES := $(shell find $(FOLDERS) -name '*.rt' -o -name '*.antt')
 BUILT = libencoding_text.a $(SHARED) utf8_repair
 
 # The long steps, in order. The first one proves all that the others depend on.
@@ -52,7 +58,7 @@ all: tools $(BUILT:%=build/%) build/libencoding_text.so
 
 # Checked first, since the proofs take long.
 tools:
-	$(need_cc)$(if $(filter both,$(CPU)),$(need_binutils))
+	$(need_cc)$(need_binutils)
 
 cxx:
 	$(call need,$(CXX),install a C++ compiler (tools/setup does on Debian) or name yours by CXX=)
@@ -71,16 +77,21 @@ build/libencoding_text.so: | build/$(SHARED)
 library = cd crates/encoding_runs && rt lib && cd ../encoding_c && rt lib --jobs 1 --cpu=x86$*
 
 # All CPUs share the proofs, so a second build is only compiled.
-build/x86%/libencoding_text.a: $(SOURCES)
-	$(need_rt)
+build/x86%/libencoding_text.a: $(SOURCES) c/layout.c
+	$(need_rt)$(need_cc)$(need_binutils)
 	@mkdir -p $(@D)
+	release/origin $(LIBRARIES) > $(@D)/origin
 	@$(progress) x86$*/library '5 to 11 min, 1 behind another' sh -c '$(library)'
+	$(CC) -O2 -Wall -Wextra -fPIC -ffreestanding -fcf-protection=none -fno-asynchronous-unwind-tables -Ic/include -c -o $(@D)/layout.o c/layout.c
 	cp crates/encoding_c/out/libencoding_c.a $@
+	$(AR) rsD $@ $(@D)/layout.o
 
+# utf8_repair.o has all of the program except the C library, for other links.
 build/x86%/utf8_repair: $(SOURCES)
-	$(need_rt)
+	$(need_rt)$(need_binutils)
 	@mkdir -p $(@D)
 	@$(progress) x86$*/program '1 min' sh -c 'cd crates/utf8_repair && rt run --cpu=x86$* < /dev/null'
+	$(LD) -r -o $@.o crates/utf8_repair/out/utf8_repair.o $(wildcard $(dir $(realpath $(shell command -v rt)))../c/lib*.a)
 	cp crates/utf8_repair/out/utf8_repair $@
 
 # Pipes limit the program's speed before the processor does, so one build is enough.
@@ -100,7 +111,7 @@ build/names: c/include/encoding_text.h
 	$(CC) -E -P $< | grep -o '\bencoding_text_[a-z0-9_]*(' | tr -d '(' | LC_ALL=C sort > $@
 
 build/exports: build/names
-	{ echo '{ global:'; sed 's/$$/;/' $<; echo 'local: *; };'; } > $@
+	{ echo '$(NODE) { global:'; sed 's/$$/;/' $<; echo 'local: *; };'; } > $@
 
 build/%/$(SHARED): build/%/libencoding_text.a build/exports
 	$(need_cc)
@@ -112,7 +123,10 @@ check: cxx all
 
 install uninstall:
 	$(if $(ASKED),$(if $(filter $(ASKED),$(shell cat build/cpu 2> /dev/null)),,$(error build/ isn't built for $(ASKED): run make CPU=$(ASKED) first)))
-	@PREFIX='$(PREFIX)' LIBDIR='$(LIBDIR)' INCLUDEDIR='$(INCLUDEDIR)' DESTDIR='$(DESTDIR)' VERSION=$(VERSION) c/install $@
+	@PREFIX='$(PREFIX)' LIBDIR='$(LIBDIR)' INCLUDEDIR='$(INCLUDEDIR)' DESTDIR='$(DESTDIR)' RELOCATABLE='$(RELOCATABLE)' c/install $@
+
+release:
+	@release/make
 
 doc:
 	@tools/doc
@@ -124,4 +138,4 @@ FORCE:
 
 .DELETE_ON_ERROR:
 .NOTPARALLEL:
-.PHONY: all tools cxx check install uninstall doc clean FORCE
+.PHONY: all tools cxx check install uninstall release doc clean FORCE

@@ -1,36 +1,81 @@
-//! Finds the static library: in `ENCODING_TEXT_LIB_DIR`, else with `pkg-config`. Otherwise `make` builds it at the top
-//! of the repository.
+//! Finds the static library: in `ENCODING_TEXT_LIB_DIR`, else with `pkg-config`, else in this crate, if it was packed with
+//! one. Otherwise `make` builds it at the top of the repository.
 use std::env;
+use std::fs;
 use std::path::{Path, PathBuf};
-use std::process::{Command, Stdio};
+use std::process::{self, Command, Stdio};
 
 const FILE: &str = "libencoding_text.a";
+/// What a library has that is laid out as this crate says.
+const LAYOUT: &[u8] = concat!(
+    "encoding_text_layout_",
+    env!("CARGO_PKG_VERSION_MAJOR"),
+    "_",
+    env!("CARGO_PKG_VERSION_MINOR"),
+    "\0"
+)
+.as_bytes();
 const HELP: &str =
     "libencoding_text.a was not found: set ENCODING_TEXT_LIB_DIR to the folder that holds it, or install it \
     for pkg-config (make install), or put rt and make on the PATH in a checkout of the repository";
 
 fn main() {
-    println!("cargo::rerun-if-env-changed=ENCODING_TEXT_LIB_DIR");
-    if let Some(folder) = env::var_os("ENCODING_TEXT_LIB_DIR") {
-        let folder = PathBuf::from(folder);
-        match folder.canonicalize() {
-            Ok(whole) if whole.join(FILE).is_file() => link(&whole),
-            _ => println!(
-                "cargo::error=ENCODING_TEXT_LIB_DIR is {}, where no {FILE} is: set it to the whole path of the folder that holds it",
-                folder.display()
-            ),
-        }
-    } else if let Some(folder) = installed().or_else(built) {
-        link(&folder);
+    println!("cargo:rerun-if-env-changed=ENCODING_TEXT_LIB_DIR");
+    let folder = named()
+        .or_else(installed)
+        .or_else(packed)
+        .or_else(built)
+        .unwrap_or_else(|| refuse(HELP));
+    let file = folder.join(FILE);
+    if !has_layout(&file) {
+        refuse(&format!(
+            "{} is no library of version {}: set ENCODING_TEXT_LIB_DIR to the folder of one",
+            file.display(),
+            series().0
+        ));
+    }
+    println!("cargo:rerun-if-changed={}", file.display());
+    println!("cargo:rustc-link-search=native={}", folder.display());
+    println!("cargo:rustc-link-lib=static=encoding_text");
+}
+
+fn refuse(why: &str) -> ! {
+    eprintln!("error: encoding_text: {why}");
+    process::exit(1)
+}
+
+/// Returns the first number of the version, before 1.0 with the second, and the number after it: libraries from the one
+/// up to the other are compatible.
+fn series() -> (String, String) {
+    let number = |text: &str| {
+        text.parse::<u32>()
+            .unwrap_or_else(|_| refuse("its version is no number"))
+    };
+    let major = number(env!("CARGO_PKG_VERSION_MAJOR"));
+    let minor = number(env!("CARGO_PKG_VERSION_MINOR"));
+    if major == 0 {
+        (format!("0.{minor}"), format!("0.{}", minor + 1))
     } else {
-        println!("cargo::error={HELP}");
+        (major.to_string(), (major + 1).to_string())
     }
 }
 
-fn link(folder: &Path) {
-    println!("cargo::rerun-if-changed={}", folder.join(FILE).display());
-    println!("cargo::rustc-link-search=native={}", folder.display());
-    println!("cargo::rustc-link-lib=static=encoding_text");
+fn has_layout(file: &Path) -> bool {
+    fs::read(file).map_or(false, |bytes| {
+        bytes.windows(LAYOUT.len()).any(|window| window == LAYOUT)
+    })
+}
+
+/// Returns the folder that the environment names.
+fn named() -> Option<PathBuf> {
+    let folder = PathBuf::from(env::var_os("ENCODING_TEXT_LIB_DIR")?);
+    match folder.canonicalize() {
+        Ok(whole) if whole.join(FILE).is_file() => Some(whole),
+        _ => refuse(&format!(
+            "ENCODING_TEXT_LIB_DIR is {}, where no {FILE} is: set it to the whole path of the folder that holds it",
+            folder.display()
+        )),
+    }
 }
 
 /// Returns whether the target is the machine that builds: libraries that are found without being named are for it.
@@ -38,20 +83,43 @@ fn is_native() -> bool {
     env::var_os("TARGET") == env::var_os("HOST")
 }
 
+/// Runs `pkg-config` and returns its output, or `None` if it fails.
+fn pkg_config(words: &[&str]) -> Option<String> {
+    let program = env::var_os("PKG_CONFIG").unwrap_or_else(|| "pkg-config".into());
+    let output = Command::new(program).args(words).stderr(Stdio::null()).output().ok()?;
+    output.status.success().then(|| String::from_utf8(output.stdout).ok())?
+}
+
 /// Returns the folder that `pkg-config` reports for this version of the library or a later compatible one.
 fn installed() -> Option<PathBuf> {
     for variable in ["PKG_CONFIG", "PKG_CONFIG_PATH", "PKG_CONFIG_LIBDIR"] {
-        println!("cargo::rerun-if-env-changed={variable}");
+        println!("cargo:rerun-if-env-changed={variable}");
     }
-    let program = env::var_os("PKG_CONFIG").unwrap_or_else(|| "pkg-config".into());
-    let version = env::var("CARGO_PKG_VERSION").ok()?;
-    let reported = Command::new(program)
-        .args(["--variable=libdir", &format!("encoding_text >= {version}")])
-        .stderr(Stdio::null())
-        .output()
-        .ok()?;
-    let folder = PathBuf::from(String::from_utf8(reported.stdout).ok()?.trim_end());
-    (is_native() && reported.status.success() && folder.join(FILE).is_file()).then_some(folder)
+    let oldest = concat!("encoding_text >= ", env!("CARGO_PKG_VERSION"));
+    pkg_config(&["--exists", oldest, &format!("encoding_text < {}", series().1)])?;
+    let folder = PathBuf::from(pkg_config(&["--variable=libdir", "encoding_text"])?.trim_end());
+    (is_native() && folder.join(FILE).is_file()).then_some(folder)
+}
+
+/// Returns the folder of the library that the crate was packed with. It is for x86-64 Linux with glibc only.
+fn packed() -> Option<PathBuf> {
+    let folder = PathBuf::from(env::var_os("CARGO_MANIFEST_DIR")?).join("x86_64-linux-gnu");
+    if !folder.join(FILE).is_file() {
+        return None;
+    }
+    let is = |name: &str, value: &str| env::var(name).map_or(false, |found| found == value);
+    let is_for_target = is("CARGO_CFG_TARGET_ARCH", "x86_64")
+        && is("CARGO_CFG_TARGET_OS", "linux")
+        && is("CARGO_CFG_TARGET_ENV", "gnu")
+        && is("CARGO_CFG_TARGET_POINTER_WIDTH", "64");
+    if !is_for_target {
+        refuse(&format!(
+            "the crate has a library for x86-64 Linux with glibc, and the target is {}: set ENCODING_TEXT_LIB_DIR to the \
+            folder of a library for it",
+            env::var("TARGET").unwrap_or_default()
+        ));
+    }
+    Some(folder)
 }
 
 /// Returns the folder `build` of the repository, after `make`, which does nothing if the library is newer than its
@@ -62,9 +130,9 @@ fn built() -> Option<PathBuf> {
     if !is_native() || !top.join("c/include/encoding_text.h").is_file() {
         return None;
     }
-    println!("cargo::rerun-if-changed={}", top.join("Makefile").display());
+    println!("cargo:rerun-if-changed={}", top.join("Makefile").display());
     for library in top.join("crates").read_dir().ok()?.flatten() {
-        println!("cargo::rerun-if-changed={}", library.path().join("src").display());
+        println!("cargo:rerun-if-changed={}", library.path().join("src").display());
     }
     let made = Command::new("make")
         .args(["-s", "build/libencoding_text.a"])

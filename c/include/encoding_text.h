@@ -95,6 +95,10 @@ typedef struct {
 /** @return the version of the library: 10,000 times the first number, plus 100 times the second, plus the third */
 uint32_t encoding_text_version(void);
 
+/** Does nothing. A program that refers to it links only with a library whose functions and types are those of this
+ * header: a library that changes one of them incompatibly has another name here. */
+void encoding_text_layout_0_1(void);
+
 /** @name ASCII prefixes
  * @{ */
 

@@ -6,7 +6,7 @@
 use crate::c;
 
 /// The highest bit of each byte of a word. A word of ASCII has none of them.
-pub const ASCII_MASK: usize = usize::from_ne_bytes([0x80; size_of::<usize>()]);
+pub const ASCII_MASK: usize = usize::from_ne_bytes([0x80; core::mem::size_of::<usize>()]);
 
 /// How many bytes the conversions from Latin1 into a `str` set to zero past what they write: as many as the decoders of
 /// `encoding_rs` may overwrite there.

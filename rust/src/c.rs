@@ -139,6 +139,7 @@ macro_rules! functions {
                 $(pub(super) fn $step(
                     state: *mut $stepped, src: *const $read, src_length: usize, dst: *mut $write, dst_length: usize, last: bool,
                 ) -> $ended;)*
+                pub(super) fn encoding_text_layout_0_1();
                 pub(super) fn encoding_text_mem_convert_str_to_utf16_unchecked(
                     src: *const u8, src_length: usize, dst: *mut u16, dst_length: usize,
                 ) -> usize;
@@ -250,6 +251,10 @@ functions! {
         encoding_text_utf8_encoder_encode_from_utf16(Encoder, u16, u8) -> EncodeResult;
     }
 }
+
+/// Linked into each program, so that a library with other layouts is an error of the linker.
+#[used]
+static LAYOUT: unsafe extern "C" fn() = raw::encoding_text_layout_0_1;
 
 #[inline]
 pub(crate) fn encoding_text_mem_convert_str_to_utf16_unchecked(src: &str, dst: &mut [u16]) -> usize {

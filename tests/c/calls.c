@@ -350,6 +350,7 @@ static void repair_by_blocks(void)
 static void version(void)
 {
     CHECK(encoding_text_version() == ENCODING_TEXT_VERSION && ENCODING_TEXT_VERSION == 100);
+    encoding_text_layout_0_1();
 }
 
 int main(void)
