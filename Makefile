@@ -80,7 +80,7 @@ library = cd crates/encoding_runs && rt lib && cd ../encoding_c && rt lib --jobs
 build/x86%/libencoding_text.a: $(SOURCES) c/layout.c
 	$(need_rt)$(need_cc)$(need_binutils)
 	@mkdir -p $(@D)
-	release/origin $(LIBRARIES) > $(@D)/origin
+	release/origin > $(@D)/origin
 	@$(progress) x86$*/library '5 to 11 min, 1 behind another' sh -c '$(library)'
 	$(CC) -O2 -Wall -Wextra -fPIC -ffreestanding -fcf-protection=none -fno-asynchronous-unwind-tables -Ic/include -c -o $(@D)/layout.o c/layout.c
 	cp crates/encoding_c/out/libencoding_c.a $@
@@ -126,7 +126,7 @@ install uninstall:
 	@PREFIX='$(PREFIX)' LIBDIR='$(LIBDIR)' INCLUDEDIR='$(INCLUDEDIR)' DESTDIR='$(DESTDIR)' RELOCATABLE='$(RELOCATABLE)' c/install $@
 
 release:
-	@release/make
+	@release/pack
 
 doc:
 	@tools/doc
