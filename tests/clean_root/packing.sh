@@ -1,0 +1,67 @@
+# Checks `make release` itself, in a copy of this tree. tests/release sources this file.
+# shellcheck shell=bash
+copy=${work:?}/copy
+mkdir "$copy"
+tar --exclude=./.git --exclude=./crates/*/out --exclude=target --exclude=./build/{logs,release,roots,doc} -cf - . | tar -C "$copy" -xf -
+
+pack_again() { # words for env
+    env "$@" make -s -C "$copy" release
+}
+
+packs_the_same() {
+    pack_again TMPDIR="$work" && diff "${packed:?}/SHA256SUMS" "$copy/build/release/SHA256SUMS" && grep -c . "$packed/SHA256SUMS"
+}
+
+# Succeeds if `make release` fails with one line of its own, and leaves nothing.
+refuses() { # a part of the line, words for env
+    local before
+    before=$(ls -A "$copy/build")
+    ! pack_again "${@:2}" > "$work/said" 2>&1 && grep '^make release: ' "$work/said" > "$work/lines" &&
+        gives '1\n' grep -c . "$work/lines" && grep -F -- "$1" "$work/lines" && [ "$before" = "$(ls -A "$copy/build")" ]
+}
+
+# Makes a folder for PATH that has every command but one.
+without() { # the command
+    local folder
+    rm -rf "$work/commands"
+    mkdir "$work/commands"
+    while read -rd : folder; do
+        find "$folder" -maxdepth 1 -exec ln -st "$work/commands" {} + 2> /dev/null
+    done <<< "$PATH:"
+    rm -f "$work/commands/$1"
+    echo "PATH=$work/commands"
+}
+
+step 'the same bytes in another folder' packs_the_same
+rm -rf "$copy/build/release"
+for tool in dpkg-deb cargo strip; do
+    step "no $tool" refuses "$tool is not installed" "$(without $tool)"
+done
+step 'no compiler' refuses 'no-such-compiler is not installed' CC=no-such-compiler
+step 'a folder for temporary files that there is not' refuses "TMPDIR is $work/nothing" TMPDIR="$work/nothing"
+# shellcheck disable=SC2016 # the inner shell expands them
+step 'a folder that may not be written' refuses 'build/ is not writable' unshare --mount bash -c \
+    'mount --bind "$0" "$0" && mount -o remount,ro,bind "$0" && exec "$@"' "$copy/build"
+echo x86-64-v3 > "$copy/build/cpu"
+step 'a build for one processor' refuses 'run make first'
+echo both > "$copy/build/cpu"
+cp "$(type -P true)" "$copy/build/${SHARED:=libencoding_text.so.0}"
+step 'a build for another target' refuses 'build/ is not for x86-64 Linux with glibc'
+cp "build/$SHARED" "$copy/build"
+echo >> "$copy/crates/encoding_text/src/lib.rt"
+step 'other sources than those of the build' refuses 'made from other sources'
+cp -p crates/encoding_text/src/lib.rt "$copy/crates/encoding_text/src"
+sed -i 1d "$copy/c/symbols.txt"
+step 'a symbol that is not listed' refuses 'c/symbols.txt differs'
+rm -rf "$copy/build"
+mkdir "$copy/build"
+step 'no build' refuses 'run make first'
+rm -rf "$copy"
+
+# Succeeds if lintian has nothing to say, not even that an override is unused.
+is_clean() { # the package
+    gives '' lintian --allow-root --display-info --pedantic "$1" && dpkg-deb -f "$1" Package Version
+}
+for package in "$packed"/*.deb; do
+    step "lintian of $(basename "$package")" is_clean "$package"
+done
