@@ -51,6 +51,8 @@ progress = tools/progress '$(STEPS)'
 # need(a command, what to do): fails with a message if the command is missing
 need = $(if $(shell command -v $(firstword $(1)) 2> /dev/null),,$(error $(firstword $(1)) is not there: $(2)))
 need_rt = $(call need,rt,put the toolchain's folder bin on the PATH)
+# The toolchain's C code that calls the system.
+calls_system = $(or $(wildcard $(dir $(realpath $(shell command -v rt)))../c/lib*.a),$(error the toolchain has no c/lib*.a))
 need_cc = $(call need,$(CC),install a C compiler (tools/setup does on Debian) or name yours by CC=)
 need_binutils = $(foreach tool,$(LD) $(OBJCOPY) $(AR),$(call need,$(tool),install binutils (tools/setup does on Debian)))
 
@@ -91,7 +93,7 @@ build/x86%/utf8_repair: $(SOURCES)
 	$(need_rt)$(need_binutils)
 	@mkdir -p $(@D)
 	@$(progress) x86$*/program '1 min' sh -c 'cd crates/utf8_repair && rt run --cpu=x86$* < /dev/null'
-	$(LD) -r -o $@.o crates/utf8_repair/out/utf8_repair.o $(wildcard $(dir $(realpath $(shell command -v rt)))../c/lib*.a)
+	$(LD) -r -o $@.o crates/utf8_repair/out/utf8_repair.o $(calls_system)
 	cp crates/utf8_repair/out/utf8_repair $@
 
 # Pipes limit the program's speed before the processor does, so one build is enough.

@@ -62,6 +62,9 @@ rm -rf "$copy"
 is_clean() { # the package
     gives '' lintian --allow-root --display-info --pedantic "$1" && dpkg-deb -f "$1" Package Version
 }
+step 'the program in the package' dpkg-deb -x "$packed"/utf8-repair_*.deb "$work/packed"
+step 'its runs over pipes, devices and a terminal' tests/cli/program "$work/packed/usr/bin/utf8_repair"
+step 'its runs over lines' tests/cli/lines "$work/packed/usr/bin/utf8_repair"
 for package in "$packed"/*.deb; do
     step "lintian of $(basename "$package")" is_clean "$package"
 done
