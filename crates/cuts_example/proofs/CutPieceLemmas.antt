@@ -4,7 +4,7 @@ use Rattle.std.proofs.lemmas.List.{flat_map_more}
 use Rattle.std.proofs.lemmas.List.Sums.{sum_by-cons}
 use Rattle.std.specs.List.{flat_map, sum_by, AllByRecursion, AllZip}
 use Rattle.encoding_runs.specs.Parts.{Part, Character, IllFormed, bytes_of, ArePartsOf}
-use Rattle.encoding_runs.proofs.Decomposition.DecompositionLemmas.{malformed_count-bytes}
+use Rattle.encoding_runs.proofs.DecompositionLemmas.{malformed_count-bytes}
 use Rattle.encoding_runs.specs.MalformedSequences.{malformed_indices}
 use Rattle.encoding_runs.specs.Repairs.{IsLossyDecodeWith}
 use Rattle.cuts_example.specs.declared.RepairedPiece.{RepairedPiece}

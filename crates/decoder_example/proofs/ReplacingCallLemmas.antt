@@ -10,11 +10,11 @@ use Rattle.encoding_text.specs.Prefixes.{WritesPrefix}
 use Rattle.encoding_text.specs.Converting.{FittingBegins}
 use Rattle.encoding_text.specs.Sequence.{IsIncomplete}
 use Rattle.encoding_text.specs.Parts.{malformed_count}
-use Rattle.encoding_text.proofs.Decomposition.PartsLemmas.{no_sequence_in_incomplete}
-use Rattle.encoding_text.proofs.Sequences.EncodingLemmas.{IsSequence-encode}
+use Rattle.encoding_text.proofs.PartsLemmas.{no_sequence_in_incomplete}
+use Rattle.encoding_text.proofs.EncodingLemmas.{IsSequence-encode}
 use Rattle.encoding_text.specs.Pending.{IsPending}
-use Rattle.encoding_text.proofs.Decomposition.DecompositionLemmas.{malformed_count-bytes}
-use Rattle.encoding_text.proofs.LongestPrefixes.PrefixesLemmas.{WritesPrefix-length, WritesPrefix_after}
+use Rattle.encoding_text.proofs.DecompositionLemmas.{malformed_count-bytes}
+use Rattle.encoding_text.proofs.PrefixesLemmas.{WritesPrefix-length, WritesPrefix_after}
 use borrow.Rule.Slice.PartMut.{put_mid}
 use Rattle.encoding_text.specs.Decoding.{IsMalformed, IsDecodeResult, DecodeStep}
 use Rattle.encoding_text.specs.declared.decoder.DecoderResult.{DecoderResult}

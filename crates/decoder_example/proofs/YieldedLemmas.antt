@@ -5,7 +5,7 @@ use Rattle.std.proofs.lemmas.Grind.{flat_map-append}
 use Rattle.std.specs.List.{flat_map}
 use Rattle.encoding_text.specs.Parts.{Part, Character, StartsWith, lossy_scalar, malformed_count}
 use Rattle.encoding_text.specs.Yielding.{Yields}
-use Rattle.encoding_text.proofs.Decomposition.DecompositionLemmas.{StartsWith-append, malformed_count-append, malformed_count-characters}
+use Rattle.encoding_text.proofs.DecompositionLemmas.{StartsWith-append, malformed_count-append, malformed_count-characters}
 use Rattle.encoding_text.specs.YieldedParts.{AreDecoded, IsReported}
 use Rattle.encoding_text.specs.declared.decoder.DecoderResult.{DecoderResult}
 use Rattle.encoding_text.specs.declared.decoder.DecoderResult.TheVariants.{InputEmpty, OutputFull, Malformed}

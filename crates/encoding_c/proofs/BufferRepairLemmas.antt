@@ -2,7 +2,7 @@
 use Rattle.std.proofs.Common.{◌≡◌, ◌≢◌, ℕ, ◌*◌, ◌<◌, ◌≤◌, List, [], ◌∷◌, length, refl, ap, arith, encode_utf8}
 use Rattle.std.proofs.lemmas.List.{length-append}
 use Rattle.encoding_definitions.specs.Parts.{Part, Character, IllFormed, ArePartsOf, lossy_utf8}
-use Rattle.encoding_definitions.proofs.Decomposition.PartsLemmas.{part_bytes}
+use Rattle.encoding_definitions.proofs.PartsLemmas.{part_bytes}
 use Rattle.encoding_runs.specs.Repairs.{IsLossyDecodeOf, IsProperPrefix}
 
 pub length-repaired : (bs : List ℕ) (parts : List Part) → ArePartsOf bs parts → length (lossy_utf8 parts) ≤ 3 * length bs

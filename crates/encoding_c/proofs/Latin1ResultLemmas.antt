@@ -3,8 +3,8 @@ use Rattle.std.proofs.Common.{◌≡◌, ℕ, ◌+◌, ◌≤◌, inl, inr, List
 use Rattle.std.proofs.lemmas.Bool.{cases_lt}
 use Rattle.std.proofs.lemmas.List.{take_all}
 use Rattle.encoding_definitions.specs.Prefixes.{IsLongestFittingPrefix}
-use Rattle.encoding_definitions.proofs.LongestPrefixes.FittingLemmas.{length-prefix}
-use Rattle.encoding_definitions.proofs.Sequences.EncodingLemmas.{flat_map-encode_utf8}
+use Rattle.encoding_definitions.proofs.FittingLemmas.{length-prefix}
+use Rattle.encoding_definitions.proofs.EncodingLemmas.{flat_map-encode_utf8}
 
 -- the longest prefix that fits is then all of it
 pub latin1_fits_all : (xs : List ℕ) (room read : ℕ) (out : List ℕ) → length (encode_utf8_all xs) ≤ room

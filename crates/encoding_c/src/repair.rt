@@ -8,7 +8,7 @@ ghost use Rattle.encoding_runs.specs.Repairs.{IsLossyDecodeWith};
 ghost use Rattle.encoding_runs.specs.Streams.{FailsOnNone, WriteMoves};
 
 use crate::status::INVALID_ARGUMENT;
-use encoding_kernels::strides::copy_prefix;
+use encoding_kernels::simd::copy::copy_prefix;
 use encoding_runs::repair::{Sink, repair_slice};
 
 /// The number of bytes written, and of malformed sequences replaced by U+FFFD.

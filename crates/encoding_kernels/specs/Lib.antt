@@ -1,10 +1,10 @@
 pub mod Following
-pub mod Places
-pub mod Strides
-pub mod Lanes
+pub mod Scans
+pub mod Bounds
+pub mod Vectors
 pub mod EncodeLanes
-pub mod Units
+pub mod EndingUnits
 pub mod SurrogatePairs
-pub mod BidiBlocks
-pub mod Pairs
+pub mod RightToLeft
+pub mod Neighbors
 pub mod Lengths

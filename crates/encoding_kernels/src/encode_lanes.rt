@@ -5,12 +5,12 @@ ghost use Rattle.std.specs.Prelude.{◌≡◌, ℕ, ◌+◌, ◌*◌, ◌<◌, �
 ghost use Rattle.std.specs.Simd.Lanes.{mask_l};
 ghost use Rattle.encoding_kernels.specs.EncodeLanes.{EncodesTo, Spills, spliced};
 
-use crate::compress_pairs::keep_pairs;
-use crate::strides::LANES;
+use crate::simd::compress_pairs::keep_pairs;
+use crate::simd::copy::LANES;
 use std::simd::prelude::*;
 
 /// Returns two bytes for each of eight code units: its UTF-8. A unit of one byte has an arbitrary second one.
-#[tactic(auto, using(crate::proofs::Lanes::EncodeLanesLemmas::words_spell))]
+#[tactic(auto, using(crate::proofs::EncodeLanesLemmas::words_spell))]
 #[inline(always)]
 fn both_bytes(units: u16x8) -> u8x16
     requires { (k : ℕ) → slice_index units k < 0x800 }
@@ -89,7 +89,7 @@ pub(crate) fn store_two(
 
 /// Stores the UTF-8 of twice eight code units below U+0800. Returns its length and the sixteen bytes that were after
 /// it, which may be changed.
-#[tactic(auto, using(crate::proofs::Lanes::SpillsLemmas::spills_spliced))]
+#[tactic(auto, using(crate::proofs::SpillsLemmas::spills_spliced))]
 #[inline(always)]
 pub(crate) fn store_two_byte(
     first: u16x8,
@@ -114,7 +114,7 @@ pub(crate) fn store_two_byte(
 }
 
 /// Returns whether each of the eight code units is from U+0800 on, and no surrogate.
-#[tactic(auto, using(crate::proofs::Lanes::LongLemmas::all_long))]
+#[tactic(auto, using(crate::proofs::LongLemmas::all_long))]
 #[inline(always)]
 pub(crate) fn are_three_byte(units: u16x8) -> bool
     ensures { IsTrue result → (k : ℕ) → k < 8 → (0x800 ≤ slice_index units k)
@@ -127,7 +127,7 @@ pub(crate) fn are_three_byte(units: u16x8) -> bool
 
 /// Returns the UTF-8 of eight code units from U+0800 on, three bytes for each, in two vectors. The first two bytes of
 /// each make a word and the last one another, so that no lane is wider than a code unit.
-#[tactic(auto, using(crate::proofs::Lanes::LongLemmas::long_spelled))]
+#[tactic(auto, using(crate::proofs::LongLemmas::long_spelled))]
 #[inline(always)]
 fn encode_three_byte(units: u16x8) -> (u8x16, u8x8)
     requires { (k : ℕ) → k < 8 → 0x800 ≤ slice_index units k }

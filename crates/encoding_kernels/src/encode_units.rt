@@ -7,14 +7,14 @@ ghost use Rattle.encoding_kernels.specs.EncodeLanes.{EncodesLast, length_classes
 
 use crate::compress_last::last_by;
 use crate::encode_lanes::{store_two, write_both};
-use crate::places::run_before;
+use crate::simd::scan::run_before;
 use std::simd::prelude::*;
 
 /// The least code unit whose UTF-8 has three bytes.
 const LONG: u16 = 0x800;
 
 /// Returns whether none of the eight code units is a surrogate.
-#[tactic(auto, using(crate::proofs::Lanes::PlainLemmas::all_plain))]
+#[tactic(auto, using(crate::proofs::PlainLemmas::all_plain))]
 #[inline(always)]
 pub(crate) fn are_non_surrogate(units: u16x8) -> bool
     ensures { IsTrue result → (k : ℕ) → k < 8 → (0xD800 ≤ slice_index units k) × (slice_index units k ≤ 0xDFFF) → ⊥ }

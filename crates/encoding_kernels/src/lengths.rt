@@ -7,7 +7,8 @@ ghost use Rattle.encoding_definitions.specs.Parts.{Part, ArePartsOf, lossy_utf16
 ghost use Rattle.encoding_definitions.specs.Utf16.{IsUtf8OfUnits};
 ghost use Rattle.encoding_kernels.specs.Lengths.{sum_over_suffixes, one_if_at_least, goes_second, continuations, continuations_by, extra_bytes, extra_bytes_by};
 
-use crate::strides::{ASCII_END, are_bytes_below};
+use crate::simd::bounds::are_bytes_below;
+use crate::simd::width::ASCII_END;
 
 /// The number of indices in a piece: a sum over them fits into a byte.
 const SUM_CHUNK: usize = 64;
@@ -19,7 +20,7 @@ const SHORT_SUM_CHUNK: usize = 16;
 const LEAST_LEAD: u8 = 0xC0;
 
 /// Counts those of the N bytes from `at` on that are at least `least`.
-#[tactic(auto, using(crate::proofs::Sums::TotalLemmas::from_next, crate::proofs::Sums::TotalLemmas::bool_byte_most))]
+#[tactic(auto, using(crate::proofs::TotalLemmas::from_next, crate::proofs::TotalLemmas::bool_byte_most))]
 #[inline(always)]
 fn piece_from<const N: usize>(bytes: &[u8], at: usize, least: u8) -> usize
     requires { (at + N ≤ length bytes.now) × (N ≤ 64) }
@@ -34,7 +35,7 @@ fn piece_from<const N: usize>(bytes: &[u8], at: usize, least: u8) -> usize
 }
 
 /// Counts the bytes that are at least `least`.
-#[tactic(auto, using(crate::proofs::Sums::TotalLemmas::from_next, crate::proofs::Sums::TotalLemmas::bool_byte_most, crate::proofs::Sums::TotalLemmas::total_end))]
+#[tactic(auto, using(crate::proofs::TotalLemmas::from_next, crate::proofs::TotalLemmas::bool_byte_most, crate::proofs::TotalLemmas::total_end))]
 #[inline(always)]
 fn count_from(bytes: &[u8], least: u8) -> usize
     ensures counted { result ≡ sum_over_suffixes (one_if_at_least least) bytes.now }
@@ -58,7 +59,7 @@ fn count_from(bytes: &[u8], least: u8) -> usize
 }
 
 /// Returns the length in bytes of the UTF-8 of the bytes as Latin1.
-#[tactic(auto, using(crate::proofs::Sums::TextSumLemmas::latin1_total))]
+#[tactic(auto, using(crate::proofs::TextSumLemmas::latin1_total))]
 pub fn utf8_length_of_latin1(bytes: &[u8]) -> usize
     ensures { result ≡ length (encode_utf8_all bytes.now) }
 {
@@ -66,7 +67,7 @@ pub fn utf8_length_of_latin1(bytes: &[u8]) -> usize
 }
 
 /// Returns the number of characters of Latin1 text in UTF-8.
-#[tactic(auto, using(crate::proofs::Sums::TextSumLemmas::chars_total))]
+#[tactic(auto, using(crate::proofs::TextSumLemmas::chars_total))]
 pub fn latin1_length_of_utf8(text: &[u8]) -> usize
     requires { IsUtf8Latin1 text.now }
     ensures { result ≡ length (chars text.now) }
@@ -101,7 +102,7 @@ fn joined_after(lead: u8, second: u8, third: u8) -> u8
 }
 
 /// Returns the sum over the N indices from `at` on.
-#[tactic(auto, using(crate::proofs::Sums::TotalLemmas::joined_next))]
+#[tactic(auto, using(crate::proofs::TotalLemmas::joined_next))]
 #[inline(always)]
 fn piece_joined<const N: usize>(bytes: &[u8], at: usize) -> usize
     requires { (at + N + 2 ≤ length bytes.now) × (N ≤ 64) }
@@ -124,7 +125,7 @@ fn byte_at(bytes: &[u8], at: usize) -> u8
 }
 
 /// Returns the sum over a piece from `at` on. It is zero for ASCII, which no byte continues.
-#[tactic(auto, using(crate::proofs::Sums::TotalLemmas::ascii_joined))]
+#[tactic(auto, using(crate::proofs::TotalLemmas::ascii_joined))]
 #[inline(always)]
 fn piece_joined_or_ascii(bytes: &[u8], at: usize) -> usize
     requires { at + 66 ≤ length bytes.now }
@@ -139,7 +140,7 @@ fn piece_joined_or_ascii(bytes: &[u8], at: usize) -> usize
 
 /// Counts the bytes that are the second or the third of a sequence that an earlier one begins. The fourth isn't
 /// counted, since a character of four bytes has two code units.
-#[tactic(auto, using(crate::proofs::Sums::TotalLemmas::joined_next, crate::proofs::Sums::TotalLemmas::total_end))]
+#[tactic(auto, using(crate::proofs::TotalLemmas::joined_next, crate::proofs::TotalLemmas::total_end))]
 #[inline(never)]
 fn count_joined(bytes: &[u8]) -> usize
     ensures { result ≡ sum_over_suffixes continuations bytes.now }
@@ -182,7 +183,7 @@ fn bytes_beyond(unit: u16, next: u16) -> u8
 }
 
 /// Returns the sum over the N indices from `at` on.
-#[tactic(auto, using(crate::proofs::Sums::TotalLemmas::beyond_next))]
+#[tactic(auto, using(crate::proofs::TotalLemmas::beyond_next))]
 #[inline(always)]
 fn piece_beyond<const N: usize>(units: &[u16], at: usize) -> usize
     requires { (at + N + 1 ≤ length units.now) × (N ≤ 64) }
@@ -205,7 +206,7 @@ fn unit_at(units: &[u16], at: usize) -> u16
 }
 
 /// Returns how many bytes the UTF-8 of the code units has beyond one for each.
-#[tactic(auto, using(crate::proofs::Sums::TotalLemmas::beyond_next, crate::proofs::Sums::TotalLemmas::total_end))]
+#[tactic(auto, using(crate::proofs::TotalLemmas::beyond_next, crate::proofs::TotalLemmas::total_end))]
 #[inline(never)]
 fn count_beyond(units: &[u16]) -> usize
     ensures counted { result ≡ sum_over_suffixes extra_bytes units.now }

@@ -5,9 +5,9 @@ ghost use Rattle.std.specs.Prelude.{◌≡◌, ℕ, ◌+◌, ◌*◌, ◌<◌, �
 ghost use Rattle.encoding_definitions.specs.Utf16.{IsHighSurrogate};
 ghost use Rattle.encoding_kernels.specs.SurrogatePairs.{AreTwoByteOrPaired, IsTwoByteOrHalf, EncodesHalf, half_bytes, concatenated, halves_from};
 
-use crate::compress_pairs::keep_pairs;
 use crate::encode_lanes::{mask_of_others, write_both};
-use crate::surrogates::{is_high_surrogate, is_low_surrogate};
+use crate::scalar::surrogates::{is_high_surrogate, is_low_surrogate};
+use crate::simd::compress_pairs::keep_pairs;
 use std::simd::prelude::*;
 
 /// Returns whether each of the sixteen code units from `at` on is below U+0800 or a half of a pair. The last pair may

@@ -6,15 +6,16 @@ ghost use Rattle.std.specs.Prelude.{◌≡◌, ◌↔◌, ◌+◌, ◌<◌, ◌�
 ghost use Rattle.encoding_definitions.specs.Prefixes.{WritesPrefix};
 ghost use Rattle.encoding_definitions.specs.Utf16.{IsUtf8OfPrefix};
 ghost use Rattle.encoding_kernels.specs.EncodeLanes.{AreBmpScalars, WritesBmp, spliced};
-ghost use Rattle.encoding_kernels.specs.Strides.{AllBelow};
+ghost use Rattle.encoding_kernels.specs.Bounds.{AllBelow};
 
 use crate::encode_lanes::{are_three_byte, store_three_byte, store_two_byte};
 use crate::encode_units::{
     are_non_surrogate, non_surrogate_prefix, store_sixteen, write_first_of_eight,
 };
-use crate::strides::{BASIC_LATIN_END, HALF_STRIDE, STRIDE, are_units_below};
+use crate::scalar::surrogates::is_surrogate;
+use crate::simd::bounds::are_units_below;
+use crate::simd::width::{BASIC_LATIN_END, HALF_STRIDE, STRIDE};
 use crate::surrogate_pairs::{are_two_byte_or_paired, write_two_byte_or_paired};
-use crate::surrogates::is_surrogate;
 use std::simd::prelude::*;
 
 /// The number of bytes that a block of sixteen code units may store, including those after it that are kept.

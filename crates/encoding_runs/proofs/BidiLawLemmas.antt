@@ -6,10 +6,10 @@ use Rattle.std.specs.List.{flat_map}
 use Rattle.std.specs.Str.{all_scalars}
 use Rattle.encoding_definitions.specs.Bidi.{IsRightToLeft, IsRightToLeftPart, IsBidiBytes, IsBidiUnits}
 use Rattle.encoding_definitions.specs.Utf16.{Character16}
-use Rattle.encoding_definitions.proofs.Bidi.BidiTextLemmas.{bidi_scalars}
-use Rattle.encoding_definitions.proofs.Bidi.BidiUnitsLemmas.{characters_bidi, bidi_characters}
-use Rattle.encoding_definitions.proofs.Conversions.Utf16LawLemmas.{parts-encode}
-use Rattle.encoding_definitions.proofs.CodeUnits.Utf16Lemmas.{parts_unique}
+use Rattle.encoding_definitions.proofs.BidiTextLemmas.{bidi_scalars}
+use Rattle.encoding_definitions.proofs.BidiUnitsLemmas.{characters_bidi, bidi_characters}
+use Rattle.encoding_definitions.proofs.Utf16LawLemmas.{parts-encode}
+use Rattle.encoding_definitions.proofs.Utf16Lemmas.{parts_unique}
 
 pub in_utf8 : (cs : List ℕ) → IsTrue (all_scalars cs) → Any IsRightToLeft cs ↔ IsBidiBytes (encode_utf8_all cs)
 in_utf8 cs s = (λ a. inr (cs, s, refl, a), back)

@@ -11,15 +11,15 @@ use Rattle.encoding_definitions.specs.Parts.{Part, Character, IllFormed, lossy_u
 use Rattle.encoding_definitions.specs.Pending.{IsPending}
 use Rattle.encoding_definitions.specs.Yielding.{Yields}
 use Rattle.encoding_definitions.specs.Prefixes.{WritesPrefix}
-use Rattle.encoding_definitions.proofs.LongestPrefixes.PrefixesLemmas.{WritesPrefix-same, WritesPrefix-length, WritesPrefix_after}
-use Rattle.encoding_definitions.proofs.Decomposition.DecompositionLemmas.{lossy_utf8-append, lossy_utf8-characters, malformed_count-append, malformed_count-characters}
-use Rattle.encoding_definitions.proofs.Sequences.EncodingLemmas.{flat_map-encode_utf8}
+use Rattle.encoding_definitions.proofs.PrefixesLemmas.{WritesPrefix-same, WritesPrefix-length, WritesPrefix_after}
+use Rattle.encoding_definitions.proofs.DecompositionLemmas.{lossy_utf8-append, lossy_utf8-characters, malformed_count-append, malformed_count-characters}
+use Rattle.encoding_definitions.proofs.EncodingLemmas.{flat_map-encode_utf8}
 use Rattle.encoding_text.specs.Decoding.{DecodeStepInto}
 use Rattle.encoding_text.specs.YieldedParts.{IsReported}
 use Rattle.encoding_text.specs.declared.decoder.DecoderResult.{DecoderResult}
 use Rattle.encoding_text.specs.declared.decoder.DecoderResult.TheVariants.{InputEmpty, OutputFull, Malformed}
-use Rattle.encoding_text.proofs.Calls.CallPartsLemmas.{decoded_yields}
-use Rattle.encoding_text.proofs.Calls.HasResultLemmas.{no_characters_pending}
+use Rattle.encoding_text.proofs.CallPartsLemmas.{decoded_yields}
+use Rattle.encoding_text.proofs.HasResultLemmas.{no_characters_pending}
 use Rattle.encoding_runs.specs.declared.repair.blocks.RepairedBlock.{RepairedBlock}
 use Rattle.encoding_runs.specs.Blocks.{IsBlockRepair, WantsSpace, RepairTheParts, replaced_in_all}
 use Rattle.encoding_runs.specs.Calls.{Call, IsChain, output_of}

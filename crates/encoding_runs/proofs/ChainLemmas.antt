@@ -10,7 +10,7 @@ use Rattle.encoding_definitions.specs.Yielding.{Yields}
 use Rattle.encoding_text.specs.Decoding.{DecodeStep}
 use Rattle.encoding_text.specs.declared.decoder.DecoderResult.{DecoderResult}
 use Rattle.encoding_text.specs.declared.decoder.DecoderResult.TheVariants.{InputEmpty}
-use Rattle.encoding_definitions.proofs.Decomposition.DecompositionLemmas.{StartsWith-append, StartsWith-bytes}
+use Rattle.encoding_definitions.proofs.DecompositionLemmas.{StartsWith-append, StartsWith-bytes}
 use Rattle.encoding_runs.specs.Calls.{CallRelation, Call, IsChain, read_in_all, pending_after, some_last}
 use Rattle.encoding_runs.specs.DecoderCalls.{AreYieldedInSequence, YieldTheParts}
 

@@ -7,9 +7,9 @@ use Rattle.std.proofs.lemmas.Bool.Decides.{nat_tests}
 use Rattle.encoding_definitions.specs.Sequence.{IsIncomplete}
 use Rattle.encoding_definitions.specs.Pending.{IsPending}
 use Rattle.encoding_definitions.specs.Parts.{Part, bytes_of, ArePartsOf, lossy_utf8, malformed_count, AreFinal}
-use Rattle.encoding_definitions.proofs.Sequences.SequenceLemmas.{HasOpenShape, HasOpenShape-IsIncomplete, second_more}
-use Rattle.encoding_definitions.proofs.Decomposition.PartsLemmas.{prefixes_nest}
-use Rattle.encoding_definitions.proofs.Decomposition.DecompositionLemmas.{StartsWith-append, StartsWith-bytes, same_parts, final_stay, final_prefix, lossy_utf8-append, malformed_count-append}
+use Rattle.encoding_definitions.proofs.SequenceLemmas.{HasOpenShape, HasOpenShape-IsIncomplete, second_more}
+use Rattle.encoding_definitions.proofs.PartsLemmas.{prefixes_nest}
+use Rattle.encoding_definitions.proofs.DecompositionLemmas.{StartsWith-append, StartsWith-bytes, same_parts, final_stay, final_prefix, lossy_utf8-append, malformed_count-append}
 
 -- the text of the final parts is a prefix of the repaired text of any continuation
 pub final_text : (bs rest more : List ℕ) (parts all : List Part) → AreFinal bs parts rest → ArePartsOf (bs ++ more) all

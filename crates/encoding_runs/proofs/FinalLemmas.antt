@@ -4,8 +4,8 @@ use Rattle.std.proofs.lemmas.List.{append-nil, append_assoc}
 use Rattle.encoding_definitions.specs.Sequence.{IsIncomplete}
 use Rattle.encoding_definitions.specs.Pending.{IsPending}
 use Rattle.encoding_definitions.specs.Parts.{Part, IllFormed, BeginsWithNoCharacter, StartsWith, AreFinal}
-use Rattle.encoding_definitions.proofs.Decomposition.PartsLemmas.{part_bytes}
-use Rattle.encoding_definitions.proofs.Decomposition.DecompositionLemmas.{StartsWith-append, final_stay, has_final}
+use Rattle.encoding_definitions.proofs.PartsLemmas.{part_bytes}
+use Rattle.encoding_definitions.proofs.DecompositionLemmas.{StartsWith-append, final_stay, has_final}
 use Rattle.encoding_runs.specs.Steps.Writing.{AreFirst}
 
 -- parts after parts

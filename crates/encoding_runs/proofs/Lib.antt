@@ -17,4 +17,6 @@ pub mod WholeTextLemmas
 pub mod MalformedLemmas
 pub mod BlockLemmas
 -- the lemmas on these terms
-pub use Rattle.encoding_definitions.proofs.Decomposition
+pub use Rattle.encoding_definitions.proofs.DecompositionLemmas
+pub use Rattle.encoding_definitions.proofs.LossyLemmas
+pub use Rattle.encoding_definitions.proofs.PartsLemmas

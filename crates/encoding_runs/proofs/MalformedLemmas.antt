@@ -8,14 +8,14 @@ use Rattle.std.proofs.lemmas.Str.{IsUtf8-append, encodes-chars, chars-encodes, e
 use Rattle.std.proofs.str.Laws.{scalars-append}
 use Rattle.encoding_definitions.specs.Prefixes.{IsLongestPrefix}
 use Rattle.encoding_definitions.specs.Parts.{Part, Character, IllFormed, IsFirstPart, StartsWith, ArePartsOf, malformed_count}
-use Rattle.encoding_definitions.proofs.Sequences.SequenceLemmas.{length-IsIncomplete}
-use Rattle.encoding_definitions.proofs.Decomposition.PartsLemmas.{part_bytes}
-use Rattle.encoding_definitions.proofs.Decomposition.DecompositionLemmas.{StartsWith-append, StartsWith-one, StartsWith-characters, parts_split, same_parts, malformed_count-append, malformed_count-characters}
+use Rattle.encoding_definitions.proofs.SequenceLemmas.{length-IsIncomplete}
+use Rattle.encoding_definitions.proofs.PartsLemmas.{part_bytes}
+use Rattle.encoding_definitions.proofs.DecompositionLemmas.{StartsWith-append, StartsWith-one, StartsWith-characters, parts_split, same_parts, malformed_count-append, malformed_count-characters}
 use Rattle.encoding_text.specs.Decoding.{IsMalformed, BorrowedDecodeStep}
 use Rattle.encoding_text.specs.declared.decoder.Piece.{Piece}
 use Rattle.encoding_text.specs.declared.decoder.Piece.TheVariants.{Text, Char, Malformed, InputEmpty}
-use Rattle.encoding_text.proofs.PrefixConversions.ConvertingLemmas.{cut_after}
-use Rattle.encoding_text.proofs.Calls.CallPartsLemmas.{malformed_first}
+use Rattle.encoding_text.proofs.ConvertingLemmas.{cut_after}
+use Rattle.encoding_text.proofs.CallPartsLemmas.{malformed_first}
 use Rattle.encoding_runs.specs.MalformedSequences.{IsNextMalformed, AreFoundInTurn, malformed_indices}
 
 -- ---- a few bytes determine what all would

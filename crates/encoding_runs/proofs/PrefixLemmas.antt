@@ -2,7 +2,7 @@
 use Rattle.std.proofs.Common.{◌≡◌, ℕ, List, [], length, refl, sym, ap, ◌∙◌, arith, subst}
 use Rattle.std.proofs.lemmas.List.{append-nil, take_all}
 use Rattle.encoding_definitions.specs.Parts.{Part, StartsWith, ArePartsOf, lossy_utf8}
-use Rattle.encoding_definitions.proofs.Decomposition.DecompositionLemmas.{has_final, parts_split, lossy_utf8-append}
+use Rattle.encoding_definitions.proofs.DecompositionLemmas.{has_final, parts_split, lossy_utf8-append}
 use Rattle.encoding_runs.specs.Repairs.{IsLossyDecodeOf, IsFinalText, IsPrefix, HoldsRounds}
 
 -- the text of the final parts of all bytes

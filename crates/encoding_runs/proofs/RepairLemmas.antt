@@ -7,14 +7,14 @@ use Rattle.std.specs.Str.{IsUtf8, chars}
 use Rattle.std.proofs.lemmas.Str.{encodes-chars}
 use lib.Utf8.{encode}
 use Rattle.encoding_definitions.specs.Pending.{IsPending}
-use Rattle.encoding_definitions.proofs.Sequences.SequenceLemmas.{length-IsIncomplete}
+use Rattle.encoding_definitions.proofs.SequenceLemmas.{length-IsIncomplete}
 use Rattle.encoding_definitions.specs.Parts.{Part, lossy_utf8, malformed_count}
 use Rattle.encoding_text.specs.Decoding.{BorrowedDecodeStep}
 use Rattle.encoding_text.specs.YieldedParts.{AreBorrowed}
 use Rattle.encoding_text.specs.declared.decoder.Piece.{Piece}
 use Rattle.encoding_text.specs.declared.decoder.Piece.TheVariants.{Text, Char, Malformed, InputEmpty}
-use Rattle.encoding_text.proofs.Calls.BorrowedLemmas.{borrowed_yields}
-use Rattle.encoding_definitions.proofs.Decomposition.DecompositionLemmas.{StartsWith-append, has_parts, lossy_utf8-append, lossy_utf8-characters, malformed_count-append, malformed_count-characters, malformed_count-bytes}
+use Rattle.encoding_text.proofs.BorrowedLemmas.{borrowed_yields}
+use Rattle.encoding_definitions.proofs.DecompositionLemmas.{StartsWith-append, has_parts, lossy_utf8-append, lossy_utf8-characters, malformed_count-append, malformed_count-characters, malformed_count-bytes}
 use Rattle.encoding_runs.specs.Repairs.{IsProperPrefix, WritesRepaired, Stops}
 use Rattle.encoding_runs.specs.Steps.Writing.{text_of, malformed_in, AreFirst, WritesParts, StopsInParts}
 use Rattle.encoding_runs.proofs.FinalLemmas.{AreFirst-trans, AreFirst-more}

@@ -5,9 +5,9 @@ use Rattle.std.specs.List.{flat_map}
 use Rattle.std.proofs.lemmas.List.{take-append-drop}
 use Rattle.std.proofs.lemmas.List.Concat.{flat_map-append}
 use Rattle.encoding_definitions.specs.Utf16.{Part16, units_of_part16, utf8_of_part16, scalar_of_part16, ArePartsOf16, IsUtf8OfLongestPrefix}
-use Rattle.encoding_definitions.proofs.CodeUnits.Utf16Lemmas.{parts_unique, rest_parts, none_left}
-use Rattle.encoding_definitions.proofs.Conversions.Utf16LawLemmas.{utf8_of_all}
-use Rattle.encoding_definitions.proofs.CodeUnits.FirstPartsLemmas.{first_fits}
+use Rattle.encoding_definitions.proofs.Utf16Lemmas.{parts_unique, rest_parts, none_left}
+use Rattle.encoding_definitions.proofs.Utf16LawLemmas.{utf8_of_all}
+use Rattle.encoding_definitions.proofs.FirstPartsLemmas.{first_fits}
 use Rattle.encoding_runs.specs.Repeats.{WritesInTurn}
 
 repeated : (rooms us out : List ℕ) (parts : List Part16) → ArePartsOf16 us parts → WritesInTurn us rooms out → out ≡ flat_map utf8_of_part16 parts

@@ -9,8 +9,8 @@ use Rattle.encoding_text.specs.Decoding.{DecodeStep}
 use Rattle.encoding_text.specs.declared.decoder.DecoderResult.{DecoderResult}
 use Rattle.encoding_text.specs.declared.decoder.DecoderResult.TheVariants.{InputEmpty, OutputFull, Malformed}
 use Rattle.encoding_text.specs.YieldedParts.{AreDecoded, IsReported}
-use Rattle.encoding_text.proofs.Calls.CallPartsLemmas.{decoded_yields}
-use Rattle.encoding_definitions.proofs.LongestPrefixes.PrefixesLemmas.{WritesPrefix-same}
+use Rattle.encoding_text.proofs.CallPartsLemmas.{decoded_yields}
+use Rattle.encoding_definitions.proofs.PrefixesLemmas.{WritesPrefix-same}
 use Rattle.encoding_runs.specs.declared.run.turns.Turn.{Turn}
 use Rattle.encoding_runs.specs.declared.run.decoding.Report.{Report}
 use Rattle.encoding_runs.specs.declared.run.decoding.Outcome.{Outcome}

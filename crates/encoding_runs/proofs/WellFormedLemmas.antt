@@ -5,7 +5,7 @@ use Rattle.std.specs.Str.{IsUtf8}
 use Rattle.std.proofs.lemmas.List.{append-nil}
 use Rattle.std.proofs.lemmas.Str.{IsUtf8-nil, IsUtf8-append, IsUtf8-encode}
 use Rattle.encoding_definitions.specs.Parts.{Part, Character, IllFormed, StartsWith, ArePartsOf, bytes_of, lossy_utf8, malformed_count}
-use Rattle.encoding_definitions.proofs.Decomposition.DecompositionLemmas.{StartsWith-characters, same_parts, parts-bytes, malformed_count-characters}
+use Rattle.encoding_definitions.proofs.DecompositionLemmas.{StartsWith-characters, same_parts, parts-bytes, malformed_count-characters}
 
 none_malformed : (bs : List ℕ) (parts : List Part) → ArePartsOf bs parts → IsUtf8 bs → malformed_count parts ≡ 0
 none_malformed bs parts are (cs, (scalars, spelled)) =

@@ -7,16 +7,16 @@ use Rattle.std.proofs.lemmas.List.{append-nil, take_all}
 use Rattle.std.proofs.lemmas.Str.{encodes-chars, scalars-chars}
 use Rattle.encoding_definitions.specs.Pending.{IsPending}
 use Rattle.encoding_definitions.specs.Parts.{malformed_count}
-use Rattle.encoding_definitions.proofs.Sequences.EncodingLemmas.{length-utf16, flat_map-encode_utf8}
-use Rattle.encoding_definitions.proofs.Decomposition.DecompositionLemmas.{has_parts, parts_split, malformed_count-append}
+use Rattle.encoding_definitions.proofs.EncodingLemmas.{length-utf16, flat_map-encode_utf8}
+use Rattle.encoding_definitions.proofs.DecompositionLemmas.{has_parts, parts_split, malformed_count-append}
 use Rattle.encoding_text.specs.Decoding.{DecodeStep, BorrowedDecodeStep}
 use Rattle.encoding_text.specs.declared.decoder.DecoderResult.{DecoderResult}
 use Rattle.encoding_text.specs.declared.decoder.DecoderResult.TheVariants as result
 use Rattle.encoding_text.specs.declared.decoder.Piece.{Piece}
 use Rattle.encoding_text.specs.declared.decoder.Piece.TheVariants.{Text, Char, Malformed, InputEmpty}
-use Rattle.encoding_text.proofs.Calls.BorrowedLemmas.{borrowed_yields}
-use Rattle.encoding_text.proofs.Calls.HasResultLemmas.{no_characters_pending}
-use Rattle.encoding_text.proofs.Calls.OneResultLemmas.{one_result}
+use Rattle.encoding_text.proofs.BorrowedLemmas.{borrowed_yields}
+use Rattle.encoding_text.proofs.HasResultLemmas.{no_characters_pending}
+use Rattle.encoding_text.proofs.OneResultLemmas.{one_result}
 use Rattle.encoding_runs.specs.MixedCalls.{Form, ToUtf16, ToUtf8, Borrowed, CallResult, Decoded, Handed, MixedDecodeStep, TextFits, HasQueriedLength, IsWholePiece, ReadsText}
 use Rattle.encoding_runs.proofs.WellFormedLemmas.{well_formed}
 

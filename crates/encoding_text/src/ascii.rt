@@ -5,12 +5,17 @@ ghost use Rattle.std.specs.Prelude.{◌≤◌, take, length};
 ghost use Rattle.std.specs.Str.{IsAscii, IsUtf8};
 ghost use Rattle.encoding_definitions.specs.Ascii.{IsFirstOther, prefix_length_by, IsIso2022JpAscii};
 ghost use Rattle.encoding_definitions.specs.Prefixes.{IsLongestPrefix, WritesPrefix};
-ghost use Rattle.encoding_kernels.specs.Units.{WritesUtf16, units_in};
+ghost use Rattle.encoding_kernels.specs.EndingUnits.{WritesUtf16, units_in};
 
-use encoding_kernels::strides::{
+use encoding_kernels::ascii::copy::{
+    copy_first, copy_part, pack_first, pack_part, unpack_first, unpack_part,
+};
+use encoding_kernels::simd::bounds::{
+    are_bytes_below, are_four_blocks_below, are_units_below, run_len_below, units_run_len_below,
+};
+use encoding_kernels::simd::copy::unpack;
+use encoding_kernels::simd::width::{
     ASCII_END, BASIC_LATIN_END, BLOCK, FOUR, FOUR_BLOCKS, SIXTEEN, STRIDE, UNIT_BLOCK,
-    are_bytes_below, are_four_blocks_below, are_units_below, copy_first, copy_part, pack_first,
-    pack_part, run_len_below, units_run_len_below, unpack, unpack_first, unpack_part,
 };
 use std::simd::prelude::*;
 

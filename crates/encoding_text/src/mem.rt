@@ -4,13 +4,13 @@ mod bidi;
 mod borrowed;
 mod checks;
 mod copies;
-mod from_utf16;
 mod latin1;
 mod lengths;
 mod surrogates;
 mod text_destinations;
 mod to_utf16;
 
+pub use crate::utf_8::from_utf16::{convert_utf16_to_utf8, convert_utf16_to_utf8_partial};
 pub use bidi::{
     Latin1Bidi, check_str_for_latin1_and_bidi, check_utf8_for_latin1_and_bidi,
     check_utf16_for_latin1_and_bidi, is_char_bidi, is_str_bidi, is_utf8_bidi, is_utf16_bidi,
@@ -22,7 +22,6 @@ pub use checks::{
     utf8_latin1_up_to,
 };
 pub use copies::{copy_ascii_to_ascii, copy_ascii_to_basic_latin, copy_basic_latin_to_ascii};
-pub use from_utf16::{convert_utf16_to_utf8, convert_utf16_to_utf8_partial};
 pub use latin1::{
     convert_latin1_to_utf8, convert_latin1_to_utf8_partial, convert_latin1_to_utf16,
     convert_utf8_to_latin1, convert_utf8_to_latin1_lossy, convert_utf16_to_latin1_lossy,

@@ -1,14 +1,14 @@
 //! UTF-8: Unicode Standard, section 3.9, and Encoding Standard, section 8.1.
-mod decoding;
 mod encoder;
-pub(crate) mod encoding;
+pub(crate) mod from_utf16;
 mod table;
+mod to_utf16;
 mod validation;
 
-pub use decoding::convert_utf8_to_utf16_up_to_invalid;
-pub(crate) use decoding::{CodeUnit, convert_text};
 pub use encoder::{EncoderResult, Utf8Encoder};
-pub use encoding::{convert_utf16_to_utf8_partial_inner, convert_utf16_to_utf8_partial_tail};
+pub use from_utf16::{convert_utf16_to_utf8_partial_inner, convert_utf16_to_utf8_partial_tail};
 pub use table::{UTF8_DATA, Utf8Data, law_table};
+pub use to_utf16::convert_utf8_to_utf16_up_to_invalid;
+pub(crate) use to_utf16::{CodeUnit, convert_text};
 pub(crate) use validation::character_length;
 pub use validation::utf8_valid_up_to;

@@ -9,7 +9,7 @@ use Rattle.std.proofs.lemmas.List.{take_at, take_more, drop_all, drop-drop, flat
 use Rattle.encoding_text.specs.Parts.{Part, Character, StartsWith, lossy_scalar, lossy_utf16}
 use Rattle.encoding_text.specs.Yielding.{Yields}
 use Rattle.encoding_text.specs.Pending.{IsPending}
-use Rattle.encoding_text.proofs.Decomposition.DecompositionLemmas.{StartsWith-append}
+use Rattle.encoding_text.proofs.DecompositionLemmas.{StartsWith-append}
 use Rattle.encoding_text.specs.Decoding.{BorrowedDecodeStep, DecodeStepInto, max_utf16_length}
 use Rattle.encoding_text.specs.YieldedParts.{AreBorrowed}
 use Rattle.encoding_text.specs.declared.decoder.DecoderResult.{DecoderResult}

@@ -9,7 +9,7 @@ use Rattle.std.proofs.lemmas.Str.{encodes-chars, scalars-chars}
 use lib.Utf8.{scalar}
 use Rattle.encoding_text.specs.Parts.{Part, Character, IllFormed, StartsWith, ArePartsOf, lossy_scalar, lossy_utf8, lossy_utf16}
 use Rattle.encoding_text.specs.Utf16.{Part16, ArePartsOf16, scalar_of_part16, IsUtf8OfUnits}
-use Rattle.encoding_text.proofs.Decomposition.DecompositionLemmas.{StartsWith-characters}
+use Rattle.encoding_text.proofs.DecompositionLemmas.{StartsWith-characters}
 use Rattle.engine_example.proofs.EnginePieceLemmas.{utf16-characters}
 
 repaired_scalars : (bs : List ℕ) (parts : List Part) (rest : List ℕ) → StartsWith bs parts rest → all_scalars (map lossy_scalar parts) ≡ true

@@ -5,7 +5,7 @@ use Rattle.std.proofs.lemmas.List.{map-append, map_more, take_rest, length-take-
 use Rattle.std.proofs.lemmas.Str.{encodes-append, encodes-IsAscii}
 use borrow.Rule.Slice.PartMut.{put_mid}
 use Rattle.encoding_text.specs.Prefixes.{WritesPrefix}
-use Rattle.encoding_text.proofs.LongestPrefixes.PrefixesLemmas.{WritesPrefix-length, WritesPrefix-same, WritesPrefix_after}
+use Rattle.encoding_text.proofs.PrefixesLemmas.{WritesPrefix-length, WritesPrefix-same, WritesPrefix_after}
 use Rattle.legacy_example.specs.Windows1252.{scalar_of, AreBytes}
 use Rattle.legacy_example.proofs.IndexLemmas.{ascii_same, bytes_within}
 

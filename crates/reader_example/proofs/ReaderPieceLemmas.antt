@@ -8,7 +8,7 @@ use Rattle.std.specs.Str.{IsUtf8, all_scalars, chars}
 use Rattle.encoding_text.specs.Sequence.{IsSequence}
 use Rattle.encoding_text.specs.Parts.{Part, lossy_utf8}
 use Rattle.encoding_text.specs.Yielding.{Yields}
-use Rattle.encoding_text.proofs.Decomposition.DecompositionLemmas.{lossy_utf8-characters}
+use Rattle.encoding_text.proofs.DecompositionLemmas.{lossy_utf8-characters}
 use Rattle.encoding_text.specs.Decoding.{BorrowedDecodeStep}
 use Rattle.encoding_text.specs.YieldedParts.{AreBorrowed}
 use Rattle.encoding_text.specs.declared.decoder.Piece.{Piece}

@@ -6,7 +6,7 @@ use Rattle.std.specs.Str.Lossy.{utf8_lossy}
 use Rattle.std.specs.Io.KnownBytes.{Consumes, IsAtEnd, Keeps}
 use Rattle.encoding_text.specs.Parts.{Part, StartsWith, ArePartsOf, lossy_utf8, lossy_scalar}
 use Rattle.encoding_text.specs.Yielding.{Yields}
-use Rattle.encoding_text.proofs.Decomposition.DecompositionLemmas.{StartsWith-append, lossy_utf8-append}
+use Rattle.encoding_text.proofs.DecompositionLemmas.{StartsWith-append, lossy_utf8-append}
 use Rattle.decoder_example.proofs.YieldedLemmas.{first_parts}
 use Rattle.reader_example.specs.Reading.{text_from}
 

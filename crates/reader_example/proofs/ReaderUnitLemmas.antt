@@ -11,8 +11,8 @@ use Rattle.std.specs.Io.KnownBytes.{Consumes, IsAtEnd, Keeps}
 use Rattle.encoding_text.specs.Sequence.{IsSequence}
 use Rattle.encoding_text.specs.Surrogates.{IsValidUtf16}
 use Rattle.encoding_text.specs.Utf16.{Character16, ArePartsOf16}
-use Rattle.encoding_text.proofs.Sequences.SequenceLemmas.{length-IsSequence}
-use Rattle.encoding_text.proofs.Surrogates.SurrogateLemmas.{valid-encode}
+use Rattle.encoding_text.proofs.SequenceLemmas.{length-IsSequence}
+use Rattle.encoding_text.proofs.SurrogateLemmas.{valid-encode}
 use Rattle.reader_example.specs.Reading.{YieldsCharacters, IsUtf16Character, units_from}
 
 abbrev pub utf16_of : List ℕ → List ℕ

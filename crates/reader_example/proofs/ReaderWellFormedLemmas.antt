@@ -8,8 +8,8 @@ use Rattle.std.proofs.lemmas.Bool.{both_ways}
 use Rattle.std.proofs.lemmas.List.{take_at, drop_at}
 use Rattle.encoding_text.specs.Pending.{IsPending}
 use Rattle.encoding_text.specs.Parts.{Part, Character, IllFormed, ArePartsOf, bytes_of, lossy_utf8, malformed_count}
-use Rattle.encoding_text.proofs.Bidi.AnyLemmas.{Any-here, Any-there}
-use Rattle.encoding_text.proofs.Decomposition.DecompositionLemmas.{StartsWith-append, StartsWith-bytes, malformed_count-append}
+use Rattle.encoding_text.proofs.AnyLemmas.{Any-here, Any-there}
+use Rattle.encoding_text.proofs.DecompositionLemmas.{StartsWith-append, StartsWith-bytes, malformed_count-append}
 use Rattle.encoding_runs.specs.Blocks.{IsBlockRepair, RepairTheParts, replaced_in_all}
 use Rattle.encoding_runs.specs.Calls.{Call, IsChain, output_of}
 use Rattle.encoding_runs.specs.Repairs.{IsLossyDecodeWith}

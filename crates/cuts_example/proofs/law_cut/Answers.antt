@@ -1,7 +1,7 @@
 use Rattle.std.proofs.Common.{◌≡◌, ℕ, List, [], ◌++◌, length, inl, inr, ap, subst, arith}
 use Rattle.std.proofs.lemmas.List.{nil_from_length}
 use Rattle.encoding_runs.specs.Parts.{Part, ArePartsOf, AreFinal}
-use Rattle.encoding_runs.proofs.Decomposition.DecompositionLemmas.{malformed_count-bytes}
+use Rattle.encoding_runs.proofs.DecompositionLemmas.{malformed_count-bytes}
 use Rattle.cuts_example.specs.Cuts.{MayBeCutAfter}
 use Rattle.cuts_example.proofs.CutPieceLemmas.{malformed_after}
 use Rattle.cuts_example.proofs.law_cut.Goals as goal

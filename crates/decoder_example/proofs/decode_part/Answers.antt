@@ -2,7 +2,7 @@ use Rattle.std.proofs.Common.{◌≡◌, ◌≢◌, ◌≤◌, true, [], length,
 use Rattle.std.proofs.lemmas.Bool.{both_ways}
 use Rattle.std.proofs.lemmas.Bool.Decides.{nat_tests}
 use Rattle.std.proofs.lemmas.List.{take_rest, length-drop}
-use Rattle.encoding_text.proofs.LongestPrefixes.PrefixesLemmas.{WritesPrefix-length}
+use Rattle.encoding_text.proofs.PrefixesLemmas.{WritesPrefix-length}
 use Rattle.decoder_example.proofs.YieldedLemmas.{written_for, is_report}
 use Rattle.decoder_example.proofs.ReplacingCallLemmas.{Writes_whole, Writes_replaced, replacement_fits}
 use Rattle.decoder_example.proofs.decode_part.Goals.{else-last-via-then-last+then-is_empty+then-dst-replacement+else-not-in_neutral_state, else-last-via-then-last+then-is_empty+else-dst-replacement, else-last-via-then-last+else-is_empty, else-last-via-else-last}

@@ -8,8 +8,9 @@ ghost use Rattle.encoding_text.specs.Decoding.{BorrowedDecodeStep};
 use super::pending::{Pending, Resumed, is_malformed_byte};
 use super::{DecoderResult, Piece};
 use crate::utf_8::utf8_valid_up_to;
-use encoding_kernels::scalars::decode_utf8_scalar;
-use encoding_kernels::strides::{ASCII_END, STRIDE, run_len_below};
+use encoding_kernels::scalar::value::decode_utf8_scalar;
+use encoding_kernels::simd::bounds::run_len_below;
+use encoding_kernels::simd::width::{ASCII_END, STRIDE};
 
 /// Returns the piece for what ended a call without output.
 fn piece_at_end<'a>(end: DecoderResult) -> Piece<'a>

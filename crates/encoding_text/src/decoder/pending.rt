@@ -7,7 +7,7 @@ ghost use Rattle.encoding_text.specs.Decoding.{IsMalformed};
 ghost use Rattle.encoding_text.specs.Steps.Resuming.{GoesOn};
 
 use super::DecoderResult;
-use encoding_kernels::sequence::{
+use encoding_kernels::scalar::sequence::{
     begins_several, is_continuation, is_lead_with_continuation, is_second, sequence_length,
 };
 use std::marker::Model;

@@ -8,14 +8,15 @@ ghost use Rattle.encoding_definitions.specs.Latin1.{IsLatin1, IsUtf8Latin1};
 ghost use Rattle.encoding_definitions.specs.Sequence.{IsSequence};
 ghost use Rattle.encoding_definitions.specs.Bidi.{IsRightToLeft, IsRightToLeftUnit, IsBidiUnits, IsBidiText, IsBidiBytes};
 ghost use Rattle.encoding_text.specs.Classes.{Classifies};
-ghost use Rattle.encoding_kernels.specs.BidiBlocks.{rtl_second_end, rtl_mark_lead, RtlAt, NoRtlIn};
+ghost use Rattle.encoding_kernels.specs.RightToLeft.{rtl_second_end, rtl_mark_lead, RtlAt, NoRtlIn};
 
 use super::checks::{LATIN1_END, str_latin1_up_to, utf8_latin1_up_to};
 use crate::ascii::ascii_valid_up_to;
 use crate::utf_8::{character_length, utf8_valid_up_to};
-use encoding_kernels::bidi_blocks::{FIRST_LEAD, FIRST_UNIT, skip_clear, skip_clear_units};
-use encoding_kernels::scalars::decode_utf8_scalar;
-use encoding_kernels::strides::{STRIDE, UNIT_STRIDE, prefix_len_below, units_prefix_len_below};
+use encoding_kernels::ascii::prefix::{prefix_len_below, units_prefix_len_below};
+use encoding_kernels::bidi::{FIRST_LEAD, FIRST_UNIT, skip_clear, skip_clear_units};
+use encoding_kernels::scalar::value::decode_utf8_scalar;
+use encoding_kernels::simd::width::{STRIDE, UNIT_STRIDE};
 
 /// The first right-to-left scalar value.
 const FIRST: u32 = 0x0590;

@@ -4,15 +4,17 @@ ghost use Rattle.std.specs.Prelude.{◌<◌, ◌≤◌, ◌↔◌, length, take,
 ghost use Rattle.std.specs.Str.{IsAscii};
 ghost use Rattle.encoding_definitions.specs.Prefixes.{IsLongestPrefix};
 ghost use Rattle.encoding_definitions.specs.Latin1.{IsLatin1, IsUtf8Latin1};
-ghost use Rattle.encoding_kernels.specs.Strides.{BelowUpTo};
+ghost use Rattle.encoding_kernels.specs.Bounds.{BelowUpTo};
 
 use crate::ascii::ascii_valid_up_to;
-use encoding_kernels::pair_blocks::{BEYOND_LATIN1, latin1_blocks};
-use encoding_kernels::sequence::is_continuation;
-use encoding_kernels::strides::{
+use encoding_kernels::ascii::prefix::{prefix_after_stride, prefix_len_below};
+use encoding_kernels::latin1::validate::{BEYOND_LATIN1, latin1_blocks};
+use encoding_kernels::scalar::sequence::is_continuation;
+use encoding_kernels::simd::bounds::{
+    are_bytes_below, are_four_blocks_below, are_units_below, run_len_below,
+};
+use encoding_kernels::simd::width::{
     ASCII_END, BASIC_LATIN_END, BLOCK, FOUR, FOUR_BLOCKS, SIXTEEN, STRIDE, UNIT_BLOCK,
-    are_bytes_below, are_four_blocks_below, are_units_below, prefix_after_stride, prefix_len_below,
-    run_len_below,
 };
 
 /// The least UTF-16 code unit that isn't Latin1.
@@ -170,7 +172,7 @@ fn ascii_prefix_len(bytes: &[u8], from: usize) -> usize
 }
 
 /// Returns the length of a prefix that is Latin1 in UTF-8: an ASCII prefix, known up to `from`, and whole blocks.
-#[tactic(auto, using(encoding_kernels::proofs::Paired::PairsLemmas::ascii_latin1))]
+#[tactic(auto, using(encoding_kernels::proofs::PairsLemmas::ascii_latin1))]
 #[inline(always)]
 fn latin1_prefix_len(bytes: &[u8], from: usize) -> usize
     requires { (from ≤ length bytes.now) × BelowUpTo 0x80 bytes.now from }

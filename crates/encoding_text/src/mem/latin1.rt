@@ -5,14 +5,15 @@ ghost use Rattle.std.specs.Prelude.{◌≡◌, ◌+◌, ◌*◌, ◌%◌, ◌<�
 ghost use Rattle.std.specs.Str.{IsAscii, chars};
 ghost use Rattle.encoding_definitions.specs.Prefixes.{IsLongestFittingPrefix, WritesPrefix};
 ghost use Rattle.encoding_definitions.specs.Latin1.{IsUtf8Latin1};
-ghost use Rattle.encoding_kernels.specs.Strides.{AllBelow};
+ghost use Rattle.encoding_kernels.specs.Bounds.{AllBelow};
 
 use crate::ascii;
-use encoding_kernels::latin1_to_utf8::write_latin1;
-use encoding_kernels::strides::{
-    ASCII_END, BLOCK, STRIDE, are_bytes_below, pack_lower, unpack_part, write_first,
-};
-use encoding_kernels::utf8_to_latin1::latin1_of;
+use encoding_kernels::ascii::copy::unpack_part;
+use encoding_kernels::latin1::from_utf8::latin1_of;
+use encoding_kernels::latin1::to_utf8::write_latin1;
+use encoding_kernels::simd::bounds::are_bytes_below;
+use encoding_kernels::simd::copy::{pack_lower, write_first};
+use encoding_kernels::simd::width::{ASCII_END, BLOCK, STRIDE};
 use std::simd::prelude::*;
 
 /// The length in UTF-8 of a character from U+0080 to U+00FF.
@@ -179,7 +180,7 @@ pub fn convert_utf8_to_latin1(src: &[u8], dst: &mut [u8]) -> usize
 
 /// Writes the scalar value of each character of Latin1 text in UTF-8 as a byte, and returns how many bytes it wrote.
 /// `dst` is at least as long as `src`.
-#[tactic(auto, using(encoding_kernels::proofs::Sums::TextSumLemmas::chars_total))]
+#[tactic(auto, using(encoding_kernels::proofs::TextSumLemmas::chars_total))]
 pub fn convert_utf8_to_latin1_lossy(src: &[u8], dst: &mut [u8]) -> usize
     requires dst_length { length src.now ≤ length dst.old }
     requires latin1 { IsUtf8Latin1 src.now }

@@ -6,10 +6,9 @@ ghost use Rattle.encoding_definitions.specs.Clearing.{cleared_prefix, WritesAndC
 ghost use Rattle.encoding_definitions.specs.Prefixes.{IsLongestFittingPrefix};
 ghost use Rattle.encoding_definitions.specs.Utf16.{IsUtf8OfLongestPrefix, IsUtf8OfUnits};
 
-use crate::mem::from_utf16::convert_utf16_to_utf8;
 use crate::mem::latin1::{convert_latin1_to_utf8, convert_latin1_to_utf8_partial};
-use crate::utf_8::encoding::convert_utf16_to_utf8_partial;
-use encoding_kernels::sequence::is_continuation;
+use crate::utf_8::from_utf16::{convert_utf16_to_utf8, convert_utf16_to_utf8_partial};
+use encoding_kernels::scalar::sequence::is_continuation;
 
 /// How many bytes after the output the conversions from Latin1 always set to zero.
 const LATIN1_ZEROS: usize = 16;

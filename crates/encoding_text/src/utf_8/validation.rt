@@ -7,9 +7,9 @@ ghost use Rattle.encoding_definitions.specs.Prefixes.{IsLongestPrefix};
 
 use crate::ascii::ascii_valid_up_to_by_block;
 use crate::utf_8::table::{UTF8_DATA, law_table};
-use encoding_kernels::blocks::well_formed_blocks;
-use encoding_kernels::sequence::{is_continuation, is_second};
-use encoding_kernels::strides::STRIDE;
+use encoding_kernels::scalar::sequence::{is_continuation, is_second};
+use encoding_kernels::simd::width::STRIDE;
+use encoding_kernels::utf8::validate::well_formed_blocks;
 
 /// Returns whether three bytes are one character, for a first byte that starts no character of one, two or four.
 #[inline(always)]

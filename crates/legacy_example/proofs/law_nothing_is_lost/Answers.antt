@@ -7,7 +7,7 @@ use Rattle.std.proofs.lemmas.List.FromFn.{get_or-map-range_with_len}
 use Rattle.std.proofs.lemmas.Str.{length-encode, len_utf8_bounds}
 use lib.Utf8.{low_scalar}
 use Rattle.encoding_text.specs.Sequence.{IsSequence}
-use Rattle.encoding_text.proofs.Decomposition.PartsLemmas.{prefixes_nest}
+use Rattle.encoding_text.proofs.PartsLemmas.{prefixes_nest}
 use Rattle.legacy_example.specs.Windows1252.{index, scalar_of, AreBytes}
 use Rattle.legacy_example.proofs.IndexLemmas.{high, scalar_low, scalar_below}
 use Rattle.legacy_example.proofs.law_nothing_is_lost.Goals as goal

@@ -1,6 +1,6 @@
 use Rattle.std.proofs.Common.{◌≡◌, ◌+◌, ◌<◌, ◌++◌, [], ◌∷◌, length, take, map, arith, ap, ◌∙◌, refl}
 use Rattle.std.proofs.lemmas.List.{take_all}
-use Rattle.encoding_text.proofs.LongestPrefixes.PrefixesLemmas.{WritesPrefix-length, WritesPrefix-same, WritesPrefix_push}
+use Rattle.encoding_text.proofs.PrefixesLemmas.{WritesPrefix-length, WritesPrefix-same, WritesPrefix_push}
 use Rattle.legacy_example.specs.Windows1252.{scalar_of}
 use Rattle.legacy_example.proofs.IndexLemmas.{units_are}
 use Rattle.legacy_example.proofs.WritingLemmas.{units_run, byte_after}

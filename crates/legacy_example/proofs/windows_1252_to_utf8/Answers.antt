@@ -1,6 +1,6 @@
 use Rattle.std.proofs.Common.{◌≡◌, ◌+◌, ◌-◌, ◌<◌, ◌++◌, [], ◌∷◌, length, take, drop, map, slice_index, encode_utf8_all, arith, ap, ◌∙◌, refl}
 use Rattle.std.proofs.lemmas.List.{take_all, length-take, length-drop}
-use Rattle.encoding_text.proofs.LongestPrefixes.PrefixesLemmas.{WritesPrefix-same, WritesPrefix_after}
+use Rattle.encoding_text.proofs.PrefixesLemmas.{WritesPrefix-same, WritesPrefix_after}
 use Rattle.legacy_example.specs.Windows1252.{scalar_of}
 use Rattle.legacy_example.proofs.IndexLemmas.{one_written, scalar_below}
 use Rattle.legacy_example.proofs.WritingLemmas.{ascii_bytes, bytes_run, byte_bytes_after, room_left}

@@ -3,7 +3,7 @@ ghost use Rattle.std.specs.Prelude.{◌≡◌, ℕ, ◌-◌, ◌<◌, ◌≤◌,
 ghost use Rattle.std.specs.Bool.{IsFalse};
 ghost use Rattle.std.specs.Io.KnownBytes.{Keeps, IsAtEnd, append_known, prepend_known};
 
-use encoding_kernels::strides::copy_prefix;
+use encoding_kernels::simd::copy::copy_prefix;
 use std::io::{self, Error, ErrorKind, Read, Write};
 use std::marker::Model;
 

@@ -1,7 +1,7 @@
 use Rattle.std.proofs.Common.{map, ◌∙◌}
 use Rattle.std.specs.Prelude.{nat_le}
 use Rattle.std.proofs.lemmas.List.{length-map}
-use Rattle.encoding_kernels.proofs.Lanes.EncodeLanesLemmas.{spelled_short}
+use Rattle.encoding_kernels.proofs.EncodeLanesLemmas.{spelled_short}
 use Rattle.encoding_kernels.proofs.encode_lanes.encode_two_byte.Goals as goal
 
 pub returns-clause-spelled : goal.returns-clause-spelled

@@ -1,5 +1,5 @@
 use Rattle.std.proofs.Common.{w16, arith}
-use Rattle.encoding_kernels.proofs.Lanes.EncodeLanesLemmas.{mask_from}
+use Rattle.encoding_kernels.proofs.EncodeLanesLemmas.{mask_from}
 use Rattle.encoding_kernels.proofs.encode_lanes.mask_of_others.Goals as goal
 
 pub returns-clause-mask : goal.returns-clause-mask

@@ -1,5 +1,5 @@
 use Rattle.std.proofs.Common.{◌+◌, arith}
-use Rattle.encoding_kernels.proofs.Lanes.SpillsLemmas.{exact_spills, spills_then, spills_spliced}
+use Rattle.encoding_kernels.proofs.SpillsLemmas.{exact_spills, spills_then, spills_spliced}
 use Rattle.encoding_kernels.proofs.encode_lanes.store_three_byte.Goals as goal
 
 pub returns-clause-written : goal.returns-clause-written

@@ -1,5 +1,5 @@
 use Rattle.std.proofs.Common.{arith}
-use Rattle.encoding_kernels.proofs.Lanes.SpillsLemmas.{store_spills, spills_then}
+use Rattle.encoding_kernels.proofs.SpillsLemmas.{store_spills, spills_then}
 use Rattle.encoding_kernels.proofs.encode_lanes.store_two.Goals as goal
 
 pub returns : goal.returns

@@ -1,5 +1,5 @@
 use Rattle.std.proofs.Common.{◌∙◌, ◌++◌, ◌+◌, drop, take, ap}
-use Rattle.encoding_kernels.proofs.Lanes.LongLemmas.{two_puts}
+use Rattle.encoding_kernels.proofs.LongLemmas.{two_puts}
 use Rattle.encoding_kernels.proofs.encode_lanes.write_long.Goals as goal
 
 pub returns-clause-written : goal.returns-clause-written

@@ -1,6 +1,6 @@
 use Rattle.std.proofs.Common.{◌+◌, ◌*◌, take, drop, length-take-le, length-drop, get_or, get_or-take, get_or-drop, arith, subst, sym}
 use Rattle.encoding_kernels.specs.EncodeLanes.{EncodesLast}
-use Rattle.encoding_kernels.proofs.Lanes.PlainLemmas.{both_masks, both_spelled}
+use Rattle.encoding_kernels.proofs.PlainLemmas.{both_masks, both_spelled}
 use Rattle.encoding_kernels.proofs.encode_units.encode_eight.Goals as goal
 
 pub returns-clause-spelled : goal.returns-clause-spelled

@@ -1,7 +1,7 @@
 use Rattle.std.proofs.Common.{arith}
 use Rattle.encoding_kernels.specs.EncodeLanes.{length_classes}
-use Rattle.encoding_kernels.proofs.Lanes.LaneLemmas.{HasLanes-itself, HasLanes-swizzle, swizzle_ok}
-use Rattle.encoding_kernels.proofs.Lanes.PlainLemmas.{classes_long, spelled_four}
+use Rattle.encoding_kernels.proofs.LaneLemmas.{HasLanes-itself, HasLanes-swizzle, swizzle_ok}
+use Rattle.encoding_kernels.proofs.PlainLemmas.{classes_long, spelled_four}
 use Rattle.encoding_kernels.proofs.encode_units.encode_four.Goals as goal
 
 pub swizzle : goal.swizzle

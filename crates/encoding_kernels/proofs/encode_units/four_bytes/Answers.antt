@@ -1,5 +1,5 @@
 use Rattle.std.proofs.Common.{◌+◌, ◌∷◌, [], arith, refl}
-use Rattle.encoding_kernels.proofs.Lanes.PlainLemmas.{four_spelled}
+use Rattle.encoding_kernels.proofs.PlainLemmas.{four_spelled}
 use Rattle.encoding_kernels.proofs.encode_units.four_bytes.Goals as goal
 
 pub returns-clause-first_half : goal.returns-clause-first_half

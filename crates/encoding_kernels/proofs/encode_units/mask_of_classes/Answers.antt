@@ -2,9 +2,9 @@ use Rattle.std.proofs.Common.{◌≡◌, ◌<◌, ◌^◌, w16, ltb, length, ari
 use Rattle.std.specs.Simd.Lanes.{mask_l}
 use Rattle.std.proofs.lemmas.Simd.{mask_l-lt}
 use Rattle.encoding_kernels.specs.EncodeLanes.{length_classes}
-use Rattle.encoding_kernels.proofs.Lanes.LaneLemmas.{HasLanes-itself, HasLanes-splat}
-use Rattle.encoding_kernels.proofs.Lanes.TestLemmas.{tests_of, chosen, chosen_by}
-use Rattle.encoding_kernels.proofs.Lanes.PlainLemmas.{mask_is_classes, classes_long}
+use Rattle.encoding_kernels.proofs.LaneLemmas.{HasLanes-itself, HasLanes-splat}
+use Rattle.encoding_kernels.proofs.TestLemmas.{tests_of, chosen, chosen_by}
+use Rattle.encoding_kernels.proofs.PlainLemmas.{mask_is_classes, classes_long}
 use Rattle.encoding_kernels.proofs.encode_units.mask_of_classes.Goals as goal
 
 pub returns-clause-mask : goal.returns-clause-mask

@@ -1,4 +1,4 @@
-use Rattle.encoding_kernels.proofs.Lanes.PlainLemmas.{before_first}
+use Rattle.encoding_kernels.proofs.PlainLemmas.{before_first}
 use Rattle.encoding_kernels.proofs.encode_units.non_surrogate_prefix.Goals as goal
 
 pub returns : goal.returns

@@ -1,7 +1,7 @@
 use Rattle.std.proofs.Common.{◌≡◌, ◌+◌, ◌++◌, ◌∙◌, take, drop, arith, subst}
 use Rattle.encoding_kernels.specs.EncodeLanes.{spliced}
 use Rattle.std.specs.Simd.Lanes.{chunk}
-use Rattle.encoding_kernels.proofs.Lanes.SpillsLemmas.{spills_then, spills_spliced}
+use Rattle.encoding_kernels.proofs.SpillsLemmas.{spills_then, spills_spliced}
 use Rattle.encoding_kernels.proofs.encode_units.store_sixteen.Goals as goal
 
 pub returns-clause-written : goal.returns-clause-written

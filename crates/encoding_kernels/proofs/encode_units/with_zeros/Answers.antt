@@ -1,4 +1,4 @@
-use Rattle.encoding_kernels.proofs.Lanes.PlainLemmas.{first_lanes_are}
+use Rattle.encoding_kernels.proofs.PlainLemmas.{first_lanes_are}
 use Rattle.encoding_kernels.proofs.encode_units.with_zeros.Goals as goal
 
 pub returns : goal.returns

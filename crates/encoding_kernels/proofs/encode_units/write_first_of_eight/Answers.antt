@@ -1,6 +1,6 @@
 use Rattle.std.proofs.Common.{◌≡◌, ℕ, List, ◌+◌, ◌-◌, ◌++◌, ◌∙◌, take, drop, replicate, length, length-append, length-drop, length-take-le, encode_utf8_all, arith, ap, sym}
-use Rattle.encoding_kernels.proofs.Lanes.PlainLemmas.{zeros_spelled}
-use Rattle.encoding_kernels.proofs.Lanes.StoresLemmas.{put_back}
+use Rattle.encoding_kernels.proofs.PlainLemmas.{zeros_spelled}
+use Rattle.encoding_kernels.proofs.StoresLemmas.{put_back}
 use Rattle.encoding_kernels.proofs.encode_units.write_first_of_eight.Goals as goal
 
 pub returns : goal.returns

@@ -1,6 +1,6 @@
 use Rattle.std.proofs.Common.{arith}
-use Rattle.encoding_definitions.proofs.Decomposition.DecompositionLemmas.{has_parts}
-use Rattle.encoding_kernels.proofs.Sums.TextSumLemmas.{utf16_total}
+use Rattle.encoding_definitions.proofs.DecompositionLemmas.{has_parts}
+use Rattle.encoding_kernels.proofs.TextSumLemmas.{utf16_total}
 use Rattle.encoding_kernels.proofs.lengths.utf16_length_of_utf8.Goals as goal
 
 pub overflow_sub-result : goal.overflow_sub-result

@@ -1,8 +1,8 @@
 use Rattle.std.proofs.Common.{arith, refl}
 use Rattle.std.specs.List.{flat_map}
 use Rattle.encoding_definitions.specs.Utf16.{utf8_of_part16}
-use Rattle.encoding_definitions.proofs.CodeUnits.Utf16Lemmas.{parts_of, parts_exist}
-use Rattle.encoding_kernels.proofs.Sums.TextSumLemmas.{utf8_total}
+use Rattle.encoding_definitions.proofs.Utf16Lemmas.{parts_of, parts_exist}
+use Rattle.encoding_kernels.proofs.TextSumLemmas.{utf8_total}
 use Rattle.encoding_kernels.proofs.lengths.utf8_length_of_units.Goals as goal
 
 pub returns : goal.returns

@@ -1,7 +1,7 @@
 use Rattle.std.proofs.Common.{◌+◌, w16, arith, eqb, leb, bit_and}
-use Rattle.encoding_kernels.proofs.Lanes.LaneLemmas.{HasLanes-load, HasLanes-splat, HasLanes-zip2}
-use Rattle.encoding_kernels.proofs.Lanes.TestLemmas.{tests_of, tests_or, tests_xor, none_passes}
-use Rattle.encoding_kernels.proofs.Lanes.SurrogatePairsLemmas.{halves_lanes}
+use Rattle.encoding_kernels.proofs.LaneLemmas.{HasLanes-load, HasLanes-splat, HasLanes-zip2}
+use Rattle.encoding_kernels.proofs.TestLemmas.{tests_of, tests_or, tests_xor, none_passes}
+use Rattle.encoding_kernels.proofs.SurrogatePairsLemmas.{halves_lanes}
 use Rattle.encoding_kernels.proofs.surrogate_pairs.are_two_byte_or_paired.Goals as goal
 
 pub returns : goal.returns

@@ -1,7 +1,7 @@
 use Rattle.std.proofs.Common.{ℕ, ◌+◌, ◌*◌, ◌/◌, ◌%◌, ◌^◌, w16, leb, bit_and}
-use Rattle.encoding_kernels.proofs.Lanes.LaneLemmas.{HasLanes-itself, HasLanes-splat, HasLanes-zip2}
-use Rattle.encoding_kernels.proofs.Lanes.TestLemmas.{tests_of, chosen_by}
-use Rattle.encoding_kernels.proofs.Lanes.SurrogatePairsLemmas.{halves_spell}
+use Rattle.encoding_kernels.proofs.LaneLemmas.{HasLanes-itself, HasLanes-splat, HasLanes-zip2}
+use Rattle.encoding_kernels.proofs.TestLemmas.{tests_of, chosen_by}
+use Rattle.encoding_kernels.proofs.SurrogatePairsLemmas.{halves_spell}
 use Rattle.encoding_kernels.proofs.surrogate_pairs.bytes_of_halves.Goals as goal
 
 pub returns-clause-bytes : goal.returns-clause-bytes

@@ -1,7 +1,7 @@
 use Rattle.std.proofs.Common.{map, ◌∙◌}
 use Rattle.std.specs.Prelude.{nat_le}
 use Rattle.std.proofs.lemmas.List.{length-map}
-use Rattle.encoding_kernels.proofs.Lanes.SurrogatePairsLemmas.{spelled_halves}
+use Rattle.encoding_kernels.proofs.SurrogatePairsLemmas.{spelled_halves}
 use Rattle.encoding_kernels.proofs.surrogate_pairs.encode_halves.Goals as goal
 
 pub returns-clause-spelled : goal.returns-clause-spelled

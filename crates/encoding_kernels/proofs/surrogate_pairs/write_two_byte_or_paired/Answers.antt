@@ -1,7 +1,7 @@
 use Rattle.std.proofs.Common.{◌+◌, ◌*◌, ◌-◌, ◌++◌, ◌∙◌, take, drop, length, length-append, length-take-le, arith, rules, subst, sym, ap}
 use Rattle.std.proofs.lemmas.Simd.{get_or-chunk}
 use Rattle.encoding_kernels.specs.SurrogatePairs.{IsTwoByteOrHalf}
-use Rattle.encoding_kernels.proofs.Lanes.SurrogatePairsLemmas.{both_halves}
+use Rattle.encoding_kernels.proofs.SurrogatePairsLemmas.{both_halves}
 use Rattle.encoding_kernels.proofs.surrogate_pairs.write_two_byte_or_paired.Goals as goal
 
 pub encode_halves-count-requires : goal.encode_halves-count-requires

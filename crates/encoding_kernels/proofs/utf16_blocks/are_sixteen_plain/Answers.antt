@@ -1,6 +1,6 @@
 use Rattle.std.proofs.Common.{refl}
-use Rattle.encoding_kernels.proofs.Lanes.TestLemmas.{and_both}
-use Rattle.encoding_kernels.proofs.UnitBlocks.UnitBlocksLemmas.{plain_sixteen, sixteen_plain}
+use Rattle.encoding_kernels.proofs.TestLemmas.{and_both}
+use Rattle.encoding_kernels.proofs.UnitBlocksLemmas.{plain_sixteen, sixteen_plain}
 use Rattle.encoding_kernels.proofs.utf16_blocks.are_sixteen_plain.Goals as goal
 
 pub returns-then-are_units_below : goal.returns-then-are_units_below

@@ -1,4 +1,4 @@
-use Rattle.encoding_kernels.proofs.UnitBlocks.UnitBlocksLemmas.{plain_left}
+use Rattle.encoding_kernels.proofs.UnitBlocksLemmas.{plain_left}
 use Rattle.encoding_kernels.proofs.utf16_blocks.convert_blocks.Goals as goal
 
 pub returns-then-read-src : goal.returns-then-read-src

@@ -1,9 +1,9 @@
 use Rattle.std.proofs.Common.{arith, refl, sym, subst}
 use Rattle.encoding_kernels.specs.EncodeLanes.{WritesBmp}
-use Rattle.encoding_definitions.proofs.LongestPrefixes.PrefixesLemmas.{WritesPrefix-same}
-use Rattle.encoding_kernels.proofs.Lanes.SpillsLemmas.{spliced_put}
-use Rattle.encoding_kernels.proofs.Lanes.PutLemmas.{put_is}
-use Rattle.encoding_kernels.proofs.UnitBlocks.UnitBlocksLemmas.{plain_then, encodes_more}
+use Rattle.encoding_definitions.proofs.PrefixesLemmas.{WritesPrefix-same}
+use Rattle.encoding_kernels.proofs.SpillsLemmas.{spliced_put}
+use Rattle.encoding_kernels.proofs.PutLemmas.{put_is}
+use Rattle.encoding_kernels.proofs.UnitBlocksLemmas.{plain_then, encodes_more}
 use Rattle.encoding_kernels.proofs.utf16_blocks.convert_dense_blocks.Goals as goal
 
 pub loop-read-preserved : goal.loop-read-preserved

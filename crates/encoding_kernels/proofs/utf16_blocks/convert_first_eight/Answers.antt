@@ -1,7 +1,7 @@
 use Rattle.std.proofs.Common.{[], encode_utf8_all, ap, arith}
 use Rattle.std.proofs.lemmas.List.{take-take}
-use Rattle.encoding_definitions.proofs.LongestPrefixes.PrefixesLemmas.{WritesPrefix-nil, WritesPrefix-same, WritesPrefix_put}
-use Rattle.encoding_kernels.proofs.UnitBlocks.UnitBlocksLemmas.{first_plain}
+use Rattle.encoding_definitions.proofs.PrefixesLemmas.{WritesPrefix-nil, WritesPrefix-same, WritesPrefix_put}
+use Rattle.encoding_kernels.proofs.UnitBlocksLemmas.{first_plain}
 use Rattle.encoding_kernels.proofs.utf16_blocks.convert_first_eight.Goals as goal
 
 pub returns : goal.returns

@@ -1,8 +1,8 @@
 use Rattle.std.proofs.Common.{[], arith, refl, sym, subst}
-use Rattle.encoding_definitions.proofs.LongestPrefixes.PrefixesLemmas.{WritesPrefix-nil, WritesPrefix-same, WritesPrefix_put}
-use Rattle.encoding_definitions.proofs.LongestPrefixes.FittingLemmas.{written_is}
-use Rattle.encoding_definitions.proofs.CodeUnits.Utf16PrefixLemmas.{Walked, walked_prefix}
-use Rattle.encoding_kernels.proofs.UnitBlocks.PairedUnitsLemmas.{goes_block}
+use Rattle.encoding_definitions.proofs.PrefixesLemmas.{WritesPrefix-nil, WritesPrefix-same, WritesPrefix_put}
+use Rattle.encoding_definitions.proofs.FittingLemmas.{written_is}
+use Rattle.encoding_definitions.proofs.Utf16PrefixLemmas.{Walked, walked_prefix}
+use Rattle.encoding_kernels.proofs.PairedUnitsLemmas.{goes_block}
 use Rattle.encoding_definitions.specs.Utf16.{IsUtf8OfPrefix}
 use Rattle.encoding_kernels.proofs.utf16_blocks.convert_paired_blocks.Goals as goal
 

@@ -2,7 +2,7 @@ use Rattle.std.proofs.Common.{◌-◌, ◌≤◌, List, length, take}
 use Rattle.std.specs.List.{flat_map}
 use Rattle.encoding_definitions.specs.Prefixes.{WritesPrefix}
 use Rattle.encoding_definitions.specs.Utf16.{IsUtf8OfPrefix, Part16, utf8_of_part16}
-use Rattle.encoding_definitions.proofs.CodeUnits.Utf16PrefixLemmas.{Walked}
+use Rattle.encoding_definitions.proofs.Utf16PrefixLemmas.{Walked}
 use Rattle.encoding_kernels.proofs.utf16_blocks.convert_paired_blocks.Given as goal
 
 abbrev pub invariant-loop-read : goal.invariant-loop-read

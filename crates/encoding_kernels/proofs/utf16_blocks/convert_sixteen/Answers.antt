@@ -1,6 +1,6 @@
 use Rattle.std.proofs.Common.{◌+◌, ◌++◌, ◌∙◌, ap, length, take, drop, refl}
-use Rattle.encoding_kernels.proofs.Lanes.TestLemmas.{and_both}
-use Rattle.encoding_kernels.proofs.UnitBlocks.UnitBlocksLemmas.{short_joined, short_lanes}
+use Rattle.encoding_kernels.proofs.TestLemmas.{and_both}
+use Rattle.encoding_kernels.proofs.UnitBlocksLemmas.{short_joined, short_lanes}
 use Rattle.encoding_kernels.proofs.utf16_blocks.convert_sixteen.Goals as goal
 
 pub store_two_byte-bytes-requires-clause-short : goal.store_two_byte-bytes-requires-clause-short

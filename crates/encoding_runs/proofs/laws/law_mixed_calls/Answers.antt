@@ -1,5 +1,5 @@
-use Rattle.encoding_text.proofs.Calls.OneResultLemmas.{one_utf8_result, one_utf16_result}
-use Rattle.encoding_text.proofs.Calls.OnePieceLemmas.{one_piece}
+use Rattle.encoding_text.proofs.OneResultLemmas.{one_utf8_result, one_utf16_result}
+use Rattle.encoding_text.proofs.OnePieceLemmas.{one_piece}
 use Rattle.encoding_runs.proofs.MixedLemmas.{one_call_yields, mixed_parts, same_results}
 use Rattle.encoding_runs.proofs.WholeTextLemmas.{reads_text, queried_fits}
 use Rattle.encoding_runs.proofs.laws.law_mixed_calls.Goals as goal

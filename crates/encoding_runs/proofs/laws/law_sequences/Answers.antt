@@ -1,7 +1,7 @@
 use Rattle.std.proofs.Common.{[], ◌∙◌, sym}
 use Rattle.std.proofs.lemmas.List.{append-nil}
 use Rattle.std.proofs.lemmas.Str.{encode_same}
-use Rattle.encoding_definitions.proofs.Sequences.EncodingLemmas.{decode_utf8_scalar, IsSequence-encode, sequence_ends}
+use Rattle.encoding_definitions.proofs.EncodingLemmas.{decode_utf8_scalar, IsSequence-encode, sequence_ends}
 use Rattle.encoding_runs.proofs.laws.law_sequences.Goals as goal
 
 pub returns : goal.returns

@@ -1,5 +1,5 @@
-use Rattle.encoding_definitions.proofs.CodeUnits.Utf16Lemmas.{parts_of, parts_exist, parts_unique}
-use Rattle.encoding_definitions.proofs.Conversions.Utf16LawLemmas.{parts-encode, scalars-encode, scalars_lossy, text_back}
+use Rattle.encoding_definitions.proofs.Utf16Lemmas.{parts_of, parts_exist, parts_unique}
+use Rattle.encoding_definitions.proofs.Utf16LawLemmas.{parts-encode, scalars-encode, scalars_lossy, text_back}
 use Rattle.encoding_runs.proofs.laws.law_utf16_round_trip.Goals as goal
 
 pub returns : goal.returns

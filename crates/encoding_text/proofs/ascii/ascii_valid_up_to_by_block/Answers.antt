@@ -1,5 +1,5 @@
 use Rattle.std.proofs.Common.{◌≡◌, ◌+◌, ◌<◌, inl, inr, slice_index, arith, subst, sym}
-use Rattle.encoding_kernels.proofs.LatinBlocks.AsciiLemmas.{prefix_before}
+use Rattle.encoding_kernels.proofs.AsciiLemmas.{prefix_before}
 use Rattle.encoding_text.proofs.ascii.ascii_valid_up_to_by_block.Goals as goal
 
 pub returns-then-prefix-lt-BLOCK : goal.returns-then-prefix-lt-BLOCK

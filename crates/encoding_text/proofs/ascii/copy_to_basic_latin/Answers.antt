@@ -1,6 +1,6 @@
 use Rattle.std.proofs.Common.{◌<◌, arith, length, take}
 use Rattle.std.proofs.lemmas.List.{get_or-take, length-take}
-use Rattle.encoding_kernels.proofs.LatinBlocks.AsciiLemmas.{prefix_before}
+use Rattle.encoding_kernels.proofs.AsciiLemmas.{prefix_before}
 use Rattle.encoding_text.proofs.ascii.copy_to_basic_latin.Goals as goal
 
 pub returns-then-src-ge-ASCII_END-clause-prefix : goal.returns-then-src-ge-ASCII_END-clause-prefix

@@ -1,7 +1,7 @@
 use Rattle.std.proofs.Common.{◌↔◌, subst}
 use Rattle.std.specs.Prelude.{Any}
 use Rattle.encoding_text.specs.Bidi.{IsRightToLeft, IsBidiUnits}
-use Rattle.encoding_text.proofs.Surrogates.SurrogateLemmas.{scalars_of_valid}
+use Rattle.encoding_text.proofs.SurrogateLemmas.{scalars_of_valid}
 use Rattle.engine_example.proofs.EngineUnitLemmas.{lossy_is}
 use Rattle.engine_example.proofs.units.has_right_to_left.Goals as goal
 

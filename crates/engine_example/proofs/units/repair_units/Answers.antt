@@ -2,7 +2,7 @@ use Rattle.std.proofs.Common.{subst, sym, ap, ◌∙◌, arith}
 use Rattle.std.specs.Char.Escape.{encode_utf16}
 use Rattle.std.specs.List.{flat_map}
 use Rattle.encoding_text.specs.Surrogates.{AreRepairedUnits}
-use Rattle.encoding_text.proofs.Surrogates.SurrogateLemmas.{scalars_of_valid}
+use Rattle.encoding_text.proofs.SurrogateLemmas.{scalars_of_valid}
 use Rattle.engine_example.proofs.EngineUnitLemmas.{lossy_is}
 use Rattle.engine_example.proofs.units.repair_units.Goals as goal
 

@@ -2,7 +2,7 @@ use Rattle.std.proofs.Common.{◌≡◌, ◌+◌, ◌-◌, ◌++◌, length, tak
 use Rattle.std.proofs.lemmas.List.{drop_at, drop-drop, take-append-drop}
 use borrow.Rule.Slice.PartMut.{put_mid}
 use Rattle.encoding_definitions.specs.Prefixes.{WritesPrefix}
-use Rattle.encoding_definitions.proofs.LongestPrefixes.PrefixesLemmas.{WritesPrefix_after}
+use Rattle.encoding_definitions.proofs.PrefixesLemmas.{WritesPrefix_after}
 use Rattle.encoding_c.proofs.repair.Buffer.append.Goals as goal
 
 pub returns-clause-keeps : goal.returns-clause-keeps

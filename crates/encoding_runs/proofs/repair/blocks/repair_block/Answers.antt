@@ -3,8 +3,8 @@ use Rattle.std.proofs.lemmas.Bool.{both_ways}
 use Rattle.std.proofs.lemmas.List.{take_rest, length-drop}
 use Rattle.std.proofs.lemmas.Str.{length-encode}
 use Rattle.encoding_text.specs.declared.decoder.DecoderResult.TheVariants.{Malformed}
-use Rattle.encoding_text.proofs.EncoderSteps.EncoderLemmas.{none_there}
-use Rattle.encoding_definitions.proofs.LongestPrefixes.PrefixesLemmas.{WritesPrefix-length}
+use Rattle.encoding_text.proofs.EncoderLemmas.{none_there}
+use Rattle.encoding_definitions.proofs.PrefixesLemmas.{WritesPrefix-length}
 use Rattle.encoding_runs.proofs.BlockLemmas.{block_more, block_rejected, block_finished, block_full, block_fits, block_replaced}
 use Rattle.encoding_runs.proofs.repair.blocks.repair_block.Goals.{then-not-last, else-not-last, else-is_empty-via-then-is_empty+else-left-lt-REPLACEMENT_LENGTH, else-is_empty-via-else-is_empty}
 use Rattle.encoding_runs.proofs.repair.blocks.repair_block.Goals as goal

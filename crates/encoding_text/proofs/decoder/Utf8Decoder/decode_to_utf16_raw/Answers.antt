@@ -1,4 +1,4 @@
-use Rattle.encoding_text.proofs.Calls.RoomLemmas.{progress, utf16_suffices, utf16_suffices_replacing}
+use Rattle.encoding_text.proofs.RoomLemmas.{progress, utf16_suffices, utf16_suffices_replacing}
 use Rattle.encoding_text.proofs.decoder.Utf8Decoder.decode_to_utf16_raw.Goals as goal
 
 pub returns : goal.returns

@@ -1,4 +1,4 @@
-use Rattle.encoding_text.proofs.Calls.RoomLemmas.{progress, utf8_suffices, utf8_suffices_between_reports, utf8_suffices_replacing}
+use Rattle.encoding_text.proofs.RoomLemmas.{progress, utf8_suffices, utf8_suffices_between_reports, utf8_suffices_replacing}
 use Rattle.encoding_text.proofs.decoder.Utf8Decoder.decode_to_utf8_raw.Goals as goal
 
 pub returns : goal.returns

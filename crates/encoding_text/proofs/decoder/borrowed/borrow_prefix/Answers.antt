@@ -1,7 +1,7 @@
 use Rattle.std.proofs.Common.{◌≡◌, arith, subst}
 use Rattle.encoding_definitions.specs.Prefixes.{IsLongestPrefix}
 use Rattle.std.specs.Str.{IsUtf8}
-use Rattle.encoding_definitions.proofs.LongestPrefixes.Utf8Lemmas.{no_character_after}
+use Rattle.encoding_definitions.proofs.Utf8Lemmas.{no_character_after}
 use Rattle.encoding_text.proofs.decoder.borrowed.borrow_prefix.Goals as goal
 
 pub end_before-end-requires-clause-no_character : goal.end_before-end-requires-clause-no_character

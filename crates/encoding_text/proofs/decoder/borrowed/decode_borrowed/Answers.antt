@@ -1,5 +1,5 @@
 use Rattle.std.proofs.lemmas.Bool.{both_ways}
-use Rattle.encoding_text.proofs.Calls.PendingLemmas.{pending_incomplete}
+use Rattle.encoding_text.proofs.PendingLemmas.{pending_incomplete}
 use Rattle.encoding_text.proofs.decoder.borrowed.decode_borrowed.Goals as goal
 
 pub resume_borrowed-requires : goal.resume_borrowed-requires

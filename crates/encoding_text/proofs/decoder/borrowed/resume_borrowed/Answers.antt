@@ -1,7 +1,7 @@
 use Rattle.std.proofs.Common.{arith, take}
 use Rattle.std.proofs.lemmas.List.{length-append, length-take}
-use Rattle.encoding_definitions.proofs.Sequences.SequenceLemmas.{length-IsIncomplete}
-use Rattle.encoding_text.proofs.Calls.BorrowedLemmas.{borrowed_rejected}
+use Rattle.encoding_definitions.proofs.SequenceLemmas.{length-IsIncomplete}
+use Rattle.encoding_text.proofs.BorrowedLemmas.{borrowed_rejected}
 use Rattle.encoding_text.proofs.decoder.borrowed.resume_borrowed.Goals as goal
 
 pub overflow_cast-result : goal.overflow_cast-result

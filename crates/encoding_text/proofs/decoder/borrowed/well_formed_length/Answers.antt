@@ -2,9 +2,9 @@ use Rattle.std.proofs.Common.{◌<◌, false, drop, subst, arith}
 use Rattle.std.proofs.lemmas.List.{take-append-drop, take_rest}
 use Rattle.std.proofs.lemmas.Str.{IsUtf8-from_ascii}
 use Rattle.encoding_definitions.specs.Parts.{BeginsWithNoCharacter}
-use Rattle.encoding_definitions.proofs.LongestPrefixes.Utf8Lemmas.{IsLongestPrefix-utf8}
-use Rattle.encoding_kernels.proofs.LatinBlocks.AsciiLemmas.{Each-take}
-use Rattle.encoding_text.proofs.Calls.CallPartsLemmas.{malformed_first}
+use Rattle.encoding_definitions.proofs.Utf8Lemmas.{IsLongestPrefix-utf8}
+use Rattle.encoding_kernels.proofs.AsciiLemmas.{Each-take}
+use Rattle.encoding_text.proofs.CallPartsLemmas.{malformed_first}
 use Rattle.encoding_text.proofs.decoder.borrowed.well_formed_length.Goals as goal
 
 pub returns-then-is_malformed_byte : goal.returns-then-is_malformed_byte

@@ -1,5 +1,5 @@
 use Rattle.std.proofs.lemmas.Bool.{both_ways}
-use Rattle.encoding_text.proofs.Calls.PendingLemmas.{pending_incomplete}
+use Rattle.encoding_text.proofs.PendingLemmas.{pending_incomplete}
 use Rattle.encoding_text.proofs.decoder.call.decode.Goals as goal
 
 pub returns-then-is_empty : goal.returns-then-is_empty

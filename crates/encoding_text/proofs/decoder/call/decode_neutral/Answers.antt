@@ -1,7 +1,7 @@
 use Rattle.std.proofs.Common.{arith}
 use Rattle.std.proofs.lemmas.List.{take_rest, length-drop}
-use Rattle.encoding_definitions.proofs.LongestPrefixes.PrefixesLemmas.{WritesPrefix-length}
-use Rattle.encoding_text.proofs.Calls.DecodeLemmas.{all_read, full, ends, no_character_fits}
+use Rattle.encoding_definitions.proofs.PrefixesLemmas.{WritesPrefix-length}
+use Rattle.encoding_text.proofs.DecodeLemmas.{all_read, full, ends, no_character_fits}
 use Rattle.encoding_text.proofs.decoder.call.decode_neutral.Goals as goal
 
 pub returns-then-read-src : goal.returns-then-read-src

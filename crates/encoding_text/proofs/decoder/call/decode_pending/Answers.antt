@@ -1,8 +1,8 @@
 use Rattle.std.proofs.Common.{arith, sym, ap, inr, ◌∙◌, ◌≡◌, ◌≢◌, ◌<◌, ◌++◌, [], length, take}
 use Rattle.std.proofs.lemmas.Bool.{eqb-true, eqb-false}
 use Rattle.std.proofs.lemmas.List.{take_rest, append-nil, nil_from_length, length-append, length-take}
-use Rattle.encoding_definitions.proofs.Sequences.SequenceLemmas.{length-IsIncomplete}
-use Rattle.encoding_text.proofs.Calls.DecodeLemmas.{source_ended, pending_full, pending_rejected, whole_then}
+use Rattle.encoding_definitions.proofs.SequenceLemmas.{length-IsIncomplete}
+use Rattle.encoding_text.proofs.DecodeLemmas.{source_ended, pending_full, pending_rejected, whole_then}
 use Rattle.encoding_text.proofs.decoder.call.decode_pending.Goals as goal
 
 pub returns-then-is_empty : goal.returns-then-is_empty

@@ -2,8 +2,8 @@ use Rattle.std.proofs.Common.{refl, sym, subst}
 use Rattle.std.proofs.lemmas.Str.{IsCharBoundary-from_take}
 use Rattle.encoding_definitions.specs.Bidi.{IsBidiText}
 use Rattle.encoding_definitions.specs.Latin1.{IsUtf8Latin1}
-use Rattle.encoding_definitions.proofs.Bidi.BidiTextLemmas.{text_whole, text_rest, text_of_latin1}
-use Rattle.encoding_definitions.proofs.LongestPrefixes.PrefixesLemmas.{prefix_not_whole}
+use Rattle.encoding_definitions.proofs.BidiTextLemmas.{text_whole, text_rest, text_of_latin1}
+use Rattle.encoding_definitions.proofs.PrefixesLemmas.{prefix_not_whole}
 use Rattle.encoding_text.proofs.mem.bidi.check_str_for_latin1_and_bidi.Goals as goal
 
 pub range_from-requires : goal.range_from-requires

@@ -2,8 +2,8 @@ use Rattle.std.proofs.Common.{refl, sym, subst, arith}
 use Rattle.std.proofs.lemmas.List.{take_rest}
 use Rattle.encoding_definitions.specs.Bidi.{IsBidiUnits}
 use Rattle.encoding_definitions.specs.Latin1.{IsLatin1}
-use Rattle.encoding_definitions.proofs.Bidi.BidiUnitsLemmas.{bidi_whole, bidi_rest}
-use Rattle.encoding_definitions.proofs.LongestPrefixes.PrefixesLemmas.{prefix_not_whole}
+use Rattle.encoding_definitions.proofs.BidiUnitsLemmas.{bidi_whole, bidi_rest}
+use Rattle.encoding_definitions.proofs.PrefixesLemmas.{prefix_not_whole}
 use Rattle.encoding_text.proofs.mem.bidi.check_utf16_for_latin1_and_bidi.Goals as goal
 
 pub returns-then-is_utf16_bidi : goal.returns-then-is_utf16_bidi

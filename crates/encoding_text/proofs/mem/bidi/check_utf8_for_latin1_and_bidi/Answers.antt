@@ -2,8 +2,8 @@ use Rattle.std.proofs.Common.{refl, sym, subst}
 use Rattle.std.proofs.lemmas.List.{take_rest}
 use Rattle.encoding_definitions.specs.Bidi.{IsBidiBytes}
 use Rattle.encoding_definitions.specs.Latin1.{IsUtf8Latin1}
-use Rattle.encoding_definitions.proofs.Bidi.BidiTextLemmas.{bytes_whole, bytes_rest}
-use Rattle.encoding_definitions.proofs.LongestPrefixes.PrefixesLemmas.{prefix_not_whole}
+use Rattle.encoding_definitions.proofs.BidiTextLemmas.{bytes_whole, bytes_rest}
+use Rattle.encoding_definitions.proofs.PrefixesLemmas.{prefix_not_whole}
 use Rattle.encoding_text.proofs.mem.bidi.check_utf8_for_latin1_and_bidi.Goals as goal
 
 pub returns-then-is_utf8_bidi : goal.returns-then-is_utf8_bidi

@@ -1,5 +1,5 @@
 use Rattle.std.proofs.Common.{arith}
-use Rattle.encoding_definitions.proofs.Bidi.BidiTextLemmas.{right_to_left_from}
+use Rattle.encoding_definitions.proofs.BidiTextLemmas.{right_to_left_from}
 use Rattle.encoding_text.proofs.mem.bidi.is_right_to_left.Goals as goal
 
 pub returns-then-scalar-lt-FIRST : goal.returns-then-scalar-lt-FIRST

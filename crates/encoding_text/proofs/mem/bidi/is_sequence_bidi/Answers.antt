@@ -1,4 +1,4 @@
-use Rattle.encoding_definitions.proofs.Bidi.BidiTextLemmas.{character_bidi, bidi_character}
+use Rattle.encoding_definitions.proofs.BidiTextLemmas.{character_bidi, bidi_character}
 use Rattle.encoding_text.proofs.mem.bidi.is_sequence_bidi.Goals as goal
 
 pub returns : goal.returns

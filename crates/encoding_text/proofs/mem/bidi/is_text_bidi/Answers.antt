@@ -1,5 +1,5 @@
 use Rattle.std.proofs.Common.{arith, refl}
-use Rattle.encoding_kernels.proofs.BidiBlocks.BidiBlocksLemmas.{none_joined, none_before, bidi_of_place, place_of_bidi}
+use Rattle.encoding_kernels.proofs.BidiLemmas.{none_joined, none_before, bidi_of_place, place_of_bidi}
 use Rattle.encoding_text.proofs.mem.bidi.is_text_bidi.Goals as goal
 
 pub returns-then-stands_between : goal.returns-then-stands_between

@@ -1,5 +1,5 @@
 use Rattle.std.proofs.Common.{◌-◌, ◌≤◌, length}
-use Rattle.encoding_kernels.specs.BidiBlocks.{NoRtlIn}
+use Rattle.encoding_kernels.specs.RightToLeft.{NoRtlIn}
 use Rattle.encoding_text.proofs.mem.bidi.is_text_bidi.Given as goal
 
 abbrev pub invariant-loop-at : goal.invariant-loop-at

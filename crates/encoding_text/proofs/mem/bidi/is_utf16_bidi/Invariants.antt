@@ -1,5 +1,5 @@
 use Rattle.std.proofs.Common.{◌-◌, ◌≤◌, length}
-use Rattle.encoding_kernels.specs.BidiBlocks.{NoneRightToLeft}
+use Rattle.encoding_kernels.specs.RightToLeft.{NoneRightToLeft}
 use Rattle.encoding_text.proofs.mem.bidi.is_utf16_bidi.Given as goal
 
 abbrev pub invariant-loop-at : goal.invariant-loop-at

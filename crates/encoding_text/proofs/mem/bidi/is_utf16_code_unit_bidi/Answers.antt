@@ -1,6 +1,6 @@
 use Rattle.std.proofs.Common.{arith, inl, inr, refl, sym, subst}
 use Rattle.encoding_definitions.specs.Bidi.{IsRightToLeft}
-use Rattle.encoding_definitions.proofs.Bidi.BidiUnitsLemmas.{unit_form, unit_scalar, unit_high, unit_low_none}
+use Rattle.encoding_definitions.proofs.BidiUnitsLemmas.{unit_form, unit_scalar, unit_high, unit_low_none}
 use Rattle.encoding_text.proofs.mem.bidi.is_utf16_code_unit_bidi.Goals as goal
 
 pub returns-then-unit-lt-FIRST : goal.returns-then-unit-lt-FIRST

@@ -5,9 +5,9 @@ use Rattle.std.proofs.lemmas.Str.{IsUtf8-nil}
 use Rattle.encoding_definitions.specs.Bidi.{IsBidiText}
 use Rattle.encoding_definitions.specs.Parts.{BeginsWithNoCharacter}
 use Rattle.encoding_definitions.specs.Sequence.{IsSequence}
-use Rattle.encoding_definitions.proofs.Bidi.BidiTextLemmas.{found_in_bytes, rejected_no_text}
-use Rattle.encoding_definitions.proofs.LongestPrefixes.Utf8Lemmas.{IsUtf8-sequence}
-use Rattle.encoding_kernels.proofs.BidiBlocks.BidiBlocksLemmas.{IsLeftToRight, clear_whole, clear_rest, clear_none}
+use Rattle.encoding_definitions.proofs.BidiTextLemmas.{found_in_bytes, rejected_no_text}
+use Rattle.encoding_definitions.proofs.Utf8Lemmas.{IsUtf8-sequence}
+use Rattle.encoding_kernels.proofs.BidiLemmas.{IsLeftToRight, clear_whole, clear_rest, clear_none}
 use Rattle.encoding_text.proofs.mem.bidi.is_utf8_bidi.Goals as goal
 
 pub returns-in_default : goal.returns-in_default

@@ -1,7 +1,7 @@
 use Rattle.std.proofs.Common.{◌+◌, ◌-◌, take, drop, arith, refl, subst}
 use Rattle.std.proofs.lemmas.List.{take_rest}
 use Rattle.encoding_definitions.specs.Sequence.{IsSequence}
-use Rattle.encoding_kernels.proofs.BidiBlocks.BidiBlocksLemmas.{none_from_zero, no_character_stands, stands_spelled, spelled_stands}
+use Rattle.encoding_kernels.proofs.BidiLemmas.{none_from_zero, no_character_stands, stands_spelled, spelled_stands}
 use Rattle.encoding_text.proofs.mem.bidi.stands_at.Goals as goal
 
 pub returns-then-not-may_start_rtl : goal.returns-then-not-may_start_rtl

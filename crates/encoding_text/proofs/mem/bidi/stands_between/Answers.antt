@@ -1,5 +1,5 @@
 use Rattle.std.proofs.Common.{arith, subst}
-use Rattle.encoding_kernels.specs.BidiBlocks.{NoRtlIn}
+use Rattle.encoding_kernels.specs.RightToLeft.{NoRtlIn}
 use Rattle.encoding_text.proofs.mem.bidi.stands_between.Goals as goal
 
 pub returns-clause-no_rtl : goal.returns-clause-no_rtl

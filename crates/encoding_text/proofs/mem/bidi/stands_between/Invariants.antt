@@ -1,4 +1,4 @@
-use Rattle.encoding_kernels.specs.BidiBlocks.{NoRtlIn}
+use Rattle.encoding_kernels.specs.RightToLeft.{NoRtlIn}
 use Rattle.encoding_text.proofs.mem.bidi.stands_between.Given as goal
 
 abbrev pub invariant-loop-at : goal.invariant-loop-at

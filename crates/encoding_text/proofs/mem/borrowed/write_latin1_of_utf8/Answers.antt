@@ -1,5 +1,5 @@
 use Rattle.std.proofs.Common.{arith}
-use Rattle.encoding_text.proofs.LatinConversions.Latin1ConversionLemmas.{ascii_latin1_rest, ascii_chars_prefix, written_after}
+use Rattle.encoding_text.proofs.Latin1ConversionLemmas.{ascii_latin1_rest, ascii_chars_prefix, written_after}
 use Rattle.encoding_text.proofs.mem.borrowed.write_latin1_of_utf8.Goals as goal
 
 pub convert_utf8_to_latin1_lossy-requires-clause-latin1 : goal.convert_utf8_to_latin1_lossy-requires-clause-latin1

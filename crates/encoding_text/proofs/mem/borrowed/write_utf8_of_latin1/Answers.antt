@@ -1,5 +1,5 @@
 use Rattle.std.proofs.Common.{arith}
-use Rattle.encoding_text.proofs.LatinConversions.Latin1ConversionLemmas.{ascii_utf8_prefix, written_after}
+use Rattle.encoding_text.proofs.Latin1ConversionLemmas.{ascii_utf8_prefix, written_after}
 use Rattle.encoding_text.proofs.mem.borrowed.write_utf8_of_latin1.Goals as goal
 
 pub returns : goal.returns

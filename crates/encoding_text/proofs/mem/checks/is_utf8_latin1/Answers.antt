@@ -1,5 +1,5 @@
 use Rattle.encoding_definitions.specs.Latin1.{IsUtf8Latin1}
-use Rattle.encoding_text.proofs.PrefixConversions.WholePrefixesLemmas.{whole_by_length}
+use Rattle.encoding_text.proofs.WholePrefixesLemmas.{whole_by_length}
 use Rattle.encoding_text.proofs.mem.checks.is_utf8_latin1.Goals as goal
 
 pub returns : goal.returns

@@ -1,4 +1,4 @@
-use Rattle.encoding_definitions.proofs.Latin.Latin1Lemmas.{latin1_text_prefix}
+use Rattle.encoding_definitions.proofs.Latin1Lemmas.{latin1_text_prefix}
 use Rattle.encoding_text.proofs.mem.checks.str_latin1_up_to.Goals as goal
 
 pub returns : goal.returns

@@ -1,7 +1,7 @@
 use Rattle.std.proofs.Common.{arith}
-use Rattle.encoding_kernels.specs.Strides.{BelowUpTo}
-use Rattle.encoding_definitions.proofs.Latin.Latin1Lemmas.{latin1_stop}
-use Rattle.encoding_kernels.proofs.Paired.PairsLemmas.{ascii_latin1}
+use Rattle.encoding_kernels.specs.Bounds.{BelowUpTo}
+use Rattle.encoding_definitions.proofs.Latin1Lemmas.{latin1_stop}
+use Rattle.encoding_kernels.proofs.PairsLemmas.{ascii_latin1}
 use Rattle.encoding_text.proofs.mem.checks.utf8_latin1_up_to.Goals as goal
 
 pub returns-then-buffer-run-ge-BEYOND_LATIN1 : goal.returns-then-buffer-run-ge-BEYOND_LATIN1

@@ -1,5 +1,5 @@
 use Rattle.std.proofs.Common.{length, Some, None}
-use Rattle.encoding_text.proofs.PrefixConversions.WholePrefixesLemmas.{prefix_of_first, written_of_room}
+use Rattle.encoding_text.proofs.WholePrefixesLemmas.{prefix_of_first, written_of_room}
 use Rattle.encoding_text.proofs.mem.copies.copy_basic_latin_to_ascii.Goals as goal
 
 pub returns-in-Some-clause-prefix : goal.returns-in-Some-clause-prefix

@@ -1,7 +1,7 @@
 use Rattle.std.proofs.Common.{[], arith}
-use Rattle.encoding_kernels.proofs.LatinBlocks.AsciiLemmas.{WritesPrefix_copy}
-use Rattle.encoding_kernels.proofs.PrefixLoops.StrideLoopLemmas.{stride_part}
-use Rattle.encoding_kernels.proofs.PrefixLoops.StrideCopyLemmas.{copied_part}
+use Rattle.encoding_kernels.proofs.AsciiLemmas.{WritesPrefix_copy}
+use Rattle.encoding_kernels.proofs.StrideLoopLemmas.{stride_part}
+use Rattle.encoding_kernels.proofs.StrideCopyLemmas.{copied_part}
 use Rattle.encoding_text.proofs.mem.latin1.convert_latin1_to_utf16.Goals as goal
 
 pub loop-stride-preserved : goal.loop-stride-preserved

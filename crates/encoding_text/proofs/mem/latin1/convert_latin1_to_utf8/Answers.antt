@@ -1,5 +1,5 @@
 use Rattle.std.proofs.Common.{arith}
-use Rattle.encoding_text.proofs.LatinConversions.Latin1ConversionLemmas.{latin1_fits_twice}
+use Rattle.encoding_text.proofs.Latin1ConversionLemmas.{latin1_fits_twice}
 use Rattle.encoding_text.proofs.mem.latin1.convert_latin1_to_utf8.Goals as goal
 
 pub returns : goal.returns

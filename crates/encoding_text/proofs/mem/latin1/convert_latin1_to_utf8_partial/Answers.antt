@@ -1,10 +1,10 @@
 use Rattle.std.proofs.Common.{◌/◌, ◌+◌, ◌<◌, inl, inr, arith, ap, length, take, slice_index, bit_or, bit_and, encode_utf8_all}
 use Rattle.encoding_definitions.specs.Prefixes.{WritesPrefix}
 use Rattle.std.proofs.lemmas.Bool.{cases_lt}
-use Rattle.encoding_definitions.proofs.LongestPrefixes.PrefixesLemmas.{WritesPrefix_push_two, WritesPrefix-length}
-use Rattle.encoding_kernels.proofs.UnitBlocks.UnitBlocksLemmas.{written_left, ascii_left}
-use Rattle.encoding_text.proofs.LatinConversions.Latin1ConversionLemmas.{latin1_fits_stop, latin1_fits_all, latin1_more, latin1_bytes_two, length_some}
-use Rattle.encoding_text.proofs.PrefixConversions.WholePrefixesLemmas.{other_after}
+use Rattle.encoding_definitions.proofs.PrefixesLemmas.{WritesPrefix_push_two, WritesPrefix-length}
+use Rattle.encoding_kernels.proofs.UnitBlocksLemmas.{written_left, ascii_left}
+use Rattle.encoding_text.proofs.Latin1ConversionLemmas.{latin1_fits_stop, latin1_fits_all, latin1_more, latin1_bytes_two, length_some}
+use Rattle.encoding_text.proofs.WholePrefixesLemmas.{other_after}
 use Rattle.encoding_text.proofs.mem.latin1.convert_latin1_to_utf8_partial.Goals as goal
 use Rattle.encoding_text.proofs.mem.latin1.convert_latin1_to_utf8_partial.Goals.{then-read-src-via-then-read-src, then-read-src-via-else-read-src+then-dst-written-lt-HIGH_LENGTH}
 

@@ -3,10 +3,10 @@ use Rattle.encoding_definitions.specs.Prefixes.{WritesPrefix}
 use Rattle.std.specs.Str.{chars}
 use Rattle.std.proofs.lemmas.List.{take_all, length-drop}
 use Rattle.std.proofs.lemmas.Str.{length-le-encodes}
-use Rattle.encoding_kernels.proofs.LatinBlocks.AsciiLemmas.{WritesPrefix_copy}
-use Rattle.encoding_definitions.proofs.LongestPrefixes.PrefixesLemmas.{WritesPrefix-nil, WritesPrefix-length}
-use Rattle.encoding_definitions.proofs.Latin.Latin1Lemmas.{latin1_chars}
-use Rattle.encoding_text.proofs.LatinConversions.Latin1ConversionLemmas.{character_of_two, ascii_on, two_after, begins_apart, block_on}
+use Rattle.encoding_kernels.proofs.AsciiLemmas.{WritesPrefix_copy}
+use Rattle.encoding_definitions.proofs.PrefixesLemmas.{WritesPrefix-nil, WritesPrefix-length}
+use Rattle.encoding_definitions.proofs.Latin1Lemmas.{latin1_chars}
+use Rattle.encoding_text.proofs.Latin1ConversionLemmas.{character_of_two, ascii_on, two_after, begins_apart, block_on}
 use Rattle.encoding_text.proofs.mem.latin1.convert_utf8_to_latin1.Goals as goal
 
 pub loop-read-init : goal.loop-read-init

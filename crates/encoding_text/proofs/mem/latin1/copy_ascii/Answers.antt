@@ -1,5 +1,5 @@
 use Rattle.std.proofs.Common.{length}
-use Rattle.encoding_text.proofs.PrefixConversions.WholePrefixesLemmas.{other_at}
+use Rattle.encoding_text.proofs.WholePrefixesLemmas.{other_at}
 use Rattle.encoding_text.proofs.mem.latin1.copy_ascii.Goals as goal
 
 pub returns-in-Some-clause-stops : goal.returns-in-Some-clause-stops

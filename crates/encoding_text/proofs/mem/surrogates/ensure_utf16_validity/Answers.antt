@@ -1,5 +1,5 @@
 use Rattle.std.proofs.Common.{arith}
-use Rattle.encoding_definitions.proofs.Surrogates.SurrogateLemmas.{repair_starts, repair_goes_on, repair_ends}
+use Rattle.encoding_definitions.proofs.SurrogateLemmas.{repair_starts, repair_goes_on, repair_ends}
 use Rattle.encoding_text.proofs.mem.surrogates.ensure_utf16_validity.Goals as goal
 
 pub loop-at-init : goal.loop-at-init

@@ -1,6 +1,6 @@
 use Rattle.std.proofs.Common.{◌-◌, List, length}
 use Rattle.encoding_definitions.specs.Utf16.{AreCodeUnits, Part16}
-use Rattle.encoding_definitions.proofs.Surrogates.SurrogateLemmas.{Repaired}
+use Rattle.encoding_definitions.proofs.SurrogateLemmas.{Repaired}
 use Rattle.encoding_text.proofs.mem.surrogates.ensure_utf16_validity.Given as goal
 
 abbrev pub invariant-loop-at : goal.invariant-loop-at

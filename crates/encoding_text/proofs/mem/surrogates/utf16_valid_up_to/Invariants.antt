@@ -1,6 +1,6 @@
 use Rattle.std.proofs.Common.{◌≡◌, ◌-◌, ◌*◌, ◌≤◌, length, take}
 use Rattle.encoding_definitions.specs.Surrogates.{IsValidUtf16}
-use Rattle.encoding_kernels.specs.Pairs.{PairUp}
+use Rattle.encoding_kernels.specs.Neighbors.{PairUp}
 use Rattle.encoding_text.proofs.mem.surrogates.utf16_valid_up_to.Given as goal
 
 abbrev pub invariant-loop-four : goal.invariant-loop-four

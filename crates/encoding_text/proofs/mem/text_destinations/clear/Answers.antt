@@ -1,7 +1,7 @@
 use Rattle.std.proofs.Common.{◌≡◌, ◌<◌, length, get_or, set, ap, ◌∙◌, arith, subst}
 use Rattle.std.proofs.lemmas.List.Edits.{fill_more}
 use Rattle.encoding_definitions.specs.Sequence.{IsContinuation}
-use Rattle.encoding_definitions.proofs.Conversions.ClearingLemmas.{byte_after, clear_next}
+use Rattle.encoding_definitions.proofs.ClearingLemmas.{byte_after, clear_next}
 use Rattle.encoding_text.proofs.mem.text_destinations.clear.Goals as goal
 
 pub loop-at-preserved : goal.loop-at-preserved

@@ -1,6 +1,6 @@
 use Rattle.std.proofs.Common.{arith}
-use Rattle.encoding_text.proofs.LatinConversions.Latin1ConversionLemmas.{IsUtf8-bytes}
-use Rattle.encoding_definitions.proofs.Conversions.ClearingLemmas.{clears_after, text_stays}
+use Rattle.encoding_text.proofs.Latin1ConversionLemmas.{IsUtf8-bytes}
+use Rattle.encoding_definitions.proofs.ClearingLemmas.{clears_after, text_stays}
 use Rattle.encoding_text.proofs.mem.text_destinations.convert_latin1_to_str.Goals as goal
 
 pub returns : goal.returns

@@ -1,8 +1,8 @@
 use Rattle.std.proofs.Common.{◌≡◌, ℕ, ◌+◌, ◌-◌, ◌<◌, ◌∙◌, ap, arith, refl, length, take, drop}
 use Rattle.std.proofs.lemmas.List.{take_rest, length-drop, length-set}
-use Rattle.encoding_definitions.proofs.LongestPrefixes.PrefixesLemmas.{WritesPrefix-length}
-use Rattle.encoding_text.proofs.Calls.RoomLemmas.{keeps_room}
-use Rattle.encoding_text.proofs.RepairingConversions.RepairingLemmas.{repaired_all, repaired_more, repaired_length, reads_some}
+use Rattle.encoding_definitions.proofs.PrefixesLemmas.{WritesPrefix-length}
+use Rattle.encoding_text.proofs.RoomLemmas.{keeps_room}
+use Rattle.encoding_text.proofs.RepairingLemmas.{repaired_all, repaired_more, repaired_length, reads_some}
 use Rattle.encoding_text.proofs.mem.to_utf16.convert_utf8_to_utf16.Goals as goal
 
 pub returns-in-InputEmpty : goal.returns-in-InputEmpty

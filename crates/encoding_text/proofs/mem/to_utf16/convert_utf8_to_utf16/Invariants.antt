@@ -1,5 +1,5 @@
 use Rattle.std.proofs.Common.{◌≡◌, ◌+◌, ◌-◌, ◌<◌, [], length}
-use Rattle.encoding_text.proofs.RepairingConversions.RepairingLemmas.{Repaired}
+use Rattle.encoding_text.proofs.RepairingLemmas.{Repaired}
 use Rattle.encoding_text.proofs.mem.to_utf16.convert_utf8_to_utf16.Given as goal
 
 abbrev pub invariant-loop-dst : goal.invariant-loop-dst

@@ -1,5 +1,5 @@
 use Rattle.std.proofs.Common.{length}
-use Rattle.encoding_text.proofs.EncoderSteps.EncoderTextLemmas.{text_prefix}
+use Rattle.encoding_text.proofs.EncoderTextLemmas.{text_prefix}
 use Rattle.encoding_text.proofs.utf_8.encoder.copy_text.Goals as goal
 
 pub returns-clause-longest : goal.returns-clause-longest

@@ -1,6 +1,6 @@
 use Rattle.std.proofs.Common.{◌∷◌, ◌<◌, length, arith, refl, rules}
-use Rattle.encoding_definitions.proofs.CodeUnits.Utf16PrefixLemmas.{scalar_of_two, scalar_of_unpaired}
-use Rattle.encoding_text.proofs.EncoderSteps.EncoderLemmas.{none_there}
+use Rattle.encoding_definitions.proofs.Utf16PrefixLemmas.{scalar_of_two, scalar_of_unpaired}
+use Rattle.encoding_text.proofs.EncoderLemmas.{none_there}
 use Rattle.encoding_text.proofs.utf_8.encoder.first_with_pending.Goals as goal
 use Rattle.encoding_text.proofs.utf_8.encoder.first_with_pending.Goals.{else-not-is_empty-via-then-not-is_empty+else-is_low_surrogate, else-not-is_empty-via-else-not-is_empty}
 

@@ -1,5 +1,5 @@
 use Rattle.std.proofs.Common.{arith}
-use Rattle.encoding_text.proofs.DecoderSequences.TableLemmas.{three_is, three_never, four_is, four_never}
+use Rattle.encoding_text.proofs.TableLemmas.{three_is, three_never, four_is, four_never}
 use Rattle.encoding_text.proofs.utf_8.table.law_table.Goals as goal
 
 pub returns-clause-three : goal.returns-clause-three

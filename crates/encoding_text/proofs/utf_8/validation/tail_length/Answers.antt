@@ -1,6 +1,6 @@
 use Rattle.std.proofs.Common.{arith}
 use Rattle.std.proofs.lemmas.Bool.{both_ways}
-use Rattle.encoding_definitions.proofs.Sequences.SequenceLemmas.{no_character_reads}
+use Rattle.encoding_definitions.proofs.SequenceLemmas.{no_character_reads}
 use Rattle.encoding_text.proofs.utf_8.validation.tail_length.Goals as goal
 use Rattle.encoding_text.proofs.utf_8.validation.tail_length.Goals.{then-bytes-lt3-via-then-bytes-lt3, then-bytes-lt3-via-else-bytes-lt3+then-not-is_continuation}
 

@@ -2,7 +2,7 @@ use Rattle.std.proofs.Common.{ℕ, ◌+◌, ◌-◌, ◌≤◌, List, length, dr
 use Rattle.std.specs.Str.{IsUtf8}
 use Rattle.std.proofs.lemmas.List.{take_rest, length-drop}
 use Rattle.std.proofs.lemmas.Str.{IsUtf8-append}
-use Rattle.encoding_definitions.proofs.LongestPrefixes.Utf8Lemmas.{IsUtf8_more, IsLongestPrefix-utf8}
+use Rattle.encoding_definitions.proofs.Utf8Lemmas.{IsUtf8_more, IsLongestPrefix-utf8}
 use Rattle.encoding_text.proofs.utf_8.validation.utf8_valid_up_to.Goals as goal
 
 -- a well-formed prefix of the rest after a well-formed prefix

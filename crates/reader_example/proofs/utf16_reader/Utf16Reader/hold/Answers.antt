@@ -3,7 +3,7 @@ use Rattle.std.proofs.lemmas.Str.{IsUtf8-nil}
 use Rattle.std.specs.Str.{IsUtf8}
 use Rattle.std.specs.Io.KnownBytes.{Consumes}
 use Rattle.encoding_text.specs.Sequence.{IsSequence}
-use Rattle.encoding_text.proofs.LongestPrefixes.Utf8Lemmas.{IsUtf8-sequence}
+use Rattle.encoding_text.proofs.Utf8Lemmas.{IsUtf8-sequence}
 use Rattle.reader_example.specs.Reading.{IsUtf16Character}
 use Rattle.reader_example.proofs.ReaderBlockLemmas.{some_length, written_prefix}
 use Rattle.reader_example.proofs.CharacterLemmas.{character_text}

@@ -3,7 +3,7 @@ use Rattle.std.proofs.lemmas.Bool.{both_ways}
 use Rattle.std.proofs.lemmas.List.{nil_from_length}
 use Rattle.std.specs.Str.{IsUtf8}
 use Rattle.std.specs.Io.KnownBytes.{Consumes, IsAtEnd}
-use Rattle.encoding_text.proofs.LongestPrefixes.PrefixesLemmas.{WritesPrefix-length}
+use Rattle.encoding_text.proofs.PrefixesLemmas.{WritesPrefix-length}
 use Rattle.reader_example.specs.Reading.{text_left}
 use Rattle.reader_example.proofs.ReaderTextLemmas.{Keeps_then, Keeps-none}
 use Rattle.reader_example.proofs.ReaderBlockLemmas.{some_length, written_prefix, whole_characters, grows, repaired, repaired_all}

@@ -3,7 +3,7 @@ use Rattle.std.proofs.lemmas.Bool.{both_ways, eqb-true}
 use Rattle.std.proofs.lemmas.List.{nil_from_length}
 use Rattle.std.proofs.lemmas.Str.{IsUtf8-nil}
 use Rattle.std.specs.Str.{IsUtf8}
-use Rattle.encoding_text.proofs.LongestPrefixes.Utf8Lemmas.{IsUtf8-sequence}
+use Rattle.encoding_text.proofs.Utf8Lemmas.{IsUtf8-sequence}
 use Rattle.encoding_text.specs.Sequence.{IsSequence}
 use Rattle.reader_example.specs.Reading.{held_of}
 use Rattle.reader_example.proofs.CharacterLemmas.{yields_held}

@@ -1,7 +1,7 @@
 use Rattle.std.proofs.Common.{◌≡◌, ◌≢◌, ◌∙◌, [], arith, ap, sym, refl, subst, length}
 use Rattle.std.proofs.lemmas.List.{length-take}
 use Rattle.encoding_definitions.specs.Pending.{IsPending}
-use Rattle.encoding_text.proofs.Calls.PendingLemmas.{pending_incomplete}
+use Rattle.encoding_text.proofs.PendingLemmas.{pending_incomplete}
 use Rattle.encoding_text.proofs.decoder.pending.Pending.end.Goals as goal
 
 pub returns : goal.returns

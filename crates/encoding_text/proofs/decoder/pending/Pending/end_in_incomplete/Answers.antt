@@ -1,6 +1,6 @@
 use Rattle.std.proofs.Common.{arith, refl}
 use Rattle.std.proofs.lemmas.List.{take_rest}
-use Rattle.encoding_text.proofs.Calls.CallLemmas.{ended_before, rejected_before, no_whole_before}
+use Rattle.encoding_text.proofs.CallLemmas.{ended_before, rejected_before, no_whole_before}
 use Rattle.encoding_text.proofs.decoder.pending.Pending.end_in_incomplete.Goals as goal
 
 pub overflow_cast-result : goal.overflow_cast-result

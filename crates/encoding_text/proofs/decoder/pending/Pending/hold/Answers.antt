@@ -1,7 +1,7 @@
 use Rattle.std.proofs.Common.{ℕ, arith, inr, length, ◌≡◌, [], ◌∷◌}
 use Rattle.std.proofs.lemmas.List.{length-take}
-use Rattle.encoding_definitions.proofs.Sequences.SequenceLemmas.{length-IsIncomplete}
-use Rattle.encoding_text.proofs.Calls.PendingLemmas.{kept_bytes}
+use Rattle.encoding_definitions.proofs.SequenceLemmas.{length-IsIncomplete}
+use Rattle.encoding_text.proofs.PendingLemmas.{kept_bytes}
 use Rattle.encoding_text.proofs.decoder.pending.Pending.hold.Goals as goal
 
 pub slice_bounds-bytes-end : goal.slice_bounds-bytes-end

@@ -1,5 +1,5 @@
 use Rattle.std.proofs.Common.{◌∙◌}
-use Rattle.encoding_text.proofs.Calls.PendingLemmas.{resumed_rejected}
+use Rattle.encoding_text.proofs.PendingLemmas.{resumed_rejected}
 use Rattle.encoding_text.proofs.decoder.pending.Pending.resume.Goals as goal
 
 pub returns-in-Rejected : goal.returns-in-Rejected

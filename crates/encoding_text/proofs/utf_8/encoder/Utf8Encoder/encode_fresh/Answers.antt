@@ -1,7 +1,7 @@
 use Rattle.std.proofs.Common.{length, sym, subst}
 use Rattle.encoding_text.specs.Encoding.{EncodeStep}
 use Rattle.encoding_text.specs.declared.utf_8.encoder.EncoderResult.TheVariants.{OutputFull}
-use Rattle.encoding_text.proofs.EncoderSteps.EncoderLemmas.{LeavesOpen, fresh_full}
+use Rattle.encoding_text.proofs.EncoderLemmas.{LeavesOpen, fresh_full}
 use Rattle.encoding_text.proofs.utf_8.encoder.Utf8Encoder.encode_fresh.Goals as goal
 
 pub returns-then-read-due-clause-call : goal.returns-then-read-due-clause-call

@@ -1,6 +1,6 @@
 use Rattle.std.proofs.Common.{◌≡◌, ◌∷◌, ◌∙◌, [], length, arith, rules, sym, ap, subst}
 use Rattle.encoding_text.specs.Encoding.{IsPendingSurrogate, pending_units}
-use Rattle.encoding_text.proofs.EncoderSteps.EncoderLemmas.{some_there, call_full, call_then, call_then_rest, enough_room}
+use Rattle.encoding_text.proofs.EncoderLemmas.{some_there, call_full, call_then, call_then_rest, enough_room}
 use Rattle.encoding_text.proofs.utf_8.encoder.Utf8Encoder.encode_from_utf16_raw.Goals as goal
 
 pub returns-in_default-clause-suffices : goal.returns-in_default-clause-suffices

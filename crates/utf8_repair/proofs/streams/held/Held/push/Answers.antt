@@ -1,7 +1,7 @@
 use Rattle.std.proofs.Common.{◌≡◌, ◌+◌, ◌-◌, ◌++◌, length, take, drop, ap, sym, ◌∙◌, arith, rules, length-take-le, length-drop}
 use Rattle.std.proofs.lemmas.List.{drop-append-le, take_at, take-append-drop}
 use Rattle.encoding_definitions.specs.Prefixes.{WritesPrefix}
-use Rattle.encoding_definitions.proofs.LongestPrefixes.PrefixesLemmas.{WritesPrefix_after}
+use Rattle.encoding_definitions.proofs.PrefixesLemmas.{WritesPrefix_after}
 use Rattle.utf8_repair.proofs.streams.held.Held.push.Goals as goal
 
 -- an empty queue has space for `N` bytes

@@ -1,3 +1,0 @@
-pub mod AnyLemmas
-pub mod BidiTextLemmas
-pub mod BidiUnitsLemmas

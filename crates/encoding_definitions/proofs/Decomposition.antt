@@ -1,3 +1,0 @@
-pub mod PartsLemmas
-pub mod DecompositionLemmas
-pub mod LossyLemmas

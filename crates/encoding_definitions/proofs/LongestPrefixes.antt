@@ -1,3 +1,0 @@
-pub mod PrefixesLemmas
-pub mod FittingLemmas
-pub mod Utf8Lemmas

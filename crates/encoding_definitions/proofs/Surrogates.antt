@@ -1,3 +1,0 @@
-pub mod SurrogateLemmas
-pub mod SurrogateLawLemmas
-pub mod ValidLemmas

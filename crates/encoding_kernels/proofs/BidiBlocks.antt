@@ -1,2 +1,0 @@
-pub mod BidiBlocksLemmas
-pub mod BidiUnitBlocksLemmas

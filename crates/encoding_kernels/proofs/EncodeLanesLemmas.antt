@@ -1,0 +1,113 @@
+-- The UTF-8 of code units below U+0800, from both bytes of each and the indices that are kept.
+use Rattle.std.proofs.Common.{◌≡◌, ℕ, suc, ◌+◌, ◌*◌, ◌/◌, ◌%◌, ◌^◌, ◌<◌, ◌≤◌, Bool, true, false, cond, List, [], ◌∷◌, ◌++◌, map, length, take, get_or, encode_utf8_all, bit_and, replicate, refl, sym, ap, ◌∙◌, arith, subst, w16}
+use Rattle.std.specs.Prelude.{nat_le}
+use Rattle.std.proofs.lemmas.Bool.Decides.{nat_tests}
+use Rattle.std.proofs.lemmas.Grind.{same_number_lists}
+use Rattle.std.proofs.lemmas.List.{length-map, get_or-map, take-map}
+use Rattle.std.proofs.lemmas.Simd.{ones-mask_l_cons, swz_l, tops_compared, zip2_splat_left, mask_l-mod}
+use Rattle.std.proofs.lemmas.Nat.{and_mask}
+use Rattle.std.proofs.lemmas.Str.{encode_ascii}
+use Rattle.std.proofs.str.Laws.{two}
+use Rattle.std.specs.Int.RustNames.{count_ones}
+use Rattle.std.specs.Simd.Lanes.{mask_l, top, zip2, sel_l}
+use lib.Dec.{leb}
+use mir.Syntax.{Width, w8}
+use mir.Val.{hbits}
+use Rattle.encoding_kernels.specs.Vectors.{HasLanes}
+use Rattle.encoding_kernels.specs.EncodeLanes.{kept_places, EncodesTo}
+use Rattle.encoding_kernels.proofs.LaneLemmas.{HasLanes-itself, HasLanes-splat, HasLanes-zip2, HasLanes-swizzle, compared, mask_of}
+use Rattle.encoding_kernels.proofs.TestLemmas.{chosen_by, tests_of}
+use Rattle.encoding_kernels.proofs.WordLemmas.{bytes_of, bytes_lanes}
+
+-- ---- how many indices are kept
+ones-none : count_ones 0 ≡ 0
+unfolding count_ones
+ones-none = refl
+
+kept_long : (at : ℕ) (bs : List Bool) → length (kept_places at bs) ≡ length bs + count_ones (mask_l bs)
+kept_long at [] = omega (arith, ones-none)
+kept_long at (b ∷ bs) = let rest = kept_long (at + 2) bs in grind (arith, nat_tests, rest, ones-mask_l_cons b bs)
+
+-- ---- the bytes at these indices
+pub kept_step : (get : ℕ → ℕ) (at : ℕ) (b : Bool) (ks spelled rest : List ℕ) → cond b (get at ∷ get (at + 1) ∷ []) (get at ∷ []) ≡ spelled → map get ks ≡ rest
+    → map get (cond b (at ∷ (at + 1) ∷ []) (at ∷ []) ++ ks) ≡ spelled ++ rest
+kept_step get at false ks spelled rest e r = ap (λ xs. get at ∷ xs) r ∙ ap (λ xs. xs ++ rest) e
+kept_step get at true ks spelled rest e r = ap (λ xs. get at ∷ get (at + 1) ∷ xs) r ∙ ap (λ xs. xs ++ rest) e
+
+pub kept_spell : (get : ℕ → ℕ) (us : List ℕ) (at : ℕ) → ((k : ℕ) → k < length us → EncodesTo (get_or us k 0) (get (at + 2 * k)) (get (at + 2 * k + 1)))
+    → map get (kept_places at (map (nat_le 0x80) us)) ≡ encode_utf8_all us
+kept_spell get [] at h = refl
+kept_spell get (u ∷ us) at h =
+    let first : at + 2 * 0 ≡ at = omega arith in
+    let here : EncodesTo u (get at) (get (at + 1)) = subst (λ k. EncodesTo u (get k) (get (k + 1))) first (h 0 (omega arith)) in
+    let more : (k : ℕ) → k < length us → EncodesTo (get_or us k 0) (get (at + 2 + 2 * k)) (get (at + 2 + 2 * k + 1)) = λ k l.
+    let e : at + 2 * suc k ≡ at + 2 + 2 * k = omega arith in
+    subst (λ j. EncodesTo (get_or us k 0) (get j) (get (j + 1))) e (h (suc k) (omega arith)) in
+    kept_step get at (nat_le 0x80 u) _ _ _ here (kept_spell get us (at + 2) more)
+
+-- a lookup of indices in a vector
+pub looked_up : (bytes places : List ℕ) → length places ≡ 16 → ((k : ℕ) → k < 16 → get_or places k 0 < 16) → swz_l w8 16 bytes 0 places ≡ map (λ j. get_or bytes j 0) places
+looked_up bytes places long small =
+    let lanes = HasLanes-swizzle bytes (HasLanes-itself 16 places long) small in
+    same_number_lists (swz_l w8 16 bytes 0 places) (map (λ j. get_or bytes j 0) places) (omega (arith, lanes.long, length-map places (λ j. get_or bytes j 0))) (λ k l.
+    lanes.each k (omega (arith, lanes.long)) ∙ sym (get_or-map (λ j. get_or bytes j 0) places k 0 0 (omega (arith, lanes.long))))
+
+-- the bytes at the indices that the mask keeps
+pub compressed : (tests : List Bool) (bytes places : List ℕ) (mask : ℕ) → length tests ≡ 8 → length places ≡ 16 → ((k : ℕ) → k < 16 → get_or places k 0 < 16) → mask ≡ mask_l tests
+    → take (length (kept_places 0 tests)) places ≡ kept_places 0 tests → take (8 + count_ones mask) (swz_l w8 16 bytes 0 places) ≡ map (λ j. get_or bytes j 0) (kept_places 0 tests)
+compressed tests bytes places mask l long small m kept =
+    let count : 8 + count_ones mask ≡ length (kept_places 0 tests) = omega (arith, kept_long 0 tests, ap count_ones m) in
+    let get : ℕ → ℕ = λ j. get_or bytes j 0 in
+    ap (λ n. take n (swz_l w8 16 bytes 0 places)) count ∙ ap (take (length (kept_places 0 tests))) (looked_up bytes places long small)
+    ∙ take-map get (length (kept_places 0 tests)) places ∙ ap (map get) kept
+
+-- these are the UTF-8 of eight units
+pub spelled_short : (us bytes : List ℕ) → length us ≡ 8 → ((k : ℕ) → k < 8 → EncodesTo (get_or us k 0) (get_or bytes (2 * k) 0) (get_or bytes (2 * k + 1) 0))
+    → map (λ j. get_or bytes j 0) (kept_places 0 (map (nat_le 0x80) us)) ≡ encode_utf8_all us
+spelled_short us bytes l spells =
+    kept_spell (λ j. get_or bytes j 0) us 0 (λ k i. let e : 2 * k ≡ 0 + 2 * k = omega arith in subst (λ j. EncodesTo (get_or us k 0) (get_or bytes j 0) (get_or bytes (j + 1) 0)) e (spells k (omega arith)))
+
+-- ---- both bytes
+-- of a code unit from 0x80 on, in one number
+abbrev pub both : ℕ → ℕ
+both u = ((u / 2 ^ 6 + bit_and u 0x3F * 2 ^ 8 % 2 ^ 16) % 2 ^ 16 + 0x80C0) % 2 ^ 16
+
+both_is : (u : ℕ) → u < 0x800 → (both u % 256 ≡ 192 + u / 64) × (both u / 256 ≡ 128 + u % 64)
+both_is u l = let low : bit_and u 0x3F ≡ u % 2 ^ 6 = and_mask u 6 in (omega arith, omega arith)
+
+pub EncodesTo-word : (u : ℕ) → u < 0x800 → EncodesTo u (cond (nat_le 0x80 u) (both u) u % 256) (cond (nat_le 0x80 u) (both u) u / 256)
+EncodesTo-word u l = grind (arith, nat_tests, both_is u l, two u, encode_ascii u)
+
+-- ---- lanes
+-- the mask of `simd_ge` with a splat
+pub mask_from : (w : Width) (n bound : ℕ) (us : List ℕ) → length us ≡ n → n ≤ 64 → mask_of (hbits w) (zip2 (compared w leb) (replicate n bound) us) ≡ mask_l (map (leb bound) us)
+mask_from w n bound us long few =
+    let tests = tops_compared w leb (replicate n bound) us ∙ zip2_splat_left leb bound n us long in
+    ap (λ ms. mask_l ms % 2 ^ 64) tests ∙ mask_l-mod (map (leb bound) us) 64 (omega (arith, length-map us (leb bound)))
+
+pub respell : (u : ℕ) {x y x2 y2 : ℕ} → x ≡ x2 → y ≡ y2 → EncodesTo u x2 y2 → EncodesTo u x y
+respell u {x} {y} {x2} {y2} p q s = subst (λ k. EncodesTo u k y) (sym p) (subst (EncodesTo u x2) (sym q) s)
+
+pub pick : (b : Bool) (x y : ℕ) → x < 65536 → y < 65536 → cond b x y < 65536
+pick b x y l m = grind (arith, nat_tests)
+
+-- the words of eight code units, as bytes
+both_lanes : (us : List ℕ) → length us ≡ 8
+    → HasLanes 8 (zip2 (λ a b. (a + b) % 2 ^ 16) (zip2 (λ a b. (a + b) % 2 ^ 16) (zip2 (λ a b. a / 2 ^ b) us (replicate 8 6)) (zip2 (λ a b. a * 2 ^ b % 2 ^ 16) (zip2 bit_and us (replicate 8 0x3F)) (replicate 8 8))) (replicate 8 0x80C0))
+    (λ k. both (get_or us k 0))
+both_lanes us long =
+    let lanes = HasLanes-itself 8 us long in
+    let lead = HasLanes-zip2 (λ a b. a / 2 ^ b) lanes (HasLanes-splat 8 6) in
+    let last = HasLanes-zip2 (λ a b. a * 2 ^ b % 2 ^ 16) (HasLanes-zip2 bit_and lanes (HasLanes-splat 8 0x3F)) (HasLanes-splat 8 8) in
+    HasLanes-zip2 (λ a b. (a + b) % 2 ^ 16) (HasLanes-zip2 (λ a b. (a + b) % 2 ^ 16) lead last) (HasLanes-splat 8 0x80C0)
+
+abbrev pub both_words : List ℕ → List ℕ
+both_words us = sel_l (map (top 15) (zip2 (compared w16 leb) (replicate 8 0x80) us))
+    (zip2 (λ a b. (a + b) % 2 ^ 16) (zip2 (λ a b. (a + b) % 2 ^ 16) (zip2 (λ a b. a / 2 ^ b) us (replicate 8 6)) (zip2 (λ a b. a * 2 ^ b % 2 ^ 16) (zip2 bit_and us (replicate 8 0x3F)) (replicate 8 8))) (replicate 8 0x80C0)) us
+
+pub words_spell : (us : List ℕ) → length us ≡ 8 → ((i : ℕ) → get_or us i 0 < 0x800) → (k : ℕ) → k < 8 → EncodesTo (get_or us k 0) (get_or (bytes_of (both_words us)) (2 * k) 0) (get_or (bytes_of (both_words us)) (2 * k + 1) 0)
+words_spell us long small k l =
+    let lanes = HasLanes-itself 8 us long in
+    let words = chosen_by (tests_of w16 leb (HasLanes-splat 8 0x80) lanes) (both_lanes us long) lanes in
+    let bytes = bytes_lanes words (λ i m. pick (leb 0x80 (get_or us i 0)) (both (get_or us i 0)) (get_or us i 0) (omega arith) (omega (arith, small i))) k l in
+    respell (get_or us k 0) bytes.0 bytes.1 (EncodesTo-word (get_or us k 0) (small k))

@@ -1,0 +1,160 @@
+-- The value of each lane after the operations on vectors, and what the mask of a vector says about its lanes.
+use Rattle.std.proofs.Common.{◌≡◌, ℕ, suc, ◌+◌, ◌-◌, ◌*◌, ◌/◌, ◌^◌, ◌%◌, ◌<◌, ◌≤◌, Bool, true, false, not, cond, ltb, inl, inr, List, [], ◌∷◌, map, length, get_or, replicate, refl, sym, ap, ◌∙◌, arith, subst, map-id, ◌++◌, take, drop, length-take-le, length-append, length-drop, get_or-take, get_or-drop, append_assoc, drop-drop}
+use Rattle.std.proofs.lemmas.Bool.{cond-true, cond-false, cases_lt, lt-ltb, le-ltb, not-true, not-false}
+use Rattle.std.proofs.lemmas.Grind.{same_number_lists}
+use Rattle.std.proofs.lemmas.List.{length-map, get_or-map, drop-append-le, get_or_append_left, get_or-append_right}
+use Rattle.std.proofs.lemmas.List.Sums.{prefix_len-le-length, prefix_len_passes, prefix_len_stops}
+use Rattle.std.proofs.lemmas.Simd.{chunk-drop, length-chunk, get_or-chunk, length-replicate, get_or-replicate, length-zip2, get_or-zip2, length-sel_l, get_or-sel_l, swz_l, SwzOk, length-swz_l, get_or-swz_l_below, SwzOk-from_below, Each1-from_get_or, mask_l-mod, leading_from_mask_l}
+use Rattle.std.specs.Simd.Lanes.{zip2, chunk, put_chunk, mask_l, top, sel_l}
+use Rattle.std.specs.List.{prefix_len, range_with_len}
+use Rattle.std.proofs.lemmas.List.FromFn.{get_or-map-range_with_len, get_or-range_with_len, length-range_with_len}
+use mir.Syntax.{Width, w8, w16, w32, w64, w128}
+use mir.Val.{bits, hbits}
+use Rattle.encoding_kernels.specs.Vectors.{HasLanes}
+use Rattle.encoding_kernels.proofs.PutLemmas.{put_is, whole_chunk}
+
+-- ---- lanes
+pub HasLanes-load : (at n : ℕ) (xs : List ℕ) → at + n ≤ length xs → HasLanes n (chunk at n xs) (λ k. get_or xs (at + k) 0)
+HasLanes-load at n xs room = record { long = length-chunk at n xs room; each = λ k l. get_or-chunk at n xs k 0 l }
+
+pub HasLanes-splat : (n x : ℕ) → HasLanes n (replicate n x) (λ _. x)
+HasLanes-splat n x = record { long = length-replicate n x; each = λ k l. get_or-replicate n k x 0 l }
+
+-- an operator on two vectors
+pub HasLanes-zip2 : (h : ℕ → ℕ → ℕ) {n : ℕ} {a b : List ℕ} {f g : ℕ → ℕ} → HasLanes n a f → HasLanes n b g → HasLanes n (zip2 h a b) (λ k. h (f k) (g k))
+HasLanes-zip2 h {n} {a} {b} {f} {g} p q = record {
+  long = length-zip2 h a b (p.long ∙ sym q.long) ∙ p.long;
+  each = λ k l. get_or-zip2 h a b k 0 0 0 (omega (arith, p.long)) (omega (arith, q.long)) ∙ (λ i. h (p.each k l i) (q.each k l i));
+}
+
+-- a cast
+pub HasLanes-cast : {n : ℕ} {a : List ℕ} {f : ℕ → ℕ} → HasLanes n a f → HasLanes n (map (λ x. x) a) f
+HasLanes-cast {n} {a} {f} p = subst (λ xs. HasLanes n xs f) (sym (map-id a)) p
+
+pub HasLanes-itself : (n : ℕ) (a : List ℕ) → length a ≡ n → HasLanes n a (λ k. get_or a k 0)
+HasLanes-itself n a long = record { long = long; each = λ k l. refl }
+
+-- the number of each lane
+pub HasLanes-numbers : (n : ℕ) → HasLanes n (range_with_len 0 n) (λ k. k)
+HasLanes-numbers n = record { long = length-range_with_len 0 n; each = λ k l. let e : 0 + k ≡ k = omega arith in get_or-range_with_len 0 n k 0 l ∙ e }
+
+-- two functions have the same values below a bound, if all of them compute to the same
+pub same_below : {X : Type 0} (f g : ℕ → X) (d : X) (n : ℕ) → map f (range_with_len 0 n) ≡ map g (range_with_len 0 n) → (k : ℕ) → k < n → f k ≡ g k
+same_below f g d n e k l = sym (get_or-map-range_with_len f 0 n k k d l (omega arith)) ∙ ap (λ xs. get_or xs k d) e ∙ get_or-map-range_with_len g 0 n k k d l (omega arith)
+
+-- a stride, read whole
+pub HasLanes-whole : (n : ℕ) (xs : List ℕ) → length xs ≡ n → HasLanes n (chunk 0 n xs) (λ k. get_or xs k 0)
+HasLanes-whole n xs long = subst (λ ys. HasLanes n ys (λ k. get_or xs k 0)) (sym (whole_chunk n xs long)) (HasLanes-itself n xs long)
+
+pub HasLanes-same : {n : ℕ} {a : List ℕ} {f g : ℕ → ℕ} → HasLanes n a f → ((k : ℕ) → k < n → f k ≡ g k) → HasLanes n a g
+HasLanes-same p e = record { long = p.long; each = λ k l. p.each k l ∙ e k l }
+
+-- `mask.select(a, b)`
+pub HasLanes-select : (h : ℕ) {n : ℕ} {m a b : List ℕ} {t f g : ℕ → ℕ} → HasLanes n m t → HasLanes n a f → HasLanes n b g
+    → HasLanes n (sel_l (map (top h) m) a b) (λ k. cond (top h (t k)) (f k) (g k))
+HasLanes-select h {n} {m} {a} {b} {t} {f} {g} p q r =
+    let tops = map (top h) m in
+    let long : length tops ≡ n = length-map m (top h) ∙ p.long in
+    record {
+      long = length-sel_l tops a b (long ∙ sym q.long) (long ∙ sym r.long) ∙ long;
+      each = λ k l.
+          let set : get_or tops k false ≡ top h (t k) = get_or-map (top h) m k 0 false (omega (arith, p.long)) ∙ ap (top h) (p.each k l) in
+          get_or-sel_l tops a b k 0 (omega arith) (omega (arith, q.long)) (omega (arith, r.long)) ∙ (λ i. cond (set i) (q.each k l i) (r.each k l i));
+    }
+
+-- `table.swizzle_dyn(js)` of sixteen bytes, with each position below 16
+pub HasLanes-swizzle : (table : List ℕ) {js : List ℕ} {f : ℕ → ℕ} → HasLanes 16 js f → ((k : ℕ) → k < 16 → f k < 16)
+    → HasLanes 16 (swz_l w8 16 table 0 js) (λ k. get_or table (f k) 0)
+HasLanes-swizzle table {js} {f} p small = record {
+  long = length-swz_l w8 16 table 0 js ∙ p.long;
+  each = λ k l.
+      let is : 16 * ((0 + k) / 16) + get_or js k 0 ≡ f k = omega (arith, p.each k l) in
+      get_or-swz_l_below w8 16 table 0 js k (omega (arith, p.long)) (omega (arith, p.each k l, small k l)) ∙ ap (λ j. get_or table j 0) is;
+}
+
+pub swizzle_ok : {js : List ℕ} {f : ℕ → ℕ} → HasLanes 16 js f → ((k : ℕ) → k < 16 → f k < 16) → SwzOk w8 16 16 0 js
+swizzle_ok {js} {f} p small =
+    SwzOk-from_below w8 16 1 16 0 js (omega arith) (omega (arith, p.long))
+    (Each1-from_get_or (λ j. j < 16) js 0 (λ k l. let in_js : k < 16 = omega (arith, p.long) in omega (arith, p.each k in_js, small k in_js)))
+
+-- a comparison: all bits of the lane are set if it holds
+abbrev pub compared : Width → (ℕ → ℕ → Bool) → ℕ → ℕ → ℕ
+compared w t a b = cond (t a b) (2 ^ bits w - 1) 0
+
+pub top_compared : (w : Width) (b : Bool) → top (hbits w) (cond b (2 ^ bits w - 1) 0) ≡ b
+top_compared w8 true = refl
+top_compared w16 true = refl
+top_compared w32 true = refl
+top_compared w64 true = refl
+top_compared w128 true = refl
+top_compared w8 false = refl
+top_compared w16 false = refl
+top_compared w32 false = refl
+top_compared w64 false = refl
+top_compared w128 false = refl
+
+-- ---- the mask of a vector
+abbrev pub mask_of : ℕ → List ℕ → ℕ
+mask_of h lanes = mask_l (map (top h) lanes) % 2 ^ 64
+
+pub mask_is : (h n : ℕ) (a : List ℕ) → length a ≡ n → n ≤ 64 → mask_of h a ≡ mask_l (map (top h) a)
+mask_is h n a long few = mask_l-mod (map (top h) a) 64 (omega (arith, length-map a (top h), long))
+
+-- if no lane passes p, no bit is set
+empty_mask : {X : Type 0} (p : X → Bool) (xs : List X) (d : X) → ((k : ℕ) → k < length xs → p (get_or xs k d) ≡ false) → mask_l (map p xs) ≡ 0
+empty_mask p [] d h = refl
+empty_mask p (x ∷ xs) d h =
+    let first : cond {A = ℕ} (p x) 1 0 ≡ 0 = ap (λ b. cond b 1 0) (h 0 (omega arith)) in
+    omega (arith, first, empty_mask p xs d (λ k l. h (suc k) (omega arith)))
+
+-- of n lanes, the first at which t holds is r, or there is none and r is n
+pub record IsFirstSet (n r : ℕ) (t : ℕ → Bool) : Type 0 where
+  pub within : r ≤ n
+  pub before : (k : ℕ) → k < r → t k ≡ false
+  pub found : r < n → t r ≡ true
+
+module _ (h : ℕ) {n : ℕ} {a : List ℕ} {f : ℕ → ℕ} (lanes : HasLanes n a f) (few : n ≤ 64) where
+  at_lane : (k : ℕ) → k < n → top h (get_or a k 0) ≡ top h (f k)
+  at_lane k l = ap (top h) (lanes.each k l)
+
+  pub first_set : (r : ℕ) → r ≡ prefix_len (λ x. not (top h x)) a → IsFirstSet n r (λ k. top h (f k))
+  first_set r e =
+      let bound : r ≤ n = omega (arith, e, lanes.long, prefix_len-le-length (λ x. not (top h x)) a) in
+      record {
+        within = bound;
+        before = λ k l. sym (at_lane k (omega arith)) ∙ not-true _ (prefix_len_passes (λ x. not (top h x)) a k 0 (omega (arith, e)));
+        found = λ l. sym (at_lane r l) ∙ ap (λ j. top h (get_or a j 0)) e ∙ not-false _ (prefix_len_stops (λ x. not (top h x)) a 0 (omega (arith, e, lanes.long)));
+      }
+
+  -- if `mask.to_bitmask()` is 0
+  pub first_none : mask_of h a ≡ 0 → IsFirstSet n n (λ k. top h (f k))
+  first_none none = first_set n (sym (leading_from_mask_l (top h) a (sym (mask_is h n a lanes.long few) ∙ none) ∙ lanes.long))
+
+  -- no bit is set
+  pub no_bit_from : ((k : ℕ) → k < n → top h (f k) ≡ false) → mask_of h a ≡ 0
+  no_bit_from p = mask_is h n a lanes.long few ∙ empty_mask (top h) a 0 (λ k l. at_lane k (omega (arith, lanes.long)) ∙ p k (omega (arith, lanes.long)))
+
+-- ---- a store whose first lanes count
+-- the first `count` lanes of one vector, followed by those of another
+pub firsts_are : (n count : ℕ) (lanes following z : List ℕ) → length lanes ≡ n → length following ≡ n → count ≤ n
+    → HasLanes n z (λ k. cond (ltb k count) (get_or lanes k 0) (get_or following k 0)) → z ≡ take count lanes ++ drop count following
+firsts_are n count lanes following z p q few h =
+    let prefix : length (take count lanes) ≡ count = length-take-le count lanes (omega arith) in
+    same_number_lists z (take count lanes ++ drop count following) (omega (arith, h.long, length-append (take count lanes) (drop count following), length-drop count following)) (λ k l.
+    let within : k < n = omega (arith, h.long) in
+    h.each k within ∙ elim (cases_lt k count) [
+      | inl a ↦ cond-true _ _ _ (lt-ltb k count a) ∙ sym (get_or_append_left (take count lanes) (drop count following) 0 k (omega arith) ∙ get_or-take count lanes k 0 a)
+      | inr b ↦
+          let back : count + (k - count) ≡ k = omega arith in
+          cond-false _ _ _ (le-ltb k count b) ∙ sym (get_or-append_right (take count lanes) (drop count following) count k 0 prefix b ∙ get_or-drop count following (k - count) 0 ∙ ap (λ j. get_or following j 0) back)
+    ])
+
+pub put_firsts : (at n count : ℕ) (xs lanes z : List ℕ) → at + n ≤ length xs → length lanes ≡ n → count ≤ n
+    → HasLanes n z (λ k. cond (ltb k count) (get_or lanes k 0) (get_or (chunk at n xs) k 0)) → put_chunk at xs z ≡ take at xs ++ (take count lanes ++ drop (at + count) xs)
+put_firsts at n count xs lanes z room p few h =
+    let long = length-chunk at n xs room in
+    let following = chunk at n xs in
+    let is = firsts_are n count lanes following z p long few h in
+    let rest : drop count following ++ drop (at + n) xs ≡ drop (at + count) xs =
+    sym (drop-append-le count following (drop (at + n) xs) (omega arith)) ∙ ap (drop count) (sym (chunk-drop at n xs)) ∙ drop-drop count at xs in
+    put_is at n xs z h.long room ∙ ap (λ ys. take at xs ++ (ys ++ drop (at + n) xs)) is ∙ ap (λ ys. take at xs ++ ys) (append_assoc (take count lanes) (drop count following) (drop (at + n) xs) ∙ ap (λ ys. take count lanes ++ ys) rest)

@@ -1,2 +1,0 @@
-pub mod AsciiLemmas
-pub mod EndedLemmas

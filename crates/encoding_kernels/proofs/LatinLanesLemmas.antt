@@ -1,0 +1,84 @@
+-- The UTF-8 of sixteen bytes of Latin1: both bytes of each, and which of them are kept.
+use Rattle.std.proofs.Common.{◌≡◌, ℕ, ◌+◌, ◌*◌, ◌/◌, ◌%◌, ◌^◌, ◌<◌, Bool, cond, leb, List, ◌++◌, map, length, take, drop, get_or, get_or-take, get_or-drop, length-drop, length-take-le, encode_utf8_all, bit_and, replicate, sym, ap, ◌∙◌, arith, subst, w8}
+use Rattle.std.specs.Prelude.{nat_le}
+use Rattle.std.proofs.lemmas.Bool.Decides.{nat_tests}
+use Rattle.std.proofs.lemmas.List.{length-map, take-map, drop-map, take-append-drop}
+use Rattle.std.proofs.lemmas.Nat.{and_mask}
+use Rattle.std.proofs.lemmas.Simd.{mask_l-lt}
+use Rattle.std.proofs.lemmas.Str.{encode_ascii, encodes-append}
+use Rattle.std.proofs.str.Laws.{two}
+use Rattle.std.specs.Simd.Lanes.{mask_l, top, zip2, sel_l}
+use mir.Syntax.{w8}
+use Rattle.encoding_kernels.specs.Vectors.{HasLanes}
+use Rattle.encoding_kernels.specs.EncodeLanes.{EncodesTo, kept_places}
+use Rattle.encoding_kernels.proofs.CompressLemmas.{low_half, high_half}
+use Rattle.encoding_kernels.proofs.LaneLemmas.{HasLanes-itself, HasLanes-splat, HasLanes-zip2, HasLanes-same, compared}
+use Rattle.encoding_kernels.proofs.TestLemmas.{chosen_by, tests_of}
+use Rattle.encoding_kernels.proofs.EncodeLanesLemmas.{respell, spelled_short}
+use Rattle.encoding_kernels.proofs.WordLemmas.{bytes_of, bytes_lanes}
+
+-- ---- one byte
+abbrev pub first_of : ℕ → ℕ
+first_of b = cond (leb 0x80 b) ((b / 2 ^ 6 + 0xC0) % 2 ^ 8) b
+
+abbrev pub second_of : ℕ → ℕ
+second_of b = (bit_and b 0x3F + 0x80) % 2 ^ 8
+
+EncodesTo-latin : (b : ℕ) → b < 0x100 → EncodesTo b (first_of b) (second_of b)
+EncodesTo-latin b l = grind (arith, nat_tests, and_mask b 6, two b, encode_ascii b)
+
+first_small : (b : ℕ) → b < 0x100 → first_of b < 0x100
+first_small b l = grind (arith, nat_tests)
+
+-- ---- lanes
+module _ (v : List ℕ) (long : length v ≡ 16) (small : (k : ℕ) → k < 16 → get_or v k 0 < 0x100) where
+  pub first_lanes : HasLanes 16 (sel_l (map (top 7) (zip2 (compared w8 leb) (replicate 16 0x80) v)) (zip2 (λ a b. (a + b) % 2 ^ 8) (zip2 (λ a b. a / 2 ^ b) v (replicate 16 6)) (replicate 16 0xC0)) v) (λ k. first_of (get_or v k 0))
+  first_lanes =
+      let lanes = HasLanes-itself 16 v long in
+      let lead = HasLanes-zip2 (λ a b. (a + b) % 2 ^ 8) (HasLanes-zip2 (λ a b. a / 2 ^ b) lanes (HasLanes-splat 16 6)) (HasLanes-splat 16 0xC0) in
+      chosen_by (tests_of w8 leb (HasLanes-splat 16 0x80) lanes) lead lanes
+
+  pub second_lanes : HasLanes 16 (zip2 (λ a b. (a + b) % 2 ^ 8) (zip2 bit_and v (replicate 16 0x3F)) (replicate 16 0x80)) (λ k. second_of (get_or v k 0))
+  second_lanes = HasLanes-zip2 (λ a b. (a + b) % 2 ^ 8) (HasLanes-zip2 bit_and (HasLanes-itself 16 v long) (HasLanes-splat 16 0x3F)) (HasLanes-splat 16 0x80)
+
+  -- words of both bytes, as bytes
+  pub latin_pairs : (lower upper words : List ℕ) (at : ℕ → ℕ) → ((k : ℕ) → k < 8 → at k < 16) → HasLanes 16 lower (λ k. first_of (get_or v k 0)) → HasLanes 16 upper (λ k. second_of (get_or v k 0))
+      → HasLanes 8 words (λ k. get_or lower (at k) 0 + 0x100 * get_or upper (at k) 0) → (k : ℕ) → k < 8
+      → EncodesTo (get_or v (at k) 0) (get_or (bytes_of words) (2 * k) 0) (get_or (bytes_of words) (2 * k + 1) 0)
+  latin_pairs lower upper words at inside low high is k l =
+      let word = HasLanes-same is (λ i m j. low.each (at i) (inside i m) j + 0x100 * high.each (at i) (inside i m) j) in
+      let bytes = bytes_lanes word (λ i m. omega (arith, first_small (get_or v (at i) 0) (small (at i) (inside i m)))) k l in
+      let b = get_or v (at k) 0 in
+      let bound = first_small b (small (at k) (inside k l)) in
+      let even : (first_of b + 0x100 * second_of b) % 256 ≡ first_of b = omega (arith, bound) in
+      let odd : (first_of b + 0x100 * second_of b) / 256 ≡ second_of b = omega (arith, bound) in
+      respell b (bytes.0 ∙ even) (bytes.1 ∙ odd) (EncodesTo-latin b (small (at k) (inside k l)))
+
+-- ---- halves
+module _ (v : List ℕ) (long : length v ≡ 16) (others : ℕ) (is : others ≡ mask_l (map (nat_le 0x80) v)) where
+  marks_long : length (map (nat_le 0x80) v) ≡ 16
+  marks_long = length-map v (nat_le 0x80) ∙ long
+
+  pub others_small : others / 256 < 256
+  others_small = let bound : mask_l (map (nat_le 0x80) v) < 2 ^ 16 = subst (λ n. mask_l (map (nat_le 0x80) v) < 2 ^ n) marks_long (mask_l-lt (map (nat_le 0x80) v)) in
+      omega (arith, is)
+
+  low_others : bit_and others 255 ≡ mask_l (map (nat_le 0x80) (take 8 v))
+  low_others = and_mask others 8 ∙ ap (λ m. m % 256) is ∙ low_half (map (nat_le 0x80) v) marks_long ∙ ap mask_l (take-map (nat_le 0x80) 8 v)
+
+  high_others : others / 256 ≡ mask_l (map (nat_le 0x80) (drop 8 v))
+  high_others = ap (λ m. m / 256) is ∙ high_half (map (nat_le 0x80) v) marks_long ∙ ap mask_l (drop-map (nat_le 0x80) 8 v)
+
+  -- the UTF-8 of both halves, given what any tests keep of their pairs
+  pub latin_spelled : (low high first second : List ℕ) (count more : ℕ) → ((k : ℕ) → k < 8 → EncodesTo (get_or v k 0) (get_or low (2 * k) 0) (get_or low (2 * k + 1) 0))
+      → ((k : ℕ) → k < 8 → EncodesTo (get_or v (8 + k) 0) (get_or high (2 * k) 0) (get_or high (2 * k + 1) 0))
+      → ((tests : List Bool) → length tests ≡ 8 → bit_and others 255 ≡ mask_l tests → take count first ≡ map (λ k. get_or low k 0) (kept_places 0 tests))
+      → ((tests : List Bool) → length tests ≡ 8 → others / 256 ≡ mask_l tests → take more second ≡ map (λ k. get_or high k 0) (kept_places 0 tests)) → take count first ++ take more second ≡ encode_utf8_all v
+  latin_spelled low high first second count more p q kept keeps =
+      let low_long : length (take 8 v) ≡ 8 = length-take-le 8 v (omega (arith, long)) in
+      let high_long : length (drop 8 v) ≡ 8 = omega (arith, long, length-drop 8 v) in
+      let prefix = kept (map (nat_le 0x80) (take 8 v)) (length-map (take 8 v) (nat_le 0x80) ∙ low_long) low_others
+      ∙ spelled_short (take 8 v) low low_long (λ k l. subst (λ b. EncodesTo b (get_or low (2 * k) 0) (get_or low (2 * k + 1) 0)) (sym (get_or-take 8 v k 0 l)) (p k l)) in
+      let back = keeps (map (nat_le 0x80) (drop 8 v)) (length-map (drop 8 v) (nat_le 0x80) ∙ high_long) high_others
+      ∙ spelled_short (drop 8 v) high high_long (λ k l. subst (λ b. EncodesTo b (get_or high (2 * k) 0) (get_or high (2 * k + 1) 0)) (sym (get_or-drop 8 v k 0)) (q k l)) in
+      (λ i. prefix i ++ back i) ∙ sym (encodes-append (take 8 v) (drop 8 v)) ∙ ap encode_utf8_all (take-append-drop 8 v)

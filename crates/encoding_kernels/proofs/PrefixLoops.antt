@@ -1,5 +1,0 @@
-pub mod TextUnitsLemmas
-pub mod TextLoopLemmas
-pub mod TextTailLemmas
-pub mod StrideLoopLemmas
-pub mod StrideCopyLemmas

@@ -1,2 +1,0 @@
-pub mod TotalLemmas
-pub mod TextSumLemmas

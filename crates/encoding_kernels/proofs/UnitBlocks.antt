@@ -1,2 +1,0 @@
-pub mod PairedUnitsLemmas
-pub mod UnitBlocksLemmas

@@ -1,4 +1,0 @@
-pub mod FollowingLemmas
-pub mod ValidationLaneLemmas
-pub mod MaskLemmas
-pub mod PairLemmas

@@ -1,5 +1,0 @@
-use Rattle.encoding_kernels.proofs.Lanes.PutLemmas.{put_same_place}
-use Rattle.encoding_kernels.proofs.strides.copies.unpack.Goals as goal
-
-pub returns : goal.returns
-returns g c = put_same_place c.args.at g.row.N c.args.dst.now c.args.src.now c.requires.0 c.requires.1

@@ -1,0 +1,54 @@
+//! Latin1 of sixteen bytes of UTF-8: the kept bytes of pairs are looked up by a mask, as in the other direction.
+
+ghost use Rattle.std.specs.Prelude.{◌≡◌, ℕ, ◌+◌, ◌*◌, ◌<◌, ◌≤◌, ◌⊎◌, ◌∷◌, length, take, slice_index};
+ghost use Rattle.std.specs.Simd.Lanes.{mask_l};
+ghost use Rattle.encoding_kernels.specs.EncodeLanes.{EndsPair, all_latin1_ended, both_end};
+
+use crate::simd::compress_pairs::keep_pairs;
+use std::simd::prelude::*;
+
+/// Returns for each pair of bytes the Latin1 bytes that its bytes end. If they end one, the second is arbitrary.
+#[tactic(auto, using(crate::proofs::EndsLemmas::pairs_end))]
+#[inline(always)]
+fn ended_pairs(block: u8x16) -> u8x16
+    ensures lane_count { length result ≡ 16 }
+    ensures pairs { (k : ℕ) → k < 8 → EndsPair (slice_index (0 ∷ block) (2 * k)) (slice_index block (2 * k))
+        (slice_index block (2 * k + 1)) (slice_index result (2 * k)) (slice_index result (2 * k + 1)) }
+{
+    let before = u8x16::splat(0).shuffle(
+        block,
+        [
+            15, 16, 17, 18, 19, 20, 21, 22, 23, 24, 25, 26, 27, 28, 29, 30,
+        ],
+    );
+    let low = (before << u8x16::splat(6)) + (block & u8x16::splat(0x3F));
+    let ends = block.simd_ge(u8x16::splat(0x80)).select(low, block);
+    let words = u16x8::from_le_bytes(ends);
+    let firsts = u16x8::from_le_bytes(block) & u16x8::splat(0xFF);
+    let begins = firsts.simd_ge(u16x8::splat(0xC0));
+    begins.select(words >> u16x8::splat(8), words).to_le_bytes()
+}
+
+/// Returns the mask of the pairs of bytes that each end a byte of Latin1.
+#[tactic(auto, using(crate::proofs::EndsLemmas::mask_ends, crate::proofs::EndsLemmas::mask_small))]
+#[inline(always)]
+fn mask_of_ends(block: u8x16) -> usize
+    ensures upper_bound { result < 256 }
+    ensures mask { result ≡ mask_l (both_end block) }
+{
+    let words = u16x8::from_le_bytes(block);
+    let first = (words & u16x8::splat(0xFF)).simd_lt(u16x8::splat(0xC0));
+    (first & words.simd_lt(u16x8::splat(0xC000))).to_bitmask() as usize
+}
+
+/// Returns the Latin1 of sixteen bytes of UTF-8 that start with a character, at the start of the vector, and its
+/// length. No two adjacent bytes both begin a character of two bytes.
+#[inline(always)]
+pub fn latin1_of(block: u8x16) -> (u8x16, usize)
+    requires { (k : ℕ) → (slice_index block k < 0xC0) ⊎ (slice_index block (k + 1) < 0xC0) }
+    ensures lane_count { length result.0 ≡ 16 }
+    ensures out_length { result.1 ≤ 16 }
+    ensures latin1_ended { take result.1 result.0 ≡ all_latin1_ended 0 block }
+{
+    keep_pairs(ended_pairs(block), mask_of_ends(block))
+}

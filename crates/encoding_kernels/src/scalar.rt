@@ -1,0 +1,5 @@
+//! Single characters: the bytes of a sequence, scalar values, and surrogates.
+
+pub mod sequence;
+pub mod surrogates;
+pub mod value;

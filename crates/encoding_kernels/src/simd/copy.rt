@@ -1,0 +1,128 @@
+//! Copies by vectors. The rest of `dst` is unchanged.
+
+ghost use Rattle.std.specs.Prelude.{◌≡◌, ◌+◌, ◌%◌, ◌<◌, ◌≤◌, ◌++◌, length, map, take, drop};
+ghost use Rattle.encoding_definitions.specs.Prefixes.{WritesPrefix};
+
+use crate::simd::width::{HALF_STRIDE, STRIDE};
+use std::simd::Simd;
+use std::simd::prelude::*;
+
+/// The greatest number of bytes that are copied by strides.
+const MOST_STRIDES: usize = 256;
+
+/// The indices of the lanes of a stride.
+pub(crate) const LANES: [u8; STRIDE] = [0, 1, 2, 3, 4, 5, 6, 7, 8, 9, 10, 11, 12, 13, 14, 15];
+
+/// Copies the N bytes from `at` on to the same index.
+#[inline(always)]
+pub(super) fn copy<const N: usize>(src: &[u8], dst: &mut [u8], at: usize)
+    requires { (at + N ≤ length src.now) × (at + N ≤ length dst.old) }
+    ensures { dst.new ≡ take at dst.old ++ (take N (drop at src.now) ++ drop (at + N) dst.old) }
+{
+    Simd::<u8, N>::from_slice(&src[at..]).copy_to_slice(&mut dst[at..]);
+}
+
+/// Copies `src` to the start of `dst`, N bytes at a time. The last stride may overlap the one before it.
+#[inline(always)]
+fn copy_by_strides<const N: usize>(src: &[u8], dst: &mut [u8])
+    requires { (0 < N) × (N ≤ 64) × (N ≤ length src.now) × (length src.now ≤ length dst.old) }
+    ensures { WritesPrefix dst.old dst.new (length src.now) src.now }
+{
+    let last = src.len() - N;
+    let mut at = 0;
+    while at < last {
+        copy::<N>(src, dst, at);
+        at += N;
+    }
+    copy::<N>(src, dst, last);
+}
+
+/// Copies one, two or three bytes to the start of `dst`. May copy a byte twice: a branch for each length costs more.
+#[inline(always)]
+fn copy_few(src: &[u8], dst: &mut [u8])
+    requires few { (0 < length src.now) × (length src.now ≤ 3) }
+    requires dst_length { length src.now ≤ length dst.old }
+    ensures { WritesPrefix dst.old dst.new (length src.now) src.now }
+{
+    let (middle, last) = (src.len() / 2, src.len() - 1);
+    dst[0] = src[0];
+    dst[middle] = src[middle];
+    dst[last] = src[last];
+}
+
+/// Copies `src`, of at least four bytes, to the start of `dst`.
+#[inline]
+fn copy_many(src: &[u8], dst: &mut [u8])
+    requires { length src.now ≤ length dst.old }
+    ensures { WritesPrefix dst.old dst.new (length src.now) src.now }
+{
+    match src.len() {
+        4..HALF_STRIDE => copy_by_strides::<4>(src, dst),
+        HALF_STRIDE..STRIDE => copy_by_strides::<HALF_STRIDE>(src, dst),
+        STRIDE..=MOST_STRIDES => copy_by_strides::<STRIDE>(src, dst),
+        _ => dst[..src.len()].copy_from_slice(src),
+    }
+}
+
+/// Copies `src` to the start of `dst`. A few bytes are not worth a PLT call of the C library.
+#[inline(always)]
+pub fn copy_prefix(src: &[u8], dst: &mut [u8])
+    requires { length src.now ≤ length dst.old }
+    ensures { WritesPrefix dst.old dst.new (length src.now) src.now }
+{
+    match src.len() {
+        0 => {}
+        1..4 => copy_few(src, dst),
+        _ => copy_many(src, dst),
+    }
+}
+
+/// Copies the N bytes from `at` on to the same index, each as a UTF-16 code unit.
+#[inline(always)]
+pub fn unpack<const N: usize>(src: &[u8], dst: &mut [u16], at: usize)
+    requires { (at + N ≤ length src.now) × (at + N ≤ length dst.old) }
+    ensures { dst.new ≡ take at dst.old ++ (take N (drop at src.now) ++ drop (at + N) dst.old) }
+{
+    let units = Simd::<u8, N>::from_slice(&src[at..]).cast::<u16>();
+    units.copy_to_slice(&mut dst[at..]);
+}
+
+/// Writes the lower byte of each of N UTF-16 code units from `at` on.
+#[inline(always)]
+pub fn pack_lower<const N: usize>(stride: &[u16; N], dst: &mut [u8], at: usize)
+    requires { at + N ≤ length dst.old }
+    ensures { dst.new ≡ take at dst.old ++ (map (λ unit. unit % 0x100) stride.now ++ drop (at + N) dst.old) }
+{
+    let lower = Simd::<u16, N>::from_slice(stride) & Simd::splat(0xFF);
+    lower.cast::<u8>().copy_to_slice(&mut dst[at..]);
+}
+
+/// Writes the first `count` bytes of a vector from `at` on. Stores sixteen bytes, the others as `dst` has them.
+#[inline(always)]
+pub fn write_first(dst: &mut [u8], at: usize, bytes: u8x16, count: usize)
+    requires dst_length { at + 16 ≤ length dst.old }
+    requires bytes { (count ≤ 16) × (length bytes ≡ 16) }
+    ensures { dst.new ≡ take at dst.old ++ (take count bytes ++ drop (at + count) dst.old) }
+{
+    let following = u8x16::from_slice(&dst[at..]);
+    let is_kept = u8x16::from_array(LANES).simd_lt(u8x16::splat(count as u8));
+    is_kept
+        .select(bytes, following)
+        .copy_to_slice(&mut dst[at..]);
+}
+
+/// Writes the first `count` code units of a vector from `at` on. Stores sixteen, the others as `dst` has them.
+#[inline(always)]
+pub(crate) fn write_first_units(dst: &mut [u16], at: usize, units: u16x16, count: usize)
+    requires dst_length { at + 16 ≤ length dst.old }
+    requires units { (count ≤ 16) × (length units ≡ 16) }
+    ensures { dst.new ≡ take at dst.old ++ (take count units ++ drop (at + count) dst.old) }
+{
+    let following = u16x16::from_slice(&dst[at..]);
+    let is_kept = u8x16::from_array(LANES)
+        .cast::<u16>()
+        .simd_lt(u16x16::splat(count as u16));
+    is_kept
+        .select(units, following)
+        .copy_to_slice(&mut dst[at..]);
+}

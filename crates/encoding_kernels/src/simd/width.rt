@@ -1,0 +1,34 @@
+//! The widths of vectors and of groups of them, and the bounds of ASCII.
+
+/// The number of bytes in a block.
+pub const BLOCK: usize = 64;
+
+/// The number of bytes in four blocks.
+pub const FOUR_BLOCKS: usize = 256;
+
+/// The number of units in a stride, a vector of bytes.
+pub const STRIDE: usize = 16;
+
+/// The number of strides in a block.
+pub const FOUR: usize = 4;
+
+/// The number of strides in four blocks.
+pub const SIXTEEN: usize = 16;
+
+/// The number of units in half a stride.
+pub const HALF_STRIDE: usize = 8;
+
+/// The number of UTF-16 code units that one test covers.
+pub const UNIT_BLOCK: usize = 64;
+
+/// The number of UTF-16 code units that one test covers in a text shorter than a block.
+pub const HALF_UNIT_BLOCK: usize = 32;
+
+/// The number of UTF-16 code units in a vector.
+pub const UNIT_STRIDE: usize = 8;
+
+/// The least byte that isn't ASCII.
+pub const ASCII_END: u8 = 0x80;
+
+/// The least UTF-16 code unit that isn't ASCII.
+pub const BASIC_LATIN_END: u16 = 0x80;

@@ -1,0 +1,3 @@
+//! UTF-16 by itself.
+
+pub mod validate;

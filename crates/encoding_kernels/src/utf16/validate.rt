@@ -1,0 +1,117 @@
+//! Code units without an unpaired surrogate, by vectors. Each unit is judged by itself and the one before it, which is loaded
+//! separately, so that a block carries no state and the last one may overlap.
+
+ghost use Rattle.std.specs.Prelude.{◌≡◌, false, ◌+◌, ◌-◌, ◌*◌, ◌<◌, ◌≤◌, ◌↔◌, ◌∷◌, length, take, slice_index, IsTrue};
+ghost use Rattle.encoding_definitions.specs.Utf16.{IsHighSurrogate};
+ghost use Rattle.encoding_kernels.specs.Neighbors.{PairUp, HaveNoSurrogate, pair_fault};
+ghost use Rattle.encoding_definitions.specs.Surrogates.{IsValidUtf16};
+
+use crate::scalar::surrogates::{is_high_surrogate, is_low_surrogate};
+use crate::simd::scan::{LanePredicate, all, run};
+use crate::simd::width::{HALF_STRIDE, STRIDE};
+use std::simd::Simd;
+use std::simd::prelude::*;
+
+/// Pairs of adjacent code units: the second is a low surrogate if and only if the first is a high one.
+#[derive(Drop)]
+struct UnitPairs<'a> {
+    units: &'a [u16],
+}
+
+impl<'a, const N: usize> LanePredicate<N> for UnitPairs<'a> {
+    ghost count = { λ s. length s.units.now - 1 };
+
+    ghost passes = { λ s k. pair_fault (slice_index s.units.now (k + 1)) (slice_index s.units.now k) ≡ false };
+
+    #[inline(always)]
+    fn failing(&self, at: usize) -> u64 {
+        let units = self.units;
+        let tops = Simd::<u16, N>::from_slice(&units[at + 1..]) & Simd::splat(0xFC00);
+        let tops_before = Simd::<u16, N>::from_slice(&units[at..]) & Simd::splat(0xFC00);
+        let low = tops.simd_eq(Simd::splat(0xDC00));
+        let high = tops_before.simd_eq(Simd::splat(0xD800));
+        (low ^ high).to_bitmask()
+    }
+}
+
+/// Returns whether none of the code units of a block is a surrogate, by one test.
+#[inline(always)]
+pub fn has_no_surrogate(block: &[u16]) -> bool
+    requires { length block.now ≡ 64 }
+    ensures { IsTrue result → HaveNoSurrogate block.now }
+{
+    let least = Simd::<u16, STRIDE>::splat(0xD800);
+    let first = Simd::<u16, STRIDE>::from_slice(block) - least;
+    let second = Simd::<u16, STRIDE>::from_slice(&block[STRIDE..]) - least;
+    let third = Simd::<u16, STRIDE>::from_slice(&block[2 * STRIDE..]) - least;
+    let fourth = Simd::<u16, STRIDE>::from_slice(&block[3 * STRIDE..]) - least;
+    let lowest = first.simd_min(second).simd_min(third.simd_min(fourth));
+    !lowest.simd_lt(Simd::splat(0x800)).any()
+}
+
+/// Returns whether the code unit before `at` is a high surrogate. None is before the first.
+#[inline(always)]
+pub fn is_after_high_surrogate(units: &[u16], at: usize) -> bool
+    requires { at ≤ length units.now }
+    ensures { IsTrue result ↔ IsHighSurrogate (slice_index (0 ∷ units.now) at) }
+{
+    at > 0 && is_high_surrogate(units[at - 1])
+}
+
+/// Returns whether each of the N code units from `at` on is a low surrogate if and only if it follows a high one. H is
+/// half of N.
+///
+/// No unit is before the first. So the first N have a pair of neighbors less, which two tests of H cover.
+#[inline(always)]
+pub fn are_paired<const N: usize, const H: usize>(units: &[u16], at: usize) -> bool
+    requires within { (at + N ≤ length units.now) × (0 < N) × (N ≤ 64) }
+    requires half { N ≡ 2 * H }
+    ensures { IsTrue result → PairUp units.now at (at + N) }
+{
+    let test = UnitPairs { units };
+    if at > 0 {
+        return all::<N, N, _>(&test, at - 1);
+    }
+    if is_low_surrogate(units[0]) {
+        return false;
+    }
+    all::<H, H, _>(&test, 0) & all::<H, H, _>(&test, H - 1)
+}
+
+/// Returns how many of the units of the stride at `at` precede the first that is a low surrogate without following a
+/// high one, or follows a high one without being a low one.
+#[inline(always)]
+pub fn paired_run(units: &[u16], at: usize) -> usize
+    requires { at + 16 ≤ length units.now }
+    ensures { (result ≤ 16) × PairUp units.now at (at + result) }
+{
+    let test = UnitPairs { units };
+    if at > 0 {
+        return run::<STRIDE, _>(&test, at - 1);
+    }
+    if is_low_surrogate(units[0]) {
+        return 0;
+    }
+    let first = run::<HALF_STRIDE, _>(&test, 0);
+    if first < HALF_STRIDE {
+        return first + 1;
+    }
+    HALF_STRIDE + run::<HALF_STRIDE, _>(&test, HALF_STRIDE - 1)
+}
+
+/// Returns `at`, or the index before it if a pair is cut at `at`.
+#[tactic(auto, using(crate::proofs::PairsLemmas::valid_start, crate::proofs::PairsLemmas::valid_whole, crate::proofs::PairsLemmas::valid_cut))]
+#[inline(always)]
+pub fn before_cut_pair(units: &[u16], at: usize) -> usize
+    requires { (at ≤ length units.now) × PairUp units.now 0 at }
+    ensures { (result ≤ at) × IsValidUtf16 (take result units.now) }
+{
+    if at == 0 {
+        return at;
+    }
+    if is_high_surrogate(units[at - 1]) {
+        at - 1
+    } else {
+        at
+    }
+}

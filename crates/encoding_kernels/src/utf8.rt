@@ -1,0 +1,4 @@
+//! UTF-8 by itself.
+
+mod lookup;
+pub mod validate;

@@ -1,0 +1,227 @@
+-- Converting character by character: whole characters up to one that doesn't fit are the longest prefix that fits, and
+-- the converse.
+use Rattle.std.proofs.Common.{◌≡◌, ℕ, zero, suc, ◌+◌, ◌-◌, ◌<◌, ◌≤◌, ◌⊎◌, inl, inr, true, List, [], ◌∷◌, ◌++◌, length, take, drop, encode_utf8, encode_utf8_all, refl, sym, ap, ◌∙◌, arith, subst, take-add}
+use lib.Utf8.{scalar}
+use Rattle.std.specs.Char.{IsScalar}
+use Rattle.std.specs.Char.Escape.{encode_utf16}
+use Rattle.std.specs.Str.{all_scalars, IsAscii, IsUtf8, chars}
+use Rattle.std.specs.List.{flat_map}
+use Rattle.std.proofs.lemmas.Bool.{and_from, and_parts, cases_lt}
+use Rattle.std.proofs.lemmas.Grind.{flat_map-append}
+use Rattle.std.proofs.lemmas.List.{append-nil, append_assoc, length-append, length-drop, length-take, take_at, drop_at, take_rest, take-append-drop, take-take}
+use Rattle.std.proofs.lemmas.Str.{encodes-append, encode_same, length-encode, len_utf8_bounds, IsUtf8-encode, IsUtf8-append, chars_from_encodes}
+use Rattle.std.proofs.str.Laws.{scalars-append}
+use borrow.Rule.Slice.PartMut.{put_mid}
+use Rattle.encoding_definitions.specs.Parts.{Part, Character, IllFormed, BeginsWithNoCharacter, ArePartsOf}
+use Rattle.encoding_definitions.specs.Prefixes.{IsLongestPrefix, IsLongestFittingPrefix, WritesPrefix}
+use Rattle.encoding_definitions.specs.Converting.{AreScalarsOfValidPrefix, ConvertsMaximal, FittingBegins}
+use Rattle.encoding_text.specs.Steps.ConversionSteps.{ConvertsSome, ConvertsUntilFull}
+use Rattle.encoding_definitions.proofs.SequenceLemmas.{IsSequence-some}
+use Rattle.encoding_definitions.proofs.EncodingLemmas.{IsSequence-encode, flat_map-encode_utf8, encodes_one}
+use Rattle.encoding_definitions.proofs.PrefixesLemmas.{WritesPrefix_after, WritesPrefix-length, WritesPrefix-same, put_mid-same, IsLongestFittingPrefix-all, IsLongestFittingPrefix-stop}
+use Rattle.encoding_definitions.proofs.FittingLemmas.{flat_map_push}
+use Rattle.encoding_definitions.proofs.Utf8Lemmas.{IsLongestPrefix-utf8, no_character_after}
+use Rattle.encoding_definitions.proofs.DecompositionLemmas.{has_parts}
+use Rattle.encoding_kernels.proofs.TextUnitsLemmas.{ascii_text}
+
+-- a list, cut after its first items
+pub cut_after : {X : Type 0} (xs prefix back : List X) → xs ≡ prefix ++ back → (length prefix ≤ length xs) × (take (length prefix) xs ≡ prefix) × (drop (length prefix) xs ≡ back)
+cut_after xs prefix back e = (
+  omega (arith, ap length e, length-append prefix back),
+  ap (take (length prefix)) e ∙ take_at prefix back (length prefix) refl,
+  ap (drop (length prefix)) e ∙ drop_at prefix back (length prefix) refl,
+)
+
+-- the characters at the start of bytes, up to a rest that starts with none
+pub leading : (bs : List ℕ) (ps : List Part) → ArePartsOf bs ps → (cs : List ℕ) × (rest : List ℕ) × (all_scalars cs ≡ true) × (bs ≡ encode_utf8_all cs ++ rest) × BeginsWithNoCharacter rest
+leading bs [] e = ([], [], refl, e, λ prefix rest f s. omega (arith, ap length f, length-append prefix rest, IsSequence-some prefix s))
+leading bs (Character c ∷ ps) (after, (s, e), more) =
+    let r = leading after ps more in
+    (c ∷ r.0, r.1, and_from _ _ s r.2, e ∙ ap (λ xs. encode_utf8 c ++ xs) r.3 ∙ sym (append_assoc (encode_utf8 c) (encode_utf8_all r.0) r.1), r.4)
+leading bs (IllFormed x ∷ ps) (after, f, more) = ([], bs, refl, refl, f.0)
+
+-- ---- more characters
+module _ {A : Type 0} (encode : ℕ → List A) where
+  -- a whole text more
+  pub converted_text : (src : List ℕ) (old new sub : List A) (read written n m : ℕ) → ConvertsSome encode src old new read written → (u : IsUtf8 (take n (drop read src))) → n ≤ length (drop read src)
+      → WritesPrefix (take (length new - written) (drop written new)) sub m (flat_map encode (chars (take n (drop read src)))) → ConvertsSome encode src old (put_mid written (length new - written) new sub) (read + n) (written + m)
+  converted_text src old new sub read written n m d u l w =
+      let text = take n (drop read src) in
+      let same : u.0 ≡ chars text = chars_from_encodes u.0 text u u.1.1 in
+      record {
+        scalars = d.scalars ++ u.0;
+        are_scalars = scalars-append d.scalars u.0 d.are_scalars u.1.0;
+        within = let before : read ≤ length src = d.within in omega (arith, l, length-drop read src);
+        spelled = encodes-append d.scalars u.0 ∙ (λ i. d.spelled i ++ u.1.1 i) ∙ sym (take-add read n src);
+        writes = WritesPrefix-same _ _ _ _ _ _ (WritesPrefix_after old new written (flat_map encode d.scalars) sub m _ d.writes w) refl
+            (ap (λ cs. flat_map encode d.scalars ++ flat_map encode cs) (sym same) ∙ sym (flat_map-append encode d.scalars u.0));
+      }
+
+  -- one more character
+  pub converted_more : (src : List ℕ) (old new sub : List A) (read written c n m : ℕ) → ConvertsSome encode src old new read written → IsScalar c
+      → encode_utf8 c ≡ take n (drop read src) → n ≤ length (drop read src) → WritesPrefix (take (length new - written) (drop written new)) sub m (encode c)
+      → ConvertsSome encode src old (put_mid written (length new - written) new sub) (read + n) (written + m)
+  converted_more src old new sub read written c n m d s e l w =
+      let spelled : encode_utf8_all (c ∷ []) ≡ take n (drop read src) = encodes_one c ∙ e in
+      let text : IsUtf8 (take n (drop read src)) = (c ∷ [], (and_from _ _ s refl, spelled)) in
+      let out : encode c ≡ flat_map encode (chars (take n (drop read src))) = sym (append-nil (encode c)) ∙ ap (flat_map encode) (chars_from_encodes (c ∷ []) _ text spelled) in
+      converted_text src old new sub read written n m d text l (subst (λ xs. WritesPrefix (take (length new - written) (drop written new)) sub m xs) out w)
+
+  -- the rest starts with no character that fits
+  converted_stops : {src : List ℕ} {old new : List A} {read written : ℕ} → ConvertsSome encode src old new read written → (FittingBegins encode (drop read src) (length old - written) → ⊥)
+      → ConvertsUntilFull encode src old new read written
+  converted_stops d n = record { scalars = d.scalars; are_scalars = d.are_scalars; within = d.within; spelled = d.spelled; writes = d.writes; stops = n }
+
+  pub converted_rejected : (src : List ℕ) (old new : List A) (read written : ℕ) → ConvertsSome encode src old new read written → BeginsWithNoCharacter (drop read src)
+      → ConvertsUntilFull encode src old new read written
+  converted_rejected src old new read written d n = converted_stops d (λ (c, rest, s, e, f). n (encode_utf8 c) rest e (IsSequence-encode c s))
+
+  pub converted_full : (src : List ℕ) (old new : List A) (read written c : ℕ) (rest : List ℕ) → ConvertsSome encode src old new read written → IsScalar c
+      → drop read src ≡ encode_utf8 c ++ rest → length old - written < length (encode c) → ConvertsUntilFull encode src old new read written
+  converted_full src old new read written c rest d s e l =
+      converted_stops d (λ (b, more, t, f, g). let same = encode_same b c more rest (sym f ∙ e) in omega (arith, l, g, ap (λ k. length (encode k)) same.0))
+
+  -- ---- the longest prefix that fits
+  -- all the characters of the well-formed prefix: those that were read, and more
+  whole_text : (src cs : List ℕ) (read : ℕ) → all_scalars cs ≡ true → read ≤ length src → encode_utf8_all cs ≡ take read src
+      → (more : List ℕ) × AreScalarsOfValidPrefix src (cs ++ more) × (rest : List ℕ) × (all_scalars more ≡ true) × (drop read src ≡ encode_utf8_all more ++ rest)
+  whole_text src cs read h within e =
+      let parts = has_parts (drop read src) in
+      let r = leading (drop read src) parts.0 parts.1 in
+      let all = cs ++ r.0 in
+      let text = encode_utf8_all all in
+      let whole : src ≡ text ++ r.1 =
+      sym (take-append-drop read src) ∙ (λ i. (sym e) i ++ r.3 i) ∙ sym (append_assoc (encode_utf8_all cs) (encode_utf8_all r.0) r.1)
+      ∙ ap (λ xs. xs ++ r.1) (sym (encodes-append cs r.0)) in
+      let scalars : all_scalars all ≡ true = scalars-append cs r.0 h r.2 in
+      let cut = cut_after src text r.1 whole in
+      let longest = IsLongestPrefix-utf8 src (length text) cut.0 (subst IsUtf8 (sym cut.1) (all, (scalars, refl))) (subst BeginsWithNoCharacter (sym cut.2) r.4) in
+      (r.0, record { valid = length text; prefix = longest; are_scalars = scalars; spelled = sym cut.1 }, r.1, r.2, r.3)
+
+  fits_longest : (src cs more rest : List ℕ) (old : List A) (read written : ℕ) → encode_utf8_all cs ≡ take read src → read ≤ length src
+      → length (flat_map encode cs) ≡ written → written ≤ length old → all_scalars more ≡ true → drop read src ≡ encode_utf8_all more ++ rest
+      → (FittingBegins encode (drop read src) (length old - written) → ⊥)
+      → IsLongestFittingPrefix encode_utf8 encode (cs ++ more) (length old) read (flat_map encode cs)
+  fits_longest src cs [] rest old read written e within w l h f n =
+      let all = IsLongestFittingPrefix-all encode_utf8 encode cs (length old) (omega (arith, w, l)) in
+      let size : length (flat_map encode_utf8 cs) ≡ read = ap length (flat_map-encode_utf8 cs ∙ e) ∙ omega (arith, length-take read src) in
+      subst (λ k. IsLongestFittingPrefix encode_utf8 encode (cs ++ []) (length old) k (flat_map encode cs)) size
+      (subst (λ xs. IsLongestFittingPrefix encode_utf8 encode xs (length old) (length (flat_map encode_utf8 cs)) (flat_map encode cs)) (sym (append-nil cs)) all)
+  fits_longest src cs (c ∷ more) rest old read written e within w l h f n =
+      let parts = and_parts (scalar c) (all_scalars more) h in
+      let next : drop read src ≡ encode_utf8 c ++ (encode_utf8_all more ++ rest) = f ∙ append_assoc (encode_utf8 c) (encode_utf8_all more) rest in
+      let size : length (flat_map encode_utf8 cs) ≡ read = ap length (flat_map-encode_utf8 cs ∙ e) ∙ omega (arith, length-take read src) in
+      let full : length old - written < length (encode c) = elim (cases_lt (length old - written) (length (encode c))) [
+        | inl p ↦ p
+        | inr p ↦ absurd (n (c, encode_utf8_all more ++ rest, parts.0, next, p))
+      ] in
+      subst (λ k. IsLongestFittingPrefix encode_utf8 encode (cs ++ c ∷ more) (length old) k (flat_map encode cs)) size
+      (IsLongestFittingPrefix-stop encode_utf8 encode cs c more (length old) (omega (arith, w, l)) (omega (arith, w, l, full)))
+
+  pub converts_longest : (src : List ℕ) (old new : List A) (read written : ℕ) → ConvertsUntilFull encode src old new read written → ConvertsMaximal encode src old new read written
+  converts_longest src old new read written d =
+      let t = whole_text src d.scalars read d.are_scalars d.within d.spelled in
+      record {
+        scalars = d.scalars ++ t.0;
+        text = t.1;
+        out = flat_map encode d.scalars;
+        longest = fits_longest src d.scalars t.0 t.2 old read written d.spelled d.within (sym d.writes.count) d.writes.fits t.3 t.4 d.stops;
+        writes = d.writes;
+      }
+
+  -- ---- the converse: no character that fits follows the longest prefix that fits
+  scalars_split : (n : ℕ) (cs : List ℕ) → all_scalars cs ≡ true → (all_scalars (take n cs) ≡ true) × (all_scalars (drop n cs) ≡ true)
+  scalars_split zero cs h = (refl, h)
+  scalars_split (suc n) [] h = (refl, refl)
+  scalars_split (suc n) (c ∷ cs) h =
+      let parts = and_parts (scalar c) (all_scalars cs) h in
+      let r = scalars_split n cs parts.1 in
+      (and_from _ _ parts.0 r.0, r.1)
+
+  -- the next character doesn't fit, or there is none
+  none_fits : (src cs more : List ℕ) (n room written : ℕ) (t : AreScalarsOfValidPrefix src cs) → more ≡ drop n cs → written ≡ length (flat_map encode (take n cs)) → written ≤ room
+      → (n < length cs → room < length (flat_map encode (take (n + 1) cs))) → FittingBegins encode (encode_utf8_all more ++ drop t.valid src) (room - written) → ⊥
+  none_fits src cs [] n room written t e w l full (c, rest, s, f, g) = no_character_after src t.valid t.prefix (encode_utf8 c) rest f (IsSequence-encode c s)
+  none_fits src cs (b ∷ more) n room written t e w l full (c, rest, s, f, g) =
+      let same = encode_same b c (encode_utf8_all more ++ drop t.valid src) rest (sym (append_assoc (encode_utf8 b) (encode_utf8_all more) (drop t.valid src)) ∙ f) in
+      let next : take (n + 1) cs ≡ take n cs ++ b ∷ [] = take-add n 1 cs ∙ ap (λ xs. take n cs ++ take 1 xs) (sym e) in
+      let long : length (flat_map encode (take (n + 1) cs)) ≡ written + length (encode b) =
+      ap (λ xs. length (flat_map encode xs)) next ∙ ap length (flat_map_push encode (take n cs) b) ∙ omega (arith, w, length-append (flat_map encode (take n cs)) (encode b)) in
+      omega (arith, full (omega (arith, ap length e, length-drop n cs)), long, ap (λ k. length (encode k)) same.0, g, l)
+
+  pub converts_prefix : (src : List ℕ) (old new : List A) (read written : ℕ) → ConvertsMaximal encode src old new read written → ConvertsUntilFull encode src old new read written
+  converts_prefix src old new read written d =
+      let n = d.longest.count in
+      let done = take n d.scalars in
+      let more = drop n d.scalars in
+      let tail = drop d.text.valid src in
+      let text = encode_utf8_all done in
+      let whole : src ≡ text ++ (encode_utf8_all more ++ tail) =
+      sym (take-append-drop d.text.valid src) ∙ ap (λ xs. xs ++ tail) (sym d.text.spelled ∙ ap encode_utf8_all (sym (take-append-drop n d.scalars)) ∙ encodes-append done more)
+      ∙ append_assoc text (encode_utf8_all more) tail in
+      let size : length text ≡ read = sym (d.longest.taken ∙ ap length (flat_map-encode_utf8 done)) in
+      let back : drop read src ≡ encode_utf8_all more ++ tail = ap (drop read) whole ∙ drop_at text (encode_utf8_all more ++ tail) read size in
+      let count : written ≡ length (flat_map encode done) = d.writes.count ∙ ap length d.longest.written in
+      record {
+        scalars = done;
+        are_scalars = (scalars_split n d.scalars d.text.are_scalars).0;
+        within = omega (arith, ap length whole, length-append text (encode_utf8_all more ++ tail), size);
+        spelled = sym (ap (take read) whole ∙ take_at text (encode_utf8_all more ++ tail) read size);
+        writes = subst (λ xs. WritesPrefix old new written xs) d.longest.written d.writes;
+        stops = λ f. none_fits src d.scalars more n (length old) written d.text refl count d.writes.fits d.longest.longest
+            (subst (λ xs. FittingBegins encode xs (length old - written)) back f);
+      }
+
+-- ---- to UTF-8 itself: the prefix whose bytes fit
+pub copied_prefix : (src old new : List ℕ) (room n : ℕ) → room ≤ length src → room ≤ length old → (length src ≤ room) ⊎ (length old ≤ room) → IsLongestPrefix IsUtf8 (take room src) n
+    → new ≡ take n src ++ drop n old → ConvertsUntilFull encode_utf8 src old new n n
+copied_prefix src old new room n short within all l e =
+    let size : n ≤ room = let inside : n ≤ length (take room src) = l.within in omega (arith, inside, length-take room src) in
+    let prefix : take n (take room src) ≡ take n src = take-take n room src size in
+    let text : IsUtf8 (take n src) = subst IsUtf8 prefix l.kind in
+    let long : length (take n src) ≡ n = omega (arith, length-take n src) in
+    let out : take n src ≡ flat_map encode_utf8 text.0 = sym text.1.1 ∙ sym (flat_map-encode_utf8 text.0) in
+    record {
+      scalars = text.0;
+      are_scalars = text.1.0;
+      within = omega (arith, size, short);
+      spelled = text.1.1;
+      writes = record { count = sym long ∙ ap length out; fits = omega (arith, size, within); placed = e ∙ ap (λ xs. xs ++ drop n old) out };
+      stops = stops text size;
+    }
+  where
+    stops : IsUtf8 (take n src) → n ≤ room → FittingBegins encode_utf8 (drop n src) (length old - n) → ⊥
+    stops text size (c, rest, s, f, g) =
+        let k = length (encode_utf8 c) in
+        let some : 0 < k = omega (arith, length-encode c, len_utf8_bounds c) in
+        let next : take k (drop n src) ≡ encode_utf8 c = ap (take k) f ∙ take_at (encode_utf8 c) rest k refl in
+        let inside : n + k ≤ length src = omega (arith, ap length f, length-append (encode_utf8 c) rest, length-drop n src, size, short) in
+        let fits : n + k ≤ room = elim all [ inl p ↦ omega (arith, p, inside) | inr p ↦ omega (arith, p, g, size, within) ] in
+        let more : IsUtf8 (take (n + k) src) = subst IsUtf8 (sym (take-add n k src)) (IsUtf8-append _ _ text (subst IsUtf8 (sym next) (IsUtf8-encode c s))) in
+        let longer = l.longest (n + k) (omega (arith, length-take room src, fits, short)) (subst IsUtf8 (sym (take-take (n + k) room src fits)) more) in
+        omega arith
+
+-- ---- a call that didn't fit left the destination unchanged
+pub converted_unfit : {A : Type 0} (encode : ℕ → List A) (src : List ℕ) (old new sub : List A) (read written c n : ℕ) → ConvertsSome encode src old new read written → IsScalar c
+    → encode_utf8 c ≡ take n (drop read src) → sub ≡ take (length new - written) (drop written new) → length (take (length new - written) (drop written new)) < length (encode c)
+    → ConvertsUntilFull encode src old (put_mid written (length new - written) new sub) read written
+converted_unfit encode src old new sub read written c n d s e same l =
+    let kept : put_mid written (length new - written) new sub ≡ new = ap (put_mid written (length new - written) new) same ∙ put_mid-same new written in
+    let rest : drop read src ≡ encode_utf8 c ++ drop n (drop read src) = sym (take-append-drop n (drop read src)) ∙ ap (λ xs. xs ++ drop n (drop read src)) (sym e) in
+    let room : length old - written < length (encode c) = omega (arith, l, ap length (take_rest new written), length-drop written new, WritesPrefix-length old new written (flat_map encode d.scalars) d.writes) in
+    subst (λ xs. ConvertsUntilFull encode src old xs read written) (sym kept) (converted_full encode src old new read written c (drop n (drop read src)) d s rest room)
+
+-- ---- to UTF-16: an ASCII prefix more
+pub converted_ascii : (src old new sub : List ℕ) (read written n : ℕ) → ConvertsSome encode_utf16 src old new read written
+    → IsLongestPrefix IsAscii (take (length (take (length new - written) (drop written new))) (take (length src - read) (drop read src))) n
+    → WritesPrefix (take (length new - written) (drop written new)) sub n (take n (take (length src - read) (drop read src)))
+    → ConvertsSome encode_utf16 src old (put_mid written (length new - written) new sub) (read + n) (written + n)
+converted_ascii src old new sub read written n d p w =
+    let bytes = drop read src in
+    let room = length (take (length new - written) (drop written new)) in
+    let prefix : IsLongestPrefix IsAscii (take room bytes) n = subst (λ xs. IsLongestPrefix IsAscii (take room xs) n) (take_rest src read) p in
+    let within : n ≤ length (take room bytes) = prefix.within in
+    let ascii : IsAscii (take n bytes) = subst IsAscii (take-take n room bytes (omega (arith, within, length-take room bytes))) prefix.kind in
+    let text = ascii_text (take n bytes) ascii in
+    converted_text encode_utf16 src old new sub read written n n d text.0 (omega (arith, within, length-take room bytes))
+    (subst (λ xs. WritesPrefix (take (length new - written) (drop written new)) sub n xs) (ap (take n) (take_rest src read) ∙ sym text.1) w)

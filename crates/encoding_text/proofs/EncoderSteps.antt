@@ -1,3 +1,0 @@
-pub mod EncoderLemmas
-pub mod EncoderPartsLemmas
-pub mod EncoderTextLemmas

@@ -1,2 +1,0 @@
-pub mod Iso2022JpLemmas
-pub mod Latin1ConversionLemmas

@@ -1,2 +1,0 @@
-pub mod ConvertingLemmas
-pub mod WholePrefixesLemmas

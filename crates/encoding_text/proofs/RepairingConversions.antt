@@ -1,2 +1,0 @@
-pub mod RepairingLemmas
-pub mod ToUtf16Lemmas

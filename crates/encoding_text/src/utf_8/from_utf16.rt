@@ -1,0 +1,200 @@
+//! UTF-16 to UTF-8, into a destination of any length. A conversion leaves the rest of `dst` unchanged.
+ghost use Rattle.std.specs.Prelude.{◌≡◌, ◌+◌, ◌<◌, ◌≤◌, ◌⊎◌, ◌-◌, ◌↔◌, length, take, drop, slice_index, IsTrue, ◌*◌};
+ghost use Rattle.std.specs.Str.{IsAscii};
+ghost use Rattle.encoding_definitions.specs.Prefixes.{WritesPrefix};
+ghost use Rattle.encoding_definitions.specs.Utf16.{IsHighSurrogate, IsLowSurrogate, IsUtf8OfPrefix, IsUtf8OfLongestPrefix, IsUtf8OfUnits};
+ghost use Rattle.encoding_definitions.specs.FirstScalar.{IsFirstScalar};
+
+use crate::ascii;
+use encoding_kernels::scalar::surrogates::{
+    is_high_surrogate, is_low_surrogate, is_surrogate, pair_scalar,
+};
+use encoding_kernels::scalar::value::{utf8_length, utf16_length, write_scalar};
+use encoding_kernels::simd::width::{BASIC_LATIN_END, HALF_STRIDE};
+use encoding_kernels::utf16_blocks::{convert_blocks, convert_paired_blocks};
+
+/// The scalar value that is written for an unpaired surrogate.
+pub(super) const REPLACEMENT_CHARACTER: u32 = 0xFFFD;
+
+/// The most bytes that a character has in UTF-8.
+const LONGEST: usize = 4;
+
+/// Returns the scalar value that is written for the first part of the code units from index `at` on.
+#[inline(always)]
+fn scalar_at(src: &[u16], at: usize) -> u32
+    requires { at < length src.now }
+    ensures { IsFirstScalar (drop at src.now) result }
+{
+    let unit = src[at];
+    if !is_surrogate(unit) {
+        return u32::from(unit);
+    }
+    if is_high_surrogate(unit) && at + 1 < src.len() {
+        let next = src[at + 1];
+        if is_low_surrogate(next) {
+            return pair_scalar(unit, next);
+        }
+    }
+    REPLACEMENT_CHARACTER
+}
+
+/// Copies the longest ASCII prefix that leaves three bytes of `dst` free, and returns its length.
+#[inline(always)]
+fn copy_ascii(src: &[u16], dst: &mut [u8]) -> usize
+    ensures within { (result ≤ length src.now) × (result ≤ length dst.old - 3) }
+    ensures ascii { IsAscii (take result src.now) }
+    ensures stops { result < length src.now → result < length dst.old - 3 → 0x80 ≤ slice_index src.now result }
+    ensures copied { WritesPrefix dst.old dst.new result (take result src.now) }
+{
+    let room = dst.len().saturating_sub(LONGEST - 1);
+    match ascii::basic_latin_to_ascii(src, &mut dst[..room]) {
+        Some((_, place)) => place,
+        None => src.len().min(room),
+    }
+}
+
+/// Returns whether a surrogate pair is at index `at`.
+#[inline(always)]
+fn is_pair(src: &[u16], at: usize) -> bool
+    ensures { IsTrue result ↔ ((at + 1 < length src.now) × IsHighSurrogate (slice_index src.now at)
+        × IsLowSurrogate (slice_index src.now (at + 1))) }
+{
+    at < src.len()
+        && at + 1 < src.len()
+        && is_high_surrogate(src[at])
+        && is_low_surrogate(src[at + 1])
+}
+
+/// Converts the ASCII prefix of `src` and blocks of other text after it. Returns how many code units it read, how many
+/// bytes it wrote, and whether to go on with the next ones at once. If not, a single character stopped the blocks, or
+/// the end of `src` or `dst` is near.
+#[inline(always)]
+fn convert_prefix_and_blocks(src: &[u16], dst: &mut [u8]) -> (usize, usize, bool)
+    ensures prefix { IsUtf8OfPrefix src.now result.0 (take result.1 dst.new) }
+    ensures unchanged_after { WritesPrefix dst.old dst.new result.1 (take result.1 dst.new) }
+    ensures within { result.0 ≤ length src.now }
+    ensures progress { IsTrue result.2 → 0 < result.0 }
+{
+    let prefix = copy_ascii(src, dst);
+    let (units, bytes) = convert_blocks(&src[prefix..], &mut dst[prefix..]);
+    let read = prefix + units;
+    let written = prefix + bytes;
+    if units > 0 && read < src.len() && src[read] < BASIC_LATIN_END {
+        return (read, written, true);
+    }
+    if !is_pair(src, read) {
+        return (read, written, false);
+    }
+    let (paired, extra) = convert_paired_blocks(&src[read..], &mut dst[written..]);
+    (read + paired, written + extra, paired > 0)
+}
+
+/// How many characters to convert one at a time after two attempts at blocks in a row failed.
+const SCALAR_BURST: usize = 32;
+
+/// Returns how many characters to convert one at a time before trying blocks again. `SCALAR_BURST` if fewer than eight
+/// units are left, or if two attempts in a row converted fewer than eight: text without blocks is not scanned twice.
+/// Otherwise one: the character that stopped the blocks.
+#[inline(always)]
+fn scalar_budget(left: usize, has_failed_twice: bool) -> usize
+    ensures { 0 < result }
+{
+    if left < HALF_STRIDE || has_failed_twice {
+        SCALAR_BURST
+    } else {
+        1
+    }
+}
+
+/// Converts the first characters of `src` from UTF-16 to UTF-8, while at least four bytes of `dst` are free. Returns
+/// how many code units it read and how many bytes it wrote. An unpaired surrogate becomes U+FFFD (Unicode Standard,
+/// section 3.9, UTF-16).
+///
+/// Either all of `src` is read, or at most three bytes are free, which `convert_utf16_to_utf8_partial_tail` then fills.
+pub fn convert_utf16_to_utf8_partial_inner(src: &[u16], dst: &mut [u8]) -> (usize, usize)
+    ensures prefix { IsUtf8OfPrefix src.now result.0 (take result.1 dst.new) }
+    ensures unchanged_after { WritesPrefix dst.old dst.new result.1 (take result.1 dst.new) }
+    ensures within { result.0 ≤ length src.now }
+    ensures filled { (result.0 ≡ length src.now) ⊎ (length dst.old < result.1 + 4) }
+{
+    let mut read = 0;
+    let mut written = 0;
+    let mut singles = 0;
+    let mut last_block_failed = false;
+    let end = dst.len().saturating_sub(LONGEST - 1);
+    while read < src.len() && written < end {
+        if singles == 0 {
+            let (units, bytes, goes_on) = convert_prefix_and_blocks(
+                &src[read..],
+                &mut dst[written..],
+            );
+            read += units;
+            written += bytes;
+            if !goes_on {
+                let has_failed = units < HALF_STRIDE;
+                singles = scalar_budget(src.len() - read, has_failed && last_block_failed);
+                last_block_failed = has_failed;
+            }
+        } else {
+            let scalar = scalar_at(src, read);
+            written += write_scalar(scalar, &mut dst[written..]);
+            read += utf16_length(scalar);
+            singles -= 1;
+        }
+    }
+    (read, written)
+}
+
+/// Converts the first characters of `src` from UTF-16 to UTF-8, as many as fit into the at most three bytes of `dst`.
+/// Returns how many code units it read and how many bytes it wrote. An unpaired surrogate becomes U+FFFD. `src` isn't
+/// empty.
+pub fn convert_utf16_to_utf8_partial_tail(src: &[u16], dst: &mut [u8]) -> (usize, usize)
+    requires not_empty { 0 < length src.now }
+    requires at_most_three { length dst.old ≤ 3 }
+    ensures longest { IsUtf8OfLongestPrefix src.now (length dst.old) result.0 (take result.1 dst.new) }
+    ensures within { result.0 ≤ length src.now }
+    ensures unchanged_after { WritesPrefix dst.old dst.new result.1 (take result.1 dst.new) }
+{
+    let mut read = 0;
+    let mut written = 0;
+    while read < src.len() {
+        let scalar = scalar_at(src, read);
+        if utf8_length(scalar) > dst.len() - written {
+            break;
+        }
+        written += write_scalar(scalar, &mut dst[written..]);
+        read += utf16_length(scalar);
+    }
+    (read, written)
+}
+
+/// Converts the first characters of `src` from UTF-16 to UTF-8, as many as fit into `dst`. Returns how many code units
+/// it read and how many bytes it wrote. Encoding Standard, `encodeInto`.
+///
+/// An unpaired surrogate becomes U+FFFD, even at the end of `src`: no surrogate is kept for the next call. No character
+/// is written in part.
+pub fn convert_utf16_to_utf8_partial(src: &[u16], dst: &mut [u8]) -> (usize, usize)
+    ensures longest { IsUtf8OfLongestPrefix src.now (length dst.old) result.0 (take result.1 dst.new) }
+    ensures within { result.0 ≤ length src.now }
+    ensures unchanged_after { WritesPrefix dst.old dst.new result.1 (take result.1 dst.new) }
+{
+    let (read, written) = convert_utf16_to_utf8_partial_inner(src, dst);
+    if read == src.len() {
+        return (read, written);
+    }
+    let (more, extra) = convert_utf16_to_utf8_partial_tail(&src[read..], &mut dst[written..]);
+    (read + more, written + extra)
+}
+
+/// Converts all of `src` from UTF-16 to UTF-8, and returns how many bytes it wrote. `dst` has at least three bytes for
+/// each code unit of `src`.
+///
+/// An unpaired surrogate becomes U+FFFD. The rest of `dst` is unchanged.
+pub fn convert_utf16_to_utf8(src: &[u16], dst: &mut [u8]) -> usize
+    requires dst_length { 3 * length src.now ≤ length dst.old }
+    ensures all { IsUtf8OfUnits src.now (take result dst.new) }
+    ensures unchanged_after { WritesPrefix dst.old dst.new result (take result dst.new) }
+{
+    let (_, written) = convert_utf16_to_utf8_partial(src, dst);
+    written
+}

@@ -1,0 +1,138 @@
+//! From UTF-8 to UTF-16, and its twin from UTF-8 to UTF-8. A conversion leaves the rest of `dst` unchanged.
+ghost use Rattle.std.specs.Prelude.{◌≡◌, ℕ, ◌<◌, ◌≤◌, List, length, encode_utf8, IfSome, IfNone};
+ghost use Rattle.std.specs.List.{flat_map};
+ghost use Rattle.std.specs.Char.{IsScalar};
+ghost use Rattle.std.specs.Char.Escape.{encode_utf16};
+ghost use Rattle.std.specs.Str.{IsUtf8, chars};
+ghost use Rattle.encoding_definitions.specs.Sequence.{IsSequence};
+ghost use Rattle.encoding_definitions.specs.Prefixes.{WritesPrefix};
+ghost use Rattle.encoding_definitions.specs.Converting.{ConvertsMaximal};
+ghost use Rattle.encoding_text.specs.Steps.ConversionSteps.{ConvertsSome, ConvertsUntilFull};
+
+use super::validation::{character_length, utf8_valid_up_to};
+use crate::ascii::{copy_prefix_of_text, copy_to_basic_latin};
+use encoding_kernels::scalar::value::{decode_utf8_scalar, write_utf16};
+use encoding_kernels::simd::copy::copy_prefix;
+use encoding_kernels::utf8_to_utf16::convert::convert_valid_utf8_to_utf16;
+
+/// The most bytes that are validated before they are converted: they stay in the nearest cache.
+const VALIDATE_CHUNK: usize = 4096;
+
+/// What text is converted to: bytes of UTF-8, or code units of UTF-16.
+pub(crate) trait CodeUnit: Copy {
+    // a scalar value in these code units
+    ghost encode: { ℕ → List Self };
+
+    // the most code units that a character takes: the space that a call needs to make progress
+    ghost need: { ℕ };
+
+    /// Returns the most code units that a character takes.
+    fn max_units_per_scalar() -> usize
+        ensures dst_length { result ≡ need }
+        ensures holds_any { (c : ℕ) → IsScalar c → length (encode c) ≤ need };
+
+    /// Converts UTF-8 up to the first byte that is in no character, or as far as whole characters fit. Returns how many
+    /// bytes it read and how many code units it wrote.
+    fn convert_up_to_invalid(src: &[u8], dst: &mut [Self]) -> (usize, usize)
+        ensures { ConvertsUntilFull encode src.now dst.old dst.new result.0 result.1 };
+}
+
+impl CodeUnit for u16 {
+    ghost encode = { encode_utf16 };
+
+    ghost need = { 2 };
+
+    #[inline]
+    fn max_units_per_scalar() -> usize {
+        2
+    }
+
+    #[inline]
+    fn convert_up_to_invalid(src: &[u8], dst: &mut [u16]) -> (usize, usize) {
+        convert_utf8_to_utf16_up_to_invalid(src, dst)
+    }
+}
+
+impl CodeUnit for u8 {
+    ghost encode = { encode_utf8 };
+
+    ghost need = { 4 };
+
+    #[inline]
+    fn max_units_per_scalar() -> usize {
+        4
+    }
+
+    #[inline]
+    fn convert_up_to_invalid(src: &[u8], dst: &mut [u8]) -> (usize, usize) {
+        copy_utf8_up_to_invalid(src, dst)
+    }
+}
+
+/// Converts a text to UTF-16, and returns how many code units it wrote. A turn takes the ASCII prefix, and then other
+/// text up to a run of ASCII.
+#[inline(never)]
+pub(crate) fn convert_text(src: &[u8], dst: &mut [u16]) -> usize
+    requires dst_length { length src.now ≤ length dst.old }
+    requires text { IsUtf8 src.now }
+    ensures { WritesPrefix dst.old dst.new result (flat_map encode_utf16 (chars src.now)) }
+{
+    let mut read = 0;
+    let mut written = 0;
+    loop {
+        let ascii = copy_prefix_of_text(&src[read..], &mut dst[written..]);
+        read += ascii;
+        written += ascii;
+        if read == src.len() {
+            return written;
+        }
+        let (bytes, units) = convert_valid_utf8_to_utf16(&src[read..], &mut dst[written..]);
+        read += bytes;
+        written += units;
+    }
+}
+
+/// Converts UTF-8 to UTF-16 up to the first byte that is in no character, or as far as whole characters fit. Returns
+/// how many bytes it read and how many code units it wrote. `dst` may have any length.
+///
+/// A turn takes the ASCII prefix, then a well-formed piece that is short enough for its UTF-16 to fit, then one
+/// character. The test for ASCII is its validation, so the ASCII before a piece is read once.
+pub fn convert_utf8_to_utf16_up_to_invalid(src: &[u8], dst: &mut [u16]) -> (usize, usize)
+    ensures { ConvertsMaximal encode_utf16 src.now dst.old dst.new result.0 result.1 }
+{
+    let mut read = 0;
+    let mut written = 0;
+    loop {
+        let ascii = copy_to_basic_latin(&src[read..], &mut dst[written..]);
+        read += ascii;
+        written += ascii;
+        let room = (src.len() - read)
+            .min(dst.len() - written)
+            .min(VALIDATE_CHUNK);
+        let valid = utf8_valid_up_to(&src[read..read + room]);
+        written += convert_text(&src[read..read + valid], &mut dst[written..]);
+        read += valid;
+        let Some(length) = character_length(&src[read..]) else {
+            return (read, written);
+        };
+        let scalar = decode_utf8_scalar(&src[read..read + length]);
+        let Some(units) = write_utf16(scalar, &mut dst[written..]) else {
+            return (read, written);
+        };
+        read += length;
+        written += units;
+    }
+}
+
+/// Copies UTF-8 up to the first byte that is in no character, or as far as whole characters fit. Returns how many bytes
+/// it read and how many it wrote, which is the same.
+///
+/// The characters that fit are those of the prefix that is as long as `dst`.
+fn copy_utf8_up_to_invalid(src: &[u8], dst: &mut [u8]) -> (usize, usize)
+    ensures { ConvertsUntilFull encode_utf8 src.now dst.old dst.new result.0 result.1 }
+{
+    let room = src.len().min(dst.len());
+    let length = utf8_valid_up_to(&src[..room]);
+    copy_prefix(&src[..length], dst);
+    (length, length)
+}
