@@ -17,7 +17,7 @@ use Rattle.encoding_kernels.specs.Vectors.{HasLanes}
 use Rattle.encoding_kernels.specs.EncodeLanes.{kept_places, EncodesTo}
 use Rattle.encoding_kernels.proofs.LaneLemmas.{HasLanes-itself, HasLanes-splat, HasLanes-zip2, HasLanes-swizzle, compared, mask_of}
 use Rattle.encoding_kernels.proofs.TestLemmas.{chosen_by, tests_of}
-use Rattle.encoding_kernels.proofs.WordLemmas.{bytes_of, bytes_lanes}
+use Rattle.encoding_kernels.proofs.WordLemmas.{bytes_of_sixteen, sixteen_lanes}
 
 -- ---- how many indices are kept
 ones-none : count_ones 0 ≡ 0
@@ -53,13 +53,15 @@ looked_up bytes places long small =
     lanes.each k (omega (arith, lanes.long)) ∙ sym (get_or-map (λ j. get_or bytes j 0) places k 0 0 (omega (arith, lanes.long))))
 
 -- the bytes at the indices that the mask keeps
+pub kept_of : (tests : List Bool) (get : ℕ → ℕ) (places : List ℕ) (mask : ℕ) → length tests ≡ 8 → mask ≡ mask_l tests
+    → take (length (kept_places 0 tests)) places ≡ kept_places 0 tests → take (8 + count_ones mask) (map get places) ≡ map get (kept_places 0 tests)
+kept_of tests get places mask l m kept =
+    let count : 8 + count_ones mask ≡ length (kept_places 0 tests) = omega (arith, kept_long 0 tests, ap count_ones m) in
+    ap (λ n. take n (map get places)) count ∙ take-map get (length (kept_places 0 tests)) places ∙ ap (map get) kept
+
 pub compressed : (tests : List Bool) (bytes places : List ℕ) (mask : ℕ) → length tests ≡ 8 → length places ≡ 16 → ((k : ℕ) → k < 16 → get_or places k 0 < 16) → mask ≡ mask_l tests
     → take (length (kept_places 0 tests)) places ≡ kept_places 0 tests → take (8 + count_ones mask) (swz_l w8 16 bytes 0 places) ≡ map (λ j. get_or bytes j 0) (kept_places 0 tests)
-compressed tests bytes places mask l long small m kept =
-    let count : 8 + count_ones mask ≡ length (kept_places 0 tests) = omega (arith, kept_long 0 tests, ap count_ones m) in
-    let get : ℕ → ℕ = λ j. get_or bytes j 0 in
-    ap (λ n. take n (swz_l w8 16 bytes 0 places)) count ∙ ap (take (length (kept_places 0 tests))) (looked_up bytes places long small)
-    ∙ take-map get (length (kept_places 0 tests)) places ∙ ap (map get) kept
+compressed tests bytes places mask l long small m kept = ap (take (8 + count_ones mask)) (looked_up bytes places long small) ∙ kept_of tests (λ j. get_or bytes j 0) places mask l m kept
 
 -- these are the UTF-8 of eight units
 pub spelled_short : (us bytes : List ℕ) → length us ≡ 8 → ((k : ℕ) → k < 8 → EncodesTo (get_or us k 0) (get_or bytes (2 * k) 0) (get_or bytes (2 * k + 1) 0))
@@ -91,23 +93,33 @@ respell u {x} {y} {x2} {y2} p q s = subst (λ k. EncodesTo u k y) (sym p) (subst
 pub pick : (b : Bool) (x y : ℕ) → x < 65536 → y < 65536 → cond b x y < 65536
 pick b x y l m = grind (arith, nat_tests)
 
--- the words of eight code units, as bytes
-both_lanes : (us : List ℕ) → length us ≡ 8
-    → HasLanes 8 (zip2 (λ a b. (a + b) % 2 ^ 16) (zip2 (λ a b. (a + b) % 2 ^ 16) (zip2 (λ a b. a / 2 ^ b) us (replicate 8 6)) (zip2 (λ a b. a * 2 ^ b % 2 ^ 16) (zip2 bit_and us (replicate 8 0x3F)) (replicate 8 8))) (replicate 8 0x80C0))
+-- the words of sixteen code units, as bytes
+both_lanes : (us : List ℕ) → length us ≡ 16
+    → HasLanes 16 (zip2 (λ a b. (a + b) % 2 ^ 16) (zip2 (λ a b. (a + b) % 2 ^ 16) (zip2 (λ a b. a / 2 ^ b) us (replicate 16 6)) (zip2 (λ a b. a * 2 ^ b % 2 ^ 16) (zip2 bit_and us (replicate 16 0x3F)) (replicate 16 8))) (replicate 16 0x80C0))
     (λ k. both (get_or us k 0))
 both_lanes us long =
-    let lanes = HasLanes-itself 8 us long in
-    let lead = HasLanes-zip2 (λ a b. a / 2 ^ b) lanes (HasLanes-splat 8 6) in
-    let last = HasLanes-zip2 (λ a b. a * 2 ^ b % 2 ^ 16) (HasLanes-zip2 bit_and lanes (HasLanes-splat 8 0x3F)) (HasLanes-splat 8 8) in
-    HasLanes-zip2 (λ a b. (a + b) % 2 ^ 16) (HasLanes-zip2 (λ a b. (a + b) % 2 ^ 16) lead last) (HasLanes-splat 8 0x80C0)
+    let lanes = HasLanes-itself 16 us long in
+    let lead = HasLanes-zip2 (λ a b. a / 2 ^ b) lanes (HasLanes-splat 16 6) in
+    let last = HasLanes-zip2 (λ a b. a * 2 ^ b % 2 ^ 16) (HasLanes-zip2 bit_and lanes (HasLanes-splat 16 0x3F)) (HasLanes-splat 16 8) in
+    HasLanes-zip2 (λ a b. (a + b) % 2 ^ 16) (HasLanes-zip2 (λ a b. (a + b) % 2 ^ 16) lead last) (HasLanes-splat 16 0x80C0)
 
 abbrev pub both_words : List ℕ → List ℕ
-both_words us = sel_l (map (top 15) (zip2 (compared w16 leb) (replicate 8 0x80) us))
-    (zip2 (λ a b. (a + b) % 2 ^ 16) (zip2 (λ a b. (a + b) % 2 ^ 16) (zip2 (λ a b. a / 2 ^ b) us (replicate 8 6)) (zip2 (λ a b. a * 2 ^ b % 2 ^ 16) (zip2 bit_and us (replicate 8 0x3F)) (replicate 8 8))) (replicate 8 0x80C0)) us
+both_words us = sel_l (map (top 15) (zip2 (compared w16 leb) (replicate 16 0x80) us))
+    (zip2 (λ a b. (a + b) % 2 ^ 16) (zip2 (λ a b. (a + b) % 2 ^ 16) (zip2 (λ a b. a / 2 ^ b) us (replicate 16 6)) (zip2 (λ a b. a * 2 ^ b % 2 ^ 16) (zip2 bit_and us (replicate 16 0x3F)) (replicate 16 8))) (replicate 16 0x80C0)) us
 
-pub words_spell : (us : List ℕ) → length us ≡ 8 → ((i : ℕ) → get_or us i 0 < 0x800) → (k : ℕ) → k < 8 → EncodesTo (get_or us k 0) (get_or (bytes_of (both_words us)) (2 * k) 0) (get_or (bytes_of (both_words us)) (2 * k + 1) 0)
+pub words_spell : (us : List ℕ) → length us ≡ 16 → ((i : ℕ) → i < 16 → get_or us i 0 < 0x800) → (k : ℕ) → k < 16 → EncodesTo (get_or us k 0) (get_or (bytes_of_sixteen (both_words us)) (2 * k) 0) (get_or (bytes_of_sixteen (both_words us)) (2 * k + 1) 0)
 words_spell us long small k l =
-    let lanes = HasLanes-itself 8 us long in
-    let words = chosen_by (tests_of w16 leb (HasLanes-splat 8 0x80) lanes) (both_lanes us long) lanes in
-    let bytes = bytes_lanes words (λ i m. pick (leb 0x80 (get_or us i 0)) (both (get_or us i 0)) (get_or us i 0) (omega arith) (omega (arith, small i))) k l in
-    respell (get_or us k 0) bytes.0 bytes.1 (EncodesTo-word (get_or us k 0) (small k))
+    let lanes = HasLanes-itself 16 us long in
+    let words = chosen_by (tests_of w16 leb (HasLanes-splat 16 0x80) lanes) (both_lanes us long) lanes in
+    let bytes = sixteen_lanes words (λ i m. pick (leb 0x80 (get_or us i 0)) (both (get_or us i 0)) (get_or us i 0) (omega arith) (omega (arith, small i m))) k l in
+    respell (get_or us k 0) bytes.0 bytes.1 (EncodesTo-word (get_or us k 0) (small k l))
+
+-- the UTF-8 of eight of these units, by bytes from an index on
+pub spelled_eight : (us places : List ℕ) (get : ℕ → ℕ) (mask : ℕ) → length us ≡ 8 → mask ≡ mask_l (map (nat_le 0x80) us)
+    → ((tests : List Bool) → length tests ≡ 8 → mask ≡ mask_l tests → take (length (kept_places 0 tests)) places ≡ kept_places 0 tests)
+    → ((k : ℕ) → k < 8 → EncodesTo (get_or us k 0) (get (2 * k)) (get (2 * k + 1))) → take (8 + count_ones mask) (map get places) ≡ encode_utf8_all us
+spelled_eight us places get mask long m kept spells =
+    let tests = map (nat_le 0x80) us in
+    let eight : length tests ≡ 8 = length-map us (nat_le 0x80) ∙ long in
+    kept_of tests get places mask eight m (kept tests eight m)
+    ∙ kept_spell get us 0 (λ k i. let e : 2 * k ≡ 0 + 2 * k = omega arith in subst (λ j. EncodesTo (get_or us k 0) (get j) (get (j + 1))) e (spells k (omega arith)))

@@ -63,10 +63,10 @@ module _ (v : List ℕ) (long : length v ≡ 16) (others : ℕ) (is : others ≡
   others_small = let bound : mask_l (map (nat_le 0x80) v) < 2 ^ 16 = subst (λ n. mask_l (map (nat_le 0x80) v) < 2 ^ n) marks_long (mask_l-lt (map (nat_le 0x80) v)) in
       omega (arith, is)
 
-  low_others : bit_and others 255 ≡ mask_l (map (nat_le 0x80) (take 8 v))
+  pub low_others : bit_and others 255 ≡ mask_l (map (nat_le 0x80) (take 8 v))
   low_others = and_mask others 8 ∙ ap (λ m. m % 256) is ∙ low_half (map (nat_le 0x80) v) marks_long ∙ ap mask_l (take-map (nat_le 0x80) 8 v)
 
-  high_others : others / 256 ≡ mask_l (map (nat_le 0x80) (drop 8 v))
+  pub high_others : others / 256 ≡ mask_l (map (nat_le 0x80) (drop 8 v))
   high_others = ap (λ m. m / 256) is ∙ high_half (map (nat_le 0x80) v) marks_long ∙ ap mask_l (drop-map (nat_le 0x80) 8 v)
 
   -- the UTF-8 of both halves, given what any tests keep of their pairs

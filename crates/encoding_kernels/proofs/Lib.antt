@@ -1,12 +1,15 @@
 pub mod AsciiLemmas
 pub mod BidiLemmas
 pub mod BidiUnitsLemmas
+pub mod BlockLemmas
 pub mod ChunksLemmas
 pub mod CompressLemmas
+pub mod ConvertsLemmas
 pub mod EncodeLanesLemmas
 pub mod EndedLemmas
 pub mod EndsLemmas
 pub mod FollowingLemmas
+pub mod HalvesLemmas
 pub mod LaneLemmas
 pub mod LatinLanesLemmas
 pub mod LongLemmas
@@ -33,5 +36,6 @@ pub mod TotalLemmas
 pub mod UnitBlocksLemmas
 pub mod UnitBytesLemmas
 pub mod UnitLanesLemmas
+pub mod UnitTestLemmas
 pub mod WordLemmas
 pub mod ZerosLemmas

@@ -1,13 +1,14 @@
 -- The UTF-8 of code units from U+0800 on, of three bytes each.
-use Rattle.std.proofs.Common.{◌≡◌, ℕ, zero, suc, ◌+◌, ◌-◌, ◌*◌, ◌/◌, ◌%◌, ◌^◌, ◌<◌, ◌≤◌, eqb, IsTrue, not, List, [], ◌∷◌, ◌++◌, map, length, get_or, encode_utf8, encode_utf8_all, bit_and, bit_or, replicate, refl, sym, ap, ◌∙◌, arith, subst, w16, take, drop, length-append, length-take-le, append_assoc, Fits}
+use Rattle.std.proofs.Common.{◌≡◌, ℕ, zero, suc, ◌+◌, ◌-◌, ◌*◌, ◌/◌, ◌%◌, ◌^◌, ◌<◌, ◌≤◌, eqb, IsTrue, not, List, [], ◌∷◌, ◌++◌, map, length, get_or, encode_utf8, encode_utf8_all, bit_and, bit_or, replicate, refl, sym, ap, ◌∙◌, arith, subst, w16, take, drop, length-append, length-take-le, length-drop, append_assoc, Fits}
 use Rattle.std.proofs.lemmas.Bool.{eqb-false, or_parts}
-use Rattle.std.proofs.lemmas.Simd.{Each1-get_or, length-put_chunk}
+use Rattle.std.proofs.lemmas.Simd.{Each1-get_or, length-put_chunk, pick_l_left, pick_l-range_with_len}
+use Rattle.std.specs.List.{range_with_len}
 use Rattle.std.proofs.lemmas.Nat.{and_mask}
 use Rattle.std.proofs.lemmas.Nat.Bits.{and_high_mask}
 use Rattle.std.proofs.lemmas.Bool.Decides.{nat_tests}
 use Rattle.std.proofs.str.Laws.{three}
 use Rattle.std.specs.Simd.Lanes.{zip2, Each1, pick_l, put_chunk}
-use Rattle.std.proofs.lemmas.List.{take_at, drop_at, drop-drop, get_or_append_left, get_or-append_right}
+use Rattle.std.proofs.lemmas.List.{take_all, take_at, drop_at, drop-drop, get_or_append_left, get_or-append_right}
 use Rattle.encoding_kernels.specs.Vectors.{HasLanes}
 use Rattle.encoding_kernels.proofs.PutLemmas.{put_is}
 use Rattle.encoding_kernels.proofs.TestLemmas.{none_passes, tests_of, tests_or}
@@ -15,13 +16,13 @@ use Rattle.encoding_kernels.proofs.WordLemmas.{bytes_of, bytes_lanes}
 use Rattle.encoding_kernels.proofs.LaneLemmas.{HasLanes-itself, HasLanes-splat, HasLanes-zip2, compared, mask_of}
 
 -- ---- the test
-pub all_long : (us : List ℕ) → length us ≡ 8 → Each1 (Fits w16) us
-    → IsTrue (not (not (eqb (mask_of 15 (zip2 bit_or (zip2 (compared w16 eqb) (zip2 bit_and us (replicate 8 0xF800)) (replicate 8 0)) (zip2 (compared w16 eqb) (zip2 bit_and us (replicate 8 0xF800)) (replicate 8 0xD800)))) 0)))
-    → (k : ℕ) → k < 8 → (0x800 ≤ get_or us k 0) × ((0xD800 ≤ get_or us k 0) × (get_or us k 0 ≤ 0xDFFF) → ⊥)
+pub all_long : (us : List ℕ) → length us ≡ 16 → Each1 (Fits w16) us
+    → IsTrue (not (not (eqb (mask_of 15 (zip2 bit_or (zip2 (compared w16 eqb) (zip2 bit_and us (replicate 16 0xF800)) (replicate 16 0)) (zip2 (compared w16 eqb) (zip2 bit_and us (replicate 16 0xF800)) (replicate 16 0xD800)))) 0)))
+    → (k : ℕ) → k < 16 → (0x800 ≤ get_or us k 0) × ((0xD800 ≤ get_or us k 0) × (get_or us k 0 ≤ 0xDFFF) → ⊥)
 all_long us long fit t k l =
     let x = get_or us k 0 in
-    let tops = HasLanes-zip2 bit_and (HasLanes-itself 8 us long) (HasLanes-splat 8 0xF800) in
-    let others = tests_or (tests_of w16 eqb tops (HasLanes-splat 8 0)) (tests_of w16 eqb tops (HasLanes-splat 8 0xD800)) in
+    let tops = HasLanes-zip2 bit_and (HasLanes-itself 16 us long) (HasLanes-splat 16 0xF800) in
+    let others = tests_or (tests_of w16 eqb tops (HasLanes-splat 16 0)) (tests_of w16 eqb tops (HasLanes-splat 16 0xD800)) in
     let none = or_parts (eqb (bit_and x 0xF800) 0) (eqb (bit_and x 0xF800) 0xD800) ((none_passes others (omega arith)).0 t k l) in
     let top_bits : bit_and x 0xF800 ≡ x / 2048 * 2048 = and_high_mask 16 11 (omega arith) x (Each1-get_or (Fits w16) us k 0 (omega arith) fit).fits in
     let low = eqb-false _ _ none.0 in
@@ -112,3 +113,11 @@ two_puts at n m xs first second room p q =
     ++ (second ++ (sym (drop-drop m (at + n) ((take at xs ++ first) ++ drop (at + n) xs)) ∙ ap (drop m) (drop_at (take at xs ++ first) (drop (at + n) xs) (at + n) prefix) ∙ drop-drop m (at + n) xs ∙ ap (λ k. drop k xs) place) i))
     ∙ append_assoc (take at xs) first (second ++ drop (at + (n + m)) xs)
     ∙ ap (λ ys. take at xs ++ ys) (sym (append_assoc first second (drop (at + (n + m)) xs)))
+
+-- sixteen units as two vectors of eight
+module _ (us : List ℕ) (long : length us ≡ 16) where
+  pub first_eight : pick_l 0 (us ++ us) (range_with_len 0 8) ≡ take 8 us
+  first_eight = pick_l_left 0 us us 16 (range_with_len 0 8) long tt ∙ pick_l-range_with_len 0 us 0 8 (omega arith)
+
+  pub last_eight : pick_l 0 (us ++ us) (range_with_len 8 8) ≡ drop 8 us
+  last_eight = pick_l_left 0 us us 16 (range_with_len 8 8) long tt ∙ pick_l-range_with_len 0 us 8 8 (omega arith) ∙ take_all 8 (drop 8 us) (omega (arith, length-drop 8 us))

@@ -1,51 +1,51 @@
--- Stored vectors whose first bytes count, and what was after these written back.
-use Rattle.std.proofs.Common.{◌≡◌, ℕ, ◌+◌, ◌≤◌, List, ◌++◌, length, take, drop, drop-drop, length-take-le, length-append, length-drop, sym, ap, ◌∙◌, arith, append_assoc}
+-- Stored vectors whose first bytes count: what they change after these is overwritten by later ones.
+use Rattle.std.proofs.Common.{◌≡◌, ℕ, ◌+◌, ◌-◌, ◌≤◌, List, ◌++◌, length, take, drop, drop-drop, take-append-drop, length-take-le, length-append, length-drop, encode_utf8_all, sym, ap, ◌∙◌, arith, append_assoc, subst}
 use Rattle.std.proofs.lemmas.List.{take_at}
-use Rattle.std.proofs.lemmas.Simd.{length-put_chunk, chunk-drop}
+use Rattle.std.proofs.lemmas.Simd.{length-put_chunk}
 use Rattle.std.proofs.lemmas.Slice.{drop-append-drop}
-use Rattle.std.specs.Simd.Lanes.{chunk, put_chunk}
+use Rattle.std.specs.Simd.Lanes.{put_chunk}
+use borrow.Rule.Slice.PartMut.{put_mid}
 use Rattle.encoding_definitions.specs.Prefixes.{WritesPrefix}
-use Rattle.encoding_definitions.proofs.PrefixesLemmas.{WritesPrefix_put}
-use Rattle.encoding_kernels.specs.EncodeLanes.{Spills, spliced}
+use Rattle.encoding_definitions.proofs.PrefixesLemmas.{WritesPrefix_after}
+use Rattle.encoding_kernels.specs.EncodeLanes.{Spills, StoresBlock, SpillsBmp}
 use Rattle.encoding_kernels.proofs.PutLemmas.{put_prefix}
+use Rattle.encoding_kernels.proofs.UnitBlocksLemmas.{plain_then, encodes_more}
+
+-- lists that are the same from an index on are so from a later one on
+later : (n k m : ℕ) (xs ys : List ℕ) → drop n xs ≡ drop n ys → m ≡ n + k → drop m xs ≡ drop m ys
+later n k m xs ys e place =
+    let turned : k + n ≡ n + k = omega arith in
+    ap (λ j. drop j xs) place ∙ sym (drop-drop k n xs) ∙ ap (drop k) e ∙ drop-drop k n ys ∙ ap (λ j. drop j ys) (sym place)
 
 -- one vector
-pub store_spills : (xs ys : List ℕ) (at n : ℕ) → length ys ≡ 16 → n ≤ 16 → at + 16 ≤ length xs → Spills xs (put_chunk at xs ys) at n (take n ys)
+pub store_spills : (xs ys : List ℕ) (at n : ℕ) → length ys ≡ 16 → n ≤ 16 → at + 16 ≤ length xs → Spills xs (put_chunk at xs ys) at n 16 (take n ys)
 store_spills xs ys at n long few room =
     let parts = put_prefix 16 xs ys at n long few room in
     record { counted = length-take-le n ys (omega arith); prefix = parts.0; following = parts.1; long = length-put_chunk at xs ys }
 
 -- one after the other
-pub spills_then : (a b c : List ℕ) (at n m : ℕ) (xs ys : List ℕ) → Spills a b at n xs → Spills b c (at + n) m ys → Spills a c at (n + m) (xs ++ ys)
-spills_then a b c at n m xs ys p q =
+pub spills_then : (a b c : List ℕ) (at n m s t : ℕ) (xs ys : List ℕ) → Spills a b at n s xs → Spills b c (at + n) m t ys → s ≤ m + t → Spills a c at (n + m) t (xs ++ ys)
+spills_then a b c at n m s t xs ys p q due =
     let place : at + (n + m) ≡ at + n + m = omega arith in
-    let last : at + (n + m) + 16 ≡ at + n + 16 + m = omega arith in
-    let end : at + n + 16 + m ≡ at + n + m + 16 = omega arith in
+    let last : at + (n + m) + t ≡ at + n + m + t = omega arith in
+    let over : at + n + m + t ≡ at + n + s + (m + t - s) = omega arith in
     record {
       counted = omega (arith, length-append xs ys, p.counted, q.counted);
       prefix = ap (λ k. take k c) place ∙ q.prefix ∙ ap (λ zs. zs ++ ys) p.prefix ∙ append_assoc (take at a) xs ys;
-      following = ap (λ k. drop k c) (last ∙ end) ∙ q.following ∙ ap (λ k. drop k b) (sym end) ∙ sym (drop-drop m (at + n + 16) b) ∙ ap (drop m) p.following ∙ drop-drop m (at + n + 16) a ∙ ap (λ k. drop k a) (sym last);
+      following = ap (λ k. drop k c) last ∙ q.following ∙ later (at + n + s) (m + t - s) (at + n + m + t) b a p.following over ∙ ap (λ k. drop k a) (sym last);
       long = q.long ∙ p.long;
     }
 
--- what was after them is written back
-pub spills_spliced : (old new : List ℕ) (at n : ℕ) (out : List ℕ) → Spills old new at n out → spliced new (at + n) (chunk (at + n) 16 old) ≡ take at old ++ (out ++ drop (at + n) old)
-spills_spliced old new at n out p =
-    (λ i. p.prefix i ++ (chunk (at + n) 16 old ++ p.following i)) ∙ ap (λ zs. (take at old ++ out) ++ zs) (sym (chunk-drop (at + n) 16 old)) ∙ append_assoc (take at old) out (drop (at + n) old)
-
--- one more block, of sixteen bytes at least
-pub spliced_put : (old d e s t out more : List ℕ) (w c : ℕ) → WritesPrefix old (spliced d w s) w out → length s ≡ 16 → w + 16 ≤ length d → c ≡ length more → 16 ≤ c → w + c ≤ length d
-    → spliced e (w + c) t ≡ take w d ++ (more ++ drop (w + c) d) → WritesPrefix old (spliced e (w + c) t) (w + c) (out ++ more)
-spliced_put old d e s t out more w c v long room count most fits put =
-    let start : length (take w d) ≡ w = length-take-le w d (omega arith) in
-    let both : length (take w d ++ s) ≡ w + 16 = omega (arith, length-append (take w d) s) in
-    let prefix : take w (spliced d w s) ≡ take w d = take_at (take w d) (s ++ drop (w + 16) d) w start in
-    let following : drop (w + c) (spliced d w s) ≡ drop (w + c) d = ap (drop (w + c)) (sym (append_assoc (take w d) s (drop (w + 16) d))) ∙ drop-append-drop (w + 16) d (take w d ++ s) (w + c) (omega arith) both in
-    let whole : length (spliced d w s) ≡ length d = omega (arith, start, long, length-append (take w d) (s ++ drop (w + 16) d), length-append s (drop (w + 16) d), length-drop (w + 16) d) in
-    WritesPrefix_put old (spliced d w s) (spliced e (w + c) t) w c out more v count (omega (arith, whole)) (put ∙ (λ i. sym prefix i ++ (more ++ sym following i)))
+pub spills_both : (old mid new : List ℕ) (at n m k l : ℕ) (xs ys out : List ℕ) → Spills old mid at (n + m) 16 xs → Spills mid new (at + n + m) (k + l) 16 ys → xs ++ ys ≡ out
+    → Spills old new at (n + m + k + l) 16 out
+spills_both old mid new at n m k l xs ys out p q e =
+    let place : at + n + m ≡ at + (n + m) = omega arith in
+    let all : n + m + (k + l) ≡ n + m + k + l = omega arith in
+    let both = spills_then old mid new at (n + m) (k + l) 16 16 xs ys p (subst (λ j. Spills mid new j (k + l) 16 ys) place q) (omega arith) in
+    subst (λ j. Spills old new at j 16 out) all (subst (Spills old new at (n + m + (k + l)) 16) e both)
 
 -- a write that changes nothing after it
-pub exact_spills : (old new out : List ℕ) (at n : ℕ) → length out ≡ n → at + n ≤ length old → new ≡ take at old ++ (out ++ drop (at + n) old) → Spills old new at n out
+pub exact_spills : (old new out : List ℕ) (at n : ℕ) → length out ≡ n → at + n ≤ length old → new ≡ take at old ++ (out ++ drop (at + n) old) → Spills old new at n 0 out
 exact_spills old new out at n count room put =
     let start : length (take at old) ≡ at = length-take-le at old (omega arith) in
     let both : length (take at old ++ out) ≡ at + n = omega (arith, length-append (take at old) out) in
@@ -53,6 +53,44 @@ exact_spills old new out at n count room put =
     record {
       counted = count;
       prefix = ap (take (at + n)) is ∙ take_at (take at old ++ out) (drop (at + n) old) (at + n) both;
-      following = ap (drop (at + n + 16)) is ∙ drop-append-drop (at + n) old (take at old ++ out) (at + n + 16) (omega arith) both;
+      following = ap (drop (at + n + 0)) is ∙ drop-append-drop (at + n) old (take at old ++ out) (at + n + 0) (omega arith) both;
       long = omega (arith, ap length is, length-append (take at old ++ out) (drop (at + n) old), length-drop (at + n) old);
+    }
+
+-- one more block: it has at least as many bytes as the one before it spilled
+pub due_then : (us old d e : List ℕ) (read w s c t : ℕ) → SpillsBmp us old d read w s → read + 16 ≤ length us → s ≤ 16 → w + c ≤ length d → StoresBlock (take 16 (drop read us)) d e w c t → SpillsBmp us old e (read + 16) (w + c) t
+due_then us old d e read w s c t p within few room b =
+    let over : w + c + t ≡ w + s + (c + t - s) = omega (arith, b.bounds) in
+    record {
+      within = within;
+      plain = plain_then us read 16 p.plain b.plain;
+      counted = ap length (sym (encodes_more us read 16)) ∙ omega (arith, length-append (encode_utf8_all (take read us)) (encode_utf8_all (take 16 (drop read us))), p.counted, b.stored.counted);
+      fits = omega (arith, p.long);
+      prefix = b.stored.prefix ∙ ap (λ xs. xs ++ encode_utf8_all (take 16 (drop read us))) p.prefix ∙ encodes_more us read 16;
+      following = b.stored.following ∙ later (w + s) (c + t - s) (w + c + t) d old p.following over;
+      long = b.stored.long ∙ p.long;
+    }
+
+-- nothing is spilled
+pub due_none : (us old d : List ℕ) (read w : ℕ) → SpillsBmp us old d read w 0 → WritesPrefix old d w (encode_utf8_all (take read us))
+due_none us old d read w p =
+    let same : w + 0 ≡ w = omega arith in
+    record {
+      count = sym p.counted;
+      fits = p.fits;
+      placed = sym (take-append-drop w d) ∙ (λ i. p.prefix i ++ (ap (λ k. drop k d) (sym same) ∙ p.following ∙ ap (λ k. drop k old) same) i);
+    }
+
+-- what follows overwrites what was spilled
+pub due_paid : (us old d sub more : List ℕ) (read w s m : ℕ) → SpillsBmp us old d read w s → s ≤ m → WritesPrefix (take (length d - w) (drop w d)) sub m more
+    → WritesPrefix old (put_mid w (length d - w) d sub) (w + m) (encode_utf8_all (take read us) ++ more)
+due_paid us old d sub more read w s m p due v =
+    let start : length (take w d) ≡ w = length-take-le w d (omega (arith, p.fits, p.long)) in
+    let here : WritesPrefix d d w (take w d) = record { count = sym start; fits = omega (arith, p.fits, p.long); placed = sym (take-append-drop w d) } in
+    let both = WritesPrefix_after d d w (take w d) sub m more here v in
+    let over : w + m ≡ w + s + (m - s) = omega arith in
+    record {
+      count = omega (arith, both.count, length-append (take w d) more, length-append (encode_utf8_all (take read us)) more, start, p.counted);
+      fits = omega (arith, both.fits, p.long);
+      placed = both.placed ∙ (λ i. (p.prefix i ++ more) ++ later (w + s) (m - s) (w + m) d old p.following over i);
     }

@@ -1,8 +1,7 @@
 -- Two stores whose first bytes count: the second overwrites the excess of the first.
-use Rattle.std.proofs.Common.{◌≡◌, ℕ, ◌+◌, ◌≤◌, List, ◌++◌, length, take, drop, length-take-le, length-append, length-drop, get_or, cond, ltb, sym, ap, ◌∙◌, arith, append_assoc}
-use Rattle.std.proofs.lemmas.List.{take_at, drop_at}
-use Rattle.std.proofs.lemmas.Simd.{length-put_chunk, length-chunk, chunk-drop}
-use Rattle.std.proofs.lemmas.Slice.{drop-append-drop}
+use Rattle.std.proofs.Common.{◌≡◌, ℕ, ◌+◌, ◌≤◌, List, ◌++◌, length, take, drop, length-take-le, get_or, cond, ltb, sym, ap, ◌∙◌, arith, append_assoc}
+use Rattle.std.proofs.lemmas.List.{drop_at}
+use Rattle.std.proofs.lemmas.Simd.{length-put_chunk, length-chunk}
 use Rattle.std.specs.List.{range_with_len}
 use Rattle.std.specs.Simd.Lanes.{chunk, put_chunk, zip2, sel_l, top}
 use Rattle.std.proofs.Common.{map, replicate}
@@ -44,19 +43,3 @@ module _ (at count more : ℕ) (xs first second z : List ℕ) (room : at + 32 �
       ∙ ap (λ ys. (take at xs ++ take count first) ++ ys) (second_single ∙ ap (λ n. take more second ++ drop n xs) place)
       ∙ append_assoc (take at xs) (take count first) (take more second ++ drop (at + (count + more)) xs)
       ∙ ap (λ ys. take at xs ++ ys) (sym (append_assoc (take count first) (take more second) (drop (at + (count + more)) xs)))
-
--- some bytes were also stored after a prefix, and what was there is written back
-pub put_back : (old new out more : List ℕ) (at n m : ℕ) → length out ≡ n → length more ≡ m → m ≤ 8 → at + n + 8 ≤ length old
-    → new ≡ take at old ++ ((out ++ more) ++ drop (at + (n + m)) old) → put_chunk (at + n) new (chunk (at + n) 8 old) ≡ take at old ++ (out ++ drop (at + n) old)
-put_back old new out more at n m count rest few room put =
-    let end = drop (at + (n + m)) old in
-    let prefix : length (take at old ++ out) ≡ at + n = omega (arith, length-append (take at old) out, length-take-le at old (omega arith)) in
-    let both : length ((take at old ++ out) ++ more) ≡ at + (n + m) = omega (arith, length-append (take at old ++ out) more) in
-    let parts : new ≡ (take at old ++ out) ++ (more ++ end) = put ∙ ap (λ xs. take at old ++ xs) (append_assoc out more end) ∙ sym (append_assoc (take at old) out (more ++ end)) in
-    let is : new ≡ ((take at old ++ out) ++ more) ++ end = parts ∙ sym (append_assoc (take at old ++ out) more end) in
-    let long : length new ≡ length old = omega (arith, ap length is, length-append ((take at old ++ out) ++ more) end, length-drop (at + (n + m)) old) in
-    let before : take (at + n) new ≡ take at old ++ out = ap (take (at + n)) parts ∙ take_at (take at old ++ out) (more ++ end) (at + n) prefix in
-    let following : drop (at + n + 8) new ≡ drop (at + n + 8) old = ap (drop (at + n + 8)) is ∙ drop-append-drop (at + (n + m)) old ((take at old ++ out) ++ more) (at + n + 8) (omega arith) both in
-    put_is (at + n) 8 new (chunk (at + n) 8 old) (length-chunk (at + n) 8 old room) (omega arith)
-    ∙ (λ i. before i ++ (chunk (at + n) 8 old ++ following i))
-    ∙ ap (λ xs. (take at old ++ out) ++ xs) (sym (chunk-drop (at + n) 8 old)) ∙ append_assoc (take at old) out (drop (at + n) old)

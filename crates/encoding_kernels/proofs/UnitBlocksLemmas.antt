@@ -37,7 +37,7 @@ units_plain : (us : List ℕ) → AreCodeUnits us → length (flat_map units_of_
 units_plain [] a = refl
 units_plain (u ∷ us) a = omega (arith, length-append (units_of_part16 (Character16 u)) (flat_map units_of_part16 (map Character16 us)), ap length (one_unit u (a 0)), units_plain us (λ k. a (suc k)))
 
-utf8_plain : (us : List ℕ) → flat_map utf8_of_part16 (map Character16 us) ≡ encode_utf8_all us
+pub utf8_plain : (us : List ℕ) → flat_map utf8_of_part16 (map Character16 us) ≡ encode_utf8_all us
 utf8_plain [] = refl
 utf8_plain (u ∷ us) = ap (λ xs. utf8_of_part16 (Character16 u) ++ xs) (utf8_plain us)
 

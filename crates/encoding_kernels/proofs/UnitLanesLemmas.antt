@@ -90,11 +90,11 @@ ends_mask v one end long h few =
     (λ i. bit_and (mask i) (one_shl end 64 (omega arith) i - 1)) ∙ mask_prefix (ends_after 0 v) (16 - end) end (omega (arith, size))
 
 -- ---- every third byte
-pub picked_lanes : (v ks : List ℕ) → length ks ≡ 8 → HasLanes 8 (pick_l 0 v ks) (λ k. get_or v (get_or ks k 0) 0)
-picked_lanes v ks long = record { long = length-map ks (λ j. get_or v j 0) ∙ long; each = λ k l. get_or-map (λ j. get_or v j 0) ks k 0 0 (omega (arith, long)) }
+pub picked_lanes : (n : ℕ) (v ks : List ℕ) → length ks ≡ n → HasLanes n (pick_l 0 v ks) (λ k. get_or v (get_or ks k 0) 0)
+picked_lanes n v ks long = record { long = length-map ks (λ j. get_or v j 0) ∙ long; each = λ k l. get_or-map (λ j. get_or v j 0) ks k 0 0 (omega (arith, long)) }
 
 pub third_lanes : (v ks : List ℕ) → length v ≡ 16 → length ks ≡ 8 → T (all_below 16 ks) → HasLanes 8 (pick_l 0 (v ++ v) ks) (λ k. get_or v (get_or ks k 0) 0)
-third_lanes v ks long eight small = subst (λ xs. HasLanes 8 xs (λ k. get_or v (get_or ks k 0) 0)) (sym (pick_l_left 0 v v 16 ks long small)) (picked_lanes v ks eight)
+third_lanes v ks long eight small = subst (λ xs. HasLanes 8 xs (λ k. get_or v (get_or ks k 0) 0)) (sym (pick_l_left 0 v v 16 ks long small)) (picked_lanes 8 v ks eight)
 
 pub triple_lane : (a b d : ℕ) → (a * 0x1000 % 2 ^ 16 + (bit_and b 63 * 64 % 2 ^ 16 + bit_and d 63) % 2 ^ 16) % 2 ^ 16 ≡ a % 16 * 4096 + low_bits b d
 triple_lane a b d = let e : a * 4096 % 65536 ≡ a % 16 * 4096 = omega arith in ap (λ n. (a * 0x1000 % 2 ^ 16 + n) % 2 ^ 16) (low_lane b d) ∙ omega arith

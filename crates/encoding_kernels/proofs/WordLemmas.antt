@@ -21,16 +21,27 @@ wide bs long fit = record {
   each = λ j l. get_or_wider 256 2 65536 8 bs j refl fit l ∙ ap (number_l 256) (two_at bs (2 * j) (omega arith)) ∙ joined (get_or bs (2 * j) 0) (get_or bs (2 * j + 1) 0);
 }
 
--- the bytes of words
+-- the bytes of n words
+narrow : (n : ℕ) (words : List ℕ) (f : ℕ → ℕ) → HasLanes n words f → ((k : ℕ) → k < n → f k < 65536) → (k : ℕ) → k < n
+    → (get_or (digits_l 256 (2 * n) (number_l 65536 words)) (2 * k) 0 ≡ f k % 256) × (get_or (digits_l 256 (2 * n) (number_l 65536 words)) (2 * k + 1) 0 ≡ f k / 256)
+narrow n words f lanes small k l =
+    let fit : Each1 (λ x. x < 65536) words = Each1-from_get_or (λ x. x < 65536) words 0 (λ i m. let within : i < n = omega (arith, lanes.long) in omega (arith, lanes.each i within, small i within)) in
+    let part = λ (j : ℕ) (m : j < 2). get_or_narrower 65536 2 256 (2 * n) words k j (omega arith) fit m (omega (arith, lanes.long)) in
+    let place : 2 * k ≡ 2 * k + 0 = omega arith in
+    let low : get_or words k 0 / 256 ^ 0 % 256 ≡ f k % 256 = omega (arith, lanes.each k l) in
+    let high : get_or words k 0 / 256 ^ 1 % 256 ≡ f k / 256 = omega (arith, lanes.each k l, small k l) in
+    (ap (λ j. get_or (digits_l 256 (2 * n) (number_l 65536 words)) j 0) place ∙ part 0 (omega arith) ∙ low, part 1 (omega arith) ∙ high)
+
 abbrev pub bytes_of : List ℕ → List ℕ
 bytes_of words = digits_l 256 16 (number_l 65536 words)
 
 pub bytes_lanes : {words : List ℕ} {f : ℕ → ℕ} → HasLanes 8 words f → ((k : ℕ) → k < 8 → f k < 65536) → (k : ℕ) → k < 8
     → (get_or (bytes_of words) (2 * k) 0 ≡ f k % 256) × (get_or (bytes_of words) (2 * k + 1) 0 ≡ f k / 256)
-bytes_lanes {words} {f} lanes small k l =
-    let fit : Each1 (λ x. x < 65536) words = Each1-from_get_or (λ x. x < 65536) words 0 (λ i m. let within : i < 8 = omega (arith, lanes.long) in omega (arith, lanes.each i within, small i within)) in
-    let part = λ (j : ℕ) (m : j < 2). get_or_narrower 65536 2 256 16 words k j (omega arith) fit m (omega (arith, lanes.long)) in
-    let place : 2 * k ≡ 2 * k + 0 = omega arith in
-    let low : get_or words k 0 / 256 ^ 0 % 256 ≡ f k % 256 = omega (arith, lanes.each k l) in
-    let high : get_or words k 0 / 256 ^ 1 % 256 ≡ f k / 256 = omega (arith, lanes.each k l, small k l) in
-    (ap (λ j. get_or (bytes_of words) j 0) place ∙ part 0 (omega arith) ∙ low, part 1 (omega arith) ∙ high)
+bytes_lanes {words} {f} = narrow 8 words f
+
+abbrev pub bytes_of_sixteen : List ℕ → List ℕ
+bytes_of_sixteen words = digits_l 256 32 (number_l 65536 words)
+
+pub sixteen_lanes : {words : List ℕ} {f : ℕ → ℕ} → HasLanes 16 words f → ((k : ℕ) → k < 16 → f k < 65536) → (k : ℕ) → k < 16
+    → (get_or (bytes_of_sixteen words) (2 * k) 0 ≡ f k % 256) × (get_or (bytes_of_sixteen words) (2 * k + 1) 0 ≡ f k / 256)
+sixteen_lanes {words} {f} = narrow 16 words f

@@ -50,15 +50,28 @@ length_classes (u ∷ us) = nat_lt u 0x80 ∷ nat_lt u 0x800 ∷ length_classes 
 abbrev pub EncodesLast : ℕ → ℕ → ℕ → ℕ → Type 0
 EncodesLast unit x y z = (if nat_lt unit 0x80 then z ∷ [] else (if nat_lt unit 0x800 then y ∷ z ∷ [] else x ∷ y ∷ z ∷ [])) ≡ encode_utf8 unit
 
--- the list with the sixteen elements from `at` on replaced by what was kept of them
-abbrev pub spliced : List ℕ → ℕ → List ℕ → List ℕ
-spliced xs at kept = take at xs ++ (kept ++ drop (at + 16) xs)
-
--- `count` bytes are written at `at`, and after them at most sixteen bytes are changed
-pub record Spills (old new : List ℕ) (at count : ℕ) (out : List ℕ) : Type 0 where
+-- `count` bytes are written at `at`, and after them at most `spill` bytes are changed
+pub record Spills (old new : List ℕ) (at count spill : ℕ) (out : List ℕ) : Type 0 where
   pub counted : length out ≡ count
   pub prefix : take (at + count) new ≡ take at old ++ out
-  pub following : drop (at + count + 16) new ≡ drop (at + count + 16) old
+  pub following : drop (at + count + spill) new ≡ drop (at + count + spill) old
+  pub long : length new ≡ length old
+
+-- sixteen code units are no surrogates, and their UTF-8 is written at `at`; each has at least one byte
+pub record StoresBlock (us old new : List ℕ) (at count spill : ℕ) : Type 0 where
+  pub plain : AreBmpScalars us
+  pub bounds : (16 ≤ count) × (count ≤ 48)
+  pub few : spill ≤ 16
+  pub stored : Spills old new at count spill (encode_utf8_all us)
+
+-- the same for the first `read` code units at the start: what was changed after their UTF-8 is due to be overwritten
+pub record SpillsBmp (us old new : List ℕ) (read count spill : ℕ) : Type 0 where
+  pub within : read ≤ length us
+  pub plain : AreBmpScalars (take read us)
+  pub counted : length (encode_utf8_all (take read us)) ≡ count
+  pub fits : count ≤ length old
+  pub prefix : take count new ≡ encode_utf8_all (take read us)
+  pub following : drop (count + spill) new ≡ drop (count + spill) old
   pub long : length new ≡ length old
 
 -- the first `read` code units are no surrogates, and their UTF-8 is written at the start

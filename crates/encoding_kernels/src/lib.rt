@@ -4,15 +4,11 @@
 
 pub mod ascii;
 pub mod bidi;
-mod compress_last;
-pub mod encode_lanes;
-mod encode_units;
 pub mod latin1;
 pub mod lengths;
 pub mod scalar;
 pub mod simd;
-pub mod surrogate_pairs;
 pub mod utf16;
-pub mod utf16_blocks;
+pub mod utf16_to_utf8;
 pub mod utf8;
 pub mod utf8_to_utf16;

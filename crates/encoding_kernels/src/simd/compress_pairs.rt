@@ -1,9 +1,10 @@
 //! Looks up by a mask which bytes are kept of eight pairs of bytes.
 
-ghost use Rattle.std.specs.Prelude.{◌≡◌, ℕ, ◌+◌, ◌*◌, ◌<◌, ◌≤◌, Bool, List, length, map, take, slice_index};
+ghost use Rattle.std.specs.Prelude.{◌≡◌, ℕ, ◌+◌, ◌*◌, ◌<◌, ◌≤◌, ◌++◌, Bool, List, length, map, take, drop, slice_index};
 ghost use Rattle.std.specs.Simd.Lanes.{mask_l};
 ghost use Rattle.encoding_kernels.specs.EncodeLanes.{kept_places};
 
+use crate::simd::copy::LANES;
 use std::simd::prelude::*;
 
 /// Builds the table pair by pair, last pair first. Each row lists the index of the pair's first byte, or those of both
@@ -40,7 +41,7 @@ fn places_word(at: usize) -> u32
 
 /// Returns the indices that a mask keeps, followed by zeros.
 #[inline(always)]
-fn places_by(mask: usize) -> u8x16
+pub(crate) fn places_by(mask: usize) -> u8x16
     requires { mask < 256 }
     ensures lane_count { length result ≡ 16 }
     ensures within { (k : ℕ) → k < 16 → slice_index result k < 16 }
@@ -69,4 +70,29 @@ pub(crate) fn keep_pairs(pairs: u8x16, mask: usize) -> (u8x16, usize)
         pairs.swizzle_dyn(places_by(mask)),
         8 + mask.count_ones() as usize,
     )
+}
+
+/// Writes the first `count` bytes of `first`, followed by the first `more` of `second`. Stores 32 bytes, the others as
+/// `dst` has them.
+#[inline(always)]
+pub(crate) fn write_both(
+    dst: &mut [u8],
+    at: usize,
+    first: u8x16,
+    count: usize,
+    second: u8x16,
+    more: usize,
+)
+    requires dst_length { at + 32 ≤ length dst.old }
+    requires first_lanes { (count ≤ 16) × (length first ≡ 16) }
+    requires second { (more ≤ 16) × (length second ≡ 16) }
+    ensures { dst.new ≡ take at dst.old ++ ((take count first ++ take more second) ++ drop (at + (count + more)) dst.old) }
+{
+    let next = at + count;
+    let following = u8x16::from_slice(&dst[next..]);
+    first.copy_to_slice(&mut dst[at..]);
+    let is_kept = u8x16::from_array(LANES).simd_lt(u8x16::splat(more as u8));
+    is_kept
+        .select(second, following)
+        .copy_to_slice(&mut dst[next..]);
 }

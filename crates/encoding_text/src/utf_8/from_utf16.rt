@@ -3,40 +3,17 @@ ghost use Rattle.std.specs.Prelude.{◌≡◌, ◌+◌, ◌<◌, ◌≤◌, ◌�
 ghost use Rattle.std.specs.Str.{IsAscii};
 ghost use Rattle.encoding_definitions.specs.Prefixes.{WritesPrefix};
 ghost use Rattle.encoding_definitions.specs.Utf16.{IsHighSurrogate, IsLowSurrogate, IsUtf8OfPrefix, IsUtf8OfLongestPrefix, IsUtf8OfUnits};
-ghost use Rattle.encoding_definitions.specs.FirstScalar.{IsFirstScalar};
 
 use crate::ascii;
-use encoding_kernels::scalar::surrogates::{
-    is_high_surrogate, is_low_surrogate, is_surrogate, pair_scalar,
-};
+use encoding_kernels::scalar::surrogates::{is_high_surrogate, is_low_surrogate};
 use encoding_kernels::scalar::value::{utf8_length, utf16_length, write_scalar};
 use encoding_kernels::simd::width::{BASIC_LATIN_END, HALF_STRIDE};
-use encoding_kernels::utf16_blocks::{convert_blocks, convert_paired_blocks};
-
-/// The scalar value that is written for an unpaired surrogate.
-pub(super) const REPLACEMENT_CHARACTER: u32 = 0xFFFD;
+use encoding_kernels::utf16_to_utf8::convert::{convert_blocks, convert_paired_blocks};
+pub(super) use encoding_kernels::utf16_to_utf8::exact::REPLACEMENT_CHARACTER;
+use encoding_kernels::utf16_to_utf8::exact::scalar_at;
 
 /// The most bytes that a character has in UTF-8.
 const LONGEST: usize = 4;
-
-/// Returns the scalar value that is written for the first part of the code units from index `at` on.
-#[inline(always)]
-fn scalar_at(src: &[u16], at: usize) -> u32
-    requires { at < length src.now }
-    ensures { IsFirstScalar (drop at src.now) result }
-{
-    let unit = src[at];
-    if !is_surrogate(unit) {
-        return u32::from(unit);
-    }
-    if is_high_surrogate(unit) && at + 1 < src.len() {
-        let next = src[at + 1];
-        if is_low_surrogate(next) {
-            return pair_scalar(unit, next);
-        }
-    }
-    REPLACEMENT_CHARACTER
-}
 
 /// Copies the longest ASCII prefix that leaves three bytes of `dst` free, and returns its length.
 #[inline(always)]

@@ -1,0 +1,5 @@
+use Rattle.encoding_kernels.proofs.PlainLemmas.{first_lanes_are}
+use Rattle.encoding_kernels.proofs.utf16_to_utf8.mixed.with_zeros.Goals as goal
+
+pub returns : goal.returns
+returns c = first_lanes_are c.args.first c.args.units c.requires.0 c.requires.1

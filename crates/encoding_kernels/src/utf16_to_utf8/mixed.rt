@@ -1,0 +1,156 @@
+//! The UTF-8 of sixteen code units that are no surrogates: each has four bytes, and a table selects the kept ones.
+
+ghost use Rattle.std.specs.Prelude.{◌≡◌, ℕ, ◌+◌, ◌-◌, ◌*◌, ◌/◌, ◌%◌, ◌<◌, ◌≤◌, List, ◌++◌, length, take, drop, replicate, slice_index, encode_utf8_all, IsTrue};
+ghost use Rattle.std.specs.Int.RustNames.{count_ones};
+ghost use Rattle.std.specs.Simd.Lanes.{mask_l};
+ghost use Rattle.encoding_kernels.specs.EncodeLanes.{EncodesLast, Spills, length_classes};
+
+use super::tables::{last_by, select_in_halves};
+use super::two_byte::store_two;
+use crate::simd::scan::run_before;
+use std::simd::prelude::*;
+
+/// The least code unit whose UTF-8 has three bytes.
+const LONG: u16 = 0x800;
+
+/// Returns whether none of the sixteen code units is a surrogate.
+#[tactic(auto, using(crate::proofs::PlainLemmas::all_plain))]
+#[inline(always)]
+pub(super) fn are_non_surrogate(units: u16x16) -> bool
+    ensures { IsTrue result → (k : ℕ) → k < 16 → (0xD800 ≤ slice_index units k) × (slice_index units k ≤ 0xDFFF) → ⊥ }
+{
+    let tops = units & u16x16::splat(0xF800);
+    !tops.simd_eq(u16x16::splat(0xD800)).any()
+}
+
+/// Returns how many of the sixteen code units precede the first surrogate.
+#[inline(always)]
+pub(super) fn non_surrogate_prefix(units: u16x16) -> usize
+    ensures within { result ≤ 16 }
+    ensures plain { (k : ℕ) → k < result → (0xD800 ≤ slice_index units k) × (slice_index units k ≤ 0xDFFF) → ⊥ }
+{
+    let tops = units & u16x16::splat(0xF800);
+    run_before::<16>(tops.simd_eq(u16x16::splat(0xD800)).to_bitmask())
+}
+
+/// Returns two bits for each of sixteen code units: whether it is ASCII, and whether it is below U+0800.
+#[inline(always)]
+fn mask_of_classes(units: u16x16) -> usize
+    ensures upper_bound { result < 0x100000000 }
+    ensures mask { result ≡ mask_l (length_classes units) }
+{
+    let below = units
+        .simd_lt(u16x16::splat(LONG))
+        .select(u16x16::splat(0xFF00), u16x16::splat(0));
+    let length_classes = units
+        .simd_lt(u16x16::splat(0x80))
+        .select(u16x16::splat(0xFFFF), below);
+    length_classes
+        .to_le_bytes()
+        .simd_ge(u8x32::splat(0x80))
+        .to_bitmask() as usize
+}
+
+/// Returns two words for each of sixteen code units. Its UTF-8 is the last one, two or three of these bytes: the upper
+/// byte of the first word, and both of the second.
+#[inline(always)]
+fn two_words(units: u16x16) -> (u16x16, u16x16)
+    ensures lane_count { (length result.0 ≡ 16) × (length result.1 ≡ 16) }
+    ensures upper_bound { (k : ℕ) → k < 16 → (slice_index result.0 k < 0x10000) × (slice_index result.1 k < 0x10000) }
+    ensures spelled { (k : ℕ) → k < 16 → EncodesLast (slice_index units k)
+        (slice_index result.0 k / 0x100) (slice_index result.1 k % 0x100) (slice_index result.1 k / 0x100) }
+{
+    let six = u16x16::splat(0x3F);
+    let first = ((units >> u16x16::splat(12)) << u16x16::splat(8)) + u16x16::splat(0xE000);
+    let mark = units
+        .simd_lt(u16x16::splat(LONG))
+        .select(u16x16::splat(0x80C0), u16x16::splat(0x8080));
+    let middle = (units >> u16x16::splat(6)) & six;
+    let several = middle + ((units & six) << u16x16::splat(8)) + mark;
+    let second = units
+        .simd_lt(u16x16::splat(0x80))
+        .select(units << u16x16::splat(8), several);
+    (first, second)
+}
+
+/// Returns four bytes for each of sixteen code units, whose last ones are its UTF-8. The first vector has those of the
+/// first four units of each eight, as AVX2 interleaves them, and the second those of the others.
+#[inline(always)]
+fn four_bytes(units: u16x16) -> (u8x32, u8x32)
+    ensures first_half { (k : ℕ) → k < 8 → EncodesLast (slice_index units (k / 4 * 4 + k))
+        (slice_index result.0 (4 * k + 1)) (slice_index result.0 (4 * k + 2)) (slice_index result.0 (4 * k + 3)) }
+    ensures second { (k : ℕ) → k < 8 → EncodesLast (slice_index units (k / 4 * 4 + k + 4))
+        (slice_index result.1 (4 * k + 1)) (slice_index result.1 (4 * k + 2)) (slice_index result.1 (4 * k + 3)) }
+{
+    let (words, others) = two_words(units);
+    let first = words.shuffle(
+        others,
+        [0, 16, 1, 17, 2, 18, 3, 19, 8, 24, 9, 25, 10, 26, 11, 27],
+    );
+    let second = words.shuffle(
+        others,
+        [4, 20, 5, 21, 6, 22, 7, 23, 12, 28, 13, 29, 14, 30, 15, 31],
+    );
+    (first.to_le_bytes(), second.to_le_bytes())
+}
+
+/// Returns the UTF-8 of twice four code units, given in four bytes each, at the start of two vectors.
+#[inline(always)]
+fn encode_twice_four(bytes: u8x32, first: usize, second: usize) -> (u8x16, u8x16)
+    requires { (first < 0x100) × (second < 0x100) }
+    ensures lane_count { (length result.0 ≡ 16) × (length result.1 ≡ 16) }
+    ensures lower { (us : List ℕ) → length us ≡ 4 → first ≡ mask_l (length_classes us)
+        → ((k : ℕ) → k < 4 → EncodesLast (slice_index us k)
+        (slice_index bytes (4 * k + 1)) (slice_index bytes (4 * k + 2)) (slice_index bytes (4 * k + 3)))
+        → take (12 - count_ones first) result.0 ≡ encode_utf8_all us }
+    ensures upper { (us : List ℕ) → length us ≡ 4 → second ≡ mask_l (length_classes us)
+        → ((k : ℕ) → k < 4 → EncodesLast (slice_index us k)
+        (slice_index bytes (16 + (4 * k + 1))) (slice_index bytes (16 + (4 * k + 2))) (slice_index bytes (16 + (4 * k + 3))))
+        → take (12 - count_ones second) result.1 ≡ encode_utf8_all us }
+{
+    select_in_halves(bytes, last_by(first), last_by(second))
+}
+
+/// Returns the length of the UTF-8 of four code units, by the mask of their classes.
+#[inline(always)]
+fn length_of_four(mask: usize) -> usize
+    requires { mask < 0x100 }
+    ensures count { result ≡ 12 - count_ones mask }
+    ensures bounds { (4 ≤ result) × (result ≤ 12) }
+{
+    12 - mask.count_ones() as usize
+}
+
+/// Stores the UTF-8 of sixteen code units, and returns its length.
+#[inline(always)]
+pub(super) fn store_mixed(units: u16x16, dst: &mut [u8], at: usize) -> usize
+    requires dst_length { at + 64 ≤ length dst.old }
+    ensures length_bound { (16 ≤ result) × (result ≤ 48) }
+    ensures stored { Spills dst.old dst.new at result 16 (encode_utf8_all units) }
+{
+    let mask = mask_of_classes(units);
+    let (first, second) = (mask & 0xFF, mask >> 8 & 0xFF);
+    let (third, fourth) = (mask >> 16 & 0xFF, mask >> 24);
+    let (lanes, others) = four_bytes(units);
+    let (bytes, next) = encode_twice_four(lanes, first, third);
+    let (other, last) = encode_twice_four(others, second, fourth);
+    let count = length_of_four(first);
+    let more = length_of_four(second);
+    let few = length_of_four(third);
+    let rest = length_of_four(fourth);
+    store_two(dst, at, bytes, count, other, more);
+    store_two(dst, at + count + more, next, few, last, rest);
+    count + more + few + rest
+}
+
+/// Returns the first `first` of sixteen code units, followed by zeros.
+#[inline(always)]
+pub(super) fn with_zeros(units: u16x16, first: usize) -> u16x16
+    requires { (first ≤ 16) × (length units ≡ 16) }
+    ensures { result ≡ take first units ++ drop first (replicate 16 0) }
+{
+    let places = u16x16::from_array([0, 1, 2, 3, 4, 5, 6, 7, 8, 9, 10, 11, 12, 13, 14, 15]);
+    places
+        .simd_lt(u16x16::splat(first as u16))
+        .select(units, u16x16::splat(0))
+}
