@@ -1,7 +1,7 @@
 //! ASCII prefixes of bytes and of UTF-16 code units: their lengths and their copies. A copy leaves the rest of `dst`
 //! unchanged.
 
-ghost use Rattle.std.specs.Prelude.{◌≤◌, take, length};
+ghost use Rattle.std.specs.Prelude.{◌*◌, ◌<◌, ◌≤◌, take, length};
 ghost use Rattle.std.specs.Str.{IsAscii, IsUtf8};
 ghost use Rattle.encoding_definitions.specs.Ascii.{IsFirstOther, prefix_length_by, IsIso2022JpAscii};
 ghost use Rattle.encoding_definitions.specs.Prefixes.{IsLongestPrefix, WritesPrefix};
@@ -21,6 +21,9 @@ use std::simd::prelude::*;
 
 /// The bits that no ASCII byte has: each of the eight bytes is 0x80.
 pub const ASCII_MASK: usize = 0x8080_8080_8080_8080;
+
+/// The number of bytes in half a block.
+const HALF_BLOCK: usize = 32;
 
 /// The byte that begins an escape sequence.
 const ESCAPE: u8 = 0x1B;
@@ -302,6 +305,34 @@ pub(crate) fn ascii_valid_up_to_by_block(bytes: &[u8]) -> usize
         }
     }
     ascii_valid_up_to(bytes)
+}
+
+/// Returns the length of the longest ASCII prefix, as `ascii_valid_up_to` does, of at least N and at most 2 * N bytes. Two
+/// vectors find its end, which may overlap.
+#[inline(always)]
+fn ascii_valid_up_to_by_two<const N: usize>(bytes: &[u8]) -> usize
+    requires { (0 < N) × (N ≤ 64) × (N ≤ length bytes.now) × (length bytes.now ≤ 2 * N) }
+    ensures { IsLongestPrefix IsAscii bytes.now result }
+{
+    let first = run_len_below::<N>(bytes, 0, ASCII_END);
+    if first < N {
+        return first;
+    }
+    let last = bytes.len() - N;
+    last + run_len_below::<N>(bytes, last, ASCII_END)
+}
+
+/// Returns the length of the longest ASCII prefix, as `ascii_valid_up_to` does, of 16 to 64 bytes.
+#[inline(always)]
+pub(crate) fn short_ascii_valid_up_to(bytes: &[u8]) -> usize
+    requires { (16 ≤ length bytes.now) × (length bytes.now ≤ 64) }
+    ensures { IsLongestPrefix IsAscii bytes.now result }
+{
+    if bytes.len() >= HALF_BLOCK {
+        ascii_valid_up_to_by_two::<HALF_BLOCK>(bytes)
+    } else {
+        ascii_valid_up_to_by_two::<STRIDE>(bytes)
+    }
 }
 
 /// Copies the longest ASCII prefix, each byte as a UTF-16 code unit, up to the shorter of the two lengths. Returns its

@@ -176,9 +176,9 @@ fn following(src: &[u8], from: usize) -> usize
     finish(src, at)
 }
 
-/// Returns the length of a well-formed prefix of at most 64 bytes, by two overlapping vectors.
+/// Returns the length of a well-formed prefix of at most 64 bytes, by two vectors that may overlap.
 #[inline(always)]
-fn well_formed_short(src: &[u8]) -> usize
+pub fn well_formed_short(src: &[u8]) -> usize
     requires { (16 ≤ length src.now) × (length src.now ≤ 64) }
     ensures { (result ≤ length src.now) × IsUtf8 (take result src.now) }
 {
@@ -190,10 +190,11 @@ fn well_formed_short(src: &[u8]) -> usize
     back(src, clean)
 }
 
-/// Returns the length of a well-formed prefix of at least 64 bytes, of which the first `ascii` are ASCII.
+/// Returns the length of a well-formed prefix of at least 64 bytes, of which the first `ascii` are ASCII: these, and
+/// whole blocks after them. Stops before a run of ASCII.
 #[tactic(auto, using(crate::proofs::FollowingLemmas::IsUtf8_ascii_prefix, crate::proofs::FollowingLemmas::ValidUpTo_ascii_prefix))]
 #[inline(always)]
-fn well_formed_long(src: &[u8], ascii: usize) -> usize
+pub fn well_formed_blocks(src: &[u8], ascii: usize) -> usize
     requires three_byte { 64 ≤ length src.now }
     requires ascii { (ascii ≤ length src.now) × BelowUpTo ASCII_END src.now ascii }
     ensures { (result ≤ length src.now) × IsUtf8 (take result src.now) }
@@ -203,22 +204,4 @@ fn well_formed_long(src: &[u8], ascii: usize) -> usize
         return ascii;
     }
     back(src, following(src, ascii))
-}
-
-/// Extends a prefix of `ascii` ASCII bytes by whole blocks, and returns the length of a well-formed prefix. Stops before
-/// a run of ASCII.
-#[tactic(auto, using(crate::proofs::FollowingLemmas::IsUtf8_ascii_prefix))]
-#[inline(never)]
-pub fn well_formed_blocks(src: &[u8], ascii: usize) -> usize
-    requires three_byte { 16 ≤ length src.now }
-    requires ascii { (ascii ≤ length src.now) × BelowUpTo ASCII_END src.now ascii }
-    ensures within { (ascii ≤ result) × (result ≤ length src.now) }
-    ensures text { IsUtf8 (take result src.now) }
-{
-    let valid = if src.len() <= BLOCK {
-        well_formed_short(src)
-    } else {
-        well_formed_long(src, ascii)
-    };
-    valid.max(ascii)
 }

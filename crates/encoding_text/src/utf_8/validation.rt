@@ -5,11 +5,11 @@ ghost use Rattle.encoding_definitions.specs.Sequence.{IsSequence};
 ghost use Rattle.encoding_definitions.specs.Parts.{BeginsWithNoCharacter};
 ghost use Rattle.encoding_definitions.specs.Prefixes.{IsLongestPrefix};
 
-use crate::ascii::ascii_valid_up_to_by_block;
+use crate::ascii::{ascii_valid_up_to_by_block, short_ascii_valid_up_to};
 use crate::utf_8::table::{UTF8_DATA, law_table};
 use encoding_kernels::scalar::sequence::{is_continuation, is_second};
-use encoding_kernels::simd::width::STRIDE;
-use encoding_kernels::utf8::validate::well_formed_blocks;
+use encoding_kernels::simd::width::{BLOCK, STRIDE};
+use encoding_kernels::utf8::validate::{well_formed_blocks, well_formed_short};
 
 /// Returns whether three bytes are one character, for a first byte that starts no character of one, two or four.
 #[inline(always)]
@@ -92,10 +92,19 @@ pub fn character_length(bytes: &[u8]) -> Option<usize>
 }
 
 /// Returns the length of a well-formed prefix: the ASCII prefix, and the blocks of other text after it.
+///
+/// Two vectors find the ASCII prefix of a short text, and two more validate it if other text follows.
 #[inline(always)]
 fn well_formed_prefix(src: &[u8]) -> usize
     ensures { (result ≤ length src.now) × IsUtf8 (take result src.now) }
 {
+    if STRIDE <= src.len() && src.len() <= BLOCK {
+        let ascii = short_ascii_valid_up_to(src);
+        if ascii == src.len() {
+            return ascii;
+        }
+        return well_formed_short(src);
+    }
     let ascii = ascii_valid_up_to_by_block(src);
     if ascii == src.len() || src.len() < STRIDE {
         return ascii;
