@@ -1,5 +1,6 @@
 //! Each example on more than 1 MiB, which is longer than every buffer: copies of one row, whose result is as many copies
 //! of the row's.
+ghost use Rattle.std.specs.Prelude.{◌<◌};
 
 use cuts_example::{malformed_indices, repair_apart, text_of_pieces};
 use decoder_example::{CoderResult, Decoder};
