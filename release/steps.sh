@@ -24,7 +24,8 @@ without_links() { # the page
     sed -E 's/!?\[([^]]*)\]\(([^):]*)\)/\1/g' "$1"
 }
 
-# Gives everything in a folder the date of the release.
-date_all() { # the folder
+# Gives everything in a folder the date of the release, and the modes that don't depend on who packs.
+settle() { # the folder
+    chmod -R u=rwX,go=rX "$1"
     find "$1" -exec touch -hd "@${SOURCE_DATE_EPOCH:?}" {} +
 }
