@@ -42,7 +42,7 @@ step 'it leaves no file' leaves_nothing
 step 'the crate with its own library builds' inside "$crate && cargo build -q --offline --example repair && cargo build -q --offline --release --examples"
 step 'the crate with its own library' prints "$repaired" 'printf $damaged | /programs/encoding_text-*/target/debug/examples/repair'
 step 'a crate that depends on it builds' inside 'export CARGO_HOME=/programs/cargo; cargo new -q --vcs none /programs/user && cd /programs/user &&
-    echo "encoding_text = { path = \"$(echo /programs/encoding_text-*/)\" }" >> Cargo.toml &&
+    cargo add -q --offline --path /programs/encoding_text-*/ &&
     cp /programs/encoding_text-*/examples/repair.rs src/main.rs && cargo build -q --offline --release && stat -c "%s bytes" target/release/user'
 step 'a crate that depends on it' prints "$repaired" 'printf $damaged | /programs/user/target/release/user'
 for target in aarch64-unknown-linux-gnu x86_64-unknown-linux-musl; do
@@ -56,6 +56,8 @@ moved='export PKG_CONFIG_PATH=/srv/moved/lib/pkgconfig LD_LIBRARY_PATH=/srv/move
 step 'repair.c over it builds' inside "$moved && gcc -o tar /srv/moved/share/doc/encoding_text/examples/repair.c \$(pkg-config --cflags --libs encoding_text) &&
     ldd tar | grep /srv/moved/lib/libencoding_text"
 step 'repair.c over it' prints "$repaired\n" "$moved && ./tar"
+step 'repair.c over its archive builds' inside 'cd /srv/moved && gcc -o /programs/plain -Iinclude share/doc/encoding_text/examples/repair.c lib/libencoding_text.a'
+step 'repair.c over its archive' prints "$repaired\n" /programs/plain
 step 'examples over it by CMake build' inside 'cd /programs && cmake -S . -B cmake2 -DCMAKE_PREFIX_PATH=/srv/moved && cmake --build cmake2 &&
     ldd cmake2/repair | grep /srv/moved/lib/libencoding_text'
 step 'its examples by CMake' prints "$repaired\n" /programs/cmake2/repair
