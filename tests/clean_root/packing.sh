@@ -2,7 +2,7 @@
 # shellcheck shell=bash
 copy=${work:?}/copy
 mkdir "$copy"
-tar --exclude=./.git --exclude=./crates/*/out --exclude=target --exclude=./build/{logs,release,roots,doc} -cf - . | tar -C "$copy" -xf -
+tar --exclude=./.git --exclude=./crates/*/out --exclude=target --exclude=./build/{logs,release,doc} -cf - . | tar -C "$copy" -xf -
 
 pack_again() { # words for env
     env "$@" make -s -C "$copy" release
