@@ -6,13 +6,12 @@ use std::path::{Path, PathBuf};
 use std::process::{self, Command, Stdio};
 
 const FILE: &str = "libencoding_text.a";
-/// What a library has that is laid out as this crate says.
+/// The symbol of a library that is laid out as this crate says.
 const LAYOUT: &[u8] = concat!(
     "encoding_text_layout_",
     env!("CARGO_PKG_VERSION_MAJOR"),
     "_",
-    env!("CARGO_PKG_VERSION_MINOR"),
-    "\0"
+    env!("CARGO_PKG_VERSION_MINOR")
 )
 .as_bytes();
 const HELP: &str =
@@ -60,10 +59,16 @@ fn series() -> (String, String) {
     }
 }
 
+/// Returns whether the index of the archive names the symbol. After 68 bytes, which are the same in each archive but for
+/// dates and sizes, the index has the number of symbols, an offset of four bytes for each, and their names.
 fn has_layout(file: &Path) -> bool {
-    fs::read(file).map_or(false, |bytes| {
-        bytes.windows(LAYOUT.len()).any(|window| window == LAYOUT)
-    })
+    let bytes = fs::read(file).unwrap_or_default();
+    let has = |index: &[u8]| {
+        let count = u32::from_be_bytes(index.get(..4)?.try_into().ok()?) as usize;
+        let names = index.get(4 + 4 * count..)?;
+        Some(names.split(|byte| *byte == 0).take(count).any(|name| name == LAYOUT))
+    };
+    bytes.get(68..).and_then(has).unwrap_or(false)
 }
 
 /// Returns the folder that the environment names.
