@@ -1,0 +1,525 @@
+/**
+ * @file
+ * encoding_text.h for C++17 and later: validation, conversions into `std::string` and `std::u16string`, repair, and an
+ * incremental decoder. It is header-only: a program links the same library as one in C.
+ *
+ * Terms
+ * - "Well-formed", "malformed sequence", "unpaired surrogate" and "Latin1" are as in encoding_text.h.
+ * - Lengths and offsets in UTF-8 and Latin1 are in bytes, those in UTF-16 are in code units.
+ *
+ * Arguments
+ * - encoding_text::bytes and encoding_text::code_units are views, made of any contiguous text: `std::string_view`,
+ *   `std::u16string_view`, a string, a literal, a vector, and from C++20 on `std::span` and `std::u8string_view`.
+ *
+ * Results
+ * - A string that a function returns has exactly the length of its text. It is measured before memory is allocated.
+ *
+ * Errors
+ * - The only exception is `std::bad_alloc`. A function that allocates nothing is `noexcept`.
+ *
+ * Threads
+ * - Calls may run at once, in any threads. One thread at a time uses a decoder.
+ */
+#ifndef ENCODING_TEXT_HPP
+#define ENCODING_TEXT_HPP
+
+#include "encoding_text.h"
+
+#include <cstddef>
+#include <cstdint>
+#include <cstring>
+#include <iterator>
+#include <optional>
+#include <string>
+#include <string_view>
+#include <type_traits>
+#include <utility>
+
+/** The calls for C++. */
+namespace encoding_text {
+
+/** @cond */
+namespace detail {
+
+/* The type of the elements of a class that std::data and std::size accept. */
+template <class Class>
+using element = std::remove_cv_t<std::remove_pointer_t<decltype(std::data(std::declval<const Class &>()))>>;
+
+template <class T, class... Types> constexpr bool is_one_of = (std::is_same_v<T, Types> || ...);
+
+template <class T> struct is_byte : std::bool_constant<is_one_of<T, char, unsigned char, std::byte>> {};
+#ifdef __cpp_char8_t
+template <> struct is_byte<char8_t> : std::true_type {};
+#endif
+
+template <class T> struct is_code_unit : std::bool_constant<is_one_of<T, char16_t, std::uint16_t>> {};
+
+/* A view of contiguous elements, as the C functions take them. */
+template <class Unit, class Character, template <class> class IsUnit> class view {
+public:
+    constexpr view() noexcept = default;
+
+    view(const Character *text) noexcept : view(std::basic_string_view<Character>(text)) {}
+
+    view(std::nullptr_t) = delete;
+
+    template <class T, class = std::enable_if_t<IsUnit<T>::value>>
+    view(const T *text, std::size_t length) noexcept : first(reinterpret_cast<const Unit *>(text)), count(length)
+    {
+    }
+
+    template <class Text, class = std::enable_if_t<std::is_class_v<Text> && IsUnit<element<Text>>::value>>
+    view(const Text &text) noexcept : view(std::data(text), std::size(text))
+    {
+    }
+
+    constexpr const Unit *data() const noexcept { return first; }
+    constexpr std::size_t size() const noexcept { return count; }
+
+    /* The rest, from an offset on. */
+    view from(std::size_t offset) const noexcept { return {first + offset, count - offset}; }
+
+private:
+    const Unit *first = nullptr;
+    std::size_t count = 0;
+};
+
+/* Appends what `write` writes to `most` elements at the end of a string; `write` returns its length. If the allocation
+ * fails, the string is unchanged. */
+template <class String, class Write> void append(String &text, std::size_t most, Write write)
+{
+    const std::size_t end = text.size();
+#ifdef __cpp_lib_string_resize_and_overwrite
+    text.resize_and_overwrite(end + most, [=](auto *data, std::size_t) { return end + write(data + end); });
+#else
+    text.resize(end + most);
+    text.resize(end + write(text.data() + end));
+#endif
+}
+
+inline std::uint8_t *units(char *text) noexcept
+{
+    return reinterpret_cast<std::uint8_t *>(text);
+}
+
+inline std::uint16_t *units(char16_t *text) noexcept
+{
+    return reinterpret_cast<std::uint16_t *>(text);
+}
+
+} // namespace detail
+/** @endcond */
+
+#ifdef DOXYGEN
+/** Bytes that a call reads: `std::string_view`, or any class with contiguous `char`, `unsigned char`, `std::byte` or
+ * `char8_t`, such as `std::string`, `std::vector` or `std::span`; a literal up to its NUL; a pointer and a length. */
+class bytes {};
+/** Code units that a call reads: `std::u16string_view`, or any class with contiguous `char16_t` or `std::uint16_t`; a
+ * literal up to its NUL; a pointer and a length. */
+class code_units {};
+#else
+using bytes = detail::view<std::uint8_t, char, detail::is_byte>;
+using code_units = detail::view<std::uint16_t, char16_t, detail::is_code_unit>;
+#endif
+
+/** @name Validation
+ * @{ */
+
+/** @param text the bytes.
+ * @return whether each byte is below 0x80 */
+inline bool is_ascii(bytes text) noexcept
+{
+    return encoding_text_mem_is_ascii(text.data(), text.size());
+}
+
+/** @param text the bytes.
+ * @return the length of the longest well-formed prefix */
+inline std::size_t utf8_valid_up_to(bytes text) noexcept
+{
+    return encoding_text_utf8_valid_up_to(text.data(), text.size());
+}
+
+/** @param text the bytes.
+ * @return whether they are well-formed UTF-8 */
+inline bool is_utf8(bytes text) noexcept
+{
+    return utf8_valid_up_to(text) == text.size();
+}
+
+/** @param text the bytes.
+ * @return whether they are well-formed UTF-8 with scalar values up to U+00FF */
+inline bool is_utf8_latin1(bytes text) noexcept
+{
+    return encoding_text_mem_is_utf8_latin1(text.data(), text.size());
+}
+
+/** @param text the code units.
+ * @return the offset of the first unpaired surrogate, or the length of the text if there is none */
+inline std::size_t utf16_valid_up_to(code_units text) noexcept
+{
+    return encoding_text_mem_utf16_valid_up_to(text.data(), text.size());
+}
+
+/** @param text the code units.
+ * @return whether no surrogate is unpaired */
+inline bool is_utf16(code_units text) noexcept
+{
+    return utf16_valid_up_to(text) == text.size();
+}
+
+/** @param text the code units.
+ * @return whether each is up to 0x00FF */
+inline bool is_utf16_latin1(code_units text) noexcept
+{
+    return encoding_text_mem_is_utf16_latin1(text.data(), text.size());
+}
+
+/** @} */
+
+/** @name Malformed sequences
+ * @{ */
+
+/** A malformed sequence. */
+struct malformed_sequence {
+    std::size_t offset; /**< of its first byte */
+    std::size_t length; /**< in bytes, 1 to 3; 0 if there is none */
+};
+
+/** @param text the bytes.
+ * @param offset where the search starts, up to the length of the text: 0, or the end of a malformed sequence.
+ * @return the first malformed sequence from there on (Encoding Standard, UTF-8 decoder), or the length of the text as
+ * `offset`, and 0 as `length`. An incomplete sequence at the end is malformed. */
+inline malformed_sequence next_malformed(bytes text, std::size_t offset = 0) noexcept
+{
+    const bytes rest = text.from(offset);
+    const auto found = encoding_text_next_malformed(rest.data(), rest.size());
+    return {offset + found.place, found.length};
+}
+
+/** All malformed sequences of a text, in order: `for (auto [offset, length] : malformed_sequences(text))`. The text has
+ * to stay in place meanwhile. */
+class malformed_sequences {
+public:
+    /** Finds one after another. */
+    class iterator {
+    public:
+        /** @cond */
+        using iterator_category = std::input_iterator_tag;
+        using value_type = malformed_sequence;
+        using difference_type = std::ptrdiff_t;
+        using pointer = const malformed_sequence *;
+        using reference = const malformed_sequence &;
+
+        iterator() noexcept = default;
+        iterator(bytes text, std::size_t offset) noexcept : source(text), found(next_malformed(text, offset)) {}
+
+        reference operator*() const noexcept { return found; }
+        pointer operator->() const noexcept { return &found; }
+        iterator &operator++() noexcept { return *this = iterator(source, found.offset + found.length); }
+        iterator operator++(int) noexcept
+        {
+            const iterator before = *this;
+            ++*this;
+            return before;
+        }
+        friend bool operator==(const iterator &a, const iterator &b) noexcept
+        {
+            return a.found.offset == b.found.offset;
+        }
+        friend bool operator!=(const iterator &a, const iterator &b) noexcept { return !(a == b); }
+
+    private:
+        bytes source;
+        malformed_sequence found = {0, 0};
+        /** @endcond */
+    };
+
+    /** @param text the bytes */
+    explicit malformed_sequences(bytes text) noexcept : source(text) {}
+
+    /** @return an iterator to the first malformed sequence */
+    iterator begin() const noexcept { return {source, 0}; }
+
+    /** @return the end of them */
+    iterator end() const noexcept { return {source, source.size()}; }
+
+private:
+    bytes source;
+};
+
+/** @} */
+
+/** @name Conversions
+ * @{ */
+
+/** @cond */
+namespace detail {
+
+/* Writes the UTF-16 of a text into exactly as many code units, with U+FFFD for each malformed sequence. */
+inline void write_utf16(bytes text, std::uint16_t *dst, std::size_t length) noexcept
+{
+    for (;;) {
+        const auto done = encoding_text_convert_utf8_to_utf16_up_to_invalid(text.data(), text.size(), dst, length);
+        text = text.from(done.read);
+        if (text.size() == 0) {
+            return;
+        }
+        dst[done.written] = 0xFFFD;
+        dst += done.written + 1;
+        length -= done.written + 1;
+        text = text.from(next_malformed(text).length);
+    }
+}
+
+} // namespace detail
+/** @endcond */
+
+/** Converts UTF-8 to UTF-16 (Encoding Standard, UTF-8 decode without BOM).
+ * @param text the bytes.
+ * @return their UTF-16, with U+FFFD for each malformed sequence */
+inline std::u16string convert_utf8_to_utf16(bytes text)
+{
+    std::u16string result;
+    const std::size_t length = encoding_text_mem_utf16_length_from_utf8(text.data(), text.size());
+    detail::append(result, length, [=](char16_t *dst) {
+        detail::write_utf16(text, detail::units(dst), length);
+        return length;
+    });
+    return result;
+}
+
+/** Converts well-formed UTF-8 to UTF-16 (Encoding Standard, UTF-8 decode without BOM or fail).
+ * @param text the bytes.
+ * @return their UTF-16; `std::nullopt` if they aren't well-formed */
+inline std::optional<std::u16string> convert_utf8_to_utf16_without_replacement(bytes text)
+{
+    return is_utf8(text) ? std::optional(convert_utf8_to_utf16(text)) : std::nullopt;
+}
+
+/** Converts UTF-16 to UTF-8.
+ * @param text the code units.
+ * @return their UTF-8, with U+FFFD for each unpaired surrogate */
+inline std::string convert_utf16_to_utf8(code_units text)
+{
+    std::string result;
+    const std::size_t length = encoding_text_mem_utf8_length_from_utf16(text.data(), text.size());
+    detail::append(result, length, [=](char *dst) {
+        return encoding_text_mem_convert_utf16_to_utf8_partial(text.data(), text.size(), detail::units(dst), length)
+            .written;
+    });
+    return result;
+}
+
+/** Converts Latin1 to UTF-8.
+ * @param text the bytes, each a scalar value.
+ * @return their UTF-8 */
+inline std::string convert_latin1_to_utf8(bytes text)
+{
+    std::string result;
+    const std::size_t length = encoding_text_mem_utf8_length_from_latin1(text.data(), text.size());
+    detail::append(result, length, [=](char *dst) {
+        return encoding_text_mem_decode_latin1(text.data(), text.size(), detail::units(dst), length);
+    });
+    return result;
+}
+
+/** Converts Latin1 to UTF-16.
+ * @param text the bytes, each a scalar value.
+ * @return their UTF-16, one code unit for each byte */
+inline std::u16string convert_latin1_to_utf16(bytes text)
+{
+    std::u16string result;
+    detail::append(result, text.size(), [=](char16_t *dst) {
+        return encoding_text_mem_convert_latin1_to_utf16(text.data(), text.size(), detail::units(dst), text.size());
+    });
+    return result;
+}
+
+/** Converts UTF-8 to Latin1.
+ * @param text the bytes.
+ * @return one byte for each character; `std::nullopt` if `is_utf8_latin1` returns false */
+inline std::optional<std::string> convert_utf8_to_latin1(bytes text)
+{
+    const std::size_t length = encoding_text_mem_latin1_length_from_utf8(text.data(), text.size());
+    if (length == ENCODING_TEXT_INVALID_ARGUMENT) {
+        return std::nullopt;
+    }
+    std::string result;
+    detail::append(result, length, [=](char *dst) {
+        return encoding_text_mem_encode_latin1(text.data(), text.size(), detail::units(dst), length);
+    });
+    return result;
+}
+
+/** Converts UTF-16 to Latin1.
+ * @param text the code units.
+ * @return one byte for each code unit; `std::nullopt` if `is_utf16_latin1` returns false */
+inline std::optional<std::string> convert_utf16_to_latin1(code_units text)
+{
+    if (!is_utf16_latin1(text)) {
+        return std::nullopt;
+    }
+    std::string result;
+    detail::append(result, text.size(), [=](char *dst) {
+        return encoding_text_mem_convert_utf16_to_latin1_lossy(text.data(), text.size(), detail::units(dst),
+                                                               text.size());
+    });
+    return result;
+}
+
+/** @} */
+
+/** @name Repair
+ * @{ */
+
+/** A repaired text. */
+struct repaired_text {
+    std::string text;       /**< well-formed */
+    std::uint64_t replaced; /**< the number of malformed sequences that U+FFFD is written for */
+};
+
+/** @cond */
+namespace detail {
+
+constexpr std::size_t replacement_length = 3; /* of the UTF-8 of U+FFFD */
+
+/* Writes the repaired text into exactly as many bytes. */
+inline void write_repaired(bytes text, std::uint8_t *dst, std::size_t length) noexcept
+{
+    encoding_text_utf8_decoder decoder = {};
+    auto done = encoding_text_repair_block(&decoder, text.data(), text.size(), dst, length, true);
+    /* With less than four bytes free the call may stop before the end. */
+    while (!done.finished) {
+        std::uint8_t next[4];
+        text = text.from(done.read);
+        dst += done.written;
+        done = encoding_text_repair_block(&decoder, text.data(), text.size(), next, sizeof next, true);
+        std::memcpy(dst, next, done.written);
+    }
+}
+
+} // namespace detail
+/** @endcond */
+
+/** Repairs UTF-8.
+ * @param text the bytes.
+ * @return the text with U+FFFD for each malformed sequence, and the number of these */
+inline repaired_text repair(bytes text)
+{
+    repaired_text result = {std::string(), 0};
+    std::size_t length = text.size();
+    for (const malformed_sequence malformed : malformed_sequences(text)) {
+        length += detail::replacement_length - malformed.length;
+        result.replaced++;
+    }
+    detail::append(result.text, length, [=](char *dst) {
+        detail::write_repaired(text, detail::units(dst), length);
+        return length;
+    });
+    return result;
+}
+
+/** @} */
+
+/** @name The incremental decoder (Encoding Standard, section 8.1.1)
+ * @{ */
+
+/** A decoder of UTF-8 in pieces, which may end at any byte. Between calls it keeps up to three bytes of an incomplete
+ * sequence. However the bytes are split, the text is that of all of them together. */
+class utf8_decoder {
+public:
+    /** Decodes the next bytes, and appends their UTF-16, with U+FFFD for each malformed sequence.
+     * @param src the bytes.
+     * @param text the string that is appended to.
+     * @param last whether no more will follow. Then an incomplete sequence is malformed, and the decoder is new again.
+     * @return the number of malformed sequences */
+    std::size_t decode(bytes src, std::u16string &text, bool last)
+    {
+        std::size_t replaced = 0;
+        const std::size_t most = encoding_text_utf8_decoder_max_utf16_buffer_length(&state, src.size());
+        detail::append(text, most, [&](char16_t *dst) { return write(src, detail::units(dst), most, last, replaced); });
+        return replaced;
+    }
+
+    /** Decodes the next bytes, and appends them as UTF-8, with U+FFFD for each malformed sequence.
+     * @param src the bytes.
+     * @param text the string that is appended to.
+     * @param last whether no more will follow. Then an incomplete sequence is malformed, and the decoder is new again.
+     * @return the number of malformed sequences */
+    std::size_t decode(bytes src, std::string &text, bool last)
+    {
+        extension extended(text, state);
+        std::size_t replaced = 0;
+        encoding_text_repair_block_result done;
+        do {
+            const std::size_t most = src.size() + src.size() / 8 + room_for_pending;
+            detail::append(text, most, [&](char *dst) {
+                done = encoding_text_repair_block(&state, src.data(), src.size(), detail::units(dst), most, last);
+                return done.written;
+            });
+            src = src.from(done.read);
+            replaced += done.replaced;
+        } while (!done.finished);
+        extended.keep();
+        return replaced;
+    }
+
+    /** @return whether the last call ended between two characters */
+    bool in_neutral_state() const noexcept { return encoding_text_utf8_decoder_in_neutral_state(&state); }
+
+    /** Forgets an incomplete sequence. */
+    void reset() noexcept { encoding_text_utf8_decoder_new(&state); }
+
+private:
+    static constexpr std::size_t room_for_pending = 16;
+
+    /* Restores the string and the decoder, unless both are kept. */
+    class extension {
+    public:
+        extension(std::string &text, encoding_text_utf8_decoder &decoder) noexcept
+            : extended(text), old_length(text.size()), changed(decoder), old_decoder(decoder)
+        {
+        }
+        extension(const extension &) = delete;
+        extension &operator=(const extension &) = delete;
+        ~extension()
+        {
+            if (!is_kept) {
+                extended.resize(old_length);
+                changed = old_decoder;
+            }
+        }
+        void keep() noexcept { is_kept = true; }
+
+    private:
+        std::string &extended;
+        const std::size_t old_length;
+        encoding_text_utf8_decoder &changed;
+        const encoding_text_utf8_decoder old_decoder;
+        bool is_kept = false;
+    };
+
+    std::size_t write(bytes src, std::uint16_t *dst, std::size_t length, bool last, std::size_t &replaced) noexcept
+    {
+        std::size_t written = 0;
+        for (;;) {
+            const auto done = encoding_text_utf8_decoder_decode_to_utf16(&state, src.data(), src.size(), dst + written,
+                                                                         length - written, last);
+            src = src.from(done.read);
+            written += done.written;
+            if (done.result != ENCODING_TEXT_MALFORMED) {
+                return written;
+            }
+            dst[written++] = 0xFFFD;
+            replaced++;
+        }
+    }
+
+    encoding_text_utf8_decoder state = {};
+};
+
+/** @} */
+
+} // namespace encoding_text
+
+#endif

@@ -1,0 +1,401 @@
+// The calls of encoding_text.hpp, as C++17 and as C++20. What they have to return are literals of the compiler's own
+// encodings, the forms of the Unicode Standard (Tables 3-6 and 3-7), and its examples of malformed bytes.
+#include "encoding_text.hpp"
+
+#include <array>
+#include <cstdio>
+#include <cstdlib>
+#include <limits>
+#include <list>
+#include <new>
+#include <vector>
+#if __cplusplus >= 202002L
+#include <iterator>
+#include <span>
+#endif
+
+#include "check.h"
+
+using namespace std::literals;
+using encoding_text::bytes;
+using encoding_text::code_units;
+using encoding_text::utf8_decoder;
+
+// How many allocations succeed before one fails.
+static std::size_t allocations_left = std::numeric_limits<std::size_t>::max();
+
+void *operator new(std::size_t length)
+{
+    void *memory = allocations_left > 0 ? std::malloc(length + !length) : nullptr;
+    if (memory == nullptr) {
+        throw std::bad_alloc();
+    }
+    allocations_left--;
+    return memory;
+}
+
+void operator delete(void *memory) noexcept
+{
+    std::free(memory);
+}
+
+void operator delete(void *memory, std::size_t) noexcept
+{
+    std::free(memory);
+}
+
+// A text in UTF-8 and in UTF-16, both by the compiler.
+struct pair {
+    std::string utf8;
+    std::u16string utf16;
+};
+
+#define PAIR(literal) pair{reinterpret_cast<const char *>(u8"" literal), u"" literal}
+
+static const std::vector<pair> TEXTS = {
+    PAIR(""),
+    PAIR("a"),
+    PAIR("The quick brown fox jumps over the lazy dog."),
+    PAIR("na\u00EFve, se\u00F1or, \u00FCber, \u00FF\u0080"),
+    PAIR("\u0421\u044A\u0435\u0448\u044C \u0435\u0449\u0451"),
+    PAIR("\u4F60\u597D\u4E16\u754C, \uFFFD\uFFFF\uE000\uD7FF\u0800"),
+    PAIR("\U0001F600 and \U0010FFFF and \U00010000"),
+    PAIR("\u05E9\u05DC\u05D5\u05DD \u0645\u0631\u062D\u0628\u0627"),
+};
+
+// Bytes with malformed sequences: their UTF-16 and UTF-8 after a repair, and the offset and length of each sequence.
+struct damaged {
+    std::string bytes;
+    pair repaired;
+    std::vector<std::array<std::size_t, 2>> malformed;
+};
+
+#define F "\uFFFD"
+
+// The first four are Tables 3-8 to 3-11 of the Unicode Standard.
+static const std::vector<damaged> DAMAGED = {
+    {"\xC0\xAF\xE0\x80\xBF\xF0\x81\x82\x41",
+     PAIR(F F F F F F F F "A"),
+     {{0, 1}, {1, 1}, {2, 1}, {3, 1}, {4, 1}, {5, 1}, {6, 1}, {7, 1}}},
+    {"\xED\xA0\x80\xED\xBF\xBF\xED\xAF\x41",
+     PAIR(F F F F F F F F "A"),
+     {{0, 1}, {1, 1}, {2, 1}, {3, 1}, {4, 1}, {5, 1}, {6, 1}, {7, 1}}},
+    {"\xF4\x91\x92\x93\xFF\x41\x80\xBF\x42",
+     PAIR(F F F F F "A" F F "B"),
+     {{0, 1}, {1, 1}, {2, 1}, {3, 1}, {4, 1}, {6, 1}, {7, 1}}},
+    {"\xE1\x80\xE2\xF0\x91\x92\xF1\xBF\x41", PAIR(F F F F "A"), {{0, 2}, {2, 1}, {3, 3}, {6, 2}}},
+    {"\xF0\x9F\x98", PAIR(F), {{0, 3}}},
+    {"text, then \xE2\x98", PAIR("text, then " F), {{11, 2}}},
+    {"\x80 and \xF0\x9F\x98\x80", PAIR(F " and \U0001F600"), {{0, 1}}},
+};
+
+template <class String> static String times(std::size_t count, const String &text)
+{
+    String result;
+    for (std::size_t i = 0; i < count; i++) {
+        result += text;
+    }
+    return result;
+}
+
+// The UTF-8 of a scalar value, by Table 3-6.
+static std::string utf8_of(std::uint32_t value)
+{
+    const auto continuation = [=](int shift) { return static_cast<char>(0x80 | (value >> shift & 0x3F)); };
+    if (value < 0x80) {
+        return {static_cast<char>(value)};
+    }
+    if (value < 0x800) {
+        return {static_cast<char>(0xC0 | value >> 6), continuation(0)};
+    }
+    if (value < 0x10000) {
+        return {static_cast<char>(0xE0 | value >> 12), continuation(6), continuation(0)};
+    }
+    return {static_cast<char>(0xF0 | value >> 18), continuation(12), continuation(6), continuation(0)};
+}
+
+// The UTF-16 of a scalar value, by Table 3-5.
+static std::u16string utf16_of(std::uint32_t value)
+{
+    if (value < 0x10000) {
+        return {static_cast<char16_t>(value)};
+    }
+    return {static_cast<char16_t>(0xD800 + (value - 0x10000) / 0x400),
+            static_cast<char16_t>(0xDC00 + (value - 0x10000) % 0x400)};
+}
+
+static void arguments()
+{
+    const std::vector<std::byte> some_bytes = {std::byte{0xC3}, std::byte{0xAF}, std::byte{0xFF}};
+    const std::vector<unsigned char> octets = {0xC3, 0xAF, 0xFF};
+    const std::array<char, 3> characters = {'\xC3', '\xAF', '\xFF'};
+    const std::vector<std::uint16_t> units = {0x61, 0xD800};
+    CHECK(encoding_text::utf8_valid_up_to("\xC3\xAF\xFF") == 2);
+    CHECK(encoding_text::utf8_valid_up_to("\xC3\xAF\xFF"s) == 2);
+    CHECK(encoding_text::utf8_valid_up_to("\xC3\xAF\0\xFF"sv) == 3);
+    CHECK(encoding_text::utf8_valid_up_to(some_bytes) == 2);
+    CHECK(encoding_text::utf8_valid_up_to(octets) == 2);
+    CHECK(encoding_text::utf8_valid_up_to(characters) == 2);
+    CHECK(encoding_text::utf8_valid_up_to({octets.data(), 2}) == 2);
+    CHECK(encoding_text::utf16_valid_up_to(u"a") == 1);
+    CHECK(encoding_text::utf16_valid_up_to(u"a\0b"sv) == 3);
+    CHECK(encoding_text::utf16_valid_up_to(units) == 1);
+    CHECK(encoding_text::utf16_valid_up_to({units.data(), 2}) == 1);
+    CHECK((!std::is_convertible_v<std::list<char>, bytes>));
+    CHECK((!std::is_convertible_v<std::vector<int>, bytes>));
+    CHECK((!std::is_convertible_v<std::wstring, code_units>));
+    CHECK((!std::is_convertible_v<std::nullptr_t, bytes>));
+#if __cplusplus >= 202002L
+    CHECK(encoding_text::utf8_valid_up_to(std::span(octets)) == 2);
+    CHECK(encoding_text::utf8_valid_up_to(std::as_bytes(std::span(octets))) == 2);
+    CHECK(encoding_text::utf8_valid_up_to(std::span<const std::byte>()) == 0);
+    CHECK(encoding_text::utf8_valid_up_to(u8"\u00EF"sv) == 2);
+    CHECK(encoding_text::utf16_valid_up_to(std::span(units)) == 1);
+    CHECK(std::input_iterator<encoding_text::malformed_sequences::iterator>);
+#endif
+}
+
+static void empty_arguments()
+{
+    CHECK(encoding_text::is_utf8(bytes()) && encoding_text::is_utf16(code_units()));
+    CHECK(encoding_text::convert_utf8_to_utf16(bytes()).empty());
+    CHECK(encoding_text::convert_utf16_to_utf8(code_units()).empty());
+    CHECK(encoding_text::convert_latin1_to_utf8(bytes()).empty());
+    CHECK(encoding_text::convert_latin1_to_utf16(bytes()).empty());
+    CHECK(encoding_text::convert_utf8_to_latin1(bytes()) == ""s);
+    CHECK(encoding_text::convert_utf16_to_latin1(code_units()) == ""s);
+    CHECK(encoding_text::repair(bytes()).text.empty());
+    utf8_decoder decoder;
+    std::string text;
+    CHECK(decoder.decode(bytes(), text, true) == 0 && text.empty());
+}
+
+// Whether the memory of a string is as long as its text, for the library whose strings double only short ones.
+template <class String> static bool is_exact([[maybe_unused]] const String &text)
+{
+#ifdef __GLIBCXX__
+    return text.size() <= 30 || text.capacity() == text.size();
+#else
+    return true;
+#endif
+}
+
+static void sound_text(const pair &text)
+{
+    CHECK(encoding_text::is_utf8(text.utf8));
+    CHECK(encoding_text::is_utf16(text.utf16));
+    const auto utf16 = encoding_text::convert_utf8_to_utf16(text.utf8);
+    CHECK(utf16 == text.utf16 && is_exact(utf16));
+    CHECK(encoding_text::convert_utf8_to_utf16_without_replacement(text.utf8) == text.utf16);
+    const auto utf8 = encoding_text::convert_utf16_to_utf8(text.utf16);
+    CHECK(utf8 == text.utf8 && is_exact(utf8));
+    const auto repaired = encoding_text::repair(text.utf8);
+    CHECK(repaired.text == text.utf8 && repaired.replaced == 0 && is_exact(repaired.text));
+    CHECK(encoding_text::next_malformed(text.utf8).length == 0);
+    CHECK(encoding_text::next_malformed(text.utf8).offset == text.utf8.size());
+    const encoding_text::malformed_sequences malformed(text.utf8);
+    CHECK(malformed.begin() == malformed.end());
+}
+
+static void sound_texts()
+{
+    for (const pair &text : TEXTS) {
+        sound_text(text);
+        sound_text({times(5003, text.utf8), times(5003, text.utf16)});
+    }
+    CHECK(encoding_text::is_ascii("~\x7F"sv) && !encoding_text::is_ascii("~\x80"));
+}
+
+static void each_scalar_value()
+{
+    std::size_t right = 0, values = 0;
+    pair all;
+    for (std::uint32_t value = 0; value < 0x110000; value++) {
+        if (value >= 0xD800 && value < 0xE000) {
+            continue;
+        }
+        const std::string utf8 = utf8_of(value);
+        const std::u16string utf16 = utf16_of(value);
+        values++;
+        right += encoding_text::convert_utf8_to_utf16(utf8) == utf16
+                 && encoding_text::convert_utf16_to_utf8(utf16) == utf8 && encoding_text::is_utf8(utf8);
+        all.utf8 += utf8;
+        all.utf16 += utf16;
+    }
+    CHECK(values == 0x110000 - 0x800 && right == values);
+    sound_text(all);
+}
+
+static void latin1()
+{
+    std::string latin1;
+    pair text;
+    for (std::uint32_t value = 0; value < 0x100; value++) {
+        latin1 += static_cast<char>(value);
+        text.utf8 += utf8_of(value);
+        text.utf16 += utf16_of(value);
+    }
+    for (std::size_t count : {1, 1001}) {
+        const std::string many = times(count, latin1), utf8 = times(count, text.utf8);
+        const std::u16string utf16 = times(count, text.utf16);
+        CHECK(encoding_text::is_utf8_latin1(utf8) && encoding_text::is_utf16_latin1(utf16));
+        CHECK(encoding_text::convert_latin1_to_utf8(many) == utf8);
+        CHECK(encoding_text::convert_latin1_to_utf16(many) == utf16);
+        CHECK(encoding_text::convert_utf8_to_latin1(utf8) == many);
+        CHECK(encoding_text::convert_utf16_to_latin1(utf16) == many);
+        CHECK(is_exact(*encoding_text::convert_utf8_to_latin1(utf8)));
+        CHECK(encoding_text::convert_utf8_to_latin1(utf8 + utf8_of(0x100)) == std::nullopt);
+        CHECK(encoding_text::convert_utf8_to_latin1(utf8 + "\xC3") == std::nullopt);
+        CHECK(encoding_text::convert_utf16_to_latin1(utf16 + u"\u0100") == std::nullopt);
+        CHECK(!encoding_text::is_utf8_latin1(utf8 + utf8_of(0x100)));
+        CHECK(!encoding_text::is_utf16_latin1(utf16 + u"\u0100"));
+    }
+}
+
+// Checks bytes with malformed sequences, `before` bytes of ASCII before them.
+static void damaged_text(const damaged &text, std::size_t before)
+{
+    const std::string letters(before, 'a'), source = letters + text.bytes;
+    const std::u16string utf16 = std::u16string(before, u'a') + text.repaired.utf16;
+    CHECK(!encoding_text::is_utf8(source));
+    CHECK(encoding_text::utf8_valid_up_to(source) == before + text.malformed[0][0]);
+    CHECK(encoding_text::convert_utf8_to_utf16_without_replacement(source) == std::nullopt);
+    const auto converted = encoding_text::convert_utf8_to_utf16(source);
+    CHECK(converted == utf16 && is_exact(converted));
+    const auto repaired = encoding_text::repair(source);
+    CHECK(repaired.text == letters + text.repaired.utf8 && is_exact(repaired.text));
+    CHECK(repaired.replaced == text.malformed.size());
+    std::vector<std::array<std::size_t, 2>> found;
+    for (const auto [offset, length] : encoding_text::malformed_sequences(source)) {
+        found.push_back({offset - before, length});
+    }
+    CHECK(found == text.malformed);
+    const auto second = encoding_text::next_malformed(source, before + text.malformed[0][0] + text.malformed[0][1]);
+    CHECK(text.malformed.size() == 1 || second.offset == before + text.malformed[1][0]);
+}
+
+static void damaged_texts()
+{
+    for (const damaged &text : DAMAGED) {
+        for (std::size_t before = 0; before < 70; before++) {
+            damaged_text(text, before);
+        }
+        damaged_text(text, 100003);
+        damaged many = {times(5003, text.bytes + "."), {}, {}};
+        for (std::size_t i = 0; i < 5003; i++) {
+            for (const auto [offset, length] : text.malformed) {
+                many.malformed.push_back({i * (text.bytes.size() + 1) + offset, length});
+            }
+        }
+        many.repaired = {times(5003, text.repaired.utf8 + "."), times(5003, text.repaired.utf16 + u".")};
+        damaged_text(many, 0);
+    }
+}
+
+static void unpaired_surrogates()
+{
+    const char16_t high[] = {u'a', 0xD83D, 0}, low[] = {0xDE00, u'b', 0}, swapped[] = {0xDE00, 0xD83D, 0};
+    CHECK(encoding_text::utf16_valid_up_to(high) == 1 && !encoding_text::is_utf16(high));
+    CHECK(encoding_text::utf16_valid_up_to(low) == 0);
+    CHECK(encoding_text::convert_utf16_to_utf8(high) == PAIR("a" F).utf8);
+    CHECK(encoding_text::convert_utf16_to_utf8(low) == PAIR(F "b").utf8);
+    CHECK(encoding_text::convert_utf16_to_utf8(swapped) == PAIR(F F).utf8);
+}
+
+// Decodes bytes in two pieces, both ways.
+static bool decodes(const std::string &source, std::size_t cut, const pair &wanted, std::size_t replaced)
+{
+    utf8_decoder to_utf16, to_utf8;
+    std::u16string utf16 = u"before ";
+    std::string utf8 = "before ";
+    std::size_t count16 = to_utf16.decode(std::string_view(source).substr(0, cut), utf16, false);
+    std::size_t count8 = to_utf8.decode(std::string_view(source).substr(0, cut), utf8, false);
+    count16 += to_utf16.decode(std::string_view(source).substr(cut), utf16, true);
+    count8 += to_utf8.decode(std::string_view(source).substr(cut), utf8, true);
+    return utf16 == u"before " + wanted.utf16 && utf8 == "before " + wanted.utf8 && count16 == replaced
+           && count8 == replaced && to_utf16.in_neutral_state() && to_utf8.in_neutral_state();
+}
+
+static void decoder()
+{
+    for (const pair &text : TEXTS) {
+        for (std::size_t cut = 0; cut <= text.utf8.size(); cut++) {
+            CHECK(decodes(text.utf8, cut, text, 0));
+        }
+    }
+    for (const damaged &text : DAMAGED) {
+        for (std::size_t cut = 0; cut <= text.bytes.size(); cut++) {
+            CHECK(decodes(text.bytes, cut, text.repaired, text.malformed.size()));
+        }
+        const pair many = {times(5003, text.repaired.utf8 + "."), times(5003, text.repaired.utf16 + u".")};
+        CHECK(decodes(times(5003, text.bytes + "."), 10007, many, 5003 * text.malformed.size()));
+    }
+    utf8_decoder pending;
+    std::string text;
+    CHECK(pending.decode("\xE2\x98", text, false) == 0 && text.empty() && !pending.in_neutral_state());
+    utf8_decoder copy = pending;
+    pending.reset();
+    CHECK(pending.in_neutral_state() && pending.decode("Z", text, true) == 0 && text == "Z");
+    CHECK(copy.decode("\x83", text, true) == 0 && text == "Z\xE2\x98\x83");
+}
+
+// Calls with 0, 1, 2, .. allocations until one succeeds, and returns how many failed by std::bad_alloc.
+template <class Call, class Check> static int failures(Call call, Check is_unchanged)
+{
+    for (int count = 0;; count++) {
+        allocations_left = static_cast<std::size_t>(count);
+        bool is_done = true;
+        try {
+            call();
+        } catch (const std::bad_alloc &) {
+            is_done = false;
+        }
+        allocations_left = std::numeric_limits<std::size_t>::max();
+        if (is_done) {
+            return count;
+        }
+        CHECK(is_unchanged());
+    }
+}
+
+static void failing_memory()
+{
+    const std::string long_text(1000, 'a'), bad(1000, '\xFF');
+    const std::u16string long_utf16(1000, u'a');
+    const auto always = [] { return true; };
+    CHECK(failures([&] { encoding_text::repair(bad); }, always) == 1);
+    CHECK(failures([&] { encoding_text::convert_utf8_to_utf16(bad); }, always) == 1);
+    CHECK(failures([&] { encoding_text::convert_utf8_to_utf16_without_replacement(long_text); }, always) == 1);
+    CHECK(failures([&] { encoding_text::convert_utf16_to_utf8(long_utf16); }, always) == 1);
+    CHECK(failures([&] { encoding_text::convert_latin1_to_utf8(bad); }, always) == 1);
+    CHECK(failures([&] { encoding_text::convert_latin1_to_utf16(bad); }, always) == 1);
+    CHECK(failures([&] { encoding_text::convert_utf8_to_latin1(long_text); }, always) == 1);
+    CHECK(failures([&] { encoding_text::convert_utf16_to_latin1(long_utf16); }, always) == 1);
+
+    utf8_decoder decoder;
+    std::string text;
+    std::u16string utf16;
+    decoder.decode("a\xE2\x98", text, false);
+    utf8_decoder second = decoder;
+    const auto unchanged16 = [&] { return utf16.empty() && !second.in_neutral_state(); };
+    CHECK(failures([&] { second.decode(bad, utf16, true); }, unchanged16) == 1);
+    CHECK(utf16 == times(1001, PAIR(F).utf16) && second.in_neutral_state());
+    const auto unchanged8 = [&] { return text == "a" && !decoder.in_neutral_state(); };
+    CHECK(failures([&] { decoder.decode(bad, text, true); }, unchanged8) > 1);
+    CHECK(text == "a" + times(1001, PAIR(F).utf8) && decoder.in_neutral_state());
+}
+
+int main()
+{
+    arguments();
+    empty_arguments();
+    sound_texts();
+    each_scalar_value();
+    latin1();
+    damaged_texts();
+    unpaired_surrogates();
+    decoder();
+    failing_memory();
+    std::printf("%d passed, %d failed\n", passed, failed);
+    return failed > 0 || passed == 0;
+}
