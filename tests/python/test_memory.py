@@ -1,0 +1,156 @@
+"""Memory that fails, memory that is freed, and threads."""
+import gc
+import resource
+import subprocess
+import sys
+import threading
+import tracemalloc
+import unittest
+
+import encoding_text
+
+try:
+    import _testcapi
+except ImportError:  # not a part of each CPython
+    _testcapi = None
+
+SHORT = b'a\xe2\x98Z\xff'
+LONG = SHORT * 100_000
+REPAIRED = LONG.decode('utf-8', 'replace').encode()
+
+
+def incremental(data):
+    repair = encoding_text.IncrementalRepair()
+    return repair.decode(data[:-2]) + repair.decode(data[-2:], True), repair.replaced, repair.getstate()
+
+
+def iterate(data):
+    return list(encoding_text.malformed(data))
+
+
+CALLS = [encoding_text.repair, encoding_text.is_utf8, encoding_text.valid_up_to, iterate, incremental]
+
+# Limits the memory of the process to what it has and a little more, and repairs more than that.
+LIMITED = '''
+import encoding_text, resource
+data = b'a\\xff' * (32 << 20)
+repair = encoding_text.IncrementalRepair()
+repair.decode(b'\\xe2')
+pages = int(open('/proc/self/statm').read().split()[0])
+resource.setrlimit(resource.RLIMIT_AS, ((pages << 12) + (16 << 20),) * 2)
+for call in (encoding_text.repair, repair.decode):
+    try:
+        call(data)
+    except MemoryError:
+        print('MemoryError', repair.getstate(), repair.replaced)
+'''
+
+
+class Memory(unittest.TestCase):
+    @unittest.skipIf(_testcapi is None, 'this CPython has no _testcapi')
+    def test_each_allocation_fails(self):
+        for data in (SHORT, 100 * SHORT, memoryview(100 * SHORT)):
+            for call in CALLS:
+                wanted = call(data)
+                self.assertGreaterEqual(self.failures(call, data, wanted), call in (encoding_text.repair, incremental))
+        for call in (encoding_text.repair, incremental):
+            self.assertGreaterEqual(self.failures(call, LONG, call(LONG)), 1)
+
+    def failures(self, call, data, wanted):
+        """Lets the first allocation fail, then the second, until the call succeeds. Returns how often it failed."""
+        for count in range(1_000_000):
+            _testcapi.set_nomemory(count, count + 1)
+            try:
+                found = call(data)
+            except MemoryError:
+                continue
+            finally:
+                _testcapi.remove_mem_hooks()
+            self.assertEqual(found, wanted)
+            return count
+        return self.fail('it never succeeds')
+
+    def test_limit(self):
+        done = subprocess.run([sys.executable, '-c', LIMITED], stdout=subprocess.PIPE, check=True, text=True)
+        self.assertEqual(done.stdout, "MemoryError (b'\\xe2', 0) 0\n" * 2)
+
+    def test_all_memory_is_freed(self):
+        def many():
+            for data in (SHORT, 1000 * SHORT, memoryview(1000 * SHORT), b'sound' * 1000):
+                for call in CALLS:
+                    call(data)
+                for wrong in ('text', memoryview(data)[::2]):
+                    for call in CALLS:
+                        with self.assertRaises((TypeError, BufferError)):
+                            call(wrong)
+
+        many()
+        gc.collect()
+        tracemalloc.start()
+        many()
+        gc.collect()
+        before = tracemalloc.get_traced_memory()[0]
+        peak = resource.getrusage(resource.RUSAGE_SELF).ru_maxrss
+        for _ in range(20):
+            many()
+        gc.collect()
+        after = tracemalloc.get_traced_memory()[0]
+        tracemalloc.stop()
+        self.assertLess(after - before, 5000)
+        self.assertLess(resource.getrusage(resource.RUSAGE_SELF).ru_maxrss - peak, 20_000)
+
+    def test_iterator_in_a_cycle(self):
+        class Holder(bytes):
+            pass
+
+        holder = Holder(SHORT)
+        holder.iterator = encoding_text.malformed(holder)
+        freed = []
+        holder.note = type('Note', (), {'__del__': lambda self: freed.append(True)})()
+        del holder
+        gc.collect()
+        self.assertEqual(freed, [True])
+
+
+class Threads(unittest.TestCase):
+    def in_threads(self, call):
+        results = []
+        threads = [threading.Thread(target=lambda: results.append(call())) for _ in range(8)]
+        for thread in threads:
+            thread.start()
+        for thread in threads:
+            thread.join()
+        self.assertEqual(len(results), len(threads))
+        return results
+
+    def test_repair(self):
+        for result in self.in_threads(lambda: encoding_text.repair(LONG)):
+            self.assertEqual(result[0], REPAIRED)
+
+    def test_one_iterator(self):
+        data = (b'a' * 100_000 + b'\xff') * 20
+        iterator = encoding_text.malformed(data)
+        found = [each for results in self.in_threads(lambda: list(iterator)) for each in results]
+        self.assertEqual(set(found), {(100_001 * i + 100_000, 1) for i in range(20)})
+
+    def test_other_threads_run(self):
+        """This thread sees another one at work on long bytes, though Python changes threads only each minute."""
+        data = '\u4f60'.encode() * (8 << 20) + b'\xff'
+        interval = sys.getswitchinterval()
+        sys.setswitchinterval(60)
+        try:
+            seen = any(self.at_work(data) for _ in range(20))
+        finally:
+            sys.setswitchinterval(interval)
+        self.assertTrue(seen)
+
+    def at_work(self, data):
+        thread = threading.Thread(target=encoding_text.repair, args=(data,))
+        thread.start()
+        is_alive = thread.is_alive()
+        thread.join()
+        return is_alive
+
+
+if __name__ == '__main__':
+    unittest.main()

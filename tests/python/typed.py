@@ -1,0 +1,25 @@
+"""A program that mypy has to accept."""
+import codecs
+import mmap
+from typing import List, Tuple
+
+import encoding_text
+
+text, replaced = encoding_text.repair(b'')
+count: int = replaced
+both: bytes = text + encoding_text.repair(bytearray())[0] + encoding_text.repair(memoryview(b''))[0]
+sound: bool = encoding_text.is_utf8(b'')
+length: int = encoding_text.valid_up_to(b'')
+found: List[Tuple[int, int]] = list(encoding_text.malformed(b''))
+repair = encoding_text.IncrementalRepair()
+part: bytes = repair.decode(b'', final=True)
+repair.setstate(repair.getstate())
+count += repair.replaced
+
+
+def mapped(file: mmap.mmap) -> bool:
+    return encoding_text.is_utf8(file)
+
+
+def decoded(data: bytes) -> str:
+    return codecs.decode(encoding_text.repair(data)[0], 'utf-8')
