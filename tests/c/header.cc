@@ -21,10 +21,10 @@ using encoding_text::bytes;
 using encoding_text::code_units;
 using encoding_text::utf8_decoder;
 
-// How many allocations succeed before one fails.
+// How many allocations succeed before one fails. The compiler warns of `free` if it puts these functions into others.
 static std::size_t allocations_left = std::numeric_limits<std::size_t>::max();
 
-void *operator new(std::size_t length)
+[[gnu::noinline]] void *operator new(std::size_t length)
 {
     void *memory = allocations_left > 0 ? std::malloc(length + !length) : nullptr;
     if (memory == nullptr) {
@@ -34,12 +34,12 @@ void *operator new(std::size_t length)
     return memory;
 }
 
-void operator delete(void *memory) noexcept
+[[gnu::noinline]] void operator delete(void *memory) noexcept
 {
     std::free(memory);
 }
 
-void operator delete(void *memory, std::size_t) noexcept
+[[gnu::noinline]] void operator delete(void *memory, std::size_t) noexcept
 {
     std::free(memory);
 }
