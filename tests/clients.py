@@ -1,5 +1,5 @@
 #!/usr/bin/env python3
-"""Puts calls of the Rust crate in rust/ in place of bodies of encoding_rs: tests/clients.py SOURCES CRATE CFG_IF
+"""Replaces bodies of encoding_rs by calls of the Rust crate in rust/: tests/clients.py SOURCES CRATE CFG_IF
 
 SOURCES is a copy of encoding_rs, which is changed; CRATE and CFG_IF are the folders of the two crates that it depends
 on. Prints the number of bodies. tests/clients runs it.
@@ -41,7 +41,7 @@ def body_end(text, start):
 
 
 def replace_body(text, module, name):
-    """Returns the source with a call in place of the function's body."""
+    """Returns the source with a call as the function's body."""
     found = re.search(rf'^pub fn {name}(<[^>]*>)?\(([^)]*)\)[^{{]*\{{', text, re.MULTILINE)
     if found is None:
         sys.exit(f'tests/clients.py: {module}.rs has no function {name}')

@@ -196,8 +196,8 @@ inline malformed_sequence next_malformed(bytes text, std::size_t offset = 0) noe
     return {offset + found.place, found.length};
 }
 
-/** All malformed sequences of a text, in order: `for (auto [offset, length] : malformed_sequences(text))`. The text has
- * to stay in place meanwhile. */
+/** All malformed sequences of a text, in order: `for (auto [offset, length] : malformed_sequences(text))`. It and its
+ * iterators are views: the text has to live as long as they do. */
 class malformed_sequences {
 public:
     /** Finds one after another. */

@@ -11,7 +11,7 @@ typedef struct {
     size_t offset; /* of the bytes after the last malformed sequence */
 } iterator;
 
-/* Finds the next malformed sequence. The source stays in place, even if another thread ends the iteration. */
+/* Finds the next malformed sequence. The bytes aren't freed, even if another thread ends the iteration meanwhile. */
 static encoding_text_malformed_sequence find(const encoding_source *source, size_t offset)
 {
     PyObject *object = source->object;

@@ -1,4 +1,4 @@
-/* The bytes of an argument, and what lets them stay in place while they are read. */
+/* The bytes of an argument, which nobody can move or free while they are read. */
 #ifndef SOURCE_H
 #define SOURCE_H
 
