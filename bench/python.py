@@ -24,25 +24,34 @@ WORDS = {
 }
 
 
+def damaged(data, generator):
+    """Returns the bytes with 0xFF for one in a hundred, and at least for one."""
+    changed = bytearray(data)
+    for offset in generator.sample(range(len(data)), max(1, len(data) // 100)):
+        changed[offset] = 0xFF
+    return bytes(changed)
+
+
 def texts(length):
-    """Yields the name and the bytes of each text: sound, with one damaged byte in a hundred, and random."""
+    """Yields the name and the bytes of each kind of text: sound, damaged and random. There are many short texts of a
+    kind, which are taken in turn: if one were repeated, the processor would learn its branches."""
     generator = random.Random(1)
+    numbers = range(max(1, min(1000, 100_000 // length)))
     for name, words in WORDS.items():
-        data = words.encode()
-        data = (data * (length // len(data) + 1))[:length].decode('utf-8', 'ignore').encode()
-        yield name, data
-        damaged = bytearray(data)
-        for offset in generator.sample(range(len(data)), max(1, len(data) // 100)):
-            damaged[offset] = 0xFF
-        yield f'{name}, 1 % malformed', bytes(damaged)
-    yield 'random', bytes(generator.getrandbits(8) for _ in range(length))
+        data = words.encode() * (2 + length // len(words.encode()))
+        starts = [generator.randrange(len(words.encode())) for _ in numbers]
+        sound = [data[start:start + length].decode('utf-8', 'ignore').encode() for start in starts]
+        yield name, sound
+        yield f'{name}, 1 % malformed', [damaged(each, generator) for each in sound]
+    yield 'random', [bytes(generator.getrandbits(8) for _ in range(length)) for _ in numbers]
 
 
 def seconds(call, data, count):
     begun = time.thread_time()
     for _ in range(count):
-        call(data)
-    return (time.thread_time() - begun) / count
+        for each in data:
+            call(each)
+    return (time.thread_time() - begun) / count / len(data)
 
 
 def compare(data):
@@ -50,7 +59,7 @@ def compare(data):
     decoder, incremental = codecs.getincrementaldecoder('utf-8')('replace'), encoding_text.IncrementalRepair()
     calls = [lambda data: data.decode('utf-8', 'replace'), lambda data: encoding_text.repair(data),
              lambda data: decoder.decode(data, True), lambda data: incremental.decode(data, True)]
-    count = max(1, 1_000_000 // (3 * len(data) + 100))
+    count = max(1, 1_000_000 // sum(3 * len(each) + 100 for each in data))
     best = [float('inf')] * len(calls)
     for _ in range(ROUNDS):
         for i, call in enumerate(calls):

@@ -8,9 +8,12 @@
 
 bool source_take(encoding_source *source, PyObject *object)
 {
-    if (PyBytes_Check(object)) {
-        source->bytes = (const uint8_t *)PyBytes_AsString(object);
-        source->length = (size_t)PyBytes_Size(object);
+    if (PyBytes_CheckExact(object) || PyBytes_Check(object)) { /* the first is faster */
+        char *bytes;
+        Py_ssize_t length;
+        PyBytes_AsStringAndSize(object, &bytes, &length);
+        source->bytes = (const uint8_t *)bytes;
+        source->length = (size_t)length;
         source->object = object;
         source->view.obj = NULL;
         Py_INCREF(object);

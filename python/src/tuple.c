@@ -4,13 +4,8 @@
 PyObject *tuple_of(PyObject *object, size_t number)
 {
     PyObject *second = object == NULL ? NULL : PyLong_FromSize_t(number);
-    PyObject *tuple = second == NULL ? NULL : PyTuple_New(2);
-    if (tuple == NULL) {
-        Py_XDECREF(object);
-        Py_XDECREF(second);
-        return NULL;
-    }
-    PyTuple_SetItem(tuple, 0, object);
-    PyTuple_SetItem(tuple, 1, second);
+    PyObject *tuple = second == NULL ? NULL : PyTuple_Pack(2, object, second);
+    Py_XDECREF(object);
+    Py_XDECREF(second);
     return tuple;
 }
