@@ -1,4 +1,7 @@
-"""Repairs UTF-8 with the shared library: python3 repair.py < damaged > repaired"""
+"""Repairs UTF-8 with the shared library: python3 repair.py < damaged > repaired
+
+The package in python/ is faster, and needs no shared library.
+"""
 
 import ctypes
 import sys
