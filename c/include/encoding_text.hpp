@@ -412,6 +412,10 @@ inline repaired_text repair(bytes text)
         length += detail::replacement_length - malformed.length;
         result.replaced++;
     }
+    if (result.replaced == 0) {
+        result.text.assign(reinterpret_cast<const char *>(text.data()), text.size());
+        return result;
+    }
     detail::append(result.text, length, [=](char *dst) {
         detail::write_repaired(text, detail::units(dst), length);
         return length;
