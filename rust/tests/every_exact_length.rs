@@ -1,6 +1,6 @@
-//! Exact lengths in another encoding: one character or malformed sequence among others of one kind, at each index of a
-//! text that is longer than a piece and its remainder. The crate has no calls for them, so the functions of the library
-//! are declared here.
+//! Exact lengths in another encoding: one character or malformed sequence among others of one kind, at each index of
+//! texts of each short length, of one vector and a remainder, and of several sums of vectors. The crate has no calls for
+//! them, so the functions of the library are declared here.
 mod common;
 
 use common::rows::{around, fields, named, Unit};
@@ -33,8 +33,17 @@ fn latin1_length_from_utf8(src: &[u8]) -> usize {
     unsafe { encoding_text_mem_latin1_length_from_utf8(src.as_ptr(), src.len()) }
 }
 
-/// How often the filler is in a text.
-const FILLERS_IN_TEXT: usize = 90;
+/// Returns how often the filler is in each of the texts: each count about the shortest vectors, one that leaves a
+/// remainder, and one for several sums of vectors.
+fn filler_counts(many: usize) -> impl Iterator<Item = usize> {
+    (0..=66).chain([90, many])
+}
+
+/// A number of fillers beyond the 256 units that are summed at a time.
+const MANY: usize = 300;
+
+/// A number of fillers beyond the 1024 bytes of Latin1 that are summed at a time.
+const MANY_LATIN1: usize = 1200;
 
 /// Parses rows: units, and their length in the other encoding.
 fn lengths<T: Unit>(rows: &str) -> Vec<(Vec<T>, usize)> {
@@ -51,10 +60,12 @@ fn at_each_place<T: Unit>(fillers: &str, edges: &str, length_of: fn(&[T]) -> usi
     let (fillers, edges) = (lengths::<T>(fillers), lengths::<T>(edges));
     for (filler, filler_length) in &fillers {
         for (edge, edge_length) in &edges {
-            for before in 0..=FILLERS_IN_TEXT {
-                let text = around(filler, FILLERS_IN_TEXT, before, edge);
-                let wanted = filler_length * FILLERS_IN_TEXT + edge_length;
-                assert_eq!(length_of(&text), wanted, "{filler:x?}, {edge:x?}, {before}");
+            for count in filler_counts(MANY) {
+                for before in 0..=count {
+                    let text = around(filler, count, before, edge);
+                    let wanted = filler_length * count + edge_length;
+                    assert_eq!(length_of(&text), wanted, "{filler:x?}, {edge:x?}, {before} of {count}");
+                }
             }
         }
     }
@@ -143,16 +154,15 @@ const LATIN1_EDGES: [(u8, &[u8]); 4] = [
 fn latin1_and_its_utf8() {
     for (filler, filler_length) in LATIN1_FILLERS {
         for (byte, utf8) in LATIN1_EDGES {
-            for before in 0..=FILLERS_IN_TEXT {
-                let bytes = around(&[filler], FILLERS_IN_TEXT, before, &[byte]);
-                let wanted = filler_length * FILLERS_IN_TEXT + utf8.len();
-                assert_eq!(
-                    utf8_length_from_latin1(&bytes),
-                    wanted,
-                    "{filler:x}, {byte:x}, {before}"
-                );
-                let text = around(&[0x61], FILLERS_IN_TEXT, before, utf8);
-                assert_latin1_of_length(&text, bytes.len());
+            for count in filler_counts(MANY_LATIN1) {
+                for before in 0..=count {
+                    let bytes = around(&[filler], count, before, &[byte]);
+                    let wanted = filler_length * count + utf8.len();
+                    let length = utf8_length_from_latin1(&bytes);
+                    assert_eq!(length, wanted, "{filler:x}, {byte:x}, {before} of {count}");
+                    let text = around(&[0x61], count, before, utf8);
+                    assert_latin1_of_length(&text, bytes.len());
+                }
             }
         }
     }

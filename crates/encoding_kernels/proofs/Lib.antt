@@ -11,6 +11,7 @@ pub mod EndsLemmas
 pub mod FollowingLemmas
 pub mod HalvesLemmas
 pub mod LaneLemmas
+pub mod LaneSumLemmas
 pub mod LatinLanesLemmas
 pub mod LongLemmas
 pub mod LookupLemmas

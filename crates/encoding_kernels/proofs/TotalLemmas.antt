@@ -1,9 +1,14 @@
--- Sums over the indices of a list: one more index, and the terms of its first bytes or code units.
-use Rattle.std.proofs.Common.{Bool, ◌≡◌, ℕ, zero, suc, ◌+◌, ◌<◌, ◌≤◌, List, [], ◌∷◌, length, drop, slice_index, nat_le, refl, ap, ◌∙◌, arith}
-use Rattle.std.proofs.lemmas.List.{get_or-drop}
+-- Sums over the indices of a list: one more index, the lanes of a vector, and ASCII, whose terms are zero.
+use Rattle.std.proofs.Common.{Bool, ◌≡◌, ℕ, zero, suc, ◌+◌, ◌-◌, ◌*◌, ◌^◌, ◌<◌, ◌≤◌, inl, inr, List, [], ◌∷◌, ◌++◌, length, drop, get_or, slice_index, replicate, Fits, w8, cond, ltb, nat_le, refl, sym, ap, ◌∙◌, arith, length-drop}
+use Rattle.std.specs.Simd.Lanes.{Each1, Each2, zip2, chunk, sum_l}
+use Rattle.std.proofs.Math.Nat.{add-mul, mul-le-mul_right}
+use Rattle.std.proofs.lemmas.Bool.{cases_lt, cond-true, cond-false, le-ltb, lt-ltb}
 use Rattle.std.proofs.lemmas.Bool.Decides.{nat_tests}
+use Rattle.std.proofs.lemmas.List.{get_or-drop, get_or_append_left, get_or-append_right}
+use Rattle.std.proofs.lemmas.Simd.{get_or-chunk, get_or-replicate, Each1-from_get_or, Each1-zip2, Each2-of, sum_bound, bytes_below}
+use Rattle.encoding_kernels.specs.declared.simd.sum.TheConstants.{BOUNDS}
+use Rattle.encoding_kernels.specs.Vectors.{HasLanes}
 use mir.Val.{bool_byte}
-use Rattle.encoding_kernels.specs.Bounds.{AllBelow}
 use Rattle.encoding_kernels.specs.Lengths.{sum_over_suffixes, one_if_at_least, continuations, continuations_by, extra_bytes, extra_bytes_by}
 
 -- the sum from an index on, by the term at that index
@@ -26,35 +31,169 @@ total_end f [] (suc i) l = refl
 total_end f (x ∷ xs) zero l = absurd (omega arith)
 total_end f (x ∷ xs) (suc i) l = total_end f xs i (omega arith)
 
-there : (xs : List ℕ) (i k : ℕ) → slice_index (drop i xs) k ≡ slice_index xs (i + k)
+pub there : (xs : List ℕ) (i k : ℕ) → slice_index (drop i xs) k ≡ slice_index xs (i + k)
 there xs i k = get_or-drop i xs k 0
 
-here : (xs : List ℕ) (i : ℕ) → slice_index (drop i xs) 0 ≡ slice_index xs i
+pub here : (xs : List ℕ) (i : ℕ) → slice_index (drop i xs) 0 ≡ slice_index xs i
 here xs i = let e : i + 0 ≡ i = omega arith in there xs i 0 ∙ ap (slice_index xs) e
 
--- one more byte for `one_if_at_least`, one more for `continuations`, and one more code unit for `extra_bytes`
-module _ (xs : List ℕ) (i next : ℕ) (p : next ≡ i + 1) (l : i < length xs) where
-  pub from_next : (least : ℕ) → sum_over_suffixes (one_if_at_least least) (drop i xs) ≡ bool_byte (nat_le least (slice_index xs i)) + sum_over_suffixes (one_if_at_least least) (drop next xs)
-  from_next least = rw p (total_next (one_if_at_least least) xs i l ∙ (λ k. bool_byte (nat_le least (here xs i k)) + sum_over_suffixes (one_if_at_least least) (drop (i + 1) xs)))
+-- ---- the lanes of a vector
+abbrev pub total_from : (List ℕ → ℕ) → List ℕ → ℕ → ℕ
+total_from f xs i = sum_over_suffixes f (drop i xs)
 
-  pub joined_next : sum_over_suffixes continuations (drop i xs) ≡ continuations_by (slice_index xs i) (slice_index xs (i + 1)) (slice_index xs (i + 2)) + sum_over_suffixes continuations (drop next xs)
-  joined_next = rw p (total_next continuations xs i l ∙ (λ k. continuations_by (here xs i k) (there xs i 1 k) (there xs i 2 k) + sum_over_suffixes continuations (drop (i + 1) xs)))
+-- the lanes from `skip` on are the terms of the indices from `at + skip` on, and those before are zero
+pub lanes_total : (f : List ℕ → ℕ) (xs z : List ℕ) (at skip : ℕ) → at + length z ≤ length xs → skip ≤ length z
+    → ((k : ℕ) → k < skip → slice_index z k ≡ 0) → ((k : ℕ) → skip ≤ k → k < length z → slice_index z k ≡ f (drop (at + k) xs))
+    → sum_l z + sum_over_suffixes f (drop (at + length z) xs) ≡ sum_over_suffixes f (drop (at + skip) xs)
+lanes_total f xs [] at zero room l none same = omega arith
+lanes_total f xs [] at (suc skip) room l none same = absurd (omega arith)
+lanes_total f xs (x ∷ z) at zero room l none same =
+    let more = lanes_total f xs z (at + 1) 0 (omega arith) (omega arith) (λ k b. absurd (omega arith)) (λ k a b. let e : at + suc k ≡ at + 1 + k = omega arith in same (suc k) (omega arith) (omega arith) ∙ ap (λ n. f (drop n xs)) e) in
+    let here : at + 0 ≡ at = omega arith in
+    let next : at + 1 + 0 ≡ at + 1 = omega arith in
+    let end : at + suc (length z) ≡ at + 1 + length z = omega arith in
+    let first : x ≡ f (drop at xs) = same 0 (omega arith) (omega arith) ∙ ap (λ n. f (drop n xs)) here in
+    omega (arith, more, first, ap (total_from f xs) here, ap (total_from f xs) next, ap (total_from f xs) end, total_next f xs at (omega arith))
+lanes_total f xs (x ∷ z) at (suc skip) room l none same =
+    let more = lanes_total f xs z (at + 1) skip (omega arith) (omega arith) (λ k b. none (suc k) (omega arith)) (λ k a b. let e : at + suc k ≡ at + 1 + k = omega arith in same (suc k) (omega arith) (omega arith) ∙ ap (λ n. f (drop n xs)) e) in
+    let next : at + suc skip ≡ at + 1 + skip = omega arith in
+    let end : at + suc (length z) ≡ at + 1 + length z = omega arith in
+    let first : x ≡ 0 = none 0 (omega arith) in
+    omega (arith, more, first, ap (total_from f xs) next, ap (total_from f xs) end)
 
-  pub beyond_next : sum_over_suffixes extra_bytes (drop i xs) ≡ extra_bytes_by (slice_index xs i) (slice_index xs (i + 1)) + sum_over_suffixes extra_bytes (drop next xs)
-  beyond_next = rw p (total_next extra_bytes xs i l ∙ (λ k. extra_bytes_by (here xs i k) (there xs i 1 k) + sum_over_suffixes extra_bytes (drop (i + 1) xs)))
+-- all lanes are terms
+pub vector_total : (f : List ℕ → ℕ) (xs : List ℕ) (n at next : ℕ) {z : List ℕ} → next ≡ at + n → next ≤ length xs → HasLanes n z (λ k. f (drop (at + k) xs))
+    → sum_l z + sum_over_suffixes f (drop next xs) ≡ sum_over_suffixes f (drop at xs)
+vector_total f xs n at next {z} p room lanes =
+    let end : at + length z ≡ next = omega (arith, lanes.long) in
+    let here : at + 0 ≡ at = omega arith in
+    omega (arith, lanes_total f xs z at 0 (omega (arith, lanes.long)) (omega arith) (λ k l. absurd (omega arith)) (λ k a l. lanes.each k (omega (arith, lanes.long))), ap (total_from f xs) end, ap (total_from f xs) here)
 
-pub bool_byte_most : (b : Bool) → bool_byte b ≤ 1
+-- a lane of a load is a unit of the suffix from an index on
+pub loaded : (xs : List ℕ) (at n j k start : ℕ) → start ≡ at + j → k < n → get_or (chunk start n xs) k 0 ≡ slice_index (drop (at + k) xs) j
+loaded xs at n j k start p l =
+    let e : start + k ≡ at + k + j = omega arith in
+    get_or-chunk start n xs k 0 l ∙ ap (slice_index xs) e ∙ sym (there xs (at + k) j)
+
+pub zeros_total : (n : ℕ) → sum_l (replicate n 0) ≡ 0
+zeros_total zero = refl
+zeros_total (suc n) = omega (arith, zeros_total n)
+
+-- ---- sums of vectors, each lane at most twice as many as there were vectors
+few_more : (n at place a b : ℕ) → a * n + 2 * at ≤ 2 * place → b ≤ 2 → (a + b) * n + 2 * at ≤ 2 * (place + n)
+few_more n at place a b p q = omega (arith, add-mul a b n, mul-le-mul_right n q)
+
+few_fit : (n at place a : ℕ) → 0 < n → place ≤ at + 127 * n → a * n + 2 * at ≤ 2 * place → a < 2 ^ 8
+few_fit n at place a pos room p = elim (cases_lt a 256) [
+  | inl l ↦ l
+  | inr l ↦ absurd (omega (arith, mul-le-mul_right n l))
+]
+
+abbrev pub AreFew : ℕ → ℕ → ℕ → List ℕ → Type 0
+AreFew n at place sums = Each1 (λ a. a * n + 2 * at ≤ 2 * place) sums
+
+module _ (n at place : ℕ) (sums z : List ℕ) (few : AreFew n at place sums) (small : Each1 (λ b. b ≤ 2) z) where
+  pub sums_fit : 0 < n → place + n ≤ at + 127 * n → Each2 (λ a b. Fits w8 (a + b)) sums z
+  sums_fit pos room = Each2-of (λ a. a * n + 2 * at ≤ 2 * place) (λ b. b ≤ 2) (λ a b. Fits w8 (a + b)) (λ a b p q. record { fits = few_fit n at (place + n) (a + b) pos room (few_more n at place a b p q) }) sums z few small
+
+  pub sums_few : Each1 (λ a. a * n + 2 * at ≤ 2 * (place + n)) (zip2 (λ a b. a + b) sums z)
+  sums_few = Each1-zip2 (λ a b. a + b) (λ a. a * n + 2 * at ≤ 2 * (place + n)) sums z (Each2-of (λ a. a * n + 2 * at ≤ 2 * place) (λ b. b ≤ 2) (λ a b. (a + b) * n + 2 * at ≤ 2 * (place + n)) (λ a b p q. few_more n at place a b p q) sums z few small)
+
+pub lanes_few : (f : List ℕ → ℕ) (xs : List ℕ) (n at : ℕ) {z : List ℕ} → ((ys : List ℕ) → f ys ≤ 2) → HasLanes n z (λ k. f (drop (at + k) xs)) → Each1 (λ b. b ≤ 2) z
+lanes_few f xs n at {z} few lanes = Each1-from_get_or (λ b. b ≤ 2) z 0 (λ k l. omega (arith, lanes.each k (omega (arith, lanes.long)), few (drop (at + k) xs)))
+
+-- the sum of all lanes
+pub lanes_fit : (n : ℕ) (z : List ℕ) → length z ≡ n → n ≤ 64 → Each1 (Fits w8) z → sum_l z < 2 ^ 16
+lanes_fit n z long few fit = omega (arith, sum_bound 255 z (bytes_below z fit))
+
+pub total_most : (f : List ℕ → ℕ) → ((ys : List ℕ) → f ys ≤ 2) → (xs : List ℕ) → sum_over_suffixes f xs ≤ 2 * length xs
+unfolding sum_over_suffixes
+total_most f few [] = omega arith
+total_most f few (x ∷ xs) = omega (arith, few (x ∷ xs), total_most f few xs)
+
+bool_byte_most : (b : Bool) → bool_byte b ≤ 1
 bool_byte_most b = grind (arith, nat_tests)
 
--- nothing continues ASCII
-none_joined : (a b c : ℕ) → a < 0xC2 → continuations_by a b c ≡ 0
-none_joined a b c l = grind (arith, nat_tests)
+pub ones_most : (least : ℕ) (xs : List ℕ) → sum_over_suffixes (one_if_at_least least) xs ≤ length xs
+unfolding sum_over_suffixes
+ones_most least [] = omega arith
+ones_most least (x ∷ xs) = omega (arith, bool_byte_most (nat_le least x), ones_most least xs)
 
-pub ascii_joined : (xs : List ℕ) (at n : ℕ) → at + n ≤ length xs → AllBelow 0x80 xs at n → sum_over_suffixes continuations (drop (at + n) xs) ≡ sum_over_suffixes continuations (drop at xs)
-ascii_joined xs at zero l h = let e : at + 0 ≡ at = omega arith in ap (λ k. sum_over_suffixes continuations (drop k xs)) e
-ascii_joined xs at (suc n) l h =
-    let e : at + suc n ≡ (at + 1) + n = omega arith in
-    let more = ascii_joined xs (at + 1) n (omega arith) (λ k from to. h k (omega arith) (omega arith)) in
-    let first : slice_index (drop at xs) 0 < 0xC2 = omega (arith, here xs at, h at (omega arith) (omega arith)) in
-    let none : continuations (drop at xs) ≡ 0 = none_joined (slice_index (drop at xs) 0) (slice_index (drop at xs) 1) (slice_index (drop at xs) 2) first in
-    rw e (omega (arith, more, none, total_next continuations xs at (omega arith)))
+-- ---- the lanes after those that are counted
+bounds_are : BOUNDS ≡ replicate 64 0 ++ replicate 64 2
+bounds_are = refl
+
+pub bound_before : (j : ℕ) → j < 64 → slice_index BOUNDS j ≡ 0
+bound_before j l = ap (λ xs. get_or xs j 0) bounds_are ∙ get_or_append_left (replicate 64 0) (replicate 64 2) 0 j l ∙ get_or-replicate 64 j 0 0 l
+
+pub bound_after : (j : ℕ) → 64 ≤ j → j < 128 → slice_index BOUNDS j ≡ 2
+bound_after j a l = ap (λ xs. get_or xs j 0) bounds_are ∙ get_or-append_right (replicate 64 0) (replicate 64 2) 64 j 0 refl a ∙ get_or-replicate 64 (j - 64) 2 0 (omega arith)
+
+-- a lane that is bounded by zero, or by the greatest term
+pub cut_lane : (x k skip : ℕ) → x ≤ 2 → k < 64 → skip ≤ 64 → cond (ltb x (slice_index BOUNDS (64 - skip + k))) x (slice_index BOUNDS (64 - skip + k)) ≡ cond (ltb k skip) 0 x
+cut_lane x k skip small few l = elim (cases_lt k skip) [
+  | inl a ↦ none_kept x _ (bound_before (64 - skip + k) (omega arith)) ∙ sym (cond-true _ _ _ (lt-ltb k skip a))
+  | inr b ↦ all_kept x _ (bound_after (64 - skip + k) (omega arith) (omega arith)) small ∙ sym (cond-false _ _ _ (le-ltb k skip b))
+]
+  where
+    none_kept : (x y : ℕ) → y ≡ 0 → cond (ltb x y) x y ≡ 0
+    none_kept x y e = grind (arith, nat_tests)
+
+    all_kept : (x y : ℕ) → y ≡ 2 → x ≤ 2 → cond (ltb x y) x y ≡ x
+    all_kept x y e l = grind (arith, nat_tests)
+
+-- the last n lanes before `end`, of which those before `at` are zero
+pub last_total : (f : List ℕ → ℕ) (xs : List ℕ) (n at end : ℕ) → n ≤ end → at ≤ end → end ≤ at + n → end ≤ length xs
+    → {y z : List ℕ} → HasLanes n y (λ k. f (drop (end - n + k) xs)) → HasLanes n z (λ k. cond (ltb k (at - (end - n))) 0 (slice_index y k))
+    → sum_l z + sum_over_suffixes f (drop end xs) ≡ sum_over_suffixes f (drop at xs)
+last_total f xs n at end fits order near room {y} {z} terms lanes =
+    let from = end - n in
+    let skip = at - from in
+    let start : from + skip ≡ at = omega arith in
+    let stop : from + length z ≡ end = omega (arith, lanes.long) in
+    let total = lanes_total f xs z from skip (omega (arith, lanes.long)) (omega (arith, lanes.long))
+    (λ k l. lanes.each k (omega arith) ∙ cond-true _ _ _ (lt-ltb k skip l))
+    (λ k a l. lanes.each k (omega (arith, lanes.long)) ∙ cond-false _ _ _ (le-ltb k skip a) ∙ terms.each k (omega (arith, lanes.long))) in
+    omega (arith, total, ap (total_from f xs) start, ap (total_from f xs) stop)
+
+-- ---- ASCII has no terms
+skipped : (f : List ℕ → ℕ) (xs : List ℕ) → ((ys : List ℕ) → slice_index ys 0 < 0x80 → f ys ≡ 0) → (n at : ℕ) → at + n ≤ length xs
+    → ((k : ℕ) → at ≤ k → k < at + n → slice_index xs k < 0x80) → sum_over_suffixes f (drop (at + n) xs) ≡ sum_over_suffixes f (drop at xs)
+skipped f xs zeros zero at l h = let e : at + 0 ≡ at = omega arith in ap (total_from f xs) e
+skipped f xs zeros (suc n) at l h =
+    let e : at + suc n ≡ at + 1 + n = omega arith in
+    let more = skipped f xs zeros n (at + 1) (omega arith) (λ k from to. h k (omega arith) (omega arith)) in
+    let none = zeros (drop at xs) (omega (arith, here xs at, h at (omega arith) (omega arith))) in
+    omega (arith, ap (total_from f xs) e, more, none, total_next f xs at (omega arith))
+
+pub skipped_to : (f : List ℕ → ℕ) (xs : List ℕ) → ((ys : List ℕ) → slice_index ys 0 < 0x80 → f ys ≡ 0) → (from to : ℕ) → from ≤ to → to ≤ length xs
+    → ((k : ℕ) → from ≤ k → k < to → slice_index xs k < 0x80) → sum_over_suffixes f (drop to xs) ≡ sum_over_suffixes f (drop from xs)
+skipped_to f xs zeros from to order room h =
+    let e : from + (to - from) ≡ to = omega arith in
+    sym (ap (total_from f xs) e) ∙ skipped f xs zeros (to - from) from (omega arith) (λ k a b. h k a (omega arith))
+
+continued_by : (a b c : ℕ) → a < 0x80 → continuations_by a b c ≡ 0
+continued_by a b c l = grind (arith, nat_tests)
+
+pub ascii_joined : (ys : List ℕ) → slice_index ys 0 < 0x80 → continuations ys ≡ 0
+ascii_joined ys l = continued_by (slice_index ys 0) (slice_index ys 1) (slice_index ys 2) l
+
+extended_by : (u v : ℕ) → u < 0x80 → extra_bytes_by u v ≡ 0
+extended_by u v l = grind (arith, nat_tests)
+
+pub ascii_beyond : (us : List ℕ) → slice_index us 0 < 0x80 → extra_bytes us ≡ 0
+ascii_beyond us l = extended_by (slice_index us 0) (slice_index us 1) l
+
+-- ---- the terms of an index
+pub term_from : (least : ℕ) (xs : List ℕ) (i : ℕ) → one_if_at_least least (drop i xs) ≡ bool_byte (nat_le least (slice_index xs i))
+term_from least xs i = ap (λ b. bool_byte (nat_le least b)) (here xs i)
+
+pub term_joined : (xs : List ℕ) (i : ℕ) → continuations (drop i xs) ≡ continuations_by (slice_index xs i) (slice_index xs (i + 1)) (slice_index xs (i + 2))
+term_joined xs i = λ k. continuations_by (here xs i k) (there xs i 1 k) (there xs i 2 k)
+
+pub term_beyond : (xs : List ℕ) (i : ℕ) → extra_bytes (drop i xs) ≡ extra_bytes_by (slice_index xs i) (slice_index xs (i + 1))
+term_beyond xs i = λ k. extra_bytes_by (here xs i k) (there xs i 1 k)
+
+-- a sum fits
+pub total_fits : (f : List ℕ → ℕ) → ((ys : List ℕ) → f ys ≤ 2) → (xs : List ℕ) (i : ℕ) → length xs < 2 ^ 63 → sum_over_suffixes f (drop i xs) < 2 ^ 64
+total_fits f few xs i l = omega (arith, total_most f few (drop i xs), length-drop i xs)

@@ -1,6 +1,8 @@
 -- The length of a text in another encoding, as a sum over its indices, each term decided by the unit there and those
 -- after it.
-use Rattle.std.specs.Prelude.{ℕ, ◌+◌, Bool, ◌&&◌, if◌then◌else◌, nat_le, List, [], ◌∷◌, slice_index}
+use Rattle.std.specs.Prelude.{ℕ, ◌+◌, Bool, true, false, ◌&&◌, ◌-◌, ◌≤◌, if◌then◌else◌, nat_le, List, [], ◌∷◌, slice_index}
+use Rattle.std.proofs.Common.{lit≤}
+use Rattle.std.proofs.Math.Nat.{sub-le}
 use mir.Val.{bool_byte}
 use Rattle.std.specs.Str.Lossy.{second_byte_min, second_byte_max}
 
@@ -41,3 +43,31 @@ extra_bytes_by u v = if is_surrogate_pair u v then 0 else (if nat_le 0x800 u the
 -- the same for the first code unit
 abbrev pub extra_bytes : List ℕ → ℕ
 extra_bytes us = extra_bytes_by (slice_index us 0) (slice_index us 1)
+
+-- not more than all
+pub fewer : (n m : ℕ) → n - m ≤ n
+fewer n m = sub-le n m
+
+-- no term is greater than 2
+pub one_few : (least : ℕ) (xs : List ℕ) → one_if_at_least least xs ≤ 2
+one_few least xs = elim (nat_le least (slice_index xs 0)) as (λ b. bool_byte b ≤ 2) [ true ↦ lit≤ tt | false ↦ lit≤ tt ]
+
+pub continuations_few : (bs : List ℕ) → continuations bs ≤ 2
+continuations_few bs = two_of (goes_second (slice_index bs 0) (slice_index bs 1)) (goes_third (slice_index bs 0) (slice_index bs 2))
+  where
+    two_of : (p q : Bool) → (if p then (if q then 2 else 1) else 0) ≤ 2
+    two_of true true = lit≤ tt
+    two_of true false = lit≤ tt
+    two_of false q = lit≤ tt
+
+pub extra_bytes_by_few : (u v : ℕ) → extra_bytes_by u v ≤ 2
+extra_bytes_by_few u v = two_of (is_surrogate_pair u v) (nat_le 0x800 u) (nat_le 0x80 u)
+  where
+    two_of : (p q r : Bool) → (if p then 0 else (if q then 2 else (if r then 1 else 0))) ≤ 2
+    two_of true q r = lit≤ tt
+    two_of false true r = lit≤ tt
+    two_of false false true = lit≤ tt
+    two_of false false false = lit≤ tt
+
+pub extra_bytes_few : (us : List ℕ) → extra_bytes us ≤ 2
+extra_bytes_few us = extra_bytes_by_few (slice_index us 0) (slice_index us 1)

@@ -5,7 +5,6 @@
 pub mod ascii;
 pub mod bidi;
 pub mod latin1;
-pub mod lengths;
 pub mod scalar;
 pub mod simd;
 pub mod utf16;

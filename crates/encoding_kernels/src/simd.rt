@@ -4,4 +4,5 @@ pub mod bounds;
 pub(crate) mod compress_pairs;
 pub mod copy;
 pub(crate) mod scan;
+pub(crate) mod sum;
 pub mod width;

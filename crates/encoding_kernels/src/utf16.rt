@@ -1,3 +1,4 @@
 //! UTF-16 by itself.
 
+pub mod length;
 pub mod validate;

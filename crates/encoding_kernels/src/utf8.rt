@@ -1,4 +1,5 @@
 //! UTF-8 by itself.
 
+pub mod length;
 mod lookup;
 pub mod validate;

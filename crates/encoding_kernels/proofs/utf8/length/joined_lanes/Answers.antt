@@ -1,0 +1,23 @@
+use Rattle.std.proofs.Common.{◌+◌, ◌%◌, ◌^◌, eqb, leb, ltb, not, slice_index, w8}
+use Rattle.encoding_kernels.proofs.LaneLemmas.{HasLanes-itself, HasLanes-same, HasLanes-splat, HasLanes-zip2}
+use Rattle.encoding_kernels.proofs.TestLemmas.{chosen, tests_and, tests_of}
+use Rattle.encoding_kernels.proofs.LaneSumLemmas.{joined_lane}
+use Rattle.encoding_kernels.proofs.utf8.length.joined_lanes.Goals as goal
+
+pub returns : goal.returns
+returns g c =
+    let n = g.row.N in
+    let a = HasLanes-itself n c.args.lead c.fits-lead.0 in
+    let b = HasLanes-itself n c.args.second c.fits-second.0 in
+    let d = HasLanes-itself n c.args.third c.fits-third.0 in
+    let three = chosen 0xE0 0xED (tests_of w8 ltb b (HasLanes-splat n 0xA0)) in
+    let four = chosen 0xF0 0xF4 (tests_of w8 ltb b (HasLanes-splat n 0x90)) in
+    let least = tests_of w8 leb (HasLanes-splat n 0xC2) a in
+    let most = tests_of w8 leb a (HasLanes-splat n 0xF4) in
+    let not_three = tests_of w8 (λ x y. not (eqb x y)) a three in
+    let not_four = tests_of w8 (λ x y. not (eqb x y)) a four in
+    let begins = tests_and (tests_and (tests_and least most) not_three) not_four in
+    let both = tests_and (tests_and begins (tests_of w8 leb (HasLanes-splat n 0x80) b)) (tests_of w8 ltb b (HasLanes-splat n 0xC0)) in
+    let long = tests_of w8 leb (HasLanes-splat n 0xE0) a in
+    let goes_on = tests_and (tests_and (tests_and both long) (tests_of w8 leb (HasLanes-splat n 0x80) d)) (tests_of w8 ltb d (HasLanes-splat n 0xC0)) in
+    HasLanes-same (HasLanes-zip2 (λ x y. (x + y) % 2 ^ 8) (chosen 1 0 both) (chosen 1 0 goes_on)) (λ k l. joined_lane (slice_index c.args.lead k) (slice_index c.args.second k) (slice_index c.args.third k))

@@ -1,0 +1,196 @@
+//! Sums over the indices of a text: the term of each is decided by the unit there and those after it, and vectors
+//! compute the terms of many indices at a time.
+ghost use Rattle.std.specs.Prelude.{◌≡◌, ℕ, ◌+◌, ◌*◌, ◌^◌, ◌<◌, ◌≤◌, List, length, drop, slice_index, nat_lt, if◌then◌else◌};
+ghost use Rattle.std.specs.Simd.Lanes.{sum_l};
+ghost use Rattle.encoding_kernels.specs.Vectors.{HasLanes};
+ghost use Rattle.encoding_kernels.specs.Lengths.{sum_over_suffixes};
+
+use std::simd::Simd;
+use std::simd::prelude::*;
+
+/// Bounds of the lanes of a vector whose last ones count, read from an index on: the greatest term there, else zero.
+const BOUNDS: [u8; 128] = [
+    0, 0, 0, 0, 0, 0, 0, 0, 0, 0, 0, 0, 0, 0, 0, 0, 0, 0, 0, 0, 0, 0, 0, 0, 0, 0, 0, 0, 0, 0, 0, 0,
+    0, 0, 0, 0, 0, 0, 0, 0, 0, 0, 0, 0, 0, 0, 0, 0, 0, 0, 0, 0, 0, 0, 0, 0, 0, 0, 0, 0, 0, 0, 0, 0,
+    2, 2, 2, 2, 2, 2, 2, 2, 2, 2, 2, 2, 2, 2, 2, 2, 2, 2, 2, 2, 2, 2, 2, 2, 2, 2, 2, 2, 2, 2, 2, 2,
+    2, 2, 2, 2, 2, 2, 2, 2, 2, 2, 2, 2, 2, 2, 2, 2, 2, 2, 2, 2, 2, 2, 2, 2, 2, 2, 2, 2, 2, 2, 2, 2,
+];
+
+/// A term, at most 2, for each index of a text.
+pub(crate) trait Terms<const N: usize> {
+    ghost text: { Self → List ℕ };
+
+    ghost term: { Self → List ℕ → ℕ };
+
+    ghost whole: { Self → ℕ };
+
+    /// Returns the length of the text.
+    fn len(&self) -> usize
+        ensures { result ≡ length (text self.now) };
+
+    /// Returns the end of the indices whose terms vectors compute. After it, a term needs units past the last.
+    fn end(&self) -> usize
+        ensures { (result ≡ whole self.now) × (length (text self.now) < 2 ^ 63) };
+
+    /// Returns the terms of the N indices from `at` on.
+    fn terms(&self, at: usize) -> Simd<u8, N>
+        requires { (0 < N) × (at + N ≤ whole self.now) }
+        ensures { HasLanes N result (λ k. term self.now (drop (at + k) (text self.now))) };
+
+    /// Returns the term of an index.
+    fn term_at(&self, at: usize) -> usize
+        requires { at < length (text self.now) }
+        ensures { result ≡ term self.now (drop at (text self.now)) };
+
+    /// Skips, from `at` on and no farther than `end`, indices whose terms are zero.
+    fn skip(&self, at: usize, end: usize) -> usize
+        requires { (at ≤ end) × (end ≤ whole self.now) }
+        ensures within { (at ≤ result) × (result ≤ end) }
+        ensures zeros { sum_over_suffixes (term self.now) (drop result (text self.now)) ≡ sum_over_suffixes (term self.now) (drop at (text self.now)) };
+
+    ghost inside: { (s : Self) → whole s ≤ length (text s) };
+
+    ghost few: { (s : Self) (xs : List ℕ) → term s xs ≤ 2 };
+}
+
+/// Returns the sum of the lanes of a vector.
+#[inline(always)]
+fn sum_of_lanes<const N: usize>(lanes: Simd<u8, N>) -> usize
+    requires { N ≤ 64 }
+    ensures { result ≡ sum_l lanes.entry }
+{
+    usize::from(lanes.cast::<u16>().strict_reduce_sum())
+}
+
+/// Returns the sum over the indices from `at` on, as far before `stop` as whole vectors go, and the index after them.
+#[inline(always)]
+fn sum_of_vectors<const N: usize, T: Terms<N>>(terms: &T, at: usize, stop: usize) -> (usize, usize)
+    requires lanes { (0 < N) × (N ≤ 64) }
+    requires within { (at + N ≤ stop) × (stop ≤ at + 127 * N) × (stop ≤ T.whole terms.now) }
+    ensures place { (at < result.1) × (result.1 ≤ stop) }
+    ensures sum { result.0 + sum_over_suffixes (T.term terms.now) (drop result.1 (T.text terms.now)) ≡ sum_over_suffixes (T.term terms.now) (drop at (T.text terms.now)) }
+{
+    let mut sums = Simd::<u8, N>::splat(0);
+    let mut place = at;
+    while place <= stop - N {
+        sums = sums.strict_add(terms.terms(place));
+        place += N;
+    }
+    (sum_of_lanes(sums), place)
+}
+
+/// Returns the N bytes from `at` on.
+#[inline(always)]
+fn load<const N: usize>(bytes: &[u8], at: usize) -> Simd<u8, N>
+    requires { at + N ≤ length bytes.now }
+    ensures { HasLanes N result (λ k. slice_index bytes.now (at + k)) }
+{
+    Simd::from_slice(&bytes[at..])
+}
+
+/// Returns the vector with zero in its first `skip` lanes.
+#[inline(always)]
+fn clear_first<const N: usize>(lanes: Simd<u8, N>, skip: usize) -> Simd<u8, N>
+    requires within { (skip ≤ N) × (N ≤ 64) }
+    requires few { (k : ℕ) → k < N → slice_index lanes k ≤ 2 }
+    ensures { HasLanes N result (λ k. if nat_lt k skip then 0 else slice_index lanes.entry k) }
+{
+    lanes.simd_min(load::<N>(&BOUNDS, 64 - skip))
+}
+
+/// Returns the sum over the last indices before `end`, from `at` on. They are fewer than N, and the vector that ends
+/// there has lanes before them, which don't count.
+#[inline(always)]
+fn sum_of_last<const N: usize, T: Terms<N>>(terms: &T, at: usize, end: usize) -> usize
+    requires lanes { (0 < N) × (N ≤ 64) }
+    requires within { (N ≤ end) × (at ≤ end) × (end < at + N) × (end ≤ T.whole terms.now) }
+    ensures { result + sum_over_suffixes (T.term terms.now) (drop end (T.text terms.now)) ≡ sum_over_suffixes (T.term terms.now) (drop at (T.text terms.now)) }
+{
+    let from = end - N;
+    sum_of_lanes(clear_first(terms.terms(from), at - from))
+}
+
+/// Returns the sum over the indices from `from` to `end` by vectors of N lanes, which are summed after each SPAN indices.
+#[inline(always)]
+fn sum_by<const N: usize, const SPAN: usize, T: Terms<N>>(
+    terms: &T,
+    from: usize,
+    end: usize,
+) -> usize
+    requires lanes { (0 < N) × (N ≤ 64) × (N ≤ SPAN) × (SPAN ≤ 127 * N) }
+    requires within { (from ≤ end) × (N ≤ end) × (end ≤ T.whole terms.now) }
+    requires few { sum_over_suffixes (T.term terms.now) (drop from (T.text terms.now)) < 2 ^ 64 }
+    ensures { result + sum_over_suffixes (T.term terms.now) (drop end (T.text terms.now)) ≡ sum_over_suffixes (T.term terms.now) (drop from (T.text terms.now)) }
+{
+    let mut sum = 0;
+    let mut at = from;
+    while end - at >= N {
+        let stop = at + (end - at).min(SPAN);
+        let (part, next) = sum_of_vectors::<N, T>(terms, at, stop);
+        sum += part;
+        at = terms.skip(next, end);
+    }
+    if at == end {
+        return sum;
+    }
+    sum + sum_of_last::<N, T>(terms, at, end)
+}
+
+/// Returns the sum over the indices from `from` on, one by one.
+#[inline(always)]
+fn sum_singly<const N: usize, T: Terms<N>>(terms: &T, from: usize) -> usize
+    requires within { from ≤ length (T.text terms.now) }
+    requires few { sum_over_suffixes (T.term terms.now) (drop from (T.text terms.now)) < 2 ^ 64 }
+    ensures { result ≡ sum_over_suffixes (T.term terms.now) (drop from (T.text terms.now)) }
+{
+    let len = terms.len();
+    let mut sum = 0;
+    let mut at = from;
+    while at < len {
+        sum += terms.term_at(at);
+        at += 1;
+    }
+    sum
+}
+
+/// Returns the sum over the indices from `from` to `end` by vectors of N lanes, or of M if there are fewer indices.
+/// `short` has the same terms.
+#[inline(always)]
+fn sum_to<const N: usize, const M: usize, const SPAN: usize, T: Terms<N>, S: Terms<M>>(
+    terms: &T,
+    short: &S,
+    from: usize,
+    end: usize,
+) -> usize
+    requires lanes { (0 < M) × (M ≤ N) × (N ≤ 64) × (N ≤ SPAN) × (SPAN ≤ 127 * M) }
+    requires same { (S.text short.now ≡ T.text terms.now) × (S.term short.now ≡ T.term terms.now) × (S.whole short.now ≡ T.whole terms.now) }
+    requires within { (from ≤ end) × (M ≤ end) × (end ≤ T.whole terms.now) }
+    requires few { sum_over_suffixes (T.term terms.now) (drop from (T.text terms.now)) < 2 ^ 64 }
+    ensures { result + sum_over_suffixes (T.term terms.now) (drop end (T.text terms.now)) ≡ sum_over_suffixes (T.term terms.now) (drop from (T.text terms.now)) }
+{
+    if end < N {
+        sum_by::<M, SPAN, S>(short, from, end)
+    } else {
+        sum_by::<N, SPAN, T>(terms, from, end)
+    }
+}
+
+/// Returns the sum over the indices from `from` on, by vectors of N lanes, or of M if the text is shorter than that.
+/// `short` has the same terms.
+#[inline(always)]
+pub(crate) fn sum_from<const N: usize, const M: usize, const SPAN: usize, T: Terms<N>, S: Terms<M>>(
+    terms: &T,
+    short: &S,
+    from: usize,
+) -> usize
+    requires lanes { (0 < M) × (M ≤ N) × (N ≤ 64) × (N ≤ SPAN) × (SPAN ≤ 127 * M) }
+    requires same { (S.text short.now ≡ T.text terms.now) × (S.term short.now ≡ T.term terms.now) × (S.whole short.now ≡ T.whole terms.now) }
+    requires within { from ≤ length (T.text terms.now) }
+    ensures { result ≡ sum_over_suffixes (T.term terms.now) (drop from (T.text terms.now)) }
+{
+    let end = terms.end();
+    if end < M || from >= end {
+        return sum_singly::<N, T>(terms, from);
+    }
+    sum_to::<N, M, SPAN, T, S>(terms, short, from, end) + sum_singly::<N, T>(terms, end)
+}
