@@ -15,15 +15,12 @@ use encoding_kernels::simd::bounds::{
 };
 use encoding_kernels::simd::copy::unpack;
 use encoding_kernels::simd::width::{
-    ASCII_END, BASIC_LATIN_END, BLOCK, FOUR, FOUR_BLOCKS, SIXTEEN, STRIDE, UNIT_BLOCK,
+    ASCII_END, BASIC_LATIN_END, BLOCK, FOUR, FOUR_BLOCKS, HALF_BLOCK, SIXTEEN, STRIDE, UNIT_BLOCK,
 };
 use std::simd::prelude::*;
 
 /// The bits that no ASCII byte has: each of the eight bytes is 0x80.
 pub const ASCII_MASK: usize = 0x8080_8080_8080_8080;
-
-/// The number of bytes in half a block.
-const HALF_BLOCK: usize = 32;
 
 /// The byte that begins an escape sequence.
 const ESCAPE: u8 = 0x1B;

@@ -3,6 +3,12 @@
 /// The number of bytes in a block.
 pub const BLOCK: usize = 64;
 
+/// The number of bytes in half a block, a vector of AVX2.
+pub const HALF_BLOCK: usize = 32;
+
+/// The number of bytes in two blocks.
+pub const TWO_BLOCKS: usize = 128;
+
 /// The number of bytes in four blocks.
 pub const FOUR_BLOCKS: usize = 256;
 

@@ -8,7 +8,7 @@ ghost use Rattle.encoding_kernels.specs.Bounds.{BelowUpTo};
 use crate::scalar::sequence::is_lead_with_continuation;
 use crate::simd::bounds::BytesBelow;
 use crate::simd::scan::all;
-use crate::simd::width::{ASCII_END, BLOCK, FOUR_BLOCKS};
+use crate::simd::width::{ASCII_END, BLOCK, FOUR_BLOCKS, HALF_BLOCK, TWO_BLOCKS};
 use crate::utf8::lookup::{faults, faults_32, first_faults, first_faults_32, is_zero, zeros};
 
 /// Returns how many of the 64 bytes from `at` on precede the first that may not follow the three before it.
@@ -106,6 +106,9 @@ fn back(src: &[u8], at: usize) -> usize
 
 /// Returns whether the 256 bytes from `at` on are ASCII. After a shorter run, text of other characters would come back
 /// to the blocks too soon.
+///
+/// A vector has no more lanes than those of the look-ups: the compiler would take the loads of these, which begin up to
+/// three bytes earlier, out of a longer vector byte by byte.
 #[inline(always)]
 fn are_256_ascii(src: &[u8], at: usize) -> bool
     requires { (at + 256 ≤ length src.now) × (at + 256 < 18446744073709551616) }
@@ -114,7 +117,8 @@ fn are_256_ascii(src: &[u8], at: usize) -> bool
         bytes: src,
         bound: ASCII_END,
     };
-    all::<BLOCK, FOUR_BLOCKS, _>(&ascii, at)
+    all::<HALF_BLOCK, TWO_BLOCKS, _>(&ascii, at)
+        & all::<HALF_BLOCK, TWO_BLOCKS, _>(&ascii, at + TWO_BLOCKS)
 }
 
 /// Extends a prefix of `from` bytes that may each follow those before it, 64 at a time, and returns its length. The
