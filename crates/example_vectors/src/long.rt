@@ -27,7 +27,7 @@ const TEXT: &str = "a\u{2603}b\u{FFFD}c\u{1F4A9}";
 /// The UTF-16 of that.
 const UNITS: [u16; 7] = [0x61, 0x2603, 0x62, 0xFFFD, 0x63, 0xD83D, 0xDCA9];
 
-/// The same code units, each U+FFFD replaced by an unpaired surrogate.
+/// These code units with an unpaired surrogate in place of each U+FFFD.
 const UNPAIRED: [u16; 7] = [0x61, 0x2603, 0x62, 0xD83D, 0x63, 0xD83D, 0xDCA9];
 
 /// Returns the copies of some bytes.

@@ -134,7 +134,7 @@ fn counts_reads_to_utf8(rt: HostRuntime) {
     assert!(rt; UTF8_ROWS.len() == 12);
 }
 
-/// The same. An answer is a count of code units.
+/// Rows as in `UTF8_ROWS`, of a reader of code units: an answer is their count.
 const UTF16_ROWS: [(&[u8], usize, Option<ErrorKind>, usize, &[(usize, usize)]); 9] = [
     (b"", 1, None, 8, &[(1, 0), (2, 0), (3, 0)]),
     (b"ab", 2, None, 8, &[(1, 2), (2, 0), (3, 0)]),
@@ -159,7 +159,7 @@ const UTF16_ROWS: [(&[u8], usize, Option<ErrorKind>, usize, &[(usize, usize)]); 
     ),
 ];
 
-/// The same for code units.
+/// Returns how many reads were made in some calls into a destination of code units, and the answer of the last call.
 fn utf16_answer(
     bytes: &[u8],
     step: usize,
