@@ -4,22 +4,24 @@
 use encoding_text::mem::{CowBytes, CowStr, decode_latin1, encode_latin1_lossy, is_str_latin1};
 use std::alloc::Global;
 
-/// Returns whether the bytes are decoded to a text and the text is encoded to the bytes. If they are ASCII, both results
-/// are borrowed, which takes no memory. Otherwise both are owned, and take one request each.
-fn goes_there_and_back(alloc: Global, bytes: &[u8]) -> bool {
-    let Ok(decoded) = decode_latin1(alloc, bytes) else {
-        return false;
-    };
-    let (text, borrowed) = match &decoded {
-        CowStr::Borrowed(text) => (*text, true),
-        CowStr::Owned(text) => (text.as_str(), false),
-    };
-    if borrowed != bytes.is_ascii() || !is_str_latin1(text) {
+/// Returns whether a text is encoded to the bytes. If they are ASCII, the text and the result are borrowed.
+fn goes_back(alloc: Global, text: &str, is_borrowed: bool, bytes: &[u8]) -> bool {
+    if is_borrowed != bytes.is_ascii() || !is_str_latin1(text) {
         return false;
     }
     match encode_latin1_lossy(alloc, text) {
-        Ok(CowBytes::Borrowed(encoded)) => borrowed && encoded == bytes,
-        Ok(CowBytes::Owned(encoded)) => !borrowed && encoded.as_slice() == bytes,
+        Ok(CowBytes::Borrowed(encoded)) => is_borrowed && encoded == bytes,
+        Ok(CowBytes::Owned(encoded)) => !is_borrowed && encoded.as_slice() == bytes,
+        Err(_) => false,
+    }
+}
+
+/// Returns whether the bytes are decoded to a text and the text is encoded to the bytes. If they are ASCII, both results
+/// are borrowed, which takes no memory. Otherwise both are owned, and take one request each.
+fn goes_there_and_back(alloc: Global, bytes: &[u8]) -> bool {
+    match decode_latin1(alloc, bytes) {
+        Ok(CowStr::Borrowed(text)) => goes_back(alloc, text, true, bytes),
+        Ok(CowStr::Owned(text)) => goes_back(alloc, text.as_str(), false, bytes),
         Err(_) => false,
     }
 }
