@@ -1,56 +1,89 @@
-"""Prints Markdown tables from the output of several runs of `bench simdutf`; the best throughput counts:
-python3 beside.py V2.tsv... -- V3.tsv..., ours built for x86-64-v2 and for x86-64-v3. A cell has the ratios of both to
-the kernel of the same width, bold if one is below the goal. After the tables these cells are listed again."""
+"""Prints Markdown tables from the output of several runs of the benchmark's `simdutf`; the best throughput counts:
+python3 beside.py PEER MACHINE ROUNDS PASSES V2.tsv... -- V3.tsv... [--write], ours built for x86-64-v2 and for
+x86-64-v3. A cell has the ratios of both to the kernel of the same width, bold if one is below the goal. The row under it
+has the ratio of ours for x86-64-v3 to simdutf's own choice. Standard error lists the cells below the goal."""
 import sys
+
+import page
 
 GOALS = {64: 0.95, 4096: 1.0, 1048576: 1.0}
 SIZES = {64: "64 bytes", 4096: "4 KiB", 1048576: "1 MiB"}
 
 
 def best_of(names):
-    """Returns the best throughputs of ours and of simdutf, by row, kind and size."""
+    """Returns the best throughputs of ours, of the kernel and of the choice, by row, kind and size."""
     best = {}
     for name in names:
         for line in list(open(name))[1:]:
-            row, kind, size, ours, theirs = line.rstrip("\n").split("\t")
-            before = best.get((row, kind, int(size)), (0, 0))
-            best[row, kind, int(size)] = max(before[0], float(ours)), max(before[1], float(theirs))
+            row, kind, size, *speeds = line.rstrip("\n").split("\t")
+            before = best.get((row, kind, int(size)), (0, 0, 0))
+            best[row, kind, int(size)] = tuple(max(pair) for pair in zip(before, map(float, speeds)))
     return best
 
 
 def spread(files):
-    """Prints how much the ratios of a cell differ between the runs of one build."""
-    runs = [{place: ours / theirs for place, (ours, theirs) in best_of([name]).items()} for name in files]
-    if len(runs) > 1:
-        apart = sorted(max(run[place] for run in runs) / min(run[place] for run in runs) - 1 for place in runs[0])
-        half, most = (apart[len(apart) * share // 10] for share in (5, 9))
-        print(f"Between rounds half of the ratios lie within {half:.2f} of themselves, nine in ten within {most:.2f}.")
+    """Returns how much the ratios of half of the cells, and of nine in ten, differ between the runs of one build."""
+    runs = [{cell: speeds[0] / speeds[1] for cell, speeds in best_of([name]).items()} for name in files]
+    apart = sorted(max(run[cell] for run in runs) / min(run[cell] for run in runs) - 1 for cell in runs[0])
+    return [f"{apart[len(apart) * share // 10]:.2f}" for share in (5, 9)]
+
+
+def method(files):
+    """Returns how it was measured."""
+    peer, machine, rounds, passes = sys.argv[1:5]
+    processor, load = machine.split("\n")
+    kernels = [open(names[0]).readline().rstrip("\n").split("\t") for names in files]
+    yield f"Measured on one core of {processor} ({load}) next to {peer}, whose own choice is `{kernels[1][5]}`."
+    if kernels[1][4] == kernels[1][5]:
+        yield "This processor lacks instructions that simdutf's kernel of AVX-512 takes, so that one is not measured here."
+    yield f"The best of {rounds} rounds of {passes} passes counts."
+    if rounds != "1":
+        (half2, most2), (half3, most3) = map(spread, files)
+        yield f"Between rounds, half of the ratios agree within {half2} for `x86-64-v2` and {half3} for `x86-64-v3`,"
+        yield f"nine in ten within {most2} and {most3}."
+
+
+def quantiles(best, size):
+    """Returns how the ratios to simdutf's choice are distributed."""
+    ratios = sorted(ours / own for (_, _, other), (ours, _, own) in best.items() if other == size)
+    tenth, half, most = (f"{ratios[len(ratios) * share // 10]:.2f}" for share in (1, 5, 9))
+    yield f"Ratios to simdutf's choice: a tenth of them is below {tenth}, half below {half}, a tenth above {most}."
+
+
+def cell(widths, place):
+    """Returns the ratios to the kernels, bold below the goal, and the ratio to simdutf's choice."""
+    if place not in widths[0]:
+        return "", ""
+    ratios = [round(best[place][0] / best[place][1], 2) for best in widths]
+    words = " ".join(f"{ratio:.2f}" for ratio in ratios)
+    if min(ratios) < GOALS[place[2]]:
+        print(*place, words, sep="\t", file=sys.stderr)
+        words = f"**{words}**"
+    ours, _, own = widths[1][place]
+    return words, f"{ours / own:.2f}"
+
+
+def table(widths, size):
+    """Returns the lines of the table of a size."""
+    rows = dict.fromkeys(row for row, _, _ in widths[0])
+    kinds = dict.fromkeys(kind for _, kind, _ in widths[0])
+    yield f"\n{SIZES[size]}:\n\n| Call | {' | '.join(kinds)} |\n|{'---|' * (len(kinds) + 1)}"
+    for row in rows:
+        cells = [cell(widths, (row, kind, size)) for kind in kinds]
+        name, *rest = row.split(",")
+        yield f"| `{name}`{','.join(['', *rest])} | {' | '.join(words for words, _ in cells)} |"
+        yield f"| – simdutf's choice | {' | '.join(own for _, own in cells)} |"
+    yield ""
+    yield from quantiles(widths[1], size)
 
 
 def main():
-    cut = sys.argv.index("--")
-    widths = best_of(sys.argv[1:cut]), best_of(sys.argv[cut + 1:])
-    rows = list(dict.fromkeys(row for row, _, _ in widths[0]))
-    kinds = list(dict.fromkeys(kind for _, kind, _ in widths[0]))
-    below = []
-    spread(sys.argv[1:cut])
-    spread(sys.argv[cut + 1:])
-    for size, words in SIZES.items():
-        print(f"\n{words}:\n\n| Call | {' | '.join(kinds)} |\n|{'---|' * (len(kinds) + 1)}")
-        for row in rows:
-            cells = []
-            for kind in kinds:
-                if (row, kind, size) not in widths[0]:
-                    cells.append("")
-                    continue
-                ratios = [best[row, kind, size][0] / best[row, kind, size][1] for best in widths]
-                cell = " ".join(f"{ratio:.2f}" for ratio in ratios)
-                if round(min(ratios), 2) < GOALS[size]:
-                    below.append(f"{row}, {kind}, {words}: {cell}")
-                    cell = f"**{cell}**"
-                cells.append(cell)
-            print(f"| `{row}` | {' | '.join(cells)} |")
-    print(f"\nBelow the goal: {len(below)}\n", *below, sep="\n")
+    names = [name for name in sys.argv if name != "--write"]
+    cut = names.index("--")
+    files = names[5:cut], names[cut + 1:]
+    widths = [best_of(names) for names in files]
+    lines = [*method(files), *(line for size in SIZES for line in table(widths, size))]
+    page.put("bench/beside", "\n".join(lines) + "\n")
 
 
 main()

@@ -1,6 +1,8 @@
-"""Prints the Markdown table of 1 MiB in docs/PERFORMANCE.md from the output of bench/table: python3 large.py. A dash
-means that the call ends at the first bytes."""
+"""Prints the Markdown table of 1 MiB in docs/PERFORMANCE.md from the output of bench/table, or writes it there: python3
+large.py [--write]. A dash means that the call ends at the first bytes."""
 import pathlib
+
+import page
 
 CALLS = [
     "validate_ascii", "ascii_to_basic_latin", "basic_latin_to_ascii", "utf8_valid_up_to", "utf8_latin1_up_to",
@@ -10,7 +12,8 @@ CALLS = [
 ]  # fmt: skip
 
 
-def main():
+def table():
+    """Returns the lines of the table."""
     cells, kinds = {}, {}
     values = pathlib.Path(__file__).parent.parent / "build" / "bench.tsv"
     for line in values.read_text().splitlines()[1:]:
@@ -19,10 +22,11 @@ def main():
         if size == "1048576" and float(ours) < 250:
             ratio = f"{float(ratio):.2f}" if float(ratio) < 0.995 else f"{float(ratio):.1f}"
             cells[row, kind] = f"{ratio} ({float(ours):.1f})"
-    print(f"| Call | {' | '.join(kinds)} |\n|{'---|' * (len(kinds) + 1)}")
+    yield f"| Call | {' | '.join(kinds)} |\n|{'---|' * (len(kinds) + 1)}"
     for call in CALLS:
         name, *rest = call.split(",")
-        print(f"| `{name}`{','.join([''] + rest)} | {' | '.join(cells.get((call, kind), '–') for kind in kinds)} |")
+        yield f"| `{name}`{','.join([''] + rest)} | {' | '.join(cells.get((call, kind), '–') for kind in kinds)} |"
 
 
-main()
+if __name__ == "__main__":
+    page.put("bench/large.py", "\n".join(table()) + "\n")

@@ -10,11 +10,35 @@ CYRILLIC = [chr(c) for c in range(0x430, 0x450)]
 EMOJI = [chr(c) for c in range(0x1F600, 0x1F650)]
 CJK = [chr(c) for c in range(0x4E00, 0x9E00)]
 MARKS = ["\u2019", "\u201C", "\u201D", "\u2014", "\u2026"]
+GREEK = [chr(c) for c in range(0x3AC, 0x3CF)]
+KOREAN = [chr(c) for c in range(0xAC00, 0xD7A4)]
+
+
+def words(letters, length):
+    """Returns words of seven letters, the same ones on each run."""
+    return "".join(letters[k * k * 7 % 31] if k % 8 else " " for k in range(length))
+
+
 ELEMENTS = [
-    f"<{tag}>{''.join(letters[k * k * 7 % 31] if k % 8 else ' ' for k in range(length))}</{tag}>\n"
+    f"<{tag}>{words(letters, length)}</{tag}>\n"
     for tag in ("p", "li", "td")
     for letters in (LETTERS * 2, CYRILLIC, CJK)
     for length in range(20, 60)
+]
+OBJECTS = [
+    f'  {{"id": {length * 7919}, "title": "{words(LETTERS * 2, length)}", "summary": "{words(letters, 2 * length)}"}},\n'
+    for letters in (LETTERS * 2, LETTERS * 2, LETTERS * 2, BEYOND * 2, CJK)
+    for length in range(10, 60)
+]
+LINES_OF_CODE = [
+    f"{' ' * (4 * (length % 4))}{first}{words(letters, length)}{last}\n"
+    for first, letters, last in (("return", LETTERS * 2, ");"), ("if (", LETTERS * 2, " == 12) {"), ("//", BEYOND * 2, ""))
+    for length in range(10, 50)
+]
+LOGS = [
+    f"{words(LETTERS * 2, length)}{words(letters, 16)[1 : 2 + length % 6]}\n"
+    for letters in (BEYOND * 2, CYRILLIC, CJK, EMOJI)
+    for length in range(50, 1000, 19)
 ]
 
 # Each kind as groups of characters, words or elements, and how often a group is chosen.
@@ -27,6 +51,11 @@ KINDS = {
     "prose": [(LETTERS, 41), ([" "], 8), (MARKS, 1)],
     "CJK+ASCII": [(CJK, 57), (["\n", "2026", "word"], 3)],
     "HTML": [(ELEMENTS, 1)],
+    "JSON": [(OBJECTS, 1)],
+    "code": [(LINES_OF_CODE, 1)],
+    "logs": [(LOGS, 1)],
+    "Greek": [(GREEK, 45), ([" "], 9), ([", ", ".\n"], 1)],
+    "Korean": [(KOREAN, 45), ([" "], 9), ([", ", ".\n"], 1)],
 }
 
 # A kind with one malformed byte in a hundred, and the kind.

@@ -108,6 +108,10 @@ calls! {
     encoding_text_mem_check_str_for_latin1_and_bidi(u8) -> u8;
     encoding_text_mem_check_utf16_for_latin1_and_bidi(u16) -> u8;
     encoding_text_utf8_valid_up_to(u8) -> usize;
+    encoding_text_mem_utf8_length_from_latin1(u8) -> usize;
+    encoding_text_mem_latin1_length_from_utf8(u8) -> usize;
+    encoding_text_mem_utf16_length_from_utf8(u8) -> usize;
+    encoding_text_mem_utf8_length_from_utf16(u16) -> usize;
     }
     two {
     encoding_text_ascii_to_ascii(u8, u8) -> Prefix;

@@ -3,9 +3,8 @@
 
 use crate::kinds::{Random, Source};
 use crate::room::Room;
-use crate::rows::{Reads, Row, ROWS};
-use crate::texts;
-use std::process;
+use crate::rows::{self, Reads, Row};
+use crate::{end, texts};
 use std::slice::from_ref;
 
 /// What destinations contain before a call: a text with characters of each length.
@@ -20,10 +19,10 @@ pub fn fuzz(count: u64, seed: u64) {
         let mut fresh = Room::of(&source, TEXT);
         fresh.limit = limit(fresh.bytes.len(), &mut random);
         let (mut ours, mut theirs) = (fresh.clone(), fresh.clone());
-        for row in ROWS {
+        for row in rows::all() {
             if let Err(fault) = compare(row, &source, &fresh, &mut ours, &mut theirs) {
                 tell(row, &source, &fresh, &fault, seed);
-                process::exit(1);
+                end(1);
             }
         }
     }

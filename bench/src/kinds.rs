@@ -10,6 +10,8 @@ pub struct Source {
     pub latin1_text: Vec<u8>,
     pub latin1_units: Vec<u16>,
     pub well_formed: bool,
+    /// Whether the code units have no unpaired surrogate.
+    pub is_valid_utf16: bool,
     /// How many bytes the calls on a stream get at once.
     pub piece: usize,
 }
@@ -18,6 +20,7 @@ impl Source {
     pub fn of(bytes: Vec<u8>, units: Vec<u16>, latin1: Vec<u8>) -> Source {
         Source {
             well_formed: str::from_utf8(&bytes).is_ok(),
+            is_valid_utf16: char::decode_utf16(units.iter().copied()).all(|c| c.is_ok()),
             bytes,
             units,
             latin1_text: latin1.iter().map(|b| char::from(*b)).collect::<String>().into_bytes(),
@@ -38,11 +41,16 @@ pub enum Kind {
     Prose,
     Html,
     CjkWithAscii,
+    Json,
+    Code,
+    Logs,
+    Greek,
+    Korean,
     MalformedAscii,
     MalformedLatin,
 }
 
-pub const KINDS: [Kind; 10] = [
+pub const KINDS: [Kind; 15] = [
     Kind::Ascii,
     Kind::Latin,
     Kind::Cyrillic,
@@ -51,6 +59,11 @@ pub const KINDS: [Kind; 10] = [
     Kind::Prose,
     Kind::Html,
     Kind::CjkWithAscii,
+    Kind::Json,
+    Kind::Code,
+    Kind::Logs,
+    Kind::Greek,
+    Kind::Korean,
     Kind::MalformedAscii,
     Kind::MalformedLatin,
 ];
@@ -64,6 +77,9 @@ const OPEN: [&str; 5] = ["<p>", "<li class='item'>", "<h2 id='s1'>", "<a href='h
 
 const SHUT: [&str; 5] = ["</p>\n", "</li>\n", "</h2>\n", "</a> ", "</td>"];
 
+/// How lines of code begin.
+const STATEMENTS: [&str; 5] = ["return ", "let value = ", "if (first == ", "state->count += ", "} else if (!"];
+
 impl Kind {
     pub fn name(self) -> &'static str {
         match self {
@@ -75,6 +91,11 @@ impl Kind {
             Kind::Prose => "prose",
             Kind::Html => "HTML",
             Kind::CjkWithAscii => "CJK+ASCII",
+            Kind::Json => "JSON",
+            Kind::Code => "code",
+            Kind::Logs => "logs",
+            Kind::Greek => "Greek",
+            Kind::Korean => "Korean",
             Kind::MalformedAscii => "broken ASCII",
             Kind::MalformedLatin => "broken Latin",
         }
@@ -84,30 +105,42 @@ impl Kind {
         matches!(self, Kind::MalformedAscii | Kind::MalformedLatin)
     }
 
-    /// Appends a character, a word or an element to a text.
+    /// Returns how many characters of a text there may be before the part that is measured, so that this starts
+    /// anywhere in an element, a word or a line.
+    fn start(self) -> u32 {
+        match self {
+            Kind::Html | Kind::Json | Kind::Code | Kind::Greek | Kind::Korean => 200,
+            Kind::Logs => 1000,
+            _ => 1,
+        }
+    }
+
+    /// Appends a character, a word, a line or an element to a text.
     fn add(self, text: &mut String, random: &mut Random) {
-        let word = |text: &mut String, random: &mut Random| {
-            (0..=random.below(8)).for_each(|_| text.push(letter(random)));
-        };
         match self {
             Kind::Html => element(text, random),
             Kind::CjkWithAscii => match random.below(60) {
                 0 => text.push('\n'),
                 1 => text.push_str(&random.below(3000).to_string()),
-                2 => word(text, random),
+                2 => word(text, random, letter),
                 _ => text.push(ideograph(random)),
             },
+            Kind::Json => object(text, random),
+            Kind::Code => line_of_code(text, random),
+            Kind::Logs => log_line(text, random),
+            Kind::Greek => word_of_prose(text, random, greek),
+            Kind::Korean => word_of_prose(text, random, syllable),
             _ => text.push(self.character(random)),
         }
     }
 
     fn character(self, random: &mut Random) -> char {
         match self {
-            Kind::Latin | Kind::MalformedLatin if random.below(20) == 0 => beyond_ascii(random),
+            Kind::Latin | Kind::MalformedLatin => latin(random),
             Kind::Cyrillic if random.below(7) == 0 => ' ',
             Kind::Cyrillic => cyrillic(random),
             Kind::Cjk => ideograph(random),
-            Kind::Emoji if random.below(4) == 0 => char::from_u32(0x1F600 + random.below(0x50)).unwrap(),
+            Kind::Emoji if random.below(4) == 0 => emoji(random),
             Kind::Prose if random.below(50) == 0 => MARKS[random.below(5) as usize],
             Kind::Prose if random.below(6) == 0 => ' ',
             _ => letter(random),
@@ -123,6 +156,23 @@ fn beyond_ascii(random: &mut Random) -> char {
     char::from_u32(0xE0 + random.below(31)).unwrap()
 }
 
+/// Returns a letter, one in twenty beyond ASCII.
+fn latin(random: &mut Random) -> char {
+    if random.below(20) == 0 { beyond_ascii(random) } else { letter(random) }
+}
+
+fn greek(random: &mut Random) -> char {
+    char::from_u32(0x3AC + random.below(35)).unwrap()
+}
+
+fn syllable(random: &mut Random) -> char {
+    char::from_u32(0xAC00 + random.below(11_172)).unwrap()
+}
+
+fn emoji(random: &mut Random) -> char {
+    char::from_u32(0x1F600 + random.below(0x50)).unwrap()
+}
+
 fn cyrillic(random: &mut Random) -> char {
     char::from_u32(0x430 + random.below(32)).unwrap()
 }
@@ -131,16 +181,80 @@ fn ideograph(random: &mut Random) -> char {
     char::from_u32(0x4E00 + random.below(0x5000)).unwrap()
 }
 
+/// Appends a word of one to eight characters.
+fn word(text: &mut String, random: &mut Random, character: fn(&mut Random) -> char) {
+    (0..=random.below(8)).for_each(|_| text.push(character(random)));
+}
+
+/// Appends a word and what separates it from the next one.
+fn word_of_prose(text: &mut String, random: &mut Random, character: fn(&mut Random) -> char) {
+    word(text, random, character);
+    text.push_str(match random.below(20) {
+        0 => ".\n",
+        1 | 2 => ", ",
+        _ => " ",
+    });
+}
+
+/// Appends words, each with a space after it.
+fn words(text: &mut String, random: &mut Random, character: fn(&mut Random) -> char) {
+    for _ in 0..=random.below(12) {
+        word(text, random, character);
+        text.push(' ');
+    }
+}
+
 /// Appends an element of a page: words of one script between its tags.
 fn element(text: &mut String, random: &mut Random) {
     let tag = random.below(5) as usize;
     let script = [letter, cyrillic, ideograph][random.below(3) as usize];
     text.push_str(OPEN[tag]);
-    for _ in 0..=random.below(12) {
-        (0..=random.below(8)).for_each(|_| text.push(script(random)));
-        text.push(' ');
-    }
+    words(text, random, script);
     text.push_str(SHUT[tag]);
+}
+
+/// Appends an object of a number and two strings, of which one in four isn't ASCII.
+fn object(text: &mut String, random: &mut Random) {
+    text.push_str("  {\"id\": ");
+    text.push_str(&random.below(1_000_000).to_string());
+    for name in ["title", "summary"] {
+        let script = [letter, letter, letter, letter, letter, letter, latin, ideograph][random.below(8) as usize];
+        text.push_str(", \"");
+        text.push_str(name);
+        text.push_str("\": \"");
+        words(text, random, script);
+        text.push('"');
+    }
+    text.push_str(", \"visible\": true},\n");
+}
+
+/// Appends an indented line: a statement, or a comment in one of eight, with one letter in twenty beyond ASCII.
+fn line_of_code(text: &mut String, random: &mut Random) {
+    (0..random.below(4)).for_each(|_| text.push_str("    "));
+    if random.below(8) == 0 {
+        text.push_str("// ");
+        words(text, random, latin);
+    } else {
+        text.push_str(STATEMENTS[random.below(5) as usize]);
+        word(text, random, letter);
+        text.push('(');
+        word(text, random, letter);
+        text.push_str(", ");
+        text.push_str(&random.below(100).to_string());
+        text.push_str(");");
+    }
+    text.push('\n');
+}
+
+/// Appends a line of 50 to 1,000 bytes of ASCII and one to six other characters.
+fn log_line(text: &mut String, random: &mut Random) {
+    let end = text.len() + 50 + random.below(951) as usize;
+    text.push('\n');
+    while text.len() < end {
+        text.push(if random.below(6) == 0 { ' ' } else { letter(random) });
+    }
+    let script = [beyond_ascii, cyrillic, ideograph, emoji][random.below(4) as usize];
+    (0..=random.below(6)).for_each(|_| text.push(script(random)));
 }
 
 /// A small generator of numbers, the same on each run.
@@ -161,10 +275,10 @@ impl Random {
     }
 }
 
-/// Returns a well-formed text of the kind, of about `size` bytes: no character is cut at its end. It starts anywhere in
-/// an element, as pieces of a page do.
+/// Returns a well-formed text of the kind, of about `size` bytes: no character is cut at its end. It starts anywhere, as
+/// pieces of a page do.
 pub fn text(kind: Kind, size: usize, random: &mut Random) -> String {
-    let skipped = if kind == Kind::Html { random.below(200) as usize } else { 0 };
+    let skipped = if kind.start() > 1 { random.below(kind.start()) as usize } else { 0 };
     let mut text = String::new();
     while text.len() < size + 4 * skipped {
         kind.add(&mut text, random);

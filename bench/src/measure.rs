@@ -1,13 +1,13 @@
-//! The table of throughputs, the comparison with simdutf, and single engines for counters.
+//! The table of throughputs, and the comparison with simdutf.
 
-use crate::kinds::{source, sources, Kind, Source, KINDS, SIZES};
+use crate::kinds::{sources, Kind, Source, KINDS, SIZES};
 use crate::room::Room;
-use crate::rows::{Engine, Reads, Row, OURS, ROWS, SIMDUTF, SIMDUTF_ERRORS};
-use crate::{simdutf, CPU};
+use crate::rows::{self, Engine, Reads, Row};
+use crate::{end, simdutf, CPU};
 use std::fmt::Write as _;
 use std::slice::from_ref;
 use std::time::Instant;
-use std::{env, fs, process};
+use std::{env, fs};
 
 /// How many interleaved passes there are, unless PASSES, an environment variable, sets it. The best of each engine
 /// counts.
@@ -33,7 +33,7 @@ fn compare(row: &Row, kind: Kind, source: &Source) {
         run(source, &mut theirs, 1);
         if !ours.agrees(&theirs) {
             eprintln!("{}: {} of {} bytes: {name} returns something else", row.name, kind.name(), source[0].bytes.len());
-            process::exit(1);
+            end(1);
         }
     }
 }
@@ -90,8 +90,9 @@ fn cell(row: &Row, kind: Kind, size: usize, values: &mut String) -> String {
     let Some(sources) = compared(row, kind, size) else {
         return String::new();
     };
-    let found = measure(row, &sources, &row.engines.iter().collect::<Vec<_>>());
-    let (peer, best) = row.engines[1..].iter().zip(&found[1..])
+    let engines: Vec<&Engine> = row.engines.iter().filter(|engine| !rows::is_own(engine)).collect();
+    let found = measure(row, &sources, &engines);
+    let (peer, best) = engines[1..].iter().zip(&found[1..])
         .map(|((name, _), speed)| (*name, *speed))
         .fold(("", 0.0), |a, b| if b.1 > a.1 { b } else { a });
     let (ours, ratio) = (found[0], found[0] / best);
@@ -100,9 +101,9 @@ fn cell(row: &Row, kind: Kind, size: usize, values: &mut String) -> String {
 }
 
 pub fn table() {
-    println!("ours built for {CPU}, simdutf's kernel {}", simdutf::kernel());
+    println!("ours built for {CPU}, simdutf's kernel {}", simdutf::name());
     let mut values = String::from("row\tkind\tsize\tours\tpeer\tbest\tratio\n");
-    for row in ROWS {
+    for row in rows::all() {
         println!("\n{}", row.name);
         print!("{:>10}", "bytes");
         KINDS.iter().for_each(|kind| print!("{:>14}", kind.name()));
@@ -120,54 +121,35 @@ pub fn table() {
 const BESIDE: [usize; 3] = [64, 4 << 10, 1 << 20];
 
 /// Returns whether the comparison with simdutf has the kind: well-formed texts, only ASCII if the call ends at the
-/// first byte above it, and for rows on Latin1 none of a single repeated character.
+/// first byte above it, and for rows on Latin1 none that is mostly one repeated character.
 fn is_beside(row: &Row, kind: Kind) -> bool {
     let is_latin1 = matches!(row.reads, Reads::Latin1 | Reads::Latin1Text | Reads::Latin1Units);
     match kind {
         Kind::Ascii => true,
         Kind::MalformedAscii | Kind::MalformedLatin => false,
-        Kind::Latin | Kind::Prose | Kind::Html => !row.name.contains("ascii"),
+        Kind::Latin | Kind::Prose | Kind::Html | Kind::Json | Kind::Code | Kind::Logs => !row.name.contains("ascii"),
         _ => !row.name.contains("ascii") && !is_latin1,
     }
 }
 
-/// Prints the throughputs of ours and of simdutf's kernel, its best call: one line for each cell, with tabs.
+/// Returns the best throughput of those engines that are one.
+fn best(engines: &[&Engine], found: &[f64], is_one: fn(&Engine) -> bool) -> f64 {
+    engines.iter().zip(found).filter(|(engine, _)| is_one(engine)).fold(0.0, |best, (_, speed)| speed.max(best))
+}
+
+/// Prints the throughputs of ours, of simdutf's kernel and of its choice, each by its best call: one line for each
+/// cell, with tabs. The first line has the names of the kernels.
 pub fn beside_simdutf() {
-    println!("row\tkind\tsize\tours\tsimdutf");
-    for row in ROWS {
-        let wanted = [OURS, SIMDUTF, SIMDUTF_ERRORS];
-        let engines: Vec<&Engine> = row.engines.iter().filter(|(name, _)| wanted.contains(name)).collect();
-        if engines.len() == 1 {
-            continue;
-        }
+    println!("row\tkind\tsize\tours\t{}\t{}", simdutf::name(), simdutf::chosen());
+    for row in rows::all().filter(|row| row.engines.iter().any(rows::is_kernel)) {
+        let is_simdutf = |engine: &&Engine| rows::is_kernel(engine) || rows::is_own(engine);
+        let engines: Vec<&Engine> = row.engines[..1].iter().chain(row.engines.iter().filter(is_simdutf)).collect();
         for kind in KINDS.into_iter().filter(|kind| is_beside(row, *kind)) {
             for size in BESIDE {
                 let sources = compared(row, kind, size).expect("a well-formed text");
                 let found = measure(row, &sources, &engines);
-                let best = found[1..].iter().fold(0.0_f64, |a, b| a.max(*b));
-                println!("{}\t{}\t{size}\t{:.3}\t{best:.3}", row.name, kind.name(), found[0]);
-            }
-        }
-    }
-}
-
-pub fn single(row: &str, kind: &str, size: usize, engine: &str, times: u64) {
-    let row = ROWS.iter().find(|it| it.name == row).expect("no such row");
-    let kind = *KINDS.iter().find(|it| it.name() == kind).expect("no such kind");
-    let engine = row.engines.iter().find(|it| it.0 == engine).expect("no such engine");
-    // One text, so that each more run of it costs the same.
-    let source = source(kind, size, 0);
-    seconds(engine, from_ref(&source), &mut Room::of(&source, "q"), times);
-}
-
-pub fn list_all() {
-    for row in ROWS {
-        for kind in KINDS {
-            let source = source(kind, 64 << 10, 0);
-            if row.is_measured(&source) {
-                for (engine, _) in row.engines {
-                    println!("{}\t{}\t{engine}\t{}", row.name, kind.name(), row.length(&source));
-                }
+                let (kernel, own) = (best(&engines, &found, rows::is_kernel), best(&engines, &found, rows::is_own));
+                println!("{}\t{}\t{size}\t{:.3}\t{kernel:.3}\t{own:.3}", row.name, kind.name(), found[0]);
             }
         }
     }

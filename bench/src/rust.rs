@@ -5,10 +5,10 @@ use crate::ffi::{self, Prefix, INVALID_ARGUMENT};
 use crate::kinds::{sources, Source, KINDS, SIZES};
 use crate::measure::{seconds, times};
 use crate::room::Room;
-use crate::rows::{in_turn, Engine, Row, ROWS};
+use crate::rows::{self, in_turn, Engine, Row};
 use encoding_text::{ascii, mem, repair_to, utf_8};
 use std::slice::from_ref;
-use std::{process, str};
+use std::str;
 
 /// How many interleaved passes there are, each a thousandth of a usual one: with this many, some aren't disturbed.
 const PASSES: usize = 2000;
@@ -141,7 +141,7 @@ fn compare(row: &Row, engine: &Engine) {
                 (engine.1)(from_ref(source), &mut theirs, 1);
                 if !ours.agrees(&theirs) || !repairs_alike(source) {
                     eprintln!("{}: {} of {size} bytes: Rust returns something else", row.name, kind.name());
-                    process::exit(1);
+                    crate::end(1);
                 }
             }
         }
@@ -155,7 +155,7 @@ pub fn calls() {
     let mut most = f64::NEG_INFINITY;
     for engine in RUST {
         let name = engine.0;
-        let row = ROWS.iter().find(|row| row.name == name).expect("a row of the table");
+        let row = rows::all().find(|row| row.name == name).expect("a row of the table");
         compare(row, engine);
         let (mut ours, mut theirs) = (Room::of(&sources[0], "q"), Room::of(&sources[0], "q"));
         let times = times(&row.engines[0], sources, &mut ours, row.length(&sources[0])) / 1000 + 1;
@@ -169,5 +169,5 @@ pub fn calls() {
         most = most.max(rust - c);
     }
     println!("at most {most:.2} ns more a call than in C");
-    process::exit((most > BOUND).into());
+    crate::end((most > BOUND).into());
 }

@@ -1,0 +1,18 @@
+"""Prints parts of docs/PERFORMANCE.md, or writes them to the page if an argument is --write."""
+import pathlib
+import sys
+
+PAGE = pathlib.Path(__file__).parent.parent / "docs" / "PERFORMANCE.md"
+
+
+def put(name, text):
+    """Prints the text, or writes it to the page between the marks of this name."""
+    if "--write" not in sys.argv:
+        print(text, end="")
+        return
+    page = PAGE.read_text()
+    first, last = f"<!-- {name} -->\n", f"<!-- end of {name} -->\n"
+    if page.count(first) != 1 or page.count(last) != 1:
+        sys.exit(f"{name}: {PAGE} doesn't have its marks once")
+    before, rest = page.split(first)
+    PAGE.write_text(before + first + text + last + rest.split(last)[1])
