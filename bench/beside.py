@@ -3,6 +3,7 @@ python3 beside.py PEER MACHINE ROUNDS PASSES V2.tsv... -- V3.tsv... [--write], o
 x86-64-v3. A cell has the ratios of both to the kernel of the same width, bold if one is below the goal. The row under it
 has the ratio of ours for x86-64-v3 to simdutf's own choice. Standard error lists the cells below the goal."""
 import sys
+import textwrap
 
 import page
 
@@ -29,7 +30,7 @@ def spread(files):
 
 
 def method(files):
-    """Returns how it was measured."""
+    """Returns sentences on how it was measured."""
     peer, machine, rounds, passes = sys.argv[1:5]
     processor, load = machine.split("\n")
     kernels = [open(names[0]).readline().rstrip("\n").split("\t") for names in files]
@@ -82,7 +83,7 @@ def main():
     cut = names.index("--")
     files = names[5:cut], names[cut + 1:]
     widths = [best_of(names) for names in files]
-    lines = [*method(files), *(line for size in SIZES for line in table(widths, size))]
+    lines = [textwrap.fill(" ".join(method(files)), 120), *(line for size in SIZES for line in table(widths, size))]
     page.put("bench/beside", "\n".join(lines) + "\n")
 
 

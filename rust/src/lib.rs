@@ -30,8 +30,8 @@
 //!
 //! # What a call costs
 //!
-//! At most 2 ns more than the C function (measured by `cargo bench`, and by `bench/calls` of the repository). A `&str`
-//! is not validated again.
+//! Mostly less than 1 ns more than the C function, and up to 3 ns in runs next to other work (measured by `cargo bench`,
+//! and by `bench/calls` of the repository). A `&str` is not validated again.
 //!
 //! # Features
 //!
