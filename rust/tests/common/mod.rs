@@ -2,6 +2,8 @@
 #![allow(dead_code)]
 
 pub mod rows;
+pub mod runs;
+pub mod text_destinations;
 pub mod vectors;
 pub mod walk;
 

@@ -1,6 +1,5 @@
 //! The calls of `c/include/encoding_text.h` that the crate doesn't make, over slices: runs, with the turns that rows
 //! name, the repair of a stream by blocks, and the encoder's call on a text.
-#![allow(dead_code)]
 
 use encoding_text::{DecoderResult, EncoderResult};
 

@@ -1,6 +1,5 @@
 //! Conversions into a prefix of a text, over its bytes: those of the crate, which clears what follows by itself, and
 //! those of `c/include/encoding_text.h`, which the crate doesn't call.
-#![allow(dead_code)]
 
 use encoding_text::mem::*;
 use std::str::from_utf8_mut;

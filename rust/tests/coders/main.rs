@@ -1,0 +1,12 @@
+//! The decoder and the encoder, runs, borrowed results and malformed sequences: rows, vectors and random pieces. And
+//! the types and conditions of all calls.
+#[path = "../common/mod.rs"]
+mod common;
+
+mod decoder;
+mod encoder;
+mod parts;
+mod places;
+mod random;
+mod runs;
+mod types;
