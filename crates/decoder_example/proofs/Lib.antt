@@ -1,4 +1,3 @@
 pub mod YieldedLemmas
 pub mod ReplacingCallLemmas
 pub mod MarkLemmas
-pub mod MarkedStreamLemmas

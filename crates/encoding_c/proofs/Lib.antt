@@ -1,4 +1,2 @@
-pub mod DecoderLemmas
-pub mod EncoderStateLemmas
-pub mod BufferRepairLemmas
-pub mod Latin1ResultLemmas
+pub mod StateLemmas
+pub mod LengthLemmas

@@ -50,7 +50,7 @@ fn is_all_read(piece: &Piece) -> bool
 
 /// Returns the decoder that the storage represents, if its count isn't 0.
 #[inline(never)]
-#[tactic(auto, using(crate::proofs::DecoderLemmas::pending_again))]
+#[tactic(auto, using(crate::proofs::StateLemmas::pending_again))]
 fn restored_pending(state: EncodingUtf8Decoder) -> Utf8Decoder
     ensures stands { Represents state result }
     ensures prefix { result ≡ take (length result) state.pending }

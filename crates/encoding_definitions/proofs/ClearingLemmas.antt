@@ -8,8 +8,7 @@ use borrow.Rule.Slice.PartMut.{put_mid}
 use Rattle.encoding_definitions.specs.Clearing.{clear_continuation, cleared_prefix, WritesAndClears}
 use Rattle.encoding_definitions.specs.Prefixes.{WritesPrefix}
 use Rattle.encoding_definitions.specs.Sequence.{IsContinuation}
-use Rattle.encoding_definitions.proofs.PrefixesLemmas.{WritesPrefix-length}
-use Rattle.encoding_definitions.proofs.FittingLemmas.{written_is}
+use Rattle.encoding_definitions.proofs.PrefixesLemmas.{WritesPrefix-length, written_is}
 
 -- ---- one byte
 clear_more : (b : ℕ) (bs : List ℕ) → IsContinuation b → clear_continuation (b ∷ bs) ≡ 0 ∷ clear_continuation bs

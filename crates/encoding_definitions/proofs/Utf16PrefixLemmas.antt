@@ -1,20 +1,37 @@
--- The UTF-8 of a prefix of the parts of units: walked part by part, and joined from two prefixes.
-use Rattle.std.proofs.Common.{◌≡◌, ℕ, ◌+◌, ◌-◌, ◌*◌, ◌<◌, ◌≤◌, ◌⊎◌, inl, inr, get_or, List, [], ◌∷◌, ◌++◌, length, take, drop, encode_utf8, refl, sym, ap, ◌∙◌, arith, subst, append_assoc}
+-- The UTF-8 of a prefix of the parts of units: well-formed, walked part by part, and joined from two prefixes.
+use Rattle.std.proofs.Common.{ℕ, zero, suc, List, [], ◌∷◌, length, take, sym, ap, ◌∙◌, arith, subst, IsUtf8, ◌≡◌, ◌+◌, ◌-◌, ◌*◌, ◌<◌, ◌≤◌, ◌⊎◌, inl, inr, get_or, ◌++◌, drop, encode_utf8, refl, append_assoc}
 use Rattle.std.specs.List.{flat_map}
+use Rattle.std.proofs.lemmas.List.{take_all, append-nil, length-append, length-drop, take_at, take_rest, drop_all, drop_more, drop-drop, get_or-drop, get_or_past, take-append-drop}
+use Rattle.std.proofs.lemmas.Str.{IsUtf8-nil, IsUtf8-append, IsUtf8-encode, length-encode}
+use Rattle.encoding_definitions.specs.Utf16.{Part16, Character16, Unpaired, utf8_of_part16, ArePaired, IsUtf8OfLongestPrefix, IsUtf8OfUnits, AreCodeUnits, scalar_of_part16, units_of_part16, ArePartsOf16, IsUtf8OfPrefix}
+use Rattle.encoding_definitions.proofs.EncodingLemmas.{high_scalar}
+use Rattle.encoding_definitions.proofs.Utf16Lemmas.{first_of_parts, tail_paired, parts_of, parts_of-nil, parts_of-first, parts_exist, rest_parts, none_left, parts_unique, length-utf8_of_all, length-units_of_part16, first_pair, first_unit, first_single}
 use Rattle.std.specs.Char.{len_utf8}
 use Rattle.std.specs.Char.Escape.{encode_utf16}
 use Rattle.std.specs.Char.Utf16.{surrogate_pair_char}
 use Rattle.std.proofs.str.Utf16.{one_unit, two_units, IsPair}
-use Rattle.std.proofs.lemmas.Str.{length-encode}
-use Rattle.std.proofs.lemmas.List.{append-nil, length-append, length-drop, take_at, take_all, take_rest, drop_all, drop_more, drop-drop, get_or-drop, get_or_past, take-append-drop}
 use Rattle.std.proofs.lemmas.Bool.{cases_lt}
 use Rattle.encoding_definitions.specs.Prefixes.{IsLongestFittingPrefix, WritesPrefix}
-use Rattle.encoding_definitions.specs.Utf16.{AreCodeUnits, Part16, Character16, Unpaired, scalar_of_part16, units_of_part16, utf8_of_part16, ArePartsOf16, IsUtf8OfPrefix, IsUtf8OfLongestPrefix, IsUtf8OfUnits}
 use Rattle.encoding_definitions.specs.FirstScalar.{IsFirstPart16, IsFirstScalar}
-use Rattle.encoding_definitions.proofs.PrefixesLemmas.{IsLongestFittingPrefix-all, IsLongestFittingPrefix-stop, WritesPrefix_after, WritesPrefix-length}
+use Rattle.encoding_definitions.proofs.PrefixesLemmas.{IsLongestFittingPrefix-all, IsLongestFittingPrefix-stop, WritesPrefix_after, WritesPrefix-length, IsLongestFittingPrefix-after, flat_map_push, length-prefix, written_is, written_prefix}
 use borrow.Rule.Slice.PartMut.{put_mid}
-use Rattle.encoding_definitions.proofs.FittingLemmas.{IsLongestFittingPrefix-after, flat_map_push, length-prefix, written_is, written_prefix}
-use Rattle.encoding_definitions.proofs.Utf16Lemmas.{parts_of, parts_of-nil, parts_of-first, parts_exist, rest_parts, none_left, parts_unique, length-utf8_of_all, length-units_of_part16, first_pair, first_unit, first_single}
+
+IsUtf8-part : (p : Part16) (ps : List Part16) → ArePaired (p ∷ ps) → IsUtf8 (utf8_of_part16 p)
+IsUtf8-part (Character16 c) ps a = IsUtf8-encode c (first_of_parts (Character16 c) ps a).0
+IsUtf8-part (Unpaired u) ps a = IsUtf8-encode 0xFFFD (high_scalar 0xFFFD (omega arith) (omega arith))
+
+-- that of the first n parts
+IsUtf8-parts : (n : ℕ) (ps : List Part16) → ArePaired ps → IsUtf8 (flat_map utf8_of_part16 (take n ps))
+IsUtf8-parts zero ps a = IsUtf8-nil
+IsUtf8-parts (suc n) [] a = IsUtf8-nil
+IsUtf8-parts (suc n) (p ∷ ps) a = IsUtf8-append (utf8_of_part16 p) (flat_map utf8_of_part16 (take n ps)) (IsUtf8-part p ps a) (IsUtf8-parts n ps (tail_paired p ps a))
+
+pub IsUtf8-longest : (us : List ℕ) (room read : ℕ) (out : List ℕ) → IsUtf8OfLongestPrefix us room read out → IsUtf8 out
+IsUtf8-longest us room read out f = subst IsUtf8 (sym f.longest.written) (IsUtf8-parts f.longest.count f.parts f.are_parts.0)
+
+pub IsUtf8-units : (us out : List ℕ) → IsUtf8OfUnits us out → IsUtf8 out
+IsUtf8-units us out f =
+    subst IsUtf8 (ap (flat_map utf8_of_part16) (take_all (length f.parts) f.parts (omega arith)) ∙ sym f.written) (IsUtf8-parts (length f.parts) f.parts f.are_parts.0)
 
 -- ---- walking
 -- the parts done take the first `read` units, and the rest of the units has the others

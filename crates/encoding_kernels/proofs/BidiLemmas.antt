@@ -1,24 +1,25 @@
 -- Indices of bytes at which there are right-to-left characters: a text with one has such an index, and the first three
--- bytes show if there is none.
-use Rattle.std.proofs.Common.{◌≡◌, ℕ, ◌+◌, ◌/◌, ◌%◌, ◌<◌, ◌≤◌, inl, inr, List, [], ◌∷◌, ◌++◌, length, take, drop, slice_index, encode_utf8, encode_utf8_all, IsUtf8, refl, sym, ap, ◌∙◌, arith, subst, take-add, Bool, true, false, cond, ◌&&◌, leb, ltb, eqb, bit_or}
-use Rattle.std.specs.Prelude.{Any}
+-- bytes show if there is none. And code units that aren't right-to-left, by ranges that hold all those that are.
+use Rattle.std.proofs.Common.{◌≡◌, ℕ, ◌+◌, ◌/◌, ◌%◌, ◌<◌, ◌≤◌, inl, inr, List, [], ◌∷◌, ◌++◌, length, take, drop, slice_index, encode_utf8, encode_utf8_all, IsUtf8, refl, sym, ap, ◌∙◌, arith, subst, take-add, Bool, true, false, cond, ◌&&◌, leb, ltb, eqb, bit_or, ◌^◌, ◌⊎◌, ◌||◌}
+use Rattle.std.specs.Prelude.{Any, nat_eq}
 use Rattle.std.specs.Str.{all_scalars}
 use Rattle.std.proofs.str.Laws.{two, three, four, both}
 use Rattle.std.proofs.lemmas.Str.{encode_same, length-encode, IsUtf8-take, IsUtf8-append}
-use Rattle.std.proofs.lemmas.Bool.{cases_lt, eqb-true, agree_below_at}
+use Rattle.std.proofs.lemmas.Bool.{cases_lt, eqb-true, agree_below_at, ltb-false, or_parts}
 use Rattle.std.proofs.lemmas.Bool.Decides.{nat_tests}
 use Rattle.std.proofs.lemmas.List.{length-append, drop_at, drop-drop, get_or-drop, take_at, take-append-drop, take_all}
 use lib.Utf8.{scalar}
-use Rattle.encoding_definitions.specs.Bidi.{IsRightToLeft, IsBidiText, IsBidiBytes}
+use Rattle.encoding_definitions.specs.Bidi.{IsRightToLeft, IsBidiText, IsBidiBytes, IsRightToLeftUnit}
 use Rattle.encoding_definitions.specs.Parts.{BeginsWithNoCharacter}
 use Rattle.encoding_definitions.specs.Sequence.{IsSequence}
 use Rattle.encoding_kernels.specs.Scans.{PassBetween}
-use Rattle.encoding_kernels.specs.Bounds.{BelowUpTo}
-use Rattle.encoding_kernels.specs.RightToLeft.{rtl_second_end, ends_mark, rtl_mark_lead, may_start_rtl, HasNoRtlAt, RtlAt, NoRtlIn}
+use Rattle.encoding_kernels.specs.Bounds.{BelowUpTo, BelowBetween}
+use Rattle.encoding_kernels.specs.RightToLeft.{rtl_second_end, ends_mark, rtl_mark_lead, may_start_rtl, HasNoRtlAt, RtlAt, NoRtlIn, NoneRightToLeft, in_range, may_be_right_to_left}
 use Rattle.encoding_definitions.proofs.AnyLemmas.{Any-none, Any-cons}
 use Rattle.encoding_definitions.proofs.BidiTextLemmas.{right_to_left_from, character_bidi, bidi_character, found_in_text, bidi_after, bidi_either, rest_text, text_of_bidi, text_of_latin1, latin1_not_bidi}
 use Rattle.encoding_kernels.proofs.PairsLemmas.{ascii_latin1}
 use Rattle.encoding_definitions.proofs.EncodingLemmas.{decode_utf8_scalar, IsSequence-encode}
+use Rattle.encoding_definitions.proofs.BidiUnitsLemmas.{UnitForm, unit_form, unit_low_none}
 
 -- ---- the first three bytes
 end_hebrew : (a mark : ℕ) → 0xD6 ≤ a → a ≤ 0xDF → rtl_second_end a mark ≡ 0xFF
@@ -207,3 +208,40 @@ clear_none bs n l v (inr b) = v.1 (subst IsBidiText (sym (take_all n bs l)) b)
 -- ---- an ASCII prefix
 pub ascii_text : (bs : List ℕ) (n : ℕ) → n ≤ length bs → BelowUpTo 0x80 bs n → IsLeftToRight (take n bs)
 ascii_text bs n l low = let latin1 = ascii_latin1 bs n l low in (text_of_latin1 (take n bs) latin1, latin1_not_bidi (take n bs) latin1)
+
+-- ---- ranges by one comparison
+outside : (from count u : ℕ) → from < 2 ^ 16 → u < 2 ^ 16 → in_range from count u ≡ false → (u < from) ⊎ (from + count ≤ u)
+outside from count u l m e = let over = ltb-false _ _ e in grind arith
+
+none_of : (u : ℕ) → UnitForm u → (u < 0x590) ⊎ (0x590 + 0x370 ≤ u) → (u < 0x202B) ⊎ (0x202B + 4 ≤ u) → (u ≡ 0x200F → ⊥) → (u ≡ 0x2067 → ⊥) → (u < 0xD802) ⊎ (0xD802 + 0x3A ≤ u)
+    → (u < 0xFB1D) ⊎ (0xFB1D + 0x3E2 ≤ u) → u < 2 ^ 16 → ⊥
+none_of u (inl r) a b c d e f l = omega arith
+none_of u (inr (inl r)) a b c d e f l = omega arith
+none_of u (inr (inr r)) a b c d e f l = omega arith
+
+is_not : (u x : ℕ) → nat_eq u x ≡ false → u ≡ x → ⊥
+is_not u x e is = grind (arith, nat_tests)
+
+not_right_to_left : (u : ℕ) → u < 2 ^ 16 → may_be_right_to_left u ≡ false → IsRightToLeftUnit u → ⊥
+not_right_to_left u l e r =
+    let controls = (in_range 0x0590 0x0370 u || in_range 0x202B 4 u) || (nat_eq u 0x200F || nat_eq u 0x2067) in
+    let parts = or_parts controls (in_range 0xD802 0x003A u || in_range 0xFB1D 0x03E2 u) e in
+    let prefix = or_parts (in_range 0x0590 0x0370 u || in_range 0x202B 4 u) (nat_eq u 0x200F || nat_eq u 0x2067) parts.0 in
+    let scripts = or_parts (in_range 0x0590 0x0370 u) (in_range 0x202B 4 u) prefix.0 in
+    let marks = or_parts (nat_eq u 0x200F) (nat_eq u 0x2067) prefix.1 in
+    let following = or_parts (in_range 0xD802 0x003A u) (in_range 0xFB1D 0x03E2 u) parts.1 in
+    none_of u (unit_form u r) (outside 0x0590 0x0370 u (omega arith) l scripts.0) (outside 0x202B 4 u (omega arith) l scripts.1) (is_not u 0x200F marks.0) (is_not u 0x2067 marks.1)
+    (outside 0xD802 0x003A u (omega arith) l following.0) (outside 0xFB1D 0x03E2 u (omega arith) l following.1) l
+
+pub units_clear : (us : List ℕ) (from to : ℕ) → ((k : ℕ) → slice_index us k < 2 ^ 16) → PassBetween (λ k. may_be_right_to_left (slice_index us k) ≡ false) from to → NoneRightToLeft us from to
+units_clear us from to units none = record { each = λ k l m r. not_right_to_left (slice_index us k) (units k) (none k l m) r }
+
+-- ---- ranges of units
+pub units_low : (us : List ℕ) (from to : ℕ) → BelowBetween 0x590 us from to → NoneRightToLeft us from to
+units_low us from to low = record { each = λ k l m r. unit_low_none (slice_index us k) (low k l m) r }
+
+pub units_joined : (us : List ℕ) (a b from to : ℕ) → NoneRightToLeft us a b → NoneRightToLeft us from to → from ≤ b → NoneRightToLeft us a to
+units_joined us a b from to p q l = record { each = λ k h m r. elim (cases_lt k b) [ inl i ↦ p.each k h i r | inr i ↦ q.each k (omega arith) m r ] }
+
+pub unit_none : (us : List ℕ) (at : ℕ) → (IsRightToLeftUnit (slice_index us at) → ⊥) → NoneRightToLeft us at (at + 1)
+unit_none us at none = record { each = λ k from to r. let e : k ≡ at = omega arith in none (subst (λ j. IsRightToLeftUnit (slice_index us j)) e r) }

@@ -9,7 +9,7 @@ use Rattle.encoding_definitions.proofs.PrefixesLemmas.{WritesPrefix-nil}
 use Rattle.encoding_kernels.specs.EncodeLanes.{AreBmpScalars, Spills, StoresBlock, WritesBmp}
 use Rattle.encoding_kernels.proofs.AsciiLemmas.{Each-take}
 use Rattle.encoding_kernels.proofs.PlainLemmas.{zeros_spelled}
-use Rattle.encoding_kernels.proofs.PutLemmas.{put_is}
+use Rattle.encoding_kernels.proofs.LaneLemmas.{put_is}
 use Rattle.encoding_kernels.proofs.SpillsLemmas.{exact_spills}
 
 module _ (us old : List ℕ) (at : ℕ) (long : length us ≡ 16) where

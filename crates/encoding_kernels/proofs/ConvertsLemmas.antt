@@ -5,8 +5,7 @@ use Rattle.std.specs.List.{flat_map}
 use borrow.Rule.Slice.PartMut.{put_mid}
 use Rattle.encoding_definitions.specs.Prefixes.{WritesPrefix}
 use Rattle.encoding_definitions.specs.Utf16.{AreCodeUnits, Character16, Part16, utf8_of_part16, IsUtf8OfPrefix}
-use Rattle.encoding_definitions.proofs.PrefixesLemmas.{WritesPrefix-nil, WritesPrefix-same, WritesPrefix_after}
-use Rattle.encoding_definitions.proofs.FittingLemmas.{written_is, written_prefix}
+use Rattle.encoding_definitions.proofs.PrefixesLemmas.{WritesPrefix-nil, WritesPrefix-same, WritesPrefix_after, written_is, written_prefix}
 use Rattle.encoding_definitions.proofs.Utf16PrefixLemmas.{Walked, walked_prefix}
 use Rattle.encoding_kernels.specs.EncodeLanes.{SpillsBmp, WritesBmp}
 use Rattle.encoding_kernels.proofs.SpillsLemmas.{due_none, due_paid}

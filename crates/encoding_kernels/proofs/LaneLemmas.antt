@@ -1,17 +1,44 @@
--- The value of each lane after the operations on vectors, and what the mask of a vector says about its lanes.
-use Rattle.std.proofs.Common.{◌≡◌, ℕ, suc, ◌+◌, ◌-◌, ◌*◌, ◌/◌, ◌^◌, ◌%◌, ◌<◌, ◌≤◌, Bool, true, false, not, cond, ltb, inl, inr, List, [], ◌∷◌, map, length, get_or, replicate, refl, sym, ap, ◌∙◌, arith, subst, map-id, ◌++◌, take, drop, length-take-le, length-append, length-drop, get_or-take, get_or-drop, append_assoc, drop-drop}
+-- The value of each lane after the operations on vectors, and what the mask of a vector says about its lanes. A vector
+-- that is stored in a list at an index, and one that is read from a whole stride.
+use Rattle.std.proofs.Common.{◌≡◌, ℕ, ◌+◌, ◌≤◌, List, ◌++◌, length, take, drop, drop-drop, take-add, length-take-le, length-append, map, map-id, sym, ap, ◌∙◌, arith, append_assoc, suc, ◌-◌, ◌*◌, ◌/◌, ◌^◌, ◌%◌, ◌<◌, Bool, true, false, not, cond, ltb, inl, inr, [], ◌∷◌, get_or, replicate, refl, subst, length-drop, get_or-take, get_or-drop}
+use Rattle.std.proofs.lemmas.List.{take_all, take_at, drop_at, take-append-le, length-map, get_or-map, drop-append-le, get_or_append_left, get_or-append_right}
+use Rattle.std.proofs.lemmas.Simd.{put_chunk_is, length-chunk, chunk-drop, get_or-chunk, length-replicate, get_or-replicate, length-zip2, get_or-zip2, length-sel_l, get_or-sel_l, swz_l, SwzOk, length-swz_l, get_or-swz_l_below, SwzOk-from_below, Each1-from_get_or, mask_l-mod, leading_from_mask_l}
+use Rattle.std.proofs.lemmas.Slice.{drop-append-drop}
+use Rattle.std.specs.Simd.Lanes.{chunk, put_chunk, zip2, mask_l, top, sel_l}
 use Rattle.std.proofs.lemmas.Bool.{cond-true, cond-false, cases_lt, lt-ltb, le-ltb, not-true, not-false}
 use Rattle.std.proofs.lemmas.Grind.{same_number_lists}
-use Rattle.std.proofs.lemmas.List.{length-map, get_or-map, drop-append-le, get_or_append_left, get_or-append_right}
 use Rattle.std.proofs.lemmas.List.Sums.{prefix_len-le-length, prefix_len_passes, prefix_len_stops}
-use Rattle.std.proofs.lemmas.Simd.{chunk-drop, length-chunk, get_or-chunk, length-replicate, get_or-replicate, length-zip2, get_or-zip2, length-sel_l, get_or-sel_l, swz_l, SwzOk, length-swz_l, get_or-swz_l_below, SwzOk-from_below, Each1-from_get_or, mask_l-mod, leading_from_mask_l}
-use Rattle.std.specs.Simd.Lanes.{zip2, chunk, put_chunk, mask_l, top, sel_l}
 use Rattle.std.specs.List.{prefix_len, range_with_len}
 use Rattle.std.proofs.lemmas.List.FromFn.{get_or-map-range_with_len, get_or-range_with_len, length-range_with_len}
 use mir.Syntax.{Width, w8, w16, w32, w64, w128}
 use mir.Val.{bits, hbits}
 use Rattle.encoding_kernels.specs.Vectors.{HasLanes}
-use Rattle.encoding_kernels.proofs.PutLemmas.{put_is, whole_chunk}
+
+pub put_is : {X : Type 0} (at n : ℕ) (xs ys : List X) → length ys ≡ n → at + n ≤ length xs → put_chunk at xs ys ≡ take at xs ++ (ys ++ drop (at + n) xs)
+put_is at n xs ys long room =
+    let rest : drop (length ys) (drop at xs) ≡ drop (at + n) xs = drop-drop (length ys) at xs ∙ ap (λ m. drop (at + m) xs) long in
+    put_chunk_is at xs ys (omega arith) ∙ ap (λ zs. take at xs ++ (ys ++ zs)) rest
+
+-- a stride, read whole
+pub whole_chunk : {X : Type 0} (n : ℕ) (stride : List X) → length stride ≡ n → chunk 0 n stride ≡ stride
+whole_chunk n stride long = take_all n stride (omega (arith, long))
+
+-- a vector read from the same index of another list, each lane cast to what holds it
+pub put_same_place : {X : Type 0} (at n : ℕ) (xs ys : List X) → at + n ≤ length ys → at + n ≤ length xs → put_chunk at xs (map (λ x. x) (chunk at n ys)) ≡ take at xs ++ (take n (drop at ys) ++ drop (at + n) xs)
+put_same_place at n xs ys within room = ap (put_chunk at xs) (map-id (chunk at n ys)) ∙ put_is at n xs (chunk at n ys) (length-chunk at n ys within) room
+
+-- a stored vector whose first lanes count: the list before their end, and from a vector's width after it
+pub put_prefix : (w : ℕ) (xs ys : List ℕ) (at n : ℕ) → length ys ≡ w → n ≤ w → at + w ≤ length xs
+    → (take (at + n) (put_chunk at xs ys) ≡ take at xs ++ take n ys) × (drop (at + n + w) (put_chunk at xs ys) ≡ drop (at + n + w) xs)
+put_prefix w xs ys at n long few room =
+    let is : put_chunk at xs ys ≡ take at xs ++ (ys ++ drop (at + w) xs) = put_is at w xs ys long room in
+    let start : length (take at xs) ≡ at = length-take-le at xs (omega arith) in
+    let both : length (take at xs ++ ys) ≡ at + w = omega (arith, length-append (take at xs) ys) in (
+      take-add at n (put_chunk at xs ys) ∙ (λ i. take at (is i) ++ take n (drop at (is i)))
+          ∙ (λ i. take_at (take at xs) (ys ++ drop (at + w) xs) at start i ++ take n (drop_at (take at xs) (ys ++ drop (at + w) xs) at start i))
+          ∙ ap (λ zs. take at xs ++ zs) (take-append-le n ys (drop (at + w) xs) (omega arith)),
+      ap (drop (at + n + w)) (is ∙ sym (append_assoc (take at xs) ys (drop (at + w) xs))) ∙ drop-append-drop (at + w) xs (take at xs ++ ys) (at + n + w) (omega arith) both,
+    )
 
 -- ---- lanes
 pub HasLanes-load : (at n : ℕ) (xs : List ℕ) → at + n ≤ length xs → HasLanes n (chunk at n xs) (λ k. get_or xs (at + k) 0)

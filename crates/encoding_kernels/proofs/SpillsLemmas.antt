@@ -8,7 +8,7 @@ use borrow.Rule.Slice.PartMut.{put_mid}
 use Rattle.encoding_definitions.specs.Prefixes.{WritesPrefix}
 use Rattle.encoding_definitions.proofs.PrefixesLemmas.{WritesPrefix_after}
 use Rattle.encoding_kernels.specs.EncodeLanes.{Spills, StoresBlock, SpillsBmp}
-use Rattle.encoding_kernels.proofs.PutLemmas.{put_prefix}
+use Rattle.encoding_kernels.proofs.LaneLemmas.{put_prefix}
 use Rattle.encoding_kernels.proofs.UnitBlocksLemmas.{plain_then, encodes_more}
 
 -- lists that are the same from an index on are so from a later one on

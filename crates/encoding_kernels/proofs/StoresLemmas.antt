@@ -1,16 +1,14 @@
 -- Two stores whose first bytes count: the second overwrites the excess of the first.
-use Rattle.std.proofs.Common.{◌≡◌, ℕ, ◌+◌, ◌≤◌, List, ◌++◌, length, take, drop, length-take-le, get_or, cond, ltb, sym, ap, ◌∙◌, arith, append_assoc}
+use Rattle.std.proofs.Common.{◌≡◌, ℕ, ◌+◌, ◌≤◌, List, ◌++◌, length, take, drop, length-take-le, get_or, cond, ltb, sym, ap, ◌∙◌, arith, append_assoc, map, replicate}
 use Rattle.std.proofs.lemmas.List.{drop_at}
 use Rattle.std.proofs.lemmas.Simd.{length-put_chunk, length-chunk}
 use Rattle.std.specs.List.{range_with_len}
 use Rattle.std.specs.Simd.Lanes.{chunk, put_chunk, zip2, sel_l, top}
-use Rattle.std.proofs.Common.{map, replicate}
 use mir.Syntax.{Width}
 use mir.Val.{hbits}
 use Rattle.encoding_kernels.specs.Vectors.{HasLanes}
-use Rattle.encoding_kernels.proofs.PutLemmas.{put_prefix, put_is}
+use Rattle.encoding_kernels.proofs.LaneLemmas.{put_prefix, put_is, HasLanes-itself, HasLanes-numbers, HasLanes-splat, compared, put_firsts}
 use Rattle.encoding_kernels.proofs.TestLemmas.{chosen_by, tests_of}
-use Rattle.encoding_kernels.proofs.LaneLemmas.{HasLanes-itself, HasLanes-numbers, HasLanes-splat, compared, put_firsts}
 
 -- the first `count` lanes of one vector, followed by what the list has after them
 pub firsts_over : (w : Width) (at count : ℕ) (xs lanes : List ℕ) → at + 16 ≤ length xs → length lanes ≡ 16

@@ -1,15 +1,21 @@
--- Masks as tests of lanes: combined, used to select, and what holds if no lane passes.
-use Rattle.std.proofs.Common.{◌≡◌, ℕ, ◌-◌, ◌^◌, ◌+◌, ◌<◌, ◌≤◌, ◌↔◌, IsTrue, Bool, true, false, not, cond, ◌&&◌, ◌||◌, eqb, leb, inl, inr, List, length, get_or, map, replicate, bit_and, bit_or, bit_xor, refl, sym, ap, ◌∙◌, arith, subst}
+-- Masks as tests of lanes: combined, used to select, and what holds if no lane passes. Lanes that are zero, and whether
+-- sixteen code units are below a power of two: the bits from it on, joined, are zero.
+use Rattle.std.proofs.Common.{◌≡◌, ℕ, ◌-◌, ◌^◌, ◌+◌, ◌<◌, ◌≤◌, ◌↔◌, IsTrue, Bool, true, false, not, cond, ◌&&◌, ◌||◌, eqb, leb, inl, inr, List, length, get_or, map, replicate, bit_and, bit_or, bit_xor, refl, sym, ap, ◌∙◌, arith, subst, zero, suc, ◌*◌, ◌/◌, [], ◌∷◌, Fits, w16, w8}
 use Rattle.std.proofs.lemmas.Bool.{cases_lt, false≢true, leb-false, lt-leb, eqb-true, eq-eqb, not-true, not-false, not_from_false, not_from_true}
 use Rattle.std.specs.Int.Bits.{and_self, and_zero_l, and_zero_r, or_self, or_zero_l, or_zero_r, xor_self, xor_zero_l, xor_zero_r}
-use Rattle.std.specs.Simd.Lanes.{chunk, zip2, top, sel_l}
-use Rattle.std.proofs.lemmas.Simd.{trailing_mask_l}
+use Rattle.std.specs.Simd.Lanes.{chunk, zip2, top, sel_l, fold_l, Each1}
+use Rattle.std.proofs.lemmas.Simd.{trailing_mask_l, Each1-get_or, get_or-zip2}
 use lib.Count.{count_trailing_zeros}
 use mir.Syntax.{Width}
 use mir.Val.{bits, hbits}
 use Rattle.encoding_kernels.specs.Vectors.{HasLanes}
 use Rattle.encoding_kernels.specs.Scans.{Marks}
-use Rattle.encoding_kernels.proofs.LaneLemmas.{HasLanes-load, HasLanes-zip2, HasLanes-splat, HasLanes-select, HasLanes-same, compared, top_compared, mask_of, mask_is, IsFirstSet, first_set, first_none, no_bit_from}
+use Rattle.encoding_kernels.proofs.LaneLemmas.{HasLanes-load, HasLanes-zip2, HasLanes-splat, HasLanes-select, HasLanes-same, compared, top_compared, mask_of, mask_is, IsFirstSet, first_set, first_none, no_bit_from, HasLanes-itself}
+use Rattle.std.proofs.lemmas.Nat.{le_or_l, le_or_r}
+use Rattle.std.proofs.lemmas.Nat.Bits.{and_high_mask}
+use Rattle.std.proofs.lemmas.Bool.Decides.{nat_tests}
+use lib.Lanes.{zip2}
+use Rattle.encoding_kernels.specs.Following.{IsZeroTo}
 
 -- lane k of the mask says whether t holds of k: all its bits are set, or none
 pub record HasTests (w : Width) (n : ℕ) (mask : List ℕ) (t : ℕ → Bool) : Type 0 where
@@ -112,3 +118,64 @@ marks_below w n at bound xs room few =
 pub and_both : (a b : Bool) → IsTrue (a && b) → IsTrue a × IsTrue b
 and_both true b t = (refl, t)
 and_both false b t = absurd (cc)
+
+abbrev joined : ℕ → List ℕ → ℕ
+joined = fold_l bit_or
+
+above_start : (a : ℕ) (xs : List ℕ) → a ≤ joined a xs
+above_start a [] = omega arith
+above_start a (x ∷ xs) = omega (arith, le_or_l a x, above_start (bit_or a x) xs)
+
+above_each : (a : ℕ) (xs : List ℕ) (k : ℕ) → get_or xs k 0 ≤ joined a xs
+above_each a [] k = omega arith
+above_each a (x ∷ xs) zero = omega (arith, le_or_r a x, above_start (bit_or a x) xs)
+above_each a (x ∷ xs) (suc k) = above_each (bit_or a x) xs k
+
+module _ (us : List ℕ) (long : length us ≡ 16) (fit : Each1 (Fits w16) us) where
+  top_zero : (bits : ℕ) → joined 0 (zip2 bit_and us (replicate 16 bits)) ≡ 0 → (k : ℕ) → k < 16 → bit_and (get_or us k 0) bits ≡ 0
+  top_zero bits none k l =
+      let lanes = HasLanes-zip2 bit_and (HasLanes-itself 16 us long) (HasLanes-splat 16 bits) in
+      omega (arith, lanes.each k l, above_each 0 (zip2 bit_and us (replicate 16 bits)) k, none)
+
+  pub all_ascii : IsTrue (eqb (joined 0 (zip2 bit_and us (replicate 16 0xFF80))) 0) → (k : ℕ) → k < 16 → get_or us k 0 < 0x80
+  all_ascii t k l =
+      let x = get_or us k 0 in
+      let top_bits : bit_and x 0xFF80 ≡ x / 128 * 128 = and_high_mask 16 7 (omega arith) x (Each1-get_or (Fits w16) us k 0 (omega (arith, long)) fit).fits in
+      omega (arith, top_bits, top_zero 0xFF80 (eqb-true _ 0 t) k l)
+
+  pub all_two_byte : IsTrue (eqb (joined 0 (zip2 bit_and us (replicate 16 0xF800))) 0) → (k : ℕ) → k < 16 → get_or us k 0 < 0x800
+  all_two_byte t k l =
+      let x = get_or us k 0 in
+      let top_bits : bit_and x 0xF800 ≡ x / 2048 * 2048 = and_high_mask 16 11 (omega arith) x (Each1-get_or (Fits w16) us k 0 (omega (arith, long)) fit).fits in
+      omega (arith, top_bits, top_zero 0xF800 (eqb-true _ 0 t) k l)
+
+-- ---- lanes that differ from zero
+same : (x : ℕ) → not (eqb x 0) ≡ false → x ≡ 0
+same x e = grind (arith, nat_tests)
+
+module _ (n : ℕ) (few : n ≤ 64) (xs : List ℕ) (long : length xs ≡ n) where
+  abbrev pub zero_mask : ℕ
+  zero_mask = mask_of 7 (zip2 (compared w8 (λ a b. not (eqb a b))) xs (replicate n 0))
+
+  tests : HasTests w8 n (zip2 (compared w8 (λ a b. not (eqb a b))) xs (replicate n 0)) (λ k. not (eqb (get_or xs k 0) 0))
+  tests = tests_of w8 (λ a b. not (eqb a b)) (HasLanes-itself n xs long) (HasLanes-splat n 0)
+
+  pub zeros_from_mask : zero_mask ≡ 0 → IsZeroTo xs n
+  zeros_from_mask e = record { each = λ i l. same _ ((none_is_first tests few e).before i l) }
+
+  pub zeros_before : (r : ℕ) → (zero_mask ≡ 0 → r ≡ n) → (0 < zero_mask → r ≡ count_trailing_zeros 64 zero_mask) → (r ≤ n) × IsZeroTo xs r
+  zeros_before r none some = let first = run_is_first tests few r none some in (first.within, record { each = λ i l. same _ (first.before i l) })
+
+-- ---- the lanes of a disjunction
+module _ (n : ℕ) (xs ys : List ℕ) (p : length xs ≡ n) (q : length ys ≡ n) where
+  or_at : (i : ℕ) → i < n → get_or (zip2 bit_or xs ys) i 0 ≡ bit_or (get_or xs i 0) (get_or ys i 0)
+  or_at i l = get_or-zip2 bit_or xs ys i 0 0 0 (omega arith) (omega arith)
+
+  or_left_le : (i : ℕ) → i < n → get_or xs i 0 ≤ get_or (zip2 bit_or xs ys) i 0
+  or_left_le i l = omega (arith, or_at i l, le_or_l (get_or xs i 0) (get_or ys i 0))
+
+  or_right_le : (i : ℕ) → i < n → get_or ys i 0 ≤ get_or (zip2 bit_or xs ys) i 0
+  or_right_le i l = omega (arith, or_at i l, le_or_r (get_or xs i 0) (get_or ys i 0))
+
+  pub or_zeros : IsZeroTo (zip2 bit_or xs ys) n → IsZeroTo xs n × IsZeroTo ys n
+  or_zeros z = (record { each = λ i l. omega (arith, z.each i l, or_left_le i l) }, record { each = λ i l. omega (arith, z.each i l, or_right_le i l) })

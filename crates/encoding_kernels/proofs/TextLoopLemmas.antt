@@ -17,12 +17,11 @@ use borrow.Rule.Slice.PartMut.{put_mid}
 use Rattle.encoding_definitions.specs.Sequence.{IsSequence}
 use Rattle.encoding_definitions.specs.Prefixes.{WritesPrefix}
 use Rattle.encoding_kernels.specs.EndingUnits.{units_in, WritesUtf16}
-use Rattle.encoding_definitions.proofs.EncodingLemmas.{IsSequence-encode, length-encode_utf16-utf8}
-use Rattle.encoding_definitions.proofs.FittingLemmas.{written_is}
+use Rattle.encoding_definitions.proofs.EncodingLemmas.{IsSequence-encode, length-encode_utf16-utf8, encodes_one, length-utf16}
+use Rattle.encoding_definitions.proofs.PrefixesLemmas.{written_is}
 use Rattle.encoding_kernels.proofs.TextUnitsLemmas.{puts_ascii, puts_prefix}
 use Rattle.encoding_kernels.specs.Bounds.{BelowUpTo, IsRunBelow}
 use Rattle.encoding_kernels.proofs.AsciiLemmas.{Each-take}
-use Rattle.encoding_definitions.proofs.EncodingLemmas.{encodes_one, length-utf16}
 
 -- ---- a character
 pub record Begins (src : List ℕ) (n : ℕ) : Type 0 where

@@ -19,7 +19,7 @@ use Rattle.encoding_kernels.specs.EndingUnits.{BeginsThree, keep, ends_unit, low
 use Rattle.encoding_kernels.proofs.CompressLemmas.{keep_pad}
 use Rattle.encoding_kernels.proofs.LaneLemmas.{same_below}
 use Rattle.encoding_kernels.proofs.UnitLanesLemmas.{length-ends}
-use Rattle.encoding_definitions.proofs.FittingLemmas.{written_is}
+use Rattle.encoding_definitions.proofs.PrefixesLemmas.{written_is}
 
 -- ---- one byte: no code unit ends with it, or one does
 mark_off : (a b : ℕ) → (0xC0 ≤ b) → ends_unit a b ≡ false

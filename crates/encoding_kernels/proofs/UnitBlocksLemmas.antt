@@ -15,9 +15,8 @@ use Rattle.encoding_definitions.specs.Utf16.{AreCodeUnits, Character16, units_of
 use Rattle.encoding_kernels.specs.EncodeLanes.{AreBmpScalars, WritesBmp}
 use Rattle.encoding_kernels.specs.Bounds.{AllBelow}
 use Rattle.encoding_kernels.proofs.AsciiLemmas.{Each-take}
-use Rattle.encoding_definitions.proofs.PrefixesLemmas.{WritesPrefix-same, WritesPrefix_put, WritesPrefix_after}
+use Rattle.encoding_definitions.proofs.PrefixesLemmas.{WritesPrefix-same, WritesPrefix_put, WritesPrefix_after, written_is}
 use Rattle.encoding_definitions.proofs.Utf16Lemmas.{parts_of, parts_of-first, first_unit}
-use Rattle.encoding_definitions.proofs.FittingLemmas.{written_is}
 use Rattle.encoding_definitions.proofs.Utf16PrefixLemmas.{Walked, walked_prefix}
 
 -- ---- each is a character

@@ -19,7 +19,7 @@ use Rattle.encoding_text.specs.YieldedParts.{IsReported}
 use Rattle.encoding_text.specs.declared.decoder.DecoderResult.{DecoderResult}
 use Rattle.encoding_text.specs.declared.decoder.DecoderResult.TheVariants.{InputEmpty, OutputFull, Malformed}
 use Rattle.encoding_text.proofs.CallPartsLemmas.{decoded_yields}
-use Rattle.encoding_text.proofs.HasResultLemmas.{no_characters_pending}
+use Rattle.encoding_text.proofs.OneResultLemmas.{no_characters_pending}
 use Rattle.encoding_runs.specs.declared.repair.blocks.RepairedBlock.{RepairedBlock}
 use Rattle.encoding_runs.specs.Blocks.{IsBlockRepair, WantsSpace, RepairTheParts, replaced_in_all}
 use Rattle.encoding_runs.specs.Calls.{Call, IsChain, output_of}

@@ -10,8 +10,7 @@ use Rattle.encoding_definitions.specs.Utf16.{AreCodeUnits, IsUtf8OfUnits}
 use Rattle.encoding_text.specs.Encoding.{IsPendingSurrogate, EncodeStep}
 use Rattle.encoding_text.specs.declared.utf_8.encoder.EncoderResult.{EncoderResult}
 use Rattle.encoding_text.specs.declared.utf_8.encoder.EncoderResult.TheVariants.{InputEmpty}
-use Rattle.encoding_definitions.proofs.PrefixesLemmas.{WritesPrefix-length}
-use Rattle.encoding_definitions.proofs.FittingLemmas.{written_prefix}
+use Rattle.encoding_definitions.proofs.PrefixesLemmas.{WritesPrefix-length, written_prefix}
 use Rattle.encoding_text.proofs.EncoderLemmas.{enough_room}
 use Rattle.encoding_text.proofs.EncoderPartsLemmas.{at_most_one_pending, read_within, room_left, gets_on}
 use Rattle.encoding_runs.specs.declared.run.turns.Turn.{Turn}

@@ -1,12 +1,17 @@
--- First parts for any continuation, one after the other, and the final parts.
-use Rattle.std.proofs.Common.{◌≡◌, ℕ, Bool, false, List, [], ◌∷◌, ◌++◌, refl, sym, ap, ◌∙◌, subst}
-use Rattle.std.proofs.lemmas.List.{append-nil, append_assoc}
+-- First parts for any continuation, one after the other, and the final parts. Bytes cut where the final parts of the
+-- first piece leave no rest.
+use Rattle.std.proofs.Common.{◌≡◌, ℕ, Bool, false, List, [], ◌∷◌, ◌++◌, refl, sym, ap, ◌∙◌, subst, ◌+◌, ◌<◌, ◌≤◌, inl, inr, length, arith}
+use Rattle.std.proofs.lemmas.List.{append-nil, append_assoc, length-append}
 use Rattle.encoding_definitions.specs.Sequence.{IsIncomplete}
 use Rattle.encoding_definitions.specs.Pending.{IsPending}
-use Rattle.encoding_definitions.specs.Parts.{Part, IllFormed, BeginsWithNoCharacter, StartsWith, AreFinal}
-use Rattle.encoding_definitions.proofs.PartsLemmas.{part_bytes}
-use Rattle.encoding_definitions.proofs.DecompositionLemmas.{StartsWith-append, final_stay, has_final}
+use Rattle.encoding_definitions.specs.Parts.{Part, IllFormed, BeginsWithNoCharacter, StartsWith, AreFinal, bytes_of, ArePartsOf, lossy_utf8, malformed_count}
+use Rattle.encoding_definitions.proofs.PartsLemmas.{part_bytes, prefixes_nest}
+use Rattle.encoding_definitions.proofs.DecompositionLemmas.{StartsWith-append, final_stay, has_final, StartsWith-bytes, same_parts, final_prefix, lossy_utf8-append, malformed_count-append}
 use Rattle.encoding_runs.specs.Steps.Writing.{AreFirst}
+use Rattle.std.specs.List.{flat_map}
+use Rattle.std.specs.Str.Lossy.{second_byte_min}
+use Rattle.std.proofs.lemmas.Bool.Decides.{nat_tests}
+use Rattle.encoding_definitions.proofs.SequenceLemmas.{HasOpenShape, HasOpenShape-IsIncomplete, second_more}
 
 -- parts after parts
 pub AreFirst-trans : (last : Bool) (bs : List ℕ) (ps : List Part) (mid : List ℕ) (qs : List Part) (rest : List ℕ) → AreFirst last bs ps mid → AreFirst last mid qs rest
@@ -55,3 +60,52 @@ pub final_after : (bs : List ℕ) (ps : List Part) (mid : List ℕ) → AreFirst
 final_after bs ps mid f =
     let more = has_final mid in
     (more.0, more.1, final_first bs (ps ++ more.0) more.1 (AreFirst-trans false bs ps mid more.0 more.1 f (first_final mid more.0 more.1 more.2)) more.2.still_open)
+
+-- the text of the final parts is a prefix of the repaired text of any continuation
+pub final_text : (bs rest more : List ℕ) (parts all : List Part) → AreFinal bs parts rest → ArePartsOf (bs ++ more) all
+    → (text : List ℕ) × (lossy_utf8 all ≡ lossy_utf8 parts ++ text)
+final_text bs rest more parts all s h =
+    let (others, e) = final_prefix bs parts rest more all s h in
+    (lossy_utf8 others, ap lossy_utf8 e ∙ lossy_utf8-append parts others)
+
+-- ---- the parts of both pieces
+pub cut_parts : (bs more : List ℕ) (parts others all : List Part) → AreFinal bs parts [] → ArePartsOf more others → ArePartsOf (bs ++ more) all → all ≡ parts ++ others
+cut_parts bs more parts others all s h a =
+    same_parts (bs ++ more) all (parts ++ others) a (StartsWith-append (bs ++ more) parts more others [] (final_stay bs parts [] more s.starts s.closed) h)
+
+pub cut_texts : (bs more : List ℕ) (parts others all : List Part) → AreFinal bs parts [] → ArePartsOf more others → ArePartsOf (bs ++ more) all
+    → lossy_utf8 all ≡ lossy_utf8 parts ++ lossy_utf8 others
+cut_texts bs more parts others all s h a = ap lossy_utf8 (cut_parts bs more parts others all s h a) ∙ lossy_utf8-append parts others
+
+pub cut_counts : (bs more : List ℕ) (parts others all : List Part) → AreFinal bs parts [] → ArePartsOf more others → ArePartsOf (bs ++ more) all
+    → malformed_count all ≡ malformed_count parts + malformed_count others
+cut_counts bs more parts others all s h a = ap malformed_count (cut_parts bs more parts others all s h a) ∙ malformed_count-append parts others
+
+-- ---- after an ASCII byte
+open_above : (prefix : List ℕ) (b : ℕ) → HasOpenShape (prefix ++ b ∷ []) → 128 ≤ b
+open_above [] b h = omega (arith, h.0)
+open_above (a ∷ []) b h = let s = second_more a b h.0 h.1 h.2 in omega (arith, above a b s.2)
+  where
+    above : (a b : ℕ) → second_byte_min a ≤ b → 128 ≤ b
+    above a b l = grind (arith, nat_tests)
+open_above (a ∷ c ∷ []) b h = h.3.0
+open_above (a ∷ c ∷ d ∷ []) b h = absurd h
+open_above (a ∷ c ∷ d ∷ e ∷ more) b h = absurd h
+
+-- no incomplete sequence ends with it
+no_incomplete : (bs xs rest : List ℕ) (b : ℕ) → b < 128 → bs ++ b ∷ [] ≡ xs ++ rest → IsIncomplete rest → ⊥
+no_incomplete bs xs rest b low e o = elim (prefixes_nest bs (b ∷ []) xs rest e) [
+  | inl (t, f, g) ↦ last t g
+  | inr (t, f, g) ↦ omega (arith, low, open_above t b (HasOpenShape-IsIncomplete (t ++ b ∷ []) (subst IsIncomplete g o)))
+]
+  where
+    last : (t : List ℕ) → b ∷ [] ≡ t ++ rest → ⊥
+    last [] g = omega (arith, low, open_above [] b (HasOpenShape-IsIncomplete (b ∷ []) (subst IsIncomplete (sym g) o)))
+    last (y ∷ ys) g = omega (arith, ap length g, length-append ys rest, o.0)
+
+pub ascii_settles : (bs rest : List ℕ) (b : ℕ) (parts : List Part) → b < 128 → AreFinal (bs ++ b ∷ []) parts rest → rest ≡ []
+ascii_settles bs rest b parts low s = either s.still_open
+  where
+    either : IsPending rest → rest ≡ []
+    either (inl none) = none
+    either (inr o) = absurd (no_incomplete bs (flat_map bytes_of parts) rest b low (StartsWith-bytes (bs ++ b ∷ []) parts rest s.starts) o)

@@ -9,9 +9,8 @@ use Rattle.encoding_definitions.specs.Yielding.{Yields}
 use Rattle.encoding_definitions.proofs.DecompositionLemmas.{StartsWith-bytes}
 use Rattle.encoding_text.specs.Decoding.{BorrowedDecodeStep}
 use Rattle.encoding_text.proofs.CallPartsLemmas.{decoded_yields}
-use Rattle.encoding_text.proofs.BorrowedLemmas.{borrowed_yields}
+use Rattle.encoding_text.proofs.BorrowedLemmas.{borrowed_yields, same_piece}
 use Rattle.encoding_text.proofs.OneResultLemmas.{one_result}
-use Rattle.encoding_text.proofs.OnePieceLemmas.{same_piece}
 use Rattle.encoding_runs.specs.Calls.{Call, IsChain}
 use Rattle.encoding_runs.specs.DecoderCalls.{YieldsFirstParts, YieldTheParts}
 use Rattle.encoding_runs.specs.MixedCalls.{Form, ToUtf16, ToUtf8, Borrowed, CallResult, Decoded, Handed, MixedDecodeStep, AreYielded, IsInputEmpty, ResultsAgree, AreAskedTheSame, ReturnTheSame}

@@ -1,23 +1,52 @@
--- What is written after the text of first parts, and if a write fails in the middle of one.
-use Rattle.std.proofs.Common.{◌≡◌, ℕ, ◌+◌, ◌<◌, ◌≤◌, Bool, false, List, [], ◌∷◌, ◌++◌, length, take, drop, Option, inl, inr, encode_utf8, refl, sym, ap, ◌∙◌, arith, subst}
+-- What is written after the text of first parts, if a write fails in the middle of one, and once the engine wrote all
+-- of the text due.
+use Rattle.std.proofs.Common.{◌≡◌, ℕ, List, [], length, refl, sym, ap, ◌∙◌, arith, subst, ◌+◌, ◌<◌, ◌≤◌, Bool, false, ◌∷◌, ◌++◌, take, drop, Option, inl, inr, encode_utf8}
+use Rattle.std.proofs.lemmas.List.{append-nil, take_all, append_assoc, drop_all, length-drop, take-append-drop}
+use Rattle.encoding_definitions.specs.Parts.{Part, StartsWith, ArePartsOf, lossy_utf8, malformed_count}
+use Rattle.encoding_definitions.proofs.DecompositionLemmas.{has_final, parts_split, lossy_utf8-append, StartsWith-append, has_parts, lossy_utf8-characters, malformed_count-append, malformed_count-characters, malformed_count-bytes}
+use Rattle.encoding_runs.specs.Repairs.{IsLossyDecodeOf, IsFinalText, IsPrefix, HoldsRounds, IsProperPrefix, WritesRepaired, Stops}
 use Rattle.std.specs.Io.KnownBytes.{Appends}
 use Rattle.std.proofs.KnownBytes.{Appends-trans}
-use Rattle.std.proofs.lemmas.List.{append-nil, append_assoc, drop_all, length-drop, take-append-drop}
 use Rattle.std.specs.Str.{IsUtf8, chars}
 use Rattle.std.proofs.lemmas.Str.{encodes-chars}
 use lib.Utf8.{encode}
 use Rattle.encoding_definitions.specs.Pending.{IsPending}
 use Rattle.encoding_definitions.proofs.SequenceLemmas.{length-IsIncomplete}
-use Rattle.encoding_definitions.specs.Parts.{Part, lossy_utf8, malformed_count}
 use Rattle.encoding_text.specs.Decoding.{BorrowedDecodeStep}
 use Rattle.encoding_text.specs.YieldedParts.{AreBorrowed}
 use Rattle.encoding_text.specs.declared.decoder.Piece.{Piece}
 use Rattle.encoding_text.specs.declared.decoder.Piece.TheVariants.{Text, Char, Malformed, InputEmpty}
 use Rattle.encoding_text.proofs.BorrowedLemmas.{borrowed_yields}
-use Rattle.encoding_definitions.proofs.DecompositionLemmas.{StartsWith-append, has_parts, lossy_utf8-append, lossy_utf8-characters, malformed_count-append, malformed_count-characters, malformed_count-bytes}
-use Rattle.encoding_runs.specs.Repairs.{IsProperPrefix, WritesRepaired, Stops}
 use Rattle.encoding_runs.specs.Steps.Writing.{text_of, malformed_in, AreFirst, WritesParts, StopsInParts}
 use Rattle.encoding_runs.proofs.FinalLemmas.{AreFirst-trans, AreFirst-more}
+
+-- the text of the final parts of all bytes
+holds_all : (bs out text : List ℕ) → IsFinalText bs text → IsPrefix text out → (rounds : HoldsRounds bs out) × (rounds.before ≡ length bs)
+holds_all bs out text s prefix = (
+  record {
+    before = length bs;
+    within = omega arith;
+    one_round = omega arith;
+    final_text = text;
+    was_final = subst (λ xs. IsFinalText xs text) (sym (take_all (length bs) bs (omega arith))) s;
+    whole_rounds = prefix;
+  },
+  refl,
+)
+
+-- the text of the final parts is a prefix of the repaired text
+begins_with_final : (bs : List ℕ) (ps : List Part) (rest : List ℕ) (all : List Part) → StartsWith bs ps rest → ArePartsOf bs all → IsPrefix (lossy_utf8 ps) (lossy_utf8 all)
+begins_with_final bs ps rest all s are =
+    let (others, same, more) = parts_split bs ps rest all s are in
+    (lossy_utf8 others, ap lossy_utf8 same ∙ lossy_utf8-append ps others)
+
+pub holds_repaired : (bs text : List ℕ) → IsLossyDecodeOf bs text → (rounds : HoldsRounds bs text) × (rounds.before ≡ length bs)
+holds_repaired bs text (parts, are, is) =
+    let (ps, rest, final_text) = has_final bs in
+    holds_all bs text (lossy_utf8 ps) (ps, rest, final_text, refl) (subst (IsPrefix (lossy_utf8 ps)) (sym is) (begins_with_final bs ps rest parts final_text.starts are))
+
+pub holds_final : (bs text : List ℕ) → IsFinalText bs text → (rounds : HoldsRounds bs text) × (rounds.before ≡ length bs)
+holds_final bs text final_text = holds_all bs text text final_text ([], sym (append-nil text))
 
 -- what a borrowed call yields
 pub record YieldsPiece (p src : List ℕ) (last : Bool) (piece : Piece) (read : ℕ) (q : List ℕ) : Type 0 where

@@ -2,7 +2,7 @@
 //! `law_parts();`, can use its clauses.
 ghost use Rattle.std.specs.Prelude.{◌≡◌, ◌↔◌, ℕ, ◌+◌, ◌<◌, ◌≤◌, Bool, true, List, [], ◌∷◌, ◌++◌, Any, encode_utf8, length, map, encode_utf8_all, IsTrue, IsUtf8, ◌*◌, false, None};
 ghost use Rattle.std.specs.Char.{IsScalar};
-ghost use Rattle.std.specs.List.{flat_map};
+ghost use Rattle.std.specs.List.{flat_map, AllZip, last_or};
 ghost use Rattle.std.specs.Str.Lossy.{utf8_lossy};
 ghost use Rattle.encoding_definitions.specs.Sequence.{IsSequence};
 ghost use Rattle.encoding_definitions.specs.Parts.{Part, StartsWith, ArePartsOf, AreFinal, bytes_of, malformed_count, lossy_utf8};
@@ -16,7 +16,6 @@ ghost use Rattle.encoding_text.specs.Encoding.{IsPendingSurrogate, EncodeStep};
 ghost use Rattle.encoding_definitions.specs.Bidi.{IsRightToLeft, IsBidiBytes, IsBidiUnits};
 ghost use Rattle.encoding_definitions.specs.Surrogates.{IsValidUtf16, AreRepairedUnits, ReplacesUnpaired};
 ghost use Rattle.encoding_runs.specs.Repeats.{WritesInTurn};
-ghost use Rattle.std.specs.List.{AllZip, last_or};
 ghost use Rattle.encoding_text.specs.declared.utf_8.encoder.EncoderResult.{EncoderResult};
 ghost use Rattle.encoding_text.specs.declared.utf_8.encoder.EncoderResult.TheVariants as encoded;
 ghost use Rattle.encoding_runs.specs.Calls.{Call, IsChain, read_in_all, output_of, pending_after};

@@ -1,5 +1,5 @@
 -- Converting character by character: whole characters up to one that doesn't fit are the longest prefix that fits, and
--- the converse.
+-- the converse. Into a destination in UTF-16 that is as long as the source, all characters fit.
 use Rattle.std.proofs.Common.{◌≡◌, ℕ, zero, suc, ◌+◌, ◌-◌, ◌<◌, ◌≤◌, ◌⊎◌, inl, inr, true, List, [], ◌∷◌, ◌++◌, length, take, drop, encode_utf8, encode_utf8_all, refl, sym, ap, ◌∙◌, arith, subst, take-add}
 use lib.Utf8.{scalar}
 use Rattle.std.specs.Char.{IsScalar}
@@ -8,18 +8,17 @@ use Rattle.std.specs.Str.{all_scalars, IsAscii, IsUtf8, chars}
 use Rattle.std.specs.List.{flat_map}
 use Rattle.std.proofs.lemmas.Bool.{and_from, and_parts, cases_lt}
 use Rattle.std.proofs.lemmas.Grind.{flat_map-append}
-use Rattle.std.proofs.lemmas.List.{append-nil, append_assoc, length-append, length-drop, length-take, take_at, drop_at, take_rest, take-append-drop, take-take}
+use Rattle.std.proofs.lemmas.List.{append-nil, append_assoc, length-append, length-drop, length-take, take_at, drop_at, take_rest, take-append-drop, take-take, take_all}
 use Rattle.std.proofs.lemmas.Str.{encodes-append, encode_same, length-encode, len_utf8_bounds, IsUtf8-encode, IsUtf8-append, chars_from_encodes}
 use Rattle.std.proofs.str.Laws.{scalars-append}
 use borrow.Rule.Slice.PartMut.{put_mid}
 use Rattle.encoding_definitions.specs.Parts.{Part, Character, IllFormed, BeginsWithNoCharacter, ArePartsOf}
 use Rattle.encoding_definitions.specs.Prefixes.{IsLongestPrefix, IsLongestFittingPrefix, WritesPrefix}
-use Rattle.encoding_definitions.specs.Converting.{AreScalarsOfValidPrefix, ConvertsMaximal, FittingBegins}
+use Rattle.encoding_definitions.specs.Converting.{AreScalarsOfValidPrefix, ConvertsMaximal, FittingBegins, WritesText}
 use Rattle.encoding_text.specs.Steps.ConversionSteps.{ConvertsSome, ConvertsUntilFull}
 use Rattle.encoding_definitions.proofs.SequenceLemmas.{IsSequence-some}
-use Rattle.encoding_definitions.proofs.EncodingLemmas.{IsSequence-encode, flat_map-encode_utf8, encodes_one}
-use Rattle.encoding_definitions.proofs.PrefixesLemmas.{WritesPrefix_after, WritesPrefix-length, WritesPrefix-same, put_mid-same, IsLongestFittingPrefix-all, IsLongestFittingPrefix-stop}
-use Rattle.encoding_definitions.proofs.FittingLemmas.{flat_map_push}
+use Rattle.encoding_definitions.proofs.EncodingLemmas.{IsSequence-encode, flat_map-encode_utf8, encodes_one, length-utf16}
+use Rattle.encoding_definitions.proofs.PrefixesLemmas.{WritesPrefix_after, WritesPrefix-length, WritesPrefix-same, put_mid-same, IsLongestFittingPrefix-all, IsLongestFittingPrefix-stop, flat_map_push, length-prefix}
 use Rattle.encoding_definitions.proofs.Utf8Lemmas.{IsLongestPrefix-utf8, no_character_after}
 use Rattle.encoding_definitions.proofs.DecompositionLemmas.{has_parts}
 use Rattle.encoding_kernels.proofs.TextUnitsLemmas.{ascii_text}
@@ -225,3 +224,33 @@ converted_ascii src old new sub read written n d p w =
     let text = ascii_text (take n bytes) ascii in
     converted_text encode_utf16 src old new sub read written n n d text.0 (omega (arith, within, length-take room bytes))
     (subst (λ xs. WritesPrefix (take (length new - written) (drop written new)) sub n xs) (ap (take n) (take_rest src read) ∙ sym text.1) w)
+
+text_length : (src cs : List ℕ) → (t : AreScalarsOfValidPrefix src cs) → length (encode_utf8_all cs) ≡ t.valid
+text_length src cs t = ap length t.spelled ∙ omega (arith, length-take t.valid src, t.prefix.within)
+
+-- all characters of the well-formed prefix fit
+pub whole_fits : (src old new : List ℕ) (read written : ℕ) → (d : ConvertsMaximal encode_utf16 src old new read written) → length src ≤ length old
+    → (read ≡ d.text.valid) × WritesPrefix old new written (flat_map encode_utf16 d.scalars)
+whole_fits src old new read written d l = elim (cases_lt d.longest.count (length d.scalars)) [
+  | inl h ↦ absurd (omega (arith, d.longest.longest h, length-prefix encode_utf16 d.scalars (d.longest.count + 1), length-utf16 d.scalars d.text.are_scalars, text_length src d.scalars d.text, d.text.prefix.within, l))
+  | inr h ↦
+      let all : take d.longest.count d.scalars ≡ d.scalars = take_all d.longest.count d.scalars h in
+      let taken : read ≡ length (flat_map encode_utf8 d.scalars) = d.longest.taken ∙ ap (λ xs. length (flat_map encode_utf8 xs)) all in
+      let out : d.out ≡ flat_map encode_utf16 d.scalars = d.longest.written ∙ ap (flat_map encode_utf16) all in
+      (taken ∙ ap length (flat_map-encode_utf8 d.scalars) ∙ text_length src d.scalars d.text, subst (λ xs. WritesPrefix old new written xs) out d.writes)
+]
+
+-- of bytes, which are a text if and only if all of them are read
+pub text_prefix : (src old new : List ℕ) (read written : ℕ) → ConvertsMaximal encode_utf16 src old new read written → length src ≤ length old → WritesText src old new written
+text_prefix src old new read written d l = (d.scalars, d.text, (whole_fits src old new read written d l).1)
+
+pub text_read : (src old new : List ℕ) (read written : ℕ) → ConvertsMaximal encode_utf16 src old new read written → length src ≤ length old → read ≡ length src → IsUtf8 src
+text_read src old new read written d l e =
+    let w = whole_fits src old new read written d l in
+    subst IsUtf8 (take_all d.text.valid src (omega (arith, w.0, e))) d.text.prefix.kind
+
+pub text_all_read : (src old new : List ℕ) (read written : ℕ) → ConvertsMaximal encode_utf16 src old new read written → length src ≤ length old → IsUtf8 src → read ≡ length src
+text_all_read src old new read written d l u =
+    let w = whole_fits src old new read written d l in
+    let all : length src ≤ d.text.valid = d.text.prefix.longest (length src) (omega arith) (subst IsUtf8 (sym (take_all (length src) src (omega arith))) u) in
+    omega (arith, w.0, all, d.text.prefix.within)

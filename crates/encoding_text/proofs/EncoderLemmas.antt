@@ -16,9 +16,8 @@ use Rattle.encoding_definitions.specs.FirstScalar.{BeginsLow, IsFirstPart16, IsF
 use Rattle.encoding_text.specs.Encoding.{IsPendingSurrogate, EndsHigh, AreEncodable, IsEncodeResult, EncodeStep}
 use Rattle.encoding_text.specs.declared.utf_8.encoder.EncoderResult.{EncoderResult}
 use Rattle.encoding_text.specs.declared.utf_8.encoder.EncoderResult.TheVariants.{InputEmpty, OutputFull}
-use Rattle.encoding_definitions.proofs.PrefixesLemmas.{IsLongestFittingPrefix-stop, WritesPrefix_after, WritesPrefix-length}
+use Rattle.encoding_definitions.proofs.PrefixesLemmas.{IsLongestFittingPrefix-stop, WritesPrefix_after, WritesPrefix-length, IsLongestFittingPrefix-cons, written_is, written_prefix}
 use Rattle.encoding_definitions.proofs.Utf16Lemmas.{parts_of, parts_exist, ArePartsOf16-cons, halves, length-units_of_part16}
-use Rattle.encoding_definitions.proofs.FittingLemmas.{IsLongestFittingPrefix-cons, written_is, written_prefix}
 use Rattle.encoding_definitions.proofs.Utf16PrefixLemmas.{all_fit, units_counted}
 use Rattle.encoding_kernels.proofs.AsciiLemmas.{Each-take}
 

@@ -13,8 +13,7 @@ use Rattle.encoding_definitions.specs.Utf16.{Part16, Character16, Unpaired, utf8
 use Rattle.encoding_text.specs.Encoding.{encodable_with_text, text_bytes_of, IsTextEncodeResult, TextEncodeStep}
 use Rattle.encoding_text.specs.declared.utf_8.encoder.EncoderResult.{EncoderResult}
 use Rattle.encoding_text.specs.declared.utf_8.encoder.EncoderResult.TheVariants.{InputEmpty, OutputFull}
-use Rattle.encoding_definitions.proofs.PrefixesLemmas.{IsLongestFittingPrefix-all, IsLongestFittingPrefix-stop, WritesPrefix_after, WritesPrefix-length}
-use Rattle.encoding_definitions.proofs.FittingLemmas.{IsLongestFittingPrefix-cons, IsLongestFittingPrefix-map, length-prefix, written_is, written_prefix}
+use Rattle.encoding_definitions.proofs.PrefixesLemmas.{IsLongestFittingPrefix-all, IsLongestFittingPrefix-stop, WritesPrefix_after, WritesPrefix-length, IsLongestFittingPrefix-cons, IsLongestFittingPrefix-map, length-prefix, written_is, written_prefix}
 use borrow.Rule.Slice.PartMut.{put_mid}
 
 -- ---- the prefix of a text up to the last character boundary that fits

@@ -1,4 +1,3 @@
 pub mod EngineBlockLemmas
 pub mod EnginePieceLemmas
 pub mod RoundTripLemmas
-pub mod EngineUnitLemmas

@@ -1,7 +1,10 @@
--- What a call without a destination yields for at most one byte.
-use Rattle.std.proofs.Common.{◌≡◌, ◌≢◌, ℕ, ◌≤◌, true, Bool, List, [], ◌∷◌, ◌++◌, length, encode_utf8, encode_utf8_all, refl, sym, ap, subst, ◌∙◌, arith, append-nil, length-append}
+-- What is left in a buffer, how a read cuts a character, and what a call without a destination yields for at most one
+-- byte.
+use Rattle.std.proofs.Common.{◌≡◌, ℕ, ◌+◌, ◌-◌, ◌≤◌, List, take, drop, slice_range, sym, ap, ◌∙◌, arith, ◌≢◌, min, [], ◌∷◌, ◌++◌, length, subst, length-append, true, Bool, encode_utf8, encode_utf8_all, refl, append-nil}
+use Rattle.std.proofs.lemmas.List.{drop-take, drop-drop, length-take}
+use Rattle.reader_example.specs.Reading.{YieldsCharacters, text_for}
+use Rattle.reader_example.proofs.ReaderBlockLemmas.{some_length}
 use Rattle.std.proofs.lemmas.Bool.{and_parts}
-use Rattle.std.proofs.lemmas.List.{length-take}
 use Rattle.std.proofs.lemmas.Str.{length-encode, len_utf8_bounds, encodes-chars}
 use Rattle.std.specs.Char.{IsScalar}
 use Rattle.std.specs.Str.{IsUtf8, all_scalars, chars}
@@ -15,7 +18,31 @@ use Rattle.encoding_text.specs.declared.decoder.Piece.{Piece}
 use Rattle.encoding_text.specs.declared.decoder.Piece.TheVariants.{Text, Char, Malformed, InputEmpty}
 use Rattle.encoding_runs.specs.DecoderCalls.{YieldsFirstParts}
 use Rattle.encoding_runs.specs.MixedCalls.{Form, Borrowed, CallResult, Handed, MixedDecodeStep, AreYielded, IsInputEmpty}
-use Rattle.reader_example.specs.Reading.{text_for}
+
+-- without its first units
+pub consumed : {A : Type 0} (units : List A) (begin end count : ℕ) → begin + count ≤ end → slice_range units (begin + count) end ≡ drop count (slice_range units begin end)
+consumed units begin end count inside =
+    let parts : end - begin ≡ count + (end - (begin + count)) = omega arith in
+    sym (ap (λ n. drop count (take n (drop begin units))) parts ∙ drop-take count (end - (begin + count)) (drop begin units)
+    ∙ ap (take (end - (begin + count))) (drop-drop count begin units))
+
+module _ (IsText IsCharacter : List ℕ → Type 0) (empty : IsText []) (text : (units : List ℕ) → IsCharacter units → IsText units) where
+  pub character_text : (held : List ℕ) → (held ≢ [] → IsCharacter held) → IsText held
+  character_text [] one = empty
+  character_text (u ∷ us) one = text (u ∷ us) (one (λ none. omega (arith, ap length none)))
+
+  module _ (held new dst : List ℕ) (room count : ℕ) (units : held ≡ take count dst ++ new) (moved : count ≡ min room (length held)) (size : length dst ≡ room) where
+    filled : new ≢ [] → length (take count dst) ≡ room
+    filled some = omega (arith, some_length new some, ap length units, length-append (take count dst) new, length-take count dst, moved, size)
+
+    -- from what was kept before, or else from a character that was decoded
+    pub yields_held : (old : List ℕ) → (old ≢ [] → old ≡ held) → (old ≡ [] → held ≢ [] → IsCharacter held) → YieldsCharacters IsText IsCharacter old room (take count dst) new
+    yields_held old same one = record {
+      rest = λ some. sym units ∙ sym (same some);
+      whole = λ none. subst IsText units (character_text held (one none));
+      one = λ none some. subst IsCharacter units (one none (λ nothing. omega (arith, some_length new some, ap length nothing, ap length units, length-append (take count dst) new)));
+      full = filled;
+    }
 
 text_of_parts : (p src : List ℕ) (last : Bool) (piece : Piece) (read : ℕ) (q : List ℕ) (parts : List Part) → BorrowedDecodeStep p src last piece read q → AreBorrowed piece parts → text_for piece ≡ lossy_utf8 parts
 text_of_parts p src last (Text text) read q parts call are =

@@ -7,7 +7,7 @@ use Rattle.encoding_runs.specs.declared.repair.engine.Repaired.{Repaired}
 use Rattle.encoding_runs.specs.declared.repair.engine.RepairFault.{RepairFault}
 use Rattle.encoding_runs.specs.declared.repair.engine.RepairFault.TheVariants.{Read, Write, Limit}
 use Rattle.encoding_runs.specs.Repairs.{WritesRepaired, WritesFinal, StopsReading, RepairsAll, RepairsFinal, RepairsProperPrefix}
-use Rattle.encoding_runs.proofs.PrefixLemmas.{holds_repaired, holds_final}
+use Rattle.encoding_runs.proofs.RepairLemmas.{holds_repaired, holds_final}
 use Rattle.utf8_repair.specs.Service.{RepairsPrefix, WritesPrefixOfPendingOutput}
 
 -- ---- what the engine returned

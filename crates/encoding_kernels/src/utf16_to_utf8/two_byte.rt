@@ -10,7 +10,7 @@ use crate::simd::compress_pairs::places_by;
 use std::simd::prelude::*;
 
 /// Returns whether each of the sixteen code units is ASCII.
-#[tactic(auto, using(crate::proofs::UnitTestLemmas::all_ascii))]
+#[tactic(auto, using(crate::proofs::TestLemmas::all_ascii))]
 #[inline(always)]
 pub(super) fn are_ascii(units: u16x16) -> bool
     ensures { IsTrue result → (k : ℕ) → k < 16 → slice_index units k < 0x80 }
@@ -19,7 +19,7 @@ pub(super) fn are_ascii(units: u16x16) -> bool
 }
 
 /// Returns whether each of the sixteen code units is below U+0800.
-#[tactic(auto, using(crate::proofs::UnitTestLemmas::all_two_byte))]
+#[tactic(auto, using(crate::proofs::TestLemmas::all_two_byte))]
 #[inline(always)]
 pub(super) fn are_two_byte(units: u16x16) -> bool
     ensures { IsTrue result → (k : ℕ) → k < 16 → slice_index units k < 0x800 }

@@ -1,7 +1,7 @@
 use Rattle.std.specs.Prelude.{encode_utf8}
 use Rattle.std.specs.Char.Escape.{encode_utf16}
 use Rattle.encoding_text.specs.Decoding.{max_utf16_length, max_utf8_length_with_replacement}
-use Rattle.decoder_example.proofs.MarkedStreamLemmas.{calls_give}
+use Rattle.decoder_example.proofs.YieldedLemmas.{calls_give}
 use Rattle.decoder_example.proofs.streams.law_calls.Goals as goal
 
 pub returns : goal.returns

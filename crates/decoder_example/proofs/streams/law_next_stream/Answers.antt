@@ -1,7 +1,7 @@
 use Rattle.std.proofs.Common.{inl, [], refl, subst}
 use Rattle.encoding_runs.specs.Calls.{IsChain}
 use Rattle.encoding_runs.specs.MixedCalls.{MixedDecodeStep}
-use Rattle.decoder_example.proofs.MarkedStreamLemmas.{none_left}
+use Rattle.decoder_example.proofs.YieldedLemmas.{none_left}
 use Rattle.decoder_example.proofs.streams.law_next_stream.Goals as goal
 
 pub returns : goal.returns

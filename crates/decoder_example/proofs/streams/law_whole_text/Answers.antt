@@ -1,6 +1,6 @@
 use Rattle.std.proofs.Common.{inl, [], encode_utf8, encode_utf8_all, refl}
 use Rattle.std.specs.Char.Escape.{encode_utf16}
-use Rattle.decoder_example.proofs.MarkedStreamLemmas.{takes_whole}
+use Rattle.decoder_example.proofs.YieldedLemmas.{takes_whole}
 use Rattle.decoder_example.proofs.streams.law_whole_text.Goals as goal
 
 pub returns : goal.returns

@@ -2,7 +2,7 @@ use Rattle.std.proofs.Common.{◌++◌, ap, ◌∙◌}
 use Rattle.std.proofs.lemmas.Grind.{flat_map-append}
 use Rattle.std.specs.Char.Escape.{encode_utf16}
 use Rattle.encoding_text.specs.Parts.{lossy_scalar, lossy_utf16}
-use Rattle.decoder_example.proofs.MarkedStreamLemmas.{final_calls}
+use Rattle.decoder_example.proofs.YieldedLemmas.{final_calls}
 use Rattle.decoder_example.proofs.streams.law_yielded_stays.Goals as goal
 
 pub returns : goal.returns

@@ -1,6 +1,6 @@
 use Rattle.std.proofs.Common.{subst, sym, IsUtf8}
 use Rattle.encoding_definitions.specs.Prefixes.{IsLongestPrefix}
-use Rattle.encoding_text.proofs.ToUtf16Lemmas.{whole_fits, text_prefix}
+use Rattle.encoding_text.proofs.ConvertingLemmas.{whole_fits, text_prefix}
 use Rattle.encoding_c.proofs.conversions.encoding_text_mem_convert_utf8_to_utf16_without_replacement.Goals as goal
 
 pub returns-clause-prefix : goal.returns-clause-prefix

@@ -1,6 +1,6 @@
 use Rattle.std.proofs.Common.{◌≡◌, ◌++◌, take, ap, sym, ◌∙◌, subst}
 use Rattle.encoding_c.specs.States.{EndsWith}
-use Rattle.encoding_c.proofs.DecoderLemmas.{borrowed_call_ends}
+use Rattle.encoding_c.proofs.StateLemmas.{borrowed_call_ends}
 use Rattle.encoding_c.proofs.decoder.encoding_text_utf8_decoder_decode_borrowed.Goals as goal
 
 pub stored-requires-clause-ends : goal.stored-requires-clause-ends

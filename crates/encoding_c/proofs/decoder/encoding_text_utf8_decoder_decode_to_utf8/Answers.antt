@@ -1,7 +1,7 @@
 use Rattle.std.proofs.Common.{◌≡◌, ◌++◌, take, ap, sym, ◌∙◌, subst}
 use Rattle.encoding_c.specs.States.{EndsWith}
 use Rattle.std.specs.Prelude.{encode_utf8}
-use Rattle.encoding_c.proofs.DecoderLemmas.{call_ends}
+use Rattle.encoding_c.proofs.StateLemmas.{call_ends}
 use Rattle.encoding_c.proofs.decoder.encoding_text_utf8_decoder_decode_to_utf8.Goals as goal
 
 pub stored-requires-clause-ends : goal.stored-requires-clause-ends

@@ -1,5 +1,5 @@
 use Rattle.std.proofs.Common.{arith}
-use Rattle.encoding_c.proofs.DecoderLemmas.{few_pending}
+use Rattle.encoding_c.proofs.StateLemmas.{few_pending}
 use Rattle.encoding_c.proofs.decoder.pending_count.Goals as goal
 
 pub returns-in-Some-clause-at_most_three : goal.returns-in-Some-clause-at_most_three

@@ -1,7 +1,7 @@
 use Rattle.std.proofs.Common.{◌≡◌, ◌+◌, ◌-◌, length, arith, ap, sym, take, ◌∷◌, [], ◌∙◌, subst}
 use Rattle.std.proofs.lemmas.List.{length-append}
 use Rattle.encoding_definitions.specs.Pending.{IsPending}
-use Rattle.encoding_c.proofs.DecoderLemmas.{compress_last}
+use Rattle.encoding_c.proofs.StateLemmas.{compress_last}
 use Rattle.encoding_c.proofs.decoder.stored.Goals as goal
 
 pub overflow_sub-start : goal.overflow_sub-start

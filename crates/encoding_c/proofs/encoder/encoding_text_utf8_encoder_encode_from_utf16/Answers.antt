@@ -1,4 +1,4 @@
-use Rattle.encoding_c.proofs.EncoderStateLemmas.{unit_after}
+use Rattle.encoding_c.proofs.StateLemmas.{unit_after}
 use Rattle.encoding_c.proofs.encoder.encoding_text_utf8_encoder_encode_from_utf16.Goals as goal
 
 pub stored-requires : goal.stored-requires

@@ -1,4 +1,4 @@
-use Rattle.encoding_c.proofs.Latin1ResultLemmas.{latin1_fits_all}
+use Rattle.encoding_c.proofs.LengthLemmas.{latin1_fits_all}
 use Rattle.encoding_c.proofs.latin1.encoding_text_mem_decode_latin1.Goals as goal
 
 pub returns-clause-written : goal.returns-clause-written

@@ -1,6 +1,6 @@
 use Rattle.std.proofs.Common.{◌≡◌, ◌∙◌, sym, length, arith, ap, refl, Err, take}
 use Rattle.std.proofs.lemmas.List.{length-append, length-take}
-use Rattle.encoding_c.proofs.BufferRepairLemmas.{stops_short}
+use Rattle.encoding_c.proofs.LengthLemmas.{stops_short}
 use Rattle.encoding_c.proofs.repair.encoding_text_repair_slice.Goals as goal
 
 pub unreachable-requires : goal.unreachable-requires

@@ -1,5 +1,5 @@
 use Rattle.std.proofs.Common.{◌+◌, arith, refl}
-use Rattle.encoding_kernels.proofs.BidiUnitsLemmas.{units_joined, units_clear, units_low}
+use Rattle.encoding_kernels.proofs.BidiLemmas.{units_joined, units_clear, units_low}
 use Rattle.encoding_kernels.proofs.bidi.skip_clear_units.Goals as goal
 
 pub loop-at-preserved : goal.loop-at-preserved

@@ -1,4 +1,4 @@
-use Rattle.encoding_runs.proofs.CutLemmas.{cut_parts, cut_texts, cut_counts, ascii_settles}
+use Rattle.encoding_runs.proofs.FinalLemmas.{cut_parts, cut_texts, cut_counts, ascii_settles}
 use Rattle.encoding_runs.proofs.laws.law_cuts.Goals as goal
 
 pub returns : goal.returns

@@ -1,7 +1,7 @@
 use Rattle.encoding_text.proofs.OneResultLemmas.{one_utf8_result, one_utf16_result}
-use Rattle.encoding_text.proofs.OnePieceLemmas.{one_piece}
+use Rattle.encoding_text.proofs.BorrowedLemmas.{one_piece}
 use Rattle.encoding_runs.proofs.MixedLemmas.{one_call_yields, mixed_parts, same_results}
-use Rattle.encoding_runs.proofs.WholeTextLemmas.{reads_text, queried_fits}
+use Rattle.encoding_runs.proofs.CompletionLemmas.{reads_text, queried_fits}
 use Rattle.encoding_runs.proofs.laws.law_mixed_calls.Goals as goal
 
 pub returns : goal.returns

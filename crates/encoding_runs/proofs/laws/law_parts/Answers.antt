@@ -1,8 +1,7 @@
 use Rattle.encoding_definitions.proofs.DecompositionLemmas.{has_parts, same_parts, parts-bytes, has_final, final_prefix}
 use Rattle.encoding_definitions.proofs.LossyLemmas.{repaired-utf8_lossy}
-use Rattle.encoding_runs.proofs.CutLemmas.{final_text}
-use Rattle.encoding_runs.proofs.FinalLemmas.{final_first}
-use Rattle.encoding_runs.proofs.WellFormedLemmas.{well_formed, repaired_utf8}
+use Rattle.encoding_runs.proofs.FinalLemmas.{final_text, final_first}
+use Rattle.encoding_runs.proofs.MalformedLemmas.{well_formed, repaired_utf8}
 use Rattle.encoding_runs.proofs.laws.law_parts.Goals as goal
 
 pub returns : goal.returns

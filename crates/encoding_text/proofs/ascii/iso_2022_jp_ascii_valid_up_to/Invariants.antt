@@ -1,5 +1,5 @@
 use Rattle.std.proofs.Common.{◌≡◌, ◌*◌}
-use Rattle.encoding_text.proofs.Iso2022JpLemmas.{AreOwn}
+use Rattle.encoding_text.proofs.WholePrefixesLemmas.{AreOwn}
 use Rattle.encoding_text.proofs.ascii.iso_2022_jp_ascii_valid_up_to.Given as goal
 
 abbrev pub invariant-loop-stride : goal.invariant-loop-stride

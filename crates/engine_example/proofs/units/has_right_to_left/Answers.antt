@@ -2,7 +2,7 @@ use Rattle.std.proofs.Common.{◌↔◌, subst}
 use Rattle.std.specs.Prelude.{Any}
 use Rattle.encoding_text.specs.Bidi.{IsRightToLeft, IsBidiUnits}
 use Rattle.encoding_text.proofs.SurrogateLemmas.{scalars_of_valid}
-use Rattle.engine_example.proofs.EngineUnitLemmas.{lossy_is}
+use Rattle.engine_example.proofs.RoundTripLemmas.{lossy_is}
 use Rattle.engine_example.proofs.units.has_right_to_left.Goals as goal
 
 pub returns-clause-right_to_left : goal.returns-clause-right_to_left

@@ -1,6 +1,6 @@
 use Rattle.std.proofs.Common.{sym, map}
 use Rattle.encoding_text.specs.Utf16.{Character16}
-use Rattle.engine_example.proofs.EngineUnitLemmas.{written_same}
+use Rattle.engine_example.proofs.RoundTripLemmas.{written_same}
 use Rattle.engine_example.proofs.units.law_repair_first.Goals as goal
 
 pub returns : goal.returns

@@ -3,7 +3,7 @@ use Rattle.std.specs.Char.Escape.{encode_utf16}
 use Rattle.std.specs.List.{flat_map}
 use Rattle.encoding_text.specs.Surrogates.{AreRepairedUnits}
 use Rattle.encoding_text.proofs.SurrogateLemmas.{scalars_of_valid}
-use Rattle.engine_example.proofs.EngineUnitLemmas.{lossy_is}
+use Rattle.engine_example.proofs.RoundTripLemmas.{lossy_is}
 use Rattle.engine_example.proofs.units.repair_units.Goals as goal
 
 pub returns : goal.returns

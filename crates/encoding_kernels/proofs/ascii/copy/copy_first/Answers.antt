@@ -1,5 +1,5 @@
 use Rattle.std.proofs.Common.{◌+◌, ◌++◌, drop, take, ap, ◌∙◌}
-use Rattle.encoding_kernels.proofs.PutLemmas.{whole_chunk}
+use Rattle.encoding_kernels.proofs.LaneLemmas.{whole_chunk}
 use Rattle.encoding_kernels.proofs.ascii.copy.copy_first.Goals as goal
 
 pub returns : goal.returns

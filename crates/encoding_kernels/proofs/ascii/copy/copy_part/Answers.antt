@@ -1,6 +1,6 @@
 use Rattle.std.proofs.Common.{ap, ◌∙◌}
 use Rattle.std.specs.Simd.Lanes.{put_chunk}
-use Rattle.encoding_kernels.proofs.PutLemmas.{put_is, whole_chunk}
+use Rattle.encoding_kernels.proofs.LaneLemmas.{put_is, whole_chunk}
 use Rattle.encoding_kernels.proofs.ascii.copy.copy_part.Goals as goal
 
 pub returns : goal.returns

@@ -2,7 +2,7 @@ use Rattle.std.proofs.Common.{◌+◌, ◌++◌, drop, take, ap, ◌∙◌, arit
 use Rattle.std.proofs.lemmas.Simd.{length-chunk, get_or-chunk}
 use Rattle.std.specs.Simd.Lanes.{chunk}
 use Rattle.encoding_kernels.proofs.NarrowLemmas.{lower_fit, lower_same}
-use Rattle.encoding_kernels.proofs.PutLemmas.{whole_chunk}
+use Rattle.encoding_kernels.proofs.LaneLemmas.{whole_chunk}
 use Rattle.encoding_kernels.proofs.ascii.copy.pack_first.Goals as goal
 
 pub overflow_cast-lower : goal.overflow_cast-lower

@@ -1,6 +1,6 @@
 use Rattle.std.proofs.Common.{◌+◌, ◌++◌, drop, take, ap, ◌∙◌, map-id}
 use Rattle.std.specs.Simd.Lanes.{chunk}
-use Rattle.encoding_kernels.proofs.PutLemmas.{whole_chunk}
+use Rattle.encoding_kernels.proofs.LaneLemmas.{whole_chunk}
 use Rattle.encoding_kernels.proofs.ascii.copy.unpack_first.Goals as goal
 
 pub returns : goal.returns

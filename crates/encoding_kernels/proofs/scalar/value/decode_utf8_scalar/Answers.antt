@@ -1,6 +1,6 @@
 use Rattle.std.proofs.Common.{rules}
 use Rattle.encoding_definitions.proofs.SequenceLemmas.{IsSequence-some, length-IsSequence}
-use Rattle.encoding_definitions.proofs.ScalarLemmas.{scalar_two, scalar_three, scalar_four}
+use Rattle.encoding_definitions.proofs.EncodingLemmas.{scalar_two, scalar_three, scalar_four}
 use Rattle.encoding_kernels.proofs.scalar.value.decode_utf8_scalar.Goals as goal
 
 pub returns-in-len2-clause-scalar : goal.returns-in-len2-clause-scalar

@@ -1,5 +1,5 @@
 use Rattle.std.proofs.Common.{length}
-use Rattle.encoding_definitions.proofs.Utf8WriteLemmas.{writes_two, writes_three, writes_four, two_bytes, three_bytes, four_bytes, room_two, room_three, room_four}
+use Rattle.encoding_definitions.proofs.Utf8Lemmas.{writes_two, writes_three, writes_four, two_bytes, three_bytes, four_bytes, room_two, room_three, room_four}
 use Rattle.encoding_kernels.proofs.scalar.value.write_scalar.Goals as goal
 
 pub returns-then-scalar-lt2048 : goal.returns-then-scalar-lt2048

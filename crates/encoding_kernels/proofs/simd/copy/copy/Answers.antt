@@ -1,6 +1,6 @@
 use Rattle.std.proofs.lemmas.Simd.{length-chunk}
 use Rattle.std.specs.Simd.Lanes.{chunk}
-use Rattle.encoding_kernels.proofs.PutLemmas.{put_is}
+use Rattle.encoding_kernels.proofs.LaneLemmas.{put_is}
 use Rattle.encoding_kernels.proofs.simd.copy.copy.Goals as goal
 
 pub returns : goal.returns

@@ -1,6 +1,5 @@
 use Rattle.std.proofs.Common.{[], arith, refl, sym, subst}
-use Rattle.encoding_definitions.proofs.PrefixesLemmas.{WritesPrefix-nil, WritesPrefix-same, WritesPrefix_put}
-use Rattle.encoding_definitions.proofs.FittingLemmas.{written_is}
+use Rattle.encoding_definitions.proofs.PrefixesLemmas.{WritesPrefix-nil, WritesPrefix-same, WritesPrefix_put, written_is}
 use Rattle.encoding_definitions.proofs.Utf16PrefixLemmas.{Walked, walked_prefix}
 use Rattle.encoding_kernels.proofs.PairedUnitsLemmas.{goes_block}
 use Rattle.encoding_definitions.specs.Utf16.{IsUtf8OfPrefix}

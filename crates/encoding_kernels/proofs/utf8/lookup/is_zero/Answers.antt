@@ -1,5 +1,5 @@
 use Rattle.std.proofs.Common.{eqb-true, arith}
-use Rattle.encoding_kernels.proofs.MaskLemmas.{zeros_from_mask}
+use Rattle.encoding_kernels.proofs.TestLemmas.{zeros_from_mask}
 use Rattle.encoding_kernels.proofs.utf8.lookup.is_zero.Goals as goal
 
 pub returns : goal.returns

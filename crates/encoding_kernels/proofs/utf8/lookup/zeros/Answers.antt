@@ -1,4 +1,4 @@
-use Rattle.encoding_kernels.proofs.MaskLemmas.{zeros_before}
+use Rattle.encoding_kernels.proofs.TestLemmas.{zeros_before}
 use Rattle.encoding_kernels.proofs.utf8.lookup.zeros.Goals as goal
 
 pub returns : goal.returns

@@ -2,8 +2,7 @@ use Rattle.std.proofs.Common.{inl, inr, [], ◌∷◌, slice_index, arith}
 use Rattle.std.proofs.lemmas.Bool.{both_ways, not-true, not-false}
 use Rattle.encoding_definitions.specs.Sequence.{IsIncomplete, IsContinuation}
 use Rattle.encoding_definitions.proofs.SequenceLemmas.{decide_incomplete}
-use Rattle.encoding_text.proofs.CallLemmas.{begins_before}
-use Rattle.encoding_text.proofs.SingleByteLemmas.{single_byte, unpaired_incomplete, not_ascii}
+use Rattle.encoding_text.proofs.CallLemmas.{begins_before, single_byte, unpaired_incomplete, not_ascii}
 use Rattle.encoding_text.proofs.decoder.pending.is_malformed_byte.Goals as goal
 
 pub returns-then-lead-lt128-clause-begins : goal.returns-then-lead-lt128-clause-begins

@@ -1,7 +1,7 @@
 use Rattle.std.proofs.Common.{◌+◌, arith, refl, subst}
 use Rattle.encoding_kernels.specs.RightToLeft.{NoneRightToLeft}
 use Rattle.encoding_definitions.proofs.BidiUnitsLemmas.{bidi_at, bidi_place}
-use Rattle.encoding_kernels.proofs.BidiUnitsLemmas.{units_joined, unit_none}
+use Rattle.encoding_kernels.proofs.BidiLemmas.{units_joined, unit_none}
 use Rattle.encoding_text.proofs.mem.bidi.is_utf16_bidi.Goals as goal
 
 pub loop-i-init : goal.loop-i-init

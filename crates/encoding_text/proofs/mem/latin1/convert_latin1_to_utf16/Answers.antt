@@ -1,7 +1,6 @@
 use Rattle.std.proofs.Common.{[], arith}
 use Rattle.encoding_kernels.proofs.AsciiLemmas.{WritesPrefix_copy}
-use Rattle.encoding_kernels.proofs.StrideLoopLemmas.{stride_part}
-use Rattle.encoding_kernels.proofs.StrideCopyLemmas.{copied_part}
+use Rattle.encoding_kernels.proofs.StrideLemmas.{stride_part, copied_part}
 use Rattle.encoding_text.proofs.mem.latin1.convert_latin1_to_utf16.Goals as goal
 
 pub loop-stride-preserved : goal.loop-stride-preserved

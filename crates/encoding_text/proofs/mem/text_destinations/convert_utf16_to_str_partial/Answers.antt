@@ -1,4 +1,4 @@
-use Rattle.encoding_definitions.proofs.Utf16TextLemmas.{IsUtf8-longest}
+use Rattle.encoding_definitions.proofs.Utf16PrefixLemmas.{IsUtf8-longest}
 use Rattle.encoding_definitions.proofs.ClearingLemmas.{clears_after, written_stays, text_stays}
 use Rattle.encoding_text.proofs.mem.text_destinations.convert_utf16_to_str_partial.Goals as goal
 

@@ -1,5 +1,5 @@
 use Rattle.std.proofs.Common.{refl}
-use Rattle.encoding_text.proofs.ToUtf16Lemmas.{text_prefix, text_read, text_all_read}
+use Rattle.encoding_text.proofs.ConvertingLemmas.{text_prefix, text_read, text_all_read}
 use Rattle.encoding_text.proofs.mem.to_utf16.convert_utf8_to_utf16_without_replacement.Goals as goal
 
 pub returns-then-read-src-clause-whole : goal.returns-then-read-src-clause-whole

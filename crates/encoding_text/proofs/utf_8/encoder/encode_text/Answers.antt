@@ -1,5 +1,5 @@
 use Rattle.std.proofs.Common.{length}
-use Rattle.encoding_definitions.proofs.FittingLemmas.{written_is}
+use Rattle.encoding_definitions.proofs.PrefixesLemmas.{written_is}
 use Rattle.encoding_text.proofs.EncoderTextLemmas.{text_empty, text_full}
 use Rattle.encoding_text.proofs.utf_8.encoder.encode_text.Goals as goal
 

@@ -1,6 +1,5 @@
 use Rattle.std.proofs.Common.{◌++◌, ◌∷◌, [], arith, refl, sym, subst}
-use Rattle.encoding_definitions.proofs.PrefixesLemmas.{WritesPrefix_after, WritesPrefix-same}
-use Rattle.encoding_definitions.proofs.FittingLemmas.{written_is}
+use Rattle.encoding_definitions.proofs.PrefixesLemmas.{WritesPrefix_after, WritesPrefix-same, written_is}
 use Rattle.encoding_definitions.proofs.Utf16PrefixLemmas.{step_walked, step_within, step_written, walked_prefix}
 use Rattle.encoding_kernels.proofs.PairedUnitsLemmas.{goes_on}
 use Rattle.encoding_definitions.specs.Utf16.{IsUtf8OfPrefix}

@@ -1,6 +1,5 @@
 use Rattle.std.proofs.Common.{◌++◌, ◌∷◌, [], length, arith, refl, sym, subst}
-use Rattle.encoding_definitions.proofs.PrefixesLemmas.{WritesPrefix_after, WritesPrefix-same, WritesPrefix-length}
-use Rattle.encoding_definitions.proofs.FittingLemmas.{written_is}
+use Rattle.encoding_definitions.proofs.PrefixesLemmas.{WritesPrefix_after, WritesPrefix-same, WritesPrefix-length, written_is}
 use Rattle.encoding_definitions.proofs.Utf16PrefixLemmas.{step_walked, step_within, step_written, step_stops, walked_all}
 use Rattle.encoding_definitions.specs.Utf16.{IsUtf8OfLongestPrefix}
 use Rattle.encoding_text.proofs.utf_8.from_utf16.convert_utf16_to_utf8_partial_tail.Goals as goal

@@ -1,6 +1,6 @@
 use Rattle.std.proofs.Common.{◌-◌, length, drop, ap, ◌∙◌, arith}
 use Rattle.std.proofs.lemmas.List.{length-take, length-drop}
-use Rattle.reader_example.proofs.BufferLemmas.{consumed}
+use Rattle.reader_example.proofs.ReaderPieceLemmas.{consumed}
 use Rattle.reader_example.proofs.buffer.Buffer.consume.Goals as goal
 
 pub returns : goal.returns

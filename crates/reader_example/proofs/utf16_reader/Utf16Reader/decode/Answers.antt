@@ -3,7 +3,7 @@ use Rattle.std.proofs.lemmas.List.{nil_from_length}
 use Rattle.std.specs.Io.KnownBytes.{Consumes}
 use Rattle.encoding_text.specs.Surrogates.{IsValidUtf16}
 use Rattle.reader_example.proofs.ReaderBlockLemmas.{written_prefix}
-use Rattle.reader_example.proofs.ReaderUnitLemmas.{uncut, Consumes-units, no_units_left, no_units, valid_units}
+use Rattle.reader_example.proofs.ReaderTextLemmas.{uncut, Consumes-units, no_units_left, no_units, valid_units}
 use Rattle.reader_example.proofs.utf16_reader.Utf16Reader.decode.Goals as goal
 
 pub invariant_of-self : goal.invariant_of-self

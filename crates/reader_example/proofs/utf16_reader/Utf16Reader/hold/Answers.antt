@@ -6,8 +6,8 @@ use Rattle.encoding_text.specs.Sequence.{IsSequence}
 use Rattle.encoding_text.proofs.Utf8Lemmas.{IsUtf8-sequence}
 use Rattle.reader_example.specs.Reading.{IsUtf16Character}
 use Rattle.reader_example.proofs.ReaderBlockLemmas.{some_length, written_prefix}
-use Rattle.reader_example.proofs.CharacterLemmas.{character_text}
-use Rattle.reader_example.proofs.ReaderUnitLemmas.{Keeps-units, no_units_left, no_units, some_text, one_character}
+use Rattle.reader_example.proofs.ReaderPieceLemmas.{character_text}
+use Rattle.reader_example.proofs.ReaderTextLemmas.{Keeps-units, no_units_left, no_units, some_text, one_character}
 use Rattle.reader_example.proofs.utf16_reader.Utf16Reader.hold.Goals as goal
 
 pub from_utf8_unchecked-character-requires : goal.from_utf8_unchecked-character-requires

@@ -3,8 +3,8 @@ use Rattle.std.proofs.lemmas.Bool.{both_ways, eqb-true}
 use Rattle.std.proofs.lemmas.List.{nil_from_length}
 use Rattle.encoding_text.specs.Surrogates.{IsValidUtf16}
 use Rattle.reader_example.specs.Reading.{IsUtf16Character, half_of}
-use Rattle.reader_example.proofs.CharacterLemmas.{yields_held}
-use Rattle.reader_example.proofs.ReaderUnitLemmas.{valid_nothing, valid_character}
+use Rattle.reader_example.proofs.ReaderPieceLemmas.{yields_held}
+use Rattle.reader_example.proofs.ReaderTextLemmas.{valid_nothing, valid_character}
 use Rattle.reader_example.proofs.utf16_reader.Utf16Reader.read.Goals.{then-is_empty-2+else-dst-ge-BLOCK_LENGTH+in_ok-hold, else-is_empty-2}
 use Rattle.reader_example.proofs.utf16_reader.Utf16Reader.read.Goals as goal
 

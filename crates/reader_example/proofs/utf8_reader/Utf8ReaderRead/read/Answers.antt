@@ -6,7 +6,7 @@ use Rattle.std.specs.Str.{IsUtf8}
 use Rattle.encoding_text.proofs.Utf8Lemmas.{IsUtf8-sequence}
 use Rattle.encoding_text.specs.Sequence.{IsSequence}
 use Rattle.reader_example.specs.Reading.{held_of}
-use Rattle.reader_example.proofs.CharacterLemmas.{yields_held}
+use Rattle.reader_example.proofs.ReaderPieceLemmas.{yields_held}
 use Rattle.reader_example.proofs.utf8_reader.Utf8ReaderRead.read.Goals.{then-is_empty-2+else-dst-ge-BLOCK_LENGTH+in_ok-hold, else-is_empty-2}
 use Rattle.reader_example.proofs.utf8_reader.Utf8ReaderRead.read.Goals as goal
 

@@ -1,9 +1,14 @@
--- A repaired text is at most three times as long as its bytes.
-use Rattle.std.proofs.Common.{◌≡◌, ◌≢◌, ℕ, ◌*◌, ◌<◌, ◌≤◌, List, [], ◌∷◌, length, refl, ap, arith, encode_utf8}
-use Rattle.std.proofs.lemmas.List.{length-append}
+-- Lengths of results: a repaired text is at most three times as long as its bytes, and Latin1 whose UTF-8 fits as a
+-- whole.
+use Rattle.std.proofs.Common.{◌≡◌, ◌≢◌, ℕ, ◌*◌, ◌<◌, ◌≤◌, List, [], ◌∷◌, length, refl, ap, arith, encode_utf8, ◌+◌, inl, inr, take, encode_utf8_all, ◌∙◌}
+use Rattle.std.proofs.lemmas.List.{length-append, take_all}
 use Rattle.encoding_definitions.specs.Parts.{Part, Character, IllFormed, ArePartsOf, lossy_utf8}
 use Rattle.encoding_definitions.proofs.PartsLemmas.{part_bytes}
 use Rattle.encoding_runs.specs.Repairs.{IsLossyDecodeOf, IsProperPrefix}
+use Rattle.std.proofs.lemmas.Bool.{cases_lt}
+use Rattle.encoding_definitions.specs.Prefixes.{IsLongestFittingPrefix}
+use Rattle.encoding_definitions.proofs.PrefixesLemmas.{length-prefix}
+use Rattle.encoding_definitions.proofs.EncodingLemmas.{flat_map-encode_utf8}
 
 pub length-repaired : (bs : List ℕ) (parts : List Part) → ArePartsOf bs parts → length (lossy_utf8 parts) ≤ 3 * length bs
 unfolding lib.Utf8.encode
@@ -24,3 +29,14 @@ stops_short bs text out (parts, are, e) (rest, some, whole) =
     not_empty : (xs : List ℕ) → xs ≢ [] → 0 < length xs
     not_empty [] n = absurd (n refl)
     not_empty (x ∷ xs) n = omega arith
+
+-- the longest prefix that fits is then all of it
+pub latin1_fits_all : (xs : List ℕ) (room read : ℕ) (out : List ℕ) → length (encode_utf8_all xs) ≤ room
+    → IsLongestFittingPrefix (λ b. b ∷ []) encode_utf8 xs room read out → out ≡ encode_utf8_all xs
+latin1_fits_all xs room read out l f =
+    let all : take (length xs) xs ≡ xs = take_all (length xs) xs (omega arith) in
+    let whole : f.count ≡ length xs = elim (cases_lt f.count (length xs)) [
+      | inl p ↦ absurd (omega (arith, f.longest p, length-prefix encode_utf8 xs (f.count + 1), ap length (flat_map-encode_utf8 xs), l))
+      | inr p ↦ omega (arith, f.within)
+    ] in
+    f.written ∙ flat_map-encode_utf8 (take f.count xs) ∙ ap (λ n. encode_utf8_all (take n xs)) whole ∙ ap encode_utf8_all all

@@ -1,7 +1,7 @@
--- What is kept of a decoder between two calls: its pending bytes are the last of those pending before and those it
--- read.
-use Rattle.std.proofs.Common.{◌≡◌, ℕ, ◌+◌, ◌-◌, ◌≤◌, inl, inr, Bool, false, true≢false, List, [], ◌∷◌, ◌++◌, length, take, slice_index, refl, sym, ap, ◌∙◌, arith, encode_utf8_all}
-use Rattle.std.proofs.lemmas.List.{append-nil, take_all, get_or-append-add}
+-- What is kept between two calls: of a decoder the pending bytes, the last of those pending before and those it read;
+-- of an encoder the pending surrogate, the last unit of the source or the one before.
+use Rattle.std.proofs.Common.{◌≡◌, ℕ, ◌+◌, ◌-◌, ◌≤◌, inl, inr, Bool, false, true≢false, List, [], ◌∷◌, ◌++◌, length, take, slice_index, refl, sym, ap, ◌∙◌, arith, encode_utf8_all, ◌<◌}
+use Rattle.std.proofs.lemmas.List.{append-nil, take_all, get_or-append-add, length-append}
 use Rattle.encoding_definitions.specs.Pending.{IsPending}
 use Rattle.encoding_text.specs.OneResult.{AreSamePiece}
 use Rattle.encoding_text.specs.Decoding.{IsDecodeResult, DecodeStepInto, IsBorrowedResult, BorrowedDecodeStep}
@@ -10,8 +10,12 @@ use Rattle.encoding_text.specs.declared.decoder.DecoderResult.TheVariants.{Input
 use Rattle.encoding_text.specs.declared.decoder.Piece.{Piece}
 use Rattle.encoding_text.specs.declared.decoder.Piece.TheVariants as piece
 use Rattle.encoding_definitions.proofs.SequenceLemmas.{length-IsIncomplete}
-use Rattle.encoding_text.proofs.OnePieceLemmas.{same_piece}
-use Rattle.encoding_c.specs.States.{EndsWith}
+use Rattle.encoding_text.proofs.BorrowedLemmas.{same_piece}
+use Rattle.encoding_c.specs.States.{EndsWith, IsPendingUnit}
+use Rattle.std.proofs.lemmas.Bool.{cases_lt}
+use Rattle.encoding_text.specs.Encoding.{IsPendingSurrogate, EncodeStep}
+use Rattle.encoding_text.specs.declared.utf_8.encoder.EncoderResult.{EncoderResult}
+use Rattle.encoding_text.specs.declared.utf_8.encoder.EncoderResult.TheVariants.{InputEmpty, OutputFull}
 
 -- at most three bytes are pending
 pub few_pending : (p : List ℕ) → IsPending p → length p ≤ 3
@@ -73,3 +77,39 @@ compress_last xs prefix q a b c n e few at f g h = three q few (f ∙ ap (slice_
     three (x ∷ y ∷ []) few f g h = (λ i. (f i) ∷ (g i) ∷ [])
     three (x ∷ y ∷ z ∷ []) few f g h = (λ i. (f i) ∷ (g i) ∷ (h i) ∷ [])
     three (x ∷ y ∷ z ∷ w ∷ ys) few f g h = absurd (omega (arith, few))
+
+-- the unit left pending is the last one of the pending surrogate before and the source
+last_unit : (surrogate src prefix left_open : List ℕ) (before unit : ℕ) → surrogate ++ src ≡ prefix ++ left_open → IsPendingSurrogate left_open → (0 < length surrogate → surrogate ≡ before ∷ [])
+    → IsPendingUnit InputEmpty src before unit → 0 < length left_open → left_open ≡ unit ∷ []
+last_unit surrogate src prefix [] before unit e h one kept some = absurd (omega (arith, some))
+last_unit surrogate src prefix (u ∷ v ∷ us) before unit e h one kept some = absurd h
+last_unit surrogate src prefix (u ∷ []) before unit e h one kept some = ap (λ k. k ∷ []) (elim (cases_lt 0 (length src)) [
+  | inl more ↦
+      let place : length prefix + 0 ≡ length surrogate + (length src - 1) = omega (arith, sizes, more) in
+      sym (get_or-append-add prefix (u ∷ []) 0 0) ∙ ap (λ xs. slice_index xs (length prefix + 0)) (sym e) ∙ ap (λ k. slice_index (surrogate ++ src) k) place
+      ∙ get_or-append-add surrogate src (length src - 1) 0 ∙ sym (kept.0 more)
+  | inr none ↦
+      let is : surrogate ≡ before ∷ [] = one (omega (arith, sizes, none)) in
+      let place : length prefix + 0 ≡ 0 = omega (arith, sizes, none, ap length is) in
+      let all : surrogate ++ src ≡ before ∷ [] = ap (λ xs. surrogate ++ xs) (empty src none) ∙ append-nil surrogate ∙ is in
+      sym (get_or-append-add prefix (u ∷ []) 0 0) ∙ ap (λ xs. slice_index xs (length prefix + 0)) (sym e ∙ all) ∙ ap (λ k. slice_index (before ∷ []) k) place ∙ sym (kept.1 (omega (arith, none)))
+])
+  where
+    sizes : length surrogate + length src ≡ length prefix + 1
+    sizes = omega (arith, ap length e, length-append surrogate src, length-append prefix (u ∷ []))
+
+    empty : (xs : List ℕ) → length xs ≤ 0 → xs ≡ []
+    empty [] h = refl
+    empty (x ∷ xs) h = absurd (omega (arith, h))
+
+pub unit_after : (surrogate src out after : List ℕ) (room : ℕ) (last : Bool) (result : EncoderResult) (read before unit : ℕ) → EncodeStep surrogate src room last result read out after
+    → (0 < length surrogate → surrogate ≡ before ∷ []) → IsPendingUnit result src before unit → 0 < length after → after ≡ unit ∷ []
+unit_after surrogate src out after room last InputEmpty read before unit c one kept some =
+    let same = c.answer.2 in
+    same ∙ last_unit surrogate src c.are_encodable.prefix c.left_open before unit c.are_encodable.whole c.are_encodable.surrogate one kept (omega (arith, some, ap length same))
+unit_after surrogate src out after room last OutputFull read before unit c one kept some = elim (cases_lt 0 c.taken) [
+  | inl more ↦ absurd (omega (arith, some, ap length (c.answer.2 more).1))
+  | inr none ↦
+      let same = (c.answer.1 (omega (arith, none))).1 in
+      same ∙ one (omega (arith, some, ap length same)) ∙ ap (λ k. k ∷ []) (sym kept)
+]
