@@ -5,8 +5,7 @@ use Rattle.std.proofs.lemmas.Bool.Decides.{Decides-eqb}
 use Rattle.std.proofs.lemmas.List.{take_at, drop_at, length-take, length-drop}
 use Rattle.std.proofs.lemmas.Slice.Eq.{starts_is}
 use Rattle.std.specs.List.{starts_with}
-use Rattle.encoding_text.specs.Sequence.{IsSequence}
-use Rattle.encoding_text.specs.Pending.{IsPending}
+use Rattle.encoding_text.specs.Sequence.{IsSequence, IsPending}
 use Rattle.encoding_text.proofs.PartsLemmas.{prefixes_nest}
 use Rattle.encoding_text.specs.Decoding.{BorrowedDecodeStep}
 use Rattle.encoding_text.specs.OneResult.{HasOnePiece}

@@ -8,11 +8,10 @@ use Rattle.std.proofs.lemmas.Bool.Decides.{nat_tests}
 use Rattle.std.proofs.lemmas.List.{take_rest, drop-drop, length-drop}
 use Rattle.encoding_text.specs.Prefixes.{WritesPrefix}
 use Rattle.encoding_text.specs.Converting.{FittingBegins}
-use Rattle.encoding_text.specs.Sequence.{IsIncomplete}
+use Rattle.encoding_text.specs.Sequence.{IsIncomplete, IsPending}
 use Rattle.encoding_text.specs.Parts.{malformed_count}
 use Rattle.encoding_text.proofs.PartsLemmas.{no_sequence_in_incomplete}
 use Rattle.encoding_text.proofs.EncodingLemmas.{IsSequence-encode}
-use Rattle.encoding_text.specs.Pending.{IsPending}
 use Rattle.encoding_text.proofs.DecompositionLemmas.{malformed_count-bytes}
 use Rattle.encoding_text.proofs.PrefixesLemmas.{WritesPrefix-length, WritesPrefix_after}
 use borrow.Rule.Slice.PartMut.{put_mid}

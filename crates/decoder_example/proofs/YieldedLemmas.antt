@@ -3,22 +3,19 @@ use Rattle.std.proofs.Common.{◌≡◌, ℕ, ◌+◌, Bool, true, false, ◌||�
 use Rattle.std.proofs.lemmas.Bool.Decides.{nat_tests}
 use Rattle.std.proofs.lemmas.Grind.{flat_map-append}
 use Rattle.std.specs.List.{flat_map, list_any}
-use Rattle.encoding_text.specs.Parts.{Part, Character, StartsWith, lossy_scalar, malformed_count, AreFinal, bytes_of}
-use Rattle.encoding_text.specs.Yielding.{Yields}
+use Rattle.encoding_text.specs.Parts.{Part, Character, StartsWith, lossy_scalar, malformed_count, AreFinal, bytes_of, Yields}
 use Rattle.encoding_text.proofs.DecompositionLemmas.{StartsWith-append, malformed_count-append, malformed_count-characters}
-use Rattle.encoding_text.specs.YieldedParts.{AreDecoded, IsReported}
+use Rattle.encoding_text.specs.Decoding.{AreDecoded, IsReported, DecodeStep}
 use Rattle.encoding_text.specs.declared.decoder.DecoderResult.{DecoderResult}
 use Rattle.encoding_text.specs.declared.decoder.DecoderResult.TheVariants.{InputEmpty, OutputFull, Malformed}
 use Rattle.decoder_example.specs.Marked.{YieldsText, State, left}
 use Rattle.std.proofs.lemmas.List.{take_at, drop-append-le, drop_all, nil_from_length, length-take}
 use Rattle.std.specs.Str.{all_scalars}
-use Rattle.encoding_text.specs.Pending.{IsPending}
-use Rattle.encoding_text.specs.Decoding.{DecodeStep}
+use Rattle.encoding_text.specs.Sequence.{IsPending}
 use Rattle.encoding_text.specs.OneResult.{HasOneResult}
-use Rattle.encoding_runs.specs.Calls.{Call, read_in_all, pending_after, some_last}
-use Rattle.encoding_runs.specs.DecoderCalls.{YieldTheParts}
+use Rattle.encoding_runs.specs.Calls.{Call, read_in_all, pending_after, some_last, YieldTheParts}
 use Rattle.encoding_runs.specs.MixedCalls.{Form, CallResult, AreYielded, IsInputEmpty}
-use Rattle.decoder_example.specs.MarkedStreams.{Made, AreMade, TakesWhole, state_after, unread_after}
+use Rattle.decoder_example.specs.ReplacingCalls.{Made, AreMade, TakesWhole, state_after, unread_after}
 
 -- the parts that a call yields are the first ones for any following bytes, if any may follow
 pub first_parts : (p src : List ℕ) (last : Bool) (parts : List Part) (read : ℕ) (q more : List ℕ) → Yields p src last parts read q → (last ≡ true → more ≡ [])

@@ -3,13 +3,13 @@ ghost use Rattle.std.specs.Prelude.{◌≡◌, ℕ, ◌≤◌, Bool, true, false
 ghost use Rattle.std.specs.Char.Escape.{encode_utf16};
 ghost use Rattle.std.specs.List.{AllZip, flat_map, list_any};
 ghost use Rattle.std.specs.Str.{all_scalars};
-ghost use Rattle.encoding_text.specs.Pending.{IsPending};
+ghost use Rattle.encoding_text.specs.Sequence.{IsPending};
 ghost use Rattle.encoding_text.specs.Decoding.{DecodeStep, max_utf16_length, max_utf8_length_with_replacement};
 ghost use Rattle.encoding_text.specs.declared.decoder.DecoderResult.{DecoderResult};
 ghost use Rattle.encoding_runs.specs.Calls.{Call, IsChain, read_in_all, pending_after, some_last};
 ghost use Rattle.encoding_runs.specs.MixedCalls.{Form, CallResult, MixedDecodeStep, IsInputEmpty, AreAskedTheSame, ReturnTheSame};
 ghost use Rattle.decoder_example.specs.Marked.{State, YieldsText, left};
-ghost use Rattle.decoder_example.specs.MarkedStreams.{AreMade, Made, YieldFinalParts, TakesWhole, state_after, unread_after};
+ghost use Rattle.decoder_example.specs.ReplacingCalls.{AreMade, Made, YieldFinalParts, TakesWhole, state_after, unread_after};
 
 use encoding_runs::laws::{law_mixed_calls, law_parts};
 

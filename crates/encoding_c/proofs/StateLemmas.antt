@@ -2,7 +2,7 @@
 -- of an encoder the pending surrogate, the last unit of the source or the one before.
 use Rattle.std.proofs.Common.{◌≡◌, ℕ, ◌+◌, ◌-◌, ◌≤◌, inl, inr, Bool, false, true≢false, List, [], ◌∷◌, ◌++◌, length, take, slice_index, refl, sym, ap, ◌∙◌, arith, encode_utf8_all, ◌<◌}
 use Rattle.std.proofs.lemmas.List.{append-nil, take_all, get_or-append-add, length-append}
-use Rattle.encoding_definitions.specs.Pending.{IsPending}
+use Rattle.encoding_definitions.specs.Sequence.{IsPending}
 use Rattle.encoding_text.specs.OneResult.{AreSamePiece}
 use Rattle.encoding_text.specs.Decoding.{IsDecodeResult, DecodeStepInto, IsBorrowedResult, BorrowedDecodeStep}
 use Rattle.encoding_text.specs.declared.decoder.DecoderResult.{DecoderResult}

@@ -1,6 +1,7 @@
--- What the storage of a decoder or an encoder represents between two calls, and the numbers that a call returns.
-use Rattle.std.specs.Prelude.{◌≡◌, ℕ, ◌-◌, ◌<◌, ◌≤◌, List, [], ◌∷◌, ◌++◌, length, take, slice_index}
-use Rattle.encoding_definitions.specs.Pending.{IsPending}
+-- What the storage of a decoder or an encoder represents between two calls, and the numbers that a call returns. The
+-- numbers that a run returns, whose decoder or encoder is in the caller's storage.
+use Rattle.std.specs.Prelude.{◌≡◌, ℕ, ◌-◌, ◌<◌, ◌≤◌, List, [], ◌∷◌, ◌++◌, length, take, slice_index, Option, MatchOption}
+use Rattle.encoding_definitions.specs.Sequence.{IsPending}
 use Rattle.encoding_definitions.specs.Utf16.{IsHighSurrogate}
 use Rattle.encoding_text.specs.declared.decoder.DecoderResult.{DecoderResult}
 use Rattle.encoding_text.specs.declared.decoder.DecoderResult.TheVariants as decoder
@@ -11,6 +12,10 @@ use Rattle.encoding_text.specs.declared.utf_8.encoder.EncoderResult.TheVariants 
 use Rattle.encoding_c.specs.declared.decoder.EncodingUtf8Decoder.{EncodingUtf8Decoder}
 use Rattle.encoding_c.specs.declared.decoder.EncodingPiece.{EncodingPiece}
 use Rattle.encoding_c.specs.declared.encoder.EncodingUtf8Encoder.{EncodingUtf8Encoder}
+use Rattle.encoding_runs.specs.declared.run.decoding.Outcome.{Outcome}
+use Rattle.encoding_runs.specs.declared.run.encoding.EncodeOutcome.{EncodeOutcome}
+use Rattle.encoding_c.specs.declared.encoder.EncodingEncodeResult.{EncodingEncodeResult}
+use Rattle.encoding_c.specs.declared.runs.EncodingDecodeRunResult.{EncodingDecodeRunResult}
 
 -- the storage holds what a call may leave there: at most three bytes that may be pending
 abbrev pub IsValidState : EncodingUtf8Decoder → Type 0
@@ -80,3 +85,21 @@ PieceCall before after numbers = RunsInState Represents (λ returned. IsPieceCod
 -- a call of the encoder
 abbrev pub EncoderCall : EncodingUtf8Encoder → EncodingUtf8Encoder → ℕ → (List ℕ → EncoderResult → List ℕ → Type 0) → Type 0
 EncoderCall before after result = RunsInState RepresentsEncoder (λ ended. IsEncodeCodeOf ended result) before after
+
+-- the two numbers for the result of a decoder's last call: 3 and 0 if there was none
+abbrev pub IsLastCodeOf : Option DecoderResult → ℕ → ℕ → Type 0
+IsLastCodeOf last result malformed = MatchOption last ((result ≡ 3) × (malformed ≡ 0)) (λ ended. IsCodeOf ended result malformed)
+
+-- the number for the result of an encoder's last call: 3 if there was none
+abbrev pub IsLastEncodeCodeOf : Option EncoderResult → ℕ → Type 0
+IsLastEncodeCodeOf last result = MatchOption last (result ≡ 3) (λ ended. IsEncodeCodeOf ended result)
+
+-- a run of the decoder
+abbrev pub DecoderRun : EncodingUtf8Decoder → EncodingUtf8Decoder → EncodingDecodeRunResult → (List ℕ → Outcome → List ℕ → Type 0) → Type 0
+DecoderRun before after numbers = RunsInState Represents (λ outcome. (numbers.read ≡ outcome.read) × (numbers.written ≡ outcome.written)
+    × (numbers.reports ≡ outcome.reports) × IsLastCodeOf outcome.result numbers.result numbers.malformed_length) before after
+
+-- a run of the encoder
+abbrev pub EncoderRun : EncodingUtf8Encoder → EncodingUtf8Encoder → EncodingEncodeResult → (List ℕ → EncodeOutcome → List ℕ → Type 0) → Type 0
+EncoderRun before after numbers = RunsInState RepresentsEncoder (λ outcome. (numbers.read ≡ outcome.read) × (numbers.written ≡ outcome.written)
+    × IsLastEncodeCodeOf outcome.result numbers.result) before after

@@ -4,7 +4,7 @@ ghost use Rattle.std.specs.Prelude.{◌≡◌, take, length, IfSome, IfNone};
 ghost use Rattle.std.specs.Str.{IsAscii};
 ghost use Rattle.encoding_definitions.specs.Ascii.{IsIso2022JpAscii};
 ghost use Rattle.encoding_definitions.specs.Prefixes.{IsLongestPrefix, WritesPrefix};
-ghost use Rattle.encoding_c.specs.AsciiPrefix.{IsPrefixOf};
+ghost use Rattle.encoding_c.specs.Status.{IsPrefixOf};
 
 use crate::status::EncodingPrefix;
 use encoding_text::ascii;

@@ -4,10 +4,8 @@
 ghost use Rattle.std.specs.Prelude.{◌≡◌, ◌+◌, ◌*◌, ◌<◌, ◌≤◌, length, encode_utf8};
 ghost use Rattle.std.specs.Char.Escape.{encode_utf16};
 ghost use Rattle.encoding_text.specs.Decoding.{max_utf16_length, max_utf8_length};
-ghost use Rattle.encoding_runs.specs.Runs.{Completes};
-ghost use Rattle.encoding_runs.specs.DecoderRuns.{Delivers};
-ghost use Rattle.encoding_runs.specs.EncoderRuns.{EncodesByTurns};
-ghost use Rattle.encoding_c.specs.RunCodes.{IsLastCodeOf, IsLastEncodeCodeOf, DecoderRun, EncoderRun};
+ghost use Rattle.encoding_runs.specs.Runs.{Completes, Delivers, EncodesByTurns};
+ghost use Rattle.encoding_c.specs.States.{IsLastCodeOf, IsLastEncodeCodeOf, DecoderRun, EncoderRun};
 
 use crate::decoder::{self, EncodingUtf8Decoder, Ended, pending_count};
 use crate::encoder::{self, EncodingEncodeResult, EncodingUtf8Encoder};

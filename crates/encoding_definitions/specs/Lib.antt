@@ -1,8 +1,5 @@
 pub mod Sequence
-pub mod Table
-pub mod Pending
 pub mod Parts
-pub mod Yielding
 pub mod Prefixes
 pub mod Converting
 pub mod Ascii

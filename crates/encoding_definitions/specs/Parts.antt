@@ -1,10 +1,10 @@
--- The one decomposition of bytes into characters and malformed sequences: Encoding Standard, UTF-8 decoder.
-use Rattle.std.specs.Prelude.{◌≡◌, ℕ, suc, ◌≤◌, List, [], ◌∷◌, ◌++◌, length, ◌⊎◌, encode_utf8}
+-- The one decomposition of bytes into characters and malformed sequences: Encoding Standard, UTF-8 decoder. And what
+-- calls of any form yield of the bytes that they are passed.
+use Rattle.std.specs.Prelude.{◌≡◌, ℕ, suc, ◌≤◌, List, [], ◌∷◌, ◌++◌, length, ◌⊎◌, encode_utf8, Bool, false, drop}
 use Rattle.std.specs.Char.{IsScalar}
 use Rattle.std.specs.Char.Escape.{encode_utf16}
 use Rattle.std.specs.List.{flat_map}
-use Rattle.encoding_definitions.specs.Sequence.{IsSequence, IsIncomplete}
-use Rattle.encoding_definitions.specs.Pending.{IsPending}
+use Rattle.encoding_definitions.specs.Sequence.{IsSequence, IsIncomplete, IsPending}
 
 -- A character, by its scalar value, or the bytes of a malformed sequence. That is Unicode's maximal subpart of an
 -- ill-formed subsequence (D93b), and one decoder error of the Encoding Standard.
@@ -78,3 +78,12 @@ pub record AreFinal (bs : List ℕ) (parts : List Part) (rest : List ℕ) : Type
   pub starts : StartsWith bs parts rest
   pub still_open : IsPending rest
   pub closed : rest ≡ [] → (prefix : List Part) (x : List ℕ) → parts ≡ prefix ++ IllFormed x ∷ [] → IsIncomplete x → ⊥
+
+-- The parts are the first parts of the pending bytes followed by the source, and the call reads the first `read` bytes
+-- of the source. The bytes after these parts are pending or unread. If the source isn't the last, they stay the first
+-- parts for any bytes that follow it.
+pub record Yields (p src : List ℕ) (last : Bool) (parts : List Part) (read : ℕ) (q : List ℕ) : Type 0 where
+  pub within : read ≤ length src
+  pub first : StartsWith (p ++ src) parts (q ++ drop read src)
+  pub pending : IsPending q
+  pub stable : last ≡ false → (more : List ℕ) → StartsWith (p ++ src ++ more) parts (q ++ drop read src ++ more)

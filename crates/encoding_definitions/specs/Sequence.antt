@@ -1,5 +1,7 @@
--- Well-formed UTF-8 byte sequences: Unicode Standard, Table 3-7.
-use Rattle.std.specs.Prelude.{ℕ, ◌<◌, ◌≤◌, Bool, true, false, ◌&&◌, List, [], ◌∷◌, ◌++◌, length, ◌⊎◌, nat_le, IsTrue}
+-- Well-formed UTF-8 byte sequences: Unicode Standard, Table 3-7. The formulas that decide sequences of three and of
+-- four bytes by a table of 384 entries: one for each second byte, followed by one for each first byte from 0x80 on. And
+-- the pending bytes of a decoder, which it keeps between calls.
+use Rattle.std.specs.Prelude.{ℕ, ◌<◌, ◌≤◌, Bool, true, false, ◌&&◌, List, [], ◌∷◌, ◌++◌, length, ◌⊎◌, nat_le, IsTrue, ◌+◌, ◌*◌, ◌/◌, ◌^◌, slice_index, bit_and, bit_or, ◌≡◌}
 use Rattle.std.specs.List.{list_any}
 use Rattle.std.specs.Str.Lossy.{second_byte_min, second_byte_max}
 
@@ -42,3 +44,15 @@ IsIncomplete bs = (0 < length bs) × (rest : List ℕ) × (0 < length rest) × I
 -- the byte starts no sequence, neither of one byte nor of several: a continuation byte, or one that UTF-8 never has
 abbrev pub IsNeverLeading : ℕ → Type 0
 IsNeverLeading b = (IsSequence (b ∷ []) ⊎ IsIncomplete (b ∷ [])) → ⊥
+
+-- the first three bytes, in eight bits
+abbrev pub three_byte_formula : List ℕ → ℕ → ℕ → ℕ → ℕ
+three_byte_formula table lead second third = bit_or (bit_and (slice_index table second) (slice_index table (lead + 0x80))) (third / 2 ^ 6)
+
+-- in sixteen bits, the same with the two highest bits of the fourth byte above them
+abbrev pub four_byte_formula : List ℕ → ℕ → ℕ → ℕ → ℕ → ℕ
+four_byte_formula table lead second third fourth = bit_or (three_byte_formula table lead second third) (bit_and fourth 0xC0 * 2 ^ 2)
+
+-- none, or an incomplete sequence
+abbrev pub IsPending : List ℕ → Type 0
+IsPending p = (p ≡ []) ⊎ IsIncomplete p

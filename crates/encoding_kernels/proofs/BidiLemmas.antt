@@ -12,8 +12,7 @@ use lib.Utf8.{scalar}
 use Rattle.encoding_definitions.specs.Bidi.{IsRightToLeft, IsBidiText, IsBidiBytes, IsRightToLeftUnit}
 use Rattle.encoding_definitions.specs.Parts.{BeginsWithNoCharacter}
 use Rattle.encoding_definitions.specs.Sequence.{IsSequence}
-use Rattle.encoding_kernels.specs.Scans.{PassBetween}
-use Rattle.encoding_kernels.specs.Bounds.{BelowUpTo, BelowBetween}
+use Rattle.encoding_kernels.specs.Scans.{PassBetween, BelowUpTo, BelowBetween}
 use Rattle.encoding_kernels.specs.RightToLeft.{rtl_second_end, ends_mark, rtl_mark_lead, may_start_rtl, HasNoRtlAt, RtlAt, NoRtlIn, NoneRightToLeft, in_range, may_be_right_to_left}
 use Rattle.encoding_definitions.proofs.AnyLemmas.{Any-none, Any-cons}
 use Rattle.encoding_definitions.proofs.BidiTextLemmas.{right_to_left_from, character_bidi, bidi_character, found_in_text, bidi_after, bidi_either, rest_text, text_of_bidi, text_of_latin1, latin1_not_bidi}

@@ -13,7 +13,7 @@ use Rattle.std.specs.Simd.Lanes.{mask_l, top, zip2, sel_l}
 use lib.Dec.{leb}
 use mir.Syntax.{Width, w8}
 use mir.Val.{hbits}
-use Rattle.encoding_kernels.specs.Vectors.{HasLanes}
+use Rattle.encoding_kernels.specs.Scans.{HasLanes}
 use Rattle.encoding_kernels.specs.EncodeLanes.{kept_places, EncodesTo}
 use Rattle.encoding_kernels.proofs.LaneLemmas.{HasLanes-itself, HasLanes-splat, HasLanes-zip2, HasLanes-swizzle, compared, mask_of}
 use Rattle.encoding_kernels.proofs.TestLemmas.{chosen_by, tests_of}

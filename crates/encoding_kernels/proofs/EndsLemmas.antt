@@ -8,7 +8,7 @@ use Rattle.std.proofs.lemmas.Simd.{get_or-chunk, Each1-from_get_or, Each1-get_or
 use Rattle.std.specs.List.{range_with_len}
 use Rattle.std.specs.Simd.Lanes.{mask_l, top, zip2, sel_l, pick_l, Each1}
 use lib.Dec.{leb}
-use Rattle.encoding_kernels.specs.Vectors.{HasLanes}
+use Rattle.encoding_kernels.specs.Scans.{HasLanes}
 use Rattle.encoding_kernels.specs.EncodeLanes.{kept_places, latin1_ended, all_latin1_ended, both_end, EndsPair}
 use Rattle.encoding_kernels.proofs.FollowingLemmas.{one_before}
 use Rattle.encoding_kernels.proofs.LaneLemmas.{HasLanes-itself, HasLanes-splat, HasLanes-zip2, HasLanes-same, compared, top_compared, mask_of}

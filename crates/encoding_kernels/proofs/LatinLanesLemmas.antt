@@ -9,7 +9,7 @@ use Rattle.std.proofs.lemmas.Str.{encode_ascii, encodes-append}
 use Rattle.std.proofs.str.Laws.{two}
 use Rattle.std.specs.Simd.Lanes.{mask_l, top, zip2, sel_l}
 use mir.Syntax.{w8}
-use Rattle.encoding_kernels.specs.Vectors.{HasLanes}
+use Rattle.encoding_kernels.specs.Scans.{HasLanes}
 use Rattle.encoding_kernels.specs.EncodeLanes.{EncodesTo, kept_places}
 use Rattle.encoding_kernels.proofs.CompressLemmas.{low_half, high_half}
 use Rattle.encoding_kernels.proofs.LaneLemmas.{HasLanes-itself, HasLanes-splat, HasLanes-zip2, HasLanes-same, compared}

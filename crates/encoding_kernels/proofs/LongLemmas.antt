@@ -9,7 +9,7 @@ use Rattle.std.proofs.lemmas.Bool.Decides.{nat_tests}
 use Rattle.std.proofs.str.Laws.{three}
 use Rattle.std.specs.Simd.Lanes.{zip2, Each1, pick_l, put_chunk}
 use Rattle.std.proofs.lemmas.List.{take_all, take_at, drop_at, drop-drop, get_or_append_left, get_or-append_right}
-use Rattle.encoding_kernels.specs.Vectors.{HasLanes}
+use Rattle.encoding_kernels.specs.Scans.{HasLanes}
 use Rattle.encoding_kernels.proofs.LaneLemmas.{put_is, HasLanes-itself, HasLanes-splat, HasLanes-zip2, compared, mask_of}
 use Rattle.encoding_kernels.proofs.TestLemmas.{none_passes, tests_of, tests_or}
 use Rattle.encoding_kernels.proofs.WordLemmas.{bytes_of, bytes_lanes}

@@ -14,7 +14,7 @@ use Rattle.std.proofs.lemmas.List.{length-take-le, get_or-append_right, get_or-t
 use Rattle.std.proofs.lemmas.Nat.{and_le_r}
 use Rattle.std.proofs.lemmas.Simd.{get_or-chunk, Each1-get_or, Each1-from_get_or, SwzOk, SwzOk-from_below, swz_l, length-swz_l, get_or-swz_l_below}
 use lib.Lanes.{zip2, chunk, sel_l, top, Each1}
-use Rattle.encoding_kernels.specs.Vectors.{HasLanes}
+use Rattle.encoding_kernels.specs.Scans.{HasLanes}
 use Rattle.encoding_kernels.proofs.TestLemmas.{chosen_by, tests_of}
 
 -- ---- two bytes

@@ -5,7 +5,7 @@ use Rattle.std.proofs.lemmas.List.{length-map, get_or-map}
 use Rattle.std.proofs.lemmas.Nat.{and_mask}
 use Rattle.std.proofs.lemmas.Simd.{Each1-from_get_or}
 use Rattle.std.specs.Simd.Lanes.{zip2, Each1}
-use Rattle.encoding_kernels.specs.Vectors.{HasLanes}
+use Rattle.encoding_kernels.specs.Scans.{HasLanes}
 use Rattle.encoding_kernels.proofs.LaneLemmas.{HasLanes-zip2, HasLanes-itself, HasLanes-splat, HasLanes-same}
 
 module _ (n : ℕ) (units : List ℕ) (long : length units ≡ n) where

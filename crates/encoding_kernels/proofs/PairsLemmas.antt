@@ -7,8 +7,7 @@ use Rattle.std.proofs.lemmas.Bool.Decides.{nat_tests}
 use Rattle.encoding_definitions.specs.Latin1.{IsUtf8Latin1}
 use Rattle.encoding_definitions.specs.Sequence.{IsContinuation}
 use Rattle.encoding_kernels.specs.Neighbors.{PairUp, HaveNoSurrogate, FitsLatin1, FitLatin1, pair_fault, latin1_fault}
-use Rattle.encoding_kernels.specs.Scans.{PassBetween}
-use Rattle.encoding_kernels.specs.Bounds.{BelowUpTo}
+use Rattle.encoding_kernels.specs.Scans.{PassBetween, BelowUpTo}
 use Rattle.encoding_definitions.specs.Surrogates.{IsValidUtf16}
 use Rattle.encoding_definitions.specs.Utf16.{IsHighSurrogate, IsLowSurrogate}
 use Rattle.encoding_definitions.proofs.SurrogateLemmas.{valid-encode, valid_more_one, valid_more_two}

@@ -13,7 +13,7 @@ use Rattle.std.specs.Int.RustNames.{count_ones}
 use Rattle.std.specs.List.{range_with_len}
 use lib.Count.{count_trailing_zeros}
 use Rattle.std.specs.Simd.Lanes.{mask_l, number_l, digits_l, pick_l, zip2, sel_l, top, Each1}
-use Rattle.encoding_kernels.specs.Vectors.{HasLanes}
+use Rattle.encoding_kernels.specs.Scans.{HasLanes}
 use Rattle.encoding_kernels.specs.EncodeLanes.{last_places, length_classes, EncodesLast}
 use Rattle.encoding_kernels.proofs.CompressLemmas.{mask_append}
 use Rattle.encoding_kernels.proofs.LaneLemmas.{HasLanes-itself, HasLanes-numbers, HasLanes-same, HasLanes-splat, HasLanes-zip2, compared, firsts_are, mask_of, same_below}

@@ -6,7 +6,7 @@ use Rattle.std.specs.List.{range_with_len}
 use Rattle.std.specs.Simd.Lanes.{chunk, put_chunk, zip2, sel_l, top}
 use mir.Syntax.{Width}
 use mir.Val.{hbits}
-use Rattle.encoding_kernels.specs.Vectors.{HasLanes}
+use Rattle.encoding_kernels.specs.Scans.{HasLanes}
 use Rattle.encoding_kernels.proofs.LaneLemmas.{put_prefix, put_is, HasLanes-itself, HasLanes-numbers, HasLanes-splat, compared, put_firsts}
 use Rattle.encoding_kernels.proofs.TestLemmas.{chosen_by, tests_of}
 

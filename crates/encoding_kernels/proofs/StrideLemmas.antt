@@ -9,7 +9,7 @@ use Rattle.std.proofs.lemmas.Option.{get_or_from_slice_get, slice_get_within, sl
 use Rattle.std.specs.Str.{IsAscii}
 use Rattle.std.specs.List.{flat_map, slice_get}
 use Rattle.encoding_definitions.specs.Prefixes.{IsLongestPrefix, WritesPrefix}
-use Rattle.encoding_kernels.specs.Bounds.{AllBelow, BelowUpTo, IsRunBelow}
+use Rattle.encoding_kernels.specs.Scans.{AllBelow, BelowUpTo, IsRunBelow}
 use Rattle.encoding_kernels.proofs.AsciiLemmas.{ascii_prefix_at, WritesPrefix_block}
 use Rattle.encoding_definitions.specs.Ascii.{IsFirstOther}
 use Rattle.encoding_definitions.proofs.PrefixesLemmas.{WritesPrefix-nil, WritesPrefix-length}

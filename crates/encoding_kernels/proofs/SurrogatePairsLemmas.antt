@@ -11,7 +11,7 @@ use Rattle.std.proofs.lemmas.Simd.{get_or-chunk, length-chunk, pick_l_left}
 use Rattle.std.specs.List.{range_with_len}
 use Rattle.std.specs.Simd.Lanes.{chunk, pick_l}
 use Rattle.encoding_definitions.specs.Utf16.{IsHighSurrogate, IsLowSurrogate}
-use Rattle.encoding_kernels.specs.Vectors.{HasLanes}
+use Rattle.encoding_kernels.specs.Scans.{HasLanes}
 use Rattle.encoding_kernels.specs.EncodeLanes.{kept_places}
 use Rattle.encoding_kernels.specs.SurrogatePairs.{IsTwoByteOrHalf, AreTwoByteOrPaired, EncodesHalf, half_bytes, concatenated, halves_from}
 use Rattle.encoding_kernels.proofs.WordLemmas.{bytes_of, bytes_lanes}

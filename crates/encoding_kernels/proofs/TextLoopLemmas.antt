@@ -20,7 +20,7 @@ use Rattle.encoding_kernels.specs.EndingUnits.{units_in, WritesUtf16}
 use Rattle.encoding_definitions.proofs.EncodingLemmas.{IsSequence-encode, length-encode_utf16-utf8, encodes_one, length-utf16}
 use Rattle.encoding_definitions.proofs.PrefixesLemmas.{written_is}
 use Rattle.encoding_kernels.proofs.TextUnitsLemmas.{puts_ascii, puts_prefix}
-use Rattle.encoding_kernels.specs.Bounds.{BelowUpTo, IsRunBelow}
+use Rattle.encoding_kernels.specs.Scans.{BelowUpTo, IsRunBelow}
 use Rattle.encoding_kernels.proofs.AsciiLemmas.{Each-take}
 
 -- ---- a character

@@ -14,7 +14,7 @@ use Rattle.std.proofs.lemmas.Simd.{length-replicate, mask_l-lt, put_chunk_is}
 use Rattle.std.proofs.lemmas.List.{length-append, length-drop, length-take, length-take-le, take-append-drop, take_at, take-take, drop_at, drop-drop, get_or-drop, get_or-take, take-append-le}
 use Rattle.std.proofs.lemmas.Str.{IsUtf8-take, IsUtf8-drop, IsUtf8-from_ascii, IsCharBoundary-after_ascii, IsCharBoundary-start, encodes-IsAscii, encodes_same, chars-IsAscii}
 use Rattle.encoding_definitions.specs.Prefixes.{WritesPrefix}
-use Rattle.encoding_kernels.specs.Vectors.{HasLanes}
+use Rattle.encoding_kernels.specs.Scans.{HasLanes}
 use Rattle.encoding_kernels.specs.EndingUnits.{BeginsThree, keep, ends_unit, low_bits, triple_unit, unit_at, units_after, ends_after, WritesCompressed, WritesUtf16}
 use Rattle.encoding_kernels.proofs.CompressLemmas.{keep_pad}
 use Rattle.encoding_kernels.proofs.LaneLemmas.{same_below}

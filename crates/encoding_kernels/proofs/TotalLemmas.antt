@@ -7,7 +7,7 @@ use Rattle.std.proofs.lemmas.Bool.Decides.{nat_tests}
 use Rattle.std.proofs.lemmas.List.{get_or-drop, get_or_append_left, get_or-append_right}
 use Rattle.std.proofs.lemmas.Simd.{get_or-chunk, get_or-replicate, Each1-from_get_or, Each1-zip2, Each2-of, sum_bound, bytes_below}
 use Rattle.encoding_kernels.specs.declared.simd.sum.TheConstants.{BOUNDS}
-use Rattle.encoding_kernels.specs.Vectors.{HasLanes}
+use Rattle.encoding_kernels.specs.Scans.{HasLanes}
 use mir.Val.{bool_byte}
 use Rattle.encoding_kernels.specs.Lengths.{sum_over_suffixes, one_if_at_least, continuations, continuations_by, extra_bytes, extra_bytes_by}
 

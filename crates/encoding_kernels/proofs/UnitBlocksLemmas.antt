@@ -13,7 +13,7 @@ use borrow.Rule.Slice.PartMut.{put_mid}
 use Rattle.encoding_definitions.specs.Prefixes.{WritesPrefix}
 use Rattle.encoding_definitions.specs.Utf16.{AreCodeUnits, Character16, units_of_part16, utf8_of_part16, IsUtf8OfPrefix}
 use Rattle.encoding_kernels.specs.EncodeLanes.{AreBmpScalars, WritesBmp}
-use Rattle.encoding_kernels.specs.Bounds.{AllBelow}
+use Rattle.encoding_kernels.specs.Scans.{AllBelow}
 use Rattle.encoding_kernels.proofs.AsciiLemmas.{Each-take}
 use Rattle.encoding_definitions.proofs.PrefixesLemmas.{WritesPrefix-same, WritesPrefix_put, WritesPrefix_after, written_is}
 use Rattle.encoding_definitions.proofs.Utf16Lemmas.{parts_of, parts_of-first, first_unit}

@@ -8,7 +8,7 @@ use Rattle.std.proofs.lemmas.Bool.Decides.{nat_tests}
 use Rattle.std.proofs.lemmas.Grind.{same_number_lists}
 use Rattle.std.proofs.lemmas.Nat.{and_mask}
 use Rattle.std.proofs.lemmas.List.{length-map, get_or-map, get_or_append_left, get_or-append_right}
-use Rattle.encoding_kernels.specs.Vectors.{HasLanes}
+use Rattle.encoding_kernels.specs.Scans.{HasLanes}
 use Rattle.encoding_kernels.specs.EndingUnits.{low_bits, unit_at, unit_lane, units_after, upper_of}
 use Rattle.encoding_kernels.proofs.LaneLemmas.{same_below}
 use Rattle.encoding_kernels.proofs.WordLemmas.{wide, wide_l}

@@ -8,7 +8,7 @@ use Rattle.std.proofs.lemmas.List.FromFn.{get_or-map-range_with_len}
 use Rattle.std.proofs.lemmas.Simd.{Each1-get_or, mask_l-mod, pick_l_left}
 use lib.Dec.{T}
 use lib.Lanes.{all_below}
-use Rattle.encoding_kernels.specs.Vectors.{HasLanes}
+use Rattle.encoding_kernels.specs.Scans.{HasLanes}
 use Rattle.encoding_kernels.specs.EndingUnits.{ends_unit, low_bits, unit_at, units_after, ends_after}
 use Rattle.encoding_kernels.proofs.LaneLemmas.{HasLanes-splat, HasLanes-zip2, compared}
 use Rattle.encoding_kernels.proofs.CompressLemmas.{mask_prefix}

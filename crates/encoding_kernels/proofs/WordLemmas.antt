@@ -3,7 +3,7 @@ use Rattle.std.proofs.Common.{◌≡◌, ℕ, ◌+◌, ◌*◌, ◌/◌, ◌%◌
 use Rattle.std.proofs.lemmas.List.{drop_more}
 use Rattle.std.proofs.lemmas.Simd.{get_or_wider, get_or_narrower, Each1-from_get_or}
 use Rattle.std.specs.Simd.Lanes.{number_l, digits_l, Each1}
-use Rattle.encoding_kernels.specs.Vectors.{HasLanes}
+use Rattle.encoding_kernels.specs.Scans.{HasLanes}
 
 two_at : (bs : List ℕ) (i : ℕ) → i + 1 < length bs → take 2 (drop i bs) ≡ get_or bs i 0 ∷ get_or bs (i + 1) 0 ∷ []
 two_at bs i l = ap (take 2) (drop_more bs i 0 (omega arith)) ∙ ap (λ xs. get_or bs i 0 ∷ take 1 xs) (drop_more bs (i + 1) 0 l)

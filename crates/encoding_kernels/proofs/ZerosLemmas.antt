@@ -8,7 +8,7 @@ use Rattle.std.proofs.lemmas.Nat.{and_le_r, and_mask}
 use Rattle.std.proofs.lemmas.Simd.{get_or-chunk, length-replicate, get_or-replicate, swz_l, SwzOk}
 use Rattle.std.specs.List.{range_with_len}
 use Rattle.std.specs.Simd.Lanes.{chunk, pick_l, sel_l, top, zip2}
-use Rattle.encoding_kernels.specs.Vectors.{HasLanes}
+use Rattle.encoding_kernels.specs.Scans.{HasLanes}
 use Rattle.encoding_kernels.proofs.LaneLemmas.{HasLanes-numbers, HasLanes-splat, HasLanes-swizzle, HasLanes-zip2, compared, swizzle_ok}
 use Rattle.encoding_kernels.proofs.TestLemmas.{chosen_by, tests_of}
 

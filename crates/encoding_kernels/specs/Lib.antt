@@ -1,7 +1,5 @@
 pub mod Following
 pub mod Scans
-pub mod Bounds
-pub mod Vectors
 pub mod EncodeLanes
 pub mod EndingUnits
 pub mod SurrogatePairs

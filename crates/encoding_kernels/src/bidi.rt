@@ -1,7 +1,7 @@
 //! Right-to-left characters by blocks: one test of vectors shows that none begins in a block.
 ghost use Rattle.std.specs.Prelude.{◌≡◌, false, ◌+◌, ◌-◌, ◌≤◌, length, slice_index};
 ghost use Rattle.encoding_kernels.specs.RightToLeft.{rtl_second_end, rtl_mark_lead, may_start_rtl, HasNoRtlAt, NoRtlIn, NoneRightToLeft, may_be_right_to_left};
-ghost use Rattle.encoding_kernels.specs.Vectors.{HasLanes};
+ghost use Rattle.encoding_kernels.specs.Scans.{HasLanes};
 
 use crate::simd::bounds::UnitsBelow;
 use crate::simd::scan::{LanePredicate, all, reach, skip};

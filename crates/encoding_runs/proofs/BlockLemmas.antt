@@ -7,23 +7,20 @@ use Rattle.std.proofs.lemmas.Bool.{cases_lt}
 use Rattle.std.proofs.lemmas.List.{append-nil, append_assoc, drop-drop, length-append, length-drop, take_rest}
 use Rattle.std.proofs.lemmas.Str.{length-encode, len_utf8_bounds}
 use borrow.Rule.Slice.PartMut.{put_mid}
-use Rattle.encoding_definitions.specs.Parts.{Part, Character, IllFormed, lossy_utf8, malformed_count}
-use Rattle.encoding_definitions.specs.Pending.{IsPending}
-use Rattle.encoding_definitions.specs.Yielding.{Yields}
+use Rattle.encoding_definitions.specs.Parts.{Part, Character, IllFormed, lossy_utf8, malformed_count, Yields}
+use Rattle.encoding_definitions.specs.Sequence.{IsPending}
 use Rattle.encoding_definitions.specs.Prefixes.{WritesPrefix}
 use Rattle.encoding_definitions.proofs.PrefixesLemmas.{WritesPrefix-same, WritesPrefix-length, WritesPrefix_after}
 use Rattle.encoding_definitions.proofs.DecompositionLemmas.{lossy_utf8-append, lossy_utf8-characters, malformed_count-append, malformed_count-characters}
 use Rattle.encoding_definitions.proofs.EncodingLemmas.{flat_map-encode_utf8}
-use Rattle.encoding_text.specs.Decoding.{DecodeStepInto}
-use Rattle.encoding_text.specs.YieldedParts.{IsReported}
+use Rattle.encoding_text.specs.Decoding.{DecodeStepInto, IsReported}
 use Rattle.encoding_text.specs.declared.decoder.DecoderResult.{DecoderResult}
 use Rattle.encoding_text.specs.declared.decoder.DecoderResult.TheVariants.{InputEmpty, OutputFull, Malformed}
 use Rattle.encoding_text.proofs.CallPartsLemmas.{decoded_yields}
 use Rattle.encoding_text.proofs.OneResultLemmas.{no_characters_pending}
 use Rattle.encoding_runs.specs.declared.repair.blocks.RepairedBlock.{RepairedBlock}
 use Rattle.encoding_runs.specs.Blocks.{IsBlockRepair, WantsSpace, RepairTheParts, replaced_in_all}
-use Rattle.encoding_runs.specs.Calls.{Call, IsChain, output_of}
-use Rattle.encoding_runs.specs.DecoderCalls.{AreYieldedInSequence, YieldTheParts}
+use Rattle.encoding_runs.specs.Calls.{Call, IsChain, output_of, AreYieldedInSequence, YieldTheParts}
 use Rattle.encoding_runs.specs.Repairs.{IsLossyDecodeWith}
 use Rattle.encoding_runs.proofs.ChainLemmas.{chain_yields, yields_then}
 

@@ -4,15 +4,13 @@ use Rattle.std.specs.Prelude.{Any}
 use Rattle.std.specs.List.{flat_map}
 use Rattle.std.proofs.lemmas.Bool.{or_parts}
 use Rattle.std.proofs.lemmas.List.{append_assoc, append_cancel_right, length-append, length-drop, length-take, take-append-drop, take_all, drop-append-le, drop-drop, nil_from_length}
-use Rattle.encoding_definitions.specs.Pending.{IsPending}
-use Rattle.encoding_definitions.specs.Parts.{Part, bytes_of, StartsWith}
-use Rattle.encoding_definitions.specs.Yielding.{Yields}
+use Rattle.encoding_definitions.specs.Sequence.{IsPending}
+use Rattle.encoding_definitions.specs.Parts.{Part, bytes_of, StartsWith, Yields}
 use Rattle.encoding_text.specs.Decoding.{DecodeStep}
 use Rattle.encoding_text.specs.declared.decoder.DecoderResult.{DecoderResult}
 use Rattle.encoding_text.specs.declared.decoder.DecoderResult.TheVariants.{InputEmpty}
 use Rattle.encoding_definitions.proofs.DecompositionLemmas.{StartsWith-append, StartsWith-bytes}
-use Rattle.encoding_runs.specs.Calls.{CallRelation, Call, IsChain, read_in_all, pending_after, some_last}
-use Rattle.encoding_runs.specs.DecoderCalls.{AreYieldedInSequence, YieldTheParts}
+use Rattle.encoding_runs.specs.Calls.{CallRelation, Call, IsChain, read_in_all, pending_after, some_last, AreYieldedInSequence, YieldTheParts}
 
 -- ---- one call, among all unread bytes
 -- a piece and the bytes after it are all bytes

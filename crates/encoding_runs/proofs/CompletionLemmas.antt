@@ -13,13 +13,12 @@ use Rattle.encoding_text.specs.declared.decoder.DecoderResult.{DecoderResult}
 use Rattle.encoding_text.specs.declared.decoder.DecoderResult.TheVariants.{InputEmpty, OutputFull, Malformed}
 use Rattle.encoding_text.proofs.RoomLemmas.{counts, progress}
 use Rattle.encoding_runs.specs.declared.run.turns.Turn.{Turn}
-use Rattle.encoding_runs.specs.Turns.{room_of, is_marked_last}
+use Rattle.encoding_runs.specs.Runs.{room_of, is_marked_last, AreOfTurns, EachMakesProgress}
 use Rattle.encoding_runs.specs.Calls.{Call, IsChain}
-use Rattle.encoding_runs.specs.Runs.{AreOfTurns, EachMakesProgress}
 use Rattle.encoding_runs.proofs.TurnLemmas.{turn_call}
 use Rattle.std.specs.Char.Escape.{encode_utf16}
 use Rattle.std.proofs.lemmas.Str.{encodes-chars, scalars-chars}
-use Rattle.encoding_definitions.specs.Pending.{IsPending}
+use Rattle.encoding_definitions.specs.Sequence.{IsPending}
 use Rattle.encoding_definitions.specs.Parts.{malformed_count}
 use Rattle.encoding_definitions.proofs.EncodingLemmas.{length-utf16, flat_map-encode_utf8}
 use Rattle.encoding_definitions.proofs.DecompositionLemmas.{has_parts, parts_split, malformed_count-append}

@@ -13,8 +13,7 @@ use Rattle.encoding_definitions.proofs.FirstPartsLemmas.{StartsWith16-nil, Start
 use Rattle.encoding_text.proofs.EncoderPartsLemmas.{AreCodeUnits-append, AreCodeUnits-surrogate, parts_written, read_within, written_first, all_encoded}
 use Rattle.encoding_text.specs.declared.utf_8.encoder.EncoderResult.{EncoderResult}
 use Rattle.encoding_text.specs.declared.utf_8.encoder.EncoderResult.TheVariants.{InputEmpty}
-use Rattle.encoding_runs.specs.Calls.{Call, IsChain, read_in_all, output_of, pending_after, some_last}
-use Rattle.encoding_runs.specs.EncoderCalls.{EncodesFirstParts}
+use Rattle.encoding_runs.specs.Calls.{Call, IsChain, read_in_all, output_of, pending_after, some_last, EncodesFirstParts}
 use Rattle.encoding_runs.proofs.ChainLemmas.{any_parts, none_of_nil}
 
 -- ---- one call on the first unread units

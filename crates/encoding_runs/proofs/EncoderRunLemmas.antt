@@ -15,10 +15,8 @@ use Rattle.encoding_text.proofs.EncoderLemmas.{enough_room}
 use Rattle.encoding_text.proofs.EncoderPartsLemmas.{at_most_one_pending, read_within, room_left, gets_on}
 use Rattle.encoding_runs.specs.declared.run.turns.Turn.{Turn}
 use Rattle.encoding_runs.specs.declared.run.encoding.EncodeOutcome.{EncodeOutcome}
-use Rattle.encoding_runs.specs.Turns.{room_of, is_marked_last}
+use Rattle.encoding_runs.specs.Runs.{room_of, is_marked_last, AreOfTurns, IsRun, EachMakesProgress, Completes, EncodesByTurns}
 use Rattle.encoding_runs.specs.Calls.{Call, IsChain, output_of}
-use Rattle.encoding_runs.specs.Runs.{AreOfTurns, IsRun, EachMakesProgress, Completes}
-use Rattle.encoding_runs.specs.EncoderRuns.{EncodesByTurns}
 use Rattle.encoding_runs.proofs.TurnLemmas.{WritesPrefix_within, same_call}
 use Rattle.encoding_runs.proofs.CompletionLemmas.{GoesOn, marked}
 use Rattle.encoding_runs.proofs.EncoderChainLemmas.{Ends, chain_encodes}

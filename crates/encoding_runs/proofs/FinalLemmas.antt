@@ -2,12 +2,11 @@
 -- first piece leave no rest.
 use Rattle.std.proofs.Common.{◌≡◌, ℕ, Bool, false, List, [], ◌∷◌, ◌++◌, refl, sym, ap, ◌∙◌, subst, ◌+◌, ◌<◌, ◌≤◌, inl, inr, length, arith}
 use Rattle.std.proofs.lemmas.List.{append-nil, append_assoc, length-append}
-use Rattle.encoding_definitions.specs.Sequence.{IsIncomplete}
-use Rattle.encoding_definitions.specs.Pending.{IsPending}
+use Rattle.encoding_definitions.specs.Sequence.{IsIncomplete, IsPending}
 use Rattle.encoding_definitions.specs.Parts.{Part, IllFormed, BeginsWithNoCharacter, StartsWith, AreFinal, bytes_of, ArePartsOf, lossy_utf8, malformed_count}
 use Rattle.encoding_definitions.proofs.PartsLemmas.{part_bytes, prefixes_nest}
 use Rattle.encoding_definitions.proofs.DecompositionLemmas.{StartsWith-append, final_stay, has_final, StartsWith-bytes, same_parts, final_prefix, lossy_utf8-append, malformed_count-append}
-use Rattle.encoding_runs.specs.Steps.Writing.{AreFirst}
+use Rattle.encoding_runs.specs.Steps.{AreFirst}
 use Rattle.std.specs.List.{flat_map}
 use Rattle.std.specs.Str.Lossy.{second_byte_min}
 use Rattle.std.proofs.lemmas.Bool.Decides.{nat_tests}

@@ -3,16 +3,14 @@ use Rattle.std.proofs.Common.{◌≡◌, ℕ, ◌+◌, Bool, true, List, [], ◌
 use Rattle.std.specs.Char.Escape.{encode_utf16}
 use Rattle.std.specs.List.{AllZip, flat_map}
 use Rattle.std.proofs.lemmas.List.{drop_all, length-append, length-drop, nil_from_length}
-use Rattle.encoding_definitions.specs.Pending.{IsPending}
-use Rattle.encoding_definitions.specs.Parts.{Part, StartsWith, bytes_of}
-use Rattle.encoding_definitions.specs.Yielding.{Yields}
+use Rattle.encoding_definitions.specs.Sequence.{IsPending}
+use Rattle.encoding_definitions.specs.Parts.{Part, StartsWith, bytes_of, Yields}
 use Rattle.encoding_definitions.proofs.DecompositionLemmas.{StartsWith-bytes}
 use Rattle.encoding_text.specs.Decoding.{BorrowedDecodeStep}
 use Rattle.encoding_text.proofs.CallPartsLemmas.{decoded_yields}
 use Rattle.encoding_text.proofs.BorrowedLemmas.{borrowed_yields, same_piece}
 use Rattle.encoding_text.proofs.OneResultLemmas.{one_result}
-use Rattle.encoding_runs.specs.Calls.{Call, IsChain}
-use Rattle.encoding_runs.specs.DecoderCalls.{YieldsFirstParts, YieldTheParts}
+use Rattle.encoding_runs.specs.Calls.{Call, IsChain, YieldsFirstParts, YieldTheParts}
 use Rattle.encoding_runs.specs.MixedCalls.{Form, ToUtf16, ToUtf8, Borrowed, CallResult, Decoded, Handed, MixedDecodeStep, AreYielded, IsInputEmpty, ResultsAgree, AreAskedTheSame, ReturnTheSame}
 use Rattle.encoding_runs.proofs.ChainLemmas.{decoded_empty, yielded_bytes, chain_yields}
 

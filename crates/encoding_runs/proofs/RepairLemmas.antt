@@ -10,14 +10,13 @@ use Rattle.std.proofs.KnownBytes.{Appends-trans}
 use Rattle.std.specs.Str.{IsUtf8, chars}
 use Rattle.std.proofs.lemmas.Str.{encodes-chars}
 use lib.Utf8.{encode}
-use Rattle.encoding_definitions.specs.Pending.{IsPending}
+use Rattle.encoding_definitions.specs.Sequence.{IsPending}
 use Rattle.encoding_definitions.proofs.SequenceLemmas.{length-IsIncomplete}
-use Rattle.encoding_text.specs.Decoding.{BorrowedDecodeStep}
-use Rattle.encoding_text.specs.YieldedParts.{AreBorrowed}
+use Rattle.encoding_text.specs.Decoding.{BorrowedDecodeStep, AreBorrowed}
 use Rattle.encoding_text.specs.declared.decoder.Piece.{Piece}
 use Rattle.encoding_text.specs.declared.decoder.Piece.TheVariants.{Text, Char, Malformed, InputEmpty}
 use Rattle.encoding_text.proofs.BorrowedLemmas.{borrowed_yields}
-use Rattle.encoding_runs.specs.Steps.Writing.{text_of, malformed_in, AreFirst, WritesParts, StopsInParts}
+use Rattle.encoding_runs.specs.Steps.{text_of, malformed_in, AreFirst, WritesParts, StopsInParts}
 use Rattle.encoding_runs.proofs.FinalLemmas.{AreFirst-trans, AreFirst-more}
 
 -- the text of the final parts of all bytes

@@ -8,7 +8,7 @@ use Rattle.encoding_definitions.specs.Utf16.{Part16, units_of_part16, utf8_of_pa
 use Rattle.encoding_definitions.proofs.Utf16Lemmas.{parts_unique, rest_parts, none_left}
 use Rattle.encoding_definitions.proofs.Utf16LawLemmas.{utf8_of_all}
 use Rattle.encoding_definitions.proofs.FirstPartsLemmas.{first_fits}
-use Rattle.encoding_runs.specs.Repeats.{WritesInTurn}
+use Rattle.encoding_runs.specs.Calls.{WritesInTurn}
 
 repeated : (rooms us out : List ℕ) (parts : List Part16) → ArePartsOf16 us parts → WritesInTurn us rooms out → out ≡ flat_map utf8_of_part16 parts
 repeated [] us out parts a (none, empty) = empty ∙ sym (ap (flat_map utf8_of_part16) (none_left parts (ap length (a.1 ∙ none))))

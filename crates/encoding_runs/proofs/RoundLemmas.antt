@@ -3,12 +3,11 @@ use Rattle.std.proofs.Common.{◌≡◌, ℕ, ◌+◌, ◌<◌, ◌≤◌, Bool,
 use Rattle.std.specs.Io.KnownBytes.{Keeps, IsAtEnd}
 use Rattle.std.proofs.KnownBytes.{Appends-trans, Consumes-trans, Consumes-kept}
 use Rattle.std.proofs.lemmas.List.{length-append, take_at}
-use Rattle.encoding_definitions.specs.Pending.{IsPending}
+use Rattle.encoding_definitions.specs.Sequence.{IsPending}
 use Rattle.encoding_definitions.specs.Parts.{Part, lossy_utf8}
 use Rattle.encoding_definitions.proofs.DecompositionLemmas.{StartsWith-append, has_parts, lossy_utf8-append}
 use Rattle.encoding_runs.specs.Repairs.{IsFinalText, IsPendingOutput, IsProperPrefix, RepairsAll, RepairsFinal, RepairsProperPrefix}
-use Rattle.encoding_runs.specs.Steps.Writing.{AreFirst, WritesParts, StopsInParts}
-use Rattle.encoding_runs.specs.Steps.Rounds.{ReadsRound, Reaches}
+use Rattle.encoding_runs.specs.Steps.{AreFirst, WritesParts, StopsInParts, ReadsRound, Reaches}
 use Rattle.encoding_runs.proofs.FinalLemmas.{final_first, final_after, AreFirst-more}
 use Rattle.encoding_runs.proofs.RepairLemmas.{wrote_all, wrote_after, prefix_after, longer_prefix}
 

@@ -3,21 +3,19 @@ use Rattle.std.proofs.Common.{◌≡◌, ℕ, ◌+◌, List, [], ◌∷◌, ◌+
 use Rattle.std.specs.List.{flat_map}
 use Rattle.std.proofs.lemmas.Grind.{flat_map-append}
 use Rattle.std.proofs.lemmas.List.{append-nil, length-append}
-use Rattle.encoding_definitions.specs.Pending.{IsPending}
+use Rattle.encoding_definitions.specs.Sequence.{IsPending}
 use Rattle.encoding_definitions.specs.Parts.{Part, Character, IllFormed, characters_of}
-use Rattle.encoding_text.specs.Decoding.{DecodeStep}
+use Rattle.encoding_text.specs.Decoding.{DecodeStep, AreDecoded, IsReported}
 use Rattle.encoding_text.specs.declared.decoder.DecoderResult.{DecoderResult}
 use Rattle.encoding_text.specs.declared.decoder.DecoderResult.TheVariants.{InputEmpty, OutputFull, Malformed}
-use Rattle.encoding_text.specs.YieldedParts.{AreDecoded, IsReported}
 use Rattle.encoding_text.proofs.CallPartsLemmas.{decoded_yields}
 use Rattle.encoding_definitions.proofs.PrefixesLemmas.{WritesPrefix-same}
 use Rattle.encoding_runs.specs.declared.run.turns.Turn.{Turn}
 use Rattle.encoding_runs.specs.declared.run.decoding.Report.{Report}
 use Rattle.encoding_runs.specs.declared.run.decoding.Outcome.{Outcome}
-use Rattle.encoding_runs.specs.Calls.{Call, output_of}
-use Rattle.encoding_runs.specs.DecoderCalls.{AreYieldedInSequence}
-use Rattle.encoding_runs.specs.DecoderRuns.{reports_of, Delivers}
-use Rattle.encoding_runs.specs.Steps.Reports.{report_of, reports_of_calls, IsReportedRun}
+use Rattle.encoding_runs.specs.Calls.{Call, output_of, AreYieldedInSequence}
+use Rattle.encoding_runs.specs.Runs.{reports_of, Delivers}
+use Rattle.encoding_runs.specs.Steps.{report_of, reports_of_calls, IsReportedRun}
 use Rattle.encoding_runs.proofs.ChainLemmas.{decoded_empty, chain_yields}
 use Rattle.encoding_runs.proofs.RepairLemmas.{pending_length}
 

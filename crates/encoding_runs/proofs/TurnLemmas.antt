@@ -11,12 +11,11 @@ use Rattle.encoding_text.specs.declared.decoder.DecoderResult.{DecoderResult}
 use Rattle.encoding_text.specs.declared.decoder.DecoderResult.TheVariants.{InputEmpty, OutputFull, Malformed}
 use Rattle.encoding_definitions.proofs.PrefixesLemmas.{WritesPrefix-length, WritesPrefix-same, WritesPrefix_after}
 use Rattle.encoding_runs.specs.declared.run.turns.Turn.{Turn}
-use Rattle.encoding_runs.specs.Turns.{room_of, is_marked_last}
+use Rattle.encoding_runs.specs.Runs.{room_of, is_marked_last, AreOfTurns, IsRun}
 use Rattle.encoding_runs.specs.declared.run.decoding.Report.{Report}
 use Rattle.encoding_runs.specs.declared.run.decoding.Outcome.{Outcome}
 use Rattle.encoding_runs.specs.Calls.{CallRelation, Call, IsChain, read_in_all, output_of, pending_after}
-use Rattle.encoding_runs.specs.Runs.{AreOfTurns, IsRun}
-use Rattle.encoding_runs.specs.Steps.Reports.{report_of, reports_of_calls, IsReportedRun}
+use Rattle.encoding_runs.specs.Steps.{report_of, reports_of_calls, IsReportedRun}
 
 -- what a call wrote into a prefix of the destination
 pub WritesPrefix_within : {A : Type 0} (old sub : List A) (room n : ℕ) (out : List A) → WritesPrefix (take room old) sub n out → WritesPrefix old (sub ++ drop room old) n out

@@ -1,9 +1,8 @@
 -- The repair of a stream by blocks: one call on the next bytes, and successive calls.
 use Rattle.std.specs.Prelude.{◌≡◌, ◌↔◌, ℕ, ◌+◌, ◌-◌, ◌<◌, ◌≤◌, Bool, true, false, List, [], ◌∷◌, length, drop, encode_utf8}
-use Rattle.encoding_definitions.specs.Parts.{Part, lossy_utf8, malformed_count}
+use Rattle.encoding_definitions.specs.Parts.{Part, lossy_utf8, malformed_count, Yields}
 use Rattle.encoding_definitions.specs.Converting.{FittingBegins}
-use Rattle.encoding_definitions.specs.Yielding.{Yields}
-use Rattle.encoding_definitions.specs.Pending.{IsPending}
+use Rattle.encoding_definitions.specs.Sequence.{IsPending}
 use Rattle.encoding_runs.specs.declared.repair.blocks.RepairedBlock.{RepairedBlock}
 use Rattle.encoding_runs.specs.Calls.{Call, read_in_all, output_of, pending_after, some_last}
 

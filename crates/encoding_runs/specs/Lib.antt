@@ -2,22 +2,13 @@ pub mod Repairs
 pub mod Streams
 pub mod MalformedSequences
 pub mod Blocks
-pub mod Repeats
 pub mod Calls
-pub mod DecoderCalls
 pub mod MixedCalls
-pub mod EncoderCalls
-pub mod Turns
 pub mod Runs
-pub mod DecoderRuns
-pub mod EncoderRuns
 pub mod Steps
 -- the terms of the standards, so that a crate above needs no other to cite them
 pub use Rattle.encoding_definitions.specs.Sequence
-pub use Rattle.encoding_definitions.specs.Table
-pub use Rattle.encoding_definitions.specs.Pending
 pub use Rattle.encoding_definitions.specs.Parts
-pub use Rattle.encoding_definitions.specs.Yielding
 pub use Rattle.encoding_definitions.specs.Prefixes
 pub use Rattle.encoding_definitions.specs.Converting
 pub use Rattle.encoding_definitions.specs.Ascii

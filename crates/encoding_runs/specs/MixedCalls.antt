@@ -4,8 +4,7 @@ use Rattle.std.specs.Char.Escape.{encode_utf16}
 use Rattle.std.specs.List.{flat_map}
 use Rattle.std.specs.Str.{chars}
 use Rattle.encoding_definitions.specs.Parts.{Part}
-use Rattle.encoding_text.specs.YieldedParts.{AreDecoded, AreBorrowed}
-use Rattle.encoding_text.specs.Decoding.{DecodeStep, BorrowedDecodeStep, max_utf16_length, max_utf8_length}
+use Rattle.encoding_text.specs.Decoding.{AreDecoded, AreBorrowed, DecodeStep, BorrowedDecodeStep, max_utf16_length, max_utf8_length}
 use Rattle.encoding_text.specs.OneResult.{AreSamePiece}
 use Rattle.encoding_text.specs.declared.decoder.DecoderResult.{DecoderResult}
 use Rattle.encoding_text.specs.declared.decoder.DecoderResult.TheVariants as result

@@ -4,9 +4,8 @@ ghost use Rattle.std.specs.Prelude.{◌≡◌, ◌↔◌, ℕ, ◌+◌, ◌<◌,
 ghost use Rattle.std.specs.Char.{IsScalar};
 ghost use Rattle.std.specs.List.{flat_map, AllZip, last_or};
 ghost use Rattle.std.specs.Str.Lossy.{utf8_lossy};
-ghost use Rattle.encoding_definitions.specs.Sequence.{IsSequence};
+ghost use Rattle.encoding_definitions.specs.Sequence.{IsSequence, IsPending};
 ghost use Rattle.encoding_definitions.specs.Parts.{Part, StartsWith, ArePartsOf, AreFinal, bytes_of, malformed_count, lossy_utf8};
-ghost use Rattle.encoding_definitions.specs.Pending.{IsPending};
 ghost use Rattle.encoding_text.specs.OneResult.{HasOneResult, HasOnePiece};
 ghost use Rattle.std.specs.Char.Escape.{encode_utf16};
 ghost use Rattle.std.specs.Char.Utf16.{utf16_lossy_chars, has_unpaired_surrogate};
@@ -15,13 +14,10 @@ ghost use Rattle.encoding_definitions.specs.Utf16.{AreCodeUnits, Part16, Charact
 ghost use Rattle.encoding_text.specs.Encoding.{IsPendingSurrogate, EncodeStep};
 ghost use Rattle.encoding_definitions.specs.Bidi.{IsRightToLeft, IsBidiBytes, IsBidiUnits};
 ghost use Rattle.encoding_definitions.specs.Surrogates.{IsValidUtf16, AreRepairedUnits, ReplacesUnpaired};
-ghost use Rattle.encoding_runs.specs.Repeats.{WritesInTurn};
+ghost use Rattle.encoding_runs.specs.Calls.{WritesInTurn, Call, IsChain, read_in_all, output_of, pending_after, YieldsFirstParts, YieldTheParts, EncodesFirstParts};
 ghost use Rattle.encoding_text.specs.declared.utf_8.encoder.EncoderResult.{EncoderResult};
 ghost use Rattle.encoding_text.specs.declared.utf_8.encoder.EncoderResult.TheVariants as encoded;
-ghost use Rattle.encoding_runs.specs.Calls.{Call, IsChain, read_in_all, output_of, pending_after};
-ghost use Rattle.encoding_runs.specs.DecoderCalls.{YieldsFirstParts, YieldTheParts};
 ghost use Rattle.encoding_runs.specs.MixedCalls.{Form, CallResult, MixedDecodeStep, AreYielded, IsInputEmpty, AreAskedTheSame, ReturnTheSame, TextFits, HasQueriedLength, ReadsText};
-ghost use Rattle.encoding_runs.specs.EncoderCalls.{EncodesFirstParts};
 ghost use Rattle.encoding_runs.specs.declared.run.turns.Turn.{Turn};
 ghost use Rattle.encoding_runs.specs.Runs.{AreOfTurns, EachMakesProgress, Completes};
 ghost use Rattle.encoding_runs.specs.declared.repair.blocks.RepairedBlock.{RepairedBlock};

@@ -5,12 +5,10 @@ use Rattle.std.specs.Str.{chars, all_scalars, IsUtf8}
 use Rattle.std.proofs.lemmas.Bool.{and_from, and_parts}
 use Rattle.std.proofs.lemmas.List.{append-nil, length-append, length-take, take_all, append_assoc, length-drop, nil_from_length, take-append-drop}
 use Rattle.std.proofs.lemmas.Str.{chars-encodes, encode_same}
-use Rattle.encoding_definitions.specs.Sequence.{IsIncomplete}
-use Rattle.encoding_definitions.specs.Parts.{Part, Character, IllFormed, BeginsWithNoCharacter, IsFirstPart}
-use Rattle.encoding_definitions.specs.Yielding.{Yields}
-use Rattle.encoding_text.specs.YieldedParts.{AreBorrowed}
-use Rattle.encoding_text.specs.Decoding.{BorrowedDecodeStep, IsMalformed}
-use Rattle.encoding_text.specs.Steps.Resuming.{Resumes}
+use Rattle.encoding_definitions.specs.Sequence.{IsIncomplete, IsPending}
+use Rattle.encoding_definitions.specs.Parts.{Part, Character, IllFormed, BeginsWithNoCharacter, IsFirstPart, Yields}
+use Rattle.encoding_text.specs.Decoding.{AreBorrowed, BorrowedDecodeStep, IsMalformed}
+use Rattle.encoding_text.specs.Steps.{Resumes}
 use Rattle.encoding_text.specs.declared.decoder.DecoderResult.TheVariants as result
 use Rattle.encoding_text.specs.declared.decoder.Piece.{Piece}
 use Rattle.encoding_text.specs.declared.decoder.Piece.TheVariants.{Text, Char, Malformed, InputEmpty}
@@ -19,7 +17,6 @@ use Rattle.encoding_text.proofs.CallLemmas.{malformed_rejected}
 use Rattle.encoding_text.proofs.CallPartsLemmas.{yields_from, malformed_first, same_malformed, pending_not_malformed}
 use Rattle.std.specs.Borrow.{Bor}
 use Rattle.std.specs.Char.{IsScalar}
-use Rattle.encoding_definitions.specs.Pending.{IsPending}
 use Rattle.encoding_text.specs.OneResult.{AreSamePiece, HasOnePiece}
 use Rattle.encoding_definitions.proofs.EncodingLemmas.{IsSequence-encode}
 use Rattle.encoding_definitions.proofs.Utf8Lemmas.{IsLongestPrefix-utf8}

@@ -5,9 +5,8 @@ use Rattle.std.proofs.lemmas.Bool.{cases_Bool, cases_lt}
 use Rattle.std.proofs.lemmas.List.{length-append, length-drop, length-take, take-append-drop, drop-drop, take_all, drop_all, take_more, drop_more}
 use Rattle.encoding_definitions.specs.Sequence.{IsSequence, IsIncomplete, IsNeverLeading, IsContinuation, IsSecond}
 use Rattle.encoding_definitions.specs.Parts.{BeginsWithNoCharacter}
-use Rattle.encoding_text.specs.Steps.Resuming.{IsRejected, Resumes}
+use Rattle.encoding_text.specs.Steps.{IsRejected, Resumes, IsResultAtEnd, IsResultWithoutCharacter}
 use Rattle.encoding_text.specs.Decoding.{IsMalformed}
-use Rattle.encoding_text.specs.Steps.Ending.{IsResultAtEnd, IsResultWithoutCharacter}
 use Rattle.encoding_text.specs.declared.decoder.DecoderResult.{DecoderResult}
 use Rattle.encoding_text.specs.declared.decoder.DecoderResult.TheVariants.{InputEmpty, OutputFull, Malformed}
 use Rattle.encoding_text.specs.declared.decoder.pending.Resumed.TheVariants.{Ended, Complete, Rejected}

@@ -2,12 +2,9 @@
 use Rattle.std.proofs.Common.{◌≡◌, ℕ, ◌-◌, ◌≤◌, inl, inr, Bool, true, false, List, [], ◌∷◌, ◌++◌, length, map, take, drop, encode_utf8_all, refl, sym, ap, ◌∙◌, arith, subst}
 use Rattle.std.specs.Str.{all_scalars}
 use Rattle.std.proofs.lemmas.List.{append-nil, append_assoc, length-append, take-append-drop, take_all}
-use Rattle.encoding_definitions.specs.Sequence.{IsIncomplete, IsNeverLeading}
-use Rattle.encoding_definitions.specs.Parts.{Part, Character, IllFormed, IsFirstPart, StartsWith}
-use Rattle.encoding_definitions.specs.Pending.{IsPending}
-use Rattle.encoding_definitions.specs.Yielding.{Yields}
-use Rattle.encoding_text.specs.YieldedParts.{IsReported, AreDecoded}
-use Rattle.encoding_text.specs.Decoding.{IsMalformed, DecodeStep, IsDecodeResult}
+use Rattle.encoding_definitions.specs.Sequence.{IsIncomplete, IsNeverLeading, IsPending}
+use Rattle.encoding_definitions.specs.Parts.{Part, Character, IllFormed, IsFirstPart, StartsWith, Yields}
+use Rattle.encoding_text.specs.Decoding.{IsReported, AreDecoded, IsMalformed, DecodeStep, IsDecodeResult}
 use Rattle.encoding_text.specs.declared.decoder.DecoderResult.{DecoderResult}
 use Rattle.encoding_text.specs.declared.decoder.DecoderResult.TheVariants.{InputEmpty, OutputFull, Malformed}
 use Rattle.encoding_definitions.proofs.PartsLemmas.{first_unpaired, first_open, first_rejected, same_first_part}

@@ -15,7 +15,7 @@ use borrow.Rule.Slice.PartMut.{put_mid}
 use Rattle.encoding_definitions.specs.Parts.{Part, Character, IllFormed, BeginsWithNoCharacter, ArePartsOf}
 use Rattle.encoding_definitions.specs.Prefixes.{IsLongestPrefix, IsLongestFittingPrefix, WritesPrefix}
 use Rattle.encoding_definitions.specs.Converting.{AreScalarsOfValidPrefix, ConvertsMaximal, FittingBegins, WritesText}
-use Rattle.encoding_text.specs.Steps.ConversionSteps.{ConvertsSome, ConvertsUntilFull}
+use Rattle.encoding_text.specs.Steps.{ConvertsSome, ConvertsUntilFull}
 use Rattle.encoding_definitions.proofs.SequenceLemmas.{IsSequence-some}
 use Rattle.encoding_definitions.proofs.EncodingLemmas.{IsSequence-encode, flat_map-encode_utf8, encodes_one, length-utf16}
 use Rattle.encoding_definitions.proofs.PrefixesLemmas.{WritesPrefix_after, WritesPrefix-length, WritesPrefix-same, put_mid-same, IsLongestFittingPrefix-all, IsLongestFittingPrefix-stop, flat_map_push, length-prefix}

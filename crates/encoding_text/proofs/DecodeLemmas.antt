@@ -6,15 +6,12 @@ use Rattle.std.proofs.lemmas.Bool.{and_from, cases_lt}
 use Rattle.std.proofs.lemmas.List.{append-nil, append_assoc, length-append, length-drop, length-take, take-append-drop, drop-drop, nil_from_length, take_all, take_rest}
 use Rattle.std.proofs.lemmas.Str.{encode_same, length-encode, len_utf8_bounds}
 use borrow.Rule.Slice.PartMut.{put_mid}
-use Rattle.encoding_definitions.specs.Sequence.{IsSequence, IsIncomplete}
+use Rattle.encoding_definitions.specs.Sequence.{IsSequence, IsIncomplete, IsPending}
 use Rattle.encoding_definitions.specs.Parts.{BeginsWithNoCharacter}
-use Rattle.encoding_definitions.specs.Pending.{IsPending}
-use Rattle.encoding_text.specs.Steps.Resuming.{Resumes}
+use Rattle.encoding_text.specs.Steps.{Resumes, ConvertsUntilFull, IsResultAtEnd, IsResultWithoutCharacter}
 use Rattle.encoding_definitions.specs.Prefixes.{WritesPrefix}
 use Rattle.encoding_definitions.specs.Converting.{FittingBegins}
-use Rattle.encoding_text.specs.Steps.ConversionSteps.{ConvertsUntilFull}
 use Rattle.encoding_text.specs.Decoding.{IsMalformed, DecodeStep, IsDecodeResult, DecodeStepInto}
-use Rattle.encoding_text.specs.Steps.Ending.{IsResultAtEnd, IsResultWithoutCharacter}
 use Rattle.encoding_text.specs.declared.decoder.DecoderResult.{DecoderResult}
 use Rattle.encoding_text.specs.declared.decoder.DecoderResult.TheVariants.{InputEmpty, OutputFull, Malformed}
 use Rattle.encoding_text.specs.declared.decoder.pending.Resumed.TheVariants.{Rejected}

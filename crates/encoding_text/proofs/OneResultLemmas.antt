@@ -5,9 +5,8 @@ use Rattle.std.specs.Str.{all_scalars}
 use Rattle.std.proofs.lemmas.Bool.{and_parts, cases_Bool, cases_lt}
 use Rattle.std.proofs.lemmas.List.{append-nil, append_assoc, length-append, nil_from_length, append_cancel_left, length-drop, length-take, drop_all}
 use Rattle.std.proofs.lemmas.Str.{encode_same, length-encode, len_utf8_bounds}
-use Rattle.encoding_definitions.specs.Sequence.{IsIncomplete}
+use Rattle.encoding_definitions.specs.Sequence.{IsIncomplete, IsPending}
 use Rattle.encoding_definitions.specs.Parts.{Part, Character, IllFormed, IsFirstPart, ArePartsOf}
-use Rattle.encoding_definitions.specs.Pending.{IsPending}
 use Rattle.encoding_definitions.specs.Converting.{FittingBegins}
 use Rattle.encoding_text.specs.Decoding.{IsMalformed, DecodeStep, IsDecodeResult}
 use Rattle.encoding_text.specs.declared.decoder.DecoderResult.{DecoderResult}

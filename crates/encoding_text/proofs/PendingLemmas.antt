@@ -2,10 +2,8 @@
 use Rattle.std.proofs.Common.{◌≡◌, ◌≢◌, ℕ, ◌+◌, ◌<◌, ◌≤◌, ◌⊎◌, inl, inr, List, [], ◌∷◌, ◌++◌, length, take, drop, set, slice_index, refl, sym, ap, ◌∙◌, arith, subst}
 use Rattle.std.proofs.lemmas.List.{take_more_set, drop_more, nil_from_length, take_at, length-take, length-set, length-append, get_or-take, get_or-set_other}
 use Rattle.std.proofs.lemmas.Bool.{cases_lt}
-use Rattle.encoding_definitions.specs.Sequence.{IsSequence, IsIncomplete}
-use Rattle.encoding_definitions.specs.Pending.{IsPending}
-use Rattle.encoding_text.specs.Steps.Resuming.{GoesOn}
-use Rattle.encoding_text.specs.Steps.Resuming.{IsRejected}
+use Rattle.encoding_definitions.specs.Sequence.{IsSequence, IsIncomplete, IsPending}
+use Rattle.encoding_text.specs.Steps.{GoesOn, IsRejected}
 use Rattle.encoding_definitions.proofs.SequenceLemmas.{HasShape, HasOpenShape, HasShape-IsSequence, IsSequence-HasShape, HasOpenShape-IsIncomplete, IsIncomplete-HasOpenShape, length-IsIncomplete, second_two, second_more, second_from, second_two_from, length_by_first}
 
 -- the length of the sequences that start with this byte

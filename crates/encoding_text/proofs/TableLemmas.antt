@@ -7,8 +7,7 @@ use Rattle.std.proofs.lemmas.Nat.Bits.{and_high}
 use Rattle.std.proofs.lemmas.Bool.Decides.{nat_tests}
 use Rattle.std.proofs.lemmas.List.FromFn.{get_or-map-range_with_len}
 use Rattle.encoding_text.specs.declared.utf_8.table.TheConstants.{UTF8_DATA}
-use Rattle.encoding_definitions.specs.Sequence.{IsSequence, IsContinuation}
-use Rattle.encoding_definitions.specs.Table.{three_byte_formula, four_byte_formula}
+use Rattle.encoding_definitions.specs.Sequence.{IsSequence, IsContinuation, three_byte_formula, four_byte_formula}
 use Rattle.encoding_definitions.proofs.SequenceLemmas.{is_second, HasShape-IsSequence, IsSequence-HasShape}
 
 -- the entry for a second byte, and for a first byte from 0x80 on

@@ -1,16 +1,17 @@
--- What a conversion and a decode call may return: Encoding Standard, UTF-8 decoder.
-use Rattle.std.specs.Prelude.{◌≡◌, ◌≢◌, ℕ, ◌+◌, ◌-◌, ◌*◌, ◌<◌, ◌≤◌, Bool, true, List, [], ◌∷◌, ◌++◌, length, take, drop, ◌⊎◌, encode_utf8, encode_utf8_all}
-use Rattle.std.specs.Str.{all_scalars, IsUtf8}
+-- What a conversion and a decode call may return: Encoding Standard, UTF-8 decoder. And which parts a call yields, by
+-- its result.
+use Rattle.std.specs.Prelude.{◌≡◌, ◌≢◌, ℕ, ◌+◌, ◌-◌, ◌*◌, ◌<◌, ◌≤◌, Bool, true, List, [], ◌∷◌, ◌++◌, length, take, drop, ◌⊎◌, encode_utf8, encode_utf8_all, map}
+use Rattle.std.specs.Str.{all_scalars, IsUtf8, chars}
 use Rattle.std.specs.Char.{IsScalar}
 use Rattle.std.specs.List.{flat_map}
-use Rattle.encoding_definitions.specs.Sequence.{IsSequence, IsIncomplete, IsNeverLeading}
-use Rattle.encoding_definitions.specs.Pending.{IsPending}
+use Rattle.encoding_definitions.specs.Sequence.{IsSequence, IsIncomplete, IsNeverLeading, IsPending}
 use Rattle.encoding_definitions.specs.Prefixes.{IsLongestPrefix, WritesPrefix}
 use Rattle.encoding_definitions.specs.Converting.{FittingBegins}
 use Rattle.encoding_text.specs.declared.decoder.DecoderResult.{DecoderResult}
 use Rattle.encoding_text.specs.declared.decoder.DecoderResult.TheVariants.{InputEmpty, OutputFull, Malformed}
 use Rattle.encoding_text.specs.declared.decoder.Piece.{Piece}
 use Rattle.encoding_text.specs.declared.decoder.Piece.TheVariants as piece
+use Rattle.encoding_definitions.specs.Parts.{Part, Character, IllFormed}
 
 -- x is a malformed sequence, with these bytes unread after it
 abbrev pub IsMalformed : List ℕ → List ℕ → Bool → Type 0
@@ -88,3 +89,21 @@ SufficesReplacing query replacement p src room result read written q =
 abbrev pub DecodeStepInto : {A : Type 0} → (ℕ → List A) → ℕ → List ℕ → List ℕ → List A → List A → Bool → DecoderResult → ℕ → ℕ → List ℕ → Type 0
 DecodeStepInto {A} encode need p src old new last result read written q =
     (out : List A) × WritesPrefix old new written out × DecodeStep encode need p src (length old) last result read out q
+
+-- the parts that are reported: a malformed sequence of k bytes, or none
+abbrev pub IsReported : DecoderResult → List Part → Type 0
+IsReported InputEmpty parts = parts ≡ []
+IsReported OutputFull parts = parts ≡ []
+IsReported (Malformed k second) parts = (x : List ℕ) × (parts ≡ IllFormed x ∷ []) × (length x ≡ k)
+
+-- the characters that are written, and then the part that is reported
+abbrev pub AreDecoded : {A : Type 0} → (ℕ → List A) → DecoderResult → List A → List Part → Type 0
+AreDecoded encode result out parts = (cs : List ℕ) × (reported : List Part) × (all_scalars cs ≡ true) × (out ≡ flat_map encode cs)
+    × IsReported result reported × (parts ≡ map Character cs ++ reported)
+
+-- the characters of the text, the character, or the malformed sequence of k bytes
+abbrev pub AreBorrowed : Piece → List Part → Type 0
+AreBorrowed (piece.Text t) parts = parts ≡ map Character (chars t.now)
+AreBorrowed (piece.Char c) parts = parts ≡ Character c ∷ []
+AreBorrowed (piece.Malformed k) parts = (x : List ℕ) × (parts ≡ IllFormed x ∷ []) × (length x ≡ k)
+AreBorrowed piece.InputEmpty parts = parts ≡ []

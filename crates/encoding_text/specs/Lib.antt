@@ -1,16 +1,12 @@
 pub mod Decoding
 pub mod OneResult
-pub mod YieldedParts
 pub mod Encoding
 pub mod Borrowed
 pub mod Classes
 pub mod Steps
 -- the terms of the standards, so that a crate above needs no other to cite them
 pub use Rattle.encoding_definitions.specs.Sequence
-pub use Rattle.encoding_definitions.specs.Table
-pub use Rattle.encoding_definitions.specs.Pending
 pub use Rattle.encoding_definitions.specs.Parts
-pub use Rattle.encoding_definitions.specs.Yielding
 pub use Rattle.encoding_definitions.specs.Prefixes
 pub use Rattle.encoding_definitions.specs.Converting
 pub use Rattle.encoding_definitions.specs.Ascii

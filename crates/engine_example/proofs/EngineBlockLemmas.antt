@@ -8,8 +8,7 @@ use Rattle.encoding_text.specs.Encoding.{IsPendingSurrogate, EncodeStep}
 use Rattle.encoding_text.specs.declared.utf_8.encoder.EncoderResult.{EncoderResult}
 use Rattle.encoding_text.specs.declared.utf_8.encoder.EncoderResult.TheVariants.{InputEmpty}
 use Rattle.encoding_text.proofs.EncoderPartsLemmas.{AreCodeUnits-append}
-use Rattle.encoding_runs.specs.Calls.{Call, IsChain, read_in_all, output_of, pending_after}
-use Rattle.encoding_runs.specs.EncoderCalls.{EncodesFirstParts}
+use Rattle.encoding_runs.specs.Calls.{Call, IsChain, read_in_all, output_of, pending_after, EncodesFirstParts}
 use Rattle.engine_example.specs.CutBlocks.{WritesBlock}
 
 -- a call that reads all of a block, as a chain of its own

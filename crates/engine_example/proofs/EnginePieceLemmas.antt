@@ -6,15 +6,13 @@ use Rattle.std.proofs.lemmas.Grind.{flat_map-append}
 use Rattle.std.proofs.lemmas.List.Folds.{flat_map-map}
 use Rattle.std.specs.Str.{chars, IsUtf8}
 use Rattle.std.proofs.lemmas.List.{take_at, take_more, drop_all, drop-drop, flat_map_more, length-drop}
-use Rattle.encoding_text.specs.Parts.{Part, Character, StartsWith, lossy_scalar, lossy_utf16}
-use Rattle.encoding_text.specs.Yielding.{Yields}
-use Rattle.encoding_text.specs.Pending.{IsPending}
+use Rattle.encoding_text.specs.Parts.{Part, Character, StartsWith, lossy_scalar, lossy_utf16, Yields}
+use Rattle.encoding_text.specs.Sequence.{IsPending}
 use Rattle.encoding_text.proofs.DecompositionLemmas.{StartsWith-append}
-use Rattle.encoding_text.specs.Decoding.{BorrowedDecodeStep, DecodeStepInto, max_utf16_length}
-use Rattle.encoding_text.specs.YieldedParts.{AreBorrowed}
+use Rattle.encoding_text.specs.Decoding.{BorrowedDecodeStep, DecodeStepInto, max_utf16_length, AreBorrowed}
 use Rattle.encoding_text.specs.declared.decoder.DecoderResult.{DecoderResult}
 use Rattle.encoding_text.specs.declared.decoder.Piece.{Piece}
-use Rattle.encoding_runs.specs.DecoderCalls.{YieldsFirstParts}
+use Rattle.encoding_runs.specs.Calls.{YieldsFirstParts}
 use Rattle.encoding_runs.specs.MixedCalls.{Form, CallResult, Borrowed, ToUtf16, Handed, Decoded, MixedDecodeStep, AreYielded, IsInputEmpty, TextFits, HasQueriedLength, ReadsText}
 use Rattle.engine_example.specs.CutBlocks.{WritesPiece}
 

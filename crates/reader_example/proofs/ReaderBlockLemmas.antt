@@ -5,8 +5,7 @@ use Rattle.std.specs.Str.{IsUtf8}
 use Rattle.std.specs.Str.Lossy.{utf8_lossy}
 use Rattle.std.specs.Io.KnownBytes.{Consumes, IsAtEnd}
 use Rattle.encoding_text.specs.Prefixes.{WritesPrefix}
-use Rattle.encoding_text.specs.Parts.{Part, ArePartsOf, StartsWith, lossy_utf8, Character, IllFormed, bytes_of, malformed_count}
-use Rattle.encoding_text.specs.Yielding.{Yields}
+use Rattle.encoding_text.specs.Parts.{Part, ArePartsOf, StartsWith, lossy_utf8, Character, IllFormed, bytes_of, malformed_count, Yields}
 use Rattle.encoding_runs.specs.Blocks.{IsBlockRepair, RepairTheParts, replaced_in_all}
 use Rattle.encoding_runs.specs.declared.repair.blocks.RepairedBlock.{RepairedBlock}
 use Rattle.encoding_runs.proofs.RepairLemmas.{pending_length}
@@ -15,7 +14,7 @@ use Rattle.reader_example.proofs.ReaderTextLemmas.{Consumes-yielded, no_text_lef
 use Rattle.std.specs.Prelude.{Any}
 use Rattle.std.specs.List.{flat_map}
 use Rattle.std.proofs.lemmas.Bool.{both_ways}
-use Rattle.encoding_text.specs.Pending.{IsPending}
+use Rattle.encoding_text.specs.Sequence.{IsPending}
 use Rattle.encoding_text.proofs.AnyLemmas.{Any-here, Any-there}
 use Rattle.encoding_text.proofs.DecompositionLemmas.{StartsWith-append, StartsWith-bytes, malformed_count-append}
 use Rattle.encoding_runs.specs.Calls.{Call, IsChain, output_of}

@@ -9,14 +9,12 @@ use Rattle.std.proofs.lemmas.Str.{length-encode, len_utf8_bounds, encodes-chars}
 use Rattle.std.specs.Char.{IsScalar}
 use Rattle.std.specs.Str.{IsUtf8, all_scalars, chars}
 use Rattle.encoding_text.specs.Sequence.{IsSequence}
-use Rattle.encoding_text.specs.Parts.{Part, lossy_utf8}
-use Rattle.encoding_text.specs.Yielding.{Yields}
+use Rattle.encoding_text.specs.Parts.{Part, lossy_utf8, Yields}
 use Rattle.encoding_text.proofs.DecompositionLemmas.{lossy_utf8-characters}
-use Rattle.encoding_text.specs.Decoding.{BorrowedDecodeStep}
-use Rattle.encoding_text.specs.YieldedParts.{AreBorrowed}
+use Rattle.encoding_text.specs.Decoding.{BorrowedDecodeStep, AreBorrowed}
 use Rattle.encoding_text.specs.declared.decoder.Piece.{Piece}
 use Rattle.encoding_text.specs.declared.decoder.Piece.TheVariants.{Text, Char, Malformed, InputEmpty}
-use Rattle.encoding_runs.specs.DecoderCalls.{YieldsFirstParts}
+use Rattle.encoding_runs.specs.Calls.{YieldsFirstParts}
 use Rattle.encoding_runs.specs.MixedCalls.{Form, Borrowed, CallResult, Handed, MixedDecodeStep, AreYielded, IsInputEmpty}
 
 -- without its first units

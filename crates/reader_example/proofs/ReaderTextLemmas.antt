@@ -4,8 +4,7 @@ use Rattle.std.proofs.lemmas.List.{drop-append-le}
 use Rattle.std.proofs.lemmas.Str.{length-encode, len_utf8_bounds, chars-append, chars-encodes, encodes-chars, scalars-chars}
 use Rattle.std.specs.Str.Lossy.{utf8_lossy}
 use Rattle.std.specs.Io.KnownBytes.{Consumes, IsAtEnd, Keeps}
-use Rattle.encoding_text.specs.Parts.{Part, StartsWith, ArePartsOf, lossy_utf8, lossy_scalar}
-use Rattle.encoding_text.specs.Yielding.{Yields}
+use Rattle.encoding_text.specs.Parts.{Part, StartsWith, ArePartsOf, lossy_utf8, lossy_scalar, Yields}
 use Rattle.encoding_text.proofs.DecompositionLemmas.{StartsWith-append, lossy_utf8-append}
 use Rattle.decoder_example.proofs.YieldedLemmas.{first_parts}
 use Rattle.reader_example.specs.Reading.{text_from, YieldsCharacters, IsUtf16Character, units_from}

@@ -1,7 +1,7 @@
 //! Copies strides: bytes as bytes or as UTF-16 code units, and ASCII code units as bytes. The rest of `dst` is unchanged.
 
 ghost use Rattle.std.specs.Prelude.{◌≡◌, ◌+◌, ◌≤◌, ◌++◌, length, take, drop};
-ghost use Rattle.encoding_kernels.specs.Bounds.{AllBelow};
+ghost use Rattle.encoding_kernels.specs.Scans.{AllBelow};
 
 use crate::simd::copy::{write_first, write_first_units};
 use crate::simd::width::STRIDE;

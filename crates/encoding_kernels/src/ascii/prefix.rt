@@ -1,7 +1,7 @@
 //! The longest prefix of units below a bound, such as the ASCII prefix.
 
 ghost use Rattle.std.specs.Prelude.{◌+◌, ◌<◌, ◌≤◌, length, slice_index};
-ghost use Rattle.encoding_kernels.specs.Bounds.{BelowUpTo};
+ghost use Rattle.encoding_kernels.specs.Scans.{BelowUpTo};
 
 use crate::simd::bounds::{BytesBelow, UnitsBelow, run_len_below};
 use crate::simd::scan::{find, run, skip};

@@ -1,7 +1,7 @@
 //! Units that are below a bound, by vectors.
 
 ghost use Rattle.std.specs.Prelude.{◌≡◌, ◌↔◌, ◌+◌, ◌<◌, ◌≤◌, length, slice_index, IsTrue};
-ghost use Rattle.encoding_kernels.specs.Bounds.{AllBelow, IsRunBelow};
+ghost use Rattle.encoding_kernels.specs.Scans.{AllBelow, IsRunBelow};
 
 use crate::simd::scan::{LanePredicate, all, run};
 use crate::simd::width::{BLOCK, FOUR_BLOCKS};

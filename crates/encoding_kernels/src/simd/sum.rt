@@ -2,7 +2,7 @@
 //! compute the terms of many indices at a time.
 ghost use Rattle.std.specs.Prelude.{◌≡◌, ℕ, ◌+◌, ◌*◌, ◌^◌, ◌<◌, ◌≤◌, List, length, drop, slice_index, nat_lt, if◌then◌else◌};
 ghost use Rattle.std.specs.Simd.Lanes.{sum_l};
-ghost use Rattle.encoding_kernels.specs.Vectors.{HasLanes};
+ghost use Rattle.encoding_kernels.specs.Scans.{HasLanes};
 ghost use Rattle.encoding_kernels.specs.Lengths.{sum_over_suffixes};
 
 use std::simd::Simd;

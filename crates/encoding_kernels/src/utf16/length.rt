@@ -1,7 +1,7 @@
 //! The length of UTF-16 in UTF-8, without a test of whether it is well-formed.
 ghost use Rattle.std.specs.Prelude.{◌≡◌, ◌-◌, ℕ, ◌+◌, ◌<◌, ◌≤◌, List, length, slice_index};
 ghost use Rattle.encoding_definitions.specs.Utf16.{IsUtf8OfUnits};
-ghost use Rattle.encoding_kernels.specs.Vectors.{HasLanes};
+ghost use Rattle.encoding_kernels.specs.Scans.{HasLanes};
 ghost use Rattle.encoding_kernels.specs.Lengths.{sum_over_suffixes, extra_bytes, extra_bytes_by, extra_bytes_few, fewer};
 
 use crate::simd::bounds::UnitsBelow;

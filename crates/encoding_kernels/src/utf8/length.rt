@@ -1,7 +1,7 @@
 //! The length of UTF-8 in UTF-16, without a test of whether it is well-formed.
 ghost use Rattle.std.specs.Prelude.{◌≡◌, ◌-◌, ◌+◌, ◌<◌, ◌≤◌, List, length, drop, slice_index};
 ghost use Rattle.encoding_definitions.specs.Parts.{Part, ArePartsOf, lossy_utf16};
-ghost use Rattle.encoding_kernels.specs.Vectors.{HasLanes};
+ghost use Rattle.encoding_kernels.specs.Scans.{HasLanes};
 ghost use Rattle.encoding_kernels.specs.Lengths.{sum_over_suffixes, goes_second, continuations, continuations_by, continuations_few, fewer};
 
 use crate::ascii::prefix::prefix_len_below;

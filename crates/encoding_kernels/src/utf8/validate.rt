@@ -3,7 +3,7 @@
 ghost use Rattle.std.specs.Prelude.{◌+◌, ◌<◌, ◌≤◌, length, take};
 ghost use Rattle.std.specs.Str.{IsUtf8};
 ghost use Rattle.encoding_kernels.specs.Following.{ValidUpTo};
-ghost use Rattle.encoding_kernels.specs.Bounds.{BelowUpTo};
+ghost use Rattle.encoding_kernels.specs.Scans.{BelowUpTo};
 
 use crate::scalar::sequence::is_lead_with_continuation;
 use crate::simd::bounds::BytesBelow;

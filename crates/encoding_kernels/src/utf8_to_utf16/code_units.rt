@@ -2,7 +2,7 @@
 //! in one vector and the upper in another, which are then joined.
 ghost use Rattle.std.specs.Prelude.{◌≡◌, ℕ, ◌+◌, ◌-◌, ◌*◌, ◌/◌, ◌%◌, ◌<◌, ◌≤◌, [], ◌∷◌, Bool, false, List, ◌++◌, take, drop, replicate, slice_index, IsTrue};
 ghost use Rattle.std.specs.Simd.Lanes.{mask_l};
-ghost use Rattle.encoding_kernels.specs.Vectors.{HasLanes};
+ghost use Rattle.encoding_kernels.specs.Scans.{HasLanes};
 ghost use Rattle.encoding_kernels.specs.EndingUnits.{ends_after, low_bits, triple_unit, unit_lane, units_after, upper_of};
 
 use std::simd::prelude::*;

@@ -1,10 +1,9 @@
 //! The engine: writes text unchanged, and U+FFFD for each malformed sequence.
 ghost use Rattle.std.specs.Prelude.{◌≡◌, ◌≢◌, ℕ, ◌<◌, ◌≤◌, ◌↔◌, Bool, true, false, List, [], ◌++◌, length, take, IfOk, IfErr, IsTrue};
 ghost use Rattle.std.specs.Io.KnownBytes.{Appends, Keeps};
-ghost use Rattle.encoding_definitions.specs.Pending.{IsPending};
+ghost use Rattle.encoding_definitions.specs.Sequence.{IsPending};
 ghost use Rattle.encoding_runs.specs.Repairs.{RepairsAll, RepairsProperPrefix, RepairsFinal, Stops, WritesRepaired};
-ghost use Rattle.encoding_runs.specs.Steps.Rounds.{ReadsRound};
-ghost use Rattle.encoding_runs.specs.Steps.Writing.{StopsInParts, WritesParts, malformed_in, text_of};
+ghost use Rattle.encoding_runs.specs.Steps.{ReadsRound, StopsInParts, WritesParts, malformed_in, text_of};
 
 use super::streams::{Sink, Source};
 use encoding_text::decoder::{Piece, Utf8Decoder};

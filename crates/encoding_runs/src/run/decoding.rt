@@ -4,10 +4,8 @@ ghost use Rattle.std.specs.Char.{IsScalar};
 ghost use Rattle.std.specs.Char.Escape.{encode_utf16};
 ghost use Rattle.encoding_definitions.specs.Prefixes.{WritesPrefix};
 ghost use Rattle.encoding_text.specs.Decoding.{DecodeStepInto, DecodeStep, max_utf16_length, max_utf8_length};
-ghost use Rattle.encoding_runs.specs.Turns.{room_of, is_marked_last};
-ghost use Rattle.encoding_runs.specs.Runs.{Completes};
-ghost use Rattle.encoding_runs.specs.DecoderRuns.{Delivers};
-ghost use Rattle.encoding_runs.specs.Steps.Reports.{report_of};
+ghost use Rattle.encoding_runs.specs.Runs.{room_of, is_marked_last, Completes, Delivers};
+ghost use Rattle.encoding_runs.specs.Steps.{report_of};
 
 use super::turns::Turn;
 use encoding_text::decoder::{DecoderResult, Utf8Decoder};

@@ -2,9 +2,7 @@
 ghost use Rattle.std.specs.Prelude.{◌+◌, ◌*◌, ◌≤◌, length, take};
 ghost use Rattle.encoding_definitions.specs.Prefixes.{WritesPrefix};
 ghost use Rattle.encoding_text.specs.Encoding.{EncodeStep};
-ghost use Rattle.encoding_runs.specs.Turns.{room_of, is_marked_last};
-ghost use Rattle.encoding_runs.specs.Runs.{Completes};
-ghost use Rattle.encoding_runs.specs.EncoderRuns.{EncodesByTurns};
+ghost use Rattle.encoding_runs.specs.Runs.{room_of, is_marked_last, Completes, EncodesByTurns};
 
 use super::turns::Turn;
 use encoding_text::utf_8::{EncoderResult, Utf8Encoder};

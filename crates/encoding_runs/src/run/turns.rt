@@ -1,6 +1,6 @@
 //! How much of the source and of the destination a turn of a run uses.
 ghost use Rattle.std.specs.Prelude.{◌≡◌, min};
-ghost use Rattle.encoding_runs.specs.Turns.{room_of, is_marked_last};
+ghost use Rattle.encoding_runs.specs.Runs.{room_of, is_marked_last};
 
 /// One call of a run: the most of the unread source and of the destination that it takes.
 #[repr(C)]

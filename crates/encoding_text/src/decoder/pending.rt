@@ -1,10 +1,9 @@
 //! The pending bytes of a decoder.
 ghost use Rattle.std.specs.Prelude.{◌≡◌, ◌≢◌, ℕ, ◌<◌, ◌≤◌, ◌↔◌, Bool, false, List, [], length, take, drop, IsTrue};
-ghost use Rattle.encoding_definitions.specs.Sequence.{IsIncomplete};
+ghost use Rattle.encoding_definitions.specs.Sequence.{IsIncomplete, IsPending};
 ghost use Rattle.encoding_definitions.specs.Parts.{BeginsWithNoCharacter};
-ghost use Rattle.encoding_definitions.specs.Pending.{IsPending};
 ghost use Rattle.encoding_text.specs.Decoding.{IsMalformed};
-ghost use Rattle.encoding_text.specs.Steps.Resuming.{GoesOn};
+ghost use Rattle.encoding_text.specs.Steps.{GoesOn};
 
 use super::DecoderResult;
 use encoding_kernels::scalar::sequence::{
@@ -79,8 +78,8 @@ impl Model for Pending {
 }
 
 impl Pending {
-    ghost use Rattle.encoding_text.specs.Steps.Resuming.{Pushes, Resumes};
-    ghost use Rattle.encoding_text.specs.Steps.Ending.{IsResultAtEnd, IsResultWithoutCharacter};
+    ghost use Rattle.encoding_text.specs.Steps.{Pushes, Resumes};
+    ghost use Rattle.encoding_text.specs.Steps.{IsResultAtEnd, IsResultWithoutCharacter};
 
     /// Returns no bytes.
     pub(crate) fn none() -> Pending

@@ -4,7 +4,7 @@ ghost use Rattle.std.specs.Prelude.{◌<◌, ◌≤◌, ◌↔◌, length, take,
 ghost use Rattle.std.specs.Str.{IsAscii};
 ghost use Rattle.encoding_definitions.specs.Prefixes.{IsLongestPrefix};
 ghost use Rattle.encoding_definitions.specs.Latin1.{IsLatin1, IsUtf8Latin1};
-ghost use Rattle.encoding_kernels.specs.Bounds.{BelowUpTo};
+ghost use Rattle.encoding_kernels.specs.Scans.{BelowUpTo};
 
 use crate::ascii::ascii_valid_up_to;
 use encoding_kernels::ascii::prefix::{prefix_after_stride, prefix_len_below};

@@ -5,7 +5,7 @@ ghost use Rattle.std.specs.Prelude.{◌≡◌, ◌+◌, ◌*◌, ◌%◌, ◌<�
 ghost use Rattle.std.specs.Str.{IsAscii, chars};
 ghost use Rattle.encoding_definitions.specs.Prefixes.{IsLongestFittingPrefix, WritesPrefix};
 ghost use Rattle.encoding_definitions.specs.Latin1.{IsUtf8Latin1};
-ghost use Rattle.encoding_kernels.specs.Bounds.{AllBelow};
+ghost use Rattle.encoding_kernels.specs.Scans.{AllBelow};
 
 use crate::ascii;
 use encoding_kernels::ascii::copy::unpack_part;

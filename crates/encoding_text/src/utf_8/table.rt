@@ -1,8 +1,7 @@
 //! A table whose bits say which second bytes may follow which first bytes, and the two formulas that decide sequences
 //! of three and of four bytes by it.
 ghost use Rattle.std.specs.Prelude.{◌≡◌, ◌≢◌, ◌↔◌, ◌+◌, ◌≤◌, [], ◌∷◌};
-ghost use Rattle.encoding_definitions.specs.Sequence.{IsSequence};
-ghost use Rattle.encoding_definitions.specs.Table.{three_byte_formula, four_byte_formula};
+ghost use Rattle.encoding_definitions.specs.Sequence.{IsSequence, three_byte_formula, four_byte_formula};
 
 /// An entry for each second byte, followed by one for each first byte from 0x80 on. The two lowest bits of each are
 /// zero. A byte may follow the first byte of a sequence of three or four if and only if their entries have no bit in

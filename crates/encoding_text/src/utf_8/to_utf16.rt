@@ -7,7 +7,7 @@ ghost use Rattle.std.specs.Str.{IsUtf8, chars};
 ghost use Rattle.encoding_definitions.specs.Sequence.{IsSequence};
 ghost use Rattle.encoding_definitions.specs.Prefixes.{WritesPrefix};
 ghost use Rattle.encoding_definitions.specs.Converting.{ConvertsMaximal};
-ghost use Rattle.encoding_text.specs.Steps.ConversionSteps.{ConvertsSome, ConvertsUntilFull};
+ghost use Rattle.encoding_text.specs.Steps.{ConvertsSome, ConvertsUntilFull};
 
 use super::validation::{character_length, utf8_valid_up_to};
 use crate::ascii::{copy_prefix_of_text, copy_to_basic_latin};

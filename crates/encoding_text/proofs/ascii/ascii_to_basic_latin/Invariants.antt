@@ -1,6 +1,6 @@
 use Rattle.std.proofs.Common.{◌≡◌, ◌*◌, take}
 use Rattle.encoding_definitions.specs.Prefixes.{WritesPrefix}
-use Rattle.encoding_kernels.specs.Bounds.{BelowUpTo}
+use Rattle.encoding_kernels.specs.Scans.{BelowUpTo}
 use Rattle.encoding_text.proofs.ascii.ascii_to_basic_latin.Given as goal
 
 abbrev pub invariant-loop-four : goal.invariant-loop-four

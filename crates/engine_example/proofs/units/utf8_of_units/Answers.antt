@@ -1,6 +1,6 @@
 use Rattle.std.proofs.Common.{encode_utf8_all, ◌≡◌, ◌<◌, [], ◌∷◌, ◌++◌, take, drop, length, ap, sym, refl, subst, ◌∙◌, arith, append-nil, append_assoc}
 use Rattle.std.proofs.lemmas.List.{take_rest, drop_all, drop-drop, length-drop}
-use Rattle.encoding_runs.specs.Repeats.{WritesInTurn}
+use Rattle.encoding_runs.specs.Calls.{WritesInTurn}
 use Rattle.engine_example.proofs.units.utf8_of_units.Goals as goal
 
 pub loop-read-init : goal.loop-read-init

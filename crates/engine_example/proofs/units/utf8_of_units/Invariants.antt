@@ -1,5 +1,5 @@
 use Rattle.std.proofs.Common.{◌≤◌, ◌++◌, ◌-◌, List, ℕ, length, drop}
-use Rattle.encoding_runs.specs.Repeats.{WritesInTurn}
+use Rattle.encoding_runs.specs.Calls.{WritesInTurn}
 use Rattle.engine_example.proofs.units.utf8_of_units.Given as goal
 
 -- what writes the rest writes all, after what is written

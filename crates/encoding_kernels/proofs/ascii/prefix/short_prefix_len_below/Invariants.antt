@@ -1,5 +1,5 @@
 use Rattle.std.proofs.Common.{◌-◌, ◌≤◌, length}
-use Rattle.encoding_kernels.specs.Bounds.{BelowUpTo}
+use Rattle.encoding_kernels.specs.Scans.{BelowUpTo}
 use Rattle.encoding_kernels.proofs.ascii.prefix.short_prefix_len_below.Given as goal
 
 abbrev pub invariant-loop-at : goal.invariant-loop-at

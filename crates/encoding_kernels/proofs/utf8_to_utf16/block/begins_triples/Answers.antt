@@ -1,7 +1,7 @@
 use Rattle.std.proofs.Common.{◌≡◌, ℕ, ◌*◌, ◌<◌, ◌&&◌, arith, bit_and, eqb, false, get_or, get_or-take, leb, length-take-le, ltb, not, refl, sym, take, ◌∙◌, w8}
 use Rattle.std.proofs.lemmas.Bool.{and_parts, leb-true, ltb-true, not-false}
 use Rattle.encoding_kernels.specs.declared.utf8_to_utf16.block.TheConstants.{LEAD_BITS, LEAD_VALUES}
-use Rattle.encoding_kernels.specs.Vectors.{HasLanes}
+use Rattle.encoding_kernels.specs.Scans.{HasLanes}
 use Rattle.encoding_kernels.specs.EndingUnits.{BeginsThree}
 use Rattle.encoding_kernels.proofs.LaneLemmas.{HasLanes-itself, HasLanes-zip2, same_below}
 use Rattle.encoding_kernels.proofs.TestLemmas.{tests_of, none_passes}

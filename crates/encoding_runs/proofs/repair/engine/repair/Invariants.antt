@@ -1,5 +1,5 @@
 use Rattle.std.proofs.Common.{◌≡◌, ◌≤◌, ◌-◌}
-use Rattle.encoding_runs.specs.Steps.Rounds.{Reaches}
+use Rattle.encoding_runs.specs.Steps.{Reaches}
 use Rattle.encoding_runs.proofs.repair.engine.repair.Given as goal
 
 abbrev pub invariant-loop-read : goal.invariant-loop-read

@@ -1,6 +1,6 @@
 use Rattle.std.proofs.Common.{◌≡◌, ℕ, List, Option, Result, Ok, Err, IfErr, true}
 use Rattle.encoding_runs.specs.Repairs.{Stops}
-use Rattle.encoding_runs.specs.Steps.Writing.{StopsInParts}
+use Rattle.encoding_runs.specs.Steps.{StopsInParts}
 use Rattle.encoding_runs.proofs.RepairLemmas.{stopped_all}
 use Rattle.encoding_runs.proofs.repair.engine.repair_slice.Goals as goal
 

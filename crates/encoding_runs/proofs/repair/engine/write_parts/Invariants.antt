@@ -1,5 +1,5 @@
 use Rattle.std.proofs.Common.{◌≡◌, ◌+◌, ◌++◌, length}
-use Rattle.encoding_runs.specs.Steps.Writing.{WritesParts}
+use Rattle.encoding_runs.specs.Steps.{WritesParts}
 use Rattle.encoding_runs.proofs.repair.engine.write_parts.Given as goal
 
 abbrev pub invariant-loop-writer : goal.invariant-loop-writer

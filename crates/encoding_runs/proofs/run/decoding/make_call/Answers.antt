@@ -1,7 +1,7 @@
 use Rattle.std.proofs.Common.{◌≡◌, length, take, ap, ◌∙◌, refl, arith}
 use Rattle.std.proofs.lemmas.List.{length-take, take_min}
 use Rattle.encoding_text.specs.Decoding.{DecodeStep}
-use Rattle.encoding_runs.specs.Turns.{room_of}
+use Rattle.encoding_runs.specs.Runs.{room_of}
 use Rattle.encoding_runs.proofs.TurnLemmas.{WritesPrefix_within, same_call}
 use Rattle.encoding_runs.proofs.run.decoding.make_call.Goals as goal
 

@@ -1,5 +1,5 @@
 use Rattle.std.proofs.Common.{◌≤◌, length, take}
-use Rattle.encoding_runs.specs.Steps.Reports.{IsReportedRun}
+use Rattle.encoding_runs.specs.Steps.{IsReportedRun}
 use Rattle.encoding_runs.proofs.run.decoding.run.Given as goal
 
 abbrev pub invariant-loop-turn : goal.invariant-loop-turn

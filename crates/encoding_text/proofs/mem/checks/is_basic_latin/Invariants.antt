@@ -1,5 +1,5 @@
 use Rattle.std.proofs.Common.{◌≡◌, ◌*◌}
-use Rattle.encoding_kernels.specs.Bounds.{BelowUpTo}
+use Rattle.encoding_kernels.specs.Scans.{BelowUpTo}
 use Rattle.encoding_text.proofs.mem.checks.is_basic_latin.Given as goal
 
 abbrev pub invariant-loop-four : goal.invariant-loop-four

@@ -1,5 +1,5 @@
 use Rattle.std.proofs.Common.{arith}
-use Rattle.encoding_kernels.specs.Bounds.{BelowUpTo}
+use Rattle.encoding_kernels.specs.Scans.{BelowUpTo}
 use Rattle.encoding_definitions.proofs.Latin1Lemmas.{latin1_stop}
 use Rattle.encoding_kernels.proofs.PairsLemmas.{ascii_latin1}
 use Rattle.encoding_text.proofs.mem.checks.utf8_latin1_up_to.Goals as goal

@@ -5,7 +5,7 @@ use Rattle.std.specs.Str.{IsUtf8, chars}
 use Rattle.std.proofs.lemmas.List.{length-take, take-take, take_rest}
 use borrow.Rule.Slice.PartMut.{put_mid}
 use Rattle.encoding_definitions.specs.Prefixes.{IsLongestPrefix, WritesPrefix}
-use Rattle.encoding_text.specs.Steps.ConversionSteps.{ConvertsSome}
+use Rattle.encoding_text.specs.Steps.{ConvertsSome}
 use Rattle.encoding_text.proofs.ConvertingLemmas.{converted_ascii, converted_more, converted_rejected, converted_text, converted_unfit, converts_longest}
 use Rattle.encoding_text.proofs.utf_8.to_utf16.convert_utf8_to_utf16_up_to_invalid.Goals as goal
 

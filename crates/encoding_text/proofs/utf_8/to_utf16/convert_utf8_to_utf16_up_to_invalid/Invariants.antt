@@ -1,6 +1,6 @@
 use Rattle.std.proofs.Common.{◌-◌, length}
 use Rattle.std.specs.Char.Escape.{encode_utf16}
-use Rattle.encoding_text.specs.Steps.ConversionSteps.{ConvertsSome}
+use Rattle.encoding_text.specs.Steps.{ConvertsSome}
 use Rattle.encoding_text.proofs.utf_8.to_utf16.convert_utf8_to_utf16_up_to_invalid.Given as goal
 
 abbrev pub invariant-loop-length : goal.invariant-loop-length

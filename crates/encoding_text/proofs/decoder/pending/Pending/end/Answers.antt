@@ -1,6 +1,6 @@
 use Rattle.std.proofs.Common.{◌≡◌, ◌≢◌, ◌∙◌, [], arith, ap, sym, refl, subst, length}
 use Rattle.std.proofs.lemmas.List.{length-take}
-use Rattle.encoding_definitions.specs.Pending.{IsPending}
+use Rattle.encoding_definitions.specs.Sequence.{IsPending}
 use Rattle.encoding_text.proofs.PendingLemmas.{pending_incomplete}
 use Rattle.encoding_text.proofs.decoder.pending.Pending.end.Goals as goal
 

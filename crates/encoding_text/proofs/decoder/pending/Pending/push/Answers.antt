@@ -1,6 +1,6 @@
 use Rattle.std.proofs.Common.{◌∙◌, refl, sym, subst}
 use Rattle.std.proofs.lemmas.Bool.{both_ways}
-use Rattle.encoding_definitions.specs.Pending.{IsPending}
+use Rattle.encoding_definitions.specs.Sequence.{IsPending}
 use Rattle.encoding_text.proofs.PendingLemmas.{pushed_rejected, pushed_whole, pushed_longer}
 use Rattle.encoding_text.proofs.decoder.pending.Pending.push.Goals as goal
 
