@@ -22,6 +22,7 @@ pub struct EncodingRepairBlockResult {
 
 /// Writes the next block of a stream with U+FFFD for each malformed sequence. `last` says that no block follows. The
 /// rest of `dst` is unchanged.
+#[tactic(auto, using(encoding_runs::proofs::ChainLemmas::yielded_bytes))]
 #[unsafe(no_mangle)]
 pub extern "C" fn encoding_text_repair_block(
     decoder: &mut EncodingUtf8Decoder,

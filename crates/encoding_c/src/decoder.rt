@@ -82,6 +82,7 @@ pub(crate) fn restored(state: EncodingUtf8Decoder) -> Utf8Decoder
 }
 
 /// Returns the number of pending bytes.
+#[tactic(auto, using(crate::proofs::StateLemmas::few_pending))]
 pub(crate) fn pending_count(decoder: &Utf8Decoder) -> usize
     ensures pending_length { result ≡ length decoder.now }
     ensures at_most_three { result ≤ 3 }

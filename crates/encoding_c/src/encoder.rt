@@ -137,6 +137,7 @@ pub extern "C" fn encoding_text_utf8_encoder_max_buffer_length_from_utf8_without
 }
 
 /// Encodes the pending surrogate, then `src`. `last` marks the last call. The rest of `dst` is unchanged.
+#[tactic(auto, using(crate::proofs::StateLemmas::unit_after))]
 #[unsafe(no_mangle)]
 pub extern "C" fn encoding_text_utf8_encoder_encode_from_utf16(
     encoder: &mut EncodingUtf8Encoder,

@@ -15,6 +15,7 @@ pub struct EncodingMalformedSequence {
 
 /// Returns the first malformed sequence. The bytes before it are well-formed. If all of `src` is well-formed, the
 /// length is 0 and the index is the length of `src`.
+#[tactic(auto, using(encoding_runs::proofs::MalformedLemmas::next_size, encoding_runs::proofs::MalformedLemmas::next_not_text))]
 #[unsafe(no_mangle)]
 pub extern "C" fn encoding_text_next_malformed(src: &[u8]) -> EncodingMalformedSequence
     ensures if_some { 0 < result.length → IsNextMalformed src.now result.place result.length }

@@ -110,15 +110,15 @@ sequence_ends bs rest s t =
     (encode_same c.0 d.0 rest [] (ap (λ xs. xs ++ rest) c.2 ∙ sym d.2 ∙ sym (append-nil (encode_utf8 d.0)))).1
 
 -- ---- lengths
-pub length-encode_utf8-le : (c : ℕ) → IsScalar c → length (encode_utf8 c) ≤ 4
-length-encode_utf8-le c h = omega (arith, length-encode c, len_utf8_bounds c)
+pub length_encode_utf8_le : (c : ℕ) → IsScalar c → length (encode_utf8 c) ≤ 4
+length_encode_utf8_le c h = omega (arith, length-encode c, len_utf8_bounds c)
 
 pub length-encode_utf16-le : (c : ℕ) → IsScalar c → length (encode_utf16 c) ≤ 2
 length-encode_utf16-le c h = grind (arith, nat_tests)
 
 -- UTF-16 has no more code units than UTF-8 has bytes
-pub length-encode_utf16-utf8 : (c : ℕ) → IsScalar c → length (encode_utf16 c) ≤ length (encode_utf8 c)
-length-encode_utf16-utf8 c h = let long = length-encode c in grind (arith, nat_tests)
+pub length_encode_utf16_utf8 : (c : ℕ) → IsScalar c → length (encode_utf16 c) ≤ length (encode_utf8 c)
+length_encode_utf16_utf8 c h = let long = length-encode c in grind (arith, nat_tests)
 
 -- ---- joined
 pub flat_map-encode_utf8 : (cs : List ℕ) → flat_map encode_utf8 cs ≡ encode_utf8_all cs
@@ -134,7 +134,7 @@ pub length-utf16 : (cs : List ℕ) → all_scalars cs ≡ true → length (flat_
 length-utf16 [] h = omega arith
 length-utf16 (c ∷ cs) h =
     let parts = and_parts (scalar c) (all_scalars cs) h in
-    omega (arith, length-utf16 cs parts.1, length-encode_utf16-utf8 c parts.0, length-append (encode_utf16 c) (flat_map encode_utf16 cs), length-append (encode_utf8 c) (encode_utf8_all cs))
+    omega (arith, length-utf16 cs parts.1, length_encode_utf16_utf8 c parts.0, length-append (encode_utf16 c) (flat_map encode_utf16 cs), length-append (encode_utf8 c) (encode_utf8_all cs))
 
 low_five : (a : ℕ) → 0xC2 ≤ a → a ≤ 0xDF → bit_and a 0x1F ≡ a - 192
 low_five a l h = let e : bit_and a 0x1F ≡ a % 32 = grind (arith, common_steps) in omega arith

@@ -11,7 +11,7 @@ use lib.Dec.{leb}
 use Rattle.encoding_kernels.specs.Scans.{HasLanes}
 use Rattle.encoding_kernels.specs.EncodeLanes.{kept_places, latin1_ended, all_latin1_ended, both_end, EndsPair}
 use Rattle.encoding_kernels.proofs.FollowingLemmas.{one_before}
-use Rattle.encoding_kernels.proofs.LaneLemmas.{HasLanes-itself, HasLanes-splat, HasLanes-zip2, HasLanes-same, compared, top_compared, mask_of}
+use Rattle.encoding_kernels.proofs.LaneLemmas.{HasLanes-itself, HasLanes-splat, HasLanes-zip2, HasLanes_same, compared, top_compared, mask_of}
 use Rattle.encoding_kernels.proofs.TestLemmas.{chosen_by, tests_of, tests_and}
 use Rattle.encoding_kernels.proofs.WordLemmas.{bytes_of, bytes_lanes, wide, wide_l}
 use Rattle.encoding_kernels.proofs.EndedLemmas.{PairAt, pairs_kept, both_end_long}
@@ -82,7 +82,7 @@ module _ (bs : List ℕ) (long : length bs ≡ 16) (fits : Each1 (Fits w8) bs) w
   first_before k = let place : 2 * k + 1 - 1 ≡ 2 * k = omega arith in one_before bs (2 * k + 1) (omega arith) ∙ ap (λ j. get_or bs j 0) place
 
   words_lanes : HasLanes 8 (wide_l (ends_l bs)) (λ k. end_of (get_or (0 ∷ bs) (2 * k) 0) (get_or bs (2 * k) 0) + 256 * end_of (get_or bs (2 * k) 0) (get_or bs (2 * k + 1) 0))
-  words_lanes = HasLanes-same (wide (ends_l bs) ends_lanes.long ends_fit) (λ k l.
+  words_lanes = HasLanes_same (wide (ends_l bs) ends_lanes.long ends_fit) (λ k l.
       let first = ends_lanes.each (2 * k) (omega arith) in
       let second = ends_lanes.each (2 * k + 1) (omega arith) ∙ ap (λ p. end_of p (get_or bs (2 * k + 1) 0)) (first_before k) in
       (λ i. first i + 256 * second i))

@@ -41,8 +41,8 @@ put_prefix w xs ys at n long few room =
     )
 
 -- ---- lanes
-pub HasLanes-load : (at n : ℕ) (xs : List ℕ) → at + n ≤ length xs → HasLanes n (chunk at n xs) (λ k. get_or xs (at + k) 0)
-HasLanes-load at n xs room = record { long = length-chunk at n xs room; each = λ k l. get_or-chunk at n xs k 0 l }
+pub HasLanes_load : (at n : ℕ) (xs : List ℕ) → at + n ≤ length xs → HasLanes n (chunk at n xs) (λ k. get_or xs (at + k) 0)
+HasLanes_load at n xs room = record { long = length-chunk at n xs room; each = λ k l. get_or-chunk at n xs k 0 l }
 
 pub HasLanes-splat : (n x : ℕ) → HasLanes n (replicate n x) (λ _. x)
 HasLanes-splat n x = record { long = length-replicate n x; each = λ k l. get_or-replicate n k x 0 l }
@@ -73,8 +73,8 @@ same_below f g d n e k l = sym (get_or-map-range_with_len f 0 n k k d l (omega a
 pub HasLanes-whole : (n : ℕ) (xs : List ℕ) → length xs ≡ n → HasLanes n (chunk 0 n xs) (λ k. get_or xs k 0)
 HasLanes-whole n xs long = subst (λ ys. HasLanes n ys (λ k. get_or xs k 0)) (sym (whole_chunk n xs long)) (HasLanes-itself n xs long)
 
-pub HasLanes-same : {n : ℕ} {a : List ℕ} {f g : ℕ → ℕ} → HasLanes n a f → ((k : ℕ) → k < n → f k ≡ g k) → HasLanes n a g
-HasLanes-same p e = record { long = p.long; each = λ k l. p.each k l ∙ e k l }
+pub HasLanes_same : {n : ℕ} {a : List ℕ} {f g : ℕ → ℕ} → HasLanes n a f → ((k : ℕ) → k < n → f k ≡ g k) → HasLanes n a g
+HasLanes_same p e = record { long = p.long; each = λ k l. p.each k l ∙ e k l }
 
 -- `mask.select(a, b)`
 pub HasLanes-select : (h : ℕ) {n : ℕ} {m a b : List ℕ} {t f g : ℕ → ℕ} → HasLanes n m t → HasLanes n a f → HasLanes n b g

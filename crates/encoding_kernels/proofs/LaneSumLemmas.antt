@@ -8,7 +8,7 @@ use mir.Val.{bool_byte}
 use Rattle.encoding_definitions.specs.Utf16.{IsHighSurrogate, IsLowSurrogate}
 use Rattle.encoding_kernels.specs.Scans.{HasLanes}
 use Rattle.encoding_kernels.specs.Lengths.{goes_second, continuations_by, is_surrogate_pair, extra_bytes_by, extra_bytes_by_few}
-use Rattle.encoding_kernels.proofs.LaneLemmas.{HasLanes-itself, HasLanes-same, HasLanes-splat, HasLanes-zip2, compared}
+use Rattle.encoding_kernels.proofs.LaneLemmas.{HasLanes-itself, HasLanes_same, HasLanes-splat, HasLanes-zip2, compared}
 use Rattle.encoding_kernels.proofs.TestLemmas.{chosen, chosen_by, tests_and, tests_of}
 use Rattle.encoding_kernels.proofs.SurrogatePairsLemmas.{high_test, low_test}
 
@@ -95,7 +95,7 @@ module _ (n : ℕ) (us vs : List ℕ) (p : length us ≡ n) (q : length vs ≡ n
       let low = tests_of w16 eqb (HasLanes-zip2 bit_and (HasLanes-itself n vs q) (HasLanes-splat n 0xFC00)) (HasLanes-splat n 0xDC00) in
       let second = chosen 1 0 (tests_of w16 leb (HasLanes-splat n 0x80) u) in
       let third = chosen 1 0 (tests_of w16 leb (HasLanes-splat n 0x800) u) in
-      HasLanes-same (chosen_by (tests_and high low) (HasLanes-splat n 0) (HasLanes-zip2 (λ x y. (x + y) % 2 ^ 16) second third)) (λ k l.
+      HasLanes_same (chosen_by (tests_and high low) (HasLanes-splat n 0) (HasLanes-zip2 (λ x y. (x + y) % 2 ^ 16) second third)) (λ k l.
       beyond_lane (slice_index us k) (slice_index vs k) (Each1-get_or (Fits w16) us k 0 (omega arith) fit).fits (Each1-get_or (Fits w16) vs k 0 (omega arith) fits).fits)
 
   pub beyond_fit : Each1 (Fits w8) (beyond_vector n us vs)

@@ -12,7 +12,7 @@ use mir.Syntax.{w8}
 use Rattle.encoding_kernels.specs.Scans.{HasLanes}
 use Rattle.encoding_kernels.specs.EncodeLanes.{EncodesTo, kept_places}
 use Rattle.encoding_kernels.proofs.CompressLemmas.{low_half, high_half}
-use Rattle.encoding_kernels.proofs.LaneLemmas.{HasLanes-itself, HasLanes-splat, HasLanes-zip2, HasLanes-same, compared}
+use Rattle.encoding_kernels.proofs.LaneLemmas.{HasLanes-itself, HasLanes-splat, HasLanes-zip2, HasLanes_same, compared}
 use Rattle.encoding_kernels.proofs.TestLemmas.{chosen_by, tests_of}
 use Rattle.encoding_kernels.proofs.EncodeLanesLemmas.{respell, spelled_short}
 use Rattle.encoding_kernels.proofs.WordLemmas.{bytes_of, bytes_lanes}
@@ -46,7 +46,7 @@ module _ (v : List ℕ) (long : length v ≡ 16) (small : (k : ℕ) → k < 16 �
       → HasLanes 8 words (λ k. get_or lower (at k) 0 + 0x100 * get_or upper (at k) 0) → (k : ℕ) → k < 8
       → EncodesTo (get_or v (at k) 0) (get_or (bytes_of words) (2 * k) 0) (get_or (bytes_of words) (2 * k + 1) 0)
   latin_pairs lower upper words at inside low high is k l =
-      let word = HasLanes-same is (λ i m j. low.each (at i) (inside i m) j + 0x100 * high.each (at i) (inside i m) j) in
+      let word = HasLanes_same is (λ i m j. low.each (at i) (inside i m) j + 0x100 * high.each (at i) (inside i m) j) in
       let bytes = bytes_lanes word (λ i m. omega (arith, first_small (get_or v (at i) 0) (small (at i) (inside i m)))) k l in
       let b = get_or v (at k) 0 in
       let bound = first_small b (small (at k) (inside k l)) in

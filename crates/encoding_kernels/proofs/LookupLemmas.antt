@@ -9,7 +9,7 @@ use Rattle.encoding_kernels.specs.declared.utf8.lookup.TheConstants.{BYTE_1_HIGH
 use Rattle.encoding_kernels.specs.Following.{IsValidAfter}
 use Rattle.encoding_definitions.specs.Sequence.{IsContinuation, IsSecond}
 use Rattle.encoding_definitions.proofs.SequenceLemmas.{is_second}
-use Rattle.encoding_kernels.proofs.LaneLemmas.{same_below, HasLanes-itself, HasLanes-same, HasLanes-splat, HasLanes-zip2, compared}
+use Rattle.encoding_kernels.proofs.LaneLemmas.{same_below, HasLanes-itself, HasLanes_same, HasLanes-splat, HasLanes-zip2, compared}
 use Rattle.std.proofs.lemmas.List.{length-take-le, get_or-append_right, get_or-take}
 use Rattle.std.proofs.lemmas.Nat.{and_le_r}
 use Rattle.std.proofs.lemmas.Simd.{get_or-chunk, Each1-get_or, Each1-from_get_or, SwzOk, SwzOk-from_below, swz_l, length-swz_l, get_or-swz_l_below}
@@ -192,7 +192,7 @@ difference : (n : ℕ) (xs : List ℕ) (y : ℕ) → IsLanes n xs → y < 256 �
 difference n xs y is small =
     let X = HasLanes-itself n xs is.0 in
     let Y = HasLanes-splat n y in
-    HasLanes-same (HasLanes-zip2 wrapping_less (chosen_by (tests_of w8 ltb X Y) Y X) Y) (λ k l. wrapping_less_is (get_or xs k 0) y (byte n xs is k l) small)
+    HasLanes_same (HasLanes-zip2 wrapping_less (chosen_by (tests_of w8 ltb X Y) Y X) Y) (λ k l. wrapping_less_is (get_or xs k 0) y (byte n xs is k l) small)
 
 -- ---- the test
 abbrev pub pairs_of : ℕ → List ℕ → List ℕ → List ℕ

@@ -6,7 +6,7 @@ use Rattle.std.proofs.lemmas.Nat.{and_mask}
 use Rattle.std.proofs.lemmas.Simd.{Each1-from_get_or}
 use Rattle.std.specs.Simd.Lanes.{zip2, Each1}
 use Rattle.encoding_kernels.specs.Scans.{HasLanes}
-use Rattle.encoding_kernels.proofs.LaneLemmas.{HasLanes-zip2, HasLanes-itself, HasLanes-splat, HasLanes-same}
+use Rattle.encoding_kernels.proofs.LaneLemmas.{HasLanes-zip2, HasLanes-itself, HasLanes-splat, HasLanes_same}
 
 module _ (n : ℕ) (units : List ℕ) (long : length units ≡ n) where
   lower : List ℕ
@@ -14,7 +14,7 @@ module _ (n : ℕ) (units : List ℕ) (long : length units ≡ n) where
 
   lower_lanes : HasLanes n lower (λ k. get_or units k 0 % 0x100)
   unfolding lower
-  lower_lanes = HasLanes-same (HasLanes-zip2 bit_and (HasLanes-itself n units long) (HasLanes-splat n 0xFF)) (λ k l. and_mask (get_or units k 0) 8)
+  lower_lanes = HasLanes_same (HasLanes-zip2 bit_and (HasLanes-itself n units long) (HasLanes-splat n 0xFF)) (λ k l. and_mask (get_or units k 0) 8)
 
   -- after `& 0xFF` each unit fits into a byte
   pub lower_fit : Each1 (Fits w8) (zip2 bit_and units (replicate n 0xFF))

@@ -16,7 +16,7 @@ use Rattle.std.specs.Simd.Lanes.{mask_l, number_l, digits_l, pick_l, zip2, sel_l
 use Rattle.encoding_kernels.specs.Scans.{HasLanes}
 use Rattle.encoding_kernels.specs.EncodeLanes.{last_places, length_classes, EncodesLast}
 use Rattle.encoding_kernels.proofs.CompressLemmas.{mask_append}
-use Rattle.encoding_kernels.proofs.LaneLemmas.{HasLanes-itself, HasLanes-numbers, HasLanes-same, HasLanes-splat, HasLanes-zip2, compared, firsts_are, mask_of, same_below}
+use Rattle.encoding_kernels.proofs.LaneLemmas.{HasLanes-itself, HasLanes-numbers, HasLanes_same, HasLanes-splat, HasLanes-zip2, compared, firsts_are, mask_of, same_below}
 use Rattle.encoding_kernels.proofs.TestLemmas.{HasTests, tests_of, chosen, chosen_by, none_passes, run_is_first}
 use Rattle.encoding_kernels.proofs.EncodeLanesLemmas.{mask_from, pick}
 use Rattle.encoding_kernels.proofs.UnitLanesLemmas.{picked_lanes}
@@ -53,7 +53,7 @@ first_lanes n us = sel_l (map (top 15) (zip2 (compared w16 ltb) (range_with_len 
 pub first_lanes_are : (n : ℕ) (us : List ℕ) → n ≤ 16 → length us ≡ 16 → first_lanes n us ≡ take n us ++ drop n (replicate 16 0)
 first_lanes_are n us few long =
     firsts_are 16 n us (replicate 16 0) (first_lanes n us) long refl few
-    (HasLanes-same (chosen_by (tests_of w16 ltb (HasLanes-numbers 16) (HasLanes-splat 16 n)) (HasLanes-itself 16 us long) (HasLanes-splat 16 0))
+    (HasLanes_same (chosen_by (tests_of w16 ltb (HasLanes-numbers 16) (HasLanes-splat 16 n)) (HasLanes-itself 16 us long) (HasLanes-splat 16 0))
     (λ k l. ap (λ x. cond (ltb k n) (get_or us k 0) x) (sym (get_or-replicate 16 k 0 0 l))))
 
 pub zeros_spelled : (n : ℕ) (us : List ℕ) → encode_utf8_all (take n us ++ drop n (replicate 16 0)) ≡ encode_utf8_all (take n us) ++ drop n (replicate 16 0)

@@ -9,7 +9,7 @@ use lib.Count.{count_trailing_zeros}
 use mir.Syntax.{Width}
 use mir.Val.{bits, hbits}
 use Rattle.encoding_kernels.specs.Scans.{HasLanes, Marks}
-use Rattle.encoding_kernels.proofs.LaneLemmas.{HasLanes-load, HasLanes-zip2, HasLanes-splat, HasLanes-select, HasLanes-same, compared, top_compared, mask_of, mask_is, IsFirstSet, first_set, first_none, no_bit_from, HasLanes-itself}
+use Rattle.encoding_kernels.proofs.LaneLemmas.{HasLanes_load, HasLanes-zip2, HasLanes-splat, HasLanes-select, HasLanes_same, compared, top_compared, mask_of, mask_is, IsFirstSet, first_set, first_none, no_bit_from, HasLanes-itself}
 use Rattle.std.proofs.lemmas.Nat.{le_or_l, le_or_r}
 use Rattle.std.proofs.lemmas.Nat.Bits.{and_high_mask}
 use Rattle.std.proofs.lemmas.Bool.Decides.{nat_tests}
@@ -42,14 +42,14 @@ xor_set false q m = xor_zero_l (cond q m 0)
 
 module _ {w : Width} {n : ℕ} {a b : List ℕ} {t s : ℕ → Bool} where
   pub tests_and : HasTests w n a t → HasTests w n b s → HasTests w n (zip2 bit_and a b) (λ k. t k && s k)
-  tests_and p q = record { lanes = HasLanes-same (HasLanes-zip2 bit_and p.lanes q.lanes) (λ k l. and_set (t k) (s k) (2 ^ bits w - 1)) }
+  tests_and p q = record { lanes = HasLanes_same (HasLanes-zip2 bit_and p.lanes q.lanes) (λ k l. and_set (t k) (s k) (2 ^ bits w - 1)) }
 
   pub tests_or : HasTests w n a t → HasTests w n b s → HasTests w n (zip2 bit_or a b) (λ k. t k || s k)
-  tests_or p q = record { lanes = HasLanes-same (HasLanes-zip2 bit_or p.lanes q.lanes) (λ k l. or_set (t k) (s k) (2 ^ bits w - 1)) }
+  tests_or p q = record { lanes = HasLanes_same (HasLanes-zip2 bit_or p.lanes q.lanes) (λ k l. or_set (t k) (s k) (2 ^ bits w - 1)) }
 
   -- exactly one of the two
   pub tests_xor : HasTests w n a t → HasTests w n b s → HasTests w n (zip2 bit_xor a b) (λ k. cond (t k) (not (s k)) (s k))
-  tests_xor p q = record { lanes = HasLanes-same (HasLanes-zip2 bit_xor p.lanes q.lanes) (λ k l. xor_set (t k) (s k) (2 ^ bits w - 1)) }
+  tests_xor p q = record { lanes = HasLanes_same (HasLanes-zip2 bit_xor p.lanes q.lanes) (λ k l. xor_set (t k) (s k) (2 ^ bits w - 1)) }
 
 of_tests : (w : Width) {n r : ℕ} {t : ℕ → Bool} → IsFirstSet n r (λ k. top (hbits w) (cond (t k) (2 ^ bits w - 1) 0)) → IsFirstSet n r t
 of_tests w {n} {r} {t} first = record {
@@ -61,11 +61,11 @@ of_tests w {n} {r} {t} first = record {
 module _ {w : Width} {n : ℕ} {a : List ℕ} {t : ℕ → Bool} where
   -- `mask.select(Simd::splat(x), Simd::splat(y))`
   pub chosen : (x y : ℕ) → HasTests w n a t → HasLanes n (sel_l (map (top (hbits w)) a) (replicate n x) (replicate n y)) (λ k. cond (t k) x y)
-  chosen x y p = HasLanes-same (HasLanes-select (hbits w) p.lanes (HasLanes-splat n x) (HasLanes-splat n y)) (λ k l. ap (λ b. cond b x y) (top_compared w (t k)))
+  chosen x y p = HasLanes_same (HasLanes-select (hbits w) p.lanes (HasLanes-splat n x) (HasLanes-splat n y)) (λ k l. ap (λ b. cond b x y) (top_compared w (t k)))
 
   -- `mask.select(b, c)`
   pub chosen_by : {b c : List ℕ} {f g : ℕ → ℕ} → HasTests w n a t → HasLanes n b f → HasLanes n c g → HasLanes n (sel_l (map (top (hbits w)) a) b c) (λ k. cond (t k) (f k) (g k))
-  chosen_by {b} {c} {f} {g} p q r = HasLanes-same (HasLanes-select (hbits w) p.lanes q r) (λ k l. ap (λ x. cond x (f k) (g k)) (top_compared w (t k)))
+  chosen_by {b} {c} {f} {g} p q r = HasLanes_same (HasLanes-select (hbits w) p.lanes q r) (λ k l. ap (λ x. cond x (f k) (g k)) (top_compared w (t k)))
 
   -- `mask.to_bitmask()`: if it is 0, no lane passes, and else its lowest bit is the first that does
   pub none_is_first : HasTests w n a t → n ≤ 64 → mask_of (hbits w) a ≡ 0 → IsFirstSet n n t
@@ -111,7 +111,7 @@ module _ {w : Width} {n : ℕ} {a : List ℕ} {t : ℕ → Bool} where
 -- `Marks` for the units below a bound
 pub marks_below : (w : Width) (n at bound : ℕ) (xs : List ℕ) → at + n ≤ length xs → n ≤ 64 → Marks (λ k. get_or xs k 0 < bound) at n (mask_of (hbits w) (zip2 (compared w leb) (replicate n bound) (chunk at n xs)))
 marks_below w n at bound xs room few =
-    marks_of (λ k. get_or xs k 0 < bound) at (tests_of w leb (HasLanes-splat n bound) (HasLanes-load at n xs room)) few (λ k l. (leb-false bound _, lt-leb bound _))
+    marks_of (λ k. get_or xs k 0 < bound) at (tests_of w leb (HasLanes-splat n bound) (HasLanes_load at n xs room)) few (λ k l. (leb-false bound _, lt-leb bound _))
 
 -- two tests in one
 pub and_both : (a b : Bool) → IsTrue (a && b) → IsTrue a × IsTrue b

@@ -17,7 +17,7 @@ use borrow.Rule.Slice.PartMut.{put_mid}
 use Rattle.encoding_definitions.specs.Sequence.{IsSequence}
 use Rattle.encoding_definitions.specs.Prefixes.{WritesPrefix}
 use Rattle.encoding_kernels.specs.EndingUnits.{units_in, WritesUtf16}
-use Rattle.encoding_definitions.proofs.EncodingLemmas.{IsSequence-encode, length-encode_utf16-utf8, encodes_one, length-utf16}
+use Rattle.encoding_definitions.proofs.EncodingLemmas.{IsSequence-encode, length_encode_utf16_utf8, encodes_one, length-utf16}
 use Rattle.encoding_definitions.proofs.PrefixesLemmas.{written_is}
 use Rattle.encoding_kernels.proofs.TextUnitsLemmas.{puts_ascii, puts_prefix}
 use Rattle.encoding_kernels.specs.Scans.{BelowUpTo, IsRunBelow}
@@ -66,7 +66,7 @@ puts_character src old new n k c b s e w =
 
 -- it fits
 pub character_fits : (src : List ℕ) (n c room : ℕ) → Begins src n → IsScalar c → encode_utf8 c ≡ take n src → length src ≤ room → room < length (encode_utf16 c) → ⊥
-character_fits src n c room b s e l full = omega (arith, length-encode_utf16-utf8 c s, ap length e, length-take n src, b.within)
+character_fits src n c room b s e l full = omega (arith, length_encode_utf16_utf8 c s, ap length e, length-take n src, b.within)
 
 -- ---- what is still to be written
 units_of_part16 : (cs src : List ℕ) → IsUtf8 src → encode_utf8_all cs ≡ src → units_in src ≡ length (flat_map encode_utf16 cs)

@@ -11,7 +11,7 @@ use Rattle.encoding_definitions.specs.Converting.{FittingBegins}
 use Rattle.encoding_text.specs.Decoding.{IsMalformed, DecodeStep, IsDecodeResult}
 use Rattle.encoding_text.specs.declared.decoder.DecoderResult.{DecoderResult}
 use Rattle.encoding_text.specs.declared.decoder.DecoderResult.TheVariants.{InputEmpty, OutputFull, Malformed}
-use Rattle.encoding_definitions.proofs.EncodingLemmas.{IsSequence-encode, length-encode_utf8-le, length-encode_utf16-le}
+use Rattle.encoding_definitions.proofs.EncodingLemmas.{IsSequence-encode, length_encode_utf8_le, length-encode_utf16-le}
 use Rattle.encoding_definitions.proofs.PartsLemmas.{prefixes_nest, no_sequence_in_incomplete, first_open, has_first_part, part_bytes, unpaired_part, rejected_part}
 use Rattle.encoding_definitions.proofs.DecompositionLemmas.{has_parts}
 use Rattle.encoding_text.proofs.ConvertingLemmas.{cut_after}
@@ -351,7 +351,7 @@ has_one_result encode need p src room last fits pending =
     (a.0, a.1, a.2, a.3, a.4, λ result' read' out' q' call'. one_result encode need p src room last a.0 result' a.1 read' a.2 out' a.3 q' pending a.4 call')
 
 pub one_utf8_result : (p src : List ℕ) (room : ℕ) (last : Bool) → IsPending p → HasOneResult encode_utf8 4 p src room last
-one_utf8_result p src room last pending = has_one_result encode_utf8 4 p src room last length-encode_utf8-le pending
+one_utf8_result p src room last pending = has_one_result encode_utf8 4 p src room last length_encode_utf8_le pending
 
 pub one_utf16_result : (p src : List ℕ) (room : ℕ) (last : Bool) → IsPending p → HasOneResult encode_utf16 2 p src room last
 one_utf16_result p src room last pending = has_one_result encode_utf16 2 p src room last length-encode_utf16-le pending

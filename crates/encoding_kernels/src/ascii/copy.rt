@@ -9,6 +9,7 @@ use std::simd::Simd;
 use std::simd::prelude::*;
 
 /// Writes N bytes from `at` on.
+#[tactic(auto, using(crate::proofs::LaneLemmas::put_is, crate::proofs::LaneLemmas::whole_chunk))]
 #[inline(always)]
 pub fn copy_part<const N: usize>(part: &[u8], dst: &mut [u8], at: usize)
     requires { (length part.now ≡ N) × (at + N ≤ length dst.old) }
@@ -39,6 +40,7 @@ pub fn pack_part<const N: usize>(part: &[u16], dst: &mut [u8], at: usize)
 }
 
 /// Writes the first `count` bytes of a stride from `at` on. Stores sixteen, the others as `dst` has them.
+#[tactic(auto, using(crate::proofs::LaneLemmas::whole_chunk))]
 #[inline(always)]
 pub fn copy_first(stride: &[u8; STRIDE], dst: &mut [u8], at: usize, count: usize)
     requires { (at + 16 ≤ length dst.old) × (count ≤ 16) }
@@ -49,6 +51,7 @@ pub fn copy_first(stride: &[u8; STRIDE], dst: &mut [u8], at: usize, count: usize
 
 /// Writes the first `count` bytes of a stride from `at` on, each as a UTF-16 code unit. Stores sixteen, the others as
 /// `dst` has them.
+#[tactic(auto, using(crate::proofs::LaneLemmas::whole_chunk))]
 #[inline(always)]
 pub fn unpack_first(stride: &[u8; STRIDE], dst: &mut [u16], at: usize, count: usize)
     requires { (at + 16 ≤ length dst.old) × (count ≤ 16) }

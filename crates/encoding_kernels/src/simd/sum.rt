@@ -80,6 +80,7 @@ fn sum_of_vectors<const N: usize, T: Terms<N>>(terms: &T, at: usize, stop: usize
 }
 
 /// Returns the N bytes from `at` on.
+#[tactic(auto, using(crate::proofs::LaneLemmas::HasLanes_load))]
 #[inline(always)]
 fn load<const N: usize>(bytes: &[u8], at: usize) -> Simd<u8, N>
     requires { at + N ≤ length bytes.now }

@@ -85,6 +85,7 @@ fn clean_of_first_32(src: &[u8]) -> usize
 }
 
 /// Returns `at`, or the start of the character that is cut there.
+#[tactic(auto, using(crate::proofs::FollowingLemmas::IsUtf8_before, crate::proofs::FollowingLemmas::IsUtf8_closed, crate::proofs::FollowingLemmas::IsClosedAt_tests))]
 fn back(src: &[u8], at: usize) -> usize
     requires { (at ≤ length src.now) × ValidUpTo src.now at }
     ensures { (result ≤ at) × IsUtf8 (take result src.now) }

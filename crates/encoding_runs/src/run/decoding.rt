@@ -172,6 +172,7 @@ fn run<U: Decoded>(
 /// At least `2 * src.len() + 2` turns reach the end of `src` if each takes at least one byte, has a `room` of at least
 /// two code units and has `last` set. For this `dst` must have at least the length that `max_utf16_buffer_length`
 /// returns.
+#[tactic(auto, using(encoding_definitions::proofs::EncodingLemmas::length_encode_utf16_utf8))]
 pub fn run_to_utf16(
     decoder: &mut Utf8Decoder,
     src: &[u8],

@@ -26,6 +26,7 @@ fn piece_at_end<'a>(end: DecoderResult) -> Piece<'a>
 }
 
 /// Decodes the start of `src` after the pending bytes. Returns the piece and how many bytes were read.
+#[tactic(auto, using(std::proofs::lemmas::Bool::both_ways, crate::proofs::PendingLemmas::pending_incomplete))]
 #[inline(always)]
 pub(crate) fn decode_borrowed<'a>(
     pending: &mut Pending,

@@ -9,6 +9,7 @@ use crate::utf_8::CodeUnit;
 
 /// Decodes `src` after the pending bytes. Returns what ended the call, how many bytes it read and how many code units
 /// it wrote.
+#[tactic(auto, using(std::proofs::lemmas::Bool::both_ways, crate::proofs::PendingLemmas::pending_incomplete))]
 #[inline(always)]
 pub(crate) fn decode<U: CodeUnit>(
     pending: &mut Pending,

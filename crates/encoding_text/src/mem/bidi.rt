@@ -33,6 +33,7 @@ pub enum Latin1Bidi {
 }
 
 /// Returns whether the scalar value is right-to-left.
+#[tactic(auto, using(encoding_definitions::proofs::BidiTextLemmas::right_to_left_from))]
 fn is_right_to_left(scalar: u32) -> bool
     ensures { IsTrue result ↔ IsRightToLeft scalar }
 {
@@ -66,6 +67,7 @@ fn is_high_half(u: u16) -> bool
 }
 
 /// Returns whether the UTF-16 code unit is a right-to-left character, or the high surrogate of one.
+#[tactic(auto, using(encoding_definitions::proofs::BidiUnitsLemmas::unit_form, encoding_definitions::proofs::BidiUnitsLemmas::unit_scalar, encoding_definitions::proofs::BidiUnitsLemmas::unit_high, encoding_definitions::proofs::BidiUnitsLemmas::unit_low_none))]
 pub fn is_utf16_code_unit_bidi(u: u16) -> bool
     ensures { IsTrue result ↔ IsRightToLeftUnit u }
 {

@@ -32,6 +32,7 @@ pub enum CowBytes<'a> {
 /// Returns the text whose characters are the bytes. It is borrowed if and only if they are ASCII, and then nothing is
 /// allocated. Otherwise the text is owned; `AllocError` means that its one allocation failed or would exceed
 /// `usize::MAX`.
+#[tactic(auto, using(std::proofs::lemmas::List::take_all))]
 pub fn decode_latin1<'a>(alloc: Global, bytes: &'a [u8]) -> Result<CowStr<'a>, AllocError>
     ensures { DecodesLatin1 bytes.now result }
 {
@@ -44,6 +45,7 @@ pub fn decode_latin1<'a>(alloc: Global, bytes: &'a [u8]) -> Result<CowStr<'a>, A
 
 /// Returns the scalar values of Latin1 text as bytes. They are borrowed if and only if they are ASCII, and then nothing
 /// is allocated. Otherwise they are owned; `AllocError` means that their one allocation failed.
+#[tactic(auto, using(std::proofs::lemmas::List::take_all))]
 pub fn encode_latin1_lossy<'a>(alloc: Global, string: &'a str) -> Result<CowBytes<'a>, AllocError>
     requires latin1 { IsUtf8Latin1 string.now }
     ensures encoded { EncodesLatin1 string.now result }

@@ -95,6 +95,7 @@ pub fn is_basic_latin(buffer: &[u16]) -> bool
 }
 
 /// Returns whether the bytes are well-formed UTF-8 whose scalar values are each up to U+00FF.
+#[tactic(auto, using(crate::proofs::WholePrefixesLemmas::whole_by_length))]
 pub fn is_utf8_latin1(buffer: &[u8]) -> bool
     ensures { IsTrue result ↔ IsUtf8Latin1 buffer.now }
 {

@@ -82,6 +82,7 @@ pub fn convert_latin1_to_str(src: &[u8], dst: &mut [u8]) -> usize
 
 /// Sets the first `zeros` bytes to zero, or all if there are fewer, and then the continuation bytes directly after
 /// those. It reads no byte after the first that is no continuation byte.
+#[tactic(auto, using(std::proofs::lemmas::List::Edits::fill_more, encoding_definitions::proofs::ClearingLemmas::byte_after, encoding_definitions::proofs::ClearingLemmas::clear_next))]
 #[inline(never)]
 fn clear(bytes: &mut [u8], zeros: usize)
     ensures { bytes.new ≡ cleared_prefix zeros bytes.old }

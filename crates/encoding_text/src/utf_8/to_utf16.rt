@@ -47,6 +47,7 @@ impl CodeUnit for u16 {
         2
     }
 
+    #[tactic(auto, using(crate::proofs::ConvertingLemmas::converts_prefix))]
     #[inline]
     fn convert_up_to_invalid(src: &[u8], dst: &mut [u16]) -> (usize, usize) {
         convert_utf8_to_utf16_up_to_invalid(src, dst)
@@ -58,6 +59,7 @@ impl CodeUnit for u8 {
 
     ghost need = { 4 };
 
+    #[tactic(auto, using(encoding_definitions::proofs::EncodingLemmas::length_encode_utf8_le))]
     #[inline]
     fn max_units_per_scalar() -> usize {
         4

@@ -34,6 +34,7 @@ fn is_four(lead: u8, second: u8, third: u8, fourth: u8) -> bool
 
 /// Returns the length of the character at the start of at most three bytes, if there is one. The first byte isn't
 /// ASCII.
+#[tactic(auto, using(std::proofs::lemmas::Bool::both_ways, encoding_definitions::proofs::SequenceLemmas::no_character_reads))]
 #[inline(never)]
 fn tail_length(bytes: &[u8]) -> Option<usize>
     requires short { length bytes.now < 4 }

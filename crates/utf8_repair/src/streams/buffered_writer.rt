@@ -51,6 +51,7 @@ impl<W: Write, const N: usize> BufferedWriter<'_, W, N> {
 
     /// Writes out the buffered bytes, whose last `count` are a piece, until some of the piece is written. Returns how
     /// many bytes of the piece were written. The rest of the piece is removed from the buffer.
+    #[tactic(auto, using(crate::proofs::ByteStreamLemmas::taken_back))]
     fn send(&mut self, count: usize) -> io::Result<usize>
         requires { (0 < count) × (count ≤ length self.old.held) }
         ensures ok { IfOk result (λ n. (n ≤ count) × Keeps

@@ -1,5 +1,5 @@
 use Rattle.std.proofs.Common.{◌+◌, ◌%◌, ◌^◌, eqb, leb, ltb, not, slice_index, w8}
-use Rattle.encoding_kernels.proofs.LaneLemmas.{HasLanes-itself, HasLanes-same, HasLanes-splat, HasLanes-zip2}
+use Rattle.encoding_kernels.proofs.LaneLemmas.{HasLanes-itself, HasLanes_same, HasLanes-splat, HasLanes-zip2}
 use Rattle.encoding_kernels.proofs.TestLemmas.{chosen, tests_and, tests_of}
 use Rattle.encoding_kernels.proofs.LaneSumLemmas.{joined_lane}
 use Rattle.encoding_kernels.proofs.utf8.length.joined_lanes.Goals as goal
@@ -20,4 +20,4 @@ returns g c =
     let both = tests_and (tests_and begins (tests_of w8 leb (HasLanes-splat n 0x80) b)) (tests_of w8 ltb b (HasLanes-splat n 0xC0)) in
     let long = tests_of w8 leb (HasLanes-splat n 0xE0) a in
     let goes_on = tests_and (tests_and (tests_and both long) (tests_of w8 leb (HasLanes-splat n 0x80) d)) (tests_of w8 ltb d (HasLanes-splat n 0xC0)) in
-    HasLanes-same (HasLanes-zip2 (λ x y. (x + y) % 2 ^ 8) (chosen 1 0 both) (chosen 1 0 goes_on)) (λ k l. joined_lane (slice_index c.args.lead k) (slice_index c.args.second k) (slice_index c.args.third k))
+    HasLanes_same (HasLanes-zip2 (λ x y. (x + y) % 2 ^ 8) (chosen 1 0 both) (chosen 1 0 goes_on)) (λ k l. joined_lane (slice_index c.args.lead k) (slice_index c.args.second k) (slice_index c.args.third k))

@@ -1,5 +1,5 @@
 use Rattle.std.proofs.Common.{◌+◌, ◌*◌, ◌^◌, ◌%◌, bit_and}
-use Rattle.encoding_kernels.proofs.LaneLemmas.{HasLanes-itself, HasLanes-splat, HasLanes-zip2, HasLanes-same}
+use Rattle.encoding_kernels.proofs.LaneLemmas.{HasLanes-itself, HasLanes-splat, HasLanes-zip2, HasLanes_same}
 use Rattle.encoding_kernels.proofs.UnitBytesLemmas.{lower_bits_lane}
 use Rattle.encoding_kernels.proofs.utf8_to_utf16.code_units.lower_bits.Goals as goal
 
@@ -7,4 +7,4 @@ pub returns : goal.returns
 returns c =
     let before = HasLanes-zip2 (λ a b. a * 2 ^ b % 2 ^ 8) c.one_before.ensures (HasLanes-splat 16 6) in
     let last = HasLanes-zip2 bit_and (HasLanes-itself 16 c.args.block c.fits-block.0) (HasLanes-splat 16 0x3F) in
-    HasLanes-same (HasLanes-zip2 (λ a b. (a + b) % 2 ^ 8) before last) (λ k l. lower_bits_lane _ _)
+    HasLanes_same (HasLanes-zip2 (λ a b. (a + b) % 2 ^ 8) before last) (λ k l. lower_bits_lane _ _)

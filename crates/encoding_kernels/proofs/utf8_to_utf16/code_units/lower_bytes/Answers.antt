@@ -1,5 +1,5 @@
 use Rattle.std.proofs.Common.{◌∷◌, get_or, ◌+◌, ◌^◌, ◌%◌, ltb, leb, w8}
-use Rattle.encoding_kernels.proofs.LaneLemmas.{HasLanes-itself, HasLanes-splat, HasLanes-zip2, HasLanes-same}
+use Rattle.encoding_kernels.proofs.LaneLemmas.{HasLanes-itself, HasLanes-splat, HasLanes-zip2, HasLanes_same}
 use Rattle.encoding_kernels.proofs.TestLemmas.{chosen_by, tests_of}
 use Rattle.encoding_kernels.proofs.UnitLanesLemmas.{bytes_below}
 use Rattle.encoding_kernels.proofs.UnitBytesLemmas.{lower_lane}
@@ -11,5 +11,5 @@ returns c =
     let bytes = HasLanes-itself 16 v c.fits-block.0 in
     let high = HasLanes-zip2 (λ a b. (a + b) % 2 ^ 8) c.high_bits.ensures (HasLanes-splat 16 0xC0) in
     let longer = chosen_by (tests_of w8 leb (HasLanes-splat 16 0xF0) c.two_before.ensures) high c.lower_bits.ensures in
-    HasLanes-same (chosen_by (tests_of w8 ltb bytes (HasLanes-splat 16 0x80)) bytes longer)
+    HasLanes_same (chosen_by (tests_of w8 ltb bytes (HasLanes-splat 16 0x80)) bytes longer)
     (λ k l. lower_lane (get_or (0 ∷ 0 ∷ 0 ∷ v) k 0) (get_or (0 ∷ 0 ∷ v) k 0) (get_or (0 ∷ v) k 0) (get_or v k 0) (bytes_below v c.fits-block.0 c.fits-block.1 k l))

@@ -1,5 +1,5 @@
 use Rattle.std.proofs.Common.{◌+◌, ◌*◌, ◌^◌, ◌%◌, ◌∷◌, [], bit_and, refl}
-use Rattle.encoding_kernels.proofs.LaneLemmas.{HasLanes-splat, HasLanes-zip2, HasLanes-cast, HasLanes-same}
+use Rattle.encoding_kernels.proofs.LaneLemmas.{HasLanes-splat, HasLanes-zip2, HasLanes-cast, HasLanes_same}
 use Rattle.encoding_kernels.proofs.UnitLanesLemmas.{third_lanes, triple_lane}
 use Rattle.encoding_kernels.proofs.utf8_to_utf16.code_units.triple_units.Goals as goal
 
@@ -11,4 +11,4 @@ returns c =
     let second = HasLanes-zip2 bit_and (HasLanes-cast (third_lanes v (1 ∷ 4 ∷ 7 ∷ 10 ∷ 13 ∷ 13 ∷ 13 ∷ 13 ∷ []) long refl tt)) (HasLanes-splat 8 63) in
     let third = HasLanes-zip2 bit_and (HasLanes-cast (third_lanes v (2 ∷ 5 ∷ 8 ∷ 11 ∷ 14 ∷ 14 ∷ 14 ∷ 14 ∷ []) long refl tt)) (HasLanes-splat 8 63) in
     let low = HasLanes-zip2 (λ a b. (a + b) % 2 ^ 16) (HasLanes-zip2 (λ a b. a * b % 2 ^ 16) second (HasLanes-splat 8 64)) third in
-    HasLanes-same (HasLanes-zip2 (λ a b. (a + b) % 2 ^ 16) first low) (λ k l. triple_lane _ _ _)
+    HasLanes_same (HasLanes-zip2 (λ a b. (a + b) % 2 ^ 16) first low) (λ k l. triple_lane _ _ _)

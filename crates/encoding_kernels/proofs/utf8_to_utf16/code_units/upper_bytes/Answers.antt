@@ -1,5 +1,5 @@
 use Rattle.std.proofs.Common.{◌∷◌, get_or, ◌+◌, ◌^◌, ◌%◌, bit_and, bit_or, ltb, leb, w8}
-use Rattle.encoding_kernels.proofs.LaneLemmas.{HasLanes-itself, HasLanes-splat, HasLanes-zip2, HasLanes-same}
+use Rattle.encoding_kernels.proofs.LaneLemmas.{HasLanes-itself, HasLanes-splat, HasLanes-zip2, HasLanes_same}
 use Rattle.encoding_kernels.proofs.TestLemmas.{chosen, chosen_by, tests_of}
 use Rattle.encoding_kernels.proofs.UnitLanesLemmas.{bytes_below}
 use Rattle.encoding_kernels.proofs.UnitBytesLemmas.{upper_lane}
@@ -14,5 +14,5 @@ returns c =
     let high = HasLanes-zip2 (λ a b. (a + b) % 2 ^ 8) carried (HasLanes-zip2 bit_and two (HasLanes-splat 16 7)) in
     let marked = HasLanes-zip2 bit_or c.upper_bits.ensures (chosen 0xDC 0 (tests_of w8 leb (HasLanes-splat 16 0xF0) c.three_before.ensures)) in
     let longer = chosen_by (tests_of w8 leb (HasLanes-splat 16 0xF0) two) high marked in
-    HasLanes-same (chosen_by (tests_of w8 ltb bytes (HasLanes-splat 16 0x80)) (HasLanes-splat 16 0) longer)
+    HasLanes_same (chosen_by (tests_of w8 ltb bytes (HasLanes-splat 16 0x80)) (HasLanes-splat 16 0) longer)
     (λ k l. upper_lane (get_or (0 ∷ 0 ∷ 0 ∷ v) k 0) (get_or (0 ∷ 0 ∷ v) k 0) (get_or (0 ∷ v) k 0) (get_or v k 0) (bytes_below v c.fits-block.0 c.fits-block.1 k l))

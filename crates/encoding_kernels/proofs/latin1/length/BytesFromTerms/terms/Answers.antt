@@ -1,6 +1,6 @@
 use Rattle.std.proofs.Common.{◌+◌, ◌∙◌, ap, arith, leb, nat_le, slice_index, sym, w8}
 use mir.Val.{bool_byte}
-use Rattle.encoding_kernels.proofs.LaneLemmas.{HasLanes-load, HasLanes-same, HasLanes-splat}
+use Rattle.encoding_kernels.proofs.LaneLemmas.{HasLanes_load, HasLanes_same, HasLanes-splat}
 use Rattle.encoding_kernels.proofs.TestLemmas.{chosen, tests_of}
 use Rattle.encoding_kernels.proofs.LaneSumLemmas.{one_or_none}
 use Rattle.encoding_kernels.proofs.TotalLemmas.{here}
@@ -12,5 +12,5 @@ returns g c =
     let bs = s.bytes.now in
     let at = c.args.at in
     let n = g.row.N in
-    let counted = tests_of w8 leb (HasLanes-splat n s.least) (HasLanes-load at n bs (omega arith)) in
-    HasLanes-same (chosen 1 0 counted) (λ k l. one_or_none (leb s.least (slice_index bs (at + k))) ∙ ap (λ b. bool_byte (nat_le s.least b)) (sym (here bs (at + k))))
+    let counted = tests_of w8 leb (HasLanes-splat n s.least) (HasLanes_load at n bs (omega arith)) in
+    HasLanes_same (chosen 1 0 counted) (λ k l. one_or_none (leb s.least (slice_index bs (at + k))) ∙ ap (λ b. bool_byte (nat_le s.least b)) (sym (here bs (at + k))))

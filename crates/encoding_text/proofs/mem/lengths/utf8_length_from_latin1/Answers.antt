@@ -1,4 +1,0 @@
-use Rattle.encoding_text.proofs.mem.lengths.utf8_length_from_latin1.Goals as goal
-
-pub returns : goal.returns
-returns c = c.utf8_length_of_latin1.ensures
