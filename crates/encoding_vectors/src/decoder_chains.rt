@@ -1,7 +1,13 @@
-//! Decode calls in a chain: with any cuts, into any destination, and in all forms.
+//! Decode calls in a chain: with any cuts, into any destination, and in all forms. The decoder's vectors with every set
+//! of cuts and into every short destination, through calls of each form and of all in turn; and whole, marked last.
 
+use crate::decoder_vectors::{Delivered, Vector, delivered, vectors};
 use crate::parts::{Parts, malformed};
+use crate::texts::{Output, unwritten};
+use Form::{Borrowed, Utf8, Utf16};
 use encoding_text::decoder::{DecoderResult, Piece, Utf8Decoder};
+use std::alloc::{AllocError, Global};
+use std::test::Fail;
 
 /// The form of a decode call.
 #[derive(Clone, Copy)]
@@ -148,4 +154,120 @@ pub fn decodes_to(bytes: &[u8], way: &Way, parts: &Parts) -> bool {
         cuts /= 2;
     }
     chain.reads(rest, true, way) && chain.delivered == *parts && chain.decoder.in_neutral_state()
+}
+
+/// Calls of one form, and of all forms in turn, in each order.
+const FORMS: [[Form; 3]; 9] = [
+    [Utf16, Utf16, Utf16],
+    [Utf8, Utf8, Utf8],
+    [Borrowed, Borrowed, Borrowed],
+    [Utf16, Utf8, Borrowed],
+    [Utf16, Borrowed, Utf8],
+    [Utf8, Utf16, Borrowed],
+    [Utf8, Borrowed, Utf16],
+    [Borrowed, Utf16, Utf8],
+    [Borrowed, Utf8, Utf16],
+];
+
+/// Returns the number of sets of cuts: before the first byte, between two, and after the last.
+fn cut_sets(vector: &Vector) -> u32 {
+    let mut sets = 2u32;
+    for _ in &vector.bytes {
+        sets = sets.saturating_mul(2);
+    }
+    sets
+}
+
+/// Returns whether the vector, with these cuts, yields its parts with destinations of this length, in all forms of the
+/// calls.
+fn comes_in_parts(vector: &Vector, parts: &Parts, cuts: u32, room: usize) -> bool {
+    FORMS.iter().all(|forms| {
+        let way = Way {
+            cuts,
+            room,
+            forms: *forms,
+        };
+        decodes_to(&vector.bytes, &way, parts)
+    })
+}
+
+/// All sets of cuts, so also each cut in two, each in three, and one byte per piece.
+#[test]
+fn every_cut_and_room(rt: HostRuntime) -> Result<(), Fail> {
+    let vectors = vectors(rt.alloc())?;
+    for vector in &vectors {
+        let parts = Parts::of_vector(vector);
+        for cuts in 0..cut_sets(vector) {
+            for room in 0..6 {
+                assert!(rt;
+                    comes_in_parts(vector, &parts, cuts, room),
+                    "{}, {cuts}, {room}",
+                    vector.row
+                );
+            }
+        }
+    }
+    assert!(rt; vectors.len() == 104);
+    Ok(())
+}
+
+/// Returns whether the next report has this length, after as many code units as came.
+fn report_is(wanted: &[(usize, usize)], came: (usize, usize), length: u8) -> bool {
+    wanted.get(came.1) == Some(&(came.0, usize::from(length)))
+}
+
+/// Decodes, and passes the unread bytes again after each report. Returns whether all is read, and that yields what is
+/// expected.
+fn decodes<U: Output>(
+    alloc: Global,
+    src: &[u8],
+    wanted: &Delivered<U>,
+) -> Result<bool, AllocError> {
+    let mut decoder = Utf8Decoder::new_inner();
+    let mut unread = src;
+    let mut came = (0, 0);
+    for _ in 0..8 {
+        let mut dst = unwritten(alloc, 16)?;
+        let (result, read, written) = U::decode(&mut decoder, unread, &mut dst, true);
+        let end = written.saturating_add(came.0);
+        let (Some(rest), Some(prefix)) = (unread.get(read..), dst.get(..written)) else {
+            return Ok(false);
+        };
+        if wanted.0.get(came.0..end) != Some(prefix) {
+            return Ok(false);
+        }
+        unread = rest;
+        came.0 = end;
+        match result {
+            DecoderResult::Malformed(length, 0) if report_is(&wanted.1, came, length) => {
+                came.1 = came.1.saturating_add(1);
+            }
+            DecoderResult::InputEmpty => {
+                return Ok(
+                    unread.is_empty()
+                        && decoder.in_neutral_state()
+                        && came == (wanted.0.len(), wanted.1.len()),
+                );
+            }
+            _ => return Ok(false),
+        }
+    }
+    Ok(false)
+}
+
+/// Returns whether decoding to UTF-16 and to UTF-8 yields what a vector expects.
+fn is_delivered(alloc: Global, vector: &Vector) -> Result<bool, AllocError> {
+    let units = delivered::<u16>(alloc, vector)?;
+    let bytes = delivered::<u8>(alloc, vector)?;
+    Ok(decodes(alloc, &vector.bytes, &units)? && decodes(alloc, &vector.bytes, &bytes)?)
+}
+
+#[test]
+fn delivers_the_parts(rt: HostRuntime) -> Result<(), Fail> {
+    let vectors = vectors(rt.alloc())?;
+    for vector in &vectors {
+        assert!(rt; is_delivered(rt.alloc(), vector)?, "{}", vector.row);
+    }
+    assert!(rt; vectors.len() == 104);
+    Ok(())
 }

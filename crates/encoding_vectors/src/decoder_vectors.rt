@@ -1,7 +1,6 @@
 //! The decoder's vectors: bytes, and their parts. UTF-8 decoder of the Encoding Standard.
 
-use crate::outputs::Output;
-use crate::texts::{bytes_of, field};
+use crate::texts::{Output, bytes_of, field};
 use Expected::{Character, IllFormed};
 use std::alloc::{AllocError, Global};
 use std::test::Fail;

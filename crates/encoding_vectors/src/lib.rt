@@ -3,7 +3,7 @@
 #![tactic(auto)]
 
 #[cfg(test)]
-mod ascii_rows;
+mod ascii_latin1_rows;
 #[cfg(test)]
 mod bidi_rows;
 #[cfg(test)]
@@ -11,47 +11,31 @@ mod borrowed_call_rows;
 #[cfg(test)]
 mod borrowed_rows;
 #[cfg(test)]
+mod bounded_rows;
+#[cfg(test)]
+mod constant_rows;
+#[cfg(test)]
 mod decoder_chains;
-#[cfg(test)]
-mod decoder_cuts;
-#[cfg(test)]
-mod decoder_parts;
 #[cfg(test)]
 mod decoder_rows;
 #[cfg(test)]
 mod decoder_vectors;
 #[cfg(test)]
-mod dense_rows;
-#[cfg(test)]
 mod encoder_rows;
 #[cfg(test)]
 mod encoder_run_rows;
 #[cfg(test)]
-mod encoder_vectors;
-#[cfg(test)]
 mod failing_streams;
-#[cfg(test)]
-mod latin1_checks;
-#[cfg(test)]
-mod latin1_rows;
 #[cfg(test)]
 mod long_results;
 #[cfg(test)]
 mod long_streams;
 #[cfg(test)]
-mod memory_requests;
-#[cfg(test)]
 mod mixed_text;
-#[cfg(test)]
-mod outputs;
 #[cfg(test)]
 mod parts;
 #[cfg(test)]
 mod pending_unit_rows;
-#[cfg(test)]
-mod pending_units;
-#[cfg(test)]
-mod repair_fault_rows;
 #[cfg(test)]
 mod repair_rows;
 #[cfg(test)]
@@ -59,20 +43,8 @@ mod repair_stream_rows;
 #[cfg(test)]
 mod run_rows;
 #[cfg(test)]
-mod surrogate_places;
-#[cfg(test)]
 mod surrogate_rows;
-#[cfg(test)]
-mod table_rows;
-#[cfg(test)]
-mod text_destination_rows;
 #[cfg(test)]
 mod texts;
 #[cfg(test)]
-mod to_utf16_rows;
-#[cfg(test)]
-mod unchanged_tails;
-#[cfg(test)]
 mod utf16_rows;
-#[cfg(test)]
-mod variant_numbers;

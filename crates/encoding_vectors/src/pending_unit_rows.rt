@@ -1,10 +1,28 @@
 //! The encoder with and without a pending surrogate: rows, and the queries.
 
-use crate::pending_units::holds;
 use crate::texts::{are_written, bytes_of, field, number_of, units_of};
 use encoding_text::utf_8::{EncoderResult, Utf8Encoder};
 use std::alloc::Global;
 use std::test::Fail;
+
+/// Returns whether the pending surrogate of an encoder is that of a field. The query at 0 shows whether there is one,
+/// and a low surrogate then shows which.
+pub fn holds(mut encoder: Utf8Encoder, surrogate: &str) -> bool {
+    let room = encoder.max_buffer_length_from_utf16_without_replacement(0);
+    let mut dst = [0; 4];
+    match surrogate {
+        "none" => room == Some(0),
+        "D83D" => {
+            let (_, _, written) = encoder.encode_from_utf16_raw(&[0xDCA9], &mut dst, true);
+            room == Some(3) && written == 4 && dst == [0xF0, 0x9F, 0x92, 0xA9]
+        }
+        "D800" => {
+            let (_, _, written) = encoder.encode_from_utf16_raw(&[0xDC00], &mut dst, true);
+            room == Some(3) && written == 4 && dst == [0xF0, 0x90, 0x80, 0x80]
+        }
+        _ => false,
+    }
+}
 
 /// Returns an encoder whose pending surrogate is that of a field: none, or D83D.
 fn encoder_at(surrogate: &str) -> Utf8Encoder {

@@ -3,8 +3,7 @@
 ghost use Rattle.std.specs.Prelude.{◌≤◌, length};
 
 use crate::decoder_vectors::{Delivered, Vector, delivered, vectors};
-use crate::outputs::{Output, unwritten};
-use crate::texts::{are_written, bytes_of, field, number_of};
+use crate::texts::{Output, are_written, bytes_of, field, number_of, unwritten};
 use encoding_runs::run::{Outcome, Report, Turn, run_to_utf8, run_to_utf16};
 use encoding_text::decoder::{DecoderResult, Utf8Decoder};
 use std::alloc::{AllocError, Global};

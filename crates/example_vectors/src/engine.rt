@@ -1,5 +1,10 @@
-//! Blocks of UTF-16 from pieces of UTF-8, and back.
+//! Blocks of UTF-16 from pieces of UTF-8, and back. And code units repaired in place, their UTF-8, at once and by
+//! turns, and whether they have right-to-left characters.
 
+use engine_example::turns::utf8_by_turns;
+use engine_example::units::{
+    has_right_to_left, is_repaired, is_text, text_has_right_to_left, utf8_of_units,
+};
 use engine_example::{block_of_text, blocks_of_utf8, utf8_of_blocks};
 use std::test::Fail;
 
@@ -67,5 +72,81 @@ fn replaces_surrogates_in_no_pair(rt: HostRuntime) -> Result<(), Fail> {
         bytes.as_slice() == "a\u{FFFD}\u{1F4A9}\u{FFFD}\u{FFFD}".as_bytes(),
         "cut and unpaired surrogates"
     );
+    Ok(())
+}
+
+/// Code units, the repaired ones, their text, and whether it has a right-to-left character.
+const UNIT_ROWS: [(&[u16], &[u16], &str, bool); 5] = [
+    (&[], &[], "", false),
+    (
+        &[0x61, 0xD83D, 0xDCA9, 0xD83D],
+        &[0x61, 0xD83D, 0xDCA9, 0xFFFD],
+        "a\u{1F4A9}\u{FFFD}",
+        false,
+    ),
+    (&[0xD802], &[0xFFFD], "\u{FFFD}", false),
+    (
+        &[0xD802, 0xD802, 0xDC00],
+        &[0xFFFD, 0xD802, 0xDC00],
+        "\u{FFFD}\u{10800}",
+        true,
+    ),
+    (&[0xDC00, 0x5D0], &[0xFFFD, 0x5D0], "\u{FFFD}\u{5D0}", true),
+];
+
+#[test]
+fn repairs_and_writes_each_row(rt: HostRuntime) -> Result<(), Fail> {
+    for (units, repaired, text, right_to_left) in &UNIT_ROWS {
+        let mut own = Vec::new(rt.alloc());
+        own.extend_from_slice(units)?;
+        let bytes = utf8_of_units(rt.alloc(), &own)?;
+        assert!(rt; bytes.as_slice() == text.as_bytes(), "UTF-8 of {text}");
+        let bytes = utf8_by_turns(rt.alloc(), &own)?;
+        assert!(rt; bytes.as_slice() == text.as_bytes(), "{text} by turns");
+        assert!(rt;
+            is_text(&own) == (*units == *repaired),
+            "valid units of {text}"
+        );
+        assert!(rt;
+            is_repaired(rt.alloc(), &own, repaired)?,
+            "{text} as it was kept"
+        );
+        assert!(rt; text_has_right_to_left(text) == *right_to_left, "{text}");
+        assert!(rt;
+            has_right_to_left(&mut own) == *right_to_left,
+            "units of {text}"
+        );
+        assert!(rt; own.as_slice() == *repaired, "repaired units of {text}");
+    }
+    Ok(())
+}
+
+#[test]
+fn writes_a_character_across_the_end_of_the_room(rt: HostRuntime) -> Result<(), Fail> {
+    for before in 59..66 {
+        let mut units = Vec::new(rt.alloc());
+        units.resize(before, 0x61)?;
+        units.extend_from_slice(&[0xD83D, 0xDCA9, 0xE9])?;
+        let mut text = Vec::new(rt.alloc());
+        text.resize(before, b'a')?;
+        text.extend_from_slice("\u{1F4A9}\u{E9}".as_bytes())?;
+        let bytes = utf8_of_units(rt.alloc(), &units)?;
+        assert!(rt; bytes == text, "{before} bytes before the character");
+    }
+    Ok(())
+}
+
+#[test]
+fn repairs_and_writes_a_long_text(rt: HostRuntime) -> Result<(), Fail> {
+    let mut units = Vec::new(rt.alloc());
+    units.resize(70_000, 0x61)?;
+    units.extend_from_slice(&[0xD83D, 0x5D0])?;
+    let mut text = Vec::new(rt.alloc());
+    text.resize(70_000, b'a')?;
+    text.extend_from_slice("\u{FFFD}\u{5D0}".as_bytes())?;
+    let bytes = utf8_of_units(rt.alloc(), &units)?;
+    assert!(rt; bytes == text, "UTF-8 of a long text");
+    assert!(rt; has_right_to_left(&mut units), "a long text");
+    assert!(rt; units[70_000..] == [0xFFFD, 0x5D0], "the last units");
     Ok(())
 }

@@ -15,5 +15,3 @@ mod long;
 mod reader;
 #[cfg(test)]
 mod reads;
-#[cfg(test)]
-mod units;

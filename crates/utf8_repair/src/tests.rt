@@ -15,14 +15,9 @@
 //! No run over memory returns status 5, and `main` itself returns 6. The test of their lines is
 //! `serve_rows::says_each_line`.
 mod buffers;
-mod error_lines;
-mod faults;
-mod late_statuses;
 mod lines;
 mod long_streams;
-mod memory;
 mod patterns;
 mod peers;
 mod serve_rows;
-mod slow_peers;
 mod streams;

@@ -1,6 +1,6 @@
 //! The bytes of one read are written by one write, before the next read.
 
-use super::slow_peers::{Arrived, Counted, Lengths, Lines, Row, Typist};
+use super::peers::{Arrived, Counted, Lengths, Lines, Row, Typist};
 use super::streams::Output;
 use crate::service::serve;
 use crate::streams::{BufferedWriter, FlushPolicy, PIPE_CAPACITY, ReadAhead};

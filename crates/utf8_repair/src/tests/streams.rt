@@ -1,6 +1,8 @@
-//! Streams over arrays, which allocate no memory and fail on request.
+//! Streams over arrays, which allocate no memory and fail on request. And exhausted memory.
+
 ghost use Rattle.std.specs.Prelude.{◌≤◌};
 
+use std::alloc::{AllocError, Global};
 use std::io::{Error, ErrorKind, Read, Result, Write};
 
 /// Yields its bytes, at most `step` with each read, and then ends or fails.
@@ -143,4 +145,18 @@ impl Write for Output {
             Err(Error::from(ErrorKind::Other))
         }
     }
+}
+
+/// Allocates ever smaller blocks until nothing is left, and returns them. The last ones are the smallest.
+pub fn exhaust(alloc: Global) -> Result<Vec<Vec<u8>>, AllocError> {
+    let mut held = Vec::with_capacity(alloc, 1_000_000)?;
+    let mut size: usize = 1 << 46;
+    for _ in 0..1_000_000 {
+        match Vec::with_capacity(alloc, size) {
+            Ok(block) => held.push(block)?,
+            Err(_) if size == 1 => break,
+            Err(_) => size /= 2,
+        }
+    }
+    Ok(held)
 }

@@ -1,6 +1,8 @@
-//! The table of the formulas: its entries, and the formulas by them.
+//! Constants: the entries of the table, the formulas by them, and the numbers of the variants of public enums.
 
 use crate::texts::{bytes_of, field};
+use encoding_runs::repair::RepairFault;
+use encoding_text::mem::Latin1Bidi;
 use encoding_text::utf_8::{UTF8_DATA, law_table};
 use std::test::Fail;
 
@@ -75,4 +77,11 @@ fn formulas_hold(rt: HostRuntime) -> Result<(), Fail> {
     }
     assert!(rt; count == 7);
     Ok(())
+}
+
+#[test]
+fn count_up(rt: HostRuntime) {
+    assert!(rt; RepairFault::Read as u8 == 1 && RepairFault::Write as u8 == 2);
+    assert!(rt; RepairFault::Limit as u8 == 3 && Latin1Bidi::Latin1 as u8 == 0);
+    assert!(rt; Latin1Bidi::LeftToRight as u8 == 1 && Latin1Bidi::Bidi as u8 == 2);
 }
