@@ -1,5 +1,5 @@
 /* IncrementalRepair: the repair of bytes in pieces, with the calls of codecs.IncrementalDecoder. */
-#include "incremental.h"
+#include "module.h"
 
 #include "encoding_text.h"
 #include "output.h"

@@ -1,9 +1,9 @@
 /* The iterator that malformed() returns. */
-#include "malformed.h"
+#include "module.h"
 
 #include "encoding_text.h"
+#include "output.h"
 #include "source.h"
-#include "tuple.h"
 
 typedef struct {
     PyObject_HEAD

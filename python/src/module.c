@@ -1,11 +1,7 @@
 /* The module encoding_text._native: what the package encoding_text offers, over the library for C. */
-#define PY_SSIZE_T_CLEAN
-#include <Python.h>
+#include "module.h"
 
 #include "encoding_text.h"
-#include "incremental.h"
-#include "malformed.h"
-#include "repair.h"
 #include "source.h"
 
 #define TEXT_OF(number) #number

@@ -1,4 +1,5 @@
-/* A result that grows, and the `bytes` object that it becomes. In the limited API a `bytes` object can't grow. */
+/* A result that grows, and the `bytes` object that it becomes. In the limited API a `bytes` object can't grow. And
+ * tuples of an object and a number. */
 #ifndef OUTPUT_H
 #define OUTPUT_H
 
@@ -28,5 +29,8 @@ PyObject *output_end(encoding_output *out, const encoding_source *source, size_t
 
 /* Returns the bytes of the source: the object itself, if its type is `bytes`. */
 PyObject *output_unchanged(const encoding_source *source);
+
+/* Returns a tuple, and takes the reference to the object, which is NULL if there is an exception. */
+PyObject *tuple_of(PyObject *object, size_t number);
 
 #endif

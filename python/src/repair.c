@@ -1,10 +1,9 @@
 /* repair(): bytes with U+FFFD for each malformed sequence. */
-#include "repair.h"
+#include "module.h"
 
 #include "encoding_text.h"
 #include "output.h"
 #include "source.h"
-#include "tuple.h"
 
 #define MOST_GROWTH 3      /* bytes of U+FFFD for a malformed sequence of one byte */
 #define LONGEST_PART 16384 /* bytes: the space for its result stays in the processor's caches */
