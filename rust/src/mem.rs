@@ -12,20 +12,18 @@
 mod bidi;
 mod checks;
 mod copies;
-mod from_utf16;
 mod latin1;
 #[cfg(feature = "alloc")]
 mod owned;
-mod to_utf16;
+mod utf16;
 
 pub use bidi::*;
 pub use checks::*;
 pub use copies::*;
-pub use from_utf16::*;
 pub use latin1::*;
 #[cfg(feature = "alloc")]
 pub use owned::*;
-pub use to_utf16::*;
+pub use utf16::*;
 
 /// Panics if a destination is shorter than its source, before anything is written.
 #[inline]
