@@ -167,8 +167,8 @@ ValidUpTo-more bs at n prefix more = record {
   ];
 }
 
-pub ValidUpTo-over : (bs : List ℕ) (at from n : ℕ) → from ≤ at → ValidUpTo bs at → ((i : ℕ) → i < n → IsValidAt bs (from + i)) → ValidUpTo bs (from + n)
-ValidUpTo-over bs at from n h prefix more = ValidUpTo-more bs from n (record { each = λ i l. prefix.each i (omega arith) }) more
+pub ValidUpTo_over : (bs : List ℕ) (at from n : ℕ) → from ≤ at → ValidUpTo bs at → ((i : ℕ) → i < n → IsValidAt bs (from + i)) → ValidUpTo bs (from + n)
+ValidUpTo_over bs at from n h prefix more = ValidUpTo-more bs from n (record { each = λ i l. prefix.each i (omega arith) }) more
 
 -- two blocks
 pub follows_two : (bs : List ℕ) (at : ℕ) → ((i : ℕ) → i < 32 → IsValidAt bs (at + i)) → ((i : ℕ) → i < 32 → IsValidAt bs (at + 32 + i)) → ValidUpTo bs at → ValidUpTo bs (at + 64)

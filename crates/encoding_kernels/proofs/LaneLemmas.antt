@@ -19,6 +19,9 @@ put_is at n xs ys long room =
     let rest : drop (length ys) (drop at xs) ≡ drop (at + n) xs = drop-drop (length ys) at xs ∙ ap (λ m. drop (at + m) xs) long in
     put_chunk_is at xs ys (omega arith) ∙ ap (λ zs. take at xs ++ (ys ++ zs)) rest
 
+-- a vector read from a list and stored in another
+pub ruleset stored = (put_is, length-chunk)
+
 -- a stride, read whole
 pub whole_chunk : {X : Type 0} (n : ℕ) (stride : List X) → length stride ≡ n → chunk 0 n stride ≡ stride
 whole_chunk n stride long = take_all n stride (omega (arith, long))

@@ -14,6 +14,7 @@ const MOST_STRIDES: usize = 256;
 pub(crate) const LANES: [u8; STRIDE] = [0, 1, 2, 3, 4, 5, 6, 7, 8, 9, 10, 11, 12, 13, 14, 15];
 
 /// Copies the N bytes from `at` on to the same index.
+#[tactic(auto, using(std::proofs::lemmas::Grind::common_steps, crate::proofs::LaneLemmas::stored))]
 #[inline(always)]
 pub(super) fn copy<const N: usize>(src: &[u8], dst: &mut [u8], at: usize)
     requires { (at + N ≤ length src.now) × (at + N ≤ length dst.old) }

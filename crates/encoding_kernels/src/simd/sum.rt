@@ -138,6 +138,7 @@ fn sum_by<const N: usize, const SPAN: usize, T: Terms<N>>(
 }
 
 /// Returns the sum over the indices from `from` on, one by one.
+#[tactic(auto, using(std::proofs::lemmas::Grind::common_steps, crate::proofs::TotalLemmas::total_end, crate::proofs::TotalLemmas::total_next))]
 #[inline(always)]
 fn sum_singly<const N: usize, T: Terms<N>>(terms: &T, from: usize) -> usize
     requires within { from ≤ length (T.text terms.now) }

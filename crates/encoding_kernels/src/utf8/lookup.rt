@@ -237,6 +237,7 @@ pub(crate) fn first_faults_32(src: &[u8]) -> u8x32
 }
 
 /// Returns whether each lane is zero.
+#[tactic(auto, using(std::proofs::lemmas::Grind::common_steps, crate::proofs::TestLemmas::zeros_from_mask))]
 #[inline(always)]
 pub(crate) fn is_zero(lanes: u8x32) -> bool
     ensures { IsTrue result → IsZeroTo lanes 32 }

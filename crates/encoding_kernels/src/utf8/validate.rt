@@ -70,6 +70,7 @@ fn clean_of_first_64(src: &[u8]) -> usize
 }
 
 /// Returns the length, at most 32, of a prefix whose bytes may each follow those before it.
+#[tactic(auto, using(std::proofs::lemmas::Grind::common_steps, crate::proofs::FollowingLemmas::ValidUpTo_over))]
 #[inline(always)]
 fn clean_of_first_32(src: &[u8]) -> usize
     requires { 16 ≤ length src.now }

@@ -1,5 +1,5 @@
 use Rattle.std.proofs.Common.{arith}
-use Rattle.encoding_kernels.proofs.FollowingLemmas.{ValidUpTo-over}
+use Rattle.encoding_kernels.proofs.FollowingLemmas.{ValidUpTo_over}
 use Rattle.encoding_kernels.proofs.TestLemmas.{or_zeros}
 use Rattle.encoding_kernels.proofs.utf8.validate.clean_of_first_64.Goals as goal
 
@@ -8,7 +8,7 @@ returns-then-is_zero-clause-follow c =
     let a = c.first_faults_32-first.ensures in
     let b = c.faults_32-second.ensures in
     let zeros = or_zeros 32 _ _ a.length b.length (c.is_zero.ensures c.if-is_zero.true) in
-    ValidUpTo-over c.args.src.now 32 c.min-last.result 32 (omega (arith, c.min-last.ensures)) (record { each = λ i l. a.lanes i l (zeros.0.each i l) })
+    ValidUpTo_over c.args.src.now 32 c.min-last.result 32 (omega (arith, c.min-last.ensures)) (record { each = λ i l. a.lanes i l (zeros.0.each i l) })
     (λ i l. b.lanes i l (zeros.1.each i l))
 
 pub returns-then-clean-lt32-clause-follow : goal.returns-then-clean-lt32-clause-follow
@@ -19,6 +19,6 @@ returns-then-clean-lt32-clause-follow c =
 pub returns-clause-follow : goal.returns-clause-follow
 returns-clause-follow c =
     let last = c.zeros.ensures in
-    ValidUpTo-over c.args.src.now 32 c.min-last.result c.zeros.result (omega (arith, c.min-last.ensures))
+    ValidUpTo_over c.args.src.now 32 c.min-last.result c.zeros.result (omega (arith, c.min-last.ensures))
     (record { each = λ i l. c.first_faults_32-first.ensures.lanes i l (c.zeros-clean.ensures.zeros.each i (omega (arith, c.if-clean-lt32.false))) })
     (λ i l. c.faults_32-second.ensures.lanes i (omega (arith, last.within)) (last.zeros.each i l))
