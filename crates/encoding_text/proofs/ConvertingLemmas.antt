@@ -8,7 +8,7 @@ use Rattle.std.specs.Str.{all_scalars, IsAscii, IsUtf8, chars}
 use Rattle.std.specs.List.{flat_map}
 use Rattle.std.proofs.lemmas.Bool.{and_from, and_parts, cases_lt}
 use Rattle.std.proofs.lemmas.Grind.{flat_map-append}
-use Rattle.std.proofs.lemmas.List.{append-nil, append_assoc, length-append, length-drop, length-take, take_at, drop_at, take_rest, take-append-drop, take-take, take_all}
+use Rattle.std.proofs.lemmas.List.{append-nil, append_assoc, length-append, length-drop, length-take, length-take-le, take_at, drop_at, take_rest, take-append-drop, take-take, take_all}
 use Rattle.std.proofs.lemmas.Str.{encodes-append, encode_same, length-encode, len_utf8_bounds, IsUtf8-encode, IsUtf8-append, chars_from_encodes}
 use Rattle.std.proofs.str.Laws.{scalars-append}
 use borrow.Rule.Slice.PartMut.{put_mid}
@@ -199,6 +199,9 @@ copied_prefix src old new room n short within all l e =
         let more : IsUtf8 (take (n + k) src) = subst IsUtf8 (sym (take-add n k src)) (IsUtf8-append _ _ text (subst IsUtf8 (sym next) (IsUtf8-encode c s))) in
         let longer = l.longest (n + k) (omega (arith, length-take room src, fits, short)) (subst IsUtf8 (sym (take-take (n + k) room src fits)) more) in
         omega arith
+
+-- a copy of such a prefix into what fits
+pub ruleset copies = (copied_prefix, cases_lt, length-take, length-take-le)
 
 -- ---- a call that didn't fit left the destination unchanged
 pub converted_unfit : {A : Type 0} (encode : ℕ → List A) (src : List ℕ) (old new sub : List A) (read written c n : ℕ) → ConvertsSome encode src old new read written → IsScalar c

@@ -1,6 +1,7 @@
 -- Longest prefixes that may be the whole list: the ASCII prefix before the first other unit, and the bytes that the
 -- ISO-2022-JP decoder returns unchanged, by strides.
 use Rattle.std.proofs.Common.{ℕ, ◌+◌, ◌-◌, ◌<◌, ◌≤◌, inl, inr, List, ◌++◌, length, take, drop, slice_index, ap, eqb, sym, ◌∙◌, arith, subst, append_assoc, Option, Some, None, ◌≡◌, ◌≢◌, Bool, true, false, ◌||◌, leb, w8, bit_or, replicate, length-drop, length-take-le}
+use Rattle.std.proofs.lemmas.Str.{IsUtf8-from_ascii}
 use Rattle.std.specs.Prelude.{IsTrue, ◌↔◌}
 use Rattle.std.specs.Str.{IsAscii}
 use Rattle.std.proofs.lemmas.Bool.{cases_lt, eqb-true, eq-eqb}
@@ -13,6 +14,9 @@ use Rattle.std.specs.Simd.Lanes.{chunk, zip2}
 use Rattle.encoding_kernels.proofs.StrideLemmas.{unit_is}
 use Rattle.encoding_kernels.proofs.LaneLemmas.{HasLanes-splat, HasLanes-whole, IsFirstSet, compared}
 use Rattle.encoding_kernels.proofs.TestLemmas.{HasTests, tests_of, tests_or}
+
+-- ASCII bytes are a text
+pub ruleset ascii_texts = (IsUtf8-from_ascii)
 
 -- the longest prefix is as long as the list if and only if the whole is of the kind
 pub whole_by_length : {A : Type 0} (K : List A → Type 0) (xs : List A) (n : ℕ) → IsLongestPrefix K xs n → IsTrue (eqb n (length xs)) ↔ K xs

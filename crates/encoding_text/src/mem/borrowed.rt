@@ -59,6 +59,7 @@ pub fn encode_latin1_lossy<'a>(alloc: Global, string: &'a str) -> Result<CowByte
 }
 
 /// Returns ASCII bytes as a text.
+#[tactic(auto, using(std::proofs::lemmas::Grind::common_steps, crate::proofs::WholePrefixesLemmas::ascii_texts))]
 fn ascii_text<'a>(bytes: &'a [u8]) -> &'a str
     requires { IsAscii bytes.now }
     ensures { result.now ≡ bytes.now }

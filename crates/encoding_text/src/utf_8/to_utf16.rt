@@ -130,6 +130,7 @@ pub fn convert_utf8_to_utf16_up_to_invalid(src: &[u8], dst: &mut [u16]) -> (usiz
 /// it read and how many it wrote, which is the same.
 ///
 /// The characters that fit are those of the prefix that is as long as `dst`.
+#[tactic(auto, using(std::proofs::lemmas::Grind::common_steps, crate::proofs::ConvertingLemmas::copies))]
 fn copy_utf8_up_to_invalid(src: &[u8], dst: &mut [u8]) -> (usize, usize)
     ensures { ConvertsUntilFull encode_utf8 src.now dst.old dst.new result.0 result.1 }
 {

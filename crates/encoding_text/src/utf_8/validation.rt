@@ -95,6 +95,7 @@ pub fn character_length(bytes: &[u8]) -> Option<usize>
 /// Returns the length of a well-formed prefix: the ASCII prefix, and the blocks of other text after it.
 ///
 /// Two vectors find the ASCII prefix of a short text, and two more validate it if other text follows.
+#[tactic(auto, using(std::proofs::lemmas::Grind::common_steps, crate::proofs::WholePrefixesLemmas::ascii_texts))]
 #[inline(always)]
 fn well_formed_prefix(src: &[u8]) -> usize
     ensures { (result ≤ length src.now) × IsUtf8 (take result src.now) }
