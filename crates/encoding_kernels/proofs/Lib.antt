@@ -4,6 +4,7 @@ pub mod BlockLemmas
 pub mod StrideLemmas
 pub mod CompressLemmas
 pub mod ConvertsLemmas
+pub mod DueLemmas
 pub mod EncodeLanesLemmas
 pub mod EndedLemmas
 pub mod EndsLemmas

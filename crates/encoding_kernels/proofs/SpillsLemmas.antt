@@ -12,7 +12,7 @@ use Rattle.encoding_kernels.proofs.LaneLemmas.{put_prefix}
 use Rattle.encoding_kernels.proofs.UnitBlocksLemmas.{plain_then, encodes_more}
 
 -- lists that are the same from an index on are so from a later one on
-later : (n k m : ℕ) (xs ys : List ℕ) → drop n xs ≡ drop n ys → m ≡ n + k → drop m xs ≡ drop m ys
+pub later : (n k m : ℕ) (xs ys : List ℕ) → drop n xs ≡ drop n ys → m ≡ n + k → drop m xs ≡ drop m ys
 later n k m xs ys e place =
     let turned : k + n ≡ n + k = omega arith in
     ap (λ j. drop j xs) place ∙ sym (drop-drop k n xs) ∙ ap (drop k) e ∙ drop-drop k n ys ∙ ap (λ j. drop j ys) (sym place)

@@ -74,6 +74,14 @@ pub record SpillsBmp (us old new : List ℕ) (read count spill : ℕ) : Type 0 w
   pub following : drop (count + spill) new ≡ drop (count + spill) old
   pub long : length new ≡ length old
 
+-- blocks at the start: `left` bytes after theirs are due to be overwritten, of which `due` were before
+pub record ConvertsDue (us old new : List ℕ) (due read count left : ℕ) : Type 0 where
+  pub written : SpillsBmp us old new read count left
+  pub covered : due ≤ count + left
+  pub few : left ≤ 16
+  pub fits : 0 < left → read + 16 ≤ length us
+  pub bound : count ≤ 3 * read
+
 -- the first `read` code units are no surrogates, and their UTF-8 is written at the start
 pub record WritesBmp (us old new : List ℕ) (read count : ℕ) : Type 0 where
   pub within : read ≤ length us

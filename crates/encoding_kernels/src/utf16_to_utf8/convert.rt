@@ -4,74 +4,118 @@
 ghost use Rattle.std.specs.Prelude.{◌≡◌, ℕ, ◌↔◌, ◌+◌, ◌*◌, ◌<◌, ◌≤◌, ◌++◌, length, take, drop, slice_index, encode_utf8_all, IsTrue};
 ghost use Rattle.encoding_definitions.specs.Prefixes.{WritesPrefix};
 ghost use Rattle.encoding_definitions.specs.Utf16.{IsUtf8OfPrefix};
-ghost use Rattle.encoding_kernels.specs.EncodeLanes.{AreBmpScalars, SpillsBmp, StoresBlock};
+ghost use Rattle.encoding_kernels.specs.EncodeLanes.{ConvertsDue};
 
+use super::blocks::{Ascii, Mixed, ThreeByte, TwoByte, convert_run};
 use super::exact::{SPILL, convert_first_sixteen, convert_spilled};
-use super::mixed::{are_non_surrogate, store_mixed};
 use super::pairs::{are_two_byte_or_paired, write_two_byte_or_paired};
-use super::three_byte::{are_three_byte, write_three_byte};
-use super::two_byte::{are_ascii, are_two_byte, store_two_byte};
 use crate::scalar::surrogates::is_surrogate;
 use crate::simd::bounds::are_units_below;
 use crate::simd::width::{BASIC_LATIN_END, HALF_STRIDE, STRIDE};
 use std::simd::prelude::*;
 
-/// The most bytes that a block of sixteen code units writes.
-const MOST_BYTES: usize = 48;
+/// The number of code units of ASCII in a row after which the blocks end.
+const ASCII_RUN: usize = 24 * STRIDE;
 
-/// The number of blocks of ASCII in a row after which the blocks end.
-const ASCII_BLOCKS: usize = 4;
+/// The most code units below U+0800 that are converted before the next test for ASCII.
+const TWO_BYTE_RUN: usize = 6 * STRIDE;
 
-/// Converts sixteen code units, if none is a surrogate. Returns how many bytes it wrote, and how many after these it may
-/// have changed. Tests whether each unit has three bytes only if `is_long_likely`.
+/// The most code units of any kind that are converted before the next test for one kind.
+const MIXED_RUN: usize = 8 * STRIDE;
+
+/// Converts blocks from the start of `src`, until many in a row are ASCII or of three bytes each, or one has a surrogate,
+/// or the end is near.
 #[inline(always)]
-fn convert_block(units: u16x16, dst: &mut [u8], at: usize, is_long_likely: bool) -> (usize, usize)
-    requires dst_length { (length units ≡ 16) × (at + 64 ≤ length dst.old) }
-    ensures none { result.0 ≡ 0 → dst.new ≡ dst.old }
-    ensures some { 0 < result.0 → StoresBlock units dst.old dst.new at result.0 result.1 }
+fn convert_any_blocks(src: &[u16], dst: &mut [u8], due: usize) -> (usize, usize, usize)
+    requires dst_length { 3 * length src.now ≤ length dst.old }
+    requires due { (due ≤ 16) × (0 < due → 16 ≤ length src.now) }
+    ensures { ConvertsDue src.now dst.old dst.new due result.0 result.1 result.2 }
 {
-    if are_ascii(units) {
-        units.cast::<u8>().copy_to_slice(&mut dst[at..]);
-        return (STRIDE, 0);
+    let mut read = 0;
+    let mut written = 0;
+    let mut spilled = due;
+    while src.len() - read >= STRIDE + SPILL {
+        let (units, bytes, left) = convert_run(
+            &Ascii,
+            &src[read..],
+            &mut dst[written..],
+            spilled,
+            ASCII_RUN,
+        );
+        read += units;
+        written += bytes;
+        spilled = left;
+        if units == ASCII_RUN {
+            break;
+        }
+        let (units, bytes, left) = convert_run(
+            &TwoByte,
+            &src[read..],
+            &mut dst[written..],
+            spilled,
+            TWO_BYTE_RUN,
+        );
+        read += units;
+        written += bytes;
+        spilled = left;
+        if units == 0 {
+            let (units, bytes, left) = convert_run(
+                &Mixed,
+                &src[read..],
+                &mut dst[written..],
+                spilled,
+                MIXED_RUN,
+            );
+            read += units;
+            written += bytes;
+            spilled = left;
+            if units == 0 || bytes == 3 * MIXED_RUN {
+                break;
+            }
+        }
     }
-    if are_two_byte(units) {
-        return (store_two_byte(units, dst, at), SPILL);
-    }
-    if is_long_likely && are_three_byte(units) {
-        write_three_byte(units, dst, at);
-        return (MOST_BYTES, 0);
-    }
-    if !are_non_surrogate(units) {
-        return (0, 0);
-    }
-    (store_mixed(units, dst, at), SPILL)
+    (read, written, spilled)
 }
 
-/// Converts blocks of sixteen code units from the start of `src`, until several in a row are ASCII, or one has a
-/// surrogate, or the end is near. Also returns how many bytes after its own it may have changed: the sixteen code units
-/// that follow surely fit, and overwrite these.
+/// Converts blocks of code units of three bytes each from the start of `src`.
+#[inline(never)]
+fn convert_three_byte_blocks(src: &[u16], dst: &mut [u8], due: usize) -> (usize, usize, usize)
+    requires dst_length { 3 * length src.now ≤ length dst.old }
+    requires due { (due ≤ 16) × (0 < due → 16 ≤ length src.now) }
+    ensures { ConvertsDue src.now dst.old dst.new due result.0 result.1 result.2 }
+{
+    convert_run(&ThreeByte, src, dst, due, src.len())
+}
+
+/// Converts blocks of sixteen code units from the start of `src`, until many in a row are ASCII, or one has a surrogate, or
+/// the end is near.
 #[inline(always)]
 fn convert_due_blocks(src: &[u16], dst: &mut [u8]) -> (usize, usize, usize)
-    ensures written { SpillsBmp src.now dst.old dst.new result.0 result.1 result.2 }
-    ensures due { (result.2 ≤ 16) × (0 < result.2 → (result.0 + 16 ≤ length src.now) × (result.1 + 48 ≤ length dst.old)) }
+    requires dst_length { 3 * length src.now ≤ length dst.old }
+    ensures { ConvertsDue src.now dst.old dst.new 0 result.0 result.1 result.2 }
 {
-    let end = src.len().min(dst.len() / 3);
     let mut read = 0;
     let mut written = 0;
     let mut spilled = 0;
-    let mut ascii = 0;
-    let mut is_long_likely = true;
-    while end - read >= STRIDE + SPILL && ascii < ASCII_BLOCKS {
-        let units = u16x16::from_slice(&src[read..]);
-        let (bytes, spill) = convert_block(units, dst, written, is_long_likely);
-        if bytes == 0 {
+    while src.len() - read >= STRIDE + SPILL {
+        let (units, bytes, left) = convert_any_blocks(&src[read..], &mut dst[written..], spilled);
+        read += units;
+        written += bytes;
+        spilled = left;
+        if spilled == 0 {
             break;
         }
-        read += STRIDE;
+        let (units, bytes, left) = convert_three_byte_blocks(
+            &src[read..],
+            &mut dst[written..],
+            spilled,
+        );
+        read += units;
         written += bytes;
-        spilled = spill;
-        is_long_likely = bytes == MOST_BYTES;
-        ascii = if bytes == STRIDE { ascii + 1 } else { 0 };
+        spilled = left;
+        if units == 0 {
+            break;
+        }
     }
     (read, written, spilled)
 }
@@ -83,7 +127,8 @@ fn convert_dense_blocks(src: &[u16], dst: &mut [u8]) -> (usize, usize)
     ensures unchanged_after { WritesPrefix dst.old dst.new result.1 (take result.1 dst.new) }
     ensures within { result.0 ≤ length src.now }
 {
-    let (read, written, spilled) = convert_due_blocks(src, dst);
+    let end = src.len().min(dst.len() / 3);
+    let (read, written, spilled) = convert_due_blocks(&src[..end], dst);
     if spilled == 0 {
         return (read, written);
     }
