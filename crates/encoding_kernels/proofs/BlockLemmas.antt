@@ -36,8 +36,8 @@ pub writes_none : (us old : List ℕ) → WritesBmp us old old 0 0
 writes_none us old = record { within = omega arith; plain = λ k r. omega (arith, r.0); written = WritesPrefix-nil old }
 
 -- the first of sixteen units, stored with zeros after them
-module _ (us units lanes old bytes : List ℕ) (first stored : ℕ) (few : first ≤ 16) (within : first ≤ length us) (start : take (length (take 16 us)) units ≡ take 16 us)
-    (are : lanes ≡ take first units ++ drop first (replicate 16 0)) (spills : Spills old bytes 0 stored 16 (encode_utf8_all lanes)) (bound : 16 ≤ stored) where
+module _ (us units lanes : List ℕ) (first : ℕ) (few : first ≤ 16) (within : first ≤ length us) (start : take (length (take 16 us)) units ≡ take 16 us)
+    (are : lanes ≡ take first units ++ drop first (replicate 16 0)) where
   same_first : take first units ≡ take first us
   same_first =
       sym (take-take first (length (take 16 us)) units (omega (arith, length-take 16 us))) ∙ ap (take first) start ∙ take-take first 16 us few
@@ -50,12 +50,18 @@ module _ (us units lanes old bytes : List ℕ) (first stored : ℕ) (few : first
   whole : encode_utf8_all lanes ≡ encode_utf8_all (take first us) ++ drop first (replicate 16 0)
   whole = ap encode_utf8_all are ∙ zeros_spelled first units ∙ ap (λ xs. encode_utf8_all xs ++ drop first (replicate 16 0)) same_first
 
-  pub first_units_counted : stored - (16 - first) ≡ length (encode_utf8_all (take first us))
-  first_units_counted = omega (arith, spills.counted, ap length whole, length-append (encode_utf8_all (take first us)) (drop first (replicate 16 0)), length-drop {A = ℕ} first (replicate 16 0))
+  -- the UTF-8 of the zeros left out
+  pub first_units_written : (count : ℕ) → count + (16 - first) ≡ length (encode_utf8_all lanes) → (count ≡ length (encode_utf8_all (take first us))) × (take count (encode_utf8_all lanes) ≡ encode_utf8_all (take first us))
+  first_units_written count is =
+      let zeros : length (drop first (replicate 16 0)) ≡ 16 - first = length-drop {A = ℕ} first (replicate 16 0) in
+      let long : length (encode_utf8_all (take first us)) ≡ count = omega (arith, is, zeros, ap length whole, length-append (encode_utf8_all (take first us)) (drop first (replicate 16 0))) in
+      (sym long, ap (take count) whole ∙ take_at (encode_utf8_all (take first us)) (drop first (replicate 16 0)) count long)
 
-  pub first_units_bytes : take (stored - (16 - first)) bytes ≡ encode_utf8_all (take first us)
-  first_units_bytes =
+  -- the same of bytes that begin with the UTF-8 of all
+  pub first_units_bytes : (old bytes : List ℕ) (stored : ℕ) → Spills old bytes 0 stored 16 (encode_utf8_all lanes) → 16 ≤ stored
+      → (stored - (16 - first) ≡ length (encode_utf8_all (take first us))) × (take (stored - (16 - first)) bytes ≡ encode_utf8_all (take first us))
+  first_units_bytes old bytes stored spills bound =
       let n = stored - (16 - first) in
       let none : 0 + stored ≡ stored = omega arith in
-      sym (take-take n stored bytes (omega arith)) ∙ ap (λ k. take n (take k bytes)) (sym none) ∙ ap (take n) (spills.prefix ∙ whole)
-      ∙ take_at (encode_utf8_all (take first us)) (drop first (replicate 16 0)) n (sym first_units_counted)
+      let part = first_units_written n (omega (arith, spills.counted)) in
+      (part.0, sym (take-take n stored bytes (omega arith)) ∙ ap (λ k. take n (take k bytes)) (sym none) ∙ ap (take n) spills.prefix ∙ part.1)

@@ -1,7 +1,7 @@
 -- The value of each lane after the operations on vectors, and what the mask of a vector says about its lanes. A vector
 -- that is stored in a list at an index, and one that is read from a whole stride.
 use Rattle.std.proofs.Common.{◌≡◌, ℕ, ◌+◌, ◌≤◌, List, ◌++◌, length, take, drop, drop-drop, take-add, length-take-le, length-append, map, map-id, sym, ap, ◌∙◌, arith, append_assoc, suc, ◌-◌, ◌*◌, ◌/◌, ◌^◌, ◌%◌, ◌<◌, Bool, true, false, not, cond, ltb, inl, inr, [], ◌∷◌, get_or, replicate, refl, subst, length-drop, get_or-take, get_or-drop}
-use Rattle.std.proofs.lemmas.List.{take_all, take_at, drop_at, take-append-le, length-map, get_or-map, drop-append-le, get_or_append_left, get_or-append_right}
+use Rattle.std.proofs.lemmas.List.{take_all, take_at, drop_at, take-append-le, take-append-drop, length-map, get_or-map, drop-append-le, get_or_append_left, get_or-append_right}
 use Rattle.std.proofs.lemmas.Simd.{put_chunk_is, length-chunk, chunk-drop, get_or-chunk, length-replicate, get_or-replicate, length-zip2, get_or-zip2, length-sel_l, get_or-sel_l, swz_l, SwzOk, length-swz_l, get_or-swz_l_below, SwzOk-from_below, Each1-from_get_or, mask_l-mod, leading_from_mask_l}
 use Rattle.std.proofs.lemmas.Slice.{drop-append-drop}
 use Rattle.std.specs.Simd.Lanes.{chunk, put_chunk, zip2, mask_l, top, sel_l}
@@ -42,6 +42,13 @@ put_prefix w xs ys at n long few room =
           ∙ ap (λ zs. take at xs ++ zs) (take-append-le n ys (drop (at + w) xs) (omega arith)),
       ap (drop (at + n + w)) (is ∙ sym (append_assoc (take at xs) ys (drop (at + w) xs))) ∙ drop-append-drop (at + w) xs (take at xs ++ ys) (at + n + w) (omega arith) both,
     )
+
+-- what is written back after `count` bytes, of which some may have changed
+pub put_back : (w : ℕ) (old mid : List ℕ) (count : ℕ) → count + w ≤ length old → length mid ≡ length old → drop (count + w) mid ≡ drop (count + w) old → put_chunk count mid (chunk count w old) ≡ take count mid ++ drop count old
+put_back w old mid count room long rest =
+    put_is count w mid (chunk count w old) (length-chunk count w old room) (omega arith)
+    ∙ (λ i. take count mid ++ (chunk count w old ++ (rest ∙ sym (drop-drop w count old)) i))
+    ∙ ap (λ xs. take count mid ++ xs) (take-append-drop w (drop count old))
 
 -- ---- lanes
 pub HasLanes_load : (at n : ℕ) (xs : List ℕ) → at + n ≤ length xs → HasLanes n (chunk at n xs) (λ k. get_or xs (at + k) 0)

@@ -1,5 +1,5 @@
 -- The UTF-8 of code units in four bytes each, whose last ones are kept.
-use Rattle.std.proofs.Common.{◌≡◌, ℕ, suc, ◌+◌, ◌-◌, ◌*◌, ◌/◌, ◌%◌, ◌^◌, ◌<◌, ◌≤◌, IsTrue, Bool, true, false, not, eqb, cond, inl, inr, replicate, Fits, w16, List, [], ◌∷◌, ◌++◌, map, length, take, drop, get_or, encode_utf8_all, bit_and, refl, sym, ap, ◌∙◌, arith, subst, w8, leb, ltb, length-take-le, length-drop, take-append-drop, get_or-drop, get_or-take}
+use Rattle.std.proofs.Common.{◌≡◌, ℕ, suc, ◌+◌, ◌-◌, ◌*◌, ◌/◌, ◌%◌, ◌^◌, ◌<◌, ◌≤◌, IsTrue, Bool, true, false, not, eqb, cond, inl, inr, replicate, Fits, w16, List, [], ◌∷◌, ◌++◌, map, length, take, drop, get_or, encode_utf8, encode_utf8_all, length-append, bit_and, refl, sym, ap, ◌∙◌, arith, subst, w8, leb, ltb, length-take-le, length-drop, take-append-drop, get_or-drop, get_or-take}
 use Rattle.std.specs.Prelude.{nat_lt}
 use Rattle.std.proofs.lemmas.Bool.{cases_lt, eqb-false, ltb-true, lt-ltb}
 use Rattle.std.proofs.lemmas.Bool.Decides.{nat_tests}
@@ -243,6 +243,19 @@ spells_last u h =
     let low : bit_and u 0x3F ≡ u % 2 ^ 6 = and_mask u 6 in
     let mid : bit_and (u / 2 ^ 6) 0x3F ≡ u / 2 ^ 6 % 2 ^ 6 = and_mask (u / 2 ^ 6) 6 in
     grind (arith, nat_tests, low, mid, two u, three u, encode_ascii u)
+
+-- the length of the UTF-8
+last_count : (a s : Bool) (x y z : ℕ) (spelled : List ℕ) → (a ≡ true → s ≡ true) → cond a (z ∷ []) (cond s (y ∷ z ∷ []) (x ∷ y ∷ z ∷ [])) ≡ spelled → length spelled + (cond a 1 0 + cond s 1 0) ≡ 3
+last_count true true x y z spelled v e = omega (arith, ap length e)
+last_count true false x y z spelled v e = grind (arith, nat_tests, v)
+last_count false true x y z spelled v e = omega (arith, ap length e)
+last_count false false x y z spelled v e = omega (arith, ap length e)
+
+pub encoded_long : (us : List ℕ) → Each1 (Fits w16) us → length (encode_utf8_all us) + count_ones (mask_l (length_classes us)) ≡ 3 * length us
+encoded_long [] fit = omega (arith, ones-none)
+encoded_long (u ∷ us) fit =
+    let here = last_count (nat_lt u 0x80) (nat_lt u 0x800) _ _ _ (encode_utf8 u) (ascii_short u) (spells_last u (omega (arith, fit.0.fits))) in
+    omega (arith, here, length-append (encode_utf8 u) (encode_utf8_all us), encoded_long us fit.1, ones-mask_l_cons (nat_lt u 0x80) (nat_lt u 0x800 ∷ length_classes us), ones-mask_l_cons (nat_lt u 0x800) (length_classes us))
 
 encode_again : (u : ℕ) {x y z x2 y2 z2 : ℕ} → x ≡ x2 → y ≡ y2 → z ≡ z2 → EncodesLast u x2 y2 z2 → EncodesLast u x y z
 encode_again u p q r s = (λ i. cond (nat_lt u 0x80) (r i ∷ []) (cond (nat_lt u 0x800) (q i ∷ r i ∷ []) (p i ∷ q i ∷ r i ∷ []))) ∙ s

@@ -1,14 +1,14 @@
 -- Stored vectors whose first bytes count: what they change after these is overwritten by later ones.
-use Rattle.std.proofs.Common.{◌≡◌, ℕ, ◌+◌, ◌-◌, ◌≤◌, List, ◌++◌, length, take, drop, drop-drop, take-append-drop, length-take-le, length-append, length-drop, encode_utf8_all, sym, ap, ◌∙◌, arith, append_assoc, subst}
+use Rattle.std.proofs.Common.{◌≡◌, ℕ, ◌+◌, ◌-◌, ◌≤◌, List, ◌++◌, length, take, drop, drop-drop, take-append-drop, take-take, length-take-le, length-append, length-drop, encode_utf8_all, sym, ap, ◌∙◌, arith, append_assoc, subst}
 use Rattle.std.proofs.lemmas.List.{take_at}
 use Rattle.std.proofs.lemmas.Simd.{length-put_chunk}
 use Rattle.std.proofs.lemmas.Slice.{drop-append-drop}
-use Rattle.std.specs.Simd.Lanes.{put_chunk}
+use Rattle.std.specs.Simd.Lanes.{chunk, put_chunk}
 use borrow.Rule.Slice.PartMut.{put_mid}
 use Rattle.encoding_definitions.specs.Prefixes.{WritesPrefix}
 use Rattle.encoding_definitions.proofs.PrefixesLemmas.{WritesPrefix_after}
 use Rattle.encoding_kernels.specs.EncodeLanes.{Spills, StoresBlock, SpillsBmp}
-use Rattle.encoding_kernels.proofs.LaneLemmas.{put_prefix}
+use Rattle.encoding_kernels.proofs.LaneLemmas.{put_prefix, put_back}
 use Rattle.encoding_kernels.proofs.UnitBlocksLemmas.{plain_then, encodes_more}
 
 -- lists that are the same from an index on are so from a later one on
@@ -43,6 +43,19 @@ spills_both old mid new at n m k l xs ys out p q e =
     let all : n + m + (k + l) ≡ n + m + k + l = omega arith in
     let both = spills_then old mid new at (n + m) (k + l) 16 16 xs ys p (subst (λ j. Spills mid new j (k + l) 16 ys) place q) (omega arith) in
     subst (λ j. Spills old new at j 16 out) all (subst (Spills old new at (n + m + (k + l)) 16) e both)
+
+-- the first `count` of n bytes at the start, if what may have changed after them is written back
+pub spills_kept : (old mid out : List ℕ) (n count : ℕ) → Spills old mid 0 n 16 out → count ≤ n → n ≤ count + 16 → count + 32 ≤ length old
+    → WritesPrefix old (put_chunk count mid (chunk count 32 old)) count (take count out)
+spills_kept old mid out n count p few near room =
+    let none : 0 + n ≡ n = omega arith in
+    let start : take count mid ≡ take count out = sym (take-take count n mid few) ∙ ap (take count) (ap (λ k. take k mid) (sym none) ∙ p.prefix) in
+    let over : count + 32 ≡ 0 + n + 16 + (count + 16 - n) = omega arith in
+    record {
+      count = sym (length-take-le count out (omega (arith, p.counted)));
+      fits = omega arith;
+      placed = put_back 32 old mid count room p.long (later (0 + n + 16) (count + 16 - n) (count + 32) mid old p.following over) ∙ ap (λ xs. xs ++ drop count old) start;
+    }
 
 -- a write that changes nothing after it
 pub exact_spills : (old new out : List ℕ) (at n : ℕ) → length out ≡ n → at + n ≤ length old → new ≡ take at old ++ (out ++ drop (at + n) old) → Spills old new at n 0 out

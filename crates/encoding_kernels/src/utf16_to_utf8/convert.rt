@@ -153,17 +153,19 @@ pub fn convert_blocks(src: &[u16], dst: &mut [u8]) -> (usize, usize)
 {
     let mut read = 0;
     let mut written = 0;
-    while src.len() - read >= HALF_STRIDE && begins_block(src[read]) {
+    while src.len() - read >= HALF_STRIDE
+        && (src.len() - read < STRIDE + SPILL || begins_block(src[read]))
+    {
         let (dense, many) = convert_dense_blocks(&src[read..], &mut dst[written..]);
         read += dense;
         written += many;
-        if read == src.len() || !begins_block(src[read]) {
+        if src.len() - read >= STRIDE + SPILL && !begins_block(src[read]) {
             break;
         }
         let (first, some) = convert_first_sixteen(&src[read..], &mut dst[written..]);
         read += first;
         written += some;
-        if first < HALF_STRIDE {
+        if first == 0 {
             break;
         }
     }

@@ -6,7 +6,7 @@ ghost use Rattle.encoding_definitions.specs.Prefixes.{WritesPrefix};
 ghost use Rattle.encoding_definitions.specs.Utf16.{IsUtf8OfPrefix};
 ghost use Rattle.encoding_kernels.specs.EncodeLanes.{WritesBmp};
 
-use super::mixed::{non_surrogate_prefix, store_mixed, with_zeros};
+use super::mixed::{non_surrogate_prefix, store_mixed, with_zeros, write_mixed};
 use crate::scalar::surrogates::{is_high_surrogate, is_low_surrogate, is_surrogate, pair_scalar};
 use crate::scalar::value::{utf16_length, write_scalar};
 use crate::simd::copy::copy_prefix;
@@ -15,6 +15,9 @@ use std::simd::prelude::*;
 
 /// The scalar value that is written for an unpaired surrogate.
 pub const REPLACEMENT_CHARACTER: u32 = 0xFFFD;
+
+/// The number of bytes that sixteen code units may change, with those that are written back.
+const ROOM: usize = 80;
 
 /// The number of bytes that the blocks of sixteen code units may change after their own.
 pub(super) const SPILL: usize = 16;
@@ -51,8 +54,8 @@ fn first_units(src: &[u16]) -> u16x16
     u16x16::from_array(units)
 }
 
-/// Converts those of the first sixteen code units that precede a surrogate, if they fit. They are converted apart from
-/// `dst`, so that nothing else is stored there.
+/// Converts those of the first sixteen code units that precede a surrogate, if they fit. Near the end of `dst` they are
+/// converted apart from it, so that nothing else is stored there.
 #[tactic(auto, using(crate::proofs::BlockLemmas::writes_none))]
 #[inline(always)]
 pub(super) fn convert_first_sixteen(src: &[u16], dst: &mut [u8]) -> (usize, usize)
@@ -61,8 +64,12 @@ pub(super) fn convert_first_sixteen(src: &[u16], dst: &mut [u8]) -> (usize, usiz
 {
     let units = first_units(src);
     let first = non_surrogate_prefix(units).min(src.len());
+    let lanes = with_zeros(units, first);
+    if dst.len() >= ROOM {
+        return (first, write_mixed(lanes, STRIDE - first, dst));
+    }
     let mut bytes = [0; 64];
-    let stored = store_mixed(with_zeros(units, first), &mut bytes, 0);
+    let stored = store_mixed(lanes, &mut bytes, 0);
     let written = stored - (STRIDE - first);
     if written > dst.len() {
         return (0, 0);

@@ -3,6 +3,7 @@
 ghost use Rattle.std.specs.Prelude.{◌≡◌, ℕ, ◌+◌, ◌-◌, ◌*◌, ◌/◌, ◌%◌, ◌<◌, ◌≤◌, List, ◌++◌, length, take, drop, replicate, slice_index, encode_utf8_all, IsTrue};
 ghost use Rattle.std.specs.Int.RustNames.{count_ones};
 ghost use Rattle.std.specs.Simd.Lanes.{mask_l};
+ghost use Rattle.encoding_definitions.specs.Prefixes.{WritesPrefix};
 ghost use Rattle.encoding_kernels.specs.EncodeLanes.{EncodesLast, Spills, length_classes};
 
 use super::tables::{last_by, select_in_halves};
@@ -141,6 +142,33 @@ pub(super) fn store_mixed(units: u16x16, dst: &mut [u8], at: usize) -> usize
     store_two(dst, at, bytes, count, other, more);
     store_two(dst, at + count + more, next, few, last, rest);
     count + more + few + rest
+}
+
+/// Returns the length of the UTF-8 of sixteen code units.
+#[inline(always)]
+fn length_of_sixteen(units: u16x16) -> usize
+    requires { length units ≡ 16 }
+    ensures count { result ≡ length (encode_utf8_all units) }
+    ensures bounds { (16 ≤ result) × (result ≤ 48) }
+{
+    48 - mask_of_classes(units).count_ones() as usize
+}
+
+/// Writes the UTF-8 of sixteen code units but for its last `zeros` bytes, and returns its length. Bytes after it are
+/// read before the stores and written back.
+#[inline(always)]
+pub(super) fn write_mixed(units: u16x16, zeros: usize, dst: &mut [u8]) -> usize
+    requires dst_length { (length units ≡ 16) × (80 ≤ length dst.old) }
+    requires zeros { zeros ≤ 16 }
+    ensures count { result + zeros ≡ length (encode_utf8_all units) }
+    ensures bound { 16 ≤ result + zeros }
+    ensures written { WritesPrefix dst.old dst.new result (take result (encode_utf8_all units)) }
+{
+    let written = length_of_sixteen(units) - zeros;
+    let following = u8x32::from_slice(&dst[written..]);
+    store_mixed(units, dst, 0);
+    following.copy_to_slice(&mut dst[written..]);
+    written
 }
 
 /// Returns the first `first` of sixteen code units, followed by zeros.

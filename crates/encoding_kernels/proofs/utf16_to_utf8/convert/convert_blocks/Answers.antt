@@ -27,16 +27,16 @@ returns-after-loop-read c =
     let all = c.loop-read.invariant in
     record { prefix = converts_prefix us units all; unchanged_after = converts_unchanged us units all; within = all.within }
 
-pub returns-then-read-src : goal.returns-then-read-src
-returns-then-read-src c =
+pub returns-then-not-begins_block : goal.returns-then-not-begins_block
+returns-then-not-begins_block c =
     let us = c.args.src.now in
     let units : AreCodeUnits us = λ k. omega (arith, c.type_inv.src k) in
     let dense = c.convert_dense_blocks-dense.ensures in
     let all = converts_more us units c.loop-read.invariant dense.prefix dense.unchanged_after dense.within in
     record { prefix = converts_prefix us units all; unchanged_after = converts_unchanged us units all; within = all.within }
 
-pub returns-then-first-lt-HALF_STRIDE : goal.returns-then-first-lt-HALF_STRIDE
-returns-then-first-lt-HALF_STRIDE c =
+pub returns-then-first-eq0 : goal.returns-then-first-eq0
+returns-then-first-eq0 c =
     let us = c.args.src.now in
     let units : AreCodeUnits us = λ k. omega (arith, c.type_inv.src k) in
     let dense = c.convert_dense_blocks-dense.ensures in
