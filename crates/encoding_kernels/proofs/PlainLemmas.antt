@@ -4,7 +4,7 @@ use Rattle.std.specs.Prelude.{nat_lt}
 use Rattle.std.proofs.lemmas.Bool.{cases_lt, eqb-false, ltb-true, lt-ltb}
 use Rattle.std.proofs.lemmas.Bool.Decides.{nat_tests}
 use Rattle.std.proofs.lemmas.List.{take-map, get_or_append_left, get_or-append_right, get_or_past}
-use Rattle.std.proofs.lemmas.Nat.{and_mask}
+use Rattle.std.proofs.lemmas.Nat.{and_mask, ones-le, ones_cat}
 use Rattle.std.proofs.lemmas.Nat.Bits.{and_high_mask}
 use Rattle.std.proofs.lemmas.Simd.{ones-mask_l_cons, get_or-replicate, Each1-get_or, mask_l-lt}
 use Rattle.std.proofs.lemmas.Str.{encode_ascii, encodes-append, encodes-IsAscii}
@@ -126,6 +126,38 @@ last_long at (u ∷ us) =
     let step = long_step at (nat_lt u 0x80) (nat_lt u 0x800) (length_classes us) (3 * length us) (ascii_short u) (last_long (at + 4) us) in
     let count : 3 + 3 * length us ≡ 3 * suc (length us) = omega arith in
     step ∙ count
+
+-- ---- the bits of a mask, by eights
+module _ (mask : ℕ) (small : mask < 0x100000000) where
+  abbrev pub first : ℕ
+  first = count_ones (bit_and mask 0xFF)
+
+  abbrev pub second : ℕ
+  second = count_ones (bit_and (mask / 0x100) 0xFF)
+
+  abbrev pub third : ℕ
+  third = count_ones (bit_and (mask / 0x10000) 0xFF)
+
+  abbrev pub fourth : ℕ
+  fourth = count_ones (mask / 0x1000000)
+
+  pub by_eights : (count_ones (bit_and mask 0xFFFF) ≡ second + first) × (count_ones (bit_and mask 0xFFFFFF) ≡ third + count_ones (bit_and mask 0xFFFF)) × (count_ones mask ≡ fourth + count_ones (bit_and mask 0xFFFFFF))
+  by_eights =
+      let two : bit_and mask 0xFFFF ≡ bit_and (mask / 0x100) 0xFF * 2 ^ 8 + bit_and mask 0xFF = omega (arith, and_mask mask 16, and_mask mask 8, and_mask (mask / 0x100) 8) in
+      let three : bit_and mask 0xFFFFFF ≡ bit_and (mask / 0x10000) 0xFF * 2 ^ 16 + bit_and mask 0xFFFF = omega (arith, and_mask mask 24, and_mask mask 16, and_mask (mask / 0x10000) 8) in
+      let four : mask ≡ mask / 0x1000000 * 2 ^ 24 + bit_and mask 0xFFFFFF = omega (arith, and_mask mask 24) in (
+        ap count_ones two ∙ ones_cat 8 (bit_and (mask / 0x100) 0xFF) (bit_and mask 0xFF) (omega (arith, and_mask mask 8)),
+        ap count_ones three ∙ ones_cat 16 (bit_and (mask / 0x10000) 0xFF) (bit_and mask 0xFFFF) (omega (arith, and_mask mask 16)),
+        ap count_ones four ∙ ones_cat 24 (mask / 0x1000000) (bit_and mask 0xFFFFFF) (omega (arith, and_mask mask 24)),
+      )
+
+  pub few_each : (first ≤ 8) × (second ≤ 8) × (third ≤ 8) × (fourth ≤ 8)
+  few_each = (
+    ones-le 8 (bit_and mask 0xFF) (omega (arith, and_mask mask 8)),
+    ones-le 8 (bit_and (mask / 0x100) 0xFF) (omega (arith, and_mask (mask / 0x100) 8)),
+    ones-le 8 (bit_and (mask / 0x10000) 0xFF) (omega (arith, and_mask (mask / 0x10000) 8)),
+    ones-le 8 (mask / 0x1000000) (omega arith),
+  )
 
 -- ---- the bytes at these indices
 last_step : (get : ℕ → ℕ) (at : ℕ) (a s : Bool) (ks spelled rest : List ℕ)

@@ -36,13 +36,11 @@ spills_then a b c at n m s t xs ys p q due =
       long = q.long ∙ p.long;
     }
 
-pub spills_both : (old mid new : List ℕ) (at n m k l : ℕ) (xs ys out : List ℕ) → Spills old mid at (n + m) 16 xs → Spills mid new (at + n + m) (k + l) 16 ys → xs ++ ys ≡ out
-    → Spills old new at (n + m + k + l) 16 out
-spills_both old mid new at n m k l xs ys out p q e =
-    let place : at + n + m ≡ at + (n + m) = omega arith in
-    let all : n + m + (k + l) ≡ n + m + k + l = omega arith in
-    let both = spills_then old mid new at (n + m) (k + l) 16 16 xs ys p (subst (λ j. Spills mid new j (k + l) 16 ys) place q) (omega arith) in
-    subst (λ j. Spills old new at j 16 out) all (subst (Spills old new at (n + m + (k + l)) 16) e both)
+pub spills_both : (old mid new : List ℕ) (at n place m all : ℕ) (xs ys out : List ℕ) → Spills old mid at n 16 xs → Spills mid new place m 16 ys → place ≡ at + n → n + m ≡ all → xs ++ ys ≡ out
+    → Spills old new at all 16 out
+spills_both old mid new at n place m all xs ys out p q here count e =
+    let both = spills_then old mid new at n m 16 16 xs ys p (subst (λ j. Spills mid new j m 16 ys) here q) (omega arith) in
+    subst (λ j. Spills old new at j 16 out) count (subst (Spills old new at (n + m) 16) e both)
 
 -- the first `count` of n bytes at the start, if what may have changed after them is written back
 pub spills_kept : (old mid out : List ℕ) (n count : ℕ) → Spills old mid 0 n 16 out → count ≤ n → n ≤ count + 16 → count + 32 ≤ length old

@@ -2,6 +2,7 @@
 
 ghost use Rattle.std.specs.Prelude.{◌≡◌, ℕ, ◌+◌, ◌-◌, ◌*◌, ◌/◌, ◌%◌, ◌<◌, ◌≤◌, List, ◌++◌, length, take, drop, replicate, slice_index, encode_utf8_all, IsTrue};
 ghost use Rattle.std.specs.Int.RustNames.{count_ones};
+ghost use Rattle.std.specs.Int.Bits.{bit_and};
 ghost use Rattle.std.specs.Simd.Lanes.{mask_l};
 ghost use Rattle.encoding_definitions.specs.Prefixes.{WritesPrefix};
 ghost use Rattle.encoding_kernels.specs.EncodeLanes.{EncodesLast, Spills, length_classes};
@@ -112,14 +113,24 @@ fn encode_twice_four(bytes: u8x32, first: usize, second: usize) -> (u8x16, u8x16
     select_in_halves(bytes, last_by(first), last_by(second))
 }
 
-/// Returns the length of the UTF-8 of four code units, by the mask of their classes.
+/// Returns the lengths of the UTF-8 of the first four, eight, twelve and all of sixteen code units, by the mask of their
+/// classes. Each is counted apart, so that none waits for another.
 #[inline(always)]
-fn length_of_four(mask: usize) -> usize
-    requires { mask < 0x100 }
-    ensures count { result ≡ 12 - count_ones mask }
-    ensures bounds { (4 ≤ result) × (result ≤ 12) }
+fn lengths_by(mask: usize) -> (usize, usize, usize, usize)
+    requires { mask < 0x100000000 }
+    ensures first { result.0 ≡ 12 - count_ones (bit_and mask 0xFF) }
+    ensures second { result.1 ≡ result.0 + (12 - count_ones (bit_and (mask / 0x100) 0xFF)) }
+    ensures third { result.2 ≡ result.1 + (12 - count_ones (bit_and (mask / 0x10000) 0xFF)) }
+    ensures fourth { result.3 ≡ result.2 + (12 - count_ones (mask / 0x1000000)) }
+    ensures bounds { (4 ≤ result.0) × (result.0 ≤ 12) × (result.0 + 4 ≤ result.1) × (result.1 ≤ result.0 + 12)
+        × (result.1 + 4 ≤ result.2) × (result.2 ≤ result.1 + 12) × (result.2 + 4 ≤ result.3) × (result.3 ≤ result.2 + 12) }
 {
-    12 - mask.count_ones() as usize
+    (
+        12 - (mask & 0xFF).count_ones() as usize,
+        24 - (mask & 0xFFFF).count_ones() as usize,
+        36 - (mask & 0xFF_FFFF).count_ones() as usize,
+        48 - mask.count_ones() as usize,
+    )
 }
 
 /// Stores the UTF-8 of sixteen code units, and returns its length.
@@ -135,13 +146,10 @@ pub(super) fn store_mixed(units: u16x16, dst: &mut [u8], at: usize) -> usize
     let (lanes, others) = four_bytes(units);
     let (bytes, next) = encode_twice_four(lanes, first, third);
     let (other, last) = encode_twice_four(others, second, fourth);
-    let count = length_of_four(first);
-    let more = length_of_four(second);
-    let few = length_of_four(third);
-    let rest = length_of_four(fourth);
-    store_two(dst, at, bytes, count, other, more);
-    store_two(dst, at + count + more, next, few, last, rest);
-    count + more + few + rest
+    let (four, eight, twelve, all) = lengths_by(mask);
+    store_two(dst, at, bytes, four, other, eight - four);
+    store_two(dst, at + eight, next, twelve - eight, last, all - twelve);
+    all
 }
 
 /// Returns the length of the UTF-8 of sixteen code units.
