@@ -261,6 +261,36 @@ fn units_at_each_place() {
     assert_eq!(count, 5 * 11);
 }
 
+/// How many code units of one kind in a row end a run of blocks.
+const RUNS: [usize; 4] = [32, 96, 128, 384];
+
+/// The fillers' most units before or after such a number.
+const NEAR: usize = 17;
+
+/// How much longer than its text a destination is.
+const ROOMS: [usize; 4] = [0, 15, 79, 900];
+
+#[test]
+fn units_around_runs() {
+    let fillers: Vec<Item<u16, u8>> = items(UNIT_FILLERS);
+    let mut dst = [0x71; 3600];
+    for first in &fillers {
+        for second in &fillers {
+            for count in RUNS.into_iter().flat_map(|run| run - NEAR..=run + NEAR) {
+                let times = count.div_ceil(first.read.len());
+                let units = [first.read.repeat(times), second.read.repeat(NEAR)].concat();
+                let bytes = [first.written.repeat(times), second.written.repeat(NEAR)].concat();
+                for room in ROOMS {
+                    let answer = convert_utf16_to_utf8_partial(&units, &mut dst[..bytes.len() + room]);
+                    assert_eq!(answer, (units.len(), bytes.len()));
+                    assert_written(&bytes, 0, &dst);
+                    dst[..bytes.len()].fill(0x71);
+                }
+            }
+        }
+    }
+}
+
 /// Bytes as characters that surround another, and their UTF-8.
 const LATIN1_FILLERS: &str = "\
 61 | 61
