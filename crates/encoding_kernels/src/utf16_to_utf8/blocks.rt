@@ -64,7 +64,7 @@ impl Block for ThreeByte {
     }
 }
 
-/// Blocks that aren't ASCII.
+/// Blocks of any code units but ASCII alone and surrogates.
 pub(super) struct Mixed;
 
 impl Block for Mixed {
@@ -77,9 +77,9 @@ impl Block for Mixed {
     }
 }
 
-/// Converts at most `most` code units from the start of `src`, while each sixteen are a block of the kind and sixteen more
-/// follow. `due` is how many bytes the caller may have changed at the start of `dst`. Returns how many code units were read, how many bytes
-/// were written, and how many after these may have been changed: the next sixteen code units overwrite these.
+/// Converts at most `most` code units from the start of `src`, while each sixteen are a block of the kind and sixteen
+/// more follow. At the start of `dst`, `due` bytes are still to be overwritten. Returns how many code units it read,
+/// how many bytes it wrote, and how many bytes after these are still to be overwritten, as sixteen code units do.
 #[inline(always)]
 pub(super) fn convert_run<T: Block>(
     block: &T,

@@ -23,8 +23,8 @@ const TWO_BYTE_RUN: usize = 6 * STRIDE;
 /// The most code units of any kind that are converted before the next test for one kind.
 const MIXED_RUN: usize = 8 * STRIDE;
 
-/// Converts blocks from the start of `src`, until many in a row are ASCII or of three bytes each, or one has a surrogate,
-/// or the end is near.
+/// Converts blocks from the start of `src`, until many in a row are ASCII or have three bytes for each unit, or one has
+/// a surrogate, or the end is near. `due` and the last number returned are as for `convert_run`.
 #[inline(always)]
 fn convert_any_blocks(src: &[u16], dst: &mut [u8], due: usize) -> (usize, usize, usize)
     requires dst_length { 3 * length src.now ≤ length dst.old }
@@ -77,7 +77,7 @@ fn convert_any_blocks(src: &[u16], dst: &mut [u8], due: usize) -> (usize, usize,
     (read, written, spilled)
 }
 
-/// Converts blocks of code units of three bytes each from the start of `src`.
+/// Converts blocks of code units from U+0800 on from the start of `src`.
 #[inline(never)]
 fn convert_three_byte_blocks(src: &[u16], dst: &mut [u8], due: usize) -> (usize, usize, usize)
     requires dst_length { 3 * length src.now ≤ length dst.old }
@@ -87,8 +87,8 @@ fn convert_three_byte_blocks(src: &[u16], dst: &mut [u8], due: usize) -> (usize,
     convert_run(&ThreeByte, src, dst, due, src.len())
 }
 
-/// Converts blocks of sixteen code units from the start of `src`, until many in a row are ASCII, or one has a surrogate, or
-/// the end is near.
+/// Converts blocks from the start of `src`, until many in a row are ASCII, or one has a surrogate, or the end is near.
+/// Also returns how many bytes after its own are still to be overwritten.
 #[inline(always)]
 fn convert_due_blocks(src: &[u16], dst: &mut [u8]) -> (usize, usize, usize)
     requires dst_length { 3 * length src.now ≤ length dst.old }
@@ -144,8 +144,8 @@ fn begins_block(unit: u16) -> bool
     unit >= BASIC_LATIN_END && !is_surrogate(unit)
 }
 
-/// Converts blocks of code units from the start of `src`, until ASCII or a surrogate is next. Returns how many code
-/// units it read and how many bytes it wrote. The rest of `dst` is unchanged.
+/// Converts blocks of code units from the start of `src`, until ASCII or a surrogate is next. The last 31 units may
+/// be ASCII. Returns how many code units it read and how many bytes it wrote. The rest of `dst` is unchanged.
 pub fn convert_blocks(src: &[u16], dst: &mut [u8]) -> (usize, usize)
     ensures prefix { IsUtf8OfPrefix src.now result.0 (take result.1 dst.new) }
     ensures unchanged_after { WritesPrefix dst.old dst.new result.1 (take result.1 dst.new) }

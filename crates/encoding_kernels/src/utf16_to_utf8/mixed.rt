@@ -113,8 +113,8 @@ fn encode_twice_four(bytes: u8x32, first: usize, second: usize) -> (u8x16, u8x16
     select_in_halves(bytes, last_by(first), last_by(second))
 }
 
-/// Returns the lengths of the UTF-8 of the first four, eight, twelve and all of sixteen code units, by the mask of their
-/// classes. Each is counted apart, so that none waits for another.
+/// Returns the lengths of the UTF-8 of the first four, eight, twelve and all of sixteen code units, by the mask of
+/// their classes. Each is counted apart, so that none waits for another.
 #[inline(always)]
 fn lengths_by(mask: usize) -> (usize, usize, usize, usize)
     requires { mask < 0x100000000 }
@@ -123,7 +123,8 @@ fn lengths_by(mask: usize) -> (usize, usize, usize, usize)
     ensures third { result.2 ≡ result.1 + (12 - count_ones (bit_and (mask / 0x10000) 0xFF)) }
     ensures fourth { result.3 ≡ result.2 + (12 - count_ones (mask / 0x1000000)) }
     ensures bounds { (4 ≤ result.0) × (result.0 ≤ 12) × (result.0 + 4 ≤ result.1) × (result.1 ≤ result.0 + 12)
-        × (result.1 + 4 ≤ result.2) × (result.2 ≤ result.1 + 12) × (result.2 + 4 ≤ result.3) × (result.3 ≤ result.2 + 12) }
+        × (result.1 + 4 ≤ result.2) × (result.2 ≤ result.1 + 12)
+        × (result.2 + 4 ≤ result.3) × (result.3 ≤ result.2 + 12) }
 {
     (
         12 - (mask & 0xFF).count_ones() as usize,
