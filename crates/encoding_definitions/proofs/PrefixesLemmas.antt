@@ -85,6 +85,14 @@ module _ {A : Type 0} where
             ∙ ap (λ ys. ys ++ drop (at + m) old) (sym (take-add at m xs));
       }
 
+  -- more was written over a prefix that was written before
+  pub WritesPrefix_over : (old new after : List A) (n m : ℕ) (out other : List A) → WritesPrefix old new n out → WritesPrefix new after m other → n ≤ m → WritesPrefix old after m other
+  WritesPrefix_over old new after n m out other w v l = record {
+    count = v.count;
+    fits = omega (arith, v.fits, WritesPrefix-length old new n out w);
+    placed = v.placed ∙ ap (λ xs. other ++ xs) (ap (drop m) w.placed ∙ drop-append-drop n old out m l (sym w.count));
+  }
+
   -- a call wrote into the rest of the destination
   pub WritesPrefix_after : (old new : List A) (n : ℕ) (out sub : List A) (m : ℕ) (more : List A) → WritesPrefix old new n out
       → WritesPrefix (take (length new - n) (drop n new)) sub m more → WritesPrefix old (put_mid n (length new - n) new sub) (n + m) (out ++ more)

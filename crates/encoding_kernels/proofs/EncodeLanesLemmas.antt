@@ -20,7 +20,7 @@ use Rattle.encoding_kernels.proofs.TestLemmas.{chosen_by, tests_of}
 use Rattle.encoding_kernels.proofs.WordLemmas.{bytes_of_sixteen, sixteen_lanes}
 
 -- ---- how many indices are kept
-ones-none : count_ones 0 ≡ 0
+pub ones-none : count_ones 0 ≡ 0
 unfolding count_ones
 ones-none = refl
 

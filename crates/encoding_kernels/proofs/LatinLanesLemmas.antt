@@ -1,20 +1,23 @@
 -- The UTF-8 of sixteen bytes of Latin1: both bytes of each, and which of them are kept.
-use Rattle.std.proofs.Common.{◌≡◌, ℕ, ◌+◌, ◌*◌, ◌/◌, ◌%◌, ◌^◌, ◌<◌, Bool, cond, leb, List, ◌++◌, map, length, take, drop, get_or, get_or-take, get_or-drop, length-drop, length-take-le, encode_utf8_all, bit_and, replicate, sym, ap, ◌∙◌, arith, subst, w8}
+use Rattle.std.proofs.Common.{◌≡◌, ℕ, suc, ◌+◌, ◌-◌, ◌*◌, ◌/◌, ◌%◌, ◌^◌, ◌<◌, ◌≤◌, inl, inr, Bool, cond, leb, List, [], ◌∷◌, ◌++◌, map, length, take, drop, get_or, get_or-take, get_or-drop, append-nil, length-append, length-drop, length-take-le, encode_utf8, encode_utf8_all, bit_and, replicate, sym, ap, ◌∙◌, arith, subst, w8}
 use Rattle.std.specs.Prelude.{nat_le}
 use Rattle.std.proofs.lemmas.Bool.Decides.{nat_tests}
 use Rattle.std.proofs.lemmas.List.{length-map, take-map, drop-map, take-append-drop}
-use Rattle.std.proofs.lemmas.Nat.{and_mask}
-use Rattle.std.proofs.lemmas.Simd.{mask_l-lt}
+use Rattle.std.proofs.lemmas.Nat.{and_mask, one_shl}
+use Rattle.std.proofs.lemmas.Bool.{cases_lt}
+use Rattle.std.proofs.lemmas.Simd.{mask_l-lt, ones-mask_l_cons}
+use Rattle.std.specs.Int.RustNames.{count_ones}
 use Rattle.std.proofs.lemmas.Str.{encode_ascii, encodes-append}
 use Rattle.std.proofs.str.Laws.{two}
 use Rattle.std.specs.Simd.Lanes.{mask_l, top, zip2, sel_l}
 use mir.Syntax.{w8}
 use Rattle.encoding_kernels.specs.Scans.{HasLanes}
 use Rattle.encoding_kernels.specs.EncodeLanes.{EncodesTo, kept_places}
-use Rattle.encoding_kernels.proofs.CompressLemmas.{low_half, high_half}
+use Rattle.encoding_kernels.proofs.AsciiLemmas.{Each-take}
+use Rattle.encoding_kernels.proofs.CompressLemmas.{low_half, high_half, mask_prefix}
 use Rattle.encoding_kernels.proofs.LaneLemmas.{HasLanes-itself, HasLanes-splat, HasLanes-zip2, HasLanes_same, compared}
 use Rattle.encoding_kernels.proofs.TestLemmas.{chosen_by, tests_of}
-use Rattle.encoding_kernels.proofs.EncodeLanesLemmas.{respell, spelled_short}
+use Rattle.encoding_kernels.proofs.EncodeLanesLemmas.{ones-none, respell, spelled_short}
 use Rattle.encoding_kernels.proofs.WordLemmas.{bytes_of, bytes_lanes}
 
 -- ---- one byte
@@ -82,3 +85,26 @@ module _ (v : List ℕ) (long : length v ≡ 16) (others : ℕ) (is : others ≡
       let back = keeps (map (nat_le 0x80) (drop 8 v)) (length-map (drop 8 v) (nat_le 0x80) ∙ high_long) high_others
       ∙ spelled_short (drop 8 v) high high_long (λ k l. subst (λ b. EncodesTo b (get_or high (2 * k) 0) (get_or high (2 * k + 1) 0)) (sym (get_or-drop 8 v k 0)) (q k l)) in
       (λ i. prefix i ++ back i) ∙ sym (encodes-append (take 8 v) (drop 8 v)) ∙ ap encode_utf8_all (take-append-drop 8 v)
+
+-- ---- how long the UTF-8 is
+latin_long : (bs : List ℕ) → ((k : ℕ) → get_or bs k 0 < 0x100) → length (encode_utf8_all bs) ≡ length bs + count_ones (mask_l (map (nat_le 0x80) bs))
+latin_long [] small = omega (arith, ones-none)
+latin_long (b ∷ bs) small =
+    let rest = latin_long bs (λ k. small (suc k)) in
+    let ones = ones-mask_l_cons (nat_le 0x80 b) (map (nat_le 0x80) bs) in
+    let long = length-append (encode_utf8 b) (encode_utf8_all bs) in
+    elim (cases_lt b 0x80) [
+      | inl l ↦ grind (arith, nat_tests, rest, ones, long, ap length (encode_ascii b l))
+      | inr l ↦ grind (arith, nat_tests, rest, ones, long, ap length (two b l (omega (arith, small 0))))
+    ]
+
+-- the UTF-8 of the first bytes, given the mask of those that are not ASCII
+pub latin_first_long : (v : List ℕ) (others e : ℕ) → length v ≡ 16 → ((k : ℕ) → k < 16 → get_or v k 0 < 0x100) → others ≡ mask_l (map (nat_le 0x80) v) → e ≤ 16
+    → e + count_ones (bit_and others (1 * 2 ^ e % 2 ^ 64 - 1)) ≡ length (encode_utf8_all (take e v))
+latin_first_long v others e long small is within =
+    let tests = map (nat_le 0x80) v in
+    let first : bit_and (mask_l tests) (2 ^ e - 1) ≡ mask_l (map (nat_le 0x80) (take e v)) =
+    mask_prefix tests 0 e (omega (arith, length-map v (nat_le 0x80))) ∙ ap mask_l (append-nil (take e tests) ∙ take-map (nat_le 0x80) e v) in
+    let mask : bit_and others (1 * 2 ^ e % 2 ^ 64 - 1) ≡ mask_l (map (nat_le 0x80) (take e v)) = (λ i. bit_and (is i) (one_shl e 64 (omega arith) i - 1)) ∙ first in
+    let each = latin_long (take e v) (Each-take (λ b. b < 0x100) (omega arith) v e (λ k l. small k (omega arith))) in
+    omega (arith, ap count_ones mask, each, length-take-le e v (omega (arith, long)))

@@ -7,6 +7,7 @@ use Rattle.std.proofs.lemmas.Bool.{cases_lt}
 use Rattle.std.proofs.lemmas.Grind.{common_steps}
 use Rattle.std.proofs.lemmas.List.{append-nil, length-append, length-map, length-drop, length-take, length-take-le, get_or-drop, get_or-take, get_or_past, drop-drop, take_all, take_more, take_rest, drop_more, take-append-drop, map_more, map-append}
 use Rattle.std.proofs.lemmas.Str.{length-le-encodes, encodes-append, encode_ascii, encodes-IsAscii, chars-IsAscii, chars-append, IsUtf8-from_ascii}
+use Rattle.std.proofs.Math.Seq.{drop-append_seam, take-append_seam}
 use borrow.Rule.Slice.PartMut.{put_mid}
 use Rattle.encoding_definitions.proofs.EncodingLemmas.{flat_map-encode_utf8}
 use Rattle.encoding_definitions.specs.Prefixes.{IsLongestFittingPrefix, WritesPrefix}
@@ -16,7 +17,8 @@ use Rattle.std.specs.Simd.Lanes.{chunk}
 use Rattle.std.proofs.lemmas.Simd.{length-chunk}
 use Rattle.encoding_kernels.proofs.EndedLemmas.{GoesOnWith, NextIs, Splits, nexts, splits, ended_without}
 use Rattle.encoding_kernels.proofs.AsciiLemmas.{Each-take, Each-at}
-use Rattle.encoding_definitions.proofs.PrefixesLemmas.{IsLongestFittingPrefix-stop, IsLongestFittingPrefix-all, WritesPrefix-length, WritesPrefix_push, WritesPrefix_after, WritesPrefix_put, WritesPrefix-same}
+use Rattle.encoding_kernels.proofs.UnitBlocksLemmas.{ascii_left, written_left}
+use Rattle.encoding_definitions.proofs.PrefixesLemmas.{IsLongestFittingPrefix-stop, IsLongestFittingPrefix-all, WritesPrefix-length, WritesPrefix_again, WritesPrefix_push, WritesPrefix_push_two, WritesPrefix_after, WritesPrefix_put, WritesPrefix-same}
 use Rattle.encoding_text.proofs.WholePrefixesLemmas.{other_after}
 use Rattle.encoding_definitions.proofs.Latin1Lemmas.{IsLatin1-following, next_of_one, next_of_two, split_prefix, scalars_of_latin1}
 
@@ -248,3 +250,49 @@ module _ (src cs old new after : List ℕ) (i j m k : ℕ) (low : IsLatin1 cs) (
         WritesPrefix-same _ _ _ _ _ _ (WritesPrefix_put old new after j m (take j cs) (take m bytes) w (sym (length-take-le m bytes many)) room put) refl
             (ap (λ xs. take j cs ++ xs) part ∙ sym (take-add j m cs)),
       )
+
+-- ---- the last bytes as one block, whose first ones are written again
+module _ (src : List ℕ) (read last : ℕ) (long : last + 16 ≡ length src) (first : last ≤ read) where
+  last_block : chunk last 16 src ≡ drop last src
+  last_block = take_all 16 (drop last src) (omega (arith, length-drop last src))
+
+  -- the bytes before the block, and those of it that were written
+  again_cut : encode_utf8_all (take read src) ≡ encode_utf8_all (take last src) ++ encode_utf8_all (take (read - last) (chunk last 16 src))
+  again_cut =
+      let sum : last + (read - last) ≡ read = omega arith in
+      ap (λ n. encode_utf8_all (take n src)) (sym sum) ∙ ap encode_utf8_all (take-add last (read - last) src) ∙ encodes-append (take last src) (take (read - last) (drop last src))
+      ∙ ap (λ xs. encode_utf8_all (take last src) ++ encode_utf8_all (take (read - last) xs)) (sym last_block)
+
+  pub again_counted : length (encode_utf8_all (take read src)) ≡ length (encode_utf8_all (take last src)) + length (encode_utf8_all (take (read - last) (chunk last 16 src)))
+  again_counted = ap length again_cut ∙ length-append (encode_utf8_all (take last src)) (encode_utf8_all (take (read - last) (chunk last 16 src)))
+
+  pub latin1_again : (old new after : List ℕ) (written at m : ℕ) → WritesPrefix old new written (encode_utf8_all (take read src)) → at ≡ length (encode_utf8_all (take last src)) → m ≡ length (encode_utf8_all (chunk last 16 src))
+      → at + m ≤ length new → after ≡ take at new ++ (encode_utf8_all (chunk last 16 src) ++ drop (at + m) new) → WritesPrefix old after (at + m) (encode_utf8_all src)
+  latin1_again old new after written at m w before count room put =
+      let out = encode_utf8_all src in
+      let block = encode_utf8_all (chunk last 16 src) in
+      let spelled : (n : ℕ) → encode_utf8_all (take n src) ++ encode_utf8_all (drop n src) ≡ out = λ n. sym (encodes-append (take n src) (drop n src)) ∙ ap encode_utf8_all (take-append-drop n src) in
+      let rest : drop at out ≡ block = ap (λ n. drop n out) before ∙ ap (drop (length (encode_utf8_all (take last src)))) (sym (spelled last)) ∙ drop-append_seam (encode_utf8_all (take last src)) _ ∙ ap encode_utf8_all (sym last_block) in
+      let size : length out ≡ at + m = omega (arith, ap length (spelled last), length-append (encode_utf8_all (take last src)) (encode_utf8_all (drop last src)), ap (λ xs. length (encode_utf8_all xs)) last_block) in
+      let prefix : encode_utf8_all (take read src) ≡ take written out = sym (ap (λ n. take n out) w.count ∙ ap (take (length (encode_utf8_all (take read src)))) (sym (spelled read)) ∙ take-append_seam (encode_utf8_all (take read src)) _) in
+      let again = WritesPrefix_again old new after out written at m (WritesPrefix-same _ _ _ _ _ _ w refl prefix) (omega (arith, w.count, again_counted)) (omega (arith, size, w.count, ap length prefix, length-take written out)) (omega (arith, size)) room
+      (put ∙ ap (λ xs. take at new ++ (xs ++ drop (at + m) new)) (sym (ap (take m) rest ∙ take_all m block (omega arith)))) in
+      WritesPrefix-same _ _ _ _ _ _ again refl (take_all (at + m) out (omega (arith, size)))
+
+-- ---- a turn: an ASCII prefix of what is left, a character of two bytes, and blocks
+module _ (xs : List ℕ) (small : (i : ℕ) → slice_index xs i < 256) (at to n : ℕ) (old new sub : List ℕ) (w : WritesPrefix old new to (encode_utf8_all (take at xs)))
+    (ascii : IsAscii (take n (take (length xs - at) (drop at xs)))) (copied : WritesPrefix (take (length new - to) (drop to new)) sub n (take n (take (length xs - at) (drop at xs))))
+    (inside : at + n < length xs) (room : to + n + 1 < length (put_mid to (length new - to) new sub))
+    (stops : n < length (take (length xs - at) (drop at xs)) → n < length (take (length new - to) (drop to new)) → 0x80 ≤ slice_index (take (length xs - at) (drop at xs)) n) where
+  abbrev turn_two : List ℕ
+  turn_two = set (set (put_mid to (length new - to) new sub) (to + n) (bit_or 0xC0 (slice_index xs (at + n) / 64))) (to + n + 1) (bit_or 0x80 (bit_and (slice_index xs (at + n)) 0x3F))
+
+  pub latin1_turn : (m k : ℕ) (blocks : List ℕ) → WritesPrefix (take (length turn_two - (to + n + 2)) (drop (to + n + 2) turn_two)) blocks k (encode_utf8_all (take m (take (length xs - (at + n + 1)) (drop (at + n + 1) xs))))
+      → WritesPrefix old (put_mid (to + n + 2) (length turn_two - (to + n + 2)) turn_two blocks) (to + n + 2 + k) (encode_utf8_all (take (at + n + 1 + m) xs))
+  latin1_turn m k blocks v =
+      let prefix = ascii_left xs at n w ascii copied in
+      let b = slice_index xs (at + n) in
+      let other = other_after xs new at to n inside (omega (arith, WritesPrefix-length _ _ _ _ w, WritesPrefix-length _ _ _ _ prefix)) stops in
+      let two = latin1_bytes_two b other (small (at + n)) in
+      let more : WritesPrefix old turn_two (to + n + 2) (encode_utf8_all (take (at + n + 1) xs)) = rw (latin1_more xs (at + n) inside, two) (WritesPrefix_push_two _ _ _ _ (bit_or 0xC0 (b / 64)) (bit_or 0x80 (bit_and b 0x3F)) prefix room) in
+      written_left xs (at + n + 1) m more v

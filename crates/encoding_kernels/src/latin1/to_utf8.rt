@@ -48,3 +48,13 @@ pub fn write_latin1(block: u8x16, dst: &mut [u8], at: usize) -> usize
     write_both(dst, at, first, count, second, more);
     count + more
 }
+
+/// Returns the length of the UTF-8 of the first `count` of sixteen bytes of Latin1.
+#[inline(always)]
+pub fn utf8_length_of_first(block: u8x16, count: usize) -> usize
+    requires { count ≤ 16 }
+    ensures { result ≡ length (encode_utf8_all (take count block)) }
+{
+    let others = mask_of_others(block) & ((1 << count) - 1);
+    count + others.count_ones() as usize
+}

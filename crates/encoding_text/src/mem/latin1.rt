@@ -1,7 +1,7 @@
 //! Conversions from and to Latin1, in which each byte is the scalar value of its character. Infra Standard: isomorphic
 //! decode and encode. A conversion leaves the rest of `dst` unchanged.
 
-ghost use Rattle.std.specs.Prelude.{◌≡◌, ◌+◌, ◌*◌, ◌%◌, ◌<◌, ◌≤◌, ◌⊎◌, [], ◌∷◌, take, length, map, slice_index, encode_utf8, encode_utf8_all, IsTrue};
+ghost use Rattle.std.specs.Prelude.{◌≡◌, ◌+◌, ◌*◌, ◌%◌, ◌<◌, ◌≤◌, ◌⊎◌, ℕ, List, [], ◌∷◌, take, length, map, slice_index, encode_utf8, encode_utf8_all, IfSome, IfNone, IsTrue};
 ghost use Rattle.std.specs.Str.{IsAscii, chars};
 ghost use Rattle.encoding_definitions.specs.Prefixes.{IsLongestFittingPrefix, WritesPrefix};
 ghost use Rattle.encoding_definitions.specs.Latin1.{IsUtf8Latin1};
@@ -10,7 +10,7 @@ ghost use Rattle.encoding_kernels.specs.Scans.{AllBelow};
 use crate::ascii;
 use encoding_kernels::ascii::copy::unpack_part;
 use encoding_kernels::latin1::from_utf8::latin1_of;
-use encoding_kernels::latin1::to_utf8::write_latin1;
+use encoding_kernels::latin1::to_utf8::{utf8_length_of_first, write_latin1};
 use encoding_kernels::simd::bounds::are_bytes_below;
 use encoding_kernels::simd::copy::{pack_lower, write_first};
 use encoding_kernels::simd::width::{ASCII_END, BLOCK, STRIDE};
@@ -39,10 +39,9 @@ pub fn convert_latin1_to_utf16(src: &[u8], dst: &mut [u16])
     }
 }
 
-/// Copies the longest ASCII prefix that fits, and returns its length. Out of line, so that the loops over blocks keep
-/// their constants in registers.
-#[inline(never)]
-fn copy_ascii(src: &[u8], dst: &mut [u8]) -> usize
+/// Copies the longest ASCII prefix that fits, and returns its length.
+#[inline(always)]
+fn copy_first_ascii(src: &[u8], dst: &mut [u8]) -> usize
     ensures within { (result ≤ length src.now) × (result ≤ length dst.old) }
     ensures ascii { IsAscii (take result src.now) }
     ensures stops { result < length src.now → result < length dst.old → 0x80 ≤ slice_index src.now result }
@@ -52,6 +51,32 @@ fn copy_ascii(src: &[u8], dst: &mut [u8]) -> usize
         Some((_, place)) => place,
         None => src.len().min(dst.len()),
     }
+}
+
+/// Copies the longest ASCII prefix that fits, and returns its length. Out of line, so that the loops over blocks keep
+/// their constants in registers.
+#[inline(never)]
+fn copy_some_ascii(src: &[u8], dst: &mut [u8]) -> usize
+    ensures within { (result ≤ length src.now) × (result ≤ length dst.old) }
+    ensures ascii { IsAscii (take result src.now) }
+    ensures stops { result < length src.now → result < length dst.old → 0x80 ≤ slice_index src.now result }
+    ensures copied { WritesPrefix dst.old dst.new result (take result src.now) }
+{
+    copy_first_ascii(src, dst)
+}
+
+/// Copies the longest ASCII prefix that fits, and returns its length.
+#[inline(always)]
+fn copy_ascii(src: &[u8], dst: &mut [u8]) -> usize
+    ensures within { (result ≤ length src.now) × (result ≤ length dst.old) }
+    ensures ascii { IsAscii (take result src.now) }
+    ensures stops { result < length src.now → result < length dst.old → 0x80 ≤ slice_index src.now result }
+    ensures copied { WritesPrefix dst.old dst.new result (take result src.now) }
+{
+    if !src.is_empty() && src[0] >= ASCII_END {
+        return 0;
+    }
+    copy_some_ascii(src, dst)
 }
 
 /// Returns whether the next bytes are ASCII: 64, or 16 if fewer than 64 are left.
@@ -67,8 +92,8 @@ fn are_next_ascii(src: &[u8], at: usize) -> bool
     }
 }
 
-/// Writes the UTF-8 of blocks of 16 bytes, until the next ones are ASCII: 64, or 16 near the end. Returns how many bytes
-/// it read and how many it wrote.
+/// Writes the UTF-8 of blocks of 16 bytes, until the next 64 bytes are ASCII. Returns how many bytes it read and how many
+/// it wrote. In the last 64 bytes ASCII ends no blocks, since they would soon be over.
 #[inline(always)]
 fn convert_latin1_blocks(src: &[u8], dst: &mut [u8]) -> (usize, usize)
     ensures within { result.0 ≤ length src.now }
@@ -86,25 +111,45 @@ fn convert_latin1_blocks(src: &[u8], dst: &mut [u8]) -> (usize, usize)
             read += STRIDE;
         }
     }
-    while src.len() - read >= STRIDE
-        && dst.len() - written >= 2 * STRIDE
-        && !are_bytes_below::<STRIDE>(src, read, ASCII_END)
-    {
+    while src.len() - read >= STRIDE && dst.len() - written >= 2 * STRIDE {
         written += write_latin1(u8x16::from_slice(&src[read..]), dst, written);
         read += STRIDE;
     }
     (read, written)
 }
 
-/// Writes the UTF-8 of the longest prefix of `src` whose UTF-8 fits into `dst`. Returns how many bytes it read and how
-/// many it wrote. Encoding Standard, `encodeInto`.
-pub fn convert_latin1_to_utf8_partial(src: &[u8], dst: &mut [u8]) -> (usize, usize)
+/// Writes the end of a text of which at most sixteen bytes are left, and returns the length of all, if `dst` has the space
+/// of a block. The last sixteen bytes are one block, whose first ones are written again.
+#[inline(always)]
+fn finish_latin1(src: &[u8], dst: &mut [u8], read: usize, written: usize) -> Option<usize>
+    requires left { (16 ≤ length src.now) × (read ≤ length src.now) × (length src.now ≤ read + 16) }
+    requires counted { (written ≡ length (encode_utf8_all (take read src.now))) × (written ≤ length dst.old) }
+    ensures finished { IfSome result (λ n. (old : List ℕ) → WritesPrefix old dst.old written (encode_utf8_all (take read src.now))
+        → WritesPrefix old dst.new n (encode_utf8_all src.now)) }
+    ensures full { IfNone result (dst.new ≡ dst.old) }
+{
+    let last = src.len() - STRIDE;
+    let block = u8x16::from_slice(&src[last..]);
+    let at = written - utf8_length_of_first(block, read - last);
+    if dst.len() - at < 2 * STRIDE {
+        return None;
+    }
+    Some(at + write_latin1(block, dst, at))
+}
+
+/// Converts Latin1 as `convert_latin1_to_utf8_partial` does, after the first ASCII prefix, which `dst` has already. Out
+/// of line, so that the ASCII before other text needs few registers.
+#[inline(never)]
+fn convert_latin1_turns(src: &[u8], dst: &mut [u8], ascii: usize) -> (usize, usize)
+    requires ascii { (ascii ≤ length src.now) × IsAscii (take ascii src.now) }
+    requires copied { (ascii ≤ length dst.old) × (take ascii dst.old ≡ take ascii src.now) }
     ensures prefix { IsLongestFittingPrefix (λ b. b ∷ []) encode_utf8 src.now (length dst.old) result.0
         (encode_utf8_all (take result.0 src.now)) }
     ensures written { WritesPrefix dst.old dst.new result.1 (encode_utf8_all (take result.0 src.now)) }
+    ensures after_ascii { ascii ≤ result.1 }
 {
-    let mut read = 0;
-    let mut written = 0;
+    let mut read = ascii;
+    let mut written = ascii;
     while read < src.len() {
         let prefix = copy_ascii(&src[read..], &mut dst[written..]);
         read += prefix;
@@ -119,8 +164,28 @@ pub fn convert_latin1_to_utf8_partial(src: &[u8], dst: &mut [u8]) -> (usize, usi
         let (bytes, extra) = convert_latin1_blocks(&src[read..], &mut dst[written..]);
         read += bytes;
         written += extra;
+        if src.len() >= STRIDE && src.len() - read < STRIDE {
+            match finish_latin1(src, dst, read, written) {
+                Some(length) => return (src.len(), length),
+                None => continue,
+            }
+        }
     }
     (read, written)
+}
+
+/// Writes the UTF-8 of the longest prefix of `src` whose UTF-8 fits into `dst`. Returns how many bytes it read and how
+/// many it wrote. Encoding Standard, `encodeInto`.
+pub fn convert_latin1_to_utf8_partial(src: &[u8], dst: &mut [u8]) -> (usize, usize)
+    ensures prefix { IsLongestFittingPrefix (λ b. b ∷ []) encode_utf8 src.now (length dst.old) result.0
+        (encode_utf8_all (take result.0 src.now)) }
+    ensures written { WritesPrefix dst.old dst.new result.1 (encode_utf8_all (take result.0 src.now)) }
+{
+    let ascii = copy_first_ascii(src, dst);
+    if ascii == src.len() {
+        return (ascii, ascii);
+    }
+    convert_latin1_turns(src, dst, ascii)
 }
 
 /// Writes the UTF-8 of each byte as a character, and returns how many bytes it wrote. `dst` is at least twice as long

@@ -1,10 +1,11 @@
 use Rattle.std.proofs.Common.{◌-◌, ◌≤◌, length, take, encode_utf8_all}
 use Rattle.encoding_definitions.specs.Prefixes.{WritesPrefix}
-use Rattle.encoding_text.proofs.mem.latin1.convert_latin1_to_utf8_partial.Given as goal
+use Rattle.encoding_text.proofs.mem.latin1.convert_latin1_turns.Given as goal
 
 abbrev pub invariant-loop-read : goal.invariant-loop-read
 invariant-loop-read l = record {
   within : l.read ≤ length l.src;
+  after_ascii : l.fn.ascii ≤ l.written;
   written : WritesPrefix l.fn.dst l.dst l.written (encode_utf8_all (take l.read l.src));
 }
 
