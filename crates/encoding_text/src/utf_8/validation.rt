@@ -92,26 +92,60 @@ pub fn character_length(bytes: &[u8]) -> Option<usize>
     Some(4)
 }
 
+/// Returns the length of a well-formed prefix of 16 to 64 bytes. Two vectors find the ASCII prefix, and two more validate
+/// it if other text follows.
+#[tactic(auto, using(std::proofs::lemmas::Grind::common_steps, crate::proofs::WholePrefixesLemmas::ascii_texts))]
+#[inline(always)]
+fn short_well_formed_prefix(src: &[u8]) -> usize
+    requires { (16 ≤ length src.now) × (length src.now ≤ 64) }
+    ensures { (result ≤ length src.now) × IsUtf8 (take result src.now) }
+{
+    let ascii = short_ascii_valid_up_to(src);
+    if ascii == src.len() {
+        return ascii;
+    }
+    well_formed_short(src)
+}
+
 /// Returns the length of a well-formed prefix: the ASCII prefix, and the blocks of other text after it.
-///
-/// Two vectors find the ASCII prefix of a short text, and two more validate it if other text follows.
 #[tactic(auto, using(std::proofs::lemmas::Grind::common_steps, crate::proofs::WholePrefixesLemmas::ascii_texts))]
 #[inline(always)]
 fn well_formed_prefix(src: &[u8]) -> usize
     ensures { (result ≤ length src.now) × IsUtf8 (take result src.now) }
 {
     if STRIDE <= src.len() && src.len() <= BLOCK {
-        let ascii = short_ascii_valid_up_to(src);
-        if ascii == src.len() {
-            return ascii;
-        }
-        return well_formed_short(src);
+        return short_well_formed_prefix(src);
     }
     let ascii = ascii_valid_up_to_by_block(src);
     if ascii == src.len() || src.len() < STRIDE {
         return ascii;
     }
     well_formed_blocks(src, ascii)
+}
+
+/// Returns the length of the longest well-formed prefix, given that the first `prefix` bytes are one. A turn takes a
+/// character, and then a well-formed prefix of what is left.
+#[inline(never)]
+fn valid_after(src: &[u8], prefix: usize) -> usize
+    requires { (prefix ≤ length src.now) × IsUtf8 (take prefix src.now) }
+    ensures { IsLongestPrefix IsUtf8 src.now result }
+{
+    let mut at = prefix;
+    loop {
+        let Some(length) = character_length(&src[at..]) else {
+            return at;
+        };
+        at += length;
+        at += well_formed_prefix(&src[at..]);
+    }
+}
+
+/// Returns the length of the longest well-formed prefix. Out of line, so that a short text needs few registers.
+#[inline(never)]
+fn long_valid_up_to(src: &[u8]) -> usize
+    ensures { IsLongestPrefix IsUtf8 src.now result }
+{
+    valid_after(src, well_formed_prefix(src))
 }
 
 /// Returns the length in bytes of the longest prefix of `src` that is well-formed UTF-8: the index of the first byte
@@ -123,12 +157,12 @@ fn well_formed_prefix(src: &[u8]) -> usize
 pub fn utf8_valid_up_to(src: &[u8]) -> usize
     ensures { IsLongestPrefix IsUtf8 src.now result }
 {
-    let mut at = 0;
-    loop {
-        at += well_formed_prefix(&src[at..]);
-        let Some(length) = character_length(&src[at..]) else {
-            return at;
-        };
-        at += length;
+    if src.len() < STRIDE || src.len() > BLOCK {
+        return long_valid_up_to(src);
     }
+    let prefix = short_well_formed_prefix(src);
+    if prefix == src.len() {
+        return prefix;
+    }
+    valid_after(src, prefix)
 }

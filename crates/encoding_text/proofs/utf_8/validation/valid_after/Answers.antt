@@ -3,7 +3,7 @@ use Rattle.std.specs.Str.{IsUtf8}
 use Rattle.std.proofs.lemmas.List.{take_rest, length-drop}
 use Rattle.std.proofs.lemmas.Str.{IsUtf8-append}
 use Rattle.encoding_definitions.proofs.Utf8Lemmas.{IsUtf8_more, IsLongestPrefix-utf8}
-use Rattle.encoding_text.proofs.utf_8.validation.utf8_valid_up_to.Goals as goal
+use Rattle.encoding_text.proofs.utf_8.validation.valid_after.Goals as goal
 
 -- a well-formed prefix of the rest after a well-formed prefix
 longer : (src : List ℕ) (at n : ℕ) → at ≤ length src → IsUtf8 (take at src) → (n ≤ length (take (length src - at) (drop at src))) × IsUtf8 (take n (take (length src - at) (drop at src)))
@@ -15,11 +15,10 @@ longer src at n inside text more =
 pub loop-length-preserved : goal.loop-length-preserved
 loop-length-preserved c =
     let src = c.args.src.now in
-    let done = longer src c.loop-length.at _ c.loop-length.invariant.within c.loop-length.invariant.text c.well_formed_prefix-at.ensures in
+    let had = c.loop-length.invariant in
     let found = rw take_rest at c.in-Some.ensures.length in
-    record { within = omega (arith, done.0, found.1, length-drop (c.loop-length.at + c.well_formed_prefix-at.result) src); text = IsUtf8_more src _ c.in-Some.length done.1 found.2 }
+    let done = longer src (c.loop-length.at + c.in-Some.length) _ (omega (arith, had.within, found.1, length-drop c.loop-length.at src)) (IsUtf8_more src _ c.in-Some.length had.text found.2) c.well_formed_prefix-at.ensures in
+    record { within = done.0; text = done.1 }
 
 pub returns-in_default : goal.returns-in_default
-returns-in_default c =
-    let done = longer c.args.src.now c.loop-length.at _ c.loop-length.invariant.within c.loop-length.invariant.text c.well_formed_prefix-at.ensures in
-    IsLongestPrefix-utf8 _ _ done.0 done.1 (rw take_rest at c.in_default.ensures.no_character)
+returns-in_default c = let had = c.loop-length.invariant in IsLongestPrefix-utf8 _ _ had.within had.text (rw take_rest at c.in_default.ensures.no_character)
