@@ -8,8 +8,8 @@ use Rattle.std.proofs.Math.Seq.{take-append-add}
 use Rattle.std.proofs.lemmas.Bool.{and_parts, eqb-true, leb-true}
 use Rattle.std.proofs.lemmas.Bool.Decides.{nat_tests}
 use Rattle.std.proofs.lemmas.Grind.{same_number_lists}
-use Rattle.std.proofs.lemmas.Nat.{and_mask, mod_low, ones_le_self}
-use Rattle.std.proofs.lemmas.List.{length-map, length-append, length-take-le, length-drop, get_or-map, take-map, map-append, take-append-drop, take_at, drop_at, drop-drop, drop-append-le}
+use Rattle.std.proofs.lemmas.Nat.{and_mask, mod_low, one_shl, ones_le_self}
+use Rattle.std.proofs.lemmas.List.{append-nil, length-map, length-append, length-take-le, length-drop, get_or-map, take-map, map-append, take-append-drop, take_at, drop_at, drop-drop, drop-append-le}
 use Rattle.std.proofs.lemmas.Simd.{SwzOk, SwzOk-from_below, swz_l, length-swz_l, get_or-swz_l_below, Each1-from_get_or, Each1-get_or, mask_l-lt, ones-mask_l_cons, length-put_chunk}
 use Rattle.encoding_kernels.specs.declared.utf8_to_utf16.compress.TheConstants.{COMPRESSED}
 use Rattle.encoding_kernels.proofs.LaneLemmas.{put_prefix, put_is, HasLanes-itself, HasLanes-numbers, HasLanes-splat, compared, firsts_are, same_below}
@@ -143,6 +143,12 @@ mask_prefix xs n e h =
     let whole : mask_l xs ≡ mask_l (drop e xs) * 2 ^ e + mask_l (take e xs) = ap mask_l (sym (take-append-drop e xs)) ∙ mask_append (take e xs) (drop e xs) ∙ ap (λ k. mask_l (drop e xs) * 2 ^ k + mask_l (take e xs)) long in
     let small : mask_l (take e xs) < 2 ^ e = subst (λ k. mask_l (take e xs) < 2 ^ k) long (mask_l-lt (take e xs)) in
     and_mask (mask_l xs) e ∙ ap (λ m. m % 2 ^ e) whole ∙ mod_low (mask_l (drop e xs)) e (mask_l (take e xs)) small ∙ sym (mask_pad (take e xs) n)
+
+-- the mask of the tests of the first items
+pub first_mask : (test : ℕ → Bool) (xs : List ℕ) (mask e : ℕ) → mask ≡ mask_l (map test xs) → e ≤ length xs → e < 64
+    → bit_and mask (1 * 2 ^ e % 2 ^ 64 - 1) ≡ mask_l (map test (take e xs))
+first_mask test xs mask e is within small =
+    (λ i. bit_and (is i) (one_shl e 64 small i - 1)) ∙ mask_prefix (map test xs) 0 e (omega (arith, length-map xs test)) ∙ ap mask_l (append-nil (take e (map test xs)) ∙ take-map test e xs)
 
 -- sixteen marks in two halves
 module _ (ms : List Bool) (long : length ms ≡ 16) where

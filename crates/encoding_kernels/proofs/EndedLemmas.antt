@@ -4,10 +4,15 @@ use Rattle.std.specs.Prelude.{nat_lt}
 use Rattle.std.proofs.str.Laws.{two}
 use Rattle.std.proofs.lemmas.Bool.{cases_lt}
 use Rattle.std.proofs.lemmas.Bool.Decides.{nat_tests}
+use Rattle.std.proofs.lemmas.List.{length-append}
+use Rattle.std.proofs.lemmas.Simd.{ones-mask_l_cons}
 use Rattle.std.proofs.lemmas.Str.{encode_ascii}
+use Rattle.std.specs.Int.RustNames.{count_ones}
+use Rattle.std.specs.Simd.Lanes.{mask_l}
+use lib.Dec.{leb}
 use Rattle.encoding_definitions.specs.Latin1.{IsLatin1}
 use Rattle.encoding_kernels.specs.EncodeLanes.{latin1_ended, all_latin1_ended, both_end, kept_places}
-use Rattle.encoding_kernels.proofs.EncodeLanesLemmas.{kept_step}
+use Rattle.encoding_kernels.proofs.EncodeLanesLemmas.{kept_step, ones-none}
 
 -- a byte that continues a character
 abbrev pub GoesOnWith : ℕ → Type 0
@@ -112,6 +117,29 @@ splits (c ∷ cs) low p k n = elim (cases_lt c 0x80) [
           rest.0 ∙ sym (ap (λ xs. encode_utf8_all (drop (length xs) (c ∷ cs))) out),
           ap (λ xs. take (length xs) (c ∷ cs)) out ∙ ap (λ xs. c ∷ xs) rest.1 ∙ sym out,
         )
+
+-- a whole text ends its characters, after any byte
+pub ended_all : (cs : List ℕ) → IsLatin1 cs → (p : ℕ) → all_latin1_ended p (encode_utf8_all cs) ≡ cs
+ended_all [] low p = refl
+ended_all (c ∷ cs) low p = elim (cases_lt c 0x80) [
+  | inl l ↦ ap (all_latin1_ended p) (is_one c cs l) ∙ ended_one p c l (encode_utf8_all cs) ∙ ap (λ xs. c ∷ xs) (ended_all cs (tail_low c cs low) c)
+  | inr l ↦ ap (all_latin1_ended p) (is_two c cs l (omega (arith, low 0))) ∙ ended_two p c l (omega (arith, low 0)) (encode_utf8_all cs)
+      ∙ ap (λ xs. c ∷ xs) (ended_all cs (tail_low c cs low) (128 + c % 64))
+]
+
+-- the byte before the second part is the last of the first
+pub ended_append : (p : ℕ) (xs ys : List ℕ) → all_latin1_ended p (xs ++ ys) ≡ all_latin1_ended p xs ++ all_latin1_ended (get_or (p ∷ xs) (length xs) 0) ys
+ended_append p [] ys = refl
+ended_append p (x ∷ xs) ys = ap (λ zs. latin1_ended p x ++ zs) (ended_append x xs ys) ∙ sym (append_assoc (latin1_ended p x) (all_latin1_ended x xs) _)
+
+-- each byte ends one, if it begins no character of two
+ended_one_or : (p x : ℕ) → length (latin1_ended p x) + cond (leb 0xC0 x) 1 0 ≡ 1
+ended_one_or p x = grind (arith, nat_tests)
+
+pub ended_ones : (p : ℕ) (xs : List ℕ) → length (all_latin1_ended p xs) + count_ones (mask_l (map (leb 0xC0) xs)) ≡ length xs
+ended_ones p [] = omega (arith, ones-none)
+ended_ones p (x ∷ xs) =
+    omega (arith, length-append (latin1_ended p x) (all_latin1_ended x xs), ended_ones x xs, ones-mask_l_cons (leb 0xC0 x) (map (leb 0xC0) xs), ended_one_or p x)
 
 -- a last byte that ends none
 pub ended_without : (xs : List ℕ) (p x : ℕ) → 0xC0 ≤ x → all_latin1_ended p (xs ++ x ∷ []) ≡ all_latin1_ended p xs

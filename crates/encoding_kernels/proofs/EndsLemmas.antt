@@ -1,20 +1,22 @@
 -- Pairs of bytes in a vector of sixteen: which of them end a byte of Latin1, and which bytes these are.
-use Rattle.std.proofs.Common.{◌≡◌, ℕ, zero, suc, ◌+◌, ◌-◌, ◌*◌, ◌/◌, ◌%◌, ◌^◌, ◌<◌, ◌≤◌, ◌⊎◌, Bool, cond, ◌&&◌, ltb, List, [], ◌∷◌, ◌++◌, map, length, get_or, replicate, bit_and, refl, sym, ap, ◌∙◌, arith, subst, w8, w16, Fits, length-append}
+use Rattle.std.proofs.Common.{◌≡◌, ℕ, zero, suc, ◌+◌, ◌-◌, ◌*◌, ◌/◌, ◌%◌, ◌^◌, ◌<◌, ◌≤◌, ◌⊎◌, Bool, cond, ◌&&◌, ltb, List, [], ◌∷◌, ◌++◌, map, length, take, get_or, replicate, bit_and, refl, sym, ap, ◌∙◌, arith, subst, w8, w16, Fits, length-append}
 use Rattle.std.specs.Prelude.{nat_lt, nat_le}
 use Rattle.std.proofs.lemmas.Bool.Decides.{nat_tests}
-use Rattle.std.proofs.lemmas.List.{get_or-drop, get_or-map, length-map, same_lists}
+use Rattle.std.proofs.lemmas.List.{get_or-append_right, get_or-drop, get_or-map, length-map, length-take-le, same_lists}
 use Rattle.std.proofs.lemmas.Nat.{and_mask}
 use Rattle.std.proofs.lemmas.Simd.{get_or-chunk, Each1-from_get_or, Each1-get_or, pick_l-range_with_len, mask_l-mod, mask_l-lt}
+use Rattle.std.specs.Int.RustNames.{count_ones}
 use Rattle.std.specs.List.{range_with_len}
 use Rattle.std.specs.Simd.Lanes.{mask_l, top, zip2, sel_l, pick_l, Each1}
 use lib.Dec.{leb}
 use Rattle.encoding_kernels.specs.Scans.{HasLanes}
 use Rattle.encoding_kernels.specs.EncodeLanes.{kept_places, latin1_ended, all_latin1_ended, both_end, EndsPair}
-use Rattle.encoding_kernels.proofs.FollowingLemmas.{one_before}
+use Rattle.encoding_kernels.proofs.CompressLemmas.{first_mask}
+use Rattle.encoding_kernels.proofs.EncodeLanesLemmas.{mask_from}
 use Rattle.encoding_kernels.proofs.LaneLemmas.{HasLanes-itself, HasLanes-splat, HasLanes-zip2, HasLanes_same, compared, top_compared, mask_of}
 use Rattle.encoding_kernels.proofs.TestLemmas.{chosen_by, tests_of, tests_and}
 use Rattle.encoding_kernels.proofs.WordLemmas.{bytes_of, bytes_lanes, wide, wide_l}
-use Rattle.encoding_kernels.proofs.EndedLemmas.{PairAt, pairs_kept, both_end_long}
+use Rattle.encoding_kernels.proofs.EndedLemmas.{ended_ones, PairAt, pairs_kept, both_end_long}
 
 -- ---- two bytes as one number
 low_half : (a b : ℕ) → a < 256 → bit_and (a + 256 * b) 0xFF ≡ a
@@ -36,17 +38,16 @@ pair_ends p a b A B either =
     let low = low_half a b A in
     grind (arith, nat_tests, low, end_small p a A, end_small a b B, either, and_mask a 6, and_mask b 6)
 
--- ---- lanes
+-- ---- one vector
 abbrev before_l : List ℕ → List ℕ
 before_l bs = pick_l 0 (replicate 16 0 ++ bs) (range_with_len 15 16)
 
-abbrev ends_l : List ℕ → List ℕ
-ends_l bs = sel_l (map (top 7) (zip2 (compared w8 leb) (replicate 16 0x80) bs))
-    (zip2 (λ a b. (a + b) % 2 ^ 8) (zip2 (λ a b. a * 2 ^ b % 2 ^ 8) (before_l bs) (replicate 16 6)) (zip2 bit_and bs (replicate 16 0x3F))) bs
-
-abbrev pub result_l : List ℕ → List ℕ
-result_l bs = sel_l (map (top 15) (zip2 (compared w16 leb) (replicate 8 0xC0) (zip2 bit_and (wide_l bs) (replicate 8 0xFF))))
-    (zip2 (λ a b. a / 2 ^ b) (wide_l (ends_l bs)) (replicate 8 8)) (wide_l (ends_l bs))
+-- the byte before each, as a shuffle with zeros yields it
+pub before_lanes : (bs : List ℕ) → length bs ≡ 16 → (k : ℕ) → k < 16 → get_or (before_l bs) k 0 ≡ get_or (0 ∷ bs) k 0
+before_lanes bs long k l =
+    let all = replicate 16 0 ++ bs in
+    let room : 15 + 16 ≤ length all = omega (arith, length-append (replicate 16 0) bs) in
+    ap (λ xs. get_or xs k 0) (pick_l-range_with_len 0 all 15 16 room) ∙ get_or-chunk 15 16 all k 0 l ∙ sym (get_or-drop 15 all k 0)
 
 module _ (bs : List ℕ) (long : length bs ≡ 16) (fits : Each1 (Fits w8) bs) where
   byte : (k : ℕ) → k < 16 → get_or bs k 0 < 256
@@ -54,58 +55,6 @@ module _ (bs : List ℕ) (long : length bs ≡ 16) (fits : Each1 (Fits w8) bs) w
 
   bytes_fit : Each1 (λ x. x < 256) bs
   bytes_fit = Each1-from_get_or (λ x. x < 256) bs 0 (λ k l. byte k (omega arith))
-
-  before_lanes : HasLanes 16 (before_l bs) (λ k. get_or (0 ∷ bs) k 0)
-  before_lanes =
-      let all = replicate 16 0 ++ bs in
-      let room : 15 + 16 ≤ length all = omega (arith, length-append (replicate 16 0) bs) in
-      record {
-        long = refl;
-        each = λ k l. ap (λ xs. get_or xs k 0) (pick_l-range_with_len 0 all 15 16 room) ∙ get_or-chunk 15 16 all k 0 l ∙ sym (get_or-drop 15 all k 0);
-      }
-
-  ends_lanes : HasLanes 16 (ends_l bs) (λ k. end_of (get_or (0 ∷ bs) k 0) (get_or bs k 0))
-  ends_lanes =
-      let lanes = HasLanes-itself 16 bs long in
-      let high = HasLanes-zip2 (λ a b. a * 2 ^ b % 2 ^ 8) before_lanes (HasLanes-splat 16 6) in
-      let low = HasLanes-zip2 bit_and lanes (HasLanes-splat 16 0x3F) in
-      chosen_by (tests_of w8 leb (HasLanes-splat 16 0x80) lanes) (HasLanes-zip2 (λ a b. (a + b) % 2 ^ 8) high low) lanes
-
-  ends_fit : Each1 (λ x. x < 256) (ends_l bs)
-  ends_fit = Each1-from_get_or (λ x. x < 256) (ends_l bs) 0 (λ k l.
-      let in_lanes : k < 16 = omega (arith, ends_lanes.long) in
-      let is = ends_lanes.each k in_lanes in
-      omega (arith, is, end_small (get_or (0 ∷ bs) k 0) (get_or bs k 0) (byte k in_lanes)))
-
-  -- the byte before the second of a pair
-  first_before : (k : ℕ) → get_or (0 ∷ bs) (2 * k + 1) 0 ≡ get_or bs (2 * k) 0
-  first_before k = let place : 2 * k + 1 - 1 ≡ 2 * k = omega arith in one_before bs (2 * k + 1) (omega arith) ∙ ap (λ j. get_or bs j 0) place
-
-  words_lanes : HasLanes 8 (wide_l (ends_l bs)) (λ k. end_of (get_or (0 ∷ bs) (2 * k) 0) (get_or bs (2 * k) 0) + 256 * end_of (get_or bs (2 * k) 0) (get_or bs (2 * k + 1) 0))
-  words_lanes = HasLanes_same (wide (ends_l bs) ends_lanes.long ends_fit) (λ k l.
-      let first = ends_lanes.each (2 * k) (omega arith) in
-      let second = ends_lanes.each (2 * k + 1) (omega arith) ∙ ap (λ p. end_of p (get_or bs (2 * k + 1) 0)) (first_before k) in
-      (λ i. first i + 256 * second i))
-
-  result_lanes : HasLanes 8 (result_l bs) (λ k. pair_word (get_or (0 ∷ bs) (2 * k) 0) (get_or bs (2 * k) 0) (get_or bs (2 * k + 1) 0))
-  result_lanes =
-      let halves = HasLanes-zip2 bit_and (wide bs long bytes_fit) (HasLanes-splat 8 0xFF) in
-      chosen_by (tests_of w16 leb (HasLanes-splat 8 0xC0) halves) (HasLanes-zip2 (λ a b. a / 2 ^ b) words_lanes (HasLanes-splat 8 8)) words_lanes
-
-  pair_small : (p a b : ℕ) → a < 256 → b < 256 → pair_word p a b < 65536
-  pair_small p a b A B = grind (arith, nat_tests, end_small p a A, end_small a b B)
-
-  pub pairs_end : (k : ℕ) → k < 8
-      → EndsPair (get_or (0 ∷ bs) (2 * k) 0) (get_or bs (2 * k) 0) (get_or bs (2 * k + 1) 0) (get_or (bytes_of (result_l bs)) (2 * k) 0) (get_or (bytes_of (result_l bs)) (2 * k + 1) 0)
-  pairs_end k l =
-      let p = get_or (0 ∷ bs) (2 * k) 0 in
-      let a = get_or bs (2 * k) 0 in
-      let b = get_or bs (2 * k + 1) 0 in
-      let bytes = bytes_lanes result_lanes (λ i m. pair_small (get_or (0 ∷ bs) (2 * i) 0) (get_or bs (2 * i) 0) (get_or bs (2 * i + 1) 0) (byte (2 * i) (omega arith)) (byte (2 * i + 1) (omega arith))) k l in
-      same_pair p a b bytes.0 bytes.1 (pair_ends p a b (byte (2 * k) (omega arith)) (byte (2 * k + 1) (omega arith)))
-    where
-      same_pair : (p a b : ℕ) {x y x2 y2 : ℕ} → x ≡ x2 → y ≡ y2 → EndsPair p a b x2 y2 → EndsPair p a b x y
-      same_pair p a b {x} {y} {x2} {y2} e f h = subst (λ k. EndsPair p a b k y) (sym e) (subst (EndsPair p a b x2) (sym f) h)
 
   -- ---- the mask
   abbrev tests_l : List ℕ
@@ -145,14 +94,77 @@ module _ (bs : List ℕ) (long : length bs ≡ 16) (fits : Each1 (Fits w8) bs) w
   pub mask_small : mask_l (both_end bs) < 256
   mask_small = subst (λ n. mask_l (both_end bs) < 2 ^ n) (both_end_long 8 bs (omega arith)) (mask_l-lt (both_end bs))
 
+-- ---- with the bytes before
+abbrev ends_l : List ℕ → List ℕ → List ℕ
+ends_l v bs = sel_l (map (top 7) (zip2 (compared w8 leb) (replicate 16 0x80) bs))
+    (zip2 (λ a b. (a + b) % 2 ^ 8) (zip2 (λ a b. a * 2 ^ b % 2 ^ 8) v (replicate 16 6)) (zip2 bit_and bs (replicate 16 0x3F))) bs
+
+abbrev pub result_l : List ℕ → List ℕ → List ℕ
+result_l v bs = sel_l (map (top 15) (zip2 (compared w16 leb) (replicate 8 0xC0) (zip2 bit_and (wide_l bs) (replicate 8 0xFF))))
+    (zip2 (λ a b. a / 2 ^ b) (wide_l (ends_l v bs)) (replicate 8 8)) (wide_l (ends_l v bs))
+
+module _ (bs v : List ℕ) (p : ℕ) (long : length bs ≡ 16) (fits : Each1 (Fits w8) bs) (before : HasLanes 16 v (λ k. get_or (p ∷ bs) k 0)) where
+  at_lane : (k : ℕ) → k < 16 → get_or bs k 0 < 256
+  at_lane = byte bs long fits
+
+  ends_lanes : HasLanes 16 (ends_l v bs) (λ k. end_of (get_or (p ∷ bs) k 0) (get_or bs k 0))
+  ends_lanes =
+      let lanes = HasLanes-itself 16 bs long in
+      let high = HasLanes-zip2 (λ a b. a * 2 ^ b % 2 ^ 8) before (HasLanes-splat 16 6) in
+      let low = HasLanes-zip2 bit_and lanes (HasLanes-splat 16 0x3F) in
+      chosen_by (tests_of w8 leb (HasLanes-splat 16 0x80) lanes) (HasLanes-zip2 (λ a b. (a + b) % 2 ^ 8) high low) lanes
+
+  ends_fit : Each1 (λ x. x < 256) (ends_l v bs)
+  ends_fit = Each1-from_get_or (λ x. x < 256) (ends_l v bs) 0 (λ k l.
+      let in_lanes : k < 16 = omega (arith, ends_lanes.long) in
+      let is = ends_lanes.each k in_lanes in
+      omega (arith, is, end_small (get_or (p ∷ bs) k 0) (get_or bs k 0) (at_lane k in_lanes)))
+
+  -- the byte before the second of a pair
+  first_before : (k : ℕ) → get_or (p ∷ bs) (2 * k + 1) 0 ≡ get_or bs (2 * k) 0
+  first_before k = let place : 2 * k + 1 - 1 ≡ 2 * k = omega arith in get_or-append_right (p ∷ []) bs 1 (2 * k + 1) 0 refl (omega arith) ∙ ap (λ j. get_or bs j 0) place
+
+  words_lanes : HasLanes 8 (wide_l (ends_l v bs)) (λ k. end_of (get_or (p ∷ bs) (2 * k) 0) (get_or bs (2 * k) 0) + 256 * end_of (get_or bs (2 * k) 0) (get_or bs (2 * k + 1) 0))
+  words_lanes = HasLanes_same (wide (ends_l v bs) ends_lanes.long ends_fit) (λ k l.
+      let first = ends_lanes.each (2 * k) (omega arith) in
+      let second = ends_lanes.each (2 * k + 1) (omega arith) ∙ ap (λ q. end_of q (get_or bs (2 * k + 1) 0)) (first_before k) in
+      (λ i. first i + 256 * second i))
+
+  result_lanes : HasLanes 8 (result_l v bs) (λ k. pair_word (get_or (p ∷ bs) (2 * k) 0) (get_or bs (2 * k) 0) (get_or bs (2 * k + 1) 0))
+  result_lanes =
+      let halves = HasLanes-zip2 bit_and (wide bs long (bytes_fit bs long fits)) (HasLanes-splat 8 0xFF) in
+      chosen_by (tests_of w16 leb (HasLanes-splat 8 0xC0) halves) (HasLanes-zip2 (λ a b. a / 2 ^ b) words_lanes (HasLanes-splat 8 8)) words_lanes
+
+  pair_small : (q a b : ℕ) → a < 256 → b < 256 → pair_word q a b < 65536
+  pair_small q a b A B = grind (arith, nat_tests, end_small q a A, end_small a b B)
+
+  pub pairs_end : (k : ℕ) → k < 8
+      → EndsPair (get_or (p ∷ bs) (2 * k) 0) (get_or bs (2 * k) 0) (get_or bs (2 * k + 1) 0) (get_or (bytes_of (result_l v bs)) (2 * k) 0) (get_or (bytes_of (result_l v bs)) (2 * k + 1) 0)
+  pairs_end k l =
+      let q = get_or (p ∷ bs) (2 * k) 0 in
+      let a = get_or bs (2 * k) 0 in
+      let b = get_or bs (2 * k + 1) 0 in
+      let bytes = bytes_lanes result_lanes (λ i m. pair_small (get_or (p ∷ bs) (2 * i) 0) (get_or bs (2 * i) 0) (get_or bs (2 * i + 1) 0) (at_lane (2 * i) (omega arith)) (at_lane (2 * i + 1) (omega arith))) k l in
+      same_pair q a b bytes.0 bytes.1 (pair_ends q a b (at_lane (2 * k) (omega arith)) (at_lane (2 * k + 1) (omega arith)))
+    where
+      same_pair : (q a b : ℕ) {x y x2 y2 : ℕ} → x ≡ x2 → y ≡ y2 → EndsPair q a b x2 y2 → EndsPair q a b x y
+      same_pair q a b {x} {y} {x2} {y2} e f h = subst (λ k. EndsPair q a b k y) (sym e) (subst (EndsPair q a b x2) (sym f) h)
+
   -- ---- what is kept
   pub kept_ends : (bytes : List ℕ)
-      → ((k : ℕ) → k < 8 → EndsPair (get_or (0 ∷ bs) (2 * k) 0) (get_or bs (2 * k) 0) (get_or bs (2 * k + 1) 0) (get_or bytes (2 * k) 0) (get_or bytes (2 * k + 1) 0))
-      → ((k : ℕ) → (get_or bs k 0 < 0xC0) ⊎ (get_or bs (k + 1) 0 < 0xC0)) → map (λ j. get_or bytes j 0) (kept_places 0 (both_end bs)) ≡ all_latin1_ended 0 bs
+      → ((k : ℕ) → k < 8 → EndsPair (get_or (p ∷ bs) (2 * k) 0) (get_or bs (2 * k) 0) (get_or bs (2 * k + 1) 0) (get_or bytes (2 * k) 0) (get_or bytes (2 * k + 1) 0))
+      → ((k : ℕ) → (get_or bs k 0 < 0xC0) ⊎ (get_or bs (k + 1) 0 < 0xC0)) → map (λ j. get_or bytes j 0) (kept_places 0 (both_end bs)) ≡ all_latin1_ended p bs
   kept_ends bytes pairs apart =
       let get : ℕ → ℕ = λ j. get_or bytes j 0 in
-      pairs_kept get 8 bs 0 0 (omega arith) (λ k l.
+      pairs_kept get 8 bs p 0 (omega arith) (λ k l.
       let next : 2 * k + 1 ≡ suc (2 * k) = omega arith in
       let place : 2 * k ≡ 0 + 2 * k = omega arith in
-      subst (λ j. PairAt get 0 bs j (2 * k)) place (subst (λ j. cond (nat_lt (get_or bs (2 * k) 0) 0xC0 && nat_lt (get_or bs j 0) 0xC0) (get (2 * k) ∷ get (2 * k + 1) ∷ []) (get (2 * k) ∷ [])
-      ≡ latin1_ended (get_or (0 ∷ bs) (2 * k) 0) (get_or bs (2 * k) 0) ++ latin1_ended (get_or bs (2 * k) 0) (get_or bs j 0)) next (pairs k l (apart (2 * k)))))
+      subst (λ j. PairAt get p bs j (2 * k)) place (subst (λ j. cond (nat_lt (get_or bs (2 * k) 0) 0xC0 && nat_lt (get_or bs j 0) 0xC0) (get (2 * k) ∷ get (2 * k + 1) ∷ []) (get (2 * k) ∷ [])
+      ≡ latin1_ended (get_or (p ∷ bs) (2 * k) 0) (get_or bs (2 * k) 0) ++ latin1_ended (get_or bs (2 * k) 0) (get_or bs j 0)) next (pairs k l (apart (2 * k)))))
+
+-- ---- how many the first bytes end
+pub first_length : (p : ℕ) (bs : List ℕ) (n : ℕ) → length bs ≡ 16 → n ≤ 16
+    → length (all_latin1_ended p (take n bs)) + count_ones (bit_and (mask_of 7 (zip2 (compared w8 leb) (replicate 16 0xC0) bs)) (1 * 2 ^ n % 2 ^ 64 - 1)) ≡ n
+first_length p bs n long few =
+    let leads = first_mask (leb 0xC0) bs _ n (mask_from w8 16 0xC0 bs long (omega arith)) (omega arith) (omega arith) in
+    omega (arith, ap count_ones leads, ended_ones p (take n bs), length-take-le n bs (omega arith))

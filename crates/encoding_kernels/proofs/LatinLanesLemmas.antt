@@ -1,9 +1,9 @@
 -- The UTF-8 of sixteen bytes of Latin1: both bytes of each, and which of them are kept.
-use Rattle.std.proofs.Common.{◌≡◌, ℕ, suc, ◌+◌, ◌-◌, ◌*◌, ◌/◌, ◌%◌, ◌^◌, ◌<◌, ◌≤◌, inl, inr, Bool, cond, leb, List, [], ◌∷◌, ◌++◌, map, length, take, drop, get_or, get_or-take, get_or-drop, append-nil, length-append, length-drop, length-take-le, encode_utf8, encode_utf8_all, bit_and, replicate, sym, ap, ◌∙◌, arith, subst, w8}
+use Rattle.std.proofs.Common.{◌≡◌, ℕ, suc, ◌+◌, ◌-◌, ◌*◌, ◌/◌, ◌%◌, ◌^◌, ◌<◌, ◌≤◌, inl, inr, Bool, cond, leb, List, [], ◌∷◌, ◌++◌, map, length, take, drop, get_or, get_or-take, get_or-drop, length-append, length-drop, length-take-le, encode_utf8, encode_utf8_all, bit_and, replicate, sym, ap, ◌∙◌, arith, subst, w8}
 use Rattle.std.specs.Prelude.{nat_le}
 use Rattle.std.proofs.lemmas.Bool.Decides.{nat_tests}
 use Rattle.std.proofs.lemmas.List.{length-map, take-map, drop-map, take-append-drop}
-use Rattle.std.proofs.lemmas.Nat.{and_mask, one_shl}
+use Rattle.std.proofs.lemmas.Nat.{and_mask}
 use Rattle.std.proofs.lemmas.Bool.{cases_lt}
 use Rattle.std.proofs.lemmas.Simd.{mask_l-lt, ones-mask_l_cons}
 use Rattle.std.specs.Int.RustNames.{count_ones}
@@ -14,7 +14,7 @@ use mir.Syntax.{w8}
 use Rattle.encoding_kernels.specs.Scans.{HasLanes}
 use Rattle.encoding_kernels.specs.EncodeLanes.{EncodesTo, kept_places}
 use Rattle.encoding_kernels.proofs.AsciiLemmas.{Each-take}
-use Rattle.encoding_kernels.proofs.CompressLemmas.{low_half, high_half, mask_prefix}
+use Rattle.encoding_kernels.proofs.CompressLemmas.{low_half, first_mask, high_half}
 use Rattle.encoding_kernels.proofs.LaneLemmas.{HasLanes-itself, HasLanes-splat, HasLanes-zip2, HasLanes_same, compared}
 use Rattle.encoding_kernels.proofs.TestLemmas.{chosen_by, tests_of}
 use Rattle.encoding_kernels.proofs.EncodeLanesLemmas.{ones-none, respell, spelled_short}
@@ -102,9 +102,6 @@ latin_long (b ∷ bs) small =
 pub latin_first_long : (v : List ℕ) (others e : ℕ) → length v ≡ 16 → ((k : ℕ) → k < 16 → get_or v k 0 < 0x100) → others ≡ mask_l (map (nat_le 0x80) v) → e ≤ 16
     → e + count_ones (bit_and others (1 * 2 ^ e % 2 ^ 64 - 1)) ≡ length (encode_utf8_all (take e v))
 latin_first_long v others e long small is within =
-    let tests = map (nat_le 0x80) v in
-    let first : bit_and (mask_l tests) (2 ^ e - 1) ≡ mask_l (map (nat_le 0x80) (take e v)) =
-    mask_prefix tests 0 e (omega (arith, length-map v (nat_le 0x80))) ∙ ap mask_l (append-nil (take e tests) ∙ take-map (nat_le 0x80) e v) in
-    let mask : bit_and others (1 * 2 ^ e % 2 ^ 64 - 1) ≡ mask_l (map (nat_le 0x80) (take e v)) = (λ i. bit_and (is i) (one_shl e 64 (omega arith) i - 1)) ∙ first in
+    let mask = first_mask (nat_le 0x80) v others e is (omega arith) (omega arith) in
     let each = latin_long (take e v) (Each-take (λ b. b < 0x100) (omega arith) v e (λ k l. small k (omega arith))) in
     omega (arith, ap count_ones mask, each, length-take-le e v (omega (arith, long)))

@@ -14,7 +14,6 @@ use Rattle.encoding_definitions.specs.Prefixes.{IsLongestFittingPrefix, WritesPr
 use Rattle.encoding_definitions.specs.Latin1.{IsLatin1, IsUtf8Latin1}
 use Rattle.encoding_kernels.specs.EncodeLanes.{all_latin1_ended}
 use Rattle.std.specs.Simd.Lanes.{chunk}
-use Rattle.std.proofs.lemmas.Simd.{length-chunk}
 use Rattle.encoding_kernels.proofs.EndedLemmas.{GoesOnWith, NextIs, Splits, nexts, splits, ended_without}
 use Rattle.encoding_kernels.proofs.AsciiLemmas.{Each-take, Each-at}
 use Rattle.encoding_kernels.proofs.UnitBlocksLemmas.{ascii_left, written_left}
@@ -168,6 +167,21 @@ ascii_run src cs i j (suc n) low rest within room ascii =
     ∙ sym (take_more (drop j cs) n 0 (omega (arith, next.0, length-drop j cs))) in
     (omega (arith, next.0), subst (λ m. take m (drop i src) ≡ take m (drop j cs)) one bytes, ap (λ k. drop k src) (sym at) ∙ next.2 ∙ ap (λ k. encode_utf8_all (drop k cs)) to)
 
+-- an ASCII prefix of the whole, which the destination has
+pub ascii_start : (src cs old : List ℕ) (n : ℕ) → IsLatin1 cs → encode_utf8_all cs ≡ src → n ≤ length src → IsAscii (take n src) → take n old ≡ take n src → length cs ≤ length old
+    → (drop n src ≡ encode_utf8_all (drop n cs)) × WritesPrefix old old n (take n cs)
+ascii_start src cs old n low text within ascii copied room =
+    let run = ascii_run src cs 0 0 n low (sym text) (omega arith) (omega arith) (λ k l.
+    let place : 0 + k ≡ k = omega arith in omega (arith, ap (slice_index src) place, Each-at (λ b. b < 0x80) (omega arith) src n k l ascii)) in
+    let start : 0 + n ≡ n = omega arith in (
+      subst (λ m. drop m src ≡ encode_utf8_all (drop m cs)) start run.2,
+      record {
+        count = sym (length-take-le n cs (omega (arith, run.0)));
+        fits = omega (arith, run.0);
+        placed = sym (take-append-drop n old) ∙ ap (λ xs. xs ++ drop n old) (copied ∙ run.1);
+      },
+    )
+
 -- if a byte is left, a character is
 character_left : (src cs : List ℕ) (i j : ℕ) → IsLatin1 cs → drop i src ≡ encode_utf8_all (drop j cs) → i < length src → j < length cs
 character_left src cs i j low rest l = elim (cases_lt (slice_index src i) 128) [
@@ -198,21 +212,25 @@ module _ (src cs old new sub : List ℕ) (i j n : ℕ) (low : IsLatin1 cs) (rest
 
 -- ---- blocks of 16 bytes of Latin1 text
 -- no two bytes in a row start a character of two bytes
-pub begins_apart : (src cs : List ℕ) (i j : ℕ) → IsLatin1 cs → drop i src ≡ encode_utf8_all (drop j cs) → i + 16 ≤ length src
-    → (k : ℕ) → (slice_index (chunk i 16 src) k < 0xC0) ⊎ (slice_index (chunk i 16 src) (k + 1) < 0xC0)
-begins_apart src cs i j low rest room k = elim (cases_lt k 15) [
-  | inr h ↦ inr (omega (arith, get_or_past (chunk i 16 src) (k + 1) 0 (omega (arith, length-chunk i 16 src room))))
+pub apart : (bs : List ℕ) → 16 ≤ length bs → ((k : ℕ) → NextIs (slice_index bs k) (slice_index bs (suc k)))
+    → (k : ℕ) → (slice_index (take 16 bs) k < 0xC0) ⊎ (slice_index (take 16 bs) (k + 1) < 0xC0)
+apart bs room next k = elim (cases_lt k 15) [
+  | inr h ↦ inr (omega (arith, get_or_past (take 16 bs) (k + 1) 0 (omega (arith, length-take-le 16 bs room))))
   | inl h ↦
-      let following : IsLatin1 (drop j cs) = λ n. let same = get_or-drop j cs n 0 in omega (arith, same, low (j + n)) in
-      let next : NextIs (slice_index (drop i src) k) (slice_index (drop i src) (suc k)) = subst (λ bs. NextIs (slice_index bs k) (slice_index bs (suc k))) (sym rest) (nexts (drop j cs) following k) in
-      let here : slice_index (chunk i 16 src) k ≡ slice_index (drop i src) k = get_or-take 16 (drop i src) k 0 (omega arith) in
+      let here : slice_index (take 16 bs) k ≡ slice_index bs k = get_or-take 16 bs k 0 (omega arith) in
       let one : k + 1 ≡ suc k = omega arith in
-      let there : slice_index (chunk i 16 src) (k + 1) ≡ slice_index (drop i src) (suc k) = get_or-take 16 (drop i src) (k + 1) 0 (omega arith) ∙ ap (λ n. slice_index (drop i src) n) one in
-      elim (cases_lt (slice_index (chunk i 16 src) k) 0xC0) [
+      let there : slice_index (take 16 bs) (k + 1) ≡ slice_index bs (suc k) = get_or-take 16 bs (k + 1) 0 (omega arith) ∙ ap (slice_index bs) one in
+      elim (cases_lt (slice_index (take 16 bs) k) 0xC0) [
         | inl l ↦ inl l
-        | inr l ↦ let last = next.after_first (omega arith) in inr (omega (arith, there, last.1))
+        | inr l ↦ let last = (next k).after_first (omega arith) in inr (omega (arith, there, last.1))
       ]
 ]
+
+pub begins_apart : (src cs : List ℕ) (i j : ℕ) → IsLatin1 cs → drop i src ≡ encode_utf8_all (drop j cs) → i + 16 ≤ length src
+    → (k : ℕ) → (slice_index (chunk i 16 src) k < 0xC0) ⊎ (slice_index (chunk i 16 src) (k + 1) < 0xC0)
+begins_apart src cs i j low rest room =
+    let following : IsLatin1 (drop j cs) = λ n. let same = get_or-drop j cs n 0 in omega (arith, same, low (j + n)) in
+    apart (drop i src) (omega (arith, length-drop i src)) (λ k. subst (λ bs. NextIs (slice_index bs k) (slice_index bs (suc k))) (sym rest) (nexts (drop j cs) following k))
 
 module _ (src cs old new after : List ℕ) (i j m k : ℕ) (low : IsLatin1 cs) (rest : drop i src ≡ encode_utf8_all (drop j cs)) (w : WritesPrefix old new j (take j cs)) (bytes : List ℕ)
     (ends : take m bytes ≡ all_latin1_ended 0 (chunk i 16 src)) (many : m ≤ length bytes) (room : j + m ≤ length new) (put : after ≡ take j new ++ (take m bytes ++ drop (j + m) new)) (inside : i + 16 ≤ length src)
@@ -252,16 +270,16 @@ module _ (src cs old new after : List ℕ) (i j m k : ℕ) (low : IsLatin1 cs) (
       )
 
 -- ---- the last bytes as one block, whose first ones are written again
-module _ (src : List ℕ) (read last : ℕ) (long : last + 16 ≡ length src) (first : last ≤ read) where
-  last_block : chunk last 16 src ≡ drop last src
-  last_block = take_all 16 (drop last src) (omega (arith, length-drop last src))
+pub last_block : (src : List ℕ) (last : ℕ) → last + 16 ≡ length src → chunk last 16 src ≡ drop last src
+last_block src last long = take_all 16 (drop last src) (omega (arith, length-drop last src))
 
+module _ (src : List ℕ) (read last : ℕ) (long : last + 16 ≡ length src) (first : last ≤ read) where
   -- the bytes before the block, and those of it that were written
   again_cut : encode_utf8_all (take read src) ≡ encode_utf8_all (take last src) ++ encode_utf8_all (take (read - last) (chunk last 16 src))
   again_cut =
       let sum : last + (read - last) ≡ read = omega arith in
       ap (λ n. encode_utf8_all (take n src)) (sym sum) ∙ ap encode_utf8_all (take-add last (read - last) src) ∙ encodes-append (take last src) (take (read - last) (drop last src))
-      ∙ ap (λ xs. encode_utf8_all (take last src) ++ encode_utf8_all (take (read - last) xs)) (sym last_block)
+      ∙ ap (λ xs. encode_utf8_all (take last src) ++ encode_utf8_all (take (read - last) xs)) (sym (last_block src last long))
 
   pub again_counted : length (encode_utf8_all (take read src)) ≡ length (encode_utf8_all (take last src)) + length (encode_utf8_all (take (read - last) (chunk last 16 src)))
   again_counted = ap length again_cut ∙ length-append (encode_utf8_all (take last src)) (encode_utf8_all (take (read - last) (chunk last 16 src)))
@@ -272,8 +290,8 @@ module _ (src : List ℕ) (read last : ℕ) (long : last + 16 ≡ length src) (f
       let out = encode_utf8_all src in
       let block = encode_utf8_all (chunk last 16 src) in
       let spelled : (n : ℕ) → encode_utf8_all (take n src) ++ encode_utf8_all (drop n src) ≡ out = λ n. sym (encodes-append (take n src) (drop n src)) ∙ ap encode_utf8_all (take-append-drop n src) in
-      let rest : drop at out ≡ block = ap (λ n. drop n out) before ∙ ap (drop (length (encode_utf8_all (take last src)))) (sym (spelled last)) ∙ drop-append_seam (encode_utf8_all (take last src)) _ ∙ ap encode_utf8_all (sym last_block) in
-      let size : length out ≡ at + m = omega (arith, ap length (spelled last), length-append (encode_utf8_all (take last src)) (encode_utf8_all (drop last src)), ap (λ xs. length (encode_utf8_all xs)) last_block) in
+      let rest : drop at out ≡ block = ap (λ n. drop n out) before ∙ ap (drop (length (encode_utf8_all (take last src)))) (sym (spelled last)) ∙ drop-append_seam (encode_utf8_all (take last src)) _ ∙ ap encode_utf8_all (sym (last_block src last long)) in
+      let size : length out ≡ at + m = omega (arith, ap length (spelled last), length-append (encode_utf8_all (take last src)) (encode_utf8_all (drop last src)), ap (λ xs. length (encode_utf8_all xs)) (last_block src last long)) in
       let prefix : encode_utf8_all (take read src) ≡ take written out = sym (ap (λ n. take n out) w.count ∙ ap (take (length (encode_utf8_all (take read src)))) (sym (spelled read)) ∙ take-append_seam (encode_utf8_all (take read src)) _) in
       let again = WritesPrefix_again old new after out written at m (WritesPrefix-same _ _ _ _ _ _ w refl prefix) (omega (arith, w.count, again_counted)) (omega (arith, size, w.count, ap length prefix, length-take written out)) (omega (arith, size)) room
       (put ∙ ap (λ xs. take at new ++ (xs ++ drop (at + m) new)) (sym (ap (take m) rest ∙ take_all m block (omega arith)))) in

@@ -18,6 +18,7 @@ pub mod DecodeLemmas
 pub mod EncoderLemmas
 pub mod EncoderPartsLemmas
 pub mod EncoderTextLemmas
+pub mod LastBlockLemmas
 pub mod OneResultLemmas
 pub mod WholePrefixesLemmas
 pub mod Latin1ConversionLemmas

@@ -7,20 +7,15 @@ ghost use Rattle.encoding_kernels.specs.EncodeLanes.{EndsPair, all_latin1_ended,
 use crate::simd::compress_pairs::keep_pairs;
 use std::simd::prelude::*;
 
-/// Returns for each pair of bytes the Latin1 bytes that its bytes end. If they end one, the second is arbitrary.
-#[tactic(auto, using(crate::proofs::EndsLemmas::pairs_end))]
+/// Returns for each pair of bytes the Latin1 bytes that its bytes end, given the byte before each byte. If they end one,
+/// the second is arbitrary.
 #[inline(always)]
-fn ended_pairs(block: u8x16) -> u8x16
+fn ended_pairs(before: u8x16, block: u8x16) -> u8x16
     ensures lane_count { length result ≡ 16 }
-    ensures pairs { (k : ℕ) → k < 8 → EndsPair (slice_index (0 ∷ block) (2 * k)) (slice_index block (2 * k))
+    ensures pairs { (p : ℕ) → ((k : ℕ) → k < 16 → slice_index before k ≡ slice_index (p ∷ block) k)
+        → (k : ℕ) → k < 8 → EndsPair (slice_index (p ∷ block) (2 * k)) (slice_index block (2 * k))
         (slice_index block (2 * k + 1)) (slice_index result (2 * k)) (slice_index result (2 * k + 1)) }
 {
-    let before = u8x16::splat(0).shuffle(
-        block,
-        [
-            15, 16, 17, 18, 19, 20, 21, 22, 23, 24, 25, 26, 27, 28, 29, 30,
-        ],
-    );
     let low = (before << u8x16::splat(6)) + (block & u8x16::splat(0x3F));
     let ends = block.simd_ge(u8x16::splat(0x80)).select(low, block);
     let words = u16x8::from_le_bytes(ends);
@@ -41,6 +36,19 @@ fn mask_of_ends(block: u8x16) -> usize
     (first & words.simd_lt(u16x8::splat(0xC000))).to_bitmask() as usize
 }
 
+/// Returns the Latin1 bytes that sixteen bytes of UTF-8 end, at the start of the vector, and their number, given the byte
+/// before each byte. No two adjacent bytes both begin a character of two bytes.
+#[inline(always)]
+pub fn latin1_of_after(before: u8x16, block: u8x16) -> (u8x16, usize)
+    requires { (k : ℕ) → (slice_index block k < 0xC0) ⊎ (slice_index block (k + 1) < 0xC0) }
+    ensures lane_count { length result.0 ≡ 16 }
+    ensures out_length { result.1 ≤ 16 }
+    ensures latin1_ended { (p : ℕ) → ((k : ℕ) → k < 16 → slice_index before k ≡ slice_index (p ∷ block) k)
+        → take result.1 result.0 ≡ all_latin1_ended p block }
+{
+    keep_pairs(ended_pairs(before, block), mask_of_ends(block))
+}
+
 /// Returns the Latin1 of sixteen bytes of UTF-8 that start with a character, at the start of the vector, and its
 /// length. No two adjacent bytes both begin a character of two bytes.
 #[inline(always)]
@@ -50,5 +58,21 @@ pub fn latin1_of(block: u8x16) -> (u8x16, usize)
     ensures out_length { result.1 ≤ 16 }
     ensures latin1_ended { take result.1 result.0 ≡ all_latin1_ended 0 block }
 {
-    keep_pairs(ended_pairs(block), mask_of_ends(block))
+    let before = u8x16::splat(0).shuffle(
+        block,
+        [
+            15, 16, 17, 18, 19, 20, 21, 22, 23, 24, 25, 26, 27, 28, 29, 30,
+        ],
+    );
+    latin1_of_after(before, block)
+}
+
+/// Returns how many bytes of Latin1 the first `count` of sixteen bytes of UTF-8 end.
+#[inline(always)]
+pub fn latin1_length_of_first(block: u8x16, count: usize) -> usize
+    requires { count ≤ 16 }
+    ensures { (p : ℕ) → result ≡ length (all_latin1_ended p (take count block)) }
+{
+    let leads = block.simd_ge(u8x16::splat(0xC0)).to_bitmask() as usize & ((1 << count) - 1);
+    count - leads.count_ones() as usize
 }

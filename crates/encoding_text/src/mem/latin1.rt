@@ -1,7 +1,7 @@
 //! Conversions from and to Latin1, in which each byte is the scalar value of its character. Infra Standard: isomorphic
 //! decode and encode. A conversion leaves the rest of `dst` unchanged.
 
-ghost use Rattle.std.specs.Prelude.{◌≡◌, ◌+◌, ◌*◌, ◌%◌, ◌<◌, ◌≤◌, ◌⊎◌, ℕ, List, [], ◌∷◌, take, length, map, slice_index, encode_utf8, encode_utf8_all, IfSome, IfNone, IsTrue};
+ghost use Rattle.std.specs.Prelude.{◌≡◌, ◌+◌, ◌*◌, ◌%◌, ◌<◌, ◌≤◌, ◌⊎◌, ℕ, List, [], ◌∷◌, take, drop, length, map, slice_index, encode_utf8, encode_utf8_all, IfSome, IfNone};
 ghost use Rattle.std.specs.Str.{IsAscii, chars};
 ghost use Rattle.encoding_definitions.specs.Prefixes.{IsLongestFittingPrefix, WritesPrefix};
 ghost use Rattle.encoding_definitions.specs.Latin1.{IsUtf8Latin1};
@@ -9,7 +9,7 @@ ghost use Rattle.encoding_kernels.specs.Scans.{AllBelow};
 
 use crate::ascii;
 use encoding_kernels::ascii::copy::unpack_part;
-use encoding_kernels::latin1::from_utf8::latin1_of;
+use encoding_kernels::latin1::from_utf8::{latin1_length_of_first, latin1_of, latin1_of_after};
 use encoding_kernels::latin1::to_utf8::{utf8_length_of_first, write_latin1};
 use encoding_kernels::simd::bounds::are_bytes_below;
 use encoding_kernels::simd::copy::{pack_lower, write_first};
@@ -77,19 +77,6 @@ fn copy_ascii(src: &[u8], dst: &mut [u8]) -> usize
         return 0;
     }
     copy_some_ascii(src, dst)
-}
-
-/// Returns whether the next bytes are ASCII: 64, or 16 if fewer than 64 are left.
-#[inline(always)]
-fn are_next_ascii(src: &[u8], at: usize) -> bool
-    requires { at + 16 ≤ length src.now }
-    ensures { IsTrue result → AllBelow 0x80 src.now at 16 }
-{
-    if src.len() - at >= BLOCK {
-        are_bytes_below::<BLOCK>(src, at, ASCII_END)
-    } else {
-        are_bytes_below::<STRIDE>(src, at, ASCII_END)
-    }
 }
 
 /// Writes the UTF-8 of blocks of 16 bytes, until the next 64 bytes are ASCII. Returns how many bytes it read and how many
@@ -206,15 +193,40 @@ fn whole_length(last: u8) -> usize
     if last < 0xC0 { 16 } else { 15 }
 }
 
-/// Writes the scalar value of each character of Latin1 text in UTF-8 as a byte, and returns how many bytes it wrote.
-/// `dst` has at least that length, which `latin1_length_from_utf8` returns.
-pub fn convert_utf8_to_latin1(src: &[u8], dst: &mut [u8]) -> usize
+/// Writes the end of a text of which fewer than sixteen bytes are left, and returns the length of all, if `dst` has the
+/// space of a block. The last sixteen bytes are one block, whose first ones are written again.
+#[inline(always)]
+fn finish_utf8(src: &[u8], dst: &mut [u8], read: usize, written: usize) -> Option<usize>
+    requires src_length { (16 < length src.now) × (read ≤ length src.now) × (length src.now < read + 16) }
+    requires latin1 { IsUtf8Latin1 src.now }
+    requires rest { drop read src.now ≡ encode_utf8_all (drop written (chars src.now)) }
+    requires written { (written ≤ length dst.old) × (take written dst.old ≡ take written (chars src.now)) }
+    ensures all { IfSome result (λ n. WritesPrefix dst.old dst.new n (chars src.now)) }
+    ensures none { IfNone result (dst.new ≡ dst.old) }
+{
+    let last = src.len() - STRIDE;
+    let block = u8x16::from_slice(&src[last..]);
+    let at = written - latin1_length_of_first(block, read - last);
+    if dst.len() - at < STRIDE {
+        return None;
+    }
+    let (bytes, count) = latin1_of_after(u8x16::from_slice(&src[last - 1..]), block);
+    write_first(dst, at, bytes, count);
+    Some(at + count)
+}
+
+/// Converts Latin1 text in UTF-8 as `convert_utf8_to_latin1` does, after the first ASCII prefix, which `dst` has
+/// already. Out of line, so that the ASCII before other text needs few registers.
+#[inline(never)]
+fn convert_utf8_turns(src: &[u8], dst: &mut [u8], ascii: usize) -> usize
     requires dst_length { length (chars src.now) ≤ length dst.old }
     requires latin1 { IsUtf8Latin1 src.now }
+    requires prefix { (ascii ≤ length src.now) × IsAscii (take ascii src.now) }
+    requires copied { take ascii dst.old ≡ take ascii src.now }
     ensures written { WritesPrefix dst.old dst.new result (chars src.now) }
 {
-    let mut read = 0;
-    let mut written = 0;
+    let mut read = ascii;
+    let mut written = ascii;
     while read < src.len() {
         let prefix = copy_ascii(&src[read..], &mut dst[written..]);
         read += prefix;
@@ -228,7 +240,7 @@ pub fn convert_utf8_to_latin1(src: &[u8], dst: &mut [u8]) -> usize
         let mut untested = 0;
         while src.len() - read >= STRIDE && dst.len() - written >= STRIDE {
             if untested == 0 {
-                if are_next_ascii(src, read) {
+                if src.len() - read >= BLOCK && are_bytes_below::<BLOCK>(src, read, ASCII_END) {
                     break;
                 }
                 untested = BLOCKS_BEFORE_RETEST;
@@ -239,8 +251,27 @@ pub fn convert_utf8_to_latin1(src: &[u8], dst: &mut [u8]) -> usize
             read += whole_length(src[read + 15]);
             untested -= 1;
         }
+        if src.len() > STRIDE && src.len() - read < STRIDE {
+            if let Some(length) = finish_utf8(src, dst, read, written) {
+                return length;
+            }
+        }
     }
     written
+}
+
+/// Writes the scalar value of each character of Latin1 text in UTF-8 as a byte, and returns how many bytes it wrote.
+/// `dst` has at least that length, which `latin1_length_from_utf8` returns.
+pub fn convert_utf8_to_latin1(src: &[u8], dst: &mut [u8]) -> usize
+    requires dst_length { length (chars src.now) ≤ length dst.old }
+    requires latin1 { IsUtf8Latin1 src.now }
+    ensures written { WritesPrefix dst.old dst.new result (chars src.now) }
+{
+    let ascii = copy_first_ascii(src, dst);
+    if ascii == src.len() {
+        return ascii;
+    }
+    convert_utf8_turns(src, dst, ascii)
 }
 
 /// Writes the scalar value of each character of Latin1 text in UTF-8 as a byte, and returns how many bytes it wrote.

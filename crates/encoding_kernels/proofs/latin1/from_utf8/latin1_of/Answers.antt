@@ -1,10 +1,5 @@
-use Rattle.std.proofs.Common.{◌∙◌, arith}
-use Rattle.encoding_kernels.specs.EncodeLanes.{both_end}
-use Rattle.encoding_kernels.proofs.EndedLemmas.{both_end_long}
-use Rattle.encoding_kernels.proofs.EndsLemmas.{kept_ends}
+use Rattle.encoding_kernels.proofs.EndsLemmas.{before_lanes}
 use Rattle.encoding_kernels.proofs.latin1.from_utf8.latin1_of.Goals as goal
 
 pub returns-clause-latin1_ended : goal.returns-clause-latin1_ended
-returns-clause-latin1_ended c =
-    c.keep_pairs.ensures.kept (both_end c.args.block) (both_end_long 8 c.args.block (omega (arith, c.fits-block.0))) c.mask_of_ends.ensures.mask
-    ∙ kept_ends c.args.block c.fits-block.0 c.fits-block.1 c.ended_pairs.result c.ended_pairs.ensures.pairs c.requires
+returns-clause-latin1_ended c = c.latin1_of_after.ensures.latin1_ended 0 (before_lanes c.args.block c.fits-block.0)

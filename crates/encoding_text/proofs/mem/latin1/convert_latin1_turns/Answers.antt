@@ -1,4 +1,4 @@
-use Rattle.std.proofs.Common.{◌≡◌, ℕ, ◌+◌, ◌<◌, ◌≤◌, ◌++◌, ◌∙◌, inl, inr, List, arith, ap, sym, subst, length, length-take-le, take, drop, slice_index, encode_utf8_all}
+use Rattle.std.proofs.Common.{◌≡◌, ℕ, ◌+◌, ◌<◌, ◌++◌, ◌∙◌, inl, inr, List, arith, ap, sym, subst, length, length-take-le, take, drop, slice_index, encode_utf8_all}
 use Rattle.std.proofs.lemmas.List.{take-append-drop, take_all}
 use Rattle.std.proofs.lemmas.Str.{encodes-IsAscii, length-le-encodes}
 use Rattle.encoding_definitions.specs.Prefixes.{WritesPrefix}
@@ -28,8 +28,8 @@ loop-read-preserved c = record {
   within = omega (arith, c.convert_latin1_blocks-bytes.ensures.within);
   after_ascii = omega (arith, c.loop-read.invariant.after_ascii);
   written = latin1_turn c.args.src.now (λ i. omega (arith, c.type_inv.src i)) c.loop-read.read c.loop-read.written c.copy_ascii-prefix.result _ _ _ c.loop-read.invariant.written
-    c.copy_ascii-prefix.ensures.ascii c.copy_ascii-prefix.ensures.copied (omega (arith, c.copy_ascii-prefix.ensures.within, c.if-read-src.false)) (omega (arith, c.if-dst-written-lt-HIGH_LENGTH.false)) c.copy_ascii-prefix.ensures.stops
-    _ _ _ c.convert_latin1_blocks-bytes.ensures.written;
+      c.copy_ascii-prefix.ensures.ascii c.copy_ascii-prefix.ensures.copied (omega (arith, c.copy_ascii-prefix.ensures.within, c.if-read-src.false)) (omega (arith, c.if-dst-written-lt-HIGH_LENGTH.false)) c.copy_ascii-prefix.ensures.stops
+      _ _ _ c.convert_latin1_blocks-bytes.ensures.written;
 }
 
 unchanged : {old new other out : List ℕ} {n : ℕ} → other ≡ new → WritesPrefix old new n out → WritesPrefix old other n out
@@ -40,8 +40,8 @@ loop-read-preserved-in-None c = record {
   within = omega (arith, c.convert_latin1_blocks-bytes.ensures.within);
   after_ascii = omega (arith, c.loop-read.invariant.after_ascii);
   written = unchanged c.in-None.ensures.full (latin1_turn c.args.src.now (λ i. omega (arith, c.type_inv.src i)) c.loop-read.read c.loop-read.written c.copy_ascii-prefix.result _ _ _ c.loop-read.invariant.written
-    c.copy_ascii-prefix.ensures.ascii c.copy_ascii-prefix.ensures.copied (omega (arith, c.copy_ascii-prefix.ensures.within, c.if-read-src.false)) (omega (arith, c.if-dst-written-lt-HIGH_LENGTH.false)) c.copy_ascii-prefix.ensures.stops
-    _ _ _ c.convert_latin1_blocks-bytes.ensures.written);
+      c.copy_ascii-prefix.ensures.ascii c.copy_ascii-prefix.ensures.copied (omega (arith, c.copy_ascii-prefix.ensures.within, c.if-read-src.false)) (omega (arith, c.if-dst-written-lt-HIGH_LENGTH.false)) c.copy_ascii-prefix.ensures.stops
+      _ _ _ c.convert_latin1_blocks-bytes.ensures.written);
 }
 
 pub finish_latin1-requires-clause-counted : goal.finish_latin1-requires-clause-counted
