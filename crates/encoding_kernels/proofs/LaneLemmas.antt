@@ -1,6 +1,6 @@
 -- The value of each lane after the operations on vectors, and what the mask of a vector says about its lanes. A vector
 -- that is stored in a list at an index, and one that is read from a whole stride.
-use Rattle.std.proofs.Common.{◌≡◌, ℕ, ◌+◌, ◌≤◌, List, ◌++◌, length, take, drop, drop-drop, take-add, length-take-le, length-append, map, map-id, sym, ap, ◌∙◌, arith, append_assoc, suc, ◌-◌, ◌*◌, ◌/◌, ◌^◌, ◌%◌, ◌<◌, Bool, true, false, not, cond, ltb, inl, inr, [], ◌∷◌, get_or, replicate, refl, subst, length-drop, get_or-take, get_or-drop}
+use Rattle.std.proofs.Common.{◌≡◌, ℕ, ◌+◌, ◌≤◌, List, ◌++◌, length, take, drop, drop-drop, take-add, length-take, length-take-le, length-append, map, map-id, sym, ap, ◌∙◌, arith, append_assoc, suc, ◌-◌, ◌*◌, ◌/◌, ◌^◌, ◌%◌, ◌<◌, Bool, true, false, not, cond, ltb, inl, inr, [], ◌∷◌, get_or, replicate, refl, subst, length-drop, get_or-take, get_or-drop}
 use Rattle.std.proofs.lemmas.List.{take_all, take_at, drop_at, take-append-le, take-append-drop, length-map, get_or-map, drop-append-le, get_or_append_left, get_or-append_right}
 use Rattle.std.proofs.lemmas.Simd.{put_chunk_is, length-chunk, chunk-drop, get_or-chunk, length-replicate, get_or-replicate, length-zip2, get_or-zip2, length-sel_l, get_or-sel_l, swz_l, SwzOk, length-swz_l, get_or-swz_l_below, SwzOk-from_below, Each1-from_get_or, mask_l-mod, leading_from_mask_l}
 use Rattle.std.proofs.lemmas.Slice.{drop-append-drop}
@@ -49,6 +49,24 @@ put_back w old mid count room long rest =
     put_is count w mid (chunk count w old) (length-chunk count w old room) (omega arith)
     ∙ (λ i. take count mid ++ (chunk count w old ++ (rest ∙ sym (drop-drop w count old)) i))
     ∙ ap (λ xs. take count mid ++ xs) (take-append-drop w (drop count old))
+
+-- what is copied to the same indices, and what is copied after it
+pub copied_after : {X : Type 0} (at n m : ℕ) (xs ys first second : List X) → at + (n + m) ≤ length ys → at + (n + m) ≤ length xs → first ≡ take at xs ++ (take n (drop at ys) ++ drop (at + n) xs)
+    → second ≡ take (at + n) first ++ (take m (drop (at + n) ys) ++ drop (at + n + m) first) → second ≡ take at xs ++ (take (n + m) (drop at ys) ++ drop (at + (n + m)) xs)
+copied_after at n m xs ys first second within room is then =
+    let part = take n (drop at ys) in
+    let done = take at xs ++ part in
+    let size : length done ≡ at + n = omega (arith, length-append (take at xs) part, length-take at xs, length-take n (drop at ys), length-drop at ys) in
+    let stored : first ≡ done ++ drop (at + n) xs = is ∙ sym (append_assoc (take at xs) part (drop (at + n) xs)) in
+    let before : take (at + n) first ≡ done = ap (take (at + n)) stored ∙ take_at done (drop (at + n) xs) (at + n) size in
+    let past : drop (at + n + m) first ≡ drop (at + n + m) xs = ap (drop (at + n + m)) stored ∙ drop-append-drop (at + n) xs done (at + n + m) (omega arith) size in
+    let both : part ++ take m (drop (at + n) ys) ≡ take (n + m) (drop at ys) = ap (λ zs. part ++ take m zs) (sym (drop-drop n at ys)) ∙ sym (take-add n m (drop at ys)) in
+    let place : at + n + m ≡ at + (n + m) = omega arith in
+    then
+    ∙ (λ i. before i ++ (take m (drop (at + n) ys) ++ past i))
+    ∙ append_assoc (take at xs) part (take m (drop (at + n) ys) ++ drop (at + n + m) xs)
+    ∙ ap (λ zs. take at xs ++ zs) (sym (append_assoc part (take m (drop (at + n) ys)) (drop (at + n + m) xs)))
+    ∙ (λ i. take at xs ++ (both i ++ drop (place i) xs))
 
 -- ---- lanes
 pub HasLanes_load : (at n : ℕ) (xs : List ℕ) → at + n ≤ length xs → HasLanes n (chunk at n xs) (λ k. get_or xs (at + k) 0)

@@ -19,6 +19,7 @@ use Rattle.encoding_definitions.specs.Prefixes.{WritesPrefix}
 use Rattle.encoding_kernels.specs.EndingUnits.{units_in, WritesUtf16}
 use Rattle.encoding_definitions.proofs.EncodingLemmas.{IsSequence-encode, length_encode_utf16_utf8, encodes_one, length-utf16}
 use Rattle.encoding_definitions.proofs.PrefixesLemmas.{written_is}
+use Rattle.encoding_definitions.proofs.SequenceLemmas.{length-IsSequence}
 use Rattle.encoding_kernels.proofs.TextUnitsLemmas.{puts_ascii, puts_prefix}
 use Rattle.encoding_kernels.specs.Scans.{BelowUpTo, IsRunBelow}
 use Rattle.encoding_kernels.proofs.AsciiLemmas.{Each-take}
@@ -63,6 +64,10 @@ puts_character src old new n k c b s e w =
       placed = sym (written_is old new k (encode_utf16 c) w) ∙ sym units;
       following = ap (drop k) w.placed ∙ drop_at (encode_utf16 c) (drop k old) k (sym w.count);
     }
+
+-- it has at most four bytes
+pub character_short : (src : List ℕ) (n : ℕ) → Begins src n → n ≤ 4
+character_short src n b = omega (arith, length-IsSequence (take n src) b.sequence, length-take-le n src b.within)
 
 -- it fits
 pub character_fits : (src : List ℕ) (n c room : ℕ) → Begins src n → IsScalar c → encode_utf8 c ≡ take n src → length src ≤ room → room < length (encode_utf16 c) → ⊥
@@ -233,13 +238,13 @@ puts_text src old new k u w =
       following = ap (drop k) w.placed ∙ drop_at (flat_map encode_utf16 (chars src)) (drop k old) k (sym w.count);
     })
 
--- ---- the ASCII prefix of a text, by strides that are stored whole
--- after an ASCII prefix, a stride of ASCII or 48 bytes of a text have at least 16 code units
-stride_due : (src : List ℕ) (n : ℕ) → IsUtf8 src → n + 16 ≤ length src → BelowUpTo 0x80 src n → BelowUpTo 0x80 src (n + 16) ⊎ (n + 48 ≤ length src) → n + 16 ≤ units_in src
-stride_due src n u long low (inl more) =
-    let p = puts_prefix src src src (n + 16) (n + 16) u long (Each-take (λ b. b < 0x80) (omega arith) src (n + 16) more) refl refl in
-    omega (arith, units_split src src src (n + 16) (n + 16) (n + 16) u p)
-stride_due src n u long low (inr left) =
+-- ---- the ASCII prefix of a text, by parts that are stored whole
+-- after an ASCII prefix, `size` bytes of ASCII or three times as many of a text have at least `size` code units
+part_due : (src : List ℕ) (n size : ℕ) → IsUtf8 src → n + size ≤ length src → BelowUpTo 0x80 src n → BelowUpTo 0x80 src (n + size) ⊎ (n + 3 * size ≤ length src) → n + size ≤ units_in src
+part_due src n size u long low (inl more) =
+    let p = puts_prefix src src src (n + size) (n + size) u long (Each-take (λ b. b < 0x80) (omega arith) src (n + size) more) refl refl in
+    omega (arith, units_split src src src (n + size) (n + size) (n + size) u p)
+part_due src n size u long low (inr left) =
     let p = puts_prefix src src src n n u (omega arith) (Each-take (λ b. b < 0x80) (omega arith) src n low) refl refl in
     let more = p.rest in
     omega (arith, units_split src src src n n n u p, units_of_part16 more.0 (drop n src) more more.1.1, units_third more.0 more.1.0, ap length more.1.1, length-drop n src)
@@ -251,27 +256,30 @@ pub record Unpacked (src old new : List ℕ) (at : ℕ) : Type 0 where
   pub copied : take at new ≡ take at src
   pub following : drop (units_in src) new ≡ drop (units_in src) old
 
-pub unpacked_stride : (src old new after : List ℕ) (at run : ℕ) → IsUtf8 src → at + 16 ≤ length src → (run ≡ 16) ⊎ (at + 48 ≤ length src) → length src ≤ length old → Unpacked src old new at
-    → IsRunBelow 0x80 src at 16 run → after ≡ take at new ++ (take 16 (drop at src) ++ drop (at + 16) new) → Unpacked src old after (at + run)
-unpacked_stride src old new after at run u long left room d r is =
-    let stride = take 16 (drop at src) in
-    let done = take at src ++ stride in
+pub unpacked_none : (src old : List ℕ) → Unpacked src old old 0
+unpacked_none src old = record { within = omega arith; same = refl; low = λ k l. absurd (omega arith); copied = refl; following = refl }
+
+pub unpacked_part : (src old new after : List ℕ) (at n run : ℕ) → IsUtf8 src → at + n ≤ length src → (run ≡ n) ⊎ (at + 3 * n ≤ length src) → length src ≤ length old → Unpacked src old new at
+    → IsRunBelow 0x80 src at n run → after ≡ take at new ++ (take n (drop at src) ++ drop (at + n) new) → Unpacked src old after (at + run)
+unpacked_part src old new after at n run u long left room d r is =
+    let part = take n (drop at src) in
+    let done = take at src ++ part in
     let more : (k : ℕ) → k < at + run → slice_index src k < 0x80 = λ k l. elim (cases_lt k at) [ inl b ↦ d.low k b | inr b ↦ r.pass k b l ] in
-    let due = stride_due src at u long d.low (elim left [ inl e ↦ inl (λ k l. more k (omega (arith, e))) | inr e ↦ inr e ]) in
-    let size : length done ≡ at + 16 = omega (arith, length-append (take at src) stride, length-take at src, length-take 16 (drop at src), length-drop at src) in
-    let stored : after ≡ done ++ drop (at + 16) new = is ∙ (λ i. d.copied i ++ (stride ++ drop (at + 16) new)) ∙ sym (append_assoc (take at src) stride (drop (at + 16) new)) in
-    let whole : take (at + 16) after ≡ take (at + 16) src = ap (take (at + 16)) stored ∙ take_at done (drop (at + 16) new) (at + 16) size ∙ sym (take-add at 16 src) in
-    let within : run ≤ 16 = r.within in
-    let part = λ (xs : List ℕ). sym (take-take (at + run) (at + 16) xs (omega arith)) in
-    let reach : at + 16 + (units_in src - (at + 16)) ≡ units_in src = omega (arith, due) in
-    let past = λ (xs : List ℕ). ap (λ m. drop m xs) (sym reach) ∙ sym (drop-drop (units_in src - (at + 16)) (at + 16) xs) in
-    let kept : drop (at + 16) after ≡ drop (at + 16) new = ap (drop (at + 16)) stored ∙ drop_at done (drop (at + 16) new) (at + 16) size in
+    let due = part_due src at n u long d.low (elim left [ inl e ↦ inl (λ k l. more k (omega (arith, e))) | inr e ↦ inr e ]) in
+    let size : length done ≡ at + n = omega (arith, length-append (take at src) part, length-take at src, length-take n (drop at src), length-drop at src) in
+    let stored : after ≡ done ++ drop (at + n) new = is ∙ (λ i. d.copied i ++ (part ++ drop (at + n) new)) ∙ sym (append_assoc (take at src) part (drop (at + n) new)) in
+    let whole : take (at + n) after ≡ take (at + n) src = ap (take (at + n)) stored ∙ take_at done (drop (at + n) new) (at + n) size ∙ sym (take-add at n src) in
+    let within : run ≤ n = r.within in
+    let upto = λ (xs : List ℕ). sym (take-take (at + run) (at + n) xs (omega arith)) in
+    let reach : at + n + (units_in src - (at + n)) ≡ units_in src = omega (arith, due) in
+    let past = λ (xs : List ℕ). ap (λ m. drop m xs) (sym reach) ∙ sym (drop-drop (units_in src - (at + n)) (at + n) xs) in
+    let kept : drop (at + n) after ≡ drop (at + n) new = ap (drop (at + n)) stored ∙ drop_at done (drop (at + n) new) (at + n) size in
     record {
       within = omega (arith, within);
-      same = omega (arith, ap length stored, length-append done (drop (at + 16) new), size, length-drop (at + 16) new, d.same);
+      same = omega (arith, ap length stored, length-append done (drop (at + n) new), size, length-drop (at + n) new, d.same);
       low = more;
-      copied = part after ∙ ap (take (at + run)) whole ∙ sym (part src);
-      following = past after ∙ ap (drop (units_in src - (at + 16))) kept ∙ sym (past new) ∙ d.following;
+      copied = upto after ∙ ap (take (at + run)) whole ∙ sym (upto src);
+      following = past after ∙ ap (drop (units_in src - (at + n))) kept ∙ sym (past new) ∙ d.following;
     }
 
 pub unpacked_prefix : (src old new : List ℕ) (at : ℕ) → IsUtf8 src → Unpacked src old new at → WritesUtf16 src old new at at (units_in src)

@@ -8,7 +8,7 @@ use Rattle.std.specs.Str.{all_scalars, IsAscii, IsUtf8, chars}
 use Rattle.std.specs.List.{flat_map}
 use Rattle.std.proofs.lemmas.Bool.{and_from, and_parts, cases_lt}
 use Rattle.std.proofs.lemmas.Grind.{flat_map-append}
-use Rattle.std.proofs.lemmas.List.{append-nil, append_assoc, length-append, length-drop, length-take, length-take-le, take_at, drop_at, take_rest, take-append-drop, take-take, take_all}
+use Rattle.std.proofs.lemmas.List.{append-nil, append_assoc, length-append, length-drop, length-take, length-take-le, take_at, drop_at, drop-drop, take_rest, take-append-drop, take-take, take_all}
 use Rattle.std.proofs.lemmas.Str.{encodes-append, encode_same, length-encode, len_utf8_bounds, IsUtf8-encode, IsUtf8-append, chars_from_encodes}
 use Rattle.std.proofs.str.Laws.{scalars-append}
 use borrow.Rule.Slice.PartMut.{put_mid}
@@ -70,6 +70,17 @@ module _ {A : Type 0} (encode : ℕ → List A) where
   converted_stops : {src : List ℕ} {old new : List A} {read written : ℕ} → ConvertsSome encode src old new read written → (FittingBegins encode (drop read src) (length old - written) → ⊥)
       → ConvertsUntilFull encode src old new read written
   converted_stops d n = record { scalars = d.scalars; are_scalars = d.are_scalars; within = d.within; spelled = d.spelled; writes = d.writes; stops = n }
+
+  -- the rest is converted
+  pub converted_rest : (src : List ℕ) (old new sub : List A) (read written n m : ℕ) → ConvertsSome encode src old new read written
+      → ConvertsUntilFull encode (drop read src) (take (length new - written) (drop written new)) sub n m → ConvertsUntilFull encode src old (put_mid written (length new - written) new sub) (read + n) (written + m)
+  converted_rest src old new sub read written n m d e =
+      let text : IsUtf8 (take n (drop read src)) = (e.scalars, (e.are_scalars, e.spelled)) in
+      let out : flat_map encode e.scalars ≡ flat_map encode (chars (take n (drop read src))) = ap (flat_map encode) (chars_from_encodes e.scalars _ text e.spelled) in
+      let room : length old - (written + m) ≡ length (take (length new - written) (drop written new)) - m =
+      omega (arith, ap length (take_rest new written), length-drop written new, WritesPrefix-length old new written (flat_map encode d.scalars) d.writes) in
+      let some = converted_text src old new sub read written n m d text e.within (subst (λ xs. WritesPrefix (take (length new - written) (drop written new)) sub m xs) out e.writes) in
+      converted_stops some (λ f. e.stops (rw (sym (drop-drop n read src), room) at f))
 
   pub converted_rejected : (src : List ℕ) (old new : List A) (read written : ℕ) → ConvertsSome encode src old new read written → BeginsWithNoCharacter (drop read src)
       → ConvertsUntilFull encode src old new read written
@@ -171,6 +182,17 @@ module _ {A : Type 0} (encode : ℕ → List A) where
             (subst (λ xs. FittingBegins encode xs (length old - written)) back f);
       }
 
+  -- ---- where a conversion goes on
+  pub converts_all : (src : List ℕ) (old new : List A) (read written : ℕ) → length src ≤ read → ConvertsSome encode src old new read written → ConvertsMaximal encode src old new read written
+  converts_all src old new read written all d = converts_longest src old new read written
+      (converted_rejected src old new read written d (λ prefix rest e s. omega (arith, all, ap length e, length-append prefix rest, length-drop read src, IsSequence-some prefix s)))
+
+  pub converts_rest : (src : List ℕ) (old new sub : List A) (read written n m : ℕ) → ConvertsSome encode src old new read written
+      → ConvertsMaximal encode (take (length src - read) (drop read src)) (take (length new - written) (drop written new)) sub n m
+      → ConvertsMaximal encode src old (put_mid written (length new - written) new sub) (read + n) (written + m)
+  converts_rest src old new sub read written n m d rest =
+      converts_longest _ _ _ _ _ (converted_rest src old new sub read written n m d (converts_prefix _ _ _ _ _ (rw (take_rest src read) at rest)))
+
 -- ---- to UTF-8 itself: the prefix whose bytes fit
 pub copied_prefix : (src old new : List ℕ) (room n : ℕ) → room ≤ length src → room ≤ length old → (length src ≤ room) ⊎ (length old ≤ room) → IsLongestPrefix IsUtf8 (take room src) n
     → new ≡ take n src ++ drop n old → ConvertsUntilFull encode_utf8 src old new n n
@@ -257,3 +279,16 @@ text_all_read src old new read written d l u =
     let w = whole_fits src old new read written d l in
     let all : length src ≤ d.text.valid = d.text.prefix.longest (length src) (omega arith) (subst IsUtf8 (sym (take_all (length src) src (omega arith))) u) in
     omega (arith, w.0, all, d.text.prefix.within)
+
+-- the ASCII prefix at the start
+pub converted_first_ascii : (src old new : List ℕ) (n : ℕ) → IsLongestPrefix IsAscii (take (length old) src) n → WritesPrefix old new n (take n src) → ConvertsSome encode_utf16 src old new n n
+converted_first_ascii src old new n p w =
+    let within : n ≤ length (take (length old) src) = p.within in
+    let text = ascii_text (take n src) (subst IsAscii (take-take n (length old) src w.fits) p.kind) in
+    record {
+      scalars = text.0.0;
+      are_scalars = text.0.1.0;
+      within = omega (arith, within, length-take (length old) src);
+      spelled = text.0.1.1;
+      writes = WritesPrefix-same _ _ _ _ _ _ w refl (sym text.1 ∙ ap (flat_map encode_utf16) (sym (chars_from_encodes text.0.0 _ text.0 text.0.1.1)));
+    }

@@ -13,7 +13,7 @@ use encoding_kernels::ascii::copy::{
 use encoding_kernels::simd::bounds::{
     are_bytes_below, are_four_blocks_below, are_units_below, run_len_below, units_run_len_below,
 };
-use encoding_kernels::simd::copy::unpack;
+use encoding_kernels::simd::copy::{unpack, unpack_block};
 use encoding_kernels::simd::width::{
     ASCII_END, BASIC_LATIN_END, BLOCK, FOUR, FOUR_BLOCKS, HALF_BLOCK, SIXTEEN, STRIDE, UNIT_BLOCK,
 };
@@ -335,9 +335,9 @@ pub(crate) fn short_ascii_valid_up_to(bytes: &[u8]) -> usize
 }
 
 /// Copies the longest ASCII prefix, each byte as a UTF-16 code unit, up to the shorter of the two lengths. Returns its
-/// length. Out of line, so that a loop that calls it needs few registers.
-#[inline(never)]
-fn copy_some_to_basic_latin(src: &[u8], dst: &mut [u16]) -> usize
+/// length. Inline, for a call outside loops.
+#[inline(always)]
+pub(crate) fn copy_to_basic_latin_inline(src: &[u8], dst: &mut [u16]) -> usize
     ensures prefix { IsLongestPrefix IsAscii (take (length dst.old) src.now) result }
     ensures copied { WritesPrefix dst.old dst.new result (take result src.now) }
 {
@@ -345,6 +345,15 @@ fn copy_some_to_basic_latin(src: &[u8], dst: &mut [u16]) -> usize
         Some((_, place)) => place,
         None => src.len().min(dst.len()),
     }
+}
+
+/// Copies as `copy_to_basic_latin_inline` does. Out of line, so that a loop that calls it needs few registers.
+#[inline(never)]
+fn copy_some_to_basic_latin(src: &[u8], dst: &mut [u16]) -> usize
+    ensures prefix { IsLongestPrefix IsAscii (take (length dst.old) src.now) result }
+    ensures copied { WritesPrefix dst.old dst.new result (take result src.now) }
+{
+    copy_to_basic_latin_inline(src, dst)
 }
 
 /// Copies the longest ASCII prefix, each byte as a UTF-16 code unit, up to the shorter of the two lengths. Returns its
@@ -362,21 +371,37 @@ pub(crate) fn copy_to_basic_latin(src: &[u8], dst: &mut [u16]) -> usize
     copy_some_to_basic_latin(src, dst)
 }
 
+/// The least length of a text whose UTF-16 has at least as many code units as a block.
+const BLOCK_OF_TEXT: usize = 3 * BLOCK;
+
 /// The least length of a text whose UTF-16 has at least as many code units as a stride.
 const STRIDE_OF_TEXT: usize = 3 * STRIDE;
 
 /// Copies an ASCII prefix of a text, each byte as a UTF-16 code unit, and returns its length. `dst` is at least as long
 /// as `src`. Units that the UTF-16 of the rest of the text overwrites may have changed too.
 ///
-/// A stride is stored whole, even if ASCII ends in it: to keep what follows, it would have to load what was just stored.
+/// A block or a stride is stored whole, even if ASCII ends in it: to keep what follows, it would have to load what was
+/// just stored. One mask finds the end in a block, without a branch that depends on the text.
 #[inline(always)]
 pub(crate) fn copy_prefix_of_text(src: &[u8], dst: &mut [u16]) -> usize
     requires dst_length { length src.now ≤ length dst.old }
     requires text { IsUtf8 src.now }
     ensures { WritesUtf16 src.now dst.old dst.new result result (units_in src.now) }
 {
+    if src.is_empty() || src[0] >= ASCII_END {
+        return 0;
+    }
     let mut at = 0;
-    while at < BLOCK && src.len() - at >= STRIDE {
+    while src.len() - at >= BLOCK_OF_TEXT {
+        if !are_bytes_below::<BLOCK>(src, at, ASCII_END) {
+            let run = run_len_below::<BLOCK>(src, at, ASCII_END);
+            unpack_block(src, dst, at);
+            return at + run;
+        }
+        unpack_block(src, dst, at);
+        at += BLOCK;
+    }
+    while src.len() - at >= STRIDE {
         let run = run_len_below::<STRIDE>(src, at, ASCII_END);
         if run < STRIDE {
             if src.len() - at < STRIDE_OF_TEXT {
@@ -387,9 +412,6 @@ pub(crate) fn copy_prefix_of_text(src: &[u8], dst: &mut [u16]) -> usize
         }
         unpack::<STRIDE>(src, dst, at);
         at += run;
-    }
-    if at == src.len() {
-        return at;
     }
     at + copy_to_basic_latin(&src[at..], &mut dst[at..])
 }

@@ -88,6 +88,19 @@ pub fn unpack<const N: usize>(src: &[u8], dst: &mut [u16], at: usize)
     units.copy_to_slice(&mut dst[at..]);
 }
 
+/// Copies the 64 bytes from `at` on to the same index, each as a UTF-16 code unit. Strides are stored in order, as one
+/// vector of 64 lanes would not be.
+#[inline(always)]
+pub fn unpack_block(src: &[u8], dst: &mut [u16], at: usize)
+    requires { (at + 64 ≤ length src.now) × (at + 64 ≤ length dst.old) }
+    ensures { dst.new ≡ take at dst.old ++ (take 64 (drop at src.now) ++ drop (at + 64) dst.old) }
+{
+    unpack::<STRIDE>(src, dst, at);
+    unpack::<STRIDE>(src, dst, at + STRIDE);
+    unpack::<STRIDE>(src, dst, at + 2 * STRIDE);
+    unpack::<STRIDE>(src, dst, at + 3 * STRIDE);
+}
+
 /// Writes the lower byte of each of N UTF-16 code units from `at` on.
 #[inline(always)]
 pub fn pack_lower<const N: usize>(stride: &[u16; N], dst: &mut [u8], at: usize)

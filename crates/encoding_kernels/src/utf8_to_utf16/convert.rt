@@ -10,7 +10,7 @@ ghost use Rattle.encoding_kernels.specs.EndingUnits.{WritesUtf16, units_in};
 
 use crate::scalar::sequence::sequence_length;
 use crate::simd::bounds::are_bytes_below;
-use crate::simd::width::{ASCII_END, STRIDE};
+use crate::simd::width::{ASCII_END, BLOCK, STRIDE};
 use crate::utf8_to_utf16::block::{
     begins_triples, is_due, whole_end, write_block, write_block_in_any_room, write_character,
     write_triples, write_triples_exact,
@@ -48,7 +48,8 @@ fn write_some(src: &[u8], dst: &mut [u16]) -> (usize, usize)
 }
 
 /// Writes the UTF-16 of a text up to a stride of ASCII, and returns how many bytes it read and how many code units it
-/// wrote. Units that the rest of the text overwrites may have changed too.
+/// wrote. Units that the rest of the text overwrites may have changed too. In the last 64 bytes ASCII ends no blocks,
+/// since they would soon be over.
 #[inline(never)]
 fn write_blocks(src: &[u8], dst: &mut [u16]) -> (usize, usize)
     requires dst_length { (0 < length src.now) × (length src.now ≤ length dst.old) }
@@ -62,7 +63,7 @@ fn write_blocks(src: &[u8], dst: &mut [u16]) -> (usize, usize)
         let (bytes, units) = write_some(&src[read..], &mut dst[written..]);
         read += bytes;
         written += units;
-        if src.len() - read > STRIDE && are_bytes_below::<STRIDE>(src, read, ASCII_END) {
+        if src.len() - read > BLOCK && are_bytes_below::<STRIDE>(src, read, ASCII_END) {
             return (read, written);
         }
     }
@@ -77,7 +78,8 @@ fn write_blocks(src: &[u8], dst: &mut [u16]) -> (usize, usize)
 /// Writes the UTF-16 of the text before a run of ASCII, and returns how many bytes it read and how many code units it
 /// wrote. Units that the rest of the text overwrites may have changed too.
 ///
-/// A character before ASCII is written alone, since a block would end in the run.
+/// A character before a stride of ASCII is written alone, since a block would end in the run. The last 64 bytes are
+/// written by blocks in any case.
 #[inline(always)]
 pub fn convert_valid_utf8_to_utf16(src: &[u8], dst: &mut [u16]) -> (usize, usize)
     requires dst_length { (0 < length src.now) × (length src.now ≤ length dst.old) }
@@ -86,7 +88,7 @@ pub fn convert_valid_utf8_to_utf16(src: &[u8], dst: &mut [u16]) -> (usize, usize
     ensures written { WritesUtf16 src.now dst.old dst.new result.0 result.1 (units_in src.now) }
 {
     let length = sequence_length(src[0]);
-    if length < src.len() && src[length] < ASCII_END {
+    if src.len() > BLOCK && are_bytes_below::<STRIDE>(src, length, ASCII_END) {
         return write_character(src, dst);
     }
     write_blocks(src, dst)

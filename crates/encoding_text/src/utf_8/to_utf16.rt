@@ -10,7 +10,7 @@ ghost use Rattle.encoding_definitions.specs.Converting.{ConvertsMaximal};
 ghost use Rattle.encoding_text.specs.Steps.{ConvertsSome, ConvertsUntilFull};
 
 use super::validation::{character_length, utf8_valid_up_to};
-use crate::ascii::{copy_prefix_of_text, copy_to_basic_latin};
+use crate::ascii::{copy_prefix_of_text, copy_to_basic_latin, copy_to_basic_latin_inline};
 use encoding_kernels::scalar::value::{decode_utf8_scalar, write_utf16};
 use encoding_kernels::simd::copy::copy_prefix;
 use encoding_kernels::utf8_to_utf16::convert::convert_valid_utf8_to_utf16;
@@ -94,12 +94,13 @@ pub(crate) fn convert_text(src: &[u8], dst: &mut [u16]) -> usize
     }
 }
 
-/// Converts UTF-8 to UTF-16 up to the first byte that is in no character, or as far as whole characters fit. Returns
-/// how many bytes it read and how many code units it wrote. `dst` may have any length.
+/// Converts UTF-8 to UTF-16 as `convert_utf8_to_utf16_up_to_invalid` does. Out of line, so that the ASCII before other
+/// text needs few registers.
 ///
 /// A turn takes the ASCII prefix, then a well-formed piece that is short enough for its UTF-16 to fit, then one
 /// character. The test for ASCII is its validation, so the ASCII before a piece is read once.
-pub fn convert_utf8_to_utf16_up_to_invalid(src: &[u8], dst: &mut [u16]) -> (usize, usize)
+#[inline(never)]
+fn convert_turns(src: &[u8], dst: &mut [u16]) -> (usize, usize)
     ensures { ConvertsMaximal encode_utf16 src.now dst.old dst.new result.0 result.1 }
 {
     let mut read = 0;
@@ -124,6 +125,19 @@ pub fn convert_utf8_to_utf16_up_to_invalid(src: &[u8], dst: &mut [u16]) -> (usiz
         read += length;
         written += units;
     }
+}
+
+/// Converts UTF-8 to UTF-16 up to the first byte that is in no character, or as far as whole characters fit. Returns
+/// how many bytes it read and how many code units it wrote. `dst` may have any length.
+pub fn convert_utf8_to_utf16_up_to_invalid(src: &[u8], dst: &mut [u16]) -> (usize, usize)
+    ensures { ConvertsMaximal encode_utf16 src.now dst.old dst.new result.0 result.1 }
+{
+    let ascii = copy_to_basic_latin_inline(src, dst);
+    if ascii == src.len() {
+        return (ascii, ascii);
+    }
+    let (read, written) = convert_turns(&src[ascii..], &mut dst[ascii..]);
+    (ascii + read, ascii + written)
 }
 
 /// Copies UTF-8 up to the first byte that is in no character, or as far as whole characters fit. Returns how many bytes

@@ -1,7 +1,7 @@
 use Rattle.std.proofs.Common.{◌-◌, length}
 use Rattle.std.specs.Char.Escape.{encode_utf16}
 use Rattle.encoding_text.specs.Steps.{ConvertsSome}
-use Rattle.encoding_text.proofs.utf_8.to_utf16.convert_utf8_to_utf16_up_to_invalid.Given as goal
+use Rattle.encoding_text.proofs.utf_8.to_utf16.convert_turns.Given as goal
 
 abbrev pub invariant-loop-length : goal.invariant-loop-length
 invariant-loop-length l = ConvertsSome encode_utf16 l.src l.fn.dst l.dst l.read l.written
