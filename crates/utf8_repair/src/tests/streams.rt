@@ -3,7 +3,7 @@
 ghost use Rattle.std.specs.Prelude.{◌≤◌};
 
 use std::alloc::{AllocError, Global};
-use std::io::{Error, ErrorKind, Read, Result, Write};
+use std::io::{self, Error, ErrorKind, Read, Write};
 
 /// Yields its bytes, at most `step` with each read, and then ends or fails.
 #[derive(Drop)]
@@ -42,7 +42,7 @@ impl<'a> Input<'a> {
 }
 
 impl Read for Input<'_> {
-    fn read(&mut self, buffer: &mut [u8]) -> Result<usize> {
+    fn read(&mut self, buffer: &mut [u8]) -> io::Result<usize> {
         self.asked = self.asked.saturating_add(1);
         if self.rest.is_empty() {
             self.asked_after = self.asked_after.saturating_add(1);
@@ -121,7 +121,7 @@ impl Output {
 }
 
 impl Write for Output {
-    fn write(&mut self, bytes: &[u8]) -> Result<usize> {
+    fn write(&mut self, bytes: &[u8]) -> io::Result<usize> {
         self.asked = self.asked.saturating_add(1);
         let room = self.takes.min(OUTPUT_CAPACITY).saturating_sub(self.count);
         let taken = bytes.len().min(room).min(self.step);
@@ -136,7 +136,7 @@ impl Write for Output {
         Ok(taken)
     }
 
-    fn flush(&mut self) -> Result<()> {
+    fn flush(&mut self) -> io::Result<()> {
         self.flushes = self.flushes.saturating_add(1);
         self.flushed_at = self.count;
         if self.flushable {
