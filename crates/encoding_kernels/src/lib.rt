@@ -7,6 +7,7 @@ pub mod bidi;
 pub mod latin1;
 pub mod scalar;
 pub mod simd;
+pub mod tuning;
 pub mod utf16;
 pub mod utf16_to_utf8;
 pub mod utf8;

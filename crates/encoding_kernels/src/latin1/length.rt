@@ -7,14 +7,12 @@ ghost use Rattle.encoding_kernels.specs.Lengths.{sum_over_suffixes, one_if_at_le
 
 use crate::simd::sum::{Terms, sum_from};
 use crate::simd::width::{ASCII_END, BLOCK, STRIDE};
+use crate::tuning::LATIN1_LENGTH_SPAN;
 use std::simd::Simd;
 use std::simd::prelude::*;
 
 /// The least byte that begins a character of several bytes.
 const LEAST_LEAD: u8 = 0xC0;
-
-/// The number of bytes between two sums of lanes.
-const SPAN: usize = 1024;
 
 /// A term for each byte: 1 if it is at least `least`, else 0.
 #[derive(Drop)]
@@ -70,7 +68,7 @@ fn count_from(bytes: &[u8], least: u8) -> usize
     ensures within { result ≤ length bytes.now }
 {
     let terms = BytesFrom { bytes, least };
-    sum_from::<BLOCK, STRIDE, SPAN, _, _>(&terms, &terms, 0)
+    sum_from::<BLOCK, STRIDE, LATIN1_LENGTH_SPAN, _, _>(&terms, &terms, 0)
 }
 
 /// Returns the length in bytes of the UTF-8 of the bytes as Latin1.

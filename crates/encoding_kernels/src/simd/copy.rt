@@ -4,11 +4,9 @@ ghost use Rattle.std.specs.Prelude.{◌≡◌, ◌+◌, ◌%◌, ◌<◌, ◌≤
 ghost use Rattle.encoding_definitions.specs.Prefixes.{WritesPrefix};
 
 use crate::simd::width::{HALF_STRIDE, STRIDE};
+use crate::tuning::LONGEST_VECTOR_COPY;
 use std::simd::Simd;
 use std::simd::prelude::*;
-
-/// The greatest number of bytes that are copied by strides.
-const MOST_STRIDES: usize = 256;
 
 /// The indices of the lanes of a stride.
 pub(crate) const LANES: [u8; STRIDE] = [0, 1, 2, 3, 4, 5, 6, 7, 8, 9, 10, 11, 12, 13, 14, 15];
@@ -60,7 +58,7 @@ fn copy_many(src: &[u8], dst: &mut [u8])
     match src.len() {
         4..HALF_STRIDE => copy_by_strides::<4>(src, dst),
         HALF_STRIDE..STRIDE => copy_by_strides::<HALF_STRIDE>(src, dst),
-        STRIDE..=MOST_STRIDES => copy_by_strides::<STRIDE>(src, dst),
+        STRIDE..=LONGEST_VECTOR_COPY => copy_by_strides::<STRIDE>(src, dst),
         _ => dst[..src.len()].copy_from_slice(src),
     }
 }

@@ -8,14 +8,12 @@ use crate::simd::bounds::UnitsBelow;
 use crate::simd::scan::skip;
 use crate::simd::sum::{Terms, sum_from};
 use crate::simd::width::{BASIC_LATIN_END, HALF_UNIT_BLOCK, UNIT_STRIDE};
+use crate::tuning::LENGTH_SPAN;
 use std::simd::Simd;
 use std::simd::prelude::*;
 
 /// The number of lanes.
 const LANES: usize = 32;
-
-/// The number of code units between two tests for ASCII.
-const SPAN: usize = 256;
 
 /// Returns, without a branch, how many bytes beyond one the UTF-8 of a code unit has: none for the first unit of a
 /// pair, and two for the second.
@@ -110,5 +108,5 @@ pub fn utf8_length_of_units(units: &[u16]) -> usize
     ensures { (text : List ℕ) × IsUtf8OfUnits units.now text × (result ≡ length text) }
 {
     let terms = Beyond { units };
-    units.len() + sum_from::<LANES, UNIT_STRIDE, SPAN, _, _>(&terms, &terms, 0)
+    units.len() + sum_from::<LANES, UNIT_STRIDE, LENGTH_SPAN, _, _>(&terms, &terms, 0)
 }

@@ -12,16 +12,8 @@ use super::pairs::{are_two_byte_or_paired, write_two_byte_or_paired};
 use crate::scalar::surrogates::is_surrogate;
 use crate::simd::bounds::are_units_below;
 use crate::simd::width::{BASIC_LATIN_END, HALF_STRIDE, STRIDE};
+use crate::tuning::{ASCII_RUN, MIXED_RUN, TWO_BYTE_RUN};
 use std::simd::prelude::*;
-
-/// The number of code units of ASCII in a row after which the blocks end.
-const ASCII_RUN: usize = 24 * STRIDE;
-
-/// The most code units below U+0800 that are converted before the next test for ASCII.
-const TWO_BYTE_RUN: usize = 6 * STRIDE;
-
-/// The most code units of any kind that are converted before the next test for one kind.
-const MIXED_RUN: usize = 8 * STRIDE;
 
 /// Converts blocks from the start of `src`, until many in a row are ASCII or have three bytes for each unit, or one has
 /// a surrogate, or the end is near. `due` and the last number returned are as for `convert_run`.

@@ -9,14 +9,12 @@ use crate::simd::bounds::BytesBelow;
 use crate::simd::scan::skip;
 use crate::simd::sum::{Terms, sum_from};
 use crate::simd::width::{ASCII_END, BLOCK, HALF_STRIDE};
+use crate::tuning::LENGTH_SPAN;
 use std::simd::Simd;
 use std::simd::prelude::*;
 
 /// The number of lanes.
 const LANES: usize = 32;
-
-/// The number of bytes between two tests for ASCII.
-const SPAN: usize = 256;
 
 /// Returns, without a branch, whether `second` may be the second byte of several that begin with `lead`.
 #[inline(always)]
@@ -146,7 +144,7 @@ fn count_joined(bytes: &[u8], ascii: usize) -> usize
     ensures { result ≡ sum_over_suffixes continuations (drop ascii bytes.now) }
 {
     let terms = Joined { bytes };
-    sum_from::<LANES, HALF_STRIDE, SPAN, _, _>(&terms, &terms, ascii)
+    sum_from::<LANES, HALF_STRIDE, LENGTH_SPAN, _, _>(&terms, &terms, ascii)
 }
 
 /// Returns the number of code units in the UTF-16 of the bytes, with U+FFFD for each malformed sequence.

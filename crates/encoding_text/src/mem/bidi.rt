@@ -17,12 +17,10 @@ use encoding_kernels::ascii::prefix::{prefix_len_below, units_prefix_len_below};
 use encoding_kernels::bidi::{FIRST_LEAD, FIRST_UNIT, skip_clear, skip_clear_units};
 use encoding_kernels::scalar::value::decode_utf8_scalar;
 use encoding_kernels::simd::width::{STRIDE, UNIT_STRIDE};
+use encoding_kernels::tuning::VALIDATED_PIECE;
 
 /// The first right-to-left scalar value.
 const FIRST: u32 = 0x0590;
-
-/// How many bytes are validated before they are checked.
-const VALIDATE_CHUNK: usize = 4096;
 
 /// Whether a text is Latin1, and if not, whether it has right-to-left characters.
 #[derive(Debug, PartialEq, Eq, Drop)]
@@ -158,7 +156,7 @@ fn clear_prefix_len(bytes: &[u8]) -> Option<usize>
 {
     let prefix = ascii_valid_up_to(bytes);
     let rest = &bytes[prefix..];
-    let valid = utf8_valid_up_to(&rest[..VALIDATE_CHUNK.min(rest.len())]);
+    let valid = utf8_valid_up_to(&rest[..VALIDATED_PIECE.min(rest.len())]);
     if is_text_bidi(&rest[..valid]) {
         return None;
     }

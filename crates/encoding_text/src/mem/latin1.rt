@@ -14,14 +14,11 @@ use encoding_kernels::latin1::to_utf8::{utf8_length_of_first, write_latin1};
 use encoding_kernels::simd::bounds::are_bytes_below;
 use encoding_kernels::simd::copy::{pack_lower, write_first};
 use encoding_kernels::simd::width::{ASCII_END, BLOCK, STRIDE};
+use encoding_kernels::tuning::BLOCKS_BEFORE_RETEST;
 use std::simd::prelude::*;
 
 /// The length in UTF-8 of a character from U+0080 to U+00FF.
 const HIGH_LENGTH: usize = 2;
-
-/// The number of blocks of 16 bytes that one test for ASCII covers: if ASCII and other bytes are mixed, a mispredicted
-/// branch costs more than a block.
-const BLOCKS_BEFORE_RETEST: usize = 4;
 
 /// Writes each byte as a UTF-16 code unit. `dst` is at least as long as `src`.
 pub fn convert_latin1_to_utf16(src: &[u8], dst: &mut [u16])

@@ -7,12 +7,10 @@ ghost use Rattle.encoding_definitions.specs.Utf16.{AreCodeUnits};
 
 use encoding_kernels::scalar::surrogates::{is_high_surrogate, is_low_surrogate, is_surrogate};
 use encoding_kernels::simd::width::{FOUR, HALF_UNIT_BLOCK, STRIDE, UNIT_BLOCK};
+use encoding_kernels::tuning::PAIRED_BLOCKS_BEFORE_RETEST;
 use encoding_kernels::utf16::validate::{
     are_paired, before_cut_pair, has_no_surrogate, is_after_high_surrogate, paired_run,
 };
-
-/// The number of blocks after one with surrogates that are tested for pairs at once.
-const PAIRED_BLOCKS_BEFORE_RETEST: usize = 8;
 
 /// What replaces an unpaired surrogate.
 const REPLACEMENT_UNIT: u16 = 0xFFFD;

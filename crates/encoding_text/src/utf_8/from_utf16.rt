@@ -8,6 +8,7 @@ use crate::ascii;
 use encoding_kernels::scalar::surrogates::{is_high_surrogate, is_low_surrogate};
 use encoding_kernels::scalar::value::{utf8_length, utf16_length, write_scalar};
 use encoding_kernels::simd::width::{BASIC_LATIN_END, HALF_STRIDE};
+use encoding_kernels::tuning::SCALAR_BURST;
 use encoding_kernels::utf16_to_utf8::convert::{convert_blocks, convert_paired_blocks};
 pub(super) use encoding_kernels::utf16_to_utf8::exact::REPLACEMENT_CHARACTER;
 use encoding_kernels::utf16_to_utf8::exact::scalar_at;
@@ -65,9 +66,6 @@ fn convert_prefix_and_blocks(src: &[u16], dst: &mut [u8]) -> (usize, usize, bool
     let (paired, extra) = convert_paired_blocks(&src[read..], &mut dst[written..]);
     (read + paired, written + extra, paired > 0)
 }
-
-/// How many characters to convert one at a time after two attempts at blocks in a row failed.
-const SCALAR_BURST: usize = 32;
 
 /// Returns how many characters to convert one at a time before trying blocks again. `SCALAR_BURST` if fewer than eight
 /// units are left, or if two attempts in a row converted fewer than eight: text without blocks is not scanned twice.

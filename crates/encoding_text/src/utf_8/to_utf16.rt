@@ -13,10 +13,8 @@ use super::validation::{character_length, utf8_valid_up_to};
 use crate::ascii::{copy_prefix_of_text, copy_to_basic_latin, copy_to_basic_latin_inline};
 use encoding_kernels::scalar::value::{decode_utf8_scalar, write_utf16};
 use encoding_kernels::simd::copy::copy_prefix;
+use encoding_kernels::tuning::VALIDATED_PIECE;
 use encoding_kernels::utf8_to_utf16::convert::convert_valid_utf8_to_utf16;
-
-/// The most bytes that are validated before they are converted: they stay in the nearest cache.
-const VALIDATE_CHUNK: usize = 4096;
 
 /// What text is converted to: bytes of UTF-8, or code units of UTF-16.
 pub(crate) trait CodeUnit: Copy {
@@ -111,7 +109,7 @@ fn convert_turns(src: &[u8], dst: &mut [u16]) -> (usize, usize)
         written += ascii;
         let room = (src.len() - read)
             .min(dst.len() - written)
-            .min(VALIDATE_CHUNK);
+            .min(VALIDATED_PIECE);
         let valid = utf8_valid_up_to(&src[read..read + room]);
         written += convert_text(&src[read..read + valid], &mut dst[written..]);
         read += valid;
