@@ -2,7 +2,6 @@
 //! `encoding_text` relies on these contracts and exposes none of them.
 #![tactic(auto)]
 
-pub mod ascii;
 pub mod bidi;
 pub mod latin1;
 pub mod scalar;

@@ -1,5 +1,193 @@
-//! Single characters: the bytes of a sequence, scalar values, and surrogates.
+//! Single characters: the bytes of a sequence, one byte at a time (the nine rows of the Unicode Standard, Table 3-7), scalar
+//! values in UTF-8 and UTF-16, and surrogates (section 3.9, UTF-16). A function that writes leaves the rest of `dst`
+//! unchanged.
 
-pub mod sequence;
-pub mod surrogates;
-pub mod value;
+ghost use Rattle.std.specs.Prelude.{◌≡◌, ℕ, ◌+◌, ◌↔◌, List, [], ◌∷◌, length, IsTrue, ◌<◌, ◌≤◌, encode_utf8, IfSome, IfNone};
+ghost use Rattle.encoding_definitions.specs.Sequence.{IsSequence, IsIncomplete, IsSecond, IsContinuation};
+ghost use Rattle.std.specs.Char.{IsScalar, len_utf8};
+ghost use Rattle.std.specs.Char.Escape.{encode_utf16};
+ghost use Rattle.encoding_definitions.specs.Prefixes.{WritesPrefix};
+ghost use Rattle.std.specs.Char.Utf16.{surrogate_pair_char};
+ghost use Rattle.encoding_definitions.specs.Utf16.{IsHighSurrogate, IsLowSurrogate};
+
+/// Returns whether the byte begins a sequence of several bytes.
+pub fn begins_several(byte: u8) -> bool
+    ensures { IsTrue result ↔ IsIncomplete (byte ∷ []) }
+{
+    0xC2 <= byte && byte <= 0xF4
+}
+
+/// Returns whether the byte may be the second of a sequence of several that begins with `lead`.
+pub fn is_second(lead: u8, byte: u8) -> bool
+    ensures { IsTrue result ↔ IsSecond lead byte }
+{
+    let (least, greatest) = match lead {
+        0xE0 => (0xA0, 0xBF),
+        0xED => (0x80, 0x9F),
+        0xF0 => (0x90, 0xBF),
+        0xF4 => (0x80, 0x8F),
+        0xC2..=0xF3 => (0x80, 0xBF),
+        _ => return false,
+    };
+    least <= byte && byte <= greatest
+}
+
+/// Returns whether the byte is a continuation byte, which may follow the second byte of a sequence.
+pub fn is_continuation(byte: u8) -> bool
+    ensures { IsTrue result ↔ IsContinuation byte }
+{
+    byte & 0xC0 == 0x80
+}
+
+/// Returns whether `lead` begins several bytes and `second` is a continuation byte. Uses one test, since on random
+/// bytes a branch for each costs more.
+#[inline(always)]
+pub fn is_lead_with_continuation(lead: u8, second: u8) -> bool
+    ensures { IsTrue result ↔ IsIncomplete (lead ∷ []) × IsContinuation second }
+{
+    let mask = u8::from(begins_several(lead)) * 0xC0;
+    second & mask == 0x80
+}
+
+/// Returns the length of the sequences that begin with the byte.
+pub fn sequence_length(lead: u8) -> usize
+    ensures { (rest : List ℕ) → IsSequence (lead ∷ rest) → result ≡ 1 + length rest }
+{
+    match lead {
+        ..=0x7F => 1,
+        0x80..=0xDF => 2,
+        0xE0..=0xEF => 3,
+        _ => 4,
+    }
+}
+
+/// Returns the scalar value that the bytes encode.
+#[inline(always)]
+pub fn decode_utf8_scalar(bytes: &[u8]) -> u32
+    requires sequence { IsSequence bytes.now }
+    ensures scalar { IsScalar result }
+    ensures spelled { encode_utf8 result ≡ bytes.now }
+{
+    match *bytes {
+        [a] => u32::from(a),
+        [a, b] => u32::from(a & 0x1F) << 6 | u32::from(b & 0x3F),
+        [a, b, c] => u32::from(a & 0x0F) << 12 | u32::from(b & 0x3F) << 6 | u32::from(c & 0x3F),
+        [a, b, c, d] => {
+            u32::from(a & 0x07) << 18
+                | u32::from(b & 0x3F) << 12
+                | u32::from(c & 0x3F) << 6
+                | u32::from(d & 0x3F)
+        }
+        _ => unreachable!(),
+    }
+}
+
+/// Writes the UTF-16 of the scalar value to the start of `dst`, and returns its length, or returns `None` if it doesn't
+/// fit.
+#[inline(always)]
+pub fn write_utf16(scalar: u32, dst: &mut [u16]) -> Option<usize>
+    requires scalar { IsScalar scalar }
+    ensures written { IfSome result (λ n. WritesPrefix dst.old dst.new n (encode_utf16 scalar)) }
+    ensures unfit { IfNone result ((length dst.old < length (encode_utf16 scalar)) × (dst.new ≡ dst.old)) }
+{
+    if scalar < 0x10000 {
+        if dst.is_empty() {
+            return None;
+        }
+        dst[0] = scalar as u16;
+        return Some(1);
+    }
+    if dst.len() < 2 {
+        return None;
+    }
+    let above = scalar - 0x10000;
+    dst[0] = 0xD800 | (above >> 10) as u16;
+    dst[1] = 0xDC00 | (above & 0x3FF) as u16;
+    Some(2)
+}
+
+/// Returns the number of code units in the UTF-16 of a scalar value.
+#[inline(always)]
+pub fn utf16_length(scalar: u32) -> usize
+    ensures { result ≡ length (encode_utf16 scalar) }
+{
+    if scalar < 0x10000 { 1 } else { 2 }
+}
+
+/// Returns the number of bytes in the UTF-8 of a scalar value.
+#[inline(always)]
+pub fn utf8_length(scalar: u32) -> usize
+    ensures { result ≡ len_utf8 scalar }
+{
+    match scalar {
+        0..0x80 => 1,
+        0x80..0x800 => 2,
+        0x800..0x10000 => 3,
+        _ => 4,
+    }
+}
+
+/// Writes the UTF-8 of a scalar value to the start of `dst`, and returns its length.
+#[inline(always)]
+pub fn write_scalar(scalar: u32, dst: &mut [u8]) -> usize
+    requires scalar { scalar < 0x110000 }
+    requires dst_length { len_utf8 scalar ≤ length dst.old }
+    ensures { WritesPrefix dst.old dst.new result (encode_utf8 scalar) }
+{
+    if scalar < 0x80 {
+        dst[0] = scalar as u8;
+        return 1;
+    }
+    let last = 0x80 | (scalar & 0x3F) as u8;
+    if scalar < 0x800 {
+        dst[0] = 0xC0 | (scalar >> 6) as u8;
+        dst[1] = last;
+        return 2;
+    }
+    let third = 0x80 | ((scalar >> 6) & 0x3F) as u8;
+    if scalar < 0x10000 {
+        dst[0] = 0xE0 | (scalar >> 12) as u8;
+        dst[1] = third;
+        dst[2] = last;
+        return 3;
+    }
+    dst[0] = 0xF0 | (scalar >> 18) as u8;
+    dst[1] = 0x80 | ((scalar >> 12) & 0x3F) as u8;
+    dst[2] = third;
+    dst[3] = last;
+    4
+}
+
+/// Returns whether the code unit is a surrogate.
+#[inline(always)]
+pub fn is_surrogate(unit: u16) -> bool
+    ensures { IsTrue result ↔ ((0xD800 ≤ unit) × (unit ≤ 0xDFFF)) }
+{
+    unit & 0xF800 == 0xD800
+}
+
+/// Returns whether the code unit is a high surrogate, the first of a pair.
+#[inline(always)]
+pub fn is_high_surrogate(unit: u16) -> bool
+    ensures { IsTrue result ↔ IsHighSurrogate unit }
+{
+    unit & 0xFC00 == 0xD800
+}
+
+/// Returns whether the code unit is a low surrogate, the second of a pair.
+#[inline(always)]
+pub fn is_low_surrogate(unit: u16) -> bool
+    ensures { IsTrue result ↔ IsLowSurrogate unit }
+{
+    unit & 0xFC00 == 0xDC00
+}
+
+/// Returns the scalar value of a surrogate pair.
+#[inline(always)]
+pub fn pair_scalar(high: u16, low: u16) -> u32
+    requires high { IsHighSurrogate high }
+    requires low { IsLowSurrogate low }
+    ensures { result ≡ surrogate_pair_char high low }
+{
+    0x10000 + ((u32::from(high) - 0xD800) << 10) + (u32::from(low) - 0xDC00)
+}

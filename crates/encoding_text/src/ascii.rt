@@ -7,13 +7,12 @@ ghost use Rattle.encoding_definitions.specs.Ascii.{IsFirstOther, prefix_length_b
 ghost use Rattle.encoding_definitions.specs.Prefixes.{IsLongestPrefix, WritesPrefix};
 ghost use Rattle.encoding_kernels.specs.EndingUnits.{WritesUtf16, units_in};
 
-use encoding_kernels::ascii::copy::{
-    copy_first, copy_part, pack_first, pack_part, unpack_first, unpack_part,
+use encoding_kernels::simd::copy::{
+    copy_first, copy_part, pack_first, pack_part, unpack, unpack_block, unpack_first, unpack_part,
 };
-use encoding_kernels::simd::bounds::{
+use encoding_kernels::simd::scan::{
     are_bytes_below, are_four_blocks_below, are_units_below, run_len_below, units_run_len_below,
 };
-use encoding_kernels::simd::copy::{unpack, unpack_block};
 use encoding_kernels::simd::width::{
     ASCII_END, BASIC_LATIN_END, BLOCK, FOUR, FOUR_BLOCKS, HALF_BLOCK, SIXTEEN, STRIDE, UNIT_BLOCK,
 };

@@ -1,8 +1,13 @@
-//! Scans for indices that pass a test, many at a time by vectors.
+//! Scans for indices that pass a test, many at a time by vectors, and the longest prefix of units below a bound, such as
+//! the ASCII prefix.
 
-ghost use Rattle.std.specs.Prelude.{◌≡◌, ℕ, ◌+◌, ◌*◌, ◌<◌, ◌≤◌, ◌↔◌, ◌⊎◌, IsTrue};
+ghost use Rattle.std.specs.Prelude.{◌≡◌, ℕ, ◌+◌, ◌*◌, ◌<◌, ◌≤◌, ◌↔◌, ◌⊎◌, IsTrue, length, slice_index};
 ghost use lib.Count.{count_trailing_zeros};
-ghost use Rattle.encoding_kernels.specs.Scans.{PassBetween, IsPassRun, Marks};
+ghost use Rattle.encoding_kernels.specs.Scans.{PassBetween, IsPassRun, Marks, AllBelow, IsRunBelow, BelowUpTo};
+
+use crate::simd::width::{BLOCK, FOUR_BLOCKS, HALF_STRIDE, HALF_UNIT_BLOCK, STRIDE, UNIT_STRIDE};
+use std::simd::Simd;
+use std::simd::prelude::*;
 
 /// A test of each index below a count, N at a time.
 pub(crate) trait LanePredicate<const N: usize> {
@@ -124,4 +129,153 @@ pub(crate) fn find<const N: usize, T: LanePredicate<N>>(test: &T, from: usize, e
     }
     let place = at.min(end - N);
     place + run::<N, T>(test, place)
+}
+
+/// Bytes that are below a bound.
+#[derive(Drop)]
+pub(crate) struct BytesBelow<'a> {
+    pub(crate) bytes: &'a [u8],
+    pub(crate) bound: u8,
+}
+
+impl<'a, const N: usize> LanePredicate<N> for BytesBelow<'a> {
+    ghost count = { λ s. length s.bytes.now };
+
+    ghost passes = { λ s k. slice_index s.bytes.now k < s.bound };
+
+    #[inline(always)]
+    fn failing(&self, at: usize) -> u64 {
+        let bytes = self.bytes;
+        let others = Simd::<u8, N>::from_slice(&bytes[at..]).simd_ge(Simd::splat(self.bound));
+        others.to_bitmask()
+    }
+}
+
+/// UTF-16 code units that are below a bound.
+#[derive(Drop)]
+pub(crate) struct UnitsBelow<'a> {
+    pub(crate) units: &'a [u16],
+    pub(crate) bound: u16,
+}
+
+impl<'a, const N: usize> LanePredicate<N> for UnitsBelow<'a> {
+    ghost count = { λ s. length s.units.now };
+
+    ghost passes = { λ s k. slice_index s.units.now k < s.bound };
+
+    #[inline(always)]
+    fn failing(&self, at: usize) -> u64 {
+        let units = self.units;
+        let others = Simd::<u16, N>::from_slice(&units[at..]).simd_ge(Simd::splat(self.bound));
+        others.to_bitmask()
+    }
+}
+
+/// Returns whether each of the N bytes from `at` on is below the bound.
+#[inline(always)]
+pub fn are_bytes_below<const N: usize>(bytes: &[u8], at: usize, bound: u8) -> bool
+    requires { (at + N ≤ length bytes.now) × (0 < N) × (N ≤ 64) }
+    ensures { IsTrue result ↔ AllBelow bound bytes.now at N }
+{
+    all::<N, N, _>(&BytesBelow { bytes, bound }, at)
+}
+
+/// Returns whether each of the N UTF-16 code units from `at` on is below the bound.
+#[inline(always)]
+pub fn are_units_below<const N: usize>(units: &[u16], at: usize, bound: u16) -> bool
+    requires { (at + N ≤ length units.now) × (0 < N) × (N ≤ 64) }
+    ensures { IsTrue result ↔ AllBelow bound units.now at N }
+{
+    all::<N, N, _>(&UnitsBelow { units, bound }, at)
+}
+
+/// Returns whether each of the bytes of four blocks is below the bound, by one test.
+#[inline(always)]
+pub fn are_four_blocks_below(bytes: &[u8], bound: u8) -> bool
+    requires { length bytes.now ≡ 256 }
+    ensures { IsTrue result ↔ AllBelow bound bytes.now 0 256 }
+{
+    all::<BLOCK, FOUR_BLOCKS, _>(&BytesBelow { bytes, bound }, 0)
+}
+
+/// Returns how many of the N bytes from `at` on precede the first that isn't below the bound.
+#[inline(always)]
+pub fn run_len_below<const N: usize>(bytes: &[u8], at: usize, bound: u8) -> usize
+    requires { (at + N ≤ length bytes.now) × (0 < N) × (N ≤ 64) }
+    ensures { IsRunBelow bound bytes.now at N result }
+{
+    run::<N, _>(&BytesBelow { bytes, bound }, at)
+}
+
+/// Returns how many of the N UTF-16 code units from `at` on precede the first that isn't below the bound.
+#[inline(always)]
+pub fn units_run_len_below<const N: usize>(units: &[u16], at: usize, bound: u16) -> usize
+    requires { (at + N ≤ length units.now) × (0 < N) × (N ≤ 64) }
+    ensures { IsRunBelow bound units.now at N result }
+{
+    run::<N, _>(&UnitsBelow { units, bound }, at)
+}
+
+/// Returns the length of the longest prefix of bytes below `bound`. Checks the first vector separately, since most
+/// prefixes end there.
+#[inline(always)]
+pub fn prefix_len_below(bytes: &[u8], bound: u8) -> usize
+    ensures within { result ≤ length bytes.now }
+    ensures below { BelowUpTo bound bytes.now result }
+    ensures stops { result < length bytes.now → bound ≤ slice_index bytes.now result }
+{
+    if bytes.len() < STRIDE {
+        return short_prefix_len_below(bytes, bound);
+    }
+    let run = run_len_below::<STRIDE>(bytes, 0, bound);
+    if run < STRIDE {
+        return run;
+    }
+    prefix_after_stride(bytes, bound)
+}
+
+/// Returns the length of the longest prefix of bytes below the bound, given that those of the first stride are.
+#[inline(always)]
+pub fn prefix_after_stride(bytes: &[u8], bound: u8) -> usize
+    requires { (16 ≤ length bytes.now) × BelowUpTo bound bytes.now 16 }
+    ensures within { result ≤ length bytes.now }
+    ensures below { BelowUpTo bound bytes.now result }
+    ensures stops { result < length bytes.now → bound ≤ slice_index bytes.now result }
+{
+    let test = BytesBelow { bytes, bound };
+    if bytes.len() < BLOCK {
+        return find::<STRIDE, _>(&test, STRIDE, bytes.len());
+    }
+    let by_blocks = skip::<BLOCK, FOUR_BLOCKS, _>(&test, 0, bytes.len());
+    find::<BLOCK, _>(&test, by_blocks, bytes.len())
+}
+
+/// Returns the length of the longest prefix of bytes below the bound, in a text shorter than a stride.
+#[inline(always)]
+fn short_prefix_len_below(bytes: &[u8], bound: u8) -> usize
+    ensures within { result ≤ length bytes.now }
+    ensures below { BelowUpTo bound bytes.now result }
+    ensures stops { result < length bytes.now → bound ≤ slice_index bytes.now result }
+{
+    if bytes.len() >= HALF_STRIDE {
+        return find::<HALF_STRIDE, _>(&BytesBelow { bytes, bound }, 0, bytes.len());
+    }
+    let mut at = 0;
+    while at < bytes.len() && bytes[at] < bound {
+        at += 1;
+    }
+    at
+}
+
+/// Returns the length of the longest prefix of UTF-16 code units below the bound.
+#[inline(always)]
+pub fn units_prefix_len_below(units: &[u16], bound: u16) -> usize
+    ensures within { result ≤ length units.now }
+    ensures below { BelowUpTo bound units.now result }
+    ensures stops { result < length units.now → bound ≤ slice_index units.now result }
+{
+    let test = UnitsBelow { units, bound };
+    let by_blocks = skip::<HALF_UNIT_BLOCK, HALF_UNIT_BLOCK, _>(&test, 0, units.len());
+    let by_strides = skip::<UNIT_STRIDE, UNIT_STRIDE, _>(&test, by_blocks, units.len());
+    skip::<1, 1, _>(&test, by_strides, units.len())
 }

@@ -4,8 +4,7 @@ ghost use Rattle.encoding_definitions.specs.Utf16.{IsUtf8OfUnits};
 ghost use Rattle.encoding_kernels.specs.Scans.{HasLanes};
 ghost use Rattle.encoding_kernels.specs.Lengths.{sum_over_suffixes, extra_bytes, extra_bytes_by, extra_bytes_few, fewer};
 
-use crate::simd::bounds::UnitsBelow;
-use crate::simd::scan::skip;
+use crate::simd::scan::{UnitsBelow, skip};
 use crate::simd::sum::{Terms, sum_from};
 use crate::simd::width::{BASIC_LATIN_END, HALF_UNIT_BLOCK, UNIT_STRIDE};
 use crate::tuning::LENGTH_SPAN;

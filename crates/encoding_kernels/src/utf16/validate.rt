@@ -6,7 +6,7 @@ ghost use Rattle.encoding_definitions.specs.Utf16.{IsHighSurrogate};
 ghost use Rattle.encoding_kernels.specs.Neighbors.{PairUp, HaveNoSurrogate, pair_fault};
 ghost use Rattle.encoding_definitions.specs.Surrogates.{IsValidUtf16};
 
-use crate::scalar::surrogates::{is_high_surrogate, is_low_surrogate};
+use crate::scalar::{is_high_surrogate, is_low_surrogate};
 use crate::simd::scan::{LanePredicate, all, run};
 use crate::simd::width::{HALF_STRIDE, STRIDE};
 use std::simd::Simd;

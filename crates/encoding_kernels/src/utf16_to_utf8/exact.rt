@@ -7,8 +7,9 @@ ghost use Rattle.encoding_definitions.specs.Utf16.{IsUtf8OfPrefix};
 ghost use Rattle.encoding_kernels.specs.EncodeLanes.{WritesBmp};
 
 use super::mixed::{non_surrogate_prefix, store_mixed, with_zeros, write_mixed};
-use crate::scalar::surrogates::{is_high_surrogate, is_low_surrogate, is_surrogate, pair_scalar};
-use crate::scalar::value::{utf16_length, write_scalar};
+use crate::scalar::{
+    is_high_surrogate, is_low_surrogate, is_surrogate, pair_scalar, utf16_length, write_scalar,
+};
 use crate::simd::copy::copy_prefix;
 use crate::simd::width::STRIDE;
 use std::simd::prelude::*;

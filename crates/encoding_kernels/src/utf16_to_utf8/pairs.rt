@@ -6,7 +6,7 @@ ghost use Rattle.std.specs.Simd.Lanes.{mask_l};
 ghost use Rattle.encoding_definitions.specs.Utf16.{IsHighSurrogate};
 ghost use Rattle.encoding_kernels.specs.SurrogatePairs.{AreTwoByteOrPaired, IsTwoByteOrHalf, EncodesHalf, half_bytes, concatenated, halves_from};
 
-use crate::scalar::surrogates::{is_high_surrogate, is_low_surrogate};
+use crate::scalar::{is_high_surrogate, is_low_surrogate};
 use crate::simd::compress_pairs::{keep_pairs, write_both};
 use std::simd::prelude::*;
 

@@ -4,9 +4,7 @@ ghost use Rattle.encoding_definitions.specs.Parts.{Part, ArePartsOf, lossy_utf16
 ghost use Rattle.encoding_kernels.specs.Scans.{HasLanes};
 ghost use Rattle.encoding_kernels.specs.Lengths.{sum_over_suffixes, goes_second, continuations, continuations_by, continuations_few, fewer};
 
-use crate::ascii::prefix::prefix_len_below;
-use crate::simd::bounds::BytesBelow;
-use crate::simd::scan::skip;
+use crate::simd::scan::{BytesBelow, prefix_len_below, skip};
 use crate::simd::sum::{Terms, sum_from};
 use crate::simd::width::{ASCII_END, BLOCK, HALF_STRIDE};
 use crate::tuning::LENGTH_SPAN;

@@ -5,9 +5,8 @@ ghost use Rattle.std.specs.Str.{IsUtf8};
 ghost use Rattle.encoding_kernels.specs.Following.{ValidUpTo};
 ghost use Rattle.encoding_kernels.specs.Scans.{BelowUpTo};
 
-use crate::scalar::sequence::is_lead_with_continuation;
-use crate::simd::bounds::BytesBelow;
-use crate::simd::scan::all;
+use crate::scalar::is_lead_with_continuation;
+use crate::simd::scan::{BytesBelow, all};
 use crate::simd::width::{ASCII_END, BLOCK, FOUR_BLOCKS, HALF_BLOCK, TWO_BLOCKS};
 use crate::utf8::lookup::{faults, faults_32, first_faults, first_faults_32, is_zero, zeros};
 

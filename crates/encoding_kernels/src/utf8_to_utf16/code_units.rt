@@ -1,10 +1,13 @@
 //! The code unit that ends with each of sixteen bytes of UTF-8, by the three bytes before it. The lower byte of each is
-//! in one vector and the upper in another, which are then joined.
-ghost use Rattle.std.specs.Prelude.{◌≡◌, ℕ, ◌+◌, ◌-◌, ◌*◌, ◌/◌, ◌%◌, ◌<◌, ◌≤◌, [], ◌∷◌, Bool, false, List, ◌++◌, take, drop, replicate, slice_index, IsTrue};
+//! in one vector and the upper in another, which are then joined. The lanes that are kept move to the start of the vector:
+//! their indices are looked up by a mask.
+
+ghost use Rattle.std.specs.Prelude.{◌≡◌, ℕ, ◌+◌, ◌-◌, ◌*◌, ◌/◌, ◌%◌, ◌<◌, ◌≤◌, [], ◌∷◌, Bool, false, List, ◌++◌, take, drop, replicate, slice_index, IsTrue, map};
 ghost use Rattle.std.specs.Simd.Lanes.{mask_l};
 ghost use Rattle.encoding_kernels.specs.Scans.{HasLanes};
-ghost use Rattle.encoding_kernels.specs.EndingUnits.{ends_after, low_bits, triple_unit, unit_lane, units_after, upper_of};
+ghost use Rattle.encoding_kernels.specs.EndingUnits.{ends_after, low_bits, triple_unit, unit_lane, units_after, upper_of, compressed_places, byte_places};
 
+use std::simd::Simd;
 use std::simd::prelude::*;
 
 /// Returns for each lane the byte one lane before, and zero before the first.
@@ -184,4 +187,37 @@ pub(crate) fn triple_units(block: u8x16) -> u16x8
         .swizzle::<8>([2, 5, 8, 11, 14, 14, 14, 14])
         .cast::<u16>();
     first * u16x8::splat(0x1000) + ((second & six) * u16x8::splat(64) + (third & six))
+}
+
+/// Builds the table lane by lane, last lane first. Each row of later kept lanes yields two: the row itself, and the
+/// lane followed by it.
+macro_rules! rows {
+    ([] $($row:expr),*) => { [$($row),*] };
+    ([$last:literal $($before:literal)*] $($row:expr),*) => {
+        rows!([$($before)*] $($row, $row << 8 | $last),*)
+    };
+}
+
+/// For each mask of eight lanes, the indices of those that are kept, the first in the lowest byte. Zeros follow.
+const COMPRESSED: [u64; 256] = rows!([7 6 5 4 3 2 1 0] 0);
+
+/// Returns the indices of the two bytes of each kept lane, in order.
+#[inline(always)]
+fn compress_places(mask: usize) -> u8x16
+    requires { mask < 256 }
+    ensures { result ≡ byte_places mask }
+{
+    let places = Simd::<u64, 1>::from_array([COMPRESSED[mask]])
+        .to_le_bytes()
+        .cast::<u16>();
+    (places * u16x8::splat(0x0202) + u16x8::splat(0x0100)).to_le_bytes()
+}
+
+/// Returns the kept lanes, in order, followed by copies of the first lane.
+#[inline(always)]
+pub(crate) fn compress(lanes: u16x8, mask: usize) -> u16x8
+    requires { mask < 256 }
+    ensures { result ≡ map (λ k. slice_index lanes k) (compressed_places mask) }
+{
+    u16x8::from_le_bytes(lanes.to_le_bytes().swizzle_dyn(compress_places(mask)))
 }

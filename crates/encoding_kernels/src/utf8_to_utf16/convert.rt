@@ -1,22 +1,24 @@
-//! UTF-16 of well-formed UTF-8, block by block.
+//! UTF-16 of well-formed UTF-8, by blocks of sixteen bytes. A code unit is computed for each byte as if it ended there, and
+//! those that do are moved together.
 //!
 //! A block may store units after its own. Those of the bytes that follow overwrite them, since these have at least a
 //! third as many: a block is stored only if that many units are still to be written. After the UTF-16 of a whole text,
 //! `dst` is unchanged. Runs of ASCII are the caller's.
 
-ghost use Rattle.std.specs.Prelude.{◌+◌, ◌-◌, ◌/◌, ◌<◌, ◌≤◌, length};
-ghost use Rattle.std.specs.Str.{IsUtf8};
-ghost use Rattle.encoding_kernels.specs.EndingUnits.{WritesUtf16, units_in};
+ghost use Rattle.std.specs.Prelude.{◌+◌, ◌-◌, ◌/◌, ◌<◌, ◌≤◌, length, ◌≡◌, ℕ, ◌*◌, ◌^◌, Bool, false, List, ◌++◌, take, replicate, slice_index, IsTrue, drop};
+ghost use Rattle.std.specs.Str.{IsUtf8, IsCharBoundary, chars};
+ghost use Rattle.encoding_kernels.specs.EndingUnits.{WritesUtf16, units_in, BeginsThree, WritesCompressed, ends_after};
+ghost use Rattle.std.specs.Int.RustNames.{count_ones};
+ghost use Rattle.std.specs.Simd.Lanes.{mask_l};
+ghost use Rattle.std.specs.List.{flat_map};
+ghost use Rattle.std.specs.Char.Escape.{encode_utf16};
+ghost use Rattle.encoding_definitions.specs.Prefixes.{WritesPrefix};
 
-use crate::scalar::sequence::sequence_length;
-use crate::simd::bounds::are_bytes_below;
+use crate::scalar::{decode_utf8_scalar, is_continuation, sequence_length, write_utf16};
+use crate::simd::copy::LANES as BYTE_LANES;
+use crate::simd::scan::are_bytes_below;
 use crate::simd::width::{ASCII_END, BLOCK, STRIDE};
-use crate::utf8_to_utf16::block::{
-    begins_triples, is_due, whole_end, write_block, write_block_in_any_room, write_character,
-    write_triples, write_triples_exact,
-};
-use crate::utf8_to_utf16::code_units::unit_ends;
-use crate::utf8_to_utf16::tail::{write_few, write_tail};
+use crate::utf8_to_utf16::code_units::{code_units, compress, triple_units, unit_ends};
 use std::simd::prelude::*;
 
 /// Writes the UTF-16 of some first characters, and returns how many bytes it read and how many code units it wrote.
@@ -92,4 +94,214 @@ pub fn convert_valid_utf8_to_utf16(src: &[u8], dst: &mut [u16]) -> (usize, usize
         return write_character(src, dst);
     }
     write_blocks(src, dst)
+}
+
+/// The greatest byte at each index that leaves no character cut at the end of sixteen.
+const LAST_UNCUT: [u8; 16] = [
+    255, 255, 255, 255, 255, 255, 255, 255, 255, 255, 255, 255, 255, 0xEF, 0xDF, 0xBF,
+];
+
+/// The indices of the lanes of a vector.
+const LANES: [u16; 8] = [0, 1, 2, 3, 4, 5, 6, 7];
+
+/// The bits that show whether a byte begins three, at every third index.
+const LEAD_BITS: [u8; 16] = [
+    0xF0, 0, 0, 0xF0, 0, 0, 0xF0, 0, 0, 0xF0, 0, 0, 0xF0, 0, 0, 0,
+];
+
+/// Their values if it does.
+const LEAD_VALUES: [u8; 16] = [
+    0xE0, 0, 0, 0xE0, 0, 0, 0xE0, 0, 0, 0xE0, 0, 0, 0xE0, 0, 0, 0,
+];
+
+/// Writes the units whose bit is set, in order, and returns their number. Up to eight units after them may change.
+#[inline(always)]
+fn write_compressed(first: u16x8, last: u16x8, kept: usize, dst: &mut [u16]) -> usize
+    requires { (kept < 2 ^ 16) × (16 ≤ length dst.old) }
+    ensures { (marks : List Bool) → length marks ≡ 16 → kept ≡ mask_l marks
+        → WritesCompressed marks (first ++ last) dst.old dst.new result (result + 8 - count_ones (kept / 2 ^ 8)) }
+{
+    let first_kept = kept & 0xFF;
+    let last_kept = kept >> 8;
+    compress(first, first_kept).copy_to_slice(dst);
+    let count = first_kept.count_ones() as usize;
+    compress(last, last_kept).copy_to_slice(&mut dst[count..]);
+    count + last_kept.count_ones() as usize
+}
+
+/// Writes the units whose bit is set, in order, and no others. Returns their number.
+#[inline(always)]
+fn write_compressed_exact(first: u16x8, last: u16x8, kept: usize, dst: &mut [u16]) -> usize
+    requires { (kept < 2 ^ 16) × (16 ≤ length dst.old) }
+    ensures { (marks : List Bool) → length marks ≡ 16 → kept ≡ mask_l marks
+        → WritesCompressed marks (first ++ last) dst.old dst.new result result }
+{
+    let first_kept = kept & 0xFF;
+    let last_kept = kept >> 8;
+    let count = first_kept.count_ones() as usize;
+    let more = last_kept.count_ones() as usize;
+    let following = u16x8::from_slice(&dst[count..]);
+    compress(first, first_kept).copy_to_slice(dst);
+    let is_kept = u16x8::from_array(LANES).simd_lt(u16x8::splat(more as u16));
+    is_kept
+        .select(compress(last, last_kept), following)
+        .copy_to_slice(&mut dst[count..]);
+    count + more
+}
+
+/// Returns the end of the last whole character of the first sixteen bytes, or 0.
+#[inline(always)]
+pub(super) fn whole_end(src: &[u8]) -> usize
+    requires { (16 < length src.now) × IsUtf8 src.now }
+    ensures { (result ≤ 16) × IsCharBoundary src.now result }
+{
+    let cut = u8x16::from_slice(src)
+        .saturating_sub(u8x16::from_array(LAST_UNCUT))
+        .simd_ne(u8x16::splat(0))
+        .to_bitmask();
+    let end = (cut | 0x10000).trailing_zeros() as usize;
+    if end > 16 || is_continuation(src[end]) {
+        return 0;
+    }
+    end
+}
+
+/// Writes the UTF-16 of the first `end` bytes, up to the end of a character, and returns its length in code units.
+#[inline(always)]
+pub(super) fn write_block(src: &[u8], end: usize, kept: usize, dst: &mut [u16]) -> usize
+    requires dst_length { (16 ≤ length src.now) × (16 ≤ length dst.old) }
+    requires text { IsUtf8 src.now }
+    requires end { (end ≤ 16) × IsCharBoundary src.now end }
+    requires kept { kept ≡ mask_l (take end (ends_after 0 (take 16 src.now)) ++ replicate (16 - end) false) }
+    ensures { WritesUtf16 src.now dst.old dst.new end result (result + 8 - count_ones (kept / 2 ^ 8)) }
+{
+    let (first, last) = code_units(u8x16::from_slice(src));
+    write_compressed(first, last, kept, dst)
+}
+
+/// Writes the UTF-16 of the first `end` bytes, up to the end of a character, and nothing after it, even if `dst` has
+/// fewer than sixteen units. Returns its length in code units.
+#[inline(always)]
+pub(super) fn write_block_in_any_room(src: &[u8], end: usize, kept: usize, dst: &mut [u16]) -> usize
+    requires dst_length { (16 ≤ length src.now) × (end ≤ length dst.old) }
+    requires text { IsUtf8 src.now }
+    requires end { (end ≤ 16) × IsCharBoundary src.now end }
+    requires kept { kept ≡ mask_l (take end (ends_after 0 (take 16 src.now)) ++ replicate (16 - end) false) }
+    ensures { WritesUtf16 src.now dst.old dst.new end result result }
+{
+    if dst.len() >= 16 {
+        let (first, last) = code_units(u8x16::from_slice(src));
+        return write_compressed_exact(first, last, kept, dst);
+    }
+    let mut units = [0; 16];
+    let count = write_block(src, end, kept, &mut units);
+    dst[..count].copy_from_slice(&units[..count]);
+    count
+}
+
+/// Returns whether the text begins with five characters of three bytes.
+#[inline(always)]
+pub(super) fn begins_triples(src: &[u8]) -> bool
+    requires { 16 ≤ length src.now }
+    ensures { IsTrue result → (k : ℕ) → k < 5 → BeginsThree (slice_index src.now (3 * k)) }
+{
+    let leads = u8x16::from_slice(src) & u8x16::from_array(LEAD_BITS);
+    !leads.simd_ne(u8x16::from_array(LEAD_VALUES)).any()
+}
+
+/// Writes the UTF-16 of the first five characters, of three bytes each.
+#[tactic(auto, using(crate::proofs::TextUnitsLemmas::puts_triples))]
+#[inline(always)]
+pub(super) fn write_triples(src: &[u8], dst: &mut [u16])
+    requires dst_length { (16 ≤ length src.now) × (8 ≤ length dst.old) }
+    requires text { IsUtf8 src.now }
+    requires triples { (k : ℕ) → k < 5 → BeginsThree (slice_index src.now (3 * k)) }
+    ensures { WritesUtf16 src.now dst.old dst.new 15 5 8 }
+{
+    triple_units(u8x16::from_slice(src)).copy_to_slice(dst);
+}
+
+/// Writes the UTF-16 of the first five characters, of three bytes each, and nothing after it.
+#[inline(always)]
+pub(super) fn write_triples_exact(src: &[u8], dst: &mut [u16])
+    requires dst_length { (16 ≤ length src.now) × (5 ≤ length dst.old) }
+    requires text { IsUtf8 src.now }
+    requires triples { (k : ℕ) → k < 5 → BeginsThree (slice_index src.now (3 * k)) }
+    ensures { WritesUtf16 src.now dst.old dst.new 15 5 5 }
+{
+    let mut units = [0; 8];
+    write_triples(src, &mut units);
+    dst[..5].copy_from_slice(&units[..5]);
+}
+
+/// Returns whether at least eight units follow those of the first half of a block: those of the second half, and a
+/// third of the bytes left.
+#[inline(always)]
+pub(super) fn is_due(kept: usize, left: usize) -> bool
+    ensures { IsTrue result → 8 ≤ count_ones (kept / 2 ^ 8) + left / 3 }
+{
+    left >= 24 || (kept >> 8).count_ones() as usize + left / 3 >= 8
+}
+
+/// Writes the UTF-16 of the first character, and returns how many bytes it read and how many code units it wrote.
+#[inline(always)]
+pub(super) fn write_character(src: &[u8], dst: &mut [u16]) -> (usize, usize)
+    requires dst_length { (0 < length src.now) × (length src.now ≤ length dst.old) }
+    requires text { IsUtf8 src.now }
+    ensures progress { 0 < result.0 }
+    ensures written { WritesUtf16 src.now dst.old dst.new result.0 result.1 result.1 }
+{
+    let length = sequence_length(src[0]);
+    let scalar = decode_utf8_scalar(&src[..length]);
+    let Some(units) = write_utf16(scalar, dst) else {
+        unreachable!();
+    };
+    (length, units)
+}
+
+/// Writes the UTF-16 of a text of a few bytes, and returns its length in code units.
+#[inline(always)]
+pub(super) fn write_few(src: &[u8], dst: &mut [u16]) -> usize
+    requires dst_length { length src.now ≤ length dst.old }
+    requires text { IsUtf8 src.now }
+    ensures { WritesPrefix dst.old dst.new result (flat_map encode_utf16 (chars src.now)) }
+{
+    let mut read = 0;
+    let mut written = 0;
+    while read < src.len() {
+        let (bytes, units) = write_character(&src[read..], &mut dst[written..]);
+        read += bytes;
+        written += units;
+    }
+    written
+}
+
+/// Returns a text of eight to sixteen bytes, followed by zeros: its first eight, and those of its last eight after
+/// these. Uses only loads, since a load of what two stores wrote would stall on store forwarding.
+#[inline(always)]
+fn with_zeros(src: &[u8]) -> u8x16
+    requires { (8 ≤ length src.now) × (length src.now ≤ 16) }
+    ensures { result ≡ src.now ++ drop (length src.now) (replicate 16 0) }
+{
+    let lanes = u8x16::from_array(BYTE_LANES);
+    let count = u8x16::splat(src.len() as u8);
+    let first = u8x8::from_slice(src);
+    let last = u8x8::from_slice(&src[src.len() - 8..]);
+    let both = first.shuffle(last, [0, 1, 2, 3, 4, 5, 6, 7, 8, 9, 10, 11, 12, 13, 14, 15]);
+    let following = (lanes + (u8x16::splat(16) - count)) & u8x16::splat(15);
+    let places = lanes.simd_lt(u8x16::splat(8)).select(lanes, following);
+    let bytes = both.swizzle_dyn(places);
+    lanes.simd_lt(count).select(bytes, u8x16::splat(0))
+}
+
+/// Writes the UTF-16 of a text of eight to sixteen bytes, and returns its length in code units.
+#[inline(never)]
+pub(super) fn write_tail(src: &[u8], dst: &mut [u16]) -> usize
+    requires dst_length { (8 ≤ length src.now) × (length src.now ≤ 16) × (length src.now ≤ length dst.old) }
+    requires text { IsUtf8 src.now }
+    ensures { WritesPrefix dst.old dst.new result (flat_map encode_utf16 (chars src.now)) }
+{
+    let block = with_zeros(src).to_array();
+    let kept = unit_ends(u8x16::from_slice(&block), src.len());
+    write_block_in_any_room(&block, src.len(), kept, dst)
 }

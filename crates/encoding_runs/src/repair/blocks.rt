@@ -3,7 +3,7 @@ ghost use Rattle.std.specs.Prelude.{ℕ, List, length};
 ghost use Rattle.encoding_definitions.specs.Prefixes.{WritesPrefix};
 ghost use Rattle.encoding_runs.specs.Blocks.{IsBlockRepair};
 
-use encoding_kernels::scalar::value::write_scalar;
+use encoding_kernels::scalar::write_scalar;
 use encoding_text::decoder::{DecoderResult, Utf8Decoder};
 
 /// What one call of [`repair_block`] did.

@@ -8,8 +8,8 @@ ghost use Rattle.encoding_text.specs.Decoding.{BorrowedDecodeStep};
 use super::pending::{Pending, Resumed, is_malformed_byte};
 use super::{DecoderResult, Piece};
 use crate::utf_8::utf8_valid_up_to;
-use encoding_kernels::scalar::value::decode_utf8_scalar;
-use encoding_kernels::simd::bounds::run_len_below;
+use encoding_kernels::scalar::decode_utf8_scalar;
+use encoding_kernels::simd::scan::run_len_below;
 use encoding_kernels::simd::width::{ASCII_END, STRIDE};
 
 /// Returns the piece for what ended a call without output.

@@ -6,7 +6,7 @@ ghost use Rattle.encoding_text.specs.Decoding.{IsMalformed};
 ghost use Rattle.encoding_text.specs.Steps.{GoesOn};
 
 use super::DecoderResult;
-use encoding_kernels::scalar::sequence::{
+use encoding_kernels::scalar::{
     begins_several, is_continuation, is_lead_with_continuation, is_second, sequence_length,
 };
 use std::marker::Model;

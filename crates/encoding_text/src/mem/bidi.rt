@@ -13,9 +13,9 @@ ghost use Rattle.encoding_kernels.specs.RightToLeft.{rtl_second_end, rtl_mark_le
 use super::checks::{LATIN1_END, str_latin1_up_to, utf8_latin1_up_to};
 use crate::ascii::ascii_valid_up_to;
 use crate::utf_8::{character_length, utf8_valid_up_to};
-use encoding_kernels::ascii::prefix::{prefix_len_below, units_prefix_len_below};
 use encoding_kernels::bidi::{FIRST_LEAD, FIRST_UNIT, skip_clear, skip_clear_units};
-use encoding_kernels::scalar::value::decode_utf8_scalar;
+use encoding_kernels::scalar::decode_utf8_scalar;
+use encoding_kernels::simd::scan::{prefix_len_below, units_prefix_len_below};
 use encoding_kernels::simd::width::{STRIDE, UNIT_STRIDE};
 use encoding_kernels::tuning::VALIDATED_PIECE;
 

@@ -7,11 +7,11 @@ ghost use Rattle.encoding_definitions.specs.Latin1.{IsLatin1, IsUtf8Latin1};
 ghost use Rattle.encoding_kernels.specs.Scans.{BelowUpTo};
 
 use crate::ascii::ascii_valid_up_to;
-use encoding_kernels::ascii::prefix::{prefix_after_stride, prefix_len_below};
 use encoding_kernels::latin1::validate::{BEYOND_LATIN1, latin1_blocks};
-use encoding_kernels::scalar::sequence::is_continuation;
-use encoding_kernels::simd::bounds::{
-    are_bytes_below, are_four_blocks_below, are_units_below, run_len_below,
+use encoding_kernels::scalar::is_continuation;
+use encoding_kernels::simd::scan::{
+    are_bytes_below, are_four_blocks_below, are_units_below, prefix_after_stride, prefix_len_below,
+    run_len_below,
 };
 use encoding_kernels::simd::width::{
     ASCII_END, BASIC_LATIN_END, BLOCK, FOUR, FOUR_BLOCKS, SIXTEEN, STRIDE, UNIT_BLOCK,

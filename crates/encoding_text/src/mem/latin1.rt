@@ -8,11 +8,10 @@ ghost use Rattle.encoding_definitions.specs.Latin1.{IsUtf8Latin1};
 ghost use Rattle.encoding_kernels.specs.Scans.{AllBelow};
 
 use crate::ascii;
-use encoding_kernels::ascii::copy::unpack_part;
 use encoding_kernels::latin1::from_utf8::{latin1_length_of_first, latin1_of, latin1_of_after};
 use encoding_kernels::latin1::to_utf8::{utf8_length_of_first, write_latin1};
-use encoding_kernels::simd::bounds::are_bytes_below;
-use encoding_kernels::simd::copy::{pack_lower, write_first};
+use encoding_kernels::simd::copy::{pack_lower, unpack_part, write_first};
+use encoding_kernels::simd::scan::are_bytes_below;
 use encoding_kernels::simd::width::{ASCII_END, BLOCK, STRIDE};
 use encoding_kernels::tuning::BLOCKS_BEFORE_RETEST;
 use std::simd::prelude::*;

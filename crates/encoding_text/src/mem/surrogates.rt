@@ -5,7 +5,7 @@ ghost use Rattle.encoding_definitions.specs.Prefixes.{IsLongestPrefix};
 ghost use Rattle.encoding_definitions.specs.Surrogates.{IsValidUtf16, AreRepairedUnits};
 ghost use Rattle.encoding_definitions.specs.Utf16.{AreCodeUnits};
 
-use encoding_kernels::scalar::surrogates::{is_high_surrogate, is_low_surrogate, is_surrogate};
+use encoding_kernels::scalar::{is_high_surrogate, is_low_surrogate, is_surrogate};
 use encoding_kernels::simd::width::{FOUR, HALF_UNIT_BLOCK, STRIDE, UNIT_BLOCK};
 use encoding_kernels::tuning::PAIRED_BLOCKS_BEFORE_RETEST;
 use encoding_kernels::utf16::validate::{

@@ -8,7 +8,7 @@ ghost use Rattle.encoding_definitions.specs.Utf16.{IsUtf8OfLongestPrefix, IsUtf8
 
 use crate::mem::latin1::{convert_latin1_to_utf8, convert_latin1_to_utf8_partial};
 use crate::utf_8::from_utf16::{convert_utf16_to_utf8, convert_utf16_to_utf8_partial};
-use encoding_kernels::scalar::sequence::is_continuation;
+use encoding_kernels::scalar::is_continuation;
 
 /// How many bytes after the output the conversions from Latin1 always set to zero.
 const LATIN1_ZEROS: usize = 16;

@@ -9,8 +9,9 @@ ghost use Rattle.encoding_definitions.specs.FirstScalar.{IsFirstScalar};
 ghost use Rattle.encoding_text.specs.Encoding.{IsPendingSurrogate, EndsHigh, EncodeStep, TextEncodeStep};
 
 use crate::utf_8::from_utf16::{REPLACEMENT_CHARACTER, convert_utf16_to_utf8_partial};
-use encoding_kernels::scalar::surrogates::{is_high_surrogate, is_low_surrogate, pair_scalar};
-use encoding_kernels::scalar::value::{utf8_length, write_scalar};
+use encoding_kernels::scalar::{
+    is_high_surrogate, is_low_surrogate, pair_scalar, utf8_length, write_scalar,
+};
 use std::marker::Model;
 
 /// What ended a call of an encoder.

@@ -5,8 +5,9 @@ ghost use Rattle.encoding_definitions.specs.Prefixes.{WritesPrefix};
 ghost use Rattle.encoding_definitions.specs.Utf16.{IsHighSurrogate, IsLowSurrogate, IsUtf8OfPrefix, IsUtf8OfLongestPrefix, IsUtf8OfUnits};
 
 use crate::ascii;
-use encoding_kernels::scalar::surrogates::{is_high_surrogate, is_low_surrogate};
-use encoding_kernels::scalar::value::{utf8_length, utf16_length, write_scalar};
+use encoding_kernels::scalar::{
+    is_high_surrogate, is_low_surrogate, utf8_length, utf16_length, write_scalar,
+};
 use encoding_kernels::simd::width::{BASIC_LATIN_END, HALF_STRIDE};
 use encoding_kernels::tuning::SCALAR_BURST;
 use encoding_kernels::utf16_to_utf8::convert::{convert_blocks, convert_paired_blocks};

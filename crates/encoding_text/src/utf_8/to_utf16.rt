@@ -11,7 +11,7 @@ ghost use Rattle.encoding_text.specs.Steps.{ConvertsSome, ConvertsUntilFull};
 
 use super::validation::{character_length, utf8_valid_up_to};
 use crate::ascii::{copy_prefix_of_text, copy_to_basic_latin, copy_to_basic_latin_inline};
-use encoding_kernels::scalar::value::{decode_utf8_scalar, write_utf16};
+use encoding_kernels::scalar::{decode_utf8_scalar, write_utf16};
 use encoding_kernels::simd::copy::copy_prefix;
 use encoding_kernels::tuning::VALIDATED_PIECE;
 use encoding_kernels::utf8_to_utf16::convert::convert_valid_utf8_to_utf16;

@@ -7,7 +7,7 @@ ghost use Rattle.encoding_definitions.specs.Prefixes.{IsLongestPrefix};
 
 use crate::ascii::{ascii_valid_up_to_by_block, short_ascii_valid_up_to};
 use crate::utf_8::table::{UTF8_DATA, law_table};
-use encoding_kernels::scalar::sequence::{is_continuation, is_second};
+use encoding_kernels::scalar::{is_continuation, is_second};
 use encoding_kernels::simd::width::{BLOCK, STRIDE};
 use encoding_kernels::utf8::validate::{well_formed_blocks, well_formed_short};
 

@@ -1,9 +1,0 @@
-use Rattle.std.proofs.Common.{length}
-use Rattle.encoding_kernels.proofs.ZerosLemmas.{places_ok, with_zeros_is}
-use Rattle.encoding_kernels.proofs.utf8_to_utf16.tail.with_zeros.Goals as goal
-
-pub swizzle-bytes : goal.swizzle-bytes
-swizzle-bytes c = places_ok (length c.args.src.now)
-
-pub returns : goal.returns
-returns c = with_zeros_is c.args.src.now c.requires.0 c.requires.1
