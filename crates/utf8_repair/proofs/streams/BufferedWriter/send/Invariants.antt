@@ -1,6 +1,6 @@
 use Rattle.std.proofs.Common.{◌≤◌, length}
 use Rattle.std.specs.Io.KnownBytes.{Keeps, append_known}
-use Rattle.utf8_repair.proofs.streams.buffered_writer.BufferedWriter.send.Given as goal
+use Rattle.utf8_repair.proofs.streams.BufferedWriter.send.Given as goal
 
 abbrev pub invariant-loop-self : goal.invariant-loop-self
 invariant-loop-self g l = record {

@@ -1,5 +1,5 @@
 use Rattle.utf8_repair.proofs.ByteStreamLemmas.{sent_piece}
-use Rattle.utf8_repair.proofs.streams.buffered_writer.BufferedWriter.write_out.Goals as goal
+use Rattle.utf8_repair.proofs.streams.BufferedWriter.write_out.Goals as goal
 
 pub returns-then-has-clause-bytes : goal.returns-then-has-clause-bytes
 returns-then-has-clause-bytes g c =
