@@ -1,35 +1,57 @@
 //! Constants that decide how fast a call is and not what it returns. Each has its unit, its use, and the row of the
-//! benchmark that it was chosen by.
+//! benchmark that decided it: how fast other values are next to it, above 1 being faster, for `x86-64-v2` on one of four
+//! shared cores of 2.5 GHz, where 0.03 is noise.
 
 use crate::simd::width::STRIDE;
 
 /// In code units: after this much ASCII in a row, blocks from UTF-16 to UTF-8 end, and the ASCII prefix continues.
+///
+/// UTF-16 to UTF-8, JSON and code of 1 MiB: half as much 0.92, twice as much 1.04, without an end 1.07.
 pub const ASCII_RUN: usize = 24 * STRIDE;
 
 /// In code units: the most below U+0800 that are converted to UTF-8 before the next test for ASCII.
+///
+/// UTF-16 to UTF-8, 4 KiB: half as many, Latin 0.86 and code 1.09; twice as many, Latin 1.01 and code 0.88.
 pub const TWO_BYTE_RUN: usize = 6 * STRIDE;
 
 /// In code units: the most of any class that are converted to UTF-8 before the next test for one class.
+///
+/// UTF-16 to UTF-8, 4 KiB: half as many, CJK 1.05 and CJK with ASCII 0.94; twice as many, CJK 0.92 and CJK with ASCII
+/// 1.02; without an end, CJK 0.53.
 pub const MIXED_RUN: usize = 8 * STRIDE;
 
-/// In characters: how many are converted to UTF-8 one at a time after two attempts at blocks in a row failed.
-pub const SCALAR_BURST: usize = 32;
+/// In bytes: how far the length of UTF-8 is added lane by lane until the lanes are summed and ASCII is tested for.
+///
+/// `utf16_length_from_utf8`, 4 KiB: with 256, logs 0.70 and code 0.76; with 64, logs 1.27 and Latin 0.92.
+pub const UTF8_LENGTH_SPAN: usize = 128;
 
-/// In bytes or code units: how far lengths are added lane by lane until the lanes are summed and ASCII is tested for.
-pub const LENGTH_SPAN: usize = 256;
+/// In code units: how far the length of UTF-16 is added lane by lane until the lanes are summed and ASCII is tested for.
+///
+/// `utf8_length_from_utf16`: with 128, logs of 4 KiB 1.25 and Latin of 1 MiB 0.92; with 512, logs 0.82 and Latin 1.02.
+pub const UTF16_LENGTH_SPAN: usize = 256;
 
 /// In bytes: how far the lengths of Latin1 are added lane by lane until the lanes are summed.
+///
+/// `utf8_length_from_latin1`, 4 KiB of any kind: with 512, 0.93; with 2,032, the most that a lane can count, 1.05.
 pub const LATIN1_LENGTH_SPAN: usize = 1024;
 
 /// In bytes: the longest slice that is copied by vectors. A longer one is copied by the C library.
+///
+/// `repair_slice` and `decode_to_utf8_raw`, ASCII of 200 to 256 bytes: with 128, 0.94.
 pub const LONGEST_VECTOR_COPY: usize = 256;
 
 /// In bytes: how much is validated before it is converted or scanned, so that it is still in the nearest cache.
+///
+/// UTF-8 to UTF-16, logs of 4 KiB: with 1,024, 0.79; with 2,048, 0.84. Logs of 16 MiB as one piece: 0.91. `is_utf8_bidi`,
+/// Latin of 16 MiB: with 1,024, 0.88; as one piece, 0.72.
 pub const VALIDATED_PIECE: usize = 4096;
 
-/// In blocks of sixteen bytes: how many go from Latin1 to UTF-8 after one with other characters until ASCII is tested
-/// for.
-pub const BLOCKS_BEFORE_RETEST: usize = 4;
+/// In blocks of sixteen bytes: how many go from UTF-8 to Latin1 after a test for ASCII until the next.
+///
+/// UTF-8 to Latin1, 4 KiB: with one, code 0.92 and logs 1.02; with four, logs 0.93 and code 0.95.
+pub const BLOCKS_BEFORE_RETEST: usize = 2;
 
 /// In blocks: how many after one with surrogates are tested for pairs at once.
+///
+/// `utf16_valid_up_to`: with none, emoji of 1 MiB 0.80 and logs of 4 KiB 1.16; with 16, emoji 1.08 and logs 0.94.
 pub const PAIRED_BLOCKS_BEFORE_RETEST: usize = 8;

@@ -7,7 +7,7 @@ ghost use Rattle.encoding_kernels.specs.Lengths.{sum_over_suffixes, extra_bytes,
 use crate::simd::scan::{UnitsBelow, skip};
 use crate::simd::sum::{Terms, sum_from};
 use crate::simd::width::{BASIC_LATIN_END, HALF_UNIT_BLOCK, UNIT_STRIDE};
-use crate::tuning::LENGTH_SPAN;
+use crate::tuning::UTF16_LENGTH_SPAN;
 use std::simd::Simd;
 use std::simd::prelude::*;
 
@@ -107,5 +107,5 @@ pub fn utf8_length_of_units(units: &[u16]) -> usize
     ensures { (text : List ℕ) × IsUtf8OfUnits units.now text × (result ≡ length text) }
 {
     let terms = Beyond { units };
-    units.len() + sum_from::<LANES, UNIT_STRIDE, LENGTH_SPAN, _, _>(&terms, &terms, 0)
+    units.len() + sum_from::<LANES, UNIT_STRIDE, UTF16_LENGTH_SPAN, _, _>(&terms, &terms, 0)
 }

@@ -7,7 +7,7 @@ ghost use Rattle.encoding_kernels.specs.Lengths.{sum_over_suffixes, goes_second,
 use crate::simd::scan::{BytesBelow, prefix_len_below, skip};
 use crate::simd::sum::{Terms, sum_from};
 use crate::simd::width::{ASCII_END, BLOCK, HALF_STRIDE};
-use crate::tuning::LENGTH_SPAN;
+use crate::tuning::UTF8_LENGTH_SPAN;
 use std::simd::Simd;
 use std::simd::prelude::*;
 
@@ -142,7 +142,7 @@ fn count_joined(bytes: &[u8], ascii: usize) -> usize
     ensures { result ≡ sum_over_suffixes continuations (drop ascii bytes.now) }
 {
     let terms = Joined { bytes };
-    sum_from::<LANES, HALF_STRIDE, LENGTH_SPAN, _, _>(&terms, &terms, ascii)
+    sum_from::<LANES, HALF_STRIDE, UTF8_LENGTH_SPAN, _, _>(&terms, &terms, ascii)
 }
 
 /// Returns the number of code units in the UTF-16 of the bytes, with U+FFFD for each malformed sequence.

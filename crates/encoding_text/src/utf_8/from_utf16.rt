@@ -9,7 +9,6 @@ use encoding_kernels::scalar::{
     is_high_surrogate, is_low_surrogate, utf8_length, utf16_length, write_scalar,
 };
 use encoding_kernels::simd::width::{BASIC_LATIN_END, HALF_STRIDE};
-use encoding_kernels::tuning::SCALAR_BURST;
 use encoding_kernels::utf16_to_utf8::convert::{convert_blocks, convert_paired_blocks};
 pub(super) use encoding_kernels::utf16_to_utf8::exact::REPLACEMENT_CHARACTER;
 use encoding_kernels::utf16_to_utf8::exact::scalar_at;
@@ -68,18 +67,13 @@ fn convert_prefix_and_blocks(src: &[u16], dst: &mut [u8]) -> (usize, usize, bool
     (read + paired, written + extra, paired > 0)
 }
 
-/// Returns how many characters to convert one at a time before trying blocks again. `SCALAR_BURST` if fewer than eight
-/// units are left, or if two attempts in a row converted fewer than eight: text without blocks is not scanned twice.
-/// Otherwise one: the character that stopped the blocks.
+/// Returns how many characters to convert one at a time before trying blocks again: all if fewer than eight units are
+/// left, and otherwise one, which stopped the blocks.
 #[inline(always)]
-fn scalar_budget(left: usize, has_failed_twice: bool) -> usize
+fn scalar_budget(left: usize) -> usize
     ensures { 0 < result }
 {
-    if left < HALF_STRIDE || has_failed_twice {
-        SCALAR_BURST
-    } else {
-        1
-    }
+    if left < HALF_STRIDE { HALF_STRIDE } else { 1 }
 }
 
 /// Converts the first characters of `src` from UTF-16 to UTF-8, while at least four bytes of `dst` are free. Returns
@@ -96,7 +90,6 @@ pub fn convert_utf16_to_utf8_partial_inner(src: &[u16], dst: &mut [u8]) -> (usiz
     let mut read = 0;
     let mut written = 0;
     let mut singles = 0;
-    let mut last_block_failed = false;
     let end = dst.len().saturating_sub(LONGEST - 1);
     while read < src.len() && written < end {
         if singles == 0 {
@@ -107,9 +100,7 @@ pub fn convert_utf16_to_utf8_partial_inner(src: &[u16], dst: &mut [u8]) -> (usiz
             read += units;
             written += bytes;
             if !goes_on {
-                let has_failed = units < HALF_STRIDE;
-                singles = scalar_budget(src.len() - read, has_failed && last_block_failed);
-                last_block_failed = has_failed;
+                singles = scalar_budget(src.len() - read);
             }
         } else {
             let scalar = scalar_at(src, read);

@@ -36,11 +36,11 @@ loop-read-preserved c =
     let here = c.loop-read.invariant in
     let first = c.scalar_at-scalar.ensures in
     record {
-      within = step_within c.args.src.now _ here.done _ _ here.walked first c.utf16_length.ensures here.within;
+      within = step_within c.args.src.now _ here.done _ _ here.walked first c.utf16_length-read.ensures here.within;
       done = here.done ++ first.part ∷ [];
-      walked = step_walked c.args.src.now _ here.done _ _ here.walked first c.utf16_length.ensures;
-      written = WritesPrefix-same _ _ _ _ _ _ (WritesPrefix_after _ _ _ _ _ _ _ here.written c.write_scalar.ensures) refl
-          (sym (step_written c.args.src.now _ here.done _ c.utf16_length.result here.walked first));
+      walked = step_walked c.args.src.now _ here.done _ _ here.walked first c.utf16_length-read.ensures;
+      written = WritesPrefix-same _ _ _ _ _ _ (WritesPrefix_after _ _ _ _ _ _ _ here.written c.write_scalar-written.ensures) refl
+          (sym (step_written c.args.src.now _ here.done _ c.utf16_length-read.result here.walked first));
     }
 
 pub returns-else-written-end-clause-prefix : goal.returns-else-written-end-clause-prefix
