@@ -155,6 +155,9 @@ fn clear_prefix_len(bytes: &[u8]) -> Option<usize>
     ensures found { IfNone result (IsBidiBytes bytes.now) }
 {
     let prefix = ascii_valid_up_to(bytes);
+    if prefix == bytes.len() {
+        return Some(prefix);
+    }
     let rest = &bytes[prefix..];
     let valid = utf8_valid_up_to(&rest[..VALIDATED_PIECE.min(rest.len())]);
     if is_text_bidi(&rest[..valid]) {

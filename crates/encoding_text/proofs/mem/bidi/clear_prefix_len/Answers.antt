@@ -6,6 +6,12 @@ use Rattle.encoding_kernels.proofs.AsciiLemmas.{below_prefix}
 use Rattle.encoding_kernels.proofs.BidiLemmas.{ascii_text, left_to_right_more}
 use Rattle.encoding_text.proofs.mem.bidi.clear_prefix_len.Goals as goal
 
+pub returns-then-prefix-bytes-clause-clear : goal.returns-then-prefix-bytes-clause-clear
+returns-then-prefix-bytes-clause-clear c =
+    let prefix = c.ascii_valid_up_to-prefix.ensures in
+    let clear = ascii_text c.args.bytes.now _ prefix.within (below_prefix _ _ prefix) in
+    (prefix.within, clear.0, clear.1)
+
 pub returns-then-is_text_bidi-clause-found : goal.returns-then-is_text_bidi-clause-found
 returns-then-is_text_bidi-clause-found c =
     let prefix = c.ascii_valid_up_to-prefix.ensures in
