@@ -133,12 +133,12 @@ pub fn is_utf16_latin1(buffer: &[u16]) -> bool
         }
         at += STRIDE;
     }
+    // without a return, so that the compiler tests several units at once
+    let mut is_latin1 = true;
     for i in at..buffer.len() {
-        if buffer[i] >= LATIN1_END {
-            return false;
-        }
+        is_latin1 &= buffer[i] < LATIN1_END;
     }
-    true
+    is_latin1
 }
 
 /// Returns the length of the longest prefix that is the UTF-8 of scalar values up to U+00FF.
