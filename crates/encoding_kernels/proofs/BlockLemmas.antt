@@ -19,9 +19,6 @@ module _ (us old : List ℕ) (at : ℕ) (long : length us ≡ 16) where
   pub mixed_block : {new : List ℕ} {n s : ℕ} → ((k : ℕ) → k < 16 → (0xD800 ≤ get_or us k 0) × (get_or us k 0 ≤ 0xDFFF) → ⊥) → (16 ≤ n) × (n ≤ 48) → s ≤ 16 → Spills old new at n s (encode_utf8_all us) → StoresBlock us old new at n s
   mixed_block h bounds few stored = record { plain = plain_all h; bounds = bounds; few = few; stored = stored }
 
-  pub short_block : {new : List ℕ} {n : ℕ} → ((k : ℕ) → k < 16 → get_or us k 0 < 0x800) → (16 ≤ n) × (n ≤ 32) → Spills old new at n 16 (encode_utf8_all us) → StoresBlock us old new at n 16
-  short_block h bounds stored = mixed_block (λ k l r. omega (arith, h k l, r.0)) (bounds.0, omega (arith, bounds.1)) (omega arith) stored
-
   pub ascii_fits : ((k : ℕ) → k < 16 → get_or us k 0 < 0x80) → Each1 (Fits w8) us
   ascii_fits h = Each1-from_get_or (Fits w8) us 0 (λ k l. record { fits = omega (arith, h k (omega (arith, long))) })
 

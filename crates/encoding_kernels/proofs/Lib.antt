@@ -26,7 +26,6 @@ pub mod SurrogatePairsLemmas
 pub mod TableLemmas
 pub mod TextLoopLemmas
 pub mod TextSumLemmas
-pub mod TextTailLemmas
 pub mod TextUnitsLemmas
 pub mod TotalLemmas
 pub mod UnitBlocksLemmas

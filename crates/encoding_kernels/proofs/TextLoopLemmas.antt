@@ -1,12 +1,12 @@
 -- Writing the UTF-16 of a text character by character and block by block: what is still to be written, and the progress
 -- of a loop.
-use Rattle.std.proofs.Common.{◌≡◌, append_assoc, inl, inr, ◌⊎◌, slice_index, ℕ, ◌+◌, ◌-◌, ◌*◌, ◌/◌, ◌<◌, ◌≤◌, true, List, [], ◌∷◌, ◌++◌, length, take, drop, get_or, encode_utf8, encode_utf8_all, refl, sym, ap, ◌∙◌, arith, subst, take-add}
+use Rattle.std.proofs.Common.{◌≡◌, append_assoc, inl, inr, ◌⊎◌, slice_index, ℕ, zero, suc, ◌+◌, ◌-◌, ◌*◌, ◌/◌, ◌<◌, ◌≤◌, true, List, [], ◌∷◌, ◌++◌, length, take, drop, replicate, get_or, encode_utf8, encode_utf8_all, refl, sym, ap, ◌∙◌, arith, subst, take-add}
 use lib.Utf8.{scalar}
 use Rattle.std.specs.Char.{IsScalar}
 use Rattle.std.specs.Char.Escape.{encode_utf16}
 use Rattle.std.specs.Str.{all_scalars, IsAscii, IsUtf8, chars}
 use Rattle.std.specs.List.{flat_map}
-use Rattle.std.proofs.str.Laws.{scalars-append}
+use Rattle.std.proofs.str.Laws.{one, scalars-append}
 use Rattle.std.proofs.Math.Seq.{drop-cons, take-append-add}
 use Rattle.std.proofs.lemmas.Bool.{and_parts, and_from, cases_lt}
 use Rattle.std.proofs.lemmas.Bool.Decides.{nat_tests}
@@ -97,20 +97,24 @@ units_split src old new n k reach u p =
     ap length (flat_map-append encode_utf16 p.taken more) ∙ length-append (flat_map encode_utf16 p.taken) (flat_map encode_utf16 more) in
     omega (arith, units_of_part16 (p.taken ++ more) src u all, sum_over_suffixes, p.counted, units_of_part16 more (drop n src) p.rest p.rest.1.1)
 
+-- the same characters written to another list
+moved : {src old new old2 new2 : List ℕ} {n k reach reach2 : ℕ} → WritesUtf16 src old new n k reach → take k new2 ≡ take k new → drop reach2 new2 ≡ drop reach2 old2 → WritesUtf16 src old2 new2 n k reach2
+moved p same following = record {
+  taken = p.taken;
+  are_scalars = p.are_scalars;
+  within = p.within;
+  spelled = p.spelled;
+  rest = p.rest;
+  counted = p.counted;
+  placed = same ∙ p.placed;
+  following = following;
+}
+
 reaches : (src old new : List ℕ) (n k reach most : ℕ) → reach ≤ most → WritesUtf16 src old new n k reach → WritesUtf16 src old new n k most
 reaches src old new n k reach most l p =
     let e : reach + (most - reach) ≡ most = omega arith in
     let past = λ (xs : List ℕ). ap (λ m. drop m xs) (sym e) ∙ sym (drop-drop (most - reach) reach xs) in
-    record {
-      taken = p.taken;
-      are_scalars = p.are_scalars;
-      within = p.within;
-      spelled = p.spelled;
-      rest = p.rest;
-      counted = p.counted;
-      placed = p.placed;
-      following = past new ∙ ap (drop (most - reach)) p.following ∙ sym (past old);
-    }
+    moved p refl (past new ∙ ap (drop (most - reach)) p.following ∙ sym (past old))
 
 -- eight units are still to be written after all but the `later` ones
 pub due_block : (src old new : List ℕ) (n k later : ℕ) → IsUtf8 src → 8 ≤ later + (length src - n) / 3 → WritesUtf16 src old new n k (k + 8 - later) → WritesUtf16 src old new n k (units_in src)
@@ -299,4 +303,34 @@ putting_prefix src old new at u d =
       counted = p.counted;
       placed = p.placed;
       following = p.following;
+    }
+
+-- ---- the end of a text: a block of it followed by zeros, and code units that are copied from a block of their own
+-- zeros are a text
+pub zeros_text : (n m : ℕ) → IsUtf8 (drop n (replicate m 0))
+zeros_text zero zero = ([], (refl, refl))
+zeros_text (suc n) zero = ([], (refl, refl))
+zeros_text zero (suc m) = let text = zeros_text zero m in (0 ∷ text.0, (and_from _ _ refl text.1.0, λ i. one 0 (omega arith) i ++ text.1.1 i))
+zeros_text (suc n) (suc m) = zeros_text n m
+
+module _ {src old new : List ℕ} {n k reach : ℕ} (p : WritesUtf16 src old new n k reach) where
+  -- no more code units than bytes
+  pub puts_few : k ≤ n
+  puts_few = omega (arith, p.counted, length-utf16 p.taken p.are_scalars, ap length p.spelled, length-take n src, p.within)
+
+  pub puts_long : length (take k new) ≡ k
+  puts_long = ap length p.placed ∙ sym p.counted
+
+  -- the code units copied to another list
+  pub puts_single : (places : List ℕ) → WritesUtf16 src places (take k new ++ drop k places) n k k
+  puts_single places = moved p (take_at (take k new) (drop k places) k puts_long) (drop_at (take k new) (drop k places) k puts_long)
+
+-- a whole text, at the start of a block
+pub puts_whole : (src block old new : List ℕ) (n k : ℕ) → IsUtf8 src → take n block ≡ src → n ≤ length old → WritesUtf16 block old new n k k → WritesPrefix old new k (flat_map encode_utf16 (chars src))
+puts_whole src block old new n k u prefix room p =
+    let units : flat_map encode_utf16 p.taken ≡ flat_map encode_utf16 (chars src) = ap (flat_map encode_utf16) (chars_from_encodes p.taken src u (p.spelled ∙ prefix)) in
+    record {
+      count = p.counted ∙ ap length units;
+      fits = omega (arith, puts_few p, room);
+      placed = sym (take-append-drop k new) ∙ (λ i. (p.placed ∙ units) i ++ p.following i);
     }

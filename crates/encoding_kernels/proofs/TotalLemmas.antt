@@ -89,10 +89,7 @@ few_fit n at place a pos room p = elim (cases_lt a 256) [
   | inr l ↦ absurd (omega (arith, mul-le-mul_right n l))
 ]
 
-abbrev pub AreFew : ℕ → ℕ → ℕ → List ℕ → Type 0
-AreFew n at place sums = Each1 (λ a. a * n + 2 * at ≤ 2 * place) sums
-
-module _ (n at place : ℕ) (sums z : List ℕ) (few : AreFew n at place sums) (small : Each1 (λ b. b ≤ 2) z) where
+module _ (n at place : ℕ) (sums z : List ℕ) (few : Each1 (λ a. a * n + 2 * at ≤ 2 * place) sums) (small : Each1 (λ b. b ≤ 2) z) where
   pub sums_fit : 0 < n → place + n ≤ at + 127 * n → Each2 (λ a b. Fits w8 (a + b)) sums z
   sums_fit pos room = Each2-of (λ a. a * n + 2 * at ≤ 2 * place) (λ b. b ≤ 2) (λ a b. Fits w8 (a + b)) (λ a b p q. record { fits = few_fit n at (place + n) (a + b) pos room (few_more n at place a b p q) }) sums z few small
 
