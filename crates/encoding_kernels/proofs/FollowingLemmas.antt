@@ -1,17 +1,17 @@
 -- Bytes that follow each other are well-formed up to an index at which no character is cut.
-use Rattle.std.proofs.Common.{◌≡◌, ℕ, zero, suc, ◌+◌, ◌-◌, ◌<◌, ◌≤◌, inl, inr, List, [], ◌∷◌, ◌++◌, length, take, drop, get_or, replicate, refl, sym, ap, ◌∙◌, arith, subst}
+use Rattle.std.proofs.Common.{◌≡◌, ℕ, zero, suc, ◌+◌, ◌-◌, ◌<◌, ◌≤◌, inl, inr, List, [], ◌∷◌, length, take, drop, get_or, refl, sym, ap, ◌∙◌, arith, subst}
 use Rattle.std.specs.Str.{IsUtf8}
 use Rattle.std.proofs.lemmas.Bool.{cases_lt}
 use Rattle.std.proofs.lemmas.Bool.Decides.{nat_tests}
 use Rattle.std.proofs.lemmas.Str.{IsUtf8-nil}
 use Rattle.std.proofs.Math.Seq.{drop-cons}
-use Rattle.std.proofs.lemmas.List.{get_or-append_right, get_or-drop, get_or-take, length-append, length-replicate, length-take}
-use Rattle.std.proofs.lemmas.Simd.{get_or-chunk, pick_l-range_with_len}
-use Rattle.std.specs.List.{range_with_len}
-use lib.Lanes.{chunk, pick_l}
+use Rattle.std.proofs.lemmas.List.{get_or-append_right, get_or-take}
+use Rattle.std.proofs.lemmas.Simd.{get_or-chunk}
+use lib.Lanes.{chunk}
 use Rattle.encoding_definitions.specs.Sequence.{IsSequence, IsContinuation, IsSecond}
 use Rattle.encoding_definitions.proofs.SequenceLemmas.{IsSequence-HasShape, second_from, second_two_from}
 use Rattle.encoding_definitions.proofs.Utf8Lemmas.{IsUtf8_more}
+use Rattle.encoding_kernels.specs.Scans.{HasLanes}
 use Rattle.encoding_kernels.specs.Following.{IsValidAfter, IsValidAt, ValidUpTo, IsClosedAt, AsciiBetween}
 
 second_most : (a b : ℕ) → IsSecond a b → b ≤ 0xBF
@@ -125,17 +125,7 @@ IsValidAt-loads n bs at i h l f =
     moved x y a b f
 
 -- lanes of a first load, with zeros before it
-abbrev pub shifted : ℕ → List ℕ → ℕ → List ℕ
-shifted n bs k = pick_l 0 (replicate n 0 ++ take n bs) (range_with_len k n)
-
--- n lanes from index k on, of n zeros followed by n bytes
 module _ (n : ℕ) (bs : List ℕ) (long : n ≤ length bs) where
-  shifted_at : (k i : ℕ) → k ≤ n → i < n → get_or (shifted n bs k) i 0 ≡ get_or (drop k (replicate n 0 ++ take n bs)) i 0
-  shifted_at k i h l =
-      let all = replicate n 0 ++ take n bs in
-      let room : k + n ≤ length all = omega (arith, length-append (replicate n 0) (take n bs), length-replicate {A = ℕ} n 0, length-take n bs) in
-      ap (λ xs. get_or xs i 0) (pick_l-range_with_len 0 all k n room) ∙ get_or-chunk k n all i 0 l ∙ sym (get_or-drop k all i 0)
-
   -- bytes after zeros, in a prefix and in the whole
   prefix_one : (i : ℕ) → i < n → get_or (0 ∷ take n bs) i 0 ≡ get_or (0 ∷ bs) i 0
   prefix_one zero l = refl
@@ -149,14 +139,9 @@ module _ (n : ℕ) (bs : List ℕ) (long : n ≤ length bs) where
   prefix_three zero l = refl
   prefix_three (suc i) l = prefix_two i (omega arith)
 
-  pub IsValidAt-first : (three two one i : ℕ) → (three ≤ n) × (two ≤ n) × (one ≤ n) → drop three (replicate n 0 ++ take n bs) ≡ 0 ∷ 0 ∷ 0 ∷ take n bs
-      → drop two (replicate n 0 ++ take n bs) ≡ 0 ∷ 0 ∷ take n bs → drop one (replicate n 0 ++ take n bs) ≡ 0 ∷ take n bs → i < n
-      → IsValidAfter (get_or (shifted n bs three) i 0) (get_or (shifted n bs two) i 0) (get_or (shifted n bs one) i 0) (get_or (take n bs) i 0) → IsValidAt bs i
-  IsValidAt-first three two one i few e3 e2 e1 l f =
-      let x = shifted_at three i few.0 l ∙ ap (λ xs. get_or xs i 0) e3 ∙ prefix_three i l in
-      let y = shifted_at two i few.1 l ∙ ap (λ xs. get_or xs i 0) e2 ∙ prefix_two i l in
-      let a = shifted_at one i few.2 l ∙ ap (λ xs. get_or xs i 0) e1 ∙ prefix_one i l in
-      moved x y a (get_or-take n bs i 0 l) f
+  pub IsValidAt-first : {three two one : List ℕ} → HasLanes n three (λ k. get_or (0 ∷ 0 ∷ 0 ∷ take n bs) k 0) → HasLanes n two (λ k. get_or (0 ∷ 0 ∷ take n bs) k 0)
+      → HasLanes n one (λ k. get_or (0 ∷ take n bs) k 0) → (i : ℕ) → i < n → IsValidAfter (get_or three i 0) (get_or two i 0) (get_or one i 0) (get_or (take n bs) i 0) → IsValidAt bs i
+  IsValidAt-first x y a i l f = moved (x.each i l ∙ prefix_three i l) (y.each i l ∙ prefix_two i l) (a.each i l ∙ prefix_one i l) (get_or-take n bs i 0 l) f
 
 -- ---- more bytes
 pub ValidUpTo-more : (bs : List ℕ) (at n : ℕ) → ValidUpTo bs at → ((i : ℕ) → i < n → IsValidAt bs (at + i)) → ValidUpTo bs (at + n)

@@ -3,8 +3,8 @@ use Rattle.std.proofs.Common.{◌≡◌, ℕ, zero, suc, ◌+◌, ◌-◌, ◌*�
 use Rattle.std.specs.List.{range_with_len}
 use Rattle.std.specs.Simd.Lanes.{zip2, pick_l, mask_l, top, Each1}
 use Rattle.std.proofs.lemmas.Nat.{and_mask, one_shl}
-use Rattle.std.proofs.lemmas.List.{length-map, get_or-map, same_lists}
-use Rattle.std.proofs.lemmas.List.FromFn.{get_or-map-range_with_len}
+use Rattle.std.proofs.lemmas.List.{length-append, length-map, get_or-map, same_lists}
+use Rattle.std.proofs.lemmas.List.FromFn.{get_or-map-range_with_len, length-range_with_len}
 use Rattle.std.proofs.lemmas.Simd.{Each1-get_or, mask_l-mod, pick_l_left}
 use lib.Dec.{T}
 use lib.Lanes.{all_below}
@@ -18,10 +18,13 @@ abbrev lanes_from : List ℕ → ℕ → List ℕ
 lanes_from v n = pick_l 0 v (range_with_len 0 n)
 
 -- the lanes after zeros, as a shuffle yields them
-pub after_lanes : (zs v : List ℕ) (n k : ℕ) → k < length zs + n → get_or (zs ++ lanes_from v n) k 0 ≡ get_or (zs ++ v) k 0
+after_lanes : (zs v : List ℕ) (n k : ℕ) → k < length zs + n → get_or (zs ++ lanes_from v n) k 0 ≡ get_or (zs ++ v) k 0
 after_lanes [] v n k l = get_or-map-range_with_len (λ j. get_or v j 0) 0 n k k 0 (omega arith) (omega arith)
 after_lanes (z ∷ zs) v n zero l = refl
 after_lanes (z ∷ zs) v n (suc k) l = after_lanes zs v n k (omega arith)
+
+pub HasLanes-after : (zs v : List ℕ) (n : ℕ) → HasLanes (length zs + n) (zs ++ lanes_from v n) (λ k. get_or (zs ++ v) k 0)
+HasLanes-after zs v n = record { long = omega (arith, length-append zs (lanes_from v n), length-map (range_with_len 0 n) (λ j. get_or v j 0), length-range_with_len 0 n); each = after_lanes zs v n }
 
 -- bytes below a bound, with a zero before them
 pub after_below : (n : ℕ) (v : List ℕ) → 0 < n → ((k : ℕ) → k < 16 → get_or v k 0 < n) → (k : ℕ) → k < 16 → get_or (0 ∷ v) k 0 < n

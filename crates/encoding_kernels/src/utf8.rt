@@ -1,5 +1,5 @@
 //! UTF-8 by itself.
 
 pub mod length;
-mod lookup;
+pub(crate) mod lookup;
 pub mod validate;

@@ -3,7 +3,8 @@
 //!
 //! Three tables, by the nibbles of two adjacent bytes, each leave some errors possible. An error has a bit, and is there
 //! if all three leave it.
-ghost use Rattle.std.specs.Prelude.{◌≡◌, ℕ, ◌+◌, ◌<◌, ◌≤◌, length, slice_index, IsTrue};
+ghost use Rattle.std.specs.Prelude.{◌≡◌, ℕ, ◌+◌, ◌<◌, ◌≤◌, ◌∷◌, length, slice_index, IsTrue};
+ghost use Rattle.encoding_kernels.specs.Scans.{HasLanes};
 ghost use Rattle.encoding_kernels.specs.Following.{IsZeroTo, IsValidAfter, IsValidAt};
 
 use crate::simd::scan::run_before;
@@ -107,6 +108,45 @@ const BYTE_2_HIGH: [u8; 32] = twice![
     TOO_SHORT,
 ];
 
+/// Returns for each lane the byte one lane before, and zero before the first.
+#[inline(always)]
+pub(crate) fn one_before(block: u8x16) -> u8x16
+    ensures { HasLanes 16 result (λ k. slice_index (0 ∷ block) k) }
+{
+    u8x16::splat(0).shuffle(
+        block,
+        [
+            15, 16, 17, 18, 19, 20, 21, 22, 23, 24, 25, 26, 27, 28, 29, 30,
+        ],
+    )
+}
+
+/// Returns for each lane the byte two lanes before, and zeros before the first.
+#[inline(always)]
+pub(crate) fn two_before(block: u8x16) -> u8x16
+    ensures { HasLanes 16 result (λ k. slice_index (0 ∷ 0 ∷ block) k) }
+{
+    u8x16::splat(0).shuffle(
+        block,
+        [
+            14, 15, 16, 17, 18, 19, 20, 21, 22, 23, 24, 25, 26, 27, 28, 29,
+        ],
+    )
+}
+
+/// Returns for each lane the byte three lanes before, and zeros before the first.
+#[inline(always)]
+pub(crate) fn three_before(block: u8x16) -> u8x16
+    ensures { HasLanes 16 result (λ k. slice_index (0 ∷ 0 ∷ 0 ∷ block) k) }
+{
+    u8x16::splat(0).shuffle(
+        block,
+        [
+            13, 14, 15, 16, 17, 18, 19, 20, 21, 22, 23, 24, 25, 26, 27, 28,
+        ],
+    )
+}
+
 /// Returns zero in each lane whose byte may follow the three before it.
 #[inline(always)]
 fn faults_of(fourth: u8x16, third: u8x16, second: u8x16, block: u8x16) -> u8x16
@@ -177,26 +217,10 @@ pub(crate) fn first_faults(src: &[u8]) -> u8x16
     ensures lanes { (i : ℕ) → i < 16 → slice_index result i ≡ 0 → IsValidAt src.now i }
 {
     let block = u8x16::from_slice(src);
-    let zero = u8x16::splat(0);
     faults_of(
-        zero.shuffle(
-            block,
-            [
-                13, 14, 15, 16, 17, 18, 19, 20, 21, 22, 23, 24, 25, 26, 27, 28,
-            ],
-        ),
-        zero.shuffle(
-            block,
-            [
-                14, 15, 16, 17, 18, 19, 20, 21, 22, 23, 24, 25, 26, 27, 28, 29,
-            ],
-        ),
-        zero.shuffle(
-            block,
-            [
-                15, 16, 17, 18, 19, 20, 21, 22, 23, 24, 25, 26, 27, 28, 29, 30,
-            ],
-        ),
+        three_before(block),
+        two_before(block),
+        one_before(block),
         block,
     )
 }

@@ -7,47 +7,9 @@ ghost use Rattle.std.specs.Simd.Lanes.{mask_l};
 ghost use Rattle.encoding_kernels.specs.Scans.{HasLanes};
 ghost use Rattle.encoding_kernels.specs.EndingUnits.{ends_after, low_bits, triple_unit, unit_lane, units_after, upper_of, compressed_places, byte_places};
 
+use crate::utf8::lookup::{one_before, three_before, two_before};
 use std::simd::Simd;
 use std::simd::prelude::*;
-
-/// Returns for each lane the byte one lane before, and zero before the first.
-#[inline(always)]
-fn one_before(block: u8x16) -> u8x16
-    ensures { HasLanes 16 result (λ k. slice_index (0 ∷ block) k) }
-{
-    u8x16::splat(0).shuffle(
-        block,
-        [
-            15, 16, 17, 18, 19, 20, 21, 22, 23, 24, 25, 26, 27, 28, 29, 30,
-        ],
-    )
-}
-
-/// Returns for each lane the byte two lanes before.
-#[inline(always)]
-fn two_before(block: u8x16) -> u8x16
-    ensures { HasLanes 16 result (λ k. slice_index (0 ∷ 0 ∷ block) k) }
-{
-    u8x16::splat(0).shuffle(
-        block,
-        [
-            14, 15, 16, 17, 18, 19, 20, 21, 22, 23, 24, 25, 26, 27, 28, 29,
-        ],
-    )
-}
-
-/// Returns for each lane the byte three lanes before.
-#[inline(always)]
-fn three_before(block: u8x16) -> u8x16
-    ensures { HasLanes 16 result (λ k. slice_index (0 ∷ 0 ∷ 0 ∷ block) k) }
-{
-    u8x16::splat(0).shuffle(
-        block,
-        [
-            13, 14, 15, 16, 17, 18, 19, 20, 21, 22, 23, 24, 25, 26, 27, 28,
-        ],
-    )
-}
 
 /// Returns whether each byte is below the bound.
 #[inline(always)]
