@@ -11,12 +11,10 @@ pub mod EndsLemmas
 pub mod FollowingLemmas
 pub mod HalvesLemmas
 pub mod LaneLemmas
-pub mod LaneSumLemmas
 pub mod LatinLanesLemmas
 pub mod LongLemmas
 pub mod LookupLemmas
 pub mod TestLemmas
-pub mod NarrowLemmas
 pub mod PairedUnitsLemmas
 pub mod PairsLemmas
 pub mod PlainLemmas

@@ -1,14 +1,17 @@
--- Two stores whose first bytes count: the second overwrites the excess of the first.
-use Rattle.std.proofs.Common.{◌≡◌, ℕ, ◌+◌, ◌≤◌, List, ◌++◌, length, take, drop, length-take-le, get_or, cond, ltb, sym, ap, ◌∙◌, arith, append_assoc, map, replicate}
-use Rattle.std.proofs.lemmas.List.{drop_at}
-use Rattle.std.proofs.lemmas.Simd.{length-put_chunk, length-chunk}
+-- What is stored of a vector: its first bytes, of which a second store overwrites the excess, and the lower bytes of code
+-- units.
+use Rattle.std.proofs.Common.{◌≡◌, ℕ, ◌+◌, ◌≤◌, List, ◌++◌, length, take, drop, length-take-le, get_or, cond, ltb, sym, ap, ◌∙◌, arith, append_assoc, map, replicate, ◌%◌, ◌<◌, map-id, get_or-take, bit_and, w8, Fits}
+use Rattle.std.proofs.lemmas.List.{drop_at, length-map, get_or-map}
+use Rattle.std.proofs.lemmas.Simd.{length-put_chunk, length-chunk, Each1-from_get_or}
 use Rattle.std.specs.List.{range_with_len}
-use Rattle.std.specs.Simd.Lanes.{chunk, put_chunk, zip2, sel_l, top}
+use Rattle.std.specs.Simd.Lanes.{chunk, put_chunk, zip2, sel_l, top, Each1}
 use mir.Syntax.{Width}
 use mir.Val.{hbits}
 use Rattle.encoding_kernels.specs.Scans.{HasLanes}
-use Rattle.encoding_kernels.proofs.LaneLemmas.{put_prefix, put_is, HasLanes-itself, HasLanes-numbers, HasLanes-splat, compared, put_firsts}
+use Rattle.encoding_kernels.proofs.LaneLemmas.{put_prefix, put_is, HasLanes-itself, HasLanes-numbers, HasLanes-splat, compared, put_firsts, HasLanes-zip2, HasLanes_same}
 use Rattle.encoding_kernels.proofs.TestLemmas.{chosen_by, tests_of}
+use Rattle.std.proofs.lemmas.Grind.{same_number_lists}
+use Rattle.std.proofs.lemmas.Nat.{and_mask}
 
 -- the first `count` lanes of one vector, followed by what the list has after them
 pub firsts_over : (w : Width) (at count : ℕ) (xs lanes : List ℕ) → at + 16 ≤ length xs → length lanes ≡ 16
@@ -41,3 +44,32 @@ module _ (at count more : ℕ) (xs first second z : List ℕ) (room : at + 32 �
       ∙ ap (λ ys. (take at xs ++ take count first) ++ ys) (second_single ∙ ap (λ n. take more second ++ drop n xs) place)
       ∙ append_assoc (take at xs) (take count first) (take more second ++ drop (at + (count + more)) xs)
       ∙ ap (λ ys. take at xs ++ ys) (sym (append_assoc (take count first) (take more second) (drop (at + (count + more)) xs)))
+
+-- ---- the lower bytes of code units
+module _ (n : ℕ) (units : List ℕ) (long : length units ≡ n) where
+  lower : List ℕ
+  lower = zip2 bit_and units (replicate n 0xFF)
+
+  lower_lanes : HasLanes n lower (λ k. get_or units k 0 % 0x100)
+  unfolding lower
+  lower_lanes = HasLanes_same (HasLanes-zip2 bit_and (HasLanes-itself n units long) (HasLanes-splat n 0xFF)) (λ k l. and_mask (get_or units k 0) 8)
+
+  -- after `& 0xFF` each unit fits into a byte
+  pub lower_fit : Each1 (Fits w8) (zip2 bit_and units (replicate n 0xFF))
+  unfolding lower
+  lower_fit = Each1-from_get_or (Fits w8) lower 0 (λ k l. record { fits = omega (arith, lower_lanes.each k (omega (arith, lower_lanes.long))) })
+
+  -- that is the lower byte
+  pub lower_are : map (λ x. x) (zip2 bit_and units (replicate n 0xFF)) ≡ map (λ unit. unit % 0x100) units
+  unfolding lower
+  lower_are = map-id lower ∙ same_number_lists lower (map (λ unit. unit % 0x100) units) (omega (arith, lower_lanes.long, length-map units (λ unit. unit % 0x100))) (λ k l.
+      lower_lanes.each k (omega (arith, lower_lanes.long)) ∙ sym (get_or-map (λ unit. unit % 0x100) units k 0 0 (omega (arith, long, lower_lanes.long))))
+
+  -- units that are bytes are unchanged
+  pub lower_same : (count : ℕ) → count ≤ n → ((k : ℕ) → k < count → get_or units k 0 < 0x100) → take count (map (λ x. x) (zip2 bit_and units (replicate n 0xFF))) ≡ take count units
+  unfolding lower
+  lower_same count few small =
+      let short = length-take-le count lower (omega (arith, lower_lanes.long)) in
+      ap (take count) (map-id lower) ∙ same_number_lists (take count lower) (take count units) (omega (arith, short, length-take-le count units (omega (arith, long)))) (λ k l.
+      let in_prefix : k < count = omega (arith, short) in
+      get_or-take count lower k 0 in_prefix ∙ rw (get_or-take count units k 0 in_prefix) (omega (arith, lower_lanes.each k (omega arith), small k in_prefix)))

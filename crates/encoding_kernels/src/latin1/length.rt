@@ -45,6 +45,7 @@ impl<'a, const N: usize> Terms<N> for BytesFrom<'a> {
         counted.select(Simd::splat(1), Simd::splat(0))
     }
 
+    #[tactic(auto, using(crate::proofs::TotalLemmas::term_from))]
     #[inline(always)]
     fn term_at(&self, at: usize) -> usize {
         usize::from(self.bytes[at] >= self.least)

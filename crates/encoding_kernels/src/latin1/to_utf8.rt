@@ -50,6 +50,7 @@ pub fn write_latin1(block: u8x16, dst: &mut [u8], at: usize) -> usize
 }
 
 /// Returns the length of the UTF-8 of the first `count` of sixteen bytes of Latin1.
+#[tactic(auto, using(crate::proofs::LatinLanesLemmas::latin_first_long, crate::proofs::UnitLanesLemmas::bytes_below))]
 #[inline(always)]
 pub fn utf8_length_of_first(block: u8x16, count: usize) -> usize
     requires { count ≤ 16 }

@@ -164,6 +164,7 @@ macro_rules! rows {
 const COMPRESSED: [u64; 256] = rows!([7 6 5 4 3 2 1 0] 0);
 
 /// Returns the indices of the two bytes of each kept lane, in order.
+#[tactic(auto, using(crate::proofs::CompressLemmas::word_bytes_is))]
 #[inline(always)]
 fn compress_places(mask: usize) -> u8x16
     requires { mask < 256 }

@@ -1,7 +1,7 @@
 use Rattle.std.proofs.Common.{◌+◌, ◌++◌, drop, take, ap, ◌∙◌, arith}
 use Rattle.std.proofs.lemmas.Simd.{length-chunk, get_or-chunk}
 use Rattle.std.specs.Simd.Lanes.{chunk}
-use Rattle.encoding_kernels.proofs.NarrowLemmas.{lower_fit, lower_same}
+use Rattle.encoding_kernels.proofs.StoresLemmas.{lower_fit, lower_same}
 use Rattle.encoding_kernels.proofs.LaneLemmas.{whole_chunk}
 use Rattle.encoding_kernels.proofs.simd.copy.pack_first.Goals as goal
 

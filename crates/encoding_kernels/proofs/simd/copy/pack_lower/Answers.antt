@@ -2,7 +2,7 @@ use Rattle.std.proofs.Common.{◌%◌, ap, ◌∙◌, map, arith}
 use Rattle.std.proofs.lemmas.List.{length-map}
 use Rattle.std.proofs.lemmas.Simd.{length-chunk}
 use Rattle.std.specs.Simd.Lanes.{chunk, put_chunk}
-use Rattle.encoding_kernels.proofs.NarrowLemmas.{lower_are, lower_fit}
+use Rattle.encoding_kernels.proofs.StoresLemmas.{lower_are, lower_fit}
 use Rattle.encoding_kernels.proofs.LaneLemmas.{put_is, whole_chunk}
 use Rattle.encoding_kernels.proofs.simd.copy.pack_lower.Goals as goal
 

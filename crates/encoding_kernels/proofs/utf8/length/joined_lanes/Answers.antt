@@ -1,7 +1,7 @@
 use Rattle.std.proofs.Common.{◌+◌, ◌%◌, ◌^◌, eqb, leb, ltb, not, slice_index, w8}
 use Rattle.encoding_kernels.proofs.LaneLemmas.{HasLanes-itself, HasLanes_same, HasLanes-splat, HasLanes-zip2}
 use Rattle.encoding_kernels.proofs.TestLemmas.{chosen, tests_and, tests_of}
-use Rattle.encoding_kernels.proofs.LaneSumLemmas.{joined_lane}
+use Rattle.encoding_kernels.proofs.TotalLemmas.{joined_lane}
 use Rattle.encoding_kernels.proofs.utf8.length.joined_lanes.Goals as goal
 
 pub returns : goal.returns

@@ -2,8 +2,7 @@ use Rattle.std.proofs.Common.{◌+◌, ◌∙◌, ap, arith, leb, nat_le, slice_
 use mir.Val.{bool_byte}
 use Rattle.encoding_kernels.proofs.LaneLemmas.{HasLanes_load, HasLanes_same, HasLanes-splat}
 use Rattle.encoding_kernels.proofs.TestLemmas.{chosen, tests_of}
-use Rattle.encoding_kernels.proofs.LaneSumLemmas.{one_or_none}
-use Rattle.encoding_kernels.proofs.TotalLemmas.{here}
+use Rattle.encoding_kernels.proofs.TotalLemmas.{one_or_none, here}
 use Rattle.encoding_kernels.proofs.latin1.length.BytesFromTerms.terms.Goals as goal
 
 pub returns : goal.returns
