@@ -139,8 +139,9 @@ module _ (n : ℕ) (bs : List ℕ) (long : n ≤ length bs) where
   prefix_three zero l = refl
   prefix_three (suc i) l = prefix_two i (omega arith)
 
-  pub IsValidAt-first : {three two one : List ℕ} → HasLanes n three (λ k. get_or (0 ∷ 0 ∷ 0 ∷ take n bs) k 0) → HasLanes n two (λ k. get_or (0 ∷ 0 ∷ take n bs) k 0)
-      → HasLanes n one (λ k. get_or (0 ∷ take n bs) k 0) → (i : ℕ) → i < n → IsValidAfter (get_or three i 0) (get_or two i 0) (get_or one i 0) (get_or (take n bs) i 0) → IsValidAt bs i
+  pub IsValidAt-first : {three two one : List ℕ} → HasLanes n three (λ k. get_or (0 ∷ 0 ∷ 0 ∷ take n bs) k 0)
+      → HasLanes n two (λ k. get_or (0 ∷ 0 ∷ take n bs) k 0) → HasLanes n one (λ k. get_or (0 ∷ take n bs) k 0) → (i : ℕ) → i < n
+      → IsValidAfter (get_or three i 0) (get_or two i 0) (get_or one i 0) (get_or (take n bs) i 0) → IsValidAt bs i
   IsValidAt-first x y a i l f = moved (x.each i l ∙ prefix_three i l) (y.each i l ∙ prefix_two i l) (a.each i l ∙ prefix_one i l) (get_or-take n bs i 0 l) f
 
 -- ---- more bytes

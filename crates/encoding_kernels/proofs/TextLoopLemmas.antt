@@ -98,7 +98,8 @@ units_split src old new n k reach u p =
     omega (arith, units_of_part16 (p.taken ++ more) src u all, sum_over_suffixes, p.counted, units_of_part16 more (drop n src) p.rest p.rest.1.1)
 
 -- the same characters written to another list
-moved : {src old new old2 new2 : List ℕ} {n k reach reach2 : ℕ} → WritesUtf16 src old new n k reach → take k new2 ≡ take k new → drop reach2 new2 ≡ drop reach2 old2 → WritesUtf16 src old2 new2 n k reach2
+moved : {src old new old2 new2 : List ℕ} {n k reach reach2 : ℕ} → WritesUtf16 src old new n k reach
+    → take k new2 ≡ take k new → drop reach2 new2 ≡ drop reach2 old2 → WritesUtf16 src old2 new2 n k reach2
 moved p same following = record {
   taken = p.taken;
   are_scalars = p.are_scalars;

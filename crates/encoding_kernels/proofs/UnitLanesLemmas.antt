@@ -24,7 +24,9 @@ after_lanes (z ∷ zs) v n zero l = refl
 after_lanes (z ∷ zs) v n (suc k) l = after_lanes zs v n k (omega arith)
 
 pub HasLanes-after : (zs v : List ℕ) (n : ℕ) → HasLanes (length zs + n) (zs ++ lanes_from v n) (λ k. get_or (zs ++ v) k 0)
-HasLanes-after zs v n = record { long = omega (arith, length-append zs (lanes_from v n), length-map (range_with_len 0 n) (λ j. get_or v j 0), length-range_with_len 0 n); each = after_lanes zs v n }
+HasLanes-after zs v n =
+    let last : length (lanes_from v n) ≡ n = length-map (range_with_len 0 n) (λ j. get_or v j 0) ∙ length-range_with_len 0 n in
+    record { long = omega (arith, length-append zs (lanes_from v n), last); each = after_lanes zs v n }
 
 -- bytes below a bound, with a zero before them
 pub after_below : (n : ℕ) (v : List ℕ) → 0 < n → ((k : ℕ) → k < 16 → get_or v k 0 < n) → (k : ℕ) → k < 16 → get_or (0 ∷ v) k 0 < n
