@@ -1,9 +1,9 @@
 //! Copies by vectors: bytes as bytes or as UTF-16 code units, and ASCII code units as bytes. The rest of `dst` is
-//! unchanged.
+//! unchanged. Vectors whose lanes are moved on.
 
-ghost use Rattle.std.specs.Prelude.{◌≡◌, ◌+◌, ◌%◌, ◌<◌, ◌≤◌, ◌++◌, length, map, take, drop};
+ghost use Rattle.std.specs.Prelude.{◌≡◌, ◌+◌, ◌%◌, ◌<◌, ◌≤◌, ◌∷◌, ◌++◌, length, map, take, drop, slice_index};
 ghost use Rattle.encoding_definitions.specs.Prefixes.{WritesPrefix};
-ghost use Rattle.encoding_kernels.specs.Scans.{AllBelow};
+ghost use Rattle.encoding_kernels.specs.Scans.{AllBelow, HasLanes};
 
 use crate::simd::width::{HALF_STRIDE, STRIDE};
 use crate::tuning::LONGEST_VECTOR_COPY;
@@ -203,4 +203,43 @@ pub fn pack_first(stride: &[u16; STRIDE], dst: &mut [u8], at: usize, count: usiz
 {
     let lower = u16x16::from_slice(stride) & u16x16::splat(0xFF);
     write_first(dst, at, lower.cast::<u8>(), count);
+}
+
+/// Returns for each lane the byte one lane before, and zero before the first.
+#[inline(always)]
+pub(crate) fn one_before(block: u8x16) -> u8x16
+    ensures { HasLanes 16 result (λ k. slice_index (0 ∷ block) k) }
+{
+    u8x16::splat(0).shuffle(
+        block,
+        [
+            15, 16, 17, 18, 19, 20, 21, 22, 23, 24, 25, 26, 27, 28, 29, 30,
+        ],
+    )
+}
+
+/// Returns for each lane the byte two lanes before, and zeros before the first.
+#[inline(always)]
+pub(crate) fn two_before(block: u8x16) -> u8x16
+    ensures { HasLanes 16 result (λ k. slice_index (0 ∷ 0 ∷ block) k) }
+{
+    u8x16::splat(0).shuffle(
+        block,
+        [
+            14, 15, 16, 17, 18, 19, 20, 21, 22, 23, 24, 25, 26, 27, 28, 29,
+        ],
+    )
+}
+
+/// Returns for each lane the byte three lanes before, and zeros before the first.
+#[inline(always)]
+pub(crate) fn three_before(block: u8x16) -> u8x16
+    ensures { HasLanes 16 result (λ k. slice_index (0 ∷ 0 ∷ 0 ∷ block) k) }
+{
+    u8x16::splat(0).shuffle(
+        block,
+        [
+            13, 14, 15, 16, 17, 18, 19, 20, 21, 22, 23, 24, 25, 26, 27, 28,
+        ],
+    )
 }

@@ -3,6 +3,7 @@
 
 ghost use Rattle.std.specs.Prelude.{◌≡◌, ℕ, ◌+◌, ◌*◌, ◌<◌, ◌≤◌, ◌↔◌, ◌⊎◌, IsTrue, length, slice_index};
 ghost use lib.Count.{count_trailing_zeros};
+ghost use Rattle.encoding_kernels.specs.Following.{IsZeroTo};
 ghost use Rattle.encoding_kernels.specs.Scans.{PassBetween, IsPassRun, Marks, AllBelow, IsRunBelow, BelowUpTo};
 
 use crate::simd::width::{BLOCK, FOUR_BLOCKS, HALF_STRIDE, HALF_UNIT_BLOCK, STRIDE, UNIT_STRIDE};
@@ -278,4 +279,23 @@ pub fn units_prefix_len_below(units: &[u16], bound: u16) -> usize
     let by_blocks = skip::<HALF_UNIT_BLOCK, HALF_UNIT_BLOCK, _>(&test, 0, units.len());
     let by_strides = skip::<UNIT_STRIDE, UNIT_STRIDE, _>(&test, by_blocks, units.len());
     skip::<1, 1, _>(&test, by_strides, units.len())
+}
+
+/// Returns whether each lane is zero.
+#[tactic(auto, using(std::proofs::lemmas::Grind::common_steps, crate::proofs::TestLemmas::zeros_from_mask))]
+#[inline(always)]
+pub(crate) fn is_zero(lanes: u8x32) -> bool
+    ensures { IsTrue result → IsZeroTo lanes 32 }
+{
+    lanes.simd_ne(u8x32::splat(0)).to_bitmask() == 0
+}
+
+/// Returns how many lanes precede the first that isn't zero.
+#[inline(always)]
+pub(crate) fn zeros<const N: usize>(lanes: Simd<u8, N>) -> usize
+    requires { N ≤ 64 }
+    ensures within { result ≤ N }
+    ensures zeros { IsZeroTo lanes.entry result }
+{
+    run_before::<N>(lanes.simd_ne(Simd::splat(0)).to_bitmask())
 }

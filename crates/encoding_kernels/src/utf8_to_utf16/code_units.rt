@@ -7,7 +7,7 @@ ghost use Rattle.std.specs.Simd.Lanes.{mask_l};
 ghost use Rattle.encoding_kernels.specs.Scans.{HasLanes};
 ghost use Rattle.encoding_kernels.specs.EndingUnits.{ends_after, low_bits, triple_unit, unit_lane, units_after, upper_of, compressed_places, byte_places};
 
-use crate::utf8::lookup::{one_before, three_before, two_before};
+use crate::simd::copy::{one_before, three_before, two_before};
 use std::simd::Simd;
 use std::simd::prelude::*;
 

@@ -1,5 +1,5 @@
 use Rattle.encoding_kernels.proofs.TestLemmas.{zeros_before}
-use Rattle.encoding_kernels.proofs.utf8.lookup.zeros.Goals as goal
+use Rattle.encoding_kernels.proofs.simd.scan.zeros.Goals as goal
 
 pub returns : goal.returns
 returns g c =

@@ -1,7 +1,7 @@
 use Rattle.std.proofs.Common.{◌∷◌, [], take}
 use Rattle.encoding_kernels.proofs.FollowingLemmas.{IsValidAt-first}
 use Rattle.encoding_kernels.proofs.UnitLanesLemmas.{HasLanes-after}
-use Rattle.encoding_kernels.proofs.utf8.lookup.first_faults_32.Goals as goal
+use Rattle.encoding_kernels.proofs.utf8.validate.first_faults_32.Goals as goal
 
 pub returns-clause-lanes : goal.returns-clause-lanes
 returns-clause-lanes c i l e =

@@ -1,6 +1,6 @@
 use Rattle.std.proofs.Common.{◌∷◌, []}
 use Rattle.encoding_kernels.proofs.UnitLanesLemmas.{HasLanes-after}
-use Rattle.encoding_kernels.proofs.utf8.lookup.three_before.Goals as goal
+use Rattle.encoding_kernels.proofs.simd.copy.one_before.Goals as goal
 
 pub returns : goal.returns
-returns c = HasLanes-after (0 ∷ 0 ∷ 0 ∷ []) c.args.block 13
+returns c = HasLanes-after (0 ∷ []) c.args.block 15
