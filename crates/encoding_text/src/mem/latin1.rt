@@ -193,12 +193,12 @@ fn whole_length(last: u8) -> usize
 /// space of a block. The last sixteen bytes are one block, whose first ones are written again.
 #[inline(always)]
 fn finish_utf8(src: &[u8], dst: &mut [u8], read: usize, written: usize) -> Option<usize>
-    requires src_length { (16 < length src.now) × (read ≤ length src.now) × (length src.now < read + 16) }
+    requires left { (16 < length src.now) × (read ≤ length src.now) × (length src.now < read + 16) }
     requires latin1 { IsUtf8Latin1 src.now }
     requires rest { drop read src.now ≡ encode_utf8_all (drop written (chars src.now)) }
     requires written { (written ≤ length dst.old) × (take written dst.old ≡ take written (chars src.now)) }
-    ensures all { IfSome result (λ n. WritesPrefix dst.old dst.new n (chars src.now)) }
-    ensures none { IfNone result (dst.new ≡ dst.old) }
+    ensures finished { IfSome result (λ n. WritesPrefix dst.old dst.new n (chars src.now)) }
+    ensures full { IfNone result (dst.new ≡ dst.old) }
 {
     let last = src.len() - STRIDE;
     let block = u8x16::from_slice(&src[last..]);
