@@ -1,69 +1,36 @@
 -- The repair of a block: what is written after each call of the decoder, and what successive calls on blocks yield.
-use Rattle.std.proofs.Common.{◌≡◌, ℕ, ◌+◌, ◌-◌, ◌*◌, ◌<◌, ◌≤◌, ◌↔◌, inl, inr, Bool, true, false, List, [], ◌∷◌, ◌++◌, length, map, take, drop, encode_utf8, refl, sym, ap, ◌∙◌, arith, subst, true≢false}
+use Rattle.std.proofs.Common.{◌≡◌, ℕ, ◌+◌, ◌-◌, ◌<◌, ◌≤◌, ◌↔◌, inl, inr, Bool, true, false, List, [], ◌∷◌, ◌++◌, length, take, drop, encode_utf8, refl, sym, ap, ◌∙◌, arith, subst, true≢false}
 use Rattle.std.specs.Prelude.{Any}
 use Rattle.std.specs.Char.{IsScalar}
 use Rattle.std.specs.List.{flat_map}
 use Rattle.std.proofs.lemmas.Bool.{cases_lt}
-use Rattle.std.proofs.lemmas.List.{append-nil, append_assoc, drop-drop, length-append, length-drop, take_rest}
+use Rattle.std.proofs.lemmas.List.{append-nil, drop-drop, length-append, length-drop, take_rest}
 use Rattle.std.proofs.lemmas.Str.{length-encode, len_utf8_bounds}
 use borrow.Rule.Slice.PartMut.{put_mid}
-use Rattle.encoding_definitions.specs.Parts.{Part, Character, IllFormed, lossy_utf8, malformed_count, Yields}
+use Rattle.encoding_definitions.specs.Parts.{Part, lossy_utf8, malformed_count, Yields}
 use Rattle.encoding_definitions.specs.Sequence.{IsPending}
 use Rattle.encoding_definitions.specs.Prefixes.{WritesPrefix}
-use Rattle.encoding_definitions.proofs.PrefixesLemmas.{WritesPrefix-same, WritesPrefix-length, WritesPrefix_after}
-use Rattle.encoding_definitions.proofs.DecompositionLemmas.{lossy_utf8-append, lossy_utf8-characters, malformed_count-append, malformed_count-characters}
-use Rattle.encoding_definitions.proofs.EncodingLemmas.{flat_map-encode_utf8}
+use Rattle.encoding_definitions.proofs.PrefixesLemmas.{WritesPrefix-length, WritesPrefix_after}
+use Rattle.encoding_definitions.proofs.DecompositionLemmas.{lossy_utf8-append, malformed_count-append}
 use Rattle.encoding_text.specs.Decoding.{DecodeStepInto, IsReported}
 use Rattle.encoding_text.specs.declared.decoder.DecoderResult.{DecoderResult}
 use Rattle.encoding_text.specs.declared.decoder.DecoderResult.TheVariants.{InputEmpty, OutputFull, Malformed}
-use Rattle.encoding_text.proofs.CallPartsLemmas.{decoded_yields}
 use Rattle.encoding_text.proofs.OneResultLemmas.{no_characters_pending}
 use Rattle.encoding_runs.specs.declared.repair.blocks.RepairedBlock.{RepairedBlock}
 use Rattle.encoding_runs.specs.Blocks.{IsBlockRepair, WantsSpace, RepairTheParts, replaced_in_all}
 use Rattle.encoding_runs.specs.Calls.{Call, IsChain, output_of, AreYieldedInSequence, YieldTheParts}
 use Rattle.encoding_runs.specs.Repairs.{IsLossyDecodeWith}
-use Rattle.encoding_runs.proofs.ChainLemmas.{chain_yields, yields_then}
+use Rattle.encoding_text.proofs.RepairingLemmas.{Repaired, repaired_more, repaired_report}
+use Rattle.encoding_runs.proofs.ChainLemmas.{chain_yields}
 
--- parts are yielded, and the text of all except the reported ones among them is written
-pub record BlockText (p src : List ℕ) (last : Bool) (old new : List ℕ) (read written replaced : ℕ) (q : List ℕ) (reported : List Part) : Type 0 where
-  pub parts : List Part
-  pub yielded : Yields p src last (parts ++ reported) read q
-  pub writes : WritesPrefix old new written (lossy_utf8 parts)
-  pub malformed : replaced ≡ malformed_count parts
-  pub three : 3 * replaced ≤ written
-
--- the text of all is written
+-- the text of all parts so far is written
 abbrev pub BlockDone : List ℕ → List ℕ → Bool → List ℕ → List ℕ → ℕ → ℕ → ℕ → List ℕ → Type 0
-BlockDone p src last old new read written replaced q = BlockText p src last old new read written replaced q []
+BlockDone p src last old new read written replaced q = Repaired encode_utf8 p src last old new read written replaced q []
 
 -- a call of the decoder on the rest of the source, into the rest of the destination
 abbrev pub DecodesRest : List ℕ → List ℕ → Bool → List ℕ → List ℕ → ℕ → ℕ → DecoderResult → ℕ → ℕ → List ℕ → Type 0
 DecodesRest q src last new sub read written result bytes units t =
     DecodeStepInto encode_utf8 4 q (drop read src) (take (length new - written) (drop written new)) sub last result bytes units t
-
-module _ (p src : List ℕ) (last : Bool) (old new sub : List ℕ) (read written replaced : ℕ) (q : List ℕ) (bytes units : ℕ) (t : List ℕ) where
-  abbrev after : List ℕ
-  after = put_mid written (length new - written) new sub
-
-  -- what it decoded is written
-  pub block_more : (result : DecoderResult) → BlockDone p src last old new read written replaced q → DecodesRest q src last new sub read written result bytes units t
-      → (reported : List Part) × IsReported result reported × BlockText p src last old after (read + bytes) (written + units) replaced t reported
-  block_more result d (out, w, call) =
-      let (more, (cs, reported, scalars, out_is, is, are), g) = decoded_yields encode_utf8 4 q (drop read src) _ last result bytes out t call in
-      let done = d.parts in
-      let before : Yields p src last done read q = subst (λ ps. Yields p src last ps read q) (append-nil done) d.yielded in
-      let whole : done ++ more ≡ (done ++ map Character cs) ++ reported = ap (λ ps. done ++ ps) are ∙ sym (append_assoc done (map Character cs) reported) in (
-        reported,
-        is,
-        record {
-          parts = done ++ map Character cs;
-          yielded = subst (λ ps. Yields p src last ps (read + bytes) t) whole (yields_then p src last last last done more read bytes q t (λ e. (e, e)) before g);
-          writes = WritesPrefix-same _ _ _ _ _ _ (WritesPrefix_after old new written (lossy_utf8 done) sub units out d.writes w) refl
-              (ap (λ xs. lossy_utf8 done ++ xs) (out_is ∙ flat_map-encode_utf8 cs ∙ sym (lossy_utf8-characters cs)) ∙ sym (lossy_utf8-append done (map Character cs)));
-          malformed = omega (arith, d.malformed, malformed_count-append done (map Character cs), malformed_count-characters cs);
-          three = omega (arith, d.three);
-        },
-      )
 
 -- ---- what ends a call
 -- what a call on a block did
@@ -72,7 +39,7 @@ Ended p src last old new read written replaced finished q = (out : List ℕ) × 
     × IsBlockRepair p src (length old) last (record { read = read; written = written; replaced = replaced; finished = finished }) read out q
 
 ended : (p src : List ℕ) (last : Bool) (old new : List ℕ) (read written replaced : ℕ) (finished : Bool) (q : List ℕ) (reported : List Part) → IsPending p
-    → BlockText p src last old new read written replaced q reported → reported ≡ [] → (finished ≡ true) ↔ ((read ≡ length src) × (last ≡ true → q ≡ []))
+    → Repaired encode_utf8 p src last old new read written replaced q reported → reported ≡ [] → (finished ≡ true) ↔ ((read ≡ length src) × (last ≡ true → q ≡ []))
     → (finished ≡ false → WantsSpace src read (length old - written) q) → Ended p src last old new read written replaced finished q
 ended p src last old new read written replaced finished q reported h b none is_end is_full = (
   lossy_utf8 b.parts,
@@ -117,14 +84,14 @@ module _ (p src : List ℕ) (last : Bool) (old new sub : List ℕ) (read written
   -- all was read
   pub block_finished : DecodesRest q src last new sub read written InputEmpty bytes units t → EndedBy true
   block_finished (out, w, call) =
-      let (reported, is, b) = block_more p src last old new sub read written replaced q bytes units t InputEmpty d (out, w, call) in
+      let (reported, is, b) = repaired_more encode_utf8 4 p src last old new sub read written replaced q bytes units t InputEmpty d (out, w, call) in
       let all : read + bytes ≡ length src = omega (arith, call.answer.0, length-drop read src, d.yielded.within) in
       ended p src last old _ _ _ replaced true t reported h b is ((λ _. (all, call.answer.2)), λ _. refl) (λ e. absurd (true≢false e))
 
   -- the space left isn't enough
   pub block_full : DecodesRest q src last new sub read written OutputFull bytes units t → EndedBy false
   block_full (out, w, call) =
-      let (reported, is, b) = block_more p src last old new sub read written replaced q bytes units t OutputFull d (out, w, call) in
+      let (reported, is, b) = repaired_more encode_utf8 4 p src last old new sub read written replaced q bytes units t OutputFull d (out, w, call) in
       let (some, whole, few, none, kept) = call.answer in
       let unread : read + bytes ≡ length src → ⊥ = λ all. omega (arith, all, some, length-drop read src) in
       let left : length (take (length new - written) (drop written new)) - length out ≡ length old - (written + units) = omega (arith, size, w.count) in
@@ -138,7 +105,7 @@ module _ (p src : List ℕ) (last : Bool) (old new sub : List ℕ) (read written
   pub block_fits : (k second : ℕ) → DecodesRest q src last new sub read written (Malformed k second) bytes units t → (length src - read ≡ 0 → 3 ≤ length new - written)
       → 3 ≤ length (take (length dst - (written + units)) (drop (written + units) dst))
   block_fits k second (out, w, call) at_end =
-      let (reported, is, b) = block_more p src last old new sub read written replaced q bytes units t (Malformed k second) d (out, w, call) in
+      let (reported, is, b) = repaired_more encode_utf8 4 p src last old new sub read written replaced q bytes units t (Malformed k second) d (out, w, call) in
       let (x, zero, within, whole, count, none, malformed, enough) = call.answer in
       let space : length (take (length dst - (written + units)) (drop (written + units) dst)) ≡ length old - (written + units) =
       ap length (take_rest dst (written + units)) ∙ length-drop (written + units) dst ∙ ap (λ n. n - (written + units)) (WritesPrefix-length _ _ _ _ b.writes) in
@@ -154,19 +121,12 @@ module _ (p src : List ℕ) (last : Bool) (old new sub : List ℕ) (read written
 
 -- U+FFFD for the reported part
 pub block_replaced : (p src : List ℕ) (last : Bool) (old new sub : List ℕ) (read written replaced n k second : ℕ) (q : List ℕ) (reported : List Part)
-    → BlockText p src last old new read written replaced q reported → IsReported (Malformed k second) reported
+    → Repaired encode_utf8 p src last old new read written replaced q reported → IsReported (Malformed k second) reported
     → WritesPrefix (take (length new - written) (drop written new)) sub n (encode_utf8 0xFFFD)
     → BlockDone p src last old (put_mid written (length new - written) new sub) read (written + n) (replaced + 1) q
-block_replaced p src last old new sub read written replaced n k second q reported b (x, is, size) w =
-    let whole : b.parts ++ reported ≡ (b.parts ++ IllFormed x ∷ []) ++ [] = ap (λ ps. b.parts ++ ps) is ∙ sym (append-nil (b.parts ++ IllFormed x ∷ [])) in
-    record {
-      parts = b.parts ++ IllFormed x ∷ [];
-      yielded = subst (λ ps. Yields p src last ps read q) whole b.yielded;
-      writes = WritesPrefix-same _ _ _ _ _ _ (WritesPrefix_after old new written (lossy_utf8 b.parts) sub n (encode_utf8 0xFFFD) b.writes w) refl
-          (ap (λ xs. lossy_utf8 b.parts ++ xs) (sym (append-nil (encode_utf8 0xFFFD))) ∙ sym (lossy_utf8-append b.parts (IllFormed x ∷ [])));
-      malformed = omega (arith, b.malformed, malformed_count-append b.parts (IllFormed x ∷ []));
-      three = omega (arith, b.three, w.count, length-encode 0xFFFD);
-    }
+block_replaced p src last old new sub read written replaced n k second q reported b is w =
+    repaired_report encode_utf8 p src last old new _ read written (written + n) replaced k second q reported b is
+    (WritesPrefix_after old new written (lossy_utf8 b.parts) sub n (encode_utf8 0xFFFD) b.writes w)
 
 -- ---- successive calls
 -- what a call on a block yields

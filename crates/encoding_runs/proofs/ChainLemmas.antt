@@ -1,15 +1,16 @@
 -- A chain of a decoder's calls yields what one call yields: the first parts of the pending bytes and the source.
-use Rattle.std.proofs.Common.{◌≡◌, ℕ, zero, suc, ◌+◌, ◌≤◌, ◌⊎◌, inl, inr, Bool, true, false, List, [], ◌∷◌, ◌++◌, length, take, drop, refl, sym, ap, ◌∙◌, arith, subst}
+use Rattle.std.proofs.Common.{◌≡◌, ℕ, zero, suc, ◌≤◌, ◌⊎◌, inl, inr, Bool, true, false, List, [], ◌∷◌, ◌++◌, length, take, drop, refl, sym, ap, ◌∙◌, arith, subst}
 use Rattle.std.specs.Prelude.{Any}
 use Rattle.std.specs.List.{flat_map}
 use Rattle.std.proofs.lemmas.Bool.{or_parts}
-use Rattle.std.proofs.lemmas.List.{append_assoc, append_cancel_right, length-append, length-drop, length-take, take-append-drop, take_all, drop-append-le, drop-drop, nil_from_length}
+use Rattle.std.proofs.lemmas.List.{append_assoc, append_cancel_right, length-append, length-drop, length-take, take-append-drop, take_all, drop-append-le, nil_from_length}
 use Rattle.encoding_definitions.specs.Sequence.{IsPending}
 use Rattle.encoding_definitions.specs.Parts.{Part, bytes_of, StartsWith, Yields}
 use Rattle.encoding_text.specs.Decoding.{DecodeStep}
 use Rattle.encoding_text.specs.declared.decoder.DecoderResult.{DecoderResult}
 use Rattle.encoding_text.specs.declared.decoder.DecoderResult.TheVariants.{InputEmpty}
-use Rattle.encoding_definitions.proofs.DecompositionLemmas.{StartsWith-append, StartsWith-bytes}
+use Rattle.encoding_definitions.proofs.DecompositionLemmas.{StartsWith-bytes}
+use Rattle.encoding_text.proofs.RepairingLemmas.{yields_then}
 use Rattle.encoding_runs.specs.Calls.{CallRelation, Call, IsChain, read_in_all, pending_after, some_last, AreYieldedInSequence, YieldTheParts}
 
 -- ---- one call, among all unread bytes
@@ -40,19 +41,6 @@ of_piece p b n last parts read q g whole = record {
   first = first_of_all p b n last parts read q g whole;
   pending = g.pending;
   stable = first_stable p b n last parts read q g;
-}
-
--- what a call yields, and what the next one yields of the rest
-pub yields_then : (p src : List ℕ) (last next both : Bool) (ps qs : List Part) (r s : ℕ) (q t : List ℕ) → (both ≡ false → (last ≡ false) × (next ≡ false)) → Yields p src last ps r q
-    → Yields q (drop r src) next qs s t → Yields p src both (ps ++ qs) (r + s) t
-yields_then p src last next both ps qs r s q t none g h = record {
-  within = omega (arith, g.within, h.within, length-drop r src);
-  first = subst (λ xs. StartsWith (p ++ src) (ps ++ qs) (t ++ xs)) (drop-drop s r src)
-      (StartsWith-append (p ++ src) ps (q ++ drop r src) qs (t ++ drop s (drop r src)) g.first h.first);
-  pending = h.pending;
-  stable = λ e more.
-      subst (λ xs. StartsWith (p ++ src ++ more) (ps ++ qs) (t ++ xs ++ more)) (drop-drop s r src)
-      (StartsWith-append (p ++ src ++ more) ps (q ++ drop r src ++ more) qs (t ++ drop s (drop r src) ++ more) (g.stable (none e).0 more) (h.stable (none e).1 more));
 }
 
 -- the bytes of the parts, then the pending ones, are the bytes pending before and the bytes read

@@ -1,76 +1,119 @@
--- Calls and U+FFFD in turn: what is written is the text of the first parts of the source.
-use Rattle.std.proofs.Common.{◌≡◌, ℕ, ◌+◌, ◌-◌, ◌<◌, ◌≤◌, true, List, [], ◌∷◌, ◌++◌, length, map, take, drop, set, encode_utf8_all, refl, sym, ap, ◌∙◌, arith, subst}
+-- Calls of a decoder and U+FFFD in turn: what is written is the text of the first parts of the source.
+use Rattle.std.proofs.Common.{◌≡◌, ℕ, ◌+◌, ◌-◌, ◌<◌, ◌≤◌, Bool, true, false, List, [], ◌∷◌, ◌++◌, length, map, take, drop, set, encode_utf8_all, refl, sym, ap, ◌∙◌, arith, subst}
 use Rattle.std.specs.Char.Escape.{encode_utf16}
 use Rattle.std.specs.List.{flat_map}
-use Rattle.std.specs.Str.{all_scalars}
-use Rattle.std.proofs.lemmas.List.{append_assoc, length-append, length-drop, length-take, take_rest, drop-drop, take-append-drop}
+use Rattle.std.proofs.lemmas.List.{append-nil, append_assoc, length-append, length-drop, length-take, take_rest, drop-drop, drop_all}
+use Rattle.std.proofs.lemmas.List.Folds.{flat_map-map}
 use Rattle.std.proofs.lemmas.Grind.{flat_map-append}
 use borrow.Rule.Slice.PartMut.{put_mid}
-use Rattle.encoding_definitions.specs.Parts.{Part, Character, IllFormed, IsFirstPart, StartsWith, ArePartsOf, lossy_scalar, lossy_utf16}
+use Rattle.encoding_definitions.specs.Parts.{Part, Character, IllFormed, StartsWith, ArePartsOf, Yields, lossy_scalar, lossy_utf16, malformed_count}
 use Rattle.encoding_definitions.specs.Prefixes.{WritesPrefix}
-use Rattle.encoding_text.specs.Decoding.{DecodeStepInto}
+use Rattle.encoding_text.specs.Decoding.{DecodeStepInto, IsReported}
+use Rattle.encoding_text.specs.declared.decoder.DecoderResult.{DecoderResult}
 use Rattle.encoding_text.specs.declared.decoder.DecoderResult.TheVariants.{InputEmpty, Malformed}
-use Rattle.encoding_text.proofs.CallPartsLemmas.{malformed_first}
-use Rattle.encoding_definitions.proofs.DecompositionLemmas.{StartsWith-append, StartsWith-one, StartsWith-characters}
+use Rattle.encoding_text.proofs.CallPartsLemmas.{decoded_yields}
+use Rattle.encoding_definitions.proofs.DecompositionLemmas.{StartsWith-append, malformed_count-append, malformed_count-characters}
 use Rattle.encoding_definitions.proofs.PrefixesLemmas.{WritesPrefix-length, WritesPrefix-same, WritesPrefix_after, WritesPrefix_push}
 use Rattle.encoding_text.proofs.DecodeLemmas.{malformed_some}
 
--- the text of the first parts is written, and `read` is the length of their bytes
-pub record Repaired (src old new : List ℕ) (read written : ℕ) : Type 0 where
-  pub within : read ≤ length src
-  pub parts : List Part
-  pub starts : StartsWith src parts (drop read src)
-  pub writes : WritesPrefix old new written (lossy_utf16 parts)
+-- what a call yields, and what the next one yields of the rest
+pub yields_then : (p src : List ℕ) (last next both : Bool) (ps qs : List Part) (r s : ℕ) (q t : List ℕ) → (both ≡ false → (last ≡ false) × (next ≡ false)) → Yields p src last ps r q
+    → Yields q (drop r src) next qs s t → Yields p src both (ps ++ qs) (r + s) t
+yields_then p src last next both ps qs r s q t none g h = record {
+  within = omega (arith, g.within, h.within, length-drop r src);
+  first = subst (λ xs. StartsWith (p ++ src) (ps ++ qs) (t ++ xs)) (drop-drop s r src)
+      (StartsWith-append (p ++ src) ps (q ++ drop r src) qs (t ++ drop s (drop r src)) g.first h.first);
+  pending = h.pending;
+  stable = λ e more.
+      subst (λ xs. StartsWith (p ++ src ++ more) (ps ++ qs) (t ++ xs ++ more)) (drop-drop s r src)
+      (StartsWith-append (p ++ src ++ more) ps (q ++ drop r src ++ more) qs (t ++ drop s (drop r src) ++ more) (g.stable (none e).0 more) (h.stable (none e).1 more));
+}
 
-utf16_characters : (cs : List ℕ) → lossy_utf16 (map Character cs) ≡ flat_map encode_utf16 cs
-utf16_characters [] = refl
-utf16_characters (c ∷ cs) = ap (λ xs. encode_utf16 c ++ xs) (utf16_characters cs)
+module _ {A : Type 0} (encode : ℕ → List A) where
+  -- the text of parts, with U+FFFD for each malformed sequence
+  abbrev pub lossy : List Part → List A
+  lossy parts = flat_map (λ part. encode (lossy_scalar part)) parts
 
-utf16-append : (ps qs : List Part) → lossy_utf16 (ps ++ qs) ≡ lossy_utf16 ps ++ lossy_utf16 qs
-utf16-append ps qs = flat_map-append (λ part. encode_utf16 (lossy_scalar part)) ps qs
+  pub lossy-append : (ps qs : List Part) → lossy (ps ++ qs) ≡ lossy ps ++ lossy qs
+  lossy-append ps qs = flat_map-append (λ part. encode (lossy_scalar part)) ps qs
 
--- the characters of a call follow it
-characters_after : (src old new sub : List ℕ) (read written more units : ℕ) (cs rest : List ℕ) (out : List ℕ) → Repaired src old new read written → all_scalars cs ≡ true
-    → out ≡ flat_map encode_utf16 cs → drop read src ≡ encode_utf8_all cs ++ rest → WritesPrefix (take (length new - written) (drop written new)) sub units out
-    → (parts : List Part) × StartsWith src parts rest × WritesPrefix old (put_mid written (length new - written) new sub) (written + units) (lossy_utf16 parts)
-characters_after src old new sub read written more units cs rest out r h o e w =
-    let ps = map Character cs in (
-      r.parts ++ ps,
-      StartsWith-append src r.parts (drop read src) ps rest r.starts (subst (λ xs. StartsWith xs ps rest) (sym e) (StartsWith-characters cs rest h)),
-      WritesPrefix-same _ _ _ _ _ _ (WritesPrefix_after old new written (lossy_utf16 r.parts) sub units out r.writes w) refl
-          (ap (λ xs. lossy_utf16 r.parts ++ xs) (o ∙ sym (utf16_characters cs)) ∙ sym (utf16-append r.parts ps)),
-    )
+  pub lossy-characters : (cs : List ℕ) → lossy (map Character cs) ≡ flat_map encode cs
+  lossy-characters cs = flat_map-map (λ part. encode (lossy_scalar part)) Character cs
+
+  -- parts are yielded, and the text of all except the reported ones among them is written
+  pub record Repaired (p src : List ℕ) (last : Bool) (old new : List A) (read written replaced : ℕ) (q : List ℕ) (reported : List Part) : Type 0 where
+    pub parts : List Part
+    pub yielded : Yields p src last (parts ++ reported) read q
+    pub writes : WritesPrefix old new written (lossy parts)
+    pub malformed : replaced ≡ malformed_count parts
+
+  -- what one more call decodes
+  pub repaired_more : (need : ℕ) (p src : List ℕ) (last : Bool) (old new sub : List A) (read written replaced : ℕ) (q : List ℕ) (bytes units : ℕ) (t : List ℕ)
+      (result : DecoderResult)
+      → Repaired p src last old new read written replaced q []
+      → DecodeStepInto encode need q (drop read src) (take (length new - written) (drop written new)) sub last result bytes units t
+      → (reported : List Part) × IsReported result reported
+      × Repaired p src last old (put_mid written (length new - written) new sub) (read + bytes) (written + units) replaced t reported
+  repaired_more need p src last old new sub read written replaced q bytes units t result d (out, w, call) =
+      let (more, (cs, reported, scalars, out_is, is, are), g) = decoded_yields encode need q (drop read src) _ last result bytes out t call in
+      let done = d.parts in
+      let before : Yields p src last done read q = subst (λ ps. Yields p src last ps read q) (append-nil done) d.yielded in
+      let whole : done ++ more ≡ (done ++ map Character cs) ++ reported = ap (λ ps. done ++ ps) are ∙ sym (append_assoc done (map Character cs) reported) in (
+        reported,
+        is,
+        record {
+          parts = done ++ map Character cs;
+          yielded = subst (λ ps. Yields p src last ps (read + bytes) t) whole
+              (yields_then p src last last last done more read bytes q t (λ e. (e, e)) before g);
+          writes = WritesPrefix-same _ _ _ _ _ _ (WritesPrefix_after old new written (lossy done) sub units out d.writes w) refl
+              (ap (λ xs. lossy done ++ xs) (out_is ∙ sym (lossy-characters cs)) ∙ sym (lossy-append done (map Character cs)));
+          malformed = omega (arith, d.malformed, malformed_count-append done (map Character cs), malformed_count-characters cs);
+        },
+      )
+
+  -- U+FFFD for the reported part
+  pub repaired_report : (p src : List ℕ) (last : Bool) (old new after : List A) (read written units replaced k second : ℕ) (q : List ℕ) (reported : List Part)
+      → (d : Repaired p src last old new read written replaced q reported) → IsReported (Malformed k second) reported
+      → WritesPrefix old after units (lossy d.parts ++ encode 0xFFFD)
+      → Repaired p src last old after read units (replaced + 1) q []
+  repaired_report p src last old new after read written units replaced k second q reported d (x, is, size) w =
+      let parts : List Part = d.parts ++ IllFormed x ∷ [] in
+      record {
+        parts = parts;
+        yielded = subst (λ ps. Yields p src last ps read q) (ap (λ ps. d.parts ++ ps) is ∙ sym (append-nil parts)) d.yielded;
+        writes = WritesPrefix-same _ _ _ _ _ _ w refl
+            (ap (λ xs. lossy d.parts ++ xs) (sym (append-nil (encode 0xFFFD))) ∙ sym (lossy-append d.parts (IllFormed x ∷ [])));
+        malformed = omega (arith, d.malformed, malformed_count-append d.parts (IllFormed x ∷ []));
+      }
+
+-- ---- all of a source, to UTF-16
+-- what is written with nothing pending
+abbrev pub RepairedSome : List ℕ → List ℕ → List ℕ → ℕ → ℕ → Type 0
+RepairedSome src old new read written = (replaced : ℕ) × Repaired encode_utf16 [] src true old new read written replaced [] []
 
 -- the last call of all
-pub repaired_all : (src old new sub : List ℕ) (read written more units : ℕ) (q : List ℕ) → Repaired src old new read written
+pub repaired_all : (src old new sub : List ℕ) (read written more units : ℕ) (q : List ℕ) → RepairedSome src old new read written
     → DecodeStepInto encode_utf16 2 [] (drop read src) (take (length new - written) (drop written new)) sub true InputEmpty more units q
     → (parts : List Part) × ArePartsOf src parts × WritesPrefix old (put_mid written (length new - written) new sub) (written + units) (lossy_utf16 parts)
-repaired_all src old new sub read written more units q r (out, w, call) =
-    let a = call.answer in
-    characters_after src old new sub read written more units call.scalars [] out r call.are_scalars call.out_is (a.1 ∙ ap (λ xs. encode_utf8_all call.scalars ++ xs) (a.2 refl)) w
+repaired_all src old new sub read written more units q (replaced, d) (out, w, call) =
+    let (reported, is, r) = repaired_more encode_utf16 2 [] src true old new sub read written replaced [] more units q InputEmpty d (out, w, call) in
+    let none : q ++ drop (read + more) src ≡ [] =
+    ap (λ xs. xs ++ drop (read + more) src) (call.answer.2 refl) ∙ drop_all (read + more) src (omega (arith, call.answer.0, length-drop read src)) in
+    let all : r.parts ++ reported ≡ r.parts = ap (λ ps. r.parts ++ ps) is ∙ append-nil r.parts in
+    (r.parts, subst (λ xs. StartsWith src r.parts xs) none (subst (λ ps. StartsWith src ps (q ++ drop (read + more) src)) all r.yielded.first), r.writes)
 
 -- a call that reports, and U+FFFD after its characters
-pub repaired_more : (src old new sub : List ℕ) (read written k second more units : ℕ) (q : List ℕ) → Repaired src old new read written
+pub repaired_unit : (src old new sub : List ℕ) (read written k second more units : ℕ) (q : List ℕ) → RepairedSome src old new read written
     → DecodeStepInto encode_utf16 2 [] (drop read src) (take (length new - written) (drop written new)) sub true (Malformed k second) more units q
     → written + units < length old
-    → Repaired src old (set (put_mid written (length new - written) new sub) (written + units) 0xFFFD) (read + more) (written + units + 1)
-repaired_more src old new sub read written k second more units q r (out, w, call) room =
-    let a = call.answer in
-    let x = a.0 in
-    let following = drop more (drop read src) in
-    let whole : drop read src ≡ encode_utf8_all call.scalars ++ (x ++ following) =
-    sym (take-append-drop more (drop read src)) ∙ ap (λ xs. xs ++ following) a.3 ∙ append_assoc (encode_utf8_all call.scalars) x following in
-    let text = characters_after src old new sub read written more units call.scalars (x ++ following) out r call.are_scalars call.out_is whole w in
-    let first : IsFirstPart (x ++ following) (IllFormed x) following = malformed_first x following true a.6 in
-    let after : drop (read + more) src ≡ following = sym (drop-drop more read src) in
-    let inside : read ≤ length src = r.within in
-    let pushed = WritesPrefix_push old _ (written + units) (lossy_utf16 text.0) 0xFFFD text.2 (omega (arith, room, WritesPrefix-length _ _ _ _ text.2)) in
-    record {
-      within = omega (arith, a.2, length-drop read src, inside);
-      parts = text.0 ++ IllFormed x ∷ [];
-      starts = subst (λ xs. StartsWith src (text.0 ++ IllFormed x ∷ []) xs) (sym after) (StartsWith-append src text.0 (x ++ following) (IllFormed x ∷ []) following text.1 (StartsWith-one (x ++ following) (IllFormed x) following first));
-      writes = WritesPrefix-same _ _ _ _ _ _ pushed refl (sym (utf16-append text.0 (IllFormed x ∷ [])));
-    }
+    → RepairedSome src old (set (put_mid written (length new - written) new sub) (written + units) 0xFFFD) (read + more) (written + units + 1)
+repaired_unit src old new sub read written k second more units q (replaced, d) call room =
+    let (reported, is, r) = repaired_more encode_utf16 2 [] src true old new sub read written replaced [] more units q (Malformed k second) d call in
+    let pushed = WritesPrefix_push old _ (written + units) (lossy_utf16 r.parts) 0xFFFD r.writes (omega (arith, room, WritesPrefix-length _ _ _ _ r.writes)) in
+    let after = set (put_mid written (length new - written) new sub) (written + units) 0xFFFD in
+    let end = written + units + 1 in
+    let report = repaired_report encode_utf16 [] src true old _ after (read + more) (written + units) end replaced k second q reported r is pushed in
+    (replaced + 1, subst (λ xs. Repaired encode_utf16 [] src true old after (read + more) end (replaced + 1) xs []) call.2.answer.5 report)
 
 -- such a call reads a byte
 pub reads_some : (src old new : List ℕ) (k second more units : ℕ) (q : List ℕ) → DecodeStepInto encode_utf16 2 [] src old new true (Malformed k second) more units q → (0 < more) × (more ≤ length src) × (q ≡ [])

@@ -1,14 +1,12 @@
 -- Pieces of bytes in sequence, and what is written for them and for a whole text.
-use Rattle.std.proofs.Common.{◌≡◌, ℕ, ◌+◌, ◌<◌, ◌≤◌, Bool, true, false, List, [], ◌++◌, length, take, drop, get_or, map, refl, sym, ap, subst, ◌∙◌, arith, append-nil, append_assoc}
+use Rattle.std.proofs.Common.{◌≡◌, ℕ, ◌+◌, ◌<◌, ◌≤◌, Bool, false, List, [], ◌++◌, length, take, drop, get_or, refl, sym, ap, subst, ◌∙◌, arith, append_assoc}
 use Rattle.std.specs.List.{flat_map}
 use Rattle.std.specs.Char.Escape.{encode_utf16}
-use Rattle.std.proofs.lemmas.Grind.{flat_map-append}
-use Rattle.std.proofs.lemmas.List.Folds.{flat_map-map}
 use Rattle.std.specs.Str.{chars, IsUtf8}
-use Rattle.std.proofs.lemmas.List.{take_at, take_more, drop_all, drop-drop, flat_map_more, length-drop}
-use Rattle.encoding_text.specs.Parts.{Part, Character, StartsWith, lossy_scalar, lossy_utf16, Yields}
-use Rattle.encoding_text.specs.Sequence.{IsPending}
+use Rattle.std.proofs.lemmas.List.{take_at, take_more, drop-drop, flat_map_more, length-drop}
+use Rattle.encoding_text.specs.Parts.{Part, StartsWith, lossy_utf16, Yields}
 use Rattle.encoding_text.proofs.DecompositionLemmas.{StartsWith-append}
+use Rattle.encoding_text.proofs.RepairingLemmas.{lossy-append}
 use Rattle.encoding_text.specs.Decoding.{BorrowedDecodeStep, DecodeStepInto, max_utf16_length, AreBorrowed}
 use Rattle.encoding_text.specs.declared.decoder.DecoderResult.{DecoderResult}
 use Rattle.encoding_text.specs.declared.decoder.Piece.{Piece}
@@ -16,21 +14,12 @@ use Rattle.encoding_runs.specs.Calls.{YieldsFirstParts}
 use Rattle.encoding_runs.specs.MixedCalls.{Form, CallResult, Borrowed, ToUtf16, Handed, Decoded, MixedDecodeStep, AreYielded, IsInputEmpty, TextFits, HasQueriedLength, ReadsText}
 use Rattle.engine_example.specs.CutBlocks.{WritesPiece}
 
-utf16-append : (ps qs : List Part) → lossy_utf16 (ps ++ qs) ≡ lossy_utf16 ps ++ lossy_utf16 qs
-utf16-append ps qs = flat_map-append (λ part. encode_utf16 (lossy_scalar part)) ps qs
-
-pub utf16-characters : (cs : List ℕ) → lossy_utf16 (map Character cs) ≡ flat_map encode_utf16 cs
-utf16-characters cs = flat_map-map (λ part. encode_utf16 (lossy_scalar part)) Character cs
-
 -- ---- the calls over one piece
 -- the parts that the calls so far yield, and their text
 pub record AreYieldedUpTo (p b : List ℕ) (last : Bool) (out : List ℕ) (read : ℕ) (q : List ℕ) : Type 0 where
   pub parts : List Part
   pub written : out ≡ lossy_utf16 parts
   pub yields : Yields p b last parts read q
-
-pub none_yielded : (p b : List ℕ) (last : Bool) → IsPending p → AreYieldedUpTo p b last [] 0 p
-none_yielded p b last h = record { parts = []; written = refl; yields = record { within = omega arith; first = refl; pending = h; stable = λ e more. refl } }
 
 -- one more call
 pub yielded_on : ((p src : List ℕ) (form : Form) (last : Bool) (answer : CallResult) (read : ℕ) (out q : List ℕ) → MixedDecodeStep p src form last answer read out q
@@ -43,7 +32,7 @@ yielded_on one_call p b last out read q returned more r new g call text =
     let following : drop more (drop read b) ≡ drop (read + more) b = drop-drop more read b in
     record {
       parts = g.parts ++ yielded.parts;
-      written = cc (utf16-append g.parts yielded.parts);
+      written = cc (lossy-append encode_utf16 g.parts yielded.parts);
       yields = record {
         within = omega (arith, g.yields.within, yielded.prefix.within, length-drop read b);
         first = subst (λ xs. StartsWith (p ++ b) (g.parts ++ yielded.parts) (r ++ xs)) following (StartsWith-append _ g.parts _ yielded.parts _ g.yields.first yielded.prefix.first);
@@ -51,17 +40,6 @@ yielded_on one_call p b last out read q returned more r new g call text =
         stable = λ f after. subst (λ xs. StartsWith (p ++ b ++ after) (g.parts ++ yielded.parts) (r ++ xs ++ after)) following
             (StartsWith-append _ g.parts _ yielded.parts _ (g.yields.stable f after) (yielded.prefix.stable f after));
       };
-    }
-
--- if all is read, what is written is that of the whole piece
-pub piece_written : (p b : List ℕ) (last : Bool) (out : List ℕ) (read : ℕ) (q : List ℕ) → AreYieldedUpTo p b last out read q → read ≡ length b → (last ≡ true → q ≡ []) → WritesPiece p b last out q
-piece_written p b last out read q g e none =
-    let rest : q ++ drop read b ≡ q = ap (λ xs. q ++ xs) (drop_all read b (omega (arith, e))) ∙ append-nil q in
-    record {
-      parts = g.parts;
-      written = g.written;
-      all = λ l. subst (StartsWith (p ++ b) g.parts) (rest ∙ none l) g.yields.first;
-      stable = λ f more. subst (λ xs. StartsWith (p ++ b ++ more) g.parts (xs ++ more)) rest (g.yields.stable f more);
     }
 
 -- ---- all pieces
@@ -73,7 +51,7 @@ flat_map-take f xs i d h = flat_map_more f [] (take i xs) (get_or xs i d) ∙ sy
 pub taken_on : (bytes out q piece block r : List ℕ) (last : Bool) → WritesPiece [] bytes false out q → WritesPiece q piece last block r → WritesPiece [] (bytes ++ piece) last (out ++ block) r
 taken_on bytes out q piece block r last t w = record {
   parts = t.parts ++ w.parts;
-  written = cc (utf16-append t.parts w.parts);
+  written = cc (lossy-append encode_utf16 t.parts w.parts);
   all = λ e. StartsWith-append _ t.parts _ w.parts [] (t.stable refl piece) (w.all e);
   stable = λ e more. subst (λ xs. StartsWith xs (t.parts ++ w.parts) (r ++ more)) (sym (append_assoc bytes piece more))
       (StartsWith-append _ t.parts _ w.parts _ (subst (StartsWith (bytes ++ (piece ++ more)) t.parts) (sym (append_assoc q piece more)) (t.stable refl (piece ++ more)))

@@ -12,7 +12,7 @@ use Rattle.std.proofs.lemmas.Str.{encodes-chars, scalars-chars}
 use lib.Utf8.{scalar}
 use Rattle.encoding_text.specs.Parts.{Part, Character, IllFormed, StartsWith, ArePartsOf, lossy_scalar, lossy_utf8, lossy_utf16}
 use Rattle.encoding_text.proofs.DecompositionLemmas.{StartsWith-characters}
-use Rattle.engine_example.proofs.EnginePieceLemmas.{utf16-characters}
+use Rattle.encoding_text.proofs.RepairingLemmas.{lossy-characters}
 
 -- the characters that valid code units are the UTF-16 of
 scalars_are : (cs : List ℕ) → map scalar_of_part16 (map Character16 cs) ≡ cs
@@ -51,4 +51,4 @@ utf8_to_utf16 one bs units parts u are e =
     let whole : encode_utf8_all (chars bs) ++ [] ≡ bs = append-nil (encode_utf8_all (chars bs)) ∙ encodes-chars bs u in
     let same : parts ≡ map Character (chars bs) = one bs parts (map Character (chars bs)) are
     (subst (λ xs. ArePartsOf xs (map Character (chars bs))) whole (StartsWith-characters (chars bs) [] (scalars-chars bs u))) in
-    e ∙ ap lossy_utf16 same ∙ utf16-characters (chars bs)
+    e ∙ ap lossy_utf16 same ∙ lossy-characters encode_utf16 (chars bs)

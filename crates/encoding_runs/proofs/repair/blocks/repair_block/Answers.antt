@@ -1,11 +1,12 @@
-use Rattle.std.proofs.Common.{not, ◌≡◌, ◌∙◌, ◌==◌, ◌-◌, ◌≤◌, ℕ, List, length, take, drop, ap, sym, arith}
+use Rattle.std.proofs.Common.{not, ◌≡◌, ◌∙◌, ◌==◌, ◌-◌, ◌≤◌, ℕ, List, length, take, drop, encode_utf8, ap, sym, arith}
 use Rattle.std.proofs.lemmas.Bool.{both_ways}
 use Rattle.std.proofs.lemmas.List.{take_rest, length-drop}
 use Rattle.std.proofs.lemmas.Str.{length-encode}
 use Rattle.encoding_text.specs.declared.decoder.DecoderResult.TheVariants.{Malformed}
 use Rattle.encoding_text.proofs.EncoderLemmas.{none_there}
 use Rattle.encoding_definitions.proofs.PrefixesLemmas.{WritesPrefix-length}
-use Rattle.encoding_runs.proofs.BlockLemmas.{block_more, block_rejected, block_finished, block_full, block_fits, block_replaced}
+use Rattle.encoding_text.proofs.RepairingLemmas.{repaired_more}
+use Rattle.encoding_runs.proofs.BlockLemmas.{block_rejected, block_finished, block_full, block_fits, block_replaced}
 use Rattle.encoding_runs.proofs.repair.blocks.repair_block.Goals.{then-not-last, else-not-last, else-is_empty-via-then-is_empty+else-left-lt-REPLACEMENT_LENGTH, else-is_empty-via-else-is_empty}
 use Rattle.encoding_runs.proofs.repair.blocks.repair_block.Goals as goal
 
@@ -42,13 +43,20 @@ write_scalar-requires-clause-dst_length c =
 pub loop-rest-preserved : goal.loop-rest-preserved
 loop-rest-preserved c =
     let call = rw (take_rest c.args.src.now c.loop-rest.block.read, c.in-Malformed.is) at c.decode_to_utf8_raw-result.ensures.call in
-    let (reported, is, b) = block_more _ _ _ _ _ _ _ _ _ _ _ _ _ (Malformed c.in-Malformed.field-0 c.in-Malformed.field-1) c.loop-rest.invariant.done call in
+    let result = Malformed c.in-Malformed.field-0 c.in-Malformed.field-1 in
+    let (reported, is, b) = repaired_more encode_utf8 4 _ _ _ _ _ _ _ _ _ _ _ _ _ result c.loop-rest.invariant.done call in
     let done = block_replaced _ _ _ _ _ _ _ _ _ _ c.in-Malformed.field-0 c.in-Malformed.field-1 _ reported b is c.write_scalar.ensures in
-    record { done = done; within = omega (arith, done.writes.fits, WritesPrefix-length _ _ _ _ done.writes); unfinished = c.loop-rest.invariant.unfinished }
+    record {
+      done = done;
+      within = omega (arith, done.writes.fits, WritesPrefix-length _ _ _ _ done.writes);
+      three = omega (arith, c.loop-rest.invariant.three, c.write_scalar.ensures.count, length-encode 0xFFFD);
+      unfinished = c.loop-rest.invariant.unfinished;
+    }
 
 pub loop-rest-smaller : goal.loop-rest-smaller
 loop-rest-smaller c =
     let call = rw (take_rest c.args.src.now c.loop-rest.block.read, c.in-Malformed.is) at c.decode_to_utf8_raw-result.ensures.call in
-    let (reported, is, b) = block_more _ _ _ _ _ _ _ _ _ _ _ _ _ (Malformed c.in-Malformed.field-0 c.in-Malformed.field-1) c.loop-rest.invariant.done call in
+    let result = Malformed c.in-Malformed.field-0 c.in-Malformed.field-1 in
+    let (reported, is, b) = repaired_more encode_utf8 4 _ _ _ _ _ _ _ _ _ _ _ _ _ result c.loop-rest.invariant.done call in
     let done = block_replaced _ _ _ _ _ _ _ _ _ _ c.in-Malformed.field-0 c.in-Malformed.field-1 _ reported b is c.write_scalar.ensures in
     omega (arith, c.write_scalar.ensures.count, length-encode 0xFFFD, done.writes.fits)

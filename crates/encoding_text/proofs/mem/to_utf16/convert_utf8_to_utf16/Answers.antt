@@ -2,7 +2,7 @@ use Rattle.std.proofs.Common.{◌≡◌, ℕ, ◌+◌, ◌-◌, ◌<◌, ◌∙�
 use Rattle.std.proofs.lemmas.List.{take_rest, length-drop, length-set}
 use Rattle.encoding_definitions.proofs.PrefixesLemmas.{WritesPrefix-length}
 use Rattle.encoding_text.proofs.RoomLemmas.{keeps_room}
-use Rattle.encoding_text.proofs.RepairingLemmas.{repaired_all, repaired_more, repaired_length, reads_some}
+use Rattle.encoding_text.proofs.RepairingLemmas.{repaired_all, repaired_unit, repaired_length, reads_some}
 use Rattle.encoding_text.proofs.mem.to_utf16.convert_utf8_to_utf16.Goals as goal
 
 pub returns-in-InputEmpty : goal.returns-in-InputEmpty
@@ -46,13 +46,13 @@ loop-dst-preserved c =
     let repaired = c.loop-dst.invariant.repaired in
     let call = rw (take_rest c.args.src.now read, c.loop-dst.invariant.neutral, c.in-Malformed.is) at c.decode_to_utf16_raw-result.ensures.call in
     let some = reads_some _ _ _ _ _ _ _ _ call in
-    let whole = WritesPrefix-length _ _ _ _ repaired.writes in
+    let whole = WritesPrefix-length _ _ _ _ repaired.1.writes in
     let long = repaired_length dst c.decode_to_utf16_raw-result.new.dst written _ _ c.decode_to_utf16_raw-result.ensures.call.1 (omega (arith, room)) in
     let size : length (take (length dst - written) (drop written dst)) ≡ length dst - written = ap length (take_rest dst written) ∙ length-drop written dst in
     let left = (keeps_room _ _ _ _ _ _ _ _ call (omega (arith, room, size, length-drop read c.args.src.now))).1 (_, _, refl) in
     let left_in : units + 1 + (length c.args.src.now - read - more) < length dst - written = omega (arith, left, size, length-drop read c.args.src.now) in
     record {
       neutral = some.2;
-      repaired = repaired_more _ _ _ _ _ _ _ _ _ _ _ repaired call (omega (arith, left_in, whole));
+      repaired = repaired_unit _ _ _ _ _ _ _ _ _ _ _ repaired call (omega (arith, left_in, whole));
       room = omega (arith, left_in, room, long, length-set {A = ℕ});
     }

@@ -1,11 +1,11 @@
 use Rattle.std.proofs.Common.{◌≡◌, ◌+◌, ◌-◌, ◌<◌, [], length}
-use Rattle.encoding_text.proofs.RepairingLemmas.{Repaired}
+use Rattle.encoding_text.proofs.RepairingLemmas.{RepairedSome}
 use Rattle.encoding_text.proofs.mem.to_utf16.convert_utf8_to_utf16.Given as goal
 
 abbrev pub invariant-loop-dst : goal.invariant-loop-dst
 invariant-loop-dst l = record {
   neutral : l.decoder ≡ [];
-  repaired : Repaired l.src l.initial.dst l.dst l.read l.written;
+  repaired : RepairedSome l.src l.initial.dst l.dst l.read l.written;
   room : l.written + (length l.src - l.read) < length l.dst;
 }
 
