@@ -8,7 +8,8 @@ use Rattle.std.proofs.lemmas.Str.{chars-encodes, encode_same}
 use Rattle.encoding_definitions.specs.Sequence.{IsIncomplete, IsPending}
 use Rattle.encoding_definitions.specs.Parts.{Part, Character, IllFormed, BeginsWithNoCharacter, IsFirstPart, Yields}
 use Rattle.encoding_text.specs.Decoding.{AreBorrowed, BorrowedDecodeStep, IsMalformed}
-use Rattle.encoding_text.specs.Steps.{Resumes}
+use Rattle.encoding_text.specs.Steps.{IsResultWithoutCharacter, Resumes}
+use Rattle.encoding_text.specs.declared.decoder.DecoderResult.{DecoderResult}
 use Rattle.encoding_text.specs.declared.decoder.DecoderResult.TheVariants as result
 use Rattle.encoding_text.specs.declared.decoder.Piece.{Piece}
 use Rattle.encoding_text.specs.declared.decoder.Piece.TheVariants.{Text, Char, Malformed, InputEmpty}
@@ -36,6 +37,24 @@ borrowed_rejected p src q last k read begins (short, count, o, b, more, next, re
     malformed_rejected (p ++ take read src) (drop read src) last b more next o rejected,
   );
 }
+
+-- the piece for what ended a call before bytes that start with no character
+pub borrowed_end : (src q : List ℕ) (last : Bool) (end : DecoderResult) (returned : Piece) (read : ℕ) → IsResultWithoutCharacter src last end read q
+    → (end ≡ result.InputEmpty → returned ≡ InputEmpty) → ((k second : ℕ) → end ≡ result.Malformed k second → returned ≡ Malformed k)
+    → BorrowedDecodeStep [] src last returned read q
+borrowed_end src q last result.InputEmpty returned read (all, whole, begins, more) empty malformed =
+    subst (λ x. BorrowedDecodeStep [] src last x read q) (sym (empty refl)) (record {
+      pending_before = inl refl;
+      pending = inr (subst IsIncomplete (sym whole) begins);
+      answer = (all, whole, λ marked. let clash : false ≡ true = sym more ∙ marked in cc);
+    })
+borrowed_end src q last result.OutputFull returned read none empty malformed = absurd none
+borrowed_end src q last (result.Malformed k second) returned read (zero, is, within, none, bytes) empty malformed =
+    subst (λ x. BorrowedDecodeStep [] src last x read q) (sym (malformed k second refl)) (record {
+      pending_before = inl refl;
+      pending = inl none;
+      answer = (omega arith, omega (arith, length-take read src), none, subst (λ n. IsMalformed (take n src) (drop n src) last) (sym is) bytes);
+    })
 
 -- ---- what a call yields
 abbrev HasYielded : List ℕ → List ℕ → Bool → Piece → ℕ → List ℕ → Type 0

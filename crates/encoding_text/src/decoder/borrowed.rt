@@ -63,8 +63,11 @@ fn borrow_prefix<'a>(pending: &mut Pending, src: &'a [u8], last: bool) -> (Piece
     requires neutral { pending.old ≡ [] }
     ensures { BorrowedDecodeStep [] src.now last result.0 result.1 pending.new }
 {
+    if src.is_empty() {
+        return (Piece::InputEmpty, 0);
+    }
     // a malformed sequence often comes next, and one byte shows it
-    if !src.is_empty() && is_malformed_byte(src) {
+    if is_malformed_byte(src) {
         return (Piece::Malformed(1), 1);
     }
     let length = well_formed_length(src);
@@ -74,10 +77,7 @@ fn borrow_prefix<'a>(pending: &mut Pending, src: &'a [u8], last: bool) -> (Piece
             length,
         );
     }
-    if src.is_empty() {
-        return (Piece::InputEmpty, 0);
-    }
-    let (end, read) = pending.end_before(src, last);
+    let (end, read) = pending.end_in_incomplete(src, last);
     (piece_at_end(end), read)
 }
 

@@ -193,7 +193,7 @@ impl Pending {
     /// Ends a call as `end_before` does if the first byte starts a sequence of several. Out of line: most malformed
     /// sequences are one byte.
     #[inline(never)]
-    fn end_in_incomplete(&mut self, rest: &[u8], last: bool) -> (DecoderResult, usize)
+    pub(crate) fn end_in_incomplete(&mut self, rest: &[u8], last: bool) -> (DecoderResult, usize)
         requires not_empty { 0 < length rest.now }
         requires no_character { BeginsWithNoCharacter rest.now }
         requires begins { IsIncomplete (take 1 rest.now) }
