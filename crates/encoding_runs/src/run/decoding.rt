@@ -34,7 +34,7 @@ pub struct Outcome {
 }
 
 /// A code unit that a decoder writes: of UTF-16, or a byte of UTF-8.
-trait Decoded: Copy {
+trait CodeUnit: Copy {
     // a scalar value in these code units
     ghost encode: { ℕ → List Self };
 
@@ -52,7 +52,7 @@ trait Decoded: Copy {
             decoder.new };
 }
 
-impl Decoded for u16 {
+impl CodeUnit for u16 {
     ghost encode = { encode_utf16 };
 
     ghost need = { 2 };
@@ -68,7 +68,7 @@ impl Decoded for u16 {
     }
 }
 
-impl Decoded for u8 {
+impl CodeUnit for u8 {
     ghost encode = { encode_utf8 };
 
     ghost need = { 4 };
@@ -86,7 +86,7 @@ impl Decoded for u8 {
 
 /// Makes the call of a turn on the unread bytes, into the rest of a destination. Returns its result, the number of
 /// bytes read and the number of code units written.
-fn make_call<U: Decoded>(
+fn make_call<U: CodeUnit>(
     decoder: &mut Utf8Decoder,
     turn: &Turn,
     unread: &[u8],
@@ -122,7 +122,7 @@ fn write_report(answer: &DecoderResult, place: usize, reports: &mut [Report]) ->
 
 /// Makes one call for each turn, and returns the totals. A character has at least one code unit, and no more code units
 /// than bytes of UTF-8.
-fn run<U: Decoded>(
+fn run<U: CodeUnit>(
     decoder: &mut Utf8Decoder,
     src: &[u8],
     turns: &[Turn],
