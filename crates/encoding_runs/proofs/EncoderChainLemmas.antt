@@ -10,7 +10,7 @@ use Rattle.encoding_text.specs.Encoding.{IsPendingSurrogate, EncodeStep}
 use Rattle.encoding_definitions.proofs.Utf16Lemmas.{parts_exist}
 use Rattle.encoding_text.proofs.EncoderLemmas.{AreCodeUnits-following}
 use Rattle.encoding_definitions.proofs.FirstPartsLemmas.{StartsWith16-nil, StartsWith16-append, StartsWith16-units, StartsWith16-all, StartsWith16-read}
-use Rattle.encoding_text.proofs.EncoderPartsLemmas.{AreCodeUnits-append, AreCodeUnits-surrogate, parts_written, read_within, written_first, all_encoded}
+use Rattle.encoding_text.proofs.EncoderCallLemmas.{AreCodeUnits-append, AreCodeUnits-surrogate, parts_written, read_within, written_first, all_encoded}
 use Rattle.encoding_text.specs.declared.utf_8.encoder.EncoderResult.{EncoderResult}
 use Rattle.encoding_text.specs.declared.utf_8.encoder.EncoderResult.TheVariants.{InputEmpty}
 use Rattle.encoding_runs.specs.Calls.{Call, IsChain, read_in_all, output_of, pending_after, some_last, EncodesFirstParts}

@@ -12,7 +12,7 @@ use Rattle.encoding_text.specs.declared.utf_8.encoder.EncoderResult.{EncoderResu
 use Rattle.encoding_text.specs.declared.utf_8.encoder.EncoderResult.TheVariants.{InputEmpty}
 use Rattle.encoding_definitions.proofs.PrefixesLemmas.{WritesPrefix-length, written_prefix}
 use Rattle.encoding_text.proofs.EncoderLemmas.{enough_room}
-use Rattle.encoding_text.proofs.EncoderPartsLemmas.{at_most_one_pending, read_within, room_left, gets_on}
+use Rattle.encoding_text.proofs.EncoderCallLemmas.{at_most_one_pending, read_within, room_left, gets_on}
 use Rattle.encoding_runs.specs.declared.run.turns.Turn.{Turn}
 use Rattle.encoding_runs.specs.declared.run.encoding.EncodeOutcome.{EncodeOutcome}
 use Rattle.encoding_runs.specs.Runs.{room_of, is_marked_last, AreOfTurns, IsRun, EachMakesProgress, Completes, EncodesByTurns}

@@ -16,7 +16,7 @@ use Rattle.encoding_text.specs.Decoding.{IsMalformed, BorrowedDecodeStep}
 use Rattle.encoding_text.specs.declared.decoder.Piece.{Piece}
 use Rattle.encoding_text.specs.declared.decoder.Piece.TheVariants.{Text, Char, Malformed, InputEmpty}
 use Rattle.encoding_text.proofs.ConvertingLemmas.{cut_after}
-use Rattle.encoding_text.proofs.CallPartsLemmas.{malformed_first}
+use Rattle.encoding_text.proofs.CallLemmas.{malformed_first}
 use Rattle.encoding_runs.specs.MalformedSequences.{IsNextMalformed, AreFoundInTurn, malformed_indices}
 
 none_malformed : (bs : List ℕ) (parts : List Part) → ArePartsOf bs parts → IsUtf8 bs → malformed_count parts ≡ 0

@@ -7,7 +7,7 @@ use Rattle.encoding_definitions.specs.Sequence.{IsPending}
 use Rattle.encoding_definitions.specs.Parts.{Part, StartsWith, bytes_of, Yields}
 use Rattle.encoding_definitions.proofs.DecompositionLemmas.{StartsWith-bytes}
 use Rattle.encoding_text.specs.Decoding.{BorrowedDecodeStep}
-use Rattle.encoding_text.proofs.CallPartsLemmas.{decoded_yields}
+use Rattle.encoding_text.proofs.CallLemmas.{decoded_yields}
 use Rattle.encoding_text.proofs.BorrowedLemmas.{borrowed_yields, same_piece}
 use Rattle.encoding_text.proofs.OneResultLemmas.{one_result}
 use Rattle.encoding_runs.specs.Calls.{Call, IsChain, YieldsFirstParts, YieldTheParts}

@@ -8,7 +8,7 @@ use Rattle.encoding_definitions.specs.Parts.{Part, Character, IllFormed, charact
 use Rattle.encoding_text.specs.Decoding.{DecodeStep, AreDecoded, IsReported}
 use Rattle.encoding_text.specs.declared.decoder.DecoderResult.{DecoderResult}
 use Rattle.encoding_text.specs.declared.decoder.DecoderResult.TheVariants.{InputEmpty, OutputFull, Malformed}
-use Rattle.encoding_text.proofs.CallPartsLemmas.{decoded_yields}
+use Rattle.encoding_text.proofs.CallLemmas.{decoded_yields}
 use Rattle.encoding_definitions.proofs.PrefixesLemmas.{WritesPrefix-same}
 use Rattle.encoding_runs.specs.declared.run.turns.Turn.{Turn}
 use Rattle.encoding_runs.specs.declared.run.decoding.Report.{Report}

@@ -14,8 +14,7 @@ use Rattle.encoding_text.specs.declared.decoder.DecoderResult.TheVariants as res
 use Rattle.encoding_text.specs.declared.decoder.Piece.{Piece}
 use Rattle.encoding_text.specs.declared.decoder.Piece.TheVariants.{Text, Char, Malformed, InputEmpty}
 use Rattle.encoding_text.specs.declared.decoder.pending.Resumed.TheVariants.{Rejected}
-use Rattle.encoding_text.proofs.CallLemmas.{malformed_rejected}
-use Rattle.encoding_text.proofs.CallPartsLemmas.{yields_from, malformed_first, same_malformed, pending_not_malformed}
+use Rattle.encoding_text.proofs.CallLemmas.{malformed_rejected, yields_from, malformed_first, same_malformed, pending_not_malformed}
 use Rattle.std.specs.Borrow.{Bor}
 use Rattle.std.specs.Char.{IsScalar}
 use Rattle.encoding_text.specs.OneResult.{AreSamePiece, HasOnePiece}

@@ -17,14 +17,7 @@ use Rattle.encoding_text.specs.declared.decoder.DecoderResult.TheVariants.{Input
 use Rattle.encoding_text.specs.declared.decoder.pending.Resumed.TheVariants.{Rejected}
 use Rattle.encoding_definitions.proofs.EncodingLemmas.{decode_utf8_scalar}
 use Rattle.encoding_definitions.proofs.PrefixesLemmas.{WritesPrefix-nil, WritesPrefix-length, WritesPrefix_after}
-use Rattle.encoding_text.proofs.CallLemmas.{malformed_rejected}
-
--- no malformed sequence is empty
-pub malformed_some : (x rest : List ℕ) (last : Bool) → IsMalformed x rest last → 0 < length x
-malformed_some x [] last (inl (b, e, n)) = omega (arith, ap length e)
-malformed_some x [] last (inr (o, l)) = o.0
-malformed_some x (y ∷ ys) last (inl (b, e, n)) = omega (arith, ap length e)
-malformed_some x (y ∷ ys) last (inr (o, s)) = o.0
+use Rattle.encoding_text.proofs.CallLemmas.{malformed_rejected, malformed_some}
 
 module _ {A : Type 0} (encode : ℕ → List A) (need : ℕ) where
   -- ---- with nothing pending

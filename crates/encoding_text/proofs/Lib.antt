@@ -12,12 +12,10 @@ pub use Rattle.encoding_definitions.proofs.SequenceLemmas
 pub use Rattle.encoding_definitions.proofs.SurrogateLemmas
 pub mod BorrowedLemmas
 pub mod CallLemmas
-pub mod CallPartsLemmas
 pub mod ConvertingLemmas
 pub mod DecodeLemmas
 pub mod EncoderLemmas
-pub mod EncoderPartsLemmas
-pub mod EncoderTextLemmas
+pub mod EncoderCallLemmas
 pub mod LastBlockLemmas
 pub mod OneResultLemmas
 pub mod WholePrefixesLemmas

@@ -20,7 +20,7 @@ use Rattle.std.specs.Char.Escape.{encode_utf16}
 use Rattle.std.specs.List.{flat_map}
 use Rattle.std.proofs.lemmas.Grind.{flat_map-append}
 use Rattle.encoding_text.specs.OneResult.{HasOneResult}
-use Rattle.encoding_text.proofs.CallPartsLemmas.{malformed_first, same_malformed, pending_not_malformed, FollowsOutput, call_read, call_bytes}
+use Rattle.encoding_text.proofs.CallLemmas.{malformed_first, same_malformed, pending_not_malformed, FollowsOutput, call_read, call_bytes}
 
 pub length-encode-some : (c : ℕ) → 0 < length (encode_utf8 c)
 length-encode-some c = omega (arith, length-encode c, len_utf8_bounds c)

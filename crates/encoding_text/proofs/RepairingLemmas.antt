@@ -11,10 +11,9 @@ use Rattle.encoding_definitions.specs.Prefixes.{WritesPrefix}
 use Rattle.encoding_text.specs.Decoding.{DecodeStepInto, IsReported}
 use Rattle.encoding_text.specs.declared.decoder.DecoderResult.{DecoderResult}
 use Rattle.encoding_text.specs.declared.decoder.DecoderResult.TheVariants.{InputEmpty, Malformed}
-use Rattle.encoding_text.proofs.CallPartsLemmas.{decoded_yields}
+use Rattle.encoding_text.proofs.CallLemmas.{decoded_yields, malformed_some}
 use Rattle.encoding_definitions.proofs.DecompositionLemmas.{StartsWith-append, malformed_count-append, malformed_count-characters}
 use Rattle.encoding_definitions.proofs.PrefixesLemmas.{WritesPrefix-length, WritesPrefix-same, WritesPrefix_after, WritesPrefix_push}
-use Rattle.encoding_text.proofs.DecodeLemmas.{malformed_some}
 
 -- what a call yields, and what the next one yields of the rest
 pub yields_then : (p src : List ℕ) (last next both : Bool) (ps qs : List Part) (r s : ℕ) (q t : List ℕ) → (both ≡ false → (last ≡ false) × (next ≡ false)) → Yields p src last ps r q

@@ -9,9 +9,8 @@ use Rattle.encoding_text.specs.Decoding.{DecodeStep, DecodeStepInto, IsReport, S
 use Rattle.encoding_text.specs.declared.decoder.DecoderResult.{DecoderResult}
 use Rattle.encoding_text.specs.declared.decoder.DecoderResult.TheVariants.{InputEmpty, OutputFull, Malformed}
 use Rattle.encoding_definitions.proofs.EncodingLemmas.{length-utf16, flat_map-encode_utf8}
-use Rattle.encoding_text.proofs.DecodeLemmas.{malformed_some}
+use Rattle.encoding_text.proofs.CallLemmas.{malformed_some, FollowsOutput, call_read}
 use Rattle.encoding_text.proofs.OneResultLemmas.{no_characters_pending}
-use Rattle.encoding_text.proofs.CallPartsLemmas.{FollowsOutput, call_read}
 
 -- the lengths of what was pending and read, against those of the output, a malformed sequence and what is pending then
 pub record Counts (p src : List ℕ) (room need : ℕ) (result : DecoderResult) (read written : ℕ) (q : List ℕ) : Type 0 where

@@ -7,7 +7,7 @@ use Rattle.encoding_text.specs.Utf16.{AreCodeUnits, Part16, utf8_of_part16, AreP
 use Rattle.encoding_text.specs.Encoding.{IsPendingSurrogate, EncodeStep}
 use Rattle.encoding_text.specs.declared.utf_8.encoder.EncoderResult.{EncoderResult}
 use Rattle.encoding_text.specs.declared.utf_8.encoder.EncoderResult.TheVariants.{InputEmpty}
-use Rattle.encoding_text.proofs.EncoderPartsLemmas.{AreCodeUnits-append}
+use Rattle.encoding_text.proofs.EncoderCallLemmas.{AreCodeUnits-append}
 use Rattle.encoding_runs.specs.Calls.{Call, IsChain, read_in_all, output_of, pending_after, EncodesFirstParts}
 use Rattle.engine_example.specs.CutBlocks.{WritesBlock}
 

@@ -223,7 +223,7 @@ fn encode_text(src: &str, dst: &mut [u8]) -> (EncoderResult, usize)
 }
 
 /// Copies the first characters of the text, as many as fit into `dst`, and returns their length in bytes.
-#[tactic(auto, using(crate::proofs::EncoderTextLemmas::text_prefix))]
+#[tactic(auto, using(crate::proofs::EncoderCallLemmas::text_prefix))]
 fn copy_text(src: &str, dst: &mut [u8]) -> usize
     ensures longest { IsLongestFittingPrefix encode_utf8 encode_utf8 (chars src.now) (length dst.old) result (take result src.now) }
     ensures within { result ≤ length src.now }

@@ -4,7 +4,7 @@ use Rattle.std.proofs.lemmas.Str.{IsUtf8-from_ascii}
 use Rattle.encoding_definitions.specs.Parts.{BeginsWithNoCharacter}
 use Rattle.encoding_definitions.proofs.Utf8Lemmas.{IsLongestPrefix-utf8}
 use Rattle.encoding_kernels.proofs.AsciiLemmas.{Each-take}
-use Rattle.encoding_text.proofs.CallPartsLemmas.{malformed_first}
+use Rattle.encoding_text.proofs.CallLemmas.{malformed_first}
 use Rattle.encoding_text.proofs.decoder.borrowed.well_formed_length.Goals as goal
 
 pub returns-then-is_malformed_byte : goal.returns-then-is_malformed_byte

@@ -1,6 +1,6 @@
 use Rattle.std.proofs.Common.{length}
 use Rattle.encoding_definitions.proofs.PrefixesLemmas.{written_is}
-use Rattle.encoding_text.proofs.EncoderTextLemmas.{text_empty, text_full}
+use Rattle.encoding_text.proofs.EncoderCallLemmas.{text_empty, text_full}
 use Rattle.encoding_text.proofs.utf_8.encoder.encode_text.Goals as goal
 
 pub returns-then-read-src-clause-call : goal.returns-then-read-src-clause-call

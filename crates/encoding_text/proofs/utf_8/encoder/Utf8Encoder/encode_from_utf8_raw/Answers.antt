@@ -1,6 +1,6 @@
 use Rattle.std.proofs.Common.{◌≡◌, ◌∷◌, ◌∙◌, [], length, arith, rules, sym, ap, subst}
 use Rattle.encoding_text.specs.Encoding.{IsPendingSurrogate, pending_units}
-use Rattle.encoding_text.proofs.EncoderTextLemmas.{text_waits, text_call, text_call_rest, enough_for_text}
+use Rattle.encoding_text.proofs.EncoderCallLemmas.{text_waits, text_call, text_call_rest, enough_for_text}
 use Rattle.encoding_text.proofs.utf_8.encoder.Utf8Encoder.encode_from_utf8_raw.Goals as goal
 
 pub returns-in_default-clause-suffices : goal.returns-in_default-clause-suffices
