@@ -108,5 +108,3 @@ ascii_settles bs rest b parts low s = either s.still_open
     either : IsPending rest → rest ≡ []
     either (inl none) = none
     either (inr o) = absurd (no_incomplete bs (flat_map bytes_of parts) rest b low (StartsWith-bytes (bs ++ b ∷ []) parts rest s.starts) o)
-
-pub ruleset cuts = (cut_parts, cut_texts, cut_counts, ascii_settles)

@@ -60,7 +60,6 @@ pub fn law_parts()
 /// Bytes may be cut where the final parts of the first piece leave no rest: the parts of the whole are those of the
 /// first piece, then those of the second. So the pieces can be repaired separately: their repaired texts join, and
 /// their counts of malformed sequences add up. Bytes that end with an ASCII byte leave no rest.
-#[tactic(auto, using(crate::proofs::FinalLemmas::cuts))]
 pub fn law_cuts()
     ensures parts { (bs more : List ℕ) (parts others all : List Part) → AreFinal bs parts []
         → ArePartsOf more others → ArePartsOf (bs ++ more) all → all ≡ parts ++ others }
@@ -90,7 +89,6 @@ pub fn law_next_malformed()
 /// sequence, so this is a premise only if there are no calls. Once a call marked last is finished, the output is the
 /// repaired text of the whole stream, and the count is that of its malformed sequences. Encoding Standard, UTF-8 decode
 /// without BOM.
-#[tactic(auto, using(crate::proofs::BlockLemmas::blocks_prefix, crate::proofs::BlockLemmas::blocks_whole))]
 pub fn law_block_repair()
     ensures prefix { (p b : List ℕ) (calls : List (Call ℕ RepairedBlock ℕ)) → (calls ≡ [] → IsPending p)
         → IsChain IsBlockRepair p b calls → RepairTheParts p b calls }

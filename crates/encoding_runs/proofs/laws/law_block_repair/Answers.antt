@@ -1,0 +1,5 @@
+use Rattle.encoding_runs.proofs.BlockLemmas.{blocks_prefix, blocks_whole}
+use Rattle.encoding_runs.proofs.laws.law_block_repair.Goals as goal
+
+pub returns : goal.returns
+returns c = record { prefix = blocks_prefix; whole = blocks_whole }
