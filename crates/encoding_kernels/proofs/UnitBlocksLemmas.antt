@@ -66,44 +66,14 @@ module _ (us : List ℕ) (n : ℕ) (plain : AreBmpScalars (take n us)) where
     | inr p ↦ let place : n + (k - n) ≡ k = omega arith in subst (λ j. IsBmpScalar (get_or us j 0)) place (more (k - n) (omega arith))
   ])
 
--- sixteen below U+0800
-pub plain_sixteen : (us : List ℕ) (at : ℕ) → AllBelow 0x800 us at 16 → AreBmpScalars (take 16 (drop at us))
-plain_sixteen us at h = Each-take IsBmpScalar (λ r. omega (arith, r.0)) (drop at us) 16 (λ k l r. let same = get_or-drop at us k 0 in omega (arith, same, h (at + k) (omega arith) (omega arith), r.0))
-
--- eight in a vector
-pub eight_plain : (us : List ℕ) (at : ℕ) → ((k : ℕ) → k < 8 → IsBmpScalar (get_or (chunk at 8 us) k 0)) → AreBmpScalars (chunk at 8 us)
-eight_plain us at h k r = elim (cases_lt k 8) [ inl l ↦ h k l r | inr l ↦ omega (arith, r.0, get_or_past (chunk at 8 us) k 0 (omega (arith, length-take 8 (drop at us)))) ]
-
--- the first of eight in a vector
-pub first_plain : (us : List ℕ) (n : ℕ) → n ≤ 8 → ((k : ℕ) → k < n → IsBmpScalar (get_or (chunk 0 8 us) k 0)) → AreBmpScalars (take n us)
-first_plain us n few h = Each-take IsBmpScalar (λ r. omega (arith, r.0)) us n (λ k l r. let same = get_or-take 8 us k 0 (omega arith) in h k l (omega (arith, same, r.0), omega (arith, same, r.1)))
-
 pub plain_then : (us : List ℕ) (n m : ℕ) → AreBmpScalars (take n us) → AreBmpScalars (take m (drop n us)) → AreBmpScalars (take (n + m) us)
 plain_then us n m p q = plain_more us n p m (λ k l. let same = get_or-drop n us k 0 in let prefix = get_or-take m (drop n us) k 0 l in λ r. q k (omega (arith, same, prefix, r.0), omega (arith, same, prefix, r.1)))
-
--- sixteen units below U+0800, as two vectors of eight
-pub short_lanes : (us : List ℕ) (n : ℕ) → n + 16 ≤ length us → AllBelow 0x800 us n 16 → (k : ℕ) → (get_or (chunk n 8 us) k 0 < 0x800) × (get_or (chunk (n + 8) 8 us) k 0 < 0x800)
-short_lanes us n room h k = (lane n (omega arith) (omega arith), lane (n + 8) (omega arith) (omega arith))
-  where
-    lane : (at : ℕ) → n ≤ at → at + 8 ≤ n + 16 → get_or (chunk at 8 us) k 0 < 0x800
-    lane at from to = elim (cases_lt k 8) [
-      | inl l ↦ omega (arith, get_or-chunk at 8 us k 0 l, h (at + k) (omega arith) (omega arith))
-      | inr l ↦ omega (arith, get_or_past (chunk at 8 us) k 0 (omega (arith, length-chunk at 8 us (omega arith))))
-    ]
-
-pub short_joined : (us : List ℕ) (n : ℕ) → encode_utf8_all (chunk n 8 us) ++ encode_utf8_all (chunk (n + 8) 8 us) ≡ encode_utf8_all (take 16 (drop n us))
-short_joined us n =
-    sym (encodes-append (chunk n 8 us) (chunk (n + 8) 8 us)) ∙ ap (λ xs. encode_utf8_all (chunk n 8 us ++ take 8 xs)) (sym (drop-drop 8 n us)) ∙ ap encode_utf8_all (sym (take-add 8 8 (drop n us)))
 
 module _ (us old new after : List ℕ) (n written : ℕ) (w : WritesPrefix old new written (encode_utf8_all (take n us))) where
   pub written_eight : (k m : ℕ) → m ≡ length (encode_utf8_all (take k (drop n us))) → written + m ≤ length new
       → after ≡ take written new ++ (encode_utf8_all (take k (drop n us)) ++ drop (written + m) new)
       → WritesPrefix old after (written + m) (encode_utf8_all (take (n + k) us))
   written_eight k m count room put = WritesPrefix-same _ _ _ _ _ _ (WritesPrefix_put old new after written m _ _ w count room put) refl (encodes_more us n k)
-
--- two vectors of eight
-pub sixteen_plain : (us : List ℕ) (at : ℕ) → ((k : ℕ) → k < 8 → IsBmpScalar (get_or (chunk at 8 us) k 0)) → ((k : ℕ) → k < 8 → IsBmpScalar (get_or (chunk (at + 8) 8 us) k 0)) → AreBmpScalars (take 16 (drop at us))
-sixteen_plain us at p q = plain_then (drop at us) 8 8 (eight_plain us at p) (rw (drop-drop 8 at us) (eight_plain us (at + 8) q))
 
 -- n units of what is left were converted
 pub written_left : (us : List ℕ) (read n : ℕ) {old new sub : List ℕ} {written m : ℕ} → WritesPrefix old new written (encode_utf8_all (take read us))
@@ -112,16 +82,6 @@ pub written_left : (us : List ℕ) (read n : ℕ) {old new sub : List ℕ} {writ
 written_left us read n {old} {new} {sub} {written} {m} w v =
     WritesPrefix-same _ _ _ _ _ _ (WritesPrefix_after old new written _ sub m _ w v) refl
     (ap (λ xs. encode_utf8_all (take read us) ++ encode_utf8_all (take n xs)) (take_rest us read) ∙ encodes_more us read n)
-
--- some blocks of what is left were converted
-pub plain_left : {us old new sub : List ℕ} {read written n m : ℕ} → WritesBmp us old new read written
-    → WritesBmp (take (length us - read) (drop read us)) (take (length new - written) (drop written new)) sub n m
-    → WritesBmp us old (put_mid written (length new - written) new sub) (read + n) (written + m)
-plain_left {us} {old} {new} {sub} {read} {written} {n} {m} w v = record {
-  within = let inside : read ≤ length us = w.within in omega (arith, v.within, length-take (length us - read) (drop read us));
-  plain = plain_then us read n w.plain (subst (λ xs. AreBmpScalars (take n xs)) (take_rest us read) v.plain);
-  written = written_left us read n w.written v.written;
-}
 
 -- an ASCII prefix was copied
 pub ascii_plain : {us old new : List ℕ} {n : ℕ} → n ≤ length us → IsAscii (take n us) → WritesPrefix old new n (take n us) → WritesBmp us old new n n
