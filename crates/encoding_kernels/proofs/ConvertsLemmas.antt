@@ -7,7 +7,7 @@ use Rattle.encoding_definitions.specs.Prefixes.{WritesPrefix}
 use Rattle.encoding_definitions.specs.Utf16.{AreCodeUnits, Character16, Part16, utf8_of_part16, IsUtf8OfPrefix}
 use Rattle.encoding_definitions.proofs.PrefixesLemmas.{WritesPrefix-nil, WritesPrefix-same, WritesPrefix_after, written_is, written_prefix}
 use Rattle.encoding_definitions.proofs.Utf16PrefixLemmas.{Walked, walked_prefix}
-use Rattle.encoding_kernels.specs.EncodeLanes.{SpillsBmp, WritesBmp}
+use Rattle.encoding_kernels.specs.EncodeLanes.{ConvertsPrefix, SpillsBmp, WritesBmp}
 use Rattle.encoding_kernels.proofs.SpillsLemmas.{due_none, due_paid}
 use Rattle.encoding_kernels.proofs.PairedUnitsLemmas.{goes_on}
 use Rattle.encoding_kernels.proofs.UnitBlocksLemmas.{plain_walked, plain_written, plain_prefix, utf8_plain}
@@ -28,6 +28,9 @@ module _ (us : List ℕ) (units : AreCodeUnits us) where
 
   pub converts_unchanged : {old new : List ℕ} {read written : ℕ} → Converts us old new read written → WritesPrefix old new written (take written new)
   converts_unchanged w = written_prefix _ _ _ _ w.placed
+
+  pub converts_whole : {old new : List ℕ} {read written : ℕ} → Converts us old new read written → ConvertsPrefix us old new read written
+  converts_whole w = record { prefix = converts_prefix w; unchanged_after = converts_unchanged w; within = w.within }
 
   pub converts_bmp : {old new : List ℕ} {read written : ℕ} → WritesBmp us old new read written → Converts us old new read written
   converts_bmp {old} {new} {read} {written} w = record { within = w.within; done = map Character16 (take read us); walked = plain_walked us read units w.within w.plain; placed = plain_written w }

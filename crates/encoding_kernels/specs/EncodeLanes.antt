@@ -1,6 +1,7 @@
 -- Steps of a conversion to UTF-8 by vectors: code units in two bytes each, and which of these are kept.
 use Rattle.std.specs.Prelude.{◌≡◌, ℕ, ◌+◌, ◌*◌, ◌%◌, ◌<◌, ◌⊎◌, ◌&&◌, nat_lt, ◌≤◌, Bool, nat_le, List, [], ◌∷◌, ◌++◌, if◌then◌else◌, encode_utf8, encode_utf8_all, slice_index, length, take, drop}
 use Rattle.encoding_definitions.specs.Prefixes.{WritesPrefix}
+use Rattle.encoding_definitions.specs.Utf16.{IsUtf8OfPrefix}
 
 -- of two bytes for each test, from index `at` on, the index of the first, and that of the second if the test holds
 abbrev pub kept_places : ℕ → List Bool → List ℕ
@@ -81,6 +82,12 @@ pub record ConvertsDue (us old new : List ℕ) (due read count left : ℕ) : Typ
   pub few : left ≤ 16
   pub fits : 0 < left → read + 16 ≤ length us
   pub bound : count ≤ 3 * read
+
+-- the UTF-8 of the first `read` code units is written at the start, and the rest is unchanged
+pub record ConvertsPrefix (us old new : List ℕ) (read count : ℕ) : Type 0 where
+  pub prefix : IsUtf8OfPrefix us read (take count new)
+  pub unchanged_after : WritesPrefix old new count (take count new)
+  pub within : read ≤ length us
 
 -- the first `read` code units are no surrogates, and their UTF-8 is written at the start
 pub record WritesBmp (us old new : List ℕ) (read count : ℕ) : Type 0 where

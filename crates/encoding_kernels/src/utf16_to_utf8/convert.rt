@@ -4,7 +4,7 @@
 ghost use Rattle.std.specs.Prelude.{◌≡◌, ℕ, ◌↔◌, ◌+◌, ◌*◌, ◌<◌, ◌≤◌, ◌++◌, length, take, drop, slice_index, encode_utf8_all, IsTrue};
 ghost use Rattle.encoding_definitions.specs.Prefixes.{WritesPrefix};
 ghost use Rattle.encoding_definitions.specs.Utf16.{IsUtf8OfPrefix};
-ghost use Rattle.encoding_kernels.specs.EncodeLanes.{ConvertsDue};
+ghost use Rattle.encoding_kernels.specs.EncodeLanes.{ConvertsDue, ConvertsPrefix};
 
 use super::blocks::{Ascii, Mixed, ThreeByte, TwoByte, convert_run};
 use super::exact::{SPILL, convert_first_sixteen, convert_spilled};
@@ -115,9 +115,7 @@ fn convert_due_blocks(src: &[u16], dst: &mut [u8]) -> (usize, usize, usize)
 /// Converts blocks of sixteen code units from the start of `src`, and what these leave to overwrite.
 #[inline(always)]
 fn convert_dense_blocks(src: &[u16], dst: &mut [u8]) -> (usize, usize)
-    ensures prefix { IsUtf8OfPrefix src.now result.0 (take result.1 dst.new) }
-    ensures unchanged_after { WritesPrefix dst.old dst.new result.1 (take result.1 dst.new) }
-    ensures within { result.0 ≤ length src.now }
+    ensures { ConvertsPrefix src.now dst.old dst.new result.0 result.1 }
 {
     let end = src.len().min(dst.len() / 3);
     let (read, written, spilled) = convert_due_blocks(&src[..end], dst);

@@ -4,7 +4,7 @@ ghost use Rattle.std.specs.Prelude.{◌≡◌, ℕ, ◌+◌, ◌<◌, ◌≤◌,
 ghost use Rattle.encoding_definitions.specs.FirstScalar.{IsFirstScalar};
 ghost use Rattle.encoding_definitions.specs.Prefixes.{WritesPrefix};
 ghost use Rattle.encoding_definitions.specs.Utf16.{IsUtf8OfPrefix};
-ghost use Rattle.encoding_kernels.specs.EncodeLanes.{WritesBmp};
+ghost use Rattle.encoding_kernels.specs.EncodeLanes.{ConvertsPrefix, WritesBmp};
 
 use super::mixed::{non_surrogate_prefix, store_mixed, with_zeros, write_mixed};
 use crate::scalar::{
@@ -99,9 +99,7 @@ fn convert_some(src: &[u16], dst: &mut [u8]) -> (usize, usize)
 /// Converts the first characters of `src`, until at least sixteen bytes are written.
 pub(super) fn convert_spilled(src: &[u16], dst: &mut [u8]) -> (usize, usize)
     requires { (16 ≤ length src.now) × (48 ≤ length dst.old) }
-    ensures prefix { IsUtf8OfPrefix src.now result.0 (take result.1 dst.new) }
-    ensures unchanged_after { WritesPrefix dst.old dst.new result.1 (take result.1 dst.new) }
-    ensures within { result.0 ≤ length src.now }
+    ensures converted { ConvertsPrefix src.now dst.old dst.new result.0 result.1 }
     ensures length_bound { 16 ≤ result.1 }
 {
     let mut read = 0;

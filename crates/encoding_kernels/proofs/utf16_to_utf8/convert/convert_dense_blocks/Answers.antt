@@ -1,7 +1,7 @@
 use Rattle.std.proofs.Common.{◌≡◌, arith, subst}
 use Rattle.encoding_definitions.specs.Utf16.{AreCodeUnits}
 use Rattle.encoding_kernels.specs.EncodeLanes.{SpillsBmp}
-use Rattle.encoding_kernels.proofs.ConvertsLemmas.{converts_due, converts_paid, converts_prefix, converts_unchanged}
+use Rattle.encoding_kernels.proofs.ConvertsLemmas.{converts_due, converts_paid, converts_whole}
 use Rattle.encoding_kernels.proofs.DueLemmas.{due_of_first}
 use Rattle.encoding_kernels.proofs.utf16_to_utf8.convert.convert_dense_blocks.Goals as goal
 
@@ -11,12 +11,12 @@ returns-then-spilled-eq0 c =
     let units : AreCodeUnits us = λ k. omega (arith, c.type_inv.src k) in
     let none : c.convert_due_blocks-read.result.2 ≡ 0 = omega arith in
     let all = converts_due us units (subst (SpillsBmp us c.args.dst.now c.convert_due_blocks-read.new.dst c.convert_due_blocks-read.result.0 c.convert_due_blocks-read.result.1) none (due_of_first c.min-end.result (omega arith) c.convert_due_blocks-read.ensures)) in
-    record { prefix = converts_prefix us units all; unchanged_after = converts_unchanged us units all; within = all.within }
+    converts_whole us units all
 
 pub returns : goal.returns
 returns c =
     let us = c.args.src.now in
     let units : AreCodeUnits us = λ k. omega (arith, c.type_inv.src k) in
     let next = c.convert_spilled-more.ensures in
-    let all = converts_paid us units (due_of_first c.min-end.result (omega arith) c.convert_due_blocks-read.ensures) (omega (arith, next.length_bound, c.convert_due_blocks-read.ensures.few)) next.prefix next.unchanged_after next.within in
-    record { prefix = converts_prefix us units all; unchanged_after = converts_unchanged us units all; within = all.within }
+    let all = converts_paid us units (due_of_first c.min-end.result (omega arith) c.convert_due_blocks-read.ensures) (omega (arith, next.length_bound, c.convert_due_blocks-read.ensures.few)) next.converted.prefix next.converted.unchanged_after next.converted.within in
+    converts_whole us units all

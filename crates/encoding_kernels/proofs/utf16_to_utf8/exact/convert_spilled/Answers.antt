@@ -1,6 +1,6 @@
 use Rattle.std.proofs.Common.{arith}
 use Rattle.encoding_definitions.specs.Utf16.{AreCodeUnits}
-use Rattle.encoding_kernels.proofs.ConvertsLemmas.{converts_none, converts_more, converts_prefix, converts_unchanged}
+use Rattle.encoding_kernels.proofs.ConvertsLemmas.{converts_none, converts_more, converts_whole}
 use Rattle.encoding_kernels.proofs.utf16_to_utf8.exact.convert_spilled.Goals as goal
 
 pub loop-written-init : goal.loop-written-init
@@ -20,8 +20,6 @@ returns c =
     let here = c.loop-written.invariant in
     let units : AreCodeUnits c.args.src.now = λ k. omega (arith, c.type_inv.src k) in
     record {
-      prefix = converts_prefix c.args.src.now units here.converted;
-      unchanged_after = converts_unchanged c.args.src.now units here.converted;
-      within = here.converted.within;
+      converted = converts_whole c.args.src.now units here.converted;
       length_bound = omega arith;
     }
