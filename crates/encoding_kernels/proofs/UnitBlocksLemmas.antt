@@ -1,19 +1,16 @@
 -- Blocks of code units that are no surrogates: each is a character, and their UTF-8 is joined from what the blocks
 -- write.
-use Rattle.std.proofs.Common.{◌≡◌, ℕ, suc, ◌+◌, ◌-◌, ◌<◌, ◌≤◌, ◌⊎◌, inl, inr, List, [], ◌∷◌, ◌++◌, map, length, take, drop, take-add, drop-drop, length-take, length-take-le, length-append, get_or, encode_utf8_all, refl, sym, ap, ◌∙◌, arith, subst}
+use Rattle.std.proofs.Common.{◌≡◌, ℕ, suc, ◌+◌, ◌-◌, ◌<◌, ◌≤◌, ◌⊎◌, inl, inr, List, [], ◌∷◌, ◌++◌, map, length, take, drop, take-add, length-take-le, length-append, get_or, encode_utf8_all, refl, sym, ap, ◌∙◌, arith, subst}
 use Rattle.std.specs.List.{flat_map}
 use Rattle.std.specs.Str.{IsAscii}
-use Rattle.std.specs.Simd.Lanes.{chunk}
 use Rattle.std.proofs.lemmas.Bool.{cases_lt}
-use Rattle.std.proofs.lemmas.List.{take-append-drop, take_rest, get_or-drop, get_or-take, get_or_past}
-use Rattle.std.proofs.lemmas.Simd.{get_or-chunk, length-chunk}
+use Rattle.std.proofs.lemmas.List.{take-append-drop, take_rest, get_or-drop, get_or-take}
 use Rattle.std.proofs.lemmas.Str.{encodes-append, encodes-IsAscii}
 use Rattle.std.proofs.str.Utf16.{one_unit}
 use borrow.Rule.Slice.PartMut.{put_mid}
 use Rattle.encoding_definitions.specs.Prefixes.{WritesPrefix}
 use Rattle.encoding_definitions.specs.Utf16.{AreCodeUnits, Character16, units_of_part16, utf8_of_part16, IsUtf8OfPrefix}
 use Rattle.encoding_kernels.specs.EncodeLanes.{AreBmpScalars, WritesBmp}
-use Rattle.encoding_kernels.specs.Scans.{AllBelow}
 use Rattle.encoding_kernels.proofs.AsciiLemmas.{Each-take}
 use Rattle.encoding_definitions.proofs.PrefixesLemmas.{WritesPrefix-same, WritesPrefix_put, WritesPrefix_after, written_is}
 use Rattle.encoding_definitions.proofs.Utf16Lemmas.{parts_of, parts_of-first, first_unit}
