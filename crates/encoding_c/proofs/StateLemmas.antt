@@ -18,10 +18,6 @@ use Rattle.encoding_text.specs.declared.utf_8.encoder.EncoderResult.{EncoderResu
 use Rattle.encoding_text.specs.declared.utf_8.encoder.EncoderResult.TheVariants.{InputEmpty, OutputFull}
 
 -- at most three bytes are pending
-pub few_pending : (p : List ℕ) → IsPending p → length p ≤ 3
-few_pending p (inl e) = omega (arith, ap length e)
-few_pending p (inr b) = length-IsIncomplete p b
-
 -- a call of a decoder with a destination
 module _ {A : Type 0} (encode : ℕ → List A) (need : ℕ) (p src : List ℕ) (last : Bool) where
   answer_ends : (result : DecoderResult) (read : ℕ) (cs : List ℕ) (left : ℕ) (q : List ℕ) → IsDecodeResult encode need p src last result read cs left q

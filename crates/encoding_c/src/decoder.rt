@@ -82,7 +82,7 @@ pub(crate) fn restored(state: EncodingUtf8Decoder) -> Utf8Decoder
 }
 
 /// Returns the number of pending bytes.
-#[tactic(auto, using(crate::proofs::StateLemmas::few_pending))]
+#[tactic(auto, using(encoding_runs::proofs::RepairLemmas::pending_length))]
 pub(crate) fn pending_count(decoder: &Utf8Decoder) -> usize
     ensures pending_length { result ≡ length decoder.now }
     ensures at_most_three { result ≤ 3 }

@@ -18,7 +18,7 @@ IsLatin1-cons : (c : ℕ) (cs : List ℕ) → c ≤ 0xFF → IsLatin1 cs → IsL
 IsLatin1-cons c cs l h zero = l
 IsLatin1-cons c cs l h (suc i) = h i
 
-IsLatin1-rest : (c : ℕ) (cs : List ℕ) → IsLatin1 (c ∷ cs) → IsLatin1 cs
+pub IsLatin1-rest : (c : ℕ) (cs : List ℕ) → IsLatin1 (c ∷ cs) → IsLatin1 cs
 IsLatin1-rest c cs h i = h (suc i)
 
 IsLatin1-append : (xs ys : List ℕ) → IsLatin1 xs → IsLatin1 ys → IsLatin1 (xs ++ ys)
@@ -98,11 +98,8 @@ latin1_prefix_len bs n l h stop = record {
 }
 
 -- ---- a loop over the bytes
-at_drop : (bs : List ℕ) (i k : ℕ) → slice_index (drop i bs) k ≡ slice_index bs (i + k)
-at_drop bs i k = get_or-drop i bs k 0
-
-at_drop_start : (bs : List ℕ) (i : ℕ) → slice_index (drop i bs) 0 ≡ slice_index bs i
-at_drop_start bs i = at_drop bs i 0 ∙ ap (λ j. slice_index bs j) (omega arith)
+pub at_drop_start : (bs : List ℕ) (i : ℕ) → slice_index (drop i bs) 0 ≡ slice_index bs i
+at_drop_start bs i = get_or-drop i bs 0 0 ∙ ap (λ j. slice_index bs j) (omega arith)
 
 pub latin1_more_one : (bs : List ℕ) (i : ℕ) → i < length bs → IsUtf8Latin1 (take i bs) → slice_index bs i < 0x80 → IsUtf8Latin1 (take (i + 1) bs)
 latin1_more_one bs i l h p =
@@ -126,7 +123,7 @@ pub latin1_stop : (bs : List ℕ) (i : ℕ) → i ≤ length bs → IsUtf8Latin1
 latin1_stop bs i l h stop = latin1_prefix_len bs i l h (λ b.
     let known = latin1_bytes (drop i bs) b in
     let here = at_drop_start bs i in
-    let next = at_drop bs i 1 in
+    let next = get_or-drop i bs 1 0 in
     let inside : i < length bs = omega (arith, length-drop i bs, known.0) in
     let found = stop inside in
     let more = known.2 (omega (arith, found.0)) in

@@ -18,7 +18,7 @@ use Rattle.encoding_definitions.specs.Surrogates.{IsValidUtf16, AreRepairedUnits
 use Rattle.encoding_definitions.specs.FirstScalar.{IsFirstPart16}
 use Rattle.encoding_definitions.specs.Utf16.{AreCodeUnits, Part16, Character16, Unpaired, units_of_part16, ArePaired, ArePartsOf16, scalar_of_part16}
 use Rattle.encoding_definitions.proofs.Utf16PrefixLemmas.{Walked, Walked_push}
-use Rattle.encoding_definitions.proofs.Utf16LawLemmas.{parts-encode, character_of, characters_are, scalars-encode, scalars_lossy}
+use Rattle.encoding_definitions.proofs.Utf16LawLemmas.{parts-encode, character_of, characters_are, scalars-encode, scalars_lossy, characters_units}
 use Rattle.encoding_definitions.proofs.Utf16Lemmas.{parts_of, parts_of-nil, parts_of-first, parts_are, parts_exist, first_pair, first_unit, first_single, head_part, tail_paired, parts_unique}
 
 -- ---- valid units are the UTF-16 of scalar values
@@ -26,12 +26,8 @@ valid_scalars : (cs : List ℕ) → ArePaired (map Character16 cs) → all_scala
 valid_scalars [] a = refl
 valid_scalars (c ∷ cs) a = and_from (scalar c) (all_scalars cs) (head_part (Character16 c) (map Character16 cs) a) (valid_scalars cs (tail_paired (Character16 c) (map Character16 cs) a))
 
-valid_units : (cs : List ℕ) → flat_map units_of_part16 (map Character16 cs) ≡ flat_map encode_utf16 cs
-valid_units [] = refl
-valid_units (c ∷ cs) = ap (λ us. encode_utf16 c ++ us) (valid_units cs)
-
 pub scalars_of_valid : (us : List ℕ) (v : IsValidUtf16 us) → (all_scalars v.0 ≡ true) × (flat_map encode_utf16 v.0 ≡ us)
-scalars_of_valid us (cs, a) = (valid_scalars cs a.0, sym (valid_units cs) ∙ a.1)
+scalars_of_valid us (cs, a) = (valid_scalars cs a.0, sym (characters_units cs) ∙ a.1)
 
 pub valid-encode : (cs us : List ℕ) → all_scalars cs ≡ true → flat_map encode_utf16 cs ≡ us → IsValidUtf16 us
 valid-encode cs us s e = (cs, subst (λ xs. ArePartsOf16 xs (map Character16 cs)) e (parts-encode cs s))
@@ -183,7 +179,7 @@ module _ (us buffer : List ℕ) (at n : ℕ) (done : List Part16) (a : AreCodeUn
       let whole : drop at us ≡ flat_map encode_utf16 cs ++ drop (at + n) us =
       sym (take-append-drop n (drop at us)) ∙ ap (λ xs. xs ++ drop n (drop at us)) (sym had.1) ∙ ap (λ xs. flat_map encode_utf16 cs ++ xs) (drop-drop n at us) in
       let long : length (flat_map units_of_part16 (map Character16 cs)) ≡ n =
-      ap length (valid_units cs ∙ had.1) ∙ length-take-le n (drop at us) f.within in
+      ap length (characters_units cs ∙ had.1) ∙ length-take-le n (drop at us) f.within in
       record {
         within = omega (arith, f.within, length-drop at us);
         same_length = same;

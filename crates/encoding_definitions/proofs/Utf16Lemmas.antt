@@ -19,7 +19,7 @@ use Rattle.encoding_definitions.specs.FirstScalar.{BeginsLow, IsFirstPart16}
 
 -- ---- the parts, from the left
 -- the part of a unit that is in no pair
-abbrev single : ℕ → Part16
+abbrev pub single : ℕ → Part16
 single u = cond (nat_le 0xD800 u && nat_lt u 0xE000) (Unpaired u) (Character16 u)
 
 -- the parts of units
@@ -62,6 +62,10 @@ halves c l s =
     let below : c < 1114112 = elim (scalar_cases c s) [ inl h ↦ omega arith | inr h ↦ h.1 ] in
     (0xD800 + (c - 0x10000) / 0x400, 0xDC00 + (c - 0x10000) % 0x400, (omega arith, omega arith, omega arith, omega arith), two_units c l, omega arith)
 
+no_pair_from : (u : ℕ) (rest : List ℕ) → (IsHighSurrogate u → BeginsLow rest → ⊥) → IsPair u (get_or rest 0 0) → ⊥
+no_pair_from u [] n p = omega (arith, p.2)
+no_pair_from u (v ∷ vs) n p = n (p.0, omega arith) (p.2, omega arith)
+
 -- the parts of units with this first part are it and the parts of the rest
 pub parts_of-first : (us : List ℕ) (p : Part16) (rest : List ℕ) → IsFirstPart16 us p rest → parts_of us ≡ p ∷ parts_of rest
 parts_of-first us (Character16 c) rest (s, e) = elim (cases_lt c 0x10000) [
@@ -73,11 +77,7 @@ parts_of-first us (Character16 c) rest (s, e) = elim (cases_lt c 0x10000) [
     not_high : (c : ℕ) → IsScalar c → IsPair c (get_or rest 0 0) → ⊥
     not_high c s p = elim (scalar_cases c s) [ inl h ↦ omega arith | inr h ↦ omega arith ]
 parts_of-first us (Unpaired u) rest (s, e, n) =
-    ap parts_of e ∙ parts_of_single u rest (apart u rest s n) ∙ ap (λ p. p ∷ parts_of rest) (elim s [ inl h ↦ single_unpaired u h.0 (omega arith) | inr h ↦ single_unpaired u (omega arith) h.1 ])
-  where
-    apart : (u : ℕ) (rest : List ℕ) → IsHighSurrogate u ⊎ IsLowSurrogate u → (IsHighSurrogate u → BeginsLow rest → ⊥) → IsPair u (get_or rest 0 0) → ⊥
-    apart u [] s n p = omega (arith, p.2)
-    apart u (v ∷ vs) s n p = n (p.0, omega arith) (p.2, omega arith)
+    ap parts_of e ∙ parts_of_single u rest (no_pair_from u rest n) ∙ ap (λ p. p ∷ parts_of rest) (elim s [ inl h ↦ single_unpaired u h.0 (omega arith) | inr h ↦ single_unpaired u (omega arith) h.1 ])
 
 -- ---- adding and removing the first part
 pub ArePartsOf16-cons : (us : List ℕ) (p : Part16) (rest : List ℕ) (ps : List Part16) → IsFirstPart16 us p rest → ArePartsOf16 rest ps → ArePartsOf16 us (p ∷ ps)

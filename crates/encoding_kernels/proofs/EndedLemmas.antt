@@ -13,6 +13,7 @@ use lib.Dec.{leb}
 use Rattle.encoding_definitions.specs.Latin1.{IsLatin1}
 use Rattle.encoding_kernels.specs.EncodeLanes.{latin1_ended, all_latin1_ended, both_end, kept_places}
 use Rattle.encoding_kernels.proofs.EncodeLanesLemmas.{kept_step, ones-none}
+use Rattle.encoding_definitions.proofs.Latin1Lemmas.{IsLatin1-rest}
 
 -- a byte that continues a character
 abbrev pub GoesOnWith : ℕ → Type 0
@@ -52,9 +53,6 @@ is_one c cs l = ap (λ xs. xs ++ encode_utf8_all cs) (encode_ascii c l)
 is_two : (c : ℕ) (cs : List ℕ) → 0x80 ≤ c → c < 0x100 → encode_utf8_all (c ∷ cs) ≡ text_two c cs
 is_two c cs l h = ap (λ xs. xs ++ encode_utf8_all cs) (two c l (omega arith))
 
-tail_low : (c : ℕ) (cs : List ℕ) → IsLatin1 (c ∷ cs) → IsLatin1 cs
-tail_low c cs low k = low (suc k)
-
 -- a text begins with no byte that continues a character
 begins : (cs : List ℕ) → IsLatin1 cs → GoesOnWith (get_or (encode_utf8_all cs) 0 0) → ⊥
 begins [] low g = omega (arith, g.0)
@@ -74,17 +72,17 @@ Nexts bs = (k : ℕ) → NextIs (get_or bs k 0) (get_or bs (suc k) 0)
 pub nexts : (cs : List ℕ) → IsLatin1 cs → (k : ℕ) → NextIs (get_or (encode_utf8_all cs) k 0) (get_or (encode_utf8_all cs) (suc k) 0)
 nexts [] low = λ k. record { after_first = λ l. absurd (omega arith); after_last = λ _ g. omega (arith, g.0) }
 nexts (c ∷ cs) low = elim (cases_lt c 0x80) [
-  | inl l ↦ subst Nexts (sym (is_one c cs l)) (one (nexts cs (tail_low c cs low)) l)
-  | inr l ↦ subst Nexts (sym (is_two c cs l (omega (arith, low 0)))) (both (nexts cs (tail_low c cs low)) l)
+  | inl l ↦ subst Nexts (sym (is_one c cs l)) (one (nexts cs (IsLatin1-rest c cs low)) l)
+  | inr l ↦ subst Nexts (sym (is_two c cs l (omega (arith, low 0)))) (both (nexts cs (IsLatin1-rest c cs low)) l)
 ]
   where
     one : Nexts (encode_utf8_all cs) → c < 0x80 → (k : ℕ) → NextIs (get_or (text_one c cs) k 0) (get_or (text_one c cs) (suc k) 0)
-    one rest l zero = record { after_first = λ h. absurd (omega arith); after_last = λ _. begins cs (tail_low c cs low) }
+    one rest l zero = record { after_first = λ h. absurd (omega arith); after_last = λ _. begins cs (IsLatin1-rest c cs low) }
     one rest l (suc k) = rest k
 
     both : Nexts (encode_utf8_all cs) → 0x80 ≤ c → (k : ℕ) → NextIs (get_or (text_two c cs) k 0) (get_or (text_two c cs) (suc k) 0)
     both rest l zero = record { after_first = λ _. (omega arith, omega arith); after_last = λ h. absurd (omega (arith, low 0)) }
-    both rest l (suc zero) = record { after_first = λ h. absurd (omega arith); after_last = λ _. begins cs (tail_low c cs low) }
+    both rest l (suc zero) = record { after_first = λ h. absurd (omega arith); after_last = λ _. begins cs (IsLatin1-rest c cs low) }
     both rest l (suc (suc k)) = rest k
 
 -- ---- a prefix that ends between characters
@@ -95,8 +93,8 @@ pub splits : (cs : List ℕ) → IsLatin1 cs → (p k : ℕ) → (GoesOnWith (ge
 splits [] low p zero n = (refl, refl)
 splits [] low p (suc k) n = (refl, refl)
 splits (c ∷ cs) low p k n = elim (cases_lt c 0x80) [
-  | inl l ↦ let e = is_one c cs l in subst (Splits (c ∷ cs) p k) (sym e) (one (splits cs (tail_low c cs low)) l k (subst (λ bs. GoesOnWith (get_or bs k 0) → ⊥) e n))
-  | inr l ↦ let e = is_two c cs l (omega (arith, low 0)) in subst (Splits (c ∷ cs) p k) (sym e) (both (splits cs (tail_low c cs low)) l k (subst (λ bs. GoesOnWith (get_or bs k 0) → ⊥) e n))
+  | inl l ↦ let e = is_one c cs l in subst (Splits (c ∷ cs) p k) (sym e) (one (splits cs (IsLatin1-rest c cs low)) l k (subst (λ bs. GoesOnWith (get_or bs k 0) → ⊥) e n))
+  | inr l ↦ let e = is_two c cs l (omega (arith, low 0)) in subst (Splits (c ∷ cs) p k) (sym e) (both (splits cs (IsLatin1-rest c cs low)) l k (subst (λ bs. GoesOnWith (get_or bs k 0) → ⊥) e n))
 ]
   where
     one : ((q j : ℕ) → (GoesOnWith (get_or (encode_utf8_all cs) j 0) → ⊥) → Splits cs q j (encode_utf8_all cs)) → c < 0x80 → (k : ℕ) → (GoesOnWith (get_or (text_one c cs) k 0) → ⊥) → Splits (c ∷ cs) p k (text_one c cs)
@@ -122,9 +120,9 @@ splits (c ∷ cs) low p k n = elim (cases_lt c 0x80) [
 pub ended_all : (cs : List ℕ) → IsLatin1 cs → (p : ℕ) → all_latin1_ended p (encode_utf8_all cs) ≡ cs
 ended_all [] low p = refl
 ended_all (c ∷ cs) low p = elim (cases_lt c 0x80) [
-  | inl l ↦ ap (all_latin1_ended p) (is_one c cs l) ∙ ended_one p c l (encode_utf8_all cs) ∙ ap (λ xs. c ∷ xs) (ended_all cs (tail_low c cs low) c)
+  | inl l ↦ ap (all_latin1_ended p) (is_one c cs l) ∙ ended_one p c l (encode_utf8_all cs) ∙ ap (λ xs. c ∷ xs) (ended_all cs (IsLatin1-rest c cs low) c)
   | inr l ↦ ap (all_latin1_ended p) (is_two c cs l (omega (arith, low 0))) ∙ ended_two p c l (omega (arith, low 0)) (encode_utf8_all cs)
-      ∙ ap (λ xs. c ∷ xs) (ended_all cs (tail_low c cs low) (128 + c % 64))
+      ∙ ap (λ xs. c ∷ xs) (ended_all cs (IsLatin1-rest c cs low) (128 + c % 64))
 ]
 
 -- the byte before the second part is the last of the first

@@ -64,7 +64,7 @@ module _ (First Second IsWhole : ℕ → Type 0) (us : List ℕ) (n : ℕ)
 valid_none : IsValidUtf16 []
 valid_none = valid-encode [] [] refl refl
 
-high_decided : (u : ℕ) → IsHighSurrogate u ⊎ (IsHighSurrogate u → ⊥)
+pub high_decided : (u : ℕ) → IsHighSurrogate u ⊎ (IsHighSurrogate u → ⊥)
 high_decided u = grind (arith, nat_tests)
 
 not_surrogate : (u : ℕ) → (IsHighSurrogate u → ⊥) → (IsLowSurrogate u → ⊥) → 0xD800 ≤ u → u ≤ 0xDFFF → ⊥

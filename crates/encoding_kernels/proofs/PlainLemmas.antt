@@ -18,7 +18,7 @@ use Rattle.encoding_kernels.specs.EncodeLanes.{last_places, length_classes, Enco
 use Rattle.encoding_kernels.proofs.CompressLemmas.{mask_append}
 use Rattle.encoding_kernels.proofs.LaneLemmas.{HasLanes-itself, HasLanes-numbers, HasLanes_same, HasLanes-splat, HasLanes-zip2, compared, firsts_are, mask_of, same_below}
 use Rattle.encoding_kernels.proofs.TestLemmas.{HasTests, tests_of, chosen, chosen_by, none_passes, run_is_first}
-use Rattle.encoding_kernels.proofs.EncodeLanesLemmas.{mask_from, pick}
+use Rattle.encoding_kernels.proofs.EncodeLanesLemmas.{mask_from, pick, ones-none}
 use Rattle.encoding_kernels.proofs.UnitLanesLemmas.{picked_lanes}
 use Rattle.encoding_kernels.proofs.WordLemmas.{bytes_of_sixteen, sixteen_lanes}
 
@@ -112,10 +112,6 @@ module _ (us : List ℕ) (mask : ℕ) (long : length us ≡ 16) (is : mask ≡ m
       )
 
 -- ---- how many indices are kept
-ones-none : count_ones 0 ≡ 0
-unfolding count_ones
-ones-none = refl
-
 long_step : (at : ℕ) (a s : Bool) (bs : List Bool) (n : ℕ) → (a ≡ true → s ≡ true) → length (last_places (at + 4) bs) + count_ones (mask_l bs) ≡ n
     → length (last_places at (a ∷ s ∷ bs)) + count_ones (mask_l (a ∷ s ∷ bs)) ≡ 3 + n
 long_step at a s bs n v e = grind (arith, nat_tests, v, e, ones-mask_l_cons a (s ∷ bs), ones-mask_l_cons s bs)

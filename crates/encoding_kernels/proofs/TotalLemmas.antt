@@ -15,6 +15,7 @@ use Rattle.encoding_definitions.specs.Utf16.{IsHighSurrogate, IsLowSurrogate}
 use Rattle.encoding_kernels.proofs.LaneLemmas.{HasLanes-itself, HasLanes_same, HasLanes-splat, HasLanes-zip2, compared}
 use Rattle.encoding_kernels.proofs.TestLemmas.{chosen, chosen_by, tests_and, tests_of}
 use Rattle.encoding_kernels.proofs.SurrogatePairsLemmas.{high_test, low_test}
+use Rattle.encoding_definitions.proofs.Latin1Lemmas.{at_drop_start}
 
 -- the sum from an index on, by the term at that index
 pub total_next : (f : List ℕ → ℕ) (xs : List ℕ) (i : ℕ) → i < length xs → sum_over_suffixes f (drop i xs) ≡ f (drop i xs) + sum_over_suffixes f (drop (i + 1) xs)
@@ -35,12 +36,6 @@ total_end f [] zero l = refl
 total_end f [] (suc i) l = refl
 total_end f (x ∷ xs) zero l = absurd (omega arith)
 total_end f (x ∷ xs) (suc i) l = total_end f xs i (omega arith)
-
-pub there : (xs : List ℕ) (i k : ℕ) → slice_index (drop i xs) k ≡ slice_index xs (i + k)
-there xs i k = get_or-drop i xs k 0
-
-pub here : (xs : List ℕ) (i : ℕ) → slice_index (drop i xs) 0 ≡ slice_index xs i
-here xs i = let e : i + 0 ≡ i = omega arith in there xs i 0 ∙ ap (slice_index xs) e
 
 -- ---- the lanes of a vector
 abbrev pub total_from : (List ℕ → ℕ) → List ℕ → ℕ → ℕ
@@ -78,7 +73,7 @@ vector_total f xs n at next {z} p room lanes =
 pub loaded : (xs : List ℕ) (at n j k start : ℕ) → start ≡ at + j → k < n → get_or (chunk start n xs) k 0 ≡ slice_index (drop (at + k) xs) j
 loaded xs at n j k start p l =
     let e : start + k ≡ at + k + j = omega arith in
-    get_or-chunk start n xs k 0 l ∙ ap (slice_index xs) e ∙ sym (there xs (at + k) j)
+    get_or-chunk start n xs k 0 l ∙ ap (slice_index xs) e ∙ sym (get_or-drop (at + k) xs j 0)
 
 pub zeros_total : (n : ℕ) → sum_l (replicate n 0) ≡ 0
 zeros_total zero = refl
@@ -165,7 +160,7 @@ skipped f xs zeros zero at l h = let e : at + 0 ≡ at = omega arith in ap (tota
 skipped f xs zeros (suc n) at l h =
     let e : at + suc n ≡ at + 1 + n = omega arith in
     let more = skipped f xs zeros n (at + 1) (omega arith) (λ k from to. h k (omega arith) (omega arith)) in
-    let none = zeros (drop at xs) (omega (arith, here xs at, h at (omega arith) (omega arith))) in
+    let none = zeros (drop at xs) (omega (arith, at_drop_start xs at, h at (omega arith) (omega arith))) in
     omega (arith, ap (total_from f xs) e, more, none, total_next f xs at (omega arith))
 
 pub skipped_to : (f : List ℕ → ℕ) (xs : List ℕ) → ((ys : List ℕ) → slice_index ys 0 < 0x80 → f ys ≡ 0) → (from to : ℕ) → from ≤ to → to ≤ length xs
@@ -188,13 +183,13 @@ ascii_beyond us l = extended_by (slice_index us 0) (slice_index us 1) l
 
 -- ---- the terms of an index
 pub term_from : (least : ℕ) (xs : List ℕ) (i : ℕ) → one_if_at_least least (drop i xs) ≡ bool_byte (nat_le least (slice_index xs i))
-term_from least xs i = ap (λ b. bool_byte (nat_le least b)) (here xs i)
+term_from least xs i = ap (λ b. bool_byte (nat_le least b)) (at_drop_start xs i)
 
 pub term_joined : (xs : List ℕ) (i : ℕ) → continuations (drop i xs) ≡ continuations_by (slice_index xs i) (slice_index xs (i + 1)) (slice_index xs (i + 2))
-term_joined xs i = λ k. continuations_by (here xs i k) (there xs i 1 k) (there xs i 2 k)
+term_joined xs i = λ k. continuations_by (at_drop_start xs i k) (get_or-drop i xs 1 0 k) (get_or-drop i xs 2 0 k)
 
 pub term_beyond : (xs : List ℕ) (i : ℕ) → extra_bytes (drop i xs) ≡ extra_bytes_by (slice_index xs i) (slice_index xs (i + 1))
-term_beyond xs i = λ k. extra_bytes_by (here xs i k) (there xs i 1 k)
+term_beyond xs i = λ k. extra_bytes_by (at_drop_start xs i k) (get_or-drop i xs 1 0 k)
 
 -- a sum fits
 pub total_fits : (f : List ℕ → ℕ) → ((ys : List ℕ) → f ys ≤ 2) → (xs : List ℕ) (i : ℕ) → length xs < 2 ^ 63 → sum_over_suffixes f (drop i xs) < 2 ^ 64

@@ -1,5 +1,5 @@
 -- A chain of a decoder's calls yields what one call yields: the first parts of the pending bytes and the source.
-use Rattle.std.proofs.Common.{◌≡◌, ℕ, zero, suc, ◌≤◌, ◌⊎◌, inl, inr, Bool, true, false, List, [], ◌∷◌, ◌++◌, length, take, drop, refl, sym, ap, ◌∙◌, arith, subst}
+use Rattle.std.proofs.Common.{◌≡◌, ℕ, zero, suc, ◌+◌, ◌≤◌, ◌⊎◌, inl, inr, Bool, true, false, List, [], ◌∷◌, ◌++◌, length, take, drop, refl, sym, ap, ◌∙◌, arith, subst}
 use Rattle.std.specs.Prelude.{Any}
 use Rattle.std.specs.List.{flat_map}
 use Rattle.std.proofs.lemmas.Bool.{or_parts}
@@ -12,6 +12,7 @@ use Rattle.encoding_text.specs.declared.decoder.DecoderResult.TheVariants.{Input
 use Rattle.encoding_definitions.proofs.DecompositionLemmas.{StartsWith-bytes}
 use Rattle.encoding_text.proofs.RepairingLemmas.{yields_then}
 use Rattle.encoding_runs.specs.Calls.{CallRelation, Call, IsChain, read_in_all, pending_after, some_last, AreYieldedInSequence, YieldTheParts}
+use Rattle.encoding_definitions.proofs.AnyLemmas.{Any-cons, Any-none}
 
 -- ---- one call, among all unread bytes
 -- a piece and the bytes after it are all bytes
@@ -57,14 +58,6 @@ decoded_empty encode need p src room last result read out q call marked e =
     let empty = subst (λ x. DecodeStep encode need p src room last x read out q) e call in
     (empty.answer.0, empty.answer.2 marked)
 
--- ---- some of several
-pub any_parts : {X : Type 0} (P : X → Type 0) (x : X) (xs : List X) → Any P (x ∷ xs) → P x ⊎ Any P xs
-any_parts P x xs (zero, y, l, e, h) = inl (subst P (sym e) h)
-any_parts P x xs (suc k, y, l, e, h) = inr (k, y, omega (arith, l), e, h)
-
-pub none_of_nil : {X : Type 0} (P : X → Type 0) → Any P [] → ⊥
-none_of_nil P (k, y, l, e, h) = omega (arith, l)
-
 -- ---- the chain, of calls that each yield first parts
 module _ {Form Result A : Type 0} (Does : CallRelation Form Result A) (AreYielded : Form → Result → List A → List Part → Type 0)
     (yields : (p src : List ℕ) (form : Form) (last : Bool) (result : Result) (read : ℕ) (out : List A) (q : List ℕ) → Does p src form last result read out q
@@ -101,10 +94,10 @@ module _ {Form Result A : Type 0} (Does : CallRelation Form Result A) (AreYielde
     Ends call = (call.last ≡ true) × IsInputEmpty call.result
 
     chain_ends : (p b : List ℕ) (calls : List (Call Form Result A)) → IsChain Does p b calls → Any Ends calls → (read_in_all calls ≡ length b) × (pending_after p calls ≡ [])
-    chain_ends p b [] c some = absurd (none_of_nil Ends some)
+    chain_ends p b [] c some = absurd (Any-none Ends some)
     chain_ends p b (call ∷ calls) (does, whole, c) some =
         let (first, are, g) = yields p (take call.piece b) call.form call.last call.result call.read call.out call.pending does in
-        elim (any_parts Ends call calls some) [
+        elim (Any-cons Ends call calls some) [
           | inl (last, empty) ↦
               let all = ends p (take call.piece b) call.form call.last call.result call.read call.out call.pending does last empty in
               let rest = nothing_left call.pending (drop call.read b) calls all.1 (omega (arith, all.0, whole last, length-take call.piece b, length-drop call.read b)) c in

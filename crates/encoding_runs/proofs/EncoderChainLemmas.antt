@@ -14,7 +14,7 @@ use Rattle.encoding_text.proofs.EncoderCallLemmas.{AreCodeUnits-append, AreCodeU
 use Rattle.encoding_text.specs.declared.utf_8.encoder.EncoderResult.{EncoderResult}
 use Rattle.encoding_text.specs.declared.utf_8.encoder.EncoderResult.TheVariants.{InputEmpty}
 use Rattle.encoding_runs.specs.Calls.{Call, IsChain, read_in_all, output_of, pending_after, some_last, EncodesFirstParts}
-use Rattle.encoding_runs.proofs.ChainLemmas.{any_parts, none_of_nil}
+use Rattle.encoding_definitions.proofs.AnyLemmas.{Any-cons, Any-none}
 
 -- ---- one call on the first unread units
 -- the units after its piece are a continuation of it
@@ -80,12 +80,12 @@ Ends call = (call.last ≡ true) × (call.result ≡ InputEmpty)
 
 -- nothing is left after a call that is marked last and returns `InputEmpty`
 chain_ends : (calls : List (Call ℕ EncoderResult ℕ)) (surrogate unread : List ℕ) → IsChain EncodeStep surrogate unread calls → Any Ends calls → AreCodeUnits unread → pending_after surrogate calls ++ drop (read_in_all calls) unread ≡ []
-chain_ends [] surrogate unread chain s a = absurd (none_of_nil Ends s)
+chain_ends [] surrogate unread chain s a = absurd (Any-none Ends s)
 chain_ends (call ∷ calls) surrogate unread (c, reaches, chain) s a =
     let following : List ℕ = drop call.read unread in
     let are : AreCodeUnits following = AreCodeUnits-following unread call.read a in
     ap (λ xs. pending_after call.pending calls ++ xs) (sym (drop-drop (read_in_all calls) call.read unread))
-    ∙ elim (any_parts Ends call calls s) [
+    ∙ elim (Any-cons Ends call calls s) [
       | inl (l, e) ↦
           let ended = all_encoded _ _ _ _ _ _ _ _ c l e in
           let rest : List ℕ = pending_after call.pending calls ++ (drop (read_in_all calls) following ++ []) in

@@ -17,9 +17,10 @@ use Rattle.encoding_runs.specs.declared.run.turns.Turn.{Turn}
 use Rattle.encoding_runs.specs.declared.run.encoding.EncodeOutcome.{EncodeOutcome}
 use Rattle.encoding_runs.specs.Runs.{room_of, is_marked_last, AreOfTurns, IsRun, EachMakesProgress, Completes, EncodesByTurns}
 use Rattle.encoding_runs.specs.Calls.{Call, IsChain, output_of}
-use Rattle.encoding_runs.proofs.TurnLemmas.{WritesPrefix_within, same_call}
+use Rattle.encoding_runs.proofs.TurnLemmas.{same_call}
 use Rattle.encoding_runs.proofs.CompletionLemmas.{GoesOn, marked}
 use Rattle.encoding_runs.proofs.EncoderChainLemmas.{Ends, chain_encodes}
+use Rattle.encoding_text.proofs.WholePrefixesLemmas.{written_within}
 
 -- ---- what a run writes
 pub run_encodes : (surrogate src : List ℕ) (turns : List Turn) (old new : List ℕ) (outcome : EncodeOutcome) (after : List ℕ) → IsPendingSurrogate surrogate → AreCodeUnits src
@@ -39,7 +40,7 @@ module _ (surrogate unread left sub : List ℕ) (turn : Turn) (piece room : ℕ)
       (length-take room left ∙ omega (arith, q)) l (sym (take-append-le written sub (drop room left) (omega (arith, w.fits, WritesPrefix-length _ _ _ _ w))))
 
   pub turn_rest : WritesPrefix left (sub ++ drop room left) written (take written (sub ++ drop room left))
-  turn_rest = written_prefix _ _ _ _ (WritesPrefix_within left sub room written (take written sub) w)
+  turn_rest = written_prefix _ _ _ _ (written_within left sub room written (take written sub) w)
 
 -- ---- enough turns
 -- nothing is unread and the last call returned `InputEmpty`, or as many turns are left as the units need

@@ -3,7 +3,7 @@ use Rattle.std.proofs.Common.{◌≡◌, ℕ, ◌+◌, ◌-◌, ◌≤◌, Bool,
 use Rattle.std.specs.List.{last_or}
 use Rattle.std.proofs.lemmas.Bool.Decides.{nat_tests}
 use Rattle.std.proofs.lemmas.Grind.{flat_map-append}
-use Rattle.std.proofs.lemmas.List.{append-nil, append_assoc, length-append, length-drop, length-take, take-append-drop, take_rest, drop-append-le, drop-drop}
+use Rattle.std.proofs.lemmas.List.{append-nil, append_assoc, length-append, length-drop, take_rest, drop-drop}
 use borrow.Rule.Slice.PartMut.{put_mid}
 use Rattle.encoding_definitions.specs.Prefixes.{WritesPrefix}
 use Rattle.encoding_text.specs.Decoding.{DecodeStep}
@@ -16,15 +16,6 @@ use Rattle.encoding_runs.specs.declared.run.decoding.Report.{Report}
 use Rattle.encoding_runs.specs.declared.run.decoding.Outcome.{Outcome}
 use Rattle.encoding_runs.specs.Calls.{CallRelation, Call, IsChain, read_in_all, output_of, pending_after}
 use Rattle.encoding_runs.specs.Steps.{report_of, reports_of_calls, IsReportedRun}
-
--- what a call wrote into a prefix of the destination
-pub WritesPrefix_within : {A : Type 0} (old sub : List A) (room n : ℕ) (out : List A) → WritesPrefix (take room old) sub n out → WritesPrefix old (sub ++ drop room old) n out
-WritesPrefix_within old sub room n out w = record {
-  count = w.count;
-  fits = omega (arith, w.fits, length-take room old);
-  placed = ap (λ xs. xs ++ drop room old) w.placed ∙ append_assoc out (drop n (take room old)) (drop room old)
-      ∙ ap (λ xs. out ++ xs) (sym (drop-append-le n (take room old) (drop room old) w.fits) ∙ ap (drop n) (take-append-drop room old));
-}
 
 -- a turn that is marked last takes all that is unread
 marked : (turn : Turn) (unread : ℕ) → is_marked_last turn unread ≡ true → unread ≤ turn.take

@@ -20,6 +20,7 @@ use Rattle.encoding_definitions.proofs.EncodingLemmas.{flat_map-encode_utf8}
 use Rattle.encoding_definitions.specs.Prefixes.{IsLongestFittingPrefix, WritesPrefix}
 use Rattle.encoding_definitions.proofs.PrefixesLemmas.{IsLongestFittingPrefix-all, IsLongestFittingPrefix-stop, WritesPrefix_after, WritesPrefix-length, IsLongestFittingPrefix-cons, IsLongestFittingPrefix-map, length-prefix, written_is, written_prefix}
 use borrow.Rule.Slice.PartMut.{put_mid}
+use Rattle.encoding_kernels.proofs.UnitBlocksLemmas.{utf8_plain}
 
 -- ---- the parts to be written stay parts
 -- a high surrogate that ends the parts ends their units
@@ -180,12 +181,8 @@ module _ (text : List ℕ) (room n : ℕ) (u : IsUtf8 text) (b : IsCharBoundary 
   text_prefix = rw (prefix_length_by, prefix_text, whole_text) at (prefix_fits (chars (drop n text)) refl)
 
 -- ---- the characters to be written
-text_bytes : (cs : List ℕ) → flat_map utf8_of_part16 (map Character16 cs) ≡ encode_utf8_all cs
-text_bytes [] = refl
-text_bytes (c ∷ cs) = ap (λ xs. encode_utf8 c ++ xs) (text_bytes cs)
-
 due_bytes : (text : List ℕ) → IsUtf8 text → flat_map utf8_of_part16 (encodable_with_text [] text) ≡ text
-due_bytes text u = text_bytes (chars text) ∙ encodes-chars text u
+due_bytes text u = utf8_plain (chars text) ∙ encodes-chars text u
 
 module _ (text : List ℕ) (room n : ℕ) (out : List ℕ) (u : IsUtf8 text) (f : IsLongestFittingPrefix encode_utf8 encode_utf8 (chars text) room n (take n text)) (e : take n text ≡ out) where
   fits_text : IsLongestFittingPrefix text_bytes_of utf8_of_part16 (encodable_with_text [] text) room n out

@@ -20,6 +20,7 @@ use Rattle.encoding_definitions.proofs.PrefixesLemmas.{IsLongestFittingPrefix-st
 use Rattle.encoding_definitions.proofs.Utf16Lemmas.{parts_of, parts_exist, ArePartsOf16-cons, halves, length-units_of_part16}
 use Rattle.encoding_definitions.proofs.Utf16PrefixLemmas.{all_fit, units_counted}
 use Rattle.encoding_kernels.proofs.AsciiLemmas.{Each-take}
+use Rattle.encoding_kernels.proofs.PairsLemmas.{high_decided}
 
 -- ---- which unit stays pending
 -- the units from this index on stay pending
@@ -39,15 +40,6 @@ last_of_push prefix u = ap (λ n. get_or (prefix ++ u ∷ []) n 0) {x = length (
 pub ends_high_last : (us : List ℕ) → EndsHigh us → (0 < length us) × IsHighSurrogate (get_or us (length us - 1) 0)
 ends_high_last us h = (omega (arith, ap length h.2, length_push h.0 h.1), subst IsHighSurrogate (sym (ap (λ xs. get_or xs (length xs - 1) 0) h.2 ∙ last_of_push h.0 h.1)) h.3)
 
-decide_high : (u : ℕ) → IsHighSurrogate u ⊎ (IsHighSurrogate u → ⊥)
-decide_high u = elim (cases_lt u 0xD800) [
-  | inl a ↦ inr (λ p. omega arith)
-  | inr a ↦ elim (cases_lt 0xDBFF u) [
-    | inl b ↦ inr (λ p. omega arith)
-    | inr b ↦ inl (a, b)
-  ]
-]
-
 all_due : (us : List ℕ) (last : Bool) → (last ≡ false → EndsHigh us → ⊥) → LeavesOpen us last (length us)
 all_due us last n = record {
   within = omega arith;
@@ -59,7 +51,7 @@ all_due us last n = record {
 pub leaves_open : (us : List ℕ) (last : Bool) → (n : ℕ) × LeavesOpen us last n
 leaves_open us true = (length us, all_due us true (λ e. absurd (cc (e))))
 leaves_open [] false = (0, all_due [] false (λ e h. omega (arith, (ends_high_last [] h).0)))
-leaves_open (u ∷ us) false = elim (decide_high (get_or (u ∷ us) (length us) 0)) [
+leaves_open (u ∷ us) false = elim (high_decided (get_or (u ∷ us) (length us) 0)) [
   | inl h ↦ (
     length us,
     record {

@@ -6,7 +6,7 @@ use Rattle.std.proofs.str.Laws.{two}
 use Rattle.std.proofs.lemmas.Bool.{cases_lt}
 use Rattle.std.proofs.lemmas.Grind.{common_steps}
 use Rattle.std.proofs.lemmas.List.{append-nil, length-append, length-map, length-drop, length-take, length-take-le, get_or-drop, get_or-take, get_or_past, drop-drop, take_all, take_more, take_rest, drop_more, take-append-drop, map_more, map-append}
-use Rattle.std.proofs.lemmas.Str.{length-le-encodes, encodes-append, encode_ascii, encodes-IsAscii, chars-IsAscii, chars-append, IsUtf8-from_ascii}
+use Rattle.std.proofs.lemmas.Str.{encodes-append, encode_ascii, encodes-IsAscii, chars-IsAscii, chars-append, IsUtf8-from_ascii}
 use Rattle.std.proofs.Math.Seq.{drop-append_seam, take-append_seam}
 use borrow.Rule.Slice.PartMut.{put_mid}
 use Rattle.encoding_definitions.proofs.EncodingLemmas.{flat_map-encode_utf8}
@@ -53,9 +53,6 @@ length_two c h = elim (cases_lt c 128) [
   | inl p ↦ rw (encode_ascii c p) (omega arith)
   | inr p ↦ rw (two c p (omega arith)) (omega arith)
 ]
-
-pub length_some : (c : ℕ) → 0 < length (encode_utf8 c)
-length_some c = omega (arith, length-le-encodes (c ∷ []), ap length (append-nil (encode_utf8 c)))
 
 twice : (xs : List ℕ) → ((i : ℕ) → slice_index xs i < 256) → length (encode_utf8_all xs) ≤ 2 * length xs
 twice [] h = omega arith

@@ -2,8 +2,9 @@ use Rattle.std.proofs.Common.{◌≡◌, length, take, ap, ◌∙◌, refl, arit
 use Rattle.std.proofs.lemmas.List.{length-take, take_min}
 use Rattle.encoding_text.specs.Decoding.{DecodeStep}
 use Rattle.encoding_runs.specs.Runs.{room_of}
-use Rattle.encoding_runs.proofs.TurnLemmas.{WritesPrefix_within, same_call}
+use Rattle.encoding_runs.proofs.TurnLemmas.{same_call}
 use Rattle.encoding_runs.proofs.run.decoding.make_call.Goals as goal
+use Rattle.encoding_text.proofs.WholePrefixesLemmas.{written_within}
 
 pub returns : goal.returns
 returns g c =
@@ -15,7 +16,7 @@ returns g c =
     record {
       call = (
         d.0,
-        WritesPrefix_within left c.decode.new.dst c.room_of-room.result c.decode.result.2 d.0 d.1,
+        written_within left c.decode.new.dst c.room_of-room.result c.decode.result.2 d.0 d.1,
         same_call (DecodeStep g.U.CodeUnit.encode g.U.CodeUnit.need) _ _ _ _ _ _ _ _ _ _ _ _ _ d.2 refl
             (ap (λ n. take n unread) c.piece_length-piece.ensures ∙ take_min turn.take unread) room c.is_marked_last.ensures refl,
       );

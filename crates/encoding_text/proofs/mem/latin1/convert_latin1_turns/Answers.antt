@@ -5,10 +5,11 @@ use Rattle.encoding_definitions.specs.Prefixes.{WritesPrefix}
 use Rattle.std.proofs.lemmas.Bool.{cases_lt}
 use Rattle.encoding_definitions.proofs.PrefixesLemmas.{WritesPrefix-length}
 use Rattle.encoding_kernels.proofs.UnitBlocksLemmas.{ascii_left}
-use Rattle.encoding_text.proofs.Latin1ConversionLemmas.{latin1_bytes_two, latin1_fits_all, latin1_fits_stop, latin1_turn, length_some}
+use Rattle.encoding_text.proofs.Latin1ConversionLemmas.{latin1_bytes_two, latin1_fits_all, latin1_fits_stop, latin1_turn}
 use Rattle.encoding_text.proofs.WholePrefixesLemmas.{other_after}
 use Rattle.encoding_text.proofs.mem.latin1.convert_latin1_turns.Goals as goal
 use Rattle.encoding_text.proofs.mem.latin1.convert_latin1_turns.Goals.{then-read-src-via-then-read-src, then-read-src-via-else-read-src+then-dst-written-lt-HIGH_LENGTH}
+use Rattle.encoding_text.proofs.OneResultLemmas.{length-encode-some}
 
 pub loop-read-init : goal.loop-read-init
 loop-read-init c =
@@ -95,6 +96,6 @@ returns-then-read-src-clause-prefix c =
             let other = other_after xs _ at to n inside (omega (arith, long)) call.stops in
             let two = latin1_bytes_two (slice_index xs (at + n)) other (omega (arith, c.type_inv.src (at + n))) in
             latin1_fits_stop xs (at + n) _ inside (omega (arith, w.count, w.fits)) (omega (arith, w.count, WritesPrefix-length _ _ _ _ w, r.if-dst-written-lt-HIGH_LENGTH.true, ap length two))
-        | inr p ↦ latin1_fits_stop xs (at + n) _ (omega (arith, call.within, r.if-read-src.false)) (omega (arith, w.count, w.fits)) (omega (arith, w.count, length_some (slice_index xs (at + n))))
+        | inr p ↦ latin1_fits_stop xs (at + n) _ (omega (arith, call.within, r.if-read-src.false)) (omega (arith, w.count, w.fits)) (omega (arith, w.count, length-encode-some (slice_index xs (at + n))))
       ]
     ]

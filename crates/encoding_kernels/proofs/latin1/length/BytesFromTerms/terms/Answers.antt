@@ -2,7 +2,8 @@ use Rattle.std.proofs.Common.{◌+◌, ◌∙◌, ap, arith, leb, nat_le, slice_
 use mir.Val.{bool_byte}
 use Rattle.encoding_kernels.proofs.LaneLemmas.{HasLanes_load, HasLanes_same, HasLanes-splat}
 use Rattle.encoding_kernels.proofs.TestLemmas.{chosen, tests_of}
-use Rattle.encoding_kernels.proofs.TotalLemmas.{one_or_none, here}
+use Rattle.encoding_kernels.proofs.TotalLemmas.{one_or_none}
+use Rattle.encoding_definitions.proofs.Latin1Lemmas.{at_drop_start}
 use Rattle.encoding_kernels.proofs.latin1.length.BytesFromTerms.terms.Goals as goal
 
 pub returns : goal.returns
@@ -12,4 +13,4 @@ returns g c =
     let at = c.args.at in
     let n = g.row.N in
     let counted = tests_of w8 leb (HasLanes-splat n s.least) (HasLanes_load at n bs (omega arith)) in
-    HasLanes_same (chosen 1 0 counted) (λ k l. one_or_none (leb s.least (slice_index bs (at + k))) ∙ ap (λ b. bool_byte (nat_le s.least b)) (sym (here bs (at + k))))
+    HasLanes_same (chosen 1 0 counted) (λ k l. one_or_none (leb s.least (slice_index bs (at + k))) ∙ ap (λ b. bool_byte (nat_le s.least b)) (sym (at_drop_start bs (at + k))))
