@@ -14,7 +14,9 @@ use Rattle.encoding_text.specs.declared.decoder.DecoderResult.TheVariants.{Input
 use Rattle.encoding_text.proofs.RoomLemmas.{counts, progress}
 use Rattle.encoding_runs.specs.declared.run.turns.Turn.{Turn}
 use Rattle.encoding_runs.specs.Runs.{room_of, is_marked_last, AreOfTurns, EachMakesProgress}
-use Rattle.encoding_runs.specs.Calls.{Call, IsChain}
+use Rattle.std.specs.Prelude.{min, Any}
+use Rattle.encoding_runs.specs.Calls.{CallRelation, Call, IsChain}
+use Rattle.encoding_definitions.proofs.AnyLemmas.{Any-here, Any-there}
 use Rattle.encoding_runs.proofs.TurnLemmas.{turn_call}
 use Rattle.std.specs.Char.Escape.{encode_utf16}
 use Rattle.std.proofs.lemmas.Str.{encodes-chars, scalars-chars}
@@ -37,6 +39,42 @@ GoesOn need turn = (1 ≤ turn.take) × (need ≤ turn.room) × (turn.last ≡ t
 pub marked : (turn : Turn) (n : ℕ) → turn.last ≡ true → n ≤ turn.take → is_marked_last turn n ≡ true
 marked turn n e l = λ i. e i && le-leb n turn.take l i
 
+-- ---- a run of such turns
+-- Each call leaves space enough and less work, or it is marked last, returns `empty` and leaves no work.
+module _ {Result A : Type 0} (Does : CallRelation ℕ Result A) (empty : Result) (need : ℕ) (Fits : List ℕ → List ℕ → ℕ → Type 0) (work : List ℕ → List ℕ → ℕ) where
+  abbrev Ends : Call ℕ Result A → Type 0
+  Ends call = (call.last ≡ true) × (call.result ≡ empty)
+
+  abbrev pub GetsOn : List ℕ → List ℕ → Turn → Result → List ℕ → List ℕ → Type 0
+  GetsOn p unread turn result q rest = (work q rest < work p unread) ⊎ ((is_marked_last turn (length unread) ≡ true) × (result ≡ empty) × (work q rest ≡ 0))
+
+  abbrev pub EachGetsOn : Type 0
+  EachGetsOn =
+      (p unread : List ℕ) (left : ℕ) (turn : Turn) (result : Result) (read : ℕ) (out : List A) (q : List ℕ) → GoesOn need turn → Fits p unread left
+      → Does p (take turn.take unread) (room_of turn left) (is_marked_last turn (length unread)) result read out q
+      → Fits q (drop read unread) (left - length out) × GetsOn p unread turn result q (drop read unread)
+
+  pub turns_complete : (on : EachGetsOn) (turns : List Turn) (calls : List (Call ℕ Result A)) (p unread : List ℕ) (left : ℕ) (before : Option Result)
+      → AllByRecursion (GoesOn need) turns → Fits p unread left → IsChain Does p unread calls → AreOfTurns (length unread) left turns calls
+      → (work p unread < length turns) ⊎ ((work p unread ≡ 0) × (before ≡ Some empty))
+      → (last_or before (map (λ call. call.result) calls) ≡ Some empty) × (work p unread < length turns → Any Ends calls)
+  turns_complete on [] [] p unread left before each fits chain t (inl l) = absurd (omega (arith, l))
+  turns_complete on [] [] p unread left before each fits chain t (inr (none, e)) = (e, λ l. absurd (omega (arith, l)))
+  turns_complete on [] (call ∷ calls) p unread left before each fits chain t due = absurd t
+  turns_complete on (turn ∷ turns) [] p unread left before each fits chain t due = absurd t
+  turns_complete on (turn ∷ turns) (call ∷ calls) p unread left before (each, more) fits (does, whole, chain) (piece, room, last, t) due =
+      let step = on p unread left turn call.result call.read call.out call.pending each fits (turn_call Does p unread left turn call does piece room last) in
+      let others : AreOfTurns (length (drop call.read unread)) (left - length call.out) turns calls =
+      subst (λ n. AreOfTurns n (left - length call.out) turns calls) (sym (length-drop call.read unread)) t in
+      let following = turns_complete on turns calls call.pending (drop call.read unread) (left - length call.out) (Some call.result) more step.0 chain others in
+      elim step.1 [
+        | inl less ↦
+            let fewer : work call.pending (drop call.read unread) < length turns = elim due [ inl d ↦ omega (arith, less, d) | inr d ↦ omega (arith, less, d.0) ] in
+            let rest = following (inl fewer) in
+            (rest.0, λ _. Any-there Ends call calls (rest.1 fewer))
+        | inr (marks, e, none) ↦ ((following (inr (none, ap Some e))).0, λ _. Any-here Ends call calls (last ∙ marks, e))
+      ]
+
 module _ {A : Type 0} (encode : ℕ → List A) (need : ℕ) (some : 0 < need) (short : (c : ℕ) → IsScalar c → length (encode c) ≤ length (encode_utf8 c)) where
   short_output : (cs : List ℕ) → all_scalars cs ≡ true → length (flat_map encode cs) ≤ length (encode_utf8_all cs)
   short_output [] h = omega arith
@@ -45,72 +83,45 @@ module _ {A : Type 0} (encode : ℕ → List A) (need : ℕ) (some : 0 < need) (
       omega (arith, short_output cs both.1, short c both.0, length-append (encode c) (flat_map encode cs), length-append (encode_utf8 c) (encode_utf8_all cs))
 
   -- ---- one call
-  -- it reads a byte, or reports pending bytes, or all was read before and it reaches the end
-  abbrev GetsOn : List ℕ → List ℕ → DecoderResult → ℕ → List ℕ → Type 0
-  GetsOn p unread result read q = (0 < read) ⊎ (((q ≡ []) × (0 < length p)) ⊎ ((result ≡ InputEmpty) × (q ≡ []) × (length unread ≡ 0)))
+  abbrev Fits : List ℕ → List ℕ → ℕ → Type 0
+  Fits p unread left = length unread + (need - 1) + length p ≤ left
 
-  gets_on : (p unread : List ℕ) (room : ℕ) (turn : Turn) (result : DecoderResult) (read : ℕ) (out : List A) (q : List ℕ)
-      → 1 ≤ turn.take → need ≤ turn.room → turn.last ≡ true → length unread + (need - 1) + length p ≤ room
-      → DecodeStep encode need p (take turn.take unread) (room_of turn room) (is_marked_last turn (length unread)) result read out q → GetsOn p unread result read q
-  gets_on p unread room turn InputEmpty read out q one wide last l call = elim (cases_lt 0 (length unread)) [
-    | inl h ↦ inl (omega (arith, call.answer.0, length-take turn.take unread))
-    | inr h ↦ inr (inr (refl, call.answer.2 (marked turn (length unread) last (omega arith)), omega arith))
+  -- two calls for each byte unread, and one for pending bytes
+  abbrev work : List ℕ → List ℕ → ℕ
+  work p unread = 2 * length unread + min 1 (length p)
+
+  reads_on : (p unread q : List ℕ) (read : ℕ) → 0 < read → read ≤ length unread → work q (drop read unread) < work p unread
+  reads_on p unread q read some inside = omega (arith, length-drop read unread)
+
+  gets_on : (p unread : List ℕ) (left : ℕ) (turn : Turn) (result : DecoderResult) (read : ℕ) (out : List A) (q : List ℕ) → GoesOn need turn → Fits p unread left → read ≤ length unread
+      → DecodeStep encode need p (take turn.take unread) (room_of turn left) (is_marked_last turn (length unread)) result read out q
+      → GetsOn (DecodeStep encode need) InputEmpty need Fits work p unread turn result q (drop read unread)
+  gets_on p unread left turn InputEmpty read out q (one, wide, last) l inside call = elim (cases_lt 0 (length unread)) [
+    | inl h ↦ inl (reads_on p unread q read (omega (arith, call.answer.0, length-take turn.take unread)) inside)
+    | inr h ↦ let marks = marked turn (length unread) last (omega arith) in inr (marks, refl, omega (arith, ap length (call.answer.2 marks), length-drop read unread))
   ]
-  gets_on p unread room turn OutputFull read out q one wide last l call =
+  gets_on p unread left turn OutputFull read out q (one, wide, last) l inside call =
       elim (progress OutputFull call (omega (arith, call.answer.0)) (omega (arith, call.answer.0, length-take turn.take unread))) [
-        | inl h ↦ inl h
+        | inl h ↦ inl (reads_on p unread q read h inside)
         | inr (k, second, e) ↦ let no : OutputFull ≡ Malformed k second = e in cc
       ]
-  gets_on p unread room turn (Malformed k second) read out q one wide last l call = elim (cases_lt 0 read) [
-    | inl h ↦ inl h
-    | inr h ↦ let c = counts short_output (Malformed k second) call in inr (inl (call.answer.5, omega (arith, (c.reported (k, second, refl)).0)))
+  gets_on p unread left turn (Malformed k second) read out q (one, wide, last) l inside call = elim (cases_lt 0 read) [
+    | inl h ↦ inl (reads_on p unread q read h inside)
+    | inr h ↦ let c = counts short_output (Malformed k second) call in inl (omega (arith, ap length call.answer.5, (c.reported (k, second, refl)).0, length-drop read unread))
   ]
 
   -- the space left is enough for the bytes left
-  room_after : (p unread : List ℕ) (room : ℕ) (turn : Turn) (last : Bool) (result : DecoderResult) (read : ℕ) (out : List A) (q : List ℕ)
-      → length unread + (need - 1) + length p ≤ room → DecodeStep encode need p (take turn.take unread) (room_of turn room) last result read out q
-      → (read ≤ length unread) × (length (drop read unread) + (need - 1) + length q ≤ room - length out)
-  room_after p unread room turn last result read out q l call =
+  each_on : EachGetsOn (DecodeStep encode need) InputEmpty need Fits work
+  each_on p unread left turn result read out q goes l call =
       let c = counts short_output result call in
       let inside : read ≤ length unread = omega (arith, c.within, length-take turn.take unread) in
-      (inside, omega (arith, l, inside, c.split, length-drop read unread))
-
-  -- ---- all calls
-  -- enough turns are left, with one more counted for pending bytes; or the end is reached
-  abbrev Reaches : List ℕ → ℕ → ℕ → Option DecoderResult → Type 0
-  Reaches p unread turns before = ((w : ℕ) × (0 < length p → 1 ≤ w) × (2 * unread + w + 1 ≤ turns)) ⊎ ((unread ≡ 0) × (length p ≡ 0) × (before ≡ Some InputEmpty))
-
-  reaches_on : (p unread q : List ℕ) (turns : ℕ) (before : Option DecoderResult) (result : DecoderResult) (read : ℕ) → read ≤ length unread → GetsOn p unread result read q
-      → Reaches p (length unread) (turns + 1) before → Reaches q (length unread - read) turns (Some result)
-  reaches_on p unread q turns before result read inside (inl h) (inl (w, some, l)) = inl (1, (λ _. omega arith), omega (arith, h, inside, l))
-  reaches_on p unread q turns before result read inside (inr (inl (none, h))) (inl (w, some, l)) = inl (0, (λ n. omega (arith, n, ap length none)), omega (arith, some h, l))
-  reaches_on p unread q turns before result read inside (inr (inr (e, none, h))) (inl r) = inr (omega (arith, h), ap length none, ap (λ x. Some x) e)
-  reaches_on p unread q turns before result read inside (inl h) (inr (all, nil, e)) = absurd (omega (arith, h, inside, all))
-  reaches_on p unread q turns before result read inside (inr (inl (none, h))) (inr (all, nil, e)) = absurd (omega (arith, h, nil))
-  reaches_on p unread q turns before result read inside (inr (inr (e, none, h))) (inr r) = inr (omega (arith, h), ap length none, ap (λ x. Some x) e)
-
-  reaches : (p unread : List ℕ) (room : ℕ) (turns : List Turn) (calls : List (Call ℕ DecoderResult A)) (before : Option DecoderResult) → Reaches p (length unread) (length turns) before
-      → AllByRecursion (GoesOn need) turns → length unread + (need - 1) + length p ≤ room → IsChain (DecodeStep encode need) p unread calls → AreOfTurns (length unread) room turns calls
-      → last_or before (map (λ call. call.result) calls) ≡ Some InputEmpty
-  reaches p unread room [] [] before (inl (w, h, l)) each m c t = absurd (omega (arith, l))
-  reaches p unread room [] [] before (inr (all, nil, e)) each m c t = e
-  reaches p unread room [] (call ∷ calls) before r each m c t = absurd t
-  reaches p unread room (turn ∷ turns) [] before r each m c t = absurd t
-  reaches p unread room (turn ∷ turns) (call ∷ calls) before r ((one, wide, last), each) m (does, whole, c) (e, f, g, t) =
-      let is_call = turn_call (DecodeStep encode need) p unread room turn call does e f g in
-      let on = gets_on p unread room turn call.result call.read call.out call.pending one wide last m is_call in
-      let left = room_after p unread room turn (is_marked_last turn (length unread)) call.result call.read call.out call.pending m is_call in
-      let next = reaches_on p unread call.pending (length turns) before call.result call.read left.0 on (subst (λ n. Reaches p (length unread) n before) (omega arith) r) in
-      let fewer : length (drop call.read unread) ≡ length unread - call.read = length-drop call.read unread in
-      reaches call.pending (drop call.read unread) (room - length call.out) turns calls (Some call.result)
-      (subst (λ n. Reaches call.pending n (length turns) (Some call.result)) (sym fewer) next) each left.1 c
-      (subst (λ n. AreOfTurns n (room - length call.out) turns calls) (sym fewer) t)
+      (omega (arith, l, inside, c.split, length-drop read unread), gets_on p unread left turn result read out q goes l inside call)
 
   pub completes : (p src : List ℕ) (room : ℕ) (turns : List Turn) (calls : List (Call ℕ DecoderResult A)) (before : Option DecoderResult) → 2 * length src + 2 ≤ length turns → EachMakesProgress need turns
       → length src + (need - 1) + length p ≤ room → IsChain (DecodeStep encode need) p src calls → AreOfTurns (length src) room turns calls
       → last_or before (map (λ call. call.result) calls) ≡ Some InputEmpty
   completes p src room turns calls before l each m c t =
-      reaches p src room turns calls before (inl (1, (λ _. omega arith), omega (arith, l))) (recursion_from_All (GoesOn need) turns each) m c t
+      (turns_complete (DecodeStep encode need) InputEmpty need Fits work each_on turns calls p src room before (recursion_from_All (GoesOn need) turns each) m c t (inl (omega (arith, l)))).0
 
 -- the one result of a decode call
 decodes_text : {A : Type 0} (encode : ℕ → List A) (need : ℕ) (src : List ℕ) (room : ℕ) (last : Bool) (r : DecoderResult) (read : ℕ) (out : List A) (q : List ℕ)

@@ -1,11 +1,10 @@
 -- Successive calls of any form yield first parts, and calls with the same arguments return the same.
-use Rattle.std.proofs.Common.{◌≡◌, ℕ, ◌+◌, Bool, true, List, [], ◌∷◌, ◌++◌, length, take, drop, encode_utf8, sym, ap, ◌∙◌, subst, arith}
+use Rattle.std.proofs.Common.{◌≡◌, ℕ, Bool, true, List, [], ◌∷◌, ◌++◌, length, take, drop, encode_utf8, sym, ap, ◌∙◌, subst, arith}
 use Rattle.std.specs.Char.Escape.{encode_utf16}
-use Rattle.std.specs.List.{AllZip, flat_map}
-use Rattle.std.proofs.lemmas.List.{drop_all, length-append, length-drop, nil_from_length}
+use Rattle.std.specs.List.{AllZip}
+use Rattle.std.proofs.lemmas.List.{drop_all}
 use Rattle.encoding_definitions.specs.Sequence.{IsPending}
-use Rattle.encoding_definitions.specs.Parts.{Part, StartsWith, bytes_of, Yields}
-use Rattle.encoding_definitions.proofs.DecompositionLemmas.{StartsWith-bytes}
+use Rattle.encoding_definitions.specs.Parts.{Part, StartsWith, Yields}
 use Rattle.encoding_text.specs.Decoding.{BorrowedDecodeStep}
 use Rattle.encoding_text.proofs.CallLemmas.{decoded_yields}
 use Rattle.encoding_text.proofs.BorrowedLemmas.{borrowed_yields, same_piece}
@@ -51,24 +50,9 @@ one_call_yields p src form last answer read out q call =
           subst (StartsWith (p ++ src) parts) rest prefix.first;
     }
 
--- a call that yields all parts reads all and leaves nothing pending
-all_read : (p src : List ℕ) (form : Form) (last : Bool) (answer : CallResult) (read : ℕ) (out q : List ℕ) → YieldsFirstParts AreYielded IsInputEmpty p src form last answer read out q
-    → last ≡ true → IsInputEmpty answer → (read ≡ length src) × (q ≡ [])
-all_read p src form last answer read out q g marked e =
-    let bytes : List ℕ = flat_map bytes_of g.parts in
-    let all = ap length (StartsWith-bytes (p ++ src) g.parts [] (g.all marked e)) in
-    let first = ap length (StartsWith-bytes (p ++ src) g.parts (q ++ drop read src) g.prefix.first) in
-    let sizes : length q + length (drop read src) ≡ 0 =
-    omega (arith, all, first, length-append bytes [], length-append bytes (q ++ drop read src), length-append q (drop read src)) in
-    (omega (arith, sizes, length-drop read src, g.prefix.within), nil_from_length q (omega (arith, sizes)))
-
 -- what successive calls yield follows from what each yields
 pub mixed_parts : (p b : List ℕ) (calls : List (Call Form CallResult ℕ)) → IsPending p → IsChain MixedDecodeStep p b calls → YieldTheParts AreYielded IsInputEmpty p b calls
-mixed_parts =
-    chain_yields MixedDecodeStep AreYielded
-    (λ p src form last answer read out q call. let g = one_call_yields p src form last answer read out q call in (g.parts, g.yielded, g.prefix))
-    IsInputEmpty
-    (λ p src form last answer read out q call. all_read p src form last answer read out q (one_call_yields p src form last answer read out q call))
+mixed_parts = chain_yields MixedDecodeStep AreYielded mixed_yields IsInputEmpty mixed_empty
 
 -- ---- the same results
 abbrev Agree : CallResult → ℕ → List ℕ → List ℕ → CallResult → ℕ → List ℕ → List ℕ → Type 0
