@@ -5,7 +5,7 @@ ghost use Rattle.std.specs.Prelude.{◌≡◌, ◌+◌, ◌%◌, ◌<◌, ◌≤
 ghost use Rattle.encoding_definitions.specs.Prefixes.{WritesPrefix};
 ghost use Rattle.encoding_kernels.specs.Scans.{AllBelow, HasLanes};
 
-use crate::simd::width::{HALF_STRIDE, STRIDE};
+use crate::simd::width::{BLOCK, HALF_BLOCK, HALF_STRIDE, STRIDE};
 use crate::tuning::LONGEST_VECTOR_COPY;
 use std::simd::Simd;
 use std::simd::prelude::*;
@@ -51,16 +51,19 @@ fn copy_few(src: &[u8], dst: &mut [u8])
     dst[last] = src[last];
 }
 
-/// Copies `src`, of at least four bytes, to the start of `dst`.
+/// Copies `src`, of at least four bytes, to the start of `dst`. Two vectors that may overlap are enough up to 64 bytes.
 #[inline]
 fn copy_many(src: &[u8], dst: &mut [u8])
-    requires { length src.now ≤ length dst.old }
+    requires many { 4 ≤ length src.now }
+    requires dst_length { length src.now ≤ length dst.old }
     ensures { WritesPrefix dst.old dst.new (length src.now) src.now }
 {
     match src.len() {
-        4..HALF_STRIDE => copy_by_strides::<4>(src, dst),
-        HALF_STRIDE..STRIDE => copy_by_strides::<HALF_STRIDE>(src, dst),
-        STRIDE..=LONGEST_VECTOR_COPY => copy_by_strides::<STRIDE>(src, dst),
+        ..HALF_STRIDE => copy_by_strides::<4>(src, dst),
+        ..STRIDE => copy_by_strides::<HALF_STRIDE>(src, dst),
+        ..HALF_BLOCK => copy_by_strides::<STRIDE>(src, dst),
+        ..=BLOCK => copy_by_strides::<HALF_BLOCK>(src, dst),
+        ..=LONGEST_VECTOR_COPY => copy_by_strides::<STRIDE>(src, dst),
         _ => dst[..src.len()].copy_from_slice(src),
     }
 }
