@@ -3,7 +3,7 @@
 use Rattle.std.proofs.Common.{ℕ, ◌+◌, ◌-◌, ◌<◌, ◌≤◌, inl, inr, List, ◌++◌, length, take, drop, slice_index, ap, eqb, sym, ◌∙◌, arith, subst, append_assoc, Option, Some, None, ◌≡◌, ◌≢◌, Bool, true, false, ◌||◌, leb, w8, bit_or, replicate, length-drop, length-take-le}
 use Rattle.std.proofs.lemmas.Str.{IsUtf8-from_ascii}
 use Rattle.std.specs.Prelude.{IsTrue, ◌↔◌}
-use Rattle.std.specs.Str.{IsAscii}
+use Rattle.std.specs.Str.{IsAscii, IsUtf8}
 use Rattle.std.proofs.lemmas.Bool.{cases_lt, eqb-true, eq-eqb}
 use Rattle.std.proofs.lemmas.List.{take_all, take_rest, take-append-drop, drop-append-le, length-take, length-drop, get_or-take, get_or-drop}
 use Rattle.encoding_definitions.specs.Ascii.{IsFirstOther, prefix_length_by, IsIso2022JpAscii}
@@ -17,6 +17,10 @@ use Rattle.encoding_kernels.proofs.TestLemmas.{HasTests, tests_of, tests_or}
 
 -- ASCII bytes are a text
 pub ruleset ascii_texts = (IsUtf8-from_ascii)
+
+-- ASCII that is the whole list is its longest well-formed prefix
+pub whole_ascii : (xs : List ℕ) (n : ℕ) → n ≡ length xs → IsLongestPrefix IsAscii xs n → IsLongestPrefix IsUtf8 xs n
+whole_ascii xs n whole p = record { within = p.within; kind = IsUtf8-from_ascii _ p.kind; longest = λ m l _. omega (arith, whole, l) }
 
 -- the longest prefix is as long as the list if and only if the whole is of the kind
 pub whole_by_length : {A : Type 0} (K : List A → Type 0) (xs : List A) (n : ℕ) → IsLongestPrefix K xs n → IsTrue (eqb n (length xs)) ↔ K xs

@@ -10,5 +10,5 @@ pub use from_utf16::{convert_utf16_to_utf8_partial_inner, convert_utf16_to_utf8_
 pub use table::{UTF8_DATA, Utf8Data, law_table};
 pub use to_utf16::convert_utf8_to_utf16_up_to_invalid;
 pub(crate) use to_utf16::{CodeUnit, convert_text};
-pub(crate) use validation::character_length;
 pub use validation::utf8_valid_up_to;
+pub(crate) use validation::{character_length, short_valid_up_to};

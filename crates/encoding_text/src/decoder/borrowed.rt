@@ -1,5 +1,5 @@
 //! One call of a decoder that borrows from its source.
-ghost use Rattle.std.specs.Prelude.{◌≡◌, ◌≢◌, ℕ, []};
+ghost use Rattle.std.specs.Prelude.{◌≡◌, ◌≢◌, ℕ, ◌≤◌, [], length};
 ghost use Rattle.std.specs.Str.{IsUtf8};
 ghost use Rattle.encoding_definitions.specs.Sequence.{IsIncomplete};
 ghost use Rattle.encoding_definitions.specs.Prefixes.{IsLongestPrefix};
@@ -7,10 +7,11 @@ ghost use Rattle.encoding_text.specs.Decoding.{BorrowedDecodeStep};
 
 use super::pending::{Pending, Resumed, is_malformed_byte};
 use super::{DecoderResult, Piece};
-use crate::utf_8::utf8_valid_up_to;
+use crate::ascii::short_ascii_valid_up_to;
+use crate::utf_8::{short_valid_up_to, utf8_valid_up_to};
 use encoding_kernels::scalar::decode_utf8_scalar;
 use encoding_kernels::simd::scan::run_len_below;
-use encoding_kernels::simd::width::{ASCII_END, STRIDE};
+use encoding_kernels::simd::width::{ASCII_END, BLOCK, STRIDE};
 
 /// Returns the piece for what ended a call without output.
 fn piece_at_end<'a>(end: DecoderResult) -> Piece<'a>
@@ -42,13 +43,34 @@ pub(crate) fn decode_borrowed<'a>(
     }
 }
 
+/// Returns the length of the longest well-formed prefix of 16 to 64 bytes. If a malformed sequence follows the ASCII
+/// prefix, two vectors show it.
+#[tactic(auto, using(crate::proofs::WholePrefixesLemmas::whole_ascii))]
+#[inline(always)]
+fn short_well_formed_length(src: &[u8]) -> usize
+    requires { (16 ≤ length src.now) × (length src.now ≤ 64) }
+    ensures { IsLongestPrefix IsUtf8 src.now result }
+{
+    let ascii = short_ascii_valid_up_to(src);
+    if ascii == src.len() {
+        return ascii;
+    }
+    if is_malformed_byte(&src[ascii..]) {
+        return ascii;
+    }
+    short_valid_up_to(src)
+}
+
 /// Returns the length of the longest well-formed prefix. Between malformed sequences this is often a few ASCII bytes,
 /// which one vector shows.
 #[inline(always)]
 fn well_formed_length(src: &[u8]) -> usize
     ensures { IsLongestPrefix IsUtf8 src.now result }
 {
-    if src.len() > STRIDE {
+    if STRIDE <= src.len() && src.len() <= BLOCK {
+        return short_well_formed_length(src);
+    }
+    if src.len() > BLOCK {
         let ascii = run_len_below::<STRIDE>(src, 0, ASCII_END);
         if is_malformed_byte(&src[ascii..]) {
             return ascii;

@@ -140,6 +140,19 @@ fn valid_after(src: &[u8], prefix: usize) -> usize
     }
 }
 
+/// Returns the length of the longest well-formed prefix of 16 to 64 bytes, by the vectors that validate any text.
+#[inline(always)]
+pub(crate) fn short_valid_up_to(src: &[u8]) -> usize
+    requires { (16 ≤ length src.now) × (length src.now ≤ 64) }
+    ensures { IsLongestPrefix IsUtf8 src.now result }
+{
+    let well_formed = well_formed_short(src);
+    if well_formed == src.len() {
+        return well_formed;
+    }
+    valid_after(src, well_formed)
+}
+
 /// Returns the length of the longest well-formed prefix. Out of line, so that a short text needs few registers.
 #[inline(never)]
 fn long_valid_up_to(src: &[u8]) -> usize
@@ -154,15 +167,16 @@ fn long_valid_up_to(src: &[u8]) -> usize
 /// Unicode Standard, section 3.9, UTF-8: the bytes of a character match one of the nine rows of Table 3-7, Well-Formed
 /// UTF-8 Byte Sequences. The first byte determines the length and which second bytes are allowed. So no byte of an
 /// overlong form, of an encoded surrogate or above U+10FFFF is in the prefix.
+#[tactic(auto, using(crate::proofs::WholePrefixesLemmas::whole_ascii))]
 pub fn utf8_valid_up_to(src: &[u8]) -> usize
     ensures { IsLongestPrefix IsUtf8 src.now result }
 {
     if src.len() < STRIDE || src.len() > BLOCK {
         return long_valid_up_to(src);
     }
-    let prefix = short_well_formed_prefix(src);
+    let prefix = short_ascii_valid_up_to(src);
     if prefix == src.len() {
         return prefix;
     }
-    valid_after(src, prefix)
+    short_valid_up_to(src)
 }
