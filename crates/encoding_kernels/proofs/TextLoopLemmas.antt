@@ -177,6 +177,21 @@ putting_more src old new sub read written n k room d p =
     drop_past : (xs ys : List ℕ) (j : ℕ) → drop (length xs + j) (xs ++ ys) ≡ drop j ys
     drop_past xs ys j = sym (drop-drop j (length xs) (xs ++ ys)) ∙ ap (drop j) (drop_at xs ys (length xs) refl)
 
+-- the first characters of a text
+pub putting_first : (src old new : List ℕ) (n k : ℕ) → IsUtf8 src → WritesUtf16 src old new n k (units_in src) → Putting src old new n k
+putting_first src old new n k u p = record {
+  done = p.taken;
+  are_scalars = p.are_scalars;
+  within = p.within;
+  spelled = p.spelled;
+  rest = p.rest;
+  due = units_split src old new n k (units_in src) u p;
+  shorter = omega (arith, p.counted, length-utf16 p.taken p.are_scalars, ap length p.spelled, length-take n src);
+  counted = p.counted;
+  placed = p.placed;
+  following = p.following;
+}
+
 -- the rest of the text is written after it
 pub putting_rest : (src old new sub : List ℕ) (read written k : ℕ) → IsUtf8 src → length src ≤ length old → length new ≡ length old → Putting src old new read written
     → WritesPrefix (take (length new - written) (drop written new)) sub k (flat_map encode_utf16 (chars (drop read src)))

@@ -21,6 +21,7 @@ use Rattle.encoding_definitions.proofs.EncodingLemmas.{IsSequence-encode, flat_m
 use Rattle.encoding_definitions.proofs.PrefixesLemmas.{WritesPrefix_after, WritesPrefix-length, WritesPrefix-same, put_mid-same, IsLongestFittingPrefix-all, IsLongestFittingPrefix-stop, flat_map_push, length-prefix}
 use Rattle.encoding_definitions.proofs.Utf8Lemmas.{IsLongestPrefix-utf8, no_character_after}
 use Rattle.encoding_definitions.proofs.DecompositionLemmas.{has_parts}
+use Rattle.encoding_kernels.proofs.TextLoopLemmas.{Putting, due_ascii, putting_first}
 use Rattle.encoding_kernels.proofs.TextUnitsLemmas.{ascii_text}
 
 -- a list, cut after its first items
@@ -292,3 +293,10 @@ converted_first_ascii src old new n p w =
       spelled = text.0.1.1;
       writes = WritesPrefix-same _ _ _ _ _ _ w refl (sym text.1 ∙ ap (flat_map encode_utf16) (sym (chars_from_encodes text.0.0 _ text.0 text.0.1.1)));
     }
+
+-- a text whose ASCII prefix is written
+pub putting_ascii : (src old new : List ℕ) (n : ℕ) → IsUtf8 src → length src ≤ length old
+    → IsLongestPrefix IsAscii (take (length old) src) n → WritesPrefix old new n (take n src) → Putting src old new n n
+putting_ascii src old new n u room p w =
+    let prefix = subst (λ xs. IsLongestPrefix IsAscii xs n) (take_all (length old) src room) p in
+    putting_first src old new n n u (due_ascii src old new n u prefix.within prefix.kind w)

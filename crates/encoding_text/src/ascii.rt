@@ -371,7 +371,7 @@ pub(crate) fn copy_to_basic_latin(src: &[u8], dst: &mut [u16]) -> usize
 }
 
 /// The least length of a text whose UTF-16 has at least as many code units as a block.
-const BLOCK_OF_TEXT: usize = 3 * BLOCK;
+pub(crate) const BLOCK_OF_TEXT: usize = 3 * BLOCK;
 
 /// The least length of a text whose UTF-16 has at least as many code units as a stride.
 const STRIDE_OF_TEXT: usize = 3 * STRIDE;

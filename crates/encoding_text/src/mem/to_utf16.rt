@@ -8,8 +8,10 @@ ghost use Rattle.encoding_definitions.specs.Parts.{Part, ArePartsOf, lossy_utf16
 ghost use Rattle.encoding_definitions.specs.Prefixes.{WritesPrefix};
 ghost use Rattle.encoding_definitions.specs.Converting.{WritesText};
 
+use crate::ascii::{BLOCK_OF_TEXT, copy_to_basic_latin_inline};
 use crate::decoder::{DecoderResult, Utf8Decoder};
 use crate::utf_8::{convert_text, convert_utf8_to_utf16_up_to_invalid};
+use encoding_kernels::simd::width::ASCII_END;
 
 /// Converts bytes to UTF-16, with U+FFFD for each malformed sequence, and returns how many code units it wrote.
 /// Encoding Standard, UTF-8 decode without BOM.
@@ -48,7 +50,16 @@ pub fn convert_str_to_utf16(src: &str, dst: &mut [u16]) -> usize
     requires dst_length { length src.now ≤ length dst.old }
     ensures { WritesPrefix dst.old dst.new result (flat_map encode_utf16 (chars src.now)) }
 {
-    convert_text(src.as_bytes(), dst)
+    let bytes = src.as_bytes();
+    // inline, the ASCII at the start of a short text costs less than half
+    if bytes.is_empty() || bytes[0] >= ASCII_END || bytes.len() >= BLOCK_OF_TEXT {
+        return convert_text(bytes, dst);
+    }
+    let ascii = copy_to_basic_latin_inline(bytes, dst);
+    if ascii == bytes.len() {
+        return ascii;
+    }
+    ascii + convert_text(&bytes[ascii..], &mut dst[ascii..])
 }
 
 /// Converts bytes to UTF-16. Returns how many code units it wrote if the bytes are well-formed, and otherwise `None`.
