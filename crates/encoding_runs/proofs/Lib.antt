@@ -8,6 +8,7 @@ pub mod ChainLemmas
 pub mod RunLemmas
 pub mod TurnLemmas
 pub mod MalformedLemmas
+pub mod MalformationLemmas
 pub mod CompletionLemmas
 pub mod BidiLawLemmas
 pub mod MixedLemmas

@@ -157,7 +157,7 @@ next_not_text bs place size next (cs, (h, e)) =
     omega (arith, malformed_count-characters cs, ap malformed_count s.are, malformed_count-append (map Character s.characters ++ IllFormed s.malformed ∷ []) s.others, malformed_count-append (map Character s.characters) (IllFormed s.malformed ∷ []))
 
 -- it has one to three bytes
-first_size : (bs x rest : List ℕ) → IsFirstPart bs (IllFormed x) rest → (0 < length x) × (length x ≤ 3)
+pub first_size : (bs x rest : List ℕ) → IsFirstPart bs (IllFormed x) rest → (0 < length x) × (length x ≤ 3)
 first_size bs x rest (n, inl l) = (l.incomplete.0, length-IsIncomplete x l.incomplete)
 first_size bs x rest (n, inr l) = (omega (arith, l.one), omega (arith, l.one))
 

@@ -1,6 +1,7 @@
 pub mod Repairs
 pub mod Streams
 pub mod MalformedSequences
+pub mod Malformations
 pub mod Blocks
 pub mod Calls
 pub mod MixedCalls

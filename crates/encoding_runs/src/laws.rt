@@ -5,7 +5,7 @@ ghost use Rattle.std.specs.Char.{IsScalar};
 ghost use Rattle.std.specs.List.{flat_map, AllZip, last_or};
 ghost use Rattle.std.specs.Str.Lossy.{utf8_lossy};
 ghost use Rattle.encoding_definitions.specs.Sequence.{IsSequence, IsPending};
-ghost use Rattle.encoding_definitions.specs.Parts.{Part, StartsWith, ArePartsOf, AreFinal, bytes_of, malformed_count, lossy_utf8};
+ghost use Rattle.encoding_definitions.specs.Parts.{Part, IllFormed, IsFirstPart, StartsWith, ArePartsOf, AreFinal, bytes_of, malformed_count, lossy_utf8};
 ghost use Rattle.encoding_text.specs.OneResult.{HasOneResult, HasOnePiece};
 ghost use Rattle.std.specs.Char.Escape.{encode_utf16};
 ghost use Rattle.std.specs.Char.Utf16.{utf16_lossy_chars, has_unpaired_surrogate};
@@ -24,6 +24,8 @@ ghost use Rattle.encoding_runs.specs.declared.repair.blocks.RepairedBlock.{Repai
 ghost use Rattle.encoding_runs.specs.Blocks.{IsBlockRepair, RepairTheParts, replaced_in_all};
 ghost use Rattle.encoding_runs.specs.Repairs.{IsLossyDecodeWith};
 ghost use Rattle.encoding_runs.specs.MalformedSequences.{IsNextMalformed, AreFoundInTurn, malformed_indices};
+ghost use Rattle.encoding_runs.specs.Malformations.{IsMalformation};
+ghost use Rattle.encoding_runs.specs.declared.malformed.Malformation.{Malformation};
 
 /// The well-formed sequences are exactly the UTF-8 of the scalar values, one for each. None is a proper prefix of
 /// another. Unicode Standard, Table 3-7.
@@ -81,6 +83,12 @@ pub fn law_next_malformed()
     ensures found { (bs : List ℕ) (parts : List Part) (found : List (ℕ × ℕ)) → ArePartsOf bs parts
         → AreFoundInTurn 0 bs found ↔ (found ≡ malformed_indices 0 parts) }
     ensures malformed_count { (bs : List ℕ) (parts : List Part) → ArePartsOf bs parts → length (malformed_indices 0 parts) ≡ malformed_count parts }
+{}
+
+/// Each malformed sequence, with the bytes that follow it, has exactly one kind. Unicode Standard, Table 3-7.
+pub fn law_malformations()
+    ensures one { (bs x rest : List ℕ) → IsFirstPart bs (IllFormed x) rest
+        → (kind : Malformation) × IsMalformation x rest kind × ((other : Malformation) → IsMalformation x rest other → other ≡ kind) }
 {}
 
 /// Calls of `repair_block` over one stream write the repaired text of the first parts of the stream, and count the
