@@ -639,6 +639,28 @@ typedef struct {
  * on, it finds the next one. An incomplete sequence at the end of src is malformed. */
 encoding_text_malformed_sequence encoding_text_next_malformed(const uint8_t *src, size_t src_length);
 
+/* Why a sequence is malformed (Unicode Standard, Table 3-7). */
+#define ENCODING_TEXT_WELL_FORMED 0             /**< no sequence is malformed */
+#define ENCODING_TEXT_UNEXPECTED_CONTINUATION 1 /**< a continuation byte that continues no sequence */
+#define ENCODING_TEXT_DISALLOWED_BYTE 2         /**< a byte that is in no well-formed sequence: C0, C1, or F5 to FF */
+#define ENCODING_TEXT_OVERLONG 3                /**< the start of an overlong form of three or four bytes */
+#define ENCODING_TEXT_SURROGATE 4               /**< the start of a surrogate */
+#define ENCODING_TEXT_TOO_LARGE 5               /**< the start of a value above U+10FFFF */
+#define ENCODING_TEXT_TRUNCATED 6               /**< an incomplete sequence before a byte that is no continuation byte */
+#define ENCODING_TEXT_INCOMPLETE_AT_END 7       /**< an incomplete sequence at the end of src */
+
+/** A malformed sequence, and why it is malformed. */
+typedef struct {
+    size_t place;  /**< its index in src */
+    size_t length; /**< its length in bytes, 1 to 3 */
+    uint8_t kind;  /**< ENCODING_TEXT_UNEXPECTED_CONTINUATION to ENCODING_TEXT_INCOMPLETE_AT_END */
+} encoding_text_malformation;
+
+/** @param src,src_length the source, in bytes.
+ * @return the first malformed sequence of src, as encoding_text_next_malformed, and why it is malformed. If src is
+ * well-formed, `length` is 0, `place` is src_length and `kind` is ENCODING_TEXT_WELL_FORMED */
+encoding_text_malformation encoding_text_next_malformation(const uint8_t *src, size_t src_length);
+
 /** @} */
 
 /** @name Repair

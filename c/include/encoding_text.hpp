@@ -196,6 +196,35 @@ inline malformed_sequence next_malformed(bytes text, std::size_t offset = 0) noe
     return {offset + found.place, found.length};
 }
 
+/** Why a sequence is malformed (Unicode Standard, Table 3-7). */
+enum class malformation_kind : std::uint8_t {
+    well_formed = ENCODING_TEXT_WELL_FORMED,                         /**< no sequence is malformed */
+    unexpected_continuation = ENCODING_TEXT_UNEXPECTED_CONTINUATION, /**< it continues no sequence */
+    disallowed_byte = ENCODING_TEXT_DISALLOWED_BYTE,                 /**< C0, C1, or F5 to FF */
+    overlong = ENCODING_TEXT_OVERLONG,                               /**< the start of an overlong form */
+    surrogate = ENCODING_TEXT_SURROGATE,                             /**< the start of a surrogate */
+    too_large = ENCODING_TEXT_TOO_LARGE,                             /**< the start of a value above U+10FFFF */
+    truncated = ENCODING_TEXT_TRUNCATED,                             /**< incomplete before the next byte */
+    incomplete_at_end = ENCODING_TEXT_INCOMPLETE_AT_END              /**< incomplete at the end of the text */
+};
+
+/** A malformed sequence, and why it is malformed. */
+struct malformation {
+    std::size_t offset;     /**< of its first byte */
+    std::size_t length;     /**< in bytes, 1 to 3; 0 if there is none */
+    malformation_kind kind; /**< why it is malformed; `well_formed` if there is none */
+};
+
+/** @param text the bytes.
+ * @param offset where the search starts, as for next_malformed.
+ * @return what next_malformed returns, and why the sequence is malformed */
+inline malformation next_malformation(bytes text, std::size_t offset = 0) noexcept
+{
+    const bytes rest = text.from(offset);
+    const auto found = encoding_text_next_malformation(rest.data(), rest.size());
+    return {offset + found.place, found.length, static_cast<malformation_kind>(found.kind)};
+}
+
 /** All malformed sequences of a text, in order: `for (auto [offset, length] : malformed_sequences(text))`. It and its
  * iterators are views: the text has to live as long as they do. */
 class malformed_sequences {

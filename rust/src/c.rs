@@ -90,6 +90,14 @@ pub(crate) struct MalformedSequence {
     pub(crate) length: usize,
 }
 
+/// The same, and the number of the sequence's kind.
+#[repr(C)]
+pub(crate) struct Malformation {
+    pub(crate) place: usize,
+    pub(crate) length: usize,
+    pub(crate) kind: u8,
+}
+
 #[cfg(feature = "alloc")]
 #[repr(C)]
 pub(crate) struct RepairResult {
@@ -106,6 +114,12 @@ pub(crate) const OUTPUT_FULL: u8 = 1;
 pub(crate) const PIECE_TEXT: u8 = 0;
 pub(crate) const PIECE_CHAR: u8 = 1;
 pub(crate) const PIECE_MALFORMED: u8 = 2;
+pub(crate) const UNEXPECTED_CONTINUATION: u8 = 1;
+pub(crate) const DISALLOWED_BYTE: u8 = 2;
+pub(crate) const OVERLONG: u8 = 3;
+pub(crate) const SURROGATE: u8 = 4;
+pub(crate) const TOO_LARGE: u8 = 5;
+pub(crate) const TRUNCATED: u8 = 6;
 
 /// Returns the length that a query reports for `length` elements, each of which adds `step`. The library reports
 /// `usize::MAX` both for that number and for any greater one; these become `Some` and `None`.
@@ -211,6 +225,7 @@ functions! {
         encoding_text_mem_check_utf16_for_latin1_and_bidi(u16) -> u8;
         encoding_text_utf8_valid_up_to(u8) -> usize;
         encoding_text_next_malformed(u8) -> MalformedSequence;
+        encoding_text_next_malformation(u8) -> Malformation;
     }
     text {
         encoding_text_mem_is_str_latin1_unchecked() -> bool;

@@ -21,6 +21,53 @@ pub fn next_malformed(bytes: &[u8]) -> Option<Range<usize>> {
     (part.length > 0).then(|| part.place..part.place + part.length)
 }
 
+/// Why a sequence is malformed. Unicode Standard, Table 3-7.
+#[derive(Clone, Copy, Debug, PartialEq, Eq, Hash)]
+#[non_exhaustive]
+pub enum Malformation {
+    /// A continuation byte that continues no sequence.
+    UnexpectedContinuation,
+    /// A byte that is in no well-formed sequence: C0, C1, or F5 to FF.
+    DisallowedByte,
+    /// The start of an overlong form of three or four bytes: E0 before 80 to 9F, or F0 before 80 to 8F.
+    Overlong,
+    /// The start of a surrogate: ED before A0 to BF.
+    Surrogate,
+    /// The start of a value above U+10FFFF: F4 before 90 to BF.
+    TooLarge,
+    /// An incomplete sequence before a byte that is no continuation byte.
+    Truncated,
+    /// An incomplete sequence at the end of the bytes.
+    IncompleteAtEnd,
+}
+
+/// Returns the range of the first malformed sequence, as [`next_malformed`] does, and why it is malformed. Returns
+/// `None` if all bytes are well-formed.
+///
+/// [Proved](crate::promises#malformed-sequences).
+///
+/// ```
+/// use encoding_text::{next_malformation, Malformation};
+/// assert_eq!(next_malformation(b"a\xE2\x98Z"), Some((1..3, Malformation::Truncated)));
+/// assert_eq!(next_malformation(b"\xED\xA0\x80"), Some((0..1, Malformation::Surrogate)));
+/// assert_eq!(next_malformation("né".as_bytes()), None);
+/// ```
+#[must_use]
+#[inline]
+pub fn next_malformation(bytes: &[u8]) -> Option<(Range<usize>, Malformation)> {
+    let part = c::encoding_text_next_malformation(bytes);
+    let kind = match part.kind {
+        c::UNEXPECTED_CONTINUATION => Malformation::UnexpectedContinuation,
+        c::DISALLOWED_BYTE => Malformation::DisallowedByte,
+        c::OVERLONG => Malformation::Overlong,
+        c::SURROGATE => Malformation::Surrogate,
+        c::TOO_LARGE => Malformation::TooLarge,
+        c::TRUNCATED => Malformation::Truncated,
+        _ => Malformation::IncompleteAtEnd,
+    };
+    (part.length > 0).then(|| (part.place..part.place + part.length, kind))
+}
+
 /// A well-formed stretch and the malformed sequence after it, as yielded by [`Utf8Chunks`]. Either may be empty, but
 /// not both.
 #[derive(Clone, Copy, Debug, PartialEq, Eq)]

@@ -4,7 +4,8 @@
 //! - [`mem`]: checks and conversions of whole buffers;
 //! - [`ascii`] and [`utf_8`]: the calls it is built on;
 //! - [`Utf8Decoder`] and [`Utf8Encoder`]: streams in any pieces, into destinations of any length;
-//! - [`repair`], [`repair_to`], [`utf8_chunks`] and [`next_malformed`]: bytes that may be malformed UTF-8;
+//! - [`repair`], [`repair_to`], [`utf8_chunks`], [`next_malformed`] and [`next_malformation`]: bytes that may be
+//!   malformed UTF-8;
 //! - [`Repair`] and [`DecodeUtf16`]: the same over a reader.
 //!
 //! ```
@@ -68,7 +69,7 @@ mod repair;
 mod streams;
 pub mod utf_8;
 
-pub use chunks::{next_malformed, utf8_chunks, Utf8Chunk, Utf8Chunks};
+pub use chunks::{next_malformation, next_malformed, utf8_chunks, Malformation, Utf8Chunk, Utf8Chunks};
 pub use decoder::{DecoderResult, Utf8Decoder};
 #[cfg(feature = "alloc")]
 pub use repair::repair;

@@ -77,6 +77,7 @@
 //! | Calls | Proved | The crate's own |
 //! |---|---|---|
 //! | [`next_malformed`](crate::next_malformed) | the index and length of the first malformed sequence | an `Option` of them |
+//! | [`next_malformation`](crate::next_malformation) | the same, and the number of the kind | an `Option` of them, with the kind for its number |
 //! | [`utf8_chunks`](crate::utf8_chunks) | each chunk, of the bytes after the previous one | passing these bytes; `law_next_malformed` says what follows from it |
 //!
 //! # Repair

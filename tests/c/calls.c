@@ -317,6 +317,27 @@ static void malformed_sequences(void)
     CHECK(malformed_is(encoding_text_next_malformed(ALL(text)), 3, 0));
 }
 
+/* Sequences of the Unicode Standard's tables 3-8 to 3-11. */
+static void malformations(void)
+{
+    const uint8_t overlong[] = {0x61, 0xE0, 0x80, 0xBF};
+    const uint8_t surrogate[] = {0xED, 0xA0, 0x80};
+    const uint8_t too_large[] = {0xF4, 0x91, 0x92, 0x93};
+    const uint8_t truncated[] = {0xE1, 0x80, 0xE2};
+    const uint8_t disallowed[] = {0xC0, 0xAF};
+    const uint8_t text[] = {0x61, 0xC3, 0xA4};
+
+    CHECK(malformation_is(encoding_text_next_malformation(ALL(overlong)), 1, 1, ENCODING_TEXT_OVERLONG));
+    CHECK(malformation_is(encoding_text_next_malformation(overlong + 2, 2), 0, 1,
+                          ENCODING_TEXT_UNEXPECTED_CONTINUATION));
+    CHECK(malformation_is(encoding_text_next_malformation(ALL(surrogate)), 0, 1, ENCODING_TEXT_SURROGATE));
+    CHECK(malformation_is(encoding_text_next_malformation(ALL(too_large)), 0, 1, ENCODING_TEXT_TOO_LARGE));
+    CHECK(malformation_is(encoding_text_next_malformation(ALL(truncated)), 0, 2, ENCODING_TEXT_TRUNCATED));
+    CHECK(malformation_is(encoding_text_next_malformation(truncated + 2, 1), 0, 1, ENCODING_TEXT_INCOMPLETE_AT_END));
+    CHECK(malformation_is(encoding_text_next_malformation(ALL(disallowed)), 0, 1, ENCODING_TEXT_DISALLOWED_BYTE));
+    CHECK(malformation_is(encoding_text_next_malformation(ALL(text)), 3, 0, ENCODING_TEXT_WELL_FORMED));
+}
+
 static void repair(void)
 {
     const uint8_t bytes[] = {0x61, 0xF0, 0x9F, 0x92, 0xFF, 0x62};
@@ -370,6 +391,7 @@ int main(void)
     utf16_into_texts();
     latin1_into_texts();
     malformed_sequences();
+    malformations();
     repair();
     repair_by_blocks();
     decoder_storage();

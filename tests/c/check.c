@@ -143,6 +143,11 @@ bool malformed_is(encoding_text_malformed_sequence malformed, size_t place, size
     return malformed.place == place && malformed.length == length;
 }
 
+bool malformation_is(encoding_text_malformation malformed, size_t place, size_t length, uint8_t kind)
+{
+    return malformed.place == place && malformed.length == length && malformed.kind == kind;
+}
+
 bool repaired_is(encoding_text_repair_result repaired, size_t written, uint64_t replaced)
 {
     return repaired.written == written && repaired.replaced == replaced;

@@ -58,6 +58,7 @@ bool encoded_is(encoding_text_encode_result encoded, size_t read, size_t written
 bool outcome_is(encoding_text_decode_run_result outcome, size_t read, size_t written, size_t reports,
                 uint8_t result, uint8_t malformed_length);
 bool malformed_is(encoding_text_malformed_sequence malformed, size_t place, size_t length);
+bool malformation_is(encoding_text_malformation malformed, size_t place, size_t length, uint8_t kind);
 bool repaired_is(encoding_text_repair_result repaired, size_t written, uint64_t replaced);
 bool block_is(encoding_text_repair_block_result block, size_t read, size_t written, size_t replaced,
               bool finished);

@@ -12,6 +12,7 @@ static void checks_of_no_elements(const uint8_t *bytes, const uint16_t *units)
     CHECK(encoding_text_mem_utf8_latin1_up_to(bytes, 0) == 0 && encoding_text_mem_str_latin1_up_to(bytes, 0) == 0);
     CHECK(encoding_text_mem_utf16_valid_up_to(units, 0) == 0 && encoding_text_utf8_valid_up_to(bytes, 0) == 0);
     CHECK(malformed_is(encoding_text_next_malformed(bytes, 0), 0, 0));
+    CHECK(malformation_is(encoding_text_next_malformation(bytes, 0), 0, 0, ENCODING_TEXT_WELL_FORMED));
     CHECK(encoding_text_mem_utf16_length_from_utf8(bytes, 0) == 0);
     CHECK(encoding_text_mem_utf8_length_from_utf16(units, 0) == 0);
     CHECK(encoding_text_mem_utf8_length_from_latin1(bytes, 0) == 0);

@@ -193,6 +193,7 @@ static void sound_text(const pair &text)
     CHECK(repaired.text == text.utf8 && repaired.replaced == 0 && is_exact(repaired.text));
     CHECK(encoding_text::next_malformed(text.utf8).length == 0);
     CHECK(encoding_text::next_malformed(text.utf8).offset == text.utf8.size());
+    CHECK(encoding_text::next_malformation(text.utf8).kind == encoding_text::malformation_kind::well_formed);
     const encoding_text::malformed_sequences malformed(text.utf8);
     CHECK(malformed.begin() == malformed.end());
 }

@@ -51,6 +51,9 @@ static void fields(void)
         FIELD(encoding_text_decode_run_result, malformed_length, 25, 1),
         FIELD(encoding_text_malformed_sequence, place, 0, 8),
         FIELD(encoding_text_malformed_sequence, length, 8, 8),
+        FIELD(encoding_text_malformation, place, 0, 8),
+        FIELD(encoding_text_malformation, length, 8, 8),
+        FIELD(encoding_text_malformation, kind, 16, 1),
         FIELD(encoding_text_repair_result, written, 0, 8),
         FIELD(encoding_text_repair_result, replaced, 8, 8),
         FIELD(encoding_text_repair_block_result, read, 0, 8),
@@ -77,6 +80,7 @@ static void sizes(void)
     CHECK(sizeof(encoding_text_report) == 16);
     CHECK(sizeof(encoding_text_decode_run_result) == 32);
     CHECK(sizeof(encoding_text_malformed_sequence) == 16);
+    CHECK(sizeof(encoding_text_malformation) == 24);
     CHECK(sizeof(encoding_text_repair_result) == 16);
     CHECK(sizeof(encoding_text_repair_block_result) == 32);
 }

@@ -31,7 +31,8 @@ several a more (y ∷ ys) last (inl (b, e, n)) o = let same : a ≡ b = cc in ab
 several a more [] last (inr (o, s)) _ = o
 several a more (y ∷ ys) last (inr (o, s)) _ = o
 
-pub is_unexpected : (a : ℕ) (more rest : List ℕ) (last : Bool) → IsContinuation a → IsMalformed (a ∷ more) rest last → IsMalformation (a ∷ more) rest UnexpectedContinuation
+pub is_unexpected : (a : ℕ) (more rest : List ℕ) (last : Bool) → IsContinuation a → IsMalformed (a ∷ more) rest last
+    → IsMalformation (a ∷ more) rest UnexpectedContinuation
 is_unexpected a more rest last c m = (a, (single a more rest last m (λ o. let r = (begins_by_range a).0 o in omega (arith, r.0, c.1))).0, c)
 
 pub is_disallowed : (a : ℕ) (more rest : List ℕ) (last : Bool) → (IsContinuation a → ⊥) → (IsIncomplete (a ∷ []) → ⊥) → IsMalformed (a ∷ more) rest last
@@ -54,16 +55,19 @@ is_disallowed a more rest last no_continuation none m = let one = single a more 
     ]
 
 -- ---- by the next byte
-pub is_at_end : (a : ℕ) (more rest : List ℕ) (last : Bool) → IsIncomplete (a ∷ []) → rest ≡ [] → IsMalformed (a ∷ more) rest last → IsMalformation (a ∷ more) rest IncompleteAtEnd
+pub is_at_end : (a : ℕ) (more rest : List ℕ) (last : Bool) → IsIncomplete (a ∷ []) → rest ≡ [] → IsMalformed (a ∷ more) rest last
+    → IsMalformation (a ∷ more) rest IncompleteAtEnd
 is_at_end a more rest last o e m = (several a more rest last m o, e)
 
-pub is_truncated : (a : ℕ) (more rest : List ℕ) (last : Bool) → IsIncomplete (a ∷ []) → 0 < length rest → (IsContinuation (slice_index rest 0) → ⊥) → IsMalformed (a ∷ more) rest last
+pub is_truncated : (a : ℕ) (more rest : List ℕ) (last : Bool) → IsIncomplete (a ∷ []) → 0 < length rest → (IsContinuation (slice_index rest 0) → ⊥)
+    → IsMalformed (a ∷ more) rest last
     → IsMalformation (a ∷ more) rest Truncated
 is_truncated a more [] last o some none m = absurd (omega (arith, some))
 is_truncated a more (y ∷ ys) last o some none m = (several a more (y ∷ ys) last m o, y, ys, refl, none)
 
 -- a continuation byte continues all incomplete sequences but some of one byte
-continues : (a : ℕ) (more : List ℕ) (y : ℕ) → IsIncomplete (a ∷ more) → IsContinuation y → ((IsSequence ((a ∷ more) ++ y ∷ []) ⊎ IsIncomplete ((a ∷ more) ++ y ∷ [])) → ⊥)
+continues : (a : ℕ) (more : List ℕ) (y : ℕ) → IsIncomplete (a ∷ more) → IsContinuation y
+    → ((IsSequence ((a ∷ more) ++ y ∷ []) ⊎ IsIncomplete ((a ∷ more) ++ y ∷ [])) → ⊥)
     → (more ≡ []) × (IsSecond a y → ⊥)
 continues a [] y o c none = (refl, λ s. none (second_goes_on a y s))
 continues a (b ∷ []) y o c none = absurd (none (third_goes_on a b y (HasOpenShape-IsIncomplete (a ∷ b ∷ []) o) c))
@@ -79,7 +83,8 @@ record IsLeftOut (a y : ℕ) : Type 0 where
   pub continuation : IsContinuation y
   pub not_second : IsSecond a y → ⊥
 
-left_out : (a : ℕ) (more : List ℕ) (y : ℕ) (ys : List ℕ) (last : Bool) → IsIncomplete (a ∷ []) → IsContinuation y → IsMalformed (a ∷ more) (y ∷ ys) last → (more ≡ []) × IsLeftOut a y
+left_out : (a : ℕ) (more : List ℕ) (y : ℕ) (ys : List ℕ) (last : Bool) → IsIncomplete (a ∷ []) → IsContinuation y
+    → IsMalformed (a ∷ more) (y ∷ ys) last → (more ≡ []) × IsLeftOut a y
 left_out a more y ys last o c (inl (b, e, n)) = let same : a ≡ b = cc in absurd (n (inr (subst (λ z. IsIncomplete (z ∷ [])) same o)))
 left_out a more y ys last o c (inr (incomplete, none)) =
     let one = continues a more y incomplete c none in
@@ -130,7 +135,8 @@ in_too_large : (a y : ℕ) (ys : List ℕ) → a ≡ 0xF4 → 0x90 ≤ y → y �
 in_too_large a y ys e l h = (a, y, ys, refl, refl, grind (arith, nat_tests))
 
 -- the kind of a sequence of several bytes before a continuation byte, which leaves it with its first byte
-pub is_excluded : (a : ℕ) (more rest : List ℕ) (last : Bool) → IsIncomplete (a ∷ []) → 0 < length rest → IsContinuation (slice_index rest 0) → IsMalformed (a ∷ more) rest last
+pub is_excluded : (a : ℕ) (more rest : List ℕ) (last : Bool) → IsIncomplete (a ∷ []) → 0 < length rest → IsContinuation (slice_index rest 0)
+    → IsMalformed (a ∷ more) rest last
     → (a ≡ 0xED → IsMalformation (a ∷ more) rest Surrogate) × (a ≡ 0xF4 → IsMalformation (a ∷ more) rest TooLarge)
     × ((a ≡ 0xED → ⊥) → (a ≡ 0xF4 → ⊥) → IsMalformation (a ∷ more) rest Overlong)
 is_excluded a more [] last o some c m = absurd (omega (arith, some))
@@ -159,9 +165,11 @@ next_first bs place size next = malformed_first _ _ true (last_malformed bs _ _ 
 
 -- its first byte and the bytes after it determine its kind
 pub next_kind : (bs : List ℕ) (place size : ℕ) (kind : Malformation) → IsNextMalformed bs place size
-    → ((more : List ℕ) (last : Bool) → IsMalformed (slice_index bs place ∷ more) (drop (place + size) bs) last → IsMalformation (slice_index bs place ∷ more) (drop (place + size) bs) kind)
+    → ((more : List ℕ) (last : Bool) → IsMalformed (slice_index bs place ∷ more) (drop (place + size) bs) last
+    → IsMalformation (slice_index bs place ∷ more) (drop (place + size) bs) kind)
     → IsMalformation (take size (drop place bs)) (drop (place + size) bs) kind
-next_kind bs place size kind next is = subst (λ zs. IsMalformation zs rest kind) (sym whole) (is (drop 1 x) true (subst (λ zs. IsMalformed zs rest true) whole (last_malformed bs _ x rest next.first)))
+next_kind bs place size kind next is =
+    subst (λ zs. IsMalformation zs rest kind) (sym whole) (is (drop 1 x) true (subst (λ zs. IsMalformed zs rest true) whole (last_malformed bs _ x rest next.first)))
   where
     x : List ℕ
     x = take size (drop place bs)
@@ -189,7 +197,8 @@ has_kind a more rest last m = elim (decide_incomplete (a ∷ []) (omega arith)) 
   ]
 ]
   where
-    before : (y : ℕ) (ys : List ℕ) → IsIncomplete (a ∷ []) → IsContinuation y → IsMalformed (a ∷ more) (y ∷ ys) last → (kind : Malformation) × IsMalformation (a ∷ more) (y ∷ ys) kind
+    before : (y : ℕ) (ys : List ℕ) → IsIncomplete (a ∷ []) → IsContinuation y → IsMalformed (a ∷ more) (y ∷ ys) last
+        → (kind : Malformation) × IsMalformation (a ∷ more) (y ∷ ys) kind
     before y ys o c m =
         let (surrogate, too_large, overlong) = is_excluded a more (y ∷ ys) last o (omega arith) c m in
         elim (cases_eq a 0xED) [
@@ -214,7 +223,8 @@ some_kind bs (a ∷ more) rest f = has_kind a more rest true (last_malformed bs 
 -- the kind by the first byte and the next byte, if there is one
 abbrev kind_before : ℕ → List ℕ → Malformation
 kind_before a [] = IncompleteAtEnd
-kind_before a (y ∷ ys) = if nat_lt y 0x80 || nat_lt 0xBF y then Truncated else (if nat_eq a 0xED then Surrogate else (if nat_eq a 0xF4 then TooLarge else Overlong))
+kind_before a (y ∷ ys) =
+    if nat_lt y 0x80 || nat_lt 0xBF y then Truncated else (if nat_eq a 0xED then Surrogate else (if nat_eq a 0xF4 then TooLarge else Overlong))
 
 abbrev kind_by : ℕ → List ℕ → Malformation
 kind_by a rest = if nat_lt a 0xC0 then UnexpectedContinuation else (if nat_lt a 0xC2 || nat_lt 0xF4 a then DisallowedByte else kind_before a rest)

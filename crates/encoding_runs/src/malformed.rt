@@ -21,19 +21,19 @@ pub struct MalformedSequence {
 #[derive(Debug, PartialEq, Eq, Clone, Copy)]
 pub enum Malformation {
     /// A continuation byte that continues no sequence.
-    UnexpectedContinuation = 1,
+    UnexpectedContinuation,
     /// A byte that is in no well-formed sequence: C0, C1, or F5 to FF.
-    DisallowedByte = 2,
+    DisallowedByte,
     /// The start of an overlong form of three or four bytes: E0 before 80 to 9F, or F0 before 80 to 8F.
-    Overlong = 3,
+    Overlong,
     /// The start of a surrogate: ED before A0 to BF.
-    Surrogate = 4,
+    Surrogate,
     /// The start of a value above U+10FFFF: F4 before 90 to BF.
-    TooLarge = 5,
+    TooLarge,
     /// An incomplete sequence before a byte that is no continuation byte.
-    Truncated = 6,
+    Truncated,
     /// An incomplete sequence at the end of the input.
-    IncompleteAtEnd = 7,
+    IncompleteAtEnd,
 }
 
 /// The most bytes that determine the length of a malformed sequence: the sequence has at most three, and one more ends

@@ -31,6 +31,8 @@ mod long_results;
 #[cfg(test)]
 mod long_streams;
 #[cfg(test)]
+mod malformation_rows;
+#[cfg(test)]
 mod mixed_text;
 #[cfg(test)]
 mod parts;

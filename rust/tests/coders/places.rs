@@ -1,10 +1,10 @@
-//! The indices at which `next_malformed` finds malformed sequences, one after the other. And where a borrowed result
-//! lies: in the source, at the range that its row says, even if it is empty.
+//! The indices at which `next_malformed` finds malformed sequences, one after the other, and their kinds. And where a
+//! borrowed result lies: in the source, at the range that its row says, even if it is empty.
 
 use crate::common::rows::{fields, named};
 use crate::common::vectors::{length_of, vectors};
 use encoding_text::decoder::Piece;
-use encoding_text::{next_malformed, utf8_chunks, Utf8Decoder};
+use encoding_text::{next_malformation, next_malformed, utf8_chunks, Malformation, Utf8Decoder};
 use std::ops::Range;
 
 /// A letter, U+2603, a letter, three bytes of an incomplete sequence, a letter, and U+1F4A9.
@@ -257,5 +257,50 @@ fn whole_results() {
             panic!("{text} is copied");
         };
         source.assert_borrowed(repaired.as_bytes(), 0..text.len(), text);
+    }
+}
+
+/// Returns the kind of each malformed sequence, found in turn.
+fn kinds_in_turn(bytes: &[u8]) -> Vec<Malformation> {
+    let mut rest = bytes;
+    let mut kinds = Vec::new();
+    while let Some((part, kind)) = next_malformation(rest) {
+        kinds.push(kind);
+        rest = &rest[part.end..];
+    }
+    kinds
+}
+
+/// Unicode Standard, Tables 3-8 to 3-11.
+#[test]
+fn kinds_of_the_tables() {
+    use Malformation::*;
+    let (stray, byte) = (UnexpectedContinuation, DisallowedByte);
+    let overlong = [byte, stray, Overlong, stray, stray, Overlong, stray, stray];
+    assert_eq!(kinds_in_turn(b"\xC0\xAF\xE0\x80\xBF\xF0\x81\x82A"), overlong);
+    let surrogates = [Surrogate, stray, stray, Surrogate, stray, stray, Surrogate, stray];
+    assert_eq!(kinds_in_turn(b"\xED\xA0\x80\xED\xBF\xBF\xED\xAFA"), surrogates);
+    let others = [TooLarge, stray, stray, stray, byte, stray, stray];
+    assert_eq!(kinds_in_turn(b"\xF4\x91\x92\x93\xFFA\x80\xBFB"), others);
+    assert_eq!(kinds_in_turn(b"\xE1\x80\xE2\xF0\x91\x92\xF1\xBFA"), [Truncated; 4]);
+}
+
+/// All pairs of bytes: the same sequence as `next_malformed` finds, and the end of the input where `std` sees it.
+#[test]
+fn kinds_of_all_pairs() {
+    for pair in 0..=u16::MAX {
+        let bytes = pair.to_be_bytes();
+        let found = next_malformation(&bytes);
+        assert_eq!(
+            found.clone().map(|(part, _)| part),
+            next_malformed(&bytes),
+            "{bytes:x?}"
+        );
+        let at_end = std::str::from_utf8(&bytes).is_err_and(|error| error.error_len().is_none());
+        assert_eq!(
+            found.is_some_and(|(_, kind)| kind == Malformation::IncompleteAtEnd),
+            at_end,
+            "{bytes:x?}"
+        );
     }
 }

@@ -14,7 +14,8 @@ returns-then-is_empty c = λ more last.
 
 pub returns-then-not-is_continuation : goal.returns-then-not-is_continuation
 returns-then-not-is_continuation c = λ more last.
-    is_truncated _ more _ last (c.begins_several.ensures.0 cc) (grind (arith, nat_tests, c.is_empty.ensures, c.if-is_empty.false)) (λ k. let t = c.is_continuation-2.ensures.1 k in cc)
+    let some : 0 < length c.args.rest.now = grind (arith, nat_tests, c.is_empty.ensures, c.if-is_empty.false) in
+    is_truncated _ more _ last (c.begins_several.ensures.0 cc) some (λ k. let t = c.is_continuation-2.ensures.1 k in cc)
 
 pub returns-in-237 : goal.returns-in-237
 returns-in-237 c = λ more last m.
