@@ -4,7 +4,7 @@ ghost use Rattle.encoding_text.specs.Decoding.{IsMalformed};
 ghost use Rattle.encoding_runs.specs.MalformedSequences.{IsNextMalformed};
 ghost use Rattle.encoding_runs.specs.Malformations.{IsMalformation};
 
-use encoding_kernels::scalar::sequence::{begins_several, is_continuation};
+use encoding_kernels::scalar::{begins_several, is_continuation};
 use encoding_text::decoder::{Piece, Utf8Decoder};
 use encoding_text::utf_8::utf8_valid_up_to;
 
