@@ -4,6 +4,7 @@ pub mod BlockLemmas
 pub mod StrideLemmas
 pub mod CompressLemmas
 pub mod ConvertsLemmas
+pub mod CountLemmas
 pub mod DueLemmas
 pub mod EncodeLanesLemmas
 pub mod EndedLemmas
@@ -18,6 +19,7 @@ pub mod TestLemmas
 pub mod PairedUnitsLemmas
 pub mod PairsLemmas
 pub mod PlainLemmas
+pub mod RepairedLengthLemmas
 pub mod SpillsLemmas
 pub mod StoresLemmas
 pub mod SurrogatePairsLemmas

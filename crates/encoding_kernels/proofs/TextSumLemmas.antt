@@ -61,7 +61,7 @@ chars_total bs h =
 low_third : (a c : ℕ) → a < 0xE0 → goes_third a c ≡ false
 low_third a c l = grind (arith, nat_tests)
 
-stays_third : (a c : ℕ) → (IsContinuation c → ⊥) → goes_third a c ≡ false
+pub stays_third : (a c : ℕ) → (IsContinuation c → ⊥) → goes_third a c ≡ false
 stays_third a c n = grind (arith, nat_tests)
 
 joins_none : (a b c : ℕ) → (IsSecond a b → ⊥) → continuations_by a b c ≡ 0
@@ -77,7 +77,7 @@ joins_two a b c s l t = grind (arith, nat_tests)
 low_lead : (a b c : ℕ) → a < 0xC2 → continuations_by a b c ≡ 0
 low_lead a b c l = joins_none a b c (λ s. omega (arith, s.0))
 
-second_low : (a b : ℕ) → IsSecond a b → b < 0xC2
+pub second_low : (a b : ℕ) → IsSecond a b → b < 0xC2
 second_low a b s = grind (arith, nat_tests)
 
 shape_total : (x rest : List ℕ) → HasShape x → sum_over_suffixes continuations (x ++ rest) + (1 + bool_byte (nat_le 4 (length x))) ≡ length x + sum_over_suffixes continuations rest
@@ -94,22 +94,22 @@ shape_total (a ∷ b ∷ c ∷ d ∷ []) rest (l, m, s, t, f) =
     omega (arith, joins_two a b c second (omega arith) t, low_lead b c d (second_low a b second), low_lead c d (slice_index rest 0) (omega (arith, t.1)), low_lead d (slice_index rest 0) (slice_index rest 1) (omega (arith, f.1)))
 shape_total (a ∷ b ∷ c ∷ d ∷ e ∷ more) rest h = absurd h
 
-units_of_character : (c : ℕ) → IsScalar c → length (encode_utf16 c) ≡ 1 + bool_byte (nat_le 4 (length (encode_utf8 c)))
+pub units_of_character : (c : ℕ) → IsScalar c → length (encode_utf16 c) ≡ 1 + bool_byte (nat_le 4 (length (encode_utf8 c)))
 units_of_character c s = grind (arith, nat_tests, length-encode c)
 
 -- ---- malformed sequences
 -- no byte of rest continues the incomplete sequence x
-abbrev IsRejectedBefore : List ℕ → List ℕ → Type 0
+abbrev pub IsRejectedBefore : List ℕ → List ℕ → Type 0
 IsRejectedBefore x rest = (y : ℕ) (ys : List ℕ) → rest ≡ y ∷ ys → IsRejected x y
 
 zero_second : (a : ℕ) → IsSecond a 0 → ⊥
 zero_second a s = grind (arith, nat_tests)
 
-rejected_second : (a : ℕ) (rest : List ℕ) → IsRejectedBefore (a ∷ []) rest → IsSecond a (slice_index rest 0) → ⊥
+pub rejected_second : (a : ℕ) (rest : List ℕ) → IsRejectedBefore (a ∷ []) rest → IsSecond a (slice_index rest 0) → ⊥
 rejected_second a [] n s = zero_second a s
 rejected_second a (y ∷ ys) n s = n y ys refl (second_goes_on a y s)
 
-rejected_third : (a b : ℕ) (rest : List ℕ) → HasOpenShape (a ∷ b ∷ []) → IsRejectedBefore (a ∷ b ∷ []) rest → IsContinuation (slice_index rest 0) → ⊥
+pub rejected_third : (a b : ℕ) (rest : List ℕ) → HasOpenShape (a ∷ b ∷ []) → IsRejectedBefore (a ∷ b ∷ []) rest → IsContinuation (slice_index rest 0) → ⊥
 rejected_third a b [] h n t = omega (arith, t.0)
 rejected_third a b (y ∷ ys) h n t = n y ys refl (third_goes_on a b y h t)
 
@@ -130,7 +130,7 @@ unfolding sum_over_suffixes
 unpaired_total b rest n =
     omega (arith, joins_none b (slice_index rest 0) (slice_index rest 1) (λ s. n (inr (IsIncomplete-HasOpenShape (b ∷ []) (s.0, s.1)))))
 
-rejected_after : (bs x rest : List ℕ) → BeginsWithNoCharacter bs → IsLongestIncomplete bs x rest → IsRejectedBefore x rest
+pub rejected_after : (bs x rest : List ℕ) → BeginsWithNoCharacter bs → IsLongestIncomplete bs x rest → IsRejectedBefore x rest
 rejected_after bs x rest n l y ys e = rejected_part bs x y ys n (subst (λ r. IsLongestIncomplete bs x r) e l)
 
 -- ---- the first part, and all
@@ -171,13 +171,13 @@ size_surrogate : (u : ℕ) → 0x800 ≤ u → size u ≡ 2
 unfolding size
 size_surrogate u l = grind (arith, nat_tests)
 
-not_high : (c v : ℕ) → IsScalar c → c < 0x10000 → IsPair c v → ⊥
+pub not_high : (c v : ℕ) → IsScalar c → c < 0x10000 → IsPair c v → ⊥
 not_high c v s l p = elim (scalar_cases c s) [ inl h ↦ omega (arith, p.0, h) | inr h ↦ omega (arith, p.1, h.0) ]
 
-not_low : (u v w : ℕ) → IsPair u v → IsPair v w → ⊥
+pub not_low : (u v w : ℕ) → IsPair u v → IsPair v w → ⊥
 not_low u v w p q = omega (arith, p.2, q.1)
 
-unpaired_apart : (u : ℕ) (rest : List ℕ) → (IsHighSurrogate u → BeginsLow rest → ⊥) → IsPair u (slice_index rest 0) → ⊥
+pub unpaired_apart : (u : ℕ) (rest : List ℕ) → (IsHighSurrogate u → BeginsLow rest → ⊥) → IsPair u (slice_index rest 0) → ⊥
 unpaired_apart u [] n p = omega (arith, p.2)
 unpaired_apart u (v ∷ vs) n p = n (p.0, omega (arith, p.1)) (p.2, omega (arith, p.3))
 

@@ -153,21 +153,26 @@ last_total f xs n at end fits order near room {y} {z} terms lanes =
     (λ k a l. lanes.each k (omega (arith, lanes.long)) ∙ cond-false _ _ _ (le-ltb k skip a) ∙ terms.each k (omega (arith, lanes.long))) in
     omega (arith, total, ap (total_from f xs) start, ap (total_from f xs) stop)
 
--- ---- ASCII has no terms
-skipped : (f : List ℕ → ℕ) (xs : List ℕ) → ((ys : List ℕ) → slice_index ys 0 < 0x80 → f ys ≡ 0) → (n at : ℕ) → at + n ≤ length xs
-    → ((k : ℕ) → at ≤ k → k < at + n → slice_index xs k < 0x80) → sum_over_suffixes f (drop (at + n) xs) ≡ sum_over_suffixes f (drop at xs)
-skipped f xs zeros zero at l h = let e : at + 0 ≡ at = omega arith in ap (total_from f xs) e
-skipped f xs zeros (suc n) at l h =
+-- ---- units below a bound have no terms
+skipped : (bound : ℕ) (f : List ℕ → ℕ) (xs : List ℕ) → ((ys : List ℕ) → slice_index ys 0 < bound → f ys ≡ 0) → (n at : ℕ) → at + n ≤ length xs
+    → ((k : ℕ) → at ≤ k → k < at + n → slice_index xs k < bound) → sum_over_suffixes f (drop (at + n) xs) ≡ sum_over_suffixes f (drop at xs)
+skipped bound f xs zeros zero at l h = let e : at + 0 ≡ at = omega arith in ap (total_from f xs) e
+skipped bound f xs zeros (suc n) at l h =
     let e : at + suc n ≡ at + 1 + n = omega arith in
-    let more = skipped f xs zeros n (at + 1) (omega arith) (λ k from to. h k (omega arith) (omega arith)) in
+    let more = skipped bound f xs zeros n (at + 1) (omega arith) (λ k from to. h k (omega arith) (omega arith)) in
     let none = zeros (drop at xs) (omega (arith, at_drop_start xs at, h at (omega arith) (omega arith))) in
     omega (arith, ap (total_from f xs) e, more, none, total_next f xs at (omega arith))
 
+pub skipped_below : (bound : ℕ) (f : List ℕ → ℕ) (xs : List ℕ) → ((ys : List ℕ) → slice_index ys 0 < bound → f ys ≡ 0) → (from to : ℕ) → from ≤ to → to ≤ length xs
+    → ((k : ℕ) → from ≤ k → k < to → slice_index xs k < bound) → sum_over_suffixes f (drop to xs) ≡ sum_over_suffixes f (drop from xs)
+skipped_below bound f xs zeros from to order room h =
+    let e : from + (to - from) ≡ to = omega arith in
+    sym (ap (total_from f xs) e) ∙ skipped bound f xs zeros (to - from) from (omega arith) (λ k a b. h k a (omega arith))
+
+-- ---- ASCII has no terms
 pub skipped_to : (f : List ℕ → ℕ) (xs : List ℕ) → ((ys : List ℕ) → slice_index ys 0 < 0x80 → f ys ≡ 0) → (from to : ℕ) → from ≤ to → to ≤ length xs
     → ((k : ℕ) → from ≤ k → k < to → slice_index xs k < 0x80) → sum_over_suffixes f (drop to xs) ≡ sum_over_suffixes f (drop from xs)
-skipped_to f xs zeros from to order room h =
-    let e : from + (to - from) ≡ to = omega arith in
-    sym (ap (total_from f xs) e) ∙ skipped f xs zeros (to - from) from (omega arith) (λ k a b. h k a (omega arith))
+skipped_to f xs = skipped_below 0x80 f xs
 
 continued_by : (a b c : ℕ) → a < 0x80 → continuations_by a b c ≡ 0
 continued_by a b c l = grind (arith, nat_tests)
@@ -214,7 +219,7 @@ counted true true false s = refl
 counted true false r s = refl
 counted false q r s = refl
 
-below_is : (c : ℕ) → ltb c 0xC0 ≡ nat_le c 0xBF
+pub below_is : (c : ℕ) → ltb c 0xC0 ≡ nat_le c 0xBF
 below_is c = grind (arith, nat_tests)
 
 pub joined_lane : (a b c : ℕ) → (cond (joins_lane a b) 1 0 + cond (((joins_lane a b && leb 0xE0 a) && leb 0x80 c) && ltb c 0xC0) 1 0) % 2 ^ 8 ≡ continuations_by a b c
@@ -240,7 +245,7 @@ low_from u e = (grind (arith, nat_tests), grind (arith, nat_tests))
 low_to : (u : ℕ) → IsLowSurrogate u → (nat_le 0xDC00 u && nat_le u 0xDFFF) ≡ true
 low_to u h = grind (arith, nat_tests)
 
-pair_is : (u v : ℕ) → u < 2 ^ 16 → v < 2 ^ 16 → (eqb (bit_and u 0xFC00) 0xD800 && eqb (bit_and v 0xFC00) 0xDC00) ≡ is_surrogate_pair u v
+pub pair_is : (u v : ℕ) → u < 2 ^ 16 → v < 2 ^ 16 → (eqb (bit_and u 0xFC00) 0xD800 && eqb (bit_and v 0xFC00) 0xDC00) ≡ is_surrogate_pair u v
 pair_is u v l m =
     let high = same_bool (eqb (bit_and u 0xFC00) 0xD800) (nat_le 0xD800 u && nat_le u 0xDBFF) (λ e. high_to u ((high_test u l).0 e)) (λ e. (high_test u l).1 (high_from u e)) in
     let low = same_bool (eqb (bit_and v 0xFC00) 0xDC00) (nat_le 0xDC00 v && nat_le v 0xDFFF) (λ e. low_to v ((low_test v m).0 e)) (λ e. (low_test v m).1 (low_from v e)) in

@@ -6,3 +6,5 @@ pub mod SurrogatePairs
 pub mod RightToLeft
 pub mod Neighbors
 pub mod Lengths
+pub mod Counts
+pub mod RepairedLengths

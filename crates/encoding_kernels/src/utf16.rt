@@ -1,4 +1,5 @@
 //! UTF-16 by itself.
 
+pub mod count;
 pub mod length;
 pub mod validate;

@@ -40,7 +40,7 @@ fn beyond_lanes<const N: usize>(units: Simd<u16, N>, next: Simd<u16, N>) -> Simd
 
 /// Returns the code unit at an index, and zero past the last.
 #[inline(always)]
-fn unit_at(units: &[u16], at: usize) -> u16
+pub(super) fn unit_at(units: &[u16], at: usize) -> u16
     ensures { result ≡ slice_index units.now at }
 {
     if at < units.len() { units[at] } else { 0 }

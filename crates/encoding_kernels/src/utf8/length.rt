@@ -16,7 +16,7 @@ const LANES: usize = 32;
 
 /// Returns, without a branch, whether `second` may be the second byte of several that begin with `lead`.
 #[inline(always)]
-fn joins(lead: u8, second: u8) -> bool
+pub(super) fn joins(lead: u8, second: u8) -> bool
     ensures { result ≡ goes_second lead second }
 {
     // the only first bytes of three and of four that may not precede this second byte
@@ -71,7 +71,7 @@ fn joined_lanes<const N: usize>(
 
 /// Returns the byte at an index, and zero past the last.
 #[inline(always)]
-fn byte_at(bytes: &[u8], at: usize) -> u8
+pub(super) fn byte_at(bytes: &[u8], at: usize) -> u8
     ensures { result ≡ slice_index bytes.now at }
 {
     if at < bytes.len() { bytes[at] } else { 0 }
