@@ -348,6 +348,22 @@ size_t encoding_text_mem_utf8_length_from_latin1(const uint8_t *src, size_t src_
  * ENCODING_TEXT_INVALID_ARGUMENT if src isn't a Latin1 text */
 size_t encoding_text_mem_latin1_length_from_utf8(const uint8_t *src, size_t src_length);
 
+/** Counts characters; src may be ill-formed.
+ * @param src,src_length the source, in bytes.
+ * @return the number of characters in src, with one for each malformed sequence */
+size_t encoding_text_utf8_count(const uint8_t *src, size_t src_length);
+
+/** Counts characters; src may have unpaired surrogates.
+ * @param src,src_length the source, in code units.
+ * @return the number of characters in src, with one for each unpaired surrogate */
+size_t encoding_text_utf16_count(const uint16_t *src, size_t src_length);
+
+/** Measures repaired text; src may be ill-formed. encoding_text_repair_slice still requires a destination of
+ * 3 * src_length bytes, although it writes only these.
+ * @param src,src_length the source, in bytes.
+ * @return the length in bytes of src with U+FFFD (three bytes) for each malformed sequence; SIZE_MAX if it is greater */
+size_t encoding_text_repaired_utf8_length(const uint8_t *src, size_t src_length);
+
 /** @} */
 
 /** @name Whole buffers: text destinations

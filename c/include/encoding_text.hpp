@@ -176,6 +176,32 @@ inline bool is_utf16_latin1(code_units text) noexcept
 
 /** @} */
 
+/** @name Counts
+ * @{ */
+
+/** @param text the bytes.
+ * @return the number of their characters, with one for each malformed sequence */
+inline std::size_t utf8_count(bytes text) noexcept
+{
+    return encoding_text_utf8_count(text.data(), text.size());
+}
+
+/** @param text the code units.
+ * @return the number of their characters, with one for each unpaired surrogate */
+inline std::size_t utf16_count(code_units text) noexcept
+{
+    return encoding_text_utf16_count(text.data(), text.size());
+}
+
+/** @param text the bytes.
+ * @return the length in bytes of the text that `repair` returns for them; `SIZE_MAX` if it is greater */
+inline std::size_t repaired_utf8_length(bytes text) noexcept
+{
+    return encoding_text_repaired_utf8_length(text.data(), text.size());
+}
+
+/** @} */
+
 /** @name Malformed sequences
  * @{ */
 

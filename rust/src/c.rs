@@ -226,6 +226,9 @@ functions! {
         encoding_text_utf8_valid_up_to(u8) -> usize;
         encoding_text_next_malformed(u8) -> MalformedSequence;
         encoding_text_next_malformation(u8) -> Malformation;
+        encoding_text_utf8_count(u8) -> usize;
+        encoding_text_utf16_count(u16) -> usize;
+        encoding_text_repaired_utf8_length(u8) -> usize;
     }
     text {
         encoding_text_mem_is_str_latin1_unchecked() -> bool;

@@ -6,6 +6,7 @@
 //! - [`Utf8Decoder`] and [`Utf8Encoder`]: streams in any pieces, into destinations of any length;
 //! - [`repair`], [`repair_to`], [`utf8_chunks`], [`next_malformed`] and [`next_malformation`]: bytes that may be
 //!   malformed UTF-8;
+//! - [`utf8_count`], [`utf16_count`] and [`repaired_utf8_length`]: exact counts, also of such bytes;
 //! - [`Repair`] and [`DecodeUtf16`]: the same over a reader.
 //!
 //! ```
@@ -60,6 +61,7 @@ extern crate std;
 pub mod ascii;
 mod c;
 mod chunks;
+mod count;
 pub mod decoder;
 pub mod mem;
 pub mod promises;
@@ -70,6 +72,7 @@ mod streams;
 pub mod utf_8;
 
 pub use chunks::{next_malformation, next_malformed, utf8_chunks, Malformation, Utf8Chunk, Utf8Chunks};
+pub use count::{repaired_utf8_length, utf16_count, utf8_count};
 pub use decoder::{DecoderResult, Utf8Decoder};
 #[cfg(feature = "alloc")]
 pub use repair::repair;

@@ -70,6 +70,15 @@
 //! | `encode_from_utf8_raw` | U+FFFD for the pending surrogate | the copy of the text |
 //! | `max_buffer_length_from_utf16_without_replacement`, `max_buffer_length_from_utf8_without_replacement` | the number | distinguishing `usize::MAX` as a result from a greater number |
 //!
+//! # Counts
+//!
+//! Their [promises](../../../../../docs/PROMISES.md#encoding_textcount).
+//!
+//! | Calls | Proved | The crate's own |
+//! |---|---|---|
+//! | [`utf8_count`](crate::utf8_count), [`utf16_count`](crate::utf16_count) | all that is said | nothing |
+//! | [`repaired_utf8_length`](crate::repaired_utf8_length) | the length, or `usize::MAX` if it is greater | an `Option` of it |
+//!
 //! # Malformed sequences
 //!
 //! Their [promises](../../../../../docs/PROMISES.md#encoding_runsmalformed).

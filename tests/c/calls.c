@@ -202,6 +202,20 @@ static void lengths(void)
     CHECK(encoding_text_mem_latin1_length_from_utf8(ALL(cut)) == ENCODING_TEXT_INVALID_ARGUMENT);
 }
 
+/* The Unicode Standard, Tables 3-8 and 3-11, and a surrogate pair between two unpaired surrogates. */
+static void counts(void)
+{
+    const uint8_t overlong[] = {0xC0, 0xAF, 0xE0, 0x80, 0xBF, 0xF0, 0x81, 0x82, 0x41};
+    const uint8_t truncated[] = {0xE1, 0x80, 0xE2, 0xF0, 0x91, 0x92, 0xF1, 0xBF, 0x41};
+    const uint8_t text[] = {0x61, 0xC3, 0xA4, 0xF0, 0x9F, 0x92, 0xA9};
+    const uint16_t units[] = {0xDCA9, 0xD83D, 0xDCA9, 0xD83D};
+
+    CHECK(encoding_text_utf8_count(ALL(overlong)) == 9 && encoding_text_repaired_utf8_length(ALL(overlong)) == 25);
+    CHECK(encoding_text_utf8_count(ALL(truncated)) == 5 && encoding_text_repaired_utf8_length(ALL(truncated)) == 13);
+    CHECK(encoding_text_utf8_count(ALL(text)) == 3 && encoding_text_repaired_utf8_length(ALL(text)) == 7);
+    CHECK(encoding_text_utf16_count(ALL(units)) == 3);
+}
+
 static void conversions_to_utf16(void)
 {
     const uint8_t text[] = {0x61, 0xC3, 0xA4};
@@ -386,6 +400,7 @@ int main(void)
     copies();
     latin1_conversions();
     lengths();
+    counts();
     conversions_to_utf16();
     conversions_from_utf16();
     utf16_into_texts();

@@ -17,6 +17,8 @@ static void checks_of_no_elements(const uint8_t *bytes, const uint16_t *units)
     CHECK(encoding_text_mem_utf8_length_from_utf16(units, 0) == 0);
     CHECK(encoding_text_mem_utf8_length_from_latin1(bytes, 0) == 0);
     CHECK(encoding_text_mem_latin1_length_from_utf8(bytes, 0) == 0);
+    CHECK(encoding_text_utf8_count(bytes, 0) == 0 && encoding_text_utf16_count(units, 0) == 0);
+    CHECK(encoding_text_repaired_utf8_length(bytes, 0) == 0);
     CHECK(!encoding_text_mem_is_utf8_bidi(bytes, 0) && !encoding_text_mem_is_utf16_bidi(units, 0));
     CHECK(encoding_text_mem_check_utf8_for_latin1_and_bidi(bytes, 0) == ENCODING_TEXT_LATIN1);
     CHECK(encoding_text_mem_check_str_for_latin1_and_bidi(bytes, 0) == ENCODING_TEXT_LATIN1);

@@ -191,6 +191,8 @@ static void sound_text(const pair &text)
     CHECK(utf8 == text.utf8 && is_exact(utf8));
     const auto repaired = encoding_text::repair(text.utf8);
     CHECK(repaired.text == text.utf8 && repaired.replaced == 0 && is_exact(repaired.text));
+    CHECK(encoding_text::utf8_count(text.utf8) == encoding_text::utf16_count(text.utf16));
+    CHECK(encoding_text::repaired_utf8_length(text.utf8) == text.utf8.size());
     CHECK(encoding_text::next_malformed(text.utf8).length == 0);
     CHECK(encoding_text::next_malformed(text.utf8).offset == text.utf8.size());
     CHECK(encoding_text::next_malformation(text.utf8).kind == encoding_text::malformation_kind::well_formed);

@@ -14,6 +14,7 @@ pub mod bidi;
 pub mod blocks;
 pub mod checks;
 pub mod conversions;
+pub mod counts;
 pub mod decoder;
 pub mod encoder;
 pub mod known_texts;

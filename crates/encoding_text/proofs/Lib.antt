@@ -22,5 +22,6 @@ pub mod WholePrefixesLemmas
 pub mod Latin1ConversionLemmas
 pub mod PendingLemmas
 pub mod RepairingLemmas
+pub mod RepairedLengthLemmas
 pub mod RoomLemmas
 pub mod TableLemmas

@@ -15,6 +15,8 @@ mod bounded_rows;
 #[cfg(test)]
 mod constant_rows;
 #[cfg(test)]
+mod count_rows;
+#[cfg(test)]
 mod decoder_chains;
 #[cfg(test)]
 mod decoder_rows;

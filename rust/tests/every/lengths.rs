@@ -5,7 +5,7 @@
 use crate::common::rows::{around, fields, named, Unit};
 use crate::common::text_destinations::{Calls, FROM_LATIN1, FROM_UTF16};
 use encoding_text::mem::{convert_latin1_to_utf8_partial, convert_utf16_to_utf8_partial, is_utf8_latin1};
-use std::fmt::Debug;
+use std::fmt::{Arguments, Debug};
 
 /// Returns the number of units read and bytes written, if the unit after `letters` letters has this length in UTF-8,
 /// and all others are letters.
@@ -225,17 +225,17 @@ fn lengths<T: Unit>(rows: &str) -> Vec<(Vec<T>, usize)> {
     rows.lines().map(length).collect()
 }
 
-/// Asserts that texts with each of the edges at each index among each of the fillers have the sum of the lengths of
-/// their parts. Returns the number of pairs of an edge and a filler.
-fn at_each_place<T: Unit>(fillers: &str, edges: &str, length_of: fn(&[T]) -> usize) -> usize {
+/// Passes texts with each of the edges at each index among each of the fillers, the sum of the lengths of their parts,
+/// and what each is made of. Returns the number of pairs of an edge and a filler.
+pub(crate) fn for_each_text<T: Unit>(fillers: &str, edges: &str, check: impl Fn(&[T], usize, Arguments)) -> usize {
     let (fillers, edges) = (lengths::<T>(fillers), lengths::<T>(edges));
     for (filler, filler_length) in &fillers {
         for (edge, edge_length) in &edges {
             for count in filler_counts(MANY) {
                 for before in 0..=count {
                     let text = around(filler, count, before, edge);
-                    let wanted = filler_length * count + edge_length;
-                    assert_eq!(length_of(&text), wanted, "{filler:x?}, {edge:x?}, {before} of {count}");
+                    let sum = filler_length * count + edge_length;
+                    check(&text, sum, format_args!("{filler:x?}, {edge:x?}, {before} of {count}"));
                 }
             }
         }
@@ -243,15 +243,21 @@ fn at_each_place<T: Unit>(fillers: &str, edges: &str, length_of: fn(&[T]) -> usi
     fillers.len() * edges.len()
 }
 
+/// Asserts that these texts have the sum of the lengths of their parts. Returns the number of pairs of an edge and a
+/// filler.
+fn at_each_place<T: Unit>(fillers: &str, edges: &str, length_of: fn(&[T]) -> usize) -> usize {
+    for_each_text(fillers, edges, |text, sum, made_of| assert_eq!(length_of(text), sum, "{made_of}"))
+}
+
 /// Bytes that surround others, and their number of code units.
-const BYTE_FILLERS: &str = "\
+pub(crate) const BYTE_FILLERS: &str = "\
 61 | 1
 D0 B0 | 1
 E4 B8 80 | 1
 F0 9F 98 80 | 2";
 
 /// Characters and malformed sequences, and their number of code units: Encoding Standard, UTF-8 decoder.
-const BYTE_EDGES: &str = "\
+pub(crate) const BYTE_EDGES: &str = "\
 7F | 1
 C2 80 | 1
 E0 A0 80 | 1
@@ -280,7 +286,7 @@ fn code_units_of_bytes() {
 }
 
 /// Code units that surround others, and their number of bytes.
-const UNIT_FILLERS: &str = "\
+pub(crate) const UNIT_FILLERS: &str = "\
 0061 | 1
 0430 | 2
 4E00 | 3
@@ -288,7 +294,7 @@ D83D DE00 | 4";
 
 /// Characters and unpaired surrogates, and their number of bytes: Unicode Standard, section 3.9, with U+FFFD for the
 /// latter.
-const UNIT_EDGES: &str = "\
+pub(crate) const UNIT_EDGES: &str = "\
 007F | 1
 0080 | 2
 07FF | 2

@@ -4,6 +4,7 @@
 mod common;
 
 mod conversions;
+mod counts;
 mod lengths;
 mod rooms;
 #[cfg(feature = "std")]
