@@ -268,6 +268,7 @@ static void damaged_text(const damaged &text, std::size_t before)
     const auto repaired = encoding_text::repair(source);
     CHECK(repaired.text == letters + text.repaired.utf8 && is_exact(repaired.text));
     CHECK(repaired.replaced == text.malformed.size());
+    CHECK(encoding_text::repaired_utf8_length(source) == before + text.repaired.utf8.size());
     std::vector<std::array<std::size_t, 2>> found;
     for (const auto [offset, length] : encoding_text::malformed_sequences(source)) {
         found.push_back({offset - before, length});

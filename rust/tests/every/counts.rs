@@ -34,7 +34,9 @@ fn of_random_bytes() {
         for mask in [0xFF, 0xBF, 0x9F] {
             let mut bytes = vec![0xFF; 1];
             for _ in 0..length {
-                state = state.wrapping_mul(6_364_136_223_846_793_005).wrapping_add(1_442_695_040_888_963_407);
+                state = state
+                    .wrapping_mul(6_364_136_223_846_793_005)
+                    .wrapping_add(1_442_695_040_888_963_407);
                 bytes.push((state >> 56) as u8 & mask);
             }
             let text = String::from_utf8_lossy(&bytes);

@@ -246,7 +246,9 @@ pub(crate) fn for_each_text<T: Unit>(fillers: &str, edges: &str, check: impl Fn(
 /// Asserts that these texts have the sum of the lengths of their parts. Returns the number of pairs of an edge and a
 /// filler.
 fn at_each_place<T: Unit>(fillers: &str, edges: &str, length_of: fn(&[T]) -> usize) -> usize {
-    for_each_text(fillers, edges, |text, sum, made_of| assert_eq!(length_of(text), sum, "{made_of}"))
+    for_each_text(fillers, edges, |text, sum, made_of| {
+        assert_eq!(length_of(text), sum, "{made_of}")
+    })
 }
 
 /// Bytes that surround others, and their number of code units.
