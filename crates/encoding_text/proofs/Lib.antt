@@ -25,3 +25,4 @@ pub mod RepairingLemmas
 pub mod RepairedLengthLemmas
 pub mod RoomLemmas
 pub mod TableLemmas
+pub mod Utf16BytesLemmas

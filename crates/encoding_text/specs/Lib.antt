@@ -4,6 +4,7 @@ pub mod Encoding
 pub mod Borrowed
 pub mod Classes
 pub mod Steps
+pub mod Utf16Bytes
 -- the terms of the standards, so that a crate above needs no other to cite them
 pub use Rattle.encoding_definitions.specs.Sequence
 pub use Rattle.encoding_definitions.specs.Parts

@@ -6,4 +6,5 @@ pub mod ascii;
 pub mod count;
 pub mod decoder;
 pub mod mem;
+pub mod utf_16;
 pub mod utf_8;

@@ -1,0 +1,69 @@
+//! UTF-16BE and UTF-16LE: Unicode Standard, section 3.10, and Encoding Standard, sections 14.2 to 14.4. Each code unit is
+//! two bytes. A call leaves the rest of `dst` unchanged.
+
+ghost use Rattle.std.specs.Prelude.{◌≡◌, ℕ, ◌+◌, ◌*◌, ◌/◌, ◌∷◌, [], List, length, min, take};
+ghost use Rattle.encoding_definitions.specs.Prefixes.{WritesPrefix};
+ghost use Rattle.encoding_text.specs.Utf16Bytes.{unit_bytes, utf16_bytes};
+
+/// The order of the two bytes of a code unit.
+#[derive(Clone, Copy, Debug, PartialEq, Eq, Drop)]
+pub enum ByteOrder {
+    /// UTF-16LE: the less significant byte comes first.
+    LittleEndian,
+    /// UTF-16BE: the more significant byte comes first.
+    BigEndian,
+}
+
+/// Returns the code unit of two bytes.
+#[inline(always)]
+fn decode_unit(order: ByteOrder, bytes: [u8; 2]) -> u16
+    ensures { unit_bytes order result ≡ bytes }
+{
+    match order {
+        ByteOrder::LittleEndian => u16::from_le_bytes(bytes),
+        ByteOrder::BigEndian => u16::from_be_bytes(bytes),
+    }
+}
+
+/// Returns the two bytes of a code unit.
+#[inline(always)]
+fn encode_unit(order: ByteOrder, unit: u16) -> [u8; 2]
+    ensures { result ≡ unit_bytes order unit }
+{
+    match order {
+        ByteOrder::LittleEndian => unit.to_le_bytes(),
+        ByteOrder::BigEndian => unit.to_be_bytes(),
+    }
+}
+
+/// Converts UTF-16LE or UTF-16BE to code units, as many as `dst` holds. Returns how many bytes were read and how many
+/// code units were written. The last byte of an odd number is not read. No code unit is checked: surrogates may be
+/// unpaired.
+pub fn decode_utf16_bytes(order: ByteOrder, src: &[u8], dst: &mut [u16]) -> (usize, usize)
+    ensures count { result.1 ≡ min (length src.now / 2) (length dst.old) }
+    ensures read { result.0 ≡ 2 * result.1 }
+    ensures code_units { (units : List ℕ) × (utf16_bytes order units ≡ take result.0 src.now)
+        × WritesPrefix dst.old dst.new result.1 units }
+{
+    let count = (src.len() / 2).min(dst.len());
+    for i in 0..count {
+        dst[i] = decode_unit(order, [src[2 * i], src[2 * i + 1]]);
+    }
+    (2 * count, count)
+}
+
+/// Converts code units to UTF-16LE or UTF-16BE, as many as fit into `dst`. Returns how many code units were read and
+/// how many bytes were written. No code unit is checked: surrogates may be unpaired.
+pub fn encode_utf16_bytes(order: ByteOrder, src: &[u16], dst: &mut [u8]) -> (usize, usize)
+    ensures count { result.0 ≡ min (length src.now) (length dst.old / 2) }
+    ensures written { result.1 ≡ 2 * result.0 }
+    ensures bytes { WritesPrefix dst.old dst.new result.1 (utf16_bytes order (take result.0 src.now)) }
+{
+    let count = src.len().min(dst.len() / 2);
+    for i in 0..count {
+        let [first, second] = encode_unit(order, src[i]);
+        dst[2 * i] = first;
+        dst[2 * i + 1] = second;
+    }
+    (count, 2 * count)
+}
