@@ -51,4 +51,6 @@ mod surrogate_rows;
 #[cfg(test)]
 mod texts;
 #[cfg(test)]
+mod utf16_byte_rows;
+#[cfg(test)]
 mod utf16_rows;
