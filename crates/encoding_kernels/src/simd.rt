@@ -1,6 +1,6 @@
 //! What several kernels need: scans, copies, and tables of kept lanes.
 
-pub(crate) mod compress_pairs;
+pub(crate) mod compress;
 pub mod copy;
 pub mod scan;
 pub(crate) mod sum;

@@ -8,7 +8,7 @@ use Rattle.encoding_definitions.proofs.SequenceLemmas.{decide_incomplete, IsInco
 use Rattle.encoding_definitions.specs.Parts.{Part, IllFormed, IsFirstPart, StartsWith}
 use Rattle.encoding_definitions.proofs.PartsLemmas.{part_bytes}
 use Rattle.encoding_text.specs.Decoding.{IsMalformed}
-use Rattle.encoding_text.proofs.CallPartsLemmas.{malformed_first}
+use Rattle.encoding_text.proofs.CallLemmas.{malformed_first}
 use Rattle.encoding_text.proofs.OneResultLemmas.{malformed_or_open}
 use Rattle.encoding_runs.specs.MalformedSequences.{IsNextMalformed}
 use Rattle.encoding_runs.proofs.MalformedLemmas.{next_size, first_size}

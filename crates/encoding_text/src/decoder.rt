@@ -1,18 +1,23 @@
 //! The streaming UTF-8 decoder: Encoding Standard, section 8.1.1. The elements of `dst` past those
 //! reported as written are unchanged.
-mod borrowed;
-mod call;
-mod pending;
 
-ghost use Rattle.std.specs.Prelude.{◌≡◌, ℕ, ◌<◌, ◌≤◌, ◌↔◌, ◌⊎◌, List, [], length, encode_utf8, IsTrue};
+ghost use Rattle.std.specs.Prelude.{◌≡◌, ℕ, ◌<◌, ◌≤◌, ◌↔◌, ◌⊎◌, List, [], length, encode_utf8, IsTrue, ◌≢◌};
 ghost use Rattle.std.specs.Option.{SomeIff};
 ghost use Rattle.std.specs.Char.Escape.{encode_utf16};
-ghost use Rattle.encoding_definitions.specs.Sequence.{IsPending};
+ghost use Rattle.encoding_definitions.specs.Sequence.{IsPending, IsIncomplete};
+ghost use Rattle.encoding_text.specs.Decoding.{DecodeStepInto, BorrowedDecodeStep};
+ghost use Rattle.std.specs.Str.{IsUtf8};
+ghost use Rattle.encoding_definitions.specs.Prefixes.{IsLongestPrefix};
 
-use borrowed::decode_borrowed;
-use call::decode;
-use pending::Pending;
+use crate::ascii::short_ascii_valid_up_to;
+use crate::utf_8::{CodeUnit, short_valid_up_to, utf8_valid_up_to};
+use encoding_kernels::scalar::decode_utf8_scalar;
+use encoding_kernels::simd::scan::run_len_below;
+use encoding_kernels::simd::width::{ASCII_END, BLOCK, STRIDE};
+use pending::{Pending, Resumed, is_malformed_byte};
 use std::marker::Model;
+
+mod pending;
 
 /// What ended a call of a decoder.
 #[derive(Debug, PartialEq, Eq, Drop)]
@@ -178,5 +183,188 @@ impl Utf8Decoder {
         ensures { BorrowedDecodeStep self.old src.now last result.0 result.1 self.new }
     {
         decode_borrowed(&mut self.pending, src, last)
+    }
+}
+
+/// Decodes `src` after the pending bytes. Returns what ended the call, how many bytes it read and how many code units
+/// it wrote.
+#[tactic(auto, using(std::proofs::lemmas::Bool::both_ways, crate::proofs::PendingLemmas::pending_incomplete))]
+#[inline(always)]
+pub(crate) fn decode<U: CodeUnit>(
+    pending: &mut Pending,
+    src: &[u8],
+    dst: &mut [U],
+    last: bool,
+) -> (DecoderResult, usize, usize)
+    ensures { DecodeStepInto U.encode U.need pending.old src.now dst.old dst.new last result.0 result.1 result.2 pending.new }
+{
+    if pending.is_empty() {
+        decode_neutral(pending, src, dst, last)
+    } else {
+        decode_pending(pending, src, dst, last)
+    }
+}
+
+/// Decodes `src` with nothing pending, and returns what `decode` does.
+#[inline(always)]
+fn decode_neutral<U: CodeUnit>(
+    pending: &mut Pending,
+    src: &[u8],
+    dst: &mut [U],
+    last: bool,
+) -> (DecoderResult, usize, usize)
+    requires neutral { pending.old ≡ [] }
+    ensures { DecodeStepInto U.encode U.need [] src.now dst.old dst.new last result.0 result.1 result.2 pending.new }
+{
+    let (read, written) = U::convert_up_to_invalid(src, dst);
+    if read == src.len() {
+        return (DecoderResult::InputEmpty, read, written);
+    }
+    if dst.len() - written < U::max_units_per_scalar() {
+        return (DecoderResult::OutputFull, read, written);
+    }
+    let (result, more) = pending.end_before(&src[read..], last);
+    (result, read + more, written)
+}
+
+/// Decodes `src` after an incomplete sequence, and returns what `decode` does.
+#[inline(never)]
+fn decode_pending<U: CodeUnit>(
+    pending: &mut Pending,
+    src: &[u8],
+    dst: &mut [U],
+    last: bool,
+) -> (DecoderResult, usize, usize)
+    requires unfinished { IsIncomplete pending.old }
+    ensures { DecodeStepInto U.encode U.need pending.old src.now dst.old dst.new last result.0 result.1 result.2 pending.new }
+{
+    if src.is_empty() {
+        return (pending.end(last), 0, 0);
+    }
+    if dst.len() < U::max_units_per_scalar() {
+        return (DecoderResult::OutputFull, 0, 0);
+    }
+    match pending.resume(src) {
+        (Resumed::Ended, read) => (pending.end(last), read, 0),
+        (Resumed::Rejected(count), read) => (DecoderResult::Malformed(count as u8, 0), read, 0),
+        (Resumed::Complete(bytes, count), read) => {
+            let (_, written) = U::convert_up_to_invalid(&bytes[..count], dst);
+            let (result, more_read, more_written) = decode_neutral(
+                pending,
+                &src[read..],
+                &mut dst[written..],
+                last,
+            );
+            (result, read + more_read, written + more_written)
+        }
+    }
+}
+
+/// Returns the piece for what ended a call without output.
+fn piece_at_end<'a>(end: DecoderResult) -> Piece<'a>
+    requires { end ≢ DecoderResult.OutputFull }
+    ensures all_read { end ≡ DecoderResult.InputEmpty → result ≡ Piece.InputEmpty }
+    ensures malformed { (k second : ℕ) → end ≡ DecoderResult.Malformed k second → result ≡ Piece.Malformed k }
+{
+    match end {
+        DecoderResult::InputEmpty => Piece::InputEmpty,
+        DecoderResult::Malformed(count, _) => Piece::Malformed(count),
+        DecoderResult::OutputFull => unreachable!(),
+    }
+}
+
+/// Decodes the start of `src` after the pending bytes. Returns the piece and how many bytes were read.
+#[tactic(auto, using(std::proofs::lemmas::Bool::both_ways, crate::proofs::PendingLemmas::pending_incomplete))]
+#[inline(always)]
+pub(crate) fn decode_borrowed<'a>(
+    pending: &mut Pending,
+    src: &'a [u8],
+    last: bool,
+) -> (Piece<'a>, usize)
+    ensures { BorrowedDecodeStep pending.old src.now last result.0 result.1 pending.new }
+{
+    if pending.is_empty() {
+        borrow_prefix(pending, src, last)
+    } else {
+        resume_borrowed(pending, src, last)
+    }
+}
+
+/// Returns the length of the longest well-formed prefix of 16 to 64 bytes. If a malformed sequence follows the ASCII
+/// prefix, two vectors show it.
+#[tactic(auto, using(crate::proofs::WholePrefixesLemmas::whole_ascii))]
+#[inline(always)]
+fn short_well_formed_length(src: &[u8]) -> usize
+    requires { (16 ≤ length src.now) × (length src.now ≤ 64) }
+    ensures { IsLongestPrefix IsUtf8 src.now result }
+{
+    let ascii = short_ascii_valid_up_to(src);
+    if ascii == src.len() {
+        return ascii;
+    }
+    if is_malformed_byte(&src[ascii..]) {
+        return ascii;
+    }
+    short_valid_up_to(src)
+}
+
+/// Returns the length of the longest well-formed prefix. Between malformed sequences this is often a few ASCII bytes,
+/// which one vector shows.
+#[inline(always)]
+fn well_formed_length(src: &[u8]) -> usize
+    ensures { IsLongestPrefix IsUtf8 src.now result }
+{
+    if STRIDE <= src.len() && src.len() <= BLOCK {
+        return short_well_formed_length(src);
+    }
+    if src.len() > BLOCK {
+        let ascii = run_len_below::<STRIDE>(src, 0, ASCII_END);
+        if is_malformed_byte(&src[ascii..]) {
+            return ascii;
+        }
+    }
+    utf8_valid_up_to(src)
+}
+
+/// Decodes the start of `src` with nothing pending. Returns the piece and how many bytes were read.
+#[inline(always)]
+fn borrow_prefix<'a>(pending: &mut Pending, src: &'a [u8], last: bool) -> (Piece<'a>, usize)
+    requires neutral { pending.old ≡ [] }
+    ensures { BorrowedDecodeStep [] src.now last result.0 result.1 pending.new }
+{
+    if src.is_empty() {
+        return (Piece::InputEmpty, 0);
+    }
+    // a malformed sequence often comes next, and one byte shows it
+    if is_malformed_byte(src) {
+        return (Piece::Malformed(1), 1);
+    }
+    let length = well_formed_length(src);
+    if length > 0 {
+        return (
+            Piece::Text(unsafe { std::str::from_utf8_unchecked(&src[..length]) }),
+            length,
+        );
+    }
+    let (end, read) = pending.end_in_incomplete(src, last);
+    (piece_at_end(end), read)
+}
+
+/// Decodes the start of `src` after an incomplete sequence. Returns the piece and how many bytes were read.
+#[inline(never)]
+fn resume_borrowed<'a>(pending: &mut Pending, src: &'a [u8], last: bool) -> (Piece<'a>, usize)
+    requires unfinished { IsIncomplete pending.old }
+    ensures { BorrowedDecodeStep pending.old src.now last result.0 result.1 pending.new }
+{
+    match pending.resume(src) {
+        (Resumed::Ended, read) => (piece_at_end(pending.end(last)), read),
+        (Resumed::Rejected(count), read) => (Piece::Malformed(count as u8), read),
+        (Resumed::Complete(bytes, count), read) => {
+            let scalar = decode_utf8_scalar(&bytes[..count]);
+            (
+                Piece::Char(unsafe { char::from_u32_unchecked(scalar) }),
+                read,
+            )
+        }
     }
 }

@@ -4,7 +4,7 @@ ghost use Rattle.std.specs.Prelude.{◌≡◌, ℕ, ◌+◌, ◌*◌, ◌<◌, �
 ghost use Rattle.std.specs.Simd.Lanes.{mask_l};
 ghost use Rattle.encoding_kernels.specs.EncodeLanes.{EndsPair, all_latin1_ended, both_end};
 
-use crate::simd::compress_pairs::keep_pairs;
+use crate::simd::compress::keep_pairs;
 use std::simd::prelude::*;
 
 /// Returns for each pair of bytes the Latin1 bytes that its bytes end, given the byte before each byte. If they end one,

@@ -4,7 +4,7 @@ ghost use Rattle.std.specs.Prelude.{◌≡◌, ℕ, ◌+◌, ◌*◌, ◌<◌, �
 ghost use Rattle.std.specs.Simd.Lanes.{mask_l};
 ghost use Rattle.encoding_kernels.specs.EncodeLanes.{EncodesTo};
 
-use crate::simd::compress_pairs::{keep_pairs, write_both};
+use crate::simd::compress::{keep_pairs, write_both};
 use crate::utf8_to_utf16::code_units::join_bytes;
 use std::simd::prelude::*;
 

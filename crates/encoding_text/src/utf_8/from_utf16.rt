@@ -10,8 +10,8 @@ use encoding_kernels::scalar::{
 };
 use encoding_kernels::simd::width::{BASIC_LATIN_END, HALF_STRIDE};
 use encoding_kernels::utf16_to_utf8::convert::{convert_blocks, convert_paired_blocks};
-pub(super) use encoding_kernels::utf16_to_utf8::exact::REPLACEMENT_CHARACTER;
-use encoding_kernels::utf16_to_utf8::exact::scalar_at;
+pub(super) use encoding_kernels::utf16_to_utf8::mixed::REPLACEMENT_CHARACTER;
+use encoding_kernels::utf16_to_utf8::mixed::scalar_at;
 
 /// The most bytes that a character has in UTF-8.
 const LONGEST: usize = 4;

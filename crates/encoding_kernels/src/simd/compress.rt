@@ -1,0 +1,175 @@
+//! Looks up by a mask which bytes are kept of eight pairs, or of four lanes of four bytes, and selects them.
+
+ghost use Rattle.std.specs.Prelude.{◌≡◌, ℕ, ◌+◌, ◌*◌, ◌<◌, ◌≤◌, ◌++◌, Bool, List, length, map, take, drop, slice_index};
+ghost use Rattle.std.specs.Simd.Lanes.{mask_l};
+ghost use Rattle.encoding_kernels.specs.EncodeLanes.{kept_places, last_places};
+
+use crate::simd::copy::LANES;
+use std::simd::prelude::*;
+
+/// Builds the table pair by pair, last pair first. Each row lists the index of the pair's first byte, or those of both
+/// bytes, by its bit, followed by those of later pairs. A row has four words.
+macro_rules! pair_rows {
+    ([] $($row:expr),*) => {
+        [$(
+            ($row & 0xFFFF_FFFF) as u32,
+            ($row >> 32 & 0xFFFF_FFFF) as u32,
+            ($row >> 64 & 0xFFFF_FFFF) as u32,
+            ($row >> 96) as u32
+        ),*]
+    };
+    ([$first:literal $($before:literal)*] $($row:expr),*) => {
+        pair_rows!([$($before)*] $(
+            $row << 8 | $first,
+            $row << 16 | $first + 1 << 8 | $first
+        ),*)
+    };
+}
+
+/// For each mask of eight pairs of bytes, the indices of the bytes that are kept: the first of each pair, and the
+/// second if its bit is set. Zeros follow.
+const PLACES: [u32; 1024] = pair_rows!([14u128 12u128 10u128 8u128 6u128 4u128 2u128 0u128] 0u128);
+
+/// Returns a word of the table.
+#[inline(always)]
+fn places_word(at: usize) -> u32
+    requires { at < 1024 }
+    ensures { result ≡ slice_index PLACES at }
+{
+    PLACES[at]
+}
+
+/// Returns the indices that a mask keeps, followed by zeros.
+#[inline(always)]
+pub(crate) fn places_by(mask: usize) -> u8x16
+    requires { mask < 256 }
+    ensures lane_count { length result ≡ 16 }
+    ensures within { (k : ℕ) → k < 16 → slice_index result k < 16 }
+    ensures kept { (tests : List Bool) → length tests ≡ 8 → mask ≡ mask_l tests
+        → take (length (kept_places 0 tests)) result ≡ kept_places 0 tests }
+{
+    u32x4::from_array([
+        places_word(4 * mask),
+        places_word(4 * mask + 1),
+        places_word(4 * mask + 2),
+        places_word(4 * mask + 3),
+    ])
+    .to_le_bytes()
+}
+
+/// Returns the bytes of eight pairs that a mask keeps, at the start of the vector, and their number.
+#[inline(always)]
+pub(crate) fn keep_pairs(pairs: u8x16, mask: usize) -> (u8x16, usize)
+    requires { mask < 256 }
+    ensures lane_count { length result.0 ≡ 16 }
+    ensures out_length { (8 ≤ result.1) × (result.1 ≤ 16) }
+    ensures kept { (tests : List Bool) → length tests ≡ 8 → mask ≡ mask_l tests
+        → take result.1 result.0 ≡ map (λ k. slice_index pairs k) (kept_places 0 tests) }
+{
+    (
+        pairs.swizzle_dyn(places_by(mask)),
+        8 + mask.count_ones() as usize,
+    )
+}
+
+/// Writes the first `count` bytes of `first`, followed by the first `more` of `second`. Stores 32 bytes, the others as
+/// `dst` has them.
+#[inline(always)]
+pub(crate) fn write_both(
+    dst: &mut [u8],
+    at: usize,
+    first: u8x16,
+    count: usize,
+    second: u8x16,
+    more: usize,
+)
+    requires dst_length { at + 32 ≤ length dst.old }
+    requires first_lanes { (count ≤ 16) × (length first ≡ 16) }
+    requires second { (more ≤ 16) × (length second ≡ 16) }
+    ensures { dst.new ≡ take at dst.old ++ ((take count first ++ take more second) ++ drop (at + (count + more)) dst.old) }
+{
+    let next = at + count;
+    let following = u8x16::from_slice(&dst[next..]);
+    first.copy_to_slice(&mut dst[at..]);
+    let is_kept = u8x16::from_array(LANES).simd_lt(u8x16::splat(more as u8));
+    is_kept
+        .select(second, following)
+        .copy_to_slice(&mut dst[next..]);
+}
+
+/// Builds the table lane by lane, last lane first. Each row lists the indices of the lane's last three bytes, its last
+/// one, its last two, or its last one, by its two bits, followed by those of later lanes. A row has four words.
+macro_rules! last_rows {
+    ([] $($row:expr),*) => {
+        [$(
+            ($row & 0xFFFF_FFFF) as u32,
+            ($row >> 32 & 0xFFFF_FFFF) as u32,
+            ($row >> 64) as u32,
+            0
+        ),*]
+    };
+    ([$last:literal $($before:literal)*] $($row:expr),*) => {
+        last_rows!([$($before)*] $(
+            $row << 24 | $last << 16 | $last - 1 << 8 | $last - 2,
+            $row << 8 | $last,
+            $row << 16 | $last << 8 | $last - 1,
+            $row << 8 | $last
+        ),*)
+    };
+}
+
+/// For each mask of four lanes, the indices of the bytes that are kept: of a lane the last one if the first of its bits
+/// is set, else the last two if the second is, else the last three. Zeros follow.
+const LAST_BYTES_TABLE: [u32; 1024] = last_rows!([15u128 11u128 7u128 3u128] 0u128);
+
+/// Returns a word of the table.
+#[inline(always)]
+fn last_word(at: usize) -> u32
+    requires { at < 1024 }
+    ensures { result ≡ slice_index LAST_BYTES_TABLE at }
+{
+    LAST_BYTES_TABLE[at]
+}
+
+/// Returns the indices that a mask keeps, followed by zeros.
+#[inline(always)]
+pub(crate) fn last_by(mask: usize) -> u8x16
+    requires { mask < 256 }
+    ensures lane_count { length result ≡ 16 }
+    ensures within { (k : ℕ) → k < 16 → slice_index result k < 16 }
+    ensures kept { (tests : List Bool) → length tests ≡ 8 → mask ≡ mask_l tests
+        → take (length (last_places 0 tests)) result ≡ last_places 0 tests }
+{
+    u32x4::from_array([
+        last_word(4 * mask),
+        last_word(4 * mask + 1),
+        last_word(4 * mask + 2),
+        last_word(4 * mask + 3),
+    ])
+    .to_le_bytes()
+}
+
+/// Returns the bytes of the first half of a vector at the indices in `first`, and those of the second half at the
+/// indices in `second`.
+#[inline(always)]
+pub(crate) fn select_in_halves(bytes: u8x32, first: u8x16, second: u8x16) -> (u8x16, u8x16)
+    requires lane_count { (length first ≡ 16) × (length second ≡ 16) }
+    requires within { (k : ℕ) → k < 16 → (slice_index first k < 16) × (slice_index second k < 16) }
+    ensures lower { result.0 ≡ map (λ k. slice_index bytes k) first }
+    ensures upper { result.1 ≡ map (λ k. slice_index bytes (16 + k)) second }
+{
+    let places = first.shuffle(
+        second,
+        [
+            0, 1, 2, 3, 4, 5, 6, 7, 8, 9, 10, 11, 12, 13, 14, 15, 16, 17, 18, 19, 20, 21, 22, 23,
+            24, 25, 26, 27, 28, 29, 30, 31,
+        ],
+    );
+    let selected = bytes.swizzle_dyn_within::<16>(places);
+    (
+        selected.swizzle([0, 1, 2, 3, 4, 5, 6, 7, 8, 9, 10, 11, 12, 13, 14, 15]),
+        selected.swizzle([
+            16, 17, 18, 19, 20, 21, 22, 23, 24, 25, 26, 27, 28, 29, 30, 31,
+        ]),
+    )
+}
