@@ -236,7 +236,7 @@ ascii_latin1 bs (suc n) l low =
     let last : slice_index bs (suc n - 1) < 0x80 = low (suc n - 1) (omega arith) in
     latin1_whole bs (suc n) l (omega arith) (ascii_fits bs (suc n) low) (λ h. omega arith)
 
-follows_test : (b : ℕ) → b < 256 → eqb (bit_and b 0xC0) 0x80 ≡ (leb 0x80 b && ltb b 0xC0)
+pub follows_test : (b : ℕ) → b < 256 → eqb (bit_and b 0xC0) 0x80 ≡ (leb 0x80 b && ltb b 0xC0)
 follows_test b l = agree_below_at (λ x. eqb (bit_and x 0xC0) 0x80) (λ x. leb 0x80 x && ltb x 0xC0) 256 b refl l
 
 overlong_test : (b : ℕ) → b < 256 → eqb (bit_and b 0xFE) 0xC0 ≡ (leb 0xC0 b && ltb b 0xC2)

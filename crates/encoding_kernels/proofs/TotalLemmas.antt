@@ -15,6 +15,7 @@ use Rattle.encoding_definitions.specs.Utf16.{IsHighSurrogate, IsLowSurrogate}
 use Rattle.encoding_kernels.proofs.LaneLemmas.{HasLanes-itself, HasLanes_same, HasLanes-splat, HasLanes-zip2, compared}
 use Rattle.encoding_kernels.proofs.TestLemmas.{chosen, chosen_by, tests_and, tests_of}
 use Rattle.encoding_kernels.proofs.SurrogatePairsLemmas.{high_test, low_test}
+use Rattle.encoding_kernels.proofs.PairsLemmas.{follows_test}
 use Rattle.encoding_definitions.proofs.Latin1Lemmas.{at_drop_start}
 
 -- the sum from an index on, by the term at that index
@@ -207,24 +208,25 @@ one_or_none false = refl
 
 -- ---- UTF-8
 abbrev pub joins_lane : ℕ → ℕ → Bool
-joins_lane a b = ((((leb 0xC2 a && leb a 0xF4) && not (eqb a (cond (ltb b 0xA0) 0xE0 0xED))) && not (eqb a (cond (ltb b 0x90) 0xF0 0xF4))) && leb 0x80 b) && ltb b 0xC0
+joins_lane a b = (((leb 0xC2 a && leb a 0xF4) && not (eqb a (cond (ltb b 0xA0) 0xE0 0xED))) && not (eqb a (cond (ltb b 0x90) 0xF0 0xF4))) && eqb (bit_and b 0xC0) 0x80
 
-joins_is : (a b : ℕ) → joins_lane a b ≡ goes_second a b
-joins_is a b = grind (arith, nat_tests)
+joins_is : (a b : ℕ) → b < 2 ^ 8 → joins_lane a b ≡ goes_second a b
+joins_is a b l = let two_bits = follows_test b l in grind (arith, nat_tests)
 
-counted : (p q r s : Bool) → (cond p 1 0 + cond (((p && q) && r) && s) 1 0) % 2 ^ 8 ≡ cond p (cond (q && (r && s)) 2 1) 0
-counted true true true true = refl
-counted true true true false = refl
-counted true true false s = refl
-counted true false r s = refl
-counted false q r s = refl
+counted : (p q r : Bool) → (cond p 1 0 + cond ((p && q) && r) 1 0) % 2 ^ 8 ≡ cond p (cond (q && r) 2 1) 0
+counted true true true = refl
+counted true true false = refl
+counted true false r = refl
+counted false q r = refl
 
 pub below_is : (c : ℕ) → ltb c 0xC0 ≡ nat_le c 0xBF
 below_is c = grind (arith, nat_tests)
 
-pub joined_lane : (a b c : ℕ) → (cond (joins_lane a b) 1 0 + cond (((joins_lane a b && leb 0xE0 a) && leb 0x80 c) && ltb c 0xC0) 1 0) % 2 ^ 8 ≡ continuations_by a b c
-joined_lane a b c =
-    counted (joins_lane a b) (leb 0xE0 a) (leb 0x80 c) (ltb c 0xC0) ∙ (λ i. cond (joins_is a b i) (cond (leb 0xE0 a && (leb 0x80 c && below_is c i)) 2 1) 0)
+pub joined_lane : (a b c : ℕ) → b < 2 ^ 8 → c < 2 ^ 8
+    → (cond (joins_lane a b) 1 0 + cond ((joins_lane a b && leb 0xE0 a) && eqb (bit_and c 0xC0) 0x80) 1 0) % 2 ^ 8 ≡ continuations_by a b c
+joined_lane a b c l m =
+    let third : eqb (bit_and c 0xC0) 0x80 ≡ (leb 0x80 c && nat_le c 0xBF) = follows_test c m ∙ ap (λ t. leb 0x80 c && t) (below_is c) in
+    counted (joins_lane a b) (leb 0xE0 a) (eqb (bit_and c 0xC0) 0x80) ∙ (λ i. cond (joins_is a b l i) (cond (leb 0xE0 a && third i) 2 1) 0)
 
 -- ---- UTF-16
 same_bool : (a b : Bool) → (a ≡ true → b ≡ true) → (b ≡ true → a ≡ true) → a ≡ b

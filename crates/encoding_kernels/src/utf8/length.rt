@@ -59,11 +59,10 @@ fn joined_lanes<const N: usize>(
         & lead.simd_le(Simd::splat(0xF4))
         & lead.simd_ne(three_byte_lead)
         & lead.simd_ne(four_byte_lead);
-    let both = begins & second.simd_ge(Simd::splat(0x80)) & second.simd_lt(Simd::splat(0xC0));
+    let both = begins & (second & Simd::splat(0xC0)).simd_eq(Simd::splat(0x80));
     let goes_on = both
         & lead.simd_ge(Simd::splat(0xE0))
-        & third.simd_ge(Simd::splat(0x80))
-        & third.simd_lt(Simd::splat(0xC0));
+        & (third & Simd::splat(0xC0)).simd_eq(Simd::splat(0x80));
     let one = Simd::<u8, N>::splat(1);
     let zero = Simd::<u8, N>::splat(0);
     both.select(one, zero) + goes_on.select(one, zero)

@@ -1,4 +1,5 @@
-use Rattle.std.proofs.Common.{◌+◌, ◌%◌, ◌^◌, eqb, leb, ltb, not, slice_index, w8}
+use Rattle.std.proofs.Common.{◌+◌, ◌%◌, ◌^◌, eqb, leb, ltb, not, bit_and, slice_index, Fits, w8, arith}
+use Rattle.std.proofs.lemmas.Simd.{Each1-get_or}
 use Rattle.encoding_kernels.proofs.LaneLemmas.{HasLanes-itself, HasLanes_same, HasLanes-splat, HasLanes-zip2}
 use Rattle.encoding_kernels.proofs.TestLemmas.{chosen, tests_and, tests_of}
 use Rattle.encoding_kernels.proofs.TotalLemmas.{joined_lane}
@@ -17,7 +18,10 @@ returns g c =
     let not_three = tests_of w8 (λ x y. not (eqb x y)) a three in
     let not_four = tests_of w8 (λ x y. not (eqb x y)) a four in
     let begins = tests_and (tests_and (tests_and least most) not_three) not_four in
-    let both = tests_and (tests_and begins (tests_of w8 leb (HasLanes-splat n 0x80) b)) (tests_of w8 ltb b (HasLanes-splat n 0xC0)) in
+    let both = tests_and begins (tests_of w8 eqb (HasLanes-zip2 bit_and b (HasLanes-splat n 0xC0)) (HasLanes-splat n 0x80)) in
     let long = tests_of w8 leb (HasLanes-splat n 0xE0) a in
-    let goes_on = tests_and (tests_and (tests_and both long) (tests_of w8 leb (HasLanes-splat n 0x80) d)) (tests_of w8 ltb d (HasLanes-splat n 0xC0)) in
-    HasLanes_same (HasLanes-zip2 (λ x y. (x + y) % 2 ^ 8) (chosen 1 0 both) (chosen 1 0 goes_on)) (λ k l. joined_lane (slice_index c.args.lead k) (slice_index c.args.second k) (slice_index c.args.third k))
+    let third = tests_of w8 eqb (HasLanes-zip2 bit_and d (HasLanes-splat n 0xC0)) (HasLanes-splat n 0x80) in
+    let goes_on = tests_and (tests_and both long) third in
+    HasLanes_same (HasLanes-zip2 (λ x y. (x + y) % 2 ^ 8) (chosen 1 0 both) (chosen 1 0 goes_on))
+    (λ k l. joined_lane (slice_index c.args.lead k) (slice_index c.args.second k) (slice_index c.args.third k)
+    (Each1-get_or (Fits w8) c.args.second k 0 (omega (arith, c.fits-second.0)) c.fits-second.1).fits (Each1-get_or (Fits w8) c.args.third k 0 (omega (arith, c.fits-third.0)) c.fits-third.1).fits)
