@@ -20,7 +20,8 @@ AllByRecursion-push P [] x h p = (p, tt)
 AllByRecursion-push P (y ∷ ys) x h p = (h.0, AllByRecursion-push P ys x h.1 p)
 
 -- what is cut off is appended to the pieces before it
-pub flat_map-push : {X : Type 0} (f : X → List ℕ) (xs : List X) (x : X) (rest others bytes : List ℕ) → flat_map f xs ++ rest ≡ bytes → f x ++ others ≡ rest → flat_map f (xs ++ x ∷ []) ++ others ≡ bytes
+pub flat_map-push : {X : Type 0} (f : X → List ℕ) (xs : List X) (x : X) (rest others bytes : List ℕ) → flat_map f xs ++ rest ≡ bytes → f x ++ others ≡ rest
+    → flat_map f (xs ++ x ∷ []) ++ others ≡ bytes
 flat_map-push f xs x rest others bytes h e =
     ap (λ t. t ++ others) (sym (flat_map_more f [] xs x)) ∙ append_assoc (flat_map f xs) (f x) others ∙ ap (λ t. flat_map f xs ++ t) e ∙ h
 
@@ -31,10 +32,20 @@ replaced_within [] [] h = omega arith
 replaced_within [] (r ∷ rs) h = absurd h
 replaced_within (p ∷ ps) [] h = absurd h
 replaced_within (p ∷ ps) (r ∷ rs) ((parts, are, text, count), h) =
-    omega (arith, count, sum_by-cons (λ (piece : RepairedPiece). piece.replaced) r rs, malformed_count-bytes p parts [] are, replaced_within ps rs h, length-append p (flat_map (λ piece. piece) ps))
+    omega (
+      arith,
+      count,
+      sum_by-cons
+          (λ (piece : RepairedPiece). piece.replaced) r rs,
+      malformed_count-bytes p parts [] are,
+      replaced_within ps rs h,
+      length-append p
+          (flat_map (λ piece. piece) ps),
+    )
 
 -- what holds of two pieces holds of all
-pub all_joined : ((piece more text others : List ℕ) (n m : ℕ) → MayBeCutAfter piece → IsLossyDecodeWith piece text n → IsLossyDecodeWith more others m → IsLossyDecodeWith (piece ++ more) (text ++ others) (n + m))
+pub all_joined : ((piece more text others : List ℕ) (n m : ℕ) → MayBeCutAfter piece → IsLossyDecodeWith piece text n → IsLossyDecodeWith more others m
+    → IsLossyDecodeWith (piece ++ more) (text ++ others) (n + m))
     → (pieces : List (List ℕ)) (repaired : List RepairedPiece) → AreCut pieces → AllZip IsRepairOf pieces repaired
     → IsLossyDecodeWith (flat_map (λ piece. piece) pieces) (flat_map (λ piece. piece.text.items) repaired) (sum_by (λ piece. piece.replaced) repaired)
 all_joined law [] [] cut h = ([], refl, refl, refl)
@@ -57,4 +68,5 @@ pub malformed_after : (parts others : List Part) (at n : ℕ) → at + length (f
     → malformed_indices at (parts ++ others) ≡ malformed_indices at parts ++ following n (malformed_indices 0 others)
 malformed_after [] others at n e = after_more others n 0 at (omega arith)
 malformed_after (Character c ∷ parts) others at n e = malformed_after parts others _ n (omega (arith, length-append (encode_utf8 c) (flat_map bytes_of parts)))
-malformed_after (IllFormed x ∷ parts) others at n e = ap (λ found. (at, length x) ∷ found) (malformed_after parts others _ n (omega (arith, length-append x (flat_map bytes_of parts))))
+malformed_after (IllFormed x ∷ parts) others at n e = ap (λ found. (at, length x) ∷ found)
+    (malformed_after parts others _ n (omega (arith, length-append x (flat_map bytes_of parts))))

@@ -28,8 +28,10 @@ pub fn law_cut()
     ensures malformed { (piece more : List ℕ) (found others : List (ℕ × ℕ)) → MayBeCutAfter piece
         → AreMalformedSequencesOf piece found → AreMalformedSequencesOf more others
         → AreMalformedSequencesOf (piece ++ more) (found ++ following (length piece) others) }
-    ensures repaired { (piece more text others : List ℕ) (n m : ℕ) → MayBeCutAfter piece → IsLossyDecodeWith piece text n
-        → IsLossyDecodeWith more others m → IsLossyDecodeWith (piece ++ more) (text ++ others) (n + m) }
+    ensures repaired { (piece more text others : List ℕ) (n m : ℕ) → MayBeCutAfter piece
+        → IsLossyDecodeWith piece text n
+        → IsLossyDecodeWith more others m
+        → IsLossyDecodeWith (piece ++ more) (text ++ others) (n + m) }
 {
     law_parts();
     law_cuts();

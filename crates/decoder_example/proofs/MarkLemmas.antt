@@ -40,7 +40,8 @@ module _ (n : ℕ) (short : n < 3) (src : List ℕ) where
   mark_whole missing more e begins =
       let rest = drop (length missing) src in
       let whole : src ≡ drop n mark ++ rest = starts src missing begins ∙ ap (λ bs. bs ++ rest) e in
-      sym (without_mark-mark _ (rest ++ more) (ap (λ bs. take n mark ++ (bs ++ more)) whole ∙ ap (λ bs. take n mark ++ bs) (append_assoc (drop n mark) rest more) ∙ joined (rest ++ more)))
+      sym (without_mark-mark _ (rest ++ more) (ap (λ bs. take n mark ++ (bs ++ more)) whole
+      ∙ ap (λ bs. take n mark ++ bs) (append_assoc (drop n mark) rest more) ∙ joined (rest ++ more)))
 
   -- it is incomplete
   pub mark_begun : (missing : List ℕ) → missing ≡ drop n mark → starts_with nat_eq src missing ≡ false → starts_with nat_eq missing src ≡ true
@@ -48,7 +49,8 @@ module _ (n : ℕ) (short : n < 3) (src : List ℕ) where
   mark_begun missing e differs begins =
       let rest = drop (length src) missing in
       let whole : missing ≡ src ++ rest = starts missing src begins in
-      let all : mark ≡ (take n mark ++ src) ++ rest = sym (take-append-drop n mark) ∙ ap (λ bs. take n mark ++ bs) (sym e ∙ whole) ∙ sym (append_assoc (take n mark) src rest) in
+      let all : mark ≡ (take n mark ++ src) ++ rest = sym (take-append-drop n mark) ∙ ap (λ bs. take n mark ++ bs) (sym e ∙ whole)
+      ∙ sym (append_assoc (take n mark) src rest) in
       let long : length (take n mark ++ src) ≡ n + length src = omega (arith, length-append (take n mark) src, length-take n mark, short) in (
         some rest whole all,
         ap (take (n + length src)) all ∙ take_at (take n mark ++ src) rest (n + length src) long,
@@ -59,14 +61,16 @@ module _ (n : ℕ) (short : n < 3) (src : List ℕ) where
       some (b ∷ bs) w a = omega (arith, ap length a, length-append (take n mark ++ src) (b ∷ bs), length-append (take n mark) src, length-take n mark, short)
 
   -- it is none
-  pub no_mark : (missing more : List ℕ) (last : Bool) → missing ≡ drop n mark → starts_with nat_eq src missing ≡ false → (last ≡ false → starts_with nat_eq missing src ≡ false) → (last ≡ true → more ≡ [])
+  pub no_mark : (missing more : List ℕ) (last : Bool) → missing ≡ drop n mark → starts_with nat_eq src missing ≡ false
+      → (last ≡ false → starts_with nat_eq missing src ≡ false) → (last ≡ true → more ≡ [])
       → without_mark (take n mark ++ (src ++ more)) ≡ take n mark ++ (src ++ more)
   no_mark missing more last e differs neither end = without_mark-other _ (λ rest w. other rest (cancel rest w))
     where
       cancel : (rest : List ℕ) → take n mark ++ (src ++ more) ≡ mark ++ rest → src ++ more ≡ missing ++ rest
       cancel rest w =
           let size = length (take n mark) in
-          sym (drop_at (take n mark) (src ++ more) size refl) ∙ ap (drop size) (w ∙ sym (joined rest)) ∙ drop_at (take n mark) (drop n mark ++ rest) size refl ∙ ap (λ bs. bs ++ rest) (sym e)
+          sym (drop_at (take n mark) (src ++ more) size refl) ∙ ap (drop size) (w ∙ sym (joined rest)) ∙ drop_at (take n mark) (drop n mark ++ rest) size refl
+          ∙ ap (λ bs. bs ++ rest) (sym e)
 
       longer : (b : Bool) → last ≡ b → (t rest : List ℕ) → missing ≡ src ++ t → more ≡ t ++ rest → ⊥
       longer false l t rest m w = starts_not missing src t (neither l) m
@@ -90,7 +94,14 @@ IsPending-mark (suc n) short = inr (
 )
 
 -- and is pending after a call without a destination
-pub mark_pending : (n : ℕ) (src : List ℕ) (returned : Piece) (read : ℕ) (q : List ℕ) → n < 3 → src ≡ take n mark → HasOnePiece [] src false → BorrowedDecodeStep [] src false returned read q → q ≡ take n mark
+pub mark_pending : (n : ℕ) (src : List ℕ) (returned : Piece) (read : ℕ) (q : List ℕ) → n < 3 → src ≡ take n mark → HasOnePiece [] src false
+    → BorrowedDecodeStep [] src false returned read q → q ≡ take n mark
 mark_pending n src returned read q short e (piece, length', pending, call, one) made =
-    let held : BorrowedDecodeStep [] src false InputEmpty (length src) src = record { pending_before = inl refl; pending = subst IsPending (sym e) (IsPending-mark n short); answer = (refl, refl, λ marked. absurd (both_ways _ refl marked)) } in
+    let held : BorrowedDecodeStep [] src false InputEmpty (length src) src =
+    record {
+      pending_before = inl refl;
+      pending = subst IsPending (sym e) (IsPending-mark n short);
+      answer =
+          (refl, refl, λ marked. absurd (both_ways _ refl marked));
+    } in
     sym (one returned read q made).2 ∙ (one InputEmpty (length src) src held).2 ∙ e

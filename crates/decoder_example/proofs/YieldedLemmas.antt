@@ -48,7 +48,8 @@ module _ {A : Type 0} (encode : ℕ → List A) where
   is_report OutputFull = false
   is_report (Malformed k second) = true
 
-  reported_text : (result : DecoderResult) (parts : List Part) → IsReported result parts → (text parts ≡ written_for result) × (nat_lt 0 (malformed_count parts) ≡ is_report result)
+  reported_text : (result : DecoderResult) (parts : List Part) → IsReported result parts
+      → (text parts ≡ written_for result) × (nat_lt 0 (malformed_count parts) ≡ is_report result)
   reported_text InputEmpty parts e = rw e (refl, refl)
   reported_text OutputFull parts e = rw e (refl, refl)
   reported_text (Malformed k second) parts (x, e, size) = rw e (append-nil (encode 0xFFFD), refl)
@@ -66,34 +67,44 @@ module _ {A : Type 0} (encode : ℕ → List A) where
   pub YieldsText-nil : (bytes : List ℕ) → YieldsText encode bytes bytes [] false
   YieldsText-nil bytes = record { parts = []; first = refl; text = refl; malformed = refl }
 
-  pub YieldsText-append : (bytes mid rest : List ℕ) (out more : List A) (replaced again : Bool) → YieldsText encode bytes mid out replaced → YieldsText encode mid rest more again
+  pub YieldsText-append : (bytes mid rest : List ℕ) (out more : List A) (replaced again : Bool) → YieldsText encode bytes mid out replaced
+      → YieldsText encode mid rest more again
       → YieldsText encode bytes rest (out ++ more) (replaced || again)
   YieldsText-append bytes mid rest out more replaced again g h = record {
     parts = g.parts ++ h.parts;
     first = StartsWith-append bytes g.parts mid h.parts rest g.first h.first;
     text = (λ i. g.text i ++ h.text i) ∙ sym (flat_map-append (λ part. encode (lossy_scalar part)) g.parts h.parts);
-    malformed = (λ i. g.malformed i || h.malformed i) ∙ sym (ap (nat_lt 0) (malformed_count-append g.parts h.parts) ∙ some_either (malformed_count g.parts) (malformed_count h.parts));
+    malformed = (λ i. g.malformed i || h.malformed i)
+        ∙ sym (ap (nat_lt 0) (malformed_count-append g.parts h.parts) ∙ some_either (malformed_count g.parts) (malformed_count h.parts));
   }
 
-pub calls_give : {A : Type 0} (encode : ℕ → List A) (need : ℕ) (query : ℕ → ℕ → ℕ) (state : State) (unread : List ℕ) (calls : List (Made A)) → AreMade encode need query state unread calls
-    → YieldsText encode (left state unread) (left (state_after state calls) (unread_after unread calls)) (flat_map (λ call. call.out) calls) (list_any (λ call. call.replaced) calls)
+pub calls_give : {A : Type 0} (encode : ℕ → List A) (need : ℕ) (query : ℕ → ℕ → ℕ) (state : State) (unread : List ℕ) (calls : List (Made A))
+    → AreMade encode need query state unread calls
+    → YieldsText encode (left state unread) (left (state_after state calls) (unread_after unread calls)) (flat_map (λ call. call.out) calls)
+    (list_any (λ call. call.replaced) calls)
 calls_give encode need query state unread [] made = YieldsText-nil encode (left state unread)
 calls_give encode need query state unread (call ∷ calls) ((dst, dst', out, does), last, made) =
     let prefix = take call.piece unread in
     let back = drop call.piece unread in
     let whole : prefix ++ back ≡ unread = take-append-drop call.piece unread in
-    let rest : drop call.read prefix ++ back ≡ drop call.read unread = sym (drop-append-le call.read prefix back does.wrote.within) ∙ ap (drop call.read) whole in
-    let written : does.wrote.out ≡ call.out = sym (out ∙ ap (take (length call.out)) does.wrote.writes.placed ∙ take_at does.wrote.out (drop (length call.out) dst) (length call.out) (sym does.wrote.writes.count)) in
+    let rest : drop call.read prefix ++ back ≡ drop call.read unread = sym (drop-append-le call.read prefix back does.wrote.within)
+    ∙ ap (drop call.read) whole in
+    let written : does.wrote.out ≡ call.out =
+    sym (out ∙ ap (take (length call.out)) does.wrote.writes.placed
+    ∙ take_at does.wrote.out (drop (length call.out) dst) (length call.out) (sym does.wrote.writes.count)) in
     let first : YieldsText encode (left state unread) (left call.after (drop call.read unread)) call.out call.replaced =
     subst (λ bs. YieldsText encode (left state bs) (left call.after (drop call.read unread)) call.out call.replaced) whole
     (subst (λ bs. YieldsText encode (left state (prefix ++ back)) (left call.after bs) call.out call.replaced) rest
-    (subst (λ xs. YieldsText encode (left state (prefix ++ back)) (left call.after (drop call.read prefix ++ back)) xs call.replaced) written (does.wrote.yields back last))) in
+    (subst (λ xs. YieldsText encode (left state (prefix ++ back)) (left call.after (drop call.read prefix ++ back)) xs call.replaced) written
+    (does.wrote.yields back last))) in
     YieldsText-append encode _ _ _ _ _ _ _ first (calls_give encode need query call.after (drop call.read unread) calls made)
 
 -- ---- the decoder inside
 -- all that was read, if more may follow, is final
-pub final_calls : ((bs rest : List ℕ) (parts : List Part) → StartsWith bs parts rest → IsPending rest → ((more : List ℕ) → StartsWith (bs ++ more) parts (rest ++ more)) → AreFinal bs parts rest)
-    → (p stream : List ℕ) (calls : List (Call Form CallResult ℕ)) (yielded : YieldTheParts AreYielded IsInputEmpty p stream calls) → some_last calls ≡ false → length stream ≤ read_in_all calls
+pub final_calls : ((bs rest : List ℕ) (parts : List Part) → StartsWith bs parts rest → IsPending rest
+    → ((more : List ℕ) → StartsWith (bs ++ more) parts (rest ++ more)) → AreFinal bs parts rest)
+    → (p stream : List ℕ) (calls : List (Call Form CallResult ℕ)) (yielded : YieldTheParts AreYielded IsInputEmpty p stream calls) → some_last calls ≡ false
+    → length stream ≤ read_in_all calls
     → AreFinal (p ++ stream) yielded.parts (pending_after p calls)
 final_calls final_are p stream calls yielded unmarked all =
     let q = pending_after p calls in
@@ -102,14 +113,18 @@ final_calls final_are p stream calls yielded unmarked all =
     (λ more. subst (λ bs. StartsWith (p ++ stream ++ more) yielded.parts (bs ++ more)) none (yielded.prefix.stable unmarked more))
 
 -- nothing is pending if the bytes of the parts are the whole stream
-pub none_left : (stream : List ℕ) (calls : List (Call Form CallResult ℕ)) (yielded : YieldTheParts AreYielded IsInputEmpty [] stream calls) → flat_map bytes_of yielded.parts ≡ stream → pending_after [] calls ≡ []
+pub none_left : (stream : List ℕ) (calls : List (Call Form CallResult ℕ)) (yielded : YieldTheParts AreYielded IsInputEmpty [] stream calls)
+    → flat_map bytes_of yielded.parts ≡ stream → pending_after [] calls ≡ []
 none_left stream calls yielded joined =
     let q = pending_after [] calls in
-    nil_from_length q (omega (arith, ap length yielded.bytes, ap length joined, length-append (flat_map bytes_of yielded.parts) q, length-take (read_in_all calls) stream))
+    nil_from_length q
+    (omega (arith, ap length yielded.bytes, ap length joined, length-append (flat_map bytes_of yielded.parts) q, length-take (read_in_all calls) stream))
 
 -- the one result of a call on a text that fits
-pub takes_whole : {A : Type 0} (encode : ℕ → List A) (need : ℕ) (cs : List ℕ) (out : List A) (q : List ℕ) (room read : ℕ) (last : Bool) (result : DecoderResult) → all_scalars cs ≡ true
-    → length (flat_map encode cs) ≤ room → HasOneResult encode need [] (encode_utf8_all cs) room last → DecodeStep encode need [] (encode_utf8_all cs) room last result read out q
+pub takes_whole : {A : Type 0} (encode : ℕ → List A) (need : ℕ) (cs : List ℕ) (out : List A) (q : List ℕ) (room read : ℕ) (last : Bool) (result : DecoderResult)
+    → all_scalars cs ≡ true
+    → length (flat_map encode cs) ≤ room → HasOneResult encode need [] (encode_utf8_all cs) room last
+    → DecodeStep encode need [] (encode_utf8_all cs) room last result read out q
     → TakesWhole encode cs result read out q
 takes_whole encode need cs out q room read last result scalars fits (r, k, units, p, is, one) made =
     let whole : DecodeStep encode need [] (encode_utf8_all cs) room last InputEmpty (length (encode_utf8_all cs)) (flat_map encode cs) [] = record {

@@ -48,7 +48,8 @@ trait CodeUnit: Copy {
         dst: &mut [Self],
         last: bool,
     ) -> (DecoderResult, usize, usize)
-        ensures { IsReportingCall encode need query decoder.old src.now dst.old dst.new last result.0 result.1 result.2
+        ensures { IsReportingCall encode need query decoder.old src.now dst.old dst.new last
+            result.0 result.1 result.2
             decoder.new };
 }
 
@@ -108,9 +109,11 @@ fn decode_part<U: CodeUnit>(
     requires replacement { replacement.now ≡ U.encode 0xFFFD }
     requires need { length replacement.now ≤ U.need }
     requires query { (n pending : ℕ) → length replacement.now ≤ U.query n pending }
-    ensures wrote { Writes U.encode U.query (Decoding decoder.old) src.now dst.old dst.new last result.1 result.2
+    ensures wrote { Writes U.encode U.query
+        (Decoding decoder.old) src.now dst.old dst.new last result.1 result.2
         (is_none result.0) (Decoding decoder.new) }
-    ensures ends { IfSome result.0 (λ r. Ends U.encode U.need U.query (Decoding decoder.old) src.now (length dst.old)
+    ensures ends { IfSome result.0
+        (λ r. Ends U.encode U.need U.query (Decoding decoder.old) src.now (length dst.old)
         last r result.1 result.2 (Decoding decoder.new)) }
 {
     // With nothing to read a call reports the pending bytes into any destination.
@@ -140,7 +143,8 @@ fn decode_parts<U: CodeUnit>(
     requires replacement { replacement.now ≡ U.encode 0xFFFD }
     requires need { length replacement.now ≤ U.need }
     requires query { (n pending : ℕ) → length replacement.now ≤ U.query n pending }
-    ensures { IsReplacingCall U.encode U.need U.query (Decoding decoder.old) src.now dst.old dst.new last result.0
+    ensures { IsReplacingCall U.encode U.need U.query
+        (Decoding decoder.old) src.now dst.old dst.new last result.0
         result.1 result.2 result.3 (Decoding decoder.new) }
 {
     let mut read = 0;
@@ -209,8 +213,10 @@ impl Decoder {
         ensures within { result ≤ length src.now }
         ensures left { (more : List ℕ) → (last ≡ true → more ≡ [])
             → left self.new (drop result src.now ++ more) ≡ left self.old (src.now ++ more) }
-        ensures held { length (held self.new) + (length src.now - result) ≤ length (held self.old) + length src.now }
-        ensures open { (bytes : List ℕ) → self.new ≡ Sniffing bytes → (result ≡ length src.now) × (last ≡ false) }
+        ensures held { length (held self.new) + (length src.now - result) ≤ length
+            (held self.old) + length src.now }
+        ensures open { (bytes : List ℕ) → self.new ≡ Sniffing bytes
+            → (result ≡ length src.now) × (last ≡ false) }
     {
         let Some(sniffed) = self.sniffed else {
             return 0;
@@ -241,7 +247,8 @@ impl Decoder {
         requires need { length replacement.now ≤ U.need }
         requires query { (n pending : ℕ) → length replacement.now ≤ U.query n pending }
         requires grows { (n p m q : ℕ) → n + p ≤ m + q → U.query n p ≤ U.query m q }
-        ensures { IsReplacingCall U.encode U.need U.query self.old src.now dst.old dst.new last result.0 result.1
+        ensures { IsReplacingCall U.encode U.need U.query self.old src.now dst.old dst.new
+            last result.0 result.1
             result.2 result.3 self.new }
     {
         let sniffed = self.sniff(src, last);
@@ -271,7 +278,8 @@ impl Decoder {
         dst: &mut [u16],
         last: bool,
     ) -> (CoderResult, usize, usize, bool)
-        ensures { IsReplacingCall encode_utf16 2 max_utf16_length self.old src.now dst.old dst.new last result.0 result.1
+        ensures { IsReplacingCall encode_utf16 2 max_utf16_length self.old src.now dst.old dst.new
+            last result.0 result.1
             result.2 result.3 self.new }
     {
         self.decode(src, dst, last, &[0xFFFD])
@@ -290,7 +298,8 @@ impl Decoder {
         dst: &mut [u8],
         last: bool,
     ) -> (CoderResult, usize, usize, bool)
-        ensures { IsReplacingCall encode_utf8 4 max_utf8_length_with_replacement self.old src.now dst.old dst.new last result.0
+        ensures { IsReplacingCall encode_utf8 4 max_utf8_length_with_replacement self.old src.now
+            dst.old dst.new last result.0
             result.1 result.2 result.3 self.new }
     {
         self.decode(src, dst, last, &[0xEF, 0xBF, 0xBD])
@@ -310,7 +319,8 @@ impl Decoder {
     /// Returns the length in bytes of a destination that is long enough for the UTF-8 of the next `byte_length` bytes,
     /// in any pieces. Returns `None` if that number is above `usize::MAX`.
     pub fn max_utf8_buffer_length(&self, byte_length: usize) -> Option<usize>
-        ensures { SomeIff result (max_utf8_length_with_replacement byte_length (length (held self.now)) ≤ usize.MAX)
+        ensures { SomeIff result
+            (max_utf8_length_with_replacement byte_length (length (held self.now)) ≤ usize.MAX)
             (max_utf8_length_with_replacement byte_length (length (held self.now))) }
     {
         let sniffed = self.sniffed.unwrap_or(0);

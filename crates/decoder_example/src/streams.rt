@@ -18,11 +18,15 @@ use encoding_runs::laws::{law_mixed_calls, law_parts};
 /// U+FFFD is written for a part if a call says so. What is left is kept or unread: nothing, once a call marked last
 /// returns `InputEmpty`.
 pub fn law_calls()
-    ensures utf16 { (state : State) (stream : List ℕ) (calls : List (Made ℕ)) → AreMade encode_utf16 2 max_utf16_length state stream calls
-        → YieldsText encode_utf16 (left state stream) (left (state_after state calls) (unread_after stream calls))
+    ensures utf16 { (state : State) (stream : List ℕ) (calls : List (Made ℕ))
+        → AreMade encode_utf16 2 max_utf16_length state stream calls
+        → YieldsText encode_utf16 (left state stream)
+        (left (state_after state calls) (unread_after stream calls))
         (flat_map (λ call. call.out) calls) (list_any (λ call. call.replaced) calls) }
-    ensures utf8 { (state : State) (stream : List ℕ) (calls : List (Made ℕ)) → AreMade encode_utf8 4 max_utf8_length_with_replacement state stream calls
-        → YieldsText encode_utf8 (left state stream) (left (state_after state calls) (unread_after stream calls))
+    ensures utf8 { (state : State) (stream : List ℕ) (calls : List (Made ℕ))
+        → AreMade encode_utf8 4 max_utf8_length_with_replacement state stream calls
+        → YieldsText encode_utf8 (left state stream)
+        (left (state_after state calls) (unread_after stream calls))
         (flat_map (λ call. call.out) calls) (list_any (λ call. call.replaced) calls) }
 {}
 
@@ -30,8 +34,10 @@ pub fn law_calls()
 /// yet. Their text is never taken back, in UTF-8 or in UTF-16: it is a prefix of the text of the whole, for any
 /// following bytes.
 pub fn law_yielded_stays()
-    ensures { (pending stream : List ℕ) (calls : List (Call Form CallResult ℕ)) → IsPending pending → IsChain MixedDecodeStep pending stream calls
-        → some_last calls ≡ false → length stream ≤ read_in_all calls → YieldFinalParts pending stream calls }
+    ensures { (pending stream : List ℕ) (calls : List (Call Form CallResult ℕ)) → IsPending pending
+        → IsChain MixedDecodeStep pending stream calls
+        → some_last calls ≡ false → length stream ≤ read_in_all calls
+        → YieldFinalParts pending stream calls }
 {
     law_mixed_calls();
     law_parts();
@@ -40,9 +46,12 @@ pub fn law_yielded_stays()
 /// A decoder at the end of a stream can be used for the next one: the calls that a new decoder may get have the same
 /// results.
 pub fn law_next_stream()
-    ensures { (stream next : List ℕ) (calls others news : List (Call Form CallResult ℕ)) → IsChain MixedDecodeStep [] stream calls
-        → Any (λ call. (call.last ≡ true) × IsInputEmpty call.result) calls → IsChain MixedDecodeStep (pending_after [] calls) next others
-        → IsChain MixedDecodeStep [] next news → AllZip AreAskedTheSame others news → AllZip ReturnTheSame others news }
+    ensures { (stream next : List ℕ) (calls others news : List (Call Form CallResult ℕ))
+        → IsChain MixedDecodeStep [] stream calls
+        → Any (λ call. (call.last ≡ true) × IsInputEmpty call.result) calls
+        → IsChain MixedDecodeStep (pending_after [] calls) next others
+        → IsChain MixedDecodeStep [] next news → AllZip AreAskedTheSame others news
+        → AllZip ReturnTheSame others news }
 {
     law_mixed_calls();
     law_parts();
@@ -51,11 +60,13 @@ pub fn law_next_stream()
 /// One call of a decoder with nothing pending reads a whole text into a destination of just its length, which is less
 /// than queried. It reports nothing and leaves nothing pending.
 pub fn law_whole_text()
-    ensures utf16 { (scalars out pending : List ℕ) (room read : ℕ) (last : Bool) (result : DecoderResult) → IsTrue (all_scalars scalars)
+    ensures utf16 { (scalars out pending : List ℕ) (room read : ℕ) (last : Bool)
+        (result : DecoderResult) → IsTrue (all_scalars scalars)
         → length (flat_map encode_utf16 scalars) ≤ room
         → DecodeStep encode_utf16 2 [] (encode_utf8_all scalars) room last result read out pending
         → TakesWhole encode_utf16 scalars result read out pending }
-    ensures utf8 { (scalars out pending : List ℕ) (room read : ℕ) (last : Bool) (result : DecoderResult) → IsTrue (all_scalars scalars)
+    ensures utf8 { (scalars out pending : List ℕ) (room read : ℕ) (last : Bool)
+        (result : DecoderResult) → IsTrue (all_scalars scalars)
         → length (encode_utf8_all scalars) ≤ room
         → DecodeStep encode_utf8 4 [] (encode_utf8_all scalars) room last result read out pending
         → TakesWhole encode_utf8 scalars result read out pending }

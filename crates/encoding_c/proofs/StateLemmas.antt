@@ -28,23 +28,48 @@ module _ {A : Type 0} (encode : ℕ → List A) (need : ℕ) (p src : List ℕ) 
   answer_ends (Malformed k second) read cs left q (x, s, w, e, n, none, b, room) =
       (w, (p ++ take read src, sym (append-nil (p ++ take read src)) ∙ ap (λ xs. (p ++ take read src) ++ xs) (sym none)))
 
-  pub call_ends : (old new : List A) (result : DecoderResult) (read written : ℕ) (q : List ℕ) → DecodeStepInto encode need p src old new last result read written q
+  pub call_ends : (old new : List A) (result : DecoderResult) (read written : ℕ) (q : List ℕ)
+      → DecodeStepInto encode need p src old new last result read written q
       → (read ≤ length src) × EndsWith (p ++ take read src) q
   call_ends old new result read written q (out, w, c) = answer_ends result read c.scalars (length old - length out) q c.answer
 
 -- a call without a destination
-borrowed_ends : (p src : List ℕ) (last : Bool) (returned : Piece) (read : ℕ) (q : List ℕ) → IsBorrowedResult p src last returned read q → (read ≤ length src) × EndsWith (p ++ take read src) q
-borrowed_ends p src last (piece.Text t) read q a = (a.4.within, (p ++ take read src, sym (append-nil (p ++ take read src)) ∙ ap (λ xs. (p ++ take read src) ++ xs) (sym a.1)))
-borrowed_ends p src last (piece.Char c) read q a = (a.2, (p ++ take read src, sym (append-nil (p ++ take read src)) ∙ ap (λ xs. (p ++ take read src) ++ xs) (sym a.1)))
-borrowed_ends p src last (piece.Malformed k) read q a = (a.0, (p ++ take read src, sym (append-nil (p ++ take read src)) ∙ ap (λ xs. (p ++ take read src) ++ xs) (sym a.2)))
+borrowed_ends : (p src : List ℕ) (last : Bool) (returned : Piece) (read : ℕ) (q : List ℕ) → IsBorrowedResult p src last returned read q
+    → (read ≤ length src) × EndsWith (p ++ take read src) q
+borrowed_ends p src last (piece.Text t) read q a = (
+  a.4.within,
+  (
+    p ++ take read src,
+    sym (append-nil (p ++ take read src))
+        ∙ ap (λ xs. (p ++ take read src) ++ xs) (sym a.1),
+  ),
+)
+borrowed_ends p src last (piece.Char c) read q a = (
+  a.2,
+  (
+    p ++ take read src,
+    sym (append-nil (p ++ take read src))
+        ∙ ap (λ xs. (p ++ take read src) ++ xs) (sym a.1),
+  ),
+)
+borrowed_ends p src last (piece.Malformed k) read q a = (
+  a.0,
+  (
+    p ++ take read src,
+    sym (append-nil (p ++ take read src))
+        ∙ ap (λ xs. (p ++ take read src) ++ xs) (sym a.2),
+  ),
+)
 borrowed_ends p src last piece.InputEmpty read q a =
     (omega (arith, a.0), ([], ap (λ n. p ++ take n src) a.0 ∙ ap (λ xs. p ++ xs) (take_all (length src) src (omega arith)) ∙ sym a.1))
 
-pub borrowed_call_ends : (p src : List ℕ) (last : Bool) (returned : Piece) (read : ℕ) (q : List ℕ) → BorrowedDecodeStep p src last returned read q → (read ≤ length src) × EndsWith (p ++ take read src) q
+pub borrowed_call_ends : (p src : List ℕ) (last : Bool) (returned : Piece) (read : ℕ) (q : List ℕ) → BorrowedDecodeStep p src last returned read q
+    → (read ≤ length src) × EndsWith (p ++ take read src) q
 borrowed_call_ends p src last returned read q c = borrowed_ends p src last returned read q c.answer
 
 -- pending bytes that a new decoder reads are pending in it
-pub pending_again : (src : List ℕ) → IsPending src → (returned : Piece) (read : ℕ) (q : List ℕ) → BorrowedDecodeStep [] src false returned read q → returned ≡ piece.InputEmpty
+pub pending_again : (src : List ℕ) → IsPending src → (returned : Piece) (read : ℕ) (q : List ℕ) → BorrowedDecodeStep [] src false returned read q
+    → returned ≡ piece.InputEmpty
 pending_again src pending returned read q call = said returned (same_piece [] src false returned piece.InputEmpty read (length src) q src call again).0
   where
     again : BorrowedDecodeStep [] src false piece.InputEmpty (length src) src
@@ -57,7 +82,8 @@ pending_again src pending returned read q call = said returned (same_piece [] sr
     said piece.InputEmpty s = refl
 
 -- the last bytes, one after another
-pub compress_last : (xs prefix q : List ℕ) (a b c n : ℕ) → xs ≡ prefix ++ q → length q ≤ 3 → n ≡ length prefix → a ≡ slice_index xs n → b ≡ slice_index xs (n + 1) → c ≡ slice_index xs (n + 2)
+pub compress_last : (xs prefix q : List ℕ) (a b c n : ℕ) → xs ≡ prefix ++ q → length q ≤ 3 → n ≡ length prefix → a ≡ slice_index xs n
+    → b ≡ slice_index xs (n + 1) → c ≡ slice_index xs (n + 2)
     → take (length q) (a ∷ b ∷ c ∷ []) ≡ q
 compress_last xs prefix q a b c n e few at f g h = three q few (f ∙ ap (slice_index xs) (zero n) ∙ here 0) (g ∙ here 1) (h ∙ here 2)
   where
@@ -75,7 +101,8 @@ compress_last xs prefix q a b c n e few at f g h = three q few (f ∙ ap (slice_
     three (x ∷ y ∷ z ∷ w ∷ ys) few f g h = absurd (omega (arith, few))
 
 -- the unit left pending is the last one of the pending surrogate before and the source
-last_unit : (surrogate src prefix left_open : List ℕ) (before unit : ℕ) → surrogate ++ src ≡ prefix ++ left_open → IsPendingSurrogate left_open → (0 < length surrogate → surrogate ≡ before ∷ [])
+last_unit : (surrogate src prefix left_open : List ℕ) (before unit : ℕ) → surrogate ++ src ≡ prefix ++ left_open → IsPendingSurrogate left_open
+    → (0 < length surrogate → surrogate ≡ before ∷ [])
     → IsPendingUnit InputEmpty src before unit → 0 < length left_open → left_open ≡ unit ∷ []
 last_unit surrogate src prefix [] before unit e h one kept some = absurd (omega (arith, some))
 last_unit surrogate src prefix (u ∷ v ∷ us) before unit e h one kept some = absurd h
@@ -88,7 +115,8 @@ last_unit surrogate src prefix (u ∷ []) before unit e h one kept some = ap (λ
       let is : surrogate ≡ before ∷ [] = one (omega (arith, sizes, none)) in
       let place : length prefix + 0 ≡ 0 = omega (arith, sizes, none, ap length is) in
       let all : surrogate ++ src ≡ before ∷ [] = ap (λ xs. surrogate ++ xs) (empty src none) ∙ append-nil surrogate ∙ is in
-      sym (get_or-append-add prefix (u ∷ []) 0 0) ∙ ap (λ xs. slice_index xs (length prefix + 0)) (sym e ∙ all) ∙ ap (λ k. slice_index (before ∷ []) k) place ∙ sym (kept.1 (omega (arith, none)))
+      sym (get_or-append-add prefix (u ∷ []) 0 0) ∙ ap (λ xs. slice_index xs (length prefix + 0)) (sym e ∙ all) ∙ ap (λ k. slice_index (before ∷ []) k) place
+      ∙ sym (kept.1 (omega (arith, none)))
 ])
   where
     sizes : length surrogate + length src ≡ length prefix + 1
@@ -98,11 +126,13 @@ last_unit surrogate src prefix (u ∷ []) before unit e h one kept some = ap (λ
     empty [] h = refl
     empty (x ∷ xs) h = absurd (omega (arith, h))
 
-pub unit_after : (surrogate src out after : List ℕ) (room : ℕ) (last : Bool) (result : EncoderResult) (read before unit : ℕ) → EncodeStep surrogate src room last result read out after
+pub unit_after : (surrogate src out after : List ℕ) (room : ℕ) (last : Bool) (result : EncoderResult) (read before unit : ℕ)
+    → EncodeStep surrogate src room last result read out after
     → (0 < length surrogate → surrogate ≡ before ∷ []) → IsPendingUnit result src before unit → 0 < length after → after ≡ unit ∷ []
 unit_after surrogate src out after room last InputEmpty read before unit c one kept some =
     let same = c.answer.2 in
-    same ∙ last_unit surrogate src c.are_encodable.prefix c.left_open before unit c.are_encodable.whole c.are_encodable.surrogate one kept (omega (arith, some, ap length same))
+    same ∙ last_unit surrogate src c.are_encodable.prefix c.left_open before unit c.are_encodable.whole c.are_encodable.surrogate one kept
+    (omega (arith, some, ap length same))
 unit_after surrogate src out after room last OutputFull read before unit c one kept some = elim (cases_lt 0 c.taken) [
   | inl more ↦ absurd (omega (arith, some, ap length (c.answer.2 more).1))
   | inr none ↦

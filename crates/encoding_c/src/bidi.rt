@@ -48,7 +48,8 @@ pub extern "C" fn encoding_text_mem_check_utf8_for_latin1_and_bidi(buffer: &[u8]
 /// ill-formed.
 #[unsafe(no_mangle)]
 pub extern "C" fn encoding_text_mem_check_str_for_latin1_and_bidi(buffer: &[u8]) -> u8
-    ensures text { IsUtf8 buffer.now → IsChoice (IsUtf8Latin1 buffer.now) (IsBidiText buffer.now) result }
+    ensures text { IsUtf8 buffer.now
+        → IsChoice (IsUtf8Latin1 buffer.now) (IsBidiText buffer.now) result }
     ensures invalid_argument { ¬ (IsUtf8 buffer.now) → result ≡ u8.MAX }
 {
     let Some(text) = as_text(buffer) else {

@@ -31,7 +31,8 @@ pub extern "C" fn encoding_text_repair_block(
     last: bool,
 ) -> EncodingRepairBlockResult
     ensures { (p : List ℕ) × (q : List ℕ) × (out : List ℕ) × (block : RepairedBlock)
-        × Represents decoder.old p × Represents decoder.new q × WritesPrefix dst.old dst.new result.written out
+        × Represents decoder.old p × Represents decoder.new q
+        × WritesPrefix dst.old dst.new result.written out
         × IsBlockRepair p src.now (length dst.old) last block result.read out q
         × (block.replaced ≡ result.replaced) × (block.finished ≡ result.finished) }
 {

@@ -18,8 +18,10 @@ use encoding_text::utf_8::convert_utf8_to_utf16_up_to_invalid;
 #[unsafe(no_mangle)]
 pub extern "C" fn encoding_text_mem_copy_ascii_to_ascii(src: &[u8], dst: &mut [u8]) -> usize
     ensures prefix { length src.now ≤ length dst.old → IsLongestPrefix IsAscii src.now result }
-    ensures copied { length src.now ≤ length dst.old → WritesPrefix dst.old dst.new result (take result src.now) }
-    ensures invalid_argument { length dst.old < length src.now → (result ≡ usize.MAX) × (dst.new ≡ dst.old) }
+    ensures copied { length src.now ≤ length dst.old
+        → WritesPrefix dst.old dst.new result (take result src.now) }
+    ensures invalid_argument { length dst.old < length src.now
+        → (result ≡ usize.MAX) × (dst.new ≡ dst.old) }
 {
     if dst.len() < src.len() {
         return INVALID_ARGUMENT;
@@ -32,8 +34,10 @@ pub extern "C" fn encoding_text_mem_copy_ascii_to_ascii(src: &[u8], dst: &mut [u
 #[unsafe(no_mangle)]
 pub extern "C" fn encoding_text_mem_copy_ascii_to_basic_latin(src: &[u8], dst: &mut [u16]) -> usize
     ensures prefix { length src.now ≤ length dst.old → IsLongestPrefix IsAscii src.now result }
-    ensures copied { length src.now ≤ length dst.old → WritesPrefix dst.old dst.new result (take result src.now) }
-    ensures invalid_argument { length dst.old < length src.now → (result ≡ usize.MAX) × (dst.new ≡ dst.old) }
+    ensures copied { length src.now ≤ length dst.old
+        → WritesPrefix dst.old dst.new result (take result src.now) }
+    ensures invalid_argument { length dst.old < length src.now
+        → (result ≡ usize.MAX) × (dst.new ≡ dst.old) }
 {
     if dst.len() < src.len() {
         return INVALID_ARGUMENT;
@@ -46,8 +50,10 @@ pub extern "C" fn encoding_text_mem_copy_ascii_to_basic_latin(src: &[u8], dst: &
 #[unsafe(no_mangle)]
 pub extern "C" fn encoding_text_mem_copy_basic_latin_to_ascii(src: &[u16], dst: &mut [u8]) -> usize
     ensures prefix { length src.now ≤ length dst.old → IsLongestPrefix IsAscii src.now result }
-    ensures copied { length src.now ≤ length dst.old → WritesPrefix dst.old dst.new result (take result src.now) }
-    ensures invalid_argument { length dst.old < length src.now → (result ≡ usize.MAX) × (dst.new ≡ dst.old) }
+    ensures copied { length src.now ≤ length dst.old
+        → WritesPrefix dst.old dst.new result (take result src.now) }
+    ensures invalid_argument { length dst.old < length src.now
+        → (result ≡ usize.MAX) × (dst.new ≡ dst.old) }
 {
     if dst.len() < src.len() {
         return INVALID_ARGUMENT;
@@ -61,7 +67,8 @@ pub extern "C" fn encoding_text_mem_copy_basic_latin_to_ascii(src: &[u16], dst: 
 pub extern "C" fn encoding_text_mem_convert_latin1_to_utf16(src: &[u8], dst: &mut [u16]) -> usize
     ensures written { length src.now ≤ length dst.old
         → (result ≡ length src.now) × WritesPrefix dst.old dst.new result src.now }
-    ensures invalid_argument { length dst.old < length src.now → (result ≡ usize.MAX) × (dst.new ≡ dst.old) }
+    ensures invalid_argument { length dst.old < length src.now
+        → (result ≡ usize.MAX) × (dst.new ≡ dst.old) }
 {
     if dst.len() < src.len() {
         return INVALID_ARGUMENT;
@@ -76,9 +83,11 @@ pub extern "C" fn encoding_text_mem_convert_latin1_to_utf8_partial(
     src: &[u8],
     dst: &mut [u8],
 ) -> EncodingProgress
-    ensures prefix { IsLongestFittingPrefix (λ b. b ∷ []) encode_utf8 src.now (length dst.old) result.read
+    ensures prefix { IsLongestFittingPrefix (λ b. b ∷ []) encode_utf8 src.now
+        (length dst.old) result.read
         (encode_utf8_all (take result.read src.now)) }
-    ensures written { WritesPrefix dst.old dst.new result.written (encode_utf8_all (take result.read src.now)) }
+    ensures written { WritesPrefix dst.old dst.new result.written
+        (encode_utf8_all (take result.read src.now)) }
 {
     let (read, written) = mem::convert_latin1_to_utf8_partial(src, dst);
     EncodingProgress { read, written }
@@ -88,8 +97,10 @@ pub extern "C" fn encoding_text_mem_convert_latin1_to_utf8_partial(
 /// than twice as long as `src`.
 #[unsafe(no_mangle)]
 pub extern "C" fn encoding_text_mem_convert_latin1_to_utf8(src: &[u8], dst: &mut [u8]) -> usize
-    ensures written { 2 * length src.now ≤ length dst.old → WritesPrefix dst.old dst.new result (encode_utf8_all src.now) }
-    ensures invalid_argument { length dst.old < 2 * length src.now → (result ≡ usize.MAX) × (dst.new ≡ dst.old) }
+    ensures written { 2 * length src.now ≤ length dst.old
+        → WritesPrefix dst.old dst.new result (encode_utf8_all src.now) }
+    ensures invalid_argument { length dst.old < 2 * length src.now
+        → (result ≡ usize.MAX) × (dst.new ≡ dst.old) }
 {
     if dst.len() / 2 < src.len() {
         return INVALID_ARGUMENT;
@@ -104,8 +115,10 @@ pub extern "C" fn encoding_text_mem_convert_utf8_to_latin1_lossy(
     src: &[u8],
     dst: &mut [u8],
 ) -> usize
-    ensures written { length src.now ≤ length dst.old → IsUtf8Latin1 src.now → WritesPrefix dst.old dst.new result (chars src.now) }
-    ensures too_short { length dst.old < length src.now → (result ≡ usize.MAX) × (dst.new ≡ dst.old) }
+    ensures written { length src.now ≤ length dst.old → IsUtf8Latin1 src.now
+        → WritesPrefix dst.old dst.new result (chars src.now) }
+    ensures too_short { length dst.old < length src.now
+        → (result ≡ usize.MAX) × (dst.new ≡ dst.old) }
     ensures other { ¬ (IsUtf8Latin1 src.now) → (result ≡ usize.MAX) × (dst.new ≡ dst.old) }
 {
     if dst.len() < src.len() || !mem::is_utf8_latin1(src) {
@@ -122,8 +135,10 @@ pub extern "C" fn encoding_text_mem_convert_utf16_to_latin1_lossy(
     dst: &mut [u8],
 ) -> usize
     ensures written { length src.now ≤ length dst.old
-        → (result ≡ length src.now) × WritesPrefix dst.old dst.new result (map (λ unit. unit % 0x100) src.now) }
-    ensures invalid_argument { length dst.old < length src.now → (result ≡ usize.MAX) × (dst.new ≡ dst.old) }
+        → (result ≡ length src.now) × WritesPrefix dst.old dst.new result
+        (map (λ unit. unit % 0x100) src.now) }
+    ensures invalid_argument { length dst.old < length src.now
+        → (result ≡ usize.MAX) × (dst.new ≡ dst.old) }
 {
     if dst.len() < src.len() {
         return INVALID_ARGUMENT;
@@ -136,9 +151,11 @@ pub extern "C" fn encoding_text_mem_convert_utf16_to_latin1_lossy(
 /// Returns `INVALID_ARGUMENT` if `dst` isn't longer than `src`.
 #[unsafe(no_mangle)]
 pub extern "C" fn encoding_text_mem_convert_utf8_to_utf16(src: &[u8], dst: &mut [u16]) -> usize
-    ensures written { length src.now < length dst.old → (parts : List Part) × ArePartsOf src.now parts
+    ensures written { length src.now < length dst.old
+        → (parts : List Part) × ArePartsOf src.now parts
         × WritesPrefix dst.old dst.new result (lossy_utf16 parts) }
-    ensures invalid_argument { length dst.old ≤ length src.now → (result ≡ usize.MAX) × (dst.new ≡ dst.old) }
+    ensures invalid_argument { length dst.old ≤ length src.now
+        → (result ≡ usize.MAX) × (dst.new ≡ dst.old) }
 {
     if dst.len() <= src.len() {
         return INVALID_ARGUMENT;
@@ -152,7 +169,8 @@ pub extern "C" fn encoding_text_mem_convert_utf8_to_utf16(src: &[u8], dst: &mut 
 pub extern "C" fn encoding_text_mem_convert_str_to_utf16(src: &[u8], dst: &mut [u16]) -> usize
     ensures written { length src.now ≤ length dst.old → IsUtf8 src.now
         → WritesPrefix dst.old dst.new result (flat_map encode_utf16 (chars src.now)) }
-    ensures too_short { length dst.old < length src.now → (result ≡ usize.MAX) × (dst.new ≡ dst.old) }
+    ensures too_short { length dst.old < length src.now
+        → (result ≡ usize.MAX) × (dst.new ≡ dst.old) }
     ensures other { ¬ (IsUtf8 src.now) → (result ≡ usize.MAX) × (dst.new ≡ dst.old) }
 {
     if dst.len() < src.len() {
@@ -172,7 +190,8 @@ pub extern "C" fn encoding_text_mem_convert_utf8_to_utf16_without_replacement(
     dst: &mut [u16],
 ) -> EncodingProgress
     ensures prefix { length src.now ≤ length dst.old → IsLongestPrefix IsUtf8 src.now result.read }
-    ensures written { length src.now ≤ length dst.old → WritesText src.now dst.old dst.new result.written }
+    ensures written { length src.now ≤ length dst.old
+        → WritesText src.now dst.old dst.new result.written }
     ensures invalid_argument { length dst.old < length src.now
         → (result.read ≡ usize.MAX) × (result.written ≡ usize.MAX) × (dst.new ≡ dst.old) }
 {
@@ -190,8 +209,10 @@ pub extern "C" fn encoding_text_mem_convert_utf16_to_utf8_partial(
     src: &[u16],
     dst: &mut [u8],
 ) -> EncodingProgress
-    ensures longest { IsUtf8OfLongestPrefix src.now (length dst.old) result.read (take result.written dst.new) }
-    ensures unchanged_after { WritesPrefix dst.old dst.new result.written (take result.written dst.new) }
+    ensures longest { IsUtf8OfLongestPrefix src.now (length dst.old) result.read
+        (take result.written dst.new) }
+    ensures unchanged_after { WritesPrefix dst.old dst.new result.written
+        (take result.written dst.new) }
 {
     let (read, written) = mem::convert_utf16_to_utf8_partial(src, dst);
     EncodingProgress { read, written }
@@ -201,9 +222,12 @@ pub extern "C" fn encoding_text_mem_convert_utf16_to_utf8_partial(
 /// `dst` is less than three times as long as `src`.
 #[unsafe(no_mangle)]
 pub extern "C" fn encoding_text_mem_convert_utf16_to_utf8(src: &[u16], dst: &mut [u8]) -> usize
-    ensures all { 3 * length src.now ≤ length dst.old → IsUtf8OfUnits src.now (take result dst.new) }
-    ensures unchanged_after { 3 * length src.now ≤ length dst.old → WritesPrefix dst.old dst.new result (take result dst.new) }
-    ensures invalid_argument { length dst.old < 3 * length src.now → (result ≡ usize.MAX) × (dst.new ≡ dst.old) }
+    ensures all { 3 * length src.now ≤ length dst.old
+        → IsUtf8OfUnits src.now (take result dst.new) }
+    ensures unchanged_after { 3 * length src.now ≤ length dst.old
+        → WritesPrefix dst.old dst.new result (take result dst.new) }
+    ensures invalid_argument { length dst.old < 3 * length src.now
+        → (result ≡ usize.MAX) × (dst.new ≡ dst.old) }
 {
     if dst.len() / 3 < src.len() {
         return INVALID_ARGUMENT;

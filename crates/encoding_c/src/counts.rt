@@ -25,7 +25,8 @@ pub extern "C" fn encoding_text_utf16_count(src: &[u16]) -> usize
 /// Returns the number of bytes of `src` with U+FFFD for each malformed sequence. Returns `usize::MAX` if it is greater.
 #[unsafe(no_mangle)]
 pub extern "C" fn encoding_text_repaired_utf8_length(src: &[u8]) -> usize
-    ensures { (parts : List Part) × ArePartsOf src.now parts × (result ≡ min (length (lossy_utf8 parts)) usize.MAX) }
+    ensures { (parts : List Part) × ArePartsOf src.now parts
+        × (result ≡ min (length (lossy_utf8 parts)) usize.MAX) }
 {
     count::repaired_utf8_length(src).unwrap_or(usize::MAX)
 }

@@ -202,7 +202,8 @@ pub extern "C" fn encoding_text_utf8_decoder_max_utf16_buffer_length(
     decoder: &EncodingUtf8Decoder,
     byte_length: usize,
 ) -> usize
-    ensures { (p : List ℕ) × Represents decoder.now p × (result ≡ min (max_utf16_length byte_length (length p)) usize.MAX) }
+    ensures { (p : List ℕ) × Represents decoder.now p
+        × (result ≡ min (max_utf16_length byte_length (length p)) usize.MAX) }
 {
     let inner = restored(*decoder);
     match inner.max_utf16_buffer_length(byte_length) {
@@ -218,7 +219,8 @@ pub extern "C" fn encoding_text_utf8_decoder_max_utf8_buffer_length_without_repl
     decoder: &EncodingUtf8Decoder,
     byte_length: usize,
 ) -> usize
-    ensures { (p : List ℕ) × Represents decoder.now p × (result ≡ min (max_utf8_length byte_length (length p)) usize.MAX) }
+    ensures { (p : List ℕ) × Represents decoder.now p
+        × (result ≡ min (max_utf8_length byte_length (length p)) usize.MAX) }
 {
     let inner = restored(*decoder);
     match inner.max_utf8_buffer_length_without_replacement(byte_length) {
@@ -252,11 +254,15 @@ pub extern "C" fn encoding_text_utf8_decoder_decode_to_utf16(
     dst: &mut [u16],
     last: bool,
 ) -> EncodingDecodeResult
-    ensures call { DecoderCall decoder.old decoder.new result.result result.malformed_length (λ p ended q.
-        DecodeStepInto encode_utf16 2 p src.now dst.old dst.new last ended result.read result.written q
+    ensures call { DecoderCall decoder.old decoder.new result.result result.malformed_length
+        (λ p ended q.
+        DecodeStepInto encode_utf16 2 p src.now dst.old dst.new last ended
+        result.read result.written q
         × Suffices max_utf16_length p src.now (length dst.old) ended result.read result.written q
-        × SufficesReplacing max_utf16_length 1 p src.now (length dst.old) ended result.read result.written q) }
-    ensures progress { 0 < length src.now → 2 ≤ length dst.old → (0 < result.read) ⊎ (result.result ≡ 2) }
+        × SufficesReplacing max_utf16_length 1 p src.now
+        (length dst.old) ended result.read result.written q) }
+    ensures progress { 0 < length src.now → 2 ≤ length dst.old
+        → (0 < result.read) ⊎ (result.result ≡ 2) }
 {
     let before = *decoder;
     let mut inner = restored(before);
@@ -274,12 +280,17 @@ pub extern "C" fn encoding_text_utf8_decoder_decode_to_utf8(
     dst: &mut [u8],
     last: bool,
 ) -> EncodingDecodeResult
-    ensures call { DecoderCall decoder.old decoder.new result.result result.malformed_length (λ p ended q.
-        DecodeStepInto encode_utf8 4 p src.now dst.old dst.new last ended result.read result.written q
+    ensures call { DecoderCall decoder.old decoder.new result.result result.malformed_length
+        (λ p ended q.
+        DecodeStepInto encode_utf8 4 p src.now dst.old dst.new last ended
+        result.read result.written q
         × Suffices max_utf8_length p src.now (length dst.old) ended result.read result.written q
-        × Suffices max_utf8_length_with_replacement p src.now (length dst.old) ended result.read result.written q
-        × SufficesReplacing max_utf8_length_with_replacement 3 p src.now (length dst.old) ended result.read result.written q) }
-    ensures progress { 0 < length src.now → 4 ≤ length dst.old → (0 < result.read) ⊎ (result.result ≡ 2) }
+        × Suffices max_utf8_length_with_replacement p src.now
+        (length dst.old) ended result.read result.written q
+        × SufficesReplacing max_utf8_length_with_replacement 3 p src.now
+        (length dst.old) ended result.read result.written q) }
+    ensures progress { 0 < length src.now → 4 ≤ length dst.old
+        → (0 < result.read) ⊎ (result.result ≡ 2) }
 {
     let before = *decoder;
     let mut inner = restored(before);
@@ -296,7 +307,8 @@ pub extern "C" fn encoding_text_utf8_decoder_decode_borrowed(
     src: &[u8],
     last: bool,
 ) -> EncodingPiece
-    ensures { PieceCall decoder.old decoder.new result (λ p returned q. BorrowedDecodeStep p src.now last returned result.read q) }
+    ensures { PieceCall decoder.old decoder.new result
+        (λ p returned q. BorrowedDecodeStep p src.now last returned result.read q) }
 {
     let before = *decoder;
     let mut inner = restored(before);

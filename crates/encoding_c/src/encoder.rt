@@ -111,7 +111,8 @@ pub extern "C" fn encoding_text_utf8_encoder_max_buffer_length_from_utf16_withou
     encoder: &EncodingUtf8Encoder,
     u16_length: usize,
 ) -> usize
-    ensures { (surrogate : List ℕ) × RepresentsEncoder encoder.now surrogate × (result ≡ min (3 * (u16_length + length surrogate)) usize.MAX) }
+    ensures { (surrogate : List ℕ) × RepresentsEncoder encoder.now surrogate
+        × (result ≡ min (3 * (u16_length + length surrogate)) usize.MAX) }
 {
     let inner = restored(*encoder);
     match inner.max_buffer_length_from_utf16_without_replacement(u16_length) {
@@ -127,7 +128,8 @@ pub extern "C" fn encoding_text_utf8_encoder_max_buffer_length_from_utf8_without
     encoder: &EncodingUtf8Encoder,
     byte_length: usize,
 ) -> usize
-    ensures { (surrogate : List ℕ) × RepresentsEncoder encoder.now surrogate × (result ≡ min (byte_length + 3 * length surrogate) usize.MAX) }
+    ensures { (surrogate : List ℕ) × RepresentsEncoder encoder.now surrogate
+        × (result ≡ min (byte_length + 3 * length surrogate) usize.MAX) }
 {
     let inner = restored(*encoder);
     match inner.max_buffer_length_from_utf8_without_replacement(byte_length) {
@@ -146,10 +148,13 @@ pub extern "C" fn encoding_text_utf8_encoder_encode_from_utf16(
     last: bool,
 ) -> EncodingEncodeResult
     ensures call { EncoderCall encoder.old encoder.new result.result (λ surrogate ended later.
-        EncodeStep surrogate src.now (length dst.old) last ended result.read (take result.written dst.new) later
-        × (3 * (length src.now + length surrogate) ≤ length dst.old → ended ≡ EncoderResult.InputEmpty)) }
+        EncodeStep surrogate src.now (length dst.old) last ended result.read
+        (take result.written dst.new) later
+        × (3 * (length src.now + length surrogate) ≤ length dst.old
+        → ended ≡ EncoderResult.InputEmpty)) }
     ensures within { result.read ≤ length src.now }
-    ensures unchanged_after { WritesPrefix dst.old dst.new result.written (take result.written dst.new) }
+    ensures unchanged_after { WritesPrefix dst.old dst.new result.written
+        (take result.written dst.new) }
 {
     let before = *encoder;
     let mut inner = restored(before);
@@ -172,12 +177,17 @@ pub extern "C" fn encoding_text_utf8_encoder_encode_from_utf8(
     dst: &mut [u8],
     last: bool,
 ) -> EncodingEncodeResult
-    ensures call { IsUtf8 src.now → EncoderCall encoder.old encoder.new result.result (λ surrogate ended later.
-        TextEncodeStep surrogate src.now (length dst.old) ended result.read (take result.written dst.new) later
-        × (length src.now + 3 * length surrogate ≤ length dst.old → ended ≡ EncoderResult.InputEmpty)) }
+    ensures call { IsUtf8 src.now
+        → EncoderCall encoder.old encoder.new result.result (λ surrogate ended later.
+        TextEncodeStep surrogate src.now (length dst.old) ended result.read
+        (take result.written dst.new) later
+        × (length src.now + 3 * length surrogate ≤ length dst.old
+        → ended ≡ EncoderResult.InputEmpty)) }
     ensures within { result.read ≤ length src.now }
-    ensures unchanged_after { WritesPrefix dst.old dst.new result.written (take result.written dst.new) }
-    ensures invalid_argument { ¬ (IsUtf8 src.now) → (result.result ≡ u8.MAX) × (result.read ≡ 0) × (result.written ≡ 0)
+    ensures unchanged_after { WritesPrefix dst.old dst.new result.written
+        (take result.written dst.new) }
+    ensures invalid_argument { ¬ (IsUtf8 src.now)
+        → (result.result ≡ u8.MAX) × (result.read ≡ 0) × (result.written ≡ 0)
         × (encoder.new ≡ encoder.old) }
 {
     let Some(text) = as_text(src) else {

@@ -64,7 +64,8 @@ pub extern "C" fn encoding_text_mem_convert_str_to_utf16_unchecked(
     requires text { IsUtf8 src.now }
     ensures written { length src.now ≤ length dst.old
         → WritesPrefix dst.old dst.new result (flat_map encode_utf16 (chars src.now)) }
-    ensures invalid_argument { length dst.old < length src.now → (result ≡ usize.MAX) × (dst.new ≡ dst.old) }
+    ensures invalid_argument { length dst.old < length src.now
+        → (result ≡ usize.MAX) × (dst.new ≡ dst.old) }
 {
     if dst.len() < src.len() {
         return INVALID_ARGUMENT;

@@ -14,7 +14,8 @@ use encoding_text::mem;
 pub extern "C" fn encoding_text_mem_decode_latin1(src: &[u8], dst: &mut [u8]) -> usize
     ensures written { length (encode_utf8_all src.now) ≤ length dst.old
         → WritesPrefix dst.old dst.new result (encode_utf8_all src.now) }
-    ensures invalid_argument { length dst.old < length (encode_utf8_all src.now) → (result ≡ usize.MAX) × (dst.new ≡ dst.old) }
+    ensures invalid_argument { length dst.old < length (encode_utf8_all src.now)
+        → (result ≡ usize.MAX) × (dst.new ≡ dst.old) }
 {
     if dst.len() < mem::utf8_length_from_latin1(src) {
         return INVALID_ARGUMENT;
@@ -29,7 +30,8 @@ pub extern "C" fn encoding_text_mem_decode_latin1(src: &[u8], dst: &mut [u8]) ->
 pub extern "C" fn encoding_text_mem_encode_latin1(src: &[u8], dst: &mut [u8]) -> usize
     ensures written { IsUtf8Latin1 src.now → length (chars src.now) ≤ length dst.old
         → WritesPrefix dst.old dst.new result (chars src.now) }
-    ensures too_short { length dst.old < length (chars src.now) → (result ≡ usize.MAX) × (dst.new ≡ dst.old) }
+    ensures too_short { length dst.old < length (chars src.now)
+        → (result ≡ usize.MAX) × (dst.new ≡ dst.old) }
     ensures other { ¬ (IsUtf8Latin1 src.now) → (result ≡ usize.MAX) × (dst.new ≡ dst.old) }
 {
     if !mem::is_utf8_latin1(src) || dst.len() < mem::latin1_length_from_utf8(src) {

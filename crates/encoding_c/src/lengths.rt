@@ -12,7 +12,8 @@ use encoding_text::mem;
 /// Returns the number of code units of the bytes in UTF-16, with U+FFFD for each malformed sequence.
 #[unsafe(no_mangle)]
 pub extern "C" fn encoding_text_mem_utf16_length_from_utf8(src: &[u8]) -> usize
-    ensures { (parts : List Part) × ArePartsOf src.now parts × (result ≡ length (lossy_utf16 parts)) }
+    ensures { (parts : List Part) × ArePartsOf src.now parts
+        × (result ≡ length (lossy_utf16 parts)) }
 {
     mem::utf16_length_from_utf8(src)
 }

@@ -70,8 +70,10 @@ fn number(kind: Malformation) -> u8
 #[unsafe(no_mangle)]
 pub extern "C" fn encoding_text_next_malformation(src: &[u8]) -> EncodingMalformation
     ensures if_some { 0 < result.length → IsNextMalformed src.now result.place result.length }
-    ensures kind { 0 < result.length → (kind : Malformation) → IsMalformation (take result.length (drop result.place src.now))
-        (drop (result.place + result.length) src.now) kind → result.kind ≡ malformation_number kind }
+    ensures kind { 0 < result.length → (kind : Malformation)
+        → IsMalformation (take result.length (drop result.place src.now))
+        (drop (result.place + result.length) src.now) kind
+        → result.kind ≡ malformation_number kind }
     ensures if_none { (result.length ≡ 0) ↔ IsUtf8 src.now }
     ensures after_all { result.length ≡ 0 → (result.place ≡ length src.now) × (result.kind ≡ 0) }
 {

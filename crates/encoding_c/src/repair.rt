@@ -50,7 +50,8 @@ impl<'a> Buffer<'a> {
     fn fill(&mut self, bytes: &[u8]) -> Option<usize>
         requires fills { self.old.written + length bytes.now ≡ length self.old.room.now }
         ensures bound { IfSome result (λ n. (0 < n) × (n ≤ length bytes.now)) }
-        ensures bytes { WriteMoves (buffer_contents self.old) (buffer_contents self.new) result bytes.now }
+        ensures bytes { WriteMoves (buffer_contents self.old)
+            (buffer_contents self.new) result bytes.now }
         ensures failed { FailsOnNone result self.old.failed self.new.failed }
         ensures keeps { BufferKeeps self.old self.new }
     {
@@ -103,7 +104,8 @@ impl<'a> Sink for Buffer<'a> {
 #[unsafe(no_mangle)]
 pub extern "C" fn encoding_text_repair_slice(src: &[u8], dst: &mut [u8]) -> EncodingRepairResult
     ensures written { 3 * length src.now ≤ length dst.old
-        → (text : List ℕ) × IsLossyDecodeWith src.now text result.replaced × WritesPrefix dst.old dst.new result.written text }
+        → (text : List ℕ) × IsLossyDecodeWith src.now text result.replaced
+        × WritesPrefix dst.old dst.new result.written text }
     ensures invalid_argument { length dst.old < 3 * length src.now
         → (result.written ≡ usize.MAX) × (result.replaced ≡ 0) × (dst.new ≡ dst.old) }
 {

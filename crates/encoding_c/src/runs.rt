@@ -87,12 +87,17 @@ pub extern "C" fn encoding_text_run_to_utf16(
     dst: &mut [u16],
     reports: &mut [Report],
 ) -> EncodingDecodeRunResult
-    ensures run { length turns.now ≤ length reports.old → DecoderRun decoder.old decoder.new result (λ p outcome q.
-        Delivers encode_utf16 2 p src.now turns.now dst.old dst.new reports.old reports.new outcome q
-        × Completes DecoderResult.InputEmpty max_utf16_length 2 p src.now turns.now (length dst.old) outcome.result) }
+    ensures run { length turns.now ≤ length reports.old
+        → DecoderRun decoder.old decoder.new result (λ p outcome q.
+        Delivers encode_utf16 2 p src.now turns.now dst.old dst.new reports.old
+        reports.new outcome q
+        × Completes DecoderResult.InputEmpty max_utf16_length 2 p src.now turns.now
+        (length dst.old) outcome.result) }
     ensures invalid_argument { length reports.old < length turns.now
-        → (result.result ≡ u8.MAX) × (result.malformed_length ≡ 0) × (result.read ≡ 0) × (result.written ≡ 0)
-        × (result.reports ≡ 0) × (decoder.new ≡ decoder.old) × (dst.new ≡ dst.old) × (reports.new ≡ reports.old) }
+        → (result.result ≡ u8.MAX) × (result.malformed_length ≡ 0) × (result.read ≡ 0)
+        × (result.written ≡ 0)
+        × (result.reports ≡ 0) × (decoder.new ≡ decoder.old) × (dst.new ≡ dst.old)
+        × (reports.new ≡ reports.old) }
 {
     if reports.len() < turns.len() {
         return INVALID_ARGUMENT_RUN;
@@ -118,12 +123,16 @@ pub extern "C" fn encoding_text_run_to_utf8(
     dst: &mut [u8],
     reports: &mut [Report],
 ) -> EncodingDecodeRunResult
-    ensures run { length turns.now ≤ length reports.old → DecoderRun decoder.old decoder.new result (λ p outcome q.
+    ensures run { length turns.now ≤ length reports.old
+        → DecoderRun decoder.old decoder.new result (λ p outcome q.
         Delivers encode_utf8 4 p src.now turns.now dst.old dst.new reports.old reports.new outcome q
-        × Completes DecoderResult.InputEmpty max_utf8_length 4 p src.now turns.now (length dst.old) outcome.result) }
+        × Completes DecoderResult.InputEmpty max_utf8_length 4 p src.now turns.now
+        (length dst.old) outcome.result) }
     ensures invalid_argument { length reports.old < length turns.now
-        → (result.result ≡ u8.MAX) × (result.malformed_length ≡ 0) × (result.read ≡ 0) × (result.written ≡ 0)
-        × (result.reports ≡ 0) × (decoder.new ≡ decoder.old) × (dst.new ≡ dst.old) × (reports.new ≡ reports.old) }
+        → (result.result ≡ u8.MAX) × (result.malformed_length ≡ 0) × (result.read ≡ 0)
+        × (result.written ≡ 0)
+        × (result.reports ≡ 0) × (decoder.new ≡ decoder.old) × (dst.new ≡ dst.old)
+        × (reports.new ≡ reports.old) }
 {
     if reports.len() < turns.len() {
         return INVALID_ARGUMENT_RUN;
@@ -150,7 +159,8 @@ pub extern "C" fn encoding_text_run_from_utf16(
 ) -> EncodingEncodeResult
     ensures { EncoderRun encoder.old encoder.new result (λ surrogate outcome later.
         EncodesByTurns surrogate src.now turns.now dst.old dst.new outcome later
-        × Completes EncoderResult.InputEmpty (λ n pending. 3 * (n + pending)) 4 surrogate src.now turns.now (length dst.old)
+        × Completes EncoderResult.InputEmpty
+        (λ n pending. 3 * (n + pending)) 4 surrogate src.now turns.now (length dst.old)
         outcome.result) }
 {
     let before = *encoder;

@@ -26,7 +26,8 @@ pub extern "C" fn encoding_text_mem_convert_utf16_to_str_partial(
 ) -> EncodingProgress
     ensures longest { IsUtf8 dst.old
         → IsUtf8OfLongestPrefix src.now (length dst.old) result.read (take result.written dst.new) }
-    ensures unchanged_after { IsUtf8 dst.old → WritesAndClears 0 dst.old dst.new result.written (take result.written dst.new) }
+    ensures unchanged_after { IsUtf8 dst.old
+        → WritesAndClears 0 dst.old dst.new result.written (take result.written dst.new) }
     ensures text { IsUtf8 dst.old → IsUtf8 dst.new }
     ensures invalid_argument { ¬ (IsUtf8 dst.old)
         → (result.read ≡ usize.MAX) × (result.written ≡ usize.MAX) × (dst.new ≡ dst.old) }
@@ -43,11 +44,13 @@ pub extern "C" fn encoding_text_mem_convert_utf16_to_str_partial(
 /// `src`.
 #[unsafe(no_mangle)]
 pub extern "C" fn encoding_text_mem_convert_utf16_to_str(src: &[u16], dst: &mut [u8]) -> usize
-    ensures all { IsUtf8 dst.old → 3 * length src.now ≤ length dst.old → IsUtf8OfUnits src.now (take result dst.new) }
+    ensures all { IsUtf8 dst.old → 3 * length src.now ≤ length dst.old
+        → IsUtf8OfUnits src.now (take result dst.new) }
     ensures unchanged_after { IsUtf8 dst.old → 3 * length src.now ≤ length dst.old
         → WritesAndClears 0 dst.old dst.new result (take result dst.new) }
     ensures text { IsUtf8 dst.old → IsUtf8 dst.new }
-    ensures too_short { length dst.old < 3 * length src.now → (result ≡ usize.MAX) × (dst.new ≡ dst.old) }
+    ensures too_short { length dst.old < 3 * length src.now
+        → (result ≡ usize.MAX) × (dst.new ≡ dst.old) }
     ensures other { ¬ (IsUtf8 dst.old) → (result ≡ usize.MAX) × (dst.new ≡ dst.old) }
 {
     if dst.len() / 3 < src.len() || !is_text(dst) {
@@ -64,10 +67,12 @@ pub extern "C" fn encoding_text_mem_convert_latin1_to_str_partial(
     src: &[u8],
     dst: &mut [u8],
 ) -> EncodingProgress
-    ensures prefix { IsUtf8 dst.old → IsLongestFittingPrefix (λ b. b ∷ []) encode_utf8 src.now (length dst.old) result.read
+    ensures prefix { IsUtf8 dst.old
+        → IsLongestFittingPrefix (λ b. b ∷ []) encode_utf8 src.now (length dst.old) result.read
         (encode_utf8_all (take result.read src.now)) }
     ensures written { IsUtf8 dst.old
-        → WritesAndClears 16 dst.old dst.new result.written (encode_utf8_all (take result.read src.now)) }
+        → WritesAndClears 16 dst.old dst.new result.written
+        (encode_utf8_all (take result.read src.now)) }
     ensures text { IsUtf8 dst.old → IsUtf8 dst.new }
     ensures invalid_argument { ¬ (IsUtf8 dst.old)
         → (result.read ≡ usize.MAX) × (result.written ≡ usize.MAX) × (dst.new ≡ dst.old) }
@@ -87,7 +92,8 @@ pub extern "C" fn encoding_text_mem_convert_latin1_to_str(src: &[u8], dst: &mut 
     ensures written { IsUtf8 dst.old → 2 * length src.now ≤ length dst.old
         → WritesAndClears 16 dst.old dst.new result (encode_utf8_all src.now) }
     ensures text { IsUtf8 dst.old → IsUtf8 dst.new }
-    ensures too_short { length dst.old < 2 * length src.now → (result ≡ usize.MAX) × (dst.new ≡ dst.old) }
+    ensures too_short { length dst.old < 2 * length src.now
+        → (result ≡ usize.MAX) × (dst.new ≡ dst.old) }
     ensures other { ¬ (IsUtf8 dst.old) → (result ≡ usize.MAX) × (dst.new ≡ dst.old) }
 {
     if dst.len() / 2 < src.len() || !is_text(dst) {

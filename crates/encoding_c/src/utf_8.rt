@@ -38,7 +38,8 @@ pub extern "C" fn encoding_text_convert_utf16_to_utf8_partial_inner(
     dst: &mut [u8],
 ) -> EncodingProgress
     ensures prefix { IsUtf8OfPrefix src.now result.read (take result.written dst.new) }
-    ensures unchanged_after { WritesPrefix dst.old dst.new result.written (take result.written dst.new) }
+    ensures unchanged_after { WritesPrefix dst.old dst.new result.written
+        (take result.written dst.new) }
     ensures filled { (result.read ≡ length src.now) ⊎ (length dst.old < result.written + 4) }
 {
     let (read, written) = utf_8::convert_utf16_to_utf8_partial_inner(src, dst);

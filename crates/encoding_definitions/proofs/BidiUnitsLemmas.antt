@@ -65,7 +65,10 @@ unit_low_none u l r = elim (unit_form u r) [
 part_units : (p : Part16) → IsRightToLeftPart p → Any IsRightToLeftUnit (units_of_part16 p)
 part_units (Character16 c) r = elim (cases_lt c 0x10000) [
   | inl l ↦ subst (λ xs. Any IsRightToLeftUnit xs) (sym (one_unit c l)) (Any-here IsRightToLeftUnit c [] (unit_scalar c l r))
-  | inr l ↦ subst (λ xs. Any IsRightToLeftUnit xs) (sym (two_units c l)) (Any-here IsRightToLeftUnit (0xD800 + (c - 0x10000) / 0x400) ((0xDC00 + (c - 0x10000) % 0x400) ∷ []) (c, 0xDC00 + (c - 0x10000) % 0x400, r, inr (two_units c l)))
+  | inr l ↦
+      subst (λ xs. Any IsRightToLeftUnit xs) (sym (two_units c l))
+      (Any-here IsRightToLeftUnit (0xD800 + (c - 0x10000) / 0x400) ((0xDC00 + (c - 0x10000) % 0x400) ∷ [])
+      (c, 0xDC00 + (c - 0x10000) % 0x400, r, inr (two_units c l)))
 ]
 part_units (Unpaired u) r = Any-here IsRightToLeftUnit u [] r.1
 
@@ -139,8 +142,10 @@ bidi_rest us n a h b =
     let k = found.0 in
     elim (cases_lt k n) [
       | inl l ↦ absurd (unit_low_none (slice_index us k) (omega (arith, get_or-take n us k 0 l, h k)) found.2)
-      | inr l ↦ let same : slice_index (drop n us) (k - n) ≡ slice_index us k = get_or-drop n us (k - n) 0 ∙ ap (λ j. slice_index us j) {x = n + (k - n)} {y = k} (omega arith) in
-          bidi_at (drop n us) (k - n) (λ j. subst (λ u. u < 0x10000) (sym (get_or-drop n us j 0)) (a (n + j))) (omega (arith, found.1, length-drop n us)) (subst IsRightToLeftUnit (sym same) found.2)
+      | inr l ↦ let same : slice_index (drop n us) (k - n) ≡ slice_index us k = get_or-drop n us (k - n) 0
+          ∙ ap (λ j. slice_index us j) {x = n + (k - n)} {y = k} (omega arith) in
+          bidi_at (drop n us) (k - n) (λ j. subst (λ u. u < 0x10000) (sym (get_or-drop n us j 0)) (a (n + j))) (omega (arith, found.1, length-drop n us))
+          (subst IsRightToLeftUnit (sym same) found.2)
     ]
 
 pub bidi_whole : (us : List ℕ) (n : ℕ) → AreCodeUnits us → IsBidiUnits (drop n us) → IsBidiUnits us

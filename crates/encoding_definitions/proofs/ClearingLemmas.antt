@@ -19,7 +19,8 @@ pub clear_next : (bs : List ℕ) (at : ℕ) → at < length bs → IsContinuatio
     → replicate at 0 ++ clear_continuation (drop at bs) ≡ replicate (at + 1) 0 ++ clear_continuation (drop (at + 1) bs)
 clear_next bs at h c =
     let rest : List ℕ = clear_continuation (drop (at + 1) bs) in
-    ap (λ xs. replicate at 0 ++ clear_continuation xs) (drop_more bs at 0 h) ∙ ap (λ xs. replicate at 0 ++ xs) (clear_more (get_or bs at 0) (drop (at + 1) bs) c)
+    ap (λ xs. replicate at 0 ++ clear_continuation xs) (drop_more bs at 0 h)
+    ∙ ap (λ xs. replicate at 0 ++ xs) (clear_more (get_or bs at 0) (drop (at + 1) bs) c)
     ∙ sym (append_assoc (replicate at 0) (0 ∷ []) rest) ∙ ap (λ xs. xs ++ rest) (replicate_more at 0)
 
 -- the first byte after them
@@ -87,7 +88,8 @@ module _ (old mid sub : List ℕ) (zeros written : ℕ) (out : List ℕ) (w : Wr
   pub clears_after : WritesAndClears zeros old (put_mid written (length mid - written) mid sub) written out
   clears_after =
       let prefix : take written mid ≡ out = sym (written_is old mid written out w) in
-      let none : drop (length mid - written) (drop written mid) ≡ [] = drop_all (length mid - written) (drop written mid) (omega (arith, length-drop written mid)) in
+      let none : drop (length mid - written) (drop written mid) ≡ [] =
+      drop_all (length mid - written) (drop written mid) (omega (arith, length-drop written mid)) in
       let rest : take (length mid - written) (drop written mid) ≡ drop written old =
       take_rest mid written ∙ ap (drop written) w.placed ∙ drop_at out (drop written old) written (sym w.count) in
       let part : sub ≡ cleared_prefix zeros (drop written old) = c ∙ ap (cleared_prefix zeros) rest in
@@ -97,4 +99,5 @@ module _ (old mid sub : List ℕ) (zeros written : ℕ) (out : List ℕ) (w : Wr
   written_stays = take_at (take written mid) _ written (length-take-le written mid (omega (arith, WritesPrefix-length old mid written out w, w.fits)))
 
   pub text_stays : IsUtf8 old → IsUtf8 out → IsUtf8 (put_mid written (length mid - written) mid sub)
-  text_stays u v = subst IsUtf8 (sym clears_after.placed) (subst (λ n. IsUtf8 (out ++ cleared_prefix zeros (drop n old))) (sym w.count) (IsUtf8-cleared old out zeros u v))
+  text_stays u v = subst IsUtf8 (sym clears_after.placed)
+      (subst (λ n. IsUtf8 (out ++ cleared_prefix zeros (drop n old))) (sym w.count) (IsUtf8-cleared old out zeros u v))

@@ -10,7 +10,8 @@ use Rattle.encoding_definitions.proofs.SequenceLemmas.{decide_incomplete}
 use Rattle.encoding_definitions.proofs.PartsLemmas.{has_first_part, part_bytes, same_first_part, IsFirstPart-append}
 
 -- ---- runs of parts
-pub StartsWith-append : (bs : List ℕ) (ps : List Part) (mid : List ℕ) (qs : List Part) (rest : List ℕ) → StartsWith bs ps mid → StartsWith mid qs rest → StartsWith bs (ps ++ qs) rest
+pub StartsWith-append : (bs : List ℕ) (ps : List Part) (mid : List ℕ) (qs : List Part) (rest : List ℕ) → StartsWith bs ps mid → StartsWith mid qs rest
+    → StartsWith bs (ps ++ qs) rest
 StartsWith-append bs [] mid qs rest e s = subst (λ xs. StartsWith xs qs rest) (sym e) s
 StartsWith-append bs (p ∷ ps) mid qs rest (after, f, more) s = (after, f, StartsWith-append after ps mid qs rest more s)
 
@@ -21,7 +22,8 @@ StartsWith-one bs part rest f = (rest, f, refl)
 pub StartsWith-bytes : (bs : List ℕ) (ps : List Part) (rest : List ℕ) → StartsWith bs ps rest → bs ≡ flat_map bytes_of ps ++ rest
 StartsWith-bytes bs [] rest e = e
 StartsWith-bytes bs (p ∷ ps) rest (after, f, more) =
-    (part_bytes bs p after f).0 ∙ ap (λ xs. bytes_of p ++ xs) (StartsWith-bytes after ps rest more) ∙ sym (append_assoc (bytes_of p) (flat_map bytes_of ps) rest)
+    (part_bytes bs p after f).0 ∙ ap (λ xs. bytes_of p ++ xs) (StartsWith-bytes after ps rest more)
+    ∙ sym (append_assoc (bytes_of p) (flat_map bytes_of ps) rest)
 
 pub parts-bytes : (bs : List ℕ) (ps : List Part) → ArePartsOf bs ps → flat_map bytes_of ps ≡ bs
 parts-bytes bs ps h = sym (StartsWith-bytes bs ps [] h ∙ append-nil (flat_map bytes_of ps))

@@ -41,7 +41,8 @@ pub second_three : (a b : ℕ) → 0xE0 ≤ a → a ≤ 0xEF → IsTrue (is_seco
     × (((a - 224) * 64 + (b - 128) < 864) ⊎ (896 ≤ (a - 224) * 64 + (b - 128)))
 second_three a b l h s = grind (arith, nat_tests)
 
-pub second_four : (a b : ℕ) → 0xF0 ≤ a → a ≤ 0xF4 → IsTrue (is_second a b) → (128 ≤ b) × (b < 192) × (16 ≤ (a - 240) * 64 + (b - 128)) × ((a - 240) * 64 + (b - 128) < 272)
+pub second_four : (a b : ℕ) → 0xF0 ≤ a → a ≤ 0xF4 → IsTrue (is_second a b)
+    → (128 ≤ b) × (b < 192) × (16 ≤ (a - 240) * 64 + (b - 128)) × ((a - 240) * 64 + (b - 128) < 272)
 second_four a b l h s = grind (arith, nat_tests)
 
 pub spells_two : (a b : ℕ) → HasShape (a ∷ b ∷ []) → EncodedBy (a ∷ b ∷ []) ((a - 192) * 64 + (b - 128))
@@ -56,7 +57,8 @@ spells_three a b d h =
     let scalar_is : IsScalar c = elim l.3 [ inl p ↦ low_scalar c (omega arith) | inr p ↦ high_scalar c (omega arith) (omega arith) ] in
     (scalar_is, three c (omega arith) (omega arith) ∙ same_three _ _ _ _ _ _ (omega arith) (omega arith) (omega arith))
 
-pub spells_four : (a b d e : ℕ) → HasShape (a ∷ b ∷ d ∷ e ∷ []) → EncodedBy (a ∷ b ∷ d ∷ e ∷ []) ((a - 240) * 262144 + (b - 128) * 4096 + (d - 128) * 64 + (e - 128))
+pub spells_four : (a b d e : ℕ) → HasShape (a ∷ b ∷ d ∷ e ∷ [])
+    → EncodedBy (a ∷ b ∷ d ∷ e ∷ []) ((a - 240) * 262144 + (b - 128) * 4096 + (d - 128) * 64 + (e - 128))
 spells_four a b d e h =
     let l = second_four a b h.0 h.1 h.2 in
     let c = (a - 240) * 262144 + (b - 128) * 4096 + (d - 128) * 64 + (e - 128) in
@@ -134,7 +136,14 @@ pub length-utf16 : (cs : List ℕ) → all_scalars cs ≡ true → length (flat_
 length-utf16 [] h = omega arith
 length-utf16 (c ∷ cs) h =
     let parts = and_parts (scalar c) (all_scalars cs) h in
-    omega (arith, length-utf16 cs parts.1, length_encode_utf16_utf8 c parts.0, length-append (encode_utf16 c) (flat_map encode_utf16 cs), length-append (encode_utf8 c) (encode_utf8_all cs))
+    omega (
+      arith,
+      length-utf16 cs parts.1,
+      length_encode_utf16_utf8 c parts.0,
+      length-append (encode_utf16 c) (flat_map encode_utf16 cs),
+      length-append
+          (encode_utf8 c) (encode_utf8_all cs),
+    )
 
 low_five : (a : ℕ) → 0xC2 ≤ a → a ≤ 0xDF → bit_and a 0x1F ≡ a - 192
 low_five a l h = let e : bit_and a 0x1F ≡ a % 32 = grind (arith, common_steps) in omega arith
@@ -156,7 +165,8 @@ join_three : (x y z : ℕ) → x < 16 → y < 64 → z < 64 → bit_or (bit_or (
 join_three x y z l h k =
     let e : x * 4096 % 4294967296 ≡ x * 2 ^ 12 = omega arith in
     let f : y * 64 % 4294967296 ≡ y * 64 = omega arith in
-    let prefix : bit_or (x * 4096 % 4294967296) (y * 64 % 4294967296) ≡ (x * 64 + y) * 2 ^ 6 = rw (e, f) (or_shifted x 12 (y * 64) (omega arith) ∙ omega arith) in
+    let prefix : bit_or (x * 4096 % 4294967296) (y * 64 % 4294967296) ≡ (x * 64 + y) * 2 ^ 6 =
+    rw (e, f) (or_shifted x 12 (y * 64) (omega arith) ∙ omega arith) in
     ap (λ n. bit_or n z) prefix ∙ or_shifted (x * 64 + y) 6 z k ∙ omega arith
 
 join_four : (x y z w : ℕ) → x < 8 → y < 64 → z < 64 → w < 64
@@ -165,11 +175,14 @@ join_four x y z w l h k m =
     let e : x * 262144 % 4294967296 ≡ x * 2 ^ 18 = omega arith in
     let f : y * 4096 % 4294967296 ≡ y * 4096 = omega arith in
     let g : z * 64 % 4294967296 ≡ z * 64 = omega arith in
-    let first : bit_or (x * 262144 % 4294967296) (y * 4096 % 4294967296) ≡ (x * 64 + y) * 2 ^ 12 = rw (e, f) (or_shifted x 18 (y * 4096) (omega arith) ∙ omega arith) in
-    let second : bit_or ((x * 64 + y) * 2 ^ 12) (z * 64 % 4294967296) ≡ (x * 4096 + y * 64 + z) * 2 ^ 6 = rw g (or_shifted (x * 64 + y) 12 (z * 64) (omega arith) ∙ omega arith) in
+    let first : bit_or (x * 262144 % 4294967296) (y * 4096 % 4294967296) ≡ (x * 64 + y) * 2 ^ 12 =
+    rw (e, f) (or_shifted x 18 (y * 4096) (omega arith) ∙ omega arith) in
+    let second : bit_or ((x * 64 + y) * 2 ^ 12) (z * 64 % 4294967296) ≡ (x * 4096 + y * 64 + z) * 2 ^ 6 =
+    rw g (or_shifted (x * 64 + y) 12 (z * 64) (omega arith) ∙ omega arith) in
     ap (λ n. bit_or (bit_or n (z * 64 % 4294967296)) w) first ∙ ap (λ n. bit_or n w) second ∙ or_shifted (x * 4096 + y * 64 + z) 6 w m ∙ omega arith
 
-pub scalar_two : (bs : List ℕ) (x y : ℕ) → IsSequence bs → 2 ≤ length bs → length bs < 3 → x ≡ bit_and (slice_index bs 0) 0x1F → y ≡ bit_and (slice_index bs 1) 0x3F
+pub scalar_two : (bs : List ℕ) (x y : ℕ) → IsSequence bs → 2 ≤ length bs → length bs < 3 → x ≡ bit_and (slice_index bs 0) 0x1F
+    → y ≡ bit_and (slice_index bs 1) 0x3F
     → EncodedBy bs (bit_or (x * 64 % 4294967296) y)
 scalar_two [] x y s l h e f = absurd (omega arith)
 scalar_two (a ∷ []) x y s l h e f = absurd (omega arith)
@@ -182,7 +195,8 @@ scalar_two (a ∷ b ∷ []) x y s l h e f =
     subst (λ n. EncodedBy (a ∷ b ∷ []) n) (sym same) c
 scalar_two (a ∷ b ∷ c ∷ more) x y s l h e f = absurd (omega arith)
 
-pub scalar_three : (bs : List ℕ) (x y z : ℕ) → IsSequence bs → 3 ≤ length bs → length bs < 4 → x ≡ bit_and (slice_index bs 0) 0x0F → y ≡ bit_and (slice_index bs 1) 0x3F → z ≡ bit_and (slice_index bs 2) 0x3F
+pub scalar_three : (bs : List ℕ) (x y z : ℕ) → IsSequence bs → 3 ≤ length bs → length bs < 4 → x ≡ bit_and (slice_index bs 0) 0x0F
+    → y ≡ bit_and (slice_index bs 1) 0x3F → z ≡ bit_and (slice_index bs 2) 0x3F
     → EncodedBy bs (bit_or (bit_or (x * 4096 % 4294967296) (y * 64 % 4294967296)) z)
 scalar_three [] x y z s l h e f g = absurd (omega arith)
 scalar_three (a ∷ []) x y z s l h e f g = absurd (omega arith)
@@ -198,7 +212,8 @@ scalar_three (a ∷ b ∷ d ∷ []) x y z s l h e f g =
     subst (λ n. EncodedBy (a ∷ b ∷ d ∷ []) n) (sym same) (spells_three a b d t)
 scalar_three (a ∷ b ∷ c ∷ d ∷ more) x y z s l h e f g = absurd (omega arith)
 
-pub scalar_four : (bs : List ℕ) (x y z w : ℕ) → IsSequence bs → 4 ≤ length bs → length bs < 5 → x ≡ bit_and (slice_index bs 0) 0x07 → y ≡ bit_and (slice_index bs 1) 0x3F → z ≡ bit_and (slice_index bs 2) 0x3F
+pub scalar_four : (bs : List ℕ) (x y z w : ℕ) → IsSequence bs → 4 ≤ length bs → length bs < 5 → x ≡ bit_and (slice_index bs 0) 0x07
+    → y ≡ bit_and (slice_index bs 1) 0x3F → z ≡ bit_and (slice_index bs 2) 0x3F
     → w ≡ bit_and (slice_index bs 3) 0x3F
     → EncodedBy bs (bit_or (bit_or (bit_or (x * 262144 % 4294967296) (y * 4096 % 4294967296)) (z * 64 % 4294967296)) w)
 scalar_four [] x y z w s l h e f g i = absurd (omega arith)
@@ -212,7 +227,9 @@ scalar_four (a ∷ b ∷ d ∷ k ∷ []) x y z w s l h e f g i =
     let q = f ∙ low_six b second.0 (omega (arith, second.1)) in
     let r = g ∙ low_six d t.3.0 t.3.1 in
     let u = i ∙ low_six k t.4.0 t.4.1 in
-    let same : bit_or (bit_or (bit_or (x * 262144 % 4294967296) (y * 4096 % 4294967296)) (z * 64 % 4294967296)) w ≡ (a - 240) * 262144 + (b - 128) * 4096 + (d - 128) * 64 + (k - 128) =
+    let same : bit_or
+    (bit_or (bit_or (x * 262144 % 4294967296) (y * 4096 % 4294967296))
+    (z * 64 % 4294967296)) w ≡ (a - 240) * 262144 + (b - 128) * 4096 + (d - 128) * 64 + (k - 128) =
     join_four x y z w (omega (arith, p)) (omega (arith, q, second.1)) (omega (arith, r)) (omega (arith, u)) ∙ omega (arith, p, q, r, u) in
     subst (λ n. EncodedBy (a ∷ b ∷ d ∷ k ∷ []) n) (sym same) (spells_four a b d k t)
 scalar_four (a ∷ b ∷ c ∷ d ∷ e' ∷ more) x y z w s l h e f g i = absurd (omega arith)

@@ -19,7 +19,8 @@ begins_low_prefix [] ys s b = absurd (omega arith)
 begins_low_prefix (x ∷ xs) ys s b = b
 
 -- the part is also the first of more units
-first_of_more : (us : List ℕ) (p : Part16) (rest more : List ℕ) → IsFirstPart16 us p rest → ((u : ℕ) → p ≡ Unpaired u → IsHighSurrogate u → BeginsLow (rest ++ more) → ⊥)
+first_of_more : (us : List ℕ) (p : Part16) (rest more : List ℕ) → IsFirstPart16 us p rest
+    → ((u : ℕ) → p ≡ Unpaired u → IsHighSurrogate u → BeginsLow (rest ++ more) → ⊥)
     → IsFirstPart16 (us ++ more) p (rest ++ more)
 first_of_more us (Character16 c) rest more (s, e) n = (s, ap (λ xs. xs ++ more) e ∙ append_assoc (encode_utf16 c) rest more)
 first_of_more us (Unpaired u) rest more (s, e, m) n = (s, ap (λ xs. xs ++ more) e, n u refl)
@@ -28,8 +29,11 @@ apart_here : (p : Part16) (ps : List Part16) (more : List ℕ) → ArePaired (p 
     → (u : ℕ) → p ≡ Unpaired u → IsHighSurrogate u → BeginsLow (flat_map units_of_part16 ps ++ more) → ⊥
 apart_here p [] more a n u e h b = n [] u (ap (λ q. q ∷ []) e) h b
 apart_here p (q ∷ ps) more a n u e h b =
-    let first : IsFirstPart16 (flat_map units_of_part16 (Unpaired u ∷ q ∷ ps)) (Unpaired u) (flat_map units_of_part16 (q ∷ ps)) = first_of_parts (Unpaired u) (q ∷ ps) (subst (λ x. ArePaired (x ∷ q ∷ ps)) e a) in
-    first.2 h (begins_low_prefix (flat_map units_of_part16 (q ∷ ps)) more (omega (arith, length-units_of_part16 q, length-append (units_of_part16 q) (flat_map units_of_part16 ps))) b)
+    let first : IsFirstPart16 (flat_map units_of_part16 (Unpaired u ∷ q ∷ ps)) (Unpaired u) (flat_map units_of_part16 (q ∷ ps)) =
+    first_of_parts (Unpaired u) (q ∷ ps) (subst (λ x. ArePaired (x ∷ q ∷ ps)) e a) in
+    first.2 h
+    (begins_low_prefix (flat_map units_of_part16 (q ∷ ps)) more
+    (omega (arith, length-units_of_part16 q, length-append (units_of_part16 q) (flat_map units_of_part16 ps))) b)
 
 -- parts, followed by the parts of further units
 pub parts_after : (ps : List Part16) (more : List ℕ) (others : List Part16) → ArePaired ps → NoPairAcross ps more → ArePartsOf16 more others
@@ -42,7 +46,8 @@ parts_after (p ∷ ps) more others a n m =
 
 -- ---- first parts
 -- the first n parts are first parts
-pub StartsWith16-take : (us : List ℕ) (ps : List Part16) (n : ℕ) → ArePartsOf16 us ps → StartsWith16 us (take n ps) (drop (length (flat_map units_of_part16 (take n ps))) us)
+pub StartsWith16-take : (us : List ℕ) (ps : List Part16) (n : ℕ) → ArePartsOf16 us ps
+    → StartsWith16 us (take n ps) (drop (length (flat_map units_of_part16 (take n ps))) us)
 StartsWith16-take us ps n a = record {
   others = drop n ps;
   whole = subst (ArePartsOf16 us) (sym (take-append-drop n ps)) a;
@@ -53,16 +58,19 @@ pub StartsWith16-nil : (us : List ℕ) (all : List Part16) → ArePartsOf16 us a
 StartsWith16-nil us all a = record { others = all; whole = a; following = a }
 
 -- first parts, followed by the first parts of the rest
-pub StartsWith16-append : (us : List ℕ) (ps : List Part16) (mid : List ℕ) (qs : List Part16) (rest : List ℕ) → StartsWith16 us ps mid → StartsWith16 mid qs rest → StartsWith16 us (ps ++ qs) rest
+pub StartsWith16-append : (us : List ℕ) (ps : List Part16) (mid : List ℕ) (qs : List Part16) (rest : List ℕ) → StartsWith16 us ps mid → StartsWith16 mid qs rest
+    → StartsWith16 us (ps ++ qs) rest
 StartsWith16-append us ps mid qs rest s t = record {
   others = t.others;
-  whole = subst (ArePartsOf16 us) (ap (λ xs. ps ++ xs) (parts_unique mid s.others (qs ++ t.others) s.following t.whole) ∙ sym (append_assoc ps qs t.others)) s.whole;
+  whole = subst (ArePartsOf16 us) (ap (λ xs. ps ++ xs) (parts_unique mid s.others (qs ++ t.others) s.following t.whole)
+      ∙ sym (append_assoc ps qs t.others)) s.whole;
   following = t.following;
 }
 
 -- their units, and the rest, are all
 pub StartsWith16-units : (us : List ℕ) (ps : List Part16) (rest : List ℕ) → StartsWith16 us ps rest → flat_map units_of_part16 ps ++ rest ≡ us
-StartsWith16-units us ps rest s = ap (λ xs. flat_map units_of_part16 ps ++ xs) (sym s.following.1) ∙ sym (flat_map-append units_of_part16 ps s.others) ∙ s.whole.1
+StartsWith16-units us ps rest s = ap (λ xs. flat_map units_of_part16 ps ++ xs) (sym s.following.1)
+    ∙ sym (flat_map-append units_of_part16 ps s.others) ∙ s.whole.1
 
 -- if nothing is left, they are all the parts
 pub StartsWith16-all : (us : List ℕ) (ps : List Part16) (rest : List ℕ) → rest ≡ [] → StartsWith16 us ps rest → ArePartsOf16 us ps
@@ -70,20 +78,30 @@ StartsWith16-all us ps rest e s =
     subst (ArePartsOf16 us) (ap (λ xs. ps ++ xs) (none_left s.others (ap length (s.following.1 ∙ e))) ∙ append-nil ps) s.whole
 
 -- what was pending and what is read are the units of the parts and what is pending afterwards
-pub StartsWith16-read : (surrogate src : List ℕ) (ps : List Part16) (after : List ℕ) (read : ℕ) → StartsWith16 (surrogate ++ src) ps (after ++ drop read src) → flat_map units_of_part16 ps ++ after ≡ surrogate ++ take read src
+pub StartsWith16-read : (surrogate src : List ℕ) (ps : List Part16) (after : List ℕ) (read : ℕ) → StartsWith16 (surrogate ++ src) ps (after ++ drop read src)
+    → flat_map units_of_part16 ps ++ after ≡ surrogate ++ take read src
 StartsWith16-read surrogate src ps after read s =
     append_cancel_right (flat_map units_of_part16 ps ++ after) (surrogate ++ take read src) (drop read src)
     (append_assoc (flat_map units_of_part16 ps) after (drop read src) ∙ StartsWith16-units (surrogate ++ src) ps (after ++ drop read src) s
     ∙ ap (λ xs. surrogate ++ xs) (sym (take-append-drop read src)) ∙ sym (append_assoc surrogate (take read src) (drop read src)))
 
 -- ---- with four bytes of space the first part fits
-pub first_fits : (parts : List Part16) (room read : ℕ) (out : List ℕ) → 0 < length (flat_map units_of_part16 parts) → 4 ≤ room → IsLongestFittingPrefix units_of_part16 utf8_of_part16 parts room read out → 0 < read
+pub first_fits : (parts : List Part16) (room read : ℕ) (out : List ℕ) → 0 < length (flat_map units_of_part16 parts) → 4 ≤ room
+    → IsLongestFittingPrefix units_of_part16 utf8_of_part16 parts room read out → 0 < read
 first_fits [] room read out s l f = absurd (omega arith)
 first_fits (p ∷ parts) room read out s l f = by_count f.count refl
   where
     by_count : (n : ℕ) → f.count ≡ n → 0 < read
     by_count zero e =
-        let one : room < length (flat_map utf8_of_part16 (take 1 (p ∷ parts))) = subst (λ n. room < length (flat_map utf8_of_part16 (take n (p ∷ parts)))) {x = f.count + 1} {y = 1} (omega (arith, e)) (f.longest (omega (arith, e))) in
+        let one : room < length (flat_map utf8_of_part16 (take 1 (p ∷ parts))) =
+        subst (λ n. room < length (flat_map utf8_of_part16 (take n (p ∷ parts)))) {x = f.count + 1} {y = 1} (omega (arith, e))
+        (f.longest (omega (arith, e))) in
         absurd (omega (arith, one, length-append (utf8_of_part16 p) [], (length-utf8_of_part16 p).2))
     by_count (suc n) e =
-        omega (arith, f.taken ∙ ap (λ k. length (flat_map units_of_part16 (take k (p ∷ parts)))) e, length-append (units_of_part16 p) (flat_map units_of_part16 (take n parts)), length-units_of_part16 p)
+        omega (
+          arith,
+          f.taken ∙ ap (λ k. length (flat_map units_of_part16 (take k (p ∷ parts)))) e,
+          length-append (units_of_part16 p)
+              (flat_map units_of_part16 (take n parts)),
+          length-units_of_part16 p,
+        )

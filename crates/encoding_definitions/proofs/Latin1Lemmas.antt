@@ -66,7 +66,8 @@ latin1_bytes bs (c, l, rest, e) = elim (cases_lt c 128) [
 ]
 
 -- ---- prefixes
-pub split_prefix : (ds cs : List ℕ) (rest : List ℕ) → encode_utf8_all cs ≡ encode_utf8_all ds ++ rest → (es : List ℕ) × (cs ≡ ds ++ es) × (encode_utf8_all es ≡ rest)
+pub split_prefix : (ds cs : List ℕ) (rest : List ℕ) → encode_utf8_all cs ≡ encode_utf8_all ds ++ rest
+    → (es : List ℕ) × (cs ≡ ds ++ es) × (encode_utf8_all es ≡ rest)
 split_prefix [] cs rest e = (cs, refl, e)
 split_prefix (d ∷ ds) cs rest e =
     let first = cons_from_encodes cs (encode_utf8_all ds ++ rest) d (e ∙ append_assoc (encode_utf8 d) (encode_utf8_all ds) rest) in
@@ -88,7 +89,8 @@ latin1_prefix_len bs n l h stop = record {
   kind = h;
   longest = λ m b k. elim (cases_lt n m) [
     | inl p ↦
-        let whole : take m bs ≡ take n bs ++ take (m - n) (drop n bs) = let e : m ≡ n + (m - n) = omega arith in ap (λ j. take j bs) e ∙ take-add n (m - n) bs in
+        let whole : take m bs ≡ take n bs ++ take (m - n) (drop n bs) = let e : m ≡ n + (m - n) = omega arith in ap (λ j. take j bs) e
+        ∙ take-add n (m - n) bs in
         let parts = split_prefix h.0 k.0 (take (m - n) (drop n bs)) (k.2 ∙ whole ∙ ap (λ xs. xs ++ take (m - n) (drop n bs)) (sym h.2)) in
         let long : length (take (m - n) (drop n bs)) ≡ m - n = length-take-le (m - n) (drop n bs) (omega (arith, length-drop n bs)) in
         let first = begins h.0 parts.0 (take (m - n) (drop n bs)) (subst IsLatin1 parts.1 k.1) parts.2 (omega arith) in
@@ -118,7 +120,8 @@ latin1_more_two bs i l h p q r s =
     rw (prefix, sym (two_bytes a b p q r s)) more
 
 pub latin1_stop : (bs : List ℕ) (i : ℕ) → i ≤ length bs → IsUtf8Latin1 (take i bs)
-    → (i < length bs → (0x80 ≤ slice_index bs i) × (0xC2 ≤ slice_index bs i → slice_index bs i < 0xC4 → i + 1 < length bs → 0x80 ≤ slice_index bs (i + 1) → slice_index bs (i + 1) ≤ 0xBF → ⊥))
+    → (i < length bs → (0x80 ≤ slice_index bs i) × (0xC2 ≤ slice_index bs i → slice_index bs i < 0xC4 → i + 1 < length bs → 0x80 ≤ slice_index bs (i + 1)
+    → slice_index bs (i + 1) ≤ 0xBF → ⊥))
     → IsLongestPrefix IsUtf8Latin1 bs i
 latin1_stop bs i l h stop = latin1_prefix_len bs i l h (λ b.
     let known = latin1_bytes (drop i bs) b in
@@ -176,7 +179,8 @@ stops_text (c ∷ cs) bs n s e h =
       ]
     ]
 
-pub latin1_text_prefix : (bs : List ℕ) (n : ℕ) → IsUtf8 bs → n ≤ length bs → ((k : ℕ) → k < n → slice_index bs k < 0xC4) → (n < length bs → 0xC4 ≤ slice_index bs n)
+pub latin1_text_prefix : (bs : List ℕ) (n : ℕ) → IsUtf8 bs → n ≤ length bs → ((k : ℕ) → k < n → slice_index bs k < 0xC4)
+    → (n < length bs → 0xC4 ≤ slice_index bs n)
     → IsLongestPrefix IsUtf8Latin1 bs n
 latin1_text_prefix bs n u l low high =
     latin1_stop bs n l (stops_text u.0 bs n u.1.0 u.1.1 (record { within = l; low = low; high = high }))
@@ -210,7 +214,8 @@ next_of_one src cs i j h e l p =
     ]
 
 pub next_of_two : (src cs : List ℕ) (i j : ℕ) → IsLatin1 cs → drop i src ≡ encode_utf8_all (drop j cs) → i < length src → 0x80 ≤ slice_index src i
-    → (j < length cs) × (i + 1 < length src) × (0x80 ≤ slice_index cs j) × (slice_index src i ≡ 192 + slice_index cs j / 64) × (slice_index src (i + 1) ≡ 128 + slice_index cs j % 64)
+    → (j < length cs) × (i + 1 < length src) × (0x80 ≤ slice_index cs j) × (slice_index src i ≡ 192 + slice_index cs j / 64)
+    × (slice_index src (i + 1) ≡ 128 + slice_index cs j % 64)
     × (drop (i + 2) src ≡ encode_utf8_all (drop (j + 1) cs))
 next_of_two src cs i j h e l p =
     let next = next_char src cs i j e l in

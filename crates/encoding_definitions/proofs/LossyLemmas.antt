@@ -43,7 +43,8 @@ unpaired : (a : ℕ) (more : List ℕ) → ((0xC2 ≤ a) × (a ≤ 0xF4) → ⊥
 unpaired a more n = rw (utf8_error_len_some (a ∷ more) (omega arith)) (grind (arith, nat_tests))
 
 -- ---- std counts the bytes of a malformed sequence as we do
-open_len : (x rest : List ℕ) → IsIncomplete x → ((y : ℕ) (ys : List ℕ) → rest ≡ y ∷ ys → IsRejected x y) → HasOpenShape x → utf8_invalid_len (x ++ rest) ≡ length x
+open_len : (x rest : List ℕ) → IsIncomplete x → ((y : ℕ) (ys : List ℕ) → rest ≡ y ∷ ys → IsRejected x y) → HasOpenShape x
+    → utf8_invalid_len (x ++ rest) ≡ length x
 open_len [] rest b n h = absurd h
 open_len (a ∷ []) [] b n h = one_end a h.0 h.1
 open_len (a ∷ []) (y ∷ ys) b n h = one_more a y ys h.0 h.1 (λ s. n y ys refl (second_goes_on a y s))
@@ -89,7 +90,8 @@ encoded : encode_utf8 0xFFFD ≡ replacement_bytes
 unfolding encode
 encoded = refl
 
-lossy_from : (cs bs : List ℕ) (ps : List Part) → all_scalars cs ≡ true → ArePartsOf bs ps → utf8_lossy (encode_utf8_all cs ++ bs) ≡ encode_utf8_all cs ++ lossy_utf8 ps
+lossy_from : (cs bs : List ℕ) (ps : List Part) → all_scalars cs ≡ true → ArePartsOf bs ps
+    → utf8_lossy (encode_utf8_all cs ++ bs) ≡ encode_utf8_all cs ++ lossy_utf8 ps
 lossy_from cs bs [] h e =
     let whole : encode_utf8_all cs ++ bs ≡ encode_utf8_all cs = ap (λ xs. encode_utf8_all cs ++ xs) e ∙ append-nil (encode_utf8_all cs) in
     ap utf8_lossy whole ∙ utf8_lossy-IsUtf8 (encode_utf8_all cs) (cs, (h, refl)) ∙ sym (append-nil (encode_utf8_all cs))

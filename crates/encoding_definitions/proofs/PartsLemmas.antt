@@ -91,7 +91,8 @@ first_unpaired b ys n = (none, inr (record { whole = refl; one = refl; none = un
         no_empty : IsSequence [] → ⊥
         no_empty h = cc
     none (z ∷ []) rest e s = n (inl (subst (λ k. IsSequence (k ∷ [])) (sym (head_same b z _ _ e)) s))
-    none (z ∷ w ∷ t) rest e s = n (inr (subst (λ k. IsIncomplete (k ∷ [])) (sym (head_same b z _ _ e)) (IsSequence-prefix (z ∷ []) (w ∷ t) (omega arith) (omega arith) s)))
+    none (z ∷ w ∷ t) rest e s = n
+        (inr (subst (λ k. IsIncomplete (k ∷ [])) (sym (head_same b z _ _ e)) (IsSequence-prefix (z ∷ []) (w ∷ t) (omega arith) (omega arith) s)))
 
     unpaired : (longer more : List ℕ) → b ∷ ys ≡ longer ++ more → IsIncomplete longer → ⊥
     unpaired [] more e l = omega (arith, l.0)
@@ -153,13 +154,19 @@ same_first_part bs (IllFormed a) r (Character d) s (n, k) (h, e) = absurd (n (en
 same_first_part bs (IllFormed a) r (IllFormed b) s (n, k) (m, l) = let both = same_malformed bs a r b s k l in (ap IllFormed both.0, both.1)
 
 -- ---- it stays the first for any bytes that follow, unless it is an incomplete sequence that is all
-begins_nothing : (b : ℕ) (ys : List ℕ) → BeginsWithNoCharacter (b ∷ ys) → ((longer more : List ℕ) → b ∷ ys ≡ longer ++ more → IsIncomplete longer → ⊥) → IsNeverLeading b
+begins_nothing : (b : ℕ) (ys : List ℕ) → BeginsWithNoCharacter (b ∷ ys)
+    → ((longer more : List ℕ) → b ∷ ys ≡ longer ++ more → IsIncomplete longer → ⊥) → IsNeverLeading b
 begins_nothing b ys n m (inl s) = n (b ∷ []) ys refl s
 begins_nothing b ys n m (inr l) = m (b ∷ []) ys refl l
 
 pub unpaired_part : (bs a rest : List ℕ) → BeginsWithNoCharacter bs → IsSingleByte bs a rest → (b : ℕ) × (a ≡ b ∷ []) × IsNeverLeading b
 unpaired_part bs [] rest n l = absurd (omega (arith, l.one))
-unpaired_part bs (b ∷ []) rest n l = (b, refl, begins_nothing b rest (subst BeginsWithNoCharacter l.whole n) (subst (λ xs. (longer more : List ℕ) → xs ≡ longer ++ more → IsIncomplete longer → ⊥) l.whole l.none))
+unpaired_part bs (b ∷ []) rest n l = (
+  b,
+  refl,
+  begins_nothing b rest (subst BeginsWithNoCharacter l.whole n)
+      (subst (λ xs. (longer more : List ℕ) → xs ≡ longer ++ more → IsIncomplete longer → ⊥) l.whole l.none),
+)
 unpaired_part bs (b ∷ d ∷ more) rest n l = absurd (omega (arith, l.one))
 
 pub rejected_part : (bs x : List ℕ) (y : ℕ) (ys : List ℕ) → BeginsWithNoCharacter bs → IsLongestIncomplete bs x (y ∷ ys) → IsRejected x y
@@ -177,4 +184,5 @@ IsFirstPart-append bs (IllFormed x) rest more (n, inr l) closed =
     let unpaired = unpaired_part bs x rest n l in
     let whole : bs ++ more ≡ unpaired.0 ∷ (rest ++ more) = ap (λ xs. xs ++ more) l.whole ∙ ap (λ xs. (xs ++ rest) ++ more) unpaired.1 in
     subst (λ xs. IsFirstPart xs (IllFormed x) (rest ++ more)) (sym whole)
-    (subst (λ xs. IsFirstPart (unpaired.0 ∷ (rest ++ more)) (IllFormed xs) (rest ++ more)) (sym unpaired.1) (first_unpaired unpaired.0 (rest ++ more) unpaired.2))
+    (subst (λ xs. IsFirstPart (unpaired.0 ∷ (rest ++ more)) (IllFormed xs) (rest ++ more)) (sym unpaired.1)
+    (first_unpaired unpaired.0 (rest ++ more) unpaired.2))

@@ -14,7 +14,8 @@ use Rattle.std.proofs.lemmas.List.Concat.{flat_map-append}
 -- ---- writing
 module _ {A : Type 0} where
   put_one : (old out : List A) (n : ℕ) (b : A) → n ≡ length out → n < length old → set (out ++ drop n old) n b ≡ (out ++ b ∷ []) ++ drop (n + 1) old
-  put_one old out n b e l = rw (drop_more old n b l) (set_at out (get_or old n b) (drop (n + 1) old) b n (sym e) ∙ sym (append_assoc out (b ∷ []) (drop (n + 1) old)))
+  put_one old out n b e l = rw (drop_more old n b l) (set_at out (get_or old n b) (drop (n + 1) old) b n (sym e)
+      ∙ sym (append_assoc out (b ∷ []) (drop (n + 1) old)))
 
   pub WritesPrefix-nil : (old : List A) → WritesPrefix old old 0 []
   WritesPrefix-nil old = record { count = refl; fits = omega arith; placed = refl }
@@ -23,7 +24,8 @@ module _ {A : Type 0} where
   WritesPrefix-length old new n out w = omega (arith, ap length w.placed, length-append out (drop n old), length-drop n old, w.count, w.fits)
 
   -- one more item, at the index after what was written
-  pub WritesPrefix_push : (old new : List A) (n : ℕ) (out : List A) (b : A) → WritesPrefix old new n out → n < length new → WritesPrefix old (set new n b) (n + 1) (out ++ b ∷ [])
+  pub WritesPrefix_push : (old new : List A) (n : ℕ) (out : List A) (b : A) → WritesPrefix old new n out → n < length new
+      → WritesPrefix old (set new n b) (n + 1) (out ++ b ∷ [])
   WritesPrefix_push old new n out b w l =
       let long : length new ≡ length old = WritesPrefix-length old new n out w in
       record {
@@ -53,7 +55,9 @@ module _ {A : Type 0} where
       → WritesPrefix old (set (set (set (set new n a) (n + 1) b) (n + 2) c) (n + 3) d) (n + 4) (out ++ (a ∷ b ∷ c ∷ d ∷ []))
   WritesPrefix_push_four old new n out a b c d w l =
       let first = WritesPrefix_push_three old new n out a b c w (omega arith) in
-      let second = WritesPrefix_push _ _ _ _ d first (omega (arith, length-set (set (set new n a) (n + 1) b) (n + 2) c, length-set (set new n a) (n + 1) b, length-set new n a)) in
+      let second =
+      WritesPrefix_push _ _ _ _ d first
+      (omega (arith, length-set (set (set new n a) (n + 1) b) (n + 2) c, length-set (set new n a) (n + 1) b, length-set new n a)) in
       WritesPrefix-same _ _ _ _ _ _ second (omega arith) (append_assoc out (a ∷ b ∷ c ∷ []) (d ∷ []))
 
   -- m more items at once
@@ -71,7 +75,8 @@ module _ {A : Type 0} where
       }
 
   -- m items of a list, from an index that may be before the end of those that were written
-  pub WritesPrefix_again : (old new after xs : List A) (n at m : ℕ) → WritesPrefix old new n (take n xs) → at ≤ n → n ≤ at + m → at + m ≤ length xs → at + m ≤ length new
+  pub WritesPrefix_again : (old new after xs : List A) (n at m : ℕ) → WritesPrefix old new n (take n xs) → at ≤ n → n ≤ at + m → at + m ≤ length xs
+      → at + m ≤ length new
       → after ≡ take at new ++ (take m (drop at xs) ++ drop (at + m) new) → WritesPrefix old after (at + m) (take (at + m) xs)
   WritesPrefix_again old new after xs n at m w l more within room put =
       let long : length new ≡ length old = WritesPrefix-length old new n (take n xs) w in
@@ -86,7 +91,8 @@ module _ {A : Type 0} where
       }
 
   -- more was written over a prefix that was written before
-  pub WritesPrefix_over : (old new after : List A) (n m : ℕ) (out other : List A) → WritesPrefix old new n out → WritesPrefix new after m other → n ≤ m → WritesPrefix old after m other
+  pub WritesPrefix_over : (old new after : List A) (n m : ℕ) (out other : List A) → WritesPrefix old new n out → WritesPrefix new after m other → n ≤ m
+      → WritesPrefix old after m other
   WritesPrefix_over old new after n m out other w v l = record {
     count = v.count;
     fits = omega (arith, v.fits, WritesPrefix-length old new n out w);
@@ -143,7 +149,8 @@ module _ {C A : Type 0} (source : C → List ℕ) (output : C → List A) where
       let next : take (length done + 1) (done ++ c ∷ more) ≡ done ++ c ∷ [] =
       ap (take (length done + 1)) (sym (append_assoc done (c ∷ []) more)) ∙ take_at (done ++ c ∷ []) more (length done + 1) (length_push done c) in
       let long : length (flat_map output (done ++ c ∷ [])) ≡ length (flat_map output done) + length (output c) =
-      ap length (flat_map-append output done (c ∷ [])) ∙ length-append (flat_map output done) (output c ++ []) ∙ ap (λ xs. length (flat_map output done) + length xs) (append-nil (output c)) in
+      ap length (flat_map-append output done (c ∷ [])) ∙ length-append (flat_map output done) (output c ++ [])
+      ∙ ap (λ xs. length (flat_map output done) + length xs) (append-nil (output c)) in
       record {
         count = length done;
         within = omega (arith, length-append done (c ∷ more));
@@ -160,7 +167,8 @@ module _ {C A : Type 0} (f : C → List A) where
 
   pub length-prefix : (cs : List C) (n : ℕ) → length (flat_map f (take n cs)) ≤ length (flat_map f cs)
   length-prefix cs n =
-      let whole : flat_map f (take n cs) ++ flat_map f (drop n cs) ≡ flat_map f cs = sym (flat_map-append f (take n cs) (drop n cs)) ∙ ap (flat_map f) (take-append-drop n cs) in
+      let whole : flat_map f (take n cs) ++ flat_map f (drop n cs) ≡ flat_map f cs = sym (flat_map-append f (take n cs) (drop n cs))
+      ∙ ap (flat_map f) (take-append-drop n cs) in
       omega (arith, ap length whole, length-append (flat_map f (take n cs)) (flat_map f (drop n cs)))
 
 -- ---- fitting
@@ -182,7 +190,8 @@ module _ {C A : Type 0} (source : C → List ℕ) (output : C → List A) where
         written = ap (λ xs. flat_map output done ++ xs) f.written ∙ sym (flat_map-append output done (take f.count rest)) ∙ ap (flat_map output) (sym prefix);
         fits = omega (arith, f.fits, length-append (flat_map output done) out);
         longest = λ l.
-            let less : room - length (flat_map output done) < length (flat_map output (take (f.count + 1) rest)) = f.longest (omega (arith, l, length-append done rest)) in
+            let less : room - length (flat_map output done) < length (flat_map output (take (f.count + 1) rest)) =
+            f.longest (omega (arith, l, length-append done rest)) in
             subst (λ n. room < length (flat_map output (take n (done ++ rest)))) (sym one_on)
             (subst (λ cs. room < length (flat_map output cs)) (sym next)
             (subst (λ xs. room < length xs) (sym (flat_map-append output done (take (f.count + 1) rest))) (omega (arith, less, long))));
@@ -205,7 +214,8 @@ module _ {C D A : Type 0} (source : D → List ℕ) (output : D → List A) (v :
   prefix_map f (suc n) (c ∷ cs) = ap (λ xs. f (v c) ++ xs) (prefix_map f n cs)
 
   -- of characters seen as others
-  pub IsLongestFittingPrefix-map : (cs : List C) (room read : ℕ) (out : List A) → IsLongestFittingPrefix (λ c. source (v c)) (λ c. output (v c)) cs room read out → IsLongestFittingPrefix source output (map v cs) room read out
+  pub IsLongestFittingPrefix-map : (cs : List C) (room read : ℕ) (out : List A)
+      → IsLongestFittingPrefix (λ c. source (v c)) (λ c. output (v c)) cs room read out → IsLongestFittingPrefix source output (map v cs) room read out
   IsLongestFittingPrefix-map cs room read out f = record {
     count = f.count;
     within = omega (arith, f.within, length-map cs v);

@@ -42,7 +42,8 @@ begins_row-prefix (range ∷ row) (b ∷ bs) rest h e =
     let parts = and_parts _ _ e in
     and_from _ _ parts.0 (begins_row-prefix row bs rest h parts.1)
 
-begins_some_row-prefix : (table : List (List (ℕ × ℕ))) (bs rest : List ℕ) → 0 < length rest → in_some_row table (bs ++ rest) ≡ true → begins_some_row table bs ≡ true
+begins_some_row-prefix : (table : List (List (ℕ × ℕ))) (bs rest : List ℕ) → 0 < length rest → in_some_row table (bs ++ rest) ≡ true
+    → begins_some_row table bs ≡ true
 begins_some_row-prefix [] bs rest h e = e
 begins_some_row-prefix (row ∷ more) bs rest h e = elim (or_cases _ _ e) [
   | inl p ↦ or_left _ _ (begins_row-prefix row bs rest h p)
@@ -58,7 +59,8 @@ row-filled (range ∷ row) e =
     let least : nat_le range.0 range.0 ≡ true = grind (arith, nat_tests) in
     (range.0 ∷ more.0, ap suc more.1, and_from _ _ (and_from _ _ least parts.0) more.2)
 
-begins_row-rest : (row : List (ℕ × ℕ)) (bs : List ℕ) → ranges_hold row ≡ true → begins_row row bs ≡ true → (rest : List ℕ) × (0 < length rest) × (matches_row row (bs ++ rest) ≡ true)
+begins_row-rest : (row : List (ℕ × ℕ)) (bs : List ℕ) → ranges_hold row ≡ true → begins_row row bs ≡ true
+    → (rest : List ℕ) × (0 < length rest) × (matches_row row (bs ++ rest) ≡ true)
 begins_row-rest [] bs h e = absurd (true≢false (sym e))
 begins_row-rest (range ∷ row) [] h e = let more = row-filled (range ∷ row) h in (more.0, omega (arith, more.1), more.2)
 begins_row-rest (range ∷ row) (b ∷ bs) h e =
@@ -66,7 +68,8 @@ begins_row-rest (range ∷ row) (b ∷ bs) h e =
     let more = begins_row-rest row bs (and_parts _ _ h).1 parts.1 in
     (more.0, more.1, and_from _ _ parts.0 more.2)
 
-begins_some_row-rest : (table : List (List (ℕ × ℕ))) (bs : List ℕ) → rows_hold table ≡ true → begins_some_row table bs ≡ true → (rest : List ℕ) × (0 < length rest) × (in_some_row table (bs ++ rest) ≡ true)
+begins_some_row-rest : (table : List (List (ℕ × ℕ))) (bs : List ℕ) → rows_hold table ≡ true → begins_some_row table bs ≡ true
+    → (rest : List ℕ) × (0 < length rest) × (in_some_row table (bs ++ rest) ≡ true)
 begins_some_row-rest [] bs h e = absurd (true≢false (sym e))
 begins_some_row-rest (row ∷ more) bs h e = elim (or_cases _ _ e) [
   | inl p ↦ let found = begins_row-rest row bs (and_parts _ _ h).0 p in (found.0, found.1, or_left _ _ found.2)
@@ -196,14 +199,33 @@ is_second-F4 a b e l h = grind (arith, nat_tests)
 
 shape_three : (a b c : ℕ) → InSomeRow (rows_of 3 table_3_7) (a ∷ b ∷ c ∷ []) → HasShape (a ∷ b ∷ c ∷ [])
 shape_three a b c (inl (l, h, (m, n, (o, p, u)))) = (omega arith, omega arith, is_second-E0 a b (omega arith) m n, (o, p))
-shape_three a b c (inr (inl (l, h, (m, n, (o, p, u))))) = (omega arith, omega arith, is_second-other a b (omega arith) (omega arith) (omega arith) (omega arith) (m, n), (o, p))
+shape_three a b c (inr (inl (l, h, (m, n, (o, p, u))))) = (
+  omega arith,
+  omega arith,
+  is_second-other a b (omega arith) (omega arith) (omega arith)
+      (omega arith) (m, n),
+  (o, p),
+)
 shape_three a b c (inr (inr (inl (l, h, (m, n, (o, p, u)))))) = (omega arith, omega arith, is_second-ED a b (omega arith) m n, (o, p))
-shape_three a b c (inr (inr (inr (inl (l, h, (m, n, (o, p, u))))))) = (omega arith, omega arith, is_second-other a b (omega arith) (omega arith) (omega arith) (omega arith) (m, n), (o, p))
+shape_three a b c (inr (inr (inr (inl (l, h, (m, n, (o, p, u))))))) = (
+  omega arith,
+  omega arith,
+  is_second-other a b (omega arith) (omega arith) (omega arith)
+      (omega arith) (m, n),
+  (o, p),
+)
 shape_three a b c (inr (inr (inr (inr none)))) = absurd none
 
 shape_four : (a b c d : ℕ) → InSomeRow (rows_of 4 table_3_7) (a ∷ b ∷ c ∷ d ∷ []) → HasShape (a ∷ b ∷ c ∷ d ∷ [])
 shape_four a b c d (inl (l, h, (m, n, (o, p, (q, r, u))))) = (omega arith, omega arith, is_second-F0 a b (omega arith) m n, (o, p), (q, r))
-shape_four a b c d (inr (inl (l, h, (m, n, (o, p, (q, r, u)))))) = (omega arith, omega arith, is_second-other a b (omega arith) (omega arith) (omega arith) (omega arith) (m, n), (o, p), (q, r))
+shape_four a b c d (inr (inl (l, h, (m, n, (o, p, (q, r, u)))))) = (
+  omega arith,
+  omega arith,
+  is_second-other a b (omega arith) (omega arith) (omega arith)
+      (omega arith) (m, n),
+  (o, p),
+  (q, r),
+)
 shape_four a b c d (inr (inr (inl (l, h, (m, n, (o, p, (q, r, u))))))) = (omega arith, omega arith, is_second-F4 a b (omega arith) m n, (o, p), (q, r))
 shape_four a b c d (inr (inr (inr none))) = absurd none
 
@@ -317,8 +339,23 @@ pub Reads-HasShape : (prefix rest : List ℕ) → HasShape prefix → Reads (pre
 Reads-HasShape [] rest h = absurd h
 Reads-HasShape (a ∷ []) rest h = (omega arith, λ l. absurd (omega arith), λ l. absurd (omega arith), λ l. absurd (omega arith))
 Reads-HasShape (a ∷ b ∷ []) rest h = (omega arith, λ l. (omega arith, second_two a b h.0 h.1 h.2), λ l. absurd (omega arith), λ l. absurd (omega arith))
-Reads-HasShape (a ∷ b ∷ c ∷ []) rest h = (omega arith, λ l. (omega arith, second_more a b h.0 (omega arith) h.2), λ l. (omega arith, h.3), λ l. absurd (omega arith))
-Reads-HasShape (a ∷ b ∷ c ∷ d ∷ []) rest h = (omega arith, λ l. (omega arith, second_more a b (omega arith) h.1 h.2), λ l. (omega arith, h.3), λ l. (omega arith, h.4))
+Reads-HasShape (a ∷ b ∷ c ∷ []) rest h = (
+  omega arith,
+  λ l. (omega arith, second_more a b h.0 (omega arith) h.2),
+  λ l. (omega arith, h.3),
+  λ l. absurd
+      (omega arith),
+)
+Reads-HasShape (a ∷ b ∷ c ∷ d ∷ []) rest h = (
+  omega arith,
+  λ l. (
+    omega arith,
+    second_more a b
+        (omega arith) h.1 h.2,
+  ),
+  λ l. (omega arith, h.3),
+  λ l. (omega arith, h.4),
+)
 Reads-HasShape (a ∷ b ∷ c ∷ d ∷ e ∷ more) rest h = absurd h
 
 pub no_character_reads : (bs : List ℕ) → (Reads bs → ⊥) → BeginsWithNoCharacter bs
@@ -352,6 +389,14 @@ pub length_by_first : (a n : ℕ) → 0xC2 ≤ a → a ≤ 0xF4 → ((rest : Lis
     → (a < 0xE0 → n ≡ 2) × (0xE0 ≤ a → a < 0xF0 → n ≡ 3) × (0xF0 ≤ a → n ≡ 4)
 length_by_first a n l h all = (
   λ q. omega (arith, all (0x80 ∷ []) (IsSequence-HasShape (a ∷ 0x80 ∷ []) (l, omega arith, (omega arith, omega arith)))),
-  λ p q. omega (arith, all (second_byte_min a ∷ 0x80 ∷ []) (IsSequence-HasShape (a ∷ second_byte_min a ∷ 0x80 ∷ []) (p, omega arith, is_second-least a, (omega arith, omega arith)))),
-  λ q. omega (arith, all (second_byte_min a ∷ 0x80 ∷ 0x80 ∷ []) (IsSequence-HasShape (a ∷ second_byte_min a ∷ 0x80 ∷ 0x80 ∷ []) (q, h, is_second-least a, (omega arith, omega arith), (omega arith, omega arith)))),
+  λ p q. omega (
+    arith,
+    all (second_byte_min a ∷ 0x80 ∷ [])
+        (IsSequence-HasShape (a ∷ second_byte_min a ∷ 0x80 ∷ []) (p, omega arith, is_second-least a, (omega arith, omega arith))),
+  ),
+  λ q. omega (
+    arith,
+    all (second_byte_min a ∷ 0x80 ∷ 0x80 ∷ [])
+        (IsSequence-HasShape (a ∷ second_byte_min a ∷ 0x80 ∷ 0x80 ∷ []) (q, h, is_second-least a, (omega arith, omega arith), (omega arith, omega arith))),
+  ),
 )

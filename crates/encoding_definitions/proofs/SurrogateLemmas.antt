@@ -24,7 +24,8 @@ use Rattle.encoding_definitions.proofs.Utf16Lemmas.{parts_of, parts_of-nil, part
 -- ---- valid units are the UTF-16 of scalar values
 valid_scalars : (cs : List ℕ) → ArePaired (map Character16 cs) → all_scalars cs ≡ true
 valid_scalars [] a = refl
-valid_scalars (c ∷ cs) a = and_from (scalar c) (all_scalars cs) (head_part (Character16 c) (map Character16 cs) a) (valid_scalars cs (tail_paired (Character16 c) (map Character16 cs) a))
+valid_scalars (c ∷ cs) a = and_from (scalar c) (all_scalars cs) (head_part (Character16 c) (map Character16 cs) a)
+    (valid_scalars cs (tail_paired (Character16 c) (map Character16 cs) a))
 
 pub scalars_of_valid : (us : List ℕ) (v : IsValidUtf16 us) → (all_scalars v.0 ≡ true) × (flat_map encode_utf16 v.0 ≡ us)
 scalars_of_valid us (cs, a) = (valid_scalars cs a.0, sym (characters_units cs) ∙ a.1)
@@ -34,7 +35,8 @@ valid-encode cs us s e = (cs, subst (λ xs. ArePartsOf16 xs (map Character16 cs)
 
 scalars_push : (cs : List ℕ) (c : ℕ) → all_scalars cs ≡ true → IsScalar c → all_scalars (cs ++ c ∷ []) ≡ true
 scalars_push [] c s h = and_from (scalar c) true h refl
-scalars_push (d ∷ cs) c s h = let parts = both (scalar d) (all_scalars cs) s in and_from (scalar d) (all_scalars (cs ++ c ∷ [])) parts.0 (scalars_push cs c parts.1 h)
+scalars_push (d ∷ cs) c s h = let parts = both (scalar d) (all_scalars cs) s in
+    and_from (scalar d) (all_scalars (cs ++ c ∷ [])) parts.0 (scalars_push cs c parts.1 h)
 
 -- one more character
 valid_push : (us : List ℕ) (c : ℕ) → IsValidUtf16 us → IsScalar c → IsValidUtf16 (us ++ encode_utf16 c)
@@ -43,7 +45,8 @@ valid_push us c v s =
     valid-encode (v.0 ++ c ∷ []) (us ++ encode_utf16 c) (scalars_push v.0 c had.0 s)
     (flat_map-append encode_utf16 v.0 (c ∷ []) ∙ ap (λ xs. xs ++ (encode_utf16 c ++ [])) had.1 ∙ ap (λ xs. us ++ xs) (append-nil (encode_utf16 c)))
 
-valid_character : (us : List ℕ) (at n c : ℕ) (rest : List ℕ) → IsValidUtf16 (take at us) → length (encode_utf16 c) ≡ n → IsFirstPart16 (drop at us) (Character16 c) rest → IsValidUtf16 (take (at + n) us)
+valid_character : (us : List ℕ) (at n c : ℕ) (rest : List ℕ) → IsValidUtf16 (take at us) → length (encode_utf16 c) ≡ n
+    → IsFirstPart16 (drop at us) (Character16 c) rest → IsValidUtf16 (take (at + n) us)
 valid_character us at n c rest v e f =
     let prefix : take n (drop at us) ≡ encode_utf16 c = ap (take n) f.1 ∙ take_at (encode_utf16 c) rest n e in
     subst IsValidUtf16 (ap (λ xs. take at us ++ xs) (sym prefix) ∙ sym (take-add at n us)) (valid_push (take at us) c v f.0)
@@ -53,7 +56,8 @@ module _ (us : List ℕ) (at : ℕ) where
   here : at < length us → drop at us ≡ get_or us at 0 ∷ drop (at + 1) us
   here l = drop_more us at 0 l
 
-  unit_here : at < length us → get_or us at 0 < 0x10000 → (get_or us at 0 < 0xD800) ⊎ (0xDFFF < get_or us at 0) → IsFirstPart16 (drop at us) (Character16 (get_or us at 0)) (drop (at + 1) us)
+  unit_here : at < length us → get_or us at 0 < 0x10000 → (get_or us at 0 < 0xD800) ⊎ (0xDFFF < get_or us at 0)
+      → IsFirstPart16 (drop at us) (Character16 (get_or us at 0)) (drop (at + 1) us)
   unit_here l w n = subst (λ xs. IsFirstPart16 xs (Character16 (get_or us at 0)) (drop (at + 1) us)) (sym (here l)) (first_unit _ _ w n)
 
   pair_here : at + 1 < length us → IsPair (get_or us at 0) (get_or us (at + 1) 0)
@@ -61,30 +65,37 @@ module _ (us : List ℕ) (at : ℕ) where
   pair_here l p =
       let c = surrogate_pair_char (get_or us at 0) (get_or us (at + 1) 0) in
       let whole : drop at us ≡ get_or us at 0 ∷ get_or us (at + 1) 0 ∷ drop (at + 2) us =
-      here (omega arith) ∙ ap (λ xs. get_or us at 0 ∷ xs) (drop_more us (at + 1) 0 l ∙ ap (λ n. get_or us (at + 1) 0 ∷ drop n us) {x = at + 1 + 1} {y = at + 2} (omega arith)) in
+      here (omega arith)
+      ∙ ap (λ xs. get_or us at 0 ∷ xs) (drop_more us (at + 1) 0 l
+      ∙ ap (λ n. get_or us (at + 1) 0 ∷ drop n us) {x = at + 1 + 1} {y = at + 2} (omega arith)) in
       subst (λ xs. IsFirstPart16 xs (Character16 c) (drop (at + 2) us)) (sym whole) (first_pair _ _ _ p)
 
   -- a unit that is in no pair
   next_apart : (at + 1 < length us → IsPair (get_or us at 0) (get_or us (at + 1) 0) → ⊥) → IsPair (get_or us at 0) (get_or (drop (at + 1) us) 0 0) → ⊥
   next_apart n p =
-      let next : get_or (drop (at + 1) us) 0 0 ≡ get_or us (at + 1) 0 = get_or-drop (at + 1) us 0 0 ∙ ap (λ k. get_or us k 0) {x = at + 1 + 0} {y = at + 1} (omega arith) in
+      let next : get_or (drop (at + 1) us) 0 0 ≡ get_or us (at + 1) 0 = get_or-drop (at + 1) us 0 0
+      ∙ ap (λ k. get_or us k 0) {x = at + 1 + 0} {y = at + 1} (omega arith) in
       elim (cases_lt (at + 1) (length us)) [
         | inl i ↦ n i (subst (IsPair (get_or us at 0)) next p)
         | inr i ↦ omega (arith, p.2, next, get_or_past us (at + 1) 0 i)
       ]
 
-  pub unpaired_here : at < length us → 0xD800 ≤ get_or us at 0 → get_or us at 0 ≤ 0xDFFF → (at + 1 < length us → IsPair (get_or us at 0) (get_or us (at + 1) 0) → ⊥)
+  pub unpaired_here : at < length us → 0xD800 ≤ get_or us at 0 → get_or us at 0 ≤ 0xDFFF
+      → (at + 1 < length us → IsPair (get_or us at 0) (get_or us (at + 1) 0) → ⊥)
       → IsFirstPart16 (drop at us) (Unpaired (get_or us at 0)) (drop (at + 1) us)
   unpaired_here l a b n = subst (λ xs. IsFirstPart16 xs (Unpaired (get_or us at 0)) (drop (at + 1) us)) (sym (here l)) (first_single _ _ a b (next_apart n))
 
 -- ---- a loop over the units
-pub valid_more_one : (us : List ℕ) (at : ℕ) → at < length us → get_or us at 0 < 0x10000 → IsValidUtf16 (take at us) → (0xD800 ≤ get_or us at 0 → get_or us at 0 ≤ 0xDFFF → ⊥) → IsValidUtf16 (take (at + 1) us)
-valid_more_one us at l w v n = valid_character us at 1 (get_or us at 0) _ v (ap length (one_unit _ w)) (unit_here us at l w (elim (cases_lt (get_or us at 0) 0xD800) [
-  | inl a ↦ inl a
-  | inr a ↦ elim (cases_lt 0xDFFF (get_or us at 0)) [ inl b ↦ inr b | inr b ↦ absurd (n a b) ]
-]))
+pub valid_more_one : (us : List ℕ) (at : ℕ) → at < length us → get_or us at 0 < 0x10000 → IsValidUtf16 (take at us)
+    → (0xD800 ≤ get_or us at 0 → get_or us at 0 ≤ 0xDFFF → ⊥) → IsValidUtf16 (take (at + 1) us)
+valid_more_one us at l w v n = valid_character us at 1 (get_or us at 0) _ v (ap length (one_unit _ w))
+    (unit_here us at l w (elim (cases_lt (get_or us at 0) 0xD800) [
+      | inl a ↦ inl a
+      | inr a ↦ elim (cases_lt 0xDFFF (get_or us at 0)) [ inl b ↦ inr b | inr b ↦ absurd (n a b) ]
+    ]))
 
-pub valid_more_two : (us : List ℕ) (at : ℕ) → at + 1 < length us → IsValidUtf16 (take at us) → IsPair (get_or us at 0) (get_or us (at + 1) 0) → IsValidUtf16 (take (at + 2) us)
+pub valid_more_two : (us : List ℕ) (at : ℕ) → at + 1 < length us → IsValidUtf16 (take at us) → IsPair (get_or us at 0) (get_or us (at + 1) 0)
+    → IsValidUtf16 (take (at + 2) us)
 valid_more_two us at l v p =
     let c = surrogate_pair_char (get_or us at 0) (get_or us (at + 1) 0) in
     valid_character us at 2 c _ v (ap length (two_units c (omega arith))) (pair_here us at l p)
@@ -131,9 +142,11 @@ valid_stop us at l v stop = record {
         ap (take (m - at)) (drop_more us at 0 (omega arith)) ∙ ap (λ k. take k (get_or us at 0 ∷ drop (at + 1) us)) {x = m - at} {y = suc n} (omega arith) in
         let whole : take m us ≡ take at us ++ (get_or us at 0 ∷ take n (drop (at + 1) us)) =
         ap (λ k. take k us) {x = m} {y = at + (m - at)} (omega arith) ∙ take-add at (m - at) us ∙ ap (λ xs. take at us ++ xs) more in
-        valid_ends (take at us) (get_or us at 0) _ (take n (drop (at + 1) us)) v (first_single _ _ unpaired.0 unpaired.1 (apart n unpaired.2)) (subst IsValidUtf16 whole w)
+        valid_ends (take at us) (get_or us at 0) _ (take n (drop (at + 1) us)) v (first_single _ _ unpaired.0 unpaired.1 (apart n unpaired.2))
+        (subst IsValidUtf16 whole w)
       where
-        apart : (n : ℕ) → (at + 1 < length us → IsPair (get_or us at 0) (get_or us (at + 1) 0) → ⊥) → IsPair (get_or us at 0) (get_or (take n (drop (at + 1) us)) 0 0) → ⊥
+        apart : (n : ℕ) → (at + 1 < length us → IsPair (get_or us at 0) (get_or us (at + 1) 0) → ⊥)
+            → IsPair (get_or us at 0) (get_or (take n (drop (at + 1) us)) 0 0) → ⊥
         apart n none p = elim (cases_lt 0 n) [
           | inl h ↦ next_apart us at none (subst (IsPair (get_or us at 0)) (get_or-take n (drop (at + 1) us) 0 0 h) p)
           | inr h ↦ let zero_long : n ≡ 0 = omega arith in
@@ -142,7 +155,8 @@ valid_stop us at l v stop = record {
         ]
 
 -- if a longest valid prefix ends before the units do, an unpaired surrogate follows it
-pub unpaired_after : (us : List ℕ) (at : ℕ) → AreCodeUnits us → IsLongestPrefix IsValidUtf16 us at → at < length us → IsFirstPart16 (drop at us) (Unpaired (get_or us at 0)) (drop (at + 1) us)
+pub unpaired_after : (us : List ℕ) (at : ℕ) → AreCodeUnits us → IsLongestPrefix IsValidUtf16 us at → at < length us
+    → IsFirstPart16 (drop at us) (Unpaired (get_or us at 0)) (drop (at + 1) us)
 unpaired_after us at a f l = elim (cases_lt (get_or us at 0) 0xD800) [
   | inl p ↦ absurd (one (λ q _. omega arith))
   | inr p ↦ elim (cases_lt 0xDFFF (get_or us at 0)) [
@@ -177,23 +191,29 @@ module _ (us buffer : List ℕ) (at n : ℕ) (done : List Part16) (a : AreCodeUn
       let cs = f.kind.0 in
       let had = scalars_of_valid (take n (drop at us)) f.kind in
       let whole : drop at us ≡ flat_map encode_utf16 cs ++ drop (at + n) us =
-      sym (take-append-drop n (drop at us)) ∙ ap (λ xs. xs ++ drop n (drop at us)) (sym had.1) ∙ ap (λ xs. flat_map encode_utf16 cs ++ xs) (drop-drop n at us) in
+      sym (take-append-drop n (drop at us)) ∙ ap (λ xs. xs ++ drop n (drop at us)) (sym had.1)
+      ∙ ap (λ xs. flat_map encode_utf16 cs ++ xs) (drop-drop n at us) in
       let long : length (flat_map units_of_part16 (map Character16 cs)) ≡ n =
       ap length (characters_units cs ∙ had.1) ∙ length-take-le n (drop at us) f.within in
       record {
         within = omega (arith, f.within, length-drop at us);
         same_length = same;
         walked = record {
-          whole = w.whole ∙ ap (λ ps. done ++ ps) (ap parts_of whole ∙ parts_of-characters cs (drop (at + n) us) had.0) ∙ sym (append_assoc done (map Character16 cs) (parts_of (drop (at + n) us)));
-          taken = ap length (flat_map-append units_of_part16 done (map Character16 cs)) ∙ length-append (flat_map units_of_part16 done) (flat_map units_of_part16 (map Character16 cs)) ∙ omega (arith, w.taken, long);
+          whole = w.whole ∙ ap (λ ps. done ++ ps) (ap parts_of whole ∙ parts_of-characters cs (drop (at + n) us) had.0)
+              ∙ sym (append_assoc done (map Character16 cs) (parts_of (drop (at + n) us)));
+          taken = ap length (flat_map-append units_of_part16 done (map Character16 cs))
+              ∙ length-append (flat_map units_of_part16 done) (flat_map units_of_part16 (map Character16 cs)) ∙ omega (arith, w.taken, long);
         };
         prefix = take-add at n buffer ∙ ap (λ xs. take at buffer ++ take n xs) rest ∙ ap (λ xs. xs ++ take n (drop at us)) prefix
-            ∙ ap (λ xs. flat_map repaired_units done ++ xs) (sym had.1 ∙ sym (repaired_characters cs)) ∙ sym (flat_map-append repaired_units done (map Character16 cs));
+            ∙ ap (λ xs. flat_map repaired_units done ++ xs) (sym had.1 ∙ sym (repaired_characters cs))
+            ∙ sym (flat_map-append repaired_units done (map Character16 cs));
         rest = sym (drop-drop n at buffer) ∙ ap (drop n) rest ∙ drop-drop n at us;
         stops = λ i.
-            let there = unpaired_after (drop at us) n (λ k. subst (λ u. u < 0x10000) (sym (get_or-drop at us k 0)) (a (at + k))) f (omega (arith, i, length-drop at us)) in
+            let there = unpaired_after (drop at us) n (λ k. subst (λ u. u < 0x10000) (sym (get_or-drop at us k 0)) (a (at + k))) f
+            (omega (arith, i, length-drop at us)) in
             let unit : get_or (drop at us) n 0 ≡ get_or us (at + n) 0 = get_or-drop at us n 0 in
-            let following : drop (n + 1) (drop at us) ≡ drop (at + n + 1) us = drop-drop (n + 1) at us ∙ ap (λ k. drop k us) {x = at + (n + 1)} {y = at + n + 1} (omega arith) in
+            let following : drop (n + 1) (drop at us) ≡ drop (at + n + 1) us = drop-drop (n + 1) at us
+            ∙ ap (λ k. drop k us) {x = at + (n + 1)} {y = at + n + 1} (omega arith) in
             subst (λ xs. IsFirstPart16 (drop (at + n) us) (Unpaired (get_or us (at + n) 0)) xs) following
             (subst (λ u. IsFirstPart16 (drop (at + n) us) (Unpaired u) (drop (n + 1) (drop at us))) unit
             (subst (λ xs. IsFirstPart16 xs (Unpaired (get_or (drop at us) n 0)) (drop (n + 1) (drop at us))) (drop-drop n at us) there));
@@ -215,12 +235,15 @@ repair_goes_on us buffer at next done a r l h f =
     let u = get_or us at 0 in
     let new = set buffer at 0xFFFD in
     let unpaired = r.stops l in
-    let split : buffer ≡ take at buffer ++ (u ∷ drop (at + 1) us) = sym (take-append-drop at buffer) ∙ ap (λ xs. take at buffer ++ xs) (r.rest ∙ drop_more us at 0 l) in
+    let split : buffer ≡ take at buffer ++ (u ∷ drop (at + 1) us) = sym (take-append-drop at buffer)
+    ∙ ap (λ xs. take at buffer ++ xs) (r.rest ∙ drop_more us at 0 l) in
     let long : length (take at buffer) ≡ at = length-take-le at buffer (omega (arith, r.same_length)) in
-    let written : new ≡ take at buffer ++ (0xFFFD ∷ drop (at + 1) us) = ap (λ xs. set xs at 0xFFFD) split ∙ set_at (take at buffer) u (drop (at + 1) us) 0xFFFD at long in
+    let written : new ≡ take at buffer ++ (0xFFFD ∷ drop (at + 1) us) = ap (λ xs. set xs at 0xFFFD) split
+    ∙ set_at (take at buffer) u (drop (at + 1) us) 0xFFFD at long in
     let apart : new ≡ (take at buffer ++ 0xFFFD ∷ []) ++ drop (at + 1) us = written ∙ sym (append_assoc (take at buffer) (0xFFFD ∷ []) (drop (at + 1) us)) in
     let longer : length (take at buffer ++ 0xFFFD ∷ []) ≡ at + 1 = omega (arith, long, length-append (take at buffer) (0xFFFD ∷ [])) in
-    let following : drop (at + 1) new ≡ drop (at + 1) us = ap (drop (at + 1)) apart ∙ drop_at (take at buffer ++ 0xFFFD ∷ []) (drop (at + 1) us) (at + 1) longer in
+    let following : drop (at + 1) new ≡ drop (at + 1) us = ap (drop (at + 1)) apart
+    ∙ drop_at (take at buffer ++ 0xFFFD ∷ []) (drop (at + 1) us) (at + 1) longer in
     let before : take (at + 1) new ≡ flat_map repaired_units (done ++ Unpaired u ∷ []) =
     ap (take (at + 1)) apart ∙ take_at (take at buffer ++ 0xFFFD ∷ []) (drop (at + 1) us) (at + 1) longer
     ∙ ap (λ xs. xs ++ 0xFFFD ∷ []) r.prefix ∙ sym (flat_map-append repaired_units done (Unpaired u ∷ [])) in
@@ -231,7 +254,8 @@ repair_goes_on us buffer at next done a r l h f =
           (walk_on us new (at + 1) n (done ++ Unpaired u ∷ []) a (omega arith) (length-set buffer at 0xFFFD ∙ r.same_length) walked before following g),
     )
 
-pub repair_ends : (us buffer : List ℕ) (at : ℕ) (done : List Part16) → AreCodeUnits us → Repaired us buffer at done → length us ≤ at → AreRepairedUnits us buffer
+pub repair_ends : (us buffer : List ℕ) (at : ℕ) (done : List Part16) → AreCodeUnits us → Repaired us buffer at done → length us ≤ at
+    → AreRepairedUnits us buffer
 repair_ends us buffer at done a r l =
     let all : parts_of us ≡ done = r.walked.whole ∙ ap (λ xs. done ++ parts_of xs) (drop_all at us l) ∙ ap (λ ps. done ++ ps) parts_of-nil ∙ append-nil done in
     record {
@@ -272,11 +296,13 @@ repaired-encode (Unpaired u ∷ ps) = ap (λ us. 0xFFFD ∷ us) (repaired-encode
 
 scalars_paired : (ps : List Part16) → ArePaired ps → all_scalars (map scalar_of_part16 ps) ≡ true
 scalars_paired [] a = refl
-scalars_paired (Character16 c ∷ ps) a = and_from (scalar c) (all_scalars (map scalar_of_part16 ps)) (head_part (Character16 c) ps a) (scalars_paired ps (tail_paired (Character16 c) ps a))
+scalars_paired (Character16 c ∷ ps) a = and_from (scalar c) (all_scalars (map scalar_of_part16 ps)) (head_part (Character16 c) ps a)
+    (scalars_paired ps (tail_paired (Character16 c) ps a))
 scalars_paired (Unpaired u ∷ ps) a = and_from (scalar 0xFFFD) (all_scalars (map scalar_of_part16 ps)) refl (scalars_paired ps (tail_paired (Unpaired u) ps a))
 
 -- they are the UTF-16 of the scalar values that are written for the parts
-pub repaired_is : (old new : List ℕ) (r : AreRepairedUnits old new) → (all_scalars (map scalar_of_part16 r.parts) ≡ true) × (flat_map encode_utf16 (map scalar_of_part16 r.parts) ≡ new)
+pub repaired_is : (old new : List ℕ) (r : AreRepairedUnits old new)
+    → (all_scalars (map scalar_of_part16 r.parts) ≡ true) × (flat_map encode_utf16 (map scalar_of_part16 r.parts) ≡ new)
 repaired_is old new r = (scalars_paired r.parts r.are_parts.0, sym (repaired-encode r.parts) ∙ sym r.placed)
 
 pub repaired_valid : (old new : List ℕ) → AreRepairedUnits old new → IsValidUtf16 new
@@ -296,7 +322,8 @@ repaired_counts old new parts others r a b =
     let same : r.parts ≡ parts = parts_unique old r.parts parts r.are_parts a in
     scalars-encode (map scalar_of_part16 r.parts) others all.0 (subst (λ xs. ArePartsOf16 xs others) (sym all.1) b) ∙ ap (map scalar_of_part16) same
 
-pub repaired_lossy : (old new : List ℕ) (parts : List Part16) → AreRepairedUnits old new → ArePartsOf16 new parts → map scalar_of_part16 parts ≡ utf16_lossy_chars old
+pub repaired_lossy : (old new : List ℕ) (parts : List Part16) → AreRepairedUnits old new → ArePartsOf16 new parts
+    → map scalar_of_part16 parts ≡ utf16_lossy_chars old
 repaired_lossy old new parts r b = repaired_counts old new r.parts parts r r.are_parts b ∙ scalars_lossy old r.parts r.are_parts
 
 pub repaired_one : (old new other : List ℕ) → AreRepairedUnits old new → AreRepairedUnits old other → new ≡ other
@@ -321,12 +348,14 @@ at_end [] x ys (suc k) e = absurd (omega arith)
 at_end (y ∷ xs) x ys zero e = absurd (omega arith)
 at_end (y ∷ xs) x ys (suc k) e = at_end xs x ys k (omega arith)
 
-after_same : (xs ys zs : List ℕ) (k : ℕ) → ((j : ℕ) → k ≡ length xs + j → slice_index ys j ≡ slice_index zs j) → slice_index (xs ++ ys) k ≡ slice_index (xs ++ zs) k
+after_same : (xs ys zs : List ℕ) (k : ℕ) → ((j : ℕ) → k ≡ length xs + j → slice_index ys j ≡ slice_index zs j)
+    → slice_index (xs ++ ys) k ≡ slice_index (xs ++ zs) k
 after_same [] ys zs k h = h k (omega arith)
 after_same (x ∷ xs) ys zs zero h = refl
 after_same (x ∷ xs) ys zs (suc k) h = after_same xs ys zs k (λ j e. h j (omega arith))
 
-others_same : (ps : List Part16) (k : ℕ) → ((before following : List Part16) (u : ℕ) → ps ≡ before ++ Unpaired u ∷ following → length (flat_map units_of_part16 before) ≡ k → ⊥)
+others_same : (ps : List Part16) (k : ℕ) → ((before following : List Part16) (u : ℕ) → ps ≡ before ++ Unpaired u ∷ following
+    → length (flat_map units_of_part16 before) ≡ k → ⊥)
     → slice_index (flat_map repaired_units ps) k ≡ slice_index (flat_map units_of_part16 ps) k
 others_same [] k none = refl
 others_same (Unpaired u ∷ ps) zero none = absurd (none [] ps u refl refl)
@@ -334,14 +363,17 @@ others_same (Unpaired u ∷ ps) (suc k) none =
     others_same ps k (λ before following v e f. none (Unpaired u ∷ before) following v (ap (λ qs. Unpaired u ∷ qs) e) (omega (arith, f)))
 others_same (Character16 c ∷ ps) k none =
     after_same (encode_utf16 c) (flat_map repaired_units ps) (flat_map units_of_part16 ps) k (λ j e. others_same ps j (λ before following v f g.
-    none (Character16 c ∷ before) following v (ap (λ qs. Character16 c ∷ qs) f) (omega (arith, e, g, length-append (encode_utf16 c) (flat_map units_of_part16 before)))))
+    none (Character16 c ∷ before) following v (ap (λ qs. Character16 c ∷ qs) f)
+    (omega (arith, e, g, length-append (encode_utf16 c) (flat_map units_of_part16 before)))))
 
 unpaired_changed : (old new : List ℕ) (k : ℕ) → AreRepairedUnits old new → IsUnpairedAt old k → slice_index new k ≡ 0xFFFD
 unpaired_changed old new k r s =
-    let same : r.parts ≡ s.before ++ Unpaired s.unit ∷ s.following = parts_unique old r.parts (s.before ++ Unpaired s.unit ∷ s.following) r.are_parts s.are_parts in
+    let same : r.parts ≡ s.before ++ Unpaired s.unit ∷ s.following =
+    parts_unique old r.parts (s.before ++ Unpaired s.unit ∷ s.following) r.are_parts s.are_parts in
     let whole : new ≡ flat_map repaired_units s.before ++ 0xFFFD ∷ flat_map repaired_units s.following =
     r.placed ∙ ap (flat_map repaired_units) same ∙ flat_map-append repaired_units s.before (Unpaired s.unit ∷ s.following) in
-    ap (λ xs. slice_index xs k) whole ∙ at_end (flat_map repaired_units s.before) 0xFFFD (flat_map repaired_units s.following) k (length-repaired s.before ∙ s.place_is)
+    ap (λ xs. slice_index xs k) whole
+    ∙ at_end (flat_map repaired_units s.before) 0xFFFD (flat_map repaired_units s.following) k (length-repaired s.before ∙ s.place_is)
 
 other_stays : (old new : List ℕ) (k : ℕ) → AreRepairedUnits old new → (IsUnpairedAt old k → ⊥) → slice_index new k ≡ slice_index old k
 other_stays old new k r none =

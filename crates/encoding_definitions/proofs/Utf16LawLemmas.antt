@@ -28,7 +28,8 @@ scalars_back : (cs : List ℕ) → map scalar_of_part16 (map Character16 cs) ≡
 scalars_back [] = refl
 scalars_back (c ∷ cs) = ap (λ xs. c ∷ xs) (scalars_back cs)
 
-pub scalars-encode : (cs : List ℕ) (parts : List Part16) → IsTrue (all_scalars cs) → ArePartsOf16 (flat_map encode_utf16 cs) parts → map scalar_of_part16 parts ≡ cs
+pub scalars-encode : (cs : List ℕ) (parts : List Part16) → IsTrue (all_scalars cs) → ArePartsOf16 (flat_map encode_utf16 cs) parts
+    → map scalar_of_part16 parts ≡ cs
 scalars-encode cs parts h a = ap (map scalar_of_part16) (parts_unique _ parts (map Character16 cs) a (parts-encode cs h)) ∙ scalars_back cs
 
 pub utf8_of_all : (parts : List Part16) → flat_map utf8_of_part16 parts ≡ encode_utf8_all (map scalar_of_part16 parts)
@@ -48,7 +49,8 @@ pick_single : (t : Bool) (u : ℕ) → character_of (cond t (Unpaired u) (Charac
 pick_single true u = refl
 pick_single false u = refl
 
-pick_more : (t : Bool) (p q : Part16) (ps qs : List Part16) → map character_of (cond t (p ∷ ps) (q ∷ qs)) ≡ cond t (character_of p ∷ map character_of ps) (character_of q ∷ map character_of qs)
+pick_more : (t : Bool) (p q : Part16) (ps qs : List Part16)
+    → map character_of (cond t (p ∷ ps) (q ∷ qs)) ≡ cond t (character_of p ∷ map character_of ps) (character_of q ∷ map character_of qs)
 pick_more true p q ps qs = refl
 pick_more false p q ps qs = refl
 

@@ -77,10 +77,12 @@ parts_of-first us (Character16 c) rest (s, e) = elim (cases_lt c 0x10000) [
     not_high : (c : ℕ) → IsScalar c → IsPair c (get_or rest 0 0) → ⊥
     not_high c s p = elim (scalar_cases c s) [ inl h ↦ omega arith | inr h ↦ omega arith ]
 parts_of-first us (Unpaired u) rest (s, e, n) =
-    ap parts_of e ∙ parts_of_single u rest (no_pair_from u rest n) ∙ ap (λ p. p ∷ parts_of rest) (elim s [ inl h ↦ single_unpaired u h.0 (omega arith) | inr h ↦ single_unpaired u (omega arith) h.1 ])
+    ap parts_of e ∙ parts_of_single u rest (no_pair_from u rest n)
+    ∙ ap (λ p. p ∷ parts_of rest) (elim s [ inl h ↦ single_unpaired u h.0 (omega arith) | inr h ↦ single_unpaired u (omega arith) h.1 ])
 
 -- ---- adding and removing the first part
-pub ArePartsOf16-cons : (us : List ℕ) (p : Part16) (rest : List ℕ) (ps : List Part16) → IsFirstPart16 us p rest → ArePartsOf16 rest ps → ArePartsOf16 us (p ∷ ps)
+pub ArePartsOf16-cons : (us : List ℕ) (p : Part16) (rest : List ℕ) (ps : List Part16) → IsFirstPart16 us p rest → ArePartsOf16 rest ps
+    → ArePartsOf16 us (p ∷ ps)
 ArePartsOf16-cons us (Character16 c) rest [] (s, e) (a, f) = (s, ap (λ xs. encode_utf16 c ++ xs) f ∙ sym e)
 ArePartsOf16-cons us (Character16 c) rest (q ∷ ps) (s, e) (a, f) = ((s, tt, a), ap (λ xs. encode_utf16 c ++ xs) f ∙ sym e)
 ArePartsOf16-cons us (Unpaired u) rest [] (s, e, n) (a, f) = (s, ap (λ xs. u ∷ xs) f ∙ sym e)
@@ -98,7 +100,8 @@ head_part p (q ∷ ps) a = a.0
 -- the UTF-16 of a character doesn't start with a low surrogate
 character_not_low : (c : ℕ) (rest : List ℕ) → IsScalar c → BeginsLow (encode_utf16 c ++ rest) → ⊥
 character_not_low c rest s b = elim (cases_lt c 0x10000) [
-  | inl l ↦ let low : IsLowSurrogate c = subst (λ xs. BeginsLow (xs ++ rest)) (one_unit c l) b in elim (scalar_cases c s) [ inl h ↦ omega arith | inr h ↦ omega arith ]
+  | inl l ↦ let low : IsLowSurrogate c = subst (λ xs. BeginsLow (xs ++ rest)) (one_unit c l) b in
+      elim (scalar_cases c s) [ inl h ↦ omega arith | inr h ↦ omega arith ]
   | inr l ↦ let two = halves c l s in
       let low : IsLowSurrogate two.0 = subst (λ xs. BeginsLow (xs ++ rest)) two.3 b in omega (arith, two.2)
 ]
@@ -184,7 +187,9 @@ pub parts_exist : (us : List ℕ) → AreCodeUnits us → ArePartsOf16 us (parts
 parts_exist [] a = (subst ArePaired (sym parts_of-nil) tt, ap (flat_map units_of_part16) parts_of-nil)
 parts_exist (u ∷ []) a = one_more u [] (a 0) (λ p. omega (arith, p.2)) (parts_exist [] (AreCodeUnits-tail u [] a))
 parts_exist (u ∷ v ∷ us) a = elim (decide_pair u v) [
-  | inl p ↦ more_parts (u ∷ v ∷ us) (Character16 (surrogate_pair_char u v)) us (first_pair u v us p) (parts_exist us (AreCodeUnits-tail v us (AreCodeUnits-tail u (v ∷ us) a)))
+  | inl p ↦
+      more_parts (u ∷ v ∷ us) (Character16 (surrogate_pair_char u v)) us (first_pair u v us p)
+      (parts_exist us (AreCodeUnits-tail v us (AreCodeUnits-tail u (v ∷ us) a)))
   | inr n ↦ one_more u (v ∷ us) (a 0) n (parts_exist (v ∷ us) (AreCodeUnits-tail u (v ∷ us) a))
 ]
 
@@ -194,12 +199,14 @@ rest_paired (suc n) [] a = tt
 rest_paired (suc n) (p ∷ ps) a = rest_paired n ps (tail_paired p ps a)
 
 -- the parts after the first n are those of the units after theirs
-pub rest_parts : (us : List ℕ) (ps : List Part16) (n : ℕ) → ArePartsOf16 us ps → ArePartsOf16 (drop (length (flat_map units_of_part16 (take n ps))) us) (drop n ps)
+pub rest_parts : (us : List ℕ) (ps : List Part16) (n : ℕ) → ArePartsOf16 us ps
+    → ArePartsOf16 (drop (length (flat_map units_of_part16 (take n ps))) us) (drop n ps)
 rest_parts us ps n (a, e) =
     let whole : flat_map units_of_part16 (take n ps) ++ flat_map units_of_part16 (drop n ps) ≡ us =
     sym (flat_map-append units_of_part16 (take n ps) (drop n ps)) ∙ ap (flat_map units_of_part16) (take-append-drop n ps) ∙ e in (
       rest_paired n ps a,
-      sym (drop_at (flat_map units_of_part16 (take n ps)) (flat_map units_of_part16 (drop n ps)) _ refl) ∙ ap (drop (length (flat_map units_of_part16 (take n ps)))) whole,
+      sym (drop_at (flat_map units_of_part16 (take n ps)) (flat_map units_of_part16 (drop n ps)) _ refl)
+          ∙ ap (drop (length (flat_map units_of_part16 (take n ps)))) whole,
     )
 
 -- ---- lengths
@@ -212,7 +219,8 @@ length-units_of_part16 (Character16 c) = elim (cases_lt c 0x10000) [
 ]
 
 -- a part is written in one to three bytes for each of its units, and in four at most
-pub length-utf8_of_part16 : (p : Part16) → (0 < length (utf8_of_part16 p)) × (length (utf8_of_part16 p) ≤ 3 * length (units_of_part16 p)) × (length (utf8_of_part16 p) ≤ 4)
+pub length-utf8_of_part16 : (p : Part16) → (0 < length (utf8_of_part16 p)) × (length (utf8_of_part16 p) ≤ 3 * length (units_of_part16 p))
+    × (length (utf8_of_part16 p) ≤ 4)
 length-utf8_of_part16 (Unpaired u) = (omega (arith, length-encode 0xFFFD), omega (arith, length-encode 0xFFFD), omega (arith, length-encode 0xFFFD))
 length-utf8_of_part16 (Character16 c) =
     let bounds = len_utf8_bounds c in
@@ -230,7 +238,14 @@ length-utf8_of_part16 (Character16 c) =
 pub length-utf8_of_all : (ps : List Part16) → length (flat_map utf8_of_part16 ps) ≤ 3 * length (flat_map units_of_part16 ps)
 length-utf8_of_all [] = omega arith
 length-utf8_of_all (p ∷ ps) =
-    omega (arith, length-utf8_of_all ps, (length-utf8_of_part16 p).1, length-append (utf8_of_part16 p) (flat_map utf8_of_part16 ps), length-append (units_of_part16 p) (flat_map units_of_part16 ps))
+    omega (
+      arith,
+      length-utf8_of_all ps,
+      (length-utf8_of_part16 p).1,
+      length-append (utf8_of_part16 p) (flat_map utf8_of_part16 ps),
+      length-append
+          (units_of_part16 p) (flat_map units_of_part16 ps),
+    )
 
 -- no parts take no units
 pub none_left : (ps : List Part16) → length (flat_map units_of_part16 ps) ≡ 0 → ps ≡ []

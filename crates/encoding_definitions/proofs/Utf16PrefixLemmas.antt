@@ -24,14 +24,16 @@ IsUtf8-part (Unpaired u) ps a = IsUtf8-encode 0xFFFD (high_scalar 0xFFFD (omega 
 IsUtf8-parts : (n : ℕ) (ps : List Part16) → ArePaired ps → IsUtf8 (flat_map utf8_of_part16 (take n ps))
 IsUtf8-parts zero ps a = IsUtf8-nil
 IsUtf8-parts (suc n) [] a = IsUtf8-nil
-IsUtf8-parts (suc n) (p ∷ ps) a = IsUtf8-append (utf8_of_part16 p) (flat_map utf8_of_part16 (take n ps)) (IsUtf8-part p ps a) (IsUtf8-parts n ps (tail_paired p ps a))
+IsUtf8-parts (suc n) (p ∷ ps) a = IsUtf8-append (utf8_of_part16 p) (flat_map utf8_of_part16 (take n ps)) (IsUtf8-part p ps a)
+    (IsUtf8-parts n ps (tail_paired p ps a))
 
 pub IsUtf8-longest : (us : List ℕ) (room read : ℕ) (out : List ℕ) → IsUtf8OfLongestPrefix us room read out → IsUtf8 out
 IsUtf8-longest us room read out f = subst IsUtf8 (sym f.longest.written) (IsUtf8-parts f.longest.count f.parts f.are_parts.0)
 
 pub IsUtf8-units : (us out : List ℕ) → IsUtf8OfUnits us out → IsUtf8 out
 IsUtf8-units us out f =
-    subst IsUtf8 (ap (flat_map utf8_of_part16) (take_all (length f.parts) f.parts (omega arith)) ∙ sym f.written) (IsUtf8-parts (length f.parts) f.parts f.are_parts.0)
+    subst IsUtf8 (ap (flat_map utf8_of_part16) (take_all (length f.parts) f.parts (omega arith)) ∙ sym f.written)
+    (IsUtf8-parts (length f.parts) f.parts f.are_parts.0)
 
 -- ---- walking
 -- the parts done take the first `read` units, and the rest of the units has the others
@@ -42,7 +44,8 @@ pub record Walked (us : List ℕ) (read : ℕ) (done : List Part16) : Type 0 whe
 pub Walked_push : (us : List ℕ) (read : ℕ) (done : List Part16) (p : Part16) (n : ℕ) → Walked us read done → n ≡ length (units_of_part16 p)
     → IsFirstPart16 (drop read us) p (drop (read + n) us) → Walked us (read + n) (done ++ p ∷ [])
 Walked_push us read done p n w e f = record {
-  whole = w.whole ∙ ap (λ ps. done ++ ps) (parts_of-first (drop read us) p (drop (read + n) us) f) ∙ sym (append_assoc done (p ∷ []) (parts_of (drop (read + n) us)));
+  whole = w.whole ∙ ap (λ ps. done ++ ps) (parts_of-first (drop read us) p (drop (read + n) us) f)
+      ∙ sym (append_assoc done (p ∷ []) (parts_of (drop (read + n) us)));
   taken = ap length (flat_map_push units_of_part16 done p) ∙ length-append (flat_map units_of_part16 done) (units_of_part16 p) ∙ omega (arith, w.taken);
 }
 
@@ -50,7 +53,8 @@ prefix_of : (us : List ℕ) (read : ℕ) (done : List Part16) → Walked us read
 prefix_of us read done w = ap (take (length done)) w.whole ∙ take_at done (parts_of (drop read us)) (length done) refl
 
 -- what was walked is a prefix
-pub walked_prefix : (us : List ℕ) (read : ℕ) (done : List Part16) → AreCodeUnits us → Walked us read done → IsUtf8OfPrefix us read (flat_map utf8_of_part16 done)
+pub walked_prefix : (us : List ℕ) (read : ℕ) (done : List Part16) → AreCodeUnits us → Walked us read done
+    → IsUtf8OfPrefix us read (flat_map utf8_of_part16 done)
 walked_prefix us read done a w = record {
   parts = parts_of us;
   are_parts = parts_exist us a;
@@ -61,7 +65,8 @@ walked_prefix us read done a w = record {
 }
 
 -- all was walked
-pub walked_all : (us : List ℕ) (room read : ℕ) (done : List Part16) → AreCodeUnits us → Walked us read done → length us ≤ read → length (flat_map utf8_of_part16 done) ≤ room
+pub walked_all : (us : List ℕ) (room read : ℕ) (done : List Part16) → AreCodeUnits us → Walked us read done → length us ≤ read
+    → length (flat_map utf8_of_part16 done) ≤ room
     → IsUtf8OfLongestPrefix us room read (flat_map utf8_of_part16 done)
 walked_all us room read done a w l h =
     let whole : parts_of us ≡ done = w.whole ∙ ap (λ xs. done ++ parts_of xs) (drop_all read us l) ∙ ap (λ ps. done ++ ps) parts_of-nil ∙ append-nil done in
@@ -69,11 +74,13 @@ walked_all us room read done a w l h =
       parts = parts_of us;
       are_parts = parts_exist us a;
       longest = subst (λ ps. IsLongestFittingPrefix units_of_part16 utf8_of_part16 ps room read (flat_map utf8_of_part16 done)) (sym whole)
-          (subst (λ n. IsLongestFittingPrefix units_of_part16 utf8_of_part16 done room n (flat_map utf8_of_part16 done)) w.taken (IsLongestFittingPrefix-all units_of_part16 utf8_of_part16 done room h));
+          (subst (λ n. IsLongestFittingPrefix units_of_part16 utf8_of_part16 done room n (flat_map utf8_of_part16 done)) w.taken
+          (IsLongestFittingPrefix-all units_of_part16 utf8_of_part16 done room h));
     }
 
 -- the next part doesn't fit
-pub walked_stop : (us : List ℕ) (room read : ℕ) (done : List Part16) (p : Part16) (rest : List ℕ) → AreCodeUnits us → Walked us read done → IsFirstPart16 (drop read us) p rest
+pub walked_stop : (us : List ℕ) (room read : ℕ) (done : List Part16) (p : Part16) (rest : List ℕ) → AreCodeUnits us → Walked us read done
+    → IsFirstPart16 (drop read us) p rest
     → length (flat_map utf8_of_part16 done) ≤ room → room < length (flat_map utf8_of_part16 done) + length (utf8_of_part16 p)
     → IsUtf8OfLongestPrefix us room read (flat_map utf8_of_part16 done)
 walked_stop us room read done p rest a w f h l =
@@ -92,11 +99,13 @@ after_prefix : (us : List ℕ) (read : ℕ) (out : List ℕ) (f : IsUtf8OfPrefix
 after_prefix us read out f = subst (λ n. ArePartsOf16 (drop n us) (drop f.count f.parts)) (sym f.taken) (rest_parts us f.parts f.count f.are_parts)
 
 -- a prefix that is all
-pub prefix_all : (us : List ℕ) (room read : ℕ) (out : List ℕ) → IsUtf8OfPrefix us read out → read ≡ length us → length out ≤ room → IsUtf8OfLongestPrefix us room read out
+pub prefix_all : (us : List ℕ) (room read : ℕ) (out : List ℕ) → IsUtf8OfPrefix us read out → read ≡ length us → length out ≤ room
+    → IsUtf8OfLongestPrefix us room read out
 prefix_all us room read out f e h =
     let rest = after_prefix us read out f in
     let none : drop f.count f.parts ≡ [] = none_left (drop f.count f.parts) (ap length (rest.1 ∙ drop_all read us (omega arith))) in
-    let whole : take f.count f.parts ≡ f.parts = sym (append-nil (take f.count f.parts)) ∙ ap (λ ps. take f.count f.parts ++ ps) (sym none) ∙ take-append-drop f.count f.parts in
+    let whole : take f.count f.parts ≡ f.parts = sym (append-nil (take f.count f.parts)) ∙ ap (λ ps. take f.count f.parts ++ ps) (sym none)
+    ∙ take-append-drop f.count f.parts in
     let taken : length (flat_map units_of_part16 f.parts) ≡ read = ap (λ ps. length (flat_map units_of_part16 ps)) (sym whole) ∙ sym f.taken in
     let written : flat_map utf8_of_part16 f.parts ≡ out = ap (flat_map utf8_of_part16) (sym whole) ∙ sym f.written in
     record {
@@ -117,19 +126,22 @@ prefix_then us room read more out extra f h t =
     let rest : IsLongestFittingPrefix units_of_part16 utf8_of_part16 (drop f.count f.parts) (room - length (flat_map utf8_of_part16 done)) more extra =
     subst (λ xs. IsLongestFittingPrefix units_of_part16 utf8_of_part16 (drop f.count f.parts) (room - length xs) more extra) f.written
     (subst (λ ps. IsLongestFittingPrefix units_of_part16 utf8_of_part16 ps (room - length out) more extra) same t.longest) in
-    let joined : IsLongestFittingPrefix units_of_part16 utf8_of_part16 (done ++ drop f.count f.parts) room (length (flat_map units_of_part16 done) + more) (flat_map utf8_of_part16 done ++ extra) =
+    let joined : IsLongestFittingPrefix units_of_part16 utf8_of_part16 (done ++ drop f.count f.parts) room (length (flat_map units_of_part16 done) + more)
+    (flat_map utf8_of_part16 done ++ extra) =
     IsLongestFittingPrefix-after units_of_part16 utf8_of_part16 done (drop f.count f.parts) room more extra fits rest in
     record {
       parts = f.parts;
       are_parts = f.are_parts;
       longest = subst (λ ps. IsLongestFittingPrefix units_of_part16 utf8_of_part16 ps room (read + more) (out ++ extra)) (take-append-drop f.count f.parts)
           (subst (λ n. IsLongestFittingPrefix units_of_part16 utf8_of_part16 (done ++ drop f.count f.parts) room (n + more) (out ++ extra)) (sym f.taken)
-          (subst (λ xs. IsLongestFittingPrefix units_of_part16 utf8_of_part16 (done ++ drop f.count f.parts) room (length (flat_map units_of_part16 done) + more) (xs ++ extra)) (sym f.written) joined));
+          (subst (λ xs. IsLongestFittingPrefix units_of_part16 utf8_of_part16 (done ++ drop f.count f.parts) room
+          (length (flat_map units_of_part16 done) + more) (xs ++ extra)) (sym f.written) joined));
     }
 
 -- ---- space for all
 -- with three bytes of space for each unit all parts fit
-pub all_fit : (ps : List Part16) (room read : ℕ) (out : List ℕ) → 3 * length (flat_map units_of_part16 ps) ≤ room → IsLongestFittingPrefix units_of_part16 utf8_of_part16 ps room read out
+pub all_fit : (ps : List Part16) (room read : ℕ) (out : List ℕ) → 3 * length (flat_map units_of_part16 ps) ≤ room
+    → IsLongestFittingPrefix units_of_part16 utf8_of_part16 ps room read out
     → (read ≡ length (flat_map units_of_part16 ps)) × (out ≡ flat_map utf8_of_part16 ps)
 all_fit ps room read out h f = elim (cases_lt f.count (length ps)) [
   | inl l ↦ absurd (omega (arith, f.longest l, length-utf8_of_all (take (f.count + 1) ps), length-prefix units_of_part16 ps (f.count + 1)))
@@ -137,7 +149,8 @@ all_fit ps room read out h f = elim (cases_lt f.count (length ps)) [
       (f.taken ∙ ap (λ qs. length (flat_map units_of_part16 qs)) whole, f.written ∙ ap (flat_map utf8_of_part16) whole)
 ]
 
-pub room_for_all : (us : List ℕ) (room read : ℕ) (out : List ℕ) → 3 * length us ≤ room → IsUtf8OfLongestPrefix us room read out → (read ≡ length us) × IsUtf8OfUnits us out
+pub room_for_all : (us : List ℕ) (room read : ℕ) (out : List ℕ) → 3 * length us ≤ room → IsUtf8OfLongestPrefix us room read out
+    → (read ≡ length us) × IsUtf8OfUnits us out
 room_for_all us room read out h f =
     let long : length (flat_map units_of_part16 f.parts) ≡ length us = ap length f.are_parts.1 in
     let all = all_fit f.parts room read out (omega (arith, h, long)) f.longest in
@@ -145,7 +158,8 @@ room_for_all us room read out h f =
 
 -- ---- the scalar value of the first part of the units from an index on
 module _ (us : List ℕ) (at : ℕ) where
-  scalar_here : (p : Part16) (scalar n : ℕ) → scalar_of_part16 p ≡ scalar → length (encode_utf16 scalar) ≡ n → IsFirstPart16 (drop at us) p (drop (at + n) us) → IsFirstScalar (drop at us) scalar
+  scalar_here : (p : Part16) (scalar n : ℕ) → scalar_of_part16 p ≡ scalar → length (encode_utf16 scalar) ≡ n → IsFirstPart16 (drop at us) p (drop (at + n) us)
+      → IsFirstScalar (drop at us) scalar
   scalar_here p scalar n e l f = record {
     part = p;
     counts = e;
@@ -153,7 +167,8 @@ module _ (us : List ℕ) (at : ℕ) where
   }
 
   -- a unit that is no surrogate
-  pub scalar_of_unit : at < length us → get_or us at 0 < 0x10000 → (0xD800 ≤ get_or us at 0 → get_or us at 0 ≤ 0xDFFF → ⊥) → IsFirstScalar (drop at us) (get_or us at 0)
+  pub scalar_of_unit : at < length us → get_or us at 0 < 0x10000 → (0xD800 ≤ get_or us at 0 → get_or us at 0 ≤ 0xDFFF → ⊥)
+      → IsFirstScalar (drop at us) (get_or us at 0)
   scalar_of_unit h w n =
       let apart : (get_or us at 0 < 0xD800) ⊎ (0xDFFF < get_or us at 0) = elim (cases_lt (get_or us at 0) 0xD800) [
         | inl l ↦ inl l
@@ -163,19 +178,24 @@ module _ (us : List ℕ) (at : ℕ) where
       (subst (λ xs. IsFirstPart16 xs (Character16 (get_or us at 0)) (drop (at + 1) us)) (sym (drop_more us at 0 h)) (first_unit _ _ w apart))
 
   -- a pair
-  pub scalar_of_two : at + 1 < length us → IsPair (get_or us at 0) (get_or us (at + 1) 0) → IsFirstScalar (drop at us) (surrogate_pair_char (get_or us at 0) (get_or us (at + 1) 0))
+  pub scalar_of_two : at + 1 < length us → IsPair (get_or us at 0) (get_or us (at + 1) 0)
+      → IsFirstScalar (drop at us) (surrogate_pair_char (get_or us at 0) (get_or us (at + 1) 0))
   scalar_of_two h p =
       let c : ℕ = surrogate_pair_char (get_or us at 0) (get_or us (at + 1) 0) in
       let whole : drop at us ≡ get_or us at 0 ∷ get_or us (at + 1) 0 ∷ drop (at + 2) us =
-      drop_more us at 0 (omega arith) ∙ ap (λ xs. get_or us at 0 ∷ xs) (drop_more us (at + 1) 0 h ∙ ap (λ n. get_or us (at + 1) 0 ∷ drop n us) {x = at + 1 + 1} {y = at + 2} (omega arith)) in
+      drop_more us at 0 (omega arith)
+      ∙ ap (λ xs. get_or us at 0 ∷ xs) (drop_more us (at + 1) 0 h
+      ∙ ap (λ n. get_or us (at + 1) 0 ∷ drop n us) {x = at + 1 + 1} {y = at + 2} (omega arith)) in
       scalar_here (Character16 c) c 2 refl (ap length (two_units c (omega arith)))
       (subst (λ xs. IsFirstPart16 xs (Character16 c) (drop (at + 2) us)) (sym whole) (first_pair _ _ _ p))
 
   -- an unpaired surrogate
-  pub scalar_of_unpaired : at < length us → 0xD800 ≤ get_or us at 0 → get_or us at 0 ≤ 0xDFFF → (at + 1 < length us → IsPair (get_or us at 0) (get_or us (at + 1) 0) → ⊥) → IsFirstScalar (drop at us) 0xFFFD
+  pub scalar_of_unpaired : at < length us → 0xD800 ≤ get_or us at 0 → get_or us at 0 ≤ 0xDFFF
+      → (at + 1 < length us → IsPair (get_or us at 0) (get_or us (at + 1) 0) → ⊥) → IsFirstScalar (drop at us) 0xFFFD
   scalar_of_unpaired h l k n =
       let apart : IsPair (get_or us at 0) (get_or (drop (at + 1) us) 0 0) → ⊥ = λ p.
-      let next : get_or (drop (at + 1) us) 0 0 ≡ get_or us (at + 1) 0 = get_or-drop (at + 1) us 0 0 ∙ ap (λ n. get_or us n 0) {x = at + 1 + 0} {y = at + 1} (omega arith) in
+      let next : get_or (drop (at + 1) us) 0 0 ≡ get_or us (at + 1) 0 = get_or-drop (at + 1) us 0 0
+      ∙ ap (λ n. get_or us n 0) {x = at + 1 + 0} {y = at + 1} (omega arith) in
       elim (cases_lt (at + 1) (length us)) [
         | inl i ↦ n i (subst (IsPair (get_or us at 0)) next p)
         | inr i ↦ omega (arith, p.2, next, get_or_past us (at + 1) 0 i)
@@ -187,7 +207,8 @@ module _ (us : List ℕ) (at : ℕ) where
 pub units_counted : (us : List ℕ) (scalar : ℕ) (f : IsFirstScalar us scalar) → length (encode_utf16 scalar) ≡ length (units_of_part16 f.part)
 units_counted us scalar f = counted f.part f.counts f.first
   where
-    counted : (p : Part16) → scalar_of_part16 p ≡ scalar → IsFirstPart16 us p (drop (length (encode_utf16 scalar)) us) → length (encode_utf16 scalar) ≡ length (units_of_part16 p)
+    counted : (p : Part16) → scalar_of_part16 p ≡ scalar → IsFirstPart16 us p (drop (length (encode_utf16 scalar)) us)
+        → length (encode_utf16 scalar) ≡ length (units_of_part16 p)
     counted (Character16 c) e h = ap (λ n. length (encode_utf16 n)) (sym e)
     counted (Unpaired u) e h = ap (λ n. length (encode_utf16 n)) (sym e)
 
@@ -223,7 +244,8 @@ module _ (us old mid sub : List ℕ) (read written more extra : ℕ)
   both_written : WritesPrefix old (put_mid written (length mid - written) mid sub) (written + extra) (take written mid ++ take extra sub)
   both_written = WritesPrefix_after old mid written (take written mid) sub extra (take extra sub) w v
 
-  pub join_rest : WritesPrefix old (put_mid written (length mid - written) mid sub) (written + extra) (take (written + extra) (put_mid written (length mid - written) mid sub))
+  pub join_rest : WritesPrefix old (put_mid written (length mid - written) mid sub) (written + extra)
+      (take (written + extra) (put_mid written (length mid - written) mid sub))
   join_rest = written_prefix _ _ _ _ both_written
 
   pub join_longest : IsUtf8OfLongestPrefix us (length old) (read + more) (take (written + extra) (put_mid written (length mid - written) mid sub))

@@ -68,7 +68,8 @@ pub writes_three : (old : List ℕ) (c x a b : ℕ) → 2048 ≤ c → c < 65536
 writes_three old c x a b l h room e f g =
     WritesPrefix-same _ _ _ _ _ _ (WritesPrefix_push_three old old 0 [] x a b (WritesPrefix-nil old) room) refl (rw (e, f, g) (sym (three c l h)))
 
-pub writes_four : (old : List ℕ) (c x y a b : ℕ) → 65536 ≤ c → 3 < length old → x ≡ 240 + c / 262144 → y ≡ 128 + c / 4096 % 64 → a ≡ 128 + c / 64 % 64 → b ≡ 128 + c % 64
+pub writes_four : (old : List ℕ) (c x y a b : ℕ) → 65536 ≤ c → 3 < length old → x ≡ 240 + c / 262144 → y ≡ 128 + c / 4096 % 64
+    → a ≡ 128 + c / 64 % 64 → b ≡ 128 + c % 64
     → WritesPrefix old (set (set (set (set old 0 x) 1 y) 2 a) 3 b) 4 (encode_utf8 c)
 writes_four old c x y a b l room e f g h =
     WritesPrefix-same _ _ _ _ _ _ (WritesPrefix_push_four old old 0 [] x y a b (WritesPrefix-nil old) room) refl (rw (e, f, g, h) (sym (four c l)))
@@ -76,10 +77,12 @@ writes_four old c x y a b l room e f g h =
 pub two_bytes : (c : ℕ) → 128 ≤ c → c < 2048 → (bit_or 192 (c / 64) ≡ 192 + c / 64) × (bit_or 128 (bit_and c 63) ≡ 128 + c % 64)
 two_bytes c l h = (lead_two (c / 64) (omega arith), last_six c)
 
-pub three_bytes : (c : ℕ) → c < 65536 → (bit_or 224 (c / 4096) ≡ 224 + c / 4096) × (bit_or 128 (bit_and (c / 64) 63) ≡ 128 + c / 64 % 64) × (bit_or 128 (bit_and c 63) ≡ 128 + c % 64)
+pub three_bytes : (c : ℕ) → c < 65536 → (bit_or 224 (c / 4096) ≡ 224 + c / 4096) × (bit_or 128 (bit_and (c / 64) 63) ≡ 128 + c / 64 % 64)
+    × (bit_or 128 (bit_and c 63) ≡ 128 + c % 64)
 three_bytes c h = (lead_three (c / 4096) (omega arith), last_six (c / 64), last_six c)
 
-pub four_bytes : (c : ℕ) → c < 1114112 → (bit_or 240 (c / 262144) ≡ 240 + c / 262144) × (bit_or 128 (bit_and (c / 4096) 63) ≡ 128 + c / 4096 % 64) × (bit_or 128 (bit_and (c / 64) 63) ≡ 128 + c / 64 % 64) × (bit_or 128 (bit_and c 63) ≡ 128 + c % 64)
+pub four_bytes : (c : ℕ) → c < 1114112 → (bit_or 240 (c / 262144) ≡ 240 + c / 262144) × (bit_or 128 (bit_and (c / 4096) 63) ≡ 128 + c / 4096 % 64)
+    × (bit_or 128 (bit_and (c / 64) 63) ≡ 128 + c / 64 % 64) × (bit_or 128 (bit_and c 63) ≡ 128 + c % 64)
 four_bytes c h = (lead_four (c / 262144) (omega arith), last_six (c / 4096), last_six (c / 64), last_six c)
 
 -- the space that the length of the UTF-8 needs

@@ -39,7 +39,8 @@ module _ (P : ℕ → Type 0) (at_zero : P 0) where
 
 -- ---- ASCII
 -- the ASCII prefix ends at the first unit from 0x80 on
-pub ascii_prefix_at : (xs : List ℕ) (n : ℕ) → n < length xs → ((k : ℕ) → k < n → slice_index xs k < 0x80) → 0x80 ≤ slice_index xs n → IsLongestPrefix IsAscii xs n
+pub ascii_prefix_at : (xs : List ℕ) (n : ℕ) → n < length xs → ((k : ℕ) → k < n → slice_index xs k < 0x80) → 0x80 ≤ slice_index xs n
+    → IsLongestPrefix IsAscii xs n
 ascii_prefix_at xs n l h s = prefix_before (λ b. b < 0x80) (omega arith) xs n (omega arith) h (λ _ low. omega arith)
 
 -- the units of the longest ASCII prefix are below 0x80

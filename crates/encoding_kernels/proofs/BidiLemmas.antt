@@ -73,7 +73,8 @@ second_below bs at s =
 
 -- ---- what the lanes hold
 abbrev pub ends_lane : ℕ → ℕ → ℕ
-ends_lane a mark = bit_or (bit_or (bit_or (bit_or (cond (leb 0xD6 a && ltb a 0xE0) 0xFF 0) (cond (eqb a 0xE0) 0xA4 0)) (cond (eqb a 0xEF) 0xBC 0)) (cond (eqb a 0xF0) 0x9F 0)) (cond (eqb a mark) 0x82 0)
+ends_lane a mark = bit_or (bit_or (bit_or (bit_or (cond (leb 0xD6 a && ltb a 0xE0) 0xFF 0) (cond (eqb a 0xE0) 0xA4 0)) (cond (eqb a 0xEF) 0xBC 0))
+    (cond (eqb a 0xF0) 0x9F 0)) (cond (eqb a mark) 0x82 0)
 
 chosen_either : (P : ℕ → Type 0) → P 0xE2 → P 0xF0 → (ends : Bool) → P (cond ends 0xE2 0xF0)
 chosen_either P p q true = p
@@ -103,7 +104,8 @@ end_of_low a d = for_both (λ mark. may_start_rtl a mark ≡ false → rtl_secon
 pub none_from_zero : (bs : List ℕ) (at : ℕ) → ((d : ℕ) → rtl_second_end (slice_index bs at) (rtl_mark_lead d) ≡ 0) → RtlAt bs at → ⊥
 none_from_zero bs at none s = omega (arith, second_below bs at s, none (slice_index bs (at + 2)))
 
-pub none_low : (bs : List ℕ) (from to : ℕ) → PassBetween (λ k. may_start_rtl (slice_index bs k) (rtl_mark_lead (slice_index bs (k + 2))) ≡ false) from to → NoRtlIn bs from to
+pub none_low : (bs : List ℕ) (from to : ℕ) → PassBetween (λ k. may_start_rtl (slice_index bs k) (rtl_mark_lead (slice_index bs (k + 2))) ≡ false) from to
+    → NoRtlIn bs from to
 none_low bs from to low = record { each = λ k l m s. omega (arith, second_below bs k s, end_of_low (slice_index bs k) (slice_index bs (k + 2)) (low k l m)) }
 
 pub none_before : (bs : List ℕ) (n : ℕ) → BelowUpTo 0xD6 bs n → NoRtlIn bs 0 n
@@ -157,11 +159,23 @@ place_in (c ∷ cs) s a =
     let parts = both (scalar c) (all_scalars cs) s in
     let rest = encode_utf8_all cs in
     elim (Any-cons IsRightToLeft c cs a) [
-      | inl r ↦ (0, omega (arith, some_bytes c r, length-append (encode_utf8 c) rest), record { character = c; rest = rest; scalar = parts.0; right_to_left = r; spelled = refl })
+      | inl r ↦ (
+        0,
+        omega (arith, some_bytes c r, length-append (encode_utf8 c) rest),
+        record {
+          character = c;
+          rest = rest;
+          scalar = parts.0;
+          right_to_left =
+              r;
+          spelled = refl;
+        },
+      )
       | inr b ↦
           let found = place_in cs parts.1 b in
           let at = length (encode_utf8 c) + found.0 in
-          let following : drop at (encode_utf8 c ++ rest) ≡ drop found.0 rest = sym (drop-drop found.0 (length (encode_utf8 c)) (encode_utf8 c ++ rest)) ∙ ap (drop found.0) (drop_at (encode_utf8 c) rest (length (encode_utf8 c)) refl) in
+          let following : drop at (encode_utf8 c ++ rest) ≡ drop found.0 rest = sym (drop-drop found.0 (length (encode_utf8 c)) (encode_utf8 c ++ rest))
+          ∙ ap (drop found.0) (drop_at (encode_utf8 c) rest (length (encode_utf8 c)) refl) in
           let s = found.2 in (
             at,
             omega (arith, found.1, length-append (encode_utf8 c) rest),
@@ -212,7 +226,8 @@ ascii_text bs n l low = let latin1 = ascii_latin1 bs n l low in (text_of_latin1 
 outside : (from count u : ℕ) → from < 2 ^ 16 → u < 2 ^ 16 → in_range from count u ≡ false → (u < from) ⊎ (from + count ≤ u)
 outside from count u l m e = let over = ltb-false _ _ e in grind arith
 
-none_of : (u : ℕ) → UnitForm u → (u < 0x590) ⊎ (0x590 + 0x370 ≤ u) → (u < 0x202B) ⊎ (0x202B + 4 ≤ u) → (u ≡ 0x200F → ⊥) → (u ≡ 0x2067 → ⊥) → (u < 0xD802) ⊎ (0xD802 + 0x3A ≤ u)
+none_of : (u : ℕ) → UnitForm u → (u < 0x590) ⊎ (0x590 + 0x370 ≤ u) → (u < 0x202B) ⊎ (0x202B + 4 ≤ u) → (u ≡ 0x200F → ⊥) → (u ≡ 0x2067 → ⊥)
+    → (u < 0xD802) ⊎ (0xD802 + 0x3A ≤ u)
     → (u < 0xFB1D) ⊎ (0xFB1D + 0x3E2 ≤ u) → u < 2 ^ 16 → ⊥
 none_of u (inl r) a b c d e f l = omega arith
 none_of u (inr (inl r)) a b c d e f l = omega arith
@@ -229,10 +244,12 @@ not_right_to_left u l e r =
     let scripts = or_parts (in_range 0x0590 0x0370 u) (in_range 0x202B 4 u) prefix.0 in
     let marks = or_parts (nat_eq u 0x200F) (nat_eq u 0x2067) prefix.1 in
     let following = or_parts (in_range 0xD802 0x003A u) (in_range 0xFB1D 0x03E2 u) parts.1 in
-    none_of u (unit_form u r) (outside 0x0590 0x0370 u (omega arith) l scripts.0) (outside 0x202B 4 u (omega arith) l scripts.1) (is_not u 0x200F marks.0) (is_not u 0x2067 marks.1)
+    none_of u (unit_form u r) (outside 0x0590 0x0370 u (omega arith) l scripts.0) (outside 0x202B 4 u (omega arith) l scripts.1) (is_not u 0x200F marks.0)
+    (is_not u 0x2067 marks.1)
     (outside 0xD802 0x003A u (omega arith) l following.0) (outside 0xFB1D 0x03E2 u (omega arith) l following.1) l
 
-pub units_clear : (us : List ℕ) (from to : ℕ) → ((k : ℕ) → slice_index us k < 2 ^ 16) → PassBetween (λ k. may_be_right_to_left (slice_index us k) ≡ false) from to → NoneRightToLeft us from to
+pub units_clear : (us : List ℕ) (from to : ℕ) → ((k : ℕ) → slice_index us k < 2 ^ 16)
+    → PassBetween (λ k. may_be_right_to_left (slice_index us k) ≡ false) from to → NoneRightToLeft us from to
 units_clear us from to units none = record { each = λ k l m r. not_right_to_left (slice_index us k) (units k) (none k l m) r }
 
 -- ---- ranges of units

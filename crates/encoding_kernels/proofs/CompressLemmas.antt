@@ -20,7 +20,10 @@ use Rattle.encoding_kernels.specs.EndingUnits.{keep, places_from, compressed_pla
 -- ---- the table
 -- the bytes made of a word
 abbrev pub word_bytes : ℕ → List ℕ
-word_bytes word = digits_l 256 16 (number_l 65536 (zip2 (λ a b. (a + b) % 2 ^ 16) (zip2 (λ a b. a * b % 2 ^ 16) (map (λ x. x) (digits_l 256 8 (number_l (2 ^ 64) (word ∷ [])))) (replicate 8 0x0202)) (replicate 8 0x0100)))
+word_bytes word = digits_l 256 16
+    (number_l 65536
+    (zip2 (λ a b. (a + b) % 2 ^ 16) (zip2 (λ a b. a * b % 2 ^ 16) (map (λ x. x) (digits_l 256 8 (number_l (2 ^ 64) (word ∷ [])))) (replicate 8 0x0202))
+    (replicate 8 0x0100)))
 
 -- all 256 words
 computed : map (λ k. word_bytes (get_or COMPRESSED k 0)) (range_with_len 0 256) ≡ map byte_places (range_with_len 0 256)
@@ -50,7 +53,8 @@ module _ (m : ℕ) (l : m < 256) where
   places_long = eqb-true _ _ (and_parts _ _ (and_parts _ _ (shape m l)).0).0
 
   places_small : (j : ℕ) → j < 8 → get_or (compressed_places m) j 0 < 8
-  places_small j k = Each1-get_or (λ i. i < 8) (compressed_places m) j 0 (omega (arith, places_long)) (up_to_each 7 _ (and_parts _ _ (and_parts _ _ (shape m l)).0).1)
+  places_small j k = Each1-get_or (λ i. i < 8) (compressed_places m) j 0 (omega (arith, places_long))
+      (up_to_each 7 _ (and_parts _ _ (and_parts _ _ (shape m l)).0).1)
 
   pub bytes_long : length (byte_places m) ≡ 16
   bytes_long = eqb-true _ _ (and_parts _ _ (and_parts _ _ (shape m l)).1).0
@@ -112,7 +116,8 @@ module _ (us : List ℕ) (eight : length us ≡ 8) (fit : Each1 (λ x. x < 65536
       let in_ks : j < length ks = omega (arith, places_long m l) in
       let two = bytes_lanes (HasLanes-itself 8 us eight) (λ i b. Each1-get_or (λ x. x < 65536) us i 0 (omega (arith, eight)) fit) k small in
       let low : get_or picked (2 * j) 0 ≡ get_or us k 0 % 256 = picked_at (2 * j) (2 * k) (omega arith) (even_at ks j in_ks) (omega (arith, small)) ∙ two.0 in
-      let high : get_or picked (2 * j + 1) 0 ≡ get_or us k 0 / 256 = picked_at (2 * j + 1) (2 * k + 1) (omega arith) (odd_at ks j in_ks) (omega (arith, small)) ∙ two.1 in
+      let high : get_or picked (2 * j + 1) 0 ≡ get_or us k 0 / 256 =
+      picked_at (2 * j + 1) (2 * k + 1) (omega arith) (odd_at ks j in_ks) (omega (arith, small)) ∙ two.1 in
       let whole : get_or us k 0 % 256 + 256 * (get_or us k 0 / 256) ≡ get_or us k 0 = omega arith in
       (wide picked picked_long picked_small).each j h ∙ (λ i. low i + 256 * high i) ∙ whole
 
@@ -125,7 +130,8 @@ pub mask_append : (xs ys : List Bool) → mask_l (xs ++ ys) ≡ mask_l ys * 2 ^ 
 mask_append [] ys = omega arith
 mask_append (x ∷ xs) ys =
     let more = mask_append xs ys in
-    let power : mask_l ys * 2 ^ suc (length xs) ≡ mask_l ys * 2 ^ length xs * 2 = ap (λ n. mask_l ys * n) (pow-suc 2 (length xs)) ∙ sym (mul_assoc (mask_l ys) (2 ^ length xs) 2) in
+    let power : mask_l ys * 2 ^ suc (length xs) ≡ mask_l ys * 2 ^ length xs * 2 = ap (λ n. mask_l ys * n) (pow-suc 2 (length xs))
+    ∙ sym (mul_assoc (mask_l ys) (2 ^ length xs) 2) in
     omega (arith, more, power)
 
 mask_none : (n : ℕ) → mask_l (replicate n false) ≡ 0
@@ -140,7 +146,8 @@ mask_pad (x ∷ xs) n = ap (λ m. cond x 1 0 + 2 * m) (mask_pad xs n)
 pub mask_prefix : (xs : List Bool) (n e : ℕ) → e ≤ length xs → bit_and (mask_l xs) (2 ^ e - 1) ≡ mask_l (take e xs ++ replicate n false)
 mask_prefix xs n e h =
     let long : length (take e xs) ≡ e = length-take-le e xs h in
-    let whole : mask_l xs ≡ mask_l (drop e xs) * 2 ^ e + mask_l (take e xs) = ap mask_l (sym (take-append-drop e xs)) ∙ mask_append (take e xs) (drop e xs) ∙ ap (λ k. mask_l (drop e xs) * 2 ^ k + mask_l (take e xs)) long in
+    let whole : mask_l xs ≡ mask_l (drop e xs) * 2 ^ e + mask_l (take e xs) = ap mask_l (sym (take-append-drop e xs)) ∙ mask_append (take e xs) (drop e xs)
+    ∙ ap (λ k. mask_l (drop e xs) * 2 ^ k + mask_l (take e xs)) long in
     let small : mask_l (take e xs) < 2 ^ e = subst (λ k. mask_l (take e xs) < 2 ^ k) long (mask_l-lt (take e xs)) in
     and_mask (mask_l xs) e ∙ ap (λ m. m % 2 ^ e) whole ∙ mod_low (mask_l (drop e xs)) e (mask_l (take e xs)) small ∙ sym (mask_pad (take e xs) n)
 
@@ -148,12 +155,14 @@ mask_prefix xs n e h =
 pub first_mask : (test : ℕ → Bool) (xs : List ℕ) (mask e : ℕ) → mask ≡ mask_l (map test xs) → e ≤ length xs → e < 64
     → bit_and mask (1 * 2 ^ e % 2 ^ 64 - 1) ≡ mask_l (map test (take e xs))
 first_mask test xs mask e is within small =
-    (λ i. bit_and (is i) (one_shl e 64 small i - 1)) ∙ mask_prefix (map test xs) 0 e (omega (arith, length-map xs test)) ∙ ap mask_l (append-nil (take e (map test xs)) ∙ take-map test e xs)
+    (λ i. bit_and (is i) (one_shl e 64 small i - 1)) ∙ mask_prefix (map test xs) 0 e (omega (arith, length-map xs test))
+    ∙ ap mask_l (append-nil (take e (map test xs)) ∙ take-map test e xs)
 
 -- sixteen marks in two halves
 module _ (ms : List Bool) (long : length ms ≡ 16) where
   halves : mask_l ms ≡ mask_l (drop 8 ms) * 256 + mask_l (take 8 ms)
-  halves = ap mask_l (sym (take-append-drop 8 ms)) ∙ mask_append (take 8 ms) (drop 8 ms) ∙ ap (λ k. mask_l (drop 8 ms) * 2 ^ k + mask_l (take 8 ms)) (length-take-le 8 ms (omega (arith, long)))
+  halves = ap mask_l (sym (take-append-drop 8 ms)) ∙ mask_append (take 8 ms) (drop 8 ms)
+      ∙ ap (λ k. mask_l (drop 8 ms) * 2 ^ k + mask_l (take 8 ms)) (length-take-le 8 ms (omega (arith, long)))
 
   low_small : mask_l (take 8 ms) < 256
   low_small = subst (λ k. mask_l (take 8 ms) < 2 ^ k) (length-take-le 8 ms (omega (arith, long))) (mask_l-lt (take 8 ms))
@@ -165,7 +174,8 @@ module _ (ms : List Bool) (long : length ms ≡ 16) where
   high_half = omega (arith, halves, low_small)
 
 -- ---- kept elements
-kept_places : (f : ℕ → ℕ) (ms : List Bool) (us : List ℕ) (at : ℕ) → length ms ≡ length us → ((i : ℕ) → f (at + i) ≡ get_or us i 0) → map f (places_from (length ms) at (mask_l ms)) ≡ keep ms us
+kept_places : (f : ℕ → ℕ) (ms : List Bool) (us : List ℕ) (at : ℕ) → length ms ≡ length us → ((i : ℕ) → f (at + i) ≡ get_or us i 0)
+    → map f (places_from (length ms) at (mask_l ms)) ≡ keep ms us
 unfolding places_from keep
 kept_places f [] us at e h = refl
 kept_places f (m ∷ ms) [] at e h = absurd (omega arith)
@@ -199,7 +209,8 @@ keep_split zero ms us e = refl
 keep_split (suc n) [] us e = refl
 keep_split (suc n) (m ∷ ms) [] e = absurd (omega arith)
 keep_split (suc n) (m ∷ ms) (u ∷ us) e =
-    ap (λ xs. (if m then u ∷ [] else []) ++ xs) (keep_split n ms us (omega arith)) ∙ sym (append_assoc (if m then u ∷ [] else []) (keep (take n ms) (take n us)) (keep (drop n ms) (drop n us)))
+    ap (λ xs. (if m then u ∷ [] else []) ++ xs) (keep_split n ms us (omega arith))
+    ∙ sym (append_assoc (if m then u ∷ [] else []) (keep (take n ms) (take n us)) (keep (drop n ms) (drop n us)))
 
 keep_none : (n : ℕ) (us : List ℕ) → keep (replicate n false) us ≡ []
 unfolding keep
@@ -214,22 +225,26 @@ keep_pad (m ∷ ms) [] n = refl
 keep_pad (m ∷ ms) (u ∷ us) n = ap (λ xs. (if m then u ∷ [] else []) ++ xs) (keep_pad ms us n)
 
 -- the result begins with the kept elements
-compressed_keep : (ms : List Bool) (us : List ℕ) → length ms ≡ 8 → length us ≡ 8 → (tail : List ℕ) × (map (λ k. get_or us k 0) (compressed_places (mask_l ms)) ≡ keep ms us ++ tail)
+compressed_keep : (ms : List Bool) (us : List ℕ) → length ms ≡ 8 → length us ≡ 8
+    → (tail : List ℕ) × (map (λ k. get_or us k 0) (compressed_places (mask_l ms)) ≡ keep ms us ++ tail)
 unfolding compressed_places
 compressed_keep ms us p q =
     let f = λ (k : ℕ). get_or us k 0 in
     let zeros = map f (replicate 8 0) in
     let kept = keep ms us in
     let few : length kept ≤ 8 = omega (arith, length-keep-le ms us, p) in
-    let places : map f (places_from 8 0 (mask_l ms)) ≡ kept = ap (λ n. map f (places_from n 0 (mask_l ms))) (sym p) ∙ kept_places f ms us 0 (p ∙ sym q) (λ i. ap f {x = 0 + i} {y = i} (omega arith)) in
+    let places : map f (places_from 8 0 (mask_l ms)) ≡ kept = ap (λ n. map f (places_from n 0 (mask_l ms))) (sym p)
+    ∙ kept_places f ms us 0 (p ∙ sym q) (λ i. ap f {x = 0 + i} {y = i} (omega arith)) in
     let room : 8 ≡ length kept + (8 - length kept) = omega arith in (
       take (8 - length kept) zeros,
-      sym (take-map f 8 (places_from 8 0 (mask_l ms) ++ replicate 8 0)) ∙ ap (take 8) (map-append f (places_from 8 0 (mask_l ms)) (replicate 8 0) ∙ ap (λ xs. xs ++ zeros) places)
+      sym (take-map f 8 (places_from 8 0 (mask_l ms) ++ replicate 8 0))
+          ∙ ap (take 8) (map-append f (places_from 8 0 (mask_l ms)) (replicate 8 0) ∙ ap (λ xs. xs ++ zeros) places)
           ∙ ap (λ n. take n (kept ++ zeros)) room ∙ take-append-add kept zeros (8 - length kept),
     )
 
 -- ---- both halves, the second after what is kept of the first
-module _ (ms : List Bool) (us old low_us high_us first second : List ℕ) (kept : ℕ) (low_us_is : low_us ≡ take 8 us) (high_us_is : high_us ≡ drop 8 us) (marks_long : length ms ≡ 16) (long : length us ≡ 16) (room : 16 ≤ length old) (is : kept ≡ mask_l ms)
+module _ (ms : List Bool) (us old low_us high_us first second : List ℕ) (kept : ℕ) (low_us_is : low_us ≡ take 8 us) (high_us_is : high_us ≡ drop 8 us)
+    (marks_long : length ms ≡ 16) (long : length us ≡ 16) (room : 16 ≤ length old) (is : kept ≡ mask_l ms)
     (first_is : first ≡ map (λ k. get_or low_us k 0) (compressed_places (bit_and kept 255)))
     (second_is : second ≡ map (λ k. get_or high_us k 0) (compressed_places (kept / 256))) where
   abbrev low_marks : List Bool
@@ -304,8 +319,10 @@ module _ (ms : List Bool) (us old low_us high_us first second : List ℕ) (kept 
   stored z eight =
       let start : 0 + count ≡ count = omega arith in
       let parts = put_prefix 8 old first 0 count first_long low_few (omega (arith, room)) in
-      let prefix : take count half_put ≡ low_kept = ap (λ n. take n half_put) (sym start) ∙ parts.0 ∙ ap (take count) low_compressed.1 ∙ take_at low_kept low_compressed.0 count refl in
-      let following : drop (count + 8) half_put ≡ drop (count + 8) old = ap (λ n. drop (n + 8) half_put) (sym start) ∙ parts.1 ∙ ap (λ n. drop (n + 8) old) start in
+      let prefix : take count half_put ≡ low_kept = ap (λ n. take n half_put) (sym start) ∙ parts.0 ∙ ap (take count) low_compressed.1
+      ∙ take_at low_kept low_compressed.0 count refl in
+      let following : drop (count + 8) half_put ≡ drop (count + 8) old = ap (λ n. drop (n + 8) half_put) (sym start) ∙ parts.1
+      ∙ ap (λ n. drop (n + 8) old) start in
       put_is count 8 half_put z eight (omega (arith, length-put_chunk 0 old first, low_few, room)) ∙ (λ i. prefix i ++ (z ++ following i))
 
   abbrev both_put : List ℕ
@@ -318,26 +335,30 @@ module _ (ms : List Bool) (us old low_us high_us first second : List ℕ) (kept 
   kept_prefix =
       let rest = high_compressed.0 ++ drop (count + 8) old in
       let split : both_put ≡ (low_kept ++ high_kept) ++ rest =
-      stored second second_long ∙ ap (λ xs. low_kept ++ (xs ++ drop (count + 8) old)) high_compressed.1 ∙ ap (λ xs. low_kept ++ xs) (append_assoc high_kept high_compressed.0 (drop (count + 8) old)) ∙ sym (append_assoc low_kept high_kept rest) in
+      stored second second_long ∙ ap (λ xs. low_kept ++ (xs ++ drop (count + 8) old)) high_compressed.1
+      ∙ ap (λ xs. low_kept ++ xs) (append_assoc high_kept high_compressed.0 (drop (count + 8) old)) ∙ sym (append_assoc low_kept high_kept rest) in
       ap (take (count + more)) split ∙ take_at (low_kept ++ high_kept) rest (count + more) (length-append low_kept high_kept) ∙ whole
 
   kept_after : drop (count + 8) both_put ≡ drop (count + 8) old
   kept_after = ap (drop (count + 8)) (stored second second_long ∙ sym (append_assoc low_kept second (drop (count + 8) old)))
       ∙ drop_at (low_kept ++ second) (drop (count + 8) old) (count + 8) (length-append low_kept second ∙ ap (λ n. count + n) second_long)
 
-  pub writes_compressed : WritesCompressed ms us old (put_chunk (count_ones (bit_and kept 255)) (put_chunk 0 old first) second) (count_ones (bit_and kept 255) + count_ones (kept / 256)) (count_ones (bit_and kept 255) + count_ones (kept / 256) + 8 - count_ones (kept / 256))
+  pub writes_compressed : WritesCompressed ms us old (put_chunk (count_ones (bit_and kept 255)) (put_chunk 0 old first) second)
+      (count_ones (bit_and kept 255) + count_ones (kept / 256)) (count_ones (bit_and kept 255) + count_ones (kept / 256) + 8 - count_ones (kept / 256))
   writes_compressed =
       let same : put_chunk (count_ones (bit_and kept 255)) half_put second ≡ both_put = ap (λ n. put_chunk n half_put second) low_count in
       let size : count_ones (bit_and kept 255) + count_ones (kept / 256) ≡ count + length high_kept = (λ i. low_count i + high_count i) in
       record {
         counted = size ∙ sym (length-append low_kept high_kept) ∙ ap length whole;
         placed = (λ i. take (size i) (same i)) ∙ kept_prefix;
-        following = subst (λ n. drop n (put_chunk (count_ones (bit_and kept 255)) half_put second) ≡ drop n old) {x = count + 8} (omega (arith, low_count)) (ap (drop (count + 8)) same ∙ kept_after);
+        following = subst (λ n. drop n (put_chunk (count_ones (bit_and kept 255)) half_put second) ≡ drop n old) {x = count + 8} (omega (arith, low_count))
+            (ap (drop (count + 8)) same ∙ kept_after);
       }
 
   -- the same if the second store keeps what follows its own units
   abbrev single : List ℕ
-  single = sel_l (map (top 15) (zip2 (compared w16 ltb) (range_with_len 0 8) (replicate 8 (count_ones (kept / 256))))) second (take 8 (drop (count_ones (bit_and kept 255)) old))
+  single = sel_l (map (top 15) (zip2 (compared w16 ltb) (range_with_len 0 8) (replicate 8 (count_ones (kept / 256))))) second
+      (take 8 (drop (count_ones (bit_and kept 255)) old))
 
   more_few : more ≤ 8
   more_few = omega (arith, length-keep-le high_marks (drop 8 us), high_long)
@@ -350,7 +371,8 @@ module _ (ms : List Bool) (us old low_us high_us first second : List ℕ) (kept 
 
   single_is : single ≡ high_kept ++ drop more following
   single_is =
-      let chosen = chosen_by (tests_of w16 ltb (HasLanes-numbers 8) (HasLanes-splat 8 more)) (HasLanes-itself 8 second second_long) (HasLanes-itself 8 following after_long) in
+      let chosen = chosen_by (tests_of w16 ltb (HasLanes-numbers 8) (HasLanes-splat 8 more)) (HasLanes-itself 8 second second_long)
+      (HasLanes-itself 8 following after_long) in
       (λ i. sel_l (map (top 15) (zip2 (compared w16 ltb) (range_with_len 0 8) (replicate 8 (high_count i)))) second (take 8 (drop (low_count i) old)))
       ∙ firsts_are 8 more second following _ second_long after_long more_few chosen
       ∙ ap (λ xs. xs ++ drop more following) (ap (take more) high_compressed.1 ∙ take_at high_kept high_compressed.0 more refl)
@@ -359,7 +381,8 @@ module _ (ms : List Bool) (us old low_us high_us first second : List ℕ) (kept 
   single_long = ap length single_is ∙ omega (arith, length-append high_kept (drop more following), length-drop more following, after_long, more_few)
 
   after_kept : drop more following ++ drop 8 (drop count old) ≡ drop (count + more) old
-  after_kept = sym (drop-append-le more following (drop 8 (drop count old)) (omega (arith, after_long, more_few))) ∙ ap (drop more) (take-append-drop 8 (drop count old)) ∙ drop-drop more count old
+  after_kept = sym (drop-append-le more following (drop 8 (drop count old)) (omega (arith, after_long, more_few)))
+      ∙ ap (drop more) (take-append-drop 8 (drop count old)) ∙ drop-drop more count old
 
   single_put : put_chunk count half_put single ≡ (low_kept ++ high_kept) ++ drop (count + more) old
   single_put =
@@ -367,7 +390,8 @@ module _ (ms : List Bool) (us old low_us high_us first second : List ℕ) (kept 
       ∙ ap (λ xs. low_kept ++ xs) (append_assoc high_kept (drop more following) (drop 8 (drop count old)) ∙ ap (λ xs. high_kept ++ xs) after_kept)
       ∙ sym (append_assoc low_kept high_kept (drop (count + more) old))
 
-  pub writes_compressed_exact : WritesCompressed ms us old (put_chunk (count_ones (bit_and kept 255)) (put_chunk 0 old first) single) (count_ones (bit_and kept 255) + count_ones (kept / 256)) (count_ones (bit_and kept 255) + count_ones (kept / 256))
+  pub writes_compressed_exact : WritesCompressed ms us old (put_chunk (count_ones (bit_and kept 255)) (put_chunk 0 old first) single)
+      (count_ones (bit_and kept 255) + count_ones (kept / 256)) (count_ones (bit_and kept 255) + count_ones (kept / 256))
   writes_compressed_exact =
       let after = put_chunk (count_ones (bit_and kept 255)) half_put single in
       let is : after ≡ (low_kept ++ high_kept) ++ drop (count + more) old = ap (λ n. put_chunk n half_put single) low_count ∙ single_put in
@@ -376,5 +400,6 @@ module _ (ms : List Bool) (us old low_us high_us first second : List ℕ) (kept 
       record {
         counted = size ∙ sym (length-append low_kept high_kept) ∙ ap length whole;
         placed = (λ i. take (size i) (is i)) ∙ take_at both (drop (count + more) old) (count + more) (length-append low_kept high_kept) ∙ whole;
-        following = (λ i. drop (size i) (is i)) ∙ drop_at both (drop (count + more) old) (count + more) (length-append low_kept high_kept) ∙ ap (λ n. drop n old) (sym size);
+        following = (λ i. drop (size i) (is i)) ∙ drop_at both (drop (count + more) old) (count + more) (length-append low_kept high_kept)
+            ∙ ap (λ n. drop n old) (sym size);
       }

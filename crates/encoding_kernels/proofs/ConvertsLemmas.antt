@@ -33,11 +33,13 @@ module _ (us : List ℕ) (units : AreCodeUnits us) where
   converts_whole w = record { prefix = converts_prefix w; unchanged_after = converts_unchanged w; within = w.within }
 
   pub converts_bmp : {old new : List ℕ} {read written : ℕ} → WritesBmp us old new read written → Converts us old new read written
-  converts_bmp {old} {new} {read} {written} w = record { within = w.within; done = map Character16 (take read us); walked = plain_walked us read units w.within w.plain; placed = plain_written w }
+  converts_bmp {old} {new} {read} {written} w =
+      record { within = w.within; done = map Character16 (take read us); walked = plain_walked us read units w.within w.plain; placed = plain_written w }
 
   -- n more units
   pub converts_more : {old new sub : List ℕ} {read written n m : ℕ} → Converts us old new read written
-      → IsUtf8OfPrefix (take (length us - read) (drop read us)) n (take m sub) → WritesPrefix (take (length new - written) (drop written new)) sub m (take m sub)
+      → IsUtf8OfPrefix (take (length us - read) (drop read us)) n (take m sub)
+      → WritesPrefix (take (length new - written) (drop written new)) sub m (take m sub)
       → n ≤ length (take (length us - read) (drop read us)) → Converts us old (put_mid written (length new - written) new sub) (read + n) (written + m)
   converts_more {old} {new} {sub} {read} {written} {n} {m} w yielded unchanged few =
       let more = goes_on us units read n w.done (take m sub) w.walked yielded in
@@ -50,7 +52,8 @@ module _ (us : List ℕ) (units : AreCodeUnits us) where
 
   -- n more, none of them a surrogate
   pub converts_more_bmp : {old new sub : List ℕ} {read written n m : ℕ} → Converts us old new read written
-      → WritesBmp (take (length us - read) (drop read us)) (take (length new - written) (drop written new)) sub n m → Converts us old (put_mid written (length new - written) new sub) (read + n) (written + m)
+      → WritesBmp (take (length us - read) (drop read us)) (take (length new - written) (drop written new)) sub n m
+      → Converts us old (put_mid written (length new - written) new sub) (read + n) (written + m)
   converts_more_bmp {old} {new} {sub} {read} {written} {n} {m} w v =
       let rest : AreCodeUnits (drop read us) = λ k. let same = get_or-drop read us k 0 in omega (arith, same, units (read + k)) in
       converts_more w (plain_prefix (subst AreCodeUnits (sym (take_rest us read)) rest) v) (written_prefix _ _ _ _ (plain_written v)) v.within
@@ -61,7 +64,8 @@ module _ (us : List ℕ) (units : AreCodeUnits us) where
 
   -- what was spilled is overwritten
   pub converts_paid : {old new sub : List ℕ} {read written s n m : ℕ} → SpillsBmp us old new read written s → s ≤ m
-      → IsUtf8OfPrefix (take (length us - read) (drop read us)) n (take m sub) → WritesPrefix (take (length new - written) (drop written new)) sub m (take m sub)
+      → IsUtf8OfPrefix (take (length us - read) (drop read us)) n (take m sub)
+      → WritesPrefix (take (length new - written) (drop written new)) sub m (take m sub)
       → n ≤ length (take (length us - read) (drop read us)) → Converts us old (put_mid written (length new - written) new sub) (read + n) (written + m)
   converts_paid {old} {new} {sub} {read} {written} {s} {n} {m} p due yielded unchanged few =
       let more = goes_on us units read n (map Character16 (take read us)) (take m sub) (plain_walked us read units p.within p.plain) yielded in
@@ -69,5 +73,6 @@ module _ (us : List ℕ) (units : AreCodeUnits us) where
         within = let inside : read ≤ length us = p.within in omega (arith, few, length-take (length us - read) (drop read us));
         done = more.all;
         walked = more.walked;
-        placed = WritesPrefix-same _ _ _ _ _ _ (due_paid us old new sub (take m sub) read written s m p due unchanged) refl (ap (λ xs. xs ++ take m sub) (sym (utf8_plain (take read us))) ∙ more.written);
+        placed = WritesPrefix-same _ _ _ _ _ _ (due_paid us old new sub (take m sub) read written s m p due unchanged) refl
+            (ap (λ xs. xs ++ take m sub) (sym (utf8_plain (take read us))) ∙ more.written);
       }

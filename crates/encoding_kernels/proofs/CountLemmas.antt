@@ -50,10 +50,16 @@ module _ (n : ℕ) (us vs : List ℕ) (p : length us ≡ n) (q : length vs ≡ n
       let high = tests_of w16 eqb (HasLanes-zip2 bit_and (HasLanes-itself n us p) (HasLanes-splat n 0xFC00)) (HasLanes-splat n 0xD800) in
       let low = tests_of w16 eqb (HasLanes-zip2 bit_and (HasLanes-itself n vs q) (HasLanes-splat n 0xFC00)) (HasLanes-splat n 0xDC00) in
       HasLanes_same (chosen 1 0 (tests_and high low)) (λ k l.
-      one_or_none _ ∙ ap bool_byte (pair_is (slice_index us k) (slice_index vs k) (Each1-get_or (Fits w16) us k 0 (omega arith) fit).fits (Each1-get_or (Fits w16) vs k 0 (omega arith) fits).fits))
+      one_or_none _
+      ∙ ap bool_byte (pair_is (slice_index us k) (slice_index vs k) (Each1-get_or (Fits w16) us k 0 (omega arith) fit).fits
+      (Each1-get_or (Fits w16) vs k 0 (omega arith) fits).fits))
 
   pub pairs_fit : Each1 (Fits w8) (pair_vector n us vs)
-  pairs_fit = Each1-from_get_or (Fits w8) (pair_vector n us vs) 0 (λ k l. record { fits = omega (arith, pairs_are.each k (omega (arith, pairs_are.long)), bool_few (is_surrogate_pair (slice_index us k) (slice_index vs k))) })
+  pairs_fit = Each1-from_get_or (Fits w8) (pair_vector n us vs) 0
+      (λ k l. record {
+        fits =
+            omega (arith, pairs_are.each k (omega (arith, pairs_are.long)), bool_few (is_surrogate_pair (slice_index us k) (slice_index vs k)));
+      })
 
 -- ---- the terms of an index
 pub term_four : (xs : List ℕ) (i : ℕ)
@@ -70,7 +76,8 @@ low_unit : (u v : ℕ) → u < 0xD800 → bool_byte (is_surrogate_pair u v) ≡ 
 low_unit u v l = grind (arith, nat_tests)
 
 pub skipped_fours : (xs : List ℕ) (from to : ℕ) → from ≤ to → to ≤ length xs
-    → ((k : ℕ) → from ≤ k → k < to → slice_index xs k < 0xF0) → sum_over_suffixes begins_four_bytes (drop to xs) ≡ sum_over_suffixes begins_four_bytes (drop from xs)
+    → ((k : ℕ) → from ≤ k → k < to → slice_index xs k < 0xF0)
+    → sum_over_suffixes begins_four_bytes (drop to xs) ≡ sum_over_suffixes begins_four_bytes (drop from xs)
 skipped_fours xs = skipped_below 0xF0 begins_four_bytes xs (λ ys l. low_lead (slice_index ys 0) (slice_index ys 1) (slice_index ys 2) (slice_index ys 3) l)
 
 pub skipped_pairs : (us : List ℕ) (from to : ℕ) → from ≤ to → to ≤ length us
@@ -94,7 +101,8 @@ low_first : (a : ℕ) (rest : List ℕ) → a < 0xF0 → sum_over_suffixes begin
 unfolding sum_over_suffixes
 low_first a rest l = omega (arith, low_lead a (slice_index rest 0) (slice_index rest 1) (slice_index rest 2) l)
 
-shape_fours : (x rest : List ℕ) → HasShape x → sum_over_suffixes begins_four_bytes (x ++ rest) ≡ bool_byte (nat_le 4 (length x)) + sum_over_suffixes begins_four_bytes rest
+shape_fours : (x rest : List ℕ) → HasShape x
+    → sum_over_suffixes begins_four_bytes (x ++ rest) ≡ bool_byte (nat_le 4 (length x)) + sum_over_suffixes begins_four_bytes rest
 unfolding sum_over_suffixes
 shape_fours [] rest h = absurd h
 shape_fours (a ∷ []) rest h = omega (arith, low_first a rest (omega arith))
@@ -104,14 +112,22 @@ shape_fours (a ∷ b ∷ c ∷ []) rest (l, m, s, t) =
     omega (arith, low_first a (b ∷ c ∷ rest) (omega arith), low_first b (c ∷ rest) (omega (arith, low)), low_first c rest (omega (arith, t.1)))
 shape_fours (a ∷ b ∷ c ∷ d ∷ []) rest (l, m, s, t, f) =
     let second = second_more a b (omega arith) m s in
-    omega (arith, four_there a b c d l second t f, low_first b (c ∷ d ∷ rest) (omega (arith, second_low a b second)), low_first c (d ∷ rest) (omega (arith, t.1)), low_first d rest (omega (arith, f.1)))
+    omega (
+      arith,
+      four_there a b c d l second t f,
+      low_first b (c ∷ d ∷ rest) (omega (arith, second_low a b second)),
+      low_first c (d ∷ rest)
+          (omega (arith, t.1)),
+      low_first d rest (omega (arith, f.1)),
+    )
 shape_fours (a ∷ b ∷ c ∷ d ∷ e ∷ more) rest h = absurd h
 
 rejected_fourth : (a b c : ℕ) (rest : List ℕ) → HasOpenShape (a ∷ b ∷ c ∷ []) → IsRejectedBefore (a ∷ b ∷ c ∷ []) rest → IsContinuation (slice_index rest 0) → ⊥
 rejected_fourth a b c [] h n f = omega (arith, f.0)
 rejected_fourth a b c (y ∷ ys) h n f = n y ys refl (inl (IsSequence-HasShape (a ∷ b ∷ c ∷ y ∷ []) (h.0, h.1, h.2, h.3, f)))
 
-open_fours : (x rest : List ℕ) → HasOpenShape x → IsRejectedBefore x rest → sum_over_suffixes begins_four_bytes (x ++ rest) ≡ sum_over_suffixes begins_four_bytes rest
+open_fours : (x rest : List ℕ) → HasOpenShape x → IsRejectedBefore x rest
+    → sum_over_suffixes begins_four_bytes (x ++ rest) ≡ sum_over_suffixes begins_four_bytes rest
 unfolding sum_over_suffixes
 open_fours [] rest h n = absurd h
 open_fours (a ∷ []) rest h n = omega (arith, no_second a (slice_index rest 0) (slice_index rest 1) (slice_index rest 2) (rejected_second a rest n))
@@ -120,7 +136,13 @@ open_fours (a ∷ b ∷ []) rest h n =
     omega (arith, no_third a b (slice_index rest 0) (slice_index rest 1) (rejected_third a b rest h n), low_first b rest (omega (arith, low)))
 open_fours (a ∷ b ∷ c ∷ []) rest h n =
     let low = second_low a b (second_more a b (omega (arith, h.0)) h.1 h.2) in
-    omega (arith, no_fourth a b c (slice_index rest 0) (rejected_fourth a b c rest h n), low_first b (c ∷ rest) (omega (arith, low)), low_first c rest (omega (arith, h.3.1)))
+    omega (
+      arith,
+      no_fourth a b c (slice_index rest 0) (rejected_fourth a b c rest h n),
+      low_first b (c ∷ rest) (omega (arith, low)),
+      low_first c rest
+          (omega (arith, h.3.1)),
+    )
 open_fours (a ∷ b ∷ c ∷ d ∷ more) rest h n = absurd h
 
 single_fours : (b : ℕ) (rest : List ℕ) → IsNeverLeading b → sum_over_suffixes begins_four_bytes (b ∷ rest) ≡ sum_over_suffixes begins_four_bytes rest
@@ -128,7 +150,8 @@ unfolding sum_over_suffixes
 single_fours b rest n =
     omega (arith, no_second b (slice_index rest 0) (slice_index rest 1) (slice_index rest 2) (λ s. n (inr (IsIncomplete-HasOpenShape (b ∷ []) (s.0, s.1)))))
 
-part_fours : (bs : List ℕ) (p : Part) (rest : List ℕ) → IsFirstPart bs p rest → 1 + sum_over_suffixes begins_four_bytes bs ≡ length (encode_utf16 (lossy_scalar p)) + sum_over_suffixes begins_four_bytes rest
+part_fours : (bs : List ℕ) (p : Part) (rest : List ℕ) → IsFirstPart bs p rest
+    → 1 + sum_over_suffixes begins_four_bytes bs ≡ length (encode_utf16 (lossy_scalar p)) + sum_over_suffixes begins_four_bytes rest
 part_fours bs (Character c) rest (s, e) =
     let fours = shape_fours (encode_utf8 c) rest (HasShape-IsSequence (encode_utf8 c) (IsSequence-encode c s)) in
     rw e (omega (arith, fours, units_of_character c s))
@@ -154,7 +177,8 @@ pair_there u v p = grind (arith, nat_tests)
 no_pair : (u v : ℕ) → (IsPair u v → ⊥) → bool_byte (is_surrogate_pair u v) ≡ 0
 no_pair u v n = grind (arith, nat_tests)
 
-part16_pairs : (us : List ℕ) (p : Part16) (rest : List ℕ) → IsFirstPart16 us p rest → 1 + sum_over_suffixes begins_pair us + length rest ≡ length us + sum_over_suffixes begins_pair rest
+part16_pairs : (us : List ℕ) (p : Part16) (rest : List ℕ) → IsFirstPart16 us p rest
+    → 1 + sum_over_suffixes begins_pair us + length rest ≡ length us + sum_over_suffixes begins_pair rest
 unfolding sum_over_suffixes
 part16_pairs us (Character16 c) rest (s, e) = elim (cases_lt c 0x10000) [
   | inl l ↦ let whole : us ≡ c ∷ rest = e ∙ ap (λ xs. xs ++ rest) (one_unit c l) in
@@ -170,7 +194,13 @@ pub parts16_total : (us : List ℕ) (ps : List Part16) → ArePartsOf16 us ps �
 unfolding sum_over_suffixes
 parts16_total us ps h = subst (λ xs. length ps + sum_over_suffixes begins_pair xs ≡ length xs) h.1 (by_parts ps h.0)
   where
-    by_parts : (ps : List Part16) → ArePaired ps → length ps + sum_over_suffixes begins_pair (flat_map units_of_part16 ps) ≡ length (flat_map units_of_part16 ps)
+    by_parts : (ps : List Part16) → ArePaired ps
+        → length ps + sum_over_suffixes begins_pair (flat_map units_of_part16 ps) ≡ length (flat_map units_of_part16 ps)
     by_parts [] h = refl
     by_parts (p ∷ ps) h =
-        omega (arith, by_parts ps (tail_paired p ps h), part16_pairs (flat_map units_of_part16 (p ∷ ps)) p (flat_map units_of_part16 ps) (first_of_parts p ps h))
+        omega (
+          arith,
+          by_parts ps (tail_paired p ps h),
+          part16_pairs (flat_map units_of_part16 (p ∷ ps)) p (flat_map units_of_part16 ps)
+              (first_of_parts p ps h),
+        )

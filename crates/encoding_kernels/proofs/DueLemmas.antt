@@ -8,7 +8,8 @@ use Rattle.encoding_kernels.proofs.SpillsLemmas.{later, due_then}
 use Rattle.encoding_kernels.proofs.UnitBlocksLemmas.{plain_then, encodes_more}
 
 -- one more block
-pub due_block : (us old d e : List ℕ) (due read w s c t : ℕ) → ConvertsDue us old d due read w s → read + 32 ≤ length us → 3 * length us ≤ length old → StoresBlock (take 16 (drop read us)) d e w c t
+pub due_block : (us old d e : List ℕ) (due read w s c t : ℕ) → ConvertsDue us old d due read w s → read + 32 ≤ length us → 3 * length us ≤ length old
+    → StoresBlock (take 16 (drop read us)) d e w c t
     → ConvertsDue us old e due (read + 16) (w + c) t
 due_block us old d e due read w s c t p more room b = record {
   written = due_then us old d e read w s c t p.written (omega arith) p.few (omega (arith, p.bound, p.written.long, b.bounds)) b;
@@ -28,7 +29,8 @@ module _ {us old d sub : List ℕ} {due read w s n m t : ℕ} (p : ConvertsDue u
 
   -- the whole, as its two parts
   parts : put_mid w (length d - w) d sub ≡ take w d ++ sub
-  parts = let none : drop (length d - w) (drop w d) ≡ [] = drop_all (length d - w) (drop w d) (omega (arith, length-drop w d)) in rw (none, append-nil) (λ i. take w d ++ sub)
+  parts = let none : drop (length d - w) (drop w d) ≡ [] = drop_all (length d - w) (drop w d) (omega (arith, length-drop w d)) in
+      rw (none, append-nil) (λ i. take w d ++ sub)
 
   prefix_of : (k : ℕ) → take (w + k) (put_mid w (length d - w) d sub) ≡ take w d ++ take k sub
   prefix_of k = ap (take (w + k)) parts ∙ ap (λ j. take (j + k) (take w d ++ sub)) (sym long) ∙ take-append-add (take w d) sub k
@@ -53,10 +55,18 @@ module _ {us old d sub : List ℕ} {due read w s n m t : ℕ} (p : ConvertsDue u
         written = record {
           within = omega (arith, p.written.within, q.written.within, units);
           plain = plain_then us read n p.written.plain (subst (λ xs. AreBmpScalars (take n xs)) (take_rest us read) q.written.plain);
-          counted = ap length (sym both) ∙ omega (arith, length-append (encode_utf8_all (take read us)) (encode_utf8_all (take n (take (length us - read) (drop read us)))), p.written.counted, q.written.counted);
+          counted = ap length (sym both)
+              ∙ omega (
+                arith,
+                length-append (encode_utf8_all (take read us))
+                    (encode_utf8_all (take n (take (length us - read) (drop read us)))),
+                p.written.counted,
+                q.written.counted,
+              );
           fits = omega (arith, inside, q.written.fits, bytes, p.written.long);
           prefix = prefix_of m ∙ (λ i. p.written.prefix i ++ q.written.prefix i) ∙ both;
-          following = ap (λ k. drop k (put_mid w (length d - w) d sub)) place ∙ rest_of (m + t) ∙ q.written.following ∙ ap (drop (m + t)) (take_rest d w) ∙ drop-drop (m + t) w d
+          following = ap (λ k. drop k (put_mid w (length d - w) d sub)) place ∙ rest_of (m + t) ∙ q.written.following ∙ ap (drop (m + t)) (take_rest d w)
+              ∙ drop-drop (m + t) w d
               ∙ ap (λ k. drop k d) (sym (place)) ∙ later (w + s) (m + t - s) (w + m + t) d old p.written.following over;
           long = ap length parts ∙ omega (arith, length-append (take w d) sub, long, q.written.long, bytes, inside, p.written.long);
         };
@@ -67,7 +77,8 @@ module _ {us old d sub : List ℕ} {due read w s n m t : ℕ} (p : ConvertsDue u
       }
 
 -- blocks of the first units
-pub due_of_first : {us old new : List ℕ} {due read w s : ℕ} (e : ℕ) → e ≤ length us → ConvertsDue (take e us) old new due read w s → SpillsBmp us old new read w s
+pub due_of_first : {us old new : List ℕ} {due read w s : ℕ} (e : ℕ) → e ≤ length us → ConvertsDue (take e us) old new due read w s
+    → SpillsBmp us old new read w s
 due_of_first {us} {old} {new} {due} {read} {w} {s} e within p =
     let few : read ≤ e = omega (arith, p.written.within, length-take-le e us within) in
     let same : take read (take e us) ≡ take read us = take-take read e us few in

@@ -46,10 +46,12 @@ kept_spell get (u ∷ us) at h =
     kept_step get at (nat_le 0x80 u) _ _ _ here (kept_spell get us (at + 2) more)
 
 -- a lookup of indices in a vector
-pub looked_up : (bytes places : List ℕ) → length places ≡ 16 → ((k : ℕ) → k < 16 → get_or places k 0 < 16) → swz_l w8 16 bytes 0 places ≡ map (λ j. get_or bytes j 0) places
+pub looked_up : (bytes places : List ℕ) → length places ≡ 16 → ((k : ℕ) → k < 16 → get_or places k 0 < 16)
+    → swz_l w8 16 bytes 0 places ≡ map (λ j. get_or bytes j 0) places
 looked_up bytes places long small =
     let lanes = HasLanes-swizzle bytes (HasLanes-itself 16 places long) small in
-    same_number_lists (swz_l w8 16 bytes 0 places) (map (λ j. get_or bytes j 0) places) (omega (arith, lanes.long, length-map places (λ j. get_or bytes j 0))) (λ k l.
+    same_number_lists (swz_l w8 16 bytes 0 places) (map (λ j. get_or bytes j 0) places)
+    (omega (arith, lanes.long, length-map places (λ j. get_or bytes j 0))) (λ k l.
     lanes.each k (omega (arith, lanes.long)) ∙ sym (get_or-map (λ j. get_or bytes j 0) places k 0 0 (omega (arith, lanes.long))))
 
 -- the bytes at the indices that the mask keeps
@@ -59,15 +61,19 @@ kept_of tests get places mask l m kept =
     let count : 8 + count_ones mask ≡ length (kept_places 0 tests) = omega (arith, kept_long 0 tests, ap count_ones m) in
     ap (λ n. take n (map get places)) count ∙ take-map get (length (kept_places 0 tests)) places ∙ ap (map get) kept
 
-pub compressed : (tests : List Bool) (bytes places : List ℕ) (mask : ℕ) → length tests ≡ 8 → length places ≡ 16 → ((k : ℕ) → k < 16 → get_or places k 0 < 16) → mask ≡ mask_l tests
-    → take (length (kept_places 0 tests)) places ≡ kept_places 0 tests → take (8 + count_ones mask) (swz_l w8 16 bytes 0 places) ≡ map (λ j. get_or bytes j 0) (kept_places 0 tests)
-compressed tests bytes places mask l long small m kept = ap (take (8 + count_ones mask)) (looked_up bytes places long small) ∙ kept_of tests (λ j. get_or bytes j 0) places mask l m kept
+pub compressed : (tests : List Bool) (bytes places : List ℕ) (mask : ℕ) → length tests ≡ 8 → length places ≡ 16 → ((k : ℕ) → k < 16 → get_or places k 0 < 16)
+    → mask ≡ mask_l tests
+    → take (length (kept_places 0 tests)) places ≡ kept_places 0 tests
+    → take (8 + count_ones mask) (swz_l w8 16 bytes 0 places) ≡ map (λ j. get_or bytes j 0) (kept_places 0 tests)
+compressed tests bytes places mask l long small m kept = ap (take (8 + count_ones mask)) (looked_up bytes places long small)
+    ∙ kept_of tests (λ j. get_or bytes j 0) places mask l m kept
 
 -- these are the UTF-8 of eight units
 pub spelled_short : (us bytes : List ℕ) → length us ≡ 8 → ((k : ℕ) → k < 8 → EncodesTo (get_or us k 0) (get_or bytes (2 * k) 0) (get_or bytes (2 * k + 1) 0))
     → map (λ j. get_or bytes j 0) (kept_places 0 (map (nat_le 0x80) us)) ≡ encode_utf8_all us
 spelled_short us bytes l spells =
-    kept_spell (λ j. get_or bytes j 0) us 0 (λ k i. let e : 2 * k ≡ 0 + 2 * k = omega arith in subst (λ j. EncodesTo (get_or us k 0) (get_or bytes j 0) (get_or bytes (j + 1) 0)) e (spells k (omega arith)))
+    kept_spell (λ j. get_or bytes j 0) us 0 (λ k i. let e : 2 * k ≡ 0 + 2 * k = omega arith in
+    subst (λ j. EncodesTo (get_or us k 0) (get_or bytes j 0) (get_or bytes (j + 1) 0)) e (spells k (omega arith)))
 
 -- ---- both bytes
 -- of a code unit from 0x80 on, in one number
@@ -82,7 +88,8 @@ EncodesTo-word u l = grind (arith, nat_tests, both_is u l, two u, encode_ascii u
 
 -- ---- lanes
 -- the mask of `simd_ge` with a splat
-pub mask_from : (w : Width) (n bound : ℕ) (us : List ℕ) → length us ≡ n → n ≤ 64 → mask_of (hbits w) (zip2 (compared w leb) (replicate n bound) us) ≡ mask_l (map (leb bound) us)
+pub mask_from : (w : Width) (n bound : ℕ) (us : List ℕ) → length us ≡ n → n ≤ 64
+    → mask_of (hbits w) (zip2 (compared w leb) (replicate n bound) us) ≡ mask_l (map (leb bound) us)
 mask_from w n bound us long few =
     let tests = tops_compared w leb (replicate n bound) us ∙ zip2_splat_left leb bound n us long in
     ap (λ ms. mask_l ms % 2 ^ 64) tests ∙ mask_l-mod (map (leb bound) us) 64 (omega (arith, length-map us (leb bound)))
@@ -95,7 +102,10 @@ pick b x y l m = grind (arith, nat_tests)
 
 -- the words of sixteen code units, as bytes
 both_lanes : (us : List ℕ) → length us ≡ 16
-    → HasLanes 16 (zip2 (λ a b. (a + b) % 2 ^ 16) (zip2 (λ a b. (a + b) % 2 ^ 16) (zip2 (λ a b. a / 2 ^ b) us (replicate 16 6)) (zip2 (λ a b. a * 2 ^ b % 2 ^ 16) (zip2 bit_and us (replicate 16 0x3F)) (replicate 16 8))) (replicate 16 0x80C0))
+    → HasLanes 16
+    (zip2 (λ a b. (a + b) % 2 ^ 16)
+    (zip2 (λ a b. (a + b) % 2 ^ 16) (zip2 (λ a b. a / 2 ^ b) us (replicate 16 6))
+    (zip2 (λ a b. a * 2 ^ b % 2 ^ 16) (zip2 bit_and us (replicate 16 0x3F)) (replicate 16 8))) (replicate 16 0x80C0))
     (λ k. both (get_or us k 0))
 both_lanes us long =
     let lanes = HasLanes-itself 16 us long in
@@ -105,13 +115,17 @@ both_lanes us long =
 
 abbrev pub both_words : List ℕ → List ℕ
 both_words us = sel_l (map (top 15) (zip2 (compared w16 leb) (replicate 16 0x80) us))
-    (zip2 (λ a b. (a + b) % 2 ^ 16) (zip2 (λ a b. (a + b) % 2 ^ 16) (zip2 (λ a b. a / 2 ^ b) us (replicate 16 6)) (zip2 (λ a b. a * 2 ^ b % 2 ^ 16) (zip2 bit_and us (replicate 16 0x3F)) (replicate 16 8))) (replicate 16 0x80C0)) us
+    (zip2 (λ a b. (a + b) % 2 ^ 16)
+    (zip2 (λ a b. (a + b) % 2 ^ 16) (zip2 (λ a b. a / 2 ^ b) us (replicate 16 6))
+    (zip2 (λ a b. a * 2 ^ b % 2 ^ 16) (zip2 bit_and us (replicate 16 0x3F)) (replicate 16 8))) (replicate 16 0x80C0)) us
 
-pub words_spell : (us : List ℕ) → length us ≡ 16 → ((i : ℕ) → i < 16 → get_or us i 0 < 0x800) → (k : ℕ) → k < 16 → EncodesTo (get_or us k 0) (get_or (bytes_of_sixteen (both_words us)) (2 * k) 0) (get_or (bytes_of_sixteen (both_words us)) (2 * k + 1) 0)
+pub words_spell : (us : List ℕ) → length us ≡ 16 → ((i : ℕ) → i < 16 → get_or us i 0 < 0x800) → (k : ℕ) → k < 16
+    → EncodesTo (get_or us k 0) (get_or (bytes_of_sixteen (both_words us)) (2 * k) 0) (get_or (bytes_of_sixteen (both_words us)) (2 * k + 1) 0)
 words_spell us long small k l =
     let lanes = HasLanes-itself 16 us long in
     let words = chosen_by (tests_of w16 leb (HasLanes-splat 16 0x80) lanes) (both_lanes us long) lanes in
-    let bytes = sixteen_lanes words (λ i m. pick (leb 0x80 (get_or us i 0)) (both (get_or us i 0)) (get_or us i 0) (omega arith) (omega (arith, small i m))) k l in
+    let bytes =
+    sixteen_lanes words (λ i m. pick (leb 0x80 (get_or us i 0)) (both (get_or us i 0)) (get_or us i 0) (omega arith) (omega (arith, small i m))) k l in
     respell (get_or us k 0) bytes.0 bytes.1 (EncodesTo-word (get_or us k 0) (small k l))
 
 -- the UTF-8 of eight of these units, by bytes from an index on
@@ -122,4 +136,5 @@ spelled_eight us places get mask long m kept spells =
     let tests = map (nat_le 0x80) us in
     let eight : length tests ≡ 8 = length-map us (nat_le 0x80) ∙ long in
     kept_of tests get places mask eight m (kept tests eight m)
-    ∙ kept_spell get us 0 (λ k i. let e : 2 * k ≡ 0 + 2 * k = omega arith in subst (λ j. EncodesTo (get_or us k 0) (get j) (get (j + 1))) e (spells k (omega arith)))
+    ∙ kept_spell get us 0 (λ k i. let e : 2 * k ≡ 0 + 2 * k = omega arith in
+    subst (λ j. EncodesTo (get_or us k 0) (get j) (get (j + 1))) e (spells k (omega arith)))

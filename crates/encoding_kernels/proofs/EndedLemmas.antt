@@ -30,7 +30,8 @@ pub ended_none : (p x : ℕ) → 0xC0 ≤ x → latin1_ended p x ≡ []
 ended_none p x l = grind (arith, nat_tests)
 
 -- the two bytes of a character
-ended_two : (p c : ℕ) → 0x80 ≤ c → c < 0x100 → (xs : List ℕ) → all_latin1_ended p ((192 + c / 64) ∷ (128 + c % 64) ∷ xs) ≡ c ∷ all_latin1_ended (128 + c % 64) xs
+ended_two : (p c : ℕ) → 0x80 ≤ c → c < 0x100 → (xs : List ℕ)
+    → all_latin1_ended p ((192 + c / 64) ∷ (128 + c % 64) ∷ xs) ≡ c ∷ all_latin1_ended (128 + c % 64) xs
 ended_two p c l h xs =
     let first = ended_none p (192 + c / 64) (omega arith) in
     let second = ended_last (192 + c / 64) (128 + c % 64) (omega arith) (omega arith) in
@@ -87,17 +88,21 @@ nexts (c ∷ cs) low = elim (cases_lt c 0x80) [
 
 -- ---- a prefix that ends between characters
 abbrev pub Splits : List ℕ → ℕ → ℕ → List ℕ → Type 0
-Splits cs p k bs = (drop k bs ≡ encode_utf8_all (drop (length (all_latin1_ended p (take k bs))) cs)) × (take (length (all_latin1_ended p (take k bs))) cs ≡ all_latin1_ended p (take k bs))
+Splits cs p k bs = (drop k bs ≡ encode_utf8_all (drop (length (all_latin1_ended p (take k bs))) cs))
+    × (take (length (all_latin1_ended p (take k bs))) cs ≡ all_latin1_ended p (take k bs))
 
 pub splits : (cs : List ℕ) → IsLatin1 cs → (p k : ℕ) → (GoesOnWith (get_or (encode_utf8_all cs) k 0) → ⊥) → Splits cs p k (encode_utf8_all cs)
 splits [] low p zero n = (refl, refl)
 splits [] low p (suc k) n = (refl, refl)
 splits (c ∷ cs) low p k n = elim (cases_lt c 0x80) [
-  | inl l ↦ let e = is_one c cs l in subst (Splits (c ∷ cs) p k) (sym e) (one (splits cs (IsLatin1-rest c cs low)) l k (subst (λ bs. GoesOnWith (get_or bs k 0) → ⊥) e n))
-  | inr l ↦ let e = is_two c cs l (omega (arith, low 0)) in subst (Splits (c ∷ cs) p k) (sym e) (both (splits cs (IsLatin1-rest c cs low)) l k (subst (λ bs. GoesOnWith (get_or bs k 0) → ⊥) e n))
+  | inl l ↦ let e = is_one c cs l in
+      subst (Splits (c ∷ cs) p k) (sym e) (one (splits cs (IsLatin1-rest c cs low)) l k (subst (λ bs. GoesOnWith (get_or bs k 0) → ⊥) e n))
+  | inr l ↦ let e = is_two c cs l (omega (arith, low 0)) in
+      subst (Splits (c ∷ cs) p k) (sym e) (both (splits cs (IsLatin1-rest c cs low)) l k (subst (λ bs. GoesOnWith (get_or bs k 0) → ⊥) e n))
 ]
   where
-    one : ((q j : ℕ) → (GoesOnWith (get_or (encode_utf8_all cs) j 0) → ⊥) → Splits cs q j (encode_utf8_all cs)) → c < 0x80 → (k : ℕ) → (GoesOnWith (get_or (text_one c cs) k 0) → ⊥) → Splits (c ∷ cs) p k (text_one c cs)
+    one : ((q j : ℕ) → (GoesOnWith (get_or (encode_utf8_all cs) j 0) → ⊥) → Splits cs q j (encode_utf8_all cs)) → c < 0x80 → (k : ℕ)
+        → (GoesOnWith (get_or (text_one c cs) k 0) → ⊥) → Splits (c ∷ cs) p k (text_one c cs)
     one before l zero n = (sym (is_one c cs l), refl)
     one before l (suc k) n =
         let rest = before c k n in
@@ -106,7 +111,8 @@ splits (c ∷ cs) low p k n = elim (cases_lt c 0x80) [
           ap (λ xs. take (length xs) (c ∷ cs)) out ∙ ap (λ xs. c ∷ xs) rest.1 ∙ sym out,
         )
 
-    both : ((q j : ℕ) → (GoesOnWith (get_or (encode_utf8_all cs) j 0) → ⊥) → Splits cs q j (encode_utf8_all cs)) → 0x80 ≤ c → (k : ℕ) → (GoesOnWith (get_or (text_two c cs) k 0) → ⊥) → Splits (c ∷ cs) p k (text_two c cs)
+    both : ((q j : ℕ) → (GoesOnWith (get_or (encode_utf8_all cs) j 0) → ⊥) → Splits cs q j (encode_utf8_all cs)) → 0x80 ≤ c → (k : ℕ)
+        → (GoesOnWith (get_or (text_two c cs) k 0) → ⊥) → Splits (c ∷ cs) p k (text_two c cs)
     both before l zero n = (sym (is_two c cs l (omega (arith, low 0))), refl)
     both before l (suc zero) n = absurd (n (omega arith, omega arith))
     both before l (suc (suc k)) n =
@@ -137,7 +143,14 @@ ended_one_or p x = grind (arith, nat_tests)
 pub ended_ones : (p : ℕ) (xs : List ℕ) → length (all_latin1_ended p xs) + count_ones (mask_l (map (leb 0xC0) xs)) ≡ length xs
 ended_ones p [] = omega (arith, ones-none)
 ended_ones p (x ∷ xs) =
-    omega (arith, length-append (latin1_ended p x) (all_latin1_ended x xs), ended_ones x xs, ones-mask_l_cons (leb 0xC0 x) (map (leb 0xC0) xs), ended_one_or p x)
+    omega (
+      arith,
+      length-append (latin1_ended p x) (all_latin1_ended x xs),
+      ended_ones x xs,
+      ones-mask_l_cons (leb 0xC0 x)
+          (map (leb 0xC0) xs),
+      ended_one_or p x,
+    )
 
 -- a last byte that ends none
 pub ended_without : (xs : List ℕ) (p x : ℕ) → 0xC0 ≤ x → all_latin1_ended p (xs ++ x ∷ []) ≡ all_latin1_ended p xs
@@ -162,7 +175,8 @@ pairs_kept get (suc n) (a ∷ b ∷ xs) p at long h =
     let place : at + 2 * suc k ≡ at + 2 + 2 * k = omega arith in
     let index : 2 * suc k ≡ suc (suc (2 * k)) = omega arith in
     subst (λ j. PairAt get p (a ∷ b ∷ xs) j (suc (suc (2 * k)))) place (subst (PairAt get p (a ∷ b ∷ xs) (at + 2 * suc k)) index (h (suc k) (omega arith))) in
-    kept_step get at (nat_lt a 0xC0 && nat_lt b 0xC0) (kept_places (at + 2) (both_end xs)) (latin1_ended p a ++ latin1_ended a b) (all_latin1_ended b xs) here (pairs_kept get n xs b (at + 2) (omega arith) more)
+    kept_step get at (nat_lt a 0xC0 && nat_lt b 0xC0) (kept_places (at + 2) (both_end xs)) (latin1_ended p a ++ latin1_ended a b) (all_latin1_ended b xs) here
+    (pairs_kept get n xs b (at + 2) (omega arith) more)
     ∙ append_assoc (latin1_ended p a) (latin1_ended a b) (all_latin1_ended b xs)
 
 pub both_end_long : (n : ℕ) (xs : List ℕ) → length xs ≡ 2 * n → length (both_end xs) ≡ n

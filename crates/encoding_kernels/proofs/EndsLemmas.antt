@@ -58,12 +58,14 @@ module _ (bs : List ℕ) (long : length bs ≡ 16) (fits : Each1 (Fits w8) bs) w
 
   -- ---- the mask
   abbrev tests_l : List ℕ
-  tests_l = zip2 bit_and (zip2 (compared w16 ltb) (zip2 bit_and (wide_l bs) (replicate 8 0xFF)) (replicate 8 0xC0)) (zip2 (compared w16 ltb) (wide_l bs) (replicate 8 0xC000))
+  tests_l = zip2 bit_and (zip2 (compared w16 ltb) (zip2 bit_and (wide_l bs) (replicate 8 0xFF)) (replicate 8 0xC0))
+      (zip2 (compared w16 ltb) (wide_l bs) (replicate 8 0xC000))
 
   high_test : (a b : ℕ) → a < 256 → ltb (a + 256 * b) 0xC000 ≡ nat_lt b 0xC0
   high_test a b A = grind (arith, nat_tests)
 
-  both_end_at : (xs : List ℕ) (k : ℕ) (d : Bool) → 2 * k + 1 < length xs → get_or (both_end xs) k d ≡ (nat_lt (get_or xs (2 * k) 0) 0xC0 && nat_lt (get_or xs (2 * k + 1) 0) 0xC0)
+  both_end_at : (xs : List ℕ) (k : ℕ) (d : Bool) → 2 * k + 1 < length xs
+      → get_or (both_end xs) k d ≡ (nat_lt (get_or xs (2 * k) 0) 0xC0 && nat_lt (get_or xs (2 * k + 1) 0) 0xC0)
   both_end_at [] k d l = absurd (omega arith)
   both_end_at (a ∷ []) k d l = absurd (omega arith)
   both_end_at (a ∷ b ∷ xs) zero d l = refl
@@ -122,9 +124,11 @@ module _ (bs v : List ℕ) (p : ℕ) (long : length bs ≡ 16) (fits : Each1 (Fi
 
   -- the byte before the second of a pair
   first_before : (k : ℕ) → get_or (p ∷ bs) (2 * k + 1) 0 ≡ get_or bs (2 * k) 0
-  first_before k = let place : 2 * k + 1 - 1 ≡ 2 * k = omega arith in get_or-append_right (p ∷ []) bs 1 (2 * k + 1) 0 refl (omega arith) ∙ ap (λ j. get_or bs j 0) place
+  first_before k = let place : 2 * k + 1 - 1 ≡ 2 * k = omega arith in get_or-append_right (p ∷ []) bs 1 (2 * k + 1) 0 refl (omega arith)
+      ∙ ap (λ j. get_or bs j 0) place
 
-  words_lanes : HasLanes 8 (wide_l (ends_l v bs)) (λ k. end_of (get_or (p ∷ bs) (2 * k) 0) (get_or bs (2 * k) 0) + 256 * end_of (get_or bs (2 * k) 0) (get_or bs (2 * k + 1) 0))
+  words_lanes : HasLanes 8 (wide_l (ends_l v bs)) (λ k. end_of (get_or (p ∷ bs) (2 * k) 0) (get_or bs (2 * k) 0) + 256 * end_of (get_or bs (2 * k) 0)
+      (get_or bs (2 * k + 1) 0))
   words_lanes = HasLanes_same (wide (ends_l v bs) ends_lanes.long ends_fit) (λ k l.
       let first = ends_lanes.each (2 * k) (omega arith) in
       let second = ends_lanes.each (2 * k + 1) (omega arith) ∙ ap (λ q. end_of q (get_or bs (2 * k + 1) 0)) (first_before k) in
@@ -139,12 +143,15 @@ module _ (bs v : List ℕ) (p : ℕ) (long : length bs ≡ 16) (fits : Each1 (Fi
   pair_small q a b A B = grind (arith, nat_tests, end_small q a A, end_small a b B)
 
   pub pairs_end : (k : ℕ) → k < 8
-      → EndsPair (get_or (p ∷ bs) (2 * k) 0) (get_or bs (2 * k) 0) (get_or bs (2 * k + 1) 0) (get_or (bytes_of (result_l v bs)) (2 * k) 0) (get_or (bytes_of (result_l v bs)) (2 * k + 1) 0)
+      → EndsPair (get_or (p ∷ bs) (2 * k) 0) (get_or bs (2 * k) 0) (get_or bs (2 * k + 1) 0) (get_or (bytes_of (result_l v bs)) (2 * k) 0)
+      (get_or (bytes_of (result_l v bs)) (2 * k + 1) 0)
   pairs_end k l =
       let q = get_or (p ∷ bs) (2 * k) 0 in
       let a = get_or bs (2 * k) 0 in
       let b = get_or bs (2 * k + 1) 0 in
-      let bytes = bytes_lanes result_lanes (λ i m. pair_small (get_or (p ∷ bs) (2 * i) 0) (get_or bs (2 * i) 0) (get_or bs (2 * i + 1) 0) (at_lane (2 * i) (omega arith)) (at_lane (2 * i + 1) (omega arith))) k l in
+      let bytes =
+      bytes_lanes result_lanes (λ i m. pair_small (get_or (p ∷ bs) (2 * i) 0) (get_or bs (2 * i) 0) (get_or bs (2 * i + 1) 0)
+      (at_lane (2 * i) (omega arith)) (at_lane (2 * i + 1) (omega arith))) k l in
       same_pair q a b bytes.0 bytes.1 (pair_ends q a b (at_lane (2 * k) (omega arith)) (at_lane (2 * k + 1) (omega arith)))
     where
       same_pair : (q a b : ℕ) {x y x2 y2 : ℕ} → x ≡ x2 → y ≡ y2 → EndsPair q a b x2 y2 → EndsPair q a b x y
@@ -152,14 +159,16 @@ module _ (bs v : List ℕ) (p : ℕ) (long : length bs ≡ 16) (fits : Each1 (Fi
 
   -- ---- what is kept
   pub kept_ends : (bytes : List ℕ)
-      → ((k : ℕ) → k < 8 → EndsPair (get_or (p ∷ bs) (2 * k) 0) (get_or bs (2 * k) 0) (get_or bs (2 * k + 1) 0) (get_or bytes (2 * k) 0) (get_or bytes (2 * k + 1) 0))
+      → ((k : ℕ) → k < 8 → EndsPair (get_or (p ∷ bs) (2 * k) 0) (get_or bs (2 * k) 0) (get_or bs (2 * k + 1) 0) (get_or bytes (2 * k) 0)
+      (get_or bytes (2 * k + 1) 0))
       → ((k : ℕ) → (get_or bs k 0 < 0xC0) ⊎ (get_or bs (k + 1) 0 < 0xC0)) → map (λ j. get_or bytes j 0) (kept_places 0 (both_end bs)) ≡ all_latin1_ended p bs
   kept_ends bytes pairs apart =
       let get : ℕ → ℕ = λ j. get_or bytes j 0 in
       pairs_kept get 8 bs p 0 (omega arith) (λ k l.
       let next : 2 * k + 1 ≡ suc (2 * k) = omega arith in
       let place : 2 * k ≡ 0 + 2 * k = omega arith in
-      subst (λ j. PairAt get p bs j (2 * k)) place (subst (λ j. cond (nat_lt (get_or bs (2 * k) 0) 0xC0 && nat_lt (get_or bs j 0) 0xC0) (get (2 * k) ∷ get (2 * k + 1) ∷ []) (get (2 * k) ∷ [])
+      subst (λ j. PairAt get p bs j (2 * k)) place
+      (subst (λ j. cond (nat_lt (get_or bs (2 * k) 0) 0xC0 && nat_lt (get_or bs j 0) 0xC0) (get (2 * k) ∷ get (2 * k + 1) ∷ []) (get (2 * k) ∷ [])
       ≡ latin1_ended (get_or (p ∷ bs) (2 * k) 0) (get_or bs (2 * k) 0) ++ latin1_ended (get_or bs (2 * k) 0) (get_or bs j 0)) next (pairs k l (apart (2 * k)))))
 
 -- ---- how many the first bytes end

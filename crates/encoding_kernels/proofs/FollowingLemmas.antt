@@ -39,7 +39,8 @@ module _ (bs : List ℕ) (at : ℕ) where
 abbrev IsStep : List ℕ → ℕ → ℕ → Type 0
 IsStep bs n at = (k : ℕ) × (0 < k) × (at + k ≤ n) × IsClosedAt bs (at + k) × IsSequence (take k (drop at bs))
 
-module _ (bs : List ℕ) (n at : ℕ) (within : n ≤ length bs) (end : IsClosedAt bs n) (follows : (i : ℕ) → at ≤ i → i < n → IsValidAt bs i) (closed : IsClosedAt bs at) where
+module _ (bs : List ℕ) (n at : ℕ) (within : n ≤ length bs) (end : IsClosedAt bs n) (follows : (i : ℕ) → at ≤ i → i < n → IsValidAt bs i)
+    (closed : IsClosedAt bs at) where
   -- no character is cut before n, so the next byte is before n too
   next : (i : ℕ) → i ≤ n → (IsClosedAt bs i → ⊥) → i < n
   next i le cut = elim (cases_lt i n) [ inl l ↦ l | inr g ↦ (let e : n ≡ i = omega arith in absurd (cut (subst (IsClosedAt bs) e end))) ]
@@ -47,14 +48,17 @@ module _ (bs : List ℕ) (n at : ℕ) (within : n ≤ length bs) (end : IsClosed
   to : (k m : ℕ) → m ≡ at + k → 0 < k → m ≤ n → IsClosedAt bs m → IsSequence (take k (drop at bs)) → IsStep bs n at
   to k m e pos le c s = (k, pos, omega arith, subst (IsClosedAt bs) e c, s)
 
-  fourth_byte : 0xF0 ≤ get_or bs at 0 → IsSecond (get_or bs at 0) (get_or bs (suc at) 0) → IsContinuation (get_or bs (suc (suc at)) 0) → suc (suc at) < n → IsStep bs n at
+  fourth_byte : 0xF0 ≤ get_or bs at 0 → IsSecond (get_or bs at 0) (get_or bs (suc at) 0) → IsContinuation (get_or bs (suc (suc at)) 0)
+      → suc (suc at) < n → IsStep bs n at
   fourth_byte h s c l =
       let l3 = next (suc (suc (suc at))) (omega arith) (λ q. omega arith) in
       let f = follows (suc (suc (suc at))) (omega arith) l3 in
       let d = f.fourth h in
       let most = second_most _ _ s in
       to 4 (suc (suc (suc (suc at)))) (omega arith) (omega arith) (omega arith) (omega arith, omega arith, omega arith)
-      (subst IsSequence (sym (take_four bs at (omega arith))) (IsSequence-HasShape (get_or bs at 0 ∷ get_or bs (suc at) 0 ∷ get_or bs (suc (suc at)) 0 ∷ get_or bs (suc (suc (suc at))) 0 ∷ []) (h, s.1, second_from _ _ s, c, d)))
+      (subst IsSequence (sym (take_four bs at (omega arith)))
+      (IsSequence-HasShape (get_or bs at 0 ∷ get_or bs (suc at) 0 ∷ get_or bs (suc (suc at)) 0 ∷ get_or bs (suc (suc (suc at))) 0 ∷ [])
+      (h, s.1, second_from _ _ s, c, d)))
 
   third_byte : 0xE0 ≤ get_or bs at 0 → IsSecond (get_or bs at 0) (get_or bs (suc at) 0) → suc at < n → IsStep bs n at
   third_byte h s l =
@@ -64,7 +68,8 @@ module _ (bs : List ℕ) (n at : ℕ) (within : n ≤ length bs) (end : IsClosed
       let most = second_most _ _ s in
       elim (cases_lt (get_or bs at 0) 0xF0) [
         | inl short ↦ to 3 (suc (suc (suc at))) (omega arith) (omega arith) (omega arith) (omega arith, omega arith, omega arith)
-            (subst IsSequence (sym (take_three bs at (omega arith))) (IsSequence-HasShape (get_or bs at 0 ∷ get_or bs (suc at) 0 ∷ get_or bs (suc (suc at)) 0 ∷ []) (h, omega arith, second_from _ _ s, c)))
+            (subst IsSequence (sym (take_three bs at (omega arith)))
+            (IsSequence-HasShape (get_or bs at 0 ∷ get_or bs (suc at) 0 ∷ get_or bs (suc (suc at)) 0 ∷ []) (h, omega arith, second_from _ _ s, c)))
         | inr long ↦ fourth_byte long s c l2
       ]
 
@@ -76,7 +81,8 @@ module _ (bs : List ℕ) (n at : ℕ) (within : n ≤ length bs) (end : IsClosed
       let most = second_most _ _ s in
       elim (cases_lt (get_or bs at 0) 0xE0) [
         | inl short ↦ to 2 (suc (suc at)) (omega arith) (omega arith) (omega arith) (omega arith, omega arith, omega arith)
-            (subst IsSequence (sym (take_two bs at (omega arith))) (IsSequence-HasShape (get_or bs at 0 ∷ get_or bs (suc at) 0 ∷ []) (s.0, omega arith, second_two_from _ _ s short)))
+            (subst IsSequence (sym (take_two bs at (omega arith)))
+            (IsSequence-HasShape (get_or bs at 0 ∷ get_or bs (suc at) 0 ∷ []) (s.0, omega arith, second_two_from _ _ s short)))
         | inr long ↦ third_byte long s l1
       ]
 
@@ -115,12 +121,16 @@ moved {x} {y} {a} {b} {x2} {y2} {a2} {b2} p q r s f =
     subst (λ k. IsValidAfter k y2 a2 b2) p (subst (λ k. IsValidAfter x k a2 b2) q (subst (λ k. IsValidAfter x y k b2) r (subst (IsValidAfter x y a) s f)))
 
 -- lanes of four loads
-pub IsValidAt-loads : (n : ℕ) (bs : List ℕ) (at i : ℕ) → 3 ≤ at → i < n → IsValidAfter (get_or (chunk (at - 3) n bs) i 0) (get_or (chunk (at - 2) n bs) i 0) (get_or (chunk (at - 1) n bs) i 0) (get_or (chunk at n bs) i 0)
+pub IsValidAt-loads : (n : ℕ) (bs : List ℕ) (at i : ℕ) → 3 ≤ at → i < n
+    → IsValidAfter (get_or (chunk (at - 3) n bs) i 0) (get_or (chunk (at - 2) n bs) i 0) (get_or (chunk (at - 1) n bs) i 0) (get_or (chunk at n bs) i 0)
     → IsValidAt bs (at + i)
 IsValidAt-loads n bs at i h l f =
-    let x : get_or (chunk (at - 3) n bs) i 0 ≡ get_or (0 ∷ 0 ∷ 0 ∷ bs) (at + i) 0 = get_or-chunk (at - 3) n bs i 0 l ∙ ap (λ k. get_or bs k 0) (omega arith) ∙ sym (three_before bs (at + i) (omega arith)) in
-    let y : get_or (chunk (at - 2) n bs) i 0 ≡ get_or (0 ∷ 0 ∷ bs) (at + i) 0 = get_or-chunk (at - 2) n bs i 0 l ∙ ap (λ k. get_or bs k 0) (omega arith) ∙ sym (two_before bs (at + i) (omega arith)) in
-    let a : get_or (chunk (at - 1) n bs) i 0 ≡ get_or (0 ∷ bs) (at + i) 0 = get_or-chunk (at - 1) n bs i 0 l ∙ ap (λ k. get_or bs k 0) (omega arith) ∙ sym (one_before bs (at + i) (omega arith)) in
+    let x : get_or (chunk (at - 3) n bs) i 0 ≡ get_or (0 ∷ 0 ∷ 0 ∷ bs) (at + i) 0 = get_or-chunk (at - 3) n bs i 0 l ∙ ap (λ k. get_or bs k 0) (omega arith)
+    ∙ sym (three_before bs (at + i) (omega arith)) in
+    let y : get_or (chunk (at - 2) n bs) i 0 ≡ get_or (0 ∷ 0 ∷ bs) (at + i) 0 = get_or-chunk (at - 2) n bs i 0 l ∙ ap (λ k. get_or bs k 0) (omega arith)
+    ∙ sym (two_before bs (at + i) (omega arith)) in
+    let a : get_or (chunk (at - 1) n bs) i 0 ≡ get_or (0 ∷ bs) (at + i) 0 = get_or-chunk (at - 1) n bs i 0 l ∙ ap (λ k. get_or bs k 0) (omega arith)
+    ∙ sym (one_before bs (at + i) (omega arith)) in
     let b : get_or (chunk at n bs) i 0 ≡ get_or bs (at + i) 0 = get_or-chunk at n bs i 0 l in
     moved x y a b f
 
@@ -157,7 +167,8 @@ pub ValidUpTo_over : (bs : List ℕ) (at from n : ℕ) → from ≤ at → Valid
 ValidUpTo_over bs at from n h prefix more = ValidUpTo-more bs from n (record { each = λ i l. prefix.each i (omega arith) }) more
 
 -- two blocks
-pub follows_two : (bs : List ℕ) (at : ℕ) → ((i : ℕ) → i < 32 → IsValidAt bs (at + i)) → ((i : ℕ) → i < 32 → IsValidAt bs (at + 32 + i)) → ValidUpTo bs at → ValidUpTo bs (at + 64)
+pub follows_two : (bs : List ℕ) (at : ℕ) → ((i : ℕ) → i < 32 → IsValidAt bs (at + i)) → ((i : ℕ) → i < 32 → IsValidAt bs (at + 32 + i)) → ValidUpTo bs at
+    → ValidUpTo bs (at + 64)
 follows_two bs at a b prefix =
     let e : at + 32 + 32 ≡ at + 64 = omega arith in
     subst (ValidUpTo bs) e (ValidUpTo-more bs (at + 32) 32 (ValidUpTo-more bs at 32 prefix a) b)
@@ -212,13 +223,25 @@ ValidUpTo_ascii_prefix bs n ascii = ValidUpTo-ascii bs 0 n (ValidUpTo-none bs) (
 -- before a byte that continues no character
 closed_before : (bs : List ℕ) (i : ℕ) → IsValidAt bs i → 0xC0 ≤ get_or bs i 0 → IsClosedAt bs i
 closed_before bs i f h =
-    let x : get_or (0 ∷ 0 ∷ 0 ∷ bs) i 0 < 0xF0 = elim (cases_lt (get_or (0 ∷ 0 ∷ 0 ∷ bs) i 0) 0xF0) [ inl l ↦ l | inr g ↦ (let s = f.fourth g in absurd (omega arith)) ] in
-    let y : get_or (0 ∷ 0 ∷ bs) i 0 < 0xE0 = elim (cases_lt (get_or (0 ∷ 0 ∷ bs) i 0) 0xE0) [ inl l ↦ l | inr g ↦ (let s = f.third g in absurd (omega arith)) ] in
-    let a : get_or (0 ∷ bs) i 0 < 0xC0 = elim (cases_lt (get_or (0 ∷ bs) i 0) 0xC0) [ inl l ↦ l | inr g ↦ (let s = second_most _ _ (f.second g) in absurd (omega arith)) ] in
+    let x : get_or (0 ∷ 0 ∷ 0 ∷ bs) i 0 < 0xF0 =
+    elim (cases_lt (get_or (0 ∷ 0 ∷ 0 ∷ bs) i 0) 0xF0) [ inl l ↦ l | inr g ↦ (let s = f.fourth g in absurd (omega arith)) ] in
+    let y : get_or (0 ∷ 0 ∷ bs) i 0 < 0xE0 =
+    elim (cases_lt (get_or (0 ∷ 0 ∷ bs) i 0) 0xE0) [ inl l ↦ l | inr g ↦ (let s = f.third g in absurd (omega arith)) ] in
+    let a : get_or (0 ∷ bs) i 0 < 0xC0 =
+    elim (cases_lt (get_or (0 ∷ bs) i 0) 0xC0) [ inl l ↦ l | inr g ↦ (let s = second_most _ _ (f.second g) in absurd (omega arith)) ] in
     (x, y, a)
 
-pub IsClosedAt_tests : (bs : List ℕ) (at : ℕ) → 3 ≤ at → get_or bs (at - 1) 0 < 0xC0 → get_or bs (at - 2) 0 < 0xE0 → get_or bs (at - 3) 0 < 0xF0 → IsClosedAt bs at
-IsClosedAt_tests bs at h a y x = (omega (arith, three_before bs at h), omega (arith, two_before bs at (omega arith)), omega (arith, one_before bs at (omega arith)))
+pub IsClosedAt_tests : (bs : List ℕ) (at : ℕ) → 3 ≤ at → get_or bs (at - 1) 0 < 0xC0 → get_or bs (at - 2) 0 < 0xE0
+    → get_or bs (at - 3) 0 < 0xF0 → IsClosedAt bs at
+IsClosedAt_tests bs at h a y x = (
+  omega (arith, three_before bs at h),
+  omega (
+    arith,
+    two_before bs at
+        (omega arith),
+  ),
+  omega (arith, one_before bs at (omega arith)),
+)
 
 pub IsUtf8_closed : (bs : List ℕ) (n : ℕ) → n ≤ length bs → ValidUpTo bs n → IsClosedAt bs n → IsUtf8 (take n bs)
 IsUtf8_closed bs n within f c = IsUtf8_following bs n within c n 0 (omega arith) (omega arith) (λ i _ l. f.each i l) (IsClosedAt-start bs) IsUtf8-nil
@@ -230,4 +253,5 @@ IsUtf8_before bs n i within l f h = IsUtf8_closed bs i (omega arith) (ValidUpTo_
 -- an ASCII prefix
 pub IsUtf8_ascii_prefix : (bs : List ℕ) (n : ℕ) → n ≤ length bs → ((i : ℕ) → i < n → get_or bs i 0 < 0x80) → IsUtf8 (take n bs)
 IsUtf8_ascii_prefix bs n within ascii =
-    IsUtf8_closed bs n within (ValidUpTo_ascii_prefix bs n ascii) (IsClosedAt-ascii bs 0 n (omega arith) (IsClosedAt-start bs) (record { each = λ i _ l. ascii i l }))
+    IsUtf8_closed bs n within (ValidUpTo_ascii_prefix bs n ascii)
+    (IsClosedAt-ascii bs 0 n (omega arith) (IsClosedAt-start bs) (record { each = λ i _ l. ascii i l }))

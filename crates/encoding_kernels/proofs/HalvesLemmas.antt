@@ -9,7 +9,8 @@ use Rattle.std.specs.List.{range_with_len}
 use Rattle.std.specs.Simd.Lanes.{pick_l}
 use Rattle.encoding_kernels.proofs.UnitLanesLemmas.{picked_lanes}
 
-module _ (bytes first second : List ℕ) (p : length first ≡ 16) (q : length second ≡ 16) (small : (k : ℕ) → k < 16 → (get_or first k 0 < 16) × (get_or second k 0 < 16)) where
+module _ (bytes first second : List ℕ) (p : length first ≡ 16) (q : length second ≡ 16) (small : (k : ℕ) → k < 16
+    → (get_or first k 0 < 16) × (get_or second k 0 < 16)) where
   abbrev places : List ℕ
   places = pick_l 0 (first ++ second) (range_with_len 0 32)
 
@@ -42,7 +43,8 @@ module _ (bytes first second : List ℕ) (p : length first ≡ 16) (q : length s
   ]
 
   pub halves_ok : SwzOk w8 16 32 0 places
-  halves_ok = SwzOk-from_below w8 16 2 32 0 places refl (omega (arith, places_long)) (Each1-from_get_or (λ j. j < 16) places 0 (λ k l. below k (omega (arith, places_long))))
+  halves_ok = SwzOk-from_below w8 16 2 32 0 places refl (omega (arith, places_long))
+      (Each1-from_get_or (λ j. j < 16) places 0 (λ k l. below k (omega (arith, places_long))))
 
   selected_at : (k : ℕ) → k < 32 → get_or selected k 0 ≡ get_or bytes (16 * (k / 16) + get_or places k 0) 0
   selected_at k l =
@@ -55,7 +57,8 @@ module _ (bytes first second : List ℕ) (p : length first ≡ 16) (q : length s
       ∙ ap (λ j. get_or (selected ++ selected) j 0) (get_or-range_with_len h 16 k 0 l)
       ∙ get_or_append_left selected selected 0 (h + k) (omega (arith, length-swz_l w8 16 bytes 0 places, places_long))
 
-  half_is : (h : ℕ) (source : List ℕ) (get : ℕ → ℕ) → h + 16 ≤ 32 → length source ≡ 16 → ((k : ℕ) → k < 16 → get_or selected (h + k) 0 ≡ get (get_or source k 0))
+  half_is : (h : ℕ) (source : List ℕ) (get : ℕ → ℕ) → h + 16 ≤ 32 → length source ≡ 16
+      → ((k : ℕ) → k < 16 → get_or selected (h + k) 0 ≡ get (get_or source k 0))
       → pick_l 0 (selected ++ selected) (range_with_len h 16) ≡ map get source
   half_is h source get room long is =
       let size = (picked_lanes 16 (selected ++ selected) (range_with_len h 16) (length-range_with_len h 16)).long in

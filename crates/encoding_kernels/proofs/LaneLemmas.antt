@@ -27,7 +27,8 @@ pub whole_chunk : {X : Type 0} (n : ℕ) (stride : List X) → length stride ≡
 whole_chunk n stride long = take_all n stride (omega (arith, long))
 
 -- a vector read from the same index of another list, each lane cast to what holds it
-pub put_same_place : {X : Type 0} (at n : ℕ) (xs ys : List X) → at + n ≤ length ys → at + n ≤ length xs → put_chunk at xs (map (λ x. x) (chunk at n ys)) ≡ take at xs ++ (take n (drop at ys) ++ drop (at + n) xs)
+pub put_same_place : {X : Type 0} (at n : ℕ) (xs ys : List X) → at + n ≤ length ys → at + n ≤ length xs
+    → put_chunk at xs (map (λ x. x) (chunk at n ys)) ≡ take at xs ++ (take n (drop at ys) ++ drop (at + n) xs)
 put_same_place at n xs ys within room = ap (put_chunk at xs) (map-id (chunk at n ys)) ∙ put_is at n xs (chunk at n ys) (length-chunk at n ys within) room
 
 -- a stored vector whose first lanes count: the list before their end, and from a vector's width after it
@@ -40,27 +41,33 @@ put_prefix w xs ys at n long few room =
       take-add at n (put_chunk at xs ys) ∙ (λ i. take at (is i) ++ take n (drop at (is i)))
           ∙ (λ i. take_at (take at xs) (ys ++ drop (at + w) xs) at start i ++ take n (drop_at (take at xs) (ys ++ drop (at + w) xs) at start i))
           ∙ ap (λ zs. take at xs ++ zs) (take-append-le n ys (drop (at + w) xs) (omega arith)),
-      ap (drop (at + n + w)) (is ∙ sym (append_assoc (take at xs) ys (drop (at + w) xs))) ∙ drop-append-drop (at + w) xs (take at xs ++ ys) (at + n + w) (omega arith) both,
+      ap (drop (at + n + w)) (is ∙ sym (append_assoc (take at xs) ys (drop (at + w) xs)))
+          ∙ drop-append-drop (at + w) xs (take at xs ++ ys) (at + n + w) (omega arith) both,
     )
 
 -- what is written back after `count` bytes, of which some may have changed
-pub put_back : (w : ℕ) (old mid : List ℕ) (count : ℕ) → count + w ≤ length old → length mid ≡ length old → drop (count + w) mid ≡ drop (count + w) old → put_chunk count mid (chunk count w old) ≡ take count mid ++ drop count old
+pub put_back : (w : ℕ) (old mid : List ℕ) (count : ℕ) → count + w ≤ length old → length mid ≡ length old → drop (count + w) mid ≡ drop (count + w) old
+    → put_chunk count mid (chunk count w old) ≡ take count mid ++ drop count old
 put_back w old mid count room long rest =
     put_is count w mid (chunk count w old) (length-chunk count w old room) (omega arith)
     ∙ (λ i. take count mid ++ (chunk count w old ++ (rest ∙ sym (drop-drop w count old)) i))
     ∙ ap (λ xs. take count mid ++ xs) (take-append-drop w (drop count old))
 
 -- what is copied to the same indices, and what is copied after it
-pub copied_after : {X : Type 0} (at n m : ℕ) (xs ys first second : List X) → at + (n + m) ≤ length ys → at + (n + m) ≤ length xs → first ≡ take at xs ++ (take n (drop at ys) ++ drop (at + n) xs)
-    → second ≡ take (at + n) first ++ (take m (drop (at + n) ys) ++ drop (at + n + m) first) → second ≡ take at xs ++ (take (n + m) (drop at ys) ++ drop (at + (n + m)) xs)
+pub copied_after : {X : Type 0} (at n m : ℕ) (xs ys first second : List X) → at + (n + m) ≤ length ys → at + (n + m) ≤ length xs
+    → first ≡ take at xs ++ (take n (drop at ys) ++ drop (at + n) xs)
+    → second ≡ take (at + n) first ++ (take m (drop (at + n) ys) ++ drop (at + n + m) first)
+    → second ≡ take at xs ++ (take (n + m) (drop at ys) ++ drop (at + (n + m)) xs)
 copied_after at n m xs ys first second within room is then =
     let part = take n (drop at ys) in
     let done = take at xs ++ part in
     let size : length done ≡ at + n = omega (arith, length-append (take at xs) part, length-take at xs, length-take n (drop at ys), length-drop at ys) in
     let stored : first ≡ done ++ drop (at + n) xs = is ∙ sym (append_assoc (take at xs) part (drop (at + n) xs)) in
     let before : take (at + n) first ≡ done = ap (take (at + n)) stored ∙ take_at done (drop (at + n) xs) (at + n) size in
-    let past : drop (at + n + m) first ≡ drop (at + n + m) xs = ap (drop (at + n + m)) stored ∙ drop-append-drop (at + n) xs done (at + n + m) (omega arith) size in
-    let both : part ++ take m (drop (at + n) ys) ≡ take (n + m) (drop at ys) = ap (λ zs. part ++ take m zs) (sym (drop-drop n at ys)) ∙ sym (take-add n m (drop at ys)) in
+    let past : drop (at + n + m) first ≡ drop (at + n + m) xs = ap (drop (at + n + m)) stored
+    ∙ drop-append-drop (at + n) xs done (at + n + m) (omega arith) size in
+    let both : part ++ take m (drop (at + n) ys) ≡ take (n + m) (drop at ys) = ap (λ zs. part ++ take m zs) (sym (drop-drop n at ys))
+    ∙ sym (take-add n m (drop at ys)) in
     let place : at + n + m ≡ at + (n + m) = omega arith in
     then
     ∙ (λ i. before i ++ (take m (drop (at + n) ys) ++ past i))
@@ -95,7 +102,8 @@ HasLanes-numbers n = record { long = length-range_with_len 0 n; each = λ k l. l
 
 -- two functions have the same values below a bound, if all of them compute to the same
 pub same_below : {X : Type 0} (f g : ℕ → X) (d : X) (n : ℕ) → map f (range_with_len 0 n) ≡ map g (range_with_len 0 n) → (k : ℕ) → k < n → f k ≡ g k
-same_below f g d n e k l = sym (get_or-map-range_with_len f 0 n k k d l (omega arith)) ∙ ap (λ xs. get_or xs k d) e ∙ get_or-map-range_with_len g 0 n k k d l (omega arith)
+same_below f g d n e k l = sym (get_or-map-range_with_len f 0 n k k d l (omega arith)) ∙ ap (λ xs. get_or xs k d) e
+    ∙ get_or-map-range_with_len g 0 n k k d l (omega arith)
 
 -- a stride, read whole
 pub HasLanes-whole : (n : ℕ) (xs : List ℕ) → length xs ≡ n → HasLanes n (chunk 0 n xs) (λ k. get_or xs k 0)
@@ -178,7 +186,8 @@ module _ (h : ℕ) {n : ℕ} {a : List ℕ} {f : ℕ → ℕ} (lanes : HasLanes 
       record {
         within = bound;
         before = λ k l. sym (at_lane k (omega arith)) ∙ not-true _ (prefix_len_passes (λ x. not (top h x)) a k 0 (omega (arith, e)));
-        found = λ l. sym (at_lane r l) ∙ ap (λ j. top h (get_or a j 0)) e ∙ not-false _ (prefix_len_stops (λ x. not (top h x)) a 0 (omega (arith, e, lanes.long)));
+        found = λ l. sym (at_lane r l) ∙ ap (λ j. top h (get_or a j 0)) e
+            ∙ not-false _ (prefix_len_stops (λ x. not (top h x)) a 0 (omega (arith, e, lanes.long)));
       }
 
   -- if `mask.to_bitmask()` is 0
@@ -195,21 +204,26 @@ pub firsts_are : (n count : ℕ) (lanes following z : List ℕ) → length lanes
     → HasLanes n z (λ k. cond (ltb k count) (get_or lanes k 0) (get_or following k 0)) → z ≡ take count lanes ++ drop count following
 firsts_are n count lanes following z p q few h =
     let prefix : length (take count lanes) ≡ count = length-take-le count lanes (omega arith) in
-    same_number_lists z (take count lanes ++ drop count following) (omega (arith, h.long, length-append (take count lanes) (drop count following), length-drop count following)) (λ k l.
+    same_number_lists z (take count lanes ++ drop count following)
+    (omega (arith, h.long, length-append (take count lanes) (drop count following), length-drop count following)) (λ k l.
     let within : k < n = omega (arith, h.long) in
     h.each k within ∙ elim (cases_lt k count) [
-      | inl a ↦ cond-true _ _ _ (lt-ltb k count a) ∙ sym (get_or_append_left (take count lanes) (drop count following) 0 k (omega arith) ∙ get_or-take count lanes k 0 a)
+      | inl a ↦ cond-true _ _ _ (lt-ltb k count a) ∙ sym (get_or_append_left (take count lanes) (drop count following) 0 k (omega arith)
+          ∙ get_or-take count lanes k 0 a)
       | inr b ↦
           let back : count + (k - count) ≡ k = omega arith in
-          cond-false _ _ _ (le-ltb k count b) ∙ sym (get_or-append_right (take count lanes) (drop count following) count k 0 prefix b ∙ get_or-drop count following (k - count) 0 ∙ ap (λ j. get_or following j 0) back)
+          cond-false _ _ _ (le-ltb k count b) ∙ sym (get_or-append_right (take count lanes) (drop count following) count k 0 prefix b
+          ∙ get_or-drop count following (k - count) 0 ∙ ap (λ j. get_or following j 0) back)
     ])
 
 pub put_firsts : (at n count : ℕ) (xs lanes z : List ℕ) → at + n ≤ length xs → length lanes ≡ n → count ≤ n
-    → HasLanes n z (λ k. cond (ltb k count) (get_or lanes k 0) (get_or (chunk at n xs) k 0)) → put_chunk at xs z ≡ take at xs ++ (take count lanes ++ drop (at + count) xs)
+    → HasLanes n z (λ k. cond (ltb k count) (get_or lanes k 0) (get_or (chunk at n xs) k 0))
+    → put_chunk at xs z ≡ take at xs ++ (take count lanes ++ drop (at + count) xs)
 put_firsts at n count xs lanes z room p few h =
     let long = length-chunk at n xs room in
     let following = chunk at n xs in
     let is = firsts_are n count lanes following z p long few h in
     let rest : drop count following ++ drop (at + n) xs ≡ drop (at + count) xs =
     sym (drop-append-le count following (drop (at + n) xs) (omega arith)) ∙ ap (drop count) (sym (chunk-drop at n xs)) ∙ drop-drop count at xs in
-    put_is at n xs z h.long room ∙ ap (λ ys. take at xs ++ (ys ++ drop (at + n) xs)) is ∙ ap (λ ys. take at xs ++ ys) (append_assoc (take count lanes) (drop count following) (drop (at + n) xs) ∙ ap (λ ys. take count lanes ++ ys) rest)
+    put_is at n xs z h.long room ∙ ap (λ ys. take at xs ++ (ys ++ drop (at + n) xs)) is
+    ∙ ap (λ ys. take at xs ++ ys) (append_assoc (take count lanes) (drop count following) (drop (at + n) xs) ∙ ap (λ ys. take count lanes ++ ys) rest)

@@ -35,7 +35,9 @@ first_small b l = grind (arith, nat_tests)
 
 -- ---- lanes
 module _ (v : List ℕ) (long : length v ≡ 16) (small : (k : ℕ) → k < 16 → get_or v k 0 < 0x100) where
-  pub first_lanes : HasLanes 16 (sel_l (map (top 7) (zip2 (compared w8 leb) (replicate 16 0x80) v)) (zip2 (λ a b. (a + b) % 2 ^ 8) (zip2 (λ a b. a / 2 ^ b) v (replicate 16 6)) (replicate 16 0xC0)) v) (λ k. first_of (get_or v k 0))
+  pub first_lanes : HasLanes 16
+      (sel_l (map (top 7) (zip2 (compared w8 leb) (replicate 16 0x80) v))
+      (zip2 (λ a b. (a + b) % 2 ^ 8) (zip2 (λ a b. a / 2 ^ b) v (replicate 16 6)) (replicate 16 0xC0)) v) (λ k. first_of (get_or v k 0))
   first_lanes =
       let lanes = HasLanes-itself 16 v long in
       let lead = HasLanes-zip2 (λ a b. (a + b) % 2 ^ 8) (HasLanes-zip2 (λ a b. a / 2 ^ b) lanes (HasLanes-splat 16 6)) (HasLanes-splat 16 0xC0) in
@@ -45,7 +47,8 @@ module _ (v : List ℕ) (long : length v ≡ 16) (small : (k : ℕ) → k < 16 �
   second_lanes = HasLanes-zip2 (λ a b. (a + b) % 2 ^ 8) (HasLanes-zip2 bit_and (HasLanes-itself 16 v long) (HasLanes-splat 16 0x3F)) (HasLanes-splat 16 0x80)
 
   -- words of both bytes, as bytes
-  pub latin_pairs : (lower upper words : List ℕ) (at : ℕ → ℕ) → ((k : ℕ) → k < 8 → at k < 16) → HasLanes 16 lower (λ k. first_of (get_or v k 0)) → HasLanes 16 upper (λ k. second_of (get_or v k 0))
+  pub latin_pairs : (lower upper words : List ℕ) (at : ℕ → ℕ) → ((k : ℕ) → k < 8 → at k < 16) → HasLanes 16 lower (λ k. first_of (get_or v k 0))
+      → HasLanes 16 upper (λ k. second_of (get_or v k 0))
       → HasLanes 8 words (λ k. get_or lower (at k) 0 + 0x100 * get_or upper (at k) 0) → (k : ℕ) → k < 8
       → EncodesTo (get_or v (at k) 0) (get_or (bytes_of words) (2 * k) 0) (get_or (bytes_of words) (2 * k + 1) 0)
   latin_pairs lower upper words at inside low high is k l =
@@ -63,7 +66,8 @@ module _ (v : List ℕ) (long : length v ≡ 16) (others : ℕ) (is : others ≡
   marks_long = length-map v (nat_le 0x80) ∙ long
 
   pub others_small : others / 256 < 256
-  others_small = let bound : mask_l (map (nat_le 0x80) v) < 2 ^ 16 = subst (λ n. mask_l (map (nat_le 0x80) v) < 2 ^ n) marks_long (mask_l-lt (map (nat_le 0x80) v)) in
+  others_small = let bound : mask_l (map (nat_le 0x80) v) < 2 ^ 16 =
+      subst (λ n. mask_l (map (nat_le 0x80) v) < 2 ^ n) marks_long (mask_l-lt (map (nat_le 0x80) v)) in
       omega (arith, is)
 
   pub low_others : bit_and others 255 ≡ mask_l (map (nat_le 0x80) (take 8 v))
@@ -73,17 +77,21 @@ module _ (v : List ℕ) (long : length v ≡ 16) (others : ℕ) (is : others ≡
   high_others = ap (λ m. m / 256) is ∙ high_half (map (nat_le 0x80) v) marks_long ∙ ap mask_l (drop-map (nat_le 0x80) 8 v)
 
   -- the UTF-8 of both halves, given what any tests keep of their pairs
-  pub latin_spelled : (low high first second : List ℕ) (count more : ℕ) → ((k : ℕ) → k < 8 → EncodesTo (get_or v k 0) (get_or low (2 * k) 0) (get_or low (2 * k + 1) 0))
+  pub latin_spelled : (low high first second : List ℕ) (count more : ℕ)
+      → ((k : ℕ) → k < 8 → EncodesTo (get_or v k 0) (get_or low (2 * k) 0) (get_or low (2 * k + 1) 0))
       → ((k : ℕ) → k < 8 → EncodesTo (get_or v (8 + k) 0) (get_or high (2 * k) 0) (get_or high (2 * k + 1) 0))
       → ((tests : List Bool) → length tests ≡ 8 → bit_and others 255 ≡ mask_l tests → take count first ≡ map (λ k. get_or low k 0) (kept_places 0 tests))
-      → ((tests : List Bool) → length tests ≡ 8 → others / 256 ≡ mask_l tests → take more second ≡ map (λ k. get_or high k 0) (kept_places 0 tests)) → take count first ++ take more second ≡ encode_utf8_all v
+      → ((tests : List Bool) → length tests ≡ 8 → others / 256 ≡ mask_l tests → take more second ≡ map (λ k. get_or high k 0) (kept_places 0 tests))
+      → take count first ++ take more second ≡ encode_utf8_all v
   latin_spelled low high first second count more p q kept keeps =
       let low_long : length (take 8 v) ≡ 8 = length-take-le 8 v (omega (arith, long)) in
       let high_long : length (drop 8 v) ≡ 8 = omega (arith, long, length-drop 8 v) in
       let prefix = kept (map (nat_le 0x80) (take 8 v)) (length-map (take 8 v) (nat_le 0x80) ∙ low_long) low_others
-      ∙ spelled_short (take 8 v) low low_long (λ k l. subst (λ b. EncodesTo b (get_or low (2 * k) 0) (get_or low (2 * k + 1) 0)) (sym (get_or-take 8 v k 0 l)) (p k l)) in
+      ∙ spelled_short (take 8 v) low low_long (λ k l. subst (λ b. EncodesTo b (get_or low (2 * k) 0) (get_or low (2 * k + 1) 0))
+      (sym (get_or-take 8 v k 0 l)) (p k l)) in
       let back = keeps (map (nat_le 0x80) (drop 8 v)) (length-map (drop 8 v) (nat_le 0x80) ∙ high_long) high_others
-      ∙ spelled_short (drop 8 v) high high_long (λ k l. subst (λ b. EncodesTo b (get_or high (2 * k) 0) (get_or high (2 * k + 1) 0)) (sym (get_or-drop 8 v k 0)) (q k l)) in
+      ∙ spelled_short (drop 8 v) high high_long (λ k l. subst (λ b. EncodesTo b (get_or high (2 * k) 0) (get_or high (2 * k + 1) 0))
+      (sym (get_or-drop 8 v k 0)) (q k l)) in
       (λ i. prefix i ++ back i) ∙ sym (encodes-append (take 8 v) (drop 8 v)) ∙ ap encode_utf8_all (take-append-drop 8 v)
 
 -- ---- how long the UTF-8 is

@@ -16,7 +16,10 @@ use Rattle.encoding_kernels.proofs.WordLemmas.{bytes_of, bytes_lanes}
 
 -- ---- the test
 pub all_long : (us : List ℕ) → length us ≡ 16 → Each1 (Fits w16) us
-    → IsTrue (not (not (eqb (mask_of 15 (zip2 bit_or (zip2 (compared w16 eqb) (zip2 bit_and us (replicate 16 0xF800)) (replicate 16 0)) (zip2 (compared w16 eqb) (zip2 bit_and us (replicate 16 0xF800)) (replicate 16 0xD800)))) 0)))
+    → IsTrue
+    (not (not
+    (eqb (mask_of 15 (zip2 bit_or (zip2 (compared w16 eqb) (zip2 bit_and us (replicate 16 0xF800)) (replicate 16 0))
+    (zip2 (compared w16 eqb) (zip2 bit_and us (replicate 16 0xF800)) (replicate 16 0xD800)))) 0)))
     → (k : ℕ) → k < 16 → (0x800 ≤ get_or us k 0) × ((0xD800 ≤ get_or us k 0) × (get_or us k 0 ≤ 0xDFFF) → ⊥)
 all_long us long fit t k l =
     let x = get_or us k 0 in
@@ -40,8 +43,10 @@ three_spell : (get : ℕ → ℕ) (us : List ℕ) (at : ℕ)
 three_spell get [] at h = refl
 three_spell get (u ∷ us) at h =
     let first : at + 2 * 0 ≡ at = omega arith in
-    let here : (get at ∷ get (at + 1) ∷ get (at + 16) ∷ []) ≡ encode_utf8 u = subst (λ k. (get k ∷ get (k + 1) ∷ get (k + 16) ∷ []) ≡ encode_utf8 u) first (h 0 (omega arith)) in
-    let more : (k : ℕ) → k < length us → (get (at + 2 + 2 * k) ∷ get (at + 2 + 2 * k + 1) ∷ get (at + 2 + 2 * k + 16) ∷ []) ≡ encode_utf8 (get_or us k 0) = λ k l.
+    let here : (get at ∷ get (at + 1) ∷ get (at + 16) ∷ []) ≡ encode_utf8 u =
+    subst (λ k. (get k ∷ get (k + 1) ∷ get (k + 16) ∷ []) ≡ encode_utf8 u) first (h 0 (omega arith)) in
+    let more : (k : ℕ) → k < length us → (get (at + 2 + 2 * k) ∷ get (at + 2 + 2 * k + 1) ∷ get (at + 2 + 2 * k + 16) ∷ []) ≡ encode_utf8
+    (get_or us k 0) = λ k l.
     let e : at + 2 * suc k ≡ at + 2 + 2 * k = omega arith in
     subst (λ j. (get j ∷ get (j + 1) ∷ get (j + 16) ∷ []) ≡ encode_utf8 (get_or us k 0)) e (h (suc k) (omega arith)) in
     ap (λ r. get at ∷ get (at + 1) ∷ get (at + 16) ∷ r) (three_spell get us (at + 2) more) ∙ ap (λ xs. xs ++ encode_utf8_all us) here
@@ -71,7 +76,9 @@ two_lanes us long =
     let lanes = HasLanes-itself 8 us long in
     let add = λ (a b : ℕ). (a + b) % 2 ^ 16 in
     let lead = HasLanes-zip2 (λ a b. a / 2 ^ b) lanes (HasLanes-splat 8 12) in
-    let middle = HasLanes-zip2 (λ a b. a * 2 ^ b % 2 ^ 16) (HasLanes-zip2 bit_and (HasLanes-zip2 (λ a b. a / 2 ^ b) lanes (HasLanes-splat 8 6)) (HasLanes-splat 8 0x3F)) (HasLanes-splat 8 8) in
+    let middle =
+    HasLanes-zip2 (λ a b. a * 2 ^ b % 2 ^ 16) (HasLanes-zip2 bit_and (HasLanes-zip2 (λ a b. a / 2 ^ b) lanes (HasLanes-splat 8 6)) (HasLanes-splat 8 0x3F))
+    (HasLanes-splat 8 8) in
     HasLanes-zip2 add (HasLanes-zip2 add lead middle) (HasLanes-splat 8 0x80E0)
 
 last_lanes : (us : List ℕ) → length us ≡ 8 → HasLanes 8 (last_words us) (λ k. last_word (get_or us k 0))
@@ -104,12 +111,14 @@ pub two_puts : (at n m : ℕ) (xs first second : List ℕ) → at + (n + m) ≤ 
     → put_chunk (at + n) (put_chunk at xs first) second ≡ take at xs ++ ((first ++ second) ++ drop (at + (n + m)) xs)
 two_puts at n m xs first second room p q =
     let prefix : length (take at xs ++ first) ≡ at + n = omega (arith, length-append (take at xs) first, length-take-le at xs (omega arith)) in
-    let once : put_chunk at xs first ≡ (take at xs ++ first) ++ drop (at + n) xs = put_is at n xs first p (omega arith) ∙ sym (append_assoc (take at xs) first (drop (at + n) xs)) in
+    let once : put_chunk at xs first ≡ (take at xs ++ first) ++ drop (at + n) xs = put_is at n xs first p (omega arith)
+    ∙ sym (append_assoc (take at xs) first (drop (at + n) xs)) in
     let place : at + n + m ≡ at + (n + m) = omega arith in
     put_is (at + n) m (put_chunk at xs first) second q (omega (arith, length-put_chunk at xs first))
     ∙ (λ i. take (at + n) (once i) ++ (second ++ drop (at + n + m) (once i)))
     ∙ (λ i. take_at (take at xs ++ first) (drop (at + n) xs) (at + n) prefix i
-    ++ (second ++ (sym (drop-drop m (at + n) ((take at xs ++ first) ++ drop (at + n) xs)) ∙ ap (drop m) (drop_at (take at xs ++ first) (drop (at + n) xs) (at + n) prefix) ∙ drop-drop m (at + n) xs ∙ ap (λ k. drop k xs) place) i))
+    ++ (second ++ (sym (drop-drop m (at + n) ((take at xs ++ first) ++ drop (at + n) xs))
+    ∙ ap (drop m) (drop_at (take at xs ++ first) (drop (at + n) xs) (at + n) prefix) ∙ drop-drop m (at + n) xs ∙ ap (λ k. drop k xs) place) i))
     ∙ append_assoc (take at xs) first (second ++ drop (at + (n + m)) xs)
     ∙ ap (λ ys. take at xs ++ ys) (sym (append_assoc first second (drop (at + (n + m)) xs)))
 
@@ -119,4 +128,5 @@ module _ (us : List ℕ) (long : length us ≡ 16) where
   first_eight = pick_l_left 0 us us 16 (range_with_len 0 8) long tt ∙ pick_l-range_with_len 0 us 0 8 (omega arith)
 
   pub last_eight : pick_l 0 (us ++ us) (range_with_len 8 8) ≡ drop 8 us
-  last_eight = pick_l_left 0 us us 16 (range_with_len 8 8) long tt ∙ pick_l-range_with_len 0 us 8 8 (omega arith) ∙ take_all 8 (drop 8 us) (omega (arith, length-drop 8 us))
+  last_eight = pick_l_left 0 us us 16 (range_with_len 8 8) long tt ∙ pick_l-range_with_len 0 us 8 8 (omega arith)
+      ∙ take_all 8 (drop 8 us) (omega (arith, length-drop 8 us))

@@ -37,7 +37,8 @@ reported a h = (if bit_xor 0 (pair a h) == 0 then clear a h else true) && (if bi
 
 -- of all 256 bytes, with all 16 high nibbles of the following byte
 is_reported : (a h : ℕ) → a < 256 → h < 16 → reported a h ≡ true
-is_reported a h l k = same_below (reported a) (λ _. true) true 16 (same_below (λ x. map (reported x) (range_with_len 0 16)) (λ _. map (λ _. true) (range_with_len 0 16)) [] 256 refl a l) h k
+is_reported a h l k = same_below (reported a) (λ _. true) true 16
+    (same_below (λ x. map (reported x) (range_with_len 0 16)) (λ _. map (λ _. true) (range_with_len 0 16)) [] 256 refl a l) h k
 
 where_tested : (test inner : Bool) → (if test then inner else true) ≡ true → test ≡ true → inner ≡ true
 where_tested true inner e t = e
@@ -99,7 +100,8 @@ module _ (x y a b : ℕ) (X : x < 256) (Y : y < 256) (A : a < 256) (B : b < 256)
   on_whole p q = after_a_whole x y a b p q (is_clear a (b / 16) A half (rw (bit_7_unset (y - 0x60) (x - 0x70) (omega arith) (omega arith)) at zero_lane))
 
   on_part : (0xF0 ≤ x) ⊎ (0xE0 ≤ y) → IsValidAfter x y a b
-  on_part long = after_a_part x y a b long (is_continued a (b / 16) A half (rw (bit_7_set (y - 0x60) (x - 0x70) (omega arith) (omega arith) (either long)) at zero_lane))
+  on_part long = after_a_part x y a b long
+      (is_continued a (b / 16) A half (rw (bit_7_set (y - 0x60) (x - 0x70) (omega arith) (omega arith) (either long)) at zero_lane))
     where
       either : (0xF0 ≤ x) ⊎ (0xE0 ≤ y) → (0x80 ≤ y - 0x60) ⊎ (0x80 ≤ x - 0x70)
       either (inl p) = inr (omega arith)
@@ -188,7 +190,8 @@ greater xs ys = sel_l (map (top 7) (zip2 (compared w8 ltb) xs ys)) ys xs
 wrapping_less_is : (a b : ℕ) → a < 256 → b < 256 → wrapping_less (cond (ltb a b) b a) b ≡ a - b
 wrapping_less_is a b l k = grind (arith, nat_tests)
 
-difference : (n : ℕ) (xs : List ℕ) (y : ℕ) → IsLanes n xs → y < 256 → HasLanes n (zip2 wrapping_less (greater xs (replicate n y)) (replicate n y)) (λ k. get_or xs k 0 - y)
+difference : (n : ℕ) (xs : List ℕ) (y : ℕ) → IsLanes n xs → y < 256
+    → HasLanes n (zip2 wrapping_less (greater xs (replicate n y)) (replicate n y)) (λ k. get_or xs k 0 - y)
 difference n xs y is small =
     let X = HasLanes-itself n xs is.0 in
     let Y = HasLanes-splat n y in
@@ -197,12 +200,14 @@ difference n xs y is small =
 -- ---- the test
 abbrev pub pairs_of : ℕ → List ℕ → List ℕ → List ℕ
 pairs_of n a b = zip2 bit_and
-    (zip2 bit_and (swz_l w8 16 (chunk 0 n BYTE_1_HIGH) 0 (zip2 shifted_down a (replicate n 4))) (swz_l w8 16 (chunk 0 n BYTE_1_LOW) 0 (zip2 bit_and a (replicate n 15))))
+    (zip2 bit_and (swz_l w8 16 (chunk 0 n BYTE_1_HIGH) 0 (zip2 shifted_down a (replicate n 4)))
+    (swz_l w8 16 (chunk 0 n BYTE_1_LOW) 0 (zip2 bit_and a (replicate n 15))))
     (swz_l w8 16 (chunk 0 n BYTE_2_HIGH) 0 (zip2 shifted_down b (replicate n 4)))
 
 abbrev pub lanes : ℕ → List ℕ → List ℕ → List ℕ → List ℕ → List ℕ
 lanes n x y a b = zip2 bit_xor
-    (zip2 bit_and (zip2 bit_or (zip2 wrapping_less (greater y (replicate n 0x60)) (replicate n 0x60)) (zip2 wrapping_less (greater x (replicate n 0x70)) (replicate n 0x70))) (replicate n 0x80))
+    (zip2 bit_and (zip2 bit_or (zip2 wrapping_less (greater y (replicate n 0x60)) (replicate n 0x60))
+    (zip2 wrapping_less (greater x (replicate n 0x70)) (replicate n 0x70))) (replicate n 0x80))
     (pairs_of n a b)
 
 module _ (n : ℕ) (w : IsWidth n) (x y a b : List ℕ) (X : IsLanes n x) (Y : IsLanes n y) (A : IsLanes n a) (B : IsLanes n b) where

@@ -41,7 +41,8 @@ module _ (us : List ℕ) (units : AreCodeUnits us) where
     written = sym (append-nil (flat_map utf8_of_part16 done));
   }
 
-  goes_one : (at n : ℕ) (done mid : List Part16) → flat_map utf8_of_part16 mid ≡ flat_map utf8_of_part16 done ++ half_at at → Goes (at + 1) n mid → Goes at (suc n) done
+  goes_one : (at n : ℕ) (done mid : List Part16) → flat_map utf8_of_part16 mid ≡ flat_map utf8_of_part16 done ++ half_at at → Goes (at + 1) n mid
+      → Goes at (suc n) done
   unfolding concatenated
   goes_one at n done mid e g = record {
     all = g.all;
@@ -49,7 +50,8 @@ module _ (us : List ℕ) (units : AreCodeUnits us) where
     written = g.written ∙ ap (λ xs. xs ++ halves_from us (at + 1) n) e ∙ append_assoc (flat_map utf8_of_part16 done) (half_at at) (halves_from us (at + 1) n);
   }
 
-  goes_two : (at n : ℕ) (done mid : List Part16) → flat_map utf8_of_part16 mid ≡ flat_map utf8_of_part16 done ++ (half_at at ++ half_at (at + 1)) → Goes (at + 1 + 1) n mid → Goes at (suc (suc n)) done
+  goes_two : (at n : ℕ) (done mid : List Part16) → flat_map utf8_of_part16 mid ≡ flat_map utf8_of_part16 done ++ (half_at at ++ half_at (at + 1))
+      → Goes (at + 1 + 1) n mid → Goes at (suc (suc n)) done
   unfolding concatenated
   goes_two at n done mid e g = record {
     all = g.all;
@@ -75,9 +77,11 @@ module _ (us : List ℕ) (units : AreCodeUnits us) where
   }
 
   ends_less : (at n m : ℕ) → Ends at (m + n) → Ends (at + m) n
-  ends_less at n m e l = let place : at + m + n - 1 ≡ at + (m + n) - 1 = omega arith in λ h. e (omega arith) (subst (λ k. IsHighSurrogate (get_or us k 0)) place h)
+  ends_less at n m e l = let place : at + m + n - 1 ≡ at + (m + n) - 1 = omega arith in
+      λ h. e (omega arith) (subst (λ k. IsHighSurrogate (get_or us k 0)) place h)
 
-  after_short : (n at : ℕ) (done : List Part16) → Walked us at done → at < length us → get_or us at 0 < 0x800 → ((mid : List Part16) → Walked us (at + 1) mid → Goes (at + 1) n mid) → Goes at (suc n) done
+  after_short : (n at : ℕ) (done : List Part16) → Walked us at done → at < length us → get_or us at 0 < 0x800
+      → ((mid : List Part16) → Walked us (at + 1) mid → Goes (at + 1) n mid) → Goes at (suc n) done
   after_short n at done w room l more =
       let u = get_or us at 0 in
       let first = scalar_of_unit us at room (units at) (λ a b. absurd (omega arith)) in
@@ -113,7 +117,8 @@ module _ (us : List ℕ) (units : AreCodeUnits us) where
       elim (kind (get_or us at 0) (p.each at (omega arith) (omega arith))) [
         | inl l ↦
             let rest = less at (suc n) p (λ h. omega (arith, h.0)) in
-            after_short (suc n) at done w (omega arith) l (λ mid m. goes (suc n) (at + 1) mid m (omega arith) rest (ends_less at (suc n) 1 (subst (Ends at) one e)))
+            after_short (suc n) at done w (omega arith) l
+            (λ mid m. goes (suc n) (at + 1) mid m (omega arith) rest (ends_less at (suc n) 1 (subst (Ends at) one e)))
         | inr (inl h) ↦
             let low : IsLowSurrogate (get_or us (at + 1) 0) = (p.paired at (omega arith) (omega arith)).0 h in
             let rest : AreTwoByteOrPaired us (at + 1 + 1) n = record {
@@ -153,19 +158,25 @@ module _ (us : List ℕ) (units : AreCodeUnits us) where
   fit_rest : (n : ℕ) → AreCodeUnits (drop n us)
   fit_rest n k = let same = get_or-drop n us k 0 in omega (arith, same, units (n + k))
 
-  pub goes_on : (read n : ℕ) (done : List Part16) (out : List ℕ) → Walked us read done → IsUtf8OfPrefix (take (length us - read) (drop read us)) n out → GoesOn read n done out
+  pub goes_on : (read n : ℕ) (done : List Part16) (out : List ℕ) → Walked us read done → IsUtf8OfPrefix (take (length us - read) (drop read us)) n out
+      → GoesOn read n done out
   goes_on read n done out w yielded =
       let f : IsUtf8OfPrefix (drop read us) n out = subst (λ xs. IsUtf8OfPrefix xs n out) (take_rest us read) yielded in
       let more = take f.count f.parts in
-      let same : f.parts ≡ parts_of (drop read us) = parts_unique (drop read us) f.parts (parts_of (drop read us)) f.are_parts (parts_exist (drop read us) (fit_rest read)) in
+      let same : f.parts ≡ parts_of (drop read us) =
+      parts_unique (drop read us) f.parts (parts_of (drop read us)) f.are_parts (parts_exist (drop read us) (fit_rest read)) in
       let following : ArePartsOf16 (drop (read + n) us) (drop f.count f.parts) =
-      subst (λ xs. ArePartsOf16 xs (drop f.count f.parts)) (ap (λ k. drop k (drop read us)) (sym f.taken) ∙ drop-drop n read us) (rest_parts (drop read us) f.parts f.count f.are_parts) in
-      let rest : drop f.count f.parts ≡ parts_of (drop (read + n) us) = parts_unique (drop (read + n) us) _ _ following (parts_exist (drop (read + n) us) (fit_rest (read + n))) in
+      subst (λ xs. ArePartsOf16 xs (drop f.count f.parts)) (ap (λ k. drop k (drop read us)) (sym f.taken) ∙ drop-drop n read us)
+      (rest_parts (drop read us) f.parts f.count f.are_parts) in
+      let rest : drop f.count f.parts ≡ parts_of (drop (read + n) us) =
+      parts_unique (drop (read + n) us) _ _ following (parts_exist (drop (read + n) us) (fit_rest (read + n))) in
       record {
         all = done ++ more;
         walked = record {
-          whole = w.whole ∙ ap (λ ps. done ++ ps) (sym same ∙ sym (take-append-drop f.count f.parts) ∙ ap (λ ps. more ++ ps) rest) ∙ sym (append_assoc done more (parts_of (drop (read + n) us)));
-          taken = ap length (flat_map-append units_of_part16 done more) ∙ length-append (flat_map units_of_part16 done) (flat_map units_of_part16 more) ∙ omega (arith, w.taken, f.taken);
+          whole = w.whole ∙ ap (λ ps. done ++ ps) (sym same ∙ sym (take-append-drop f.count f.parts) ∙ ap (λ ps. more ++ ps) rest)
+              ∙ sym (append_assoc done more (parts_of (drop (read + n) us)));
+          taken = ap length (flat_map-append units_of_part16 done more) ∙ length-append (flat_map units_of_part16 done) (flat_map units_of_part16 more)
+              ∙ omega (arith, w.taken, f.taken);
         };
         written = ap (λ xs. flat_map utf8_of_part16 done ++ xs) f.written ∙ sym (flat_map-append utf8_of_part16 done more);
       }

@@ -81,11 +81,13 @@ module _ (us : List ℕ) (n : ℕ) (within : n ≤ length us) (some : 0 < n) (un
   one_pair_more k l v h m = valid_more_two us k (omega arith) v (h.0, omega (arith, h.1), m.0, omega (arith, m.1))
 
   pub valid_whole : (IsHighSurrogate (slice_index us (n - 1)) → ⊥) → IsValidUtf16 (take n us)
-  valid_whole = whole_prefix IsHighSurrogate IsLowSurrogate IsValidTo us n (λ k l. p.each k (omega arith) l) high_decided (λ h. omega (arith, h.0)) (λ u h l. omega (arith, h.1, l.0))
+  valid_whole = whole_prefix IsHighSurrogate IsLowSurrogate IsValidTo us n (λ k l. p.each k (omega arith) l) high_decided (λ h. omega (arith, h.0))
+      (λ u h l. omega (arith, h.1, l.0))
       valid_none one_unit_more one_pair_more some
 
   pub valid_cut : IsHighSurrogate (slice_index us (n - 1)) → IsValidUtf16 (take (n - 1) us)
-  valid_cut = cut_prefix IsHighSurrogate IsLowSurrogate IsValidTo us n (λ k l. p.each k (omega arith) l) high_decided (λ h. omega (arith, h.0)) (λ u h l. omega (arith, h.1, l.0))
+  valid_cut = cut_prefix IsHighSurrogate IsLowSurrogate IsValidTo us n (λ k l. p.each k (omega arith) l) high_decided (λ h. omega (arith, h.0))
+      (λ u h l. omega (arith, h.1, l.0))
       valid_none one_unit_more one_pair_more some
 
 -- no units
@@ -100,7 +102,8 @@ same_lane : (a b : Bool) (P Q : Type 0) → (a ≡ true) ↔ P → (b ≡ true) 
 same_lane a b P Q p q e = let same = same_tests a b e in (λ x. q.0 (sym same ∙ p.1 x), λ y. p.0 (same ∙ q.1 y))
 
 -- adjacent pairs without an error, as the rule on each unit and the one before it
-pub pairs_up : (us : List ℕ) (from to at end : ℕ) → from < at → end ≤ to + 1 → ((k : ℕ) → slice_index us k < 2 ^ 16) → PassBetween (λ k. pair_fault (slice_index us (k + 1)) (slice_index us k) ≡ false) from to
+pub pairs_up : (us : List ℕ) (from to at end : ℕ) → from < at → end ≤ to + 1 → ((k : ℕ) → slice_index us k < 2 ^ 16)
+    → PassBetween (λ k. pair_fault (slice_index us (k + 1)) (slice_index us k) ≡ false) from to
     → PairUp us at end
 pairs_up us from to at end o p units none = record {
   each = λ k l m.
@@ -169,7 +172,8 @@ none_in_block us long units none k from to =
 
 -- if no unit of a block is a surrogate, and the one before it isn't a high one, a unit of it is a low one if and only
 -- if it follows a high one
-pub paired_clear : (us block : List ℕ) (at n : ℕ) → block ≡ take n (drop at us) → HaveNoSurrogate block → (IsHighSurrogate (slice_index (0 ∷ us) at) → ⊥) → PairUp us at (at + n)
+pub paired_clear : (us block : List ℕ) (at n : ℕ) → block ≡ take n (drop at us) → HaveNoSurrogate block → (IsHighSurrogate (slice_index (0 ∷ us) at) → ⊥)
+    → PairUp us at (at + n)
 paired_clear us block at n is none before = record {
   each = λ k from to.
       let in_block = λ (i : ℕ) (l : at ≤ i) (m : i < at + n).
@@ -179,7 +183,8 @@ paired_clear us block at n is none before = record {
       let not_high : IsHighSurrogate (slice_index (0 ∷ us) k) → ⊥ = elim (cases_lt at k) [
         | inl l ↦
             let there = in_block (k - 1) (omega arith) (omega arith) in
-            let last : slice_index (0 ∷ us) k ≡ slice_index us (k - 1) = ap (λ i. slice_index (0 ∷ us) i) {x = k} {y = k - 1 + 1} (omega arith) ∙ before_next us (k - 1) in
+            let last : slice_index (0 ∷ us) k ≡ slice_index us (k - 1) = ap (λ i. slice_index (0 ∷ us) i) {x = k} {y = k - 1 + 1} (omega arith)
+            ∙ before_next us (k - 1) in
             λ h. none (k - 1 - at) (omega (arith, there, last, h.0)) (omega (arith, there, last, h.1))
         | inr l ↦ let e : k ≡ at = omega arith in λ h. before (subst (λ i. IsHighSurrogate (slice_index (0 ∷ us) i)) e h)
       ] in
@@ -207,11 +212,13 @@ module _ (bs : List ℕ) (n : ℕ) (within : n ≤ length bs) (some : 0 < n) (p 
   two_bytes_more k l v h m = let fits = p.each k (omega arith) (omega arith) in latin1_more_two bs k (omega arith) v (fits.lead h) fits.low m.0 m.1
 
   pub latin1_whole : (IsLead (slice_index bs (n - 1)) → ⊥) → IsUtf8Latin1 (take n bs)
-  latin1_whole = whole_prefix IsLead IsContinuation IsLatin1To bs n (λ k l. (p.each k (omega arith) l).follows) lead_decided (λ h. omega arith) (λ b h l. omega (arith, h, l.1))
+  latin1_whole = whole_prefix IsLead IsContinuation IsLatin1To bs n (λ k l. (p.each k (omega arith) l).follows) lead_decided (λ h. omega arith)
+      (λ b h l. omega (arith, h, l.1))
       IsUtf8Latin1-nil one_byte_more two_bytes_more some
 
   pub latin1_cut : IsLead (slice_index bs (n - 1)) → IsUtf8Latin1 (take (n - 1) bs)
-  latin1_cut = cut_prefix IsLead IsContinuation IsLatin1To bs n (λ k l. (p.each k (omega arith) l).follows) lead_decided (λ h. omega arith) (λ b h l. omega (arith, h, l.1))
+  latin1_cut = cut_prefix IsLead IsContinuation IsLatin1To bs n (λ k l. (p.each k (omega arith) l).follows) lead_decided (λ h. omega arith)
+      (λ b h l. omega (arith, h, l.1))
       IsUtf8Latin1-nil one_byte_more two_bytes_more some
 
 pub latin1_joined : (bs : List ℕ) (a b from to : ℕ) → FitLatin1 bs a b → FitLatin1 bs from to → from ≤ b → FitLatin1 bs a to
@@ -252,7 +259,8 @@ fits_from b a e = record {
 fits_lane : (b a : ℕ) → b < 256 → latin1_fault b a ≡ false → FitsLatin1 a b
 fits_lane b a l e = fits_from b a (rw (follows_test b l, overlong_test b l) at e)
 
-pub pairs_fit : (bs : List ℕ) (from to at end : ℕ) → from < at → end ≤ to + 1 → ((k : ℕ) → slice_index bs k < 256) → PassBetween (λ k. latin1_fault (slice_index bs (k + 1)) (slice_index bs k) ≡ false) from to
+pub pairs_fit : (bs : List ℕ) (from to at end : ℕ) → from < at → end ≤ to + 1 → ((k : ℕ) → slice_index bs k < 256)
+    → PassBetween (λ k. latin1_fault (slice_index bs (k + 1)) (slice_index bs k) ≡ false) from to
     → FitLatin1 bs at end
 pairs_fit bs from to at end o p bytes none = record {
   each = λ k l m.

@@ -70,10 +70,18 @@ shape_below (a ∷ b ∷ c ∷ []) rest (l, m, s, t) =
     omega (arith, other_first a (b ∷ c ∷ rest) (high_lead a l), other_first b (c ∷ rest) (other_second a b second), other_first c rest (other_continuation c t))
 shape_below (a ∷ b ∷ c ∷ d ∷ []) rest (l, m, s, t, f) =
     let second = second_more a b (omega arith) m s in
-    omega (arith, other_first a (b ∷ c ∷ d ∷ rest) (high_lead a (omega arith)), other_first b (c ∷ d ∷ rest) (other_second a b second), other_first c (d ∷ rest) (other_continuation c t), other_first d rest (other_continuation d f))
+    omega (
+      arith,
+      other_first a (b ∷ c ∷ d ∷ rest) (high_lead a (omega arith)),
+      other_first b (c ∷ d ∷ rest) (other_second a b second),
+      other_first c (d ∷ rest)
+          (other_continuation c t),
+      other_first d rest (other_continuation d f),
+    )
 shape_below (a ∷ b ∷ c ∷ d ∷ e ∷ more) rest h = absurd h
 
-open_below : (x rest : List ℕ) → HasOpenShape x → IsRejectedBefore x rest → sum_over_suffixes bytes_below_three (x ++ rest) ≡ sum_over_suffixes bytes_below_three rest
+open_below : (x rest : List ℕ) → HasOpenShape x → IsRejectedBefore x rest
+    → sum_over_suffixes bytes_below_three (x ++ rest) ≡ sum_over_suffixes bytes_below_three rest
 unfolding sum_over_suffixes
 open_below [] rest h n = absurd h
 open_below (a ∷ []) rest h n = omega (arith, no_second a (slice_index rest 0) h.0 (rejected_second a rest n))
@@ -81,7 +89,13 @@ open_below (a ∷ b ∷ []) rest h n =
     omega (arith, other_first a (b ∷ rest) (high_lead a h.0), other_first b rest (other_second a b (second_more a b h.0 h.1 h.2)))
 open_below (a ∷ b ∷ c ∷ []) rest h n =
     let second = second_more a b (omega (arith, h.0)) h.1 h.2 in
-    omega (arith, other_first a (b ∷ c ∷ rest) (high_lead a (omega (arith, h.0))), other_first b (c ∷ rest) (other_second a b second), other_first c rest (other_continuation c h.3))
+    omega (
+      arith,
+      other_first a (b ∷ c ∷ rest) (high_lead a (omega (arith, h.0))),
+      other_first b (c ∷ rest) (other_second a b second),
+      other_first c rest
+          (other_continuation c h.3),
+    )
 open_below (a ∷ b ∷ c ∷ d ∷ more) rest h n = absurd h
 
 other_single : (b : ℕ) → IsNeverLeading b → IsOther b
@@ -107,7 +121,8 @@ replacement_sizes : length (encode_utf8 0xFFFD) ≡ length (encode_utf16 0xFFFD)
 replacement_sizes = omega (arith, ap length (one_unit 0xFFFD (omega arith)), length-encode 0xFFFD)
 
 part_below : (bs : List ℕ) (p : Part) (rest : List ℕ) → IsFirstPart bs p rest
-    → length (encode_utf8 (lossy_scalar p)) + sum_over_suffixes bytes_below_three bs ≡ length (encode_utf16 (lossy_scalar p)) + (2 + sum_over_suffixes bytes_below_three rest)
+    → length (encode_utf8 (lossy_scalar p)) + sum_over_suffixes bytes_below_three bs ≡ length
+    (encode_utf16 (lossy_scalar p)) + (2 + sum_over_suffixes bytes_below_three rest)
 part_below bs (Character c) rest (s, e) =
     rw e (omega (arith, shape_below (encode_utf8 c) rest (HasShape-IsSequence (encode_utf8 c) (IsSequence-encode c s)), sizes c s))
 part_below bs (IllFormed x) rest (n, inl l) =
@@ -128,7 +143,8 @@ part_most bs (Character c) rest (s, e) =
 part_most bs (IllFormed x) rest f = omega (arith, replacement_sizes)
 
 pub repaired_total : (bs : List ℕ) (ps : List Part) → ArePartsOf bs ps
-    → (length (lossy_utf8 ps) + sum_over_suffixes bytes_below_three bs ≡ length (lossy_utf16 ps) + 2 * length ps) × (length (lossy_utf16 ps) ≤ length (lossy_utf8 ps))
+    → (length (lossy_utf8 ps) + sum_over_suffixes bytes_below_three bs ≡ length (lossy_utf16 ps) + 2 * length ps)
+    × (length (lossy_utf16 ps) ≤ length (lossy_utf8 ps))
 unfolding sum_over_suffixes
 repaired_total bs [] e = (rw e refl, omega arith)
 repaired_total bs (p ∷ ps) (after, f, more) =

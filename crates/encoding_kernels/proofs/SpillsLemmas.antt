@@ -24,7 +24,8 @@ store_spills xs ys at n long few room =
     record { counted = length-take-le n ys (omega arith); prefix = parts.0; following = parts.1; long = length-put_chunk at xs ys }
 
 -- one after the other
-pub spills_then : (a b c : List ℕ) (at n m s t : ℕ) (xs ys : List ℕ) → Spills a b at n s xs → Spills b c (at + n) m t ys → s ≤ m + t → Spills a c at (n + m) t (xs ++ ys)
+pub spills_then : (a b c : List ℕ) (at n m s t : ℕ) (xs ys : List ℕ) → Spills a b at n s xs → Spills b c (at + n) m t ys → s ≤ m + t
+    → Spills a c at (n + m) t (xs ++ ys)
 spills_then a b c at n m s t xs ys p q due =
     let place : at + (n + m) ≡ at + n + m = omega arith in
     let last : at + (n + m) + t ≡ at + n + m + t = omega arith in
@@ -36,7 +37,8 @@ spills_then a b c at n m s t xs ys p q due =
       long = q.long ∙ p.long;
     }
 
-pub spills_both : (old mid new : List ℕ) (at n place m all : ℕ) (xs ys out : List ℕ) → Spills old mid at n 16 xs → Spills mid new place m 16 ys → place ≡ at + n → n + m ≡ all → xs ++ ys ≡ out
+pub spills_both : (old mid new : List ℕ) (at n place m all : ℕ) (xs ys out : List ℕ) → Spills old mid at n 16 xs → Spills mid new place m 16 ys → place ≡ at + n
+    → n + m ≡ all → xs ++ ys ≡ out
     → Spills old new at all 16 out
 spills_both old mid new at n place m all xs ys out p q here count e =
     let both = spills_then old mid new at n m 16 16 xs ys p (subst (λ j. Spills mid new j m 16 ys) here q) (omega arith) in
@@ -52,11 +54,13 @@ spills_kept old mid out n count p few near room =
     record {
       count = sym (length-take-le count out (omega (arith, p.counted)));
       fits = omega arith;
-      placed = put_back 32 old mid count room p.long (later (0 + n + 16) (count + 16 - n) (count + 32) mid old p.following over) ∙ ap (λ xs. xs ++ drop count old) start;
+      placed = put_back 32 old mid count room p.long (later (0 + n + 16) (count + 16 - n) (count + 32) mid old p.following over)
+          ∙ ap (λ xs. xs ++ drop count old) start;
     }
 
 -- a write that changes nothing after it
-pub exact_spills : (old new out : List ℕ) (at n : ℕ) → length out ≡ n → at + n ≤ length old → new ≡ take at old ++ (out ++ drop (at + n) old) → Spills old new at n 0 out
+pub exact_spills : (old new out : List ℕ) (at n : ℕ) → length out ≡ n → at + n ≤ length old → new ≡ take at old ++ (out ++ drop (at + n) old)
+    → Spills old new at n 0 out
 exact_spills old new out at n count room put =
     let start : length (take at old) ≡ at = length-take-le at old (omega arith) in
     let both : length (take at old ++ out) ≡ at + n = omega (arith, length-append (take at old) out) in
@@ -69,13 +73,15 @@ exact_spills old new out at n count room put =
     }
 
 -- one more block: it has at least as many bytes as the one before it spilled
-pub due_then : (us old d e : List ℕ) (read w s c t : ℕ) → SpillsBmp us old d read w s → read + 16 ≤ length us → s ≤ 16 → w + c ≤ length d → StoresBlock (take 16 (drop read us)) d e w c t → SpillsBmp us old e (read + 16) (w + c) t
+pub due_then : (us old d e : List ℕ) (read w s c t : ℕ) → SpillsBmp us old d read w s → read + 16 ≤ length us → s ≤ 16 → w + c ≤ length d
+    → StoresBlock (take 16 (drop read us)) d e w c t → SpillsBmp us old e (read + 16) (w + c) t
 due_then us old d e read w s c t p within few room b =
     let over : w + c + t ≡ w + s + (c + t - s) = omega (arith, b.bounds) in
     record {
       within = within;
       plain = plain_then us read 16 p.plain b.plain;
-      counted = ap length (sym (encodes_more us read 16)) ∙ omega (arith, length-append (encode_utf8_all (take read us)) (encode_utf8_all (take 16 (drop read us))), p.counted, b.stored.counted);
+      counted = ap length (sym (encodes_more us read 16))
+          ∙ omega (arith, length-append (encode_utf8_all (take read us)) (encode_utf8_all (take 16 (drop read us))), p.counted, b.stored.counted);
       fits = omega (arith, p.long);
       prefix = b.stored.prefix ∙ ap (λ xs. xs ++ encode_utf8_all (take 16 (drop read us))) p.prefix ∙ encodes_more us read 16;
       following = b.stored.following ∙ later (w + s) (c + t - s) (w + c + t) d old p.following over;

@@ -15,13 +15,16 @@ use Rattle.std.proofs.lemmas.Nat.{and_mask}
 
 -- the first `count` lanes of one vector, followed by what the list has after them
 pub firsts_over : (w : Width) (at count : ℕ) (xs lanes : List ℕ) → at + 16 ≤ length xs → length lanes ≡ 16
-    → HasLanes 16 (sel_l (map (top (hbits w)) (zip2 (compared w ltb) (range_with_len 0 16) (replicate 16 count))) lanes (chunk at 16 xs)) (λ k. cond (ltb k count) (get_or lanes k 0) (get_or (chunk at 16 xs) k 0))
+    → HasLanes 16 (sel_l (map (top (hbits w)) (zip2 (compared w ltb) (range_with_len 0 16) (replicate 16 count))) lanes (chunk at 16 xs))
+    (λ k. cond (ltb k count) (get_or lanes k 0) (get_or (chunk at 16 xs) k 0))
 firsts_over w at count xs lanes room long =
-    chosen_by (tests_of w ltb (HasLanes-numbers 16) (HasLanes-splat 16 count)) (HasLanes-itself 16 lanes long) (HasLanes-itself 16 (chunk at 16 xs) (length-chunk at 16 xs room))
+    chosen_by (tests_of w ltb (HasLanes-numbers 16) (HasLanes-splat 16 count)) (HasLanes-itself 16 lanes long)
+    (HasLanes-itself 16 (chunk at 16 xs) (length-chunk at 16 xs room))
 
 -- storing these lanes
 pub put_first : (w : Width) (at count : ℕ) (xs lanes : List ℕ) → at + 16 ≤ length xs → length lanes ≡ 16 → count ≤ 16
-    → put_chunk at xs (sel_l (map (top (hbits w)) (zip2 (compared w ltb) (range_with_len 0 16) (replicate 16 count))) lanes (chunk at 16 xs)) ≡ take at xs ++ (take count lanes ++ drop (at + count) xs)
+    → put_chunk at xs (sel_l (map (top (hbits w)) (zip2 (compared w ltb) (range_with_len 0 16) (replicate 16 count))) lanes
+    (chunk at 16 xs)) ≡ take at xs ++ (take count lanes ++ drop (at + count) xs)
 put_first w at count xs lanes room long few = put_firsts at 16 count xs lanes _ room long few (firsts_over w at count xs lanes room long)
 
 module _ (at count more : ℕ) (xs first second z : List ℕ) (room : at + 32 ≤ length xs) (few : count ≤ 16) (long : length first ≡ 16)
@@ -32,7 +35,8 @@ module _ (at count more : ℕ) (xs first second z : List ℕ) (room : at + 32 �
   second_single =
       let prefix : length (take (at + count) xs) ≡ at + count = length-take-le (at + count) xs (omega arith) in
       sym (drop_at (take (at + count) xs) (z ++ drop (at + count + 16) xs) (at + count) prefix)
-      ∙ ap (drop (at + count)) (sym (put_is (at + count) 16 xs z lanes.long (omega arith)) ∙ put_firsts (at + count) 16 more xs second z (omega arith) also less lanes)
+      ∙ ap (drop (at + count)) (sym (put_is (at + count) 16 xs z lanes.long (omega arith))
+      ∙ put_firsts (at + count) 16 more xs second z (omega arith) also less lanes)
       ∙ drop_at (take (at + count) xs) (take more second ++ drop (at + count + more) xs) (at + count) prefix
 
   pub both_put : put_chunk (at + count) (put_chunk at xs first) z ≡ take at xs ++ ((take count first ++ take more second) ++ drop (at + (count + more)) xs)
@@ -62,14 +66,17 @@ module _ (n : ℕ) (units : List ℕ) (long : length units ≡ n) where
   -- that is the lower byte
   pub lower_are : map (λ x. x) (zip2 bit_and units (replicate n 0xFF)) ≡ map (λ unit. unit % 0x100) units
   unfolding lower
-  lower_are = map-id lower ∙ same_number_lists lower (map (λ unit. unit % 0x100) units) (omega (arith, lower_lanes.long, length-map units (λ unit. unit % 0x100))) (λ k l.
+  lower_are = map-id lower
+      ∙ same_number_lists lower (map (λ unit. unit % 0x100) units) (omega (arith, lower_lanes.long, length-map units (λ unit. unit % 0x100))) (λ k l.
       lower_lanes.each k (omega (arith, lower_lanes.long)) ∙ sym (get_or-map (λ unit. unit % 0x100) units k 0 0 (omega (arith, long, lower_lanes.long))))
 
   -- units that are bytes are unchanged
-  pub lower_same : (count : ℕ) → count ≤ n → ((k : ℕ) → k < count → get_or units k 0 < 0x100) → take count (map (λ x. x) (zip2 bit_and units (replicate n 0xFF))) ≡ take count units
+  pub lower_same : (count : ℕ) → count ≤ n → ((k : ℕ) → k < count → get_or units k 0 < 0x100)
+      → take count (map (λ x. x) (zip2 bit_and units (replicate n 0xFF))) ≡ take count units
   unfolding lower
   lower_same count few small =
       let short = length-take-le count lower (omega (arith, lower_lanes.long)) in
-      ap (take count) (map-id lower) ∙ same_number_lists (take count lower) (take count units) (omega (arith, short, length-take-le count units (omega (arith, long)))) (λ k l.
+      ap (take count) (map-id lower)
+      ∙ same_number_lists (take count lower) (take count units) (omega (arith, short, length-take-le count units (omega (arith, long)))) (λ k l.
       let in_prefix : k < count = omega (arith, short) in
       get_or-take count lower k 0 in_prefix ∙ rw (get_or-take count units k 0 in_prefix) (omega (arith, lower_lanes.each k (omega arith), small k in_prefix)))

@@ -27,7 +27,8 @@ pub many : (n k i long : ℕ) → k ≡ long / n → i < k → i * n + n ≤ lon
 many n k i long e l = omega (arith, e, div-mul-le_self long n, mul-le-mul_right {m = i + 1} {n = long / n} n (omega (arith, e)))
 
 -- stride i, if the strides before it end at index `at`
-pub whole_stride : (n : ℕ) (xs d : List ℕ) {i at : ℕ} {stride : List ℕ} {strides : List (List ℕ)} → stride ≡ get_or strides i d → strides ≡ first_chunks n (length xs / n) xs
+pub whole_stride : (n : ℕ) (xs d : List ℕ) {i at : ℕ} {stride : List ℕ} {strides : List (List ℕ)} → stride ≡ get_or strides i d
+    → strides ≡ first_chunks n (length xs / n) xs
     → length strides ≡ length xs / n → at ≡ i * n → i < length strides → stride ≡ take n (drop at xs)
 whole_stride n xs d {i} is are count place l =
     is ∙ ap (λ ys. get_or ys i d) are ∙ numbered n (length xs / n) xs i d (omega (arith, count, l)) ∙ ap (λ m. take n (drop m xs)) (sym place)
@@ -53,19 +54,23 @@ module _ {X : Type 0} (n : ℕ) where
 
   joined_firsts : (k : ℕ) (xs : List X) → flat_map (λ x. x) (first_chunks n k xs) ≡ take (k * n) xs
   joined_firsts zero xs = let e : 0 * n ≡ 0 = omega arith in rw e refl
-  joined_firsts (suc k) xs = let e : n + k * n ≡ suc k * n = omega arith in ap (λ ys. take n xs ++ ys) (joined_firsts k (drop n xs)) ∙ sym (take-add n (k * n) xs) ∙ ap (λ m. take m xs) e
+  joined_firsts (suc k) xs = let e : n + k * n ≡ suc k * n = omega arith in ap (λ ys. take n xs ++ ys) (joined_firsts k (drop n xs))
+      ∙ sym (take-add n (k * n) xs) ∙ ap (λ m. take m xs) e
 
 -- the units of a list that a stride or a group has, from index `at` on
 pub record IsPart (n at : ℕ) (xs part : List ℕ) : Type 0 where
   pub is : part ≡ take n (drop at xs)
   pub within : at + n ≤ length xs
 
-module _ (n : ℕ) (xs : List ℕ) {i : ℕ} {strides : List (List ℕ)} (are : strides ≡ first_chunks n (length xs / n) xs) (count : length strides ≡ length xs / n) where
+module _ (n : ℕ) (xs : List ℕ) {i : ℕ} {strides : List (List ℕ)} (are : strides ≡ first_chunks n (length xs / n) xs)
+    (count : length strides ≡ length xs / n) where
   pub stride_part : {at : ℕ} (d : List ℕ) → at ≡ i * n → i < length strides → IsPart n at xs (get_or strides i d)
-  stride_part {at} d place l = record { is = whole_stride n xs d refl are count place l; within = omega (arith, many n (length strides) i (length xs) count l, place) }
+  stride_part {at} d place l =
+      record { is = whole_stride n xs d refl are count place l; within = omega (arith, many n (length strides) i (length xs) count l, place) }
 
   -- a group of w strides
-  module _ (w : ℕ) (d : List (List ℕ)) {groups : List (List (List ℕ))} (grouped : groups ≡ first_chunks w (length strides / w) strides) (groups_count : length groups ≡ length strides / w)
+  module _ (w : ℕ) (d : List (List ℕ)) {groups : List (List (List ℕ))} (grouped : groups ≡ first_chunks w (length strides / w) strides)
+      (groups_count : length groups ≡ length strides / w)
       (l : i < length groups) where
     strides_within : i * w + w ≤ length xs / n
     strides_within = omega (arith, many w (length groups) i (length strides) groups_count l, count)
@@ -75,7 +80,8 @@ module _ (n : ℕ) (xs : List ℕ) {i : ℕ} {strides : List (List ℕ)} (are : 
 
     group_is : get_or groups i d ≡ first_chunks n w (drop (i * w * n) xs)
     group_is =
-        ap (λ ys. get_or ys i d) grouped ∙ numbered w (length strides / w) strides i d (omega (arith, groups_count, l)) ∙ ap (λ ys. take w (drop (i * w) ys)) are
+        ap (λ ys. get_or ys i d) grouped ∙ numbered w (length strides / w) strides i d (omega (arith, groups_count, l))
+        ∙ ap (λ ys. take w (drop (i * w) ys)) are
         ∙ ap (take w) (drop_firsts n (i * w) (length xs / n - i * w) (length xs / n) xs (omega (arith, strides_within)))
         ∙ take_firsts n w (length xs / n - i * w) (drop (i * w * n) xs) (omega (arith, strides_within))
 
@@ -93,7 +99,8 @@ pub first_part : (n : ℕ) (xs stride : List ℕ) {strides : List (List ℕ)} �
     → Some stride ≡ slice_get strides 0 → IsPart n 0 xs stride
 first_part n xs stride {strides} are count is =
     let found : slice_get strides 0 ≡ Some stride = sym is in
-    subst (IsPart n 0 xs) (get_or_from_slice_get strides 0 stride [] found) (stride_part n xs {i = 0} are count {at = 0} [] (omega arith) (slice_get_within strides 0 stride found))
+    subst (IsPart n 0 xs) (get_or_from_slice_get strides 0 stride [] found)
+    (stride_part n xs {i = 0} are count {at = 0} [] (omega arith) (slice_get_within strides 0 stride found))
 
 -- ---- prefixes of units below a bound
 module _ {bound n at : ℕ} {xs part : List ℕ} (p : IsPart n at xs part) (before : BelowUpTo bound xs at) where
@@ -114,7 +121,8 @@ module _ {bound n at : ℕ} {xs part : List ℕ} (p : IsPart n at xs part) (befo
   ]
 
 -- the longest ASCII prefix ends in a part
-pub ascii_prefix_in : {n at run : ℕ} {xs part : List ℕ} → IsPart n at xs part → BelowUpTo 0x80 xs at → IsRunBelow 0x80 part 0 n run → run < n → IsLongestPrefix IsAscii xs (at + run)
+pub ascii_prefix_in : {n at run : ℕ} {xs part : List ℕ} → IsPart n at xs part → BelowUpTo 0x80 xs at → IsRunBelow 0x80 part 0 n run → run < n
+    → IsLongestPrefix IsAscii xs (at + run)
 ascii_prefix_in {n} {at} {run} {xs} p before r short =
     ascii_prefix_at xs (at + run) (omega (arith, p.within)) (below_more p before run r.within r.pass) (other_next p before run r short)
 
@@ -133,7 +141,8 @@ pub first_other_in : {n at run : ℕ} {xs part : List ℕ} → IsPart n at xs pa
     → IsFirstOther xs (Some (slice_index xs (at + run), at + run))
 first_other_in {at = at} {run = run} {xs = xs} p before r short = (slice_get-get_or xs (at + run) 0 (omega (arith, p.within)), ascii_prefix_in p before r short)
 
-pub first_other_first : {n run : ℕ} {xs part : List ℕ} → IsPart n 0 xs part → IsRunBelow 0x80 part 0 n run → run < n → IsFirstOther xs (Some (slice_index xs run, run))
+pub first_other_first : {n run : ℕ} {xs part : List ℕ} → IsPart n 0 xs part → IsRunBelow 0x80 part 0 n run → run < n
+    → IsFirstOther xs (Some (slice_index xs run, run))
 first_other_first {run = run} {xs = xs} p r short = (slice_get-get_or xs run 0 (omega (arith, p.within)), ascii_prefix_first p r short)
 
 pub first_other_at : (xs : List ℕ) (n : ℕ) → n < length xs → BelowUpTo 0x80 xs n → 0x80 ≤ slice_index xs n → IsFirstOther xs (Some (slice_index xs n, n))
@@ -147,14 +156,17 @@ below_next bound xs n below next k l = elim (cases_lt k n) [
 ]
 
 -- ---- what a stride writes
-module _ {n at : ℕ} {xs part : List ℕ} (p : IsPart n at xs part) {old new after : List ℕ} (w : WritesPrefix old new at (take at xs)) (room : length xs ≤ length old) where
+module _ {n at : ℕ} {xs part : List ℕ} (p : IsPart n at xs part) {old new after : List ℕ} (w : WritesPrefix old new at (take at xs))
+    (room : length xs ≤ length old) where
   -- all of its units
   pub copied_part : after ≡ take at new ++ (part ++ drop (at + n) new) → WritesPrefix old after (at + n) (take (at + n) xs)
   copied_part put =
-      WritesPrefix_block old new after xs at n w p.within (omega (arith, p.within, WritesPrefix-length _ _ _ _ w)) (put ∙ ap (λ ys. take at new ++ (ys ++ drop (at + n) new)) p.is)
+      WritesPrefix_block old new after xs at n w p.within (omega (arith, p.within, WritesPrefix-length _ _ _ _ w)) (put
+      ∙ ap (λ ys. take at new ++ (ys ++ drop (at + n) new)) p.is)
 
   -- the first `run`
-  pub copied_first : (run : ℕ) → run ≤ n → after ≡ take at new ++ (take run part ++ drop (at + run) new) → WritesPrefix old after (at + run) (take (at + run) xs)
+  pub copied_first : (run : ℕ) → run ≤ n → after ≡ take at new ++ (take run part ++ drop (at + run) new)
+      → WritesPrefix old after (at + run) (take (at + run) xs)
   copied_first run few put =
       let same : take run part ≡ take run (drop at xs) = ap (take run) p.is ∙ take-take run n (drop at xs) few in
       WritesPrefix_block old new after xs at run w (omega (arith, p.within)) (omega (arith, p.within, WritesPrefix-length _ _ _ _ w))
@@ -185,7 +197,8 @@ module _ (src old : List ℕ) (n : ℕ) (is : n ≡ min (length src) (length old
   found_fitting r found = subst (λ xs. IsFirstOther xs r) fitting_is found
 
   pub found_none : (m : ℕ) → BelowUpTo 0x80 (take n src) m → length (take n src) ≤ m → IsFirstOther (take (length old) src) None
-  found_none m below far = found_fitting None (λ i. elim (cases_lt i m) [ inl l ↦ below i l | inr l ↦ omega (arith, get_or_past (take n src) i 0 (omega arith)) ])
+  found_none m below far = found_fitting None
+      (λ i. elim (cases_lt i m) [ inl l ↦ below i l | inr l ↦ omega (arith, get_or_past (take n src) i 0 (omega arith)) ])
 
   pub copied_fitting : {new : List ℕ} {m : ℕ} → WritesPrefix old new m (take m (take n src)) → WritesPrefix old new m (take m src)
   copied_fitting {new} {m} w = subst (WritesPrefix old new m) (take-take m n src (omega (arith, w.count, length-take m (take n src), fitting_length))) w

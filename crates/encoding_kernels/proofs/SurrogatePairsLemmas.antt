@@ -48,7 +48,8 @@ unfolding concatenated
 joined_one f i = append-nil (f i)
 
 -- without the two bytes of the last
-pub joined_before_last : (f : ℕ → List ℕ) (i n count : ℕ) (bytes : List ℕ) → take count bytes ≡ concatenated f i (n + 1) → count ≤ length bytes → length (f (i + n)) ≡ 2
+pub joined_before_last : (f : ℕ → List ℕ) (i n count : ℕ) (bytes : List ℕ) → take count bytes ≡ concatenated f i (n + 1) → count ≤ length bytes
+    → length (f (i + n)) ≡ 2
     → take (count - 2) bytes ≡ concatenated f i n
 joined_before_last f i n count bytes e fits two =
     let prefix = concatenated f i n in
@@ -68,20 +69,23 @@ kept_join get f (u ∷ us) at i h =
     let start : i + 0 ≡ i = omega arith in
     let here : cond (nat_le 0x80 u) (get at ∷ get (at + 1) ∷ []) (get at ∷ []) ≡ f i =
     subst (λ k. cond (nat_le 0x80 u) (get k ∷ get (k + 1) ∷ []) (get k ∷ []) ≡ f i) first (h 0 (omega arith) ∙ ap f start) in
-    let more : (k : ℕ) → k < length us → cond (nat_le 0x80 (get_or us k 0)) (get (at + 2 + 2 * k) ∷ get (at + 2 + 2 * k + 1) ∷ []) (get (at + 2 + 2 * k) ∷ []) ≡ f (i + 1 + k) = λ k l.
+    let more : (k : ℕ) → k < length us
+    → cond (nat_le 0x80 (get_or us k 0)) (get (at + 2 + 2 * k) ∷ get (at + 2 + 2 * k + 1) ∷ []) (get (at + 2 + 2 * k) ∷ []) ≡ f (i + 1 + k) = λ k l.
     let e : at + 2 * suc k ≡ at + 2 + 2 * k = omega arith in
     let place : i + suc k ≡ i + 1 + k = omega arith in
     subst (λ j. cond (nat_le 0x80 (get_or us k 0)) (get j ∷ get (j + 1) ∷ []) (get j ∷ []) ≡ f (i + 1 + k)) e (h (suc k) (omega arith) ∙ ap f place) in
     kept_step get at (nat_le 0x80 u) _ _ _ here (kept_join get f us (at + 2) (i + 1) more)
 
-pub spelled_halves : (us ps bytes : List ℕ) → length us ≡ 8 → ((k : ℕ) → k < 8 → EncodesHalf (get_or ps k 0) (get_or us k 0) (get_or bytes (2 * k) 0) (get_or bytes (2 * k + 1) 0))
+pub spelled_halves : (us ps bytes : List ℕ) → length us ≡ 8
+    → ((k : ℕ) → k < 8 → EncodesHalf (get_or ps k 0) (get_or us k 0) (get_or bytes (2 * k) 0) (get_or bytes (2 * k + 1) 0))
     → map (λ j. get_or bytes j 0) (kept_places 0 (map (nat_le 0x80) us)) ≡ concatenated (λ k. half_bytes (get_or ps k 0) (get_or us k 0)) 0 8
 spelled_halves us ps bytes l spells =
     let f : ℕ → List ℕ = λ k. half_bytes (get_or ps k 0) (get_or us k 0) in
     kept_join (λ j. get_or bytes j 0) f us 0 0 (λ k i.
     let e : 2 * k ≡ 0 + 2 * k = omega arith in
     let place : k ≡ 0 + k = omega arith in
-    subst (λ j. cond (nat_le 0x80 (get_or us k 0)) (get_or bytes j 0 ∷ get_or bytes (j + 1) 0 ∷ []) (get_or bytes j 0 ∷ []) ≡ f (0 + k)) e (spells k (omega arith) ∙ ap f place))
+    subst (λ j. cond (nat_le 0x80 (get_or us k 0)) (get_or bytes j 0 ∷ get_or bytes (j + 1) 0 ∷ []) (get_or bytes j 0 ∷ []) ≡ f (0 + k)) e
+    (spells k (omega arith) ∙ ap f place))
     ∙ ap (concatenated f 0) l
 
 -- ---- both bytes of a half, in one number
@@ -115,13 +119,15 @@ half_small p u h =
     let small : u < 65536 = elim h [ inl l ↦ omega arith | inr r ↦ omega (arith, r.1) ] in
     grind (arith, nat_tests)
 
-pub halves_spell : (us ps words : List ℕ) (k : ℕ) → HasLanes 8 words (λ i. half_word (get_or ps i 0) (get_or us i 0)) → ((i : ℕ) → i < 8 → IsTwoByteOrHalf (get_or us i 0)) → k < 8
+pub halves_spell : (us ps words : List ℕ) (k : ℕ) → HasLanes 8 words (λ i. half_word (get_or ps i 0) (get_or us i 0))
+    → ((i : ℕ) → i < 8 → IsTwoByteOrHalf (get_or us i 0)) → k < 8
     → EncodesHalf (get_or ps k 0) (get_or us k 0) (get_or (bytes_of words) (2 * k) 0) (get_or (bytes_of words) (2 * k + 1) 0)
 halves_spell us ps words k lanes each l =
     let p = get_or ps k 0 in
     let u = get_or us k 0 in
     let bytes = bytes_lanes lanes (λ i m. half_small (get_or ps i 0) (get_or us i 0) (each i m)) k l in
-    subst (λ x. EncodesHalf p u x (get_or (bytes_of words) (2 * k + 1) 0)) (sym bytes.0) (subst (λ y. EncodesHalf p u (half_word p u % 256) y) (sym bytes.1) (EncodesTo-half p u (each k l)))
+    subst (λ x. EncodesHalf p u x (get_or (bytes_of words) (2 * k + 1) 0)) (sym bytes.0)
+    (subst (λ y. EncodesHalf p u (half_word p u % 256) y) (sym bytes.1) (EncodesTo-half p u (each k l)))
 
 -- ---- two vectors of eight
 half_before : (p q u : ℕ) → IsTwoByteOrHalf u → (IsLowSurrogate u → ⊥) → half_bytes p u ≡ half_bytes q u
@@ -162,7 +168,8 @@ module _ (us : List ℕ) (at : ℕ) (room : at + 16 ≤ length us) (p : AreTwoBy
   first_lane (suc j) l =
       let place : at + j ≡ at + suc j - 1 = omega arith in
       let before : get_or (moved (chunk at 8 us)) (suc j) 0 ≡ get_or us (at + suc j - 1) 0 =
-      moved_lane (chunk at 8 us) j (length-chunk at 8 us (omega arith)) (omega arith) ∙ get_or-chunk at 8 us j 0 (omega arith) ∙ ap (λ i. get_or us i 0) place in
+      moved_lane (chunk at 8 us) j (length-chunk at 8 us (omega arith)) (omega arith) ∙ get_or-chunk at 8 us j 0 (omega arith)
+      ∙ ap (λ i. get_or us i 0) place in
       let here : get_or (chunk at 8 us) (suc j) 0 ≡ get_or us (at + suc j) 0 = get_or-chunk at 8 us (suc j) 0 l in
       (λ i. half_bytes (before i) (here i))
 
@@ -177,12 +184,15 @@ module _ (us : List ℕ) (at : ℕ) (room : at + 16 ≤ length us) (p : AreTwoBy
   first_joined = concatenated-same first_half half_at 0 at 8 (λ k l. let e : 0 + k ≡ k = omega arith in ap first_half e ∙ first_lane k l)
 
   second_joined : (n : ℕ) → n ≤ 8 → concatenated second_half 0 n ≡ halves_from us (at + 8) n
-  second_joined n few = concatenated-same second_half half_at 0 (at + 8) n (λ k l. let e : 0 + k ≡ k = omega arith in ap second_half e ∙ second_lane k (omega arith))
+  second_joined n few = concatenated-same second_half half_at 0 (at + 8) n (λ k l. let e : 0 + k ≡ k = omega arith in ap second_half e
+      ∙ second_lane k (omega arith))
 
-  joined_halves : (n : ℕ) (first second : List ℕ) → n ≤ 8 → first ≡ concatenated first_half 0 8 → second ≡ concatenated second_half 0 n → first ++ second ≡ halves_from us at (8 + n)
+  joined_halves : (n : ℕ) (first second : List ℕ) → n ≤ 8 → first ≡ concatenated first_half 0 8 → second ≡ concatenated second_half 0 n
+      → first ++ second ≡ halves_from us at (8 + n)
   joined_halves n first second few e f = (λ i. (e ∙ first_joined) i ++ (f ∙ second_joined n few) i) ∙ sym (concatenated-append half_at at 8 n)
 
-  pub both_halves : (cut count more : ℕ) (bytes other : List ℕ) → ((cut ≡ 1) × IsHighSurrogate (get_or us (at + 15) 0)) ⊎ ((cut ≡ 0) × (IsHighSurrogate (get_or us (at + 15) 0) → ⊥))
+  pub both_halves : (cut count more : ℕ) (bytes other : List ℕ)
+      → ((cut ≡ 1) × IsHighSurrogate (get_or us (at + 15) 0)) ⊎ ((cut ≡ 0) × (IsHighSurrogate (get_or us (at + 15) 0) → ⊥))
       → take count bytes ≡ concatenated first_half 0 8 → take more other ≡ concatenated second_half 0 8 → more ≤ length other
       → take count bytes ++ take (more - 2 * cut) other ≡ halves_from us at (16 - cut)
   both_halves cut count more bytes other (inl (e, h)) first second fits =
@@ -191,7 +201,8 @@ module _ (us : List ℕ) (at : ℕ) (room : at + 16 ≤ length us) (p : AreTwoBy
       let place : at + 8 + 7 ≡ at + 15 = omega arith in
       let last : get_or (chunk (at + 8) 8 us) 7 0 ≡ get_or us (at + 15) 0 = get_or-chunk (at + 8) 8 us 7 0 (omega arith) ∙ ap (λ i. get_or us i 0) place in
       let two : length (second_half (0 + 7)) ≡ 2 = half_long _ _ (subst IsHighSurrogate (sym last) h) in
-      joined_halves 7 (take count bytes) (take (more - 2 * cut) other) (omega arith) first (ap (λ n. take n other) less ∙ joined_before_last second_half 0 7 more other second fits two)
+      joined_halves 7 (take count bytes) (take (more - 2 * cut) other) (omega arith) first (ap (λ n. take n other) less
+      ∙ joined_before_last second_half 0 7 more other second fits two)
       ∙ ap (halves_from us at) units
   both_halves cut count more bytes other (inr (e, h)) first second fits =
       let same : more - 2 * cut ≡ more = omega arith in
@@ -245,4 +256,5 @@ halves_lanes us at fit whole none = record {
     clean k from to =
         let here : at + (k - at) ≡ k = omega arith in
         let next : at + 1 + (k - at) ≡ k + 1 = omega arith in
-        subst (λ j. half_fault (get_or us j 0) (get_or us (k + 1) 0) ≡ false) here (subst (λ j. half_fault (get_or us (at + (k - at)) 0) (get_or us j 0) ≡ false) next (none (k - at) (omega arith)))
+        subst (λ j. half_fault (get_or us j 0) (get_or us (k + 1) 0) ≡ false) here
+        (subst (λ j. half_fault (get_or us (at + (k - at)) 0) (get_or us j 0) ≡ false) next (none (k - at) (omega arith)))

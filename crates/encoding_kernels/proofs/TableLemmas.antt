@@ -9,7 +9,8 @@ use Rattle.encoding_kernels.specs.declared.simd.compress.TheConstants.{LAST_BYTE
 
 -- the sixteen indices of a mask
 abbrev pub row : List ℕ → ℕ → List ℕ
-row table mask = digits_l 256 16 (number_l (2 ^ 32) (get_or table (4 * mask) 0 ∷ get_or table (4 * mask + 1) 0 ∷ get_or table (4 * mask + 2) 0 ∷ get_or table (4 * mask + 3) 0 ∷ []))
+row table mask = digits_l 256 16
+    (number_l (2 ^ 32) (get_or table (4 * mask) 0 ∷ get_or table (4 * mask + 1) 0 ∷ get_or table (4 * mask + 2) 0 ∷ get_or table (4 * mask + 3) 0 ∷ []))
 
 -- ---- all lists of tests
 abbrev all_tests : ℕ → (List Bool → Bool) → Bool
@@ -72,12 +73,14 @@ last_table = record { keeps = refl; small = refl }
 
 -- ---- four words of a table
 module _ (table : List ℕ) (kept : List Bool → List ℕ) (is : IsTable table kept) (mask x y z w : ℕ)
-    (first : x ≡ get_or table (4 * mask) 0) (second : y ≡ get_or table (4 * mask + 1) 0) (third : z ≡ get_or table (4 * mask + 2) 0) (fourth : w ≡ get_or table (4 * mask + 3) 0) where
+    (first : x ≡ get_or table (4 * mask) 0) (second : y ≡ get_or table (4 * mask + 1) 0) (third : z ≡ get_or table (4 * mask + 2) 0)
+    (fourth : w ≡ get_or table (4 * mask + 3) 0) where
   is_row : digits_l 256 16 (number_l (2 ^ 32) (x ∷ y ∷ z ∷ w ∷ [])) ≡ row table mask
   is_row = λ i. digits_l 256 16 (number_l (2 ^ 32) (first i ∷ second i ∷ third i ∷ fourth i ∷ []))
 
   pub row_small : mask < 256 → (k : ℕ) → get_or (digits_l 256 16 (number_l (2 ^ 32) (x ∷ y ∷ z ∷ w ∷ []))) k 0 < 16
   row_small l = subst (λ xs. (k : ℕ) → get_or xs k 0 < 16) (sym is_row) (below_16_at (row table mask) (small_at table 256 mask is.small l))
 
-  pub row_keeps : (bs : List Bool) → length bs ≡ 8 → mask ≡ mask_l bs → take (length (kept bs)) (digits_l 256 16 (number_l (2 ^ 32) (x ∷ y ∷ z ∷ w ∷ []))) ≡ kept bs
+  pub row_keeps : (bs : List Bool) → length bs ≡ 8 → mask ≡ mask_l bs
+      → take (length (kept bs)) (digits_l 256 16 (number_l (2 ^ 32) (x ∷ y ∷ z ∷ w ∷ []))) ≡ kept bs
   row_keeps bs l m = ap (take (length (kept bs))) (is_row ∙ ap (row table) m) ∙ same_is _ _ (all_tests_at 8 (is_right table kept) is.keeps bs l)

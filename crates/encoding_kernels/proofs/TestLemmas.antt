@@ -61,10 +61,12 @@ of_tests w {n} {r} {t} first = record {
 module _ {w : Width} {n : ℕ} {a : List ℕ} {t : ℕ → Bool} where
   -- `mask.select(Simd::splat(x), Simd::splat(y))`
   pub chosen : (x y : ℕ) → HasTests w n a t → HasLanes n (sel_l (map (top (hbits w)) a) (replicate n x) (replicate n y)) (λ k. cond (t k) x y)
-  chosen x y p = HasLanes_same (HasLanes-select (hbits w) p.lanes (HasLanes-splat n x) (HasLanes-splat n y)) (λ k l. ap (λ b. cond b x y) (top_compared w (t k)))
+  chosen x y p = HasLanes_same (HasLanes-select (hbits w) p.lanes (HasLanes-splat n x) (HasLanes-splat n y))
+      (λ k l. ap (λ b. cond b x y) (top_compared w (t k)))
 
   -- `mask.select(b, c)`
-  pub chosen_by : {b c : List ℕ} {f g : ℕ → ℕ} → HasTests w n a t → HasLanes n b f → HasLanes n c g → HasLanes n (sel_l (map (top (hbits w)) a) b c) (λ k. cond (t k) (f k) (g k))
+  pub chosen_by : {b c : List ℕ} {f g : ℕ → ℕ} → HasTests w n a t → HasLanes n b f → HasLanes n c g
+      → HasLanes n (sel_l (map (top (hbits w)) a) b c) (λ k. cond (t k) (f k) (g k))
   chosen_by {b} {c} {f} {g} p q r = HasLanes_same (HasLanes-select (hbits w) p.lanes q r) (λ k l. ap (λ x. cond x (f k) (g k)) (top_compared w (t k)))
 
   -- `mask.to_bitmask()`: if it is 0, no lane passes, and else its lowest bit is the first that does
@@ -81,10 +83,12 @@ module _ {w : Width} {n : ℕ} {a : List ℕ} {t : ℕ → Bool} where
   pub lowest_is_first : HasTests w n a t → n ≤ 64 → 0 < mask_of (hbits w) a → IsFirstSet n (count_trailing_zeros 64 (mask_of (hbits w) a)) t
   lowest_is_first p few some =
       let is = mask_is (hbits w) n a p.lanes.long few in
-      of_tests w (first_set (hbits w) p.lanes few _ (ap (count_trailing_zeros 64) is ∙ trailing_mask_l (top (hbits w)) 64 a (omega (arith, p.lanes.long)) (omega (arith, is))))
+      of_tests w (first_set (hbits w) p.lanes few _ (ap (count_trailing_zeros 64) is
+      ∙ trailing_mask_l (top (hbits w)) 64 a (omega (arith, p.lanes.long)) (omega (arith, is))))
 
   -- both, for the length of a run
-  pub run_is_first : HasTests w n a t → n ≤ 64 → (r : ℕ) → (mask_of (hbits w) a ≡ 0 → r ≡ n) → (0 < mask_of (hbits w) a → r ≡ count_trailing_zeros 64 (mask_of (hbits w) a)) → IsFirstSet n r t
+  pub run_is_first : HasTests w n a t → n ≤ 64 → (r : ℕ) → (mask_of (hbits w) a ≡ 0 → r ≡ n)
+      → (0 < mask_of (hbits w) a → r ≡ count_trailing_zeros 64 (mask_of (hbits w) a)) → IsFirstSet n r t
   run_is_first p few r none some = elim (cases_lt 0 (mask_of (hbits w) a)) [
     | inl l ↦ subst (λ k. IsFirstSet n k t) (sym (some l)) (lowest_is_first p few l)
     | inr l ↦ let e : mask_of (hbits w) a ≡ 0 = omega arith in subst (λ k. IsFirstSet n k t) (sym (none e)) (none_is_first p few e)
@@ -93,7 +97,8 @@ module _ {w : Width} {n : ℕ} {a : List ℕ} {t : ℕ → Bool} where
   -- `Marks` for the indices from `at` on, whose tests the lanes are
   pub marks_of : (P : ℕ → Type 0) (at : ℕ) → HasTests w n a t → n ≤ 64 → ((k : ℕ) → k < n → (t k ≡ false) ↔ P (at + k)) → Marks P at n (mask_of (hbits w) a)
   marks_of P at p few is =
-      let there = λ (k : ℕ) (from : at ≤ k) (l : k - at < n) (e : t (k - at) ≡ false). subst P {x = at + (k - at)} {y = k} (omega arith) ((is (k - at) l).0 e) in
+      let there = λ (k : ℕ) (from : at ≤ k) (l : k - at < n) (e : t (k - at) ≡ false). subst P {x = at + (k - at)} {y = k} (omega arith)
+      ((is (k - at) l).0 e) in
       record {
         none = (
           λ e k from to. there k from (omega arith) ((none_is_first p few e).before (k - at) (omega arith)),
@@ -109,9 +114,11 @@ module _ {w : Width} {n : ℕ} {a : List ℕ} {t : ℕ → Bool} where
       }
 
 -- `Marks` for the units below a bound
-pub marks_below : (w : Width) (n at bound : ℕ) (xs : List ℕ) → at + n ≤ length xs → n ≤ 64 → Marks (λ k. get_or xs k 0 < bound) at n (mask_of (hbits w) (zip2 (compared w leb) (replicate n bound) (chunk at n xs)))
+pub marks_below : (w : Width) (n at bound : ℕ) (xs : List ℕ) → at + n ≤ length xs → n ≤ 64
+    → Marks (λ k. get_or xs k 0 < bound) at n (mask_of (hbits w) (zip2 (compared w leb) (replicate n bound) (chunk at n xs)))
 marks_below w n at bound xs room few =
-    marks_of (λ k. get_or xs k 0 < bound) at (tests_of w leb (HasLanes-splat n bound) (HasLanes_load at n xs room)) few (λ k l. (leb-false bound _, lt-leb bound _))
+    marks_of (λ k. get_or xs k 0 < bound) at (tests_of w leb (HasLanes-splat n bound) (HasLanes_load at n xs room)) few
+    (λ k l. (leb-false bound _, lt-leb bound _))
 
 -- two tests in one
 pub and_both : (a b : Bool) → IsTrue (a && b) → IsTrue a × IsTrue b

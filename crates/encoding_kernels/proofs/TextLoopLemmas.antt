@@ -31,7 +31,8 @@ pub record Begins (src : List ℕ) (n : ℕ) : Type 0 where
   pub sequence : IsSequence (take n src)
   pub rest : IsUtf8 (drop n src)
 
-pub first_character : (src : List ℕ) (n : ℕ) → IsUtf8 src → 0 < length src → ((rest : List ℕ) → IsSequence (get_or src 0 0 ∷ rest) → n ≡ 1 + length rest) → Begins src n
+pub first_character : (src : List ℕ) (n : ℕ) → IsUtf8 src → 0 < length src
+    → ((rest : List ℕ) → IsSequence (get_or src 0 0 ∷ rest) → n ≡ 1 + length rest) → Begins src n
 first_character src n ([], (h, e)) some all = absurd (omega (arith, ap length e))
 first_character src n (c ∷ cs, (h, e)) some all =
     let parts = and_parts (scalar c) (all_scalars cs) h in
@@ -51,7 +52,8 @@ first_character src n (c ∷ cs, (h, e)) some all =
       rest = subst IsUtf8 (sym back) (cs, (parts.1, refl));
     }
 
-pub puts_character : (src old new : List ℕ) (n k c : ℕ) → Begins src n → IsScalar c → encode_utf8 c ≡ take n src → WritesPrefix old new k (encode_utf16 c) → WritesUtf16 src old new n k k
+pub puts_character : (src old new : List ℕ) (n k c : ℕ) → Begins src n → IsScalar c → encode_utf8 c ≡ take n src → WritesPrefix old new k (encode_utf16 c)
+    → WritesUtf16 src old new n k k
 puts_character src old new n k c b s e w =
     let units : flat_map encode_utf16 (c ∷ []) ≡ encode_utf16 c = append-nil (encode_utf16 c) in
     record {
@@ -70,7 +72,8 @@ pub character_short : (src : List ℕ) (n : ℕ) → Begins src n → n ≤ 4
 character_short src n b = omega (arith, length-IsSequence (take n src) b.sequence, length-take-le n src b.within)
 
 -- it fits
-pub character_fits : (src : List ℕ) (n c room : ℕ) → Begins src n → IsScalar c → encode_utf8 c ≡ take n src → length src ≤ room → room < length (encode_utf16 c) → ⊥
+pub character_fits : (src : List ℕ) (n c room : ℕ) → Begins src n → IsScalar c → encode_utf8 c ≡ take n src → length src ≤ room
+    → room < length (encode_utf16 c) → ⊥
 character_fits src n c room b s e l full = omega (arith, length_encode_utf16_utf8 c s, ap length e, length-take n src, b.within)
 
 -- ---- what is still to be written
@@ -83,7 +86,14 @@ units_third : (cs : List ℕ) → all_scalars cs ≡ true → length (encode_utf
 units_third [] h = omega arith
 units_third (c ∷ cs) h =
     let parts = and_parts (scalar c) (all_scalars cs) h in
-    omega (arith, units_third cs parts.1, unit_third c parts.0, length-append (encode_utf8 c) (encode_utf8_all cs), length-append (encode_utf16 c) (flat_map encode_utf16 cs))
+    omega (
+      arith,
+      units_third cs parts.1,
+      unit_third c parts.0,
+      length-append (encode_utf8 c) (encode_utf8_all cs),
+      length-append (encode_utf16 c)
+          (flat_map encode_utf16 cs),
+    )
   where
     unit_third : (c : ℕ) → IsScalar c → length (encode_utf8 c) ≤ 3 * length (encode_utf16 c)
     unit_third c s = grind (arith, nat_tests, length-encode c)
@@ -118,17 +128,20 @@ reaches src old new n k reach most l p =
     moved p refl (past new ∙ ap (drop (most - reach)) p.following ∙ sym (past old))
 
 -- eight units are still to be written after all but the `later` ones
-pub due_block : (src old new : List ℕ) (n k later : ℕ) → IsUtf8 src → 8 ≤ later + (length src - n) / 3 → WritesUtf16 src old new n k (k + 8 - later) → WritesUtf16 src old new n k (units_in src)
+pub due_block : (src old new : List ℕ) (n k later : ℕ) → IsUtf8 src → 8 ≤ later + (length src - n) / 3 → WritesUtf16 src old new n k (k + 8 - later)
+    → WritesUtf16 src old new n k (units_in src)
 due_block src old new n k later u l p =
     let more = p.rest in
-    let left : length src - n ≤ 3 * units_in (drop n src) = omega (arith, units_of_part16 more.0 (drop n src) more more.1.1, units_third more.0 more.1.0, ap length more.1.1, length-drop n src) in
+    let left : length src - n ≤ 3 * units_in (drop n src) =
+    omega (arith, units_of_part16 more.0 (drop n src) more more.1.1, units_third more.0 more.1.0, ap length more.1.1, length-drop n src) in
     reaches src old new n k (k + 8 - later) (units_in src) (omega (arith, left, l, units_split src old new n k (k + 8 - later) u p)) p
 
 pub due_exact : (src old new : List ℕ) (n k : ℕ) → IsUtf8 src → WritesUtf16 src old new n k k → WritesUtf16 src old new n k (units_in src)
 due_exact src old new n k u p = reaches src old new n k k (units_in src) (omega (arith, units_split src old new n k k u p)) p
 
 -- an ASCII prefix
-pub due_ascii : (src old new : List ℕ) (n : ℕ) → IsUtf8 src → n ≤ length src → IsAscii (take n src) → WritesPrefix old new n (take n src) → WritesUtf16 src old new n n (units_in src)
+pub due_ascii : (src old new : List ℕ) (n : ℕ) → IsUtf8 src → n ≤ length src → IsAscii (take n src) → WritesPrefix old new n (take n src)
+    → WritesUtf16 src old new n n (units_in src)
 due_ascii src old new n u within ascii w = due_exact src old new n n u (puts_ascii src old new n u within ascii w)
 
 -- five characters of three bytes and nine more bytes have at least eight units
@@ -149,12 +162,14 @@ pub record Putting (src old new : List ℕ) (read written : ℕ) : Type 0 where
   pub following : drop (units_in src) new ≡ drop (units_in src) old
 
 pub putting_more : (src old new sub : List ℕ) (read written n k : ℕ) → written ≤ length new → Putting src old new read written
-    → WritesUtf16 (drop read src) (take (length new - written) (drop written new)) sub n k (units_in (drop read src)) → Putting src old (put_mid written (length new - written) new sub) (read + n) (written + k)
+    → WritesUtf16 (drop read src) (take (length new - written) (drop written new)) sub n k (units_in (drop read src))
+    → Putting src old (put_mid written (length new - written) new sub) (read + n) (written + k)
 putting_more src old new sub read written n k room d p =
     let units = flat_map encode_utf16 d.done in
     let after = put_mid written (length new - written) new sub in
     let whole : take (length new - written) (drop written new) ≡ drop written new = take_rest new written in
-    let none : drop (length new - written) (drop written new) ≡ [] = drop_all (length new - written) (drop written new) (omega (arith, length-drop written new)) in
+    let none : drop (length new - written) (drop written new) ≡ [] =
+    drop_all (length new - written) (drop written new) (omega (arith, length-drop written new)) in
     let is : after ≡ take written new ++ sub = ap (λ xs. take written new ++ (sub ++ xs)) none ∙ ap (λ xs. take written new ++ xs) (append-nil sub) in
     let size : length (take written new) ≡ written = length-take-le written new room in
     let added : flat_map encode_utf16 (d.done ++ p.taken) ≡ units ++ flat_map encode_utf16 p.taken = flat_map-append encode_utf16 d.done p.taken in
@@ -170,8 +185,10 @@ putting_more src old new sub read written n k room d p =
       due = omega (arith, d.due, units_split (drop read src) _ sub n k due d.rest p, ap units_in (drop-drop n read src));
       shorter = omega (arith, d.shorter, p.counted, few, ap length p.spelled, length-take n (drop read src));
       counted = omega (arith, d.counted, p.counted, ap length added, length-append units (flat_map encode_utf16 p.taken));
-      placed = (λ i. take (written + k) (is i)) ∙ ap (λ j. take (j + k) (take written new ++ sub)) (sym size) ∙ take-append-add (take written new) sub k ∙ (λ i. d.placed i ++ p.placed i) ∙ sym added;
-      following = (λ i. drop (d.due i) (is i)) ∙ past due ∙ p.following ∙ ap (drop due) whole ∙ drop-drop due written new ∙ (λ i. drop (sym d.due i) new) ∙ d.following;
+      placed = (λ i. take (written + k) (is i)) ∙ ap (λ j. take (j + k) (take written new ++ sub)) (sym size) ∙ take-append-add (take written new) sub k
+          ∙ (λ i. d.placed i ++ p.placed i) ∙ sym added;
+      following = (λ i. drop (d.due i) (is i)) ∙ past due ∙ p.following ∙ ap (drop due) whole ∙ drop-drop due written new
+          ∙ (λ i. drop (sym d.due i) new) ∙ d.following;
     }
   where
     drop_past : (xs ys : List ℕ) (j : ℕ) → drop (length xs + j) (xs ++ ys) ≡ drop j ys
@@ -193,29 +210,41 @@ putting_first src old new n k u p = record {
 }
 
 -- the rest of the text is written after it
-pub putting_rest : (src old new sub : List ℕ) (read written k : ℕ) → IsUtf8 src → length src ≤ length old → length new ≡ length old → Putting src old new read written
+pub putting_rest : (src old new sub : List ℕ) (read written k : ℕ) → IsUtf8 src → length src ≤ length old → length new ≡ length old
+    → Putting src old new read written
     → WritesPrefix (take (length new - written) (drop written new)) sub k (flat_map encode_utf16 (chars (drop read src)))
     → WritesPrefix old (put_mid written (length new - written) new sub) (written + k) (flat_map encode_utf16 (chars src))
 putting_rest src old new sub read written k u room same d w =
     let left = d.rest.0 in
     let inside : read ≤ length src = d.within in
-    let done : d.done ++ left ≡ chars src = chars_from_encodes (d.done ++ left) src u (encodes-append d.done left ∙ (λ i. d.spelled i ++ d.rest.1.1 i) ∙ take-append-drop read src) in
+    let done : d.done ++ left ≡ chars src = chars_from_encodes (d.done ++ left) src u (encodes-append d.done left ∙ (λ i. d.spelled i ++ d.rest.1.1 i)
+    ∙ take-append-drop read src) in
     let rest : left ≡ chars (drop read src) = chars_from_encodes left (drop read src) d.rest d.rest.1.1 in
     let units : flat_map encode_utf16 (chars src) ≡ flat_map encode_utf16 d.done ++ flat_map encode_utf16 (chars (drop read src)) =
-    ap (flat_map encode_utf16) (sym done) ∙ flat_map-append encode_utf16 d.done left ∙ ap (λ cs. flat_map encode_utf16 d.done ++ flat_map encode_utf16 cs) rest in
-    let sum_over_suffixes : units_in src ≡ written + k = omega (arith, d.due, w.count, units_of_part16 left (drop read src) d.rest d.rest.1.1, ap (λ cs. length (flat_map encode_utf16 cs)) rest) in
+    ap (flat_map encode_utf16) (sym done) ∙ flat_map-append encode_utf16 d.done left
+    ∙ ap (λ cs. flat_map encode_utf16 d.done ++ flat_map encode_utf16 cs) rest in
+    let sum_over_suffixes : units_in src ≡ written + k =
+    omega (arith, d.due, w.count, units_of_part16 left (drop read src) d.rest d.rest.1.1, ap (λ cs. length (flat_map encode_utf16 cs)) rest) in
     let whole : take (length new - written) (drop written new) ≡ drop written new = take_rest new written in
-    let none : drop (length new - written) (drop written new) ≡ [] = drop_all (length new - written) (drop written new) (omega (arith, length-drop written new)) in
-    let is : put_mid written (length new - written) new sub ≡ take written new ++ sub = ap (λ xs. take written new ++ (sub ++ xs)) none ∙ ap (λ xs. take written new ++ xs) (append-nil sub) in
-    let following : drop (written + k) new ≡ drop (written + k) old = ap (λ n. drop n new) (sym sum_over_suffixes) ∙ d.following ∙ ap (λ n. drop n old) sum_over_suffixes in
-    let part : sub ≡ flat_map encode_utf16 (chars (drop read src)) ++ drop (written + k) old = w.placed ∙ ap (λ xs. flat_map encode_utf16 (chars (drop read src)) ++ drop k xs) whole ∙ ap (λ xs. flat_map encode_utf16 (chars (drop read src)) ++ xs) (drop-drop k written new ∙ following) in
+    let none : drop (length new - written) (drop written new) ≡ [] =
+    drop_all (length new - written) (drop written new) (omega (arith, length-drop written new)) in
+    let is : put_mid written (length new - written) new sub ≡ take written new ++ sub = ap (λ xs. take written new ++ (sub ++ xs)) none
+    ∙ ap (λ xs. take written new ++ xs) (append-nil sub) in
+    let following : drop (written + k) new ≡ drop (written + k) old = ap (λ n. drop n new) (sym sum_over_suffixes) ∙ d.following
+    ∙ ap (λ n. drop n old) sum_over_suffixes in
+    let part : sub ≡ flat_map encode_utf16 (chars (drop read src)) ++ drop (written + k) old = w.placed
+    ∙ ap (λ xs. flat_map encode_utf16 (chars (drop read src)) ++ drop k xs) whole
+    ∙ ap (λ xs. flat_map encode_utf16 (chars (drop read src)) ++ xs) (drop-drop k written new ∙ following) in
     record {
       count = omega (arith, d.counted, w.count, ap length units, length-append (flat_map encode_utf16 d.done) (flat_map encode_utf16 (chars (drop read src))));
       fits = omega (arith, w.fits, ap length whole, length-drop written new, same, d.shorter, inside, room);
-      placed = is ∙ (λ i. d.placed i ++ part i) ∙ sym (append_assoc (flat_map encode_utf16 d.done) (flat_map encode_utf16 (chars (drop read src))) (drop (written + k) old)) ∙ ap (λ us. us ++ drop (written + k) old) (sym units);
+      placed = is ∙ (λ i. d.placed i ++ part i)
+          ∙ sym (append_assoc (flat_map encode_utf16 d.done) (flat_map encode_utf16 (chars (drop read src))) (drop (written + k) old))
+          ∙ ap (λ us. us ++ drop (written + k) old) (sym units);
     }
 
-pub putting_all : (src old new : List ℕ) (read written : ℕ) → IsUtf8 src → length src ≤ length old → length src ≤ read → Putting src old new read written → WritesPrefix old new written (flat_map encode_utf16 (chars src))
+pub putting_all : (src old new : List ℕ) (read written : ℕ) → IsUtf8 src → length src ≤ length old → length src ≤ read → Putting src old new read written
+    → WritesPrefix old new written (flat_map encode_utf16 (chars src))
 putting_all src old new read written u room end d =
     let done : d.done ≡ chars src = chars_from_encodes d.done src u (d.spelled ∙ take_all read src end) in
     let units = flat_map encode_utf16 (chars src) in
@@ -226,7 +255,8 @@ putting_all src old new read written u room end d =
     record {
       count = count;
       fits = omega (arith, d.shorter, inside, room);
-      placed = sym (take-append-drop written new) ∙ (λ i. (d.placed ∙ same) i ++ (ap (λ n. drop n new) (sym sum_over_suffixes) ∙ d.following ∙ ap (λ n. drop n old) sum_over_suffixes) i);
+      placed = sym (take-append-drop written new)
+          ∙ (λ i. (d.placed ∙ same) i ++ (ap (λ n. drop n new) (sym sum_over_suffixes) ∙ d.following ∙ ap (λ n. drop n old) sum_over_suffixes) i);
     }
 
 -- ---- where a loop stops
@@ -243,7 +273,8 @@ putting_some d = record {
 }
 
 -- the whole text
-pub puts_text : (src old new : List ℕ) (k : ℕ) → IsUtf8 src → WritesPrefix old new k (flat_map encode_utf16 (chars src)) → WritesUtf16 src old new (length src) k (units_in src)
+pub puts_text : (src old new : List ℕ) (k : ℕ) → IsUtf8 src → WritesPrefix old new k (flat_map encode_utf16 (chars src))
+    → WritesUtf16 src old new (length src) k (units_in src)
 puts_text src old new k u w =
     let units : flat_map encode_utf16 (chars src) ≡ flat_map encode_utf16 u.0 = ap (flat_map encode_utf16) (sym (chars_from_encodes u.0 src u u.1.1)) in
     let count : k ≡ length (flat_map encode_utf16 u.0) = w.count ∙ ap length units in
@@ -260,14 +291,23 @@ puts_text src old new k u w =
 
 -- ---- the ASCII prefix of a text, by parts that are stored whole
 -- after an ASCII prefix, `size` bytes of ASCII or three times as many of a text have at least `size` code units
-part_due : (src : List ℕ) (n size : ℕ) → IsUtf8 src → n + size ≤ length src → BelowUpTo 0x80 src n → BelowUpTo 0x80 src (n + size) ⊎ (n + 3 * size ≤ length src) → n + size ≤ units_in src
+part_due : (src : List ℕ) (n size : ℕ) → IsUtf8 src → n + size ≤ length src → BelowUpTo 0x80 src n → BelowUpTo 0x80 src (n + size) ⊎ (n + 3 * size ≤ length src)
+    → n + size ≤ units_in src
 part_due src n size u long low (inl more) =
     let p = puts_prefix src src src (n + size) (n + size) u long (Each-take (λ b. b < 0x80) (omega arith) src (n + size) more) refl refl in
     omega (arith, units_split src src src (n + size) (n + size) (n + size) u p)
 part_due src n size u long low (inr left) =
     let p = puts_prefix src src src n n u (omega arith) (Each-take (λ b. b < 0x80) (omega arith) src n low) refl refl in
     let more = p.rest in
-    omega (arith, units_split src src src n n n u p, units_of_part16 more.0 (drop n src) more more.1.1, units_third more.0 more.1.0, ap length more.1.1, length-drop n src)
+    omega (
+      arith,
+      units_split src src src n n n u p,
+      units_of_part16 more.0
+          (drop n src) more more.1.1,
+      units_third more.0 more.1.0,
+      ap length more.1.1,
+      length-drop n src,
+    )
 
 pub record Unpacked (src old new : List ℕ) (at : ℕ) : Type 0 where
   pub within : at ≤ length src
@@ -279,7 +319,8 @@ pub record Unpacked (src old new : List ℕ) (at : ℕ) : Type 0 where
 pub unpacked_none : (src old : List ℕ) → Unpacked src old old 0
 unpacked_none src old = record { within = omega arith; same = refl; low = λ k l. absurd (omega arith); copied = refl; following = refl }
 
-pub unpacked_part : (src old new after : List ℕ) (at n run : ℕ) → IsUtf8 src → at + n ≤ length src → (run ≡ n) ⊎ (at + 3 * n ≤ length src) → length src ≤ length old → Unpacked src old new at
+pub unpacked_part : (src old new after : List ℕ) (at n run : ℕ) → IsUtf8 src → at + n ≤ length src → (run ≡ n) ⊎ (at + 3 * n ≤ length src)
+    → length src ≤ length old → Unpacked src old new at
     → IsRunBelow 0x80 src at n run → after ≡ take at new ++ (take n (drop at src) ++ drop (at + n) new) → Unpacked src old after (at + run)
 unpacked_part src old new after at n run u long left room d r is =
     let part = take n (drop at src) in
@@ -287,8 +328,10 @@ unpacked_part src old new after at n run u long left room d r is =
     let more : (k : ℕ) → k < at + run → slice_index src k < 0x80 = λ k l. elim (cases_lt k at) [ inl b ↦ d.low k b | inr b ↦ r.pass k b l ] in
     let due = part_due src at n u long d.low (elim left [ inl e ↦ inl (λ k l. more k (omega (arith, e))) | inr e ↦ inr e ]) in
     let size : length done ≡ at + n = omega (arith, length-append (take at src) part, length-take at src, length-take n (drop at src), length-drop at src) in
-    let stored : after ≡ done ++ drop (at + n) new = is ∙ (λ i. d.copied i ++ (part ++ drop (at + n) new)) ∙ sym (append_assoc (take at src) part (drop (at + n) new)) in
-    let whole : take (at + n) after ≡ take (at + n) src = ap (take (at + n)) stored ∙ take_at done (drop (at + n) new) (at + n) size ∙ sym (take-add at n src) in
+    let stored : after ≡ done ++ drop (at + n) new = is ∙ (λ i. d.copied i ++ (part ++ drop (at + n) new))
+    ∙ sym (append_assoc (take at src) part (drop (at + n) new)) in
+    let whole : take (at + n) after ≡ take (at + n) src = ap (take (at + n)) stored ∙ take_at done (drop (at + n) new) (at + n) size
+    ∙ sym (take-add at n src) in
     let within : run ≤ n = r.within in
     let upto = λ (xs : List ℕ). sym (take-take (at + run) (at + n) xs (omega arith)) in
     let reach : at + n + (units_in src - (at + n)) ≡ units_in src = omega (arith, due) in
@@ -303,7 +346,8 @@ unpacked_part src old new after at n run u long left room d r is =
     }
 
 pub unpacked_prefix : (src old new : List ℕ) (at : ℕ) → IsUtf8 src → Unpacked src old new at → WritesUtf16 src old new at at (units_in src)
-unpacked_prefix src old new at u d = puts_prefix src old new at (units_in src) u d.within (Each-take (λ b. b < 0x80) (omega arith) src at d.low) d.copied d.following
+unpacked_prefix src old new at u d = puts_prefix src old new at (units_in src) u d.within
+    (Each-take (λ b. b < 0x80) (omega arith) src at d.low) d.copied d.following
 
 pub putting_prefix : (src old new : List ℕ) (at : ℕ) → IsUtf8 src → Unpacked src old new at → Putting src old new at at
 putting_prefix src old new at u d =
@@ -342,9 +386,11 @@ module _ {src old new : List ℕ} {n k reach : ℕ} (p : WritesUtf16 src old new
   puts_single places = moved p (take_at (take k new) (drop k places) k puts_long) (drop_at (take k new) (drop k places) k puts_long)
 
 -- a whole text, at the start of a block
-pub puts_whole : (src block old new : List ℕ) (n k : ℕ) → IsUtf8 src → take n block ≡ src → n ≤ length old → WritesUtf16 block old new n k k → WritesPrefix old new k (flat_map encode_utf16 (chars src))
+pub puts_whole : (src block old new : List ℕ) (n k : ℕ) → IsUtf8 src → take n block ≡ src → n ≤ length old → WritesUtf16 block old new n k k
+    → WritesPrefix old new k (flat_map encode_utf16 (chars src))
 puts_whole src block old new n k u prefix room p =
-    let units : flat_map encode_utf16 p.taken ≡ flat_map encode_utf16 (chars src) = ap (flat_map encode_utf16) (chars_from_encodes p.taken src u (p.spelled ∙ prefix)) in
+    let units : flat_map encode_utf16 p.taken ≡ flat_map encode_utf16 (chars src) =
+    ap (flat_map encode_utf16) (chars_from_encodes p.taken src u (p.spelled ∙ prefix)) in
     record {
       count = p.counted ∙ ap length units;
       fits = omega (arith, puts_few p, room);

@@ -40,7 +40,8 @@ latin1_total [] h = refl
 latin1_total (b ∷ bs) h = omega (arith, latin1_total bs (λ k. h (suc k)), latin1_one b (h 0), length-append (encode_utf8 b) (encode_utf8_all bs))
 
 -- a lead for each character of two bytes
-leads_of_one : (c : ℕ) (rest : List ℕ) → c ≤ 0xFF → 1 + sum_over_suffixes (one_if_at_least 0xC0) (encode_utf8 c ++ rest) ≡ length (encode_utf8 c) + sum_over_suffixes (one_if_at_least 0xC0) rest
+leads_of_one : (c : ℕ) (rest : List ℕ) → c ≤ 0xFF
+    → 1 + sum_over_suffixes (one_if_at_least 0xC0) (encode_utf8 c ++ rest) ≡ length (encode_utf8 c) + sum_over_suffixes (one_if_at_least 0xC0) rest
 unfolding sum_over_suffixes
 leads_of_one c rest l = elim (cases_lt c 128) [
   | inl p ↦ rw (one c p) (omega (arith, low_end 0xC0 c (omega arith)))
@@ -50,7 +51,13 @@ leads_of_one c rest l = elim (cases_lt c 128) [
 leads_total : (cs : List ℕ) → IsLatin1 cs → length cs + sum_over_suffixes (one_if_at_least 0xC0) (encode_utf8_all cs) ≡ length (encode_utf8_all cs)
 unfolding sum_over_suffixes
 leads_total [] h = refl
-leads_total (c ∷ cs) h = omega (arith, leads_total cs (λ k. h (suc k)), leads_of_one c (encode_utf8_all cs) (h 0), length-append (encode_utf8 c) (encode_utf8_all cs))
+leads_total (c ∷ cs) h = omega (
+  arith,
+  leads_total cs (λ k. h (suc k)),
+  leads_of_one c (encode_utf8_all cs) (h 0),
+  length-append (encode_utf8 c)
+      (encode_utf8_all cs),
+)
 
 pub chars_total : (bs : List ℕ) → IsUtf8Latin1 bs → length (chars bs) + sum_over_suffixes (one_if_at_least 0xC0) bs ≡ length bs
 chars_total bs h =
@@ -80,18 +87,37 @@ low_lead a b c l = joins_none a b c (λ s. omega (arith, s.0))
 pub second_low : (a b : ℕ) → IsSecond a b → b < 0xC2
 second_low a b s = grind (arith, nat_tests)
 
-shape_total : (x rest : List ℕ) → HasShape x → sum_over_suffixes continuations (x ++ rest) + (1 + bool_byte (nat_le 4 (length x))) ≡ length x + sum_over_suffixes continuations rest
+shape_total : (x rest : List ℕ) → HasShape x
+    → sum_over_suffixes continuations (x ++ rest) + (1 + bool_byte (nat_le 4 (length x))) ≡ length x + sum_over_suffixes continuations rest
 unfolding sum_over_suffixes
 shape_total [] rest h = absurd h
 shape_total (a ∷ []) rest h = omega (arith, low_lead a (slice_index rest 0) (slice_index rest 1) (omega arith))
 shape_total (a ∷ b ∷ []) rest (l, m, t) =
-    omega (arith, joins_one a b (slice_index rest 0) (second_two a b l m t) (low_third a (slice_index rest 0) (omega arith)), low_lead b (slice_index rest 0) (slice_index rest 1) (omega (arith, t.1)))
+    omega (
+      arith,
+      joins_one a b (slice_index rest 0) (second_two a b l m t) (low_third a (slice_index rest 0) (omega arith)),
+      low_lead b (slice_index rest 0)
+          (slice_index rest 1) (omega (arith, t.1)),
+    )
 shape_total (a ∷ b ∷ c ∷ []) rest (l, m, s, t) =
     let second = second_more a b l (omega arith) s in
-    omega (arith, joins_two a b c second l t, low_lead b c (slice_index rest 0) (second_low a b second), low_lead c (slice_index rest 0) (slice_index rest 1) (omega (arith, t.1)))
+    omega (
+      arith,
+      joins_two a b c second l t,
+      low_lead b c (slice_index rest 0) (second_low a b second),
+      low_lead c (slice_index rest 0) (slice_index rest 1)
+          (omega (arith, t.1)),
+    )
 shape_total (a ∷ b ∷ c ∷ d ∷ []) rest (l, m, s, t, f) =
     let second = second_more a b (omega arith) m s in
-    omega (arith, joins_two a b c second (omega arith) t, low_lead b c d (second_low a b second), low_lead c d (slice_index rest 0) (omega (arith, t.1)), low_lead d (slice_index rest 0) (slice_index rest 1) (omega (arith, f.1)))
+    omega (
+      arith,
+      joins_two a b c second (omega arith) t,
+      low_lead b c d (second_low a b second),
+      low_lead c d (slice_index rest 0)
+          (omega (arith, t.1)),
+      low_lead d (slice_index rest 0) (slice_index rest 1) (omega (arith, f.1)),
+    )
 shape_total (a ∷ b ∷ c ∷ d ∷ e ∷ more) rest h = absurd h
 
 pub units_of_character : (c : ℕ) → IsScalar c → length (encode_utf16 c) ≡ 1 + bool_byte (nat_le 4 (length (encode_utf8 c)))
@@ -113,16 +139,28 @@ pub rejected_third : (a b : ℕ) (rest : List ℕ) → HasOpenShape (a ∷ b ∷
 rejected_third a b [] h n t = omega (arith, t.0)
 rejected_third a b (y ∷ ys) h n t = n y ys refl (third_goes_on a b y h t)
 
-open_total : (x rest : List ℕ) → HasOpenShape x → IsRejectedBefore x rest → sum_over_suffixes continuations (x ++ rest) + 1 ≡ length x + sum_over_suffixes continuations rest
+open_total : (x rest : List ℕ) → HasOpenShape x → IsRejectedBefore x rest
+    → sum_over_suffixes continuations (x ++ rest) + 1 ≡ length x + sum_over_suffixes continuations rest
 unfolding sum_over_suffixes
 open_total [] rest h n = absurd h
 open_total (a ∷ []) rest h n = omega (arith, joins_none a (slice_index rest 0) (slice_index rest 1) (rejected_second a rest n))
 open_total (a ∷ b ∷ []) rest h n =
     let second = second_more a b h.0 h.1 h.2 in
-    omega (arith, joins_one a b (slice_index rest 0) second (stays_third a (slice_index rest 0) (rejected_third a b rest h n)), low_lead b (slice_index rest 0) (slice_index rest 1) (second_low a b second))
+    omega (
+      arith,
+      joins_one a b (slice_index rest 0) second (stays_third a (slice_index rest 0) (rejected_third a b rest h n)),
+      low_lead b (slice_index rest 0)
+          (slice_index rest 1) (second_low a b second),
+    )
 open_total (a ∷ b ∷ c ∷ []) rest h n =
     let second = second_more a b (omega (arith, h.0)) h.1 h.2 in
-    omega (arith, joins_two a b c second (omega (arith, h.0)) h.3, low_lead b c (slice_index rest 0) (second_low a b second), low_lead c (slice_index rest 0) (slice_index rest 1) (omega (arith, h.3.1)))
+    omega (
+      arith,
+      joins_two a b c second (omega (arith, h.0)) h.3,
+      low_lead b c (slice_index rest 0) (second_low a b second),
+      low_lead c (slice_index rest 0)
+          (slice_index rest 1) (omega (arith, h.3.1)),
+    )
 open_total (a ∷ b ∷ c ∷ d ∷ more) rest h n = absurd h
 
 unpaired_total : (b : ℕ) (rest : List ℕ) → IsNeverLeading b → sum_over_suffixes continuations (b ∷ rest) ≡ sum_over_suffixes continuations rest
@@ -134,7 +172,8 @@ pub rejected_after : (bs x rest : List ℕ) → BeginsWithNoCharacter bs → IsL
 rejected_after bs x rest n l y ys e = rejected_part bs x y ys n (subst (λ r. IsLongestIncomplete bs x r) e l)
 
 -- ---- the first part, and all
-part_total : (bs : List ℕ) (p : Part) (rest : List ℕ) → IsFirstPart bs p rest → sum_over_suffixes continuations bs + (length rest + length (encode_utf16 (lossy_scalar p))) ≡ length bs + sum_over_suffixes continuations rest
+part_total : (bs : List ℕ) (p : Part) (rest : List ℕ) → IsFirstPart bs p rest
+    → sum_over_suffixes continuations bs + (length rest + length (encode_utf16 (lossy_scalar p))) ≡ length bs + sum_over_suffixes continuations rest
 part_total bs (Character c) rest (s, e) =
     let sum = shape_total (encode_utf8 c) rest (HasShape-IsSequence (encode_utf8 c) (IsSequence-encode c s)) in
     rw e (omega (arith, sum, units_of_character c s, length-append (encode_utf8 c) rest))
@@ -184,7 +223,8 @@ unpaired_apart u (v ∷ vs) n p = n (p.0, omega (arith, p.1)) (p.2, omega (arith
 four_long : (c : ℕ) → 0x10000 ≤ c → len_utf8 c ≡ 4
 four_long c l = grind (arith, nat_tests)
 
-part16_total : (us : List ℕ) (p : Part16) (rest : List ℕ) → IsFirstPart16 us p rest → length us + sum_over_suffixes extra_bytes us ≡ length (utf8_of_part16 p) + (length rest + sum_over_suffixes extra_bytes rest)
+part16_total : (us : List ℕ) (p : Part16) (rest : List ℕ) → IsFirstPart16 us p rest
+    → length us + sum_over_suffixes extra_bytes us ≡ length (utf8_of_part16 p) + (length rest + sum_over_suffixes extra_bytes rest)
 unfolding sum_over_suffixes
 part16_total us (Character16 c) rest (s, e) = elim (cases_lt c 0x10000) [
   | inl l ↦ let whole : us ≡ c ∷ rest = e ∙ ap (λ xs. xs ++ rest) (one_unit c l) in
@@ -193,7 +233,16 @@ part16_total us (Character16 c) rest (s, e) = elim (cases_lt c 0x10000) [
       let u = two.0 in
       let v = two.1 in
       let whole : us ≡ u ∷ v ∷ rest = e ∙ ap (λ xs. xs ++ rest) two.3 in
-      rw whole (omega (arith, pair_beyond u v two.2, single_extra v (slice_index rest 0) (not_low u v (slice_index rest 0) two.2), size_surrogate v (omega (arith, two.2.2)), four_long c l, length-encode c))
+      rw whole
+      (omega (
+        arith,
+        pair_beyond u v two.2,
+        single_extra v (slice_index rest 0) (not_low u v (slice_index rest 0) two.2),
+        size_surrogate v
+            (omega (arith, two.2.2)),
+        four_long c l,
+        length-encode c,
+      ))
 ]
 part16_total us (Unpaired u) rest (s, e, n) =
     let from : 0x800 ≤ u = elim s [ inl h ↦ omega (arith, h.0) | inr h ↦ omega (arith, h.0) ] in
@@ -203,7 +252,14 @@ pub utf8_total : (us : List ℕ) (ps : List Part16) → ArePartsOf16 us ps → l
 unfolding sum_over_suffixes
 utf8_total us ps h = rw (sym h.1) (by_parts ps h.0)
   where
-    by_parts : (ps : List Part16) → ArePaired ps → length (flat_map utf8_of_part16 ps) ≡ length (flat_map units_of_part16 ps) + sum_over_suffixes extra_bytes (flat_map units_of_part16 ps)
+    by_parts : (ps : List Part16) → ArePaired ps → length (flat_map utf8_of_part16 ps) ≡ length (flat_map units_of_part16 ps) + sum_over_suffixes extra_bytes
+        (flat_map units_of_part16 ps)
     by_parts [] h = refl
     by_parts (p ∷ ps) h =
-        omega (arith, by_parts ps (tail_paired p ps h), part16_total (flat_map units_of_part16 (p ∷ ps)) p (flat_map units_of_part16 ps) (first_of_parts p ps h), length-append (utf8_of_part16 p) (flat_map utf8_of_part16 ps))
+        omega (
+          arith,
+          by_parts ps (tail_paired p ps h),
+          part16_total (flat_map units_of_part16 (p ∷ ps)) p (flat_map units_of_part16 ps)
+              (first_of_parts p ps h),
+          length-append (utf8_of_part16 p) (flat_map utf8_of_part16 ps),
+        )

@@ -46,7 +46,8 @@ module _ (x y a b : ℕ) where
   unit_high h q = cond-false (ltb b 0x80) _ _ (le-ltb _ _ h) ∙ cond-true (leb 0xF0 y) _ _ (le-leb _ _ q)
 
   unit_three : 0x80 ≤ b → x < 0xF0 → y < 0xF0 → 0xE0 ≤ y → unit_at x y a b ≡ y % 16 * 4096 + low_bits a b
-  unit_three h p q r = cond-false (ltb b 0x80) _ _ (le-ltb _ _ h) ∙ cond-false (leb 0xF0 y) _ _ (lt-leb _ _ q) ∙ cond-false (leb 0xF0 x) _ _ (lt-leb _ _ p) ∙ cond-true (leb 0xE0 y) _ _ (le-leb _ _ r)
+  unit_three h p q r = cond-false (ltb b 0x80) _ _ (le-ltb _ _ h) ∙ cond-false (leb 0xF0 y) _ _ (lt-leb _ _ q) ∙ cond-false (leb 0xF0 x) _ _ (lt-leb _ _ p)
+      ∙ cond-true (leb 0xE0 y) _ _ (le-leb _ _ r)
 
   unit_two : 0x80 ≤ b → x < 0xF0 → y < 0xE0 → unit_at x y a b ≡ low_bits a b
   unit_two h p q = grind (arith, nat_tests)
@@ -88,16 +89,21 @@ module _ (x y a : ℕ) (X : x < 0xF0) (Y : y < 0xE0) (A : a < 0xC0) (c : ℕ) (b
       let p = 192 + c / 64 in
       let q = 128 + c % 64 in
       ap (λ e. units_from x y a (e ++ bs)) (two c l h) ∙ from_one x y a p (q ∷ bs) ∙ none_ends x y a p (units_from y a p (q ∷ bs)) (mark_off a p (omega arith))
-      ∙ from_one y a p q bs ∙ one_ends y a p q (units_from a p q bs) c (mark_on p q (omega arith) (omega arith)) (unit_two y a p q (omega arith) (omega arith) (omega arith) ∙ omega arith)
+      ∙ from_one y a p q bs
+      ∙ one_ends y a p q (units_from a p q bs) c (mark_on p q (omega arith) (omega arith))
+      (unit_two y a p q (omega arith) (omega arith) (omega arith) ∙ omega arith)
 
   from_three : 2048 ≤ c → c < 65536 → units_from x y a (encode_utf8 c ++ bs) ≡ c ∷ units_from (224 + c / 4096) (128 + c / 64 % 64) (128 + c % 64) bs
   from_three l h =
       let p = 224 + c / 4096 in
       let q = 128 + c / 64 % 64 in
       let r = 128 + c % 64 in
-      ap (λ e. units_from x y a (e ++ bs)) (three c l h) ∙ from_one x y a p (q ∷ r ∷ bs) ∙ none_ends x y a p (units_from y a p (q ∷ r ∷ bs)) (mark_off a p (omega arith))
+      ap (λ e. units_from x y a (e ++ bs)) (three c l h) ∙ from_one x y a p (q ∷ r ∷ bs)
+      ∙ none_ends x y a p (units_from y a p (q ∷ r ∷ bs)) (mark_off a p (omega arith))
       ∙ from_one y a p q (r ∷ bs) ∙ none_ends y a p q (units_from a p q (r ∷ bs)) (mark_off_second p q (omega arith) (omega arith))
-      ∙ from_one a p q r bs ∙ one_ends a p q r (units_from p q r bs) c (mark_on q r (omega arith) (omega arith)) (unit_three a p q r (omega arith) (omega arith) (omega arith) (omega arith) ∙ omega arith)
+      ∙ from_one a p q r bs
+      ∙ one_ends a p q r (units_from p q r bs) c (mark_on q r (omega arith) (omega arith))
+      (unit_three a p q r (omega arith) (omega arith) (omega arith) (omega arith) ∙ omega arith)
 
   from_four : 65536 ≤ c → c < 1114112 → units_from x y a (encode_utf8 c ++ bs)
       ≡ (0xD800 + (c - 0x1_0000) / 0x400) ∷ (0xDC00 + (c - 0x1_0000) % 0x400) ∷ units_from (128 + c / 4096 % 64) (128 + c / 64 % 64) (128 + c % 64) bs
@@ -108,18 +114,25 @@ module _ (x y a : ℕ) (X : x < 0xF0) (Y : y < 0xE0) (A : a < 0xC0) (c : ℕ) (b
       let s = 128 + c % 64 in
       let u = 0xD800 + (c - 0x1_0000) / 0x400 in
       let v = 0xDC00 + (c - 0x1_0000) % 0x400 in
-      ap (λ e. units_from x y a (e ++ bs)) (four c l) ∙ from_one x y a p (q ∷ r ∷ s ∷ bs) ∙ none_ends x y a p (units_from y a p (q ∷ r ∷ s ∷ bs)) (mark_off a p (omega arith))
+      ap (λ e. units_from x y a (e ++ bs)) (four c l) ∙ from_one x y a p (q ∷ r ∷ s ∷ bs)
+      ∙ none_ends x y a p (units_from y a p (q ∷ r ∷ s ∷ bs)) (mark_off a p (omega arith))
       ∙ from_one y a p q (r ∷ s ∷ bs) ∙ none_ends y a p q (units_from a p q (r ∷ s ∷ bs)) (mark_off_second p q (omega arith) (omega arith))
-      ∙ from_one a p q r (s ∷ bs) ∙ one_ends a p q r (units_from p q r (s ∷ bs)) u (mark_on q r (omega arith) (omega arith)) (unit_high a p q r (omega arith) (omega arith) ∙ high_is c l h)
-      ∙ ap (λ xs. u ∷ xs) (from_one p q r s bs ∙ one_ends p q r s (units_from q r s bs) v (mark_on r s (omega arith) (omega arith)) (unit_low p q r s (omega arith) (omega arith) (omega arith) ∙ low_is c l))
+      ∙ from_one a p q r (s ∷ bs)
+      ∙ one_ends a p q r (units_from p q r (s ∷ bs)) u (mark_on q r (omega arith) (omega arith))
+      (unit_high a p q r (omega arith) (omega arith) ∙ high_is c l h)
+      ∙ ap (λ xs. u ∷ xs) (from_one p q r s bs
+      ∙ one_ends p q r s (units_from q r s bs) v (mark_on r s (omega arith) (omega arith))
+      (unit_low p q r s (omega arith) (omega arith) (omega arith) ∙ low_is c l))
     where
-      high_is : (c : ℕ) → 65536 ≤ c → c < 1114112 → 0xD7C0 + ((240 + c / 262144) % 8 * 256 + low_bits (128 + c / 4096 % 64) (128 + c / 64 % 64) / 16) ≡ 0xD800 + (c - 0x1_0000) / 0x400
+      high_is : (c : ℕ) → 65536 ≤ c → c < 1114112
+          → 0xD7C0 + ((240 + c / 262144) % 8 * 256 + low_bits (128 + c / 4096 % 64) (128 + c / 64 % 64) / 16) ≡ 0xD800 + (c - 0x1_0000) / 0x400
       high_is c l h = omega arith
 
       low_is : (c : ℕ) → 65536 ≤ c → 0xDC00 + low_bits (128 + c / 64 % 64) (128 + c % 64) % 0x400 ≡ 0xDC00 + (c - 0x1_0000) % 0x400
       low_is c l = omega arith
 
-pub units_of_characters : (cs : List ℕ) → all_scalars cs ≡ true → (x y a : ℕ) → x < 0xF0 → y < 0xE0 → a < 0xC0 → units_from x y a (encode_utf8_all cs) ≡ flat_map encode_utf16 cs
+pub units_of_characters : (cs : List ℕ) → all_scalars cs ≡ true → (x y a : ℕ) → x < 0xF0 → y < 0xE0 → a < 0xC0
+    → units_from x y a (encode_utf8_all cs) ≡ flat_map encode_utf16 cs
 units_of_characters [] h x y a X Y A = from_none x y a
 units_of_characters (c ∷ cs) h x y a X Y A =
     let parts = and_parts (scalar c) (all_scalars cs) h in
@@ -127,15 +140,21 @@ units_of_characters (c ∷ cs) h x y a X Y A =
     let is = scalar_cases c parts.0 in
     let one_more = λ (e : encode_utf16 c ≡ c ∷ []). ap (λ us. us ++ flat_map encode_utf16 cs) (sym e) in
     elim (cases_lt c 128) [
-      | inl p ↦ from_ascii x y a X Y A c text p ∙ ap (λ us. c ∷ us) (units_of_characters cs parts.1 y a c (omega arith) (omega arith) (omega arith)) ∙ one_more (one_unit c (omega arith))
+      | inl p ↦ from_ascii x y a X Y A c text p ∙ ap (λ us. c ∷ us) (units_of_characters cs parts.1 y a c (omega arith) (omega arith) (omega arith))
+          ∙ one_more (one_unit c (omega arith))
       | inr p ↦ elim (cases_lt c 2048) [
-        | inl q ↦ from_two x y a X Y A c text p q ∙ ap (λ us. c ∷ us) (units_of_characters cs parts.1 a (192 + c / 64) (128 + c % 64) (omega arith) (omega arith) (omega arith)) ∙ one_more (one_unit c (omega arith))
+        | inl q ↦ from_two x y a X Y A c text p q
+            ∙ ap (λ us. c ∷ us) (units_of_characters cs parts.1 a (192 + c / 64) (128 + c % 64) (omega arith) (omega arith) (omega arith))
+            ∙ one_more (one_unit c (omega arith))
         | inr q ↦ elim (cases_lt c 65536) [
-          | inl r ↦ from_three x y a X Y A c text q r ∙ ap (λ us. c ∷ us) (units_of_characters cs parts.1 (224 + c / 4096) (128 + c / 64 % 64) (128 + c % 64) (omega arith) (omega arith) (omega arith)) ∙ one_more (one_unit c r)
+          | inl r ↦ from_three x y a X Y A c text q r
+              ∙ ap (λ us. c ∷ us) (units_of_characters cs parts.1 (224 + c / 4096) (128 + c / 64 % 64) (128 + c % 64) (omega arith) (omega arith) (omega arith))
+              ∙ one_more (one_unit c r)
           | inr r ↦
               let top : c < 1114112 = elim is [ inl z ↦ omega arith | inr z ↦ z.1 ] in
               from_four x y a X Y A c text r top
-              ∙ ap (λ us. (0xD800 + (c - 0x1_0000) / 0x400) ∷ (0xDC00 + (c - 0x1_0000) % 0x400) ∷ us) (units_of_characters cs parts.1 (128 + c / 4096 % 64) (128 + c / 64 % 64) (128 + c % 64) (omega arith) (omega arith) (omega arith))
+              ∙ ap (λ us. (0xD800 + (c - 0x1_0000) / 0x400) ∷ (0xDC00 + (c - 0x1_0000) % 0x400) ∷ us)
+              (units_of_characters cs parts.1 (128 + c / 4096 % 64) (128 + c / 64 % 64) (128 + c % 64) (omega arith) (omega arith) (omega arith))
               ∙ ap (λ us. us ++ flat_map encode_utf16 cs) (sym (two_units c r))
         ]
       ]
@@ -155,14 +174,22 @@ marks_to src end = take end (ends_after 0 (take 16 src)) ++ replicate (16 - end)
 marks_long : (src : List ℕ) (end : ℕ) → 16 ≤ length src → end ≤ 16 → length (marks_to src end) ≡ 16
 marks_long src end room few =
     let size : length (ends_after 0 (take 16 src)) ≡ 16 = length-ends 0 (take 16 src) ∙ length-take-le 16 src room in
-    omega (arith, length-append (take end (ends_after 0 (take 16 src))) (replicate {A = Bool} (16 - end) false), length-take-le end (ends_after 0 (take 16 src)) (omega (arith, size)), length-replicate {A = Bool} (16 - end) false)
+    omega (
+      arith,
+      length-append (take end (ends_after 0 (take 16 src))) (replicate {A = Bool} (16 - end) false),
+      length-take-le end (ends_after 0 (take 16 src))
+          (omega (arith, size)),
+      length-replicate {A = Bool} (16 - end) false,
+    )
 
 pub kept_small : (src : List ℕ) (end kept : ℕ) → 16 ≤ length src → end ≤ 16 → kept ≡ mask_l (marks_to src end) → kept < 2 ^ 16
-kept_small src end kept room few is = let small : mask_l (marks_to src end) < 2 ^ 16 = subst (λ n. mask_l (marks_to src end) < 2 ^ n) (marks_long src end room few) (mask_l-lt (marks_to src end)) in omega (arith, is)
+kept_small src end kept room few is = let small : mask_l (marks_to src end) < 2 ^ 16 =
+    subst (λ n. mask_l (marks_to src end) < 2 ^ n) (marks_long src end room few) (mask_l-lt (marks_to src end)) in omega (arith, is)
 
 pub puts_block : (src old new first last : List ℕ) (end kept count reach : ℕ) → IsUtf8 src → 16 ≤ length src → end ≤ 16 → IsCharBoundary src end
     → (first ≡ take 8 (units_after 0 0 0 (take 16 src))) × (last ≡ drop 8 (units_after 0 0 0 (take 16 src))) → kept ≡ mask_l (marks_to src end)
-    → ((marks : List Bool) → length marks ≡ 16 → kept ≡ mask_l marks → WritesCompressed marks (first ++ last) old new count reach) → WritesUtf16 src old new end count reach
+    → ((marks : List Bool) → length marks ≡ 16 → kept ≡ mask_l marks → WritesCompressed marks (first ++ last) old new count reach)
+    → WritesUtf16 src old new end count reach
 puts_block src old new first last end kept count reach u room few boundary halves is writes =
     let us = first ++ last in
     let e : us ≡ units_after 0 0 0 (take 16 src) = (λ i. halves.0 i ++ halves.1 i) ∙ take-append-drop 8 (units_after 0 0 0 (take 16 src)) in
@@ -194,7 +221,8 @@ pub ascii_text : (bs : List ℕ) → IsAscii bs → IsUtf8 bs × (flat_map encod
 ascii_text bs ascii = (IsUtf8-from_ascii bs ascii, ap (flat_map encode_utf16) (chars-IsAscii bs ascii) ∙ ascii_units bs ascii)
 
 -- an ASCII prefix is converted if it is copied
-pub puts_prefix : (src old new : List ℕ) (n reach : ℕ) → IsUtf8 src → n ≤ length src → IsAscii (take n src) → take n new ≡ take n src → drop reach new ≡ drop reach old
+pub puts_prefix : (src old new : List ℕ) (n reach : ℕ) → IsUtf8 src → n ≤ length src → IsAscii (take n src) → take n new ≡ take n src
+    → drop reach new ≡ drop reach old
     → WritesUtf16 src old new n n reach
 puts_prefix src old new n reach u within ascii copied following =
     let bs = take n src in
@@ -219,9 +247,11 @@ puts_prefix src old new n reach u within ascii copied following =
       following = following;
     }
 
-pub puts_ascii : (src old new : List ℕ) (n : ℕ) → IsUtf8 src → n ≤ length src → IsAscii (take n src) → WritesPrefix old new n (take n src) → WritesUtf16 src old new n n n
+pub puts_ascii : (src old new : List ℕ) (n : ℕ) → IsUtf8 src → n ≤ length src → IsAscii (take n src) → WritesPrefix old new n (take n src)
+    → WritesUtf16 src old new n n n
 puts_ascii src old new n u within ascii w =
-    puts_prefix src old new n n u within ascii (sym (written_is old new n (take n src) w)) (ap (drop n) w.placed ∙ drop_at (take n src) (drop n old) n (sym w.count))
+    puts_prefix src old new n n u within ascii (sym (written_is old new n (take n src) w)) (ap (drop n) w.placed
+    ∙ drop_at (take n src) (drop n old) n (sym w.count))
 
 -- ---- characters of three bytes
 record Triple (src : List ℕ) : Type 0 where
@@ -277,7 +307,17 @@ record Triples (n : ℕ) (src : List ℕ) : Type 0 where
   values : (k : ℕ) → k < n → get_or scalars_of k 0 ≡ triple_unit (get_or src (3 * k) 0) (get_or src (3 * k + 1) 0) (get_or src (3 * k + 2) 0)
 
 triples : (n : ℕ) (src : List ℕ) → IsUtf8 src → ((k : ℕ) → k < n → BeginsThree (get_or src (3 * k) 0)) → Triples n src
-triples zero src u b = record { scalars_of = []; are_scalars = refl; long = refl; within = omega arith; spelled = refl; rest = u; units = refl; values = λ k l. absurd (omega arith) }
+triples zero src u b = record {
+  scalars_of = [];
+  are_scalars = refl;
+  long = refl;
+  within = omega arith;
+  spelled = refl;
+  rest = u;
+  units = refl;
+  values =
+      λ k l. absurd (omega arith);
+}
 triples (suc n) src u b =
     let t = one_triple src u (b 0 (omega arith)) in
     let at = λ (m k : ℕ) (e : 3 + k ≡ m). get_or-drop 3 src k 0 ∙ ap (λ j. get_or src j 0) e in
@@ -293,7 +333,9 @@ triples (suc n) src u b =
       spelled = (λ i. t.spelled i ++ r.spelled i) ∙ sym (take-add 3 (3 * n) src) ∙ ap (λ m. take m src) step;
       rest = subst IsUtf8 (drop-drop (3 * n) 3 src ∙ ap (λ m. drop m src) step) r.rest;
       units = λ i. one_unit c t.small i ++ r.units i;
-      values = values c cs t.value (λ k l. r.values k l ∙ (λ i. triple_unit (at (3 * suc k) (3 * k) (omega arith) i) (at (3 * suc k + 1) (3 * k + 1) (omega arith) i) (at (3 * suc k + 2) (3 * k + 2) (omega arith) i)));
+      values = values c cs t.value (λ k l. r.values k l
+          ∙ (λ i. triple_unit (at (3 * suc k) (3 * k) (omega arith) i) (at (3 * suc k + 1) (3 * k + 1) (omega arith) i)
+          (at (3 * suc k + 2) (3 * k + 2) (omega arith) i)));
     }
   where
     values : (c : ℕ) (cs : List ℕ) → c ≡ triple_unit (get_or src 0 0) (get_or src 1 0) (get_or src 2 0)
@@ -303,13 +345,15 @@ triples (suc n) src u b =
     values c cs first more (suc k) l = more k (omega arith)
 
 abbrev pub triple_lanes : List ℕ → ℕ → ℕ
-triple_lanes v k = triple_unit (get_or v (get_or (0 ∷ 3 ∷ 6 ∷ 9 ∷ 12 ∷ 12 ∷ 12 ∷ 12 ∷ []) k 0) 0) (get_or v (get_or (1 ∷ 4 ∷ 7 ∷ 10 ∷ 13 ∷ 13 ∷ 13 ∷ 13 ∷ []) k 0) 0) (get_or v (get_or (2 ∷ 5 ∷ 8 ∷ 11 ∷ 14 ∷ 14 ∷ 14 ∷ 14 ∷ []) k 0) 0)
+triple_lanes v k = triple_unit (get_or v (get_or (0 ∷ 3 ∷ 6 ∷ 9 ∷ 12 ∷ 12 ∷ 12 ∷ 12 ∷ []) k 0) 0)
+    (get_or v (get_or (1 ∷ 4 ∷ 7 ∷ 10 ∷ 13 ∷ 13 ∷ 13 ∷ 13 ∷ []) k 0) 0) (get_or v (get_or (2 ∷ 5 ∷ 8 ∷ 11 ∷ 14 ∷ 14 ∷ 14 ∷ 14 ∷ []) k 0) 0)
 
 -- of five characters in a block
 lanes_in : (v : List ℕ) (k : ℕ) → k < 5 → triple_lanes v k ≡ triple_unit (get_or v (3 * k) 0) (get_or v (3 * k + 1) 0) (get_or v (3 * k + 2) 0)
 lanes_in v = same_below (triple_lanes v) (λ k. triple_unit (get_or v (3 * k) 0) (get_or v (3 * k + 1) 0) (get_or v (3 * k + 2) 0)) 0 5 refl
 
-pub puts_triples : (src old r : List ℕ) → IsUtf8 src → 16 ≤ length src → 8 ≤ length old → ((k : ℕ) → k < 5 → BeginsThree (get_or src (3 * k) 0)) → HasLanes 8 r (triple_lanes (take 16 src))
+pub puts_triples : (src old r : List ℕ) → IsUtf8 src → 16 ≤ length src → 8 ≤ length old → ((k : ℕ) → k < 5 → BeginsThree (get_or src (3 * k) 0))
+    → HasLanes 8 r (triple_lanes (take 16 src))
     → WritesUtf16 src old (put_chunk 0 old r) 15 5 8
 puts_triples src old r u long room b h =
     let t = triples 5 src u b in
@@ -318,7 +362,8 @@ puts_triples src old r u long room b h =
     let prefix : take 5 r ≡ t.scalars_of = same_number_lists (take 5 r) t.scalars_of (omega (arith, length-take 5 r, h.long, t.long)) (λ k l.
     let in_five : k < 5 = omega (arith, length-take 5 r) in
     get_or-take 5 r k 0 in_five ∙ h.each k (omega arith) ∙ lanes_in (take 16 src) k in_five
-    ∙ (λ i. triple_unit (in_block (3 * k) (omega arith) i) (in_block (3 * k + 1) (omega arith) i) (in_block (3 * k + 2) (omega arith) i)) ∙ sym (t.values k in_five)) in
+    ∙ (λ i. triple_unit (in_block (3 * k) (omega arith) i) (in_block (3 * k + 1) (omega arith) i) (in_block (3 * k + 2) (omega arith) i))
+    ∙ sym (t.values k in_five)) in
     record {
       taken = t.scalars_of;
       are_scalars = t.are_scalars;

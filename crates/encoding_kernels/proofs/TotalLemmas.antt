@@ -19,7 +19,8 @@ use Rattle.encoding_kernels.proofs.PairsLemmas.{follows_test}
 use Rattle.encoding_definitions.proofs.Latin1Lemmas.{at_drop_start}
 
 -- the sum from an index on, by the term at that index
-pub total_next : (f : List ℕ → ℕ) (xs : List ℕ) (i : ℕ) → i < length xs → sum_over_suffixes f (drop i xs) ≡ f (drop i xs) + sum_over_suffixes f (drop (i + 1) xs)
+pub total_next : (f : List ℕ → ℕ) (xs : List ℕ) (i : ℕ) → i < length xs
+    → sum_over_suffixes f (drop i xs) ≡ f (drop i xs) + sum_over_suffixes f (drop (i + 1) xs)
 unfolding sum_over_suffixes
 total_next f xs i l =
     let e : sum_over_suffixes f (drop i xs) ≡ f (drop i xs) + sum_over_suffixes f (drop (suc i) xs) = by_suc xs i l in
@@ -49,14 +50,16 @@ pub lanes_total : (f : List ℕ → ℕ) (xs z : List ℕ) (at skip : ℕ) → a
 lanes_total f xs [] at zero room l none same = omega arith
 lanes_total f xs [] at (suc skip) room l none same = absurd (omega arith)
 lanes_total f xs (x ∷ z) at zero room l none same =
-    let more = lanes_total f xs z (at + 1) 0 (omega arith) (omega arith) (λ k b. absurd (omega arith)) (λ k a b. let e : at + suc k ≡ at + 1 + k = omega arith in same (suc k) (omega arith) (omega arith) ∙ ap (λ n. f (drop n xs)) e) in
+    let more = lanes_total f xs z (at + 1) 0 (omega arith) (omega arith) (λ k b. absurd (omega arith)) (λ k a b. let e : at + suc k ≡ at + 1 + k =
+    omega arith in same (suc k) (omega arith) (omega arith) ∙ ap (λ n. f (drop n xs)) e) in
     let here : at + 0 ≡ at = omega arith in
     let next : at + 1 + 0 ≡ at + 1 = omega arith in
     let end : at + suc (length z) ≡ at + 1 + length z = omega arith in
     let first : x ≡ f (drop at xs) = same 0 (omega arith) (omega arith) ∙ ap (λ n. f (drop n xs)) here in
     omega (arith, more, first, ap (total_from f xs) here, ap (total_from f xs) next, ap (total_from f xs) end, total_next f xs at (omega arith))
 lanes_total f xs (x ∷ z) at (suc skip) room l none same =
-    let more = lanes_total f xs z (at + 1) skip (omega arith) (omega arith) (λ k b. none (suc k) (omega arith)) (λ k a b. let e : at + suc k ≡ at + 1 + k = omega arith in same (suc k) (omega arith) (omega arith) ∙ ap (λ n. f (drop n xs)) e) in
+    let more = lanes_total f xs z (at + 1) skip (omega arith) (omega arith) (λ k b. none (suc k) (omega arith)) (λ k a b. let e : at + suc k ≡ at + 1 + k =
+    omega arith in same (suc k) (omega arith) (omega arith) ∙ ap (λ n. f (drop n xs)) e) in
     let next : at + suc skip ≡ at + 1 + skip = omega arith in
     let end : at + suc (length z) ≡ at + 1 + length z = omega arith in
     let first : x ≡ 0 = none 0 (omega arith) in
@@ -68,7 +71,13 @@ pub vector_total : (f : List ℕ → ℕ) (xs : List ℕ) (n at next : ℕ) {z :
 vector_total f xs n at next {z} p room lanes =
     let end : at + length z ≡ next = omega (arith, lanes.long) in
     let here : at + 0 ≡ at = omega arith in
-    omega (arith, lanes_total f xs z at 0 (omega (arith, lanes.long)) (omega arith) (λ k l. absurd (omega arith)) (λ k a l. lanes.each k (omega (arith, lanes.long))), ap (total_from f xs) end, ap (total_from f xs) here)
+    omega (
+      arith,
+      lanes_total f xs z at 0 (omega (arith, lanes.long)) (omega arith) (λ k l. absurd (omega arith))
+          (λ k a l. lanes.each k (omega (arith, lanes.long))),
+      ap (total_from f xs) end,
+      ap (total_from f xs) here,
+    )
 
 -- a lane of a load is a unit of the suffix from an index on
 pub loaded : (xs : List ℕ) (at n j k start : ℕ) → start ≡ at + j → k < n → get_or (chunk start n xs) k 0 ≡ slice_index (drop (at + k) xs) j
@@ -92,12 +101,16 @@ few_fit n at place a pos room p = elim (cases_lt a 256) [
 
 module _ (n at place : ℕ) (sums z : List ℕ) (few : Each1 (λ a. a * n + 2 * at ≤ 2 * place) sums) (small : Each1 (λ b. b ≤ 2) z) where
   pub sums_fit : 0 < n → place + n ≤ at + 127 * n → Each2 (λ a b. Fits w8 (a + b)) sums z
-  sums_fit pos room = Each2-of (λ a. a * n + 2 * at ≤ 2 * place) (λ b. b ≤ 2) (λ a b. Fits w8 (a + b)) (λ a b p q. record { fits = few_fit n at (place + n) (a + b) pos room (few_more n at place a b p q) }) sums z few small
+  sums_fit pos room = Each2-of (λ a. a * n + 2 * at ≤ 2 * place) (λ b. b ≤ 2) (λ a b. Fits w8 (a + b))
+      (λ a b p q. record { fits = few_fit n at (place + n) (a + b) pos room (few_more n at place a b p q) }) sums z few small
 
   pub sums_few : Each1 (λ a. a * n + 2 * at ≤ 2 * (place + n)) (zip2 (λ a b. a + b) sums z)
-  sums_few = Each1-zip2 (λ a b. a + b) (λ a. a * n + 2 * at ≤ 2 * (place + n)) sums z (Each2-of (λ a. a * n + 2 * at ≤ 2 * place) (λ b. b ≤ 2) (λ a b. (a + b) * n + 2 * at ≤ 2 * (place + n)) (λ a b p q. few_more n at place a b p q) sums z few small)
+  sums_few = Each1-zip2 (λ a b. a + b) (λ a. a * n + 2 * at ≤ 2 * (place + n)) sums z
+      (Each2-of (λ a. a * n + 2 * at ≤ 2 * place) (λ b. b ≤ 2) (λ a b. (a + b) * n + 2 * at ≤ 2 * (place + n))
+      (λ a b p q. few_more n at place a b p q) sums z few small)
 
-pub lanes_few : (f : List ℕ → ℕ) (xs : List ℕ) (n at : ℕ) {z : List ℕ} → ((ys : List ℕ) → f ys ≤ 2) → HasLanes n z (λ k. f (drop (at + k) xs)) → Each1 (λ b. b ≤ 2) z
+pub lanes_few : (f : List ℕ → ℕ) (xs : List ℕ) (n at : ℕ) {z : List ℕ} → ((ys : List ℕ) → f ys ≤ 2) → HasLanes n z (λ k. f (drop (at + k) xs))
+    → Each1 (λ b. b ≤ 2) z
 lanes_few f xs n at {z} few lanes = Each1-from_get_or (λ b. b ≤ 2) z 0 (λ k l. omega (arith, lanes.each k (omega (arith, lanes.long)), few (drop (at + k) xs)))
 
 -- the sum of all lanes
@@ -125,10 +138,12 @@ pub bound_before : (j : ℕ) → j < 64 → slice_index BOUNDS j ≡ 0
 bound_before j l = ap (λ xs. get_or xs j 0) bounds_are ∙ get_or_append_left (replicate 64 0) (replicate 64 2) 0 j l ∙ get_or-replicate 64 j 0 0 l
 
 pub bound_after : (j : ℕ) → 64 ≤ j → j < 128 → slice_index BOUNDS j ≡ 2
-bound_after j a l = ap (λ xs. get_or xs j 0) bounds_are ∙ get_or-append_right (replicate 64 0) (replicate 64 2) 64 j 0 refl a ∙ get_or-replicate 64 (j - 64) 2 0 (omega arith)
+bound_after j a l = ap (λ xs. get_or xs j 0) bounds_are ∙ get_or-append_right (replicate 64 0) (replicate 64 2) 64 j 0 refl a
+    ∙ get_or-replicate 64 (j - 64) 2 0 (omega arith)
 
 -- a lane that is bounded by zero, or by the greatest term
-pub cut_lane : (x k skip : ℕ) → x ≤ 2 → k < 64 → skip ≤ 64 → cond (ltb x (slice_index BOUNDS (64 - skip + k))) x (slice_index BOUNDS (64 - skip + k)) ≡ cond (ltb k skip) 0 x
+pub cut_lane : (x k skip : ℕ) → x ≤ 2 → k < 64 → skip ≤ 64
+    → cond (ltb x (slice_index BOUNDS (64 - skip + k))) x (slice_index BOUNDS (64 - skip + k)) ≡ cond (ltb k skip) 0 x
 cut_lane x k skip small few l = elim (cases_lt k skip) [
   | inl a ↦ none_kept x _ (bound_before (64 - skip + k) (omega arith)) ∙ sym (cond-true _ _ _ (lt-ltb k skip a))
   | inr b ↦ all_kept x _ (bound_after (64 - skip + k) (omega arith) (omega arith)) small ∙ sym (cond-false _ _ _ (le-ltb k skip b))
@@ -164,7 +179,8 @@ skipped bound f xs zeros (suc n) at l h =
     let none = zeros (drop at xs) (omega (arith, at_drop_start xs at, h at (omega arith) (omega arith))) in
     omega (arith, ap (total_from f xs) e, more, none, total_next f xs at (omega arith))
 
-pub skipped_below : (bound : ℕ) (f : List ℕ → ℕ) (xs : List ℕ) → ((ys : List ℕ) → slice_index ys 0 < bound → f ys ≡ 0) → (from to : ℕ) → from ≤ to → to ≤ length xs
+pub skipped_below : (bound : ℕ) (f : List ℕ → ℕ) (xs : List ℕ) → ((ys : List ℕ) → slice_index ys 0 < bound → f ys ≡ 0) → (from to : ℕ)
+    → from ≤ to → to ≤ length xs
     → ((k : ℕ) → from ≤ k → k < to → slice_index xs k < bound) → sum_over_suffixes f (drop to xs) ≡ sum_over_suffixes f (drop from xs)
 skipped_below bound f xs zeros from to order room h =
     let e : from + (to - from) ≡ to = omega arith in
@@ -208,7 +224,8 @@ one_or_none false = refl
 
 -- ---- UTF-8
 abbrev pub joins_lane : ℕ → ℕ → Bool
-joins_lane a b = (((leb 0xC2 a && leb a 0xF4) && not (eqb a (cond (ltb b 0xA0) 0xE0 0xED))) && not (eqb a (cond (ltb b 0x90) 0xF0 0xF4))) && eqb (bit_and b 0xC0) 0x80
+joins_lane a b = (((leb 0xC2 a && leb a 0xF4) && not (eqb a (cond (ltb b 0xA0) 0xE0 0xED))) && not (eqb a (cond (ltb b 0x90) 0xF0 0xF4))) && eqb
+    (bit_and b 0xC0) 0x80
 
 joins_is : (a b : ℕ) → b < 2 ^ 8 → joins_lane a b ≡ goes_second a b
 joins_is a b l = let two_bits = follows_test b l in grind (arith, nat_tests)
@@ -249,8 +266,10 @@ low_to u h = grind (arith, nat_tests)
 
 pub pair_is : (u v : ℕ) → u < 2 ^ 16 → v < 2 ^ 16 → (eqb (bit_and u 0xFC00) 0xD800 && eqb (bit_and v 0xFC00) 0xDC00) ≡ is_surrogate_pair u v
 pair_is u v l m =
-    let high = same_bool (eqb (bit_and u 0xFC00) 0xD800) (nat_le 0xD800 u && nat_le u 0xDBFF) (λ e. high_to u ((high_test u l).0 e)) (λ e. (high_test u l).1 (high_from u e)) in
-    let low = same_bool (eqb (bit_and v 0xFC00) 0xDC00) (nat_le 0xDC00 v && nat_le v 0xDFFF) (λ e. low_to v ((low_test v m).0 e)) (λ e. (low_test v m).1 (low_from v e)) in
+    let high = same_bool (eqb (bit_and u 0xFC00) 0xD800) (nat_le 0xD800 u && nat_le u 0xDBFF) (λ e. high_to u ((high_test u l).0 e))
+    (λ e. (high_test u l).1 (high_from u e)) in
+    let low = same_bool (eqb (bit_and v 0xFC00) 0xDC00) (nat_le 0xDC00 v && nat_le v 0xDFFF) (λ e. low_to v ((low_test v m).0 e))
+    (λ e. (low_test v m).1 (low_from v e)) in
     λ i. high i && low i
 
 sized : (p q r : Bool) → (r ≡ true → q ≡ true) → cond p 0 ((cond q 1 0 + cond r 1 0) % 2 ^ 16) ≡ cond p 0 (cond r 2 (cond q 1 0))
@@ -266,7 +285,8 @@ ordered u e = grind (arith, nat_tests)
 beyond_lane : (u v : ℕ) → u < 2 ^ 16 → v < 2 ^ 16
     → cond (eqb (bit_and u 0xFC00) 0xD800 && eqb (bit_and v 0xFC00) 0xDC00) 0 ((cond (leb 0x80 u) 1 0 + cond (leb 0x800 u) 1 0) % 2 ^ 16) ≡ extra_bytes_by u v
 beyond_lane u v l m =
-    sized (eqb (bit_and u 0xFC00) 0xD800 && eqb (bit_and v 0xFC00) 0xDC00) (leb 0x80 u) (leb 0x800 u) (ordered u) ∙ (λ i. cond (pair_is u v l m i) 0 (cond (leb 0x800 u) 2 (cond (leb 0x80 u) 1 0)))
+    sized (eqb (bit_and u 0xFC00) 0xD800 && eqb (bit_and v 0xFC00) 0xDC00) (leb 0x80 u) (leb 0x800 u) (ordered u)
+    ∙ (λ i. cond (pair_is u v l m i) 0 (cond (leb 0x800 u) 2 (cond (leb 0x80 u) 1 0)))
 
 -- the sum of two selections, zero for the first unit of a pair
 abbrev pub beyond_vector : ℕ → List ℕ → List ℕ → List ℕ
@@ -286,7 +306,9 @@ module _ (n : ℕ) (us vs : List ℕ) (p : length us ≡ n) (q : length vs ≡ n
       let second = chosen 1 0 (tests_of w16 leb (HasLanes-splat n 0x80) u) in
       let third = chosen 1 0 (tests_of w16 leb (HasLanes-splat n 0x800) u) in
       HasLanes_same (chosen_by (tests_and high low) (HasLanes-splat n 0) (HasLanes-zip2 (λ x y. (x + y) % 2 ^ 16) second third)) (λ k l.
-      beyond_lane (slice_index us k) (slice_index vs k) (Each1-get_or (Fits w16) us k 0 (omega arith) fit).fits (Each1-get_or (Fits w16) vs k 0 (omega arith) fits).fits)
+      beyond_lane (slice_index us k) (slice_index vs k) (Each1-get_or (Fits w16) us k 0 (omega arith) fit).fits
+      (Each1-get_or (Fits w16) vs k 0 (omega arith) fits).fits)
 
   pub beyond_fit : Each1 (Fits w8) (beyond_vector n us vs)
-  beyond_fit = Each1-from_get_or (Fits w8) (beyond_vector n us vs) 0 (λ k l. record { fits = omega (arith, beyond_are.each k (omega (arith, beyond_are.long)), extra_bytes_by_few (slice_index us k) (slice_index vs k)) })
+  beyond_fit = Each1-from_get_or (Fits w8) (beyond_vector n us vs) 0
+      (λ k l. record { fits = omega (arith, beyond_are.each k (omega (arith, beyond_are.long)), extra_bytes_by_few (slice_index us k) (slice_index vs k)) })

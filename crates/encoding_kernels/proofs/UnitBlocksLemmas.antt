@@ -31,7 +31,13 @@ parts_of_plain (u ∷ us) rest p a =
 
 units_plain : (us : List ℕ) → AreCodeUnits us → length (flat_map units_of_part16 (map Character16 us)) ≡ length us
 units_plain [] a = refl
-units_plain (u ∷ us) a = omega (arith, length-append (units_of_part16 (Character16 u)) (flat_map units_of_part16 (map Character16 us)), ap length (one_unit u (a 0)), units_plain us (λ k. a (suc k)))
+units_plain (u ∷ us) a = omega (
+  arith,
+  length-append (units_of_part16 (Character16 u)) (flat_map units_of_part16 (map Character16 us)),
+  ap length
+      (one_unit u (a 0)),
+  units_plain us (λ k. a (suc k)),
+)
 
 pub utf8_plain : (us : List ℕ) → flat_map utf8_of_part16 (map Character16 us) ≡ encode_utf8_all us
 utf8_plain [] = refl
@@ -50,7 +56,8 @@ pub plain_written : {us old new : List ℕ} {n m : ℕ} → WritesBmp us old new
 plain_written {us} {old} {new} {n} {m} w = WritesPrefix-same _ _ _ _ _ _ w.written refl (sym (utf8_plain (take n us)))
 
 pub plain_prefix : {us old new : List ℕ} {n m : ℕ} → AreCodeUnits us → WritesBmp us old new n m → IsUtf8OfPrefix us n (take m new)
-plain_prefix {us} {old} {new} {n} {m} a w = subst (IsUtf8OfPrefix us n) (written_is _ _ _ _ (plain_written w)) (walked_prefix us n _ a (plain_walked us n a w.within w.plain))
+plain_prefix {us} {old} {new} {n} {m} a w =
+    subst (IsUtf8OfPrefix us n) (written_is _ _ _ _ (plain_written w)) (walked_prefix us n _ a (plain_walked us n a w.within w.plain))
 
 -- ---- one more block
 pub encodes_more : (us : List ℕ) (n m : ℕ) → encode_utf8_all (take n us) ++ encode_utf8_all (take m (drop n us)) ≡ encode_utf8_all (take (n + m) us)
@@ -64,7 +71,8 @@ module _ (us : List ℕ) (n : ℕ) (plain : AreBmpScalars (take n us)) where
   ])
 
 pub plain_then : (us : List ℕ) (n m : ℕ) → AreBmpScalars (take n us) → AreBmpScalars (take m (drop n us)) → AreBmpScalars (take (n + m) us)
-plain_then us n m p q = plain_more us n p m (λ k l. let same = get_or-drop n us k 0 in let prefix = get_or-take m (drop n us) k 0 l in λ r. q k (omega (arith, same, prefix, r.0), omega (arith, same, prefix, r.1)))
+plain_then us n m p q = plain_more us n p m (λ k l. let same = get_or-drop n us k 0 in let prefix = get_or-take m (drop n us) k 0 l in
+    λ r. q k (omega (arith, same, prefix, r.0), omega (arith, same, prefix, r.1)))
 
 module _ (us old new after : List ℕ) (n written : ℕ) (w : WritesPrefix old new written (encode_utf8_all (take n us))) where
   pub written_eight : (k m : ℕ) → m ≡ length (encode_utf8_all (take k (drop n us))) → written + m ≤ length new
@@ -89,7 +97,8 @@ ascii_plain {us} {old} {new} {n} within ascii w = record {
 }
 
 -- an ASCII prefix of what is left was copied
-pub ascii_left : (us : List ℕ) (read n : ℕ) {old new sub : List ℕ} {written : ℕ} → WritesPrefix old new written (encode_utf8_all (take read us)) → IsAscii (take n (take (length us - read) (drop read us)))
+pub ascii_left : (us : List ℕ) (read n : ℕ) {old new sub : List ℕ} {written : ℕ} → WritesPrefix old new written (encode_utf8_all (take read us))
+    → IsAscii (take n (take (length us - read) (drop read us)))
     → WritesPrefix (take (length new - written) (drop written new)) sub n (take n (take (length us - read) (drop read us)))
     → WritesPrefix old (put_mid written (length new - written) new sub) (written + n) (encode_utf8_all (take (read + n) us))
 ascii_left us read n {old} {new} {sub} {written} w ascii v =

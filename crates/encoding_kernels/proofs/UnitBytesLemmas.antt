@@ -26,7 +26,8 @@ upper_bits_lane y a =
     let four : bit_and (a / 2 ^ 2) 0x0F ≡ a / 4 % 16 = and_mask (a / 2 ^ 2) 4 in
     grind (arith, nat_tests, four)
 
-pub lower_lane : (x y a b : ℕ) → b < 256 → cond (ltb b 0x80) b (cond (leb 0xF0 y) ((low_bits a b / 0x10 + 0xC0) % 2 ^ 8) (low_bits a b % 0x100)) ≡ unit_at x y a b % 0x100
+pub lower_lane : (x y a b : ℕ) → b < 256
+    → cond (ltb b 0x80) b (cond (leb 0xF0 y) ((low_bits a b / 0x10 + 0xC0) % 2 ^ 8) (low_bits a b % 0x100)) ≡ unit_at x y a b % 0x100
 lower_lane x y a b small = grind (arith, nat_tests)
 
 -- the upper byte of a high surrogate
@@ -36,7 +37,9 @@ high_is y h small = grind (arith, nat_tests)
 high_small : (a b : ℕ) → low_bits a b / 0x10 < 256
 high_small a b = omega arith
 
-pub upper_lane : (x y a b : ℕ) → b < 256 → cond (ltb b 0x80) 0 (cond (leb 0xF0 y) ((cond (leb 0x40 (low_bits a b / 0x10)) 0xD8 0xD7 + bit_and y 7) % 2 ^ 8) (bit_or (upper_of y a) (cond (leb 0xF0 x) 0xDC 0)))
+pub upper_lane : (x y a b : ℕ) → b < 256
+    → cond (ltb b 0x80) 0 (cond (leb 0xF0 y) ((cond (leb 0x40 (low_bits a b / 0x10)) 0xD8 0xD7 + bit_and y 7) % 2 ^ 8)
+    (bit_or (upper_of y a) (cond (leb 0xF0 x) 0xDC 0)))
     ≡ unit_at x y a b / 0x100
 upper_lane x y a b small =
     let three : bit_and y 7 ≡ y % 8 = and_mask y 3 in
@@ -71,7 +74,8 @@ module _ (lower upper : List ℕ) (p : length lower ≡ 16) (e : Each1 (Fits w8)
   picked_small (k ∷ ks) = (both_small lower upper k e f, picked_small ks)
 
   pub joined_lanes : (places : List ℕ) (at : ℕ → ℕ) → length places ≡ 16 → ((j : ℕ) → j < 8 → at j < 16)
-      → map (λ j. get_or places (2 * j) 0) (range_with_len 0 8) ≡ map at (range_with_len 0 8) → map (λ j. get_or places (2 * j + 1) 0) (range_with_len 0 8) ≡ map (λ j. 16 + at j) (range_with_len 0 8)
+      → map (λ j. get_or places (2 * j) 0) (range_with_len 0 8) ≡ map at (range_with_len 0 8)
+      → map (λ j. get_or places (2 * j + 1) 0) (range_with_len 0 8) ≡ map (λ j. 16 + at j) (range_with_len 0 8)
       → HasLanes 8 (wide_l (pick_l 0 (lower ++ upper) places)) (λ j. get_or lower (at j) 0 + 0x100 * get_or upper (at j) 0)
   joined_lanes places at long inside evens odds =
       let picked = λ (k : ℕ). get_or (lower ++ upper) k 0 in
@@ -81,14 +85,18 @@ module _ (lower upper : List ℕ) (p : length lower ≡ 16) (e : Each1 (Fits w8)
         each = λ j l.
             let back : 16 + at j - 16 ≡ at j = omega arith in
             let even : get_or (pick_l 0 (lower ++ upper) places) (2 * j) 0 ≡ get_or lower (at j) 0 =
-            get_or-map picked places (2 * j) 0 0 (omega (arith, long)) ∙ ap picked (same_below (λ i. get_or places (2 * i) 0) at 0 8 evens j l) ∙ get_or_append_left lower upper 0 (at j) (omega (arith, inside j l, p)) in
+            get_or-map picked places (2 * j) 0 0 (omega (arith, long)) ∙ ap picked (same_below (λ i. get_or places (2 * i) 0) at 0 8 evens j l)
+            ∙ get_or_append_left lower upper 0 (at j) (omega (arith, inside j l, p)) in
             let odd : get_or (pick_l 0 (lower ++ upper) places) (2 * j + 1) 0 ≡ get_or upper (at j) 0 =
-            get_or-map picked places (2 * j + 1) 0 0 (omega (arith, long)) ∙ ap picked (same_below (λ i. get_or places (2 * i + 1) 0) (λ i. 16 + at i) 0 8 odds j l) ∙ get_or-append_right lower upper 16 (16 + at j) 0 p (omega arith) ∙ ap (λ k. get_or upper k 0) back in
+            get_or-map picked places (2 * j + 1) 0 0 (omega (arith, long))
+            ∙ ap picked (same_below (λ i. get_or places (2 * i + 1) 0) (λ i. 16 + at i) 0 8 odds j l)
+            ∙ get_or-append_right lower upper 16 (16 + at j) 0 p (omega arith) ∙ ap (λ k. get_or upper k 0) back in
             lanes.each j l ∙ (λ i. even i + 0x100 * odd i);
       }
 
 -- ---- both halves
-pub halves : (v lower upper first last : List ℕ) → length v ≡ 16 → HasLanes 16 lower (λ k. unit_lane v k % 0x100) → HasLanes 16 upper (λ k. unit_lane v k / 0x100)
+pub halves : (v lower upper first last : List ℕ) → length v ≡ 16 → HasLanes 16 lower (λ k. unit_lane v k % 0x100)
+    → HasLanes 16 upper (λ k. unit_lane v k / 0x100)
     → HasLanes 8 first (λ k. get_or lower k 0 + 0x100 * get_or upper k 0) → HasLanes 8 last (λ k. get_or lower (8 + k) 0 + 0x100 * get_or upper (8 + k) 0)
     → (first ≡ take 8 (units_after 0 0 0 v)) × (last ≡ drop 8 (units_after 0 0 0 v))
 halves v lower upper first last long low high h g = (

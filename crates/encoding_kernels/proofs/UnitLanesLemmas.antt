@@ -80,26 +80,34 @@ end_lanes v one = zip2 bit_and (zip2 (compared w8 ltb) v (replicate 16 0xC0)) (z
 end_marks : (v one : List ℕ) → length v ≡ 16 → HasLanes 16 one (λ k. get_or (0 ∷ v) k 0) → map (top 7) (end_lanes v one) ≡ ends_after 0 v
 end_marks v one long h =
     let V : HasLanes 16 v (λ k. get_or v k 0) = record { long = long; each = λ k l. refl } in
-    let lanes = HasLanes-zip2 bit_and (HasLanes-zip2 (compared w8 ltb) V (HasLanes-splat 16 0xC0)) (HasLanes-zip2 (compared w8 ltb) h (HasLanes-splat 16 0xE0)) in
+    let lanes =
+    HasLanes-zip2 bit_and (HasLanes-zip2 (compared w8 ltb) V (HasLanes-splat 16 0xC0)) (HasLanes-zip2 (compared w8 ltb) h (HasLanes-splat 16 0xE0)) in
     let size : length (map (top 7) (end_lanes v one)) ≡ 16 = length-map (end_lanes v one) (top 7) ∙ lanes.long in
     same_lists (map (top 7) (end_lanes v one)) (ends_after 0 v) (size ∙ sym (length-ends 0 v ∙ long)) (λ k d l.
     let in_16 : k < 16 = omega (arith, size) in
-    get_or-map (top 7) (end_lanes v one) k 0 d (omega (arith, lanes.long)) ∙ ap (top 7) (lanes.each k in_16) ∙ both_tops _ _ ∙ sym (ends_at 0 v k d (omega (arith, long))))
+    get_or-map (top 7) (end_lanes v one) k 0 d (omega (arith, lanes.long)) ∙ ap (top 7) (lanes.each k in_16) ∙ both_tops _ _
+    ∙ sym (ends_at 0 v k d (omega (arith, long))))
 
 pub ends_mask : (v one : List ℕ) (end : ℕ) → length v ≡ 16 → HasLanes 16 one (λ k. get_or (0 ∷ v) k 0) → end ≤ 16
     → bit_and (mask_l (map (top 7) (end_lanes v one)) % 2 ^ 64) (1 * 2 ^ end % 2 ^ 64 - 1) ≡ mask_l (take end (ends_after 0 v) ++ replicate (16 - end) false)
 ends_mask v one end long h few =
     let marks = end_marks v one long h in
     let size : length (ends_after 0 v) ≡ 16 = length-ends 0 v ∙ long in
-    let mask : mask_l (map (top 7) (end_lanes v one)) % 2 ^ 64 ≡ mask_l (ends_after 0 v) = ap (λ ms. mask_l ms % 2 ^ 64) marks ∙ mask_l-mod (ends_after 0 v) 64 (omega (arith, size)) in
+    let mask : mask_l (map (top 7) (end_lanes v one)) % 2 ^ 64 ≡ mask_l (ends_after 0 v) = ap (λ ms. mask_l ms % 2 ^ 64) marks
+    ∙ mask_l-mod (ends_after 0 v) 64 (omega (arith, size)) in
     (λ i. bit_and (mask i) (one_shl end 64 (omega arith) i - 1)) ∙ mask_prefix (ends_after 0 v) (16 - end) end (omega (arith, size))
 
 -- ---- every third byte
 pub picked_lanes : (n : ℕ) (v ks : List ℕ) → length ks ≡ n → HasLanes n (pick_l 0 v ks) (λ k. get_or v (get_or ks k 0) 0)
-picked_lanes n v ks long = record { long = length-map ks (λ j. get_or v j 0) ∙ long; each = λ k l. get_or-map (λ j. get_or v j 0) ks k 0 0 (omega (arith, long)) }
+picked_lanes n v ks long = record {
+  long = length-map ks (λ j. get_or v j 0) ∙ long;
+  each =
+      λ k l. get_or-map (λ j. get_or v j 0) ks k 0 0 (omega (arith, long));
+}
 
 pub third_lanes : (v ks : List ℕ) → length v ≡ 16 → length ks ≡ 8 → T (all_below 16 ks) → HasLanes 8 (pick_l 0 (v ++ v) ks) (λ k. get_or v (get_or ks k 0) 0)
-third_lanes v ks long eight small = subst (λ xs. HasLanes 8 xs (λ k. get_or v (get_or ks k 0) 0)) (sym (pick_l_left 0 v v 16 ks long small)) (picked_lanes 8 v ks eight)
+third_lanes v ks long eight small = subst (λ xs. HasLanes 8 xs (λ k. get_or v (get_or ks k 0) 0)) (sym (pick_l_left 0 v v 16 ks long small))
+    (picked_lanes 8 v ks eight)
 
 pub triple_lane : (a b d : ℕ) → (a * 0x1000 % 2 ^ 16 + (bit_and b 63 * 64 % 2 ^ 16 + bit_and d 63) % 2 ^ 16) % 2 ^ 16 ≡ a % 16 * 4096 + low_bits b d
 triple_lane a b d = let e : a * 4096 % 65536 ≡ a % 16 * 4096 = omega arith in ap (λ n. (a * 0x1000 % 2 ^ 16 + n) % 2 ^ 16) (low_lane b d) ∙ omega arith

@@ -18,14 +18,17 @@ wide_l bs = digits_l 65536 8 (number_l 256 bs)
 pub wide : (bs : List ℕ) → length bs ≡ 16 → Each1 (λ x. x < 256) bs → HasLanes 8 (wide_l bs) (λ j. get_or bs (2 * j) 0 + 256 * get_or bs (2 * j + 1) 0)
 wide bs long fit = record {
   long = refl;
-  each = λ j l. get_or_wider 256 2 65536 8 bs j refl fit l ∙ ap (number_l 256) (two_at bs (2 * j) (omega arith)) ∙ joined (get_or bs (2 * j) 0) (get_or bs (2 * j + 1) 0);
+  each = λ j l. get_or_wider 256 2 65536 8 bs j refl fit l ∙ ap (number_l 256) (two_at bs (2 * j) (omega arith))
+      ∙ joined (get_or bs (2 * j) 0) (get_or bs (2 * j + 1) 0);
 }
 
 -- the bytes of n words
 narrow : (n : ℕ) (words : List ℕ) (f : ℕ → ℕ) → HasLanes n words f → ((k : ℕ) → k < n → f k < 65536) → (k : ℕ) → k < n
-    → (get_or (digits_l 256 (2 * n) (number_l 65536 words)) (2 * k) 0 ≡ f k % 256) × (get_or (digits_l 256 (2 * n) (number_l 65536 words)) (2 * k + 1) 0 ≡ f k / 256)
+    → (get_or (digits_l 256 (2 * n) (number_l 65536 words)) (2 * k) 0 ≡ f k % 256)
+    × (get_or (digits_l 256 (2 * n) (number_l 65536 words)) (2 * k + 1) 0 ≡ f k / 256)
 narrow n words f lanes small k l =
-    let fit : Each1 (λ x. x < 65536) words = Each1-from_get_or (λ x. x < 65536) words 0 (λ i m. let within : i < n = omega (arith, lanes.long) in omega (arith, lanes.each i within, small i within)) in
+    let fit : Each1 (λ x. x < 65536) words = Each1-from_get_or (λ x. x < 65536) words 0 (λ i m. let within : i < n = omega (arith, lanes.long) in
+    omega (arith, lanes.each i within, small i within)) in
     let part = λ (j : ℕ) (m : j < 2). get_or_narrower 65536 2 256 (2 * n) words k j (omega arith) fit m (omega (arith, lanes.long)) in
     let place : 2 * k ≡ 2 * k + 0 = omega arith in
     let low : get_or words k 0 / 256 ^ 0 % 256 ≡ f k % 256 = omega (arith, lanes.each k l) in

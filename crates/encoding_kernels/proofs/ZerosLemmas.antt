@@ -28,7 +28,9 @@ places n = sel_l (map (top 7) (zip2 (compared w8 ltb) numbers (replicate 16 8)))
 
 placed : (n : ℕ) → HasLanes 16 (places n) (place n)
 placed n =
-    let moved = HasLanes-zip2 (λ a b. (a + b) % 2 ^ 8) (HasLanes-numbers 16) (HasLanes-zip2 (λ a b. (a + (2 ^ 8 - b)) % 2 ^ 8) (HasLanes-splat 16 16) (HasLanes-splat 16 n)) in
+    let moved =
+    HasLanes-zip2 (λ a b. (a + b) % 2 ^ 8) (HasLanes-numbers 16)
+    (HasLanes-zip2 (λ a b. (a + (2 ^ 8 - b)) % 2 ^ 8) (HasLanes-splat 16 16) (HasLanes-splat 16 n)) in
     chosen_by (tests_of w8 ltb (HasLanes-numbers 16) (HasLanes-splat 16 8)) (HasLanes-numbers 16) (HasLanes-zip2 bit_and moved (HasLanes-splat 16 15))
 
 place_small : (n k : ℕ) → k < 16 → place n k < 16
@@ -57,7 +59,8 @@ module _ (xs : List ℕ) (least : 8 ≤ length xs) (most : length xs ≤ 16) whe
   early : (k : ℕ) → k < 8 → get_or both (place n k) 0 ≡ get_or xs k 0
   early k l =
       let here : place n k ≡ k = cond-true _ _ _ (lt-ltb k 8 l) in
-      ap (λ j. get_or both j 0) here ∙ picked k (omega arith) ∙ get_or_append_left (take 8 xs) (chunk (n - 8) 8 xs) 0 k (omega (arith, first_long)) ∙ get_or-take 8 xs k 0 l
+      ap (λ j. get_or both j 0) here ∙ picked k (omega arith) ∙ get_or_append_left (take 8 xs) (chunk (n - 8) 8 xs) 0 k (omega (arith, first_long))
+      ∙ get_or-take 8 xs k 0 l
 
   late : (k : ℕ) → 8 ≤ k → k < n → get_or both (place n k) 0 ≡ get_or xs k 0
   late k h l =
@@ -77,11 +80,22 @@ module _ (xs : List ℕ) (least : 8 ≤ length xs) (most : length xs ≤ 16) whe
   lanes = chosen_by (tests_of w8 ltb (HasLanes-numbers 16) (HasLanes-splat 16 n)) (HasLanes-swizzle both (placed n) (place_small n)) (HasLanes-splat 16 0)
 
   pub with_zeros_is : z ≡ xs ++ drop n (replicate 16 0)
-  with_zeros_is = same_number_lists z (xs ++ drop n (replicate 16 0)) (omega (arith, lanes.long, length-append {A = ℕ} xs (drop n (replicate 16 0)), length-drop {A = ℕ} n (replicate 16 0), length-replicate {A = ℕ} 16 0, most)) (λ k l.
+  with_zeros_is = same_number_lists z (xs ++ drop n (replicate 16 0))
+      (omega (
+        arith,
+        lanes.long,
+        length-append {A = ℕ} xs (drop n (replicate 16 0)),
+        length-drop {A = ℕ} n
+            (replicate 16 0),
+        length-replicate {A = ℕ} 16 0,
+        most,
+      )) (λ k l.
       let within : k < 16 = omega (arith, lanes.long) in
       lanes.each k within ∙ elim (cases_lt k n) [
-        | inl p ↦ cond-true _ _ _ (lt-ltb k n p) ∙ elim (cases_lt k 8) [ inl a ↦ early k a | inr b ↦ late k b p ] ∙ sym (get_or_append_left xs (drop n (replicate 16 0)) 0 k p)
+        | inl p ↦ cond-true _ _ _ (lt-ltb k n p) ∙ elim (cases_lt k 8) [ inl a ↦ early k a | inr b ↦ late k b p ]
+            ∙ sym (get_or_append_left xs (drop n (replicate 16 0)) 0 k p)
         | inr q ↦
             let back : n + (k - n) ≡ k = omega arith in
-            cond-false _ _ _ (le-ltb k n q) ∙ sym (get_or-append_right xs (drop n (replicate 16 0)) n k 0 refl q ∙ get_or-drop n (replicate 16 0) (k - n) 0 ∙ ap (λ j. get_or (replicate 16 0) j 0) back ∙ get_or-replicate 16 k 0 0 within)
+            cond-false _ _ _ (le-ltb k n q) ∙ sym (get_or-append_right xs (drop n (replicate 16 0)) n k 0 refl q ∙ get_or-drop n (replicate 16 0) (k - n) 0
+            ∙ ap (λ j. get_or (replicate 16 0) j 0) back ∙ get_or-replicate 16 k 0 0 within)
       ])

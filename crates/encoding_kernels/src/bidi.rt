@@ -35,7 +35,9 @@ fn mark_leads<const N: usize>(third: Simd<u8, N>) -> Simd<u8, N>
 /// if there are none.
 #[inline(always)]
 fn second_ends<const N: usize>(first: Simd<u8, N>, third: Simd<u8, N>) -> Simd<u8, N>
-    ensures { HasLanes N result (λ k. rtl_second_end (slice_index first.entry k) (rtl_mark_lead (slice_index third.entry k))) }
+    ensures { HasLanes N result
+        (λ k. rtl_second_end (slice_index first.entry k)
+        (rtl_mark_lead (slice_index third.entry k))) }
 {
     let none = Simd::splat(0);
     let hebrew = first.simd_ge(Simd::splat(FIRST_LEAD)) & first.simd_lt(Simd::splat(0xE0));

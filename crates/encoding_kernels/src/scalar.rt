@@ -88,7 +88,8 @@ pub fn decode_utf8_scalar(bytes: &[u8]) -> u32
 pub fn write_utf16(scalar: u32, dst: &mut [u16]) -> Option<usize>
     requires scalar { IsScalar scalar }
     ensures written { IfSome result (λ n. WritesPrefix dst.old dst.new n (encode_utf16 scalar)) }
-    ensures unfit { IfNone result ((length dst.old < length (encode_utf16 scalar)) × (dst.new ≡ dst.old)) }
+    ensures unfit { IfNone result
+        ((length dst.old < length (encode_utf16 scalar)) × (dst.new ≡ dst.old)) }
 {
     if scalar < 0x10000 {
         if dst.is_empty() {

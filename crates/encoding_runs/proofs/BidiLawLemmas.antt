@@ -21,5 +21,6 @@ in_utf8 cs s = (λ a. inr (cs, s, refl, a), back)
 pub in_utf16 : (cs : List ℕ) → IsTrue (all_scalars cs) → Any IsRightToLeft cs ↔ IsBidiUnits (flat_map encode_utf16 cs)
 in_utf16 cs s = (
   λ a. (map Character16 cs, parts-encode cs s, characters_bidi cs a),
-  λ b. bidi_characters cs (subst (λ ps. Any IsRightToLeftPart ps) (parts_unique (flat_map encode_utf16 cs) b.0 (map Character16 cs) b.1 (parts-encode cs s)) b.2),
+  λ b. bidi_characters cs
+      (subst (λ ps. Any IsRightToLeftPart ps) (parts_unique (flat_map encode_utf16 cs) b.0 (map Character16 cs) b.1 (parts-encode cs s)) b.2),
 )

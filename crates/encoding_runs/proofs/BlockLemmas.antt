@@ -39,7 +39,8 @@ Ended p src last old new read written replaced finished q = (out : List ℕ) × 
     × IsBlockRepair p src (length old) last (record { read = read; written = written; replaced = replaced; finished = finished }) read out q
 
 ended : (p src : List ℕ) (last : Bool) (old new : List ℕ) (read written replaced : ℕ) (finished : Bool) (q : List ℕ) (reported : List Part) → IsPending p
-    → Repaired encode_utf8 p src last old new read written replaced q reported → reported ≡ [] → (finished ≡ true) ↔ ((read ≡ length src) × (last ≡ true → q ≡ []))
+    → Repaired encode_utf8 p src last old new read written replaced q reported → reported ≡ []
+    → (finished ≡ true) ↔ ((read ≡ length src) × (last ≡ true → q ≡ []))
     → (finished ≡ false → WantsSpace src read (length old - written) q) → Ended p src last old new read written replaced finished q
 ended p src last old new read written replaced finished q reported h b none is_end is_full = (
   lossy_utf8 b.parts,
@@ -102,13 +103,15 @@ module _ (p src : List ℕ) (last : Bool) (old new sub : List ℕ) (read written
       })
 
   -- a report leaves space for U+FFFD
-  pub block_fits : (k second : ℕ) → DecodesRest q src last new sub read written (Malformed k second) bytes units t → (length src - read ≡ 0 → 3 ≤ length new - written)
+  pub block_fits : (k second : ℕ) → DecodesRest q src last new sub read written (Malformed k second) bytes units t
+      → (length src - read ≡ 0 → 3 ≤ length new - written)
       → 3 ≤ length (take (length dst - (written + units)) (drop (written + units) dst))
   block_fits k second (out, w, call) at_end =
       let (reported, is, b) = repaired_more encode_utf8 4 p src last old new sub read written replaced q bytes units t (Malformed k second) d (out, w, call) in
       let (x, zero, within, whole, count, none, malformed, enough) = call.answer in
       let space : length (take (length dst - (written + units)) (drop (written + units) dst)) ≡ length old - (written + units) =
-      ap length (take_rest dst (written + units)) ∙ length-drop (written + units) dst ∙ ap (λ n. n - (written + units)) (WritesPrefix-length _ _ _ _ b.writes) in
+      ap length (take_rest dst (written + units)) ∙ length-drop (written + units) dst
+      ∙ ap (λ n. n - (written + units)) (WritesPrefix-length _ _ _ _ b.writes) in
       let same = WritesPrefix-length _ _ _ _ d.writes in
       elim (cases_lt 0 (length (drop read src))) [
         | inl some ↦ omega (arith, enough some, size, w.count, space)
@@ -116,7 +119,15 @@ module _ (p src : List ℕ) (last : Bool) (old new sub : List ℕ) (read written
             let no_bytes : bytes ≡ 0 = omega (arith, within, nothing) in
             let no_characters = no_characters_pending call.scalars x q call.are_scalars call.pending_before
             (sym (append-nil q) ∙ ap (λ n. q ++ take n (drop read src)) (sym no_bytes) ∙ whole) in
-            omega (arith, at_end (omega (arith, nothing, length-drop read src)), w.count, space, same, ap length (call.out_is ∙ ap (flat_map encode_utf8) no_characters))
+            omega (
+              arith,
+              at_end (omega (arith, nothing, length-drop read src)),
+              w.count,
+              space,
+              same,
+              ap length (call.out_is
+                  ∙ ap (flat_map encode_utf8) no_characters),
+            )
       ]
 
 -- U+FFFD for the reported part
@@ -142,8 +153,10 @@ sequence_text (call ∷ calls) parts (first, others, (text, count), more, whole)
       omega (arith, count, rest.1, malformed_count-append first others, ap malformed_count whole),
     )
 
-blocks_give : (p b : List ℕ) (calls : List (Call ℕ RepairedBlock ℕ)) → IsPending p → IsChain IsBlockRepair p b calls → YieldTheParts AreRepairedParts (λ block. block.finished ≡ true) p b calls
-blocks_give = chain_yields IsBlockRepair AreRepairedParts (λ p src room last block read out q call. (call.parts, (call.text, call.replaced), call.yielded)) (λ block. block.finished ≡ true)
+blocks_give : (p b : List ℕ) (calls : List (Call ℕ RepairedBlock ℕ)) → IsPending p → IsChain IsBlockRepair p b calls
+    → YieldTheParts AreRepairedParts (λ block. block.finished ≡ true) p b calls
+blocks_give = chain_yields IsBlockRepair AreRepairedParts (λ p src room last block read out q call. (call.parts, (call.text, call.replaced), call.yielded))
+    (λ block. block.finished ≡ true)
     (λ p src room last block read out q call marked e. ((call.finished.0 e).0, (call.finished.0 e).1 marked))
 
 -- what was pending before the first call
@@ -151,7 +164,8 @@ pending_before : (p b : List ℕ) (calls : List (Call ℕ RepairedBlock ℕ)) �
 pending_before p b [] h c = h refl
 pending_before p b (call ∷ calls) h c = c.0.was_pending
 
-pub blocks_prefix : (p b : List ℕ) (calls : List (Call ℕ RepairedBlock ℕ)) → (calls ≡ [] → IsPending p) → IsChain IsBlockRepair p b calls → RepairTheParts p b calls
+pub blocks_prefix : (p b : List ℕ) (calls : List (Call ℕ RepairedBlock ℕ)) → (calls ≡ [] → IsPending p) → IsChain IsBlockRepair p b calls
+    → RepairTheParts p b calls
 blocks_prefix p b calls h c =
     let yielded = blocks_give p b calls (pending_before p b calls h c) c in
     let text = sequence_text calls yielded.parts yielded.in_sequence in

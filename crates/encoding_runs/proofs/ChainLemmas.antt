@@ -20,9 +20,11 @@ piece_bytes : (p b : List ℕ) (n : ℕ) → p ++ take n b ++ drop n b ≡ p ++ 
 piece_bytes p b n = append_assoc p (take n b) (drop n b) ∙ ap (λ xs. p ++ xs) (take-append-drop n b)
 
 unread_bytes : (q b : List ℕ) (n r : ℕ) → r ≤ length (take n b) → q ++ drop r (take n b) ++ drop n b ≡ q ++ drop r b
-unread_bytes q b n r h = append_assoc q (drop r (take n b)) (drop n b) ∙ ap (λ xs. q ++ xs) (sym (drop-append-le r (take n b) (drop n b) h) ∙ ap (drop r) (take-append-drop n b))
+unread_bytes q b n r h = append_assoc q (drop r (take n b)) (drop n b)
+    ∙ ap (λ xs. q ++ xs) (sym (drop-append-le r (take n b) (drop n b) h) ∙ ap (drop r) (take-append-drop n b))
 
-first_of_all : (p b : List ℕ) (n : ℕ) (last : Bool) (parts : List Part) (read : ℕ) (q : List ℕ) → Yields p (take n b) last parts read q → (last ≡ true → length b ≤ n)
+first_of_all : (p b : List ℕ) (n : ℕ) (last : Bool) (parts : List Part) (read : ℕ) (q : List ℕ) → Yields p (take n b) last parts read q
+    → (last ≡ true → length b ≤ n)
     → StartsWith (p ++ b) parts (q ++ drop read b)
 first_of_all p b n true parts read q g whole = subst (λ xs. StartsWith (p ++ xs) parts (q ++ drop read xs)) (take_all n b (whole refl)) g.first
 first_of_all p b n false parts read q g whole = rw (piece_bytes p b n, unread_bytes q b n read g.within) at (g.stable refl (drop n b))
@@ -33,10 +35,12 @@ first_stable p b n last parts read q g e more =
     let prefix = p ++ take n b in
     let back = q ++ drop read (take n b) in
     subst (λ xs. StartsWith xs parts (q ++ drop read b ++ more)) (sym (append_assoc prefix (drop n b) more) ∙ ap (λ xs. xs ++ more) (piece_bytes p b n))
-    (subst (λ xs. StartsWith (prefix ++ (drop n b ++ more)) parts xs) (sym (append_assoc back (drop n b) more) ∙ ap (λ xs. xs ++ more) (unread_bytes q b n read g.within))
+    (subst (λ xs. StartsWith (prefix ++ (drop n b ++ more)) parts xs) (sym (append_assoc back (drop n b) more)
+    ∙ ap (λ xs. xs ++ more) (unread_bytes q b n read g.within))
     (g.stable e (drop n b ++ more)))
 
-of_piece : (p b : List ℕ) (n : ℕ) (last : Bool) (parts : List Part) (read : ℕ) (q : List ℕ) → Yields p (take n b) last parts read q → (last ≡ true → length b ≤ n) → Yields p b last parts read q
+of_piece : (p b : List ℕ) (n : ℕ) (last : Bool) (parts : List Part) (read : ℕ) (q : List ℕ) → Yields p (take n b) last parts read q
+    → (last ≡ true → length b ≤ n) → Yields p b last parts read q
 of_piece p b n last parts read q g whole = record {
   within = omega (arith, g.within, length-take n b);
   first = first_of_all p b n last parts read q g whole;
@@ -52,7 +56,8 @@ yielded_bytes p src parts read q s =
     (piece_bytes p src read ∙ StartsWith-bytes (p ++ src) parts (q ++ drop read src) s ∙ sym (append_assoc (flat_map bytes_of parts) q (drop read src))))
 
 -- a decode call marked last that returns `InputEmpty` reads all and leaves nothing pending
-pub decoded_empty : {A : Type 0} (encode : ℕ → List A) (need : ℕ) (p src : List ℕ) (room : ℕ) (last : Bool) (result : DecoderResult) (read : ℕ) (out : List A) (q : List ℕ)
+pub decoded_empty : {A : Type 0} (encode : ℕ → List A) (need : ℕ) (p src : List ℕ) (room : ℕ) (last : Bool) (result : DecoderResult) (read : ℕ)
+    (out : List A) (q : List ℕ)
     → DecodeStep encode need p src room last result read out q → last ≡ true → result ≡ InputEmpty → (read ≡ length src) × (q ≡ [])
 decoded_empty encode need p src room last result read out q call marked e =
     let empty = subst (λ x. DecodeStep encode need p src room last x read out q) e call in
@@ -68,23 +73,41 @@ module _ {Form Result A : Type 0} (Does : CallRelation Form Result A) (AreYielde
     pub prefix : Yields p b (some_last calls) parts (read_in_all calls) (pending_after p calls)
 
   chain_yielded : (p b : List ℕ) (calls : List (Call Form Result A)) → IsPending p → IsChain Does p b calls → Given p b calls
-  chain_yielded p b [] h c = record { parts = []; in_sequence = refl; prefix = record { within = omega arith; first = refl; pending = h; stable = λ e more. refl } }
+  chain_yielded p b [] h c = record {
+    parts = [];
+    in_sequence = refl;
+    prefix =
+        record { within = omega arith; first = refl; pending = h; stable = λ e more. refl };
+  }
   chain_yielded p b (call ∷ calls) h (does, whole, c) =
       let (first, are, g) = yields p (take call.piece b) call.form call.last call.result call.read call.out call.pending does in
       let rest = chain_yielded call.pending (drop call.read b) calls g.pending c in
       record {
         parts = first ++ rest.parts;
         in_sequence = (first, rest.parts, are, rest.in_sequence, refl);
-        prefix = yields_then p b call.last (some_last calls) _ first rest.parts call.read (read_in_all calls) call.pending _ (or_parts call.last (some_last calls))
+        prefix = yields_then p b call.last (some_last calls) _ first rest.parts call.read (read_in_all calls) call.pending _
+            (or_parts call.last (some_last calls))
             (of_piece p b call.piece call.last first call.read call.pending g whole) rest.prefix;
       }
 
   -- with nothing pending and nothing unread, calls yield nothing
-  nothing_left : (p b : List ℕ) (calls : List (Call Form Result A)) → p ≡ [] → length b ≡ 0 → IsChain Does p b calls → (read_in_all calls ≡ 0) × (pending_after p calls ≡ [])
+  nothing_left : (p b : List ℕ) (calls : List (Call Form Result A)) → p ≡ [] → length b ≡ 0 → IsChain Does p b calls
+      → (read_in_all calls ≡ 0) × (pending_after p calls ≡ [])
   nothing_left p b calls e n c =
       let yielded = chain_yielded p b calls (inl e) c in
-      let bytes = yielded_bytes p b yielded.parts (read_in_all calls) (pending_after p calls) yielded.prefix.first in
-      (omega (arith, yielded.prefix.within), nil_from_length _ (omega (arith, ap length bytes, ap length e, length-append p (take (read_in_all calls) b), length-append (flat_map bytes_of yielded.parts) (pending_after p calls), length-take (read_in_all calls) b)))
+      let bytes = yielded_bytes p b yielded.parts (read_in_all calls) (pending_after p calls) yielded.prefix.first in (
+        omega (arith, yielded.prefix.within),
+        nil_from_length _
+            (omega (
+              arith,
+              ap length bytes,
+              ap length e,
+              length-append p (take (read_in_all calls) b),
+              length-append (flat_map bytes_of yielded.parts)
+                  (pending_after p calls),
+              length-take (read_in_all calls) b,
+            )),
+      )
 
   -- ---- to the end of the bytes, by a call marked last that reads all and leaves nothing pending
   module _ (IsInputEmpty : Result → Type 0)
@@ -93,21 +116,25 @@ module _ {Form Result A : Type 0} (Does : CallRelation Form Result A) (AreYielde
     abbrev Ends : Call Form Result A → Type 0
     Ends call = (call.last ≡ true) × IsInputEmpty call.result
 
-    chain_ends : (p b : List ℕ) (calls : List (Call Form Result A)) → IsChain Does p b calls → Any Ends calls → (read_in_all calls ≡ length b) × (pending_after p calls ≡ [])
+    chain_ends : (p b : List ℕ) (calls : List (Call Form Result A)) → IsChain Does p b calls → Any Ends calls
+        → (read_in_all calls ≡ length b) × (pending_after p calls ≡ [])
     chain_ends p b [] c some = absurd (Any-none Ends some)
     chain_ends p b (call ∷ calls) (does, whole, c) some =
         let (first, are, g) = yields p (take call.piece b) call.form call.last call.result call.read call.out call.pending does in
         elim (Any-cons Ends call calls some) [
           | inl (last, empty) ↦
               let all = ends p (take call.piece b) call.form call.last call.result call.read call.out call.pending does last empty in
-              let rest = nothing_left call.pending (drop call.read b) calls all.1 (omega (arith, all.0, whole last, length-take call.piece b, length-drop call.read b)) c in
+              let rest =
+              nothing_left call.pending (drop call.read b) calls all.1
+              (omega (arith, all.0, whole last, length-take call.piece b, length-drop call.read b)) c in
               (omega (arith, rest.0, all.0, whole last, length-take call.piece b), rest.1)
           | inr more ↦
               let rest = chain_ends call.pending (drop call.read b) calls c more in
               (omega (arith, rest.0, g.within, length-take call.piece b, length-drop call.read b), rest.1)
         ]
 
-    pub chain_yields : (p b : List ℕ) (calls : List (Call Form Result A)) → IsPending p → IsChain Does p b calls → YieldTheParts AreYielded IsInputEmpty p b calls
+    pub chain_yields : (p b : List ℕ) (calls : List (Call Form Result A)) → IsPending p → IsChain Does p b calls
+        → YieldTheParts AreYielded IsInputEmpty p b calls
     chain_yields p b calls h c =
         let yielded = chain_yielded p b calls h c in
         let q = pending_after p calls in

@@ -41,7 +41,8 @@ marked turn n e l = λ i. e i && le-leb n turn.take l i
 
 -- ---- a run of such turns
 -- Each call leaves space enough and less work, or it is marked last, returns `empty` and leaves no work.
-module _ {Result A : Type 0} (Does : CallRelation ℕ Result A) (empty : Result) (need : ℕ) (Fits : List ℕ → List ℕ → ℕ → Type 0) (work : List ℕ → List ℕ → ℕ) where
+module _ {Result A : Type 0} (Does : CallRelation ℕ Result A) (empty : Result) (need : ℕ) (Fits : List ℕ → List ℕ → ℕ
+    → Type 0) (work : List ℕ → List ℕ → ℕ) where
   abbrev Ends : Call ℕ Result A → Type 0
   Ends call = (call.last ≡ true) × (call.result ≡ empty)
 
@@ -69,7 +70,8 @@ module _ {Result A : Type 0} (Does : CallRelation ℕ Result A) (empty : Result)
       let following = turns_complete on turns calls call.pending (drop call.read unread) (left - length call.out) (Some call.result) more step.0 chain others in
       elim step.1 [
         | inl less ↦
-            let fewer : work call.pending (drop call.read unread) < length turns = elim due [ inl d ↦ omega (arith, less, d) | inr d ↦ omega (arith, less, d.0) ] in
+            let fewer : work call.pending (drop call.read unread) < length turns =
+            elim due [ inl d ↦ omega (arith, less, d) | inr d ↦ omega (arith, less, d.0) ] in
             let rest = following (inl fewer) in
             (rest.0, λ _. Any-there Ends call calls (rest.1 fewer))
         | inr (marks, e, none) ↦ ((following (inr (none, ap Some e))).0, λ _. Any-here Ends call calls (last ∙ marks, e))
@@ -93,12 +95,14 @@ module _ {A : Type 0} (encode : ℕ → List A) (need : ℕ) (some : 0 < need) (
   reads_on : (p unread q : List ℕ) (read : ℕ) → 0 < read → read ≤ length unread → work q (drop read unread) < work p unread
   reads_on p unread q read some inside = omega (arith, length-drop read unread)
 
-  gets_on : (p unread : List ℕ) (left : ℕ) (turn : Turn) (result : DecoderResult) (read : ℕ) (out : List A) (q : List ℕ) → GoesOn need turn → Fits p unread left → read ≤ length unread
+  gets_on : (p unread : List ℕ) (left : ℕ) (turn : Turn) (result : DecoderResult) (read : ℕ) (out : List A) (q : List ℕ) → GoesOn need turn → Fits p unread left
+      → read ≤ length unread
       → DecodeStep encode need p (take turn.take unread) (room_of turn left) (is_marked_last turn (length unread)) result read out q
       → GetsOn (DecodeStep encode need) InputEmpty need Fits work p unread turn result q (drop read unread)
   gets_on p unread left turn InputEmpty read out q (one, wide, last) l inside call = elim (cases_lt 0 (length unread)) [
     | inl h ↦ inl (reads_on p unread q read (omega (arith, call.answer.0, length-take turn.take unread)) inside)
-    | inr h ↦ let marks = marked turn (length unread) last (omega arith) in inr (marks, refl, omega (arith, ap length (call.answer.2 marks), length-drop read unread))
+    | inr h ↦ let marks = marked turn (length unread) last (omega arith) in
+        inr (marks, refl, omega (arith, ap length (call.answer.2 marks), length-drop read unread))
   ]
   gets_on p unread left turn OutputFull read out q (one, wide, last) l inside call =
       elim (progress OutputFull call (omega (arith, call.answer.0)) (omega (arith, call.answer.0, length-take turn.take unread))) [
@@ -107,7 +111,8 @@ module _ {A : Type 0} (encode : ℕ → List A) (need : ℕ) (some : 0 < need) (
       ]
   gets_on p unread left turn (Malformed k second) read out q (one, wide, last) l inside call = elim (cases_lt 0 read) [
     | inl h ↦ inl (reads_on p unread q read h inside)
-    | inr h ↦ let c = counts short_output (Malformed k second) call in inl (omega (arith, ap length call.answer.5, (c.reported (k, second, refl)).0, length-drop read unread))
+    | inr h ↦ let c = counts short_output (Malformed k second) call in
+        inl (omega (arith, ap length call.answer.5, (c.reported (k, second, refl)).0, length-drop read unread))
   ]
 
   -- the space left is enough for the bytes left
@@ -117,11 +122,13 @@ module _ {A : Type 0} (encode : ℕ → List A) (need : ℕ) (some : 0 < need) (
       let inside : read ≤ length unread = omega (arith, c.within, length-take turn.take unread) in
       (omega (arith, l, inside, c.split, length-drop read unread), gets_on p unread left turn result read out q goes l inside call)
 
-  pub completes : (p src : List ℕ) (room : ℕ) (turns : List Turn) (calls : List (Call ℕ DecoderResult A)) (before : Option DecoderResult) → 2 * length src + 2 ≤ length turns → EachMakesProgress need turns
+  pub completes : (p src : List ℕ) (room : ℕ) (turns : List Turn) (calls : List (Call ℕ DecoderResult A)) (before : Option DecoderResult)
+      → 2 * length src + 2 ≤ length turns → EachMakesProgress need turns
       → length src + (need - 1) + length p ≤ room → IsChain (DecodeStep encode need) p src calls → AreOfTurns (length src) room turns calls
       → last_or before (map (λ call. call.result) calls) ≡ Some InputEmpty
   completes p src room turns calls before l each m c t =
-      (turns_complete (DecodeStep encode need) InputEmpty need Fits work each_on turns calls p src room before (recursion_from_All (GoesOn need) turns each) m c t (inl (omega (arith, l)))).0
+      (turns_complete (DecodeStep encode need) InputEmpty need Fits work each_on turns calls p src room before
+      (recursion_from_All (GoesOn need) turns each) m c t (inl (omega (arith, l)))).0
 
 -- the one result of a decode call
 decodes_text : {A : Type 0} (encode : ℕ → List A) (need : ℕ) (src : List ℕ) (room : ℕ) (last : Bool) (r : DecoderResult) (read : ℕ) (out : List A) (q : List ℕ)

@@ -23,7 +23,8 @@ use Rattle.encoding_runs.proofs.EncoderChainLemmas.{chain_encodes}
 use Rattle.encoding_text.proofs.WholePrefixesLemmas.{written_within}
 
 -- ---- what a run writes
-pub run_encodes : (surrogate src : List ℕ) (turns : List Turn) (old new : List ℕ) (outcome : EncodeOutcome) (after : List ℕ) → IsPendingSurrogate surrogate → AreCodeUnits src
+pub run_encodes : (surrogate src : List ℕ) (turns : List Turn) (old new : List ℕ) (outcome : EncodeOutcome) (after : List ℕ)
+    → IsPendingSurrogate surrogate → AreCodeUnits src
     → IsRun EncodeStep surrogate src turns old new outcome.read outcome.written outcome.result after → EncodesByTurns surrogate src turns old new outcome after
 run_encodes surrogate src turns old new outcome after h a run = record {
   run = run;
@@ -31,10 +32,13 @@ run_encodes surrogate src turns old new outcome after h a run = record {
 }
 
 -- ---- the call of a turn
-module _ (surrogate unread left sub : List ℕ) (turn : Turn) (piece room : ℕ) (last : Bool) (r : EncoderResult) (read written : ℕ) (after : List ℕ) (p : piece ≡ min turn.take (length unread))
+module _ (surrogate unread left sub : List ℕ) (turn : Turn) (piece room : ℕ) (last : Bool) (r : EncoderResult) (read written : ℕ) (after : List ℕ)
+    (p : piece ≡ min turn.take (length unread))
     (q : room ≡ room_of turn (length left)) (l : last ≡ is_marked_last turn (length unread))
-    (c : EncodeStep surrogate (take piece unread) (length (take room left)) last r read (take written sub) after) (w : WritesPrefix (take room left) sub written (take written sub)) where
-  pub turn_call : EncodeStep surrogate (take turn.take unread) (room_of turn (length left)) (is_marked_last turn (length unread)) r read (take written (sub ++ drop room left)) after
+    (c : EncodeStep surrogate (take piece unread) (length (take room left)) last r read (take written sub) after)
+    (w : WritesPrefix (take room left) sub written (take written sub)) where
+  pub turn_call : EncodeStep surrogate (take turn.take unread) (room_of turn (length left)) (is_marked_last turn (length unread)) r read
+      (take written (sub ++ drop room left)) after
   turn_call =
       same_call EncodeStep surrogate surrogate _ _ _ _ _ _ r read _ _ after c refl (ap (λ n. take n unread) p ∙ take_min turn.take unread)
       (length-take room left ∙ omega (arith, q)) l (sym (take-append-le written sub (drop room left) (omega (arith, w.fits, WritesPrefix-length _ _ _ _ w))))
@@ -70,13 +74,17 @@ module _ (surrogate src : List ℕ) (turns : List Turn) (room : ℕ) (calls : Li
   pub chain_completes : IsChain EncodeStep surrogate src calls → AreOfTurns (length src) room turns calls
       → Completes InputEmpty (λ n pending. 3 * (n + pending)) 4 surrogate src turns room (last_or None (map (λ call. call.result) calls))
   chain_completes chain t many g enough =
-      (turns_complete EncodeStep InputEmpty 4 Fits work each_on turns calls surrogate src room None (recursion_from_All (GoesOn 4) turns g) enough chain t (inl (omega (arith, at_most_one_pending surrogate h)))).0
+      (turns_complete EncodeStep InputEmpty 4 Fits work each_on turns calls surrogate src room None (recursion_from_All (GoesOn 4) turns g) enough chain t
+      (inl (omega (arith, at_most_one_pending surrogate h)))).0
 
   pub chain_whole : AreCodeUnits src → IsChain EncodeStep surrogate src calls → AreOfTurns (length src) room turns calls
-      → 2 * length src + 2 ≤ length turns → EachMakesProgress 4 turns → 3 * (length src + length surrogate) ≤ room → IsUtf8OfUnits (surrogate ++ src) (output_of calls)
+      → 2 * length src + 2 ≤ length turns → EachMakesProgress 4 turns → 3 * (length src + length surrogate) ≤ room
+      → IsUtf8OfUnits (surrogate ++ src) (output_of calls)
   chain_whole a chain t many g enough =
       let fewer : work surrogate src < length turns = omega (arith, at_most_one_pending surrogate h) in
-      let some = (turns_complete EncodeStep InputEmpty 4 Fits work each_on turns calls surrogate src room None (recursion_from_All (GoesOn 4) turns g) enough chain t (inl fewer)).1 fewer in
+      let some =
+      (turns_complete EncodeStep InputEmpty 4 Fits work each_on turns calls surrogate src room None (recursion_from_All (GoesOn 4) turns g) enough chain t
+      (inl fewer)).1 fewer in
       let first = chain_encodes surrogate src calls h a chain in
       record { parts = first.parts; are_parts = first.all some; written = first.written }
 

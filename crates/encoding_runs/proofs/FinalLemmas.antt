@@ -13,7 +13,8 @@ use Rattle.std.proofs.lemmas.Bool.Decides.{nat_tests}
 use Rattle.encoding_definitions.proofs.SequenceLemmas.{HasOpenShape, HasOpenShape-IsIncomplete, second_more}
 
 -- parts after parts
-pub AreFirst-trans : (last : Bool) (bs : List ℕ) (ps : List Part) (mid : List ℕ) (qs : List Part) (rest : List ℕ) → AreFirst last bs ps mid → AreFirst last mid qs rest
+pub AreFirst-trans : (last : Bool) (bs : List ℕ) (ps : List Part) (mid : List ℕ) (qs : List Part) (rest : List ℕ) → AreFirst last bs ps mid
+    → AreFirst last mid qs rest
     → AreFirst last bs (ps ++ qs) rest
 AreFirst-trans last bs ps mid qs rest f g = record {
   starts = StartsWith-append bs ps mid qs rest f.starts g.starts;
@@ -26,7 +27,8 @@ pub AreFirst-more : (last : Bool) (bs : List ℕ) (ps : List Part) (mid more : L
 AreFirst-more last bs ps mid more qs rest f g = record {
   starts = StartsWith-append (bs ++ more) ps (mid ++ more) qs rest (f.stable refl more) g.starts;
   stable = λ e others.
-      let there : StartsWith ((bs ++ more) ++ others) ps ((mid ++ more) ++ others) = rw (append_assoc bs more others, append_assoc mid more others) (f.stable refl (more ++ others)) in
+      let there : StartsWith ((bs ++ more) ++ others) ps ((mid ++ more) ++ others) =
+      rw (append_assoc bs more others, append_assoc mid more others) (f.stable refl (more ++ others)) in
       StartsWith-append ((bs ++ more) ++ others) ps ((mid ++ more) ++ others) qs (rest ++ others) there (g.stable e others);
 }
 
@@ -57,8 +59,12 @@ first_final bs ps rest s = record { starts = s.starts; stable = λ _ more. final
 pub final_after : (bs : List ℕ) (ps : List Part) (mid : List ℕ) → AreFirst false bs ps mid
     → (qs : List Part) × (rest : List ℕ) × AreFinal bs (ps ++ qs) rest
 final_after bs ps mid f =
-    let more = has_final mid in
-    (more.0, more.1, final_first bs (ps ++ more.0) more.1 (AreFirst-trans false bs ps mid more.0 more.1 f (first_final mid more.0 more.1 more.2)) more.2.still_open)
+    let more = has_final mid in (
+      more.0,
+      more.1,
+      final_first bs (ps ++ more.0) more.1
+          (AreFirst-trans false bs ps mid more.0 more.1 f (first_final mid more.0 more.1 more.2)) more.2.still_open,
+    )
 
 -- the text of the final parts is a prefix of the repaired text of any continuation
 pub final_text : (bs rest more : List ℕ) (parts all : List Part) → AreFinal bs parts rest → ArePartsOf (bs ++ more) all
@@ -68,7 +74,8 @@ final_text bs rest more parts all s h =
     (lossy_utf8 others, ap lossy_utf8 e ∙ lossy_utf8-append parts others)
 
 -- ---- the parts of both pieces
-pub cut_parts : (bs more : List ℕ) (parts others all : List Part) → AreFinal bs parts [] → ArePartsOf more others → ArePartsOf (bs ++ more) all → all ≡ parts ++ others
+pub cut_parts : (bs more : List ℕ) (parts others all : List Part) → AreFinal bs parts [] → ArePartsOf more others → ArePartsOf (bs ++ more) all
+    → all ≡ parts ++ others
 cut_parts bs more parts others all s h a =
     same_parts (bs ++ more) all (parts ++ others) a (StartsWith-append (bs ++ more) parts more others [] (final_stay bs parts [] more s.starts s.closed) h)
 

@@ -169,7 +169,8 @@ pub next_kind : (bs : List ℕ) (place size : ℕ) (kind : Malformation) → IsN
     → IsMalformation (slice_index bs place ∷ more) (drop (place + size) bs) kind)
     → IsMalformation (take size (drop place bs)) (drop (place + size) bs) kind
 next_kind bs place size kind next is =
-    subst (λ zs. IsMalformation zs rest kind) (sym whole) (is (drop 1 x) true (subst (λ zs. IsMalformed zs rest true) whole (last_malformed bs _ x rest next.first)))
+    subst (λ zs. IsMalformation zs rest kind) (sym whole)
+    (is (drop 1 x) true (subst (λ zs. IsMalformed zs rest true) whole (last_malformed bs _ x rest next.first)))
   where
     x : List ℕ
     x = take size (drop place bs)

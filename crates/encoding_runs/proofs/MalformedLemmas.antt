@@ -21,12 +21,14 @@ use Rattle.encoding_runs.specs.MalformedSequences.{IsNextMalformed, AreFoundInTu
 
 none_malformed : (bs : List ℕ) (parts : List Part) → ArePartsOf bs parts → IsUtf8 bs → malformed_count parts ≡ 0
 none_malformed bs parts are (cs, (scalars, spelled)) =
-    let characters : ArePartsOf bs (map Character cs) = subst (λ xs. ArePartsOf xs (map Character cs)) (append-nil (encode_utf8_all cs) ∙ spelled) (StartsWith-characters cs [] scalars) in
+    let characters : ArePartsOf bs (map Character cs) = subst (λ xs. ArePartsOf xs (map Character cs)) (append-nil (encode_utf8_all cs)
+    ∙ spelled) (StartsWith-characters cs [] scalars) in
     ap malformed_count (same_parts bs parts (map Character cs) are characters) ∙ malformed_count-characters cs
 
 no_malformed : (bs : List ℕ) (parts : List Part) (rest : List ℕ) → StartsWith bs parts rest → malformed_count parts ≡ 0 → IsUtf8 (flat_map bytes_of parts)
 no_malformed bs [] rest h none = IsUtf8-nil
-no_malformed bs (Character c ∷ parts) rest (after, first, h) none = IsUtf8-append (encode_utf8 c) (flat_map bytes_of parts) (IsUtf8-encode c first.0) (no_malformed after parts rest h none)
+no_malformed bs (Character c ∷ parts) rest (after, first, h) none = IsUtf8-append (encode_utf8 c) (flat_map bytes_of parts) (IsUtf8-encode c first.0)
+    (no_malformed after parts rest h none)
 no_malformed bs (IllFormed bytes ∷ parts) rest h none = absurd (omega (arith, none))
 
 pub well_formed : (bs : List ℕ) (parts : List Part) → ArePartsOf bs parts → IsUtf8 bs ↔ (malformed_count parts ≡ 0)
@@ -80,7 +82,8 @@ malformed_after bs place size within (cs, (h, e)) f = record {
         (StartsWith-one (drop place bs) (IllFormed (take size (drop place bs))) (drop size (drop place bs)) f)
 
 -- what a call on the first few bytes after the longest well-formed prefix reports
-pub reported_next : (bs : List ℕ) (place n k read : ℕ) (q : List ℕ) → IsLongestPrefix IsUtf8 bs place → n ≤ length (drop place bs) → (n < 4 → n ≡ length (drop place bs))
+pub reported_next : (bs : List ℕ) (place n k read : ℕ) (q : List ℕ) → IsLongestPrefix IsUtf8 bs place → n ≤ length (drop place bs)
+    → (n < 4 → n ≡ length (drop place bs))
     → BorrowedDecodeStep [] (take n (drop place bs)) true (Malformed k) read q → IsNextMalformed bs place k
 reported_next bs place n k read q prefix within short call =
     malformed_after bs place k (omega (arith, length-drop place bs, taken, size)) prefix.kind
@@ -100,7 +103,8 @@ reported_next bs place n k read q prefix within short call =
     same = take-take read n r taken ∙ ap (λ m. take m r) size
 
     there : IsMalformed (take k r) (drop k (take n r)) true
-    there = subst (λ xs. IsMalformed xs (drop k (take n r)) true) same (subst (λ m. IsMalformed (take read (take n r)) (drop m (take n r)) true) size call.answer.3)
+    there = subst (λ xs. IsMalformed xs (drop k (take n r)) true) same
+        (subst (λ m. IsMalformed (take read (take n r)) (drop m (take n r)) true) size call.answer.3)
 
     few : length (take k r) ≤ 3
     few = malformed_length (take k r) (drop k (take n r)) there
@@ -112,7 +116,8 @@ none_left bs place n read (Text t) q prefix within call none =
     let (neutral, nothing, some, bytes, text) = call.answer in
     let r = drop place bs in
     let taken : read ≤ n = omega (arith, text.within, length-take n r) in
-    let more : IsUtf8 (take (place + read) bs) = subst IsUtf8 (sym (take-add place read bs)) (IsUtf8-append _ _ prefix.kind (subst IsUtf8 (take-take read n r taken) text.kind)) in
+    let more : IsUtf8 (take (place + read) bs) =
+    subst IsUtf8 (sym (take-add place read bs)) (IsUtf8-append _ _ prefix.kind (subst IsUtf8 (take-take read n r taken) text.kind)) in
     absurd (omega (arith, some, taken, prefix.longest (place + read) (omega (arith, within, taken, length-drop place bs, prefix.within)) more))
 none_left bs place n read (Char c) q prefix within call none = absurd (call.answer.0 refl)
 none_left bs place n read (Malformed k) q prefix within call none = absurd (none k refl)
@@ -120,7 +125,8 @@ none_left bs place n read InputEmpty q prefix within call none =
     let (all, kept, ended) = call.answer in
     omega (arith, ap length (sym kept ∙ ended refl), length-take n (drop place bs), within)
 
-pub none_is_text : (bs : List ℕ) (place n read : ℕ) (returned : Piece) (q : List ℕ) → IsLongestPrefix IsUtf8 bs place → n ≤ length (drop place bs) → (n < 4 → n ≡ length (drop place bs))
+pub none_is_text : (bs : List ℕ) (place n read : ℕ) (returned : Piece) (q : List ℕ) → IsLongestPrefix IsUtf8 bs place → n ≤ length (drop place bs)
+    → (n < 4 → n ≡ length (drop place bs))
     → BorrowedDecodeStep [] (take n (drop place bs)) true returned read q → ((k : ℕ) → returned ≡ Malformed k → ⊥) → IsUtf8 bs
 none_is_text bs place n read returned q prefix within short call none =
     let nothing = none_left bs place n read returned q prefix within call none in
@@ -154,7 +160,14 @@ next_not_text bs place size next (cs, (h, e)) =
     let are : ArePartsOf bs (map Character cs) =
     subst (λ xs. ArePartsOf xs (map Character cs)) (append-nil (encode_utf8_all cs) ∙ e) (StartsWith-characters cs [] h) in
     let s = split_at bs (map Character cs) place size are next in
-    omega (arith, malformed_count-characters cs, ap malformed_count s.are, malformed_count-append (map Character s.characters ++ IllFormed s.malformed ∷ []) s.others, malformed_count-append (map Character s.characters) (IllFormed s.malformed ∷ []))
+    omega (
+      arith,
+      malformed_count-characters cs,
+      ap malformed_count s.are,
+      malformed_count-append
+          (map Character s.characters ++ IllFormed s.malformed ∷ []) s.others,
+      malformed_count-append (map Character s.characters) (IllFormed s.malformed ∷ []),
+    )
 
 -- it has one to three bytes
 pub first_size : (bs x rest : List ℕ) → IsFirstPart bs (IllFormed x) rest → (0 < length x) × (length x ≤ 3)
@@ -172,24 +185,29 @@ next_size bs place size next =
     (omega (arith, last.0, long), omega (arith, last.1, long, next.within, length-drop place bs))
 
 -- ---- those found one after another
-malformed_indices-characters : (at : ℕ) (cs : List ℕ) (ps : List Part) → malformed_indices at (map Character cs ++ ps) ≡ malformed_indices (at + length (encode_utf8_all cs)) ps
+malformed_indices-characters : (at : ℕ) (cs : List ℕ) (ps : List Part)
+    → malformed_indices at (map Character cs ++ ps) ≡ malformed_indices (at + length (encode_utf8_all cs)) ps
 malformed_indices-characters at [] ps = ap (λ n. malformed_indices n ps) (omega arith)
 malformed_indices-characters at (c ∷ cs) ps =
-    malformed_indices-characters (at + length (encode_utf8 c)) cs ps ∙ ap (λ n. malformed_indices n ps) (omega (arith, length-append (encode_utf8 c) (encode_utf8_all cs)))
+    malformed_indices-characters (at + length (encode_utf8 c)) cs ps
+    ∙ ap (λ n. malformed_indices n ps) (omega (arith, length-append (encode_utf8 c) (encode_utf8_all cs)))
 
 -- they are the malformed ones
-found_are : (found : List (ℕ × ℕ)) (at : ℕ) (bs : List ℕ) (parts : List Part) → ArePartsOf bs parts → AreFoundInTurn at bs found → found ≡ malformed_indices at parts
+found_are : (found : List (ℕ × ℕ)) (at : ℕ) (bs : List ℕ) (parts : List Part) → ArePartsOf bs parts → AreFoundInTurn at bs found
+    → found ≡ malformed_indices at parts
 found_are [] at bs parts are (cs, (h, e)) =
     let all : ArePartsOf bs (map Character cs) =
     subst (λ xs. ArePartsOf xs (map Character cs)) (append-nil (encode_utf8_all cs) ∙ e) (StartsWith-characters cs [] h) in
-    sym (ap (malformed_indices at) (same_parts bs parts (map Character cs) are all ∙ sym (append-nil (map Character cs))) ∙ malformed_indices-characters at cs [])
+    sym (ap (malformed_indices at) (same_parts bs parts (map Character cs) are all ∙ sym (append-nil (map Character cs)))
+    ∙ malformed_indices-characters at cs [])
 found_are ((place, size) ∷ found) at bs parts are (before, stands, next, more) =
     let s = split_at bs parts before size are next in
     let rest = found_are found (place + size) (drop (before + size) bs) s.others s.left more in
     let one = ap (λ n. malformed_indices n (IllFormed s.malformed ∷ s.others)) (ap (λ n. at + n) s.before ∙ sym stands) in
     let two : (place, size) ∷ found ≡ (place, length s.malformed) ∷ malformed_indices (place + length s.malformed) s.others =
     rw s.long (ap (λ xs. (place, size) ∷ xs) rest) in
-    two ∙ sym (ap (malformed_indices at) (s.are ∙ append_assoc (map Character s.characters) (IllFormed s.malformed ∷ []) s.others) ∙ malformed_indices-characters at s.characters (IllFormed s.malformed ∷ s.others) ∙ one)
+    two ∙ sym (ap (malformed_indices at) (s.are ∙ append_assoc (map Character s.characters) (IllFormed s.malformed ∷ []) s.others)
+    ∙ malformed_indices-characters at s.characters (IllFormed s.malformed ∷ s.others) ∙ one)
 
 -- and the malformed ones are they: one is found after these characters, and the others after it
 malformed_found : (at : ℕ) (cs bs x after : List ℕ) (found : List (ℕ × ℕ)) → all_scalars cs ≡ true → IsFirstPart bs (IllFormed x) after
@@ -213,7 +231,8 @@ malformed_found at cs bs x after found h f more = (n, refl, next, subst (λ ys. 
     at_part = cut_after bs x after bytes
 
     next : IsNextMalformed (text ++ bs) n (length x)
-    next = malformed_after (text ++ bs) n (length x) (omega (arith, length-append text bs, at_part.0)) (subst IsUtf8 (sym at_text.1) (cs, (h, refl))) (rw (at_text.2, at_part.1, at_part.2) f)
+    next = malformed_after (text ++ bs) n (length x) (omega (arith, length-append text bs, at_part.0)) (subst IsUtf8 (sym at_text.1) (cs, (h, refl)))
+        (rw (at_text.2, at_part.1, at_part.2) f)
 
     left : after ≡ drop (n + length x) (text ++ bs)
     left = sym (sym (drop-drop (length x) n (text ++ bs)) ∙ ap (drop (length x)) at_text.2 ∙ at_part.2)
@@ -235,7 +254,8 @@ are_found (IllFormed x ∷ parts) at cs bs h (after, f, more) =
     malformed_found at cs bs x after (malformed_indices following parts) h f
     (subst (λ m. AreFoundInTurn following after (malformed_indices m parts)) zero_more (are_found parts following [] after refl more))
 
-pub found_parts : (bs : List ℕ) (parts : List Part) (found : List (ℕ × ℕ)) → ArePartsOf bs parts → AreFoundInTurn 0 bs found ↔ (found ≡ malformed_indices 0 parts)
+pub found_parts : (bs : List ℕ) (parts : List Part) (found : List (ℕ × ℕ)) → ArePartsOf bs parts
+    → AreFoundInTurn 0 bs found ↔ (found ≡ malformed_indices 0 parts)
 found_parts bs parts found are = (found_are found 0 bs parts are, λ e. subst (AreFoundInTurn 0 bs) (sym e) (are_found parts 0 [] bs refl are))
 
 pub found_count : (at : ℕ) (parts : List Part) → length (malformed_indices at parts) ≡ malformed_count parts

@@ -14,7 +14,8 @@ use Rattle.encoding_runs.specs.MixedCalls.{Form, ToUtf16, ToUtf8, Borrowed, Call
 use Rattle.encoding_runs.proofs.ChainLemmas.{decoded_empty, yielded_bytes, chain_yields}
 
 -- ---- what calls yield
-mixed_yields : (p src : List ℕ) (form : Form) (last : Bool) (answer : CallResult) (read : ℕ) (out q : List ℕ) → MixedDecodeStep p src form last answer read out q
+mixed_yields : (p src : List ℕ) (form : Form) (last : Bool) (answer : CallResult) (read : ℕ) (out q : List ℕ)
+    → MixedDecodeStep p src form last answer read out q
     → (parts : List Part) × AreYielded form answer out parts × Yields p src last parts read q
 mixed_yields p src (ToUtf16 room) last (Decoded r) read out q call = decoded_yields encode_utf16 2 p src room last r read out q call
 mixed_yields p src (ToUtf8 room) last (Decoded r) read out q call = decoded_yields encode_utf8 4 p src room last r read out q call
@@ -35,7 +36,8 @@ mixed_empty p src (ToUtf16 room) last (Handed returned) read out q call marked e
 mixed_empty p src (ToUtf8 room) last (Handed returned) read out q call marked e = absurd call
 mixed_empty p src Borrowed last (Decoded r) read out q call marked e = absurd call
 
-pub one_call_yields : (p src : List ℕ) (form : Form) (last : Bool) (answer : CallResult) (read : ℕ) (out q : List ℕ) → MixedDecodeStep p src form last answer read out q
+pub one_call_yields : (p src : List ℕ) (form : Form) (last : Bool) (answer : CallResult) (read : ℕ) (out q : List ℕ)
+    → MixedDecodeStep p src form last answer read out q
     → YieldsFirstParts AreYielded IsInputEmpty p src form last answer read out q
 one_call_yields p src form last answer read out q call =
     let (parts, yielded, prefix) = mixed_yields p src form last answer read out q call in
@@ -51,7 +53,8 @@ one_call_yields p src form last answer read out q call =
     }
 
 -- what successive calls yield follows from what each yields
-pub mixed_parts : (p b : List ℕ) (calls : List (Call Form CallResult ℕ)) → IsPending p → IsChain MixedDecodeStep p b calls → YieldTheParts AreYielded IsInputEmpty p b calls
+pub mixed_parts : (p b : List ℕ) (calls : List (Call Form CallResult ℕ)) → IsPending p → IsChain MixedDecodeStep p b calls
+    → YieldTheParts AreYielded IsInputEmpty p b calls
 mixed_parts = chain_yields MixedDecodeStep AreYielded mixed_yields IsInputEmpty mixed_empty
 
 -- ---- the same results
@@ -81,6 +84,8 @@ same_results p b [] (other ∷ others) c d e = absurd e
 same_results p b (call ∷ calls) [] c d e = absurd e
 same_results p b (call ∷ calls) (other ∷ others) (does, whole, c) (does', whole', d) ((form, piece, last), e) =
     let asked = rw (sym form, sym piece, sym last) at does' in
-    let same = mixed_agree p (take call.piece b) call.form call.last call.result other.result call.read other.read call.out other.out call.pending other.pending does asked in
+    let same =
+    mixed_agree p
+    (take call.piece b) call.form call.last call.result other.result call.read other.read call.out other.out call.pending other.pending does asked in
     let rest = rw (sym same.3, sym same.1) at d in
     (same, same_results call.pending (drop call.read b) calls others c rest e)

@@ -34,7 +34,8 @@ holds_all bs out text s prefix = (
 )
 
 -- the text of the final parts is a prefix of the repaired text
-begins_with_final : (bs : List ℕ) (ps : List Part) (rest : List ℕ) (all : List Part) → StartsWith bs ps rest → ArePartsOf bs all → IsPrefix (lossy_utf8 ps) (lossy_utf8 all)
+begins_with_final : (bs : List ℕ) (ps : List Part) (rest : List ℕ) (all : List Part) → StartsWith bs ps rest → ArePartsOf bs all
+    → IsPrefix (lossy_utf8 ps) (lossy_utf8 all)
 begins_with_final bs ps rest all s are =
     let (others, same, more) = parts_split bs ps rest all s are in
     (lossy_utf8 others, ap lossy_utf8 same ∙ lossy_utf8-append ps others)
@@ -42,7 +43,8 @@ begins_with_final bs ps rest all s are =
 pub holds_repaired : (bs text : List ℕ) → IsLossyDecodeOf bs text → (rounds : HoldsRounds bs text) × (rounds.before ≡ length bs)
 holds_repaired bs text (parts, are, is) =
     let (ps, rest, final_text) = has_final bs in
-    holds_all bs text (lossy_utf8 ps) (ps, rest, final_text, refl) (subst (IsPrefix (lossy_utf8 ps)) (sym is) (begins_with_final bs ps rest parts final_text.starts are))
+    holds_all bs text (lossy_utf8 ps) (ps, rest, final_text, refl)
+    (subst (IsPrefix (lossy_utf8 ps)) (sym is) (begins_with_final bs ps rest parts final_text.starts are))
 
 pub holds_final : (bs text : List ℕ) → IsFinalText bs text → (rounds : HoldsRounds bs text) × (rounds.before ≡ length bs)
 holds_final bs text final_text = holds_all bs text text final_text ([], sym (append-nil text))
@@ -54,7 +56,8 @@ pub record YieldsPiece (p src : List ℕ) (last : Bool) (piece : Piece) (read : 
   pub text : lossy_utf8 parts ≡ text_of piece
   pub malformed : malformed_count parts ≡ malformed_in piece
 
-yielded_text : (p src : List ℕ) (last : Bool) (piece : Piece) (read : ℕ) (q : List ℕ) (parts : List Part) → BorrowedDecodeStep p src last piece read q → AreBorrowed piece parts
+yielded_text : (p src : List ℕ) (last : Bool) (piece : Piece) (read : ℕ) (q : List ℕ) (parts : List Part) → BorrowedDecodeStep p src last piece read q
+    → AreBorrowed piece parts
     → (lossy_utf8 parts ≡ text_of piece) × (malformed_count parts ≡ malformed_in piece)
 unfolding encode
 yielded_text p src last (Text t) read q parts call are =
@@ -64,7 +67,8 @@ yielded_text p src last (Char c) read q parts call are = (ap lossy_utf8 are ∙ 
 yielded_text p src last (Malformed k) read q parts call (x, are, size) = (ap lossy_utf8 are, ap malformed_count are)
 yielded_text p src last InputEmpty read q parts call are = (ap lossy_utf8 are, ap malformed_count are)
 
-pub piece_yields : (p src : List ℕ) (last : Bool) (piece : Piece) (read : ℕ) (q : List ℕ) → BorrowedDecodeStep p src last piece read q → YieldsPiece p src last piece read q
+pub piece_yields : (p src : List ℕ) (last : Bool) (piece : Piece) (read : ℕ) (q : List ℕ) → BorrowedDecodeStep p src last piece read q
+    → YieldsPiece p src last piece read q
 piece_yields p src last piece read q call =
     let (parts, are, g) = borrowed_yields p src last piece read q call in
     let t = yielded_text p src last piece read q parts call are in
@@ -72,7 +76,8 @@ piece_yields p src last piece read q call =
 
 -- ---- what is written
 -- more parts are written after them
-pub wrote_then : (last : Bool) (bs mid rest : List ℕ) (old new now : Option (List ℕ)) (n m : ℕ) → WritesParts last bs mid old new n → WritesParts last mid rest new now m → WritesParts last bs rest old now (n + m)
+pub wrote_then : (last : Bool) (bs mid rest : List ℕ) (old new now : Option (List ℕ)) (n m : ℕ) → WritesParts last bs mid old new n
+    → WritesParts last mid rest new now m → WritesParts last bs rest old now (n + m)
 wrote_then last bs mid rest old new now n m w v = record {
   parts = w.parts ++ v.parts;
   first = AreFirst-trans last bs w.parts mid v.parts rest w.first v.first;
@@ -86,7 +91,8 @@ prefix_after ps qs out (left, some, whole) =
     (left, some, lossy_utf8-append ps qs ∙ ap (λ xs. lossy_utf8 ps ++ xs) whole ∙ sym (append_assoc (lossy_utf8 ps) out left))
 
 -- a proper prefix of the text of first parts is written
-pub stopped_in : (last : Bool) (bs : List ℕ) (parts : List Part) (rest text : List ℕ) (old new : Option (List ℕ)) (k : ℕ) → AreFirst last bs parts rest → text ≡ lossy_utf8 parts → k < length text → Appends old new (take k text)
+pub stopped_in : (last : Bool) (bs : List ℕ) (parts : List Part) (rest text : List ℕ) (old new : Option (List ℕ)) (k : ℕ) → AreFirst last bs parts rest
+    → text ≡ lossy_utf8 parts → k < length text → Appends old new (take k text)
     → StopsInParts last bs old new
 stopped_in last bs parts rest text old new k f e short a = record {
   parts = parts;
@@ -97,7 +103,8 @@ stopped_in last bs parts rest text old new k f e short a = record {
   bytes = a;
 }
 
-pub stopped_then : (last : Bool) (bs mid : List ℕ) (old new now : Option (List ℕ)) (n : ℕ) → WritesParts last bs mid old new n → StopsInParts last mid new now → StopsInParts last bs old now
+pub stopped_then : (last : Bool) (bs mid : List ℕ) (old new now : Option (List ℕ)) (n : ℕ) → WritesParts last bs mid old new n → StopsInParts last mid new now
+    → StopsInParts last bs old now
 stopped_then last bs mid old new now n w s = record {
   parts = w.parts ++ s.parts;
   rest = s.rest;
@@ -108,21 +115,25 @@ stopped_then last bs mid old new now n w s = record {
 }
 
 -- one more piece is written
-pub wrote_piece : (last : Bool) (bs p src : List ℕ) (old new now : Option (List ℕ)) (n : ℕ) (piece : Piece) (read : ℕ) (q : List ℕ) → WritesParts last bs (p ++ src) old new n
+pub wrote_piece : (last : Bool) (bs p src : List ℕ) (old new now : Option (List ℕ)) (n : ℕ) (piece : Piece) (read : ℕ) (q : List ℕ)
+    → WritesParts last bs (p ++ src) old new n
     → BorrowedDecodeStep p src last piece read q → Appends new now (text_of piece) → WritesParts last bs (q ++ drop read src) old now (n + malformed_in piece)
 wrote_piece last bs p src old new now n piece read q w call a =
     let g = piece_yields p src last piece read q call in
-    wrote_then last bs (p ++ src) (q ++ drop read src) old new now n (malformed_in piece) w (record { parts = g.parts; first = g.first; bytes = subst (Appends new now) (sym g.text) a; malformed = sym g.malformed })
+    wrote_then last bs (p ++ src) (q ++ drop read src) old new now n (malformed_in piece) w
+    (record { parts = g.parts; first = g.first; bytes = subst (Appends new now) (sym g.text) a; malformed = sym g.malformed })
 
 -- nothing is pending after a piece
-pub nothing_pending : (p src : List ℕ) (last : Bool) (piece : Piece) (read : ℕ) (q : List ℕ) → BorrowedDecodeStep p src last piece read q → (piece ≡ InputEmpty → ⊥) → q ≡ []
+pub nothing_pending : (p src : List ℕ) (last : Bool) (piece : Piece) (read : ℕ) (q : List ℕ) → BorrowedDecodeStep p src last piece read q
+    → (piece ≡ InputEmpty → ⊥) → q ≡ []
 nothing_pending p src last (Text t) read q call n = call.answer.1
 nothing_pending p src last (Char c) read q call n = call.answer.1
 nothing_pending p src last (Malformed k) read q call n = call.answer.2
 nothing_pending p src last InputEmpty read q call n = absurd (n refl)
 
 -- one more piece is written, and no byte follows it
-pub wrote_last : (last : Bool) (bs p src : List ℕ) (old new now : Option (List ℕ)) (n : ℕ) (piece : Piece) (read : ℕ) (q : List ℕ) → WritesParts last bs (p ++ src) old new n
+pub wrote_last : (last : Bool) (bs p src : List ℕ) (old new now : Option (List ℕ)) (n : ℕ) (piece : Piece) (read : ℕ) (q : List ℕ)
+    → WritesParts last bs (p ++ src) old new n
     → BorrowedDecodeStep p src last piece read q → (piece ≡ InputEmpty → ⊥) → Appends new now (text_of piece) → length src ≤ read
     → WritesParts last bs q old now (n + malformed_in piece) × (q ≡ [])
 wrote_last last bs p src old new now n piece read q w call some a all =
@@ -132,11 +143,13 @@ wrote_last last bs p src old new now n piece read q w call some a all =
     )
 
 -- a proper prefix of its text is written
-pub stopped_piece : (last : Bool) (bs p src : List ℕ) (old new now : Option (List ℕ)) (n : ℕ) (piece : Piece) (read : ℕ) (q : List ℕ) (k : ℕ) → WritesParts last bs (p ++ src) old new n
+pub stopped_piece : (last : Bool) (bs p src : List ℕ) (old new now : Option (List ℕ)) (n : ℕ) (piece : Piece) (read : ℕ) (q : List ℕ) (k : ℕ)
+    → WritesParts last bs (p ++ src) old new n
     → BorrowedDecodeStep p src last piece read q → k < length (text_of piece) → Appends new now (take k (text_of piece)) → StopsInParts last bs old now
 stopped_piece last bs p src old new now n piece read q k w call short a =
     let g = piece_yields p src last piece read q call in
-    stopped_then last bs (p ++ src) old new now n w (stopped_in last (p ++ src) g.parts (q ++ drop read src) (text_of piece) new now k g.first (sym g.text) short a)
+    stopped_then last bs (p ++ src) old new now n w (stopped_in last (p ++ src) g.parts (q ++ drop read src) (text_of piece) new now k g.first
+    (sym g.text) short a)
 
 -- the count is at most the number of bytes
 pub wrote_count : (last : Bool) (bs rest : List ℕ) (old new : Option (List ℕ)) (n : ℕ) → WritesParts last bs rest old new n → n + length rest ≤ length bs

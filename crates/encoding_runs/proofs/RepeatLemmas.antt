@@ -18,10 +18,12 @@ repeated (room ∷ rooms) us out parts a (read, first, others, f, r, joined) =
     let written : first ≡ flat_map utf8_of_part16 (take n parts) = f.longest.written ∙ ap (λ ps. flat_map utf8_of_part16 (take n ps)) same in
     let taken : read ≡ length (flat_map units_of_part16 (take n parts)) = f.longest.taken ∙ ap (λ ps. length (flat_map units_of_part16 (take n ps))) same in
     let rest : ArePartsOf16 (drop read us) (drop n parts) = subst (λ k. ArePartsOf16 (drop k us) (drop n parts)) (sym taken) (rest_parts us parts n a) in
-    joined ∙ ap (λ xs. first ++ xs) (repeated rooms (drop read us) others (drop n parts) rest r) ∙ ap (λ xs. xs ++ flat_map utf8_of_part16 (drop n parts)) written
+    joined ∙ ap (λ xs. first ++ xs) (repeated rooms (drop read us) others (drop n parts) rest r)
+    ∙ ap (λ xs. xs ++ flat_map utf8_of_part16 (drop n parts)) written
     ∙ sym (flat_map-append utf8_of_part16 (take n parts) (drop n parts)) ∙ ap (flat_map utf8_of_part16) (take-append-drop n parts)
 
-pub joined : (us : List ℕ) (parts : List Part16) (rooms out : List ℕ) → ArePartsOf16 us parts → WritesInTurn us rooms out → out ≡ encode_utf8_all (map scalar_of_part16 parts)
+pub joined : (us : List ℕ) (parts : List Part16) (rooms out : List ℕ) → ArePartsOf16 us parts → WritesInTurn us rooms out
+    → out ≡ encode_utf8_all (map scalar_of_part16 parts)
 joined us parts rooms out a r = repeated rooms us out parts a r ∙ utf8_of_all parts
 
 pub progress : (us out : List ℕ) (room read : ℕ) → 0 < length us → 4 ≤ room → IsUtf8OfLongestPrefix us room read out → 0 < read

@@ -49,13 +49,16 @@ module _ {A : Type 0} (encode : ℕ → List A) where
   reports_of-characters place [] = refl
   reports_of-characters place (c ∷ cs) = reports_of-characters (place + length (encode c)) cs
 
-  reports_of-reported : (place : ℕ) (answer : DecoderResult) (reported : List Part) → IsReported answer reported → reports_of encode place reported ≡ report_of answer place
+  reports_of-reported : (place : ℕ) (answer : DecoderResult) (reported : List Part) → IsReported answer reported
+      → reports_of encode place reported ≡ report_of answer place
   reports_of-reported place InputEmpty reported e = ap (reports_of encode place) e
   reports_of-reported place OutputFull reported e = ap (reports_of encode place) e
-  reports_of-reported place (Malformed k second) reported (x, e, size) = ap (reports_of encode place) e ∙ ap (λ n. record { place = place; length = n } ∷ []) size
+  reports_of-reported place (Malformed k second) reported (x, e, size) = ap (reports_of encode place) e
+      ∙ ap (λ n. record { place = place; length = n } ∷ []) size
 
   -- ---- what a call yields
-  yielded_characters : (cs : List ℕ) (answer : DecoderResult) (reported : List Part) → IsReported answer reported → characters_of (map Character cs ++ reported) ≡ cs
+  yielded_characters : (cs : List ℕ) (answer : DecoderResult) (reported : List Part) → IsReported answer reported
+      → characters_of (map Character cs ++ reported) ≡ cs
   yielded_characters cs answer reported r =
       characters_of-append (map Character cs) reported ∙ ap (λ xs. xs ++ characters_of reported) (characters_of-characters cs)
       ∙ ap (λ xs. cs ++ xs) (no_characters_reported answer reported r) ∙ append-nil cs
@@ -72,7 +75,8 @@ module _ {A : Type 0} (encode : ℕ → List A) where
   abbrev Decoded : ℕ → DecoderResult → List A → List Part → Type 0
   Decoded room = AreDecoded encode
 
-  yielded_output : (calls : List (Call ℕ DecoderResult A)) (parts : List Part) → AreYieldedInSequence Decoded calls parts → output_of calls ≡ flat_map encode (characters_of parts)
+  yielded_output : (calls : List (Call ℕ DecoderResult A)) (parts : List Part) → AreYieldedInSequence Decoded calls parts
+      → output_of calls ≡ flat_map encode (characters_of parts)
   yielded_output [] parts e = sym (ap (λ xs. flat_map encode (characters_of xs)) e)
   yielded_output (call ∷ calls) parts (first, others, (cs, reported, scalars, out, is, e), yielded, whole) =
       let here : call.out ≡ flat_map encode (characters_of first) =
@@ -80,7 +84,8 @@ module _ {A : Type 0} (encode : ℕ → List A) where
       (λ i. here i ++ yielded_output calls others yielded i) ∙ sym (flat_map-append encode (characters_of first) (characters_of others))
       ∙ ap (flat_map encode) (sym (ap characters_of whole ∙ characters_of-append first others))
 
-  yielded_places : (place : ℕ) (calls : List (Call ℕ DecoderResult A)) (parts : List Part) → AreYieldedInSequence Decoded calls parts → reports_of_calls place calls ≡ reports_of encode place parts
+  yielded_places : (place : ℕ) (calls : List (Call ℕ DecoderResult A)) (parts : List Part) → AreYieldedInSequence Decoded calls parts
+      → reports_of_calls place calls ≡ reports_of encode place parts
   yielded_places place [] parts e = sym (ap (reports_of encode place) e)
   yielded_places place (call ∷ calls) parts (first, others, (cs, reported, scalars, out, is, e), yielded, whole) =
       let there = place + length call.out in
@@ -93,11 +98,14 @@ module _ {A : Type 0} (encode : ℕ → List A) where
       ∙ sym (ap (reports_of encode place) whole ∙ reports_of-append place first others)
 
   -- ---- what a run delivers
-  pub delivers : (need : ℕ) (p src : List ℕ) (turns : List Turn) (old new : List A) (old_reports new_reports : List Report) (outcome : Outcome) (q : List ℕ) → IsPending p
-      → IsReportedRun encode need p src turns old new old_reports new_reports outcome q → Delivers encode need p src turns old new old_reports new_reports outcome q
+  pub delivers : (need : ℕ) (p src : List ℕ) (turns : List Turn) (old new : List A) (old_reports new_reports : List Report) (outcome : Outcome)
+      (q : List ℕ) → IsPending p
+      → IsReportedRun encode need p src turns old new old_reports new_reports outcome q
+      → Delivers encode need p src turns old new old_reports new_reports outcome q
   delivers need p src turns old new old_reports new_reports outcome q h reported =
       let run = reported.run in
-      let yielded = chain_yields (DecodeStep encode need) Decoded (decoded_yields encode need) (λ result. result ≡ InputEmpty) (decoded_empty encode need) p src run.calls h run.chain in
+      let yielded = chain_yields (DecodeStep encode need) Decoded (decoded_yields encode need) (λ result. result ≡ InputEmpty)
+      (decoded_empty encode need) p src run.calls h run.chain in
       record {
         run = run;
         yielded = yielded;

@@ -91,8 +91,10 @@ fn why_malformed(first: u8, rest: &[u8]) -> Malformation
 /// The kind is that of the sequence and the byte after it in `src`, or of the end of `src`. Allocates no memory. Unicode
 /// Standard, Table 3-7.
 pub fn next_malformation(src: &[u8]) -> Option<(MalformedSequence, Malformation)>
-    ensures if_some { IfSome result (λ found. IsNextMalformed src.now found.0.place found.0.length) }
-    ensures kind { IfSome result (λ found. IsMalformation (take found.0.length (drop found.0.place src.now))
+    ensures if_some { IfSome result
+        (λ found. IsNextMalformed src.now found.0.place found.0.length) }
+    ensures kind { IfSome result
+        (λ found. IsMalformation (take found.0.length (drop found.0.place src.now))
         (drop (found.0.place + found.0.length) src.now) found.1) }
     ensures if_none { (result ≡ None) ↔ IsUtf8 src.now }
 {

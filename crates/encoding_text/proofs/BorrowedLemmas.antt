@@ -26,7 +26,8 @@ use Rattle.encoding_definitions.proofs.DecompositionLemmas.{has_parts}
 use Rattle.encoding_text.proofs.OneResultLemmas.{length-encode-some, no_character_pending, malformed_or_open}
 use Rattle.encoding_text.proofs.ConvertingLemmas.{cut_after, leading}
 
-pub borrowed_rejected : (p src q : List ℕ) (last : Bool) (k read : ℕ) → IsIncomplete p → Resumes p src (Rejected k) read q → BorrowedDecodeStep p src last (Malformed k) read q
+pub borrowed_rejected : (p src q : List ℕ) (last : Bool) (k read : ℕ) → IsIncomplete p → Resumes p src (Rejected k) read q
+    → BorrowedDecodeStep p src last (Malformed k) read q
 borrowed_rejected p src q last k read begins (short, count, o, b, more, next, rejected, none) = record {
   pending_before = inr begins;
   pending = inl none;
@@ -60,7 +61,8 @@ borrowed_end src q last (result.Malformed k second) returned read (zero, is, wit
 abbrev HasYielded : List ℕ → List ℕ → Bool → Piece → ℕ → List ℕ → Type 0
 HasYielded p src last returned read q = (parts : List Part) × AreBorrowed returned parts × Yields p src last parts read q
 
-pub borrowed_yields : (p src : List ℕ) (last : Bool) (returned : Piece) (read : ℕ) (q : List ℕ) → BorrowedDecodeStep p src last returned read q → HasYielded p src last returned read q
+pub borrowed_yields : (p src : List ℕ) (last : Bool) (returned : Piece) (read : ℕ) (q : List ℕ) → BorrowedDecodeStep p src last returned read q
+    → HasYielded p src last returned read q
 borrowed_yields p src last (Text t) read q call =
     let (neutral, none, some, bytes, prefix) = call.answer in
     let (cs, (h, e)) = prefix.kind in (
@@ -104,7 +106,13 @@ module _ (last : Bool) where
           record {
             pending_before = pending;
             pending = inl refl;
-            answer = (cut.0, ap length taken, refl, subst (λ xs. IsMalformed xs (drop (length t) src) last) (sym taken) (subst (λ xs. IsMalformed (p ++ t) xs last) (sym cut.2) malformed));
+            answer = (
+              cut.0,
+              ap length taken,
+              refl,
+              subst (λ xs. IsMalformed xs (drop (length t) src) last) (sym taken)
+                  (subst (λ xs. IsMalformed (p ++ t) xs last) (sym cut.2) malformed),
+            );
           },
         )
         | inr (none, o, more) ↦
@@ -121,7 +129,8 @@ module _ (last : Bool) where
       ]
 
   -- with nothing pending
-  prefix_piece : (src : List ℕ) → ((cs : List ℕ) × (rest : List ℕ) × (all_scalars cs ≡ true) × (src ≡ encode_utf8_all cs ++ rest) × BeginsWithNoCharacter rest) → HasPiece [] src
+  prefix_piece : (src : List ℕ) → ((cs : List ℕ) × (rest : List ℕ) × (all_scalars cs ≡ true) × (src ≡ encode_utf8_all cs ++ rest) × BeginsWithNoCharacter rest)
+      → HasPiece [] src
   prefix_piece src ([], rest, h, e, none) = by_bytes src (subst BeginsWithNoCharacter (sym e) none)
     where
       by_bytes : (bs : List ℕ) → BeginsWithNoCharacter bs → HasPiece [] bs
@@ -169,11 +178,14 @@ module _ (last : Bool) where
     | inr (t, f, g) ↦ absurd (no_character_pending c t p h (inr b) f)
   ]
   resumed_piece p src b (IllFormed x, after, (n, inl l)) = elim (prefixes_nest p src x after l.whole) [
-    | inl (t, f, g) ↦ malformed_piece p src t after (inr b) g (subst (λ xs. IsFirstPart (xs ++ after) (IllFormed xs) after) f (subst (λ xs. IsFirstPart xs (IllFormed x) after) l.whole (n, inl l)))
+    | inl (t, f, g) ↦
+        malformed_piece p src t after (inr b) g
+        (subst (λ xs. IsFirstPart (xs ++ after) (IllFormed xs) after) f (subst (λ xs. IsFirstPart xs (IllFormed x) after) l.whole (n, inl l)))
     | inr (t, f, g) ↦
         let none : t ≡ [] = nil_from_length t (omega (arith, ap length f, length-append x t, l.longest p src refl b)) in
         let same : x ≡ p ++ [] = sym (append-nil x) ∙ ap (λ xs. x ++ xs) (sym none) ∙ sym f ∙ sym (append-nil p) in
-        malformed_piece p src [] after (inr b) (sym (g ∙ ap (λ xs. xs ++ src) none)) (subst (λ xs. IsFirstPart (xs ++ after) (IllFormed xs) after) same (subst (λ xs. IsFirstPart xs (IllFormed x) after) l.whole (n, inl l)))
+        malformed_piece p src [] after (inr b) (sym (g ∙ ap (λ xs. xs ++ src) none))
+        (subst (λ xs. IsFirstPart (xs ++ after) (IllFormed xs) after) same (subst (λ xs. IsFirstPart xs (IllFormed x) after) l.whole (n, inl l)))
   ]
   resumed_piece p src b (IllFormed x, after, (n, inr l)) = absurd (l.none p src refl b)
 
@@ -199,7 +211,8 @@ module _ (p src : List ℕ) (last : Bool) where
     c,
     encode_utf8_all cs ++ drop read src,
     (and_parts _ _ h).0,
-    ap (λ xs. xs ++ src) n ∙ sym (take-append-drop read src) ∙ ap (λ xs. xs ++ drop read src) (sym e) ∙ append_assoc (encode_utf8 c) (encode_utf8_all cs) (drop read src),
+    ap (λ xs. xs ++ src) n ∙ sym (take-append-drop read src) ∙ ap (λ xs. xs ++ drop read src) (sym e)
+        ∙ append_assoc (encode_utf8 c) (encode_utf8_all cs) (drop read src),
   )
 
   -- it reports no malformed sequence
@@ -229,7 +242,8 @@ module _ (p src : List ℕ) (last : Bool) where
   abbrev Same : Piece → ℕ → List ℕ → Piece → ℕ → List ℕ → Type 0
   Same returned read q returned' read' q' = AreSamePiece returned returned' × (read ≡ read') × (q ≡ q')
 
-  pub same_piece : (returned returned' : Piece) (read read' : ℕ) (q q' : List ℕ) → Call returned read q → Call returned' read' q' → Same returned read q returned' read' q'
+  pub same_piece : (returned returned' : Piece) (read read' : ℕ) (q q' : List ℕ) → Call returned read q → Call returned' read' q'
+      → Same returned read q returned' read' q'
   same_piece (Text t) (Text u) read read' q q' call call' =
       let l = call.answer.4 in
       let l' = call'.answer.4 in
@@ -240,7 +254,8 @@ module _ (p src : List ℕ) (last : Bool) where
   same_piece (Text t) InputEmpty read read' q q' call call' = absurd (not_open read' q' (of_text t read q call) call')
   same_piece (Char c) (Text t) read read' q q' call call' = absurd (call.answer.0 call'.answer.0)
   same_piece (Char c) (Char d) read read' q q' call call' =
-      let one = encode_same c d (drop read src) (drop read' src) (ap (λ xs. xs ++ drop read src) (sym call.answer.4) ∙ sym (split read) ∙ split read' ∙ ap (λ xs. xs ++ drop read' src) call'.answer.4) in
+      let one = encode_same c d (drop read src) (drop read' src) (ap (λ xs. xs ++ drop read src) (sym call.answer.4) ∙ sym (split read) ∙ split read'
+      ∙ ap (λ xs. xs ++ drop read' src) call'.answer.4) in
       (one.0, same_read read read' call.answer.2 call'.answer.2 one.1, call.answer.1 ∙ sym call'.answer.1)
   same_piece (Char c) (Malformed k) read read' q q' call call' = absurd (not_malformed k read' q' (of_character c read q call) call')
   same_piece (Char c) InputEmpty read read' q q' call call' = absurd (not_open read' q' (of_character c read q call) call')

@@ -38,7 +38,8 @@ take_one r h = take_more r 0 0 h
 pub begins_before : (r : List ℕ) → 0 < length r → IsIncomplete (slice_index r 0 ∷ []) → IsIncomplete (take 1 r)
 begins_before r h o = subst IsIncomplete (sym (take_one r h)) o
 
-pub ended_before : (r p q after : List ℕ) (last : Bool) (result : DecoderResult) (read : ℕ) → 0 < length r → p ≡ take 1 r → Resumes p (drop 1 r) Ended read q → IsResultAtEnd q last result after
+pub ended_before : (r p q after : List ℕ) (last : Bool) (result : DecoderResult) (read : ℕ) → 0 < length r → p ≡ take 1 r → Resumes p (drop 1 r) Ended read q
+    → IsResultAtEnd q last result after
     → IsResultWithoutCharacter r last result (length r) after
 ended_before r p q after last InputEmpty read h e f (same, whole, pending) =
     let all : q ≡ r = f.1 ∙ ap (λ xs. xs ++ drop 1 r) e ∙ take-append-drop 1 r in
@@ -48,8 +49,14 @@ ended_before r p q after last OutputFull read h e f s = absurd s
 ended_before r p q after last (Malformed k second) read h e f (zero, count, none, o, l) =
     let all : q ≡ r = f.1 ∙ ap (λ xs. xs ++ drop 1 r) e ∙ take-append-drop 1 r in
     let size : k ≡ length r = count ∙ ap length all in
-    let prefix : take k r ≡ r = take_all k r (omega (arith, size)) in
-    (zero, sym size, omega (arith, size), none, subst (λ xs. IsMalformed xs (drop k r) last) (sym prefix) (subst (λ xs. IsMalformed r xs last) (sym (drop_all k r (omega (arith, size)))) (inr (subst IsIncomplete all o, l))))
+    let prefix : take k r ≡ r = take_all k r (omega (arith, size)) in (
+      zero,
+      sym size,
+      omega (arith, size),
+      none,
+      subst (λ xs. IsMalformed xs (drop k r) last) (sym prefix)
+          (subst (λ xs. IsMalformed r xs last) (sym (drop_all k r (omega (arith, size)))) (inr (subst IsIncomplete all o, l))),
+    )
 
 pub rejected_before : (r p q : List ℕ) (last : Bool) (k read : ℕ) → 0 < length r → p ≡ take 1 r → Resumes p (drop 1 r) (Rejected k) read q
     → (k ≤ 3) × (k ≤ length r) × (q ≡ []) × IsMalformed (take k r) (drop k r) last
@@ -77,7 +84,8 @@ second_of a b (inl s) = (HasShape-IsSequence (a ∷ b ∷ []) s).2
 second_of a b (inr o) = let h = HasOpenShape-IsIncomplete (a ∷ b ∷ []) o in second_continues a b (second_more a b h.0 h.1 h.2)
 
 -- a byte that starts no sequence
-pub single_byte : (r : List ℕ) (last : Bool) → 0 < length r → 0x80 ≤ slice_index r 0 → (IsIncomplete (slice_index r 0 ∷ []) → ⊥) → IsMalformed (take 1 r) (drop 1 r) last
+pub single_byte : (r : List ℕ) (last : Bool) → 0 < length r → 0x80 ≤ slice_index r 0 → (IsIncomplete (slice_index r 0 ∷ []) → ⊥)
+    → IsMalformed (take 1 r) (drop 1 r) last
 single_byte r last h l n = subst (λ xs. IsMalformed xs (drop 1 r) last) (sym (take_one r h)) (malformed_unpaired (slice_index r 0) (drop 1 r) last nothing)
   where
     nothing : IsSequence (slice_index r 0 ∷ []) ⊎ IsIncomplete (slice_index r 0 ∷ []) → ⊥
@@ -85,10 +93,13 @@ single_byte r last h l n = subst (λ xs. IsMalformed xs (drop 1 r) last) (sym (t
     nothing (inr o) = n o
 
 -- a byte that starts sequences of several, followed by no continuation byte
-pub unpaired_incomplete : (r : List ℕ) (last : Bool) → 1 < length r → IsIncomplete (slice_index r 0 ∷ []) → (IsContinuation (slice_index r 1) → ⊥) → IsMalformed (take 1 r) (drop 1 r) last
+pub unpaired_incomplete : (r : List ℕ) (last : Bool) → 1 < length r → IsIncomplete (slice_index r 0 ∷ []) → (IsContinuation (slice_index r 1) → ⊥)
+    → IsMalformed (take 1 r) (drop 1 r) last
 unpaired_incomplete r last h o n =
     malformed_rejected (take 1 r) (drop 1 r) last (slice_index r 1) (drop 2 r) (drop_more r 1 0 h) (begins_before r (omega arith) o)
-    (λ g. n (second_of (slice_index r 0) (slice_index r 1) (subst (λ xs. IsSequence (xs ++ slice_index r 1 ∷ []) ⊎ IsIncomplete (xs ++ slice_index r 1 ∷ [])) (take_one r (omega arith)) g)))
+    (λ g. n
+    (second_of (slice_index r 0) (slice_index r 1) (subst (λ xs. IsSequence (xs ++ slice_index r 1 ∷ []) ⊎ IsIncomplete (xs ++ slice_index r 1 ∷ []))
+    (take_one r (omega arith)) g)))
 
 -- if the bytes start with no character, the first isn't ASCII
 pub not_ascii : (r : List ℕ) → 0 < length r → BeginsWithNoCharacter r → 0x80 ≤ slice_index r 0
@@ -108,7 +119,8 @@ malformed_first x (y ∷ ys) last (inl (b, e, n)) = unpaired_first x (y ∷ ys) 
 malformed_first x (y ∷ ys) last (inr (o, s)) = first_rejected x y ys o s
 
 -- two malformed sequences of the same bytes are one
-pub same_malformed : (x rest x' rest' : List ℕ) (last : Bool) → IsMalformed x rest last → IsMalformed x' rest' last → x ++ rest ≡ x' ++ rest' → (x ≡ x') × (rest ≡ rest')
+pub same_malformed : (x rest x' rest' : List ℕ) (last : Bool) → IsMalformed x rest last → IsMalformed x' rest' last → x ++ rest ≡ x' ++ rest'
+    → (x ≡ x') × (rest ≡ rest')
 same_malformed x rest x' rest' last b b' e =
     let first' = subst (λ xs. IsFirstPart xs (IllFormed x') rest') (sym e) (malformed_first x' rest' last b') in
     let one = same_first_part (x ++ rest) (IllFormed x) rest (IllFormed x') rest' (malformed_first x rest last b) first' in
@@ -142,17 +154,31 @@ FollowsOutput unread last InputEmpty q y = y ≡ q
 FollowsOutput unread last OutputFull q y = y ≡ q
 FollowsOutput unread last (Malformed k second) q y = (second ≡ 0) × (length y ≡ k) × (q ≡ []) × IsMalformed y unread last
 
-follows_stays : (unread more : List ℕ) (result : DecoderResult) (q y : List ℕ) → FollowsOutput unread false result q y → FollowsOutput (unread ++ more) false result q y
+follows_stays : (unread more : List ℕ) (result : DecoderResult) (q y : List ℕ) → FollowsOutput unread false result q y
+    → FollowsOutput (unread ++ more) false result q y
 follows_stays unread more InputEmpty q y e = e
 follows_stays unread more OutputFull q y e = e
 follows_stays unread more (Malformed k second) q y (zero, size, none, malformed) = (zero, size, none, malformed_stays y unread more malformed)
 
 -- the characters of what the call read, and those bytes after them
-pub call_read : {A : Type 0} (encode : ℕ → List A) (need : ℕ) (p src : List ℕ) (last : Bool) (result : DecoderResult) (read : ℕ) (cs : List ℕ) (left : ℕ) (q : List ℕ)
-    → IsDecodeResult encode need p src last result read cs left q → (y : List ℕ) × FollowsOutput (drop read src) last result q y × (p ++ take read src ≡ encode_utf8_all cs ++ y) × (read ≤ length src)
-call_read encode need p src last InputEmpty read cs left q (all, whole, ended, room) = (q, refl, ap (λ xs. p ++ xs) (take_all read src (omega (arith, all))) ∙ whole, omega (arith, all))
+pub call_read : {A : Type 0} (encode : ℕ → List A) (need : ℕ) (p src : List ℕ) (last : Bool) (result : DecoderResult) (read : ℕ) (cs : List ℕ)
+    (left : ℕ) (q : List ℕ)
+    → IsDecodeResult encode need p src last result read cs left q
+    → (y : List ℕ) × FollowsOutput (drop read src) last result q y × (p ++ take read src ≡ encode_utf8_all cs ++ y) × (read ≤ length src)
+call_read encode need p src last InputEmpty read cs left q (all, whole, ended, room) = (
+  q,
+  refl,
+  ap (λ xs. p ++ xs) (take_all read src (omega (arith, all)))
+      ∙ whole,
+  omega (arith, all),
+)
 call_read encode need p src last OutputFull read cs left q (short, whole, little, none, kept) = (q, refl, whole, omega (arith, short))
-call_read encode need p src last (Malformed k second) read cs left q (x, zero, within, whole, size, none, malformed, room) = (x, (zero, size, none, malformed), whole, within)
+call_read encode need p src last (Malformed k second) read cs left q (x, zero, within, whole, size, none, malformed, room) = (
+  x,
+  (zero, size, none, malformed),
+  whole,
+  within,
+)
 
 -- all the bytes that it was passed
 pub call_bytes : (p src cs y : List ℕ) (read : ℕ) → p ++ take read src ≡ encode_utf8_all cs ++ y → p ++ src ≡ encode_utf8_all cs ++ (y ++ drop read src)
@@ -161,7 +187,8 @@ call_bytes p src cs y read e =
     ∙ append_assoc (encode_utf8_all cs) y (drop read src)
 
 -- no more of them than there are
-pub call_within : {A : Type 0} (encode : ℕ → List A) (need : ℕ) (p src : List ℕ) (last : Bool) (result : DecoderResult) (read : ℕ) (cs : List ℕ) (left : ℕ) (q : List ℕ)
+pub call_within : {A : Type 0} (encode : ℕ → List A) (need : ℕ) (p src : List ℕ) (last : Bool) (result : DecoderResult) (read : ℕ) (cs : List ℕ)
+    (left : ℕ) (q : List ℕ)
     → IsDecodeResult encode need p src last result read cs left q → read ≤ length src
 call_within encode need p src last result read cs left q a = (call_read encode need p src last result read cs left q a).3
 
@@ -186,12 +213,14 @@ yielded_first : (bs cs y unread q : List ℕ) (last : Bool) (result : DecoderRes
 yielded_first bs cs y unread q last result h e f =
     let following = y ++ unread in
     subst (λ xs. StartsWith xs (map Character cs ++ reported_parts result y) (q ++ unread)) (sym e)
-    (StartsWith-append (encode_utf8_all cs ++ following) (map Character cs) following (reported_parts result y) (q ++ unread) (StartsWith-characters cs following h)
+    (StartsWith-append (encode_utf8_all cs ++ following) (map Character cs) following (reported_parts result y) (q ++ unread)
+    (StartsWith-characters cs following h)
     (reported_first unread last result q y f).1)
 
 -- the characters of what was read, and what follows them, are yielded
 pub yields_from : (p src : List ℕ) (last : Bool) (result : DecoderResult) (read : ℕ) (cs q y : List ℕ) → read ≤ length src → IsPending q → all_scalars cs ≡ true
-    → FollowsOutput (drop read src) last result q y → p ++ take read src ≡ encode_utf8_all cs ++ y → Yields p src last (map Character cs ++ reported_parts result y) read q
+    → FollowsOutput (drop read src) last result q y → p ++ take read src ≡ encode_utf8_all cs ++ y
+    → Yields p src last (map Character cs ++ reported_parts result y) read q
 yields_from p src last result read cs q y within pending scalars follows e = record {
   within = within;
   first = yielded_first (p ++ src) cs y unread q last result scalars whole follows;
@@ -214,7 +243,8 @@ yields_from p src last result read cs q y within pending scalars follows e = rec
         (follows_stays unread more result q y (subst (λ b. FollowsOutput unread b result q y) f follows)))
 
 -- a call yields the characters that it wrote, and then the malformed sequence that it reports
-pub decoded_yields : {A : Type 0} (encode : ℕ → List A) (need : ℕ) (p src : List ℕ) (room : ℕ) (last : Bool) (result : DecoderResult) (read : ℕ) (out : List A) (q : List ℕ)
+pub decoded_yields : {A : Type 0} (encode : ℕ → List A) (need : ℕ) (p src : List ℕ) (room : ℕ) (last : Bool) (result : DecoderResult) (read : ℕ)
+    (out : List A) (q : List ℕ)
     → DecodeStep encode need p src room last result read out q → (parts : List Part) × AreDecoded encode result out parts × Yields p src last parts read q
 decoded_yields encode need p src room last result read out q call =
     let cs = call.scalars in

@@ -25,7 +25,8 @@ use Rattle.encoding_kernels.proofs.TextLoopLemmas.{Putting, due_ascii, putting_f
 use Rattle.encoding_kernels.proofs.TextUnitsLemmas.{ascii_text}
 
 -- a list, cut after its first items
-pub cut_after : {X : Type 0} (xs prefix back : List X) → xs ≡ prefix ++ back → (length prefix ≤ length xs) × (take (length prefix) xs ≡ prefix) × (drop (length prefix) xs ≡ back)
+pub cut_after : {X : Type 0} (xs prefix back : List X) → xs ≡ prefix ++ back
+    → (length prefix ≤ length xs) × (take (length prefix) xs ≡ prefix) × (drop (length prefix) xs ≡ back)
 cut_after xs prefix back e = (
   omega (arith, ap length e, length-append prefix back),
   ap (take (length prefix)) e ∙ take_at prefix back (length prefix) refl,
@@ -33,7 +34,8 @@ cut_after xs prefix back e = (
 )
 
 -- the characters at the start of bytes, up to a rest that starts with none
-pub leading : (bs : List ℕ) (ps : List Part) → ArePartsOf bs ps → (cs : List ℕ) × (rest : List ℕ) × (all_scalars cs ≡ true) × (bs ≡ encode_utf8_all cs ++ rest) × BeginsWithNoCharacter rest
+pub leading : (bs : List ℕ) (ps : List Part) → ArePartsOf bs ps → (cs : List ℕ) × (rest : List ℕ) × (all_scalars cs ≡ true) × (bs ≡ encode_utf8_all cs ++ rest)
+    × BeginsWithNoCharacter rest
 leading bs [] e = ([], [], refl, e, λ prefix rest f s. omega (arith, ap length f, length-append prefix rest, IsSequence-some prefix s))
 leading bs (Character c ∷ ps) (after, (s, e), more) =
     let r = leading after ps more in
@@ -43,8 +45,10 @@ leading bs (IllFormed x ∷ ps) (after, f, more) = ([], bs, refl, refl, f.0)
 -- ---- more characters
 module _ {A : Type 0} (encode : ℕ → List A) where
   -- a whole text more
-  pub converted_text : (src : List ℕ) (old new sub : List A) (read written n m : ℕ) → ConvertsSome encode src old new read written → (u : IsUtf8 (take n (drop read src))) → n ≤ length (drop read src)
-      → WritesPrefix (take (length new - written) (drop written new)) sub m (flat_map encode (chars (take n (drop read src)))) → ConvertsSome encode src old (put_mid written (length new - written) new sub) (read + n) (written + m)
+  pub converted_text : (src : List ℕ) (old new sub : List A) (read written n m : ℕ) → ConvertsSome encode src old new read written
+      → (u : IsUtf8 (take n (drop read src))) → n ≤ length (drop read src)
+      → WritesPrefix (take (length new - written) (drop written new)) sub m (flat_map encode (chars (take n (drop read src))))
+      → ConvertsSome encode src old (put_mid written (length new - written) new sub) (read + n) (written + m)
   converted_text src old new sub read written n m d u l w =
       let text = take n (drop read src) in
       let same : u.0 ≡ chars text = chars_from_encodes u.0 text u u.1.1 in
@@ -64,26 +68,33 @@ module _ {A : Type 0} (encode : ℕ → List A) where
   converted_more src old new sub read written c n m d s e l w =
       let spelled : encode_utf8_all (c ∷ []) ≡ take n (drop read src) = encodes_one c ∙ e in
       let text : IsUtf8 (take n (drop read src)) = (c ∷ [], (and_from _ _ s refl, spelled)) in
-      let out : encode c ≡ flat_map encode (chars (take n (drop read src))) = sym (append-nil (encode c)) ∙ ap (flat_map encode) (chars_from_encodes (c ∷ []) _ text spelled) in
+      let out : encode c ≡ flat_map encode (chars (take n (drop read src))) = sym (append-nil (encode c))
+      ∙ ap (flat_map encode) (chars_from_encodes (c ∷ []) _ text spelled) in
       converted_text src old new sub read written n m d text l (subst (λ xs. WritesPrefix (take (length new - written) (drop written new)) sub m xs) out w)
 
   -- the rest starts with no character that fits
-  converted_stops : {src : List ℕ} {old new : List A} {read written : ℕ} → ConvertsSome encode src old new read written → (FittingBegins encode (drop read src) (length old - written) → ⊥)
+  converted_stops : {src : List ℕ} {old new : List A} {read written : ℕ} → ConvertsSome encode src old new read written
+      → (FittingBegins encode (drop read src) (length old - written) → ⊥)
       → ConvertsUntilFull encode src old new read written
   converted_stops d n = record { scalars = d.scalars; are_scalars = d.are_scalars; within = d.within; spelled = d.spelled; writes = d.writes; stops = n }
 
   -- the rest is converted
   pub converted_rest : (src : List ℕ) (old new sub : List A) (read written n m : ℕ) → ConvertsSome encode src old new read written
-      → ConvertsUntilFull encode (drop read src) (take (length new - written) (drop written new)) sub n m → ConvertsUntilFull encode src old (put_mid written (length new - written) new sub) (read + n) (written + m)
+      → ConvertsUntilFull encode (drop read src) (take (length new - written) (drop written new)) sub n m
+      → ConvertsUntilFull encode src old (put_mid written (length new - written) new sub) (read + n) (written + m)
   converted_rest src old new sub read written n m d e =
       let text : IsUtf8 (take n (drop read src)) = (e.scalars, (e.are_scalars, e.spelled)) in
-      let out : flat_map encode e.scalars ≡ flat_map encode (chars (take n (drop read src))) = ap (flat_map encode) (chars_from_encodes e.scalars _ text e.spelled) in
+      let out : flat_map encode e.scalars ≡ flat_map encode (chars (take n (drop read src))) =
+      ap (flat_map encode) (chars_from_encodes e.scalars _ text e.spelled) in
       let room : length old - (written + m) ≡ length (take (length new - written) (drop written new)) - m =
       omega (arith, ap length (take_rest new written), length-drop written new, WritesPrefix-length old new written (flat_map encode d.scalars) d.writes) in
-      let some = converted_text src old new sub read written n m d text e.within (subst (λ xs. WritesPrefix (take (length new - written) (drop written new)) sub m xs) out e.writes) in
+      let some =
+      converted_text src old new sub read written n m d text e.within
+      (subst (λ xs. WritesPrefix (take (length new - written) (drop written new)) sub m xs) out e.writes) in
       converted_stops some (λ f. e.stops (rw (sym (drop-drop n read src), room) at f))
 
-  pub converted_rejected : (src : List ℕ) (old new : List A) (read written : ℕ) → ConvertsSome encode src old new read written → BeginsWithNoCharacter (drop read src)
+  pub converted_rejected : (src : List ℕ) (old new : List A) (read written : ℕ) → ConvertsSome encode src old new read written
+      → BeginsWithNoCharacter (drop read src)
       → ConvertsUntilFull encode src old new read written
   converted_rejected src old new read written d n = converted_stops d (λ (c, rest, s, e, f). n (encode_utf8 c) rest e (IsSequence-encode c s))
 
@@ -95,7 +106,8 @@ module _ {A : Type 0} (encode : ℕ → List A) where
   -- ---- the longest prefix that fits
   -- all the characters of the well-formed prefix: those that were read, and more
   whole_text : (src cs : List ℕ) (read : ℕ) → all_scalars cs ≡ true → read ≤ length src → encode_utf8_all cs ≡ take read src
-      → (more : List ℕ) × AreScalarsOfValidPrefix src (cs ++ more) × (rest : List ℕ) × (all_scalars more ≡ true) × (drop read src ≡ encode_utf8_all more ++ rest)
+      → (more : List ℕ) × AreScalarsOfValidPrefix src (cs ++ more) × (rest : List ℕ) × (all_scalars more ≡ true)
+      × (drop read src ≡ encode_utf8_all more ++ rest)
   whole_text src cs read h within e =
       let parts = has_parts (drop read src) in
       let r = leading (drop read src) parts.0 parts.1 in
@@ -106,7 +118,8 @@ module _ {A : Type 0} (encode : ℕ → List A) where
       ∙ ap (λ xs. xs ++ r.1) (sym (encodes-append cs r.0)) in
       let scalars : all_scalars all ≡ true = scalars-append cs r.0 h r.2 in
       let cut = cut_after src text r.1 whole in
-      let longest = IsLongestPrefix-utf8 src (length text) cut.0 (subst IsUtf8 (sym cut.1) (all, (scalars, refl))) (subst BeginsWithNoCharacter (sym cut.2) r.4) in
+      let longest =
+      IsLongestPrefix-utf8 src (length text) cut.0 (subst IsUtf8 (sym cut.1) (all, (scalars, refl))) (subst BeginsWithNoCharacter (sym cut.2) r.4) in
       (r.0, record { valid = length text; prefix = longest; are_scalars = scalars; spelled = sym cut.1 }, r.1, r.2, r.3)
 
   fits_longest : (src cs more rest : List ℕ) (old : List A) (read written : ℕ) → encode_utf8_all cs ≡ take read src → read ≤ length src
@@ -117,7 +130,8 @@ module _ {A : Type 0} (encode : ℕ → List A) where
       let all = IsLongestFittingPrefix-all encode_utf8 encode cs (length old) (omega (arith, w, l)) in
       let size : length (flat_map encode_utf8 cs) ≡ read = ap length (flat_map-encode_utf8 cs ∙ e) ∙ omega (arith, length-take read src) in
       subst (λ k. IsLongestFittingPrefix encode_utf8 encode (cs ++ []) (length old) k (flat_map encode cs)) size
-      (subst (λ xs. IsLongestFittingPrefix encode_utf8 encode xs (length old) (length (flat_map encode_utf8 cs)) (flat_map encode cs)) (sym (append-nil cs)) all)
+      (subst (λ xs. IsLongestFittingPrefix encode_utf8 encode xs (length old) (length (flat_map encode_utf8 cs)) (flat_map encode cs))
+      (sym (append-nil cs)) all)
   fits_longest src cs (c ∷ more) rest old read written e within w l h f n =
       let parts = and_parts (scalar c) (all_scalars more) h in
       let next : drop read src ≡ encode_utf8 c ++ (encode_utf8_all more ++ rest) = f ∙ append_assoc (encode_utf8 c) (encode_utf8_all more) rest in
@@ -129,7 +143,8 @@ module _ {A : Type 0} (encode : ℕ → List A) where
       subst (λ k. IsLongestFittingPrefix encode_utf8 encode (cs ++ c ∷ more) (length old) k (flat_map encode cs)) size
       (IsLongestFittingPrefix-stop encode_utf8 encode cs c more (length old) (omega (arith, w, l)) (omega (arith, w, l, full)))
 
-  pub converts_longest : (src : List ℕ) (old new : List A) (read written : ℕ) → ConvertsUntilFull encode src old new read written → ConvertsMaximal encode src old new read written
+  pub converts_longest : (src : List ℕ) (old new : List A) (read written : ℕ) → ConvertsUntilFull encode src old new read written
+      → ConvertsMaximal encode src old new read written
   converts_longest src old new read written d =
       let t = whole_text src d.scalars read d.are_scalars d.within d.spelled in
       record {
@@ -150,17 +165,22 @@ module _ {A : Type 0} (encode : ℕ → List A) where
       (and_from _ _ parts.0 r.0, r.1)
 
   -- the next character doesn't fit, or there is none
-  none_fits : (src cs more : List ℕ) (n room written : ℕ) (t : AreScalarsOfValidPrefix src cs) → more ≡ drop n cs → written ≡ length (flat_map encode (take n cs)) → written ≤ room
-      → (n < length cs → room < length (flat_map encode (take (n + 1) cs))) → FittingBegins encode (encode_utf8_all more ++ drop t.valid src) (room - written) → ⊥
+  none_fits : (src cs more : List ℕ) (n room written : ℕ) (t : AreScalarsOfValidPrefix src cs) → more ≡ drop n cs
+      → written ≡ length (flat_map encode (take n cs)) → written ≤ room
+      → (n < length cs → room < length (flat_map encode (take (n + 1) cs)))
+      → FittingBegins encode (encode_utf8_all more ++ drop t.valid src) (room - written) → ⊥
   none_fits src cs [] n room written t e w l full (c, rest, s, f, g) = no_character_after src t.valid t.prefix (encode_utf8 c) rest f (IsSequence-encode c s)
   none_fits src cs (b ∷ more) n room written t e w l full (c, rest, s, f, g) =
-      let same = encode_same b c (encode_utf8_all more ++ drop t.valid src) rest (sym (append_assoc (encode_utf8 b) (encode_utf8_all more) (drop t.valid src)) ∙ f) in
+      let same =
+      encode_same b c (encode_utf8_all more ++ drop t.valid src) rest (sym (append_assoc (encode_utf8 b) (encode_utf8_all more) (drop t.valid src)) ∙ f) in
       let next : take (n + 1) cs ≡ take n cs ++ b ∷ [] = take-add n 1 cs ∙ ap (λ xs. take n cs ++ take 1 xs) (sym e) in
       let long : length (flat_map encode (take (n + 1) cs)) ≡ written + length (encode b) =
-      ap (λ xs. length (flat_map encode xs)) next ∙ ap length (flat_map_push encode (take n cs) b) ∙ omega (arith, w, length-append (flat_map encode (take n cs)) (encode b)) in
+      ap (λ xs. length (flat_map encode xs)) next ∙ ap length (flat_map_push encode (take n cs) b)
+      ∙ omega (arith, w, length-append (flat_map encode (take n cs)) (encode b)) in
       omega (arith, full (omega (arith, ap length e, length-drop n cs)), long, ap (λ k. length (encode k)) same.0, g, l)
 
-  pub converts_prefix : (src : List ℕ) (old new : List A) (read written : ℕ) → ConvertsMaximal encode src old new read written → ConvertsUntilFull encode src old new read written
+  pub converts_prefix : (src : List ℕ) (old new : List A) (read written : ℕ) → ConvertsMaximal encode src old new read written
+      → ConvertsUntilFull encode src old new read written
   converts_prefix src old new read written d =
       let n = d.longest.count in
       let done = take n d.scalars in
@@ -168,7 +188,8 @@ module _ {A : Type 0} (encode : ℕ → List A) where
       let tail = drop d.text.valid src in
       let text = encode_utf8_all done in
       let whole : src ≡ text ++ (encode_utf8_all more ++ tail) =
-      sym (take-append-drop d.text.valid src) ∙ ap (λ xs. xs ++ tail) (sym d.text.spelled ∙ ap encode_utf8_all (sym (take-append-drop n d.scalars)) ∙ encodes-append done more)
+      sym (take-append-drop d.text.valid src) ∙ ap (λ xs. xs ++ tail) (sym d.text.spelled ∙ ap encode_utf8_all (sym (take-append-drop n d.scalars))
+      ∙ encodes-append done more)
       ∙ append_assoc text (encode_utf8_all more) tail in
       let size : length text ≡ read = sym (d.longest.taken ∙ ap length (flat_map-encode_utf8 done)) in
       let back : drop read src ≡ encode_utf8_all more ++ tail = ap (drop read) whole ∙ drop_at text (encode_utf8_all more ++ tail) read size in
@@ -184,9 +205,11 @@ module _ {A : Type 0} (encode : ℕ → List A) where
       }
 
   -- ---- where a conversion goes on
-  pub converts_all : (src : List ℕ) (old new : List A) (read written : ℕ) → length src ≤ read → ConvertsSome encode src old new read written → ConvertsMaximal encode src old new read written
+  pub converts_all : (src : List ℕ) (old new : List A) (read written : ℕ) → length src ≤ read → ConvertsSome encode src old new read written
+      → ConvertsMaximal encode src old new read written
   converts_all src old new read written all d = converts_longest src old new read written
-      (converted_rejected src old new read written d (λ prefix rest e s. omega (arith, all, ap length e, length-append prefix rest, length-drop read src, IsSequence-some prefix s)))
+      (converted_rejected src old new read written d
+      (λ prefix rest e s. omega (arith, all, ap length e, length-append prefix rest, length-drop read src, IsSequence-some prefix s)))
 
   pub converts_rest : (src : List ℕ) (old new sub : List A) (read written n m : ℕ) → ConvertsSome encode src old new read written
       → ConvertsMaximal encode (take (length src - read) (drop read src)) (take (length new - written) (drop written new)) sub n m
@@ -195,7 +218,8 @@ module _ {A : Type 0} (encode : ℕ → List A) where
       converts_longest _ _ _ _ _ (converted_rest src old new sub read written n m d (converts_prefix _ _ _ _ _ (rw (take_rest src read) at rest)))
 
 -- ---- to UTF-8 itself: the prefix whose bytes fit
-pub copied_prefix : (src old new : List ℕ) (room n : ℕ) → room ≤ length src → room ≤ length old → (length src ≤ room) ⊎ (length old ≤ room) → IsLongestPrefix IsUtf8 (take room src) n
+pub copied_prefix : (src old new : List ℕ) (room n : ℕ) → room ≤ length src → room ≤ length old → (length src ≤ room) ⊎ (length old ≤ room)
+    → IsLongestPrefix IsUtf8 (take room src) n
     → new ≡ take n src ++ drop n old → ConvertsUntilFull encode_utf8 src old new n n
 copied_prefix src old new room n short within all l e =
     let size : n ≤ room = let inside : n ≤ length (take room src) = l.within in omega (arith, inside, length-take room src) in
@@ -227,14 +251,26 @@ copied_prefix src old new room n short within all l e =
 pub ruleset copies = (copied_prefix, cases_lt, length-take, length-take-le)
 
 -- ---- a call that didn't fit left the destination unchanged
-pub converted_unfit : {A : Type 0} (encode : ℕ → List A) (src : List ℕ) (old new sub : List A) (read written c n : ℕ) → ConvertsSome encode src old new read written → IsScalar c
-    → encode_utf8 c ≡ take n (drop read src) → sub ≡ take (length new - written) (drop written new) → length (take (length new - written) (drop written new)) < length (encode c)
+pub converted_unfit : {A : Type 0} (encode : ℕ → List A) (src : List ℕ) (old new sub : List A) (read written c n : ℕ)
+    → ConvertsSome encode src old new read written → IsScalar c
+    → encode_utf8 c ≡ take n (drop read src) → sub ≡ take (length new - written) (drop written new)
+    → length (take (length new - written) (drop written new)) < length (encode c)
     → ConvertsUntilFull encode src old (put_mid written (length new - written) new sub) read written
 converted_unfit encode src old new sub read written c n d s e same l =
     let kept : put_mid written (length new - written) new sub ≡ new = ap (put_mid written (length new - written) new) same ∙ put_mid-same new written in
-    let rest : drop read src ≡ encode_utf8 c ++ drop n (drop read src) = sym (take-append-drop n (drop read src)) ∙ ap (λ xs. xs ++ drop n (drop read src)) (sym e) in
-    let room : length old - written < length (encode c) = omega (arith, l, ap length (take_rest new written), length-drop written new, WritesPrefix-length old new written (flat_map encode d.scalars) d.writes) in
-    subst (λ xs. ConvertsUntilFull encode src old xs read written) (sym kept) (converted_full encode src old new read written c (drop n (drop read src)) d s rest room)
+    let rest : drop read src ≡ encode_utf8 c ++ drop n (drop read src) = sym (take-append-drop n (drop read src))
+    ∙ ap (λ xs. xs ++ drop n (drop read src)) (sym e) in
+    let room : length old - written < length (encode c) =
+    omega (
+      arith,
+      l,
+      ap length (take_rest new written),
+      length-drop written new,
+      WritesPrefix-length old new written
+          (flat_map encode d.scalars) d.writes,
+    ) in
+    subst (λ xs. ConvertsUntilFull encode src old xs read written) (sym kept)
+    (converted_full encode src old new read written c (drop n (drop read src)) d s rest room)
 
 -- ---- to UTF-16: an ASCII prefix more
 pub converted_ascii : (src old new sub : List ℕ) (read written n : ℕ) → ConvertsSome encode_utf16 src old new read written
@@ -258,7 +294,18 @@ text_length src cs t = ap length t.spelled ∙ omega (arith, length-take t.valid
 pub whole_fits : (src old new : List ℕ) (read written : ℕ) → (d : ConvertsMaximal encode_utf16 src old new read written) → length src ≤ length old
     → (read ≡ d.text.valid) × WritesPrefix old new written (flat_map encode_utf16 d.scalars)
 whole_fits src old new read written d l = elim (cases_lt d.longest.count (length d.scalars)) [
-  | inl h ↦ absurd (omega (arith, d.longest.longest h, length-prefix encode_utf16 d.scalars (d.longest.count + 1), length-utf16 d.scalars d.text.are_scalars, text_length src d.scalars d.text, d.text.prefix.within, l))
+  | inl h ↦
+      absurd
+      (omega (
+        arith,
+        d.longest.longest h,
+        length-prefix encode_utf16 d.scalars
+            (d.longest.count + 1),
+        length-utf16 d.scalars d.text.are_scalars,
+        text_length src d.scalars d.text,
+        d.text.prefix.within,
+        l,
+      ))
   | inr h ↦
       let all : take d.longest.count d.scalars ≡ d.scalars = take_all d.longest.count d.scalars h in
       let taken : read ≡ length (flat_map encode_utf8 d.scalars) = d.longest.taken ∙ ap (λ xs. length (flat_map encode_utf8 xs)) all in
@@ -267,22 +314,26 @@ whole_fits src old new read written d l = elim (cases_lt d.longest.count (length
 ]
 
 -- of bytes, which are a text if and only if all of them are read
-pub text_prefix : (src old new : List ℕ) (read written : ℕ) → ConvertsMaximal encode_utf16 src old new read written → length src ≤ length old → WritesText src old new written
+pub text_prefix : (src old new : List ℕ) (read written : ℕ) → ConvertsMaximal encode_utf16 src old new read written → length src ≤ length old
+    → WritesText src old new written
 text_prefix src old new read written d l = (d.scalars, d.text, (whole_fits src old new read written d l).1)
 
-pub text_read : (src old new : List ℕ) (read written : ℕ) → ConvertsMaximal encode_utf16 src old new read written → length src ≤ length old → read ≡ length src → IsUtf8 src
+pub text_read : (src old new : List ℕ) (read written : ℕ) → ConvertsMaximal encode_utf16 src old new read written → length src ≤ length old
+    → read ≡ length src → IsUtf8 src
 text_read src old new read written d l e =
     let w = whole_fits src old new read written d l in
     subst IsUtf8 (take_all d.text.valid src (omega (arith, w.0, e))) d.text.prefix.kind
 
-pub text_all_read : (src old new : List ℕ) (read written : ℕ) → ConvertsMaximal encode_utf16 src old new read written → length src ≤ length old → IsUtf8 src → read ≡ length src
+pub text_all_read : (src old new : List ℕ) (read written : ℕ) → ConvertsMaximal encode_utf16 src old new read written → length src ≤ length old
+    → IsUtf8 src → read ≡ length src
 text_all_read src old new read written d l u =
     let w = whole_fits src old new read written d l in
     let all : length src ≤ d.text.valid = d.text.prefix.longest (length src) (omega arith) (subst IsUtf8 (sym (take_all (length src) src (omega arith))) u) in
     omega (arith, w.0, all, d.text.prefix.within)
 
 -- the ASCII prefix at the start
-pub converted_first_ascii : (src old new : List ℕ) (n : ℕ) → IsLongestPrefix IsAscii (take (length old) src) n → WritesPrefix old new n (take n src) → ConvertsSome encode_utf16 src old new n n
+pub converted_first_ascii : (src old new : List ℕ) (n : ℕ) → IsLongestPrefix IsAscii (take (length old) src) n → WritesPrefix old new n (take n src)
+    → ConvertsSome encode_utf16 src old new n n
 converted_first_ascii src old new n p w =
     let within : n ≤ length (take (length old) src) = p.within in
     let text = ascii_text (take n src) (subst IsAscii (take-take n (length old) src w.fits) p.kind) in

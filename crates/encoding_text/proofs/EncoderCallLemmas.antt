@@ -24,11 +24,13 @@ use Rattle.encoding_kernels.proofs.UnitBlocksLemmas.{utf8_plain}
 
 -- ---- the parts to be written stay parts
 -- a high surrogate that ends the parts ends their units
-ends_high : (us : List ℕ) (due : List Part16) (prefix : List Part16) (u : ℕ) → flat_map units_of_part16 due ≡ us → due ≡ prefix ++ Unpaired u ∷ [] → IsHighSurrogate u → EndsHigh us
+ends_high : (us : List ℕ) (due : List Part16) (prefix : List Part16) (u : ℕ) → flat_map units_of_part16 due ≡ us → due ≡ prefix ++ Unpaired u ∷ []
+    → IsHighSurrogate u → EndsHigh us
 ends_high us due prefix u e f h =
     (flat_map units_of_part16 prefix, u, sym e ∙ ap (flat_map units_of_part16) f ∙ flat_map-append units_of_part16 prefix (Unpaired u ∷ []), h)
 
-no_pair_open : (us : List ℕ) (last : Bool) (due : List Part16) (left_open following : List ℕ) → AreEncodable us last due left_open → (last ≡ true → following ≡ []) → NoPairAcross due (left_open ++ following)
+no_pair_open : (us : List ℕ) (last : Bool) (due : List Part16) (left_open following : List ℕ) → AreEncodable us last due left_open
+    → (last ≡ true → following ≡ []) → NoPairAcross due (left_open ++ following)
 no_pair_open us last due (u ∷ []) following d n prefix v e h low = omega (arith, d.surrogate, low)
 no_pair_open us last due (u ∷ w ∷ more) following d n prefix v e h low = absurd d.surrogate
 no_pair_open us true due [] following d n prefix v e h low = subst BeginsLow (n refl) low
@@ -55,7 +57,8 @@ pub AreCodeUnits-surrogate : (surrogate src : List ℕ) → IsPendingSurrogate s
 AreCodeUnits-surrogate surrogate src h a = AreCodeUnits-append surrogate src (pending_units_are surrogate h) a
 
 -- ---- one call
-module _ (surrogate src : List ℕ) (room : ℕ) (last : Bool) (r : EncoderResult) (read : ℕ) (out after : List ℕ) (c : EncodeStep surrogate src room last r read out after) where
+module _ (surrogate src : List ℕ) (room : ℕ) (last : Bool) (r : EncoderResult) (read : ℕ) (out after : List ℕ)
+    (c : EncodeStep surrogate src room last r read out after) where
   -- the parts that it wrote
   abbrev pub parts_written : List Part16
   parts_written = take c.longest.count c.due
@@ -65,9 +68,18 @@ module _ (surrogate src : List ℕ) (room : ℕ) (last : Bool) (r : EncoderResul
 
   pub taken_within : c.taken ≤ length c.are_encodable.prefix
   taken_within =
-      let split : flat_map units_of_part16 c.due ≡ flat_map units_of_part16 (take c.longest.count c.due) ++ flat_map units_of_part16 (drop c.longest.count c.due) =
-      ap (flat_map units_of_part16) (sym (take-append-drop c.longest.count c.due)) ∙ flat_map-append units_of_part16 (take c.longest.count c.due) (drop c.longest.count c.due) in
-      omega (arith, c.longest.taken, ap length split, ap length due_units, length-append (flat_map units_of_part16 (take c.longest.count c.due)) (flat_map units_of_part16 (drop c.longest.count c.due)))
+      let split : flat_map units_of_part16 c.due ≡ flat_map units_of_part16 (take c.longest.count c.due) ++ flat_map units_of_part16
+      (drop c.longest.count c.due) =
+      ap (flat_map units_of_part16) (sym (take-append-drop c.longest.count c.due))
+      ∙ flat_map-append units_of_part16 (take c.longest.count c.due) (drop c.longest.count c.due) in
+      omega (
+        arith,
+        c.longest.taken,
+        ap length split,
+        ap length due_units,
+        length-append (flat_map units_of_part16 (take c.longest.count c.due))
+            (flat_map units_of_part16 (drop c.longest.count c.due)),
+      )
 
   all_units : length surrogate + length src ≡ length c.are_encodable.prefix + length c.left_open
   all_units = sym (length-append surrogate src) ∙ ap length c.are_encodable.whole ∙ length-append c.are_encodable.prefix c.left_open
@@ -76,20 +88,26 @@ module _ (surrogate src : List ℕ) (room : ℕ) (last : Bool) (r : EncoderResul
   come_to : (read ≤ length src) × (drop c.taken (surrogate ++ src) ≡ after ++ drop read src)
   come_to = by_result r c.answer
     where
-      by_result : (r : EncoderResult) → IsEncodeResult surrogate src c.due c.left_open c.taken r read after → (read ≤ length src) × (drop c.taken (surrogate ++ src) ≡ after ++ drop read src)
+      by_result : (r : EncoderResult) → IsEncodeResult surrogate src c.due c.left_open c.taken r read after
+          → (read ≤ length src) × (drop c.taken (surrogate ++ src) ≡ after ++ drop read src)
       by_result InputEmpty (x, y, z) = (
         omega arith,
-        ap (drop c.taken) c.are_encodable.whole ∙ drop_at c.are_encodable.prefix c.left_open c.taken (omega (arith, x, ap length due_units)) ∙ sym z ∙ sym (append-nil after)
+        ap (drop c.taken) c.are_encodable.whole ∙ drop_at c.are_encodable.prefix c.left_open c.taken (omega (arith, x, ap length due_units)) ∙ sym z
+            ∙ sym (append-nil after)
             ∙ ap (λ xs. after ++ xs) (sym (drop_all read src (omega arith))),
       )
       by_result OutputFull (x, y, z) = elim (cases_lt 0 c.taken) [
         | inl some ↦ (
           omega (arith, (z some).0, taken_within, all_units),
-          ap (λ n. drop n (surrogate ++ src)) {x = c.taken} {y = length surrogate + read} (omega (arith, (z some).0)) ∙ sym (drop-drop read (length surrogate) (surrogate ++ src))
+          ap (λ n. drop n (surrogate ++ src)) {x = c.taken} {y = length surrogate + read} (omega (arith, (z some).0))
+              ∙ sym (drop-drop read (length surrogate) (surrogate ++ src))
               ∙ ap (drop read) (drop_at surrogate src (length surrogate) refl) ∙ ap (λ xs. xs ++ drop read src) (sym (z some).1),
         )
-        | inr none ↦ let zero : c.taken ≡ 0 = omega arith in
-            (omega (arith, (y zero).0), ap (λ n. drop n (surrogate ++ src)) zero ∙ ap (λ xs. xs ++ src) (sym (y zero).1) ∙ ap (λ n. after ++ drop n src) (sym (y zero).0))
+        | inr none ↦ let zero : c.taken ≡ 0 = omega arith in (
+          omega (arith, (y zero).0),
+          ap (λ n. drop n (surrogate ++ src)) zero ∙ ap (λ xs. xs ++ src) (sym (y zero).1)
+              ∙ ap (λ n. after ++ drop n src) (sym (y zero).0),
+        )
       ]
 
   pub read_within : read ≤ length src
@@ -99,26 +117,43 @@ module _ (surrogate src : List ℕ) (room : ℕ) (last : Bool) (r : EncoderResul
   rest_is = come_to.1
 
   -- they are the first parts for any units that follow, and none do if the call is marked last
-  pub written_first : (following : List ℕ) → AreCodeUnits following → (last ≡ true → following ≡ []) → StartsWith16 (surrogate ++ src ++ following) parts_written (after ++ drop read src ++ following)
+  pub written_first : (following : List ℕ) → AreCodeUnits following → (last ≡ true → following ≡ [])
+      → StartsWith16 (surrogate ++ src ++ following) parts_written (after ++ drop read src ++ following)
   written_first following a n =
       let open_after : List ℕ = c.left_open ++ following in
       let whole : flat_map units_of_part16 c.due ++ open_after ≡ surrogate ++ src ++ following =
-      sym (append_assoc (flat_map units_of_part16 c.due) c.left_open following) ∙ ap (λ xs. xs ++ c.left_open ++ following) due_units ∙ ap (λ xs. xs ++ following) (sym c.are_encodable.whole) in
+      sym (append_assoc (flat_map units_of_part16 c.due) c.left_open following) ∙ ap (λ xs. xs ++ c.left_open ++ following) due_units
+      ∙ ap (λ xs. xs ++ following) (sym c.are_encodable.whole) in
       let all : ArePartsOf16 (surrogate ++ src ++ following) (c.due ++ parts_of open_after) =
       subst (λ xs. ArePartsOf16 xs (c.due ++ parts_of open_after)) whole
-      (parts_after c.due open_after (parts_of open_after) c.are_encodable.parts.0 (no_pair_open (surrogate ++ src) last c.due c.left_open following c.are_encodable n)
+      (parts_after c.due open_after (parts_of open_after) c.are_encodable.parts.0
+      (no_pair_open (surrogate ++ src) last c.due c.left_open following c.are_encodable n)
       (parts_exist open_after (AreCodeUnits-surrogate c.left_open following c.are_encodable.surrogate a))) in
-      let first : take c.longest.count (c.due ++ parts_of open_after) ≡ parts_written = take-append-le c.longest.count c.due (parts_of open_after) c.longest.within in
+      let first : take c.longest.count (c.due ++ parts_of open_after) ≡ parts_written =
+      take-append-le c.longest.count c.due (parts_of open_after) c.longest.within in
       let rest : drop (length (flat_map units_of_part16 parts_written)) (surrogate ++ src ++ following) ≡ after ++ drop read src ++ following =
       ap (λ k. drop k (surrogate ++ src ++ following)) (sym c.longest.taken)
-      ∙ drop-append-le c.taken (surrogate ++ src) following (omega (arith, taken_within, all_units, length-append surrogate src)) ∙ ap (λ xs. xs ++ following) rest_is in
+      ∙ drop-append-le c.taken (surrogate ++ src) following (omega (arith, taken_within, all_units, length-append surrogate src))
+      ∙ ap (λ xs. xs ++ following) rest_is in
       rw (first, rest) at (StartsWith16-take (surrogate ++ src ++ following) (c.due ++ parts_of open_after) c.longest.count all)
 
   -- the units that it read and that were pending are those of the parts and those pending then
   units_split : length (flat_map units_of_part16 parts_written) + length after ≡ length surrogate + read
   units_split =
       let left = length-drop c.taken (surrogate ++ src) in
-      omega (arith, left, ap length rest_is, length-append surrogate src, length-append after (drop read src), length-drop read src, read_within, c.longest.taken, taken_within, all_units)
+      omega (
+        arith,
+        left,
+        ap length rest_is,
+        length-append surrogate src,
+        length-append after
+            (drop read src),
+        length-drop read src,
+        read_within,
+        c.longest.taken,
+        taken_within,
+        all_units,
+      )
 
   -- the output leaves three bytes for each unit that is left, if there were as many for each
   pub room_left : length out + 3 * length after ≤ 3 * (length surrogate + read)
@@ -140,7 +175,8 @@ module _ (surrogate src : List ℕ) (room : ℕ) (last : Bool) (r : EncoderResul
   pub all_encoded : last ≡ true → r ≡ InputEmpty → (read ≡ length src) × (after ≡ [])
   all_encoded l e = by_result r e c.answer
     where
-      by_result : (s : EncoderResult) → s ≡ InputEmpty → IsEncodeResult surrogate src c.due c.left_open c.taken s read after → (read ≡ length src) × (after ≡ [])
+      by_result : (s : EncoderResult) → s ≡ InputEmpty → IsEncodeResult surrogate src c.due c.left_open c.taken s read after
+          → (read ≡ length src) × (after ≡ [])
       by_result InputEmpty e (x, y, z) = (y, z ∙ c.are_encodable.last_opens_none l)
       by_result OutputFull e x = absurd (cc (e))
 
@@ -170,12 +206,15 @@ module _ (text : List ℕ) (room n : ℕ) (u : IsUtf8 text) (b : IsCharBoundary 
         (IsCharBoundary-past_char text (flat_map encode_utf8 more) n c b.0 (IsUtf8-drop text n u b) (sym rest_text ∙ ap (flat_map encode_utf8) e)))
   ]
 
-  prefix_fits : (rest : List ℕ) → chars (drop n text) ≡ rest → IsLongestFittingPrefix encode_utf8 encode_utf8 (prefix ++ rest) room (length (flat_map encode_utf8 prefix)) (flat_map encode_utf8 prefix)
+  prefix_fits : (rest : List ℕ) → chars (drop n text) ≡ rest
+      → IsLongestFittingPrefix encode_utf8 encode_utf8 (prefix ++ rest) room (length (flat_map encode_utf8 prefix)) (flat_map encode_utf8 prefix)
   prefix_fits [] e =
-      subst (λ cs. IsLongestFittingPrefix encode_utf8 encode_utf8 cs room (length (flat_map encode_utf8 prefix)) (flat_map encode_utf8 prefix)) (sym (append-nil prefix))
+      subst (λ cs. IsLongestFittingPrefix encode_utf8 encode_utf8 cs room (length (flat_map encode_utf8 prefix)) (flat_map encode_utf8 prefix))
+      (sym (append-nil prefix))
       (IsLongestFittingPrefix-all encode_utf8 encode_utf8 prefix room (omega (arith, prefix_length_by)))
   prefix_fits (c ∷ more) e =
-      IsLongestFittingPrefix-stop encode_utf8 encode_utf8 prefix c more room (omega (arith, prefix_length_by)) (omega (arith, prefix_length_by, no_more c more e, length-encode c))
+      IsLongestFittingPrefix-stop encode_utf8 encode_utf8 prefix c more room (omega (arith, prefix_length_by))
+      (omega (arith, prefix_length_by, no_more c more e, length-encode c))
 
   pub text_prefix : IsLongestFittingPrefix encode_utf8 encode_utf8 (chars text) room n (take n text)
   text_prefix = rw (prefix_length_by, prefix_text, whole_text) at (prefix_fits (chars (drop n text)) refl)
@@ -184,9 +223,11 @@ module _ (text : List ℕ) (room n : ℕ) (u : IsUtf8 text) (b : IsCharBoundary 
 due_bytes : (text : List ℕ) → IsUtf8 text → flat_map utf8_of_part16 (encodable_with_text [] text) ≡ text
 due_bytes text u = utf8_plain (chars text) ∙ encodes-chars text u
 
-module _ (text : List ℕ) (room n : ℕ) (out : List ℕ) (u : IsUtf8 text) (f : IsLongestFittingPrefix encode_utf8 encode_utf8 (chars text) room n (take n text)) (e : take n text ≡ out) where
+module _ (text : List ℕ) (room n : ℕ) (out : List ℕ) (u : IsUtf8 text) (f : IsLongestFittingPrefix encode_utf8 encode_utf8 (chars text) room n (take n text))
+    (e : take n text ≡ out) where
   fits_text : IsLongestFittingPrefix text_bytes_of utf8_of_part16 (encodable_with_text [] text) room n out
-  fits_text = subst (IsLongestFittingPrefix text_bytes_of utf8_of_part16 (encodable_with_text [] text) room n) e (IsLongestFittingPrefix-map text_bytes_of utf8_of_part16 Character16 (chars text) room n (take n text) f)
+  fits_text = subst (IsLongestFittingPrefix text_bytes_of utf8_of_part16 (encodable_with_text [] text) room n) e
+      (IsLongestFittingPrefix-map text_bytes_of utf8_of_part16 Character16 (chars text) room n (take n text) f)
 
   pub text_empty : length text ≤ n → n ≤ length text → TextEncodeStep [] text room InputEmpty n out []
   text_empty h k = record {
@@ -212,21 +253,34 @@ module _ (surrogate text : List ℕ) (h room : ℕ) (e : surrogate ≡ h ∷ [])
   text_waits l = subst (λ xs. TextEncodeStep xs text room OutputFull 0 [] xs) (sym e) (record {
     surrogate_before = high;
     surrogate_after = high;
-    longest = IsLongestFittingPrefix-stop text_bytes_of utf8_of_part16 [] (Unpaired h) (map Character16 (chars text)) room (omega arith) (omega (arith, l, length-encode 0xFFFD));
-    answer = (omega (arith, length-append (encode_utf8 0xFFFD) (flat_map utf8_of_part16 (map Character16 (chars text))), length-encode 0xFFFD), (λ x. (refl, refl)), (λ x. absurd (omega arith)));
+    longest = IsLongestFittingPrefix-stop text_bytes_of utf8_of_part16 [] (Unpaired h) (map Character16 (chars text)) room (omega arith)
+        (omega (arith, l, length-encode 0xFFFD));
+    answer = (
+      omega (
+        arith,
+        length-append (encode_utf8 0xFFFD)
+            (flat_map utf8_of_part16 (map Character16 (chars text))),
+        length-encode 0xFFFD,
+      ),
+      (λ x. (refl, refl)),
+      (λ x. absurd (omega arith)),
+    );
   })
 
-  pub text_then : (r : EncoderResult) (read : ℕ) (out : List ℕ) → length (encode_utf8 0xFFFD) ≤ room → TextEncodeStep [] text (room - length (encode_utf8 0xFFFD)) r read out []
+  pub text_then : (r : EncoderResult) (read : ℕ) (out : List ℕ) → length (encode_utf8 0xFFFD) ≤ room
+      → TextEncodeStep [] text (room - length (encode_utf8 0xFFFD)) r read out []
       → TextEncodeStep surrogate text room r read (encode_utf8 0xFFFD ++ out) []
   text_then r read out l c = subst (λ xs. TextEncodeStep xs text room r read (encode_utf8 0xFFFD ++ out) []) (sym e) (record {
     surrogate_before = high;
     surrogate_after = tt;
-    longest = subst (λ k. IsLongestFittingPrefix text_bytes_of utf8_of_part16 (encodable_with_text (h ∷ []) text) room k (encode_utf8 0xFFFD ++ out)) {x = 0 + read} {y = read} (omega arith)
+    longest = subst (λ k. IsLongestFittingPrefix text_bytes_of utf8_of_part16 (encodable_with_text (h ∷ []) text) room k
+        (encode_utf8 0xFFFD ++ out)) {x = 0 + read} {y = read} (omega arith)
         (IsLongestFittingPrefix-cons text_bytes_of utf8_of_part16 (Unpaired h) (encodable_with_text [] text) room read out l c.longest);
     answer = answers r read c.answer;
   })
     where
-      answers : (r : EncoderResult) (read : ℕ) → IsTextEncodeResult [] text (encodable_with_text [] text) out r read [] → IsTextEncodeResult (h ∷ []) text (encodable_with_text (h ∷ []) text) (encode_utf8 0xFFFD ++ out) r read []
+      answers : (r : EncoderResult) (read : ℕ) → IsTextEncodeResult [] text (encodable_with_text [] text) out r read []
+          → IsTextEncodeResult (h ∷ []) text (encodable_with_text (h ∷ []) text) (encode_utf8 0xFFFD ++ out) r read []
       answers InputEmpty read (x, y, z) = (ap (λ xs. encode_utf8 0xFFFD ++ xs) x, y, refl)
       answers OutputFull read (x, y, z) = (
         omega (arith, x, length-append (encode_utf8 0xFFFD) out, length-append (encode_utf8 0xFFFD) (flat_map utf8_of_part16 (encodable_with_text [] text))),
@@ -235,16 +289,25 @@ module _ (surrogate text : List ℕ) (h room : ℕ) (e : surrogate ≡ h ∷ [])
       )
 
 -- ---- space for all
-units_bytes : (surrogate : List ℕ) (ps : List Part16) → length (flat_map utf8_of_part16 (map Unpaired surrogate ++ ps)) ≡ 3 * length surrogate + length (flat_map utf8_of_part16 ps)
+units_bytes : (surrogate : List ℕ) (ps : List Part16) → length (flat_map utf8_of_part16 (map Unpaired surrogate ++ ps)) ≡ 3 * length surrogate + length
+    (flat_map utf8_of_part16 ps)
 units_bytes [] ps = omega arith
-units_bytes (h ∷ surrogate) ps = omega (arith, units_bytes surrogate ps, length-append (encode_utf8 0xFFFD) (flat_map utf8_of_part16 (map Unpaired surrogate ++ ps)), length-encode 0xFFFD)
+units_bytes (h ∷ surrogate) ps = omega (
+  arith,
+  units_bytes surrogate ps,
+  length-append (encode_utf8 0xFFFD)
+      (flat_map utf8_of_part16 (map Unpaired surrogate ++ ps)),
+  length-encode 0xFFFD,
+)
 
-pub enough_for_text : (surrogate text : List ℕ) (room : ℕ) (r : EncoderResult) (read : ℕ) (out after : List ℕ) → IsUtf8 text → length text + 3 * length surrogate ≤ room
+pub enough_for_text : (surrogate text : List ℕ) (room : ℕ) (r : EncoderResult) (read : ℕ) (out after : List ℕ) → IsUtf8 text
+    → length text + 3 * length surrogate ≤ room
     → TextEncodeStep surrogate text room r read out after → r ≡ InputEmpty
 enough_for_text surrogate text room InputEmpty read out after u h c = refl
 enough_for_text surrogate text room OutputFull read out after u h c =
     let due : List Part16 = encodable_with_text surrogate text in
-    let long : length (flat_map utf8_of_part16 due) ≡ 3 * length surrogate + length text = units_bytes surrogate (encodable_with_text [] text) ∙ ap (λ xs. 3 * length surrogate + length xs) (due_bytes text u) in
+    let long : length (flat_map utf8_of_part16 due) ≡ 3 * length surrogate + length text = units_bytes surrogate (encodable_with_text [] text)
+    ∙ ap (λ xs. 3 * length surrogate + length xs) (due_bytes text u) in
     absurd (elim (cases_lt c.longest.count (length due)) [
       | inl l ↦ omega (arith, c.longest.longest l, length-prefix utf8_of_part16 due (c.longest.count + 1), long)
       | inr l ↦ omega (arith, c.answer.0, ap length (c.longest.written ∙ ap (flat_map utf8_of_part16) (take_all c.longest.count due l)))
@@ -258,7 +321,8 @@ module _ (surrogate text old mid sub : List ℕ) (h first read written : ℕ) (r
   unit_and_text : WritesPrefix old (put_mid first (length mid - first) mid sub) (first + written) (encode_utf8 0xFFFD ++ take written sub)
   unit_and_text = WritesPrefix_after old mid first (encode_utf8 0xFFFD) sub written (take written sub) w v
 
-  pub text_call_rest : WritesPrefix old (put_mid first (length mid - first) mid sub) (first + written) (take (first + written) (put_mid first (length mid - first) mid sub))
+  pub text_call_rest : WritesPrefix old (put_mid first (length mid - first) mid sub) (first + written)
+      (take (first + written) (put_mid first (length mid - first) mid sub))
   text_call_rest = written_prefix _ _ _ _ unit_and_text
 
   pub text_call : TextEncodeStep surrogate text (length old) r read (take (first + written) (put_mid first (length mid - first) mid sub)) []

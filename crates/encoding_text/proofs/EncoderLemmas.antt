@@ -35,10 +35,15 @@ at_end [] u = refl
 at_end (x ∷ prefix) u = at_end prefix u
 
 last_of_push : (prefix : List ℕ) (u : ℕ) → get_or (prefix ++ u ∷ []) (length (prefix ++ u ∷ []) - 1) 0 ≡ u
-last_of_push prefix u = ap (λ n. get_or (prefix ++ u ∷ []) n 0) {x = length (prefix ++ u ∷ []) - 1} {y = length prefix} (omega (arith, length_push prefix u)) ∙ at_end prefix u
+last_of_push prefix u = ap (λ n. get_or (prefix ++ u ∷ []) n 0) {x = length (prefix ++ u ∷ []) - 1} {y = length prefix} (omega (arith, length_push prefix u))
+    ∙ at_end prefix u
 
 pub ends_high_last : (us : List ℕ) → EndsHigh us → (0 < length us) × IsHighSurrogate (get_or us (length us - 1) 0)
-ends_high_last us h = (omega (arith, ap length h.2, length_push h.0 h.1), subst IsHighSurrogate (sym (ap (λ xs. get_or xs (length xs - 1) 0) h.2 ∙ last_of_push h.0 h.1)) h.3)
+ends_high_last us h = (
+  omega (arith, ap length h.2, length_push h.0 h.1),
+  subst IsHighSurrogate
+      (sym (ap (λ xs. get_or xs (length xs - 1) 0) h.2 ∙ last_of_push h.0 h.1)) h.3,
+)
 
 all_due : (us : List ℕ) (last : Bool) → (last ≡ false → EndsHigh us → ⊥) → LeavesOpen us last (length us)
 all_due us last n = record {
@@ -56,12 +61,18 @@ leaves_open (u ∷ us) false = elim (high_decided (get_or (u ∷ us) (length us)
     length us,
     record {
       within = omega arith;
-      surrogate = subst IsPendingSurrogate (sym (drop_more (u ∷ us) (length us) 0 (omega arith) ∙ ap (λ xs. get_or (u ∷ us) (length us) 0 ∷ xs) (drop_all (length us + 1) (u ∷ us) (omega arith)))) h;
+      surrogate = subst IsPendingSurrogate
+          (sym (drop_more (u ∷ us) (length us) 0 (omega arith)
+          ∙ ap (λ xs. get_or (u ∷ us) (length us) 0 ∷ xs) (drop_all (length us + 1) (u ∷ us) (omega arith)))) h;
       last_opens_none = λ e. absurd (cc (e));
       waits = λ e k. omega arith;
     },
   )
-  | inr n ↦ (length (u ∷ us), all_due (u ∷ us) false (λ e h. n (subst (λ k. IsHighSurrogate (get_or (u ∷ us) k 0)) {x = length (u ∷ us) - 1} {y = length us} (omega arith) (ends_high_last (u ∷ us) h).1)))
+  | inr n ↦ (
+    length (u ∷ us),
+    all_due (u ∷ us) false
+        (λ e h. n (subst (λ k. IsHighSurrogate (get_or (u ∷ us) k 0)) {x = length (u ∷ us) - 1} {y = length us} (omega arith) (ends_high_last (u ∷ us) h).1)),
+  )
 ]
 
 pub AreCodeUnits-prefix : (us : List ℕ) (n : ℕ) → AreCodeUnits us → AreCodeUnits (take n us)
@@ -82,7 +93,8 @@ open_due us last n due l a = record {
 }
 
 -- ---- nothing pending
-module _ (src : List ℕ) (room : ℕ) (last : Bool) (n read : ℕ) (out : List ℕ) (l : LeavesOpen src last n) (f : IsUtf8OfLongestPrefix (take n src) room read out) where
+module _ (src : List ℕ) (room : ℕ) (last : Bool) (n read : ℕ) (out : List ℕ) (l : LeavesOpen src last n)
+    (f : IsUtf8OfLongestPrefix (take n src) room read out) where
   pub fresh_full : read < n → EncodeStep [] src room last OutputFull read out []
   fresh_full h = record {
     surrogate_before = tt;
@@ -105,11 +117,13 @@ begins_low_append [] ys b = absurd b
 begins_low_append (x ∷ xs) ys b = b
 
 -- the part is also the first of fewer units
-first_of_fewer : (us : List ℕ) (p : Part16) (rest prefix more : List ℕ) → IsFirstPart16 us p rest → rest ≡ prefix ++ more → IsFirstPart16 (units_of_part16 p ++ prefix) p prefix
+first_of_fewer : (us : List ℕ) (p : Part16) (rest prefix more : List ℕ) → IsFirstPart16 us p rest → rest ≡ prefix ++ more
+    → IsFirstPart16 (units_of_part16 p ++ prefix) p prefix
 first_of_fewer us (Character16 c) rest prefix more h e = (h.0, refl)
 first_of_fewer us (Unpaired u) rest prefix more h e = (h.0, refl, (λ k b. h.2 k (subst BeginsLow (sym e) (begins_low_append prefix more b))))
 
-AreEncodable-cons : (us : List ℕ) (p : Part16) (rest : List ℕ) (last : Bool) (due : List Part16) (left_open : List ℕ) → IsFirstPart16 us p rest → AreEncodable rest last due left_open
+AreEncodable-cons : (us : List ℕ) (p : Part16) (rest : List ℕ) (last : Bool) (due : List Part16) (left_open : List ℕ) → IsFirstPart16 us p rest
+    → AreEncodable rest last due left_open
     → (last ≡ false → EndsHigh us → EndsHigh rest) → AreEncodable us last (p ∷ due) left_open
 AreEncodable-cons us p rest last due left_open f d n = record {
   prefix = units_of_part16 p ++ d.prefix;
@@ -133,7 +147,8 @@ after_pair : (u v : ℕ) (rest : List ℕ) → 0xDC00 ≤ v → EndsHigh (u ∷ 
 after_pair u v [] l h = let high = (ends_high_last (v ∷ []) (ends_high_tail u v [] h)).1 in absurd (omega arith)
 after_pair u v (x ∷ rest) l h = ends_high_tail v x rest (ends_high_tail u v (x ∷ rest) h)
 
-ends_after : (us : List ℕ) (p : Part16) (rest : List ℕ) → IsFirstPart16 us p rest → (length (units_of_part16 p) ≡ 1 → 0 < length rest) → EndsHigh us → EndsHigh rest
+ends_after : (us : List ℕ) (p : Part16) (rest : List ℕ) → IsFirstPart16 us p rest → (length (units_of_part16 p) ≡ 1 → 0 < length rest)
+    → EndsHigh us → EndsHigh rest
 ends_after us (Unpaired u) rest f n h = after_one u rest (n refl) (subst EndsHigh f.1 h)
 ends_after us (Character16 c) rest f n h = elim (cases_lt c 0x10000) [
   | inl l ↦ after_one c rest (n (ap length (one_unit c l))) (subst EndsHigh (f.1 ∙ ap (λ xs. xs ++ rest) (one_unit c l)) h)
@@ -142,12 +157,15 @@ ends_after us (Character16 c) rest f n h = elim (cases_lt c 0x10000) [
 ]
 
 -- the first part of the pending surrogate and the source
-pub pending_first : (u : ℕ) (src : List ℕ) (scalar t : ℕ) (f : IsFirstScalar (u ∷ src) scalar) → t + 1 ≡ length (encode_utf16 scalar) → IsFirstPart16 (u ∷ src) f.part (drop t src)
+pub pending_first : (u : ℕ) (src : List ℕ) (scalar t : ℕ) (f : IsFirstScalar (u ∷ src) scalar) → t + 1 ≡ length (encode_utf16 scalar)
+    → IsFirstPart16 (u ∷ src) f.part (drop t src)
 pending_first u src scalar t f e =
-    let following : drop (length (encode_utf16 scalar)) (u ∷ src) ≡ drop t src = ap (λ n. drop n (u ∷ src)) {x = length (encode_utf16 scalar)} {y = suc t} (omega arith) in
+    let following : drop (length (encode_utf16 scalar)) (u ∷ src) ≡ drop t src =
+    ap (λ n. drop n (u ∷ src)) {x = length (encode_utf16 scalar)} {y = suc t} (omega arith) in
     subst (IsFirstPart16 (u ∷ src) f.part) following f.first
 
-module _ (u : ℕ) (src : List ℕ) (room : ℕ) (last : Bool) (p : Part16) (t : ℕ) (f : IsFirstPart16 (u ∷ src) p (drop t src)) (e : t + 1 ≡ length (units_of_part16 p)) (n : last ≡ false → 0 < length src) (high : IsHighSurrogate u) where
+module _ (u : ℕ) (src : List ℕ) (room : ℕ) (last : Bool) (p : Part16) (t : ℕ) (f : IsFirstPart16 (u ∷ src) p (drop t src))
+    (e : t + 1 ≡ length (units_of_part16 p)) (n : last ≡ false → 0 < length src) (high : IsHighSurrogate u) where
   due_after : last ≡ false → EndsHigh (u ∷ src) → EndsHigh (drop t src)
   due_after x = ends_after (u ∷ src) p (drop t src) f (λ one. omega (arith, n x, length-drop t src))
 
@@ -164,24 +182,49 @@ module _ (u : ℕ) (src : List ℕ) (room : ℕ) (last : Bool) (p : Part16) (t :
         left_open = drop open_at.0 (drop t src);
         taken = 0;
         are_encodable = AreEncodable-cons (u ∷ src) p (drop t src) last _ _ f rest due_after;
-        longest = IsLongestFittingPrefix-stop units_of_part16 utf8_of_part16 [] p (parts_of (take open_at.0 (drop t src))) room (omega arith) (omega (arith, l));
-        answer = (omega (arith, length-units_of_part16 p, length-append (units_of_part16 p) (flat_map units_of_part16 (parts_of (take open_at.0 (drop t src))))), (λ x. (refl, refl)), (λ x. absurd (omega arith)));
+        longest = IsLongestFittingPrefix-stop units_of_part16 utf8_of_part16 [] p (parts_of (take open_at.0 (drop t src))) room
+            (omega arith) (omega (arith, l));
+        answer = (
+          omega (
+            arith,
+            length-units_of_part16 p,
+            length-append (units_of_part16 p)
+                (flat_map units_of_part16 (parts_of (take open_at.0 (drop t src)))),
+          ),
+          (λ x. (refl, refl)),
+          (λ x. absurd (omega arith)),
+        );
       }
 
   within : t ≤ length src
   within = omega (arith, ap length (first_units (u ∷ src) p (drop t src) f), length-append (units_of_part16 p) (drop t src))
 
-  answers_after : (due : List Part16) (left_open : List ℕ) (taken : ℕ) (r : EncoderResult) (read : ℕ) (after : List ℕ) → IsEncodeResult [] (drop t src) due left_open taken r read after
+  answers_after : (due : List Part16) (left_open : List ℕ) (taken : ℕ) (r : EncoderResult) (read : ℕ) (after : List ℕ)
+      → IsEncodeResult [] (drop t src) due left_open taken r read after
       → IsEncodeResult (u ∷ []) src (p ∷ due) left_open (length (units_of_part16 p) + taken) r (t + read) after
-  answers_after due left_open taken InputEmpty read after (x, y, z) = (omega (arith, x, length-append (units_of_part16 p) (flat_map units_of_part16 due)), omega (arith, y, length-drop t src, within), z)
+  answers_after due left_open taken InputEmpty read after (x, y, z) = (
+    omega (
+      arith,
+      x,
+      length-append (units_of_part16 p)
+          (flat_map units_of_part16 due),
+    ),
+    omega (arith, y, length-drop t src, within),
+    z,
+  )
   answers_after due left_open taken OutputFull read after (x, y, z) = (
     omega (arith, x, length-append (units_of_part16 p) (flat_map units_of_part16 due)),
     (λ k. absurd (omega (arith, k, length-units_of_part16 p))),
-    (λ k. elim (cases_lt 0 taken) [ inl l ↦ (omega (arith, (z l).0), (z l).1) | inr l ↦ let none : taken ≡ 0 = omega arith in (omega (arith, (y none).0), (y none).1) ]),
+    (λ k. elim (cases_lt 0 taken) [
+      | inl l ↦ (omega (arith, (z l).0), (z l).1)
+      | inr l ↦ let none : taken ≡ 0 = omega arith in
+          (omega (arith, (y none).0), (y none).1)
+    ]),
   )
 
   -- its first part is written, and then comes a call with nothing pending
-  pub pending_then : (r : EncoderResult) (read : ℕ) (out after : List ℕ) → length (utf8_of_part16 p) ≤ room → EncodeStep [] (drop t src) (room - length (utf8_of_part16 p)) last r read out after
+  pub pending_then : (r : EncoderResult) (read : ℕ) (out after : List ℕ) → length (utf8_of_part16 p) ≤ room
+      → EncodeStep [] (drop t src) (room - length (utf8_of_part16 p)) last r read out after
       → EncodeStep (u ∷ []) src room last r (t + read) (utf8_of_part16 p ++ out) after
   pending_then r read out after l c = record {
     surrogate_before = high;
@@ -195,7 +238,8 @@ module _ (u : ℕ) (src : List ℕ) (room : ℕ) (last : Bool) (p : Part16) (t :
   }
 
 -- ---- space for all
-pub enough_room : (surrogate src : List ℕ) (room : ℕ) (last : Bool) (r : EncoderResult) (read : ℕ) (out after : List ℕ) → 3 * (length src + length surrogate) ≤ room
+pub enough_room : (surrogate src : List ℕ) (room : ℕ) (last : Bool) (r : EncoderResult) (read : ℕ) (out after : List ℕ)
+    → 3 * (length src + length surrogate) ≤ room
     → EncodeStep surrogate src room last r read out after → r ≡ InputEmpty
 enough_room surrogate src room last InputEmpty read out after h c = refl
 enough_room surrogate src room last OutputFull read out after h c =
@@ -217,13 +261,15 @@ some_there is_empty last n e (inr h) f = some_when n (sym e ∙ h)
 
 module _ (surrogate src : List ℕ) (u room : ℕ) (last : Bool) (e : surrogate ≡ u ∷ []) (high : IsHighSurrogate u) where
   -- the source may be empty, and the first part starts with the pending surrogate
-  pub call_full : (scalar t : ℕ) (f : IsFirstScalar (u ∷ src) scalar) → t + 1 ≡ length (encode_utf16 scalar) → (last ≡ false → 0 < length src) → AreCodeUnits src → room < len_utf8 scalar
+  pub call_full : (scalar t : ℕ) (f : IsFirstScalar (u ∷ src) scalar) → t + 1 ≡ length (encode_utf16 scalar) → (last ≡ false → 0 < length src)
+      → AreCodeUnits src → room < len_utf8 scalar
       → EncodeStep surrogate src room last OutputFull 0 [] surrogate
   call_full scalar t f g n a l =
       let long : length (utf8_of_part16 f.part) ≡ len_utf8 scalar = ap (λ c. length (encode_utf8 c)) f.counts ∙ length-encode scalar in
       rw e (pending_full u src room last f.part t (pending_first u src scalar t f g) (g ∙ units_counted (u ∷ src) scalar f) n high a (omega (arith, l, long)))
 
-module _ (surrogate src old mid sub : List ℕ) (u scalar t first read written : ℕ) (last : Bool) (r : EncoderResult) (after : List ℕ) (e : surrogate ≡ u ∷ []) (high : IsHighSurrogate u)
+module _ (surrogate src old mid sub : List ℕ) (u scalar t first read written : ℕ) (last : Bool) (r : EncoderResult) (after : List ℕ) (e : surrogate ≡ u ∷ [])
+    (high : IsHighSurrogate u)
     (f : IsFirstScalar (u ∷ src) scalar) (g : t + 1 ≡ length (encode_utf16 scalar)) (n : last ≡ false → 0 < length src)
     (w : WritesPrefix old mid first (encode_utf8 scalar))
     (c : EncodeStep [] (take (length src - t) (drop t src)) (length (take (length mid - first) (drop first mid))) last r read (take written sub) after)
@@ -231,7 +277,8 @@ module _ (surrogate src old mid sub : List ℕ) (u scalar t first read written :
   first_and_rest : WritesPrefix old (put_mid first (length mid - first) mid sub) (first + written) (encode_utf8 scalar ++ take written sub)
   first_and_rest = WritesPrefix_after old mid first (encode_utf8 scalar) sub written (take written sub) w v
 
-  pub call_then_rest : WritesPrefix old (put_mid first (length mid - first) mid sub) (first + written) (take (first + written) (put_mid first (length mid - first) mid sub))
+  pub call_then_rest : WritesPrefix old (put_mid first (length mid - first) mid sub) (first + written)
+      (take (first + written) (put_mid first (length mid - first) mid sub))
   call_then_rest = written_prefix _ _ _ _ first_and_rest
 
   pub call_then : EncodeStep surrogate src (length old) last r (t + read) (take (first + written) (put_mid first (length mid - first) mid sub)) after
@@ -245,4 +292,5 @@ module _ (surrogate src old mid sub : List ℕ) (u scalar t first read written :
       pending_then u src (length old) last p t (pending_first u src scalar t f g) (g ∙ units_counted (u ∷ src) scalar f) n high r read (take written sub) after
       (omega (arith, w.count, w.fits, ap length bytes)) rest in
       subst (λ xs. EncodeStep xs src (length old) last r (t + read) (take (first + written) (put_mid first (length mid - first) mid sub)) after) (sym e)
-      (subst (λ xs. EncodeStep (u ∷ []) src (length old) last r (t + read) xs after) (ap (λ xs. xs ++ take written sub) bytes ∙ written_is _ _ _ _ first_and_rest) whole)
+      (subst (λ xs. EncodeStep (u ∷ []) src (length old) last r (t + read) xs after) (ap (λ xs. xs ++ take written sub) bytes
+      ∙ written_is _ _ _ _ first_and_rest) whole)

@@ -47,7 +47,8 @@ module _ (src cs : List ℕ) (low : IsLatin1 cs) (text : encode_utf8_all cs ≡ 
   ended_parts =
       let count : length (take (last src) src) ≡ suc (last src - 1) = length-take-le (last src) src (omega arith) ∙ omega arith in
       let before = ap (slice_index (0 ∷ take (last src) src)) count ∙ get_or-take (last src) src (last src - 1) 0 (omega arith) in
-      sym (ended_all cs low 0) ∙ ap (all_latin1_ended 0) (text ∙ sym (take-append-drop (last src) src)) ∙ ended_append 0 (take (last src) src) (drop (last src) src)
+      sym (ended_all cs low 0) ∙ ap (all_latin1_ended 0) (text ∙ sym (take-append-drop (last src) src))
+      ∙ ended_append 0 (take (last src) src) (drop (last src) src)
       ∙ (λ i. all_latin1_ended 0 (take (last src) src) ++ all_latin1_ended (before i) (sym (last_block src (last src) (omega arith)) i))
 
 module _ (src cs : List ℕ) (read written : ℕ) (low : IsLatin1 cs) (text : encode_utf8_all cs ≡ src) (long : 16 < length src) (near : length src < read + 16)
@@ -60,7 +61,8 @@ module _ (src cs : List ℕ) (read written : ℕ) (low : IsLatin1 cs) (text : en
   ended_block =
       let n = read - last src in
       let place : last src + n ≡ read = omega arith in
-      let left : drop n (block src) ≡ encode_utf8_all (drop written cs) = ap (drop n) (last_block src (last src) (omega arith)) ∙ drop-drop n (last src) src ∙ ap (λ k. drop k src) place ∙ rest in
+      let left : drop n (block src) ≡ encode_utf8_all (drop written cs) = ap (drop n) (last_block src (last src) (omega arith)) ∙ drop-drop n (last src) src
+      ∙ ap (λ k. drop k src) place ∙ rest in
       ap (all_latin1_ended (byte_before src)) (sym (take-append-drop n (block src))) ∙ ended_append (byte_before src) (take n (block src)) (drop n (block src))
       ∙ ap (λ xs. ended_first src read ++ xs) (ap (all_latin1_ended _) left ∙ ended_all (drop written cs) after_low _)
 
@@ -75,16 +77,28 @@ module _ (src cs : List ℕ) (read written : ℕ) (low : IsLatin1 cs) (text : en
   )
 
   -- the block was written where its first byte of Latin1 belongs
-  pub last_written : (old new bytes : List ℕ) (at m : ℕ) → written ≤ length cs → take written old ≡ take written cs → at ≡ written - length (ended_first src read)
-      → take m bytes ≡ all_latin1_ended (byte_before src) (block src) → m ≤ length bytes → at + m ≤ length old → new ≡ take at old ++ (take m bytes ++ drop (at + m) old)
+  pub last_written : (old new bytes : List ℕ) (at m : ℕ) → written ≤ length cs → take written old ≡ take written cs
+      → at ≡ written - length (ended_first src read)
+      → take m bytes ≡ all_latin1_ended (byte_before src) (block src) → m ≤ length bytes → at + m ≤ length old
+      → new ≡ take at old ++ (take m bytes ++ drop (at + m) old)
       → WritesPrefix old new (at + m) cs
   last_written old new bytes at m l prefix place ends many room put =
       let done = all_latin1_ended 0 (take (last src) src) in
       let parts = ended_parts src cs low text long in
       let here : at ≡ length done = omega (arith, first_counts l) in
-      let same : take at old ≡ done = sym (take-take at written old (omega arith)) ∙ ap (take at) prefix ∙ take-take at written cs (omega arith) ∙ ap (take at) parts ∙ take_at done _ at (sym here) in
+      let same : take at old ≡ done = sym (take-take at written old (omega arith)) ∙ ap (take at) prefix ∙ take-take at written cs (omega arith)
+      ∙ ap (take at) parts ∙ take_at done _ at (sym here) in
       record {
-        count = omega (arith, here, ap length parts, length-append done (all_latin1_ended (byte_before src) (block src)), ap length ends, length-take-le m bytes many);
+        count = omega (
+          arith,
+          here,
+          ap length parts,
+          length-append done
+              (all_latin1_ended (byte_before src) (block src)),
+          ap length ends,
+          length-take-le m bytes many,
+        );
         fits = room;
-        placed = put ∙ (λ i. same i ++ (ends i ++ drop (at + m) old)) ∙ sym (append_assoc done (all_latin1_ended (byte_before src) (block src)) (drop (at + m) old)) ∙ ap (λ xs. xs ++ drop (at + m) old) (sym parts);
+        placed = put ∙ (λ i. same i ++ (ends i ++ drop (at + m) old))
+            ∙ sym (append_assoc done (all_latin1_ended (byte_before src) (block src)) (drop (at + m) old)) ∙ ap (λ xs. xs ++ drop (at + m) old) (sym parts);
       }

@@ -74,7 +74,16 @@ pub latin1_fits_twice : (xs : List ℕ) (room read : ℕ) (out : List ℕ) → (
 latin1_fits_twice xs room read out h l f =
     let all : take (length xs) xs ≡ xs = take_all (length xs) xs (omega arith) in
     let whole : f.count ≡ length xs = elim (cases_lt f.count (length xs)) [
-      | inl p ↦ absurd (omega (arith, f.longest p, ap length (flat_map-encode_utf8 (take (f.count + 1) xs)), twice (take (f.count + 1) xs) (Each-take (λ b. b < 256) (omega arith) xs (f.count + 1) (λ k _. h k)), length-take-le (f.count + 1) xs (omega arith)))
+      | inl p ↦
+          absurd
+          (omega (
+            arith,
+            f.longest p,
+            ap length (flat_map-encode_utf8 (take (f.count + 1) xs)),
+            twice (take (f.count + 1) xs)
+                (Each-take (λ b. b < 256) (omega arith) xs (f.count + 1) (λ k _. h k)),
+            length-take-le (f.count + 1) xs (omega arith),
+          ))
       | inr p ↦ omega (arith, f.within)
     ] in
     f.written ∙ flat_map-encode_utf8 (take f.count xs) ∙ ap (λ n. encode_utf8_all (take n xs)) whole ∙ ap encode_utf8_all all
@@ -98,17 +107,22 @@ character_of_two a b c l h e f =
       | inr p ↦ let first : a * 64 % 256 ≡ 192 = omega arith in rw (first, six) (omega (arith, or_high (c % 64) (omega arith)))
     ]
 
-pub WritesPrefix_low : (old new xs : List ℕ) (n b : ℕ) → WritesPrefix old new n (map (λ (unit : ℕ). unit % 0x100) (take n xs)) → n < length xs → n < length new → b ≡ slice_index xs n % 0x100
+pub WritesPrefix_low : (old new xs : List ℕ) (n b : ℕ) → WritesPrefix old new n (map (λ (unit : ℕ). unit % 0x100) (take n xs)) → n < length xs → n < length new
+    → b ≡ slice_index xs n % 0x100
     → WritesPrefix old (set new n b) (n + 1) (map (λ (unit : ℕ). unit % 0x100) (take (n + 1) xs))
 WritesPrefix_low old new xs n b w l m e = rw (map_more (λ (unit : ℕ). unit % 0x100) xs n 0 l, sym e) (WritesPrefix_push old new n _ b w m)
 
 -- m more units at once
-pub WritesPrefix_low_block : (old new after xs : List ℕ) (n m : ℕ) → WritesPrefix old new n (map (λ (unit : ℕ). unit % 0x100) (take n xs)) → n + m ≤ length xs → n + m ≤ length new
-    → after ≡ take n new ++ (map (λ (unit : ℕ). unit % 0x100) (take m (drop n xs)) ++ drop (n + m) new) → WritesPrefix old after (n + m) (map (λ (unit : ℕ). unit % 0x100) (take (n + m) xs))
+pub WritesPrefix_low_block : (old new after xs : List ℕ) (n m : ℕ) → WritesPrefix old new n (map (λ (unit : ℕ). unit % 0x100) (take n xs)) → n + m ≤ length xs
+    → n + m ≤ length new
+    → after ≡ take n new ++ (map (λ (unit : ℕ). unit % 0x100) (take m (drop n xs)) ++ drop (n + m) new)
+    → WritesPrefix old after (n + m) (map (λ (unit : ℕ). unit % 0x100) (take (n + m) xs))
 WritesPrefix_low_block old new after xs n m w l k put =
     let low : ℕ → ℕ = λ unit. unit % 0x100 in
-    let short : length (map low (take m (drop n xs))) ≡ m = length-map (take m (drop n xs)) low ∙ length-take-le m (drop n xs) (omega (arith, length-drop n xs)) in
-    rw (take-add n m xs, map-append low (take n xs) (take m (drop n xs))) (WritesPrefix_put old new after n m (map low (take n xs)) (map low (take m (drop n xs))) w (sym short) k put)
+    let short : length (map low (take m (drop n xs))) ≡ m = length-map (take m (drop n xs)) low
+    ∙ length-take-le m (drop n xs) (omega (arith, length-drop n xs)) in
+    rw (take-add n m xs, map-append low (take n xs) (take m (drop n xs)))
+    (WritesPrefix_put old new after n m (map low (take n xs)) (map low (take m (drop n xs))) w (sym short) k put)
 
 -- ---- after an ASCII prefix, which is its own UTF-8
 pub ascii_utf8_prefix : (bs : List ℕ) (n : ℕ) → IsAscii (take n bs) → take n bs ++ encode_utf8_all (take (length bs - n) (drop n bs)) ≡ encode_utf8_all bs
@@ -147,7 +161,8 @@ IsUtf8-bytes xs h = (xs, (scalars_of_latin1 xs (λ i. omega (arith, h i)), refl)
 
 -- ---- ASCII within Latin1 text
 -- each of the next n bytes is ASCII, and a character
-pub ascii_run : (src cs : List ℕ) (i j n : ℕ) → IsLatin1 cs → drop i src ≡ encode_utf8_all (drop j cs) → j ≤ length cs → i + n ≤ length src → ((k : ℕ) → k < n → slice_index src (i + k) < 0x80)
+pub ascii_run : (src cs : List ℕ) (i j n : ℕ) → IsLatin1 cs → drop i src ≡ encode_utf8_all (drop j cs) → j ≤ length cs → i + n ≤ length src
+    → ((k : ℕ) → k < n → slice_index src (i + k) < 0x80)
     → (j + n ≤ length cs) × (take n (drop i src) ≡ take n (drop j cs)) × (drop (i + n) src ≡ encode_utf8_all (drop (j + n) cs))
 ascii_run src cs i j zero low rest within room ascii =
     let at : i + 0 ≡ i = omega arith in
@@ -161,11 +176,16 @@ ascii_run src cs i j (suc n) low rest within room ascii =
     let one : n + 1 ≡ suc n = omega arith in
     let bytes : take (n + 1) (drop i src) ≡ take (n + 1) (drop j cs) =
     take_more (drop i src) n 0 (omega (arith, length-drop i src)) ∙ (λ k. before.1 k ++ (get_or-drop i src n 0 ∙ next.1 ∙ sym (get_or-drop j cs n 0)) k ∷ [])
-    ∙ sym (take_more (drop j cs) n 0 (omega (arith, next.0, length-drop j cs))) in
-    (omega (arith, next.0), subst (λ m. take m (drop i src) ≡ take m (drop j cs)) one bytes, ap (λ k. drop k src) (sym at) ∙ next.2 ∙ ap (λ k. encode_utf8_all (drop k cs)) to)
+    ∙ sym (take_more (drop j cs) n 0 (omega (arith, next.0, length-drop j cs))) in (
+      omega (arith, next.0),
+      subst (λ m. take m (drop i src) ≡ take m (drop j cs)) one bytes,
+      ap (λ k. drop k src) (sym at) ∙ next.2
+          ∙ ap (λ k. encode_utf8_all (drop k cs)) to,
+    )
 
 -- an ASCII prefix of the whole, which the destination has
-pub ascii_start : (src cs old : List ℕ) (n : ℕ) → IsLatin1 cs → encode_utf8_all cs ≡ src → n ≤ length src → IsAscii (take n src) → take n old ≡ take n src → length cs ≤ length old
+pub ascii_start : (src cs old : List ℕ) (n : ℕ) → IsLatin1 cs → encode_utf8_all cs ≡ src → n ≤ length src → IsAscii (take n src) → take n old ≡ take n src
+    → length cs ≤ length old
     → (drop n src ≡ encode_utf8_all (drop n cs)) × WritesPrefix old old n (take n cs)
 ascii_start src cs old n low text within ascii copied room =
     let run = ascii_run src cs 0 0 n low (sym text) (omega arith) (omega arith) (λ k l.
@@ -187,25 +207,34 @@ character_left src cs i j low rest l = elim (cases_lt (slice_index src i) 128) [
 ]
 
 -- an ASCII prefix of what is left was copied after the characters before it
-module _ (src cs old new sub : List ℕ) (i j n : ℕ) (low : IsLatin1 cs) (rest : drop i src ≡ encode_utf8_all (drop j cs)) (w : WritesPrefix old new j (take j cs))
+module _ (src cs old new sub : List ℕ) (i j n : ℕ) (low : IsLatin1 cs) (rest : drop i src ≡ encode_utf8_all (drop j cs))
+    (w : WritesPrefix old new j (take j cs))
     (within : n ≤ length (take (length src - i) (drop i src))) (ascii : IsAscii (take n (take (length src - i) (drop i src))))
     (v : WritesPrefix (take (length new - j) (drop j new)) sub n (take n (take (length src - i) (drop i src)))) (h : i ≤ length src) where
   pub ascii_on : (drop (i + n) src ≡ encode_utf8_all (drop (j + n) cs)) × WritesPrefix old (put_mid j (length new - j) new sub) (j + n) (take (j + n) cs)
   ascii_on =
       let counted : j ≤ length cs = omega (arith, w.count, length-take j cs) in
       let part = ascii_run src cs i j n low rest counted (omega (arith, within, ap length (take_rest src i), length-drop i src))
-      (λ k l. omega (arith, get_or-drop i src k 0, ap (λ xs. slice_index xs k) (take_rest src i), Each-at (λ b. b < 0x80) (omega arith) (take (length src - i) (drop i src)) n k l ascii)) in
+      (λ k l. omega (
+        arith,
+        get_or-drop i src k 0,
+        ap (λ xs. slice_index xs k) (take_rest src i),
+        Each-at (λ b. b < 0x80) (omega arith)
+            (take (length src - i) (drop i src)) n k l ascii,
+      )) in
       let text = ap (λ xs. take j cs ++ take n xs) (take_rest src i) ∙ ap (λ xs. take j cs ++ xs) part.1 ∙ sym (take-add j n cs) in
       (part.2, WritesPrefix-same _ _ _ _ _ _ (WritesPrefix_after old new j (take j cs) sub n _ w v) refl text)
 
   -- if room is left for all characters, the next one has two bytes
   pub two_after : i + n < length src → length cs ≤ length old
-      → (n < length (take (length src - i) (drop i src)) → n < length (take (length new - j) (drop j new)) → 0x80 ≤ slice_index (take (length src - i) (drop i src)) n)
+      → (n < length (take (length src - i) (drop i src)) → n < length (take (length new - j) (drop j new))
+      → 0x80 ≤ slice_index (take (length src - i) (drop i src)) n)
       → (j + n < length cs) × (i + n + 1 < length src) × (0x80 ≤ slice_index cs (j + n)) × (slice_index src (i + n) ≡ 192 + slice_index cs (j + n) / 64)
       × (slice_index src (i + n + 1) ≡ 128 + slice_index cs (j + n) % 64) × (drop (i + n + 2) src ≡ encode_utf8_all (drop (j + n + 1) cs))
   two_after l room stops =
       let left = character_left src cs (i + n) (j + n) low ascii_on.0 l in
-      next_of_two src cs (i + n) (j + n) low ascii_on.0 l (other_after src new i j n l (omega (arith, left, room, WritesPrefix-length old new j (take j cs) w)) stops)
+      next_of_two src cs (i + n) (j + n) low ascii_on.0 l
+      (other_after src new i j n l (omega (arith, left, room, WritesPrefix-length old new j (take j cs) w)) stops)
 
 -- ---- blocks of 16 bytes of Latin1 text
 -- no two bytes in a row start a character of two bytes
@@ -227,10 +256,13 @@ pub begins_apart : (src cs : List ℕ) (i j : ℕ) → IsLatin1 cs → drop i sr
     → (k : ℕ) → (slice_index (chunk i 16 src) k < 0xC0) ⊎ (slice_index (chunk i 16 src) (k + 1) < 0xC0)
 begins_apart src cs i j low rest room =
     let following : IsLatin1 (drop j cs) = λ n. let same = get_or-drop j cs n 0 in omega (arith, same, low (j + n)) in
-    apart (drop i src) (omega (arith, length-drop i src)) (λ k. subst (λ bs. NextIs (slice_index bs k) (slice_index bs (suc k))) (sym rest) (nexts (drop j cs) following k))
+    apart (drop i src) (omega (arith, length-drop i src)) (λ k. subst (λ bs. NextIs (slice_index bs k) (slice_index bs (suc k))) (sym rest)
+    (nexts (drop j cs) following k))
 
-module _ (src cs old new after : List ℕ) (i j m k : ℕ) (low : IsLatin1 cs) (rest : drop i src ≡ encode_utf8_all (drop j cs)) (w : WritesPrefix old new j (take j cs)) (bytes : List ℕ)
-    (ends : take m bytes ≡ all_latin1_ended 0 (chunk i 16 src)) (many : m ≤ length bytes) (room : j + m ≤ length new) (put : after ≡ take j new ++ (take m bytes ++ drop (j + m) new)) (inside : i + 16 ≤ length src)
+module _ (src cs old new after : List ℕ) (i j m k : ℕ) (low : IsLatin1 cs) (rest : drop i src ≡ encode_utf8_all (drop j cs))
+    (w : WritesPrefix old new j (take j cs)) (bytes : List ℕ)
+    (ends : take m bytes ≡ all_latin1_ended 0 (chunk i 16 src)) (many : m ≤ length bytes) (room : j + m ≤ length new)
+    (put : after ≡ take j new ++ (take m bytes ++ drop (j + m) new)) (inside : i + 16 ≤ length src)
     (whole : ((k ≡ 15) × (0xC0 ≤ slice_index src (i + 15))) ⊎ ((k ≡ 16) × (slice_index src (i + 15) < 0xC0))) where
   after_low : IsLatin1 (drop j cs)
   after_low n = let same = get_or-drop j cs n 0 in omega (arith, same, low (j + n))
@@ -240,19 +272,25 @@ module _ (src cs old new after : List ℕ) (i j m k : ℕ) (low : IsLatin1 cs) (
 
   between : GoesOnWith (slice_index (encode_utf8_all (drop j cs)) k) → ⊥
   between g = elim whole [
-    | inl h ↦ let g15 : GoesOnWith (slice_index (encode_utf8_all (drop j cs)) 15) = subst (λ n. GoesOnWith (slice_index (encode_utf8_all (drop j cs)) n)) h.0 g in omega (arith, last_is, g15.1, h.1)
-    | inr h ↦ let g16 : GoesOnWith (slice_index (encode_utf8_all (drop j cs)) 16) = subst (λ n. GoesOnWith (slice_index (encode_utf8_all (drop j cs)) n)) h.0 g in (nexts (drop j cs) after_low 15).after_last (omega (arith, last_is, h.1)) g16
+    | inl h ↦ let g15 : GoesOnWith (slice_index (encode_utf8_all (drop j cs)) 15) =
+        subst (λ n. GoesOnWith (slice_index (encode_utf8_all (drop j cs)) n)) h.0 g in omega (arith, last_is, g15.1, h.1)
+    | inr h ↦ let g16 : GoesOnWith (slice_index (encode_utf8_all (drop j cs)) 16) =
+        subst (λ n. GoesOnWith (slice_index (encode_utf8_all (drop j cs)) n)) h.0 g in
+        (nexts (drop j cs) after_low 15).after_last (omega (arith, last_is, h.1)) g16
   ]
 
   ended_whole : all_latin1_ended 0 (take 16 (drop i src)) ≡ all_latin1_ended 0 (take k (drop i src))
   ended_whole = elim whole [
     | inl h ↦
-        let cut : take 16 (drop i src) ≡ take 15 (drop i src) ++ slice_index (drop i src) 15 ∷ [] = take_more (drop i src) 15 0 (omega (arith, length-drop i src)) in
-        ap (all_latin1_ended 0) cut ∙ ended_without (take 15 (drop i src)) 0 (slice_index (drop i src) 15) (omega (arith, get_or-drop i src 15 0, h.1)) ∙ ap (λ n. all_latin1_ended 0 (take n (drop i src))) (sym h.0)
+        let cut : take 16 (drop i src) ≡ take 15 (drop i src) ++ slice_index (drop i src) 15 ∷ [] =
+        take_more (drop i src) 15 0 (omega (arith, length-drop i src)) in
+        ap (all_latin1_ended 0) cut ∙ ended_without (take 15 (drop i src)) 0 (slice_index (drop i src) 15) (omega (arith, get_or-drop i src 15 0, h.1))
+        ∙ ap (λ n. all_latin1_ended 0 (take n (drop i src))) (sym h.0)
     | inr h ↦ ap (λ n. all_latin1_ended 0 (take n (drop i src))) (sym h.0)
   ]
 
-  parts : (drop k (drop i src) ≡ encode_utf8_all (drop (length (all_latin1_ended 0 (take k (drop i src)))) (drop j cs))) × (take (length (all_latin1_ended 0 (take k (drop i src)))) (drop j cs) ≡ all_latin1_ended 0 (take k (drop i src)))
+  parts : (drop k (drop i src) ≡ encode_utf8_all (drop (length (all_latin1_ended 0 (take k (drop i src)))) (drop j cs)))
+      × (take (length (all_latin1_ended 0 (take k (drop i src)))) (drop j cs) ≡ all_latin1_ended 0 (take k (drop i src)))
   parts = subst (Splits (drop j cs) 0 k) (sym rest) (splits (drop j cs) after_low 0 k between)
 
   counted : length (all_latin1_ended 0 (take k (drop i src))) ≡ m
@@ -275,39 +313,62 @@ module _ (src : List ℕ) (read last : ℕ) (long : last + 16 ≡ length src) (f
   again_cut : encode_utf8_all (take read src) ≡ encode_utf8_all (take last src) ++ encode_utf8_all (take (read - last) (chunk last 16 src))
   again_cut =
       let sum : last + (read - last) ≡ read = omega arith in
-      ap (λ n. encode_utf8_all (take n src)) (sym sum) ∙ ap encode_utf8_all (take-add last (read - last) src) ∙ encodes-append (take last src) (take (read - last) (drop last src))
+      ap (λ n. encode_utf8_all (take n src)) (sym sum) ∙ ap encode_utf8_all (take-add last (read - last) src)
+      ∙ encodes-append (take last src) (take (read - last) (drop last src))
       ∙ ap (λ xs. encode_utf8_all (take last src) ++ encode_utf8_all (take (read - last) xs)) (sym (last_block src last long))
 
-  pub again_counted : length (encode_utf8_all (take read src)) ≡ length (encode_utf8_all (take last src)) + length (encode_utf8_all (take (read - last) (chunk last 16 src)))
+  pub again_counted : length (encode_utf8_all (take read src)) ≡ length (encode_utf8_all (take last src)) + length
+      (encode_utf8_all (take (read - last) (chunk last 16 src)))
   again_counted = ap length again_cut ∙ length-append (encode_utf8_all (take last src)) (encode_utf8_all (take (read - last) (chunk last 16 src)))
 
-  pub latin1_again : (old new after : List ℕ) (written at m : ℕ) → WritesPrefix old new written (encode_utf8_all (take read src)) → at ≡ length (encode_utf8_all (take last src)) → m ≡ length (encode_utf8_all (chunk last 16 src))
-      → at + m ≤ length new → after ≡ take at new ++ (encode_utf8_all (chunk last 16 src) ++ drop (at + m) new) → WritesPrefix old after (at + m) (encode_utf8_all src)
+  pub latin1_again : (old new after : List ℕ) (written at m : ℕ) → WritesPrefix old new written (encode_utf8_all (take read src))
+      → at ≡ length (encode_utf8_all (take last src)) → m ≡ length (encode_utf8_all (chunk last 16 src))
+      → at + m ≤ length new → after ≡ take at new ++ (encode_utf8_all (chunk last 16 src) ++ drop (at + m) new)
+      → WritesPrefix old after (at + m) (encode_utf8_all src)
   latin1_again old new after written at m w before count room put =
       let out = encode_utf8_all src in
       let block = encode_utf8_all (chunk last 16 src) in
-      let spelled : (n : ℕ) → encode_utf8_all (take n src) ++ encode_utf8_all (drop n src) ≡ out = λ n. sym (encodes-append (take n src) (drop n src)) ∙ ap encode_utf8_all (take-append-drop n src) in
-      let rest : drop at out ≡ block = ap (λ n. drop n out) before ∙ ap (drop (length (encode_utf8_all (take last src)))) (sym (spelled last)) ∙ drop-append_seam (encode_utf8_all (take last src)) _ ∙ ap encode_utf8_all (sym (last_block src last long)) in
-      let size : length out ≡ at + m = omega (arith, ap length (spelled last), length-append (encode_utf8_all (take last src)) (encode_utf8_all (drop last src)), ap (λ xs. length (encode_utf8_all xs)) (last_block src last long)) in
-      let prefix : encode_utf8_all (take read src) ≡ take written out = sym (ap (λ n. take n out) w.count ∙ ap (take (length (encode_utf8_all (take read src)))) (sym (spelled read)) ∙ take-append_seam (encode_utf8_all (take read src)) _) in
-      let again = WritesPrefix_again old new after out written at m (WritesPrefix-same _ _ _ _ _ _ w refl prefix) (omega (arith, w.count, again_counted)) (omega (arith, size, w.count, ap length prefix, length-take written out)) (omega (arith, size)) room
+      let spelled : (n : ℕ) → encode_utf8_all (take n src) ++ encode_utf8_all (drop n src) ≡ out = λ n. sym (encodes-append (take n src) (drop n src))
+      ∙ ap encode_utf8_all (take-append-drop n src) in
+      let rest : drop at out ≡ block = ap (λ n. drop n out) before ∙ ap (drop (length (encode_utf8_all (take last src)))) (sym (spelled last))
+      ∙ drop-append_seam (encode_utf8_all (take last src)) _ ∙ ap encode_utf8_all (sym (last_block src last long)) in
+      let size : length out ≡ at + m =
+      omega (
+        arith,
+        ap length (spelled last),
+        length-append (encode_utf8_all (take last src)) (encode_utf8_all (drop last src)),
+        ap
+            (λ xs. length (encode_utf8_all xs)) (last_block src last long),
+      ) in
+      let prefix : encode_utf8_all (take read src) ≡ take written out =
+      sym (ap (λ n. take n out) w.count ∙ ap (take (length (encode_utf8_all (take read src)))) (sym (spelled read))
+      ∙ take-append_seam (encode_utf8_all (take read src)) _) in
+      let again = WritesPrefix_again old new after out written at m (WritesPrefix-same _ _ _ _ _ _ w refl prefix) (omega (arith, w.count, again_counted))
+      (omega (arith, size, w.count, ap length prefix, length-take written out)) (omega (arith, size)) room
       (put ∙ ap (λ xs. take at new ++ (xs ++ drop (at + m) new)) (sym (ap (take m) rest ∙ take_all m block (omega arith)))) in
       WritesPrefix-same _ _ _ _ _ _ again refl (take_all (at + m) out (omega (arith, size)))
 
 -- ---- a turn: an ASCII prefix of what is left, a character of two bytes, and blocks
-module _ (xs : List ℕ) (small : (i : ℕ) → slice_index xs i < 256) (at to n : ℕ) (old new sub : List ℕ) (w : WritesPrefix old new to (encode_utf8_all (take at xs)))
-    (ascii : IsAscii (take n (take (length xs - at) (drop at xs)))) (copied : WritesPrefix (take (length new - to) (drop to new)) sub n (take n (take (length xs - at) (drop at xs))))
+module _ (xs : List ℕ) (small : (i : ℕ) → slice_index xs i < 256) (at to n : ℕ) (old new sub : List ℕ)
+    (w : WritesPrefix old new to (encode_utf8_all (take at xs)))
+    (ascii : IsAscii (take n (take (length xs - at) (drop at xs))))
+    (copied : WritesPrefix (take (length new - to) (drop to new)) sub n (take n (take (length xs - at) (drop at xs))))
     (inside : at + n < length xs) (room : to + n + 1 < length (put_mid to (length new - to) new sub))
-    (stops : n < length (take (length xs - at) (drop at xs)) → n < length (take (length new - to) (drop to new)) → 0x80 ≤ slice_index (take (length xs - at) (drop at xs)) n) where
+    (stops : n < length (take (length xs - at) (drop at xs)) → n < length (take (length new - to) (drop to new))
+    → 0x80 ≤ slice_index (take (length xs - at) (drop at xs)) n) where
   abbrev turn_two : List ℕ
-  turn_two = set (set (put_mid to (length new - to) new sub) (to + n) (bit_or 0xC0 (slice_index xs (at + n) / 64))) (to + n + 1) (bit_or 0x80 (bit_and (slice_index xs (at + n)) 0x3F))
+  turn_two = set (set (put_mid to (length new - to) new sub) (to + n) (bit_or 0xC0 (slice_index xs (at + n) / 64))) (to + n + 1)
+      (bit_or 0x80 (bit_and (slice_index xs (at + n)) 0x3F))
 
-  pub latin1_turn : (m k : ℕ) (blocks : List ℕ) → WritesPrefix (take (length turn_two - (to + n + 2)) (drop (to + n + 2) turn_two)) blocks k (encode_utf8_all (take m (take (length xs - (at + n + 1)) (drop (at + n + 1) xs))))
+  pub latin1_turn : (m k : ℕ) (blocks : List ℕ)
+      → WritesPrefix (take (length turn_two - (to + n + 2)) (drop (to + n + 2) turn_two)) blocks k
+      (encode_utf8_all (take m (take (length xs - (at + n + 1)) (drop (at + n + 1) xs))))
       → WritesPrefix old (put_mid (to + n + 2) (length turn_two - (to + n + 2)) turn_two blocks) (to + n + 2 + k) (encode_utf8_all (take (at + n + 1 + m) xs))
   latin1_turn m k blocks v =
       let prefix = ascii_left xs at n w ascii copied in
       let b = slice_index xs (at + n) in
       let other = other_after xs new at to n inside (omega (arith, WritesPrefix-length _ _ _ _ w, WritesPrefix-length _ _ _ _ prefix)) stops in
       let two = latin1_bytes_two b other (small (at + n)) in
-      let more : WritesPrefix old turn_two (to + n + 2) (encode_utf8_all (take (at + n + 1) xs)) = rw (latin1_more xs (at + n) inside, two) (WritesPrefix_push_two _ _ _ _ (bit_or 0xC0 (b / 64)) (bit_or 0x80 (bit_and b 0x3F)) prefix room) in
+      let more : WritesPrefix old turn_two (to + n + 2) (encode_utf8_all (take (at + n + 1) xs)) =
+      rw (latin1_more xs (at + n) inside, two) (WritesPrefix_push_two _ _ _ _ (bit_or 0xC0 (b / 64)) (bit_or 0x80 (bit_and b 0x3F)) prefix room) in
       written_left xs (at + n + 1) m more v

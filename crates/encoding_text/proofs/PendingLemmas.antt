@@ -33,7 +33,8 @@ pub goes_on : (p : List ℕ) (b : ℕ) → IsIncomplete p → IsSequence (p ++ b
 goes_on p b o (inl s) = goes_on_whole p b (HasOpenShape-IsIncomplete p o) (HasShape-IsSequence _ s)
 goes_on p b o (inr l) = goes_on_longer p b (HasOpenShape-IsIncomplete p o) (HasOpenShape-IsIncomplete _ l)
 
-whole_shape : (p : List ℕ) (b n : ℕ) → HasOpenShape p → GoesOn (slice_index p 0) (length p) b → SequenceLength (slice_index p 0) n → length p + 1 ≡ n → HasShape (p ++ b ∷ [])
+whole_shape : (p : List ℕ) (b n : ℕ) → HasOpenShape p → GoesOn (slice_index p 0) (length p) b → SequenceLength (slice_index p 0) n → length p + 1 ≡ n
+    → HasShape (p ++ b ∷ [])
 whole_shape [] b n h g l e = absurd h
 whole_shape (a ∷ []) b n h g l e =
     let s = g.0 refl in
@@ -51,7 +52,8 @@ whole_shape (a ∷ c ∷ []) b n h g l e =
 whole_shape (a ∷ c ∷ d ∷ []) b n h g l e = (h.0, h.1, h.2, h.3, g.1 (omega arith))
 whole_shape (a ∷ c ∷ d ∷ f ∷ more) b n h g l e = absurd h
 
-longer_shape : (p : List ℕ) (b n : ℕ) → HasOpenShape p → GoesOn (slice_index p 0) (length p) b → SequenceLength (slice_index p 0) n → length p + 1 ≢ n → HasOpenShape (p ++ b ∷ [])
+longer_shape : (p : List ℕ) (b n : ℕ) → HasOpenShape p → GoesOn (slice_index p 0) (length p) b → SequenceLength (slice_index p 0) n → length p + 1 ≢ n
+    → HasOpenShape (p ++ b ∷ [])
 longer_shape [] b n h g l e = absurd h
 longer_shape (a ∷ []) b n h g l e =
     let s = g.0 refl in
@@ -71,14 +73,17 @@ longer_shape (a ∷ c ∷ d ∷ []) b n h g l e =
     absurd (e (omega (arith, size.2 h.0)))
 longer_shape (a ∷ c ∷ d ∷ f ∷ more) b n h g l e = absurd h
 
-pub whole_sequence : (p : List ℕ) (b n : ℕ) → IsIncomplete p → GoesOn (slice_index p 0) (length p) b → SequenceLength (slice_index p 0) n → length p + 1 ≡ n → IsSequence (p ++ b ∷ [])
+pub whole_sequence : (p : List ℕ) (b n : ℕ) → IsIncomplete p → GoesOn (slice_index p 0) (length p) b → SequenceLength (slice_index p 0) n → length p + 1 ≡ n
+    → IsSequence (p ++ b ∷ [])
 whole_sequence p b n o g l e = IsSequence-HasShape _ (whole_shape p b n (HasOpenShape-IsIncomplete p o) g l e)
 
-pub longer_incomplete : (p : List ℕ) (b n : ℕ) → IsIncomplete p → GoesOn (slice_index p 0) (length p) b → SequenceLength (slice_index p 0) n → length p + 1 ≢ n → IsIncomplete (p ++ b ∷ [])
+pub longer_incomplete : (p : List ℕ) (b n : ℕ) → IsIncomplete p → GoesOn (slice_index p 0) (length p) b → SequenceLength (slice_index p 0) n → length p + 1 ≢ n
+    → IsIncomplete (p ++ b ∷ [])
 longer_incomplete p b n o g l e = IsIncomplete-HasOpenShape _ (longer_shape p b n (HasOpenShape-IsIncomplete p o) g l e)
 
 -- ---- in an array of four bytes, with the first `count` pending
-module _ (bytes : List ℕ) (count b : ℕ) (p : List ℕ) (is : p ≡ take count bytes) (four : length bytes ≡ 4) (within : count ≤ 3) (some : p ≢ []) (pending : IsPending p) where
+module _ (bytes : List ℕ) (count b : ℕ) (p : List ℕ) (is : p ≡ take count bytes) (four : length bytes ≡ 4) (within : count ≤ 3) (some : p ≢ [])
+    (pending : IsPending p) where
   long : length p ≡ count
   long = omega (arith, ap length is, length-take count bytes)
 
@@ -112,7 +117,8 @@ module _ (bytes : List ℕ) (count b : ℕ) (p : List ℕ) (is : p ≡ take coun
   pub pushed_longer : (n : ℕ) → GoesOn (slice_index bytes 0) count b → SequenceLength (slice_index (set bytes count b) 0) n → count + 1 ≢ n
       → (count + 1 ≤ 3) × IsPending (take (count + 1) (set bytes count b))
   pushed_longer n g l e =
-      let o : IsIncomplete (p ++ b ∷ []) = longer_incomplete p b n begins (same_goes_on g) (subst (λ a. SequenceLength a n) kept l) (λ f. e (omega (arith, long))) in
+      let o : IsIncomplete (p ++ b ∷ []) =
+      longer_incomplete p b n begins (same_goes_on g) (subst (λ a. SequenceLength a n) kept l) (λ f. e (omega (arith, long))) in
       (omega (arith, length-IsIncomplete (p ++ b ∷ []) o, length-append p (b ∷ []), long), subst IsPending (sym longer) (inr o))
 
 -- ---- bytes in an array
@@ -121,7 +127,8 @@ kept_bytes bs rest = take_at bs rest (length bs) refl
 
 -- ---- after the first bytes of the source
 -- p is in an array, as what was pending followed by the bytes read, and the next byte doesn't continue it
-pub resumed_rejected : (old src bytes p : List ℕ) (read count : ℕ) → p ≡ old ++ take read src → take count bytes ≡ p → length bytes ≡ 4 → count ≤ 3 → IsPending (take count bytes)
+pub resumed_rejected : (old src bytes p : List ℕ) (read count : ℕ) → p ≡ old ++ take read src → take count bytes ≡ p → length bytes ≡ 4 → count ≤ 3
+    → IsPending (take count bytes)
     → old ≢ [] → read < length src → IsRejected p (slice_index src read)
     → (read < length src) × (count ≡ length old + read) × IsIncomplete (old ++ take read src)
     × (b : ℕ) × (more : List ℕ) × (drop read src ≡ b ∷ more) × IsRejected (old ++ take read src) b

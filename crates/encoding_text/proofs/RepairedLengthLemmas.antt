@@ -13,7 +13,8 @@ pub parts_after : (bs : List ℕ) (n : ℕ) → IsLongestPrefix IsUtf8 bs n → 
 parts_after bs n prefix others are =
     let (cs, (scalars, spelled)) = prefix.kind in
     let whole : encode_utf8_all cs ++ drop n bs ≡ bs = ap (λ xs. xs ++ drop n bs) spelled ∙ take-append-drop n bs in
-    let first : StartsWith bs (map Character cs) (drop n bs) = subst (λ xs. StartsWith xs (map Character cs) (drop n bs)) whole (StartsWith-characters cs (drop n bs) scalars) in
+    let first : StartsWith bs (map Character cs) (drop n bs) =
+    subst (λ xs. StartsWith xs (map Character cs) (drop n bs)) whole (StartsWith-characters cs (drop n bs) scalars) in
     let text = ap length (lossy_utf8-append (map Character cs) others) ∙ length-append (lossy_utf8 (map Character cs)) (lossy_utf8 others) in (
       map Character cs ++ others,
       StartsWith-append bs (map Character cs) (drop n bs) others [] first are,

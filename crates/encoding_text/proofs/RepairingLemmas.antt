@@ -16,7 +16,8 @@ use Rattle.encoding_definitions.proofs.DecompositionLemmas.{StartsWith-append, m
 use Rattle.encoding_definitions.proofs.PrefixesLemmas.{WritesPrefix-length, WritesPrefix-same, WritesPrefix_after, WritesPrefix_push}
 
 -- what a call yields, and what the next one yields of the rest
-pub yields_then : (p src : List ℕ) (last next both : Bool) (ps qs : List Part) (r s : ℕ) (q t : List ℕ) → (both ≡ false → (last ≡ false) × (next ≡ false)) → Yields p src last ps r q
+pub yields_then : (p src : List ℕ) (last next both : Bool) (ps qs : List Part) (r s : ℕ) (q t : List ℕ) → (both ≡ false → (last ≡ false) × (next ≡ false))
+    → Yields p src last ps r q
     → Yields q (drop r src) next qs s t → Yields p src both (ps ++ qs) (r + s) t
 yields_then p src last next both ps qs r s q t none g h = record {
   within = omega (arith, g.within, h.within, length-drop r src);
@@ -25,7 +26,8 @@ yields_then p src last next both ps qs r s q t none g h = record {
   pending = h.pending;
   stable = λ e more.
       subst (λ xs. StartsWith (p ++ src ++ more) (ps ++ qs) (t ++ xs ++ more)) (drop-drop s r src)
-      (StartsWith-append (p ++ src ++ more) ps (q ++ drop r src ++ more) qs (t ++ drop s (drop r src) ++ more) (g.stable (none e).0 more) (h.stable (none e).1 more));
+      (StartsWith-append (p ++ src ++ more) ps (q ++ drop r src ++ more) qs (t ++ drop s (drop r src) ++ more) (g.stable (none e).0 more)
+      (h.stable (none e).1 more));
 }
 
 module _ {A : Type 0} (encode : ℕ → List A) where
@@ -115,13 +117,15 @@ repaired_unit src old new sub read written k second more units q (replaced, d) c
     (replaced + 1, subst (λ xs. Repaired encode_utf16 [] src true old after (read + more) end (replaced + 1) xs []) call.2.answer.5 report)
 
 -- such a call reads a byte
-pub reads_some : (src old new : List ℕ) (k second more units : ℕ) (q : List ℕ) → DecodeStepInto encode_utf16 2 [] src old new true (Malformed k second) more units q → (0 < more) × (more ≤ length src) × (q ≡ [])
+pub reads_some : (src old new : List ℕ) (k second more units : ℕ) (q : List ℕ)
+    → DecodeStepInto encode_utf16 2 [] src old new true (Malformed k second) more units q → (0 < more) × (more ≤ length src) × (q ≡ [])
 reads_some src old new k second more units q (out, w, call) =
     let a = call.answer in
     (omega (arith, ap length a.3, length-append (encode_utf8_all call.scalars) a.0, length-take more src, malformed_some a.0 _ true a.6), a.2, a.5)
 
 -- how much of the destination is left after such a call
-pub repaired_length : (new sub : List ℕ) (written units : ℕ) (out : List ℕ) → WritesPrefix (take (length new - written) (drop written new)) sub units out → written ≤ length new
+pub repaired_length : (new sub : List ℕ) (written units : ℕ) (out : List ℕ) → WritesPrefix (take (length new - written) (drop written new)) sub units out
+    → written ≤ length new
     → length (put_mid written (length new - written) new sub) ≡ length new
 repaired_length new sub written units out w l =
     let kept : length sub ≡ length (take (length new - written) (drop written new)) = WritesPrefix-length _ _ _ _ w in

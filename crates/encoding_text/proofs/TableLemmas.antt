@@ -61,7 +61,11 @@ or_two : (m q : ℕ) → 4 ≤ m → bit_or m q ≢ 2
 or_two m q l e = omega (arith, le_or_l m q)
 
 two_is : (a b c : ℕ) → IsTriState a b → c < 256 → (bit_or (common a b) (c / 2 ^ 6) ≡ 2) ↔ (IsTrue (is_second a b) × IsContinuation c)
-two_is a b c (inl p) t = (λ e. let q : c / 64 ≡ 2 = sym (rw p.0 refl) ∙ e in (p.1, (omega arith, omega arith)), λ q. rw p.0 (let e : c / 64 ≡ 2 = omega arith in e))
+two_is a b c (inl p) t = (
+  λ e. let q : c / 64 ≡ 2 = sym (rw p.0 refl) ∙ e in
+      (p.1, (omega arith, omega arith)),
+  λ q. rw p.0 (let e : c / 64 ≡ 2 = omega arith in e),
+)
 two_is a b c (inr p) t = (λ e. absurd (or_two (common a b) (c / 64) p.0 e), λ q. absurd (p.1 q.0))
 
 module _ (a b c : ℕ) (s : b < 256) (t : c < 256) where

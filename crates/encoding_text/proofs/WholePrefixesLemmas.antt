@@ -30,7 +30,8 @@ whole_by_length K xs n f = (
 )
 
 -- if the list fits, its longest ASCII prefix ends at the first other unit
-pub prefix_of_first : (xs : List ℕ) (room : ℕ) (first : Option (ℕ × ℕ)) → length xs ≤ room → IsFirstOther (take room xs) first → IsLongestPrefix IsAscii xs (prefix_length_by xs first)
+pub prefix_of_first : (xs : List ℕ) (room : ℕ) (first : Option (ℕ × ℕ)) → length xs ≤ room → IsFirstOther (take room xs) first
+    → IsLongestPrefix IsAscii xs (prefix_length_by xs first)
 prefix_of_first xs room None l ascii = record {
   within = omega arith;
   kind = subst IsAscii (take_all room xs l ∙ sym (take_all (length xs) xs (omega arith))) ascii;
@@ -39,24 +40,36 @@ prefix_of_first xs room None l ascii = record {
 prefix_of_first xs room (Some (unit, place)) l found = subst (λ ys. IsLongestPrefix IsAscii ys place) (take_all room xs l) found.1
 
 -- if the list fits, all units are written
-pub written_of_room : (xs old new : List ℕ) (room : ℕ) → length xs ≤ room → WritesPrefix old new (length (take room xs)) (take (length (take room xs)) xs) → WritesPrefix old new (length xs) (take (length xs) xs)
+pub written_of_room : (xs old new : List ℕ) (room : ℕ) → length xs ≤ room → WritesPrefix old new (length (take room xs)) (take (length (take room xs)) xs)
+    → WritesPrefix old new (length xs) (take (length xs) xs)
 written_of_room xs old new room l w = subst (λ ys. WritesPrefix old new (length ys) (take (length ys) xs)) (take_all room xs l) w
 
 -- if the first other unit fits, it isn't ASCII
-pub other_at : (xs : List ℕ) (room unit place : ℕ) → IsFirstOther (take room xs) (Some (unit, place)) → place < length xs → place < room → 0x80 ≤ slice_index xs place
+pub other_at : (xs : List ℕ) (room unit place : ℕ) → IsFirstOther (take room xs) (Some (unit, place)) → place < length xs → place < room
+    → 0x80 ≤ slice_index xs place
 other_at xs room unit place found l m = elim (cases_lt (slice_index xs place) 0x80) [
-  | inl p ↦ absurd (after_prefix (λ b. b < 0x80) (omega arith) (take room xs) place found.1 (omega (arith, length-take room xs)) (rw (get_or-take room xs place 0 m) p))
+  | inl p ↦
+      absurd (after_prefix (λ b. b < 0x80) (omega arith) (take room xs) place found.1 (omega (arith, length-take room xs))
+      (rw (get_or-take room xs place 0 m) p))
   | inr p ↦ p
 ]
 
 -- the same after an ASCII prefix of what is left
 pub other_after : (xs old : List ℕ) (i j n : ℕ) → i + n < length xs → j + n < length old
-    → (n < length (take (length xs - i) (drop i xs)) → n < length (take (length old - j) (drop j old)) → 0x80 ≤ slice_index (take (length xs - i) (drop i xs)) n) → 0x80 ≤ slice_index xs (i + n)
+    → (n < length (take (length xs - i) (drop i xs)) → n < length (take (length old - j) (drop j old))
+    → 0x80 ≤ slice_index (take (length xs - i) (drop i xs)) n) → 0x80 ≤ slice_index xs (i + n)
 other_after xs old i j n l m stops =
-    omega (arith, stops (omega (arith, ap length (take_rest xs i), length-drop i xs)) (omega (arith, ap length (take_rest old j), length-drop j old)), ap (λ ys. slice_index ys n) (take_rest xs i), get_or-drop i xs n 0)
+    omega (
+      arith,
+      stops (omega (arith, ap length (take_rest xs i), length-drop i xs)) (omega (arith, ap length (take_rest old j), length-drop j old)),
+      ap
+          (λ ys. slice_index ys n) (take_rest xs i),
+      get_or-drop i xs n 0,
+    )
 
 -- if a prefix is written to the first `end` items, it is written
-pub written_within : {A : Type 0} (old sub : List A) (end n : ℕ) (out : List A) → WritesPrefix (take end old) sub n out → WritesPrefix old (sub ++ drop end old) n out
+pub written_within : {A : Type 0} (old sub : List A) (end n : ℕ) (out : List A) → WritesPrefix (take end old) sub n out
+    → WritesPrefix old (sub ++ drop end old) n out
 written_within old sub end n out w = record {
   count = w.count;
   fits = omega (arith, w.fits, length-take end old);
@@ -102,7 +115,8 @@ run_of_own xs n run long first =
     prefix_before IsOwn zero_own xs run (omega (arith, first.within)) (λ k l. own _ (first.before k l)) (λ short. other _ (first.found (omega arith)))
 
 -- after bytes that are such ones, the prefix of a stride follows
-module _ (at n run : ℕ) (xs stride : List ℕ) (is : stride ≡ take n (drop at xs)) (within : at + n ≤ length xs) (before : AreOwn xs at) (prefix : IsLongestPrefix IsIso2022JpAscii stride run) where
+module _ (at n run : ℕ) (xs stride : List ℕ) (is : stride ≡ take n (drop at xs)) (within : at + n ≤ length xs) (before : AreOwn xs at)
+    (prefix : IsLongestPrefix IsIso2022JpAscii stride run) where
   long : length stride ≡ n
   long = ap length is ∙ length-take-le n (drop at xs) (omega (arith, within, length-drop at xs))
 
@@ -110,7 +124,8 @@ module _ (at n run : ℕ) (xs stride : List ℕ) (is : stride ≡ take n (drop a
   own_through k l = elim (cases_lt k at) [
     | inl p ↦ before k p
     | inr p ↦ let e : at + (k - at) ≡ k = omega arith in
-        subst IsOwn (unit_is 0 at n xs stride is (k - at) (omega (arith, prefix.within, long)) ∙ ap (slice_index xs) e) (Each-at IsOwn zero_own stride run (k - at) (omega arith) prefix.kind)
+        subst IsOwn (unit_is 0 at n xs stride is (k - at) (omega (arith, prefix.within, long)) ∙ ap (slice_index xs) e)
+        (Each-at IsOwn zero_own stride run (k - at) (omega arith) prefix.kind)
   ]
 
   pub own_until : run < n → IsLongestPrefix IsIso2022JpAscii xs (at + run)

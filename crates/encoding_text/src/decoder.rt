@@ -104,7 +104,8 @@ impl Utf8Decoder {
     /// are split into calls, if U+FFFD is written for each malformed sequence: three times the sum of `byte_length`, the
     /// number of pending bytes and one. `None` if the length exceeds `usize::MAX`.
     pub fn max_utf8_buffer_length(&self, byte_length: usize) -> Option<usize>
-        ensures { SomeIff result (max_utf8_length_with_replacement byte_length (length self.now) ≤ usize.MAX)
+        ensures { SomeIff result
+            (max_utf8_length_with_replacement byte_length (length self.now) ≤ usize.MAX)
             (max_utf8_length_with_replacement byte_length (length self.now)) }
     {
         byte_length
@@ -126,14 +127,18 @@ impl Utf8Decoder {
         dst: &mut [u16],
         last: bool,
     ) -> (DecoderResult, usize, usize)
-        ensures call { DecodeStepInto encode_utf16 2 self.old src.now dst.old dst.new last result.0 result.1 result.2 self.new }
-        ensures progress { 0 < length src.now → 2 ≤ length dst.old → (0 < result.1) ⊎ IsReport result.0 }
+        ensures call { DecodeStepInto encode_utf16 2 self.old src.now dst.old dst.new last result.0
+            result.1 result.2 self.new }
+        ensures progress { 0 < length src.now → 2 ≤ length dst.old
+            → (0 < result.1) ⊎ IsReport result.0 }
 
         // If `src` has at most `byte_length` bytes and `dst` has the length that `max_utf16_buffer_length(byte_length)`
         // returned, the call doesn't return `OutputFull`. The space left is enough for the rest of the `byte_length`
         // bytes, even after the caller writes U+FFFD.
-        ensures suffices { Suffices max_utf16_length self.old src.now (length dst.old) result.0 result.1 result.2 self.new }
-        ensures suffices_replacing { SufficesReplacing max_utf16_length 1 self.old src.now (length dst.old)
+        ensures suffices { Suffices max_utf16_length self.old src.now
+            (length dst.old) result.0 result.1 result.2 self.new }
+        ensures suffices_replacing { SufficesReplacing max_utf16_length 1 self.old src.now
+            (length dst.old)
             result.0 result.1 result.2 self.new }
     {
         decode::<u16>(&mut self.pending, src, dst, last)
@@ -152,17 +157,22 @@ impl Utf8Decoder {
         dst: &mut [u8],
         last: bool,
     ) -> (DecoderResult, usize, usize)
-        ensures call { DecodeStepInto encode_utf8 4 self.old src.now dst.old dst.new last result.0 result.1 result.2 self.new }
-        ensures progress { 0 < length src.now → 4 ≤ length dst.old → (0 < result.1) ⊎ IsReport result.0 }
+        ensures call { DecodeStepInto encode_utf8 4 self.old src.now dst.old dst.new last result.0
+            result.1 result.2 self.new }
+        ensures progress { 0 < length src.now → 4 ≤ length dst.old
+            → (0 < result.1) ⊎ IsReport result.0 }
 
         // If `src` has at most `byte_length` bytes and `dst` has the length that `max_utf8_buffer_length(byte_length)` or
         // `max_utf8_buffer_length_without_replacement(byte_length)` returned, the call doesn't return `OutputFull`. The
         // space left is enough for the rest of the `byte_length` bytes. If `max_utf8_buffer_length` returned the length,
         // the space left is enough even after the caller writes U+FFFD.
-        ensures suffices { Suffices max_utf8_length self.old src.now (length dst.old) result.0 result.1 result.2 self.new }
-        ensures suffices_between_reports { Suffices max_utf8_length_with_replacement self.old src.now (length dst.old)
+        ensures suffices { Suffices max_utf8_length self.old src.now
+            (length dst.old) result.0 result.1 result.2 self.new }
+        ensures suffices_between_reports { Suffices max_utf8_length_with_replacement self.old
+            src.now (length dst.old)
             result.0 result.1 result.2 self.new }
-        ensures suffices_replacing { SufficesReplacing max_utf8_length_with_replacement 3 self.old src.now (length dst.old)
+        ensures suffices_replacing { SufficesReplacing max_utf8_length_with_replacement 3 self.old
+            src.now (length dst.old)
             result.0 result.1 result.2 self.new }
     {
         decode::<u8>(&mut self.pending, src, dst, last)
@@ -196,7 +206,8 @@ pub(crate) fn decode<U: CodeUnit>(
     dst: &mut [U],
     last: bool,
 ) -> (DecoderResult, usize, usize)
-    ensures { DecodeStepInto U.encode U.need pending.old src.now dst.old dst.new last result.0 result.1 result.2 pending.new }
+    ensures { DecodeStepInto U.encode U.need pending.old src.now dst.old dst.new last result.0
+        result.1 result.2 pending.new }
 {
     if pending.is_empty() {
         decode_neutral(pending, src, dst, last)
@@ -214,7 +225,8 @@ fn decode_neutral<U: CodeUnit>(
     last: bool,
 ) -> (DecoderResult, usize, usize)
     requires neutral { pending.old ≡ [] }
-    ensures { DecodeStepInto U.encode U.need [] src.now dst.old dst.new last result.0 result.1 result.2 pending.new }
+    ensures { DecodeStepInto U.encode U.need [] src.now dst.old dst.new last result.0 result.1
+        result.2 pending.new }
 {
     let (read, written) = U::convert_up_to_invalid(src, dst);
     if read == src.len() {
@@ -236,7 +248,8 @@ fn decode_pending<U: CodeUnit>(
     last: bool,
 ) -> (DecoderResult, usize, usize)
     requires unfinished { IsIncomplete pending.old }
-    ensures { DecodeStepInto U.encode U.need pending.old src.now dst.old dst.new last result.0 result.1 result.2 pending.new }
+    ensures { DecodeStepInto U.encode U.need pending.old src.now dst.old dst.new last result.0
+        result.1 result.2 pending.new }
 {
     if src.is_empty() {
         return (pending.end(last), 0, 0);
@@ -264,7 +277,8 @@ fn decode_pending<U: CodeUnit>(
 fn piece_at_end<'a>(end: DecoderResult) -> Piece<'a>
     requires { end ≢ DecoderResult.OutputFull }
     ensures all_read { end ≡ DecoderResult.InputEmpty → result ≡ Piece.InputEmpty }
-    ensures malformed { (k second : ℕ) → end ≡ DecoderResult.Malformed k second → result ≡ Piece.Malformed k }
+    ensures malformed { (k second : ℕ) → end ≡ DecoderResult.Malformed k second
+        → result ≡ Piece.Malformed k }
 {
     match end {
         DecoderResult::InputEmpty => Piece::InputEmpty,

@@ -57,7 +57,8 @@ pub fn decode_utf16_bytes(order: ByteOrder, src: &[u8], dst: &mut [u16]) -> (usi
 pub fn encode_utf16_bytes(order: ByteOrder, src: &[u16], dst: &mut [u8]) -> (usize, usize)
     ensures count { result.0 ≡ min (length src.now) (length dst.old / 2) }
     ensures written { result.1 ≡ 2 * result.0 }
-    ensures bytes { WritesPrefix dst.old dst.new result.1 (utf16_bytes order (take result.0 src.now)) }
+    ensures bytes { WritesPrefix dst.old dst.new result.1
+        (utf16_bytes order (take result.0 src.now)) }
 {
     let count = src.len().min(dst.len() / 2);
     for i in 0..count {

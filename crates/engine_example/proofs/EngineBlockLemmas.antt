@@ -12,16 +12,26 @@ use Rattle.encoding_runs.specs.Calls.{Call, IsChain, read_in_all, output_of, pen
 use Rattle.engine_example.specs.CutBlocks.{WritesBlock}
 
 -- a call that reads all of a block, as a chain of its own
-pub block_written : ((surrogate src : List ℕ) (calls : List (Call ℕ EncoderResult ℕ)) → IsPendingSurrogate surrogate → AreCodeUnits src → IsChain EncodeStep surrogate src calls
+pub block_written : ((surrogate src : List ℕ) (calls : List (Call ℕ EncoderResult ℕ)) → IsPendingSurrogate surrogate → AreCodeUnits src
+    → IsChain EncodeStep surrogate src calls
     → EncodesFirstParts surrogate src calls (read_in_all calls) (output_of calls) (pending_after surrogate calls))
     → (surrogate block : List ℕ) (room : ℕ) (last : Bool) (read : ℕ) (out after : List ℕ) → AreCodeUnits block
     → EncodeStep surrogate block room last InputEmpty read out after → WritesBlock surrogate block last out after
 block_written law surrogate block room last read out after units call =
     let all : take (length block) block ≡ block = take_all (length block) block (omega arith) in
-    let one : Call ℕ EncoderResult ℕ = record { form = room; piece = length block; last = last; result = InputEmpty; read = read; out = out; pending = after } in
+    let one : Call ℕ EncoderResult ℕ = record {
+      form = room;
+      piece = length block;
+      last = last;
+      result = InputEmpty;
+      read = read;
+      out = out;
+      pending = after;
+    } in
     let chain : IsChain EncodeStep surrogate block (one ∷ []) = (rw all call, (λ e. omega arith), tt) in
     let first = law surrogate block (one ∷ []) call.surrogate_before units chain in
-    let none : after ++ drop (read_in_all (one ∷ [])) block ≡ after = ap (λ xs. after ++ xs) (drop_all _ block (omega (arith, call.answer.1))) ∙ append-nil after in
+    let none : after ++ drop (read_in_all (one ∷ [])) block ≡ after = ap (λ xs. after ++ xs) (drop_all _ block (omega (arith, call.answer.1)))
+    ∙ append-nil after in
     record {
       parts = first.parts;
       written = sym (append-nil out) ∙ first.written;
@@ -42,7 +52,8 @@ module _ (one : (us : List ℕ) (parts others : List Part16) → ArePartsOf16 us
   }
 
   -- what is written for the blocks before, and then for one more
-  pub written_on : (units out surrogate block more_out after new : List ℕ) (last : Bool) → WritesBlock [] units false out surrogate → WritesBlock surrogate block last more_out after → AreCodeUnits block → new ≡ out ++ more_out
+  pub written_on : (units out surrogate block more_out after new : List ℕ) (last : Bool) → WritesBlock [] units false out surrogate
+      → WritesBlock surrogate block last more_out after → AreCodeUnits block → new ≡ out ++ more_out
       → WritesBlock [] (units ++ block) last new after
   written_on units out surrogate block more_out after new last w b us e = record {
     parts = w.parts ++ b.parts;

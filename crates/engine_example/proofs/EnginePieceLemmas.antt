@@ -22,10 +22,12 @@ pub record AreYieldedUpTo (p b : List ℕ) (last : Bool) (out : List ℕ) (read 
   pub yields : Yields p b last parts read q
 
 -- one more call
-pub yielded_on : ((p src : List ℕ) (form : Form) (last : Bool) (answer : CallResult) (read : ℕ) (out q : List ℕ) → MixedDecodeStep p src form last answer read out q
+pub yielded_on : ((p src : List ℕ) (form : Form) (last : Bool) (answer : CallResult) (read : ℕ) (out q : List ℕ)
+    → MixedDecodeStep p src form last answer read out q
     → YieldsFirstParts AreYielded IsInputEmpty p src form last answer read out q)
     → (p b : List ℕ) (last : Bool) (out : List ℕ) (read : ℕ) (q : List ℕ) (returned : Piece) (more : ℕ) (r new : List ℕ) → AreYieldedUpTo p b last out read q
-    → BorrowedDecodeStep q (drop read b) last returned more r → ((parts : List Part) → AreBorrowed returned parts → new ≡ out ++ lossy_utf16 parts) → AreYieldedUpTo p b last new (read + more) r
+    → BorrowedDecodeStep q (drop read b) last returned more r → ((parts : List Part) → AreBorrowed returned parts → new ≡ out ++ lossy_utf16 parts)
+    → AreYieldedUpTo p b last new (read + more) r
 yielded_on one_call p b last out read q returned more r new g call text =
     let yielded = one_call q (drop read b) Borrowed last (Handed returned) more [] r (call, refl) in
     let written = text yielded.parts yielded.yielded in
@@ -35,7 +37,8 @@ yielded_on one_call p b last out read q returned more r new g call text =
       written = cc (lossy-append encode_utf16 g.parts yielded.parts);
       yields = record {
         within = omega (arith, g.yields.within, yielded.prefix.within, length-drop read b);
-        first = subst (λ xs. StartsWith (p ++ b) (g.parts ++ yielded.parts) (r ++ xs)) following (StartsWith-append _ g.parts _ yielded.parts _ g.yields.first yielded.prefix.first);
+        first = subst (λ xs. StartsWith (p ++ b) (g.parts ++ yielded.parts) (r ++ xs)) following
+            (StartsWith-append _ g.parts _ yielded.parts _ g.yields.first yielded.prefix.first);
         pending = yielded.prefix.pending;
         stable = λ f after. subst (λ xs. StartsWith (p ++ b ++ after) (g.parts ++ yielded.parts) (r ++ xs ++ after)) following
             (StartsWith-append _ g.parts _ yielded.parts _ (g.yields.stable f after) (yielded.prefix.stable f after));
@@ -44,17 +47,20 @@ yielded_on one_call p b last out read q returned more r new g call text =
 
 -- ---- all pieces
 -- one more of those taken
-pub flat_map-take : {X : Type 0} (f : X → List ℕ) (xs : List X) (i : ℕ) (d : X) → i < length xs → flat_map f (take i xs) ++ f (get_or xs i d) ≡ flat_map f (take (i + 1) xs)
+pub flat_map-take : {X : Type 0} (f : X → List ℕ) (xs : List X) (i : ℕ) (d : X) → i < length xs
+    → flat_map f (take i xs) ++ f (get_or xs i d) ≡ flat_map f (take (i + 1) xs)
 flat_map-take f xs i d h = flat_map_more f [] (take i xs) (get_or xs i d) ∙ sym (ap (flat_map f) (take_more xs i d h))
 
 -- what is written for the pieces before, and then for one more
-pub taken_on : (bytes out q piece block r : List ℕ) (last : Bool) → WritesPiece [] bytes false out q → WritesPiece q piece last block r → WritesPiece [] (bytes ++ piece) last (out ++ block) r
+pub taken_on : (bytes out q piece block r : List ℕ) (last : Bool) → WritesPiece [] bytes false out q → WritesPiece q piece last block r
+    → WritesPiece [] (bytes ++ piece) last (out ++ block) r
 taken_on bytes out q piece block r last t w = record {
   parts = t.parts ++ w.parts;
   written = cc (lossy-append encode_utf16 t.parts w.parts);
   all = λ e. StartsWith-append _ t.parts _ w.parts [] (t.stable refl piece) (w.all e);
   stable = λ e more. subst (λ xs. StartsWith xs (t.parts ++ w.parts) (r ++ more)) (sym (append_assoc bytes piece more))
-      (StartsWith-append _ t.parts _ w.parts _ (subst (StartsWith (bytes ++ (piece ++ more)) t.parts) (sym (append_assoc q piece more)) (t.stable refl (piece ++ more)))
+      (StartsWith-append _ t.parts _ w.parts _ (subst (StartsWith (bytes ++ (piece ++ more)) t.parts) (sym (append_assoc q piece more))
+      (t.stable refl (piece ++ more)))
       (w.stable e more));
 }
 

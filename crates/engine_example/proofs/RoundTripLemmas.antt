@@ -19,12 +19,14 @@ scalars_are : (cs : List ℕ) → map scalar_of_part16 (map Character16 cs) ≡ 
 scalars_are [] = refl
 scalars_are (c ∷ cs) = ap (λ xs. c ∷ xs) (scalars_are cs)
 
-pub lossy_is : ((old new : List ℕ) (parts : List Part16) → AreRepairedUnits old new → ArePartsOf16 new parts → map scalar_of_part16 parts ≡ utf16_lossy_chars old)
+pub lossy_is : ((old new : List ℕ) (parts : List Part16) → AreRepairedUnits old new → ArePartsOf16 new parts
+    → map scalar_of_part16 parts ≡ utf16_lossy_chars old)
     → (old new : List ℕ) → AreRepairedUnits old new → (v : IsValidUtf16 new) → v.0 ≡ utf16_lossy_chars old
 lossy_is law old new r v = sym (scalars_are v.0) ∙ law old new (map Character16 v.0) r v.1
 
 -- if parts have the same scalar values, the same is written for them
-pub written_same : (us vs out : List ℕ) (parts : List Part16) → ArePartsOf16 vs parts → (w : IsUtf8OfUnits us out) → map scalar_of_part16 w.parts ≡ map scalar_of_part16 parts → IsUtf8OfUnits vs out
+pub written_same : (us vs out : List ℕ) (parts : List Part16) → ArePartsOf16 vs parts → (w : IsUtf8OfUnits us out)
+    → map scalar_of_part16 w.parts ≡ map scalar_of_part16 parts → IsUtf8OfUnits vs out
 written_same us vs out parts are w e = record {
   parts = parts;
   are_parts = are;
@@ -36,12 +38,14 @@ repaired_scalars bs [] rest s = refl
 repaired_scalars bs (Character c ∷ parts) rest (after, first, s) = and_from (scalar c) _ first.0 (repaired_scalars after parts rest s)
 repaired_scalars bs (IllFormed x ∷ parts) rest (after, first, s) = and_from (scalar 0xFFFD) _ refl (repaired_scalars after parts rest s)
 
-pub text_repaired : ((cs : List ℕ) (parts : List Part16) → IsTrue (all_scalars cs) → ArePartsOf16 (flat_map encode_utf16 cs) parts → map scalar_of_part16 parts ≡ cs)
+pub text_repaired : ((cs : List ℕ) (parts : List Part16) → IsTrue (all_scalars cs) → ArePartsOf16 (flat_map encode_utf16 cs) parts
+    → map scalar_of_part16 parts ≡ cs)
     → (bs units out : List ℕ) (parts : List Part) → ArePartsOf bs parts → units ≡ lossy_utf16 parts → IsUtf8OfUnits units out → out ≡ lossy_utf8 parts
 text_repaired law bs units out parts are e w =
     let cs = map lossy_scalar parts in
     let units_are : units ≡ flat_map encode_utf16 cs = e ∙ sym (flat_map-map encode_utf16 lossy_scalar parts) in
-    let scalars : map scalar_of_part16 w.parts ≡ cs = law cs w.parts (repaired_scalars bs parts [] are) (subst (λ xs. ArePartsOf16 xs w.parts) units_are w.are_parts) in
+    let scalars : map scalar_of_part16 w.parts ≡ cs =
+    law cs w.parts (repaired_scalars bs parts [] are) (subst (λ xs. ArePartsOf16 xs w.parts) units_are w.are_parts) in
     w.written ∙ sym (flat_map-map encode_utf8 scalar_of_part16 w.parts) ∙ ap (flat_map encode_utf8) scalars ∙ flat_map-map encode_utf8 lossy_scalar parts
 
 -- well-formed bytes have their characters as parts

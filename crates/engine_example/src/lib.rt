@@ -48,7 +48,8 @@ fn append_block(
 /// Returns the UTF-8 of all blocks in sequence, with U+FFFD for each unpaired surrogate. An `Err` means that an
 /// allocation failed.
 pub fn utf8_of_blocks(alloc: Global, blocks: &[Vec<u16>]) -> Result<Vec<u8>, AllocError>
-    ensures { IfOk result (λ bytes. IsUtf8OfUnits (flat_map (λ block. block.items) blocks.now) bytes.items) }
+    ensures { IfOk result
+        (λ bytes. IsUtf8OfUnits (flat_map (λ block. block.items) blocks.now) bytes.items) }
 {
     law_utf16_round_trip();
     let mut encoder = Utf8Encoder::new_inner();
@@ -62,7 +63,8 @@ pub fn utf8_of_blocks(alloc: Global, blocks: &[Vec<u16>]) -> Result<Vec<u8>, All
 
 /// Appends a text in UTF-16. An `Err` means that an allocation failed.
 fn append_text(block: &mut Vec<u16>, text: &str) -> Result<(), AllocError>
-    ensures { OnOk result (block.new.items ≡ block.old.items ++ flat_map encode_utf16 (chars text.now)) }
+    ensures { OnOk result
+        (block.new.items ≡ block.old.items ++ flat_map encode_utf16 (chars text.now)) }
 {
     let at = block.len();
     block.resize(at.checked_add(text.len()).ok_or(AllocError)?, 0)?;
@@ -96,7 +98,8 @@ fn block_of_piece(
     piece: &[u8],
     last: bool,
 ) -> Result<Vec<u16>, AllocError>
-    ensures { IfOk result (λ block. WritesPiece decoder.old piece.now last block.items decoder.new) }
+    ensures { IfOk result
+        (λ block. WritesPiece decoder.old piece.now last block.items decoder.new) }
 {
     law_mixed_calls();
     // Before the first call this is all that says that no bytes, or an incomplete sequence, are pending.
@@ -133,8 +136,10 @@ pub fn blocks_of_utf8(alloc: Global, pieces: &[&[u8]]) -> Result<Vec<Vec<u16>>, 
 /// Converting to UTF-16 and back to UTF-8 yields the repaired text of the bytes, which is the bytes themselves if they
 /// are well-formed.
 pub fn law_there_and_back()
-    ensures repaired { (bs units out : List ℕ) → IsRepairedUtf16 bs units → IsUtf8OfUnits units out → IsLossyDecodeOf bs out }
-    ensures stays { (bs units out : List ℕ) → IsUtf8 bs → IsRepairedUtf16 bs units → IsUtf8OfUnits units out → out ≡ bs }
+    ensures repaired { (bs units out : List ℕ) → IsRepairedUtf16 bs units → IsUtf8OfUnits units out
+        → IsLossyDecodeOf bs out }
+    ensures stays { (bs units out : List ℕ) → IsUtf8 bs → IsRepairedUtf16 bs units
+        → IsUtf8OfUnits units out → out ≡ bs }
 {
     law_parts();
     law_utf16_round_trip();

@@ -61,10 +61,13 @@ pub fn utf8_by_turns(alloc: Global, units: &[u16]) -> Result<Vec<u8>, AllocError
 /// If turns are enough for all of the code units, the last call returns `InputEmpty`. The bytes are those of any other
 /// such turns, however these cut the code units and the destination.
 pub fn law_turns()
-    ensures ends { (units : List ℕ) (turns : List Turn) (room : ℕ) (calls : List (Call ℕ EncoderResult ℕ))
-        → AreEnough units turns room calls → last_or None (map (λ call. call.result) calls) ≡ Some InputEmpty }
+    ensures ends { (units : List ℕ) (turns : List Turn) (room : ℕ)
+        (calls : List (Call ℕ EncoderResult ℕ))
+        → AreEnough units turns room calls
+        → last_or None (map (λ call. call.result) calls) ≡ Some InputEmpty }
     ensures same { (units : List ℕ) (turns others : List Turn) (room more : ℕ)
-        (calls again : List (Call ℕ EncoderResult ℕ)) → AreCodeUnits units → AreEnough units turns room calls
+        (calls again : List (Call ℕ EncoderResult ℕ)) → AreCodeUnits units
+        → AreEnough units turns room calls
         → AreEnough units others more again → output_of calls ≡ output_of again }
 {
     law_encoder_cuts();

@@ -25,7 +25,8 @@ const DST_LENGTH: usize = 64;
 /// Returns whether the code units are the UTF-16 of a text. If so, `String::from_utf16` returns that text, and
 /// otherwise an error.
 pub fn is_text(units: &[u16]) -> bool
-    ensures text { IsTrue result ↔ ((cs : List ℕ) × IsTrue (all_scalars cs) × (units.now ≡ flat_map encode_utf16 cs)) }
+    ensures text { IsTrue result ↔ ((cs : List ℕ) × IsTrue (all_scalars cs)
+        × (units.now ≡ flat_map encode_utf16 cs)) }
     ensures paired { IsTrue result ↔ (has_unpaired_surrogate units.now ≡ false) }
 {
     law_surrogate_repair();

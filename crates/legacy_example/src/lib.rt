@@ -48,7 +48,8 @@ fn latin1_length(bytes: &[u8]) -> usize
 /// Nothing is lost: bytes whose characters have the same UTF-8 are the same bytes.
 pub fn law_nothing_is_lost()
     ensures { (bytes others : List ℕ) → AreBytes bytes → AreBytes others
-        → encode_utf8_all (map scalar_of bytes) ≡ encode_utf8_all (map scalar_of others) → bytes ≡ others }
+        → encode_utf8_all (map scalar_of bytes) ≡ encode_utf8_all (map scalar_of others)
+        → bytes ≡ others }
 {
     law_sequences();
 }
@@ -57,7 +58,8 @@ pub fn law_nothing_is_lost()
 /// `dst` is unchanged.
 pub fn windows_1252_to_utf16(src: &[u8], dst: &mut [u16])
     requires dst_length { length src.now ≤ length dst.old }
-    ensures written { WritesPrefix dst.old dst.new (length src.now) (flat_map encode_utf16 (map scalar_of src.now)) }
+    ensures written { WritesPrefix dst.old dst.new (length src.now)
+        (flat_map encode_utf16 (map scalar_of src.now)) }
 {
     let mut at = copy_ascii_to_basic_latin(src, dst);
     loop {
@@ -76,7 +78,8 @@ pub fn windows_1252_to_utf16(src: &[u8], dst: &mut [u16])
 /// bytes for each byte of `src`. The rest of `dst` is unchanged.
 pub fn windows_1252_to_utf8(src: &[u8], dst: &mut [u8]) -> usize
     requires dst_length { 3 * length src.now ≤ length dst.old }
-    ensures written { WritesPrefix dst.old dst.new result (encode_utf8_all (map scalar_of src.now)) }
+    ensures written { WritesPrefix dst.old dst.new result
+        (encode_utf8_all (map scalar_of src.now)) }
 {
     law_utf16_round_trip();
     let mut read = copy_ascii_to_ascii(src, dst);

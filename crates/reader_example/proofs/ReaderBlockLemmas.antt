@@ -28,7 +28,8 @@ some_length (b ∷ bs) some = omega arith
 pub written_prefix : (dst dst' : List ℕ) (written : ℕ) (out : List ℕ) → WritesPrefix dst dst' written out → take written dst' ≡ out
 written_prefix dst dst' written out writes = ap (take written) writes.placed ∙ take_at out _ written (sym writes.count)
 
-module _ (p block : List ℕ) (room : ℕ) (last : Bool) (result : RepairedBlock) (read : ℕ) (out q : List ℕ) (repair : IsBlockRepair p block room last result read out q) where
+module _ (p block : List ℕ) (room : ℕ) (last : Bool) (result : RepairedBlock) (read : ℕ) (out q : List ℕ)
+    (repair : IsBlockRepair p block room last result read out q) where
   pub whole_characters : ((bs rest : List ℕ) (parts : List Part) → StartsWith bs parts rest → IsUtf8 (lossy_utf8 parts)) → IsUtf8 out
   whole_characters repaired_utf8 = subst IsUtf8 (sym repair.text) (repaired_utf8 _ _ repair.parts repair.yielded.first)
 
@@ -45,13 +46,17 @@ module _ (p block : List ℕ) (room : ℕ) (last : Bool) (result : RepairedBlock
       let short = pending_length q repair.yielded.pending in
       (omega (arith, ap length same, length-append p block, length-append q (drop read block), length-drop read block, all, some), short)
 
-  module _ (exist : (bs : List ℕ) → (parts : List Part) × ArePartsOf bs parts) (lossy : (bs : List ℕ) (parts : List Part) → ArePartsOf bs parts → lossy_utf8 parts ≡ utf8_lossy bs)
-      (known : Option (List ℕ)) (held rest : List ℕ) (nothing : held ≡ []) (left : rest ≡ drop read block) (end : last ≡ true → (block ≡ []) × IsAtEnd known) where
+  module _ (exist : (bs : List ℕ) → (parts : List Part) × ArePartsOf bs parts) (lossy : (bs : List ℕ) (parts : List Part) → ArePartsOf bs parts
+      → lossy_utf8 parts ≡ utf8_lossy bs)
+      (known : Option (List ℕ)) (held rest : List ℕ) (nothing : held ≡ []) (left : rest ≡ drop read block) (end : last ≡ true
+      → (block ≡ []) × IsAtEnd known) where
     pub repaired : Consumes (text_from held p block known) (text_from held q rest known) out
     repaired =
         let whole = take_all (length block) block (omega arith) in
-        let yielded : Yields p (take (length block) block) last repair.parts read q = subst (λ bs. Yields p bs last repair.parts read q) (sym whole) repair.yielded in
-        rw (nothing, left) (Consumes-yielded exist lossy known p block (length block) last repair.parts read q out yielded (λ marked. (drop_all (length block) block (omega arith), (end marked).1)) repair.text)
+        let yielded : Yields p (take (length block) block) last repair.parts read q =
+        subst (λ bs. Yields p bs last repair.parts read q) (sym whole) repair.yielded in
+        rw (nothing, left) (Consumes-yielded exist lossy known p block (length block) last repair.parts read q out yielded
+        (λ marked. (drop_all (length block) block (omega arith), (end marked).1)) repair.text)
 
     -- the last one writes nothing only if no text is left
     pub repaired_all : last ≡ true → 7 ≤ room → length out ≡ 0 → IsAtEnd (text_from held q rest known)
@@ -67,7 +72,8 @@ Ends call = (call.last ≡ true) × (call.result.finished ≡ true)
 -- Calls on what is unread, after the calls made so far, are calls over the whole stream, with no more parts replaced.
 abbrev GoesOn : List ℕ → List ℕ → List ℕ → Type 0
 GoesOn bytes p unread = IsPending p × ((others : List (Call ℕ RepairedBlock ℕ)) → IsChain IsBlockRepair p unread others
-    → (all : List (Call ℕ RepairedBlock ℕ)) × IsChain IsBlockRepair [] bytes all × (replaced_in_all all ≡ replaced_in_all others) × (Any Ends others → Any Ends all))
+    → (all : List (Call ℕ RepairedBlock ℕ)) × IsChain IsBlockRepair [] bytes all × (replaced_in_all all ≡ replaced_in_all others)
+    × (Any Ends others → Any Ends all))
 
 -- the same of the known bytes of a reader, from its start and from here
 abbrev pub NoneMalformed : Option (List ℕ) → List ℕ → Option (List ℕ) → Type 0
@@ -86,13 +92,16 @@ no_malformed_text (Character c ∷ parts) none = ap (λ bs. encode_utf8 c ++ bs)
 no_malformed_text (IllFormed bytes ∷ parts) none = absurd (omega (arith, none))
 
 -- ---- the next block
-module _ (p block : List ℕ) (room : ℕ) (last : Bool) (result : RepairedBlock) (read : ℕ) (out q : List ℕ) (repair : IsBlockRepair p block room last result read out q) where
+module _ (p block : List ℕ) (room : ℕ) (last : Bool) (result : RepairedBlock) (read : ℕ) (out q : List ℕ)
+    (repair : IsBlockRepair p block room last result read out q) where
   abbrev call : Call ℕ RepairedBlock ℕ
   call = record { form = room; piece = length block; last = last; result = result; read = read; out = out; pending = q }
 
   -- a call on it, and then others
-  then_others : (bytes rest : List ℕ) → GoesOn bytes p (block ++ rest) → (last ≡ true → rest ≡ []) → (others : List (Call ℕ RepairedBlock ℕ)) → IsChain IsBlockRepair q (drop read (block ++ rest)) others
-      → (all : List (Call ℕ RepairedBlock ℕ)) × IsChain IsBlockRepair [] bytes all × (replaced_in_all all ≡ replaced_in_all (call ∷ others)) × (Any Ends (call ∷ others) → Any Ends all)
+  then_others : (bytes rest : List ℕ) → GoesOn bytes p (block ++ rest) → (last ≡ true → rest ≡ []) → (others : List (Call ℕ RepairedBlock ℕ))
+      → IsChain IsBlockRepair q (drop read (block ++ rest)) others
+      → (all : List (Call ℕ RepairedBlock ℕ)) × IsChain IsBlockRepair [] bytes all × (replaced_in_all all ≡ replaced_in_all (call ∷ others))
+      × (Any Ends (call ∷ others) → Any Ends all)
   then_others bytes rest (pending, on) end others chain = on (call ∷ others) (
     subst (λ bs. IsBlockRepair p bs room last result read out q) (sym (take_at block rest (length block) refl)) repair,
     λ marked. omega (arith, length-append block rest, ap length (end marked)),
@@ -119,7 +128,8 @@ module _ (p block : List ℕ) (room : ℕ) (last : Bool) (result : RepairedBlock
             length-append (flat_map bytes_of repair.parts) (q ++ drop read block),
           ))
 
-  pub next : (known before after : Option (List ℕ)) → NoneMalformed known p before → Consumes before after block → last ≡ false → result.replaced ≤ 0 → length block ≤ 1024 → 1034 ≤ room → NoneMalformed known q after
+  pub next : (known before after : Option (List ℕ)) → NoneMalformed known p before → Consumes before after block → last ≡ false → result.replaced ≤ 0
+      → length block ≤ 1024 → 1034 ≤ room → NoneMalformed known q after
   next None before after on read_here unmarked none short enough = tt
   next (Some bytes) None after on read_here unmarked none short enough = absurd on
   next (Some bytes) (Some unread) None on read_here unmarked none short enough = absurd read_here
@@ -129,14 +139,19 @@ module _ (p block : List ℕ) (room : ℕ) (last : Bool) (result : RepairedBlock
       let left : drop read (block ++ rest) ≡ rest = drop_at block rest read (sym all) in (
         repair.yielded.pending,
         λ others chain.
-            let (calls, are, count, ends) = then_others bytes rest here (λ marked. absurd (both_ways _ unmarked marked)) others (subst (λ bs. IsChain IsBlockRepair q bs others) (sym left) chain) in
+            let (calls, are, count, ends) =
+            then_others bytes rest here (λ marked. absurd (both_ways _ unmarked marked)) others
+            (subst (λ bs. IsChain IsBlockRepair q bs others) (sym left) chain) in
             (calls, are, omega (arith, count, none), λ some. ends (Any-there Ends call others some)),
       )
 
   -- a malformed sequence is in all the bytes
-  pub some_malformed : ((p b : List ℕ) (calls : List (Call ℕ RepairedBlock ℕ)) → (calls ≡ [] → IsPending p) → IsChain IsBlockRepair p b calls → RepairTheParts p b calls)
-      → ((bs : List ℕ) → (parts : List Part) × ArePartsOf bs parts) → ((bs : List ℕ) (parts : List Part) → ArePartsOf bs parts → IsUtf8 bs ↔ (malformed_count parts ≡ 0))
-      → (known before after : Option (List ℕ)) → NoneMalformed known p before → Consumes before after block → (last ≡ true → IsAtEnd after) → 0 < result.replaced → IfSome known (λ bytes. IsTrue false ↔ IsUtf8 bytes)
+  pub some_malformed : ((p b : List ℕ) (calls : List (Call ℕ RepairedBlock ℕ)) → (calls ≡ [] → IsPending p) → IsChain IsBlockRepair p b calls
+      → RepairTheParts p b calls)
+      → ((bs : List ℕ) → (parts : List Part) × ArePartsOf bs parts)
+      → ((bs : List ℕ) (parts : List Part) → ArePartsOf bs parts → IsUtf8 bs ↔ (malformed_count parts ≡ 0))
+      → (known before after : Option (List ℕ)) → NoneMalformed known p before → Consumes before after block → (last ≡ true → IsAtEnd after)
+      → 0 < result.replaced → IfSome known (λ bytes. IsTrue false ↔ IsUtf8 bytes)
   some_malformed prefix exist no_malformed None before after on read_here end some = tt
   some_malformed prefix exist no_malformed (Some bytes) None after on read_here end some = absurd on
   some_malformed prefix exist no_malformed (Some bytes) (Some unread) None on read_here end some = absurd read_here
@@ -146,13 +161,16 @@ module _ (p block : List ℕ) (room : ℕ) (last : Bool) (result : RepairedBlock
       let (others, are) = exist _ in
       let whole : ArePartsOf bytes (first.parts ++ others) = StartsWith-append bytes first.parts _ others [] first.prefix.first are in (
         (λ e. absurd (both_ways _ refl e)),
-        λ well. absurd (omega (arith, some, count, first.replaced, malformed_count-append first.parts others, (no_malformed bytes (first.parts ++ others) whole).0 well)),
+        λ well. absurd
+            (omega (arith, some, count, first.replaced, malformed_count-append first.parts others, (no_malformed bytes (first.parts ++ others) whole).0 well)),
       )
 
   -- and none is if all is read
-  pub all_whole : ((b : List ℕ) (calls : List (Call ℕ RepairedBlock ℕ)) → IsChain IsBlockRepair [] b calls → Any Ends calls → IsLossyDecodeWith b (output_of calls) (replaced_in_all calls))
+  pub all_whole : ((b : List ℕ) (calls : List (Call ℕ RepairedBlock ℕ)) → IsChain IsBlockRepair [] b calls → Any Ends calls
+      → IsLossyDecodeWith b (output_of calls) (replaced_in_all calls))
       → ((bs : List ℕ) (parts : List Part) → ArePartsOf bs parts → IsUtf8 bs ↔ (malformed_count parts ≡ 0))
-      → (known before after : Option (List ℕ)) → NoneMalformed known p before → Consumes before after block → last ≡ true → IsAtEnd after → result.replaced ≤ 0 → length block ≤ 1024 → 1034 ≤ room → IfSome known (λ bytes. IsTrue true ↔ IsUtf8 bytes)
+      → (known before after : Option (List ℕ)) → NoneMalformed known p before → Consumes before after block → last ≡ true → IsAtEnd after → result.replaced ≤ 0
+      → length block ≤ 1024 → 1034 ≤ room → IfSome known (λ bytes. IsTrue true ↔ IsUtf8 bytes)
   all_whole whole no_malformed None before after on read_here marked end none short enough = tt
   all_whole whole no_malformed (Some bytes) None after on read_here marked end none short enough = absurd on
   all_whole whole no_malformed (Some bytes) (Some unread) None on read_here marked end none short enough = absurd read_here

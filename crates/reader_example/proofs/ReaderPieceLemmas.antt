@@ -18,7 +18,8 @@ use Rattle.encoding_runs.specs.Calls.{YieldsFirstParts}
 use Rattle.encoding_runs.specs.MixedCalls.{Form, Borrowed, CallResult, Handed, MixedDecodeStep, AreYielded, IsInputEmpty}
 
 -- without its first units
-pub consumed : {A : Type 0} (units : List A) (begin end count : ℕ) → begin + count ≤ end → slice_range units (begin + count) end ≡ drop count (slice_range units begin end)
+pub consumed : {A : Type 0} (units : List A) (begin end count : ℕ) → begin + count ≤ end
+    → slice_range units (begin + count) end ≡ drop count (slice_range units begin end)
 consumed units begin end count inside =
     let parts : end - begin ≡ count + (end - (begin + count)) = omega arith in
     sym (ap (λ n. drop count (take n (drop begin units))) parts ∙ drop-take count (end - (begin + count)) (drop begin units)
@@ -29,20 +30,24 @@ module _ (IsText IsCharacter : List ℕ → Type 0) (empty : IsText []) (text : 
   character_text [] one = empty
   character_text (u ∷ us) one = text (u ∷ us) (one (λ none. omega (arith, ap length none)))
 
-  module _ (held new dst : List ℕ) (room count : ℕ) (units : held ≡ take count dst ++ new) (moved : count ≡ min room (length held)) (size : length dst ≡ room) where
+  module _ (held new dst : List ℕ) (room count : ℕ) (units : held ≡ take count dst ++ new) (moved : count ≡ min room (length held))
+      (size : length dst ≡ room) where
     filled : new ≢ [] → length (take count dst) ≡ room
     filled some = omega (arith, some_length new some, ap length units, length-append (take count dst) new, length-take count dst, moved, size)
 
     -- from what was kept before, or else from a character that was decoded
-    pub yields_held : (old : List ℕ) → (old ≢ [] → old ≡ held) → (old ≡ [] → held ≢ [] → IsCharacter held) → YieldsCharacters IsText IsCharacter old room (take count dst) new
+    pub yields_held : (old : List ℕ) → (old ≢ [] → old ≡ held) → (old ≡ [] → held ≢ [] → IsCharacter held)
+        → YieldsCharacters IsText IsCharacter old room (take count dst) new
     yields_held old same one = record {
       rest = λ some. sym units ∙ sym (same some);
       whole = λ none. subst IsText units (character_text held (one none));
-      one = λ none some. subst IsCharacter units (one none (λ nothing. omega (arith, some_length new some, ap length nothing, ap length units, length-append (take count dst) new)));
+      one = λ none some. subst IsCharacter units
+          (one none (λ nothing. omega (arith, some_length new some, ap length nothing, ap length units, length-append (take count dst) new)));
       full = filled;
     }
 
-text_of_parts : (p src : List ℕ) (last : Bool) (piece : Piece) (read : ℕ) (q : List ℕ) (parts : List Part) → BorrowedDecodeStep p src last piece read q → AreBorrowed piece parts → text_for piece ≡ lossy_utf8 parts
+text_of_parts : (p src : List ℕ) (last : Bool) (piece : Piece) (read : ℕ) (q : List ℕ) (parts : List Part) → BorrowedDecodeStep p src last piece read q
+    → AreBorrowed piece parts → text_for piece ≡ lossy_utf8 parts
 text_of_parts p src last (Text text) read q parts call are =
     let (neutral, none, some, bytes, prefix) = call.answer in
     sym (ap lossy_utf8 are ∙ lossy_utf8-characters (chars text.now) ∙ encodes-chars text.now (subst IsUtf8 (sym bytes) prefix.kind))
@@ -51,7 +56,8 @@ text_of_parts p src last (Malformed k) read q parts call (x, are, size) = sym (a
 text_of_parts p src last InputEmpty read q parts call are = sym (ap lossy_utf8 are)
 
 -- the text is that of the parts that the call yields
-pub text_yielded : ((p src : List ℕ) (form : Form) (last : Bool) (answer : CallResult) (read : ℕ) (out q : List ℕ) → MixedDecodeStep p src form last answer read out q
+pub text_yielded : ((p src : List ℕ) (form : Form) (last : Bool) (answer : CallResult) (read : ℕ) (out q : List ℕ)
+    → MixedDecodeStep p src form last answer read out q
     → YieldsFirstParts AreYielded IsInputEmpty p src form last answer read out q)
     → (p src : List ℕ) (last : Bool) (piece : Piece) (read : ℕ) (q : List ℕ) → BorrowedDecodeStep p src last piece read q
     → (parts : List Part) × Yields p src last parts read q × (text_for piece ≡ lossy_utf8 parts)
@@ -60,7 +66,8 @@ text_yielded one_call p src last piece read q made =
     (first.parts, first.prefix, text_of_parts p src last piece read q first.parts made first.yielded)
 
 -- if it is none, all was read
-pub none_yielded : (p src : List ℕ) (last : Bool) (piece : Piece) (read : ℕ) (q : List ℕ) → BorrowedDecodeStep p src last piece read q → text_for piece ≡ [] → (read ≡ length src) × (q ≡ p ++ src) × (last ≡ true → q ≡ [])
+pub none_yielded : (p src : List ℕ) (last : Bool) (piece : Piece) (read : ℕ) (q : List ℕ) → BorrowedDecodeStep p src last piece read q → text_for piece ≡ []
+    → (read ≡ length src) × (q ≡ p ++ src) × (last ≡ true → q ≡ [])
 none_yielded p src last (Text text) read q call none =
     let (neutral, empty, some, bytes, prefix) = call.answer in
     absurd (omega (arith, ap length none, ap length bytes, length-take read src, prefix.within, some))
@@ -68,7 +75,8 @@ none_yielded p src last (Char c) read q call none = absurd (omega (arith, ap len
 none_yielded p src last (Malformed k) read q call none = absurd (omega (arith, ap length none, length-encode 0xFFFD, len_utf8_bounds 0xFFFD))
 none_yielded p src last InputEmpty read q call none = call.answer
 
-pub short_text : (p src : List ℕ) (last : Bool) (piece : Piece) (read : ℕ) (q : List ℕ) → BorrowedDecodeStep p src last piece read q → length src ≤ 1 → length (text_for piece) ≤ 4
+pub short_text : (p src : List ℕ) (last : Bool) (piece : Piece) (read : ℕ) (q : List ℕ) → BorrowedDecodeStep p src last piece read q → length src ≤ 1
+    → length (text_for piece) ≤ 4
 short_text p src last (Text text) read q call short =
     let (neutral, empty, some, bytes, prefix) = call.answer in
     omega (arith, ap length bytes, length-take read src, prefix.within, short)
@@ -81,15 +89,28 @@ module _ (each : (c : ℕ) → IsScalar c → IsSequence (encode_utf8 c)) where
   one_character [] scalars some short = absurd (some refl)
   one_character (c ∷ []) scalars some short = subst IsSequence (sym (append-nil (encode_utf8 c))) (each c (and_parts _ _ scalars).0)
   one_character (c ∷ d ∷ cs) scalars some short =
-      absurd (omega (arith, short, length-append (encode_utf8 c) (encode_utf8 d ++ encode_utf8_all cs), length-append (encode_utf8 d) (encode_utf8_all cs), length-encode c, len_utf8_bounds c, length-encode d, len_utf8_bounds d))
+      absurd
+      (omega (
+        arith,
+        short,
+        length-append (encode_utf8 c) (encode_utf8 d ++ encode_utf8_all cs),
+        length-append (encode_utf8 d)
+            (encode_utf8_all cs),
+        length-encode c,
+        len_utf8_bounds c,
+        length-encode d,
+        len_utf8_bounds d,
+      ))
 
   -- otherwise it is one character
-  pub one_yielded : (p src : List ℕ) (last : Bool) (piece : Piece) (read : ℕ) (q : List ℕ) → BorrowedDecodeStep p src last piece read q → length src ≤ 1 → text_for piece ≢ [] → IsSequence (text_for piece)
+  pub one_yielded : (p src : List ℕ) (last : Bool) (piece : Piece) (read : ℕ) (q : List ℕ) → BorrowedDecodeStep p src last piece read q → length src ≤ 1
+      → text_for piece ≢ [] → IsSequence (text_for piece)
   one_yielded p src last (Text text) read q call short some =
       let (neutral, empty, positive, bytes, prefix) = call.answer in
       let (cs, (scalars, spelled)) = prefix.kind in
       let whole = spelled ∙ sym bytes in
-      subst IsSequence whole (one_character cs scalars (λ none. some (sym whole ∙ none)) (omega (arith, ap length spelled, length-take read src, prefix.within, short)))
+      subst IsSequence whole
+      (one_character cs scalars (λ none. some (sym whole ∙ none)) (omega (arith, ap length spelled, length-take read src, prefix.within, short)))
   one_yielded p src last (Char c) read q call short some =
       let (pending, empty, within, scalar, spelled) = call.answer in
       each c scalar

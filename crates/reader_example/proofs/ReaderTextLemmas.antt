@@ -39,7 +39,8 @@ no_text (part ∷ parts) e =
     let c = lossy_scalar part in
     absurd (omega (arith, ap length e, length-append (encode_utf8 c) (lossy_utf8 parts), length-encode c, len_utf8_bounds c))
 
-module _ (exist : (bs : List ℕ) → (parts : List Part) × ArePartsOf bs parts) (lossy : (bs : List ℕ) (parts : List Part) → ArePartsOf bs parts → lossy_utf8 parts ≡ utf8_lossy bs) where
+module _ (exist : (bs : List ℕ) → (parts : List Part) × ArePartsOf bs parts) (lossy : (bs : List ℕ) (parts : List Part) → ArePartsOf bs parts
+    → lossy_utf8 parts ≡ utf8_lossy bs) where
   pub lossy-nil : utf8_lossy [] ≡ []
   lossy-nil = sym (lossy [] [] refl)
 
@@ -47,10 +48,12 @@ module _ (exist : (bs : List ℕ) → (parts : List Part) × ArePartsOf bs parts
   lossy-following : (bs : List ℕ) (parts : List Part) (rest : List ℕ) → StartsWith bs parts rest → utf8_lossy bs ≡ lossy_utf8 parts ++ utf8_lossy rest
   lossy-following bs parts rest first =
       let (others, are) = exist rest in
-      sym (lossy bs (parts ++ others) (StartsWith-append bs parts rest others [] first are)) ∙ lossy_utf8-append parts others ∙ ap (λ text. lossy_utf8 parts ++ text) (lossy rest others are)
+      sym (lossy bs (parts ++ others) (StartsWith-append bs parts rest others [] first are)) ∙ lossy_utf8-append parts others
+      ∙ ap (λ text. lossy_utf8 parts ++ text) (lossy rest others are)
 
   -- of a call on the first bytes of a block, which may be the last
-  yielded_text : (p block : List ℕ) (count : ℕ) (last : Bool) (parts : List Part) (read : ℕ) (q more : List ℕ) → Yields p (take count block) last parts read q → (last ≡ true → drop count block ++ more ≡ [])
+  yielded_text : (p block : List ℕ) (count : ℕ) (last : Bool) (parts : List Part) (read : ℕ) (q more : List ℕ) → Yields p (take count block) last parts read q
+      → (last ≡ true → drop count block ++ more ≡ [])
       → utf8_lossy (p ++ (block ++ more)) ≡ lossy_utf8 parts ++ utf8_lossy (q ++ (drop read block ++ more))
   yielded_text p block count last parts read q more yielded end =
       let prefix = take count block in
@@ -59,20 +62,27 @@ module _ (exist : (bs : List ℕ) → (parts : List Part) × ArePartsOf bs parts
       let before : prefix ++ (back ++ more) ≡ block ++ more = sym (append_assoc prefix back more) ∙ ap (λ bs. bs ++ more) whole in
       let after : drop read prefix ++ (back ++ more) ≡ drop read block ++ more =
       sym (append_assoc (drop read prefix) back more) ∙ ap (λ bs. bs ++ more) (sym (drop-append-le read prefix back yielded.within) ∙ ap (drop read) whole) in
-      ap (λ bs. utf8_lossy (p ++ bs)) (sym before) ∙ lossy-following _ parts _ (first_parts p prefix last parts read q (back ++ more) yielded end) ∙ ap (λ bs. lossy_utf8 parts ++ utf8_lossy (q ++ bs)) after
+      ap (λ bs. utf8_lossy (p ++ bs)) (sym before) ∙ lossy-following _ parts _ (first_parts p prefix last parts read q (back ++ more) yielded end)
+      ∙ ap (λ bs. lossy_utf8 parts ++ utf8_lossy (q ++ bs)) after
 
   -- what a call yields is taken from the text that is left
-  pub Consumes-yielded : (known : Option (List ℕ)) (p block : List ℕ) (count : ℕ) (last : Bool) (parts : List Part) (read : ℕ) (q out : List ℕ) → Yields p (take count block) last parts read q
-      → (last ≡ true → (drop count block ≡ []) × IsAtEnd known) → out ≡ lossy_utf8 parts → Consumes (text_from [] p block known) (text_from [] q (drop read block) known) out
+  pub Consumes-yielded : (known : Option (List ℕ)) (p block : List ℕ) (count : ℕ) (last : Bool) (parts : List Part) (read : ℕ) (q out : List ℕ)
+      → Yields p (take count block) last parts read q
+      → (last ≡ true → (drop count block ≡ []) × IsAtEnd known) → out ≡ lossy_utf8 parts
+      → Consumes (text_from [] p block known) (text_from [] q (drop read block) known) out
   Consumes-yielded None p block count last parts read q out yielded end text = tt
   Consumes-yielded (Some more) p block count last parts read q out yielded end text =
-      yielded_text p block count last parts read q more yielded (λ marked. ap (λ bs. bs ++ more) (end marked).0 ∙ (end marked).1) ∙ ap (λ bs. bs ++ utf8_lossy (q ++ (drop read block ++ more))) (sym text)
+      yielded_text p block count last parts read q more yielded (λ marked. ap (λ bs. bs ++ more) (end marked).0 ∙ (end marked).1)
+      ∙ ap (λ bs. bs ++ utf8_lossy (q ++ (drop read block ++ more))) (sym text)
 
   -- or is kept
-  pub Keeps-yielded : (known : Option (List ℕ)) (p block : List ℕ) (count : ℕ) (last : Bool) (parts : List Part) (read : ℕ) (q held : List ℕ) → Yields p (take count block) last parts read q
-      → (last ≡ true → (drop count block ≡ []) × IsAtEnd known) → held ≡ lossy_utf8 parts → Keeps (text_from [] p block known) (text_from held q (drop read block) known)
+  pub Keeps-yielded : (known : Option (List ℕ)) (p block : List ℕ) (count : ℕ) (last : Bool) (parts : List Part) (read : ℕ) (q held : List ℕ)
+      → Yields p (take count block) last parts read q
+      → (last ≡ true → (drop count block ≡ []) × IsAtEnd known) → held ≡ lossy_utf8 parts
+      → Keeps (text_from [] p block known) (text_from held q (drop read block) known)
   Keeps-yielded None p block count last parts read q held yielded end text = tt
-  Keeps-yielded (Some more) p block count last parts read q held yielded end text = sym (Consumes-yielded (Some more) p block count last parts read q held yielded end text)
+  Keeps-yielded (Some more) p block count last parts read q held yielded end text = sym
+      (Consumes-yielded (Some more) p block count last parts read q held yielded end text)
 
   pub no_text_left : (known : Option (List ℕ)) → IsAtEnd known → IsAtEnd (text_from [] [] [] known)
   no_text_left None end = tt
@@ -91,13 +101,16 @@ uncut (Ok n) held (b ∷ bs) dst room enough none yielded err =
 uncut (Err e) held held' dst room enough none yielded err = err ∙ none
 
 -- ---- what is left
-pub Consumes-units : (known known' : Option (List ℕ)) (text : List ℕ) → IsUtf8 text → Consumes known known' text → Consumes (units_from [] known) (units_from [] known') (utf16_of text)
+pub Consumes-units : (known known' : Option (List ℕ)) (text : List ℕ) → IsUtf8 text → Consumes known known' text
+    → Consumes (units_from [] known) (units_from [] known') (utf16_of text)
 Consumes-units None known' text u e = tt
 Consumes-units (Some all) None text u e = absurd e
-Consumes-units (Some all) (Some rest) text u e = ap (flat_map encode_utf16) (ap chars e ∙ chars-append text rest u) ∙ flat_map-append encode_utf16 (chars text) (chars rest)
+Consumes-units (Some all) (Some rest) text u e = ap (flat_map encode_utf16) (ap chars e ∙ chars-append text rest u)
+    ∙ flat_map-append encode_utf16 (chars text) (chars rest)
 
 -- or kept
-pub Keeps-units : (known known' : Option (List ℕ)) (text : List ℕ) → IsUtf8 text → Consumes known known' text → Keeps (units_from [] known) (units_from (utf16_of text) known')
+pub Keeps-units : (known known' : Option (List ℕ)) (text : List ℕ) → IsUtf8 text → Consumes known known' text
+    → Keeps (units_from [] known) (units_from (utf16_of text) known')
 Keeps-units None known' text u e = tt
 Keeps-units (Some all) None text u e = absurd e
 Keeps-units (Some all) (Some rest) text u e = sym (Consumes-units (Some all) (Some rest) text u e)
@@ -121,13 +134,15 @@ pub some_text : (text : List ℕ) → utf16_of text ≢ [] → text ≢ []
 some_text text some none = some (ap (flat_map encode_utf16) (ap chars none ∙ chars-encodes [] refl))
 
 -- a character's
-pub one_character : ((bs : List ℕ) → IsSequence bs → (c : ℕ) × IsScalar c × (encode_utf8 c ≡ bs)) → (text : List ℕ) → IsSequence text → IsUtf16Character (utf16_of text)
+pub one_character : ((bs : List ℕ) → IsSequence bs → (c : ℕ) × IsScalar c × (encode_utf8 c ≡ bs)) → (text : List ℕ) → IsSequence text
+    → IsUtf16Character (utf16_of text)
 one_character spelled text one =
     let (c, scalar, is) = spelled text one in
     let single : chars text ≡ c ∷ [] = ap chars (sym (append-nil (encode_utf8 c) ∙ is)) ∙ chars-encodes (c ∷ []) (ap (λ b. b && true) scalar) in
     (c, scalar, ap (flat_map encode_utf16) single ∙ append-nil (encode_utf16 c))
 
-pub valid_units : ((cs : List ℕ) → IsTrue (all_scalars cs) → ArePartsOf16 (flat_map encode_utf16 cs) (map Character16 cs)) → (text : List ℕ) → IsUtf8 text → IsValidUtf16 (utf16_of text)
+pub valid_units : ((cs : List ℕ) → IsTrue (all_scalars cs) → ArePartsOf16 (flat_map encode_utf16 cs) (map Character16 cs)) → (text : List ℕ) → IsUtf8 text
+    → IsValidUtf16 (utf16_of text)
 valid_units characters text u = (chars text, characters (chars text) (scalars-chars text u))
 
 pub valid_nothing : IsValidUtf16 []

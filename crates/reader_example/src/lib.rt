@@ -19,7 +19,8 @@ pub use well_formed::is_well_formed;
 
 /// Reads everything from a reader as text. Fails with the reader's error, or if an allocation fails.
 pub fn read_text<R: Read + Drop>(alloc: Global, inner: R) -> io::Result<String>
-    ensures { IfOk result (λ text. IfSome (R.remaining inner) (λ bytes. string_bytes text ≡ utf8_lossy bytes)) }
+    ensures { IfOk result
+        (λ text. IfSome (R.remaining inner) (λ bytes. string_bytes text ≡ utf8_lossy bytes)) }
 {
     let mut text = String::new(alloc);
     Utf8Reader::new(inner).read_to_string(&mut text)?;

@@ -36,7 +36,8 @@ impl<R: Read> Utf16Reader<R> {
     /// Creates a reader of the text of the bytes of `inner`.
     pub fn new(inner: R) -> Utf16Reader<R>
         ensures units { units_left R.remaining result
-            ≡ option_map (λ bytes. flat_map encode_utf16 (chars (utf8_lossy bytes))) (R.remaining inner) }
+            ≡ option_map (λ bytes. flat_map encode_utf16 (chars (utf8_lossy bytes)))
+            (R.remaining inner) }
         ensures held { half_of result ≡ [] }
     {
         Utf16Reader {
@@ -51,7 +52,8 @@ impl<R: Read> Utf16Reader<R> {
         requires dst_length { length bytes.old ≤ length dst.old }
         requires held { self.old.held ≡ [] }
         ensures bound { ReadsAtMost result dst.new }
-        ensures units { ReadConsumes (units_left R.remaining self.old) (units_left R.remaining self.new) result dst.new }
+        ensures units { ReadConsumes (units_left R.remaining self.old)
+            (units_left R.remaining self.new) result dst.new }
         ensures whole { IfOk result (λ n. IsValidUtf16 (take n dst.new)) }
         ensures none_held { self.new.held ≡ [] }
     {
@@ -86,7 +88,8 @@ impl<R: Read> Utf16Reader<R> {
     /// No pair is cut unless `dst` has only one code unit: then the next call returns the second.
     pub fn read(&mut self, dst: &mut [u16]) -> io::Result<usize>
         ensures bound { ReadsAtMost result dst.new }
-        ensures units { ReadConsumes (units_left R.remaining self.old) (units_left R.remaining self.new) result dst.new }
+        ensures units { ReadConsumes (units_left R.remaining self.old)
+            (units_left R.remaining self.new) result dst.new }
         ensures characters { IfOk result (λ n. YieldsCharacters IsValidUtf16 IsUtf16Character
             (half_of self.old) (length dst.old) (take n dst.new) (half_of self.new)) }
         ensures err { OnErr result (half_of self.new ≡ half_of self.old) }

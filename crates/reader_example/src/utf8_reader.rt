@@ -84,7 +84,8 @@ impl<R: Read> Utf8Reader<R> {
         requires dst_length { 7 ≤ length dst.old }
         requires held { self.old.held ≡ [] }
         ensures bound { ReadsAtMost result dst.new }
-        ensures bytes { ReadConsumes (text_left R.remaining self.old) (text_left R.remaining self.new) result dst.new }
+        ensures bytes { ReadConsumes (text_left R.remaining self.old)
+            (text_left R.remaining self.new) result dst.new }
         ensures whole { IfOk result (λ n. IsUtf8 (take n dst.new)) }
         ensures none_held { self.new.held ≡ [] }
     {
@@ -142,7 +143,8 @@ impl<R: Read> Utf8Reader<R> {
         requires dst_length { 4 ≤ length dst.old }
         requires held { self.old.held ≡ [] }
         ensures bound { ReadsAtMost result dst.new }
-        ensures bytes { ReadConsumes (text_left R.remaining self.old) (text_left R.remaining self.new) result dst.new }
+        ensures bytes { ReadConsumes (text_left R.remaining self.old)
+            (text_left R.remaining self.new) result dst.new }
         ensures one { IfOk result (λ n. 0 < n → IsSequence (take n dst.new)) }
         ensures none_held { self.new.held ≡ [] }
     {
@@ -162,9 +164,11 @@ impl<R: Read> Read for Utf8Reader<R> {
     /// No character is cut unless it is longer than `dst`: then the next calls return the rest of it.
     fn read(&mut self, dst: &mut [u8]) -> io::Result<usize>
         ensures bound { ReadsAtMost result dst.new }
-        ensures bytes { ReadConsumes (text_left R.remaining self.old) (text_left R.remaining self.new) result dst.new }
+        ensures bytes { ReadConsumes (text_left R.remaining self.old)
+            (text_left R.remaining self.new) result dst.new }
         ensures characters { IfOk result (λ n.
-            YieldsCharacters IsUtf8 IsSequence (held_of self.old) (length dst.old) (take n dst.new) (held_of self.new)) }
+            YieldsCharacters IsUtf8 IsSequence (held_of self.old) (length dst.old) (take n dst.new)
+            (held_of self.new)) }
         ensures err { OnErr result (held_of self.new ≡ held_of self.old) }
     {
         if dst.is_empty() {

@@ -19,7 +19,8 @@ const BLOCK_LENGTH: usize = 1034;
 /// of the block with the first malformed sequence. An error is the reader's, or means that no end was reached in
 /// `u64::MAX` reads.
 pub fn is_well_formed<R: Read>(reader: &mut R) -> io::Result<bool>
-    ensures answer { IfOk result (λ answer. IfSome (R.remaining reader.old) (λ bytes. IsTrue answer ↔ IsUtf8 bytes)) }
+    ensures answer { IfOk result
+        (λ answer. IfSome (R.remaining reader.old) (λ bytes. IsTrue answer ↔ IsUtf8 bytes)) }
     ensures end { IfOk result (λ answer. IsTrue answer → IsAtEnd (R.remaining reader.new)) }
 {
     law_block_repair();

@@ -49,7 +49,8 @@ fn status_of(outcome: Result<Repaired, RepairFault>) -> u8
 /// failed before, the status is 3 if and only if the source fails, and 4 if and only if the sink fails.
 fn repair_source<R: Source, W: Sink>(source: &mut R, sink: &mut W) -> u8
     ensures status { (result ≤ 5) × (result ≡ 2 → ⊥) }
-    ensures unchanged { result ≡ 0 → (bytes : List ℕ) × RepairsAll bytes (R.remaining source.old) (R.remaining source.new)
+    ensures unchanged { result ≡ 0 → (bytes : List ℕ) × RepairsAll bytes (R.remaining source.old)
+        (R.remaining source.new)
         (W.contents sink.old) (W.contents sink.new) 0 }
     ensures replaced { result ≡ 1 → (bytes : List ℕ) × (n : ℕ) × (0 < n)
         × RepairsAll bytes (R.remaining source.old) (R.remaining source.new)
@@ -57,7 +58,8 @@ fn repair_source<R: Source, W: Sink>(source: &mut R, sink: &mut W) -> u8
     ensures read_fault { result ≡ 3 → (bytes : List ℕ)
         × RepairsFinal bytes (R.remaining source.old) (R.remaining source.new)
         (W.contents sink.old) (W.contents sink.new) }
-    ensures write_fault { result ≡ 4 → R.has_ended source.old ≡ false → (bytes : List ℕ) × (ended : Bool)
+    ensures write_fault { result ≡ 4 → R.has_ended source.old ≡ false
+        → (bytes : List ℕ) × (ended : Bool)
         × RepairsProperPrefix bytes ended (R.remaining source.old) (R.remaining source.new)
         (W.contents sink.old) (W.contents sink.new) }
     ensures limit { result ≡ 5 → (bytes : List ℕ) × (length bytes ≡ u64.MAX)
@@ -80,7 +82,8 @@ fn repair_source<R: Source, W: Sink>(source: &mut R, sink: &mut W) -> u8
 /// Writes the repaired text of the reader, up to its end or a failure, and returns the status.
 fn repair_stream<R: Read, W: Write>(reader: &mut R, writer: &mut W) -> u8
     ensures status { (result ≤ 5) × (result ≡ 2 → ⊥) }
-    ensures unchanged { result ≡ 0 → (bytes : List ℕ) × RepairsAll bytes (R.remaining reader.old) (R.remaining reader.new)
+    ensures unchanged { result ≡ 0 → (bytes : List ℕ) × RepairsAll bytes (R.remaining reader.old)
+        (R.remaining reader.new)
         (W.contents writer.old) (W.contents writer.new) 0 }
     ensures replaced { result ≡ 1 → (bytes : List ℕ) × (n : ℕ) × (0 < n)
         × RepairsAll bytes (R.remaining reader.old) (R.remaining reader.new)
@@ -114,7 +117,8 @@ fn status_after(status: u8, flushed: io::Result<()>) -> u8
 /// Writes the repaired text of the reader, flushes the writer with any status, and returns the status.
 fn repair_and_flush<R: Read, W: Write>(reader: &mut R, writer: &mut W) -> u8
     ensures status { (result ≤ 5) × (result ≡ 2 → ⊥) }
-    ensures unchanged { result ≡ 0 → (bytes : List ℕ) × RepairsAll bytes (R.remaining reader.old) (R.remaining reader.new)
+    ensures unchanged { result ≡ 0 → (bytes : List ℕ) × RepairsAll bytes (R.remaining reader.old)
+        (R.remaining reader.new)
         (W.contents writer.old) (W.contents writer.new) 0 }
     ensures replaced { result ≡ 1 → (bytes : List ℕ) × (n : ℕ) × (0 < n)
         × RepairsAll bytes (R.remaining reader.old) (R.remaining reader.new)
@@ -194,7 +198,8 @@ pub fn serve<R: Read, W: Write, E: Write>(
     ensures status { result ≤ 5 }
     ensures usage { (result ≡ 2) ↔ (0 < arguments) }
     ensures untouched { result ≡ 2 → (reader.new ≡ reader.old) × (writer.new ≡ writer.old) }
-    ensures unchanged { result ≡ 0 → (bytes : List ℕ) × RepairsAll bytes (R.remaining reader.old) (R.remaining reader.new)
+    ensures unchanged { result ≡ 0 → (bytes : List ℕ) × RepairsAll bytes (R.remaining reader.old)
+        (R.remaining reader.new)
         (W.contents writer.old) (W.contents writer.new) 0 }
     ensures replaced { result ≡ 1 → (bytes : List ℕ) × (n : ℕ) × (0 < n)
         × RepairsAll bytes (R.remaining reader.old) (R.remaining reader.new)

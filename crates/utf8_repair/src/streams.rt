@@ -133,10 +133,13 @@ impl<W: Write, const N: usize> BufferedWriter<'_, W, N> {
     /// Appends the piece to the buffered bytes, and returns whether it did. If the piece is longer than the array, it
     /// isn't appended, and nothing is left in the buffer.
     fn gather(&mut self, piece: &[u8]) -> io::Result<bool>
-        ensures taken { IfOk result (λ taken. taken ≡ true → (prefix : List ℕ) × (self.new.held ≡ prefix ++ piece.now)
-            × Keeps (append_known (W.contents self.old.inner) self.old.held) (append_known (W.contents self.new.inner) prefix)) }
+        ensures taken { IfOk result (λ taken. taken ≡ true
+            → (prefix : List ℕ) × (self.new.held ≡ prefix ++ piece.now)
+            × Keeps (append_known (W.contents self.old.inner) self.old.held)
+            (append_known (W.contents self.new.inner) prefix)) }
         ensures too_long { IfOk result (λ taken. taken ≡ false → (self.new.held ≡ [])
-            × Keeps (append_known (W.contents self.old.inner) self.old.held) (W.contents self.new.inner)) }
+            × Keeps (append_known (W.contents self.old.inner) self.old.held)
+            (W.contents self.new.inner)) }
         ensures err { OnErr result (Keeps (append_known (W.contents self.old.inner) self.old.held)
             (append_known (W.contents self.new.inner) self.new.held)) }
     {
@@ -153,10 +156,12 @@ impl<W: Write, const N: usize> BufferedWriter<'_, W, N> {
     fn send(&mut self, count: usize) -> io::Result<usize>
         requires { (0 < count) × (count ≤ length self.old.held) }
         ensures ok { IfOk result (λ n. (n ≤ count) × Keeps
-            (append_known (W.contents self.old.inner) (take (length self.old.held - (count - n)) self.old.held))
+            (append_known (W.contents self.old.inner)
+            (take (length self.old.held - (count - n)) self.old.held))
             (append_known (W.contents self.new.inner) self.new.held)) }
         ensures err { OnErr result (Keeps
-            (append_known (W.contents self.old.inner) (take (length self.old.held - count) self.old.held))
+            (append_known (W.contents self.old.inner)
+            (take (length self.old.held - count) self.old.held))
             (append_known (W.contents self.new.inner) self.new.held)) }
     {
         while self.held.len() >= count {
@@ -205,7 +210,8 @@ impl<W: Write, const N: usize> Write for BufferedWriter<'_, W, N> {
 
     /// Writes out the buffered bytes, and flushes the inner writer.
     fn flush(&mut self) -> io::Result<()>
-        ensures bytes { Keeps (append_known (W.contents self.old.inner) self.old.held) (append_known (W.contents self.new.inner) self.new.held) }
+        ensures bytes { Keeps (append_known (W.contents self.old.inner) self.old.held)
+            (append_known (W.contents self.new.inner) self.new.held) }
         ensures ok { OnOk result (self.new.held ≡ []) }
     {
         self.held.write_to(&mut self.inner)?;

@@ -36,7 +36,15 @@ pub join-requires : goal.join-requires
 join-requires c =
     let each = all_repaired c.deref-piece-items.result.now c.in_ok-pieces.pieces.items c.loop-piece.piece-index c.loop-piece.repaired.items c.deref.result.now
     c.loop-piece.invariant c.loop-piece-test.false c.deref-piece-items.ensures.value c.deref.ensures.value in
-    record { counted = omega (arith, replaced_within _ _ each, ap length (flat_map-map (λ (bs : List ℕ). bs) bytes_of c.in_ok-pieces.pieces.items ∙ c.in_ok-pieces.ensures.whole)) }
+    record {
+      counted =
+          omega (
+            arith,
+            replaced_within _ _ each,
+            ap length (flat_map-map (λ (bs : List ℕ). bs) bytes_of c.in_ok-pieces.pieces.items
+                ∙ c.in_ok-pieces.ensures.whole),
+          );
+    }
 
 whole_is : (bytes : List ℕ) (pieces : List (Bor (List ℕ))) (r : Result RepairedPiece AllocError) → flat_map bytes_of pieces ≡ bytes
     → IfOk r (λ whole. IsRepairOf (flat_map (λ piece. piece) (map bytes_of pieces)) whole) → IfOk r (λ whole. IsRepairOf bytes whole)

@@ -12,7 +12,8 @@ returns-in-Some g c =
     let none : (l.replaced || is_none part.result.0) ≡ l.replaced = ap (λ r. l.replaced || is_none r) c.in-Some.is ∙ or-false l.replaced in
     record {
       wrote = Writes_then g.U.CodeUnit.encode g.U.CodeUnit.query _ _ _ _ _ _ _ _ _ _ _ _ _ _ _ none l.invariant part.ensures.wrote;
-      ends = Ends_after g.U.CodeUnit.encode g.U.CodeUnit.query g.U.CodeUnit.need _ _ _ _ _ _ _ c.in-Some.result _ _ _ _ _ l.invariant (rw c.in-Some.is at part.ensures.ends);
+      ends = Ends_after g.U.CodeUnit.encode g.U.CodeUnit.query g.U.CodeUnit.need _ _ _ _ _ _ _ c.in-Some.result _ _ _ _ _ l.invariant
+          (rw c.in-Some.is at part.ensures.ends);
     }
 
 pub loop-result-smaller : goal.loop-result-smaller

@@ -14,7 +14,8 @@ fn ended_pairs(before: u8x16, block: u8x16) -> u8x16
     ensures lane_count { length result ≡ 16 }
     ensures pairs { (p : ℕ) → ((k : ℕ) → k < 16 → slice_index before k ≡ slice_index (p ∷ block) k)
         → (k : ℕ) → k < 8 → EndsPair (slice_index (p ∷ block) (2 * k)) (slice_index block (2 * k))
-        (slice_index block (2 * k + 1)) (slice_index result (2 * k)) (slice_index result (2 * k + 1)) }
+        (slice_index block (2 * k + 1)) (slice_index result (2 * k))
+        (slice_index result (2 * k + 1)) }
 {
     let low = (before << u8x16::splat(6)) + (block & u8x16::splat(0x3F));
     let ends = block.simd_ge(u8x16::splat(0x80)).select(low, block);
@@ -43,7 +44,8 @@ pub fn latin1_of_after(before: u8x16, block: u8x16) -> (u8x16, usize)
     requires { (k : ℕ) → (slice_index block k < 0xC0) ⊎ (slice_index block (k + 1) < 0xC0) }
     ensures lane_count { length result.0 ≡ 16 }
     ensures out_length { result.1 ≤ 16 }
-    ensures latin1_ended { (p : ℕ) → ((k : ℕ) → k < 16 → slice_index before k ≡ slice_index (p ∷ block) k)
+    ensures latin1_ended { (p : ℕ)
+        → ((k : ℕ) → k < 16 → slice_index before k ≡ slice_index (p ∷ block) k)
         → take result.1 result.0 ≡ all_latin1_ended p block }
 {
     keep_pairs(ended_pairs(before, block), mask_of_ends(block))

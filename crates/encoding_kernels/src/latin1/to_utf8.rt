@@ -14,9 +14,11 @@ use std::simd::prelude::*;
 fn both_bytes(block: u8x16) -> (u8x16, u8x16)
     ensures lane_count { (length result.0 ≡ 16) × (length result.1 ≡ 16) }
     ensures first_half { (k : ℕ) → k < 8
-        → EncodesTo (slice_index block k) (slice_index result.0 (2 * k)) (slice_index result.0 (2 * k + 1)) }
+        → EncodesTo (slice_index block k) (slice_index result.0 (2 * k))
+        (slice_index result.0 (2 * k + 1)) }
     ensures last { (k : ℕ) → k < 8
-        → EncodesTo (slice_index block (8 + k)) (slice_index result.1 (2 * k)) (slice_index result.1 (2 * k + 1)) }
+        → EncodesTo (slice_index block (8 + k)) (slice_index result.1 (2 * k))
+        (slice_index result.1 (2 * k + 1)) }
 {
     let lead = (block >> u8x16::splat(6)) + u8x16::splat(0xC0);
     let first = block.simd_ge(u8x16::splat(0x80)).select(lead, block);
@@ -39,7 +41,8 @@ pub fn write_latin1(block: u8x16, dst: &mut [u8], at: usize) -> usize
     requires dst_length { at + 32 ≤ length dst.old }
     ensures length_bound { result ≤ 32 }
     ensures out_length { result ≡ length (encode_utf8_all block) }
-    ensures written { dst.new ≡ take at dst.old ++ (encode_utf8_all block ++ drop (at + result) dst.old) }
+    ensures written { dst.new ≡ take at dst.old ++ (encode_utf8_all block ++ drop
+        (at + result) dst.old) }
 {
     let others = mask_of_others(block);
     let (low, high) = both_bytes(block);

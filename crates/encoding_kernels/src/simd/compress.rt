@@ -86,7 +86,8 @@ pub(crate) fn write_both(
     requires dst_length { at + 32 ≤ length dst.old }
     requires first_lanes { (count ≤ 16) × (length first ≡ 16) }
     requires second { (more ≤ 16) × (length second ≡ 16) }
-    ensures { dst.new ≡ take at dst.old ++ ((take count first ++ take more second) ++ drop (at + (count + more)) dst.old) }
+    ensures { dst.new ≡ take at dst.old ++ ((take count first ++ take more second) ++ drop
+        (at + (count + more)) dst.old) }
 {
     let next = at + count;
     let following = u8x16::from_slice(&dst[next..]);

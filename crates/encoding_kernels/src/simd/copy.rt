@@ -108,7 +108,8 @@ pub fn unpack_block(src: &[u8], dst: &mut [u16], at: usize)
 #[inline(always)]
 pub fn pack_lower<const N: usize>(stride: &[u16; N], dst: &mut [u8], at: usize)
     requires { at + N ≤ length dst.old }
-    ensures { dst.new ≡ take at dst.old ++ (map (λ unit. unit % 0x100) stride.now ++ drop (at + N) dst.old) }
+    ensures { dst.new ≡ take at dst.old ++ (map
+        (λ unit. unit % 0x100) stride.now ++ drop (at + N) dst.old) }
 {
     let lower = Simd::<u16, N>::from_slice(stride) & Simd::splat(0xFF);
     lower.cast::<u8>().copy_to_slice(&mut dst[at..]);

@@ -25,7 +25,8 @@ pub(crate) trait LanePredicate<const N: usize> {
 /// Returns whether each of the 4 * N indices from `at` on passes, by one test.
 #[inline(always)]
 fn all_of_four<const N: usize, T: LanePredicate<N>>(test: &T, at: usize) -> bool
-    requires { (at + 4 * N ≤ T.count test.now) × (at + 4 * N < 18446744073709551616) × (0 < N) × (N ≤ 64) }
+    requires { (at + 4 * N ≤ T.count test.now) × (at + 4 * N < 18446744073709551616)
+        × (0 < N) × (N ≤ 64) }
     ensures { IsTrue result ↔ PassBetween (T.passes test.now) at (at + 4 * N) }
 {
     let first_two = (test.failing(at) == 0) & (test.failing(at + N) == 0);
@@ -36,7 +37,8 @@ fn all_of_four<const N: usize, T: LanePredicate<N>>(test: &T, at: usize) -> bool
 /// Returns whether each of the W indices from `at` on passes, by one test of one or four vectors.
 #[inline(always)]
 pub(crate) fn all<const N: usize, const W: usize, T: LanePredicate<N>>(test: &T, at: usize) -> bool
-    requires within { (at + W ≤ T.count test.now) × (at + W < 18446744073709551616) × (0 < N) × (N ≤ 64) }
+    requires within { (at + W ≤ T.count test.now) × (at + W < 18446744073709551616)
+        × (0 < N) × (N ≤ 64) }
     requires vectors { (W ≡ N) ⊎ (W ≡ 4 * N) }
     ensures { IsTrue result ↔ PassBetween (T.passes test.now) at (at + W) }
 {

@@ -46,7 +46,9 @@ pub(crate) trait Terms<const N: usize> {
     fn skip(&self, at: usize, end: usize) -> usize
         requires { (at ≤ end) × (end ≤ whole self.now) }
         ensures within { (at ≤ result) × (result ≤ end) }
-        ensures zeros { sum_over_suffixes (term self.now) (drop result (text self.now)) ≡ sum_over_suffixes (term self.now) (drop at (text self.now)) };
+        ensures zeros { sum_over_suffixes (term self.now)
+            (drop result (text self.now)) ≡ sum_over_suffixes (term self.now)
+            (drop at (text self.now)) };
 
     ghost inside: { (s : Self) → whole s ≤ length (text s) };
 
@@ -68,7 +70,9 @@ fn sum_of_vectors<const N: usize, T: Terms<N>>(terms: &T, at: usize, stop: usize
     requires lanes { (0 < N) × (N ≤ 64) }
     requires within { (at + N ≤ stop) × (stop ≤ at + 127 * N) × (stop ≤ T.whole terms.now) }
     ensures place { (at < result.1) × (result.1 ≤ stop) }
-    ensures sum { result.0 + sum_over_suffixes (T.term terms.now) (drop result.1 (T.text terms.now)) ≡ sum_over_suffixes (T.term terms.now) (drop at (T.text terms.now)) }
+    ensures sum { result.0 + sum_over_suffixes (T.term terms.now)
+        (drop result.1 (T.text terms.now)) ≡ sum_over_suffixes (T.term terms.now)
+        (drop at (T.text terms.now)) }
 {
     let mut sums = Simd::<u8, N>::splat(0);
     let mut place = at;
@@ -105,7 +109,9 @@ fn clear_first<const N: usize>(lanes: Simd<u8, N>, skip: usize) -> Simd<u8, N>
 fn sum_of_last<const N: usize, T: Terms<N>>(terms: &T, at: usize, end: usize) -> usize
     requires lanes { (0 < N) × (N ≤ 64) }
     requires within { (N ≤ end) × (at ≤ end) × (end < at + N) × (end ≤ T.whole terms.now) }
-    ensures { result + sum_over_suffixes (T.term terms.now) (drop end (T.text terms.now)) ≡ sum_over_suffixes (T.term terms.now) (drop at (T.text terms.now)) }
+    ensures { result + sum_over_suffixes (T.term terms.now)
+        (drop end (T.text terms.now)) ≡ sum_over_suffixes (T.term terms.now)
+        (drop at (T.text terms.now)) }
 {
     let from = end - N;
     sum_of_lanes(clear_first(terms.terms(from), at - from))
@@ -121,7 +127,9 @@ fn sum_by<const N: usize, const SPAN: usize, T: Terms<N>>(
     requires lanes { (0 < N) × (N ≤ 64) × (N ≤ SPAN) × (SPAN ≤ 127 * N) }
     requires within { (from ≤ end) × (N ≤ end) × (end ≤ T.whole terms.now) }
     requires few { sum_over_suffixes (T.term terms.now) (drop from (T.text terms.now)) < 2 ^ 64 }
-    ensures { result + sum_over_suffixes (T.term terms.now) (drop end (T.text terms.now)) ≡ sum_over_suffixes (T.term terms.now) (drop from (T.text terms.now)) }
+    ensures { result + sum_over_suffixes (T.term terms.now)
+        (drop end (T.text terms.now)) ≡ sum_over_suffixes (T.term terms.now)
+        (drop from (T.text terms.now)) }
 {
     let mut sum = 0;
     let mut at = from;
@@ -165,10 +173,13 @@ fn sum_to<const N: usize, const M: usize, const SPAN: usize, T: Terms<N>, S: Ter
     end: usize,
 ) -> usize
     requires lanes { (0 < M) × (M ≤ N) × (N ≤ 64) × (N ≤ SPAN) × (SPAN ≤ 127 * M) }
-    requires same { (S.text short.now ≡ T.text terms.now) × (S.term short.now ≡ T.term terms.now) × (S.whole short.now ≡ T.whole terms.now) }
+    requires same { (S.text short.now ≡ T.text terms.now) × (S.term short.now ≡ T.term terms.now)
+        × (S.whole short.now ≡ T.whole terms.now) }
     requires within { (from ≤ end) × (M ≤ end) × (end ≤ T.whole terms.now) }
     requires few { sum_over_suffixes (T.term terms.now) (drop from (T.text terms.now)) < 2 ^ 64 }
-    ensures { result + sum_over_suffixes (T.term terms.now) (drop end (T.text terms.now)) ≡ sum_over_suffixes (T.term terms.now) (drop from (T.text terms.now)) }
+    ensures { result + sum_over_suffixes (T.term terms.now)
+        (drop end (T.text terms.now)) ≡ sum_over_suffixes (T.term terms.now)
+        (drop from (T.text terms.now)) }
 {
     if end < N {
         sum_by::<M, SPAN, S>(short, from, end)
@@ -186,7 +197,8 @@ pub(crate) fn sum_from<const N: usize, const M: usize, const SPAN: usize, T: Ter
     from: usize,
 ) -> usize
     requires lanes { (0 < M) × (M ≤ N) × (N ≤ 64) × (N ≤ SPAN) × (SPAN ≤ 127 * M) }
-    requires same { (S.text short.now ≡ T.text terms.now) × (S.term short.now ≡ T.term terms.now) × (S.whole short.now ≡ T.whole terms.now) }
+    requires same { (S.text short.now ≡ T.text terms.now) × (S.term short.now ≡ T.term terms.now)
+        × (S.whole short.now ≡ T.whole terms.now) }
     requires within { from ≤ length (T.text terms.now) }
     ensures { result ≡ sum_over_suffixes (T.term terms.now) (drop from (T.text terms.now)) }
 {

@@ -31,7 +31,9 @@ fn is_pair(unit: u16, next: u16) -> bool
 /// Returns 1 in each lane in which the two code units are a surrogate pair, and 0 in the others.
 #[inline(always)]
 fn pair_lanes<const N: usize>(units: Simd<u16, N>, next: Simd<u16, N>) -> Simd<u8, N>
-    ensures { HasLanes N result (λ k. bool_byte (is_surrogate_pair (slice_index units.entry k) (slice_index next.entry k))) }
+    ensures { HasLanes N result
+        (λ k. bool_byte
+        (is_surrogate_pair (slice_index units.entry k) (slice_index next.entry k))) }
 {
     let high = (units & Simd::splat(0xFC00)).simd_eq(Simd::splat(0xD800));
     let low = (next & Simd::splat(0xFC00)).simd_eq(Simd::splat(0xDC00));

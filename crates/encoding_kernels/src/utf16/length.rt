@@ -27,7 +27,8 @@ fn bytes_beyond(unit: u16, next: u16) -> usize
 /// Returns, in each lane, how many bytes beyond one the UTF-8 of the code unit has.
 #[inline(always)]
 fn beyond_lanes<const N: usize>(units: Simd<u16, N>, next: Simd<u16, N>) -> Simd<u8, N>
-    ensures { HasLanes N result (λ k. extra_bytes_by (slice_index units.entry k) (slice_index next.entry k)) }
+    ensures { HasLanes N result
+        (λ k. extra_bytes_by (slice_index units.entry k) (slice_index next.entry k)) }
 {
     let high = (units & Simd::splat(0xFC00)).simd_eq(Simd::splat(0xD800));
     let low = (next & Simd::splat(0xFC00)).simd_eq(Simd::splat(0xDC00));

@@ -27,7 +27,8 @@ const LONG: u16 = 0x800;
 #[tactic(auto, using(crate::proofs::PlainLemmas::all_plain))]
 #[inline(always)]
 pub(super) fn are_non_surrogate(units: u16x16) -> bool
-    ensures { IsTrue result → (k : ℕ) → k < 16 → (0xD800 ≤ slice_index units k) × (slice_index units k ≤ 0xDFFF) → ⊥ }
+    ensures { IsTrue result → (k : ℕ) → k < 16
+        → (0xD800 ≤ slice_index units k) × (slice_index units k ≤ 0xDFFF) → ⊥ }
 {
     let tops = units & u16x16::splat(0xF800);
     !tops.simd_eq(u16x16::splat(0xD800)).any()
@@ -37,7 +38,8 @@ pub(super) fn are_non_surrogate(units: u16x16) -> bool
 #[inline(always)]
 pub(super) fn non_surrogate_prefix(units: u16x16) -> usize
     ensures within { result ≤ 16 }
-    ensures plain { (k : ℕ) → k < result → (0xD800 ≤ slice_index units k) × (slice_index units k ≤ 0xDFFF) → ⊥ }
+    ensures plain { (k : ℕ) → k < result
+        → (0xD800 ≤ slice_index units k) × (slice_index units k ≤ 0xDFFF) → ⊥ }
 {
     let tops = units & u16x16::splat(0xF800);
     run_before::<16>(tops.simd_eq(u16x16::splat(0xD800)).to_bitmask())
@@ -66,9 +68,11 @@ fn mask_of_classes(units: u16x16) -> usize
 #[inline(always)]
 fn two_words(units: u16x16) -> (u16x16, u16x16)
     ensures lane_count { (length result.0 ≡ 16) × (length result.1 ≡ 16) }
-    ensures upper_bound { (k : ℕ) → k < 16 → (slice_index result.0 k < 0x10000) × (slice_index result.1 k < 0x10000) }
+    ensures upper_bound { (k : ℕ) → k < 16
+        → (slice_index result.0 k < 0x10000) × (slice_index result.1 k < 0x10000) }
     ensures spelled { (k : ℕ) → k < 16 → EncodesLast (slice_index units k)
-        (slice_index result.0 k / 0x100) (slice_index result.1 k % 0x100) (slice_index result.1 k / 0x100) }
+        (slice_index result.0 k / 0x100) (slice_index result.1 k % 0x100)
+        (slice_index result.1 k / 0x100) }
 {
     let six = u16x16::splat(0x3F);
     let first = ((units >> u16x16::splat(12)) << u16x16::splat(8)) + u16x16::splat(0xE000);
@@ -88,9 +92,11 @@ fn two_words(units: u16x16) -> (u16x16, u16x16)
 #[inline(always)]
 fn four_bytes(units: u16x16) -> (u8x32, u8x32)
     ensures first_half { (k : ℕ) → k < 8 → EncodesLast (slice_index units (k / 4 * 4 + k))
-        (slice_index result.0 (4 * k + 1)) (slice_index result.0 (4 * k + 2)) (slice_index result.0 (4 * k + 3)) }
+        (slice_index result.0 (4 * k + 1)) (slice_index result.0 (4 * k + 2))
+        (slice_index result.0 (4 * k + 3)) }
     ensures second { (k : ℕ) → k < 8 → EncodesLast (slice_index units (k / 4 * 4 + k + 4))
-        (slice_index result.1 (4 * k + 1)) (slice_index result.1 (4 * k + 2)) (slice_index result.1 (4 * k + 3)) }
+        (slice_index result.1 (4 * k + 1)) (slice_index result.1 (4 * k + 2))
+        (slice_index result.1 (4 * k + 3)) }
 {
     let (words, others) = two_words(units);
     let first = words.shuffle(
@@ -111,11 +117,13 @@ fn encode_twice_four(bytes: u8x32, first: usize, second: usize) -> (u8x16, u8x16
     ensures lane_count { (length result.0 ≡ 16) × (length result.1 ≡ 16) }
     ensures lower { (us : List ℕ) → length us ≡ 4 → first ≡ mask_l (length_classes us)
         → ((k : ℕ) → k < 4 → EncodesLast (slice_index us k)
-        (slice_index bytes (4 * k + 1)) (slice_index bytes (4 * k + 2)) (slice_index bytes (4 * k + 3)))
+        (slice_index bytes (4 * k + 1)) (slice_index bytes (4 * k + 2))
+        (slice_index bytes (4 * k + 3)))
         → take (12 - count_ones first) result.0 ≡ encode_utf8_all us }
     ensures upper { (us : List ℕ) → length us ≡ 4 → second ≡ mask_l (length_classes us)
         → ((k : ℕ) → k < 4 → EncodesLast (slice_index us k)
-        (slice_index bytes (16 + (4 * k + 1))) (slice_index bytes (16 + (4 * k + 2))) (slice_index bytes (16 + (4 * k + 3))))
+        (slice_index bytes (16 + (4 * k + 1))) (slice_index bytes (16 + (4 * k + 2)))
+        (slice_index bytes (16 + (4 * k + 3))))
         → take (12 - count_ones second) result.1 ≡ encode_utf8_all us }
 {
     select_in_halves(bytes, last_by(first), last_by(second))
@@ -130,7 +138,8 @@ fn lengths_by(mask: usize) -> (usize, usize, usize, usize)
     ensures second { result.1 ≡ result.0 + (12 - count_ones (bit_and (mask / 0x100) 0xFF)) }
     ensures third { result.2 ≡ result.1 + (12 - count_ones (bit_and (mask / 0x10000) 0xFF)) }
     ensures fourth { result.3 ≡ result.2 + (12 - count_ones (mask / 0x1000000)) }
-    ensures bounds { (4 ≤ result.0) × (result.0 ≤ 12) × (result.0 + 4 ≤ result.1) × (result.1 ≤ result.0 + 12)
+    ensures bounds { (4 ≤ result.0) × (result.0 ≤ 12) × (result.0 + 4 ≤ result.1)
+        × (result.1 ≤ result.0 + 12)
         × (result.1 + 4 ≤ result.2) × (result.2 ≤ result.1 + 12)
         × (result.2 + 4 ≤ result.3) × (result.3 ≤ result.2 + 12) }
 {

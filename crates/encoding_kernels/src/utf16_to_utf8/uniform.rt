@@ -35,7 +35,8 @@ fn both_bytes(units: u16x16) -> u8x32
     requires { (k : ℕ) → k < 16 → slice_index units k < 0x800 }
     ensures lane_count { length result ≡ 32 }
     ensures bytes { (k : ℕ) → k < 16
-        → EncodesTo (slice_index units k) (slice_index result (2 * k)) (slice_index result (2 * k + 1)) }
+        → EncodesTo (slice_index units k) (slice_index result (2 * k))
+        (slice_index result (2 * k + 1)) }
 {
     let last = (units & u16x16::splat(0x3F)) << u16x16::splat(8);
     let both = (units >> u16x16::splat(6)) + last + u16x16::splat(0x80C0);
@@ -247,7 +248,8 @@ fn write_eight(units: u16x8, dst: &mut [u8], at: usize)
     requires dst_length { at + 24 ≤ length dst.old }
     requires three_byte { (k : ℕ) → k < 8 → 0x800 ≤ slice_index units k }
     ensures out_length { length (encode_utf8_all units) ≡ 24 }
-    ensures written { dst.new ≡ take at dst.old ++ (encode_utf8_all units ++ drop (at + 24) dst.old) }
+    ensures written { dst.new ≡ take at dst.old ++ (encode_utf8_all units ++ drop
+        (at + 24) dst.old) }
 {
     let (first, second) = encode_three_byte(units);
     first.copy_to_slice(&mut dst[at..]);

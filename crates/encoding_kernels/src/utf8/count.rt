@@ -38,7 +38,9 @@ fn four_lanes<const N: usize>(
     third: Simd<u8, N>,
     fourth: Simd<u8, N>,
 ) -> Simd<u8, N>
-    ensures { HasLanes N result (λ k. bool_byte (is_four_bytes (slice_index lead.entry k) (slice_index second.entry k) (slice_index third.entry k) (slice_index fourth.entry k))) }
+    ensures { HasLanes N result
+        (λ k. bool_byte (is_four_bytes (slice_index lead.entry k) (slice_index second.entry k)
+        (slice_index third.entry k) (slice_index fourth.entry k))) }
 {
     // the only first byte of four that may not precede this second byte
     let excluded = second

@@ -46,7 +46,8 @@ fn joined_lanes<const N: usize>(
     second: Simd<u8, N>,
     third: Simd<u8, N>,
 ) -> Simd<u8, N>
-    ensures { HasLanes N result (λ k. continuations_by (slice_index lead.entry k) (slice_index second.entry k) (slice_index third.entry k)) }
+    ensures { HasLanes N result (λ k. continuations_by (slice_index lead.entry k)
+        (slice_index second.entry k) (slice_index third.entry k)) }
 {
     // the only first bytes of three and of four that may not precede this second byte
     let three_byte_lead = second
@@ -146,7 +147,8 @@ fn count_joined(bytes: &[u8], ascii: usize) -> usize
 
 /// Returns the number of code units in the UTF-16 of the bytes, with U+FFFD for each malformed sequence.
 pub fn utf16_length_of_utf8(bytes: &[u8]) -> usize
-    ensures { (parts : List Part) × ArePartsOf bytes.now parts × (result ≡ length (lossy_utf16 parts)) }
+    ensures { (parts : List Part) × ArePartsOf bytes.now parts
+        × (result ≡ length (lossy_utf16 parts)) }
 {
     let ascii = prefix_len_below(bytes, ASCII_END);
     bytes.len() - count_joined(bytes, ascii)

@@ -32,7 +32,8 @@ fn below_three(lead: u8, second: u8) -> usize
 /// Returns, in each lane, how many bytes below three the character has that `lead` begins.
 #[inline(always)]
 fn below_three_lanes<const N: usize>(lead: Simd<u8, N>, second: Simd<u8, N>) -> Simd<u8, N>
-    ensures { HasLanes N result (λ k. bytes_below_three_by (slice_index lead.entry k) (slice_index second.entry k)) }
+    ensures { HasLanes N result (λ k. bytes_below_three_by (slice_index lead.entry k)
+        (slice_index second.entry k)) }
 {
     let begins_two = lead.simd_ge(Simd::splat(0xC2)) & lead.simd_le(Simd::splat(0xDF));
     let continues = second.simd_ge(Simd::splat(0x80)) & second.simd_le(Simd::splat(0xBF));

@@ -119,7 +119,8 @@ const BYTE_2_HIGH: [u8; 32] = twice![
 fn faults_of(fourth: u8x16, third: u8x16, second: u8x16, block: u8x16) -> u8x16
     ensures length { length result ≡ 16 }
     ensures lanes { (i : ℕ) → i < 16 → slice_index result i ≡ 0
-        → IsValidAfter (slice_index fourth i) (slice_index third i) (slice_index second i) (slice_index block i) }
+        → IsValidAfter (slice_index fourth i) (slice_index third i) (slice_index second i)
+        (slice_index block i) }
 {
     let four = u8x16::splat(4);
     let pairs = u8x16::from_slice(&BYTE_1_HIGH).swizzle_dyn(second >> four)
@@ -135,7 +136,8 @@ fn faults_of(fourth: u8x16, third: u8x16, second: u8x16, block: u8x16) -> u8x16
 fn faults_of_32(fourth: u8x32, third: u8x32, second: u8x32, block: u8x32) -> u8x32
     ensures length { length result ≡ 32 }
     ensures lanes { (i : ℕ) → i < 32 → slice_index result i ≡ 0
-        → IsValidAfter (slice_index fourth i) (slice_index third i) (slice_index second i) (slice_index block i) }
+        → IsValidAfter (slice_index fourth i) (slice_index third i) (slice_index second i)
+        (slice_index block i) }
 {
     let four = u8x32::splat(4);
     let pairs = u8x32::from_slice(&BYTE_1_HIGH).swizzle_dyn_within::<16>(second >> four)

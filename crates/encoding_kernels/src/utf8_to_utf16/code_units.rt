@@ -22,7 +22,8 @@ fn is_below(block: u8x16, bound: u8) -> bool
 /// Returns the last eight of the twelve bits that each byte and the one before it hold, six each.
 #[inline(always)]
 fn lower_bits(block: u8x16) -> u8x16
-    ensures { HasLanes 16 result (λ k. low_bits (slice_index (0 ∷ block) k) (slice_index block k) % 0x100) }
+    ensures { HasLanes 16 result
+        (λ k. low_bits (slice_index (0 ∷ block) k) (slice_index block k) % 0x100) }
 {
     (one_before(block) << u8x16::splat(6)) + (block & u8x16::splat(0x3F))
 }
@@ -30,7 +31,8 @@ fn lower_bits(block: u8x16) -> u8x16
 /// Returns the four bits above those, and above these the four of a byte that begins three and is two lanes before.
 #[inline(always)]
 fn upper_bits(block: u8x16) -> u8x16
-    ensures { HasLanes 16 result (λ k. upper_of (slice_index (0 ∷ 0 ∷ block) k) (slice_index (0 ∷ block) k)) }
+    ensures { HasLanes 16 result
+        (λ k. upper_of (slice_index (0 ∷ 0 ∷ block) k) (slice_index (0 ∷ block) k)) }
 {
     let two = two_before(block);
     let above = two
@@ -43,7 +45,8 @@ fn upper_bits(block: u8x16) -> u8x16
 #[inline(always)]
 pub(crate) fn join_bytes(lower: u8x16, upper: u8x16) -> (u16x8, u16x8)
     ensures lanes { HasLanes 8 result.0 (λ k. slice_index lower k + 0x100 * slice_index upper k) }
-    ensures last { HasLanes 8 result.1 (λ k. slice_index lower (8 + k) + 0x100 * slice_index upper (8 + k)) }
+    ensures last { HasLanes 8 result.1
+        (λ k. slice_index lower (8 + k) + 0x100 * slice_index upper (8 + k)) }
 {
     let first = lower.shuffle(
         upper,
@@ -60,7 +63,8 @@ pub(crate) fn join_bytes(lower: u8x16, upper: u8x16) -> (u16x8, u16x8)
 #[inline(always)]
 fn short_units(block: u8x16) -> (u16x8, u16x8)
     requires { (k : ℕ) → k < 16 → slice_index block k < 0xF0 }
-    ensures { (result.0 ≡ take 8 (units_after 0 0 0 block)) × (result.1 ≡ drop 8 (units_after 0 0 0 block)) }
+    ensures { (result.0 ≡ take 8 (units_after 0 0 0 block))
+        × (result.1 ≡ drop 8 (units_after 0 0 0 block)) }
 {
     let is_ascii = block.simd_lt(u8x16::splat(0x80));
     let lower = is_ascii.select(block, lower_bits(block));
@@ -71,7 +75,8 @@ fn short_units(block: u8x16) -> (u16x8, u16x8)
 /// Returns the last eight of the ten bits of a high surrogate that each byte ends, without what is added to them.
 #[inline(always)]
 fn high_bits(block: u8x16) -> u8x16
-    ensures { HasLanes 16 result (λ k. low_bits (slice_index (0 ∷ block) k) (slice_index block k) / 0x10) }
+    ensures { HasLanes 16 result
+        (λ k. low_bits (slice_index (0 ∷ block) k) (slice_index block k) / 0x10) }
 {
     (one_before(block) << u8x16::splat(2)) + ((block >> u8x16::splat(4)) & u8x16::splat(3))
 }
@@ -112,7 +117,8 @@ fn upper_bytes(block: u8x16) -> u8x16
 /// Returns the code unit that ends with each byte: the first eight, and the last eight.
 #[inline(always)]
 pub(crate) fn code_units(block: u8x16) -> (u16x8, u16x8)
-    ensures { (result.0 ≡ take 8 (units_after 0 0 0 block)) × (result.1 ≡ drop 8 (units_after 0 0 0 block)) }
+    ensures { (result.0 ≡ take 8 (units_after 0 0 0 block))
+        × (result.1 ≡ drop 8 (units_after 0 0 0 block)) }
 {
     if is_below(block, 0xF0) {
         return short_units(block);

@@ -119,7 +119,8 @@ const LEAD_VALUES: [u8; 16] = [
 fn write_compressed(first: u16x8, last: u16x8, kept: usize, dst: &mut [u16]) -> usize
     requires { (kept < 2 ^ 16) × (16 ≤ length dst.old) }
     ensures { (marks : List Bool) → length marks ≡ 16 → kept ≡ mask_l marks
-        → WritesCompressed marks (first ++ last) dst.old dst.new result (result + 8 - count_ones (kept / 2 ^ 8)) }
+        → WritesCompressed marks (first ++ last) dst.old dst.new result
+        (result + 8 - count_ones (kept / 2 ^ 8)) }
 {
     let first_kept = kept & 0xFF;
     let last_kept = kept >> 8;
@@ -172,8 +173,10 @@ pub(super) fn write_block(src: &[u8], end: usize, kept: usize, dst: &mut [u16]) 
     requires dst_length { (16 ≤ length src.now) × (16 ≤ length dst.old) }
     requires text { IsUtf8 src.now }
     requires end { (end ≤ 16) × IsCharBoundary src.now end }
-    requires kept { kept ≡ mask_l (take end (ends_after 0 (take 16 src.now)) ++ replicate (16 - end) false) }
-    ensures { WritesUtf16 src.now dst.old dst.new end result (result + 8 - count_ones (kept / 2 ^ 8)) }
+    requires kept { kept ≡ mask_l
+        (take end (ends_after 0 (take 16 src.now)) ++ replicate (16 - end) false) }
+    ensures { WritesUtf16 src.now dst.old dst.new end result
+        (result + 8 - count_ones (kept / 2 ^ 8)) }
 {
     let (first, last) = code_units(u8x16::from_slice(src));
     write_compressed(first, last, kept, dst)
@@ -186,7 +189,8 @@ pub(super) fn write_block_in_any_room(src: &[u8], end: usize, kept: usize, dst: 
     requires dst_length { (16 ≤ length src.now) × (end ≤ length dst.old) }
     requires text { IsUtf8 src.now }
     requires end { (end ≤ 16) × IsCharBoundary src.now end }
-    requires kept { kept ≡ mask_l (take end (ends_after 0 (take 16 src.now)) ++ replicate (16 - end) false) }
+    requires kept { kept ≡ mask_l
+        (take end (ends_after 0 (take 16 src.now)) ++ replicate (16 - end) false) }
     ensures { WritesUtf16 src.now dst.old dst.new end result result }
 {
     if dst.len() >= 16 {
@@ -297,7 +301,8 @@ fn with_zeros(src: &[u8]) -> u8x16
 /// Writes the UTF-16 of a text of eight to sixteen bytes, and returns its length in code units.
 #[inline(never)]
 pub(super) fn write_tail(src: &[u8], dst: &mut [u16]) -> usize
-    requires dst_length { (8 ≤ length src.now) × (length src.now ≤ 16) × (length src.now ≤ length dst.old) }
+    requires dst_length { (8 ≤ length src.now) × (length src.now ≤ 16)
+        × (length src.now ≤ length dst.old) }
     requires text { IsUtf8 src.now }
     ensures { WritesPrefix dst.old dst.new result (flat_map encode_utf16 (chars src.now)) }
 {

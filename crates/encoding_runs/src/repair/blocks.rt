@@ -40,7 +40,8 @@ pub fn repair_block(
     last: bool,
 ) -> RepairedBlock
     ensures { (out : List ℕ) × WritesPrefix dst.old dst.new result.written out
-        × IsBlockRepair decoder.old src.now (length dst.old) last result result.read out decoder.new }
+        × IsBlockRepair decoder.old src.now
+        (length dst.old) last result result.read out decoder.new }
 {
     // Without a call of the decoder no other clause says that the pending bytes are none or an incomplete sequence.
     let _neutral = decoder.in_neutral_state();

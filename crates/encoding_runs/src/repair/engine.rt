@@ -37,8 +37,10 @@ const REPLACEMENT_UTF8: [u8; 3] = [0xEF, 0xBF, 0xBD];
 fn write_by_parts<W: Sink>(writer: &mut W, bytes: &[u8]) -> Result<(), RepairFault>
     ensures ok { IfOk result (λ _. Appends (W.contents writer.old) (W.contents writer.new) bytes.now
         × (W.has_failed writer.new ≡ W.has_failed writer.old)) }
-    ensures err { IfErr result (λ fault. (fault ≡ RepairFault.Write) × (W.has_failed writer.new ≡ true)
-        × (n : ℕ) × (n < length bytes.now) × Appends (W.contents writer.old) (W.contents writer.new) (take n bytes.now)) }
+    ensures err { IfErr result
+        (λ fault. (fault ≡ RepairFault.Write) × (W.has_failed writer.new ≡ true)
+        × (n : ℕ) × (n < length bytes.now) × Appends (W.contents writer.old) (W.contents writer.new)
+        (take n bytes.now)) }
     ensures keeps { W.keeps writer.old writer.new }
 {
     let mut at = 0;
@@ -56,8 +58,10 @@ fn write_by_parts<W: Sink>(writer: &mut W, bytes: &[u8]) -> Result<(), RepairFau
 fn write_whole<W: Sink>(writer: &mut W, bytes: &[u8]) -> Result<(), RepairFault>
     ensures ok { IfOk result (λ _. Appends (W.contents writer.old) (W.contents writer.new) bytes.now
         × (W.has_failed writer.new ≡ W.has_failed writer.old)) }
-    ensures err { IfErr result (λ fault. (fault ≡ RepairFault.Write) × (W.has_failed writer.new ≡ true)
-        × (n : ℕ) × (n < length bytes.now) × Appends (W.contents writer.old) (W.contents writer.new) (take n bytes.now)) }
+    ensures err { IfErr result
+        (λ fault. (fault ≡ RepairFault.Write) × (W.has_failed writer.new ≡ true)
+        × (n : ℕ) × (n < length bytes.now) × Appends (W.contents writer.old) (W.contents writer.new)
+        (take n bytes.now)) }
     ensures keeps { W.keeps writer.old writer.new }
 {
     if bytes.is_empty() {
@@ -78,7 +82,8 @@ fn write_piece<W: Sink>(writer: &mut W, piece: Piece<'_>) -> Result<u64, RepairF
     ensures ok { IfOk result (λ replaced. (replaced ≡ malformed_in piece.entry)
         × Appends (W.contents writer.old) (W.contents writer.new) (text_of piece.entry)
         × (W.has_failed writer.new ≡ W.has_failed writer.old)) }
-    ensures err { IfErr result (λ fault. (fault ≡ RepairFault.Write) × (W.has_failed writer.new ≡ true)
+    ensures err { IfErr result
+        (λ fault. (fault ≡ RepairFault.Write) × (W.has_failed writer.new ≡ true)
         × (n : ℕ) × (n < length (text_of piece.entry))
         × Appends (W.contents writer.old) (W.contents writer.new) (take n (text_of piece.entry))) }
     ensures keeps { W.keeps writer.old writer.new }
@@ -111,8 +116,10 @@ fn write_parts<W: Sink>(
         (W.contents writer.old) (W.contents writer.new) replaced
         × IsPending decoder.new × (last ≡ true → decoder.new ≡ [])
         × (W.has_failed writer.new ≡ W.has_failed writer.old)) }
-    ensures err { IfErr result (λ fault. (fault ≡ RepairFault.Write) × (W.has_failed writer.new ≡ true)
-        × StopsInParts last (decoder.old ++ src.now) (W.contents writer.old) (W.contents writer.new)) }
+    ensures err { IfErr result
+        (λ fault. (fault ≡ RepairFault.Write) × (W.has_failed writer.new ≡ true)
+        × StopsInParts last (decoder.old ++ src.now) (W.contents writer.old)
+        (W.contents writer.new)) }
     ensures keeps { W.keeps writer.old writer.new }
 {
     let mut rest = src;
@@ -159,16 +166,22 @@ fn repair_round<R: Source, W: Sink>(
 ) -> Result<Repaired, RepairFault>
     requires unfinished { IsPending decoder.old }
     requires some_room { 0 < length buffer.old }
-    ensures ok { IfOk result (λ round. (bytes : List ℕ) × (last : Bool) × (round.read ≡ length bytes)
-        × ReadsRound (length buffer.old) bytes last (R.remaining reader.old) (R.remaining reader.new)
+    ensures ok { IfOk result
+        (λ round. (bytes : List ℕ) × (last : Bool) × (round.read ≡ length bytes)
+        × ReadsRound (length buffer.old) bytes last (R.remaining reader.old)
+        (R.remaining reader.new)
         (R.has_ended reader.old) (R.has_ended reader.new)
-        × WritesParts last (decoder.old ++ bytes) decoder.new (W.contents writer.old) (W.contents writer.new) round.replaced
+        × WritesParts last (decoder.old ++ bytes) decoder.new (W.contents writer.old)
+        (W.contents writer.new) round.replaced
         × IsPending decoder.new × (last ≡ true → decoder.new ≡ [])
-        × (R.has_failed reader.new ≡ R.has_failed reader.old) × (W.has_failed writer.new ≡ W.has_failed writer.old)) }
-    ensures read_fault { result ≡ Err RepairFault.Read → Keeps (R.remaining reader.old) (R.remaining reader.new)
+        × (R.has_failed reader.new ≡ R.has_failed reader.old)
+        × (W.has_failed writer.new ≡ W.has_failed writer.old)) }
+    ensures read_fault { result ≡ Err RepairFault.Read
+        → Keeps (R.remaining reader.old) (R.remaining reader.new)
         × (writer.new ≡ writer.old) × (R.has_failed reader.new ≡ true) }
     ensures write_fault { result ≡ Err RepairFault.Write → (bytes : List ℕ) × (last : Bool)
-        × ReadsRound (length buffer.old) bytes last (R.remaining reader.old) (R.remaining reader.new)
+        × ReadsRound (length buffer.old) bytes last (R.remaining reader.old)
+        (R.remaining reader.new)
         (R.has_ended reader.old) (R.has_ended reader.new)
         × StopsInParts last (decoder.old ++ bytes) (W.contents writer.old) (W.contents writer.new)
         × (R.has_failed reader.new ≡ R.has_failed reader.old) × (W.has_failed writer.new ≡ true) }
@@ -198,7 +211,8 @@ pub fn repair<R: Source, W: Sink>(
     writer: &mut W,
     limit: u64,
 ) -> Result<Repaired, RepairFault>
-    ensures ok { IfOk result (λ repaired. (bytes : List ℕ) × (repaired.read ≡ length bytes) × (length bytes < limit)
+    ensures ok { IfOk result (λ repaired. (bytes : List ℕ) × (repaired.read ≡ length bytes)
+        × (length bytes < limit)
         × RepairsAll bytes (R.remaining reader.old) (R.remaining reader.new)
         (W.contents writer.old) (W.contents writer.new) repaired.replaced
         × (R.has_ended reader.new ≡ true)) }
@@ -210,7 +224,8 @@ pub fn repair<R: Source, W: Sink>(
         (W.contents writer.old) (W.contents writer.new) }
     ensures write_fault { result ≡ Err RepairFault.Write → R.has_ended reader.old ≡ false
         → (bytes : List ℕ) × (length bytes ≤ limit)
-        × RepairsProperPrefix bytes (R.has_ended reader.new) (R.remaining reader.old) (R.remaining reader.new)
+        × RepairsProperPrefix bytes (R.has_ended reader.new) (R.remaining reader.old)
+        (R.remaining reader.new)
         (W.contents writer.old) (W.contents writer.new) }
     ensures reader_failed { R.has_failed reader.old ≡ false → W.has_failed writer.old ≡ false
         → (IsTrue (R.has_failed reader.new) ↔ (result ≡ Err RepairFault.Read)) }

@@ -33,7 +33,8 @@ pub trait Source {
         ensures bound { IfSome result (λ n. n ≤ length buffer.new) }
         ensures bytes { ReadMoves (remaining self.old) (remaining self.new) result buffer.new }
         ensures failed { FailsOnNone result (has_failed self.old) (has_failed self.new) }
-        ensures ended { EndsOnZero result (length buffer.old) (has_ended self.old) (has_ended self.new) }
+        ensures ended { EndsOnZero result (length buffer.old) (has_ended self.old)
+            (has_ended self.new) }
         ensures stream { stream self.new ≡ stream self.old };
 }
 
@@ -147,7 +148,8 @@ impl<'a, T: Write> Sink for Watch<'a, T> {
     fn write(&mut self, bytes: &[u8]) -> Option<usize>
         requires not_empty { 0 < length bytes.now }
         ensures bound { IfSome result (λ n. (0 < n) × (n ≤ length bytes.now)) }
-        ensures bytes { WriteMoves (T.contents self.old.inner.now) (T.contents self.new.inner.now) result bytes.now }
+        ensures bytes { WriteMoves (T.contents self.old.inner.now)
+            (T.contents self.new.inner.now) result bytes.now }
         ensures failed { FailsOnNone result (self.old.failed) (self.new.failed) }
         ensures keeps { self.new.inner.ghost_name ≡ self.old.inner.ghost_name }
         ensures ended { self.new.ended ≡ self.old.ended }

@@ -48,7 +48,8 @@ trait CodeUnit: Copy {
         dst: &mut [Self],
         last: bool,
     ) -> (DecoderResult, usize, usize)
-        ensures call { DecodeStepInto encode need decoder.old src.now dst.old dst.new last result.0 result.1 result.2
+        ensures call { DecodeStepInto encode need decoder.old src.now dst.old dst.new last
+            result.0 result.1 result.2
             decoder.new };
 }
 
@@ -93,7 +94,8 @@ fn make_call<U: CodeUnit>(
     left: &mut [U],
 ) -> (DecoderResult, usize, usize)
     ensures call { (out : List U) × WritesPrefix left.old left.new result.2 out
-        × DecodeStep U.encode U.need decoder.old (take turn.now.take unread.now) (room_of turn.now (length left.old))
+        × DecodeStep U.encode U.need decoder.old (take turn.now.take unread.now)
+        (room_of turn.now (length left.old))
         (is_marked_last turn.now (length unread.now)) result.0 result.1 out decoder.new }
 {
     let piece = turn.piece_length(unread.len());
@@ -132,9 +134,11 @@ fn run<U: CodeUnit>(
     requires places { length turns.now ≤ length reports.old }
     requires not_empty { 0 < U.need }
     requires short { (c : ℕ) → IsScalar c → length (U.encode c) ≤ length (encode_utf8 c) }
-    ensures delivers { Delivers U.encode U.need decoder.old src.now turns.now dst.old dst.new reports.old reports.new
+    ensures delivers { Delivers U.encode U.need decoder.old src.now turns.now dst.old dst.new
+        reports.old reports.new
         result decoder.new }
-    ensures completes { Completes DecoderResult.InputEmpty (λ n pending. n + (U.need - 1) + pending) U.need
+    ensures completes { Completes DecoderResult.InputEmpty
+        (λ n pending. n + (U.need - 1) + pending) U.need
         decoder.old src.now turns.now (length dst.old) result.result }
 {
     // Without turns no other clause says that the pending bytes are none or an incomplete sequence.
@@ -181,9 +185,11 @@ pub fn run_to_utf16(
     reports: &mut [Report],
 ) -> Outcome
     requires places { length turns.now ≤ length reports.old }
-    ensures delivers { Delivers encode_utf16 2 decoder.old src.now turns.now dst.old dst.new reports.old reports.new
+    ensures delivers { Delivers encode_utf16 2 decoder.old src.now turns.now dst.old dst.new
+        reports.old reports.new
         result decoder.new }
-    ensures completes { Completes DecoderResult.InputEmpty max_utf16_length 2 decoder.old src.now turns.now (length dst.old)
+    ensures completes { Completes DecoderResult.InputEmpty max_utf16_length 2 decoder.old src.now
+        turns.now (length dst.old)
         result.result }
 {
     run::<u16>(decoder, src, turns, dst, reports)
@@ -202,9 +208,11 @@ pub fn run_to_utf8(
     reports: &mut [Report],
 ) -> Outcome
     requires places { length turns.now ≤ length reports.old }
-    ensures delivers { Delivers encode_utf8 4 decoder.old src.now turns.now dst.old dst.new reports.old reports.new
+    ensures delivers { Delivers encode_utf8 4 decoder.old src.now turns.now dst.old dst.new
+        reports.old reports.new
         result decoder.new }
-    ensures completes { Completes DecoderResult.InputEmpty max_utf8_length 4 decoder.old src.now turns.now (length dst.old)
+    ensures completes { Completes DecoderResult.InputEmpty max_utf8_length 4 decoder.old src.now
+        turns.now (length dst.old)
         result.result }
 {
     run::<u8>(decoder, src, turns, dst, reports)

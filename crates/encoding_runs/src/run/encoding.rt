@@ -26,8 +26,10 @@ fn encode_turn(
     unread: &[u16],
     left: &mut [u8],
 ) -> (EncoderResult, usize, usize)
-    ensures call { EncodeStep encoder.old (take turn.now.take unread.now) (room_of turn.now (length left.old))
-        (is_marked_last turn.now (length unread.now)) result.0 result.1 (take result.2 left.new) encoder.new }
+    ensures call { EncodeStep encoder.old (take turn.now.take unread.now)
+        (room_of turn.now (length left.old))
+        (is_marked_last turn.now (length unread.now)) result.0 result.1
+        (take result.2 left.new) encoder.new }
     ensures within { result.1 ≤ length unread.now }
     ensures unchanged_after { WritesPrefix left.old left.new result.2 (take result.2 left.new) }
 {
@@ -55,8 +57,10 @@ pub fn run_from_utf16(
     turns: &[Turn],
     dst: &mut [u8],
 ) -> EncodeOutcome
-    ensures delivers { EncodesByTurns encoder.old src.now turns.now dst.old dst.new result encoder.new }
-    ensures completes { Completes EncoderResult.InputEmpty (λ n pending. 3 * (n + pending)) 4 encoder.old src.now turns.now
+    ensures delivers { EncodesByTurns encoder.old src.now turns.now dst.old dst.new
+        result encoder.new }
+    ensures completes { Completes EncoderResult.InputEmpty
+        (λ n pending. 3 * (n + pending)) 4 encoder.old src.now turns.now
         (length dst.old) result.result }
 {
     // Without turns no other contract says that at most one surrogate is pending.

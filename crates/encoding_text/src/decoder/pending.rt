@@ -56,8 +56,10 @@ fn goes_on(lead: u8, count: usize, byte: u8) -> bool
 #[inline]
 pub(crate) fn is_malformed_byte(bytes: &[u8]) -> bool
     requires not_empty { 0 < length bytes.now }
-    ensures malformed { (last : Bool) → IsTrue result → IsMalformed (take 1 bytes.now) (drop 1 bytes.now) last }
-    ensures begins { BeginsWithNoCharacter bytes.now → result ≡ false → IsIncomplete (take 1 bytes.now) }
+    ensures malformed { (last : Bool) → IsTrue result
+        → IsMalformed (take 1 bytes.now) (drop 1 bytes.now) last }
+    ensures begins { BeginsWithNoCharacter bytes.now → result ≡ false
+        → IsIncomplete (take 1 bytes.now) }
 {
     let lead = bytes[0];
     if lead < 0x80 {

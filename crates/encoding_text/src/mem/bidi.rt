@@ -151,7 +151,8 @@ pub fn is_str_bidi(buffer: &str) -> bool
 /// Returns the length of a prefix that is well-formed and has no right-to-left character, by whole blocks: its ASCII, and
 /// a piece after it. Returns `None` if the piece has such a character.
 fn clear_prefix_len(bytes: &[u8]) -> Option<usize>
-    ensures clear { IfSome result (λ n. (n ≤ length bytes.now) × IsUtf8 (take n bytes.now) × (IsBidiText (take n bytes.now) → ⊥)) }
+    ensures clear { IfSome result (λ n. (n ≤ length bytes.now) × IsUtf8 (take n bytes.now)
+        × (IsBidiText (take n bytes.now) → ⊥)) }
     ensures found { IfNone result (IsBidiBytes bytes.now) }
 {
     let prefix = ascii_valid_up_to(bytes);

@@ -40,7 +40,8 @@ pub fn convert_latin1_to_utf16(src: &[u8], dst: &mut [u16])
 fn copy_first_ascii(src: &[u8], dst: &mut [u8]) -> usize
     ensures within { (result ≤ length src.now) × (result ≤ length dst.old) }
     ensures ascii { IsAscii (take result src.now) }
-    ensures stops { result < length src.now → result < length dst.old → 0x80 ≤ slice_index src.now result }
+    ensures stops { result < length src.now → result < length dst.old
+        → 0x80 ≤ slice_index src.now result }
     ensures copied { WritesPrefix dst.old dst.new result (take result src.now) }
 {
     match ascii::ascii_to_ascii(src, dst) {
@@ -55,7 +56,8 @@ fn copy_first_ascii(src: &[u8], dst: &mut [u8]) -> usize
 fn copy_some_ascii(src: &[u8], dst: &mut [u8]) -> usize
     ensures within { (result ≤ length src.now) × (result ≤ length dst.old) }
     ensures ascii { IsAscii (take result src.now) }
-    ensures stops { result < length src.now → result < length dst.old → 0x80 ≤ slice_index src.now result }
+    ensures stops { result < length src.now → result < length dst.old
+        → 0x80 ≤ slice_index src.now result }
     ensures copied { WritesPrefix dst.old dst.new result (take result src.now) }
 {
     copy_first_ascii(src, dst)
@@ -66,7 +68,8 @@ fn copy_some_ascii(src: &[u8], dst: &mut [u8]) -> usize
 fn copy_ascii(src: &[u8], dst: &mut [u8]) -> usize
     ensures within { (result ≤ length src.now) × (result ≤ length dst.old) }
     ensures ascii { IsAscii (take result src.now) }
-    ensures stops { result < length src.now → result < length dst.old → 0x80 ≤ slice_index src.now result }
+    ensures stops { result < length src.now → result < length dst.old
+        → 0x80 ≤ slice_index src.now result }
     ensures copied { WritesPrefix dst.old dst.new result (take result src.now) }
 {
     if !src.is_empty() && src[0] >= ASCII_END {
@@ -80,7 +83,8 @@ fn copy_ascii(src: &[u8], dst: &mut [u8]) -> usize
 #[inline(always)]
 fn convert_latin1_blocks(src: &[u8], dst: &mut [u8]) -> (usize, usize)
     ensures within { result.0 ≤ length src.now }
-    ensures written { WritesPrefix dst.old dst.new result.1 (encode_utf8_all (take result.0 src.now)) }
+    ensures written { WritesPrefix dst.old dst.new result.1
+        (encode_utf8_all (take result.0 src.now)) }
 {
     let mut read = 0;
     let mut written = 0;
@@ -106,8 +110,10 @@ fn convert_latin1_blocks(src: &[u8], dst: &mut [u8]) -> (usize, usize)
 #[inline(always)]
 fn finish_latin1(src: &[u8], dst: &mut [u8], read: usize, written: usize) -> Option<usize>
     requires left { (16 ≤ length src.now) × (read ≤ length src.now) × (length src.now ≤ read + 16) }
-    requires counted { (written ≡ length (encode_utf8_all (take read src.now))) × (written ≤ length dst.old) }
-    ensures finished { IfSome result (λ n. (old : List ℕ) → WritesPrefix old dst.old written (encode_utf8_all (take read src.now))
+    requires counted { (written ≡ length (encode_utf8_all (take read src.now)))
+        × (written ≤ length dst.old) }
+    ensures finished { IfSome result (λ n. (old : List ℕ)
+        → WritesPrefix old dst.old written (encode_utf8_all (take read src.now))
         → WritesPrefix old dst.new n (encode_utf8_all src.now)) }
     ensures full { IfNone result (dst.new ≡ dst.old) }
 {
@@ -126,9 +132,11 @@ fn finish_latin1(src: &[u8], dst: &mut [u8], read: usize, written: usize) -> Opt
 fn convert_latin1_turns(src: &[u8], dst: &mut [u8], ascii: usize) -> (usize, usize)
     requires ascii { (ascii ≤ length src.now) × IsAscii (take ascii src.now) }
     requires copied { (ascii ≤ length dst.old) × (take ascii dst.old ≡ take ascii src.now) }
-    ensures prefix { IsLongestFittingPrefix (λ b. b ∷ []) encode_utf8 src.now (length dst.old) result.0
+    ensures prefix { IsLongestFittingPrefix (λ b. b ∷ []) encode_utf8 src.now
+        (length dst.old) result.0
         (encode_utf8_all (take result.0 src.now)) }
-    ensures written { WritesPrefix dst.old dst.new result.1 (encode_utf8_all (take result.0 src.now)) }
+    ensures written { WritesPrefix dst.old dst.new result.1
+        (encode_utf8_all (take result.0 src.now)) }
     ensures after_ascii { ascii ≤ result.1 }
 {
     let mut read = ascii;
@@ -160,9 +168,11 @@ fn convert_latin1_turns(src: &[u8], dst: &mut [u8], ascii: usize) -> (usize, usi
 /// Writes the UTF-8 of the longest prefix of `src` whose UTF-8 fits into `dst`. Returns how many bytes it read and how
 /// many it wrote. Encoding Standard, `encodeInto`.
 pub fn convert_latin1_to_utf8_partial(src: &[u8], dst: &mut [u8]) -> (usize, usize)
-    ensures prefix { IsLongestFittingPrefix (λ b. b ∷ []) encode_utf8 src.now (length dst.old) result.0
+    ensures prefix { IsLongestFittingPrefix (λ b. b ∷ []) encode_utf8 src.now
+        (length dst.old) result.0
         (encode_utf8_all (take result.0 src.now)) }
-    ensures written { WritesPrefix dst.old dst.new result.1 (encode_utf8_all (take result.0 src.now)) }
+    ensures written { WritesPrefix dst.old dst.new result.1
+        (encode_utf8_all (take result.0 src.now)) }
 {
     let ascii = copy_first_ascii(src, dst);
     if ascii == src.len() {
@@ -196,7 +206,8 @@ fn finish_utf8(src: &[u8], dst: &mut [u8], read: usize, written: usize) -> Optio
     requires left { (16 < length src.now) × (read ≤ length src.now) × (length src.now < read + 16) }
     requires latin1 { IsUtf8Latin1 src.now }
     requires rest { drop read src.now ≡ encode_utf8_all (drop written (chars src.now)) }
-    requires written { (written ≤ length dst.old) × (take written dst.old ≡ take written (chars src.now)) }
+    requires written { (written ≤ length dst.old)
+        × (take written dst.old ≡ take written (chars src.now)) }
     ensures finished { IfSome result (λ n. WritesPrefix dst.old dst.new n (chars src.now)) }
     ensures full { IfNone result (dst.new ≡ dst.old) }
 {
@@ -284,7 +295,8 @@ pub fn convert_utf8_to_latin1_lossy(src: &[u8], dst: &mut [u8]) -> usize
 /// Writes the low eight bits of each UTF-16 code unit as a byte. `dst` is at least as long as `src`.
 pub fn convert_utf16_to_latin1_lossy(src: &[u16], dst: &mut [u8])
     requires dst_length { length src.now ≤ length dst.old }
-    ensures written { WritesPrefix dst.old dst.new (length src.now) (map (λ unit. unit % 0x100) src.now) }
+    ensures written { WritesPrefix dst.old dst.new (length src.now)
+        (map (λ unit. unit % 0x100) src.now) }
 {
     let (strides, _) = src.as_chunks::<STRIDE>();
     let mut at = 0;

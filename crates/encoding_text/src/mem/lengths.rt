@@ -13,7 +13,8 @@ use encoding_kernels::utf16::length::utf8_length_of_units;
 /// Returns the length of the bytes in UTF-16 code units, with U+FFFD for each malformed sequence: what
 /// `convert_utf8_to_utf16` writes. Encoding Standard, UTF-8 decode without BOM.
 pub fn utf16_length_from_utf8(src: &[u8]) -> usize
-    ensures { (parts : List Part) × ArePartsOf src.now parts × (result ≡ length (lossy_utf16 parts)) }
+    ensures { (parts : List Part) × ArePartsOf src.now parts
+        × (result ≡ length (lossy_utf16 parts)) }
 {
     utf16_length_of_utf8(src)
 }

@@ -20,7 +20,8 @@ const LATIN1_ZEROS: usize = 16;
 /// `dst` is unchanged.
 pub fn convert_utf16_to_str_partial(src: &[u16], dst: &mut [u8]) -> (usize, usize)
     requires text { IsUtf8 dst.old }
-    ensures longest { IsUtf8OfLongestPrefix src.now (length dst.old) result.0 (take result.1 dst.new) }
+    ensures longest { IsUtf8OfLongestPrefix src.now (length dst.old) result.0
+        (take result.1 dst.new) }
     ensures within { result.0 ≤ length src.now }
     ensures unchanged_after { WritesAndClears 0 dst.old dst.new result.1 (take result.1 dst.new) }
     ensures text { IsUtf8 dst.new }
@@ -54,9 +55,11 @@ pub fn convert_utf16_to_str(src: &[u16], dst: &mut [u8]) -> usize
 /// continuation bytes directly after those become zero. The rest of `dst` is unchanged.
 pub fn convert_latin1_to_str_partial(src: &[u8], dst: &mut [u8]) -> (usize, usize)
     requires text { IsUtf8 dst.old }
-    ensures prefix { IsLongestFittingPrefix (λ b. b ∷ []) encode_utf8 src.now (length dst.old) result.0
+    ensures prefix { IsLongestFittingPrefix (λ b. b ∷ []) encode_utf8 src.now
+        (length dst.old) result.0
         (encode_utf8_all (take result.0 src.now)) }
-    ensures written { WritesAndClears 16 dst.old dst.new result.1 (encode_utf8_all (take result.0 src.now)) }
+    ensures written { WritesAndClears 16 dst.old dst.new result.1
+        (encode_utf8_all (take result.0 src.now)) }
     ensures text { IsUtf8 dst.new }
 {
     let (read, written) = convert_latin1_to_utf8_partial(src, dst);

@@ -19,7 +19,8 @@ use encoding_kernels::simd::width::ASCII_END;
 /// `dst` has at least one code unit more than `src` has bytes.
 pub fn convert_utf8_to_utf16(src: &[u8], dst: &mut [u16]) -> usize
     requires dst_length { length src.now < length dst.old }
-    ensures { (parts : List Part) × ArePartsOf src.now parts × WritesPrefix dst.old dst.new result (lossy_utf16 parts) }
+    ensures { (parts : List Part) × ArePartsOf src.now parts × WritesPrefix dst.old dst.new result
+        (lossy_utf16 parts) }
 {
     let mut decoder = Utf8Decoder::new_inner();
     let mut read = 0;
@@ -69,7 +70,8 @@ pub fn convert_str_to_utf16(src: &str, dst: &mut [u16]) -> usize
 pub fn convert_utf8_to_utf16_without_replacement(src: &[u8], dst: &mut [u16]) -> Option<usize>
     requires dst_length { length src.now ≤ length dst.old }
     ensures whole { IsSome result ↔ IsUtf8 src.now }
-    ensures text { (written : ℕ) × WritesText src.now dst.old dst.new written × IfSome result (λ n. n ≡ written) }
+    ensures text { (written : ℕ) × WritesText src.now dst.old dst.new written × IfSome result
+        (λ n. n ≡ written) }
 {
     let (read, written) = convert_utf8_to_utf16_up_to_invalid(src, dst);
     if read == src.len() {

@@ -104,7 +104,8 @@ impl Utf8Encoder {
             result.0 result.1 (take result.2 dst.new) self.new }
         ensures within { result.1 ≤ length src.now }
         ensures unchanged_after { WritesPrefix dst.old dst.new result.2 (take result.2 dst.new) }
-        ensures suffices { 3 * (length src.now + length self.old) ≤ length dst.old → result.0 ≡ EncoderResult.InputEmpty }
+        ensures suffices { 3 * (length src.now + length self.old) ≤ length dst.old
+            → result.0 ≡ EncoderResult.InputEmpty }
     {
         let Some(high) = self.surrogate else {
             return self.encode_fresh(src, dst, last);
@@ -161,7 +162,8 @@ impl Utf8Encoder {
             result.0 result.1 (take result.2 dst.new) self.new }
         ensures within { result.1 ≤ length src.now }
         ensures unchanged_after { WritesPrefix dst.old dst.new result.2 (take result.2 dst.new) }
-        ensures suffices { length src.now + 3 * length self.old ≤ length dst.old → result.0 ≡ EncoderResult.InputEmpty }
+        ensures suffices { length src.now + 3 * length self.old ≤ length dst.old
+            → result.0 ≡ EncoderResult.InputEmpty }
     {
         let Some(_) = self.surrogate else {
             let (result, read) = encode_text(src, dst);
@@ -211,7 +213,8 @@ fn first_with_pending(high: u16, src: &[u16]) -> (u32, usize)
 
 /// Encodes the text with nothing pending. Returns what ended the call and how many bytes it read and wrote.
 fn encode_text(src: &str, dst: &mut [u8]) -> (EncoderResult, usize)
-    ensures call { TextEncodeStep [] src.now (length dst.old) result.0 result.1 (take result.1 dst.new) [] }
+    ensures call { TextEncodeStep [] src.now (length dst.old) result.0 result.1
+        (take result.1 dst.new) [] }
     ensures within { result.1 ≤ length src.now }
     ensures unchanged_after { WritesPrefix dst.old dst.new result.1 (take result.1 dst.new) }
 {
@@ -225,7 +228,8 @@ fn encode_text(src: &str, dst: &mut [u8]) -> (EncoderResult, usize)
 /// Copies the first characters of the text, as many as fit into `dst`, and returns their length in bytes.
 #[tactic(auto, using(crate::proofs::EncoderCallLemmas::text_prefix))]
 fn copy_text(src: &str, dst: &mut [u8]) -> usize
-    ensures longest { IsLongestFittingPrefix encode_utf8 encode_utf8 (chars src.now) (length dst.old) result (take result src.now) }
+    ensures longest { IsLongestFittingPrefix encode_utf8 encode_utf8 (chars src.now)
+        (length dst.old) result (take result src.now) }
     ensures within { result ≤ length src.now }
     ensures unchanged_after { WritesPrefix dst.old dst.new result (take result src.now) }
 {

@@ -21,7 +21,8 @@ const LONGEST: usize = 4;
 fn copy_ascii(src: &[u16], dst: &mut [u8]) -> usize
     ensures within { (result ≤ length src.now) × (result ≤ length dst.old - 3) }
     ensures ascii { IsAscii (take result src.now) }
-    ensures stops { result < length src.now → result < length dst.old - 3 → 0x80 ≤ slice_index src.now result }
+    ensures stops { result < length src.now → result < length dst.old - 3
+        → 0x80 ≤ slice_index src.now result }
     ensures copied { WritesPrefix dst.old dst.new result (take result src.now) }
 {
     let room = dst.len().saturating_sub(LONGEST - 1);
@@ -118,7 +119,8 @@ pub fn convert_utf16_to_utf8_partial_inner(src: &[u16], dst: &mut [u8]) -> (usiz
 pub fn convert_utf16_to_utf8_partial_tail(src: &[u16], dst: &mut [u8]) -> (usize, usize)
     requires not_empty { 0 < length src.now }
     requires at_most_three { length dst.old ≤ 3 }
-    ensures longest { IsUtf8OfLongestPrefix src.now (length dst.old) result.0 (take result.1 dst.new) }
+    ensures longest { IsUtf8OfLongestPrefix src.now (length dst.old) result.0
+        (take result.1 dst.new) }
     ensures within { result.0 ≤ length src.now }
     ensures unchanged_after { WritesPrefix dst.old dst.new result.1 (take result.1 dst.new) }
 {
@@ -141,7 +143,8 @@ pub fn convert_utf16_to_utf8_partial_tail(src: &[u16], dst: &mut [u8]) -> (usize
 /// An unpaired surrogate becomes U+FFFD, even at the end of `src`: no surrogate is kept for the next call. No character
 /// is written in part.
 pub fn convert_utf16_to_utf8_partial(src: &[u16], dst: &mut [u8]) -> (usize, usize)
-    ensures longest { IsUtf8OfLongestPrefix src.now (length dst.old) result.0 (take result.1 dst.new) }
+    ensures longest { IsUtf8OfLongestPrefix src.now (length dst.old) result.0
+        (take result.1 dst.new) }
     ensures within { result.0 ≤ length src.now }
     ensures unchanged_after { WritesPrefix dst.old dst.new result.1 (take result.1 dst.new) }
 {

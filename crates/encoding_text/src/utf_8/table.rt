@@ -52,10 +52,13 @@ pub const UTF8_DATA: Utf8Data = Utf8Data {
 #[tactic(auto, using(crate::proofs::TableLemmas::three_is, crate::proofs::TableLemmas::three_never, crate::proofs::TableLemmas::four_is, crate::proofs::TableLemmas::four_never))]
 pub fn law_table(lead: u8, second: u8, third: u8, fourth: u8)
     ensures three { 0xE0 ≤ lead → lead ≤ 0xEF
-        → (three_byte_formula UTF8_DATA.table lead second third ≡ 2) ↔ IsSequence (lead ∷ second ∷ third ∷ []) }
-    ensures low { 0x80 ≤ lead → lead ≤ 0xC1 → three_byte_formula UTF8_DATA.table lead second third ≢ 2 }
+        → (three_byte_formula UTF8_DATA.table lead second third ≡ 2) ↔ IsSequence
+        (lead ∷ second ∷ third ∷ []) }
+    ensures low { 0x80 ≤ lead → lead ≤ 0xC1
+        → three_byte_formula UTF8_DATA.table lead second third ≢ 2 }
     ensures four { 0xF0 ≤ lead → lead ≤ 0xF4
         → (four_byte_formula UTF8_DATA.table lead second third fourth ≡ 0x202)
         ↔ IsSequence (lead ∷ second ∷ third ∷ fourth ∷ []) }
-    ensures high { 0xF5 ≤ lead → four_byte_formula UTF8_DATA.table lead second third fourth ≢ 0x202 }
+    ensures high { 0xF5 ≤ lead
+        → four_byte_formula UTF8_DATA.table lead second third fourth ≢ 0x202 }
 {}

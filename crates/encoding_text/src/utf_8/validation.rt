@@ -39,7 +39,8 @@ fn is_four(lead: u8, second: u8, third: u8, fourth: u8) -> bool
 fn tail_length(bytes: &[u8]) -> Option<usize>
     requires short { length bytes.now < 4 }
     requires lead { 0x80 ≤ slice_index bytes.now 0 }
-    ensures length { IfSome result (λ n. (0 < n) × (n ≤ length bytes.now) × IsSequence (take n bytes.now)) }
+    ensures length { IfSome result (λ n. (0 < n) × (n ≤ length bytes.now) × IsSequence
+        (take n bytes.now)) }
     ensures no_character { IfNone result (BeginsWithNoCharacter bytes.now) }
 {
     if bytes.len() < 2 {
@@ -64,7 +65,8 @@ fn tail_length(bytes: &[u8]) -> Option<usize>
 /// Returns the length of the character at the start of the bytes, if there is one.
 #[inline(always)]
 pub fn character_length(bytes: &[u8]) -> Option<usize>
-    ensures length { IfSome result (λ n. (0 < n) × (n ≤ length bytes.now) × IsSequence (take n bytes.now)) }
+    ensures length { IfSome result (λ n. (0 < n) × (n ≤ length bytes.now) × IsSequence
+        (take n bytes.now)) }
     ensures no_character { IfNone result (BeginsWithNoCharacter bytes.now) }
 {
     if bytes.is_empty() {

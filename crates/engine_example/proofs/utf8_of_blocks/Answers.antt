@@ -18,7 +18,8 @@ loop-block-preserved c =
     let (out, new, w) = c.in_ok-append_block.ensures.written in
     let before = flat_map units_of_part16 (take c.loop-block.block-index c.args.blocks.now) in
     let all : before ++ c.deref.result.now ≡ flat_map units_of_part16 (take (c.loop-block.block-index + 1) c.args.blocks.now) =
-    ap (λ xs. before ++ xs) (c.deref.ensures.value ∙ ap units_of_part16 c.block-item.is) ∙ flat_map-take units_of_part16 c.args.blocks.now c.loop-block.block-index _ (omega arith) in
+    ap (λ xs. before ++ xs) (c.deref.ensures.value ∙ ap units_of_part16 c.block-item.is)
+    ∙ flat_map-take units_of_part16 c.args.blocks.now c.loop-block.block-index _ (omega arith) in
     subst (λ xs. WritesBlock [] xs false c.append_block.new.bytes.items c.append_block.new.encoder) all
     (written_on c.law_utf16_round_trip.ensures.one _ _ _ _ out _ _ false c.loop-block.invariant w c.in_ok-append_block.ensures.units new)
 

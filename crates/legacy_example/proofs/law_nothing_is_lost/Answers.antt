@@ -50,7 +50,8 @@ some c xs e = omega (arith, ap length e, length-append (encode_utf8 c) xs, lengt
 
 -- the same UTF-8 is that of the same bytes, one after another
 same : ((a b : ℕ) (xs ys : List ℕ) → a < 0x100 → b < 0x100 → encode_utf8 (scalar_of a) ++ xs ≡ encode_utf8 (scalar_of b) ++ ys → (a ≡ b) × (xs ≡ ys))
-    → (bytes others : List ℕ) → AreBytes bytes → AreBytes others → encode_utf8_all (map scalar_of bytes) ≡ encode_utf8_all (map scalar_of others) → bytes ≡ others
+    → (bytes others : List ℕ) → AreBytes bytes → AreBytes others
+    → encode_utf8_all (map scalar_of bytes) ≡ encode_utf8_all (map scalar_of others) → bytes ≡ others
 same law [] [] h k e = refl
 same law [] (b ∷ others) h k e = absurd (some (scalar_of b) _ (sym e))
 same law (a ∷ bytes) [] h k e = absurd (some (scalar_of a) _ e)
@@ -63,5 +64,6 @@ pub returns : goal.returns
 returns c = same (λ a b xs ys h k e.
     let s = low_scalar (scalar_of a) (scalar_below a h) in
     let t = low_scalar (scalar_of b) (scalar_below b k) in
-    let (sequence, more) = same_end c.law_sequences.ensures.none_begins_another _ xs _ ys (c.law_sequences.ensures.each (scalar_of a) s) (c.law_sequences.ensures.each (scalar_of b) t) e in
+    let (sequence, more) = same_end c.law_sequences.ensures.none_begins_another _ xs _ ys (c.law_sequences.ensures.each (scalar_of a) s)
+    (c.law_sequences.ensures.each (scalar_of b) t) e in
     (sym (byte_back a h) ∙ ap byte_of (c.law_sequences.ensures.one (scalar_of a) (scalar_of b) s t sequence) ∙ byte_back b k, more))

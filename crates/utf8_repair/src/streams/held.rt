@@ -106,7 +106,8 @@ impl<const N: usize> Held<N> {
 
     /// Reads once if the queue is empty.
     pub(crate) fn fill<R: Read>(&mut self, reader: &mut R) -> io::Result<()>
-        ensures bytes { Keeps (prepend_known self.old (R.remaining reader.old)) (prepend_known self.new (R.remaining reader.new)) }
+        ensures bytes { Keeps (prepend_known self.old (R.remaining reader.old))
+            (prepend_known self.new (R.remaining reader.new)) }
         ensures end { OnOk result (self.new ≡ [] → IsAtEnd (R.remaining reader.new)) }
         ensures err { OnErr result (self.new ≡ self.old) }
     {
@@ -119,7 +120,8 @@ impl<const N: usize> Held<N> {
     /// Writes queued bytes with one write call, and removes those that were written. The queue must not be empty.
     pub(crate) fn write_some<W: Write>(&mut self, writer: &mut W) -> io::Result<()>
         requires not_empty { 0 < length self.old }
-        ensures bytes { Keeps (append_known (W.contents writer.old) self.old) (append_known (W.contents writer.new) self.new) }
+        ensures bytes { Keeps (append_known (W.contents writer.old) self.old)
+            (append_known (W.contents writer.new) self.new) }
         ensures ok { OnOk result (length self.new < length self.old) }
         ensures err { OnErr result (self.new ≡ self.old) }
     {
@@ -133,7 +135,8 @@ impl<const N: usize> Held<N> {
 
     /// Writes out the queued bytes. On an error the unwritten bytes stay queued.
     pub(crate) fn write_to<W: Write>(&mut self, writer: &mut W) -> io::Result<()>
-        ensures bytes { Keeps (append_known (W.contents writer.old) self.old) (append_known (W.contents writer.new) self.new) }
+        ensures bytes { Keeps (append_known (W.contents writer.old) self.old)
+            (append_known (W.contents writer.new) self.new) }
         ensures ok { OnOk result (self.new ≡ []) }
     {
         while self.len() > 0 {

@@ -15,4 +15,8 @@ returns g c =
     let none : is_some c.self.inside.sniffed ≡ false = sym c.is_some.ensures ∙ c.if-is_some.false in
     let sniff = c.sniff-sniffed.ensures in
     sniffed_call g.U.CodeUnit.encode g.U.CodeUnit.query g.U.CodeUnit.need _ _ _ _ _ _ _ _ _ _ _ _ sniff.within sniff.left sniff.held c.requires.grows
-    (rw (decodes c.self.inside.sniffed c.self.inside.decoder none ∙ c.self.view_is, decodes c.self.inside.sniffed c.decode_parts-result.new.decoder none) at c.decode_parts-result.ensures)
+    (rw (
+      decodes c.self.inside.sniffed c.self.inside.decoder none
+          ∙ c.self.view_is,
+      decodes c.self.inside.sniffed c.decode_parts-result.new.decoder none,
+    ) at c.decode_parts-result.ensures)

@@ -14,4 +14,15 @@ unreachable-requires c =
     let out = ap length stop.4 in
     let last = c.dst-in-Err-1.given in
     let room : length w.room.now ≡ length c.args.dst.now = ap length (sym (last.1.1 (sym e.keeps.memory))) ∙ last.1.0 in
-    omega (arith, short, full, room, c.if-dst-src.false, out, length-take w.written w.room.now, length-append (take 0 c.args.dst.now) stop.1, length-take 0 c.args.dst.now)
+    omega (
+      arith,
+      short,
+      full,
+      room,
+      c.if-dst-src.false,
+      out,
+      length-take w.written w.room.now,
+      length-append
+          (take 0 c.args.dst.now) stop.1,
+      length-take 0 c.args.dst.now,
+    )

@@ -14,4 +14,5 @@ returns g c =
     let two = HasLanes-zip2 bit_or (chosen 0xFF 0 hebrew) (chosen 0xA4 0 (is 0xE0)) in
     let four = HasLanes-zip2 bit_or (HasLanes-zip2 bit_or two (chosen 0xBC 0 (is 0xEF))) (chosen 0x9F 0 (is 0xF0)) in
     HasLanes_same (HasLanes-zip2 bit_or four (chosen 0x82 0 (tests_of w8 eqb first c.mark_leads.ensures)))
-    (λ k l. ends_are (slice_index c.args.first k) (slice_index c.args.third k) (Each1-get_or (Fits w8) c.args.first k 0 (omega (arith, c.fits-first.0)) c.fits-first.1).fits)
+    (λ k l. ends_are (slice_index c.args.first k) (slice_index c.args.third k)
+    (Each1-get_or (Fits w8) c.args.first k 0 (omega (arith, c.fits-first.0)) c.fits-first.1).fits)

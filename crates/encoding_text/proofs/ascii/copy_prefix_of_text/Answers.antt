@@ -12,22 +12,30 @@ loop-at-init c = unpacked_none _ _
 
 pub loop-at-preserved : goal.loop-at-preserved
 loop-at-preserved c =
-    let all : IsRunBelow 0x80 c.args.src.now c.loop-at.at 64 64 = record { within = omega arith; pass = c.if-not-are_bytes_below.ensures.0 refl; stops = λ l. absurd (omega arith) } in
+    let all : IsRunBelow 0x80 c.args.src.now c.loop-at.at 64 64 = record {
+      within = omega arith;
+      pass = c.if-not-are_bytes_below.ensures.0 refl;
+      stops =
+          λ l. absurd (omega arith);
+    } in
     unpacked_part _ _ _ _ _ _ _ c.requires.text (omega arith) (inl refl) c.requires.dst_length c.loop-at.invariant all c.unpack_block-in-loop-at.ensures
 
 pub returns-then-not-are_bytes_below : goal.returns-then-not-are_bytes_below
 returns-then-not-are_bytes_below c =
     unpacked_prefix _ _ _ _ c.requires.text
-    (unpacked_part _ _ _ _ _ _ _ c.requires.text (omega arith) (inr (omega arith)) c.requires.dst_length c.loop-at.invariant c.run_len_below-run.ensures c.unpack_block.ensures)
+    (unpacked_part _ _ _ _ _ _ _ c.requires.text (omega arith)
+    (inr (omega arith)) c.requires.dst_length c.loop-at.invariant c.run_len_below-run.ensures c.unpack_block.ensures)
 
 pub returns-then-run-lt-STRIDE : goal.returns-then-run-lt-STRIDE
 returns-then-run-lt-STRIDE c =
     unpacked_prefix _ _ _ _ c.requires.text
-    (unpacked_part _ _ _ _ _ _ _ c.requires.text (omega arith) (inr (omega arith)) c.requires.dst_length c.loop-at-2.invariant c.run_len_below-run-in-loop-at-2.ensures c.unpack.ensures)
+    (unpacked_part _ _ _ _ _ _ _ c.requires.text (omega arith)
+    (inr (omega arith)) c.requires.dst_length c.loop-at-2.invariant c.run_len_below-run-in-loop-at-2.ensures c.unpack.ensures)
 
 pub loop-at-2-preserved : goal.loop-at-2-preserved
 loop-at-2-preserved c =
-    unpacked_part _ _ _ _ _ _ _ c.requires.text (omega arith) (inl (omega arith)) c.requires.dst_length c.loop-at-2.invariant c.run_len_below-run-in-loop-at-2.ensures c.unpack-in-loop-at-2.ensures
+    unpacked_part _ _ _ _ _ _ _ c.requires.text (omega arith)
+    (inl (omega arith)) c.requires.dst_length c.loop-at-2.invariant c.run_len_below-run-in-loop-at-2.ensures c.unpack-in-loop-at-2.ensures
 
 -- an exact ASCII prefix more
 ascii_after : (src old new sub : List ℕ) (read written n : ℕ) → written ≤ length new → Putting src old new read written
@@ -48,4 +56,5 @@ pub returns : goal.returns
 returns c =
     let d = putting_prefix _ _ _ _ c.requires.text c.loop-at-2.invariant in
     let exact = c.copy_to_basic_latin.ensures in
-    putting_some (ascii_after _ _ _ _ _ _ _ (omega (arith, c.loop-at-2.invariant.within, c.loop-at-2.invariant.same, c.requires.dst_length)) d exact.prefix exact.copied)
+    putting_some
+    (ascii_after _ _ _ _ _ _ _ (omega (arith, c.loop-at-2.invariant.within, c.loop-at-2.invariant.same, c.requires.dst_length)) d exact.prefix exact.copied)

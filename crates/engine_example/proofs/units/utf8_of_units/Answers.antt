@@ -23,8 +23,11 @@ loop-read-preserved c =
       omega (arith, call.ensures.within, length-drop read us),
       λ rooms out w.
           let following = subst (λ xs. WritesInTurn xs rooms out) (sym (drop-drop call.result.0 read us)) w in
-          let (all, turns) = c.loop-read.invariant.1 (_ ∷ rooms) (first ++ out) (call.result.0, first, out, longest, following, refl) in
-          (all, subst (WritesInTurn us all) (sym (append_assoc c.loop-read.bytes.items first out) ∙ ap (λ xs. xs ++ out) (sym c.in_ok-extend_from_slice.ensures.items)) turns),
+          let (all, turns) = c.loop-read.invariant.1 (_ ∷ rooms) (first ++ out) (call.result.0, first, out, longest, following, refl) in (
+            all,
+            subst (WritesInTurn us all) (sym (append_assoc c.loop-read.bytes.items first out)
+                ∙ ap (λ xs. xs ++ out) (sym c.in_ok-extend_from_slice.ensures.items)) turns,
+          ),
     )
 
 pub returns : goal.returns
@@ -34,4 +37,5 @@ returns c =
     let none : drop read us ≡ [] = drop_all read us c.loop-read-test.false in
     let (rooms, turns) = c.loop-read.invariant.1 [] [] (none, refl) in
     let (parts, are) = c.law_utf16_round_trip.ensures.exist us (λ k. omega (arith, c.type_inv.units k)) in
-    sym (append-nil c.loop-read.bytes.items) ∙ c.law_partial_repeats.ensures.joined us parts rooms _ are turns ∙ ap encode_utf8_all (c.law_utf16_round_trip.ensures.lossy us parts are)
+    sym (append-nil c.loop-read.bytes.items) ∙ c.law_partial_repeats.ensures.joined us parts rooms _ are turns
+    ∙ ap encode_utf8_all (c.law_utf16_round_trip.ensures.lossy us parts are)

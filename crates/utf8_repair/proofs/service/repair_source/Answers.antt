@@ -4,7 +4,8 @@ use Rattle.utf8_repair.proofs.service.repair_source.Goals as goal
 
 pub returns-clause-replaced : goal.returns-clause-replaced
 returns-clause-replaced g c = λ is.
-    let (repaired, some, (bytes, read, less, all, ended)) = both (λ n. 0 < n) _ c.repair-outcome.result c.repair-outcome.ensures.ok (c.status_of.ensures.replaced is) in
+    let (repaired, some, (bytes, read, less, all, ended)) =
+    both (λ n. 0 < n) _ c.repair-outcome.result c.repair-outcome.ensures.ok (c.status_of.ensures.replaced is) in
     (bytes, repaired.replaced, some, all)
 
 pub returns-clause-prefix : goal.returns-clause-prefix

@@ -24,4 +24,5 @@ returns-clause-limit g c = λ is.
 
 pub returns-clause-prefix : goal.returns-clause-prefix
 returns-clause-prefix g c =
-    prefix_of _ _ _ _ _ _ _ _ (ap g.R.Read.remaining (sym c.new-source.ensures.as_it_was)) (search rules) (ap g.W.Write.contents (sym c.new-sink.ensures.as_it_was)) (search rules) (c.repair_source.ensures.prefix c.new-source.ensures.not_ended)
+    prefix_of _ _ _ _ _ _ _ _ (ap g.R.Read.remaining (sym c.new-source.ensures.as_it_was)) (search rules)
+    (ap g.W.Write.contents (sym c.new-sink.ensures.as_it_was)) (search rules) (c.repair_source.ensures.prefix c.new-source.ensures.not_ended)

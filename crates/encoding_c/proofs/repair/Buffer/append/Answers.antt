@@ -21,5 +21,6 @@ returns-clause-keeps c =
       further = omega arith;
       following = λ n past.
           let split : n ≡ end + (n - end) = omega (arith, past) in
-          ap (λ m. drop m new) split ∙ sym (drop-drop (n - end) end new) ∙ ap (drop (n - end)) same ∙ drop-drop (n - end) end room ∙ ap (λ m. drop m room) (sym split);
+          ap (λ m. drop m new) split ∙ sym (drop-drop (n - end) end new) ∙ ap (drop (n - end)) same ∙ drop-drop (n - end) end room
+          ∙ ap (λ m. drop m room) (sym split);
     }

@@ -11,6 +11,8 @@ returns g c =
     let bs = c.args.self.now.bytes.now in
     let at = c.args.at in
     let n = g.row.N in
-    let ends = HasLanes_same {g = λ k. rtl_second_end (slice_index bs (at + k)) (rtl_mark_lead (slice_index bs (at + 2 + k)))} c.second_ends.ensures (λ k l. rw (get_or-chunk at n bs k 0 l, get_or-chunk (at + 2) n bs k 0 l) refl) in
+    let ends = HasLanes_same {g = λ k. rtl_second_end (slice_index bs (at + k)) (rtl_mark_lead (slice_index bs (at + 2 + k)))} c.second_ends.ensures
+    (λ k l. rw (get_or-chunk at n bs k 0 l, get_or-chunk (at + 2) n bs k 0 l) refl) in
     marks_of (HasNoRtlAt bs) at (tests_of w8 ltb (HasLanes_load (at + 1) n bs (omega arith)) ends) c.requires.2
-    (λ k l. let second : at + 1 + k ≡ at + k + 1 = omega arith in let third : at + 2 + k ≡ at + k + 2 = omega arith in rw (second, third) (ltb-false _ _, le-ltb _ _))
+    (λ k l. let second : at + 1 + k ≡ at + k + 1 = omega arith in let third : at + 2 + k ≡ at + k + 2 = omega arith in
+    rw (second, third) (ltb-false _ _, le-ltb _ _))

@@ -13,4 +13,5 @@ returns g c =
     let range = λ (from count : ℕ). tests_of w16 ltb (less from) (HasLanes-splat n count) in
     let is = λ (x : ℕ). tests_of w16 eqb (HasLanes_load at n us c.requires.0) (HasLanes-splat n x) in
     marks_of (λ k. may_be_right_to_left (slice_index us k) ≡ false) at
-    (tests_or (tests_or (tests_or (range 0x0590 0x0370) (range 0x202B 4)) (tests_or (is 0x200F) (is 0x2067))) (tests_or (range 0xD802 0x003A) (range 0xFB1D 0x03E2))) c.requires.2 (λ k l. (λ x. x, λ x. x))
+    (tests_or (tests_or (tests_or (range 0x0590 0x0370) (range 0x202B 4)) (tests_or (is 0x200F) (is 0x2067)))
+    (tests_or (range 0xD802 0x003A) (range 0xFB1D 0x03E2))) c.requires.2 (λ k l. (λ x. x, λ x. x))

@@ -11,6 +11,8 @@ returns c =
     let pairs = c.join_bytes.ensures in
     record {
       lane_count = (refl, refl);
-      first_half = latin_pairs v long small _ _ c.join_bytes.result.0 (λ k. k) (λ k l. omega arith) (first_lanes v long small) (second_lanes v long small) pairs.lanes;
-      last = latin_pairs v long small _ _ c.join_bytes.result.1 (λ k. 8 + k) (λ k l. omega arith) (first_lanes v long small) (second_lanes v long small) pairs.last;
+      first_half = latin_pairs v long small _ _ c.join_bytes.result.0 (λ k. k) (λ k l. omega arith) (first_lanes v long small)
+          (second_lanes v long small) pairs.lanes;
+      last = latin_pairs v long small _ _ c.join_bytes.result.1 (λ k. 8 + k) (λ k l. omega arith) (first_lanes v long small)
+          (second_lanes v long small) pairs.last;
     }

@@ -10,6 +10,11 @@ before_cut_character-requires c =
     let last = c.reach-last.ensures in
     let middle = c.skip-by_blocks.result + 1 in
     let end = c.reach-last.result + 1 in
-    let first = pairs_fit bs (from - 1) c.skip-by_blocks.result from middle (omega (arith, c.requires.0)) (omega arith) (λ k. (c.type_inv.bytes k).fits) blocks.pass in
-    let second = pairs_fit bs c.skip-by_blocks.result c.reach-last.result middle end (omega arith) (omega arith) (λ k. (c.type_inv.bytes k).fits) last.pass in
-    (omega arith, omega (arith, last.within, c.requires), latin1_joined bs 0 middle middle end (latin1_joined bs 0 from from middle c.requires.2 first (omega arith)) second (omega arith))
+    let first = pairs_fit bs (from - 1) c.skip-by_blocks.result from middle (omega (arith, c.requires.0)) (omega arith)
+    (λ k. (c.type_inv.bytes k).fits) blocks.pass in
+    let second = pairs_fit bs c.skip-by_blocks.result c.reach-last.result middle end (omega arith) (omega arith) (λ k. (c.type_inv.bytes k).fits) last.pass in (
+      omega arith,
+      omega (arith, last.within, c.requires),
+      latin1_joined bs 0 middle middle end
+          (latin1_joined bs 0 from from middle c.requires.2 first (omega arith)) second (omega arith),
+    )

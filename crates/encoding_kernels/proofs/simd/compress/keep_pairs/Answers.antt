@@ -6,7 +6,8 @@ pub swizzle : goal.swizzle
 swizzle c = swizzle_ok (HasLanes-itself 16 c.places_by.result c.places_by.ensures.lane_count) c.places_by.ensures.within
 
 pub returns-clause-lane_count : goal.returns-clause-lane_count
-returns-clause-lane_count c = (HasLanes-swizzle c.args.pairs (HasLanes-itself 16 c.places_by.result c.places_by.ensures.lane_count) c.places_by.ensures.within).long
+returns-clause-lane_count c = (HasLanes-swizzle c.args.pairs
+    (HasLanes-itself 16 c.places_by.result c.places_by.ensures.lane_count) c.places_by.ensures.within).long
 
 pub returns-clause-kept : goal.returns-clause-kept
 returns-clause-kept c tests eight mask =

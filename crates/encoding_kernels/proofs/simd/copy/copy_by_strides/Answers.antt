@@ -10,7 +10,8 @@ loop-at-preserved g c =
     let long = WritesPrefix-length _ _ _ _ copied in
     record {
       within = omega arith;
-      copied = WritesPrefix_block c.args.dst.now c.loop-at.dst c.copy.new.dst c.args.src.now c.loop-at.at g.row.N copied (omega arith) (omega (arith, long)) c.copy.ensures;
+      copied = WritesPrefix_block c.args.dst.now c.loop-at.dst c.copy.new.dst c.args.src.now c.loop-at.at g.row.N copied (omega arith)
+          (omega (arith, long)) c.copy.ensures;
     }
 
 pub returns : goal.returns
@@ -19,5 +20,6 @@ returns g c =
     let last = length src - g.row.N in
     let copied = c.loop-at.invariant.copied in
     let end : last + g.row.N ≡ length src = omega arith in
-    let all = WritesPrefix_again c.args.dst.now c.loop-at.dst _ src c.loop-at.at last g.row.N copied (omega arith) (omega arith) (omega arith) (omega (arith, WritesPrefix-length _ _ _ _ copied)) c.copy-2.ensures in
+    let all = WritesPrefix_again c.args.dst.now c.loop-at.dst _ src c.loop-at.at last g.row.N copied (omega arith) (omega arith) (omega arith)
+    (omega (arith, WritesPrefix-length _ _ _ _ copied)) c.copy-2.ensures in
     WritesPrefix-same _ _ _ _ _ _ all end (ap (λ k. take k src) end ∙ take_all (length src) src (omega arith))

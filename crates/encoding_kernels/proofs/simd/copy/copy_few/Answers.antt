@@ -2,7 +2,8 @@ use Rattle.std.proofs.Common.{◌≡◌, ℕ, ◌/◌, ◌-◌, ◌<◌, ◌≤�
 use Rattle.encoding_kernels.proofs.simd.copy.copy_few.Goals as goal
 
 copied : (src dst : List ℕ) → 0 < length src → length src ≤ 3 → length src ≤ length dst
-    → slice_set (slice_set (slice_set dst 0 (slice_index src 0)) (length src / 2) (slice_index src (length src / 2))) (length src - 1) (slice_index src (length src - 1)) ≡ src ++ drop (length src) dst
+    → slice_set (slice_set (slice_set dst 0 (slice_index src 0)) (length src / 2) (slice_index src (length src / 2))) (length src - 1)
+    (slice_index src (length src - 1)) ≡ src ++ drop (length src) dst
 copied [] dst some few room = absurd (omega (arith, some))
 copied (a ∷ []) [] some few room = absurd (omega (arith, room))
 copied (a ∷ []) (x ∷ dst) some few room = refl
@@ -16,4 +17,9 @@ copied (a ∷ b ∷ c ∷ []) (x ∷ y ∷ z ∷ dst) some few room = refl
 copied (a ∷ b ∷ c ∷ d ∷ src) dst some few room = absurd (omega (arith, few))
 
 pub returns : goal.returns
-returns c = record { count = refl; fits = c.requires.dst_length; placed = copied c.args.src.now c.args.dst.now c.requires.few.0 c.requires.few.1 c.requires.dst_length }
+returns c = record {
+  count = refl;
+  fits = c.requires.dst_length;
+  placed =
+      copied c.args.src.now c.args.dst.now c.requires.few.0 c.requires.few.1 c.requires.dst_length;
+}

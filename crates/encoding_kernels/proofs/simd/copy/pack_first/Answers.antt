@@ -15,5 +15,7 @@ returns c =
     let count = c.args.count in
     let few = c.requires.within.1 in
     let long = length-chunk 0 16 stride (omega (arith, c.told-stride)) in
-    let same = lower_same 16 (chunk 0 16 stride) long count few (λ k l. rw (get_or-chunk 0 16 stride k 0 (omega (arith, few))) (omega (arith, c.requires.ascii (0 + k) (omega arith) (omega arith)))) in
+    let same =
+    lower_same 16 (chunk 0 16 stride) long count few
+    (λ k l. rw (get_or-chunk 0 16 stride k 0 (omega (arith, few))) (omega (arith, c.requires.ascii (0 + k) (omega arith) (omega arith)))) in
     c.write_first.ensures ∙ ap (λ ys. take c.args.at old ++ (ys ++ drop (c.args.at + count) old)) (same ∙ ap (take count) (whole_chunk 16 stride c.told-stride))

@@ -13,5 +13,6 @@ pub returns : goal.returns
 returns g c =
     let n = g.row.N in
     let stride = c.args.stride.now in
-    ap (put_chunk c.args.at c.args.dst.now) (lower_are n (chunk 0 n stride) (length-chunk 0 n stride (omega (arith, c.told-stride))) ∙ ap (map (λ unit. unit % 0x100)) (whole_chunk n stride c.told-stride))
+    ap (put_chunk c.args.at c.args.dst.now) (lower_are n (chunk 0 n stride) (length-chunk 0 n stride (omega (arith, c.told-stride)))
+    ∙ ap (map (λ unit. unit % 0x100)) (whole_chunk n stride c.told-stride))
     ∙ put_is c.args.at n c.args.dst.now (map (λ unit. unit % 0x100) stride) (length-map stride (λ unit. unit % 0x100) ∙ c.told-stride) c.requires

@@ -20,4 +20,13 @@ sum_singly-requires-2-clause-few g c =
 pub overflow_add-result : goal.overflow_add-result
 overflow_add-result g c =
     let t = c.args.terms.now in
-    record { fits = omega (arith, c.sum_to.ensures, c.sum_singly-2.ensures, total_fits (g.T.Terms.term t) (g.met.T.Terms.few t) (g.T.Terms.text t) c.args.from (omega arith)) }
+    record {
+      fits =
+          omega (
+            arith,
+            c.sum_to.ensures,
+            c.sum_singly-2.ensures,
+            total_fits (g.T.Terms.term t) (g.met.T.Terms.few t)
+                (g.T.Terms.text t) c.args.from (omega arith),
+          );
+    }

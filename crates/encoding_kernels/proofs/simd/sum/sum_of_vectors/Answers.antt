@@ -31,5 +31,11 @@ loop-place-preserved g c =
       within = (omega arith, omega arith);
       long = length-zip2 (λ a b. a + b) i.sums z same ∙ i.invariant.long;
       lanes = sums_few n c.args.at i.place i.sums z i.invariant.lanes small;
-      sum = omega (arith, i.invariant.sum, sum-zip2 i.sums z same, vector_total (g.T.Terms.term t) (g.T.Terms.text t) n i.place (i.place + n) refl (omega (arith, g.met.T.Terms.inside t)) lanes);
+      sum = omega (
+        arith,
+        i.invariant.sum,
+        sum-zip2 i.sums z same,
+        vector_total (g.T.Terms.term t) (g.T.Terms.text t) n i.place (i.place + n) refl
+            (omega (arith, g.met.T.Terms.inside t)) lanes,
+      );
     }

@@ -5,7 +5,8 @@ use Rattle.encoding_kernels.proofs.simd.sum.sum_singly.Given as goal
 abbrev pub invariant-loop-at : goal.invariant-loop-at
 invariant-loop-at g l = record {
   within : l.at ≤ l.len;
-  sum : l.sum + sum_over_suffixes (g.T.Terms.term l.terms) (drop l.at (g.T.Terms.text l.terms)) ≡ sum_over_suffixes (g.T.Terms.term l.terms) (drop l.from (g.T.Terms.text l.terms));
+  sum : l.sum + sum_over_suffixes (g.T.Terms.term l.terms) (drop l.at (g.T.Terms.text l.terms)) ≡ sum_over_suffixes (g.T.Terms.term l.terms)
+      (drop l.from (g.T.Terms.text l.terms));
 }
 
 abbrev pub decreases-loop-at : goal.decreases-loop-at

@@ -13,5 +13,13 @@ overflow_add-result c = omega (arith, c.sum_from.ensures, total_most extra_bytes
 pub returns : goal.returns
 returns c =
     let us = c.args.units.now in
-    let are = parts_exist us (λ k. (c.type_inv.units k).fits) in
-    (flat_map utf8_of_part16 (parts_of us), record { parts = parts_of us; are_parts = are; written = refl }, omega (arith, c.sum_from.ensures, utf8_total us (parts_of us) are))
+    let are = parts_exist us (λ k. (c.type_inv.units k).fits) in (
+      flat_map utf8_of_part16 (parts_of us),
+      record {
+        parts = parts_of us;
+        are_parts = are;
+        written =
+            refl;
+      },
+      omega (arith, c.sum_from.ensures, utf8_total us (parts_of us) are),
+    )

@@ -7,7 +7,8 @@ use Rattle.encoding_kernels.proofs.utf16.validate.has_no_surrogate.Goals as goal
 pub returns : goal.returns
 returns c t =
     let us = c.args.block.now in
-    let less = λ (at : ℕ) (within : at + 16 ≤ length us). HasLanes-zip2 (λ a b. (a + (2 ^ 16 - b)) % 2 ^ 16) (HasLanes_load at 16 us within) (HasLanes-splat 16 0xD800) in
+    let less = λ (at : ℕ) (within : at + 16 ≤ length us). HasLanes-zip2 (λ a b. (a + (2 ^ 16 - b)) % 2 ^ 16) (HasLanes_load at 16 us within)
+    (HasLanes-splat 16 0xD800) in
     let first = less 0 (omega (arith, c.requires)) in
     let second = less 16 (omega (arith, c.requires)) in
     let third = less 32 (omega (arith, c.requires)) in

@@ -11,7 +11,8 @@ loop-read-preserved c =
     let us = c.args.src.now in
     let units : AreCodeUnits us = λ k. omega (arith, c.type_inv.src k) in
     let dense = c.convert_dense_blocks-dense.ensures in
-    converts_more_bmp us units (converts_more us units c.loop-read.invariant dense.prefix dense.unchanged_after dense.within) c.convert_first_sixteen-first.ensures.written
+    converts_more_bmp us units
+    (converts_more us units c.loop-read.invariant dense.prefix dense.unchanged_after dense.within) c.convert_first_sixteen-first.ensures.written
 
 pub returns-else-begins_block : goal.returns-else-begins_block
 returns-else-begins_block c =
@@ -40,5 +41,7 @@ returns-then-first-eq0 c =
     let us = c.args.src.now in
     let units : AreCodeUnits us = λ k. omega (arith, c.type_inv.src k) in
     let dense = c.convert_dense_blocks-dense.ensures in
-    let all = converts_more_bmp us units (converts_more us units c.loop-read.invariant dense.prefix dense.unchanged_after dense.within) c.convert_first_sixteen-first.ensures.written in
+    let all =
+    converts_more_bmp us units
+    (converts_more us units c.loop-read.invariant dense.prefix dense.unchanged_after dense.within) c.convert_first_sixteen-first.ensures.written in
     record { prefix = converts_prefix us units all; unchanged_after = converts_unchanged us units all; within = all.within }

@@ -10,7 +10,10 @@ returns-then-spilled-eq0 c =
     let us = c.args.src.now in
     let units : AreCodeUnits us = λ k. omega (arith, c.type_inv.src k) in
     let none : c.convert_due_blocks-read.result.2 ≡ 0 = omega arith in
-    let all = converts_due us units (subst (SpillsBmp us c.args.dst.now c.convert_due_blocks-read.new.dst c.convert_due_blocks-read.result.0 c.convert_due_blocks-read.result.1) none (due_of_first c.min-end.result (omega arith) c.convert_due_blocks-read.ensures)) in
+    let all =
+    converts_due us units
+    (subst (SpillsBmp us c.args.dst.now c.convert_due_blocks-read.new.dst c.convert_due_blocks-read.result.0 c.convert_due_blocks-read.result.1) none
+    (due_of_first c.min-end.result (omega arith) c.convert_due_blocks-read.ensures)) in
     converts_whole us units all
 
 pub returns : goal.returns
@@ -18,5 +21,6 @@ returns c =
     let us = c.args.src.now in
     let units : AreCodeUnits us = λ k. omega (arith, c.type_inv.src k) in
     let next = c.convert_spilled-more.ensures in
-    let all = converts_paid us units (due_of_first c.min-end.result (omega arith) c.convert_due_blocks-read.ensures) (omega (arith, next.length_bound, c.convert_due_blocks-read.ensures.few)) next.converted.prefix next.converted.unchanged_after next.converted.within in
+    let all = converts_paid us units (due_of_first c.min-end.result (omega arith) c.convert_due_blocks-read.ensures)
+    (omega (arith, next.length_bound, c.convert_due_blocks-read.ensures.few)) next.converted.prefix next.converted.unchanged_after next.converted.within in
     converts_whole us units all

@@ -8,7 +8,14 @@ use Rattle.encoding_kernels.proofs.utf16_to_utf8.convert.convert_paired_blocks.G
 pub loop-read-init : goal.loop-read-init
 loop-read-init c =
     let walked : Walked c.args.src.now 0 [] = record { whole = refl; taken = refl } in
-    record { within = omega arith; done = []; walked = walked; written = WritesPrefix-nil c.args.dst.now; prefix = walked_prefix c.args.src.now 0 [] (λ k. omega (arith, c.type_inv.src k)) walked }
+    record {
+      within = omega arith;
+      done = [];
+      walked = walked;
+      written = WritesPrefix-nil c.args.dst.now;
+      prefix =
+          walked_prefix c.args.src.now 0 [] (λ k. omega (arith, c.type_inv.src k)) walked;
+    }
 
 pub loop-read-preserved : goal.loop-read-preserved
 loop-read-preserved c =
@@ -18,7 +25,11 @@ loop-read-preserved c =
     let call = c.write_two_byte_or_paired-units.ensures in
     let more = goes_block us (λ k. omega (arith, c.type_inv.src k)) c.write_two_byte_or_paired-units.result.0 read here.done here.walked (omega arith)
     (c.if-are_two_byte_or_paired.ensures refl) call.units in
-    let written = WritesPrefix-same _ _ _ _ _ _ (WritesPrefix_put c.args.dst.now c.loop-read.dst c.write_two_byte_or_paired-units.new.dst c.loop-read.written c.write_two_byte_or_paired-units.result.1 _ _ here.written call.out_length (omega (arith, call.length_bound)) call.written) refl (sym more.written) in
+    let written =
+    WritesPrefix-same _ _ _ _ _ _
+    (WritesPrefix_put c.args.dst.now c.loop-read.dst c.write_two_byte_or_paired-units.new.dst c.loop-read.written
+    c.write_two_byte_or_paired-units.result.1 _ _ here.written call.out_length (omega (arith, call.length_bound)) call.written) refl
+    (sym more.written) in
     record {
       within = omega (arith, call.units);
       done = more.all;

@@ -22,12 +22,15 @@ returns-clause-prefix c =
     let place : 0 + c.utf16_length.result ≡ c.utf16_length.result = omega arith in
     let prefix = walked_prefix us _ _ (λ k. omega (arith, c.type_inv.src k)) (step_walked us 0 [] _ _ walked first c.utf16_length.ensures) in
     let written = WritesPrefix-same _ _ _ _ _ _ c.write_scalar.ensures refl (sym (step_written us 0 [] _ c.utf16_length.result walked first)) in
-    subst (IsUtf8OfPrefix us c.utf16_length.result) (written_is _ _ _ _ written) (subst (λ n. IsUtf8OfPrefix us n (flat_map utf8_of_part16 (first.part ∷ []))) place prefix)
+    subst (IsUtf8OfPrefix us c.utf16_length.result) (written_is _ _ _ _ written)
+    (subst (λ n. IsUtf8OfPrefix us n (flat_map utf8_of_part16 (first.part ∷ []))) place prefix)
 
 pub returns-clause-progress : goal.returns-clause-progress
 returns-clause-progress c =
     let x = c.scalar_at-scalar.result in
     elim (cases_lt x 0x10000) [
-      | inl l ↦ let one : length (encode_utf16 x) ≡ 1 = ap length (one_unit x l) in let n = length-encode x in grind (arith, nat_tests, one, n, c.utf16_length.ensures, c.write_scalar.ensures.count)
-      | inr l ↦ let two : length (encode_utf16 x) ≡ 2 = ap length (two_units x l) in let n = length-encode x in grind (arith, nat_tests, two, n, c.utf16_length.ensures, c.write_scalar.ensures.count)
+      | inl l ↦ let one : length (encode_utf16 x) ≡ 1 = ap length (one_unit x l) in let n = length-encode x in
+          grind (arith, nat_tests, one, n, c.utf16_length.ensures, c.write_scalar.ensures.count)
+      | inr l ↦ let two : length (encode_utf16 x) ≡ 2 = ap length (two_units x l) in let n = length-encode x in
+          grind (arith, nat_tests, two, n, c.utf16_length.ensures, c.write_scalar.ensures.count)
     ]

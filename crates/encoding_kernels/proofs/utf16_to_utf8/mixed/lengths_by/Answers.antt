@@ -12,4 +12,13 @@ pub returns-clause-fourth : goal.returns-clause-fourth
 returns-clause-fourth c = let few = few_each c.args.mask c.requires in let by = by_eights c.args.mask c.requires in omega (arith, few, by)
 
 pub returns-clause-bounds : goal.returns-clause-bounds
-returns-clause-bounds c = let few = few_each c.args.mask c.requires in let by = by_eights c.args.mask c.requires in (omega (arith, few), omega arith, omega (arith, few, by), omega (arith, few, by), omega (arith, few, by), omega (arith, few, by), omega (arith, few, by), omega (arith, few, by))
+returns-clause-bounds c = let few = few_each c.args.mask c.requires in let by = by_eights c.args.mask c.requires in (
+  omega (arith, few),
+  omega arith,
+  omega (arith, few, by),
+  omega (arith, few, by),
+  omega (arith, few, by),
+  omega (arith, few, by),
+  omega (arith, few, by),
+  omega (arith, few, by),
+)

@@ -17,5 +17,6 @@ returns-clause-mask c =
 pub returns-clause-upper_bound : goal.returns-clause-upper_bound
 returns-clause-upper_bound c =
     let double : length (length_classes c.args.units) ≡ 32 = omega (arith, classes_long c.args.units, c.fits-units.0) in
-    let small : mask_l (length_classes c.args.units) < 2 ^ 32 = subst (λ n. mask_l (length_classes c.args.units) < 2 ^ n) double (mask_l-lt (length_classes c.args.units)) in
+    let small : mask_l (length_classes c.args.units) < 2 ^ 32 =
+    subst (λ n. mask_l (length_classes c.args.units) < 2 ^ n) double (mask_l-lt (length_classes c.args.units)) in
     omega (arith, small, returns-clause-mask c)

@@ -5,7 +5,8 @@ use Rattle.encoding_kernels.proofs.utf16_to_utf8.mixed.scalar_at.Goals.{else-is_
 
 pub returns-then-not-is_surrogate : goal.returns-then-not-is_surrogate
 returns-then-not-is_surrogate c =
-    rw c.from.ensures (scalar_of_unit c.args.src.now c.args.at c.requires (omega (arith, c.type_inv.src c.args.at)) (λ l h. cc ((c.if-not-is_surrogate.ensures {u = tt}).1 (l, h))))
+    rw c.from.ensures (scalar_of_unit c.args.src.now c.args.at c.requires (omega (arith, c.type_inv.src c.args.at))
+    (λ l h. cc ((c.if-not-is_surrogate.ensures {u = tt}).1 (l, h))))
 
 pub returns-then-is_low_surrogate : goal.returns-then-is_low_surrogate
 returns-then-is_low_surrogate c =

@@ -24,12 +24,17 @@ returns-clause-stored c =
     let one = c.encode_twice_four.ensures in
     let two = c.encode_twice_four-2.ensures in
     let a = ap (λ n. take n c.encode_twice_four.result.0) l.first
-    ∙ one.lower (take 4 (take 8 us)) (length-take-le 4 (take 8 us) (omega (arith, low))) masks.0 (lower_four us lanes (take 4 (take 8 us)) (λ k. k / 4 * 4 + k) spells.first_half (unit_of_first us)) in
+    ∙ one.lower (take 4 (take 8 us)) (length-take-le 4 (take 8 us) (omega (arith, low))) masks.0
+    (lower_four us lanes (take 4 (take 8 us)) (λ k. k / 4 * 4 + k) spells.first_half (unit_of_first us)) in
     let b = ap (λ n. take n c.encode_twice_four-2.result.0) second
-    ∙ two.lower (drop 4 (take 8 us)) (omega (arith, low, length-drop 4 (take 8 us))) masks.1 (lower_four us others (drop 4 (take 8 us)) (λ k. k / 4 * 4 + k + 4) spells.second (unit_of_second us)) in
+    ∙ two.lower (drop 4 (take 8 us)) (omega (arith, low, length-drop 4 (take 8 us))) masks.1
+    (lower_four us others (drop 4 (take 8 us)) (λ k. k / 4 * 4 + k + 4) spells.second (unit_of_second us)) in
     let d = ap (λ n. take n c.encode_twice_four.result.1) third
-    ∙ one.upper (take 4 (drop 8 us)) (length-take-le 4 (drop 8 us) (omega (arith, high))) masks.2 (upper_four us lanes (take 4 (drop 8 us)) (λ k. k / 4 * 4 + k) spells.first_half (unit_of_third us)) in
+    ∙ one.upper (take 4 (drop 8 us)) (length-take-le 4 (drop 8 us) (omega (arith, high))) masks.2
+    (upper_four us lanes (take 4 (drop 8 us)) (λ k. k / 4 * 4 + k) spells.first_half (unit_of_third us)) in
     let e = ap (λ n. take n c.encode_twice_four-2.result.1) fourth
-    ∙ two.upper (drop 4 (drop 8 us)) (omega (arith, high, length-drop 4 (drop 8 us))) masks.3 (upper_four us others (drop 4 (drop 8 us)) (λ k. k / 4 * 4 + k + 4) spells.second (unit_of_fourth us)) in
-    spills_both c.args.dst.now c.store_two.new.dst c.store_two-2.new.dst c.args.at (r.0 + (r.1 - r.0)) (c.args.at + r.1) (r.2 - r.1 + (r.3 - r.2)) r.3 _ _ _ c.store_two.ensures c.store_two-2.ensures place all
+    ∙ two.upper (drop 4 (drop 8 us)) (omega (arith, high, length-drop 4 (drop 8 us))) masks.3
+    (upper_four us others (drop 4 (drop 8 us)) (λ k. k / 4 * 4 + k + 4) spells.second (unit_of_fourth us)) in
+    spills_both c.args.dst.now c.store_two.new.dst c.store_two-2.new.dst c.args.at (r.0 + (r.1 - r.0)) (c.args.at + r.1)
+    (r.2 - r.1 + (r.3 - r.2)) r.3 _ _ _ c.store_two.ensures c.store_two-2.ensures place all
     (four_parts us _ _ _ _ a b d e)

@@ -7,11 +7,13 @@ use Rattle.encoding_kernels.proofs.utf16_to_utf8.uniform.write_three_byte.Goals 
 
 pub write_eight-requires-clause-three_byte : goal.write_eight-requires-clause-three_byte
 write_eight-requires-clause-three_byte c k l =
-    subst (λ xs. 0x800 ≤ get_or xs k 0) (sym (first_eight c.args.units c.requires.lane_count)) (subst (λ x. 0x800 ≤ x) (sym (get_or-take 8 c.args.units k 0 l)) (c.requires.three_byte k (omega arith)))
+    subst (λ xs. 0x800 ≤ get_or xs k 0) (sym (first_eight c.args.units c.requires.lane_count))
+    (subst (λ x. 0x800 ≤ x) (sym (get_or-take 8 c.args.units k 0 l)) (c.requires.three_byte k (omega arith)))
 
 pub write_eight-requires-2-clause-three_byte : goal.write_eight-requires-2-clause-three_byte
 write_eight-requires-2-clause-three_byte c k l =
-    subst (λ xs. 0x800 ≤ get_or xs k 0) (sym (last_eight c.args.units c.requires.lane_count)) (subst (λ x. 0x800 ≤ x) (sym (get_or-drop 8 c.args.units k 0)) (c.requires.three_byte (8 + k) (omega arith)))
+    subst (λ xs. 0x800 ≤ get_or xs k 0) (sym (last_eight c.args.units c.requires.lane_count))
+    (subst (λ x. 0x800 ≤ x) (sym (get_or-drop 8 c.args.units k 0)) (c.requires.three_byte (8 + k) (omega arith)))
 
 pub write_eight-requires-2-clause-dst_length : goal.write_eight-requires-2-clause-dst_length
 write_eight-requires-2-clause-dst_length c =
@@ -25,5 +27,6 @@ returns c =
     let one = exact_spills c.args.dst.now _ _ at 24 c.write_eight.ensures.out_length (omega arith) c.write_eight.ensures.written in
     let two = exact_spills _ _ _ (at + 24) 24 c.write_eight-2.ensures.out_length (omega (arith, one.long)) c.write_eight-2.ensures.written in
     subst (Spills c.args.dst.now c.write_eight-2.new.dst at 48 0)
-    ((λ i. encode_utf8_all (first_eight us c.requires.lane_count i) ++ encode_utf8_all (last_eight us c.requires.lane_count i)) ∙ sym (encodes-append (take 8 us) (drop 8 us)) ∙ ap encode_utf8_all (take-append-drop 8 us))
+    ((λ i. encode_utf8_all (first_eight us c.requires.lane_count i) ++ encode_utf8_all (last_eight us c.requires.lane_count i))
+    ∙ sym (encodes-append (take 8 us) (drop 8 us)) ∙ ap encode_utf8_all (take-append-drop 8 us))
     (spills_then _ _ _ at 24 24 0 0 _ _ one two (omega arith))

@@ -23,10 +23,19 @@ returns c =
     let more = c.encode_halves-more.result.1 in
     let rest = more - 2 * cut.result in
     let dst = c.args.dst.now in
-    let whole = both_halves c.args.src.now c.args.at c.requires.dst_length.0 c.requires.paired cut.result count more bytes other cut.ensures first.spelled second.spelled (omega (arith, second.lane_count, second.out_length)) in
+    let whole =
+    both_halves c.args.src.now c.args.at c.requires.dst_length.0 c.requires.paired cut.result count more bytes other cut.ensures first.spelled
+    second.spelled (omega (arith, second.lane_count, second.out_length)) in
     record {
       units = search rules;
-      out_length = omega (arith, ap length whole, length-append (take count bytes) (take rest other), length-take-le count bytes (omega (arith, first.lane_count, first.out_length)), length-take-le rest other (omega (arith, second.lane_count, second.out_length)));
+      out_length = omega (
+        arith,
+        ap length whole,
+        length-append (take count bytes) (take rest other),
+        length-take-le count bytes
+            (omega (arith, first.lane_count, first.out_length)),
+        length-take-le rest other (omega (arith, second.lane_count, second.out_length)),
+      );
       length_bound = omega (arith, first.out_length, second.out_length);
       written = c.write_both.ensures ∙ ap (λ xs. take c.args.to dst ++ (xs ++ drop (c.args.to + (count + rest)) dst)) whole;
     }

@@ -19,4 +19,5 @@ returns g c =
     let begins = tests_and second (tests_of w8 ltb b (HasLanes-splat n 0xC0)) in
     let third = tests_and (tests_of w8 leb (HasLanes-splat n 0x80) t) (tests_of w8 ltb t (HasLanes-splat n 0xC0)) in
     let fourth = tests_and (tests_of w8 leb (HasLanes-splat n 0x80) f) (tests_of w8 ltb f (HasLanes-splat n 0xC0)) in
-    HasLanes_same (chosen 1 0 (tests_and (tests_and begins third) fourth)) (λ k l. whole_lane (slice_index c.args.lead k) (slice_index c.args.second k) (slice_index c.args.third k) (slice_index c.args.fourth k))
+    HasLanes_same (chosen 1 0 (tests_and (tests_and begins third) fourth))
+    (λ k l. whole_lane (slice_index c.args.lead k) (slice_index c.args.second k) (slice_index c.args.third k) (slice_index c.args.fourth k))

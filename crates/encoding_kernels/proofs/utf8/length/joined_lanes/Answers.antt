@@ -24,4 +24,5 @@ returns g c =
     let goes_on = tests_and (tests_and both long) third in
     HasLanes_same (HasLanes-zip2 (λ x y. (x + y) % 2 ^ 8) (chosen 1 0 both) (chosen 1 0 goes_on))
     (λ k l. joined_lane (slice_index c.args.lead k) (slice_index c.args.second k) (slice_index c.args.third k)
-    (Each1-get_or (Fits w8) c.args.second k 0 (omega (arith, c.fits-second.0)) c.fits-second.1).fits (Each1-get_or (Fits w8) c.args.third k 0 (omega (arith, c.fits-third.0)) c.fits-third.1).fits)
+    (Each1-get_or (Fits w8) c.args.second k 0 (omega (arith, c.fits-second.0)) c.fits-second.1).fits
+    (Each1-get_or (Fits w8) c.args.third k 0 (omega (arith, c.fits-third.0)) c.fits-third.1).fits)

@@ -20,5 +20,9 @@ overflow_add-parts c =
 pub returns : goal.returns
 returns c =
     let (parts, are, long) = c.parts_of_utf8-parts.ensures in
-    let sum = repaired_sum c.args.bytes.now parts are in
-    (parts, are, same_length c.checked_add.result _ _ (omega (arith, long, c.count_four_bytes.ensures, c.sum_below_three.ensures, sum.0, sum.1)) c.checked_add.ensures)
+    let sum = repaired_sum c.args.bytes.now parts are in (
+      parts,
+      are,
+      same_length c.checked_add.result _ _
+          (omega (arith, long, c.count_four_bytes.ensures, c.sum_below_three.ensures, sum.0, sum.1)) c.checked_add.ensures,
+    )

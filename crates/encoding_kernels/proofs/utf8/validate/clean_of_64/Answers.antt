@@ -14,7 +14,8 @@ returns-then-is_zero-clause-follow c prefix =
 pub returns-then-clean-lt32-clause-follow : goal.returns-then-clean-lt32-clause-follow
 returns-then-clean-lt32-clause-follow c prefix =
     let clean = c.zeros-clean.ensures in
-    ValidUpTo-more c.args.src.now c.args.at c.zeros-clean.result prefix (λ i l. c.faults_32-first.ensures.lanes i (omega (arith, clean.within)) (clean.zeros.each i l))
+    ValidUpTo-more c.args.src.now c.args.at c.zeros-clean.result prefix
+    (λ i l. c.faults_32-first.ensures.lanes i (omega (arith, clean.within)) (clean.zeros.each i l))
 
 pub returns-clause-follow : goal.returns-clause-follow
 returns-clause-follow c prefix =
@@ -23,4 +24,5 @@ returns-clause-follow c prefix =
     let more = c.zeros.ensures in
     let half = ValidUpTo-more bs c.args.at 32 prefix (λ i l. c.faults_32-first.ensures.lanes i l (clean.zeros.each i (omega (arith, c.if-clean-lt32.false)))) in
     let e : c.args.at + 32 + c.zeros.result ≡ c.args.at + (32 + c.zeros.result) = omega arith in
-    subst (ValidUpTo bs) e (ValidUpTo-more bs (c.args.at + 32) c.zeros.result half (λ i l. c.faults_32-second.ensures.lanes i (omega (arith, more.within)) (more.zeros.each i l)))
+    subst (ValidUpTo bs) e
+    (ValidUpTo-more bs (c.args.at + 32) c.zeros.result half (λ i l. c.faults_32-second.ensures.lanes i (omega (arith, more.within)) (more.zeros.each i l)))

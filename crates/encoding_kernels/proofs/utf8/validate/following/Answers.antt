@@ -7,8 +7,15 @@ pub loop-at-init : goal.loop-at-init
 loop-at-init c =
     let whole = ValidUpTo_less c.args.src.now c.args.from in
     elim c.if-at-lt-BLOCK.branch [
-      | then-at-lt-BLOCK+else-at-lt-BLOCK-2 w ↦ rw w.at-is (record { started = omega arith; within = w.clean_of_first_64-at.ensures.within; prefix = w.clean_of_first_64-at.ensures.follow })
+      | then-at-lt-BLOCK+else-at-lt-BLOCK-2 w ↦
+          rw w.at-is (record { started = omega arith; within = w.clean_of_first_64-at.ensures.within; prefix = w.clean_of_first_64-at.ensures.follow })
       | else-at-lt-BLOCK+then-src-at-ge-BLOCK+else-clean-lt-BLOCK w ↦
-          rw w.at-is (record { started = omega arith; within = omega (arith, w.clean_of_64-clean.ensures.within); prefix = w.clean_of_64-clean.ensures.follow (whole _ (omega arith) c.requires.prefix.1) })
-      | else-at-lt-BLOCK+else-src-at-ge-BLOCK w ↦ rw w.at-is (record { started = omega arith; within = omega arith; prefix = whole _ (omega arith) c.requires.prefix.1 })
+          rw w.at-is (record {
+            started = omega arith;
+            within = omega (arith, w.clean_of_64-clean.ensures.within);
+            prefix =
+                w.clean_of_64-clean.ensures.follow (whole _ (omega arith) c.requires.prefix.1);
+          })
+      | else-at-lt-BLOCK+else-src-at-ge-BLOCK w ↦
+          rw w.at-is (record { started = omega arith; within = omega arith; prefix = whole _ (omega arith) c.requires.prefix.1 })
     ]

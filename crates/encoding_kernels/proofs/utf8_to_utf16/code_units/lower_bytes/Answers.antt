@@ -12,4 +12,5 @@ returns c =
     let high = HasLanes-zip2 (λ a b. (a + b) % 2 ^ 8) c.high_bits.ensures (HasLanes-splat 16 0xC0) in
     let longer = chosen_by (tests_of w8 leb (HasLanes-splat 16 0xF0) c.two_before.ensures) high c.lower_bits.ensures in
     HasLanes_same (chosen_by (tests_of w8 ltb bytes (HasLanes-splat 16 0x80)) bytes longer)
-    (λ k l. lower_lane (get_or (0 ∷ 0 ∷ 0 ∷ v) k 0) (get_or (0 ∷ 0 ∷ v) k 0) (get_or (0 ∷ v) k 0) (get_or v k 0) (bytes_below v c.fits-block.0 c.fits-block.1 k l))
+    (λ k l. lower_lane (get_or (0 ∷ 0 ∷ 0 ∷ v) k 0) (get_or (0 ∷ 0 ∷ v) k 0) (get_or (0 ∷ v) k 0) (get_or v k 0)
+    (bytes_below v c.fits-block.0 c.fits-block.1 k l))

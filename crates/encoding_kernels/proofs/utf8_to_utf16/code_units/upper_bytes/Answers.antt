@@ -15,4 +15,5 @@ returns c =
     let marked = HasLanes-zip2 bit_or c.upper_bits.ensures (chosen 0xDC 0 (tests_of w8 leb (HasLanes-splat 16 0xF0) c.three_before.ensures)) in
     let longer = chosen_by (tests_of w8 leb (HasLanes-splat 16 0xF0) two) high marked in
     HasLanes_same (chosen_by (tests_of w8 ltb bytes (HasLanes-splat 16 0x80)) (HasLanes-splat 16 0) longer)
-    (λ k l. upper_lane (get_or (0 ∷ 0 ∷ 0 ∷ v) k 0) (get_or (0 ∷ 0 ∷ v) k 0) (get_or (0 ∷ v) k 0) (get_or v k 0) (bytes_below v c.fits-block.0 c.fits-block.1 k l))
+    (λ k l. upper_lane (get_or (0 ∷ 0 ∷ 0 ∷ v) k 0) (get_or (0 ∷ 0 ∷ v) k 0) (get_or (0 ∷ v) k 0) (get_or v k 0)
+    (bytes_below v c.fits-block.0 c.fits-block.1 k l))

@@ -20,4 +20,6 @@ returns c t k l =
     let leads = HasLanes-zip2 bit_and block (HasLanes-itself 16 LEAD_BITS refl) in
     let tests = tests_of w8 (λ a b. not (eqb a b)) leads (HasLanes-itself 16 LEAD_VALUES refl) in
     let none = (none_passes tests (omega arith)).0 t (3 * k) (omega arith) in
-    three_from (get_or src (3 * k) 0) (c.type_inv.src (3 * k)).fits (sym (λ i. not (eqb (bit_and (get_or src (3 * k) 0) (same_below (λ j. get_or LEAD_BITS (3 * j) 0) (λ _. 0xF0) 0 5 refl k l i)) (same_below (λ j. get_or LEAD_VALUES (3 * j) 0) (λ _. 0xE0) 0 5 refl k l i))) ∙ none)
+    three_from (get_or src (3 * k) 0) (c.type_inv.src (3 * k)).fits
+    (sym (λ i. not (eqb (bit_and (get_or src (3 * k) 0) (same_below (λ j. get_or LEAD_BITS (3 * j) 0) (λ _. 0xF0) 0 5 refl k l i))
+    (same_below (λ j. get_or LEAD_VALUES (3 * j) 0) (λ _. 0xE0) 0 5 refl k l i))) ∙ none)

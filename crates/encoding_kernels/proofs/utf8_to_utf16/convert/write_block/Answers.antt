@@ -2,7 +2,12 @@ use Rattle.encoding_kernels.proofs.TextUnitsLemmas.{kept_small, puts_block}
 use Rattle.encoding_kernels.proofs.utf8_to_utf16.convert.write_block.Goals as goal
 
 pub write_compressed-requires : goal.write_compressed-requires
-write_compressed-requires c = (kept_small c.args.src.now c.args.end c.args.kept c.requires.dst_length.0 c.requires.end.0 c.requires.kept, c.requires.dst_length.1)
+write_compressed-requires c = (
+  kept_small c.args.src.now c.args.end c.args.kept c.requires.dst_length.0 c.requires.end.0
+      c.requires.kept,
+  c.requires.dst_length.1,
+)
 
 pub returns : goal.returns
-returns c = puts_block c.args.src.now c.args.dst.now _ _ _ c.args.end c.args.kept _ _ c.requires.text c.requires.dst_length.0 c.requires.end.0 c.requires.end.1 c.code_units.ensures c.requires.kept c.write_compressed.ensures
+returns c = puts_block c.args.src.now c.args.dst.now _ _ _ c.args.end c.args.kept _ _ c.requires.text c.requires.dst_length.0 c.requires.end.0 c.requires.end.1
+    c.code_units.ensures c.requires.kept c.write_compressed.ensures

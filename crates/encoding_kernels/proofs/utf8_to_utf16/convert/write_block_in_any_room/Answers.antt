@@ -9,7 +9,8 @@ write_compressed_exact-requires c = (kept_small c.args.src.now c.args.end c.args
 
 pub returns-then-dst-ge16 : goal.returns-then-dst-ge16
 returns-then-dst-ge16 c =
-    puts_block c.args.src.now c.args.dst.now _ _ _ c.args.end c.args.kept _ _ c.requires.text c.requires.dst_length.0 c.requires.end.0 c.requires.end.1 c.code_units.ensures c.requires.kept c.write_compressed_exact.ensures
+    puts_block c.args.src.now c.args.dst.now _ _ _ c.args.end c.args.kept _ _ c.requires.text c.requires.dst_length.0 c.requires.end.0 c.requires.end.1
+    c.code_units.ensures c.requires.kept c.write_compressed_exact.ensures
 
 pub slice_bounds-copy_from_slice-end : goal.slice_bounds-copy_from_slice-end
 slice_bounds-copy_from_slice-end c = omega (arith, puts_few c.write_block-count.ensures, c.requires.dst_length.1)
@@ -20,7 +21,12 @@ slice_bounds-copy_from_slice-end-2 c =
 
 pub copy_from_slice-requires : goal.copy_from_slice-requires
 copy_from_slice-requires c =
-    omega (arith, length-take-le c.write_block-count.result c.args.dst.now (omega (arith, puts_few c.write_block-count.ensures, c.requires.dst_length.1)), puts_long c.write_block-count.ensures)
+    omega (
+      arith,
+      length-take-le c.write_block-count.result c.args.dst.now
+          (omega (arith, puts_few c.write_block-count.ensures, c.requires.dst_length.1)),
+      puts_long c.write_block-count.ensures,
+    )
 
 pub returns : goal.returns
 returns c =

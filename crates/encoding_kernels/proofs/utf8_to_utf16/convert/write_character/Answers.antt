@@ -16,7 +16,8 @@ pub unreachable-requires : goal.unreachable-requires
 unreachable-requires c =
     let begins = first_character c.args.src.now c.sequence_length-length.result c.requires.text c.requires.dst_length.0 c.sequence_length-length.ensures in
     let s = c.decode_utf8_scalar-scalar.ensures in
-    character_fits c.args.src.now c.sequence_length-length.result _ (length c.args.dst.now) begins s.scalar s.spelled c.requires.dst_length.1 c.in_default.ensures.unfit.0
+    character_fits c.args.src.now c.sequence_length-length.result _
+    (length c.args.dst.now) begins s.scalar s.spelled c.requires.dst_length.1 c.in_default.ensures.unfit.0
 
 pub returns : goal.returns
 returns c =
@@ -24,5 +25,6 @@ returns c =
     let s = c.decode_utf8_scalar-scalar.ensures in
     record {
       progress = begins.some;
-      written = puts_character c.args.src.now c.args.dst.now c.write_utf16.new.dst c.sequence_length-length.result c.in-Some.units _ begins s.scalar s.spelled c.in-Some.ensures.written;
+      written = puts_character c.args.src.now c.args.dst.now c.write_utf16.new.dst c.sequence_length-length.result c.in-Some.units _ begins s.scalar s.spelled
+          c.in-Some.ensures.written;
     }

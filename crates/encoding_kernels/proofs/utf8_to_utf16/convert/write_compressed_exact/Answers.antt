@@ -7,5 +7,6 @@ pub returns : goal.returns
 returns c marks long is =
     let first = c.args.first in
     let last = c.args.last in
-    writes_compressed_exact marks (first ++ last) c.args.dst.now first last c.compress.result c.compress-2.result c.args.kept (sym (take_at first last 8 c.fits-first.0)) (sym (drop_at first last 8 c.fits-first.0)) long
+    writes_compressed_exact marks (first ++ last) c.args.dst.now first last c.compress.result c.compress-2.result c.args.kept
+    (sym (take_at first last 8 c.fits-first.0)) (sym (drop_at first last 8 c.fits-first.0)) long
     (omega (arith, length-append first last, c.fits-first.0, c.fits-last.0)) c.requires.1 is c.compress.ensures c.compress-2.ensures

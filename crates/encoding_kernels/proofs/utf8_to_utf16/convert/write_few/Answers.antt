@@ -11,4 +11,5 @@ loop-read-preserved c =
     (due_exact (drop c.loop-read.read c.args.src.now) _ c.write_character-bytes.new.dst _ _ done.rest puts)
 
 pub returns : goal.returns
-returns c = putting_all c.args.src.now c.args.dst.now c.loop-read.dst c.loop-read.read c.loop-read.written c.requires.text c.requires.dst_length (omega arith) c.loop-read.invariant
+returns c = putting_all c.args.src.now c.args.dst.now c.loop-read.dst c.loop-read.read c.loop-read.written c.requires.text c.requires.dst_length
+    (omega arith) c.loop-read.invariant

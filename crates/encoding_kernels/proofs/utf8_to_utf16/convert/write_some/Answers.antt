@@ -4,17 +4,20 @@ use Rattle.encoding_kernels.proofs.TextLoopLemmas.{due_block, due_exact, due_tri
 use Rattle.encoding_kernels.proofs.utf8_to_utf16.convert.write_some.Goals as goal
 
 pub returns-then-src-ge24-clause-written : goal.returns-then-src-ge24-clause-written
-returns-then-src-ge24-clause-written c = due_triples c.args.src.now c.args.dst.now c.write_triples.new.dst c.requires.text c.if-src-ge24.true c.write_triples.ensures
+returns-then-src-ge24-clause-written c = due_triples c.args.src.now c.args.dst.now c.write_triples.new.dst c.requires.text c.if-src-ge24.true
+    c.write_triples.ensures
 
 pub returns-then-begins_triples-clause-written : goal.returns-then-begins_triples-clause-written
-returns-then-begins_triples-clause-written c = due_exact c.args.src.now c.args.dst.now c.write_triples_exact.new.dst _ _ c.requires.text c.write_triples_exact.ensures
+returns-then-begins_triples-clause-written c = due_exact c.args.src.now c.args.dst.now c.write_triples_exact.new.dst _ _ c.requires.text
+    c.write_triples_exact.ensures
 
 pub returns-then-end-eq0-clause-written : goal.returns-then-end-eq0-clause-written
 returns-then-end-eq0-clause-written c = due_exact c.args.src.now c.args.dst.now c.write_character.new.dst _ _ c.requires.text c.write_character.ensures.written
 
 pub returns-then-is_due-clause-written : goal.returns-then-is_due-clause-written
 returns-then-is_due-clause-written c =
-    due_block c.args.src.now c.args.dst.now c.write_block.new.dst c.whole_end-end.result c.write_block.result (count_ones (c.unit_ends-kept.result / 2 ^ 8)) c.requires.text
+    due_block c.args.src.now c.args.dst.now c.write_block.new.dst c.whole_end-end.result c.write_block.result
+    (count_ones (c.unit_ends-kept.result / 2 ^ 8)) c.requires.text
     (c.if-is_due.ensures {u = tt} refl) c.write_block.ensures
 
 pub returns-clause-written : goal.returns-clause-written

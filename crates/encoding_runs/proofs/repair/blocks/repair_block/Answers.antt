@@ -14,8 +14,10 @@ pub returns-then-left-lt-REPLACEMENT_LENGTH : goal.returns-then-left-lt-REPLACEM
 returns-then-left-lt-REPLACEMENT_LENGTH c =
     let rest : List ℕ = take (length c.args.src.now - c.loop-rest.block.read) (drop c.loop-rest.block.read c.args.src.now) in
     let none : length rest ≡ 0 = none_there c.is_empty.result (length rest) c.is_empty.ensures c.if-is_empty.true in
-    let all : length c.args.src.now - c.loop-rest.block.read ≡ 0 = sym (length-drop c.loop-rest.block.read c.args.src.now) ∙ sym (ap length (take_rest c.args.src.now c.loop-rest.block.read)) ∙ none in
-    block_rejected _ _ _ _ _ _ _ _ _ _ c.in_neutral_state-neutral.ensures.pending c.loop-rest.invariant.done all c.if-left-lt-REPLACEMENT_LENGTH.true (elim c.if-not-last.branch [
+    let all : length c.args.src.now - c.loop-rest.block.read ≡ 0 = sym (length-drop c.loop-rest.block.read c.args.src.now)
+    ∙ sym (ap length (take_rest c.args.src.now c.loop-rest.block.read)) ∙ none in
+    block_rejected _ _ _ _ _ _ _ _ _ _ c.in_neutral_state-neutral.ensures.pending c.loop-rest.invariant.done all c.if-left-lt-REPLACEMENT_LENGTH.true
+    (elim c.if-not-last.branch [
       | then-not-last w ↦ rw w.block-is ((λ _ marked. absurd (both_ways _ w.if-not-last.true marked)), λ _. ap not w.if-not-last.true)
       | else-not-last w ↦ rw w.block-is ((λ e _. w.in_neutral_state.ensures.neutral.0 e), λ e. w.in_neutral_state.ensures.neutral.1 (e w.if-not-last.false))
     ])
@@ -33,12 +35,16 @@ returns-in-OutputFull c =
 pub write_scalar-requires-clause-dst_length : goal.write_scalar-requires-clause-dst_length
 write_scalar-requires-clause-dst_length c =
     let call = rw (take_rest c.args.src.now c.loop-rest.block.read, c.in-Malformed.is) at c.decode_to_utf8_raw-result.ensures.call in
-    let at_end : length c.args.src.now - c.loop-rest.block.read ≡ 0 → 3 ≤ length c.loop-rest.dst - c.loop-rest.block.written = λ all. elim c.else-is_empty.branch [
+    let at_end : length c.args.src.now - c.loop-rest.block.read ≡ 0 → 3 ≤ length c.loop-rest.dst - c.loop-rest.block.written =
+    λ all. elim c.else-is_empty.branch [
       | else-is_empty-via-then-is_empty+else-left-lt-REPLACEMENT_LENGTH w ↦ omega (arith, w.if-left-lt-REPLACEMENT_LENGTH.false)
       | else-is_empty-via-else-is_empty w ↦
-          absurd (both_ways _ w.if-is_empty.false (c.is_empty.ensures ∙ ap (λ n. n == 0) (ap length (take_rest c.args.src.now c.loop-rest.block.read) ∙ length-drop c.loop-rest.block.read c.args.src.now ∙ all)))
+          absurd
+          (both_ways _ w.if-is_empty.false (c.is_empty.ensures ∙ ap (λ n. n == 0) (ap length (take_rest c.args.src.now c.loop-rest.block.read)
+          ∙ length-drop c.loop-rest.block.read c.args.src.now ∙ all)))
     ] in
-    block_fits _ _ _ _ _ _ _ _ _ _ _ _ _ c.in_neutral_state-neutral.ensures.pending c.loop-rest.invariant.done c.in-Malformed.field-0 c.in-Malformed.field-1 call at_end
+    block_fits _ _ _ _ _ _ _ _ _ _ _ _ _ c.in_neutral_state-neutral.ensures.pending c.loop-rest.invariant.done c.in-Malformed.field-0
+    c.in-Malformed.field-1 call at_end
 
 pub loop-rest-preserved : goal.loop-rest-preserved
 loop-rest-preserved c =

@@ -20,7 +20,8 @@ returns-in_err-round-clause-write_fault g c =
     let room = length-take c.min-room.result c.loop-read.buffer in
     rw (p.1, p.2) (λ fault going.
     let e = c.in_err-round.ensures.write_fault fault in
-    let s = stopped_writing _ _ _ _ _ _ _ _ _ _ _ _ _ _ c.loop-read.invariant.reaches e.2 e.3 (omega (arith, room, c.min-room.ensures)) (c.loop-read.invariant.ended ∙ going) in
+    let s = stopped_writing _ _ _ _ _ _ _ _ _ _ _ _ _ _ c.loop-read.invariant.reaches e.2 e.3 (omega (arith, room, c.min-room.ensures))
+    (c.loop-read.invariant.ended ∙ going) in
     (s.0, omega (arith, s.1, room, c.min-room.ensures, c.loop-read-test.true), s.2))
 
 pub overflow_add-replaced : goal.overflow_add-replaced
@@ -28,7 +29,17 @@ overflow_add-replaced g c =
     let e = c.in_ok-round.ensures.ok in
     let reaches = c.loop-read.invariant.reaches in
     let wrote = wrote_after _ _ _ _ _ _ _ _ _ _ reaches.wrote e.4 in
-    omega (arith, wrote_count _ _ _ _ _ _ wrote, length-append reaches.input e.0, reaches.count, e.3.within, length-take c.min-room.result c.loop-read.buffer, c.min-room.ensures, c.ranges.limit)
+    omega (
+      arith,
+      wrote_count _ _ _ _ _ _ wrote,
+      length-append reaches.input e.0,
+      reaches.count,
+      e.3.within,
+      length-take c.min-room.result
+          c.loop-read.buffer,
+      c.min-room.ensures,
+      c.ranges.limit,
+    )
 
 pub returns-then-round-eq0-clause-ok : goal.returns-then-round-eq0-clause-ok
 returns-then-round-eq0-clause-ok g c =

@@ -4,7 +4,8 @@ use Rattle.encoding_runs.proofs.repair.engine.repair.Given as goal
 
 abbrev pub invariant-loop-read : goal.invariant-loop-read
 invariant-loop-read g l = record {
-  reaches : Reaches (g.R.Source.remaining l.fn.reader) (g.R.Source.remaining l.reader) (g.W.Sink.contents l.fn.writer) (g.W.Sink.contents l.writer) l.read l.replaced l.decoder;
+  reaches : Reaches (g.R.Source.remaining l.fn.reader) (g.R.Source.remaining l.reader) (g.W.Sink.contents l.fn.writer)
+      (g.W.Sink.contents l.writer) l.read l.replaced l.decoder;
   within : l.read ≤ l.limit;
   ended : g.R.Source.has_ended l.reader ≡ g.R.Source.has_ended l.fn.reader;
   reader_failed : g.R.Source.has_failed l.reader ≡ g.R.Source.has_failed l.fn.reader;

@@ -14,7 +14,15 @@ pub overflow_add-replaced : goal.overflow_add-replaced
 overflow_add-replaced g c =
     let e = c.in_ok-replaced.ensures.ok in
     let wrote = wrote_piece _ _ _ _ _ _ _ _ _ _ _ c.loop-writer.invariant.wrote c.decode_borrowed_raw-read.ensures e.1 in
-    omega (arith, wrote_count _ _ _ _ _ _ wrote, e.0, length-append c.args.decoder.now c.args.src.now, pending_length c.args.decoder.now c.requires.unfinished, c.well_formed.1.0.0)
+    omega (
+      arith,
+      wrote_count _ _ _ _ _ _ wrote,
+      e.0,
+      length-append c.args.decoder.now c.args.src.now,
+      pending_length c.args.decoder.now
+          c.requires.unfinished,
+      c.well_formed.1.0.0,
+    )
 
 pub loop-writer-preserved : goal.loop-writer-preserved
 loop-writer-preserved g c =
@@ -28,5 +36,6 @@ loop-writer-preserved g c =
 pub returns-then-read-rest-clause-ok : goal.returns-then-read-rest-clause-ok
 returns-then-read-rest-clause-ok g c =
     let e = c.in_ok-replaced.ensures.ok in
-    let wrote = wrote_last _ _ _ _ _ _ _ _ _ _ _ c.loop-writer.invariant.wrote c.decode_borrowed_raw-read.ensures c.in_default.not-InputEmpty e.1 (omega arith) in
+    let wrote =
+    wrote_last _ _ _ _ _ _ _ _ _ _ _ c.loop-writer.invariant.wrote c.decode_borrowed_raw-read.ensures c.in_default.not-InputEmpty e.1 (omega arith) in
     rw e.0 (wrote.0, inl wrote.1, λ l. wrote.1, e.2 ∙ c.loop-writer.invariant.failed)

@@ -12,7 +12,8 @@ returns g c =
     let unread = c.args.unread.now in
     let left = c.args.left.now in
     let d = c.decode.ensures.call in
-    let room : length (take c.room_of-room.result left) ≡ room_of turn (length left) = omega (arith, c.room_of-room.ensures, length-take c.room_of-room.result left) in
+    let room : length (take c.room_of-room.result left) ≡ room_of turn (length left) =
+    omega (arith, c.room_of-room.ensures, length-take c.room_of-room.result left) in
     record {
       call = (
         d.0,

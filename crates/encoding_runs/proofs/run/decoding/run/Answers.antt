@@ -35,7 +35,13 @@ loop-turn-preserved g c =
       run = rw (take_more turns at none inside) run;
       read = omega (arith, within, before.read, length-take {A = ℕ}, length-drop {A = ℕ});
       written = omega (arith, run.run.writes.fits, WritesPrefix-length _ _ _ _ run.run.writes);
-      reports = omega (arith, before.reports, c.write_report.ensures.count, one_report c.make_call-answer.result.0 (c.loop-turn.outcome.written + c.make_call-answer.result.2));
+      reports = omega (
+        arith,
+        before.reports,
+        c.write_report.ensures.count,
+        one_report c.make_call-answer.result.0
+            (c.loop-turn.outcome.written + c.make_call-answer.result.2),
+      );
     }
 
 pub returns-clause-delivers : goal.returns-clause-delivers

@@ -25,7 +25,8 @@ loop-turn-preserved c =
 pub returns-clause-delivers : goal.returns-clause-delivers
 returns-clause-delivers c =
     let all = take_all c.loop-turn.turn-index c.args.turns.now (omega arith) in
-    run_encodes _ _ _ _ _ _ _ c.max_buffer_length_from_utf16_without_replacement-room.ensures.surrogate (λ k. omega (arith, c.type_inv.src k)) (rw all at c.loop-turn.invariant.run)
+    run_encodes _ _ _ _ _ _ _ c.max_buffer_length_from_utf16_without_replacement-room.ensures.surrogate (λ k. omega (arith, c.type_inv.src k))
+    (rw all at c.loop-turn.invariant.run)
 
 pub returns-clause-completes : goal.returns-clause-completes
 returns-clause-completes c =

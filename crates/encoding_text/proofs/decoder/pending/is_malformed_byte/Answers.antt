@@ -18,7 +18,8 @@ returns-then-bytes-eq1-clause-begins c none e = begins_before c.args.bytes.now c
 pub returns-clause-malformed : goal.returns-clause-malformed
 returns-clause-malformed c last t =
     let bytes = c.args.bytes.now in
-    let several : IsIncomplete (slice_index bytes 0 ∷ []) × IsContinuation (slice_index bytes 1) → ⊥ = λ both. both_ways _ (not-true _ t) (c.is_lead_with_continuation.ensures.1 both) in
+    let several : IsIncomplete (slice_index bytes 0 ∷ []) × IsContinuation (slice_index bytes 1) → ⊥ =
+    λ both. both_ways _ (not-true _ t) (c.is_lead_with_continuation.ensures.1 both) in
     elim (decide_incomplete (slice_index bytes 0 ∷ []) (omega arith)) [
       | inl begins ↦ unpaired_incomplete bytes last (omega arith) begins (λ goes_on. several (begins, goes_on))
       | inr begins_none ↦ single_byte bytes last c.requires.not_empty (omega arith) begins_none

@@ -28,6 +28,7 @@ returns-clause-clear c =
     let valid = rw take_rest at c.utf8_valid_up_to-valid.ensures in
     let inside : k ≤ c.min.result = omega (arith, valid.within, length-take c.min.result (drop n bs)) in
     let text = subst IsUtf8 (take-take k c.min.result (drop n bs) inside) valid.kind in
-    let none : IsBidiText (take k (drop n bs)) → ⊥ = λ b. let found = rw take_rest at (c.if-is_text_bidi.ensures {u = tt}).1 in absurd (let e = found b in cc) in
+    let none : IsBidiText (take k (drop n bs)) → ⊥ = λ b. let found = rw take_rest at (c.if-is_text_bidi.ensures {u = tt}).1 in
+    absurd (let e = found b in cc) in
     let more = left_to_right_more bs n k clear (text, none) in
     (omega (arith, valid.within, prefix.within, length-take c.min.result (drop n bs), length-drop n bs), more.0, more.1)

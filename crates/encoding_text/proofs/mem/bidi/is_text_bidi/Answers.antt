@@ -3,7 +3,8 @@ use Rattle.encoding_kernels.proofs.BidiLemmas.{none_joined, none_before, bidi_of
 use Rattle.encoding_text.proofs.mem.bidi.is_text_bidi.Goals as goal
 
 pub returns-then-stands_between : goal.returns-then-stands_between
-returns-then-stands_between c = let found = c.if-stands_between.ensures.found refl in (λ e. bidi_of_place c.args.bytes.now found.0 c.requires found.1 found.2, λ b. refl)
+returns-then-stands_between c = let found = c.if-stands_between.ensures.found refl in
+    (λ e. bidi_of_place c.args.bytes.now found.0 c.requires found.1 found.2, λ b. refl)
 
 pub loop-at-preserved : goal.loop-at-preserved
 loop-at-preserved c =
@@ -11,7 +12,8 @@ loop-at-preserved c =
     let place = c.skip_clear-from.result in
     record {
       within = omega (arith, c.min.ensures);
-      none = none_joined bs 0 place _ (none_joined bs 0 c.loop-at.at place c.loop-at.invariant.none c.skip_clear-from.ensures.no_rtl) (c.if-stands_between.ensures.no_rtl refl);
+      none = none_joined bs 0 place _ (none_joined bs 0 c.loop-at.at place c.loop-at.invariant.none c.skip_clear-from.ensures.no_rtl)
+          (c.if-stands_between.ensures.no_rtl refl);
     }
 
 pub returns : goal.returns
@@ -21,4 +23,5 @@ returns c = (
 )
 
 pub loop-at-init : goal.loop-at-init
-loop-at-init c = let run = c.prefix_len_below-at.ensures in record { within = run.within; none = none_before c.args.bytes.now c.prefix_len_below-at.result run.below }
+loop-at-init c = let run = c.prefix_len_below-at.ensures in
+    record { within = run.within; none = none_before c.args.bytes.now c.prefix_len_below-at.result run.below }

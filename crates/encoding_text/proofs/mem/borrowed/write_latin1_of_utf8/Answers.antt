@@ -7,5 +7,6 @@ convert_utf8_to_latin1_lossy-requires-clause-latin1 c = ascii_latin1_rest c.args
 
 pub returns : goal.returns
 returns c =
-    rw (ascii_chars_prefix c.args.text.now c.args.prefix c.requires.ascii) at (written_after c.args.text.now c.args.dst.now c.copy_from_slice.new.self c.convert_utf8_to_latin1_lossy.new.dst c.args.prefix
+    rw (ascii_chars_prefix c.args.text.now c.args.prefix c.requires.ascii) at
+    (written_after c.args.text.now c.args.dst.now c.copy_from_slice.new.self c.convert_utf8_to_latin1_lossy.new.dst c.args.prefix
     c.convert_utf8_to_latin1_lossy.result _ c.requires.within (omega arith) c.copy_from_slice.ensures.after c.convert_utf8_to_latin1_lossy.ensures.written)

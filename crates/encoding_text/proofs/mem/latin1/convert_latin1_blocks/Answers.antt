@@ -14,7 +14,8 @@ loop-read-2-preserved c =
       within = (omega arith, omega (arith, here.whole), here.within.2);
       whole = omega (arith, here.whole);
       room = omega (arith, here.whole, here.room, call.length_bound);
-      written = written_eight c.args.src.now c.args.dst.now _ c.write_latin1-written.new.dst c.loop-read-2.read c.loop-read-2.written here.written 16 c.write_latin1-written.result call.out_length
+      written = written_eight c.args.src.now c.args.dst.now _ c.write_latin1-written.new.dst c.loop-read-2.read c.loop-read-2.written here.written 16
+          c.write_latin1-written.result call.out_length
           (omega (arith, here.whole, here.room, call.length_bound)) call.written;
     }
 
@@ -24,6 +25,7 @@ loop-read-3-preserved c =
     let call = c.write_latin1-written-in-loop-read-3.ensures in
     record {
       within = omega arith;
-      written = written_eight c.args.src.now c.args.dst.now _ c.write_latin1-written-in-loop-read-3.new.dst c.loop-read-3.read c.loop-read-3.written here.written 16 c.write_latin1-written-in-loop-read-3.result call.out_length
+      written = written_eight c.args.src.now c.args.dst.now _ c.write_latin1-written-in-loop-read-3.new.dst c.loop-read-3.read c.loop-read-3.written
+          here.written 16 c.write_latin1-written-in-loop-read-3.result call.out_length
           (omega (arith, call.length_bound)) call.written;
     }

@@ -15,4 +15,5 @@ returns-then-ascii-src-clause-prefix c =
     latin1_fits_all c.args.src.now _ _ (omega (arith, c.if-ascii-src.true)) (omega (arith, c.if-ascii-src.true)) (omega (arith, w.count, w.fits))
 
 pub returns-clause-written : goal.returns-clause-written
-returns-clause-written c = WritesPrefix_over _ _ _ _ _ _ _ c.copy_first_ascii-ascii.ensures.copied c.convert_latin1_turns.ensures.written c.convert_latin1_turns.ensures.after_ascii
+returns-clause-written c = WritesPrefix_over _ _ _ _ _ _ _ c.copy_first_ascii-ascii.ensures.copied c.convert_latin1_turns.ensures.written
+    c.convert_latin1_turns.ensures.after_ascii

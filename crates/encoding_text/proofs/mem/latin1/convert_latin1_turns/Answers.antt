@@ -18,9 +18,11 @@ loop-read-init c =
       within = c.requires.ascii.0;
       after_ascii = omega arith;
       written = record {
-        count = sym (ap length (encodes-IsAscii (take c.args.ascii c.args.src.now) c.requires.ascii.1) ∙ length-take-le c.args.ascii c.args.src.now c.requires.ascii.0);
+        count = sym (ap length (encodes-IsAscii (take c.args.ascii c.args.src.now) c.requires.ascii.1)
+            ∙ length-take-le c.args.ascii c.args.src.now c.requires.ascii.0);
         fits = c.requires.copied.0;
-        placed = sym (ap (λ xs. xs ++ drop c.args.ascii c.args.dst.now) (encodes-IsAscii (take c.args.ascii c.args.src.now) c.requires.ascii.1 ∙ sym prefix) ∙ take-append-drop c.args.ascii c.args.dst.now);
+        placed = sym (ap (λ xs. xs ++ drop c.args.ascii c.args.dst.now) (encodes-IsAscii (take c.args.ascii c.args.src.now) c.requires.ascii.1 ∙ sym prefix)
+            ∙ take-append-drop c.args.ascii c.args.dst.now);
       };
     }
 
@@ -28,8 +30,10 @@ pub loop-read-preserved : goal.loop-read-preserved
 loop-read-preserved c = record {
   within = omega (arith, c.convert_latin1_blocks-bytes.ensures.within);
   after_ascii = omega (arith, c.loop-read.invariant.after_ascii);
-  written = latin1_turn c.args.src.now (λ i. omega (arith, c.type_inv.src i)) c.loop-read.read c.loop-read.written c.copy_ascii-prefix.result _ _ _ c.loop-read.invariant.written
-      c.copy_ascii-prefix.ensures.ascii c.copy_ascii-prefix.ensures.copied (omega (arith, c.copy_ascii-prefix.ensures.within, c.if-read-src.false)) (omega (arith, c.if-dst-written-lt-HIGH_LENGTH.false)) c.copy_ascii-prefix.ensures.stops
+  written = latin1_turn c.args.src.now
+      (λ i. omega (arith, c.type_inv.src i)) c.loop-read.read c.loop-read.written c.copy_ascii-prefix.result _ _ _ c.loop-read.invariant.written
+      c.copy_ascii-prefix.ensures.ascii c.copy_ascii-prefix.ensures.copied (omega (arith, c.copy_ascii-prefix.ensures.within, c.if-read-src.false))
+      (omega (arith, c.if-dst-written-lt-HIGH_LENGTH.false)) c.copy_ascii-prefix.ensures.stops
       _ _ _ c.convert_latin1_blocks-bytes.ensures.written;
 }
 
@@ -40,15 +44,21 @@ pub loop-read-preserved-in-None : goal.loop-read-preserved-in-None
 loop-read-preserved-in-None c = record {
   within = omega (arith, c.convert_latin1_blocks-bytes.ensures.within);
   after_ascii = omega (arith, c.loop-read.invariant.after_ascii);
-  written = unchanged c.in-None.ensures.full (latin1_turn c.args.src.now (λ i. omega (arith, c.type_inv.src i)) c.loop-read.read c.loop-read.written c.copy_ascii-prefix.result _ _ _ c.loop-read.invariant.written
-      c.copy_ascii-prefix.ensures.ascii c.copy_ascii-prefix.ensures.copied (omega (arith, c.copy_ascii-prefix.ensures.within, c.if-read-src.false)) (omega (arith, c.if-dst-written-lt-HIGH_LENGTH.false)) c.copy_ascii-prefix.ensures.stops
+  written = unchanged c.in-None.ensures.full
+      (latin1_turn c.args.src.now
+      (λ i. omega (arith, c.type_inv.src i)) c.loop-read.read c.loop-read.written c.copy_ascii-prefix.result _ _ _ c.loop-read.invariant.written
+      c.copy_ascii-prefix.ensures.ascii c.copy_ascii-prefix.ensures.copied (omega (arith, c.copy_ascii-prefix.ensures.within, c.if-read-src.false))
+      (omega (arith, c.if-dst-written-lt-HIGH_LENGTH.false)) c.copy_ascii-prefix.ensures.stops
       _ _ _ c.convert_latin1_blocks-bytes.ensures.written);
 }
 
 pub finish_latin1-requires-clause-counted : goal.finish_latin1-requires-clause-counted
 finish_latin1-requires-clause-counted c =
-    let w = latin1_turn c.args.src.now (λ i. omega (arith, c.type_inv.src i)) c.loop-read.read c.loop-read.written c.copy_ascii-prefix.result _ _ _ c.loop-read.invariant.written
-    c.copy_ascii-prefix.ensures.ascii c.copy_ascii-prefix.ensures.copied (omega (arith, c.copy_ascii-prefix.ensures.within, c.if-read-src.false)) (omega (arith, c.if-dst-written-lt-HIGH_LENGTH.false)) c.copy_ascii-prefix.ensures.stops
+    let w =
+    latin1_turn c.args.src.now
+    (λ i. omega (arith, c.type_inv.src i)) c.loop-read.read c.loop-read.written c.copy_ascii-prefix.result _ _ _ c.loop-read.invariant.written
+    c.copy_ascii-prefix.ensures.ascii c.copy_ascii-prefix.ensures.copied (omega (arith, c.copy_ascii-prefix.ensures.within, c.if-read-src.false))
+    (omega (arith, c.if-dst-written-lt-HIGH_LENGTH.false)) c.copy_ascii-prefix.ensures.stops
     _ _ _ c.convert_latin1_blocks-bytes.ensures.written in
     (w.count, omega (arith, w.fits, WritesPrefix-length _ _ _ _ w))
 
@@ -58,12 +68,15 @@ whole src = take_all (length src) src (omega arith)
 
 pub returns-in-Some-clause-written : goal.returns-in-Some-clause-written
 returns-in-Some-clause-written c = rw (whole c.args.src.now) (c.in-Some.ensures.finished c.args.dst.now
-    (latin1_turn c.args.src.now (λ i. omega (arith, c.type_inv.src i)) c.loop-read.read c.loop-read.written c.copy_ascii-prefix.result _ _ _ c.loop-read.invariant.written
-    c.copy_ascii-prefix.ensures.ascii c.copy_ascii-prefix.ensures.copied (omega (arith, c.copy_ascii-prefix.ensures.within, c.if-read-src.false)) (omega (arith, c.if-dst-written-lt-HIGH_LENGTH.false)) c.copy_ascii-prefix.ensures.stops
+    (latin1_turn c.args.src.now
+    (λ i. omega (arith, c.type_inv.src i)) c.loop-read.read c.loop-read.written c.copy_ascii-prefix.result _ _ _ c.loop-read.invariant.written
+    c.copy_ascii-prefix.ensures.ascii c.copy_ascii-prefix.ensures.copied (omega (arith, c.copy_ascii-prefix.ensures.within, c.if-read-src.false))
+    (omega (arith, c.if-dst-written-lt-HIGH_LENGTH.false)) c.copy_ascii-prefix.ensures.stops
     _ _ _ c.convert_latin1_blocks-bytes.ensures.written))
 
 pub returns-in-Some-clause-prefix : goal.returns-in-Some-clause-prefix
-returns-in-Some-clause-prefix c = let w = returns-in-Some-clause-written c in latin1_fits_all c.args.src.now (length c.args.src.now) _ (omega arith) (omega arith) (omega (arith, w.count, w.fits))
+returns-in-Some-clause-prefix c = let w = returns-in-Some-clause-written c in
+    latin1_fits_all c.args.src.now (length c.args.src.now) _ (omega arith) (omega arith) (omega (arith, w.count, w.fits))
 
 pub returns-in-Some-clause-after_ascii : goal.returns-in-Some-clause-after_ascii
 returns-in-Some-clause-after_ascii c =
@@ -77,7 +90,8 @@ returns-after-loop-read-clause-prefix c =
 
 pub returns-then-read-src-clause-written : goal.returns-then-read-src-clause-written
 returns-then-read-src-clause-written c =
-    ascii_left c.args.src.now c.loop-read.read c.copy_ascii-prefix.result c.loop-read.invariant.written c.copy_ascii-prefix.ensures.ascii c.copy_ascii-prefix.ensures.copied
+    ascii_left c.args.src.now c.loop-read.read c.copy_ascii-prefix.result c.loop-read.invariant.written c.copy_ascii-prefix.ensures.ascii
+    c.copy_ascii-prefix.ensures.copied
 
 pub returns-then-read-src-clause-prefix : goal.returns-then-read-src-clause-prefix
 returns-then-read-src-clause-prefix c =
@@ -89,13 +103,16 @@ returns-then-read-src-clause-prefix c =
     let w = ascii_left xs at n c.loop-read.invariant.written call.ascii call.copied in
     let long = WritesPrefix-length _ _ _ _ c.loop-read.invariant.written in
     elim c.then-read-src.branch [
-      | then-read-src-via-then-read-src r ↦ latin1_fits_all xs (at + n) _ (omega (arith, r.if-read-src.true)) (omega (arith, r.if-read-src.true)) (omega (arith, w.count, w.fits))
+      | then-read-src-via-then-read-src r ↦ latin1_fits_all xs (at + n) _ (omega (arith, r.if-read-src.true)) (omega (arith, r.if-read-src.true))
+          (omega (arith, w.count, w.fits))
       | then-read-src-via-else-read-src+then-dst-written-lt-HIGH_LENGTH r ↦ elim (cases_lt (to + n) (length c.args.dst.now)) [
         | inl p ↦
             let inside : at + n < length xs = omega (arith, call.within, r.if-read-src.false) in
             let other = other_after xs _ at to n inside (omega (arith, long)) call.stops in
             let two = latin1_bytes_two (slice_index xs (at + n)) other (omega (arith, c.type_inv.src (at + n))) in
-            latin1_fits_stop xs (at + n) _ inside (omega (arith, w.count, w.fits)) (omega (arith, w.count, WritesPrefix-length _ _ _ _ w, r.if-dst-written-lt-HIGH_LENGTH.true, ap length two))
-        | inr p ↦ latin1_fits_stop xs (at + n) _ (omega (arith, call.within, r.if-read-src.false)) (omega (arith, w.count, w.fits)) (omega (arith, w.count, length-encode-some (slice_index xs (at + n))))
+            latin1_fits_stop xs (at + n) _ inside (omega (arith, w.count, w.fits))
+            (omega (arith, w.count, WritesPrefix-length _ _ _ _ w, r.if-dst-written-lt-HIGH_LENGTH.true, ap length two))
+        | inr p ↦ latin1_fits_stop xs (at + n) _ (omega (arith, call.within, r.if-read-src.false)) (omega (arith, w.count, w.fits))
+            (omega (arith, w.count, length-encode-some (slice_index xs (at + n))))
       ]
     ]

@@ -16,7 +16,8 @@ loop-stride-preserved c =
     let put = c.pack_lower.ensures ∙ ap (λ xs. take at c.loop-stride.dst ++ (map (λ (unit : ℕ). unit % 0x100) xs ++ drop (at + 16) c.loop-stride.dst)) is in
     record {
       place = omega (arith, place);
-      copied = WritesPrefix_low_block c.args.dst.now c.loop-stride.dst c.pack_lower.new.dst src at 16 copied (omega (arith, place, within)) (omega (arith, place, within, WritesPrefix-length _ _ _ _ copied)) put;
+      copied = WritesPrefix_low_block c.args.dst.now c.loop-stride.dst c.pack_lower.new.dst src at 16 copied (omega (arith, place, within))
+          (omega (arith, place, within, WritesPrefix-length _ _ _ _ copied)) put;
     }
 
 pub loop-i-preserved : goal.loop-i-preserved

@@ -12,7 +12,10 @@ returns-then-ascii-src c =
     let src = c.args.src.now in
     let n = c.copy_first_ascii-ascii.result in
     let call = c.copy_first_ascii-ascii.ensures in
-    record { written = WritesPrefix-same _ _ _ _ _ _ call.copied refl (sym (chars-IsAscii (take n src) call.ascii) ∙ ap chars (take_all n src (omega (arith, c.if-ascii-src.true)))) }
+    record {
+      written = WritesPrefix-same _ _ _ _ _ _ call.copied refl (sym (chars-IsAscii (take n src) call.ascii)
+          ∙ ap chars (take_all n src (omega (arith, c.if-ascii-src.true))));
+    }
 
 pub returns : goal.returns
 returns c =
@@ -23,6 +26,8 @@ returns c =
     let new = c.copy_first_ascii-ascii.new.dst in
     let text = latin1_chars src c.requires.latin1 in
     let copied = ap (take n) call.copied.placed ∙ take_at (take n src) _ n (sym call.copied.count) in
-    let start = ascii_start src cs new n text.0 text.1 call.within.0 call.ascii copied (omega (arith, WritesPrefix-length _ _ _ _ call.copied, c.requires.dst_length)) in
+    let start =
+    ascii_start src cs new n text.0 text.1 call.within.0 call.ascii copied
+    (omega (arith, WritesPrefix-length _ _ _ _ call.copied, c.requires.dst_length)) in
     let longer : n ≤ c.convert_utf8_turns.result = omega (arith, start.1.count, length-take n cs, c.convert_utf8_turns.ensures.written.count) in
     record { written = WritesPrefix_over _ _ _ _ _ _ _ call.copied c.convert_utf8_turns.ensures.written longer }

@@ -31,7 +31,9 @@ loop-read-2-preserved c =
     let had = c.loop-read-2.invariant in
     let call = c.latin1_of-count.ensures in
     let whole = c.whole_length-read.ensures in
-    let next = block_on src cs c.args.dst.now _ c.write_first.new.dst c.loop-read-2.read c.loop-read-2.written c.latin1_of-count.result.1 c.whole_length-read.result text.0 had.rest had.written c.latin1_of-count.result.0 call.latin1_ended
+    let next =
+    block_on src cs c.args.dst.now _ c.write_first.new.dst c.loop-read-2.read c.loop-read-2.written c.latin1_of-count.result.1 c.whole_length-read.result
+    text.0 had.rest had.written c.latin1_of-count.result.0 call.latin1_ended
     (omega (arith, call.lane_count, call.out_length)) (omega (arith, call.out_length)) c.write_first.ensures (omega arith) whole in
     record { within = (omega (arith, had.within.0), omega (arith, whole)); rest = next.0; written = next.1 }
 
@@ -49,7 +51,8 @@ bounds-src-read-in-loop-read c =
     let had = c.loop-read.invariant in
     let call = c.copy_ascii-prefix.ensures in
     (two_after src cs c.args.dst.now c.loop-read.dst c.copy_ascii-prefix.new.dst i j n
-    text.0 had.rest had.written call.within.0 call.ascii call.copied had.within (omega (arith, call.within.0, c.if-read-src.false)) c.requires.dst_length call.stops).1
+    text.0 had.rest had.written call.within.0 call.ascii call.copied had.within
+    (omega (arith, call.within.0, c.if-read-src.false)) c.requires.dst_length call.stops).1
 
 pub loop-read-2-init : goal.loop-read-2-init
 loop-read-2-init c =
@@ -64,8 +67,10 @@ loop-read-2-init c =
     let next = ascii_on src cs c.args.dst.now c.loop-read.dst c.copy_ascii-prefix.new.dst i j n
     text.0 had.rest had.written call.within.0 call.ascii call.copied had.within in
     let two = two_after src cs c.args.dst.now c.loop-read.dst c.copy_ascii-prefix.new.dst i j n
-    text.0 had.rest had.written call.within.0 call.ascii call.copied had.within (omega (arith, call.within.0, c.if-read-src.false)) c.requires.dst_length call.stops in
-    let byte = character_of_two (slice_index src (i + n)) (slice_index src (i + n + 1)) (slice_index cs (j + n)) two.2 (omega (arith, text.0 (j + n))) two.3 two.4 in
+    text.0 had.rest had.written call.within.0 call.ascii call.copied had.within
+    (omega (arith, call.within.0, c.if-read-src.false)) c.requires.dst_length call.stops in
+    let byte = character_of_two (slice_index src (i + n)) (slice_index src (i + n + 1)) (slice_index cs (j + n)) two.2
+    (omega (arith, text.0 (j + n))) two.3 two.4 in
     record {
       within = omega (arith, two.1);
       rest = two.5;
@@ -83,7 +88,8 @@ bounds-dst-written c =
     let had = c.loop-read.invariant in
     let call = c.copy_ascii-prefix.ensures in
     let two = two_after src cs c.args.dst.now c.loop-read.dst c.copy_ascii-prefix.new.dst i j n
-    text.0 had.rest had.written call.within.0 call.ascii call.copied had.within (omega (arith, call.within.0, c.if-read-src.false)) c.requires.dst_length call.stops in
+    text.0 had.rest had.written call.within.0 call.ascii call.copied had.within
+    (omega (arith, call.within.0, c.if-read-src.false)) c.requires.dst_length call.stops in
     omega (arith, two.0, c.requires.dst_length, WritesPrefix-length _ _ _ _ had.written)
 
 pub loop-read-preserved : goal.loop-read-preserved
@@ -106,7 +112,8 @@ returns-then-read-src c =
     let text = latin1_chars src c.requires.latin1 in
     let had = c.loop-read.invariant in
     let call = c.copy_ascii-prefix.ensures in
-    let next = ascii_on src (chars src) c.args.dst.now c.loop-read.dst c.copy_ascii-prefix.new.dst c.loop-read.read c.loop-read.written c.copy_ascii-prefix.result
+    let next =
+    ascii_on src (chars src) c.args.dst.now c.loop-read.dst c.copy_ascii-prefix.new.dst c.loop-read.read c.loop-read.written c.copy_ascii-prefix.result
     text.0 had.rest had.written call.within.0 call.ascii call.copied had.within in
     record { written = all_written src _ _ _ _ (omega (arith, c.if-read-src.true)) next.0 next.1 }
 

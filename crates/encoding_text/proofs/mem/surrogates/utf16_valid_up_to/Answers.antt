@@ -39,7 +39,8 @@ returns-then-not-is_high_surrogate c =
       λ i p. elim c.then-not-is_high_surrogate.branch [
         | then-not-is_high_surrogate-via-then-not-is_high_surrogate w ↦ cc ((w.if-not-is_high_surrogate.ensures {u = tt}).1 (p.0, omega (arith, p.1)))
         | then-not-is_high_surrogate-via-else-not-is_high_surrogate+then-at-buffer w ↦ omega arith
-        | then-not-is_high_surrogate-via-else-not-is_high_surrogate+else-at-buffer+then-not-is_low_surrogate w ↦ cc ((w.if-not-is_low_surrogate.ensures {u = tt}).1 (p.2, omega (arith, p.3)))
+        | then-not-is_high_surrogate-via-else-not-is_high_surrogate+else-at-buffer+then-not-is_low_surrogate w ↦
+            cc ((w.if-not-is_low_surrogate.ensures {u = tt}).1 (p.2, omega (arith, p.3)))
       ],
     ))
 
@@ -49,5 +50,6 @@ loop-at-preserved c =
     let low = (c.if-not-is_low_surrogate.ensures {u = tt}).0 refl in
     record {
       within = omega arith;
-      valid = valid_more_two c.args.buffer.now c.loop-at.at (omega arith) c.loop-at.invariant.valid (high.0, omega (arith, high.1), low.0, omega (arith, low.1));
+      valid = valid_more_two c.args.buffer.now c.loop-at.at (omega arith) c.loop-at.invariant.valid
+          (high.0, omega (arith, high.1), low.0, omega (arith, low.1));
     }

@@ -8,5 +8,6 @@ returns c =
     let call = c.convert_latin1_to_utf8-end in
     record {
       written = clears_after c.args.dst.now call.new.dst c.clear.new.bytes 16 _ _ call.ensures.written c.clear.ensures;
-      text = text_stays c.args.dst.now call.new.dst c.clear.new.bytes 16 _ _ call.ensures.written c.clear.ensures c.requires.text (IsUtf8-bytes c.args.src.now (λ i. omega (arith, c.type_inv.src i)));
+      text = text_stays c.args.dst.now call.new.dst c.clear.new.bytes 16 _ _ call.ensures.written c.clear.ensures c.requires.text
+          (IsUtf8-bytes c.args.src.now (λ i. omega (arith, c.type_inv.src i)));
     }

@@ -9,5 +9,6 @@ returns c =
     record {
       all = rw same call.ensures.all;
       unchanged_after = rw same (clears_after c.args.dst.now call.new.dst c.clear.new.bytes 0 _ _ call.ensures.unchanged_after c.clear.ensures);
-      text = text_stays c.args.dst.now call.new.dst c.clear.new.bytes 0 _ _ call.ensures.unchanged_after c.clear.ensures c.requires.text (IsUtf8-units _ _ call.ensures.all);
+      text = text_stays c.args.dst.now call.new.dst c.clear.new.bytes 0 _ _ call.ensures.unchanged_after c.clear.ensures c.requires.text
+          (IsUtf8-units _ _ call.ensures.all);
     }

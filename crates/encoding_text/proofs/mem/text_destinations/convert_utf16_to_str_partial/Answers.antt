@@ -10,5 +10,6 @@ returns c =
       longest = rw same call.ensures.longest;
       within = call.ensures.within;
       unchanged_after = rw same (clears_after c.args.dst.now call.new.dst c.clear.new.bytes 0 _ _ call.ensures.unchanged_after c.clear.ensures);
-      text = text_stays c.args.dst.now call.new.dst c.clear.new.bytes 0 _ _ call.ensures.unchanged_after c.clear.ensures c.requires.text (IsUtf8-longest _ _ _ _ call.ensures.longest);
+      text = text_stays c.args.dst.now call.new.dst c.clear.new.bytes 0 _ _ call.ensures.unchanged_after c.clear.ensures c.requires.text
+          (IsUtf8-longest _ _ _ _ call.ensures.longest);
     }

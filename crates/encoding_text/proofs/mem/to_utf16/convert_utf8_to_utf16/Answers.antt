@@ -14,7 +14,8 @@ pub unreachable-requires : goal.unreachable-requires
 unreachable-requires c =
     let read = c.loop-dst.read in
     let written = c.loop-dst.written in
-    let call = rw (take_rest c.args.src.now read, take_rest c.loop-dst.dst written, c.loop-dst.invariant.neutral) at c.decode_to_utf16_raw-result.ensures.call in
+    let call =
+    rw (take_rest c.args.src.now read, take_rest c.loop-dst.dst written, c.loop-dst.invariant.neutral) at c.decode_to_utf16_raw-result.ensures.call in
     let room = c.loop-dst.invariant.room in
     (keeps_room _ _ _ _ _ _ _ _ call (omega (arith, room, length-drop read c.args.src.now, length-drop written c.loop-dst.dst))).0 c.in-OutputFull.is
 

@@ -5,7 +5,8 @@ use Rattle.encoding_text.proofs.utf_8.from_utf16.convert_utf16_to_utf8_partial.G
 pub returns-then-read-src-clause-longest : goal.returns-then-read-src-clause-longest
 returns-then-read-src-clause-longest c =
     let inner = c.convert_utf16_to_utf8_partial_inner-read.ensures in
-    prefix_all c.args.src.now (length c.args.dst.now) _ _ inner.prefix c.if-read-src.true (omega (arith, inner.unchanged_after.count, inner.unchanged_after.fits))
+    prefix_all c.args.src.now (length c.args.dst.now) _ _ inner.prefix c.if-read-src.true
+    (omega (arith, inner.unchanged_after.count, inner.unchanged_after.fits))
 
 pub returns-clause-longest : goal.returns-clause-longest
 returns-clause-longest c =

@@ -10,7 +10,8 @@ loop-read-preserved-then-not-goes_on c =
     let us = c.args.src.now in
     let here = c.loop-read.invariant in
     let next = c.convert_prefix_and_blocks-units.ensures in
-    let more = goes_on us (λ k. omega (arith, c.type_inv.src k)) c.loop-read.read c.convert_prefix_and_blocks-units.result.0 here.done _ here.walked next.prefix in
+    let more =
+    goes_on us (λ k. omega (arith, c.type_inv.src k)) c.loop-read.read c.convert_prefix_and_blocks-units.result.0 here.done _ here.walked next.prefix in
     record {
       within = omega (arith, next.within);
       done = more.all;
@@ -23,7 +24,8 @@ loop-read-preserved-else-not-goes_on c =
     let us = c.args.src.now in
     let here = c.loop-read.invariant in
     let next = c.convert_prefix_and_blocks-units.ensures in
-    let more = goes_on us (λ k. omega (arith, c.type_inv.src k)) c.loop-read.read c.convert_prefix_and_blocks-units.result.0 here.done _ here.walked next.prefix in
+    let more =
+    goes_on us (λ k. omega (arith, c.type_inv.src k)) c.loop-read.read c.convert_prefix_and_blocks-units.result.0 here.done _ here.walked next.prefix in
     record {
       within = omega (arith, next.within);
       done = more.all;

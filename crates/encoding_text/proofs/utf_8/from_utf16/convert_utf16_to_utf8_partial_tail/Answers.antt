@@ -28,4 +28,5 @@ returns-then-utf8_length-dst-clause-longest c =
     let here = c.loop-read.invariant in
     subst (IsUtf8OfLongestPrefix c.args.src.now (length c.args.dst.now) c.loop-read.read) (written_is _ _ _ _ here.written)
     (step_stops c.args.src.now c.loop-read.read here.done _ 0 here.walked c.scalar_at-scalar.ensures (length c.args.dst.now)
-    (λ k. omega (arith, c.type_inv.src k)) (omega (arith, here.written.count, here.written.fits)) (omega (arith, here.written.count, WritesPrefix-length _ _ _ _ here.written)))
+    (λ k. omega (arith, c.type_inv.src k)) (omega (arith, here.written.count, here.written.fits))
+    (omega (arith, here.written.count, WritesPrefix-length _ _ _ _ here.written)))

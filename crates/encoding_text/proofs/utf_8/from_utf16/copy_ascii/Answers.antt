@@ -18,5 +18,12 @@ returns-in-None-clause-copied c =
     let room = c.saturating_sub-room.result in
     let all = written_within c.args.dst.now c.basic_latin_to_ascii.new.dst room _ _ c.in-None.ensures.copied in
     let same : length (take (length (take room c.args.dst.now)) c.args.src.now) ≡ c.min.result =
-    omega (arith, c.min.ensures, c.saturating_sub-room.ensures, length-take room c.args.dst.now, length-take (length (take room c.args.dst.now)) c.args.src.now) in
+    omega (
+      arith,
+      c.min.ensures,
+      c.saturating_sub-room.ensures,
+      length-take room c.args.dst.now,
+      length-take
+          (length (take room c.args.dst.now)) c.args.src.now,
+    ) in
     WritesPrefix-same _ _ _ _ _ _ all same (ap (λ n. take n c.args.src.now) same)

@@ -10,7 +10,8 @@ use Rattle.encoding_text.proofs.ConvertingLemmas.{converted_ascii, converted_mor
 use Rattle.encoding_text.proofs.utf_8.to_utf16.convert_turns.Goals as goal
 
 -- a piece of what is left, and the text at its start, are sliced
-text_after : (src old new sub : List ℕ) (read written room valid units : ℕ) → ConvertsSome encode_utf16 src old new read written → IsLongestPrefix IsUtf8 (take (read + room - read) (drop read src)) valid
+text_after : (src old new sub : List ℕ) (read written room valid units : ℕ) → ConvertsSome encode_utf16 src old new read written
+    → IsLongestPrefix IsUtf8 (take (read + room - read) (drop read src)) valid
     → WritesPrefix (take (length new - written) (drop written new)) sub units (flat_map encode_utf16 (chars (take (read + valid - read) (drop read src))))
     → ConvertsSome encode_utf16 src old (put_mid written (length new - written) new sub) (read + valid) (written + units)
 text_after src old new sub read written room valid units d f w =
@@ -18,7 +19,8 @@ text_after src old new sub read written room valid units d f w =
     let size : read + valid - read ≡ valid = omega arith in
     let found = rw whole at f in
     let short : valid ≤ room = omega (arith, found.within, length-take room (drop read src)) in
-    converted_text encode_utf16 src old new sub read written valid units d (rw (take-take valid room (drop read src) short) at found.kind) (omega (arith, found.within, length-take room (drop read src))) (rw size at w)
+    converted_text encode_utf16 src old new sub read written valid units d (rw (take-take valid room (drop read src) short) at found.kind)
+    (omega (arith, found.within, length-take room (drop read src))) (rw size at w)
 
 pub decode_utf8_scalar-scalar-requires : goal.decode_utf8_scalar-scalar-requires
 decode_utf8_scalar-scalar-requires c =

@@ -12,7 +12,8 @@ pub overflow_add-result : goal.overflow_add-result
 overflow_add-result c =
     let ascii = c.copy_to_basic_latin_inline-ascii.result in
     let rest = drop ascii c.args.src.now in
-    let within : c.convert_turns-read.result.0 ≤ length (take (length c.args.src.now - ascii) rest) = (converts_prefix encode_utf16 _ _ _ _ _ c.convert_turns-read.ensures).within in
+    let within : c.convert_turns-read.result.0 ≤ length (take (length c.args.src.now - ascii) rest) =
+    (converts_prefix encode_utf16 _ _ _ _ _ c.convert_turns-read.ensures).within in
     omega (arith, within, length-take (length c.args.src.now - ascii) rest, length-drop ascii c.args.src.now)
 
 pub returns : goal.returns

@@ -6,7 +6,8 @@ use Rattle.encoding_definitions.proofs.Utf8Lemmas.{IsUtf8_more, IsLongestPrefix-
 use Rattle.encoding_text.proofs.utf_8.validation.valid_after.Goals as goal
 
 -- a well-formed prefix of the rest after a well-formed prefix
-longer : (src : List ℕ) (at n : ℕ) → at ≤ length src → IsUtf8 (take at src) → (n ≤ length (take (length src - at) (drop at src))) × IsUtf8 (take n (take (length src - at) (drop at src)))
+longer : (src : List ℕ) (at n : ℕ) → at ≤ length src → IsUtf8 (take at src)
+    → (n ≤ length (take (length src - at) (drop at src))) × IsUtf8 (take n (take (length src - at) (drop at src)))
     → (at + n ≤ length src) × IsUtf8 (take (at + n) src)
 longer src at n inside text more =
     let rest = rw take_rest at more in
@@ -17,7 +18,8 @@ loop-length-preserved c =
     let src = c.args.src.now in
     let had = c.loop-length.invariant in
     let found = rw take_rest at c.in-Some.ensures.length in
-    let done = longer src (c.loop-length.at + c.in-Some.length) _ (omega (arith, had.within, found.1, length-drop c.loop-length.at src)) (IsUtf8_more src _ c.in-Some.length had.text found.2) c.well_formed_prefix-at.ensures in
+    let done = longer src (c.loop-length.at + c.in-Some.length) _ (omega (arith, had.within, found.1, length-drop c.loop-length.at src))
+    (IsUtf8_more src _ c.in-Some.length had.text found.2) c.well_formed_prefix-at.ensures in
     record { within = done.0; text = done.1 }
 
 pub returns-in_default : goal.returns-in_default

@@ -7,4 +7,6 @@ pub returns : goal.returns
 returns g c =
     let b = c.self.inside in
     let size = ap length c.self.view_is in
-    consumed b.units b.begin b.end c.args.count (omega (arith, c.requires, c.self.invariant, size, length-take (b.end - b.begin) (drop b.begin b.units), length-drop b.begin b.units)) ∙ ap (drop c.args.count) c.self.view_is
+    consumed b.units b.begin b.end c.args.count
+    (omega (arith, c.requires, c.self.invariant, size, length-take (b.end - b.begin) (drop b.begin b.units), length-drop b.begin b.units))
+    ∙ ap (drop c.args.count) c.self.view_is

@@ -15,13 +15,16 @@ returns-clause-units g c =
     let read = c.in_ok-count.ensures in
     let units = c.convert_str_to_utf16.ensures in
     rw c.requires.held (
-      subst (Consumes _ _) (sym (written_prefix _ _ _ _ units)) (Consumes-units _ _ text.result.now text.utf8 (subst (Consumes _ _) (sym text.ensures) read.bytes.0)),
+      subst (Consumes _ _) (sym (written_prefix _ _ _ _ units))
+          (Consumes-units _ _ text.result.now text.utf8 (subst (Consumes _ _) (sym text.ensures) read.bytes.0)),
       λ none room.
           let nothing = no_units text.result.now text.utf8 (nil_from_length _ (omega (arith, none, units.count))) in
-          no_units_left _ (read.bytes.1 (omega (arith, ap length nothing, ap length text.ensures, read.bound)) (omega (arith, c.requires.bytes, c.read.auto.dst))),
+          no_units_left _ (read.bytes.1 (omega (arith, ap length nothing, ap length text.ensures, read.bound))
+          (omega (arith, c.requires.bytes, c.read.auto.dst))),
     )
 
 pub returns-clause-whole : goal.returns-clause-whole
 returns-clause-whole g c =
     let text = c.from_utf8_unchecked-text in
-    subst IsValidUtf16 (sym (written_prefix _ _ _ _ c.convert_str_to_utf16.ensures)) (valid_units c.law_utf16_round_trip.ensures.characters text.result.now text.utf8)
+    subst IsValidUtf16 (sym (written_prefix _ _ _ _ c.convert_str_to_utf16.ensures))
+    (valid_units c.law_utf16_round_trip.ensures.characters text.result.now text.utf8)

@@ -29,7 +29,8 @@ returns-clause-one g c = λ some.
     let read = c.in_ok-count.ensures in
     let bytes = some_text text.result.now (λ none. some (held ∙ none)) in
     subst IsUtf16Character (sym held)
-    (one_character c.law_sequences.ensures.spelled text.result.now (subst IsSequence (sym text.ensures) (read.one (omega (arith, some_length text.result.now bytes, ap length text.ensures, read.bound)))))
+    (one_character c.law_sequences.ensures.spelled text.result.now
+    (subst IsSequence (sym text.ensures) (read.one (omega (arith, some_length text.result.now bytes, ap length text.ensures, read.bound)))))
 
 pub returns-clause-end : goal.returns-clause-end
 returns-clause-end g c = λ none.

@@ -20,9 +20,13 @@ returns-then-last-clause-bytes g c =
     let end : c.in_ok-last.last ≡ true → (self.block ≡ []) × IsAtEnd known = λ marked. let none = fill.ended.0 marked in (none, fill.end none) in
     let prefix = written_prefix _ _ _ out writes in (
       subst (Consumes (text_left g.R.Read.remaining c.args.self.now) _) (sym prefix)
-          (Keeps_then _ _ _ out c.loop-last.invariant.text (Keeps_then _ _ _ out fill.text (repaired _ _ _ _ _ _ _ _ repair c.law_parts.ensures.exist c.law_parts.ensures.lossy known _ _ held c.consume.ensures end))),
+          (Keeps_then _ _ _ out c.loop-last.invariant.text
+          (Keeps_then _ _ _ out fill.text
+          (repaired _ _ _ _ _ _ _ _ repair c.law_parts.ensures.exist c.law_parts.ensures.lossy known _ _ held c.consume.ensures end))),
       λ none room. elim c.then-last.branch [
-        | then-last-via-then-last w ↦ repaired_all _ _ _ _ _ _ _ _ repair c.law_parts.ensures.exist c.law_parts.ensures.lossy known _ _ held c.consume.ensures end w.if-last.true c.loop-last.invariant.room (omega (arith, none, writes.count))
+        | then-last-via-then-last w ↦
+            repaired_all _ _ _ _ _ _ _ _ repair c.law_parts.ensures.exist c.law_parts.ensures.lossy known _ _ held c.consume.ensures end w.if-last.true
+            c.loop-last.invariant.room (omega (arith, none, writes.count))
         | then-last-via-else-last+then-repaired-gt0 w ↦ absurd (omega (arith, none, w.if-repaired-gt0.true))
       ],
     )
@@ -50,7 +54,9 @@ loop-last-preserved g c =
     let end : c.in_ok-last.last ≡ true → (self.block ≡ []) × IsAtEnd known = λ marked. absurd (both_ways _ c.if-last.false marked) in
     record {
       text = Keeps-none _ _ (subst (Consumes (text_left g.R.Read.remaining c.args.self.now) _) none
-          (Keeps_then _ _ _ out c.loop-last.invariant.text (Keeps_then _ _ _ out fill.text (repaired _ _ _ _ _ _ _ _ repair c.law_parts.ensures.exist c.law_parts.ensures.lossy known _ _ held c.consume.ensures end))));
+          (Keeps_then _ _ _ out c.loop-last.invariant.text
+          (Keeps_then _ _ _ out fill.text
+          (repaired _ _ _ _ _ _ _ _ repair c.law_parts.ensures.exist c.law_parts.ensures.lossy known _ _ held c.consume.ensures end))));
       held = held;
       room = omega (arith, c.loop-last.invariant.room, WritesPrefix-length _ _ _ _ writes);
     }

@@ -21,11 +21,13 @@ returns-clause-text g c =
     let end : c.args.last ≡ true → (drop c.min.result self.block ≡ []) × IsAtEnd known = λ marked.
     let none = c.requires.ended.0 marked in
     (drop_all c.min.result self.block (omega (arith, ap length none)), c.requires.end none) in
-    rw (c.requires.held, c.consume.ensures, c.hold_piece.ensures) (Keeps-yielded c.law_parts.ensures.exist c.law_parts.ensures.lossy known _ _ _ _ parts _ _ _ yielded end text)
+    rw (c.requires.held, c.consume.ensures, c.hold_piece.ensures)
+    (Keeps-yielded c.law_parts.ensures.exist c.law_parts.ensures.lossy known _ _ _ _ parts _ _ _ yielded end text)
 
 pub returns-clause-one : goal.returns-clause-one
 returns-clause-one g c =
-    rw c.hold_piece.ensures (one_yielded c.law_sequences.ensures.each _ _ _ _ _ _ c.decode_borrowed_raw-read.ensures (omega (arith, c.min.ensures, length-take c.min.result c.unread-unread.result.now)))
+    rw c.hold_piece.ensures (one_yielded c.law_sequences.ensures.each _ _ _ _ _ _ c.decode_borrowed_raw-read.ensures
+    (omega (arith, c.min.ensures, length-take c.min.result c.unread-unread.result.now)))
 
 pub returns-clause-end : goal.returns-clause-end
 returns-clause-end g c = λ none marked.
@@ -41,5 +43,16 @@ returns-clause-progress g c = λ none unmarked.
     let call = c.decode_borrowed_raw-read.ensures in
     let (all, same, empty) = none_yielded _ _ _ _ _ _ call (sym c.hold_piece.ensures ∙ none) in
     let some = some_length self.block (λ e. both_ways _ unmarked (c.requires.ended.1 e)) in
-    let next = take c.min.result c.unread-unread.result.now in
-    (omega (arith, ap length same, length-append self.decoder next, length-take c.min.result c.unread-unread.result.now, c.min.ensures, ap length c.unread-unread.ensures.value, some), pending_length _ call.pending)
+    let next = take c.min.result c.unread-unread.result.now in (
+      omega (
+        arith,
+        ap length same,
+        length-append self.decoder next,
+        length-take c.min.result c.unread-unread.result.now,
+        c.min.ensures,
+        ap length
+            c.unread-unread.ensures.value,
+        some,
+      ),
+      pending_length _ call.pending,
+    )

@@ -13,4 +13,5 @@ returns g c =
     let at = c.args.at in
     let n = g.row.N in
     let counted = tests_of w8 leb (HasLanes-splat n s.least) (HasLanes_load at n bs (omega arith)) in
-    HasLanes_same (chosen 1 0 counted) (λ k l. one_or_none (leb s.least (slice_index bs (at + k))) ∙ ap (λ b. bool_byte (nat_le s.least b)) (sym (at_drop_start bs (at + k))))
+    HasLanes_same (chosen 1 0 counted) (λ k l. one_or_none (leb s.least (slice_index bs (at + k)))
+    ∙ ap (λ b. bool_byte (nat_le s.least b)) (sym (at_drop_start bs (at + k))))

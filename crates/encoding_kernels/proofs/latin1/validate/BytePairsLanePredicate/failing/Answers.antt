@@ -14,5 +14,6 @@ returns g c =
     let overlong = tests_of w8 eqb (HasLanes-zip2 bit_and block (HasLanes-splat n 0xFE)) (HasLanes-splat n 0xC0) in
     let lead = tests_of w8 leb (HasLanes-splat n 0xC0) (HasLanes_load at n bs (omega arith)) in
     let extra_bytes = tests_of w8 leb (HasLanes-splat n 0xC4) block in
-    marks_of (λ k. latin1_fault (slice_index bs (k + 1)) (slice_index bs k) ≡ false) at (tests_or (tests_xor follows lead) (tests_or overlong extra_bytes)) c.requires.2
+    marks_of (λ k. latin1_fault (slice_index bs (k + 1)) (slice_index bs k) ≡ false) at
+    (tests_or (tests_xor follows lead) (tests_or overlong extra_bytes)) c.requires.2
     (λ k l. let e : at + 1 + k ≡ at + k + 1 = omega arith in rw e (λ x. x, λ x. x))

@@ -16,11 +16,13 @@ pub returns-then-count-sequence_length : goal.returns-then-count-sequence_length
 returns-then-count-sequence_length c =
     let inside = c.self.inside in
     let w = pushed_whole inside.bytes inside.count c.args.byte c.args.self.now (sym c.self.view_is) c.self.told c.self.invariant.0 c.requires.unfinished
-    (subst IsPending c.self.view_is c.self.invariant.1) c.sequence_length.result (c.goes_on.ensures.0 c.if-not-goes_on.false) c.sequence_length.ensures c.if-count-sequence_length.true in
+    (subst IsPending c.self.view_is c.self.invariant.1) c.sequence_length.result
+    (c.goes_on.ensures.0 c.if-not-goes_on.false) c.sequence_length.ensures c.if-count-sequence_length.true in
     (w.0, w.1, w.2, w.3, c.self-then-count-sequence_length.view_is ∙ c.none.ensures)
 
 pub invariant_of-self-2 : goal.invariant_of-self-2
 invariant_of-self-2 c =
     let inside = c.self.inside in
     pushed_longer inside.bytes inside.count c.args.byte c.args.self.now (sym c.self.view_is) c.self.told c.self.invariant.0 c.requires.unfinished
-    (subst IsPending c.self.view_is c.self.invariant.1) c.sequence_length.result (c.goes_on.ensures.0 c.if-not-goes_on.false) c.sequence_length.ensures c.if-count-sequence_length.false
+    (subst IsPending c.self.view_is c.self.invariant.1) c.sequence_length.result
+    (c.goes_on.ensures.0 c.if-not-goes_on.false) c.sequence_length.ensures c.if-count-sequence_length.false

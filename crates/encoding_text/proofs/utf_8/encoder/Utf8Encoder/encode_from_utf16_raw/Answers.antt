@@ -23,10 +23,13 @@ returns c =
     let some = some_there c.is_empty.result c.args.last (length c.args.src.now) c.is_empty.ensures c.else-is_empty.either in
     let first = c.first_with_pending-scalar.ensures in
     let then = c.encode_fresh-result.ensures in
-    let whole = call_then c.args.self.now c.args.src.now _ _ _ c.in-Some.high _ _ _ _ _ c.args.last _ _ surrogate high first.scalar first.taken some c.write_scalar-first.ensures then.call then.unchanged_after in
+    let whole =
+    call_then c.args.self.now c.args.src.now _ _ _ c.in-Some.high _ _ _ _ _ c.args.last _ _ surrogate high first.scalar first.taken some
+    c.write_scalar-first.ensures then.call then.unchanged_after in
     record {
       call = whole;
       within = search rules;
-      unchanged_after = call_then_rest c.args.self.now c.args.src.now _ _ _ c.in-Some.high _ _ _ _ _ c.args.last _ _ surrogate high first.scalar first.taken some c.write_scalar-first.ensures then.call then.unchanged_after;
+      unchanged_after = call_then_rest c.args.self.now c.args.src.now _ _ _ c.in-Some.high _ _ _ _ _ c.args.last _ _ surrogate high first.scalar first.taken
+          some c.write_scalar-first.ensures then.call then.unchanged_after;
       suffices = λ h. enough_room c.args.self.now c.args.src.now (length c.args.dst.now) c.args.last _ _ _ _ h whole;
     }

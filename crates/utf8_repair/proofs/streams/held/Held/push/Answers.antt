@@ -22,7 +22,9 @@ returns-clause-taken g c = λ _.
     let size : length held.bytes ≡ g.row.N = search rules in
     let prefix = take held.end held.bytes in
     let ends : length prefix ≡ held.end = length-take-le held.end held.bytes (omega arith) in
-    let queued : WritesPrefix held.bytes held.bytes held.end prefix = record { count = sym ends; fits = omega arith; placed = sym (take-append-drop held.end held.bytes) } in
+    let queued : WritesPrefix held.bytes held.bytes held.end prefix =
+    record { count = sym ends; fits = omega arith; placed = sym (take-append-drop held.end held.bytes) } in
     let all = WritesPrefix_after held.bytes held.bytes held.end prefix _ _ piece queued c.copy_prefix.ensures in
     ap (λ xs. drop held.start (take (held.end + length piece) xs)) all.placed
-    ∙ ap (drop held.start) (take_at (prefix ++ piece) _ _ (sym all.count)) ∙ drop-append-le held.start prefix piece (omega arith) ∙ ap (λ xs. xs ++ piece) c.self.view_is
+    ∙ ap (drop held.start) (take_at (prefix ++ piece) _ _ (sym all.count)) ∙ drop-append-le held.start prefix piece (omega arith)
+    ∙ ap (λ xs. xs ++ piece) c.self.view_is
