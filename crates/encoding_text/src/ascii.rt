@@ -391,8 +391,11 @@ pub(crate) fn copy_prefix_of_text(src: &[u8], dst: &mut [u16]) -> usize
         return 0;
     }
     let mut at = 0;
-    while src.len() - at >= BLOCK_OF_TEXT {
+    while src.len() - at >= BLOCK {
         if !are_bytes_below::<BLOCK>(src, at, ASCII_END) {
+            if src.len() - at < BLOCK_OF_TEXT {
+                break;
+            }
             let run = run_len_below::<BLOCK>(src, at, ASCII_END);
             unpack_block(src, dst, at);
             return at + run;
