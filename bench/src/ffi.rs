@@ -112,6 +112,9 @@ calls! {
     encoding_text_mem_latin1_length_from_utf8(u8) -> usize;
     encoding_text_mem_utf16_length_from_utf8(u8) -> usize;
     encoding_text_mem_utf8_length_from_utf16(u16) -> usize;
+    encoding_text_utf8_count(u8) -> usize;
+    encoding_text_utf16_count(u16) -> usize;
+    encoding_text_repaired_utf8_length(u8) -> usize;
     }
     two {
     encoding_text_ascii_to_ascii(u8, u8) -> Prefix;

@@ -177,6 +177,8 @@ macro_rules! modules {
             latin1_length_from_utf8(u8: "PKcm") -> usize;
             utf16_length_from_utf8(u8: "PKcm") -> usize;
             utf8_length_from_utf16le(u16: "PKDsm") -> usize;
+            count_utf8(u8: "PKcm") -> usize;
+            count_utf16le(u16: "PKDsm") -> usize;
             }
             two {
             convert_latin1_to_utf8(u8, u8: "PKcmPc") -> usize;

@@ -1,4 +1,4 @@
-//! The rows that count what a conversion writes.
+//! The rows that count what a conversion or a repair writes, and characters.
 //!
 //! Ours are exact for any source. simdutf's trust theirs, so they are compared both after its validation and, in a row
 //! of its own, alone. If the source is malformed this is std's.
@@ -27,6 +27,18 @@ fn std_utf16_length(src: &[u8]) -> usize {
 
 fn std_utf8_length(src: &[u16]) -> usize {
     char::decode_utf16(src.iter().copied()).map(|c| c.map_or(3, char::len_utf8)).sum()
+}
+
+fn std_repaired_length(src: &[u8]) -> usize {
+    String::from_utf8_lossy(src).len()
+}
+
+fn std_count(src: &[u8]) -> usize {
+    String::from_utf8_lossy(src).chars().count()
+}
+
+fn std_utf16_count(src: &[u16]) -> usize {
+    char::decode_utf16(src.iter().copied()).count()
 }
 
 pub const ROWS: &[Row] = rows! {
@@ -69,5 +81,38 @@ pub const ROWS: &[Row] = rows! {
             simdutf::utf8_length_from_utf16le(&s.units)
         } else {
             std_utf8_length(&s.units)
+        };
+    "repaired_utf8_length", Bytes:
+        OURS => |s, r| r.reported[0] = ffi::encoding_text_repaired_utf8_length(&s.bytes),
+        STD => |s, r| r.reported[0] = one(std_repaired_length, &s.bytes);
+    "utf8_count", Bytes:
+        OURS => |s, r| r.reported[0] = ffi::encoding_text_utf8_count(&s.bytes),
+        STD => |s, r| r.reported[0] = one(std_count, &s.bytes);
+        simdutf: PLAIN => |s, r| r.reported[0] = if simdutf::validate_utf8(&s.bytes) {
+            simdutf::count_utf8(&s.bytes)
+        } else {
+            std_count(&s.bytes)
+        };
+    "utf8_count, trusting", Bytes:
+        OURS => |s, r| r.reported[0] = ffi::encoding_text_utf8_count(&s.bytes);
+        simdutf: PLAIN => |s, r| r.reported[0] = if s.well_formed {
+            simdutf::count_utf8(&s.bytes)
+        } else {
+            std_count(&s.bytes)
+        };
+    "utf16_count", Units:
+        OURS => |s, r| r.reported[0] = ffi::encoding_text_utf16_count(&s.units),
+        STD => |s, r| r.reported[0] = one(std_utf16_count, &s.units);
+        simdutf: PLAIN => |s, r| r.reported[0] = if simdutf::validate_utf16le(&s.units) {
+            simdutf::count_utf16le(&s.units)
+        } else {
+            std_utf16_count(&s.units)
+        };
+    "utf16_count, trusting", Units:
+        OURS => |s, r| r.reported[0] = ffi::encoding_text_utf16_count(&s.units);
+        simdutf: PLAIN => |s, r| r.reported[0] = if s.is_valid_utf16 {
+            simdutf::count_utf16le(&s.units)
+        } else {
+            std_utf16_count(&s.units)
         };
 };
