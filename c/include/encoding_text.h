@@ -366,6 +366,40 @@ size_t encoding_text_repaired_utf8_length(const uint8_t *src, size_t src_length)
 
 /** @} */
 
+/** @name Whole buffers: UTF-16LE and UTF-16BE
+ * The bytes of code units (Encoding Standard, sections 14.3 and 14.4). No code unit is checked: surrogates may be unpaired.
+ * @{ */
+
+/** Converts UTF-16LE to code units, as many as fit. The last byte of an odd number is not read.
+ * @param src,src_length the source, in bytes.
+ * @param dst,dst_length the destination, in code units.
+ * @return how much was read and written */
+encoding_text_progress encoding_text_decode_utf16le(const uint8_t *src, size_t src_length, uint16_t *dst,
+                                                    size_t dst_length);
+
+/** Converts UTF-16BE to code units, as many as fit. The last byte of an odd number is not read.
+ * @param src,src_length the source, in bytes.
+ * @param dst,dst_length the destination, in code units.
+ * @return how much was read and written */
+encoding_text_progress encoding_text_decode_utf16be(const uint8_t *src, size_t src_length, uint16_t *dst,
+                                                    size_t dst_length);
+
+/** Converts code units to UTF-16LE, as many as fit.
+ * @param src,src_length the source, in code units.
+ * @param dst,dst_length the destination, in bytes.
+ * @return how much was read and written */
+encoding_text_progress encoding_text_encode_utf16le(const uint16_t *src, size_t src_length, uint8_t *dst,
+                                                    size_t dst_length);
+
+/** Converts code units to UTF-16BE, as many as fit.
+ * @param src,src_length the source, in code units.
+ * @param dst,dst_length the destination, in bytes.
+ * @return how much was read and written */
+encoding_text_progress encoding_text_encode_utf16be(const uint16_t *src, size_t src_length, uint8_t *dst,
+                                                    size_t dst_length);
+
+/** @} */
+
 /** @name Whole buffers: text destinations
  * @{ */
 

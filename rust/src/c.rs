@@ -253,6 +253,10 @@ functions! {
         encoding_text_mem_convert_utf16_to_utf8_partial(u16, u8) -> Progress;
         encoding_text_mem_convert_utf16_to_utf8(u16, u8) -> usize;
         encoding_text_convert_utf8_to_utf16_up_to_invalid(u8, u16) -> Progress;
+        encoding_text_decode_utf16le(u8, u16) -> Progress;
+        encoding_text_decode_utf16be(u8, u16) -> Progress;
+        encoding_text_encode_utf16le(u16, u8) -> Progress;
+        encoding_text_encode_utf16be(u16, u8) -> Progress;
         encoding_text_convert_utf16_to_utf8_partial_inner(u16, u8) -> Progress;
         encoding_text_convert_utf16_to_utf8_partial_tail(u16, u8) -> Progress;
     }

@@ -3,6 +3,7 @@
 //!
 //! - [`mem`]: checks and conversions of whole buffers;
 //! - [`ascii`] and [`utf_8`]: the calls it is built on;
+//! - [`utf_16`]: UTF-16LE and UTF-16BE;
 //! - [`Utf8Decoder`] and [`Utf8Encoder`]: streams in any pieces, into destinations of any length;
 //! - [`repair`], [`repair_to`], [`utf8_chunks`], [`next_malformed`] and [`next_malformation`]: bytes that may be
 //!   malformed UTF-8;
@@ -69,6 +70,7 @@ pub mod promises;
 mod repair;
 #[cfg(feature = "std")]
 mod streams;
+pub mod utf_16;
 pub mod utf_8;
 
 pub use chunks::{next_malformation, next_malformed, utf8_chunks, Malformation, Utf8Chunk, Utf8Chunks};

@@ -49,6 +49,14 @@
 //! | `convert_utf16_to_utf8_partial_tail` | what is written, and how much, if its conditions are met | the check that they are, which panics |
 //! | `UTF8_DATA` | nothing: the library has a table of its own | the table |
 //!
+//! # `utf_16`
+//!
+//! Its [promises](../../../../../docs/PROMISES.md#encoding_textutf_16).
+//!
+//! | Calls of [`utf_16`](crate::utf_16) | Proved | The crate's own |
+//! |---|---|---|
+//! | `decode_utf16_bytes`, `encode_utf16_bytes` | all that is said | the choice of the function of an order |
+//!
 //! # Decoder
 //!
 //! Its [promises](../../../../../docs/PROMISES.md#encoding_textdecoder).

@@ -216,6 +216,26 @@ static void counts(void)
     CHECK(encoding_text_utf16_count(ALL(units)) == 3);
 }
 
+/* The Unicode Standard, section 3.10, D96 and D97: U+004D, U+0061, U+10000 in either order. */
+static void utf_16_bytes(void)
+{
+    const uint8_t little[] = {0x4D, 0x00, 0x61, 0x00, 0x00, 0xD8, 0x00, 0xDC, 0x4D};
+    const uint8_t big[] = {0x00, 0x4D, 0x00, 0x61, 0xD8, 0x00, 0xDC, 0x00, 0x00};
+    const uint16_t units[] = {0x4D, 0x61, 0xD800, 0xDC00};
+    uint16_t to_units[5];
+    uint8_t to_bytes[9];
+
+    memset(to_units, 0xFF, sizeof to_units);
+    CHECK(counts_are(encoding_text_decode_utf16le(ALL(little), ALL(to_units)), 8, 4));
+    CHECK(memcmp(to_units, units, sizeof units) == 0 && to_units[4] == 0xFFFF);
+    CHECK(counts_are(encoding_text_decode_utf16be(ALL(big), to_units, 3), 6, 3));
+    CHECK(memcmp(to_units, units, sizeof units) == 0);
+    CHECK(counts_are(encoding_text_encode_utf16le(ALL(units), ALL(to_bytes)), 4, 8));
+    CHECK(memcmp(to_bytes, little, 8) == 0);
+    CHECK(counts_are(encoding_text_encode_utf16be(ALL(units), to_bytes, 7), 3, 6));
+    CHECK(memcmp(to_bytes, big, 6) == 0);
+}
+
 static void conversions_to_utf16(void)
 {
     const uint8_t text[] = {0x61, 0xC3, 0xA4};
@@ -401,6 +421,7 @@ int main(void)
     latin1_conversions();
     lengths();
     counts();
+    utf_16_bytes();
     conversions_to_utf16();
     conversions_from_utf16();
     utf16_into_texts();

@@ -40,6 +40,10 @@ static void sources_of_no_elements(const uint8_t *bytes, const uint16_t *units, 
     CHECK(encoding_text_mem_copy_basic_latin_to_ascii(units, 0, to_bytes, room) == 0);
     CHECK(encoding_text_mem_convert_latin1_to_utf16(bytes, 0, to_units, room) == 0);
     CHECK(counts_are(encoding_text_mem_convert_latin1_to_utf8_partial(bytes, 0, to_bytes, room), 0, 0));
+    CHECK(counts_are(encoding_text_decode_utf16le(bytes, 0, to_units, room), 0, 0));
+    CHECK(counts_are(encoding_text_decode_utf16be(bytes, 0, to_units, room), 0, 0));
+    CHECK(counts_are(encoding_text_encode_utf16le(units, 0, to_bytes, room), 0, 0));
+    CHECK(counts_are(encoding_text_encode_utf16be(units, 0, to_bytes, room), 0, 0));
     CHECK(encoding_text_mem_convert_latin1_to_utf8(bytes, 0, to_bytes, room) == 0);
     CHECK(encoding_text_mem_decode_latin1(bytes, 0, to_bytes, room) == 0);
     CHECK(encoding_text_mem_encode_latin1(bytes, 0, to_bytes, room) == 0);

@@ -26,5 +26,6 @@ pub mod runs;
 pub mod status;
 pub mod surrogates;
 pub mod text_destinations;
+pub mod utf_16;
 pub mod utf_8;
 pub mod version;

@@ -12,3 +12,4 @@ mod sequences;
 mod slices;
 mod texts;
 mod units;
+mod utf_16;
