@@ -216,24 +216,27 @@ static void counts(void)
     CHECK(encoding_text_utf16_count(ALL(units)) == 3);
 }
 
-/* The Unicode Standard, section 3.10, D96 and D97: U+004D, U+0061, U+10000 in either order. */
+/* The examples of UTF-16BE and UTF-16LE in the Unicode Standard, section 3.10, and a byte after one of them. */
 static void utf_16_bytes(void)
 {
-    const uint8_t little[] = {0x4D, 0x00, 0x61, 0x00, 0x00, 0xD8, 0x00, 0xDC, 0x4D};
-    const uint8_t big[] = {0x00, 0x4D, 0x00, 0x61, 0xD8, 0x00, 0xDC, 0x00, 0x00};
-    const uint16_t units[] = {0x4D, 0x61, 0xD800, 0xDC00};
-    uint16_t to_units[5];
-    uint8_t to_bytes[9];
+    const uint16_t units[] = {0x004D, 0x0430, 0x4E8C, 0xD800, 0xDF02};
+    const uint8_t big[] = {0x00, 0x4D, 0x04, 0x30, 0x4E, 0x8C, 0xD8, 0x00, 0xDF, 0x02};
+    const uint8_t little[] = {0x4D, 0x00, 0x30, 0x04, 0x8C, 0x4E, 0x00, 0xD8, 0x02, 0xDF, 0x61};
+    uint16_t to_units[6];
+    uint8_t to_bytes[11];
 
     memset(to_units, 0xFF, sizeof to_units);
-    CHECK(counts_are(encoding_text_decode_utf16le(ALL(little), ALL(to_units)), 8, 4));
-    CHECK(memcmp(to_units, units, sizeof units) == 0 && to_units[4] == 0xFFFF);
-    CHECK(counts_are(encoding_text_decode_utf16be(ALL(big), to_units, 3), 6, 3));
-    CHECK(memcmp(to_units, units, sizeof units) == 0);
-    CHECK(counts_are(encoding_text_encode_utf16le(ALL(units), ALL(to_bytes)), 4, 8));
-    CHECK(memcmp(to_bytes, little, 8) == 0);
+    CHECK(counts_are(encoding_text_decode_utf16le(ALL(little), ALL(to_units)), 10, 5));
+    CHECK(memcmp(to_units, units, sizeof units) == 0 && to_units[5] == 0xFFFF);
+    memset(to_units, 0xFF, sizeof to_units);
+    CHECK(counts_are(encoding_text_decode_utf16be(ALL(big), to_units, 4), 8, 4));
+    CHECK(memcmp(to_units, units, 4 * sizeof units[0]) == 0 && to_units[4] == 0xFFFF);
+    memset(to_bytes, 0xFF, sizeof to_bytes);
+    CHECK(counts_are(encoding_text_encode_utf16le(ALL(units), ALL(to_bytes)), 5, 10));
+    CHECK(memcmp(to_bytes, little, 10) == 0 && to_bytes[10] == 0xFF);
+    memset(to_bytes, 0xFF, sizeof to_bytes);
     CHECK(counts_are(encoding_text_encode_utf16be(ALL(units), to_bytes, 7), 3, 6));
-    CHECK(memcmp(to_bytes, big, 6) == 0);
+    CHECK(memcmp(to_bytes, big, 6) == 0 && to_bytes[6] == 0xFF);
 }
 
 static void conversions_to_utf16(void)

@@ -12,52 +12,52 @@ use std::test::Fail;
 
 /// Bytes, and their malformed sequences: the length of each and a letter for its kind.
 const ROWS: &str = "\
-C0 AF E0 80 BF F0 81 82 41 | D1 C1 O1 C1 C1 O1 C1 C1
-ED A0 80 ED BF BF ED AF 41 | S1 C1 C1 S1 C1 C1 S1 C1
-F4 91 92 93 FF 41 80 BF 42 | L1 C1 C1 C1 D1 C1 C1
-E1 80 E2 F0 91 92 F1 BF 41 | T2 T1 T3 T2
+C0 AF E0 80 BF F0 81 82 41 | 1D 1C 1O 1C 1C 1O 1C 1C
+ED A0 80 ED BF BF ED AF 41 | 1S 1C 1C 1S 1C 1C 1S 1C
+F4 91 92 93 FF 41 80 BF 42 | 1L 1C 1C 1C 1D 1C 1C
+E1 80 E2 F0 91 92 F1 BF 41 | 2T 1T 3T 2T
 61 |
 7F |
-80 | C1
-BF | C1
-C0 | D1
-C1 BF | D1 C1
-C2 | E1
-C2 41 | T1
-C2 C0 | T1 D1
-DF 7F | T1
-E0 | E1
-E0 7F | T1
-E0 80 | O1 C1
-E0 9F BF | O1 C1 C1
-E0 A0 | E2
+80 | 1C
+BF | 1C
+C0 | 1D
+C1 BF | 1D 1C
+C2 | 1E
+C2 41 | 1T
+C2 C0 | 1T 1D
+DF 7F | 1T
+E0 | 1E
+E0 7F | 1T
+E0 80 | 1O 1C
+E0 9F BF | 1O 1C 1C
+E0 A0 | 2E
 E0 A0 80 |
-E0 C0 | T1 D1
-E1 80 | E2
-EC BF 41 | T2
-ED 9F | E2
-ED A0 | S1 C1
-ED BF | S1 C1
-ED C0 | T1 D1
-EE 80 C2 | T2 E1
-EF BF | E2
-F0 7F | T1
-F0 80 80 80 | O1 C1 C1 C1
-F0 8F BF BF | O1 C1 C1 C1
-F0 90 | E2
-F0 90 80 | E3
-F1 80 80 41 | T3
-F3 BF BF FF | T3 D1
-F4 8F BF | E3
-F4 90 80 80 | L1 C1 C1 C1
-F4 BF | L1 C1
-F4 C0 | T1 D1
-F5 80 | D1 C1
-FF | D1";
+E0 C0 | 1T 1D
+E1 80 | 2E
+EC BF 41 | 2T
+ED 9F | 2E
+ED A0 | 1S 1C
+ED BF | 1S 1C
+ED C0 | 1T 1D
+EE 80 C2 | 2T 1E
+EF BF | 2E
+F0 7F | 1T
+F0 80 80 80 | 1O 1C 1C 1C
+F0 8F BF BF | 1O 1C 1C 1C
+F0 90 | 2E
+F0 90 80 | 3E
+F1 80 80 41 | 3T
+F3 BF BF FF | 3T 1D
+F4 8F BF | 3E
+F4 90 80 80 | 1L 1C 1C 1C
+F4 BF | 1L 1C
+F4 C0 | 1T 1D
+F5 80 | 1D 1C
+FF | 1D";
 
 /// Returns the length and the kind that a word names.
 fn sequence_of(word: &str) -> Result<(usize, Malformation), Fail> {
-    let (letter, length) = word.split_at_checked(1).ok_or("no kind")?;
+    let (length, letter) = word.split_at_checked(1).ok_or("no kind")?;
     let kind = match letter {
         "C" => UnexpectedContinuation,
         "D" => DisallowedByte,
