@@ -12,9 +12,8 @@ use Rattle.std.proofs.lemmas.Nat.{and_mask, mod_low, one_shl, ones_le_self}
 use Rattle.std.proofs.lemmas.List.{append-nil, length-map, length-append, length-take-le, length-drop, get_or-map, take-map, map-append, take-append-drop, take_at, drop_at, drop-drop, drop-append-le}
 use Rattle.std.proofs.lemmas.Simd.{SwzOk, SwzOk-from_below, swz_l, length-swz_l, get_or-swz_l_below, Each1-from_get_or, Each1-get_or, mask_l-lt, ones-mask_l_cons, length-put_chunk}
 use Rattle.encoding_kernels.specs.declared.utf8_to_utf16.code_units.TheConstants.{COMPRESSED}
-use Rattle.encoding_kernels.proofs.LaneLemmas.{put_prefix, put_is, HasLanes-itself, HasLanes-numbers, HasLanes-splat, compared, firsts_are, same_below}
-use Rattle.encoding_kernels.proofs.TestLemmas.{chosen_by, tests_of}
-use Rattle.encoding_kernels.proofs.WordLemmas.{bytes_lanes, wide, wide_l}
+use Rattle.encoding_kernels.proofs.VectorLemmas.{put_prefix, put_is, HasLanes-itself, HasLanes-numbers, HasLanes-splat, compared, firsts_are, same_below, bytes_lanes, wide, wide_l}
+use Rattle.encoding_kernels.proofs.MaskLemmas.{chosen_by, tests_of}
 use Rattle.encoding_kernels.specs.EndingUnits.{keep, places_from, compressed_places, bytes_at, byte_places, WritesCompressed}
 
 -- ---- the table

@@ -12,7 +12,7 @@ use Rattle.encoding_definitions.specs.Surrogates.{IsValidUtf16}
 use Rattle.encoding_definitions.specs.Utf16.{IsHighSurrogate, IsLowSurrogate}
 use Rattle.encoding_definitions.proofs.SurrogateLemmas.{valid-encode, valid_more_one, valid_more_two}
 use Rattle.encoding_definitions.proofs.Latin1Lemmas.{latin1_more_one, latin1_more_two, IsUtf8Latin1-nil}
-use Rattle.encoding_kernels.proofs.StrideLemmas.{unit_is}
+use Rattle.encoding_kernels.proofs.ScanLemmas.{unit_is}
 use Rattle.encoding_kernels.proofs.SurrogatePairsLemmas.{low_test, high_test, same_tests}
 
 before_next : (us : List ℕ) (k : ℕ) → slice_index (0 ∷ us) (k + 1) ≡ slice_index us k

@@ -12,10 +12,10 @@ use Rattle.std.specs.List.{range_with_len}
 use Rattle.std.specs.Simd.Lanes.{chunk, pick_l}
 use Rattle.encoding_definitions.specs.Utf16.{IsHighSurrogate, IsLowSurrogate}
 use Rattle.encoding_kernels.specs.Scans.{HasLanes}
-use Rattle.encoding_kernels.specs.EncodeLanes.{kept_places}
+use Rattle.encoding_kernels.specs.KeptBytes.{kept_places}
 use Rattle.encoding_kernels.specs.SurrogatePairs.{IsTwoByteOrHalf, AreTwoByteOrPaired, EncodesHalf, half_bytes, concatenated, halves_from}
-use Rattle.encoding_kernels.proofs.WordLemmas.{bytes_of, bytes_lanes}
-use Rattle.encoding_kernels.proofs.EncodeLanesLemmas.{both, EncodesTo-word, kept_step}
+use Rattle.encoding_kernels.proofs.VectorLemmas.{bytes_of, bytes_lanes}
+use Rattle.encoding_kernels.proofs.UniformLemmas.{both, EncodesTo-word, kept_step}
 
 -- ---- concatenation
 pub concatenated-same : (f g : ℕ → List ℕ) (i j n : ℕ) → ((k : ℕ) → k < n → f (i + k) ≡ g (j + k)) → concatenated f i n ≡ concatenated g j n

@@ -12,7 +12,7 @@ pub mod MalformationLemmas
 pub mod CompletionLemmas
 pub mod BidiLawLemmas
 pub mod MixedLemmas
-pub mod BlockLemmas
+pub mod BlockRepairLemmas
 -- the lemmas on these terms
 pub use Rattle.encoding_definitions.proofs.DecompositionLemmas
 pub use Rattle.encoding_definitions.proofs.LossyLemmas

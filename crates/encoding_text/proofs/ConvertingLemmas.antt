@@ -21,8 +21,8 @@ use Rattle.encoding_definitions.proofs.EncodingLemmas.{IsSequence-encode, flat_m
 use Rattle.encoding_definitions.proofs.PrefixesLemmas.{WritesPrefix_after, WritesPrefix-length, WritesPrefix-same, put_mid-same, IsLongestFittingPrefix-all, IsLongestFittingPrefix-stop, flat_map_push, length-prefix}
 use Rattle.encoding_definitions.proofs.Utf8Lemmas.{IsLongestPrefix-utf8, no_character_after}
 use Rattle.encoding_definitions.proofs.DecompositionLemmas.{has_parts}
-use Rattle.encoding_kernels.proofs.TextLoopLemmas.{Putting, due_ascii, putting_first}
-use Rattle.encoding_kernels.proofs.TextUnitsLemmas.{ascii_text}
+use Rattle.encoding_kernels.proofs.Utf8ToUtf16LoopLemmas.{Putting, due_ascii, putting_first}
+use Rattle.encoding_kernels.proofs.Utf8ToUtf16Lemmas.{ascii_text}
 
 -- a list, cut after its first items
 pub cut_after : {X : Type 0} (xs prefix back : List X) → xs ≡ prefix ++ back

@@ -20,7 +20,7 @@ use Rattle.encoding_definitions.proofs.EncodingLemmas.{flat_map-encode_utf8}
 use Rattle.encoding_definitions.specs.Prefixes.{IsLongestFittingPrefix, WritesPrefix}
 use Rattle.encoding_definitions.proofs.PrefixesLemmas.{IsLongestFittingPrefix-all, IsLongestFittingPrefix-stop, WritesPrefix_after, WritesPrefix-length, IsLongestFittingPrefix-cons, IsLongestFittingPrefix-map, length-prefix, written_is, written_prefix}
 use borrow.Rule.Slice.PartMut.{put_mid}
-use Rattle.encoding_kernels.proofs.UnitBlocksLemmas.{utf8_plain}
+use Rattle.encoding_kernels.proofs.OverwriteLemmas.{utf8_plain}
 
 -- ---- the parts to be written stay parts
 -- a high surrogate that ends the parts ends their units

@@ -19,7 +19,7 @@ use Rattle.encoding_text.specs.declared.utf_8.encoder.EncoderResult.TheVariants.
 use Rattle.encoding_definitions.proofs.PrefixesLemmas.{IsLongestFittingPrefix-stop, WritesPrefix_after, WritesPrefix-length, IsLongestFittingPrefix-cons, written_is, written_prefix}
 use Rattle.encoding_definitions.proofs.Utf16Lemmas.{parts_of, parts_exist, ArePartsOf16-cons, halves, length-units_of_part16}
 use Rattle.encoding_definitions.proofs.Utf16PrefixLemmas.{all_fit, units_counted}
-use Rattle.encoding_kernels.proofs.AsciiLemmas.{Each-take}
+use Rattle.encoding_kernels.proofs.ScanLemmas.{Each-take}
 use Rattle.encoding_kernels.proofs.PairsLemmas.{high_decided}
 
 -- ---- which unit stays pending

@@ -12,11 +12,11 @@ use borrow.Rule.Slice.PartMut.{put_mid}
 use Rattle.encoding_definitions.proofs.EncodingLemmas.{flat_map-encode_utf8}
 use Rattle.encoding_definitions.specs.Prefixes.{IsLongestFittingPrefix, WritesPrefix}
 use Rattle.encoding_definitions.specs.Latin1.{IsLatin1, IsUtf8Latin1}
-use Rattle.encoding_kernels.specs.EncodeLanes.{all_latin1_ended}
+use Rattle.encoding_kernels.specs.KeptBytes.{all_latin1_ended}
 use Rattle.std.specs.Simd.Lanes.{chunk}
-use Rattle.encoding_kernels.proofs.EndedLemmas.{GoesOnWith, NextIs, Splits, nexts, splits, ended_without}
-use Rattle.encoding_kernels.proofs.AsciiLemmas.{Each-take, Each-at}
-use Rattle.encoding_kernels.proofs.UnitBlocksLemmas.{ascii_left, written_left}
+use Rattle.encoding_kernels.proofs.Latin1FromUtf8Lemmas.{GoesOnWith, NextIs, Splits, nexts, splits, ended_without}
+use Rattle.encoding_kernels.proofs.ScanLemmas.{Each-take, Each-at}
+use Rattle.encoding_kernels.proofs.OverwriteLemmas.{ascii_left, written_left}
 use Rattle.encoding_definitions.proofs.PrefixesLemmas.{IsLongestFittingPrefix-stop, IsLongestFittingPrefix-all, WritesPrefix-length, WritesPrefix_again, WritesPrefix_push, WritesPrefix_push_two, WritesPrefix_after, WritesPrefix_put, WritesPrefix-same}
 use Rattle.encoding_text.proofs.WholePrefixesLemmas.{other_after}
 use Rattle.encoding_definitions.proofs.Latin1Lemmas.{IsLatin1-following, next_of_one, next_of_two, split_prefix, scalars_of_latin1}

@@ -16,7 +16,7 @@ pub mod ConvertingLemmas
 pub mod DecodeLemmas
 pub mod EncoderLemmas
 pub mod EncoderCallLemmas
-pub mod LastBlockLemmas
+pub mod Latin1TailLemmas
 pub mod OneResultLemmas
 pub mod WholePrefixesLemmas
 pub mod Latin1ConversionLemmas

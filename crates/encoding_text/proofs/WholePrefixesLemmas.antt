@@ -8,12 +8,11 @@ use Rattle.std.proofs.lemmas.Bool.{cases_lt, eqb-true, eq-eqb}
 use Rattle.std.proofs.lemmas.List.{take_all, take_rest, take-append-drop, drop-append-le, length-take, length-drop, get_or-take, get_or-drop}
 use Rattle.encoding_definitions.specs.Ascii.{IsFirstOther, prefix_length_by, IsIso2022JpAscii}
 use Rattle.encoding_definitions.specs.Prefixes.{IsLongestPrefix, WritesPrefix}
-use Rattle.encoding_kernels.proofs.AsciiLemmas.{after_prefix, Each-at, prefix_before}
+use Rattle.encoding_kernels.proofs.ScanLemmas.{after_prefix, Each-at, prefix_before, unit_is}
 use Rattle.std.proofs.lemmas.Bool.Decides.{nat_tests}
 use Rattle.std.specs.Simd.Lanes.{chunk, zip2}
-use Rattle.encoding_kernels.proofs.StrideLemmas.{unit_is}
-use Rattle.encoding_kernels.proofs.LaneLemmas.{HasLanes-splat, HasLanes-whole, IsFirstSet, compared}
-use Rattle.encoding_kernels.proofs.TestLemmas.{HasTests, tests_of, tests_or}
+use Rattle.encoding_kernels.proofs.VectorLemmas.{HasLanes-splat, HasLanes-whole, IsFirstSet, compared}
+use Rattle.encoding_kernels.proofs.MaskLemmas.{HasTests, tests_of, tests_or}
 
 -- ASCII bytes are a text
 pub ruleset ascii_texts = (IsUtf8-from_ascii)

@@ -290,7 +290,7 @@ pub fn basic_latin_to_ascii(src: &[u16], dst: &mut [u8]) -> Option<(u16, usize)>
 
 /// Returns the length of the longest ASCII prefix, as `ascii_valid_up_to` does. One mask finds its end in the first
 /// block, without a branch that depends on the text: between other characters most prefixes end there.
-#[tactic(auto, using(encoding_kernels::proofs::AsciiLemmas::prefix_before))]
+#[tactic(auto, using(encoding_kernels::proofs::ScanLemmas::prefix_before))]
 #[inline(always)]
 pub(crate) fn ascii_valid_up_to_by_block(bytes: &[u8]) -> usize
     ensures { IsLongestPrefix IsAscii bytes.now result }
@@ -306,7 +306,7 @@ pub(crate) fn ascii_valid_up_to_by_block(bytes: &[u8]) -> usize
 
 /// Returns the length of the longest ASCII prefix, as `ascii_valid_up_to` does, of at least N and at most 2 * N bytes. Two
 /// vectors find its end, which may overlap.
-#[tactic(auto, using(std::proofs::lemmas::Bool::cases_lt, encoding_kernels::proofs::AsciiLemmas::prefix_before))]
+#[tactic(auto, using(std::proofs::lemmas::Bool::cases_lt, encoding_kernels::proofs::ScanLemmas::prefix_before))]
 #[inline(always)]
 fn ascii_valid_up_to_by_two<const N: usize>(bytes: &[u8]) -> usize
     requires { (0 < N) × (N ≤ 64) × (N ≤ length bytes.now) × (length bytes.now ≤ 2 * N) }
@@ -357,7 +357,7 @@ fn copy_some_to_basic_latin(src: &[u8], dst: &mut [u16]) -> usize
 
 /// Copies the longest ASCII prefix, each byte as a UTF-16 code unit, up to the shorter of the two lengths. Returns its
 /// length.
-#[tactic(auto, using(encoding_kernels::proofs::AsciiLemmas::prefix_before))]
+#[tactic(auto, using(encoding_kernels::proofs::ScanLemmas::prefix_before))]
 #[inline(always)]
 pub(crate) fn copy_to_basic_latin(src: &[u8], dst: &mut [u16]) -> usize
     ensures prefix { IsLongestPrefix IsAscii (take (length dst.old) src.now) result }

@@ -2,7 +2,7 @@
 
 ghost use Rattle.std.specs.Prelude.{◌≡◌, ℕ, ◌+◌, ◌*◌, ◌<◌, ◌≤◌, ◌⊎◌, ◌∷◌, length, take, slice_index};
 ghost use Rattle.std.specs.Simd.Lanes.{mask_l};
-ghost use Rattle.encoding_kernels.specs.EncodeLanes.{EndsPair, all_latin1_ended, both_end};
+ghost use Rattle.encoding_kernels.specs.KeptBytes.{EndsPair, all_latin1_ended, both_end};
 
 use crate::simd::compress::keep_pairs;
 use std::simd::prelude::*;
@@ -26,7 +26,7 @@ fn ended_pairs(before: u8x16, block: u8x16) -> u8x16
 }
 
 /// Returns the mask of the pairs of bytes that each end a byte of Latin1.
-#[tactic(auto, using(crate::proofs::EndsLemmas::mask_ends, crate::proofs::EndsLemmas::mask_small))]
+#[tactic(auto, using(crate::proofs::Latin1FromUtf8Lemmas::mask_ends, crate::proofs::Latin1FromUtf8Lemmas::mask_small))]
 #[inline(always)]
 fn mask_of_ends(block: u8x16) -> usize
     ensures upper_bound { result < 256 }

@@ -45,7 +45,7 @@ impl<'a, const N: usize> Terms<N> for BytesFrom<'a> {
         counted.select(Simd::splat(1), Simd::splat(0))
     }
 
-    #[tactic(auto, using(crate::proofs::TotalLemmas::term_from))]
+    #[tactic(auto, using(crate::proofs::SumLemmas::term_from))]
     #[inline(always)]
     fn term_at(&self, at: usize) -> usize {
         usize::from(self.bytes[at] >= self.least)
@@ -62,7 +62,7 @@ impl<'a, const N: usize> Terms<N> for BytesFrom<'a> {
 }
 
 /// Counts the bytes that are at least `least`.
-#[tactic(auto, using(crate::proofs::TotalLemmas::ones_most))]
+#[tactic(auto, using(crate::proofs::SumLemmas::ones_most))]
 #[inline(always)]
 fn count_from(bytes: &[u8], least: u8) -> usize
     ensures counted { result ≡ sum_over_suffixes (one_if_at_least least) bytes.now }
@@ -73,7 +73,7 @@ fn count_from(bytes: &[u8], least: u8) -> usize
 }
 
 /// Returns the length in bytes of the UTF-8 of the bytes as Latin1.
-#[tactic(auto, using(crate::proofs::TextSumLemmas::latin1_total))]
+#[tactic(auto, using(crate::proofs::LengthLemmas::latin1_total))]
 pub fn utf8_length_of_latin1(bytes: &[u8]) -> usize
     ensures { result ≡ length (encode_utf8_all bytes.now) }
 {
@@ -81,7 +81,7 @@ pub fn utf8_length_of_latin1(bytes: &[u8]) -> usize
 }
 
 /// Returns the number of characters of Latin1 text in UTF-8.
-#[tactic(auto, using(crate::proofs::TextSumLemmas::chars_total))]
+#[tactic(auto, using(crate::proofs::LengthLemmas::chars_total))]
 pub fn latin1_length_of_utf8(text: &[u8]) -> usize
     requires { IsUtf8Latin1 text.now }
     ensures { result ≡ length (chars text.now) }

@@ -2,7 +2,7 @@
 
 ghost use Rattle.std.specs.Prelude.{◌≡◌, ℕ, ◌+◌, ◌*◌, ◌<◌, ◌≤◌, ◌++◌, List, nat_le, length, map, take, drop, slice_index, encode_utf8_all};
 ghost use Rattle.std.specs.Simd.Lanes.{mask_l};
-ghost use Rattle.encoding_kernels.specs.EncodeLanes.{EncodesTo};
+ghost use Rattle.encoding_kernels.specs.KeptBytes.{EncodesTo};
 
 use crate::simd::compress::{keep_pairs, write_both};
 use crate::utf8_to_utf16::code_units::join_bytes;
@@ -53,7 +53,7 @@ pub fn write_latin1(block: u8x16, dst: &mut [u8], at: usize) -> usize
 }
 
 /// Returns the length of the UTF-8 of the first `count` of sixteen bytes of Latin1.
-#[tactic(auto, using(crate::proofs::LatinLanesLemmas::latin_first_long, crate::proofs::UnitLanesLemmas::bytes_below))]
+#[tactic(auto, using(crate::proofs::Latin1ToUtf8Lemmas::latin_first_long, crate::proofs::CodeUnitLemmas::bytes_below))]
 #[inline(always)]
 pub fn utf8_length_of_first(block: u8x16, count: usize) -> usize
     requires { count ≤ 16 }

@@ -2,7 +2,7 @@
 
 ghost use Rattle.std.specs.Prelude.{◌≡◌, ℕ, ◌+◌, ◌*◌, ◌<◌, ◌≤◌, ◌++◌, Bool, List, length, map, take, drop, slice_index};
 ghost use Rattle.std.specs.Simd.Lanes.{mask_l};
-ghost use Rattle.encoding_kernels.specs.EncodeLanes.{kept_places, last_places};
+ghost use Rattle.encoding_kernels.specs.KeptBytes.{kept_places, last_places};
 
 use crate::simd::copy::LANES;
 use std::simd::prelude::*;

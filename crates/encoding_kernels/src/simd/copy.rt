@@ -14,7 +14,7 @@ use std::simd::prelude::*;
 pub(crate) const LANES: [u8; STRIDE] = [0, 1, 2, 3, 4, 5, 6, 7, 8, 9, 10, 11, 12, 13, 14, 15];
 
 /// Copies the N bytes from `at` on to the same index.
-#[tactic(auto, using(std::proofs::lemmas::Grind::common_steps, crate::proofs::LaneLemmas::stored))]
+#[tactic(auto, using(std::proofs::lemmas::Grind::common_steps, crate::proofs::VectorLemmas::stored))]
 #[inline(always)]
 pub(super) fn copy<const N: usize>(src: &[u8], dst: &mut [u8], at: usize)
     requires { (at + N ≤ length src.now) × (at + N ≤ length dst.old) }
@@ -146,7 +146,7 @@ pub(crate) fn write_first_units(dst: &mut [u16], at: usize, units: u16x16, count
 }
 
 /// Writes N bytes from `at` on.
-#[tactic(auto, using(crate::proofs::LaneLemmas::put_is, crate::proofs::LaneLemmas::whole_chunk))]
+#[tactic(auto, using(crate::proofs::VectorLemmas::put_is, crate::proofs::VectorLemmas::whole_chunk))]
 #[inline(always)]
 pub fn copy_part<const N: usize>(part: &[u8], dst: &mut [u8], at: usize)
     requires { (length part.now ≡ N) × (at + N ≤ length dst.old) }
@@ -177,7 +177,7 @@ pub fn pack_part<const N: usize>(part: &[u16], dst: &mut [u8], at: usize)
 }
 
 /// Writes the first `count` bytes of a stride from `at` on. Stores sixteen, the others as `dst` has them.
-#[tactic(auto, using(crate::proofs::LaneLemmas::whole_chunk))]
+#[tactic(auto, using(crate::proofs::VectorLemmas::whole_chunk))]
 #[inline(always)]
 pub fn copy_first(stride: &[u8; STRIDE], dst: &mut [u8], at: usize, count: usize)
     requires { (at + 16 ≤ length dst.old) × (count ≤ 16) }
@@ -188,7 +188,7 @@ pub fn copy_first(stride: &[u8; STRIDE], dst: &mut [u8], at: usize, count: usize
 
 /// Writes the first `count` bytes of a stride from `at` on, each as a UTF-16 code unit. Stores sixteen, the others as
 /// `dst` has them.
-#[tactic(auto, using(crate::proofs::LaneLemmas::whole_chunk))]
+#[tactic(auto, using(crate::proofs::VectorLemmas::whole_chunk))]
 #[inline(always)]
 pub fn unpack_first(stride: &[u8; STRIDE], dst: &mut [u16], at: usize, count: usize)
     requires { (at + 16 ≤ length dst.old) × (count ≤ 16) }

@@ -284,7 +284,7 @@ pub fn units_prefix_len_below(units: &[u16], bound: u16) -> usize
 }
 
 /// Returns whether each lane is zero.
-#[tactic(auto, using(std::proofs::lemmas::Grind::common_steps, crate::proofs::TestLemmas::zeros_from_mask))]
+#[tactic(auto, using(std::proofs::lemmas::Grind::common_steps, crate::proofs::MaskLemmas::zeros_from_mask))]
 #[inline(always)]
 pub(crate) fn is_zero(lanes: u8x32) -> bool
     ensures { IsTrue result → IsZeroTo lanes 32 }

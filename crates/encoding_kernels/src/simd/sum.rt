@@ -84,7 +84,7 @@ fn sum_of_vectors<const N: usize, T: Terms<N>>(terms: &T, at: usize, stop: usize
 }
 
 /// Returns the N bytes from `at` on.
-#[tactic(auto, using(crate::proofs::LaneLemmas::HasLanes_load))]
+#[tactic(auto, using(crate::proofs::VectorLemmas::HasLanes_load))]
 #[inline(always)]
 fn load<const N: usize>(bytes: &[u8], at: usize) -> Simd<u8, N>
     requires { at + N ≤ length bytes.now }
@@ -146,7 +146,7 @@ fn sum_by<const N: usize, const SPAN: usize, T: Terms<N>>(
 }
 
 /// Returns the sum over the indices from `from` on, one by one.
-#[tactic(auto, using(std::proofs::lemmas::Grind::common_steps, crate::proofs::TotalLemmas::total_end, crate::proofs::TotalLemmas::total_next))]
+#[tactic(auto, using(std::proofs::lemmas::Grind::common_steps, crate::proofs::SumLemmas::total_end, crate::proofs::SumLemmas::total_next))]
 #[inline(always)]
 fn sum_singly<const N: usize, T: Terms<N>>(terms: &T, from: usize) -> usize
     requires within { from ≤ length (T.text terms.now) }

@@ -65,7 +65,7 @@ impl<'a, const N: usize> Terms<N> for Pairs<'a> {
         self.units.len().saturating_sub(1)
     }
 
-    #[tactic(auto, using(crate::proofs::LaneLemmas::HasLanes_same, crate::proofs::TotalLemmas::loaded))]
+    #[tactic(auto, using(crate::proofs::VectorLemmas::HasLanes_same, crate::proofs::SumLemmas::loaded))]
     #[inline(always)]
     fn terms(&self, at: usize) -> Simd<u8, N> {
         let units = self.units;

@@ -70,7 +70,7 @@ impl<'a, const N: usize> Terms<N> for Beyond<'a> {
         self.units.len().saturating_sub(1)
     }
 
-    #[tactic(auto, using(crate::proofs::LaneLemmas::HasLanes_same, crate::proofs::TotalLemmas::loaded))]
+    #[tactic(auto, using(crate::proofs::VectorLemmas::HasLanes_same, crate::proofs::SumLemmas::loaded))]
     #[inline(always)]
     fn terms(&self, at: usize) -> Simd<u8, N> {
         let units = self.units;
@@ -80,14 +80,14 @@ impl<'a, const N: usize> Terms<N> for Beyond<'a> {
         )
     }
 
-    #[tactic(auto, using(crate::proofs::TotalLemmas::term_beyond))]
+    #[tactic(auto, using(crate::proofs::SumLemmas::term_beyond))]
     #[inline(always)]
     fn term_at(&self, at: usize) -> usize {
         let units = self.units;
         bytes_beyond(units[at], unit_at(units, at + 1))
     }
 
-    #[tactic(auto, using(crate::proofs::TotalLemmas::ascii_beyond, crate::proofs::TotalLemmas::skipped_to))]
+    #[tactic(auto, using(crate::proofs::SumLemmas::ascii_beyond, crate::proofs::SumLemmas::skipped_to))]
     #[inline(always)]
     fn skip(&self, at: usize, end: usize) -> usize {
         let units = self.units;

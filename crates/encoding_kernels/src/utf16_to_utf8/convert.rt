@@ -4,7 +4,7 @@
 ghost use Rattle.std.specs.Prelude.{◌≡◌, ℕ, ◌↔◌, ◌+◌, ◌*◌, ◌<◌, ◌≤◌, ◌++◌, length, take, drop, slice_index, encode_utf8_all, IsTrue};
 ghost use Rattle.encoding_definitions.specs.Prefixes.{WritesPrefix};
 ghost use Rattle.encoding_definitions.specs.Utf16.{IsUtf8OfPrefix};
-ghost use Rattle.encoding_kernels.specs.EncodeLanes.{ConvertsDue, ConvertsPrefix, StoresBlock};
+ghost use Rattle.encoding_kernels.specs.Utf8Output.{ConvertsDue, ConvertsPrefix, StoresBlock};
 
 use super::mixed::{SPILL, are_non_surrogate, convert_first_sixteen, convert_spilled, store_mixed};
 use super::uniform::{

@@ -6,7 +6,8 @@ ghost use Rattle.std.specs.Int.RustNames.{count_ones};
 ghost use Rattle.std.specs.Int.Bits.{bit_and};
 ghost use Rattle.std.specs.Simd.Lanes.{mask_l};
 ghost use Rattle.encoding_definitions.specs.Prefixes.{WritesPrefix};
-ghost use Rattle.encoding_kernels.specs.EncodeLanes.{EncodesLast, Spills, length_classes, ConvertsPrefix, WritesBmp};
+ghost use Rattle.encoding_kernels.specs.KeptBytes.{EncodesLast, length_classes};
+ghost use Rattle.encoding_kernels.specs.Utf8Output.{Spills, ConvertsPrefix, WritesBmp};
 ghost use Rattle.encoding_definitions.specs.FirstScalar.{IsFirstScalar};
 ghost use Rattle.encoding_definitions.specs.Utf16.{IsUtf8OfPrefix};
 
@@ -24,7 +25,7 @@ use std::simd::prelude::*;
 const LONG: u16 = 0x800;
 
 /// Returns whether none of the sixteen code units is a surrogate.
-#[tactic(auto, using(crate::proofs::PlainLemmas::all_plain))]
+#[tactic(auto, using(crate::proofs::MixedLemmas::all_plain))]
 #[inline(always)]
 pub(super) fn are_non_surrogate(units: u16x16) -> bool
     ensures { IsTrue result → (k : ℕ) → k < 16
@@ -252,7 +253,7 @@ fn first_units(src: &[u16]) -> u16x16
 
 /// Converts those of the first sixteen code units that precede a surrogate, if they fit. Near the end of `dst` they are
 /// converted apart from it, so that nothing else is stored there.
-#[tactic(auto, using(crate::proofs::BlockLemmas::writes_none))]
+#[tactic(auto, using(crate::proofs::Utf16ToUtf8Lemmas::writes_none))]
 #[inline(always)]
 pub(super) fn convert_first_sixteen(src: &[u16], dst: &mut [u8]) -> (usize, usize)
     ensures written { WritesBmp src.now dst.old dst.new result.0 result.1 }

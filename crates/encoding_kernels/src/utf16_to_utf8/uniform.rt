@@ -3,7 +3,8 @@
 
 ghost use Rattle.std.specs.Prelude.{◌≡◌, ℕ, ◌+◌, ◌*◌, ◌<◌, ◌≤◌, ◌++◌, nat_le, length, map, take, slice_index, encode_utf8_all, IsTrue, ◌⊎◌, drop};
 ghost use Rattle.std.specs.Simd.Lanes.{mask_l};
-ghost use Rattle.encoding_kernels.specs.EncodeLanes.{EncodesTo, Spills};
+ghost use Rattle.encoding_kernels.specs.KeptBytes.{EncodesTo};
+ghost use Rattle.encoding_kernels.specs.Utf8Output.{Spills};
 ghost use Rattle.encoding_definitions.specs.Utf16.{IsHighSurrogate};
 ghost use Rattle.encoding_kernels.specs.SurrogatePairs.{AreTwoByteOrPaired, IsTwoByteOrHalf, EncodesHalf, half_bytes, concatenated, halves_from};
 
@@ -12,7 +13,7 @@ use crate::simd::compress::{keep_pairs, places_by, select_in_halves, write_both}
 use std::simd::prelude::*;
 
 /// Returns whether each of the sixteen code units is ASCII.
-#[tactic(auto, using(crate::proofs::TestLemmas::all_ascii))]
+#[tactic(auto, using(crate::proofs::MaskLemmas::all_ascii))]
 #[inline(always)]
 pub(super) fn are_ascii(units: u16x16) -> bool
     ensures { IsTrue result → (k : ℕ) → k < 16 → slice_index units k < 0x80 }
@@ -21,7 +22,7 @@ pub(super) fn are_ascii(units: u16x16) -> bool
 }
 
 /// Returns whether each of the sixteen code units is below U+0800.
-#[tactic(auto, using(crate::proofs::TestLemmas::all_two_byte))]
+#[tactic(auto, using(crate::proofs::MaskLemmas::all_two_byte))]
 #[inline(always)]
 pub(super) fn are_two_byte(units: u16x16) -> bool
     ensures { IsTrue result → (k : ℕ) → k < 16 → slice_index units k < 0x800 }
@@ -210,7 +211,7 @@ pub(super) fn write_two_byte_or_paired(
 }
 
 /// Returns whether each of the sixteen code units is from U+0800 on, and no surrogate.
-#[tactic(auto, using(crate::proofs::LongLemmas::all_long))]
+#[tactic(auto, using(crate::proofs::UniformLemmas::all_long))]
 #[inline(always)]
 pub(super) fn are_three_byte(units: u16x16) -> bool
     ensures { IsTrue result → (k : ℕ) → k < 16 → (0x800 ≤ slice_index units k)
@@ -223,7 +224,7 @@ pub(super) fn are_three_byte(units: u16x16) -> bool
 
 /// Returns the UTF-8 of eight code units from U+0800 on, three bytes for each, in two vectors. The first two bytes of
 /// each make a word and the last one another, so that no lane is wider than a code unit.
-#[tactic(auto, using(crate::proofs::LongLemmas::long_spelled))]
+#[tactic(auto, using(crate::proofs::UniformLemmas::long_spelled))]
 #[inline(always)]
 fn encode_three_byte(units: u16x8) -> (u8x16, u8x8)
     requires { (k : ℕ) → k < 8 → 0x800 ≤ slice_index units k }

@@ -80,7 +80,7 @@ impl<'a, const N: usize> Terms<N> for FourBytes<'a> {
         self.bytes.len().saturating_sub(3)
     }
 
-    #[tactic(auto, using(crate::proofs::LaneLemmas::HasLanes_same, crate::proofs::TotalLemmas::loaded))]
+    #[tactic(auto, using(crate::proofs::VectorLemmas::HasLanes_same, crate::proofs::SumLemmas::loaded))]
     #[inline(always)]
     fn terms(&self, at: usize) -> Simd<u8, N> {
         let bytes = self.bytes;

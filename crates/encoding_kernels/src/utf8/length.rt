@@ -101,7 +101,7 @@ impl<'a, const N: usize> Terms<N> for Joined<'a> {
         self.bytes.len().saturating_sub(2)
     }
 
-    #[tactic(auto, using(crate::proofs::LaneLemmas::HasLanes_same, crate::proofs::TotalLemmas::loaded))]
+    #[tactic(auto, using(crate::proofs::VectorLemmas::HasLanes_same, crate::proofs::SumLemmas::loaded))]
     #[inline(always)]
     fn terms(&self, at: usize) -> Simd<u8, N> {
         let bytes = self.bytes;
@@ -112,14 +112,14 @@ impl<'a, const N: usize> Terms<N> for Joined<'a> {
         )
     }
 
-    #[tactic(auto, using(crate::proofs::TotalLemmas::term_joined))]
+    #[tactic(auto, using(crate::proofs::SumLemmas::term_joined))]
     #[inline(always)]
     fn term_at(&self, at: usize) -> usize {
         let bytes = self.bytes;
         joined_after(bytes[at], byte_at(bytes, at + 1), byte_at(bytes, at + 2))
     }
 
-    #[tactic(auto, using(crate::proofs::TotalLemmas::ascii_joined, crate::proofs::TotalLemmas::skipped_to))]
+    #[tactic(auto, using(crate::proofs::SumLemmas::ascii_joined, crate::proofs::SumLemmas::skipped_to))]
     #[inline(always)]
     fn skip(&self, at: usize, end: usize) -> usize {
         let bytes = self.bytes;

@@ -68,7 +68,7 @@ impl<'a, const N: usize> Terms<N> for BelowThree<'a> {
         self.bytes.len().saturating_sub(1)
     }
 
-    #[tactic(auto, using(crate::proofs::LaneLemmas::HasLanes_same, crate::proofs::TotalLemmas::loaded))]
+    #[tactic(auto, using(crate::proofs::VectorLemmas::HasLanes_same, crate::proofs::SumLemmas::loaded))]
     #[inline(always)]
     fn terms(&self, at: usize) -> Simd<u8, N> {
         let bytes = self.bytes;
@@ -78,7 +78,7 @@ impl<'a, const N: usize> Terms<N> for BelowThree<'a> {
         )
     }
 
-    #[tactic(auto, using(crate::proofs::RepairedLengthLemmas::term_below_three))]
+    #[tactic(auto, using(crate::proofs::CountLemmas::term_below_three))]
     #[inline(always)]
     fn term_at(&self, at: usize) -> usize {
         let bytes = self.bytes;

@@ -249,7 +249,7 @@ fn clean_of_64(src: &[u8], at: usize) -> usize
 }
 
 /// Returns how many of the 256 bytes from `at` on precede the first that may not follow the three before it.
-#[tactic(auto, using(crate::proofs::FollowingLemmas::ValidUpTo_less))]
+#[tactic(auto, using(crate::proofs::Utf8ValidationLemmas::ValidUpTo_less))]
 #[inline(always)]
 fn clean_of_256(src: &[u8], at: usize) -> usize
     requires { (3 ≤ at) × (at + 256 ≤ length src.now) }
@@ -288,7 +288,7 @@ fn clean_of_first_64(src: &[u8]) -> usize
 }
 
 /// Returns the length, at most 32, of a prefix whose bytes may each follow those before it.
-#[tactic(auto, using(std::proofs::lemmas::Grind::common_steps, crate::proofs::FollowingLemmas::ValidUpTo_over))]
+#[tactic(auto, using(std::proofs::lemmas::Grind::common_steps, crate::proofs::Utf8ValidationLemmas::ValidUpTo_over))]
 #[inline(always)]
 fn clean_of_first_32(src: &[u8]) -> usize
     requires { 16 ≤ length src.now }
@@ -304,7 +304,7 @@ fn clean_of_first_32(src: &[u8]) -> usize
 }
 
 /// Returns `at`, or the start of the character that is cut there.
-#[tactic(auto, using(crate::proofs::FollowingLemmas::IsUtf8_before, crate::proofs::FollowingLemmas::IsUtf8_closed, crate::proofs::FollowingLemmas::IsClosedAt_tests))]
+#[tactic(auto, using(crate::proofs::Utf8ValidationLemmas::IsUtf8_before, crate::proofs::Utf8ValidationLemmas::IsUtf8_closed, crate::proofs::Utf8ValidationLemmas::IsClosedAt_tests))]
 fn back(src: &[u8], at: usize) -> usize
     requires { (at ≤ length src.now) × ValidUpTo src.now at }
     ensures { (result ≤ at) × IsUtf8 (take result src.now) }
@@ -343,7 +343,7 @@ fn are_256_ascii(src: &[u8], at: usize) -> bool
 
 /// Extends a prefix of `from` bytes that may each follow those before it, 64 at a time, and returns its length. The
 /// last 64 may begin before `from`.
-#[tactic(auto, using(crate::proofs::FollowingLemmas::ValidUpTo_less))]
+#[tactic(auto, using(crate::proofs::Utf8ValidationLemmas::ValidUpTo_less))]
 #[inline(always)]
 fn finish(src: &[u8], from: usize) -> usize
     requires { (64 ≤ from) × (from ≤ length src.now) × ValidUpTo src.now from }
@@ -366,7 +366,7 @@ fn finish(src: &[u8], from: usize) -> usize
 
 /// Extends a prefix of `from` bytes that may each follow those before it, and returns its length. Stops before a run of
 /// ASCII. Out of line, so that the address of the loop, and so its speed, doesn't depend on the caller.
-#[tactic(auto, using(crate::proofs::FollowingLemmas::ValidUpTo_less))]
+#[tactic(auto, using(crate::proofs::Utf8ValidationLemmas::ValidUpTo_less))]
 #[inline(never)]
 fn following(src: &[u8], from: usize) -> usize
     requires three_byte { 64 ≤ length src.now }
@@ -416,7 +416,7 @@ pub fn well_formed_short(src: &[u8]) -> usize
 
 /// Returns the length of a well-formed prefix of at least 64 bytes, of which the first `ascii` are ASCII: these, and
 /// whole blocks after them. Stops before a run of ASCII.
-#[tactic(auto, using(crate::proofs::FollowingLemmas::IsUtf8_ascii_prefix, crate::proofs::FollowingLemmas::ValidUpTo_ascii_prefix))]
+#[tactic(auto, using(crate::proofs::Utf8ValidationLemmas::IsUtf8_ascii_prefix, crate::proofs::Utf8ValidationLemmas::ValidUpTo_ascii_prefix))]
 #[inline(always)]
 pub fn well_formed_blocks(src: &[u8], ascii: usize) -> usize
     requires three_byte { 64 ≤ length src.now }

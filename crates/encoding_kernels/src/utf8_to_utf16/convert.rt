@@ -214,7 +214,7 @@ pub(super) fn begins_triples(src: &[u8]) -> bool
 }
 
 /// Writes the UTF-16 of the first five characters, of three bytes each.
-#[tactic(auto, using(crate::proofs::TextUnitsLemmas::puts_triples))]
+#[tactic(auto, using(crate::proofs::Utf8ToUtf16Lemmas::puts_triples))]
 #[inline(always)]
 pub(super) fn write_triples(src: &[u8], dst: &mut [u16])
     requires dst_length { (16 ≤ length src.now) × (8 ≤ length dst.old) }

@@ -283,7 +283,7 @@ pub fn convert_utf8_to_latin1(src: &[u8], dst: &mut [u8]) -> usize
 
 /// Writes the scalar value of each character of Latin1 text in UTF-8 as a byte, and returns how many bytes it wrote.
 /// `dst` is at least as long as `src`.
-#[tactic(auto, using(encoding_kernels::proofs::TextSumLemmas::chars_total))]
+#[tactic(auto, using(encoding_kernels::proofs::LengthLemmas::chars_total))]
 pub fn convert_utf8_to_latin1_lossy(src: &[u8], dst: &mut [u8]) -> usize
     requires dst_length { length src.now ≤ length dst.old }
     requires latin1 { IsUtf8Latin1 src.now }

@@ -1,6 +1,6 @@
 use Rattle.std.proofs.Common.{ℕ, w8, eqb}
-use Rattle.encoding_kernels.proofs.LaneLemmas.{HasLanes-itself, HasLanes-splat}
-use Rattle.encoding_kernels.proofs.TestLemmas.{tests_of, tests_or, chosen}
+use Rattle.encoding_kernels.proofs.VectorLemmas.{HasLanes-itself, HasLanes-splat}
+use Rattle.encoding_kernels.proofs.MaskLemmas.{tests_of, tests_or, chosen}
 use Rattle.encoding_kernels.proofs.bidi.mark_leads.Goals as goal
 
 pub returns : goal.returns

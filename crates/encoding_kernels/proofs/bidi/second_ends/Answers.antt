@@ -1,8 +1,8 @@
 use Rattle.std.proofs.Common.{w8, bit_or, leb, ltb, eqb, slice_index, Fits, arith, ℕ}
 use Rattle.std.proofs.lemmas.Simd.{Each1-get_or}
 use Rattle.encoding_kernels.proofs.BidiLemmas.{ends_are}
-use Rattle.encoding_kernels.proofs.LaneLemmas.{HasLanes-itself, HasLanes-splat, HasLanes-zip2, HasLanes_same}
-use Rattle.encoding_kernels.proofs.TestLemmas.{tests_of, tests_and, chosen}
+use Rattle.encoding_kernels.proofs.VectorLemmas.{HasLanes-itself, HasLanes-splat, HasLanes-zip2, HasLanes_same}
+use Rattle.encoding_kernels.proofs.MaskLemmas.{tests_of, tests_and, chosen}
 use Rattle.encoding_kernels.proofs.bidi.second_ends.Goals as goal
 
 pub returns : goal.returns

@@ -1,5 +1,5 @@
 use Rattle.std.proofs.Common.{◌-◌, length}
-use Rattle.encoding_kernels.proofs.TextLoopLemmas.{Unpacked}
+use Rattle.encoding_kernels.proofs.Utf8ToUtf16LoopLemmas.{Unpacked}
 use Rattle.encoding_text.proofs.ascii.copy_prefix_of_text.Given as goal
 
 abbrev pub invariant-loop-at : goal.invariant-loop-at

@@ -1,5 +1,5 @@
 use Rattle.std.proofs.Common.{arith}
-use Rattle.encoding_kernels.proofs.TestLemmas.{none_is_first, lowest_is_first}
+use Rattle.encoding_kernels.proofs.MaskLemmas.{none_is_first, lowest_is_first}
 use Rattle.encoding_text.proofs.WholePrefixesLemmas.{other_tests, run_of_own}
 use Rattle.encoding_text.proofs.ascii.iso_2022_jp_ascii_run.Goals as goal
 

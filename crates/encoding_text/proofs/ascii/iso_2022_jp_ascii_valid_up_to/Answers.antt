@@ -1,5 +1,5 @@
 use Rattle.std.proofs.Common.{[], refl, arith, length}
-use Rattle.encoding_kernels.proofs.StrideLemmas.{many, whole_stride}
+use Rattle.encoding_kernels.proofs.ScanLemmas.{many, whole_stride}
 use Rattle.encoding_text.proofs.WholePrefixesLemmas.{own_through, own_until}
 use Rattle.encoding_text.proofs.ascii.iso_2022_jp_ascii_valid_up_to.Goals as goal
 

@@ -1,7 +1,6 @@
 use Rattle.std.proofs.Common.{[], ◌+◌, ◌<◌, length, refl, arith}
 use Rattle.std.proofs.lemmas.Option.{slice_get-get_or}
-use Rattle.encoding_kernels.proofs.AsciiLemmas.{ascii_prefix_at}
-use Rattle.encoding_kernels.proofs.StrideLemmas.{first_part, stride_part, group_part, below_more, ascii_prefix_in, ascii_prefix_first}
+use Rattle.encoding_kernels.proofs.ScanLemmas.{ascii_prefix_at, first_part, stride_part, group_part, below_more, ascii_prefix_in, ascii_prefix_first}
 use Rattle.encoding_text.proofs.ascii.validate_ascii.Goals as goal
 
 pub returns-then-run-lt-STRIDE : goal.returns-then-run-lt-STRIDE

@@ -1,7 +1,7 @@
 use Rattle.std.proofs.Common.{◌<◌, false, arith}
 use Rattle.std.proofs.lemmas.List.{take_rest}
 use Rattle.std.proofs.lemmas.Str.{IsUtf8-from_ascii}
-use Rattle.encoding_kernels.proofs.AsciiLemmas.{Each-take}
+use Rattle.encoding_kernels.proofs.ScanLemmas.{Each-take}
 use Rattle.encoding_text.proofs.BorrowedLemmas.{longest_before_malformed}
 use Rattle.encoding_text.proofs.decoder.well_formed_length.Goals as goal
 

@@ -2,8 +2,8 @@ use Rattle.std.proofs.Common.{◌≡◌, ◌+◌, w8, ltb, refl, arith, slice_in
 use Rattle.std.proofs.lemmas.Bool.{ltb-false, le-ltb}
 use Rattle.std.proofs.lemmas.Simd.{get_or-chunk}
 use Rattle.encoding_kernels.specs.RightToLeft.{HasNoRtlAt, rtl_mark_lead, rtl_second_end}
-use Rattle.encoding_kernels.proofs.LaneLemmas.{HasLanes_load, HasLanes_same}
-use Rattle.encoding_kernels.proofs.TestLemmas.{tests_of, marks_of}
+use Rattle.encoding_kernels.proofs.VectorLemmas.{HasLanes_load, HasLanes_same}
+use Rattle.encoding_kernels.proofs.MaskLemmas.{tests_of, marks_of}
 use Rattle.encoding_kernels.proofs.bidi.ClearBytesLanePredicate.failing.Goals as goal
 
 pub returns : goal.returns

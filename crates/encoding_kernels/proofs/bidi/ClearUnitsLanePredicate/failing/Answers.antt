@@ -1,7 +1,7 @@
 use Rattle.std.proofs.Common.{◌≡◌, ℕ, ◌+◌, ◌-◌, ◌%◌, ◌^◌, false, w16, ltb, eqb, slice_index}
 use Rattle.encoding_kernels.specs.RightToLeft.{may_be_right_to_left}
-use Rattle.encoding_kernels.proofs.LaneLemmas.{HasLanes_load, HasLanes-splat, HasLanes-zip2}
-use Rattle.encoding_kernels.proofs.TestLemmas.{tests_of, tests_or, marks_of}
+use Rattle.encoding_kernels.proofs.VectorLemmas.{HasLanes_load, HasLanes-splat, HasLanes-zip2}
+use Rattle.encoding_kernels.proofs.MaskLemmas.{tests_of, tests_or, marks_of}
 use Rattle.encoding_kernels.proofs.bidi.ClearUnitsLanePredicate.failing.Goals as goal
 
 pub returns : goal.returns

@@ -1,8 +1,8 @@
 use Rattle.std.proofs.Common.{◌≡◌, ◌+◌, false, w8, leb, eqb, ap, arith, slice_index}
 use Rattle.std.proofs.lemmas.Simd.{get_or-chunk}
 use Rattle.encoding_kernels.specs.RightToLeft.{rtl_mark_lead, may_start_rtl}
-use Rattle.encoding_kernels.proofs.LaneLemmas.{HasLanes_load, HasLanes-splat, HasLanes_same}
-use Rattle.encoding_kernels.proofs.TestLemmas.{tests_of, tests_or, tests_xor, marks_of}
+use Rattle.encoding_kernels.proofs.VectorLemmas.{HasLanes_load, HasLanes-splat, HasLanes_same}
+use Rattle.encoding_kernels.proofs.MaskLemmas.{tests_of, tests_or, tests_xor, marks_of}
 use Rattle.encoding_kernels.proofs.bidi.LowBytesLanePredicate.failing.Goals as goal
 
 pub returns : goal.returns

@@ -1,4 +1,4 @@
-use Rattle.encoding_kernels.proofs.EndsLemmas.{pairs_end}
+use Rattle.encoding_kernels.proofs.Latin1FromUtf8Lemmas.{pairs_end}
 use Rattle.encoding_kernels.proofs.latin1.from_utf8.ended_pairs.Goals as goal
 
 pub returns-clause-pairs : goal.returns-clause-pairs

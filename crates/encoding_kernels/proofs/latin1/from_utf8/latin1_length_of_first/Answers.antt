@@ -1,5 +1,5 @@
 use Rattle.std.proofs.Common.{arith}
-use Rattle.encoding_kernels.proofs.EndsLemmas.{first_length}
+use Rattle.encoding_kernels.proofs.Latin1FromUtf8Lemmas.{first_length}
 use Rattle.encoding_kernels.proofs.latin1.from_utf8.latin1_length_of_first.Goals as goal
 
 pub overflow_sub-result : goal.overflow_sub-result

@@ -1,4 +1,4 @@
-use Rattle.encoding_kernels.proofs.EndsLemmas.{before_lanes}
+use Rattle.encoding_kernels.proofs.Latin1FromUtf8Lemmas.{before_lanes}
 use Rattle.encoding_kernels.proofs.latin1.from_utf8.latin1_of.Goals as goal
 
 pub returns-clause-latin1_ended : goal.returns-clause-latin1_ended

@@ -1,7 +1,6 @@
 use Rattle.std.proofs.Common.{◌∙◌, arith}
-use Rattle.encoding_kernels.specs.EncodeLanes.{both_end}
-use Rattle.encoding_kernels.proofs.EndedLemmas.{both_end_long}
-use Rattle.encoding_kernels.proofs.EndsLemmas.{kept_ends}
+use Rattle.encoding_kernels.specs.KeptBytes.{both_end}
+use Rattle.encoding_kernels.proofs.Latin1FromUtf8Lemmas.{both_end_long, kept_ends}
 use Rattle.encoding_kernels.proofs.latin1.from_utf8.latin1_of_after.Goals as goal
 
 pub returns-clause-latin1_ended : goal.returns-clause-latin1_ended

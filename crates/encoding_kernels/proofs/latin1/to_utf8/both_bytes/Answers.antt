@@ -1,6 +1,6 @@
 use Rattle.std.proofs.Common.{◌+◌, arith, refl}
-use Rattle.encoding_kernels.proofs.UnitLanesLemmas.{bytes_below}
-use Rattle.encoding_kernels.proofs.LatinLanesLemmas.{first_lanes, second_lanes, latin_pairs}
+use Rattle.encoding_kernels.proofs.CodeUnitLemmas.{bytes_below}
+use Rattle.encoding_kernels.proofs.Latin1ToUtf8Lemmas.{first_lanes, second_lanes, latin_pairs}
 use Rattle.encoding_kernels.proofs.latin1.to_utf8.both_bytes.Goals as goal
 
 pub returns : goal.returns

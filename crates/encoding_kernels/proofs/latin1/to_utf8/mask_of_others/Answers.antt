@@ -1,5 +1,5 @@
 use Rattle.std.proofs.Common.{w8, arith}
-use Rattle.encoding_kernels.proofs.EncodeLanesLemmas.{mask_from}
+use Rattle.encoding_kernels.proofs.UniformLemmas.{mask_from}
 use Rattle.encoding_kernels.proofs.latin1.to_utf8.mask_of_others.Goals as goal
 
 pub returns : goal.returns

@@ -1,5 +1,5 @@
 use Rattle.std.proofs.Common.{◌+◌, ◌++◌, take, drop, length, length-append, length-take-le, ap, ◌∙◌, arith}
-use Rattle.encoding_kernels.proofs.LatinLanesLemmas.{others_small, latin_spelled}
+use Rattle.encoding_kernels.proofs.Latin1ToUtf8Lemmas.{others_small, latin_spelled}
 use Rattle.encoding_kernels.proofs.latin1.to_utf8.write_latin1.Goals as goal
 
 pub keep_pairs-more-requires : goal.keep_pairs-more-requires

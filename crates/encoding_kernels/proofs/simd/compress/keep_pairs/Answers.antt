@@ -1,5 +1,5 @@
-use Rattle.encoding_kernels.proofs.LaneLemmas.{HasLanes-itself, HasLanes-swizzle, swizzle_ok}
-use Rattle.encoding_kernels.proofs.EncodeLanesLemmas.{compressed}
+use Rattle.encoding_kernels.proofs.VectorLemmas.{HasLanes-itself, HasLanes-swizzle, swizzle_ok}
+use Rattle.encoding_kernels.proofs.UniformLemmas.{compressed}
 use Rattle.encoding_kernels.proofs.simd.compress.keep_pairs.Goals as goal
 
 pub swizzle : goal.swizzle

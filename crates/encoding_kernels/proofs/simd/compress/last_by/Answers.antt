@@ -1,4 +1,4 @@
-use Rattle.encoding_kernels.proofs.TableLemmas.{last_table, row_small, row_keeps}
+use Rattle.encoding_kernels.proofs.CompressTableLemmas.{last_table, row_small, row_keeps}
 use Rattle.encoding_kernels.proofs.simd.compress.last_by.Goals as goal
 
 pub returns-clause-within : goal.returns-clause-within

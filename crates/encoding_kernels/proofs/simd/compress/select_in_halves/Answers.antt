@@ -1,4 +1,4 @@
-use Rattle.encoding_kernels.proofs.HalvesLemmas.{halves_ok, lower_half, upper_half}
+use Rattle.encoding_kernels.proofs.CodeUnitLemmas.{halves_ok, lower_half, upper_half}
 use Rattle.encoding_kernels.proofs.simd.compress.select_in_halves.Goals as goal
 
 pub swizzle-selected : goal.swizzle-selected

@@ -1,5 +1,5 @@
 use Rattle.std.proofs.Common.{w8, ◌+◌, arith}
-use Rattle.encoding_kernels.proofs.StoresLemmas.{firsts_over, both_put}
+use Rattle.encoding_kernels.proofs.CopyLemmas.{firsts_over, both_put}
 use Rattle.encoding_kernels.proofs.simd.compress.write_both.Goals as goal
 
 pub returns : goal.returns

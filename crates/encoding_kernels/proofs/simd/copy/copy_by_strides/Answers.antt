@@ -1,7 +1,7 @@
 use Rattle.std.proofs.Common.{◌≡◌, ◌+◌, ◌-◌, take, length, ap, ◌∙◌, arith}
 use Rattle.std.proofs.lemmas.List.{take_all}
 use Rattle.encoding_definitions.proofs.PrefixesLemmas.{WritesPrefix-length, WritesPrefix-same, WritesPrefix_again}
-use Rattle.encoding_kernels.proofs.AsciiLemmas.{WritesPrefix_block}
+use Rattle.encoding_kernels.proofs.ScanLemmas.{WritesPrefix_block}
 use Rattle.encoding_kernels.proofs.simd.copy.copy_by_strides.Goals as goal
 
 pub loop-at-preserved : goal.loop-at-preserved

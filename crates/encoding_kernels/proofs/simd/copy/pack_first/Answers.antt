@@ -1,8 +1,8 @@
 use Rattle.std.proofs.Common.{◌+◌, ◌++◌, drop, take, ap, ◌∙◌, arith}
 use Rattle.std.proofs.lemmas.Simd.{length-chunk, get_or-chunk}
 use Rattle.std.specs.Simd.Lanes.{chunk}
-use Rattle.encoding_kernels.proofs.StoresLemmas.{lower_fit, lower_same}
-use Rattle.encoding_kernels.proofs.LaneLemmas.{whole_chunk}
+use Rattle.encoding_kernels.proofs.CopyLemmas.{lower_fit, lower_same}
+use Rattle.encoding_kernels.proofs.VectorLemmas.{whole_chunk}
 use Rattle.encoding_kernels.proofs.simd.copy.pack_first.Goals as goal
 
 pub overflow_cast-lower : goal.overflow_cast-lower

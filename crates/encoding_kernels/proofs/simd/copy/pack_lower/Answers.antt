@@ -2,8 +2,8 @@ use Rattle.std.proofs.Common.{◌%◌, ap, ◌∙◌, map, arith}
 use Rattle.std.proofs.lemmas.List.{length-map}
 use Rattle.std.proofs.lemmas.Simd.{length-chunk}
 use Rattle.std.specs.Simd.Lanes.{chunk, put_chunk}
-use Rattle.encoding_kernels.proofs.StoresLemmas.{lower_are, lower_fit}
-use Rattle.encoding_kernels.proofs.LaneLemmas.{put_is, whole_chunk}
+use Rattle.encoding_kernels.proofs.CopyLemmas.{lower_are, lower_fit}
+use Rattle.encoding_kernels.proofs.VectorLemmas.{put_is, whole_chunk}
 use Rattle.encoding_kernels.proofs.simd.copy.pack_lower.Goals as goal
 
 pub overflow_cast-dst : goal.overflow_cast-dst

@@ -1,6 +1,6 @@
 use Rattle.std.proofs.Common.{ap, ◌∙◌, map-id}
 use Rattle.std.specs.Simd.Lanes.{chunk, put_chunk}
-use Rattle.encoding_kernels.proofs.LaneLemmas.{put_is, whole_chunk}
+use Rattle.encoding_kernels.proofs.VectorLemmas.{put_is, whole_chunk}
 use Rattle.encoding_kernels.proofs.simd.copy.pack_part.Goals as goal
 
 pub returns : goal.returns

@@ -1,5 +1,5 @@
 use Rattle.std.proofs.Common.{◌∷◌, []}
-use Rattle.encoding_kernels.proofs.UnitLanesLemmas.{HasLanes-after}
+use Rattle.encoding_kernels.proofs.CodeUnitLemmas.{HasLanes-after}
 use Rattle.encoding_kernels.proofs.simd.copy.two_before.Goals as goal
 
 pub returns : goal.returns

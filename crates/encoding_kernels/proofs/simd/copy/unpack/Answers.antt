@@ -1,4 +1,4 @@
-use Rattle.encoding_kernels.proofs.LaneLemmas.{put_same_place}
+use Rattle.encoding_kernels.proofs.VectorLemmas.{put_same_place}
 use Rattle.encoding_kernels.proofs.simd.copy.unpack.Goals as goal
 
 pub returns : goal.returns

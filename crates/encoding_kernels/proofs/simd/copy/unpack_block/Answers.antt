@@ -1,5 +1,5 @@
 use Rattle.std.proofs.Common.{arith}
-use Rattle.encoding_kernels.proofs.LaneLemmas.{copied_after}
+use Rattle.encoding_kernels.proofs.VectorLemmas.{copied_after}
 use Rattle.encoding_kernels.proofs.simd.copy.unpack_block.Goals as goal
 
 pub returns : goal.returns

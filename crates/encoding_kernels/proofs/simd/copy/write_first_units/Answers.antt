@@ -1,5 +1,5 @@
 use Rattle.std.proofs.Common.{w16}
-use Rattle.encoding_kernels.proofs.StoresLemmas.{put_first}
+use Rattle.encoding_kernels.proofs.CopyLemmas.{put_first}
 use Rattle.encoding_kernels.proofs.simd.copy.write_first_units.Goals as goal
 
 pub returns : goal.returns

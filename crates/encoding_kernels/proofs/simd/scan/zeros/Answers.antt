@@ -1,4 +1,4 @@
-use Rattle.encoding_kernels.proofs.TestLemmas.{zeros_before}
+use Rattle.encoding_kernels.proofs.MaskLemmas.{zeros_before}
 use Rattle.encoding_kernels.proofs.simd.scan.zeros.Goals as goal
 
 pub returns : goal.returns

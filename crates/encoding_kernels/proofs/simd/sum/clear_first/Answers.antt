@@ -1,7 +1,7 @@
 use Rattle.std.proofs.Common.{arith, ltb, slice_index, w8}
-use Rattle.encoding_kernels.proofs.LaneLemmas.{HasLanes-itself, HasLanes_same}
-use Rattle.encoding_kernels.proofs.TestLemmas.{chosen_by, tests_of}
-use Rattle.encoding_kernels.proofs.TotalLemmas.{cut_lane}
+use Rattle.encoding_kernels.proofs.VectorLemmas.{HasLanes-itself, HasLanes_same}
+use Rattle.encoding_kernels.proofs.MaskLemmas.{chosen_by, tests_of}
+use Rattle.encoding_kernels.proofs.SumLemmas.{cut_lane}
 use Rattle.encoding_kernels.proofs.simd.sum.clear_first.Goals as goal
 
 pub returns : goal.returns

@@ -1,5 +1,5 @@
 use Rattle.std.proofs.Common.{arith}
-use Rattle.encoding_kernels.proofs.TotalLemmas.{total_fits}
+use Rattle.encoding_kernels.proofs.SumLemmas.{total_fits}
 use Rattle.encoding_kernels.proofs.simd.sum.sum_from.Goals as goal
 
 pub sum_singly-requires-clause-few : goal.sum_singly-requires-clause-few

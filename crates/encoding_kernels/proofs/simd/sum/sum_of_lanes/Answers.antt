@@ -1,7 +1,7 @@
 use Rattle.std.proofs.Common.{ap, arith, map, map-id, w16}
 use Rattle.std.specs.Simd.Lanes.{sum_l}
 use Rattle.std.proofs.lemmas.Simd.{fold-sum, sum_fits}
-use Rattle.encoding_kernels.proofs.TotalLemmas.{lanes_fit}
+use Rattle.encoding_kernels.proofs.SumLemmas.{lanes_fit}
 use Rattle.encoding_kernels.proofs.simd.sum.sum_of_lanes.Goals as goal
 
 pub overflow_add-lanes : goal.overflow_add-lanes

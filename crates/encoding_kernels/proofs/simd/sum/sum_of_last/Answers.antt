@@ -1,5 +1,5 @@
 use Rattle.std.proofs.Common.{arith}
-use Rattle.encoding_kernels.proofs.TotalLemmas.{last_total}
+use Rattle.encoding_kernels.proofs.SumLemmas.{last_total}
 use Rattle.encoding_kernels.proofs.simd.sum.sum_of_last.Goals as goal
 
 pub returns : goal.returns

@@ -1,6 +1,6 @@
 use Rattle.std.proofs.Common.{◌+◌, ◌*◌, ◌∙◌, ◌≤◌, arith, refl, sym}
 use Rattle.std.proofs.lemmas.Simd.{Each1-replicate, length-replicate, length-zip2, sum-zip2}
-use Rattle.encoding_kernels.proofs.TotalLemmas.{lanes_few, sums_few, sums_fit, vector_total, zeros_total}
+use Rattle.encoding_kernels.proofs.SumLemmas.{lanes_few, sums_few, sums_fit, vector_total, zeros_total}
 use Rattle.encoding_kernels.proofs.simd.sum.sum_of_vectors.Goals as goal
 
 pub loop-place-init : goal.loop-place-init

@@ -1,4 +1,4 @@
-use Rattle.encoding_kernels.proofs.LaneLemmas.{HasLanes-cast}
+use Rattle.encoding_kernels.proofs.VectorLemmas.{HasLanes-cast}
 use Rattle.encoding_kernels.proofs.CountLemmas.{pairs_are, pairs_fit}
 use Rattle.encoding_kernels.proofs.utf16.count.pair_lanes.Goals as goal
 

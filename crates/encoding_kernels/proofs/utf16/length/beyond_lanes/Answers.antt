@@ -1,5 +1,5 @@
-use Rattle.encoding_kernels.proofs.LaneLemmas.{HasLanes-cast}
-use Rattle.encoding_kernels.proofs.TotalLemmas.{beyond_are, beyond_fit}
+use Rattle.encoding_kernels.proofs.VectorLemmas.{HasLanes-cast}
+use Rattle.encoding_kernels.proofs.SumLemmas.{beyond_are, beyond_fit}
 use Rattle.encoding_kernels.proofs.utf16.length.beyond_lanes.Goals as goal
 
 pub overflow_cast-result : goal.overflow_cast-result

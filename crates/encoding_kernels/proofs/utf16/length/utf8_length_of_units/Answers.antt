@@ -3,8 +3,8 @@ use Rattle.std.specs.List.{flat_map}
 use Rattle.encoding_definitions.specs.Utf16.{utf8_of_part16}
 use Rattle.encoding_definitions.proofs.Utf16Lemmas.{parts_of, parts_exist}
 use Rattle.encoding_kernels.specs.Lengths.{extra_bytes, extra_bytes_few}
-use Rattle.encoding_kernels.proofs.TextSumLemmas.{utf8_total}
-use Rattle.encoding_kernels.proofs.TotalLemmas.{total_most}
+use Rattle.encoding_kernels.proofs.LengthLemmas.{utf8_total}
+use Rattle.encoding_kernels.proofs.SumLemmas.{total_most}
 use Rattle.encoding_kernels.proofs.utf16.length.utf8_length_of_units.Goals as goal
 
 pub overflow_add-result : goal.overflow_add-result

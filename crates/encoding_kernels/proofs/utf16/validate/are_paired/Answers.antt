@@ -1,6 +1,6 @@
 use Rattle.std.proofs.Common.{◌+◌, ◌-◌, inl, inr, arith}
 use Rattle.std.proofs.lemmas.Bool.{cases_lt}
-use Rattle.encoding_kernels.proofs.TestLemmas.{and_both}
+use Rattle.encoding_kernels.proofs.MaskLemmas.{and_both}
 use Rattle.encoding_kernels.proofs.PairsLemmas.{pairs_up, pairs_first}
 use Rattle.encoding_kernels.proofs.utf16.validate.are_paired.Goals as goal
 

@@ -1,6 +1,6 @@
 use Rattle.std.proofs.Common.{ℕ, ◌+◌, ◌-◌, ◌%◌, ◌^◌, ◌≤◌, w16, ltb, length, arith}
-use Rattle.encoding_kernels.proofs.LaneLemmas.{HasLanes_load, HasLanes-splat, HasLanes-zip2}
-use Rattle.encoding_kernels.proofs.TestLemmas.{tests_of, chosen_by, none_passes}
+use Rattle.encoding_kernels.proofs.VectorLemmas.{HasLanes_load, HasLanes-splat, HasLanes-zip2}
+use Rattle.encoding_kernels.proofs.MaskLemmas.{tests_of, chosen_by, none_passes}
 use Rattle.encoding_kernels.proofs.PairsLemmas.{none_in_block}
 use Rattle.encoding_kernels.proofs.utf16.validate.has_no_surrogate.Goals as goal
 

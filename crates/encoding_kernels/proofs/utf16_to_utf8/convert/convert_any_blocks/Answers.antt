@@ -1,4 +1,4 @@
-use Rattle.encoding_kernels.proofs.DueLemmas.{due_more}
+use Rattle.encoding_kernels.proofs.OverwriteLemmas.{due_more}
 use Rattle.encoding_kernels.proofs.utf16_to_utf8.convert.convert_any_blocks.Goals as goal
 
 pub loop-read-preserved-then-units-eq0 : goal.loop-read-preserved-then-units-eq0

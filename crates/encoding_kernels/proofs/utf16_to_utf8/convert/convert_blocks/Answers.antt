@@ -1,6 +1,6 @@
 use Rattle.std.proofs.Common.{arith}
 use Rattle.encoding_definitions.specs.Utf16.{AreCodeUnits}
-use Rattle.encoding_kernels.proofs.ConvertsLemmas.{converts_none, converts_more, converts_more_bmp, converts_prefix, converts_unchanged}
+use Rattle.encoding_kernels.proofs.Utf16ToUtf8Lemmas.{converts_none, converts_more, converts_more_bmp, converts_prefix, converts_unchanged}
 use Rattle.encoding_kernels.proofs.utf16_to_utf8.convert.convert_blocks.Goals as goal
 
 pub loop-read-init : goal.loop-read-init

@@ -1,8 +1,8 @@
 use Rattle.std.proofs.Common.{◌≡◌, arith, subst}
 use Rattle.encoding_definitions.specs.Utf16.{AreCodeUnits}
-use Rattle.encoding_kernels.specs.EncodeLanes.{SpillsBmp}
-use Rattle.encoding_kernels.proofs.ConvertsLemmas.{converts_due, converts_paid, converts_whole}
-use Rattle.encoding_kernels.proofs.DueLemmas.{due_of_first}
+use Rattle.encoding_kernels.specs.Utf8Output.{SpillsBmp}
+use Rattle.encoding_kernels.proofs.Utf16ToUtf8Lemmas.{converts_due, converts_paid, converts_whole}
+use Rattle.encoding_kernels.proofs.OverwriteLemmas.{due_of_first}
 use Rattle.encoding_kernels.proofs.utf16_to_utf8.convert.convert_dense_blocks.Goals as goal
 
 pub returns-then-spilled-eq0 : goal.returns-then-spilled-eq0

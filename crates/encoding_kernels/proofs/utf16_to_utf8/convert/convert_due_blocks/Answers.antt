@@ -1,4 +1,4 @@
-use Rattle.encoding_kernels.proofs.DueLemmas.{due_more}
+use Rattle.encoding_kernels.proofs.OverwriteLemmas.{due_more}
 use Rattle.encoding_kernels.proofs.utf16_to_utf8.convert.convert_due_blocks.Goals as goal
 
 pub loop-read-preserved : goal.loop-read-preserved

@@ -1,5 +1,5 @@
 use Rattle.std.proofs.Common.{◌-◌, length}
-use Rattle.encoding_kernels.specs.EncodeLanes.{ConvertsDue}
+use Rattle.encoding_kernels.specs.Utf8Output.{ConvertsDue}
 use Rattle.encoding_kernels.proofs.utf16_to_utf8.convert.convert_due_blocks.Given as goal
 
 abbrev pub invariant-loop-read : goal.invariant-loop-read

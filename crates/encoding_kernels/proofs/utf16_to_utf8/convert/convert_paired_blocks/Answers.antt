@@ -1,7 +1,7 @@
 use Rattle.std.proofs.Common.{[], arith, refl, sym, subst}
 use Rattle.encoding_definitions.proofs.PrefixesLemmas.{WritesPrefix-nil, WritesPrefix-same, WritesPrefix_put, written_is}
 use Rattle.encoding_definitions.proofs.Utf16PrefixLemmas.{Walked, walked_prefix}
-use Rattle.encoding_kernels.proofs.PairedUnitsLemmas.{goes_block}
+use Rattle.encoding_kernels.proofs.Utf16ToUtf8Lemmas.{goes_block}
 use Rattle.encoding_definitions.specs.Utf16.{IsUtf8OfPrefix}
 use Rattle.encoding_kernels.proofs.utf16_to_utf8.convert.convert_paired_blocks.Goals as goal
 

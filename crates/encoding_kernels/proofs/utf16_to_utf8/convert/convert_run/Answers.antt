@@ -1,5 +1,5 @@
 use Rattle.std.proofs.Common.{arith}
-use Rattle.encoding_kernels.proofs.DueLemmas.{due_block}
+use Rattle.encoding_kernels.proofs.OverwriteLemmas.{due_block}
 use Rattle.encoding_kernels.proofs.utf16_to_utf8.convert.convert_run.Goals as goal
 
 pub loop-read-preserved : goal.loop-read-preserved

@@ -1,6 +1,6 @@
 use Rattle.std.proofs.Common.{refl, ap, sym, ◌∙◌, ◌≤◌, arith, length}
 use Rattle.encoding_definitions.proofs.PrefixesLemmas.{WritesPrefix-same}
-use Rattle.encoding_kernels.proofs.BlockLemmas.{first_units_plain, first_units_written, first_units_bytes}
+use Rattle.encoding_kernels.proofs.Utf16ToUtf8Lemmas.{first_units_plain, first_units_written, first_units_bytes}
 use Rattle.encoding_kernels.proofs.utf16_to_utf8.mixed.convert_first_sixteen.Goals as goal
 
 pub returns-then-dst-ge-ROOM-clause-written : goal.returns-then-dst-ge-ROOM-clause-written

@@ -8,7 +8,7 @@ use Rattle.std.proofs.str.Utf16.{one_unit, two_units}
 use Rattle.encoding_definitions.specs.Utf16.{IsUtf8OfPrefix, utf8_of_part16}
 use Rattle.encoding_definitions.proofs.PrefixesLemmas.{WritesPrefix-same, written_is}
 use Rattle.encoding_definitions.proofs.Utf16PrefixLemmas.{Walked, step_walked, step_written, walked_prefix}
-use Rattle.encoding_kernels.proofs.UnitBlocksLemmas.{plain_prefix}
+use Rattle.encoding_kernels.proofs.OverwriteLemmas.{plain_prefix}
 use Rattle.encoding_kernels.proofs.utf16_to_utf8.mixed.convert_some.Goals as goal
 
 pub returns-then-first-gt0-clause-prefix : goal.returns-then-first-gt0-clause-prefix

@@ -1,6 +1,6 @@
 use Rattle.std.proofs.Common.{arith}
 use Rattle.encoding_definitions.specs.Utf16.{AreCodeUnits}
-use Rattle.encoding_kernels.proofs.ConvertsLemmas.{converts_none, converts_more, converts_whole}
+use Rattle.encoding_kernels.proofs.Utf16ToUtf8Lemmas.{converts_none, converts_more, converts_whole}
 use Rattle.encoding_kernels.proofs.utf16_to_utf8.mixed.convert_spilled.Goals as goal
 
 pub loop-written-init : goal.loop-written-init

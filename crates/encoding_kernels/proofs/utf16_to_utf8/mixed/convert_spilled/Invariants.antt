@@ -1,5 +1,5 @@
 use Rattle.std.proofs.Common.{◌-◌, ◌≤◌, length}
-use Rattle.encoding_kernels.proofs.ConvertsLemmas.{Converts}
+use Rattle.encoding_kernels.proofs.Utf16ToUtf8Lemmas.{Converts}
 use Rattle.encoding_kernels.proofs.utf16_to_utf8.mixed.convert_spilled.Given as goal
 
 abbrev pub invariant-loop-written : goal.invariant-loop-written

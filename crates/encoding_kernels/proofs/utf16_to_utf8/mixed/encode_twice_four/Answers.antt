@@ -1,7 +1,7 @@
 use Rattle.std.proofs.Common.{◌+◌, ◌-◌, ◌∙◌, ap, arith, take, get_or}
 use Rattle.std.specs.Int.RustNames.{count_ones}
-use Rattle.encoding_kernels.specs.EncodeLanes.{length_classes}
-use Rattle.encoding_kernels.proofs.PlainLemmas.{classes_long, spelled_four}
+use Rattle.encoding_kernels.specs.KeptBytes.{length_classes}
+use Rattle.encoding_kernels.proofs.MixedLemmas.{classes_long, spelled_four}
 use Rattle.encoding_kernels.proofs.utf16_to_utf8.mixed.encode_twice_four.Goals as goal
 
 pub returns-clause-lower : goal.returns-clause-lower

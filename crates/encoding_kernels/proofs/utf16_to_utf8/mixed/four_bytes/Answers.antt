@@ -1,5 +1,5 @@
 use Rattle.std.proofs.Common.{◌+◌, ◌*◌, ◌/◌, ◌∷◌, [], arith, refl}
-use Rattle.encoding_kernels.proofs.PlainLemmas.{four_spelled}
+use Rattle.encoding_kernels.proofs.MixedLemmas.{four_spelled}
 use Rattle.encoding_kernels.proofs.utf16_to_utf8.mixed.four_bytes.Goals as goal
 
 pub returns-clause-first_half : goal.returns-clause-first_half

@@ -1,5 +1,5 @@
 use Rattle.std.proofs.Common.{arith}
-use Rattle.encoding_kernels.proofs.PlainLemmas.{by_eights, few_each}
+use Rattle.encoding_kernels.proofs.MixedLemmas.{by_eights, few_each}
 use Rattle.encoding_kernels.proofs.utf16_to_utf8.mixed.lengths_by.Goals as goal
 
 pub returns-clause-second : goal.returns-clause-second

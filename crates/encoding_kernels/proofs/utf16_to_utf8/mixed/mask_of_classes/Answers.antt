@@ -1,10 +1,10 @@
 use Rattle.std.proofs.Common.{◌≡◌, ◌<◌, ◌^◌, w16, ltb, length, arith, subst}
 use Rattle.std.specs.Simd.Lanes.{mask_l}
 use Rattle.std.proofs.lemmas.Simd.{mask_l-lt}
-use Rattle.encoding_kernels.specs.EncodeLanes.{length_classes}
-use Rattle.encoding_kernels.proofs.LaneLemmas.{HasLanes-itself, HasLanes-splat}
-use Rattle.encoding_kernels.proofs.TestLemmas.{tests_of, chosen, chosen_by}
-use Rattle.encoding_kernels.proofs.PlainLemmas.{mask_is_classes, classes_long}
+use Rattle.encoding_kernels.specs.KeptBytes.{length_classes}
+use Rattle.encoding_kernels.proofs.VectorLemmas.{HasLanes-itself, HasLanes-splat}
+use Rattle.encoding_kernels.proofs.MaskLemmas.{tests_of, chosen, chosen_by}
+use Rattle.encoding_kernels.proofs.MixedLemmas.{mask_is_classes, classes_long}
 use Rattle.encoding_kernels.proofs.utf16_to_utf8.mixed.mask_of_classes.Goals as goal
 
 pub returns-clause-mask : goal.returns-clause-mask

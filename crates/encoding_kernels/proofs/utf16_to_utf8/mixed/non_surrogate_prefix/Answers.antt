@@ -1,4 +1,4 @@
-use Rattle.encoding_kernels.proofs.PlainLemmas.{before_first}
+use Rattle.encoding_kernels.proofs.MixedLemmas.{before_first}
 use Rattle.encoding_kernels.proofs.utf16_to_utf8.mixed.non_surrogate_prefix.Goals as goal
 
 pub returns : goal.returns

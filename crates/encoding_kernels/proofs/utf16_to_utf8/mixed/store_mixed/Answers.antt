@@ -1,6 +1,6 @@
 use Rattle.std.proofs.Common.{◌≡◌, length, ◌+◌, ◌*◌, ◌/◌, ◌∙◌, take, drop, length-take-le, length-drop, arith, ap, ◌-◌, bit_and, count_ones}
-use Rattle.encoding_kernels.proofs.PlainLemmas.{four_masks, four_parts, lower_four, upper_four, unit_of_first, unit_of_second, unit_of_third, unit_of_fourth}
-use Rattle.encoding_kernels.proofs.SpillsLemmas.{spills_both}
+use Rattle.encoding_kernels.proofs.MixedLemmas.{four_masks, four_parts, lower_four, upper_four, unit_of_first, unit_of_second, unit_of_third, unit_of_fourth}
+use Rattle.encoding_kernels.proofs.OverwriteLemmas.{spills_both}
 use Rattle.encoding_kernels.proofs.utf16_to_utf8.mixed.store_mixed.Goals as goal
 
 pub returns-clause-stored : goal.returns-clause-stored

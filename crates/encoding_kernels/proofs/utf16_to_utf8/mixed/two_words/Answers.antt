@@ -1,4 +1,4 @@
-use Rattle.encoding_kernels.proofs.PlainLemmas.{lead_lanes, rest_lanes, words_small, words_spell}
+use Rattle.encoding_kernels.proofs.MixedLemmas.{lead_lanes, rest_lanes, words_small, words_spell}
 use Rattle.encoding_kernels.proofs.utf16_to_utf8.mixed.two_words.Goals as goal
 
 pub returns-clause-lane_count : goal.returns-clause-lane_count

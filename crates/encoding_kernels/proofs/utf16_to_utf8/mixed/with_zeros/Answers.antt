@@ -1,4 +1,4 @@
-use Rattle.encoding_kernels.proofs.PlainLemmas.{first_lanes_are}
+use Rattle.encoding_kernels.proofs.MixedLemmas.{first_lanes_are}
 use Rattle.encoding_kernels.proofs.utf16_to_utf8.mixed.with_zeros.Goals as goal
 
 pub returns : goal.returns

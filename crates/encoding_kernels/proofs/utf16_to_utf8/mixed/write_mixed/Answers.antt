@@ -1,5 +1,5 @@
 use Rattle.std.proofs.Common.{arith}
-use Rattle.encoding_kernels.proofs.SpillsLemmas.{spills_kept}
+use Rattle.encoding_kernels.proofs.OverwriteLemmas.{spills_kept}
 use Rattle.encoding_kernels.proofs.utf16_to_utf8.mixed.write_mixed.Goals as goal
 
 pub returns-clause-written : goal.returns-clause-written

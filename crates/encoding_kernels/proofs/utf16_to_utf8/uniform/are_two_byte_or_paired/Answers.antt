@@ -1,6 +1,6 @@
 use Rattle.std.proofs.Common.{◌+◌, w16, arith, eqb, leb, bit_and}
-use Rattle.encoding_kernels.proofs.LaneLemmas.{HasLanes_load, HasLanes-splat, HasLanes-zip2}
-use Rattle.encoding_kernels.proofs.TestLemmas.{tests_of, tests_or, tests_xor, none_passes}
+use Rattle.encoding_kernels.proofs.VectorLemmas.{HasLanes_load, HasLanes-splat, HasLanes-zip2}
+use Rattle.encoding_kernels.proofs.MaskLemmas.{tests_of, tests_or, tests_xor, none_passes}
 use Rattle.encoding_kernels.proofs.SurrogatePairsLemmas.{halves_lanes}
 use Rattle.encoding_kernels.proofs.utf16_to_utf8.uniform.are_two_byte_or_paired.Goals as goal
 

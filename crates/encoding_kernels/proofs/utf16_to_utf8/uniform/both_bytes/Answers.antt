@@ -1,4 +1,4 @@
-use Rattle.encoding_kernels.proofs.EncodeLanesLemmas.{words_spell}
+use Rattle.encoding_kernels.proofs.UniformLemmas.{words_spell}
 use Rattle.encoding_kernels.proofs.utf16_to_utf8.uniform.both_bytes.Goals as goal
 
 pub returns-clause-bytes : goal.returns-clause-bytes

@@ -1,6 +1,6 @@
 use Rattle.std.proofs.Common.{ℕ, ◌+◌, ◌*◌, ◌/◌, ◌%◌, ◌^◌, w16, leb, bit_and}
-use Rattle.encoding_kernels.proofs.LaneLemmas.{HasLanes-itself, HasLanes-splat, HasLanes-zip2}
-use Rattle.encoding_kernels.proofs.TestLemmas.{tests_of, chosen_by}
+use Rattle.encoding_kernels.proofs.VectorLemmas.{HasLanes-itself, HasLanes-splat, HasLanes-zip2}
+use Rattle.encoding_kernels.proofs.MaskLemmas.{tests_of, chosen_by}
 use Rattle.encoding_kernels.proofs.SurrogatePairsLemmas.{halves_spell}
 use Rattle.encoding_kernels.proofs.utf16_to_utf8.uniform.bytes_of_halves.Goals as goal
 

@@ -1,9 +1,9 @@
 use Rattle.std.proofs.Common.{◌≡◌, ◌+◌, ◌*◌, ◌/◌, ◌++◌, ◌∙◌, bit_and, sym, ap, subst, arith, take, drop, length-take-le, length-drop, get_or, get_or-take, get_or-drop, encode_utf8_all, take-append-drop}
 use Rattle.std.proofs.lemmas.Str.{encodes-append}
 use Rattle.std.specs.Int.RustNames.{count_ones}
-use Rattle.encoding_kernels.specs.EncodeLanes.{EncodesTo}
-use Rattle.encoding_kernels.proofs.EncodeLanesLemmas.{spelled_eight}
-use Rattle.encoding_kernels.proofs.LatinLanesLemmas.{low_others, high_others, others_small}
+use Rattle.encoding_kernels.specs.KeptBytes.{EncodesTo}
+use Rattle.encoding_kernels.proofs.UniformLemmas.{spelled_eight}
+use Rattle.encoding_kernels.proofs.Latin1ToUtf8Lemmas.{low_others, high_others, others_small}
 use Rattle.encoding_kernels.proofs.utf16_to_utf8.uniform.encode_two_byte.Goals as goal
 
 pub places_by-requires-2 : goal.places_by-requires-2

@@ -1,5 +1,5 @@
 use Rattle.std.proofs.Common.{w16, arith}
-use Rattle.encoding_kernels.proofs.EncodeLanesLemmas.{mask_from}
+use Rattle.encoding_kernels.proofs.UniformLemmas.{mask_from}
 use Rattle.encoding_kernels.proofs.utf16_to_utf8.uniform.mask_beyond_ascii.Goals as goal
 
 pub returns-clause-mask : goal.returns-clause-mask

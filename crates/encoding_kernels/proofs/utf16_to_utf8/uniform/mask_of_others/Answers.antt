@@ -3,7 +3,7 @@ use Rattle.std.specs.Prelude.{nat_le}
 use Rattle.std.specs.Simd.Lanes.{mask_l}
 use Rattle.std.proofs.lemmas.List.{length-map}
 use Rattle.std.proofs.lemmas.Simd.{mask_l-lt}
-use Rattle.encoding_kernels.proofs.EncodeLanesLemmas.{mask_from}
+use Rattle.encoding_kernels.proofs.UniformLemmas.{mask_from}
 use Rattle.encoding_kernels.proofs.utf16_to_utf8.uniform.mask_of_others.Goals as goal
 
 pub returns-clause-mask : goal.returns-clause-mask

@@ -1,5 +1,5 @@
 use Rattle.std.proofs.Common.{arith}
-use Rattle.encoding_kernels.proofs.SpillsLemmas.{store_spills, spills_then}
+use Rattle.encoding_kernels.proofs.OverwriteLemmas.{store_spills, spills_then}
 use Rattle.encoding_kernels.proofs.utf16_to_utf8.uniform.store_two.Goals as goal
 
 pub returns : goal.returns

@@ -1,5 +1,5 @@
 use Rattle.std.proofs.Common.{subst}
-use Rattle.encoding_kernels.specs.EncodeLanes.{Spills}
+use Rattle.encoding_kernels.specs.Utf8Output.{Spills}
 use Rattle.encoding_kernels.proofs.utf16_to_utf8.uniform.store_two_byte.Goals as goal
 
 pub returns-clause-stored : goal.returns-clause-stored

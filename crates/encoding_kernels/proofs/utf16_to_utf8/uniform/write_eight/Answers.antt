@@ -1,5 +1,5 @@
 use Rattle.std.proofs.Common.{◌∙◌, ◌++◌, ◌+◌, drop, take, ap}
-use Rattle.encoding_kernels.proofs.LongLemmas.{two_puts}
+use Rattle.encoding_kernels.proofs.UniformLemmas.{two_puts}
 use Rattle.encoding_kernels.proofs.utf16_to_utf8.uniform.write_eight.Goals as goal
 
 pub returns-clause-written : goal.returns-clause-written

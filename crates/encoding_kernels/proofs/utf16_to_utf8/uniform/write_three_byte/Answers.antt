@@ -1,8 +1,8 @@
 use Rattle.std.proofs.Common.{◌+◌, ◌++◌, ◌≤◌, ◌∙◌, ap, sym, subst, arith, take, drop, get_or, get_or-take, get_or-drop, encode_utf8_all, take-append-drop}
 use Rattle.std.proofs.lemmas.Str.{encodes-append}
-use Rattle.encoding_kernels.specs.EncodeLanes.{Spills}
-use Rattle.encoding_kernels.proofs.LongLemmas.{first_eight, last_eight}
-use Rattle.encoding_kernels.proofs.SpillsLemmas.{exact_spills, spills_then}
+use Rattle.encoding_kernels.specs.Utf8Output.{Spills}
+use Rattle.encoding_kernels.proofs.UniformLemmas.{first_eight, last_eight}
+use Rattle.encoding_kernels.proofs.OverwriteLemmas.{exact_spills, spills_then}
 use Rattle.encoding_kernels.proofs.utf16_to_utf8.uniform.write_three_byte.Goals as goal
 
 pub write_eight-requires-clause-three_byte : goal.write_eight-requires-clause-three_byte

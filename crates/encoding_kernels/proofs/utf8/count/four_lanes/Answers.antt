@@ -1,6 +1,6 @@
 use Rattle.std.proofs.Common.{eqb, leb, ltb, not, slice_index, w8}
-use Rattle.encoding_kernels.proofs.LaneLemmas.{HasLanes-itself, HasLanes_same, HasLanes-splat}
-use Rattle.encoding_kernels.proofs.TestLemmas.{chosen, tests_and, tests_of}
+use Rattle.encoding_kernels.proofs.VectorLemmas.{HasLanes-itself, HasLanes_same, HasLanes-splat}
+use Rattle.encoding_kernels.proofs.MaskLemmas.{chosen, tests_and, tests_of}
 use Rattle.encoding_kernels.proofs.CountLemmas.{whole_lane}
 use Rattle.encoding_kernels.proofs.utf8.count.four_lanes.Goals as goal
 

@@ -1,8 +1,8 @@
 use Rattle.std.proofs.Common.{◌+◌, ◌%◌, ◌^◌, eqb, leb, ltb, not, bit_and, slice_index, Fits, w8, arith}
 use Rattle.std.proofs.lemmas.Simd.{Each1-get_or}
-use Rattle.encoding_kernels.proofs.LaneLemmas.{HasLanes-itself, HasLanes_same, HasLanes-splat, HasLanes-zip2}
-use Rattle.encoding_kernels.proofs.TestLemmas.{chosen, tests_and, tests_of}
-use Rattle.encoding_kernels.proofs.TotalLemmas.{joined_lane}
+use Rattle.encoding_kernels.proofs.VectorLemmas.{HasLanes-itself, HasLanes_same, HasLanes-splat, HasLanes-zip2}
+use Rattle.encoding_kernels.proofs.MaskLemmas.{chosen, tests_and, tests_of}
+use Rattle.encoding_kernels.proofs.SumLemmas.{joined_lane}
 use Rattle.encoding_kernels.proofs.utf8.length.joined_lanes.Goals as goal
 
 pub returns : goal.returns

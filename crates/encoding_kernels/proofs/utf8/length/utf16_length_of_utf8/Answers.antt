@@ -1,8 +1,8 @@
 use Rattle.std.proofs.Common.{arith}
 use Rattle.encoding_definitions.proofs.DecompositionLemmas.{has_parts}
 use Rattle.encoding_kernels.specs.Lengths.{continuations}
-use Rattle.encoding_kernels.proofs.TextSumLemmas.{utf16_total}
-use Rattle.encoding_kernels.proofs.TotalLemmas.{ascii_joined, skipped_to}
+use Rattle.encoding_kernels.proofs.LengthLemmas.{utf16_total}
+use Rattle.encoding_kernels.proofs.SumLemmas.{ascii_joined, skipped_to}
 use Rattle.encoding_kernels.proofs.utf8.length.utf16_length_of_utf8.Goals as goal
 
 pub overflow_sub-result : goal.overflow_sub-result

@@ -1,6 +1,6 @@
 use Rattle.std.proofs.Common.{leb, ltb, w8, refl}
-use Rattle.encoding_kernels.proofs.LaneLemmas.{HasLanes-itself, HasLanes_same, HasLanes-splat}
-use Rattle.encoding_kernels.proofs.TestLemmas.{chosen, chosen_by, tests_and, tests_of}
+use Rattle.encoding_kernels.proofs.VectorLemmas.{HasLanes-itself, HasLanes_same, HasLanes-splat}
+use Rattle.encoding_kernels.proofs.MaskLemmas.{chosen, chosen_by, tests_and, tests_of}
 use Rattle.encoding_kernels.proofs.utf8.repaired.below_three_lanes.Goals as goal
 
 pub returns : goal.returns

@@ -1,5 +1,5 @@
 use Rattle.std.proofs.Common.{arith}
-use Rattle.encoding_kernels.proofs.RepairedLengthLemmas.{parts_most, repaired_sum, same_length}
+use Rattle.encoding_kernels.proofs.CountLemmas.{parts_most, repaired_sum, same_length}
 use Rattle.encoding_kernels.proofs.utf8.repaired.repaired_length.Goals as goal
 
 pub overflow_mul-beyond_one : goal.overflow_mul-beyond_one

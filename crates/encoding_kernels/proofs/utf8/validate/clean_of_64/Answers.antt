@@ -1,7 +1,7 @@
 use Rattle.std.proofs.Common.{◌≡◌, ◌+◌, arith, subst}
 use Rattle.encoding_kernels.specs.Following.{ValidUpTo}
-use Rattle.encoding_kernels.proofs.FollowingLemmas.{ValidUpTo-more, follows_two}
-use Rattle.encoding_kernels.proofs.TestLemmas.{or_zeros}
+use Rattle.encoding_kernels.proofs.Utf8ValidationLemmas.{ValidUpTo-more, follows_two}
+use Rattle.encoding_kernels.proofs.MaskLemmas.{or_zeros}
 use Rattle.encoding_kernels.proofs.utf8.validate.clean_of_64.Goals as goal
 
 pub returns-then-is_zero-clause-follow : goal.returns-then-is_zero-clause-follow

@@ -1,6 +1,6 @@
 use Rattle.std.proofs.Common.{arith}
-use Rattle.encoding_kernels.proofs.FollowingLemmas.{ValidUpTo_over}
-use Rattle.encoding_kernels.proofs.TestLemmas.{or_zeros}
+use Rattle.encoding_kernels.proofs.Utf8ValidationLemmas.{ValidUpTo_over}
+use Rattle.encoding_kernels.proofs.MaskLemmas.{or_zeros}
 use Rattle.encoding_kernels.proofs.utf8.validate.clean_of_first_64.Goals as goal
 
 pub returns-then-is_zero-clause-follow : goal.returns-then-is_zero-clause-follow

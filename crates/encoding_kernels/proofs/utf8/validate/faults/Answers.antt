@@ -1,4 +1,4 @@
-use Rattle.encoding_kernels.proofs.FollowingLemmas.{IsValidAt-loads}
+use Rattle.encoding_kernels.proofs.Utf8ValidationLemmas.{IsValidAt-loads}
 use Rattle.encoding_kernels.proofs.utf8.validate.faults.Goals as goal
 
 pub returns-clause-lanes : goal.returns-clause-lanes

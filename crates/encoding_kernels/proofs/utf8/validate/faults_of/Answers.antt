@@ -1,5 +1,5 @@
 use Rattle.std.proofs.Common.{inl, refl}
-use Rattle.encoding_kernels.proofs.LookupLemmas.{high_places, low_places, lanes_follow, lanes_long}
+use Rattle.encoding_kernels.proofs.Utf8LookupLemmas.{high_places, low_places, lanes_follow, lanes_long}
 use Rattle.encoding_kernels.proofs.utf8.validate.faults_of.Goals as goal
 
 pub swizzle : goal.swizzle

@@ -1,4 +1,4 @@
-use Rattle.encoding_kernels.proofs.FollowingLemmas.{IsValidAt-first}
+use Rattle.encoding_kernels.proofs.Utf8ValidationLemmas.{IsValidAt-first}
 use Rattle.encoding_kernels.proofs.utf8.validate.first_faults.Goals as goal
 
 pub returns-clause-lanes : goal.returns-clause-lanes

@@ -1,6 +1,6 @@
 use Rattle.std.proofs.Common.{◌∷◌, [], take}
-use Rattle.encoding_kernels.proofs.FollowingLemmas.{IsValidAt-first}
-use Rattle.encoding_kernels.proofs.UnitLanesLemmas.{HasLanes-after}
+use Rattle.encoding_kernels.proofs.Utf8ValidationLemmas.{IsValidAt-first}
+use Rattle.encoding_kernels.proofs.CodeUnitLemmas.{HasLanes-after}
 use Rattle.encoding_kernels.proofs.utf8.validate.first_faults_32.Goals as goal
 
 pub returns-clause-lanes : goal.returns-clause-lanes

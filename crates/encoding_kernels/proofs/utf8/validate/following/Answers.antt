@@ -1,5 +1,5 @@
 use Rattle.std.proofs.Common.{arith}
-use Rattle.encoding_kernels.proofs.FollowingLemmas.{ValidUpTo_less}
+use Rattle.encoding_kernels.proofs.Utf8ValidationLemmas.{ValidUpTo_less}
 use Rattle.encoding_kernels.proofs.utf8.validate.following.Goals as goal
 use Rattle.encoding_kernels.proofs.utf8.validate.following.Goals.{then-at-lt-BLOCK+else-at-lt-BLOCK-2, else-at-lt-BLOCK+then-src-at-ge-BLOCK+else-clean-lt-BLOCK, else-at-lt-BLOCK+else-src-at-ge-BLOCK}
 

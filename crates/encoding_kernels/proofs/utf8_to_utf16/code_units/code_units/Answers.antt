@@ -1,4 +1,4 @@
-use Rattle.encoding_kernels.proofs.UnitBytesLemmas.{halves}
+use Rattle.encoding_kernels.proofs.CodeUnitLemmas.{halves}
 use Rattle.encoding_kernels.proofs.utf8_to_utf16.code_units.code_units.Goals as goal
 
 pub returns : goal.returns

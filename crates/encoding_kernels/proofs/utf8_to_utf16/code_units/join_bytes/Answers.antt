@@ -1,5 +1,5 @@
 use Rattle.std.proofs.Common.{◌+◌, ◌∷◌, [], arith, refl}
-use Rattle.encoding_kernels.proofs.UnitBytesLemmas.{joined_lanes}
+use Rattle.encoding_kernels.proofs.CodeUnitLemmas.{joined_lanes}
 use Rattle.encoding_kernels.proofs.utf8_to_utf16.code_units.join_bytes.Goals as goal
 
 pub returns-clause-last : goal.returns-clause-last

@@ -1,6 +1,6 @@
 use Rattle.std.proofs.Common.{◌+◌, ◌*◌, ◌^◌, ◌%◌, ◌∷◌, [], bit_and, refl}
-use Rattle.encoding_kernels.proofs.LaneLemmas.{HasLanes-splat, HasLanes-zip2, HasLanes-cast, HasLanes_same}
-use Rattle.encoding_kernels.proofs.UnitLanesLemmas.{third_lanes, triple_lane}
+use Rattle.encoding_kernels.proofs.VectorLemmas.{HasLanes-splat, HasLanes-zip2, HasLanes-cast, HasLanes_same}
+use Rattle.encoding_kernels.proofs.CodeUnitLemmas.{third_lanes, triple_lane}
 use Rattle.encoding_kernels.proofs.utf8_to_utf16.code_units.triple_units.Goals as goal
 
 pub returns : goal.returns

@@ -1,4 +1,4 @@
-use Rattle.encoding_kernels.proofs.UnitLanesLemmas.{ends_mask}
+use Rattle.encoding_kernels.proofs.CodeUnitLemmas.{ends_mask}
 use Rattle.encoding_kernels.proofs.utf8_to_utf16.code_units.unit_ends.Goals as goal
 
 pub returns : goal.returns

@@ -1,7 +1,7 @@
 use Rattle.std.proofs.Common.{◌+◌, ◌*◌, ◌/◌, ◌^◌, ◌%◌, bit_and, leb, w8}
-use Rattle.encoding_kernels.proofs.LaneLemmas.{HasLanes-splat, HasLanes-zip2, HasLanes_same}
-use Rattle.encoding_kernels.proofs.TestLemmas.{chosen_by, tests_of}
-use Rattle.encoding_kernels.proofs.UnitBytesLemmas.{upper_bits_lane}
+use Rattle.encoding_kernels.proofs.VectorLemmas.{HasLanes-splat, HasLanes-zip2, HasLanes_same}
+use Rattle.encoding_kernels.proofs.MaskLemmas.{chosen_by, tests_of}
+use Rattle.encoding_kernels.proofs.CodeUnitLemmas.{upper_bits_lane}
 use Rattle.encoding_kernels.proofs.utf8_to_utf16.code_units.upper_bits.Goals as goal
 
 pub returns : goal.returns

@@ -3,8 +3,8 @@ use Rattle.std.proofs.lemmas.Bool.{and_parts, leb-true, ltb-true, not-false}
 use Rattle.encoding_kernels.specs.declared.utf8_to_utf16.convert.TheConstants.{LEAD_BITS, LEAD_VALUES}
 use Rattle.encoding_kernels.specs.Scans.{HasLanes}
 use Rattle.encoding_kernels.specs.EndingUnits.{BeginsThree}
-use Rattle.encoding_kernels.proofs.LaneLemmas.{HasLanes-itself, HasLanes-zip2, same_below}
-use Rattle.encoding_kernels.proofs.TestLemmas.{tests_of, none_passes}
+use Rattle.encoding_kernels.proofs.VectorLemmas.{HasLanes-itself, HasLanes-zip2, same_below}
+use Rattle.encoding_kernels.proofs.MaskLemmas.{tests_of, none_passes}
 use Rattle.encoding_kernels.proofs.utf8_to_utf16.convert.begins_triples.Goals as goal
 
 three_from : (b : ℕ) → b < 256 → not (eqb (bit_and b 0xF0) 0xE0) ≡ false → BeginsThree b

@@ -1,5 +1,5 @@
 use Rattle.std.proofs.Common.{arith}
-use Rattle.encoding_kernels.proofs.TextLoopLemmas.{character_short, due_exact, first_character}
+use Rattle.encoding_kernels.proofs.Utf8ToUtf16LoopLemmas.{character_short, due_exact, first_character}
 use Rattle.encoding_kernels.proofs.utf8_to_utf16.convert.convert_valid_utf8_to_utf16.Goals as goal
 
 pub are_bytes_below-requires : goal.are_bytes_below-requires

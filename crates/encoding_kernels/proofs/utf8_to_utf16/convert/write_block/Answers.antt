@@ -1,4 +1,4 @@
-use Rattle.encoding_kernels.proofs.TextUnitsLemmas.{kept_small, puts_block}
+use Rattle.encoding_kernels.proofs.Utf8ToUtf16Lemmas.{kept_small, puts_block}
 use Rattle.encoding_kernels.proofs.utf8_to_utf16.convert.write_block.Goals as goal
 
 pub write_compressed-requires : goal.write_compressed-requires

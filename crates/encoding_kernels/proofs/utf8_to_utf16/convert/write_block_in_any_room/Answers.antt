@@ -1,7 +1,7 @@
 use Rattle.std.proofs.Common.{◌++◌, arith, drop, length-take-le, sym, subst}
 use Rattle.encoding_kernels.specs.EndingUnits.{WritesUtf16}
-use Rattle.encoding_kernels.proofs.TextLoopLemmas.{puts_few, puts_long, puts_single}
-use Rattle.encoding_kernels.proofs.TextUnitsLemmas.{kept_small, puts_block}
+use Rattle.encoding_kernels.proofs.Utf8ToUtf16LoopLemmas.{puts_few, puts_long, puts_single}
+use Rattle.encoding_kernels.proofs.Utf8ToUtf16Lemmas.{kept_small, puts_block}
 use Rattle.encoding_kernels.proofs.utf8_to_utf16.convert.write_block_in_any_room.Goals as goal
 
 pub write_compressed_exact-requires : goal.write_compressed_exact-requires

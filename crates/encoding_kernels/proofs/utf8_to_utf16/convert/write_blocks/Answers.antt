@@ -1,6 +1,6 @@
 use Rattle.std.proofs.Common.{arith}
 use Rattle.std.proofs.lemmas.List.{take_rest}
-use Rattle.encoding_kernels.proofs.TextLoopLemmas.{putting_more, putting_rest, putting_some, puts_text}
+use Rattle.encoding_kernels.proofs.Utf8ToUtf16LoopLemmas.{putting_more, putting_rest, putting_some, puts_text}
 use Rattle.encoding_kernels.proofs.utf8_to_utf16.convert.write_blocks.Goals as goal
 
 pub loop-read-preserved : goal.loop-read-preserved

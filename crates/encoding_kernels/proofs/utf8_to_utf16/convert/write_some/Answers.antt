@@ -1,6 +1,6 @@
 use Rattle.std.proofs.Common.{◌/◌, ◌^◌, refl}
 use Rattle.std.specs.Int.RustNames.{count_ones}
-use Rattle.encoding_kernels.proofs.TextLoopLemmas.{due_block, due_exact, due_triples}
+use Rattle.encoding_kernels.proofs.Utf8ToUtf16LoopLemmas.{due_block, due_exact, due_triples}
 use Rattle.encoding_kernels.proofs.utf8_to_utf16.convert.write_some.Goals as goal
 
 pub returns-then-src-ge24-clause-written : goal.returns-then-src-ge24-clause-written

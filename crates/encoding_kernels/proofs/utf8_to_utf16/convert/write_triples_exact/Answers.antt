@@ -1,6 +1,6 @@
 use Rattle.std.proofs.Common.{◌++◌, drop, sym, subst}
 use Rattle.encoding_kernels.specs.EndingUnits.{WritesUtf16}
-use Rattle.encoding_kernels.proofs.TextLoopLemmas.{puts_single}
+use Rattle.encoding_kernels.proofs.Utf8ToUtf16LoopLemmas.{puts_single}
 use Rattle.encoding_kernels.proofs.utf8_to_utf16.convert.write_triples_exact.Goals as goal
 
 pub returns : goal.returns

@@ -1,5 +1,5 @@
 use Rattle.std.proofs.Common.{◌≡◌, ◌-◌, ◌*◌, ◌≤◌, false, length}
-use Rattle.encoding_runs.proofs.BlockLemmas.{BlockDone}
+use Rattle.encoding_runs.proofs.BlockRepairLemmas.{BlockDone}
 use Rattle.encoding_runs.proofs.repair.blocks.repair_block.Given as goal
 
 abbrev pub invariant-loop-rest : goal.invariant-loop-rest

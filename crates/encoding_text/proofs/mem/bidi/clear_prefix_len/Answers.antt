@@ -2,7 +2,7 @@ use Rattle.std.proofs.Common.{◌≤◌, take, drop, arith, refl, subst, IsUtf8}
 use Rattle.std.proofs.lemmas.List.{take_rest, take-take, length-take, length-drop}
 use Rattle.encoding_definitions.specs.Bidi.{IsBidiText}
 use Rattle.encoding_definitions.proofs.BidiTextLemmas.{found_in_bytes}
-use Rattle.encoding_kernels.proofs.AsciiLemmas.{below_prefix}
+use Rattle.encoding_kernels.proofs.ScanLemmas.{below_prefix}
 use Rattle.encoding_kernels.proofs.BidiLemmas.{ascii_text, left_to_right_more}
 use Rattle.encoding_text.proofs.mem.bidi.clear_prefix_len.Goals as goal
 

@@ -1,5 +1,5 @@
 use Rattle.std.proofs.Common.{[], refl, arith}
-use Rattle.encoding_kernels.proofs.StrideLemmas.{first_part, stride_part, group_part, below_more, part_below}
+use Rattle.encoding_kernels.proofs.ScanLemmas.{first_part, stride_part, group_part, below_more, part_below}
 use Rattle.encoding_text.proofs.mem.checks.is_utf16_latin1.Goals as goal
 
 pub returns-then-not-are_units_below : goal.returns-then-not-are_units_below

@@ -1,6 +1,6 @@
 use Rattle.std.proofs.Common.{arith}
 use Rattle.encoding_definitions.proofs.PrefixesLemmas.{WritesPrefix-nil}
-use Rattle.encoding_kernels.proofs.UnitBlocksLemmas.{written_eight}
+use Rattle.encoding_kernels.proofs.OverwriteLemmas.{written_eight}
 use Rattle.encoding_text.proofs.mem.latin1.convert_latin1_blocks.Goals as goal
 
 pub loop-read-init : goal.loop-read-init

@@ -1,6 +1,5 @@
 use Rattle.std.proofs.Common.{[], arith}
-use Rattle.encoding_kernels.proofs.AsciiLemmas.{WritesPrefix_copy}
-use Rattle.encoding_kernels.proofs.StrideLemmas.{stride_part, copied_part}
+use Rattle.encoding_kernels.proofs.ScanLemmas.{WritesPrefix_copy, stride_part, copied_part}
 use Rattle.encoding_text.proofs.mem.latin1.convert_latin1_to_utf16.Goals as goal
 
 pub loop-stride-preserved : goal.loop-stride-preserved

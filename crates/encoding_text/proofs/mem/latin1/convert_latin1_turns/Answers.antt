@@ -4,7 +4,7 @@ use Rattle.std.proofs.lemmas.Str.{encodes-IsAscii, length-le-encodes}
 use Rattle.encoding_definitions.specs.Prefixes.{WritesPrefix}
 use Rattle.std.proofs.lemmas.Bool.{cases_lt}
 use Rattle.encoding_definitions.proofs.PrefixesLemmas.{WritesPrefix-length}
-use Rattle.encoding_kernels.proofs.UnitBlocksLemmas.{ascii_left}
+use Rattle.encoding_kernels.proofs.OverwriteLemmas.{ascii_left}
 use Rattle.encoding_text.proofs.Latin1ConversionLemmas.{latin1_bytes_two, latin1_fits_all, latin1_fits_stop, latin1_turn}
 use Rattle.encoding_text.proofs.WholePrefixesLemmas.{other_after}
 use Rattle.encoding_text.proofs.mem.latin1.convert_latin1_turns.Goals as goal

@@ -1,6 +1,6 @@
 use Rattle.std.proofs.Common.{◌≡◌, ℕ, [], ◌++◌, ◌+◌, ◌%◌, map, take, drop, length, ap, ◌∙◌, refl, arith, bit_and, slice_index}
 use Rattle.std.proofs.lemmas.Grind.{common_steps}
-use Rattle.encoding_kernels.proofs.StrideLemmas.{many, whole_stride}
+use Rattle.encoding_kernels.proofs.ScanLemmas.{many, whole_stride}
 use Rattle.encoding_definitions.proofs.PrefixesLemmas.{WritesPrefix-length}
 use Rattle.encoding_text.proofs.Latin1ConversionLemmas.{WritesPrefix_low, WritesPrefix_low_block}
 use Rattle.encoding_text.proofs.mem.latin1.convert_utf16_to_latin1_lossy.Goals as goal

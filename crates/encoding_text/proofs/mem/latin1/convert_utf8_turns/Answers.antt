@@ -3,7 +3,7 @@ use Rattle.encoding_definitions.specs.Prefixes.{WritesPrefix}
 use Rattle.std.specs.Str.{chars}
 use Rattle.std.proofs.lemmas.List.{take_all, length-drop}
 use Rattle.std.proofs.lemmas.Str.{length-le-encodes}
-use Rattle.encoding_kernels.proofs.AsciiLemmas.{WritesPrefix_copy}
+use Rattle.encoding_kernels.proofs.ScanLemmas.{WritesPrefix_copy}
 use Rattle.encoding_definitions.proofs.PrefixesLemmas.{WritesPrefix-length}
 use Rattle.encoding_definitions.proofs.Latin1Lemmas.{latin1_chars}
 use Rattle.encoding_text.proofs.Latin1ConversionLemmas.{character_of_two, ascii_start, ascii_on, two_after, begins_apart, block_on}

@@ -1,7 +1,7 @@
 use Rattle.std.proofs.Common.{◌-◌, ap, arith}
 use Rattle.std.specs.Str.{chars}
 use Rattle.encoding_definitions.proofs.Latin1Lemmas.{latin1_chars}
-use Rattle.encoding_text.proofs.LastBlockLemmas.{byte_before, last_before, last_apart, last_written, first_counts, written_within}
+use Rattle.encoding_text.proofs.Latin1TailLemmas.{byte_before, last_before, last_apart, last_written, first_counts, written_within}
 use Rattle.encoding_text.proofs.mem.latin1.finish_utf8.Goals as goal
 
 pub overflow_sub-at : goal.overflow_sub-at

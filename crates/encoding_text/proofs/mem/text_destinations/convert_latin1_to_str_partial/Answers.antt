@@ -1,5 +1,5 @@
 use Rattle.std.proofs.Common.{◌<◌, take, arith, IsUtf8, encode_utf8_all}
-use Rattle.encoding_kernels.proofs.AsciiLemmas.{Each-take}
+use Rattle.encoding_kernels.proofs.ScanLemmas.{Each-take}
 use Rattle.encoding_text.proofs.Latin1ConversionLemmas.{IsUtf8-bytes}
 use Rattle.encoding_definitions.proofs.ClearingLemmas.{clears_after, text_stays}
 use Rattle.encoding_text.proofs.mem.text_destinations.convert_latin1_to_str_partial.Goals as goal

@@ -4,7 +4,7 @@ use Rattle.std.specs.Char.Escape.{encode_utf16}
 use Rattle.std.specs.Str.{IsUtf8, chars}
 use Rattle.std.proofs.lemmas.List.{take_rest}
 use Rattle.encoding_definitions.specs.Prefixes.{WritesPrefix}
-use Rattle.encoding_kernels.proofs.TextLoopLemmas.{putting_all, putting_rest}
+use Rattle.encoding_kernels.proofs.Utf8ToUtf16LoopLemmas.{putting_all, putting_rest}
 use Rattle.encoding_text.proofs.ConvertingLemmas.{putting_ascii}
 use Rattle.encoding_text.proofs.mem.to_utf16.convert_str_to_utf16.Goals as goal
 

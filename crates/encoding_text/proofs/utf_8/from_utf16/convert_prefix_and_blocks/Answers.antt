@@ -1,7 +1,7 @@
 use Rattle.std.proofs.Common.{arith, rules}
 use Rattle.encoding_definitions.specs.Utf16.{AreCodeUnits}
-use Rattle.encoding_kernels.proofs.UnitBlocksLemmas.{ascii_plain}
-use Rattle.encoding_kernels.proofs.ConvertsLemmas.{converts_bmp, converts_more, converts_prefix, converts_unchanged}
+use Rattle.encoding_kernels.proofs.OverwriteLemmas.{ascii_plain}
+use Rattle.encoding_kernels.proofs.Utf16ToUtf8Lemmas.{converts_bmp, converts_more, converts_prefix, converts_unchanged}
 use Rattle.encoding_text.proofs.utf_8.from_utf16.convert_prefix_and_blocks.Goals as goal
 
 pub returns-then-src-read-lt-BASIC_LATIN_END : goal.returns-then-src-read-lt-BASIC_LATIN_END

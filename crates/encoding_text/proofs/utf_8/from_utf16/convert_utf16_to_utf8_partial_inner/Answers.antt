@@ -1,7 +1,7 @@
 use Rattle.std.proofs.Common.{◌++◌, ◌∷◌, [], arith, refl, sym, subst}
 use Rattle.encoding_definitions.proofs.PrefixesLemmas.{WritesPrefix_after, WritesPrefix-same, written_is}
 use Rattle.encoding_definitions.proofs.Utf16PrefixLemmas.{step_walked, step_within, step_written, walked_prefix}
-use Rattle.encoding_kernels.proofs.PairedUnitsLemmas.{goes_on}
+use Rattle.encoding_kernels.proofs.Utf16ToUtf8Lemmas.{goes_on}
 use Rattle.encoding_definitions.specs.Utf16.{IsUtf8OfPrefix}
 use Rattle.encoding_text.proofs.utf_8.from_utf16.convert_utf16_to_utf8_partial_inner.Goals as goal
 

@@ -1,7 +1,7 @@
 use Rattle.std.proofs.Common.{◌+◌, arith, subst, sym}
 use Rattle.std.specs.Str.{IsUtf8}
 use Rattle.std.proofs.lemmas.List.{take_rest}
-use Rattle.encoding_kernels.proofs.TextLoopLemmas.{putting_all, putting_more}
+use Rattle.encoding_kernels.proofs.Utf8ToUtf16LoopLemmas.{putting_all, putting_more}
 use Rattle.encoding_text.proofs.utf_8.to_utf16.convert_text.Goals as goal
 
 pub loop-read-preserved : goal.loop-read-preserved

@@ -1,5 +1,5 @@
 use Rattle.std.proofs.Common.{◌-◌, length}
-use Rattle.encoding_kernels.proofs.TextLoopLemmas.{Putting}
+use Rattle.encoding_kernels.proofs.Utf8ToUtf16LoopLemmas.{Putting}
 use Rattle.encoding_text.proofs.utf_8.to_utf16.convert_text.Given as goal
 
 abbrev pub invariant-loop-read : goal.invariant-loop-read

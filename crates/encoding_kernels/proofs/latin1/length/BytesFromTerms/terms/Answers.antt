@@ -1,8 +1,8 @@
 use Rattle.std.proofs.Common.{◌+◌, ◌∙◌, ap, arith, leb, nat_le, slice_index, sym, w8}
 use mir.Val.{bool_byte}
-use Rattle.encoding_kernels.proofs.LaneLemmas.{HasLanes_load, HasLanes_same, HasLanes-splat}
-use Rattle.encoding_kernels.proofs.TestLemmas.{chosen, tests_of}
-use Rattle.encoding_kernels.proofs.TotalLemmas.{one_or_none}
+use Rattle.encoding_kernels.proofs.VectorLemmas.{HasLanes_load, HasLanes_same, HasLanes-splat}
+use Rattle.encoding_kernels.proofs.MaskLemmas.{chosen, tests_of}
+use Rattle.encoding_kernels.proofs.SumLemmas.{one_or_none}
 use Rattle.encoding_definitions.proofs.Latin1Lemmas.{at_drop_start}
 use Rattle.encoding_kernels.proofs.latin1.length.BytesFromTerms.terms.Goals as goal
 

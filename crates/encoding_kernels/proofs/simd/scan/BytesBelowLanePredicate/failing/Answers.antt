@@ -1,5 +1,5 @@
 use Rattle.std.proofs.Common.{w8}
-use Rattle.encoding_kernels.proofs.TestLemmas.{marks_below}
+use Rattle.encoding_kernels.proofs.MaskLemmas.{marks_below}
 use Rattle.encoding_kernels.proofs.simd.scan.BytesBelowLanePredicate.failing.Goals as goal
 
 pub returns : goal.returns

@@ -1,5 +1,5 @@
 use Rattle.std.proofs.Common.{w16}
-use Rattle.encoding_kernels.proofs.TestLemmas.{marks_below}
+use Rattle.encoding_kernels.proofs.MaskLemmas.{marks_below}
 use Rattle.encoding_kernels.proofs.simd.scan.UnitsBelowLanePredicate.failing.Goals as goal
 
 pub returns : goal.returns

@@ -1,7 +1,7 @@
 use Rattle.std.proofs.Common.{◌≡◌, ◌+◌, false, w16, arith, eqb, bit_and, slice_index}
 use Rattle.encoding_kernels.specs.Neighbors.{pair_fault}
-use Rattle.encoding_kernels.proofs.LaneLemmas.{HasLanes_load, HasLanes-splat, HasLanes-zip2}
-use Rattle.encoding_kernels.proofs.TestLemmas.{tests_of, tests_xor, marks_of}
+use Rattle.encoding_kernels.proofs.VectorLemmas.{HasLanes_load, HasLanes-splat, HasLanes-zip2}
+use Rattle.encoding_kernels.proofs.MaskLemmas.{tests_of, tests_xor, marks_of}
 use Rattle.encoding_kernels.proofs.utf16.validate.UnitPairsLanePredicate.failing.Goals as goal
 
 pub returns : goal.returns

@@ -1,5 +1,5 @@
 use Rattle.std.proofs.Common.{arith, refl}
-use Rattle.encoding_kernels.proofs.BlockLemmas.{ascii_block}
+use Rattle.encoding_kernels.proofs.Utf16ToUtf8Lemmas.{ascii_block}
 use Rattle.encoding_kernels.proofs.utf16_to_utf8.convert.AsciiBlock.convert.Goals as goal
 
 pub returns-clause-some : goal.returns-clause-some

@@ -9,13 +9,13 @@ use Rattle.encoding_kernels.specs.declared.utf8.validate.TheConstants.{BYTE_1_HI
 use Rattle.encoding_kernels.specs.Following.{IsValidAfter}
 use Rattle.encoding_definitions.specs.Sequence.{IsContinuation, IsSecond}
 use Rattle.encoding_definitions.proofs.SequenceLemmas.{is_second}
-use Rattle.encoding_kernels.proofs.LaneLemmas.{same_below, HasLanes-itself, HasLanes_same, HasLanes-splat, HasLanes-zip2, compared}
+use Rattle.encoding_kernels.proofs.VectorLemmas.{same_below, HasLanes-itself, HasLanes_same, HasLanes-splat, HasLanes-zip2, compared}
 use Rattle.std.proofs.lemmas.List.{length-take-le, get_or-append_right, get_or-take}
 use Rattle.std.proofs.lemmas.Nat.{and_le_r}
 use Rattle.std.proofs.lemmas.Simd.{get_or-chunk, Each1-get_or, Each1-from_get_or, SwzOk, SwzOk-from_below, swz_l, length-swz_l, get_or-swz_l_below}
 use lib.Lanes.{zip2, chunk, sel_l, top, Each1}
 use Rattle.encoding_kernels.specs.Scans.{HasLanes}
-use Rattle.encoding_kernels.proofs.TestLemmas.{chosen_by, tests_of}
+use Rattle.encoding_kernels.proofs.MaskLemmas.{chosen_by, tests_of}
 
 -- ---- two bytes
 -- the errors that the tables leave for a byte a and a following byte with the high nibble h

@@ -20,9 +20,9 @@ use Rattle.encoding_kernels.specs.EndingUnits.{units_in, WritesUtf16}
 use Rattle.encoding_definitions.proofs.EncodingLemmas.{IsSequence-encode, length_encode_utf16_utf8, encodes_one, length-utf16}
 use Rattle.encoding_definitions.proofs.PrefixesLemmas.{written_is}
 use Rattle.encoding_definitions.proofs.SequenceLemmas.{length-IsSequence}
-use Rattle.encoding_kernels.proofs.TextUnitsLemmas.{puts_ascii, puts_prefix}
+use Rattle.encoding_kernels.proofs.Utf8ToUtf16Lemmas.{puts_ascii, puts_prefix}
 use Rattle.encoding_kernels.specs.Scans.{BelowUpTo, IsRunBelow}
-use Rattle.encoding_kernels.proofs.AsciiLemmas.{Each-take}
+use Rattle.encoding_kernels.proofs.ScanLemmas.{Each-take}
 
 -- ---- a character
 pub record Begins (src : List ℕ) (n : ℕ) : Type 0 where

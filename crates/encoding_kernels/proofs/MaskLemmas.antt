@@ -9,7 +9,7 @@ use lib.Count.{count_trailing_zeros}
 use mir.Syntax.{Width}
 use mir.Val.{bits, hbits}
 use Rattle.encoding_kernels.specs.Scans.{HasLanes, Marks}
-use Rattle.encoding_kernels.proofs.LaneLemmas.{HasLanes_load, HasLanes-zip2, HasLanes-splat, HasLanes-select, HasLanes_same, compared, top_compared, mask_of, mask_is, IsFirstSet, first_set, first_none, no_bit_from, HasLanes-itself}
+use Rattle.encoding_kernels.proofs.VectorLemmas.{HasLanes_load, HasLanes-zip2, HasLanes-splat, HasLanes-select, HasLanes_same, compared, top_compared, mask_of, mask_is, IsFirstSet, first_set, first_none, no_bit_from, HasLanes-itself}
 use Rattle.std.proofs.lemmas.Nat.{le_or_l, le_or_r}
 use Rattle.std.proofs.lemmas.Nat.Bits.{and_high_mask}
 use Rattle.std.proofs.lemmas.Bool.Decides.{nat_tests}

@@ -14,13 +14,12 @@ use Rattle.std.specs.List.{range_with_len}
 use lib.Count.{count_trailing_zeros}
 use Rattle.std.specs.Simd.Lanes.{mask_l, number_l, digits_l, pick_l, zip2, sel_l, top, Each1}
 use Rattle.encoding_kernels.specs.Scans.{HasLanes}
-use Rattle.encoding_kernels.specs.EncodeLanes.{last_places, length_classes, EncodesLast}
+use Rattle.encoding_kernels.specs.KeptBytes.{last_places, length_classes, EncodesLast}
 use Rattle.encoding_kernels.proofs.CompressLemmas.{mask_append}
-use Rattle.encoding_kernels.proofs.LaneLemmas.{HasLanes-itself, HasLanes-numbers, HasLanes_same, HasLanes-splat, HasLanes-zip2, compared, firsts_are, mask_of, same_below}
-use Rattle.encoding_kernels.proofs.TestLemmas.{HasTests, tests_of, chosen, chosen_by, none_passes, run_is_first}
-use Rattle.encoding_kernels.proofs.EncodeLanesLemmas.{mask_from, pick, ones-none}
-use Rattle.encoding_kernels.proofs.UnitLanesLemmas.{picked_lanes}
-use Rattle.encoding_kernels.proofs.WordLemmas.{bytes_of_sixteen, sixteen_lanes}
+use Rattle.encoding_kernels.proofs.VectorLemmas.{HasLanes-itself, HasLanes-numbers, HasLanes_same, HasLanes-splat, HasLanes-zip2, compared, firsts_are, mask_of, same_below, bytes_of_sixteen, sixteen_lanes}
+use Rattle.encoding_kernels.proofs.MaskLemmas.{HasTests, tests_of, chosen, chosen_by, none_passes, run_is_first}
+use Rattle.encoding_kernels.proofs.UniformLemmas.{mask_from, pick, ones-none}
+use Rattle.encoding_kernels.proofs.CodeUnitLemmas.{picked_lanes}
 
 -- ---- the test
 abbrev pub surrogates : List ℕ → List ℕ

@@ -3,9 +3,8 @@ use Rattle.std.proofs.Common.{◌≡◌, ℕ, zero, suc, ◌+◌, ◌*◌, ◌^�
 use Rattle.std.proofs.lemmas.Bool.{and_parts, cases_lt, ltb-true, false≢true}
 use Rattle.std.specs.Simd.Lanes.{mask_l, number_l, digits_l}
 use lib.Dec.{ltb}
-use Rattle.encoding_kernels.specs.EncodeLanes.{kept_places, last_places}
-use Rattle.encoding_kernels.specs.declared.simd.compress.TheConstants.{PLACES}
-use Rattle.encoding_kernels.specs.declared.simd.compress.TheConstants.{LAST_BYTES_TABLE}
+use Rattle.encoding_kernels.specs.KeptBytes.{kept_places, last_places}
+use Rattle.encoding_kernels.specs.declared.simd.compress.TheConstants.{PLACES, LAST_BYTES_TABLE}
 
 -- the sixteen indices of a mask
 abbrev pub row : List ℕ → ℕ → List ℕ

@@ -17,8 +17,8 @@ use Rattle.encoding_definitions.specs.Prefixes.{WritesPrefix}
 use Rattle.encoding_kernels.specs.Scans.{HasLanes}
 use Rattle.encoding_kernels.specs.EndingUnits.{BeginsThree, keep, ends_unit, low_bits, triple_unit, unit_at, units_after, ends_after, WritesCompressed, WritesUtf16}
 use Rattle.encoding_kernels.proofs.CompressLemmas.{keep_pad}
-use Rattle.encoding_kernels.proofs.LaneLemmas.{same_below}
-use Rattle.encoding_kernels.proofs.UnitLanesLemmas.{length-ends}
+use Rattle.encoding_kernels.proofs.VectorLemmas.{same_below}
+use Rattle.encoding_kernels.proofs.CodeUnitLemmas.{length-ends}
 use Rattle.encoding_definitions.proofs.PrefixesLemmas.{written_is}
 
 -- ---- one byte: no code unit ends with it, or one does

@@ -12,13 +12,12 @@ use Rattle.std.proofs.str.Laws.{two}
 use Rattle.std.specs.Simd.Lanes.{mask_l, top, zip2, sel_l}
 use mir.Syntax.{w8}
 use Rattle.encoding_kernels.specs.Scans.{HasLanes}
-use Rattle.encoding_kernels.specs.EncodeLanes.{EncodesTo, kept_places}
-use Rattle.encoding_kernels.proofs.AsciiLemmas.{Each-take}
+use Rattle.encoding_kernels.specs.KeptBytes.{EncodesTo, kept_places}
+use Rattle.encoding_kernels.proofs.ScanLemmas.{Each-take}
 use Rattle.encoding_kernels.proofs.CompressLemmas.{low_half, first_mask, high_half}
-use Rattle.encoding_kernels.proofs.LaneLemmas.{HasLanes-itself, HasLanes-splat, HasLanes-zip2, HasLanes_same, compared}
-use Rattle.encoding_kernels.proofs.TestLemmas.{chosen_by, tests_of}
-use Rattle.encoding_kernels.proofs.EncodeLanesLemmas.{ones-none, respell, spelled_short}
-use Rattle.encoding_kernels.proofs.WordLemmas.{bytes_of, bytes_lanes}
+use Rattle.encoding_kernels.proofs.VectorLemmas.{HasLanes-itself, HasLanes-splat, HasLanes-zip2, HasLanes_same, compared, bytes_of, bytes_lanes}
+use Rattle.encoding_kernels.proofs.MaskLemmas.{chosen_by, tests_of}
+use Rattle.encoding_kernels.proofs.UniformLemmas.{ones-none, respell, spelled_short}
 
 -- ---- one byte
 abbrev pub first_of : ℕ → ℕ

@@ -12,8 +12,8 @@ use Rattle.encoding_kernels.specs.Scans.{HasLanes}
 use mir.Val.{bool_byte}
 use Rattle.encoding_kernels.specs.Lengths.{sum_over_suffixes, one_if_at_least, continuations, continuations_by, extra_bytes, extra_bytes_by, goes_second, is_surrogate_pair, extra_bytes_by_few}
 use Rattle.encoding_definitions.specs.Utf16.{IsHighSurrogate, IsLowSurrogate}
-use Rattle.encoding_kernels.proofs.LaneLemmas.{HasLanes-itself, HasLanes_same, HasLanes-splat, HasLanes-zip2, compared}
-use Rattle.encoding_kernels.proofs.TestLemmas.{chosen, chosen_by, tests_and, tests_of}
+use Rattle.encoding_kernels.proofs.VectorLemmas.{HasLanes-itself, HasLanes_same, HasLanes-splat, HasLanes-zip2, compared}
+use Rattle.encoding_kernels.proofs.MaskLemmas.{chosen, chosen_by, tests_and, tests_of}
 use Rattle.encoding_kernels.proofs.SurrogatePairsLemmas.{high_test, low_test}
 use Rattle.encoding_kernels.proofs.PairsLemmas.{follows_test}
 use Rattle.encoding_definitions.proofs.Latin1Lemmas.{at_drop_start}

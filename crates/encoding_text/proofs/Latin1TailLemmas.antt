@@ -5,8 +5,8 @@ use Rattle.std.proofs.lemmas.List.{length-append, length-drop, length-take, leng
 use Rattle.std.proofs.lemmas.Simd.{get_or-chunk}
 use Rattle.encoding_definitions.specs.Latin1.{IsLatin1}
 use Rattle.encoding_definitions.specs.Prefixes.{WritesPrefix}
-use Rattle.encoding_kernels.specs.EncodeLanes.{all_latin1_ended}
-use Rattle.encoding_kernels.proofs.EndedLemmas.{NextIs, nexts, ended_all, ended_append}
+use Rattle.encoding_kernels.specs.KeptBytes.{all_latin1_ended}
+use Rattle.encoding_kernels.proofs.Latin1FromUtf8Lemmas.{NextIs, nexts, ended_all, ended_append}
 use Rattle.encoding_text.proofs.Latin1ConversionLemmas.{apart, last_block}
 
 abbrev last : List ℕ → ℕ
