@@ -2,16 +2,16 @@
 -- lower and upper bytes, and a lookup within each half of a vector of 32 bytes.
 use Rattle.std.proofs.Common.{◌≡◌, ℕ, zero, suc, ◌+◌, ◌-◌, ◌*◌, ◌%◌, ◌^◌, ◌<◌, ◌≤◌, Bool, true, false, ◌&&◌, cond, ltb, List, [], ◌∷◌, ◌++◌, map, length, take, get_or, replicate, bit_and, refl, sym, ap, ◌∙◌, arith, subst, w8, Fits, ◌/◌, leb, drop, bit_or, length-take-le, length-drop, get_or-take, get_or-drop, length-append, inl, inr}
 use Rattle.std.specs.List.{range_with_len}
-use Rattle.std.specs.Simd.Lanes.{zip2, pick_l, mask_l, top, Each1}
+use Rattle.std.specs.Simd.Lanes.{zip2, chunk, pick_l, mask_l, top, Each1}
 use Rattle.std.proofs.lemmas.Nat.{and_mask, one_shl}
 use Rattle.std.proofs.lemmas.List.{length-append, length-map, get_or-map, same_lists, get_or_append_left, get_or-append_right}
 use Rattle.std.proofs.lemmas.List.FromFn.{get_or-map-range_with_len, length-range_with_len, get_or-range_with_len}
 use Rattle.std.proofs.lemmas.Simd.{Each1-get_or, mask_l-mod, pick_l_left, pick_l_whole, swz_l, SwzOk, length-swz_l, get_or-swz_l_below, SwzOk-from_below, Each1-from_get_or}
 use lib.Dec.{T}
 use lib.Lanes.{all_below}
-use Rattle.encoding_kernels.specs.Scans.{HasLanes}
+use Rattle.encoding_kernels.specs.Scans.{BelowUpTo, HasLanes}
 use Rattle.encoding_kernels.specs.EndingUnits.{ends_unit, low_bits, unit_at, units_after, ends_after, unit_lane, upper_of}
-use Rattle.encoding_kernels.proofs.VectorLemmas.{HasLanes-splat, HasLanes-zip2, compared, same_below, wide, wide_l}
+use Rattle.encoding_kernels.proofs.VectorLemmas.{HasLanes-itself, HasLanes-splat, HasLanes-zip2, HasLanes_load, HasLanes_same, compared, same_below, wide, wide_l}
 use Rattle.encoding_kernels.proofs.CompressLemmas.{mask_prefix}
 use Rattle.std.specs.Int.Bits.{or_zero_r}
 use Rattle.std.proofs.lemmas.Bool.{cond-false, lt-leb, cases_lt}
@@ -37,6 +37,18 @@ HasLanes-after zs v n =
 pub after_below : (n : ℕ) (v : List ℕ) → 0 < n → ((k : ℕ) → k < 16 → get_or v k 0 < n) → (k : ℕ) → k < 16 → get_or (0 ∷ v) k 0 < n
 after_below n v h b zero l = h
 after_below n v h b (suc k) l = b k (omega arith)
+
+-- the same for a prefix of any length
+below_after : (b n : ℕ) (v : List ℕ) → 0 < b → BelowUpTo b v n → BelowUpTo b (0 ∷ v) (n + 1)
+below_after b n v some low zero l = some
+below_after b n v some low (suc k) l = low k (omega arith)
+
+-- the bytes three and two before an index
+pub shifted_below : (b n : ℕ) (v : List ℕ) → 0 < b → BelowUpTo b v n → (k : ℕ) → k < n
+    → (get_or (0 ∷ 0 ∷ 0 ∷ v) k 0 < b) × (get_or (0 ∷ 0 ∷ v) k 0 < b)
+shifted_below b n v some low k l =
+    let two = below_after b (n + 1) (0 ∷ v) some (below_after b n v some low) in
+    (below_after b (n + 1 + 1) (0 ∷ 0 ∷ v) some two k (omega arith), two k (omega arith))
 
 pub bytes_below : (v : List ℕ) → length v ≡ 16 → Each1 (Fits w8) v → (k : ℕ) → k < 16 → get_or v k 0 < 256
 bytes_below v long fit k l = (Each1-get_or (Fits w8) v k 0 (omega (arith, long)) fit).fits
@@ -68,7 +80,7 @@ both_tops true false = refl
 both_tops false true = refl
 both_tops false false = refl
 
-ends_at : (a : ℕ) (bs : List ℕ) (k : ℕ) (d : Bool) → k < length bs → get_or (ends_after a bs) k d ≡ ends_unit (get_or (a ∷ bs) k 0) (get_or bs k 0)
+pub ends_at : (a : ℕ) (bs : List ℕ) (k : ℕ) (d : Bool) → k < length bs → get_or (ends_after a bs) k d ≡ ends_unit (get_or (a ∷ bs) k 0) (get_or bs k 0)
 unfolding ends_after
 ends_at a [] k d l = absurd (omega arith)
 ends_at a (b ∷ bs) zero d l = refl
@@ -82,16 +94,29 @@ length-ends a (b ∷ bs) = ap suc (length-ends b bs)
 abbrev pub end_lanes : List ℕ → List ℕ → List ℕ
 end_lanes v one = zip2 bit_and (zip2 (compared w8 ltb) v (replicate 16 0xC0)) (zip2 (compared w8 ltb) one (replicate 16 0xE0))
 
-end_marks : (v one : List ℕ) → length v ≡ 16 → HasLanes 16 one (λ k. get_or (0 ∷ v) k 0) → map (top 7) (end_lanes v one) ≡ ends_after 0 v
-end_marks v one long h =
-    let V : HasLanes 16 v (λ k. get_or v k 0) = record { long = long; each = λ k l. refl } in
+end_marks_of : (v one : List ℕ) (f g : ℕ → ℕ) (marks : List Bool) → HasLanes 16 v f → HasLanes 16 one g → length marks ≡ 16
+    → ((k : ℕ) (d : Bool) → k < 16 → get_or marks k d ≡ ends_unit (g k) (f k)) → map (top 7) (end_lanes v one) ≡ marks
+end_marks_of v one f g marks V h long is =
     let lanes =
     HasLanes-zip2 bit_and (HasLanes-zip2 (compared w8 ltb) V (HasLanes-splat 16 0xC0)) (HasLanes-zip2 (compared w8 ltb) h (HasLanes-splat 16 0xE0)) in
     let size : length (map (top 7) (end_lanes v one)) ≡ 16 = length-map (end_lanes v one) (top 7) ∙ lanes.long in
-    same_lists (map (top 7) (end_lanes v one)) (ends_after 0 v) (size ∙ sym (length-ends 0 v ∙ long)) (λ k d l.
+    same_lists (map (top 7) (end_lanes v one)) marks (size ∙ sym long) (λ k d l.
     let in_16 : k < 16 = omega (arith, size) in
-    get_or-map (top 7) (end_lanes v one) k 0 d (omega (arith, lanes.long)) ∙ ap (top 7) (lanes.each k in_16) ∙ both_tops _ _
-    ∙ sym (ends_at 0 v k d (omega (arith, long))))
+    get_or-map (top 7) (end_lanes v one) k 0 d (omega (arith, lanes.long)) ∙ ap (top 7) (lanes.each k in_16) ∙ both_tops _ _ ∙ sym (is k d in_16))
+
+end_marks : (v one : List ℕ) → length v ≡ 16 → HasLanes 16 one (λ k. get_or (0 ∷ v) k 0) → map (top 7) (end_lanes v one) ≡ ends_after 0 v
+end_marks v one long h =
+    end_marks_of v one _ _ (ends_after 0 v) (HasLanes-itself 16 v long) h (length-ends 0 v ∙ long) (λ k d l. ends_at 0 v k d (omega (arith, long)))
+
+-- of a stride at an index
+pub stride_mask : (src one : List ℕ) (at : ℕ) → at + 16 ≤ length src → HasLanes 16 one (λ k. get_or (0 ∷ src) (at + k) 0)
+    → mask_l (map (top 7) (end_lanes (chunk at 16 src) one)) % 2 ^ 64 ≡ mask_l (take 16 (drop at (ends_after 0 src)))
+stride_mask src one at room h =
+    let ends = ends_after 0 src in
+    let long : length (take 16 (drop at ends)) ≡ 16 = length-take-le 16 (drop at ends) (omega (arith, length-drop at ends, length-ends 0 src)) in
+    let marks = end_marks_of (chunk at 16 src) one _ _ (take 16 (drop at ends)) (HasLanes_load at 16 src room) h long (λ k d l.
+    get_or-take 16 (drop at ends) k d l ∙ get_or-drop at ends k d ∙ ends_at 0 src (at + k) d (omega arith)) in
+    ap (λ ms. mask_l ms % 2 ^ 64) marks ∙ mask_l-mod (take 16 (drop at ends)) 64 (omega (arith, long))
 
 pub ends_mask : (v one : List ℕ) (end : ℕ) → length v ≡ 16 → HasLanes 16 one (λ k. get_or (0 ∷ v) k 0) → end ≤ 16
     → bit_and (mask_l (map (top 7) (end_lanes v one)) % 2 ^ 64) (1 * 2 ^ end % 2 ^ 64 - 1) ≡ mask_l (take end (ends_after 0 v) ++ replicate (16 - end) false)
@@ -124,7 +149,7 @@ lower_bits_lane a b = let six : bit_and b 0x3F ≡ b % 64 = and_mask b 6 in ap (
 pub high_bits_lane : (a b : ℕ) → (a * 2 ^ 2 % 2 ^ 8 + bit_and (b / 2 ^ 4) 3) % 2 ^ 8 ≡ low_bits a b / 0x10
 high_bits_lane a b = let two : bit_and (b / 2 ^ 4) 3 ≡ b / 16 % 4 = and_mask (b / 2 ^ 4) 2 in ap (λ n. (a * 2 ^ 2 % 2 ^ 8 + n) % 2 ^ 8) two ∙ omega arith
 
-pub upper_bits_lane : (y a : ℕ) → (cond (leb 0xE0 y) (y * 2 ^ 4 % 2 ^ 8) 0 + bit_and (a / 2 ^ 2) 0x0F) % 2 ^ 8 ≡ upper_of y a
+pub upper_bits_lane : (y a : ℕ) → ((y - 0xE0) * 2 ^ 4 % 2 ^ 8 + bit_and (a / 2 ^ 2) 0x0F) % 2 ^ 8 ≡ upper_of y a
 upper_bits_lane y a =
     let four : bit_and (a / 2 ^ 2) 0x0F ≡ a / 4 % 16 = and_mask (a / 2 ^ 2) 4 in
     grind (arith, nat_tests, four)
@@ -198,15 +223,19 @@ module _ (lower upper : List ℕ) (p : length lower ≡ 16) (e : Each1 (Fits w8)
       }
 
 -- ---- both halves
-pub halves : (v lower upper first last : List ℕ) → length v ≡ 16 → HasLanes 16 lower (λ k. unit_lane v k % 0x100)
-    → HasLanes 16 upper (λ k. unit_lane v k / 0x100)
-    → HasLanes 8 first (λ k. get_or lower k 0 + 0x100 * get_or upper k 0) → HasLanes 8 last (λ k. get_or lower (8 + k) 0 + 0x100 * get_or upper (8 + k) 0)
+-- a byte and its index in a pair make the unit
+pub parts : (u : ℕ) → u % 0x100 + 0x100 * (u / 0x100) ≡ u
+parts u = omega arith
+
+pub both_halves : (v first last : List ℕ) → length v ≡ 16 → HasLanes 8 first (λ k. unit_lane v k) → HasLanes 8 last (λ k. unit_lane v (8 + k))
     → (first ≡ take 8 (units_after 0 0 0 v)) × (last ≡ drop 8 (units_after 0 0 0 v))
-halves v lower upper first last long low high h g = (
+both_halves v first last long h g = (
   same_number_lists first (take 8 us) (omega (arith, h.long, length-take-le 8 us (omega (arith, size)))) (λ k l.
-      let in_8 : k < 8 = omega (arith, h.long) in h.each k in_8 ∙ whole k (omega arith) ∙ sym (get_or-take 8 us k 0 in_8)),
+      let in_8 : k < 8 = omega (arith, h.long) in
+      h.each k in_8 ∙ sym (units_at 0 0 0 v k (omega (arith, long))) ∙ sym (get_or-take 8 us k 0 in_8)),
   same_number_lists last (drop 8 us) (omega (arith, g.long, length-drop 8 us, size)) (λ k l.
-      let in_8 : k < 8 = omega (arith, g.long) in g.each k in_8 ∙ whole (8 + k) (omega arith) ∙ sym (get_or-drop 8 us k 0)),
+      let in_8 : k < 8 = omega (arith, g.long) in
+      g.each k in_8 ∙ sym (units_at 0 0 0 v (8 + k) (omega (arith, long))) ∙ sym (get_or-drop 8 us k 0)),
 )
   where
     us : List ℕ
@@ -215,11 +244,31 @@ halves v lower upper first last long low high h g = (
     size : length us ≡ 16
     size = length-units 0 0 0 v ∙ long
 
-    whole : (k : ℕ) → k < 16 → get_or lower k 0 + 0x100 * get_or upper k 0 ≡ get_or us k 0
-    whole k l = (λ i. low.each k l i + 0x100 * high.each k l i) ∙ parts (unit_lane v k) ∙ sym (units_at 0 0 0 v k (omega (arith, long)))
-      where
-        parts : (u : ℕ) → u % 0x100 + 0x100 * (u / 0x100) ≡ u
-        parts u = omega arith
+-- a stride of the units of a text
+module _ (src : List ℕ) where
+  abbrev before : ℕ → ℕ → ℕ
+  before n b = unit_at (get_or (0 ∷ 0 ∷ 0 ∷ src) n 0) (get_or (0 ∷ 0 ∷ src) n 0) (get_or (0 ∷ src) n 0) b
+
+  stride_units : (part : List ℕ) (at : ℕ) → at + 8 ≤ length src → HasLanes 8 part (λ k. unit_lane src (at + k))
+      → part ≡ take 8 (drop at (units_after 0 0 0 src))
+  stride_units part at room h =
+      let us = units_after 0 0 0 src in
+      let long : length (take 8 (drop at us)) ≡ 8 = length-take-le 8 (drop at us) (omega (arith, length-drop at us, length-units 0 0 0 src)) in
+      same_number_lists part (take 8 (drop at us)) (omega (arith, h.long, long)) (λ k l.
+      let in_8 : k < 8 = omega (arith, h.long) in
+      h.each k in_8 ∙ sym (get_or-take 8 (drop at us) k 0 in_8 ∙ get_or-drop at us k 0 ∙ units_at 0 0 0 src (at + k) (omega arith)))
+
+  pub stride_halves : (first last : List ℕ) (at : ℕ) → at + 16 ≤ length src
+      → HasLanes 8 first (λ k. before (at + k) (get_or (chunk at 16 src) k 0))
+      × HasLanes 8 last (λ k. before (at + (8 + k)) (get_or (chunk at 16 src) (8 + k) 0))
+      → (first ≡ take 8 (drop at (units_after 0 0 0 src))) × (last ≡ take 8 (drop (at + 8) (units_after 0 0 0 src)))
+  stride_halves first last at room units =
+      let block = HasLanes_load at 16 src room in (
+        stride_units first at (omega arith) (HasLanes_same units.0 (λ k l. ap (before (at + k)) (block.each k (omega arith)))),
+        stride_units last (at + 8) (omega arith) (HasLanes_same units.1 (λ k l.
+            let place : at + (8 + k) ≡ at + 8 + k = omega arith in
+            ap (before (at + (8 + k))) (block.each (8 + k) (omega arith)) ∙ ap (unit_lane src) place)),
+      )
 
 module _ (bytes first second : List ℕ) (p : length first ≡ 16) (q : length second ≡ 16) (small : (k : ℕ) → k < 16
     → (get_or first k 0 < 16) × (get_or second k 0 < 16)) where

@@ -17,20 +17,19 @@ use Rattle.encoding_kernels.proofs.MaskLemmas.{chosen_by, tests_of}
 use Rattle.encoding_kernels.specs.EndingUnits.{keep, places_from, compressed_places, bytes_at, byte_places, WritesCompressed}
 
 -- ---- the table
--- the bytes made of a word
-abbrev pub word_bytes : ℕ → List ℕ
-word_bytes word = digits_l 256 16
-    (number_l 65536
-    (zip2 (λ a b. (a + b) % 2 ^ 16) (zip2 (λ a b. a * b % 2 ^ 16) (map (λ x. x) (digits_l 256 8 (number_l (2 ^ 64) (word ∷ [])))) (replicate 8 0x0202))
-    (replicate 8 0x0100)))
+-- the sixteen indices of a mask
+abbrev row_bytes : ℕ → ℕ → List ℕ
+row_bytes first second = digits_l 256 16 (number_l (2 ^ 64) (first ∷ second ∷ []))
 
--- all 256 words
-computed : map (λ k. word_bytes (get_or COMPRESSED k 0)) (range_with_len 0 256) ≡ map byte_places (range_with_len 0 256)
+-- all 256 rows
+computed : map (λ k. row_bytes (get_or COMPRESSED (2 * k) 0) (get_or COMPRESSED (2 * k + 1) 0)) (range_with_len 0 256) ≡ map byte_places (range_with_len 0 256)
 unfolding byte_places bytes_at compressed_places places_from
 computed = refl
 
-pub word_bytes_is : (m : ℕ) → m < 256 → word_bytes (get_or COMPRESSED m 0) ≡ byte_places m
-word_bytes_is = same_below (λ k. word_bytes (get_or COMPRESSED k 0)) byte_places [] 256 computed
+pub row_is : (m first second : ℕ) → m < 256 → first ≡ get_or COMPRESSED (2 * m) 0 → second ≡ get_or COMPRESSED (2 * m + 1) 0
+    → row_bytes first second ≡ byte_places m
+row_is m first second l p q =
+    (λ i. row_bytes (p i) (q i)) ∙ same_below (λ k. row_bytes (get_or COMPRESSED (2 * k) 0) (get_or COMPRESSED (2 * k + 1) 0)) byte_places [] 256 computed m l
 
 abbrev up_to : ℕ → List ℕ → Bool
 up_to n [] = true
@@ -196,7 +195,7 @@ length-keep [] us e = omega (arith, ones_le_self 0)
 length-keep (m ∷ ms) [] e = absurd (omega arith)
 length-keep (m ∷ ms) (u ∷ us) e = let rest = length-keep ms us (omega arith) in grind (arith, nat_tests, rest, ones-mask_l_cons m ms)
 
-length-keep-le : (ms : List Bool) (us : List ℕ) → length (keep ms us) ≤ length ms
+pub length-keep-le : (ms : List Bool) (us : List ℕ) → length (keep ms us) ≤ length ms
 unfolding keep
 length-keep-le [] us = omega arith
 length-keep-le (m ∷ ms) [] = omega arith

@@ -4,6 +4,7 @@ pub mod CompressLemmas
 pub mod CompressTableLemmas
 pub mod CopyLemmas
 pub mod CountLemmas
+pub mod GroupLemmas
 pub mod Latin1FromUtf8Lemmas
 pub mod Latin1ToUtf8Lemmas
 pub mod LengthLemmas

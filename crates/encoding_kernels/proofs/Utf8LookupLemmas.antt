@@ -190,7 +190,7 @@ greater xs ys = sel_l (map (top 7) (zip2 (compared w8 ltb) xs ys)) ys xs
 wrapping_less_is : (a b : ℕ) → a < 256 → b < 256 → wrapping_less (cond (ltb a b) b a) b ≡ a - b
 wrapping_less_is a b l k = grind (arith, nat_tests)
 
-difference : (n : ℕ) (xs : List ℕ) (y : ℕ) → IsLanes n xs → y < 256
+pub difference : (n : ℕ) (xs : List ℕ) (y : ℕ) → IsLanes n xs → y < 256
     → HasLanes n (zip2 wrapping_less (greater xs (replicate n y)) (replicate n y)) (λ k. get_or xs k 0 - y)
 difference n xs y is small =
     let X = HasLanes-itself n xs is.0 in

@@ -11,7 +11,7 @@ use Rattle.std.proofs.lemmas.Bool.{cond-true, cond-false, cases_lt, lt-leb, le-l
 use Rattle.std.proofs.lemmas.Bool.Decides.{nat_tests}
 use Rattle.std.proofs.lemmas.Grind.{same_number_lists}
 use Rattle.std.proofs.lemmas.Simd.{length-replicate, mask_l-lt, put_chunk_is}
-use Rattle.std.proofs.lemmas.List.{length-append, length-drop, length-take, length-take-le, take-append-drop, take_at, take-take, drop_at, drop-drop, get_or-drop, get_or-take, take-append-le}
+use Rattle.std.proofs.lemmas.List.{length-append, length-drop, length-take-le, take-append-drop, take_at, take-take, drop_at, drop-drop, get_or-drop, get_or-take}
 use Rattle.std.proofs.lemmas.Str.{IsUtf8-take, IsUtf8-drop, IsUtf8-from_ascii, IsCharBoundary-after_ascii, IsCharBoundary-start, encodes-IsAscii, encodes_same, chars-IsAscii}
 use Rattle.encoding_definitions.specs.Prefixes.{WritesPrefix}
 use Rattle.encoding_kernels.specs.Scans.{HasLanes}
@@ -344,26 +344,14 @@ triples (suc n) src u b =
     values c cs first more zero l = first
     values c cs first more (suc k) l = more k (omega arith)
 
-abbrev pub triple_lanes : List ℕ → ℕ → ℕ
-triple_lanes v k = triple_unit (get_or v (get_or (0 ∷ 3 ∷ 6 ∷ 9 ∷ 12 ∷ 12 ∷ 12 ∷ 12 ∷ []) k 0) 0)
-    (get_or v (get_or (1 ∷ 4 ∷ 7 ∷ 10 ∷ 13 ∷ 13 ∷ 13 ∷ 13 ∷ []) k 0) 0) (get_or v (get_or (2 ∷ 5 ∷ 8 ∷ 11 ∷ 14 ∷ 14 ∷ 14 ∷ 14 ∷ []) k 0) 0)
-
--- of five characters in a block
-lanes_in : (v : List ℕ) (k : ℕ) → k < 5 → triple_lanes v k ≡ triple_unit (get_or v (3 * k) 0) (get_or v (3 * k + 1) 0) (get_or v (3 * k + 2) 0)
-lanes_in v = same_below (triple_lanes v) (λ k. triple_unit (get_or v (3 * k) 0) (get_or v (3 * k + 1) 0) (get_or v (3 * k + 2) 0)) 0 5 refl
-
-pub puts_triples : (src old r : List ℕ) → IsUtf8 src → 16 ≤ length src → 8 ≤ length old → ((k : ℕ) → k < 5 → BeginsThree (get_or src (3 * k) 0))
-    → HasLanes 8 r (triple_lanes (take 16 src))
-    → WritesUtf16 src old (put_chunk 0 old r) 15 5 8
-puts_triples src old r u long room b h =
-    let t = triples 5 src u b in
+pub puts_triples : (src old r : List ℕ) → IsUtf8 src → 8 ≤ length old → ((k : ℕ) → k < 8 → BeginsThree (get_or src (3 * k) 0))
+    → HasLanes 8 r (λ k. triple_unit (get_or src (3 * k) 0) (get_or src (3 * k + 1) 0) (get_or src (3 * k + 2) 0))
+    → WritesUtf16 src old (put_chunk 0 old r) 24 8 8
+puts_triples src old r u room b h =
+    let t = triples 8 src u b in
     let put : put_chunk 0 old r ≡ r ++ drop 8 old = put_chunk_is 0 old r (omega (arith, h.long, room)) ∙ ap (λ n. r ++ drop n old) h.long in
-    let in_block = λ (k : ℕ) (l : k < 16). get_or-take 16 src k 0 l in
-    let prefix : take 5 r ≡ t.scalars_of = same_number_lists (take 5 r) t.scalars_of (omega (arith, length-take 5 r, h.long, t.long)) (λ k l.
-    let in_five : k < 5 = omega (arith, length-take 5 r) in
-    get_or-take 5 r k 0 in_five ∙ h.each k (omega arith) ∙ lanes_in (take 16 src) k in_five
-    ∙ (λ i. triple_unit (in_block (3 * k) (omega arith) i) (in_block (3 * k + 1) (omega arith) i) (in_block (3 * k + 2) (omega arith) i))
-    ∙ sym (t.values k in_five)) in
+    let same : r ≡ t.scalars_of = same_number_lists r t.scalars_of (omega (arith, h.long, t.long)) (λ k l.
+    let in_eight : k < 8 = omega (arith, h.long) in h.each k in_eight ∙ sym (t.values k in_eight)) in
     record {
       taken = t.scalars_of;
       are_scalars = t.are_scalars;
@@ -371,6 +359,6 @@ puts_triples src old r u long room b h =
       spelled = t.spelled;
       rest = t.rest;
       counted = sym (ap length t.units ∙ t.long);
-      placed = ap (take 5) put ∙ take-append-le 5 r (drop 8 old) (omega (arith, h.long)) ∙ prefix ∙ sym t.units;
+      placed = ap (take 8) put ∙ take_at r (drop 8 old) 8 h.long ∙ same ∙ sym t.units;
       following = ap (drop 8) put ∙ drop_at r (drop 8 old) 8 h.long;
     }

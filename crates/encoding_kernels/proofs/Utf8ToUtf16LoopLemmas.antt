@@ -144,10 +144,6 @@ pub due_ascii : (src old new : List ℕ) (n : ℕ) → IsUtf8 src → n ≤ leng
     → WritesUtf16 src old new n n (units_in src)
 due_ascii src old new n u within ascii w = due_exact src old new n n u (puts_ascii src old new n u within ascii w)
 
--- five characters of three bytes and nine more bytes have at least eight units
-pub due_triples : (src old new : List ℕ) → IsUtf8 src → 24 ≤ length src → WritesUtf16 src old new 15 5 8 → WritesUtf16 src old new 15 5 (units_in src)
-due_triples src old new u l p = due_block src old new 15 5 5 u (omega arith) p
-
 -- ---- the progress of a loop
 pub record Putting (src old new : List ℕ) (read written : ℕ) : Type 0 where
   pub done : List ℕ
@@ -271,6 +267,11 @@ putting_some d = record {
   placed = d.placed;
   following = d.following;
 }
+
+-- what was stored before is overwritten, up to the units of the text
+pub puts_again : {src old between new : List ℕ} {m j n k : ℕ} → WritesUtf16 src old between m j (units_in src)
+    → WritesUtf16 src between new n k (units_in src) → WritesUtf16 src old new n k (units_in src)
+puts_again first p = moved p refl (p.following ∙ first.following)
 
 -- the whole text
 pub puts_text : (src old new : List ℕ) (k : ℕ) → IsUtf8 src → WritesPrefix old new k (flat_map encode_utf16 (chars src))

@@ -1,5 +1,5 @@
 -- The code units of well-formed UTF-8 by its bytes: with which bytes a code unit ends, and which unit that is.
-use Rattle.std.specs.Prelude.{◌≡◌, ℕ, zero, suc, ◌+◌, ◌*◌, ◌/◌, ◌%◌, ◌<◌, ◌≤◌, Bool, true, ◌&&◌, if◌then◌else◌, nat_lt, nat_le, ◌==◌, List, [], ◌∷◌, ◌++◌, length, take, drop, replicate, slice_index, bit_or, encode_utf8_all}
+use Rattle.std.specs.Prelude.{◌≡◌, ℕ, zero, suc, false, ◌+◌, ◌*◌, ◌/◌, ◌%◌, ◌<◌, ◌≤◌, Bool, true, ◌&&◌, if◌then◌else◌, nat_lt, nat_le, ◌==◌, List, [], ◌∷◌, ◌++◌, length, take, drop, replicate, slice_index, bit_or, encode_utf8_all}
 use Rattle.std.specs.Str.{all_scalars, IsUtf8, chars}
 use Rattle.std.specs.Char.Escape.{encode_utf16}
 use Rattle.std.specs.List.{flat_map}
@@ -67,6 +67,19 @@ units_after x y a (b ∷ bs) = unit_at x y a b ∷ units_after y a b bs
 unfoldable pub ends_after : ℕ → List ℕ → List Bool
 ends_after a [] = []
 ends_after a (b ∷ bs) = ends_unit a b ∷ ends_after b bs
+
+-- none ends with a byte in `from..to`
+abbrev pub NoUnitEnds : List ℕ → ℕ → ℕ → Type 0
+NoUnitEnds src from to = (k : ℕ) → from ≤ k → k < to → ends_unit (slice_index (0 ∷ src) k) (slice_index src k) ≡ false
+
+-- The code units that end with the first `read` bytes are at the start of the destination. Of the rest of it only the
+-- eight after them may have changed.
+pub record StoresUnits (src old new : List ℕ) (read written : ℕ) : Type 0 where
+  pub placed : take written new ≡ keep (take read (ends_after 0 src)) (take read (units_after 0 0 0 src))
+  pub counted : written ≡ length (keep (take read (ends_after 0 src)) (take read (units_after 0 0 0 src)))
+  pub few : written ≤ read
+  pub same_length : length new ≡ length old
+  pub following : drop (written + 8) new ≡ drop (written + 8) old
 
 -- if a character begins with the byte, it has three bytes
 abbrev pub BeginsThree : ℕ → Type 0

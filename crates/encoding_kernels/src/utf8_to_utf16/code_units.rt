@@ -2,13 +2,13 @@
 //! in one vector and the upper in another, which are then joined. The lanes that are kept move to the start of the vector:
 //! their indices are looked up by a mask.
 
-ghost use Rattle.std.specs.Prelude.{◌≡◌, ℕ, ◌+◌, ◌-◌, ◌*◌, ◌/◌, ◌%◌, ◌<◌, ◌≤◌, [], ◌∷◌, Bool, false, List, ◌++◌, take, drop, replicate, slice_index, IsTrue, map};
+ghost use Rattle.std.specs.Prelude.{◌≡◌, ℕ, ◌+◌, ◌-◌, ◌*◌, ◌/◌, ◌%◌, ◌^◌, ◌<◌, ◌≤◌, ◌∷◌, Bool, false, List, ◌++◌, length, take, drop, replicate, slice_index, IsTrue, map};
+ghost use Rattle.std.specs.Int.RustNames.{count_ones};
 ghost use Rattle.std.specs.Simd.Lanes.{mask_l};
-ghost use Rattle.encoding_kernels.specs.Scans.{HasLanes};
-ghost use Rattle.encoding_kernels.specs.EndingUnits.{ends_after, low_bits, triple_unit, unit_lane, units_after, upper_of, compressed_places, byte_places};
+ghost use Rattle.encoding_kernels.specs.Scans.{BelowUpTo, HasLanes};
+ghost use Rattle.encoding_kernels.specs.EndingUnits.{ends_after, low_bits, unit_at, unit_lane, units_after, upper_of, compressed_places, byte_places, WritesCompressed};
 
 use crate::simd::copy::{one_before, three_before, two_before};
-use std::simd::Simd;
 use std::simd::prelude::*;
 
 /// Returns whether each byte is below the bound.
@@ -21,24 +21,21 @@ fn is_below(block: u8x16, bound: u8) -> bool
 
 /// Returns the last eight of the twelve bits that each byte and the one before it hold, six each.
 #[inline(always)]
-fn lower_bits(block: u8x16) -> u8x16
-    ensures { HasLanes 16 result
-        (λ k. low_bits (slice_index (0 ∷ block) k) (slice_index block k) % 0x100) }
+fn lower_bits(one: u8x16, block: u8x16) -> u8x16
+    ensures { (f : ℕ → ℕ) → HasLanes 16 one f
+        → HasLanes 16 result (λ k. low_bits (f k) (slice_index block k) % 0x100) }
 {
-    (one_before(block) << u8x16::splat(6)) + (block & u8x16::splat(0x3F))
+    (one << u8x16::splat(6)) + (block & u8x16::splat(0x3F))
 }
 
-/// Returns the four bits above those, and above these the four of a byte that begins three and is two lanes before.
+/// Returns the four bits above those, and above these the four of a byte that begins three and is two before.
 #[inline(always)]
-fn upper_bits(block: u8x16) -> u8x16
-    ensures { HasLanes 16 result
-        (λ k. upper_of (slice_index (0 ∷ 0 ∷ block) k) (slice_index (0 ∷ block) k)) }
+fn upper_bits(two: u8x16, one: u8x16) -> u8x16
+    ensures { (f g : ℕ → ℕ) → HasLanes 16 two f → HasLanes 16 one g
+        → HasLanes 16 result (λ k. upper_of (f k) (g k)) }
 {
-    let two = two_before(block);
-    let above = two
-        .simd_ge(u8x16::splat(0xE0))
-        .select(two << u8x16::splat(4), u8x16::splat(0));
-    above + ((one_before(block) >> u8x16::splat(2)) & u8x16::splat(0x0F))
+    let above = two.saturating_sub(u8x16::splat(0xE0)) << u8x16::splat(4);
+    above + ((one >> u8x16::splat(2)) & u8x16::splat(0x0F))
 }
 
 /// Joins a lower and an upper byte for each lane, and returns the first eight and the last eight.
@@ -59,59 +56,115 @@ pub(crate) fn join_bytes(lower: u8x16, upper: u8x16) -> (u16x8, u16x8)
     (u16x8::from_le_bytes(first), u16x8::from_le_bytes(last))
 }
 
-/// Returns the code unit that ends with each byte, if no character has four bytes.
+/// Returns the code unit that ends with each byte, if no character has four bytes, given the bytes one and two before
+/// each: the first eight, and the last eight.
 #[inline(always)]
-fn short_units(block: u8x16) -> (u16x8, u16x8)
-    requires { (k : ℕ) → k < 16 → slice_index block k < 0xF0 }
-    ensures { (result.0 ≡ take 8 (units_after 0 0 0 block))
-        × (result.1 ≡ drop 8 (units_after 0 0 0 block)) }
+fn short_units(two: u8x16, one: u8x16, block: u8x16) -> (u16x8, u16x8)
+    ensures { (x y a : ℕ → ℕ) → HasLanes 16 two y → HasLanes 16 one a
+        → ((k : ℕ) → k < 16 → (x k < 0xF0) × (y k < 0xF0))
+        → HasLanes 8 result.0 (λ k. unit_at (x k) (y k) (a k) (slice_index block k))
+        × HasLanes 8 result.1
+        (λ k. unit_at (x (8 + k)) (y (8 + k)) (a (8 + k)) (slice_index block (8 + k))) }
 {
     let is_ascii = block.simd_lt(u8x16::splat(0x80));
-    let lower = is_ascii.select(block, lower_bits(block));
-    let upper = is_ascii.select(u8x16::splat(0), upper_bits(block));
+    let lower = is_ascii.select(block, lower_bits(one, block));
+    let upper = is_ascii.select(u8x16::splat(0), upper_bits(two, one));
     join_bytes(lower, upper)
 }
 
 /// Returns the last eight of the ten bits of a high surrogate that each byte ends, without what is added to them.
 #[inline(always)]
-fn high_bits(block: u8x16) -> u8x16
-    ensures { HasLanes 16 result
-        (λ k. low_bits (slice_index (0 ∷ block) k) (slice_index block k) / 0x10) }
+fn high_bits(one: u8x16, block: u8x16) -> u8x16
+    ensures { (f : ℕ → ℕ) → HasLanes 16 one f
+        → HasLanes 16 result (λ k. low_bits (f k) (slice_index block k) / 0x10) }
 {
-    (one_before(block) << u8x16::splat(2)) + ((block >> u8x16::splat(4)) & u8x16::splat(3))
+    (one << u8x16::splat(2)) + ((block >> u8x16::splat(4)) & u8x16::splat(3))
 }
 
-/// Returns the lower byte of the code unit that ends with each byte.
+/// Returns the lower byte of the code unit that ends with each byte, given the bytes one and two before each.
 #[inline(always)]
-fn lower_bytes(block: u8x16) -> u8x16
-    ensures { HasLanes 16 result (λ k. unit_lane block k % 0x100) }
+fn lower_bytes(two: u8x16, one: u8x16, block: u8x16) -> u8x16
+    ensures { (x y a : ℕ → ℕ) → HasLanes 16 two y → HasLanes 16 one a
+        → HasLanes 16 result (λ k. unit_at (x k) (y k) (a k) (slice_index block k) % 0x100) }
 {
-    let high = high_bits(block) + u8x16::splat(0xC0);
-    let longer = two_before(block)
+    let high = high_bits(one, block) + u8x16::splat(0xC0);
+    let longer = two
         .simd_ge(u8x16::splat(0xF0))
-        .select(high, lower_bits(block));
+        .select(high, lower_bits(one, block));
     block.simd_lt(u8x16::splat(0x80)).select(block, longer)
 }
 
-/// Returns the upper byte of the code unit that ends with each byte.
+/// Returns the upper byte of the code unit that ends with each byte, given the bytes one, two and three before each.
 #[inline(always)]
-fn upper_bytes(block: u8x16) -> u8x16
-    ensures { HasLanes 16 result (λ k. unit_lane block k / 0x100) }
+fn upper_bytes(three: u8x16, two: u8x16, one: u8x16, block: u8x16) -> u8x16
+    ensures { (x y a : ℕ → ℕ) → HasLanes 16 three x → HasLanes 16 two y → HasLanes 16 one a
+        → HasLanes 16 result (λ k. unit_at (x k) (y k) (a k) (slice_index block k) / 0x100) }
 {
-    let two = two_before(block);
-    let high = high_bits(block)
+    let high = high_bits(one, block)
         .simd_ge(u8x16::splat(0x40))
         .select(u8x16::splat(0xD8), u8x16::splat(0xD7))
         + (two & u8x16::splat(7));
-    let low = three_before(block)
+    let low = three
         .simd_ge(u8x16::splat(0xF0))
         .select(u8x16::splat(0xDC), u8x16::splat(0));
     let longer = two
         .simd_ge(u8x16::splat(0xF0))
-        .select(high, upper_bits(block) | low);
+        .select(high, upper_bits(two, one) | low);
     block
         .simd_lt(u8x16::splat(0x80))
         .select(u8x16::splat(0), longer)
+}
+
+/// Returns the code unit that ends with each byte, given the bytes one, two and three before each: the first eight, and
+/// the last eight.
+#[inline(always)]
+fn any_units(three: u8x16, two: u8x16, one: u8x16, block: u8x16) -> (u16x8, u16x8)
+    ensures { (x y a : ℕ → ℕ) → HasLanes 16 three x → HasLanes 16 two y → HasLanes 16 one a
+        → HasLanes 8 result.0 (λ k. unit_at (x k) (y k) (a k) (slice_index block k))
+        × HasLanes 8 result.1
+        (λ k. unit_at (x (8 + k)) (y (8 + k)) (a (8 + k)) (slice_index block (8 + k))) }
+{
+    join_bytes(
+        lower_bytes(two, one, block),
+        upper_bytes(three, two, one, block),
+    )
+}
+
+/// Returns the code unit that ends with each of the sixteen bytes from `at` on, if no character has more than N bytes,
+/// given the bytes one, two and three before each.
+#[inline(always)]
+pub(super) fn units_of_stride<const N: usize>(
+    src: &[u8],
+    at: usize,
+    three: u8x16,
+    two: u8x16,
+    one: u8x16,
+) -> (u16x8, u16x8)
+    requires within { at + 16 ≤ length src.now }
+    requires three_before { HasLanes 16 three (λ k. slice_index (0 ∷ 0 ∷ 0 ∷ src.now) (at + k)) }
+    requires two_before { HasLanes 16 two (λ k. slice_index (0 ∷ 0 ∷ src.now) (at + k)) }
+    requires one_before { HasLanes 16 one (λ k. slice_index (0 ∷ src.now) (at + k)) }
+    requires short { N < 4 → BelowUpTo 0xF0 src.now (at + 16) }
+    ensures { (result.0 ≡ take 8 (drop at (units_after 0 0 0 src.now)))
+        × (result.1 ≡ take 8 (drop (at + 8) (units_after 0 0 0 src.now))) }
+{
+    let block = u8x16::from_slice(&src[at..]);
+    if N < 4 {
+        return short_units(two, one, block);
+    }
+    any_units(three, two, one, block)
+}
+
+/// Returns a bit for each of the sixteen bytes from `at` on that ends a code unit, given the byte before each.
+#[inline(always)]
+pub(super) fn ends_of_stride(src: &[u8], at: usize, one: u8x16) -> usize
+    requires within { at + 16 ≤ length src.now }
+    requires one_before { HasLanes 16 one (λ k. slice_index (0 ∷ src.now) (at + k)) }
+    ensures { result ≡ mask_l (take 16 (drop at (ends_after 0 src.now))) }
+{
+    let block = u8x16::from_slice(&src[at..]);
+    let ends = block.simd_lt(u8x16::splat(0xC0)) & one.simd_lt(u8x16::splat(0xE0));
+    ends.to_bitmask() as usize
 }
 
 /// Returns the code unit that ends with each byte: the first eight, and the last eight.
@@ -120,10 +173,11 @@ pub(crate) fn code_units(block: u8x16) -> (u16x8, u16x8)
     ensures { (result.0 ≡ take 8 (units_after 0 0 0 block))
         × (result.1 ≡ drop 8 (units_after 0 0 0 block)) }
 {
+    let (two, one) = (two_before(block), one_before(block));
     if is_below(block, 0xF0) {
-        return short_units(block);
+        return short_units(two, one, block);
     }
-    join_bytes(lower_bytes(block), upper_bytes(block))
+    any_units(three_before(block), two, one, block)
 }
 
 /// Returns a bit for each of the first `end` bytes that ends a code unit.
@@ -136,50 +190,50 @@ pub(crate) fn unit_ends(block: u8x16, end: usize) -> usize
     ends.to_bitmask() as usize & ((1 << end) - 1)
 }
 
-/// Returns the code units of five characters of three bytes, and three more lanes.
-#[inline(always)]
-pub(crate) fn triple_units(block: u8x16) -> u16x8
-    ensures { HasLanes 8 result (λ k. triple_unit
-        (slice_index block (slice_index (0 ∷ 3 ∷ 6 ∷ 9 ∷ 12 ∷ 12 ∷ 12 ∷ 12 ∷ []) k))
-        (slice_index block (slice_index (1 ∷ 4 ∷ 7 ∷ 10 ∷ 13 ∷ 13 ∷ 13 ∷ 13 ∷ []) k))
-        (slice_index block (slice_index (2 ∷ 5 ∷ 8 ∷ 11 ∷ 14 ∷ 14 ∷ 14 ∷ 14 ∷ []) k))) }
-{
-    let six = u16x8::splat(0x3F);
-    let first = block
-        .swizzle::<8>([0, 3, 6, 9, 12, 12, 12, 12])
-        .cast::<u16>();
-    let second = block
-        .swizzle::<8>([1, 4, 7, 10, 13, 13, 13, 13])
-        .cast::<u16>();
-    let third = block
-        .swizzle::<8>([2, 5, 8, 11, 14, 14, 14, 14])
-        .cast::<u16>();
-    first * u16x8::splat(0x1000) + ((second & six) * u16x8::splat(64) + (third & six))
-}
+/// The indices of the lanes of a vector.
+const LANES: [u16; 8] = [0, 1, 2, 3, 4, 5, 6, 7];
 
 /// Builds the table lane by lane, last lane first. Each row of later kept lanes yields two: the row itself, and the
-/// lane followed by it.
+/// indices of the lane's two bytes followed by it. A row has two words.
 macro_rules! rows {
-    ([] $($row:expr),*) => { [$($row),*] };
+    ([] $($row:expr),*) => {
+        [$(
+            ($row & 0xFFFF_FFFF_FFFF_FFFF) as u64,
+            ($row >> 64) as u64
+        ),*]
+    };
     ([$last:literal $($before:literal)*] $($row:expr),*) => {
-        rows!([$($before)*] $($row, $row << 8 | $last),*)
+        rows!([$($before)*] $(
+            $row,
+            ($row & 0xFFFF_FFFF_FFFF_FFFF_FFFF_FFFF_FFFF) << 16 | $last
+        ),*)
     };
 }
 
-/// For each mask of eight lanes, the indices of those that are kept, the first in the lowest byte. Zeros follow.
-const COMPRESSED: [u64; 256] = rows!([7 6 5 4 3 2 1 0] 0);
+/// For each mask of eight lanes, the indices of the two bytes of each lane that is kept, in order. Those of the first lane
+/// follow.
+const COMPRESSED: [u64; 512] = rows!(
+    [0x0F0Eu128 0x0D0Cu128 0x0B0Au128 0x0908u128 0x0706u128 0x0504u128 0x0302u128 0x0100u128]
+    0x0100_0100_0100_0100_0100_0100_0100_0100u128
+);
+
+/// Returns a word of the table.
+#[inline(always)]
+fn compressed_word(at: usize) -> u64
+    requires { at < 512 }
+    ensures { result ≡ slice_index COMPRESSED at }
+{
+    COMPRESSED[at]
+}
 
 /// Returns the indices of the two bytes of each kept lane, in order.
-#[tactic(auto, using(crate::proofs::CompressLemmas::word_bytes_is))]
+#[tactic(auto, using(crate::proofs::CompressLemmas::row_is))]
 #[inline(always)]
 fn compress_places(mask: usize) -> u8x16
     requires { mask < 256 }
     ensures { result ≡ byte_places mask }
 {
-    let places = Simd::<u64, 1>::from_array([COMPRESSED[mask]])
-        .to_le_bytes()
-        .cast::<u16>();
-    (places * u16x8::splat(0x0202) + u16x8::splat(0x0100)).to_le_bytes()
+    u64x2::from_array([compressed_word(2 * mask), compressed_word(2 * mask + 1)]).to_le_bytes()
 }
 
 /// Returns the kept lanes, in order, followed by copies of the first lane.
@@ -189,4 +243,45 @@ pub(crate) fn compress(lanes: u16x8, mask: usize) -> u16x8
     ensures { result ≡ map (λ k. slice_index lanes k) (compressed_places mask) }
 {
     u16x8::from_le_bytes(lanes.to_le_bytes().swizzle_dyn(compress_places(mask)))
+}
+
+/// Writes the units whose bit is set, in order, and returns their number. Up to eight units after them may change.
+#[inline(always)]
+pub(super) fn write_compressed(first: u16x8, last: u16x8, kept: usize, dst: &mut [u16]) -> usize
+    requires { (kept < 2 ^ 16) × (16 ≤ length dst.old) }
+    ensures { (marks : List Bool) → length marks ≡ 16 → kept ≡ mask_l marks
+        → WritesCompressed marks (first ++ last) dst.old dst.new result
+        (result + 8 - count_ones (kept / 2 ^ 8)) }
+{
+    let first_kept = kept & 0xFF;
+    let last_kept = kept >> 8;
+    compress(first, first_kept).copy_to_slice(dst);
+    let count = first_kept.count_ones() as usize;
+    compress(last, last_kept).copy_to_slice(&mut dst[count..]);
+    count + last_kept.count_ones() as usize
+}
+
+/// Writes the units whose bit is set, in order, and no others. Returns their number.
+#[inline(always)]
+pub(super) fn write_compressed_exact(
+    first: u16x8,
+    last: u16x8,
+    kept: usize,
+    dst: &mut [u16],
+) -> usize
+    requires { (kept < 2 ^ 16) × (16 ≤ length dst.old) }
+    ensures { (marks : List Bool) → length marks ≡ 16 → kept ≡ mask_l marks
+        → WritesCompressed marks (first ++ last) dst.old dst.new result result }
+{
+    let first_kept = kept & 0xFF;
+    let last_kept = kept >> 8;
+    let count = first_kept.count_ones() as usize;
+    let more = last_kept.count_ones() as usize;
+    let following = u16x8::from_slice(&dst[count..]);
+    compress(first, first_kept).copy_to_slice(dst);
+    let is_kept = u16x8::from_array(LANES).simd_lt(u16x8::splat(more as u16));
+    is_kept
+        .select(compress(last, last_kept), following)
+        .copy_to_slice(&mut dst[count..]);
+    count + more
 }

@@ -1,5 +1,5 @@
-//! UTF-16 of well-formed UTF-8, by blocks of sixteen bytes. A code unit is computed for each byte as if it ended there, and
-//! those that do are moved together.
+//! UTF-16 of well-formed UTF-8, by groups of 64 bytes, and at the end of a text by blocks of sixteen. A code unit is
+//! computed for each byte as if it ended there, and those that do are moved together.
 //!
 //! A block may store units after its own. Those of the bytes that follow overwrite them, since these have at least a
 //! third as many: a block is stored only if that many units are still to be written. After the UTF-16 of a whole text,
@@ -18,7 +18,12 @@ use crate::scalar::{decode_utf8_scalar, is_continuation, sequence_length, write_
 use crate::simd::copy::LANES as BYTE_LANES;
 use crate::simd::scan::are_bytes_below;
 use crate::simd::width::{ASCII_END, BLOCK, STRIDE};
-use crate::utf8_to_utf16::code_units::{code_units, compress, triple_units, unit_ends};
+use crate::utf8_to_utf16::code_units::{
+    code_units, unit_ends, write_compressed, write_compressed_exact,
+};
+use crate::utf8_to_utf16::groups::{
+    FOUR_BYTES, GROUP_OF_TEXT, TRIPLES, UNITS, begins_triples, convert_group, write_triples,
+};
 use std::simd::prelude::*;
 
 /// Writes the UTF-16 of some first characters, and returns how many bytes it read and how many code units it wrote.
@@ -30,13 +35,9 @@ fn write_some(src: &[u8], dst: &mut [u16]) -> (usize, usize)
     ensures progress { 0 < result.0 }
     ensures written { WritesUtf16 src.now dst.old dst.new result.0 result.1 (units_in src.now) }
 {
-    if begins_triples(src) {
-        if src.len() >= 24 {
-            write_triples(src, dst);
-            return (15, 5);
-        }
-        write_triples_exact(src, dst);
-        return (15, 5);
+    if src.len() >= TRIPLES && begins_triples(src) {
+        write_triples(src, dst);
+        return (TRIPLES, UNITS);
     }
     let end = whole_end(src);
     if end == 0 {
@@ -49,9 +50,31 @@ fn write_some(src: &[u8], dst: &mut [u16]) -> (usize, usize)
     (end, write_block_in_any_room(src, end, kept, dst))
 }
 
-/// Writes the UTF-16 of a text up to a stride of ASCII, and returns how many bytes it read and how many code units it
-/// wrote. Units that the rest of the text overwrites may have changed too. In the last 64 bytes ASCII ends no blocks,
-/// since they would soon be over.
+/// Returns whether the text begins with an ASCII byte.
+#[inline(always)]
+fn begins_ascii(src: &[u8]) -> bool {
+    !src.is_empty() && src[0] < ASCII_END
+}
+
+/// Returns whether the text begins with 64 bytes of ASCII.
+#[inline(always)]
+fn begins_ascii_block(src: &[u8]) -> bool {
+    src.len() >= BLOCK && are_bytes_below::<BLOCK>(src, 0, ASCII_END)
+}
+
+/// Returns whether the text at an index is no longer converted by blocks: it is long enough for a group, or it is a stride
+/// of ASCII before the last 64 bytes.
+#[inline(always)]
+fn ends_blocks(src: &[u8], at: usize) -> bool
+    requires { at ≤ length src.now }
+{
+    let left = src.len() - at;
+    left >= GROUP_OF_TEXT || (left > BLOCK && are_bytes_below::<STRIDE>(src, at, ASCII_END))
+}
+
+/// Writes the UTF-16 of a text by blocks, and returns how many bytes it read and how many code units it wrote. Units that
+/// the rest of the text overwrites may have changed too. In the last 64 bytes ASCII ends no blocks, since they would soon
+/// be over.
 #[inline(never)]
 fn write_blocks(src: &[u8], dst: &mut [u16]) -> (usize, usize)
     requires dst_length { (0 < length src.now) × (length src.now ≤ length dst.old) }
@@ -65,7 +88,7 @@ fn write_blocks(src: &[u8], dst: &mut [u16]) -> (usize, usize)
         let (bytes, units) = write_some(&src[read..], &mut dst[written..]);
         read += bytes;
         written += units;
-        if src.len() - read > BLOCK && are_bytes_below::<STRIDE>(src, read, ASCII_END) {
+        if ends_blocks(src, read) {
             return (read, written);
         }
     }
@@ -77,11 +100,60 @@ fn write_blocks(src: &[u8], dst: &mut [u16]) -> (usize, usize)
     (src.len(), written + units)
 }
 
+/// Writes the UTF-16 of a first block as `write_some` does. Out of line, since few texts need it.
+#[inline(never)]
+fn write_block_of_pairs(src: &[u8], dst: &mut [u16]) -> (usize, usize)
+    requires dst_length { (16 < length src.now) × (length src.now ≤ length dst.old) }
+    requires text { IsUtf8 src.now }
+    ensures { WritesUtf16 src.now dst.old dst.new result.0 result.1 (units_in src.now) }
+{
+    write_some(src, dst)
+}
+
+/// Writes the UTF-16 of a first block if a character of four bytes comes first and a group can follow. Returns how many
+/// bytes it read and how many code units it wrote. Units that the rest of the text overwrites may have changed too.
+#[inline(always)]
+fn write_first_pairs(src: &[u8], dst: &mut [u16]) -> (usize, usize)
+    requires dst_length { length src.now ≤ length dst.old }
+    requires text { IsUtf8 src.now }
+    ensures { WritesUtf16 src.now dst.old dst.new result.0 result.1 (units_in src.now) }
+{
+    if src.len() < GROUP_OF_TEXT || src[0] < FOUR_BYTES {
+        return (0, 0);
+    }
+    write_block_of_pairs(src, dst)
+}
+
+/// Writes the UTF-16 of a text by groups of 64 bytes, up to 64 bytes of ASCII, up to a group that cuts a character of four
+/// bytes, or up to the last 88 bytes. Returns how many bytes it read and how many code units it wrote. Units that the rest
+/// of the text overwrites may have changed too.
+///
+/// Emoji often end a sentence: a block takes them, and a group if what follows isn't ASCII.
+#[inline(always)]
+fn convert_groups(src: &[u8], dst: &mut [u16]) -> (usize, usize)
+    requires dst_length { length src.now ≤ length dst.old }
+    requires text { IsUtf8 src.now }
+    ensures { WritesUtf16 src.now dst.old dst.new result.0 result.1 (units_in src.now) }
+{
+    let (mut read, mut written) = write_first_pairs(src, dst);
+    if begins_ascii(&src[read..]) {
+        return (read, written);
+    }
+    while src.len() - read >= GROUP_OF_TEXT {
+        let (bytes, units) = convert_group(&src[read..], &mut dst[written..]);
+        read += bytes;
+        written += units;
+        if bytes == 0 || (bytes > TRIPLES && begins_ascii_block(&src[read..])) {
+            return (read, written);
+        }
+    }
+    (read, written)
+}
+
 /// Writes the UTF-16 of the text before a run of ASCII, and returns how many bytes it read and how many code units it
 /// wrote. Units that the rest of the text overwrites may have changed too.
 ///
-/// A character before a stride of ASCII is written alone, since a block would end in the run. The last 64 bytes are
-/// written by blocks in any case.
+/// If no group of 64 bytes can be written first, the text is written by blocks.
 #[inline(always)]
 pub fn convert_valid_utf8_to_utf16(src: &[u8], dst: &mut [u16]) -> (usize, usize)
     requires dst_length { (0 < length src.now) × (length src.now ≤ length dst.old) }
@@ -89,9 +161,9 @@ pub fn convert_valid_utf8_to_utf16(src: &[u8], dst: &mut [u16]) -> (usize, usize
     ensures progress { 0 < result.0 }
     ensures written { WritesUtf16 src.now dst.old dst.new result.0 result.1 (units_in src.now) }
 {
-    let length = sequence_length(src[0]);
-    if src.len() > BLOCK && are_bytes_below::<STRIDE>(src, length, ASCII_END) {
-        return write_character(src, dst);
+    let (read, written) = convert_groups(src, dst);
+    if read > 0 {
+        return (read, written);
     }
     write_blocks(src, dst)
 }
@@ -100,55 +172,6 @@ pub fn convert_valid_utf8_to_utf16(src: &[u8], dst: &mut [u16]) -> (usize, usize
 const LAST_UNCUT: [u8; 16] = [
     255, 255, 255, 255, 255, 255, 255, 255, 255, 255, 255, 255, 255, 0xEF, 0xDF, 0xBF,
 ];
-
-/// The indices of the lanes of a vector.
-const LANES: [u16; 8] = [0, 1, 2, 3, 4, 5, 6, 7];
-
-/// The bits that show whether a byte begins three, at every third index.
-const LEAD_BITS: [u8; 16] = [
-    0xF0, 0, 0, 0xF0, 0, 0, 0xF0, 0, 0, 0xF0, 0, 0, 0xF0, 0, 0, 0,
-];
-
-/// Their values if it does.
-const LEAD_VALUES: [u8; 16] = [
-    0xE0, 0, 0, 0xE0, 0, 0, 0xE0, 0, 0, 0xE0, 0, 0, 0xE0, 0, 0, 0,
-];
-
-/// Writes the units whose bit is set, in order, and returns their number. Up to eight units after them may change.
-#[inline(always)]
-fn write_compressed(first: u16x8, last: u16x8, kept: usize, dst: &mut [u16]) -> usize
-    requires { (kept < 2 ^ 16) × (16 ≤ length dst.old) }
-    ensures { (marks : List Bool) → length marks ≡ 16 → kept ≡ mask_l marks
-        → WritesCompressed marks (first ++ last) dst.old dst.new result
-        (result + 8 - count_ones (kept / 2 ^ 8)) }
-{
-    let first_kept = kept & 0xFF;
-    let last_kept = kept >> 8;
-    compress(first, first_kept).copy_to_slice(dst);
-    let count = first_kept.count_ones() as usize;
-    compress(last, last_kept).copy_to_slice(&mut dst[count..]);
-    count + last_kept.count_ones() as usize
-}
-
-/// Writes the units whose bit is set, in order, and no others. Returns their number.
-#[inline(always)]
-fn write_compressed_exact(first: u16x8, last: u16x8, kept: usize, dst: &mut [u16]) -> usize
-    requires { (kept < 2 ^ 16) × (16 ≤ length dst.old) }
-    ensures { (marks : List Bool) → length marks ≡ 16 → kept ≡ mask_l marks
-        → WritesCompressed marks (first ++ last) dst.old dst.new result result }
-{
-    let first_kept = kept & 0xFF;
-    let last_kept = kept >> 8;
-    let count = first_kept.count_ones() as usize;
-    let more = last_kept.count_ones() as usize;
-    let following = u16x8::from_slice(&dst[count..]);
-    compress(first, first_kept).copy_to_slice(dst);
-    let is_kept = u16x8::from_array(LANES).simd_lt(u16x8::splat(more as u16));
-    is_kept
-        .select(compress(last, last_kept), following)
-        .copy_to_slice(&mut dst[count..]);
-    count + more
-}
 
 /// Returns the end of the last whole character of the first sixteen bytes, or 0.
 #[inline(always)]
@@ -201,41 +224,6 @@ pub(super) fn write_block_in_any_room(src: &[u8], end: usize, kept: usize, dst: 
     let count = write_block(src, end, kept, &mut units);
     dst[..count].copy_from_slice(&units[..count]);
     count
-}
-
-/// Returns whether the text begins with five characters of three bytes.
-#[inline(always)]
-pub(super) fn begins_triples(src: &[u8]) -> bool
-    requires { 16 ≤ length src.now }
-    ensures { IsTrue result → (k : ℕ) → k < 5 → BeginsThree (slice_index src.now (3 * k)) }
-{
-    let leads = u8x16::from_slice(src) & u8x16::from_array(LEAD_BITS);
-    !leads.simd_ne(u8x16::from_array(LEAD_VALUES)).any()
-}
-
-/// Writes the UTF-16 of the first five characters, of three bytes each.
-#[tactic(auto, using(crate::proofs::Utf8ToUtf16Lemmas::puts_triples))]
-#[inline(always)]
-pub(super) fn write_triples(src: &[u8], dst: &mut [u16])
-    requires dst_length { (16 ≤ length src.now) × (8 ≤ length dst.old) }
-    requires text { IsUtf8 src.now }
-    requires triples { (k : ℕ) → k < 5 → BeginsThree (slice_index src.now (3 * k)) }
-    ensures { WritesUtf16 src.now dst.old dst.new 15 5 8 }
-{
-    triple_units(u8x16::from_slice(src)).copy_to_slice(dst);
-}
-
-/// Writes the UTF-16 of the first five characters, of three bytes each, and nothing after it.
-#[inline(always)]
-pub(super) fn write_triples_exact(src: &[u8], dst: &mut [u16])
-    requires dst_length { (16 ≤ length src.now) × (5 ≤ length dst.old) }
-    requires text { IsUtf8 src.now }
-    requires triples { (k : ℕ) → k < 5 → BeginsThree (slice_index src.now (3 * k)) }
-    ensures { WritesUtf16 src.now dst.old dst.new 15 5 5 }
-{
-    let mut units = [0; 8];
-    write_triples(src, &mut units);
-    dst[..5].copy_from_slice(&units[..5]);
 }
 
 /// Returns whether at least eight units follow those of the first half of a block: those of the second half, and a

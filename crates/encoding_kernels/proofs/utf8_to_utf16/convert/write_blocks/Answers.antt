@@ -8,8 +8,8 @@ loop-read-preserved c =
     let puts = rw (take_rest c.args.src.now c.loop-read.read) at c.write_some-bytes.ensures.written in
     putting_more _ _ _ _ _ _ _ _ (omega arith) c.loop-read.invariant puts
 
-pub returns-then-are_bytes_below-clause-written : goal.returns-then-are_bytes_below-clause-written
-returns-then-are_bytes_below-clause-written c =
+pub returns-then-ends_blocks-clause-written : goal.returns-then-ends_blocks-clause-written
+returns-then-ends_blocks-clause-written c =
     let puts = rw (take_rest c.args.src.now c.loop-read.read) at c.write_some-bytes.ensures.written in
     putting_some (putting_more _ _ _ _ _ _ _ _ (omega arith) c.loop-read.invariant puts)
 

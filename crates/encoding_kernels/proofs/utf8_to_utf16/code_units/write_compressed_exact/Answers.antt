@@ -1,7 +1,7 @@
 use Rattle.std.proofs.Common.{◌++◌, arith, length-append, sym}
 use Rattle.std.proofs.lemmas.List.{take_at, drop_at}
 use Rattle.encoding_kernels.proofs.CompressLemmas.{writes_compressed_exact}
-use Rattle.encoding_kernels.proofs.utf8_to_utf16.convert.write_compressed_exact.Goals as goal
+use Rattle.encoding_kernels.proofs.utf8_to_utf16.code_units.write_compressed_exact.Goals as goal
 
 pub returns : goal.returns
 returns c marks long is =

@@ -1,0 +1,222 @@
+-- UTF-16 of many characters at once: of eight of three bytes, and of those that end in 64 bytes.
+use Rattle.std.proofs.Common.{◌≡◌, ℕ, zero, suc, ◌+◌, ◌-◌, ◌^◌, ◌<◌, ◌≤◌, inl, inr, Bool, true, false, if◌then◌else◌, ltb, List, [], ◌∷◌, ◌++◌, map, length, take, drop, get_or, refl, sym, ap, ◌∙◌, arith, subst, take-add, append_assoc, drop-drop}
+use Rattle.std.specs.List.{range_with_len}
+use Rattle.std.specs.Str.{IsUtf8, IsCharBoundary}
+use Rattle.std.specs.Simd.Lanes.{chunk, mask_l, pick_l}
+use Rattle.std.proofs.lemmas.Bool.{cases_lt, cond-true, cond-false, lt-ltb, le-ltb, ltb-true}
+use borrow.Rule.Slice.PartMut.{put_mid}
+use Rattle.std.proofs.Math.Seq.{take-append-add}
+use Rattle.std.proofs.lemmas.List.{append-nil, drop_all, drop_at, take_rest, length-take-le, length-append, length-drop, length-take, get_or-take, get_or-drop, get_or-map, get_or_append_left, get_or-append_right, length-map}
+use Rattle.encoding_kernels.specs.Scans.{HasLanes}
+use Rattle.encoding_kernels.specs.EndingUnits.{NoUnitEnds, StoresUnits, WritesCompressed, WritesUtf16, ends_after, ends_unit, keep, unit_at, units_after}
+use Rattle.std.proofs.lemmas.Simd.{mask_l-lt}
+use Rattle.encoding_kernels.proofs.VectorLemmas.{HasLanes_load, HasLanes_same, same_below}
+use Rattle.std.specs.Char.Escape.{encode_utf16}
+use Rattle.std.specs.List.{flat_map}
+use Rattle.std.proofs.lemmas.Str.{IsUtf8-take, IsUtf8-drop}
+use Rattle.encoding_kernels.proofs.CodeUnitLemmas.{ends_at, length-ends, length-units}
+use Rattle.encoding_kernels.proofs.CompressLemmas.{length-keep-le}
+use Rattle.encoding_kernels.proofs.Utf8ToUtf16Lemmas.{units_from, units_of_characters}
+
+-- ---- 24 bytes in two vectors
+-- the place in the text of a lane of both
+abbrev place_of : ℕ → ℕ
+place_of i = if ltb i 16 then i else i - 8
+
+joined_at : (src : List ℕ) → 24 ≤ length src → (i : ℕ) → i < 32 → get_or (take 16 src ++ take 16 (drop 8 src)) i 0 ≡ get_or src (place_of i) 0
+joined_at src long i l =
+    let size : length (take 16 src) ≡ 16 = length-take-le 16 src (omega arith) in
+    elim (cases_lt i 16) [
+      | inl b ↦ get_or_append_left (take 16 src) (take 16 (drop 8 src)) 0 i (omega (arith, size)) ∙ get_or-take 16 src i 0 b
+          ∙ ap (λ j. get_or src j 0) (sym (cond-true (ltb i 16) i (i - 8) (lt-ltb _ _ b)))
+      | inr b ↦
+          let back : 8 + (i - 16) ≡ i - 8 = omega arith in
+          get_or-append_right (take 16 src) (take 16 (drop 8 src)) 16 i 0 size b ∙ get_or-take 16 (drop 8 src) (i - 16) 0 (omega arith)
+          ∙ get_or-drop 8 src (i - 16) 0 ∙ ap (λ j. get_or src j 0) (back ∙ sym (cond-false (ltb i 16) i (i - 8) (le-ltb _ _ b)))
+    ]
+
+pub third_bytes : (src ks : List ℕ) (g : ℕ → ℕ) → 24 ≤ length src → length ks ≡ 8
+    → map (λ k. ltb (get_or ks k 0) 32) (range_with_len 0 8) ≡ map (λ _. true) (range_with_len 0 8)
+    → map (λ k. place_of (get_or ks k 0)) (range_with_len 0 8) ≡ map g (range_with_len 0 8)
+    → HasLanes 8 (pick_l 0 (take 16 src ++ take 16 (drop 8 src)) ks) (λ k. get_or src (g k) 0)
+third_bytes src ks g long eight small places =
+    let both = take 16 src ++ take 16 (drop 8 src) in
+    record {
+      long = length-map ks (λ j. get_or both j 0) ∙ eight;
+      each = λ k l.
+          let below = ltb-true (get_or ks k 0) 32 (same_below (λ j. ltb (get_or ks j 0) 32) (λ _. true) true 8 small k l) in
+          get_or-map (λ j. get_or both j 0) ks k 0 0 (omega (arith, eight)) ∙ joined_at src long (get_or ks k 0) below
+          ∙ ap (λ j. get_or src j 0) (same_below (λ j. place_of (get_or ks j 0)) g 0 8 places k l);
+    }
+
+-- ---- the bytes before each of a stride
+pub zeros_before : (src v zs : List ℕ) → 16 ≤ length src → HasLanes 16 v (λ k. get_or (zs ++ take 16 src) k 0)
+    → HasLanes 16 v (λ k. get_or (zs ++ src) (0 + k) 0)
+zeros_before src v zs room h = HasLanes_same h (λ k l. prefix zs k (omega arith) ∙ ap (λ j. get_or (zs ++ src) j 0) (omega arith))
+  where
+    prefix : (zs : List ℕ) (k : ℕ) → k < length zs + 16 → get_or (zs ++ take 16 src) k 0 ≡ get_or (zs ++ src) k 0
+    prefix [] k l = get_or-take 16 src k 0 l
+    prefix (z ∷ zs) zero l = refl
+    prefix (z ∷ zs) (suc k) l = prefix zs k (omega arith)
+
+pub loaded_before : (src zs : List ℕ) (at : ℕ) → length zs ≤ at → at + 16 ≤ length src
+    → HasLanes 16 (chunk (at - length zs) 16 src) (λ k. get_or (zs ++ src) (at + k) 0)
+loaded_before src zs at some room = HasLanes_same (HasLanes_load (at - length zs) 16 src (omega arith)) (λ k l.
+    let e : at - length zs + k ≡ at + k - length zs = omega arith in
+    ap (λ j. get_or src j 0) e ∙ sym (get_or-append_right zs src (length zs) (at + k) 0 refl (omega arith)))
+
+-- ---- a stride
+pub stride_marks : (src : List ℕ) (at : ℕ) → at + 16 ≤ length src → length (take 16 (drop at (ends_after 0 src))) ≡ 16
+stride_marks src at room = length-take-le 16 (drop at (ends_after 0 src)) (omega (arith, length-drop at (ends_after 0 src), length-ends 0 src))
+
+pub stride_small : (src : List ℕ) (at kept : ℕ) → at + 16 ≤ length src → kept ≡ mask_l (take 16 (drop at (ends_after 0 src))) → kept < 2 ^ 16
+stride_small src at kept room is =
+    let marks = take 16 (drop at (ends_after 0 src)) in
+    let small : mask_l marks < 2 ^ 16 = subst (λ n. mask_l marks < 2 ^ n) (stride_marks src at room) (mask_l-lt marks) in
+    omega (arith, is)
+
+-- what is stored has the units of both halves, and what follows eight more is unchanged
+pub stride_stored : (src : List ℕ) (at : ℕ) (first last old new : List ℕ) (count ones : ℕ) → first ≡ take 8 (drop at (units_after 0 0 0 src))
+    → last ≡ take 8 (drop (at + 8) (units_after 0 0 0 src))
+    → WritesCompressed (take 16 (drop at (ends_after 0 src))) (first ++ last) old new count (count + 8 - ones)
+    → WritesCompressed (take 16 (drop at (ends_after 0 src))) (take 16 (drop at (units_after 0 0 0 src))) old new count (count + 8)
+stride_stored src at first last old new count ones p q w =
+    let us = units_after 0 0 0 src in
+    let both : first ++ last ≡ take 16 (drop at us) = (λ i. p i ++ (q ∙ ap (take 8) (sym (drop-drop 8 at us))) i) ∙ sym (take-add 8 8 (drop at us)) in
+    let reach = count + 8 - ones in
+    let e : reach + (count + 8 - reach) ≡ count + 8 = omega arith in
+    let past = λ (xs : List ℕ). ap (λ m. drop m xs) (sym e) ∙ sym (drop-drop (count + 8 - reach) reach xs) in
+    record {
+      counted = w.counted ∙ ap (λ xs. length (keep (take 16 (drop at (ends_after 0 src))) xs)) both;
+      placed = w.placed ∙ ap (keep (take 16 (drop at (ends_after 0 src)))) both;
+      following = past new ∙ ap (drop (count + 8 - reach)) w.following ∙ sym (past old);
+    }
+
+-- ---- four strides
+keep-append : (xs ys : List Bool) (us vs : List ℕ) → length xs ≡ length us → keep (xs ++ ys) (us ++ vs) ≡ keep xs us ++ keep ys vs
+unfolding keep
+keep-append [] ys [] vs e = refl
+keep-append [] ys (u ∷ us) vs e = absurd (omega arith)
+keep-append (x ∷ xs) ys [] vs e = absurd (omega arith)
+keep-append (x ∷ xs) ys (u ∷ us) vs e =
+    ap (λ zs. (if x then u ∷ [] else []) ++ zs) (keep-append xs ys us vs (omega arith))
+    ∙ sym (append_assoc (if x then u ∷ [] else []) (keep xs us) (keep ys vs))
+
+-- the units that end with the first n bytes
+abbrev units_to : List ℕ → ℕ → List ℕ
+units_to src n = keep (take n (ends_after 0 src)) (take n (units_after 0 0 0 src))
+
+abbrev units_between : List ℕ → ℕ → ℕ → List ℕ
+units_between src at n = keep (take n (drop at (ends_after 0 src))) (take n (drop at (units_after 0 0 0 src)))
+
+units_more : (src : List ℕ) (at n : ℕ) → at ≤ length src → units_to src (at + n) ≡ units_to src at ++ units_between src at n
+units_more src at n within =
+    let ends = ends_after 0 src in
+    let units = units_after 0 0 0 src in
+    (λ i. keep (take-add at n ends i) (take-add at n units i))
+    ∙ keep-append (take at ends) (take n (drop at ends)) (take at units) (take n (drop at units))
+    (length-take-le at ends (omega (arith, length-ends 0 src)) ∙ sym (length-take-le at units (omega (arith, length-units 0 0 0 src))))
+
+pub group_first : (src old new : List ℕ) (count : ℕ) → 16 ≤ length src → length new ≡ length old
+    → WritesCompressed (take 16 (drop 0 (ends_after 0 src))) (take 16 (drop 0 (units_after 0 0 0 src))) old new count (count + 8)
+    → StoresUnits src old new 16 count
+group_first src old new count room same w = record {
+  placed = w.placed;
+  counted = w.counted;
+  few = omega (arith, w.counted, length-keep-le (take 16 (ends_after 0 src)) (take 16 (units_after 0 0 0 src)), length-take 16 (ends_after 0 src));
+  same_length = same;
+  following = w.following;
+}
+
+pub group_more : (src old new sub : List ℕ) (at next written count : ℕ) → at + 16 ≡ next → next ≤ length src → written ≤ length new
+    → length sub ≡ length new - written
+    → StoresUnits src old new at written
+    → WritesCompressed (take 16 (drop at (ends_after 0 src))) (take 16 (drop at (units_after 0 0 0 src))) (take (length new - written) (drop written new)) sub
+    count (count + 8)
+    → StoresUnits src old (put_mid written (length new - written) new sub) next (written + count)
+group_more src old new sub at next written count e room within size s w =
+    let done = take written new in
+    let long : length done ≡ written = length-take-le written new within in
+    let whole : take (length new - written) (drop written new) ≡ drop written new = take_rest new written in
+    let none : drop (length new - written) (drop written new) ≡ [] =
+    drop_all (length new - written) (drop written new) (omega (arith, length-drop written new)) in
+    let is : put_mid written (length new - written) new sub ≡ done ++ sub = ap (λ xs. done ++ (sub ++ xs)) none ∙ ap (λ xs. done ++ xs) (append-nil sub) in
+    let more = ap (units_to src) (sym e) ∙ units_more src at 16 (omega arith) in
+    let past = λ (m : ℕ). ap (λ j. drop (j + m) (done ++ sub)) (sym long) ∙ drop_past done sub m in
+    let reach : written + count + 8 ≡ written + (count + 8) = omega arith in
+    record {
+      placed = (λ i. take (written + count) (is i)) ∙ ap (λ j. take (j + count) (done ++ sub)) (sym long) ∙ take-append-add done sub count
+          ∙ (λ i. s.placed i ++ w.placed i) ∙ sym more;
+      counted = omega (arith, s.counted, w.counted, ap length more, length-append (units_to src at) (units_between src at 16));
+      few = omega (
+        arith,
+        s.few,
+        w.counted,
+        length-keep-le (take 16 (drop at (ends_after 0 src))) (take 16 (drop at (units_after 0 0 0 src))),
+        length-take 16 (drop at (ends_after 0 src)),
+      );
+      same_length = omega (arith, ap length is, length-append done sub, long, size, s.same_length);
+      following = (λ i. drop (reach i) (is i)) ∙ past (count + 8) ∙ w.following ∙ ap (drop (count + 8)) whole ∙ drop-drop (count + 8) written new
+          ∙ after s.following ∙ (λ i. drop (sym reach i) old);
+    }
+  where
+    drop_past : (xs ys : List ℕ) (j : ℕ) → drop (length xs + j) (xs ++ ys) ≡ drop j ys
+    drop_past xs ys j = sym (drop-drop j (length xs) (xs ++ ys)) ∙ ap (drop j) (drop_at xs ys (length xs) refl)
+
+    after : drop (written + 8) new ≡ drop (written + 8) old → drop (written + (count + 8)) new ≡ drop (written + (count + 8)) old
+    after e =
+        let split : written + 8 + count ≡ written + (count + 8) = omega arith in
+        let past = λ (xs : List ℕ). ap (λ m. drop m xs) (sym split) ∙ sym (drop-drop count (written + 8) xs) in
+        past new ∙ ap (drop count) e ∙ sym (past old)
+
+-- ---- the characters whose units are stored
+both_taken : (n x y a : ℕ) (bs : List ℕ) → keep (take n (ends_after a bs)) (take n (units_after x y a bs)) ≡ units_from x y a (take n bs)
+unfolding keep ends_after units_after
+both_taken zero x y a bs = refl
+both_taken (suc n) x y a [] = refl
+both_taken (suc n) x y a (b ∷ bs) = ap (λ us. (if ends_unit a b then unit_at x y a b ∷ [] else []) ++ us) (both_taken n y a b bs)
+
+keep_none : (ms : List Bool) (us : List ℕ) → ((k : ℕ) → k < length ms → get_or ms k true ≡ false) → keep ms us ≡ []
+unfolding keep
+keep_none [] us none = refl
+keep_none (m ∷ ms) [] none = refl
+keep_none (m ∷ ms) (u ∷ us) none =
+    (λ i. (if none 0 (omega arith) i then u ∷ [] else []) ++ keep ms us) ∙ keep_none ms us (λ k l. none (suc k) (omega arith))
+
+-- those before `end`, if no unit ends between it and the end of the bytes read
+pub group_text : (src old new : List ℕ) (end to written reach : ℕ) → IsUtf8 src → end ≤ to → to ≤ length src → IsCharBoundary src end
+    → NoUnitEnds src end to → written + 8 ≡ reach → StoresUnits src old new to written → WritesUtf16 src old new end written reach
+group_text src old new end to written reach u before within boundary none e s =
+    let text = IsUtf8-take src end u boundary in
+    let ends = ends_after 0 src in
+    let rest : end + (to - end) ≡ to = omega arith in
+    let later = take (to - end) (drop end ends) in
+    let cut : units_between src end (to - end) ≡ [] = keep_none later (take (to - end) (drop end (units_after 0 0 0 src))) (λ k l.
+    let inside : k < to - end = omega (arith, l, length-take (to - end) (drop end ends)) in
+    get_or-take (to - end) (drop end ends) k true inside ∙ get_or-drop end ends k true ∙ ends_at 0 src (end + k) true (omega arith)
+    ∙ none (end + k) (omega arith) (omega arith)) in
+    let units : units_to src to ≡ flat_map encode_utf16 text.0 = ap (units_to src) (sym rest) ∙ units_more src end (to - end) (omega arith)
+    ∙ ap (λ xs. units_to src end ++ xs) cut ∙ append-nil (units_to src end) ∙ both_taken end 0 0 0 src ∙ ap (units_from 0 0 0) (sym text.1.1)
+    ∙ units_of_characters text.0 text.1.0 0 0 0 (omega arith) (omega arith) (omega arith) in
+    record {
+      taken = text.0;
+      are_scalars = text.1.0;
+      within = boundary.0;
+      spelled = text.1.1;
+      rest = IsUtf8-drop src end u boundary;
+      counted = s.counted ∙ ap length units;
+      placed = s.placed ∙ units;
+      following = (λ i. drop (sym e i) new) ∙ s.following ∙ (λ i. drop (e i) old);
+    }
+
+pub puts_none : (src old : List ℕ) (reach : ℕ) → IsUtf8 src → WritesUtf16 src old old 0 0 reach
+puts_none src old reach u = record {
+  taken = [];
+  are_scalars = refl;
+  within = omega arith;
+  spelled = refl;
+  rest = u;
+  counted = refl;
+  placed = refl;
+  following = refl;
+}

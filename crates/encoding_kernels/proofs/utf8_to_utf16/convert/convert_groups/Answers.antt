@@ -1,0 +1,17 @@
+use Rattle.std.proofs.Common.{arith}
+use Rattle.std.proofs.lemmas.List.{take_rest}
+use Rattle.encoding_kernels.proofs.Utf8ToUtf16LoopLemmas.{putting_first, putting_more, putting_some}
+use Rattle.encoding_kernels.proofs.utf8_to_utf16.convert.convert_groups.Goals as goal
+
+pub loop-read-init : goal.loop-read-init
+loop-read-init c = putting_first _ _ _ _ _ c.requires.text c.write_first_pairs-read.ensures
+
+pub loop-read-preserved : goal.loop-read-preserved
+loop-read-preserved c =
+    let puts = rw (take_rest c.args.src.now c.loop-read.read) at c.convert_group-bytes.ensures in
+    putting_more _ _ _ _ _ _ _ _ (omega arith) c.loop-read.invariant puts
+
+pub returns-then-bytes-eq0 : goal.returns-then-bytes-eq0
+returns-then-bytes-eq0 c =
+    let puts = rw (take_rest c.args.src.now c.loop-read.read) at c.convert_group-bytes.ensures in
+    putting_some (putting_more _ _ _ _ _ _ _ _ (omega arith) c.loop-read.invariant puts)

@@ -1,0 +1,215 @@
+//! UTF-16 of many characters of at most three bytes at once: of those that end in 64 bytes, and of eight of three bytes.
+//!
+//! The code units of 64 bytes are computed by strides at fixed indices, so no stride waits for the end of a character in
+//! the one before it. Only the index at which the next 64 bytes begin depends on the text.
+
+ghost use Rattle.std.specs.Prelude.{◌≡◌, ℕ, ◌+◌, ◌*◌, ◌<◌, ◌≤◌, ◌∷◌, IsTrue, IsFalse, length, take, drop, slice_index};
+ghost use Rattle.std.specs.Str.{IsUtf8, IsCharBoundary};
+ghost use Rattle.encoding_kernels.specs.Scans.{BelowUpTo, HasLanes};
+ghost use Rattle.encoding_kernels.specs.EndingUnits.{WritesUtf16, WritesCompressed, StoresUnits, units_in, units_after, ends_after, BeginsThree, NoUnitEnds, triple_unit};
+
+use crate::scalar::is_continuation;
+use crate::simd::copy::{one_before, three_before, two_before};
+use crate::simd::width::{BLOCK, FOUR, HALF_BLOCK, STRIDE};
+use crate::utf8_to_utf16::code_units::{ends_of_stride, units_of_stride, write_compressed};
+use std::simd::prelude::*;
+
+/// The least length of a text whose first 64 bytes may be converted at once: the units that these store after their own
+/// are overwritten by those of the other bytes.
+pub(super) const GROUP_OF_TEXT: usize = BLOCK + 24;
+
+/// The least byte that begins four.
+pub(super) const FOUR_BYTES: u8 = 0xF0;
+
+/// The length of eight characters of three bytes.
+pub(super) const TRIPLES: usize = 24;
+
+/// Their number, and that of their code units.
+pub(super) const UNITS: usize = 8;
+
+/// The bits that show whether a byte begins three, at every third of the first sixteen bytes.
+const LEAD_BITS: [u8; 16] = [
+    0xF0, 0, 0, 0xF0, 0, 0, 0xF0, 0, 0, 0xF0, 0, 0, 0xF0, 0, 0, 0xF0,
+];
+
+/// Their values if it does.
+const LEAD_VALUES: [u8; 16] = [
+    0xE0, 0, 0, 0xE0, 0, 0, 0xE0, 0, 0, 0xE0, 0, 0, 0xE0, 0, 0, 0xE0,
+];
+
+/// The same bits, of the sixteen bytes from index 8 on.
+const LATER_BITS: [u8; 16] = [
+    0, 0xF0, 0, 0, 0xF0, 0, 0, 0xF0, 0, 0, 0xF0, 0, 0, 0xF0, 0, 0,
+];
+
+/// Their values.
+const LATER_VALUES: [u8; 16] = [
+    0, 0xE0, 0, 0, 0xE0, 0, 0, 0xE0, 0, 0, 0xE0, 0, 0, 0xE0, 0, 0,
+];
+
+/// Returns whether the text begins with eight characters of three bytes.
+#[inline(always)]
+pub(super) fn begins_triples(src: &[u8]) -> bool
+    requires { 24 ≤ length src.now }
+    ensures { IsTrue result → (k : ℕ) → k < 8 → BeginsThree (slice_index src.now (3 * k)) }
+{
+    let first = u8x16::from_slice(src) & u8x16::from_array(LEAD_BITS);
+    let later = u8x16::from_slice(&src[8..]) & u8x16::from_array(LATER_BITS);
+    let others = first.simd_ne(u8x16::from_array(LEAD_VALUES))
+        | later.simd_ne(u8x16::from_array(LATER_VALUES));
+    !others.any()
+}
+
+/// Returns the code units of eight characters of three bytes.
+#[inline(always)]
+fn triple_units(src: &[u8]) -> u16x8
+    requires { 24 ≤ length src.now }
+    ensures { HasLanes 8 result (λ k. triple_unit (slice_index src.now (3 * k))
+        (slice_index src.now (3 * k + 1)) (slice_index src.now (3 * k + 2))) }
+{
+    let six = u16x8::splat(0x3F);
+    let first = u8x16::from_slice(src);
+    let later = u8x16::from_slice(&src[8..]);
+    let leads = first
+        .shuffle::<8>(later, [0, 3, 6, 9, 12, 15, 26, 29])
+        .cast::<u16>();
+    let second = first
+        .shuffle::<8>(later, [1, 4, 7, 10, 13, 24, 27, 30])
+        .cast::<u16>();
+    let third = first
+        .shuffle::<8>(later, [2, 5, 8, 11, 14, 25, 28, 31])
+        .cast::<u16>();
+    leads * u16x8::splat(0x1000) + ((second & six) * u16x8::splat(64) + (third & six))
+}
+
+/// Writes the UTF-16 of the first eight characters, of three bytes each.
+#[inline(always)]
+pub(super) fn write_triples(src: &[u8], dst: &mut [u16])
+    requires dst_length { (24 ≤ length src.now) × (8 ≤ length dst.old) }
+    requires text { IsUtf8 src.now }
+    requires triples { (k : ℕ) → k < 8 → BeginsThree (slice_index src.now (3 * k)) }
+    ensures { WritesUtf16 src.now dst.old dst.new 24 8 8 }
+{
+    triple_units(src).copy_to_slice(dst);
+}
+
+/// Returns whether one of the first 64 bytes begins a character of four bytes.
+#[inline(always)]
+fn begins_four_bytes(src: &[u8]) -> bool
+    requires { 64 ≤ length src.now }
+    ensures { IsFalse result → BelowUpTo 0xF0 src.now 64 }
+{
+    let first = u8x32::from_slice(src);
+    let second = u8x32::from_slice(&src[HALF_BLOCK..]);
+    first
+        .simd_max(second)
+        .simd_ge(u8x32::splat(FOUR_BYTES))
+        .any()
+}
+
+/// Returns the end of the last whole character in the first 64 bytes, or 0 if it can't be told from the last two: a
+/// character of four bytes ends with the byte after them.
+#[inline(always)]
+fn group_end(src: &[u8]) -> usize
+    requires { (64 < length src.now) × IsUtf8 src.now }
+    ensures end { (result ≤ 64) × IsCharBoundary src.now result }
+    ensures cut { 0 < result → NoUnitEnds src.now result 64 }
+{
+    let cut = if src[BLOCK - 2] >= 0xE0 {
+        2
+    } else {
+        usize::from(src[BLOCK - 1] >= 0xC0)
+    };
+    let end = BLOCK - cut;
+    if is_continuation(src[end]) {
+        return 0;
+    }
+    end
+}
+
+/// Writes the code units that end with the sixteen bytes from `at` on, if no character has more than N bytes, given the
+/// bytes one, two and three before each. Returns their number. Up to eight units after them may change.
+#[inline(always)]
+fn write_stride<const N: usize>(
+    src: &[u8],
+    at: usize,
+    three: u8x16,
+    two: u8x16,
+    one: u8x16,
+    dst: &mut [u16],
+) -> usize
+    requires within { (at + 16 ≤ length src.now) × (16 ≤ length dst.old) }
+    requires three_before { HasLanes 16 three (λ k. slice_index (0 ∷ 0 ∷ 0 ∷ src.now) (at + k)) }
+    requires two_before { HasLanes 16 two (λ k. slice_index (0 ∷ 0 ∷ src.now) (at + k)) }
+    requires one_before { HasLanes 16 one (λ k. slice_index (0 ∷ src.now) (at + k)) }
+    requires short { N < 4 → BelowUpTo 0xF0 src.now (at + 16) }
+    ensures { WritesCompressed (take 16 (drop at (ends_after 0 src.now)))
+        (take 16 (drop at (units_after 0 0 0 src.now))) dst.old dst.new result (result + 8) }
+{
+    let (first, last) = units_of_stride::<N>(src, at, three, two, one);
+    write_compressed(first, last, ends_of_stride(src, at, one), dst)
+}
+
+/// Writes the code units that end in the first 64 bytes, if no character has more than N bytes, and returns their number.
+/// Up to eight units after them may change.
+#[inline(always)]
+fn write_group<const N: usize>(src: &[u8], dst: &mut [u16]) -> usize
+    requires dst_length { (64 ≤ length src.now) × (64 ≤ length dst.old) }
+    requires short { N < 4 → BelowUpTo 0xF0 src.now 64 }
+    ensures { StoresUnits src.now dst.old dst.new 64 result }
+{
+    let block = u8x16::from_slice(src);
+    let (three, two, one) = (three_before(block), two_before(block), one_before(block));
+    let mut written = write_stride::<N>(src, 0, three, two, one, dst);
+    for stride in 1..FOUR {
+        let at = STRIDE * stride;
+        let three = u8x16::from_slice(&src[at - 3..]);
+        let two = u8x16::from_slice(&src[at - 2..]);
+        let one = u8x16::from_slice(&src[at - 1..]);
+        written += write_stride::<N>(src, at, three, two, one, &mut dst[written..]);
+    }
+    written
+}
+
+/// Writes the code units that end in the first 64 bytes, as `write_group` does. Out of line, since few texts have
+/// characters of four bytes.
+#[inline(never)]
+fn write_group_with_pairs(src: &[u8], dst: &mut [u16]) -> usize
+    requires dst_length { (64 ≤ length src.now) × (64 ≤ length dst.old) }
+    ensures { StoresUnits src.now dst.old dst.new 64 result }
+{
+    write_group::<4>(src, dst)
+}
+
+/// Writes the code units that end in the first 64 bytes, and returns their number. Up to eight units after them may
+/// change.
+#[inline(always)]
+fn write_any_group(src: &[u8], dst: &mut [u16]) -> usize
+    requires dst_length { (64 ≤ length src.now) × (64 ≤ length dst.old) }
+    ensures { StoresUnits src.now dst.old dst.new 64 result }
+{
+    if begins_four_bytes(src) {
+        return write_group_with_pairs(src, dst);
+    }
+    write_group::<3>(src, dst)
+}
+
+/// Writes the UTF-16 of the first characters of a text: eight of three bytes each, or those that end in the first 64
+/// bytes. Returns how many bytes it read and how many code units it wrote, or zeros if a character of four bytes ends
+/// with the byte after them. Units that the rest of the text overwrites may have changed too.
+#[inline(always)]
+pub(super) fn convert_group(src: &[u8], dst: &mut [u16]) -> (usize, usize)
+    requires dst_length { (88 ≤ length src.now) × (length src.now ≤ length dst.old) }
+    requires text { IsUtf8 src.now }
+    ensures { WritesUtf16 src.now dst.old dst.new result.0 result.1 (units_in src.now) }
+{
+    if begins_triples(src) {
+        write_triples(src, dst);
+        return (TRIPLES, UNITS);
+    }
+    let end = group_end(src);
+    if end == 0 {
+        return (0, 0);
+    }
+    (end, write_any_group(src, dst))
+}
