@@ -75,7 +75,7 @@ no_whole_before r p q bytes n read e none (some, short, four, long, same, s, nil
     let prefix : p ++ take read (drop 1 r) ≡ take (1 + read) r = ap (λ xs. xs ++ take read (drop 1 r)) e ∙ sym (take-add 1 read r) in
     none (take (1 + read) r) (drop (1 + read) r) (sym (take-append-drop (1 + read) r)) (subst IsSequence prefix s)
 
-second_continues : (a b : ℕ) → IsSecond a b → IsContinuation b
+pub second_continues : (a b : ℕ) → IsSecond a b → IsContinuation b
 second_continues a b s = grind (arith, nat_tests)
 
 -- the second byte of a well-formed or an incomplete sequence

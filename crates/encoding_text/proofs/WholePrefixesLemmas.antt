@@ -21,6 +21,13 @@ pub ruleset ascii_texts = (IsUtf8-from_ascii)
 pub whole_ascii : (xs : List ℕ) (n : ℕ) → n ≡ length xs → IsLongestPrefix IsAscii xs n → IsLongestPrefix IsUtf8 xs n
 whole_ascii xs n whole p = record { within = p.within; kind = IsUtf8-from_ascii _ p.kind; longest = λ m l _. omega (arith, whole, l) }
 
+-- what follows the longest ASCII prefix isn't ASCII
+pub ascii_stops : (xs : List ℕ) (n : ℕ) → IsLongestPrefix IsAscii xs n → n < length xs → 0x80 ≤ slice_index xs n
+ascii_stops xs n prefix l = elim (cases_lt (slice_index xs n) 0x80) [
+  | inl p ↦ absurd (after_prefix (λ b. b < 0x80) (omega arith) xs n prefix l p)
+  | inr p ↦ p
+]
+
 -- the longest prefix is as long as the list if and only if the whole is of the kind
 pub whole_by_length : {A : Type 0} (K : List A → Type 0) (xs : List A) (n : ℕ) → IsLongestPrefix K xs n → IsTrue (eqb n (length xs)) ↔ K xs
 whole_by_length K xs n f = (

@@ -6,14 +6,9 @@ ghost use Rattle.std.specs.Option.{SomeIff};
 ghost use Rattle.std.specs.Char.Escape.{encode_utf16};
 ghost use Rattle.encoding_definitions.specs.Sequence.{IsPending, IsIncomplete};
 ghost use Rattle.encoding_text.specs.Decoding.{DecodeStepInto, BorrowedDecodeStep};
-ghost use Rattle.std.specs.Str.{IsUtf8};
-ghost use Rattle.encoding_definitions.specs.Prefixes.{IsLongestPrefix};
 
-use crate::ascii::short_ascii_valid_up_to;
-use crate::utf_8::{CodeUnit, short_valid_up_to, utf8_valid_up_to};
+use crate::utf_8::{CodeUnit, valid_up_to};
 use encoding_kernels::scalar::decode_utf8_scalar;
-use encoding_kernels::simd::scan::run_len_below;
-use encoding_kernels::simd::width::{ASCII_END, BLOCK, STRIDE};
 use pending::{Pending, Resumed, is_malformed_byte};
 use std::marker::Model;
 
@@ -304,42 +299,6 @@ pub(crate) fn decode_borrowed<'a>(
     }
 }
 
-/// Returns the length of the longest well-formed prefix of 16 to 64 bytes. If a malformed sequence follows the ASCII
-/// prefix, two vectors show it.
-#[tactic(auto, using(crate::proofs::WholePrefixesLemmas::whole_ascii))]
-#[inline(always)]
-fn short_well_formed_length(src: &[u8]) -> usize
-    requires { (16 ≤ length src.now) × (length src.now ≤ 64) }
-    ensures { IsLongestPrefix IsUtf8 src.now result }
-{
-    let ascii = short_ascii_valid_up_to(src);
-    if ascii == src.len() {
-        return ascii;
-    }
-    if is_malformed_byte(&src[ascii..]) {
-        return ascii;
-    }
-    short_valid_up_to(src)
-}
-
-/// Returns the length of the longest well-formed prefix. Between malformed sequences this is often a few ASCII bytes,
-/// which one vector shows.
-#[inline(always)]
-fn well_formed_length(src: &[u8]) -> usize
-    ensures { IsLongestPrefix IsUtf8 src.now result }
-{
-    if STRIDE <= src.len() && src.len() <= BLOCK {
-        return short_well_formed_length(src);
-    }
-    if src.len() > BLOCK {
-        let ascii = run_len_below::<STRIDE>(src, 0, ASCII_END);
-        if is_malformed_byte(&src[ascii..]) {
-            return ascii;
-        }
-    }
-    utf8_valid_up_to(src)
-}
-
 /// Decodes the start of `src` with nothing pending. Returns the piece and how many bytes were read.
 #[inline(always)]
 fn borrow_prefix<'a>(pending: &mut Pending, src: &'a [u8], last: bool) -> (Piece<'a>, usize)
@@ -353,7 +312,7 @@ fn borrow_prefix<'a>(pending: &mut Pending, src: &'a [u8], last: bool) -> (Piece
     if is_malformed_byte(src) {
         return (Piece::Malformed(1), 1);
     }
-    let length = well_formed_length(src);
+    let length = valid_up_to(src);
     if length > 0 {
         return (
             Piece::Text(unsafe { std::str::from_utf8_unchecked(&src[..length]) }),

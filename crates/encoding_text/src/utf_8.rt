@@ -11,4 +11,4 @@ pub use table::{UTF8_DATA, Utf8Data, law_table};
 pub use to_utf16::convert_utf8_to_utf16_up_to_invalid;
 pub(crate) use to_utf16::{CodeUnit, convert_text};
 pub use validation::utf8_valid_up_to;
-pub(crate) use validation::{character_length, short_valid_up_to};
+pub(crate) use validation::{character_length, valid_up_to};

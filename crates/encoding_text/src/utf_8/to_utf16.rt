@@ -9,10 +9,11 @@ ghost use Rattle.encoding_definitions.specs.Prefixes.{WritesPrefix};
 ghost use Rattle.encoding_definitions.specs.Converting.{ConvertsMaximal};
 ghost use Rattle.encoding_text.specs.Steps.{ConvertsSome, ConvertsUntilFull};
 
-use super::validation::{character_length, utf8_valid_up_to};
+use super::validation::{begins_no_character, character_length, utf8_valid_up_to, valid_up_to};
 use crate::ascii::{copy_prefix_of_text, copy_to_basic_latin, copy_to_basic_latin_inline};
 use encoding_kernels::scalar::{decode_utf8_scalar, write_utf16};
 use encoding_kernels::simd::copy::copy_prefix;
+use encoding_kernels::simd::width::ASCII_END;
 use encoding_kernels::tuning::VALIDATED_PIECE;
 use encoding_kernels::utf8_to_utf16::convert::convert_valid_utf8_to_utf16;
 
@@ -134,6 +135,10 @@ pub fn convert_utf8_to_utf16_up_to_invalid(src: &[u8], dst: &mut [u16]) -> (usiz
     if ascii == src.len() {
         return (ascii, ascii);
     }
+    // between malformed sequences there is often only ASCII
+    if src[ascii] >= ASCII_END && begins_no_character(&src[ascii..]) {
+        return (ascii, ascii);
+    }
     let (read, written) = convert_turns(&src[ascii..], &mut dst[ascii..]);
     (ascii + read, ascii + written)
 }
@@ -147,7 +152,7 @@ fn copy_utf8_up_to_invalid(src: &[u8], dst: &mut [u8]) -> (usize, usize)
     ensures { ConvertsUntilFull encode_utf8 src.now dst.old dst.new result.0 result.1 }
 {
     let room = src.len().min(dst.len());
-    let length = utf8_valid_up_to(&src[..room]);
+    let length = valid_up_to(&src[..room]);
     copy_prefix(&src[..length], dst);
     (length, length)
 }

@@ -4,11 +4,13 @@ ghost use Rattle.std.specs.Str.{IsUtf8};
 ghost use Rattle.encoding_definitions.specs.Sequence.{IsSequence};
 ghost use Rattle.encoding_definitions.specs.Parts.{BeginsWithNoCharacter};
 ghost use Rattle.encoding_definitions.specs.Prefixes.{IsLongestPrefix};
+ghost use Rattle.encoding_kernels.specs.Scans.{BelowUpTo};
 
 use crate::ascii::{ascii_valid_up_to_by_block, short_ascii_valid_up_to};
 use crate::utf_8::table::{UTF8_DATA, law_table};
-use encoding_kernels::scalar::{is_continuation, is_second};
-use encoding_kernels::simd::width::{BLOCK, STRIDE};
+use encoding_kernels::scalar::{is_continuation, is_lead_with_continuation, is_second};
+use encoding_kernels::simd::scan::run_len_below;
+use encoding_kernels::simd::width::{ASCII_END, BLOCK, STRIDE};
 use encoding_kernels::utf8::validate::{well_formed_blocks, well_formed_short};
 
 /// Returns whether three bytes are one character, for a first byte that starts no character of one, two or four.
@@ -142,12 +144,33 @@ fn valid_after(src: &[u8], prefix: usize) -> usize
     }
 }
 
-/// Returns the length of the longest well-formed prefix of 16 to 64 bytes, by the vectors that validate any text.
+/// Returns whether no character begins the bytes, as far as the first two show: the first begins no sequence of several, or
+/// the second doesn't continue one. The first byte isn't ASCII.
+#[tactic(auto, using(std::proofs::lemmas::Bool::both_ways, encoding_definitions::proofs::SequenceLemmas::no_character_reads))]
 #[inline(always)]
-pub(crate) fn short_valid_up_to(src: &[u8]) -> usize
+pub(crate) fn begins_no_character(bytes: &[u8]) -> bool
+    requires not_empty { 0 < length bytes.now }
+    requires lead { 0x80 ≤ slice_index bytes.now 0 }
+    ensures { IsTrue result → BeginsWithNoCharacter bytes.now }
+{
+    bytes.len() < 2 || !is_lead_with_continuation(bytes[0], bytes[1])
+}
+
+/// Returns the length of the longest well-formed prefix of 16 to 64 bytes. If no character follows the ASCII prefix, two
+/// vectors show it, and two more validate any other text.
+#[tactic(auto, using(crate::proofs::WholePrefixesLemmas::whole_ascii))]
+#[inline(always)]
+fn short_valid_up_to(src: &[u8]) -> usize
     requires { (16 ≤ length src.now) × (length src.now ≤ 64) }
     ensures { IsLongestPrefix IsUtf8 src.now result }
 {
+    let prefix = short_ascii_valid_up_to(src);
+    if prefix == src.len() {
+        return prefix;
+    }
+    if begins_no_character(&src[prefix..]) {
+        return prefix;
+    }
     let well_formed = well_formed_short(src);
     if well_formed == src.len() {
         return well_formed;
@@ -163,22 +186,55 @@ fn long_valid_up_to(src: &[u8]) -> usize
     valid_after(src, well_formed_prefix(src))
 }
 
+/// Returns the length of the longest well-formed prefix of at least 64 bytes, of which the first `ascii` are ASCII.
+#[inline(never)]
+fn valid_after_ascii(src: &[u8], ascii: usize) -> usize
+    requires long { 64 ≤ length src.now }
+    requires ascii { (ascii ≤ length src.now) × BelowUpTo ASCII_END src.now ascii }
+    ensures { IsLongestPrefix IsUtf8 src.now result }
+{
+    valid_after(src, well_formed_blocks(src, ascii))
+}
+
+/// Returns the length of the longest well-formed prefix of more than 64 bytes. Between malformed sequences this is often
+/// some ASCII, which one mask shows.
+#[inline(always)]
+fn valid_up_to_by_block(src: &[u8]) -> usize
+    requires { 64 < length src.now }
+    ensures { IsLongestPrefix IsUtf8 src.now result }
+{
+    let ascii = run_len_below::<BLOCK>(src, 0, ASCII_END);
+    if ascii == BLOCK {
+        return long_valid_up_to(src);
+    }
+    if begins_no_character(&src[ascii..]) {
+        return ascii;
+    }
+    valid_after_ascii(src, ascii)
+}
+
+/// Returns what `utf8_valid_up_to` does, inline.
+#[inline(always)]
+pub(crate) fn valid_up_to(src: &[u8]) -> usize
+    ensures { IsLongestPrefix IsUtf8 src.now result }
+{
+    if src.len() > BLOCK {
+        return valid_up_to_by_block(src);
+    }
+    if src.len() < STRIDE {
+        return long_valid_up_to(src);
+    }
+    short_valid_up_to(src)
+}
+
 /// Returns the length in bytes of the longest prefix of `src` that is well-formed UTF-8: the index of the first byte
 /// that is in no character, or the length of `src`.
 ///
 /// Unicode Standard, section 3.9, UTF-8: the bytes of a character match one of the nine rows of Table 3-7, Well-Formed
 /// UTF-8 Byte Sequences. The first byte determines the length and which second bytes are allowed. So no byte of an
 /// overlong form, of an encoded surrogate or above U+10FFFF is in the prefix.
-#[tactic(auto, using(crate::proofs::WholePrefixesLemmas::whole_ascii))]
 pub fn utf8_valid_up_to(src: &[u8]) -> usize
     ensures { IsLongestPrefix IsUtf8 src.now result }
 {
-    if src.len() < STRIDE || src.len() > BLOCK {
-        return long_valid_up_to(src);
-    }
-    let prefix = short_ascii_valid_up_to(src);
-    if prefix == src.len() {
-        return prefix;
-    }
-    short_valid_up_to(src)
+    valid_up_to(src)
 }

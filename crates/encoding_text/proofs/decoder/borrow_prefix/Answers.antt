@@ -7,8 +7,8 @@ use Rattle.encoding_text.proofs.decoder.borrow_prefix.Goals as goal
 
 pub end_in_incomplete-end-requires-clause-no_character : goal.end_in_incomplete-end-requires-clause-no_character
 end_in_incomplete-end-requires-clause-no_character c =
-    let none : c.well_formed_length-length.result ≡ 0 = omega (arith, c.if-length-gt0.false) in
-    no_character_after c.args.src.now 0 (subst (IsLongestPrefix IsUtf8 c.args.src.now) none c.well_formed_length-length.ensures)
+    let none : c.valid_up_to-length.result ≡ 0 = omega (arith, c.if-length-gt0.false) in
+    no_character_after c.args.src.now 0 (subst (IsLongestPrefix IsUtf8 c.args.src.now) none c.valid_up_to-length.ensures)
 
 pub end_in_incomplete-end-requires-clause-begins : goal.end_in_incomplete-end-requires-clause-begins
 end_in_incomplete-end-requires-clause-begins c =
