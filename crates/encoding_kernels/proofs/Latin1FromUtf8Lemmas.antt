@@ -1,15 +1,15 @@
 -- Latin1 text in UTF-8 byte by byte: the bytes with which characters begin, and the byte of Latin1 that each byte ends.
 -- Pairs of bytes in a vector of sixteen: which of them end a byte of Latin1, and which bytes these are.
-use Rattle.std.proofs.Common.{◌≡◌, ℕ, zero, suc, ◌+◌, ◌*◌, ◌/◌, ◌%◌, ◌<◌, ◌≤◌, inl, inr, cond, ◌&&◌, List, [], ◌∷◌, ◌++◌, map, length, take, drop, get_or, encode_utf8_all, refl, sym, ap, ◌∙◌, arith, subst, append_assoc, ◌-◌, ◌^◌, ◌⊎◌, Bool, ltb, replicate, bit_and, w8, w16, Fits, length-append}
+use Rattle.std.proofs.Common.{◌≡◌, ℕ, zero, suc, ◌+◌, ◌*◌, ◌/◌, ◌%◌, ◌<◌, ◌≤◌, inl, inr, cond, ◌&&◌, List, [], ◌∷◌, ◌++◌, map, length, take, drop, get_or, encode_utf8_all, refl, sym, ap, ◌∙◌, arith, subst, append_assoc, ◌-◌, ◌^◌, ◌⊎◌, Bool, ltb, replicate, bit_and, w8, w16, Fits, length-append, take-add, drop-drop}
 use Rattle.std.specs.Prelude.{nat_lt, nat_le}
 use Rattle.std.proofs.str.Laws.{two}
 use Rattle.std.proofs.lemmas.Bool.{cases_lt}
 use Rattle.std.proofs.lemmas.Bool.Decides.{nat_tests}
-use Rattle.std.proofs.lemmas.List.{length-append, get_or-append_right, get_or-drop, get_or-map, length-map, length-take-le, same_lists}
-use Rattle.std.proofs.lemmas.Simd.{ones-mask_l_cons, get_or-chunk, Each1-from_get_or, Each1-get_or, pick_l-range_with_len, mask_l-mod, mask_l-lt}
+use Rattle.std.proofs.lemmas.List.{length-append, get_or-append_right, get_or-drop, get_or-map, get_or_past, length-map, length-take-le, same_lists}
+use Rattle.std.proofs.lemmas.Simd.{ones-mask_l_cons, get_or-chunk, length-chunk, Each1-from_get_or, Each1-get_or, pick_l-range_with_len, mask_l-mod, mask_l-lt}
 use Rattle.std.proofs.lemmas.Str.{encode_ascii}
 use Rattle.std.specs.Int.RustNames.{count_ones}
-use Rattle.std.specs.Simd.Lanes.{mask_l, top, zip2, sel_l, pick_l, Each1}
+use Rattle.std.specs.Simd.Lanes.{chunk, mask_l, top, zip2, sel_l, pick_l, Each1}
 use lib.Dec.{leb}
 use Rattle.encoding_definitions.specs.Latin1.{IsLatin1}
 use Rattle.encoding_kernels.specs.KeptBytes.{latin1_ended, all_latin1_ended, both_end, kept_places, EndsPair}
@@ -352,3 +352,39 @@ pub first_length : (p : ℕ) (bs : List ℕ) (n : ℕ) → length bs ≡ 16 → 
 first_length p bs n long few =
     let leads = first_mask (leb 0xC0) bs _ n (mask_from w8 16 0xC0 bs long (omega arith)) (omega arith) (omega arith) in
     omega (arith, ap count_ones leads, ended_ones p (take n bs), length-take-le n bs (omega arith))
+
+-- ---- two vectors
+pub apart_chunk : (src : List ℕ) (at n : ℕ) → at + n ≤ length src → ((k : ℕ) → (get_or src (at + k) 0 < 0xC0) ⊎ (get_or src (at + k + 1) 0 < 0xC0)) → (k : ℕ)
+    → (get_or (chunk at n src) k 0 < 0xC0) ⊎ (get_or (chunk at n src) (k + 1) 0 < 0xC0)
+apart_chunk src at n room h k = elim (cases_lt (k + 1) n) [
+  | inr past ↦ inr (omega (arith, get_or_past (chunk at n src) (k + 1) 0 (omega (arith, length-chunk at n src room))))
+  | inl l ↦
+      let here = get_or-chunk at n src k 0 (omega arith) in
+      let place : at + (k + 1) ≡ at + k + 1 = omega arith in
+      let next = get_or-chunk at n src (k + 1) 0 l ∙ ap (λ j. get_or src j 0) place in
+      elim (h k) [
+        | inl a ↦ inl (omega (arith, here))
+        | inr a ↦ inr (omega (arith, next))
+      ]
+]
+
+module _ (src : List ℕ) (from : ℕ) (room : from + 32 ≤ length src) where
+  abbrev last_before : ℕ
+  last_before = get_or src (from + 15) 0
+
+  pub before_second : (k : ℕ) → k < 16 → get_or (chunk (from + 16 - 1) 16 src) k 0 ≡ get_or (last_before ∷ chunk (from + 16) 16 src) k 0
+  before_second zero l =
+      let place : from + 16 - 1 + 0 ≡ from + 15 = omega arith in get_or-chunk (from + 16 - 1) 16 src 0 0 l ∙ ap (λ j. get_or src j 0) place
+  before_second (suc k) l =
+      let place : from + 16 - 1 + suc k ≡ from + 16 + k = omega arith in
+      get_or-chunk (from + 16 - 1) 16 src (suc k) 0 l ∙ ap (λ j. get_or src j 0) place ∙ sym (get_or-chunk (from + 16) 16 src k 0 (omega arith))
+
+  pub ended_of_two : all_latin1_ended 0 (chunk from 16 src) ++ all_latin1_ended last_before (chunk (from + 16) 16 src)
+      ≡ all_latin1_ended 0 (take 32 (drop from src))
+  ended_of_two =
+      let first = chunk from 16 src in
+      let second = chunk (from + 16) 16 src in
+      let both : take 32 (drop from src) ≡ first ++ second = take-add 16 16 (drop from src) ∙ ap (λ xs. first ++ take 16 xs) (drop-drop 16 from src) in
+      let last : get_or (0 ∷ first) (length first) 0 ≡ last_before = ap (λ n. get_or (0 ∷ first) n 0) (length-chunk from 16 src (omega arith))
+      ∙ get_or-chunk from 16 src 15 0 (omega arith) in
+      sym (ap (all_latin1_ended 0) both ∙ ended_append 0 first second ∙ ap (λ p. all_latin1_ended 0 first ++ all_latin1_ended p second) last)

@@ -85,6 +85,12 @@ module _ (us old new after : List ℕ) (n written : ℕ) (w : WritesPrefix old n
       → WritesPrefix old after (written + m) (encode_utf8_all (take (n + k) us))
   written_eight k m count room put = WritesPrefix-same _ _ _ _ _ _ (WritesPrefix_put old new after written m _ _ w count room put) refl (encodes_more us n k)
 
+-- the k units from an index on, and m more
+pub encodes_block : (us : List ℕ) (from k m : ℕ)
+    → encode_utf8_all (take k (drop from us)) ++ encode_utf8_all (take m (drop (from + k) us)) ≡ encode_utf8_all (take (k + m) (drop from us))
+encodes_block us from k m =
+    ap (λ xs. encode_utf8_all (take k (drop from us)) ++ encode_utf8_all (take m xs)) (sym (drop-drop k from us)) ∙ encodes_more (drop from us) k m
+
 -- n units of what is left were converted
 pub written_left : (us : List ℕ) (read n : ℕ) {old new sub : List ℕ} {written m : ℕ} → WritesPrefix old new written (encode_utf8_all (take read us))
     → WritesPrefix (take (length new - written) (drop written new)) sub m (encode_utf8_all (take n (take (length us - read) (drop read us))))
@@ -120,6 +126,18 @@ pub store_spills : (xs ys : List ℕ) (at n : ℕ) → length ys ≡ 16 → n �
 store_spills xs ys at n long few room =
     let parts = put_prefix 16 xs ys at n long few room in
     record { counted = length-take-le n ys (omega arith); prefix = parts.0; following = parts.1; long = length-put_chunk at xs ys }
+
+-- one vector changes no more than its own lanes
+pub store_spills_rest : (xs ys : List ℕ) (at n : ℕ) → length ys ≡ 16 → n ≤ 16 → at + 16 ≤ length xs
+    → Spills xs (put_chunk at xs ys) at n (16 - n) (take n ys)
+store_spills_rest xs ys at n long few room =
+    let last : at + n + (16 - n) ≡ at + 0 + 16 = omega arith in
+    record {
+      counted = length-take-le n ys (omega arith);
+      prefix = (put_prefix 16 xs ys at n long few room).0;
+      following = ap (λ k. drop k (put_chunk at xs ys)) last ∙ (put_prefix 16 xs ys at 0 long (omega arith) room).1 ∙ ap (λ k. drop k xs) (sym last);
+      long = length-put_chunk at xs ys;
+    }
 
 -- one after the other
 pub spills_then : (a b c : List ℕ) (at n m s t : ℕ) (xs ys : List ℕ) → Spills a b at n s xs → Spills b c (at + n) m t ys → s ≤ m + t
@@ -169,6 +187,20 @@ exact_spills old new out at n count room put =
       following = ap (drop (at + n + 0)) is ∙ drop-append-drop (at + n) old (take at old ++ out) (at + n + 0) (omega arith) both;
       long = omega (arith, ap length is, length-append (take at old ++ out) (drop (at + n) old), length-drop (at + n) old);
     }
+
+pub spills_exact : (old new out : List ℕ) (at n : ℕ) → Spills old new at n 0 out → new ≡ take at old ++ (out ++ drop (at + n) old)
+spills_exact old new out at n p =
+    let same : at + n + 0 ≡ at + n = omega arith in
+    sym (take-append-drop (at + n) new) ∙ (λ i. p.prefix i ++ (ap (λ k. drop k new) (sym same) ∙ p.following ∙ ap (λ k. drop k old) same) i)
+    ∙ append_assoc (take at old) out (drop (at + n) old)
+
+-- what may have changed after the bytes is written back
+pub spills_back : (old mid out : List ℕ) (at n s : ℕ) → Spills old mid at n s out → s ≤ 16 → at + n + 16 ≤ length old
+    → put_chunk (at + n) mid (chunk (at + n) 16 old) ≡ take at old ++ (out ++ drop (at + n) old)
+spills_back old mid out at n s p few room =
+    let over : at + n + 16 ≡ at + n + s + (16 - s) = omega arith in
+    put_back 16 old mid (at + n) room p.long (later (at + n + s) (16 - s) (at + n + 16) mid old p.following over)
+    ∙ ap (λ xs. xs ++ drop (at + n) old) p.prefix ∙ append_assoc (take at old) out (drop (at + n) old)
 
 -- one more block: it has at least as many bytes as the one before it spilled
 pub due_then : (us old d e : List ℕ) (read w s c t : ℕ) → SpillsBmp us old d read w s → read + 16 ≤ length us → s ≤ 16 → w + c ≤ length d

@@ -14,7 +14,7 @@ use Rattle.encoding_definitions.specs.Prefixes.{IsLongestFittingPrefix, WritesPr
 use Rattle.encoding_definitions.specs.Latin1.{IsLatin1, IsUtf8Latin1}
 use Rattle.encoding_kernels.specs.KeptBytes.{all_latin1_ended}
 use Rattle.std.specs.Simd.Lanes.{chunk}
-use Rattle.encoding_kernels.proofs.Latin1FromUtf8Lemmas.{GoesOnWith, NextIs, Splits, nexts, splits, ended_without}
+use Rattle.encoding_kernels.proofs.Latin1FromUtf8Lemmas.{GoesOnWith, NextIs, Splits, apart_chunk, nexts, splits, ended_without}
 use Rattle.encoding_kernels.proofs.ScanLemmas.{Each-take, Each-at}
 use Rattle.encoding_kernels.proofs.OverwriteLemmas.{ascii_left, written_left}
 use Rattle.encoding_definitions.proofs.PrefixesLemmas.{IsLongestFittingPrefix-stop, IsLongestFittingPrefix-all, WritesPrefix-length, WritesPrefix_again, WritesPrefix_push, WritesPrefix_push_two, WritesPrefix_after, WritesPrefix_put, WritesPrefix-same}
@@ -236,7 +236,7 @@ module _ (src cs old new sub : List ℕ) (i j n : ℕ) (low : IsLatin1 cs) (rest
       next_of_two src cs (i + n) (j + n) low ascii_on.0 l
       (other_after src new i j n l (omega (arith, left, room, WritesPrefix-length old new j (take j cs) w)) stops)
 
--- ---- blocks of 16 bytes of Latin1 text
+-- ---- blocks of Latin1 text
 -- no two bytes in a row start a character of two bytes
 pub apart : (bs : List ℕ) → 16 ≤ length bs → ((k : ℕ) → NextIs (slice_index bs k) (slice_index bs (suc k)))
     → (k : ℕ) → (slice_index (take 16 bs) k < 0xC0) ⊎ (slice_index (take 16 bs) (k + 1) < 0xC0)
@@ -252,39 +252,51 @@ apart bs room next k = elim (cases_lt k 15) [
       ]
 ]
 
+-- the same in what is left
+pub left_apart : (src cs : List ℕ) (i j : ℕ) → IsLatin1 cs → drop i src ≡ encode_utf8_all (drop j cs) → (k : ℕ)
+    → (slice_index src (i + k) < 0xC0) ⊎ (slice_index src (i + k + 1) < 0xC0)
+left_apart src cs i j low rest k =
+    let following : IsLatin1 (drop j cs) = λ n. let same = get_or-drop j cs n 0 in omega (arith, same, low (j + n)) in
+    let next : NextIs (slice_index (drop i src) k) (slice_index (drop i src) (suc k)) =
+    subst (λ bs. NextIs (slice_index bs k) (slice_index bs (suc k))) (sym rest) (nexts (drop j cs) following k) in
+    let place : i + suc k ≡ i + k + 1 = omega arith in
+    let there = get_or-drop i src (suc k) 0 ∙ ap (slice_index src) place in
+    elim (cases_lt (slice_index src (i + k)) 0xC0) [
+      | inl l ↦ inl l
+      | inr l ↦ let last = next.after_first (omega (arith, get_or-drop i src k 0)) in inr (omega (arith, there, last.1))
+    ]
+
 pub begins_apart : (src cs : List ℕ) (i j : ℕ) → IsLatin1 cs → drop i src ≡ encode_utf8_all (drop j cs) → i + 16 ≤ length src
     → (k : ℕ) → (slice_index (chunk i 16 src) k < 0xC0) ⊎ (slice_index (chunk i 16 src) (k + 1) < 0xC0)
-begins_apart src cs i j low rest room =
-    let following : IsLatin1 (drop j cs) = λ n. let same = get_or-drop j cs n 0 in omega (arith, same, low (j + n)) in
-    apart (drop i src) (omega (arith, length-drop i src)) (λ k. subst (λ bs. NextIs (slice_index bs k) (slice_index bs (suc k))) (sym rest)
-    (nexts (drop j cs) following k))
+begins_apart src cs i j low rest room = apart_chunk src i 16 room (left_apart src cs i j low rest)
 
-module _ (src cs old new after : List ℕ) (i j m k : ℕ) (low : IsLatin1 cs) (rest : drop i src ≡ encode_utf8_all (drop j cs))
-    (w : WritesPrefix old new j (take j cs)) (bytes : List ℕ)
-    (ends : take m bytes ≡ all_latin1_ended 0 (chunk i 16 src)) (many : m ≤ length bytes) (room : j + m ≤ length new)
-    (put : after ≡ take j new ++ (take m bytes ++ drop (j + m) new)) (inside : i + 16 ≤ length src)
-    (whole : ((k ≡ 15) × (0xC0 ≤ slice_index src (i + 15))) ⊎ ((k ≡ 16) × (slice_index src (i + 15) < 0xC0))) where
+module _ (p : ℕ) (src cs old new after : List ℕ) (i j m k : ℕ) (low : IsLatin1 cs) (rest : drop i src ≡ encode_utf8_all (drop j cs))
+    (w : WritesPrefix old new j (take j cs)) (out : List ℕ)
+    (ends : out ≡ all_latin1_ended 0 (chunk i (suc p) src)) (many : m ≡ length out) (room : j + m ≤ length new)
+    (put : after ≡ take j new ++ (out ++ drop (j + m) new)) (inside : i + suc p ≤ length src)
+    (whole : ((k ≡ p) × (0xC0 ≤ slice_index src (i + p))) ⊎ ((k ≡ suc p) × (slice_index src (i + p) < 0xC0))) where
   after_low : IsLatin1 (drop j cs)
   after_low n = let same = get_or-drop j cs n 0 in omega (arith, same, low (j + n))
 
-  last_is : slice_index (encode_utf8_all (drop j cs)) 15 ≡ slice_index src (i + 15)
-  last_is = ap (λ bs. slice_index bs 15) (sym rest) ∙ get_or-drop i src 15 0
+  last_is : slice_index (encode_utf8_all (drop j cs)) p ≡ slice_index src (i + p)
+  last_is = ap (λ bs. slice_index bs p) (sym rest) ∙ get_or-drop i src p 0
 
   between : GoesOnWith (slice_index (encode_utf8_all (drop j cs)) k) → ⊥
   between g = elim whole [
-    | inl h ↦ let g15 : GoesOnWith (slice_index (encode_utf8_all (drop j cs)) 15) =
-        subst (λ n. GoesOnWith (slice_index (encode_utf8_all (drop j cs)) n)) h.0 g in omega (arith, last_is, g15.1, h.1)
-    | inr h ↦ let g16 : GoesOnWith (slice_index (encode_utf8_all (drop j cs)) 16) =
+    | inl h ↦ let cut : GoesOnWith (slice_index (encode_utf8_all (drop j cs)) p) =
+        subst (λ n. GoesOnWith (slice_index (encode_utf8_all (drop j cs)) n)) h.0 g in omega (arith, last_is, cut.1, h.1)
+    | inr h ↦ let next : GoesOnWith (slice_index (encode_utf8_all (drop j cs)) (suc p)) =
         subst (λ n. GoesOnWith (slice_index (encode_utf8_all (drop j cs)) n)) h.0 g in
-        (nexts (drop j cs) after_low 15).after_last (omega (arith, last_is, h.1)) g16
+        (nexts (drop j cs) after_low p).after_last (omega (arith, last_is, h.1)) next
   ]
 
-  ended_whole : all_latin1_ended 0 (take 16 (drop i src)) ≡ all_latin1_ended 0 (take k (drop i src))
+  ended_whole : all_latin1_ended 0 (take (suc p) (drop i src)) ≡ all_latin1_ended 0 (take k (drop i src))
   ended_whole = elim whole [
     | inl h ↦
-        let cut : take 16 (drop i src) ≡ take 15 (drop i src) ++ slice_index (drop i src) 15 ∷ [] =
-        take_more (drop i src) 15 0 (omega (arith, length-drop i src)) in
-        ap (all_latin1_ended 0) cut ∙ ended_without (take 15 (drop i src)) 0 (slice_index (drop i src) 15) (omega (arith, get_or-drop i src 15 0, h.1))
+        let one : suc p ≡ p + 1 = omega arith in
+        let cut : take (suc p) (drop i src) ≡ take p (drop i src) ++ slice_index (drop i src) p ∷ [] =
+        ap (λ n. take n (drop i src)) one ∙ take_more (drop i src) p 0 (omega (arith, length-drop i src)) in
+        ap (all_latin1_ended 0) cut ∙ ended_without (take p (drop i src)) 0 (slice_index (drop i src) p) (omega (arith, get_or-drop i src p 0, h.1))
         ∙ ap (λ n. all_latin1_ended 0 (take n (drop i src))) (sym h.0)
     | inr h ↦ ap (λ n. all_latin1_ended 0 (take n (drop i src))) (sym h.0)
   ]
@@ -294,13 +306,13 @@ module _ (src cs old new after : List ℕ) (i j m k : ℕ) (low : IsLatin1 cs) (
   parts = subst (Splits (drop j cs) 0 k) (sym rest) (splits (drop j cs) after_low 0 k between)
 
   counted : length (all_latin1_ended 0 (take k (drop i src))) ≡ m
-  counted = ap length (sym ended_whole ∙ sym ends) ∙ length-take-le m bytes many
+  counted = ap length (sym ended_whole ∙ sym ends) ∙ sym many
 
   pub block_on : (drop (i + k) src ≡ encode_utf8_all (drop (j + m) cs)) × WritesPrefix old after (j + m) (take (j + m) cs)
   block_on =
-      let part : take m bytes ≡ take m (drop j cs) = ends ∙ ended_whole ∙ sym parts.1 ∙ ap (λ n. take n (drop j cs)) counted in (
+      let part : out ≡ take m (drop j cs) = ends ∙ ended_whole ∙ sym parts.1 ∙ ap (λ n. take n (drop j cs)) counted in (
         sym (drop-drop k i src) ∙ parts.0 ∙ ap (λ n. encode_utf8_all (drop n (drop j cs))) counted ∙ ap encode_utf8_all (drop-drop m j cs),
-        WritesPrefix-same _ _ _ _ _ _ (WritesPrefix_put old new after j m (take j cs) (take m bytes) w (sym (length-take-le m bytes many)) room put) refl
+        WritesPrefix-same _ _ _ _ _ _ (WritesPrefix_put old new after j m (take j cs) out w many room put) refl
             (ap (λ xs. take j cs ++ xs) part ∙ sym (take-add j m cs)),
       )
 

@@ -1,10 +1,12 @@
 //! Latin1 of sixteen bytes of UTF-8: the kept bytes of pairs are looked up by a mask, as in the other direction.
 
-ghost use Rattle.std.specs.Prelude.{◌≡◌, ℕ, ◌+◌, ◌*◌, ◌<◌, ◌≤◌, ◌⊎◌, ◌∷◌, length, take, slice_index};
+ghost use Rattle.std.specs.Prelude.{◌≡◌, ℕ, ◌+◌, ◌*◌, ◌<◌, ◌≤◌, ◌⊎◌, ◌∷◌, ◌++◌, length, take, drop, slice_index};
 ghost use Rattle.std.specs.Simd.Lanes.{mask_l};
 ghost use Rattle.encoding_kernels.specs.KeptBytes.{EndsPair, all_latin1_ended, both_end};
 
 use crate::simd::compress::keep_pairs;
+use crate::simd::copy::one_before;
+use crate::simd::width::STRIDE;
 use std::simd::prelude::*;
 
 /// Returns for each pair of bytes the Latin1 bytes that its bytes end, given the byte before each byte. If they end one,
@@ -37,6 +39,19 @@ fn mask_of_ends(block: u8x16) -> usize
     (first & words.simd_lt(u16x8::splat(0xC000))).to_bitmask() as usize
 }
 
+/// Returns what `latin1_of_after` does: at least eight bytes.
+#[inline(always)]
+fn ended_latin1(before: u8x16, block: u8x16) -> (u8x16, usize)
+    requires { (k : ℕ) → (slice_index block k < 0xC0) ⊎ (slice_index block (k + 1) < 0xC0) }
+    ensures lane_count { length result.0 ≡ 16 }
+    ensures out_length { (8 ≤ result.1) × (result.1 ≤ 16) }
+    ensures latin1_ended { (p : ℕ)
+        → ((k : ℕ) → k < 16 → slice_index before k ≡ slice_index (p ∷ block) k)
+        → take result.1 result.0 ≡ all_latin1_ended p block }
+{
+    keep_pairs(ended_pairs(before, block), mask_of_ends(block))
+}
+
 /// Returns the Latin1 bytes that sixteen bytes of UTF-8 end, at the start of the vector, and their number, given the byte
 /// before each byte. No two adjacent bytes both begin a character of two bytes.
 #[inline(always)]
@@ -48,7 +63,35 @@ pub fn latin1_of_after(before: u8x16, block: u8x16) -> (u8x16, usize)
         → ((k : ℕ) → k < 16 → slice_index before k ≡ slice_index (p ∷ block) k)
         → take result.1 result.0 ≡ all_latin1_ended p block }
 {
-    keep_pairs(ended_pairs(before, block), mask_of_ends(block))
+    ended_latin1(before, block)
+}
+
+/// Writes the Latin1 bytes that the 32 bytes of UTF-8 from `from` on end, which start with a character, and returns their
+/// number. No two adjacent bytes both begin a character of two bytes. The rest of `dst` is unchanged.
+///
+/// What follows is loaded before the stores and stored after them. A load that overlaps the store before it would wait until
+/// that is in the cache.
+#[inline(always)]
+pub fn write_latin1_of_two(src: &[u8], from: usize, dst: &mut [u8], at: usize) -> usize
+    requires within { from + 32 ≤ length src.now }
+    requires dst_length { at + 48 ≤ length dst.old }
+    requires apart { (k : ℕ) → (slice_index src.now (from + k) < 0xC0)
+        ⊎ (slice_index src.now (from + k + 1) < 0xC0) }
+    ensures length_bound { result ≤ 32 }
+    ensures out_length { result ≡ length (all_latin1_ended 0 (take 32 (drop from src.now))) }
+    ensures written { dst.new ≡ take at dst.old ++ (all_latin1_ended 0 (take 32 (drop from src.now))
+        ++ drop (at + result) dst.old) }
+{
+    let block = u8x16::from_slice(&src[from..]);
+    let (first, count) = ended_latin1(one_before(block), block);
+    let before = u8x16::from_slice(&src[from + STRIDE - 1..]);
+    let (second, more) = ended_latin1(before, u8x16::from_slice(&src[from + STRIDE..]));
+    let end = at + (count + more);
+    let following = u8x16::from_slice(&dst[end..]);
+    first.copy_to_slice(&mut dst[at..]);
+    second.copy_to_slice(&mut dst[at + count..]);
+    following.copy_to_slice(&mut dst[end..]);
+    count + more
 }
 
 /// Returns the Latin1 of sixteen bytes of UTF-8 that start with a character, at the start of the vector, and its

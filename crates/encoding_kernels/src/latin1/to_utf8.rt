@@ -3,8 +3,10 @@
 ghost use Rattle.std.specs.Prelude.{◌≡◌, ℕ, ◌+◌, ◌*◌, ◌<◌, ◌≤◌, ◌++◌, List, nat_le, length, map, take, drop, slice_index, encode_utf8_all};
 ghost use Rattle.std.specs.Simd.Lanes.{mask_l};
 ghost use Rattle.encoding_kernels.specs.KeptBytes.{EncodesTo};
+ghost use Rattle.encoding_kernels.specs.Utf8Output.{Spills};
 
-use crate::simd::compress::{keep_pairs, write_both};
+use crate::simd::compress::{keep_pairs, store_two, write_both};
+use crate::simd::width::STRIDE;
 use crate::utf8_to_utf16::code_units::join_bytes;
 use std::simd::prelude::*;
 
@@ -35,6 +37,22 @@ fn mask_of_others(block: u8x16) -> usize
     block.simd_ge(u8x16::splat(0x80)).to_bitmask() as usize
 }
 
+/// Returns the UTF-8 of sixteen bytes of Latin1: that of the first eight at the start of a vector, with its length, and
+/// that of the others in the same way.
+#[inline(always)]
+fn encode_latin1(block: u8x16) -> (u8x16, usize, u8x16, usize)
+    ensures lane_count { (length result.0 ≡ 16) × (length result.2 ≡ 16) }
+    ensures first_length { (8 ≤ result.1) × (result.1 ≤ 16) }
+    ensures second { (8 ≤ result.3) × (result.3 ≤ 16) }
+    ensures spelled { take result.1 result.0 ++ take result.3 result.2 ≡ encode_utf8_all block }
+{
+    let others = mask_of_others(block);
+    let (low, high) = both_bytes(block);
+    let (first, count) = keep_pairs(low, others & 0xFF);
+    let (second, more) = keep_pairs(high, others >> 8);
+    (first, count, second, more)
+}
+
 /// Writes the UTF-8 of sixteen bytes of Latin1, and returns its length. The rest of `dst` is unchanged.
 #[inline(always)]
 pub fn write_latin1(block: u8x16, dst: &mut [u8], at: usize) -> usize
@@ -44,12 +62,47 @@ pub fn write_latin1(block: u8x16, dst: &mut [u8], at: usize) -> usize
     ensures written { dst.new ≡ take at dst.old ++ (encode_utf8_all block ++ drop
         (at + result) dst.old) }
 {
-    let others = mask_of_others(block);
-    let (low, high) = both_bytes(block);
-    let (first, count) = keep_pairs(low, others & 0xFF);
-    let (second, more) = keep_pairs(high, others >> 8);
+    let (first, count, second, more) = encode_latin1(block);
     write_both(dst, at, first, count, second, more);
     count + more
+}
+
+/// Stores the UTF-8 of sixteen bytes of Latin1, and returns its length. Up to sixteen bytes after it may change.
+#[inline(always)]
+fn store_latin1(block: u8x16, dst: &mut [u8], at: usize) -> usize
+    requires dst_length { at + 32 ≤ length dst.old }
+    ensures length_bound { (16 ≤ result) × (result ≤ 32) }
+    ensures stored { Spills dst.old dst.new at result 16 (encode_utf8_all block) }
+{
+    let (first, count, second, more) = encode_latin1(block);
+    store_two(dst, at, first, count, second, more);
+    count + more
+}
+
+/// Writes the UTF-8 of the 64 bytes of Latin1 from `from` on, and returns its length. The rest of `dst` is unchanged.
+///
+/// Each stride overwrites what the one before it changed after its own bytes, and only the last one restores what follows:
+/// to restore it each time would wait for the store before.
+#[inline(always)]
+pub fn write_latin1_block(src: &[u8], from: usize, dst: &mut [u8], at: usize) -> usize
+    requires within { from + 64 ≤ length src.now }
+    requires dst_length { at + 128 ≤ length dst.old }
+    ensures length_bound { result ≤ 128 }
+    ensures out_length { result ≡ length (encode_utf8_all (take 64 (drop from src.now))) }
+    ensures written { dst.new ≡ take at dst.old ++ (encode_utf8_all (take 64 (drop from src.now))
+        ++ drop (at + result) dst.old) }
+{
+    let first = store_latin1(u8x16::from_slice(&src[from..]), dst, at);
+    let second = store_latin1(u8x16::from_slice(&src[from + STRIDE..]), dst, at + first);
+    let two = first + second;
+    let third = store_latin1(u8x16::from_slice(&src[from + 2 * STRIDE..]), dst, at + two);
+    let three = two + third;
+    let fourth = write_latin1(
+        u8x16::from_slice(&src[from + 3 * STRIDE..]),
+        dst,
+        at + three,
+    );
+    three + fourth
 }
 
 /// Returns the length of the UTF-8 of the first `count` of sixteen bytes of Latin1.

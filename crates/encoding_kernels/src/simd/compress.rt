@@ -3,6 +3,7 @@
 ghost use Rattle.std.specs.Prelude.{◌≡◌, ℕ, ◌+◌, ◌*◌, ◌<◌, ◌≤◌, ◌++◌, Bool, List, length, map, take, drop, slice_index};
 ghost use Rattle.std.specs.Simd.Lanes.{mask_l};
 ghost use Rattle.encoding_kernels.specs.KeptBytes.{kept_places, last_places};
+ghost use Rattle.encoding_kernels.specs.Utf8Output.{Spills};
 
 use crate::simd::copy::LANES;
 use std::simd::prelude::*;
@@ -96,6 +97,26 @@ pub(crate) fn write_both(
     is_kept
         .select(second, following)
         .copy_to_slice(&mut dst[next..]);
+}
+
+/// Stores the first `count` bytes of `first`, followed by the first `more` of `second`. Up to sixteen bytes after these may
+/// change.
+#[inline(always)]
+pub(crate) fn store_two(
+    dst: &mut [u8],
+    at: usize,
+    first: u8x16,
+    count: usize,
+    second: u8x16,
+    more: usize,
+)
+    requires dst_length { at + 32 ≤ length dst.old }
+    requires first_lanes { (count ≤ 16) × (length first ≡ 16) }
+    requires second { (more ≤ 16) × (length second ≡ 16) }
+    ensures { Spills dst.old dst.new at (count + more) 16 (take count first ++ take more second) }
+{
+    first.copy_to_slice(&mut dst[at..]);
+    second.copy_to_slice(&mut dst[at + count..]);
 }
 
 /// Builds the table lane by lane, last lane first. Each row lists the indices of the lane's last three bytes, its last

@@ -11,11 +11,10 @@ ghost use Rattle.encoding_kernels.specs.Utf8Output.{Spills, ConvertsPrefix, Writ
 ghost use Rattle.encoding_definitions.specs.FirstScalar.{IsFirstScalar};
 ghost use Rattle.encoding_definitions.specs.Utf16.{IsUtf8OfPrefix};
 
-use super::uniform::store_two;
 use crate::scalar::{
     is_high_surrogate, is_low_surrogate, is_surrogate, pair_scalar, utf16_length, write_scalar,
 };
-use crate::simd::compress::{last_by, select_in_halves};
+use crate::simd::compress::{last_by, select_in_halves, store_two};
 use crate::simd::copy::copy_prefix;
 use crate::simd::scan::run_before;
 use crate::simd::width::STRIDE;

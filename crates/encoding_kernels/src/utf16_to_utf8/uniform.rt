@@ -9,7 +9,7 @@ ghost use Rattle.encoding_definitions.specs.Utf16.{IsHighSurrogate};
 ghost use Rattle.encoding_kernels.specs.SurrogatePairs.{AreTwoByteOrPaired, IsTwoByteOrHalf, EncodesHalf, half_bytes, concatenated, halves_from};
 
 use crate::scalar::{is_high_surrogate, is_low_surrogate};
-use crate::simd::compress::{keep_pairs, places_by, select_in_halves, write_both};
+use crate::simd::compress::{keep_pairs, places_by, select_in_halves, store_two, write_both};
 use std::simd::prelude::*;
 
 /// Returns whether each of the sixteen code units is ASCII.
@@ -73,25 +73,6 @@ fn encode_two_byte(units: u16x16) -> (u8x16, usize, u8x16, usize)
         other,
         8 + high.count_ones() as usize,
     )
-}
-
-/// Stores the first `count` bytes of `first`, followed by the first `more` of `second`.
-#[inline(always)]
-pub(super) fn store_two(
-    dst: &mut [u8],
-    at: usize,
-    first: u8x16,
-    count: usize,
-    second: u8x16,
-    more: usize,
-)
-    requires dst_length { at + 32 ≤ length dst.old }
-    requires first_lanes { (count ≤ 16) × (length first ≡ 16) }
-    requires second { (more ≤ 16) × (length second ≡ 16) }
-    ensures { Spills dst.old dst.new at (count + more) 16 (take count first ++ take more second) }
-{
-    first.copy_to_slice(&mut dst[at..]);
-    second.copy_to_slice(&mut dst[at + count..]);
 }
 
 /// Stores the UTF-8 of sixteen code units below U+0800, and returns its length.

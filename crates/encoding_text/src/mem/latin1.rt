@@ -1,15 +1,17 @@
 //! Conversions from and to Latin1, in which each byte is the scalar value of its character. Infra Standard: isomorphic
 //! decode and encode. A conversion leaves the rest of `dst` unchanged.
 
-ghost use Rattle.std.specs.Prelude.{◌≡◌, ◌+◌, ◌*◌, ◌%◌, ◌<◌, ◌≤◌, ◌⊎◌, ℕ, List, [], ◌∷◌, take, drop, length, map, slice_index, encode_utf8, encode_utf8_all, IfSome, IfNone};
+ghost use Rattle.std.specs.Prelude.{◌≡◌, ◌+◌, ◌-◌, ◌*◌, ◌%◌, ◌<◌, ◌≤◌, ◌⊎◌, ℕ, List, [], ◌∷◌, take, drop, length, map, slice_index, encode_utf8, encode_utf8_all, IfSome, IfNone};
 ghost use Rattle.std.specs.Str.{IsAscii, chars};
 ghost use Rattle.encoding_definitions.specs.Prefixes.{IsLongestFittingPrefix, WritesPrefix};
 ghost use Rattle.encoding_definitions.specs.Latin1.{IsUtf8Latin1};
 ghost use Rattle.encoding_kernels.specs.Scans.{AllBelow};
 
 use crate::ascii;
-use encoding_kernels::latin1::from_utf8::{latin1_length_of_first, latin1_of, latin1_of_after};
-use encoding_kernels::latin1::to_utf8::{utf8_length_of_first, write_latin1};
+use encoding_kernels::latin1::from_utf8::{
+    latin1_length_of_first, latin1_of, latin1_of_after, write_latin1_of_two,
+};
+use encoding_kernels::latin1::to_utf8::{utf8_length_of_first, write_latin1, write_latin1_block};
 use encoding_kernels::simd::copy::{pack_lower, unpack_part, write_first};
 use encoding_kernels::simd::scan::are_bytes_below;
 use encoding_kernels::simd::width::{ASCII_END, BLOCK, STRIDE};
@@ -18,6 +20,12 @@ use std::simd::prelude::*;
 
 /// The length in UTF-8 of a character from U+0080 to U+00FF.
 const HIGH_LENGTH: usize = 2;
+
+/// How many bytes go from UTF-8 to Latin1 at once, after a test for ASCII.
+const GROUP: usize = BLOCKS_BEFORE_RETEST * STRIDE;
+
+/// The space that these need. What follows them is loaded and stored again.
+const GROUP_ROOM: usize = GROUP + STRIDE;
 
 /// Writes each byte as a UTF-16 code unit. `dst` is at least as long as `src`.
 pub fn convert_latin1_to_utf16(src: &[u8], dst: &mut [u16])
@@ -92,11 +100,8 @@ fn convert_latin1_blocks(src: &[u8], dst: &mut [u8]) -> (usize, usize)
         if are_bytes_below::<BLOCK>(src, read, ASCII_END) {
             return (read, written);
         }
-        let end = read + BLOCK;
-        while read < end {
-            written += write_latin1(u8x16::from_slice(&src[read..]), dst, written);
-            read += STRIDE;
-        }
+        written += write_latin1_block(src, read, dst, written);
+        read += BLOCK;
     }
     while src.len() - read >= STRIDE && dst.len() - written >= 2 * STRIDE {
         written += write_latin1(u8x16::from_slice(&src[read..]), dst, written);
@@ -191,12 +196,13 @@ pub fn convert_latin1_to_utf8(src: &[u8], dst: &mut [u8]) -> usize
     written
 }
 
-/// Returns how many of 16 bytes come before a character that is cut at their end. `last` is the last of them.
+/// Returns how many of N bytes come before a character that is cut at their end. `last` is the last of them.
 #[inline(always)]
-fn whole_length(last: u8) -> usize
-    ensures { ((result ≡ 15) × (0xC0 ≤ last)) ⊎ ((result ≡ 16) × (last < 0xC0)) }
+fn whole_length<const N: usize>(last: u8) -> usize
+    requires { 0 < N }
+    ensures { ((result ≡ N - 1) × (0xC0 ≤ last)) ⊎ ((result ≡ N) × (last < 0xC0)) }
 {
-    if last < 0xC0 { 16 } else { 15 }
+    if last < 0xC0 { N } else { N - 1 }
 }
 
 /// Writes the end of a text of which fewer than sixteen bytes are left, and returns the length of all, if `dst` has the
@@ -244,19 +250,22 @@ fn convert_utf8_turns(src: &[u8], dst: &mut [u8], ascii: usize) -> usize
         dst[written] = (src[read] << 6) | (src[read + 1] & 0x3F);
         read += 2;
         written += 1;
-        let mut untested = 0;
-        while src.len() - read >= STRIDE && dst.len() - written >= STRIDE {
-            if untested == 0 {
-                if src.len() - read >= BLOCK && are_bytes_below::<BLOCK>(src, read, ASCII_END) {
-                    break;
-                }
-                untested = BLOCKS_BEFORE_RETEST;
+        while src.len() - read >= GROUP && dst.len() - written >= GROUP_ROOM {
+            if src.len() - read >= BLOCK && are_bytes_below::<BLOCK>(src, read, ASCII_END) {
+                break;
             }
+            written += write_latin1_of_two(src, read, dst, written);
+            read += whole_length::<GROUP>(src[read + (GROUP - 1)]);
+        }
+        // before ASCII, a block and the space for a group are left
+        while (src.len() - read < BLOCK || dst.len() - written < GROUP_ROOM)
+            && src.len() - read >= STRIDE
+            && dst.len() - written >= STRIDE
+        {
             let (bytes, count) = latin1_of(u8x16::from_slice(&src[read..]));
             write_first(dst, written, bytes, count);
             written += count;
-            read += whole_length(src[read + 15]);
-            untested -= 1;
+            read += whole_length::<STRIDE>(src[read + (STRIDE - 1)]);
         }
         if src.len() > STRIDE && src.len() - read < STRIDE {
             if let Some(length) = finish_utf8(src, dst, read, written) {

@@ -1,4 +1,4 @@
-use Rattle.std.proofs.Common.{◌≡◌, ◌+◌, ◌-◌, ◌*◌, ◌%◌, ◌≤◌, length, take, encode_utf8_all}
+use Rattle.std.proofs.Common.{◌-◌, ◌≤◌, length, take, encode_utf8_all}
 use Rattle.encoding_definitions.specs.Prefixes.{WritesPrefix}
 use Rattle.encoding_text.proofs.mem.latin1.convert_latin1_blocks.Given as goal
 
@@ -13,20 +13,9 @@ decreases-loop-read l = length l.src - l.read
 
 abbrev pub invariant-loop-read-2 : goal.invariant-loop-read-2
 invariant-loop-read-2 l = record {
-  within : (l.initial.read ≤ l.read) × (l.read ≤ l.end) × (l.end ≤ length l.src);
-  whole : (l.end - l.read) % 16 ≡ 0;
-  room : l.written + 2 * (l.end - l.read) ≤ length l.dst;
-  written : WritesPrefix l.fn.dst l.dst l.written (encode_utf8_all (take l.read l.src));
-}
-
-abbrev pub decreases-loop-read-2 : goal.decreases-loop-read-2
-decreases-loop-read-2 l = l.end - l.read
-
-abbrev pub invariant-loop-read-3 : goal.invariant-loop-read-3
-invariant-loop-read-3 l = record {
   within : l.read ≤ length l.src;
   written : WritesPrefix l.fn.dst l.dst l.written (encode_utf8_all (take l.read l.src));
 }
 
-abbrev pub decreases-loop-read-3 : goal.decreases-loop-read-3
-decreases-loop-read-3 l = length l.src - l.read
+abbrev pub decreases-loop-read-2 : goal.decreases-loop-read-2
+decreases-loop-read-2 l = length l.src - l.read

@@ -1,6 +1,6 @@
 use Rattle.std.proofs.Common.{arith}
 use Rattle.encoding_kernels.proofs.OverwriteLemmas.{store_spills, spills_then}
-use Rattle.encoding_kernels.proofs.utf16_to_utf8.uniform.store_two.Goals as goal
+use Rattle.encoding_kernels.proofs.simd.compress.store_two.Goals as goal
 
 pub returns : goal.returns
 returns c =

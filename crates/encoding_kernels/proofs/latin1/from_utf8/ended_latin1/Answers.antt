@@ -1,7 +1,7 @@
 use Rattle.std.proofs.Common.{◌∙◌, arith}
 use Rattle.encoding_kernels.specs.KeptBytes.{both_end}
 use Rattle.encoding_kernels.proofs.Latin1FromUtf8Lemmas.{both_end_long, kept_ends}
-use Rattle.encoding_kernels.proofs.latin1.from_utf8.latin1_of_after.Goals as goal
+use Rattle.encoding_kernels.proofs.latin1.from_utf8.ended_latin1.Goals as goal
 
 pub returns-clause-latin1_ended : goal.returns-clause-latin1_ended
 returns-clause-latin1_ended c p before =
