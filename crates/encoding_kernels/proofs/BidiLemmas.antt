@@ -1,6 +1,6 @@
 -- Indices of bytes at which there are right-to-left characters: a text with one has such an index, and the first three
 -- bytes show if there is none. And code units that aren't right-to-left, by ranges that hold all those that are.
-use Rattle.std.proofs.Common.{◌≡◌, ℕ, ◌+◌, ◌/◌, ◌%◌, ◌<◌, ◌≤◌, inl, inr, List, [], ◌∷◌, ◌++◌, length, take, drop, slice_index, encode_utf8, encode_utf8_all, IsUtf8, refl, sym, ap, ◌∙◌, arith, subst, take-add, Bool, true, false, cond, ◌&&◌, leb, ltb, eqb, bit_or, ◌^◌, ◌⊎◌, ◌||◌}
+use Rattle.std.proofs.Common.{◌≡◌, ℕ, ◌+◌, ◌-◌, ◌/◌, ◌%◌, ◌<◌, ◌≤◌, inl, inr, List, [], ◌∷◌, ◌++◌, length, take, drop, slice_index, encode_utf8, encode_utf8_all, IsUtf8, refl, sym, ap, ◌∙◌, arith, subst, take-add, Bool, true, false, cond, ◌&&◌, leb, ltb, eqb, bit_or, ◌^◌, ◌⊎◌, ◌||◌}
 use Rattle.std.specs.Prelude.{Any, nat_eq}
 use Rattle.std.specs.Str.{all_scalars}
 use Rattle.std.proofs.str.Laws.{two, three, four, both}
@@ -251,6 +251,44 @@ not_right_to_left u l e r =
 pub units_clear : (us : List ℕ) (from to : ℕ) → ((k : ℕ) → slice_index us k < 2 ^ 16)
     → PassBetween (λ k. may_be_right_to_left (slice_index us k) ≡ false) from to → NoneRightToLeft us from to
 units_clear us from to units none = record { each = λ k l m r. not_right_to_left (slice_index us k) (units k) (none k l m) r }
+
+-- ---- ranges by lanes that are zero
+abbrev wrapped : ℕ → ℕ → ℕ
+wrapped a b = (a + (2 ^ 16 - b)) % 2 ^ 16
+
+-- how far a code unit is past a range, 0 if it is in it
+abbrev past_range : ℕ → ℕ → ℕ → ℕ
+past_range from last u = wrapped (cond (ltb (wrapped u from) last) last (wrapped u from)) last
+
+past_zero : (from last u : ℕ) → last < 2 ^ 16 → eqb (past_range from last u) 0 ≡ in_range from (last + 1) u
+past_zero from last u l = grind (arith, nat_tests)
+
+lesser_zero : (a b : ℕ) → eqb (cond (ltb a b) a b) 0 ≡ (eqb a 0 || eqb b 0)
+lesser_zero a b = grind (arith, nat_tests)
+
+or_turned : (a b d : Bool) → ((a || d) || b) ≡ ((a || b) || d)
+or_turned true b d = refl
+or_turned false true true = refl
+or_turned false true false = refl
+or_turned false false true = refl
+or_turned false false false = refl
+
+abbrev lesser : ℕ → ℕ → ℕ
+lesser a b = cond (ltb a b) a b
+
+abbrev pub past_ranges : ℕ → ℕ
+past_ranges u = lesser (lesser (past_range 0x0590 0x036F u) (past_range 0x202B 3 u)) (lesser (past_range 0xD802 0x0039 u) (past_range 0xFB1D 0x03E1 u))
+
+pub same_test : (u : ℕ) → (eqb (past_ranges u) 0 || (eqb u 0x200F || eqb u 0x2067)) ≡ may_be_right_to_left u
+same_test u =
+    let first = lesser_zero (past_range 0x0590 0x036F u) (past_range 0x202B 3 u)
+    ∙ (λ i. past_zero 0x0590 0x036F u (omega arith) i || past_zero 0x202B 3 u (omega arith) i) in
+    let second = lesser_zero (past_range 0xD802 0x0039 u) (past_range 0xFB1D 0x03E1 u)
+    ∙ (λ i. past_zero 0xD802 0x0039 u (omega arith) i || past_zero 0xFB1D 0x03E1 u (omega arith) i) in
+    let all = lesser_zero (lesser (past_range 0x0590 0x036F u) (past_range 0x202B 3 u)) (lesser (past_range 0xD802 0x0039 u) (past_range 0xFB1D 0x03E1 u))
+    ∙ (λ i. first i || second i) in
+    ap (λ b. b || (eqb u 0x200F || eqb u 0x2067)) all
+    ∙ or_turned (in_range 0x0590 0x0370 u || in_range 0x202B 4 u) (eqb u 0x200F || eqb u 0x2067) (in_range 0xD802 0x003A u || in_range 0xFB1D 0x03E2 u)
 
 -- ---- ranges of units
 pub units_low : (us : List ℕ) (from to : ℕ) → BelowBetween 0x590 us from to → NoneRightToLeft us from to

@@ -139,12 +139,16 @@ impl<'a, const N: usize> LanePredicate<N> for ClearUnits<'a> {
     fn failing(&self, at: usize) -> u64 {
         let units = self.units;
         let block = Simd::<u16, N>::from_slice(&units[at..]);
-        let scripts = (block - Simd::splat(0x0590)).simd_lt(Simd::splat(0x0370));
-        let embeddings = (block - Simd::splat(0x202B)).simd_lt(Simd::splat(4));
+        // zero in each lane that is in the range: a comparison for each would need one more instruction
+        let scripts = (block - Simd::splat(0x0590)).saturating_sub(Simd::splat(0x036F));
+        let embeddings = (block - Simd::splat(0x202B)).saturating_sub(Simd::splat(3));
+        let halves = (block - Simd::splat(0xD802)).saturating_sub(Simd::splat(0x0039));
+        let forms = (block - Simd::splat(0xFB1D)).saturating_sub(Simd::splat(0x03E1));
+        let ranges = scripts
+            .simd_min(embeddings)
+            .simd_min(halves.simd_min(forms));
         let marks = block.simd_eq(Simd::splat(0x200F)) | block.simd_eq(Simd::splat(0x2067));
-        let halves = (block - Simd::splat(0xD802)).simd_lt(Simd::splat(0x003A));
-        let forms = (block - Simd::splat(0xFB1D)).simd_lt(Simd::splat(0x03E2));
-        ((scripts | embeddings) | marks | (halves | forms)).to_bitmask()
+        (ranges.simd_eq(Simd::splat(0)) | marks).to_bitmask()
     }
 }
 
