@@ -1,13 +1,11 @@
 -- Indices of bytes at which there are right-to-left characters: a text with one has such an index, and the first three
 -- bytes show if there is none. And code units that aren't right-to-left, by ranges that hold all those that are.
-use Rattle.std.proofs.Common.{◌≡◌, ℕ, ◌+◌, ◌-◌, ◌/◌, ◌%◌, ◌<◌, ◌≤◌, inl, inr, List, [], ◌∷◌, ◌++◌, length, take, drop, slice_index, encode_utf8, encode_utf8_all, IsUtf8, refl, sym, ap, ◌∙◌, arith, subst, take-add, Bool, true, false, cond, ◌&&◌, ltb, eqb, ◌^◌, ◌⊎◌, ◌||◌}
-use Rattle.std.specs.Prelude.{Any, nat_eq, nat_le, bit_and, min}
-use Rattle.std.specs.Int.{bit_at}
-use Rattle.std.proofs.lemmas.Nat.Bits.{bit_at-zero, bit_at_and}
+use Rattle.std.proofs.Common.{◌≡◌, ℕ, ◌+◌, ◌-◌, ◌/◌, ◌%◌, ◌<◌, ◌≤◌, inl, inr, List, [], ◌∷◌, ◌++◌, length, take, drop, slice_index, encode_utf8, encode_utf8_all, IsUtf8, refl, sym, ap, ◌∙◌, arith, subst, take-add, Bool, true, false, cond, ◌&&◌, leb, ltb, eqb, bit_or, ◌^◌, ◌⊎◌, ◌||◌}
+use Rattle.std.specs.Prelude.{Any, nat_eq}
 use Rattle.std.specs.Str.{all_scalars}
 use Rattle.std.proofs.str.Laws.{two, three, four, both}
 use Rattle.std.proofs.lemmas.Str.{encode_same, length-encode, IsUtf8-take, IsUtf8-append}
-use Rattle.std.proofs.lemmas.Bool.{and_from, cases_lt, cond-true, eqb-true, agree_below, agree_below_at, le-leb, ltb-false, or_parts}
+use Rattle.std.proofs.lemmas.Bool.{cases_lt, eqb-true, agree_below_at, ltb-false, or_parts}
 use Rattle.std.proofs.lemmas.Bool.Decides.{nat_tests}
 use Rattle.std.proofs.lemmas.List.{length-append, drop_at, drop-drop, get_or-drop, take_at, take-append-drop, take_all}
 use lib.Utf8.{scalar}
@@ -15,8 +13,7 @@ use Rattle.encoding_definitions.specs.Bidi.{IsRightToLeft, IsBidiText, IsBidiByt
 use Rattle.encoding_definitions.specs.Parts.{BeginsWithNoCharacter}
 use Rattle.encoding_definitions.specs.Sequence.{IsSequence}
 use Rattle.encoding_kernels.specs.Scans.{PassBetween, BelowUpTo, BelowBetween}
-use Rattle.encoding_kernels.specs.RightToLeft.{by_nibbles, rtl_classes, rtl_second_end, ends_mark, rtl_mark_lead, RtlAt, NoRtlIn, NoneRightToLeft, in_range, may_be_right_to_left}
-use Rattle.encoding_kernels.specs.declared.bidi.TheConstants.{FIRST_HIGH, FIRST_LOW, SECOND_HIGH, SECOND_LOW, THIRD_HIGH, THIRD_LOW}
+use Rattle.encoding_kernels.specs.RightToLeft.{rtl_second_end, ends_mark, rtl_mark_lead, may_start_rtl, HasNoRtlAt, RtlAt, NoRtlIn, NoneRightToLeft, in_range, may_be_right_to_left}
 use Rattle.encoding_definitions.proofs.AnyLemmas.{Any-none, Any-cons}
 use Rattle.encoding_definitions.proofs.BidiTextLemmas.{right_to_left_from, character_bidi, bidi_character, found_in_text, bidi_after, bidi_either, rest_text, text_of_bidi, text_of_latin1, latin1_not_bidi}
 use Rattle.encoding_kernels.proofs.PairsLemmas.{ascii_latin1}
@@ -66,7 +63,7 @@ first_three c rest r = elim (cases_lt c 2048) [
 at_place : (bs : List ℕ) (at k : ℕ) (xs : List ℕ) → drop at bs ≡ xs → slice_index xs k ≡ slice_index bs (at + k)
 at_place bs at k xs e = ap (λ ys. slice_index ys k) (sym e) ∙ get_or-drop at bs k 0
 
-second_below : (bs : List ℕ) (at : ℕ) → RtlAt bs at → slice_index bs (at + 1) < rtl_second_end (slice_index bs at) (rtl_mark_lead (slice_index bs (at + 2)))
+pub second_below : (bs : List ℕ) (at : ℕ) → RtlAt bs at → slice_index bs (at + 1) < rtl_second_end (slice_index bs at) (rtl_mark_lead (slice_index bs (at + 2)))
 second_below bs at s =
     let xs = encode_utf8 s.character ++ s.rest in
     let first : slice_index xs 0 ≡ slice_index bs at = at_place bs at 0 xs s.spelled ∙ ap (λ k. slice_index bs k) {x = at + 0} {y = at} (omega arith) in
@@ -74,136 +71,42 @@ second_below bs at s =
     let third : slice_index xs 2 ≡ slice_index bs (at + 2) = at_place bs at 2 xs s.spelled in
     rw (sym first, sym second, sym third) (first_three s.character s.rest s.right_to_left)
 
--- ---- for both numbers that `rtl_mark_lead` has
+-- ---- what the lanes hold
+abbrev pub ends_lane : ℕ → ℕ → ℕ
+ends_lane a mark = bit_or (bit_or (bit_or (bit_or (cond (leb 0xD6 a && ltb a 0xE0) 0xFF 0) (cond (eqb a 0xE0) 0xA4 0)) (cond (eqb a 0xEF) 0xBC 0))
+    (cond (eqb a 0xF0) 0x9F 0)) (cond (eqb a mark) 0x82 0)
+
 chosen_either : (P : ℕ → Type 0) → P 0xE2 → P 0xF0 → (ends : Bool) → P (cond ends 0xE2 0xF0)
 chosen_either P p q true = p
 chosen_either P p q false = q
 
-for_both : (P : ℕ → Type 0) → P 0xE2 → P 0xF0 → (d : ℕ) → P (rtl_mark_lead d)
+-- for both numbers that `rtl_mark_lead` has
+pub for_both : (P : ℕ → Type 0) → P 0xE2 → P 0xF0 → (d : ℕ) → P (rtl_mark_lead d)
 for_both P p q d = chosen_either P p q (ends_mark d)
 
--- ---- the tables
--- a bit that all three have
-bit_met : (i x y z : ℕ) → bit_at x i ≡ 1 → bit_at y i ≡ 1 → bit_at z i ≡ 1 → bit_and (bit_and x y) z ≡ 0 → ⊥
-bit_met i x y z p q r e =
-    let three : bit_at (bit_and (bit_and x y) z) i ≡ min (min 1 1) 1 = bit_at_and (bit_and x y) z i
-    ∙ (λ j. min ((bit_at_and x y i ∙ (λ k. min (p k) (q k))) j) (r j)) in
-    let none : bit_at (bit_and (bit_and x y) z) i ≡ 0 = ap (λ n. bit_at n i) e ∙ bit_at-zero i in
-    omega arith
+pub ends_are : (a d : ℕ) → a < 256 → ends_lane a (rtl_mark_lead d) ≡ rtl_second_end a (rtl_mark_lead d)
+ends_are a d l =
+    let same = λ (mark : ℕ). λ (x : ℕ). eqb (ends_lane x mark) (rtl_second_end x mark) in
+    for_both (λ mark. ends_lane a mark ≡ rtl_second_end a mark)
+    (eqb-true _ _ (agree_below_at (same 0xE2) (λ x. true) 256 a refl l)) (eqb-true _ _ (agree_below_at (same 0xF0) (λ x. true) 256 a refl l)) d
 
--- a test of each byte in a range, if it computes to true
-abbrev within : ℕ → ℕ → (ℕ → Bool) → ℕ → Bool
-within from to t x = cond (nat_le from x && nat_le x to) (t x) true
-
-in_bytes : (from to : ℕ) (t : ℕ → Bool) → agree_below (within from to t) (λ _. true) 256 ≡ true → (x : ℕ) → from ≤ x → x ≤ to → x < 256 → t x ≡ true
-in_bytes from to t all x l h small =
-    sym (cond-true (nat_le from x && nat_le x to) (t x) true (and_from _ _ (le-leb _ _ l) (le-leb _ _ h)))
-    ∙ agree_below_at (within from to t) (λ _. true) 256 x all small
-
-abbrev has : ℕ → List ℕ → List ℕ → ℕ → Bool
-has i high low x = eqb (bit_at (by_nibbles high low x) i) 1
-
--- bytes in three ranges that each have the bit
-module _ (i a b d : ℕ) (e : rtl_classes a b d ≡ 0) where
-  met : has i FIRST_HIGH FIRST_LOW a ≡ true → has i SECOND_HIGH SECOND_LOW b ≡ true → has i THIRD_HIGH THIRD_LOW d ≡ true → ⊥
-  met p q r = bit_met i _ _ _ (eqb-true _ _ p) (eqb-true _ _ q) (eqb-true _ _ r) e
-
-met_two : (a b d : ℕ) → 0xD6 ≤ a → a ≤ 0xDF → 0x80 ≤ b → b ≤ 0xBF → d < 256 → rtl_classes a b d ≡ 0 → ⊥
-met_two a b d l h k m small e =
-    met 0 a b d e (in_bytes 0xD6 0xDF (has 0 FIRST_HIGH FIRST_LOW) refl a l h (omega arith))
-    (in_bytes 0x80 0xBF (has 0 SECOND_HIGH SECOND_LOW) refl b k m (omega arith))
-    (in_bytes 0 0xFF (has 0 THIRD_HIGH THIRD_LOW) refl d (omega arith) (omega arith) small)
-
-met_extended : (b d : ℕ) → 0xA0 ≤ b → b ≤ 0xA3 → d < 256 → rtl_classes 0xE0 b d ≡ 0 → ⊥
-met_extended b d k m small e =
-    met 1 0xE0 b d e refl (in_bytes 0xA0 0xA3 (has 1 SECOND_HIGH SECOND_LOW) refl b k m (omega arith))
-    (in_bytes 0 0xFF (has 1 THIRD_HIGH THIRD_LOW) refl d (omega arith) (omega arith) small)
-
-met_forms : (b d : ℕ) → 0xAC ≤ b → b ≤ 0xBB → d < 256 → rtl_classes 0xEF b d ≡ 0 → ⊥
-met_forms b d k m small e = elim (cases_lt b 0xB0) [
-  | inl p ↦ met 2 0xEF b d e refl (in_bytes 0xAC 0xAF (has 2 SECOND_HIGH SECOND_LOW) refl b k (omega arith) (omega arith))
-      (in_bytes 0 0xFF (has 2 THIRD_HIGH THIRD_LOW) refl d (omega arith) (omega arith) small)
-  | inr p ↦ met 3 0xEF b d e refl (in_bytes 0xB0 0xBB (has 3 SECOND_HIGH SECOND_LOW) refl b p m (omega arith))
-      (in_bytes 0 0xFF (has 3 THIRD_HIGH THIRD_LOW) refl d (omega arith) (omega arith) small)
-]
-
-met_four : (b d : ℕ) → 0x90 ≤ b → b ≤ 0x9E → d < 256 → rtl_classes 0xF0 b d ≡ 0 → ⊥
-met_four b d k m small e =
-    met 4 0xF0 b d e refl (in_bytes 0x90 0x9E (has 4 SECOND_HIGH SECOND_LOW) refl b k m (omega arith))
-    (in_bytes 0 0xFF (has 4 THIRD_HIGH THIRD_LOW) refl d (omega arith) (omega arith) small)
-
--- of three bytes
-abbrev none : ℕ → Type 0
-none x = rtl_classes (224 + x / 4096) (128 + x / 64 % 64) (128 + x % 64) ≡ 0 → ⊥
-
-met_low : (c : ℕ) → 0x800 ≤ c → c ≤ 0x8FF → none c
-met_low c l h =
-    let lead : 224 + c / 4096 ≡ 0xE0 = omega arith in
-    rw lead (met_extended (128 + c / 64 % 64) (128 + c % 64) (omega arith) (omega arith) (omega arith))
-
-met_mark : (c : ℕ) → 0x1000 ≤ c → c < 0x3000 → IsRightToLeft c → none c
-met_mark c l h (inl range) e = absurd (omega (arith, range))
-met_mark c l h (inr (inl is)) e = subst none (sym is) (λ q. omega (arith, q)) e
-met_mark c l h (inr (inr (inl is))) e = subst none (sym is) (λ q. omega (arith, q)) e
-met_mark c l h (inr (inr (inr (inl is)))) e = subst none (sym is) (λ q. omega (arith, q)) e
-met_mark c l h (inr (inr (inr (inr (inl is))))) e = subst none (sym is) (λ q. omega (arith, q)) e
-met_mark c l h (inr (inr (inr (inr (inr more))))) e = absurd (omega (arith, more))
-
-met_form : (c : ℕ) → 0xFB1D ≤ c → c ≤ 0xFEFE → none c
-met_form c l h =
-    let lead : 224 + c / 4096 ≡ 0xEF = omega arith in
-    rw lead (met_forms (128 + c / 64 % 64) (128 + c % 64) (omega arith) (omega arith) (omega arith))
-
-met_three : (c : ℕ) → 0x800 ≤ c → c < 0x10000 → IsRightToLeft c → none c
-met_three c l h r = elim (cases_lt c 0x1000) [
-  | inl p ↦ met_low c l (omega arith)
-  | inr p ↦ elim (cases_lt c 0x3000) [
-    | inl q ↦ met_mark c p q r
-    | inr q ↦ met_form c (omega arith) (omega arith)
-  ]
-]
-
--- of four bytes
-met_of_four : (c : ℕ) → 0x10000 ≤ c → IsRightToLeft c → rtl_classes (240 + c / 262144) (128 + c / 4096 % 64) (128 + c / 64 % 64) ≡ 0 → ⊥
-met_of_four c l r =
-    let bounds : (240 + c / 262144 ≡ 0xF0) × (0x90 ≤ 128 + c / 4096 % 64) × (128 + c / 4096 % 64 ≤ 0x9E) = omega arith in
-    rw bounds.0 (met_four (128 + c / 4096 % 64) (128 + c / 64 % 64) bounds.1 bounds.2 (omega arith))
-
-met_first_three : (c : ℕ) (rest : List ℕ) → IsRightToLeft c → slice_index (encode_utf8 c ++ rest) 2 < 256
-    → rtl_classes (slice_index (encode_utf8 c ++ rest) 0) (slice_index (encode_utf8 c ++ rest) 1) (slice_index (encode_utf8 c ++ rest) 2) ≡ 0 → ⊥
-met_first_three c rest r = elim (cases_lt c 2048) [
-  | inl p ↦
-      let from = right_to_left_from c r in
-      rw (two c (omega arith) p) (λ small. met_two (192 + c / 64) (128 + c % 64) (slice_index rest 0) (omega arith) (omega arith)
-      (omega arith) (omega arith) small)
-  | inr p ↦ elim (cases_lt c 65536) [
-    | inl q ↦ rw (three c p q) (λ _. met_three c p q r)
-    | inr q ↦ rw (four c q) (λ _. met_of_four c q r)
-  ]
-]
-
--- if the tables leave nothing possible at the indices
-pub none_clear : (bs : List ℕ) (from to : ℕ) → ((k : ℕ) → slice_index bs k < 256)
-    → PassBetween (λ k. rtl_classes (slice_index bs k) (slice_index bs (k + 1)) (slice_index bs (k + 2)) ≡ 0) from to → NoRtlIn bs from to
-none_clear bs from to small clear = record {
-  each = λ k l m s.
-      let xs = encode_utf8 s.character ++ s.rest in
-      let first : slice_index xs 0 ≡ slice_index bs k = at_place bs k 0 xs s.spelled ∙ ap (λ j. slice_index bs j) {x = k + 0} {y = k} (omega arith) in
-      let second : slice_index xs 1 ≡ slice_index bs (k + 1) = at_place bs k 1 xs s.spelled in
-      let third : slice_index xs 2 ≡ slice_index bs (k + 2) = at_place bs k 2 xs s.spelled in
-      met_first_three s.character s.rest s.right_to_left (omega (arith, third, small (k + 2)))
-      ((λ i. rtl_classes (first i) (second i) (third i)) ∙ clear k l m);
-}
+-- if no second byte is below the bound of the first
+pub none_clear : (bs : List ℕ) (from to : ℕ) → PassBetween (HasNoRtlAt bs) from to → NoRtlIn bs from to
+none_clear bs from to clear = record { each = λ k l m s. omega (arith, second_below bs k s, clear k l m) }
 
 -- ---- indices at which there is none
 low_end : (a d : ℕ) → a < 0xD6 → rtl_second_end a (rtl_mark_lead d) ≡ 0
 low_end a d l = for_both (λ mark. rtl_second_end a mark ≡ 0) (grind (arith, nat_tests)) (grind (arith, nat_tests)) d
 
+end_of_low : (a d : ℕ) → may_start_rtl a (rtl_mark_lead d) ≡ false → rtl_second_end a (rtl_mark_lead d) ≡ 0
+end_of_low a d = for_both (λ mark. may_start_rtl a mark ≡ false → rtl_second_end a mark ≡ 0) (λ e. grind (arith, nat_tests)) (λ e. grind (arith, nat_tests)) d
+
 pub none_from_zero : (bs : List ℕ) (at : ℕ) → ((d : ℕ) → rtl_second_end (slice_index bs at) (rtl_mark_lead d) ≡ 0) → RtlAt bs at → ⊥
 none_from_zero bs at none s = omega (arith, second_below bs at s, none (slice_index bs (at + 2)))
 
-pub none_low : (bs : List ℕ) (from to : ℕ) → BelowBetween 0xD6 bs from to → NoRtlIn bs from to
-none_low bs from to low = record { each = λ k l m s. none_from_zero bs k (λ d. low_end (slice_index bs k) d (low k l m)) s }
+pub none_low : (bs : List ℕ) (from to : ℕ) → PassBetween (λ k. may_start_rtl (slice_index bs k) (rtl_mark_lead (slice_index bs (k + 2))) ≡ false) from to
+    → NoRtlIn bs from to
+none_low bs from to low = record { each = λ k l m s. omega (arith, second_below bs k s, end_of_low (slice_index bs k) (slice_index bs (k + 2)) (low k l m)) }
 
 pub none_before : (bs : List ℕ) (n : ℕ) → BelowUpTo 0xD6 bs n → NoRtlIn bs 0 n
 none_before bs n low = record { each = λ k from to s. none_from_zero bs k (λ d. low_end (slice_index bs k) d (low k to)) s }

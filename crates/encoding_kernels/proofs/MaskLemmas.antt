@@ -159,12 +159,6 @@ module _ (us : List ℕ) (long : length us ≡ 16) (fit : Each1 (Fits w16) us) w
 same : (x : ℕ) → not (eqb x 0) ≡ false → x ≡ 0
 same x e = grind (arith, nat_tests)
 
-differs_from : (x : ℕ) → x ≡ 0 → not (eqb x 0) ≡ false
-differs_from x e = rw e refl
-
-pub zero_lane : (x : ℕ) → (not (eqb x 0) ≡ false) ↔ (x ≡ 0)
-zero_lane x = (same x, differs_from x)
-
 module _ (n : ℕ) (few : n ≤ 64) (xs : List ℕ) (long : length xs ≡ n) where
   abbrev pub zero_mask : ℕ
   zero_mask = mask_of 7 (zip2 (compared w8 (λ a b. not (eqb a b))) xs (replicate n 0))

@@ -157,20 +157,20 @@ module _ (n : ℕ) (w : IsWidth n) {js : List ℕ} {f : ℕ → ℕ} (places : H
   }
 
 -- the nibbles of a byte
-abbrev pub shifted_down : ℕ → ℕ → ℕ
+abbrev shifted_down : ℕ → ℕ → ℕ
 shifted_down a b = a / 2 ^ b
 
 module _ (n : ℕ) (w : IsWidth n) (v : List ℕ) (is : IsLanes n v) where
-  pub high_halves : HasLanes n (zip2 shifted_down v (replicate n 4)) (λ k. shifted_down (get_or v k 0) 4)
+  high_halves : HasLanes n (zip2 shifted_down v (replicate n 4)) (λ k. shifted_down (get_or v k 0) 4)
   high_halves = HasLanes-zip2 shifted_down (HasLanes-itself n v is.0) (HasLanes-splat n 4)
 
-  pub low_halves : HasLanes n (zip2 bit_and v (replicate n 15)) (λ k. bit_and (get_or v k 0) 15)
+  low_halves : HasLanes n (zip2 bit_and v (replicate n 15)) (λ k. bit_and (get_or v k 0) 15)
   low_halves = HasLanes-zip2 bit_and (HasLanes-itself n v is.0) (HasLanes-splat n 15)
 
-  pub high_small : (k : ℕ) → k < n → shifted_down (get_or v k 0) 4 < 16
+  high_small : (k : ℕ) → k < n → shifted_down (get_or v k 0) 4 < 16
   high_small k l = omega (arith, byte n v is k l)
 
-  pub low_small : (k : ℕ) → k < n → bit_and (get_or v k 0) 15 < 16
+  low_small : (k : ℕ) → k < n → bit_and (get_or v k 0) 15 < 16
   low_small k l = omega (arith, and_le_r (get_or v k 0) 15)
 
   pub high_places : SwzOk w8 16 n 0 (zip2 shifted_down v (replicate n 4))

@@ -1,8 +1,7 @@
 -- Right-to-left characters by their first bytes, and the indices of bytes and code units at which none begins.
-use Rattle.std.specs.Prelude.{◌≡◌, ℕ, ◌+◌, ◌-◌, ◌/◌, ◌%◌, ◌^◌, ◌<◌, ◌≤◌, ◌&&◌, ◌||◌, Bool, List, ◌++◌, drop, encode_utf8, slice_index, bit_and, if◌then◌else◌, nat_le, nat_lt, nat_eq}
+use Rattle.std.specs.Prelude.{◌≡◌, ℕ, ◌+◌, ◌-◌, ◌%◌, ◌^◌, ◌<◌, ◌≤◌, ◌&&◌, ◌||◌, Bool, not, List, ◌++◌, drop, encode_utf8, slice_index, if◌then◌else◌, nat_le, nat_lt, nat_eq}
 use Rattle.std.specs.Char.{IsScalar}
 use Rattle.encoding_definitions.specs.Bidi.{IsRightToLeft, IsRightToLeftUnit}
-use Rattle.encoding_kernels.specs.declared.bidi.TheConstants.{FIRST_HIGH, FIRST_LOW, SECOND_HIGH, SECOND_LOW, THIRD_HIGH, THIRD_LOW}
 
 -- U+200F, U+202B, U+202E and U+2067 end with one of these bytes
 abbrev pub ends_mark : ℕ → Bool
@@ -20,13 +19,13 @@ rtl_second_end a mark = (if nat_le 0xD6 a && nat_le a 0xDF then 0xFF else
     (if nat_eq a 0xF0 then 0x9F else
     (if nat_eq a mark then 0x82 else 0)))))
 
--- what the tables of both nibbles of a byte leave possible
-abbrev pub by_nibbles : List ℕ → List ℕ → ℕ → ℕ
-by_nibbles high low b = bit_and (slice_index high (b / 16)) (slice_index low (bit_and b 15))
+-- by three bytes, no right-to-left character can begin at index k
+abbrev pub HasNoRtlAt : List ℕ → ℕ → Type 0
+HasNoRtlAt bs k = rtl_second_end (slice_index bs k) (rtl_mark_lead (slice_index bs (k + 2))) ≤ slice_index bs (k + 1)
 
--- the kinds of right-to-left characters that may begin with these three bytes, a bit for each
-abbrev pub rtl_classes : ℕ → ℕ → ℕ → ℕ
-rtl_classes a b d = bit_and (bit_and (by_nibbles FIRST_HIGH FIRST_LOW a) (by_nibbles SECOND_HIGH SECOND_LOW b)) (by_nibbles THIRD_HIGH THIRD_LOW d)
+-- a right-to-left character may begin with this byte
+abbrev pub may_start_rtl : ℕ → ℕ → Bool
+may_start_rtl a mark = let high = nat_le 0xD6 a in let punctuation = nat_eq a 0xE2 in (if high then not punctuation else punctuation) || nat_eq a mark
 
 -- the bytes have a right-to-left character at this index
 pub record RtlAt (bs : List ℕ) (at : ℕ) : Type 0 where

@@ -1,9 +1,9 @@
 //! Right-to-left characters by blocks: one test of vectors shows that none begins in a block.
 ghost use Rattle.std.specs.Prelude.{◌≡◌, false, ◌+◌, ◌-◌, ◌≤◌, length, slice_index};
-ghost use Rattle.encoding_kernels.specs.RightToLeft.{by_nibbles, rtl_classes, NoRtlIn, NoneRightToLeft, may_be_right_to_left};
+ghost use Rattle.encoding_kernels.specs.RightToLeft.{rtl_second_end, rtl_mark_lead, may_start_rtl, HasNoRtlAt, NoRtlIn, NoneRightToLeft, may_be_right_to_left};
 ghost use Rattle.encoding_kernels.specs.Scans.{HasLanes};
 
-use crate::simd::scan::{BytesBelow, LanePredicate, UnitsBelow, all, reach, skip};
+use crate::simd::scan::{LanePredicate, UnitsBelow, all, reach, skip};
 use crate::simd::width::{BLOCK, HALF_UNIT_BLOCK, STRIDE, UNIT_STRIDE};
 use std::simd::Simd;
 use std::simd::prelude::*;
@@ -14,183 +14,88 @@ pub const FIRST_UNIT: u16 = 0x0590;
 /// The first byte of U+0580 to U+05BF. Characters below these begin with smaller bytes.
 pub const FIRST_LEAD: u8 = 0xD6;
 
-/// The first byte is D6 to DF: U+0580 to U+07FF, whatever the second byte is.
-const TWO_BYTES: u8 = 1;
+/// The first byte of U+2000 to U+2FFF, which include general punctuation. The right-to-left marks in it are U+200F,
+/// U+202B, U+202E and U+2067.
+const PUNCTUATION_LEAD: u8 = 0xE2;
 
-/// E0 before A0 to A3: U+0800 to U+08FF.
-const EXTENDED: u8 = 1 << 1;
-
-/// EF before AC to AF: U+FB00 to U+FBFF.
-const FIRST_FORMS: u8 = 1 << 2;
-
-/// EF before B0 to BB: U+FC00 to U+FEFF.
-const LAST_FORMS: u8 = 1 << 3;
-
-/// F0 before 90 to 9E: U+10000 to U+1EFFF.
-const FOUR_BYTES: u8 = 1 << 4;
-
-/// E2 before 80 or 81, and then 8F: U+200F and one more.
-const MARK: u8 = 1 << 5;
-
-/// E2 before 80 or 81, and then A7, AB or AE: U+202B, U+202E, U+2067 and three more.
-const EMBEDDING: u8 = 1 << 6;
-
-/// The characters with any third byte.
-const ANY_THIRD: u8 = TWO_BYTES | EXTENDED | FIRST_FORMS | LAST_FORMS | FOUR_BYTES;
-
-/// The characters that the high nibble of the first byte leaves possible.
-const FIRST_HIGH: [u8; STRIDE] = [
-    0,
-    0,
-    0,
-    0,
-    0,
-    0,
-    0,
-    0,
-    0,
-    0,
-    0,
-    0,
-    0,
-    TWO_BYTES,
-    EXTENDED | FIRST_FORMS | LAST_FORMS | MARK | EMBEDDING,
-    FOUR_BYTES,
-];
-
-/// The characters that the low nibble of the first byte leaves possible.
-const FIRST_LOW: [u8; STRIDE] = [
-    EXTENDED | FOUR_BYTES,
-    0,
-    MARK | EMBEDDING,
-    0,
-    0,
-    0,
-    TWO_BYTES,
-    TWO_BYTES,
-    TWO_BYTES,
-    TWO_BYTES,
-    TWO_BYTES,
-    TWO_BYTES,
-    TWO_BYTES,
-    TWO_BYTES,
-    TWO_BYTES,
-    TWO_BYTES | FIRST_FORMS | LAST_FORMS,
-];
-
-/// The characters that the high nibble of the second byte leaves possible.
-const SECOND_HIGH: [u8; STRIDE] = [
-    0,
-    0,
-    0,
-    0,
-    0,
-    0,
-    0,
-    0,
-    TWO_BYTES | MARK | EMBEDDING,
-    TWO_BYTES | FOUR_BYTES,
-    TWO_BYTES | EXTENDED | FIRST_FORMS,
-    TWO_BYTES | LAST_FORMS,
-    0,
-    0,
-    0,
-    0,
-];
-
-/// The characters that the low nibble of the second byte leaves possible.
-const SECOND_LOW: [u8; STRIDE] = [
-    TWO_BYTES | EXTENDED | LAST_FORMS | FOUR_BYTES | MARK | EMBEDDING,
-    TWO_BYTES | EXTENDED | LAST_FORMS | FOUR_BYTES | MARK | EMBEDDING,
-    TWO_BYTES | EXTENDED | LAST_FORMS | FOUR_BYTES,
-    TWO_BYTES | EXTENDED | LAST_FORMS | FOUR_BYTES,
-    TWO_BYTES | LAST_FORMS | FOUR_BYTES,
-    TWO_BYTES | LAST_FORMS | FOUR_BYTES,
-    TWO_BYTES | LAST_FORMS | FOUR_BYTES,
-    TWO_BYTES | LAST_FORMS | FOUR_BYTES,
-    TWO_BYTES | LAST_FORMS | FOUR_BYTES,
-    TWO_BYTES | LAST_FORMS | FOUR_BYTES,
-    TWO_BYTES | LAST_FORMS | FOUR_BYTES,
-    TWO_BYTES | LAST_FORMS | FOUR_BYTES,
-    TWO_BYTES | FIRST_FORMS | FOUR_BYTES,
-    TWO_BYTES | FIRST_FORMS | FOUR_BYTES,
-    TWO_BYTES | FIRST_FORMS | FOUR_BYTES,
-    TWO_BYTES | FIRST_FORMS,
-];
-
-/// The characters that the high nibble of the third byte leaves possible.
-const THIRD_HIGH: [u8; STRIDE] = [
-    ANY_THIRD,
-    ANY_THIRD,
-    ANY_THIRD,
-    ANY_THIRD,
-    ANY_THIRD,
-    ANY_THIRD,
-    ANY_THIRD,
-    ANY_THIRD,
-    ANY_THIRD | MARK,
-    ANY_THIRD,
-    ANY_THIRD | EMBEDDING,
-    ANY_THIRD,
-    ANY_THIRD,
-    ANY_THIRD,
-    ANY_THIRD,
-    ANY_THIRD,
-];
-
-/// The characters that the low nibble of the third byte leaves possible.
-const THIRD_LOW: [u8; STRIDE] = [
-    ANY_THIRD,
-    ANY_THIRD,
-    ANY_THIRD,
-    ANY_THIRD,
-    ANY_THIRD,
-    ANY_THIRD,
-    ANY_THIRD,
-    ANY_THIRD | EMBEDDING,
-    ANY_THIRD,
-    ANY_THIRD,
-    ANY_THIRD,
-    ANY_THIRD | EMBEDDING,
-    ANY_THIRD,
-    ANY_THIRD,
-    ANY_THIRD | EMBEDDING,
-    ANY_THIRD | MARK,
-];
-
-/// Returns what the tables of both nibbles leave possible for each byte.
+/// Returns, for each lane, the first byte of a right-to-left mark if one may end with it; else 0xF0, with which other
+/// right-to-left characters begin in any case.
 #[inline(always)]
-fn looked_up(high: &[u8; STRIDE], low: &[u8; STRIDE], bytes: u8x16) -> u8x16
-    ensures { HasLanes 16 result (λ k. by_nibbles high.now low.now (slice_index bytes k)) }
+fn mark_leads<const N: usize>(third: Simd<u8, N>) -> Simd<u8, N>
+    ensures { HasLanes N result (λ k. rtl_mark_lead (slice_index third.entry k)) }
 {
-    u8x16::from_slice(high).swizzle_dyn(bytes >> u8x16::splat(4))
-        & u8x16::from_slice(low).swizzle_dyn(bytes & u8x16::splat(15))
+    let ends_mark = third.simd_eq(Simd::splat(0x8F))
+        | third.simd_eq(Simd::splat(0xA7))
+        | third.simd_eq(Simd::splat(0xAB))
+        | third.simd_eq(Simd::splat(0xAE));
+    ends_mark.select(Simd::splat(PUNCTUATION_LEAD), Simd::splat(0xF0))
 }
 
-/// Indices of bytes at which no right-to-left character can begin, as far as three bytes show.
+/// Returns, for each lane, an exclusive bound of the second byte of the right-to-left characters that begin with it; 0
+/// if there are none.
+#[inline(always)]
+fn second_ends<const N: usize>(first: Simd<u8, N>, third: Simd<u8, N>) -> Simd<u8, N>
+    ensures { HasLanes N result
+        (λ k. rtl_second_end (slice_index first.entry k)
+        (rtl_mark_lead (slice_index third.entry k))) }
+{
+    let none = Simd::splat(0);
+    let hebrew = first.simd_ge(Simd::splat(FIRST_LEAD)) & first.simd_lt(Simd::splat(0xE0));
+    hebrew.select(Simd::splat(0xFF), none)
+        | first
+            .simd_eq(Simd::splat(0xE0))
+            .select(Simd::splat(0xA4), none)
+        | first
+            .simd_eq(Simd::splat(0xEF))
+            .select(Simd::splat(0xBC), none)
+        | first
+            .simd_eq(Simd::splat(0xF0))
+            .select(Simd::splat(0x9F), none)
+        | first
+            .simd_eq(mark_leads(third))
+            .select(Simd::splat(0x82), none)
+}
+
+/// Indices of bytes that begin no right-to-left character: those below `FIRST_LEAD`, and those of punctuation.
+#[derive(Drop)]
+struct LowBytes<'a> {
+    bytes: &'a [u8],
+}
+
+impl<'a, const N: usize> LanePredicate<N> for LowBytes<'a> {
+    ghost count = { λ s. length s.bytes.now - 2 };
+
+    ghost passes = { λ s k. may_start_rtl (slice_index s.bytes.now k) (rtl_mark_lead (slice_index s.bytes.now (k + 2))) ≡ false };
+
+    #[inline(always)]
+    fn failing(&self, at: usize) -> u64 {
+        let bytes = self.bytes;
+        let first = Simd::<u8, N>::from_slice(&bytes[at..]);
+        let third = Simd::<u8, N>::from_slice(&bytes[at + 2..]);
+        let high = first.simd_ge(Simd::splat(FIRST_LEAD));
+        let others = high ^ first.simd_eq(Simd::splat(PUNCTUATION_LEAD));
+        (others | first.simd_eq(mark_leads(third))).to_bitmask()
+    }
+}
+
+/// Indices of bytes at which no right-to-left character can begin.
 #[derive(Drop)]
 struct ClearBytes<'a> {
     bytes: &'a [u8],
 }
 
-impl<'a> LanePredicate<16> for ClearBytes<'a> {
+impl<'a, const N: usize> LanePredicate<N> for ClearBytes<'a> {
     ghost count = { λ s. length s.bytes.now - 2 };
 
-    ghost passes = { λ s k. rtl_classes (slice_index s.bytes.now k) (slice_index s.bytes.now (k + 1)) (slice_index s.bytes.now (k + 2)) ≡ 0 };
+    ghost passes = { λ s k. HasNoRtlAt s.bytes.now k };
 
     #[inline(always)]
     fn failing(&self, at: usize) -> u64 {
         let bytes = self.bytes;
-        let first = looked_up(&FIRST_HIGH, &FIRST_LOW, u8x16::from_slice(&bytes[at..]));
-        let second = looked_up(
-            &SECOND_HIGH,
-            &SECOND_LOW,
-            u8x16::from_slice(&bytes[at + 1..]),
-        );
-        let third = looked_up(&THIRD_HIGH, &THIRD_LOW, u8x16::from_slice(&bytes[at + 2..]));
-        (first & second & third)
-            .simd_ne(u8x16::splat(0))
-            .to_bitmask()
+        let first = Simd::<u8, N>::from_slice(&bytes[at..]);
+        let second = Simd::<u8, N>::from_slice(&bytes[at + 1..]);
+        let third = Simd::<u8, N>::from_slice(&bytes[at + 2..]);
+        second.simd_lt(second_ends(first, third)).to_bitmask()
     }
 }
 
@@ -202,14 +107,15 @@ pub fn skip_clear(bytes: &[u8], from: usize) -> usize
     ensures no_rtl { NoRtlIn bytes.now from result }
 {
     let test = ClearBytes { bytes };
-    let low = BytesBelow {
-        bytes,
-        bound: FIRST_LEAD,
-    };
+    let low = LowBytes { bytes };
     let mut at = from;
-    while bytes.len() - at >= BLOCK + 2 && all::<STRIDE, BLOCK, _>(&test, at) {
+    while bytes.len() - at >= BLOCK + 2 && all::<BLOCK, BLOCK, _>(&test, at) {
+        // the same bytes, whose vectors are already loaded
+        let is_low = all::<BLOCK, BLOCK, _>(&low, at);
         at += BLOCK;
-        at = skip::<BLOCK, BLOCK, _>(&low, at, bytes.len());
+        if is_low {
+            at = skip::<BLOCK, BLOCK, _>(&low, at, bytes.len() - 2);
+        }
     }
     if bytes.len() - at < 2 {
         return at;
