@@ -6,9 +6,7 @@ use Rattle.std.specs.Simd.Lanes.{zip2, chunk, pick_l, mask_l, top, Each1}
 use Rattle.std.proofs.lemmas.Nat.{and_mask, one_shl}
 use Rattle.std.proofs.lemmas.List.{length-append, length-map, get_or-map, same_lists, get_or_append_left, get_or-append_right}
 use Rattle.std.proofs.lemmas.List.FromFn.{get_or-map-range_with_len, length-range_with_len, get_or-range_with_len}
-use Rattle.std.proofs.lemmas.Simd.{Each1-get_or, mask_l-mod, pick_l_left, pick_l_whole, swz_l, SwzOk, length-swz_l, get_or-swz_l_below, SwzOk-from_below, Each1-from_get_or}
-use lib.Dec.{T}
-use lib.Lanes.{all_below}
+use Rattle.std.proofs.lemmas.Simd.{Each1-get_or, mask_l-mod, pick_l_whole, swz_l, SwzOk, length-swz_l, get_or-swz_l_below, SwzOk-from_below, Each1-from_get_or}
 use Rattle.encoding_kernels.specs.Scans.{BelowUpTo, HasLanes}
 use Rattle.encoding_kernels.specs.EndingUnits.{ends_unit, low_bits, unit_at, units_after, ends_after, unit_lane, upper_of}
 use Rattle.encoding_kernels.proofs.VectorLemmas.{HasLanes-itself, HasLanes-splat, HasLanes-zip2, HasLanes_load, HasLanes_same, compared, same_below, wide, wide_l}
@@ -134,10 +132,6 @@ picked_lanes n v ks long = record {
   each =
       λ k l. get_or-map (λ j. get_or v j 0) ks k 0 0 (omega (arith, long));
 }
-
-pub third_lanes : (v ks : List ℕ) → length v ≡ 16 → length ks ≡ 8 → T (all_below 16 ks) → HasLanes 8 (pick_l 0 (v ++ v) ks) (λ k. get_or v (get_or ks k 0) 0)
-third_lanes v ks long eight small = subst (λ xs. HasLanes 8 xs (λ k. get_or v (get_or ks k 0) 0)) (sym (pick_l_left 0 v v 16 ks long small))
-    (picked_lanes 8 v ks eight)
 
 pub triple_lane : (a b d : ℕ) → (a * 0x1000 % 2 ^ 16 + (bit_and b 63 * 64 % 2 ^ 16 + bit_and d 63) % 2 ^ 16) % 2 ^ 16 ≡ a % 16 * 4096 + low_bits b d
 triple_lane a b d = let e : a * 4096 % 65536 ≡ a % 16 * 4096 = omega arith in ap (λ n. (a * 0x1000 % 2 ^ 16 + n) % 2 ^ 16) (low_lane b d) ∙ omega arith

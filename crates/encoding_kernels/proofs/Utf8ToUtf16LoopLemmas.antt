@@ -19,7 +19,6 @@ use Rattle.encoding_definitions.specs.Prefixes.{WritesPrefix}
 use Rattle.encoding_kernels.specs.EndingUnits.{units_in, WritesUtf16}
 use Rattle.encoding_definitions.proofs.EncodingLemmas.{IsSequence-encode, length_encode_utf16_utf8, encodes_one, length-utf16}
 use Rattle.encoding_definitions.proofs.PrefixesLemmas.{written_is}
-use Rattle.encoding_definitions.proofs.SequenceLemmas.{length-IsSequence}
 use Rattle.encoding_kernels.proofs.Utf8ToUtf16Lemmas.{puts_ascii, puts_prefix}
 use Rattle.encoding_kernels.specs.Scans.{BelowUpTo, IsRunBelow}
 use Rattle.encoding_kernels.proofs.ScanLemmas.{Each-take}
@@ -68,9 +67,6 @@ puts_character src old new n k c b s e w =
     }
 
 -- it has at most four bytes
-pub character_short : (src : List ℕ) (n : ℕ) → Begins src n → n ≤ 4
-character_short src n b = omega (arith, length-IsSequence (take n src) b.sequence, length-take-le n src b.within)
-
 -- it fits
 pub character_fits : (src : List ℕ) (n c room : ℕ) → Begins src n → IsScalar c → encode_utf8 c ≡ take n src → length src ≤ room
     → room < length (encode_utf16 c) → ⊥

@@ -48,7 +48,8 @@ pub const VALIDATED_PIECE: usize = 4096;
 
 /// In blocks of sixteen bytes: how many go from UTF-8 to Latin1 after a test for ASCII until the next.
 ///
-/// UTF-8 to Latin1, 4 KiB: with one, code 0.92 and logs 1.02; with four, logs 0.93 and code 0.95.
+/// UTF-8 to Latin1, 4 KiB, each block stored by itself: with one, code 0.92 and logs 1.02; with four, logs 0.93 and code
+/// 0.95. Now both blocks are stored at once, for which this is fixed.
 pub const BLOCKS_BEFORE_RETEST: usize = 2;
 
 /// In blocks: how many after one with surrogates are tested for pairs at once.

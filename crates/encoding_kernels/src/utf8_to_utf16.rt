@@ -2,4 +2,4 @@
 
 pub(crate) mod code_units;
 pub mod convert;
-pub mod groups;
+mod groups;

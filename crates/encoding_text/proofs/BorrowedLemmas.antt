@@ -5,7 +5,6 @@ use Rattle.std.specs.Str.{chars, all_scalars, IsUtf8}
 use Rattle.std.proofs.lemmas.Bool.{and_from, and_parts}
 use Rattle.std.proofs.lemmas.List.{append-nil, length-append, length-take, take_all, append_assoc, length-drop, nil_from_length, take-append-drop}
 use Rattle.std.proofs.lemmas.Str.{chars-encodes, encode_same}
-use Rattle.encoding_definitions.specs.Prefixes.{IsLongestPrefix}
 use Rattle.encoding_definitions.specs.Sequence.{IsIncomplete, IsPending}
 use Rattle.encoding_definitions.specs.Parts.{Part, Character, IllFormed, BeginsWithNoCharacter, IsFirstPart, Yields}
 use Rattle.encoding_text.specs.Decoding.{AreBorrowed, BorrowedDecodeStep, IsMalformed}
@@ -277,9 +276,3 @@ pub one_piece : (p src : List ℕ) (last : Bool) → IsPending p → HasOnePiece
 one_piece p src last pending =
     let found = has_piece last p src pending in
     (found.0, found.1, found.2, found.3, λ returned' read' q' call'. same_piece p src last found.0 returned' found.1 read' found.2 q' found.3 call')
-
--- a well-formed prefix that a malformed sequence follows is the longest
-pub longest_before_malformed : (src : List ℕ) (n : ℕ) (last : Bool) → n ≤ length src → IsUtf8 (take n src)
-    → IsMalformed (take 1 (drop n src)) (drop 1 (drop n src)) last → IsLongestPrefix IsUtf8 src n
-longest_before_malformed src n last within text malformed =
-    IsLongestPrefix-utf8 src n within text (subst BeginsWithNoCharacter (take-append-drop 1 (drop n src)) (malformed_first _ _ last malformed).0)

@@ -1,4 +1,4 @@
-//! Latin1 of sixteen bytes of UTF-8: the kept bytes of pairs are looked up by a mask, as in the other direction.
+//! Latin1 of sixteen and of 32 bytes of UTF-8: the kept bytes of pairs are looked up by a mask, as in the other direction.
 
 ghost use Rattle.std.specs.Prelude.{◌≡◌, ℕ, ◌+◌, ◌*◌, ◌<◌, ◌≤◌, ◌⊎◌, ◌∷◌, ◌++◌, length, take, drop, slice_index};
 ghost use Rattle.std.specs.Simd.Lanes.{mask_l};

@@ -124,9 +124,9 @@ fn write_first_pairs(src: &[u8], dst: &mut [u16]) -> (usize, usize)
     write_block_of_pairs(src, dst)
 }
 
-/// Writes the UTF-16 of a text by groups of 64 bytes, up to 64 bytes of ASCII, up to a group that cuts a character of four
-/// bytes, or up to the last 88 bytes. Returns how many bytes it read and how many code units it wrote. Units that the rest
-/// of the text overwrites may have changed too.
+/// Writes the UTF-16 of a text by groups of 64 bytes, until 64 bytes are ASCII or at most 87 are left. It also ends at a group
+/// that cuts a character of four bytes after its third byte. Returns how many bytes it read and how many code units it
+/// wrote. Units that the rest of the text overwrites may have changed too.
 ///
 /// Emoji often end a sentence: a block takes them, and a group if what follows isn't ASCII.
 #[inline(always)]

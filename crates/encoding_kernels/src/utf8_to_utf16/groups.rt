@@ -1,4 +1,4 @@
-//! UTF-16 of many characters of at most three bytes at once: of those that end in 64 bytes, and of eight of three bytes.
+//! UTF-16 of many characters at once: of eight of three bytes, and of those that end in 64 bytes.
 //!
 //! The code units of 64 bytes are computed by strides at fixed indices, so no stride waits for the end of a character in
 //! the one before it. Only the index at which the next 64 bytes begin depends on the text.

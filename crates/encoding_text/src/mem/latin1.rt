@@ -24,7 +24,7 @@ const HIGH_LENGTH: usize = 2;
 /// How many bytes go from UTF-8 to Latin1 at once, after a test for ASCII.
 const GROUP: usize = BLOCKS_BEFORE_RETEST * STRIDE;
 
-/// The space that these need. What follows them is loaded and stored again.
+/// The space that a group needs: the sixteen bytes after it are loaded and stored again.
 const GROUP_ROOM: usize = GROUP + STRIDE;
 
 /// Writes each byte as a UTF-16 code unit. `dst` is at least as long as `src`.
@@ -86,7 +86,7 @@ fn copy_ascii(src: &[u8], dst: &mut [u8]) -> usize
     copy_some_ascii(src, dst)
 }
 
-/// Writes the UTF-8 of blocks of 16 bytes, until the next 64 bytes are ASCII. Returns how many bytes it read and how many
+/// Writes the UTF-8 of blocks of 64 bytes and then of 16, until the next 64 bytes are ASCII. Returns how many bytes it read and how many
 /// it wrote. In the last 64 bytes ASCII ends no blocks, since they would soon be over.
 #[inline(always)]
 fn convert_latin1_blocks(src: &[u8], dst: &mut [u8]) -> (usize, usize)
@@ -257,7 +257,7 @@ fn convert_utf8_turns(src: &[u8], dst: &mut [u8], ascii: usize) -> usize
             written += write_latin1_of_two(src, read, dst, written);
             read += whole_length::<GROUP>(src[read + (GROUP - 1)]);
         }
-        // before ASCII, a block and the space for a group are left
+        // if the loop above ended before ASCII, a block and the space for a group are left
         while (src.len() - read < BLOCK || dst.len() - written < GROUP_ROOM)
             && src.len() - read >= STRIDE
             && dst.len() - written >= STRIDE

@@ -144,8 +144,8 @@ fn valid_after(src: &[u8], prefix: usize) -> usize
     }
 }
 
-/// Returns whether no character begins the bytes, as far as the first two show: the first begins no sequence of several, or
-/// the second doesn't continue one. The first byte isn't ASCII.
+/// Returns whether the bytes begin with no character, as far as the first two show. There is one byte, the first begins no
+/// sequence of several, or the second doesn't continue one. The first byte isn't ASCII.
 #[tactic(auto, using(std::proofs::lemmas::Bool::both_ways, encoding_definitions::proofs::SequenceLemmas::no_character_reads))]
 #[inline(always)]
 pub(crate) fn begins_no_character(bytes: &[u8]) -> bool
