@@ -150,10 +150,19 @@ fn convert_groups(src: &[u8], dst: &mut [u16]) -> (usize, usize)
     (read, written)
 }
 
+/// Returns whether the first character is followed by 64 bytes of ASCII.
+#[inline(always)]
+fn precedes_ascii(src: &[u8]) -> bool
+    requires { (0 < length src.now) × IsUtf8 src.now }
+{
+    src.len() >= GROUP_OF_TEXT && are_bytes_below::<BLOCK>(src, sequence_length(src[0]), ASCII_END)
+}
+
 /// Writes the UTF-16 of the text before a run of ASCII, and returns how many bytes it read and how many code units it
 /// wrote. Units that the rest of the text overwrites may have changed too.
 ///
-/// If no group of 64 bytes can be written first, the text is written by blocks.
+/// A character before 64 bytes of ASCII is written by itself, since a group would cost more. If no group of 64 bytes can
+/// be written first, the text is written by blocks.
 #[inline(always)]
 pub fn convert_valid_utf8_to_utf16(src: &[u8], dst: &mut [u16]) -> (usize, usize)
     requires dst_length { (0 < length src.now) × (length src.now ≤ length dst.old) }
@@ -161,6 +170,9 @@ pub fn convert_valid_utf8_to_utf16(src: &[u8], dst: &mut [u16]) -> (usize, usize
     ensures progress { 0 < result.0 }
     ensures written { WritesUtf16 src.now dst.old dst.new result.0 result.1 (units_in src.now) }
 {
+    if precedes_ascii(src) {
+        return write_character(src, dst);
+    }
     let (read, written) = convert_groups(src, dst);
     if read > 0 {
         return (read, written);
