@@ -6,15 +6,16 @@
 //! the nibbles of two adjacent bytes, each leave some errors possible. An error has a bit, and is there if all three
 //! leave it.
 
-ghost use Rattle.std.specs.Prelude.{◌≡◌, ℕ, ◌+◌, ◌<◌, ◌≤◌, length, slice_index, take};
-ghost use Rattle.encoding_kernels.specs.Scans.{BelowUpTo};
+ghost use Rattle.std.specs.Prelude.{◌≡◌, ℕ, ◌+◌, ◌*◌, ◌<◌, ◌≤◌, IsTrue, length, slice_index, take};
+ghost use Rattle.encoding_kernels.specs.Scans.{AllBelow, BelowUpTo};
 ghost use Rattle.encoding_kernels.specs.Following.{IsValidAfter, IsValidAt, ValidUpTo};
 ghost use Rattle.std.specs.Str.{IsUtf8};
 
 use crate::scalar::is_lead_with_continuation;
 use crate::simd::copy::{one_before, three_before, two_before};
 use crate::simd::scan::{BytesBelow, all, is_zero, zeros};
-use crate::simd::width::{ASCII_END, BLOCK, FOUR_BLOCKS, HALF_BLOCK, TWO_BLOCKS};
+use crate::simd::width::{ASCII_END, BLOCK, HALF_BLOCK, TWO_BLOCKS};
+use crate::tuning::{FEWEST_BLOCKS, FIRST_BLOCKS, MOST_BLOCKS, MOST_SKIPPED};
 use std::simd::prelude::*;
 
 /// A first byte of several is followed by a byte that isn't a continuation byte.
@@ -248,23 +249,23 @@ fn clean_of_64(src: &[u8], at: usize) -> usize
     32 + zeros(second)
 }
 
-/// Returns how many of the 256 bytes from `at` on precede the first that may not follow the three before it.
+/// Returns how many of the bytes of some blocks from `at` on precede the first that may not follow the three before it.
 #[tactic(auto, using(crate::proofs::Utf8ValidationLemmas::ValidUpTo_less))]
 #[inline(always)]
-fn clean_of_256(src: &[u8], at: usize) -> usize
-    requires { (3 ≤ at) × (at + 256 ≤ length src.now) }
-    ensures within { result ≤ 256 }
+fn clean_of_blocks(src: &[u8], at: usize, count: usize) -> usize
+    requires { (3 ≤ at) × (at + 64 * count ≤ length src.now) }
+    ensures within { result ≤ 64 * count }
     ensures follow { ValidUpTo src.now at → ValidUpTo src.now (at + result) }
 {
     let mut blocks = 0;
-    while blocks < 4 {
+    while blocks < count {
         let clean = clean_of_64(src, at + BLOCK * blocks);
-        if clean < 64 {
+        if clean < BLOCK {
             return BLOCK * blocks + clean;
         }
         blocks += 1;
     }
-    256
+    BLOCK * count
 }
 
 /// Returns the length, at most 64, of a prefix whose bytes may each follow those before it.
@@ -324,21 +325,20 @@ fn back(src: &[u8], at: usize) -> usize
     at
 }
 
-/// Returns whether the 256 bytes from `at` on are ASCII. After a shorter run, text of other characters would come back
-/// to the blocks too soon.
+/// Returns whether the 128 bytes from `at` on are ASCII.
 ///
 /// A vector has no more lanes than those of the look-ups: the compiler would take the loads of these, which begin up to
 /// three bytes earlier, out of a longer vector byte by byte.
 #[inline(always)]
-fn are_256_ascii(src: &[u8], at: usize) -> bool
-    requires { (at + 256 ≤ length src.now) × (at + 256 < 18446744073709551616) }
+fn are_128_ascii(src: &[u8], at: usize) -> bool
+    requires { (at + 128 ≤ length src.now) × (at + 128 < 18446744073709551616) }
+    ensures { IsTrue result → AllBelow 0x80 src.now at 128 }
 {
     let ascii = BytesBelow {
         bytes: src,
         bound: ASCII_END,
     };
     all::<HALF_BLOCK, TWO_BLOCKS, _>(&ascii, at)
-        & all::<HALF_BLOCK, TWO_BLOCKS, _>(&ascii, at + TWO_BLOCKS)
 }
 
 /// Extends a prefix of `from` bytes that may each follow those before it, 64 at a time, and returns its length. The
@@ -364,8 +364,11 @@ fn finish(src: &[u8], from: usize) -> usize
     last + clean_of_64(src, last)
 }
 
-/// Extends a prefix of `from` bytes that may each follow those before it, and returns its length. Stops before a run of
+/// Extends a prefix of `from` bytes that may each follow those before it, and returns its length. Stops in a long run of
 /// ASCII. Out of line, so that the address of the loop, and so its speed, doesn't depend on the caller.
+///
+/// ASCII that begins three bytes before `at` needs no look-ups, since no character is cut there. Where it is rare, it is
+/// tested for less often.
 #[tactic(auto, using(crate::proofs::Utf8ValidationLemmas::ValidUpTo_less))]
 #[inline(never)]
 fn following(src: &[u8], from: usize) -> usize
@@ -387,15 +390,26 @@ fn following(src: &[u8], from: usize) -> usize
             return at;
         }
     }
-    while src.len() - at >= FOUR_BLOCKS {
-        if are_256_ascii(src, at) {
+    let mut blocks = FIRST_BLOCKS;
+    let mut skipped = 0;
+    while src.len() - at >= TWO_BLOCKS {
+        if are_128_ascii(src, at - 3) {
+            at += TWO_BLOCKS - 3;
+            skipped += 1;
+            if skipped == MOST_SKIPPED {
+                return at;
+            }
+            blocks = FEWEST_BLOCKS;
+            continue;
+        }
+        blocks = blocks.min((src.len() - at) / BLOCK);
+        let clean = clean_of_blocks(src, at, blocks);
+        at += clean;
+        if clean < BLOCK * blocks {
             return at;
         }
-        let clean = clean_of_256(src, at);
-        if clean < FOUR_BLOCKS {
-            return at + clean;
-        }
-        at += FOUR_BLOCKS;
+        skipped = 0;
+        blocks = (blocks + 1).min(MOST_BLOCKS);
     }
     finish(src, at)
 }
@@ -415,7 +429,7 @@ pub fn well_formed_short(src: &[u8]) -> usize
 }
 
 /// Returns the length of a well-formed prefix of at least 64 bytes, of which the first `ascii` are ASCII: these, and
-/// whole blocks after them. Stops before a run of ASCII.
+/// whole blocks after them. Stops in a long run of ASCII.
 #[tactic(auto, using(crate::proofs::Utf8ValidationLemmas::IsUtf8_ascii_prefix, crate::proofs::Utf8ValidationLemmas::ValidUpTo_ascii_prefix))]
 #[inline(always)]
 pub fn well_formed_blocks(src: &[u8], ascii: usize) -> usize

@@ -1,4 +1,4 @@
-use Rattle.std.proofs.Common.{◌≤◌, ◌-◌, length}
+use Rattle.std.proofs.Common.{◌≤◌, ◌<◌, ◌-◌, length}
 use Rattle.encoding_kernels.specs.Following.{ValidUpTo}
 use Rattle.encoding_kernels.proofs.utf8.validate.following.Given as goal
 
@@ -7,6 +7,9 @@ invariant-loop-at l = record {
   started : 64 ≤ l.at;
   within : l.at ≤ length l.src;
   prefix : ValidUpTo l.src l.at;
+  some : 0 < l.blocks;
+  few : l.blocks ≤ 8;
+  short : l.skipped < 8;
 }
 
 abbrev pub decreases-loop-at : goal.decreases-loop-at
