@@ -46,19 +46,15 @@ pub const LONGEST_VECTOR_COPY: usize = 256;
 /// Latin of 16 MiB: with 1,024, 0.88; as one piece, 0.72.
 pub const VALIDATED_PIECE: usize = 4096;
 
-/// In blocks of 64 bytes: how many are validated at first until the next test for ASCII.
+/// In pairs of blocks of 64 bytes: how many are validated at first until the next test for ASCII. After ASCII it is one.
 ///
-/// `utf8_valid_up_to`, 1,000 bytes: with two, Chinese and Russian 0.95; with eight, JSON 0.95.
-pub const FIRST_BLOCKS: usize = 4;
+/// `utf8_valid_up_to`, 1,000 bytes: with one, Chinese and Russian 0.95; with four, JSON 0.95.
+pub const FIRST_PAIRS: usize = 2;
 
-/// In blocks of 64 bytes: how many are validated after ASCII until the next test for it.
-pub const FEWEST_BLOCKS: usize = 2;
-
-/// In blocks of 64 bytes: the most that are validated until the next test for ASCII. Each test that fails adds one.
+/// In pairs of blocks of 64 bytes: the most that are validated until the next test for ASCII. Each test that fails adds one.
 ///
-/// `utf8_valid_up_to`, 16 KiB, with a test each two blocks: Chinese, Russian and Western European text 0.90, JSON and logs
-/// 1.10. With a test each three blocks: these 0.98, those 0.95.
-pub const MOST_BLOCKS: usize = 8;
+/// `utf8_valid_up_to`, 16 KiB: with one, Chinese, Russian and Western European text 0.90, and JSON and logs 1.10.
+pub const MOST_PAIRS: usize = 4;
 
 /// How many times 125 bytes of ASCII are skipped in a row before the ASCII prefix takes over.
 ///

@@ -1,4 +1,5 @@
-//! The UTF-8 of sixteen bytes of Latin1: both bytes of each are computed, and the kept ones are looked up by a mask.
+//! The UTF-8 of Latin1 by strides of sixteen bytes: both bytes of each are computed, and the kept ones are looked up by a
+//! mask.
 
 ghost use Rattle.std.specs.Prelude.{◌≡◌, ℕ, ◌+◌, ◌*◌, ◌<◌, ◌≤◌, ◌++◌, List, nat_le, length, map, take, drop, slice_index, encode_utf8_all};
 ghost use Rattle.std.specs.Simd.Lanes.{mask_l};

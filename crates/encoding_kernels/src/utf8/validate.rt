@@ -15,7 +15,7 @@ use crate::scalar::is_lead_with_continuation;
 use crate::simd::copy::{one_before, three_before, two_before};
 use crate::simd::scan::{BytesBelow, all, is_zero, zeros};
 use crate::simd::width::{ASCII_END, BLOCK, HALF_BLOCK, TWO_BLOCKS};
-use crate::tuning::{FEWEST_BLOCKS, FIRST_BLOCKS, MOST_BLOCKS, MOST_SKIPPED};
+use crate::tuning::{FIRST_PAIRS, MOST_PAIRS, MOST_SKIPPED};
 use std::simd::prelude::*;
 
 /// A first byte of several is followed by a byte that isn't a continuation byte.
@@ -249,23 +249,30 @@ fn clean_of_64(src: &[u8], at: usize) -> usize
     32 + zeros(second)
 }
 
-/// Returns how many of the bytes of some blocks from `at` on precede the first that may not follow the three before it.
+/// Extends a prefix of `from` bytes that may each follow those before it by at most `pairs` times two blocks, and returns
+/// its length.
 #[tactic(auto, using(crate::proofs::Utf8ValidationLemmas::ValidUpTo_less))]
 #[inline(always)]
-fn clean_of_blocks(src: &[u8], at: usize, count: usize) -> usize
-    requires { (3 ≤ at) × (at + 64 * count ≤ length src.now) }
-    ensures within { result ≤ 64 * count }
-    ensures follow { ValidUpTo src.now at → ValidUpTo src.now (at + result) }
+fn extend_by_pairs(src: &[u8], from: usize, pairs: usize) -> usize
+    requires blocks { (3 ≤ from) × (from + 128 * pairs ≤ length src.now) }
+    requires prefix { ValidUpTo src.now from }
+    ensures { (from ≤ result) × (result ≤ from + 128 * pairs) × ValidUpTo src.now result }
 {
-    let mut blocks = 0;
-    while blocks < count {
-        let clean = clean_of_64(src, at + BLOCK * blocks);
+    let mut at = from;
+    let mut left = pairs;
+    while left > 0 {
+        let clean = clean_of_64(src, at);
         if clean < BLOCK {
-            return BLOCK * blocks + clean;
+            return at + clean;
         }
-        blocks += 1;
+        let clean = clean_of_64(src, at + BLOCK);
+        at += TWO_BLOCKS;
+        if clean < BLOCK {
+            return at - BLOCK + clean;
+        }
+        left -= 1;
     }
-    BLOCK * count
+    at
 }
 
 /// Returns the length, at most 64, of a prefix whose bytes may each follow those before it.
@@ -390,7 +397,7 @@ fn following(src: &[u8], from: usize) -> usize
             return at;
         }
     }
-    let mut blocks = FIRST_BLOCKS;
+    let mut pairs = FIRST_PAIRS;
     let mut skipped = 0;
     while src.len() - at >= TWO_BLOCKS {
         if are_128_ascii(src, at - 3) {
@@ -399,17 +406,17 @@ fn following(src: &[u8], from: usize) -> usize
             if skipped == MOST_SKIPPED {
                 return at;
             }
-            blocks = FEWEST_BLOCKS;
+            pairs = 1;
             continue;
         }
-        blocks = blocks.min((src.len() - at) / BLOCK);
-        let clean = clean_of_blocks(src, at, blocks);
-        at += clean;
-        if clean < BLOCK * blocks {
+        pairs = pairs.min((src.len() - at) / TWO_BLOCKS);
+        let end = at + TWO_BLOCKS * pairs;
+        at = extend_by_pairs(src, at, pairs);
+        if at < end {
             return at;
         }
         skipped = 0;
-        blocks = (blocks + 1).min(MOST_BLOCKS);
+        pairs = (pairs + 1).min(MOST_PAIRS);
     }
     finish(src, at)
 }

@@ -6,7 +6,7 @@ ghost use Rattle.std.specs.Prelude.{◌≡◌, ℕ, ◌+◌, ◌-◌, ◌*◌, �
 ghost use Rattle.std.specs.Int.RustNames.{count_ones};
 ghost use Rattle.std.specs.Simd.Lanes.{mask_l};
 ghost use Rattle.encoding_kernels.specs.Scans.{BelowUpTo, HasLanes};
-ghost use Rattle.encoding_kernels.specs.EndingUnits.{ends_after, low_bits, unit_at, unit_lane, units_after, upper_of, compressed_places, byte_places, WritesCompressed};
+ghost use Rattle.encoding_kernels.specs.EndingUnits.{ends_after, low_bits, unit_at, units_after, upper_of, compressed_places, byte_places, WritesCompressed};
 
 use crate::simd::copy::{one_before, three_before, two_before};
 use std::simd::prelude::*;

@@ -5,9 +5,9 @@
 //! third as many: a block is stored only if that many units are still to be written. After the UTF-16 of a whole text,
 //! `dst` is unchanged. Runs of ASCII are the caller's.
 
-ghost use Rattle.std.specs.Prelude.{◌+◌, ◌-◌, ◌/◌, ◌<◌, ◌≤◌, length, ◌≡◌, ℕ, ◌*◌, ◌^◌, Bool, false, List, ◌++◌, take, replicate, slice_index, IsTrue, drop};
+ghost use Rattle.std.specs.Prelude.{◌+◌, ◌-◌, ◌/◌, ◌<◌, ◌≤◌, length, ◌≡◌, ◌^◌, false, ◌++◌, take, replicate, IsTrue, drop};
 ghost use Rattle.std.specs.Str.{IsUtf8, IsCharBoundary, chars};
-ghost use Rattle.encoding_kernels.specs.EndingUnits.{WritesUtf16, units_in, BeginsThree, WritesCompressed, ends_after};
+ghost use Rattle.encoding_kernels.specs.EndingUnits.{WritesUtf16, units_in, ends_after};
 ghost use Rattle.std.specs.Int.RustNames.{count_ones};
 ghost use Rattle.std.specs.Simd.Lanes.{mask_l};
 ghost use Rattle.std.specs.List.{flat_map};

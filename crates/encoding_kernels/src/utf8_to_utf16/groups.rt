@@ -3,7 +3,7 @@
 //! The code units of 64 bytes are computed by strides at fixed indices, so no stride waits for the end of a character in
 //! the one before it. Only the index at which the next 64 bytes begin depends on the text.
 
-ghost use Rattle.std.specs.Prelude.{◌≡◌, ℕ, ◌+◌, ◌*◌, ◌<◌, ◌≤◌, ◌∷◌, IsTrue, IsFalse, length, take, drop, slice_index};
+ghost use Rattle.std.specs.Prelude.{ℕ, ◌+◌, ◌*◌, ◌<◌, ◌≤◌, ◌∷◌, IsTrue, IsFalse, length, take, drop, slice_index};
 ghost use Rattle.std.specs.Str.{IsUtf8, IsCharBoundary};
 ghost use Rattle.encoding_kernels.specs.Scans.{BelowUpTo, HasLanes};
 ghost use Rattle.encoding_kernels.specs.EndingUnits.{WritesUtf16, WritesCompressed, StoresUnits, units_in, units_after, ends_after, BeginsThree, NoUnitEnds, triple_unit};
@@ -37,12 +37,12 @@ const LEAD_VALUES: [u8; 16] = [
     0xE0, 0, 0, 0xE0, 0, 0, 0xE0, 0, 0, 0xE0, 0, 0, 0xE0, 0, 0, 0xE0,
 ];
 
-/// The same bits, of the sixteen bytes from index 8 on.
+/// The bits that show whether a byte begins three, at every third of the sixteen bytes from index 8 on.
 const LATER_BITS: [u8; 16] = [
     0, 0xF0, 0, 0, 0xF0, 0, 0, 0xF0, 0, 0, 0xF0, 0, 0, 0xF0, 0, 0,
 ];
 
-/// Their values.
+/// The values of these bits if it does.
 const LATER_VALUES: [u8; 16] = [
     0, 0xE0, 0, 0, 0xE0, 0, 0, 0xE0, 0, 0, 0xE0, 0, 0, 0xE0, 0, 0,
 ];

@@ -7,8 +7,8 @@ invariant-loop-at l = record {
   started : 64 ≤ l.at;
   within : l.at ≤ length l.src;
   prefix : ValidUpTo l.src l.at;
-  some : 0 < l.blocks;
-  few : l.blocks ≤ 8;
+  some : 0 < l.pairs;
+  few : l.pairs ≤ 4;
   short : l.skipped < 8;
 }
 
