@@ -48,24 +48,26 @@ pub const VALIDATED_PIECE: usize = 4096;
 
 /// In pairs of blocks of 64 bytes: how many are validated at first until the next test for ASCII. After ASCII it is one.
 ///
-/// `utf8_valid_up_to`, 1,000 bytes: with one, Chinese and Russian 0.95; with four, JSON 0.95.
+/// `utf8_valid_up_to`, 1,000 bytes, when the loop took single blocks: with two of these, Chinese and Russian 0.95; with
+/// eight, JSON 0.95.
 pub const FIRST_PAIRS: usize = 2;
 
 /// In pairs of blocks of 64 bytes: the most that are validated until the next test for ASCII. Each test that fails adds one.
 ///
-/// `utf8_valid_up_to`, 16 KiB: with one, Chinese, Russian and Western European text 0.90, and JSON and logs 1.10.
+/// `utf8_valid_up_to`, 16 KiB, when the loop took single blocks: with two of these, Chinese, Russian and Western European
+/// text 0.90, JSON and logs 1.10; with four, 0.94 and 1.04.
 pub const MOST_PAIRS: usize = 4;
 
 /// How many times 125 bytes of ASCII are skipped in a row before the ASCII prefix takes over.
 ///
-/// `utf8_valid_up_to`, 16 KiB: without an end, ASCII with a character in 10,000 bytes 0.86; with two, JSON and logs 0.85;
-/// with four, 0.95.
+/// `utf8_valid_up_to`, 16 KiB, when the loop took single blocks: without an end, ASCII with a character in 10,000 bytes
+/// 0.86; with two, JSON and logs 0.85; with four, 0.95.
 pub const MOST_SKIPPED: usize = 8;
 
 /// In blocks of sixteen bytes: how many go from UTF-8 to Latin1 after a test for ASCII until the next.
 ///
 /// UTF-8 to Latin1, 4 KiB, each block stored by itself: with one, code 0.92 and logs 1.02; with four, logs 0.93 and code
-/// 0.95. Now both blocks are stored at once, for which this is fixed.
+/// 0.95. Now both blocks are stored at once, so no other value is proved.
 pub const BLOCKS_BEFORE_RETEST: usize = 2;
 
 /// In blocks: how many after one with surrogates are tested for pairs at once.

@@ -1,5 +1,5 @@
 //! Validates UTF-8 by blocks of 64 bytes, and at most 64 bytes by two overlapping vectors. ASCII before the blocks, and
-//! runs of it between them, are the caller's.
+//! long runs of it between them, are the caller's.
 //!
 //! Vectors find the bytes that may not follow those before them: Keiser and Lemire, "Validating UTF-8 In Less Than One
 //! Instruction Per Byte". The previous bytes are loaded separately, so that a block carries no state. Three tables, by
@@ -249,8 +249,8 @@ fn clean_of_64(src: &[u8], at: usize) -> usize
     32 + zeros(second)
 }
 
-/// Extends a prefix of `from` bytes that may each follow those before it by at most `pairs` times two blocks, and returns
-/// its length.
+/// Extends a prefix of `from` bytes that may each follow those before it. Adds at most `pairs` times 128 bytes, and returns
+/// the new length.
 #[tactic(auto, using(crate::proofs::Utf8ValidationLemmas::ValidUpTo_less))]
 #[inline(always)]
 fn extend_by_pairs(src: &[u8], from: usize, pairs: usize) -> usize
@@ -334,8 +334,8 @@ fn back(src: &[u8], at: usize) -> usize
 
 /// Returns whether the 128 bytes from `at` on are ASCII.
 ///
-/// A vector has no more lanes than those of the look-ups: the compiler would take the loads of these, which begin up to
-/// three bytes earlier, out of a longer vector byte by byte.
+/// A vector has no more lanes than those of the look-ups. The loads of these begin up to three bytes apart from it, and the
+/// compiler would take them out of a longer vector byte by byte.
 #[inline(always)]
 fn are_128_ascii(src: &[u8], at: usize) -> bool
     requires { (at + 128 ≤ length src.now) × (at + 128 < 18446744073709551616) }
@@ -383,7 +383,7 @@ fn following(src: &[u8], from: usize) -> usize
     requires prefix { (from ≤ length src.now) × ValidUpTo src.now from }
     ensures { (result ≤ length src.now) × ValidUpTo src.now result }
 {
-    // from a multiple of 64 on, so that only the length decides how often the loops iterate
+    // from a multiple of 64 on: until ASCII is skipped, only the length decides how often the loops iterate
     let mut at = from / BLOCK * BLOCK;
     if at < BLOCK {
         at = clean_of_first_64(src);
@@ -435,8 +435,8 @@ pub fn well_formed_short(src: &[u8]) -> usize
     back(src, clean)
 }
 
-/// Returns the length of a well-formed prefix of at least 64 bytes, of which the first `ascii` are ASCII: these, and
-/// whole blocks after them. Stops in a long run of ASCII.
+/// Returns the length of a well-formed prefix of at least 64 bytes, of which the first `ascii` are ASCII. It is at least as
+/// long as these, and ends in a long run of ASCII after them.
 #[tactic(auto, using(crate::proofs::Utf8ValidationLemmas::IsUtf8_ascii_prefix, crate::proofs::Utf8ValidationLemmas::ValidUpTo_ascii_prefix))]
 #[inline(always)]
 pub fn well_formed_blocks(src: &[u8], ascii: usize) -> usize

@@ -150,7 +150,7 @@ fn convert_groups(src: &[u8], dst: &mut [u16]) -> (usize, usize)
     (read, written)
 }
 
-/// Returns whether the first character is followed by 64 bytes of ASCII.
+/// Returns whether the text is long enough for a group, and its first character is followed by 64 bytes of ASCII.
 #[inline(always)]
 fn precedes_ascii(src: &[u8]) -> bool
     requires { (0 < length src.now) × IsUtf8 src.now }

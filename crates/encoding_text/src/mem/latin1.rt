@@ -5,7 +5,6 @@ ghost use Rattle.std.specs.Prelude.{◌≡◌, ◌+◌, ◌-◌, ◌*◌, ◌%�
 ghost use Rattle.std.specs.Str.{IsAscii, chars};
 ghost use Rattle.encoding_definitions.specs.Prefixes.{IsLongestFittingPrefix, WritesPrefix};
 ghost use Rattle.encoding_definitions.specs.Latin1.{IsUtf8Latin1};
-ghost use Rattle.encoding_kernels.specs.Scans.{AllBelow};
 
 use crate::ascii;
 use encoding_kernels::latin1::from_utf8::{
@@ -86,8 +85,8 @@ fn copy_ascii(src: &[u8], dst: &mut [u8]) -> usize
     copy_some_ascii(src, dst)
 }
 
-/// Writes the UTF-8 of blocks of 64 bytes and then of 16, until the next 64 bytes are ASCII. Returns how many bytes it read and how many
-/// it wrote. In the last 64 bytes ASCII ends no blocks, since they would soon be over.
+/// Writes the UTF-8 of blocks of 64 bytes and then of 16, until the next 64 bytes are ASCII. Returns how many bytes it read
+/// and how many it wrote. In the last 64 bytes ASCII ends no blocks, since they would soon be over.
 #[inline(always)]
 fn convert_latin1_blocks(src: &[u8], dst: &mut [u8]) -> (usize, usize)
     ensures within { result.0 ≤ length src.now }

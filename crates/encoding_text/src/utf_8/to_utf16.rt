@@ -1,13 +1,12 @@
 //! From UTF-8 to UTF-16, and its twin from UTF-8 to UTF-8. A conversion leaves the rest of `dst` unchanged.
-ghost use Rattle.std.specs.Prelude.{◌≡◌, ℕ, ◌<◌, ◌≤◌, List, length, encode_utf8, IfSome, IfNone};
+ghost use Rattle.std.specs.Prelude.{◌≡◌, ℕ, ◌<◌, ◌≤◌, List, length, encode_utf8};
 ghost use Rattle.std.specs.List.{flat_map};
 ghost use Rattle.std.specs.Char.{IsScalar};
 ghost use Rattle.std.specs.Char.Escape.{encode_utf16};
 ghost use Rattle.std.specs.Str.{IsUtf8, chars};
-ghost use Rattle.encoding_definitions.specs.Sequence.{IsSequence};
 ghost use Rattle.encoding_definitions.specs.Prefixes.{WritesPrefix};
 ghost use Rattle.encoding_definitions.specs.Converting.{ConvertsMaximal};
-ghost use Rattle.encoding_text.specs.Steps.{ConvertsSome, ConvertsUntilFull};
+ghost use Rattle.encoding_text.specs.Steps.{ConvertsUntilFull};
 
 use super::validation::{begins_no_character, character_length, utf8_valid_up_to, valid_up_to};
 use crate::ascii::{copy_prefix_of_text, copy_to_basic_latin, copy_to_basic_latin_inline};
