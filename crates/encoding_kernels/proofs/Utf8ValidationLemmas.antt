@@ -247,8 +247,8 @@ IsClosedAt_tests bs at h a y x = (
 pub ValidUpTo_through_ascii : (bs : List ℕ) (at n : ℕ) → 3 ≤ at → ValidUpTo bs at → ((k : ℕ) → at - 3 ≤ k → k < at - 3 + (3 + n) → get_or bs k 0 < 0x80)
     → ValidUpTo bs (at + n)
 ValidUpTo_through_ascii bs at n h prefix ascii =
-    let closed = IsClosedAt_tests bs at h (omega (arith, ascii (at - 1) (omega arith) (omega arith))) (omega (arith, ascii (at - 2) (omega arith) (omega arith)))
-    (omega (arith, ascii (at - 3) (omega arith) (omega arith))) in
+    let closed = IsClosedAt_tests bs at h (omega (arith, ascii (at - 1) (omega arith) (omega arith)))
+    (omega (arith, ascii (at - 2) (omega arith) (omega arith))) (omega (arith, ascii (at - 3) (omega arith) (omega arith))) in
     ValidUpTo-ascii bs at (at + n) prefix closed (record { each = λ k from to. ascii k (omega arith) (omega arith) })
 
 pub IsUtf8_closed : (bs : List ℕ) (n : ℕ) → n ≤ length bs → ValidUpTo bs n → IsClosedAt bs n → IsUtf8 (take n bs)

@@ -8,7 +8,14 @@ loop-at-init c =
     let whole = ValidUpTo_less c.args.src.now c.args.from in
     elim c.if-at-lt-BLOCK.branch [
       | then-at-lt-BLOCK+else-at-lt-BLOCK-2 w ↦
-          rw w.at-is (record { started = omega arith; within = w.clean_of_first_64-at.ensures.within; prefix = w.clean_of_first_64-at.ensures.follow; some = omega arith; few = omega arith; short = omega arith })
+          rw w.at-is (record {
+            started = omega arith;
+            within = w.clean_of_first_64-at.ensures.within;
+            prefix = w.clean_of_first_64-at.ensures.follow;
+            some = omega arith;
+            few = omega arith;
+            short = omega arith;
+          })
       | else-at-lt-BLOCK+then-src-at-ge-BLOCK+else-clean-lt-BLOCK w ↦
           rw w.at-is (record {
             started = omega arith;
@@ -20,7 +27,14 @@ loop-at-init c =
             short = omega arith;
           })
       | else-at-lt-BLOCK+else-src-at-ge-BLOCK w ↦
-          rw w.at-is (record { started = omega arith; within = omega arith; prefix = whole _ (omega arith) c.requires.prefix.1; some = omega arith; few = omega arith; short = omega arith })
+          rw w.at-is (record {
+            started = omega arith;
+            within = omega arith;
+            prefix = whole _ (omega arith) c.requires.prefix.1;
+            some = omega arith;
+            few = omega arith;
+            short = omega arith;
+          })
     ]
 
 pub returns-then-skipped-eq-MOST_SKIPPED : goal.returns-then-skipped-eq-MOST_SKIPPED
