@@ -5,7 +5,7 @@ use Rattle.std.proofs.lemmas.Bool.{and_parts, cases_lt, true≢false}
 use Rattle.std.proofs.lemmas.Bool.Decides.{nat_tests}
 use Rattle.std.proofs.lemmas.Nat.Bits.{and_pow, bit_at_or}
 use Rattle.std.specs.List.{range_with_len}
-use Rattle.encoding_kernels.specs.declared.utf8.validate.TheConstants.{BYTE_1_HIGH, BYTE_1_LOW, BYTE_2_HIGH}
+use Rattle.encoding_kernels.specs.declared.utf8.lookups.TheConstants.{BYTE_1_HIGH, BYTE_1_LOW, BYTE_2_HIGH}
 use Rattle.encoding_kernels.specs.Following.{IsValidAfter}
 use Rattle.encoding_definitions.specs.Sequence.{IsContinuation, IsSecond}
 use Rattle.encoding_definitions.proofs.SequenceLemmas.{is_second}

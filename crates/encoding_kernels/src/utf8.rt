@@ -2,5 +2,6 @@
 
 pub mod count;
 pub mod length;
+mod lookups;
 pub mod repaired;
 pub mod validate;

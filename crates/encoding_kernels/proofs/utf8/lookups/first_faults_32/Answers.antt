@@ -1,7 +1,7 @@
 use Rattle.std.proofs.Common.{◌∷◌, [], take}
 use Rattle.encoding_kernels.proofs.Utf8ValidationLemmas.{IsValidAt-first}
 use Rattle.encoding_kernels.proofs.CodeUnitLemmas.{HasLanes-after}
-use Rattle.encoding_kernels.proofs.utf8.validate.first_faults_32.Goals as goal
+use Rattle.encoding_kernels.proofs.utf8.lookups.first_faults_32.Goals as goal
 
 pub returns-clause-lanes : goal.returns-clause-lanes
 returns-clause-lanes c i l e =

@@ -1,6 +1,6 @@
 use Rattle.std.proofs.Common.{inl, refl}
 use Rattle.encoding_kernels.proofs.Utf8LookupLemmas.{high_places, low_places, lanes_follow, lanes_long}
-use Rattle.encoding_kernels.proofs.utf8.validate.faults_of.Goals as goal
+use Rattle.encoding_kernels.proofs.utf8.lookups.faults_of.Goals as goal
 
 pub swizzle : goal.swizzle
 swizzle c = high_places 16 (inl refl) c.args.second c.fits-second

@@ -1,5 +1,5 @@
 use Rattle.encoding_kernels.proofs.Utf8ValidationLemmas.{IsValidAt-first}
-use Rattle.encoding_kernels.proofs.utf8.validate.first_faults.Goals as goal
+use Rattle.encoding_kernels.proofs.utf8.lookups.first_faults.Goals as goal
 
 pub returns-clause-lanes : goal.returns-clause-lanes
 returns-clause-lanes c i l e =

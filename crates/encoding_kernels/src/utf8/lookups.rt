@@ -1,0 +1,222 @@
+//! Look-ups that find the bytes that may not follow those before them: Keiser and Lemire, "Validating UTF-8 In Less Than
+//! One Instruction Per Byte". The previous bytes are loaded separately, so that a block carries no state. Three tables, by
+//! the nibbles of two adjacent bytes, each leave some errors possible. An error has a bit, and is there if all three
+//! leave it.
+
+ghost use Rattle.std.specs.Prelude.{◌≡◌, ℕ, ◌+◌, ◌<◌, ◌≤◌, length, slice_index};
+ghost use Rattle.encoding_kernels.specs.Following.{IsValidAfter, IsValidAt};
+
+use crate::simd::copy::{one_before, three_before, two_before};
+use std::simd::prelude::*;
+
+/// A first byte of several is followed by a byte that isn't a continuation byte.
+const TOO_SHORT: u8 = 1;
+
+/// A continuation byte follows ASCII.
+const TOO_LONG: u8 = 1 << 1;
+
+/// A continuation byte below A0 follows E0.
+const OVERLONG_3: u8 = 1 << 2;
+
+/// A continuation byte from 90 on follows a byte from F4 on.
+const TOO_LARGE: u8 = 1 << 3;
+
+/// A continuation byte from A0 on follows ED.
+const SURROGATE: u8 = 1 << 4;
+
+/// A continuation byte follows C0 or C1.
+const OVERLONG_2: u8 = 1 << 5;
+
+/// A continuation byte below 90 follows F0 or a byte above F4.
+const OVERLONG_4: u8 = 1 << 6;
+
+/// A continuation byte follows another. This is an error unless a sequence of three or four bytes is open.
+const TWO_CONTINUATIONS: u8 = 1 << 7;
+
+/// The errors that don't depend on the low nibble of the previous byte.
+const ANY_LOW: u8 = TOO_SHORT | TOO_LONG | TWO_CONTINUATIONS;
+
+/// The errors that the low nibble of a byte above F4 leaves possible.
+const ABOVE_F4: u8 = ANY_LOW | TOO_LARGE | OVERLONG_4;
+
+/// A table of sixteen bytes that is stored twice, once for each sixteen lanes.
+macro_rules! twice {
+    ($($entry:expr),* $(,)?) => {
+        [$($entry),*, $($entry),*]
+    };
+}
+
+/// The errors that the high nibble of the previous byte leaves possible.
+const BYTE_1_HIGH: [u8; 32] = twice![
+    TOO_LONG,
+    TOO_LONG,
+    TOO_LONG,
+    TOO_LONG,
+    TOO_LONG,
+    TOO_LONG,
+    TOO_LONG,
+    TOO_LONG,
+    TWO_CONTINUATIONS,
+    TWO_CONTINUATIONS,
+    TWO_CONTINUATIONS,
+    TWO_CONTINUATIONS,
+    TOO_SHORT | OVERLONG_2,
+    TOO_SHORT,
+    TOO_SHORT | OVERLONG_3 | SURROGATE,
+    TOO_SHORT | TOO_LARGE | OVERLONG_4,
+];
+
+/// The errors that the low nibble of the previous byte leaves possible.
+const BYTE_1_LOW: [u8; 32] = twice![
+    ANY_LOW | OVERLONG_2 | OVERLONG_3 | OVERLONG_4,
+    ANY_LOW | OVERLONG_2,
+    ANY_LOW,
+    ANY_LOW,
+    ANY_LOW | TOO_LARGE,
+    ABOVE_F4,
+    ABOVE_F4,
+    ABOVE_F4,
+    ABOVE_F4,
+    ABOVE_F4,
+    ABOVE_F4,
+    ABOVE_F4,
+    ABOVE_F4,
+    ABOVE_F4 | SURROGATE,
+    ABOVE_F4,
+    ABOVE_F4,
+];
+
+/// The errors that the high nibble of the byte itself leaves possible.
+const BYTE_2_HIGH: [u8; 32] = twice![
+    TOO_SHORT,
+    TOO_SHORT,
+    TOO_SHORT,
+    TOO_SHORT,
+    TOO_SHORT,
+    TOO_SHORT,
+    TOO_SHORT,
+    TOO_SHORT,
+    TOO_LONG | OVERLONG_2 | TWO_CONTINUATIONS | OVERLONG_3 | OVERLONG_4,
+    TOO_LONG | OVERLONG_2 | TWO_CONTINUATIONS | OVERLONG_3 | TOO_LARGE,
+    TOO_LONG | OVERLONG_2 | TWO_CONTINUATIONS | SURROGATE | TOO_LARGE,
+    TOO_LONG | OVERLONG_2 | TWO_CONTINUATIONS | SURROGATE | TOO_LARGE,
+    TOO_SHORT,
+    TOO_SHORT,
+    TOO_SHORT,
+    TOO_SHORT,
+];
+
+/// Returns zero in each lane whose byte may follow the three before it.
+#[inline(always)]
+fn faults_of(fourth: u8x16, third: u8x16, second: u8x16, block: u8x16) -> u8x16
+    ensures length { length result ≡ 16 }
+    ensures lanes { (i : ℕ) → i < 16 → slice_index result i ≡ 0
+        → IsValidAfter (slice_index fourth i) (slice_index third i) (slice_index second i)
+        (slice_index block i) }
+{
+    let four = u8x16::splat(4);
+    let pairs = u8x16::from_slice(&BYTE_1_HIGH).swizzle_dyn(second >> four)
+        & u8x16::from_slice(&BYTE_1_LOW).swizzle_dyn(second & u8x16::splat(15))
+        & u8x16::from_slice(&BYTE_2_HIGH).swizzle_dyn(block >> four);
+    let goes_on = third.saturating_sub(u8x16::splat(0x60))
+        | fourth.saturating_sub(u8x16::splat(0x70));
+    (goes_on & u8x16::splat(0x80)) ^ pairs
+}
+
+/// Returns zero in each of 32 lanes whose byte may follow the three before it.
+#[inline(always)]
+fn faults_of_32(fourth: u8x32, third: u8x32, second: u8x32, block: u8x32) -> u8x32
+    ensures length { length result ≡ 32 }
+    ensures lanes { (i : ℕ) → i < 32 → slice_index result i ≡ 0
+        → IsValidAfter (slice_index fourth i) (slice_index third i) (slice_index second i)
+        (slice_index block i) }
+{
+    let four = u8x32::splat(4);
+    let pairs = u8x32::from_slice(&BYTE_1_HIGH).swizzle_dyn_within::<16>(second >> four)
+        & u8x32::from_slice(&BYTE_1_LOW).swizzle_dyn_within::<16>(second & u8x32::splat(15))
+        & u8x32::from_slice(&BYTE_2_HIGH).swizzle_dyn_within::<16>(block >> four);
+    let goes_on = third.saturating_sub(u8x32::splat(0x60))
+        | fourth.saturating_sub(u8x32::splat(0x70));
+    (goes_on & u8x32::splat(0x80)) ^ pairs
+}
+
+/// Returns, for the sixteen bytes from `at` on, zero in each lane whose byte may follow the three before it.
+#[inline(always)]
+pub(super) fn faults(src: &[u8], at: usize) -> u8x16
+    requires { (3 ≤ at) × (at + 16 ≤ length src.now) }
+    ensures length { length result ≡ 16 }
+    ensures lanes { (i : ℕ) → i < 16 → slice_index result i ≡ 0 → IsValidAt src.now (at + i) }
+{
+    faults_of(
+        u8x16::from_slice(&src[at - 3..]),
+        u8x16::from_slice(&src[at - 2..]),
+        u8x16::from_slice(&src[at - 1..]),
+        u8x16::from_slice(&src[at..]),
+    )
+}
+
+/// Returns, for the 32 bytes from `at` on, zero in each lane whose byte may follow the three before it.
+#[inline(always)]
+pub(super) fn faults_32(src: &[u8], at: usize) -> u8x32
+    requires { (3 ≤ at) × (at + 32 ≤ length src.now) }
+    ensures length { length result ≡ 32 }
+    ensures lanes { (i : ℕ) → i < 32 → slice_index result i ≡ 0 → IsValidAt src.now (at + i) }
+{
+    faults_of_32(
+        u8x32::from_slice(&src[at - 3..]),
+        u8x32::from_slice(&src[at - 2..]),
+        u8x32::from_slice(&src[at - 1..]),
+        u8x32::from_slice(&src[at..]),
+    )
+}
+
+/// Returns, for the first sixteen bytes, zero in each lane whose byte may follow those before it.
+#[inline(always)]
+pub(super) fn first_faults(src: &[u8]) -> u8x16
+    requires { 16 ≤ length src.now }
+    ensures length { length result ≡ 16 }
+    ensures lanes { (i : ℕ) → i < 16 → slice_index result i ≡ 0 → IsValidAt src.now i }
+{
+    let block = u8x16::from_slice(src);
+    faults_of(
+        three_before(block),
+        two_before(block),
+        one_before(block),
+        block,
+    )
+}
+
+/// Returns, for the first 32 bytes, zero in each lane whose byte may follow those before it.
+#[inline(always)]
+pub(super) fn first_faults_32(src: &[u8]) -> u8x32
+    requires { 32 ≤ length src.now }
+    ensures length { length result ≡ 32 }
+    ensures lanes { (i : ℕ) → i < 32 → slice_index result i ≡ 0 → IsValidAt src.now i }
+{
+    let block = u8x32::from_slice(src);
+    let zero = u8x32::splat(0);
+    faults_of_32(
+        zero.shuffle(
+            block,
+            [
+                29, 30, 31, 32, 33, 34, 35, 36, 37, 38, 39, 40, 41, 42, 43, 44, 45, 46, 47, 48, 49,
+                50, 51, 52, 53, 54, 55, 56, 57, 58, 59, 60,
+            ],
+        ),
+        zero.shuffle(
+            block,
+            [
+                30, 31, 32, 33, 34, 35, 36, 37, 38, 39, 40, 41, 42, 43, 44, 45, 46, 47, 48, 49, 50,
+                51, 52, 53, 54, 55, 56, 57, 58, 59, 60, 61,
+            ],
+        ),
+        zero.shuffle(
+            block,
+            [
+                31, 32, 33, 34, 35, 36, 37, 38, 39, 40, 41, 42, 43, 44, 45, 46, 47, 48, 49, 50, 51,
+                52, 53, 54, 55, 56, 57, 58, 59, 60, 61, 62,
+            ],
+        ),
+        block,
+    )
+}
