@@ -6,7 +6,7 @@ use Rattle.std.proofs.lemmas.Bool.{cases_lt}
 use Rattle.std.proofs.lemmas.List.{get_or-take, get_or_past, length-take, take_more, get_or-drop, take_all, take-take}
 use Rattle.encoding_definitions.specs.Prefixes.{IsLongestPrefix, WritesPrefix}
 use Rattle.encoding_kernels.specs.Scans.{BelowUpTo, AllBelow, IsRunBelow}
-use Rattle.encoding_definitions.proofs.PrefixesLemmas.{WritesPrefix_push, WritesPrefix_put, WritesPrefix-nil, WritesPrefix-length}
+use Rattle.encoding_definitions.proofs.PrefixesLemmas.{WritesPrefix_push, WritesPrefix_put, WritesPrefix-nil, WritesPrefix-length, WritesPrefix-same, WritesPrefix_again}
 use Rattle.std.proofs.Math.Nat.{div-mul-le_self, mul-le-mul_right}
 use Rattle.std.specs.Simd.{first_chunks}
 use Rattle.std.proofs.lemmas.Option.{get_or_from_slice_get, slice_get_within, slice_get-get_or}
@@ -65,6 +65,18 @@ pub WritesPrefix_block : {A : Type 0} (old new after xs : List A) (n m : ℕ) �
 WritesPrefix_block old new after xs n m w l k put =
     let short : length (take m (drop n xs)) ≡ m = length-take-le m (drop n xs) (omega (arith, length-drop n xs)) in
     rw (take-add n m xs) (WritesPrefix_put old new after n m (take n xs) (take m (drop n xs)) w (sym short) k put)
+
+-- all units are copied, by two stores that may overlap
+pub WritesPrefix_twice : (old mid new xs : List ℕ) (n : ℕ) → n ≤ length xs → length xs ≤ 2 * n → length xs ≤ length old
+    → mid ≡ take 0 old ++ (take n (drop 0 xs) ++ drop (0 + n) old)
+    → new ≡ take (length xs - n) mid ++ (take n (drop (length xs - n) xs) ++ drop (length xs - n + n) mid)
+    → WritesPrefix old new (length xs) xs
+WritesPrefix_twice old mid new xs n least most room first second =
+    let end : length xs - n + n ≡ length xs = omega arith in
+    let once = WritesPrefix_block old old mid xs 0 n (WritesPrefix-nil old) (omega arith) (omega arith) first in
+    let all = WritesPrefix_again old mid new xs (0 + n) (length xs - n) n once (omega arith) (omega arith) (omega arith)
+    (omega (arith, WritesPrefix-length _ _ _ _ once)) second in
+    WritesPrefix-same _ _ _ _ _ _ all end (ap (λ k. take k xs) end ∙ take_all (length xs) xs (omega arith))
 
 -- stride i of a list
 pub numbered : {X : Type 0} (n k : ℕ) (xs : List X) (i : ℕ) (d : List X) → i < k → get_or (first_chunks n k xs) i d ≡ take n (drop (i * n) xs)

@@ -3,5 +3,6 @@
 pub(crate) mod compress;
 pub mod copy;
 pub mod scan;
+pub mod short;
 pub(crate) mod sum;
 pub mod width;

@@ -5,10 +5,15 @@ use Rattle.std.proofs.lemmas.Str.{IsUtf8-from_ascii}
 use Rattle.std.specs.Prelude.{IsTrue, ◌↔◌}
 use Rattle.std.specs.Str.{IsAscii, IsUtf8}
 use Rattle.std.proofs.lemmas.Bool.{cases_lt, eqb-true, eq-eqb}
-use Rattle.std.proofs.lemmas.List.{take_all, take_rest, take-append-drop, drop-append-le, length-take, length-drop, get_or-take, get_or-drop}
+use Rattle.std.proofs.lemmas.List.{take_all, take_rest, take-append-drop, take-take, drop-append-le, length-take, length-drop, get_or-take, get_or-drop}
 use Rattle.encoding_definitions.specs.Ascii.{IsFirstOther, prefix_length_by, IsIso2022JpAscii}
 use Rattle.encoding_definitions.specs.Prefixes.{IsLongestPrefix, WritesPrefix}
-use Rattle.encoding_kernels.proofs.ScanLemmas.{after_prefix, Each-at, prefix_before, unit_is}
+use Rattle.encoding_kernels.proofs.ScanLemmas.{after_prefix, ascii_prefix_at, below_prefix, Each-at, prefix_before, unit_is}
+use Rattle.encoding_kernels.proofs.PairsLemmas.{ascii_latin1}
+use Rattle.encoding_kernels.specs.Scans.{IsRunBelow}
+use Rattle.encoding_definitions.specs.Latin1.{IsUtf8Latin1}
+use Rattle.encoding_definitions.proofs.PrefixesLemmas.{WritesPrefix-length, WritesPrefix-same, WritesPrefix_again}
+use Rattle.std.proofs.lemmas.Option.{slice_get_within}
 use Rattle.std.proofs.lemmas.Bool.Decides.{nat_tests}
 use Rattle.std.specs.Simd.Lanes.{chunk, zip2}
 use Rattle.encoding_kernels.proofs.VectorLemmas.{HasLanes-splat, HasLanes-whole, IsFirstSet, compared}
@@ -21,12 +26,85 @@ pub ruleset ascii_texts = (IsUtf8-from_ascii)
 pub whole_ascii : (xs : List ℕ) (n : ℕ) → n ≡ length xs → IsLongestPrefix IsAscii xs n → IsLongestPrefix IsUtf8 xs n
 whole_ascii xs n whole p = record { within = p.within; kind = IsUtf8-from_ascii _ p.kind; longest = λ m l _. omega (arith, whole, l) }
 
+-- a list that is ASCII is its longest prefix of any kind that ASCII is of
+module _ (xs : List ℕ) (ascii : IsAscii xs) where
+  pub whole_text : IsLongestPrefix IsUtf8 xs (length xs)
+  whole_text = record {
+    within = omega arith;
+    kind = IsUtf8-from_ascii _ (subst IsAscii (sym (take_all (length xs) xs (omega arith))) ascii);
+    longest = λ m l _. l;
+  }
+
+  pub whole_latin1 : IsLongestPrefix IsUtf8Latin1 xs (length xs)
+  whole_latin1 = record { within = omega arith; kind = ascii_latin1 xs (length xs) (omega arith) (λ k l. ascii k); longest = λ m l _. l }
+
 -- what follows the longest ASCII prefix isn't ASCII
 pub ascii_stops : (xs : List ℕ) (n : ℕ) → IsLongestPrefix IsAscii xs n → n < length xs → 0x80 ≤ slice_index xs n
 ascii_stops xs n prefix l = elim (cases_lt (slice_index xs n) 0x80) [
   | inl p ↦ absurd (after_prefix (λ b. b < 0x80) (omega arith) xs n prefix l p)
   | inr p ↦ p
 ]
+
+-- the ASCII prefix of a list that isn't ASCII ends before it does
+pub ascii_ends : (xs : List ℕ) (n : ℕ) → IsLongestPrefix IsAscii xs n → ¬ (IsAscii xs) → n < length xs
+ascii_ends xs n prefix other = elim (cases_lt n (length xs)) [
+  | inl l ↦ l
+  | inr b ↦ absurd (other (subst IsAscii (take_all n xs b) prefix.kind))
+]
+
+-- the ASCII prefix of the first n units ends before they do
+pub prefix_of_first_units : (xs : List ℕ) (n k : ℕ) → n ≤ length xs → IsLongestPrefix IsAscii (take n xs) k → k < n → IsLongestPrefix IsAscii xs k
+prefix_of_first_units xs n k within prefix l =
+    let same : (i : ℕ) → i < n → slice_index (take n xs) i ≡ slice_index xs i = λ i p. get_or-take n xs i 0 p in
+    ascii_prefix_at xs k (omega arith) (λ i p. subst (λ b. b < 0x80) (same i (omega arith)) (below_prefix (take n xs) k prefix i p))
+    (subst (λ b. 0x80 ≤ b) (same k l) (ascii_stops (take n xs) k prefix (omega (arith, length-take-le n xs within))))
+
+-- the first n units are ASCII, if their ASCII prefix doesn't end before they do
+pub first_units_ascii : (xs : List ℕ) (n k : ℕ) → n ≤ length xs → IsLongestPrefix IsAscii (take n xs) k → n ≤ k → IsAscii (take n xs)
+first_units_ascii xs n k within prefix l = subst IsAscii (take_all k (take n xs) (omega (arith, length-take-le n xs within))) prefix.kind
+
+-- the last m units, of which the first `run` are ASCII, after the first n, which are ASCII and may overlap them
+module _ (xs : List ℕ) (n m run : ℕ) (within : n ≤ length xs) (overlap : length xs ≤ n + m) (room : m ≤ length xs) (ascii : IsAscii (take n xs))
+    (r : IsRunBelow 0x80 xs (length xs - m) m run) where
+  known : (k : ℕ) → k < n → slice_index xs k < 0x80
+  known k l = Each-at (λ b. b < 0x80) (omega arith) xs n k l ascii
+
+  pub run_goes_on : n ≤ length xs - m + run
+  run_goes_on = elim (cases_lt (length xs - m + run) n) [ inl l ↦ absurd (r.stops (omega arith) (known (length xs - m + run) l)) | inr b ↦ b ]
+
+  pub prefix_on : IsLongestPrefix IsAscii xs (length xs - m + run)
+  prefix_on =
+      prefix_before (λ b. b < 0x80) (omega arith) xs (length xs - m + run) (omega (arith, r.within))
+      (λ k l. elim (cases_lt k (length xs - m)) [ inl p ↦ known k (omega arith) | inr p ↦ r.pass k p l ]) (λ l. r.stops (omega arith))
+
+  -- they are copied too
+  pub copied_on : (old mid new : List ℕ) → length xs ≤ length old → WritesPrefix old mid n (take n xs)
+      → new ≡ take (length xs - m) mid ++ (take run (drop (length xs - m) xs) ++ drop (length xs - m + run) mid)
+      → WritesPrefix old new (length xs - m + run) (take (length xs - m + run) xs)
+  copied_on old mid new fits copied put =
+      WritesPrefix_again old mid new xs n (length xs - m) run copied (omega arith) run_goes_on (omega (arith, r.within))
+      (omega (arith, r.within, WritesPrefix-length _ _ _ _ copied)) put
+
+-- the first n units, which all fit, are ASCII and copied
+module _ (xs old : List ℕ) (n : ℕ) (within : n ≤ length xs) (fits : length xs ≤ length old) where
+  all_fit : take (length old) (take n xs) ≡ take n xs
+  all_fit = take_all (length old) (take n xs) (omega (arith, length-take-le n xs within))
+
+  pub fitting_ascii : IsAscii (take (length old) (take n xs)) → IsAscii (take n xs)
+  fitting_ascii = subst IsAscii all_fit
+
+  pub fitting_prefix : (unit place : ℕ) → IsFirstOther (take (length old) (take n xs)) (Some (unit, place)) → IsLongestPrefix IsAscii xs place
+  fitting_prefix unit place found =
+      let prefix : IsLongestPrefix IsAscii (take n xs) place = subst (λ ys. IsLongestPrefix IsAscii ys place) all_fit found.1 in
+      let before : place < n = omega (arith, length-take-le n xs within, ap length all_fit, slice_get_within _ place unit found.0) in
+      prefix_of_first_units xs n place within prefix before
+
+  pub fitting_copied : (new : List ℕ)
+      → WritesPrefix old new (length (take (length old) (take n xs))) (take (length (take (length old) (take n xs))) (take n xs))
+      → WritesPrefix old new n (take n xs)
+  fitting_copied new copied =
+      let all : length (take (length old) (take n xs)) ≡ n = omega (arith, length-take-le n xs within, ap length all_fit) in
+      WritesPrefix-same _ _ _ _ _ _ copied all (ap (λ k. take k (take n xs)) all ∙ take-take n n xs (omega arith))
 
 -- the longest prefix is as long as the list if and only if the whole is of the kind
 pub whole_by_length : {A : Type 0} (K : List A → Type 0) (xs : List A) (n : ℕ) → IsLongestPrefix K xs n → IsTrue (eqb n (length xs)) ↔ K xs
@@ -59,6 +137,11 @@ other_at xs room unit place found l m = elim (cases_lt (slice_index xs place) 0x
       (rw (get_or-take room xs place 0 m) p))
   | inr p ↦ p
 ]
+
+-- the unit after the longest ASCII prefix of those that fit isn't ASCII
+pub stops_in_fitting : (xs : List ℕ) (room n : ℕ) → IsLongestPrefix IsAscii (take room xs) n → n < length xs → n < room → 0x80 ≤ slice_index xs n
+stops_in_fitting xs room n prefix l m =
+    subst (λ b. 0x80 ≤ b) (get_or-take room xs n 0 m) (ascii_stops (take room xs) n prefix (omega (arith, length-take room xs)))
 
 -- the same after an ASCII prefix of what is left
 pub other_after : (xs old : List ℕ) (i j n : ℕ) → i + n < length xs → j + n < length old

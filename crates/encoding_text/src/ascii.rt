@@ -1,22 +1,23 @@
 //! ASCII prefixes of bytes and of UTF-16 code units: their lengths and their copies. A copy leaves the rest of `dst`
 //! unchanged.
 
-ghost use Rattle.std.specs.Prelude.{◌*◌, ◌<◌, ◌≤◌, take, length};
-ghost use Rattle.std.specs.Str.{IsAscii, IsUtf8};
+ghost use Rattle.std.specs.Prelude.{take, length};
+ghost use Rattle.std.specs.Str.{IsAscii};
 ghost use Rattle.encoding_definitions.specs.Ascii.{IsFirstOther, prefix_length_by, IsIso2022JpAscii};
 ghost use Rattle.encoding_definitions.specs.Prefixes.{IsLongestPrefix, WritesPrefix};
-ghost use Rattle.encoding_kernels.specs.EndingUnits.{WritesUtf16, units_in};
 
 use encoding_kernels::simd::copy::{
-    copy_first, copy_part, pack_first, pack_part, unpack, unpack_block, unpack_first, unpack_part,
+    copy_first, copy_part, pack_first, pack_part, unpack_first, unpack_part,
 };
 use encoding_kernels::simd::scan::{
     are_bytes_below, are_four_blocks_below, are_units_below, run_len_below, units_run_len_below,
 };
 use encoding_kernels::simd::width::{
-    ASCII_END, BASIC_LATIN_END, BLOCK, FOUR, FOUR_BLOCKS, HALF_BLOCK, SIXTEEN, STRIDE, UNIT_BLOCK,
+    ASCII_END, BASIC_LATIN_END, BLOCK, FOUR, FOUR_BLOCKS, SIXTEEN, STRIDE, UNIT_BLOCK,
 };
 use std::simd::prelude::*;
+
+pub(crate) mod prefixes;
 
 /// The bits that no ASCII byte has: each of the eight bytes is 0x80.
 pub const ASCII_MASK: usize = 0x8080_8080_8080_8080;
@@ -286,134 +287,4 @@ pub fn basic_latin_to_ascii(src: &[u16], dst: &mut [u8]) -> Option<(u16, usize)>
         dst[i] = fitting[i] as u8;
     }
     None
-}
-
-/// Returns the length of the longest ASCII prefix, as `ascii_valid_up_to` does. One mask finds its end in the first
-/// block, without a branch that depends on the text: between other characters most prefixes end there.
-#[tactic(auto, using(encoding_kernels::proofs::ScanLemmas::prefix_before))]
-#[inline(always)]
-pub(crate) fn ascii_valid_up_to_by_block(bytes: &[u8]) -> usize
-    ensures { IsLongestPrefix IsAscii bytes.now result }
-{
-    if bytes.len() >= BLOCK {
-        let prefix = run_len_below::<BLOCK>(bytes, 0, ASCII_END);
-        if prefix < BLOCK || bytes.len() == BLOCK {
-            return prefix;
-        }
-    }
-    ascii_valid_up_to(bytes)
-}
-
-/// Returns the length of the longest ASCII prefix, as `ascii_valid_up_to` does, of at least N and at most 2 * N bytes. Two
-/// vectors find its end, which may overlap.
-#[tactic(auto, using(std::proofs::lemmas::Bool::cases_lt, encoding_kernels::proofs::ScanLemmas::prefix_before))]
-#[inline(always)]
-fn ascii_valid_up_to_by_two<const N: usize>(bytes: &[u8]) -> usize
-    requires { (0 < N) × (N ≤ 64) × (N ≤ length bytes.now) × (length bytes.now ≤ 2 * N) }
-    ensures { IsLongestPrefix IsAscii bytes.now result }
-{
-    let first = run_len_below::<N>(bytes, 0, ASCII_END);
-    if first < N {
-        return first;
-    }
-    let last = bytes.len() - N;
-    last + run_len_below::<N>(bytes, last, ASCII_END)
-}
-
-/// Returns the length of the longest ASCII prefix, as `ascii_valid_up_to` does, of 16 to 64 bytes.
-#[inline(always)]
-pub(crate) fn short_ascii_valid_up_to(bytes: &[u8]) -> usize
-    requires { (16 ≤ length bytes.now) × (length bytes.now ≤ 64) }
-    ensures { IsLongestPrefix IsAscii bytes.now result }
-{
-    if bytes.len() >= HALF_BLOCK {
-        ascii_valid_up_to_by_two::<HALF_BLOCK>(bytes)
-    } else {
-        ascii_valid_up_to_by_two::<STRIDE>(bytes)
-    }
-}
-
-/// Copies the longest ASCII prefix, each byte as a UTF-16 code unit, up to the shorter of the two lengths. Returns its
-/// length. Inline, for a call outside loops.
-#[inline(always)]
-pub(crate) fn copy_to_basic_latin_inline(src: &[u8], dst: &mut [u16]) -> usize
-    ensures prefix { IsLongestPrefix IsAscii (take (length dst.old) src.now) result }
-    ensures copied { WritesPrefix dst.old dst.new result (take result src.now) }
-{
-    match ascii_to_basic_latin(src, dst) {
-        Some((_, place)) => place,
-        None => src.len().min(dst.len()),
-    }
-}
-
-/// Copies as `copy_to_basic_latin_inline` does. Out of line, so that a loop that calls it needs few registers.
-#[inline(never)]
-fn copy_some_to_basic_latin(src: &[u8], dst: &mut [u16]) -> usize
-    ensures prefix { IsLongestPrefix IsAscii (take (length dst.old) src.now) result }
-    ensures copied { WritesPrefix dst.old dst.new result (take result src.now) }
-{
-    copy_to_basic_latin_inline(src, dst)
-}
-
-/// Copies the longest ASCII prefix, each byte as a UTF-16 code unit, up to the shorter of the two lengths. Returns its
-/// length.
-#[tactic(auto, using(encoding_kernels::proofs::ScanLemmas::prefix_before))]
-#[inline(always)]
-pub(crate) fn copy_to_basic_latin(src: &[u8], dst: &mut [u16]) -> usize
-    ensures prefix { IsLongestPrefix IsAscii (take (length dst.old) src.now) result }
-    ensures copied { WritesPrefix dst.old dst.new result (take result src.now) }
-{
-    // a store of no bytes would delay a load of the units that are written next
-    if !src.is_empty() && src[0] >= ASCII_END {
-        return 0;
-    }
-    copy_some_to_basic_latin(src, dst)
-}
-
-/// The least length of a text whose UTF-16 has at least as many code units as a block.
-pub(crate) const BLOCK_OF_TEXT: usize = 3 * BLOCK;
-
-/// The least length of a text whose UTF-16 has at least as many code units as a stride.
-const STRIDE_OF_TEXT: usize = 3 * STRIDE;
-
-/// Copies an ASCII prefix of a text, each byte as a UTF-16 code unit, and returns its length. `dst` is at least as long
-/// as `src`. Units that the UTF-16 of the rest of the text overwrites may have changed too.
-///
-/// A block or a stride is stored whole, even if ASCII ends in it: to keep what follows, it would have to load what was
-/// just stored. One mask finds the end in a block, without a branch that depends on the text.
-#[inline(always)]
-pub(crate) fn copy_prefix_of_text(src: &[u8], dst: &mut [u16]) -> usize
-    requires dst_length { length src.now ≤ length dst.old }
-    requires text { IsUtf8 src.now }
-    ensures { WritesUtf16 src.now dst.old dst.new result result (units_in src.now) }
-{
-    if src.is_empty() || src[0] >= ASCII_END {
-        return 0;
-    }
-    let mut at = 0;
-    while src.len() - at >= BLOCK {
-        if !are_bytes_below::<BLOCK>(src, at, ASCII_END) {
-            if src.len() - at < BLOCK_OF_TEXT {
-                break;
-            }
-            let run = run_len_below::<BLOCK>(src, at, ASCII_END);
-            unpack_block(src, dst, at);
-            return at + run;
-        }
-        unpack_block(src, dst, at);
-        at += BLOCK;
-    }
-    while src.len() - at >= STRIDE {
-        let run = run_len_below::<STRIDE>(src, at, ASCII_END);
-        if run < STRIDE {
-            if src.len() - at < STRIDE_OF_TEXT {
-                break;
-            }
-            unpack::<STRIDE>(src, dst, at);
-            return at + run;
-        }
-        unpack::<STRIDE>(src, dst, at);
-        at += run;
-    }
-    at + copy_to_basic_latin(&src[at..], &mut dst[at..])
 }

@@ -40,7 +40,7 @@ fn copy_by_strides<const N: usize>(src: &[u8], dst: &mut [u8])
 
 /// Copies one, two or three bytes to the start of `dst`. May copy a byte twice: a branch for each length costs more.
 #[inline(always)]
-fn copy_few(src: &[u8], dst: &mut [u8])
+pub(super) fn copy_few(src: &[u8], dst: &mut [u8])
     requires few { (0 < length src.now) × (length src.now ≤ 3) }
     requires dst_length { length src.now ≤ length dst.old }
     ensures { WritesPrefix dst.old dst.new (length src.now) src.now }
@@ -143,6 +143,40 @@ pub(crate) fn write_first_units(dst: &mut [u16], at: usize, units: u16x16, count
     is_kept
         .select(units, following)
         .copy_to_slice(&mut dst[at..]);
+}
+
+/// Copies the first `count` of the sixteen bytes from `at` on to the same index. Stores sixteen, the others as `dst` has
+/// them.
+#[inline(always)]
+pub fn copy_run(src: &[u8], dst: &mut [u8], at: usize, count: usize)
+    requires within { (at + 16 ≤ length src.now) × (at + 16 ≤ length dst.old) }
+    requires count { count ≤ 16 }
+    ensures { dst.new ≡ take at dst.old
+        ++ (take count (drop at src.now) ++ drop (at + count) dst.old) }
+{
+    // a store of all sixteen needs no load of what an earlier store left there
+    if count == STRIDE {
+        copy::<STRIDE>(src, dst, at);
+    } else {
+        write_first(dst, at, u8x16::from_slice(&src[at..]), count);
+    }
+}
+
+/// Copies the first `count` of the sixteen bytes from `at` on to the same index, each as a UTF-16 code unit. Stores sixteen,
+/// the others as `dst` has them.
+#[inline(always)]
+pub fn unpack_run(src: &[u8], dst: &mut [u16], at: usize, count: usize)
+    requires within { (at + 16 ≤ length src.now) × (at + 16 ≤ length dst.old) }
+    requires count { count ≤ 16 }
+    ensures { dst.new ≡ take at dst.old
+        ++ (take count (drop at src.now) ++ drop (at + count) dst.old) }
+{
+    if count == STRIDE {
+        unpack::<STRIDE>(src, dst, at);
+    } else {
+        let units = u8x16::from_slice(&src[at..]).cast::<u16>();
+        write_first_units(dst, at, units, count);
+    }
 }
 
 /// Writes N bytes from `at` on.

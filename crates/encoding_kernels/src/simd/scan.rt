@@ -278,9 +278,11 @@ pub fn units_prefix_len_below(units: &[u16], bound: u16) -> usize
     ensures stops { result < length units.now → bound ≤ slice_index units.now result }
 {
     let test = UnitsBelow { units, bound };
-    let by_blocks = skip::<HALF_UNIT_BLOCK, HALF_UNIT_BLOCK, _>(&test, 0, units.len());
-    let by_strides = skip::<UNIT_STRIDE, UNIT_STRIDE, _>(&test, by_blocks, units.len());
-    skip::<1, 1, _>(&test, by_strides, units.len())
+    match units.len() {
+        ..UNIT_STRIDE => skip::<1, 1, _>(&test, 0, units.len()),
+        ..HALF_UNIT_BLOCK => find::<UNIT_STRIDE, _>(&test, 0, units.len()),
+        _ => find::<HALF_UNIT_BLOCK, _>(&test, 0, units.len()),
+    }
 }
 
 /// Returns whether each lane is zero.

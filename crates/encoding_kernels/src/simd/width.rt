@@ -24,6 +24,9 @@ pub const SIXTEEN: usize = 16;
 /// The number of units in half a stride.
 pub const HALF_STRIDE: usize = 8;
 
+/// The number of units in a quarter of a stride.
+pub const QUARTER_STRIDE: usize = 4;
+
 /// The number of UTF-16 code units that one test covers.
 pub const UNIT_BLOCK: usize = 64;
 

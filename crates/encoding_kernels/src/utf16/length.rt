@@ -1,12 +1,13 @@
 //! The length of UTF-16 in UTF-8, without a test of whether it is well-formed.
 ghost use Rattle.std.specs.Prelude.{◌≡◌, ◌-◌, ℕ, ◌+◌, ◌<◌, ◌≤◌, List, length, slice_index};
 ghost use Rattle.encoding_definitions.specs.Utf16.{IsUtf8OfUnits};
-ghost use Rattle.encoding_kernels.specs.Scans.{HasLanes};
+ghost use Rattle.encoding_kernels.specs.Scans.{BelowUpTo, HasLanes};
 ghost use Rattle.encoding_kernels.specs.Lengths.{sum_over_suffixes, extra_bytes, extra_bytes_by, extra_bytes_few, fewer};
 
 use crate::simd::scan::{UnitsBelow, skip};
+use crate::simd::short::is_short_basic_latin;
 use crate::simd::sum::{Terms, sum_from};
-use crate::simd::width::{BASIC_LATIN_END, HALF_UNIT_BLOCK, UNIT_STRIDE};
+use crate::simd::width::{BASIC_LATIN_END, HALF_UNIT_BLOCK, UNIT_BLOCK, UNIT_STRIDE};
 use crate::tuning::UTF16_LENGTH_SPAN;
 use std::simd::Simd;
 use std::simd::prelude::*;
@@ -103,10 +104,22 @@ impl<'a, const N: usize> Terms<N> for Beyond<'a> {
     ghost few = { λ _ xs. extra_bytes_few xs };
 }
 
+/// Returns the length of an ASCII prefix: of the whole text if it is ASCII and has at most 64 code units, and else none.
+#[inline(always)]
+fn short_ascii_len(units: &[u16]) -> usize
+    ensures { (result ≤ length units.now) × BelowUpTo 0x80 units.now result }
+{
+    if units.len() <= UNIT_BLOCK && is_short_basic_latin(units) {
+        return units.len();
+    }
+    0
+}
+
 /// Returns the number of bytes in the UTF-8 of the code units, with U+FFFD for each unpaired surrogate.
 pub fn utf8_length_of_units(units: &[u16]) -> usize
     ensures { (text : List ℕ) × IsUtf8OfUnits units.now text × (result ≡ length text) }
 {
     let terms = Beyond { units };
-    units.len() + sum_from::<LANES, UNIT_STRIDE, UTF16_LENGTH_SPAN, _, _>(&terms, &terms, 0)
+    let ascii = short_ascii_len(units);
+    units.len() + sum_from::<LANES, UNIT_STRIDE, UTF16_LENGTH_SPAN, _, _>(&terms, &terms, ascii)
 }

@@ -1,10 +1,11 @@
 //! The length of UTF-8 in UTF-16, without a test of whether it is well-formed.
 ghost use Rattle.std.specs.Prelude.{◌≡◌, ◌-◌, ◌+◌, ◌<◌, ◌≤◌, List, length, drop, slice_index};
 ghost use Rattle.encoding_definitions.specs.Parts.{Part, ArePartsOf, lossy_utf16};
-ghost use Rattle.encoding_kernels.specs.Scans.{HasLanes};
+ghost use Rattle.encoding_kernels.specs.Scans.{BelowUpTo, HasLanes};
 ghost use Rattle.encoding_kernels.specs.Lengths.{sum_over_suffixes, goes_second, continuations, continuations_by, continuations_few, fewer};
 
 use crate::simd::scan::{BytesBelow, prefix_len_below, skip};
+use crate::simd::short::is_short_ascii;
 use crate::simd::sum::{Terms, sum_from};
 use crate::simd::width::{ASCII_END, BLOCK, HALF_STRIDE};
 use crate::tuning::UTF8_LENGTH_SPAN;
@@ -145,11 +146,35 @@ fn count_joined(bytes: &[u8], ascii: usize) -> usize
     sum_from::<LANES, HALF_STRIDE, UTF8_LENGTH_SPAN, _, _>(&terms, &terms, ascii)
 }
 
+/// Counts as `count_joined` does. Nothing is left to count if the text is ASCII.
+#[tactic(auto, using(crate::proofs::SumLemmas::total_end))]
+#[inline(always)]
+fn count_joined_after(bytes: &[u8], ascii: usize) -> usize
+    requires { ascii ≤ length bytes.now }
+    ensures { result ≡ sum_over_suffixes continuations (drop ascii bytes.now) }
+{
+    if ascii == bytes.len() {
+        return 0;
+    }
+    count_joined(bytes, ascii)
+}
+
+/// Returns the length of the ASCII prefix. Two vectors test a text of at most 64 bytes, which is often ASCII.
+#[inline(always)]
+fn ascii_prefix_len(bytes: &[u8]) -> usize
+    ensures { (result ≤ length bytes.now) × BelowUpTo 0x80 bytes.now result }
+{
+    if bytes.len() <= BLOCK && is_short_ascii(bytes) {
+        return bytes.len();
+    }
+    prefix_len_below(bytes, ASCII_END)
+}
+
 /// Returns the number of code units in the UTF-16 of the bytes, with U+FFFD for each malformed sequence.
 pub fn utf16_length_of_utf8(bytes: &[u8]) -> usize
     ensures { (parts : List Part) × ArePartsOf bytes.now parts
         × (result ≡ length (lossy_utf16 parts)) }
 {
-    let ascii = prefix_len_below(bytes, ASCII_END);
-    bytes.len() - count_joined(bytes, ascii)
+    let ascii = ascii_prefix_len(bytes);
+    bytes.len() - count_joined_after(bytes, ascii)
 }

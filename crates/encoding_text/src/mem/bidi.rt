@@ -11,7 +11,7 @@ ghost use Rattle.encoding_text.specs.Classes.{Classifies};
 ghost use Rattle.encoding_kernels.specs.RightToLeft.{rtl_second_end, rtl_mark_lead, RtlAt, NoRtlIn};
 
 use super::checks::{LATIN1_END, str_latin1_up_to, utf8_latin1_up_to};
-use crate::ascii::ascii_valid_up_to;
+use crate::ascii::prefixes::ascii_valid_up_to_by_test;
 use crate::utf_8::{character_length, utf8_valid_up_to};
 use encoding_kernels::bidi::{FIRST_LEAD, FIRST_UNIT, skip_clear, skip_clear_units};
 use encoding_kernels::scalar::decode_utf8_scalar;
@@ -155,7 +155,7 @@ fn clear_prefix_len(bytes: &[u8]) -> Option<usize>
         × (IsBidiText (take n bytes.now) → ⊥)) }
     ensures found { IfNone result (IsBidiBytes bytes.now) }
 {
-    let prefix = ascii_valid_up_to(bytes);
+    let prefix = ascii_valid_up_to_by_test(bytes);
     if prefix == bytes.len() {
         return Some(prefix);
     }

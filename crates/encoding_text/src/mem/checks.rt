@@ -13,6 +13,7 @@ use encoding_kernels::simd::scan::{
     are_bytes_below, are_four_blocks_below, are_units_below, prefix_after_stride, prefix_len_below,
     run_len_below,
 };
+use encoding_kernels::simd::short::is_short_ascii;
 use encoding_kernels::simd::width::{
     ASCII_END, BASIC_LATIN_END, BLOCK, FOUR, FOUR_BLOCKS, SIXTEEN, STRIDE, UNIT_BLOCK,
 };
@@ -147,6 +148,9 @@ pub fn utf8_latin1_up_to(buffer: &[u8]) -> usize
     ensures { IsLongestPrefix IsUtf8Latin1 buffer.now result }
 {
     if buffer.len() < STRIDE {
+        if is_short_ascii(buffer) {
+            return buffer.len();
+        }
         return longest_latin1(buffer, 0);
     }
     let run = run_len_below::<STRIDE>(buffer, 0, ASCII_END);

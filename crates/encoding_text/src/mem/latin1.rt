@@ -6,7 +6,7 @@ ghost use Rattle.std.specs.Str.{IsAscii, chars};
 ghost use Rattle.encoding_definitions.specs.Prefixes.{IsLongestFittingPrefix, WritesPrefix};
 ghost use Rattle.encoding_definitions.specs.Latin1.{IsUtf8Latin1};
 
-use crate::ascii;
+use crate::ascii::prefixes::copy_ascii_prefix;
 use encoding_kernels::latin1::from_utf8::{
     latin1_length_of_first, latin1_of, latin1_of_after, write_latin1_of_two,
 };
@@ -51,10 +51,7 @@ fn copy_first_ascii(src: &[u8], dst: &mut [u8]) -> usize
         → 0x80 ≤ slice_index src.now result }
     ensures copied { WritesPrefix dst.old dst.new result (take result src.now) }
 {
-    match ascii::ascii_to_ascii(src, dst) {
-        Some((_, place)) => place,
-        None => src.len().min(dst.len()),
-    }
+    copy_ascii_prefix(src, dst)
 }
 
 /// Copies the longest ASCII prefix that fits, and returns its length. Out of line, so that the loops over blocks keep

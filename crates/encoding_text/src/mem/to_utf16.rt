@@ -8,7 +8,7 @@ ghost use Rattle.encoding_definitions.specs.Parts.{Part, ArePartsOf, lossy_utf16
 ghost use Rattle.encoding_definitions.specs.Prefixes.{WritesPrefix};
 ghost use Rattle.encoding_definitions.specs.Converting.{WritesText};
 
-use crate::ascii::{BLOCK_OF_TEXT, copy_to_basic_latin_inline};
+use crate::ascii::prefixes::{BLOCK_OF_TEXT, copy_to_basic_latin_inline};
 use crate::decoder::{DecoderResult, Utf8Decoder};
 use crate::utf_8::{convert_text, convert_utf8_to_utf16_up_to_invalid};
 use encoding_kernels::simd::width::ASCII_END;

@@ -1,5 +1,5 @@
 //! UTF-16 to UTF-8, into a destination of any length. A conversion leaves the rest of `dst` unchanged.
-ghost use Rattle.std.specs.Prelude.{◌≡◌, ◌+◌, ◌<◌, ◌≤◌, ◌⊎◌, ◌-◌, ◌↔◌, length, take, drop, slice_index, IsTrue, ◌*◌};
+ghost use Rattle.std.specs.Prelude.{◌≡◌, ◌+◌, ◌<◌, ◌≤◌, ◌⊎◌, ◌-◌, ◌↔◌, length, take, drop, slice_index, IsTrue, IsFalse, ◌*◌};
 ghost use Rattle.std.specs.Str.{IsAscii};
 ghost use Rattle.encoding_definitions.specs.Prefixes.{WritesPrefix};
 ghost use Rattle.encoding_definitions.specs.Utf16.{IsHighSurrogate, IsLowSurrogate, IsUtf8OfPrefix, IsUtf8OfLongestPrefix, IsUtf8OfUnits};
@@ -8,7 +8,8 @@ use crate::ascii;
 use encoding_kernels::scalar::{
     is_high_surrogate, is_low_surrogate, utf8_length, utf16_length, write_scalar,
 };
-use encoding_kernels::simd::width::{BASIC_LATIN_END, HALF_STRIDE};
+use encoding_kernels::simd::short::pack_short_ascii;
+use encoding_kernels::simd::width::{BASIC_LATIN_END, HALF_STRIDE, UNIT_BLOCK};
 use encoding_kernels::utf16_to_utf8::convert::{convert_blocks, convert_paired_blocks};
 pub(super) use encoding_kernels::utf16_to_utf8::mixed::REPLACEMENT_CHARACTER;
 use encoding_kernels::utf16_to_utf8::mixed::scalar_at;
@@ -30,6 +31,20 @@ fn copy_ascii(src: &[u16], dst: &mut [u8]) -> usize
         Some((_, place)) => place,
         None => src.len().min(room),
     }
+}
+
+/// Copies at most 64 code units if they are ASCII and leave three bytes of `dst` free. Returns whether it did.
+#[inline(always)]
+fn copy_short_ascii(src: &[u16], dst: &mut [u8]) -> bool
+    ensures prefix { IsTrue result → IsUtf8OfPrefix src.now (length src.now)
+        (take (length src.now) dst.new) }
+    ensures copied { IsTrue result → WritesPrefix dst.old dst.new (length src.now)
+        (take (length src.now) dst.new) }
+    ensures unchanged { IsFalse result → dst.new ≡ dst.old }
+{
+    src.len() <= UNIT_BLOCK
+        && src.len() <= dst.len().saturating_sub(LONGEST - 1)
+        && pack_short_ascii(src, dst)
 }
 
 /// Returns whether a surrogate pair is at index `at`.
@@ -88,6 +103,9 @@ pub fn convert_utf16_to_utf8_partial_inner(src: &[u16], dst: &mut [u8]) -> (usiz
     ensures within { result.0 ≤ length src.now }
     ensures filled { (result.0 ≡ length src.now) ⊎ (length dst.old < result.1 + 4) }
 {
+    if copy_short_ascii(src, dst) {
+        return (src.len(), src.len());
+    }
     let mut read = 0;
     let mut written = 0;
     let mut singles = 0;

@@ -9,7 +9,7 @@ ghost use Rattle.encoding_definitions.specs.Converting.{ConvertsMaximal};
 ghost use Rattle.encoding_text.specs.Steps.{ConvertsUntilFull};
 
 use super::validation::{begins_no_character, character_length, utf8_valid_up_to, valid_up_to};
-use crate::ascii::{copy_prefix_of_text, copy_to_basic_latin, copy_to_basic_latin_inline};
+use crate::ascii::prefixes::{copy_prefix_of_text, copy_to_basic_latin, copy_to_basic_latin_inline};
 use encoding_kernels::scalar::{decode_utf8_scalar, write_utf16};
 use encoding_kernels::simd::copy::copy_prefix;
 use encoding_kernels::simd::width::ASCII_END;

@@ -6,7 +6,7 @@ ghost use Rattle.encoding_definitions.specs.Parts.{BeginsWithNoCharacter};
 ghost use Rattle.encoding_definitions.specs.Prefixes.{IsLongestPrefix};
 ghost use Rattle.encoding_kernels.specs.Scans.{BelowUpTo};
 
-use crate::ascii::{ascii_valid_up_to_by_block, short_ascii_valid_up_to};
+use crate::ascii::prefixes::{ascii_valid_up_to_by_block, short_ascii_valid_up_to};
 use crate::utf_8::table::{UTF8_DATA, law_table};
 use encoding_kernels::scalar::{is_continuation, is_lead_with_continuation, is_second};
 use encoding_kernels::simd::scan::run_len_below;

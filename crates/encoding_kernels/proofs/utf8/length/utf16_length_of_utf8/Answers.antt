@@ -9,14 +9,14 @@ pub overflow_sub-result : goal.overflow_sub-result
 overflow_sub-result c =
     let bs = c.args.bytes.now in
     let parts = has_parts bs in
-    let ascii = skipped_to continuations bs ascii_joined 0 c.prefix_len_below-ascii.result (omega arith) c.prefix_len_below-ascii.ensures.within
-    (λ k from. c.prefix_len_below-ascii.ensures.below k) in
-    omega (arith, c.count_joined.ensures, ascii, utf16_total bs parts.0 parts.1)
+    let ascii = skipped_to continuations bs ascii_joined 0 c.ascii_prefix_len-ascii.result (omega arith) c.ascii_prefix_len-ascii.ensures.0
+    (λ k from. c.ascii_prefix_len-ascii.ensures.1 k) in
+    omega (arith, c.count_joined_after.ensures, ascii, utf16_total bs parts.0 parts.1)
 
 pub returns : goal.returns
 returns c =
     let bs = c.args.bytes.now in
     let parts = has_parts bs in
-    let ascii = skipped_to continuations bs ascii_joined 0 c.prefix_len_below-ascii.result (omega arith) c.prefix_len_below-ascii.ensures.within
-    (λ k from. c.prefix_len_below-ascii.ensures.below k) in
-    (parts.0, parts.1, omega (arith, c.count_joined.ensures, ascii, utf16_total bs parts.0 parts.1))
+    let ascii = skipped_to continuations bs ascii_joined 0 c.ascii_prefix_len-ascii.result (omega arith) c.ascii_prefix_len-ascii.ensures.0
+    (λ k from. c.ascii_prefix_len-ascii.ensures.1 k) in
+    (parts.0, parts.1, omega (arith, c.count_joined_after.ensures, ascii, utf16_total bs parts.0 parts.1))

@@ -5,7 +5,7 @@ use borrow.Rule.Slice.PartMut.{put_mid}
 use Rattle.encoding_definitions.specs.Prefixes.{IsLongestPrefix, WritesPrefix}
 use Rattle.encoding_kernels.proofs.Utf8ToUtf16LoopLemmas.{Putting, due_ascii, putting_more, putting_prefix, putting_some, unpacked_none, unpacked_part, unpacked_prefix}
 use Rattle.encoding_kernels.specs.Scans.{IsRunBelow}
-use Rattle.encoding_text.proofs.ascii.copy_prefix_of_text.Goals as goal
+use Rattle.encoding_text.proofs.ascii.prefixes.copy_prefix_of_text.Goals as goal
 
 pub loop-at-init : goal.loop-at-init
 loop-at-init c = unpacked_none _ _

@@ -1,6 +1,6 @@
 use Rattle.std.proofs.Common.{◌-◌, length}
 use Rattle.encoding_kernels.proofs.Utf8ToUtf16LoopLemmas.{Unpacked}
-use Rattle.encoding_text.proofs.ascii.copy_prefix_of_text.Given as goal
+use Rattle.encoding_text.proofs.ascii.prefixes.copy_prefix_of_text.Given as goal
 
 abbrev pub invariant-loop-at : goal.invariant-loop-at
 invariant-loop-at l = Unpacked l.src l.fn.dst l.dst l.at
