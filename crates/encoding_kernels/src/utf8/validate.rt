@@ -8,7 +8,7 @@ ghost use Rattle.std.specs.Str.{IsUtf8};
 
 use crate::scalar::is_lead_with_continuation;
 use crate::simd::scan::{BytesBelow, all, is_zero, zeros};
-use crate::simd::width::{ASCII_END, BLOCK, HALF_BLOCK, TWO_BLOCKS};
+use crate::simd::width::{ASCII_END, BLOCK, FOUR_BLOCKS, HALF_BLOCK, TWO_BLOCKS};
 use crate::tuning::{FIRST_PAIRS, MOST_PAIRS, MOST_SKIPPED};
 use crate::utf8::lookups::{faults, faults_32, first_faults, first_faults_32};
 
@@ -157,7 +157,7 @@ fn finish(src: &[u8], from: usize) -> usize
 /// ASCII. Out of line, so that the address of the loop, and so its speed, doesn't depend on the caller.
 ///
 /// ASCII that begins three bytes before `at` needs no look-ups, since no character is cut there. Where it is rare, it is
-/// tested for less often.
+/// tested for less often, and in the last 256 bytes not at all: a test that fails would cost more than it saves there.
 #[tactic(auto, using(crate::proofs::Utf8ValidationLemmas::ValidUpTo_less))]
 #[inline(never)]
 fn following(src: &[u8], from: usize) -> usize
@@ -181,7 +181,7 @@ fn following(src: &[u8], from: usize) -> usize
     }
     let mut pairs = FIRST_PAIRS;
     let mut skipped = 0;
-    while src.len() - at >= TWO_BLOCKS {
+    while src.len() - at >= FOUR_BLOCKS {
         if are_128_ascii(src, at - 3) {
             at += TWO_BLOCKS - 3;
             skipped += 1;

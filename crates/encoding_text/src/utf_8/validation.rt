@@ -10,6 +10,7 @@ use crate::ascii::prefixes::{ascii_valid_up_to_by_block, short_ascii_valid_up_to
 use crate::utf_8::table::{UTF8_DATA, law_table};
 use encoding_kernels::scalar::{is_continuation, is_lead_with_continuation, is_second};
 use encoding_kernels::simd::scan::run_len_below;
+use encoding_kernels::simd::short::is_short_ascii;
 use encoding_kernels::simd::width::{ASCII_END, BLOCK, STRIDE};
 use encoding_kernels::utf8::validate::{well_formed_blocks, well_formed_short};
 
@@ -156,6 +157,23 @@ pub(crate) fn begins_no_character(bytes: &[u8]) -> bool
     bytes.len() < 2 || !is_lead_with_continuation(bytes[0], bytes[1])
 }
 
+/// Returns the length of the longest well-formed prefix of 16 to 64 bytes, by two vectors. If no character follows what these
+/// find, two bytes show it.
+#[inline(always)]
+fn valid_up_to_by_vectors(src: &[u8]) -> usize
+    requires { (16 ≤ length src.now) × (length src.now ≤ 64) }
+    ensures { IsLongestPrefix IsUtf8 src.now result }
+{
+    let well_formed = well_formed_short(src);
+    if well_formed == src.len() {
+        return well_formed;
+    }
+    if src[well_formed] >= ASCII_END && begins_no_character(&src[well_formed..]) {
+        return well_formed;
+    }
+    valid_after(src, well_formed)
+}
+
 /// Returns the length of the longest well-formed prefix of 16 to 64 bytes. If no character follows the ASCII prefix, two
 /// vectors show it, and two more validate any other text.
 #[tactic(auto, using(crate::proofs::WholePrefixesLemmas::whole_ascii))]
@@ -164,18 +182,14 @@ fn short_valid_up_to(src: &[u8]) -> usize
     requires { (16 ≤ length src.now) × (length src.now ≤ 64) }
     ensures { IsLongestPrefix IsUtf8 src.now result }
 {
-    let prefix = short_ascii_valid_up_to(src);
-    if prefix == src.len() {
-        return prefix;
+    if is_short_ascii(src) {
+        return src.len();
     }
+    let prefix = short_ascii_valid_up_to(src);
     if begins_no_character(&src[prefix..]) {
         return prefix;
     }
-    let well_formed = well_formed_short(src);
-    if well_formed == src.len() {
-        return well_formed;
-    }
-    valid_after(src, well_formed)
+    valid_up_to_by_vectors(src)
 }
 
 /// Returns the length of the longest well-formed prefix. Out of line, so that a short text needs few registers.
@@ -184,6 +198,18 @@ fn long_valid_up_to(src: &[u8]) -> usize
     ensures { IsLongestPrefix IsUtf8 src.now result }
 {
     valid_after(src, well_formed_prefix(src))
+}
+
+/// Returns the length of the longest well-formed prefix of fewer than 16 bytes.
+#[inline(always)]
+fn tiny_valid_up_to(src: &[u8]) -> usize
+    requires { length src.now < 16 }
+    ensures { IsLongestPrefix IsUtf8 src.now result }
+{
+    if is_short_ascii(src) {
+        return src.len();
+    }
+    long_valid_up_to(src)
 }
 
 /// Returns the length of the longest well-formed prefix of at least 64 bytes, of which the first `ascii` are ASCII.
@@ -222,7 +248,7 @@ pub(crate) fn valid_up_to(src: &[u8]) -> usize
         return valid_up_to_by_block(src);
     }
     if src.len() < STRIDE {
-        return long_valid_up_to(src);
+        return tiny_valid_up_to(src);
     }
     short_valid_up_to(src)
 }
@@ -236,5 +262,14 @@ pub(crate) fn valid_up_to(src: &[u8]) -> usize
 pub fn utf8_valid_up_to(src: &[u8]) -> usize
     ensures { IsLongestPrefix IsUtf8 src.now result }
 {
-    valid_up_to(src)
+    if src.len() > BLOCK {
+        return valid_up_to_by_block(src);
+    }
+    if src.len() < STRIDE {
+        return tiny_valid_up_to(src);
+    }
+    if is_short_ascii(src) {
+        return src.len();
+    }
+    valid_up_to_by_vectors(src)
 }
