@@ -18,6 +18,7 @@ use crate::scalar::{decode_utf8_scalar, is_continuation, sequence_length, write_
 use crate::simd::copy::LANES as BYTE_LANES;
 use crate::simd::scan::are_bytes_below;
 use crate::simd::width::{ASCII_END, BLOCK, STRIDE};
+use crate::tuning::SHORT_TEXT;
 use crate::utf8_to_utf16::code_units::{
     code_units, unit_ends, write_compressed, write_compressed_exact,
 };
@@ -62,21 +63,21 @@ fn begins_ascii_block(src: &[u8]) -> bool {
     src.len() >= BLOCK && are_bytes_below::<BLOCK>(src, 0, ASCII_END)
 }
 
-/// Returns whether the text at an index is no longer converted by blocks: it is long enough for a group, or it is a stride
+/// Returns whether the text at an index is no longer converted by blocks: it is long enough for groups, or it is a stride
 /// of ASCII before the last 64 bytes.
 #[inline(always)]
 fn ends_blocks(src: &[u8], at: usize) -> bool
     requires { at ≤ length src.now }
 {
     let left = src.len() - at;
-    left >= GROUP_OF_TEXT || (left > BLOCK && are_bytes_below::<STRIDE>(src, at, ASCII_END))
+    left >= SHORT_TEXT || (left > BLOCK && are_bytes_below::<STRIDE>(src, at, ASCII_END))
 }
 
 /// Writes the UTF-16 of a text by blocks, and returns how many bytes it read and how many code units it wrote. Units that
 /// the rest of the text overwrites may have changed too. In the last 64 bytes ASCII ends no blocks, since they would soon
 /// be over.
 #[inline(never)]
-fn write_blocks(src: &[u8], dst: &mut [u16]) -> (usize, usize)
+pub fn write_blocks(src: &[u8], dst: &mut [u16]) -> (usize, usize)
     requires dst_length { (0 < length src.now) × (length src.now ≤ length dst.old) }
     requires text { IsUtf8 src.now }
     ensures progress { 0 < result.0 }
