@@ -54,20 +54,20 @@ pub const VALIDATED_PIECE: usize = 4096;
 
 /// In pairs of blocks of 64 bytes: how many are validated at first until the next test for ASCII. After ASCII it is one.
 ///
-/// `utf8_valid_up_to`, 1,000 bytes, when the loop took single blocks: with two of these, Chinese and Russian 0.95; with
-/// eight, JSON 0.95.
+/// `utf8_valid_up_to`, 600 to 2,000 bytes, in a build without the toolchain: with one, 0.99 to 1.02; with four, Chinese and
+/// Russian 1.01, JSON and logs 0.97.
 pub const FIRST_PAIRS: usize = 2;
 
 /// In pairs of blocks of 64 bytes: the most that are validated until the next test for ASCII. Each test that fails adds one.
 ///
-/// `utf8_valid_up_to`, 16 KiB, when the loop took single blocks: with two of these, Chinese, Russian and Western European
-/// text 0.90, JSON and logs 1.10; with four, 0.94 and 1.04.
+/// `utf8_valid_up_to`, 16 KiB, in a build without the toolchain: with two, Chinese, prose and Western European text 0.95,
+/// code 1.01; with eight, 0.98 to 1.02.
 pub const MOST_PAIRS: usize = 4;
 
 /// How many times 125 bytes of ASCII are skipped in a row before the ASCII prefix takes over.
 ///
-/// `utf8_valid_up_to`, 16 KiB, when the loop took single blocks: without an end, ASCII with a character in 10,000 bytes
-/// 0.86; with two, JSON and logs 0.85; with four, 0.95.
+/// `utf8_valid_up_to`, 16 KiB, in a build without the toolchain: with four, logs 0.86, JSON 0.94, ASCII with a character in
+/// 10,000 bytes 1.02; with sixteen, 1.00, 1.03, 0.97; without an end, 1.01, 1.04, 0.90.
 pub const MOST_SKIPPED: usize = 8;
 
 /// In blocks of sixteen bytes: how many go from UTF-8 to Latin1 after a test for ASCII until the next.
