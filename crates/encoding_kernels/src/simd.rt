@@ -1,4 +1,4 @@
-//! What several kernels need: scans, copies, and tables of kept lanes.
+//! What several kernels need: scans, copies, short texts, and tables of kept lanes.
 
 pub(crate) mod compress;
 pub mod copy;

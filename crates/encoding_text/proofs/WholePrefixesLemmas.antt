@@ -22,10 +22,6 @@ use Rattle.encoding_kernels.proofs.MaskLemmas.{HasTests, tests_of, tests_or}
 -- ASCII bytes are a text
 pub ruleset ascii_texts = (IsUtf8-from_ascii)
 
--- ASCII that is the whole list is its longest well-formed prefix
-pub whole_ascii : (xs : List ℕ) (n : ℕ) → n ≡ length xs → IsLongestPrefix IsAscii xs n → IsLongestPrefix IsUtf8 xs n
-whole_ascii xs n whole p = record { within = p.within; kind = IsUtf8-from_ascii _ p.kind; longest = λ m l _. omega (arith, whole, l) }
-
 -- a list that is ASCII is its longest prefix of any kind that ASCII is of
 module _ (xs : List ℕ) (ascii : IsAscii xs) where
   pub whole_text : IsLongestPrefix IsUtf8 xs (length xs)

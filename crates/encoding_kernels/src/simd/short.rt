@@ -1,5 +1,5 @@
-//! Texts of at most 64 units: a test for ASCII, and copies of ASCII. Two vectors that may overlap cover such a text, so no
-//! unit is left to a loop.
+//! Texts of at most 64 units: a test for ASCII, and copies of ASCII. Two vectors that may overlap cover 4 to 64 units, so
+//! none is left to a loop.
 
 ghost use Rattle.std.specs.Prelude.{◌≡◌, ◌+◌, ◌*◌, ◌<◌, ◌≤◌, ◌↔◌, ◌++◌, IsTrue, IsFalse, length, take, drop};
 ghost use Rattle.std.specs.Str.{IsAscii};

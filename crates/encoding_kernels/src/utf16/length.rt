@@ -2,7 +2,7 @@
 ghost use Rattle.std.specs.Prelude.{◌≡◌, ◌-◌, ℕ, ◌+◌, ◌<◌, ◌≤◌, List, length, slice_index};
 ghost use Rattle.encoding_definitions.specs.Utf16.{IsUtf8OfUnits};
 ghost use Rattle.encoding_kernels.specs.Scans.{BelowUpTo, HasLanes};
-ghost use Rattle.encoding_kernels.specs.Lengths.{sum_over_suffixes, extra_bytes, extra_bytes_by, extra_bytes_few, fewer};
+ghost use Rattle.encoding_kernels.specs.Lengths.{extra_bytes, extra_bytes_by, extra_bytes_few, fewer};
 
 use crate::simd::scan::{UnitsBelow, skip};
 use crate::simd::short::is_short_basic_latin;

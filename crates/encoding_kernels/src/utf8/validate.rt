@@ -157,7 +157,8 @@ fn finish(src: &[u8], from: usize) -> usize
 /// ASCII. Out of line, so that the address of the loop, and so its speed, doesn't depend on the caller.
 ///
 /// ASCII that begins three bytes before `at` needs no look-ups, since no character is cut there. Where it is rare, it is
-/// tested for less often, and in the last 256 bytes not at all: a test that fails would cost more than it saves there.
+/// tested for less often, and not at all with fewer than 256 bytes left: a test that fails would cost more than
+/// it saves there.
 #[tactic(auto, using(crate::proofs::Utf8ValidationLemmas::ValidUpTo_less))]
 #[inline(never)]
 fn following(src: &[u8], from: usize) -> usize

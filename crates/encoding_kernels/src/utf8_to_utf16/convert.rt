@@ -1,5 +1,5 @@
-//! UTF-16 of well-formed UTF-8, by groups of 64 bytes, and at the end of a text by blocks of sixteen. A code unit is
-//! computed for each byte as if it ended there, and those that do are moved together.
+//! UTF-16 of well-formed UTF-8, by groups of 64 bytes, and in short texts and at the end of longer ones by blocks of
+//! sixteen. A code unit is computed for each byte as if it ended there, and those that do are moved together.
 //!
 //! A block may store units after its own. Those of the bytes that follow overwrite them, since these have at least a
 //! third as many: a block is stored only if that many units are still to be written. After the UTF-16 of a whole text,

@@ -1,7 +1,7 @@
 //! ASCII prefixes as conversions and validation begin with them. The functions of `ascii` find and copy them by whole
 //! strides. Before these, two vectors test a short text, and after them the last vector overlaps the one before.
 
-ghost use Rattle.std.specs.Prelude.{◌*◌, ◌<◌, ◌≤◌, take, length};
+ghost use Rattle.std.specs.Prelude.{◌≡◌, ◌*◌, ◌<◌, ◌≤◌, IsTrue, IsFalse, take, length};
 ghost use Rattle.std.specs.Str.{IsAscii, IsUtf8};
 ghost use Rattle.encoding_definitions.specs.Prefixes.{IsLongestPrefix, WritesPrefix};
 ghost use Rattle.encoding_kernels.specs.EndingUnits.{WritesUtf16, units_in};
@@ -9,12 +9,14 @@ ghost use Rattle.encoding_kernels.specs.EndingUnits.{WritesUtf16, units_in};
 use super::{ascii_to_ascii, ascii_to_basic_latin, ascii_valid_up_to};
 use encoding_kernels::simd::copy::{copy_run, unpack, unpack_block, unpack_run};
 use encoding_kernels::simd::scan::{are_bytes_below, run_len_below};
-use encoding_kernels::simd::short::{copy_short_ascii, is_short_ascii, unpack_short_ascii};
-use encoding_kernels::simd::width::{ASCII_END, BLOCK, HALF_BLOCK, STRIDE};
+use encoding_kernels::simd::short::{
+    copy_short_ascii, is_short_ascii, pack_short_ascii, unpack_short_ascii,
+};
+use encoding_kernels::simd::width::{ASCII_END, BLOCK, HALF_BLOCK, STRIDE, UNIT_BLOCK};
 
 /// Returns the length of the longest ASCII prefix, as `ascii_valid_up_to` does. One mask finds its end in the first
-/// block, without a branch that depends on the text: between other characters most prefixes end there. The last block may
-/// overlap the one before it, so no byte is left to a loop.
+/// block, without a branch that depends on the text: between other characters most prefixes end there. From 64 bytes on
+/// the last block may overlap the one before it, so no byte is left to a loop.
 #[tactic(auto, using(encoding_kernels::proofs::ScanLemmas::prefix_before))]
 #[inline(always)]
 pub(crate) fn ascii_valid_up_to_by_block(bytes: &[u8]) -> usize
@@ -121,6 +123,16 @@ pub(crate) fn copy_ascii_prefix(src: &[u8], dst: &mut [u8]) -> usize
     ensures copied { WritesPrefix dst.old dst.new result (take result src.now) }
 {
     copy_fitting(&src[..src.len().min(dst.len())], dst)
+}
+
+/// Copies at most 64 code units, each as a byte, if they are ASCII and fit into `dst`. Returns whether it did.
+#[inline(always)]
+pub(crate) fn pack_short(src: &[u16], dst: &mut [u8]) -> bool
+    ensures ascii { IsTrue result → IsAscii src.now }
+    ensures copied { IsTrue result → WritesPrefix dst.old dst.new (length src.now) src.now }
+    ensures unchanged { IsFalse result → dst.new ≡ dst.old }
+{
+    src.len() <= UNIT_BLOCK && src.len() <= dst.len() && pack_short_ascii(src, dst)
 }
 
 /// Copies the longest ASCII prefix of at least sixteen bytes, each byte as a UTF-16 code unit, and returns its length. The

@@ -1,5 +1,5 @@
 //! UTF-16 to UTF-8, into a destination of any length. A conversion leaves the rest of `dst` unchanged.
-ghost use Rattle.std.specs.Prelude.{◌≡◌, ◌+◌, ◌<◌, ◌≤◌, ◌⊎◌, ◌-◌, ◌↔◌, length, take, drop, slice_index, IsTrue, IsFalse, ◌*◌};
+ghost use Rattle.std.specs.Prelude.{◌≡◌, ◌+◌, ◌<◌, ◌≤◌, ◌⊎◌, ◌-◌, ◌↔◌, length, take, slice_index, IsTrue, IsFalse, ◌*◌};
 ghost use Rattle.std.specs.Str.{IsAscii};
 ghost use Rattle.encoding_definitions.specs.Prefixes.{WritesPrefix};
 ghost use Rattle.encoding_definitions.specs.Utf16.{IsHighSurrogate, IsLowSurrogate, IsUtf8OfPrefix, IsUtf8OfLongestPrefix, IsUtf8OfUnits};
@@ -8,8 +8,7 @@ use crate::ascii;
 use encoding_kernels::scalar::{
     is_high_surrogate, is_low_surrogate, utf8_length, utf16_length, write_scalar,
 };
-use encoding_kernels::simd::short::pack_short_ascii;
-use encoding_kernels::simd::width::{BASIC_LATIN_END, HALF_STRIDE, UNIT_BLOCK};
+use encoding_kernels::simd::width::{BASIC_LATIN_END, HALF_STRIDE};
 use encoding_kernels::utf16_to_utf8::convert::{convert_blocks, convert_paired_blocks};
 pub(super) use encoding_kernels::utf16_to_utf8::mixed::REPLACEMENT_CHARACTER;
 use encoding_kernels::utf16_to_utf8::mixed::scalar_at;
@@ -42,9 +41,7 @@ fn copy_short_ascii(src: &[u16], dst: &mut [u8]) -> bool
         (take (length src.now) dst.new) }
     ensures unchanged { IsFalse result → dst.new ≡ dst.old }
 {
-    src.len() <= UNIT_BLOCK
-        && src.len() <= dst.len().saturating_sub(LONGEST - 1)
-        && pack_short_ascii(src, dst)
+    src.len() <= dst.len().saturating_sub(LONGEST - 1) && ascii::prefixes::pack_short(src, dst)
 }
 
 /// Returns whether a surrogate pair is at index `at`.

@@ -174,9 +174,8 @@ fn valid_up_to_by_vectors(src: &[u8]) -> usize
     valid_after(src, well_formed)
 }
 
-/// Returns the length of the longest well-formed prefix of 16 to 64 bytes. If no character follows the ASCII prefix, two
-/// vectors show it, and two more validate any other text.
-#[tactic(auto, using(crate::proofs::WholePrefixesLemmas::whole_ascii))]
+/// Returns the length of the longest well-formed prefix of 16 to 64 bytes. One test shows whether all are ASCII. If no
+/// character follows the ASCII prefix, two vectors and two bytes show it, and two more vectors validate any other text.
 #[inline(always)]
 fn short_valid_up_to(src: &[u8]) -> usize
     requires { (16 ≤ length src.now) × (length src.now ≤ 64) }
@@ -239,7 +238,8 @@ fn valid_up_to_by_block(src: &[u8]) -> usize
     valid_after_ascii(src, ascii)
 }
 
-/// Returns what `utf8_valid_up_to` does, inline.
+/// Returns what `utf8_valid_up_to` does, inline. For callers that go on after malformed sequences: a short text is tested for
+/// one before the look-ups.
 #[inline(always)]
 pub(crate) fn valid_up_to(src: &[u8]) -> usize
     ensures { IsLongestPrefix IsUtf8 src.now result }
@@ -253,6 +253,19 @@ pub(crate) fn valid_up_to(src: &[u8]) -> usize
     short_valid_up_to(src)
 }
 
+/// Returns what `short_valid_up_to` does, for a text that is likely to be well-formed: the look-ups come before a test for a
+/// malformed sequence.
+#[inline(always)]
+fn short_text_valid_up_to(src: &[u8]) -> usize
+    requires { (16 ≤ length src.now) × (length src.now ≤ 64) }
+    ensures { IsLongestPrefix IsUtf8 src.now result }
+{
+    if is_short_ascii(src) {
+        return src.len();
+    }
+    valid_up_to_by_vectors(src)
+}
+
 /// Returns the length in bytes of the longest prefix of `src` that is well-formed UTF-8: the index of the first byte
 /// that is in no character, or the length of `src`.
 ///
@@ -262,14 +275,8 @@ pub(crate) fn valid_up_to(src: &[u8]) -> usize
 pub fn utf8_valid_up_to(src: &[u8]) -> usize
     ensures { IsLongestPrefix IsUtf8 src.now result }
 {
-    if src.len() > BLOCK {
-        return valid_up_to_by_block(src);
+    if STRIDE <= src.len() && src.len() <= BLOCK {
+        return short_text_valid_up_to(src);
     }
-    if src.len() < STRIDE {
-        return tiny_valid_up_to(src);
-    }
-    if is_short_ascii(src) {
-        return src.len();
-    }
-    valid_up_to_by_vectors(src)
+    valid_up_to(src)
 }

@@ -11,7 +11,7 @@ pub returns-then-src-saturating_sub-clause-prefix : goal.returns-then-src-satura
 returns-then-src-saturating_sub-clause-prefix c is =
     let us = c.args.src.now in
     let units : AreCodeUnits us = λ k. omega (arith, c.type_inv.src k) in
-    let call = c.pack_short_ascii.ensures in
+    let call = c.pack_short.ensures in
     let all = sym (take_all (length us) us (omega arith)) in
     converts_prefix us units (converts_bmp us units
-    (ascii_plain (omega arith) (subst IsAscii all (call.ascii.0 is)) (subst (WritesPrefix c.args.dst.now _ (length us)) all (call.copied is))))
+    (ascii_plain (omega arith) (subst IsAscii all (call.ascii is)) (subst (WritesPrefix c.args.dst.now _ (length us)) all (call.copied is))))
