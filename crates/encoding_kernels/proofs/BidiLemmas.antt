@@ -297,5 +297,9 @@ units_low us from to low = record { each = λ k l m r. unit_low_none (slice_inde
 pub units_joined : (us : List ℕ) (a b from to : ℕ) → NoneRightToLeft us a b → NoneRightToLeft us from to → from ≤ b → NoneRightToLeft us a to
 units_joined us a b from to p q l = record { each = λ k h m r. elim (cases_lt k b) [ inl i ↦ p.each k h i r | inr i ↦ q.each k (omega arith) m r ] }
 
+-- low units after two ranges
+pub units_and_low : (us : List ℕ) (a b d e : ℕ) → NoneRightToLeft us a b → NoneRightToLeft us b d → BelowBetween 0x590 us d e → NoneRightToLeft us a e
+units_and_low us a b d e p q low = units_joined us a d d e (units_joined us a b b d p q (omega arith)) (units_low us d e low) (omega arith)
+
 pub unit_none : (us : List ℕ) (at : ℕ) → (IsRightToLeftUnit (slice_index us at) → ⊥) → NoneRightToLeft us at (at + 1)
 unit_none us at none = record { each = λ k from to r. let e : k ≡ at = omega arith in none (subst (λ j. IsRightToLeftUnit (slice_index us j)) e r) }

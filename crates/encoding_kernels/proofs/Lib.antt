@@ -1,4 +1,5 @@
 pub mod BidiLemmas
+pub mod BidiLookupLemmas
 pub mod CodeUnitLemmas
 pub mod CompressLemmas
 pub mod CompressTableLemmas

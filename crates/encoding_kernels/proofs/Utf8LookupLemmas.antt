@@ -120,7 +120,7 @@ IsLanes n v = (length v ≡ n) × Each1 (Fits w8) v
 abbrev pub IsWidth : ℕ → Type 0
 IsWidth n = (n ≡ 16) ⊎ (n ≡ 32)
 
-byte : (n : ℕ) (v : List ℕ) → IsLanes n v → (i : ℕ) → i < n → get_or v i 0 < 256
+pub byte : (n : ℕ) (v : List ℕ) → IsLanes n v → (i : ℕ) → i < n → get_or v i 0 < 256
 byte n v is i l = (Each1-get_or (Fits w8) v i 0 (omega (arith, is.0)) is.1).fits
 
 -- ---- lookups
@@ -134,7 +134,7 @@ module _ (n : ℕ) (w : IsWidth n) {js : List ℕ} {f : ℕ → ℕ} (places : H
       ]
 
   -- in a table whose second half equals the first
-  looked_up : (t : List ℕ) → t ≡ take 16 t ++ take 16 t → length t ≡ 32 → HasLanes n (swz_l w8 16 (chunk 0 n t) 0 js) (λ k. get_or t (f k) 0)
+  pub looked_up : (t : List ℕ) → t ≡ take 16 t ++ take 16 t → length t ≡ 32 → HasLanes n (swz_l w8 16 (chunk 0 n t) 0 js) (λ k. get_or t (f k) 0)
   looked_up t doubled whole = record {
     long = length-swz_l w8 16 (chunk 0 n t) 0 js ∙ places.long;
     each = λ i l.
@@ -157,20 +157,20 @@ module _ (n : ℕ) (w : IsWidth n) {js : List ℕ} {f : ℕ → ℕ} (places : H
   }
 
 -- the nibbles of a byte
-abbrev shifted_down : ℕ → ℕ → ℕ
+abbrev pub shifted_down : ℕ → ℕ → ℕ
 shifted_down a b = a / 2 ^ b
 
 module _ (n : ℕ) (w : IsWidth n) (v : List ℕ) (is : IsLanes n v) where
-  high_halves : HasLanes n (zip2 shifted_down v (replicate n 4)) (λ k. shifted_down (get_or v k 0) 4)
+  pub high_halves : HasLanes n (zip2 shifted_down v (replicate n 4)) (λ k. shifted_down (get_or v k 0) 4)
   high_halves = HasLanes-zip2 shifted_down (HasLanes-itself n v is.0) (HasLanes-splat n 4)
 
-  low_halves : HasLanes n (zip2 bit_and v (replicate n 15)) (λ k. bit_and (get_or v k 0) 15)
+  pub low_halves : HasLanes n (zip2 bit_and v (replicate n 15)) (λ k. bit_and (get_or v k 0) 15)
   low_halves = HasLanes-zip2 bit_and (HasLanes-itself n v is.0) (HasLanes-splat n 15)
 
-  high_small : (k : ℕ) → k < n → shifted_down (get_or v k 0) 4 < 16
+  pub high_small : (k : ℕ) → k < n → shifted_down (get_or v k 0) 4 < 16
   high_small k l = omega (arith, byte n v is k l)
 
-  low_small : (k : ℕ) → k < n → bit_and (get_or v k 0) 15 < 16
+  pub low_small : (k : ℕ) → k < n → bit_and (get_or v k 0) 15 < 16
   low_small k l = omega (arith, and_le_r (get_or v k 0) 15)
 
   pub high_places : SwzOk w8 16 n 0 (zip2 shifted_down v (replicate n 4))

@@ -5,8 +5,12 @@ ghost use Rattle.encoding_kernels.specs.Scans.{HasLanes};
 
 use crate::simd::scan::{LanePredicate, UnitsBelow, all, reach, skip};
 use crate::simd::width::{BLOCK, HALF_UNIT_BLOCK, STRIDE, UNIT_STRIDE};
+use crate::tuning::{LOW_RUN, MOST_UNIT_BLOCKS};
+use lookups::are_32_clear;
 use std::simd::Simd;
 use std::simd::prelude::*;
+
+mod lookups;
 
 /// The first right-to-left code unit.
 pub const FIRST_UNIT: u16 = 0x0590;
@@ -152,23 +156,50 @@ impl<'a, const N: usize> LanePredicate<N> for ClearUnits<'a> {
     }
 }
 
-/// Skips blocks of code units from `from` on that aren't right-to-left, and returns the index that it reaches.
+/// Skips blocks of code units from `from` on, no farther than `end`, that aren't right-to-left, and returns the index that
+/// it reaches.
+#[inline(always)]
+fn skip_clear_blocks(units: &[u16], from: usize, end: usize) -> usize
+    requires { (from ≤ end) × (end ≤ length units.now) }
+    ensures within { (from ≤ result) × (result ≤ end) }
+    ensures no_rtl { NoneRightToLeft units.now from result }
+{
+    let mut at = from;
+    while end - at >= HALF_UNIT_BLOCK && are_32_clear(units, at) {
+        at += HALF_UNIT_BLOCK;
+    }
+    at
+}
+
+/// Skips blocks of code units from `from` on that aren't right-to-left, and returns the index that it reaches. Out of
+/// line, since most short texts have only low units.
+///
+/// Where low units are rare, they are tested for less often.
+#[inline(never)]
 pub fn skip_clear_units(units: &[u16], from: usize) -> usize
     requires { from ≤ length units.now }
     ensures within { (from ≤ result) × (result ≤ length units.now) }
     ensures no_rtl { NoneRightToLeft units.now from result }
 {
-    let test = ClearUnits { units };
     let low = UnitsBelow {
         units,
         bound: FIRST_UNIT,
     };
     let mut at = from;
-    while units.len() - at >= HALF_UNIT_BLOCK
-        && all::<HALF_UNIT_BLOCK, HALF_UNIT_BLOCK, _>(&test, at)
-    {
-        at += HALF_UNIT_BLOCK;
-        at = skip::<HALF_UNIT_BLOCK, HALF_UNIT_BLOCK, _>(&low, at, units.len());
+    let mut blocks = 1;
+    while units.len() - at >= HALF_UNIT_BLOCK {
+        let end = at + HALF_UNIT_BLOCK * blocks.min((units.len() - at) / HALF_UNIT_BLOCK);
+        at = skip_clear_blocks(units, at, end);
+        if at < end {
+            break;
+        }
+        let next = skip::<HALF_UNIT_BLOCK, HALF_UNIT_BLOCK, _>(&low, at, units.len());
+        blocks = if next - at < LOW_RUN {
+            (blocks + 1).min(MOST_UNIT_BLOCKS)
+        } else {
+            1
+        };
+        at = next;
     }
-    reach::<UNIT_STRIDE, UNIT_STRIDE, _>(&test, at, units.len())
+    reach::<UNIT_STRIDE, UNIT_STRIDE, _>(&ClearUnits { units }, at, units.len())
 }

@@ -71,6 +71,19 @@ pub const MOST_PAIRS: usize = 4;
 /// 10,000 bytes 1.02; with sixteen, 1.00, 1.03, 0.97; without an end, 1.01, 1.04, 0.90.
 pub const MOST_SKIPPED: usize = 8;
 
+/// In blocks of 32 code units: the most that are tested for right-to-left units until the next test for lower ones. At first
+/// it is one. Each test for lower ones that finds fewer than `LOW_RUN` adds one.
+///
+/// `is_utf16_bidi`, 16,384 code units, in a build without the toolchain: with four, prose 0.90, Chinese and chat 0.93; with
+/// sixteen, 1.02 to 1.05, and of 1,000 code units 0.98 to 1.00.
+pub const MOST_UNIT_BLOCKS: usize = 8;
+
+/// In code units: after at least this many lower ones, each block is followed by a test for them again.
+///
+/// `is_utf16_bidi`, 16,384 code units, in a build without the toolchain: with 32, prose 0.78 and chat 0.80; with 256, 1.00 to
+/// 1.05, and of 1,000 code units 0.99 to 1.02.
+pub const LOW_RUN: usize = 128;
+
 /// In blocks of sixteen bytes: how many go from UTF-8 to Latin1 after a test for ASCII until the next.
 ///
 /// UTF-8 to Latin1, 4 KiB, each block stored by itself: with one, code 0.92 and logs 1.02; with four, logs 0.93 and code

@@ -110,6 +110,9 @@ pub(crate) fn reach<const N: usize, const W: usize, T: LanePredicate<N>>(
     ensures whole { W ≤ end → PassBetween (T.passes test.now) 0 end → result ≡ end }
 {
     let at = skip::<N, W, T>(test, from, end);
+    if at == end {
+        return end;
+    }
     if end - at < W && W <= end && all::<N, W, T>(test, end - W) {
         return end;
     }
@@ -270,18 +273,19 @@ fn short_prefix_len_below(bytes: &[u8], bound: u8) -> usize
     at
 }
 
-/// Returns the length of the longest prefix of UTF-16 code units below the bound.
+/// Skips UTF-16 code units from the start that are below the bound, by vectors, and returns how many: all if all are. A unit
+/// that isn't may follow others that are, which are not skipped.
 #[inline(always)]
-pub fn units_prefix_len_below(units: &[u16], bound: u16) -> usize
+pub fn skip_units_below(units: &[u16], bound: u16) -> usize
     ensures within { result ≤ length units.now }
     ensures below { BelowUpTo bound units.now result }
-    ensures stops { result < length units.now → bound ≤ slice_index units.now result }
+    ensures whole { BelowUpTo bound units.now (length units.now) → result ≡ length units.now }
 {
     let test = UnitsBelow { units, bound };
     match units.len() {
         ..UNIT_STRIDE => skip::<1, 1, _>(&test, 0, units.len()),
-        ..HALF_UNIT_BLOCK => find::<UNIT_STRIDE, _>(&test, 0, units.len()),
-        _ => find::<HALF_UNIT_BLOCK, _>(&test, 0, units.len()),
+        ..HALF_UNIT_BLOCK => reach::<UNIT_STRIDE, UNIT_STRIDE, _>(&test, 0, units.len()),
+        _ => reach::<HALF_UNIT_BLOCK, HALF_UNIT_BLOCK, _>(&test, 0, units.len()),
     }
 }
 

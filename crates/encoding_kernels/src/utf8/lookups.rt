@@ -7,6 +7,7 @@ ghost use Rattle.std.specs.Prelude.{◌≡◌, ℕ, ◌+◌, ◌<◌, ◌≤◌,
 ghost use Rattle.encoding_kernels.specs.Following.{IsValidAfter, IsValidAt};
 
 use crate::simd::copy::{one_before, three_before, two_before};
+use crate::simd::lookup::twice;
 use std::simd::prelude::*;
 
 /// A first byte of several is followed by a byte that isn't a continuation byte.
@@ -38,13 +39,6 @@ const ANY_LOW: u8 = TOO_SHORT | TOO_LONG | TWO_CONTINUATIONS;
 
 /// The errors that the low nibble of a byte above F4 leaves possible.
 const ABOVE_F4: u8 = ANY_LOW | TOO_LARGE | OVERLONG_4;
-
-/// A table of sixteen bytes that is stored twice, once for each sixteen lanes.
-macro_rules! twice {
-    ($($entry:expr),* $(,)?) => {
-        [$($entry),*, $($entry),*]
-    };
-}
 
 /// The errors that the high nibble of the previous byte leaves possible.
 const BYTE_1_HIGH: [u8; 32] = twice![

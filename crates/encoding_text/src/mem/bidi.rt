@@ -15,7 +15,7 @@ use crate::ascii::prefixes::ascii_valid_up_to_by_test;
 use crate::utf_8::{character_length, utf8_valid_up_to};
 use encoding_kernels::bidi::{FIRST_LEAD, FIRST_UNIT, skip_clear, skip_clear_units};
 use encoding_kernels::scalar::decode_utf8_scalar;
-use encoding_kernels::simd::scan::{prefix_len_below, units_prefix_len_below};
+use encoding_kernels::simd::scan::{prefix_len_below, skip_units_below};
 use encoding_kernels::simd::width::{STRIDE, UNIT_STRIDE};
 use encoding_kernels::tuning::VALIDATED_PIECE;
 
@@ -195,7 +195,7 @@ pub fn is_utf8_bidi(buffer: &[u8]) -> bool
 pub fn is_utf16_bidi(buffer: &[u16]) -> bool
     ensures { IsTrue result ↔ IsBidiUnits buffer.now }
 {
-    let mut at = units_prefix_len_below(buffer, FIRST_UNIT);
+    let mut at = skip_units_below(buffer, FIRST_UNIT);
     while at < buffer.len() {
         let from = skip_clear_units(buffer, at);
         at = from + UNIT_STRIDE.min(buffer.len() - from);
@@ -208,11 +208,13 @@ pub fn is_utf16_bidi(buffer: &[u16]) -> bool
     false
 }
 
-/// Returns the length of the longest prefix that is Latin1.
-fn utf16_latin1_up_to(buffer: &[u16]) -> usize
-    ensures { IsLongestPrefix IsLatin1 buffer.now result }
+/// Skips Latin1 from the start, by vectors, and returns how many code units: all if all are Latin1.
+fn skip_latin1(buffer: &[u16]) -> usize
+    ensures within { result ≤ length buffer.now }
+    ensures latin1 { IsLatin1 (take result buffer.now) }
+    ensures whole { IsLatin1 buffer.now → result ≡ length buffer.now }
 {
-    units_prefix_len_below(buffer, LATIN1_END)
+    skip_units_below(buffer, LATIN1_END)
 }
 
 /// Returns `Latin1` if the bytes are the UTF-8 of scalar values up to U+00FF, otherwise `Bidi` if `is_utf8_bidi` holds,
@@ -252,7 +254,7 @@ pub fn check_str_for_latin1_and_bidi(buffer: &str) -> Latin1Bidi
 pub fn check_utf16_for_latin1_and_bidi(buffer: &[u16]) -> Latin1Bidi
     ensures { Classifies (IsLatin1 buffer.now) (IsBidiUnits buffer.now) result }
 {
-    let prefix = utf16_latin1_up_to(buffer);
+    let prefix = skip_latin1(buffer);
     if prefix == buffer.len() {
         return Latin1Bidi::Latin1;
     }

@@ -1,21 +1,33 @@
-use Rattle.std.proofs.Common.{◌+◌, arith, refl}
-use Rattle.encoding_kernels.proofs.BidiLemmas.{units_joined, units_clear, units_low}
+use Rattle.std.proofs.Common.{arith}
+use Rattle.encoding_kernels.specs.RightToLeft.{NoneRightToLeft}
+use Rattle.encoding_kernels.proofs.BidiLemmas.{units_and_low, units_joined, units_clear}
 use Rattle.encoding_kernels.proofs.bidi.skip_clear_units.Goals as goal
+use Rattle.encoding_kernels.proofs.bidi.skip_clear_units.Goals.{else-loop-at-test, then-loop-at-test+then-at-end}
+
+pub loop-at-preserved-then-next-at-lt-LOW_RUN : goal.loop-at-preserved-then-next-at-lt-LOW_RUN
+loop-at-preserved-then-next-at-lt-LOW_RUN c = record {
+  within = (omega (arith, c.skip_clear_blocks-at.ensures.within, c.skip-next.ensures.within), omega (arith, c.skip-next.ensures.within));
+  none = units_and_low _ _ _ _ _ c.loop-at.invariant.none c.skip_clear_blocks-at.ensures.no_rtl c.skip-next.ensures.pass;
+  some = omega (arith, c.min-blocks.ensures);
+  few = omega (arith, c.min-blocks.ensures);
+}
 
 pub loop-at-preserved : goal.loop-at-preserved
-loop-at-preserved c =
-    let us = c.args.units.now in
-    let at = c.loop-at.at in
-    let block =
-    units_joined us c.args.from at at (at + 32) c.loop-at.invariant.none
-    (units_clear us at (at + 32) (λ k. (c.type_inv.units k).fits) (c.if-all.ensures.0 refl)) (omega arith) in
-    record {
-      within = (omega (arith, c.skip-at.ensures.within), omega (arith, c.skip-at.ensures.within));
-      none = units_joined us c.args.from (at + 32) (at + 32) _ block (units_low us (at + 32) _ c.skip-at.ensures.pass) (omega arith);
-    }
+loop-at-preserved c = record {
+  within = (omega (arith, c.skip_clear_blocks-at.ensures.within, c.skip-next.ensures.within), omega (arith, c.skip-next.ensures.within));
+  none = units_and_low _ _ _ _ _ c.loop-at.invariant.none c.skip_clear_blocks-at.ensures.no_rtl c.skip-next.ensures.pass;
+  some = omega arith;
+  few = omega arith;
+}
 
 pub returns-clause-no_rtl : goal.returns-clause-no_rtl
 returns-clause-no_rtl c =
     let us = c.args.units.now in
     let at = c.loop-at.at in
-    units_joined us c.args.from at at _ c.loop-at.invariant.none (units_clear us at _ (λ k. (c.type_inv.units k).fits) c.reach.ensures.pass) (omega arith)
+    let stop = c.loop-at-test.at in
+    let before : NoneRightToLeft us c.args.from stop = elim c.loop-at-test.branch [
+      | else-loop-at-test w ↦ rw w.at-is c.loop-at.invariant.none
+      | then-loop-at-test+then-at-end w ↦
+          rw w.at-is (units_joined us c.args.from at at _ c.loop-at.invariant.none w.skip_clear_blocks-at.ensures.no_rtl (omega arith))
+    ] in
+    units_joined us c.args.from stop stop _ before (units_clear us stop _ (λ k. (c.type_inv.units k).fits) c.reach.ensures.pass) (omega arith)

@@ -1,0 +1,132 @@
+-- The look-ups of right-to-left code units, lane by lane: a lane that is zero holds none.
+use Rattle.std.proofs.Common.{◌≡◌, ℕ, ◌+◌, ◌-◌, ◌*◌, ◌/◌, ◌%◌, ◌^◌, ◌<◌, ◌≤◌, inl, inr, true, ◌==◌, false, eq-eqb, sym, map, List, length, replicate, get_or, bit_and, refl, arith, w8, Fits, ◌∙◌, ap, subst}
+use Rattle.std.proofs.lemmas.Bool.{cases_lt, true≢false}
+use Rattle.std.specs.List.{range_with_len}
+use Rattle.std.proofs.lemmas.Simd.{swz_l, Each1-from_get_or}
+use Rattle.std.proofs.lemmas.Nat.{and_mask}
+use lib.Lanes.{zip2, chunk, Each1}
+use Rattle.encoding_kernels.specs.declared.bidi.lookups.TheConstants.{FIRST, SECOND, THIRD, FOURTH}
+use Rattle.encoding_definitions.specs.Bidi.{IsRightToLeft, IsRightToLeftUnit}
+use Rattle.encoding_definitions.proofs.BidiUnitsLemmas.{UnitForm, unit_form}
+use Rattle.encoding_kernels.proofs.VectorLemmas.{same_below, HasLanes-zip2, HasLanes_load, HasLanes-splat, HasLanes_same}
+use Rattle.encoding_kernels.proofs.Utf8LookupLemmas.{IsLanes, IsWidth, shifted_down, byte, looked_up, high_halves, high_small, low_halves, low_small}
+use Rattle.encoding_kernels.specs.Scans.{HasLanes}
+use Rattle.encoding_kernels.specs.Following.{IsZeroTo}
+use Rattle.encoding_kernels.specs.RightToLeft.{NoneRightToLeft}
+
+-- the groups that the four nibbles of a code unit leave, by its upper byte a and its lower byte b
+abbrev pub groups : ℕ → ℕ → ℕ
+groups a b = bit_and (bit_and (get_or FIRST (a / 16) 0) (get_or SECOND (bit_and a 15) 0)) (bit_and (get_or THIRD (b / 16) 0) (get_or FOURTH (bit_and b 15) 0))
+
+-- a group is left for each of some lower bytes, checked one by one
+row : (a from count : ℕ) → map (λ i. groups a (from + i) == 0) (range_with_len 0 count) ≡ map (λ _. false) (range_with_len 0 count)
+    → (u : ℕ) → u / 256 ≡ a → from ≤ u % 256 → u % 256 < from + count → groups (u / 256) (u % 256) ≡ 0 → ⊥
+row a from count checked u upper l h e =
+    let i = u % 256 - from in
+    let lower : u % 256 ≡ from + i = omega arith in
+    let none : groups a (from + i) ≡ 0 = subst (λ b. groups a b ≡ 0) lower (subst (λ x. groups x (u % 256) ≡ 0) upper e) in
+    true≢false (sym (eq-eqb _ _ none) ∙ same_below (λ k. groups a (from + k) == 0) (λ _. false) true count checked i (omega arith))
+
+in_scripts : (u : ℕ) → 0x590 ≤ u → u ≤ 0x8FF → groups (u / 256) (u % 256) ≡ 0 → ⊥
+in_scripts u l h e = elim (cases_lt u 0x600) [
+  | inl p ↦ row 5 0x90 0x70 refl u (omega arith) (omega arith) (omega arith) e
+  | inr p ↦ elim (cases_lt u 0x700) [
+    | inl q ↦ row 6 0 0x100 refl u (omega arith) (omega arith) (omega arith) e
+    | inr q ↦ elim (cases_lt u 0x800) [
+      | inl r ↦ row 7 0 0x100 refl u (omega arith) (omega arith) (omega arith) e
+      | inr r ↦ row 8 0 0x100 refl u (omega arith) (omega arith) (omega arith) e
+    ]
+  ]
+]
+
+in_forms : (u : ℕ) → 0xFB1D ≤ u → u ≤ 0xFDFF → groups (u / 256) (u % 256) ≡ 0 → ⊥
+in_forms u l h e = elim (cases_lt u 0xFC00) [
+  | inl p ↦ row 0xFB 0 0x100 refl u (omega arith) (omega arith) (omega arith) e
+  | inr p ↦ elim (cases_lt u 0xFD00) [
+    | inl q ↦ row 0xFC 0 0x100 refl u (omega arith) (omega arith) (omega arith) e
+    | inr q ↦ row 0xFD 0 0x100 refl u (omega arith) (omega arith) (omega arith) e
+  ]
+]
+
+right_to_left_found : (u : ℕ) → u < 2 ^ 16 → IsRightToLeft u → groups (u / 256) (u % 256) ≡ 0 → ⊥
+right_to_left_found u l (inl r) e = in_scripts u r.0 r.1 e
+right_to_left_found u l (inr (inl r)) e = row 0x20 0x0F 1 refl u (omega arith) (omega arith) (omega arith) e
+right_to_left_found u l (inr (inr (inl r))) e = row 0x20 0x2B 1 refl u (omega arith) (omega arith) (omega arith) e
+right_to_left_found u l (inr (inr (inr (inl r)))) e = row 0x20 0x2E 1 refl u (omega arith) (omega arith) (omega arith) e
+right_to_left_found u l (inr (inr (inr (inr (inl r))))) e = row 0x20 0x67 1 refl u (omega arith) (omega arith) (omega arith) e
+right_to_left_found u l (inr (inr (inr (inr (inr (inl r)))))) e = in_forms u r.0 r.1 e
+right_to_left_found u l (inr (inr (inr (inr (inr (inr (inl r))))))) e = row 0xFE 0x70 0x8F refl u (omega arith) (omega arith) (omega arith) e
+right_to_left_found u l (inr (inr (inr (inr (inr (inr (inr (inl r)))))))) e = omega arith
+right_to_left_found u l (inr (inr (inr (inr (inr (inr (inr (inr r)))))))) e = omega arith
+
+unit_found : (u : ℕ) → u < 2 ^ 16 → UnitForm u → groups (u / 256) (u % 256) ≡ 0 → ⊥
+unit_found u l (inl r) e = right_to_left_found u l r e
+unit_found u l (inr (inl r)) e = row 0xD8 2 2 refl u (omega arith) (omega arith) (omega arith) e
+unit_found u l (inr (inr r)) e = row 0xD8 0x3A 2 refl u (omega arith) (omega arith) (omega arith) e
+
+-- ---- lanes
+abbrev pub lanes : List ℕ → List ℕ → List ℕ
+lanes a b = zip2 bit_and
+    (zip2 bit_and (swz_l w8 16 (chunk 0 32 FIRST) 0 (zip2 shifted_down a (replicate 32 4)))
+        (swz_l w8 16 (chunk 0 32 SECOND) 0 (zip2 bit_and a (replicate 32 15))))
+    (zip2 bit_and (swz_l w8 16 (chunk 0 32 THIRD) 0 (zip2 shifted_down b (replicate 32 4)))
+        (swz_l w8 16 (chunk 0 32 FOURTH) 0 (zip2 bit_and b (replicate 32 15))))
+
+wide : IsWidth 32
+wide = inr refl
+
+module _ (a b : List ℕ) (A : IsLanes 32 a) (B : IsLanes 32 b) where
+  lanes_are : HasLanes 32 (lanes a b) (λ k. groups (get_or a k 0) (get_or b k 0))
+  lanes_are =
+      let first = looked_up 32 wide (high_halves 32 wide a A) (high_small 32 wide a A) FIRST refl refl in
+      let second = looked_up 32 wide (low_halves 32 wide a A) (low_small 32 wide a A) SECOND refl refl in
+      let third = looked_up 32 wide (high_halves 32 wide b B) (high_small 32 wide b B) THIRD refl refl in
+      let fourth = looked_up 32 wide (low_halves 32 wide b B) (low_small 32 wide b B) FOURTH refl refl in
+      HasLanes-zip2 bit_and (HasLanes-zip2 bit_and first second) (HasLanes-zip2 bit_and third fourth)
+
+  pub lanes_clear : (i : ℕ) → i < 32 → get_or (lanes a b) i 0 ≡ 0 → IsRightToLeftUnit (get_or b i 0 + 0x100 * get_or a i 0) → ⊥
+  lanes_clear i l e r =
+      let small : get_or b i 0 < 256 = byte 32 b B i l in
+      let large : get_or a i 0 < 256 = byte 32 a A i l in
+      let u = get_or b i 0 + 0x100 * get_or a i 0 in
+      let upper : get_or a i 0 ≡ u / 256 = omega arith in
+      let lower : get_or b i 0 ≡ u % 256 = omega arith in
+      let zero : groups (get_or a i 0) (get_or b i 0) ≡ 0 = sym (lanes_are.each i l) ∙ e in
+      unit_found u (omega arith) (unit_form u r) (subst (λ x. groups x (u % 256) ≡ 0) upper (subst (λ y. groups (get_or a i 0) y ≡ 0) lower zero))
+
+  pub lanes_long : length (lanes a b) ≡ 32
+  lanes_long = lanes_are.long
+
+-- ---- the upper and the lower byte of each code unit
+module _ (at : ℕ) (us : List ℕ) (within : at + 32 ≤ length us) (units : (k : ℕ) → get_or us k 0 < 2 ^ 16) where
+  abbrev pub uppers : List ℕ
+  uppers = zip2 (λ a b. a / 2 ^ b) (chunk at 32 us) (replicate 32 8)
+
+  abbrev pub lowers : List ℕ
+  lowers = zip2 bit_and (chunk at 32 us) (replicate 32 0xFF)
+
+  pub uppers_are : HasLanes 32 uppers (λ k. get_or us (at + k) 0 / 0x100)
+  uppers_are = HasLanes-zip2 (λ a b. a / 2 ^ b) (HasLanes_load at 32 us within) (HasLanes-splat 32 8)
+
+  pub lowers_are : HasLanes 32 lowers (λ k. get_or us (at + k) 0 % 0x100)
+  lowers_are = HasLanes_same (HasLanes-zip2 bit_and (HasLanes_load at 32 us within) (HasLanes-splat 32 0xFF)) (λ k l. and_mask (get_or us (at + k) 0) 8)
+
+  pub uppers_fit : Each1 (Fits w8) uppers
+  uppers_fit = Each1-from_get_or (Fits w8) uppers 0 (λ k l. record { fits = omega (arith, uppers_are.each k (omega (arith, uppers_are.long)), units (at + k)) })
+
+  pub lowers_fit : Each1 (Fits w8) lowers
+  lowers_fit = Each1-from_get_or (Fits w8) lowers 0 (λ k l. record { fits = omega (arith, lowers_are.each k (omega (arith, lowers_are.long))) })
+
+-- ---- 32 code units
+pub none_in_32 : (us : List ℕ) (at : ℕ) (a b groups : List ℕ) → HasLanes 32 a (λ k. get_or us (at + k) 0 / 0x100)
+    → HasLanes 32 b (λ k. get_or us (at + k) 0 % 0x100)
+    → ((i : ℕ) → i < 32 → get_or groups i 0 ≡ 0 → IsRightToLeftUnit (get_or b i 0 + 0x100 * get_or a i 0) → ⊥)
+    → IsZeroTo groups 32 → NoneRightToLeft us at (at + 32)
+none_in_32 us at a b groups upper lower clear zeros = record {
+  each = λ k l h r.
+      let i = k - at in
+      let back : at + i ≡ k = omega arith in
+      let unit : get_or us k 0 ≡ get_or b i 0 + 0x100 * get_or a i 0 =
+      omega (arith, upper.each i (omega arith), lower.each i (omega arith), ap (λ j. get_or us j 0) back) in
+      clear i (omega arith) (zeros.each i (omega arith)) (subst IsRightToLeftUnit unit r);
+}

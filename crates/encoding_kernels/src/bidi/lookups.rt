@@ -1,0 +1,161 @@
+//! Look-ups that find right-to-left UTF-16 code units. Four tables, by the four nibbles of a code unit, each leave some
+//! groups possible. A group has a bit, and holds the unit if all four leave it.
+
+ghost use Rattle.std.specs.Prelude.{◌≡◌, ℕ, ◌+◌, ◌*◌, ◌/◌, ◌%◌, ◌<◌, ◌≤◌, length, slice_index, IsTrue};
+ghost use Rattle.encoding_definitions.specs.Bidi.{IsRightToLeftUnit};
+ghost use Rattle.encoding_kernels.specs.RightToLeft.{NoneRightToLeft};
+ghost use Rattle.encoding_kernels.specs.Scans.{HasLanes};
+
+use crate::simd::lookup::twice;
+use crate::simd::scan::is_zero;
+use std::simd::prelude::*;
+
+/// 0590 to 05FF.
+const HEBREW: u8 = 1;
+
+/// 0600 to 08FF.
+const ARABIC: u8 = 1 << 1;
+
+/// 2007, 200F, 2067 and 206F. Of these, 200F and 2067 are right-to-left marks.
+const MARKS: u8 = 1 << 2;
+
+/// 202B and 202E.
+const EMBEDDINGS: u8 = 1 << 3;
+
+/// D802 and D803, the high surrogates of U+10800 to U+10FFF.
+const HIGH_10800: u8 = 1 << 4;
+
+/// D83A and D83B, the high surrogates of U+1E800 to U+1EFFF.
+const HIGH_1E800: u8 = 1 << 5;
+
+/// FB00 to FDFF.
+const FORMS_A: u8 = 1 << 6;
+
+/// FE70 to FEFF.
+const FORMS_B: u8 = 1 << 7;
+
+/// The groups of which each third nibble is possible.
+const ANY_THIRD: u8 = ARABIC | FORMS_A;
+
+/// The groups of which each fourth nibble is possible.
+const ANY_FOURTH: u8 = HEBREW | ARABIC | FORMS_A | FORMS_B;
+
+/// The groups that the first nibble leaves possible.
+const FIRST: [u8; 32] = twice![
+    HEBREW | ARABIC,
+    0,
+    MARKS | EMBEDDINGS,
+    0,
+    0,
+    0,
+    0,
+    0,
+    0,
+    0,
+    0,
+    0,
+    0,
+    HIGH_10800 | HIGH_1E800,
+    0,
+    FORMS_A | FORMS_B,
+];
+
+/// The groups that the second nibble leaves possible.
+const SECOND: [u8; 32] = twice![
+    MARKS | EMBEDDINGS,
+    0,
+    0,
+    0,
+    0,
+    HEBREW,
+    ARABIC,
+    ARABIC,
+    ARABIC | HIGH_10800 | HIGH_1E800,
+    0,
+    0,
+    FORMS_A,
+    FORMS_A,
+    FORMS_A,
+    FORMS_B,
+    0,
+];
+
+/// The groups that the third nibble leaves possible.
+const THIRD: [u8; 32] = twice![
+    ANY_THIRD | MARKS | HIGH_10800,
+    ANY_THIRD,
+    ANY_THIRD | EMBEDDINGS,
+    ANY_THIRD | HIGH_1E800,
+    ANY_THIRD,
+    ANY_THIRD,
+    ANY_THIRD | MARKS,
+    ANY_THIRD | FORMS_B,
+    ANY_THIRD | FORMS_B,
+    ANY_THIRD | HEBREW | FORMS_B,
+    ANY_THIRD | HEBREW | FORMS_B,
+    ANY_THIRD | HEBREW | FORMS_B,
+    ANY_THIRD | HEBREW | FORMS_B,
+    ANY_THIRD | HEBREW | FORMS_B,
+    ANY_THIRD | HEBREW | FORMS_B,
+    ANY_THIRD | HEBREW | FORMS_B,
+];
+
+/// The groups that the fourth nibble leaves possible.
+const FOURTH: [u8; 32] = twice![
+    ANY_FOURTH,
+    ANY_FOURTH,
+    ANY_FOURTH | HIGH_10800,
+    ANY_FOURTH | HIGH_10800,
+    ANY_FOURTH,
+    ANY_FOURTH,
+    ANY_FOURTH,
+    ANY_FOURTH | MARKS,
+    ANY_FOURTH,
+    ANY_FOURTH,
+    ANY_FOURTH | HIGH_1E800,
+    ANY_FOURTH | EMBEDDINGS | HIGH_1E800,
+    ANY_FOURTH,
+    ANY_FOURTH,
+    ANY_FOURTH | EMBEDDINGS,
+    ANY_FOURTH | MARKS,
+];
+
+/// Returns the groups of 32 code units by their upper and lower bytes. A lane is zero only if the code unit isn't
+/// right-to-left.
+#[inline(always)]
+fn groups_of_32(upper: u8x32, lower: u8x32) -> u8x32
+    ensures length { length result ≡ 32 }
+    ensures lanes { (i : ℕ) → i < 32 → slice_index result i ≡ 0
+        → IsRightToLeftUnit (slice_index lower i + 0x100 * slice_index upper i) → ⊥ }
+{
+    let (four, nibble) = (u8x32::splat(4), u8x32::splat(15));
+    let by_upper = u8x32::from_slice(&FIRST).swizzle_dyn_within::<16>(upper >> four)
+        & u8x32::from_slice(&SECOND).swizzle_dyn_within::<16>(upper & nibble);
+    let by_lower = u8x32::from_slice(&THIRD).swizzle_dyn_within::<16>(lower >> four)
+        & u8x32::from_slice(&FOURTH).swizzle_dyn_within::<16>(lower & nibble);
+    by_upper & by_lower
+}
+
+/// Returns the upper and the lower bytes of the 32 code units from `at` on.
+#[inline(always)]
+fn bytes_of_32(units: &[u16], at: usize) -> (u8x32, u8x32)
+    requires { at + 32 ≤ length units.now }
+    ensures upper { HasLanes 32 result.0 (λ k. slice_index units.now (at + k) / 0x100) }
+    ensures lower { HasLanes 32 result.1 (λ k. slice_index units.now (at + k) % 0x100) }
+{
+    let block = u16x32::from_slice(&units[at..]);
+    let upper = block >> u16x32::splat(8);
+    let lower = block & u16x32::splat(0xFF);
+    (upper.cast::<u8>(), lower.cast::<u8>())
+}
+
+/// Returns whether none of the 32 code units from `at` on is right-to-left. May return false if there is one of 2007, 206F,
+/// FB00 to FB1C, and FEFF.
+#[inline(always)]
+pub(super) fn are_32_clear(units: &[u16], at: usize) -> bool
+    requires { at + 32 ≤ length units.now }
+    ensures { IsTrue result → NoneRightToLeft units.now at (at + 32) }
+{
+    let (upper, lower) = bytes_of_32(units, at);
+    is_zero(groups_of_32(upper, lower))
+}
