@@ -68,9 +68,9 @@ unit_found u l (inr (inr r)) e = row 0xD8 0x3A 2 refl u (omega arith) (omega ari
 abbrev pub lanes : List ℕ → List ℕ → List ℕ
 lanes a b = zip2 bit_and
     (zip2 bit_and (swz_l w8 16 (chunk 0 32 FIRST) 0 (zip2 shifted_down a (replicate 32 4)))
-        (swz_l w8 16 (chunk 0 32 SECOND) 0 (zip2 bit_and a (replicate 32 15))))
+    (swz_l w8 16 (chunk 0 32 SECOND) 0 (zip2 bit_and a (replicate 32 15))))
     (zip2 bit_and (swz_l w8 16 (chunk 0 32 THIRD) 0 (zip2 shifted_down b (replicate 32 4)))
-        (swz_l w8 16 (chunk 0 32 FOURTH) 0 (zip2 bit_and b (replicate 32 15))))
+    (swz_l w8 16 (chunk 0 32 FOURTH) 0 (zip2 bit_and b (replicate 32 15))))
 
 wide : IsWidth 32
 wide = inr refl

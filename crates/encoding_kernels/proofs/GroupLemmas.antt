@@ -7,7 +7,8 @@ use Rattle.std.proofs.lemmas.Bool.{cases_lt, cond-true, cond-false, lt-ltb, le-l
 use borrow.Rule.Slice.PartMut.{put_mid}
 use Rattle.std.proofs.Math.Seq.{take-append-add}
 use Rattle.std.proofs.lemmas.List.{append-nil, drop_all, drop_at, take_rest, length-take-le, length-append, length-drop, length-take, get_or-take, get_or-drop, get_or-map, get_or_append_left, get_or-append_right, length-map}
-use Rattle.encoding_kernels.specs.Scans.{HasLanes}
+use Rattle.std.proofs.lemmas.Bool.Decides.{nat_tests}
+use Rattle.encoding_kernels.specs.Scans.{BelowBetween, HasLanes}
 use Rattle.encoding_kernels.specs.EndingUnits.{NoUnitEnds, StoresUnits, WritesCompressed, WritesUtf16, ends_after, ends_unit, keep, unit_at, units_after}
 use Rattle.std.proofs.lemmas.Simd.{mask_l-lt}
 use Rattle.encoding_kernels.proofs.VectorLemmas.{HasLanes_load, HasLanes_same, same_below}
@@ -48,6 +49,30 @@ third_bytes src ks g long eight small places =
           get_or-map (λ j. get_or both j 0) ks k 0 0 (omega (arith, eight)) ∙ joined_at src long (get_or ks k 0) below
           ∙ ap (λ j. get_or src j 0) (same_below (λ j. place_of (get_or ks j 0)) g 0 8 places k l);
     }
+
+-- ---- the greatest of some bytes
+-- the greater of two numbers
+abbrev pub greater : ℕ → ℕ → ℕ
+greater x y = if ltb x y then y else x
+
+pub both_below : (bound x y : ℕ) → greater x y < bound → (x < bound) × (y < bound)
+both_below bound x y l = (grind (arith, nat_tests), grind (arith, nat_tests))
+
+pub below_each : (bound : ℕ) (src lanes : List ℕ) → HasLanes 16 lanes (λ k. greater (greater (get_or src (16 + k) 0) (get_or src (32 + k) 0)) (get_or src (48 + k) 0))
+    → ((k : ℕ) → k < 16 → get_or lanes k 0 < bound) → BelowBetween bound src 16 64
+below_each bound src lanes greatest below k l m = elim (cases_lt k 32) [
+  | inl p ↦ at 16 (both_below bound _ _ (pair (k - 16) (omega arith)).0).0 l
+  | inr p ↦ elim (cases_lt k 48) [
+    | inl q ↦ at 32 (both_below bound _ _ (pair (k - 32) (omega arith)).0).1 p
+    | inr q ↦ at 48 (pair (k - 48) (omega arith)).1 q
+  ]
+]
+  where
+    pair : (i : ℕ) → i < 16 → (greater (get_or src (16 + i) 0) (get_or src (32 + i) 0) < bound) × (get_or src (48 + i) 0 < bound)
+    pair i h = both_below bound _ _ (subst (λ x. x < bound) (greatest.each i h) (below i h))
+
+    at : (from : ℕ) → get_or src (from + (k - from)) 0 < bound → from ≤ k → get_or src k 0 < bound
+    at from b h = let there : from + (k - from) ≡ k = omega arith in subst (λ j. get_or src j 0 < bound) there b
 
 -- ---- the bytes before each of a stride
 pub zeros_before : (src v zs : List ℕ) → 16 ≤ length src → HasLanes 16 v (λ k. get_or (zs ++ take 16 src) k 0)

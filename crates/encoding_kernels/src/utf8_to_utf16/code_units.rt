@@ -13,7 +13,7 @@ use std::simd::prelude::*;
 
 /// Returns whether each byte is below the bound.
 #[inline(always)]
-fn is_below(block: u8x16, bound: u8) -> bool
+pub(super) fn is_below(block: u8x16, bound: u8) -> bool
     ensures { IsTrue result → (k : ℕ) → k < 16 → slice_index block k < bound }
 {
     block.simd_ge(u8x16::splat(bound)).to_bitmask() == 0

@@ -13,17 +13,19 @@ ghost use Rattle.std.specs.Simd.Lanes.{mask_l};
 ghost use Rattle.std.specs.List.{flat_map};
 ghost use Rattle.std.specs.Char.Escape.{encode_utf16};
 ghost use Rattle.encoding_definitions.specs.Prefixes.{WritesPrefix};
+ghost use Rattle.encoding_kernels.specs.Scans.{AllBelow, BelowBetween};
 
 use crate::scalar::{decode_utf8_scalar, is_continuation, sequence_length, write_utf16};
-use crate::simd::copy::LANES as BYTE_LANES;
+use crate::simd::copy::{LANES as BYTE_LANES, unpack};
 use crate::simd::scan::are_bytes_below;
-use crate::simd::width::{ASCII_END, BLOCK, STRIDE};
+use crate::simd::width::{ASCII_END, BLOCK, HALF_BLOCK, STRIDE};
 use crate::tuning::SHORT_TEXT;
 use crate::utf8_to_utf16::code_units::{
-    code_units, unit_ends, write_compressed, write_compressed_exact,
+    code_units, is_below, unit_ends, write_compressed, write_compressed_exact,
 };
 use crate::utf8_to_utf16::groups::{
-    FOUR_BYTES, GROUP_OF_TEXT, TRIPLES, UNITS, begins_triples, convert_group, write_triples,
+    FOUR_BYTES, GROUP_OF_TEXT, TRIPLES, UNITS, begins_triples, greatest_after_stride, group_end,
+    write_any_group, write_triples,
 };
 use std::simd::prelude::*;
 
@@ -125,6 +127,58 @@ fn write_first_pairs(src: &[u8], dst: &mut [u16]) -> (usize, usize)
     write_block_of_pairs(src, dst)
 }
 
+/// Writes 48 bytes of ASCII at the start of a text as code units.
+#[inline(always)]
+fn unpack_48(src: &[u8], dst: &mut [u16])
+    requires dst_length { (48 ≤ length src.now) × (length src.now ≤ length dst.old) }
+    requires text { IsUtf8 src.now }
+    requires ascii { AllBelow ASCII_END src.now 0 48 }
+    ensures { WritesUtf16 src.now dst.old dst.new 48 48 (units_in src.now) }
+{
+    unpack::<STRIDE>(src, dst, 0);
+    unpack::<STRIDE>(src, dst, STRIDE);
+    unpack::<STRIDE>(src, dst, 2 * STRIDE);
+}
+
+/// Writes the UTF-16 of the first 64 bytes of a text, of which the last 48 are ASCII, and returns its length in code units.
+/// Units that the rest of the text overwrites may have changed too.
+#[inline(always)]
+fn write_before_ascii(src: &[u8], dst: &mut [u16]) -> usize
+    requires dst_length { (88 ≤ length src.now) × (length src.now ≤ length dst.old) }
+    requires text { IsUtf8 src.now }
+    requires ascii { BelowBetween ASCII_END src.now 16 64 }
+    ensures { WritesUtf16 src.now dst.old dst.new 64 result (units_in src.now) }
+{
+    let kept = unit_ends(u8x16::from_slice(src), STRIDE);
+    let written = write_block(src, STRIDE, kept, dst);
+    unpack_48(&src[STRIDE..], &mut dst[written..]);
+    written + 48
+}
+
+/// Writes the UTF-16 of the first characters of a text: eight of three bytes each, or those that end in the first 64
+/// bytes. Returns how many bytes it read and how many code units it wrote, or zeros if a character of four bytes ends
+/// with the byte after them. Units that the rest of the text overwrites may have changed too.
+#[inline(always)]
+fn convert_group(src: &[u8], dst: &mut [u16]) -> (usize, usize)
+    requires dst_length { (88 ≤ length src.now) × (length src.now ≤ length dst.old) }
+    requires text { IsUtf8 src.now }
+    ensures { WritesUtf16 src.now dst.old dst.new result.0 result.1 (units_in src.now) }
+{
+    if begins_triples(src) {
+        write_triples(src, dst);
+        return (TRIPLES, UNITS);
+    }
+    let end = group_end(src);
+    if end == 0 {
+        return (0, 0);
+    }
+    let rest = greatest_after_stride(src);
+    if is_below(rest, ASCII_END) {
+        return (end, write_before_ascii(src, dst));
+    }
+    (end, write_any_group(src, rest, dst))
+}
+
 /// Writes the UTF-16 of a text by groups of 64 bytes, until 64 bytes are ASCII or at most 87 are left. It also ends at a group
 /// that cuts a character of four bytes after its third byte. Returns how many bytes it read and how many code units it
 /// wrote. Units that the rest of the text overwrites may have changed too.
@@ -151,18 +205,19 @@ fn convert_groups(src: &[u8], dst: &mut [u16]) -> (usize, usize)
     (read, written)
 }
 
-/// Returns whether the text is long enough for a group, and its first character is followed by 64 bytes of ASCII.
+/// Returns whether the text is long enough for a group, and its first character is followed by 32 bytes of ASCII.
 #[inline(always)]
 fn precedes_ascii(src: &[u8]) -> bool
     requires { (0 < length src.now) × IsUtf8 src.now }
 {
-    src.len() >= GROUP_OF_TEXT && are_bytes_below::<BLOCK>(src, sequence_length(src[0]), ASCII_END)
+    src.len() >= GROUP_OF_TEXT
+        && are_bytes_below::<HALF_BLOCK>(src, sequence_length(src[0]), ASCII_END)
 }
 
 /// Writes the UTF-16 of the text before a run of ASCII, and returns how many bytes it read and how many code units it
 /// wrote. Units that the rest of the text overwrites may have changed too.
 ///
-/// A character before 64 bytes of ASCII is written by itself, since a group would cost more. If no group of 64 bytes can
+/// A character before 32 bytes of ASCII is written by itself, since a group would cost more. If no group of 64 bytes can
 /// be written first, the text is written by blocks.
 #[inline(always)]
 pub fn convert_valid_utf8_to_utf16(src: &[u8], dst: &mut [u16]) -> (usize, usize)

@@ -3,15 +3,17 @@
 //! The code units of 64 bytes are computed by strides at fixed indices, so no stride waits for the end of a character in
 //! the one before it. Only the index at which the next 64 bytes begin depends on the text.
 
-ghost use Rattle.std.specs.Prelude.{ℕ, ◌+◌, ◌*◌, ◌<◌, ◌≤◌, ◌∷◌, IsTrue, IsFalse, length, take, drop, slice_index};
+ghost use Rattle.std.specs.Prelude.{ℕ, ◌≡◌, ◌+◌, ◌*◌, ◌<◌, ◌≤◌, ◌∷◌, IsTrue, IsFalse, length, take, drop, slice_index};
 ghost use Rattle.std.specs.Str.{IsUtf8, IsCharBoundary};
-ghost use Rattle.encoding_kernels.specs.Scans.{BelowUpTo, HasLanes};
-ghost use Rattle.encoding_kernels.specs.EndingUnits.{WritesUtf16, WritesCompressed, StoresUnits, units_in, units_after, ends_after, BeginsThree, NoUnitEnds, triple_unit};
+ghost use Rattle.encoding_kernels.specs.Scans.{BelowBetween, BelowUpTo, HasLanes};
+ghost use Rattle.encoding_kernels.specs.EndingUnits.{WritesUtf16, WritesCompressed, StoresUnits, BoundsStrides, units_after, ends_after, BeginsThree, NoUnitEnds, triple_unit};
 
 use crate::scalar::is_continuation;
 use crate::simd::copy::{one_before, three_before, two_before};
-use crate::simd::width::{BLOCK, FOUR, HALF_BLOCK, STRIDE};
-use crate::utf8_to_utf16::code_units::{ends_of_stride, units_of_stride, write_compressed};
+use crate::simd::width::{BLOCK, FOUR, STRIDE};
+use crate::utf8_to_utf16::code_units::{
+    ends_of_stride, is_below, units_of_stride, write_compressed,
+};
 use std::simd::prelude::*;
 
 /// The least length of a text whose first 64 bytes may be converted at once: the units that these store after their own
@@ -93,27 +95,36 @@ pub(super) fn write_triples(src: &[u8], dst: &mut [u16])
     triple_units(src).copy_to_slice(dst);
 }
 
-/// Returns whether one of the first 64 bytes begins a character of four bytes.
+/// Returns for each lane the greatest of the bytes at it in the last three strides of 64 bytes.
 #[inline(always)]
-fn begins_four_bytes(src: &[u8]) -> bool
+pub(super) fn greatest_after_stride(src: &[u8]) -> u8x16
     requires { 64 ≤ length src.now }
+    ensures { BoundsStrides src.now result }
+{
+    let second = u8x16::from_slice(&src[STRIDE..]);
+    let third = u8x16::from_slice(&src[2 * STRIDE..]);
+    let fourth = u8x16::from_slice(&src[3 * STRIDE..]);
+    second.simd_max(third).simd_max(fourth)
+}
+
+/// Returns whether one of the first 64 bytes begins a character of four bytes, given the greatest of the last three strides.
+#[inline(always)]
+fn begins_four_bytes(src: &[u8], rest: u8x16) -> bool
+    requires src_length { 64 ≤ length src.now }
+    requires rest { BoundsStrides src.now rest }
     ensures { IsFalse result → BelowUpTo 0xF0 src.now 64 }
 {
-    let first = u8x32::from_slice(src);
-    let second = u8x32::from_slice(&src[HALF_BLOCK..]);
-    first
-        .simd_max(second)
-        .simd_ge(u8x32::splat(FOUR_BYTES))
-        .any()
+    !is_below(u8x16::from_slice(src).simd_max(rest), FOUR_BYTES)
 }
 
 /// Returns the end of the last whole character in the first 64 bytes, or 0 if it can't be told from the last two: a
 /// character of four bytes ends with the byte after them.
 #[inline(always)]
-fn group_end(src: &[u8]) -> usize
+pub(super) fn group_end(src: &[u8]) -> usize
     requires { (64 < length src.now) × IsUtf8 src.now }
     ensures end { (result ≤ 64) × IsCharBoundary src.now result }
     ensures cut { 0 < result → NoUnitEnds src.now result 64 }
+    ensures uncut { BelowBetween 0x80 src.now 62 64 → 0 < result → result ≡ 64 }
 {
     let cut = if src[BLOCK - 2] >= 0xE0 {
         2
@@ -181,35 +192,16 @@ fn write_group_with_pairs(src: &[u8], dst: &mut [u16]) -> usize
     write_group::<4>(src, dst)
 }
 
-/// Writes the code units that end in the first 64 bytes, and returns their number. Up to eight units after them may
-/// change.
+/// Writes the code units that end in the first 64 bytes, given the greatest of the last three strides, and returns their
+/// number. Up to eight units after them may change.
 #[inline(always)]
-fn write_any_group(src: &[u8], dst: &mut [u16]) -> usize
+pub(super) fn write_any_group(src: &[u8], rest: u8x16, dst: &mut [u16]) -> usize
     requires dst_length { (64 ≤ length src.now) × (64 ≤ length dst.old) }
+    requires rest { BoundsStrides src.now rest }
     ensures { StoresUnits src.now dst.old dst.new 64 result }
 {
-    if begins_four_bytes(src) {
+    if begins_four_bytes(src, rest) {
         return write_group_with_pairs(src, dst);
     }
     write_group::<3>(src, dst)
-}
-
-/// Writes the UTF-16 of the first characters of a text: eight of three bytes each, or those that end in the first 64
-/// bytes. Returns how many bytes it read and how many code units it wrote, or zeros if a character of four bytes ends
-/// with the byte after them. Units that the rest of the text overwrites may have changed too.
-#[inline(always)]
-pub(super) fn convert_group(src: &[u8], dst: &mut [u16]) -> (usize, usize)
-    requires dst_length { (88 ≤ length src.now) × (length src.now ≤ length dst.old) }
-    requires text { IsUtf8 src.now }
-    ensures { WritesUtf16 src.now dst.old dst.new result.0 result.1 (units_in src.now) }
-{
-    if begins_triples(src) {
-        write_triples(src, dst);
-        return (TRIPLES, UNITS);
-    }
-    let end = group_end(src);
-    if end == 0 {
-        return (0, 0);
-    }
-    (end, write_any_group(src, dst))
 }

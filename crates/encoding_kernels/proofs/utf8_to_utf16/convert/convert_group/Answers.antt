@@ -1,7 +1,8 @@
-use Rattle.std.proofs.Common.{arith}
+use Rattle.std.proofs.Common.{arith, refl, subst, sym}
+use Rattle.encoding_kernels.specs.EndingUnits.{WritesUtf16, units_in}
 use Rattle.encoding_kernels.proofs.GroupLemmas.{group_text, puts_none}
 use Rattle.encoding_kernels.proofs.Utf8ToUtf16LoopLemmas.{due_block, due_exact}
-use Rattle.encoding_kernels.proofs.utf8_to_utf16.groups.convert_group.Goals as goal
+use Rattle.encoding_kernels.proofs.utf8_to_utf16.convert.convert_group.Goals as goal
 
 pub returns-then-begins_triples : goal.returns-then-begins_triples
 returns-then-begins_triples c = due_exact c.args.src.now c.args.dst.now c.write_triples.new.dst _ _ c.requires.text c.write_triples.ensures
@@ -15,3 +16,10 @@ returns c =
     due_block c.args.src.now c.args.dst.now c.write_any_group.new.dst _ _ 0 c.requires.text (omega arith)
     (group_text c.args.src.now c.args.dst.now c.write_any_group.new.dst _ 64 _ _ c.requires.text end.end.0 (omega arith) end.end.1 (end.cut (omega arith))
     (omega arith) c.write_any_group.ensures)
+
+pub returns-then-is_below : goal.returns-then-is_below
+returns-then-is_below c =
+    let ascii = c.greatest_after_stride-rest.ensures 0x80 (c.if-is_below.ensures refl) in
+    let whole = c.group_end-end.ensures.uncut (λ k l m. ascii k (omega arith) m) (omega arith) in
+    subst (λ n. WritesUtf16 c.args.src.now c.args.dst.now c.write_before_ascii.new.dst n c.write_before_ascii.result (units_in c.args.src.now)) (sym whole)
+    c.write_before_ascii.ensures
