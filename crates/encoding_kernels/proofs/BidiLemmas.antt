@@ -63,13 +63,20 @@ first_three c rest r = elim (cases_lt c 2048) [
 at_place : (bs : List ℕ) (at k : ℕ) (xs : List ℕ) → drop at bs ≡ xs → slice_index xs k ≡ slice_index bs (at + k)
 at_place bs at k xs e = ap (λ ys. slice_index ys k) (sym e) ∙ get_or-drop at bs k 0
 
-pub second_below : (bs : List ℕ) (at : ℕ) → RtlAt bs at → slice_index bs (at + 1) < rtl_second_end (slice_index bs at) (rtl_mark_lead (slice_index bs (at + 2)))
-second_below bs at s =
+-- what the first three bytes of each right-to-left character fulfil, with any bytes after it, and so those at the index of one
+pub by_first_three : (P : ℕ → ℕ → ℕ → Type 0)
+    → ((c : ℕ) (rest : List ℕ) → IsRightToLeft c
+    → P (slice_index (encode_utf8 c ++ rest) 0) (slice_index (encode_utf8 c ++ rest) 1) (slice_index (encode_utf8 c ++ rest) 2))
+    → (bs : List ℕ) (at : ℕ) → RtlAt bs at → P (slice_index bs at) (slice_index bs (at + 1)) (slice_index bs (at + 2))
+by_first_three P p bs at s =
     let xs = encode_utf8 s.character ++ s.rest in
     let first : slice_index xs 0 ≡ slice_index bs at = at_place bs at 0 xs s.spelled ∙ ap (λ k. slice_index bs k) {x = at + 0} {y = at} (omega arith) in
     let second : slice_index xs 1 ≡ slice_index bs (at + 1) = at_place bs at 1 xs s.spelled in
     let third : slice_index xs 2 ≡ slice_index bs (at + 2) = at_place bs at 2 xs s.spelled in
-    rw (sym first, sym second, sym third) (first_three s.character s.rest s.right_to_left)
+    rw (sym first, sym second, sym third) (p s.character s.rest s.right_to_left)
+
+pub second_below : (bs : List ℕ) (at : ℕ) → RtlAt bs at → slice_index bs (at + 1) < rtl_second_end (slice_index bs at) (rtl_mark_lead (slice_index bs (at + 2)))
+second_below = by_first_three (λ a b d. b < rtl_second_end a (rtl_mark_lead d)) first_three
 
 -- ---- what the lanes hold
 abbrev pub ends_lane : ℕ → ℕ → ℕ
@@ -113,6 +120,11 @@ none_before bs n low = record { each = λ k from to s. none_from_zero bs k (λ d
 
 pub none_joined : (bs : List ℕ) (a b d : ℕ) → NoRtlIn bs a b → NoRtlIn bs b d → NoRtlIn bs a d
 none_joined bs a b d p q = record { each = λ k from to s. elim (cases_lt k b) [ inl l ↦ p.each k from l s | inr l ↦ q.each k l to s ] }
+
+-- low bytes after two ranges
+pub none_and_low : (bs : List ℕ) (a b d e : ℕ) → NoRtlIn bs a b → NoRtlIn bs b d
+    → PassBetween (λ k. may_start_rtl (slice_index bs k) (rtl_mark_lead (slice_index bs (k + 2))) ≡ false) d e → NoRtlIn bs a e
+none_and_low bs a b d e p q low = none_joined bs a d e (none_joined bs a b d p q) (none_low bs d e low)
 
 some_bytes : (c : ℕ) → IsRightToLeft c → 2 ≤ length (encode_utf8 c)
 some_bytes c r = grind (arith, nat_tests, length-encode c, right_to_left_from c r)

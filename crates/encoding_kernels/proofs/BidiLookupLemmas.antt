@@ -2,14 +2,14 @@
 use Rattle.std.proofs.Common.{◌≡◌, ℕ, ◌+◌, ◌-◌, ◌*◌, ◌/◌, ◌%◌, ◌^◌, ◌<◌, ◌≤◌, inl, inr, true, ◌==◌, false, eq-eqb, sym, map, List, length, replicate, get_or, bit_and, refl, arith, w8, Fits, ◌∙◌, ap, subst}
 use Rattle.std.proofs.lemmas.Bool.{cases_lt, true≢false}
 use Rattle.std.specs.List.{range_with_len}
-use Rattle.std.proofs.lemmas.Simd.{swz_l, Each1-from_get_or}
+use Rattle.std.proofs.lemmas.Simd.{Each1-from_get_or}
 use Rattle.std.proofs.lemmas.Nat.{and_mask}
 use lib.Lanes.{zip2, chunk, Each1}
-use Rattle.encoding_kernels.specs.declared.bidi.lookups.TheConstants.{FIRST, SECOND, THIRD, FOURTH}
+use Rattle.encoding_kernels.specs.declared.bidi.unit_lookups.TheConstants.{FIRST, SECOND, THIRD, FOURTH}
 use Rattle.encoding_definitions.specs.Bidi.{IsRightToLeft, IsRightToLeftUnit}
 use Rattle.encoding_definitions.proofs.BidiUnitsLemmas.{UnitForm, unit_form}
 use Rattle.encoding_kernels.proofs.VectorLemmas.{same_below, HasLanes-zip2, HasLanes_load, HasLanes-splat, HasLanes_same}
-use Rattle.encoding_kernels.proofs.Utf8LookupLemmas.{IsLanes, IsWidth, shifted_down, byte, looked_up, high_halves, high_small, low_halves, low_small}
+use Rattle.encoding_kernels.proofs.Utf8LookupLemmas.{IsLanes, byte, by_nibbles, both_looked_up}
 use Rattle.encoding_kernels.specs.Scans.{HasLanes}
 use Rattle.encoding_kernels.specs.Following.{IsZeroTo}
 use Rattle.encoding_kernels.specs.RightToLeft.{NoneRightToLeft}
@@ -66,23 +66,14 @@ unit_found u l (inr (inr r)) e = row 0xD8 0x3A 2 refl u (omega arith) (omega ari
 
 -- ---- lanes
 abbrev pub lanes : List ℕ → List ℕ → List ℕ
-lanes a b = zip2 bit_and
-    (zip2 bit_and (swz_l w8 16 (chunk 0 32 FIRST) 0 (zip2 shifted_down a (replicate 32 4)))
-    (swz_l w8 16 (chunk 0 32 SECOND) 0 (zip2 bit_and a (replicate 32 15))))
-    (zip2 bit_and (swz_l w8 16 (chunk 0 32 THIRD) 0 (zip2 shifted_down b (replicate 32 4)))
-    (swz_l w8 16 (chunk 0 32 FOURTH) 0 (zip2 bit_and b (replicate 32 15))))
-
-wide : IsWidth 32
-wide = inr refl
+lanes a b = zip2 bit_and (by_nibbles 32 FIRST SECOND a) (by_nibbles 32 THIRD FOURTH b)
 
 module _ (a b : List ℕ) (A : IsLanes 32 a) (B : IsLanes 32 b) where
   lanes_are : HasLanes 32 (lanes a b) (λ k. groups (get_or a k 0) (get_or b k 0))
   lanes_are =
-      let first = looked_up 32 wide (high_halves 32 wide a A) (high_small 32 wide a A) FIRST refl refl in
-      let second = looked_up 32 wide (low_halves 32 wide a A) (low_small 32 wide a A) SECOND refl refl in
-      let third = looked_up 32 wide (high_halves 32 wide b B) (high_small 32 wide b B) THIRD refl refl in
-      let fourth = looked_up 32 wide (low_halves 32 wide b B) (low_small 32 wide b B) FOURTH refl refl in
-      HasLanes-zip2 bit_and (HasLanes-zip2 bit_and first second) (HasLanes-zip2 bit_and third fourth)
+      let upper = both_looked_up 32 (inr refl) a A FIRST SECOND refl refl refl refl in
+      let lower = both_looked_up 32 (inr refl) b B THIRD FOURTH refl refl refl refl in
+      HasLanes-zip2 bit_and upper lower
 
   pub lanes_clear : (i : ℕ) → i < 32 → get_or (lanes a b) i 0 ≡ 0 → IsRightToLeftUnit (get_or b i 0 + 0x100 * get_or a i 0) → ⊥
   lanes_clear i l e r =

@@ -58,7 +58,8 @@ greater x y = if ltb x y then y else x
 pub both_below : (bound x y : ℕ) → greater x y < bound → (x < bound) × (y < bound)
 both_below bound x y l = (grind (arith, nat_tests), grind (arith, nat_tests))
 
-pub below_each : (bound : ℕ) (src lanes : List ℕ) → HasLanes 16 lanes (λ k. greater (greater (get_or src (16 + k) 0) (get_or src (32 + k) 0)) (get_or src (48 + k) 0))
+pub below_each : (bound : ℕ) (src lanes : List ℕ)
+    → HasLanes 16 lanes (λ k. greater (greater (get_or src (16 + k) 0) (get_or src (32 + k) 0)) (get_or src (48 + k) 0))
     → ((k : ℕ) → k < 16 → get_or lanes k 0 < bound) → BelowBetween bound src 16 64
 below_each bound src lanes greatest below k l m = elim (cases_lt k 32) [
   | inl p ↦ at 16 (both_below bound _ _ (pair (k - 16) (omega arith)).0).0 l

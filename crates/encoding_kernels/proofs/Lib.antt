@@ -1,3 +1,4 @@
+pub mod BidiByteLookupLemmas
 pub mod BidiLemmas
 pub mod BidiLookupLemmas
 pub mod CodeUnitLemmas

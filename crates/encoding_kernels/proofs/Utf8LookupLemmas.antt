@@ -160,6 +160,11 @@ module _ (n : ℕ) (w : IsWidth n) {js : List ℕ} {f : ℕ → ℕ} (places : H
 abbrev pub shifted_down : ℕ → ℕ → ℕ
 shifted_down a b = a / 2 ^ b
 
+-- what two tables have for the high and the low nibble of each byte
+abbrev pub by_nibbles : ℕ → List ℕ → List ℕ → List ℕ → List ℕ
+by_nibbles n high low v = zip2 bit_and (swz_l w8 16 (chunk 0 n high) 0 (zip2 shifted_down v (replicate n 4)))
+    (swz_l w8 16 (chunk 0 n low) 0 (zip2 bit_and v (replicate n 15)))
+
 module _ (n : ℕ) (w : IsWidth n) (v : List ℕ) (is : IsLanes n v) where
   pub high_halves : HasLanes n (zip2 shifted_down v (replicate n 4)) (λ k. shifted_down (get_or v k 0) 4)
   high_halves = HasLanes-zip2 shifted_down (HasLanes-itself n v is.0) (HasLanes-splat n 4)
@@ -178,6 +183,12 @@ module _ (n : ℕ) (w : IsWidth n) (v : List ℕ) (is : IsLanes n v) where
 
   pub low_places : SwzOk w8 16 n 0 (zip2 bit_and v (replicate n 15))
   low_places = places_ok n w low_halves low_small
+
+  -- in two tables, by the high and by the low nibble
+  pub both_looked_up : (high low : List ℕ) → high ≡ take 16 high ++ take 16 high → length high ≡ 32 → low ≡ take 16 low ++ take 16 low → length low ≡ 32
+      → HasLanes n (by_nibbles n high low v) (λ k. bit_and (get_or high (get_or v k 0 / 16) 0) (get_or low (bit_and (get_or v k 0) 15) 0))
+  both_looked_up high low twice long again whole =
+      HasLanes-zip2 bit_and (looked_up n w high_halves high_small high twice long) (looked_up n w low_halves low_small low again whole)
 
 -- ---- saturating subtraction of a splat
 abbrev wrapping_less : ℕ → ℕ → ℕ
@@ -200,8 +211,7 @@ difference n xs y is small =
 -- ---- the test
 abbrev pub pairs_of : ℕ → List ℕ → List ℕ → List ℕ
 pairs_of n a b = zip2 bit_and
-    (zip2 bit_and (swz_l w8 16 (chunk 0 n BYTE_1_HIGH) 0 (zip2 shifted_down a (replicate n 4)))
-    (swz_l w8 16 (chunk 0 n BYTE_1_LOW) 0 (zip2 bit_and a (replicate n 15))))
+    (by_nibbles n BYTE_1_HIGH BYTE_1_LOW a)
     (swz_l w8 16 (chunk 0 n BYTE_2_HIGH) 0 (zip2 shifted_down b (replicate n 4)))
 
 abbrev pub lanes : ℕ → List ℕ → List ℕ → List ℕ → List ℕ → List ℕ
@@ -214,10 +224,9 @@ module _ (n : ℕ) (w : IsWidth n) (x y a b : List ℕ) (X : IsLanes n x) (Y : I
   lanes_are : HasLanes n (lanes n x y a b) (λ k. lane (get_or x k 0) (get_or y k 0) (get_or a k 0) (get_or b k 0))
   lanes_are =
       let thirds = HasLanes-zip2 bit_or (difference n y 0x60 Y (omega arith)) (difference n x 0x70 X (omega arith)) in
-      let high = looked_up n w (high_halves n w a A) (high_small n w a A) BYTE_1_HIGH refl refl in
-      let low = looked_up n w (low_halves n w a A) (low_small n w a A) BYTE_1_LOW refl refl in
+      let previous = both_looked_up n w a A BYTE_1_HIGH BYTE_1_LOW refl refl refl refl in
       let following = looked_up n w (high_halves n w b B) (high_small n w b B) BYTE_2_HIGH refl refl in
-      HasLanes-zip2 bit_xor (HasLanes-zip2 bit_and thirds (HasLanes-splat n 0x80)) (HasLanes-zip2 bit_and (HasLanes-zip2 bit_and high low) following)
+      HasLanes-zip2 bit_xor (HasLanes-zip2 bit_and thirds (HasLanes-splat n 0x80)) (HasLanes-zip2 bit_and previous following)
 
   pub lanes_follow : (i : ℕ) → i < n → get_or (lanes n x y a b) i 0 ≡ 0 → IsValidAfter (get_or x i 0) (get_or y i 0) (get_or a i 0) (get_or b i 0)
   lanes_follow i l e = lane_follows _ _ _ _ (byte n x X i l) (byte n y Y i l) (byte n a A i l) (byte n b B i l) (sym (lanes_are.each i l) ∙ e)

@@ -3,14 +3,16 @@ ghost use Rattle.std.specs.Prelude.{◌≡◌, false, ◌+◌, ◌-◌, ◌≤�
 ghost use Rattle.encoding_kernels.specs.RightToLeft.{rtl_second_end, rtl_mark_lead, may_start_rtl, HasNoRtlAt, NoRtlIn, NoneRightToLeft, may_be_right_to_left};
 ghost use Rattle.encoding_kernels.specs.Scans.{HasLanes};
 
-use crate::simd::scan::{LanePredicate, UnitsBelow, all, reach, skip};
+use crate::simd::scan::{LanePredicate, UnitsBelow, reach, skip};
 use crate::simd::width::{BLOCK, HALF_UNIT_BLOCK, STRIDE, UNIT_STRIDE};
-use crate::tuning::{LOW_RUN, MOST_UNIT_BLOCKS};
-use lookups::are_32_clear;
+use crate::tuning::{LOW_BYTES, LOW_RUN, MOST_BYTE_BLOCKS, MOST_UNIT_BLOCKS};
+use byte_lookups::are_64_clear;
 use std::simd::Simd;
 use std::simd::prelude::*;
+use unit_lookups::are_32_clear;
 
-mod lookups;
+mod byte_lookups;
+mod unit_lookups;
 
 /// The first right-to-left code unit.
 pub const FIRST_UNIT: u16 = 0x0590;
@@ -103,28 +105,51 @@ impl<'a, const N: usize> LanePredicate<N> for ClearBytes<'a> {
     }
 }
 
+/// Skips blocks of bytes from `from` on, no farther than `end`, in which no right-to-left character begins, and returns the
+/// index that it reaches. At least two bytes follow `end`.
+#[inline(always)]
+fn skip_clear_blocks(bytes: &[u8], from: usize, end: usize) -> usize
+    requires { (from ≤ end) × (end + 2 ≤ length bytes.now) }
+    ensures within { (from ≤ result) × (result ≤ end) }
+    ensures no_rtl { NoRtlIn bytes.now from result }
+{
+    let mut at = from;
+    while end - at >= BLOCK && are_64_clear(bytes, at) {
+        at += BLOCK;
+    }
+    at
+}
+
 /// Skips blocks of bytes from `from` on in which no right-to-left character can begin, and returns the index that it
 /// reaches.
+///
+/// Where low bytes are rare, they are tested for less often.
 pub fn skip_clear(bytes: &[u8], from: usize) -> usize
     requires { from ≤ length bytes.now }
     ensures within { (from ≤ result) × (result ≤ length bytes.now) }
     ensures no_rtl { NoRtlIn bytes.now from result }
 {
-    let test = ClearBytes { bytes };
     let low = LowBytes { bytes };
     let mut at = from;
-    while bytes.len() - at >= BLOCK + 2 && all::<BLOCK, BLOCK, _>(&test, at) {
-        // the same bytes, whose vectors are already loaded
-        let is_low = all::<BLOCK, BLOCK, _>(&low, at);
-        at += BLOCK;
-        if is_low {
-            at = skip::<BLOCK, BLOCK, _>(&low, at, bytes.len() - 2);
+    let mut blocks = 1;
+    while bytes.len() - at >= BLOCK + 2 {
+        let end = at + BLOCK * blocks.min((bytes.len() - 2 - at) / BLOCK);
+        at = skip_clear_blocks(bytes, at, end);
+        if at < end {
+            break;
         }
+        let next = skip::<BLOCK, BLOCK, _>(&low, at, bytes.len() - 2);
+        blocks = if next - at < LOW_BYTES {
+            (blocks + 1).min(MOST_BYTE_BLOCKS)
+        } else {
+            1
+        };
+        at = next;
     }
     if bytes.len() - at < 2 {
         return at;
     }
-    reach::<STRIDE, STRIDE, _>(&test, at, bytes.len() - 2)
+    reach::<STRIDE, STRIDE, _>(&ClearBytes { bytes }, at, bytes.len() - 2)
 }
 
 /// Indices of code units that aren't right-to-left, by ranges and marks that hold all right-to-left units and some
@@ -159,7 +184,7 @@ impl<'a, const N: usize> LanePredicate<N> for ClearUnits<'a> {
 /// Skips blocks of code units from `from` on, no farther than `end`, that aren't right-to-left, and returns the index that
 /// it reaches.
 #[inline(always)]
-fn skip_clear_blocks(units: &[u16], from: usize, end: usize) -> usize
+fn skip_clear_unit_blocks(units: &[u16], from: usize, end: usize) -> usize
     requires { (from ≤ end) × (end ≤ length units.now) }
     ensures within { (from ≤ result) × (result ≤ end) }
     ensures no_rtl { NoneRightToLeft units.now from result }
@@ -189,7 +214,7 @@ pub fn skip_clear_units(units: &[u16], from: usize) -> usize
     let mut blocks = 1;
     while units.len() - at >= HALF_UNIT_BLOCK {
         let end = at + HALF_UNIT_BLOCK * blocks.min((units.len() - at) / HALF_UNIT_BLOCK);
-        at = skip_clear_blocks(units, at, end);
+        at = skip_clear_unit_blocks(units, at, end);
         if at < end {
             break;
         }

@@ -84,6 +84,19 @@ pub const MOST_UNIT_BLOCKS: usize = 8;
 /// 1.05, and of 1,000 code units 0.99 to 1.02.
 pub const LOW_RUN: usize = 128;
 
+/// In blocks of 64 bytes: the most that are tested for right-to-left characters until the next test for lower ones. At first
+/// it is one. Each test for lower ones that finds fewer than `LOW_BYTES` adds one.
+///
+/// `is_utf8_bidi`, 1,000 bytes to 16 KiB, in a build without the toolchain: with four, Chinese 0.96 and chat 0.96 to 0.99; with
+/// sixteen, 1.00 to 1.01.
+pub const MOST_BYTE_BLOCKS: usize = 8;
+
+/// In bytes: after at least this much text of lower characters, each block is followed by a test for them again.
+///
+/// `is_utf8_bidi`, 1,000 bytes to 16 KiB, in a build without the toolchain: with 64, chat 0.95 to 0.98; with 256, chat 1.01 to
+/// 1.02, the rest 0.99 to 1.00.
+pub const LOW_BYTES: usize = 128;
+
 /// In blocks of sixteen bytes: how many go from UTF-8 to Latin1 after a test for ASCII until the next.
 ///
 /// UTF-8 to Latin1, 4 KiB, each block stored by itself: with one, code 0.92 and logs 1.02; with four, logs 0.93 and code

@@ -6,16 +6,16 @@ use Rattle.encoding_kernels.proofs.bidi.skip_clear_units.Goals.{else-loop-at-tes
 
 pub loop-at-preserved-then-next-at-lt-LOW_RUN : goal.loop-at-preserved-then-next-at-lt-LOW_RUN
 loop-at-preserved-then-next-at-lt-LOW_RUN c = record {
-  within = (omega (arith, c.skip_clear_blocks-at.ensures.within, c.skip-next.ensures.within), omega (arith, c.skip-next.ensures.within));
-  none = units_and_low _ _ _ _ _ c.loop-at.invariant.none c.skip_clear_blocks-at.ensures.no_rtl c.skip-next.ensures.pass;
+  within = (omega (arith, c.skip_clear_unit_blocks-at.ensures.within, c.skip-next.ensures.within), omega (arith, c.skip-next.ensures.within));
+  none = units_and_low _ _ _ _ _ c.loop-at.invariant.none c.skip_clear_unit_blocks-at.ensures.no_rtl c.skip-next.ensures.pass;
   some = omega (arith, c.min-blocks.ensures);
   few = omega (arith, c.min-blocks.ensures);
 }
 
 pub loop-at-preserved : goal.loop-at-preserved
 loop-at-preserved c = record {
-  within = (omega (arith, c.skip_clear_blocks-at.ensures.within, c.skip-next.ensures.within), omega (arith, c.skip-next.ensures.within));
-  none = units_and_low _ _ _ _ _ c.loop-at.invariant.none c.skip_clear_blocks-at.ensures.no_rtl c.skip-next.ensures.pass;
+  within = (omega (arith, c.skip_clear_unit_blocks-at.ensures.within, c.skip-next.ensures.within), omega (arith, c.skip-next.ensures.within));
+  none = units_and_low _ _ _ _ _ c.loop-at.invariant.none c.skip_clear_unit_blocks-at.ensures.no_rtl c.skip-next.ensures.pass;
   some = omega arith;
   few = omega arith;
 }
@@ -28,6 +28,6 @@ returns-clause-no_rtl c =
     let before : NoneRightToLeft us c.args.from stop = elim c.loop-at-test.branch [
       | else-loop-at-test w ↦ rw w.at-is c.loop-at.invariant.none
       | then-loop-at-test+then-at-end w ↦
-          rw w.at-is (units_joined us c.args.from at at _ c.loop-at.invariant.none w.skip_clear_blocks-at.ensures.no_rtl (omega arith))
+          rw w.at-is (units_joined us c.args.from at at _ c.loop-at.invariant.none w.skip_clear_unit_blocks-at.ensures.no_rtl (omega arith))
     ] in
     units_joined us c.args.from stop stop _ before (units_clear us stop _ (λ k. (c.type_inv.units k).fits) c.reach.ensures.pass) (omega arith)

@@ -19,7 +19,8 @@ unpack_48-requires-clause-dst_length c =
 pub unpack_48-requires-clause-ascii : goal.unpack_48-requires-clause-ascii
 unpack_48-requires-clause-ascii c k l m =
     let src = c.args.src.now in
-    let here : slice_index (drop 16 src) k < 0x80 = subst (λ x. x < 0x80) (sym (get_or-drop 16 src k 0)) (c.requires.ascii (16 + k) (omega arith) (omega arith)) in
+    let here : slice_index (drop 16 src) k < 0x80 =
+    subst (λ x. x < 0x80) (sym (get_or-drop 16 src k 0)) (c.requires.ascii (16 + k) (omega arith) (omega arith)) in
     subst (λ xs. slice_index xs k < 0x80) (sym (take_rest src 16)) here
 
 pub returns : goal.returns

@@ -1,6 +1,6 @@
 use Rattle.encoding_kernels.proofs.BidiLookupLemmas.{uppers_are, uppers_fit, lowers_are, lowers_fit}
 use Rattle.encoding_kernels.proofs.VectorLemmas.{HasLanes-cast}
-use Rattle.encoding_kernels.proofs.bidi.lookups.bytes_of_32.Goals as goal
+use Rattle.encoding_kernels.proofs.bidi.unit_lookups.bytes_of_32.Goals as goal
 
 pub overflow_cast-result : goal.overflow_cast-result
 overflow_cast-result c = uppers_fit c.args.at c.args.units.now c.requires (λ k. (c.type_inv.units k).fits)

@@ -1,5 +1,5 @@
 use Rattle.encoding_kernels.proofs.BidiLookupLemmas.{none_in_32}
-use Rattle.encoding_kernels.proofs.bidi.lookups.are_32_clear.Goals as goal
+use Rattle.encoding_kernels.proofs.bidi.unit_lookups.are_32_clear.Goals as goal
 
 pub returns : goal.returns
 returns c t =
