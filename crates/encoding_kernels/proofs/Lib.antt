@@ -1,6 +1,6 @@
 pub mod BidiByteLookupLemmas
 pub mod BidiLemmas
-pub mod BidiLookupLemmas
+pub mod BidiUnitLookupLemmas
 pub mod CodeUnitLemmas
 pub mod CompressLemmas
 pub mod CompressTableLemmas

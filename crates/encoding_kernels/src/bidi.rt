@@ -5,7 +5,7 @@ ghost use Rattle.encoding_kernels.specs.Scans.{HasLanes};
 
 use crate::simd::scan::{LanePredicate, UnitsBelow, reach, skip};
 use crate::simd::width::{BLOCK, HALF_UNIT_BLOCK, STRIDE, UNIT_STRIDE};
-use crate::tuning::{LOW_BYTES, LOW_RUN, MOST_BYTE_BLOCKS, MOST_UNIT_BLOCKS};
+use crate::tuning::{LOW_BYTES, LOW_UNITS, MOST_BYTE_BLOCKS, MOST_UNIT_BLOCKS};
 use byte_lookups::are_64_clear;
 use std::simd::Simd;
 use std::simd::prelude::*;
@@ -120,8 +120,7 @@ fn skip_clear_blocks(bytes: &[u8], from: usize, end: usize) -> usize
     at
 }
 
-/// Skips blocks of bytes from `from` on in which no right-to-left character can begin, and returns the index that it
-/// reaches.
+/// Skips blocks of bytes from `from` on in which no right-to-left character begins, and returns the index that it reaches.
 ///
 /// Where low bytes are rare, they are tested for less often.
 pub fn skip_clear(bytes: &[u8], from: usize) -> usize
@@ -219,12 +218,14 @@ pub fn skip_clear_units(units: &[u16], from: usize) -> usize
             break;
         }
         let next = skip::<HALF_UNIT_BLOCK, HALF_UNIT_BLOCK, _>(&low, at, units.len());
-        blocks = if next - at < LOW_RUN {
+        blocks = if next - at < LOW_UNITS {
             (blocks + 1).min(MOST_UNIT_BLOCKS)
         } else {
             1
         };
         at = next;
     }
-    reach::<UNIT_STRIDE, UNIT_STRIDE, _>(&ClearUnits { units }, at, units.len())
+    // what the look-ups don't rule out ends with the block: the ranges may rule it out
+    let end = at + HALF_UNIT_BLOCK.min(units.len() - at);
+    reach::<UNIT_STRIDE, UNIT_STRIDE, _>(&ClearUnits { units }, at, end)
 }

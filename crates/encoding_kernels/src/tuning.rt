@@ -71,27 +71,27 @@ pub const MOST_PAIRS: usize = 4;
 /// 10,000 bytes 1.02; with sixteen, 1.00, 1.03, 0.97; without an end, 1.01, 1.04, 0.90.
 pub const MOST_SKIPPED: usize = 8;
 
-/// In blocks of 32 code units: the most that are tested for right-to-left units until the next test for lower ones. At first
-/// it is one. Each test for lower ones that finds fewer than `LOW_RUN` adds one.
+/// In blocks of 32 code units: the most that are tested for right-to-left units until the next test for units below U+0590. A
+/// scan begins with one, and each such test that finds fewer than `LOW_UNITS` adds one.
 ///
 /// `is_utf16_bidi`, 16,384 code units, in a build without the toolchain: with four, prose 0.90, Chinese and chat 0.93; with
 /// sixteen, 1.02 to 1.05, and of 1,000 code units 0.98 to 1.00.
 pub const MOST_UNIT_BLOCKS: usize = 8;
 
-/// In code units: after at least this many lower ones, each block is followed by a test for them again.
+/// In code units: after at least this many below U+0590, each block is followed by a test for them again.
 ///
-/// `is_utf16_bidi`, 16,384 code units, in a build without the toolchain: with 32, prose 0.78 and chat 0.80; with 256, 1.00 to
-/// 1.05, and of 1,000 code units 0.99 to 1.02.
-pub const LOW_RUN: usize = 128;
+/// `is_utf16_bidi`, 16,384 code units, in a build without the toolchain: with 64, prose 0.94, ASCII with a dash in 96 units 0.95,
+/// in 150 units 1.07; with 128, prose 1.03, with a dash in 96 units 1.06, in 150 units 0.93.
+pub const LOW_UNITS: usize = 96;
 
-/// In blocks of 64 bytes: the most that are tested for right-to-left characters until the next test for lower ones. At first
-/// it is one. Each test for lower ones that finds fewer than `LOW_BYTES` adds one.
+/// In blocks of 64 bytes: the most that are tested for right-to-left characters until the next test for lower bytes, which are
+/// below D6 or of punctuation. A scan begins with one, and each such test that finds fewer than `LOW_BYTES` adds one.
 ///
 /// `is_utf8_bidi`, 1,000 bytes to 16 KiB, in a build without the toolchain: with four, Chinese 0.96 and chat 0.96 to 0.99; with
 /// sixteen, 1.00 to 1.01.
 pub const MOST_BYTE_BLOCKS: usize = 8;
 
-/// In bytes: after at least this much text of lower characters, each block is followed by a test for them again.
+/// In bytes: after at least this many lower ones, each block is followed by a test for them again.
 ///
 /// `is_utf8_bidi`, 1,000 bytes to 16 KiB, in a build without the toolchain: with 64, chat 0.95 to 0.98; with 256, chat 1.01 to
 /// 1.02, the rest 0.99 to 1.00.

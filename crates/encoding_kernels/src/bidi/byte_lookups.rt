@@ -1,4 +1,4 @@
-//! Look-ups that find right-to-left characters in UTF-8. Six tables, by the nibbles of three adjacent bytes, each leave
+//! Look-ups that rule out right-to-left characters in UTF-8. Six tables, by the nibbles of three adjacent bytes, each leave
 //! some groups possible. A group has a bit, and a character of it begins with the three bytes only if all six leave it.
 
 ghost use Rattle.std.specs.Prelude.{◌≡◌, ℕ, ◌+◌, ◌<◌, ◌≤◌, length, slice_index, IsTrue};
@@ -191,7 +191,7 @@ fn groups_at(bytes: &[u8], at: usize) -> u8x32
 }
 
 /// Returns whether no right-to-left character is at the 64 indices from `at` on. May return false if there is one of U+0580
-/// to U+058F, U+FB00 to U+FB1C, U+FE40 to U+FE6F, and U+FEFF, or bytes that aren't well-formed.
+/// to U+058F, U+FB00 to U+FB1C, U+FE40 to U+FE6F, or U+FEFF, or bytes that aren't well-formed.
 #[inline(always)]
 pub(super) fn are_64_clear(bytes: &[u8], at: usize) -> bool
     requires { at + 66 ≤ length bytes.now }

@@ -1,4 +1,4 @@
-//! Look-ups that find right-to-left UTF-16 code units. Four tables, by the four nibbles of a code unit, each leave some
+//! Look-ups that rule out right-to-left UTF-16 code units. Four tables, by the four nibbles of a code unit, each leave some
 //! groups possible. A group has a bit, and holds the unit if all four leave it.
 
 ghost use Rattle.std.specs.Prelude.{◌≡◌, ℕ, ◌+◌, ◌*◌, ◌/◌, ◌%◌, ◌<◌, ◌≤◌, length, slice_index, IsTrue};
@@ -150,7 +150,7 @@ fn bytes_of_32(units: &[u16], at: usize) -> (u8x32, u8x32)
 }
 
 /// Returns whether none of the 32 code units from `at` on is right-to-left. May return false if there is one of 2007, 206F,
-/// FB00 to FB1C, and FEFF.
+/// FB00 to FB1C, or FEFF.
 #[inline(always)]
 pub(super) fn are_32_clear(units: &[u16], at: usize) -> bool
     requires { at + 32 ≤ length units.now }

@@ -273,6 +273,21 @@ fn short_prefix_len_below(bytes: &[u8], bound: u8) -> usize
     at
 }
 
+/// Returns the length of the longest prefix of UTF-16 code units below the bound.
+#[inline(always)]
+pub fn units_prefix_len_below(units: &[u16], bound: u16) -> usize
+    ensures within { result ≤ length units.now }
+    ensures below { BelowUpTo bound units.now result }
+    ensures stops { result < length units.now → bound ≤ slice_index units.now result }
+{
+    let test = UnitsBelow { units, bound };
+    match units.len() {
+        ..UNIT_STRIDE => skip::<1, 1, _>(&test, 0, units.len()),
+        ..HALF_UNIT_BLOCK => find::<UNIT_STRIDE, _>(&test, 0, units.len()),
+        _ => find::<HALF_UNIT_BLOCK, _>(&test, 0, units.len()),
+    }
+}
+
 /// Skips UTF-16 code units from the start that are below the bound, by vectors, and returns how many: all if all are. A unit
 /// that isn't may follow others that are, which are not skipped.
 #[inline(always)]

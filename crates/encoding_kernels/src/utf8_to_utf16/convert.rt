@@ -217,7 +217,7 @@ fn precedes_ascii(src: &[u8]) -> bool
 /// Writes the UTF-16 of the text before a run of ASCII, and returns how many bytes it read and how many code units it
 /// wrote. Units that the rest of the text overwrites may have changed too.
 ///
-/// A character before 32 bytes of ASCII is written by itself, since a group would cost more. If no group of 64 bytes can
+/// A first character before 32 bytes of ASCII is written by itself, since a group would cost more. If no group of 64 bytes can
 /// be written first, the text is written by blocks.
 #[inline(always)]
 pub fn convert_valid_utf8_to_utf16(src: &[u8], dst: &mut [u16]) -> (usize, usize)

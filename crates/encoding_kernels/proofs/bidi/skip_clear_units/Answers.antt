@@ -4,8 +4,8 @@ use Rattle.encoding_kernels.proofs.BidiLemmas.{units_and_low, units_joined, unit
 use Rattle.encoding_kernels.proofs.bidi.skip_clear_units.Goals as goal
 use Rattle.encoding_kernels.proofs.bidi.skip_clear_units.Goals.{else-loop-at-test, then-loop-at-test+then-at-end}
 
-pub loop-at-preserved-then-next-at-lt-LOW_RUN : goal.loop-at-preserved-then-next-at-lt-LOW_RUN
-loop-at-preserved-then-next-at-lt-LOW_RUN c = record {
+pub loop-at-preserved-then-next-at-lt-LOW_UNITS : goal.loop-at-preserved-then-next-at-lt-LOW_UNITS
+loop-at-preserved-then-next-at-lt-LOW_UNITS c = record {
   within = (omega (arith, c.skip_clear_unit_blocks-at.ensures.within, c.skip-next.ensures.within), omega (arith, c.skip-next.ensures.within));
   none = units_and_low _ _ _ _ _ c.loop-at.invariant.none c.skip_clear_unit_blocks-at.ensures.no_rtl c.skip-next.ensures.pass;
   some = omega (arith, c.min-blocks.ensures);

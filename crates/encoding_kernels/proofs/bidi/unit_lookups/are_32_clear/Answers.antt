@@ -1,4 +1,4 @@
-use Rattle.encoding_kernels.proofs.BidiLookupLemmas.{none_in_32}
+use Rattle.encoding_kernels.proofs.BidiUnitLookupLemmas.{none_in_32}
 use Rattle.encoding_kernels.proofs.bidi.unit_lookups.are_32_clear.Goals as goal
 
 pub returns : goal.returns

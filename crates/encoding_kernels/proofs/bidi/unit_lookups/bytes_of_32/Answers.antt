@@ -1,4 +1,4 @@
-use Rattle.encoding_kernels.proofs.BidiLookupLemmas.{uppers_are, uppers_fit, lowers_are, lowers_fit}
+use Rattle.encoding_kernels.proofs.BidiUnitLookupLemmas.{uppers_are, uppers_fit, lowers_are, lowers_fit}
 use Rattle.encoding_kernels.proofs.VectorLemmas.{HasLanes-cast}
 use Rattle.encoding_kernels.proofs.bidi.unit_lookups.bytes_of_32.Goals as goal
 

@@ -1,6 +1,6 @@
 use Rattle.std.proofs.Common.{inr, refl}
 use Rattle.encoding_kernels.proofs.Utf8LookupLemmas.{high_places, low_places}
-use Rattle.encoding_kernels.proofs.BidiLookupLemmas.{lanes_clear, lanes_long}
+use Rattle.encoding_kernels.proofs.BidiUnitLookupLemmas.{lanes_clear, lanes_long}
 use Rattle.encoding_kernels.proofs.bidi.unit_lookups.groups_of_32.Goals as goal
 
 pub swizzle : goal.swizzle
