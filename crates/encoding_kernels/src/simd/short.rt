@@ -1,5 +1,5 @@
-//! Texts of at most 64 units: a test for ASCII, and copies of ASCII. Two vectors that may overlap cover 4 to 64 units, so
-//! none is left to a loop.
+//! Texts of at most 64 units, or 128 bytes if they stay bytes: a test for ASCII, and copies of ASCII. Two vectors that may
+//! overlap cover 4 units and more, so none is left to a loop.
 
 ghost use Rattle.std.specs.Prelude.{◌≡◌, ◌+◌, ◌*◌, ◌<◌, ◌≤◌, ◌↔◌, ◌++◌, IsTrue, IsFalse, length, take, drop};
 ghost use Rattle.std.specs.Str.{IsAscii};
@@ -8,13 +8,13 @@ ghost use Rattle.encoding_definitions.specs.Prefixes.{WritesPrefix};
 use crate::simd::copy::{copy, copy_few, pack_part, unpack};
 use crate::simd::scan::{are_bytes_below, are_units_below};
 use crate::simd::width::{
-    ASCII_END, BASIC_LATIN_END, HALF_BLOCK, HALF_STRIDE, QUARTER_STRIDE, STRIDE,
+    ASCII_END, BASIC_LATIN_END, BLOCK, HALF_BLOCK, HALF_STRIDE, QUARTER_STRIDE, STRIDE,
 };
 
 /// Returns whether N to 2 * N bytes are ASCII.
 #[inline(always)]
 fn are_ascii_by_two<const N: usize>(bytes: &[u8]) -> bool
-    requires { (0 < N) × (N ≤ 32) × (N ≤ length bytes.now) × (length bytes.now ≤ 2 * N) }
+    requires { (0 < N) × (N ≤ 64) × (N ≤ length bytes.now) × (length bytes.now ≤ 2 * N) }
     ensures { IsTrue result ↔ IsAscii bytes.now }
 {
     let last = bytes.len() - N;
@@ -31,10 +31,10 @@ fn are_few_ascii(bytes: &[u8]) -> bool
     (bytes[0] < ASCII_END) & (bytes[middle] < ASCII_END) & (bytes[last] < ASCII_END)
 }
 
-/// Returns whether at most 64 bytes are ASCII.
+/// Returns whether at most 128 bytes are ASCII.
 #[inline(always)]
 pub fn is_short_ascii(bytes: &[u8]) -> bool
-    requires { length bytes.now ≤ 64 }
+    requires { length bytes.now ≤ 128 }
     ensures { IsTrue result ↔ IsAscii bytes.now }
 {
     match bytes.len() {
@@ -43,7 +43,8 @@ pub fn is_short_ascii(bytes: &[u8]) -> bool
         QUARTER_STRIDE..HALF_STRIDE => are_ascii_by_two::<QUARTER_STRIDE>(bytes),
         HALF_STRIDE..STRIDE => are_ascii_by_two::<HALF_STRIDE>(bytes),
         STRIDE..HALF_BLOCK => are_ascii_by_two::<STRIDE>(bytes),
-        _ => are_ascii_by_two::<HALF_BLOCK>(bytes),
+        HALF_BLOCK..BLOCK => are_ascii_by_two::<HALF_BLOCK>(bytes),
+        _ => are_ascii_by_two::<BLOCK>(bytes),
     }
 }
 
@@ -146,7 +147,7 @@ pub fn unpack_short_ascii(src: &[u8], dst: &mut [u16]) -> bool
 /// Copies N to 2 * N bytes if they are ASCII. Returns whether they are.
 #[inline(always)]
 fn copy_by_two<const N: usize>(src: &[u8], dst: &mut [u8]) -> bool
-    requires src_length { (0 < N) × (N ≤ 32) × (N ≤ length src.now) × (length src.now ≤ 2 * N) }
+    requires src_length { (0 < N) × (N ≤ 64) × (N ≤ length src.now) × (length src.now ≤ 2 * N) }
     requires dst_length { length src.now ≤ length dst.old }
     ensures ascii { IsTrue result ↔ IsAscii src.now }
     ensures copied { IsTrue result → WritesPrefix dst.old dst.new (length src.now) src.now }
@@ -176,10 +177,10 @@ fn copy_few_ascii(src: &[u8], dst: &mut [u8]) -> bool
     true
 }
 
-/// Copies at most 64 bytes if they are ASCII. Returns whether they are. The rest of `dst` is unchanged.
+/// Copies at most 128 bytes if they are ASCII. Returns whether they are. The rest of `dst` is unchanged.
 #[inline(always)]
 pub fn copy_short_ascii(src: &[u8], dst: &mut [u8]) -> bool
-    requires src_length { length src.now ≤ 64 }
+    requires src_length { length src.now ≤ 128 }
     requires dst_length { length src.now ≤ length dst.old }
     ensures ascii { IsTrue result ↔ IsAscii src.now }
     ensures copied { IsTrue result → WritesPrefix dst.old dst.new (length src.now) src.now }
@@ -191,7 +192,8 @@ pub fn copy_short_ascii(src: &[u8], dst: &mut [u8]) -> bool
         QUARTER_STRIDE..HALF_STRIDE => copy_by_two::<QUARTER_STRIDE>(src, dst),
         HALF_STRIDE..STRIDE => copy_by_two::<HALF_STRIDE>(src, dst),
         STRIDE..HALF_BLOCK => copy_by_two::<STRIDE>(src, dst),
-        _ => copy_by_two::<HALF_BLOCK>(src, dst),
+        HALF_BLOCK..BLOCK => copy_by_two::<HALF_BLOCK>(src, dst),
+        _ => copy_by_two::<BLOCK>(src, dst),
     }
 }
 

@@ -12,7 +12,7 @@ use encoding_kernels::simd::scan::{are_bytes_below, run_len_below};
 use encoding_kernels::simd::short::{
     copy_short_ascii, is_short_ascii, pack_short_ascii, unpack_short_ascii,
 };
-use encoding_kernels::simd::width::{ASCII_END, BLOCK, HALF_BLOCK, STRIDE, UNIT_BLOCK};
+use encoding_kernels::simd::width::{ASCII_END, BLOCK, HALF_BLOCK, STRIDE, TWO_BLOCKS, UNIT_BLOCK};
 
 /// Returns the length of the longest ASCII prefix, as `ascii_valid_up_to` does. One mask finds its end in the first
 /// block, without a branch that depends on the text: between other characters most prefixes end there. From 64 bytes on
@@ -54,12 +54,12 @@ fn ascii_valid_up_to_by_two<const N: usize>(bytes: &[u8]) -> usize
     last + run_len_below::<N>(bytes, last, ASCII_END)
 }
 
-/// Returns the length of the longest ASCII prefix, as `ascii_valid_up_to` does. Two vectors test at most 64 bytes at once.
+/// Returns the length of the longest ASCII prefix, as `ascii_valid_up_to` does. Two vectors test at most 128 bytes at once.
 #[inline(always)]
 pub(crate) fn ascii_valid_up_to_by_test(bytes: &[u8]) -> usize
     ensures { IsLongestPrefix IsAscii bytes.now result }
 {
-    if bytes.len() <= BLOCK && is_short_ascii(bytes) {
+    if bytes.len() <= TWO_BLOCKS && is_short_ascii(bytes) {
         return bytes.len();
     }
     ascii_valid_up_to_by_block(bytes)
@@ -97,14 +97,14 @@ fn copy_strides(src: &[u8], dst: &mut [u8]) -> usize
     last + run
 }
 
-/// Copies the longest ASCII prefix, and returns its length. Two vectors copy at most 64 bytes if all are ASCII.
+/// Copies the longest ASCII prefix, and returns its length. Two vectors copy at most 128 bytes if all are ASCII.
 #[inline(always)]
 fn copy_fitting(src: &[u8], dst: &mut [u8]) -> usize
     requires dst_length { length src.now ≤ length dst.old }
     ensures prefix { IsLongestPrefix IsAscii src.now result }
     ensures copied { WritesPrefix dst.old dst.new result (take result src.now) }
 {
-    if src.len() <= BLOCK && copy_short_ascii(src, dst) {
+    if src.len() <= TWO_BLOCKS && copy_short_ascii(src, dst) {
         return src.len();
     }
     if src.len() >= STRIDE {

@@ -11,7 +11,7 @@ use crate::utf_8::table::{UTF8_DATA, law_table};
 use encoding_kernels::scalar::{is_continuation, is_lead_with_continuation, is_second};
 use encoding_kernels::simd::scan::run_len_below;
 use encoding_kernels::simd::short::is_short_ascii;
-use encoding_kernels::simd::width::{ASCII_END, BLOCK, STRIDE};
+use encoding_kernels::simd::width::{ASCII_END, BLOCK, STRIDE, TWO_BLOCKS};
 use encoding_kernels::utf8::validate::{well_formed_blocks, well_formed_short};
 
 /// Returns whether three bytes are one character, for a first byte that starts no character of one, two or four.
@@ -222,7 +222,7 @@ fn valid_after_ascii(src: &[u8], ascii: usize) -> usize
 }
 
 /// Returns the length of the longest well-formed prefix of more than 64 bytes. Between malformed sequences this is often
-/// some ASCII, which one mask shows.
+/// some ASCII, which one mask shows. One more vector shows that at most 128 bytes are all ASCII.
 #[inline(always)]
 fn valid_up_to_by_block(src: &[u8]) -> usize
     requires { 64 < length src.now }
@@ -230,6 +230,9 @@ fn valid_up_to_by_block(src: &[u8]) -> usize
 {
     let ascii = run_len_below::<BLOCK>(src, 0, ASCII_END);
     if ascii == BLOCK {
+        if src.len() <= TWO_BLOCKS && is_short_ascii(src) {
+            return src.len();
+        }
         return long_valid_up_to(src);
     }
     if begins_no_character(&src[ascii..]) {
