@@ -41,7 +41,7 @@ in_scripts u l h e = elim (cases_lt u 0x600) [
 
 in_forms : (u : ℕ) → 0xFB1D ≤ u → u ≤ 0xFDFF → groups (u / 256) (u % 256) ≡ 0 → ⊥
 in_forms u l h e = elim (cases_lt u 0xFC00) [
-  | inl p ↦ row 0xFB 0 0x100 refl u (omega arith) (omega arith) (omega arith) e
+  | inl p ↦ row 0xFB 0x1D 0xE3 refl u (omega arith) (omega arith) (omega arith) e
   | inr p ↦ elim (cases_lt u 0xFD00) [
     | inl q ↦ row 0xFC 0 0x100 refl u (omega arith) (omega arith) (omega arith) e
     | inr q ↦ row 0xFD 0 0x100 refl u (omega arith) (omega arith) (omega arith) e

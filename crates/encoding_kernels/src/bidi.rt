@@ -195,8 +195,8 @@ fn skip_clear_unit_blocks(units: &[u16], from: usize, end: usize) -> usize
     at
 }
 
-/// Skips blocks of code units from `from` on that aren't right-to-left, and returns the index that it reaches. Out of
-/// line, since most short texts have only low units.
+/// Skips blocks of code units from `from` on that aren't right-to-left, and returns the index that it reaches, which may be
+/// the end of a block that the look-ups don't rule out. Out of line, since most short texts have only low units.
 ///
 /// Where low units are rare, they are tested for less often.
 #[inline(never)]
@@ -225,7 +225,7 @@ pub fn skip_clear_units(units: &[u16], from: usize) -> usize
         };
         at = next;
     }
-    // what the look-ups don't rule out ends with the block: the ranges may rule it out
+    // no farther than a block: the ranges rule out some units that the look-ups don't, and the text goes on after them
     let end = at + HALF_UNIT_BLOCK.min(units.len() - at);
     reach::<UNIT_STRIDE, UNIT_STRIDE, _>(&ClearUnits { units }, at, end)
 }

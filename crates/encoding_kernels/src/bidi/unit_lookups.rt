@@ -16,35 +16,36 @@ const HEBREW: u8 = 1;
 /// 0600 to 08FF.
 const ARABIC: u8 = 1 << 1;
 
-/// 2007, 200F, 2067 and 206F. Of these, 200F and 2067 are right-to-left marks.
-const MARKS: u8 = 1 << 2;
+/// 200F.
+const MARK: u8 = 1 << 2;
 
 /// 202B and 202E.
 const EMBEDDINGS: u8 = 1 << 3;
 
-/// D802 and D803, the high surrogates of U+10800 to U+10FFF.
-const HIGH_10800: u8 = 1 << 4;
+/// 2067.
+const ISOLATE: u8 = 1 << 4;
 
-/// D83A and D83B, the high surrogates of U+1E800 to U+1EFFF.
-const HIGH_1E800: u8 = 1 << 5;
+/// D802, D803, D83A and D83B, the high surrogates of U+10800 to U+10FFF and of U+1E800 to U+1EFFF, and also D80A, D80B, D832 and
+/// D833.
+const HIGH_SURROGATES: u8 = 1 << 5;
 
-/// FB00 to FDFF.
-const FORMS_A: u8 = 1 << 6;
+/// FB10 to FBFF, FC10 to FCFF, FD10 to FDFF, and FE10 to FEFF.
+const FORMS: u8 = 1 << 6;
 
-/// FE70 to FEFF.
-const FORMS_B: u8 = 1 << 7;
+/// FC00 to FC0F, and FD00 to FD0F.
+const FIRST_FORMS: u8 = 1 << 7;
 
-/// The groups of which each third nibble is possible.
-const ANY_THIRD: u8 = ARABIC | FORMS_A;
+/// The groups of which each third nibble but 0 is possible.
+const ANY_THIRD: u8 = ARABIC | FORMS;
 
 /// The groups of which each fourth nibble is possible.
-const ANY_FOURTH: u8 = HEBREW | ARABIC | FORMS_A | FORMS_B;
+const ANY_FOURTH: u8 = HEBREW | ARABIC | FORMS | FIRST_FORMS;
 
 /// The groups that the first nibble leaves possible.
 const FIRST: [u8; 32] = twice![
     HEBREW | ARABIC,
     0,
-    MARKS | EMBEDDINGS,
+    MARK | EMBEDDINGS | ISOLATE,
     0,
     0,
     0,
@@ -55,14 +56,14 @@ const FIRST: [u8; 32] = twice![
     0,
     0,
     0,
-    HIGH_10800 | HIGH_1E800,
+    HIGH_SURROGATES,
     0,
-    FORMS_A | FORMS_B,
+    FORMS | FIRST_FORMS,
 ];
 
 /// The groups that the second nibble leaves possible.
 const SECOND: [u8; 32] = twice![
-    MARKS | EMBEDDINGS,
+    MARK | EMBEDDINGS | ISOLATE,
     0,
     0,
     0,
@@ -70,54 +71,54 @@ const SECOND: [u8; 32] = twice![
     HEBREW,
     ARABIC,
     ARABIC,
-    ARABIC | HIGH_10800 | HIGH_1E800,
+    ARABIC | HIGH_SURROGATES,
     0,
     0,
-    FORMS_A,
-    FORMS_A,
-    FORMS_A,
-    FORMS_B,
+    FORMS,
+    FORMS | FIRST_FORMS,
+    FORMS | FIRST_FORMS,
+    FORMS,
     0,
 ];
 
 /// The groups that the third nibble leaves possible.
 const THIRD: [u8; 32] = twice![
-    ANY_THIRD | MARKS | HIGH_10800,
+    ARABIC | MARK | HIGH_SURROGATES | FIRST_FORMS,
     ANY_THIRD,
     ANY_THIRD | EMBEDDINGS,
-    ANY_THIRD | HIGH_1E800,
+    ANY_THIRD | HIGH_SURROGATES,
     ANY_THIRD,
     ANY_THIRD,
-    ANY_THIRD | MARKS,
-    ANY_THIRD | FORMS_B,
-    ANY_THIRD | FORMS_B,
-    ANY_THIRD | HEBREW | FORMS_B,
-    ANY_THIRD | HEBREW | FORMS_B,
-    ANY_THIRD | HEBREW | FORMS_B,
-    ANY_THIRD | HEBREW | FORMS_B,
-    ANY_THIRD | HEBREW | FORMS_B,
-    ANY_THIRD | HEBREW | FORMS_B,
-    ANY_THIRD | HEBREW | FORMS_B,
+    ANY_THIRD | ISOLATE,
+    ANY_THIRD,
+    ANY_THIRD,
+    ANY_THIRD | HEBREW,
+    ANY_THIRD | HEBREW,
+    ANY_THIRD | HEBREW,
+    ANY_THIRD | HEBREW,
+    ANY_THIRD | HEBREW,
+    ANY_THIRD | HEBREW,
+    ANY_THIRD | HEBREW,
 ];
 
 /// The groups that the fourth nibble leaves possible.
 const FOURTH: [u8; 32] = twice![
     ANY_FOURTH,
     ANY_FOURTH,
-    ANY_FOURTH | HIGH_10800,
-    ANY_FOURTH | HIGH_10800,
+    ANY_FOURTH | HIGH_SURROGATES,
+    ANY_FOURTH | HIGH_SURROGATES,
     ANY_FOURTH,
     ANY_FOURTH,
     ANY_FOURTH,
-    ANY_FOURTH | MARKS,
+    ANY_FOURTH | ISOLATE,
     ANY_FOURTH,
     ANY_FOURTH,
-    ANY_FOURTH | HIGH_1E800,
-    ANY_FOURTH | EMBEDDINGS | HIGH_1E800,
+    ANY_FOURTH | HIGH_SURROGATES,
+    ANY_FOURTH | EMBEDDINGS | HIGH_SURROGATES,
     ANY_FOURTH,
     ANY_FOURTH,
     ANY_FOURTH | EMBEDDINGS,
-    ANY_FOURTH | MARKS,
+    ANY_FOURTH | MARK,
 ];
 
 /// Returns the groups of 32 code units by their upper and lower bytes. A lane is zero only if the code unit isn't
@@ -149,8 +150,8 @@ fn bytes_of_32(units: &[u16], at: usize) -> (u8x32, u8x32)
     (upper.cast::<u8>(), lower.cast::<u8>())
 }
 
-/// Returns whether none of the 32 code units from `at` on is right-to-left. May return false if there is one of 2007, 206F,
-/// FB00 to FB1C, or FEFF.
+/// Returns whether none of the 32 code units from `at` on is right-to-left. May return false if there is one of D80A, D80B, D832,
+/// D833, FB10 to FB1C, FE10 to FE6F, or FEFF.
 #[inline(always)]
 pub(super) fn are_32_clear(units: &[u16], at: usize) -> bool
     requires { at + 32 ≤ length units.now }

@@ -222,7 +222,7 @@ fn valid_after_ascii(src: &[u8], ascii: usize) -> usize
 }
 
 /// Returns the length of the longest well-formed prefix of more than 64 bytes. Between malformed sequences this is often
-/// some ASCII, which one mask shows. One more vector shows that at most 128 bytes are all ASCII.
+/// some ASCII, which one mask shows. Two vectors show whether at most 128 bytes are all ASCII.
 #[inline(always)]
 fn valid_up_to_by_block(src: &[u8]) -> usize
     requires { 64 < length src.now }
