@@ -271,7 +271,8 @@ pub(super) fn convert_run<T: Block>(
     let mut read = 0;
     let mut written = 0;
     let mut spilled = due;
-    while read < most && src.len() - read >= STRIDE + SPILL {
+    let end = most.min(src.len().saturating_sub(STRIDE + SPILL - 1));
+    while read < end {
         let units = u16x16::from_slice(&src[read..]);
         let (bytes, spill) = block.convert(units, dst, written);
         if bytes == 0 {
