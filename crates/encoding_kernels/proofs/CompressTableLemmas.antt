@@ -3,8 +3,8 @@ use Rattle.std.proofs.Common.{◌≡◌, ℕ, zero, suc, ◌+◌, ◌*◌, ◌^�
 use Rattle.std.proofs.lemmas.Bool.{and_parts, cases_lt, ltb-true, false≢true}
 use Rattle.std.specs.Simd.Lanes.{mask_l, number_l, digits_l}
 use lib.Dec.{ltb}
-use Rattle.encoding_kernels.specs.KeptBytes.{kept_places, last_places}
-use Rattle.encoding_kernels.specs.declared.simd.compress.TheConstants.{PLACES, LAST_BYTES_TABLE}
+use Rattle.encoding_kernels.specs.KeptBytes.{kept_places, unit_places}
+use Rattle.encoding_kernels.specs.declared.simd.compress.TheConstants.{PLACES, UNIT_PLACES}
 
 -- the sixteen indices of a mask
 abbrev pub row : List ℕ → ℕ → List ℕ
@@ -67,8 +67,8 @@ pub record IsTable (table : List ℕ) (kept : List Bool → List ℕ) : Type 0 w
 pub kept_table : IsTable PLACES (kept_places 0)
 kept_table = record { keeps = refl; small = refl }
 
-pub last_table : IsTable LAST_BYTES_TABLE (last_places 0)
-last_table = record { keeps = refl; small = refl }
+pub unit_table : IsTable UNIT_PLACES (unit_places 0)
+unit_table = record { keeps = refl; small = refl }
 
 -- ---- four words of a table
 module _ (table : List ℕ) (kept : List Bool → List ℕ) (is : IsTable table kept) (mask x y z w : ℕ)

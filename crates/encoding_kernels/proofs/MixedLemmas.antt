@@ -4,21 +4,21 @@ use Rattle.std.specs.Prelude.{nat_lt}
 use Rattle.std.proofs.lemmas.Bool.{cases_lt, eqb-false, ltb-true, lt-ltb}
 use Rattle.std.proofs.lemmas.Bool.Decides.{nat_tests}
 use Rattle.std.proofs.lemmas.List.{take-map, get_or_append_left, get_or-append_right, get_or_past}
-use Rattle.std.proofs.lemmas.Nat.{and_mask, ones-le, ones_cat}
+use Rattle.std.proofs.lemmas.Nat.{and_block, and_le_r, and_mask, ones-le, ones_cat}
 use Rattle.std.proofs.lemmas.Nat.Bits.{and_high_mask}
-use Rattle.std.proofs.lemmas.Simd.{ones-mask_l_cons, get_or-replicate, Each1-get_or, mask_l-lt}
+use Rattle.std.proofs.lemmas.Simd.{ones-mask_l_cons, get_or-replicate, Each1-from_get_or, Each1-get_or, mask_l-lt}
 use Rattle.std.proofs.lemmas.Str.{encode_ascii, encodes-append, encodes-IsAscii}
 use Rattle.std.proofs.str.Laws.{two, three}
 use Rattle.std.specs.Int.RustNames.{count_ones}
 use Rattle.std.specs.List.{range_with_len}
 use lib.Count.{count_trailing_zeros}
-use Rattle.std.specs.Simd.Lanes.{mask_l, number_l, digits_l, pick_l, zip2, sel_l, top, Each1}
+use Rattle.std.specs.Simd.Lanes.{mask_l, pick_l, zip2, sel_l, top, Each1}
 use Rattle.encoding_kernels.specs.Scans.{HasLanes}
-use Rattle.encoding_kernels.specs.KeptBytes.{last_places, length_classes, EncodesLast}
+use Rattle.encoding_kernels.specs.KeptBytes.{unit_places, length_classes, EncodesBy}
 use Rattle.encoding_kernels.proofs.CompressLemmas.{mask_append}
-use Rattle.encoding_kernels.proofs.VectorLemmas.{HasLanes-itself, HasLanes-numbers, HasLanes_same, HasLanes-splat, HasLanes-zip2, compared, firsts_are, mask_of, same_below, bytes_of_sixteen, sixteen_lanes}
-use Rattle.encoding_kernels.proofs.MaskLemmas.{HasTests, tests_of, chosen, chosen_by, none_passes, run_is_first}
-use Rattle.encoding_kernels.proofs.UniformLemmas.{mask_from, pick, ones-none}
+use Rattle.encoding_kernels.proofs.VectorLemmas.{HasLanes-itself, HasLanes-numbers, HasLanes_same, HasLanes-splat, HasLanes-zip2, compared, firsts_are, mask_of, same_below, bytes_of_sixteen, sixteen_lanes, wide_sixteen, wide_sixteen_l}
+use Rattle.encoding_kernels.proofs.MaskLemmas.{HasTests, tests_of, chosen_by, none_passes, run_is_first}
+use Rattle.encoding_kernels.proofs.UniformLemmas.{mask_from, ones-none}
 use Rattle.encoding_kernels.proofs.CodeUnitLemmas.{picked_lanes}
 
 -- ---- the test
@@ -117,14 +117,14 @@ module _ (us : List ℕ) (mask : ℕ) (long : length us ≡ 16) (is : mask ≡ m
       )
 
 -- ---- how many indices are kept
-long_step : (at : ℕ) (a s : Bool) (bs : List Bool) (n : ℕ) → (a ≡ true → s ≡ true) → length (last_places (at + 4) bs) + count_ones (mask_l bs) ≡ n
-    → length (last_places at (a ∷ s ∷ bs)) + count_ones (mask_l (a ∷ s ∷ bs)) ≡ 3 + n
+long_step : (at : ℕ) (a s : Bool) (bs : List Bool) (n : ℕ) → (a ≡ true → s ≡ true) → length (unit_places (at + 4) bs) + count_ones (mask_l bs) ≡ n
+    → length (unit_places at (a ∷ s ∷ bs)) + count_ones (mask_l (a ∷ s ∷ bs)) ≡ 3 + n
 long_step at a s bs n v e = grind (arith, nat_tests, v, e, ones-mask_l_cons a (s ∷ bs), ones-mask_l_cons s bs)
 
-last_long : (at : ℕ) (us : List ℕ) → length (last_places at (length_classes us)) + count_ones (mask_l (length_classes us)) ≡ 3 * length us
-last_long at [] = omega (arith, ones-none)
-last_long at (u ∷ us) =
-    let step = long_step at (nat_lt u 0x80) (nat_lt u 0x800) (length_classes us) (3 * length us) (ascii_short u) (last_long (at + 4) us) in
+places_long : (at : ℕ) (us : List ℕ) → length (unit_places at (length_classes us)) + count_ones (mask_l (length_classes us)) ≡ 3 * length us
+places_long at [] = omega (arith, ones-none)
+places_long at (u ∷ us) =
+    let step = long_step at (nat_lt u 0x80) (nat_lt u 0x800) (length_classes us) (3 * length us) (ascii_short u) (places_long (at + 4) us) in
     let count : 3 + 3 * length us ≡ 3 * suc (length us) = omega arith in
     step ∙ count
 
@@ -164,36 +164,37 @@ module _ (mask : ℕ) (small : mask < 0x100000000) where
   )
 
 -- ---- the bytes at these indices
-last_step : (get : ℕ → ℕ) (at : ℕ) (a s : Bool) (ks spelled rest : List ℕ)
-    → cond a (get (at + 3) ∷ []) (cond s (get (at + 2) ∷ get (at + 3) ∷ []) (get (at + 1) ∷ get (at + 2) ∷ get (at + 3) ∷ [])) ≡ spelled → map get ks ≡ rest
-    → map get (cond a ((at + 3) ∷ []) (cond s ((at + 2) ∷ (at + 3) ∷ []) ((at + 1) ∷ (at + 2) ∷ (at + 3) ∷ [])) ++ ks) ≡ spelled ++ rest
-last_step get at true s ks spelled rest e r = ap (λ xs. get (at + 3) ∷ xs) r ∙ ap (λ xs. xs ++ rest) e
-last_step get at false true ks spelled rest e r = ap (λ xs. get (at + 2) ∷ get (at + 3) ∷ xs) r ∙ ap (λ xs. xs ++ rest) e
-last_step get at false false ks spelled rest e r = ap (λ xs. get (at + 1) ∷ get (at + 2) ∷ get (at + 3) ∷ xs) r ∙ ap (λ xs. xs ++ rest) e
+unit_step : (get : ℕ → ℕ) (at : ℕ) (a s : Bool) (ks spelled rest : List ℕ)
+    → cond a (get at ∷ []) (cond s (get (at + 3) ∷ get (at + 1) ∷ []) (get (at + 2) ∷ get (at + 3) ∷ get (at + 1) ∷ [])) ≡ spelled → map get ks ≡ rest
+    → map get (cond a (at ∷ []) (cond s ((at + 3) ∷ (at + 1) ∷ []) ((at + 2) ∷ (at + 3) ∷ (at + 1) ∷ [])) ++ ks) ≡ spelled ++ rest
+unit_step get at true s ks spelled rest e r = ap (λ xs. get at ∷ xs) r ∙ ap (λ xs. xs ++ rest) e
+unit_step get at false true ks spelled rest e r = ap (λ xs. get (at + 3) ∷ get (at + 1) ∷ xs) r ∙ ap (λ xs. xs ++ rest) e
+unit_step get at false false ks spelled rest e r = ap (λ xs. get (at + 2) ∷ get (at + 3) ∷ get (at + 1) ∷ xs) r ∙ ap (λ xs. xs ++ rest) e
 
-last_spell : (get : ℕ → ℕ) (us : List ℕ) (at : ℕ)
-    → ((k : ℕ) → k < length us → EncodesLast (get_or us k 0) (get (at + 4 * k + 1)) (get (at + 4 * k + 2)) (get (at + 4 * k + 3)))
-    → map get (last_places at (length_classes us)) ≡ encode_utf8_all us
-last_spell get [] at h = refl
-last_spell get (u ∷ us) at h =
+-- the UTF-8 of u is made of the four bytes at an index
+abbrev pub EncodesAt : (ℕ → ℕ) → ℕ → ℕ → Type 0
+EncodesAt get u at = EncodesBy u (get at) (get (at + 1)) (get (at + 2)) (get (at + 3))
+
+units_spell : (get : ℕ → ℕ) (us : List ℕ) (at : ℕ) → ((k : ℕ) → k < length us → EncodesAt get (get_or us k 0) (at + 4 * k))
+    → map get (unit_places at (length_classes us)) ≡ encode_utf8_all us
+units_spell get [] at h = refl
+units_spell get (u ∷ us) at h =
     let first : at + 4 * 0 ≡ at = omega arith in
-    let here : EncodesLast u (get (at + 1)) (get (at + 2)) (get (at + 3)) =
-    subst (λ k. EncodesLast u (get (k + 1)) (get (k + 2)) (get (k + 3))) first (h 0 (omega arith)) in
-    let more : (k : ℕ) → k < length us → EncodesLast (get_or us k 0) (get (at + 4 + 4 * k + 1)) (get (at + 4 + 4 * k + 2)) (get (at + 4 + 4 * k + 3)) = λ k l.
+    let here : EncodesAt get u at = subst (EncodesAt get u) first (h 0 (omega arith)) in
+    let more : (k : ℕ) → k < length us → EncodesAt get (get_or us k 0) (at + 4 + 4 * k) = λ k l.
     let e : at + 4 * suc k ≡ at + 4 + 4 * k = omega arith in
-    subst (λ j. EncodesLast (get_or us k 0) (get (j + 1)) (get (j + 2)) (get (j + 3))) e (h (suc k) (omega arith)) in
-    last_step get at (nat_lt u 0x80) (nat_lt u 0x800) _ _ _ here (last_spell get us (at + 4) more)
+    subst (EncodesAt get (get_or us k 0)) e (h (suc k) (omega arith)) in
+    unit_step get at (nat_lt u 0x80) (nat_lt u 0x800) _ _ _ here (units_spell get us (at + 4) more)
 
 pub spelled_four : (us places : List ℕ) (get : ℕ → ℕ) (mask : ℕ) → length us ≡ 4 → mask ≡ mask_l (length_classes us)
-    → take (length (last_places 0 (length_classes us))) places ≡ last_places 0 (length_classes us)
-    → ((k : ℕ) → k < 4 → EncodesLast (get_or us k 0) (get (4 * k + 1)) (get (4 * k + 2)) (get (4 * k + 3)))
+    → take (length (unit_places 0 (length_classes us))) places ≡ unit_places 0 (length_classes us)
+    → ((k : ℕ) → k < 4 → EncodesAt get (get_or us k 0) (4 * k))
     → take (12 - count_ones mask) (map get places) ≡ encode_utf8_all us
 spelled_four us places get mask l m kept spells =
-    let places_of = last_places 0 (length_classes us) in
-    let count : 12 - count_ones mask ≡ length places_of = omega (arith, last_long 0 us, ap count_ones m) in
+    let places_of = unit_places 0 (length_classes us) in
+    let count : 12 - count_ones mask ≡ length places_of = omega (arith, places_long 0 us, ap count_ones m) in
     ap (λ n. take n (map get places)) count ∙ take-map get (length places_of) places ∙ ap (map get) kept
-    ∙ last_spell get us 0 (λ k i. let e : 4 * k ≡ 0 + 4 * k = omega arith in
-    subst (λ j. EncodesLast (get_or us k 0) (get (j + 1)) (get (j + 2)) (get (j + 3))) e (spells k (omega arith)))
+    ∙ units_spell get us 0 (λ k i. let e : 4 * k ≡ 0 + 4 * k = omega arith in subst (EncodesAt get (get_or us k 0)) e (spells k (omega arith)))
 
 -- ---- four vectors of four
 pub four_parts : (us a b d e : List ℕ) → a ≡ encode_utf8_all (take 4 (take 8 us)) → b ≡ encode_utf8_all (drop 4 (take 8 us))
@@ -205,13 +206,35 @@ four_parts us a b d e p q r s = (λ i. (p i ++ q i) ++ (r i ++ s i)) ∙ (λ i. 
     joined : (xs : List ℕ) → encode_utf8_all (take 4 xs) ++ encode_utf8_all (drop 4 xs) ≡ encode_utf8_all xs
     joined xs = sym (encodes-append (take 4 xs) (drop 4 xs)) ∙ ap encode_utf8_all (take-append-drop 4 xs)
 
+-- ---- saturating subtraction from a splat
+abbrev wrapping_less : ℕ → ℕ → ℕ
+wrapping_less a b = (a + (2 ^ 16 - b)) % 2 ^ 16
+
+abbrev pub less_words : ℕ → List ℕ → List ℕ
+less_words bound us = zip2 wrapping_less (sel_l (map (top 15) (zip2 (compared w16 ltb) (replicate 16 bound) us)) us (replicate 16 bound)) us
+
+wrapping_less_is : (a b : ℕ) → a < 65536 → b < 65536 → wrapping_less (cond (ltb a b) b a) b ≡ a - b
+wrapping_less_is a b l k = grind (arith, nat_tests)
+
+less_lanes : (bound : ℕ) (us : List ℕ) → bound < 65536 → length us ≡ 16 → Each1 (Fits w16) us → HasLanes 16 (less_words bound us) (λ k. bound - get_or us k 0)
+less_lanes bound us small long fit =
+    let units = HasLanes-itself 16 us long in
+    let bounds = HasLanes-splat 16 bound in
+    HasLanes_same (HasLanes-zip2 wrapping_less (chosen_by (tests_of w16 ltb bounds units) units bounds) units) (λ k l.
+    wrapping_less_is bound (get_or us k 0) small (Each1-get_or (Fits w16) us k 0 (omega (arith, long)) fit).fits)
+
 -- ---- the vector of classes
 abbrev pub class_word : ℕ → ℕ
-class_word u = cond (ltb u 0x80) 0xFFFF (cond (ltb u 0x800) 0xFF00 0)
+class_word u = ((0x807F - u) / 2 ^ 8 + bit_and (0x87FF - u) 0xFF00) % 2 ^ 16
 
-class_bytes : (a s : Bool) → (a ≡ true → s ≡ true)
-    → (leb 0x80 (cond a 0xFFFF (cond s 0xFF00 0) % 256) ≡ a) × (leb 0x80 (cond a 0xFFFF (cond s 0xFF00 0) / 256) ≡ s)
-class_bytes a s v = (grind (arith, nat_tests, v), grind (arith, nat_tests, v))
+abbrev pub class_words : List ℕ → List ℕ
+class_words us = zip2 (λ a b. (a + b) % 2 ^ 16) (zip2 (λ a b. a / 2 ^ b) (less_words 0x807F us) (replicate 16 8))
+    (zip2 bit_and (less_words 0x87FF us) (replicate 16 0xFF00))
+
+class_bytes : (u : ℕ) → (leb 0x80 (class_word u % 256) ≡ ltb u 0x80) × (leb 0x80 (class_word u / 256) ≡ ltb u 0x800)
+class_bytes u =
+    let high : bit_and (0x87FF - u) 0xFF00 ≡ (0x87FF - u) / 256 * 256 = and_high_mask 16 8 (omega arith) (0x87FF - u) (omega arith) in
+    (grind (arith, nat_tests, high), grind (arith, nat_tests, high))
 
 class_list : (us bs : List ℕ) → length bs ≡ 2 * length us
     → ((k : ℕ) → k < length us
@@ -230,82 +253,124 @@ class_list (u ∷ us) (a ∷ b ∷ bs) e h =
     (ap (λ j. leb 0x80 (get_or (a ∷ b ∷ bs) j 0)) even ∙ next.0, ap (λ j. leb 0x80 (get_or (a ∷ b ∷ bs) j 0)) odd ∙ next.1)) in
     λ i. first.0 i ∷ first.1 i ∷ rest i
 
-class_small : (u : ℕ) → class_word u < 65536
-class_small u = pick (ltb u 0x80) 0xFFFF _ (omega arith) (pick (ltb u 0x800) 0xFF00 0 (omega arith) (omega arith))
+module _ (us : List ℕ) (long : length us ≡ 16) (fit : Each1 (Fits w16) us) where
+  class_lanes : HasLanes 16 (class_words us) (λ k. class_word (get_or us k 0))
+  class_lanes =
+      HasLanes-zip2 (λ a b. (a + b) % 2 ^ 16)
+      (HasLanes-zip2 (λ a b. a / 2 ^ b) (less_lanes 0x807F us (omega arith) long fit) (HasLanes-splat 16 8))
+      (HasLanes-zip2 bit_and (less_lanes 0x87FF us (omega arith) long fit) (HasLanes-splat 16 0xFF00))
 
-pub classes_are : (us words : List ℕ) → length us ≡ 16 → HasLanes 16 words (λ k. class_word (get_or us k 0))
-    → map (leb 0x80) (digits_l 256 32 (number_l 65536 words)) ≡ length_classes us
-classes_are us words long lanes =
-    let double : length (bytes_of_sixteen words) ≡ 2 * length us = omega (arith, long) in
-    class_list us (bytes_of_sixteen words) double (λ k l.
-    let u = get_or us k 0 in
-    let bytes = sixteen_lanes lanes (λ i m. class_small (get_or us i 0)) k (omega arith) in
-    let is = class_bytes (ltb u 0x80) (ltb u 0x800) (ascii_short u) in
-    (ap (leb 0x80) bytes.0 ∙ is.0, ap (leb 0x80) bytes.1 ∙ is.1))
+  classes_are : map (leb 0x80) (bytes_of_sixteen (class_words us)) ≡ length_classes us
+  classes_are =
+      let double : length (bytes_of_sixteen (class_words us)) ≡ 2 * length us = omega (arith, long) in
+      class_list us (bytes_of_sixteen (class_words us)) double (λ k l.
+      let bytes = sixteen_lanes class_lanes (λ i m. omega arith) k (omega arith) in
+      let is = class_bytes (get_or us k 0) in
+      (ap (leb 0x80) bytes.0 ∙ is.0, ap (leb 0x80) bytes.1 ∙ is.1))
 
--- the mask of its bytes
-pub mask_is_classes : (us words : List ℕ) → length us ≡ 16 → HasLanes 16 words (λ k. class_word (get_or us k 0))
-    → mask_of 7 (zip2 (compared w8 leb) (replicate 32 0x80) (digits_l 256 32 (number_l 65536 words))) ≡ mask_l (length_classes us)
-mask_is_classes us words long lanes = mask_from w8 32 0x80 (digits_l 256 32 (number_l 65536 words)) refl (omega arith)
-    ∙ ap mask_l (classes_are us words long lanes)
+  -- the mask of its bytes
+  pub mask_is_classes : mask_of 7 (zip2 (compared w8 leb) (replicate 32 0x80) (bytes_of_sixteen (class_words us))) ≡ mask_l (length_classes us)
+  mask_is_classes = mask_from w8 32 0x80 (bytes_of_sixteen (class_words us)) refl (omega arith) ∙ ap mask_l classes_are
 
 -- ---- two words of a code unit
-abbrev pub lead_word : ℕ → ℕ
-lead_word u = (u / 2 ^ 12 * 2 ^ 8 % 2 ^ 16 + 0xE000) % 2 ^ 16
+-- its lower byte, twice
+abbrev pub lower_word : ℕ → ℕ
+lower_word u = u % 256 + 256 * (u % 256)
 
-abbrev pub rest_word : ℕ → ℕ
-rest_word u = cond (ltb u 0x80) (u * 2 ^ 8 % 2 ^ 16)
-    (((bit_and (u / 2 ^ 6) 0x3F + bit_and u 0x3F * 2 ^ 8 % 2 ^ 16) % 2 ^ 16 + cond (ltb u 0x800) 0x80C0 0x8080) % 2 ^ 16)
+abbrev pub last_word : ℕ → ℕ
+last_word u = (bit_and (lower_word u) 0x3F7F + 0x8000) % 2 ^ 16
+
+abbrev pub lead_word : ℕ → ℕ
+lead_word u = ((u / 2 ^ 12 + bit_and (u * 2 ^ 2 % 2 ^ 16) 0x3F00) % 2 ^ 16 + (bit_and ((0x87FF - u) / 2 ^ 1) 0x4000 + 0x80E0) % 2 ^ 16) % 2 ^ 16
+
+-- the index of the lower byte of each of sixteen code units, twice
+abbrev pub lower_indices : List ℕ
+lower_indices = 0 ∷ 0 ∷ 2 ∷ 2 ∷ 4 ∷ 4 ∷ 6 ∷ 6 ∷ 8 ∷ 8 ∷ 10 ∷ 10 ∷ 12 ∷ 12 ∷ 14 ∷ 14 ∷ 16 ∷ 16 ∷ 18 ∷ 18 ∷ 20 ∷ 20 ∷ 22 ∷ 22 ∷ 24 ∷ 24 ∷ 26 ∷ 26 ∷ 28 ∷ 28 ∷ 30 ∷ 30 ∷ []
+
+abbrev pub lower_bytes : List ℕ → List ℕ
+lower_bytes us = pick_l 0 (bytes_of_sixteen us ++ bytes_of_sixteen us) lower_indices
+
+abbrev pub last_words : List ℕ → List ℕ
+last_words us = zip2 (λ a b. (a + b) % 2 ^ 16) (zip2 bit_and (wide_sixteen_l (lower_bytes us)) (replicate 16 0x3F7F)) (replicate 16 0x8000)
 
 abbrev pub lead_words : List ℕ → List ℕ
-lead_words us = zip2 (λ a b. (a + b) % 2 ^ 16) (zip2 (λ a b. a * 2 ^ b % 2 ^ 16) (zip2 (λ a b. a / 2 ^ b) us (replicate 16 12)) (replicate 16 8))
-    (replicate 16 0xE000)
+lead_words us = zip2 (λ a b. (a + b) % 2 ^ 16)
+    (zip2 (λ a b. (a + b) % 2 ^ 16) (zip2 (λ a b. a / 2 ^ b) us (replicate 16 12))
+    (zip2 bit_and (zip2 (λ a b. a * 2 ^ b % 2 ^ 16) us (replicate 16 2)) (replicate 16 0x3F00)))
+    (zip2 (λ a b. (a + b) % 2 ^ 16)
+    (zip2 bit_and (zip2 (λ a b. a / 2 ^ b) (less_words 0x87FF us) (replicate 16 1)) (replicate 16 0x4000)) (replicate 16 0x80E0))
 
-abbrev pub rest_words : List ℕ → List ℕ
-rest_words us = sel_l (map (top 15) (zip2 (compared w16 ltb) us (replicate 16 0x80))) (zip2 (λ a b. a * 2 ^ b % 2 ^ 16) us (replicate 16 8))
-    (zip2 (λ a b. (a + b) % 2 ^ 16) (zip2 (λ a b. (a + b) % 2 ^ 16) (zip2 bit_and (zip2 (λ a b. a / 2 ^ b) us (replicate 16 6)) (replicate 16 0x3F))
-    (zip2 (λ a b. a * 2 ^ b % 2 ^ 16) (zip2 bit_and us (replicate 16 0x3F)) (replicate 16 8)))
-    (sel_l (map (top 15) (zip2 (compared w16 ltb) us (replicate 16 0x800))) (replicate 16 0x80C0) (replicate 16 0x8080)))
+module _ (us : List ℕ) (long : length us ≡ 16) (fit : Each1 (Fits w16) us) where
+  lower_byte : (k : ℕ) → k < 32 → get_or (lower_bytes us) k 0 ≡ get_or us (k / 2) 0 % 256
+  lower_byte k l =
+      let bytes = bytes_of_sixteen us in
+      let units = sixteen_lanes (HasLanes-itself 16 us long) (λ i m. (Each1-get_or (Fits w16) us i 0 (omega (arith, long)) fit).fits) in
+      (picked_lanes 32 (bytes ++ bytes) lower_indices refl).each k l
+      ∙ ap (λ j. get_or (bytes ++ bytes) j 0) (same_below (λ i. get_or lower_indices i 0) (λ i. 2 * (i / 2)) 0 32 refl k l)
+      ∙ get_or_append_left bytes bytes 0 (2 * (k / 2)) (omega arith) ∙ (units (k / 2) (omega arith)).0
 
-module _ (us : List ℕ) (long : length us ≡ 16) where
+  lower_lanes : HasLanes 16 (wide_sixteen_l (lower_bytes us)) (λ k. lower_word (get_or us k 0))
+  lower_lanes =
+      let small : Each1 (λ x. x < 256) (lower_bytes us) = Each1-from_get_or (λ x. x < 256) (lower_bytes us) 0 (λ k l. omega (arith, lower_byte k l)) in
+      HasLanes_same (wide_sixteen (lower_bytes us) refl small) (λ k l.
+      let even : 2 * k / 2 ≡ k = omega arith in
+      let odd : (2 * k + 1) / 2 ≡ k = omega arith in
+      let first = lower_byte (2 * k) (omega arith) ∙ ap (λ j. get_or us j 0 % 256) even in
+      let second = lower_byte (2 * k + 1) (omega arith) ∙ ap (λ j. get_or us j 0 % 256) odd in
+      λ i. first i + 256 * second i)
+
+  pub last_lanes : HasLanes 16 (last_words us) (λ k. last_word (get_or us k 0))
+  last_lanes = HasLanes-zip2 (λ a b. (a + b) % 2 ^ 16) (HasLanes-zip2 bit_and lower_lanes (HasLanes-splat 16 0x3F7F)) (HasLanes-splat 16 0x8000)
+
   pub lead_lanes : HasLanes 16 (lead_words us) (λ k. lead_word (get_or us k 0))
   lead_lanes =
       let units = HasLanes-itself 16 us long in
-      HasLanes-zip2 (λ a b. (a + b) % 2 ^ 16) (HasLanes-zip2 (λ a b. a * 2 ^ b % 2 ^ 16) (HasLanes-zip2 (λ a b. a / 2 ^ b) units (HasLanes-splat 16 12))
-      (HasLanes-splat 16 8)) (HasLanes-splat 16 0xE000)
-
-  pub rest_lanes : HasLanes 16 (rest_words us) (λ k. rest_word (get_or us k 0))
-  rest_lanes =
-      let units = HasLanes-itself 16 us long in
-      let left = λ (a b : ℕ). a * 2 ^ b % 2 ^ 16 in
+      let right = λ (a b : ℕ). a / 2 ^ b in
       let add = λ (a b : ℕ). (a + b) % 2 ^ 16 in
-      let mark = chosen 0x80C0 0x8080 (tests_of w16 ltb units (HasLanes-splat 16 0x800)) in
-      let middle = HasLanes-zip2 bit_and (HasLanes-zip2 (λ a b. a / 2 ^ b) units (HasLanes-splat 16 6)) (HasLanes-splat 16 0x3F) in
-      let several =
-      HasLanes-zip2 add (HasLanes-zip2 add middle (HasLanes-zip2 left (HasLanes-zip2 bit_and units (HasLanes-splat 16 0x3F)) (HasLanes-splat 16 8))) mark in
-      chosen_by (tests_of w16 ltb units (HasLanes-splat 16 0x80)) (HasLanes-zip2 left units (HasLanes-splat 16 8)) several
+      let below = less_lanes 0x87FF us (omega arith) long fit in
+      let middle = HasLanes-zip2 bit_and (HasLanes-zip2 (λ a b. a * 2 ^ b % 2 ^ 16) units (HasLanes-splat 16 2)) (HasLanes-splat 16 0x3F00) in
+      let mark = HasLanes-zip2 add (HasLanes-zip2 bit_and (HasLanes-zip2 right below (HasLanes-splat 16 1)) (HasLanes-splat 16 0x4000)) (HasLanes-splat 16 0x80E0) in
+      HasLanes-zip2 add (HasLanes-zip2 add (HasLanes-zip2 right units (HasLanes-splat 16 12)) middle) mark
 
-pub rest_small : (u : ℕ) → rest_word u < 65536
-rest_small u = pick (ltb u 0x80) _ _ (omega arith) (omega arith)
+-- the bits that the masks keep
+kept_lower : (b : ℕ) → b < 256 → bit_and (b + 256 * b) 0x3F7F ≡ b % 64 * 256 + b % 128
+kept_lower b l =
+    let split : b + 256 * b ≡ b * 2 ^ 8 + b = omega arith in
+    ap (λ x. bit_and x 0x3F7F) split ∙ and_block 8 b 0x3F b 0x7F l (omega arith) ∙ (λ i. and_mask b 6 i * 2 ^ 8 + and_mask b 7 i)
 
-spells_last : (u : ℕ) → u < 2 ^ 16 → EncodesLast u (lead_word u / 0x100) (rest_word u % 0x100) (rest_word u / 0x100)
-spells_last u h =
-    let low : bit_and u 0x3F ≡ u % 2 ^ 6 = and_mask u 6 in
-    let mid : bit_and (u / 2 ^ 6) 0x3F ≡ u / 2 ^ 6 % 2 ^ 6 = and_mask (u / 2 ^ 6) 6 in
-    grind (arith, nat_tests, low, mid, two u, three u, encode_ascii u)
+kept_middle : (x : ℕ) → bit_and x 0x3F00 ≡ x / 256 % 64 * 256
+kept_middle x =
+    let split : x ≡ x / 256 * 2 ^ 8 + x % 256 = omega arith in
+    let none : bit_and (x % 256) 0 ≡ 0 = omega (arith, and_le_r (x % 256) 0) in
+    ap (λ y. bit_and y 0x3F00) split ∙ and_block 8 (x / 256) 0x3F (x % 256) 0 (omega arith) (omega arith) ∙ (λ i. and_mask (x / 256) 6 i * 2 ^ 8 + none i)
+    ∙ omega arith
+
+kept_mark : (x : ℕ) → bit_and x 0x4000 ≡ x / 0x4000 % 2 * 0x4000
+kept_mark x =
+    let split : x ≡ x / 0x4000 * 2 ^ 14 + x % 0x4000 = omega arith in
+    let none : bit_and (x % 0x4000) 0 ≡ 0 = omega (arith, and_le_r (x % 0x4000) 0) in
+    ap (λ y. bit_and y 0x4000) split ∙ and_block 14 (x / 0x4000) 1 (x % 0x4000) 0 (omega arith) (omega arith) ∙ (λ i. and_mask (x / 0x4000) 1 i * 2 ^ 14 + none i)
+    ∙ omega arith
+
+spells_by : (u : ℕ) → u < 2 ^ 16 → EncodesBy u (last_word u % 0x100) (last_word u / 0x100) (lead_word u % 0x100) (lead_word u / 0x100)
+spells_by u h =
+    let low = kept_lower (u % 256) (omega arith) in
+    let middle = kept_middle (u * 2 ^ 2 % 2 ^ 16) in
+    let mark = kept_mark ((0x87FF - u) / 2 ^ 1) in
+    grind (arith, nat_tests, low, middle, mark, two u, three u, encode_ascii u)
 
 -- the length of the UTF-8
-last_count : (a s : Bool) (x y z : ℕ) (spelled : List ℕ) → (a ≡ true → s ≡ true) → cond a (z ∷ []) (cond s (y ∷ z ∷ []) (x ∷ y ∷ z ∷ [])) ≡ spelled
+unit_count : (a s : Bool) (x y z w : ℕ) (spelled : List ℕ) → (a ≡ true → s ≡ true) → cond a (x ∷ []) (cond s (w ∷ y ∷ []) (z ∷ w ∷ y ∷ [])) ≡ spelled
     → length spelled + (cond a 1 0 + cond s 1 0) ≡ 3
-last_count true true x y z spelled v e = omega (arith, ap length e)
-last_count true false x y z spelled v e = grind (arith, nat_tests, v)
-last_count false true x y z spelled v e = omega (arith, ap length e)
-last_count false false x y z spelled v e = omega (arith, ap length e)
+unit_count true true x y z w spelled v e = omega (arith, ap length e)
+unit_count true false x y z w spelled v e = grind (arith, nat_tests, v)
+unit_count false true x y z w spelled v e = omega (arith, ap length e)
+unit_count false false x y z w spelled v e = omega (arith, ap length e)
 
 pub encoded_long : (us : List ℕ) → Each1 (Fits w16) us → length (encode_utf8_all us) + count_ones (mask_l (length_classes us)) ≡ 3 * length us
 encoded_long [] fit = omega (arith, ones-none)
 encoded_long (u ∷ us) fit =
-    let here = last_count (nat_lt u 0x80) (nat_lt u 0x800) _ _ _ (encode_utf8 u) (ascii_short u) (spells_last u (omega (arith, fit.0.fits))) in
+    let here = unit_count (nat_lt u 0x80) (nat_lt u 0x800) _ _ _ _ (encode_utf8 u) (ascii_short u) (spells_by u (omega (arith, fit.0.fits))) in
     omega (
       arith,
       here,
@@ -316,44 +381,49 @@ encoded_long (u ∷ us) fit =
       ones-mask_l_cons (nat_lt u 0x800) (length_classes us),
     )
 
-encode_again : (u : ℕ) {x y z x2 y2 z2 : ℕ} → x ≡ x2 → y ≡ y2 → z ≡ z2 → EncodesLast u x2 y2 z2 → EncodesLast u x y z
-encode_again u p q r s = (λ i. cond (nat_lt u 0x80) (r i ∷ []) (cond (nat_lt u 0x800) (q i ∷ r i ∷ []) (p i ∷ q i ∷ r i ∷ []))) ∙ s
+encode_again : (u : ℕ) {x y z w x2 y2 z2 w2 : ℕ} → x ≡ x2 → y ≡ y2 → z ≡ z2 → w ≡ w2 → EncodesBy u x2 y2 z2 w2 → EncodesBy u x y z w
+encode_again u p q r t s = (λ i. cond (nat_lt u 0x80) (p i ∷ []) (cond (nat_lt u 0x800) (t i ∷ q i ∷ []) (r i ∷ t i ∷ q i ∷ []))) ∙ s
+
+-- the UTF-8 of u is made of the bytes of two words
+abbrev pub EncodesWords : ℕ → ℕ → ℕ → Type 0
+EncodesWords u x y = EncodesBy u (x % 0x100) (x / 0x100) (y % 0x100) (y / 0x100)
 
 pub words_spell : (us : List ℕ) → length us ≡ 16 → Each1 (Fits w16) us → (k : ℕ) → k < 16
-    → EncodesLast (get_or us k 0) (get_or (lead_words us) k 0 / 0x100) (get_or (rest_words us) k 0 % 0x100) (get_or (rest_words us) k 0 / 0x100)
+    → EncodesWords (get_or us k 0) (get_or (last_words us) k 0) (get_or (lead_words us) k 0)
 words_spell us long fit k l =
-    let lead = (lead_lanes us long).each k l in
-    let rest = (rest_lanes us long).each k l in
-    encode_again (get_or us k 0) (ap (λ x. x / 0x100) lead) (ap (λ x. x % 0x100) rest) (ap (λ x. x / 0x100) rest)
-    (spells_last (get_or us k 0) (Each1-get_or (Fits w16) us k 0 (omega (arith, long)) fit).fits)
+    let last = (last_lanes us long fit).each k l in
+    let lead = (lead_lanes us long fit).each k l in
+    encode_again (get_or us k 0) (ap (λ x. x % 0x100) last) (ap (λ x. x / 0x100) last) (ap (λ x. x % 0x100) lead) (ap (λ x. x / 0x100) lead)
+    (spells_by (get_or us k 0) (Each1-get_or (Fits w16) us k 0 (omega (arith, long)) fit).fits)
 
-pub words_small : (us : List ℕ) → length us ≡ 16 → (k : ℕ) → k < 16 → (get_or (lead_words us) k 0 < 0x10000) × (get_or (rest_words us) k 0 < 0x10000)
-words_small us long k l =
+pub words_small : (us : List ℕ) → length us ≡ 16 → Each1 (Fits w16) us → (k : ℕ) → k < 16
+    → (get_or (last_words us) k 0 < 0x10000) × (get_or (lead_words us) k 0 < 0x10000)
+words_small us long fit k l =
+    let last : last_word (get_or us k 0) < 0x10000 = omega arith in
     let lead : lead_word (get_or us k 0) < 0x10000 = omega arith in (
-      subst (λ x. x < 0x10000) (sym ((lead_lanes us long).each k l)) lead,
-      subst (λ x. x < 0x10000) (sym ((rest_lanes us long).each k l))
-          (rest_small (get_or us k 0)),
+      subst (λ x. x < 0x10000) (sym ((last_lanes us long fit).each k l)) last,
+      subst (λ x. x < 0x10000) (sym ((lead_lanes us long fit).each k l)) lead,
     )
 
 -- both words of eight code units, next to each other
-module _ (us lead rest ks : List ℕ) (f : ℕ → ℕ) (half : (k : ℕ) → k < 8 → f k < 16) (leads : length lead ≡ 16) (rests : length rest ≡ 16) (small : (k : ℕ)
-    → k < 16 → (get_or lead k 0 < 0x10000) × (get_or rest k 0 < 0x10000))
+module _ (us first second ks : List ℕ) (f : ℕ → ℕ) (half : (k : ℕ) → k < 8 → f k < 16) (firsts : length first ≡ 16) (seconds : length second ≡ 16) (small : (k : ℕ)
+    → k < 16 → (get_or first k 0 < 0x10000) × (get_or second k 0 < 0x10000))
     (long : length ks ≡ 16) (evens : map (λ k. get_or ks (2 * k) 0) (range_with_len 0 8) ≡ map f (range_with_len 0 8))
     (odds : map (λ k. get_or ks (2 * k + 1) 0) (range_with_len 0 8) ≡ map (λ k. 16 + f k) (range_with_len 0 8)) where
   abbrev words : List ℕ
-  words = pick_l 0 (lead ++ rest) ks
+  words = pick_l 0 (first ++ second) ks
 
-  even_word : (k : ℕ) → k < 8 → get_or words (2 * k) 0 ≡ get_or lead (f k) 0
-  even_word k l = (picked_lanes 16 (lead ++ rest) ks long).each (2 * k) (omega arith)
-      ∙ ap (λ j. get_or (lead ++ rest) j 0) (same_below (λ i. get_or ks (2 * i) 0) f 0 8 evens k l)
-      ∙ get_or_append_left lead rest 0 (f k) (omega (arith, leads, half k l))
+  even_word : (k : ℕ) → k < 8 → get_or words (2 * k) 0 ≡ get_or first (f k) 0
+  even_word k l = (picked_lanes 16 (first ++ second) ks long).each (2 * k) (omega arith)
+      ∙ ap (λ j. get_or (first ++ second) j 0) (same_below (λ i. get_or ks (2 * i) 0) f 0 8 evens k l)
+      ∙ get_or_append_left first second 0 (f k) (omega (arith, firsts, half k l))
 
-  odd_word : (k : ℕ) → k < 8 → get_or words (2 * k + 1) 0 ≡ get_or rest (f k) 0
+  odd_word : (k : ℕ) → k < 8 → get_or words (2 * k + 1) 0 ≡ get_or second (f k) 0
   odd_word k l =
       let back : 16 + (f k) - 16 ≡ f k = omega arith in
-      (picked_lanes 16 (lead ++ rest) ks long).each (2 * k + 1) (omega arith)
-      ∙ ap (λ j. get_or (lead ++ rest) j 0) (same_below (λ i. get_or ks (2 * i + 1) 0) (λ i. 16 + f i) 0 8 odds k l)
-      ∙ get_or-append_right lead rest 16 (16 + (f k)) 0 leads (omega arith) ∙ ap (λ j. get_or rest j 0) back
+      (picked_lanes 16 (first ++ second) ks long).each (2 * k + 1) (omega arith)
+      ∙ ap (λ j. get_or (first ++ second) j 0) (same_below (λ i. get_or ks (2 * i + 1) 0) (λ i. 16 + f i) 0 8 odds k l)
+      ∙ get_or-append_right first second 16 (16 + (f k)) 0 firsts (omega arith) ∙ ap (λ j. get_or second j 0) back
 
   word_small : (i : ℕ) → i < 16 → get_or words i 0 < 65536
   word_small i l = elim (cases_lt (i % 2) 1) [
@@ -367,38 +437,36 @@ module _ (us lead rest ks : List ℕ) (f : ℕ → ℕ) (half : (k : ℕ) → k 
         (subst (λ x. x < 65536) (sym (odd_word (i / 2) (omega arith))) ((small (f (i / 2)) (half (i / 2) (omega arith))).1))
   ]
 
-  pub four_spelled : ((k : ℕ) → k < 16 → EncodesLast (get_or us k 0) (get_or lead k 0 / 0x100) (get_or rest k 0 % 0x100) (get_or rest k 0 / 0x100)) → (k : ℕ)
-      → k < 8
-      → EncodesLast (get_or us (f k) 0) (get_or (digits_l 256 32 (number_l 65536 (pick_l 0 (lead ++ rest) ks))) (4 * k + 1) 0)
-      (get_or (digits_l 256 32 (number_l 65536 (pick_l 0 (lead ++ rest) ks))) (4 * k + 2) 0)
-      (get_or (digits_l 256 32 (number_l 65536 (pick_l 0 (lead ++ rest) ks))) (4 * k + 3) 0)
+  pub four_spelled : ((k : ℕ) → k < 16 → EncodesWords (get_or us k 0) (get_or first k 0) (get_or second k 0)) → (k : ℕ) → k < 8
+      → EncodesAt (λ j. get_or (bytes_of_sixteen (pick_l 0 (first ++ second) ks)) j 0) (get_or us (f k) 0) (4 * k)
   four_spelled spells k l =
-      let bytes = sixteen_lanes (HasLanes-itself 16 words (picked_lanes 16 (lead ++ rest) ks long).long) word_small in
+      let bytes = sixteen_lanes (HasLanes-itself 16 words (picked_lanes 16 (first ++ second) ks long).long) word_small in
       let at = λ (i : ℕ). get_or (bytes_of_sixteen words) i 0 in
-      let first : 4 * k + 1 ≡ 2 * (2 * k) + 1 = omega arith in
-      let second : 4 * k + 2 ≡ 2 * (2 * k + 1) = omega arith in
-      let third : 4 * k + 3 ≡ 2 * (2 * k + 1) + 1 = omega arith in
-      encode_again (get_or us (f k) 0) (ap at first ∙ (bytes (2 * k) (omega arith)).1 ∙ ap (λ x. x / 256) (even_word k l)) (ap at second
-      ∙ (bytes (2 * k + 1) (omega arith)).0 ∙ ap (λ x. x % 256) (odd_word k l))
-      (ap at third ∙ (bytes (2 * k + 1) (omega arith)).1 ∙ ap (λ x. x / 256) (odd_word k l)) (spells (f k) (half k l))
+      let even = even_word k l in
+      let odd = odd_word k l in
+      let place : 4 * k ≡ 2 * (2 * k) = omega arith in
+      let next : 4 * k + 1 ≡ 2 * (2 * k) + 1 = omega arith in
+      let third : 4 * k + 2 ≡ 2 * (2 * k + 1) = omega arith in
+      let last : 4 * k + 3 ≡ 2 * (2 * k + 1) + 1 = omega arith in
+      encode_again (get_or us (f k) 0) (ap at place ∙ (bytes (2 * k) (omega arith)).0 ∙ ap (λ x. x % 256) even)
+      (ap at next ∙ (bytes (2 * k) (omega arith)).1 ∙ ap (λ x. x / 256) even) (ap at third ∙ (bytes (2 * k + 1) (omega arith)).0 ∙ ap (λ x. x % 256) odd)
+      (ap at last ∙ (bytes (2 * k + 1) (omega arith)).1 ∙ ap (λ x. x / 256) odd) (spells (f k) (half k l))
 
 -- ---- the bytes of four of sixteen units, in the first half of a vector or in the other
-module _ (us bytes part : List ℕ) (f : ℕ → ℕ)
-    (spells : (k : ℕ) → k < 8 → EncodesLast (get_or us (f k) 0) (get_or bytes (4 * k + 1) 0) (get_or bytes (4 * k + 2) 0) (get_or bytes (4 * k + 3) 0)) where
-  pub lower_four : ((k : ℕ) → k < 4 → get_or part k 0 ≡ get_or us (f k) 0) → (k : ℕ) → k < 4
-      → EncodesLast (get_or part k 0) (get_or bytes (4 * k + 1) 0) (get_or bytes (4 * k + 2) 0) (get_or bytes (4 * k + 3) 0)
-  lower_four is k l = subst (λ u. EncodesLast u (get_or bytes (4 * k + 1) 0) (get_or bytes (4 * k + 2) 0) (get_or bytes (4 * k + 3) 0)) (sym (is k l))
-      (spells k (omega arith))
+module _ (us bytes part : List ℕ) (f : ℕ → ℕ) (spells : (k : ℕ) → k < 8 → EncodesAt (λ j. get_or bytes j 0) (get_or us (f k) 0) (4 * k)) where
+  pub lower_four : ((k : ℕ) → k < 4 → get_or part k 0 ≡ get_or us (f k) 0) → (k : ℕ) → k < 4 → EncodesAt (λ j. get_or bytes j 0) (get_or part k 0) (4 * k)
+  lower_four is k l = subst (λ u. EncodesAt (λ j. get_or bytes j 0) u (4 * k)) (sym (is k l)) (spells k (omega arith))
 
   pub upper_four : ((k : ℕ) → k < 4 → get_or part k 0 ≡ get_or us (f (4 + k)) 0) → (k : ℕ) → k < 4
-      → EncodesLast (get_or part k 0) (get_or bytes (16 + (4 * k + 1)) 0) (get_or bytes (16 + (4 * k + 2)) 0) (get_or bytes (16 + (4 * k + 3)) 0)
+      → EncodesAt (λ j. get_or bytes (16 + j) 0) (get_or part k 0) (4 * k)
   upper_four is k l =
       let at = λ (j : ℕ). get_or bytes j 0 in
-      let first : 16 + (4 * k + 1) ≡ 4 * (4 + k) + 1 = omega arith in
-      let second : 16 + (4 * k + 2) ≡ 4 * (4 + k) + 2 = omega arith in
-      let third : 16 + (4 * k + 3) ≡ 4 * (4 + k) + 3 = omega arith in
-      encode_again (get_or part k 0) (ap at first) (ap at second) (ap at third)
-      (subst (λ u. EncodesLast u (at (4 * (4 + k) + 1)) (at (4 * (4 + k) + 2)) (at (4 * (4 + k) + 3))) (sym (is k l)) (spells (4 + k) (omega arith)))
+      let place : 16 + 4 * k ≡ 4 * (4 + k) = omega arith in
+      let next : 16 + (4 * k + 1) ≡ 4 * (4 + k) + 1 = omega arith in
+      let third : 16 + (4 * k + 2) ≡ 4 * (4 + k) + 2 = omega arith in
+      let last : 16 + (4 * k + 3) ≡ 4 * (4 + k) + 3 = omega arith in
+      encode_again (get_or part k 0) (ap at place) (ap at next) (ap at third) (ap at last)
+      (subst (λ u. EncodesAt at u (4 * (4 + k))) (sym (is k l)) (spells (4 + k) (omega arith)))
 
 -- which of sixteen units these are
 module _ (us : List ℕ) (k : ℕ) (l : k < 4) where

@@ -238,12 +238,24 @@ joined x y = omega arith
 abbrev pub wide_l : List ℕ → List ℕ
 wide_l bs = digits_l 65536 8 (number_l 256 bs)
 
-pub wide : (bs : List ℕ) → length bs ≡ 16 → Each1 (λ x. x < 256) bs → HasLanes 8 (wide_l bs) (λ j. get_or bs (2 * j) 0 + 256 * get_or bs (2 * j + 1) 0)
-wide bs long fit = record {
-  long = refl;
-  each = λ j l. get_or_wider 256 2 65536 8 bs j refl fit l ∙ ap (number_l 256) (two_at bs (2 * j) (omega arith))
+-- the words of n pairs of bytes
+widened : (n : ℕ) (bs : List ℕ) → length bs ≡ 2 * n → length (digits_l 65536 n (number_l 256 bs)) ≡ n → Each1 (λ x. x < 256) bs
+    → HasLanes n (digits_l 65536 n (number_l 256 bs)) (λ j. get_or bs (2 * j) 0 + 256 * get_or bs (2 * j + 1) 0)
+widened n bs long size fit = record {
+  long = size;
+  each = λ j l. get_or_wider 256 2 65536 n bs j refl fit l ∙ ap (number_l 256) (two_at bs (2 * j) (omega (arith, long)))
       ∙ joined (get_or bs (2 * j) 0) (get_or bs (2 * j + 1) 0);
 }
+
+pub wide : (bs : List ℕ) → length bs ≡ 16 → Each1 (λ x. x < 256) bs → HasLanes 8 (wide_l bs) (λ j. get_or bs (2 * j) 0 + 256 * get_or bs (2 * j + 1) 0)
+wide bs long fit = widened 8 bs long refl fit
+
+abbrev pub wide_sixteen_l : List ℕ → List ℕ
+wide_sixteen_l bs = digits_l 65536 16 (number_l 256 bs)
+
+pub wide_sixteen : (bs : List ℕ) → length bs ≡ 32 → Each1 (λ x. x < 256) bs
+    → HasLanes 16 (wide_sixteen_l bs) (λ j. get_or bs (2 * j) 0 + 256 * get_or bs (2 * j + 1) 0)
+wide_sixteen bs long fit = widened 16 bs long refl fit
 
 -- the bytes of n words
 narrow : (n : ℕ) (words : List ℕ) (f : ℕ → ℕ) → HasLanes n words f → ((k : ℕ) → k < n → f k < 65536) → (k : ℕ) → k < n

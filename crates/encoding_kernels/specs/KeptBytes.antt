@@ -30,18 +30,18 @@ both_end (a ∷ b ∷ xs) = (nat_lt a 0xC0 && nat_lt b 0xC0) ∷ both_end xs
 abbrev pub EndsPair : ℕ → ℕ → ℕ → ℕ → ℕ → Type 0
 EndsPair p a b x y = (a < 0xC0) ⊎ (b < 0xC0) → (if nat_lt a 0xC0 && nat_lt b 0xC0 then x ∷ y ∷ [] else x ∷ []) ≡ latin1_ended p a ++ latin1_ended a b
 
--- of four bytes for each two tests, from index `at` on, the last one if the first test holds, else the last two if the
--- second does, else the last three
-abbrev pub last_places : ℕ → List Bool → List ℕ
-last_places at [] = []
-last_places at (b ∷ []) = []
-last_places at (ascii ∷ short ∷ bs) = (if ascii then (at + 3) ∷ [] else (if short then (at + 2) ∷ (at + 3) ∷ [] else (at + 1) ∷ (at + 2) ∷ (at + 3) ∷ [])) ++ last_places (at + 4) bs
+-- of four bytes for each two tests, from index `at` on, the first one if the first test holds, else the last one and the
+-- second if the second does, else the third, the last and the second
+abbrev pub unit_places : ℕ → List Bool → List ℕ
+unit_places at [] = []
+unit_places at (b ∷ []) = []
+unit_places at (ascii ∷ short ∷ bs) = (if ascii then at ∷ [] else (if short then (at + 3) ∷ (at + 1) ∷ [] else (at + 2) ∷ (at + 3) ∷ (at + 1) ∷ [])) ++ unit_places (at + 4) bs
 
 -- for each code unit, whether it is ASCII, and whether it is below U+0800
 abbrev pub length_classes : List ℕ → List Bool
 length_classes [] = []
 length_classes (u ∷ us) = nat_lt u 0x80 ∷ nat_lt u 0x800 ∷ length_classes us
 
--- the UTF-8 of the code unit is the last one, two or three of these bytes
-abbrev pub EncodesLast : ℕ → ℕ → ℕ → ℕ → Type 0
-EncodesLast unit x y z = (if nat_lt unit 0x80 then z ∷ [] else (if nat_lt unit 0x800 then y ∷ z ∷ [] else x ∷ y ∷ z ∷ [])) ≡ encode_utf8 unit
+-- the UTF-8 of the code unit is x if it is ASCII, else y as its last byte after w, and z before both if it has three
+abbrev pub EncodesBy : ℕ → ℕ → ℕ → ℕ → ℕ → Type 0
+EncodesBy unit x y z w = (if nat_lt unit 0x80 then x ∷ [] else (if nat_lt unit 0x800 then w ∷ y ∷ [] else z ∷ w ∷ y ∷ [])) ≡ encode_utf8 unit

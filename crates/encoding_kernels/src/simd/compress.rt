@@ -1,8 +1,9 @@
-//! Looks up by a mask which bytes are kept of eight pairs, or of four lanes of four bytes, and selects them.
+//! Looks up by a mask which bytes are kept of eight pairs, or of four lanes of four bytes and in which order, and selects
+//! them.
 
 ghost use Rattle.std.specs.Prelude.{◌≡◌, ℕ, ◌+◌, ◌*◌, ◌<◌, ◌≤◌, ◌++◌, Bool, List, length, map, take, drop, slice_index};
 ghost use Rattle.std.specs.Simd.Lanes.{mask_l};
-ghost use Rattle.encoding_kernels.specs.KeptBytes.{kept_places, last_places};
+ghost use Rattle.encoding_kernels.specs.KeptBytes.{kept_places, unit_places};
 ghost use Rattle.encoding_kernels.specs.Utf8Output.{Spills};
 
 use crate::simd::copy::LANES;
@@ -119,9 +120,10 @@ pub(crate) fn store_two(
     second.copy_to_slice(&mut dst[at + count..]);
 }
 
-/// Builds the table lane by lane, last lane first. Each row lists the indices of the lane's last three bytes, its last
-/// one, its last two, or its last one, by its two bits, followed by those of later lanes. A row has four words.
-macro_rules! last_rows {
+/// Builds the table lane by lane, last lane first. Each row lists the indices of the lane's UTF-8 by its two bits: of the
+/// third, last and second byte, of the first one, of the last and second, or of the first one, followed by those of later
+/// lanes. A row has four words.
+macro_rules! unit_rows {
     ([] $($row:expr),*) => {
         [$(
             ($row & 0xFFFF_FFFF) as u32,
@@ -130,43 +132,43 @@ macro_rules! last_rows {
             0
         ),*]
     };
-    ([$last:literal $($before:literal)*] $($row:expr),*) => {
-        last_rows!([$($before)*] $(
-            $row << 24 | $last << 16 | $last - 1 << 8 | $last - 2,
-            $row << 8 | $last,
-            $row << 16 | $last << 8 | $last - 1,
-            $row << 8 | $last
+    ([$first:literal $($before:literal)*] $($row:expr),*) => {
+        unit_rows!([$($before)*] $(
+            $row << 24 | $first + 1 << 16 | $first + 3 << 8 | $first + 2,
+            $row << 8 | $first,
+            $row << 16 | $first + 1 << 8 | $first + 3,
+            $row << 8 | $first
         ),*)
     };
 }
 
-/// For each mask of four lanes, the indices of the bytes that are kept: of a lane the last one if the first of its bits
-/// is set, else the last two if the second is, else the last three. Zeros follow.
-const LAST_BYTES_TABLE: [u32; 1024] = last_rows!([15u128 11u128 7u128 3u128] 0u128);
+/// For each mask of four lanes, the indices of the bytes that are kept: of a lane the first one if the first of its bits is
+/// set, else the last and the second if the second is, else the third, the last and the second. Zeros follow.
+const UNIT_PLACES: [u32; 1024] = unit_rows!([12u128 8u128 4u128 0u128] 0u128);
 
 /// Returns a word of the table.
 #[inline(always)]
-fn last_word(at: usize) -> u32
+fn unit_places_word(at: usize) -> u32
     requires { at < 1024 }
-    ensures { result ≡ slice_index LAST_BYTES_TABLE at }
+    ensures { result ≡ slice_index UNIT_PLACES at }
 {
-    LAST_BYTES_TABLE[at]
+    UNIT_PLACES[at]
 }
 
 /// Returns the indices that a mask keeps, followed by zeros.
 #[inline(always)]
-pub(crate) fn last_by(mask: usize) -> u8x16
+pub(crate) fn unit_places_by(mask: usize) -> u8x16
     requires { mask < 256 }
     ensures lane_count { length result ≡ 16 }
     ensures within { (k : ℕ) → k < 16 → slice_index result k < 16 }
     ensures kept { (tests : List Bool) → length tests ≡ 8 → mask ≡ mask_l tests
-        → take (length (last_places 0 tests)) result ≡ last_places 0 tests }
+        → take (length (unit_places 0 tests)) result ≡ unit_places 0 tests }
 {
     u32x4::from_array([
-        last_word(4 * mask),
-        last_word(4 * mask + 1),
-        last_word(4 * mask + 2),
-        last_word(4 * mask + 3),
+        unit_places_word(4 * mask),
+        unit_places_word(4 * mask + 1),
+        unit_places_word(4 * mask + 2),
+        unit_places_word(4 * mask + 3),
     ])
     .to_le_bytes()
 }

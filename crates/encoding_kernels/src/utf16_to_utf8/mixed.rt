@@ -1,4 +1,5 @@
-//! The UTF-8 of sixteen code units that are no surrogates: each has four bytes, and a table selects the kept ones. Steps
+//! The UTF-8 of sixteen code units that are no surrogates: each has four bytes, and a table selects and orders those of
+//! its UTF-8. Steps
 //! that change nothing else convert what is left, and single characters.
 
 ghost use Rattle.std.specs.Prelude.{◌≡◌, ℕ, ◌+◌, ◌-◌, ◌*◌, ◌/◌, ◌%◌, ◌<◌, ◌≤◌, List, ◌++◌, length, take, drop, replicate, slice_index, encode_utf8_all, IsTrue};
@@ -6,7 +7,7 @@ ghost use Rattle.std.specs.Int.RustNames.{count_ones};
 ghost use Rattle.std.specs.Int.Bits.{bit_and};
 ghost use Rattle.std.specs.Simd.Lanes.{mask_l};
 ghost use Rattle.encoding_definitions.specs.Prefixes.{WritesPrefix};
-ghost use Rattle.encoding_kernels.specs.KeptBytes.{EncodesLast, length_classes};
+ghost use Rattle.encoding_kernels.specs.KeptBytes.{EncodesBy, length_classes};
 ghost use Rattle.encoding_kernels.specs.Utf8Output.{Spills, ConvertsPrefix, WritesBmp};
 ghost use Rattle.encoding_definitions.specs.FirstScalar.{IsFirstScalar};
 ghost use Rattle.encoding_definitions.specs.Utf16.{IsUtf8OfPrefix};
@@ -14,14 +15,17 @@ ghost use Rattle.encoding_definitions.specs.Utf16.{IsUtf8OfPrefix};
 use crate::scalar::{
     is_high_surrogate, is_low_surrogate, is_surrogate, pair_scalar, utf16_length, write_scalar,
 };
-use crate::simd::compress::{last_by, select_in_halves, store_two};
+use crate::simd::compress::{select_in_halves, store_two, unit_places_by};
 use crate::simd::copy::copy_prefix;
 use crate::simd::scan::run_before;
 use crate::simd::width::STRIDE;
 use std::simd::prelude::*;
 
-/// The least code unit whose UTF-8 has three bytes.
-const LONG: u16 = 0x800;
+/// The index of the lower byte of each of sixteen code units, twice.
+const LOWER_BYTES: [usize; 32] = [
+    0, 0, 2, 2, 4, 4, 6, 6, 8, 8, 10, 10, 12, 12, 14, 14, 16, 16, 18, 18, 20, 20, 22, 22, 24, 24,
+    26, 26, 28, 28, 30, 30,
+];
 
 /// Returns whether none of the sixteen code units is a surrogate.
 #[tactic(auto, using(crate::proofs::MixedLemmas::all_plain))]
@@ -45,58 +49,52 @@ pub(super) fn non_surrogate_prefix(units: u16x16) -> usize
     run_before::<16>(tops.simd_eq(u16x16::splat(0xD800)).to_bitmask())
 }
 
-/// Returns two bits for each of sixteen code units: whether it is ASCII, and whether it is below U+0800.
+/// Returns two bits for each of sixteen code units: whether it is ASCII, and whether it is below U+0800. A saturating
+/// subtraction leaves the highest bit of a lane set if the unit is below its bound.
 #[inline(always)]
 fn mask_of_classes(units: u16x16) -> usize
     ensures upper_bound { result < 0x100000000 }
     ensures mask { result ≡ mask_l (length_classes units) }
 {
-    let below = units
-        .simd_lt(u16x16::splat(LONG))
-        .select(u16x16::splat(0xFF00), u16x16::splat(0));
-    let length_classes = units
-        .simd_lt(u16x16::splat(0x80))
-        .select(u16x16::splat(0xFFFF), below);
+    let ascii = u16x16::splat(0x807F).saturating_sub(units);
+    let below = u16x16::splat(0x87FF).saturating_sub(units);
+    let length_classes = (ascii >> u16x16::splat(8)) + (below & u16x16::splat(0xFF00));
     length_classes
         .to_le_bytes()
         .simd_ge(u8x32::splat(0x80))
         .to_bitmask() as usize
 }
 
-/// Returns two words for each of sixteen code units. Its UTF-8 is the last one, two or three of these bytes: the upper
-/// byte of the first word, and both of the second.
+/// Returns two words for each of sixteen code units, whose bytes its UTF-8 is made of. The first word has the unit itself,
+/// if it is ASCII, and the last byte of a longer sequence. The second has the first byte of three, and the one before the
+/// last.
 #[inline(always)]
 fn two_words(units: u16x16) -> (u16x16, u16x16)
     ensures lane_count { (length result.0 ≡ 16) × (length result.1 ≡ 16) }
     ensures upper_bound { (k : ℕ) → k < 16
         → (slice_index result.0 k < 0x10000) × (slice_index result.1 k < 0x10000) }
-    ensures spelled { (k : ℕ) → k < 16 → EncodesLast (slice_index units k)
-        (slice_index result.0 k / 0x100) (slice_index result.1 k % 0x100)
-        (slice_index result.1 k / 0x100) }
+    ensures spelled { (k : ℕ) → k < 16 → EncodesBy (slice_index units k)
+        (slice_index result.0 k % 0x100) (slice_index result.0 k / 0x100)
+        (slice_index result.1 k % 0x100) (slice_index result.1 k / 0x100) }
 {
-    let six = u16x16::splat(0x3F);
-    let first = ((units >> u16x16::splat(12)) << u16x16::splat(8)) + u16x16::splat(0xE000);
-    let mark = units
-        .simd_lt(u16x16::splat(LONG))
-        .select(u16x16::splat(0x80C0), u16x16::splat(0x8080));
-    let middle = (units >> u16x16::splat(6)) & six;
-    let several = middle + ((units & six) << u16x16::splat(8)) + mark;
-    let second = units
-        .simd_lt(u16x16::splat(0x80))
-        .select(units << u16x16::splat(8), several);
-    (first, second)
+    let lower = u16x16::from_le_bytes(units.to_le_bytes().swizzle(LOWER_BYTES));
+    let last = (lower & u16x16::splat(0x3F7F)) + u16x16::splat(0x8000);
+    let below = u16x16::splat(0x87FF).saturating_sub(units);
+    let mark = ((below >> u16x16::splat(1)) & u16x16::splat(0x4000)) + u16x16::splat(0x80E0);
+    let middle = (units << u16x16::splat(2)) & u16x16::splat(0x3F00);
+    (last, (units >> u16x16::splat(12)) + middle + mark)
 }
 
-/// Returns four bytes for each of sixteen code units, whose last ones are its UTF-8. The first vector has those of the
-/// first four units of each eight, as AVX2 interleaves them, and the second those of the others.
+/// Returns four bytes for each of sixteen code units, which its UTF-8 is made of. The first vector has those of the first
+/// four units of each eight, as AVX2 interleaves them, and the second those of the others.
 #[inline(always)]
 fn four_bytes(units: u16x16) -> (u8x32, u8x32)
-    ensures first_half { (k : ℕ) → k < 8 → EncodesLast (slice_index units (k / 4 * 4 + k))
-        (slice_index result.0 (4 * k + 1)) (slice_index result.0 (4 * k + 2))
-        (slice_index result.0 (4 * k + 3)) }
-    ensures second { (k : ℕ) → k < 8 → EncodesLast (slice_index units (k / 4 * 4 + k + 4))
-        (slice_index result.1 (4 * k + 1)) (slice_index result.1 (4 * k + 2))
-        (slice_index result.1 (4 * k + 3)) }
+    ensures first_half { (k : ℕ) → k < 8 → EncodesBy (slice_index units (k / 4 * 4 + k))
+        (slice_index result.0 (4 * k)) (slice_index result.0 (4 * k + 1))
+        (slice_index result.0 (4 * k + 2)) (slice_index result.0 (4 * k + 3)) }
+    ensures second { (k : ℕ) → k < 8 → EncodesBy (slice_index units (k / 4 * 4 + k + 4))
+        (slice_index result.1 (4 * k)) (slice_index result.1 (4 * k + 1))
+        (slice_index result.1 (4 * k + 2)) (slice_index result.1 (4 * k + 3)) }
 {
     let (words, others) = two_words(units);
     let first = words.shuffle(
@@ -116,17 +114,17 @@ fn encode_twice_four(bytes: u8x32, first: usize, second: usize) -> (u8x16, u8x16
     requires { (first < 0x100) × (second < 0x100) }
     ensures lane_count { (length result.0 ≡ 16) × (length result.1 ≡ 16) }
     ensures lower { (us : List ℕ) → length us ≡ 4 → first ≡ mask_l (length_classes us)
-        → ((k : ℕ) → k < 4 → EncodesLast (slice_index us k)
-        (slice_index bytes (4 * k + 1)) (slice_index bytes (4 * k + 2))
-        (slice_index bytes (4 * k + 3)))
+        → ((k : ℕ) → k < 4 → EncodesBy (slice_index us k)
+        (slice_index bytes (4 * k)) (slice_index bytes (4 * k + 1))
+        (slice_index bytes (4 * k + 2)) (slice_index bytes (4 * k + 3)))
         → take (12 - count_ones first) result.0 ≡ encode_utf8_all us }
     ensures upper { (us : List ℕ) → length us ≡ 4 → second ≡ mask_l (length_classes us)
-        → ((k : ℕ) → k < 4 → EncodesLast (slice_index us k)
-        (slice_index bytes (16 + (4 * k + 1))) (slice_index bytes (16 + (4 * k + 2)))
-        (slice_index bytes (16 + (4 * k + 3))))
+        → ((k : ℕ) → k < 4 → EncodesBy (slice_index us k)
+        (slice_index bytes (16 + 4 * k)) (slice_index bytes (16 + (4 * k + 1)))
+        (slice_index bytes (16 + (4 * k + 2))) (slice_index bytes (16 + (4 * k + 3))))
         → take (12 - count_ones second) result.1 ≡ encode_utf8_all us }
 {
-    select_in_halves(bytes, last_by(first), last_by(second))
+    select_in_halves(bytes, unit_places_by(first), unit_places_by(second))
 }
 
 /// Returns the lengths of the UTF-8 of the first four, eight, twelve and all of sixteen code units, by the mask of
