@@ -48,27 +48,45 @@ below_16_at (x ∷ xs) e (suc k) = below_16_at xs (and_parts _ _ e).1 k
 abbrev is_right : List ℕ → (List Bool → List ℕ) → List Bool → Bool
 is_right table kept bs = same (take (length (kept bs)) (row table (mask_l bs))) (kept bs)
 
-abbrev are_small : List ℕ → ℕ → Bool
-are_small table zero = true
-are_small table (suc mask) = below_16 (row table mask) && are_small table mask
+-- ---- all masks below a bound
+abbrev all_masks : ℕ → (ℕ → Bool) → Bool
+all_masks zero holds = true
+all_masks (suc mask) holds = holds mask && all_masks mask holds
 
-small_at : (table : List ℕ) (n mask : ℕ) → are_small table n ≡ true → mask < n → below_16 (row table mask) ≡ true
-small_at table zero mask e l = absurd (omega arith)
-small_at table (suc n) mask e l = elim (cases_lt mask n) [
-  | inl p ↦ small_at table n mask (and_parts _ _ e).1 p
-  | inr p ↦ let same : n ≡ mask = omega arith in subst (λ k. below_16 (row table k) ≡ true) same (and_parts _ _ e).0
+all_masks_at : (n mask : ℕ) (holds : ℕ → Bool) → all_masks n holds ≡ true → mask < n → holds mask ≡ true
+all_masks_at zero mask holds e l = absurd (omega arith)
+all_masks_at (suc n) mask holds e l = elim (cases_lt mask n) [
+  | inl p ↦ all_masks_at n mask holds (and_parts _ _ e).1 p
+  | inr p ↦ let same : n ≡ mask = omega arith in subst (λ k. holds k ≡ true) same (and_parts _ _ e).0
 ]
+
+abbrev is_small : List ℕ → ℕ → Bool
+is_small table mask = below_16 (row table mask)
 
 -- all 256 rows are right
 pub record IsTable (table : List ℕ) (kept : List Bool → List ℕ) : Type 0 where
   pub keeps : all_tests 8 (is_right table kept) ≡ true
-  pub small : are_small table 256 ≡ true
+  pub small : all_masks 256 (is_small table) ≡ true
 
 pub kept_table : IsTable PLACES (kept_places 0)
 kept_table = record { keeps = refl; small = refl }
 
 pub unit_table : IsTable UNIT_PLACES (unit_places 0)
 unit_table = record { keeps = refl; small = refl }
+
+-- ---- the number of indices of four units
+abbrev counts_units : List Bool → Bool
+counts_units bs = get_or UNIT_PLACES (4 * mask_l bs + 3) 0 == length (unit_places 0 bs)
+
+abbrev are_few : ℕ → Bool
+are_few mask = ltb (get_or UNIT_PLACES (4 * mask + 3) 0) 13
+
+module _ (mask w : ℕ) (is : w ≡ get_or UNIT_PLACES (4 * mask + 3) 0) where
+  units_counted : (bs : List Bool) → length bs ≡ 8 → mask ≡ mask_l bs → w ≡ length (unit_places 0 bs)
+  units_counted bs l m = is ∙ ap (λ k. get_or UNIT_PLACES (4 * k + 3) 0) m ∙ eqb-true _ _ (all_tests_at 8 counts_units refl bs l)
+
+  pub units_few : mask < 256 → w < 13
+  units_few l = subst (λ x. x < 13) (sym is) (ltb-true _ 13 (all_masks_at 256 mask are_few refl l))
 
 -- ---- four words of a table
 module _ (table : List ℕ) (kept : List Bool → List ℕ) (is : IsTable table kept) (mask x y z w : ℕ)
@@ -78,8 +96,16 @@ module _ (table : List ℕ) (kept : List Bool → List ℕ) (is : IsTable table 
   is_row = λ i. digits_l 256 16 (number_l (2 ^ 32) (first i ∷ second i ∷ third i ∷ fourth i ∷ []))
 
   pub row_small : mask < 256 → (k : ℕ) → get_or (digits_l 256 16 (number_l (2 ^ 32) (x ∷ y ∷ z ∷ w ∷ []))) k 0 < 16
-  row_small l = subst (λ xs. (k : ℕ) → get_or xs k 0 < 16) (sym is_row) (below_16_at (row table mask) (small_at table 256 mask is.small l))
+  row_small l = subst (λ xs. (k : ℕ) → get_or xs k 0 < 16) (sym is_row) (below_16_at (row table mask) (all_masks_at 256 mask (is_small table) is.small l))
 
   pub row_keeps : (bs : List Bool) → length bs ≡ 8 → mask ≡ mask_l bs
       → take (length (kept bs)) (digits_l 256 16 (number_l (2 ^ 32) (x ∷ y ∷ z ∷ w ∷ []))) ≡ kept bs
   row_keeps bs l m = ap (take (length (kept bs))) (is_row ∙ ap (row table) m) ∙ same_is _ _ (all_tests_at 8 (is_right table kept) is.keeps bs l)
+
+-- the row of four units, up to their number of indices
+pub units_keep : (mask x y z w : ℕ) → x ≡ get_or UNIT_PLACES (4 * mask) 0 → y ≡ get_or UNIT_PLACES (4 * mask + 1) 0 → z ≡ get_or UNIT_PLACES (4 * mask + 2) 0
+    → w ≡ get_or UNIT_PLACES (4 * mask + 3) 0 → (bs : List Bool) → length bs ≡ 8 → mask ≡ mask_l bs
+    → take w (digits_l 256 16 (number_l (2 ^ 32) (x ∷ y ∷ z ∷ w ∷ []))) ≡ unit_places 0 bs
+units_keep mask x y z w first second third fourth bs l m =
+    ap (λ n. take n (digits_l 256 16 (number_l (2 ^ 32) (x ∷ y ∷ z ∷ w ∷ [])))) (units_counted mask w fourth bs l m)
+    ∙ row_keeps UNIT_PLACES (unit_places 0) unit_table mask x y z w first second third fourth bs l m

@@ -4,7 +4,7 @@ use Rattle.std.specs.Prelude.{nat_lt}
 use Rattle.std.proofs.lemmas.Bool.{cases_lt, eqb-false, ltb-true, lt-ltb}
 use Rattle.std.proofs.lemmas.Bool.Decides.{nat_tests}
 use Rattle.std.proofs.lemmas.List.{take-map, get_or_append_left, get_or-append_right, get_or_past}
-use Rattle.std.proofs.lemmas.Nat.{and_block, and_le_r, and_mask, ones-le, ones_cat}
+use Rattle.std.proofs.lemmas.Nat.{and_block, and_le_r, and_mask}
 use Rattle.std.proofs.lemmas.Nat.Bits.{and_high_mask}
 use Rattle.std.proofs.lemmas.Simd.{ones-mask_l_cons, get_or-replicate, Each1-from_get_or, Each1-get_or, mask_l-lt}
 use Rattle.std.proofs.lemmas.Str.{encode_ascii, encodes-append, encodes-IsAscii}
@@ -116,53 +116,6 @@ module _ (us : List ℕ) (mask : ℕ) (long : length us ≡ 16) (is : mask ≡ m
         omega (arith, is, whole, first, second, a, b, d),
       )
 
--- ---- how many indices are kept
-long_step : (at : ℕ) (a s : Bool) (bs : List Bool) (n : ℕ) → (a ≡ true → s ≡ true) → length (unit_places (at + 4) bs) + count_ones (mask_l bs) ≡ n
-    → length (unit_places at (a ∷ s ∷ bs)) + count_ones (mask_l (a ∷ s ∷ bs)) ≡ 3 + n
-long_step at a s bs n v e = grind (arith, nat_tests, v, e, ones-mask_l_cons a (s ∷ bs), ones-mask_l_cons s bs)
-
-places_long : (at : ℕ) (us : List ℕ) → length (unit_places at (length_classes us)) + count_ones (mask_l (length_classes us)) ≡ 3 * length us
-places_long at [] = omega (arith, ones-none)
-places_long at (u ∷ us) =
-    let step = long_step at (nat_lt u 0x80) (nat_lt u 0x800) (length_classes us) (3 * length us) (ascii_short u) (places_long (at + 4) us) in
-    let count : 3 + 3 * length us ≡ 3 * suc (length us) = omega arith in
-    step ∙ count
-
--- ---- the bits of a mask, by eights
-module _ (mask : ℕ) (small : mask < 0x100000000) where
-  abbrev pub first : ℕ
-  first = count_ones (bit_and mask 0xFF)
-
-  abbrev pub second : ℕ
-  second = count_ones (bit_and (mask / 0x100) 0xFF)
-
-  abbrev pub third : ℕ
-  third = count_ones (bit_and (mask / 0x10000) 0xFF)
-
-  abbrev pub fourth : ℕ
-  fourth = count_ones (mask / 0x1000000)
-
-  pub by_eights : (count_ones (bit_and mask 0xFFFF) ≡ second + first) × (count_ones (bit_and mask 0xFFFFFF) ≡ third + count_ones (bit_and mask 0xFFFF))
-      × (count_ones mask ≡ fourth + count_ones (bit_and mask 0xFFFFFF))
-  by_eights =
-      let two : bit_and mask 0xFFFF ≡ bit_and (mask / 0x100) 0xFF * 2 ^ 8 + bit_and mask 0xFF =
-      omega (arith, and_mask mask 16, and_mask mask 8, and_mask (mask / 0x100) 8) in
-      let three : bit_and mask 0xFFFFFF ≡ bit_and (mask / 0x10000) 0xFF * 2 ^ 16 + bit_and mask 0xFFFF =
-      omega (arith, and_mask mask 24, and_mask mask 16, and_mask (mask / 0x10000) 8) in
-      let four : mask ≡ mask / 0x1000000 * 2 ^ 24 + bit_and mask 0xFFFFFF = omega (arith, and_mask mask 24) in (
-        ap count_ones two ∙ ones_cat 8 (bit_and (mask / 0x100) 0xFF) (bit_and mask 0xFF) (omega (arith, and_mask mask 8)),
-        ap count_ones three ∙ ones_cat 16 (bit_and (mask / 0x10000) 0xFF) (bit_and mask 0xFFFF) (omega (arith, and_mask mask 16)),
-        ap count_ones four ∙ ones_cat 24 (mask / 0x1000000) (bit_and mask 0xFFFFFF) (omega (arith, and_mask mask 24)),
-      )
-
-  pub few_each : (first ≤ 8) × (second ≤ 8) × (third ≤ 8) × (fourth ≤ 8)
-  few_each = (
-    ones-le 8 (bit_and mask 0xFF) (omega (arith, and_mask mask 8)),
-    ones-le 8 (bit_and (mask / 0x100) 0xFF) (omega (arith, and_mask (mask / 0x100) 8)),
-    ones-le 8 (bit_and (mask / 0x10000) 0xFF) (omega (arith, and_mask (mask / 0x10000) 8)),
-    ones-le 8 (mask / 0x1000000) (omega arith),
-  )
-
 -- ---- the bytes at these indices
 unit_step : (get : ℕ → ℕ) (at : ℕ) (a s : Bool) (ks spelled rest : List ℕ)
     → cond a (get at ∷ []) (cond s (get (at + 3) ∷ get (at + 1) ∷ []) (get (at + 2) ∷ get (at + 3) ∷ get (at + 1) ∷ [])) ≡ spelled → map get ks ≡ rest
@@ -186,15 +139,11 @@ units_spell get (u ∷ us) at h =
     subst (EncodesAt get (get_or us k 0)) e (h (suc k) (omega arith)) in
     unit_step get at (nat_lt u 0x80) (nat_lt u 0x800) _ _ _ here (units_spell get us (at + 4) more)
 
-pub spelled_four : (us places : List ℕ) (get : ℕ → ℕ) (mask : ℕ) → length us ≡ 4 → mask ≡ mask_l (length_classes us)
-    → take (length (unit_places 0 (length_classes us))) places ≡ unit_places 0 (length_classes us)
-    → ((k : ℕ) → k < 4 → EncodesAt get (get_or us k 0) (4 * k))
-    → take (12 - count_ones mask) (map get places) ≡ encode_utf8_all us
-spelled_four us places get mask l m kept spells =
-    let places_of = unit_places 0 (length_classes us) in
-    let count : 12 - count_ones mask ≡ length places_of = omega (arith, places_long 0 us, ap count_ones m) in
-    ap (λ n. take n (map get places)) count ∙ take-map get (length places_of) places ∙ ap (map get) kept
-    ∙ units_spell get us 0 (λ k i. let e : 4 * k ≡ 0 + 4 * k = omega arith in subst (EncodesAt get (get_or us k 0)) e (spells k (omega arith)))
+pub spelled_four : (us places : List ℕ) (get : ℕ → ℕ) (count : ℕ) → take count places ≡ unit_places 0 (length_classes us)
+    → ((k : ℕ) → k < length us → EncodesAt get (get_or us k 0) (4 * k)) → take count (map get places) ≡ encode_utf8_all us
+spelled_four us places get count kept spells =
+    take-map get count places ∙ ap (map get) kept
+    ∙ units_spell get us 0 (λ k i. let e : 4 * k ≡ 0 + 4 * k = omega arith in subst (EncodesAt get (get_or us k 0)) e (spells k i))
 
 -- ---- four vectors of four
 pub four_parts : (us a b d e : List ℕ) → a ≡ encode_utf8_all (take 4 (take 8 us)) → b ≡ encode_utf8_all (drop 4 (take 8 us))

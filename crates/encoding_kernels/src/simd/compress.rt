@@ -122,29 +122,30 @@ pub(crate) fn store_two(
 
 /// Builds the table lane by lane, last lane first. Each row lists the indices of the lane's UTF-8 by its two bits: of the
 /// third, last and second byte, of the first one, of the last and second, or of the first one, followed by those of later
-/// lanes. A row has four words.
+/// lanes. A row has three words of indices, and how many these are.
 macro_rules! unit_rows {
-    ([] $($row:expr),*) => {
+    ([] $($row:expr, $length:expr);*) => {
         [$(
             ($row & 0xFFFF_FFFF) as u32,
             ($row >> 32 & 0xFFFF_FFFF) as u32,
             ($row >> 64) as u32,
-            0
+            $length
         ),*]
     };
-    ([$first:literal $($before:literal)*] $($row:expr),*) => {
+    ([$first:literal $($before:literal)*] $($row:expr, $length:expr);*) => {
         unit_rows!([$($before)*] $(
-            $row << 24 | $first + 1 << 16 | $first + 3 << 8 | $first + 2,
-            $row << 8 | $first,
-            $row << 16 | $first + 1 << 8 | $first + 3,
-            $row << 8 | $first
-        ),*)
+            $row << 24 | $first + 1 << 16 | $first + 3 << 8 | $first + 2, $length + 3;
+            $row << 8 | $first, $length + 1;
+            $row << 16 | $first + 1 << 8 | $first + 3, $length + 2;
+            $row << 8 | $first, $length + 1
+        );*)
     };
 }
 
 /// For each mask of four lanes, the indices of the bytes that are kept: of a lane the first one if the first of its bits is
-/// set, else the last and the second if the second is, else the third, the last and the second. Zeros follow.
-const UNIT_PLACES: [u32; 1024] = unit_rows!([12u128 8u128 4u128 0u128] 0u128);
+/// set, else the last and the second if the second is, else the third, the last and the second. Zeros and their number
+/// follow.
+const UNIT_PLACES: [u32; 1024] = unit_rows!([12u128 8u128 4u128 0u128] 0u128, 0u32);
 
 /// Returns a word of the table.
 #[inline(always)]
@@ -155,22 +156,24 @@ fn unit_places_word(at: usize) -> u32
     UNIT_PLACES[at]
 }
 
-/// Returns the indices that a mask keeps, followed by zeros.
+/// Returns the indices that a mask keeps, at the start of the vector, and their number.
 #[inline(always)]
-pub(crate) fn unit_places_by(mask: usize) -> u8x16
+pub(crate) fn unit_places_by(mask: usize) -> (u8x16, usize)
     requires { mask < 256 }
-    ensures lane_count { length result ≡ 16 }
-    ensures within { (k : ℕ) → k < 16 → slice_index result k < 16 }
+    ensures lane_count { length result.0 ≡ 16 }
+    ensures within { (k : ℕ) → k < 16 → slice_index result.0 k < 16 }
+    ensures length_bound { result.1 ≤ 12 }
     ensures kept { (tests : List Bool) → length tests ≡ 8 → mask ≡ mask_l tests
-        → take (length (unit_places 0 tests)) result ≡ unit_places 0 tests }
+        → take result.1 result.0 ≡ unit_places 0 tests }
 {
-    u32x4::from_array([
+    let count = unit_places_word(4 * mask + 3);
+    let words = u32x4::from_array([
         unit_places_word(4 * mask),
         unit_places_word(4 * mask + 1),
         unit_places_word(4 * mask + 2),
-        unit_places_word(4 * mask + 3),
-    ])
-    .to_le_bytes()
+        count,
+    ]);
+    (words.to_le_bytes(), count as usize)
 }
 
 /// Returns the bytes of the first half of a vector at the indices in `first`, and those of the second half at the

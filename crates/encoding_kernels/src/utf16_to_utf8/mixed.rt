@@ -108,45 +108,38 @@ fn four_bytes(units: u16x16) -> (u8x32, u8x32)
     (first.to_le_bytes(), second.to_le_bytes())
 }
 
-/// Returns the UTF-8 of twice four code units, given in four bytes each, at the start of two vectors.
+/// Returns the UTF-8 of twice four code units, given in four bytes each, at the start of two vectors, and the length of
+/// each.
 #[inline(always)]
-fn encode_twice_four(bytes: u8x32, first: usize, second: usize) -> (u8x16, u8x16)
+fn encode_twice_four(bytes: u8x32, first: usize, second: usize) -> (u8x16, usize, u8x16, usize)
     requires { (first < 0x100) × (second < 0x100) }
-    ensures lane_count { (length result.0 ≡ 16) × (length result.1 ≡ 16) }
+    ensures lane_count { (length result.0 ≡ 16) × (length result.2 ≡ 16) }
+    ensures length_bounds { (result.1 ≤ 12) × (result.3 ≤ 12) }
     ensures lower { (us : List ℕ) → length us ≡ 4 → first ≡ mask_l (length_classes us)
         → ((k : ℕ) → k < 4 → EncodesBy (slice_index us k)
         (slice_index bytes (4 * k)) (slice_index bytes (4 * k + 1))
         (slice_index bytes (4 * k + 2)) (slice_index bytes (4 * k + 3)))
-        → take (12 - count_ones first) result.0 ≡ encode_utf8_all us }
+        → take result.1 result.0 ≡ encode_utf8_all us }
     ensures upper { (us : List ℕ) → length us ≡ 4 → second ≡ mask_l (length_classes us)
         → ((k : ℕ) → k < 4 → EncodesBy (slice_index us k)
         (slice_index bytes (16 + 4 * k)) (slice_index bytes (16 + (4 * k + 1)))
         (slice_index bytes (16 + (4 * k + 2))) (slice_index bytes (16 + (4 * k + 3))))
-        → take (12 - count_ones second) result.1 ≡ encode_utf8_all us }
+        → take result.3 result.2 ≡ encode_utf8_all us }
 {
-    select_in_halves(bytes, unit_places_by(first), unit_places_by(second))
+    let (places, count) = unit_places_by(first);
+    let (others, more) = unit_places_by(second);
+    let (lower, upper) = select_in_halves(bytes, places, others);
+    (lower, count, upper, more)
 }
 
-/// Returns the lengths of the UTF-8 of the first four, eight, twelve and all of sixteen code units, by the mask of
-/// their classes. Each is counted apart, so that none waits for another.
+/// Returns the length of the UTF-8 of sixteen code units.
 #[inline(always)]
-fn lengths_by(mask: usize) -> (usize, usize, usize, usize)
-    requires { mask < 0x100000000 }
-    ensures first { result.0 ≡ 12 - count_ones (bit_and mask 0xFF) }
-    ensures second { result.1 ≡ result.0 + (12 - count_ones (bit_and (mask / 0x100) 0xFF)) }
-    ensures third { result.2 ≡ result.1 + (12 - count_ones (bit_and (mask / 0x10000) 0xFF)) }
-    ensures fourth { result.3 ≡ result.2 + (12 - count_ones (mask / 0x1000000)) }
-    ensures bounds { (4 ≤ result.0) × (result.0 ≤ 12) × (result.0 + 4 ≤ result.1)
-        × (result.1 ≤ result.0 + 12)
-        × (result.1 + 4 ≤ result.2) × (result.2 ≤ result.1 + 12)
-        × (result.2 + 4 ≤ result.3) × (result.3 ≤ result.2 + 12) }
+fn length_of_sixteen(units: u16x16) -> usize
+    requires { length units ≡ 16 }
+    ensures count { result ≡ length (encode_utf8_all units) }
+    ensures bounds { (16 ≤ result) × (result ≤ 48) }
 {
-    (
-        12 - (mask & 0xFF).count_ones() as usize,
-        24 - (mask & 0xFFFF).count_ones() as usize,
-        36 - (mask & 0xFF_FFFF).count_ones() as usize,
-        48 - mask.count_ones() as usize,
-    )
+    48 - mask_of_classes(units).count_ones() as usize
 }
 
 /// Stores the UTF-8 of sixteen code units, and returns its length.
@@ -160,22 +153,11 @@ pub(super) fn store_mixed(units: u16x16, dst: &mut [u8], at: usize) -> usize
     let (first, second) = (mask & 0xFF, mask >> 8 & 0xFF);
     let (third, fourth) = (mask >> 16 & 0xFF, mask >> 24);
     let (lanes, others) = four_bytes(units);
-    let (bytes, next) = encode_twice_four(lanes, first, third);
-    let (other, last) = encode_twice_four(others, second, fourth);
-    let (four, eight, twelve, all) = lengths_by(mask);
-    store_two(dst, at, bytes, four, other, eight - four);
-    store_two(dst, at + eight, next, twelve - eight, last, all - twelve);
-    all
-}
-
-/// Returns the length of the UTF-8 of sixteen code units.
-#[inline(always)]
-fn length_of_sixteen(units: u16x16) -> usize
-    requires { length units ≡ 16 }
-    ensures count { result ≡ length (encode_utf8_all units) }
-    ensures bounds { (16 ≤ result) × (result ≤ 48) }
-{
-    48 - mask_of_classes(units).count_ones() as usize
+    let (bytes, four, next, five) = encode_twice_four(lanes, first, third);
+    let (other, more, last, rest) = encode_twice_four(others, second, fourth);
+    store_two(dst, at, bytes, four, other, more);
+    store_two(dst, at + (four + more), next, five, last, rest);
+    length_of_sixteen(units)
 }
 
 /// Writes the UTF-8 of sixteen code units but for its last `zeros` bytes, and returns its length. Bytes after it are
