@@ -18,7 +18,7 @@ ghost use Rattle.encoding_kernels.specs.Scans.{AllBelow, BelowBetween};
 use crate::scalar::{decode_utf8_scalar, is_continuation, sequence_length, write_utf16};
 use crate::simd::copy::{LANES as BYTE_LANES, unpack};
 use crate::simd::scan::are_bytes_below;
-use crate::simd::width::{ASCII_END, BLOCK, HALF_BLOCK, STRIDE};
+use crate::simd::width::{ASCII_END, BLOCK, STRIDE};
 use crate::tuning::SHORT_TEXT;
 use crate::utf8_to_utf16::code_units::{
     code_units, is_below, unit_ends, write_compressed, write_compressed_exact,
@@ -205,20 +205,19 @@ fn convert_groups(src: &[u8], dst: &mut [u16]) -> (usize, usize)
     (read, written)
 }
 
-/// Returns whether the text is long enough for a group, and its first character is followed by 32 bytes of ASCII.
+/// Returns whether the text is long enough for a group, and its first character is followed by sixteen bytes of ASCII.
 #[inline(always)]
 fn precedes_ascii(src: &[u8]) -> bool
     requires { (0 < length src.now) × IsUtf8 src.now }
 {
-    src.len() >= GROUP_OF_TEXT
-        && are_bytes_below::<HALF_BLOCK>(src, sequence_length(src[0]), ASCII_END)
+    src.len() >= GROUP_OF_TEXT && are_bytes_below::<STRIDE>(src, sequence_length(src[0]), ASCII_END)
 }
 
 /// Writes the UTF-16 of the text before a run of ASCII, and returns how many bytes it read and how many code units it
 /// wrote. Units that the rest of the text overwrites may have changed too.
 ///
-/// A first character before 32 bytes of ASCII is written by itself, since a group would cost more. If no group of 64 bytes can
-/// be written first, the text is written by blocks.
+/// A first character before sixteen bytes of ASCII is written by itself, since a group would cost more. If no group of 64
+/// bytes can be written first, the text is written by blocks.
 #[inline(always)]
 pub fn convert_valid_utf8_to_utf16(src: &[u8], dst: &mut [u16]) -> (usize, usize)
     requires dst_length { (0 < length src.now) × (length src.now ≤ length dst.old) }
