@@ -15,6 +15,7 @@ pub mod MixedLemmas
 pub mod OverwriteLemmas
 pub mod PairsLemmas
 pub mod ScanLemmas
+pub mod SignedLemmas
 pub mod SumLemmas
 pub mod SurrogatePairsLemmas
 pub mod UniformLemmas

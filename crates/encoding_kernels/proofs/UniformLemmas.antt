@@ -116,11 +116,15 @@ both_lanes us long =
     let last = HasLanes-zip2 (λ a b. a * 2 ^ b % 2 ^ 16) (HasLanes-zip2 bit_and lanes (HasLanes-splat 16 0x3F)) (HasLanes-splat 16 8) in
     HasLanes-zip2 (λ a b. (a + b) % 2 ^ 16) (HasLanes-zip2 (λ a b. (a + b) % 2 ^ 16) lead last) (HasLanes-splat 16 0x80C0)
 
-abbrev pub both_words : List ℕ → List ℕ
-both_words us = sel_l (map (top 15) (zip2 (compared w16 leb) (replicate 16 0x80) us))
+-- the same by a mask of those that take two bytes
+abbrev pub words_by : List ℕ → List ℕ → List ℕ
+words_by two_bytes us = sel_l (map (top 15) two_bytes)
     (zip2 (λ a b. (a + b) % 2 ^ 16)
     (zip2 (λ a b. (a + b) % 2 ^ 16) (zip2 (λ a b. a / 2 ^ b) us (replicate 16 6))
     (zip2 (λ a b. a * 2 ^ b % 2 ^ 16) (zip2 bit_and us (replicate 16 0x3F)) (replicate 16 8))) (replicate 16 0x80C0)) us
+
+abbrev pub both_words : List ℕ → List ℕ
+both_words us = words_by (zip2 (compared w16 leb) (replicate 16 0x80) us) us
 
 pub words_spell : (us : List ℕ) → length us ≡ 16 → ((i : ℕ) → i < 16 → get_or us i 0 < 0x800) → (k : ℕ) → k < 16
     → EncodesTo (get_or us k 0) (get_or (bytes_of_sixteen (both_words us)) (2 * k) 0) (get_or (bytes_of_sixteen (both_words us)) (2 * k + 1) 0)

@@ -41,17 +41,22 @@ fn both_bytes(units: u16x16) -> u8x32
 {
     let last = (units & u16x16::splat(0x3F)) << u16x16::splat(8);
     let both = (units >> u16x16::splat(6)) + last + u16x16::splat(0x80C0);
-    let takes_two = units.simd_ge(u16x16::splat(0x80));
+    // of signed numbers, the comparison is one instruction
+    let takes_two = units.cast::<i16>().simd_gt(i16x16::splat(0x7F));
     takes_two.select(both, units).to_le_bytes()
 }
 
 /// Returns the mask of the code units that aren't ASCII.
 #[inline(always)]
 fn mask_of_others(units: u16x16) -> usize
+    requires { (k : ℕ) → k < 16 → slice_index units k < 0x800 }
     ensures upper_bound { result < 0x10000 }
     ensures mask { result ≡ mask_l (map (nat_le 0x80) units) }
 {
-    units.simd_ge(u16x16::splat(0x80)).to_bitmask() as usize
+    units
+        .cast::<i16>()
+        .simd_gt(i16x16::splat(0x7F))
+        .to_bitmask() as usize
 }
 
 /// Returns the UTF-8 of sixteen code units below U+0800: that of the first eight at the start of a vector, with its
