@@ -234,7 +234,8 @@ lead_word u = ((u / 2 ^ 12 + bit_and (u * 2 ^ 2 % 2 ^ 16) 0x3F00) % 2 ^ 16 + (bi
 
 -- the index of the lower byte of each of sixteen code units, twice
 abbrev pub lower_indices : List ℕ
-lower_indices = 0 ∷ 0 ∷ 2 ∷ 2 ∷ 4 ∷ 4 ∷ 6 ∷ 6 ∷ 8 ∷ 8 ∷ 10 ∷ 10 ∷ 12 ∷ 12 ∷ 14 ∷ 14 ∷ 16 ∷ 16 ∷ 18 ∷ 18 ∷ 20 ∷ 20 ∷ 22 ∷ 22 ∷ 24 ∷ 24 ∷ 26 ∷ 26 ∷ 28 ∷ 28 ∷ 30 ∷ 30 ∷ []
+lower_indices = 0 ∷ 0 ∷ 2 ∷ 2 ∷ 4 ∷ 4 ∷ 6 ∷ 6 ∷ 8 ∷ 8 ∷ 10 ∷ 10 ∷ 12 ∷ 12 ∷ 14 ∷ 14 ∷ 16 ∷ 16 ∷ 18 ∷ 18 ∷ 20 ∷ 20 ∷ 22 ∷ 22 ∷ 24 ∷ 24 ∷ 26 ∷ 26 ∷
+    28 ∷ 28 ∷ 30 ∷ 30 ∷ []
 
 abbrev pub lower_bytes : List ℕ → List ℕ
 lower_bytes us = pick_l 0 (bytes_of_sixteen us ++ bytes_of_sixteen us) lower_indices
@@ -278,7 +279,8 @@ module _ (us : List ℕ) (long : length us ≡ 16) (fit : Each1 (Fits w16) us) w
       let add = λ (a b : ℕ). (a + b) % 2 ^ 16 in
       let below = less_lanes 0x87FF us (omega arith) long fit in
       let middle = HasLanes-zip2 bit_and (HasLanes-zip2 (λ a b. a * 2 ^ b % 2 ^ 16) units (HasLanes-splat 16 2)) (HasLanes-splat 16 0x3F00) in
-      let mark = HasLanes-zip2 add (HasLanes-zip2 bit_and (HasLanes-zip2 right below (HasLanes-splat 16 1)) (HasLanes-splat 16 0x4000)) (HasLanes-splat 16 0x80E0) in
+      let mark = HasLanes-zip2 add (HasLanes-zip2 bit_and (HasLanes-zip2 right below (HasLanes-splat 16 1)) (HasLanes-splat 16 0x4000))
+          (HasLanes-splat 16 0x80E0) in
       HasLanes-zip2 add (HasLanes-zip2 add (HasLanes-zip2 right units (HasLanes-splat 16 12)) middle) mark
 
 -- the bits that the masks keep
@@ -298,7 +300,8 @@ kept_mark : (x : ℕ) → bit_and x 0x4000 ≡ x / 0x4000 % 2 * 0x4000
 kept_mark x =
     let split : x ≡ x / 0x4000 * 2 ^ 14 + x % 0x4000 = omega arith in
     let none : bit_and (x % 0x4000) 0 ≡ 0 = omega (arith, and_le_r (x % 0x4000) 0) in
-    ap (λ y. bit_and y 0x4000) split ∙ and_block 14 (x / 0x4000) 1 (x % 0x4000) 0 (omega arith) (omega arith) ∙ (λ i. and_mask (x / 0x4000) 1 i * 2 ^ 14 + none i)
+    ap (λ y. bit_and y 0x4000) split ∙ and_block 14 (x / 0x4000) 1 (x % 0x4000) 0 (omega arith) (omega arith)
+        ∙ (λ i. and_mask (x / 0x4000) 1 i * 2 ^ 14 + none i)
     ∙ omega arith
 
 spells_by : (u : ℕ) → u < 2 ^ 16 → EncodesBy u (last_word u % 0x100) (last_word u / 0x100) (lead_word u % 0x100) (lead_word u / 0x100)
@@ -355,7 +358,8 @@ words_small us long fit k l =
     )
 
 -- both words of eight code units, next to each other
-module _ (us first second ks : List ℕ) (f : ℕ → ℕ) (half : (k : ℕ) → k < 8 → f k < 16) (firsts : length first ≡ 16) (seconds : length second ≡ 16) (small : (k : ℕ)
+module _ (us first second ks : List ℕ) (f : ℕ → ℕ) (half : (k : ℕ) → k < 8 → f k < 16) (firsts : length first ≡ 16)
+    (seconds : length second ≡ 16) (small : (k : ℕ)
     → k < 16 → (get_or first k 0 < 0x10000) × (get_or second k 0 < 0x10000))
     (long : length ks ≡ 16) (evens : map (λ k. get_or ks (2 * k) 0) (range_with_len 0 8) ≡ map f (range_with_len 0 8))
     (odds : map (λ k. get_or ks (2 * k + 1) 0) (range_with_len 0 8) ≡ map (λ k. 16 + f k) (range_with_len 0 8)) where

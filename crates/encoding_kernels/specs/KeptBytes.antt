@@ -30,8 +30,8 @@ both_end (a ∷ b ∷ xs) = (nat_lt a 0xC0 && nat_lt b 0xC0) ∷ both_end xs
 abbrev pub EndsPair : ℕ → ℕ → ℕ → ℕ → ℕ → Type 0
 EndsPair p a b x y = (a < 0xC0) ⊎ (b < 0xC0) → (if nat_lt a 0xC0 && nat_lt b 0xC0 then x ∷ y ∷ [] else x ∷ []) ≡ latin1_ended p a ++ latin1_ended a b
 
--- of four bytes for each two tests, from index `at` on, the first one if the first test holds, else the last one and the
--- second if the second does, else the third, the last and the second
+-- indices of four bytes for each two tests, from `at` on: of the first byte if the first test holds. If only the second
+-- holds, they are those of the last and the second byte, and otherwise of the third, the last and the second.
 abbrev pub unit_places : ℕ → List Bool → List ℕ
 unit_places at [] = []
 unit_places at (b ∷ []) = []

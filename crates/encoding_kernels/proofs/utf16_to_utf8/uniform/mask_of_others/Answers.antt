@@ -9,7 +9,8 @@ use Rattle.encoding_kernels.proofs.VectorLemmas.{mask_of}
 use Rattle.encoding_kernels.proofs.utf16_to_utf8.uniform.mask_of_others.Goals as goal
 
 pub returns-clause-mask : goal.returns-clause-mask
-returns-clause-mask c = ap (mask_of 15) (same_comparison c.args.units c.fits-units.0 c.requires) ∙ mask_from w16 16 0x80 c.args.units c.fits-units.0 (omega arith)
+returns-clause-mask c = ap (mask_of 15) (same_comparison c.args.units c.fits-units.0 c.requires)
+    ∙ mask_from w16 16 0x80 c.args.units c.fits-units.0 (omega arith)
 
 pub returns-clause-upper_bound : goal.returns-clause-upper_bound
 returns-clause-upper_bound c =
