@@ -1,6 +1,6 @@
 -- Masks as tests of lanes: combined, used to select, and what holds if no lane passes. Lanes that are zero, and whether
 -- sixteen code units are below a power of two: the bits from it on, joined, are zero.
-use Rattle.std.proofs.Common.{◌≡◌, ℕ, ◌-◌, ◌^◌, ◌+◌, ◌<◌, ◌≤◌, ◌↔◌, IsTrue, Bool, true, false, not, cond, ◌&&◌, ◌||◌, eqb, leb, inl, inr, List, length, get_or, map, replicate, bit_and, bit_or, bit_xor, refl, sym, ap, ◌∙◌, arith, subst, zero, suc, ◌*◌, ◌/◌, [], ◌∷◌, Fits, w16, w8}
+use Rattle.std.proofs.Common.{◌≡◌, ℕ, ◌-◌, ◌^◌, ◌+◌, ◌<◌, ◌≤◌, ◌↔◌, IsTrue, Bool, true, false, not, cond, ◌&&◌, ◌||◌, eqb, leb, ltb, inl, inr, List, length, get_or, map, replicate, bit_and, bit_or, bit_xor, refl, sym, ap, ◌∙◌, arith, subst, zero, suc, ◌*◌, ◌/◌, ◌%◌, [], ◌∷◌, Fits, w16, w8}
 use Rattle.std.proofs.lemmas.Bool.{cases_lt, false≢true, leb-false, lt-leb, eqb-true, eq-eqb, not-true, not-false, not_from_false, not_from_true}
 use Rattle.std.specs.Int.Bits.{and_self, and_zero_l, and_zero_r, or_self, or_zero_l, or_zero_r, xor_self, xor_zero_l, xor_zero_r}
 use Rattle.std.specs.Simd.Lanes.{chunk, zip2, top, sel_l, fold_l, Each1}
@@ -185,3 +185,21 @@ module _ (n : ℕ) (xs ys : List ℕ) (p : length xs ≡ n) (q : length ys ≡ n
 
   pub or_zeros : IsZeroTo (zip2 bit_or xs ys) n → IsZeroTo xs n × IsZeroTo ys n
   or_zeros z = (record { each = λ i l. omega (arith, z.each i l, or_left_le i l) }, record { each = λ i l. omega (arith, z.each i l, or_right_le i l) })
+
+-- ---- saturating subtraction of sixteen code units from a splat
+abbrev pub wrapped : ℕ → ℕ → ℕ
+wrapped a b = (a + (2 ^ 16 - b)) % 2 ^ 16
+
+abbrev pub less_words : ℕ → List ℕ → List ℕ
+less_words bound us = zip2 wrapped (sel_l (map (top 15) (zip2 (compared w16 ltb) (replicate 16 bound) us)) us (replicate 16 bound)) us
+
+less_is : (a b : ℕ) → a < 65536 → b < 65536 → wrapped (cond (ltb a b) b a) b ≡ a - b
+less_is a b l k = grind (arith, nat_tests)
+
+pub less_lanes : (bound : ℕ) (us : List ℕ) → bound < 65536 → length us ≡ 16 → Each1 (Fits w16) us
+    → HasLanes 16 (less_words bound us) (λ k. bound - get_or us k 0)
+less_lanes bound us small long fit =
+    let units = HasLanes-itself 16 us long in
+    let bounds = HasLanes-splat 16 bound in
+    HasLanes_same (HasLanes-zip2 wrapped (chosen_by (tests_of w16 ltb bounds units) units bounds) units) (λ k l.
+    less_is bound (get_or us k 0) small (Each1-get_or (Fits w16) us k 0 (omega (arith, long)) fit).fits)

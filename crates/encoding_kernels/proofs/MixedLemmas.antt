@@ -1,4 +1,4 @@
--- The UTF-8 of code units in four bytes each, whose last ones are kept.
+-- The UTF-8 of code units in four bytes each, of which a table selects and orders those of their UTF-8.
 use Rattle.std.proofs.Common.{◌≡◌, ℕ, suc, ◌+◌, ◌-◌, ◌*◌, ◌/◌, ◌%◌, ◌^◌, ◌<◌, ◌≤◌, IsTrue, Bool, true, false, not, eqb, cond, inl, inr, replicate, Fits, w16, List, [], ◌∷◌, ◌++◌, map, length, take, drop, get_or, encode_utf8, encode_utf8_all, length-append, bit_and, refl, sym, ap, ◌∙◌, arith, subst, w8, leb, ltb, length-take-le, length-drop, take-append-drop, get_or-drop, get_or-take}
 use Rattle.std.specs.Prelude.{nat_lt}
 use Rattle.std.proofs.lemmas.Bool.{cases_lt, eqb-false, ltb-true, lt-ltb}
@@ -17,7 +17,7 @@ use Rattle.encoding_kernels.specs.Scans.{HasLanes}
 use Rattle.encoding_kernels.specs.KeptBytes.{unit_places, length_classes, EncodesBy}
 use Rattle.encoding_kernels.proofs.CompressLemmas.{mask_append}
 use Rattle.encoding_kernels.proofs.VectorLemmas.{HasLanes-itself, HasLanes-numbers, HasLanes_same, HasLanes-splat, HasLanes-zip2, compared, firsts_are, mask_of, same_below, bytes_of_sixteen, sixteen_lanes, wide_sixteen, wide_sixteen_l}
-use Rattle.encoding_kernels.proofs.MaskLemmas.{HasTests, tests_of, chosen_by, none_passes, run_is_first}
+use Rattle.encoding_kernels.proofs.MaskLemmas.{HasTests, tests_of, chosen_by, none_passes, run_is_first, less_lanes, less_words}
 use Rattle.encoding_kernels.proofs.UniformLemmas.{mask_from, ones-none}
 use Rattle.encoding_kernels.proofs.CodeUnitLemmas.{picked_lanes}
 
@@ -155,23 +155,6 @@ four_parts us a b d e p q r s = (λ i. (p i ++ q i) ++ (r i ++ s i)) ∙ (λ i. 
     joined : (xs : List ℕ) → encode_utf8_all (take 4 xs) ++ encode_utf8_all (drop 4 xs) ≡ encode_utf8_all xs
     joined xs = sym (encodes-append (take 4 xs) (drop 4 xs)) ∙ ap encode_utf8_all (take-append-drop 4 xs)
 
--- ---- saturating subtraction from a splat
-abbrev wrapping_less : ℕ → ℕ → ℕ
-wrapping_less a b = (a + (2 ^ 16 - b)) % 2 ^ 16
-
-abbrev pub less_words : ℕ → List ℕ → List ℕ
-less_words bound us = zip2 wrapping_less (sel_l (map (top 15) (zip2 (compared w16 ltb) (replicate 16 bound) us)) us (replicate 16 bound)) us
-
-wrapping_less_is : (a b : ℕ) → a < 65536 → b < 65536 → wrapping_less (cond (ltb a b) b a) b ≡ a - b
-wrapping_less_is a b l k = grind (arith, nat_tests)
-
-less_lanes : (bound : ℕ) (us : List ℕ) → bound < 65536 → length us ≡ 16 → Each1 (Fits w16) us → HasLanes 16 (less_words bound us) (λ k. bound - get_or us k 0)
-less_lanes bound us small long fit =
-    let units = HasLanes-itself 16 us long in
-    let bounds = HasLanes-splat 16 bound in
-    HasLanes_same (HasLanes-zip2 wrapping_less (chosen_by (tests_of w16 ltb bounds units) units bounds) units) (λ k l.
-    wrapping_less_is bound (get_or us k 0) small (Each1-get_or (Fits w16) us k 0 (omega (arith, long)) fit).fits)
-
 -- ---- the vector of classes
 abbrev pub class_word : ℕ → ℕ
 class_word u = ((0x807F - u) / 2 ^ 8 + bit_and (0x87FF - u) 0xFF00) % 2 ^ 16
@@ -280,7 +263,7 @@ module _ (us : List ℕ) (long : length us ≡ 16) (fit : Each1 (Fits w16) us) w
       let below = less_lanes 0x87FF us (omega arith) long fit in
       let middle = HasLanes-zip2 bit_and (HasLanes-zip2 (λ a b. a * 2 ^ b % 2 ^ 16) units (HasLanes-splat 16 2)) (HasLanes-splat 16 0x3F00) in
       let mark = HasLanes-zip2 add (HasLanes-zip2 bit_and (HasLanes-zip2 right below (HasLanes-splat 16 1)) (HasLanes-splat 16 0x4000))
-          (HasLanes-splat 16 0x80E0) in
+      (HasLanes-splat 16 0x80E0) in
       HasLanes-zip2 add (HasLanes-zip2 add (HasLanes-zip2 right units (HasLanes-splat 16 12)) middle) mark
 
 -- the bits that the masks keep
@@ -301,7 +284,7 @@ kept_mark x =
     let split : x ≡ x / 0x4000 * 2 ^ 14 + x % 0x4000 = omega arith in
     let none : bit_and (x % 0x4000) 0 ≡ 0 = omega (arith, and_le_r (x % 0x4000) 0) in
     ap (λ y. bit_and y 0x4000) split ∙ and_block 14 (x / 0x4000) 1 (x % 0x4000) 0 (omega arith) (omega arith)
-        ∙ (λ i. and_mask (x / 0x4000) 1 i * 2 ^ 14 + none i)
+    ∙ (λ i. and_mask (x / 0x4000) 1 i * 2 ^ 14 + none i)
     ∙ omega arith
 
 spells_by : (u : ℕ) → u < 2 ^ 16 → EncodesBy u (last_word u % 0x100) (last_word u / 0x100) (lead_word u % 0x100) (lead_word u / 0x100)

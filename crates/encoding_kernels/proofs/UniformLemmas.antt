@@ -100,7 +100,7 @@ mask_from w n bound us long few =
 pub respell : (u : ℕ) {x y x2 y2 : ℕ} → x ≡ x2 → y ≡ y2 → EncodesTo u x2 y2 → EncodesTo u x y
 respell u {x} {y} {x2} {y2} p q s = subst (λ k. EncodesTo u k y) (sym p) (subst (EncodesTo u x2) (sym q) s)
 
-pub pick : (b : Bool) (x y : ℕ) → x < 65536 → y < 65536 → cond b x y < 65536
+pick : (b : Bool) (x y : ℕ) → x < 65536 → y < 65536 → cond b x y < 65536
 pick b x y l m = grind (arith, nat_tests)
 
 -- the words of sixteen code units, as bytes

@@ -120,9 +120,9 @@ pub(crate) fn store_two(
     second.copy_to_slice(&mut dst[at + count..]);
 }
 
-/// Builds the table lane by lane, last lane first. Each row lists the indices of the lane's UTF-8 by its two bits: of the
-/// third, last and second byte, of the first one, of the last and second, or of the first one, followed by those of later
-/// lanes. A row has three words of indices, and how many these are.
+/// Builds the table lane by lane, last lane first. Each row lists the indices of the lane's UTF-8 by its two bits. If neither
+/// is set, these are the third, last and second byte, and if only the second is, the last and the second. Otherwise it is the
+/// first one. Those of later lanes follow. A row has three words of indices and one with their number.
 macro_rules! unit_rows {
     ([] $($row:expr, $length:expr);*) => {
         [$(
@@ -143,8 +143,8 @@ macro_rules! unit_rows {
 }
 
 /// For each mask of four lanes, the indices of the bytes that are kept: of a lane the first one if the first of its bits is
-/// set, else the last and the second if the second is, else the third, the last and the second. Zeros and their number
-/// follow.
+/// set, else the last and the second if the second is, else the third, the last and the second. Zeros follow, and in the
+/// fourth word the number of the indices.
 const UNIT_PLACES: [u32; 1024] = unit_rows!([12u128 8u128 4u128 0u128] 0u128, 0u32);
 
 /// Returns a word of the table.

@@ -1,10 +1,7 @@
 //! The UTF-8 of sixteen code units that are no surrogates: each has four bytes, and a table selects and orders those of
-//! its UTF-8. Steps
-//! that change nothing else convert what is left, and single characters.
+//! its UTF-8. Steps that change nothing else convert what is left, and single characters.
 
-ghost use Rattle.std.specs.Prelude.{◌≡◌, ℕ, ◌+◌, ◌-◌, ◌*◌, ◌/◌, ◌%◌, ◌<◌, ◌≤◌, List, ◌++◌, length, take, drop, replicate, slice_index, encode_utf8_all, IsTrue};
-ghost use Rattle.std.specs.Int.RustNames.{count_ones};
-ghost use Rattle.std.specs.Int.Bits.{bit_and};
+ghost use Rattle.std.specs.Prelude.{◌≡◌, ℕ, ◌+◌, ◌*◌, ◌/◌, ◌%◌, ◌<◌, ◌≤◌, List, ◌++◌, length, take, drop, replicate, slice_index, encode_utf8_all, IsTrue};
 ghost use Rattle.std.specs.Simd.Lanes.{mask_l};
 ghost use Rattle.encoding_definitions.specs.Prefixes.{WritesPrefix};
 ghost use Rattle.encoding_kernels.specs.KeptBytes.{EncodesBy, length_classes};
