@@ -1,15 +1,15 @@
 -- UTF-16 of many characters at once: of eight of three bytes, and of those that end in 64 bytes.
-use Rattle.std.proofs.Common.{◌≡◌, ℕ, zero, suc, ◌+◌, ◌-◌, ◌^◌, ◌<◌, ◌≤◌, inl, inr, Bool, true, false, if◌then◌else◌, ltb, List, [], ◌∷◌, ◌++◌, map, length, take, drop, get_or, refl, sym, ap, ◌∙◌, arith, subst, take-add, append_assoc, drop-drop}
+use Rattle.std.proofs.Common.{◌≡◌, ◌&&◌, ℕ, not, eqb, leb, bit_and, zero, suc, ◌+◌, ◌-◌, ◌^◌, ◌<◌, ◌≤◌, inl, inr, Bool, true, false, if◌then◌else◌, ltb, List, [], ◌∷◌, ◌++◌, map, length, take, drop, get_or, refl, sym, ap, ◌∙◌, arith, subst, take-add, append_assoc, drop-drop}
 use Rattle.std.specs.List.{range_with_len}
 use Rattle.std.specs.Str.{IsUtf8, IsCharBoundary}
 use Rattle.std.specs.Simd.Lanes.{chunk, mask_l, pick_l}
-use Rattle.std.proofs.lemmas.Bool.{cases_lt, cond-true, cond-false, lt-ltb, le-ltb, ltb-true}
+use Rattle.std.proofs.lemmas.Bool.{cases_lt, cond-true, cond-false, lt-ltb, le-ltb, ltb-true, and_parts, leb-true, not-false}
 use borrow.Rule.Slice.PartMut.{put_mid}
 use Rattle.std.proofs.Math.Seq.{take-append-add}
 use Rattle.std.proofs.lemmas.List.{append-nil, drop_all, drop_at, take_rest, length-take-le, length-append, length-drop, length-take, get_or-take, get_or-drop, get_or-map, get_or_append_left, get_or-append_right, length-map}
 use Rattle.std.proofs.lemmas.Bool.Decides.{nat_tests}
 use Rattle.encoding_kernels.specs.Scans.{BelowBetween, HasLanes}
-use Rattle.encoding_kernels.specs.EndingUnits.{NoUnitEnds, StoresUnits, WritesCompressed, WritesUtf16, ends_after, ends_unit, keep, unit_at, units_after}
+use Rattle.encoding_kernels.specs.EndingUnits.{BeginsThree, NoUnitEnds, StoresUnits, WritesCompressed, WritesUtf16, ends_after, ends_unit, keep, unit_at, units_after}
 use Rattle.std.proofs.lemmas.Simd.{mask_l-lt}
 use Rattle.encoding_kernels.proofs.VectorLemmas.{HasLanes_load, HasLanes_same, same_below}
 use Rattle.std.specs.Char.Escape.{encode_utf16}
@@ -18,6 +18,13 @@ use Rattle.std.proofs.lemmas.Str.{IsUtf8-take, IsUtf8-drop}
 use Rattle.encoding_kernels.proofs.CodeUnitLemmas.{ends_at, length-ends, length-units}
 use Rattle.encoding_kernels.proofs.CompressLemmas.{length-keep-le}
 use Rattle.encoding_kernels.proofs.Utf8ToUtf16Lemmas.{units_from, units_of_characters}
+
+-- ---- the first of three bytes
+pub three_from : (b : ℕ) → b < 256 → not (eqb (bit_and b 0xF0) 0xE0) ≡ false → BeginsThree b
+three_from b l e =
+    let same = same_below (λ k. not (eqb (bit_and k 0xF0) 0xE0)) (λ k. not (leb 0xE0 k && ltb k 0xF0)) false 256 refl b l in
+    let both = and_parts (leb 0xE0 b) (ltb b 0xF0) (not-false _ (sym same ∙ e)) in
+    (leb-true _ _ both.0, ltb-true _ _ both.1)
 
 -- ---- 24 bytes in two vectors
 -- the place in the text of a lane of both

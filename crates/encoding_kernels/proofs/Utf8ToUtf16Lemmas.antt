@@ -11,7 +11,7 @@ use Rattle.std.proofs.lemmas.Bool.{cond-true, cond-false, cases_lt, lt-leb, le-l
 use Rattle.std.proofs.lemmas.Bool.Decides.{nat_tests}
 use Rattle.std.proofs.lemmas.Grind.{same_number_lists}
 use Rattle.std.proofs.lemmas.Simd.{length-replicate, mask_l-lt, put_chunk_is}
-use Rattle.std.proofs.lemmas.List.{length-append, length-drop, length-take-le, take-append-drop, take_at, take-take, drop_at, drop-drop, get_or-drop, get_or-take}
+use Rattle.std.proofs.lemmas.List.{length-append, length-drop, length-take-le, take-append-drop, take_at, take-take, drop_at, drop-drop, get_or-drop, get_or-take, take-append-le}
 use Rattle.std.proofs.lemmas.Str.{IsUtf8-take, IsUtf8-drop, IsUtf8-from_ascii, IsCharBoundary-after_ascii, IsCharBoundary-start, encodes-IsAscii, encodes_same, chars-IsAscii}
 use Rattle.encoding_definitions.specs.Prefixes.{WritesPrefix}
 use Rattle.encoding_kernels.specs.Scans.{HasLanes}
@@ -344,14 +344,17 @@ triples (suc n) src u b =
     values c cs first more zero l = first
     values c cs first more (suc k) l = more k (omega arith)
 
-pub puts_triples : (src old r : List ℕ) → IsUtf8 src → 8 ≤ length old → ((k : ℕ) → k < 8 → BeginsThree (get_or src (3 * k) 0))
+-- eight units are stored, and the first n are those of characters of three bytes
+pub puts_triples : (n : ℕ) (src old r : List ℕ) → n ≤ 8 → IsUtf8 src → 8 ≤ length old → ((k : ℕ) → k < n → BeginsThree (get_or src (3 * k) 0))
     → HasLanes 8 r (λ k. triple_unit (get_or src (3 * k) 0) (get_or src (3 * k + 1) 0) (get_or src (3 * k + 2) 0))
-    → WritesUtf16 src old (put_chunk 0 old r) 24 8 8
-puts_triples src old r u room b h =
-    let t = triples 8 src u b in
-    let put : put_chunk 0 old r ≡ r ++ drop 8 old = put_chunk_is 0 old r (omega (arith, h.long, room)) ∙ ap (λ n. r ++ drop n old) h.long in
-    let same : r ≡ t.scalars_of = same_number_lists r t.scalars_of (omega (arith, h.long, t.long)) (λ k l.
-    let in_eight : k < 8 = omega (arith, h.long) in h.each k in_eight ∙ sym (t.values k in_eight)) in
+    → WritesUtf16 src old (put_chunk 0 old r) (3 * n) n 8
+puts_triples n src old r few u room b h =
+    let t = triples n src u b in
+    let put : put_chunk 0 old r ≡ r ++ drop 8 old = put_chunk_is 0 old r (omega (arith, h.long, room)) ∙ ap (λ k. r ++ drop k old) h.long in
+    let size : length (take n r) ≡ n = length-take-le n r (omega (arith, h.long)) in
+    let same : take n r ≡ t.scalars_of = same_number_lists (take n r) t.scalars_of (omega (arith, size, t.long)) (λ k l.
+    let within : k < n = omega (arith, size) in
+    get_or-take n r k 0 within ∙ h.each k (omega arith) ∙ sym (t.values k within)) in
     record {
       taken = t.scalars_of;
       are_scalars = t.are_scalars;
@@ -359,6 +362,6 @@ puts_triples src old r u room b h =
       spelled = t.spelled;
       rest = t.rest;
       counted = sym (ap length t.units ∙ t.long);
-      placed = ap (take 8) put ∙ take_at r (drop 8 old) 8 h.long ∙ same ∙ sym t.units;
+      placed = ap (take n) put ∙ take-append-le n r (drop 8 old) (omega (arith, h.long)) ∙ same ∙ sym t.units;
       following = ap (drop 8) put ∙ drop_at r (drop 8 old) 8 h.long;
     }

@@ -7,25 +7,25 @@
 
 ghost use Rattle.std.specs.Prelude.{◌+◌, ◌-◌, ◌/◌, ◌<◌, ◌≤◌, length, ◌≡◌, ◌^◌, false, ◌++◌, take, replicate, IsTrue, drop};
 ghost use Rattle.std.specs.Str.{IsUtf8, IsCharBoundary, chars};
-ghost use Rattle.encoding_kernels.specs.EndingUnits.{WritesUtf16, units_in, ends_after};
+ghost use Rattle.encoding_kernels.specs.EndingUnits.{NoUnitEnds, WritesUtf16, units_in, ends_after};
 ghost use Rattle.std.specs.Int.RustNames.{count_ones};
 ghost use Rattle.std.specs.Simd.Lanes.{mask_l};
 ghost use Rattle.std.specs.List.{flat_map};
 ghost use Rattle.std.specs.Char.Escape.{encode_utf16};
 ghost use Rattle.encoding_definitions.specs.Prefixes.{WritesPrefix};
-ghost use Rattle.encoding_kernels.specs.Scans.{AllBelow, BelowBetween};
+ghost use Rattle.encoding_kernels.specs.Scans.{AllBelow, BelowBetween, BelowUpTo};
 
 use crate::scalar::{decode_utf8_scalar, is_continuation, sequence_length, write_utf16};
 use crate::simd::copy::{LANES as BYTE_LANES, unpack};
 use crate::simd::scan::are_bytes_below;
-use crate::simd::width::{ASCII_END, BLOCK, STRIDE};
+use crate::simd::width::{ASCII_END, BLOCK, HALF_BLOCK, STRIDE};
 use crate::tuning::SHORT_TEXT;
 use crate::utf8_to_utf16::code_units::{
     code_units, is_below, unit_ends, write_compressed, write_compressed_exact,
 };
 use crate::utf8_to_utf16::groups::{
-    FOUR_BYTES, GROUP_OF_TEXT, TRIPLES, UNITS, begins_triples, greatest_after_stride, group_end,
-    write_any_group, write_triples,
+    FOUR_BYTES, GROUP_OF_TEXT, TRIPLES, UNITS, begins_four_bytes, begins_triples,
+    greatest_after_stride, group_end, write_group, write_some_triples, write_triples,
 };
 use std::simd::prelude::*;
 
@@ -155,9 +155,59 @@ fn write_before_ascii(src: &[u8], dst: &mut [u16]) -> usize
     written + 48
 }
 
+/// Writes the UTF-16 of up to eight characters of three bytes that a text begins with, and of the character of four bytes
+/// after them, if there is one. Returns how many bytes it read and how many code units it wrote. Units that the rest of the
+/// text overwrites may have changed too.
+#[inline(always)]
+fn write_before_pair(src: &[u8], dst: &mut [u16]) -> (usize, usize)
+    requires dst_length { (88 ≤ length src.now) × (length src.now ≤ length dst.old) }
+    requires text { IsUtf8 src.now }
+    ensures { WritesUtf16 src.now dst.old dst.new result.0 result.1 (units_in src.now) }
+{
+    let count = write_some_triples(src, dst);
+    let read = 3 * count;
+    if src[read] < FOUR_BYTES {
+        return (read, count);
+    }
+    let (bytes, units) = write_character(&src[read..], &mut dst[count..]);
+    (read + bytes, count + units)
+}
+
+/// Writes the UTF-16 of the characters that end in the first 64 bytes, given their end, if none has more than N bytes. Returns
+/// its length in code units. Units that the rest of the text overwrites may have changed too.
+#[inline(always)]
+fn write_group_before<const N: usize>(src: &[u8], end: usize, dst: &mut [u16]) -> usize
+    requires dst_length { (88 ≤ length src.now) × (length src.now ≤ length dst.old) }
+    requires text { IsUtf8 src.now }
+    requires end { (end ≤ 64) × IsCharBoundary src.now end }
+    requires cut { NoUnitEnds src.now end 64 }
+    requires short { N < 4 → BelowUpTo 0xF0 src.now 64 }
+    ensures { WritesUtf16 src.now dst.old dst.new end result (units_in src.now) }
+{
+    write_group::<N>(src, dst)
+}
+
+/// Writes the UTF-16 of the first characters of a text, given the end of the last whole one in its first 64 bytes. These are
+/// all of them, or, if characters of four bytes are rare among those of three, the ones up to the first of four. Returns how
+/// many bytes it read and how many code units it wrote. Units that the rest of the text overwrites may have changed too. Out
+/// of line, since few texts have characters of four bytes.
+#[inline(never)]
+fn write_with_pairs(src: &[u8], end: usize, dst: &mut [u16]) -> (usize, usize)
+    requires dst_length { (88 ≤ length src.now) × (length src.now ≤ length dst.old) }
+    requires text { IsUtf8 src.now }
+    requires end { (end ≤ 64) × IsCharBoundary src.now end }
+    requires cut { NoUnitEnds src.now end 64 }
+    ensures { WritesUtf16 src.now dst.old dst.new result.0 result.1 (units_in src.now) }
+{
+    if src[0] & 0xF0 == 0xE0 && are_bytes_below::<HALF_BLOCK>(src, HALF_BLOCK, FOUR_BYTES) {
+        return write_before_pair(src, dst);
+    }
+    (end, write_group_before::<4>(src, end, dst))
+}
+
 /// Writes the UTF-16 of the first characters of a text: eight of three bytes each, or those that end in the first 64
-/// bytes. Returns how many bytes it read and how many code units it wrote, or zeros if a character of four bytes ends
-/// with the byte after them. Units that the rest of the text overwrites may have changed too.
+/// bytes, or some of these. Returns how many bytes it read and how many code units it wrote, or zeros if a character of
+/// four bytes ends with the byte after the first 64. Units that the rest of the text overwrites may have changed too.
 #[inline(always)]
 fn convert_group(src: &[u8], dst: &mut [u16]) -> (usize, usize)
     requires dst_length { (88 ≤ length src.now) × (length src.now ≤ length dst.old) }
@@ -176,7 +226,10 @@ fn convert_group(src: &[u8], dst: &mut [u16]) -> (usize, usize)
     if is_below(rest, ASCII_END) {
         return (end, write_before_ascii(src, dst));
     }
-    (end, write_any_group(src, rest, dst))
+    if begins_four_bytes(src, rest) {
+        return write_with_pairs(src, end, dst);
+    }
+    (end, write_group_before::<3>(src, end, dst))
 }
 
 /// Writes the UTF-16 of a text by groups of 64 bytes, until 64 bytes are ASCII or at most 87 are left. It also ends at a group

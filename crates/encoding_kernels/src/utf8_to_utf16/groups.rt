@@ -6,10 +6,11 @@
 ghost use Rattle.std.specs.Prelude.{ℕ, ◌≡◌, ◌+◌, ◌*◌, ◌<◌, ◌≤◌, ◌∷◌, IsTrue, IsFalse, length, take, drop, slice_index};
 ghost use Rattle.std.specs.Str.{IsUtf8, IsCharBoundary};
 ghost use Rattle.encoding_kernels.specs.Scans.{BelowBetween, BelowUpTo, HasLanes};
-ghost use Rattle.encoding_kernels.specs.EndingUnits.{WritesUtf16, WritesCompressed, StoresUnits, BoundsStrides, units_after, ends_after, BeginsThree, NoUnitEnds, triple_unit};
+ghost use Rattle.encoding_kernels.specs.EndingUnits.{WritesUtf16, WritesCompressed, StoresUnits, BoundsStrides, units_after, units_in, ends_after, BeginsThree, NoUnitEnds, triple_unit};
 
 use crate::scalar::is_continuation;
 use crate::simd::copy::{one_before, three_before, two_before};
+use crate::simd::scan::run_before;
 use crate::simd::width::{BLOCK, FOUR, STRIDE};
 use crate::utf8_to_utf16::code_units::{
     ends_of_stride, is_below, units_of_stride, write_compressed,
@@ -95,6 +96,40 @@ pub(super) fn write_triples(src: &[u8], dst: &mut [u16])
     triple_units(src).copy_to_slice(dst);
 }
 
+/// Returns how many of the first eight characters have three bytes, up to the first that hasn't.
+#[inline(always)]
+fn leading_triples(src: &[u8]) -> usize
+    requires { 24 ≤ length src.now }
+    ensures within { result ≤ 8 }
+    ensures triples { (k : ℕ) → k < result → BeginsThree (slice_index src.now (3 * k)) }
+{
+    let first = u8x16::from_slice(src) & u8x16::from_array(LEAD_BITS);
+    let later = u8x16::from_slice(&src[8..]) & u8x16::from_array(LATER_BITS);
+    let others = first.simd_ne(u8x16::from_array(LEAD_VALUES)).to_bitmask();
+    let others_later = later.simd_ne(u8x16::from_array(LATER_VALUES)).to_bitmask();
+    let before = run_before::<16>(others);
+    let before_later = run_before::<16>(others_later);
+    let end = if before < 16 {
+        before
+    } else {
+        8 + before_later
+    };
+    end / 3
+}
+
+/// Writes the UTF-16 of up to eight characters of three bytes that a text begins with, and returns how many they are. The
+/// first eight code units may have changed.
+#[inline(always)]
+pub(super) fn write_some_triples(src: &[u8], dst: &mut [u16]) -> usize
+    requires dst_length { (24 ≤ length src.now) × (8 ≤ length dst.old) }
+    requires text { IsUtf8 src.now }
+    ensures within { result ≤ 8 }
+    ensures written { WritesUtf16 src.now dst.old dst.new (3 * result) result 8 }
+{
+    triple_units(src).copy_to_slice(dst);
+    leading_triples(src)
+}
+
 /// Returns for each lane the greatest of the bytes at it in the last three strides of 64 bytes.
 #[inline(always)]
 pub(super) fn greatest_after_stride(src: &[u8]) -> u8x16
@@ -109,7 +144,7 @@ pub(super) fn greatest_after_stride(src: &[u8]) -> u8x16
 
 /// Returns whether one of the first 64 bytes begins a character of four bytes, given the greatest of the last three strides.
 #[inline(always)]
-fn begins_four_bytes(src: &[u8], rest: u8x16) -> bool
+pub(super) fn begins_four_bytes(src: &[u8], rest: u8x16) -> bool
     requires src_length { 64 ≤ length src.now }
     requires rest { BoundsStrides src.now rest }
     ensures { IsFalse result → BelowUpTo 0xF0 src.now 64 }
@@ -164,7 +199,7 @@ fn write_stride<const N: usize>(
 /// Writes the code units that end in the first 64 bytes, if no character has more than N bytes, and returns their number.
 /// Up to eight units after them may change.
 #[inline(always)]
-fn write_group<const N: usize>(src: &[u8], dst: &mut [u16]) -> usize
+pub(super) fn write_group<const N: usize>(src: &[u8], dst: &mut [u16]) -> usize
     requires dst_length { (64 ≤ length src.now) × (64 ≤ length dst.old) }
     requires short { N < 4 → BelowUpTo 0xF0 src.now 64 }
     ensures { StoresUnits src.now dst.old dst.new 64 result }
@@ -180,28 +215,4 @@ fn write_group<const N: usize>(src: &[u8], dst: &mut [u16]) -> usize
         written += write_stride::<N>(src, at, three, two, one, &mut dst[written..]);
     }
     written
-}
-
-/// Writes the code units that end in the first 64 bytes, as `write_group` does. Out of line, since few texts have
-/// characters of four bytes.
-#[inline(never)]
-fn write_group_with_pairs(src: &[u8], dst: &mut [u16]) -> usize
-    requires dst_length { (64 ≤ length src.now) × (64 ≤ length dst.old) }
-    ensures { StoresUnits src.now dst.old dst.new 64 result }
-{
-    write_group::<4>(src, dst)
-}
-
-/// Writes the code units that end in the first 64 bytes, given the greatest of the last three strides, and returns their
-/// number. Up to eight units after them may change.
-#[inline(always)]
-pub(super) fn write_any_group(src: &[u8], rest: u8x16, dst: &mut [u16]) -> usize
-    requires dst_length { (64 ≤ length src.now) × (64 ≤ length dst.old) }
-    requires rest { BoundsStrides src.now rest }
-    ensures { StoresUnits src.now dst.old dst.new 64 result }
-{
-    if begins_four_bytes(src, rest) {
-        return write_group_with_pairs(src, dst);
-    }
-    write_group::<3>(src, dst)
 }

@@ -1,16 +1,10 @@
-use Rattle.std.proofs.Common.{◌≡◌, ℕ, ◌+◌, ◌-◌, ◌*◌, ◌<◌, ◌&&◌, ◌||◌, ◌∙◌, Bool, true, arith, bit_and, eqb, false, get_or, inl, inr, leb, ltb, not, refl, sym, w8}
-use Rattle.std.proofs.lemmas.Bool.{true≢false, and_parts, cases_lt, leb-true, ltb-true, not-false}
+use Rattle.std.proofs.Common.{◌≡◌, ℕ, ◌+◌, ◌-◌, ◌*◌, ◌<◌, ◌||◌, ◌∙◌, Bool, true, arith, bit_and, eqb, false, get_or, inl, inr, not, refl, sym, w8}
+use Rattle.std.proofs.lemmas.Bool.{true≢false, cases_lt}
 use Rattle.encoding_kernels.specs.declared.utf8_to_utf16.groups.TheConstants.{LEAD_BITS, LEAD_VALUES, LATER_BITS, LATER_VALUES}
-use Rattle.encoding_kernels.specs.EndingUnits.{BeginsThree}
+use Rattle.encoding_kernels.proofs.GroupLemmas.{three_from}
 use Rattle.encoding_kernels.proofs.VectorLemmas.{HasLanes-itself, HasLanes-zip2, HasLanes_load, same_below}
 use Rattle.encoding_kernels.proofs.MaskLemmas.{tests_of, tests_or, none_passes}
 use Rattle.encoding_kernels.proofs.utf8_to_utf16.groups.begins_triples.Goals as goal
-
-three_from : (b : ℕ) → b < 256 → not (eqb (bit_and b 0xF0) 0xE0) ≡ false → BeginsThree b
-three_from b l e =
-    let same = same_below (λ k. not (eqb (bit_and k 0xF0) 0xE0)) (λ k. not (leb 0xE0 k && ltb k 0xF0)) false 256 refl b l in
-    let both = and_parts (leb 0xE0 b) (ltb b 0xF0) (not-false _ (sym same ∙ e)) in
-    (leb-true _ _ both.0, ltb-true _ _ both.1)
 
 or_false : (p q : Bool) → p || q ≡ false → (p ≡ false) × (q ≡ false)
 or_false true q e = absurd (true≢false e)
