@@ -43,9 +43,9 @@ pub const LONGEST_VECTOR_COPY: usize = 256;
 /// In bytes: a shorter text goes from UTF-8 to UTF-16 by blocks of sixteen, and not by groups of 64. In a longer one, blocks
 /// go on while fewer are left.
 ///
-/// `convert_str_to_utf16`, in a build without the toolchain: with 88, of 100 bytes Chinese 0.86 and HTML 0.96; with 192, of
-/// 170 bytes Western European text 0.88, HTML 0.94, Chinese 1.08.
-pub const SHORT_TEXT: usize = 128;
+/// `convert_str_to_utf16`, in a build without the toolchain: with 128, of 150 bytes Chinese 0.93, with emoji 0.90, Russian 1.07,
+/// HTML 1.05; with 256, of 220 bytes Chinese 1.03, with emoji 1.06, Russian 0.90, Western European text 0.96.
+pub const SHORT_TEXT: usize = 192;
 
 /// In bytes: how much is validated before it is converted or scanned, so that it is still in the nearest cache.
 ///

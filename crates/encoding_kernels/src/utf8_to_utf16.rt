@@ -3,3 +3,4 @@
 pub(crate) mod code_units;
 pub mod convert;
 mod groups;
+mod long_text;

@@ -35,7 +35,7 @@ const FORMS: u8 = 1 << 6;
 /// FC00 to FC0F, and FD00 to FD0F.
 const FIRST_FORMS: u8 = 1 << 7;
 
-/// The groups of which each third nibble but 0 is possible.
+/// The groups of which each third nibble from 1 on is possible.
 const ANY_THIRD: u8 = ARABIC | FORMS;
 
 /// The groups of which each fourth nibble is possible.

@@ -7,32 +7,29 @@
 
 ghost use Rattle.std.specs.Prelude.{◌+◌, ◌-◌, ◌/◌, ◌<◌, ◌≤◌, length, ◌≡◌, ◌^◌, false, ◌++◌, take, replicate, IsTrue, drop};
 ghost use Rattle.std.specs.Str.{IsUtf8, IsCharBoundary, chars};
-ghost use Rattle.encoding_kernels.specs.EndingUnits.{NoUnitEnds, WritesUtf16, units_in, ends_after};
+ghost use Rattle.encoding_kernels.specs.EndingUnits.{WritesUtf16, units_in, ends_after};
 ghost use Rattle.std.specs.Int.RustNames.{count_ones};
 ghost use Rattle.std.specs.Simd.Lanes.{mask_l};
 ghost use Rattle.std.specs.List.{flat_map};
 ghost use Rattle.std.specs.Char.Escape.{encode_utf16};
 ghost use Rattle.encoding_definitions.specs.Prefixes.{WritesPrefix};
-ghost use Rattle.encoding_kernels.specs.Scans.{AllBelow, BelowBetween, BelowUpTo};
 
 use crate::scalar::{decode_utf8_scalar, is_continuation, sequence_length, write_utf16};
-use crate::simd::copy::{LANES as BYTE_LANES, unpack};
+use crate::simd::copy::LANES as BYTE_LANES;
 use crate::simd::scan::are_bytes_below;
-use crate::simd::width::{ASCII_END, BLOCK, HALF_BLOCK, STRIDE};
+use crate::simd::width::{ASCII_END, BLOCK, STRIDE};
 use crate::tuning::SHORT_TEXT;
 use crate::utf8_to_utf16::code_units::{
-    code_units, is_below, unit_ends, write_compressed, write_compressed_exact,
+    code_units, unit_ends, write_compressed, write_compressed_exact,
 };
-use crate::utf8_to_utf16::groups::{
-    FOUR_BYTES, GROUP_OF_TEXT, TRIPLES, UNITS, begins_four_bytes, begins_triples,
-    greatest_after_stride, group_end, write_group, write_some_triples, write_triples,
-};
+use crate::utf8_to_utf16::groups::{TRIPLES, UNITS, begins_triples, write_triples};
+use crate::utf8_to_utf16::long_text::convert_groups;
 use std::simd::prelude::*;
 
 /// Writes the UTF-16 of some first characters, and returns how many bytes it read and how many code units it wrote.
 /// Units that the rest of the text overwrites may have changed too.
 #[inline(always)]
-fn write_some(src: &[u8], dst: &mut [u16]) -> (usize, usize)
+pub(super) fn write_some(src: &[u8], dst: &mut [u16]) -> (usize, usize)
     requires dst_length { (16 < length src.now) × (length src.now ≤ length dst.old) }
     requires text { IsUtf8 src.now }
     ensures progress { 0 < result.0 }
@@ -53,18 +50,6 @@ fn write_some(src: &[u8], dst: &mut [u16]) -> (usize, usize)
     (end, write_block_in_any_room(src, end, kept, dst))
 }
 
-/// Returns whether the text begins with an ASCII byte.
-#[inline(always)]
-fn begins_ascii(src: &[u8]) -> bool {
-    !src.is_empty() && src[0] < ASCII_END
-}
-
-/// Returns whether the text begins with 64 bytes of ASCII.
-#[inline(always)]
-fn begins_ascii_block(src: &[u8]) -> bool {
-    src.len() >= BLOCK && are_bytes_below::<BLOCK>(src, 0, ASCII_END)
-}
-
 /// Returns whether the text at an index is no longer converted by blocks: it is long enough for groups, or it is a stride
 /// of ASCII before the last 64 bytes.
 #[inline(always)]
@@ -79,7 +64,7 @@ fn ends_blocks(src: &[u8], at: usize) -> bool
 /// the rest of the text overwrites may have changed too. In the last 64 bytes ASCII ends no blocks, since they would soon
 /// be over.
 #[inline(never)]
-pub fn write_blocks(src: &[u8], dst: &mut [u16]) -> (usize, usize)
+fn write_blocks(src: &[u8], dst: &mut [u16]) -> (usize, usize)
     requires dst_length { (0 < length src.now) × (length src.now ≤ length dst.old) }
     requires text { IsUtf8 src.now }
     ensures progress { 0 < result.0 }
@@ -103,174 +88,19 @@ pub fn write_blocks(src: &[u8], dst: &mut [u16]) -> (usize, usize)
     (src.len(), written + units)
 }
 
-/// Writes the UTF-16 of a first block as `write_some` does. Out of line, since few texts need it.
-#[inline(never)]
-fn write_block_of_pairs(src: &[u8], dst: &mut [u16]) -> (usize, usize)
-    requires dst_length { (16 < length src.now) × (length src.now ≤ length dst.old) }
-    requires text { IsUtf8 src.now }
-    ensures { WritesUtf16 src.now dst.old dst.new result.0 result.1 (units_in src.now) }
-{
-    write_some(src, dst)
-}
-
-/// Writes the UTF-16 of a first block if a character of four bytes comes first and a group can follow. Returns how many
-/// bytes it read and how many code units it wrote. Units that the rest of the text overwrites may have changed too.
-#[inline(always)]
-fn write_first_pairs(src: &[u8], dst: &mut [u16]) -> (usize, usize)
-    requires dst_length { length src.now ≤ length dst.old }
-    requires text { IsUtf8 src.now }
-    ensures { WritesUtf16 src.now dst.old dst.new result.0 result.1 (units_in src.now) }
-{
-    if src.len() < GROUP_OF_TEXT || src[0] < FOUR_BYTES {
-        return (0, 0);
-    }
-    write_block_of_pairs(src, dst)
-}
-
-/// Writes 48 bytes of ASCII at the start of a text as code units.
-#[inline(always)]
-fn unpack_48(src: &[u8], dst: &mut [u16])
-    requires dst_length { (48 ≤ length src.now) × (length src.now ≤ length dst.old) }
-    requires text { IsUtf8 src.now }
-    requires ascii { AllBelow ASCII_END src.now 0 48 }
-    ensures { WritesUtf16 src.now dst.old dst.new 48 48 (units_in src.now) }
-{
-    unpack::<STRIDE>(src, dst, 0);
-    unpack::<STRIDE>(src, dst, STRIDE);
-    unpack::<STRIDE>(src, dst, 2 * STRIDE);
-}
-
-/// Writes the UTF-16 of the first 64 bytes of a text, of which the last 48 are ASCII, and returns its length in code units.
-/// Units that the rest of the text overwrites may have changed too.
-#[inline(always)]
-fn write_before_ascii(src: &[u8], dst: &mut [u16]) -> usize
-    requires dst_length { (88 ≤ length src.now) × (length src.now ≤ length dst.old) }
-    requires text { IsUtf8 src.now }
-    requires ascii { BelowBetween ASCII_END src.now 16 64 }
-    ensures { WritesUtf16 src.now dst.old dst.new 64 result (units_in src.now) }
-{
-    let kept = unit_ends(u8x16::from_slice(src), STRIDE);
-    let written = write_block(src, STRIDE, kept, dst);
-    unpack_48(&src[STRIDE..], &mut dst[written..]);
-    written + 48
-}
-
-/// Writes the UTF-16 of up to eight characters of three bytes that a text begins with, and of the character of four bytes
-/// after them, if there is one. Returns how many bytes it read and how many code units it wrote. Units that the rest of the
-/// text overwrites may have changed too.
-#[inline(always)]
-fn write_before_pair(src: &[u8], dst: &mut [u16]) -> (usize, usize)
-    requires dst_length { (88 ≤ length src.now) × (length src.now ≤ length dst.old) }
-    requires text { IsUtf8 src.now }
-    ensures { WritesUtf16 src.now dst.old dst.new result.0 result.1 (units_in src.now) }
-{
-    let count = write_some_triples(src, dst);
-    let read = 3 * count;
-    if src[read] < FOUR_BYTES {
-        return (read, count);
-    }
-    let (bytes, units) = write_character(&src[read..], &mut dst[count..]);
-    (read + bytes, count + units)
-}
-
-/// Writes the UTF-16 of the characters that end in the first 64 bytes, given their end, if none has more than N bytes. Returns
-/// its length in code units. Units that the rest of the text overwrites may have changed too.
-#[inline(always)]
-fn write_group_before<const N: usize>(src: &[u8], end: usize, dst: &mut [u16]) -> usize
-    requires dst_length { (88 ≤ length src.now) × (length src.now ≤ length dst.old) }
-    requires text { IsUtf8 src.now }
-    requires end { (end ≤ 64) × IsCharBoundary src.now end }
-    requires cut { NoUnitEnds src.now end 64 }
-    requires short { N < 4 → BelowUpTo 0xF0 src.now 64 }
-    ensures { WritesUtf16 src.now dst.old dst.new end result (units_in src.now) }
-{
-    write_group::<N>(src, dst)
-}
-
-/// Writes the UTF-16 of the first characters of a text, given the end of the last whole one in its first 64 bytes. These are
-/// all of them, or, if characters of four bytes are rare among those of three, the ones up to the first of four. Returns how
-/// many bytes it read and how many code units it wrote. Units that the rest of the text overwrites may have changed too. Out
-/// of line, since few texts have characters of four bytes.
-#[inline(never)]
-fn write_with_pairs(src: &[u8], end: usize, dst: &mut [u16]) -> (usize, usize)
-    requires dst_length { (88 ≤ length src.now) × (length src.now ≤ length dst.old) }
-    requires text { IsUtf8 src.now }
-    requires end { (end ≤ 64) × IsCharBoundary src.now end }
-    requires cut { NoUnitEnds src.now end 64 }
-    ensures { WritesUtf16 src.now dst.old dst.new result.0 result.1 (units_in src.now) }
-{
-    if src[0] & 0xF0 == 0xE0 && are_bytes_below::<HALF_BLOCK>(src, HALF_BLOCK, FOUR_BYTES) {
-        return write_before_pair(src, dst);
-    }
-    (end, write_group_before::<4>(src, end, dst))
-}
-
-/// Writes the UTF-16 of the first characters of a text: eight of three bytes each, or those that end in the first 64
-/// bytes, or some of these. Returns how many bytes it read and how many code units it wrote, or zeros if a character of
-/// four bytes ends with the byte after the first 64. Units that the rest of the text overwrites may have changed too.
-#[inline(always)]
-fn convert_group(src: &[u8], dst: &mut [u16]) -> (usize, usize)
-    requires dst_length { (88 ≤ length src.now) × (length src.now ≤ length dst.old) }
-    requires text { IsUtf8 src.now }
-    ensures { WritesUtf16 src.now dst.old dst.new result.0 result.1 (units_in src.now) }
-{
-    if begins_triples(src) {
-        write_triples(src, dst);
-        return (TRIPLES, UNITS);
-    }
-    let end = group_end(src);
-    if end == 0 {
-        return (0, 0);
-    }
-    let rest = greatest_after_stride(src);
-    if is_below(rest, ASCII_END) {
-        return (end, write_before_ascii(src, dst));
-    }
-    if begins_four_bytes(src, rest) {
-        return write_with_pairs(src, end, dst);
-    }
-    (end, write_group_before::<3>(src, end, dst))
-}
-
-/// Writes the UTF-16 of a text by groups of 64 bytes, until 64 bytes are ASCII or at most 87 are left. It also ends at a group
-/// that cuts a character of four bytes after its third byte. Returns how many bytes it read and how many code units it
-/// wrote. Units that the rest of the text overwrites may have changed too.
-///
-/// Emoji often end a sentence: a block takes them, and a group if what follows isn't ASCII.
-#[inline(always)]
-fn convert_groups(src: &[u8], dst: &mut [u16]) -> (usize, usize)
-    requires dst_length { length src.now ≤ length dst.old }
-    requires text { IsUtf8 src.now }
-    ensures { WritesUtf16 src.now dst.old dst.new result.0 result.1 (units_in src.now) }
-{
-    let (mut read, mut written) = write_first_pairs(src, dst);
-    if begins_ascii(&src[read..]) {
-        return (read, written);
-    }
-    while src.len() - read >= GROUP_OF_TEXT {
-        let (bytes, units) = convert_group(&src[read..], &mut dst[written..]);
-        read += bytes;
-        written += units;
-        if bytes == 0 || (bytes > TRIPLES && begins_ascii_block(&src[read..])) {
-            return (read, written);
-        }
-    }
-    (read, written)
-}
-
-/// Returns whether the text is long enough for a group, and its first character is followed by sixteen bytes of ASCII.
+/// Returns whether more than 64 bytes are left, and the first character is followed by sixteen bytes of ASCII.
 #[inline(always)]
 fn precedes_ascii(src: &[u8]) -> bool
     requires { (0 < length src.now) × IsUtf8 src.now }
 {
-    src.len() >= GROUP_OF_TEXT && are_bytes_below::<STRIDE>(src, sequence_length(src[0]), ASCII_END)
+    src.len() > BLOCK && are_bytes_below::<STRIDE>(src, sequence_length(src[0]), ASCII_END)
 }
 
 /// Writes the UTF-16 of the text before a run of ASCII, and returns how many bytes it read and how many code units it
 /// wrote. Units that the rest of the text overwrites may have changed too.
 ///
-/// A first character before sixteen bytes of ASCII is written by itself, since a group would cost more. If no group of 64
-/// bytes can be written first, the text is written by blocks.
+/// A first character before sixteen bytes of ASCII is written by itself, since a block would end in the run. A short text, or
+/// one whose first group would cut a character after its third byte, is written by blocks.
 #[inline(always)]
 pub fn convert_valid_utf8_to_utf16(src: &[u8], dst: &mut [u16]) -> (usize, usize)
     requires dst_length { (0 < length src.now) × (length src.now ≤ length dst.old) }
@@ -280,6 +110,9 @@ pub fn convert_valid_utf8_to_utf16(src: &[u8], dst: &mut [u16]) -> (usize, usize
 {
     if precedes_ascii(src) {
         return write_character(src, dst);
+    }
+    if src.len() < SHORT_TEXT {
+        return write_blocks(src, dst);
     }
     let (read, written) = convert_groups(src, dst);
     if read > 0 {

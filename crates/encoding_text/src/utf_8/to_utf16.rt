@@ -6,7 +6,6 @@ ghost use Rattle.std.specs.Char.Escape.{encode_utf16};
 ghost use Rattle.std.specs.Str.{IsUtf8, chars};
 ghost use Rattle.encoding_definitions.specs.Prefixes.{WritesPrefix};
 ghost use Rattle.encoding_definitions.specs.Converting.{ConvertsMaximal};
-ghost use Rattle.encoding_kernels.specs.EndingUnits.{WritesUtf16, units_in};
 ghost use Rattle.encoding_text.specs.Steps.{ConvertsUntilFull};
 
 use super::validation::{begins_no_character, character_length, utf8_valid_up_to, valid_up_to};
@@ -16,8 +15,8 @@ use crate::ascii::prefixes::{
 use encoding_kernels::scalar::{decode_utf8_scalar, write_utf16};
 use encoding_kernels::simd::copy::copy_prefix;
 use encoding_kernels::simd::width::ASCII_END;
-use encoding_kernels::tuning::{SHORT_TEXT, VALIDATED_PIECE};
-use encoding_kernels::utf8_to_utf16::convert::{convert_valid_utf8_to_utf16, write_blocks};
+use encoding_kernels::tuning::VALIDATED_PIECE;
+use encoding_kernels::utf8_to_utf16::convert::convert_valid_utf8_to_utf16;
 
 /// What text is converted to: bytes of UTF-8, or code units of UTF-16.
 pub(crate) trait CodeUnit: Copy {
@@ -72,26 +71,10 @@ impl CodeUnit for u8 {
     }
 }
 
-/// Converts text that doesn't begin with ASCII up to a run of ASCII. `GROUPS` is 0 for a short text, which goes by blocks
-/// alone. Returns how many bytes it read and how many code units it wrote. Units that the rest of the text overwrites may
-/// have changed too.
-#[inline(always)]
-fn convert_before_ascii<const GROUPS: usize>(src: &[u8], dst: &mut [u16]) -> (usize, usize)
-    requires dst_length { (0 < length src.now) × (length src.now ≤ length dst.old) }
-    requires text { IsUtf8 src.now }
-    ensures progress { 0 < result.0 }
-    ensures written { WritesUtf16 src.now dst.old dst.new result.0 result.1 (units_in src.now) }
-{
-    if GROUPS == 0 {
-        return write_blocks(src, dst);
-    }
-    convert_valid_utf8_to_utf16(src, dst)
-}
-
 /// Converts a text to UTF-16, and returns how many code units it wrote. A turn takes the ASCII prefix, and then other
 /// text up to a run of ASCII.
-#[inline(always)]
-fn convert_by_turns<const GROUPS: usize>(src: &[u8], dst: &mut [u16]) -> usize
+#[inline(never)]
+pub(crate) fn convert_text(src: &[u8], dst: &mut [u16]) -> usize
     requires dst_length { length src.now ≤ length dst.old }
     requires text { IsUtf8 src.now }
     ensures { WritesPrefix dst.old dst.new result (flat_map encode_utf16 (chars src.now)) }
@@ -105,33 +88,10 @@ fn convert_by_turns<const GROUPS: usize>(src: &[u8], dst: &mut [u16]) -> usize
         if read == src.len() {
             return written;
         }
-        let (bytes, units) = convert_before_ascii::<GROUPS>(&src[read..], &mut dst[written..]);
+        let (bytes, units) = convert_valid_utf8_to_utf16(&src[read..], &mut dst[written..]);
         read += bytes;
         written += units;
     }
-}
-
-/// Converts a text of at least `SHORT_TEXT` bytes as `convert_text` does. Out of line: groups need many registers.
-#[inline(never)]
-fn convert_long_text(src: &[u8], dst: &mut [u16]) -> usize
-    requires dst_length { length src.now ≤ length dst.old }
-    requires text { IsUtf8 src.now }
-    ensures { WritesPrefix dst.old dst.new result (flat_map encode_utf16 (chars src.now)) }
-{
-    convert_by_turns::<1>(src, dst)
-}
-
-/// Converts a text to UTF-16, and returns how many code units it wrote.
-#[inline(never)]
-pub(crate) fn convert_text(src: &[u8], dst: &mut [u16]) -> usize
-    requires dst_length { length src.now ≤ length dst.old }
-    requires text { IsUtf8 src.now }
-    ensures { WritesPrefix dst.old dst.new result (flat_map encode_utf16 (chars src.now)) }
-{
-    if src.len() >= SHORT_TEXT {
-        return convert_long_text(src, dst);
-    }
-    convert_by_turns::<0>(src, dst)
 }
 
 /// Converts UTF-8 to UTF-16 as `convert_utf8_to_utf16_up_to_invalid` does. Out of line, so that the ASCII before other

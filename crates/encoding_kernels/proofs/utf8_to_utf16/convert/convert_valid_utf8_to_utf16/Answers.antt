@@ -6,4 +6,4 @@ returns-then-precedes_ascii-clause-written c =
     due_exact c.args.src.now c.args.dst.now c.write_character.new.dst _ _ c.requires.text c.write_character.ensures.written
 
 pub returns-clause-written : goal.returns-clause-written
-returns-clause-written c = puts_again c.convert_groups-read.ensures c.write_blocks.ensures.written
+returns-clause-written c = puts_again c.convert_groups-read.ensures c.write_blocks-2.ensures.written

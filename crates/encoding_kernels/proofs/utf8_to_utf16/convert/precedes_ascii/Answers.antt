@@ -10,4 +10,4 @@ are_bytes_below-requires c =
     let n = c.sequence_length.result in
     let begins = first_character src n c.requires.1 c.requires.0 c.sequence_length.ensures in
     let size : n ≤ 4 = omega (arith, length-IsSequence (take n src) begins.sequence, length-take-le n src begins.within) in
-    (omega (arith, c.if-src-ge-GROUP_OF_TEXT.true), omega arith, omega arith)
+    (omega (arith, c.if-src-gt-BLOCK.true), omega arith, omega arith)

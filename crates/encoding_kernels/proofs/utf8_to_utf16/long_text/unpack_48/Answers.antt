@@ -1,7 +1,7 @@
 use Rattle.std.proofs.Common.{ℕ, ◌+◌, ◌≤◌, arith, inl, refl}
 use Rattle.encoding_kernels.specs.Scans.{IsRunBelow}
 use Rattle.encoding_kernels.proofs.Utf8ToUtf16LoopLemmas.{unpacked_none, unpacked_part, unpacked_prefix}
-use Rattle.encoding_kernels.proofs.utf8_to_utf16.convert.unpack_48.Goals as goal
+use Rattle.encoding_kernels.proofs.utf8_to_utf16.long_text.unpack_48.Goals as goal
 
 pub returns : goal.returns
 returns c =

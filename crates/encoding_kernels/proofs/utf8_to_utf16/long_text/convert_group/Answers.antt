@@ -2,7 +2,7 @@ use Rattle.std.proofs.Common.{arith, refl, subst, sym}
 use Rattle.encoding_kernels.specs.EndingUnits.{WritesUtf16, units_in}
 use Rattle.encoding_kernels.proofs.GroupLemmas.{puts_none}
 use Rattle.encoding_kernels.proofs.Utf8ToUtf16LoopLemmas.{due_exact}
-use Rattle.encoding_kernels.proofs.utf8_to_utf16.convert.convert_group.Goals as goal
+use Rattle.encoding_kernels.proofs.utf8_to_utf16.long_text.convert_group.Goals as goal
 
 pub returns-then-begins_triples : goal.returns-then-begins_triples
 returns-then-begins_triples c = due_exact c.args.src.now c.args.dst.now c.write_triples.new.dst _ _ c.requires.text c.write_triples.ensures

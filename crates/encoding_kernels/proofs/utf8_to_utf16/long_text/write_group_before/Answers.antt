@@ -1,7 +1,7 @@
 use Rattle.std.proofs.Common.{arith}
 use Rattle.encoding_kernels.proofs.GroupLemmas.{group_text}
 use Rattle.encoding_kernels.proofs.Utf8ToUtf16LoopLemmas.{due_block}
-use Rattle.encoding_kernels.proofs.utf8_to_utf16.convert.write_group_before.Goals as goal
+use Rattle.encoding_kernels.proofs.utf8_to_utf16.long_text.write_group_before.Goals as goal
 
 pub returns : goal.returns
 returns g c =

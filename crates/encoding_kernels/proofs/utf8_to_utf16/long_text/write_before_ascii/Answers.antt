@@ -2,7 +2,7 @@ use Rattle.std.proofs.Common.{◌+◌, ◌-◌, ◌<◌, arith, drop, length, su
 use Rattle.std.proofs.lemmas.List.{get_or-drop, length-drop, length-take, take_rest}
 use Rattle.std.specs.Prelude.{slice_index}
 use Rattle.encoding_kernels.proofs.Utf8ToUtf16LoopLemmas.{due_block, putting_first, putting_more, putting_some}
-use Rattle.encoding_kernels.proofs.utf8_to_utf16.convert.write_before_ascii.Goals as goal
+use Rattle.encoding_kernels.proofs.utf8_to_utf16.long_text.write_before_ascii.Goals as goal
 
 pub unpack_48-requires-clause-dst_length : goal.unpack_48-requires-clause-dst_length
 unpack_48-requires-clause-dst_length c =

@@ -1,7 +1,7 @@
 use Rattle.std.proofs.Common.{arith}
 use Rattle.std.proofs.lemmas.List.{take_rest}
 use Rattle.encoding_kernels.proofs.Utf8ToUtf16LoopLemmas.{putting_first, putting_more, putting_some}
-use Rattle.encoding_kernels.proofs.utf8_to_utf16.convert.convert_groups.Goals as goal
+use Rattle.encoding_kernels.proofs.utf8_to_utf16.long_text.convert_groups.Goals as goal
 
 pub loop-read-init : goal.loop-read-init
 loop-read-init c = putting_first _ _ _ _ _ c.requires.text c.write_first_pairs-read.ensures

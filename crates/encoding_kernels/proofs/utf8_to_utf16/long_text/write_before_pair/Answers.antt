@@ -2,7 +2,7 @@ use Rattle.std.proofs.Common.{◌≡◌, ◌+◌, ◌-◌, ◌*◌, arith, subst
 use Rattle.std.proofs.lemmas.List.{take_rest}
 use Rattle.encoding_kernels.specs.EndingUnits.{WritesUtf16}
 use Rattle.encoding_kernels.proofs.Utf8ToUtf16LoopLemmas.{due_block, due_exact, putting_first, putting_more, putting_some}
-use Rattle.encoding_kernels.proofs.utf8_to_utf16.convert.write_before_pair.Goals as goal
+use Rattle.encoding_kernels.proofs.utf8_to_utf16.long_text.write_before_pair.Goals as goal
 
 pub returns-then-src-read-lt-FOUR_BYTES : goal.returns-then-src-read-lt-FOUR_BYTES
 returns-then-src-read-lt-FOUR_BYTES c =
