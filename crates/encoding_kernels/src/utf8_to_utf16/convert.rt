@@ -99,8 +99,8 @@ fn precedes_ascii(src: &[u8]) -> bool
 /// Writes the UTF-16 of the text before a run of ASCII, and returns how many bytes it read and how many code units it
 /// wrote. Units that the rest of the text overwrites may have changed too.
 ///
-/// A first character before sixteen bytes of ASCII is written by itself, since a block would end in the run. A short text, or
-/// one whose first group would cut a character after its third byte, is written by blocks.
+/// A first character before sixteen bytes of ASCII is written by itself, since a block would end in the run, and a group would
+/// compute code units of ASCII. A short text is written by blocks, and one of which no group can be written first.
 #[inline(always)]
 pub fn convert_valid_utf8_to_utf16(src: &[u8], dst: &mut [u16]) -> (usize, usize)
     requires dst_length { (0 < length src.now) × (length src.now ≤ length dst.old) }

@@ -1,4 +1,4 @@
-//! UTF-16 of many characters at once: of eight of three bytes, and of those that end in 64 bytes.
+//! UTF-16 of many characters at once: of up to eight of three bytes, and of those that end in 64 bytes.
 //!
 //! The code units of 64 bytes are computed by strides at fixed indices, so no stride waits for the end of a character in
 //! the one before it. Only the index at which the next 64 bytes begin depends on the text.
@@ -98,10 +98,9 @@ pub(super) fn write_triples(src: &[u8], dst: &mut [u16])
 
 /// Returns how many of the first eight characters have three bytes, up to the first that hasn't.
 #[inline(always)]
-fn leading_triples(src: &[u8]) -> usize
+pub(super) fn leading_triples(src: &[u8]) -> usize
     requires { 24 ≤ length src.now }
-    ensures within { result ≤ 8 }
-    ensures triples { (k : ℕ) → k < result → BeginsThree (slice_index src.now (3 * k)) }
+    ensures { (result ≤ 8) × ((k : ℕ) → k < result → BeginsThree (slice_index src.now (3 * k))) }
 {
     let first = u8x16::from_slice(src) & u8x16::from_array(LEAD_BITS);
     let later = u8x16::from_slice(&src[8..]) & u8x16::from_array(LATER_BITS);
@@ -117,17 +116,16 @@ fn leading_triples(src: &[u8]) -> usize
     end / 3
 }
 
-/// Writes the UTF-16 of up to eight characters of three bytes that a text begins with, and returns how many they are. The
-/// first eight code units may have changed.
+/// Writes the UTF-16 of the first `count` characters, of three bytes each. The first eight code units may have changed.
 #[inline(always)]
-pub(super) fn write_some_triples(src: &[u8], dst: &mut [u16]) -> usize
+pub(super) fn write_some_triples(src: &[u8], count: usize, dst: &mut [u16])
     requires dst_length { (24 ≤ length src.now) × (8 ≤ length dst.old) }
     requires text { IsUtf8 src.now }
-    ensures within { result ≤ 8 }
-    ensures written { WritesUtf16 src.now dst.old dst.new (3 * result) result 8 }
+    requires triples { (count ≤ 8)
+        × ((k : ℕ) → k < count → BeginsThree (slice_index src.now (3 * k))) }
+    ensures { WritesUtf16 src.now dst.old dst.new (3 * count) count 8 }
 {
     triple_units(src).copy_to_slice(dst);
-    leading_triples(src)
 }
 
 /// Returns for each lane the greatest of the bytes at it in the last three strides of 64 bytes.

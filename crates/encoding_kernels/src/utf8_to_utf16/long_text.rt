@@ -1,8 +1,8 @@
 //! UTF-16 of long texts, by groups of 64 bytes.
 
-ghost use Rattle.std.specs.Prelude.{◌<◌, ◌≤◌, length};
+ghost use Rattle.std.specs.Prelude.{ℕ, ◌+◌, ◌*◌, ◌<◌, ◌≤◌, length, slice_index};
 ghost use Rattle.std.specs.Str.{IsUtf8, IsCharBoundary};
-ghost use Rattle.encoding_kernels.specs.EndingUnits.{NoUnitEnds, WritesUtf16, units_in};
+ghost use Rattle.encoding_kernels.specs.EndingUnits.{BeginsThree, NoUnitEnds, WritesUtf16, units_in};
 ghost use Rattle.encoding_kernels.specs.Scans.{AllBelow, BelowBetween, BelowUpTo};
 
 use crate::simd::copy::unpack;
@@ -12,7 +12,8 @@ use crate::utf8_to_utf16::code_units::{is_below, unit_ends};
 use crate::utf8_to_utf16::convert::{write_block, write_character, write_some};
 use crate::utf8_to_utf16::groups::{
     FOUR_BYTES, GROUP_OF_TEXT, TRIPLES, UNITS, begins_four_bytes, begins_triples,
-    greatest_after_stride, group_end, write_group, write_some_triples, write_triples,
+    greatest_after_stride, group_end, leading_triples, write_group, write_some_triples,
+    write_triples,
 };
 use std::simd::prelude::*;
 
@@ -80,20 +81,18 @@ fn write_before_ascii(src: &[u8], dst: &mut [u16]) -> usize
     written + 48
 }
 
-/// Writes the UTF-16 of up to eight characters of three bytes that a text begins with, and of the character of four bytes
-/// after them, if there is one. Returns how many bytes it read and how many code units it wrote. Units that the rest of the
-/// text overwrites may have changed too.
+/// Writes the UTF-16 of the first `count` characters, of three bytes each, and of the one after them. Returns how many bytes it
+/// read and how many code units it wrote. Units that the rest of the text overwrites may have changed too.
 #[inline(always)]
-fn write_before_pair(src: &[u8], dst: &mut [u16]) -> (usize, usize)
+fn write_triples_and_next(src: &[u8], count: usize, dst: &mut [u16]) -> (usize, usize)
     requires dst_length { (88 ≤ length src.now) × (length src.now ≤ length dst.old) }
     requires text { IsUtf8 src.now }
+    requires triples { (count ≤ 8)
+        × ((k : ℕ) → k < count → BeginsThree (slice_index src.now (3 * k))) }
     ensures { WritesUtf16 src.now dst.old dst.new result.0 result.1 (units_in src.now) }
 {
-    let count = write_some_triples(src, dst);
+    write_some_triples(src, count, dst);
     let read = 3 * count;
-    if src[read] < FOUR_BYTES {
-        return (read, count);
-    }
     let (bytes, units) = write_character(&src[read..], &mut dst[count..]);
     (read + bytes, count + units)
 }
@@ -112,10 +111,10 @@ fn write_group_before<const N: usize>(src: &[u8], end: usize, dst: &mut [u16]) -
     write_group::<N>(src, dst)
 }
 
-/// Writes the UTF-16 of the first characters of a text, given the end of the last whole one in its first 64 bytes: up to that
-/// end, or, if only the first 32 bytes have characters of four bytes, up to one of these. Returns how many bytes it read and
-/// how many code units it wrote. Units that the rest of the text overwrites may have changed too. Out of line, since few texts
-/// have characters of four bytes.
+/// Writes the UTF-16 of the first characters of a text, given the end of the last whole one in its first 64 bytes: of those up
+/// to that end, or of fewer. If characters of three bytes come first, one of four is next, and the last 32 bytes have no more
+/// of four, only those are written. Returns how many bytes it read and how many code units it wrote. Units that the rest of
+/// the text overwrites may have changed too. Out of line, since few texts have characters of four bytes.
 #[inline(never)]
 fn write_with_pairs(src: &[u8], end: usize, dst: &mut [u16]) -> (usize, usize)
     requires dst_length { (88 ≤ length src.now) × (length src.now ≤ length dst.old) }
@@ -125,14 +124,17 @@ fn write_with_pairs(src: &[u8], end: usize, dst: &mut [u16]) -> (usize, usize)
     ensures { WritesUtf16 src.now dst.old dst.new result.0 result.1 (units_in src.now) }
 {
     if src[0] & 0xF0 == 0xE0 && are_bytes_below::<HALF_BLOCK>(src, HALF_BLOCK, FOUR_BYTES) {
-        return write_before_pair(src, dst);
+        let count = leading_triples(src);
+        if src[3 * count] >= FOUR_BYTES {
+            return write_triples_and_next(src, count, dst);
+        }
     }
     (end, write_group_before::<4>(src, end, dst))
 }
 
-/// Writes the UTF-16 of the first characters of a text: eight of three bytes each, or those that end in the first 64
-/// bytes, or some of these. Returns how many bytes it read and how many code units it wrote, or zeros if a character of
-/// four bytes ends with the byte after the first 64. Units that the rest of the text overwrites may have changed too.
+/// Writes the UTF-16 of the first characters of a text: of eight of three bytes each, or of those that end in the first 64
+/// bytes, or of fewer. Returns how many bytes it read and how many code units it wrote. Both are zero if a character of four
+/// bytes ends with the byte after the first 64. Units that the rest of the text overwrites may have changed too.
 #[inline(always)]
 fn convert_group(src: &[u8], dst: &mut [u16]) -> (usize, usize)
     requires dst_length { (88 ≤ length src.now) × (length src.now ≤ length dst.old) }
