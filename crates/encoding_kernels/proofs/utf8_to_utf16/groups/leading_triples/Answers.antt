@@ -41,7 +41,7 @@ returns c =
                   three_from (get_or src (3 * k) 0) byte
                   (sym (λ i. not (eqb (bit_and (get_or src (there i) 0) (same_below (λ m. get_or LATER_BITS (3 * m + 10) 0) (λ _. 0xF0) 0 2 refl j two i))
                   (same_below (λ m. get_or LATER_VALUES (3 * m + 10) 0) (λ _. 0xE0) 0 2 refl j two i)))
-                      ∙ run_later.before (3 * j + 10) (omega (arith, w.end-is, l)))
+                  ∙ run_later.before (3 * j + 10) (omega (arith, w.end-is, l)))
             ]
           ],
     )
