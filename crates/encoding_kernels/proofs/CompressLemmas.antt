@@ -8,8 +8,8 @@ use Rattle.std.proofs.Math.Seq.{take-append-add}
 use Rattle.std.proofs.lemmas.Bool.{and_parts, eqb-true, leb-true}
 use Rattle.std.proofs.lemmas.Bool.Decides.{nat_tests}
 use Rattle.std.proofs.lemmas.Grind.{same_number_lists}
-use Rattle.std.proofs.lemmas.Nat.{and_mask, mod_low, one_shl, ones_le_self}
-use Rattle.std.proofs.lemmas.List.{append-nil, length-map, length-append, length-take-le, length-drop, get_or-map, take-map, map-append, take-append-drop, take_at, drop_at, drop-drop, drop-append-le}
+use Rattle.std.proofs.lemmas.Nat.{and_mask, div-mul-add, mod_low, one_shl, ones_le_self}
+use Rattle.std.proofs.lemmas.List.{append-nil, length-map, length-append, length-take-le, length-drop, get_or-map, take-map, map-append, take-append-drop, take_at, drop_at, drop-drop, drop-append-le, length-replicate}
 use Rattle.std.proofs.lemmas.Simd.{SwzOk, SwzOk-from_below, swz_l, length-swz_l, get_or-swz_l_below, Each1-from_get_or, Each1-get_or, mask_l-lt, ones-mask_l_cons, length-put_chunk}
 use Rattle.encoding_kernels.specs.declared.utf8_to_utf16.code_units.TheConstants.{COMPRESSED}
 use Rattle.encoding_kernels.proofs.VectorLemmas.{put_prefix, put_is, HasLanes-itself, HasLanes-numbers, HasLanes-splat, compared, firsts_are, same_below, bytes_lanes, wide, wide_l}
@@ -148,6 +148,17 @@ mask_prefix xs n e h =
     ∙ ap (λ k. mask_l (drop e xs) * 2 ^ k + mask_l (take e xs)) long in
     let small : mask_l (take e xs) < 2 ^ e = subst (λ k. mask_l (take e xs) < 2 ^ k) long (mask_l-lt (take e xs)) in
     and_mask (mask_l xs) e ∙ ap (λ m. m % 2 ^ e) whole ∙ mod_low (mask_l (drop e xs)) e (mask_l (take e xs)) small ∙ sym (mask_pad (take e xs) n)
+
+-- the marks from an index on
+pub mask_suffix : (xs : List Bool) (e : ℕ) → e ≤ length xs → mask_l xs / 2 ^ e * 2 ^ e ≡ mask_l (replicate e false ++ drop e xs)
+mask_suffix xs e h =
+    let long : length (take e xs) ≡ e = length-take-le e xs h in
+    let whole : mask_l xs ≡ mask_l (drop e xs) * 2 ^ e + mask_l (take e xs) = ap mask_l (sym (take-append-drop e xs)) ∙ mask_append (take e xs) (drop e xs)
+    ∙ ap (λ k. mask_l (drop e xs) * 2 ^ k + mask_l (take e xs)) long in
+    let small : mask_l (take e xs) < 2 ^ e = subst (λ k. mask_l (take e xs) < 2 ^ k) long (mask_l-lt (take e xs)) in
+    let zeros : mask_l (replicate e false ++ drop e xs) ≡ mask_l (drop e xs) * 2 ^ e = mask_append (replicate e false) (drop e xs)
+    ∙ (λ i. mask_l (drop e xs) * 2 ^ length-replicate e false i + mask_none e i) ∙ omega arith in
+    ap (λ m. m * 2 ^ e) (ap (λ m. m / 2 ^ e) whole ∙ div-mul-add (mask_l (drop e xs)) (2 ^ e) (mask_l (take e xs)) small) ∙ sym zeros
 
 -- the mask of the tests of the first items
 pub first_mask : (test : ℕ → Bool) (xs : List ℕ) (mask e : ℕ) → mask ≡ mask_l (map test xs) → e ≤ length xs → e < 64

@@ -1,12 +1,12 @@
 -- UTF-16 of many characters at once: of eight of three bytes, and of those that end in 64 bytes.
-use Rattle.std.proofs.Common.{◌≡◌, ◌&&◌, ℕ, not, eqb, leb, bit_and, zero, suc, ◌+◌, ◌-◌, ◌^◌, ◌<◌, ◌≤◌, inl, inr, Bool, true, false, if◌then◌else◌, ltb, List, [], ◌∷◌, ◌++◌, map, length, take, drop, get_or, refl, sym, ap, ◌∙◌, arith, subst, take-add, append_assoc, drop-drop}
+use Rattle.std.proofs.Common.{◌≡◌, ◌&&◌, ℕ, not, eqb, leb, bit_and, zero, suc, ◌+◌, ◌-◌, ◌^◌, ◌<◌, ◌≤◌, inl, inr, Bool, true, false, if◌then◌else◌, ltb, List, [], ◌∷◌, ◌++◌, map, length, replicate, take, drop, get_or, refl, sym, ap, ◌∙◌, arith, subst, take-add, append_assoc, drop-drop}
 use Rattle.std.specs.List.{range_with_len}
 use Rattle.std.specs.Str.{IsUtf8, IsCharBoundary}
 use Rattle.std.specs.Simd.Lanes.{chunk, mask_l, pick_l}
 use Rattle.std.proofs.lemmas.Bool.{cases_lt, cond-true, cond-false, lt-ltb, le-ltb, ltb-true, and_parts, leb-true, not-false}
 use borrow.Rule.Slice.PartMut.{put_mid}
 use Rattle.std.proofs.Math.Seq.{take-append-add}
-use Rattle.std.proofs.lemmas.List.{append-nil, drop_all, drop_at, take_rest, length-take-le, length-append, length-drop, length-take, get_or-take, get_or-drop, get_or-map, get_or_append_left, get_or-append_right, length-map}
+use Rattle.std.proofs.lemmas.List.{append-nil, drop_all, drop_at, drop-take, take_at, take_rest, length-replicate, length-take-le, length-append, length-drop, length-take, get_or-take, get_or-drop, get_or-map, get_or_append_left, get_or-append_right, length-map}
 use Rattle.std.proofs.lemmas.Bool.Decides.{nat_tests}
 use Rattle.encoding_kernels.specs.Scans.{BelowBetween, HasLanes}
 use Rattle.encoding_kernels.specs.EndingUnits.{BeginsThree, NoUnitEnds, StoresUnits, WritesCompressed, WritesUtf16, ends_after, ends_unit, keep, unit_at, units_after}
@@ -125,6 +125,66 @@ stride_stored src at first last old new count ones p q w =
       following = past new ∙ ap (drop (count + 8 - reach)) w.following ∙ sym (past old);
     }
 
+-- ---- a stride without its first units
+keep_skip : (e : ℕ) (ms : List Bool) (us : List ℕ) → keep (replicate e false ++ ms) us ≡ keep ms (drop e us)
+unfolding keep
+keep_skip zero ms us = refl
+keep_skip (suc e) [] [] = refl
+keep_skip (suc e) (m ∷ ms) [] = refl
+keep_skip (suc e) ms (u ∷ us) = keep_skip e ms us
+
+pub skipped_marks : (src : List ℕ) (at skip : ℕ) → at + 16 ≤ length src → skip < 16
+    → length (replicate skip false ++ drop skip (take 16 (drop at (ends_after 0 src)))) ≡ 16
+skipped_marks src at skip room few =
+    let marks = take 16 (drop at (ends_after 0 src)) in
+    omega (arith, stride_marks src at room, length-append (replicate skip false) (drop skip marks), length-replicate skip false, length-drop skip marks)
+
+part_of : {X : Type 0} (xs : List X) (at skip : ℕ) → skip < 16 → drop skip (take 16 (drop at xs)) ≡ take (16 - skip) (drop (at + skip) xs)
+part_of xs at skip few =
+    let split : skip + (16 - skip) ≡ 16 = omega arith in
+    (λ i. drop skip (take (sym split i) (drop at xs))) ∙ drop-take skip (16 - skip) (drop at xs) ∙ ap (take (16 - skip)) (drop-drop skip at xs)
+
+pub skipped_stored : (src : List ℕ) (at skip : ℕ) (first last old new : List ℕ) (count : ℕ) → skip < 16 → first ≡ take 8 (drop at (units_after 0 0 0 src))
+    → last ≡ take 8 (drop (at + 8) (units_after 0 0 0 src))
+    → WritesCompressed (replicate skip false ++ drop skip (take 16 (drop at (ends_after 0 src)))) (first ++ last) old new count count
+    → WritesCompressed (take (16 - skip) (drop (at + skip) (ends_after 0 src)))
+    (take (16 - skip) (drop (at + skip) (units_after 0 0 0 src))) old new count count
+skipped_stored src at skip first last old new count few p q w =
+    let ends = ends_after 0 src in
+    let us = units_after 0 0 0 src in
+    let both : first ++ last ≡ take 16 (drop at us) = (λ i. p i ++ (q ∙ ap (take 8) (sym (drop-drop 8 at us))) i) ∙ sym (take-add 8 8 (drop at us)) in
+    let kept : keep (replicate skip false ++ drop skip (take 16 (drop at ends))) (first ++ last)
+    ≡ keep (take (16 - skip) (drop (at + skip) ends)) (take (16 - skip) (drop (at + skip) us)) =
+    keep_skip skip (drop skip (take 16 (drop at ends))) (first ++ last)
+    ∙ (λ i. keep (part_of ends at skip few i) ((ap (drop skip) both ∙ part_of us at skip few) i)) in
+    record {
+      counted = w.counted ∙ ap length kept;
+      placed = w.placed ∙ kept;
+      following = w.following;
+    }
+
+pub skipped_small : (src : List ℕ) (at skip kept : ℕ) → at + 16 ≤ length src → skip < 16
+    → kept ≡ mask_l (replicate skip false ++ drop skip (take 16 (drop at (ends_after 0 src)))) → kept < 2 ^ 16
+skipped_small src at skip kept room few is =
+    let marks = replicate skip false ++ drop skip (take 16 (drop at (ends_after 0 src))) in
+    let small : mask_l marks < 2 ^ 16 = subst (λ n. mask_l marks < 2 ^ n) (skipped_marks src at skip room few) (mask_l-lt marks) in
+    omega (arith, is)
+
+pub stored_few : (marks : List Bool) (us : List ℕ) {old new : List ℕ} {count reach : ℕ} (n : ℕ)
+    → WritesCompressed (take n marks) (take n us) old new count reach → count ≤ n
+stored_few marks us n w = omega (arith, w.counted, length-keep-le (take n marks) (take n us), length-take n marks)
+
+-- what is stored in another list
+pub stored_apart : (marks : List Bool) (us old new other : List ℕ) (count : ℕ) → count ≤ length new
+    → WritesCompressed marks us old new count count → WritesCompressed marks us other (take count new ++ drop count other) count count
+stored_apart marks us old new other count within w =
+    let long : length (take count new) ≡ count = length-take-le count new within in
+    record {
+      counted = w.counted;
+      placed = take_at (take count new) (drop count other) count long ∙ w.placed;
+      following = drop_at (take count new) (drop count other) count long;
+    }
+
 -- ---- four strides
 keep-append : (xs ys : List Bool) (us vs : List ℕ) → length xs ≡ length us → keep (xs ++ ys) (us ++ vs) ≡ keep xs us ++ keep ys vs
 unfolding keep
@@ -150,10 +210,10 @@ units_more src at n within =
     ∙ keep-append (take at ends) (take n (drop at ends)) (take at units) (take n (drop at units))
     (length-take-le at ends (omega (arith, length-ends 0 src)) ∙ sym (length-take-le at units (omega (arith, length-units 0 0 0 src))))
 
-pub group_first : (src old new : List ℕ) (count : ℕ) → 16 ≤ length src → length new ≡ length old
-    → WritesCompressed (take 16 (drop 0 (ends_after 0 src))) (take 16 (drop 0 (units_after 0 0 0 src))) old new count (count + 8)
-    → StoresUnits src old new 16 count
-group_first src old new count room same w = record {
+pub group_first : (src old new : List ℕ) (count reach : ℕ) → 16 ≤ length src → length new ≡ length old
+    → WritesCompressed (take 16 (drop 0 (ends_after 0 src))) (take 16 (drop 0 (units_after 0 0 0 src))) old new count reach
+    → StoresUnits src old new 16 count reach
+group_first src old new count reach room same w = record {
   placed = w.placed;
   counted = w.counted;
   few = omega (arith, w.counted, length-keep-le (take 16 (ends_after 0 src)) (take 16 (units_after 0 0 0 src)), length-take 16 (ends_after 0 src));
@@ -161,46 +221,63 @@ group_first src old new count room same w = record {
   following = w.following;
 }
 
-pub group_more : (src old new sub : List ℕ) (at next written count : ℕ) → at + 16 ≡ next → next ≤ length src → written ≤ length new
+-- those that end with the next n bytes: `more` units after them may have changed
+pub group_more : (src old new sub : List ℕ) (at n next written count more : ℕ) → at + n ≡ next → next ≤ length src → written ≤ length new
     → length sub ≡ length new - written
-    → StoresUnits src old new at written
-    → WritesCompressed (take 16 (drop at (ends_after 0 src))) (take 16 (drop at (units_after 0 0 0 src))) (take (length new - written) (drop written new)) sub
-    count (count + 8)
-    → StoresUnits src old (put_mid written (length new - written) new sub) next (written + count)
-group_more src old new sub at next written count e room within size s w =
+    → StoresUnits src old new at written (written + more)
+    → WritesCompressed (take n (drop at (ends_after 0 src))) (take n (drop at (units_after 0 0 0 src))) (take (length new - written) (drop written new)) sub
+    count (count + more)
+    → StoresUnits src old (put_mid written (length new - written) new sub) next (written + count) (written + count + more)
+group_more src old new sub at n next written count more e room within size s w =
     let done = take written new in
     let long : length done ≡ written = length-take-le written new within in
     let whole : take (length new - written) (drop written new) ≡ drop written new = take_rest new written in
     let none : drop (length new - written) (drop written new) ≡ [] =
     drop_all (length new - written) (drop written new) (omega (arith, length-drop written new)) in
     let is : put_mid written (length new - written) new sub ≡ done ++ sub = ap (λ xs. done ++ (sub ++ xs)) none ∙ ap (λ xs. done ++ xs) (append-nil sub) in
-    let more = ap (units_to src) (sym e) ∙ units_more src at 16 (omega arith) in
+    let joined = ap (units_to src) (sym e) ∙ units_more src at n (omega arith) in
     let past = λ (m : ℕ). ap (λ j. drop (j + m) (done ++ sub)) (sym long) ∙ drop_past done sub m in
-    let reach : written + count + 8 ≡ written + (count + 8) = omega arith in
+    let reach : written + count + more ≡ written + (count + more) = omega arith in
     record {
       placed = (λ i. take (written + count) (is i)) ∙ ap (λ j. take (j + count) (done ++ sub)) (sym long) ∙ take-append-add done sub count
-          ∙ (λ i. s.placed i ++ w.placed i) ∙ sym more;
-      counted = omega (arith, s.counted, w.counted, ap length more, length-append (units_to src at) (units_between src at 16));
+          ∙ (λ i. s.placed i ++ w.placed i) ∙ sym joined;
+      counted = omega (arith, s.counted, w.counted, ap length joined, length-append (units_to src at) (units_between src at n));
       few = omega (
         arith,
         s.few,
         w.counted,
-        length-keep-le (take 16 (drop at (ends_after 0 src))) (take 16 (drop at (units_after 0 0 0 src))),
-        length-take 16 (drop at (ends_after 0 src)),
+        length-keep-le (take n (drop at (ends_after 0 src))) (take n (drop at (units_after 0 0 0 src))),
+        length-take n (drop at (ends_after 0 src)),
       );
       same_length = omega (arith, ap length is, length-append done sub, long, size, s.same_length);
-      following = (λ i. drop (reach i) (is i)) ∙ past (count + 8) ∙ w.following ∙ ap (drop (count + 8)) whole ∙ drop-drop (count + 8) written new
+      following = (λ i. drop (reach i) (is i)) ∙ past (count + more) ∙ w.following ∙ ap (drop (count + more)) whole ∙ drop-drop (count + more) written new
           ∙ after s.following ∙ (λ i. drop (sym reach i) old);
     }
   where
     drop_past : (xs ys : List ℕ) (j : ℕ) → drop (length xs + j) (xs ++ ys) ≡ drop j ys
     drop_past xs ys j = sym (drop-drop j (length xs) (xs ++ ys)) ∙ ap (drop j) (drop_at xs ys (length xs) refl)
 
-    after : drop (written + 8) new ≡ drop (written + 8) old → drop (written + (count + 8)) new ≡ drop (written + (count + 8)) old
+    after : drop (written + more) new ≡ drop (written + more) old → drop (written + (count + more)) new ≡ drop (written + (count + more)) old
     after e =
-        let split : written + 8 + count ≡ written + (count + 8) = omega arith in
-        let past = λ (xs : List ℕ). ap (λ m. drop m xs) (sym split) ∙ sym (drop-drop count (written + 8) xs) in
+        let split : written + more + count ≡ written + (count + more) = omega arith in
+        let past = λ (xs : List ℕ). ap (λ m. drop m xs) (sym split) ∙ sym (drop-drop count (written + more) xs) in
         past new ∙ ap (drop count) e ∙ sym (past old)
+
+-- the same where no others may have changed
+pub group_next : (src old new sub : List ℕ) (at n from next written count : ℕ) → from ≡ at → at + n ≡ next → next ≤ length src → written ≤ length new
+    → length sub ≡ length new - written → StoresUnits src old new at written written
+    → WritesCompressed (take n (drop from (ends_after 0 src))) (take n (drop from (units_after 0 0 0 src))) (take (length new - written) (drop written new)) sub
+    count count
+    → StoresUnits src old (put_mid written (length new - written) new sub) next (written + count) (written + count)
+group_next src old new sub at n from next written count p e room within size s w =
+    let here = take (length new - written) (drop written new) in
+    let ends = ends_after 0 src in
+    let us = units_after 0 0 0 src in
+    let none : (m : ℕ) → m ≡ m + 0 = λ m. omega arith in
+    subst (λ m. StoresUnits src old (put_mid written (length new - written) new sub) next (written + count) m) (sym (none (written + count)))
+    (group_more src old new sub at n next written count 0 e room within size (subst (λ m. StoresUnits src old new at written m) (none written) s)
+    (subst (λ m. WritesCompressed (take n (drop at ends)) (take n (drop at us)) here sub count m) (none count)
+    (subst (λ k. WritesCompressed (take n (drop k ends)) (take n (drop k us)) here sub count count) p w)))
 
 -- ---- the characters whose units are stored
 both_taken : (n x y a : ℕ) (bs : List ℕ) → keep (take n (ends_after a bs)) (take n (units_after x y a bs)) ≡ units_from x y a (take n bs)
@@ -217,9 +294,9 @@ keep_none (m ∷ ms) (u ∷ us) none =
     (λ i. (if none 0 (omega arith) i then u ∷ [] else []) ++ keep ms us) ∙ keep_none ms us (λ k l. none (suc k) (omega arith))
 
 -- those before `end`, if no unit ends between it and the end of the bytes read
-pub group_text : (src old new : List ℕ) (end to written reach : ℕ) → IsUtf8 src → end ≤ to → to ≤ length src → IsCharBoundary src end
-    → NoUnitEnds src end to → written + 8 ≡ reach → StoresUnits src old new to written → WritesUtf16 src old new end written reach
-group_text src old new end to written reach u before within boundary none e s =
+pub group_text : (src old new : List ℕ) (end to written stored reach : ℕ) → IsUtf8 src → end ≤ to → to ≤ length src → IsCharBoundary src end
+    → NoUnitEnds src end to → stored ≡ reach → StoresUnits src old new to written stored → WritesUtf16 src old new end written reach
+group_text src old new end to written stored reach u before within boundary none e s =
     let text = IsUtf8-take src end u boundary in
     let ends = ends_after 0 src in
     let rest : end + (to - end) ≡ to = omega arith in

@@ -73,14 +73,14 @@ ends_after a (b ∷ bs) = ends_unit a b ∷ ends_after b bs
 abbrev pub NoUnitEnds : List ℕ → ℕ → ℕ → Type 0
 NoUnitEnds src from to = (k : ℕ) → from ≤ k → k < to → ends_unit (slice_index (0 ∷ src) k) (slice_index src k) ≡ false
 
--- The code units that end with the first `read` bytes are at the start of the destination. Of the rest of it only the
--- eight after them may have changed.
-pub record StoresUnits (src old new : List ℕ) (read written : ℕ) : Type 0 where
+-- The code units that end with the first `read` bytes are at the start of the destination. Of the rest of it only indices
+-- below `reach` may have changed.
+pub record StoresUnits (src old new : List ℕ) (read written reach : ℕ) : Type 0 where
   pub placed : take written new ≡ keep (take read (ends_after 0 src)) (take read (units_after 0 0 0 src))
   pub counted : written ≡ length (keep (take read (ends_after 0 src)) (take read (units_after 0 0 0 src)))
   pub few : written ≤ read
   pub same_length : length new ≡ length old
-  pub following : drop (written + 8) new ≡ drop (written + 8) old
+  pub following : drop reach new ≡ drop reach old
 
 -- a bound of the lanes is one of the bytes of the last three strides of 64
 abbrev pub BoundsStrides : List ℕ → List ℕ → Type 0

@@ -40,13 +40,6 @@ pub const LATIN1_LENGTH_SPAN: usize = 1024;
 /// `repair_slice` and `decode_to_utf8_raw`, ASCII of 200 to 256 bytes: with 128, 0.94.
 pub const LONGEST_VECTOR_COPY: usize = 256;
 
-/// In bytes: a shorter text goes from UTF-8 to UTF-16 by blocks of sixteen, and not by groups of 64. In a longer one, blocks
-/// go on while fewer are left.
-///
-/// `convert_str_to_utf16`, in a build without the toolchain: with 128, of 150 bytes Chinese 0.93, with emoji 0.90, Russian 1.07,
-/// HTML 1.05; with 256, of 220 bytes Chinese 1.03, with emoji 1.06, Russian 0.90, Western European text 0.96.
-pub const SHORT_TEXT: usize = 192;
-
 /// In bytes: how much is validated before it is converted or scanned, so that it is still in the nearest cache.
 ///
 /// UTF-8 to UTF-16, logs of 4 KiB: with 1,024, 0.79; with 2,048, 0.84. Logs of 16 MiB as one piece: 0.91. `is_utf8_bidi`,

@@ -4,3 +4,4 @@ pub(crate) mod code_units;
 pub mod convert;
 mod groups;
 mod long_text;
+pub mod short_text;

@@ -211,6 +211,18 @@ module _ {A : Type 0} (encode : ℕ → List A) where
       (converted_rejected src old new read written d
       (λ prefix rest e s. omega (arith, all, ap length e, length-append prefix rest, length-drop read src, IsSequence-some prefix s)))
 
+  pub converts_text : (src : List ℕ) (old new : List A) (written : ℕ) → IsUtf8 src → WritesPrefix old new written (flat_map encode (chars src))
+      → ConvertsMaximal encode src old new (length src) written
+  converts_text src old new written u w =
+      let same : u.0 ≡ chars src = chars_from_encodes u.0 src u u.1.1 in
+      converts_all src old new (length src) written (omega arith) (record {
+        scalars = u.0;
+        are_scalars = u.1.0;
+        within = omega arith;
+        spelled = u.1.1 ∙ sym (take_all (length src) src (omega arith));
+        writes = subst (λ cs. WritesPrefix old new written (flat_map encode cs)) (sym same) w;
+      })
+
   pub converts_rest : (src : List ℕ) (old new sub : List A) (read written n m : ℕ) → ConvertsSome encode src old new read written
       → ConvertsMaximal encode (take (length src - read) (drop read src)) (take (length new - written) (drop written new)) sub n m
       → ConvertsMaximal encode src old (put_mid written (length new - written) new sub) (read + n) (written + m)
@@ -271,6 +283,11 @@ converted_unfit encode src old new sub read written c n d s e same l =
     ) in
     subst (λ xs. ConvertsUntilFull encode src old xs read written) (sym kept)
     (converted_full encode src old new read written c (drop n (drop read src)) d s rest room)
+
+-- ---- to UTF-16: a whole text
+pub ascii_written : (src old new : List ℕ) → IsAscii src → WritesPrefix old new (length src) src
+    → WritesPrefix old new (length src) (flat_map encode_utf16 (chars src))
+ascii_written src old new ascii w = subst (λ xs. WritesPrefix old new (length src) xs) (sym (ascii_text src ascii).1) w
 
 -- ---- to UTF-16: an ASCII prefix more
 pub converted_ascii : (src old new sub : List ℕ) (read written n : ℕ) → ConvertsSome encode_utf16 src old new read written

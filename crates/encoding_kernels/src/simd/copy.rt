@@ -1,7 +1,7 @@
 //! Copies by vectors: bytes as bytes or as UTF-16 code units, and ASCII code units as bytes. The rest of `dst` is
 //! unchanged. Vectors whose lanes are moved on.
 
-ghost use Rattle.std.specs.Prelude.{◌≡◌, ◌+◌, ◌%◌, ◌<◌, ◌≤◌, ◌∷◌, ◌++◌, length, map, take, drop, slice_index};
+ghost use Rattle.std.specs.Prelude.{◌≡◌, ◌+◌, ◌%◌, ◌<◌, ◌≤◌, ◌∷◌, ◌++◌, length, map, take, drop, replicate, slice_index};
 ghost use Rattle.encoding_definitions.specs.Prefixes.{WritesPrefix};
 ghost use Rattle.encoding_kernels.specs.Scans.{AllBelow, HasLanes};
 
@@ -241,6 +241,24 @@ pub fn pack_first(stride: &[u16; STRIDE], dst: &mut [u8], at: usize, count: usiz
 {
     let lower = u16x16::from_slice(stride) & u16x16::splat(0xFF);
     write_first(dst, at, lower.cast::<u8>(), count);
+}
+
+/// Returns eight to sixteen bytes, followed by zeros: the first eight, and those of the last eight after
+/// these. Uses only loads, since a load of what two stores wrote would stall on store forwarding.
+#[inline(always)]
+pub(crate) fn with_zeros(src: &[u8]) -> u8x16
+    requires { (8 ≤ length src.now) × (length src.now ≤ 16) }
+    ensures { result ≡ src.now ++ drop (length src.now) (replicate 16 0) }
+{
+    let lanes = u8x16::from_array(LANES);
+    let count = u8x16::splat(src.len() as u8);
+    let first = u8x8::from_slice(src);
+    let last = u8x8::from_slice(&src[src.len() - 8..]);
+    let both = first.shuffle(last, [0, 1, 2, 3, 4, 5, 6, 7, 8, 9, 10, 11, 12, 13, 14, 15]);
+    let following = (lanes + (u8x16::splat(16) - count)) & u8x16::splat(15);
+    let places = lanes.simd_lt(u8x16::splat(8)).select(lanes, following);
+    let bytes = both.swizzle_dyn(places);
+    lanes.simd_lt(count).select(bytes, u8x16::splat(0))
 }
 
 /// Returns for each lane the byte one lane before, and zero before the first.

@@ -4,6 +4,7 @@
 ghost use Rattle.std.specs.Prelude.{◌≡◌, ◌+◌, ◌*◌, ◌<◌, ◌≤◌, ◌↔◌, ◌++◌, IsTrue, IsFalse, length, take, drop};
 ghost use Rattle.std.specs.Str.{IsAscii};
 ghost use Rattle.encoding_definitions.specs.Prefixes.{WritesPrefix};
+ghost use Rattle.encoding_kernels.specs.Scans.{BelowUpTo};
 
 use crate::simd::copy::{copy, copy_few, pack_part, unpack};
 use crate::simd::scan::{are_bytes_below, are_units_below};
@@ -11,14 +12,36 @@ use crate::simd::width::{
     ASCII_END, BASIC_LATIN_END, BLOCK, HALF_BLOCK, HALF_STRIDE, QUARTER_STRIDE, STRIDE,
 };
 
+/// Returns whether N to 2 * N bytes are below the bound.
+#[inline(always)]
+fn are_below_by_two<const N: usize>(bytes: &[u8], bound: u8) -> bool
+    requires { (0 < N) × (N ≤ 64) × (N ≤ length bytes.now) × (length bytes.now ≤ 2 * N) }
+    ensures { IsTrue result ↔ BelowUpTo bound bytes.now (length bytes.now) }
+{
+    let last = bytes.len() - N;
+    are_bytes_below::<N>(bytes, 0, bound) & are_bytes_below::<N>(bytes, last, bound)
+}
+
+/// Returns whether 16 to 128 bytes are below the bound.
+#[inline(always)]
+pub(crate) fn are_short_below(bytes: &[u8], bound: u8) -> bool
+    requires { (16 ≤ length bytes.now) × (length bytes.now ≤ 128) }
+    ensures { IsTrue result ↔ BelowUpTo bound bytes.now (length bytes.now) }
+{
+    match bytes.len() {
+        ..HALF_BLOCK => are_below_by_two::<STRIDE>(bytes, bound),
+        HALF_BLOCK..BLOCK => are_below_by_two::<HALF_BLOCK>(bytes, bound),
+        _ => are_below_by_two::<BLOCK>(bytes, bound),
+    }
+}
+
 /// Returns whether N to 2 * N bytes are ASCII.
 #[inline(always)]
 fn are_ascii_by_two<const N: usize>(bytes: &[u8]) -> bool
     requires { (0 < N) × (N ≤ 64) × (N ≤ length bytes.now) × (length bytes.now ≤ 2 * N) }
     ensures { IsTrue result ↔ IsAscii bytes.now }
 {
-    let last = bytes.len() - N;
-    are_bytes_below::<N>(bytes, 0, ASCII_END) & are_bytes_below::<N>(bytes, last, ASCII_END)
+    are_below_by_two::<N>(bytes, ASCII_END)
 }
 
 /// Returns whether one, two or three bytes are ASCII. May test a byte twice: a branch for each length costs more.

@@ -245,6 +245,17 @@ pub(crate) fn compress(lanes: u16x8, mask: usize) -> u16x8
     u16x8::from_le_bytes(lanes.to_le_bytes().swizzle_dyn(compress_places(mask)))
 }
 
+/// Returns the mask of sixteen lanes without the bits of the first `skip`.
+#[tactic(auto, using(crate::proofs::CompressLemmas::mask_suffix))]
+#[inline(always)]
+pub(super) fn kept_from(mask: usize, skip: usize) -> usize
+    requires { (mask < 2 ^ 16) × (skip < 16) }
+    ensures { (marks : List Bool) → length marks ≡ 16 → mask ≡ mask_l marks
+        → result ≡ mask_l (replicate skip false ++ drop skip marks) }
+{
+    mask >> skip << skip
+}
+
 /// Writes the units whose bit is set, in order, and returns their number. Up to eight units after them may change.
 #[inline(always)]
 pub(super) fn write_compressed(first: u16x8, last: u16x8, kept: usize, dst: &mut [u16]) -> usize

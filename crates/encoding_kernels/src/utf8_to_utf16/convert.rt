@@ -15,15 +15,15 @@ ghost use Rattle.std.specs.Char.Escape.{encode_utf16};
 ghost use Rattle.encoding_definitions.specs.Prefixes.{WritesPrefix};
 
 use crate::scalar::{decode_utf8_scalar, is_continuation, sequence_length, write_utf16};
-use crate::simd::copy::LANES as BYTE_LANES;
+use crate::simd::copy::with_zeros;
 use crate::simd::scan::are_bytes_below;
 use crate::simd::width::{ASCII_END, BLOCK, STRIDE};
-use crate::tuning::SHORT_TEXT;
 use crate::utf8_to_utf16::code_units::{
     code_units, unit_ends, write_compressed, write_compressed_exact,
 };
-use crate::utf8_to_utf16::groups::{TRIPLES, UNITS, begins_triples, write_triples};
-use crate::utf8_to_utf16::long_text::convert_groups;
+use crate::utf8_to_utf16::groups::{GROUP_OF_TEXT, TRIPLES, UNITS, begins_triples, write_triples};
+use crate::utf8_to_utf16::long_text::{convert_groups, write_block_of_pairs};
+use crate::utf8_to_utf16::short_text::convert_short;
 use std::simd::prelude::*;
 
 /// Writes the UTF-16 of some first characters, and returns how many bytes it read and how many code units it wrote.
@@ -50,44 +50,6 @@ pub(super) fn write_some(src: &[u8], dst: &mut [u16]) -> (usize, usize)
     (end, write_block_in_any_room(src, end, kept, dst))
 }
 
-/// Returns whether the text at an index is no longer converted by blocks: it is long enough for groups, or it is a stride
-/// of ASCII before the last 64 bytes.
-#[inline(always)]
-fn ends_blocks(src: &[u8], at: usize) -> bool
-    requires { at ≤ length src.now }
-{
-    let left = src.len() - at;
-    left >= SHORT_TEXT || (left > BLOCK && are_bytes_below::<STRIDE>(src, at, ASCII_END))
-}
-
-/// Writes the UTF-16 of a text by blocks, and returns how many bytes it read and how many code units it wrote. Units that
-/// the rest of the text overwrites may have changed too. In the last 64 bytes ASCII ends no blocks, since they would soon
-/// be over.
-#[inline(never)]
-fn write_blocks(src: &[u8], dst: &mut [u16]) -> (usize, usize)
-    requires dst_length { (0 < length src.now) × (length src.now ≤ length dst.old) }
-    requires text { IsUtf8 src.now }
-    ensures progress { 0 < result.0 }
-    ensures written { WritesUtf16 src.now dst.old dst.new result.0 result.1 (units_in src.now) }
-{
-    let mut read = 0;
-    let mut written = 0;
-    while src.len() - read > STRIDE {
-        let (bytes, units) = write_some(&src[read..], &mut dst[written..]);
-        read += bytes;
-        written += units;
-        if ends_blocks(src, read) {
-            return (read, written);
-        }
-    }
-    if src.len() - read < 8 {
-        let units = write_few(&src[read..], &mut dst[written..]);
-        return (src.len(), written + units);
-    }
-    let units = write_tail(&src[read..], &mut dst[written..]);
-    (src.len(), written + units)
-}
-
 /// Returns whether more than 64 bytes are left, and the first character is followed by sixteen bytes of ASCII.
 #[inline(always)]
 fn precedes_ascii(src: &[u8]) -> bool
@@ -99,8 +61,8 @@ fn precedes_ascii(src: &[u8]) -> bool
 /// Writes the UTF-16 of the text before a run of ASCII, and returns how many bytes it read and how many code units it
 /// wrote. Units that the rest of the text overwrites may have changed too.
 ///
-/// A first character before sixteen bytes of ASCII is written by itself, since a block would end in the run, and a group would
-/// compute code units of ASCII. A short text is written by blocks, and one of which no group can be written first.
+/// A first character before sixteen bytes of ASCII is written by itself, since a group would compute code units of ASCII. A text
+/// that is too short for a group is written whole, and a block of one of which no group can be written first.
 #[inline(always)]
 pub fn convert_valid_utf8_to_utf16(src: &[u8], dst: &mut [u16]) -> (usize, usize)
     requires dst_length { (0 < length src.now) × (length src.now ≤ length dst.old) }
@@ -111,14 +73,14 @@ pub fn convert_valid_utf8_to_utf16(src: &[u8], dst: &mut [u16]) -> (usize, usize
     if precedes_ascii(src) {
         return write_character(src, dst);
     }
-    if src.len() < SHORT_TEXT {
-        return write_blocks(src, dst);
+    if src.len() < GROUP_OF_TEXT {
+        return (src.len(), convert_short(src, dst));
     }
     let (read, written) = convert_groups(src, dst);
     if read > 0 {
         return (read, written);
     }
-    write_blocks(src, dst)
+    write_block_of_pairs(src, dst)
 }
 
 /// The greatest byte at each index that leaves no character cut at the end of sixteen.
@@ -219,24 +181,6 @@ pub(super) fn write_few(src: &[u8], dst: &mut [u16]) -> usize
         written += units;
     }
     written
-}
-
-/// Returns a text of eight to sixteen bytes, followed by zeros: its first eight, and those of its last eight after
-/// these. Uses only loads, since a load of what two stores wrote would stall on store forwarding.
-#[inline(always)]
-fn with_zeros(src: &[u8]) -> u8x16
-    requires { (8 ≤ length src.now) × (length src.now ≤ 16) }
-    ensures { result ≡ src.now ++ drop (length src.now) (replicate 16 0) }
-{
-    let lanes = u8x16::from_array(BYTE_LANES);
-    let count = u8x16::splat(src.len() as u8);
-    let first = u8x8::from_slice(src);
-    let last = u8x8::from_slice(&src[src.len() - 8..]);
-    let both = first.shuffle(last, [0, 1, 2, 3, 4, 5, 6, 7, 8, 9, 10, 11, 12, 13, 14, 15]);
-    let following = (lanes + (u8x16::splat(16) - count)) & u8x16::splat(15);
-    let places = lanes.simd_lt(u8x16::splat(8)).select(lanes, following);
-    let bytes = both.swizzle_dyn(places);
-    lanes.simd_lt(count).select(bytes, u8x16::splat(0))
 }
 
 /// Writes the UTF-16 of a text of eight to sixteen bytes, and returns its length in code units.

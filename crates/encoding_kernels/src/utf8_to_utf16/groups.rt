@@ -200,7 +200,7 @@ fn write_stride<const N: usize>(
 pub(super) fn write_group<const N: usize>(src: &[u8], dst: &mut [u16]) -> usize
     requires dst_length { (64 ≤ length src.now) × (64 ≤ length dst.old) }
     requires short { N < 4 → BelowUpTo 0xF0 src.now 64 }
-    ensures { StoresUnits src.now dst.old dst.new 64 result }
+    ensures { StoresUnits src.now dst.old dst.new 64 result (result + 8) }
 {
     let block = u8x16::from_slice(src);
     let (three, two, one) = (three_before(block), two_before(block), one_before(block));

@@ -31,10 +31,11 @@ fn begins_ascii_block(src: &[u8]) -> bool {
 
 /// Writes the UTF-16 of a first block as `write_some` does. Out of line, since few texts need it.
 #[inline(never)]
-fn write_block_of_pairs(src: &[u8], dst: &mut [u16]) -> (usize, usize)
+pub(super) fn write_block_of_pairs(src: &[u8], dst: &mut [u16]) -> (usize, usize)
     requires dst_length { (16 < length src.now) × (length src.now ≤ length dst.old) }
     requires text { IsUtf8 src.now }
-    ensures { WritesUtf16 src.now dst.old dst.new result.0 result.1 (units_in src.now) }
+    ensures progress { 0 < result.0 }
+    ensures written { WritesUtf16 src.now dst.old dst.new result.0 result.1 (units_in src.now) }
 {
     write_some(src, dst)
 }

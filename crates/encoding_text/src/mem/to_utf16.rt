@@ -10,8 +10,8 @@ ghost use Rattle.encoding_definitions.specs.Converting.{WritesText};
 
 use crate::ascii::prefixes::{BLOCK_OF_TEXT, copy_to_basic_latin_inline};
 use crate::decoder::{DecoderResult, Utf8Decoder};
-use crate::utf_8::{convert_text, convert_utf8_to_utf16_up_to_invalid};
-use encoding_kernels::simd::width::ASCII_END;
+use crate::utf_8::{convert_short_text, convert_text, convert_utf8_to_utf16_up_to_invalid};
+use encoding_kernels::simd::width::{ASCII_END, BLOCK};
 
 /// Converts bytes to UTF-16, with U+FFFD for each malformed sequence, and returns how many code units it wrote.
 /// Encoding Standard, UTF-8 decode without BOM.
@@ -52,6 +52,9 @@ pub fn convert_str_to_utf16(src: &str, dst: &mut [u16]) -> usize
     ensures { WritesPrefix dst.old dst.new result (flat_map encode_utf16 (chars src.now)) }
 {
     let bytes = src.as_bytes();
+    if bytes.len() <= BLOCK {
+        return convert_short_text(bytes, dst);
+    }
     // inline, the ASCII at the start of a short text costs less than half
     if bytes.is_empty() || bytes[0] >= ASCII_END || bytes.len() >= BLOCK_OF_TEXT {
         return convert_text(bytes, dst);

@@ -1,5 +1,5 @@
 //! From UTF-8 to UTF-16, and its twin from UTF-8 to UTF-8. A conversion leaves the rest of `dst` unchanged.
-ghost use Rattle.std.specs.Prelude.{◌≡◌, ℕ, ◌<◌, ◌≤◌, List, length, encode_utf8};
+ghost use Rattle.std.specs.Prelude.{◌≡◌, ℕ, ◌<◌, ◌≤◌, List, length, encode_utf8, IfSome, IfNone};
 ghost use Rattle.std.specs.List.{flat_map};
 ghost use Rattle.std.specs.Char.{IsScalar};
 ghost use Rattle.std.specs.Char.Escape.{encode_utf16};
@@ -14,9 +14,12 @@ use crate::ascii::prefixes::{
 };
 use encoding_kernels::scalar::{decode_utf8_scalar, write_utf16};
 use encoding_kernels::simd::copy::copy_prefix;
-use encoding_kernels::simd::width::ASCII_END;
+use encoding_kernels::simd::short::unpack_short_ascii;
+use encoding_kernels::simd::width::{ASCII_END, BLOCK, STRIDE};
 use encoding_kernels::tuning::VALIDATED_PIECE;
+use encoding_kernels::utf8::validate::well_formed_short;
 use encoding_kernels::utf8_to_utf16::convert::convert_valid_utf8_to_utf16;
+use encoding_kernels::utf8_to_utf16::short_text::convert_short;
 
 /// What text is converted to: bytes of UTF-8, or code units of UTF-16.
 pub(crate) trait CodeUnit: Copy {
@@ -69,6 +72,40 @@ impl CodeUnit for u8 {
     fn convert_up_to_invalid(src: &[u8], dst: &mut [u8]) -> (usize, usize) {
         copy_utf8_up_to_invalid(src, dst)
     }
+}
+
+/// Converts a text of at most 64 bytes to UTF-16, and returns how many code units it wrote. Two vectors copy it if it is ASCII.
+#[inline(always)]
+pub(crate) fn convert_short_text(src: &[u8], dst: &mut [u16]) -> usize
+    requires src_length { length src.now ≤ 64 }
+    requires dst_length { length src.now ≤ length dst.old }
+    requires text { IsUtf8 src.now }
+    ensures { WritesPrefix dst.old dst.new result (flat_map encode_utf16 (chars src.now)) }
+{
+    if unpack_short_ascii(src, dst) {
+        return src.len();
+    }
+    convert_short(src, dst)
+}
+
+/// Converts 16 to 64 bytes to UTF-16 if they are well-formed and `dst` is at least as long. Returns how many code units it wrote.
+/// Otherwise `dst` is unchanged. Two vectors copy ASCII, and at most two more validate other text.
+#[inline(always)]
+fn convert_if_short_text(src: &[u8], dst: &mut [u16]) -> Option<usize>
+    ensures text { IfSome result (λ n. IsUtf8 src.now
+        × WritesPrefix dst.old dst.new n (flat_map encode_utf16 (chars src.now))) }
+    ensures unchanged { IfNone result (dst.new ≡ dst.old) }
+{
+    if src.len() < STRIDE || src.len() > BLOCK || src.len() > dst.len() {
+        return None;
+    }
+    if unpack_short_ascii(src, dst) {
+        return Some(src.len());
+    }
+    if well_formed_short(src) < src.len() {
+        return None;
+    }
+    Some(convert_short(src, dst))
 }
 
 /// Converts a text to UTF-16, and returns how many code units it wrote. A turn takes the ASCII prefix, and then other
@@ -127,9 +164,9 @@ fn convert_turns(src: &[u8], dst: &mut [u16]) -> (usize, usize)
     }
 }
 
-/// Converts UTF-8 to UTF-16 up to the first byte that is in no character, or as far as whole characters fit. Returns
-/// how many bytes it read and how many code units it wrote. `dst` may have any length.
-pub fn convert_utf8_to_utf16_up_to_invalid(src: &[u8], dst: &mut [u16]) -> (usize, usize)
+/// Converts UTF-8 to UTF-16 as `convert_utf8_to_utf16_up_to_invalid` does: the ASCII prefix, and what follows it by turns.
+#[inline(always)]
+fn convert_after_ascii(src: &[u8], dst: &mut [u16]) -> (usize, usize)
     ensures { ConvertsMaximal encode_utf16 src.now dst.old dst.new result.0 result.1 }
 {
     let ascii = copy_to_basic_latin_inline(src, dst);
@@ -142,6 +179,17 @@ pub fn convert_utf8_to_utf16_up_to_invalid(src: &[u8], dst: &mut [u16]) -> (usiz
     }
     let (read, written) = convert_turns(&src[ascii..], &mut dst[ascii..]);
     (ascii + read, ascii + written)
+}
+
+/// Converts UTF-8 to UTF-16 up to the first byte that is in no character, or as far as whole characters fit. Returns
+/// how many bytes it read and how many code units it wrote. `dst` may have any length.
+pub fn convert_utf8_to_utf16_up_to_invalid(src: &[u8], dst: &mut [u16]) -> (usize, usize)
+    ensures { ConvertsMaximal encode_utf16 src.now dst.old dst.new result.0 result.1 }
+{
+    if let Some(written) = convert_if_short_text(src, dst) {
+        return (src.len(), written);
+    }
+    convert_after_ascii(src, dst)
 }
 
 /// Copies UTF-8 up to the first byte that is in no character, or as far as whole characters fit. Returns how many bytes

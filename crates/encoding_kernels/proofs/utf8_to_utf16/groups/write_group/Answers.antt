@@ -1,4 +1,4 @@
-use Rattle.std.proofs.Common.{◌≡◌, ◌*◌, ◌-◌, ◌∷◌, [], arith, drop, length, subst}
+use Rattle.std.proofs.Common.{◌≡◌, ◌*◌, ◌+◌, ◌-◌, ◌∷◌, [], arith, drop, length, subst}
 use Rattle.std.proofs.lemmas.List.{length-drop, length-take}
 use Rattle.encoding_kernels.specs.EndingUnits.{StoresUnits}
 use Rattle.encoding_kernels.proofs.GroupLemmas.{group_first, group_more, loaded_before, zeros_before}
@@ -14,7 +14,7 @@ pub write_stride-written-requires-clause-one_before : goal.write_stride-written-
 write_stride-written-requires-clause-one_before g c = zeros_before c.args.src.now _ (0 ∷ []) (omega arith) c.one_before-one.ensures
 
 pub loop-stride-init : goal.loop-stride-init
-loop-stride-init g c = group_first c.args.src.now c.args.dst.now c.write_stride-written.new.dst _ (omega arith) c.write_stride-written.auto.dst
+loop-stride-init g c = group_first c.args.src.now c.args.dst.now c.write_stride-written.new.dst _ _ (omega arith) c.write_stride-written.auto.dst
     c.write_stride-written.ensures
 
 pub write_stride-written-requires-in-loop-stride-clause-three_before : goal.write_stride-written-requires-in-loop-stride-clause-three_before
@@ -33,11 +33,11 @@ pub loop-stride-preserved : goal.loop-stride-preserved
 loop-stride-preserved g c =
     let l = c.loop-stride in
     let same = c.write_stride-written-in-loop-stride.auto.dst in
-    group_more c.args.src.now c.args.dst.now l.dst c.write_stride-written-in-loop-stride.new.dst (16 * l.stride) _ l.written _ (omega arith) (omega arith)
+    group_more c.args.src.now c.args.dst.now l.dst c.write_stride-written-in-loop-stride.new.dst (16 * l.stride) 16 _ l.written _ 8 (omega arith) (omega arith)
     (omega arith) (omega (arith, same, length-take (length l.dst - l.written) (drop l.written l.dst), length-drop l.written l.dst)) l.invariant
     c.write_stride-written-in-loop-stride.ensures
 
 pub returns : goal.returns
 returns g c =
     let end : 16 * c.loop-stride.stride ≡ 64 = omega arith in
-    subst (λ n. StoresUnits c.args.src.now c.args.dst.now c.loop-stride.dst n c.loop-stride.written) end c.loop-stride.invariant
+    subst (λ n. StoresUnits c.args.src.now c.args.dst.now c.loop-stride.dst n c.loop-stride.written (c.loop-stride.written + 8)) end c.loop-stride.invariant
