@@ -149,6 +149,9 @@ module _ (n : ℕ) (bs : List ℕ) (long : n ≤ length bs) where
   prefix_three zero l = refl
   prefix_three (suc i) l = prefix_two i (omega arith)
 
+  pub IsValidAt-take : (i : ℕ) → i < n → IsValidAt bs i → IsValidAt (take n bs) i
+  IsValidAt-take i l f = moved (sym (prefix_three i l)) (sym (prefix_two i l)) (sym (prefix_one i l)) (sym (get_or-take n bs i 0 l)) f
+
   pub IsValidAt-first : {three two one : List ℕ} → HasLanes n three (λ k. get_or (0 ∷ 0 ∷ 0 ∷ take n bs) k 0)
       → HasLanes n two (λ k. get_or (0 ∷ 0 ∷ take n bs) k 0) → HasLanes n one (λ k. get_or (0 ∷ take n bs) k 0) → (i : ℕ) → i < n
       → IsValidAfter (get_or three i 0) (get_or two i 0) (get_or one i 0) (get_or (take n bs) i 0) → IsValidAt bs i

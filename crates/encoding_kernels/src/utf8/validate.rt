@@ -7,8 +7,9 @@ ghost use Rattle.encoding_kernels.specs.Following.{ValidUpTo};
 ghost use Rattle.std.specs.Str.{IsUtf8};
 
 use crate::scalar::is_lead_with_continuation;
+use crate::simd::copy::with_zeros;
 use crate::simd::scan::{BytesBelow, all, is_zero, zeros};
-use crate::simd::width::{ASCII_END, BLOCK, FOUR_BLOCKS, HALF_BLOCK, TWO_BLOCKS};
+use crate::simd::width::{ASCII_END, BLOCK, FOUR_BLOCKS, HALF_BLOCK, STRIDE, TWO_BLOCKS};
 use crate::tuning::{FIRST_PAIRS, MOST_PAIRS, MOST_SKIPPED};
 use crate::utf8::lookups::{faults, faults_32, first_faults, first_faults_32};
 
@@ -91,6 +92,17 @@ fn clean_of_first_32(src: &[u8]) -> usize
     }
     let last = (src.len() - 16).min(16);
     last + zeros(faults(src, last))
+}
+
+/// Returns the length of a prefix of eight to fifteen bytes that may each follow those before it, by one vector that zeros fill.
+#[inline(always)]
+fn clean_of_few(src: &[u8]) -> usize
+    requires { (8 ≤ length src.now) × (length src.now < 16) }
+    ensures within { result ≤ length src.now }
+    ensures follow { ValidUpTo src.now result }
+{
+    let block = with_zeros(src).to_array();
+    zeros(first_faults(&block)).min(src.len())
 }
 
 /// Returns `at`, or the start of the character that is cut there.
@@ -204,16 +216,16 @@ fn following(src: &[u8], from: usize) -> usize
     finish(src, at)
 }
 
-/// Returns the length of a well-formed prefix of at most 64 bytes, by two vectors that may overlap.
+/// Returns the length of a well-formed prefix of at most 64 bytes, by one vector or two that may overlap.
 #[inline(always)]
 pub fn well_formed_short(src: &[u8]) -> usize
-    requires { (16 ≤ length src.now) × (length src.now ≤ 64) }
+    requires { (8 ≤ length src.now) × (length src.now ≤ 64) }
     ensures { (result ≤ length src.now) × IsUtf8 (take result src.now) }
 {
-    let clean = if src.len() >= 35 {
-        clean_of_first_64(src)
-    } else {
-        clean_of_first_32(src)
+    let clean = match src.len() {
+        ..STRIDE => clean_of_few(src),
+        STRIDE..35 => clean_of_first_32(src),
+        _ => clean_of_first_64(src),
     };
     back(src, clean)
 }

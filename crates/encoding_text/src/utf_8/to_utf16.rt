@@ -15,7 +15,7 @@ use crate::ascii::prefixes::{
 use encoding_kernels::scalar::{decode_utf8_scalar, write_utf16};
 use encoding_kernels::simd::copy::copy_prefix;
 use encoding_kernels::simd::short::unpack_short_ascii;
-use encoding_kernels::simd::width::{ASCII_END, BLOCK, STRIDE};
+use encoding_kernels::simd::width::{ASCII_END, BLOCK, HALF_STRIDE};
 use encoding_kernels::tuning::VALIDATED_PIECE;
 use encoding_kernels::utf8::validate::well_formed_short;
 use encoding_kernels::utf8_to_utf16::convert::convert_valid_utf8_to_utf16;
@@ -88,7 +88,7 @@ pub(crate) fn convert_short_text(src: &[u8], dst: &mut [u16]) -> usize
     convert_short(src, dst)
 }
 
-/// Converts 16 to 64 bytes to UTF-16 if they are well-formed and `dst` is at least as long. Returns how many code units it wrote.
+/// Converts 8 to 64 bytes to UTF-16 if they are well-formed and `dst` is at least as long. Returns how many code units it wrote.
 /// Otherwise `dst` is unchanged. Two vectors copy ASCII, and at most two more validate other text.
 #[inline(always)]
 fn convert_if_short_text(src: &[u8], dst: &mut [u16]) -> Option<usize>
@@ -96,7 +96,7 @@ fn convert_if_short_text(src: &[u8], dst: &mut [u16]) -> Option<usize>
         × WritesPrefix dst.old dst.new n (flat_map encode_utf16 (chars src.now))) }
     ensures unchanged { IfNone result (dst.new ≡ dst.old) }
 {
-    if src.len() < STRIDE || src.len() > BLOCK || src.len() > dst.len() {
+    if src.len() < HALF_STRIDE || src.len() > BLOCK || src.len() > dst.len() {
         return None;
     }
     if unpack_short_ascii(src, dst) {

@@ -11,7 +11,7 @@ use crate::utf_8::table::{UTF8_DATA, law_table};
 use encoding_kernels::scalar::{is_continuation, is_lead_with_continuation, is_second};
 use encoding_kernels::simd::scan::run_len_below;
 use encoding_kernels::simd::short::is_short_ascii;
-use encoding_kernels::simd::width::{ASCII_END, BLOCK, STRIDE, TWO_BLOCKS};
+use encoding_kernels::simd::width::{ASCII_END, BLOCK, HALF_STRIDE, STRIDE, TWO_BLOCKS};
 use encoding_kernels::utf8::validate::{well_formed_blocks, well_formed_short};
 
 /// Returns whether three bytes are one character, for a first byte that starts no character of one, two or four.
@@ -157,11 +157,11 @@ pub(crate) fn begins_no_character(bytes: &[u8]) -> bool
     bytes.len() < 2 || !is_lead_with_continuation(bytes[0], bytes[1])
 }
 
-/// Returns the length of the longest well-formed prefix of 16 to 64 bytes, by two vectors. If no character follows what these
-/// find, two bytes show it.
+/// Returns the length of the longest well-formed prefix of 8 to 64 bytes, by one or two vectors. If no character follows what
+/// these find, two bytes show it.
 #[inline(always)]
 fn valid_up_to_by_vectors(src: &[u8]) -> usize
-    requires { (16 ≤ length src.now) × (length src.now ≤ 64) }
+    requires { (8 ≤ length src.now) × (length src.now ≤ 64) }
     ensures { IsLongestPrefix IsUtf8 src.now result }
 {
     let well_formed = well_formed_short(src);
@@ -207,6 +207,9 @@ fn tiny_valid_up_to(src: &[u8]) -> usize
 {
     if is_short_ascii(src) {
         return src.len();
+    }
+    if src.len() >= HALF_STRIDE {
+        return valid_up_to_by_vectors(src);
     }
     long_valid_up_to(src)
 }
@@ -260,7 +263,7 @@ pub(crate) fn valid_up_to(src: &[u8]) -> usize
 /// malformed sequence.
 #[inline(always)]
 fn short_text_valid_up_to(src: &[u8]) -> usize
-    requires { (16 ≤ length src.now) × (length src.now ≤ 64) }
+    requires { (8 ≤ length src.now) × (length src.now ≤ 64) }
     ensures { IsLongestPrefix IsUtf8 src.now result }
 {
     if is_short_ascii(src) {
@@ -278,7 +281,7 @@ fn short_text_valid_up_to(src: &[u8]) -> usize
 pub fn utf8_valid_up_to(src: &[u8]) -> usize
     ensures { IsLongestPrefix IsUtf8 src.now result }
 {
-    if STRIDE <= src.len() && src.len() <= BLOCK {
+    if HALF_STRIDE <= src.len() && src.len() <= BLOCK {
         return short_text_valid_up_to(src);
     }
     valid_up_to(src)
