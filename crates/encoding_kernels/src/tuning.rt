@@ -40,11 +40,17 @@ pub const LATIN1_LENGTH_SPAN: usize = 1024;
 /// `repair_slice` and `decode_to_utf8_raw`, ASCII of 200 to 256 bytes: with 128, 0.94.
 pub const LONGEST_VECTOR_COPY: usize = 256;
 
-/// In bytes: how much is validated before it is converted or scanned, so that it is still in the nearest cache.
+/// In bytes: how much is validated before it is scanned for right-to-left characters, so that it is still in the nearest cache.
 ///
-/// UTF-8 to UTF-16, logs of 4 KiB: with 1,024, 0.79; with 2,048, 0.84. Logs of 16 MiB as one piece: 0.91. `is_utf8_bidi`,
-/// Latin of 16 MiB: with 1,024, 0.88; as one piece, 0.72.
+/// `is_utf8_bidi`, Latin of 16 MiB: with 1,024, 0.88; as one piece, 0.72. With 8,192, a text with a right-to-left character near its
+/// start 0.74.
 pub const VALIDATED_PIECE: usize = 4096;
+
+/// In bytes: how much is validated before it is converted to UTF-16. Each piece ends with a text that is too short for a group.
+///
+/// Decoding to UTF-16, 5,000 bytes to 900 KB, in a build without the toolchain: with 4,096, HTML, Chinese, prose and Russian 0.94 to
+/// 0.97, logs 0.92 to 0.97; with 8,192, 0.97 to 1.00; with 32,768, 0.98 to 1.01.
+pub const CONVERTED_PIECE: usize = 16384;
 
 /// In pairs of blocks of 64 bytes: how many are validated at first until the next test for ASCII. After ASCII it is one.
 ///

@@ -16,7 +16,7 @@ use encoding_kernels::scalar::{decode_utf8_scalar, write_utf16};
 use encoding_kernels::simd::copy::copy_prefix;
 use encoding_kernels::simd::short::unpack_short_ascii;
 use encoding_kernels::simd::width::{ASCII_END, BLOCK, HALF_STRIDE};
-use encoding_kernels::tuning::VALIDATED_PIECE;
+use encoding_kernels::tuning::CONVERTED_PIECE;
 use encoding_kernels::utf8::validate::well_formed_short;
 use encoding_kernels::utf8_to_utf16::convert::convert_valid_utf8_to_utf16;
 use encoding_kernels::utf8_to_utf16::short_text::convert_short;
@@ -148,7 +148,7 @@ fn convert_turns(src: &[u8], dst: &mut [u16]) -> (usize, usize)
         written += ascii;
         let room = (src.len() - read)
             .min(dst.len() - written)
-            .min(VALIDATED_PIECE);
+            .min(CONVERTED_PIECE);
         let valid = utf8_valid_up_to(&src[read..read + room]);
         written += convert_text(&src[read..read + valid], &mut dst[written..]);
         read += valid;
