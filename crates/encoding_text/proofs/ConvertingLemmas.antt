@@ -223,6 +223,20 @@ module _ {A : Type 0} (encode : ℕ → List A) where
         writes = subst (λ cs. WritesPrefix old new written (flat_map encode cs)) (sym same) w;
       })
 
+  -- the longest well-formed prefix is converted whole
+  pub converts_valid : (src : List ℕ) (old new : List A) (n written : ℕ) → IsLongestPrefix IsUtf8 src n
+      → WritesPrefix old new written (flat_map encode (chars (take n src))) → ConvertsMaximal encode src old new n written
+  converts_valid src old new n written p w =
+      let u : IsUtf8 (take n src) = p.kind in
+      let same : u.0 ≡ chars (take n src) = chars_from_encodes u.0 (take n src) u u.1.1 in
+      converts_longest src old new n written (converted_rejected src old new n written (record {
+        scalars = u.0;
+        are_scalars = u.1.0;
+        within = p.within;
+        spelled = u.1.1;
+        writes = subst (λ cs. WritesPrefix old new written (flat_map encode cs)) (sym same) w;
+      }) (no_character_after src n p))
+
   pub converts_rest : (src : List ℕ) (old new sub : List A) (read written n m : ℕ) → ConvertsSome encode src old new read written
       → ConvertsMaximal encode (take (length src - read) (drop read src)) (take (length new - written) (drop written new)) sub n m
       → ConvertsMaximal encode src old (put_mid written (length new - written) new sub) (read + n) (written + m)

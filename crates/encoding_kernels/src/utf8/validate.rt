@@ -1,4 +1,4 @@
-//! Validates UTF-8 by blocks of 64 bytes, and at most 64 bytes by two overlapping vectors. ASCII before the blocks, and
+//! Validates UTF-8 by blocks of 64 bytes, and 8 to 64 bytes by one vector or two that may overlap. ASCII before the blocks, and
 //! long runs of it between them, are the caller's.
 
 ghost use Rattle.std.specs.Prelude.{◌+◌, ◌*◌, ◌<◌, ◌≤◌, IsTrue, length, take};

@@ -1,11 +1,12 @@
-//! UTF-16 of well-formed UTF-8, by groups of 64 bytes, and in short texts and at the end of longer ones by blocks of
-//! sixteen. A code unit is computed for each byte as if it ended there, and those that do are moved together.
+//! UTF-16 of well-formed UTF-8, by groups of 64 bytes, and by strides of sixteen in a short text and at the end of a longer one.
+//! A code unit is computed for each byte as if it ended there, and those that do are moved together.
 //!
-//! A block may store units after its own. Those of the bytes that follow overwrite them, since these have at least a
+//! Blocks of sixteen bytes begin with a character: around characters of four bytes, and in a text of 8 to 18 bytes. A block may
+//! store units after its own. Those of the bytes that follow overwrite them, since these have at least a
 //! third as many: a block is stored only if that many units are still to be written. After the UTF-16 of a whole text,
 //! `dst` is unchanged. Runs of ASCII are the caller's.
 
-ghost use Rattle.std.specs.Prelude.{◌+◌, ◌-◌, ◌/◌, ◌<◌, ◌≤◌, length, ◌≡◌, ◌^◌, false, ◌++◌, take, replicate, IsTrue, drop};
+ghost use Rattle.std.specs.Prelude.{◌+◌, ◌-◌, ◌/◌, ◌<◌, ◌≤◌, length, ◌≡◌, ◌^◌, false, ◌++◌, take, replicate, IsTrue};
 ghost use Rattle.std.specs.Str.{IsUtf8, IsCharBoundary, chars};
 ghost use Rattle.encoding_kernels.specs.EndingUnits.{WritesUtf16, units_in, ends_after};
 ghost use Rattle.std.specs.Int.RustNames.{count_ones};
@@ -21,7 +22,7 @@ use crate::simd::width::{ASCII_END, BLOCK, STRIDE};
 use crate::utf8_to_utf16::code_units::{
     code_units, unit_ends, write_compressed, write_compressed_exact,
 };
-use crate::utf8_to_utf16::groups::{GROUP_OF_TEXT, TRIPLES, UNITS, begins_triples, write_triples};
+use crate::utf8_to_utf16::groups::GROUP_OF_TEXT;
 use crate::utf8_to_utf16::long_text::{convert_groups, write_block_of_pairs};
 use crate::utf8_to_utf16::short_text::convert_short;
 use std::simd::prelude::*;
@@ -35,10 +36,6 @@ pub(super) fn write_some(src: &[u8], dst: &mut [u16]) -> (usize, usize)
     ensures progress { 0 < result.0 }
     ensures written { WritesUtf16 src.now dst.old dst.new result.0 result.1 (units_in src.now) }
 {
-    if src.len() >= TRIPLES && begins_triples(src) {
-        write_triples(src, dst);
-        return (TRIPLES, UNITS);
-    }
     let end = whole_end(src);
     if end == 0 {
         return write_character(src, dst);
@@ -62,7 +59,8 @@ fn precedes_ascii(src: &[u8]) -> bool
 /// wrote. Units that the rest of the text overwrites may have changed too.
 ///
 /// A first character before sixteen bytes of ASCII is written by itself, since a group would compute code units of ASCII. A text
-/// that is too short for a group is written whole, and a block of one of which no group can be written first.
+/// that is too short for a group is written whole. If the first group would cut a character of four bytes after its third one, a
+/// block is written.
 #[inline(always)]
 pub fn convert_valid_utf8_to_utf16(src: &[u8], dst: &mut [u16]) -> (usize, usize)
     requires dst_length { (0 < length src.now) × (length src.now ≤ length dst.old) }

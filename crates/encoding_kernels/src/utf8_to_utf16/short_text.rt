@@ -1,6 +1,6 @@
-//! UTF-16 of short texts and of what groups of 64 bytes leave of longer ones, by strides at fixed indices. The last stride ends
-//! with the text and may overlap the one before it. So only the length of the text decides how often the loop iterates, and no
-//! byte is left to it.
+//! UTF-16 of a short text, and of the last bytes of a longer one, which are too few for a group of 64. Strides of sixteen bytes are
+//! at fixed indices, and the last one ends with the text and may overlap the one before it. So only the length of the text decides
+//! how often the loop iterates, and no single byte is left.
 
 ghost use Rattle.std.specs.Prelude.{◌+◌, ◌-◌, ◌<◌, ◌≤◌, ◌∷◌, length, take, drop, slice_index};
 ghost use Rattle.std.specs.List.{flat_map};
@@ -144,8 +144,8 @@ fn write_block_and_few(src: &[u8], dst: &mut [u16]) -> usize
     written + write_few(&src[read..], &mut dst[written..])
 }
 
-/// Writes the UTF-16 of a text of at most 128 bytes, and returns its length in code units. The rest of `dst` is unchanged. Each
-/// code unit is computed, also if it is ASCII.
+/// Writes the UTF-16 of a text of at most 128 bytes, and returns its length in code units. The rest of `dst` is unchanged. It
+/// doesn't look for ASCII, whose code units are computed like others.
 pub fn convert_short(src: &[u8], dst: &mut [u16]) -> usize
     requires src_length { length src.now ≤ 128 }
     requires dst_length { length src.now ≤ length dst.old }

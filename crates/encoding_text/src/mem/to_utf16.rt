@@ -55,8 +55,8 @@ pub fn convert_str_to_utf16(src: &str, dst: &mut [u16]) -> usize
     if bytes.len() <= BLOCK {
         return convert_short_text(bytes, dst);
     }
-    // inline, the ASCII at the start of a short text costs less than half
-    if bytes.is_empty() || bytes[0] >= ASCII_END || bytes.len() >= BLOCK_OF_TEXT {
+    // inline, the ASCII at the start of fewer than three blocks costs less than half
+    if bytes[0] >= ASCII_END || bytes.len() >= BLOCK_OF_TEXT {
         return convert_text(bytes, dst);
     }
     let ascii = copy_to_basic_latin_inline(bytes, dst);

@@ -1,5 +1,5 @@
 //! From UTF-8 to UTF-16, and its twin from UTF-8 to UTF-8. A conversion leaves the rest of `dst` unchanged.
-ghost use Rattle.std.specs.Prelude.{◌≡◌, ℕ, ◌<◌, ◌≤◌, List, length, encode_utf8, IfSome, IfNone};
+ghost use Rattle.std.specs.Prelude.{◌≡◌, ℕ, ◌<◌, ◌≤◌, List, length, encode_utf8};
 ghost use Rattle.std.specs.List.{flat_map};
 ghost use Rattle.std.specs.Char.{IsScalar};
 ghost use Rattle.std.specs.Char.Escape.{encode_utf16};
@@ -8,7 +8,10 @@ ghost use Rattle.encoding_definitions.specs.Prefixes.{WritesPrefix};
 ghost use Rattle.encoding_definitions.specs.Converting.{ConvertsMaximal};
 ghost use Rattle.encoding_text.specs.Steps.{ConvertsUntilFull};
 
-use super::validation::{begins_no_character, character_length, utf8_valid_up_to, valid_up_to};
+use super::validation::{
+    begins_no_character, character_length, short_valid_up_to_beyond_ascii, utf8_valid_up_to,
+    valid_up_to,
+};
 use crate::ascii::prefixes::{
     copy_prefix_of_text, copy_to_basic_latin, copy_to_basic_latin_inline,
 };
@@ -17,7 +20,6 @@ use encoding_kernels::simd::copy::copy_prefix;
 use encoding_kernels::simd::short::unpack_short_ascii;
 use encoding_kernels::simd::width::{ASCII_END, BLOCK, HALF_STRIDE};
 use encoding_kernels::tuning::CONVERTED_PIECE;
-use encoding_kernels::utf8::validate::well_formed_short;
 use encoding_kernels::utf8_to_utf16::convert::convert_valid_utf8_to_utf16;
 use encoding_kernels::utf8_to_utf16::short_text::convert_short;
 
@@ -88,24 +90,23 @@ pub(crate) fn convert_short_text(src: &[u8], dst: &mut [u16]) -> usize
     convert_short(src, dst)
 }
 
-/// Converts 8 to 64 bytes to UTF-16 if they are well-formed and `dst` is at least as long. Returns how many code units it wrote.
-/// Otherwise `dst` is unchanged. Two vectors copy ASCII, and at most two more validate other text.
+/// Converts 8 to 64 bytes to UTF-16 as `convert_utf8_to_utf16_up_to_invalid` does, if `dst` is at least as long. Two vectors copy
+/// ASCII. Otherwise the longest well-formed prefix is found first, and then converted without a turn.
 #[inline(always)]
-fn convert_if_short_text(src: &[u8], dst: &mut [u16]) -> Option<usize>
-    ensures text { IfSome result (λ n. IsUtf8 src.now
-        × WritesPrefix dst.old dst.new n (flat_map encode_utf16 (chars src.now))) }
-    ensures unchanged { IfNone result (dst.new ≡ dst.old) }
+fn convert_short_prefix(src: &[u8], dst: &mut [u16]) -> (usize, usize)
+    requires src_length { (8 ≤ length src.now) × (length src.now ≤ 64) }
+    requires dst_length { length src.now ≤ length dst.old }
+    ensures { ConvertsMaximal encode_utf16 src.now dst.old dst.new result.0 result.1 }
 {
-    if src.len() < HALF_STRIDE || src.len() > BLOCK || src.len() > dst.len() {
-        return None;
-    }
     if unpack_short_ascii(src, dst) {
-        return Some(src.len());
+        return (src.len(), src.len());
     }
-    if well_formed_short(src) < src.len() {
-        return None;
+    let valid = short_valid_up_to_beyond_ascii(src);
+    if valid == src.len() {
+        return (valid, convert_short(src, dst));
     }
-    Some(convert_short(src, dst))
+    // before a malformed sequence there is often only ASCII
+    (valid, convert_short_text(&src[..valid], dst))
 }
 
 /// Converts a text to UTF-16, and returns how many code units it wrote. A turn takes the ASCII prefix, and then other
@@ -186,8 +187,8 @@ fn convert_after_ascii(src: &[u8], dst: &mut [u16]) -> (usize, usize)
 pub fn convert_utf8_to_utf16_up_to_invalid(src: &[u8], dst: &mut [u16]) -> (usize, usize)
     ensures { ConvertsMaximal encode_utf16 src.now dst.old dst.new result.0 result.1 }
 {
-    if let Some(written) = convert_if_short_text(src, dst) {
-        return (src.len(), written);
+    if HALF_STRIDE <= src.len() && src.len() <= BLOCK && src.len() <= dst.len() {
+        return convert_short_prefix(src, dst);
     }
     convert_after_ascii(src, dst)
 }

@@ -1,6 +1,6 @@
 //! The longest prefix of bytes that is well-formed UTF-8.
 ghost use Rattle.std.specs.Prelude.{◌<◌, ◌≤◌, ◌↔◌, ◌⊎◌, [], ◌∷◌, length, take, slice_index, IfSome, IfNone, IsTrue};
-ghost use Rattle.std.specs.Str.{IsUtf8};
+ghost use Rattle.std.specs.Str.{IsAscii, IsUtf8};
 ghost use Rattle.encoding_definitions.specs.Sequence.{IsSequence};
 ghost use Rattle.encoding_definitions.specs.Parts.{BeginsWithNoCharacter};
 ghost use Rattle.encoding_definitions.specs.Prefixes.{IsLongestPrefix};
@@ -174,21 +174,33 @@ fn valid_up_to_by_vectors(src: &[u8]) -> usize
     valid_after(src, well_formed)
 }
 
-/// Returns the length of the longest well-formed prefix of 16 to 64 bytes. One test shows whether all are ASCII. If no
-/// character follows the ASCII prefix, two vectors and two bytes show it, and two more vectors validate any other text.
+/// Returns the length of the longest well-formed prefix of 8 to 64 bytes that aren't all ASCII. Of 16 bytes and more, two vectors
+/// and two bytes show whether no character follows the ASCII prefix, before the look-ups.
+#[inline(always)]
+pub(crate) fn short_valid_up_to_beyond_ascii(src: &[u8]) -> usize
+    requires length { (8 ≤ length src.now) × (length src.now ≤ 64) }
+    requires other { IsAscii src.now → ⊥ }
+    ensures { IsLongestPrefix IsUtf8 src.now result }
+{
+    if src.len() >= STRIDE {
+        let prefix = short_ascii_valid_up_to(src);
+        if begins_no_character(&src[prefix..]) {
+            return prefix;
+        }
+    }
+    valid_up_to_by_vectors(src)
+}
+
+/// Returns the length of the longest well-formed prefix of 8 to 64 bytes. One test shows whether all are ASCII.
 #[inline(always)]
 fn short_valid_up_to(src: &[u8]) -> usize
-    requires { (16 ≤ length src.now) × (length src.now ≤ 64) }
+    requires { (8 ≤ length src.now) × (length src.now ≤ 64) }
     ensures { IsLongestPrefix IsUtf8 src.now result }
 {
     if is_short_ascii(src) {
         return src.len();
     }
-    let prefix = short_ascii_valid_up_to(src);
-    if begins_no_character(&src[prefix..]) {
-        return prefix;
-    }
-    valid_up_to_by_vectors(src)
+    short_valid_up_to_beyond_ascii(src)
 }
 
 /// Returns the length of the longest well-formed prefix. Out of line, so that a short text needs few registers.
@@ -199,17 +211,14 @@ fn long_valid_up_to(src: &[u8]) -> usize
     valid_after(src, well_formed_prefix(src))
 }
 
-/// Returns the length of the longest well-formed prefix of fewer than 16 bytes.
+/// Returns the length of the longest well-formed prefix of fewer than 8 bytes.
 #[inline(always)]
 fn tiny_valid_up_to(src: &[u8]) -> usize
-    requires { length src.now < 16 }
+    requires { length src.now < 8 }
     ensures { IsLongestPrefix IsUtf8 src.now result }
 {
     if is_short_ascii(src) {
         return src.len();
-    }
-    if src.len() >= HALF_STRIDE {
-        return valid_up_to_by_vectors(src);
     }
     long_valid_up_to(src)
 }
@@ -244,8 +253,8 @@ fn valid_up_to_by_block(src: &[u8]) -> usize
     valid_after_ascii(src, ascii)
 }
 
-/// Returns what `utf8_valid_up_to` does, inline. For callers that go on after malformed sequences: a short text is tested for
-/// one before the look-ups.
+/// Returns what `utf8_valid_up_to` does, inline. For callers that continue after malformed sequences: a text of 16 bytes and more
+/// is tested for one before the look-ups.
 #[inline(always)]
 pub(crate) fn valid_up_to(src: &[u8]) -> usize
     ensures { IsLongestPrefix IsUtf8 src.now result }
@@ -253,7 +262,7 @@ pub(crate) fn valid_up_to(src: &[u8]) -> usize
     if src.len() > BLOCK {
         return valid_up_to_by_block(src);
     }
-    if src.len() < STRIDE {
+    if src.len() < HALF_STRIDE {
         return tiny_valid_up_to(src);
     }
     short_valid_up_to(src)

@@ -3,10 +3,6 @@ use Rattle.std.specs.Int.RustNames.{count_ones}
 use Rattle.encoding_kernels.proofs.Utf8ToUtf16LoopLemmas.{due_block, due_exact}
 use Rattle.encoding_kernels.proofs.utf8_to_utf16.convert.write_some.Goals as goal
 
-pub returns-then-begins_triples-clause-written : goal.returns-then-begins_triples-clause-written
-returns-then-begins_triples-clause-written c = due_exact c.args.src.now c.args.dst.now c.write_triples.new.dst _ _ c.requires.text
-    c.write_triples.ensures
-
 pub returns-then-end-eq0-clause-written : goal.returns-then-end-eq0-clause-written
 returns-then-end-eq0-clause-written c = due_exact c.args.src.now c.args.dst.now c.write_character.new.dst _ _ c.requires.text c.write_character.ensures.written
 

@@ -1,4 +1,4 @@
-use Rattle.std.proofs.Common.{◌≡◌, ◌∙◌, ◌++◌, ◌+◌, ◌-◌, ◌≤◌, arith, drop, length-take-le, subst, sym, take}
+use Rattle.std.proofs.Common.{◌∙◌, ◌++◌, ◌+◌, ◌-◌, arith, drop, length-take-le, subst, sym, take}
 use Rattle.encoding_kernels.specs.EndingUnits.{WritesCompressed, ends_after, units_after}
 use Rattle.encoding_kernels.proofs.GroupLemmas.{stored_apart, stored_few}
 use Rattle.encoding_kernels.proofs.utf8_to_utf16.short_text.write_last_stride.Goals as goal

@@ -1,4 +1,4 @@
-use Rattle.std.proofs.Common.{◌-◌, ◌+◌, ◌≡◌, arith, drop, length, length-drop, length-take, refl}
+use Rattle.std.proofs.Common.{◌-◌, arith, drop, length, length-drop, length-take, refl}
 use Rattle.encoding_kernels.proofs.GroupLemmas.{group_next}
 use Rattle.encoding_kernels.proofs.utf8_to_utf16.short_text.write_strides.Goals as goal
 
