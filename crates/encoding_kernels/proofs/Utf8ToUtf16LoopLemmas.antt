@@ -201,6 +201,21 @@ putting_first src old new n k u p = record {
   following = p.following;
 }
 
+-- the rest of the text fits after it
+pub putting_fits : (src old new : List ℕ) (read written : ℕ) → length src ≤ length old → length new ≡ length old → Putting src old new read written
+    → length (take (length src - read) (drop read src)) ≤ length (take (length new - written) (drop written new))
+putting_fits src old new read written room same d = omega (
+  arith,
+  d.shorter,
+  d.within,
+  room,
+  same,
+  length-take (length src - read) (drop read src),
+  length-drop read src,
+  length-take (length new - written) (drop written new),
+  length-drop written new,
+)
+
 -- the rest of the text is written after it
 pub putting_rest : (src old new sub : List ℕ) (read written k : ℕ) → IsUtf8 src → length src ≤ length old → length new ≡ length old
     → Putting src old new read written

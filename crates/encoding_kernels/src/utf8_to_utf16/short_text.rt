@@ -1,6 +1,6 @@
-//! UTF-16 of a short text, and of the last bytes of a longer one, which are too few for a group of 64. Strides of sixteen bytes are
-//! at fixed indices, and the last one ends with the text and may overlap the one before it. So only the length of the text decides
-//! how often the loop iterates, and no single byte is left.
+//! UTF-16 of a short text, and of the last bytes of a longer one, which are too few for a group of 64. Runs of eight characters of
+//! three bytes come first. Then strides of sixteen bytes are at fixed indices, and the last one ends with the text and may overlap
+//! the one before it. So only the length decides how often their loop iterates, and no single byte is left.
 
 ghost use Rattle.std.specs.Prelude.{◌+◌, ◌-◌, ◌<◌, ◌≤◌, ◌∷◌, length, take, drop, slice_index};
 ghost use Rattle.std.specs.List.{flat_map};
@@ -8,7 +8,7 @@ ghost use Rattle.std.specs.Char.Escape.{encode_utf16};
 ghost use Rattle.std.specs.Str.{IsUtf8, chars};
 ghost use Rattle.encoding_definitions.specs.Prefixes.{WritesPrefix};
 ghost use Rattle.encoding_kernels.specs.Scans.{BelowUpTo, HasLanes};
-ghost use Rattle.encoding_kernels.specs.EndingUnits.{StoresUnits, WritesCompressed, units_after, ends_after};
+ghost use Rattle.encoding_kernels.specs.EndingUnits.{StoresUnits, WritesCompressed, WritesUtf16, units_after, units_in, ends_after};
 
 use crate::simd::copy::{one_before, three_before, two_before};
 use crate::simd::short::are_short_below;
@@ -17,7 +17,7 @@ use crate::utf8_to_utf16::code_units::{
     ends_of_stride, kept_from, units_of_stride, write_compressed_exact,
 };
 use crate::utf8_to_utf16::convert::{write_few, write_some, write_tail};
-use crate::utf8_to_utf16::groups::FOUR_BYTES;
+use crate::utf8_to_utf16::groups::{FOUR_BYTES, TRIPLES, UNITS, begins_triples, write_triples};
 use std::simd::prelude::*;
 
 /// The least length of a text that is written by strides: three bytes precede its last one.
@@ -144,9 +144,9 @@ fn write_block_and_few(src: &[u8], dst: &mut [u16]) -> usize
     written + write_few(&src[read..], &mut dst[written..])
 }
 
-/// Writes the UTF-16 of a text of at most 128 bytes, and returns its length in code units. The rest of `dst` is unchanged. It
-/// doesn't look for ASCII, whose code units are computed like others.
-pub fn convert_short(src: &[u8], dst: &mut [u16]) -> usize
+/// Writes the UTF-16 of a text of at most 128 bytes as `convert_short` does, by strides, or by a block if it is too short.
+#[inline(always)]
+fn convert_by_strides(src: &[u8], dst: &mut [u16]) -> usize
     requires src_length { length src.now ≤ 128 }
     requires dst_length { length src.now ≤ length dst.old }
     requires text { IsUtf8 src.now }
@@ -158,4 +158,34 @@ pub fn convert_short(src: &[u8], dst: &mut [u16]) -> usize
         ..STRIDE_AND_BEFORE => write_block_and_few(src, dst),
         _ => write_by_strides(src, dst),
     }
+}
+
+/// Writes the UTF-16 of the first characters of a text while each eight of them have three bytes, and nothing after it. Returns how
+/// many bytes it read and how many code units it wrote.
+#[inline(always)]
+fn write_leading_triples(src: &[u8], dst: &mut [u16]) -> (usize, usize)
+    requires dst_length { length src.now ≤ length dst.old }
+    requires text { IsUtf8 src.now }
+    ensures { WritesUtf16 src.now dst.old dst.new result.0 result.1 (units_in src.now) }
+{
+    let mut read = 0;
+    let mut written = 0;
+    while src.len() - read >= TRIPLES && src[read] >= 0xE0 && begins_triples(&src[read..]) {
+        write_triples(&src[read..], &mut dst[written..]);
+        read += TRIPLES;
+        written += UNITS;
+    }
+    (read, written)
+}
+
+/// Writes the UTF-16 of a text of at most 128 bytes, and returns its length in code units. The rest of `dst` is unchanged. Runs of
+/// characters of three bytes come first. Then each code unit is computed, even if it is ASCII.
+pub fn convert_short(src: &[u8], dst: &mut [u16]) -> usize
+    requires src_length { length src.now ≤ 128 }
+    requires dst_length { length src.now ≤ length dst.old }
+    requires text { IsUtf8 src.now }
+    ensures { WritesPrefix dst.old dst.new result (flat_map encode_utf16 (chars src.now)) }
+{
+    let (read, written) = write_leading_triples(src, dst);
+    written + convert_by_strides(&src[read..], &mut dst[written..])
 }

@@ -1,25 +1,11 @@
-use Rattle.std.proofs.Common.{◌-◌, arith, drop, length, length-drop, length-take}
 use Rattle.std.proofs.lemmas.List.{take_rest}
-use Rattle.encoding_kernels.proofs.Utf8ToUtf16LoopLemmas.{putting_first, putting_rest}
+use Rattle.encoding_kernels.proofs.Utf8ToUtf16LoopLemmas.{putting_first, putting_fits, putting_rest}
 use Rattle.encoding_kernels.proofs.utf8_to_utf16.short_text.write_block_and_few.Goals as goal
 
 pub write_few-requires-clause-dst_length : goal.write_few-requires-clause-dst_length
 write_few-requires-clause-dst_length c =
-    let done = putting_first c.args.src.now c.args.dst.now c.write_some-read.new.dst _ _ c.requires.text c.write_some-read.ensures.written in
-    let dst = c.write_some-read.new.dst in
-    let read = c.write_some-read.result.0 in
-    let written = c.write_some-read.result.1 in
-    omega (
-      arith,
-      done.shorter,
-      done.within,
-      c.requires.dst_length.1,
-      c.write_some-read.auto.dst,
-      length-take (length c.args.src.now - read) (drop read c.args.src.now),
-      length-drop read c.args.src.now,
-      length-take (length dst - written) (drop written dst),
-      length-drop written dst,
-    )
+    putting_fits c.args.src.now c.args.dst.now c.write_some-read.new.dst _ _ c.requires.dst_length.1 c.write_some-read.auto.dst
+    (putting_first c.args.src.now c.args.dst.now c.write_some-read.new.dst _ _ c.requires.text c.write_some-read.ensures.written)
 
 pub returns : goal.returns
 returns c =
