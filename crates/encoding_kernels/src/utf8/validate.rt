@@ -216,7 +216,7 @@ fn following(src: &[u8], from: usize) -> usize
     finish(src, at)
 }
 
-/// Returns the length of a well-formed prefix of at most 64 bytes, by one vector or two that may overlap.
+/// Returns the length of a well-formed prefix of 8 to 64 bytes, by one vector or two that may overlap.
 #[inline(always)]
 pub fn well_formed_short(src: &[u8]) -> usize
     requires { (8 ≤ length src.now) × (length src.now ≤ 64) }

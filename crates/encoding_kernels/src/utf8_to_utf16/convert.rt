@@ -59,7 +59,7 @@ fn precedes_ascii(src: &[u8]) -> bool
 /// wrote. Units that the rest of the text overwrites may have changed too.
 ///
 /// A first character before sixteen bytes of ASCII is written by itself, since a group would compute code units of ASCII. A text
-/// that is too short for a group is written whole. If the first group would cut a character of four bytes after its third one, a
+/// that is too short for a group is written whole. If the first group would cut a character of four bytes after its third byte, a
 /// block is written.
 #[inline(always)]
 pub fn convert_valid_utf8_to_utf16(src: &[u8], dst: &mut [u16]) -> (usize, usize)

@@ -1,6 +1,8 @@
 //! UTF-16 of a short text, and of the last bytes of a longer one, which are too few for a group of 64. Runs of eight characters of
-//! three bytes come first. Then strides of sixteen bytes are at fixed indices, and the last one ends with the text and may overlap
-//! the one before it. So only the length decides how often their loop iterates, and no single byte is left.
+//! three bytes come first. From 19 bytes on, strides of sixteen bytes are at fixed indices, and the last one ends with the text and
+//! may overlap the one before it. So only the length decides how often their loop iterates, and no single byte is left.
+//!
+//! Of fewer bytes, 8 to 16 are one block. The end of 17 and 18, and fewer than 8, are converted by characters.
 
 ghost use Rattle.std.specs.Prelude.{◌+◌, ◌-◌, ◌<◌, ◌≤◌, ◌∷◌, length, take, drop, slice_index};
 ghost use Rattle.std.specs.List.{flat_map};
