@@ -140,25 +140,27 @@ mask_pad : (xs : List Bool) (n : ℕ) → mask_l (xs ++ replicate n false) ≡ m
 mask_pad [] n = mask_none n
 mask_pad (x ∷ xs) n = ap (λ m. cond x 1 0 + 2 * m) (mask_pad xs n)
 
+-- a mask in two parts
+mask_split : (xs : List Bool) (e : ℕ) → e ≤ length xs → (mask_l xs ≡ mask_l (drop e xs) * 2 ^ e + mask_l (take e xs)) × (mask_l (take e xs) < 2 ^ e)
+mask_split xs e h =
+    let long : length (take e xs) ≡ e = length-take-le e xs h in (
+      ap mask_l (sym (take-append-drop e xs)) ∙ mask_append (take e xs) (drop e xs) ∙ ap (λ k. mask_l (drop e xs) * 2 ^ k + mask_l (take e xs)) long,
+      subst (λ k. mask_l (take e xs) < 2 ^ k) long (mask_l-lt (take e xs)),
+    )
+
 -- the marks before an index
 pub mask_prefix : (xs : List Bool) (n e : ℕ) → e ≤ length xs → bit_and (mask_l xs) (2 ^ e - 1) ≡ mask_l (take e xs ++ replicate n false)
 mask_prefix xs n e h =
-    let long : length (take e xs) ≡ e = length-take-le e xs h in
-    let whole : mask_l xs ≡ mask_l (drop e xs) * 2 ^ e + mask_l (take e xs) = ap mask_l (sym (take-append-drop e xs)) ∙ mask_append (take e xs) (drop e xs)
-    ∙ ap (λ k. mask_l (drop e xs) * 2 ^ k + mask_l (take e xs)) long in
-    let small : mask_l (take e xs) < 2 ^ e = subst (λ k. mask_l (take e xs) < 2 ^ k) long (mask_l-lt (take e xs)) in
-    and_mask (mask_l xs) e ∙ ap (λ m. m % 2 ^ e) whole ∙ mod_low (mask_l (drop e xs)) e (mask_l (take e xs)) small ∙ sym (mask_pad (take e xs) n)
+    let split = mask_split xs e h in
+    and_mask (mask_l xs) e ∙ ap (λ m. m % 2 ^ e) split.0 ∙ mod_low (mask_l (drop e xs)) e (mask_l (take e xs)) split.1 ∙ sym (mask_pad (take e xs) n)
 
 -- the marks from an index on
 pub mask_suffix : (xs : List Bool) (e : ℕ) → e ≤ length xs → mask_l xs / 2 ^ e * 2 ^ e ≡ mask_l (replicate e false ++ drop e xs)
 mask_suffix xs e h =
-    let long : length (take e xs) ≡ e = length-take-le e xs h in
-    let whole : mask_l xs ≡ mask_l (drop e xs) * 2 ^ e + mask_l (take e xs) = ap mask_l (sym (take-append-drop e xs)) ∙ mask_append (take e xs) (drop e xs)
-    ∙ ap (λ k. mask_l (drop e xs) * 2 ^ k + mask_l (take e xs)) long in
-    let small : mask_l (take e xs) < 2 ^ e = subst (λ k. mask_l (take e xs) < 2 ^ k) long (mask_l-lt (take e xs)) in
+    let split = mask_split xs e h in
     let zeros : mask_l (replicate e false ++ drop e xs) ≡ mask_l (drop e xs) * 2 ^ e = mask_append (replicate e false) (drop e xs)
     ∙ (λ i. mask_l (drop e xs) * 2 ^ length-replicate e false i + mask_none e i) ∙ omega arith in
-    ap (λ m. m * 2 ^ e) (ap (λ m. m / 2 ^ e) whole ∙ div-mul-add (mask_l (drop e xs)) (2 ^ e) (mask_l (take e xs)) small) ∙ sym zeros
+    ap (λ m. m * 2 ^ e) (ap (λ m. m / 2 ^ e) split.0 ∙ div-mul-add (mask_l (drop e xs)) (2 ^ e) (mask_l (take e xs)) split.1) ∙ sym zeros
 
 -- the mask of the tests of the first items
 pub first_mask : (test : ℕ → Bool) (xs : List ℕ) (mask e : ℕ) → mask ≡ mask_l (map test xs) → e ≤ length xs → e < 64
@@ -169,18 +171,14 @@ first_mask test xs mask e is within small =
 
 -- sixteen marks in two halves
 module _ (ms : List Bool) (long : length ms ≡ 16) where
-  halves : mask_l ms ≡ mask_l (drop 8 ms) * 256 + mask_l (take 8 ms)
-  halves = ap mask_l (sym (take-append-drop 8 ms)) ∙ mask_append (take 8 ms) (drop 8 ms)
-      ∙ ap (λ k. mask_l (drop 8 ms) * 2 ^ k + mask_l (take 8 ms)) (length-take-le 8 ms (omega (arith, long)))
-
-  low_small : mask_l (take 8 ms) < 256
-  low_small = subst (λ k. mask_l (take 8 ms) < 2 ^ k) (length-take-le 8 ms (omega (arith, long))) (mask_l-lt (take 8 ms))
+  pub sixteen_small : (mask : ℕ) → mask ≡ mask_l ms → mask < 2 ^ 16
+  sixteen_small mask is = let small : mask_l ms < 2 ^ 16 = subst (λ n. mask_l ms < 2 ^ n) long (mask_l-lt ms) in omega (arith, is)
 
   pub low_half : mask_l ms % 256 ≡ mask_l (take 8 ms)
-  low_half = omega (arith, halves, low_small)
+  low_half = let split = mask_split ms 8 (omega (arith, long)) in omega (arith, split.0, split.1)
 
   pub high_half : mask_l ms / 256 ≡ mask_l (drop 8 ms)
-  high_half = omega (arith, halves, low_small)
+  high_half = let split = mask_split ms 8 (omega (arith, long)) in omega (arith, split.0, split.1)
 
 -- ---- kept elements
 kept_places : (f : ℕ → ℕ) (ms : List Bool) (us : List ℕ) (at : ℕ) → length ms ≡ length us → ((i : ℕ) → f (at + i) ≡ get_or us i 0)
@@ -305,7 +303,7 @@ module _ (ms : List Bool) (us old low_us high_us first second : List ℕ) (kept 
 
   first_long : length first ≡ 8
   first_long = ap length first_is ∙ length-map (compressed_places (bit_and kept 255)) (λ k. get_or low_us k 0)
-      ∙ ap (λ m. length (compressed_places m)) low_mask ∙ places_long (mask_l low_marks) (low_small ms marks_long)
+      ∙ ap (λ m. length (compressed_places m)) low_mask ∙ places_long (mask_l low_marks) (mask_split ms 8 (omega (arith, marks_long))).1
 
   high_mask_small : mask_l high_marks < 256
   high_mask_small = subst (λ k. mask_l high_marks < 2 ^ k) high_long (mask_l-lt high_marks)

@@ -1,8 +1,8 @@
 -- UTF-16 of many characters at once: of eight of three bytes, and of those that end in 64 bytes.
-use Rattle.std.proofs.Common.{◌≡◌, ◌&&◌, ℕ, not, eqb, leb, bit_and, zero, suc, ◌+◌, ◌-◌, ◌^◌, ◌<◌, ◌≤◌, inl, inr, Bool, true, false, if◌then◌else◌, ltb, List, [], ◌∷◌, ◌++◌, map, length, replicate, take, drop, get_or, refl, sym, ap, ◌∙◌, arith, subst, take-add, append_assoc, drop-drop}
+use Rattle.std.proofs.Common.{◌≡◌, ◌&&◌, ℕ, not, eqb, leb, bit_and, zero, suc, ◌+◌, ◌-◌, ◌<◌, ◌≤◌, inl, inr, Bool, true, false, if◌then◌else◌, ltb, List, [], ◌∷◌, ◌++◌, map, length, replicate, take, drop, get_or, refl, sym, ap, ◌∙◌, arith, subst, take-add, append_assoc, drop-drop}
 use Rattle.std.specs.List.{range_with_len}
 use Rattle.std.specs.Str.{IsUtf8, IsCharBoundary}
-use Rattle.std.specs.Simd.Lanes.{chunk, mask_l, pick_l}
+use Rattle.std.specs.Simd.Lanes.{chunk, pick_l}
 use Rattle.std.proofs.lemmas.Bool.{cases_lt, cond-true, cond-false, lt-ltb, le-ltb, ltb-true, and_parts, leb-true, not-false}
 use borrow.Rule.Slice.PartMut.{put_mid}
 use Rattle.std.proofs.Math.Seq.{take-append-add}
@@ -10,7 +10,6 @@ use Rattle.std.proofs.lemmas.List.{append-nil, drop_all, drop_at, drop-take, tak
 use Rattle.std.proofs.lemmas.Bool.Decides.{nat_tests}
 use Rattle.encoding_kernels.specs.Scans.{BelowBetween, HasLanes}
 use Rattle.encoding_kernels.specs.EndingUnits.{BeginsThree, NoUnitEnds, StoresUnits, WritesCompressed, WritesUtf16, ends_after, ends_unit, keep, unit_at, units_after}
-use Rattle.std.proofs.lemmas.Simd.{mask_l-lt}
 use Rattle.encoding_kernels.proofs.VectorLemmas.{HasLanes_load, HasLanes_same, same_below}
 use Rattle.std.specs.Char.Escape.{encode_utf16}
 use Rattle.std.specs.List.{flat_map}
@@ -27,7 +26,7 @@ three_from b l e =
     (leb-true _ _ both.0, ltb-true _ _ both.1)
 
 -- ---- 24 bytes in two vectors
--- the place in the text of a lane of both
+-- the index in the text of a lane of both
 abbrev place_of : ℕ → ℕ
 place_of i = if ltb i 16 then i else i - 8
 
@@ -102,20 +101,20 @@ loaded_before src zs at some room = HasLanes_same (HasLanes_load (at - length zs
 pub stride_marks : (src : List ℕ) (at : ℕ) → at + 16 ≤ length src → length (take 16 (drop at (ends_after 0 src))) ≡ 16
 stride_marks src at room = length-take-le 16 (drop at (ends_after 0 src)) (omega (arith, length-drop at (ends_after 0 src), length-ends 0 src))
 
-pub stride_small : (src : List ℕ) (at kept : ℕ) → at + 16 ≤ length src → kept ≡ mask_l (take 16 (drop at (ends_after 0 src))) → kept < 2 ^ 16
-stride_small src at kept room is =
-    let marks = take 16 (drop at (ends_after 0 src)) in
-    let small : mask_l marks < 2 ^ 16 = subst (λ n. mask_l marks < 2 ^ n) (stride_marks src at room) (mask_l-lt marks) in
-    omega (arith, is)
+-- the units of both halves
+joined_halves : (src : List ℕ) (at : ℕ) {first last : List ℕ} → first ≡ take 8 (drop at (units_after 0 0 0 src))
+    → last ≡ take 8 (drop (at + 8) (units_after 0 0 0 src)) → first ++ last ≡ take 16 (drop at (units_after 0 0 0 src))
+joined_halves src at p q =
+    let us = units_after 0 0 0 src in
+    (λ i. p i ++ (q ∙ ap (take 8) (sym (drop-drop 8 at us))) i) ∙ sym (take-add 8 8 (drop at us))
 
--- what is stored has the units of both halves, and what follows eight more is unchanged
+-- it stores the units of both halves, and what follows eight more is unchanged
 pub stride_stored : (src : List ℕ) (at : ℕ) (first last old new : List ℕ) (count ones : ℕ) → first ≡ take 8 (drop at (units_after 0 0 0 src))
     → last ≡ take 8 (drop (at + 8) (units_after 0 0 0 src))
     → WritesCompressed (take 16 (drop at (ends_after 0 src))) (first ++ last) old new count (count + 8 - ones)
     → WritesCompressed (take 16 (drop at (ends_after 0 src))) (take 16 (drop at (units_after 0 0 0 src))) old new count (count + 8)
 stride_stored src at first last old new count ones p q w =
-    let us = units_after 0 0 0 src in
-    let both : first ++ last ≡ take 16 (drop at us) = (λ i. p i ++ (q ∙ ap (take 8) (sym (drop-drop 8 at us))) i) ∙ sym (take-add 8 8 (drop at us)) in
+    let both = joined_halves src at p q in
     let reach = count + 8 - ones in
     let e : reach + (count + 8 - reach) ≡ count + 8 = omega arith in
     let past = λ (xs : List ℕ). ap (λ m. drop m xs) (sym e) ∙ sym (drop-drop (count + 8 - reach) reach xs) in
@@ -152,7 +151,7 @@ pub skipped_stored : (src : List ℕ) (at skip : ℕ) (first last old new : List
 skipped_stored src at skip first last old new count few p q w =
     let ends = ends_after 0 src in
     let us = units_after 0 0 0 src in
-    let both : first ++ last ≡ take 16 (drop at us) = (λ i. p i ++ (q ∙ ap (take 8) (sym (drop-drop 8 at us))) i) ∙ sym (take-add 8 8 (drop at us)) in
+    let both = joined_halves src at p q in
     let kept : keep (replicate skip false ++ drop skip (take 16 (drop at ends))) (first ++ last)
     ≡ keep (take (16 - skip) (drop (at + skip) ends)) (take (16 - skip) (drop (at + skip) us)) =
     keep_skip skip (drop skip (take 16 (drop at ends))) (first ++ last)
@@ -162,13 +161,6 @@ skipped_stored src at skip first last old new count few p q w =
       placed = w.placed ∙ kept;
       following = w.following;
     }
-
-pub skipped_small : (src : List ℕ) (at skip kept : ℕ) → at + 16 ≤ length src → skip < 16
-    → kept ≡ mask_l (replicate skip false ++ drop skip (take 16 (drop at (ends_after 0 src)))) → kept < 2 ^ 16
-skipped_small src at skip kept room few is =
-    let marks = replicate skip false ++ drop skip (take 16 (drop at (ends_after 0 src))) in
-    let small : mask_l marks < 2 ^ 16 = subst (λ n. mask_l marks < 2 ^ n) (skipped_marks src at skip room few) (mask_l-lt marks) in
-    omega (arith, is)
 
 pub stored_few : (marks : List Bool) (us : List ℕ) {old new : List ℕ} {count reach : ℕ} (n : ℕ)
     → WritesCompressed (take n marks) (take n us) old new count reach → count ≤ n

@@ -1,5 +1,5 @@
 -- UTF-16 of a text by its bytes, and writing it prefix by prefix.
-use Rattle.std.proofs.Common.{◌≡◌, ℕ, zero, suc, ◌+◌, ◌-◌, ◌*◌, ◌/◌, ◌%◌, ◌^◌, ◌<◌, ◌≤◌, inl, inr, Bool, true, false, ◌&&◌, if◌then◌else◌, leb, ltb, List, [], ◌∷◌, ◌++◌, length, take, drop, get_or, replicate, bit_or, encode_utf8, encode_utf8_all, refl, sym, ap, ◌∙◌, arith, subst, take-add}
+use Rattle.std.proofs.Common.{◌≡◌, ℕ, zero, suc, ◌+◌, ◌-◌, ◌*◌, ◌/◌, ◌%◌, ◌<◌, ◌≤◌, inl, inr, Bool, true, false, ◌&&◌, if◌then◌else◌, leb, ltb, List, [], ◌∷◌, ◌++◌, length, take, drop, get_or, replicate, bit_or, encode_utf8, encode_utf8_all, refl, sym, ap, ◌∙◌, arith, subst, take-add}
 use lib.Utf8.{scalar, scalar_cases}
 use Rattle.std.specs.Char.{IsScalar}
 use Rattle.std.specs.Char.Escape.{encode_utf16}
@@ -10,7 +10,7 @@ use Rattle.std.proofs.str.Laws.{one, two, three, four}
 use Rattle.std.proofs.lemmas.Bool.{cond-true, cond-false, cases_lt, lt-leb, le-leb, lt-ltb, le-ltb, and_parts, and_from}
 use Rattle.std.proofs.lemmas.Bool.Decides.{nat_tests}
 use Rattle.std.proofs.lemmas.Grind.{same_number_lists}
-use Rattle.std.proofs.lemmas.Simd.{length-replicate, mask_l-lt, put_chunk_is}
+use Rattle.std.proofs.lemmas.Simd.{length-replicate, put_chunk_is}
 use Rattle.std.proofs.lemmas.List.{length-append, length-drop, length-take-le, take-append-drop, take_at, take-take, drop_at, drop-drop, get_or-drop, get_or-take, take-append-le}
 use Rattle.std.proofs.lemmas.Str.{IsUtf8-take, IsUtf8-drop, IsUtf8-from_ascii, IsCharBoundary-after_ascii, IsCharBoundary-start, encodes-IsAscii, encodes_same, chars-IsAscii}
 use Rattle.encoding_definitions.specs.Prefixes.{WritesPrefix}
@@ -171,7 +171,7 @@ prefix_units (suc n) x y a (b ∷ bs) = ap (λ us. (if ends_unit a b then unit_a
 abbrev marks_to : List ℕ → ℕ → List Bool
 marks_to src end = take end (ends_after 0 (take 16 src)) ++ replicate (16 - end) false
 
-marks_long : (src : List ℕ) (end : ℕ) → 16 ≤ length src → end ≤ 16 → length (marks_to src end) ≡ 16
+pub marks_long : (src : List ℕ) (end : ℕ) → 16 ≤ length src → end ≤ 16 → length (marks_to src end) ≡ 16
 marks_long src end room few =
     let size : length (ends_after 0 (take 16 src)) ≡ 16 = length-ends 0 (take 16 src) ∙ length-take-le 16 src room in
     omega (
@@ -181,10 +181,6 @@ marks_long src end room few =
           (omega (arith, size)),
       length-replicate {A = Bool} (16 - end) false,
     )
-
-pub kept_small : (src : List ℕ) (end kept : ℕ) → 16 ≤ length src → end ≤ 16 → kept ≡ mask_l (marks_to src end) → kept < 2 ^ 16
-kept_small src end kept room few is = let small : mask_l (marks_to src end) < 2 ^ 16 =
-    subst (λ n. mask_l (marks_to src end) < 2 ^ n) (marks_long src end room few) (mask_l-lt (marks_to src end)) in omega (arith, is)
 
 pub puts_block : (src old new first last : List ℕ) (end kept count reach : ℕ) → IsUtf8 src → 16 ≤ length src → end ≤ 16 → IsCharBoundary src end
     → (first ≡ take 8 (units_after 0 0 0 (take 16 src))) × (last ≡ drop 8 (units_after 0 0 0 (take 16 src))) → kept ≡ mask_l (marks_to src end)

@@ -204,24 +204,12 @@ module _ {A : Type 0} (encode : ℕ → List A) where
             (subst (λ xs. FittingBegins encode xs (length old - written)) back f);
       }
 
-  -- ---- where a conversion goes on
+  -- ---- where a conversion continues
   pub converts_all : (src : List ℕ) (old new : List A) (read written : ℕ) → length src ≤ read → ConvertsSome encode src old new read written
       → ConvertsMaximal encode src old new read written
   converts_all src old new read written all d = converts_longest src old new read written
       (converted_rejected src old new read written d
       (λ prefix rest e s. omega (arith, all, ap length e, length-append prefix rest, length-drop read src, IsSequence-some prefix s)))
-
-  pub converts_text : (src : List ℕ) (old new : List A) (written : ℕ) → IsUtf8 src → WritesPrefix old new written (flat_map encode (chars src))
-      → ConvertsMaximal encode src old new (length src) written
-  converts_text src old new written u w =
-      let same : u.0 ≡ chars src = chars_from_encodes u.0 src u u.1.1 in
-      converts_all src old new (length src) written (omega arith) (record {
-        scalars = u.0;
-        are_scalars = u.1.0;
-        within = omega arith;
-        spelled = u.1.1 ∙ sym (take_all (length src) src (omega arith));
-        writes = subst (λ cs. WritesPrefix old new written (flat_map encode cs)) (sym same) w;
-      })
 
   -- the longest well-formed prefix is converted whole
   pub converts_valid : (src : List ℕ) (old new : List A) (n written : ℕ) → IsLongestPrefix IsUtf8 src n

@@ -1,5 +1,5 @@
-//! Texts of at most 64 units, or 128 bytes if they stay bytes: tests for ASCII and for lower bytes, and copies of ASCII. Two vectors
-//! that may overlap cover 4 units and more, so none is left to a loop.
+//! Texts of at most 64 units, or 128 bytes if they stay bytes: tests for ASCII and for bytes below a bound, and copies of
+//! ASCII. Two vectors that may overlap cover 4 units and more, so none is left to a loop.
 
 ghost use Rattle.std.specs.Prelude.{◌≡◌, ◌+◌, ◌*◌, ◌<◌, ◌≤◌, ◌↔◌, ◌++◌, IsTrue, IsFalse, length, take, drop};
 ghost use Rattle.std.specs.Str.{IsAscii};

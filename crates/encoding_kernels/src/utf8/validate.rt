@@ -230,8 +230,8 @@ pub fn well_formed_short(src: &[u8]) -> usize
     back(src, clean)
 }
 
-/// Returns the length of a well-formed prefix of at least 64 bytes, of which the first `ascii` are ASCII. It is at least as
-/// long as these, and ends in a long run of ASCII after them.
+/// Returns the length of a well-formed prefix of at least 64 bytes, if the first `ascii` are ASCII. A longer prefix may be
+/// well-formed too: this one ends in the first long run of ASCII after a block.
 #[tactic(auto, using(crate::proofs::Utf8ValidationLemmas::IsUtf8_ascii_prefix, crate::proofs::Utf8ValidationLemmas::ValidUpTo_ascii_prefix))]
 #[inline(always)]
 pub fn well_formed_blocks(src: &[u8], ascii: usize) -> usize

@@ -1,10 +1,10 @@
 //! UTF-16 of well-formed UTF-8, by groups of 64 bytes, and by strides of sixteen in a short text and at the end of a longer one.
 //! A code unit is computed for each byte as if it ended there, and those that do are moved together.
 //!
-//! Blocks of sixteen bytes begin with a character: around characters of four bytes, and in a text of 8 to 18 bytes. A block may
-//! store units after its own. Those of the bytes that follow overwrite them, since these have at least a
-//! third as many: a block is stored only if that many units are still to be written. After the UTF-16 of a whole text,
-//! `dst` is unchanged. Runs of ASCII are the caller's.
+//! Blocks of sixteen bytes begin with a character: around characters of four bytes, and in a text of 8 to 18 bytes. A block
+//! may store units after its own. Those of the bytes that follow overwrite them, since these have at least a third as many:
+//! a block is stored only if that many units are still to be written. After the UTF-16 of a whole text, `dst` is unchanged.
+//! The caller converts runs of ASCII.
 
 ghost use Rattle.std.specs.Prelude.{◌+◌, ◌-◌, ◌/◌, ◌<◌, ◌≤◌, length, ◌≡◌, ◌^◌, false, ◌++◌, take, replicate, IsTrue};
 ghost use Rattle.std.specs.Str.{IsUtf8, IsCharBoundary, chars};

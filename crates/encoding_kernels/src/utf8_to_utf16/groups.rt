@@ -6,7 +6,7 @@
 ghost use Rattle.std.specs.Prelude.{ℕ, ◌≡◌, ◌+◌, ◌*◌, ◌<◌, ◌≤◌, ◌∷◌, IsTrue, IsFalse, length, take, drop, slice_index};
 ghost use Rattle.std.specs.Str.{IsUtf8, IsCharBoundary};
 ghost use Rattle.encoding_kernels.specs.Scans.{BelowBetween, BelowUpTo, HasLanes};
-ghost use Rattle.encoding_kernels.specs.EndingUnits.{WritesUtf16, WritesCompressed, StoresUnits, BoundsStrides, units_after, units_in, ends_after, BeginsThree, NoUnitEnds, triple_unit};
+ghost use Rattle.encoding_kernels.specs.EndingUnits.{WritesUtf16, WritesCompressed, StoresUnits, BoundsStrides, units_after, ends_after, BeginsThree, NoUnitEnds, triple_unit};
 
 use crate::scalar::is_continuation;
 use crate::simd::copy::{one_before, three_before, two_before};
@@ -140,7 +140,7 @@ pub(super) fn greatest_after_stride(src: &[u8]) -> u8x16
     second.simd_max(third).simd_max(fourth)
 }
 
-/// Returns whether one of the first 64 bytes begins a character of four bytes, given the greatest of the last three strides.
+/// Returns whether one of the first 64 bytes may begin a character of four bytes, given the greatest of the last three strides.
 #[inline(always)]
 pub(super) fn begins_four_bytes(src: &[u8], rest: u8x16) -> bool
     requires src_length { 64 ≤ length src.now }
@@ -169,6 +169,32 @@ pub(super) fn group_end(src: &[u8]) -> usize
         return 0;
     }
     end
+}
+
+/// Returns the bytes three, two and one before each of the first sixteen, and zeros before the first.
+#[inline(always)]
+pub(super) fn bytes_before_first(src: &[u8]) -> (u8x16, u8x16, u8x16)
+    requires { 16 ≤ length src.now }
+    ensures three { HasLanes 16 result.0 (λ k. slice_index (0 ∷ 0 ∷ 0 ∷ src.now) (0 + k)) }
+    ensures two { HasLanes 16 result.1 (λ k. slice_index (0 ∷ 0 ∷ src.now) (0 + k)) }
+    ensures one { HasLanes 16 result.2 (λ k. slice_index (0 ∷ src.now) (0 + k)) }
+{
+    let block = u8x16::from_slice(src);
+    (three_before(block), two_before(block), one_before(block))
+}
+
+/// Returns the bytes three, two and one before each of the sixteen from `at` on.
+#[inline(always)]
+pub(super) fn bytes_before(src: &[u8], at: usize) -> (u8x16, u8x16, u8x16)
+    requires { (3 ≤ at) × (at + 16 ≤ length src.now) }
+    ensures three { HasLanes 16 result.0 (λ k. slice_index (0 ∷ 0 ∷ 0 ∷ src.now) (at + k)) }
+    ensures two { HasLanes 16 result.1 (λ k. slice_index (0 ∷ 0 ∷ src.now) (at + k)) }
+    ensures one { HasLanes 16 result.2 (λ k. slice_index (0 ∷ src.now) (at + k)) }
+{
+    let three = u8x16::from_slice(&src[at - 3..]);
+    let two = u8x16::from_slice(&src[at - 2..]);
+    let one = u8x16::from_slice(&src[at - 1..]);
+    (three, two, one)
 }
 
 /// Writes the code units that end with the sixteen bytes from `at` on, if no character has more than N bytes, given the
@@ -202,14 +228,11 @@ pub(super) fn write_group<const N: usize>(src: &[u8], dst: &mut [u16]) -> usize
     requires short { N < 4 → BelowUpTo 0xF0 src.now 64 }
     ensures { StoresUnits src.now dst.old dst.new 64 result (result + 8) }
 {
-    let block = u8x16::from_slice(src);
-    let (three, two, one) = (three_before(block), two_before(block), one_before(block));
+    let (three, two, one) = bytes_before_first(src);
     let mut written = write_stride::<N>(src, 0, three, two, one, dst);
     for stride in 1..FOUR {
         let at = STRIDE * stride;
-        let three = u8x16::from_slice(&src[at - 3..]);
-        let two = u8x16::from_slice(&src[at - 2..]);
-        let one = u8x16::from_slice(&src[at - 1..]);
+        let (three, two, one) = bytes_before(src, at);
         written += write_stride::<N>(src, at, three, two, one, &mut dst[written..]);
     }
     written

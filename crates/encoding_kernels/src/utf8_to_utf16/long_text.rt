@@ -67,7 +67,7 @@ fn unpack_48(src: &[u8], dst: &mut [u16])
     unpack::<STRIDE>(src, dst, 2 * STRIDE);
 }
 
-/// Writes the UTF-16 of the first 64 bytes of a text, of which the last 48 are ASCII, and returns its length in code units.
+/// Writes the UTF-16 of the first 64 bytes of a text, if the last 48 are ASCII, and returns its length in code units.
 /// Units that the rest of the text overwrites may have changed too.
 #[inline(always)]
 fn write_before_ascii(src: &[u8], dst: &mut [u16]) -> usize

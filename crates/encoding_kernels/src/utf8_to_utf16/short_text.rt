@@ -1,6 +1,7 @@
-//! UTF-16 of a short text, and of the last bytes of a longer one, which are too few for a group of 64. Runs of eight characters of
-//! three bytes come first. From 19 bytes on, strides of sixteen bytes are at fixed indices, and the last one ends with the text and
-//! may overlap the one before it. So only the length decides how often their loop iterates, and no single byte is left.
+//! UTF-16 of a short text, and of the last bytes of a longer one, which are too few for a group of 64. Runs of eight
+//! characters of three bytes come first. From 19 bytes on, strides of sixteen bytes are at fixed indices, and the last one
+//! ends with the text and may overlap the one before it. So only the length decides how often their loop iterates, and no
+//! single byte is left.
 //!
 //! Of fewer bytes, 8 to 16 are one block. The end of 17 and 18, and fewer than 8, are converted by characters.
 
@@ -12,14 +13,15 @@ ghost use Rattle.encoding_definitions.specs.Prefixes.{WritesPrefix};
 ghost use Rattle.encoding_kernels.specs.Scans.{BelowUpTo, HasLanes};
 ghost use Rattle.encoding_kernels.specs.EndingUnits.{StoresUnits, WritesCompressed, WritesUtf16, units_after, units_in, ends_after};
 
-use crate::simd::copy::{one_before, three_before, two_before};
 use crate::simd::short::are_short_below;
 use crate::simd::width::STRIDE;
 use crate::utf8_to_utf16::code_units::{
     ends_of_stride, kept_from, units_of_stride, write_compressed_exact,
 };
 use crate::utf8_to_utf16::convert::{write_few, write_some, write_tail};
-use crate::utf8_to_utf16::groups::{FOUR_BYTES, TRIPLES, UNITS, begins_triples, write_triples};
+use crate::utf8_to_utf16::groups::{
+    FOUR_BYTES, TRIPLES, UNITS, begins_triples, bytes_before, bytes_before_first, write_triples,
+};
 use std::simd::prelude::*;
 
 /// The least length of a text that is written by strides: three bytes precede its last one.
@@ -59,8 +61,7 @@ fn write_first_stride<const N: usize>(src: &[u8], dst: &mut [u16]) -> usize
     requires short { N < 4 → BelowUpTo 0xF0 src.now 16 }
     ensures { StoresUnits src.now dst.old dst.new 16 result result }
 {
-    let block = u8x16::from_slice(src);
-    let (three, two, one) = (three_before(block), two_before(block), one_before(block));
+    let (three, two, one) = bytes_before_first(src);
     write_part::<N>(src, 0, 0, three, two, one, dst)
 }
 
@@ -74,9 +75,7 @@ fn write_stride<const N: usize>(src: &[u8], at: usize, skip: usize, dst: &mut [u
         (take (16 - skip) (drop (at + skip) (units_after 0 0 0 src.now))) dst.old dst.new result
         result }
 {
-    let three = u8x16::from_slice(&src[at - 3..]);
-    let two = u8x16::from_slice(&src[at - 2..]);
-    let one = u8x16::from_slice(&src[at - 1..]);
+    let (three, two, one) = bytes_before(src, at);
     write_part::<N>(src, at, skip, three, two, one, dst)
 }
 
@@ -162,8 +161,8 @@ fn convert_by_strides(src: &[u8], dst: &mut [u16]) -> usize
     }
 }
 
-/// Writes the UTF-16 of the first characters of a text while each eight of them have three bytes, and nothing after it. Returns how
-/// many bytes it read and how many code units it wrote.
+/// Writes the UTF-16 of the first characters of a text while each eight of them have three bytes, and nothing after it.
+/// Returns how many bytes it read and how many code units it wrote.
 #[inline(always)]
 fn write_leading_triples(src: &[u8], dst: &mut [u16]) -> (usize, usize)
     requires dst_length { length src.now ≤ length dst.old }
@@ -180,8 +179,8 @@ fn write_leading_triples(src: &[u8], dst: &mut [u16]) -> (usize, usize)
     (read, written)
 }
 
-/// Writes the UTF-16 of a text of at most 128 bytes, and returns its length in code units. The rest of `dst` is unchanged. Runs of
-/// characters of three bytes come first. Then each code unit is computed, even if it is ASCII.
+/// Writes the UTF-16 of a text of at most 128 bytes, and returns its length in code units. The rest of `dst` is unchanged.
+/// Runs of characters of three bytes come first. Then each code unit is computed, even if it is ASCII.
 pub fn convert_short(src: &[u8], dst: &mut [u16]) -> usize
     requires src_length { length src.now ≤ 128 }
     requires dst_length { length src.now ≤ length dst.old }

@@ -223,7 +223,7 @@ fn tiny_valid_up_to(src: &[u8]) -> usize
     long_valid_up_to(src)
 }
 
-/// Returns the length of the longest well-formed prefix of at least 64 bytes, of which the first `ascii` are ASCII.
+/// Returns the length of the longest well-formed prefix of at least 64 bytes, if the first `ascii` are ASCII.
 #[inline(never)]
 fn valid_after_ascii(src: &[u8], ascii: usize) -> usize
     requires long { 64 ≤ length src.now }

@@ -1,10 +1,10 @@
-use Rattle.encoding_kernels.proofs.Utf8ToUtf16Lemmas.{kept_small, puts_block}
+use Rattle.encoding_kernels.proofs.CompressLemmas.{sixteen_small}
+use Rattle.encoding_kernels.proofs.Utf8ToUtf16Lemmas.{marks_long, puts_block}
 use Rattle.encoding_kernels.proofs.utf8_to_utf16.convert.write_block.Goals as goal
 
 pub write_compressed-requires : goal.write_compressed-requires
 write_compressed-requires c = (
-  kept_small c.args.src.now c.args.end c.args.kept c.requires.dst_length.0 c.requires.end.0
-      c.requires.kept,
+  sixteen_small _ (marks_long c.args.src.now c.args.end c.requires.dst_length.0 c.requires.end.0) _ c.requires.kept,
   c.requires.dst_length.1,
 )
 

@@ -1,11 +1,13 @@
 use Rattle.std.proofs.Common.{◌++◌, arith, drop, length-take-le, sym, subst}
 use Rattle.encoding_kernels.specs.EndingUnits.{WritesUtf16}
 use Rattle.encoding_kernels.proofs.Utf8ToUtf16LoopLemmas.{puts_few, puts_long, puts_single}
-use Rattle.encoding_kernels.proofs.Utf8ToUtf16Lemmas.{kept_small, puts_block}
+use Rattle.encoding_kernels.proofs.CompressLemmas.{sixteen_small}
+use Rattle.encoding_kernels.proofs.Utf8ToUtf16Lemmas.{marks_long, puts_block}
 use Rattle.encoding_kernels.proofs.utf8_to_utf16.convert.write_block_in_any_room.Goals as goal
 
 pub write_compressed_exact-requires : goal.write_compressed_exact-requires
-write_compressed_exact-requires c = (kept_small c.args.src.now c.args.end c.args.kept c.requires.dst_length.0 c.requires.end.0 c.requires.kept, omega arith)
+write_compressed_exact-requires c =
+    (sixteen_small _ (marks_long c.args.src.now c.args.end c.requires.dst_length.0 c.requires.end.0) _ c.requires.kept, omega arith)
 
 pub returns-then-dst-ge16 : goal.returns-then-dst-ge16
 returns-then-dst-ge16 c =

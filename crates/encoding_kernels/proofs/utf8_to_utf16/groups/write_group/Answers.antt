@@ -1,33 +1,12 @@
-use Rattle.std.proofs.Common.{◌≡◌, ◌*◌, ◌+◌, ◌-◌, ◌∷◌, [], arith, drop, length, subst}
+use Rattle.std.proofs.Common.{◌≡◌, ◌*◌, ◌+◌, ◌-◌, arith, drop, length, subst}
 use Rattle.std.proofs.lemmas.List.{length-drop, length-take}
 use Rattle.encoding_kernels.specs.EndingUnits.{StoresUnits}
-use Rattle.encoding_kernels.proofs.GroupLemmas.{group_first, group_more, loaded_before, zeros_before}
+use Rattle.encoding_kernels.proofs.GroupLemmas.{group_first, group_more}
 use Rattle.encoding_kernels.proofs.utf8_to_utf16.groups.write_group.Goals as goal
-
-pub write_stride-written-requires-clause-three_before : goal.write_stride-written-requires-clause-three_before
-write_stride-written-requires-clause-three_before g c = zeros_before c.args.src.now _ (0 ∷ 0 ∷ 0 ∷ []) (omega arith) c.three_before-three.ensures
-
-pub write_stride-written-requires-clause-two_before : goal.write_stride-written-requires-clause-two_before
-write_stride-written-requires-clause-two_before g c = zeros_before c.args.src.now _ (0 ∷ 0 ∷ []) (omega arith) c.two_before-two.ensures
-
-pub write_stride-written-requires-clause-one_before : goal.write_stride-written-requires-clause-one_before
-write_stride-written-requires-clause-one_before g c = zeros_before c.args.src.now _ (0 ∷ []) (omega arith) c.one_before-one.ensures
 
 pub loop-stride-init : goal.loop-stride-init
 loop-stride-init g c = group_first c.args.src.now c.args.dst.now c.write_stride-written.new.dst _ _ (omega arith) c.write_stride-written.auto.dst
     c.write_stride-written.ensures
-
-pub write_stride-written-requires-in-loop-stride-clause-three_before : goal.write_stride-written-requires-in-loop-stride-clause-three_before
-write_stride-written-requires-in-loop-stride-clause-three_before g c =
-    loaded_before c.args.src.now (0 ∷ 0 ∷ 0 ∷ []) (16 * c.loop-stride.stride) (omega arith) (omega arith)
-
-pub write_stride-written-requires-in-loop-stride-clause-two_before : goal.write_stride-written-requires-in-loop-stride-clause-two_before
-write_stride-written-requires-in-loop-stride-clause-two_before g c =
-    loaded_before c.args.src.now (0 ∷ 0 ∷ []) (16 * c.loop-stride.stride) (omega arith) (omega arith)
-
-pub write_stride-written-requires-in-loop-stride-clause-one_before : goal.write_stride-written-requires-in-loop-stride-clause-one_before
-write_stride-written-requires-in-loop-stride-clause-one_before g c =
-    loaded_before c.args.src.now (0 ∷ []) (16 * c.loop-stride.stride) (omega arith) (omega arith)
 
 pub loop-stride-preserved : goal.loop-stride-preserved
 loop-stride-preserved g c =

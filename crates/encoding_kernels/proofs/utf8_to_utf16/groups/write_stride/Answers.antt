@@ -1,8 +1,10 @@
-use Rattle.encoding_kernels.proofs.GroupLemmas.{stride_marks, stride_small, stride_stored}
+use Rattle.encoding_kernels.proofs.CompressLemmas.{sixteen_small}
+use Rattle.encoding_kernels.proofs.GroupLemmas.{stride_marks, stride_stored}
 use Rattle.encoding_kernels.proofs.utf8_to_utf16.groups.write_stride.Goals as goal
 
 pub write_compressed-requires : goal.write_compressed-requires
-write_compressed-requires g c = (stride_small c.args.src.now c.args.at _ c.requires.within.0 c.ends_of_stride.ensures, c.requires.within.1)
+write_compressed-requires g c =
+    (sixteen_small _ (stride_marks c.args.src.now c.args.at c.requires.within.0) _ c.ends_of_stride.ensures, c.requires.within.1)
 
 pub returns : goal.returns
 returns g c =

@@ -1,19 +1,25 @@
-use Rattle.std.proofs.Common.{arith, subst, sym}
+use Rattle.std.proofs.Common.{◌≡◌, ℕ, List, arith, length, subst, sym, take}
 use Rattle.std.specs.List.{flat_map}
 use Rattle.std.specs.Str.{IsUtf8, chars}
 use Rattle.std.proofs.lemmas.List.{take_all}
 use Rattle.encoding_definitions.specs.Prefixes.{WritesPrefix}
 use Rattle.std.specs.Char.Escape.{encode_utf16}
 use Rattle.encoding_definitions.specs.Converting.{ConvertsMaximal}
-use Rattle.encoding_kernels.proofs.Utf8ToUtf16Lemmas.{ascii_text}
-use Rattle.encoding_text.proofs.ConvertingLemmas.{ascii_written, converts_text, converts_valid}
+use Rattle.encoding_text.proofs.ConvertingLemmas.{ascii_written, converts_valid}
+use Rattle.encoding_text.proofs.WholePrefixesLemmas.{whole_text}
 use Rattle.encoding_text.proofs.utf_8.to_utf16.convert_short_prefix.Goals as goal
+
+-- the prefix is the whole text
+of_prefix : (src old new : List ℕ) (n written : ℕ) → take n src ≡ src → WritesPrefix old new written (flat_map encode_utf16 (chars src))
+    → WritesPrefix old new written (flat_map encode_utf16 (chars (take n src)))
+of_prefix src old new n written all = subst (λ xs. WritesPrefix old new written (flat_map encode_utf16 (chars xs))) (sym all)
 
 pub returns-then-unpack_short_ascii : goal.returns-then-unpack_short_ascii
 returns-then-unpack_short_ascii c =
+    let src = c.args.src.now in
     let ascii = c.unpack_short_ascii.ensures.ascii.0 c.if-unpack_short_ascii.true in
-    converts_text encode_utf16 _ _ _ _ (ascii_text c.args.src.now ascii).0
-    (ascii_written _ _ _ ascii (c.unpack_short_ascii.ensures.copied c.if-unpack_short_ascii.true))
+    let units = ascii_written _ _ _ ascii (c.unpack_short_ascii.ensures.copied c.if-unpack_short_ascii.true) in
+    converts_valid encode_utf16 _ _ _ _ _ (whole_text src ascii) (of_prefix _ _ _ _ _ (take_all (length src) src (omega arith)) units)
 
 pub convert_short-requires-clause-text : goal.convert_short-requires-clause-text
 convert_short-requires-clause-text c =
@@ -26,9 +32,7 @@ returns-then-valid-src c =
     let src = c.args.src.now in
     let found = c.short_valid_up_to_beyond_ascii-valid in
     let same = c.unpack_short_ascii.ensures.unchanged c.if-unpack_short_ascii.false in
-    let whole = take_all found.result src (omega arith) in
-    let units = subst (λ xs. WritesPrefix c.unpack_short_ascii.new.dst c.convert_short.new.dst c.convert_short.result (flat_map encode_utf16 (chars xs)))
-    (sym whole) c.convert_short.ensures in
+    let units = of_prefix _ _ _ _ _ (take_all found.result src (omega arith)) c.convert_short.ensures in
     subst (λ old. ConvertsMaximal encode_utf16 src old c.convert_short.new.dst found.result c.convert_short.result) same
     (converts_valid encode_utf16 _ _ _ _ _ found.ensures units)
 
