@@ -64,11 +64,11 @@ pub const FIRST_PAIRS: usize = 2;
 /// code 1.01; with eight, 0.98 to 1.02.
 pub const MOST_PAIRS: usize = 4;
 
-/// How many times 125 bytes of ASCII are skipped in a row before the ASCII prefix takes over.
+/// In bytes, a multiple of two blocks: how much more ASCII is skipped after two blocks of it, before the ASCII prefix takes over.
 ///
-/// `utf8_valid_up_to`, 16 KiB, in a build without the toolchain: with four, logs 0.86, JSON 0.94, ASCII with a character in
-/// 10,000 bytes 1.02; with sixteen, 1.00, 1.03, 0.97; without an end, 1.01, 1.04, 0.90.
-pub const MOST_SKIPPED: usize = 8;
+/// `utf8_valid_up_to`, 16 KiB, in a build without the toolchain: with 500, logs 0.86, JSON 0.94, ASCII with a character in
+/// 10,000 bytes 1.02; with 2,000, 1.00, 1.03, 0.97; without an end, 1.01, 1.04, 0.90.
+pub const MOST_SKIPPED: usize = 1024;
 
 /// In blocks of 32 code units: the most that are tested for right-to-left units until the next test for units below U+0590. A
 /// scan begins with one, and each such test that finds fewer than `LOW_UNITS` adds one.

@@ -29,8 +29,8 @@ pub(crate) fn are_short_below(bytes: &[u8], bound: u8) -> bool
     ensures { IsTrue result ↔ BelowUpTo bound bytes.now (length bytes.now) }
 {
     match bytes.len() {
-        ..HALF_BLOCK => are_below_by_two::<STRIDE>(bytes, bound),
-        HALF_BLOCK..BLOCK => are_below_by_two::<HALF_BLOCK>(bytes, bound),
+        ..=HALF_BLOCK => are_below_by_two::<STRIDE>(bytes, bound),
+        ..=BLOCK => are_below_by_two::<HALF_BLOCK>(bytes, bound),
         _ => are_below_by_two::<BLOCK>(bytes, bound),
     }
 }
@@ -65,8 +65,8 @@ pub fn is_short_ascii(bytes: &[u8]) -> bool
         1..QUARTER_STRIDE => are_few_ascii(bytes),
         QUARTER_STRIDE..HALF_STRIDE => are_ascii_by_two::<QUARTER_STRIDE>(bytes),
         HALF_STRIDE..STRIDE => are_ascii_by_two::<HALF_STRIDE>(bytes),
-        STRIDE..HALF_BLOCK => are_ascii_by_two::<STRIDE>(bytes),
-        HALF_BLOCK..BLOCK => are_ascii_by_two::<HALF_BLOCK>(bytes),
+        STRIDE..=HALF_BLOCK => are_ascii_by_two::<STRIDE>(bytes),
+        ..=BLOCK => are_ascii_by_two::<HALF_BLOCK>(bytes),
         _ => are_ascii_by_two::<BLOCK>(bytes),
     }
 }
@@ -105,7 +105,7 @@ pub fn is_short_basic_latin(units: &[u16]) -> bool
         1..QUARTER_STRIDE => are_few_basic_latin(units),
         QUARTER_STRIDE..HALF_STRIDE => are_basic_latin_by_two::<QUARTER_STRIDE>(units),
         HALF_STRIDE..STRIDE => are_basic_latin_by_two::<HALF_STRIDE>(units),
-        STRIDE..HALF_BLOCK => are_basic_latin_by_two::<STRIDE>(units),
+        STRIDE..=HALF_BLOCK => are_basic_latin_by_two::<STRIDE>(units),
         _ => are_basic_latin_by_two::<HALF_BLOCK>(units),
     }
 }
@@ -162,7 +162,7 @@ pub fn unpack_short_ascii(src: &[u8], dst: &mut [u16]) -> bool
         1..QUARTER_STRIDE => unpack_few(src, dst),
         QUARTER_STRIDE..HALF_STRIDE => unpack_by_two::<QUARTER_STRIDE>(src, dst),
         HALF_STRIDE..STRIDE => unpack_by_two::<HALF_STRIDE>(src, dst),
-        STRIDE..HALF_BLOCK => unpack_by_two::<STRIDE>(src, dst),
+        STRIDE..=HALF_BLOCK => unpack_by_two::<STRIDE>(src, dst),
         _ => unpack_by_two::<HALF_BLOCK>(src, dst),
     }
 }
@@ -214,8 +214,8 @@ pub fn copy_short_ascii(src: &[u8], dst: &mut [u8]) -> bool
         1..QUARTER_STRIDE => copy_few_ascii(src, dst),
         QUARTER_STRIDE..HALF_STRIDE => copy_by_two::<QUARTER_STRIDE>(src, dst),
         HALF_STRIDE..STRIDE => copy_by_two::<HALF_STRIDE>(src, dst),
-        STRIDE..HALF_BLOCK => copy_by_two::<STRIDE>(src, dst),
-        HALF_BLOCK..BLOCK => copy_by_two::<HALF_BLOCK>(src, dst),
+        STRIDE..=HALF_BLOCK => copy_by_two::<STRIDE>(src, dst),
+        ..=BLOCK => copy_by_two::<HALF_BLOCK>(src, dst),
         _ => copy_by_two::<BLOCK>(src, dst),
     }
 }
@@ -282,7 +282,7 @@ pub fn pack_short_ascii(src: &[u16], dst: &mut [u8]) -> bool
         1..QUARTER_STRIDE => pack_few(src, dst),
         QUARTER_STRIDE..HALF_STRIDE => pack_by_two::<QUARTER_STRIDE>(src, dst),
         HALF_STRIDE..STRIDE => pack_by_two::<HALF_STRIDE>(src, dst),
-        STRIDE..HALF_BLOCK => pack_by_two::<STRIDE>(src, dst),
+        STRIDE..=HALF_BLOCK => pack_by_two::<STRIDE>(src, dst),
         _ => pack_by_two::<HALF_BLOCK>(src, dst),
     }
 }

@@ -2,13 +2,13 @@
 //! long runs of it between them, are the caller's.
 
 ghost use Rattle.std.specs.Prelude.{◌+◌, ◌*◌, ◌<◌, ◌≤◌, IsTrue, length, take};
-ghost use Rattle.encoding_kernels.specs.Scans.{AllBelow, BelowUpTo};
+ghost use Rattle.encoding_kernels.specs.Scans.{BelowBetween, BelowUpTo};
 ghost use Rattle.encoding_kernels.specs.Following.{ValidUpTo};
 ghost use Rattle.std.specs.Str.{IsUtf8};
 
 use crate::scalar::is_lead_with_continuation;
 use crate::simd::copy::with_zeros;
-use crate::simd::scan::{BytesBelow, all, is_zero, zeros};
+use crate::simd::scan::{BytesBelow, all, is_zero, skip, zeros};
 use crate::simd::width::{ASCII_END, BLOCK, FOUR_BLOCKS, HALF_BLOCK, STRIDE, TWO_BLOCKS};
 use crate::tuning::{FIRST_PAIRS, MOST_PAIRS, MOST_SKIPPED};
 use crate::utf8::lookups::{faults, faults_32, first_faults, first_faults_32};
@@ -126,20 +126,26 @@ fn back(src: &[u8], at: usize) -> usize
     at
 }
 
-/// Returns whether the 128 bytes from `at` on are ASCII.
+/// Skips ASCII from `at` on, 128 bytes at a time and at most a limited number of times, and returns where it ends.
 ///
 /// A vector has no more lanes than those of the look-ups. The loads of these begin up to three bytes apart from it, and the
 /// compiler would take them out of a longer vector byte by byte.
 #[inline(always)]
-fn are_128_ascii(src: &[u8], at: usize) -> bool
+fn skip_ascii(src: &[u8], at: usize) -> usize
     requires { (at + 128 ≤ length src.now) × (at + 128 < 18446744073709551616) }
-    ensures { IsTrue result → AllBelow 0x80 src.now at 128 }
+    ensures within { (at ≤ result) × (result ≤ length src.now) }
+    ensures ascii { BelowBetween 0x80 src.now at result }
 {
     let ascii = BytesBelow {
         bytes: src,
         bound: ASCII_END,
     };
-    all::<HALF_BLOCK, TWO_BLOCKS, _>(&ascii, at)
+    if !all::<HALF_BLOCK, TWO_BLOCKS, _>(&ascii, at) {
+        return at;
+    }
+    let from = at + TWO_BLOCKS;
+    let most = (src.len() - from).min(MOST_SKIPPED);
+    skip::<HALF_BLOCK, TWO_BLOCKS, _>(&ascii, from, from + most)
 }
 
 /// Extends a prefix of `from` bytes that may each follow those before it, 64 at a time, and returns its length. The
@@ -193,14 +199,13 @@ fn following(src: &[u8], from: usize) -> usize
         }
     }
     let mut pairs = FIRST_PAIRS;
-    let mut skipped = 0;
     while src.len() - at >= FOUR_BLOCKS {
-        if are_128_ascii(src, at - 3) {
-            at += TWO_BLOCKS - 3;
-            skipped += 1;
-            if skipped == MOST_SKIPPED {
-                return at;
+        let run = skip_ascii(src, at - 3);
+        if run > at {
+            if run - at >= MOST_SKIPPED {
+                return run;
             }
+            at = run;
             pairs = 1;
             continue;
         }
@@ -210,7 +215,6 @@ fn following(src: &[u8], from: usize) -> usize
         if at < end {
             return at;
         }
-        skipped = 0;
         pairs = (pairs + 1).min(MOST_PAIRS);
     }
     finish(src, at)

@@ -9,7 +9,6 @@ invariant-loop-at l = record {
   prefix : ValidUpTo l.src l.at;
   some : 0 < l.pairs;
   few : l.pairs ≤ 4;
-  short : l.skipped < 8;
 }
 
 abbrev pub decreases-loop-at : goal.decreases-loop-at
