@@ -34,6 +34,10 @@ module _ (xs : List ℕ) (ascii : IsAscii xs) where
   pub whole_latin1 : IsLongestPrefix IsUtf8Latin1 xs (length xs)
   whole_latin1 = record { within = omega arith; kind = ascii_latin1 xs (length xs) (omega arith) (λ k l. ascii k); longest = λ m l _. l }
 
+-- a list that is its own longest ASCII prefix is its longest prefix that is a text
+pub whole_prefix_text : (xs : List ℕ) (n : ℕ) → IsLongestPrefix IsAscii xs n → n ≡ length xs → IsLongestPrefix IsUtf8 xs n
+whole_prefix_text xs n prefix e = record { within = prefix.within; kind = IsUtf8-from_ascii _ prefix.kind; longest = λ m l _. omega (arith, e, l) }
+
 -- what follows the longest ASCII prefix isn't ASCII
 pub ascii_stops : (xs : List ℕ) (n : ℕ) → IsLongestPrefix IsAscii xs n → n < length xs → 0x80 ≤ slice_index xs n
 ascii_stops xs n prefix l = elim (cases_lt (slice_index xs n) 0x80) [

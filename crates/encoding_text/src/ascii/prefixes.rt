@@ -1,10 +1,11 @@
 //! ASCII prefixes as conversions and validation begin with them. The functions of `ascii` find and copy them by whole
 //! strides. Before these, two vectors test a short text, and after them the last vector overlaps the one before.
 
-ghost use Rattle.std.specs.Prelude.{◌≡◌, ◌*◌, ◌<◌, ◌≤◌, IsTrue, IsFalse, take, length};
+ghost use Rattle.std.specs.Prelude.{◌≡◌, ◌+◌, ◌*◌, ◌<◌, ◌≤◌, ◌↔◌, IsTrue, IsFalse, take, length};
 ghost use Rattle.std.specs.Str.{IsAscii, IsUtf8};
 ghost use Rattle.encoding_definitions.specs.Prefixes.{IsLongestPrefix, WritesPrefix};
 ghost use Rattle.encoding_kernels.specs.EndingUnits.{WritesUtf16, units_in};
+ghost use Rattle.encoding_kernels.specs.Scans.{BelowUpTo, IsRunBelow};
 
 use super::{ascii_to_ascii, ascii_to_basic_latin, ascii_valid_up_to};
 use encoding_kernels::simd::copy::{copy_run, unpack, unpack_block, unpack_run};
@@ -14,9 +15,60 @@ use encoding_kernels::simd::short::{
 };
 use encoding_kernels::simd::width::{ASCII_END, BLOCK, HALF_BLOCK, STRIDE, TWO_BLOCKS, UNIT_BLOCK};
 
+/// Returns whether at most 128 bytes are ASCII.
+#[inline(always)]
+pub(crate) fn is_short(bytes: &[u8]) -> bool
+    requires { length bytes.now ≤ 128 }
+    ensures { IsTrue result ↔ IsAscii bytes.now }
+{
+    is_short_ascii(bytes)
+}
+
+/// Returns how many bytes of the first block precede the first that isn't ASCII.
+#[inline(always)]
+pub(crate) fn first_block_prefix(bytes: &[u8]) -> usize
+    requires { 64 ≤ length bytes.now }
+    ensures { IsRunBelow ASCII_END bytes.now 0 64 result }
+{
+    run_len_below::<BLOCK>(bytes, 0, ASCII_END)
+}
+
+/// Returns the length of the longest ASCII prefix, as `ascii_valid_up_to` does, if the first `known` bytes are ASCII and
+/// at most a block follows. The last block may overlap them, so no byte is left to a loop.
+#[inline(always)]
+fn ascii_valid_up_to_by_last(bytes: &[u8], known: usize) -> usize
+    requires block { 64 ≤ length bytes.now }
+    requires known { (known ≤ length bytes.now) × (length bytes.now ≤ known + 64) }
+    requires ascii { IsAscii (take known bytes.now) }
+    ensures { IsLongestPrefix IsAscii bytes.now result }
+{
+    if known == bytes.len() {
+        return known;
+    }
+    let last = bytes.len() - BLOCK;
+    last + run_len_below::<BLOCK>(bytes, last, ASCII_END)
+}
+
+/// Returns the length of the longest ASCII prefix, as `ascii_valid_up_to` does, if the first block is ASCII.
+#[inline(always)]
+pub(crate) fn ascii_valid_up_to_after_block(bytes: &[u8]) -> usize
+    requires block { 64 ≤ length bytes.now }
+    requires ascii { BelowUpTo ASCII_END bytes.now 64 }
+    ensures { IsLongestPrefix IsAscii bytes.now result }
+{
+    if bytes.len() <= TWO_BLOCKS {
+        return ascii_valid_up_to_by_last(bytes, BLOCK);
+    }
+    let whole = bytes.len() / BLOCK * BLOCK;
+    let prefix = ascii_valid_up_to(&bytes[..whole]);
+    if prefix < whole {
+        return prefix;
+    }
+    ascii_valid_up_to_by_last(bytes, whole)
+}
+
 /// Returns the length of the longest ASCII prefix, as `ascii_valid_up_to` does. One mask finds its end in the first
-/// block, without a branch that depends on the text: between other characters most prefixes end there. From 64 bytes on
-/// the last block may overlap the one before it, so no byte is left to a loop.
+/// block, without a branch that depends on the text: between other characters most prefixes end there.
 #[tactic(auto, using(encoding_kernels::proofs::ScanLemmas::prefix_before))]
 #[inline(always)]
 pub(crate) fn ascii_valid_up_to_by_block(bytes: &[u8]) -> usize
@@ -25,17 +77,11 @@ pub(crate) fn ascii_valid_up_to_by_block(bytes: &[u8]) -> usize
     if bytes.len() < BLOCK {
         return ascii_valid_up_to(bytes);
     }
-    let first = run_len_below::<BLOCK>(bytes, 0, ASCII_END);
+    let first = first_block_prefix(bytes);
     if first < BLOCK {
         return first;
     }
-    let whole = bytes.len() / BLOCK * BLOCK;
-    let prefix = ascii_valid_up_to(&bytes[..whole]);
-    if prefix < whole {
-        return prefix;
-    }
-    let last = bytes.len() - BLOCK;
-    last + run_len_below::<BLOCK>(bytes, last, ASCII_END)
+    ascii_valid_up_to_after_block(bytes)
 }
 
 /// Returns the length of the longest ASCII prefix, as `ascii_valid_up_to` does, of at least N and at most 2 * N bytes. Two
@@ -46,12 +92,11 @@ fn ascii_valid_up_to_by_two<const N: usize>(bytes: &[u8]) -> usize
     requires { (0 < N) × (N ≤ 64) × (N ≤ length bytes.now) × (length bytes.now ≤ 2 * N) }
     ensures { IsLongestPrefix IsAscii bytes.now result }
 {
-    let first = run_len_below::<N>(bytes, 0, ASCII_END);
-    if first < N {
-        return first;
-    }
     let last = bytes.len() - N;
-    last + run_len_below::<N>(bytes, last, ASCII_END)
+    let first = run_len_below::<N>(bytes, 0, ASCII_END);
+    let end = last + run_len_below::<N>(bytes, last, ASCII_END);
+    // both are known before the test, so that it selects and doesn't jump
+    if first < N { first } else { end }
 }
 
 /// Returns the length of the longest ASCII prefix, as `ascii_valid_up_to` does. Two vectors test at most 128 bytes at once.

@@ -6,12 +6,13 @@ ghost use Rattle.encoding_definitions.specs.Parts.{BeginsWithNoCharacter};
 ghost use Rattle.encoding_definitions.specs.Prefixes.{IsLongestPrefix};
 ghost use Rattle.encoding_kernels.specs.Scans.{BelowUpTo};
 
-use crate::ascii::prefixes::{ascii_valid_up_to_by_block, short_ascii_valid_up_to};
+use crate::ascii::prefixes::{
+    ascii_valid_up_to_after_block, ascii_valid_up_to_by_block, first_block_prefix, is_short,
+    short_ascii_valid_up_to,
+};
 use crate::utf_8::table::{UTF8_DATA, law_table};
 use encoding_kernels::scalar::{is_continuation, is_lead_with_continuation, is_second};
-use encoding_kernels::simd::scan::run_len_below;
-use encoding_kernels::simd::short::is_short_ascii;
-use encoding_kernels::simd::width::{ASCII_END, BLOCK, HALF_STRIDE, STRIDE, TWO_BLOCKS};
+use encoding_kernels::simd::width::{ASCII_END, BLOCK, HALF_STRIDE, STRIDE};
 use encoding_kernels::utf8::validate::{well_formed_blocks, well_formed_short};
 
 /// Returns whether three bytes are one character, for a first byte that starts no character of one, two or four.
@@ -157,6 +158,18 @@ pub(crate) fn begins_no_character(bytes: &[u8]) -> bool
     bytes.len() < 2 || !is_lead_with_continuation(bytes[0], bytes[1])
 }
 
+/// Returns whether the bytes begin with no character, as far as the second shows: there is none, or it is ASCII. The first
+/// byte isn't ASCII. Takes fewer instructions than `begins_no_character`, and sees most letters of other encodings.
+#[tactic(auto, using(encoding_definitions::proofs::SequenceLemmas::no_character_reads))]
+#[inline(always)]
+fn has_no_second(bytes: &[u8]) -> bool
+    requires not_empty { 0 < length bytes.now }
+    requires lead { 0x80 ≤ slice_index bytes.now 0 }
+    ensures { IsTrue result → BeginsWithNoCharacter bytes.now }
+{
+    bytes.len() < 2 || bytes[1] < ASCII_END
+}
+
 /// Returns the length of the longest well-formed prefix of 8 to 64 bytes, by one or two vectors. If no character follows what
 /// these find, two bytes show it.
 #[inline(always)]
@@ -174,53 +187,54 @@ fn valid_up_to_by_vectors(src: &[u8]) -> usize
     valid_after(src, well_formed)
 }
 
-/// Returns the length of the longest well-formed prefix of 8 to 64 bytes that aren't all ASCII. Of 16 bytes and more, two vectors
-/// and two bytes show whether no character follows the ASCII prefix, before the look-ups.
+/// Returns the length of the longest well-formed prefix of 8 to 64 bytes that aren't all ASCII. If at least 16 bytes begin with
+/// ASCII, two vectors and one byte show whether it ends before a cut character, before the look-ups.
 #[inline(always)]
 pub(crate) fn short_valid_up_to_beyond_ascii(src: &[u8]) -> usize
     requires length { (8 ≤ length src.now) × (length src.now ≤ 64) }
     requires other { IsAscii src.now → ⊥ }
     ensures { IsLongestPrefix IsUtf8 src.now result }
 {
-    if src.len() >= STRIDE {
+    if src.len() >= STRIDE && src[0] < ASCII_END {
         let prefix = short_ascii_valid_up_to(src);
-        if begins_no_character(&src[prefix..]) {
+        if has_no_second(&src[prefix..]) {
             return prefix;
         }
     }
     valid_up_to_by_vectors(src)
 }
 
-/// Returns the length of the longest well-formed prefix of 8 to 64 bytes. One test shows whether all are ASCII.
-#[inline(always)]
-fn short_valid_up_to(src: &[u8]) -> usize
-    requires { (8 ≤ length src.now) × (length src.now ≤ 64) }
-    ensures { IsLongestPrefix IsUtf8 src.now result }
-{
-    if is_short_ascii(src) {
-        return src.len();
-    }
-    short_valid_up_to_beyond_ascii(src)
-}
-
-/// Returns the length of the longest well-formed prefix. Out of line, so that a short text needs few registers.
+/// Returns the length of the longest well-formed prefix of at most 64 bytes that aren't all ASCII. If damaged text is
+/// expected, a malformed sequence after ASCII is looked for before the look-ups. Out of line, so that only the test for ASCII
+/// is inline.
 #[inline(never)]
-fn long_valid_up_to(src: &[u8]) -> usize
+fn short_valid_up_to<const DAMAGED: bool>(src: &[u8]) -> usize
+    requires length { length src.now ≤ 64 }
+    requires other { IsAscii src.now → ⊥ }
     ensures { IsLongestPrefix IsUtf8 src.now result }
 {
-    valid_after(src, well_formed_prefix(src))
+    if src.len() < HALF_STRIDE {
+        return valid_after(src, 0);
+    }
+    if DAMAGED {
+        return short_valid_up_to_beyond_ascii(src);
+    }
+    valid_up_to_by_vectors(src)
 }
 
-/// Returns the length of the longest well-formed prefix of fewer than 8 bytes.
-#[inline(always)]
-fn tiny_valid_up_to(src: &[u8]) -> usize
-    requires { length src.now < 8 }
+/// Returns the length of the longest well-formed prefix, if the first 64 bytes are ASCII. Out of line, as `valid_after_ascii`,
+/// so that `long_valid_up_to` needs few registers.
+#[inline(never)]
+fn valid_after_block(src: &[u8]) -> usize
+    requires long { 64 < length src.now }
+    requires ascii { BelowUpTo ASCII_END src.now 64 }
     ensures { IsLongestPrefix IsUtf8 src.now result }
 {
-    if is_short_ascii(src) {
-        return src.len();
+    let ascii = ascii_valid_up_to_after_block(src);
+    if ascii == src.len() {
+        return ascii;
     }
-    long_valid_up_to(src)
+    valid_after(src, well_formed_blocks(src, ascii))
 }
 
 /// Returns the length of the longest well-formed prefix of at least 64 bytes, if the first `ascii` are ASCII.
@@ -234,18 +248,15 @@ fn valid_after_ascii(src: &[u8], ascii: usize) -> usize
 }
 
 /// Returns the length of the longest well-formed prefix of more than 64 bytes. Between malformed sequences this is often
-/// some ASCII, which one mask shows. Two vectors show whether at most 128 bytes are all ASCII.
-#[inline(always)]
-fn valid_up_to_by_block(src: &[u8]) -> usize
+/// some ASCII, which one mask shows.
+#[inline(never)]
+fn long_valid_up_to(src: &[u8]) -> usize
     requires { 64 < length src.now }
     ensures { IsLongestPrefix IsUtf8 src.now result }
 {
-    let ascii = run_len_below::<BLOCK>(src, 0, ASCII_END);
+    let ascii = first_block_prefix(src);
     if ascii == BLOCK {
-        if src.len() <= TWO_BLOCKS && is_short_ascii(src) {
-            return src.len();
-        }
-        return long_valid_up_to(src);
+        return valid_after_block(src);
     }
     if begins_no_character(&src[ascii..]) {
         return ascii;
@@ -253,32 +264,18 @@ fn valid_up_to_by_block(src: &[u8]) -> usize
     valid_after_ascii(src, ascii)
 }
 
-/// Returns what `utf8_valid_up_to` does, inline. For callers that continue after malformed sequences: a text of 16 bytes and more
-/// is tested for one before the look-ups.
+/// Returns what `utf8_valid_up_to` does, for callers that continue after malformed sequences.
 #[inline(always)]
 pub(crate) fn valid_up_to(src: &[u8]) -> usize
     ensures { IsLongestPrefix IsUtf8 src.now result }
 {
     if src.len() > BLOCK {
-        return valid_up_to_by_block(src);
+        return long_valid_up_to(src);
     }
-    if src.len() < HALF_STRIDE {
-        return tiny_valid_up_to(src);
-    }
-    short_valid_up_to(src)
-}
-
-/// Returns what `short_valid_up_to` does, for a text that is likely to be well-formed: the look-ups come before a test for a
-/// malformed sequence.
-#[inline(always)]
-fn short_text_valid_up_to(src: &[u8]) -> usize
-    requires { (8 ≤ length src.now) × (length src.now ≤ 64) }
-    ensures { IsLongestPrefix IsUtf8 src.now result }
-{
-    if is_short_ascii(src) {
+    if is_short(src) {
         return src.len();
     }
-    valid_up_to_by_vectors(src)
+    short_valid_up_to::<true>(src)
 }
 
 /// Returns the length in bytes of the longest prefix of `src` that is well-formed UTF-8: the index of the first byte
@@ -290,8 +287,11 @@ fn short_text_valid_up_to(src: &[u8]) -> usize
 pub fn utf8_valid_up_to(src: &[u8]) -> usize
     ensures { IsLongestPrefix IsUtf8 src.now result }
 {
-    if HALF_STRIDE <= src.len() && src.len() <= BLOCK {
-        return short_text_valid_up_to(src);
+    if src.len() > BLOCK {
+        return long_valid_up_to(src);
     }
-    valid_up_to(src)
+    if is_short(src) {
+        return src.len();
+    }
+    short_valid_up_to::<false>(src)
 }

@@ -44,8 +44,11 @@ skipped bs at run started l prefix ascii =
 
 pub returns-then-run-at-ge-MOST_SKIPPED : goal.returns-then-run-at-ge-MOST_SKIPPED
 returns-then-run-at-ge-MOST_SKIPPED c =
-    let run = c.skip_ascii-run in
-    (run.ensures.within.1, skipped c.args.src.now c.loop-at.at run.result c.loop-at.invariant.started (omega arith) c.loop-at.invariant.prefix run.ensures.ascii)
+    let run = c.skip_ascii-run in (
+      run.ensures.within.1,
+      skipped c.args.src.now c.loop-at.at run.result c.loop-at.invariant.started
+          (omega arith) c.loop-at.invariant.prefix run.ensures.ascii,
+    )
 
 pub loop-at-preserved-then-run-at : goal.loop-at-preserved-then-run-at
 loop-at-preserved-then-run-at c =

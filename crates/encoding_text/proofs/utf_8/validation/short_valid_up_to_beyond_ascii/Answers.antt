@@ -5,15 +5,15 @@ use Rattle.encoding_definitions.proofs.Utf8Lemmas.{IsLongestPrefix-utf8}
 use Rattle.encoding_text.proofs.WholePrefixesLemmas.{ascii_stops, ascii_ends}
 use Rattle.encoding_text.proofs.utf_8.validation.short_valid_up_to_beyond_ascii.Goals as goal
 
-pub begins_no_character-requires-clause-not_empty : goal.begins_no_character-requires-clause-not_empty
-begins_no_character-requires-clause-not_empty c =
+pub has_no_second-requires-clause-not_empty : goal.has_no_second-requires-clause-not_empty
+has_no_second-requires-clause-not_empty c =
     let src = c.args.src.now in
     let ascii = c.short_ascii_valid_up_to-prefix.result in
     let inside = ascii_ends src ascii c.short_ascii_valid_up_to-prefix.ensures c.requires.other in
     omega (arith, ap length (take_rest src ascii), length-drop ascii src)
 
-pub begins_no_character-requires-clause-lead : goal.begins_no_character-requires-clause-lead
-begins_no_character-requires-clause-lead c =
+pub has_no_second-requires-clause-lead : goal.has_no_second-requires-clause-lead
+has_no_second-requires-clause-lead c =
     let src = c.args.src.now in
     let ascii = c.short_ascii_valid_up_to-prefix.result in
     let first : ascii + 0 ≡ ascii = omega arith in
@@ -26,8 +26,8 @@ begins_no_character-requires-clause-lead c =
       ap (slice_index src) first,
     )
 
-pub returns-then-begins_no_character : goal.returns-then-begins_no_character
-returns-then-begins_no_character c =
+pub returns-then-has_no_second : goal.returns-then-has_no_second
+returns-then-has_no_second c =
     let prefix = c.short_ascii_valid_up_to-prefix.ensures in
     IsLongestPrefix-utf8 c.args.src.now _ prefix.within (IsUtf8-from_ascii _ prefix.kind)
-    (rw take_rest at (c.begins_no_character.ensures c.if-begins_no_character.true))
+    (rw take_rest at (c.has_no_second.ensures c.if-has_no_second.true))
