@@ -1,5 +1,6 @@
 //! Texts of at most 64 units, or 128 bytes if they stay bytes: tests for ASCII and for bytes below a bound, and copies of
-//! ASCII. Two vectors that may overlap cover 4 units and more, so none is left to a loop.
+//! ASCII. Two vectors that may overlap cover 4 units and more, so none is left to a loop. Tests of the length begin with the
+//! longest texts, since a test that fails is a jump.
 
 ghost use Rattle.std.specs.Prelude.{◌≡◌, ◌+◌, ◌*◌, ◌<◌, ◌≤◌, ◌↔◌, ◌++◌, IsTrue, IsFalse, length, take, drop};
 ghost use Rattle.std.specs.Str.{IsAscii};
@@ -28,11 +29,13 @@ pub(crate) fn are_short_below(bytes: &[u8], bound: u8) -> bool
     requires { (16 ≤ length bytes.now) × (length bytes.now ≤ 128) }
     ensures { IsTrue result ↔ BelowUpTo bound bytes.now (length bytes.now) }
 {
-    match bytes.len() {
-        ..=HALF_BLOCK => are_below_by_two::<STRIDE>(bytes, bound),
-        ..=BLOCK => are_below_by_two::<HALF_BLOCK>(bytes, bound),
-        _ => are_below_by_two::<BLOCK>(bytes, bound),
+    if bytes.len() > BLOCK {
+        return are_below_by_two::<BLOCK>(bytes, bound);
     }
+    if bytes.len() > HALF_BLOCK {
+        return are_below_by_two::<HALF_BLOCK>(bytes, bound);
+    }
+    are_below_by_two::<STRIDE>(bytes, bound)
 }
 
 /// Returns whether N to 2 * N bytes are ASCII.
@@ -60,14 +63,20 @@ pub fn is_short_ascii(bytes: &[u8]) -> bool
     requires { length bytes.now ≤ 128 }
     ensures { IsTrue result ↔ IsAscii bytes.now }
 {
+    if bytes.len() > BLOCK {
+        return are_ascii_by_two::<BLOCK>(bytes);
+    }
+    if bytes.len() > HALF_BLOCK {
+        return are_ascii_by_two::<HALF_BLOCK>(bytes);
+    }
+    if bytes.len() >= STRIDE {
+        return are_ascii_by_two::<STRIDE>(bytes);
+    }
     match bytes.len() {
+        HALF_STRIDE.. => are_ascii_by_two::<HALF_STRIDE>(bytes),
+        QUARTER_STRIDE.. => are_ascii_by_two::<QUARTER_STRIDE>(bytes),
+        1.. => are_few_ascii(bytes),
         0 => true,
-        1..QUARTER_STRIDE => are_few_ascii(bytes),
-        QUARTER_STRIDE..HALF_STRIDE => are_ascii_by_two::<QUARTER_STRIDE>(bytes),
-        HALF_STRIDE..STRIDE => are_ascii_by_two::<HALF_STRIDE>(bytes),
-        STRIDE..=HALF_BLOCK => are_ascii_by_two::<STRIDE>(bytes),
-        ..=BLOCK => are_ascii_by_two::<HALF_BLOCK>(bytes),
-        _ => are_ascii_by_two::<BLOCK>(bytes),
     }
 }
 
@@ -100,13 +109,17 @@ pub fn is_short_basic_latin(units: &[u16]) -> bool
     requires { length units.now ≤ 64 }
     ensures { IsTrue result ↔ IsAscii units.now }
 {
+    if units.len() > HALF_BLOCK {
+        return are_basic_latin_by_two::<HALF_BLOCK>(units);
+    }
+    if units.len() >= STRIDE {
+        return are_basic_latin_by_two::<STRIDE>(units);
+    }
     match units.len() {
+        HALF_STRIDE.. => are_basic_latin_by_two::<HALF_STRIDE>(units),
+        QUARTER_STRIDE.. => are_basic_latin_by_two::<QUARTER_STRIDE>(units),
+        1.. => are_few_basic_latin(units),
         0 => true,
-        1..QUARTER_STRIDE => are_few_basic_latin(units),
-        QUARTER_STRIDE..HALF_STRIDE => are_basic_latin_by_two::<QUARTER_STRIDE>(units),
-        HALF_STRIDE..STRIDE => are_basic_latin_by_two::<HALF_STRIDE>(units),
-        STRIDE..=HALF_BLOCK => are_basic_latin_by_two::<STRIDE>(units),
-        _ => are_basic_latin_by_two::<HALF_BLOCK>(units),
     }
 }
 
@@ -157,13 +170,17 @@ pub fn unpack_short_ascii(src: &[u8], dst: &mut [u16]) -> bool
     ensures copied { IsTrue result → WritesPrefix dst.old dst.new (length src.now) src.now }
     ensures unchanged { IsFalse result → dst.new ≡ dst.old }
 {
+    if src.len() > HALF_BLOCK {
+        return unpack_by_two::<HALF_BLOCK>(src, dst);
+    }
+    if src.len() >= STRIDE {
+        return unpack_by_two::<STRIDE>(src, dst);
+    }
     match src.len() {
+        HALF_STRIDE.. => unpack_by_two::<HALF_STRIDE>(src, dst),
+        QUARTER_STRIDE.. => unpack_by_two::<QUARTER_STRIDE>(src, dst),
+        1.. => unpack_few(src, dst),
         0 => true,
-        1..QUARTER_STRIDE => unpack_few(src, dst),
-        QUARTER_STRIDE..HALF_STRIDE => unpack_by_two::<QUARTER_STRIDE>(src, dst),
-        HALF_STRIDE..STRIDE => unpack_by_two::<HALF_STRIDE>(src, dst),
-        STRIDE..=HALF_BLOCK => unpack_by_two::<STRIDE>(src, dst),
-        _ => unpack_by_two::<HALF_BLOCK>(src, dst),
     }
 }
 
@@ -209,14 +226,20 @@ pub fn copy_short_ascii(src: &[u8], dst: &mut [u8]) -> bool
     ensures copied { IsTrue result → WritesPrefix dst.old dst.new (length src.now) src.now }
     ensures unchanged { IsFalse result → dst.new ≡ dst.old }
 {
+    if src.len() > BLOCK {
+        return copy_by_two::<BLOCK>(src, dst);
+    }
+    if src.len() > HALF_BLOCK {
+        return copy_by_two::<HALF_BLOCK>(src, dst);
+    }
+    if src.len() >= STRIDE {
+        return copy_by_two::<STRIDE>(src, dst);
+    }
     match src.len() {
+        HALF_STRIDE.. => copy_by_two::<HALF_STRIDE>(src, dst),
+        QUARTER_STRIDE.. => copy_by_two::<QUARTER_STRIDE>(src, dst),
+        1.. => copy_few_ascii(src, dst),
         0 => true,
-        1..QUARTER_STRIDE => copy_few_ascii(src, dst),
-        QUARTER_STRIDE..HALF_STRIDE => copy_by_two::<QUARTER_STRIDE>(src, dst),
-        HALF_STRIDE..STRIDE => copy_by_two::<HALF_STRIDE>(src, dst),
-        STRIDE..=HALF_BLOCK => copy_by_two::<STRIDE>(src, dst),
-        ..=BLOCK => copy_by_two::<HALF_BLOCK>(src, dst),
-        _ => copy_by_two::<BLOCK>(src, dst),
     }
 }
 
@@ -277,12 +300,16 @@ pub fn pack_short_ascii(src: &[u16], dst: &mut [u8]) -> bool
     ensures copied { IsTrue result → WritesPrefix dst.old dst.new (length src.now) src.now }
     ensures unchanged { IsFalse result → dst.new ≡ dst.old }
 {
+    if src.len() > HALF_BLOCK {
+        return pack_by_two::<HALF_BLOCK>(src, dst);
+    }
+    if src.len() >= STRIDE {
+        return pack_by_two::<STRIDE>(src, dst);
+    }
     match src.len() {
+        HALF_STRIDE.. => pack_by_two::<HALF_STRIDE>(src, dst),
+        QUARTER_STRIDE.. => pack_by_two::<QUARTER_STRIDE>(src, dst),
+        1.. => pack_few(src, dst),
         0 => true,
-        1..QUARTER_STRIDE => pack_few(src, dst),
-        QUARTER_STRIDE..HALF_STRIDE => pack_by_two::<QUARTER_STRIDE>(src, dst),
-        HALF_STRIDE..STRIDE => pack_by_two::<HALF_STRIDE>(src, dst),
-        STRIDE..=HALF_BLOCK => pack_by_two::<STRIDE>(src, dst),
-        _ => pack_by_two::<HALF_BLOCK>(src, dst),
     }
 }

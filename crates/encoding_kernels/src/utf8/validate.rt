@@ -227,9 +227,9 @@ pub fn well_formed_short(src: &[u8]) -> usize
     ensures { (result ≤ length src.now) × IsUtf8 (take result src.now) }
 {
     let clean = match src.len() {
-        ..STRIDE => clean_of_few(src),
-        STRIDE..35 => clean_of_first_32(src),
-        _ => clean_of_first_64(src),
+        35.. => clean_of_first_64(src),
+        STRIDE.. => clean_of_first_32(src),
+        _ => clean_of_few(src),
     };
     back(src, clean)
 }
