@@ -12,7 +12,7 @@ use crate::ascii::prefixes::{
 };
 use crate::utf_8::table::{UTF8_DATA, law_table};
 use encoding_kernels::scalar::{is_continuation, is_lead_with_continuation, is_second};
-use encoding_kernels::simd::width::{ASCII_END, BLOCK, HALF_STRIDE, STRIDE};
+use encoding_kernels::simd::width::{ASCII_END, BLOCK, HALF_STRIDE, STRIDE, TWO_BLOCKS};
 use encoding_kernels::utf8::validate::{well_formed_blocks, well_formed_short};
 
 /// Returns whether three bytes are one character, for a first byte that starts no character of one, two or four.
@@ -248,7 +248,7 @@ fn valid_after_ascii(src: &[u8], ascii: usize) -> usize
 }
 
 /// Returns the length of the longest well-formed prefix of more than 64 bytes. Between malformed sequences this is often
-/// some ASCII, which one mask shows.
+/// some ASCII, which one mask shows. Two vectors show whether at most 128 bytes are all ASCII.
 #[inline(never)]
 fn long_valid_up_to(src: &[u8]) -> usize
     requires { 64 < length src.now }
@@ -256,6 +256,9 @@ fn long_valid_up_to(src: &[u8]) -> usize
 {
     let ascii = first_block_prefix(src);
     if ascii == BLOCK {
+        if src.len() <= TWO_BLOCKS && is_short(src) {
+            return src.len();
+        }
         return valid_after_block(src);
     }
     if begins_no_character(&src[ascii..]) {
