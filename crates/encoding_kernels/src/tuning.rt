@@ -54,15 +54,15 @@ pub const CONVERTED_PIECE: usize = 16384;
 
 /// In pairs of blocks of 64 bytes: how many are validated at first until the next test for ASCII. After ASCII it is one.
 ///
-/// `utf8_valid_up_to`, 600 to 2,000 bytes, in a build without the toolchain: with one, 0.99 to 1.02; with four, Chinese and
-/// Russian 1.01, JSON and logs 0.97.
-pub const FIRST_PAIRS: usize = 2;
+/// `utf8_valid_up_to`, 1,024 bytes, by instructions, for `x86-64-v3` and without the toolchain: with two, Russian 0.96, HTML
+/// 0.97, JSON 0.98, logs 1.01; with four, 1.00, logs 0.99.
+pub const FIRST_PAIRS: usize = 3;
 
 /// In pairs of blocks of 64 bytes: the most that are validated until the next test for ASCII. Each test that fails adds one.
 ///
-/// `utf8_valid_up_to`, 16 KiB, in a build without the toolchain: with two, Chinese, prose and Western European text 0.95,
-/// code 1.01; with eight, 0.98 to 1.02.
-pub const MOST_PAIRS: usize = 4;
+/// `utf8_valid_up_to`, 16 KiB, in a build without the toolchain: with two in place of four, Chinese, prose and Western European
+/// text 0.95, code 1.01; with eight in place of four, 0.98 to 1.02.
+pub const MOST_PAIRS: usize = 6;
 
 /// In bytes, a multiple of two blocks: how much more ASCII is skipped after two blocks of it, before the ASCII prefix takes over.
 ///

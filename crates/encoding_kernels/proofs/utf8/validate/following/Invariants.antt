@@ -8,7 +8,7 @@ invariant-loop-at l = record {
   within : l.at ≤ length l.src;
   prefix : ValidUpTo l.src l.at;
   some : 0 < l.pairs;
-  few : l.pairs ≤ 4;
+  few : l.pairs ≤ 6;
 }
 
 abbrev pub decreases-loop-at : goal.decreases-loop-at
