@@ -8,8 +8,8 @@ ghost use Rattle.encoding_kernels.specs.Scans.{AllBelow, BelowBetween, BelowUpTo
 use crate::simd::copy::unpack;
 use crate::simd::scan::are_bytes_below;
 use crate::simd::width::{ASCII_END, BLOCK, HALF_BLOCK, STRIDE};
+use crate::utf8_to_utf16::block::{write_block, write_character, write_some};
 use crate::utf8_to_utf16::code_units::{is_below, unit_ends};
-use crate::utf8_to_utf16::convert::{write_block, write_character, write_some};
 use crate::utf8_to_utf16::groups::{
     FOUR_BYTES, GROUP_OF_TEXT, TRIPLES, UNITS, begins_four_bytes, begins_triples,
     greatest_after_stride, group_end, leading_triples, write_group, write_some_triples,
