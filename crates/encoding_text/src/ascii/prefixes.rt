@@ -1,18 +1,20 @@
 //! ASCII prefixes as conversions and validation begin with them. The functions of `ascii` find and copy them by whole
 //! strides. Before these, two vectors test a short text, and after them the last vector overlaps the one before.
 
-ghost use Rattle.std.specs.Prelude.{◌≡◌, ◌*◌, ◌<◌, ◌≤◌, IsTrue, IsFalse, take, length};
+ghost use Rattle.std.specs.Prelude.{◌≡◌, ◌*◌, ◌<◌, ◌≤◌, ◌↔◌, IsTrue, IsFalse, take, length};
 ghost use Rattle.std.specs.Str.{IsAscii, IsUtf8};
 ghost use Rattle.encoding_definitions.specs.Prefixes.{IsLongestPrefix, WritesPrefix};
 ghost use Rattle.encoding_kernels.specs.EndingUnits.{WritesUtf16, units_in};
 
 use super::{ascii_to_ascii, ascii_to_basic_latin, ascii_valid_up_to};
 use encoding_kernels::simd::copy::{copy_run, unpack, unpack_block, unpack_run};
-use encoding_kernels::simd::scan::{are_bytes_below, run_len_below};
+use encoding_kernels::simd::scan::{are_bytes_below, are_four_blocks_below, run_len_below};
 use encoding_kernels::simd::short::{
     copy_short_ascii, is_short_ascii, pack_short_ascii, unpack_short_ascii,
 };
-use encoding_kernels::simd::width::{ASCII_END, BLOCK, HALF_BLOCK, STRIDE, TWO_BLOCKS, UNIT_BLOCK};
+use encoding_kernels::simd::width::{
+    ASCII_END, BLOCK, FOUR_BLOCKS, HALF_BLOCK, STRIDE, TWO_BLOCKS, UNIT_BLOCK,
+};
 
 /// Returns the length of the longest ASCII prefix, as `ascii_valid_up_to` does. One mask finds its end in the first
 /// block, without a branch that depends on the text: between other characters most prefixes end there. From 64 bytes on
@@ -135,6 +137,24 @@ pub(crate) fn pack_short(src: &[u16], dst: &mut [u8]) -> bool
     src.len() <= UNIT_BLOCK && src.len() <= dst.len() && pack_short_ascii(src, dst)
 }
 
+/// Copies at most 64 bytes, each as a UTF-16 code unit, if they are ASCII. Returns whether they are.
+#[inline(always)]
+pub(crate) fn unpack_short(src: &[u8], dst: &mut [u16]) -> bool
+    requires src_length { length src.now ≤ 64 }
+    requires dst_length { length src.now ≤ length dst.old }
+    ensures ascii { IsTrue result ↔ IsAscii src.now }
+    ensures copied { IsTrue result → WritesPrefix dst.old dst.new (length src.now) src.now }
+    ensures unchanged { IsFalse result → dst.new ≡ dst.old }
+{
+    unpack_short_ascii(src, dst)
+}
+
+/// Returns whether 256 bytes of ASCII follow the first four bytes.
+#[inline(always)]
+pub(crate) fn precedes_ascii(bytes: &[u8]) -> bool {
+    bytes.len() >= 4 + FOUR_BLOCKS && are_four_blocks_below(&bytes[4..4 + FOUR_BLOCKS], ASCII_END)
+}
+
 /// Copies the longest ASCII prefix of at least sixteen bytes, each byte as a UTF-16 code unit, and returns its length. The
 /// last stride may overlap the one before it, so no byte is left to a loop.
 #[inline(always)]
@@ -147,6 +167,9 @@ fn unpack_strides(src: &[u8], dst: &mut [u16]) -> usize
     let whole = src.len() / STRIDE * STRIDE;
     if let Some((_, place)) = ascii_to_basic_latin(&src[..whole], dst) {
         return place;
+    }
+    if whole == src.len() {
+        return whole;
     }
     let last = src.len() - STRIDE;
     let run = run_len_below::<STRIDE>(src, last, ASCII_END);
@@ -165,7 +188,7 @@ fn unpack_fitting(src: &[u8], dst: &mut [u16]) -> usize
     if src.is_empty() || src[0] >= ASCII_END {
         return 0;
     }
-    if src.len() <= BLOCK && unpack_short_ascii(src, dst) {
+    if src.len() <= BLOCK && unpack_short(src, dst) {
         return src.len();
     }
     if src.len() >= STRIDE {
@@ -255,6 +278,9 @@ pub(crate) fn copy_prefix_of_text(src: &[u8], dst: &mut [u16]) -> usize
         }
         unpack::<STRIDE>(src, dst, at);
         at += run;
+    }
+    if at == src.len() {
+        return at;
     }
     at + copy_to_basic_latin(&src[at..], &mut dst[at..])
 }
