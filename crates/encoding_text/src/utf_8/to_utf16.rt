@@ -53,7 +53,7 @@ impl CodeUnit for u16 {
     }
 
     #[tactic(auto, using(crate::proofs::ConvertingLemmas::converts_prefix))]
-    #[inline]
+    #[inline(always)]
     fn convert_up_to_invalid(src: &[u8], dst: &mut [u16]) -> (usize, usize) {
         convert_utf8_to_utf16_up_to_invalid(src, dst)
     }
@@ -165,6 +165,7 @@ fn convert_turns(src: &[u8], dst: &mut [u16]) -> (usize, usize)
 
 /// Converts UTF-8 to UTF-16 up to the first byte that is in no character, or as far as whole characters fit. Returns
 /// how many bytes it read and how many code units it wrote. `dst` may have any length.
+#[inline(always)]
 pub fn convert_utf8_to_utf16_up_to_invalid(src: &[u8], dst: &mut [u16]) -> (usize, usize)
     ensures { ConvertsMaximal encode_utf16 src.now dst.old dst.new result.0 result.1 }
 {
