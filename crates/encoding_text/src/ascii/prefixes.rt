@@ -177,19 +177,15 @@ fn unpack_strides(src: &[u8], dst: &mut [u16]) -> usize
     last + run
 }
 
-/// Copies the longest ASCII prefix, each byte as a UTF-16 code unit, and returns its length. Two vectors copy at most 64
-/// bytes if all are ASCII.
+/// Copies the longest ASCII prefix, each byte as a UTF-16 code unit, and returns its length.
 #[inline(always)]
-fn unpack_fitting(src: &[u8], dst: &mut [u16]) -> usize
+fn unpack_prefix(src: &[u8], dst: &mut [u16]) -> usize
     requires dst_length { length src.now ≤ length dst.old }
     ensures prefix { IsLongestPrefix IsAscii src.now result }
     ensures copied { WritesPrefix dst.old dst.new result (take result src.now) }
 {
     if src.is_empty() || src[0] >= ASCII_END {
         return 0;
-    }
-    if src.len() <= BLOCK && unpack_short(src, dst) {
-        return src.len();
     }
     if src.len() >= STRIDE {
         return unpack_strides(src, dst);
@@ -200,14 +196,27 @@ fn unpack_fitting(src: &[u8], dst: &mut [u16]) -> usize
     }
 }
 
+/// Copies as `unpack_prefix` does. Two vectors copy at most 64 bytes if all are ASCII.
+#[inline(always)]
+fn unpack_fitting(src: &[u8], dst: &mut [u16]) -> usize
+    requires dst_length { length src.now ≤ length dst.old }
+    ensures prefix { IsLongestPrefix IsAscii src.now result }
+    ensures copied { WritesPrefix dst.old dst.new result (take result src.now) }
+{
+    if src.len() <= BLOCK && unpack_short(src, dst) {
+        return src.len();
+    }
+    unpack_prefix(src, dst)
+}
+
 /// Copies the longest ASCII prefix, each byte as a UTF-16 code unit, up to the shorter of the two lengths. Returns its
-/// length. Inline, for a call outside loops.
+/// length. Inline, for a call outside loops on more than 64 bytes.
 #[inline(always)]
 pub(crate) fn copy_to_basic_latin_inline(src: &[u8], dst: &mut [u16]) -> usize
     ensures prefix { IsLongestPrefix IsAscii (take (length dst.old) src.now) result }
     ensures copied { WritesPrefix dst.old dst.new result (take result src.now) }
 {
-    unpack_fitting(&src[..src.len().min(dst.len())], dst)
+    unpack_prefix(&src[..src.len().min(dst.len())], dst)
 }
 
 /// Copies as `copy_to_basic_latin_inline` does. Out of line, so that a loop that calls it needs few registers.
@@ -216,7 +225,7 @@ fn copy_some_to_basic_latin(src: &[u8], dst: &mut [u16]) -> usize
     ensures prefix { IsLongestPrefix IsAscii (take (length dst.old) src.now) result }
     ensures copied { WritesPrefix dst.old dst.new result (take result src.now) }
 {
-    copy_to_basic_latin_inline(src, dst)
+    unpack_fitting(&src[..src.len().min(dst.len())], dst)
 }
 
 /// Copies the longest ASCII prefix, each byte as a UTF-16 code unit, up to the shorter of the two lengths. Returns its

@@ -76,24 +76,41 @@ impl CodeUnit for u8 {
     }
 }
 
-/// Converts 8 to 64 bytes to UTF-16 as `convert_utf8_to_utf16_up_to_invalid` does, if `dst` is at least as long. Two vectors copy
-/// ASCII. Otherwise the longest well-formed prefix is found first, and then converted. Out of line, so that the ASCII of longer
-/// text needs few registers.
+/// Converts a text of at most 64 bytes to UTF-16, and returns how many code units it wrote. Two vectors copy it if it is ASCII.
+#[inline(always)]
+fn convert_short_text(src: &[u8], dst: &mut [u16]) -> usize
+    requires src_length { length src.now ≤ 64 }
+    requires dst_length { length src.now ≤ length dst.old }
+    requires text { IsUtf8 src.now }
+    ensures { WritesPrefix dst.old dst.new result (flat_map encode_utf16 (chars src.now)) }
+{
+    if unpack_short(src, dst) {
+        return src.len();
+    }
+    convert_short(src, dst)
+}
+
+/// Converts at most 64 bytes to UTF-16 as `convert_utf8_to_utf16_up_to_invalid` does, if `dst` is at least as long. Two vectors
+/// copy ASCII. Otherwise the longest well-formed prefix of at least eight bytes is found first, and then converted. Out of line,
+/// so that the ASCII of longer text needs few registers.
 #[inline(never)]
 fn convert_short_prefix(src: &[u8], dst: &mut [u16]) -> (usize, usize)
-    requires src_length { (8 ≤ length src.now) × (length src.now ≤ 64) }
+    requires src_length { length src.now ≤ 64 }
     requires dst_length { length src.now ≤ length dst.old }
     ensures { ConvertsMaximal encode_utf16 src.now dst.old dst.new result.0 result.1 }
 {
     if unpack_short(src, dst) {
         return (src.len(), src.len());
     }
+    if src.len() < HALF_STRIDE {
+        return convert_turns(src, dst);
+    }
     let valid = short_valid_up_to_beyond_ascii(src);
     if valid == src.len() {
         return (valid, convert_short(src, dst));
     }
     // before a malformed sequence there is often only ASCII
-    (valid, convert_text(&src[..valid], dst))
+    (valid, convert_short_text(&src[..valid], dst))
 }
 
 /// Converts a text to UTF-16, and returns how many code units it wrote. A turn takes the ASCII prefix, and then other
@@ -169,7 +186,7 @@ fn convert_turns(src: &[u8], dst: &mut [u16]) -> (usize, usize)
 pub fn convert_utf8_to_utf16_up_to_invalid(src: &[u8], dst: &mut [u16]) -> (usize, usize)
     ensures { ConvertsMaximal encode_utf16 src.now dst.old dst.new result.0 result.1 }
 {
-    if HALF_STRIDE <= src.len() && src.len() <= BLOCK && src.len() <= dst.len() {
+    if src.len() <= BLOCK && src.len() <= dst.len() {
         return convert_short_prefix(src, dst);
     }
     let ascii = copy_to_basic_latin_inline(src, dst);

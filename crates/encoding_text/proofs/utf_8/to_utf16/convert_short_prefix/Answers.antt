@@ -21,6 +21,13 @@ returns-then-unpack_short c =
     let units = ascii_written _ _ _ ascii (c.unpack_short.ensures.copied c.if-unpack_short.true) in
     converts_valid encode_utf16 _ _ _ _ _ (whole_text src ascii) (of_prefix _ _ _ _ _ (take_all (length src) src (omega arith)) units)
 
+pub returns-then-src-lt-HALF_STRIDE : goal.returns-then-src-lt-HALF_STRIDE
+returns-then-src-lt-HALF_STRIDE c =
+    let same = c.unpack_short.ensures.unchanged c.if-unpack_short.false in
+    subst
+    (λ old. ConvertsMaximal encode_utf16 c.args.src.now old c.convert_turns.new.dst c.convert_turns.result.0 c.convert_turns.result.1) same
+    c.convert_turns.ensures
+
 pub convert_short-requires-clause-text : goal.convert_short-requires-clause-text
 convert_short-requires-clause-text c =
     let src = c.args.src.now in
@@ -36,13 +43,13 @@ returns-then-valid-src c =
     subst (λ old. ConvertsMaximal encode_utf16 src old c.convert_short.new.dst found.result c.convert_short.result) same
     (converts_valid encode_utf16 _ _ _ _ _ found.ensures units)
 
-pub convert_text-requires-clause-text : goal.convert_text-requires-clause-text
-convert_text-requires-clause-text c = c.short_valid_up_to_beyond_ascii-valid.ensures.kind
+pub convert_short_text-requires-clause-text : goal.convert_short_text-requires-clause-text
+convert_short_text-requires-clause-text c = c.short_valid_up_to_beyond_ascii-valid.ensures.kind
 
 pub returns : goal.returns
 returns c =
     let same = c.unpack_short.ensures.unchanged c.if-unpack_short.false in
-    let all = converts_valid encode_utf16 _ _ _ _ _ c.short_valid_up_to_beyond_ascii-valid.ensures c.convert_text.ensures in
+    let all = converts_valid encode_utf16 _ _ _ _ _ c.short_valid_up_to_beyond_ascii-valid.ensures c.convert_short_text.ensures in
     subst
-    (λ old. ConvertsMaximal encode_utf16 c.args.src.now old c.convert_text.new.dst c.short_valid_up_to_beyond_ascii-valid.result
-    c.convert_text.result) same all
+    (λ old. ConvertsMaximal encode_utf16 c.args.src.now old c.convert_short_text.new.dst c.short_valid_up_to_beyond_ascii-valid.result
+    c.convert_short_text.result) same all
