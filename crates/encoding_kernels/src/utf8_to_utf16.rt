@@ -1,5 +1,6 @@
 //! The UTF-16 of well-formed UTF-8.
 
+mod block;
 pub(crate) mod code_units;
 pub mod convert;
 mod groups;

@@ -8,8 +8,8 @@ ghost use Rattle.encoding_kernels.specs.Scans.{AllBelow, BelowBetween, BelowUpTo
 use crate::simd::copy::unpack;
 use crate::simd::scan::are_bytes_below;
 use crate::simd::width::{ASCII_END, BLOCK, HALF_BLOCK, STRIDE};
+use crate::utf8_to_utf16::block::{write_block, write_character, write_some};
 use crate::utf8_to_utf16::code_units::{is_below, unit_ends};
-use crate::utf8_to_utf16::convert::{write_block, write_character, write_some};
 use crate::utf8_to_utf16::groups::{
     FOUR_BYTES, GROUP_OF_TEXT, TRIPLES, UNITS, begins_four_bytes, begins_triples,
     greatest_after_stride, group_end, leading_triples, write_group, write_some_triples,
@@ -21,12 +21,6 @@ use std::simd::prelude::*;
 #[inline(always)]
 fn begins_ascii(src: &[u8]) -> bool {
     !src.is_empty() && src[0] < ASCII_END
-}
-
-/// Returns whether the text begins with 64 bytes of ASCII.
-#[inline(always)]
-fn begins_ascii_block(src: &[u8]) -> bool {
-    src.len() >= BLOCK && are_bytes_below::<BLOCK>(src, 0, ASCII_END)
 }
 
 /// Writes the UTF-16 of a first block as `write_some` does. Out of line, since few texts need it.
@@ -82,19 +76,20 @@ fn write_before_ascii(src: &[u8], dst: &mut [u16]) -> usize
     written + 48
 }
 
-/// Writes the UTF-16 of the first `count` characters, of three bytes each, and of the one after them. Returns how many bytes it
+/// Writes the UTF-16 of the first `count` characters, of three bytes each, and of a block after them. Returns how many bytes it
 /// read and how many code units it wrote. Units that the rest of the text overwrites may have changed too.
 #[inline(always)]
-fn write_triples_and_next(src: &[u8], count: usize, dst: &mut [u16]) -> (usize, usize)
+fn write_triples_and_block(src: &[u8], count: usize, dst: &mut [u16]) -> (usize, usize)
     requires dst_length { (88 ≤ length src.now) × (length src.now ≤ length dst.old) }
     requires text { IsUtf8 src.now }
     requires triples { (count ≤ 8)
         × ((k : ℕ) → k < count → BeginsThree (slice_index src.now (3 * k))) }
-    ensures { WritesUtf16 src.now dst.old dst.new result.0 result.1 (units_in src.now) }
+    ensures progress { 0 < result.0 }
+    ensures written { WritesUtf16 src.now dst.old dst.new result.0 result.1 (units_in src.now) }
 {
     write_some_triples(src, count, dst);
     let read = 3 * count;
-    let (bytes, units) = write_character(&src[read..], &mut dst[count..]);
+    let (bytes, units) = write_some(&src[read..], &mut dst[count..]);
     (read + bytes, count + units)
 }
 
@@ -113,56 +108,62 @@ fn write_group_before<const N: usize>(src: &[u8], end: usize, dst: &mut [u16]) -
 }
 
 /// Writes the UTF-16 of the first characters of a text, given the end of the last whole one in its first 64 bytes: of those up
-/// to that end, or of fewer. If characters of three bytes come first, one of four is next, and the last 32 bytes have no more
-/// of four, only those are written. Returns how many bytes it read and how many code units it wrote. Units that the rest of
-/// the text overwrites may have changed too. Out of line, since few texts have characters of four bytes.
+/// to that end, or of fewer. If characters of three bytes come first, one of four begins in the block after them, and the last
+/// 32 bytes have no more of four, only those and the block are written. Returns how many bytes it read and how many code units
+/// it wrote. Units that the rest of the text overwrites may have changed too. Out of line, since few texts have characters of
+/// four bytes.
 #[inline(never)]
 fn write_with_pairs(src: &[u8], end: usize, dst: &mut [u16]) -> (usize, usize)
     requires dst_length { (88 ≤ length src.now) × (length src.now ≤ length dst.old) }
     requires text { IsUtf8 src.now }
-    requires end { (end ≤ 64) × IsCharBoundary src.now end }
+    requires end { (0 < end) × (end ≤ 64) × IsCharBoundary src.now end }
     requires cut { NoUnitEnds src.now end 64 }
-    ensures { WritesUtf16 src.now dst.old dst.new result.0 result.1 (units_in src.now) }
+    ensures progress { 0 < result.0 }
+    ensures written { WritesUtf16 src.now dst.old dst.new result.0 result.1 (units_in src.now) }
 {
     if src[0] & 0xF0 == 0xE0 && are_bytes_below::<HALF_BLOCK>(src, HALF_BLOCK, FOUR_BYTES) {
         let count = leading_triples(src);
-        if src[3 * count] >= FOUR_BYTES {
-            return write_triples_and_next(src, count, dst);
+        if !are_bytes_below::<STRIDE>(src, 3 * count, FOUR_BYTES) {
+            return write_triples_and_block(src, count, dst);
         }
     }
     (end, write_group_before::<4>(src, end, dst))
 }
 
 /// Writes the UTF-16 of the first characters of a text: of eight of three bytes each, or of those that end in the first 64
-/// bytes, or of fewer. Returns how many bytes it read and how many code units it wrote. Both are zero if a character of four
-/// bytes ends with the byte after the first 64. Units that the rest of the text overwrites may have changed too.
+/// bytes, or of fewer: of a block if a character of four bytes ends with the byte after the first 64. Returns how many bytes it
+/// read, how many code units it wrote, and whether the last 48 bytes are ASCII. Units that the rest of the text overwrites may
+/// have changed too.
 #[inline(always)]
-fn convert_group(src: &[u8], dst: &mut [u16]) -> (usize, usize)
+fn convert_group(src: &[u8], dst: &mut [u16]) -> (usize, usize, bool)
     requires dst_length { (88 ≤ length src.now) × (length src.now ≤ length dst.old) }
     requires text { IsUtf8 src.now }
-    ensures { WritesUtf16 src.now dst.old dst.new result.0 result.1 (units_in src.now) }
+    ensures progress { 0 < result.0 }
+    ensures written { WritesUtf16 src.now dst.old dst.new result.0 result.1 (units_in src.now) }
 {
     if begins_triples(src) {
         write_triples(src, dst);
-        return (TRIPLES, UNITS);
+        return (TRIPLES, UNITS, false);
     }
     let end = group_end(src);
     if end == 0 {
-        return (0, 0);
+        let (bytes, units) = write_block_of_pairs(src, dst);
+        return (bytes, units, false);
     }
     let rest = greatest_after_stride(src);
     if is_below(rest, ASCII_END) {
-        return (end, write_before_ascii(src, dst));
+        return (end, write_before_ascii(src, dst), true);
     }
     if begins_four_bytes(src, rest) {
-        return write_with_pairs(src, end, dst);
+        let (bytes, units) = write_with_pairs(src, end, dst);
+        return (bytes, units, false);
     }
-    (end, write_group_before::<3>(src, end, dst))
+    (end, write_group_before::<3>(src, end, dst), false)
 }
 
-/// Writes the UTF-16 of a text by groups of 64 bytes, until 64 bytes are ASCII or at most 87 are left. It also ends at a group
-/// that cuts a character of four bytes after its third byte. Returns how many bytes it read and how many code units it
-/// wrote. Units that the rest of the text overwrites may have changed too. Out of line, since it needs many registers.
+/// Writes the UTF-16 of a text by groups of 64 bytes, until the last 48 of one are ASCII or at most 87 bytes are left. Returns
+/// how many bytes it read and how many code units it wrote. Units that the rest of the text overwrites may have changed too.
+/// Out of line, since it needs many registers.
 ///
 /// Emoji often end a sentence: a block takes them, and a group if what follows isn't ASCII.
 #[inline(never)]
@@ -176,10 +177,10 @@ pub(super) fn convert_groups(src: &[u8], dst: &mut [u16]) -> (usize, usize)
         return (read, written);
     }
     while src.len() - read >= GROUP_OF_TEXT {
-        let (bytes, units) = convert_group(&src[read..], &mut dst[written..]);
+        let (bytes, units, before_ascii) = convert_group(&src[read..], &mut dst[written..]);
         read += bytes;
         written += units;
-        if bytes == 0 || (bytes > TRIPLES && begins_ascii_block(&src[read..])) {
+        if before_ascii {
             return (read, written);
         }
     }

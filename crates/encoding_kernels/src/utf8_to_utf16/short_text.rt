@@ -15,10 +15,10 @@ ghost use Rattle.encoding_kernels.specs.EndingUnits.{StoresUnits, WritesCompress
 
 use crate::simd::short::are_short_below;
 use crate::simd::width::STRIDE;
+use crate::utf8_to_utf16::block::{write_few, write_some, write_tail};
 use crate::utf8_to_utf16::code_units::{
     ends_of_stride, kept_from, units_of_stride, write_compressed_exact,
 };
-use crate::utf8_to_utf16::convert::{write_few, write_some, write_tail};
 use crate::utf8_to_utf16::groups::{
     FOUR_BYTES, TRIPLES, UNITS, begins_triples, bytes_before, bytes_before_first, write_triples,
 };

@@ -9,11 +9,13 @@ ghost use Rattle.encoding_kernels.specs.Scans.{BelowUpTo, IsRunBelow};
 
 use super::{ascii_to_ascii, ascii_to_basic_latin, ascii_valid_up_to};
 use encoding_kernels::simd::copy::{copy_run, unpack, unpack_block, unpack_run};
-use encoding_kernels::simd::scan::{are_bytes_below, run_len_below};
+use encoding_kernels::simd::scan::{are_bytes_below, are_four_blocks_below, run_len_below};
 use encoding_kernels::simd::short::{
     copy_short_ascii, is_short_ascii, pack_short_ascii, unpack_short_ascii,
 };
-use encoding_kernels::simd::width::{ASCII_END, BLOCK, HALF_BLOCK, STRIDE, TWO_BLOCKS, UNIT_BLOCK};
+use encoding_kernels::simd::width::{
+    ASCII_END, BLOCK, FOUR_BLOCKS, HALF_BLOCK, STRIDE, TWO_BLOCKS, UNIT_BLOCK,
+};
 
 /// Returns whether at most 128 bytes are ASCII.
 #[inline(always)]
@@ -180,6 +182,24 @@ pub(crate) fn pack_short(src: &[u16], dst: &mut [u8]) -> bool
     src.len() <= UNIT_BLOCK && src.len() <= dst.len() && pack_short_ascii(src, dst)
 }
 
+/// Copies at most 64 bytes, each as a UTF-16 code unit, if they are ASCII. Returns whether they are.
+#[inline(always)]
+pub(crate) fn unpack_short(src: &[u8], dst: &mut [u16]) -> bool
+    requires src_length { length src.now ≤ 64 }
+    requires dst_length { length src.now ≤ length dst.old }
+    ensures ascii { IsTrue result ↔ IsAscii src.now }
+    ensures copied { IsTrue result → WritesPrefix dst.old dst.new (length src.now) src.now }
+    ensures unchanged { IsFalse result → dst.new ≡ dst.old }
+{
+    unpack_short_ascii(src, dst)
+}
+
+/// Returns whether 256 bytes of ASCII follow the first four bytes.
+#[inline(always)]
+pub(crate) fn precedes_ascii(bytes: &[u8]) -> bool {
+    bytes.len() >= 4 + FOUR_BLOCKS && are_four_blocks_below(&bytes[4..4 + FOUR_BLOCKS], ASCII_END)
+}
+
 /// Copies the longest ASCII prefix of at least sixteen bytes, each byte as a UTF-16 code unit, and returns its length. The
 /// last stride may overlap the one before it, so no byte is left to a loop.
 #[inline(always)]
@@ -193,25 +213,24 @@ fn unpack_strides(src: &[u8], dst: &mut [u16]) -> usize
     if let Some((_, place)) = ascii_to_basic_latin(&src[..whole], dst) {
         return place;
     }
+    if whole == src.len() {
+        return whole;
+    }
     let last = src.len() - STRIDE;
     let run = run_len_below::<STRIDE>(src, last, ASCII_END);
     unpack_run(src, dst, last, run);
     last + run
 }
 
-/// Copies the longest ASCII prefix, each byte as a UTF-16 code unit, and returns its length. Two vectors copy at most 64
-/// bytes if all are ASCII.
+/// Copies the longest ASCII prefix, each byte as a UTF-16 code unit, and returns its length.
 #[inline(always)]
-fn unpack_fitting(src: &[u8], dst: &mut [u16]) -> usize
+fn unpack_prefix(src: &[u8], dst: &mut [u16]) -> usize
     requires dst_length { length src.now ≤ length dst.old }
     ensures prefix { IsLongestPrefix IsAscii src.now result }
     ensures copied { WritesPrefix dst.old dst.new result (take result src.now) }
 {
     if src.is_empty() || src[0] >= ASCII_END {
         return 0;
-    }
-    if src.len() <= BLOCK && unpack_short_ascii(src, dst) {
-        return src.len();
     }
     if src.len() >= STRIDE {
         return unpack_strides(src, dst);
@@ -222,14 +241,27 @@ fn unpack_fitting(src: &[u8], dst: &mut [u16]) -> usize
     }
 }
 
+/// Copies as `unpack_prefix` does. Two vectors copy at most 64 bytes if all are ASCII.
+#[inline(always)]
+fn unpack_fitting(src: &[u8], dst: &mut [u16]) -> usize
+    requires dst_length { length src.now ≤ length dst.old }
+    ensures prefix { IsLongestPrefix IsAscii src.now result }
+    ensures copied { WritesPrefix dst.old dst.new result (take result src.now) }
+{
+    if src.len() <= BLOCK && unpack_short(src, dst) {
+        return src.len();
+    }
+    unpack_prefix(src, dst)
+}
+
 /// Copies the longest ASCII prefix, each byte as a UTF-16 code unit, up to the shorter of the two lengths. Returns its
-/// length. Inline, for a call outside loops.
+/// length. Inline, for a call outside loops on more than 64 bytes.
 #[inline(always)]
 pub(crate) fn copy_to_basic_latin_inline(src: &[u8], dst: &mut [u16]) -> usize
     ensures prefix { IsLongestPrefix IsAscii (take (length dst.old) src.now) result }
     ensures copied { WritesPrefix dst.old dst.new result (take result src.now) }
 {
-    unpack_fitting(&src[..src.len().min(dst.len())], dst)
+    unpack_prefix(&src[..src.len().min(dst.len())], dst)
 }
 
 /// Copies as `copy_to_basic_latin_inline` does. Out of line, so that a loop that calls it needs few registers.
@@ -238,7 +270,7 @@ fn copy_some_to_basic_latin(src: &[u8], dst: &mut [u16]) -> usize
     ensures prefix { IsLongestPrefix IsAscii (take (length dst.old) src.now) result }
     ensures copied { WritesPrefix dst.old dst.new result (take result src.now) }
 {
-    copy_to_basic_latin_inline(src, dst)
+    unpack_fitting(&src[..src.len().min(dst.len())], dst)
 }
 
 /// Copies the longest ASCII prefix, each byte as a UTF-16 code unit, up to the shorter of the two lengths. Returns its
@@ -300,6 +332,9 @@ pub(crate) fn copy_prefix_of_text(src: &[u8], dst: &mut [u16]) -> usize
         }
         unpack::<STRIDE>(src, dst, at);
         at += run;
+    }
+    if at == src.len() {
+        return at;
     }
     at + copy_to_basic_latin(&src[at..], &mut dst[at..])
 }

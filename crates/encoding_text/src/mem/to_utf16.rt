@@ -8,10 +8,11 @@ ghost use Rattle.encoding_definitions.specs.Parts.{Part, ArePartsOf, lossy_utf16
 ghost use Rattle.encoding_definitions.specs.Prefixes.{WritesPrefix};
 ghost use Rattle.encoding_definitions.specs.Converting.{WritesText};
 
-use crate::ascii::prefixes::{BLOCK_OF_TEXT, copy_to_basic_latin_inline};
+use crate::ascii::prefixes::{BLOCK_OF_TEXT, copy_to_basic_latin_inline, unpack_short};
 use crate::decoder::{DecoderResult, Utf8Decoder};
-use crate::utf_8::{convert_short_text, convert_text, convert_utf8_to_utf16_up_to_invalid};
+use crate::utf_8::{convert_text, convert_utf8_to_utf16_up_to_invalid};
 use encoding_kernels::simd::width::{ASCII_END, BLOCK};
+use encoding_kernels::utf8_to_utf16::short_text::convert_short;
 
 /// Converts bytes to UTF-16, with U+FFFD for each malformed sequence, and returns how many code units it wrote.
 /// Encoding Standard, UTF-8 decode without BOM.
@@ -44,6 +45,26 @@ pub fn convert_utf8_to_utf16(src: &[u8], dst: &mut [u16]) -> usize
     }
 }
 
+/// Converts a text of more than 64 bytes to UTF-16, and returns how many code units it wrote. Out of line, so that a short text
+/// needs few registers.
+#[inline(never)]
+fn convert_long_text(src: &[u8], dst: &mut [u16]) -> usize
+    requires src_length { 64 < length src.now }
+    requires dst_length { length src.now ≤ length dst.old }
+    requires text { IsUtf8 src.now }
+    ensures { WritesPrefix dst.old dst.new result (flat_map encode_utf16 (chars src.now)) }
+{
+    // inline, the ASCII at the start of fewer than three blocks costs less than half
+    if src.len() >= BLOCK_OF_TEXT || src[0] >= ASCII_END {
+        return convert_text(src, dst);
+    }
+    let ascii = copy_to_basic_latin_inline(src, dst);
+    if ascii == src.len() {
+        return ascii;
+    }
+    ascii + convert_text(&src[ascii..], &mut dst[ascii..])
+}
+
 /// Converts a text to UTF-16, and returns how many code units it wrote.
 ///
 /// `dst` has at least as many code units as `src` has bytes.
@@ -52,18 +73,13 @@ pub fn convert_str_to_utf16(src: &str, dst: &mut [u16]) -> usize
     ensures { WritesPrefix dst.old dst.new result (flat_map encode_utf16 (chars src.now)) }
 {
     let bytes = src.as_bytes();
-    if bytes.len() <= BLOCK {
-        return convert_short_text(bytes, dst);
+    if bytes.len() > BLOCK {
+        return convert_long_text(bytes, dst);
     }
-    // inline, the ASCII at the start of fewer than three blocks costs less than half
-    if bytes[0] >= ASCII_END || bytes.len() >= BLOCK_OF_TEXT {
-        return convert_text(bytes, dst);
+    if unpack_short(bytes, dst) {
+        return bytes.len();
     }
-    let ascii = copy_to_basic_latin_inline(bytes, dst);
-    if ascii == bytes.len() {
-        return ascii;
-    }
-    ascii + convert_text(&bytes[ascii..], &mut dst[ascii..])
+    convert_short(bytes, dst)
 }
 
 /// Converts bytes to UTF-16. Returns how many code units it wrote if the bytes are well-formed, and otherwise `None`.

@@ -13,11 +13,11 @@ use super::validation::{
     valid_up_to,
 };
 use crate::ascii::prefixes::{
-    copy_prefix_of_text, copy_to_basic_latin, copy_to_basic_latin_inline,
+    copy_prefix_of_text, copy_to_basic_latin, copy_to_basic_latin_inline, precedes_ascii,
+    unpack_short,
 };
 use encoding_kernels::scalar::{decode_utf8_scalar, write_utf16};
 use encoding_kernels::simd::copy::copy_prefix;
-use encoding_kernels::simd::short::unpack_short_ascii;
 use encoding_kernels::simd::width::{ASCII_END, BLOCK, HALF_STRIDE};
 use encoding_kernels::tuning::CONVERTED_PIECE;
 use encoding_kernels::utf8_to_utf16::convert::convert_valid_utf8_to_utf16;
@@ -53,7 +53,7 @@ impl CodeUnit for u16 {
     }
 
     #[tactic(auto, using(crate::proofs::ConvertingLemmas::converts_prefix))]
-    #[inline]
+    #[inline(always)]
     fn convert_up_to_invalid(src: &[u8], dst: &mut [u16]) -> (usize, usize) {
         convert_utf8_to_utf16_up_to_invalid(src, dst)
     }
@@ -78,28 +78,32 @@ impl CodeUnit for u8 {
 
 /// Converts a text of at most 64 bytes to UTF-16, and returns how many code units it wrote. Two vectors copy it if it is ASCII.
 #[inline(always)]
-pub(crate) fn convert_short_text(src: &[u8], dst: &mut [u16]) -> usize
+fn convert_short_text(src: &[u8], dst: &mut [u16]) -> usize
     requires src_length { length src.now ≤ 64 }
     requires dst_length { length src.now ≤ length dst.old }
     requires text { IsUtf8 src.now }
     ensures { WritesPrefix dst.old dst.new result (flat_map encode_utf16 (chars src.now)) }
 {
-    if unpack_short_ascii(src, dst) {
+    if unpack_short(src, dst) {
         return src.len();
     }
     convert_short(src, dst)
 }
 
-/// Converts 8 to 64 bytes to UTF-16 as `convert_utf8_to_utf16_up_to_invalid` does, if `dst` is at least as long. Two vectors copy
-/// ASCII. Otherwise the longest well-formed prefix is found first, and then converted without a turn.
-#[inline(always)]
+/// Converts at most 64 bytes to UTF-16 as `convert_utf8_to_utf16_up_to_invalid` does, if `dst` is at least as long. Two vectors
+/// copy ASCII. Otherwise the longest well-formed prefix of at least eight bytes is found first, and then converted. Out of line,
+/// so that the ASCII of longer text needs few registers.
+#[inline(never)]
 fn convert_short_prefix(src: &[u8], dst: &mut [u16]) -> (usize, usize)
-    requires src_length { (8 ≤ length src.now) × (length src.now ≤ 64) }
+    requires src_length { length src.now ≤ 64 }
     requires dst_length { length src.now ≤ length dst.old }
     ensures { ConvertsMaximal encode_utf16 src.now dst.old dst.new result.0 result.1 }
 {
-    if unpack_short_ascii(src, dst) {
+    if unpack_short(src, dst) {
         return (src.len(), src.len());
+    }
+    if src.len() < HALF_STRIDE {
+        return convert_turns(src, dst);
     }
     let valid = short_valid_up_to_beyond_ascii(src);
     if valid == src.len() {
@@ -132,11 +136,24 @@ pub(crate) fn convert_text(src: &[u8], dst: &mut [u16]) -> usize
     }
 }
 
+/// Returns how many bytes are validated before they are converted: none if the first character precedes a long run of ASCII, and
+/// otherwise as many as are there, and as surely fit into `room` code units, up to a limit.
+#[inline(always)]
+fn piece_length(src: &[u8], room: usize) -> usize
+    ensures { (result ≤ length src.now) × (result ≤ room) }
+{
+    if precedes_ascii(src) {
+        return 0;
+    }
+    src.len().min(room).min(CONVERTED_PIECE)
+}
+
 /// Converts UTF-8 to UTF-16 as `convert_utf8_to_utf16_up_to_invalid` does. Out of line, so that the ASCII before other
 /// text needs few registers.
 ///
 /// A turn takes the ASCII prefix, then a well-formed piece that is short enough for its UTF-16 to fit, then one
-/// character. The test for ASCII is its validation, so the ASCII before a piece is read once.
+/// character. The test for ASCII is its validation, so the ASCII before a piece is read once. A character before a long run of
+/// ASCII is no piece, since the run would be read twice.
 #[inline(never)]
 fn convert_turns(src: &[u8], dst: &mut [u16]) -> (usize, usize)
     ensures { ConvertsMaximal encode_utf16 src.now dst.old dst.new result.0 result.1 }
@@ -147,9 +164,7 @@ fn convert_turns(src: &[u8], dst: &mut [u16]) -> (usize, usize)
         let ascii = copy_to_basic_latin(&src[read..], &mut dst[written..]);
         read += ascii;
         written += ascii;
-        let room = (src.len() - read)
-            .min(dst.len() - written)
-            .min(CONVERTED_PIECE);
+        let room = piece_length(&src[read..], dst.len() - written);
         let valid = utf8_valid_up_to(&src[read..read + room]);
         written += convert_text(&src[read..read + valid], &mut dst[written..]);
         read += valid;
@@ -165,11 +180,15 @@ fn convert_turns(src: &[u8], dst: &mut [u16]) -> (usize, usize)
     }
 }
 
-/// Converts UTF-8 to UTF-16 as `convert_utf8_to_utf16_up_to_invalid` does: the ASCII prefix, and what follows it by turns.
+/// Converts UTF-8 to UTF-16 up to the first byte that is in no character, or as far as whole characters fit. Returns
+/// how many bytes it read and how many code units it wrote. `dst` may have any length.
 #[inline(always)]
-fn convert_after_ascii(src: &[u8], dst: &mut [u16]) -> (usize, usize)
+pub fn convert_utf8_to_utf16_up_to_invalid(src: &[u8], dst: &mut [u16]) -> (usize, usize)
     ensures { ConvertsMaximal encode_utf16 src.now dst.old dst.new result.0 result.1 }
 {
+    if src.len() <= BLOCK && src.len() <= dst.len() {
+        return convert_short_prefix(src, dst);
+    }
     let ascii = copy_to_basic_latin_inline(src, dst);
     if ascii == src.len() {
         return (ascii, ascii);
@@ -180,17 +199,6 @@ fn convert_after_ascii(src: &[u8], dst: &mut [u16]) -> (usize, usize)
     }
     let (read, written) = convert_turns(&src[ascii..], &mut dst[ascii..]);
     (ascii + read, ascii + written)
-}
-
-/// Converts UTF-8 to UTF-16 up to the first byte that is in no character, or as far as whole characters fit. Returns
-/// how many bytes it read and how many code units it wrote. `dst` may have any length.
-pub fn convert_utf8_to_utf16_up_to_invalid(src: &[u8], dst: &mut [u16]) -> (usize, usize)
-    ensures { ConvertsMaximal encode_utf16 src.now dst.old dst.new result.0 result.1 }
-{
-    if HALF_STRIDE <= src.len() && src.len() <= BLOCK && src.len() <= dst.len() {
-        return convert_short_prefix(src, dst);
-    }
-    convert_after_ascii(src, dst)
 }
 
 /// Copies UTF-8 up to the first byte that is in no character, or as far as whole characters fit. Returns how many bytes

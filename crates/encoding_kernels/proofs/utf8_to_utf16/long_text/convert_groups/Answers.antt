@@ -8,10 +8,10 @@ loop-read-init c = putting_first _ _ _ _ _ c.requires.text c.write_first_pairs-r
 
 pub loop-read-preserved : goal.loop-read-preserved
 loop-read-preserved c =
-    let puts = rw (take_rest c.args.src.now c.loop-read.read) at c.convert_group-bytes.ensures in
+    let puts = rw (take_rest c.args.src.now c.loop-read.read) at c.convert_group-bytes.ensures.written in
     putting_more _ _ _ _ _ _ _ _ (omega arith) c.loop-read.invariant puts
 
-pub returns-then-bytes-eq0 : goal.returns-then-bytes-eq0
-returns-then-bytes-eq0 c =
-    let puts = rw (take_rest c.args.src.now c.loop-read.read) at c.convert_group-bytes.ensures in
+pub returns-then-before_ascii : goal.returns-then-before_ascii
+returns-then-before_ascii c =
+    let puts = rw (take_rest c.args.src.now c.loop-read.read) at c.convert_group-bytes.ensures.written in
     putting_some (putting_more _ _ _ _ _ _ _ _ (omega arith) c.loop-read.invariant puts)

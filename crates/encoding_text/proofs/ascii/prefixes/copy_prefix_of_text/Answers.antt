@@ -37,6 +37,9 @@ loop-at-2-preserved c =
     unpacked_part _ _ _ _ _ _ _ c.requires.text (omega arith)
     (inl (omega arith)) c.requires.dst_length c.loop-at-2.invariant c.run_len_below-run-in-loop-at-2.ensures c.unpack-in-loop-at-2.ensures
 
+pub returns-then-at-src : goal.returns-then-at-src
+returns-then-at-src c = unpacked_prefix _ _ _ _ c.requires.text c.loop-at-2.invariant
+
 -- an exact ASCII prefix more
 ascii_after : (src old new sub : List ℕ) (read written n : ℕ) → written ≤ length new → Putting src old new read written
     → IsLongestPrefix IsAscii (take (length (take (length new - written) (drop written new))) (take (length src - read) (drop read src))) n

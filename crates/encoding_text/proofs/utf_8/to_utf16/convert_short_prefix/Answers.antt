@@ -14,12 +14,19 @@ of_prefix : (src old new : List ℕ) (n written : ℕ) → take n src ≡ src �
     → WritesPrefix old new written (flat_map encode_utf16 (chars (take n src)))
 of_prefix src old new n written all = subst (λ xs. WritesPrefix old new written (flat_map encode_utf16 (chars xs))) (sym all)
 
-pub returns-then-unpack_short_ascii : goal.returns-then-unpack_short_ascii
-returns-then-unpack_short_ascii c =
+pub returns-then-unpack_short : goal.returns-then-unpack_short
+returns-then-unpack_short c =
     let src = c.args.src.now in
-    let ascii = c.unpack_short_ascii.ensures.ascii.0 c.if-unpack_short_ascii.true in
-    let units = ascii_written _ _ _ ascii (c.unpack_short_ascii.ensures.copied c.if-unpack_short_ascii.true) in
+    let ascii = c.unpack_short.ensures.ascii.0 c.if-unpack_short.true in
+    let units = ascii_written _ _ _ ascii (c.unpack_short.ensures.copied c.if-unpack_short.true) in
     converts_valid encode_utf16 _ _ _ _ _ (whole_text src ascii) (of_prefix _ _ _ _ _ (take_all (length src) src (omega arith)) units)
+
+pub returns-then-src-lt-HALF_STRIDE : goal.returns-then-src-lt-HALF_STRIDE
+returns-then-src-lt-HALF_STRIDE c =
+    let same = c.unpack_short.ensures.unchanged c.if-unpack_short.false in
+    subst
+    (λ old. ConvertsMaximal encode_utf16 c.args.src.now old c.convert_turns.new.dst c.convert_turns.result.0 c.convert_turns.result.1) same
+    c.convert_turns.ensures
 
 pub convert_short-requires-clause-text : goal.convert_short-requires-clause-text
 convert_short-requires-clause-text c =
@@ -31,7 +38,7 @@ pub returns-then-valid-src : goal.returns-then-valid-src
 returns-then-valid-src c =
     let src = c.args.src.now in
     let found = c.short_valid_up_to_beyond_ascii-valid in
-    let same = c.unpack_short_ascii.ensures.unchanged c.if-unpack_short_ascii.false in
+    let same = c.unpack_short.ensures.unchanged c.if-unpack_short.false in
     let units = of_prefix _ _ _ _ _ (take_all found.result src (omega arith)) c.convert_short.ensures in
     subst (λ old. ConvertsMaximal encode_utf16 src old c.convert_short.new.dst found.result c.convert_short.result) same
     (converts_valid encode_utf16 _ _ _ _ _ found.ensures units)
@@ -41,7 +48,7 @@ convert_short_text-requires-clause-text c = c.short_valid_up_to_beyond_ascii-val
 
 pub returns : goal.returns
 returns c =
-    let same = c.unpack_short_ascii.ensures.unchanged c.if-unpack_short_ascii.false in
+    let same = c.unpack_short.ensures.unchanged c.if-unpack_short.false in
     let all = converts_valid encode_utf16 _ _ _ _ _ c.short_valid_up_to_beyond_ascii-valid.ensures c.convert_short_text.ensures in
     subst
     (λ old. ConvertsMaximal encode_utf16 c.args.src.now old c.convert_short_text.new.dst c.short_valid_up_to_beyond_ascii-valid.result

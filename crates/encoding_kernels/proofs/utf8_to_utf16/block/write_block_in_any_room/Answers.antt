@@ -3,7 +3,7 @@ use Rattle.encoding_kernels.specs.EndingUnits.{WritesUtf16}
 use Rattle.encoding_kernels.proofs.Utf8ToUtf16LoopLemmas.{puts_few, puts_long, puts_single}
 use Rattle.encoding_kernels.proofs.CompressLemmas.{sixteen_small}
 use Rattle.encoding_kernels.proofs.Utf8ToUtf16Lemmas.{marks_long, puts_block}
-use Rattle.encoding_kernels.proofs.utf8_to_utf16.convert.write_block_in_any_room.Goals as goal
+use Rattle.encoding_kernels.proofs.utf8_to_utf16.block.write_block_in_any_room.Goals as goal
 
 pub write_compressed_exact-requires : goal.write_compressed_exact-requires
 write_compressed_exact-requires c =

@@ -3,7 +3,7 @@ use Rattle.std.specs.Str.{IsUtf8, IsCharBoundary}
 use Rattle.std.proofs.lemmas.List.{take_at}
 use Rattle.std.proofs.lemmas.Str.{IsUtf8-append, IsCharBoundary-at_seam}
 use Rattle.encoding_kernels.proofs.Utf8ToUtf16LoopLemmas.{puts_whole, zeros_text}
-use Rattle.encoding_kernels.proofs.utf8_to_utf16.convert.write_tail.Goals as goal
+use Rattle.encoding_kernels.proofs.utf8_to_utf16.block.write_tail.Goals as goal
 
 pub write_block_in_any_room-requires-clause-text : goal.write_block_in_any_room-requires-clause-text
 write_block_in_any_room-requires-clause-text c =

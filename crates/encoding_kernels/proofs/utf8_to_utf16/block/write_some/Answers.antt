@@ -1,7 +1,7 @@
 use Rattle.std.proofs.Common.{◌/◌, ◌^◌, refl}
 use Rattle.std.specs.Int.RustNames.{count_ones}
 use Rattle.encoding_kernels.proofs.Utf8ToUtf16LoopLemmas.{due_block, due_exact}
-use Rattle.encoding_kernels.proofs.utf8_to_utf16.convert.write_some.Goals as goal
+use Rattle.encoding_kernels.proofs.utf8_to_utf16.block.write_some.Goals as goal
 
 pub returns-then-end-eq0-clause-written : goal.returns-then-end-eq0-clause-written
 returns-then-end-eq0-clause-written c = due_exact c.args.src.now c.args.dst.now c.write_character.new.dst _ _ c.requires.text c.write_character.ensures.written

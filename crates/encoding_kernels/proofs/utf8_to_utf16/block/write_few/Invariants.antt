@@ -1,6 +1,6 @@
 use Rattle.std.proofs.Common.{◌-◌, length}
 use Rattle.encoding_kernels.proofs.Utf8ToUtf16LoopLemmas.{Putting}
-use Rattle.encoding_kernels.proofs.utf8_to_utf16.convert.write_few.Given as goal
+use Rattle.encoding_kernels.proofs.utf8_to_utf16.block.write_few.Given as goal
 
 abbrev pub invariant-loop-read : goal.invariant-loop-read
 invariant-loop-read l = Putting l.src l.initial.dst l.dst l.read l.written

@@ -1,6 +1,6 @@
 use Rattle.encoding_kernels.proofs.CompressLemmas.{sixteen_small}
 use Rattle.encoding_kernels.proofs.Utf8ToUtf16Lemmas.{marks_long, puts_block}
-use Rattle.encoding_kernels.proofs.utf8_to_utf16.convert.write_block.Goals as goal
+use Rattle.encoding_kernels.proofs.utf8_to_utf16.block.write_block.Goals as goal
 
 pub write_compressed-requires : goal.write_compressed-requires
 write_compressed-requires c = (

@@ -1,7 +1,7 @@
 use Rattle.std.proofs.Common.{arith, drop}
 use Rattle.std.proofs.lemmas.List.{take_rest}
 use Rattle.encoding_kernels.proofs.Utf8ToUtf16LoopLemmas.{due_exact, putting_more, putting_all}
-use Rattle.encoding_kernels.proofs.utf8_to_utf16.convert.write_few.Goals as goal
+use Rattle.encoding_kernels.proofs.utf8_to_utf16.block.write_few.Goals as goal
 
 pub loop-read-preserved : goal.loop-read-preserved
 loop-read-preserved c =
