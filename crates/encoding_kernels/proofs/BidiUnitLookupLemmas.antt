@@ -20,7 +20,7 @@ use Rattle.encoding_kernels.proofs.BidiLemmas.{outside}
 abbrev pub groups : ℕ → ℕ → ℕ
 groups a b = bit_and (bit_and (get_or FIRST (a / 16) 0) (get_or SECOND (bit_and a 15) 0)) (bit_and (get_or THIRD (b / 16) 0) (get_or FOURTH (bit_and b 15) 0))
 
--- the groups but for those of presentation forms
+-- the groups other than those of presentation forms
 abbrev pub others : ℕ → ℕ → ℕ
 others a b = bit_and (groups a b) 0x3F
 

@@ -4,7 +4,8 @@ use Rattle.encoding_kernels.proofs.bidi.unit_lookups.are_32_clear.Goals as goal
 
 pub returns-then-is_zero : goal.returns-then-is_zero
 returns-then-is_zero c t =
-    none_in_32 c.args.units.now c.args.at _ _ _ c.bytes_of_32.ensures.upper c.bytes_of_32.ensures.lower c.groups_of_32-groups.ensures.lanes (c.if-is_zero.ensures refl)
+    none_in_32 c.args.units.now c.args.at _ _ _ c.bytes_of_32.ensures.upper c.bytes_of_32.ensures.lower c.groups_of_32-groups.ensures.lanes
+    (c.if-is_zero.ensures refl)
 
 pub returns-then-is_zero-2 : goal.returns-then-is_zero-2
 returns-then-is_zero-2 c t =

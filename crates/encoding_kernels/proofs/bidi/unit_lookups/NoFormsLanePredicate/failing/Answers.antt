@@ -1,4 +1,4 @@
-use Rattle.std.proofs.Common.{◌≡◌, ℕ, false, ltb, slice_index, w16}
+use Rattle.std.proofs.Common.{◌≡◌, false, ltb, slice_index, w16}
 use Rattle.encoding_kernels.specs.RightToLeft.{in_range}
 use Rattle.encoding_kernels.proofs.VectorLemmas.{HasLanes_load, HasLanes-splat, HasLanes-zip2}
 use Rattle.encoding_kernels.proofs.MaskLemmas.{tests_of, marks_of, wrapped}
