@@ -16,18 +16,18 @@ use Rattle.std.proofs.lemmas.Bool.{cases_lt, cond-true, cond-false, lt-ltb, le-l
 use Rattle.std.proofs.lemmas.Bool.Decides.{nat_tests}
 
 -- the first `count` lanes of one vector, followed by what the list has after them
-pub firsts_over : (w : Width) (at count : ℕ) (xs lanes : List ℕ) → at + 16 ≤ length xs → length lanes ≡ 16
-    → HasLanes 16 (sel_l (map (top (hbits w)) (zip2 (compared w ltb) (range_with_len 0 16) (replicate 16 count))) lanes (chunk at 16 xs))
-    (λ k. cond (ltb k count) (get_or lanes k 0) (get_or (chunk at 16 xs) k 0))
-firsts_over w at count xs lanes room long =
-    chosen_by (tests_of w ltb (HasLanes-numbers 16) (HasLanes-splat 16 count)) (HasLanes-itself 16 lanes long)
-    (HasLanes-itself 16 (chunk at 16 xs) (length-chunk at 16 xs room))
+pub firsts_over : {n : ℕ} (w : Width) (at count : ℕ) (xs lanes : List ℕ) → at + n ≤ length xs → length lanes ≡ n
+    → HasLanes n (sel_l (map (top (hbits w)) (zip2 (compared w ltb) (range_with_len 0 n) (replicate n count))) lanes (chunk at n xs))
+    (λ k. cond (ltb k count) (get_or lanes k 0) (get_or (chunk at n xs) k 0))
+firsts_over {n} w at count xs lanes room long =
+    chosen_by (tests_of w ltb (HasLanes-numbers n) (HasLanes-splat n count)) (HasLanes-itself n lanes long)
+    (HasLanes-itself n (chunk at n xs) (length-chunk at n xs room))
 
 -- storing these lanes
-pub put_first : (w : Width) (at count : ℕ) (xs lanes : List ℕ) → at + 16 ≤ length xs → length lanes ≡ 16 → count ≤ 16
-    → put_chunk at xs (sel_l (map (top (hbits w)) (zip2 (compared w ltb) (range_with_len 0 16) (replicate 16 count))) lanes
-    (chunk at 16 xs)) ≡ take at xs ++ (take count lanes ++ drop (at + count) xs)
-put_first w at count xs lanes room long few = put_firsts at 16 count xs lanes _ room long few (firsts_over w at count xs lanes room long)
+pub put_first : {n : ℕ} (w : Width) (at count : ℕ) (xs lanes : List ℕ) → at + n ≤ length xs → length lanes ≡ n → count ≤ n
+    → put_chunk at xs (sel_l (map (top (hbits w)) (zip2 (compared w ltb) (range_with_len 0 n) (replicate n count))) lanes
+    (chunk at n xs)) ≡ take at xs ++ (take count lanes ++ drop (at + count) xs)
+put_first {n} w at count xs lanes room long few = put_firsts at n count xs lanes _ room long few (firsts_over w at count xs lanes room long)
 
 module _ (at count more : ℕ) (xs first second z : List ℕ) (room : at + 32 ≤ length xs) (few : count ≤ 16) (long : length first ≡ 16)
     (less : more ≤ 16) (also : length second ≡ 16)

@@ -5,7 +5,7 @@ use Rattle.std.specs.Str.{chars, IsAscii}
 use Rattle.std.proofs.str.Laws.{two}
 use Rattle.std.proofs.lemmas.Bool.{cases_lt}
 use Rattle.std.proofs.lemmas.Grind.{common_steps}
-use Rattle.std.proofs.lemmas.List.{append-nil, length-append, length-map, length-drop, length-take, length-take-le, get_or-drop, get_or-take, get_or_past, drop-drop, take_all, take_more, take_rest, drop_more, take-append-drop, map_more, map-append}
+use Rattle.std.proofs.lemmas.List.{append-nil, length-append, length-map, length-drop, length-take, length-take-le, get_or-drop, get_or-take, get_or_past, drop-drop, take_all, take_at, take_more, take_rest, drop_more, take-append-drop, map_more, map-append}
 use Rattle.std.proofs.lemmas.Str.{encodes-append, encode_ascii, encodes-IsAscii, chars-IsAscii, chars-append, IsUtf8-from_ascii}
 use Rattle.std.proofs.Math.Seq.{drop-append_seam, take-append_seam}
 use borrow.Rule.Slice.PartMut.{put_mid}
@@ -13,13 +13,36 @@ use Rattle.encoding_definitions.proofs.EncodingLemmas.{flat_map-encode_utf8}
 use Rattle.encoding_definitions.specs.Prefixes.{IsLongestFittingPrefix, WritesPrefix}
 use Rattle.encoding_definitions.specs.Latin1.{IsLatin1, IsUtf8Latin1}
 use Rattle.encoding_kernels.specs.KeptBytes.{all_latin1_ended}
+use Rattle.encoding_kernels.specs.Scans.{BelowUpTo}
 use Rattle.std.specs.Simd.Lanes.{chunk}
 use Rattle.encoding_kernels.proofs.Latin1FromUtf8Lemmas.{GoesOnWith, NextIs, Splits, apart_chunk, nexts, splits, ended_without}
-use Rattle.encoding_kernels.proofs.ScanLemmas.{Each-take, Each-at}
+use Rattle.encoding_kernels.proofs.ScanLemmas.{Each-take, Each-at, WritesPrefix_copy}
 use Rattle.encoding_kernels.proofs.OverwriteLemmas.{ascii_left, written_left}
 use Rattle.encoding_definitions.proofs.PrefixesLemmas.{IsLongestFittingPrefix-stop, IsLongestFittingPrefix-all, WritesPrefix-length, WritesPrefix_again, WritesPrefix_push, WritesPrefix_push_two, WritesPrefix_after, WritesPrefix_put, WritesPrefix-same}
 use Rattle.encoding_text.proofs.WholePrefixesLemmas.{other_after}
 use Rattle.encoding_definitions.proofs.Latin1Lemmas.{IsLatin1-following, next_of_one, next_of_two, split_prefix, scalars_of_latin1}
+
+-- ---- what a destination has at its start
+pub had_prefix : (old out : List ℕ) (n : ℕ) → n ≤ length old → take n old ≡ out → WritesPrefix old old n out
+had_prefix old out n l e = record {
+  count = sym (length-take-le n old l) ∙ ap length e;
+  fits = l;
+  placed = sym (take-append-drop n old) ∙ ap (λ xs. xs ++ drop n old) e;
+}
+
+pub prefix_had : {old new out : List ℕ} {n : ℕ} → WritesPrefix old new n out → (n ≤ length new) × (take n new ≡ out)
+prefix_had {old} {new} {out} {n} w =
+    (omega (arith, w.fits, WritesPrefix-length old new n out w), ap (take n) w.placed ∙ take_at out (drop n old) n (sym w.count))
+
+-- a prefix of bytes below U+0080 is ASCII
+pub ascii_taken : (src : List ℕ) (n : ℕ) → BelowUpTo 0x80 src n → IsAscii (take n src)
+ascii_taken src n below = Each-take (λ b. b < 0x80) (omega arith) src n below
+
+-- a copied ASCII prefix is its own UTF-8
+pub ascii_spelled : (src old new : List ℕ) (n : ℕ) → BelowUpTo 0x80 src n → WritesPrefix old new n (take n src)
+    → WritesPrefix old new n (encode_utf8_all (take n src))
+ascii_spelled src old new n below w =
+    WritesPrefix-same _ _ _ _ _ _ w refl (sym (encodes-IsAscii (take n src) (ascii_taken src n below)))
 
 -- ---- fitting
 singles : (xs : List ℕ) → length (flat_map (λ (b : ℕ). b ∷ []) xs) ≡ length xs
@@ -99,7 +122,7 @@ or_high : (n : ℕ) → n < 64 → bit_or 192 n ≡ 192 + n
 or_high n l = grind (arith, common_steps)
 
 -- the scalar value's two bits in the first byte, and its six in the second
-pub character_of_two : (a b c : ℕ) → 128 ≤ c → c < 256 → a ≡ 192 + c / 64 → b ≡ 128 + c % 64 → bit_or (a * 64 % 256) (bit_and b 63) ≡ c
+character_of_two : (a b c : ℕ) → 128 ≤ c → c < 256 → a ≡ 192 + c / 64 → b ≡ 128 + c % 64 → bit_or (a * 64 % 256) (bit_and b 63) ≡ c
 character_of_two a b c l h e f =
     let six : bit_and b 63 ≡ c % 64 = omega (arith, low_six b) in
     elim (cases_lt c 192) [
@@ -235,6 +258,19 @@ module _ (src cs old new sub : List ℕ) (i j n : ℕ) (low : IsLatin1 cs) (rest
       let left = character_left src cs (i + n) (j + n) low ascii_on.0 l in
       next_of_two src cs (i + n) (j + n) low ascii_on.0 l
       (other_after src new i j n l (omega (arith, left, room, WritesPrefix-length old new j (take j cs) w)) stops)
+
+  -- and is written as one byte
+  pub character_on : i + n < length src → length cs ≤ length old
+      → (n < length (take (length src - i) (drop i src)) → n < length (take (length new - j) (drop j new))
+      → 0x80 ≤ slice_index (take (length src - i) (drop i src)) n)
+      → WritesPrefix old
+      (set (put_mid j (length new - j) new sub) (j + n) (bit_or (slice_index src (i + n) * 64 % 256) (bit_and (slice_index src (i + n + 1)) 63))) (j + n + 1)
+      (take (j + n + 1) cs)
+  character_on l room stops =
+      let two = two_after l room stops in
+      let byte = character_of_two (slice_index src (i + n)) (slice_index src (i + n + 1)) (slice_index cs (j + n)) two.2 (omega (arith, low (j + n))) two.3
+      two.4 in
+      WritesPrefix_copy _ _ cs (j + n) _ ascii_on.1 two.0 (omega (arith, two.0, room, WritesPrefix-length _ _ _ _ ascii_on.1)) byte
 
 -- ---- blocks of Latin1 text
 -- no two bytes in a row start a character of two bytes

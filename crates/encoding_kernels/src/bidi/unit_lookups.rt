@@ -1,13 +1,16 @@
 //! Look-ups that rule out right-to-left UTF-16 code units. Four tables, by the four nibbles of a code unit, each leave some
 //! groups possible. A group has a bit, and holds the unit if all four leave it.
 
-ghost use Rattle.std.specs.Prelude.{◌≡◌, ℕ, ◌+◌, ◌*◌, ◌/◌, ◌%◌, ◌<◌, ◌≤◌, length, slice_index, IsTrue};
+ghost use Rattle.std.specs.Prelude.{◌≡◌, false, ℕ, ◌+◌, ◌*◌, ◌/◌, ◌%◌, ◌<◌, ◌≤◌, length, slice_index, IsTrue, bit_and};
+ghost use Rattle.std.specs.Int.{IsInRange};
 ghost use Rattle.encoding_definitions.specs.Bidi.{IsRightToLeftUnit};
-ghost use Rattle.encoding_kernels.specs.RightToLeft.{NoneRightToLeft};
+ghost use Rattle.encoding_kernels.specs.RightToLeft.{NoneRightToLeft, in_range};
 ghost use Rattle.encoding_kernels.specs.Scans.{HasLanes};
 
 use crate::simd::lookup::twice;
-use crate::simd::scan::is_zero;
+use crate::simd::scan::{LanePredicate, all, is_zero};
+use crate::simd::width::HALF_UNIT_BLOCK;
+use std::simd::Simd;
 use std::simd::prelude::*;
 
 /// 0590 to 05FF.
@@ -34,6 +37,9 @@ const FORMS: u8 = 1 << 6;
 
 /// FC00 to FC0F, and FD00 to FD0F.
 const FIRST_FORMS: u8 = 1 << 7;
+
+/// All groups but the two of presentation forms, which also hold some units that aren't right-to-left.
+const OTHER_GROUPS: u8 = 0x3F;
 
 /// The groups of which each third nibble from 1 on is possible.
 const ANY_THIRD: u8 = ARABIC | FORMS;
@@ -122,12 +128,15 @@ const FOURTH: [u8; 32] = twice![
 ];
 
 /// Returns the groups of 32 code units by their upper and lower bytes. A lane is zero only if the code unit isn't
-/// right-to-left.
+/// right-to-left, and has none but the groups of forms only if no other right-to-left code unit is there.
 #[inline(always)]
 fn groups_of_32(upper: u8x32, lower: u8x32) -> u8x32
     ensures length { length result ≡ 32 }
     ensures lanes { (i : ℕ) → i < 32 → slice_index result i ≡ 0
         → IsRightToLeftUnit (slice_index lower i + 0x100 * slice_index upper i) → ⊥ }
+    ensures others { (i : ℕ) → i < 32 → bit_and (slice_index result i) 0x3F ≡ 0
+        → IsRightToLeftUnit (slice_index lower i + 0x100 * slice_index upper i)
+        → IsInRange 0xFB1D 0xFEFE (slice_index lower i + 0x100 * slice_index upper i) }
 {
     let (four, nibble) = (u8x32::splat(4), u8x32::splat(15));
     let by_upper = u8x32::from_slice(&FIRST).swizzle_dyn_within::<16>(upper >> four)
@@ -150,13 +159,40 @@ fn bytes_of_32(units: &[u16], at: usize) -> (u8x32, u8x32)
     (upper.cast::<u8>(), lower.cast::<u8>())
 }
 
+/// Indices of code units other than FB1D to FEFE, which hold the right-to-left presentation forms.
+#[derive(Drop)]
+struct NoForms<'a> {
+    units: &'a [u16],
+}
+
+impl<'a, const N: usize> LanePredicate<N> for NoForms<'a> {
+    ghost count = { λ s. length s.units.now };
+
+    ghost passes = { λ s k. in_range 0xFB1D 0x03E2 (slice_index s.units.now k) ≡ false };
+
+    #[inline(always)]
+    fn failing(&self, at: usize) -> u64 {
+        let units = self.units;
+        let block = Simd::<u16, N>::from_slice(&units[at..]);
+        (block - Simd::splat(0xFB1D))
+            .simd_lt(Simd::splat(0x03E2))
+            .to_bitmask()
+    }
+}
+
 /// Returns whether none of the 32 code units from `at` on is right-to-left. May return false if there is one of D80A, D80B, D832,
-/// D833, FB10 to FB1C, FE10 to FE6F, or FEFF.
+/// D833, or FE10 to FE6F.
 #[inline(always)]
 pub(super) fn are_32_clear(units: &[u16], at: usize) -> bool
     requires { at + 32 ≤ length units.now }
     ensures { IsTrue result → NoneRightToLeft units.now at (at + 32) }
 {
     let (upper, lower) = bytes_of_32(units, at);
-    is_zero(groups_of_32(upper, lower))
+    let groups = groups_of_32(upper, lower);
+    if is_zero(groups) {
+        return true;
+    }
+    // the tables hold some more units for forms, and a text with these has many
+    is_zero(groups & u8x32::splat(OTHER_GROUPS))
+        && all::<HALF_UNIT_BLOCK, HALF_UNIT_BLOCK, _>(&NoForms { units }, at)
 }

@@ -13,10 +13,17 @@ use std::simd::prelude::*;
 /// The indices of the lanes of a stride.
 pub(crate) const LANES: [u8; STRIDE] = [0, 1, 2, 3, 4, 5, 6, 7, 8, 9, 10, 11, 12, 13, 14, 15];
 
+/// The indices of the lanes of a block.
+const LANES_OF_BLOCK: [u8; BLOCK] = [
+    0, 1, 2, 3, 4, 5, 6, 7, 8, 9, 10, 11, 12, 13, 14, 15, 16, 17, 18, 19, 20, 21, 22, 23, 24, 25,
+    26, 27, 28, 29, 30, 31, 32, 33, 34, 35, 36, 37, 38, 39, 40, 41, 42, 43, 44, 45, 46, 47, 48, 49,
+    50, 51, 52, 53, 54, 55, 56, 57, 58, 59, 60, 61, 62, 63,
+];
+
 /// Copies the N bytes from `at` on to the same index.
 #[tactic(auto, using(std::proofs::lemmas::Grind::common_steps, crate::proofs::VectorLemmas::stored))]
 #[inline(always)]
-pub(super) fn copy<const N: usize>(src: &[u8], dst: &mut [u8], at: usize)
+pub fn copy<const N: usize>(src: &[u8], dst: &mut [u8], at: usize)
     requires { (at + N ≤ length src.now) × (at + N ≤ length dst.old) }
     ensures { dst.new ≡ take at dst.old ++ (take N (drop at src.now) ++ drop (at + N) dst.old) }
 {
@@ -160,6 +167,22 @@ pub fn copy_run(src: &[u8], dst: &mut [u8], at: usize, count: usize)
     } else {
         write_first(dst, at, u8x16::from_slice(&src[at..]), count);
     }
+}
+
+/// Copies the first `count` of the 64 bytes from `at` on to the same index. Stores 64, the others as `dst` has them.
+#[inline(always)]
+pub fn copy_run_of_block(src: &[u8], dst: &mut [u8], at: usize, count: usize)
+    requires within { (at + 64 ≤ length src.now) × (at + 64 ≤ length dst.old) }
+    requires count { count ≤ 64 }
+    ensures { dst.new ≡ take at dst.old
+        ++ (take count (drop at src.now) ++ drop (at + count) dst.old) }
+{
+    let block = Simd::<u8, BLOCK>::from_slice(&src[at..]);
+    let following = Simd::<u8, BLOCK>::from_slice(&dst[at..]);
+    let is_kept = Simd::<u8, BLOCK>::from_array(LANES_OF_BLOCK).simd_lt(Simd::splat(count as u8));
+    is_kept
+        .select(block, following)
+        .copy_to_slice(&mut dst[at..]);
 }
 
 /// Copies the first `count` of the sixteen bytes from `at` on to the same index, each as a UTF-16 code unit. Stores sixteen,

@@ -1,14 +1,16 @@
 //! ASCII prefixes as conversions and validation begin with them. The functions of `ascii` find and copy them by whole
 //! strides. Before these, two vectors test a short text, and after them the last vector overlaps the one before.
 
-ghost use Rattle.std.specs.Prelude.{◌≡◌, ◌+◌, ◌*◌, ◌<◌, ◌≤◌, ◌↔◌, IsTrue, IsFalse, take, length};
+ghost use Rattle.std.specs.Prelude.{◌≡◌, ◌+◌, ◌*◌, ◌<◌, ◌≤◌, ◌↔◌, ◌⊎◌, IsTrue, IsFalse, take, length};
 ghost use Rattle.std.specs.Str.{IsAscii, IsUtf8};
 ghost use Rattle.encoding_definitions.specs.Prefixes.{IsLongestPrefix, WritesPrefix};
 ghost use Rattle.encoding_kernels.specs.EndingUnits.{WritesUtf16, units_in};
 ghost use Rattle.encoding_kernels.specs.Scans.{BelowUpTo, IsRunBelow};
 
 use super::{ascii_to_ascii, ascii_to_basic_latin, ascii_valid_up_to};
-use encoding_kernels::simd::copy::{copy_run, unpack, unpack_block, unpack_run};
+use encoding_kernels::simd::copy::{
+    copy, copy_run, copy_run_of_block, unpack, unpack_block, unpack_run,
+};
 use encoding_kernels::simd::scan::{are_bytes_below, are_four_blocks_below, run_len_below};
 use encoding_kernels::simd::short::{
     copy_short_ascii, is_short_ascii, pack_short_ascii, unpack_short_ascii,
@@ -125,42 +127,76 @@ pub(crate) fn short_ascii_valid_up_to(bytes: &[u8]) -> usize
     }
 }
 
-/// Copies the longest ASCII prefix of at least sixteen bytes, and returns its length. The last stride may overlap the one
-/// before it, so no byte is left to a loop.
+/// Copies at most 128 bytes if they are ASCII and fit into `dst`. Returns whether it did. Two vectors copy them.
 #[inline(always)]
-fn copy_strides(src: &[u8], dst: &mut [u8]) -> usize
-    requires src_length { 16 ≤ length src.now }
-    requires dst_length { length src.now ≤ length dst.old }
-    ensures prefix { IsLongestPrefix IsAscii src.now result }
-    ensures copied { WritesPrefix dst.old dst.new result (take result src.now) }
+pub(crate) fn copy_short(src: &[u8], dst: &mut [u8]) -> bool
+    ensures ascii { IsTrue result → IsAscii src.now }
+    ensures copied { IsTrue result → WritesPrefix dst.old dst.new (length src.now) src.now }
+    ensures unchanged { IsFalse result → dst.new ≡ dst.old }
 {
-    let whole = src.len() / STRIDE * STRIDE;
-    if let Some((_, place)) = ascii_to_ascii(&src[..whole], dst) {
-        return place;
-    }
-    let last = src.len() - STRIDE;
-    let run = run_len_below::<STRIDE>(src, last, ASCII_END);
-    copy_run(src, dst, last, run);
-    last + run
+    src.len() <= TWO_BLOCKS && src.len() <= dst.len() && copy_short_ascii(src, dst)
 }
 
-/// Copies the longest ASCII prefix, and returns its length. Two vectors copy at most 128 bytes if all are ASCII.
+/// Copies the ASCII prefix by blocks, and returns its length, or 0 if `dst` is shorter than `src`. One mask finds its end in the
+/// last block, which may overlap the one before it, without a branch that depends on the text.
+#[inline(always)]
+pub(crate) fn copy_blocks(src: &[u8], dst: &mut [u8]) -> usize
+    requires src_length { 64 ≤ length src.now }
+    ensures within { result ≤ length src.now }
+    ensures ascii { BelowUpTo 0x80 src.now result }
+    ensures copied { WritesPrefix dst.old dst.new result (take result src.now) }
+{
+    if dst.len() < src.len() {
+        return 0;
+    }
+    let last = src.len() - BLOCK;
+    let mut at = 0;
+    while at < last && are_bytes_below::<BLOCK>(src, at, ASCII_END) {
+        copy::<BLOCK>(src, dst, at);
+        at += BLOCK;
+    }
+    if at >= last && are_bytes_below::<BLOCK>(src, last, ASCII_END) {
+        copy::<BLOCK>(src, dst, last);
+        return src.len();
+    }
+    let place = at.min(last);
+    let run = run_len_below::<BLOCK>(src, place, ASCII_END);
+    copy_run_of_block(src, dst, place, run);
+    place + run
+}
+
+/// Returns the length of the whole strides, or all of a shorter length.
+#[inline(always)]
+fn length_of_strides(length: usize) -> usize
+    ensures within { (result ≤ length) × (length < result + 16) }
+    ensures whole { (result ≡ length) ⊎ (16 ≤ length) }
+{
+    if length < STRIDE {
+        length
+    } else {
+        length / STRIDE * STRIDE
+    }
+}
+
+/// Copies the longest ASCII prefix, and returns its length. The last stride may overlap the one before it, so a loop is left
+/// only fewer than sixteen bytes.
 #[inline(always)]
 fn copy_fitting(src: &[u8], dst: &mut [u8]) -> usize
     requires dst_length { length src.now ≤ length dst.old }
     ensures prefix { IsLongestPrefix IsAscii src.now result }
     ensures copied { WritesPrefix dst.old dst.new result (take result src.now) }
 {
-    if src.len() <= TWO_BLOCKS && copy_short_ascii(src, dst) {
-        return src.len();
+    let whole = length_of_strides(src.len());
+    if let Some((_, place)) = ascii_to_ascii(&src[..whole], dst) {
+        return place;
     }
-    if src.len() >= STRIDE {
-        return copy_strides(src, dst);
+    if whole == src.len() {
+        return whole;
     }
-    match ascii_to_ascii(src, dst) {
-        Some((_, place)) => place,
-        None => src.len(),
-    }
+    let last = src.len() - STRIDE;
+    let run = run_len_below::<STRIDE>(src, last, ASCII_END);
+    copy_run(src, dst, last, run);
+    last + run
 }
 
 /// Copies the longest ASCII prefix, up to the shorter of the two lengths. Returns its length.

@@ -6,14 +6,14 @@ ghost use Rattle.std.specs.Str.{IsAscii, chars};
 ghost use Rattle.encoding_definitions.specs.Prefixes.{IsLongestFittingPrefix, WritesPrefix};
 ghost use Rattle.encoding_definitions.specs.Latin1.{IsUtf8Latin1};
 
-use crate::ascii::prefixes::copy_ascii_prefix;
+use crate::ascii::prefixes::{copy_ascii_prefix, copy_blocks, copy_short};
 use encoding_kernels::latin1::from_utf8::{
     latin1_length_of_first, latin1_of, latin1_of_after, write_latin1_of_two,
 };
 use encoding_kernels::latin1::to_utf8::{utf8_length_of_first, write_latin1, write_latin1_block};
 use encoding_kernels::simd::copy::{pack_lower, unpack_part, write_first};
 use encoding_kernels::simd::scan::are_bytes_below;
-use encoding_kernels::simd::width::{ASCII_END, BLOCK, STRIDE};
+use encoding_kernels::simd::width::{ASCII_END, BLOCK, STRIDE, TWO_BLOCKS};
 use encoding_kernels::tuning::BLOCKS_BEFORE_RETEST;
 use std::simd::prelude::*;
 
@@ -54,8 +54,8 @@ fn copy_first_ascii(src: &[u8], dst: &mut [u8]) -> usize
     copy_ascii_prefix(src, dst)
 }
 
-/// Copies the longest ASCII prefix that fits, and returns its length. Out of line, so that the loops over blocks keep
-/// their constants in registers.
+/// Copies the longest ASCII prefix that fits, and returns its length. Two vectors copy at most 128 bytes if all are ASCII.
+/// Out of line, so that the loops over blocks keep their constants in registers.
 #[inline(never)]
 fn copy_some_ascii(src: &[u8], dst: &mut [u8]) -> usize
     ensures within { (result ≤ length src.now) × (result ≤ length dst.old) }
@@ -64,6 +64,9 @@ fn copy_some_ascii(src: &[u8], dst: &mut [u8]) -> usize
         → 0x80 ≤ slice_index src.now result }
     ensures copied { WritesPrefix dst.old dst.new result (take result src.now) }
 {
+    if copy_short(src, dst) {
+        return src.len();
+    }
     copy_first_ascii(src, dst)
 }
 
@@ -127,21 +130,23 @@ fn finish_latin1(src: &[u8], dst: &mut [u8], read: usize, written: usize) -> Opt
     Some(at + write_latin1(block, dst, at))
 }
 
-/// Converts Latin1 as `convert_latin1_to_utf8_partial` does, after the first ASCII prefix, which `dst` has already. Out
-/// of line, so that the ASCII before other text needs few registers.
+/// Converts Latin1 as `convert_latin1_to_utf8_partial` does, if `dst` already has the UTF-8 of the first `from` bytes, which
+/// is `to` bytes long. Out of line, so that the ASCII before other text needs few registers.
 #[inline(never)]
-fn convert_latin1_turns(src: &[u8], dst: &mut [u8], ascii: usize) -> (usize, usize)
-    requires ascii { (ascii ≤ length src.now) × IsAscii (take ascii src.now) }
-    requires copied { (ascii ≤ length dst.old) × (take ascii dst.old ≡ take ascii src.now) }
+fn convert_latin1_turns(src: &[u8], dst: &mut [u8], from: usize, to: usize) -> (usize, usize)
+    requires read { (from ≤ length src.now)
+        × (to ≡ length (encode_utf8_all (take from src.now))) }
+    requires written { (to ≤ length dst.old)
+        × (take to dst.old ≡ encode_utf8_all (take from src.now)) }
     ensures prefix { IsLongestFittingPrefix (λ b. b ∷ []) encode_utf8 src.now
         (length dst.old) result.0
         (encode_utf8_all (take result.0 src.now)) }
     ensures written { WritesPrefix dst.old dst.new result.1
         (encode_utf8_all (take result.0 src.now)) }
-    ensures after_ascii { ascii ≤ result.1 }
+    ensures onward { to ≤ result.1 }
 {
-    let mut read = ascii;
-    let mut written = ascii;
+    let mut read = from;
+    let mut written = to;
     while read < src.len() {
         let prefix = copy_ascii(&src[read..], &mut dst[written..]);
         read += prefix;
@@ -166,8 +171,45 @@ fn convert_latin1_turns(src: &[u8], dst: &mut [u8], ascii: usize) -> (usize, usi
     (read, written)
 }
 
+/// Converts Latin1 as `convert_latin1_to_utf8_partial` does, by blocks from the first byte on, even if ASCII comes first. Turns
+/// follow only if these leave something. Out of line, so that ASCII alone needs few registers.
+#[inline(never)]
+fn convert_few_latin1(src: &[u8], dst: &mut [u8]) -> (usize, usize)
+    ensures prefix { IsLongestFittingPrefix (λ b. b ∷ []) encode_utf8 src.now
+        (length dst.old) result.0
+        (encode_utf8_all (take result.0 src.now)) }
+    ensures written { WritesPrefix dst.old dst.new result.1
+        (encode_utf8_all (take result.0 src.now)) }
+{
+    let (read, written) = convert_latin1_blocks(src, dst);
+    if src.len() >= STRIDE && read < src.len() && src.len() - read < STRIDE {
+        if let Some(length) = finish_latin1(src, dst, read, written) {
+            return (src.len(), length);
+        }
+    }
+    convert_latin1_turns(src, dst, read, written)
+}
+
+/// Converts more than 128 bytes of Latin1 as `convert_latin1_to_utf8_partial` does. Turns follow the first ASCII prefix.
+#[inline(never)]
+fn convert_long_latin1(src: &[u8], dst: &mut [u8]) -> (usize, usize)
+    requires src_length { 128 < length src.now }
+    ensures prefix { IsLongestFittingPrefix (λ b. b ∷ []) encode_utf8 src.now
+        (length dst.old) result.0
+        (encode_utf8_all (take result.0 src.now)) }
+    ensures written { WritesPrefix dst.old dst.new result.1
+        (encode_utf8_all (take result.0 src.now)) }
+{
+    let ascii = copy_blocks(src, dst);
+    if ascii == src.len() {
+        return (ascii, ascii);
+    }
+    convert_latin1_turns(src, dst, ascii, ascii)
+}
+
 /// Writes the UTF-8 of the longest prefix of `src` whose UTF-8 fits into `dst`. Returns how many bytes it read and how
 /// many it wrote. Encoding Standard, `encodeInto`.
+#[inline(always)]
 pub fn convert_latin1_to_utf8_partial(src: &[u8], dst: &mut [u8]) -> (usize, usize)
     ensures prefix { IsLongestFittingPrefix (λ b. b ∷ []) encode_utf8 src.now
         (length dst.old) result.0
@@ -175,11 +217,13 @@ pub fn convert_latin1_to_utf8_partial(src: &[u8], dst: &mut [u8]) -> (usize, usi
     ensures written { WritesPrefix dst.old dst.new result.1
         (encode_utf8_all (take result.0 src.now)) }
 {
-    let ascii = copy_first_ascii(src, dst);
-    if ascii == src.len() {
-        return (ascii, ascii);
+    if src.len() > TWO_BLOCKS {
+        return convert_long_latin1(src, dst);
     }
-    convert_latin1_turns(src, dst, ascii)
+    if copy_short(src, dst) {
+        return (src.len(), src.len());
+    }
+    convert_few_latin1(src, dst)
 }
 
 /// Writes the UTF-8 of each byte as a character, and returns how many bytes it wrote. `dst` is at least twice as long
@@ -224,18 +268,50 @@ fn finish_utf8(src: &[u8], dst: &mut [u8], read: usize, written: usize) -> Optio
     Some(at + count)
 }
 
-/// Converts Latin1 text in UTF-8 as `convert_utf8_to_latin1` does, after the first ASCII prefix, which `dst` has
-/// already. Out of line, so that the ASCII before other text needs few registers.
+/// Writes the Latin1 of groups of 32 bytes and then of blocks of sixteen, if `dst` already has that of the first `from` bytes,
+/// which is `to` bytes long. Returns how many bytes were read and written in all. Ends before 64 bytes of ASCII.
+#[inline(always)]
+fn convert_utf8_blocks(src: &[u8], dst: &mut [u8], from: usize, to: usize) -> (usize, usize)
+    requires latin1 { IsUtf8Latin1 src.now }
+    requires within { from ≤ length src.now }
+    requires rest { drop from src.now ≡ encode_utf8_all (drop to (chars src.now)) }
+    requires written { (to ≤ length dst.old) × (take to dst.old ≡ take to (chars src.now)) }
+    ensures within { (from ≤ result.0) × (result.0 ≤ length src.now) }
+    ensures onward { to ≤ result.1 }
+    ensures rest { drop result.0 src.now ≡ encode_utf8_all (drop result.1 (chars src.now)) }
+    ensures written { WritesPrefix dst.old dst.new result.1 (take result.1 (chars src.now)) }
+{
+    let mut read = from;
+    let mut written = to;
+    while src.len() - read >= GROUP && dst.len() - written >= GROUP_ROOM {
+        if src.len() - read >= BLOCK && are_bytes_below::<BLOCK>(src, read, ASCII_END) {
+            return (read, written);
+        }
+        written += write_latin1_of_two(src, read, dst, written);
+        read += whole_length::<GROUP>(src[read + (GROUP - 1)]);
+    }
+    while src.len() - read >= STRIDE && dst.len() - written >= STRIDE {
+        let (bytes, count) = latin1_of(u8x16::from_slice(&src[read..]));
+        write_first(dst, written, bytes, count);
+        written += count;
+        read += whole_length::<STRIDE>(src[read + (STRIDE - 1)]);
+    }
+    (read, written)
+}
+
+/// Converts Latin1 text in UTF-8 as `convert_utf8_to_latin1` does, if `dst` already has the Latin1 of the first `from` bytes,
+/// which is `to` bytes long. Out of line, so that the ASCII before other text needs few registers.
 #[inline(never)]
-fn convert_utf8_turns(src: &[u8], dst: &mut [u8], ascii: usize) -> usize
+fn convert_utf8_turns(src: &[u8], dst: &mut [u8], from: usize, to: usize) -> usize
     requires dst_length { length (chars src.now) ≤ length dst.old }
     requires latin1 { IsUtf8Latin1 src.now }
-    requires prefix { (ascii ≤ length src.now) × IsAscii (take ascii src.now) }
-    requires copied { take ascii dst.old ≡ take ascii src.now }
+    requires within { from ≤ length src.now }
+    requires rest { drop from src.now ≡ encode_utf8_all (drop to (chars src.now)) }
+    requires written { (to ≤ length dst.old) × (take to dst.old ≡ take to (chars src.now)) }
     ensures written { WritesPrefix dst.old dst.new result (chars src.now) }
 {
-    let mut read = ascii;
-    let mut written = ascii;
+    let mut read = from;
+    let mut written = to;
     while read < src.len() {
         let prefix = copy_ascii(&src[read..], &mut dst[written..]);
         read += prefix;
@@ -244,25 +320,9 @@ fn convert_utf8_turns(src: &[u8], dst: &mut [u8], ascii: usize) -> usize
             break;
         }
         dst[written] = (src[read] << 6) | (src[read + 1] & 0x3F);
-        read += 2;
-        written += 1;
-        while src.len() - read >= GROUP && dst.len() - written >= GROUP_ROOM {
-            if src.len() - read >= BLOCK && are_bytes_below::<BLOCK>(src, read, ASCII_END) {
-                break;
-            }
-            written += write_latin1_of_two(src, read, dst, written);
-            read += whole_length::<GROUP>(src[read + (GROUP - 1)]);
-        }
-        // if the loop above ended before ASCII, a block and the space for a group are left
-        while (src.len() - read < BLOCK || dst.len() - written < GROUP_ROOM)
-            && src.len() - read >= STRIDE
-            && dst.len() - written >= STRIDE
-        {
-            let (bytes, count) = latin1_of(u8x16::from_slice(&src[read..]));
-            write_first(dst, written, bytes, count);
-            written += count;
-            read += whole_length::<STRIDE>(src[read + (STRIDE - 1)]);
-        }
+        let (end, length) = convert_utf8_blocks(src, dst, read + 2, written + 1);
+        read = end;
+        written = length;
         if src.len() > STRIDE && src.len() - read < STRIDE {
             if let Some(length) = finish_utf8(src, dst, read, written) {
                 return length;
@@ -272,18 +332,53 @@ fn convert_utf8_turns(src: &[u8], dst: &mut [u8], ascii: usize) -> usize
     written
 }
 
+/// Converts Latin1 text in UTF-8 as `convert_utf8_to_latin1` does, by blocks from the first byte on, even if ASCII comes
+/// first. Turns follow only if these leave something. Out of line, so that ASCII alone needs few registers.
+#[inline(never)]
+fn convert_few_utf8(src: &[u8], dst: &mut [u8]) -> usize
+    requires dst_length { length (chars src.now) ≤ length dst.old }
+    requires latin1 { IsUtf8Latin1 src.now }
+    ensures written { WritesPrefix dst.old dst.new result (chars src.now) }
+{
+    let (read, written) = convert_utf8_blocks(src, dst, 0, 0);
+    if src.len() > STRIDE && read < src.len() && src.len() - read < STRIDE {
+        if let Some(length) = finish_utf8(src, dst, read, written) {
+            return length;
+        }
+    }
+    convert_utf8_turns(src, dst, read, written)
+}
+
+/// Converts more than 128 bytes of Latin1 text in UTF-8 as `convert_utf8_to_latin1` does. Turns follow the first ASCII prefix.
+#[inline(never)]
+fn convert_long_utf8(src: &[u8], dst: &mut [u8]) -> usize
+    requires src_length { 128 < length src.now }
+    requires dst_length { length (chars src.now) ≤ length dst.old }
+    requires latin1 { IsUtf8Latin1 src.now }
+    ensures written { WritesPrefix dst.old dst.new result (chars src.now) }
+{
+    let ascii = copy_blocks(src, dst);
+    if ascii == src.len() {
+        return ascii;
+    }
+    convert_utf8_turns(src, dst, ascii, ascii)
+}
+
 /// Writes the scalar value of each character of Latin1 text in UTF-8 as a byte, and returns how many bytes it wrote.
 /// `dst` has at least that length, which `latin1_length_from_utf8` returns.
+#[inline(always)]
 pub fn convert_utf8_to_latin1(src: &[u8], dst: &mut [u8]) -> usize
     requires dst_length { length (chars src.now) ≤ length dst.old }
     requires latin1 { IsUtf8Latin1 src.now }
     ensures written { WritesPrefix dst.old dst.new result (chars src.now) }
 {
-    let ascii = copy_first_ascii(src, dst);
-    if ascii == src.len() {
-        return ascii;
+    if src.len() > TWO_BLOCKS {
+        return convert_long_utf8(src, dst);
     }
-    convert_utf8_turns(src, dst, ascii)
+    if copy_short(src, dst) {
+        return src.len();
+    }
+    convert_few_utf8(src, dst)
 }
 
 /// Writes the scalar value of each character of Latin1 text in UTF-8 as a byte, and returns how many bytes it wrote.

@@ -1,6 +1,6 @@
 use Rattle.std.proofs.Common.{inr, refl}
 use Rattle.encoding_kernels.proofs.Utf8LookupLemmas.{high_places, low_places}
-use Rattle.encoding_kernels.proofs.BidiUnitLookupLemmas.{lanes_clear, lanes_long}
+use Rattle.encoding_kernels.proofs.BidiUnitLookupLemmas.{lanes_clear, lanes_left, lanes_long}
 use Rattle.encoding_kernels.proofs.bidi.unit_lookups.groups_of_32.Goals as goal
 
 pub swizzle : goal.swizzle
@@ -20,3 +20,6 @@ returns-clause-length c = lanes_long c.args.upper c.args.lower c.fits-upper c.fi
 
 pub returns-clause-lanes : goal.returns-clause-lanes
 returns-clause-lanes c = lanes_clear c.args.upper c.args.lower c.fits-upper c.fits-lower
+
+pub returns-clause-others : goal.returns-clause-others
+returns-clause-others c = lanes_left c.args.upper c.args.lower c.fits-upper c.fits-lower

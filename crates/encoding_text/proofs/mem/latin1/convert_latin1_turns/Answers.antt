@@ -1,35 +1,27 @@
-use Rattle.std.proofs.Common.{◌≡◌, ℕ, ◌+◌, ◌<◌, ◌++◌, ◌∙◌, inl, inr, List, arith, ap, sym, subst, length, length-take-le, take, drop, slice_index, encode_utf8_all}
-use Rattle.std.proofs.lemmas.List.{take-append-drop, take_all}
-use Rattle.std.proofs.lemmas.Str.{encodes-IsAscii, length-le-encodes}
+use Rattle.std.proofs.Common.{◌≡◌, ℕ, ◌+◌, ◌<◌, ◌∙◌, inl, inr, List, arith, ap, sym, subst, length, take, drop, slice_index, encode_utf8_all}
+use Rattle.std.proofs.lemmas.List.{length-append, take-append-drop, take_all}
+use Rattle.std.proofs.lemmas.Str.{encodes-append}
 use Rattle.encoding_definitions.specs.Prefixes.{WritesPrefix}
 use Rattle.std.proofs.lemmas.Bool.{cases_lt}
 use Rattle.encoding_definitions.proofs.PrefixesLemmas.{WritesPrefix-length}
 use Rattle.encoding_kernels.proofs.OverwriteLemmas.{ascii_left}
-use Rattle.encoding_text.proofs.Latin1ConversionLemmas.{latin1_bytes_two, latin1_fits_all, latin1_fits_stop, latin1_turn}
+use Rattle.encoding_text.proofs.Latin1ConversionLemmas.{latin1_bytes_two, latin1_fits_all, latin1_fits_stop, latin1_turn, had_prefix}
 use Rattle.encoding_text.proofs.WholePrefixesLemmas.{other_after}
 use Rattle.encoding_text.proofs.mem.latin1.convert_latin1_turns.Goals as goal
 use Rattle.encoding_text.proofs.mem.latin1.convert_latin1_turns.Goals.{then-read-src-via-then-read-src, then-read-src-via-else-read-src+then-dst-written-lt-HIGH_LENGTH}
 use Rattle.encoding_text.proofs.OneResultLemmas.{length-encode-some}
 
 pub loop-read-init : goal.loop-read-init
-loop-read-init c =
-    let prefix = c.requires.copied.1 in
-    record {
-      within = c.requires.ascii.0;
-      after_ascii = omega arith;
-      written = record {
-        count = sym (ap length (encodes-IsAscii (take c.args.ascii c.args.src.now) c.requires.ascii.1)
-            ∙ length-take-le c.args.ascii c.args.src.now c.requires.ascii.0);
-        fits = c.requires.copied.0;
-        placed = sym (ap (λ xs. xs ++ drop c.args.ascii c.args.dst.now) (encodes-IsAscii (take c.args.ascii c.args.src.now) c.requires.ascii.1 ∙ sym prefix)
-            ∙ take-append-drop c.args.ascii c.args.dst.now);
-      };
-    }
+loop-read-init c = record {
+  within = c.requires.read.0;
+  onward = omega arith;
+  written = had_prefix _ _ _ c.requires.written.0 c.requires.written.1;
+}
 
 pub loop-read-preserved : goal.loop-read-preserved
 loop-read-preserved c = record {
   within = omega (arith, c.convert_latin1_blocks-bytes.ensures.within);
-  after_ascii = omega (arith, c.loop-read.invariant.after_ascii);
+  onward = omega (arith, c.loop-read.invariant.onward);
   written = latin1_turn c.args.src.now
       (λ i. omega (arith, c.type_inv.src i)) c.loop-read.read c.loop-read.written c.copy_ascii-prefix.result _ _ _ c.loop-read.invariant.written
       c.copy_ascii-prefix.ensures.ascii c.copy_ascii-prefix.ensures.copied (omega (arith, c.copy_ascii-prefix.ensures.within, c.if-read-src.false))
@@ -43,7 +35,7 @@ unchanged {old} {new} {other} {out} {n} e w = subst (λ xs. WritesPrefix old xs 
 pub loop-read-preserved-in-None : goal.loop-read-preserved-in-None
 loop-read-preserved-in-None c = record {
   within = omega (arith, c.convert_latin1_blocks-bytes.ensures.within);
-  after_ascii = omega (arith, c.loop-read.invariant.after_ascii);
+  onward = omega (arith, c.loop-read.invariant.onward);
   written = unchanged c.in-None.ensures.full
       (latin1_turn c.args.src.now
       (λ i. omega (arith, c.type_inv.src i)) c.loop-read.read c.loop-read.written c.copy_ascii-prefix.result _ _ _ c.loop-read.invariant.written
@@ -78,10 +70,19 @@ pub returns-in-Some-clause-prefix : goal.returns-in-Some-clause-prefix
 returns-in-Some-clause-prefix c = let w = returns-in-Some-clause-written c in
     latin1_fits_all c.args.src.now (length c.args.src.now) _ (omega arith) (omega arith) (omega (arith, w.count, w.fits))
 
-pub returns-in-Some-clause-after_ascii : goal.returns-in-Some-clause-after_ascii
-returns-in-Some-clause-after_ascii c =
+pub returns-in-Some-clause-onward : goal.returns-in-Some-clause-onward
+returns-in-Some-clause-onward c =
+    let src = c.args.src.now in
+    let n = c.args.from in
     let w = returns-in-Some-clause-written c in
-    omega (arith, w.count, ap (λ xs. length (encode_utf8_all xs)) (whole c.args.src.now), length-le-encodes c.args.src.now, c.requires.ascii.0)
+    omega (
+      arith,
+      c.requires.read.1,
+      w.count,
+      ap (λ xs. length (encode_utf8_all xs)) (whole src),
+      ap length (sym (encodes-append (take n src) (drop n src)) ∙ ap encode_utf8_all (take-append-drop n src)),
+      length-append (encode_utf8_all (take n src)) (encode_utf8_all (drop n src)),
+    )
 
 pub returns-after-loop-read-clause-prefix : goal.returns-after-loop-read-clause-prefix
 returns-after-loop-read-clause-prefix c =

@@ -5,7 +5,7 @@ use Rattle.encoding_text.proofs.mem.latin1.convert_latin1_turns.Given as goal
 abbrev pub invariant-loop-read : goal.invariant-loop-read
 invariant-loop-read l = record {
   within : l.read ≤ length l.src;
-  after_ascii : l.fn.ascii ≤ l.written;
+  onward : l.to ≤ l.written;
   written : WritesPrefix l.fn.dst l.dst l.written (encode_utf8_all (take l.read l.src));
 }
 

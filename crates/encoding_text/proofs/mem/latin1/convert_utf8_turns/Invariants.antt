@@ -12,23 +12,3 @@ invariant-loop-read l = record {
 
 abbrev pub decreases-loop-read : goal.decreases-loop-read
 decreases-loop-read l = length l.src - l.read
-
-abbrev pub invariant-loop-read-2 : goal.invariant-loop-read-2
-invariant-loop-read-2 l = record {
-  within : (l.initial.read ≤ l.read) × (l.read ≤ length l.src);
-  rest : drop l.read l.src ≡ encode_utf8_all (drop l.written (chars l.src));
-  written : WritesPrefix l.fn.dst l.dst l.written (take l.written (chars l.src));
-}
-
-abbrev pub decreases-loop-read-2 : goal.decreases-loop-read-2
-decreases-loop-read-2 l = length l.src - l.read
-
-abbrev pub invariant-loop-read-3 : goal.invariant-loop-read-3
-invariant-loop-read-3 l = record {
-  within : (l.initial.read ≤ l.read) × (l.read ≤ length l.src);
-  rest : drop l.read l.src ≡ encode_utf8_all (drop l.written (chars l.src));
-  written : WritesPrefix l.fn.dst l.dst l.written (take l.written (chars l.src));
-}
-
-abbrev pub decreases-loop-read-3 : goal.decreases-loop-read-3
-decreases-loop-read-3 l = length l.src - l.read
