@@ -5,3 +5,5 @@ pub mod Utf16WindowLemmas
 pub mod Utf16WriteLemmas
 pub mod Utf16RoomLemmas
 pub mod Utf16ChainLemmas
+pub mod Utf16LossyLemmas
+pub mod Utf16OneResultLemmas

@@ -26,7 +26,7 @@ pub record Yields {A : Type 0} (order : ByteOrder) (encode : ℕ → List A) (p 
   pub first : StartsWithUtf16 order last (p ++ src) parts (q ++ drop read src)
   pub pending : IsPendingUtf16 order q
 
-call_bytes : (order : ByteOrder) (p src cs y : List ℕ) (read : ℕ) → p ++ take read src ≡ bytes_of_scalars order cs ++ y
+pub call_bytes : (order : ByteOrder) (p src cs y : List ℕ) (read : ℕ) → p ++ take read src ≡ bytes_of_scalars order cs ++ y
     → p ++ src ≡ bytes_of_scalars order cs ++ (y ++ drop read src)
 call_bytes order p src cs y read e =
     ap (λ xs. p ++ xs) (sym (take-append-drop read src)) ∙ sym (append_assoc p (take read src) (drop read src)) ∙ ap (λ xs. xs ++ drop read src) e
@@ -48,7 +48,7 @@ module _ {A : Type 0} (order : ByteOrder) (encode : ℕ → List A) (need : ℕ)
         pending = call.pending;
       }
   call_yields p src room last OutputFull read out q call =
-      let (within, whole, kept, part, after, next, more) = call.answer in
+      let (unread, within, whole, kept, part, after, next, more) = call.answer in
       let bytes = call_bytes order p src call.scalars q read whole in
       record {
         parts = map Character call.scalars ++ [];
@@ -60,7 +60,7 @@ module _ {A : Type 0} (order : ByteOrder) (encode : ℕ → List A) (need : ℕ)
         pending = call.pending;
       }
   call_yields p src room last (Malformed k second) read out q call =
-      let (x, within, whole, size, more, malformed, enough) = call.answer in
+      let (x, within, whole, size, more, stayed, malformed, enough) = call.answer in
       let bytes = call_bytes order p src call.scalars (x ++ q) read whole
       ∙ ap (λ xs. bytes_of_scalars order call.scalars ++ xs) (append_assoc x q (drop read src)) in
       record {

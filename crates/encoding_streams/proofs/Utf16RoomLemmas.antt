@@ -60,7 +60,7 @@ module _ {A : Type 0} {order : ByteOrder} {encode : ℕ → List A} {need : ℕ}
   progress OutputFull call some l = elim (cases_lt 0 read) [
     | inl h ↦ inl h
     | inr h ↦
-        let (within, whole, kept, part, after, first, more) = call.answer in
+        let (unread, within, whole, kept, part, after, first, more) = call.answer in
         let zero_read : 0 ≡ read = omega arith in
         let none = no_characters_pending order call.scalars q p call.are_scalars call.pending_before (sym (append-nil p)
         ∙ ap (λ n. p ++ take n src) zero_read ∙ whole) in
@@ -91,7 +91,7 @@ module _ {A : Type 0} {order : ByteOrder} {encode : ℕ → List A} {need : ℕ}
           full = λ f. cc;
         }
     counts OutputFull call =
-        let (within, whole, kept, part, after, first, more) = call.answer in
+        let (unread, within, whole, kept, part, after, first, more) = call.answer in
         let cs = call.scalars in
         let little = more_left order encode need last fits (room - length out) (q ++ drop read src) part after first more in
         record {
@@ -110,7 +110,7 @@ module _ {A : Type 0} {order : ByteOrder} {encode : ℕ → List A} {need : ℕ}
           full = λ f. (omega (arith, little.0, length-append q (drop read src), length-drop read src), little.1);
         }
     counts (Malformed k second) call =
-        let (x, within, whole, size, more, malformed, enough) = call.answer in
+        let (x, within, whole, size, more, stayed, malformed, enough) = call.answer in
         let cs = call.scalars in
         let total : 2 * length (flat_map encode_utf16 cs) + length x + length q ≡ length p + read =
         omega (

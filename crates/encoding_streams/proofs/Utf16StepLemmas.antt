@@ -108,6 +108,13 @@ module _ {A : Type 0} (order : ByteOrder) (encode : ℕ → List A) where
       pending_before = before;
       pending = pending_nil order;
       answer = (
+        omega (
+          arith,
+          ap length e,
+          length-append (utf16_bytes order (encode_utf16 c)) rest,
+          character_some order c s,
+          length-drop read src,
+        ),
         a.within,
         a.spelled,
         (λ some. absurd (some refl)),
@@ -133,8 +140,9 @@ module _ {A : Type 0} (order : ByteOrder) (encode : ℕ → List A) where
         let bytes = joined_bytes p q src a.scalars ds q' read r a.spelled
         (ap (λ xs. q ++ xs) (take_all r (take (length src - read) (drop read src)) (omega (arith, all))) ∙ whole) in
         (total, ap (λ xs. p ++ xs) (sym (take_all (read + r) src (omega (arith, total)))) ∙ bytes, closes)
-    ended OutputFull a ds left left' pending kept e (within, whole, same, part, after, first, more) =
+    ended OutputFull a ds left left' pending kept e (some, within, whole, same, part, after, first, more) =
         let rest : drop r (take (length src - read) (drop read src)) ≡ drop (read + r) src = ap (drop r) (take_rest src read) ∙ drop-drop r read src in (
+          omega (arith, some, rest_length src read),
           omega (arith, within, a.within, rest_length src read),
           joined_bytes p q src a.scalars ds q' read r a.spelled whole,
           (λ some. let now = same some in let had = kept (λ n. some (now.1 ∙ n)) in (omega (arith, now.0, had.0), now.1 ∙ had.1)),
@@ -143,13 +151,14 @@ module _ {A : Type 0} (order : ByteOrder) (encode : ℕ → List A) where
           subst (λ xs. IsFirstPartUtf16 order last (q' ++ xs) part after) rest first,
           subst (λ n. NeedsMore encode need n part) e more,
         )
-    ended (Malformed k second) a ds left left' pending kept e (x, within, whole, size, more, malformed, room) =
+    ended (Malformed k second) a ds left left' pending kept e (x, within, whole, size, more, stayed, malformed, room) =
         let rest : drop r (take (length src - read) (drop read src)) ≡ drop (read + r) src = ap (drop r) (take_rest src read) ∙ drop-drop r read src in (
           x,
           omega (arith, within, a.within, rest_length src read),
           joined_bytes p q src a.scalars ds (x ++ q') read r a.spelled whole,
           size,
           more,
+          (λ some. let none = stayed some in omega (arith, none, (kept (λ n. no_sequence none n)).0)),
           subst (λ xs. IsMalformedUtf16 order x (q' ++ xs) last) rest malformed,
           (λ some. elim (cases_lt 0 (length (take (length src - read) (drop read src)))) [
             | inl h ↦ subst (λ n. need ≤ n) e (room h)
@@ -157,6 +166,21 @@ module _ {A : Type 0} (order : ByteOrder) (encode : ℕ → List A) where
           ]),
         )
       where
+        -- with nothing read and nothing pending there is none
+        no_sequence : r ≡ 0 → q ≡ [] → ⊥
+        no_sequence none n =
+            omega (
+              arith,
+              ap length whole,
+              length-append q (take r (take (length src - read) (drop read src))),
+              length-take r (take (length src - read) (drop read src)),
+              none,
+              ap length n,
+              length-append (bytes_of_scalars order ds) (x ++ q'),
+              length-append x q',
+              malformed_some order x _ last malformed,
+            )
+
         -- with nothing unread, a malformed sequence was pending, and so nothing was read
         nothing : (ys : List ℕ) → (ys ≢ [] → (read ≡ 0) × (ys ≡ p))
             → ys ++ take r (take (length src - read) (drop read src)) ≡ bytes_of_scalars order ds ++ (x ++ q')

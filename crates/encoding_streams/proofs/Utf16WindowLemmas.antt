@@ -1,5 +1,5 @@
 -- What a call of the UTF-16 decoder does at the pending bytes and the first bytes of its source, at most four together.
-use Rattle.std.proofs.Common.{◌≡◌, ◌≢◌, ℕ, ◌+◌, ◌-◌, ◌*◌, ◌/◌, ◌<◌, ◌≤◌, inl, inr, Bool, true, List, [], ◌∷◌, ◌++◌, length, take, drop, get_or, min, refl, sym, ap, ◌∙◌, arith, subst, append_assoc}
+use Rattle.std.proofs.Common.{◌≡◌, ◌≢◌, ℕ, ◌+◌, ◌-◌, ◌*◌, ◌/◌, ◌<◌, ◌≤◌, inl, inr, Bool, true, false, List, [], ◌∷◌, ◌++◌, length, take, drop, get_or, min, refl, sym, ap, ◌∙◌, arith, subst, append_assoc}
 use Rattle.std.specs.Char.Escape.{encode_utf16}
 use Rattle.std.specs.List.{flat_map}
 use Rattle.std.specs.Str.{all_scalars}
@@ -20,7 +20,7 @@ use Rattle.encoding_text.proofs.SurrogateLemmas.{unpaired_after}
 use Rattle.encoding_streams.specs.Utf16Parts.{bytes_of_scalars, IsPendingUtf16, IsMalformedUtf16, IsFirstPartUtf16}
 use Rattle.encoding_streams.specs.Utf16Decoding.{NeedsMore, DecodeUtf16StepInto}
 use Rattle.encoding_streams.specs.Utf16Steps.{Advances, WritesUnits, BeginsUnpaired}
-use Rattle.encoding_streams.proofs.Utf16ByteLemmas.{length-unit_bytes, length-utf16_bytes, no_characters_pending, length-pending, pending_nil}
+use Rattle.encoding_streams.proofs.Utf16ByteLemmas.{length-unit_bytes, same_unit, length-utf16_bytes, no_character_pending, no_characters_pending, length-pending, pending_nil}
 use Rattle.encoding_streams.proofs.Utf16StepLemmas.{scalars_split, within_units, done_bytes, block_advances, too_long}
 
 third : (xs : List ℕ) → take 1 (drop 2 xs) ≡ drop 2 (take 3 xs)
@@ -43,13 +43,38 @@ none_done order cs h e =
     empty [] e = refl
     empty (x ∷ xs) e = absurd (omega arith)
 
+-- pending bytes start with no surrogate that is known to be unpaired
+pub not_unpaired : (order : ByteOrder) (p : List ℕ) → IsPendingUtf16 order p → (x rest : List ℕ) → p ≡ x ++ rest → IsMalformedUtf16 order x rest false → ⊥
+not_unpaired order p pending x rest e (inl (u, low, f)) = start pending.surrogate pending.is_high (sym pending.whole ∙ e ∙ ap (λ xs. xs ++ rest) f)
+  where
+    start : (high : List ℕ) → IsPendingSurrogate high → utf16_bytes order high ++ pending.odd ≡ unit_bytes order u ++ rest → ⊥
+    start [] h g = omega (arith, ap length g, length-append (unit_bytes order u) rest, length-unit_bytes order u, pending.one)
+    start (v ∷ []) h g =
+        let same = same_unit order v u pending.odd rest (omega (arith, h)) (omega (arith, low))
+        (ap (λ xs. xs ++ pending.odd) (sym (append-nil (unit_bytes order v))) ∙ g) in
+        omega (arith, same.0, h, low)
+    start (v ∷ t ∷ us) h g = h
+not_unpaired order p pending x rest e (inr (inl h)) =
+    omega (
+      arith,
+      length-pending order p pending,
+      ap length e,
+      length-append x rest,
+      ap length h.bytes,
+      length-unit_bytes order h.unit,
+      ap length h.following,
+      length-append (unit_bytes order h.next) h.more,
+      length-unit_bytes order h.next,
+    )
+not_unpaired order p pending x rest e (inr (inr (some, also, none, l))) = cc
+
 module _ {A : Type 0} (order : ByteOrder) (encode : ℕ → List A) (need : ℕ) (p src w : List ℕ) (old : List A) (last : Bool) (before : IsPendingUtf16 order p)
     (first : w ≡ take 4 (p ++ src)) where
   -- a call that writes nothing and ends
-  silent_full : (part : Part) (after : List ℕ) (new : List A) → WritesPrefix old new 0 []
+  silent_full : (part : Part) (after : List ℕ) (new : List A) → 0 < length src → WritesPrefix old new 0 []
       → IsFirstPartUtf16 order last (p ++ src) part after → NeedsMore encode need (length old) part
       → DecodeUtf16StepInto order encode need p src old new last OutputFull 0 0 p
-  silent_full part after new writes f more = (
+  silent_full part after new some writes f more = (
     [],
     writes,
     record {
@@ -60,6 +85,7 @@ module _ {A : Type 0} (order : ByteOrder) (encode : ℕ → List A) (need : ℕ)
       pending_before = before;
       pending = before;
       answer = (
+        some,
         omega arith,
         append-nil p,
         (λ _. (refl, refl)),
@@ -72,10 +98,10 @@ module _ {A : Type 0} (order : ByteOrder) (encode : ℕ → List A) (need : ℕ)
   )
 
   silent_report : (x q : List ℕ) (k second read : ℕ) → IsPendingUtf16 order q → read ≤ length src → p ++ take read src ≡ x ++ q
-      → length x ≡ k → length q ≡ second
+      → length x ≡ k → length q ≡ second → (q ≢ [] → read ≡ 0)
       → IsMalformedUtf16 order x (q ++ drop read src) last → (0 < length src → need ≤ length old)
       → DecodeUtf16StepInto order encode need p src old old last (Malformed k second) read 0 q
-  silent_report x q k second read pending within whole size more malformed room = (
+  silent_report x q k second read pending within whole size more stayed malformed room = (
     [],
     WritesPrefix-nil old,
     record {
@@ -91,11 +117,16 @@ module _ {A : Type 0} (order : ByteOrder) (encode : ℕ → List A) (need : ℕ)
         whole,
         size,
         more,
+        stayed,
         malformed,
         (λ some. omega (arith, room some)),
       );
     },
   )
+
+  -- the source isn't empty
+  some_unread : (src ≡ [] → ⊥) → 0 < length src
+  some_unread n = elim (cases_lt 0 (length src)) [ inl h ↦ h | inr h ↦ absurd (n (nil_from_length src (omega arith))) ]
 
   length_first : (length w ≤ 4) × (length w ≤ length p + length src)
   length_first = (omega (arith, ap length first, length-take 4 (p ++ src)), omega (arith, ap length first, length-take 4 (p ++ src), length-append p src))
@@ -115,10 +146,12 @@ module _ {A : Type 0} (order : ByteOrder) (encode : ℕ → List A) (need : ℕ)
         let none : writes.done ≡ [] = none_done order writes.done scalars (sym writes.taken_is ∙ zero_taken) in
         let nothing : written ≡ 0 = writes.writes.count ∙ ap (λ cs. length (flat_map encode cs)) none in
         let (c, rest, s, e, l) = too_long order encode (p ++ src) units old new taken written writes all_spelled (omega (arith, some, zero_taken)) in
+        let next : p ++ src ≡ utf16_bytes order (encode_utf16 c) ++ rest = ap (λ n. drop (2 * n) (p ++ src)) (sym zero_taken) ∙ e in
         silent_full (Character c) rest new
+        (some_unread (λ n. no_character_pending order c rest p s before (sym (append-nil p) ∙ ap (λ xs. p ++ xs) (sym n) ∙ next)))
         (subst (λ xs. WritesPrefix old new 0 (flat_map encode xs)) none
         (subst (λ n. WritesPrefix old new n (flat_map encode writes.done)) nothing writes.writes))
-        (s, ap (λ n. drop (2 * n) (p ++ src)) (sym zero_taken) ∙ e) (omega (arith, l, nothing))
+        (s, next) (omega (arith, l, nothing))
 
     pub fewer_pending : taken ≢ 0 → length p < 2 * taken
     fewer_pending some = elim (cases_lt (length p) (2 * taken)) [
@@ -154,22 +187,25 @@ module _ {A : Type 0} (order : ByteOrder) (encode : ℕ → List A) (need : ℕ)
     rest_after_two = sym (drop-append-le 2 w (drop 4 (p ++ src)) two) ∙ ap (λ xs. drop 2 (xs ++ drop 4 (p ++ src))) first
         ∙ ap (drop 2) (take-append-drop 4 (p ++ src))
 
-    is_malformed : IsMalformedUtf16 order (take 2 (p ++ src)) (drop 2 (p ++ src)) last
-    is_malformed = subst (λ xs. IsMalformedUtf16 order xs (drop 2 (p ++ src)) last) two_bytes_first
-        (subst (λ xs. IsMalformedUtf16 order (take 2 w) xs last) rest_after_two (unpaired (drop 4 (p ++ src)) last))
+    is_malformed : (final : Bool) → IsMalformedUtf16 order (take 2 (p ++ src)) (drop 2 (p ++ src)) final
+    is_malformed final = subst (λ xs. IsMalformedUtf16 order xs (drop 2 (p ++ src)) final) two_bytes_first
+        (subst (λ xs. IsMalformedUtf16 order (take 2 w) xs final) rest_after_two (unpaired (drop 4 (p ++ src)) final))
 
     pub unpaired_full : length old < need → DecodeUtf16StepInto order encode need p src old old last OutputFull 0 0 p
     unpaired_full l =
-        silent_full (IllFormed (take 2 (p ++ src))) (drop 2 (p ++ src)) old (WritesPrefix-nil old) (sym (take-append-drop 2 (p ++ src)), is_malformed) l
+        silent_full (IllFormed (take 2 (p ++ src))) (drop 2 (p ++ src)) old
+        (some_unread (λ n. not_unpaired order p before _ _
+        (sym (append-nil p) ∙ ap (λ xs. p ++ xs) (sym n) ∙ sym (take-append-drop 2 (p ++ src))) (is_malformed false)))
+        (WritesPrefix-nil old) (sym (take-append-drop 2 (p ++ src)), is_malformed last) l
 
     pub unpaired_read : length p < 3 → need ≤ length old → DecodeUtf16StepInto order encode need p src old old last (Malformed 2 0) (2 - length p) 0 []
     unpaired_read l room =
         let sum : length p + (2 - length p) ≡ 2 = omega (arith, l) in
         silent_report (take 2 (p ++ src)) [] 2 0 (2 - length p) (pending_nil order) (omega (arith, length_first.1, two, l))
         (sym (take-append-add p src (2 - length p)) ∙ ap (λ n. take n (p ++ src)) sum ∙ sym (append-nil (take 2 (p ++ src))))
-        (length-take-le 2 (p ++ src) (omega (arith, length_first.1, two, length-append p src))) refl
+        (length-take-le 2 (p ++ src) (omega (arith, length_first.1, two, length-append p src))) refl (λ some. absurd (some refl))
         (subst (λ xs. IsMalformedUtf16 order (take 2 (p ++ src)) xs last)
-        (sym (sym (drop-append-add p src (2 - length p)) ∙ ap (λ n. drop n (p ++ src)) sum)) is_malformed)
+        (sym (sym (drop-append-add p src (2 - length p)) ∙ ap (λ n. drop n (p ++ src)) sum)) (is_malformed last))
         (λ _. room)
 
     pub unpaired_pending : 3 ≤ length p → need ≤ length old → (window q : List ℕ) (count : ℕ) → take count window ≡ w → 3 ≤ count → q ≡ take 1 (drop 2 window)
@@ -189,9 +225,9 @@ module _ {A : Type 0} (order : ByteOrder) (encode : ℕ → List A) (need : ℕ)
           whole =
               refl;
         }) (omega arith)
-        (append-nil p ∙ sym (take-append-drop 2 p)) (length-take-le 2 p (omega (arith, three))) one
+        (append-nil p ∙ sym (take-append-drop 2 p)) (length-take-le 2 p (omega (arith, three))) one (λ _. refl)
         (subst (λ xs. IsMalformedUtf16 order xs (drop 2 p ++ src) last) (take-append-le 2 p src (omega (arith, three)))
-        (subst (λ xs. IsMalformedUtf16 order (take 2 (p ++ src)) xs last) (drop-append-le 2 p src (omega (arith, three))) is_malformed))
+        (subst (λ xs. IsMalformedUtf16 order (take 2 (p ++ src)) xs last) (drop-append-le 2 p src (omega (arith, three))) (is_malformed last)))
         (λ _. room))
 
   -- ---- no more than the start of a character
@@ -218,14 +254,14 @@ module _ {A : Type 0} (order : ByteOrder) (encode : ℕ → List A) (need : ℕ)
     cut_off : last ≡ true → 0 < length w → IsMalformedUtf16 order w [] last
     cut_off l some = inr (inr ((λ n. omega (arith, ap length n, some)), incomplete, refl, l))
 
-    pub cut_full : last ≡ true → 0 < length w → length old < need → DecodeUtf16StepInto order encode need p src old old last OutputFull 0 0 p
-    cut_full l some room = silent_full (IllFormed w) [] old (WritesPrefix-nil old) (sym whole_window ∙ sym (append-nil w), cut_off l some) room
+    pub cut_full : last ≡ true → 0 < length w → 0 < length src → length old < need → DecodeUtf16StepInto order encode need p src old old last OutputFull 0 0 p
+    cut_full l some unread room = silent_full (IllFormed w) [] old unread (WritesPrefix-nil old) (sym whole_window ∙ sym (append-nil w), cut_off l some) room
 
     pub cut_report : (k : ℕ) → last ≡ true → 0 < length w → k ≡ length w → (0 < length src → need ≤ length old)
         → DecodeUtf16StepInto order encode need p src old old last (Malformed k 0) (length src) 0 []
     cut_report k l some e room =
         silent_report w [] k 0 (length src) (pending_nil order) (omega arith)
-        (ap (λ xs. p ++ xs) (take_all (length src) src (omega arith)) ∙ sym whole_window ∙ sym (append-nil w)) (sym e) refl
+        (ap (λ xs. p ++ xs) (take_all (length src) src (omega arith)) ∙ sym whole_window ∙ sym (append-nil w)) (sym e) refl (λ some. absurd (some refl))
         (subst (λ xs. IsMalformedUtf16 order w xs last) (sym (drop_all (length src) src (omega arith))) (cut_off l some)) room
 
 -- ---- code units that start with no character

@@ -26,10 +26,10 @@ abbrev pub IsUtf16DecodeResult : {A : Type 0} → ByteOrder → (ℕ → List A)
 IsUtf16DecodeResult order encode need p src last InputEmpty read cs left q =
     (read ≡ length src) × (p ++ src ≡ bytes_of_scalars order cs ++ q) × (last ≡ true → q ≡ [])
 IsUtf16DecodeResult order encode need p src last OutputFull read cs left q =
-    (read ≤ length src) × (p ++ take read src ≡ bytes_of_scalars order cs ++ q) × (q ≢ [] → (read ≡ 0) × (q ≡ p))
+    (0 < length src) × (read ≤ length src) × (p ++ take read src ≡ bytes_of_scalars order cs ++ q) × (q ≢ [] → (read ≡ 0) × (q ≡ p))
     × (part : Part) × (after : List ℕ) × IsFirstPartUtf16 order last (q ++ drop read src) part after × NeedsMore encode need left part
 IsUtf16DecodeResult order encode need p src last (Malformed k second) read cs left q =
-    (x : List ℕ) × (read ≤ length src) × (p ++ take read src ≡ bytes_of_scalars order cs ++ (x ++ q)) × (length x ≡ k) × (length q ≡ second)
+    (x : List ℕ) × (read ≤ length src) × (p ++ take read src ≡ bytes_of_scalars order cs ++ (x ++ q)) × (length x ≡ k) × (length q ≡ second) × (q ≢ [] → read ≡ 0)
     × IsMalformedUtf16 order x (q ++ drop read src) last × (0 < length src → need ≤ left)
 
 -- one call, which reads the first `read` bytes of src and writes `out`

@@ -44,7 +44,7 @@ BeginsUnpaired [] = ⊥
 BeginsUnpaired (u ∷ []) = IsLowSurrogate u
 BeginsUnpaired (u ∷ v ∷ us) = IsLowSurrogate u ⊎ (IsHighSurrogate u × (v < 0x10000) × (IsLowSurrogate v → ⊥))
 
--- what these bytes start with, of which there are at most four, and which more may follow only if there are four
+-- what these bytes start with: more may follow them only if they are four
 abbrev pub IsFirstOf : ByteOrder → List ℕ → First → Type 0
 IsFirstOf order w (Characters units count) =
     (0 < count) × (count ≤ length units) × (2 * count ≤ length w) × IsValidUtf16 (take count units) × (utf16_bytes order (take count units) ≡ take (2 * count) w)

@@ -4,7 +4,6 @@ use crate::utf16_vectors::ROWS;
 use encoding_streams::utf16_decoder::Utf16Decoder;
 use encoding_text::decoder::DecoderResult;
 use encoding_text::utf_16::ByteOrder;
-use std::test::Fail;
 
 /// How many calls a piece takes at most.
 const CALLS: usize = 32;
@@ -133,13 +132,18 @@ fn cut_sets(bytes: &[u8]) -> u32 {
     sets
 }
 
-/// Returns whether these bytes, with every set of cuts and into destinations of 0 to 5, are decoded to these parts.
-fn come_in_parts(order: ByteOrder, bytes: &[u8], parts: &[u32]) -> bool {
+/// Returns whether these bytes, with every set of cuts and into destinations of every length below `rooms`, are decoded
+/// to these parts.
+fn come_in_parts(
+    order: ByteOrder,
+    bytes: &[u8],
+    rooms: usize,
+    to_utf8: bool,
+    parts: &[u32],
+) -> bool {
     for cuts in 0..cut_sets(bytes) {
-        for room in 0..6 {
-            if !decodes_to(order, bytes, cuts, room, false, parts)
-                || !decodes_to(order, bytes, cuts, room, true, parts)
-            {
+        for room in 0..rooms {
+            if !decodes_to(order, bytes, cuts, room, to_utf8, parts) {
                 return false;
             }
         }
@@ -148,19 +152,47 @@ fn come_in_parts(order: ByteOrder, bytes: &[u8], parts: &[u32]) -> bool {
 }
 
 #[test]
-fn every_cut_and_room(rt: HostRuntime) -> Result<(), Fail> {
-    for (little, big, parts) in &ROWS {
+fn every_cut_of_utf16le_to_utf16(rt: HostRuntime) {
+    for (little, _, parts) in &ROWS {
         assert!(rt;
-            come_in_parts(ByteOrder::LittleEndian, little, parts),
+            come_in_parts(ByteOrder::LittleEndian, little, 3, false, parts),
             "UTF-16LE {little:?}"
         );
+    }
+    assert!(rt; ROWS.len() == 169);
+}
+
+#[test]
+fn every_cut_of_utf16be_to_utf16(rt: HostRuntime) {
+    for (_, big, parts) in &ROWS {
         assert!(rt;
-            come_in_parts(ByteOrder::BigEndian, big, parts),
+            come_in_parts(ByteOrder::BigEndian, big, 3, false, parts),
             "UTF-16BE {big:?}"
         );
     }
     assert!(rt; ROWS.len() == 169);
-    Ok(())
+}
+
+#[test]
+fn every_cut_of_utf16le_to_utf8(rt: HostRuntime) {
+    for (little, _, parts) in &ROWS {
+        assert!(rt;
+            come_in_parts(ByteOrder::LittleEndian, little, 5, true, parts),
+            "UTF-16LE {little:?}"
+        );
+    }
+    assert!(rt; ROWS.len() == 169);
+}
+
+#[test]
+fn every_cut_of_utf16be_to_utf8(rt: HostRuntime) {
+    for (_, big, parts) in &ROWS {
+        assert!(rt;
+            come_in_parts(ByteOrder::BigEndian, big, 5, true, parts),
+            "UTF-16BE {big:?}"
+        );
+    }
+    assert!(rt; ROWS.len() == 169);
 }
 
 /// Returns whether a high surrogate and an odd byte that stay pending are reported where the next byte shows it: two

@@ -1,5 +1,5 @@
 use Rattle.std.proofs.Common.{◌≡◌, ◌≢◌, ℕ, ◌+◌, ◌<◌, ◌≤◌, ◌*◌, ◌-◌, true, List, [], ◌++◌, length, take, min, refl, sym, ap, ◌∙◌, arith}
-use Rattle.std.proofs.lemmas.Bool.{both_ways, eqb-true}
+use Rattle.std.proofs.lemmas.Bool.{both_ways, eqb-true, eqb-false}
 use Rattle.std.proofs.lemmas.List.{length-append, length-take, length-take-le}
 use Rattle.encoding_streams.proofs.Utf16WindowLemmas.{at_most_two, window_full, fewer_pending, window_advances, unpaired_full, unpaired_read, unpaired_pending, pending_whole, cut_full, cut_report}
 use Rattle.encoding_streams.proofs.utf16_decoder.resume.Goals.{then-not-last-via-then-not-last, then-not-last-via-else-not-last+then-count-eq0, else-not-is_empty-via-then-not-is_empty+else-dst-max_units_per_scalar-2, else-not-is_empty-via-else-not-is_empty}
@@ -93,8 +93,9 @@ pub returns-then-dst-max_units_per_scalar-2 : goal.returns-then-dst-max_units_pe
 returns-then-dst-max_units_per_scalar-2 g c =
     let joined = c.followed_by-count.ensures in
     let size = window_length _ _ c.followed_by-count.result.0 _ joined.count joined.bytes in
+    let unread : length c.args.src.now ≢ 0 = eqb-false _ _ (sym c.is_empty.ensures ∙ c.if-not-is_empty.true) in
     cut_full c.args.order g.U.CodeUnit.encode g.U.CodeUnit.need _ _ _ _ _ c.requires.pending joined.bytes c.in-Incomplete.ensures c.if-not-last.false
-    (omega (arith, c.if-count-eq0.false, size))
+    (omega (arith, c.if-count-eq0.false, size)) (omega (arith, unread))
     (omega (arith, c.if-dst-max_units_per_scalar-2.true, c.max_units_per_scalar-then-not-is_empty.ensures.dst_length))
 
 pub returns-else-not-is_empty : goal.returns-else-not-is_empty
