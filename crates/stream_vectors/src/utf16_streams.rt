@@ -1,6 +1,6 @@
 //! The UTF-16 decoder over the vectors, with every set of cuts and into every short destination; and its queries.
 
-use crate::utf16_vectors::ROWS;
+use crate::utf16_vectors::{ROWS, row_of};
 use encoding_streams::utf16_decoder::Utf16Decoder;
 use encoding_text::decoder::DecoderResult;
 use encoding_text::utf_16::ByteOrder;
@@ -104,7 +104,7 @@ fn decodes_to(
     };
     let mut cuts = cuts;
     let mut rest = bytes;
-    for place in 0..bytes.len().saturating_add(1) {
+    for place in 1..bytes.len() {
         let start = bytes.len().saturating_sub(rest.len());
         if cuts % 2 == 1 {
             let (Some(piece), Some(following)) = (bytes.get(start..place), bytes.get(place..))
@@ -123,76 +123,61 @@ fn decodes_to(
         && chain.decoder.in_neutral_state()
 }
 
-/// Returns the number of sets of cuts: before the first byte, between two, and after the last.
+/// Returns the number of sets of cuts between two bytes.
 fn cut_sets(bytes: &[u8]) -> u32 {
-    let mut sets = 2u32;
-    for _ in bytes {
+    let mut sets = 1u32;
+    for _ in 1..bytes.len() {
         sets = sets.saturating_mul(2);
     }
     sets
 }
 
-/// Returns whether these bytes, with every set of cuts and into destinations of every length below `rooms`, are decoded
-/// to these parts.
-fn come_in_parts(
-    order: ByteOrder,
-    bytes: &[u8],
-    rooms: usize,
-    to_utf8: bool,
-    parts: &[u32],
-) -> bool {
-    for cuts in 0..cut_sets(bytes) {
-        for room in 0..rooms {
-            if !decodes_to(order, bytes, cuts, room, to_utf8, parts) {
-                return false;
+/// Returns whether the bytes of each row, with every set of cuts and into destinations of every length below `rooms`, are
+/// decoded to their parts.
+fn come_in_parts(order: ByteOrder, rooms: usize, to_utf8: bool) -> bool {
+    let mut rows = 0usize;
+    for line in ROWS.lines() {
+        let Some(row) = row_of(line) else {
+            return false;
+        };
+        let whole = match order {
+            ByteOrder::LittleEndian => row.little,
+            ByteOrder::BigEndian => row.big,
+        };
+        let (Some(bytes), Some(parts)) = (whole.get(..row.length), row.parts.get(..row.count))
+        else {
+            return false;
+        };
+        for cuts in 0..cut_sets(bytes) {
+            for room in 0..rooms {
+                if !decodes_to(order, bytes, cuts, room, to_utf8, parts) {
+                    return false;
+                }
             }
         }
+        rows = rows.saturating_add(1);
     }
-    true
+    rows == 168
 }
 
 #[test]
 fn every_cut_of_utf16le_to_utf16(rt: HostRuntime) {
-    for (little, _, parts) in &ROWS {
-        assert!(rt;
-            come_in_parts(ByteOrder::LittleEndian, little, 3, false, parts),
-            "UTF-16LE {little:?}"
-        );
-    }
-    assert!(rt; ROWS.len() == 169);
+    assert!(rt; come_in_parts(ByteOrder::LittleEndian, 3, false));
 }
 
 #[test]
 fn every_cut_of_utf16be_to_utf16(rt: HostRuntime) {
-    for (_, big, parts) in &ROWS {
-        assert!(rt;
-            come_in_parts(ByteOrder::BigEndian, big, 3, false, parts),
-            "UTF-16BE {big:?}"
-        );
-    }
-    assert!(rt; ROWS.len() == 169);
+    assert!(rt; come_in_parts(ByteOrder::BigEndian, 3, false));
 }
 
 #[test]
 fn every_cut_of_utf16le_to_utf8(rt: HostRuntime) {
-    for (little, _, parts) in &ROWS {
-        assert!(rt;
-            come_in_parts(ByteOrder::LittleEndian, little, 5, true, parts),
-            "UTF-16LE {little:?}"
-        );
-    }
-    assert!(rt; ROWS.len() == 169);
+    assert!(rt; come_in_parts(ByteOrder::LittleEndian, 5, true));
 }
 
 #[test]
 fn every_cut_of_utf16be_to_utf8(rt: HostRuntime) {
-    for (_, big, parts) in &ROWS {
-        assert!(rt;
-            come_in_parts(ByteOrder::BigEndian, big, 5, true, parts),
-            "UTF-16BE {big:?}"
-        );
-    }
-    assert!(rt; ROWS.len() == 169);
+    assert!(rt; come_in_parts(ByteOrder::BigEndian, 5, true));
 }
 
 /// Returns whether a high surrogate and an odd byte that stay pending are reported where the next byte shows it: two
@@ -262,15 +247,12 @@ fn decodes_long() -> Option<(usize, usize)> {
     let mut next = 0usize;
     for _ in 0..10_000 {
         let mut piece = [0; 4_099];
-        let mut length = 0usize;
-        for (offset, byte) in piece.iter_mut().enumerate() {
+        for offset in 0..4_099 {
             let place = next.saturating_add(offset);
-            if place < 200_000 {
-                let unit = unit_at(place / 2).to_le_bytes();
-                *byte = unit[place % 2];
-                length = length.saturating_add(1);
-            }
+            let [low, high] = unit_at(place / 2).to_le_bytes();
+            piece[offset] = if place % 2 == 0 { low } else { high };
         }
+        let length = 200_000usize.saturating_sub(next).min(4_099);
         let mut dst = [0; 1_000];
         let last = next.saturating_add(length) == 200_000;
         let (result, read, written) = decoder.decode_to_utf16_raw(
@@ -279,10 +261,7 @@ fn decodes_long() -> Option<(usize, usize)> {
             last,
         );
         for unit in dst.get(..written)? {
-            if unit_at(came) == 0xDC00 {
-                return None;
-            }
-            if *unit != unit_at(came) {
+            if unit_at(came) == 0xDC00 || *unit != unit_at(came) {
                 return None;
             }
             came = came.saturating_add(1);

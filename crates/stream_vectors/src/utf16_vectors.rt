@@ -1,716 +1,237 @@
-//! Bytes of UTF-16LE and of UTF-16BE, at most six, and their parts: all lists of at most three code units of `0061`,
+//! Bytes of UTF-16LE and of UTF-16BE, at most six, and their parts: all lists of one to three code units of `0061`,
 //! `20AC`, `D83D` and `DC69`, each whole and without its last byte. The parts are those of Python's decoders of both byte
 //! orders, with an error handler that notes the length of each error.
 
-/// The bytes in each byte order, and the parts: a scalar value, or `0x200000` plus the length of a malformed sequence.
-pub const ROWS: [(&[u8], &[u8], &[u32]); 169] = [
-    (b"", b"", &[]),
-    (b"\x61\x00", b"\x00\x61", &[0x61]),
-    (b"\x61", b"\x00", &[0x200001]),
-    (b"\xAC\x20", b"\x20\xAC", &[0x20AC]),
-    (b"\xAC", b"\x20", &[0x200001]),
-    (b"\x3D\xD8", b"\xD8\x3D", &[0x200002]),
-    (b"\x3D", b"\xD8", &[0x200001]),
-    (b"\x69\xDC", b"\xDC\x69", &[0x200002]),
-    (b"\x69", b"\xDC", &[0x200001]),
-    (b"\x61\x00\x61\x00", b"\x00\x61\x00\x61", &[0x61, 0x61]),
-    (b"\x61\x00\x61", b"\x00\x61\x00", &[0x61, 0x200001]),
-    (b"\x61\x00\xAC\x20", b"\x00\x61\x20\xAC", &[0x61, 0x20AC]),
-    (b"\x61\x00\xAC", b"\x00\x61\x20", &[0x61, 0x200001]),
-    (b"\x61\x00\x3D\xD8", b"\x00\x61\xD8\x3D", &[0x61, 0x200002]),
-    (b"\x61\x00\x3D", b"\x00\x61\xD8", &[0x61, 0x200001]),
-    (b"\x61\x00\x69\xDC", b"\x00\x61\xDC\x69", &[0x61, 0x200002]),
-    (b"\x61\x00\x69", b"\x00\x61\xDC", &[0x61, 0x200001]),
-    (b"\xAC\x20\x61\x00", b"\x20\xAC\x00\x61", &[0x20AC, 0x61]),
-    (b"\xAC\x20\x61", b"\x20\xAC\x00", &[0x20AC, 0x200001]),
-    (b"\xAC\x20\xAC\x20", b"\x20\xAC\x20\xAC", &[0x20AC, 0x20AC]),
-    (b"\xAC\x20\xAC", b"\x20\xAC\x20", &[0x20AC, 0x200001]),
-    (
-        b"\xAC\x20\x3D\xD8",
-        b"\x20\xAC\xD8\x3D",
-        &[0x20AC, 0x200002],
-    ),
-    (b"\xAC\x20\x3D", b"\x20\xAC\xD8", &[0x20AC, 0x200001]),
-    (
-        b"\xAC\x20\x69\xDC",
-        b"\x20\xAC\xDC\x69",
-        &[0x20AC, 0x200002],
-    ),
-    (b"\xAC\x20\x69", b"\x20\xAC\xDC", &[0x20AC, 0x200001]),
-    (b"\x3D\xD8\x61\x00", b"\xD8\x3D\x00\x61", &[0x200002, 0x61]),
-    (b"\x3D\xD8\x61", b"\xD8\x3D\x00", &[0x200003]),
-    (
-        b"\x3D\xD8\xAC\x20",
-        b"\xD8\x3D\x20\xAC",
-        &[0x200002, 0x20AC],
-    ),
-    (b"\x3D\xD8\xAC", b"\xD8\x3D\x20", &[0x200003]),
-    (
-        b"\x3D\xD8\x3D\xD8",
-        b"\xD8\x3D\xD8\x3D",
-        &[0x200002, 0x200002],
-    ),
-    (b"\x3D\xD8\x3D", b"\xD8\x3D\xD8", &[0x200003]),
-    (b"\x3D\xD8\x69\xDC", b"\xD8\x3D\xDC\x69", &[0x1F469]),
-    (b"\x3D\xD8\x69", b"\xD8\x3D\xDC", &[0x200003]),
-    (b"\x69\xDC\x61\x00", b"\xDC\x69\x00\x61", &[0x200002, 0x61]),
-    (b"\x69\xDC\x61", b"\xDC\x69\x00", &[0x200002, 0x200001]),
-    (
-        b"\x69\xDC\xAC\x20",
-        b"\xDC\x69\x20\xAC",
-        &[0x200002, 0x20AC],
-    ),
-    (b"\x69\xDC\xAC", b"\xDC\x69\x20", &[0x200002, 0x200001]),
-    (
-        b"\x69\xDC\x3D\xD8",
-        b"\xDC\x69\xD8\x3D",
-        &[0x200002, 0x200002],
-    ),
-    (b"\x69\xDC\x3D", b"\xDC\x69\xD8", &[0x200002, 0x200001]),
-    (
-        b"\x69\xDC\x69\xDC",
-        b"\xDC\x69\xDC\x69",
-        &[0x200002, 0x200002],
-    ),
-    (b"\x69\xDC\x69", b"\xDC\x69\xDC", &[0x200002, 0x200001]),
-    (
-        b"\x61\x00\x61\x00\x61\x00",
-        b"\x00\x61\x00\x61\x00\x61",
-        &[0x61, 0x61, 0x61],
-    ),
-    (
-        b"\x61\x00\x61\x00\x61",
-        b"\x00\x61\x00\x61\x00",
-        &[0x61, 0x61, 0x200001],
-    ),
-    (
-        b"\x61\x00\x61\x00\xAC\x20",
-        b"\x00\x61\x00\x61\x20\xAC",
-        &[0x61, 0x61, 0x20AC],
-    ),
-    (
-        b"\x61\x00\x61\x00\xAC",
-        b"\x00\x61\x00\x61\x20",
-        &[0x61, 0x61, 0x200001],
-    ),
-    (
-        b"\x61\x00\x61\x00\x3D\xD8",
-        b"\x00\x61\x00\x61\xD8\x3D",
-        &[0x61, 0x61, 0x200002],
-    ),
-    (
-        b"\x61\x00\x61\x00\x3D",
-        b"\x00\x61\x00\x61\xD8",
-        &[0x61, 0x61, 0x200001],
-    ),
-    (
-        b"\x61\x00\x61\x00\x69\xDC",
-        b"\x00\x61\x00\x61\xDC\x69",
-        &[0x61, 0x61, 0x200002],
-    ),
-    (
-        b"\x61\x00\x61\x00\x69",
-        b"\x00\x61\x00\x61\xDC",
-        &[0x61, 0x61, 0x200001],
-    ),
-    (
-        b"\x61\x00\xAC\x20\x61\x00",
-        b"\x00\x61\x20\xAC\x00\x61",
-        &[0x61, 0x20AC, 0x61],
-    ),
-    (
-        b"\x61\x00\xAC\x20\x61",
-        b"\x00\x61\x20\xAC\x00",
-        &[0x61, 0x20AC, 0x200001],
-    ),
-    (
-        b"\x61\x00\xAC\x20\xAC\x20",
-        b"\x00\x61\x20\xAC\x20\xAC",
-        &[0x61, 0x20AC, 0x20AC],
-    ),
-    (
-        b"\x61\x00\xAC\x20\xAC",
-        b"\x00\x61\x20\xAC\x20",
-        &[0x61, 0x20AC, 0x200001],
-    ),
-    (
-        b"\x61\x00\xAC\x20\x3D\xD8",
-        b"\x00\x61\x20\xAC\xD8\x3D",
-        &[0x61, 0x20AC, 0x200002],
-    ),
-    (
-        b"\x61\x00\xAC\x20\x3D",
-        b"\x00\x61\x20\xAC\xD8",
-        &[0x61, 0x20AC, 0x200001],
-    ),
-    (
-        b"\x61\x00\xAC\x20\x69\xDC",
-        b"\x00\x61\x20\xAC\xDC\x69",
-        &[0x61, 0x20AC, 0x200002],
-    ),
-    (
-        b"\x61\x00\xAC\x20\x69",
-        b"\x00\x61\x20\xAC\xDC",
-        &[0x61, 0x20AC, 0x200001],
-    ),
-    (
-        b"\x61\x00\x3D\xD8\x61\x00",
-        b"\x00\x61\xD8\x3D\x00\x61",
-        &[0x61, 0x200002, 0x61],
-    ),
-    (
-        b"\x61\x00\x3D\xD8\x61",
-        b"\x00\x61\xD8\x3D\x00",
-        &[0x61, 0x200003],
-    ),
-    (
-        b"\x61\x00\x3D\xD8\xAC\x20",
-        b"\x00\x61\xD8\x3D\x20\xAC",
-        &[0x61, 0x200002, 0x20AC],
-    ),
-    (
-        b"\x61\x00\x3D\xD8\xAC",
-        b"\x00\x61\xD8\x3D\x20",
-        &[0x61, 0x200003],
-    ),
-    (
-        b"\x61\x00\x3D\xD8\x3D\xD8",
-        b"\x00\x61\xD8\x3D\xD8\x3D",
-        &[0x61, 0x200002, 0x200002],
-    ),
-    (
-        b"\x61\x00\x3D\xD8\x3D",
-        b"\x00\x61\xD8\x3D\xD8",
-        &[0x61, 0x200003],
-    ),
-    (
-        b"\x61\x00\x3D\xD8\x69\xDC",
-        b"\x00\x61\xD8\x3D\xDC\x69",
-        &[0x61, 0x1F469],
-    ),
-    (
-        b"\x61\x00\x3D\xD8\x69",
-        b"\x00\x61\xD8\x3D\xDC",
-        &[0x61, 0x200003],
-    ),
-    (
-        b"\x61\x00\x69\xDC\x61\x00",
-        b"\x00\x61\xDC\x69\x00\x61",
-        &[0x61, 0x200002, 0x61],
-    ),
-    (
-        b"\x61\x00\x69\xDC\x61",
-        b"\x00\x61\xDC\x69\x00",
-        &[0x61, 0x200002, 0x200001],
-    ),
-    (
-        b"\x61\x00\x69\xDC\xAC\x20",
-        b"\x00\x61\xDC\x69\x20\xAC",
-        &[0x61, 0x200002, 0x20AC],
-    ),
-    (
-        b"\x61\x00\x69\xDC\xAC",
-        b"\x00\x61\xDC\x69\x20",
-        &[0x61, 0x200002, 0x200001],
-    ),
-    (
-        b"\x61\x00\x69\xDC\x3D\xD8",
-        b"\x00\x61\xDC\x69\xD8\x3D",
-        &[0x61, 0x200002, 0x200002],
-    ),
-    (
-        b"\x61\x00\x69\xDC\x3D",
-        b"\x00\x61\xDC\x69\xD8",
-        &[0x61, 0x200002, 0x200001],
-    ),
-    (
-        b"\x61\x00\x69\xDC\x69\xDC",
-        b"\x00\x61\xDC\x69\xDC\x69",
-        &[0x61, 0x200002, 0x200002],
-    ),
-    (
-        b"\x61\x00\x69\xDC\x69",
-        b"\x00\x61\xDC\x69\xDC",
-        &[0x61, 0x200002, 0x200001],
-    ),
-    (
-        b"\xAC\x20\x61\x00\x61\x00",
-        b"\x20\xAC\x00\x61\x00\x61",
-        &[0x20AC, 0x61, 0x61],
-    ),
-    (
-        b"\xAC\x20\x61\x00\x61",
-        b"\x20\xAC\x00\x61\x00",
-        &[0x20AC, 0x61, 0x200001],
-    ),
-    (
-        b"\xAC\x20\x61\x00\xAC\x20",
-        b"\x20\xAC\x00\x61\x20\xAC",
-        &[0x20AC, 0x61, 0x20AC],
-    ),
-    (
-        b"\xAC\x20\x61\x00\xAC",
-        b"\x20\xAC\x00\x61\x20",
-        &[0x20AC, 0x61, 0x200001],
-    ),
-    (
-        b"\xAC\x20\x61\x00\x3D\xD8",
-        b"\x20\xAC\x00\x61\xD8\x3D",
-        &[0x20AC, 0x61, 0x200002],
-    ),
-    (
-        b"\xAC\x20\x61\x00\x3D",
-        b"\x20\xAC\x00\x61\xD8",
-        &[0x20AC, 0x61, 0x200001],
-    ),
-    (
-        b"\xAC\x20\x61\x00\x69\xDC",
-        b"\x20\xAC\x00\x61\xDC\x69",
-        &[0x20AC, 0x61, 0x200002],
-    ),
-    (
-        b"\xAC\x20\x61\x00\x69",
-        b"\x20\xAC\x00\x61\xDC",
-        &[0x20AC, 0x61, 0x200001],
-    ),
-    (
-        b"\xAC\x20\xAC\x20\x61\x00",
-        b"\x20\xAC\x20\xAC\x00\x61",
-        &[0x20AC, 0x20AC, 0x61],
-    ),
-    (
-        b"\xAC\x20\xAC\x20\x61",
-        b"\x20\xAC\x20\xAC\x00",
-        &[0x20AC, 0x20AC, 0x200001],
-    ),
-    (
-        b"\xAC\x20\xAC\x20\xAC\x20",
-        b"\x20\xAC\x20\xAC\x20\xAC",
-        &[0x20AC, 0x20AC, 0x20AC],
-    ),
-    (
-        b"\xAC\x20\xAC\x20\xAC",
-        b"\x20\xAC\x20\xAC\x20",
-        &[0x20AC, 0x20AC, 0x200001],
-    ),
-    (
-        b"\xAC\x20\xAC\x20\x3D\xD8",
-        b"\x20\xAC\x20\xAC\xD8\x3D",
-        &[0x20AC, 0x20AC, 0x200002],
-    ),
-    (
-        b"\xAC\x20\xAC\x20\x3D",
-        b"\x20\xAC\x20\xAC\xD8",
-        &[0x20AC, 0x20AC, 0x200001],
-    ),
-    (
-        b"\xAC\x20\xAC\x20\x69\xDC",
-        b"\x20\xAC\x20\xAC\xDC\x69",
-        &[0x20AC, 0x20AC, 0x200002],
-    ),
-    (
-        b"\xAC\x20\xAC\x20\x69",
-        b"\x20\xAC\x20\xAC\xDC",
-        &[0x20AC, 0x20AC, 0x200001],
-    ),
-    (
-        b"\xAC\x20\x3D\xD8\x61\x00",
-        b"\x20\xAC\xD8\x3D\x00\x61",
-        &[0x20AC, 0x200002, 0x61],
-    ),
-    (
-        b"\xAC\x20\x3D\xD8\x61",
-        b"\x20\xAC\xD8\x3D\x00",
-        &[0x20AC, 0x200003],
-    ),
-    (
-        b"\xAC\x20\x3D\xD8\xAC\x20",
-        b"\x20\xAC\xD8\x3D\x20\xAC",
-        &[0x20AC, 0x200002, 0x20AC],
-    ),
-    (
-        b"\xAC\x20\x3D\xD8\xAC",
-        b"\x20\xAC\xD8\x3D\x20",
-        &[0x20AC, 0x200003],
-    ),
-    (
-        b"\xAC\x20\x3D\xD8\x3D\xD8",
-        b"\x20\xAC\xD8\x3D\xD8\x3D",
-        &[0x20AC, 0x200002, 0x200002],
-    ),
-    (
-        b"\xAC\x20\x3D\xD8\x3D",
-        b"\x20\xAC\xD8\x3D\xD8",
-        &[0x20AC, 0x200003],
-    ),
-    (
-        b"\xAC\x20\x3D\xD8\x69\xDC",
-        b"\x20\xAC\xD8\x3D\xDC\x69",
-        &[0x20AC, 0x1F469],
-    ),
-    (
-        b"\xAC\x20\x3D\xD8\x69",
-        b"\x20\xAC\xD8\x3D\xDC",
-        &[0x20AC, 0x200003],
-    ),
-    (
-        b"\xAC\x20\x69\xDC\x61\x00",
-        b"\x20\xAC\xDC\x69\x00\x61",
-        &[0x20AC, 0x200002, 0x61],
-    ),
-    (
-        b"\xAC\x20\x69\xDC\x61",
-        b"\x20\xAC\xDC\x69\x00",
-        &[0x20AC, 0x200002, 0x200001],
-    ),
-    (
-        b"\xAC\x20\x69\xDC\xAC\x20",
-        b"\x20\xAC\xDC\x69\x20\xAC",
-        &[0x20AC, 0x200002, 0x20AC],
-    ),
-    (
-        b"\xAC\x20\x69\xDC\xAC",
-        b"\x20\xAC\xDC\x69\x20",
-        &[0x20AC, 0x200002, 0x200001],
-    ),
-    (
-        b"\xAC\x20\x69\xDC\x3D\xD8",
-        b"\x20\xAC\xDC\x69\xD8\x3D",
-        &[0x20AC, 0x200002, 0x200002],
-    ),
-    (
-        b"\xAC\x20\x69\xDC\x3D",
-        b"\x20\xAC\xDC\x69\xD8",
-        &[0x20AC, 0x200002, 0x200001],
-    ),
-    (
-        b"\xAC\x20\x69\xDC\x69\xDC",
-        b"\x20\xAC\xDC\x69\xDC\x69",
-        &[0x20AC, 0x200002, 0x200002],
-    ),
-    (
-        b"\xAC\x20\x69\xDC\x69",
-        b"\x20\xAC\xDC\x69\xDC",
-        &[0x20AC, 0x200002, 0x200001],
-    ),
-    (
-        b"\x3D\xD8\x61\x00\x61\x00",
-        b"\xD8\x3D\x00\x61\x00\x61",
-        &[0x200002, 0x61, 0x61],
-    ),
-    (
-        b"\x3D\xD8\x61\x00\x61",
-        b"\xD8\x3D\x00\x61\x00",
-        &[0x200002, 0x61, 0x200001],
-    ),
-    (
-        b"\x3D\xD8\x61\x00\xAC\x20",
-        b"\xD8\x3D\x00\x61\x20\xAC",
-        &[0x200002, 0x61, 0x20AC],
-    ),
-    (
-        b"\x3D\xD8\x61\x00\xAC",
-        b"\xD8\x3D\x00\x61\x20",
-        &[0x200002, 0x61, 0x200001],
-    ),
-    (
-        b"\x3D\xD8\x61\x00\x3D\xD8",
-        b"\xD8\x3D\x00\x61\xD8\x3D",
-        &[0x200002, 0x61, 0x200002],
-    ),
-    (
-        b"\x3D\xD8\x61\x00\x3D",
-        b"\xD8\x3D\x00\x61\xD8",
-        &[0x200002, 0x61, 0x200001],
-    ),
-    (
-        b"\x3D\xD8\x61\x00\x69\xDC",
-        b"\xD8\x3D\x00\x61\xDC\x69",
-        &[0x200002, 0x61, 0x200002],
-    ),
-    (
-        b"\x3D\xD8\x61\x00\x69",
-        b"\xD8\x3D\x00\x61\xDC",
-        &[0x200002, 0x61, 0x200001],
-    ),
-    (
-        b"\x3D\xD8\xAC\x20\x61\x00",
-        b"\xD8\x3D\x20\xAC\x00\x61",
-        &[0x200002, 0x20AC, 0x61],
-    ),
-    (
-        b"\x3D\xD8\xAC\x20\x61",
-        b"\xD8\x3D\x20\xAC\x00",
-        &[0x200002, 0x20AC, 0x200001],
-    ),
-    (
-        b"\x3D\xD8\xAC\x20\xAC\x20",
-        b"\xD8\x3D\x20\xAC\x20\xAC",
-        &[0x200002, 0x20AC, 0x20AC],
-    ),
-    (
-        b"\x3D\xD8\xAC\x20\xAC",
-        b"\xD8\x3D\x20\xAC\x20",
-        &[0x200002, 0x20AC, 0x200001],
-    ),
-    (
-        b"\x3D\xD8\xAC\x20\x3D\xD8",
-        b"\xD8\x3D\x20\xAC\xD8\x3D",
-        &[0x200002, 0x20AC, 0x200002],
-    ),
-    (
-        b"\x3D\xD8\xAC\x20\x3D",
-        b"\xD8\x3D\x20\xAC\xD8",
-        &[0x200002, 0x20AC, 0x200001],
-    ),
-    (
-        b"\x3D\xD8\xAC\x20\x69\xDC",
-        b"\xD8\x3D\x20\xAC\xDC\x69",
-        &[0x200002, 0x20AC, 0x200002],
-    ),
-    (
-        b"\x3D\xD8\xAC\x20\x69",
-        b"\xD8\x3D\x20\xAC\xDC",
-        &[0x200002, 0x20AC, 0x200001],
-    ),
-    (
-        b"\x3D\xD8\x3D\xD8\x61\x00",
-        b"\xD8\x3D\xD8\x3D\x00\x61",
-        &[0x200002, 0x200002, 0x61],
-    ),
-    (
-        b"\x3D\xD8\x3D\xD8\x61",
-        b"\xD8\x3D\xD8\x3D\x00",
-        &[0x200002, 0x200003],
-    ),
-    (
-        b"\x3D\xD8\x3D\xD8\xAC\x20",
-        b"\xD8\x3D\xD8\x3D\x20\xAC",
-        &[0x200002, 0x200002, 0x20AC],
-    ),
-    (
-        b"\x3D\xD8\x3D\xD8\xAC",
-        b"\xD8\x3D\xD8\x3D\x20",
-        &[0x200002, 0x200003],
-    ),
-    (
-        b"\x3D\xD8\x3D\xD8\x3D\xD8",
-        b"\xD8\x3D\xD8\x3D\xD8\x3D",
-        &[0x200002, 0x200002, 0x200002],
-    ),
-    (
-        b"\x3D\xD8\x3D\xD8\x3D",
-        b"\xD8\x3D\xD8\x3D\xD8",
-        &[0x200002, 0x200003],
-    ),
-    (
-        b"\x3D\xD8\x3D\xD8\x69\xDC",
-        b"\xD8\x3D\xD8\x3D\xDC\x69",
-        &[0x200002, 0x1F469],
-    ),
-    (
-        b"\x3D\xD8\x3D\xD8\x69",
-        b"\xD8\x3D\xD8\x3D\xDC",
-        &[0x200002, 0x200003],
-    ),
-    (
-        b"\x3D\xD8\x69\xDC\x61\x00",
-        b"\xD8\x3D\xDC\x69\x00\x61",
-        &[0x1F469, 0x61],
-    ),
-    (
-        b"\x3D\xD8\x69\xDC\x61",
-        b"\xD8\x3D\xDC\x69\x00",
-        &[0x1F469, 0x200001],
-    ),
-    (
-        b"\x3D\xD8\x69\xDC\xAC\x20",
-        b"\xD8\x3D\xDC\x69\x20\xAC",
-        &[0x1F469, 0x20AC],
-    ),
-    (
-        b"\x3D\xD8\x69\xDC\xAC",
-        b"\xD8\x3D\xDC\x69\x20",
-        &[0x1F469, 0x200001],
-    ),
-    (
-        b"\x3D\xD8\x69\xDC\x3D\xD8",
-        b"\xD8\x3D\xDC\x69\xD8\x3D",
-        &[0x1F469, 0x200002],
-    ),
-    (
-        b"\x3D\xD8\x69\xDC\x3D",
-        b"\xD8\x3D\xDC\x69\xD8",
-        &[0x1F469, 0x200001],
-    ),
-    (
-        b"\x3D\xD8\x69\xDC\x69\xDC",
-        b"\xD8\x3D\xDC\x69\xDC\x69",
-        &[0x1F469, 0x200002],
-    ),
-    (
-        b"\x3D\xD8\x69\xDC\x69",
-        b"\xD8\x3D\xDC\x69\xDC",
-        &[0x1F469, 0x200001],
-    ),
-    (
-        b"\x69\xDC\x61\x00\x61\x00",
-        b"\xDC\x69\x00\x61\x00\x61",
-        &[0x200002, 0x61, 0x61],
-    ),
-    (
-        b"\x69\xDC\x61\x00\x61",
-        b"\xDC\x69\x00\x61\x00",
-        &[0x200002, 0x61, 0x200001],
-    ),
-    (
-        b"\x69\xDC\x61\x00\xAC\x20",
-        b"\xDC\x69\x00\x61\x20\xAC",
-        &[0x200002, 0x61, 0x20AC],
-    ),
-    (
-        b"\x69\xDC\x61\x00\xAC",
-        b"\xDC\x69\x00\x61\x20",
-        &[0x200002, 0x61, 0x200001],
-    ),
-    (
-        b"\x69\xDC\x61\x00\x3D\xD8",
-        b"\xDC\x69\x00\x61\xD8\x3D",
-        &[0x200002, 0x61, 0x200002],
-    ),
-    (
-        b"\x69\xDC\x61\x00\x3D",
-        b"\xDC\x69\x00\x61\xD8",
-        &[0x200002, 0x61, 0x200001],
-    ),
-    (
-        b"\x69\xDC\x61\x00\x69\xDC",
-        b"\xDC\x69\x00\x61\xDC\x69",
-        &[0x200002, 0x61, 0x200002],
-    ),
-    (
-        b"\x69\xDC\x61\x00\x69",
-        b"\xDC\x69\x00\x61\xDC",
-        &[0x200002, 0x61, 0x200001],
-    ),
-    (
-        b"\x69\xDC\xAC\x20\x61\x00",
-        b"\xDC\x69\x20\xAC\x00\x61",
-        &[0x200002, 0x20AC, 0x61],
-    ),
-    (
-        b"\x69\xDC\xAC\x20\x61",
-        b"\xDC\x69\x20\xAC\x00",
-        &[0x200002, 0x20AC, 0x200001],
-    ),
-    (
-        b"\x69\xDC\xAC\x20\xAC\x20",
-        b"\xDC\x69\x20\xAC\x20\xAC",
-        &[0x200002, 0x20AC, 0x20AC],
-    ),
-    (
-        b"\x69\xDC\xAC\x20\xAC",
-        b"\xDC\x69\x20\xAC\x20",
-        &[0x200002, 0x20AC, 0x200001],
-    ),
-    (
-        b"\x69\xDC\xAC\x20\x3D\xD8",
-        b"\xDC\x69\x20\xAC\xD8\x3D",
-        &[0x200002, 0x20AC, 0x200002],
-    ),
-    (
-        b"\x69\xDC\xAC\x20\x3D",
-        b"\xDC\x69\x20\xAC\xD8",
-        &[0x200002, 0x20AC, 0x200001],
-    ),
-    (
-        b"\x69\xDC\xAC\x20\x69\xDC",
-        b"\xDC\x69\x20\xAC\xDC\x69",
-        &[0x200002, 0x20AC, 0x200002],
-    ),
-    (
-        b"\x69\xDC\xAC\x20\x69",
-        b"\xDC\x69\x20\xAC\xDC",
-        &[0x200002, 0x20AC, 0x200001],
-    ),
-    (
-        b"\x69\xDC\x3D\xD8\x61\x00",
-        b"\xDC\x69\xD8\x3D\x00\x61",
-        &[0x200002, 0x200002, 0x61],
-    ),
-    (
-        b"\x69\xDC\x3D\xD8\x61",
-        b"\xDC\x69\xD8\x3D\x00",
-        &[0x200002, 0x200003],
-    ),
-    (
-        b"\x69\xDC\x3D\xD8\xAC\x20",
-        b"\xDC\x69\xD8\x3D\x20\xAC",
-        &[0x200002, 0x200002, 0x20AC],
-    ),
-    (
-        b"\x69\xDC\x3D\xD8\xAC",
-        b"\xDC\x69\xD8\x3D\x20",
-        &[0x200002, 0x200003],
-    ),
-    (
-        b"\x69\xDC\x3D\xD8\x3D\xD8",
-        b"\xDC\x69\xD8\x3D\xD8\x3D",
-        &[0x200002, 0x200002, 0x200002],
-    ),
-    (
-        b"\x69\xDC\x3D\xD8\x3D",
-        b"\xDC\x69\xD8\x3D\xD8",
-        &[0x200002, 0x200003],
-    ),
-    (
-        b"\x69\xDC\x3D\xD8\x69\xDC",
-        b"\xDC\x69\xD8\x3D\xDC\x69",
-        &[0x200002, 0x1F469],
-    ),
-    (
-        b"\x69\xDC\x3D\xD8\x69",
-        b"\xDC\x69\xD8\x3D\xDC",
-        &[0x200002, 0x200003],
-    ),
-    (
-        b"\x69\xDC\x69\xDC\x61\x00",
-        b"\xDC\x69\xDC\x69\x00\x61",
-        &[0x200002, 0x200002, 0x61],
-    ),
-    (
-        b"\x69\xDC\x69\xDC\x61",
-        b"\xDC\x69\xDC\x69\x00",
-        &[0x200002, 0x200002, 0x200001],
-    ),
-    (
-        b"\x69\xDC\x69\xDC\xAC\x20",
-        b"\xDC\x69\xDC\x69\x20\xAC",
-        &[0x200002, 0x200002, 0x20AC],
-    ),
-    (
-        b"\x69\xDC\x69\xDC\xAC",
-        b"\xDC\x69\xDC\x69\x20",
-        &[0x200002, 0x200002, 0x200001],
-    ),
-    (
-        b"\x69\xDC\x69\xDC\x3D\xD8",
-        b"\xDC\x69\xDC\x69\xD8\x3D",
-        &[0x200002, 0x200002, 0x200002],
-    ),
-    (
-        b"\x69\xDC\x69\xDC\x3D",
-        b"\xDC\x69\xDC\x69\xD8",
-        &[0x200002, 0x200002, 0x200001],
-    ),
-    (
-        b"\x69\xDC\x69\xDC\x69\xDC",
-        b"\xDC\x69\xDC\x69\xDC\x69",
-        &[0x200002, 0x200002, 0x200002],
-    ),
-    (
-        b"\x69\xDC\x69\xDC\x69",
-        b"\xDC\x69\xDC\x69\xDC",
-        &[0x200002, 0x200002, 0x200001],
-    ),
-];
+/// A row: the bytes in each byte order, how many they are, and their parts with the number of these. A part is a scalar
+/// value, or `0x20_0000` plus the length of a malformed sequence.
+#[derive(Drop)]
+pub struct Row {
+    pub little: [u8; 6],
+    pub big: [u8; 6],
+    pub length: usize,
+    pub parts: [u32; 8],
+    pub count: usize,
+}
+
+/// The bytes in UTF-16LE, in UTF-16BE, and the parts: characters by their scalar values, and `?` with the length of a
+/// malformed sequence.
+pub const ROWS: &str = "\
+61 00 | 00 61 | U+0061
+61 | 00 | ?1
+AC 20 | 20 AC | U+20AC
+AC | 20 | ?1
+3D D8 | D8 3D | ?2
+3D | D8 | ?1
+69 DC | DC 69 | ?2
+69 | DC | ?1
+61 00 61 00 | 00 61 00 61 | U+0061 U+0061
+61 00 61 | 00 61 00 | U+0061 ?1
+61 00 AC 20 | 00 61 20 AC | U+0061 U+20AC
+61 00 AC | 00 61 20 | U+0061 ?1
+61 00 3D D8 | 00 61 D8 3D | U+0061 ?2
+61 00 3D | 00 61 D8 | U+0061 ?1
+61 00 69 DC | 00 61 DC 69 | U+0061 ?2
+61 00 69 | 00 61 DC | U+0061 ?1
+AC 20 61 00 | 20 AC 00 61 | U+20AC U+0061
+AC 20 61 | 20 AC 00 | U+20AC ?1
+AC 20 AC 20 | 20 AC 20 AC | U+20AC U+20AC
+AC 20 AC | 20 AC 20 | U+20AC ?1
+AC 20 3D D8 | 20 AC D8 3D | U+20AC ?2
+AC 20 3D | 20 AC D8 | U+20AC ?1
+AC 20 69 DC | 20 AC DC 69 | U+20AC ?2
+AC 20 69 | 20 AC DC | U+20AC ?1
+3D D8 61 00 | D8 3D 00 61 | ?2 U+0061
+3D D8 61 | D8 3D 00 | ?3
+3D D8 AC 20 | D8 3D 20 AC | ?2 U+20AC
+3D D8 AC | D8 3D 20 | ?3
+3D D8 3D D8 | D8 3D D8 3D | ?2 ?2
+3D D8 3D | D8 3D D8 | ?3
+3D D8 69 DC | D8 3D DC 69 | U+1F469
+3D D8 69 | D8 3D DC | ?3
+69 DC 61 00 | DC 69 00 61 | ?2 U+0061
+69 DC 61 | DC 69 00 | ?2 ?1
+69 DC AC 20 | DC 69 20 AC | ?2 U+20AC
+69 DC AC | DC 69 20 | ?2 ?1
+69 DC 3D D8 | DC 69 D8 3D | ?2 ?2
+69 DC 3D | DC 69 D8 | ?2 ?1
+69 DC 69 DC | DC 69 DC 69 | ?2 ?2
+69 DC 69 | DC 69 DC | ?2 ?1
+61 00 61 00 61 00 | 00 61 00 61 00 61 | U+0061 U+0061 U+0061
+61 00 61 00 61 | 00 61 00 61 00 | U+0061 U+0061 ?1
+61 00 61 00 AC 20 | 00 61 00 61 20 AC | U+0061 U+0061 U+20AC
+61 00 61 00 AC | 00 61 00 61 20 | U+0061 U+0061 ?1
+61 00 61 00 3D D8 | 00 61 00 61 D8 3D | U+0061 U+0061 ?2
+61 00 61 00 3D | 00 61 00 61 D8 | U+0061 U+0061 ?1
+61 00 61 00 69 DC | 00 61 00 61 DC 69 | U+0061 U+0061 ?2
+61 00 61 00 69 | 00 61 00 61 DC | U+0061 U+0061 ?1
+61 00 AC 20 61 00 | 00 61 20 AC 00 61 | U+0061 U+20AC U+0061
+61 00 AC 20 61 | 00 61 20 AC 00 | U+0061 U+20AC ?1
+61 00 AC 20 AC 20 | 00 61 20 AC 20 AC | U+0061 U+20AC U+20AC
+61 00 AC 20 AC | 00 61 20 AC 20 | U+0061 U+20AC ?1
+61 00 AC 20 3D D8 | 00 61 20 AC D8 3D | U+0061 U+20AC ?2
+61 00 AC 20 3D | 00 61 20 AC D8 | U+0061 U+20AC ?1
+61 00 AC 20 69 DC | 00 61 20 AC DC 69 | U+0061 U+20AC ?2
+61 00 AC 20 69 | 00 61 20 AC DC | U+0061 U+20AC ?1
+61 00 3D D8 61 00 | 00 61 D8 3D 00 61 | U+0061 ?2 U+0061
+61 00 3D D8 61 | 00 61 D8 3D 00 | U+0061 ?3
+61 00 3D D8 AC 20 | 00 61 D8 3D 20 AC | U+0061 ?2 U+20AC
+61 00 3D D8 AC | 00 61 D8 3D 20 | U+0061 ?3
+61 00 3D D8 3D D8 | 00 61 D8 3D D8 3D | U+0061 ?2 ?2
+61 00 3D D8 3D | 00 61 D8 3D D8 | U+0061 ?3
+61 00 3D D8 69 DC | 00 61 D8 3D DC 69 | U+0061 U+1F469
+61 00 3D D8 69 | 00 61 D8 3D DC | U+0061 ?3
+61 00 69 DC 61 00 | 00 61 DC 69 00 61 | U+0061 ?2 U+0061
+61 00 69 DC 61 | 00 61 DC 69 00 | U+0061 ?2 ?1
+61 00 69 DC AC 20 | 00 61 DC 69 20 AC | U+0061 ?2 U+20AC
+61 00 69 DC AC | 00 61 DC 69 20 | U+0061 ?2 ?1
+61 00 69 DC 3D D8 | 00 61 DC 69 D8 3D | U+0061 ?2 ?2
+61 00 69 DC 3D | 00 61 DC 69 D8 | U+0061 ?2 ?1
+61 00 69 DC 69 DC | 00 61 DC 69 DC 69 | U+0061 ?2 ?2
+61 00 69 DC 69 | 00 61 DC 69 DC | U+0061 ?2 ?1
+AC 20 61 00 61 00 | 20 AC 00 61 00 61 | U+20AC U+0061 U+0061
+AC 20 61 00 61 | 20 AC 00 61 00 | U+20AC U+0061 ?1
+AC 20 61 00 AC 20 | 20 AC 00 61 20 AC | U+20AC U+0061 U+20AC
+AC 20 61 00 AC | 20 AC 00 61 20 | U+20AC U+0061 ?1
+AC 20 61 00 3D D8 | 20 AC 00 61 D8 3D | U+20AC U+0061 ?2
+AC 20 61 00 3D | 20 AC 00 61 D8 | U+20AC U+0061 ?1
+AC 20 61 00 69 DC | 20 AC 00 61 DC 69 | U+20AC U+0061 ?2
+AC 20 61 00 69 | 20 AC 00 61 DC | U+20AC U+0061 ?1
+AC 20 AC 20 61 00 | 20 AC 20 AC 00 61 | U+20AC U+20AC U+0061
+AC 20 AC 20 61 | 20 AC 20 AC 00 | U+20AC U+20AC ?1
+AC 20 AC 20 AC 20 | 20 AC 20 AC 20 AC | U+20AC U+20AC U+20AC
+AC 20 AC 20 AC | 20 AC 20 AC 20 | U+20AC U+20AC ?1
+AC 20 AC 20 3D D8 | 20 AC 20 AC D8 3D | U+20AC U+20AC ?2
+AC 20 AC 20 3D | 20 AC 20 AC D8 | U+20AC U+20AC ?1
+AC 20 AC 20 69 DC | 20 AC 20 AC DC 69 | U+20AC U+20AC ?2
+AC 20 AC 20 69 | 20 AC 20 AC DC | U+20AC U+20AC ?1
+AC 20 3D D8 61 00 | 20 AC D8 3D 00 61 | U+20AC ?2 U+0061
+AC 20 3D D8 61 | 20 AC D8 3D 00 | U+20AC ?3
+AC 20 3D D8 AC 20 | 20 AC D8 3D 20 AC | U+20AC ?2 U+20AC
+AC 20 3D D8 AC | 20 AC D8 3D 20 | U+20AC ?3
+AC 20 3D D8 3D D8 | 20 AC D8 3D D8 3D | U+20AC ?2 ?2
+AC 20 3D D8 3D | 20 AC D8 3D D8 | U+20AC ?3
+AC 20 3D D8 69 DC | 20 AC D8 3D DC 69 | U+20AC U+1F469
+AC 20 3D D8 69 | 20 AC D8 3D DC | U+20AC ?3
+AC 20 69 DC 61 00 | 20 AC DC 69 00 61 | U+20AC ?2 U+0061
+AC 20 69 DC 61 | 20 AC DC 69 00 | U+20AC ?2 ?1
+AC 20 69 DC AC 20 | 20 AC DC 69 20 AC | U+20AC ?2 U+20AC
+AC 20 69 DC AC | 20 AC DC 69 20 | U+20AC ?2 ?1
+AC 20 69 DC 3D D8 | 20 AC DC 69 D8 3D | U+20AC ?2 ?2
+AC 20 69 DC 3D | 20 AC DC 69 D8 | U+20AC ?2 ?1
+AC 20 69 DC 69 DC | 20 AC DC 69 DC 69 | U+20AC ?2 ?2
+AC 20 69 DC 69 | 20 AC DC 69 DC | U+20AC ?2 ?1
+3D D8 61 00 61 00 | D8 3D 00 61 00 61 | ?2 U+0061 U+0061
+3D D8 61 00 61 | D8 3D 00 61 00 | ?2 U+0061 ?1
+3D D8 61 00 AC 20 | D8 3D 00 61 20 AC | ?2 U+0061 U+20AC
+3D D8 61 00 AC | D8 3D 00 61 20 | ?2 U+0061 ?1
+3D D8 61 00 3D D8 | D8 3D 00 61 D8 3D | ?2 U+0061 ?2
+3D D8 61 00 3D | D8 3D 00 61 D8 | ?2 U+0061 ?1
+3D D8 61 00 69 DC | D8 3D 00 61 DC 69 | ?2 U+0061 ?2
+3D D8 61 00 69 | D8 3D 00 61 DC | ?2 U+0061 ?1
+3D D8 AC 20 61 00 | D8 3D 20 AC 00 61 | ?2 U+20AC U+0061
+3D D8 AC 20 61 | D8 3D 20 AC 00 | ?2 U+20AC ?1
+3D D8 AC 20 AC 20 | D8 3D 20 AC 20 AC | ?2 U+20AC U+20AC
+3D D8 AC 20 AC | D8 3D 20 AC 20 | ?2 U+20AC ?1
+3D D8 AC 20 3D D8 | D8 3D 20 AC D8 3D | ?2 U+20AC ?2
+3D D8 AC 20 3D | D8 3D 20 AC D8 | ?2 U+20AC ?1
+3D D8 AC 20 69 DC | D8 3D 20 AC DC 69 | ?2 U+20AC ?2
+3D D8 AC 20 69 | D8 3D 20 AC DC | ?2 U+20AC ?1
+3D D8 3D D8 61 00 | D8 3D D8 3D 00 61 | ?2 ?2 U+0061
+3D D8 3D D8 61 | D8 3D D8 3D 00 | ?2 ?3
+3D D8 3D D8 AC 20 | D8 3D D8 3D 20 AC | ?2 ?2 U+20AC
+3D D8 3D D8 AC | D8 3D D8 3D 20 | ?2 ?3
+3D D8 3D D8 3D D8 | D8 3D D8 3D D8 3D | ?2 ?2 ?2
+3D D8 3D D8 3D | D8 3D D8 3D D8 | ?2 ?3
+3D D8 3D D8 69 DC | D8 3D D8 3D DC 69 | ?2 U+1F469
+3D D8 3D D8 69 | D8 3D D8 3D DC | ?2 ?3
+3D D8 69 DC 61 00 | D8 3D DC 69 00 61 | U+1F469 U+0061
+3D D8 69 DC 61 | D8 3D DC 69 00 | U+1F469 ?1
+3D D8 69 DC AC 20 | D8 3D DC 69 20 AC | U+1F469 U+20AC
+3D D8 69 DC AC | D8 3D DC 69 20 | U+1F469 ?1
+3D D8 69 DC 3D D8 | D8 3D DC 69 D8 3D | U+1F469 ?2
+3D D8 69 DC 3D | D8 3D DC 69 D8 | U+1F469 ?1
+3D D8 69 DC 69 DC | D8 3D DC 69 DC 69 | U+1F469 ?2
+3D D8 69 DC 69 | D8 3D DC 69 DC | U+1F469 ?1
+69 DC 61 00 61 00 | DC 69 00 61 00 61 | ?2 U+0061 U+0061
+69 DC 61 00 61 | DC 69 00 61 00 | ?2 U+0061 ?1
+69 DC 61 00 AC 20 | DC 69 00 61 20 AC | ?2 U+0061 U+20AC
+69 DC 61 00 AC | DC 69 00 61 20 | ?2 U+0061 ?1
+69 DC 61 00 3D D8 | DC 69 00 61 D8 3D | ?2 U+0061 ?2
+69 DC 61 00 3D | DC 69 00 61 D8 | ?2 U+0061 ?1
+69 DC 61 00 69 DC | DC 69 00 61 DC 69 | ?2 U+0061 ?2
+69 DC 61 00 69 | DC 69 00 61 DC | ?2 U+0061 ?1
+69 DC AC 20 61 00 | DC 69 20 AC 00 61 | ?2 U+20AC U+0061
+69 DC AC 20 61 | DC 69 20 AC 00 | ?2 U+20AC ?1
+69 DC AC 20 AC 20 | DC 69 20 AC 20 AC | ?2 U+20AC U+20AC
+69 DC AC 20 AC | DC 69 20 AC 20 | ?2 U+20AC ?1
+69 DC AC 20 3D D8 | DC 69 20 AC D8 3D | ?2 U+20AC ?2
+69 DC AC 20 3D | DC 69 20 AC D8 | ?2 U+20AC ?1
+69 DC AC 20 69 DC | DC 69 20 AC DC 69 | ?2 U+20AC ?2
+69 DC AC 20 69 | DC 69 20 AC DC | ?2 U+20AC ?1
+69 DC 3D D8 61 00 | DC 69 D8 3D 00 61 | ?2 ?2 U+0061
+69 DC 3D D8 61 | DC 69 D8 3D 00 | ?2 ?3
+69 DC 3D D8 AC 20 | DC 69 D8 3D 20 AC | ?2 ?2 U+20AC
+69 DC 3D D8 AC | DC 69 D8 3D 20 | ?2 ?3
+69 DC 3D D8 3D D8 | DC 69 D8 3D D8 3D | ?2 ?2 ?2
+69 DC 3D D8 3D | DC 69 D8 3D D8 | ?2 ?3
+69 DC 3D D8 69 DC | DC 69 D8 3D DC 69 | ?2 U+1F469
+69 DC 3D D8 69 | DC 69 D8 3D DC | ?2 ?3
+69 DC 69 DC 61 00 | DC 69 DC 69 00 61 | ?2 ?2 U+0061
+69 DC 69 DC 61 | DC 69 DC 69 00 | ?2 ?2 ?1
+69 DC 69 DC AC 20 | DC 69 DC 69 20 AC | ?2 ?2 U+20AC
+69 DC 69 DC AC | DC 69 DC 69 20 | ?2 ?2 ?1
+69 DC 69 DC 3D D8 | DC 69 DC 69 D8 3D | ?2 ?2 ?2
+69 DC 69 DC 3D | DC 69 DC 69 D8 | ?2 ?2 ?1
+69 DC 69 DC 69 DC | DC 69 DC 69 DC 69 | ?2 ?2 ?2
+69 DC 69 DC 69 | DC 69 DC 69 DC | ?2 ?2 ?1";
+
+/// Returns the part that a word names.
+fn part_of(word: &str) -> Option<u32> {
+    match word {
+        "?1" => Some(0x20_0001),
+        "?2" => Some(0x20_0002),
+        "?3" => Some(0x20_0003),
+        _ => u32::from_str_radix(word.strip_prefix("U+")?, 16).ok(),
+    }
+}
+
+/// Returns what a line has.
+pub fn row_of(line: &str) -> Option<Row> {
+    let mut row = Row {
+        little: [0; 6],
+        big: [0; 6],
+        length: 0,
+        parts: [0; 8],
+        count: 0,
+    };
+    let mut column = 0usize;
+    let mut place = 0usize;
+    for word in line.split_whitespace() {
+        if word == "|" {
+            column = column.saturating_add(1);
+            place = 0;
+            continue;
+        }
+        if column == 2 {
+            let part = part_of(word)?;
+            if place >= 8 {
+                return None;
+            }
+            row.parts[place] = part;
+            row.count = place.saturating_add(1);
+        } else {
+            let byte = u8::from_str_radix(word, 16).ok()?;
+            if place >= 6 {
+                return None;
+            }
+            if column == 0 {
+                row.little[place] = byte;
+            } else {
+                row.big[place] = byte;
+            }
+            row.length = place.saturating_add(1);
+        }
+        place = place.saturating_add(1);
+    }
+    Some(row)
+}
