@@ -1,0 +1,9 @@
+pub mod Utf16ByteLemmas
+pub mod Utf16PartLemmas
+pub mod Utf16StepLemmas
+pub mod Utf16WindowLemmas
+pub mod Utf16WriteLemmas
+pub mod Utf16RoomLemmas
+pub mod Utf16ChainLemmas
+pub mod Utf16LossyLemmas
+pub mod Utf16OneResultLemmas

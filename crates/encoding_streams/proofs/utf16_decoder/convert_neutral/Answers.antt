@@ -1,0 +1,22 @@
+use Rattle.std.proofs.Common.{◌≡◌, [], sym, subst, arith}
+use Rattle.std.proofs.lemmas.Bool.{both_ways}
+use Rattle.encoding_streams.specs.Utf16Steps.{Advances}
+use Rattle.encoding_streams.proofs.Utf16StepLemmas.{advance_none}
+use Rattle.encoding_streams.proofs.utf16_decoder.convert_neutral.Goals as goal
+
+pub returns-then-not-is_empty-clause-characters : goal.returns-then-not-is_empty-clause-characters
+returns-then-not-is_empty-clause-characters g c = advance_none c.args.order g.U.CodeUnit.encode c.args.pending.now c.args.src.now c.args.dst.now
+
+pub returns-clause-characters : goal.returns-clause-characters
+returns-clause-characters g c =
+    let none : c.args.pending.now ≡ [] = c.is_empty.ensures.0 c.if-not-is_empty.false in
+    subst
+    (λ q. Advances c.args.order g.U.CodeUnit.encode q c.args.src.now c.args.dst.now c.convert_blocks.new.dst c.convert_blocks.result.0
+    c.convert_blocks.result.1 q)
+    (sym none) c.convert_blocks.ensures.characters
+
+pub returns-clause-none : goal.returns-clause-none
+returns-clause-none g c = λ some. absurd (some (c.is_empty.ensures.0 c.if-not-is_empty.false))
+
+pub returns-clause-full : goal.returns-clause-full
+returns-clause-full g c = λ full. (c.is_empty.ensures.0 c.if-not-is_empty.false, c.convert_blocks.ensures.full full)

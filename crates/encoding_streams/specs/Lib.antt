@@ -1,0 +1,4 @@
+pub mod Utf16Parts
+pub mod Utf16Decoding
+pub mod Utf16Calls
+pub mod Utf16Steps

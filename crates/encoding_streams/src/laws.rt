@@ -1,0 +1,71 @@
+//! Laws of the definitions: each is the contract of a function that does nothing. A body that calls one, as
+//! `law_utf16_parts();`, can use its clauses.
+ghost use Rattle.std.specs.Prelude.{◌≡◌, ℕ, Bool, false, List, ◌++◌, encode_utf8, map, IsTrue};
+ghost use Rattle.std.specs.Char.Escape.{encode_utf16};
+ghost use Rattle.std.specs.List.{flat_map};
+ghost use Rattle.std.specs.Str.{all_scalars};
+ghost use Rattle.encoding_text.specs.Parts.{Part, Character, lossy_scalar};
+ghost use Rattle.encoding_text.specs.Utf16.{AreCodeUnits};
+ghost use Rattle.encoding_text.specs.Utf16Bytes.{utf16_bytes};
+ghost use Rattle.std.specs.Char.Utf16.{utf16_lossy_chars};
+ghost use Rattle.encoding_text.specs.declared.utf_16.ByteOrder.{ByteOrder};
+ghost use Rattle.encoding_text.specs.declared.decoder.DecoderResult.{DecoderResult};
+ghost use Rattle.encoding_runs.specs.Calls.{Call, IsChain};
+ghost use Rattle.encoding_streams.specs.Utf16Parts.{AreBytes, bytes_of_scalars, bytes_of_utf16, IsPendingUtf16, StartsWithUtf16, ArePartsOfUtf16, AreFinalUtf16};
+ghost use Rattle.encoding_streams.specs.Utf16Decoding.{DecodeUtf16Step};
+ghost use Rattle.encoding_streams.specs.Utf16Calls.{YieldUtf16Parts};
+
+/// In each byte order, bytes have exactly one list of parts. The bytes of the parts, joined, are these bytes. The parts
+/// of the bytes of scalar values are these characters. With U+FFFD for each malformed sequence, the parts of the bytes of
+/// code units are those of std's lossy decoding of these units.
+///
+/// The final parts are the first parts of the bytes followed by anything. The bytes after them are none or the start of
+/// a character. Encoding Standard, shared UTF-16 decoder.
+pub fn law_utf16_parts()
+    ensures exist { (order : ByteOrder) (bs : List ℕ) → AreBytes bs
+        → (parts : List Part) × ArePartsOfUtf16 order bs parts }
+    ensures one { (order : ByteOrder) (bs : List ℕ) (parts others : List Part)
+        → ArePartsOfUtf16 order bs parts
+        → ArePartsOfUtf16 order bs others → parts ≡ others }
+    ensures joined { (order : ByteOrder) (bs : List ℕ) (parts : List Part)
+        → ArePartsOfUtf16 order bs parts
+        → flat_map (bytes_of_utf16 order) parts ≡ bs }
+    ensures characters { (order : ByteOrder) (cs : List ℕ) → IsTrue (all_scalars cs)
+        → ArePartsOfUtf16 order (bytes_of_scalars order cs) (map Character cs) }
+    ensures lossy { (order : ByteOrder) (us : List ℕ) (parts : List Part) → AreCodeUnits us
+        → ArePartsOfUtf16 order (utf16_bytes order us) parts
+        → map lossy_scalar parts ≡ utf16_lossy_chars us }
+    ensures final_exist { (order : ByteOrder) (bs : List ℕ) → AreBytes bs
+        → (parts : List Part) × (rest : List ℕ) × AreFinalUtf16 order bs parts rest }
+    ensures final_stay { (order : ByteOrder) (bs rest more : List ℕ) (parts all : List Part)
+        → StartsWithUtf16 order false bs parts rest
+        → ArePartsOfUtf16 order (bs ++ more) all
+        → (others : List Part) × (all ≡ parts ++ others) }
+{}
+
+/// For given pending bytes, source, space and `last` a call of the UTF-16 decoder has at most one result.
+///
+/// Calls over one list of bytes each start with the first unread byte and with what the previous call left pending. For
+/// any cuts and any spaces they yield the first parts of the pending bytes and these bytes. If no call is marked last,
+/// they are the first parts for any continuation. Once a call marked last returns `InputEmpty`, they are all parts.
+/// Encoding Standard, shared UTF-16 decoder.
+pub fn law_utf16_calls()
+    ensures one_utf16 { (order : ByteOrder) (p src out other q after : List ℕ)
+        (room read more : ℕ) (last : Bool) (answer outcome : DecoderResult)
+        → DecodeUtf16Step order encode_utf16 2 p src room last answer read out q
+        → DecodeUtf16Step order encode_utf16 2 p src room last outcome more other after
+        → (answer ≡ outcome) × (read ≡ more) × (out ≡ other) × (q ≡ after) }
+    ensures one_utf8 { (order : ByteOrder) (p src out other q after : List ℕ)
+        (room read more : ℕ) (last : Bool) (answer outcome : DecoderResult)
+        → DecodeUtf16Step order encode_utf8 4 p src room last answer read out q
+        → DecodeUtf16Step order encode_utf8 4 p src room last outcome more other after
+        → (answer ≡ outcome) × (read ≡ more) × (out ≡ other) × (q ≡ after) }
+    ensures utf16 { (order : ByteOrder) (p b : List ℕ) (calls : List (Call ℕ DecoderResult ℕ))
+        → IsPendingUtf16 order p
+        → IsChain (DecodeUtf16Step order encode_utf16 2) p b calls
+        → YieldUtf16Parts order encode_utf16 p b calls }
+    ensures utf8 { (order : ByteOrder) (p b : List ℕ) (calls : List (Call ℕ DecoderResult ℕ))
+        → IsPendingUtf16 order p
+        → IsChain (DecodeUtf16Step order encode_utf8 4) p b calls
+        → YieldUtf16Parts order encode_utf8 p b calls }
+{}
