@@ -264,6 +264,15 @@ size_t encoding_text_mem_convert_utf16_to_latin1_lossy(const uint16_t *src, size
  * @return the number of code units written; ENCODING_TEXT_INVALID_ARGUMENT if dst_length <= src_length */
 size_t encoding_text_mem_convert_utf8_to_utf16(const uint8_t *src, size_t src_length, uint16_t *dst, size_t dst_length);
 
+/** Converts the longest prefix of whole characters whose UTF-16 fits, with U+FFFD for each malformed sequence (Encoding
+ * Standard, UTF-8 decode without BOM). A destination of encoding_text_mem_utf16_length_from_utf8 code units is large
+ * enough for all of src.
+ * @param src,src_length the source, in bytes.
+ * @param dst,dst_length the destination, in code units.
+ * @return how much was read and written; `read` is less than src_length if and only if dst is too short */
+encoding_text_progress encoding_text_mem_convert_utf8_to_utf16_partial(const uint8_t *src, size_t src_length,
+                                                                       uint16_t *dst, size_t dst_length);
+
 /** Converts a text to UTF-16.
  * @param src,src_length the source, in bytes.
  * @param dst,dst_length the destination, in code units.
@@ -324,8 +333,9 @@ size_t encoding_text_mem_convert_str_to_utf16_unchecked(const uint8_t *src, size
 /** @name Whole buffers: lengths
  * @{ */
 
-/** Counts without writing; src may be ill-formed. The function still requires a destination of src_length + 1 code
- * units, although it writes only these.
+/** Counts without writing; src may be ill-formed. A destination of this length lets
+ * encoding_text_mem_convert_utf8_to_utf16_partial convert all of src. encoding_text_mem_convert_utf8_to_utf16 requires
+ * src_length + 1 code units, although it writes only these.
  * @param src,src_length the source, in bytes.
  * @return the number of code units that encoding_text_mem_convert_utf8_to_utf16 writes for src: those of its
  * characters, and one for each malformed sequence */
@@ -358,8 +368,8 @@ size_t encoding_text_utf8_count(const uint8_t *src, size_t src_length);
  * @return the number of characters in src, with one for each unpaired surrogate */
 size_t encoding_text_utf16_count(const uint16_t *src, size_t src_length);
 
-/** Measures repaired text; src may be ill-formed. encoding_text_repair_slice still requires a destination of
- * 3 * src_length bytes, although it writes only these.
+/** Measures repaired text; src may be ill-formed. A destination of this length lets encoding_text_repair_slice_partial
+ * repair all of src. encoding_text_repair_slice requires 3 * src_length bytes, although it writes only these.
  * @param src,src_length the source, in bytes.
  * @return the length in bytes of src with U+FFFD (three bytes) for each malformed sequence; SIZE_MAX if it is greater */
 size_t encoding_text_repaired_utf8_length(const uint8_t *src, size_t src_length);
@@ -729,13 +739,21 @@ typedef struct {
 encoding_text_repair_result encoding_text_repair_slice(const uint8_t *src, size_t src_length, uint8_t *dst,
                                                        size_t dst_length);
 
-/** The result of a call on a block of a stream. */
+/** The result of a call that reads as much as fits. */
 typedef struct {
-    size_t read;     /**< bytes of the block */
+    size_t read;     /**< bytes of the source */
     size_t written;  /**< bytes of the destination */
     size_t replaced; /**< the number of malformed sequences that U+FFFD was written for */
-    bool finished;   /**< whether all of the block was read and, if it was marked last, nothing is pending */
+    bool finished;   /**< whether all was read and, if nothing follows it, nothing is pending */
 } encoding_text_repair_block_result;
+
+/** Writes the longest prefix of whole characters that fits, with U+FFFD for each malformed sequence. A destination of
+ * encoding_text_repaired_utf8_length bytes is large enough for all of src.
+ * @param src,src_length the source, in bytes.
+ * @param dst,dst_length the destination, in bytes.
+ * @return how much was read, written and replaced; `finished` is false if and only if dst is too short */
+encoding_text_repair_block_result encoding_text_repair_slice_partial(const uint8_t *src, size_t src_length,
+                                                                     uint8_t *dst, size_t dst_length);
 
 /** Writes the next block of a stream with U+FFFD for each malformed sequence. `last` says that no block follows. The
  * decoder is new before the first block, and keeps the pending bytes between blocks. If the call isn't finished, fewer

@@ -307,28 +307,6 @@ private:
 /** @name Conversions
  * @{ */
 
-/** @cond */
-namespace detail {
-
-/* Writes the UTF-16 of a text into exactly as many code units, with U+FFFD for each malformed sequence. */
-inline void write_utf16(bytes text, std::uint16_t *dst, std::size_t length) noexcept
-{
-    for (;;) {
-        const auto done = encoding_text_convert_utf8_to_utf16_up_to_invalid(text.data(), text.size(), dst, length);
-        text = text.from(done.read);
-        if (text.size() == 0) {
-            return;
-        }
-        dst[done.written] = 0xFFFD;
-        dst += done.written + 1;
-        length -= done.written + 1;
-        text = text.from(next_malformed(text).length);
-    }
-}
-
-} // namespace detail
-/** @endcond */
-
 /** Converts UTF-8 to UTF-16 (Encoding Standard, UTF-8 decode without BOM).
  * @param text the bytes.
  * @return their UTF-16, with U+FFFD for each malformed sequence */
@@ -337,8 +315,8 @@ inline std::u16string convert_utf8_to_utf16(bytes text)
     std::u16string result;
     const std::size_t length = encoding_text_mem_utf16_length_from_utf8(text.data(), text.size());
     detail::append(result, length, [=](char16_t *dst) {
-        detail::write_utf16(text, detail::units(dst), length);
-        return length;
+        return encoding_text_mem_convert_utf8_to_utf16_partial(text.data(), text.size(), detail::units(dst), length)
+            .written;
     });
     return result;
 }

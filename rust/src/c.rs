@@ -98,6 +98,15 @@ pub(crate) struct Malformation {
     pub(crate) kind: u8,
 }
 
+/// How much a repair into a destination of any length did.
+#[repr(C)]
+pub(crate) struct RepairBlockResult {
+    pub(crate) read: usize,
+    pub(crate) written: usize,
+    pub(crate) replaced: usize,
+    finished: bool,
+}
+
 #[cfg(feature = "alloc")]
 #[repr(C)]
 pub(crate) struct RepairResult {
@@ -249,7 +258,9 @@ functions! {
         encoding_text_mem_convert_utf8_to_latin1_lossy(u8, u8) -> usize;
         encoding_text_mem_convert_utf16_to_latin1_lossy(u16, u8) -> usize;
         encoding_text_mem_convert_utf8_to_utf16(u8, u16) -> usize;
+        encoding_text_mem_convert_utf8_to_utf16_partial(u8, u16) -> Progress;
         encoding_text_mem_convert_utf8_to_utf16_without_replacement(u8, u16) -> Progress;
+        encoding_text_repair_slice_partial(u8, u8) -> RepairBlockResult;
         encoding_text_mem_convert_utf16_to_utf8_partial(u16, u8) -> Progress;
         encoding_text_mem_convert_utf16_to_utf8(u16, u8) -> usize;
         encoding_text_convert_utf8_to_utf16_up_to_invalid(u8, u16) -> Progress;

@@ -5,7 +5,7 @@
 //! - [`ascii`] and [`utf_8`]: the calls it is built on;
 //! - [`utf_16`]: UTF-16LE and UTF-16BE;
 //! - [`Utf8Decoder`] and [`Utf8Encoder`]: streams in any pieces, into destinations of any length;
-//! - [`repair`], [`repair_to`], [`utf8_chunks`], [`next_malformed`] and [`next_malformation`]: bytes that may be
+//! - [`repair`], [`repair_to`], [`repair_slice_partial`], [`utf8_chunks`], [`next_malformed`] and [`next_malformation`]: bytes that may be
 //!   malformed UTF-8;
 //! - [`utf8_count`], [`utf16_count`] and [`repaired_utf8_length`]: exact counts, also of such bytes;
 //! - [`Repair`] and [`DecodeUtf16`]: the same over a reader.
@@ -68,6 +68,7 @@ pub mod mem;
 pub mod promises;
 #[cfg(feature = "alloc")]
 mod repair;
+mod replacing;
 #[cfg(feature = "std")]
 mod streams;
 pub mod utf_16;
@@ -80,6 +81,7 @@ pub use decoder::{DecoderResult, Utf8Decoder};
 pub use repair::repair;
 #[cfg(feature = "std")]
 pub use repair::repair_to;
+pub use replacing::repair_slice_partial;
 #[cfg(feature = "std")]
 pub use streams::{DecodeUtf16, Repair};
 pub use utf_8::{EncoderResult, Utf8Encoder};

@@ -33,7 +33,7 @@
 //! | `is_str_latin1`, `str_latin1_up_to`, `is_str_bidi`, `check_str_for_latin1_and_bidi` | all that is said, if the source is well-formed | nothing |
 //! | `copy_ascii_to_ascii`, `copy_ascii_to_basic_latin`, `copy_basic_latin_to_ascii`, `convert_utf8_to_utf16`, `convert_utf8_to_utf16_without_replacement`, `convert_latin1_to_utf16`, `convert_latin1_to_utf8`, `convert_utf16_to_utf8`, `convert_utf16_to_latin1_lossy` | what is written, and how much, into a destination that is long enough | the check that it is, which panics before anything is written |
 //! | `convert_str_to_utf16` | the same, if the source is well-formed | that check |
-//! | `convert_latin1_to_utf8_partial`, `convert_utf16_to_utf8_partial` | all that is said | nothing |
+//! | `convert_latin1_to_utf8_partial`, `convert_utf8_to_utf16_partial`, `convert_utf16_to_utf8_partial` | all that is said | nothing |
 //! | `convert_utf16_to_str_partial`, `convert_latin1_to_str_partial` | what is written, and how much | what is cleared after it, and that the destination is text then |
 //! | `convert_utf16_to_str`, `convert_latin1_to_str` | what is written, and how much, into a destination that is long enough | that check, and the same |
 //! | `convert_utf8_to_latin1_lossy` | what is written, and how much, if the source is Latin1 in UTF-8 and the destination long enough | that check, and the result for any other source |
@@ -104,6 +104,7 @@
 //! | Calls | Proved | The crate's own |
 //! |---|---|---|
 //! | [`repair`](crate::repair()) | the well-formed prefix, and the repaired rest | the allocation, and joining the two |
+//! | [`repair_slice_partial`](crate::repair_slice_partial) | all that is said | nothing |
 //! | [`repair_to`](crate::repair_to) | each chunk, as above | writing them in order, with U+FFFD for each malformed sequence |
 //!
 //! # Streams

@@ -243,12 +243,19 @@ static void conversions_to_utf16(void)
 {
     const uint8_t text[] = {0x61, 0xC3, 0xA4};
     const uint8_t malformed[] = {0x61, 0xC3, 0xA4, 0xFF};
+    const uint8_t pair[] = {0x61, 0xF0, 0x9F, 0x92, 0xA9};
 
     CHECK(encoding_text_utf8_valid_up_to(ALL(malformed)) == 3 && encoding_text_utf8_valid_up_to(ALL(text)) == 3);
     CHECK(encoding_text_mem_convert_utf8_to_utf16(ALL(malformed), fresh_units(), 4) == ENCODING_TEXT_INVALID_ARGUMENT
           && no_units_written());
     CHECK(encoding_text_mem_convert_utf8_to_utf16(ALL(malformed), fresh_units(), 5) == 3
           && units_are(3, 0x61, 0xE4, 0xFFFD));
+    CHECK(counts_are(encoding_text_mem_convert_utf8_to_utf16_partial(ALL(malformed), fresh_units(), 3), 4, 3)
+          && units_are(3, 0x61, 0xE4, 0xFFFD));
+    CHECK(counts_are(encoding_text_mem_convert_utf8_to_utf16_partial(ALL(malformed), fresh_units(), 2), 3, 2)
+          && units_are(2, 0x61, 0xE4));
+    CHECK(counts_are(encoding_text_mem_convert_utf8_to_utf16_partial(ALL(pair), fresh_units(), 2), 1, 1)
+          && units_are(1, 0x61));
     CHECK(encoding_text_mem_convert_str_to_utf16(ALL(text), fresh_units(), 2) == ENCODING_TEXT_INVALID_ARGUMENT
           && no_units_written());
     CHECK(encoding_text_mem_convert_str_to_utf16(ALL(malformed), fresh_units(), 9) == ENCODING_TEXT_INVALID_ARGUMENT
@@ -383,6 +390,12 @@ static void repair(void)
           && no_bytes_written());
     CHECK(repaired_is(encoding_text_repair_slice(ALL(bytes), fresh_bytes(), 18), 8, 2));
     CHECK(bytes_are(BYTES("a\xEF\xBF\xBD\xEF\xBF\xBD" "b")));
+    CHECK(block_is(encoding_text_repair_slice_partial(ALL(bytes), fresh_bytes(), 8), 6, 8, 2, true));
+    CHECK(bytes_are(BYTES("a\xEF\xBF\xBD\xEF\xBF\xBD" "b")));
+    CHECK(block_is(encoding_text_repair_slice_partial(ALL(bytes), fresh_bytes(), 7), 5, 7, 2, false));
+    CHECK(bytes_are(BYTES("a\xEF\xBF\xBD\xEF\xBF\xBD")));
+    CHECK(block_is(encoding_text_repair_slice_partial(ALL(bytes), fresh_bytes(), 6), 4, 4, 1, false));
+    CHECK(bytes_are(BYTES("a\xEF\xBF\xBD")));
 }
 
 static void repair_by_blocks(void)

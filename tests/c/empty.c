@@ -62,6 +62,8 @@ static void sources_of_no_elements(const uint8_t *bytes, const uint16_t *units, 
     CHECK(counts_are(encoding_text_convert_utf16_to_utf8_partial_inner(units, 0, to_bytes, room), 0, 0));
     CHECK(are_invalid(encoding_text_convert_utf16_to_utf8_partial_tail(units, 0, to_bytes, room)));
     CHECK(repaired_is(encoding_text_repair_slice(bytes, 0, to_bytes, room), 0, 0));
+    CHECK(counts_are(encoding_text_mem_convert_utf8_to_utf16_partial(bytes, 0, to_units, room), 0, 0));
+    CHECK(block_is(encoding_text_repair_slice_partial(bytes, 0, to_bytes, room), 0, 0, 0, true));
 }
 
 static void destinations_of_no_elements(uint8_t *to_bytes, uint16_t *to_units)
@@ -96,6 +98,8 @@ static void destinations_of_no_elements(uint8_t *to_bytes, uint16_t *to_units)
     CHECK(counts_are(encoding_text_convert_utf16_to_utf8_partial_inner(ALL(units), to_bytes, 0), 0, 0));
     CHECK(counts_are(encoding_text_convert_utf16_to_utf8_partial_tail(ALL(units), to_bytes, 0), 0, 0));
     CHECK(repaired_is(encoding_text_repair_slice(ALL(bytes), to_bytes, 0), ENCODING_TEXT_INVALID_ARGUMENT, 0));
+    CHECK(counts_are(encoding_text_mem_convert_utf8_to_utf16_partial(ALL(bytes), to_units, 0), 0, 0));
+    CHECK(block_is(encoding_text_repair_slice_partial(ALL(bytes), to_bytes, 0), 0, 0, 0, false));
 }
 
 /* The Latin1 calls into a text clear all of a short destination. */

@@ -22,6 +22,7 @@ pub mod latin1;
 pub mod lengths;
 pub mod malformed;
 pub mod repair;
+pub mod replacing;
 pub mod runs;
 pub mod status;
 pub mod surrogates;

@@ -22,7 +22,9 @@ pub mod WholePrefixesLemmas
 pub mod Latin1ConversionLemmas
 pub mod PendingLemmas
 pub mod RepairingLemmas
+pub mod ReplacingLemmas
 pub mod RepairedLengthLemmas
 pub mod RoomLemmas
+pub mod SufficesLemmas
 pub mod TableLemmas
 pub mod Utf16BytesLemmas

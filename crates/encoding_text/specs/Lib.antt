@@ -1,4 +1,5 @@
 pub mod Decoding
+pub mod Replacing
 pub mod OneResult
 pub mod Encoding
 pub mod Borrowed

@@ -1,8 +1,9 @@
 //! Exact counts, of any source: its characters, and the bytes of its repaired text. Each call writes nothing.
 
-ghost use Rattle.std.specs.Prelude.{◌≡◌, ◌≤◌, List, length, SomeIff};
+ghost use Rattle.std.specs.Prelude.{◌≡◌, ◌≤◌, List, length, encode_utf8, IfSome, SomeIff};
 ghost use Rattle.encoding_definitions.specs.Parts.{Part, ArePartsOf, lossy_utf8};
 ghost use Rattle.encoding_definitions.specs.Utf16.{Part16, ArePartsOf16};
+ghost use Rattle.encoding_text.specs.Replacing.{SufficesForParts};
 
 use crate::utf_8::utf8_valid_up_to;
 use encoding_kernels::utf8::count::parts_of_utf8;
@@ -33,11 +34,12 @@ pub fn utf16_count(src: &[u16]) -> usize
 /// Returns the length in bytes of `src` with U+FFFD for each malformed sequence: what `repair_slice` writes. `None` if
 /// the length exceeds `usize::MAX`.
 ///
-/// `src` may be any bytes. The length of the same text in UTF-16 is `utf16_length_from_utf8`. Encoding Standard, UTF-8
-/// decode without BOM.
+/// `src` may be any bytes. With a destination of this length, `repair_slice_partial` reads all of them. The length of the
+/// same text in UTF-16 is `utf16_length_from_utf8`. Encoding Standard, UTF-8 decode without BOM.
 pub fn repaired_utf8_length(src: &[u8]) -> Option<usize>
-    ensures { (parts : List Part) × ArePartsOf src.now parts
+    ensures length { (parts : List Part) × ArePartsOf src.now parts
         × SomeIff result (length (lossy_utf8 parts) ≤ usize.MAX) (length (lossy_utf8 parts)) }
+    ensures suffices { IfSome result (λ n. SufficesForParts encode_utf8 src.now n) }
 {
     let valid = utf8_valid_up_to(src);
     repaired_length(&src[valid..])?.checked_add(valid)

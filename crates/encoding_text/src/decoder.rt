@@ -13,6 +13,7 @@ use pending::{Pending, Resumed, is_malformed_byte};
 use std::marker::Model;
 
 mod pending;
+pub(crate) mod replacing;
 
 /// What ended a call of a decoder.
 #[derive(Debug, PartialEq, Eq, Drop)]

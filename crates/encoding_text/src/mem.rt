@@ -6,6 +6,7 @@ mod checks;
 mod copies;
 mod latin1;
 mod lengths;
+mod replacing;
 mod surrogates;
 mod text_destinations;
 mod to_utf16;
@@ -30,6 +31,7 @@ pub use lengths::{
     latin1_length_from_utf8, utf8_length_from_latin1, utf8_length_from_utf16,
     utf16_length_from_utf8,
 };
+pub use replacing::{convert_utf8_to_utf16_partial, repair_slice_partial};
 pub use surrogates::{ensure_utf16_validity, utf16_valid_up_to};
 pub use text_destinations::{
     convert_latin1_to_str, convert_latin1_to_str_partial, convert_utf16_to_str,

@@ -45,6 +45,8 @@ mod repair_rows;
 #[cfg(test)]
 mod repair_stream_rows;
 #[cfg(test)]
+mod replacing_rows;
+#[cfg(test)]
 mod run_rows;
 #[cfg(test)]
 mod surrogate_rows;

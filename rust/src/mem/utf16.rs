@@ -28,6 +28,23 @@ pub fn convert_utf8_to_utf16(src: &[u8], dst: &mut [u16]) -> usize {
     c::encoding_text_mem_convert_utf8_to_utf16(src, dst)
 }
 
+/// Converts as many first characters as fit to UTF-16, with U+FFFD for each malformed sequence. Returns the number of
+/// bytes read and the number of code units written (Encoding Standard, "UTF-8 decode without BOM").
+///
+/// If `dst` is too short, fewer bytes than `src` has are read. No character is written in part.
+///
+/// [Proved](crate::promises#mem).
+///
+/// ```
+/// let mut units = [0; 3];
+/// let counts = encoding_text::mem::convert_utf8_to_utf16_partial(b"a\xE2\x98Z!", &mut units);
+/// assert_eq!((counts, units), ((4, 3), [0x61, 0xFFFD, 0x5A]));
+/// ```
+#[inline]
+pub fn convert_utf8_to_utf16_partial(src: &[u8], dst: &mut [u16]) -> (usize, usize) {
+    c::encoding_text_mem_convert_utf8_to_utf16_partial(src, dst).into()
+}
+
 /// Converts a text to UTF-16, and returns the number of code units written.
 ///
 /// [Proved](crate::promises#mem). The text is not validated again.

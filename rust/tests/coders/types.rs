@@ -60,6 +60,7 @@ fn conversions_of_mem() {
     let _: [Convert<u8, u16, usize>; 2] = [mem::convert_utf8_to_utf16, mem::copy_ascii_to_basic_latin];
     let _: fn(&str, &mut [u16]) -> usize = mem::convert_str_to_utf16;
     let _: Convert<u8, u16, Option<usize>> = mem::convert_utf8_to_utf16_without_replacement;
+    let _: Convert<u8, u16, Counts> = mem::convert_utf8_to_utf16_partial;
     let _: Convert<u16, u8, Counts> = mem::convert_utf16_to_utf8_partial;
     let _: [Convert<u16, u8, usize>; 2] = [mem::convert_utf16_to_utf8, mem::copy_basic_latin_to_ascii];
     let _: fn(&[u16], &mut str) -> Counts = mem::convert_utf16_to_str_partial;

@@ -131,6 +131,9 @@ fn from_utf8_to_utf16() {
     assert_eq!(assert_each_holds(&characters, into_room(1, 1), repairing), 28);
     assert_eq!(assert_each_holds(&malformed, into_room(1, 1), repairing), 16);
     assert_eq!(assert_each_holds(&characters, into_room(1, 0), refusing), 28);
+    assert_eq!(assert_each_holds(&characters, EXACT, convert_utf8_to_utf16_partial), 28);
+    assert_eq!(assert_each_holds(&characters, SHORT, convert_utf8_to_utf16_partial), 28);
+    assert_eq!(assert_each_holds(&malformed, EXACT, convert_utf8_to_utf16_partial), 16);
 }
 
 #[test]

@@ -3,7 +3,7 @@
 
 use crate::common::{prefix, Random};
 use encoding_text::{ascii::*, mem::*, utf_8::*};
-use encoding_text::{repair, repair_to, utf8_chunks, DecodeUtf16, Repair, Utf8Decoder};
+use encoding_text::{repair, repair_slice_partial, repair_to, utf8_chunks, DecodeUtf16, Repair, Utf8Decoder};
 use std::io::Read;
 use std::ptr;
 
@@ -107,6 +107,8 @@ fn bytes() {
         );
         convert_latin1_to_utf8_partial(bytes, dst.slice(room, to_end));
         convert_utf8_to_utf16_up_to_invalid(bytes, dst.slice(room, to_end));
+        convert_utf8_to_utf16_partial(bytes, dst.slice(room, to_end));
+        repair_slice_partial(bytes, dst.slice(room, to_end));
         let mut decoder = Utf8Decoder::new_inner();
         let _ = decoder.decode_to_utf16_raw(bytes, dst.slice(room, to_end), false);
         let _ = decoder.decode_to_utf8_raw(bytes, dst.slice(room, to_end), false);

@@ -11,3 +11,4 @@ mod guard;
 #[cfg(feature = "alloc")]
 mod memory;
 mod random;
+mod replacing;

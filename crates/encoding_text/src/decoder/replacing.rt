@@ -1,0 +1,112 @@
+//! Whole bytes with U+FFFD for each malformed sequence, into a destination of any length.
+ghost use Rattle.std.specs.Prelude.{◌≡◌, ℕ, List, ◌≤◌, true, [], length, take, drop, IfSome, IfNone};
+ghost use Rattle.encoding_definitions.specs.Parts.{BeginsWithNoCharacter};
+ghost use Rattle.encoding_definitions.specs.Prefixes.{WritesPrefix};
+ghost use Rattle.encoding_text.specs.Decoding.{IsMalformed};
+ghost use Rattle.encoding_text.specs.Replacing.{ConvertsParts};
+
+use super::pending::Pending;
+use super::{DecoderResult, decode};
+use crate::utf_8::{CodeUnit, character_length};
+use encoding_kernels::scalar::write_scalar;
+
+/// The scalar value that replaces a malformed sequence.
+const REPLACEMENT_CHARACTER: u32 = 0xFFFD;
+
+/// Code units that text with U+FFFD for each malformed sequence is written in.
+pub(crate) trait Replacing: CodeUnit {
+    /// Returns the length of U+FFFD.
+    fn replacement_length() -> usize
+        ensures length { result ≡ length (Self.encode 0xFFFD) }
+        ensures at_most { result ≤ Self.need };
+
+    /// Writes U+FFFD to the start of `dst`, and returns its length.
+    fn write_replacement(dst: &mut [Self]) -> usize
+        requires dst_length { length (Self.encode 0xFFFD) ≤ length dst.old }
+        ensures { WritesPrefix dst.old dst.new result (Self.encode 0xFFFD) };
+}
+
+impl Replacing for u16 {
+    #[inline]
+    fn replacement_length() -> usize {
+        1
+    }
+
+    #[inline]
+    fn write_replacement(dst: &mut [u16]) -> usize {
+        dst[0] = 0xFFFD;
+        1
+    }
+}
+
+impl Replacing for u8 {
+    #[inline]
+    fn replacement_length() -> usize {
+        3
+    }
+
+    #[inline]
+    fn write_replacement(dst: &mut [u8]) -> usize {
+        write_scalar(REPLACEMENT_CHARACTER, dst)
+    }
+}
+
+/// Returns the length of the malformed sequence at the start of the bytes, which are all that is left. `None` if there
+/// are none, or they start with a character.
+#[tactic(auto, using(crate::proofs::ReplacingLemmas::begins_character))]
+fn malformed_length(bytes: &[u8]) -> Option<usize>
+    ensures if_some { IfSome result (λ n. (n ≤ length bytes.now)
+        × IsMalformed (take n bytes.now) (drop n bytes.now) true) }
+    ensures if_none { IfNone result (BeginsWithNoCharacter bytes.now → bytes.now ≡ []) }
+{
+    if bytes.is_empty() {
+        return None;
+    }
+    if let Some(_length) = character_length(bytes) {
+        return None;
+    }
+    let (_, length) = Pending::none().end_before(bytes, true);
+    Some(length)
+}
+
+/// Converts the first parts of `src`, characters and malformed sequences, as many as fit into `dst`. Returns how many
+/// bytes it read, how many code units it wrote, and for how many malformed sequences it wrote U+FFFD.
+#[inline(always)]
+pub(crate) fn convert_parts<U: Replacing>(src: &[u8], dst: &mut [U]) -> (usize, usize, usize)
+    ensures { ConvertsParts U.encode src.now dst.old dst.new result.0 result.1 result.2 }
+{
+    let replacement = U::replacement_length();
+    let mut pending = Pending::none();
+    let mut read = 0;
+    let mut written = 0;
+    let mut replaced = 0;
+    loop {
+        let (result, bytes, units) = decode::<U>(
+            &mut pending,
+            &src[read..],
+            &mut dst[written..],
+            true,
+        );
+        read += bytes;
+        written += units;
+        match result {
+            DecoderResult::InputEmpty => return (read, written, replaced),
+            DecoderResult::Malformed(..) => {
+                written += U::write_replacement(&mut dst[written..]);
+                replaced += 1;
+            }
+            DecoderResult::OutputFull => {
+                // The decoder reports a malformed sequence only into space for any character.
+                let Some(length) = malformed_length(&src[read..]) else {
+                    return (read, written, replaced);
+                };
+                if dst.len() - written < replacement {
+                    return (read, written, replaced);
+                }
+                read += length;
+                written += U::write_replacement(&mut dst[written..]);
+                replaced += 1;
+            }
+        }
+    }
+}
