@@ -8,6 +8,16 @@ import subprocess
 NOTHING = ["short", "1", "0"]
 
 
+def is_current(program, checkout):
+    """Returns whether the program is newer than all sources and proofs of the checkout."""
+    if not program.is_file():
+        return False
+    sources = [path for kind in ("src/**/*.rt", "specs/**/*.antt", "proofs/**/*.antt")
+               for path in checkout.glob(f"crates/*/{kind}")]
+    changed = max(path.stat().st_mtime for path in [*sources, checkout / "crates.txt"])
+    return program.stat().st_mtime > changed
+
+
 def built(checkout, name, cpu):
     """Builds the program of a crate for these processors, and returns its path: build/CPU/NAME of the checkout.
 
@@ -16,6 +26,8 @@ def built(checkout, name, cpu):
     crate = checkout / "crates" / name
     own = crate / "out" / name
     program = checkout / "build" / cpu / name
+    if is_current(program, checkout):
+        return program
     log = checkout / "build" / "logs" / f"{name}-{cpu}.log"
     for folder in (program.parent, log.parent):
         folder.mkdir(parents=True, exist_ok=True)
