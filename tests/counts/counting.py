@@ -1,8 +1,8 @@
 """Counts the instructions of the workloads and of the rows of `bench/instructions` by callgrind.
 
 Only what the library and the workloads execute is counted: a row from the entry of its function for C to its return, a
-workload without the making of its texts, and neither with the functions of the C library, which selects them by the
-processor. Programs run without an environment, by a relative path in a folder of their own.
+workload without the making of its texts. The C library selects its functions by the processor, so each call of one of
+these counts as much on any machine. Programs run without an environment, by a relative path in a folder of their own.
 """
 import os
 import pathlib
@@ -18,6 +18,8 @@ TABLE = ROOT / 'tests' / 'counts' / 'table.tsv'
 CPUS = 'x86-64-v2', 'x86-64-v3'
 # What stands for the kind of text in the rows of workloads.
 WORKLOAD = 'workload'
+# What a call of another library counts as: about the instructions of a short copy.
+CALL = 20
 # How many rounds of each workload are counted: each takes a few seconds.
 ROUNDS = {'decode': 28, 'encode': 56, 'check': 20, 'repair': 32, 'short': 160, 'legacy': 160, 'everyday': 3}
 # About how long the texts of a row are, in bytes: those of up to 4 KiB are several, with 4 KiB together.
@@ -40,13 +42,16 @@ def callgrind(folder, program, words, *options):
 
 
 def instructions(dump, program):
-    """Returns the instructions in a dump that are the program's own, not those of its shared libraries."""
-    total, is_own, skips = 0, False, False
+    """Returns the instructions in a dump that are the program's own, and CALL for each call of its shared libraries."""
+    total, is_own, leaves, skips = 0, False, False, False
     for line in dump.splitlines():
         if line.startswith('ob='):
             is_own = os.path.basename(line[3:]) == program
+        elif line.startswith('cob='):
+            leaves = os.path.basename(line[4:]) != program
         elif line.startswith('calls='):
-            skips = True
+            total += CALL * int(line[6:].split()[0]) if is_own and leaves else 0
+            leaves, skips = False, True
         elif re.match(r'\d', line):
             # the line after calls= has what is counted in the function that is called
             total += 0 if skips or not is_own else int(line.split()[1])
