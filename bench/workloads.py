@@ -28,6 +28,8 @@ def built(checkout, name, cpu):
     program = checkout / "build" / cpu / name
     if is_current(program, checkout):
         return program
+    if not shutil.which("rt"):
+        raise OSError("rt is not there: put the toolchain's folder bin on the PATH")
     log = checkout / "build" / "logs" / f"{name}-{cpu}.log"
     for folder in (program.parent, log.parent):
         folder.mkdir(parents=True, exist_ok=True)
