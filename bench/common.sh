@@ -61,6 +61,13 @@ peer() {
     simdutf_file
 }
 
+# Names the commit that is measured.
+commit() {
+    local changed=
+    [ -z "$(git status --porcelain -- ../crates ../c ../Makefile ./src)" ] || changed=' and later changes'
+    echo "$(git rev-parse --short=12 HEAD)$changed"
+}
+
 # Describes the machine: its processor, its cores, its load.
 machine() {
     grep -m1 'model name' /proc/cpuinfo | sed 's/.*: //'

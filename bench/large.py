@@ -1,9 +1,10 @@
-"""Prints the Markdown table of 1 MiB in docs/PERFORMANCE.md from the output of bench/table, or writes it there: python3
-large.py [--write]. A dash means that the call ends at the first bytes."""
+"""Prints the Markdown table of 1 MiB in docs/PERFORMANCE.md from the output of bench/table, or writes it there, and the
+commit into the first line of the page: python3 large.py [--write]. A dash means that the call ends at the first bytes."""
 import pathlib
 
 import page
 
+BUILD = pathlib.Path(__file__).parent.parent / "build"
 CALLS = [
     "validate_ascii", "ascii_to_basic_latin", "basic_latin_to_ascii", "utf8_valid_up_to", "utf8_latin1_up_to",
     "utf16_valid_up_to", "is_utf8_bidi", "is_utf16_bidi", "convert_utf8_to_utf16", "convert_utf16_to_utf8",
@@ -15,8 +16,7 @@ CALLS = [
 def table():
     """Returns the lines of the table."""
     cells, kinds = {}, {}
-    values = pathlib.Path(__file__).parent.parent / "build" / "bench.tsv"
-    for line in values.read_text().splitlines()[1:]:
+    for line in (BUILD / "bench.tsv").read_text().splitlines()[1:]:
         row, kind, size, ours, _, _, ratio = line.split("\t")
         kinds[kind] = True
         if size == "1048576" and float(ours) < 250:
@@ -30,3 +30,4 @@ def table():
 
 if __name__ == "__main__":
     page.put("bench/large.py", "\n".join(table()) + "\n")
+    page.name((BUILD / "bench.commit").read_text().strip())

@@ -16,3 +16,15 @@ def put(name, text):
         sys.exit(f"{name}: {PAGE} doesn't have its marks once")
     before, rest = page.split(first)
     PAGE.write_text(before + first + text + last + rest.split(last)[1])
+
+
+def name(commit):
+    """Prints the first line of the page, which names the commit that bench/table measured, or writes it."""
+    line = f"The plots and the table of 1 MiB are of commit {commit}. Other figures may be older.\n"
+    if "--write" not in sys.argv:
+        print(line, end="")
+        return
+    first, rest = PAGE.read_text().split("\n", 1)
+    if not first.startswith("The plots "):
+        sys.exit(f"the first line of {PAGE} names no commit")
+    PAGE.write_text(line + rest)

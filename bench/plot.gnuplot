@@ -1,7 +1,7 @@
 # Plots the ratios of our throughput to that of the best peer, one line for each row of the table and one point for each
 # kind of text: from the file `values`, those of `size` bytes, ours built for `cpu`, to `picture`. It has no background,
 # middle tones and only filled marks, so that it suits light and dark pages. A call that ends at the first bytes (above
-# 250 GB/s of source) has no point.
+# 250 GB/s of source) has no point. The title names the `commit`.
 set terminal svg noenhanced size 1000,1330 font 'sans-serif,13'
 set encoding utf8
 set output picture
@@ -9,7 +9,7 @@ set datafile separator '\t'
 filtered = "awk -F'\t' -v OFS='\t' -v size=" . size . " 'NR > 1 { if (!seen[$1]++) n++; if ($3 == size && $4 < 250) print n, $2, $7 }' " . values
 stats '< ' . filtered using 3 nooutput
 tone = '#7a7a7a'
-set label 'Our throughput, built for ' . cpu . ', on ' . bytes . ' of text' at screen 0.5, 0.988 center textcolor rgb tone
+set label 'Our throughput at commit ' . commit . ', built for ' . cpu . ', on ' . bytes . ' of text' at screen 0.5, 0.988 center textcolor rgb tone
 set label "next to that of the fastest of std, encoding_rs, simdutf8 and simdutf's kernel of the same width" \
     at screen 0.5, 0.974 center textcolor rgb tone
 set border 1 linecolor rgb tone

@@ -19,6 +19,9 @@
 //! returns one (`str` in its name, and `encode_from_utf8`), each engine starts with bytes and validates them: ours in
 //! its function for C, a peer by `std::str::from_utf8` (module `rows`). If a row's call returns the element after a
 //! prefix, peers have to find that too.
+//!
+//! Without the feature `peers` only ours are there, so that nothing else has to be installed (`tests/counts/run`).
+#![cfg_attr(not(feature = "peers"), allow(unused))]
 
 mod call;
 mod count;

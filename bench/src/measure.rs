@@ -20,7 +20,7 @@ const VOLUME: usize = 1 << 20;
 const LEAST: f64 = 1e-3;
 
 /// Returns a destination full of letters, long enough for each source.
-fn room(sources: &[Source]) -> Room {
+pub fn room(sources: &[Source]) -> Room {
     Room::of(sources.iter().max_by_key(|source| source.bytes.len()).expect("a source"), "q")
 }
 

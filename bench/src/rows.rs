@@ -80,6 +80,7 @@ fn put(text: &str, dst: &mut [u8]) -> usize {
 
 /// Defines rows. Calls of simdutf, by its plain functions and by those with errors, become an engine for each way to
 /// call it.
+#[cfg(feature = "peers")]
 macro_rules! rows {
     ($($name:literal, $reads:ident: $($engine:ident => $run:expr),+; $(simdutf: $($form:ident => $peer:expr),+;)?)*) => {
         &[$(Row {
@@ -97,6 +98,15 @@ macro_rules! rows {
                 }),)+)?
             ],
         }),*]
+    };
+}
+
+/// Defines rows without peers.
+#[cfg(not(feature = "peers"))]
+macro_rules! rows {
+    ($($name:literal, $reads:ident: OURS => $run:expr $(, $engine:ident => $other:expr)*;
+        $(simdutf: $($form:ident => $peer:expr),+;)?)*) => {
+        &[$(Row { name: $name, reads: Reads::$reads, engines: &[(OURS, |s, r, n| in_turn(s, r, n, $run))] }),*]
     };
 }
 use rows;

@@ -4,6 +4,7 @@
 use crate::ffi::{self, Decoder, Encoder};
 use crate::kinds::Source;
 use crate::room::Room;
+#[cfg(feature = "peers")]
 use encoding_rs::{CoderResult, UTF_8};
 use std::str;
 
@@ -51,6 +52,7 @@ pub fn decode_to_utf16(source: &Source, room: &mut Room) {
     }
 }
 
+#[cfg(feature = "peers")]
 pub fn crate_decode_to_utf16(source: &Source, room: &mut Room) {
     let mut decoder = UTF_8.new_decoder_without_bom_handling();
     room.written = 0;
@@ -86,6 +88,7 @@ pub fn decode_to_utf8(source: &Source, room: &mut Room) {
     }
 }
 
+#[cfg(feature = "peers")]
 pub fn crate_decode_to_utf8(source: &Source, room: &mut Room) {
     let mut decoder = UTF_8.new_decoder_without_bom_handling();
     room.written = 0;
@@ -140,6 +143,7 @@ pub fn encode_from_utf16(source: &Source, room: &mut Room) {
     }
 }
 
+#[cfg(feature = "peers")]
 pub fn crate_encode_from_utf16(source: &Source, room: &mut Room) {
     let mut encoder = UTF_8.new_encoder();
     room.written = 0;
@@ -176,6 +180,7 @@ pub fn encode_from_utf8(source: &Source, room: &mut Room) {
 }
 
 /// Validates each piece, as ours does.
+#[cfg(feature = "peers")]
 pub fn crate_encode_from_utf8(source: &Source, room: &mut Room) {
     let mut encoder = UTF_8.new_encoder();
     room.written = 0;

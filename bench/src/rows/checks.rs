@@ -4,6 +4,7 @@ use super::{in_turn, rows, std_valid_up_to, Reads, Row, CRATE, OURS, SIMD, STD};
 use crate::call::one;
 use crate::ffi::{self, INVALID_ARGUMENT, INVALID_ARGUMENT_U8};
 use crate::simdutf;
+#[cfg(feature = "peers")]
 use encoding_rs::{mem, Encoding};
 use std::str;
 
@@ -17,6 +18,7 @@ fn checked(src: &[u8], unchecked: fn(&[u8]) -> bool) -> u8 {
 }
 
 /// Returns the length of the longest well-formed prefix.
+#[cfg(feature = "peers")]
 fn simd_valid_up_to(src: &[u8]) -> usize {
     simdutf8::compat::from_utf8(src).map_or_else(|error| error.valid_up_to(), str::len)
 }

@@ -4,6 +4,7 @@ use super::{in_turn, put, rows, std_valid_up_to, Reads, Row, CRATE, OURS, STD};
 use crate::call::{in_place, two};
 use crate::ffi::{self, INVALID_ARGUMENT};
 use crate::simdutf;
+#[cfg(feature = "peers")]
 use encoding_rs::{mem, Encoding};
 use std::str;
 
@@ -23,6 +24,7 @@ fn std_prefix_to_utf16(src: &[u8], dst: &mut [u16]) -> (usize, usize) {
 }
 
 /// The same. The crate's call requires a longer destination and returns no index: if it is too short this is std's.
+#[cfg(feature = "peers")]
 fn crate_prefix_to_utf16(src: &[u8], dst: &mut [u16]) -> (usize, usize) {
     if dst.len() < src.len() {
         return std_prefix_to_utf16(src, dst);
@@ -43,6 +45,7 @@ type ToUtf16 = fn(&[u8], &mut [u16]) -> Option<usize>;
 
 /// Converts the prefix to UTF-16. simdutf requires a longer destination and returns no index: if it is too short this
 /// is std's.
+#[cfg(feature = "peers")]
 fn simdutf_prefix_to_utf16(src: &[u8], dst: &mut [u16], convert: ToUtf16) -> (usize, usize) {
     if dst.len() < src.len() {
         return std_prefix_to_utf16(src, dst);

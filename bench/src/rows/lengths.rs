@@ -7,6 +7,7 @@ use super::{in_turn, rows, Reads, Row, CRATE, OURS, STD};
 use crate::call::one;
 use crate::ffi::{self, INVALID_ARGUMENT};
 use crate::simdutf;
+#[cfg(feature = "peers")]
 use encoding_rs::mem;
 
 fn std_utf8_length_from_latin1(src: &[u8]) -> usize {
@@ -14,6 +15,7 @@ fn std_utf8_length_from_latin1(src: &[u8]) -> usize {
 }
 
 /// Returns the number of characters of a Latin1 text.
+#[cfg(feature = "peers")]
 fn crate_latin1_length(src: &[u8]) -> usize {
     if mem::utf8_latin1_up_to(src) < src.len() {
         return INVALID_ARGUMENT;

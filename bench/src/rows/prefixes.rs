@@ -4,6 +4,7 @@ use super::{in_turn, rows, Reads, Row, CRATE, OURS, STD};
 use crate::call::{one, two};
 use crate::ffi::{self, Prefix};
 use crate::simdutf;
+#[cfg(feature = "peers")]
 use encoding_rs::{mem, Encoding};
 
 pub const ROWS: &[Row] = rows! {

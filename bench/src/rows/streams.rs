@@ -5,6 +5,7 @@ use crate::call::two;
 use crate::ffi;
 use crate::simdutf;
 use crate::streams;
+#[cfg(feature = "peers")]
 use encoding_rs::UTF_8;
 
 pub const ROWS: &[Row] = rows! {

@@ -309,7 +309,7 @@ fn borrow_prefix<'a>(pending: &mut Pending, src: &'a [u8], last: bool) -> (Piece
     if src.is_empty() {
         return (Piece::InputEmpty, 0);
     }
-    // a malformed sequence often comes next, and one byte shows it
+    // a malformed sequence often comes next, and two bytes show most of them
     if is_malformed_byte(src) {
         return (Piece::Malformed(1), 1);
     }

@@ -1,7 +1,7 @@
 //! The encoder's vectors: code units and their UTF-8, if the call is the last one. And the encoder while nothing is
 //! pending: vectors and limits.
 
-use crate::pending_unit_rows::holds;
+use crate::pending_surrogate_rows::holds;
 use crate::texts::{are_written, bytes_of, field, number_of, units_of};
 use encoding_text::utf_8::{EncoderResult, Utf8Encoder};
 use std::alloc::Global;

@@ -1,7 +1,7 @@
 //! Runs of an encoder: rows, and the encoder's sources by turns of few code units.
 
 use crate::encoder_rows::{limits, vectors};
-use crate::pending_unit_rows::holds;
+use crate::pending_surrogate_rows::holds;
 use crate::run_rows::{turns_for, turns_of};
 use crate::texts::{are_written, bytes_of, field, number_of, units_of};
 use encoding_runs::run::run_from_utf16;

@@ -39,7 +39,7 @@ mod mixed_text;
 #[cfg(test)]
 mod parts;
 #[cfg(test)]
-mod pending_unit_rows;
+mod pending_surrogate_rows;
 #[cfg(test)]
 mod repair_rows;
 #[cfg(test)]

@@ -3,6 +3,7 @@
 mod check;
 mod decode;
 mod encode;
+mod everyday;
 mod legacy;
 mod repair;
 mod short;
@@ -30,6 +31,8 @@ pub(crate) enum Job {
     Short,
     /// Old files and engines: Latin1 and bytes of UTF-16.
     Legacy,
+    /// Messages, prose, code and JSON, in buffers of 16 bytes to 16 KiB.
+    Everyday,
     /// All of them.
     All,
 }
@@ -44,6 +47,7 @@ impl Job {
             "repair" => Some(Job::Repair),
             "short" => Some(Job::Short),
             "legacy" => Some(Job::Legacy),
+            "everyday" => Some(Job::Everyday),
             "all" => Some(Job::All),
             _ => None,
         }
@@ -64,13 +68,15 @@ impl Job {
             Job::Repair => repair::run(alloc, rounds, random, digest),
             Job::Short => short::run(alloc, rounds, random, digest),
             Job::Legacy => legacy::run(alloc, rounds, random, digest),
+            Job::Everyday => everyday::run(alloc, rounds, random, digest),
             Job::All => {
                 decode::run(alloc, rounds, random, digest)?;
                 encode::run(alloc, rounds, random, digest)?;
                 check::run(alloc, rounds, random, digest)?;
                 repair::run(alloc, rounds, random, digest)?;
                 short::run(alloc, rounds, random, digest)?;
-                legacy::run(alloc, rounds, random, digest)
+                legacy::run(alloc, rounds, random, digest)?;
+                everyday::run(alloc, rounds, random, digest)
             }
         }
     }

@@ -4,6 +4,7 @@
 
 mod digest;
 mod jobs;
+mod pages;
 mod random;
 mod text;
 
@@ -55,7 +56,7 @@ fn run(alloc: Global, order: Order) -> Result<u64, AllocError> {
 fn main(rt: HostRuntime) -> io::Result<ExitCode> {
     let Some(order) = read_order(env::args(&rt)?) else {
         eprintln!(rt;
-            "usage: encoding_workloads decode|encode|check|repair|short|legacy|all SEED ROUNDS"
+            "usage: encoding_workloads decode|encode|check|repair|short|legacy|everyday|all SEED ROUNDS"
         )?;
         return Ok(ExitCode::from(USAGE));
     };

@@ -247,7 +247,7 @@ fn assert_text(row: &str, before: &str, text: &str, room: usize, wanted: &Wanted
 }
 
 #[test]
-fn rows_with_and_without_a_pending_unit() {
+fn rows_with_and_without_a_pending_surrogate() {
     let mut count = 0;
     for row in ROWS.lines() {
         let fields: Vec<&str> = row.split('|').map(str::trim).collect();

@@ -7,7 +7,7 @@ const LONGEST: usize = 130;
 
 /// The length of the array around a source or a destination: three units for each of the longest source, and sixteen
 /// more before and after.
-const DST_LENGTH: usize = 3 * LONGEST + 48;
+const ARRAY_LENGTH: usize = 3 * LONGEST + 48;
 
 /// The length of a destination.
 #[derive(Clone, Copy)]
@@ -68,9 +68,9 @@ struct Text<S, D> {
     src: Vec<S>,
     wanted: Vec<D>,
     prefix: (usize, usize),
-    source: [S; DST_LENGTH],
-    destination: [D; DST_LENGTH],
-    unwritten: [D; DST_LENGTH],
+    source: [S; ARRAY_LENGTH],
+    destination: [D; ARRAY_LENGTH],
+    unwritten: [D; ARRAY_LENGTH],
 }
 
 impl<S: Unit, D: Unit> Text<S, D> {
@@ -79,9 +79,9 @@ impl<S: Unit, D: Unit> Text<S, D> {
             src: Vec::new(),
             wanted: Vec::new(),
             prefix: (0, 0),
-            source: [S::AFTER; DST_LENGTH],
-            destination: [D::UNWRITTEN; DST_LENGTH],
-            unwritten: [D::UNWRITTEN; DST_LENGTH],
+            source: [S::AFTER; ARRAY_LENGTH],
+            destination: [D::UNWRITTEN; ARRAY_LENGTH],
+            unwritten: [D::UNWRITTEN; ARRAY_LENGTH],
         }
     }
 

@@ -9,7 +9,7 @@ use encoding_text::utf_8::utf8_valid_up_to;
 const LONGEST: usize = 130;
 
 /// The length of the array around a slice.
-const DST_LENGTH: usize = 160;
+const ARRAY_LENGTH: usize = 160;
 
 /// Returns the element at an index of the slice, from 0x20 to 0x5F.
 fn letter(place: usize) -> u8 {
@@ -17,8 +17,8 @@ fn letter(place: usize) -> u8 {
 }
 
 /// Returns a slice of letters at a start, with one other unit, and such units around it.
-fn with_other<T: Copy + From<u8>>(start: usize, length: usize, place: usize, other: T, around: T) -> [T; DST_LENGTH] {
-    let mut units = [around; DST_LENGTH];
+fn with_other<T: Copy + From<u8>>(start: usize, length: usize, place: usize, other: T, around: T) -> [T; ARRAY_LENGTH] {
+    let mut units = [around; ARRAY_LENGTH];
     for (at, unit) in units[start..start + length].iter_mut().enumerate() {
         *unit = if at == place { other } else { letter(at).into() };
     }
@@ -26,8 +26,8 @@ fn with_other<T: Copy + From<u8>>(start: usize, length: usize, place: usize, oth
 }
 
 /// Returns `count` letters at a start, and 0x71 everywhere else.
-fn letters<T: Copy + From<u8>>(start: usize, count: usize) -> [T; DST_LENGTH] {
-    with_other(start, count, DST_LENGTH, 0x71.into(), 0x71.into())
+fn letters<T: Copy + From<u8>>(start: usize, count: usize) -> [T; ARRAY_LENGTH] {
+    with_other(start, count, ARRAY_LENGTH, 0x71.into(), 0x71.into())
 }
 
 /// Returns whether the scans and copies of bytes stop at the other byte.
@@ -36,12 +36,12 @@ fn bytes_stop(start: usize, length: usize, other: usize) -> bool {
     let bytes = with_other(start, length, other, 0xAA, 0xC3);
     let src = &bytes[slice.clone()];
     let found = (other < length).then_some((0xAA, other));
-    let mut narrow = [0x71; DST_LENGTH];
+    let mut narrow = [0x71; ARRAY_LENGTH];
     let copied = ascii_to_ascii(src, &mut narrow[slice.clone()]);
-    let mut wide = [0x71; DST_LENGTH];
+    let mut wide = [0x71; ARRAY_LENGTH];
     let widened = ascii_to_basic_latin(src, &mut wide[slice.clone()]);
-    let mut also = [0x71; DST_LENGTH];
-    let mut also_wide = [0x71; DST_LENGTH];
+    let mut also = [0x71; ARRAY_LENGTH];
+    let mut also_wide = [0x71; ARRAY_LENGTH];
     let prefix = other.min(length);
     copy_ascii_to_ascii(src, &mut also[slice.clone()]) == prefix
         && copy_ascii_to_basic_latin(src, &mut also_wide[slice.clone()]) == prefix
@@ -73,8 +73,8 @@ fn units_stop(start: usize, length: usize, other: usize) -> bool {
     let single = with_other(start, length, other, 0xD83D, 0xDC00);
     let src = &units[slice.clone()];
     let found = (other < length).then_some((0xAA, other));
-    let mut bytes = [0x71; DST_LENGTH];
-    let mut also = [0x71; DST_LENGTH];
+    let mut bytes = [0x71; ARRAY_LENGTH];
+    let mut also = [0x71; ARRAY_LENGTH];
     let prefix = other.min(length);
     basic_latin_to_ascii(src, &mut bytes[slice.clone()]) == found
         && copy_basic_latin_to_ascii(src, &mut also[slice.clone()]) == prefix
@@ -90,9 +90,9 @@ fn units_stop(start: usize, length: usize, other: usize) -> bool {
 fn latin1_comes_back(start: usize, length: usize, other: usize) -> bool {
     let slice = start..start + length;
     let bytes = with_other(start, length, other, 0xAA, 0xC3);
-    let mut units = [0xDC00; DST_LENGTH];
+    let mut units = [0xDC00; ARRAY_LENGTH];
     convert_latin1_to_utf16(&bytes[slice.clone()], &mut units[slice.clone()]);
-    let mut back = [0xC3; DST_LENGTH];
+    let mut back = [0xC3; ARRAY_LENGTH];
     convert_utf16_to_latin1_lossy(&units[slice.clone()], &mut back[slice]);
     units == with_other::<u16>(start, length, other, 0xAA, 0xDC00) && back == bytes
 }
@@ -140,7 +140,7 @@ const CHARACTERS: [&[u8]; 4] = [&[0x61], &[0xC3, 0xA4], &[0xE2, 0x98, 0x83], &[0
 
 /// Returns whether `letters` letters, then such characters, are valid up to the malformed byte.
 fn is_valid_up_to_break(letters: usize, character: &[u8], length: usize, malformed: usize) -> bool {
-    let mut text = [0; DST_LENGTH];
+    let mut text = [0; ARRAY_LENGTH];
     for (place, byte) in text.iter_mut().enumerate() {
         *byte = match place.checked_sub(letters) {
             _ if place == malformed => 0xFF,

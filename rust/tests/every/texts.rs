@@ -7,7 +7,7 @@ use encoding_text::mem::*;
 use encoding_text::utf_8::utf8_valid_up_to;
 
 /// The length of the array around the texts.
-const DST_LENGTH: usize = 232;
+const ARRAY_LENGTH: usize = 232;
 
 /// Returns the length of the longest prefix that is the UTF-8 of scalar values up to U+00FF.
 fn latin1_prefix_len(src: &[u8]) -> usize {
@@ -62,7 +62,7 @@ fn put(room: &mut [u8], place: usize, sequence: &[u8]) {
 
 /// Returns whether all calls agree, with the sequence at each index of `length` bytes at which a character of `others`
 /// starts.
-fn agree_at_each_place(room: &[u8; DST_LENGTH], from: usize, length: usize, step: usize, sequence: &[u8]) -> bool {
+fn agree_at_each_place(room: &[u8; ARRAY_LENGTH], from: usize, length: usize, step: usize, sequence: &[u8]) -> bool {
     (0..length).step_by(step).all(|place| {
         let mut seen = *room;
         put(&mut seen, from + place, sequence);
@@ -74,7 +74,7 @@ fn agree_at_each_place(room: &[u8; DST_LENGTH], from: usize, length: usize, step
 /// Returns whether all calls agree, with the sequence at each index of each length below a bound, in an array that
 /// repeats the others from an offset on.
 fn agree_over_lengths(from: usize, bound: usize, others: char, sequence: &[u8]) -> bool {
-    let mut room = [0; DST_LENGTH];
+    let mut room = [0; ARRAY_LENGTH];
     for part in room[from..].chunks_mut(others.len_utf8()) {
         let length = part.len();
         part.copy_from_slice(&others.encode_utf8(&mut [0; 4]).as_bytes()[..length]);

@@ -7,7 +7,7 @@ use crate::common::{class_of, is_unit_right_to_left};
 use encoding_text::mem::*;
 
 /// The length of the array around the code units.
-const DST_LENGTH: usize = 160;
+const ARRAY_LENGTH: usize = 160;
 
 fn is_high(unit: u16) -> bool {
     unit & 0xFC00 == 0xD800
@@ -18,7 +18,7 @@ fn is_low(unit: u16) -> bool {
 }
 
 /// Returns whether the code unit at an index is an unpaired surrogate.
-fn is_malformed_byte(src: &[u16], place: usize) -> bool {
+fn is_unpaired(src: &[u16], place: usize) -> bool {
     let unit = src[place];
     if is_high(unit) {
         !src.get(place + 1).is_some_and(|next| is_low(*next))
@@ -30,7 +30,7 @@ fn is_malformed_byte(src: &[u16], place: usize) -> bool {
 /// Returns the index of the first of them, or the length.
 fn first_unpaired(src: &[u16]) -> usize {
     (0..src.len())
-        .find(|place| is_malformed_byte(src, *place))
+        .find(|place| is_unpaired(src, *place))
         .unwrap_or(src.len())
 }
 
@@ -53,7 +53,7 @@ fn repair_agrees(room: &[u16], from: usize, length: usize) -> bool {
     ensure_utf16_validity(&mut repaired[from..end]);
     let src = &room[from..end];
     let wanted = |place| {
-        if is_malformed_byte(src, place) {
+        if is_unpaired(src, place) {
             0xFFFD
         } else {
             src[place]
@@ -66,7 +66,7 @@ fn repair_agrees(room: &[u16], from: usize, length: usize) -> bool {
 
 /// Returns whether all calls agree, with the two at each index of `length` code units.
 fn agree_at_each_place(from: usize, length: usize, others: [u16; 2], two: [u16; 2]) -> bool {
-    let mut room = [0; DST_LENGTH];
+    let mut room = [0; ARRAY_LENGTH];
     for (place, unit) in room.iter_mut().enumerate() {
         *unit = others[place & 1];
     }
@@ -116,7 +116,7 @@ fn among_other_units() {
 const LONGEST: usize = 10 * 64 + 3;
 
 /// The length of the array around them.
-const LONG_DST_LENGTH: usize = LONGEST + 8;
+const LONG_ARRAY_LENGTH: usize = LONGEST + 8;
 
 /// Letters, a pair among letters, and pairs, the first of them at index 0 or 1: the unit at an index.
 const OTHERS: [fn(usize) -> u16; 4] = [
@@ -137,7 +137,7 @@ const OTHERS: [fn(usize) -> u16; 4] = [
 /// Returns whether validity ends at the first unpaired surrogate of `length` code units, and the repair replaces only
 /// the unpaired ones, with these at each index.
 fn agree_at_each_long_place(others: fn(usize) -> u16, length: usize, units: &[u16]) -> bool {
-    let room: [u16; LONG_DST_LENGTH] = std::array::from_fn(others);
+    let room: [u16; LONG_ARRAY_LENGTH] = std::array::from_fn(others);
     (0..length).all(|place| {
         let mut seen = room;
         seen[place..place + units.len()].copy_from_slice(units);

@@ -14,7 +14,7 @@ extern "C" {
 }
 
 const PAGE: usize = 4096;
-const DST_LENGTH: usize = 2 * PAGE;
+const ACCESSIBLE: usize = 2 * PAGE;
 const READ_AND_WRITE: i32 = 3;
 const PRIVATE_AND_ANONYMOUS: i32 = 0x22;
 
@@ -25,9 +25,9 @@ impl Fenced {
     fn new() -> Fenced {
         // SAFETY: new memory is requested, and its two middle pages are made readable and writable.
         unsafe {
-            let start = mmap(ptr::null_mut(), DST_LENGTH + 2 * PAGE, 0, PRIVATE_AND_ANONYMOUS, -1, 0);
+            let start = mmap(ptr::null_mut(), ACCESSIBLE + 2 * PAGE, 0, PRIVATE_AND_ANONYMOUS, -1, 0);
             assert_ne!(start as isize, -1);
-            assert_eq!(mprotect(start.add(PAGE), DST_LENGTH, READ_AND_WRITE), 0);
+            assert_eq!(mprotect(start.add(PAGE), ACCESSIBLE, READ_AND_WRITE), 0);
             Fenced(start)
         }
     }
@@ -35,8 +35,8 @@ impl Fenced {
     /// Returns `length` elements at the end of the pages, or at their start.
     fn slice<T: Copy + Default>(&mut self, length: usize, at_end: bool) -> &mut [T] {
         let size = length * size_of::<T>();
-        assert!(size <= DST_LENGTH);
-        let offset = if at_end { DST_LENGTH - size } else { 0 };
+        assert!(size <= ACCESSIBLE);
+        let offset = if at_end { ACCESSIBLE - size } else { 0 };
         // SAFETY: they are within the two pages, whose borrow is unique, and any bytes are valid numbers. The length of
         // two pages and that of the elements are multiples of their alignment.
         unsafe { std::slice::from_raw_parts_mut(self.0.add(PAGE + offset).cast(), length) }
@@ -52,7 +52,7 @@ impl Fenced {
 impl Drop for Fenced {
     fn drop(&mut self) {
         // SAFETY: it is the memory that `new` requested, and nobody borrows it.
-        unsafe { munmap(self.0, DST_LENGTH + 2 * PAGE) };
+        unsafe { munmap(self.0, ACCESSIBLE + 2 * PAGE) };
     }
 }
 

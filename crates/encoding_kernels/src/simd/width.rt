@@ -30,7 +30,7 @@ pub const QUARTER_STRIDE: usize = 4;
 /// The number of UTF-16 code units that one test covers.
 pub const UNIT_BLOCK: usize = 64;
 
-/// The number of UTF-16 code units that one test covers in a text shorter than a block.
+/// The number of UTF-16 code units in half a block, which one test of a search or for right-to-left units covers.
 pub const HALF_UNIT_BLOCK: usize = 32;
 
 /// The number of UTF-16 code units in a vector.

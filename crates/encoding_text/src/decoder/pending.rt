@@ -51,8 +51,8 @@ fn goes_on(lead: u8, count: usize, byte: u8) -> bool
     }
 }
 
-/// Returns whether the first byte is a malformed sequence by itself, with any bytes after these: it starts no sequence,
-/// or the next byte doesn't continue one.
+/// Returns whether the first two bytes show that the first one is a malformed sequence by itself: it begins no sequence of
+/// several, or no continuation byte follows it. Of `E0 80` it returns false, though E0 is a malformed sequence there too.
 #[inline]
 pub(crate) fn is_malformed_byte(bytes: &[u8]) -> bool
     requires not_empty { 0 < length bytes.now }

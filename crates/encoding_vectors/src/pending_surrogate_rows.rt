@@ -171,7 +171,7 @@ fn row_holds(alloc: Global, row: &str) -> Result<bool, Fail> {
 }
 
 #[test]
-fn rows_with_and_without_a_pending_unit(rt: HostRuntime) -> Result<(), Fail> {
+fn rows_with_and_without_a_pending_surrogate(rt: HostRuntime) -> Result<(), Fail> {
     let mut count = 0u32;
     for row in ROWS.lines() {
         assert!(rt; row_holds(rt.alloc(), row)?, "{row}");
