@@ -3,7 +3,6 @@
 #include "encoding_text.hpp"
 
 #include <array>
-#include <cstdio>
 #include <cstdlib>
 #include <limits>
 #include <list>
@@ -400,6 +399,5 @@ int main()
     unpaired_surrogates();
     decoder();
     failing_memory();
-    std::printf("%d passed, %d failed\n", passed, failed);
-    return failed > 0 || passed == 0;
+    return finish();
 }
