@@ -277,19 +277,19 @@ static encoding_text::malformation_kind kind_of(const std::string &text, std::si
     return first == 0xED ? kind::surrogate : first == 0xF4 ? kind::too_large : kind::overlong;
 }
 
-using found = std::vector<std::array<std::size_t, 3>>;
+using malformations = std::vector<std::array<std::size_t, 3>>;
 
 // The offset, length and kind of each malformed sequence, as the calls find one after another from an offset on.
-static found each_malformation(const std::string &text)
+static malformations each_malformation(const std::string &text)
 {
-    found all;
+    malformations all;
     std::size_t offset = 0;
     for (;;) {
         const auto next = encoding_text::next_malformed(text, offset);
         const auto same = encoding_text::next_malformation(text, offset);
         CHECK(next.offset == same.offset && next.length == same.length);
-        if (next.length == 0) {
-            CHECK(next.offset == text.size() && same.kind == encoding_text::malformation_kind::well_formed);
+        if (next.length == 0 || all.size() > text.size()) {
+            CHECK(next.length == 0 && next.offset == text.size() && same.kind == encoding_text::malformation_kind::well_formed);
             return all;
         }
         all.push_back({same.offset, same.length, static_cast<std::size_t>(same.kind)});
@@ -298,9 +298,9 @@ static found each_malformation(const std::string &text)
 }
 
 // What a row has, `before` bytes of ASCII before it.
-static found found_at(const damaged &text, std::size_t before)
+static malformations found_at(const damaged &text, std::size_t before)
 {
-    found all;
+    malformations all;
     for (const auto [offset, length] : text.malformed) {
         all.push_back({before + offset, length, static_cast<std::size_t>(kind_of(text.bytes, offset, length))});
     }
@@ -412,6 +412,8 @@ static void unpaired_surrogates()
     const char16_t high[] = {u'a', 0xD83D, 0}, low[] = {0xDE00, u'b', 0}, swapped[] = {0xDE00, 0xD83D, 0};
     CHECK(encoding_text::utf16_valid_up_to(high) == 1 && !encoding_text::is_utf16(high));
     CHECK(encoding_text::utf16_valid_up_to(low) == 0);
+    CHECK(!encoding_text::is_utf16(u"a\xD800"sv) && !encoding_text::is_utf16(u"\xDC00"sv));
+    CHECK(!encoding_text::is_utf8("a\xC3") && !encoding_text::is_utf8("\xFF") && encoding_text::is_utf8("a"));
     CHECK(encoding_text::convert_utf16_to_utf8(high) == PAIR("a" F).utf8);
     CHECK(encoding_text::convert_utf16_to_utf8(low) == PAIR(F "b").utf8);
     CHECK(encoding_text::convert_utf16_to_utf8(swapped) == PAIR(F F).utf8);
