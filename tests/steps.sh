@@ -42,8 +42,9 @@ gives() { # the output, with the escapes of printf %b; then the command
     diff <(printf %b "$1") <("${@:2}")
 }
 
-# Prints the sum as the last line, and exits.
+# Prints the sum as the last line, and exits. To have checked nothing is a failure.
 finish() {
+    [ "$((passed + failed))" != 0 ] || count 1 'the checks' 'nothing was checked'
     echo "$passed passed, $failed failed"
     [ "$failed" = 0 ]
     exit

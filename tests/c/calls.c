@@ -5,7 +5,6 @@
  */
 #include "calls.h"
 
-#include <stdio.h>
 #include <string.h>
 
 static void ascii_prefixes(void)
@@ -462,6 +461,5 @@ int main(void)
 #ifdef __cplusplus
     vectors_of_no_elements();
 #endif
-    printf("%d passed, %d failed\n", passed, failed);
-    return failed != 0;
+    return finish();
 }

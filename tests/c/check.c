@@ -18,6 +18,13 @@ void check(bool holds, const char *what, const char *file, int line)
     }
 }
 
+int finish(void)
+{
+    CHECK(passed + failed > 0);
+    printf("%d passed, %d failed\n", passed, failed);
+    return failed != 0;
+}
+
 uint8_t byte_memory[BEFORE + DST_LENGTH + AFTER];
 uint16_t unit_memory[BEFORE + DST_LENGTH + AFTER];
 

@@ -29,6 +29,9 @@ extern int failed;
 
 void check(bool holds, const char *what, const char *file, int line);
 
+/* Prints the numbers. Returns the status of the program: 1 if a check failed, or if there was none. */
+int finish(void);
+
 /* The destinations with their contents before a call. */
 uint8_t *fresh_bytes(void);
 uint16_t *fresh_units(void);

@@ -103,5 +103,5 @@ int main(void)
     settings();
     count(takes_v3() == takes_v3(), "the same choice at each call");
     printf("%d passed, %d failed\n", passed, failed);
-    return failed != 0;
+    return failed != 0 || passed == 0;
 }

@@ -3,11 +3,11 @@
 #include "encoding_text.hpp"
 
 #include <array>
-#include <cstdio>
 #include <cstdlib>
 #include <limits>
 #include <list>
 #include <new>
+#include <sys/mman.h>
 #include <vector>
 #if __cplusplus >= 202002L
 #include <iterator>
@@ -255,6 +255,58 @@ static void latin1()
     }
 }
 
+// Why a sequence is malformed, by Table 3-7.
+static encoding_text::malformation_kind kind_of(const std::string &text, std::size_t offset, std::size_t length)
+{
+    using kind = encoding_text::malformation_kind;
+    const auto byte = [&](std::size_t i) { return static_cast<unsigned char>(text[i]); };
+    const unsigned first = byte(offset);
+    if (first < 0xC0) {
+        return kind::unexpected_continuation;
+    }
+    if (first < 0xC2 || first > 0xF4) {
+        return kind::disallowed_byte;
+    }
+    if (offset + length == text.size()) {
+        return kind::incomplete_at_end;
+    }
+    const unsigned next = byte(offset + 1);
+    if (length > 1 || next < 0x80 || next > 0xBF) {
+        return kind::truncated;
+    }
+    return first == 0xED ? kind::surrogate : first == 0xF4 ? kind::too_large : kind::overlong;
+}
+
+using malformations = std::vector<std::array<std::size_t, 3>>;
+
+// The offset, length and kind of each malformed sequence, as the calls find one after another from an offset on.
+static malformations each_malformation(const std::string &text)
+{
+    malformations all;
+    std::size_t offset = 0;
+    for (;;) {
+        const auto next = encoding_text::next_malformed(text, offset);
+        const auto same = encoding_text::next_malformation(text, offset);
+        CHECK(next.offset == same.offset && next.length == same.length);
+        if (next.length == 0 || all.size() > text.size()) {
+            CHECK(next.length == 0 && next.offset == text.size() && same.kind == encoding_text::malformation_kind::well_formed);
+            return all;
+        }
+        all.push_back({same.offset, same.length, static_cast<std::size_t>(same.kind)});
+        offset = same.offset + same.length;
+    }
+}
+
+// What a row has, `before` bytes of ASCII before it.
+static malformations found_at(const damaged &text, std::size_t before)
+{
+    malformations all;
+    for (const auto [offset, length] : text.malformed) {
+        all.push_back({before + offset, length, static_cast<std::size_t>(kind_of(text.bytes, offset, length))});
+    }
+    return all;
+}
+
 // Checks bytes with malformed sequences, `before` bytes of ASCII before them.
 static void damaged_text(const damaged &text, std::size_t before)
 {
@@ -274,8 +326,8 @@ static void damaged_text(const damaged &text, std::size_t before)
         found.push_back({offset - before, length});
     }
     CHECK(found == text.malformed);
-    const auto second = encoding_text::next_malformed(source, before + text.malformed[0][0] + text.malformed[0][1]);
-    CHECK(text.malformed.size() == 1 || second.offset == before + text.malformed[1][0]);
+    CHECK(each_malformation(source) == found_at(text, before));
+    CHECK(encoding_text::utf8_count(source) == encoding_text::utf16_count(utf16));
 }
 
 static void damaged_texts()
@@ -296,11 +348,72 @@ static void damaged_texts()
     }
 }
 
+static void iterators()
+{
+    const std::string text = "a\xFF" "bc\xE2\x98";
+    const encoding_text::malformed_sequences sequences(text);
+    auto it = sequences.begin();
+    CHECK(it->offset == 1 && it->length == 1 && (*it).offset == 1 && it != sequences.end());
+    const auto before = it++;
+    CHECK(before->offset == 1 && it->offset == 4 && it->length == 2 && before != it && before == sequences.begin());
+    CHECK(&++it == &it && it == sequences.end() && it->offset == text.size() && it->length == 0);
+    CHECK(sequences.begin()->offset == 1);
+    CHECK((std::is_same_v<decltype(it)::value_type, encoding_text::malformed_sequence>));
+    CHECK(encoding_text::malformed_sequences("a").begin() == encoding_text::malformed_sequences("a").end());
+}
+
+// Lengths and offsets have the type of the C functions' own, also those above 2^32 - 1.
+static void long_texts()
+{
+    static_assert(std::is_same_v<decltype(encoding_text::utf8_valid_up_to("")), std::size_t>);
+    static_assert(std::is_same_v<decltype(encoding_text::utf16_valid_up_to(u"")), std::size_t>);
+    static_assert(std::is_same_v<decltype(encoding_text::utf8_count("")), std::size_t>);
+    static_assert(std::is_same_v<decltype(encoding_text::utf16_count(u"")), std::size_t>);
+    static_assert(std::is_same_v<decltype(encoding_text::repaired_utf8_length("")), std::size_t>);
+    static_assert(std::is_same_v<decltype(encoding_text::malformed_sequence::offset), std::size_t>);
+    static_assert(std::is_same_v<decltype(encoding_text::malformation::offset), std::size_t>);
+    static_assert(std::is_same_v<decltype(encoding_text::repaired_text::replaced), std::uint64_t>);
+    static_assert(std::is_same_v<decltype(bytes().size()), std::size_t>);
+    // The memory is never written but for its first page: the others are the system's one page of zeros.
+    const std::size_t low = 8, length = (std::size_t{1} << 32) + low;
+    void *memory = mmap(nullptr, 2 * length, PROT_READ | PROT_WRITE, MAP_PRIVATE | MAP_ANONYMOUS | MAP_NORESERVE, -1, 0);
+    CHECK(memory != MAP_FAILED);
+    if (memory == MAP_FAILED) {
+        return;
+    }
+    const auto text = static_cast<unsigned char *>(memory);
+    const auto units = static_cast<std::uint16_t *>(memory);
+    text[low + 2] = 0xFF;
+    const bytes some{text, length};
+    CHECK(some.size() == length && some.from(1).size() == length - 1 && some.from(length - 1).data() == text + length - 1);
+    CHECK(!encoding_text::is_ascii(some) && !encoding_text::is_utf8(some) && !encoding_text::is_utf8_latin1(some));
+    CHECK(encoding_text::utf8_valid_up_to(some) == low + 2);
+    CHECK(encoding_text::next_malformed(some, 3).offset == low + 2);
+    CHECK(encoding_text::next_malformation(some, 3).offset == low + 2);
+    CHECK(encoding_text::malformed_sequences(some).begin()->offset == low + 2);
+    CHECK(encoding_text::convert_utf8_to_utf16_without_replacement(some) == std::nullopt);
+    CHECK(encoding_text::convert_utf8_to_latin1(some) == std::nullopt);
+    text[low + 2] = 0;
+    units[low + 2] = 0xD800;
+    const code_units all{units, length};
+    CHECK(!encoding_text::is_utf16(all) && !encoding_text::is_utf16_latin1(all));
+    CHECK(encoding_text::utf16_valid_up_to(all) == low + 2);
+    CHECK(encoding_text::convert_utf16_to_latin1(all) == std::nullopt);
+    CHECK(encoding_text::utf16_count(all) == length);
+    units[low + 2] = 0;
+    CHECK(encoding_text::utf8_count(some) == length && encoding_text::repaired_utf8_length(some) == length);
+    CHECK(encoding_text::next_malformed(some, length - low).offset == length);
+    CHECK(encoding_text::next_malformation(some, length - low).offset == length);
+    munmap(memory, 2 * length);
+}
+
 static void unpaired_surrogates()
 {
     const char16_t high[] = {u'a', 0xD83D, 0}, low[] = {0xDE00, u'b', 0}, swapped[] = {0xDE00, 0xD83D, 0};
     CHECK(encoding_text::utf16_valid_up_to(high) == 1 && !encoding_text::is_utf16(high));
     CHECK(encoding_text::utf16_valid_up_to(low) == 0);
+    CHECK(!encoding_text::is_utf16(u"a\xD800"sv) && !encoding_text::is_utf16(u"\xDC00"sv));
+    CHECK(!encoding_text::is_utf8("a\xC3") && !encoding_text::is_utf8("\xFF") && encoding_text::is_utf8("a"));
     CHECK(encoding_text::convert_utf16_to_utf8(high) == PAIR("a" F).utf8);
     CHECK(encoding_text::convert_utf16_to_utf8(low) == PAIR(F "b").utf8);
     CHECK(encoding_text::convert_utf16_to_utf8(swapped) == PAIR(F F).utf8);
@@ -397,9 +510,10 @@ int main()
     each_scalar_value();
     latin1();
     damaged_texts();
+    iterators();
+    long_texts();
     unpaired_surrogates();
     decoder();
     failing_memory();
-    std::printf("%d passed, %d failed\n", passed, failed);
-    return failed > 0 || passed == 0;
+    return finish();
 }

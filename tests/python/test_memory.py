@@ -4,6 +4,7 @@ import resource
 import subprocess
 import sys
 import threading
+import time
 import tracemalloc
 import unittest
 
@@ -68,6 +69,35 @@ class Memory(unittest.TestCase):
                 _testcapi.remove_mem_hooks()
             self.assertEqual(found, wanted)
             return count
+        return self.fail('it never succeeds')
+
+    @unittest.skipIf(_testcapi is None, 'this CPython has no _testcapi')
+    def test_a_decode_that_fails_changes_nothing(self):
+        for data in (b'\x98' + SHORT, 100 * SHORT, memoryview(100 * SHORT), LONG):
+            for final in (False, True):
+                repair = encoding_text.IncrementalRepair()
+                begin = repair.decode(b'\xff\xe2')
+                self.assertEqual((repair.getstate(), repair.replaced), ((b'\xe2', 0), 1))
+                rest = self.unchanged_until_it_succeeds(repair, data, final)
+                rest += repair.decode(b'', True)
+                wanted = (b'\xff\xe2' + bytes(data)).decode('utf-8', 'replace')
+                self.assertEqual((begin + rest, repair.replaced), (wanted.encode(), wanted.count('\ufffd')))
+
+    def unchanged_until_it_succeeds(self, repair, data, final):
+        """Lets the first allocation fail, then the second, until a decode succeeds. Returns its result."""
+        before = repair.getstate(), repair.replaced
+        for count in range(1_000_000):
+            _testcapi.set_nomemory(count, count + 1)
+            try:
+                found = repair.decode(data, final)
+            except MemoryError:
+                found = None
+            finally:
+                _testcapi.remove_mem_hooks()
+            if found is not None:
+                self.assertGreater(count, 0)
+                return found
+            self.assertEqual((repair.getstate(), repair.replaced), before)
         return self.fail('it never succeeds')
 
     def test_limit(self):
@@ -143,6 +173,39 @@ class Threads(unittest.TestCase):
         finally:
             sys.setswitchinterval(interval)
         self.assertTrue(seen)
+
+    def test_other_threads_run_from_64_kib_on(self):
+        """Another thread runs while a call reads 64 KiB of bytes, and not while it reads one byte less."""
+        for call in (encoding_text.repair, encoding_text.is_utf8, encoding_text.valid_up_to, iterate, incremental):
+            for letters in (b'a', b'\xff'):
+                if call is incremental or letters == b'a':
+                    name = getattr(call, '__name__', call)
+                    self.assertTrue(self.lets_run(call, letters * (65536 + 2), 30), name)
+                    self.assertFalse(self.lets_run(call, letters * 65535, 0.1), name)
+
+    def lets_run(self, call, data, seconds):
+        """Returns whether another thread ran that waits while this one calls, though Python changes threads only each hour."""
+        ran, started, lock = [], threading.Event(), threading.Lock()
+
+        def run():
+            started.set()
+            with lock:
+                ran.append(True)
+
+        interval = sys.getswitchinterval()
+        sys.setswitchinterval(3600)
+        thread = threading.Thread(target=run)
+        try:
+            with lock:
+                thread.start()
+                started.wait()
+            end = time.monotonic() + seconds
+            while not ran and time.monotonic() < end:
+                call(data)
+            return bool(ran)
+        finally:
+            sys.setswitchinterval(interval)
+            thread.join()
 
     def at_work(self, data):
         thread = threading.Thread(target=encoding_text.repair, args=(data,))

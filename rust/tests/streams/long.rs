@@ -25,8 +25,14 @@ fn letters_after(bytes: &[u8]) -> Vec<u8> {
     letters
 }
 
+/// Returns letters with these bytes after the first and the second third, so that a long stretch follows another.
+fn letters_around(bytes: &[u8]) -> Vec<u8> {
+    let third = vec![b'a'; LENGTH / 3];
+    [&third[..], &third, &third].join(bytes)
+}
+
 /// Texts and malformed bytes: letters only, after and before another sequence, and no letters.
-fn rows() -> [(&'static str, Vec<u8>); 9] {
+fn rows() -> [(&'static str, Vec<u8>); 11] {
     [
         ("letters", repeated(b"a")),
         ("a snowman and letters", letters_after("☃".as_bytes())),
@@ -34,6 +40,11 @@ fn rows() -> [(&'static str, Vec<u8>); 9] {
         ("FF and letters", letters_after(b"\xFF")),
         ("letters and FF", letters_before(b"\xFF")),
         ("letters and a cut character", letters_before(b"\xF0\x9F\x98")),
+        ("FF after each third of letters", letters_around(b"\xFF")),
+        (
+            "a cut character after each third of letters",
+            letters_around(b"\xE2\x98"),
+        ),
         ("characters of each length", repeated("aé☃😀".as_bytes())),
         ("FF only", repeated(b"\xFF")),
         ("cut characters", repeated(b"\xF0\x9F\x98a\xE2")),

@@ -144,6 +144,7 @@ const REPAIR_ROWS: &str = "\
 61, TimedOut | 8: 61 after 1, 0: none after 1, 8: TimedOut after 2, 0: none after 2 | 0
 F0 9F 98 80, none | 1: F0 after 1, 0: none after 1, 2: 9F 98 after 1, 8: 80 after 1, 8: none after 2 | 0
 61 FF 62, none | 3: 61 after 1, 3: EF BF BD after 1, 3: 62 after 1, 3: none after 2 | 1
+61, TimedOut, 62, none | 8: 61 after 1, 8: TimedOut after 2, 0: none after 2, 8: 62 after 3, 0: none after 3, 8: none after 4, 0: none after 4 | 0
 FF, TimedOut | 1: EF after 1, 1: BF after 1, 1: BD after 1, 1: TimedOut after 2 | 1
 Interrupted, 61, none | 8: Interrupted after 1, 8: 61 after 2, 8: none after 3 | 0
 61 E2, Interrupted, 98, Interrupted, 83 | 8: 61 after 1, 8: Interrupted after 2, 8: Interrupted after 4, 8: E2 98 83 after 5 | 0
@@ -166,7 +167,7 @@ E2 98, panic, 83 61 | 8: panic after 2, 8: E2 98 83 61 after 3 | 0";
 
 #[test]
 fn repair_rows() {
-    assert_eq!(checked_rows::<Repair<Scripted>>(REPAIR_ROWS), 26);
+    assert_eq!(checked_rows::<Repair<Scripted>>(REPAIR_ROWS), 27);
 }
 
 /// The same with code units.
@@ -176,6 +177,7 @@ const DECODE_ROWS: &str = "\
 61 62 63, none | 2: 0061 0062 after 1, 2: 0063 after 1, 2: none after 2 | 0
 61, none | 0: none after 0, 8: 0061 after 1, 0: none after 1, 8: none after 2, 0: none after 2 | 0
 F0 9F 98 80, none | 1: D83D after 1, 0: none after 1, 1: DE00 after 1, 1: none after 2 | 0
+61, TimedOut, 62, none | 8: 0061 after 1, 8: TimedOut after 2, 0: none after 2, 8: 0062 after 3, 0: none after 3, 8: none after 4, 0: none after 4 | 0
 61 FF 62, TimedOut | 1: 0061 after 1, 1: FFFD after 1, 1: 0062 after 1, 1: TimedOut after 2 | 1
 Interrupted, 61, none | 8: Interrupted after 1, 8: 0061 after 2, 8: none after 3 | 0
 61 E2, Interrupted, 98, Interrupted, 83 | 8: 0061 after 1, 8: Interrupted after 2, 8: Interrupted after 4, 8: 2603 after 5 | 0
@@ -193,7 +195,7 @@ E2 98, panic, 83 61 | 8: panic after 2, 8: 2603 0061 after 3 | 0";
 
 #[test]
 fn decode_rows() {
-    assert_eq!(checked_rows::<DecodeUtf16<Scripted>>(DECODE_ROWS), 19);
+    assert_eq!(checked_rows::<DecodeUtf16<Scripted>>(DECODE_ROWS), 20);
 }
 
 /// A reader of as many letters as are requested, which keeps the lengths of its buffers.
