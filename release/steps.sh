@@ -12,6 +12,7 @@ need() { # a command
 }
 
 # The machines of a release, by the first part of their names.
+# shellcheck disable=SC2034 # the scripts use them
 machines=(x86_64 aarch64)
 
 # Sets what depends on the machine: its name at GNU's and Debian's tools and for readers, what its names of tools begin

@@ -1,5 +1,5 @@
 # Tests the Python package for ARM64 with Debian's Python for it. tests/arm/run sources this file.
-# shellcheck shell=bash
+# shellcheck shell=bash disable=SC2154 # that script sets them
 root=${XDG_CACHE_HOME:-$HOME/.cache}/encoding_text/python-arm64
 export PYTHONDONTWRITEBYTECODE=1 SOURCE_DATE_EPOCH=1000000000
 

@@ -1,7 +1,7 @@
 # What is checked of a library without running it. A script sets these before it sources this file, after tests/steps.sh:
 # `library` and `shared`, the files; `cc`, the compiler; `strict`, its warnings; `tools`, what the names of the binutils for
 # the library's machine begin with.
-# shellcheck shell=bash
+# shellcheck shell=bash disable=SC2154 # the script sets them
 
 # Succeeds if the archive exports exactly what the header declares.
 archive_exports() {
@@ -27,8 +27,10 @@ keeps_symbols() {
 costs_little() { # the call
     printf '#include <encoding_text.h>\n\nint main(void)\n{\n    return %s;\n}\n' "$1" > "${work:?}/one.c"
     echo 'int main(void) { return 0; }' > "$work/none.c"
-    "${cc[@]}" -O2 -static -Wl,--gc-sections "${strict[@]}" -o "$work/one" "$work/one.c" "$library"
-    "${cc[@]}" -O2 -static -Wl,--gc-sections -o "$work/none" "$work/none.c"
+    # small pages, since a linker for ARM64 fills some of 64 KiB
+    local link=(-O2 -static -Wl,--gc-sections,-z,max-page-size=4096)
+    "${cc[@]}" "${link[@]}" "${strict[@]}" -o "$work/one" "$work/one.c" "$library"
+    "${cc[@]}" "${link[@]}" -o "$work/none" "$work/none.c"
     "${tools}strip" "$work/one" "$work/none"
     local bytes=$(($(stat -c %s "$work/one") - $(stat -c %s "$work/none")))
     echo "$bytes bytes"
