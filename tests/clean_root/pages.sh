@@ -57,10 +57,10 @@ assert found.attempted > 1 and found.failed == 0, found"'
 # The page of the crate: its program runs in a crate that depends on it.
 run_crate_page() {
     local on=${root##*/}
-    step "the crate's page, on $on" inside 'cargo new -q --vcs none /srv/crate && tar -C /srv/crate -xf /packed/*.crate && cd /srv/crate &&
+    step "the crate's page, on $on" inside 'cargo new -q --vcs none /srv/user && tar -C /srv/user -xf /packed/*.crate && cd /srv/user &&
         cargo add -q --offline --path encoding_text-* && { echo "fn main() {"; sed -n "s/^    //p" encoding_text-*/README.md; echo "}"; } > src/main.rs &&
         grep assert_eq src/main.rs && cargo run -q --offline'
-    step "it has no dead link, on $on" inside '! grep -rn "](\.\./" /srv/crate/encoding_text-*'
-    step "its documentation, on $on" inside 'cd /srv/crate/encoding_text-* && RUSTDOCFLAGS="-D warnings" cargo doc -q --offline --no-deps &&
+    step "it has no dead link, on $on" inside 'cd /srv/user/encoding_text-*/src && grep "PROMISES.md of the repository" promises.rs && ! grep -rn "](\.\./" . ../README.md'
+    step "its documentation, on $on" inside 'cd /srv/user/encoding_text-* && RUSTDOCFLAGS="-D warnings" cargo doc -q --offline --no-deps &&
         ls target/doc/encoding_text/index.html'
 }
