@@ -54,6 +54,18 @@ step 'the same bytes in memory' packs_the_same_in_memory
 for package in "$packed"/*.deb; do
     step "size of $(basename "$package")" has_size "$package"
 done
+# Succeeds if the packages of both machines can be installed together: the files that both have outside of the folders of a
+# machine are the same.
+goes_with_the_other() { # the package
+    local machine
+    for machine in amd64 arm64; do
+        dpkg-deb --ctrl-tarfile "$packed/$1_"*"_$machine.deb" | tar -xOf - ./md5sums | grep -v -- '-linux-gnu/' > "$work/$machine.sums"
+    done
+    grep -c . "$work/amd64.sums" && diff "$work"/a{md,rm}64.sums
+}
+for package in libencoding-text0 libencoding-text-dev; do
+    step "$package for x86-64 and for ARM together" goes_with_the_other $package
+done
 rm -rf "$copy/build/release"
 for tool in dpkg-deb cargo strip aarch64-linux-gnu-strip; do
     step "no $tool" refuses "$tool is not installed" "$(without $tool)"
