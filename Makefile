@@ -73,7 +73,7 @@ tools:
 cross:
 	$(need_cross)
 
-# After the builds for x86-64, since the toolchain's own files of one build are in the place of the other's.
+# After the builds for x86-64, since the toolchain's own output of one build overwrites the other's.
 ifneq ($(has_cross),)
 aarch64: $(BUILT:%=build/aarch64/%)
 else

@@ -15,8 +15,8 @@ need() { # a command
 # shellcheck disable=SC2034 # the scripts use them
 machines=(x86_64 aarch64)
 
-# Sets what depends on the machine: its name at GNU's and Debian's tools and for readers, what its names of tools begin
-# with, its compiler, the package of its C library, the folder of its build, and the archive that needs nothing of the system.
+# Sets what depends on the machine: what GNU, Debian and readers call it, how the names of its tools begin, its compiler, and
+# the package of its C library. Then the folder of its build, and that of the archive that needs nothing of a system.
 # shellcheck disable=SC2034 # the scripts use them
 select_machine() { # the machine
     triplet=$1-linux-gnu
@@ -48,7 +48,7 @@ put_archive() { # of the `build` for programs, or the `plain` one; the file
     chmod 644 "$2"
 }
 
-# Prints a page with the values for this machine in place of their names.
+# Prints a page with the values for this machine filled in.
 for_machine() { # the page
     sed "s/@NAMED@/${named:?}/; s/@TRIPLET@/${triplet:?}/; s/@ARCHITECTURE@/${architecture:?}/" "$1"
 }

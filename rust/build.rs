@@ -107,7 +107,7 @@ fn installed() -> Option<PathBuf> {
 }
 
 /// Returns the folder of the library that the crate was packed with for this target. There is one for x86-64 Linux with
-/// glibc. Those in `x86_64-none` and `aarch64-none` need nothing of the system, and are tried on Linux alone.
+/// glibc. Those in `x86_64-none` and `aarch64-none` need nothing of the system, and are only tried on Linux.
 fn packed() -> Option<PathBuf> {
     let crate_folder = PathBuf::from(env::var_os("CARGO_MANIFEST_DIR")?);
     let has = |folder: &PathBuf| folder.join(FILE).is_file();

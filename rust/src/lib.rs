@@ -50,7 +50,7 @@
 //!
 //! When a program starts on x86-64 with glibc, the library selects its build for x86-64-v3 if the processor runs that,
 //! else the one for x86-64-v2. `ENCODING_TEXT_CPU=x86-64-v2` in the environment always selects the latter. With musl,
-//! it has the build for x86-64-v2 alone.
+//! it has only the build for x86-64-v2.
 
 #![no_std]
 #![deny(unsafe_op_in_unsafe_fn, missing_docs, unsafe_code)]

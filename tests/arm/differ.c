@@ -1,6 +1,6 @@
 /*
  * Calls each function of encoding_text.h with random arguments, and prints a line for each with a sum of all its results and
- * of what it wrote, bytes behind that included. Two builds of the library agree if they print the same lines:
+ * of what it wrote, the bytes after that included. Two builds of the library agree if they print the same lines:
  *
  *   differ SEED ROUNDS LONGEST
  *

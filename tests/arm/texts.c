@@ -46,8 +46,8 @@ size_t below(size_t n)
     return (size_t)((next() >> 20) % n);
 }
 
-/* A place for this many bytes: in a third of the cases it ends at the fence, in a third it begins near the other one. */
-static uint8_t *place(uint8_t *area, size_t length, size_t alignment)
+/* Memory for this many bytes: in a third of the cases it ends at the fence, in a third it begins near the other one. */
+static uint8_t *part_of(uint8_t *area, size_t length, size_t alignment)
 {
     size_t last = AREA - length, offset;
 
@@ -70,7 +70,7 @@ static size_t any_length(void)
     }
 }
 
-/* The first and the last scalar value of each length and each range that a function tells apart. */
+/* The first and the last scalar value of each length and each range that a function distinguishes. */
 static const uint32_t edges[] = {
     0,      0x7F,   0x80,   0xFF,   0x100,  0x590,  0x7FF,   0x800,   0x8FF,   0xFFF,   0x1000,  0x200F,  0x202E,  0x2067,
     0xD7FF, 0xE000, 0xFB1D, 0xFDFF, 0xFE70, 0xFEFF, 0xFFFD,  0xFFFF,  0x10000, 0x10800, 0x10FFF, 0x1E800, 0x1EFFF, 0x3FFFF,
@@ -127,7 +127,7 @@ static size_t encode(uint32_t c, uint8_t *to)
 
 static uint8_t *sound_text(size_t length)
 {
-    uint8_t *start = place(sources, length, 1);
+    uint8_t *start = part_of(sources, length, 1);
     size_t kind = below(KINDS), i = 0;
     int mixed = below(3) == 0;
 
@@ -182,7 +182,7 @@ units any_units(void)
 {
     size_t length = any_length() / 2, kind = below(KINDS), i = 0, times;
     int mixed = below(3) == 0;
-    uint16_t *start = (uint16_t *)(void *)place(sources, 2 * length, 2);
+    uint16_t *start = (uint16_t *)(void *)part_of(sources, 2 * length, 2);
     units made = {start, length};
     uint32_t c;
 
@@ -208,7 +208,7 @@ units any_units(void)
 
 void *destination(size_t length, size_t size)
 {
-    uint8_t *start = place(destinations, length * size, size);
+    uint8_t *start = part_of(destinations, length * size, size);
 
     memset(start, 0x2A, length * size);
     return start;

@@ -82,7 +82,7 @@ cp "$(type -P true)" "$copy/build/${SHARED:=libencoding_text.so.0}"
 step 'a build for another target' refuses 'build/ is not for x86-64 Linux with glibc'
 cp "build/$SHARED" "$copy/build"
 cp "build/$SHARED" "$copy/build/aarch64"
-step 'a build for x86-64 in the place of that for ARM' refuses 'build/aarch64 is not for 64-bit ARM'
+step 'a build for x86-64 instead of that for ARM' refuses 'build/aarch64 is not for 64-bit ARM'
 cp "build/aarch64/$SHARED" "$copy/build/aarch64"
 cp build/both/libencoding_text.a "$copy/build/x86-64-v2"
 step 'an archive for other systems that needs glibc' refuses 'needs more of the system than'
