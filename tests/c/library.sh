@@ -28,7 +28,8 @@ costs_little() { # the call
     printf '#include <encoding_text.h>\n\nint main(void)\n{\n    return %s;\n}\n' "$1" > "${work:?}/one.c"
     echo 'int main(void) { return 0; }' > "$work/none.c"
     # small pages, since a linker for ARM64 fills some of 64 KiB
-    local link=(-O2 -static -Wl,--gc-sections "-Wl,-z,max-page-size=4096")
+    # shellcheck disable=SC2054 # the comma is the compiler's
+    local link=(-O2 -static -Wl,--gc-sections -z max-page-size=4096)
     "${cc[@]}" "${link[@]}" "${strict[@]}" -o "$work/one" "$work/one.c" "$library"
     "${cc[@]}" "${link[@]}" -o "$work/none" "$work/none.c"
     "${tools}strip" "$work/one" "$work/none"
