@@ -52,7 +52,7 @@ done
 for target in aarch64-unknown-linux-gnu:aarch64 aarch64-unknown-linux-musl:aarch64 x86_64-unknown-linux-musl:x86_64; do
     # this Rust has no std for them, so the build ends after the library was found
     step "the crate for ${target%:*}" inside "$crate && ! cargo build -q --offline --target ${target%:*} --target-dir /programs/${target%:*} &&
-        grep 'rustc-link-search=native=.*/${target#*:}-none\$' /programs/${target%:*}/debug/build/*/output"
+        grep -rh --include=output 'rustc-link-search=native=.*/${target#*:}-none\$' /programs/${target%:*}"
 done
 step 'its pages' inside "$crate && test -s README.md -a -s COPYRIGHT -a -s MIT.txt -a -s Apache-2.0.txt && grep rust-version Cargo.toml"
 
