@@ -7,6 +7,8 @@ step 'sums' inside 'cd /packed && sha256sum -c SHA256SUMS'
 
 run_readme
 step 'the Debian packages' inside 'dpkg -i /packed/*_amd64.deb && ldconfig -p | grep "libencoding_text.so.0 "'
+step 'pages in the packages' inside 'cd /usr/share/doc/libencoding-text-dev && test -s DEFINITIONS.md -a -s DIFFERENCES.md -a -s SECURITY.md &&
+    ! grep "](" *.md && man_page=$(zcat /usr/share/man/man1/utf8_repair.1.gz) && grep "It 127" <<< "$man_page"'
 step 'the program' prints "${repaired:?}" 'status=0; printf $damaged | utf8_repair || status=$?; [ $status = 1 ]'
 step 'what it links' prints 'statically linked\n' 'ldd /usr/bin/utf8_repair | sed "s/^\\t//"'
 step 'repair.c by pkg-config builds' inside 'cd /programs && gcc -o c repair.c $(pkg-config --cflags --libs encoding_text)'

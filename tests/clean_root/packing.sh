@@ -49,7 +49,10 @@ without() { # the command
     echo "PATH=$work/commands"
 }
 
+# Packing also writes the sizes to a page.
+sed -i '/^<!-- release\/sizes -->$/,/^<!-- end of release/{/^|/d}' "$copy/docs/PERFORMANCE.md"
 step 'the same bytes in another folder' packs_the_same TMPDIR="$work"
+step 'its sizes in PERFORMANCE' cmp docs/PERFORMANCE.md "$copy/docs/PERFORMANCE.md"
 step 'the same bytes in memory' packs_the_same_in_memory
 for package in "$packed"/*.deb; do
     step "size of $(basename "$package")" has_size "$package"
