@@ -3,11 +3,18 @@
 root=${XDG_CACHE_HOME:-$HOME/.cache}/encoding_text/python-arm64
 export PYTHONDONTWRITEBYTECODE=1 SOURCE_DATE_EPOCH=1000000000
 
-# Runs the tests of the package with the emulated Python, and succeeds if there is at least one. Prints how many there are.
+# Runs the tests of modules at once with the emulated Python, and succeeds if each has at least one. Prints how many there are.
 python_tests() { # the modules
-    qemu-aarch64 -L "$root" -E PYTHONPATH="$work/site:tests/python" "$root/usr/bin/python3" -m unittest "$@" > "$work/tests" 2>&1 ||
-        { tail -n 60 "$work/tests"; return 1; }
-    awk '/^Ran [1-9]/ {print $2 " tests"; some = 1} END {exit !some}' "$work/tests"
+    local module run status=0 runs=()
+    for module in "$@"; do
+        qemu-aarch64 -L "$root" -E PYTHONPATH="$work/site:tests/python" "$root/usr/bin/python3" -m unittest "$module" > "$work/tests.$module" 2>&1 &
+        runs+=($!)
+    done
+    for run in "${runs[@]}"; do
+        wait "$run" || status=1
+    done
+    [ "$status" = 0 ] || tail -n 60 "$work"/tests.*
+    awk -v modules=$# '/^Ran [1-9]/ {count += $2; some++} END {print count " tests"; exit some != modules}' "$work"/tests.* && return $status
 }
 
 # Succeeds if a compiler for this machine makes no wheel for ARM64.
