@@ -1,6 +1,6 @@
 # Uses each package in a root of Debian 12. tests/release sources this file.
 # shellcheck shell=bash disable=SC2016 # the shell in the root expands them
-step 'a root of Debian 12' keep_root 12 bookworm gcc g++ make cmake pkg-config cargo python3 python3-pip python3-venv sudo musl-tools
+step 'a root of Debian 12' keep_root 12 bookworm gcc g++ make cmake pkg-config cargo python3 python3-pip python3-venv sudo musl-tools man-db
 step 'its copy' unpack_root 12
 step 'no toolchain in it' inside '! command -v rt && ! command -v rattle'
 step 'sums' inside 'cd /packed && sha256sum -c SHA256SUMS'

@@ -41,6 +41,9 @@ run_tarball_page() {
     step "its commands, on $on" run_block "$page" 'Compile a program' 1 /srv/page "$printed"
     step "it has no other block, on $on" gives '' block "$page" 'Compile a program' 2
     step "its archive for other systems, on $on" inside 'ls -l /srv/page/lib/none/libencoding_text.a'
+    if inside 'command -v man' > /dev/null; then
+        step "its manual page, on $on" inside "cd /srv/page && $(sed -n 's/.*`\(man -l [^`]*\)`.*/\1/p' "$page") | tee page | grep x86-64-v2 && grep '^ *127' page"
+    fi
 }
 
 # The page of the wheel: its command, and then its examples.
