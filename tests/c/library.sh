@@ -39,21 +39,21 @@ costs_little() { # the call
 }
 
 # Succeeds if no function takes vectors apart byte by byte. That makes a loop several times as slow, which no result shows.
-# It fails if it finds no look-up of a whole vector: then the instructions have other names here.
+# It fails if it finds no instruction that every build has over whole vectors: then they have other names here.
 keeps_vectors_whole() {
-    local byte look_up most
+    local byte whole most
     case $("${tools}objdump" -f "$library") in
-        *elf64-x86-64*) byte='pinsrb' look_up='pshufb' most=32 ;;
+        *elf64-x86-64*) byte='pinsrb' whole='pmovmskb' most=32 ;;
         *elf64-littleaarch64*)
-            byte='\t(ins|mov|umov|smov)\t.*v[0-9]+[.]b[[]|\t(ld1|st1)\t[{]v[0-9]+[.]b[}][[]' look_up='\ttb[lx]\t' most=8
+            byte='\t(ins|mov|umov|smov)\t.*v[0-9]+[.]b[[]|\t(ld1|st1)\t[{]v[0-9]+[.]b[}][[]' whole='\ttb[lx]\t' most=8
             ;;
         *) return 1 ;;
     esac
-    "${tools}objdump" -d --no-show-raw-insn "$library" | awk -v byte="$byte" -v look_up="$look_up" -v bound="$most" '
+    "${tools}objdump" -d --no-show-raw-insn "$library" | awk -v byte="$byte" -v whole="$whole" -v bound="$most" '
         /^[0-9a-f]+ </ { name = $2 }
-        $0 ~ look_up { whole++ }
+        $0 ~ whole { found++ }
         $0 ~ byte && ++bytes[name] > most { most = bytes[name]; worst = name }
-        END { print most + 0, worst; exit !whole || most > bound }'
+        END { print most + 0, worst; exit !found || most > bound }'
 }
 
 # Succeeds if an archive needs nothing of the system but the functions that a freestanding compiler may call, and leaves
