@@ -170,7 +170,7 @@ build/%/$(SHARED): build/%/libencoding_text.a build/exports
 check: cxx all
 	STRICT='$(STRICT)' SANITIZE='$(SANITIZE)' tests/$(if $(filter aarch64,$(CPU)),arm,c)/run
 
-check-aarch64: aarch64
+check-aarch64: all
 	STRICT='$(STRICT)' SANITIZE='$(SANITIZE)' tests/arm/run
 
 install uninstall:
