@@ -5,7 +5,7 @@
 //! - [`ascii`] and [`utf_8`]: the calls it is built on;
 //! - [`utf_16`]: UTF-16LE and UTF-16BE;
 //! - [`Utf8Decoder`] and [`Utf8Encoder`]: streams in any pieces, into destinations of any length;
-//! - [`repair`](repair()), [`repair_to`], [`utf8_chunks`], [`next_malformed`] and [`next_malformation`]: bytes that may be
+//! - [`repair`], [`repair_to`], [`utf8_chunks`], [`next_malformed`] and [`next_malformation`]: bytes that may be
 //!   malformed UTF-8;
 //! - [`utf8_count`], [`utf16_count`] and [`repaired_utf8_length`]: exact counts, also of such bytes;
 //! - [`Repair`] and [`DecodeUtf16`]: the same over a reader.
@@ -39,7 +39,7 @@
 //! # Features
 //!
 //! - `std` (default, with `alloc`): [`repair_to`], [`Repair`], [`DecodeUtf16`];
-//! - `alloc`: [`repair`](repair()), [`mem::decode_latin1`], [`mem::encode_latin1_lossy`];
+//! - `alloc`: [`repair`], [`mem::decode_latin1`], [`mem::encode_latin1_lossy`];
 //! - without both the crate allocates nothing. It needs `core` and the three functions of C that copy and set memory.
 //!
 //! # Where the library is
@@ -51,6 +51,8 @@
 //! When a program starts on x86-64 with glibc, the library selects its build for x86-64-v3 if the processor runs that,
 //! else the one for x86-64-v2. `ENCODING_TEXT_CPU=x86-64-v2` in the environment always selects the latter. With musl,
 //! it has only the build for x86-64-v2.
+//!
+//! [`repair`]: repair()
 
 #![no_std]
 #![deny(unsafe_op_in_unsafe_fn, missing_docs, unsafe_code)]
