@@ -2,23 +2,29 @@
 #
 #   make                        Proves and builds build/libencoding_text.a, the shared library and build/utf8_repair.
 #                               Each library holds a build for x86-64-v2 and one for x86-64-v3 (with AVX2), and selects
-#                               one at load time. The toolchain's output is in build/logs.
-#   make CPU=x86-64-v3          Builds only for these processors; likewise CPU=x86-64-v2 and CPU=x86-64.
+#                               one at load time. The toolchain's output is in build/logs. Then builds the same for 64-bit
+#                               ARM in build/aarch64, with the tools aarch64-linux-gnu-gcc and so on, if they are there;
+#                               CROSS names others by what their names begin with.
+#   make CPU=x86-64-v3          Builds only for these processors; likewise CPU=x86-64-v2, CPU=x86-64 and CPU=aarch64.
 #   make check                  Calls each function of each build from C and C++, also with sanitizers and under
 #                               valgrind. Runs the examples with what `make install` puts into an empty folder.
+#   make check-aarch64          Does the same for the build for ARM, with qemu-aarch64.
 #   make install PREFIX=/usr    Installs the last build: libraries, header, files for pkg-config and CMake, program,
 #                               manual page, terms. LIBDIR, INCLUDEDIR and DESTDIR change the folders. RELOCATABLE=1
 #                               lets the file for pkg-config name folders relative to its own.
 #   make uninstall PREFIX=/usr  Removes all of it.
-#   make release                Writes packages of the last build to build/release. Needs what release/setup installs.
+#   make release                Builds for both architectures, and writes the packages of both to build/release. Needs what
+#                               release/setup installs. `make pack` only packs what is built, without the toolchain.
 #   make doc                    Writes HTML pages of the header and of the Rust crate to build/doc. Needs no build.
 ASKED := $(CPU)
 CPU ?= both
-CPUS = both x86-64 x86-64-v2 x86-64-v3
+CPUS = both x86-64 x86-64-v2 x86-64-v3 aarch64
+CROSS ?= aarch64-linux-gnu-
 PREFIX ?= /usr/local
 LIBDIR ?= $(PREFIX)/lib
 INCLUDEDIR ?= $(PREFIX)/include
 DESTDIR ?=
+comma = ,
 RELOCATABLE ?=
 CC ?= cc
 CXX ?= c++
@@ -29,7 +35,7 @@ VERSION := $(shell awk '$$2 ~ /_VERSION_(MAJOR|MINOR|PATCH)$$/ {printf "%s%s", d
 SHARED = libencoding_text.so.$(firstword $(subst ., ,$(VERSION)))
 # The version node of the exported symbols. Before 1.0, a new minor number may change a layout.
 NODE = ENCODING_TEXT_$(basename $(VERSION))
-export CC CXX LD AR OBJCOPY SHARED VERSION NODE
+export CC CXX LD AR OBJCOPY CROSS SHARED VERSION NODE
 
 ifneq ($(words $(CPU)) $(words $(filter $(CPUS),$(CPU))),1 1)
 $(error CPU=$(CPU) is none of these: $(CPUS))
@@ -42,7 +48,7 @@ BUILT = libencoding_text.a $(SHARED) utf8_repair
 
 # The long steps, in order. The first one proves all that the others depend on.
 ifeq ($(CPU),both)
-STEPS = x86-64-v2/library x86-64-v3/library x86-64-v2/program
+STEPS = x86-64-v2/library x86-64-v3/library x86-64-v2/program $(if $(has_cross),aarch64/library aarch64/program)
 else
 STEPS = $(CPU)/library $(CPU)/program
 endif
@@ -55,12 +61,25 @@ need_rt = $(call need,rt,put the toolchain's folder bin on the PATH)
 calls_system = $(or $(wildcard $(dir $(realpath $(shell command -v rt)))../c/lib*.a),$(error the toolchain has no c/lib*.a))
 need_cc = $(call need,$(CC),install a C compiler (tools/setup does on Debian) or name yours by CC=)
 need_binutils = $(foreach tool,$(LD) $(OBJCOPY) $(AR),$(call need,$(tool),install binutils (tools/setup does on Debian)))
+has_cross = $(shell command -v $(CROSS)gcc 2> /dev/null)
+need_cross = $(foreach tool,gcc ld ar,$(call need,$(CROSS)$(tool),install the tools for ARM64 (tools/setup does on Debian) or name yours by CROSS=))
 
-all: tools $(BUILT:%=build/%) build/libencoding_text.so
+all: tools $(BUILT:%=build/%) build/libencoding_text.so $(if $(filter both,$(CPU)),aarch64)
 
 # Checked first, since the proofs take long.
 tools:
-	$(need_cc)$(need_binutils)
+	$(if $(filter aarch64,$(CPU)),$(need_cross),$(need_cc)$(need_binutils))
+
+cross:
+	$(need_cross)
+
+# After the builds for x86-64, since the toolchain's own output of one build overwrites the other's.
+ifneq ($(has_cross),)
+aarch64: $(BUILT:%=build/aarch64/%)
+else
+aarch64:
+	@echo 'the build for ARM64: left out, $(CROSS)gcc is not installed (tools/setup installs it)'
+endif
 
 cxx:
 	$(call need,$(CXX),install a C++ compiler (tools/setup does on Debian) or name yours by CXX=)
@@ -76,17 +95,28 @@ build/libencoding_text.so: | build/$(SHARED)
 	ln -sf $(SHARED) $@
 
 # One job, since the functions for C are many and small: each process would read all that they depend on.
-library = cd crates/encoding_runs && rt lib && cd ../encoding_c && rt lib --jobs 1 --cpu=x86$*
+library = cd crates/encoding_runs && rt lib && cd ../encoding_c && rt lib --jobs 1
+FREESTANDING = -O2 -Wall -Wextra -fPIC -ffreestanding -fcf-protection=none -fno-asynchronous-unwind-tables -Ic/include
+PROGRAM_C = -std=c99 -D_POSIX_C_SOURCE=200809L -O2 -Wall -Wextra -fPIC
 
-# All CPUs share the proofs, so a second build is only compiled.
-build/x86%/libencoding_text.a: $(SOURCES) c/layout.c
-	$(need_rt)$(need_cc)$(need_binutils)
+# archive(the CPU, how long it takes, words for rt, the compiler, the archiver): proves and builds the static library.
+# All CPUs share the proofs, so each but the first is only compiled.
+define archive
 	@mkdir -p $(@D)
 	release/origin > $(@D)/origin
-	@$(progress) x86$*/library '5 to 11 min, 1 behind another' sh -c '$(library)'
-	$(CC) -O2 -Wall -Wextra -fPIC -ffreestanding -fcf-protection=none -fno-asynchronous-unwind-tables -Ic/include -c -o $(@D)/layout.o c/layout.c
+	@$(progress) $(1)/library '$(2)' sh -c '$(library) $(3)'
+	$(4) $(FREESTANDING) -c -o $(@D)/layout.o c/layout.c
 	cp crates/encoding_c/out/libencoding_c.a $@
-	$(AR) rsD $@ $(@D)/layout.o
+	$(5) rsD $@ $(@D)/layout.o
+endef
+
+build/x86%/libencoding_text.a: $(SOURCES) c/layout.c
+	$(need_rt)$(need_cc)$(need_binutils)
+	$(call archive,x86$*,5 to 11 min$(comma) 1 behind another,--cpu=x86$*,$(CC),$(AR))
+
+build/aarch64/libencoding_text.a: $(SOURCES) c/layout.c
+	$(need_rt)$(need_cross)
+	$(call archive,aarch64,5 to 11 min$(comma) 1 behind another,--target aarch64-unknown-linux-gnu,$(CROSS)gcc,$(CROSS)ar)
 
 # utf8_repair.o has all of the program except the C library, for other links.
 build/x86%/utf8_repair: $(SOURCES)
@@ -95,6 +125,14 @@ build/x86%/utf8_repair: $(SOURCES)
 	@$(progress) x86$*/program '1 min' sh -c 'cd crates/utf8_repair && rt run --cpu=x86$* < /dev/null'
 	$(LD) -r -o $@.o crates/utf8_repair/out/utf8_repair.o $(calls_system)
 	cp crates/utf8_repair/out/utf8_repair $@
+
+build/aarch64/utf8_repair: $(SOURCES) c/system.c c/object
+	$(need_rt)$(need_cross)
+	@mkdir -p $(@D)
+	@$(progress) aarch64/program '1 min' c/object aarch64-unknown-linux-gnu $(@D)/proved.o
+	$(CROSS)gcc $(PROGRAM_C) -c -o $(@D)/system.o c/system.c
+	$(CROSS)ld -r -o $@.o $(@D)/proved.o $(@D)/system.o
+	$(CROSS)gcc -static-pie -o $@ $@.o
 
 # Pipes limit the program's speed before the processor does, so one build is enough.
 build/both/utf8_repair: build/x86-64-v2/utf8_repair
@@ -115,19 +153,34 @@ build/names: c/include/encoding_text.h
 build/exports: build/names
 	{ echo '$(NODE) { global:'; sed 's/$$/;/' $<; echo 'local: *; };'; } > $@
 
+# shared(the compiler): links the shared library
+define shared
+	$(1) -shared $(LDFLAGS) -Wl,-soname,$(SHARED) -Wl,--version-script=build/exports -Wl,-z,defs,-z,now,-z,noexecstack \
+	    -o $@ -Wl,--whole-archive $< -Wl,--no-whole-archive
+endef
+
+build/aarch64/$(SHARED): build/aarch64/libencoding_text.a build/exports
+	$(need_cross)
+	$(call shared,$(CROSS)gcc)
+
 build/%/$(SHARED): build/%/libencoding_text.a build/exports
 	$(need_cc)
-	$(CC) -shared $(LDFLAGS) -Wl,-soname,$(SHARED) -Wl,--version-script=build/exports -Wl,-z,defs,-z,now,-z,noexecstack \
-	    -o $@ -Wl,--whole-archive $< -Wl,--no-whole-archive
+	$(call shared,$(CC))
 
 check: cxx all
-	STRICT='$(STRICT)' SANITIZE='$(SANITIZE)' tests/c/run
+	STRICT='$(STRICT)' SANITIZE='$(SANITIZE)' tests/$(if $(filter aarch64,$(CPU)),arm,c)/run
+
+check-aarch64: all
+	STRICT='$(STRICT)' SANITIZE='$(SANITIZE)' tests/arm/run
 
 install uninstall:
 	$(if $(ASKED),$(if $(filter $(ASKED),$(shell cat build/cpu 2> /dev/null)),,$(error build/ isn't built for $(ASKED): run make CPU=$(ASKED) first)))
 	@PREFIX='$(PREFIX)' LIBDIR='$(LIBDIR)' INCLUDEDIR='$(INCLUDEDIR)' DESTDIR='$(DESTDIR)' RELOCATABLE='$(RELOCATABLE)' c/install $@
 
-release:
+release: cross all
+	@release/pack
+
+pack:
 	@release/pack
 
 doc:
@@ -140,4 +193,4 @@ FORCE:
 
 .DELETE_ON_ERROR:
 .NOTPARALLEL:
-.PHONY: all tools cxx check install uninstall release doc clean FORCE
+.PHONY: all aarch64 tools cross cxx check check-aarch64 install uninstall release pack doc clean FORCE

@@ -5,7 +5,7 @@
 # Debian's crates, and the packages that have a command or a crate.
 registry=/usr/share/cargo/registry
 declare -A packages=([node]=nodejs [gnuplot]=gnuplot-nox [valgrind]=valgrind [python3]=python3 [uconv]=icu-devtools
-    [parallel]=parallel [encoding_rs]=librust-encoding-rs-dev [simdutf8]=librust-simdutf8-dev)
+    [aarch64-linux-gnu-gcc]=gcc-aarch64-linux-gnu [qemu-aarch64]=qemu-user [parallel]=parallel [encoding_rs]=librust-encoding-rs-dev [simdutf8]=librust-simdutf8-dev)
 
 # The Node.js whose simdutf is the peer, the command under which it runs, and the features of the benchmark.
 node=${NODE:-node}

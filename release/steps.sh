@@ -11,12 +11,46 @@ need() { # a command
     command -v "$1" > /dev/null || stop "$1 is not installed: release/setup installs it on Debian, and rustup installs cargo"
 }
 
+# The machines of a release, by the first part of their names.
+# shellcheck disable=SC2034 # the scripts use them
+machines=(x86_64 aarch64)
+
+# Sets what depends on the machine: what GNU, Debian and readers call it, how the names of its tools begin, its compiler, and
+# the package of its C library. Then the folder of its build, and that of the archive that needs nothing of a system.
+# shellcheck disable=SC2034 # the scripts use them
+select_machine() { # the machine
+    triplet=$1-linux-gnu
+    case $1 in
+        x86_64)
+            architecture=amd64 named='x86-64' tools='' compiler=${CC:-cc} c_library=libc6-dev built=build plain=build/x86-64-v2
+            ;;
+        aarch64)
+            architecture=arm64 named='64-bit ARM' tools=${CROSS:-aarch64-linux-gnu-} compiler=${CROSS:-aarch64-linux-gnu-}gcc
+            c_library=libc6-dev-arm64-cross built=build/aarch64 plain=build/aarch64
+            ;;
+    esac
+}
+
 # Installs into an empty folder what `make install` does, with the program that $work has. Debug information goes.
 put() { # the folder, PREFIX, LIBDIR, RELOCATABLE
-    DESTDIR=$1 PREFIX=$2 LIBDIR=$3 RELOCATABLE=$4 INCLUDEDIR=${2%/}/include c/install install > /dev/null
+    DESTDIR=$1 PREFIX=$2 LIBDIR=$3 RELOCATABLE=$4 BUILD=${built:?} INCLUDEDIR=${2%/}/include c/install install > /dev/null
     install -m 755 "${work:?}/utf8_repair" "$1${2%/}/bin/utf8_repair"
-    strip --strip-unneeded -R .comment "$1$3/${SHARED:?}"
-    strip --strip-debug -R .comment --enable-deterministic-archives "$1$3/libencoding_text.a"
+    "${tools?}strip" --strip-unneeded -R .comment "$1$3/${SHARED:?}"
+    put_archive build "$1$3/libencoding_text.a"
+}
+
+# Copies an archive without debug information.
+put_archive() { # of the `build` for programs, or the `plain` one; the file
+    local from=${built:?}
+    [ "$1" = build ] || from=${plain:?}
+    mkdir -p "$(dirname "$2")"
+    "${tools?}strip" --strip-debug -R .comment --enable-deterministic-archives -o "$2" "$from/libencoding_text.a"
+    chmod 644 "$2"
+}
+
+# Prints a page with the values for this machine filled in.
+for_machine() { # the page
+    sed "s/@NAMED@/${named:?}/; s/@TRIPLET@/${triplet:?}/; s/@ARCHITECTURE@/${architecture:?}/" "$1"
 }
 
 # Prints a page for a reader who doesn't have the repository: a link becomes its text.

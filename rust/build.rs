@@ -106,25 +106,28 @@ fn installed() -> Option<PathBuf> {
     (is_native() && folder.join(FILE).is_file()).then_some(folder)
 }
 
-/// Returns the folder of the library that the crate was packed with. It is for x86-64 Linux with glibc only.
+/// Returns the folder of the library that the crate was packed with for this target. There is one for x86-64 Linux with
+/// glibc. Those in `x86_64-none` and `aarch64-none` need nothing of the system, and are only tried on Linux.
 fn packed() -> Option<PathBuf> {
-    let folder = PathBuf::from(env::var_os("CARGO_MANIFEST_DIR")?).join("x86_64-linux-gnu");
-    if !folder.join(FILE).is_file() {
+    let crate_folder = PathBuf::from(env::var_os("CARGO_MANIFEST_DIR")?);
+    let has = |folder: &PathBuf| folder.join(FILE).is_file();
+    let of_no_system = |machine: &str| crate_folder.join(format!("{machine}-none"));
+    if !has(&of_no_system("x86_64")) {
         return None;
     }
-    let is = |name: &str, value: &str| env::var(name).map_or(false, |found| found == value);
-    let is_for_target = is("CARGO_CFG_TARGET_ARCH", "x86_64")
-        && is("CARGO_CFG_TARGET_OS", "linux")
-        && is("CARGO_CFG_TARGET_ENV", "gnu")
-        && is("CARGO_CFG_TARGET_POINTER_WIDTH", "64");
-    if !is_for_target {
-        refuse(&format!(
-            "the crate has a library for x86-64 Linux with glibc, and the target is {}: set ENCODING_TEXT_LIB_DIR to the \
+    let target = |name: &str| env::var(format!("CARGO_CFG_TARGET_{name}")).unwrap_or_default();
+    let machine = target("ARCH");
+    let for_glibc = crate_folder.join(format!("{machine}-linux-{}", target("ENV")));
+    let is_linux = target("OS") == "linux" && target("POINTER_WIDTH") == "64" && target("ENDIAN") == "little";
+    let found = [for_glibc, of_no_system(&machine)].into_iter().find(has);
+    match found {
+        Some(folder) if is_linux => Some(folder),
+        _ => refuse(&format!(
+            "the crate has libraries for x86-64 and 64-bit ARM Linux, and the target is {}: set ENCODING_TEXT_LIB_DIR to the \
             folder of a library for it",
             env::var("TARGET").unwrap_or_default()
-        ));
+        )),
     }
-    Some(folder)
 }
 
 /// Returns the folder `build` of the repository, after `make`, which does nothing if the library is newer than its

@@ -38,7 +38,8 @@
  * - No function allocates memory. Between calls, only a decoder or an encoder keeps state, in the caller's storage.
  *
  * Processors
- * - On glibc, the library holds a build for x86-64-v2 and one for x86-64-v3 (with AVX2). It selects one at load time.
+ * - For 64-bit ARM, the library holds one build, for all processors.
+ * - For x86-64 with glibc, it holds a build for x86-64-v2 and one for x86-64-v3 (with AVX2). It selects one at load time.
  * - It selects the second if the processor supports it and ENCODING_TEXT_CPU=x86-64-v2 isn't in the environment.
  * - A library made by `make CPU=x86-64-v3` or the like, or without glibc, holds one build and ignores the variable.
  * - If the processor supports no build of the library, the program ends with SIGILL.

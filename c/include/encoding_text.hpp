@@ -23,6 +23,10 @@
 #ifndef ENCODING_TEXT_HPP
 #define ENCODING_TEXT_HPP
 
+#if __cplusplus < 201703L
+#error "encoding_text.hpp needs C++17 or later (-std=c++17)"
+#endif
+
 #include "encoding_text.h"
 
 #include <cstddef>

@@ -45,11 +45,14 @@
 //! # Where the library is
 //!
 //! `build.rs` takes the library from the folder that `ENCODING_TEXT_LIB_DIR` names, else from `pkg-config`, else from a
-//! released crate, which has the one for x86-64 Linux with glibc. Otherwise `make` builds it at the top of the
+//! released crate, which has those for x86-64 and 64-bit ARM Linux. Otherwise `make` builds it at the top of the
 //! repository with its toolchain. A library of another version is refused, unless it is a later compatible one.
 //!
-//! When a program starts, the library selects its build for x86-64-v3 if the processor runs that, else the one for
-//! x86-64-v2. `ENCODING_TEXT_CPU=x86-64-v2` in the environment always selects the latter.
+//! When a program starts on x86-64 with glibc, the library selects its build for x86-64-v3 if the processor runs that,
+//! else the one for x86-64-v2. `ENCODING_TEXT_CPU=x86-64-v2` in the environment always selects the latter. With musl,
+//! it has only the build for x86-64-v2.
+//!
+//! [`repair`]: repair()
 
 #![no_std]
 #![deny(unsafe_op_in_unsafe_fn, missing_docs, unsafe_code)]

@@ -1,11 +1,14 @@
 # Uses each package in a root of Debian 12. tests/release sources this file.
 # shellcheck shell=bash disable=SC2016 # the shell in the root expands them
-step 'a root of Debian 12' keep_root 12 bookworm gcc g++ make cmake pkg-config cargo python3 python3-pip
+step 'a root of Debian 12' keep_root 12 bookworm gcc g++ make cmake pkg-config cargo python3 python3-pip python3-venv sudo musl-tools man-db
 step 'its copy' unpack_root 12
 step 'no toolchain in it' inside '! command -v rt && ! command -v rattle'
 step 'sums' inside 'cd /packed && sha256sum -c SHA256SUMS'
 
-step 'the Debian packages' inside 'dpkg -i /packed/*.deb && ldconfig -p | grep "libencoding_text.so.0 "'
+run_readme
+step 'the Debian packages' inside 'dpkg -i /packed/*_amd64.deb && ldconfig -p | grep "libencoding_text.so.0 "'
+step 'pages in the packages' inside 'cd /usr/share/doc/libencoding-text-dev && test -s DEFINITIONS.md -a -s DIFFERENCES.md -a -s SECURITY.md &&
+    ! grep "](" *.md && man_page=$(zcat /usr/share/man/man1/utf8_repair.1.gz) && grep "It 127" <<< "$man_page"'
 step 'the program' prints "${repaired:?}" 'status=0; printf $damaged | utf8_repair || status=$?; [ $status = 1 ]'
 step 'what it links' prints 'statically linked\n' 'ldd /usr/bin/utf8_repair | sed "s/^\\t//"'
 step 'repair.c by pkg-config builds' inside 'cd /programs && gcc -o c repair.c $(pkg-config --cflags --libs encoding_text)'
@@ -45,12 +48,17 @@ step 'a crate that depends on it builds' inside 'export CARGO_HOME=/programs/car
     cargo add -q --offline --path /programs/encoding_text-*/ &&
     cp /programs/encoding_text-*/examples/repair.rs src/main.rs && cargo build -q --offline --release && stat -c "%s bytes" target/release/user'
 step 'a crate that depends on it' prints "$repaired" 'printf $damaged | /programs/user/target/release/user'
-for target in aarch64-unknown-linux-gnu x86_64-unknown-linux-musl; do
+for target in x86_64-pc-windows-gnu armv7-unknown-linux-gnueabihf; do
     step "the crate for $target" inside "$crate && ! cargo build -q --offline --target $target 2> said && grep 'error: encoding_text: .* the target is $target' said"
+done
+for target in aarch64-unknown-linux-gnu:aarch64 aarch64-unknown-linux-musl:aarch64 x86_64-unknown-linux-musl:x86_64; do
+    # this Rust has no std for them, so the build ends after the library was found
+    step "the crate for ${target%:*}" inside "$crate && ! cargo build -q --offline --target ${target%:*} --target-dir /programs/${target%:*} &&
+        grep -rh --include=output 'rustc-link-search=native=.*/${target#*:}-none\$' /programs/${target%:*}"
 done
 step 'its pages' inside "$crate && test -s README.md -a -s COPYRIGHT -a -s MIT.txt -a -s Apache-2.0.txt && grep rust-version Cargo.toml"
 
-step 'the tarball' inside 'mkdir /srv/one && tar -C /srv/one -xf /packed/*.tar.gz && mv /srv/one/* /srv/moved'
+step 'the tarball' inside 'mkdir /srv/one && tar -C /srv/one -xf /packed/*-x86_64-*.tar.gz && mv /srv/one/* /srv/moved'
 step 'its program' prints "$repaired" 'status=0; printf $damaged | /srv/moved/bin/utf8_repair || status=$?; [ $status = 1 ]'
 moved='export PKG_CONFIG_PATH=/srv/moved/lib/pkgconfig LD_LIBRARY_PATH=/srv/moved/lib; cd /programs'
 step 'repair.c over it builds' inside "$moved && gcc -o tar /srv/moved/share/doc/encoding_text/examples/repair.c \$(pkg-config --cflags --libs encoding_text) &&
@@ -58,14 +66,15 @@ step 'repair.c over it builds' inside "$moved && gcc -o tar /srv/moved/share/doc
 step 'repair.c over it' prints "$repaired\n" "$moved && ./tar"
 step 'repair.c over its archive builds' inside 'cd /srv/moved && gcc -o /programs/plain -Iinclude share/doc/encoding_text/examples/repair.c lib/libencoding_text.a'
 step 'repair.c over its archive' prints "$repaired\n" /programs/plain
+for kind in '' -static; do
+    step "repair.c over musl $kind builds" inside "cd /srv/moved && musl-gcc $kind -o /programs/musl -Iinclude \
+        share/doc/encoding_text/examples/repair.c lib/none/libencoding_text.a"
+    step "repair.c over musl $kind" prints "$repaired\n" /programs/musl
+done
 step 'examples over it by CMake build' inside 'cd /programs && cmake -S . -B cmake2 -DCMAKE_PREFIX_PATH=/srv/moved && cmake --build cmake2 &&
     ldd cmake2/repair | grep /srv/moved/lib/libencoding_text'
 step 'its examples by CMake' prints "$repaired\n" /programs/cmake2/repair
 
-if compgen -G "${packed:?}/*.whl" > /dev/null; then
-    step 'the wheel' inside 'pip install -q --no-index --break-system-packages --target /programs/python /packed/*.whl && ls /programs/python'
-    step 'repair from Python' prints "(b'a\\\\xef\\\\xbf\\\\xbdZ', 1)\n" \
-        'PYTHONPATH=/programs/python python3 -c "import encoding_text; print(encoding_text.repair(b\"a\\xe2\\x98Z\"))"'
-else
-    echo 'the wheel: left out, make release made none'
-fi
+run_tarball_page
+run_wheel_page
+run_crate_page
