@@ -123,7 +123,7 @@ pub(crate) fn reach<const N: usize, const W: usize, T: LanePredicate<N>>(
 /// time, and the last N may overlap the ones before.
 #[inline(always)]
 pub(crate) fn find<const N: usize, T: LanePredicate<N>>(test: &T, from: usize, end: usize) -> usize
-    requires dst_length { (N ≤ end) × (end ≤ T.count test.now) × (0 < N) × (N ≤ 64) }
+    requires end { (N ≤ end) × (end ≤ T.count test.now) × (0 < N) × (N ≤ 64) }
     requires from { (from ≤ end) × PassBetween (T.passes test.now) 0 from }
     ensures within { result ≤ end }
     ensures pass { PassBetween (T.passes test.now) 0 result }

@@ -180,7 +180,7 @@ fn finish(src: &[u8], from: usize) -> usize
 #[tactic(auto, using(crate::proofs::Utf8ValidationLemmas::ValidUpTo_less))]
 #[inline(never)]
 fn following(src: &[u8], from: usize) -> usize
-    requires three_byte { 64 ≤ length src.now }
+    requires src_length { 64 ≤ length src.now }
     requires prefix { (from ≤ length src.now) × ValidUpTo src.now from }
     ensures { (result ≤ length src.now) × ValidUpTo src.now result }
 {
@@ -239,7 +239,7 @@ pub fn well_formed_short(src: &[u8]) -> usize
 #[tactic(auto, using(crate::proofs::Utf8ValidationLemmas::IsUtf8_ascii_prefix, crate::proofs::Utf8ValidationLemmas::ValidUpTo_ascii_prefix))]
 #[inline(always)]
 pub fn well_formed_blocks(src: &[u8], ascii: usize) -> usize
-    requires three_byte { 64 ≤ length src.now }
+    requires src_length { 64 ≤ length src.now }
     requires ascii { (ascii ≤ length src.now) × BelowUpTo ASCII_END src.now ascii }
     ensures { (result ≤ length src.now) × IsUtf8 (take result src.now) }
 {

@@ -110,7 +110,7 @@ fn make_call<U: CodeUnit>(
 
 /// Writes the report of a call's result, if it is one, at index 0, and returns the number of reports written.
 fn write_report(answer: &DecoderResult, place: usize, reports: &mut [Report]) -> usize
-    requires dst_length { 0 < length reports.old }
+    requires reports { 0 < length reports.old }
     ensures { WritesPrefix reports.old reports.new result (report_of answer.now place) }
 {
     match *answer {

@@ -33,7 +33,7 @@ pub(crate) trait CodeUnit: Copy {
 
     /// Returns the most code units that a character takes.
     fn max_units_per_scalar() -> usize
-        ensures dst_length { result ≡ need }
+        ensures most { result ≡ need }
         ensures holds_any { (c : ℕ) → IsScalar c → length (encode c) ≤ need };
 
     /// Converts UTF-8 up to the first byte that is in no character, or as far as whole characters fit. Returns how many

@@ -12,7 +12,7 @@ pub returns-then-dst-written : goal.returns-then-dst-written
 returns-then-dst-written g c =
     let long = WritesPrefix-length _ _ _ _ c.convert_up_to_invalid-read.ensures.writes in
     rw c.requires.neutral (full g.U.CodeUnit.encode g.U.CodeUnit.need _ _ _ _ _ _ c.convert_up_to_invalid-read.ensures c.if-read-src.false
-    (omega (arith, c.if-dst-written.true, c.max_units_per_scalar.ensures.dst_length, long)))
+    (omega (arith, c.if-dst-written.true, c.max_units_per_scalar.ensures.most, long)))
 
 pub end_before-result-requires-clause-not_empty : goal.end_before-result-requires-clause-not_empty
 end_before-result-requires-clause-not_empty g c =
@@ -24,11 +24,11 @@ end_before-result-requires-clause-no_character g c =
     let prefix = c.convert_up_to_invalid-read.ensures in
     let long = WritesPrefix-length _ _ _ _ prefix.writes in
     rw take_rest (no_character_fits g.U.CodeUnit.encode g.U.CodeUnit.need c.max_units_per_scalar.ensures.holds_any _ _ _ _ _ prefix
-    (omega (arith, c.if-dst-written.false, c.max_units_per_scalar.ensures.dst_length, long)))
+    (omega (arith, c.if-dst-written.false, c.max_units_per_scalar.ensures.most, long)))
 
 pub returns : goal.returns
 returns g c =
     let prefix = c.convert_up_to_invalid-read.ensures in
     let long = WritesPrefix-length _ _ _ _ prefix.writes in
-    ends g.U.CodeUnit.encode g.U.CodeUnit.need _ _ _ _ _ _ _ _ _ prefix (omega (arith, c.if-dst-written.false, c.max_units_per_scalar.ensures.dst_length, long))
+    ends g.U.CodeUnit.encode g.U.CodeUnit.need _ _ _ _ _ _ _ _ _ prefix (omega (arith, c.if-dst-written.false, c.max_units_per_scalar.ensures.most, long))
     (rw take_rest at c.end_before-result.ensures)

@@ -16,7 +16,7 @@ returns-then-dst-max_units_per_scalar g c =
     let some : 0 < length c.args.src.now = let n = eqb-false _ _ (sym c.is_empty.ensures ∙ c.if-is_empty.false) in omega (arith, n) in
     let some_pending : c.args.pending.now ≢ [] = λ e. omega (arith, ap length e, c.requires.unfinished.0) in
     pending_full g.U.CodeUnit.encode g.U.CodeUnit.need _ _ _ _ (inr c.requires.unfinished) some
-    (omega (arith, c.if-dst-max_units_per_scalar.true, c.max_units_per_scalar.ensures.dst_length)) some_pending
+    (omega (arith, c.if-dst-max_units_per_scalar.true, c.max_units_per_scalar.ensures.most)) some_pending
 
 pub overflow_cast-result : goal.overflow_cast-result
 overflow_cast-result g c =
@@ -35,18 +35,18 @@ pub returns-in-Ended-default : goal.returns-in-Ended-default
 returns-in-Ended-default g c =
     let r = rw c.in-Ended-default.is-0 at c.resume.ensures in
     source_ended g.U.CodeUnit.encode g.U.CodeUnit.need _ _ _ _ _ _ _ _ c.requires.unfinished r.1 r.0
-    (λ _. omega (arith, c.if-dst-max_units_per_scalar.false, c.max_units_per_scalar.ensures.dst_length)) c.end-in-Ended-default.ensures
+    (λ _. omega (arith, c.if-dst-max_units_per_scalar.false, c.max_units_per_scalar.ensures.most)) c.end-in-Ended-default.ensures
 
 pub returns-in-Rejected-default : goal.returns-in-Rejected-default
 returns-in-Rejected-default g c =
     let r = rw c.in-Rejected-default.is-0 at c.resume.ensures in
     pending_rejected g.U.CodeUnit.encode g.U.CodeUnit.need _ _ _ _ _ _ _ c.requires.unfinished
-    (omega (arith, c.if-dst-max_units_per_scalar.false, c.max_units_per_scalar.ensures.dst_length)) r
+    (omega (arith, c.if-dst-max_units_per_scalar.false, c.max_units_per_scalar.ensures.most)) r
 
 pub returns-in-Complete-default : goal.returns-in-Complete-default
 returns-in-Complete-default g c =
     let r = rw c.in-Complete-default.is-0 at c.resume.ensures in
     whole_then g.U.CodeUnit.encode g.U.CodeUnit.need c.max_units_per_scalar.ensures.holds_any _ _ c.in-Complete-default.bytes _ _ _ _ _ _
     c.in-Complete-default.count _ _ _ _ _ c.requires.unfinished
-    (omega (arith, c.if-dst-max_units_per_scalar.false, c.max_units_per_scalar.ensures.dst_length)) r.1 r.4 r.5 c.convert_up_to_invalid-written.ensures
+    (omega (arith, c.if-dst-max_units_per_scalar.false, c.max_units_per_scalar.ensures.most)) r.1 r.4 r.5 c.convert_up_to_invalid-written.ensures
     (rw (take_rest c.args.src.now c.resume.result.1) at c.decode_neutral-result.ensures)
